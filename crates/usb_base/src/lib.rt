@@ -1,6 +1,26 @@
-//! The vocabulary of the host: what every crate above names.
+//! The vocabulary of the host, which every crate above names: addresses and packets (USB 2.0, chapters 5 and 8),
+//! endpoints, the wire, prices (USB 2.0, 5.11.3), and the outside as sources and sinks of bytes.
 #![tactic(auto)]
 
+mod endpoints;
+mod items;
+mod mem_sink;
+mod mem_source;
 mod memory;
+mod numbers;
+mod outside;
+mod packets;
+mod price;
+mod wire;
+pub mod worked;
 
+pub use endpoints::{EndCause, EpDesc, EpName};
+pub use items::{ListOf, Packet};
+pub use mem_sink::MemSink;
+pub use mem_source::MemSource;
 pub use memory::Memory;
+pub use numbers::{DevAddr, EpNum, Ps};
+pub use outside::{Failed, Sink, Source};
+pub use packets::{Ask, Dir, EpKind, Fate, Part, Pid, Reply, Speed, Split, Way};
+pub use price::{cost, tt_bytes};
+pub use wire::Wire;

@@ -1,0 +1,43 @@
+use crate::numbers::{DevAddr, EpNum};
+use crate::packets::{EpKind, Speed, Way};
+
+/// The name of an endpoint: the address of its device, its number and its way.
+#[derive(Clone, Copy, Debug, PartialEq, Eq)]
+pub struct EpName {
+    pub addr: DevAddr,
+    pub num: EpNum,
+    pub way: Way,
+}
+
+/// What the host knows of an endpoint.
+#[derive(Clone, Copy, Debug, PartialEq, Eq)]
+pub struct EpDesc {
+    pub name: EpName,
+    pub speed: Speed,
+    pub kind: EpKind,
+    /// The maximum packet size in bytes, 1 to 1,024.
+    pub max: u16,
+    /// The period in microframes of an interrupt or isochronous endpoint, a power of two from 1 to 8,192.
+    pub period: u16,
+    /// The transactions in a microframe of its period, 1 to 3; 1 below a hub.
+    pub multi: u8,
+    /// The hub whose translator serves it, for a full- or low-speed device.
+    pub hub: Option<DevAddr>,
+    /// The port of that hub.
+    pub port: u8,
+}
+
+/// Why an endpoint ended.
+#[derive(Clone, Copy, Debug, PartialEq, Eq, PartialOrd, Ord, Hash)]
+pub enum EndCause {
+    /// The device answered STALL (USB 2.0, 8.4.5).
+    Stall,
+    /// Three errors in one qTD (EHCI 1.0, 4.10.3).
+    Error,
+    /// The device sent more bytes than the host could take (EHCI 1.0, 4.15.1.1.2).
+    Babble,
+    /// A complete-split came too late or not at all (EHCI 1.0, 4.12.2).
+    Miss,
+    /// The endpoint was cancelled.
+    Cancel,
+}
