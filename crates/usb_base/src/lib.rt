@@ -11,8 +11,10 @@ mod numbers;
 mod outside;
 mod packets;
 mod price;
+mod reports;
 mod wire;
 pub mod worked;
+mod writing;
 
 pub use endpoints::{EndCause, EpDesc, EpName};
 pub use items::{ListOf, Packet};
@@ -23,4 +25,6 @@ pub use numbers::{DevAddr, EpNum, Ps};
 pub use outside::{Failed, Sink, Source};
 pub use packets::{Ask, Dir, EpKind, Fate, Part, Pid, Reply, Speed, Split, Way};
 pub use price::{cost, tt_bytes};
+pub use reports::{OfferError, Report, What};
 pub use wire::Wire;
+pub use writing::write_all;
