@@ -1,0 +1,4 @@
+pub mod FreeTail
+pub mod Filled
+pub mod Frames
+pub mod Search
