@@ -1,0 +1,5 @@
+pub mod Columns
+pub mod PlainRows
+pub mod SplitRows
+pub mod Settle
+pub mod Worked
