@@ -1,0 +1,4 @@
+pub mod Shifts
+pub mod Bits
+pub mod Tables
+pub mod LinkLaws

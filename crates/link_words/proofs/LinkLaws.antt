@@ -1,0 +1,48 @@
+-- The laws of link words.
+use Rattle.std.proofs.Common.{◌≡◌, ℕ, arith, refl}
+use Rattle.std.proofs.lemmas.Grind.{common_steps}
+use Rattle.link_words.specs.declared.kinds.Link.{Link}
+use Rattle.link_words.specs.declared.kinds.Link.TheVariants as kinds
+use Rattle.link_words.specs.declared.kinds.QtdLink.{QtdLink}
+use Rattle.link_words.specs.declared.kinds.QtdLink.TheVariants as qtd_kinds
+use Rattle.link_words.specs.declared.fields.LinkBits.{LinkBits}
+use Rattle.link_words.specs.declared.fields.ShortLink.{ShortLink}
+use Rattle.link_words.specs.Fields.{link_rows, link_at, short_link_rows, short_link_at}
+use Rattle.link_words.proofs.Tables.{SaysWord}
+use Rattle.link_words.specs.Links.{link_read, link_word, IsAligned, IsLinkWord, qtd_link_read, qtd_link_word, IsQtdAligned, IsQtdLinkWord}
+
+-- what a link's word says, and that nothing else does
+pub link_says : (w : ℕ) → SaysWord link_rows w (link_at w)
+link_says w = (refl, (refl, (refl, tt)))
+
+pub link_same : (w : ℕ) (l : LinkBits) → SaysWord link_rows w l → l ≡ link_at w
+link_same w l (address, (typ, (t, _))) = λ i. record { t = t i; typ = typ i; address = address i }
+
+pub short_link_says : (w : ℕ) → SaysWord short_link_rows w (short_link_at w)
+short_link_says w = (refl, (refl, tt))
+
+pub short_link_same : (w : ℕ) (l : ShortLink) → SaysWord short_link_rows w l → l ≡ short_link_at w
+short_link_same w l (address, (t, _)) = λ i. record { t = t i; address = address i }
+
+-- a link that was written is read
+pub link_read-word : (link : Link) → IsAligned link → link_read (link_word link) ≡ link
+unfolding link_read link_word
+link_read-word kinds.End h = refl
+link_read-word (kinds.Itd a) h = grind (arith, common_steps)
+link_read-word (kinds.Qh a) h = grind (arith, common_steps)
+link_read-word (kinds.Sitd a) h = grind (arith, common_steps)
+link_read-word (kinds.Fstn a) h = grind (arith, common_steps)
+
+pub qtd_link_read-word : (link : QtdLink) → IsQtdAligned link → qtd_link_read (qtd_link_word link) ≡ link
+unfolding qtd_link_read qtd_link_word
+qtd_link_read-word qtd_kinds.End h = refl
+qtd_link_read-word (qtd_kinds.To a) h = grind (arith, common_steps)
+
+-- a word that a link is written as is written again
+pub link_word-read : (w : ℕ) → IsLinkWord w → link_word (link_read w) ≡ w
+unfolding link_read link_word
+link_word-read w h = grind (arith, common_steps)
+
+pub qtd_link_word-read : (w : ℕ) → IsQtdLinkWord w → qtd_link_word (qtd_link_read w) ≡ w
+unfolding qtd_link_read qtd_link_word
+qtd_link_word-read w h = grind (arith, common_steps)

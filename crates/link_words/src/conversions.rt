@@ -1,0 +1,84 @@
+ghost use Rattle.std.specs.Prelude.{◌≡◌};
+ghost use Rattle.link_words.specs.Links.{link_of, link_fields, qtd_link_of, qtd_link_fields};
+
+use crate::fields::{LinkBits, ShortLink};
+use crate::kinds::{Link, QtdLink};
+
+/// Where the fields lead: T=1 is the end of the list, whatever else they say.
+impl From<LinkBits> for Link {
+    ghost from_gives = { λ fields link. link ≡ link_of fields };
+
+    fn from(fields: LinkBits) -> Link {
+        if fields.t {
+            return Link::End;
+        }
+        match fields.typ {
+            0 => Link::Itd(fields.address),
+            1 => Link::Qh(fields.address),
+            2 => Link::Sitd(fields.address),
+            _ => Link::Fstn(fields.address),
+        }
+    }
+}
+
+/// The fields that lead there. Those of the end are T=1 and else 0.
+impl From<Link> for LinkBits {
+    ghost from_gives = { λ link fields. fields ≡ link_fields link };
+
+    fn from(link: Link) -> LinkBits {
+        match link {
+            Link::End => LinkBits {
+                t: true,
+                typ: 0,
+                address: 0,
+            },
+            Link::Itd(address) => LinkBits {
+                t: false,
+                typ: 0,
+                address,
+            },
+            Link::Qh(address) => LinkBits {
+                t: false,
+                typ: 1,
+                address,
+            },
+            Link::Sitd(address) => LinkBits {
+                t: false,
+                typ: 2,
+                address,
+            },
+            Link::Fstn(address) => LinkBits {
+                t: false,
+                typ: 3,
+                address,
+            },
+        }
+    }
+}
+
+/// Where the fields lead: T=1 is the end of the queue, whatever else they say.
+impl From<ShortLink> for QtdLink {
+    ghost from_gives = { λ fields link. link ≡ qtd_link_of fields };
+
+    fn from(fields: ShortLink) -> QtdLink {
+        if fields.t {
+            return QtdLink::End;
+        }
+        QtdLink::To(fields.address)
+    }
+}
+
+/// The fields that lead there. Those of the end are T=1 and else 0.
+impl From<QtdLink> for ShortLink {
+    ghost from_gives = { λ link fields. fields ≡ qtd_link_fields link };
+
+    fn from(link: QtdLink) -> ShortLink {
+        match link {
+            QtdLink::End => ShortLink {
+                t: true,
+                address: 0,
+            },
+            QtdLink::To(address) => ShortLink { t: false, address },
+        }
+    }
+}
