@@ -1,0 +1,49 @@
+use Rattle.std.proofs.Common.{◌≡◌, ℕ, List, [], ◌++◌, append-nil, Option, ap, ◌∙◌, subst}
+use Rattle.std.specs.List.{flat_map}
+use Rattle.usb_base.specs.Outside.{AppendsPrefix}
+use Rattle.image_codec.specs.Image.{field_bytes, header_bytes, image_bytes}
+use Rattle.image_codec.specs.Printing.{Passes}
+use Rattle.std.proofs.lemmas.Result.{on_ok_weaker, on_err_weaker}
+use Rattle.image_codec.proofs.Passing.{on_err, prefix_more, prefix_within, passes_all, appends_flushed, prefix_flushed}
+use Rattle.image_codec.proofs.writing.encode.Goals as goal
+
+-- the header and the words are the image
+whole : (header words header_of words_of : List ℕ) → header ≡ header_of → words ≡ words_of
+    → header ++ flat_map field_bytes words ≡ header_of ++ flat_map field_bytes words_of
+whole header words header_of words_of h w = ap (λ (t : List ℕ). t ++ flat_map field_bytes words) h ∙ ap (λ (t : List ℕ). header_of ++ flat_map field_bytes t) w
+
+from_empty : (a b : Option (List ℕ)) (p q xs : List ℕ) → p ≡ [] → Passes a b p q xs → Passes a b [] q xs
+from_empty a b p q xs e h = subst (λ (t : List ℕ). Passes a b t q xs) e h
+
+-- a front part of the header is one of the image
+at_header : (a b : Option (List ℕ)) (p header header_of words : List ℕ) → p ≡ [] → header ≡ header_of → AppendsPrefix a b (p ++ header)
+    → AppendsPrefix a b (header_of ++ words)
+at_header a b p header header_of words e same h =
+    let front = subst (λ (t : List ℕ). AppendsPrefix a b (t ++ header)) e h in
+    subst (λ (t : List ℕ). AppendsPrefix a b (t ++ words)) same (prefix_more a b header words front)
+
+pub returns-in_err-put-clause-err : goal.returns-in_err-put-clause-err
+returns-in_err-put-clause-err g c =
+    on_err c.from_residual.result _
+    (at_header _ _ c.new-page.result c.header_of.result _ (flat_map field_bytes c.args.image.now.words) c.new-page.ensures c.header_of.ensures c.in_err-put.ensures.err)
+
+pub returns-in_err-put_words-clause-err : goal.returns-in_err-put_words-clause-err
+returns-in_err-put_words-clause-err g c =
+    let first = from_empty _ _ c.new-page.result _ c.header_of.result c.new-page.ensures c.in_ok-put.ensures.ok in
+    let all = whole c.header_of.result c.as_slice.result.now (header_bytes c.args.image.now) c.args.image.now.words c.header_of.ensures c.as_slice.ensures in
+    let plain = ap (λ (t : List ℕ). c.header_of.result ++ t) (append-nil (flat_map field_bytes c.as_slice.result.now)) ∙ all in
+    on_err c.from_residual-in_err-put_words.result _ (prefix_within _ _ _ [] _ c.header_of.result _ [] (image_bytes c.args.image.now) first c.in_err-put_words.ensures.err plain)
+
+pub returns-clause-ok : goal.returns-clause-ok
+returns-clause-ok g c =
+    let first = from_empty _ _ c.new-page.result _ c.header_of.result c.new-page.ensures c.in_ok-put.ensures.ok in
+    let all = whole c.header_of.result c.as_slice.result.now (header_bytes c.args.image.now) c.args.image.now.words c.header_of.ensures c.as_slice.ensures in
+    let passed = passes_all _ _ _ [] _ _ c.header_of.result _ (image_bytes c.args.image.now) first c.in_ok-put_words.ensures.ok all in
+    on_ok_weaker c.flush.result (λ h. appends_flushed _ _ _ _ _ passed h) c.flush.ensures.ok
+
+pub returns-clause-err : goal.returns-clause-err
+returns-clause-err g c =
+    let first = from_empty _ _ c.new-page.result _ c.header_of.result c.new-page.ensures c.in_ok-put.ensures.ok in
+    let all = whole c.header_of.result c.as_slice.result.now (header_bytes c.args.image.now) c.args.image.now.words c.header_of.ensures c.as_slice.ensures in
+    let passed = passes_all _ _ _ [] _ _ c.header_of.result _ (image_bytes c.args.image.now) first c.in_ok-put_words.ensures.ok all in
+    on_err_weaker c.flush.result (λ h. prefix_flushed _ _ _ _ _ passed h) c.flush.ensures.err
