@@ -1,0 +1,4 @@
+pub mod FreeWords
+pub mod TokenLaws
+pub mod QtdLaws
+pub mod QhLaws

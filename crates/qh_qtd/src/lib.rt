@@ -1,0 +1,16 @@
+//! Queue heads and queue element transfer descriptors (EHCI 1.0, 3.5 and 3.6): their words read and written.
+#![tactic(auto)]
+
+mod laws;
+mod qtd;
+mod queue_head;
+mod token;
+
+pub use laws::worked_layouts;
+pub use link_words::Bad;
+pub use qtd::Qtd;
+pub use queue_head::Qh;
+pub use token::Token;
+
+#[cfg(test)]
+mod tests;
