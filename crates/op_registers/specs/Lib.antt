@@ -1,0 +1,3 @@
+pub mod RegisterFile
+pub mod Table
+pub mod Events

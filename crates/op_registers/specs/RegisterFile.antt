@@ -1,0 +1,52 @@
+-- What the operational registers hold (EHCI 1.0 section 2.3).
+use Rattle.std.specs.Prelude.{Bool, false, ℕ, ◌≡◌, ◌%◌, ◌^◌, ◌<◌}
+
+-- Each field stands at a row of the table (Table.antt). Three rows have no field of their own: HCHalted reads 1 where `run` is false, and the status of a schedule where `run` and the
+-- schedule's enable are both true. The two addresses are byte addresses.
+pub record RegisterFile : Type 0 where
+  pub run : Bool
+  pub periodic_enable : Bool
+  pub async_enable : Bool
+  pub doorbell : Bool
+  pub threshold : ℕ
+  pub interrupt : Bool
+  pub error : Bool
+  pub port_change : Bool
+  pub rollover : Bool
+  pub host_system_error : Bool
+  pub async_advance : Bool
+  pub reclamation : Bool
+  pub interrupt_enable : ℕ
+  pub frame_index : ℕ
+  pub periodic_list_base : ℕ
+  pub async_list_address : ℕ
+  pub configured : Bool
+
+-- the registers after a reset (EHCI 1.0 sections 2.3 and 4.1): halted, with a threshold of 8 microframes
+abbrev pub reset_file : RegisterFile
+reset_file = record {
+  run = false;
+  periodic_enable = false;
+  async_enable = false;
+  doorbell = false;
+  threshold = 8;
+  interrupt = false;
+  error = false;
+  port_change = false;
+  rollover = false;
+  host_system_error = false;
+  async_advance = false;
+  reclamation = false;
+  interrupt_enable = 0;
+  frame_index = 0;
+  periodic_list_base = 0;
+  async_list_address = 0;
+  configured = false;
+}
+
+-- the ranges of the numbers: six enables, a microframe of 1,024 frames, the address of a frame list of 4,096 bytes and that of a queue head
+pub record IsInRange (enables index base address : ℕ) : Type 0 where
+  pub enables_named : enables < 2 ^ 6
+  pub index_wraps : index < 2 ^ 14
+  pub base_aligned : base % 2 ^ 12 ≡ 0
+  pub address_aligned : address % 2 ^ 5 ≡ 0

@@ -1,0 +1,19 @@
+//! The operational registers of the host controller (EHCI 1.0 section 2.3): what the driver reads and writes, and what the controller itself sets.
+//!
+//! `Registers` is seen by contracts as a `RegisterFile` (specs/RegisterFile.antt), a record with one field for each bit or number that the registers hold. What each
+//! register has at which bits, how it begins and how it takes a write is a table, specs/Table.antt, to be held beside the standard's.
+#![tactic(auto)]
+
+mod command;
+pub mod laws;
+mod register;
+mod registers;
+mod status;
+
+pub use command::Command;
+pub use register::Register;
+pub use registers::Registers;
+pub use status::Status;
+
+#[cfg(test)]
+mod tests;
