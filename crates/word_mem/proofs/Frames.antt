@@ -1,12 +1,12 @@
 -- What each change of memory leaves of its words and states.
-use Rattle.std.proofs.Common.{◌≡◌, ◌≢◌, ℕ, ◌+◌, ◌-◌, ◌*◌, ◌/◌, ◌%◌, ◌<◌, ◌≤◌, true, Option, Some, None, length, slice_get, arith, ap, sym, ◌∙◌, inl, inr, ⊎_elim, max, refl}
+use Rattle.std.proofs.Common.{cond, List, ◌≡◌, ◌≢◌, ℕ, ◌+◌, ◌-◌, ◌*◌, ◌/◌, ◌%◌, ◌<◌, ◌≤◌, true, Option, Some, None, length, slice_get, arith, ap, sym, ◌∙◌, inl, inr, ⊎_elim, max, refl}
 use Rattle.std.proofs.lemmas.Bool.{cases_lt, false≢true}
-use Rattle.std.proofs.lemmas.List.{get_or-set_same, get_or-set_other}
-use Rattle.std.proofs.lemmas.Option.{slice_get_within, same_Some}
+use Rattle.std.proofs.lemmas.List.{get_or-set_same, get_or-set_other, length-set, length-replicate}
+use Rattle.std.proofs.lemmas.Option.{slice_get_within, same_Some, cond_some}
 use Rattle.word_mem.specs.Runs.{Run, IsInRun, HasBlock, AreApart}
-use Rattle.word_mem.specs.Memory.{Mem, IsShaped, word_at, state_at, reaches, is_lent, AreAll, with_word, with_states, released}
+use Rattle.word_mem.specs.Memory.{Mem, IsShaped, fresh, all_lent, word_at, state_at, reaches, is_lent, AreAll, with_word, with_states, released}
 use Rattle.word_mem.specs.Free.{IsTaken}
-use Rattle.word_mem.proofs.Filled.{get_or-filled_inside, get_or-filled_before, get_or-filled_after, slice_get-filled_inside, slice_get-filled_before, slice_get-filled_after}
+use Rattle.word_mem.proofs.Filled.{length-filled, get_or-filled_inside, get_or-filled_before, get_or-filled_after, slice_get-filled_inside, slice_get-filled_before, slice_get-filled_after}
 use Rattle.word_mem.specs.declared.blocks.BlockState.{BlockState}
 use Rattle.word_mem.specs.declared.blocks.BlockState.TheVariants.{Free, Kept, Lent}
 
@@ -102,3 +102,69 @@ from_is_lent (Some Lent) e = refl
 -- and no word of a block that isn't Lent
 pub lent_if_reached : (m : Mem) (at : ℕ) → reaches m at ≡ true → state_at m (at / 32) ≡ Some Lent
 lent_if_reached m at reached = from_is_lent (state_at m (at / 32)) reached
+
+-- a memory just built has its shape
+pub shaped_fresh : (n : ℕ) → 1024 ≤ n → n ≤ 262144 → n % 1024 ≡ 0 → IsShaped (fresh n)
+shaped_fresh n low high whole =
+    let long = length-replicate {A = ℕ} n 0 in
+    let many = length-replicate (n / 8) Free in
+    record {
+      at_least = omega (arith, long);
+      at_most = omega (arith, long);
+      whole_pages = omega (arith, long);
+      eight_each = omega (arith, long, many);
+    }
+
+pub shaped_lent : (ws : List ℕ) → 1024 ≤ length ws → length ws ≤ 262144 → length ws % 1024 ≡ 0 → IsShaped (all_lent ws)
+shaped_lent ws low high whole =
+    let many = length-replicate (length ws / 8) Lent in
+    record { at_least = low; at_most = high; whole_pages = whole; eight_each = omega (arith, many) }
+
+-- the shape of memory stays
+pub shaped_word : (m : Mem) (at v : ℕ) → IsShaped m → IsShaped (with_word m at v)
+shaped_word m at v shape =
+    let long = length-set m.words (at / 4) v in
+    record {
+      at_least = omega (arith, long, shape.at_least);
+      at_most = omega (arith, long, shape.at_most);
+      whole_pages = omega (arith, long, shape.whole_pages);
+      eight_each = omega (arith, long, shape.eight_each);
+    }
+
+pub shaped_states : (m : Mem) (r : Run) (s : BlockState) → r.first + r.blocks ≤ length m.states → IsShaped m → IsShaped (with_states m r s)
+shaped_states m r s within shape =
+    let many = length-filled m.states r.first r.blocks s within in
+    record {
+      at_least = shape.at_least;
+      at_most = shape.at_most;
+      whole_pages = shape.whole_pages;
+      eight_each = omega (arith, many, shape.eight_each);
+    }
+
+pub shaped_released : (m : Mem) (r : Run) → r.first + r.blocks ≤ length m.states → IsShaped m → IsShaped (released m r)
+shaped_released m r within shape =
+    let many = length-filled m.states r.first r.blocks Free within in
+    let long = length-filled m.words (8 * r.first) (8 * r.blocks) 0 (omega (arith, shape.eight_each)) in
+    record {
+      at_least = omega (arith, long, shape.at_least);
+      at_most = omega (arith, long, shape.at_most);
+      whole_pages = omega (arith, long, shape.whole_pages);
+      eight_each = omega (arith, many, long, shape.eight_each);
+    }
+
+-- a read of the controller that gave a word
+pub read_some : (m : Mem) (at v : ℕ) → Some v ≡ cond (reaches m at) (Some (word_at m at)) None → (reaches m at ≡ true) × (v ≡ word_at m at)
+read_some m at v read =
+    let parts = cond_some (reaches m at) (word_at m at) v (sym read) in
+    (parts.0, sym parts.1)
+
+-- whatever is written, where the words stay as many
+pub shaped_same : (m q : Mem) → length q.words ≡ length m.words → q.states ≡ m.states → IsShaped m → IsShaped q
+shaped_same m q long same shape =
+    let many = ap length same in
+    record {
+      at_least = omega (arith, long, shape.at_least);
+      at_most = omega (arith, long, shape.at_most);
+      whole_pages = omega (arith, long, shape.whole_pages);
+      eight_each = omega (arith, long, many, shape.eight_each);
+    }

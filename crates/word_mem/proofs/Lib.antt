@@ -2,3 +2,6 @@ pub mod FreeTail
 pub mod Filled
 pub mod Frames
 pub mod Search
+pub mod Words
+pub mod Bytes
+pub mod Holders

@@ -1,3 +1,5 @@
 pub mod Runs
 pub mod Memory
 pub mod Free
+pub mod Views
+pub mod Owners

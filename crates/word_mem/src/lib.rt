@@ -6,6 +6,7 @@ mod memory;
 mod scan;
 #[cfg(test)]
 mod tests;
+pub mod worked;
 
 pub use blocks::{BlockRun, BlockState, LentRun};
 pub use memory::WordMem;

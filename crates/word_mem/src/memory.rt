@@ -1,4 +1,4 @@
-ghost use Rattle.std.specs.Prelude.{◌≡◌, ℕ, ◌+◌, ◌*◌, ◌/◌, ◌%◌, ◌<◌, ◌≤◌, List, length, slice_get, Option, Some, None, IfOk, IfSome, if◌then◌else◌};
+ghost use Rattle.std.specs.Prelude.{◌≡◌, ℕ, ◌+◌, ◌*◌, ◌/◌, ◌%◌, ◌^◌, ◌<◌, ◌≤◌, List, length, slice_get, slice_index, Option, Some, None, IsTrue, IfOk, IfSome, if◌then◌else◌};
 
 use crate::blocks::{BlockRun, BlockState, LentRun};
 use crate::scan::{longest_free_run, lowest_free_run, overwrite};
@@ -72,8 +72,10 @@ impl WordMem {
     pub fn words(&self) -> u32
         ensures words { result ≡ length self.now.words }
         ensures shape { IsShaped self.now }
+        ensures fits { (i : ℕ) → slice_index self.now.words i < 2 ^ 32 }
     {
-        self.words.len() as u32
+        let words = self.words.as_slice();
+        words.len() as u32
     }
 
     /// The word at the byte address `at`, which is a multiple of 4 below 4 times `words()`, whoever owns it.
@@ -167,7 +169,8 @@ impl WordMem {
         requires aligned { at % 4 ≡ 0 }
         requires inside { IsInRun run.now at }
         requires kept { AreAll self.old BlockState.Kept run.now }
-        ensures { self.new ≡ with_word self.old at v }
+        ensures memory { self.new ≡ with_word self.old at v }
+        ensures word { word_at self.new at ≡ v }
     {
         self.words[(at / 4) as usize] = v;
     }
@@ -187,7 +190,8 @@ impl WordMem {
         requires aligned { at % 4 ≡ 0 }
         requires inside { IsInRun run.now at }
         requires lent { AreAll self.old BlockState.Lent run.now }
-        ensures { self.new ≡ with_word self.old at v }
+        ensures memory { self.new ≡ with_word self.old at v }
+        ensures word { word_at self.new at ≡ v }
     {
         self.words[(at / 4) as usize] = v;
     }
@@ -198,6 +202,8 @@ impl WordMem {
         requires { at % 4 ≡ 0 }
         ensures word { result ≡ (if reaches self.old at then Some (word_at self.old at) else None) }
         ensures memory { self.new ≡ (if reaches self.old at then self.old else refused self.old) }
+        ensures found { IfSome result (λ w. w ≡ word_at self.old at) }
+        ensures same { IfSome result (λ _. self.new ≡ self.old) }
     {
         match self.states.get((at / 32) as usize) {
             Some(BlockState::Lent) => Some(self.words[(at / 4) as usize]),
@@ -214,6 +220,7 @@ impl WordMem {
         requires { at % 4 ≡ 0 }
         ensures written { result ≡ reaches self.old at }
         ensures memory { self.new ≡ (if reaches self.old at then with_word self.old at v else refused self.old) }
+        ensures word { IsTrue result → word_at self.new at ≡ v }
     {
         match self.states.get((at / 32) as usize) {
             Some(BlockState::Lent) => {
