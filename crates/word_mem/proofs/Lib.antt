@@ -4,4 +4,5 @@ pub mod Frames
 pub mod Search
 pub mod Words
 pub mod Bytes
+pub mod ByController
 pub mod Holders

@@ -1,4 +1,5 @@
--- Which run `take` hands out, and how long the longest is.
+-- Which run `take` hands out, and how long the longest is. A run lies in one page, since no structure that the controller reads may cross
+-- a boundary of 4,096 bytes (EHCI 1.0, 3).
 --     IsFreeRun states first n        n Free blocks in a row from block `first` on, in one page
 --     IsLowest states n first         `first` is the lowest block from which there is such a run of n
 --     IsTaken states n r              r is the lowest such run of n; None: there is none

@@ -3,3 +3,4 @@ pub mod Memory
 pub mod Free
 pub mod Views
 pub mod Owners
+pub mod Access

@@ -1,4 +1,5 @@
--- Runs of blocks. A block is 8 words (32 bytes), a page 128 blocks (4,096 bytes), and a byte address counts from 0.
+-- Runs of blocks. A block is 8 words (32 bytes: structures stand at multiples of 32, EHCI 1.0, 3), a page 128 blocks (4,096 bytes), and a
+-- byte address counts from 0.
 --     Run                 a run: the number of its first block, and how many blocks
 --     IsRun r             a run that memory can hand out: at least one block, all in one page, below 262,144 words
 --     IsInRun r at        the byte address `at` lies in a block of the run

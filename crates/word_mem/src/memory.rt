@@ -30,6 +30,7 @@ impl Model for WordMem {
 impl WordMem {
     ghost use Rattle.word_mem.specs.Runs.{IsInRun};
     ghost use Rattle.word_mem.specs.Memory.{IsShaped, AreAll, fresh, all_lent, word_at, state_at, reaches, with_word, with_states, released, refused};
+    ghost use Rattle.word_mem.specs.Access.{IsByController};
     ghost use Rattle.word_mem.specs.Free.{IsTaken, IsLongest, with_taken, lowest_run, longest_run};
 
     /// Memory of `words` words, all of them 0, in Free blocks. `words` is a multiple of 1,024 from 1,024 to 262,144.
@@ -204,6 +205,7 @@ impl WordMem {
         ensures memory { self.new ≡ (if reaches self.old at then self.old else refused self.old) }
         ensures found { IfSome result (λ w. w ≡ word_at self.old at) }
         ensures same { IfSome result (λ _. self.new ≡ self.old) }
+        ensures only_lent { IsByController self.old self.new }
     {
         match self.states.get((at / 32) as usize) {
             Some(BlockState::Lent) => Some(self.words[(at / 4) as usize]),
@@ -221,6 +223,7 @@ impl WordMem {
         ensures written { result ≡ reaches self.old at }
         ensures memory { self.new ≡ (if reaches self.old at then with_word self.old at v else refused self.old) }
         ensures word { IsTrue result → word_at self.new at ≡ v }
+        ensures only_lent { IsByController self.old self.new }
     {
         match self.states.get((at / 32) as usize) {
             Some(BlockState::Lent) => {
@@ -252,7 +255,8 @@ impl WordMem {
 
     /// Counts a refusal.
     fn refuse(&mut self)
-        ensures { self.new ≡ refused self.old }
+        ensures memory { self.new ≡ refused self.old }
+        ensures only_lent { IsByController self.old self.new }
     {
         self.foreign = self.foreign.saturating_add(1);
     }
