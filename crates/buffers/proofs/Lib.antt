@@ -1,0 +1,5 @@
+pub mod WordBytes
+pub mod Stores
+pub mod Reach
+pub mod Loads
+pub mod Frames
