@@ -3,3 +3,4 @@ pub mod PlainRows
 pub mod SplitRows
 pub mod Settle
 pub mod Worked
+pub mod Halts

@@ -3,6 +3,7 @@
 #![tactic(auto)]
 
 mod host;
+pub mod laws;
 mod rows;
 mod settling;
 pub mod worked;

@@ -69,7 +69,7 @@ pub enum StartRow {
     Declined,
     /// Silence or anything else to a bulk or control start-split.
     Unheard,
-    /// An interrupt start-split, which no handshake answers (USB 2.0, 8.5.3 and 11.20).
+    /// An interrupt start-split, which no handshake answers (USB 2.0, 8.5.4 and 11.20).
     Begun,
 }
 
