@@ -1,0 +1,4 @@
+pub mod Asks
+pub mod Prices
+pub mod Calls
+pub mod Worked
