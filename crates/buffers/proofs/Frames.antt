@@ -4,10 +4,12 @@ use Rattle.std.proofs.lemmas.Bool.{cases_lt, cases_eq}
 use Rattle.std.proofs.lemmas.List.{get_or-set_same, get_or-set_other, set_past}
 use Rattle.word_mem.specs.Runs.{Run, IsRun, IsInRun, AreApart}
 use Rattle.word_mem.specs.Memory.{Mem, IsShaped, word_at, AreAll, with_word}
+use Rattle.word_mem.specs.declared.blocks.BlockState.{BlockState}
 use Rattle.word_mem.specs.declared.blocks.BlockState.TheVariants.{Lent}
 use Rattle.word_mem.proofs.Frames.{reaches_lent, words_within}
-use Rattle.buffers.specs.Bytes.{ArePages, AreDistinct, bytes_of, word_of, byte_at, place, put_byte, put_bytes, with_bytes, bytes_at, all_reached, AreReached, AreThere, stored}
-use Rattle.buffers.proofs.WordBytes.{bytes_of-set}
+use Rattle.buffers.specs.Bytes.{ArePages, AreDistinct, bytes_of, word_of, place, put_byte, put_bytes, with_bytes, bytes_at, all_reached, AreReached, AreThere, stored}
+use Rattle.word_mem.specs.Views.{byte_at, byte_of}
+use Rattle.buffers.proofs.WordBytes.{bytes_of-set, byte_of_word}
 use Rattle.buffers.proofs.Stores.{length-put_byte, length-put_bytes}
 use Rattle.buffers.proofs.Reach.{all_reached_if, stored_all}
 use Rattle.buffers.proofs.Loads.{length-bytes_at, get_or-bytes_at, bytes_at_is, bytes_at-add}
@@ -39,7 +41,7 @@ byte_put m a b inside small =
     let w = get_or m.words (a / 4) 0 in
     let new = word_of (set (bytes_of w) (a % 4) b) in
     let byte : a % 4 < 4 = omega arith in
-    ap (λ v. get_or (bytes_of v) (a % 4) 0) (get_or-set_same m.words (a / 4) new 0 inside)
+    ap (λ v. byte_of v (a % 4)) (get_or-set_same m.words (a / 4) new 0 inside) ∙ sym (byte_of_word new (a % 4) byte)
     ∙ ap (λ bs. get_or bs (a % 4) 0) (bytes_of-set w (a % 4) b byte small) ∙ get_or-set_same (bytes_of w) (a % 4) b 0 byte
 
 pub byte_put_other : (m : Mem) (a b c : ℕ) → b < 256 → c ≢ a → byte_at (record m { words = put_byte m.words a b }) c ≡ byte_at m c
@@ -48,15 +50,17 @@ byte_put_other m a b c small differs =
     let w = get_or m.words (a / 4) 0 in
     let new = word_of (set (bytes_of w) (a % 4) b) in
     let byte : a % 4 < 4 = omega arith in
+    let other_byte : c % 4 < 4 = omega arith in
     ⊎_elim (λ (same : c / 4 ≡ a / 4).
     ⊎_elim (λ (inside : a / 4 < length m.words).
     let part : c % 4 ≢ a % 4 = λ e. differs (omega (arith, same, e)) in
-    ap (λ v. get_or (bytes_of v) (c % 4) 0) (ap (λ q. get_or (set m.words (a / 4) new) q 0) same ∙ get_or-set_same m.words (a / 4) new 0 inside)
-    ∙ ap (λ bs. get_or bs (c % 4) 0) (bytes_of-set w (a % 4) b byte small) ∙ get_or-set_other (bytes_of w) (a % 4) (c % 4) b 0 part
-    ∙ ap (λ q. get_or (bytes_of (get_or m.words q 0)) (c % 4) 0) (sym same))
-    (λ (past : length m.words ≤ a / 4). ap (λ ws. get_or (bytes_of (get_or ws (c / 4) 0)) (c % 4) 0) (set_past m.words (a / 4) new past))
+    ap (λ v. byte_of v (c % 4)) (ap (λ q. get_or (set m.words (a / 4) new) q 0) same ∙ get_or-set_same m.words (a / 4) new 0 inside)
+    ∙ sym (byte_of_word new (c % 4) other_byte) ∙ ap (λ bs. get_or bs (c % 4) 0) (bytes_of-set w (a % 4) b byte small)
+    ∙ get_or-set_other (bytes_of w) (a % 4) (c % 4) b 0 part ∙ byte_of_word w (c % 4) other_byte
+    ∙ ap (λ q. byte_of (get_or m.words q 0) (c % 4)) (sym same))
+    (λ (past : length m.words ≤ a / 4). ap (λ ws. byte_of (get_or ws (c / 4) 0) (c % 4)) (set_past m.words (a / 4) new past))
     (cases_lt (a / 4) (length m.words)))
-    (λ (other : c / 4 ≢ a / 4). ap (λ v. get_or (bytes_of v) (c % 4) 0) (get_or-set_other m.words (a / 4) (c / 4) new 0 other)) (cases_eq (c / 4) (a / 4))
+    (λ (other : c / 4 ≢ a / 4). ap (λ v. byte_of v (c % 4)) (get_or-set_other m.words (a / 4) (c / 4) new 0 other)) (cases_eq (c / 4) (a / 4))
 
 pub word_put_other : (ws : List ℕ) (a b q : ℕ) → q ≢ a / 4 → get_or (put_byte ws a b) q 0 ≡ get_or ws q 0
 unfolding put_byte
@@ -145,7 +149,7 @@ bytes_at-with_bytes_grown m pages k n bs distinct within there small =
 pub bytes_at_same : (m after : Mem) (pages : List ℕ) (k n : ℕ) → ((i : ℕ) → i < n → word_at after (place pages (k + i)) ≡ word_at m (place pages (k + i))) → bytes_at after pages k n ≡ bytes_at m pages k n
 bytes_at_same m after pages k n each =
     bytes_at_is after pages k (bytes_at m pages k n) n (length-bytes_at m pages k n)
-    (λ i inside. ap (λ w. get_or (bytes_of w) (place pages (k + i) % 4) 0) (each i inside) ∙ sym (get_or-bytes_at m pages k n i 0 inside))
+    (λ i inside. ap (λ w. byte_of w (place pages (k + i) % 4)) (each i inside) ∙ sym (get_or-bytes_at m pages k n i 0 inside))
 
 -- a word written elsewhere leaves a buffer's bytes
 pub bytes_at-with_word : (m : Mem) (at v : ℕ) (pages : List ℕ) (k n : ℕ) → ((i : ℕ) → i < n → place pages (k + i) / 4 ≢ at / 4) → bytes_at (with_word m at v) pages k n ≡ bytes_at m pages k n
@@ -171,12 +175,12 @@ run_alone r pages k n run page from below = record {
       place_in_run r pages (k + i) (ap (λ q. get_or pages q 0) zero_page ∙ page) (omega arith) (omega arith);
 }
 
--- the controller may touch the bytes of a Lent run, and they lie in memory
+-- the controller may touch the bytes of a Lent run, and those of any run of one state lie in memory
 pub reached_in_run : (m : Mem) (r : Run) (pages : List ℕ) (k n : ℕ) → AreAll m Lent r → AreInRun r pages k n → AreReached m pages k n
 reached_in_run m r pages k n all here = λ i inside. reaches_lent m r (place pages (k + i)) all (here.each i inside)
 
-pub there_in_run : (m : Mem) (r : Run) (pages : List ℕ) (k n : ℕ) → IsShaped m → AreAll m Lent r → AreInRun r pages k n → AreThere m pages k n
-there_in_run m r pages k n shape all here = λ i inside. words_within m Lent r (place pages (k + i)) shape all (here.each i inside)
+pub there_in_run : (m : Mem) (s : BlockState) (r : Run) (pages : List ℕ) (k n : ℕ) → IsShaped m → AreAll m s r → AreInRun r pages k n → AreThere m pages k n
+there_in_run m s r pages k n shape all here = λ i inside. words_within m s r (place pages (k + i)) shape all (here.each i inside)
 
 pub stored_in_run : (m : Mem) (r : Run) (pages : List ℕ) (k : ℕ) (bs : List ℕ) → AreAll m Lent r → AreInRun r pages k (length bs) → stored m pages k bs ≡ with_bytes m pages k bs
 stored_in_run m r pages k bs all here = stored_all m pages k bs (reached_in_run m r pages k (length bs) all here)

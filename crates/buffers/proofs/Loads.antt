@@ -6,7 +6,9 @@ use Rattle.std.proofs.lemmas.Option.{same_Some}
 use Rattle.std.proofs.lemmas.Slice.{put_mid-paste}
 use borrow.Rule.Slice.PartMut.{put_mid}
 use Rattle.word_mem.specs.Memory.{Mem, word_at, reaches}
-use Rattle.buffers.specs.Bytes.{bytes_of, byte_at, place, places, bytes_at, loaded, AreReached}
+use Rattle.buffers.specs.Bytes.{bytes_of, place, places, bytes_at, loaded, AreReached}
+use Rattle.word_mem.specs.Views.{byte_at, byte_of}
+use Rattle.buffers.proofs.WordBytes.{byte_of_word}
 use Rattle.buffers.proofs.Stores.{place_next}
 use Rattle.buffers.proofs.Reach.{length-places, get_or-places, reached_all, reached_is}
 
@@ -60,8 +62,8 @@ bytes_at_word m pages k at n here one_word =
     let next : place pages (k + i) ≡ at + i = place_next pages k i (omega arith) ∙ ap (λ a. a + i) (sym here) in
     let word : (at + i) / 4 ≡ at / 4 = omega arith in
     let byte : (at + i) % 4 ≡ at % 4 + i = omega arith in
-    ap (byte_at m) next ∙ ap (λ q. get_or (bytes_of (get_or m.words q 0)) ((at + i) % 4) 0) word ∙ ap (λ j. get_or w j 0) byte
-    ∙ sym (get_or-take n (drop (at % 4) w) i 0 inside ∙ get_or-drop (at % 4) w i 0)))
+    ap (byte_at m) next ∙ ap (λ q. byte_of (get_or m.words q 0) ((at + i) % 4)) word ∙ ap (byte_of (word_at m at)) byte
+    ∙ sym (get_or-take n (drop (at % 4) w) i 0 inside ∙ get_or-drop (at % 4) w i 0 ∙ byte_of_word (word_at m at) (at % 4 + i) (omega arith))))
 
 some_none : (x : ℕ) → Some x ≡ None → ⊥
 some_none x is = cc

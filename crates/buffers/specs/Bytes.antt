@@ -3,8 +3,7 @@
 --     ArePages pages              page numbers: each is below 2 ^ 20, so that each byte has an address of 32 bits
 --     AreDistinct pages           no two of them are the same
 --     bytes_of w, word_of bs      the four bytes of a word, the lowest first, and the word of four bytes
---     byte_at m a                 the byte at the byte address a: byte a mod 4 of its word
---     with_byte m a b             the byte at a is b now, and nothing else differs
+--     with_byte m a b             the byte at the byte address a, byte a mod 4 of its word, is b now, and nothing else differs
 --     place pages k               the byte address of byte k, for k below 4,096 times the number of pages
 --     places pages k n            the byte addresses of n bytes from byte k on
 --     bytes_at m pages k n        those bytes
@@ -20,7 +19,8 @@
 use Rattle.std.specs.Prelude.{◌≡◌, ℕ, ◌+◌, ◌*◌, ◌/◌, ◌%◌, ◌<◌, ◌≤◌, Bool, true, List, [], ◌∷◌, ◌++◌, length, take, drop, map, slice_index, slice_set, if◌then◌else◌}
 use Rattle.std.specs.Int.{w32, to_le_bytes, from_le_bytes}
 use Rattle.std.specs.List.{list_all, prefix_len, range_with_len}
-use Rattle.word_mem.specs.Memory.{Mem, word_at, reaches, refused}
+use Rattle.word_mem.specs.Memory.{Mem, reaches, refused}
+use Rattle.word_mem.specs.Views.{byte_at}
 
 pub record ArePages (pages : List ℕ) : Type 0 where
   pub each : (i : ℕ) → slice_index pages i < 1048576
@@ -34,9 +34,6 @@ bytes_of w = to_le_bytes w32 w
 
 abbrev pub word_of : List ℕ → ℕ
 word_of bs = from_le_bytes w32 bs
-
-abbrev pub byte_at : Mem → ℕ → ℕ
-byte_at m a = slice_index (bytes_of (word_at m a)) (a % 4)
 
 -- the words with another byte at the byte address a
 unfoldable pub put_byte : List ℕ → ℕ → ℕ → List ℕ

@@ -1,5 +1,6 @@
 ghost use Rattle.std.specs.Prelude.{◌≡◌, ℕ, ◌+◌, ◌*◌, ◌/◌, ◌%◌, ◌<◌, ◌≤◌, if◌then◌else◌, length, take, drop, ◌++◌, Some, None, slice_set, MatchOption, false};
 ghost use Rattle.word_mem.specs.Memory.{reaches, refused, word_at, with_word};
+ghost use Rattle.word_mem.specs.Access.{IsByController};
 ghost use Rattle.buffers.specs.Bytes.{ArePages, place, with_byte, with_bytes, word_of, bytes_of, bytes_at, AreReached};
 
 use word_mem::WordMem;
@@ -20,6 +21,7 @@ pub(crate) fn address(pages: &[u32], k: u32) -> u32
 pub(crate) fn hc_word(mem: &mut WordMem, at: u32) -> Option<u32>
     ensures word { result ≡ (if reaches mem.old at then Some (word_at mem.old at) else None) }
     ensures memory { mem.new ≡ (if reaches mem.old at then mem.old else refused mem.old) }
+    ensures only_lent { IsByController mem.old mem.new }
 {
     mem.hc_read(at - at % 4)
 }
@@ -28,6 +30,7 @@ pub(crate) fn hc_word(mem: &mut WordMem, at: u32) -> Option<u32>
 pub(crate) fn hc_put_word(mem: &mut WordMem, at: u32, word: u32) -> bool
     ensures written { result ≡ reaches mem.old at }
     ensures memory { mem.new ≡ (if reaches mem.old at then with_word mem.old at word else refused mem.old) }
+    ensures only_lent { IsByController mem.old mem.new }
 {
     mem.hc_write(at - at % 4, word)
 }
@@ -47,6 +50,7 @@ fn with_part(word: u32, place: u32, byte: u8) -> u32
 pub(crate) fn hc_put_byte(mem: &mut WordMem, at: u32, byte: u8) -> bool
     ensures put { result ≡ reaches mem.old at }
     ensures memory { mem.new ≡ (if reaches mem.old at then with_byte mem.old at byte else refused mem.old) }
+    ensures only_lent { IsByController mem.old mem.new }
 {
     match hc_word(mem, at) {
         None => false,
@@ -62,6 +66,7 @@ pub(crate) fn hc_put(mem: &mut WordMem, pages: &[u32], k: u32, bytes: &[u8]) -> 
     requires some { 1 ≤ length bytes.now }
     ensures moved { MatchOption result (reaches mem.old (place pages.now k) ≡ false) (λ n. (1 ≤ n) × (n ≤ length bytes.now) × AreReached mem.old pages.now k n) }
     ensures memory { MatchOption result (mem.new ≡ refused mem.old) (λ n. mem.new ≡ with_bytes mem.old pages.now k (take n bytes.now)) }
+    ensures only_lent { IsByController mem.old mem.new }
 {
     let at = address(pages, k);
     if at % 4 == 0 && bytes.len() >= 4 {
@@ -107,6 +112,7 @@ pub(crate) fn hc_get(mem: &mut WordMem, pages: &[u32], k: u32, into: &mut [u8]) 
     requires some { 1 ≤ length into.old }
     ensures moved { MatchOption result (reaches mem.old (place pages.now k) ≡ false) (λ n. (1 ≤ n) × (n ≤ length into.old) × AreReached mem.old pages.now k n) }
     ensures memory { MatchOption result (mem.new ≡ refused mem.old) (λ n. mem.new ≡ mem.old) }
+    ensures only_lent { IsByController mem.old mem.new }
     ensures bytes { MatchOption result (into.new ≡ into.old) (λ n. into.new ≡ bytes_at mem.old pages.now k n ++ drop n into.old) }
 {
     let at = address(pages, k);

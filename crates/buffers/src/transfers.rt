@@ -1,5 +1,6 @@
 ghost use Rattle.std.specs.Prelude.{◌≡◌, ◌+◌, ◌*◌, ◌≤◌, length, if◌then◌else◌};
 ghost use Rattle.word_mem.specs.Memory.{refused};
+ghost use Rattle.word_mem.specs.Access.{IsByController};
 ghost use Rattle.buffers.specs.Bytes.{ArePages, AreThere, all_reached, stored, loaded, bytes_at};
 
 use crate::pieces::{get, hc_get, hc_put};
@@ -13,8 +14,7 @@ pub fn hc_store(mem: &mut WordMem, pages: &[u32], from: u32, bytes: &[u8]) -> bo
     requires inside { from + length bytes.now ≤ 4096 * length pages.now }
     ensures all { result ≡ all_reached mem.old pages.now from (length bytes.now) }
     ensures memory { mem.new ≡ stored mem.old pages.now from bytes.now }
-    ensures words { length mem.new.words ≡ length mem.old.words }
-    ensures states { mem.new.states ≡ mem.old.states }
+    ensures only_lent { IsByController mem.old mem.new }
 {
     let mut done = 0;
     while done < bytes.len() {
@@ -34,6 +34,7 @@ pub fn hc_load(mem: &mut WordMem, pages: &[u32], from: u32, into: &mut [u8]) -> 
     requires inside { from + length into.old ≤ 4096 * length pages.now }
     ensures all { result ≡ all_reached mem.old pages.now from (length into.old) }
     ensures memory { mem.new ≡ (if all_reached mem.old pages.now from (length into.old) then mem.old else refused mem.old) }
+    ensures only_lent { IsByController mem.old mem.new }
     ensures bytes { into.new ≡ loaded mem.old pages.now from into.old }
 {
     let mut done = 0;

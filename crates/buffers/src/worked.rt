@@ -1,7 +1,8 @@
 //! Worked rows of the definitions, computed: bytes of a word, places in pages, and bytes stored and loaded.
 ghost use Rattle.std.specs.Prelude.{◌≡◌, ◌++◌, [], ◌∷◌, replicate, false, true};
 ghost use Rattle.word_mem.specs.declared.blocks.BlockState.TheVariants.{Lent, Kept};
-ghost use Rattle.buffers.specs.Bytes.{bytes_of, word_of, byte_at, with_byte, place, places, bytes_at, with_bytes, reached, all_reached, stored, loaded};
+ghost use Rattle.word_mem.specs.Views.{byte_at};
+ghost use Rattle.buffers.specs.Bytes.{bytes_of, word_of, with_byte, place, places, bytes_at, with_bytes, reached, all_reached, stored, loaded};
 
 /// The word 0x11223344 has its lowest byte first, and a byte in it changes alone.
 #[tactic(auto, unfolding(crate::specs::Bytes::put_byte))]
