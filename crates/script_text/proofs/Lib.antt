@@ -1,0 +1,5 @@
+pub mod Cuts
+pub mod Decimals
+pub mod Fates
+pub mod Once
+pub mod Same

@@ -1,0 +1,17 @@
+//! Scripts and reports as text: what a script says, how it is read, and how a report is written.
+#![tactic(auto)]
+
+mod error;
+mod lines;
+mod numbers;
+mod parsing;
+mod script;
+mod statements;
+#[cfg(test)]
+mod tests;
+mod words;
+pub mod worked;
+
+pub use error::{TextError, TextWhy};
+pub use parsing::parse;
+pub use script::{Fated, Fill, Script, Transfer};
