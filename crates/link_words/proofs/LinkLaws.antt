@@ -9,7 +9,8 @@ use Rattle.link_words.specs.declared.fields.LinkBits.{LinkBits}
 use Rattle.link_words.specs.declared.fields.ShortLink.{ShortLink}
 use Rattle.link_words.specs.Fields.{link_rows, link_at, short_link_rows, short_link_at}
 use Rattle.link_words.proofs.Tables.{SaysWord}
-use Rattle.link_words.specs.Links.{link_read, link_word, IsAligned, IsLinkWord, qtd_link_read, qtd_link_word, IsQtdAligned, IsQtdLinkWord}
+use Rattle.link_words.specs.Layout.{word_of}
+use Rattle.link_words.specs.Links.{link_of, link_fields, qtd_link_of, qtd_link_fields, link_read, link_word, IsAligned, IsLinkWord, qtd_link_read, qtd_link_word, IsQtdAligned, IsQtdLinkWord}
 
 -- what a link's word says, and that nothing else does
 pub link_says : (w : ℕ) → SaysWord link_rows w (link_at w)
@@ -46,3 +47,29 @@ link_word-read w h = grind (arith, common_steps)
 pub qtd_link_word-read : (w : ℕ) → IsQtdLinkWord w → qtd_link_word (qtd_link_read w) ≡ w
 unfolding qtd_link_read qtd_link_word
 qtd_link_word-read w h = grind (arith, common_steps)
+
+-- ---- links and their fields
+
+-- a link is written as its fields
+pub word_of-fields : (link : Link) → word_of link_rows (link_fields link) ≡ link_word link
+unfolding link_word
+word_of-fields link = refl
+
+pub qtd_word_of-fields : (link : QtdLink) → word_of short_link_rows (qtd_link_fields link) ≡ qtd_link_word link
+unfolding qtd_link_word
+qtd_word_of-fields link = refl
+
+-- and its fields lead where it does
+pub link_of-fields : (link : Link) → link_of (link_fields link) ≡ link
+link_of-fields kinds.End = refl
+link_of-fields (kinds.Itd a) = refl
+link_of-fields (kinds.Qh a) = refl
+link_of-fields (kinds.Sitd a) = refl
+link_of-fields (kinds.Fstn a) = refl
+
+pub qtd_link_of-fields : (link : QtdLink) → qtd_link_of (qtd_link_fields link) ≡ link
+qtd_link_of-fields qtd_kinds.End = refl
+qtd_link_of-fields (qtd_kinds.To a) = refl
+
+-- for `using`: that what was written is read, and the other way round
+pub ruleset link_laws = (link_read-word, qtd_link_read-word, link_word-read, qtd_link_word-read, word_of-fields, qtd_word_of-fields, link_of-fields, qtd_link_of-fields)

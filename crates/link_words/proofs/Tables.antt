@@ -151,8 +151,8 @@ says_word top [] w v sound in_word small says free = (rw (eqb-true top 0 sound) 
 says_word top (Number high low reserved value ∷ rows) w v sound in_word small says free =
     let s = sound_row high low top reserved (is_sound_below low rows) sound in
     let low_in : low ≤ 32 = omega (arith, s.0.ends, s.0.ordered) in
-    let later : (word_of rows v ≡ w % 2 ^ low) × IsWordInRange rows v = says_word low rows w v s.1 low_in small says.1 (λ k l. (neither _ _ (free k l)).1) in
-    let here = allowed reserved high low w s.0.ordered (omega (arith, s.0.ends)) (λ k l. (neither _ _ (free k l)).0) in
+    let later : (word_of rows v ≡ w % 2 ^ low) × IsWordInRange rows v = says_word low rows w v s.1 low_in small says.1 (λ k l. (neither (breaks reserved high low k w) (is_bad (places_of rows) k w) (free k l)).1) in
+    let here = allowed reserved high low w s.0.ordered (omega (arith, s.0.ends)) (λ k l. (neither (breaks reserved high low k w) (is_bad (places_of rows) k w) (free k l)).0) in
     (rw (says.0, later.0, ← s.0.ends) (split_at w high low s.0.ordered), (subst (IsAllowed reserved (high + 1 - low)) (sym says.0) here, later.1))
 says_word top (Flag bit value ∷ rows) w v sound in_word small says free =
     let s = both (bit + 1 == top) (is_sound_below bit rows) sound in
@@ -168,8 +168,8 @@ says_word top (Address low value ∷ rows) w v sound in_word small says free =
 says_word top (Gap high low ∷ rows) w v sound in_word small says free =
     let s = sound_gap high low top (is_sound_below low rows) sound in
     let low_in : low ≤ 32 = omega (arith, s.0, s.1) in
-    let later : (word_of rows v ≡ w % 2 ^ low) × IsWordInRange rows v = says_word low rows w v s.2 low_in small says (λ k l. (neither _ _ (free k l)).1) in
-    let none : bits high low w ≡ 0 = allowed Each high low w s.1 (omega (arith, s.0)) (λ k l. (neither _ _ (free k l)).0) in
+    let later : (word_of rows v ≡ w % 2 ^ low) × IsWordInRange rows v = says_word low rows w v s.2 low_in small says (λ k l. (neither (breaks Each high low k w) (is_bad (places_of rows) k w) (free k l)).1) in
+    let none : bits high low w ≡ 0 = allowed Each high low w s.1 (omega (arith, s.0)) (λ k l. (neither (breaks Each high low k w) (is_bad (places_of rows) k w) (free k l)).0) in
     (rw later.0 (omega (arith, split_at w high low s.1, ap (λ x. x * 2 ^ low) none, ap (λ m. w % 2 ^ m) s.0)), later.1)
 
 -- ---- to what the words say

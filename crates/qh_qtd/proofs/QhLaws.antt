@@ -118,3 +118,24 @@ qh_at-alternate ws = refl
 pub qh_at-token : (ws : List ℕ) → (qh_at ws).token ≡ token_at (slice_index ws 6)
 unfolding qh_at
 qh_at-token ws = refl
+
+-- ---- what was read
+
+pub qh_read-is : (ws : List ℕ) (q : Qh) → qh_read ws ≡ Ok q → q ≡ qh_at ws
+unfolding qh_read
+qh_read-is ws q e = sym (unless_bad-ok (qh_bad ws) (qh_at ws) q e).1
+
+pub qh_read-link : (ws : List ℕ) (q : Qh) → qh_read ws ≡ Ok q → link_of q.link ≡ link_read (slice_index ws 0)
+qh_read-link ws q e = ap (λ x. link_of x.link) (qh_read-is ws q e) ∙ qh_at-link ws
+
+pub qh_read-next : (ws : List ℕ) (q : Qh) → qh_read ws ≡ Ok q → qtd_link_of q.next ≡ qtd_link_read (slice_index ws 4)
+qh_read-next ws q e = ap (λ x. qtd_link_of x.next) (qh_read-is ws q e) ∙ qh_at-next ws
+
+pub qh_read-alternate : (ws : List ℕ) (q : Qh) → qh_read ws ≡ Ok q → qtd_link_of q.alternate ≡ qtd_link_read (slice_index ws 5)
+qh_read-alternate ws q e = ap (λ x. qtd_link_of x.alternate) (qh_read-is ws q e) ∙ qh_at-alternate ws
+
+pub qh_read-token : (ws : List ℕ) (q : Qh) → qh_read ws ≡ Ok q → q.token ≡ token_at (slice_index ws 6)
+qh_read-token ws q e = ap (λ x. x.token) (qh_read-is ws q e) ∙ qh_at-token ws
+
+-- for `using`: that what was written is read, and what single words say and change
+pub ruleset qh_laws = (qh_read-words, qh_words-length, qh_words-link, qh_words-token, qh_at-link, qh_at-next, qh_at-alternate, qh_at-token)

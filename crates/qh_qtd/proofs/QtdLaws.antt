@@ -94,3 +94,21 @@ qtd_at-next ws = refl
 pub qtd_at-alternate : (ws : List ℕ) → qtd_link_of (qtd_at ws).alternate ≡ qtd_link_read (slice_index ws 1)
 unfolding qtd_at qtd_link_read
 qtd_at-alternate ws = refl
+
+-- ---- what was read
+
+pub qtd_read-is : (ws : List ℕ) (q : Qtd) → qtd_read ws ≡ Ok q → q ≡ qtd_at ws
+unfolding qtd_read
+qtd_read-is ws q e = sym (unless_bad-ok (qtd_bad ws) (qtd_at ws) q e).1
+
+pub qtd_read-next : (ws : List ℕ) (q : Qtd) → qtd_read ws ≡ Ok q → qtd_link_of q.next ≡ qtd_link_read (slice_index ws 0)
+qtd_read-next ws q e = ap (λ x. qtd_link_of x.next) (qtd_read-is ws q e) ∙ qtd_at-next ws
+
+pub qtd_read-alternate : (ws : List ℕ) (q : Qtd) → qtd_read ws ≡ Ok q → qtd_link_of q.alternate ≡ qtd_link_read (slice_index ws 1)
+qtd_read-alternate ws q e = ap (λ x. qtd_link_of x.alternate) (qtd_read-is ws q e) ∙ qtd_at-alternate ws
+
+pub qtd_read-token : (ws : List ℕ) (q : Qtd) → qtd_read ws ≡ Ok q → q.token ≡ token_at (slice_index ws 2)
+qtd_read-token ws q e = ap (λ x. x.token) (qtd_read-is ws q e) ∙ qtd_at-token ws
+
+-- for `using`: that what was written is read, and what single words say and change
+pub ruleset qtd_laws = (qtd_read-words, qtd_words-length, qtd_words-token, qtd_words-next, qtd_at-token, qtd_at-next, qtd_at-alternate)
