@@ -1,0 +1,78 @@
+-- What the best placement is, in both directions.
+use Rattle.std.proofs.Common.{◌≡◌, ℕ, ◌+◌, ◌<◌, ◌≤◌, true, List, [], ◌∷◌, ◌++◌, map, arith}
+use Rattle.std.specs.Prelude.{zero, suc, Some, None, slice_get}
+use Rattle.std.specs.List.{flat_map, range_with_len}
+use Rattle.bandwidth.specs.declared.placements.Want.{Want}
+use Rattle.bandwidth.specs.declared.placements.Placement.{Placement}
+use Rattle.bandwidth.specs.declared.placements.Placed.{Placed}
+use Rattle.bandwidth.specs.Placements.{allowed, in_phase, placement_at, row_of, frame_period, is_period, IsWant, IsPlace}
+use Rattle.bandwidth.specs.Sums.{Fits}
+use Rattle.bandwidth.specs.Admission.{joined, keeps, peak, best, IsBest, HasNone}
+use Rattle.bandwidth.proofs.Budgets.{fits_fact, fits_test}
+use Rattle.bandwidth.proofs.Least.{IsFirstLeast, least_found, least_absent, none_left}
+
+-- P holds of each of these
+Every : (Placement → Type 0) → List Placement → Type 0
+Every P [] = Unit {0}
+Every P (q ∷ qs) = P q × Every P qs
+
+every_append : (P : Placement → Type 0) (ps qs : List Placement) → Every P ps → Every P qs → Every P (ps ++ qs)
+unfolding Every
+every_append P [] qs h k = k
+every_append P (p ∷ ps) qs h k = (h.0, every_append P ps qs h.1 k)
+
+every_at : (P : Placement → Type 0) (ps : List Placement) (i : ℕ) (q : Placement) → Every P ps → slice_get ps i ≡ Some q → P q
+unfolding Every
+every_at P [] i q h e = cc
+every_at P (p ∷ ps) zero q h e = let s : p ≡ q = cc in rw (← s) h.0
+every_at P (p ∷ ps) (suc i) q h e = every_at P ps i q h.1 e
+
+phase_places : (w : Want) (phase : ℕ) → is_period w.period ≡ true → phase < frame_period w.period → (a n : ℕ) → Every IsPlace (map (placement_at w phase) (range_with_len a n))
+unfolding Every
+phase_places w phase p h a zero = tt
+phase_places w phase p h a (suc n) = (record { period = p; phase = h }, phase_places w phase p h (a + 1) n)
+
+all_places : (w : Want) → is_period w.period ≡ true → (a n : ℕ) → a + n ≤ frame_period w.period → Every IsPlace (flat_map (in_phase w) (range_with_len a n))
+unfolding Every
+all_places w p a zero h = tt
+all_places w p a (suc n) h =
+    every_append IsPlace (in_phase w a) _ (phase_places w a p (omega arith) 0 (row_of w).starts)
+    (all_places w p (a + 1) n (omega arith))
+
+allowed_places : (w : Want) → is_period w.period ≡ true → Every IsPlace (allowed w)
+unfolding allowed
+allowed_places w p = all_places w p 0 (frame_period w.period) (omega arith)
+
+found : (placed : List Placed) (w : Want) (p : Placement) → best placed w ≡ Some p → IsFirstLeast (peak placed w) (keeps placed w) (allowed w) p
+unfolding best
+found placed w p e = least_found (peak placed w) (keeps placed w) (allowed w) p e
+
+pub best_place : (placed : List Placed) (w : Want) (p : Placement) → IsWant w → best placed w ≡ Some p → IsPlace p
+best_place placed w p want e =
+    let f = found placed w p e in every_at IsPlace (allowed w) f.place p (allowed_places w want.period) f.at
+
+pub best_fits : (placed : List Placed) (w : Want) (p : Placement) → best placed w ≡ Some p → Fits (joined placed w p)
+best_fits placed w p e = fits_fact _ (found placed w p e).passes
+
+pub best_is : (placed : List Placed) (w : Want) (p : Placement) → best placed w ≡ Some p → IsBest placed w p
+best_is placed w p e =
+    let f = found placed w p e in
+    record {
+      place = f.place;
+      at = f.at;
+      fits = fits_fact _ f.passes;
+      least = λ i q at fit. f.least i q at (fits_test _ fit);
+      first = λ i q h at fit. f.first i q h at (fits_test _ fit);
+    }
+
+pub best_none : (placed : List Placed) (w : Want) → best placed w ≡ None → HasNone placed w
+unfolding best
+best_none placed w e i q at fit = least_absent (peak placed w) (keeps placed w) (allowed w) e i q at (fits_test _ fit)
+
+pub none_best : (placed : List Placed) (w : Want) → HasNone placed w → best placed w ≡ None
+unfolding best
+none_best placed w all =
+    none_left (peak placed w) (keeps placed w) (allowed w) (λ i q at t. all i q at (fits_fact _ t))
+
+pub some_not_none : (placed : List Placed) (w : Want) (p : Placement) → best placed w ≡ Some p → HasNone placed w → ⊥
+some_not_none placed w p e all = let b = best_is placed w p e in all b.place p b.at b.fits

@@ -1,0 +1,255 @@
+-- The tests of budgets are the facts of budgets, and what one placement more does to them.
+use Rattle.std.proofs.Common.{◌≡◌, ℕ, ◌+◌, ◌/◌, ◌%◌, ◌<◌, ◌≤◌, Bool, true, false, cond, List, [], refl, ap, sym, ◌∙◌, arith, nat_le, eq-eqb, lit≤}
+use Rattle.std.specs.Prelude.{zero, suc, sum_by, Option, Some, None, if◌then◌else◌, slice_index, max, filter, not}
+use Rattle.std.proofs.lemmas.List.Sums.{sum_by_push}
+use Rattle.std.proofs.lemmas.List.Filters.{sum_by-filter_both}
+use Rattle.std.proofs.lemmas.Bool.Decides.{nat_tests}
+use borrow.Author.Tests.{eqb-true}
+use Rattle.bandwidth.specs.declared.placements.Want.{Want}
+use Rattle.bandwidth.specs.declared.placements.Placement.{Placement}
+use Rattle.bandwidth.specs.declared.placements.Placed.{Placed}
+use Rattle.bandwidth.specs.Sums.{load, frame_sum, tt_sum, cost_at, laid_at, time_at, cost_in, is_active, is_hub, Fits, fits, each_below}
+use Rattle.bandwidth.specs.Admission.{joined, keeps, is_own, peak, greatest}
+use Rattle.bandwidth.specs.Tables.{Sheet, AreSums, LoadsFit, FramesFit, BytesFit}
+use Rattle.bandwidth.proofs.Turns.{both, both_left, both_right, earlier_or_now}
+
+le_test : (a b : ℕ) → a ≤ b → nat_le a b ≡ true
+le_test a b h = grind (arith, nat_tests)
+
+le_fact : (a b : ℕ) → nat_le a b ≡ true → a ≤ b
+le_fact a b h = grind (arith, nat_tests)
+
+each_true : (n : ℕ) (test : ℕ → Bool) → ((i : ℕ) → i < n → test i ≡ true) → each_below n test ≡ true
+unfolding each_below
+each_true zero test all = refl
+each_true (suc n) test all = both _ _ (each_true n test (λ i h. all i (omega arith))) (all n (omega arith))
+
+each_at : (n : ℕ) (test : ℕ → Bool) → each_below n test ≡ true → (i : ℕ) → i < n → test i ≡ true
+unfolding each_below
+each_at zero test h i l = absurd (omega arith)
+each_at (suc n) test h i l =
+    earlier_or_now (test i ≡ true) i n (omega arith)
+    (λ k. each_at n test (both_left _ (test n) h) i k)
+    (λ (e : i ≡ n). rw e (both_right (each_below n test) (test n) h))
+
+pub fits_test : (placed : List Placed) → Fits placed → fits placed ≡ true
+unfolding fits
+fits_test placed f =
+    both _ _ (each_true 8192 _ (λ u h. le_test _ _ (f.loads u h)))
+    (both _ _
+    (each_true 128 _ (λ hub h. each_true 1024 _ (λ k l. le_test _ _ (f.frames hub k h l))))
+    (each_true 128 _ (λ hub h. each_true 8192 _ (λ u l. le_test _ _ (f.bytes hub u h l)))))
+
+pub fits_fact : (placed : List Placed) → fits placed ≡ true → Fits placed
+unfolding fits
+fits_fact placed t =
+    let loads : each_below 8192 (λ u. nat_le (load placed u) 100000000) ≡ true = both_left _ _ t in
+    let below = both_right (each_below 8192 (λ u. nat_le (load placed u) 100000000)) _ t in
+    let frames : each_below 128 (λ hub. each_below 1024 (λ f. nat_le (frame_sum placed hub f) 900000000)) ≡ true = both_left _ _ below in
+    let bytes =
+    both_right (each_below 128 (λ hub. each_below 1024 (λ f. nat_le (frame_sum placed hub f) 900000000))) _ below in
+    record {
+      loads = λ u h. le_fact _ _ (each_at 8192 _ loads u h);
+      frames = λ hub f h l. le_fact _ _ (each_at 1024 _ (each_at 128 _ frames hub h) f l);
+      bytes = λ hub u h l. le_fact _ _ (each_at 8192 _ (each_at 128 _ bytes hub h) u l);
+    }
+
+pub load_joined : (placed : List Placed) (w : Want) (p : Placement) (u : ℕ) → load (joined placed w p) u ≡ load placed u + cost_at u (record { want = w; placement = p })
+load_joined placed w p u = sum_by_push (cost_at u) placed (record { want = w; placement = p })
+
+pub frame_joined : (placed : List Placed) (w : Want) (p : Placement) (hub f : ℕ) → frame_sum (joined placed w p) hub f ≡ frame_sum placed hub f + cond (is_hub w.hub hub) (time_at f (record { want = w; placement = p })) 0
+frame_joined placed w p hub f =
+    sum_by_push (λ x. if is_hub x.want.hub hub then time_at f x else 0) placed (record { want = w; placement = p })
+
+pub bytes_joined : (placed : List Placed) (w : Want) (p : Placement) (hub u : ℕ) → tt_sum (joined placed w p) hub u ≡ tt_sum placed hub u + cond (is_hub w.hub hub) (laid_at u (record { want = w; placement = p })) 0
+bytes_joined placed w p hub u =
+    sum_by_push (λ x. if is_hub x.want.hub hub then laid_at u x else 0) placed (record { want = w; placement = p })
+
+-- a term that may be left out keeps a bound that stands without it
+added : (b : Bool) (x y m : ℕ) → x ≤ m → (b ≡ true → x + y ≤ m) → x + cond b y 0 ≤ m
+added true x y m h k = k refl
+added false x y m h k = omega arith
+
+dropped : (b : Bool) (x y m : ℕ) → x + cond b y 0 ≤ m → b ≡ true → x + y ≤ m
+dropped true x y m h k = h
+dropped false x y m h k = cc
+
+hub_is : (o : Option ℕ) (h : ℕ) → is_hub o h ≡ true → o ≡ Some h
+hub_is None h e = cc
+hub_is (Some x) h e = ap Some (eqb-true x h e)
+
+is_own_hub : (o : Option ℕ) (h : ℕ) → o ≡ Some h → is_hub o h ≡ true
+is_own_hub o h e = rw e (eq-eqb h h refl)
+
+pub loads_in : (s : Sheet) (w : Want) (p : Placement) → AreSums s w.hub → Fits s.placed → LoadsFit s w p → (u : ℕ) → u < 8192 → load (joined s.placed w p) u ≤ 100000000
+loads_in s w p sums f l u h =
+    rw (load_joined s.placed w p u)
+    (added (is_active p (u / 8)) _ _ _ (f.loads u h) (λ a. rw (← sums.loads u h) (l u h a)))
+
+pub loads_out : (s : Sheet) (w : Want) (p : Placement) → AreSums s w.hub → Fits (joined s.placed w p) → LoadsFit s w p
+loads_out s w p sums f u h a =
+    rw (sums.loads u h) (dropped (is_active p (u / 8)) _ _ _ (rw (load_joined s.placed w p u) at (f.loads u h)) a)
+
+pub frames_in : (s : Sheet) (w : Want) (p : Placement) → AreSums s w.hub → Fits s.placed → FramesFit s w p → (hub f : ℕ) → hub < 128 → f < 1024 → frame_sum (joined s.placed w p) hub f ≤ 900000000
+frames_in s w p sums fit l hub f h k =
+    rw (frame_joined s.placed w p hub f)
+    (added (is_hub w.hub hub) _ _ _ (fit.frames hub f h k)
+    (λ own.
+    added (is_active p f) _ _ _ (fit.frames hub f h k)
+    (λ a. rw (← sums.frames hub f (hub_is w.hub hub own) k) (l f k a))))
+
+pub frames_out : (s : Sheet) (w : Want) (p : Placement) (hub : ℕ) → hub < 128 → w.hub ≡ Some hub → AreSums s w.hub → Fits (joined s.placed w p) → FramesFit s w p
+frames_out s w p hub h e sums fit f k a =
+    rw (sums.frames hub f e k)
+    (dropped (is_active p f) _ _ _
+    (dropped (is_hub w.hub hub) _ _ _ (rw (frame_joined s.placed w p hub f) at (fit.frames hub f h k)) (is_own_hub w.hub hub e))
+    a)
+
+pub bytes_in : (s : Sheet) (w : Want) (p : Placement) → AreSums s w.hub → Fits s.placed → BytesFit s w p → (hub u : ℕ) → hub < 128 → u < 8192 → tt_sum (joined s.placed w p) hub u ≤ 188
+bytes_in s w p sums fit l hub u h k =
+    rw (bytes_joined s.placed w p hub u)
+    (added (is_hub w.hub hub) _ _ _ (fit.bytes hub u h k)
+    (λ own.
+    added (is_active p (u / 8)) _ _ _ (fit.bytes hub u h k)
+    (λ a. rw (← sums.bytes hub u (hub_is w.hub hub own) k) (l u k a))))
+
+pub bytes_out : (s : Sheet) (w : Want) (p : Placement) (hub : ℕ) → hub < 128 → w.hub ≡ Some hub → AreSums s w.hub → Fits (joined s.placed w p) → BytesFit s w p
+bytes_out s w p hub h e sums fit u k a =
+    rw (sums.bytes hub u e k)
+    (dropped (is_active p (u / 8)) _ _ _
+    (dropped (is_hub w.hub hub) _ _ _ (rw (bytes_joined s.placed w p hub u) at (fit.bytes hub u h k)) (is_own_hub w.hub hub e))
+    a)
+
+-- without a hub the sums below hubs stay
+pub alone_frames : (s : Sheet) (w : Want) (p : Placement) → w.hub ≡ None → Fits s.placed → (hub f : ℕ) → hub < 128 → f < 1024 → frame_sum (joined s.placed w p) hub f ≤ 900000000
+alone_frames s w p e fit hub f h k =
+    rw (frame_joined s.placed w p hub f) (rw e (omega (arith, fit.frames hub f h k)))
+
+pub alone_bytes : (s : Sheet) (w : Want) (p : Placement) → w.hub ≡ None → Fits s.placed → (hub u : ℕ) → hub < 128 → u < 8192 → tt_sum (joined s.placed w p) hub u ≤ 188
+alone_bytes s w p e fit hub u h k =
+    rw (bytes_joined s.placed w p hub u) (rw e (omega (arith, fit.bytes hub u h k)))
+
+false_of : (b : Bool) → (b ≡ true → ⊥) → b ≡ false
+false_of true h = absurd (h refl)
+false_of false h = refl
+
+-- the answer of the test, by what was found
+pub keeps_not_loads : (s : Sheet) (w : Want) (p : Placement) → AreSums s w.hub → (LoadsFit s w p → ⊥) → keeps s.placed w p ≡ false
+keeps_not_loads s w p sums wrong = false_of _ (λ t. wrong (loads_out s w p sums (fits_fact _ t)))
+
+pub keeps_not_frames : (s : Sheet) (w : Want) (p : Placement) (hub : ℕ) → hub < 128 → w.hub ≡ Some hub → AreSums s w.hub → (FramesFit s w p → ⊥) → keeps s.placed w p ≡ false
+keeps_not_frames s w p hub h e sums wrong = false_of _ (λ t. wrong (frames_out s w p hub h e sums (fits_fact _ t)))
+
+pub keeps_not_bytes : (s : Sheet) (w : Want) (p : Placement) (hub : ℕ) → hub < 128 → w.hub ≡ Some hub → AreSums s w.hub → (BytesFit s w p → ⊥) → keeps s.placed w p ≡ false
+keeps_not_bytes s w p hub h e sums wrong = false_of _ (λ t. wrong (bytes_out s w p hub h e sums (fits_fact _ t)))
+
+pub keeps_alone : (s : Sheet) (w : Want) (p : Placement) → w.hub ≡ None → AreSums s w.hub → Fits s.placed → LoadsFit s w p → keeps s.placed w p ≡ true
+keeps_alone s w p e sums fit l =
+    fits_test _
+    (record {
+      loads = loads_in s w p sums fit l;
+      frames = alone_frames s w p e fit;
+      bytes = alone_bytes s w p e fit;
+    })
+
+pub keeps_all : (s : Sheet) (w : Want) (p : Placement) → AreSums s w.hub → Fits s.placed → LoadsFit s w p → FramesFit s w p → BytesFit s w p → keeps s.placed w p ≡ true
+keeps_all s w p sums fit l f b =
+    fits_test _
+    (record {
+      loads = loads_in s w p sums fit l;
+      frames = frames_in s w p sums fit f;
+      bytes = bytes_in s w p sums fit b;
+    })
+
+-- the greatest value is the least bound
+pub below_greatest : (n : ℕ) (f : ℕ → ℕ) (i : ℕ) → i < n → f i ≤ greatest n f
+unfolding greatest
+below_greatest zero f i h = absurd (omega arith)
+below_greatest (suc n) f i h =
+    earlier_or_now (f i ≤ max (greatest n f) (f n)) i n (omega arith)
+    (λ l. omega (arith, below_greatest n f i l))
+    (λ (e : i ≡ n). rw e (omega arith))
+
+pub greatest_below : (n : ℕ) (f : ℕ → ℕ) (b : ℕ) → ((i : ℕ) → i < n → f i ≤ b) → greatest n f ≤ b
+unfolding greatest
+greatest_below zero f b all = omega arith
+greatest_below (suc n) f b all =
+    omega (arith, greatest_below n f b (λ i h. all i (omega arith)), all n (omega arith))
+
+-- the term of a peak in microframe u
+abbrev pub own_sum : List Placed → Want → Placement → ℕ → ℕ
+own_sum placed w p u = if is_own p u then load (joined placed w p) u else 0
+
+taken : (b : Bool) (x : ℕ) → b ≡ true → cond b x 0 ≡ x
+taken true x h = refl
+taken false x h = cc
+
+bounded : (b : Bool) (x m : ℕ) → (b ≡ true → x ≤ m) → cond b x 0 ≤ m
+bounded true x m h = h refl
+bounded false x m h = omega arith
+
+own_cell : (s : Sheet) (w : Want) (p : Placement) → AreSums s w.hub → (u : ℕ) → u < 8192 → is_own p u ≡ true → load (joined s.placed w p) u ≡ slice_index s.loads u + cost_in w p (u % 8)
+own_cell s w p sums u h own =
+    let active : is_active p (u / 8) ≡ true = both_left _ _ own in
+    load_joined s.placed w p u
+    ∙ omega (arith, sums.loads u h, taken (is_active p (u / 8)) (cost_in w p (u % 8)) active)
+
+pub peak_is : (s : Sheet) (w : Want) (p : Placement) (top : ℕ) → AreSums s w.hub → ((u : ℕ) → u < 8192 → is_own p u ≡ true → slice_index s.loads u + cost_in w p (u % 8) ≤ top) → ((b : ℕ) → ((u : ℕ) → u < 8192 → is_own p u ≡ true → slice_index s.loads u + cost_in w p (u % 8) ≤ b) → top ≤ b) → top ≡ peak s.placed w p
+unfolding peak
+peak_is s w p top sums covers least =
+    let above : top ≤ greatest 8192 (own_sum s.placed w p) =
+    least (greatest 8192 (own_sum s.placed w p))
+    (λ u h own.
+    omega (
+      arith,
+      own_cell s w p sums u h own,
+      taken (is_own p u) (load (joined s.placed w p) u) own,
+      below_greatest 8192 (own_sum s.placed w p) u h,
+    )) in
+    let under : greatest 8192 (own_sum s.placed w p) ≤ top =
+    greatest_below 8192 (own_sum s.placed w p) top
+    (λ u h. bounded (is_own p u) _ _ (λ own. omega (arith, own_cell s w p sums u h own, covers u h own))) in
+    omega (arith, above, under)
+
+-- a cell within its budget is far within the range that is added without care
+pub loads_roomy : (s : Sheet) (hub : Option ℕ) → AreSums s hub → Fits s.placed → (u : ℕ) → u < 8192 → slice_index s.loads u ≤ 1000000000000
+loads_roomy s hub sums fit u h = omega (arith, sums.loads u h, fit.loads u h)
+
+pub frames_roomy : (s : Sheet) (o : Option ℕ) (hub : ℕ) → o ≡ Some hub → hub < 128 → AreSums s o → Fits s.placed → (f : ℕ) → f < 1024 → slice_index s.frames f ≤ 1000000000000
+frames_roomy s o hub e k sums fit f h = omega (arith, sums.frames hub f e h, fit.frames hub f k h)
+
+pub bytes_roomy : (s : Sheet) (o : Option ℕ) (hub : ℕ) → o ≡ Some hub → hub < 128 → AreSums s o → Fits s.placed → (u : ℕ) → u < 8192 → slice_index s.bytes u ≤ 1000000000000
+bytes_roomy s o hub e k sums fit u h = omega (arith, sums.bytes hub u e h, fit.bytes hub u k h)
+
+-- two tests of one fact agree
+pub same_test : (a b : Bool) (P : Type 0) → (a ≡ true → P) → (P → a ≡ true) → (P → b ≡ true) → ((P → ⊥) → b ≡ false) → a ≡ b
+same_test true b P gives back right wrong = sym (right (gives refl))
+same_test false b P gives back right wrong = sym (wrong (λ p. cc (back p)))
+
+filter_le : {X : Type 0} (p : X → Bool) (f : X → ℕ) (xs : List X) → sum_by f (filter p xs) ≤ sum_by f xs
+filter_le p f xs =
+    omega (arith, sum_by-filter_both p (λ x. not (p x)) (λ x. refl) f xs)
+
+pub fits_fewer : (p : Placed → Bool) (placed : List Placed) → Fits placed → Fits (filter p placed)
+fits_fewer p placed fit = record {
+  loads = λ u h. omega (arith, filter_le p (cost_at u) placed, fit.loads u h);
+  frames = λ hub f h k.
+      omega (
+        arith,
+        filter_le p (λ x. if is_hub x.want.hub hub then time_at f x else 0) placed,
+        fit.frames hub f h k,
+      );
+  bytes = λ hub u h k.
+      omega (
+        arith,
+        filter_le p (λ x. if is_hub x.want.hub hub then laid_at u x else 0) placed,
+        fit.bytes hub u h k,
+      );
+}
+
+pub fits_none : Fits []
+fits_none = record {
+  loads = λ u h. lit≤ tt;
+  frames = λ hub f h k. lit≤ tt;
+  bytes = λ hub u h k. lit≤ tt;
+}

@@ -1,0 +1,21 @@
+use Rattle.std.proofs.Common.{◌≡◌, ◌+◌, ◌*◌, ◌≤◌, get_or, arith}
+use Rattle.bandwidth.proofs.Turns.{earlier_or_now}
+use Rattle.bandwidth.proofs.peaks.frame_peak.Goals as goal
+
+pub loop-m-preserved : goal.loop-m-preserved
+loop-m-preserved c =
+    let p = c.args.placement.now in
+    let ends = c.cell_peak-peak.ensures in
+    record {
+      at_least = omega (arith, ends.at_least, c.loop-m.invariant.at_least);
+      covers = λ m t own.
+          earlier_or_now
+          (get_or c.args.table.now (8 * c.args.frame + m) 0 + get_or c.args.costs.now m 0 ≤ c.cell_peak-peak.result)
+          m
+          c.loop-m.m
+          t
+          (λ l. omega (arith, c.loop-m.invariant.covers m l own, ends.at_least))
+          (λ (e : m ≡ c.loop-m.m). rw e (ends.covers (rw e at own)));
+      least = λ b above all.
+          ends.least b (c.loop-m.invariant.least b above all) (λ own. all c.loop-m.m c.loop-m-test.true own);
+    }

@@ -1,0 +1,29 @@
+-- Choosing among placements one after another.
+--     candidate P w p           the placement with its peak
+--     better P w b p            the better of the one so far and p
+--     choice P w b ps           the best of the one so far and of these
+use Rattle.std.specs.Prelude.{nat_lt, if◌then◌else◌, List, [], ◌∷◌, Option, Some, None}
+use Rattle.bandwidth.specs.declared.placements.Want.{Want}
+use Rattle.bandwidth.specs.declared.placements.Placement.{Placement}
+use Rattle.bandwidth.specs.declared.placements.Placed.{Placed}
+use Rattle.bandwidth.specs.declared.choice.Candidate.{Candidate}
+use Rattle.bandwidth.specs.Admission.{keeps, peak}
+
+abbrev pub candidate : List Placed → Want → Placement → Candidate
+candidate placed w p = record { placement = p; peak = peak placed w p }
+
+abbrev pub lesser : Option Candidate → Candidate → Option Candidate
+lesser None new = Some new
+lesser (Some old) new = if nat_lt new.peak old.peak then Some new else Some old
+
+abbrev pub better : List Placed → Want → Option Candidate → Placement → Option Candidate
+better placed w so_far p = if keeps placed w p then lesser so_far (candidate placed w p) else so_far
+
+unfoldable pub choice : List Placed → Want → Option Candidate → List Placement → Option Candidate
+choice placed w so_far [] = so_far
+choice placed w so_far (p ∷ ps) = choice placed w (better placed w so_far p) ps
+
+-- the placement of a candidate
+abbrev pub place_in : Option Candidate → Option Placement
+place_in None = None
+place_in (Some c) = Some c.placement

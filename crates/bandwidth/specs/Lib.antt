@@ -1,0 +1,6 @@
+pub mod Placements
+pub mod Sums
+pub mod Admission
+pub mod Tables
+pub mod Choice
+pub mod Worked

@@ -1,0 +1,97 @@
+-- What placements cost, their sums and the budgets (USB 2.0, 5.11.3 and 11.18; EHCI 1.0, 4.12).
+--     is_active p f            the placement is active in frame f
+--     cost_in w p m            the bus time, in picoseconds, of microframe m of an active frame
+--     laid_in w p m            the byte-times laid in the translator in microframe m of an active frame
+--     load P u                 the bus time of microframe u
+--     frame_sum P hub f        the classic bus time below the hub in frame f, in picoseconds
+--     tt_sum P hub u           the byte-times in the hub's translator in microframe u
+--     Fits P, fits P           each sum is within its budget: as a fact, as a test
+use Rattle.std.specs.Prelude.{ℕ, zero, suc, ◌-◌, ◌*◌, ◌/◌, ◌%◌, ◌<◌, ◌≤◌, min, Bool, true, false, ◌&&◌, nat_eq, nat_le, if◌then◌else◌, List, sum_by, Option, Some, None}
+use Rattle.usb_base.specs.declared.packets.Speed.TheVariants.{High}
+use Rattle.usb_base.specs.declared.packets.EpKind.{EpKind}
+use Rattle.usb_base.specs.declared.packets.EpKind.TheVariants.{Iso}
+use Rattle.usb_base.specs.declared.packets.Dir.{Dir}
+use Rattle.usb_base.specs.declared.packets.Dir.TheVariants.{In, Out}
+use Rattle.usb_base.specs.Cost.{bus_time, byte_times}
+use Rattle.bandwidth.specs.declared.placements.Want.{Want}
+use Rattle.bandwidth.specs.declared.placements.Placement.{Placement}
+use Rattle.bandwidth.specs.declared.placements.Placed.{Placed}
+use Rattle.bandwidth.specs.Placements.{has, first_in, frame_period, is_classic}
+
+abbrev pub is_active : Placement → ℕ → Bool
+is_active p f = nat_eq (f % frame_period p.period) p.phase
+
+-- the bytes of a classic start-split: none for IN, parts of 188 for isochronous OUT, all for interrupt OUT
+abbrev pub start_bytes : EpKind → Dir → ℕ → ℕ → ℕ
+start_bytes _ In bytes part = 0
+start_bytes Iso Out bytes part = min 188 (bytes - 188 * part)
+start_bytes _ Out bytes part = bytes
+
+-- the bytes of a complete-split: a part of at most 188 for isochronous IN, all for interrupt IN, none for OUT
+abbrev pub complete_bytes : EpKind → Dir → ℕ → ℕ
+complete_bytes _ Out bytes = 0
+complete_bytes Iso In bytes = min bytes 188
+complete_bytes _ In bytes = bytes
+
+-- the bytes of the transaction of an S-mask bit, the bit being this many microframes after the first
+abbrev pub sent_bytes : Want → ℕ → ℕ
+sent_bytes w part = if is_classic w.speed then start_bytes w.kind w.dir w.max part else w.max
+
+-- splits are priced as high-speed transactions
+abbrev pub price : Want → ℕ → ℕ
+price w bytes = w.multi * bus_time High w.kind w.dir bytes
+
+abbrev pub cost_in : Want → Placement → ℕ → ℕ
+cost_in w p m =
+    if has p.smask m
+    then price w (sent_bytes w (m - first_in p.smask))
+    else (if has p.cmask m then price w (complete_bytes w.kind w.dir w.max) else 0)
+
+-- 188 byte-times from the first microframe on, and in the last the rest
+abbrev pub laid_in : Want → Placement → ℕ → ℕ
+laid_in w p m =
+    if nat_le (first_in p.smask) m
+    then min 188 (byte_times w.speed w.kind w.max - 188 * (m - first_in p.smask))
+    else 0
+
+abbrev pub time_of : Want → ℕ
+time_of w = bus_time w.speed w.kind w.dir w.max
+
+abbrev pub cost_at : ℕ → Placed → ℕ
+cost_at u x = if is_active x.placement (u / 8) then cost_in x.want x.placement (u % 8) else 0
+
+abbrev pub laid_at : ℕ → Placed → ℕ
+laid_at u x = if is_active x.placement (u / 8) then laid_in x.want x.placement (u % 8) else 0
+
+abbrev pub time_at : ℕ → Placed → ℕ
+time_at f x = if is_active x.placement f then time_of x.want else 0
+
+abbrev pub is_hub : Option ℕ → ℕ → Bool
+is_hub None hub = false
+is_hub (Some h) hub = nat_eq h hub
+
+abbrev pub load : List Placed → ℕ → ℕ
+load placed u = sum_by (cost_at u) placed
+
+abbrev pub frame_sum : List Placed → ℕ → ℕ → ℕ
+frame_sum placed hub f = sum_by (λ x. if is_hub x.want.hub hub then time_at f x else 0) placed
+
+abbrev pub tt_sum : List Placed → ℕ → ℕ → ℕ
+tt_sum placed hub u = sum_by (λ x. if is_hub x.want.hub hub then laid_at u x else 0) placed
+
+-- 8,192 microframes, 1,024 frames, 128 addresses of hubs
+pub record Fits (placed : List Placed) : Type 0 where
+  pub loads : (u : ℕ) → u < 8192 → load placed u ≤ 100000000
+  pub frames : (hub f : ℕ) → hub < 128 → f < 1024 → frame_sum placed hub f ≤ 900000000
+  pub bytes : (hub u : ℕ) → hub < 128 → u < 8192 → tt_sum placed hub u ≤ 188
+
+-- each number below n passes
+unfoldable pub each_below : ℕ → (ℕ → Bool) → Bool
+each_below zero test = true
+each_below (suc n) test = each_below n test && test n
+
+unfoldable pub fits : List Placed → Bool
+fits placed =
+    each_below 8192 (λ u. nat_le (load placed u) 100000000)
+    && (each_below 128 (λ hub. each_below 1024 (λ f. nat_le (frame_sum placed hub f) 900000000))
+    && each_below 128 (λ hub. each_below 8192 (λ u. nat_le (tt_sum placed hub u) 188)))

@@ -1,0 +1,24 @@
+-- Endpoints for worked rows.
+use Rattle.std.specs.Prelude.{ℕ, Some, None}
+use Rattle.usb_base.specs.declared.packets.Speed.TheVariants.{Full, High}
+use Rattle.usb_base.specs.declared.packets.EpKind.TheVariants.{Iso, Interrupt}
+use Rattle.usb_base.specs.declared.packets.Dir.TheVariants.{In, Out}
+use Rattle.bandwidth.specs.declared.placements.Want.{Want}
+use Rattle.bandwidth.specs.declared.placements.Placement.{Placement}
+
+-- a high-speed interrupt IN endpoint of 8 bytes
+abbrev pub mouse : ℕ → Want
+mouse period = record { id = 1; speed = High; kind = Interrupt; dir = In; max = 8; multi = 1; period = period; hub = None }
+
+-- full-speed endpoints of period 8 below hub 9
+abbrev pub keyboard : Want
+keyboard = record { id = 2; speed = Full; kind = Interrupt; dir = In; max = 64; multi = 1; period = 8; hub = Some 9 }
+
+abbrev pub camera : ℕ → Want
+camera bytes = record { id = 3; speed = Full; kind = Iso; dir = In; max = bytes; multi = 1; period = 8; hub = Some 9 }
+
+abbrev pub speaker : Want
+speaker = record { id = 4; speed = Full; kind = Iso; dir = Out; max = 1023; multi = 1; period = 8; hub = Some 9 }
+
+abbrev pub placed : ℕ → ℕ → ℕ → ℕ → Placement
+placed period phase smask cmask = record { period = period; phase = phase; smask = smask; cmask = cmask }

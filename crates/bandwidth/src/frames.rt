@@ -1,0 +1,36 @@
+ghost use Rattle.std.specs.Prelude.{◌≡◌, ℕ, ◌+◌, ◌*◌, ◌/◌, ◌%◌, ◌<◌, ◌≤◌, true};
+ghost use Rattle.bandwidth.specs.Placements.{is_period, frame_period, IsPlace};
+ghost use Rattle.bandwidth.specs.Sums.{is_active};
+
+use crate::placements::Placement;
+
+/// How many frames a period has, 1 below 8 microframes.
+#[tactic(auto, using(crate::proofs::Turns::whole_of))]
+pub(crate) fn frames_of(period: u16) -> u16
+    requires { is_period period ≡ true }
+    ensures value { result ≡ frame_period period }
+    ensures some { 1 ≤ result }
+    ensures most { result ≤ 1024 }
+{
+    (period / 8).max(1)
+}
+
+/// In how many of the 1,024 frames a placement is active.
+pub(crate) fn turns(placement: &Placement) -> u16
+    requires { IsPlace placement.now }
+    ensures { result ≡ 1024 / frame_period placement.now.period }
+{
+    1024 / frames_of(placement.period)
+}
+
+/// The active frame number `k` of a placement, from 0.
+pub(crate) fn active_frame(placement: &Placement, k: u16) -> usize
+    requires place { IsPlace placement.now }
+    requires turn { k < 1024 / frame_period placement.now.period }
+    ensures bound { result < 1024 }
+    ensures active { is_active placement.now result ≡ true }
+    ensures turn { result / frame_period placement.now.period ≡ k }
+    ensures only { (f : ℕ) → is_active placement.now f ≡ true → f / frame_period placement.now.period ≡ k → f ≡ result }
+{
+    placement.phase as usize + k as usize * frames_of(placement.period) as usize
+}

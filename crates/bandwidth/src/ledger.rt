@@ -1,0 +1,203 @@
+ghost use Rattle.std.specs.Prelude.{◌≡◌, ℕ, ◌+◌, ◌<◌, ◌≤◌, ◌↔◌, ◌++◌, ◌∷◌, [], length, not, nat_eq, false, filter, IfOk, IsTrue, vec_len, vec_capacity, replicate};
+ghost use Rattle.std.specs.List.{list_any};
+ghost use Rattle.bandwidth.specs.Placements.{IsWant, IsPlace};
+ghost use Rattle.bandwidth.specs.Sums.{Fits, load};
+ghost use Rattle.bandwidth.specs.Admission.{joined, keeps, peak};
+
+use crate::asks::{byte_times_of, costs_of, time_in_frame};
+use crate::peaks::peak_of;
+use crate::placements::{Placed, Placement, Want};
+use crate::sums::{sum_byte_times, sum_frames, sum_loads};
+use crate::tables::{frames_fit, microframes_fit};
+use std::alloc::Global;
+use std::marker::Model;
+use usb_base::{DevAddr, Memory};
+
+/// The budget of a microframe: 80 % of 125 microseconds, in picoseconds (USB 2.0, 5.6.4 and 5.7.4).
+const MICROFRAME_BUDGET: u64 = 100_000_000;
+
+/// The budget of a frame below a hub: 90 % of a millisecond, in picoseconds (USB 2.0, 5.6.4 and 5.7.4).
+const FRAME_BUDGET: u64 = 900_000_000;
+
+/// The byte-times that a translator moves in a microframe (USB 2.0, 11.18.4).
+const BYTE_TIMES: u64 = 188;
+
+/// A table of so many cells, each 0.
+fn zeros(alloc: Global, cells: usize) -> Result<Vec<u64>, Memory>
+    ensures { IfOk result (λ v. length v.items ≡ cells) }
+{
+    let table = vec![in alloc; 0u64; cells]?;
+    Ok(table)
+}
+
+/// What is placed, with tables for the sums that an admission asks for.
+#[derive(Debug, Drop)]
+pub(crate) struct Ledger {
+    room: u32,
+    placed: Vec<Placed>,
+    loads: Vec<u64>,
+    frames: Vec<u64>,
+    bytes: Vec<u64>,
+}
+
+impl Model for Ledger {
+    ghost use Rattle.std.specs.Prelude.{◌≤◌, vec_capacity};
+    ghost use Rattle.bandwidth.specs.Tables.{Sheet, IsSheet};
+
+    ghost Value = { Sheet };
+
+    ghost view = { λ a. record { room = a.room; placed = a.placed.items; loads = a.loads.items; frames = a.frames.items; bytes = a.bytes.items } };
+
+    ghost invariant = { λ a. IsSheet (record { room = a.room; placed = a.placed.items; loads = a.loads.items; frames = a.frames.items; bytes = a.bytes.items }) × (a.room ≤ vec_capacity a.placed) };
+}
+
+impl Ledger {
+    ghost use Rattle.bandwidth.specs.Tables.{IsPlaced, AreSums, IsSheet, LoadsFit, FramesFit, BytesFit};
+
+    /// The placed endpoints, in the order of admission.
+    pub(crate) fn placed(&self) -> &[Placed]
+        ensures same { result.now ≡ self.now.placed }
+        ensures sheet { IsSheet self.now }
+    {
+        self.placed.as_slice()
+    }
+
+    /// How many endpoints may be placed.
+    pub(crate) fn room(&self) -> u32
+        ensures same { result ≡ self.now.room }
+        ensures sheet { IsSheet self.now }
+    {
+        self.room
+    }
+
+    /// Makes the tables the sums of what is placed, those of frames and byte-times below the hub, if there is one.
+    pub(crate) fn sum(&mut self, hub: Option<DevAddr>)
+        ensures room { self.new.room ≡ self.old.room }
+        ensures placed { self.new.placed ≡ self.old.placed }
+        ensures sums { AreSums self.new hub }
+    {
+        sum_loads(&mut self.loads, &self.placed);
+        if let Some(hub) = hub {
+            sum_frames(&mut self.frames, &self.placed, hub);
+            sum_byte_times(&mut self.bytes, &self.placed, hub);
+        }
+    }
+
+    /// Whether each microframe of a placement's active frames keeps its budget.
+    #[tactic(auto, using(crate::proofs::Budgets::loads_roomy))]
+    fn loads_keep(&self, want: &Want, placement: &Placement) -> bool
+        requires sums { AreSums self.now want.now.hub }
+        requires want { IsWant want.now }
+        requires place { IsPlace placement.now }
+        ensures fits { IsTrue result ↔ LoadsFit self.now want.now placement.now }
+        ensures sheet { Fits self.now.placed }
+    {
+        microframes_fit(
+            &self.loads,
+            placement,
+            &costs_of(want, placement),
+            MICROFRAME_BUDGET,
+        )
+    }
+
+    /// Whether each active frame of a placement keeps the budget below its hub.
+    #[tactic(auto, using(crate::proofs::Budgets::frames_roomy))]
+    fn frames_keep(&self, want: &Want, placement: &Placement, hub: DevAddr) -> bool
+        requires sums { AreSums self.now want.now.hub }
+        requires hub { want.now.hub ≡ Some hub }
+        requires want { IsWant want.now }
+        requires place { IsPlace placement.now }
+        ensures fits { IsTrue result ↔ FramesFit self.now want.now placement.now }
+        ensures hub { hub < 128 }
+    {
+        frames_fit(&self.frames, placement, time_in_frame(want), FRAME_BUDGET)
+    }
+
+    /// Whether each microframe of a placement's active frames keeps the byte-times of its hub's translator.
+    #[tactic(auto, using(crate::proofs::Budgets::bytes_roomy))]
+    fn bytes_keep(&self, want: &Want, placement: &Placement, hub: DevAddr) -> bool
+        requires sums { AreSums self.now want.now.hub }
+        requires hub { want.now.hub ≡ Some hub }
+        requires want { IsWant want.now }
+        requires place { IsPlace placement.now }
+        ensures fits { IsTrue result ↔ BytesFit self.now want.now placement.now }
+        ensures hub { hub < 128 }
+    {
+        microframes_fit(
+            &self.bytes,
+            placement,
+            &byte_times_of(want, placement),
+            BYTE_TIMES,
+        )
+    }
+
+    /// Whether a placement keeps every budget beside what is placed, where the tables are the sums.
+    pub(crate) fn keeps(&self, want: &Want, placement: &Placement) -> bool
+        requires sums { AreSums self.now want.now.hub }
+        requires want { IsWant want.now }
+        requires place { IsPlace placement.now }
+        ensures { result ≡ keeps self.now.placed want.now placement.now }
+    {
+        if !self.loads_keep(want, placement) {
+            return false;
+        }
+        let Some(hub) = want.hub else {
+            return true;
+        };
+        if !self.frames_keep(want, placement, hub) {
+            return false;
+        }
+        self.bytes_keep(want, placement, hub)
+    }
+
+    /// The greatest microframe sum over a placement's own microframes, with it included, where the tables are the sums.
+    #[tactic(auto, using(crate::proofs::Budgets::peak_is))]
+    pub(crate) fn peak(&self, want: &Want, placement: &Placement) -> u64
+        requires sums { AreSums self.now want.now.hub }
+        requires want { IsWant want.now }
+        requires place { IsPlace placement.now }
+        ensures { result ≡ peak self.now.placed want.now placement.now }
+    {
+        peak_of(&self.loads, placement, &costs_of(want, placement))
+    }
+
+    /// Places one more.
+    pub(crate) fn join(&mut self, want: &Want, placement: &Placement)
+        requires room { length self.old.placed < self.old.room }
+        requires placed { IsPlaced (record { want = want.now; placement = placement.now }) }
+        requires fits { Fits (joined self.old.placed want.now placement.now) }
+        requires id { list_any (λ x. nat_eq x.want.id want.now.id) self.old.placed ≡ false }
+        ensures room { self.new.room ≡ self.old.room }
+        ensures placed { self.new.placed ≡ joined self.old.placed want.now placement.now }
+    {
+        self.placed.push_reserved(Placed {
+            want: *want,
+            placement: *placement,
+        });
+    }
+
+    /// Takes out what stands under an id.
+    pub(crate) fn remove(&mut self, id: u32)
+        ensures room { self.new.room ≡ self.old.room }
+        ensures placed { self.new.placed ≡ filter (λ x. not (nat_eq x.want.id id)) self.old.placed }
+    {
+        self.placed.retain(|x| x.want.id != id);
+    }
+
+    /// An empty ledger with room for so many.
+    pub(crate) fn build(alloc: Global, room: u32) -> Result<Ledger, Memory>
+        ensures { IfOk result (λ l. (l.room ≡ room) × (l.placed ≡ [])) }
+    {
+        let placed = Vec::with_capacity(alloc, room as usize)?;
+        let loads = zeros(alloc, 8192)?;
+        let frames = zeros(alloc, 1024)?;
+        let bytes = zeros(alloc, 8192)?;
+        Ok(Ledger {
+            room,
+            placed,
+            loads,
+            frames,
+            bytes,
+        })
+    }
+}

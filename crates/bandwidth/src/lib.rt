@@ -1,0 +1,22 @@
+//! Admission of periodic endpoints under the budgets of microframes, of frames below a hub and of translators
+//! (USB 2.0, 5.11.3 and 11.18; EHCI 1.0, 4.7 and 4.12).
+#![tactic(auto)]
+
+mod asks;
+mod choice;
+mod frames;
+mod ledger;
+mod masks;
+mod options;
+mod peaks;
+mod placements;
+mod plan;
+mod search;
+mod sums;
+mod tables;
+#[cfg(test)]
+mod tests;
+pub mod worked;
+
+pub use placements::{Placed, Placement, Refused, Want};
+pub use plan::Plan;

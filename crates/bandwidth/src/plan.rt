@@ -1,0 +1,102 @@
+ghost use Rattle.std.specs.Prelude.{◌≡◌, ℕ, ◌+◌, ◌<◌, ◌≤◌, ◌↔◌, false, true, List, [], length, IfOk, Result};
+ghost use Rattle.std.specs.Bool.{OnTrue, OnFalse};
+ghost use Rattle.bandwidth.specs.declared.placements.Refused.TheVariants.{NoPlacement, Room};
+ghost use Rattle.bandwidth.specs.Placements.{IsWant};
+ghost use Rattle.bandwidth.specs.Sums.{Fits, load};
+ghost use Rattle.bandwidth.specs.Admission.{answer, admitted, is_placed, without, AreDistinct, HasNone, IsBest};
+
+use crate::asks::cost_at_microframe;
+use crate::ledger::Ledger;
+use crate::placements::{Placement, Refused, Want};
+use crate::search::best_placement;
+use std::alloc::Global;
+use std::marker::Model;
+use usb_base::{Memory, Ps};
+
+/// The periodic endpoints that are placed, in the order of admission, and how many may be. What is placed keeps every
+/// budget, and no two have one id.
+#[derive(Debug, Drop)]
+pub struct Plan {
+    ledger: Ledger,
+}
+
+impl Model for Plan {
+    ghost use Rattle.bandwidth.specs.Admission.{Admissions};
+
+    ghost Value = { Admissions };
+
+    ghost view = { λ p. record { placed = p.ledger.placed; room = p.ledger.room } };
+}
+
+impl Plan {
+    /// An empty plan with room for so many endpoints. Nothing else takes memory.
+    pub fn build(alloc: Global, room: u32) -> Result<Plan, Memory>
+        ensures { IfOk result (λ p. p ≡ record { placed = []; room = room }) }
+    {
+        let ledger = Ledger::build(alloc, room)?;
+        Ok(Plan { ledger })
+    }
+
+    /// Places an endpoint where it keeps every budget with the least greatest microframe sum, the first of these by phase and
+    /// first microframe. A refusal changes nothing.
+    ///
+    /// `Room` comes exactly where as many are placed as there is room for, `NoPlacement` exactly where there is room and every
+    /// allowed placement breaks a budget.
+    pub fn admit(&mut self, want: &Want) -> Result<Placement, Refused>
+        requires fresh { is_placed self.old want.now.id ≡ false }
+        requires want { IsWant want.now }
+        ensures answer { result ≡ answer self.old want.now }
+        ensures plan { self.new ≡ admitted self.old want.now result }
+        ensures room { (result ≡ Err Room) ↔ (length self.old.placed ≡ self.old.room) }
+        ensures no_placement { (result ≡ Err NoPlacement) ↔ ((length self.old.placed < self.old.room) × HasNone self.old.placed want.now) }
+        ensures placed { IfOk result (λ p. IsBest self.old.placed want.now p) }
+        ensures fits { Fits self.new.placed }
+    {
+        if self.ledger.placed().len() >= self.ledger.room() as usize {
+            return Err(Refused::Room);
+        }
+        self.ledger.sum(want.hub);
+        match best_placement(&self.ledger, want) {
+            Some(placement) => {
+                self.ledger.join(want, &placement);
+                Ok(placement)
+            }
+            None => Err(Refused::NoPlacement),
+        }
+    }
+
+    /// Takes out the endpoint with this id; false exactly where it isn't placed, and then nothing changes.
+    pub fn remove(&mut self, id: u32) -> bool
+        ensures found { result ≡ is_placed self.old id }
+        ensures plan { self.new ≡ without self.old id }
+        ensures one { OnTrue result (length self.new.placed + 1 ≡ length self.old.placed) }
+        ensures same { OnFalse result (self.new ≡ self.old) }
+    {
+        if !self.has(id) {
+            return false;
+        }
+        self.ledger.remove(id);
+        true
+    }
+
+    /// The bus time of the periodic transactions of microframe `u`, at most 100,000,000 ps.
+    pub fn load(&self, u: u16) -> Ps
+        requires { u < 8192 }
+        ensures load { result.0 ≡ load self.now.placed u }
+        ensures fits { Fits self.now.placed }
+    {
+        let mut sum = 0;
+        for x in self.ledger.placed() {
+            sum += cost_at_microframe(x, u);
+        }
+        Ps(sum)
+    }
+
+    /// Whether an endpoint with this id is placed.
+    pub fn has(&self, id: u32) -> bool
+        ensures found { result ≡ is_placed self.now id }
+        ensures ids { AreDistinct self.now.placed }
+    {
+        self.ledger.placed().iter().any(|x| x.want.id == id)
+    }
+}
