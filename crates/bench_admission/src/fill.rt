@@ -1,0 +1,51 @@
+ghost use Rattle.std.specs.Prelude.{◌≤◌, IfOk};
+
+use crate::draws::{Draws, want};
+use bandwidth::Plan;
+use std::alloc::{AllocError, Global};
+use usb_base::Memory;
+
+/// How many endpoints one plan is asked for.
+const ROOM: u32 = 256;
+
+/// Fills one plan with so many drawn endpoints, and tells how many were placed.
+fn fill_one(alloc: Global, draws: &mut Draws, wants: u32) -> Result<u32, Memory>
+    ensures { IfOk result (λ n. n ≤ wants) }
+{
+    let mut plan = Plan::build(alloc, wants)?;
+    let mut placed = 0;
+    for id in 0..wants {
+        let want = want(id, draws);
+        if !plan.has(want.id) && plan.admit(&want).is_ok() {
+            placed += 1;
+        }
+    }
+    Ok(placed)
+}
+
+/// Fills plan after plan, and tells how many endpoints were placed.
+fn fill(alloc: Global, seed: u32, wants: u32) -> Result<u32, Memory> {
+    let mut draws = Draws::new(seed);
+    let mut left = wants;
+    let mut placed = 0;
+    while left > 0 {
+        let many = left.min(ROOM);
+        placed += fill_one(alloc, &mut draws, many)?;
+        left -= many;
+    }
+    Ok(placed)
+}
+
+/// What a line with a seed and a number of endpoints gives.
+pub(crate) fn describe(alloc: Global, line: &str) -> Result<String, AllocError> {
+    let Some((seed, wants)) = line.split_once(' ') else {
+        return format!(in alloc; "not a seed and a number");
+    };
+    let (Ok(seed), Ok(wants)) = (seed.parse::<u32>(), wants.parse::<u32>()) else {
+        return format!(in alloc; "not a seed and a number");
+    };
+    match fill(alloc, seed, wants) {
+        Ok(placed) => format!(in alloc; "placed {placed} of {wants}"),
+        Err(Memory) => format!(in alloc; "no memory"),
+    }
+}
