@@ -3,3 +3,6 @@ pub mod Decimals
 pub mod Fates
 pub mod Once
 pub mod Same
+pub mod Joined
+pub mod Prefixes
+pub mod Reported

@@ -29,7 +29,7 @@ dev_line addr = codes "dev" ∷ decimal addr ∷ codes "high" ∷ []
 abbrev pub named_line : List ℕ → ℕ → ℕ → Line → Line
 named_line word addr num more = word ∷ decimal addr ∷ decimal num ∷ codes "in" ∷ more
 
--- `ep <addr> <num> in bulk 512`
+-- `ep <addr> <num> in bulk 512`, the packet size of high-speed bulk (USB 2.0, 5.8.3)
 abbrev pub ep_line : ℕ → ℕ → Line
 ep_line addr num = named_line (codes "ep") addr num (codes "bulk" ∷ codes "512" ∷ [])
 
@@ -105,8 +105,8 @@ AreOnce fates = AllPairs (λ f g. f.packet ≢ g.packet) fates
 
 -- the ranges of a transfer
 pub record IsInForm (t : Moved) : Type 0 where
-  pub addr : (1 ≤ t.addr) × (t.addr ≤ 127)
-  pub num : (1 ≤ t.num) × (t.num ≤ 15)
+  pub addr : (1 ≤ t.addr) × (t.addr ≤ 127)  -- 0 is the default address (USB 2.0, 8.3.2.1 and 9.1.1.4)
+  pub num : (1 ≤ t.num) × (t.num ≤ 15)  -- 0 is the control endpoint (USB 2.0, 8.3.2.2)
   pub fill : IfSome t.fill IsFill
   pub fates : AllByRecursion IsSpoilt t.fates
   pub few : length t.fates ≤ 64

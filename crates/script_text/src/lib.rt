@@ -5,13 +5,16 @@ mod error;
 mod lines;
 mod numbers;
 mod parsing;
+mod report;
 mod script;
 mod statements;
 #[cfg(test)]
 mod tests;
+mod text;
 mod words;
 pub mod worked;
 
 pub use error::{TextError, TextWhy};
 pub use parsing::parse;
+pub use report::{print_fault, print_pending, print_report};
 pub use script::{Fated, Fill, Script, Transfer};
