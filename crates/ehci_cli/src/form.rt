@@ -1,0 +1,26 @@
+ghost use Rattle.std.specs.Prelude.{◌≡◌, map, string_bytes, IfSome, IfNone, IsTrue, ◌↔◌, codes};
+ghost use Rattle.ehci_cli.specs.Form.{words_of, AreNoForm};
+
+/// What the program is asked to do.
+#[derive(Clone, Copy, Debug, PartialEq, Eq)]
+pub enum Form {
+    /// `run`: read a script, run it and print the report.
+    Run,
+}
+
+/// The form that these words have; `None` exactly where they have none.
+pub fn form_of(words: &[String]) -> Option<Form>
+    ensures some { IfSome result (λ form. map string_bytes words.now ≡ words_of form) }
+    ensures none { IfNone result (AreNoForm (map string_bytes words.now)) }
+{
+    match words {
+        [word] if is_run(word) => Some(Form::Run),
+        _ => None,
+    }
+}
+
+fn is_run(word: &String) -> bool
+    ensures { IsTrue result ↔ (string_bytes word.now ≡ codes "run") }
+{
+    word.as_bytes() == b"run".as_slice()
+}

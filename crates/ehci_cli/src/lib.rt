@@ -1,0 +1,20 @@
+//! The program's top call: what it reads, what it writes and how it ends.
+#![tactic(auto)]
+
+mod form;
+mod program;
+mod reading;
+mod running;
+mod status;
+mod std_ends;
+
+pub use form::{Form, form_of};
+pub use program::ehci;
+pub use reading::{Unread, read_input};
+pub use running::run;
+pub use status::Status;
+
+#[cfg(test)]
+mod tests;
+
+pub use std_ends::{StdSink, StdSource};

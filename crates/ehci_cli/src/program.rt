@@ -1,0 +1,50 @@
+ghost use Rattle.std.specs.Prelude.{◌≡◌, ◌≤◌, ◌↔◌, map, string_bytes, IfSome};
+ghost use Rattle.std.specs.Io.KnownBytes.{Keeps};
+ghost use Rattle.usb_base.specs.Outside.{Rose};
+ghost use Rattle.ehci_cli.specs.Form.{AreNoForm};
+ghost use Rattle.ehci_cli.specs.Input.{input_of};
+ghost use Rattle.ehci_cli.specs.Output.{IsProgram, WritesNothing};
+
+use crate::form::{Form, form_of};
+use crate::reading::{Unread, read_input};
+use crate::running::run;
+use crate::status::Status;
+use std::alloc::Global;
+use usb_base::{Sink, Source};
+
+/// The program on these words (without its own name), which reads from the source and writes to the sink.
+///
+/// It reads at most 1,048,601 bytes, and writes only once all of the input was read.
+///
+/// - `Words` exactly where the words have none of the forms; nothing is read or written.
+/// - `ReadFault` only where the source's count of faults rose; nothing is written.
+/// - `Refused` only where the input isn't what the form reads; its one line is written.
+/// - `WriteFault` only where the sink's count of faults rose; a front part of the output is written.
+/// - `Memory` only before the first write.
+pub fn ehci<S: Source, K: Sink>(
+    alloc: Global,
+    words: &[String],
+    source: &mut S,
+    sink: &mut K,
+) -> Status
+    ensures words { (result ≡ Status.Words) ↔ AreNoForm (map string_bytes words.now) }
+    ensures untouched { result ≡ Status.Words → (source.new ≡ source.old) × (sink.new ≡ sink.old) }
+    ensures output { IfSome (S.left source.old) (λ xs. IsProgram (map string_bytes words.now) result (input_of xs) (K.written sink.old) (K.written sink.new)) }
+    ensures nothing { WritesNothing result → Keeps (K.written sink.old) (K.written sink.new) }
+    ensures read { result ≡ Status.ReadFault → Rose (S.faults source.old) (S.faults source.new) }
+    ensures write { result ≡ Status.WriteFault → Rose (K.faults sink.old) (K.faults sink.new) }
+    ensures counted { (S.faults source.old ≤ S.faults source.new) × (K.faults sink.old ≤ K.faults sink.new) }
+{
+    let form = match form_of(words) {
+        Some(form) => form,
+        None => return Status::Words,
+    };
+    let input = match read_input(alloc, source) {
+        Ok(input) => input,
+        Err(Unread::Fault) => return Status::ReadFault,
+        Err(Unread::Memory) => return Status::Memory,
+    };
+    match form {
+        Form::Run => run(alloc, input.as_slice(), sink),
+    }
+}

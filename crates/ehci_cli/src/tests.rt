@@ -1,0 +1,185 @@
+ghost use Rattle.std.specs.Prelude.{None};
+
+use crate::program::ehci;
+use crate::status::Status;
+use crate::std_ends::{StdSink, StdSource};
+use std::alloc::Global;
+use std::io;
+use std::io::{Read, Write};
+use std::test::Fail;
+use usb_base::{Failed, MemSink, MemSource, Sink, Source};
+
+const SCRIPT: &[u8] =
+    b"ehci 1\ndev 3 high\nep 3 1 in bulk 512\nreply 3 1 in fill 3 254\nopen 3 1 in\norder m 20\nget 3 1 in 515\norder m 20\n";
+
+const REPORT: &[u8] = b"done 3.1.in 3 feff00\n";
+
+fn one_word(alloc: Global, word: &str) -> Result<Vec<String>, Fail> {
+    let mut words = Vec::new(alloc);
+    words.push(String::from_str(alloc, word)?)?;
+    Ok(words)
+}
+
+/// The program on one word over an input, where chosen reads and writes fail: its status, and what it wrote.
+fn program(
+    alloc: Global,
+    word: &str,
+    input: &[u8],
+    reads: &[u32],
+    writes: &[u32],
+) -> Result<(Status, Vec<u8>), Fail> {
+    let words = one_word(alloc, word)?;
+    let mut source = MemSource::build(alloc, input, reads)?;
+    let mut sink = MemSink::build(alloc, 4096, writes)?;
+    let status = ehci(alloc, words.as_slice(), &mut source, &mut sink);
+    let written = Vec::from_slice(alloc, sink.written())?;
+    Ok((status, written))
+}
+
+// With ample memory the program reports, refuses and knows its words.
+#[test]
+fn ends_as_it_must(rt: HostRuntime) -> Result<(), Fail> {
+    for (word, input, status, output) in [
+        ("run", SCRIPT, Status::Ok, REPORT),
+        ("run", b"", Status::Ok, b""),
+        ("run", b"ehci 1\n", Status::Refused, b"line 0: later\n"),
+        ("walk", SCRIPT, Status::Words, b""),
+    ] {
+        let (ended, written) = program(rt.alloc(), word, input, &[], &[])?;
+        assert_eq!(rt; ended, status);
+        assert_eq!(rt; written.as_slice(), output);
+    }
+    Ok(())
+}
+
+// Each read and each write of the transfer fails in turn.
+#[test]
+fn each_call_fails(rt: HostRuntime) -> Result<(), Fail> {
+    for read in 0..2 {
+        let (status, written) = program(rt.alloc(), "run", SCRIPT, &[read], &[])?;
+        assert_eq!(rt; status, Status::ReadFault);
+        assert!(rt; written.is_empty());
+    }
+    for write in 0..8 {
+        let (status, written) = program(rt.alloc(), "run", SCRIPT, &[], &[write])?;
+        assert!(rt; REPORT.starts_with(written.as_slice()));
+        assert!(rt; status == Status::WriteFault || written.as_slice() == REPORT);
+    }
+    Ok(())
+}
+
+/// A source of one byte a call.
+#[derive(Drop)]
+struct OneByte(MemSource);
+
+impl Source for OneByte {
+    ghost left = { λ _. None };
+
+    ghost faults = { λ s. s.0.faults };
+
+    fn read(&mut self, into: &mut [u8]) -> Result<usize, Failed> {
+        let n = usize::min(into.len(), 1);
+        self.0.read(&mut into[..n])
+    }
+}
+
+/// A sink that takes one byte a call.
+#[derive(Drop)]
+struct OneTaken(MemSink);
+
+impl Sink for OneTaken {
+    ghost written = { λ _. None };
+
+    ghost faults = { λ s. s.0.faults };
+
+    fn write(&mut self, piece: &[u8]) -> Result<usize, Failed> {
+        let n = usize::min(piece.len(), 1);
+        self.0.write(&piece[..n])
+    }
+}
+
+// Short reads and short writes leave the output as it is.
+#[test]
+fn one_byte_a_call(rt: HostRuntime) -> Result<(), Fail> {
+    let words = one_word(rt.alloc(), "run")?;
+    let mut source = OneByte(MemSource::build(rt.alloc(), SCRIPT, &[])?);
+    let mut sink = OneTaken(MemSink::build(rt.alloc(), 4096, &[])?);
+    let status = ehci(rt.alloc(), words.as_slice(), &mut source, &mut sink);
+    assert_eq!(rt; status, Status::Ok);
+    assert_eq!(rt; sink.0.written(), REPORT);
+    Ok(())
+}
+
+/// A reader and writer that fails, or takes nothing.
+#[derive(Drop)]
+struct Broken {
+    fails: bool,
+}
+
+impl Read for Broken {
+    fn read(&mut self, _buf: &mut [u8]) -> io::Result<usize> {
+        Err(io::Error::from(io::ErrorKind::Other))
+    }
+}
+
+impl Write for Broken {
+    fn write(&mut self, _buf: &[u8]) -> io::Result<usize> {
+        if self.fails {
+            Err(io::Error::from(io::ErrorKind::Other))
+        } else {
+            Ok(0)
+        }
+    }
+
+    fn flush(&mut self) -> io::Result<()> {
+        Ok(())
+    }
+}
+
+// The adapters count each fault, and a write that takes nothing is one.
+#[test]
+fn adapters_count(rt: HostRuntime) -> Result<(), Fail> {
+    let mut source = StdSource::new(Broken { fails: true });
+    let mut byte = [0u8; 1];
+    assert!(rt; source.read(&mut byte).is_err());
+    assert!(rt; source.read(&mut byte).is_err());
+    assert_eq!(rt; source.faults(), 2);
+    let mut none = StdSink::new(Broken { fails: false });
+    assert!(rt; none.write(b"a").is_err());
+    assert_eq!(rt; none.write(b""), Ok(0));
+    assert_eq!(rt; none.faults(), 1);
+    let mut broken = StdSink::new(Broken { fails: true });
+    assert!(rt; broken.write(b"a").is_err());
+    assert_eq!(rt; broken.faults(), 1);
+    Ok(())
+}
+
+// A sink with no room left ends in a write fault, with what fitted written.
+#[test]
+fn room_is_used_up(rt: HostRuntime) -> Result<(), Fail> {
+    let words = one_word(rt.alloc(), "run")?;
+    let mut source = MemSource::build(rt.alloc(), SCRIPT, &[])?;
+    let mut sink = MemSink::build(rt.alloc(), 7, &[])?;
+    assert_eq!(rt;
+        ehci(rt.alloc(), words.as_slice(), &mut source, &mut sink),
+        Status::WriteFault
+    );
+    assert_eq!(rt; sink.written(), b"done 3.".as_slice());
+    Ok(())
+}
+
+// Of a longer input no more is read than is needed to refuse it.
+#[test]
+fn too_long_an_input(rt: HostRuntime) -> Result<(), Fail> {
+    let words = one_word(rt.alloc(), "run")?;
+    let input = vec![in rt.alloc(); b'a'; 1_048_602]?;
+    let mut source = MemSource::build(rt.alloc(), input.as_slice(), &[])?;
+    let mut sink = MemSink::build(rt.alloc(), 100, &[])?;
+    assert_eq!(rt;
+        ehci(rt.alloc(), words.as_slice(), &mut source, &mut sink),
+        Status::Refused
+    );
+    assert_eq!(rt; sink.written(), b"line 0: later\n".as_slice());
+    assert_eq!(rt; source.left().len(), 1);
+    Ok(())
+}
