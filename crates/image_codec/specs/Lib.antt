@@ -1,2 +1,7 @@
 pub mod Image
 pub mod Printing
+pub mod Text
+pub mod Linked
+pub mod Shown
+pub mod Marks
+pub mod Show

@@ -1,14 +1,29 @@
 //! Memory images of a host: the bytes of an image, both ways, and the text that shows one.
 #![tactic(auto)]
 
+mod chain;
+mod ending;
+mod failure;
+mod frames;
 mod image;
 pub mod laws;
+mod line;
+mod lines;
 mod page;
+mod queue;
 mod reading;
+#[cfg(test)]
+mod show_tests;
+mod showing;
+pub mod shown_laws;
+mod structure;
+mod structures;
 #[cfg(test)]
 mod tests;
 mod writing;
 
+pub use failure::ShowError;
 pub use image::{Image, ImageError, ImageWhy, Refusal};
 pub use reading::decode;
+pub use showing::{print_refusal, show};
 pub use writing::encode;

@@ -13,7 +13,7 @@ const HEAD: [u8; 48] = [
 ];
 
 /// The image of a host as it opens: an empty frame list at 0, the head of the ring at 1000h.
-fn opening(alloc: Global) -> Result<Vec<u8>, AllocError> {
+pub fn opening(alloc: Global) -> Result<Vec<u8>, AllocError> {
     let mut bytes = Vec::from_slice(alloc, &HEADER)?;
     for _element in 0..1024 {
         bytes.extend_from_slice(&[1, 0, 0, 0])?;
@@ -23,7 +23,11 @@ fn opening(alloc: Global) -> Result<Vec<u8>, AllocError> {
     Ok(bytes)
 }
 
-fn changed(alloc: Global, bytes: &[u8], changes: &[(usize, u8)]) -> Result<Vec<u8>, AllocError> {
+pub fn changed(
+    alloc: Global,
+    bytes: &[u8],
+    changes: &[(usize, u8)],
+) -> Result<Vec<u8>, AllocError> {
     let mut copy = Vec::from_slice(alloc, bytes)?;
     for (at, value) in changes {
         if *at < copy.len() {

@@ -1,0 +1,30 @@
+use Rattle.std.proofs.Common.{◌≡◌, ℕ, ◌+◌, subst, arith}
+use Rattle.image_codec.specs.Marks.{AreMarks}
+use Rattle.image_codec.specs.Shown.{frame_text, frames_text, seen_before}
+use Rattle.image_codec.proofs.FrameTexts.{frames-front, frames-more, frames-none}
+use Rattle.image_codec.proofs.Passing.{on_err, passes_all, passes_none, passes_same, prefix_within}
+use Rattle.image_codec.proofs.frames.put_frames.Goals as goal
+
+pub loop-n-init : goal.loop-n-init
+loop-n-init g c = record {
+  passed = passes_same _ _ _ _ _ _ (frames-none c.args.image.now) (passes_none _ c.args.page.now);
+  marks = c.requires.marks;
+  counted = omega arith;
+}
+
+pub returns-in_err-put_frame-clause-err : goal.returns-in_err-put_frame-clause-err
+returns-in_err-put_frame-clause-err g c =
+    let rest = frames-front c.args.image.now c.loop-n.n 1024 c.loop-n-test.true in
+    on_err c.from_residual.result _
+    (prefix_within _ _ _ _ _ (frames_text c.args.image.now c.loop-n.n) (frame_text c.args.image.now c.loop-n.n) rest.0 (frames_text c.args.image.now 1024)
+    c.loop-n.invariant.passed c.in_err-put_frame.ensures.err rest.1)
+
+pub loop-n-preserved : goal.loop-n-preserved
+loop-n-preserved g c =
+    let two : c.loop-n.n + 2 ≡ c.loop-n.n + 1 + 1 = omega arith in
+    record {
+      passed = passes_all _ _ _ _ _ _ (frames_text c.args.image.now c.loop-n.n) (frame_text c.args.image.now c.loop-n.n) _ c.loop-n.invariant.passed
+          c.in_ok-put_frame.ensures.ok (frames-more c.args.image.now c.loop-n.n);
+      marks = subst (λ (k : ℕ). AreMarks c.put_frame.new.lists c.put_frame.new.queues k (seen_before c.args.image.now (c.loop-n.n + 1))) two c.in_ok-put_frame.ensures.marked;
+      counted = omega (arith, c.loop-n.invariant.counted, c.in_ok-put_frame.ensures.counted);
+    }

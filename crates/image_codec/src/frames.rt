@@ -1,0 +1,149 @@
+ghost use Rattle.std.specs.Prelude.{◌≡◌, ℕ, ◌+◌, ◌≤◌, ◌<◌, ◌++◌, None, length, OnOk, OnErr};
+ghost use Rattle.usb_base.specs.Outside.{AppendsPrefix, Rose};
+ghost use Rattle.link_words.specs.Links.{IsAligned as IsLinkAligned};
+ghost use Rattle.image_codec.specs.Image.{IsAligned};
+ghost use Rattle.image_codec.specs.Linked.{count, list_text, passed};
+ghost use Rattle.image_codec.specs.Marks.{AreMarks};
+ghost use Rattle.image_codec.specs.Printing.{Passes};
+ghost use Rattle.image_codec.specs.Shown.{chain, element_at, frame_first, frame_line, frame_text, frames_text, outside_text, ring_text, seen_before, units};
+
+use crate::chain::{Place, is_end_link, put_chain};
+use crate::ending::Ending;
+use crate::image::Image;
+use crate::lines::{line_of_ending, line_of_frame};
+use crate::page::Page;
+use crate::structures::{reaches_outside, read_word};
+use link_words::{Link, read};
+use usb_base::{Failed, Sink};
+
+/// The elements of a frame list (EHCI 1.0, 3.1).
+const FRAMES: u32 = 1024;
+
+/// Prints the chains of the 1,024 frames.
+pub fn put_frames<K: Sink>(
+    page: &mut Page,
+    sink: &mut K,
+    image: &Image,
+    lists: &mut [u32],
+    queues: &mut [u32],
+) -> Result<(), Failed>
+    requires image { IsAligned image.now }
+    requires lists_whole { length lists.old ≡ units image.now.words }
+    requires queues_whole { length queues.old ≡ units image.now.words }
+    requires marks { AreMarks lists.old queues.old 1 (seen_before image.now 0) }
+    ensures ok { OnOk result (Passes (K.written sink.old) (K.written sink.new) page.old page.new (frames_text image.now 1024)) }
+    ensures err { OnErr result (AppendsPrefix (K.written sink.old) (K.written sink.new) (page.old ++ frames_text image.now 1024)) }
+    ensures failed { OnErr result (Rose (K.faults sink.old) (K.faults sink.new)) }
+    ensures counted { K.faults sink.old ≤ K.faults sink.new }
+    ensures marked { OnOk result (AreMarks lists.new queues.new 1025 (seen_before image.now 1024)) }
+{
+    for n in 0..FRAMES {
+        put_frame(page, sink, image, lists, queues, n)?;
+    }
+    Ok(())
+}
+
+/// Prints the ring.
+#[tactic(auto, unfolding(crate::specs::Shown::ring_text))]
+pub fn put_ring<K: Sink>(
+    page: &mut Page,
+    sink: &mut K,
+    image: &Image,
+    lists: &mut [u32],
+    queues: &mut [u32],
+) -> Result<(), Failed>
+    requires image { IsAligned image.now }
+    requires lists_whole { length lists.old ≡ units image.now.words }
+    requires queues_whole { length queues.old ≡ units image.now.words }
+    requires marks { AreMarks lists.old queues.old 1025 (seen_before image.now 1024) }
+    ensures ok { OnOk result (Passes (K.written sink.old) (K.written sink.new) page.old page.new (ring_text image.now)) }
+    ensures err { OnErr result (AppendsPrefix (K.written sink.old) (K.written sink.new) (page.old ++ ring_text image.now)) }
+    ensures failed { OnErr result (Rose (K.faults sink.old) (K.faults sink.new)) }
+    ensures counted { K.faults sink.old ≤ K.faults sink.new }
+{
+    page.put(sink, b"async\n")?;
+    let place = Place {
+        frames: FRAMES,
+        home: Some(image.async_at),
+    };
+    put_chain(
+        page,
+        sink,
+        image,
+        lists,
+        queues,
+        place,
+        Link::Qh(image.async_at),
+    )
+}
+
+fn put_frame<K: Sink>(
+    page: &mut Page,
+    sink: &mut K,
+    image: &Image,
+    lists: &mut [u32],
+    queues: &mut [u32],
+    n: u32,
+) -> Result<(), Failed>
+    requires image { IsAligned image.now }
+    requires lists_whole { length lists.old ≡ units image.now.words }
+    requires queues_whole { length queues.old ≡ units image.now.words }
+    requires frame { n < 1024 }
+    requires marks { AreMarks lists.old queues.old (n + 1) (seen_before image.now n) }
+    ensures ok { OnOk result (Passes (K.written sink.old) (K.written sink.new) page.old page.new (frame_text image.now n)) }
+    ensures err { OnErr result (AppendsPrefix (K.written sink.old) (K.written sink.new) (page.old ++ frame_text image.now n)) }
+    ensures failed { OnErr result (Rose (K.faults sink.old) (K.faults sink.new)) }
+    ensures counted { K.faults sink.old ≤ K.faults sink.new }
+    ensures marked { OnOk result (AreMarks lists.new queues.new (n + 2) (seen_before image.now (n + 1))) }
+{
+    let words = image.words.as_slice();
+    let at = image.list_base + 4 * n;
+    if reaches_outside(words, at, 1) {
+        return put_outside(page, sink, n, at);
+    }
+    let first = read(read_word(words, at));
+    if is_end_link(first) {
+        return Ok(());
+    }
+    put_listed(page, sink, image, lists, queues, n, first)
+}
+
+fn put_listed<K: Sink>(
+    page: &mut Page,
+    sink: &mut K,
+    image: &Image,
+    lists: &mut [u32],
+    queues: &mut [u32],
+    n: u32,
+    first: Link,
+) -> Result<(), Failed>
+    requires image { IsAligned image.now }
+    requires lists_whole { length lists.old ≡ units image.now.words }
+    requires queues_whole { length queues.old ≡ units image.now.words }
+    requires frame { n < 1024 }
+    requires marks { AreMarks lists.old queues.old (n + 1) (seen_before image.now n) }
+    requires aligned { IsLinkAligned first }
+    ensures ok { OnOk result (Passes (K.written sink.old) (K.written sink.new) page.old page.new (frame_line n ++ list_text (chain image.now.words None (seen_before image.now n)) first)) }
+    ensures err { OnErr result (AppendsPrefix (K.written sink.old) (K.written sink.new) (page.old ++ (frame_line n ++ list_text (chain image.now.words None (seen_before image.now n)) first))) }
+    ensures failed { OnErr result (Rose (K.faults sink.old) (K.faults sink.new)) }
+    ensures counted { K.faults sink.old ≤ K.faults sink.new }
+    ensures marked { let l = chain image.now.words None (seen_before image.now n) in
+        OnOk result (AreMarks lists.new queues.new (n + 2) (seen_before image.now n ++ passed l first (count l first))) }
+{
+    page.put(sink, line_of_frame(n).as_slice())?;
+    let place = Place {
+        frames: n,
+        home: None,
+    };
+    put_chain(page, sink, image, lists, queues, place, first)
+}
+
+fn put_outside<K: Sink>(page: &mut Page, sink: &mut K, n: u32, at: u32) -> Result<(), Failed>
+    ensures ok { OnOk result (Passes (K.written sink.old) (K.written sink.new) page.old page.new (outside_text n at)) }
+    ensures err { OnErr result (AppendsPrefix (K.written sink.old) (K.written sink.new) (page.old ++ outside_text n at)) }
+    ensures failed { OnErr result (Rose (K.faults sink.old) (K.faults sink.new)) }
+    ensures counted { K.faults sink.old ≤ K.faults sink.new }
+{
+    page.put(sink, line_of_frame(n).as_slice())?;
+    page.put(sink, line_of_ending(b"  ", Ending::Outside(at)).as_slice())
+}
