@@ -45,7 +45,7 @@ qtd_was_read_there m a t s = ap (λ (b : Bool). if b then m else refused m) s.le
 
 -- ---- a change elsewhere leaves it standing
 
-reaches_same : (m n : Mem) (at : ℕ) → n.states ≡ m.states → reaches n at ≡ reaches m at
+pub reaches_same : (m n : Mem) (at : ℕ) → n.states ≡ m.states → reaches n at ≡ reaches m at
 reaches_same m n at same = ap (λ ss. is_lent (state_at (record m { states = ss }) (at / 32))) same
 
 pub queue_stays : (m n : Mem) (a : ℕ) (q : Qh) → n.states ≡ m.states → ((other : ℕ) → a ≤ other → other < a + 48 → word_at n other ≡ word_at m other) → QueueStands m a q → QueueStands n a q
