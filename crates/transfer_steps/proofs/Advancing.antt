@@ -71,25 +71,23 @@ works_advanced s q c t laid w token = record {
 
 -- ---- the event
 
-took_is : (p : Place) (a : ℕ) (c : Qh) (b : ℕ) (t : Qtd) → p.walk.held ≡ Some (record { at = a; queue_head = c; settled = None }) → reaches_queue_head p.memory a ≡ true → took b t p p.walk.held ≡ record p { memory = overlay_after p.memory a (advanced c b t); walk = record p.walk { held = Some (record { at = a; queue_head = advanced c b t; settled = None }) } }
+pub took_is : (p : Place) (a : ℕ) (c : Qh) (b : ℕ) (t : Qtd) → p.walk.held ≡ Some (record { at = a; queue_head = c; settled = None }) → reaches_queue_head p.memory a ≡ true → took b t p p.walk.held ≡ record p { memory = overlay_after p.memory a (advanced c b t); walk = record p.walk { held = Some (record { at = a; queue_head = advanced c b t; settled = None }) } }
 took_is p a c b t held lent =
     let written : Place = record p { memory = overlay_after p.memory a (advanced c b t) } in
     ap (took b t p) held
     ∙ ap (λ (r : Bool). if r then record written { walk = record p.walk { held = Some (record { at = a; queue_head = advanced c b t; settled = None }) } } else faulted written) lent
 
 -- memory and copy after it
-abbrev advanced_place : Setting → Place → Qh → Qtd → Place
+abbrev pub advanced_place : Setting → Place → Qh → Qtd → Place
 advanced_place s p c t = record p { memory = overlay_after p.memory s.queue (advanced c s.qtd t); walk = record p.walk { held = Some (record { at = s.queue; queue_head = advanced c s.qtd t; settled = None }) } }
 
-pub queue_advanced : (s : Setting) (p : Place) (c : Qh) (x : Transfer) → IsLaidOut s → p.walk.first ≡ false → (k : Scene s p Waiting (QueueHeld c) x) → x.host.left ≤ s.asked → Goes s (took s.qtd k.t p p.walk.held) Working (QueueHeld (advanced c s.qtd k.t)) x p.registers.reclamation p.walk.left
+pub queue_advanced : (s : Setting) (p : Place) (c : Qh) (x : Transfer) → IsLaidOut s → p.walk.first ≡ false → (k : Scene s p Waiting (QueueHeld c) x) → x.host.left ≤ s.asked → Goes s (advanced_place s p c k.t) Working (QueueHeld (advanced c s.qtd k.t)) x p.registers.reclamation p.walk.left (advanced c s.qtd k.t)
 queue_advanced s p c x laid first k fewer =
     let same = k.told.0.same in
     let fixed = fixed_copy s k.q c k.stands.fixed same in
     let token = token_is s k.q c k.t s.qtd fixed same k.at_stage.queue_toggle k.at_stage.queue_ping in
     let range = advanced_in_range c s.qtd k.t k.told.0.range laid.qtd_aligned k.stands.qtd.range in
-    subst (λ (n : Place). Goes s n Working (QueueHeld (advanced c s.qtd k.t)) x p.registers.reclamation p.walk.left)
-    (sym (took_is p s.queue c s.qtd k.t k.in_hand.0 k.stands.queue.lent))
-    (record {
+    record {
       scene = record {
         q = advanced c s.qtd k.t;
         t = k.t;
@@ -102,7 +100,8 @@ queue_advanced s p c x laid first k fewer =
           received = k.told.1.received ∙ sym (bytes_overlay s p.memory (advanced c s.qtd k.t) (s.asked - x.host.left) laid (omega arith));
         });
       };
+      queue = refl;
       first = first;
       busy = refl;
       left = refl;
-    })
+    }

@@ -6,3 +6,4 @@ pub mod Walking
 pub mod Advancing
 pub mod Transacting
 pub mod Writing
+pub mod Stepping

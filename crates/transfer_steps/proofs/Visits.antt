@@ -26,7 +26,7 @@ use Rattle.transfer_steps.specs.Told.{Hand, AtHead, HeadHeld, AtQueue, QueueHeld
 
 -- ---- nothing is in hand
 
-ring_link : (s : Setting) (r : RegisterFile) (c : Cursor) → r.async_list_address ≡ s.head → (c ≡ cursors.Start) ⊎ (c ≡ cursors.At (links.Qh s.head)) → cursor_link r c ≡ links.Qh s.head
+pub ring_link : (s : Setting) (r : RegisterFile) (c : Cursor) → r.async_list_address ≡ s.head → (c ≡ cursors.Start) ⊎ (c ≡ cursors.At (links.Qh s.head)) → cursor_link r c ≡ links.Qh s.head
 ring_link s r c ring at = ⊎_elim
     (λ (e : c ≡ cursors.Start). ap (cursor_link r) e ∙ ap links.Qh ring)
     (λ (e : c ≡ cursors.At (links.Qh s.head)). ap (cursor_link r) e) at
@@ -40,11 +40,11 @@ pub fetch_reads : (p : Place) (a : ℕ) (q : Qh) → p.walk.held ≡ None → cu
 fetch_reads p a q none link there =
     ap (λ (m : Mem). record p { memory = m }) (ap (read_at p) none ∙ ap (ring_read p.memory) link ∙ queue_was_read p.memory a q there)
 
-fetch_head : (b : Bool) (s : Setting) → fetch_row b s.head (Some (head_of s)) ≡ (if b then rows.Fetch s.head (head_of s) else rows.HeadEnds)
+pub fetch_head : (b : Bool) (s : Setting) → fetch_row b s.head (Some (head_of s)) ≡ (if b then rows.Fetch s.head (head_of s) else rows.HeadEnds)
 fetch_head true s = refl
 fetch_head false s = refl
 
-fetch_queue : (h b : Bool) (a : ℕ) (q : Qh) → h ≡ false → q.head ≡ h → fetch_row b a (Some q) ≡ rows.Fetch a q
+pub fetch_queue : (h b : Bool) (a : ℕ) (q : Qh) → h ≡ false → q.head ≡ h → fetch_row b a (Some q) ≡ rows.Fetch a q
 fetch_queue h b a q off is = ap (λ (x : Bool). if x && not b then rows.HeadEnds else rows.Fetch a q) (is ∙ off)
 
 -- ---- a copy is in hand
@@ -55,7 +55,7 @@ held_kind p a c held = ap (row_at p) held
 pub held_reads : (p : Place) (a : ℕ) (c : Qh) → p.walk.held ≡ Some (record { at = a; queue_head = c; settled = None }) → read_at p p.walk.held ≡ visit_read p.memory (visit_of c)
 held_reads p a c held = ap (read_at p) held
 
-same_memory : (p : Place) (m : Mem) → m ≡ p.memory → record p { memory = m } ≡ p
+pub same_memory : (p : Place) (m : Mem) → m ≡ p.memory → record p { memory = m } ≡ p
 same_memory p m e = ap (λ (x : Mem). record p { memory = x }) e
 
 -- the visit of a queue head, by what decides it

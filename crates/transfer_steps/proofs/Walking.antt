@@ -67,9 +67,10 @@ in_hand_started s w AtQueue h = h
 in_hand_started s w (QueueHeld c) h = h
 in_hand_started s w (Settled c o got) h = h
 
-pub starts : (s : Setting) (p : Place) (stage : Stage) (hand : Hand) (x : Transfer) → Scene s p stage hand x → Goes s (started p) stage hand x (p.registers.reclamation || p.walk.first) p.walk.left
+pub starts : (s : Setting) (p : Place) (stage : Stage) (hand : Hand) (x : Transfer) → (k : Scene s p stage hand x) → Goes s (started p) stage hand x (p.registers.reclamation || p.walk.first) p.walk.left k.q
 starts s p stage hand x k = record {
   scene = record { q = k.q; t = k.t; runs = started_runs s p.walk.first p.registers k.runs; stands = k.stands; at_stage = k.at_stage; in_hand = in_hand_started s p.walk hand k.in_hand; told = k.told };
+  queue = refl;
   first = refl;
   busy = started_busy p.walk.first p.registers;
   left = refl;
@@ -83,7 +84,7 @@ head_reloaded s WaitHead = refl
 head_reloaded s Reload = refl
 head_reloaded s WaitStart = refl
 
-pub head_fetched : (s : Setting) (p : Place) (stage : Stage) (x : Transfer) → p.walk.first ≡ false → Scene s p stage AtHead x → Goes s (fetched s.head (head_of s) p) stage HeadHeld x false p.walk.left
+pub head_fetched : (s : Setting) (p : Place) (stage : Stage) (x : Transfer) → p.walk.first ≡ false → (k : Scene s p stage AtHead x) → Goes s (fetched s.head (head_of s) p) stage HeadHeld x false p.walk.left k.q
 head_fetched s p stage x first k =
     let quiet = quiet_head (after_reclamation p.registers false) k.runs.quiet in
     record {
@@ -96,12 +97,13 @@ head_fetched s p stage x first k =
         in_hand = (ap (λ (c : Qh). Some (record { at = s.head; queue_head = c; settled = None })) (head_reloaded s (mode_after (head_of s) p.walk.mode)), refl);
         told = k.told;
       };
+      queue = refl;
       first = first;
       busy = ap (λ (r : RegisterFile). r.reclamation) quiet;
       left = refl;
     }
 
-pub head_is_quiet : (s : Setting) (p : Place) (stage : Stage) (x : Transfer) → p.walk.first ≡ false → Scene s p stage AtHead x → Goes s (head_ended p) stage AtHead x p.registers.reclamation p.walk.left
+pub head_is_quiet : (s : Setting) (p : Place) (stage : Stage) (x : Transfer) → p.walk.first ≡ false → (k : Scene s p stage AtHead x) → Goes s (head_ended p) stage AtHead x p.registers.reclamation p.walk.left k.q
 head_is_quiet s p stage x first k =
     let quiet = quiet_head p.registers k.runs.quiet in
     record {
@@ -114,6 +116,7 @@ head_is_quiet s p stage x first k =
         in_hand = (k.in_hand.0, inl refl);
         told = k.told;
       };
+      queue = refl;
       first = first;
       busy = ap (λ (r : RegisterFile). r.reclamation) quiet;
       left = refl;
@@ -123,7 +126,7 @@ head_is_quiet s p stage x first k =
 passed_on : (w : Walk) (a : ℕ) (c : Qh) (o : Option Held) → o ≡ Some (record { at = a; queue_head = c; settled = None }) → passed_walk w o ≡ record w { cursor = cursors.At (link_of c.link); held = None }
 passed_on w a c o e = ap (passed_walk w) e
 
-pub head_passed : (s : Setting) (p : Place) (stage : Stage) (x : Transfer) → p.walk.first ≡ false → Scene s p stage HeadHeld x → Goes s (passed p) stage AtQueue x p.registers.reclamation p.walk.left
+pub head_passed : (s : Setting) (p : Place) (stage : Stage) (x : Transfer) → p.walk.first ≡ false → (k : Scene s p stage HeadHeld x) → Goes s (passed p) stage AtQueue x p.registers.reclamation p.walk.left k.q
 head_passed s p stage x first k =
     let e = passed_on p.walk s.head (head_of s) p.walk.held k.in_hand.0 in
     record {
@@ -136,6 +139,7 @@ head_passed s p stage x first k =
         in_hand = (ap (λ (w : Walk). w.held) e, ap (λ (w : Walk). w.cursor) e);
         told = k.told;
       };
+      queue = refl;
       first = ap (λ (w : Walk). w.first) e ∙ first;
       busy = refl;
       left = ap (λ (w : Walk). w.left) e;
@@ -149,7 +153,7 @@ naks_only WaitHead q = refl
 naks_only Reload q = refl
 naks_only WaitStart q = refl
 
-pub queue_fetched : (s : Setting) (p : Place) (stage : Stage) (x : Transfer) → p.walk.first ≡ false → (k : Scene s p stage AtQueue x) → Goes s (fetched s.queue k.q p) stage (QueueHeld (reloaded (mode_after k.q p.walk.mode) k.q)) x p.registers.reclamation p.walk.left
+pub queue_fetched : (s : Setting) (p : Place) (stage : Stage) (x : Transfer) → p.walk.first ≡ false → (k : Scene s p stage AtQueue x) → Goes s (fetched s.queue k.q p) stage (QueueHeld (reloaded (mode_after k.q p.walk.mode) k.q)) x p.registers.reclamation p.walk.left k.q
 queue_fetched s p stage x first k =
     let off : fetched_registers k.q.head p.registers ≡ p.registers = ap (λ (b : Bool). fetched_registers b p.registers) k.stands.fixed.not_head in
     record {
@@ -162,6 +166,7 @@ queue_fetched s p stage x first k =
         in_hand = (refl, refl);
         told = (record { same = naks_only (mode_after k.q p.walk.mode) k.q; range = reloaded_in_range (mode_after k.q p.walk.mode) k.q k.stands.queue.range }, k.told);
       };
+      queue = refl;
       first = first;
       busy = ap (λ (r : RegisterFile). r.reclamation) off;
       left = refl;
@@ -170,7 +175,7 @@ queue_fetched s p stage x first k =
 copy_link : (s : Setting) (q c : Qh) → IsQueue s q → c ≡ with_naks q c.nak_cnt → link_of c.link ≡ links.Qh s.head
 copy_link s q c fixed same = ap (λ (v : Qh). link_of v.link) same ∙ ap link_of fixed.link
 
-pub queue_passed : (s : Setting) (p : Place) (stage : Stage) (c : Qh) (x : Transfer) → p.walk.first ≡ false → Scene s p stage (QueueHeld c) x → Goes s (passed p) stage AtHead x p.registers.reclamation p.walk.left
+pub queue_passed : (s : Setting) (p : Place) (stage : Stage) (c : Qh) (x : Transfer) → p.walk.first ≡ false → (k : Scene s p stage (QueueHeld c) x) → Goes s (passed p) stage AtHead x p.registers.reclamation p.walk.left k.q
 queue_passed s p stage c x first k =
     let e = passed_on p.walk s.queue c p.walk.held k.in_hand.0 in
     record {
@@ -183,14 +188,16 @@ queue_passed s p stage c x first k =
         in_hand = (ap (λ (w : Walk). w.held) e, inr (ap (λ (w : Walk). w.cursor) e ∙ ap cursors.At (copy_link s k.q c k.stands.fixed k.told.0.same)));
         told = k.told.1;
       };
+      queue = refl;
       first = ap (λ (w : Walk). w.first) e ∙ first;
       busy = refl;
       left = ap (λ (w : Walk). w.left) e;
     }
 
-pub queue_left : (s : Setting) (p : Place) (stage : Stage) (c : Qh) (x : Transfer) → p.walk.first ≡ false → Scene s p stage (QueueHeld c) x → Goes s (out_of_time p) stage AtQueue x p.registers.reclamation p.walk.left
+pub queue_left : (s : Setting) (p : Place) (stage : Stage) (c : Qh) (x : Transfer) → p.walk.first ≡ false → (k : Scene s p stage (QueueHeld c) x) → Goes s (out_of_time p) stage AtQueue x p.registers.reclamation p.walk.left k.q
 queue_left s p stage c x first k = record {
   scene = record { q = k.q; t = k.t; runs = k.runs; stands = k.stands; at_stage = k.at_stage; in_hand = (refl, k.in_hand.1); told = k.told.1 };
+  queue = refl;
   first = first;
   busy = refl;
   left = refl;

@@ -146,10 +146,10 @@ unfolding raised
 raised_busy c o r = refl
 
 -- the place after it
-abbrev written_place : Setting → Place → Qh → Outcome → List ℕ → Place
+abbrev pub written_place : Setting → Place → Qh → Outcome → List ℕ → Place
 written_place s p c o got = record { walk = record p.walk { cursor = cursors.At (link_of c.link); held = None }; registers = raised c o p.registers; memory = back_written s.queue c got p.memory }
 
-wrote_is : (s : Setting) (p : Place) (c : Qh) (o : Outcome) (got : List ℕ) → p.walk.held ≡ Some (record { at = s.queue; queue_head = c; settled = Some (record { outcome = o; got = got }) }) → written_back s.queue c got p.memory ≡ record { memory = back_written s.queue c got p.memory; all = true } → wrote p p.walk.held ≡ written_place s p c o got
+pub wrote_is : (s : Setting) (p : Place) (c : Qh) (o : Outcome) (got : List ℕ) → p.walk.held ≡ Some (record { at = s.queue; queue_head = c; settled = Some (record { outcome = o; got = got }) }) → written_back s.queue c got p.memory ≡ record { memory = back_written s.queue c got p.memory; all = true } → wrote p p.walk.held ≡ written_place s p c o got
 wrote_is s p c o got held all =
     ap (wrote p) held
     ∙ ap (λ (w : Writing). wrote_place w.all c o (record p { memory = w.memory })) all
@@ -239,14 +239,12 @@ host_told : (b : Bool) (new : Qh) (t u : Qtd) (host : HostSide) → new.token.ac
 host_told true new t u host on same is = sym is
 host_told false new t u host off same is = sym (ap (λ (d : Qtd). host_at d.token 512) (same ∙ qtd_done new t off) ∙ is)
 
-pub queue_written : (s : Setting) (p : Place) (c : Qh) (o : Outcome) (got : List ℕ) (x : Transfer) (b : Bool) → x.host.active ≡ b → IsLaidOut s → p.walk.first ≡ false → Scene s p Working (Settled c o got) x → Goes s (wrote p p.walk.held) (stage_by b) AtHead x p.registers.reclamation p.walk.left
+pub queue_written : (s : Setting) (p : Place) (c : Qh) (o : Outcome) (got : List ℕ) (x : Transfer) (b : Bool) → x.host.active ≡ b → IsLaidOut s → p.walk.first ≡ false → Scene s p Working (Settled c o got) x → Goes s (written_place s p c o got) (stage_by b) AtHead x p.registers.reclamation p.walk.left (moved c (length got))
 queue_written s p c o got x b is laid first k =
     let facts = settled_facts s p.memory k.q c o got x k.told.1 in
     let new : Qh = moved c (length got) in
     let active = (moved_is c (length got)).active ∙ ap (λ (t : Token). t.active) facts.token ∙ is in
-    subst (λ (n : Place). Goes s n (stage_by b) AtHead x p.registers.reclamation p.walk.left)
-    (sym (wrote_is s p c o got k.in_hand.0 (all_is_written s p c o got x laid k)))
-    (record {
+    record {
       scene = record {
         q = new;
         t = qtd_after new k.t;
@@ -257,7 +255,8 @@ queue_written s p c o got x b is laid first k =
         in_hand = (refl, inr (ap cursors.At (ap link_of (facts.link ∙ k.stands.fixed.link))));
         told = record { host = host_told b new k.t (qtd_after new k.t) x.host active refl (host_now c (length got) k.q x facts k.told.1.packets); received = received_now s p c o got x laid k };
       };
+      queue = refl;
       first = first;
       busy = raised_busy c o p.registers;
       left = refl;
-    })
+    }
