@@ -81,7 +81,7 @@ took_is p a c b t held lent =
 abbrev pub advanced_place : Setting → Place → Qh → Qtd → Place
 advanced_place s p c t = record p { memory = overlay_after p.memory s.queue (advanced c s.qtd t); walk = record p.walk { held = Some (record { at = s.queue; queue_head = advanced c s.qtd t; settled = None }) } }
 
-pub queue_advanced : (s : Setting) (p : Place) (c : Qh) (x : Transfer) → IsLaidOut s → p.walk.first ≡ false → (k : Scene s p Waiting (QueueHeld c) x) → x.host.left ≤ s.asked → Goes s (advanced_place s p c k.t) Working (QueueHeld (advanced c s.qtd k.t)) x p.registers.reclamation p.walk.left (advanced c s.qtd k.t)
+pub queue_advanced : (s : Setting) (p : Place) (c : Qh) (x : Transfer) → IsLaidOut s → p.walk.first ≡ false → (k : Scene s p Waiting (QueueHeld c) x) → x.host.left ≤ s.asked → Goes s (advanced_place s p c k.t) Working (QueueHeld (advanced c s.qtd k.t)) x p.registers.reclamation p.walk.left (advanced c s.qtd k.t) k.t
 queue_advanced s p c x laid first k fewer =
     let same = k.told.0.same in
     let fixed = fixed_copy s k.q c k.stands.fixed same in
@@ -101,6 +101,7 @@ queue_advanced s p c x laid first k fewer =
         });
       };
       queue = refl;
+      qtd = refl;
       first = first;
       busy = refl;
       left = refl;

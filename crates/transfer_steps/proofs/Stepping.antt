@@ -33,7 +33,7 @@ use Rattle.async_walk.specs.Rows.{Place, row_at, read_at, cursor_link, row_of, w
 use Rattle.standing.specs.Standing.{QueueStands, QtdStands}
 use Rattle.transfer_steps.specs.Setting.{Setting, head_of, dummy_qtd, IsQueue, IsLaidOut, Stands}
 use Rattle.transfer_steps.specs.Told.{Hand, AtHead, HeadHeld, AtQueue, QueueHeld, Settled, IsInHand, with_naks, Stage, Resting, Waiting, Working, IsAtStage, Rests, Waits, Works, Transfer, ByWords, BySettled, IsCopyOf, IsToldBy, Scene, Goes, host_after, outcome_after, got_after, moved_on}
-use Rattle.transfer_steps.specs.Events.{price, is_busy, WillReload, IsKeenWaiting, IsKeenWorking, IsKeenAt, IsKeen, step_left, turn_left, events_left, HasNone, Quietly, Moves}
+use Rattle.transfer_steps.specs.Events.{price, is_busy, WillReload, IsKeenWaiting, IsKeenWorking, IsKeenAt, IsKeen, step_left, turn_left, events_left, HasNone, Quietly, Rested, Moves}
 use Rattle.transfer_steps.proofs.Visits.{ring_link, fetch_there, fetch_reads, fetch_head, fetch_queue, rest_kind, take_kind, work_kind, used_up, halted_rests, off_takes, on_works, held_kind, held_reads, same_memory}
 use Rattle.transfer_steps.proofs.Walking.{head_fetched, head_is_quiet, head_passed, queue_fetched, queue_passed, queue_left}
 use Rattle.transfer_steps.proofs.Advancing.{advanced_place, took_is, queue_advanced}
@@ -119,6 +119,10 @@ held_small Resting c = omega arith
 held_small Waiting c = omega arith
 held_small Working c = omega arith
 
+abbrev is_resting : Stage → Bool
+is_resting Resting = true
+is_resting _ = false
+
 abbrev is_fault : WalkStep → Bool
 is_fault steps.Fault = true
 is_fault _ = false
@@ -157,6 +161,7 @@ at_head_busy s p stage x k first busy =
       keen = λ active keen. keen_head s p (fetched s.head (head_of s) p) stage k.q g.scene.q first g.first refl g.queue keen;
       no_fault = no_fault_by steps.Fetch steps.Fetch refl refl;
       ends = goes_on_by steps.Fetch steps.Fetch refl refl;
+      rests = λ e. record { stage_is = e; memory = refl; queue = g.queue; qtd = g.qtd; ended = goes_on_by steps.Fetch steps.Fetch refl refl };
       falls = λ on.
         let now = measure_is (fetched s.head (head_of s) p) stage HeadHeld false p.walk.left (busy_is (fetched s.head (head_of s) p) g.first ∙ g.busy) g.left in
         let was = measure_is p stage AtHead true p.walk.left (busy_is p first ∙ busy) refl in
@@ -175,6 +180,7 @@ at_head_quiet s p stage x k first busy =
       keen = λ active keen. keen_quiet p k.q stage (busy_is p first ∙ busy) keen;
       no_fault = no_fault_by steps.Ended steps.Ended refl refl;
       ends = λ e. (tt, λ keen. keen_quiet p k.q stage (busy_is p first ∙ busy) keen);
+      rests = λ e. record { stage_is = e; memory = refl; queue = g.queue; qtd = g.qtd; ended = λ f. refl };
       falls = λ on. absurd (on refl);
     }
 
@@ -204,6 +210,7 @@ head_skipped s p stage x k first =
       keen = λ active keen. keen_passed p (passed p) stage k.q g.scene.q g.first (passed_mode p) g.queue keen;
       no_fault = no_fault_by steps.Skip steps.Skip refl refl;
       ends = goes_on_by steps.Skip steps.Skip refl refl;
+      rests = λ e. record { stage_is = e; memory = refl; queue = g.queue; qtd = g.qtd; ended = goes_on_by steps.Skip steps.Skip refl refl };
       falls = λ on.
         let now = measure_is (passed p) stage AtQueue p.registers.reclamation p.walk.left (busy_is (passed p) g.first ∙ g.busy) g.left in
         let was = measure_is p stage HeadHeld p.registers.reclamation p.walk.left (busy_is p first) refl in
@@ -233,6 +240,7 @@ queue_is_fetched s p stage x k first =
       keen = λ active keen. keen_now (fetched s.queue k.q p) k.q g.scene.q stage (QueueHeld c) g.queue (keen_fetched s p (fetched s.queue k.q p) stage k.q k.stands.fixed.not_head keen);
       no_fault = no_fault_by steps.Fetch steps.Fetch refl refl;
       ends = goes_on_by steps.Fetch steps.Fetch refl refl;
+      rests = λ e. record { stage_is = e; memory = refl; queue = g.queue; qtd = g.qtd; ended = goes_on_by steps.Fetch steps.Fetch refl refl };
       falls = λ on.
         let now = measure_is (fetched s.queue k.q p) stage (QueueHeld c) p.registers.reclamation p.walk.left (busy_is (fetched s.queue k.q p) g.first ∙ g.busy) g.left in
         let was = measure_is p stage AtQueue p.registers.reclamation p.walk.left (busy_is p first) refl in
@@ -259,6 +267,7 @@ queue_skipped s p stage c x k first never =
       keen = λ active keen. absurd (never keen);
       no_fault = no_fault_by steps.Skip steps.Skip refl refl;
       ends = goes_on_by steps.Skip steps.Skip refl refl;
+      rests = λ e. record { stage_is = e; memory = refl; queue = g.queue; qtd = g.qtd; ended = goes_on_by steps.Skip steps.Skip refl refl };
       falls = λ on.
         let now = measure_is (passed p) stage AtHead p.registers.reclamation p.walk.left (busy_is (passed p) g.first ∙ g.busy) g.left in
         let was = measure_is p stage (QueueHeld c) p.registers.reclamation p.walk.left (busy_is p first) refl in
@@ -286,6 +295,7 @@ queue_takes s p c x laid k first =
       keen = λ active keen. (may_advanced c s.qtd k.t, ap may_work g.queue ∙ may_advanced c s.qtd k.t);
       no_fault = no_fault_by steps.Advance steps.Advance refl refl;
       ends = goes_on_by steps.Advance steps.Advance refl refl;
+      rests = λ e. absurd (false≢true (ap is_resting e));
       falls = λ on.
         let now = measure_is (advanced_place s p c k.t) Working (QueueHeld (advanced c s.qtd k.t)) p.registers.reclamation p.walk.left (busy_is (advanced_place s p c k.t) g.first ∙ g.busy) g.left in
         let was = measure_is p Waiting (QueueHeld c) p.registers.reclamation p.walk.left (busy_is p first) refl in
@@ -305,7 +315,8 @@ queue_waits s p c x k first late =
       time = g.left;
       keen = λ active keen. ap may_work g.queue ∙ keen.1;
       no_fault = no_fault_by steps.Ended steps.Ended refl refl;
-      ends = λ e. (tt, λ keen. late);
+      ends = λ e. (tt, λ keen. (late, refl, refl));
+      rests = λ e. absurd (false≢true (ap is_resting e));
       falls = λ on. absurd (on refl);
     }
 
@@ -364,6 +375,7 @@ queue_is_written s p c o got x laid k first =
       keen = λ active keen. keen_written (written_place s p c o got) k.q c o got p x.host.active g.scene.q active (busy_is (written_place s p c o got) g.first ∙ g.busy) g.queue keen;
       no_fault = no_fault_by steps.WriteBack steps.WriteBack refl refl;
       ends = goes_on_by steps.WriteBack steps.WriteBack refl refl;
+      rests = λ e. absurd (false≢true (ap is_resting e));
       falls = λ on.
         let now = measure_is (written_place s p c o got) (stage_by x.host.active) AtHead p.registers.reclamation p.walk.left (busy_is (written_place s p c o got) g.first ∙ g.busy) g.left in
         let was = measure_is p Working (Settled c o got) p.registers.reclamation p.walk.left (busy_is p first) refl in

@@ -37,7 +37,7 @@ host_is q c x same max told = ap (λ (v : Qh). host_at v.token v.max) same ∙ a
 settled_held : (p : Place) (a : ℕ) (c : Qh) (host : HostSide) (o : Outcome) (got : List ℕ) → p.walk.held ≡ Some (record { at = a; queue_head = c; settled = None }) → held_settled host o got p.walk.held ≡ Some (record { at = a; queue_head = settled_queue host o c; settled = Some (record { outcome = o; got = got }) })
 settled_held p a c host o got held = ap (held_settled host o got) held
 
-pub queue_settled : (s : Setting) (p : Place) (c : Qh) (reply : Reply) (x : Transfer) → p.walk.first ≡ false → (k : Scene s p Working (QueueHeld c) x) → ((pid : Pid) (bs : List ℕ) → reply ≡ Bytes pid bs → (i : ℕ) → slice_index bs i < 256) → Goes s (transacted (pipe_of c) (host_in c) reply p) Working (Settled (settled_queue (host_after c reply) (outcome_after c reply) c) (outcome_after c reply) (got_after c reply)) (moved_on c reply x) true (p.walk.left - price_in c) k.q
+pub queue_settled : (s : Setting) (p : Place) (c : Qh) (reply : Reply) (x : Transfer) → p.walk.first ≡ false → (k : Scene s p Working (QueueHeld c) x) → ((pid : Pid) (bs : List ℕ) → reply ≡ Bytes pid bs → (i : ℕ) → slice_index bs i < 256) → Goes s (transacted (pipe_of c) (host_in c) reply p) Working (Settled (settled_queue (host_after c reply) (outcome_after c reply) c) (outcome_after c reply) (got_after c reply)) (moved_on c reply x) true (p.walk.left - price_in c) k.q k.t
 queue_settled s p c reply x first k small =
     let same = k.told.0.same in
     let range = k.told.0.range in
@@ -67,6 +67,7 @@ queue_settled s p c reply x first k small =
         });
       };
       queue = refl;
+      qtd = refl;
       first = first;
       busy = refl;
       left = refl;

@@ -67,10 +67,11 @@ in_hand_started s w AtQueue h = h
 in_hand_started s w (QueueHeld c) h = h
 in_hand_started s w (Settled c o got) h = h
 
-pub starts : (s : Setting) (p : Place) (stage : Stage) (hand : Hand) (x : Transfer) → (k : Scene s p stage hand x) → Goes s (started p) stage hand x (p.registers.reclamation || p.walk.first) p.walk.left k.q
+pub starts : (s : Setting) (p : Place) (stage : Stage) (hand : Hand) (x : Transfer) → (k : Scene s p stage hand x) → Goes s (started p) stage hand x (p.registers.reclamation || p.walk.first) p.walk.left k.q k.t
 starts s p stage hand x k = record {
   scene = record { q = k.q; t = k.t; runs = started_runs s p.walk.first p.registers k.runs; stands = k.stands; at_stage = k.at_stage; in_hand = in_hand_started s p.walk hand k.in_hand; told = k.told };
   queue = refl;
+      qtd = refl;
   first = refl;
   busy = started_busy p.walk.first p.registers;
   left = refl;
@@ -84,7 +85,7 @@ head_reloaded s WaitHead = refl
 head_reloaded s Reload = refl
 head_reloaded s WaitStart = refl
 
-pub head_fetched : (s : Setting) (p : Place) (stage : Stage) (x : Transfer) → p.walk.first ≡ false → (k : Scene s p stage AtHead x) → Goes s (fetched s.head (head_of s) p) stage HeadHeld x false p.walk.left k.q
+pub head_fetched : (s : Setting) (p : Place) (stage : Stage) (x : Transfer) → p.walk.first ≡ false → (k : Scene s p stage AtHead x) → Goes s (fetched s.head (head_of s) p) stage HeadHeld x false p.walk.left k.q k.t
 head_fetched s p stage x first k =
     let quiet = quiet_head (after_reclamation p.registers false) k.runs.quiet in
     record {
@@ -98,12 +99,13 @@ head_fetched s p stage x first k =
         told = k.told;
       };
       queue = refl;
+      qtd = refl;
       first = first;
       busy = ap (λ (r : RegisterFile). r.reclamation) quiet;
       left = refl;
     }
 
-pub head_is_quiet : (s : Setting) (p : Place) (stage : Stage) (x : Transfer) → p.walk.first ≡ false → (k : Scene s p stage AtHead x) → Goes s (head_ended p) stage AtHead x p.registers.reclamation p.walk.left k.q
+pub head_is_quiet : (s : Setting) (p : Place) (stage : Stage) (x : Transfer) → p.walk.first ≡ false → (k : Scene s p stage AtHead x) → Goes s (head_ended p) stage AtHead x p.registers.reclamation p.walk.left k.q k.t
 head_is_quiet s p stage x first k =
     let quiet = quiet_head p.registers k.runs.quiet in
     record {
@@ -117,6 +119,7 @@ head_is_quiet s p stage x first k =
         told = k.told;
       };
       queue = refl;
+      qtd = refl;
       first = first;
       busy = ap (λ (r : RegisterFile). r.reclamation) quiet;
       left = refl;
@@ -126,7 +129,7 @@ head_is_quiet s p stage x first k =
 passed_on : (w : Walk) (a : ℕ) (c : Qh) (o : Option Held) → o ≡ Some (record { at = a; queue_head = c; settled = None }) → passed_walk w o ≡ record w { cursor = cursors.At (link_of c.link); held = None }
 passed_on w a c o e = ap (passed_walk w) e
 
-pub head_passed : (s : Setting) (p : Place) (stage : Stage) (x : Transfer) → p.walk.first ≡ false → (k : Scene s p stage HeadHeld x) → Goes s (passed p) stage AtQueue x p.registers.reclamation p.walk.left k.q
+pub head_passed : (s : Setting) (p : Place) (stage : Stage) (x : Transfer) → p.walk.first ≡ false → (k : Scene s p stage HeadHeld x) → Goes s (passed p) stage AtQueue x p.registers.reclamation p.walk.left k.q k.t
 head_passed s p stage x first k =
     let e = passed_on p.walk s.head (head_of s) p.walk.held k.in_hand.0 in
     record {
@@ -140,6 +143,7 @@ head_passed s p stage x first k =
         told = k.told;
       };
       queue = refl;
+      qtd = refl;
       first = ap (λ (w : Walk). w.first) e ∙ first;
       busy = refl;
       left = ap (λ (w : Walk). w.left) e;
@@ -153,7 +157,7 @@ naks_only WaitHead q = refl
 naks_only Reload q = refl
 naks_only WaitStart q = refl
 
-pub queue_fetched : (s : Setting) (p : Place) (stage : Stage) (x : Transfer) → p.walk.first ≡ false → (k : Scene s p stage AtQueue x) → Goes s (fetched s.queue k.q p) stage (QueueHeld (reloaded (mode_after k.q p.walk.mode) k.q)) x p.registers.reclamation p.walk.left k.q
+pub queue_fetched : (s : Setting) (p : Place) (stage : Stage) (x : Transfer) → p.walk.first ≡ false → (k : Scene s p stage AtQueue x) → Goes s (fetched s.queue k.q p) stage (QueueHeld (reloaded (mode_after k.q p.walk.mode) k.q)) x p.registers.reclamation p.walk.left k.q k.t
 queue_fetched s p stage x first k =
     let off : fetched_registers k.q.head p.registers ≡ p.registers = ap (λ (b : Bool). fetched_registers b p.registers) k.stands.fixed.not_head in
     record {
@@ -167,6 +171,7 @@ queue_fetched s p stage x first k =
         told = (record { same = naks_only (mode_after k.q p.walk.mode) k.q; range = reloaded_in_range (mode_after k.q p.walk.mode) k.q k.stands.queue.range }, k.told);
       };
       queue = refl;
+      qtd = refl;
       first = first;
       busy = ap (λ (r : RegisterFile). r.reclamation) off;
       left = refl;
@@ -175,7 +180,7 @@ queue_fetched s p stage x first k =
 copy_link : (s : Setting) (q c : Qh) → IsQueue s q → c ≡ with_naks q c.nak_cnt → link_of c.link ≡ links.Qh s.head
 copy_link s q c fixed same = ap (λ (v : Qh). link_of v.link) same ∙ ap link_of fixed.link
 
-pub queue_passed : (s : Setting) (p : Place) (stage : Stage) (c : Qh) (x : Transfer) → p.walk.first ≡ false → (k : Scene s p stage (QueueHeld c) x) → Goes s (passed p) stage AtHead x p.registers.reclamation p.walk.left k.q
+pub queue_passed : (s : Setting) (p : Place) (stage : Stage) (c : Qh) (x : Transfer) → p.walk.first ≡ false → (k : Scene s p stage (QueueHeld c) x) → Goes s (passed p) stage AtHead x p.registers.reclamation p.walk.left k.q k.t
 queue_passed s p stage c x first k =
     let e = passed_on p.walk s.queue c p.walk.held k.in_hand.0 in
     record {
@@ -189,15 +194,17 @@ queue_passed s p stage c x first k =
         told = k.told.1;
       };
       queue = refl;
+      qtd = refl;
       first = ap (λ (w : Walk). w.first) e ∙ first;
       busy = refl;
       left = ap (λ (w : Walk). w.left) e;
     }
 
-pub queue_left : (s : Setting) (p : Place) (stage : Stage) (c : Qh) (x : Transfer) → p.walk.first ≡ false → (k : Scene s p stage (QueueHeld c) x) → Goes s (out_of_time p) stage AtQueue x p.registers.reclamation p.walk.left k.q
+pub queue_left : (s : Setting) (p : Place) (stage : Stage) (c : Qh) (x : Transfer) → p.walk.first ≡ false → (k : Scene s p stage (QueueHeld c) x) → Goes s (out_of_time p) stage AtQueue x p.registers.reclamation p.walk.left k.q k.t
 queue_left s p stage c x first k = record {
   scene = record { q = k.q; t = k.t; runs = k.runs; stands = k.stands; at_stage = k.at_stage; in_hand = (refl, k.in_hand.1); told = k.told.1 };
   queue = refl;
+      qtd = refl;
   first = first;
   busy = refl;
   left = refl;

@@ -239,7 +239,7 @@ host_told : (b : Bool) (new : Qh) (t u : Qtd) (host : HostSide) → new.token.ac
 host_told true new t u host on same is = sym is
 host_told false new t u host off same is = sym (ap (λ (d : Qtd). host_at d.token 512) (same ∙ qtd_done new t off) ∙ is)
 
-pub queue_written : (s : Setting) (p : Place) (c : Qh) (o : Outcome) (got : List ℕ) (x : Transfer) (b : Bool) → x.host.active ≡ b → IsLaidOut s → p.walk.first ≡ false → Scene s p Working (Settled c o got) x → Goes s (written_place s p c o got) (stage_by b) AtHead x p.registers.reclamation p.walk.left (moved c (length got))
+pub queue_written : (s : Setting) (p : Place) (c : Qh) (o : Outcome) (got : List ℕ) (x : Transfer) (b : Bool) → x.host.active ≡ b → IsLaidOut s → p.walk.first ≡ false → (k : Scene s p Working (Settled c o got) x) → Goes s (written_place s p c o got) (stage_by b) AtHead x p.registers.reclamation p.walk.left (moved c (length got)) (qtd_after (moved c (length got)) k.t)
 queue_written s p c o got x b is laid first k =
     let facts = settled_facts s p.memory k.q c o got x k.told.1 in
     let new : Qh = moved c (length got) in
@@ -256,6 +256,7 @@ queue_written s p c o got x b is laid first k =
         told = record { host = host_told b new k.t (qtd_after new k.t) x.host active refl (host_now c (length got) k.q x facts k.told.1.packets); received = received_now s p c o got x laid k };
       };
       queue = refl;
+      qtd = refl;
       first = first;
       busy = raised_busy c o p.registers;
       left = refl;

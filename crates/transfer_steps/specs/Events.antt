@@ -81,6 +81,14 @@ HasNone (Settled c o got) = ⊥
 
 -- ---- the event
 
+-- A queue head that rests is left as it is, with all of memory. Only the head ends such a part.
+pub record Rested {s : Setting} {stage stage_now : Stage} {hand hand_now : Hand} {x : Transfer} (old new : Place) (before : Scene s old stage hand x) (scene : Scene s new stage_now hand_now x) (kind : WalkStep) : Type 0 where
+  pub stage_is : stage_now ≡ Resting
+  pub memory : new.memory ≡ old.memory
+  pub queue : scene.q ≡ before.q
+  pub qtd : scene.t ≡ before.t
+  pub ended : kind ≡ steps.Ended → hand_now ≡ AtHead
+
 -- It does nothing to the transfer. Where it ends the part, no copy is in hand, and a queue head that works had no time left for a packet.
 pub record Quietly (s : Setting) (old new : Place) (stage : Stage) (hand : Hand) (x : Transfer) (before : Scene s old stage hand x) (kind : WalkStep) : Type 0 where
   pub stage_now : Stage
@@ -90,7 +98,8 @@ pub record Quietly (s : Setting) (old new : Place) (stage : Stage) (hand : Hand)
   pub time : new.walk.left ≡ old.walk.left
   pub keen : x.host.active ≡ true → IsKeen before → IsKeen scene
   pub no_fault : kind ≢ steps.Fault
-  pub ends : kind ≡ steps.Ended → HasNone hand_now × (IsKeen before → old.walk.left < price)
+  pub ends : kind ≡ steps.Ended → HasNone hand_now × (IsKeen before → (old.walk.left < price) × (stage_now ≡ Working) × (hand_now ≡ AtQueue))
+  pub rests : stage ≡ Resting → Rested old new before scene kind
   pub falls : kind ≢ steps.Ended → events_left new stage_now hand_now < events_left old stage hand
 
 -- It is a transaction of the transfer's endpoint.

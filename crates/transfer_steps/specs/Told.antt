@@ -162,9 +162,10 @@ abbrev pub moved_on : Qh → Reply → Transfer → Transfer
 moved_on c reply x = record { host = host_after c reply; received = x.received ++ got_after c reply }
 
 -- what an event leads to: a scene, with Reclamation and the time left as told; the part of the microframe has begun
-pub record Goes (s : Setting) (p : Place) (stage : Stage) (hand : Hand) (x : Transfer) (recl : Bool) (time : ℕ) (now : Qh) : Type 0 where
+pub record Goes (s : Setting) (p : Place) (stage : Stage) (hand : Hand) (x : Transfer) (recl : Bool) (time : ℕ) (now : Qh) (under : Qtd) : Type 0 where
   pub scene : Scene s p stage hand x
   pub queue : scene.q ≡ now
+  pub qtd : scene.t ≡ under
   pub first : p.walk.first ≡ false
   pub busy : p.registers.reclamation ≡ recl
   pub left : p.walk.left ≡ time
