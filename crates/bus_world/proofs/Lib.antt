@@ -10,3 +10,4 @@ pub mod Leading
 pub mod Pages
 pub mod Opened
 pub mod Scripts
+pub mod Empty

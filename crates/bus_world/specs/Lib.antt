@@ -8,3 +8,4 @@ pub mod Moving
 pub mod Run
 pub mod World
 pub mod Opening
+pub mod Unfinished
