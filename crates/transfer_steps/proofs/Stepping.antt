@@ -341,6 +341,7 @@ queue_moves transacts s p new c x k wire after kind first enough small t is =
       in_hand = refl;
       works = refl;
       told = host_is k.q c x same k.stands.fixed.packets k.told.1.host;
+      active = ap (λ (h : HostSide). h.active) k.told.1.host ∙ k.at_stage.on;
       addressed = (ap (λ (v : Qh). v.addr) same ∙ k.stands.fixed.addr, ap (λ (v : Qh). v.ep) same ∙ k.stands.fixed.ep);
       reply = t.reply;
       made = t.made;

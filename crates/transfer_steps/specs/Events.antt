@@ -108,6 +108,7 @@ pub record Moves {W : Type 0} (transacts : W → Ask → List ℕ → Reply → 
   pub in_hand : hand ≡ QueueHeld copy
   pub works : stage ≡ Working
   pub told : host_in copy ≡ x.host
+  pub active : x.host.active ≡ true
   pub addressed : (copy.addr ≡ s.addr) × (copy.ep ≡ s.ep)
   pub reply : Reply
   pub made : transacts wire (high_call (pipe_of copy) (host_in copy) []).ask [] reply after

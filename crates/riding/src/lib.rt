@@ -1,0 +1,2 @@
+//! A transfer on the controller.
+#![tactic(auto)]
