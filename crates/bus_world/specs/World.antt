@@ -30,31 +30,6 @@ abbrev pub IsStored : Option Report → List ℕ → Type 0
 IsStored None store = Unit {0}
 IsStored (Some report) store = report.from + report.len ≤ length store
 
--- some text spells the script
-abbrev pub IsSpelled : Script → Type 0
-IsSpelled script = (text : List ℕ) × Spells text script
-
-abbrev pub fill_len : Option Fill → ℕ
-fill_len None = 0
-fill_len (Some fill) = fill.len
-
-abbrev pub fill_seed : Option Fill → ℕ
-fill_seed None = 0
-fill_seed (Some fill) = fill.seed
-
--- the wire of a script before its first packet; a device with no reply sends a fill of no bytes
-abbrev pub wire_of : Moved → BulkIn
-wire_of t = record {
-  addr = t.addr;
-  num = t.num;
-  len = fill_len t.fill;
-  seed = fill_seed t.fill;
-  unheard = unheard_of t;
-  sent = 0;
-  toggle = false;
-  packet = 0;
-}
-
 -- the transfer is that of the script
 pub record IsOf (t : Moved) (v : Transferring) : Type 0 where
   pub name : v.name ≡ name_of t

@@ -26,22 +26,22 @@ use Rattle.script_text.specs.declared.script.Transfer.{Transfer as Moved}
 use Rattle.transfer_steps.specs.Setting.{Setting, IsLaidOut, Stands}
 use Rattle.transfer_steps.specs.Told.{Hand, AtHead, HeadHeld, AtQueue, QueueHeld, Settled, Stage, Resting, Waiting, Working, Transfer, IsInHand, Runs, Scene}
 use Rattle.transfer_steps.specs.Events.{price, is_busy, IsKeenAt, HasNone, events_left, step_left, turn_left}
-use Rattle.bus_world.specs.Wire.{BulkIn}
-use Rattle.bus_world.specs.Bus.{IsOver}
-use Rattle.bus_world.specs.Run.{packets_of as packets_sent, bus_after}
+use Rattle.bulk_bus.specs.Wire.{BulkIn}
+use Rattle.bulk_bus.specs.Bus.{IsOver}
+use Rattle.bulk_bus.specs.Run.{packets_of as packets_sent, bus_after}
 use Rattle.riding.specs.Riding.{Follows, transfer_of, IsPart, IsKeenNext, IsInTime, HasTime, microframe, Walked, Rides, begins_wire, asks_wire, Controls, events_in, measure_of, Rode}
 use Rattle.riding.proofs.Walks.{walk_rides}
 
-abbrev is_end : HcStep → Bool
+abbrev pub is_end : HcStep → Bool
 is_end hc.End = true
 is_end _ = false
 
 -- ---- which row it is
 
-over_row : (r : RegisterFile) (part : Part) → r.run ≡ true → part ≡ Over → row_of r part ≡ rows.Begin
+pub over_row : (r : RegisterFile) (part : Part) → r.run ≡ true → part ≡ Over → row_of r part ≡ rows.Begin
 over_row r part run is = ap (row_of r) is ∙ ap (λ (b : Bool). if b then rows.Begin else rows.Idle) run
 
-enter_is : (r : RegisterFile) (first : Link) (left : Ps) → r.run ≡ true → r.async_enable ≡ true → first ≡ links.End → row_of r (Periodic first left) ≡ rows.Enter (record { 0 = left.0 })
+pub enter_is : (r : RegisterFile) (first : Link) (left : Ps) → r.run ≡ true → r.async_enable ≡ true → first ≡ links.End → row_of r (Periodic first left) ≡ rows.Enter (record { 0 = left.0 })
 enter_is r first left run on ends =
     ap (λ (b : Bool). if b then part_row r (Periodic first left) else rows.Idle) run
     ∙ ap (λ (l : Link). if r.periodic_enable && not (names_nothing l) then rows.FrameFault else enter_row r.async_enable left.0) ends
@@ -52,7 +52,7 @@ enter_is r first left run on ends =
     and_off true = refl
     and_off false = refl
 
-go_is : (r : RegisterFile) → r.run ≡ true → r.async_enable ≡ true → row_of r Asynchronous ≡ rows.Go
+pub go_is : (r : RegisterFile) → r.run ≡ true → r.async_enable ≡ true → row_of r Asynchronous ≡ rows.Go
 go_is r run on = ap (λ (b : Bool). if b then ring_row r.async_enable else rows.Idle) run ∙ ap ring_row on
 
 -- ---- the microframe begins
@@ -61,27 +61,27 @@ link_one : link_read 1 ≡ links.End
 unfolding link_read
 link_one = refl
 
-runs_begun : (s : Setting) (r : RegisterFile) → Runs s r → Runs s (after_begin r)
+pub runs_begun : (s : Setting) (r : RegisterFile) → Runs s r → Runs s (after_begin r)
 runs_begun s r k = record { run = k.run; enabled = k.enabled; quiet = k.quiet; list = k.list; ring = k.ring }
 
 -- the element that is read leads nowhere
-element_is : (s : Setting) (m : Mem) (r : RegisterFile) (a : ℕ) → r.periodic_list_base ≡ s.list → a ≡ element_address r → ((f : ℕ) → f < 1024 → reaches m (s.list + 4 * f) ≡ true) → ((f : ℕ) → f < 1024 → word_at m (s.list + 4 * f) ≡ 1) → (reaches m a ≡ true) × (word_at m a ≡ 1)
+pub element_is : (s : Setting) (m : Mem) (r : RegisterFile) (a : ℕ) → r.periodic_list_base ≡ s.list → a ≡ element_address r → ((f : ℕ) → f < 1024 → reaches m (s.list + 4 * f) ≡ true) → ((f : ℕ) → f < 1024 → word_at m (s.list + 4 * f) ≡ 1) → (reaches m a ≡ true) × (word_at m a ≡ 1)
 element_is s m r a list is lent empty =
     let f : ℕ = r.frame_index / 8 % 1024 in
     let here : a ≡ s.list + 4 * f = is ∙ ap (λ (n : ℕ). n + 4 * f) list in
     (ap (reaches m) here ∙ lent f (omega arith), ap (word_at m) here ∙ empty f (omega arith))
 
-scene_registers : (s : Setting) (p : Place) (r : RegisterFile) (stage : Stage) (hand : Hand) (x : Transfer) → Runs s r → (k : Scene s p stage hand x) → (g : Scene s (record p { registers = r }) stage hand x) × (g.q ≡ k.q)
-scene_registers s p r stage hand x runs k = (record { q = k.q; t = k.t; runs = runs; stands = k.stands; at_stage = k.at_stage; in_hand = k.in_hand; told = k.told }, refl)
+pub scene_registers : (s : Setting) (p : Place) (r : RegisterFile) (stage : Stage) (hand : Hand) (x : Transfer) → Runs s r → (k : Scene s p stage hand x) → (g : Scene s (record p { registers = r }) stage hand x) × (g.q ≡ k.q) × (g.t ≡ k.t)
+scene_registers s p r stage hand x runs k = (record { q = k.q; t = k.t; runs = runs; stands = k.stands; at_stage = k.at_stage; in_hand = k.in_hand; told = k.told }, refl, refl)
 
-abbrev begun_content : Content → Content
+abbrev pub begun_content : Content → Content
 begun_content c = record {
   control = record c.control { part = Periodic links.End (record { 0 = microframe }) };
   registers = after_begin c.registers;
   memory = c.memory;
 }
 
-began_is : (c : Content) (allowed : Bool) → allowed ≡ true → (reaches c.memory (element_address (after_begin c.registers)) ≡ true) × (word_at c.memory (element_address (after_begin c.registers)) ≡ 1) → began allowed c ≡ begun_content c
+pub began_is : (c : Content) (allowed : Bool) → allowed ≡ true → (reaches c.memory (element_address (after_begin c.registers)) ≡ true) × (word_at c.memory (element_address (after_begin c.registers)) ≡ 1) → began allowed c ≡ begun_content c
 began_is c allowed may found =
     let stepped : Content = record c { registers = after_begin c.registers } in
     ap (λ (b : Bool). begun_at b allowed stepped) found.0
@@ -98,7 +98,7 @@ pace_begun p q queue stage hand t n u pace = ⊎_elim
 abbrev RideAt : Part → Setting → Moved → Content → BulkIn → ℕ → Type 0
 RideAt part s t c w u = (r : Rides s t c w u) × (c.control.part ≡ part)
 
-rode_begin : (s : Setting) (t : Moved) (c d : Content) (w v : BulkIn) (u : ℕ) (r : Rides s t c w u) → c.control.part ≡ Over → Begins begins_wire c w d v → Rode s t u (measure_of r) hc.Begin d v
+pub rode_begin : (s : Setting) (t : Moved) (c d : Content) (w v : BulkIn) (u : ℕ) (r : Rides s t c w u) → c.control.part ≡ Over → Begins begins_wire c w d v → Rode s t u (measure_of r) hc.Begin d v
 rode_begin s t c d w v u r is b =
     let g = scene_registers s (walk_place c) (after_begin c.registers) r.stage r.hand (transfer_of (bus_after t r.n)) (runs_begun s c.registers r.scene.runs) r.scene in
     let found = element_is s c.memory (after_begin c.registers) (element_address (after_begin c.registers)) r.scene.runs.list refl r.scene.stands.list_lent r.scene.stands.list_empty in
@@ -130,8 +130,8 @@ in_hand_begun s w HeadHeld left none h = absurd none
 in_hand_begun s w (QueueHeld c) left none h = absurd none
 in_hand_begun s w (Settled c o got) left none h = absurd none
 
-scene_begun : (s : Setting) (p : Place) (stage : Stage) (hand : Hand) (x : Transfer) (left : ℕ) → HasNone hand → (k : Scene s p stage hand x) → (g : Scene s (record p { walk = begun p.walk left }) stage hand x) × (g.q ≡ k.q)
-scene_begun s p stage hand x left none k = (record { q = k.q; t = k.t; runs = k.runs; stands = k.stands; at_stage = k.at_stage; in_hand = in_hand_begun s p.walk hand left none k.in_hand; told = k.told }, refl)
+pub scene_begun : (s : Setting) (p : Place) (stage : Stage) (hand : Hand) (x : Transfer) (left : ℕ) → HasNone hand → (k : Scene s p stage hand x) → (g : Scene s (record p { walk = begun p.walk left }) stage hand x) × (g.q ≡ k.q) × (g.t ≡ k.t)
+scene_begun s p stage hand x left none k = (record { q = k.q; t = k.t; runs = k.runs; stands = k.stands; at_stage = k.at_stage; in_hand = in_hand_begun s p.walk hand left none k.in_hand; told = k.told }, refl, refl)
 
 keen_begun : (p : Place) (left : ℕ) (q : Qh) (stage : Stage) (hand : Hand) → IsKeenNext q stage hand → IsKeenAt (record p { walk = begun p.walk left }) q stage hand
 keen_begun p left q Resting hand keen = keen
@@ -182,14 +182,14 @@ ended_now s t d v u st measure w on is =
       pace = subst (λ (k : Part). IsOver (packets_sent t) (bus_after t w.n) ⊎ IsInTime (walk_place d) k w.scene.q w.stage w.hand w.n (u + 1)) (sym is) e.1;
     }
 
-no_end : {A : Type 0} (kind : HcStep) → is_end kind ≡ false → kind ≡ hc.End → A
+pub no_end : {A : Type 0} (kind : HcStep) → is_end kind ≡ false → kind ≡ hc.End → A
 no_end kind off e = absurd (false≢true (sym off ∙ ap is_end e))
 
-abbrev is_ended_step : WalkStep → Bool
+abbrev pub is_ended_step : WalkStep → Bool
 is_ended_step steps.Ended = true
 is_ended_step _ = false
 
-not_ended : (st : WalkStep) → is_ended_step st ≡ false → st ≢ steps.Ended
+pub not_ended : (st : WalkStep) → is_ended_step st ≡ false → st ≢ steps.Ended
 not_ended st off = λ e. false≢true (sym off ∙ ap is_ended_step e)
 
 rode_walk : (s : Setting) (t : Moved) (d : Content) (v : BulkIn) (u : ℕ) (st : WalkStep) (measure : ℕ) → Walked s t (walk_place d) v u st measure → d.control.part ≡ part_after st → Rode s t u measure (hc_step st) d v
@@ -201,7 +201,7 @@ rode_walk s t d v u steps.Skip measure w is = record { goes = λ on. goes_on s t
 rode_walk s t d v u steps.Ended measure w is = record { goes = λ on. absurd (on refl); ends = λ e. (ended_now s t d v u steps.Ended measure w refl is, is) }
 rode_walk s t d v u steps.Fault measure w is = absurd (w.no_fault refl)
 
-few_events : (p : Place) (stage : Stage) (hand : Hand) → HasNone hand → p.walk.left ≤ microframe → events_left p stage hand ≤ 190
+pub few_events : (p : Place) (stage : Stage) (hand : Hand) → HasNone hand → p.walk.left ≤ microframe → events_left p stage hand ≤ 190
 few_events p stage AtHead none time = let b = turn_small (is_busy p) in omega (arith, time, b)
   where
     turn_small : (b : Bool) → (if b then 8 else 0) ≤ 8
@@ -251,10 +251,10 @@ rode_go s t c d w v u laid form addr num r is walks =
 
 -- ---- any event
 
-kind_at : (c : Content) (row : Row) → row_of c.registers c.control.part ≡ row → kind_of (row_of c.registers c.control.part) c ≡ kind_of row c
+pub kind_at : (c : Content) (row : Row) → row_of c.registers c.control.part ≡ row → kind_of (row_of c.registers c.control.part) c ≡ kind_of row c
 kind_at c row e = ap (λ (r : Row). kind_of r c) e
 
-row_at : (c d : Content) (w v : BulkIn) (row : Row) → row_of c.registers c.control.part ≡ row → HasRow begins_wire asks_wire (row_of c.registers c.control.part) c w d v → HasRow begins_wire asks_wire row c w d v
+pub row_at : (c d : Content) (w v : BulkIn) (row : Row) → row_of c.registers c.control.part ≡ row → HasRow begins_wire asks_wire (row_of c.registers c.control.part) c w d v → HasRow begins_wire asks_wire row c w d v
 row_at c d w v row e h = subst (λ (r : Row). HasRow begins_wire asks_wire r c w d v) e h
 
 by_part : (s : Setting) (t : Moved) (c d : Content) (w v : BulkIn) (u : ℕ) (kind : HcStep) (part : Part) → IsLaidOut s → IsInForm t → s.addr ≡ t.addr → s.ep ≡ t.num → (r : Rides s t c w u) → c.control.part ≡ part → Controls c w kind d v → Rode s t u (measure_of r) kind d v

@@ -1,3 +1,4 @@
 pub mod Transactions
 pub mod Walks
 pub mod Controls
+pub mod Idling

@@ -21,15 +21,15 @@ use Rattle.transactions.specs.Calls.{got_of}
 use Rattle.script_text.specs.Grammar.{IsInForm}
 use Rattle.script_text.specs.declared.script.Transfer.{Transfer as Moved}
 use Rattle.transfer_steps.specs.Told.{Transfer}
-use Rattle.bus_world.specs.declared.rows.InRow.{InRow}
-use Rattle.bus_world.specs.Stream.{fill_packets}
-use Rattle.bus_world.specs.Transaction.{in_row, host_hears}
-use Rattle.bus_world.specs.Wire.{BulkIn, is_unheard, data_of, reply_of, wire_after, wire_row, suits, moved_on, later}
-use Rattle.bus_world.specs.Bus.{Bus, bus_of, in_ask, next, after, IsOver, row_of, is_too_long, opening}
-use Rattle.bus_world.specs.Run.{packets_of as packets_sent, unheard_of, bus_after}
-use Rattle.bus_world.specs.Unfinished.{IsRefused}
-use Rattle.bus_world.proofs.Refines.{wire_moves_the_bus, reply_is, after_is}
-use Rattle.bus_world.proofs.Empty.{after_sum, refused_at_end}
+use Rattle.bulk_bus.specs.declared.rows.InRow.{InRow}
+use Rattle.bulk_bus.specs.Stream.{fill_packets}
+use Rattle.bulk_bus.specs.Transaction.{in_row, host_hears}
+use Rattle.bulk_bus.specs.Wire.{BulkIn, is_unheard, data_of, reply_of, wire_after, wire_row, suits, moved_on, later}
+use Rattle.bulk_bus.specs.Bus.{Bus, bus_of, in_ask, next, after, IsOver, row_of, is_too_long, opening}
+use Rattle.bulk_bus.specs.Run.{packets_of as packets_sent, unheard_of, bus_after}
+use Rattle.bulk_bus.specs.Unfinished.{IsRefused}
+use Rattle.bulk_bus.proofs.Refines.{wire_moves_the_bus, reply_is, after_is}
+use Rattle.bulk_bus.proofs.Empty.{after_sum, refused_at_end}
 use Rattle.riding.specs.Riding.{Follows, transfer_of}
 
 -- ---- a NAK comes only of a NAK

@@ -30,15 +30,15 @@ use Rattle.transfer_steps.specs.Told.{Hand, AtHead, HeadHeld, AtQueue, QueueHeld
 use Rattle.transfer_steps.specs.Events.{price, is_busy, IsKeenAt, IsKeen, HasNone, events_left, step_left, turn_left, Quietly, Moves}
 use Rattle.transfer_steps.proofs.Walking.{starts}
 use Rattle.transfer_steps.proofs.Stepping.{Event, one_event}
-use Rattle.bus_world.specs.declared.rows.InRow.{InRow}
-use Rattle.bus_world.specs.declared.rows.InRow.TheVariants.{TokenUnheard, AnswerUnheard, Nak, TooLong, AckUnheard, AckHeard}
-use Rattle.bus_world.specs.Stream.{fill_bytes}
-use Rattle.bus_world.specs.Transaction.{host_hears}
-use Rattle.bus_world.specs.Wire.{BulkIn, suits, data_of, wire_row, bytes_or_none, reply_of, wire_after, next_length}
-use Rattle.bus_world.specs.Bus.{Bus, in_ask, IsOver}
-use Rattle.bus_world.specs.Run.{packets_of as packets_sent, unheard_of, bus_after}
-use Rattle.bus_world.proofs.Data.{data_is, length-fill_bytes}
-use Rattle.bus_world.proofs.Empty.{same_end}
+use Rattle.bulk_bus.specs.declared.rows.InRow.{InRow}
+use Rattle.bulk_bus.specs.declared.rows.InRow.TheVariants.{TokenUnheard, AnswerUnheard, Nak, TooLong, AckUnheard, AckHeard}
+use Rattle.bulk_bus.specs.Stream.{fill_bytes}
+use Rattle.bulk_bus.specs.Transaction.{host_hears}
+use Rattle.bulk_bus.specs.Wire.{BulkIn, suits, data_of, wire_row, bytes_or_none, reply_of, wire_after, next_length}
+use Rattle.bulk_bus.specs.Bus.{Bus, in_ask, IsOver}
+use Rattle.bulk_bus.specs.Run.{packets_of as packets_sent, unheard_of, bus_after}
+use Rattle.bulk_bus.proofs.Data.{data_is, length-fill_bytes}
+use Rattle.bulk_bus.proofs.Empty.{same_end}
 use Rattle.riding.specs.Riding.{Follows, transfer_of, IsKeenNext, IsInTime, microframe, Walked, asks_wire}
 use Rattle.riding.proofs.Transactions.{Asked, asked, asked_host, asked_got}
 
@@ -119,7 +119,7 @@ keen_started s p q now Working (Settled c o got) busy same keen = (busy ∙ or_t
     or_true true b e = refl
     or_true false b e = absurd (false≢true e)
 
-left_started : (p : Place) (stage : Stage) (hand : Hand) → (started p).registers.reclamation ≡ is_busy p → events_left (started p) stage hand ≡ events_left p stage hand
+pub left_started : (p : Place) (stage : Stage) (hand : Hand) → (started p).registers.reclamation ≡ is_busy p → events_left (started p) stage hand ≡ events_left p stage hand
 left_started p stage hand busy = ap (λ (b : Bool). 16 * (p.walk.left / price) + step_left stage hand + turn_left b hand) (busy_started p (is_busy p) busy)
 
 -- ---- what a transaction of the copy is on the wire

@@ -2,6 +2,8 @@
 -- transactions (EHCI 1.0, 4.8 to 4.10).
 use Rattle.std.specs.Prelude.{◌≡◌, ◌≢◌, ℕ, ◌+◌, ◌*◌, ◌<◌, ◌≤◌, ◌⊎◌, Bool, true, false, List}
 use Rattle.link_words.specs.declared.kinds.Link.TheVariants as links
+use Rattle.word_mem.specs.Memory.{Mem}
+use Rattle.qh_qtd.specs.declared.qtd.Qtd.{Qtd}
 use Rattle.qh_qtd.specs.declared.queue_head.Qh.{Qh}
 use Rattle.async_walk.specs.declared.state.WalkStep.{WalkStep}
 use Rattle.async_walk.specs.declared.state.WalkStep.TheVariants as steps
@@ -18,10 +20,10 @@ use Rattle.script_text.specs.declared.script.Transfer.{Transfer as Moved}
 use Rattle.transfer_steps.specs.Setting.{Setting}
 use Rattle.transfer_steps.specs.Told.{Hand, AtHead, HeadHeld, AtQueue, QueueHeld, Settled, Stage, Resting, Waiting, Working, Transfer, Scene}
 use Rattle.transfer_steps.specs.Events.{IsKeenAt, HasNone, events_left, price}
-use Rattle.bus_world.specs.Stream.{fill_packets}
-use Rattle.bus_world.specs.Wire.{BulkIn, reply_of, wire_after}
-use Rattle.bus_world.specs.Bus.{Bus, IsOver}
-use Rattle.bus_world.specs.Run.{packets_of, unheard_of, bus_after}
+use Rattle.bulk_bus.specs.Stream.{fill_packets}
+use Rattle.bulk_bus.specs.Wire.{BulkIn, reply_of, wire_after}
+use Rattle.bulk_bus.specs.Bus.{Bus, IsOver}
+use Rattle.bulk_bus.specs.Run.{packets_of, unheard_of, bus_after}
 
 -- what the bus tells of the transfer
 abbrev pub transfer_of : Bus → Transfer
@@ -126,3 +128,29 @@ measure_of {c = c} r = events_in c.control.part (walk_place c) r.stage r.hand
 pub record Rode (s : Setting) (t : Moved) (u : ℕ) (measure : ℕ) (kind : HcStep) (d : Content) (v : BulkIn) : Type 0 where
   pub goes : kind ≢ hc.End → (r : Rides s t d v u) × (measure_of r < measure)
   pub ends : kind ≡ hc.End → Rides s t d v (u + 1) × (d.control.part ≡ Over)
+
+-- ---- before the transfer
+
+-- Nothing is published yet: the queue head rests, and each microframe ends where the head of the ring is read.
+abbrev pub IsIdlePart : Part → Hand → Type 0
+IsIdlePart Over hand = hand ≡ AtHead
+IsIdlePart (Periodic first left) hand = (hand ≡ AtHead) × (first ≡ links.End)
+IsIdlePart Asynchronous hand = Unit {0}
+
+-- memory and wire are those, with this queue head and this qTD
+pub record Idles (s : Setting) (x : Transfer) (q : Qh) (t : Qtd) (m : Mem) (w : BulkIn) (c : Content) (v : BulkIn) : Type 0 where
+  pub hand : Hand
+  pub scene : Scene s (walk_place c) Resting hand x
+  pub queue : scene.q ≡ q
+  pub qtd : scene.t ≡ t
+  pub memory : c.memory ≡ m
+  pub wire : v ≡ w
+  pub part : IsIdlePart c.control.part hand
+  pub time : HasTime (walk_place c) c.control.part
+
+abbrev pub idle_measure : {s : Setting} {x : Transfer} {q : Qh} {t : Qtd} {m : Mem} {w : BulkIn} {c : Content} {v : BulkIn} → Idles s x q t m w c v → ℕ
+idle_measure {c = c} i = events_in c.control.part (walk_place c) Resting i.hand
+
+pub record Idled (s : Setting) (x : Transfer) (q : Qh) (t : Qtd) (m : Mem) (w : BulkIn) (measure : ℕ) (kind : HcStep) (d : Content) (v : BulkIn) : Type 0 where
+  pub goes : kind ≢ hc.End → (i : Idles s x q t m w d v) × (idle_measure i < measure)
+  pub ends : kind ≡ hc.End → Idles s x q t m w d v × (d.control.part ≡ Over)
