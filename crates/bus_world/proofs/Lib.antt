@@ -1,13 +1,1 @@
-pub mod Steps
-pub mod Data
-pub mod Refines
-pub mod Measure
-pub mod Falls
-pub mod Moving
-pub mod Carries
-pub mod Ended
-pub mod Leading
-pub mod Pages
-pub mod Opened
-pub mod Scripts
-pub mod Empty
+

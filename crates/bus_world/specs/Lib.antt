@@ -1,11 +1,2 @@
-pub mod Transaction
-pub mod Stream
-pub mod Wire
-pub mod Bus
-pub mod Right
-pub mod Measure
-pub mod Moving
-pub mod Run
-pub mod World
-pub mod Opening
-pub mod Unfinished
+pub mod Underway
+

@@ -1,53 +1,81 @@
-ghost use Rattle.std.specs.Prelude.{◌≡◌, ℕ, ◌+◌, ◌*◌, ◌<◌, ◌≤◌, true, false, length, take, IsSome, OnOk, OnErr};
-ghost use Rattle.word_mem.specs.Runs.{Run};
-ghost use Rattle.host_token.specs.HostToken.{with_host};
-ghost use Rattle.bus_world.specs.Stream.{packet_count};
-ghost use Rattle.bus_world.specs.Wire.{is_unheard, next_length};
-ghost use Rattle.bus_world.specs.Bus.{next, IsOver};
+ghost use Rattle.std.specs.Prelude.{◌≡◌, ℕ, ◌+◌, ◌*◌, ◌%◌, ◌<◌, ◌≤◌, ◌-◌, true, false, length, take, OnOk, OnErr};
 ghost use Rattle.std.specs.Io.KnownBytes.{Appends};
 ghost use Rattle.usb_base.specs.Outside.{AppendsPrefix, Rose};
-ghost use Rattle.bus_world.specs.Run.{pending_at};
-ghost use Rattle.bus_world.specs.Measure.{left_to_do};
-ghost use Rattle.bus_world.specs.Moving.{Transferring, Stands, IsPlaced, received_in, token_in, host_in, bus_in, packets_in, IsSameTransfer, IsWritable, written_by, host_after, got_in, carried};
+ghost use Rattle.word_mem.specs.Access.{IsByController};
+ghost use Rattle.hc_core.specs.Controller.{new_control};
+ghost use Rattle.transfer_steps.specs.Told.{Runs};
+ghost use Rattle.ring_setting.specs.Ring.{IsHeld, setting_of};
+ghost use Rattle.bulk_bus.specs.Run.{pending_at};
+ghost use Rattle.riding.specs.Riding.{Controls};
+ghost use Rattle.bus_world.specs.Underway.{Transferring, IsLendingAll, IsSameTransfer, content_in, token_in, host_in, received_in};
 
-use crate::wire::BulkWire;
-use buffers::{hc_store, load};
-use host_token::{host_of, token_of};
+use bulk_bus::BulkWire;
+use hc_core::{Controller, HcStep};
+use op_registers::Registers;
 use qh_qtd::Token;
+use ring_setting::Ring;
 use script_text::print_pending;
 use std::marker::Model;
-use toggle_error::HostSide;
-use usb_base::{EpName, Failed, Packet, Sink};
-use word_mem::{LentRun, WordMem};
+use usb_base::{EpName, Failed, Sink};
+use word_mem::WordMem;
 
-/// A transfer under way: the wire that it moves on, and where its qTD and its buffer stand in memory.
+/// USBCMD of a controller that runs, with both schedules enabled and an interrupt threshold of 8 microframes (EHCI 1.0, 2.3.1).
+const RUNNING: u32 = 0x0008_0031;
+
+/// A transfer under way: the controller, its registers and the wire that move it, and the ring in memory that it stands in.
 #[derive(Drop)]
 pub struct Running {
     name: EpName,
     wire: BulkWire,
     asked: u16,
-    qtd: LentRun,
-    pages: Vec<u32>,
+    ring: Ring,
+    registers: Registers,
+    controller: Controller,
 }
 
 impl Model for Running {
     ghost Value = { Transferring };
 
-    ghost view = { λ r. record { name = r.name; wire = r.wire; asked = r.asked; qtd = r.qtd; pages = r.pages.items } };
+    ghost view = { λ r. record { name = r.name; wire = r.wire; asked = r.asked; ring = r.ring; registers = r.registers; control = r.controller } };
+}
+
+/// The registers after the opening writes of the driver (EHCI 1.0, 4.1): the frame list and the ring are where these addresses say, and
+/// the controller runs.
+fn open_registers(list: u32, head: u32) -> Registers
+    requires list { list % 4096 ≡ 0 }
+    requires head { head % 32 ≡ 0 }
+    ensures run { result.run ≡ true }
+    ensures enabled { result.async_enable ≡ true }
+    ensures quiet { result.doorbell ≡ false }
+    ensures list { result.periodic_list_base ≡ list }
+    ensures ring { result.async_list_address ≡ head }
+{
+    let mut registers = Registers::reset();
+    registers.driver_write(0x08, 0);
+    registers.driver_write(0x14, list);
+    registers.driver_write(0x18, head);
+    registers.driver_write(0x40, 1);
+    registers.driver_write(0x00, RUNNING);
+    registers
 }
 
 impl Running {
-    /// A transfer of `asked` bytes (at most 20,480) from the endpoint of this wire, whose qTD has the block `qtd` and whose
-    /// buffer has these pages.
-    pub fn new(name: EpName, wire: BulkWire, asked: u16, qtd: LentRun, pages: Vec<u32>) -> Running
-        ensures { result ≡ record { name = name; wire = wire; asked = asked; qtd = qtd; pages = pages.items } }
+    /// A transfer of `asked` bytes (1 to 20,480) from the endpoint of this wire, which stands in this ring and isn't published yet, on a
+    /// controller that runs and stands at the end of a microframe.
+    pub fn new(name: EpName, wire: BulkWire, asked: u16, ring: Ring) -> Running
+        requires list { (32 * ring.list.first) % 4096 ≡ 0 }
+        ensures fixed { (result.name ≡ name) × (result.asked ≡ asked) × (result.wire ≡ wire) × (result.ring ≡ ring) }
+        ensures control { result.control ≡ new_control }
+        ensures runs { (addr ep : ℕ) → Runs (setting_of ring addr ep asked) result.registers }
     {
+        let registers = open_registers(ring.list_base(), ring.head_at());
         Running {
             name,
             wire,
             asked,
-            qtd,
-            pages,
+            ring,
+            registers,
+            controller: Controller::new(),
         }
     }
 
@@ -58,92 +86,12 @@ impl Running {
         self.name
     }
 
-    /// The token of its qTD.
-    pub fn token(&self, mem: &WordMem) -> Token
-        requires { Stands mem.now self.now }
-        ensures { result ≡ token_in mem.now self.now }
-    {
-        Token::from_word(mem.shared_read(&self.qtd, 32 * self.qtd.first() + 8))
-    }
-
-    /// Writes the bytes that were received behind those that the buffer has, and then the token with this host's side.
-    fn write_back(&mut self, mem: &mut WordMem, token: &Token, host: &HostSide, got: &Packet)
-        requires placed { IsPlaced mem.old self.old }
-        requires token { token.now ≡ token_in mem.old self.old }
-        requires fits { self.old.asked + length got.now ≤ 4096 * length self.old.pages + token.now.total }
-        requires range { IsWritable token.now host.now }
-        ensures memory { mem.new ≡ written_by mem.old self.old host.now got.now }
-        ensures same { self.new ≡ self.old }
-    {
-        let had = (self.asked - token.total) as u32;
-        hc_store(mem, self.pages.as_slice(), had, got.as_slice());
-        let at = 32 * self.qtd.first() + 8;
-        mem.shared_write(&self.qtd, at, token_of(token, host).to_word());
-    }
-
-    /// One transaction and its write-back. The transfer is active, and the device has data to send.
-    fn carry(&mut self, mem: &mut WordMem)
-        requires stands { Stands mem.old self.old }
-        requires active { (host_in mem.old self.old).active ≡ true }
-        requires sends { IsSome (next_length self.old.wire) }
-        ensures memory { mem.new ≡ written_by mem.old self.old (host_after mem.old self.old) (got_in mem.old self.old) }
-        ensures wire { self.new ≡ carried mem.old self.old }
-    {
-        let token = self.token(mem);
-        let mut host = host_of(&token, 512);
-        let got = self.wire.ask(&mut host);
-        self.write_back(mem, &token, &host, &got);
-    }
-
-    /// One transaction with its write-back; false, with nothing done, exactly where the transfer isn't active or the device
-    /// has no data left.
-    pub fn step(&mut self, mem: &mut WordMem) -> bool
-        requires { Stands mem.old self.old }
-        ensures stands { Stands mem.new self.new }
+    /// One event of the controller over the ring's words, its registers and the wire.
+    pub fn event(&mut self, mem: &mut WordMem) -> HcStep
+        ensures controls { Controls (content_in self.old mem.old) self.old.wire result (content_in self.new mem.new) self.new.wire }
         ensures same { IsSameTransfer self.old self.new }
-        ensures over { result ≡ false → IsOver (packets_in self.old) (bus_in mem.old self.old) }
-        ensures idle { result ≡ false → (mem.new ≡ mem.old) × (self.new ≡ self.old) }
-        ensures next { result ≡ true → bus_in mem.new self.new ≡ next self.old.wire.addr self.old.wire.num (packets_in self.old) (is_unheard self.old.wire.unheard) (bus_in mem.old self.old) }
-        ensures less { result ≡ true → left_to_do self.old.wire.unheard (packet_count self.old.wire.len) (bus_in mem.new self.new) < left_to_do self.old.wire.unheard (packet_count self.old.wire.len) (bus_in mem.old self.old) }
+        ensures only_lent { IsByController mem.old mem.new }
     {
-        if !self.token(mem).active {
-            return false;
-        }
-        match self.wire.next_len() {
-            None => false,
-            Some(_) => {
-                self.carry(mem);
-                true
-            }
-        }
-    }
-
-    /// Reads the bytes that the buffer has into the front of `into`, which has room for all that were asked for, and answers
-    /// how many they are.
-    pub fn load(&self, mem: &WordMem, into: &mut [u8]) -> u32
-        requires stands { Stands mem.now self.now }
-        requires room { self.now.asked ≤ length into.old }
-        ensures count { result ≡ length (received_in mem.now self.now) }
-        ensures front { take result into.new ≡ received_in mem.now self.now }
-        ensures bound { result ≤ self.now.asked }
-    {
-        let had = self.asked - self.token(mem).total;
-        load(mem, self.pages.as_slice(), 0, &mut into[..had as usize]);
-        had as u32
-    }
-
-    /// Prints that the transfer is pending, where it is active, and else nothing.
-    pub fn print_pending<K: Sink>(&self, mem: &WordMem, sink: &mut K) -> Result<(), Failed>
-        requires { Stands mem.now self.now }
-        ensures ok { OnOk result (Appends (K.written sink.old) (K.written sink.new) (pending_at (host_in mem.now self.now).active self.now.name)) }
-        ensures err { OnErr result (AppendsPrefix (K.written sink.old) (K.written sink.new) (pending_at (host_in mem.now self.now).active self.now.name)) }
-        ensures failed { OnErr result (Rose (K.faults sink.old) (K.faults sink.new)) }
-        ensures counted { K.faults sink.old ≤ K.faults sink.new }
-    {
-        if self.token(mem).active {
-            print_pending(&self.name, 1, sink)
-        } else {
-            Ok(())
-        }
+        self.controller.step(&mut self.registers, mem, &mut self.wire)
     }
 }

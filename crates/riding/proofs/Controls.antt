@@ -98,7 +98,7 @@ pace_begun p q queue stage hand t n u pace = ⊎_elim
 abbrev RideAt : Part → Setting → Moved → Content → BulkIn → ℕ → Type 0
 RideAt part s t c w u = (r : Rides s t c w u) × (c.control.part ≡ part)
 
-pub rode_begin : (s : Setting) (t : Moved) (c d : Content) (w v : BulkIn) (u : ℕ) (r : Rides s t c w u) → c.control.part ≡ Over → Begins begins_wire c w d v → Rode s t u (measure_of r) hc.Begin d v
+pub rode_begin : (s : Setting) (t : Moved) (c d : Content) (w v : BulkIn) (u : ℕ) (r : Rides s t c w u) → c.control.part ≡ Over → Begins begins_wire c w d v → Rode s t u (measure_of r) r.n hc.Begin d v
 rode_begin s t c d w v u r is b =
     let g = scene_registers s (walk_place c) (after_begin c.registers) r.stage r.hand (transfer_of (bus_after t r.n)) (runs_begun s c.registers r.scene.runs) r.scene in
     let found = element_is s c.memory (after_begin c.registers) (element_address (after_begin c.registers)) r.scene.runs.list refl r.scene.stands.list_lent r.scene.stands.list_empty in
@@ -117,7 +117,7 @@ rode_begin s t c d w v u r is b =
     } in
     let was : measure_of r ≡ 300 = ap (λ (k : Part). events_in k (walk_place c) r.stage r.hand) is in
     record {
-      goes = λ on. subst (λ (e : Content). (q : Rides s t e v u) × (measure_of q < measure_of r)) (sym to) (subst (λ (y : BulkIn). (q : Rides s t (begun_content c) y u) × (measure_of q < measure_of r)) (sym b.asked.1) (next, omega (arith, was)));
+      goes = λ on. subst (λ (e : Content). (q : Rides s t e v u) × (measure_of q < measure_of r) × (r.n ≤ q.n)) (sym to) (subst (λ (y : BulkIn). (q : Rides s t (begun_content c) y u) × (measure_of q < measure_of r) × (r.n ≤ q.n)) (sym b.asked.1) (next, omega (arith, was), omega arith));
       ends = λ e. absurd (false≢true (ap is_end e));
     }
 
@@ -152,8 +152,8 @@ keen_begun p left q Working (Settled c o got) keen = absurd keen
 
 -- ---- an event of the walk is an event of the controller
 
-goes_on : (s : Setting) (t : Moved) (d : Content) (v : BulkIn) (u : ℕ) (st : WalkStep) (measure : ℕ) → (w : Walked s t (walk_place d) v u st measure) → st ≢ steps.Ended → d.control.part ≡ Asynchronous → (r : Rides s t d v u) × (measure_of r < measure)
-goes_on s t d v u st measure w on is =
+goes_on : (s : Setting) (t : Moved) (d : Content) (v : BulkIn) (u : ℕ) (st : WalkStep) (measure least : ℕ) → (w : Walked s t (walk_place d) v u st measure least) → st ≢ steps.Ended → d.control.part ≡ Asynchronous → (r : Rides s t d v u) × (measure_of r < measure) × (least ≤ r.n)
+goes_on s t d v u st measure least w on is =
     let g = w.goes on in
     let m : events_in d.control.part (walk_place d) w.stage w.hand ≡ events_left (walk_place d) w.stage w.hand = ap (λ (k : Part). events_in k (walk_place d) w.stage w.hand) is in
     let less = g.1 in
@@ -166,12 +166,12 @@ goes_on s t d v u st measure w on is =
       time = subst (λ (k : Part). HasTime (walk_place d) k) (sym is) w.time;
       follows = w.follows;
       pace = subst (λ (k : Part). IsOver (packets_sent t) (bus_after t w.n) ⊎ IsInTime (walk_place d) k w.scene.q w.stage w.hand w.n u) (sym is) g.0;
-    }, omega (arith, m, less))
+    }, omega (arith, m, less), w.more)
 
-ended_now : (s : Setting) (t : Moved) (d : Content) (v : BulkIn) (u : ℕ) (st : WalkStep) (measure : ℕ) → (w : Walked s t (walk_place d) v u st measure) → st ≡ steps.Ended → d.control.part ≡ Over → Rides s t d v (u + 1)
-ended_now s t d v u st measure w on is =
+ended_now : (s : Setting) (t : Moved) (d : Content) (v : BulkIn) (u : ℕ) (st : WalkStep) (measure least : ℕ) → (w : Walked s t (walk_place d) v u st measure least) → st ≡ steps.Ended → d.control.part ≡ Over → (r : Rides s t d v (u + 1)) × (least ≤ r.n)
+ended_now s t d v u st measure least w on is =
     let e = w.ends on in
-    record {
+    (record {
       n = w.n;
       stage = w.stage;
       hand = w.hand;
@@ -180,7 +180,7 @@ ended_now s t d v u st measure w on is =
       time = subst (λ (k : Part). HasTime (walk_place d) k) (sym is) tt;
       follows = w.follows;
       pace = subst (λ (k : Part). IsOver (packets_sent t) (bus_after t w.n) ⊎ IsInTime (walk_place d) k w.scene.q w.stage w.hand w.n (u + 1)) (sym is) e.1;
-    }
+    }, w.more)
 
 pub no_end : {A : Type 0} (kind : HcStep) → is_end kind ≡ false → kind ≡ hc.End → A
 no_end kind off e = absurd (false≢true (sym off ∙ ap is_end e))
@@ -192,14 +192,14 @@ is_ended_step _ = false
 pub not_ended : (st : WalkStep) → is_ended_step st ≡ false → st ≢ steps.Ended
 not_ended st off = λ e. false≢true (sym off ∙ ap is_ended_step e)
 
-rode_walk : (s : Setting) (t : Moved) (d : Content) (v : BulkIn) (u : ℕ) (st : WalkStep) (measure : ℕ) → Walked s t (walk_place d) v u st measure → d.control.part ≡ part_after st → Rode s t u measure (hc_step st) d v
-rode_walk s t d v u steps.Fetch measure w is = record { goes = λ on. goes_on s t d v u steps.Fetch measure w (not_ended steps.Fetch refl) is; ends = no_end hc.Fetch refl }
-rode_walk s t d v u steps.Advance measure w is = record { goes = λ on. goes_on s t d v u steps.Advance measure w (not_ended steps.Advance refl) is; ends = no_end hc.Advance refl }
-rode_walk s t d v u steps.Transact measure w is = record { goes = λ on. goes_on s t d v u steps.Transact measure w (not_ended steps.Transact refl) is; ends = no_end hc.Transact refl }
-rode_walk s t d v u steps.WriteBack measure w is = record { goes = λ on. goes_on s t d v u steps.WriteBack measure w (not_ended steps.WriteBack refl) is; ends = no_end hc.WriteBack refl }
-rode_walk s t d v u steps.Skip measure w is = record { goes = λ on. goes_on s t d v u steps.Skip measure w (not_ended steps.Skip refl) is; ends = no_end hc.Skip refl }
-rode_walk s t d v u steps.Ended measure w is = record { goes = λ on. absurd (on refl); ends = λ e. (ended_now s t d v u steps.Ended measure w refl is, is) }
-rode_walk s t d v u steps.Fault measure w is = absurd (w.no_fault refl)
+rode_walk : (s : Setting) (t : Moved) (d : Content) (v : BulkIn) (u : ℕ) (st : WalkStep) (measure least : ℕ) → Walked s t (walk_place d) v u st measure least → d.control.part ≡ part_after st → Rode s t u measure least (hc_step st) d v
+rode_walk s t d v u steps.Fetch measure least w is = record { goes = λ on. goes_on s t d v u steps.Fetch measure least w (not_ended steps.Fetch refl) is; ends = no_end hc.Fetch refl }
+rode_walk s t d v u steps.Advance measure least w is = record { goes = λ on. goes_on s t d v u steps.Advance measure least w (not_ended steps.Advance refl) is; ends = no_end hc.Advance refl }
+rode_walk s t d v u steps.Transact measure least w is = record { goes = λ on. goes_on s t d v u steps.Transact measure least w (not_ended steps.Transact refl) is; ends = no_end hc.Transact refl }
+rode_walk s t d v u steps.WriteBack measure least w is = record { goes = λ on. goes_on s t d v u steps.WriteBack measure least w (not_ended steps.WriteBack refl) is; ends = no_end hc.WriteBack refl }
+rode_walk s t d v u steps.Skip measure least w is = record { goes = λ on. goes_on s t d v u steps.Skip measure least w (not_ended steps.Skip refl) is; ends = no_end hc.Skip refl }
+rode_walk s t d v u steps.Ended measure least w is = record { goes = λ on. absurd (on refl); ends = λ e. (let g = ended_now s t d v u steps.Ended measure least w refl is in (g.0, is, g.1)) }
+rode_walk s t d v u steps.Fault measure least w is = absurd (w.no_fault refl)
 
 pub few_events : (p : Place) (stage : Stage) (hand : Hand) → HasNone hand → p.walk.left ≤ microframe → events_left p stage hand ≤ 190
 few_events p stage AtHead none time = let b = turn_small (is_busy p) in omega (arith, time, b)
@@ -217,16 +217,16 @@ few_events p stage (QueueHeld c) none time = absurd none
 few_events p stage (Settled c o got) none time = absurd none
 
 -- an event of the walk over a content whose ride is known
-walked_ride : (s : Setting) (t : Moved) (c d : Content) (w v : BulkIn) (stage : Stage) (hand : Hand) (n u : ℕ) → IsLaidOut s → IsInForm t → s.addr ≡ t.addr → s.ep ≡ t.num → (k : Scene s (walk_place c) stage hand (transfer_of (bus_after t n))) → Follows t w (bus_after t n) → c.control.walk.left ≤ microframe → IsOver (packets_sent t) (bus_after t n) ⊎ IsInTime (walk_place c) Asynchronous k.q stage hand n u → Walks asks_wire c w d v → Rode s t u (events_left (walk_place c) stage hand) (hc_step (walk_step c)) d v
+walked_ride : (s : Setting) (t : Moved) (c d : Content) (w v : BulkIn) (stage : Stage) (hand : Hand) (n u : ℕ) → IsLaidOut s → IsInForm t → s.addr ≡ t.addr → s.ep ≡ t.num → (k : Scene s (walk_place c) stage hand (transfer_of (bus_after t n))) → Follows t w (bus_after t n) → c.control.walk.left ≤ microframe → IsOver (packets_sent t) (bus_after t n) ⊎ IsInTime (walk_place c) Asynchronous k.q stage hand n u → Walks asks_wire c w d v → Rode s t u (events_left (walk_place c) stage hand) n (hc_step (walk_step c)) d v
 walked_ride s t c d w v stage hand n u laid form addr num k f time pace walks =
-    rode_walk s t d v u (walk_step c) (events_left (walk_place c) stage hand)
+    rode_walk s t d v u (walk_step c) (events_left (walk_place c) stage hand) n
     (walk_rides s t (walk_place c) (walk_place d) stage hand n u w v laid form addr num k f time pace walks.walked) walks.part
 
 -- a measure that is larger
-rode_below : (s : Setting) (t : Moved) (u m larger : ℕ) (kind : HcStep) (d : Content) (v : BulkIn) → m ≤ larger → Rode s t u m kind d v → Rode s t u larger kind d v
-rode_below s t u m larger kind d v below r = record { goes = λ on. let g = r.goes on in let less = g.1 in (g.0, omega (arith, less, below)); ends = r.ends }
+rode_below : (s : Setting) (t : Moved) (u m larger least : ℕ) (kind : HcStep) (d : Content) (v : BulkIn) → m ≤ larger → Rode s t u m least kind d v → Rode s t u larger least kind d v
+rode_below s t u m larger least kind d v below r = record { goes = λ on. let g = r.goes on in let less = g.1 in (g.0, omega (arith, less, below), g.2); ends = r.ends }
 
-rode_enter : (s : Setting) (t : Moved) (c d : Content) (w v : BulkIn) (u : ℕ) (first : Link) (left : Ps) → IsLaidOut s → IsInForm t → s.addr ≡ t.addr → s.ep ≡ t.num → (r : Rides s t c w u) → c.control.part ≡ Periodic first left → Walks asks_wire (entered left.0 c) w d v → Rode s t u (measure_of r) (hc_step (walk_step (entered left.0 c))) d v
+rode_enter : (s : Setting) (t : Moved) (c d : Content) (w v : BulkIn) (u : ℕ) (first : Link) (left : Ps) → IsLaidOut s → IsInForm t → s.addr ≡ t.addr → s.ep ≡ t.num → (r : Rides s t c w u) → c.control.part ≡ Periodic first left → Walks asks_wire (entered left.0 c) w d v → Rode s t u (measure_of r) r.n (hc_step (walk_step (entered left.0 c))) d v
 rode_enter s t c d w v u first left laid form addr num r is walks =
     let part = subst (λ (k : Part). IsPart k r.hand) is r.part in
     let time = subst (λ (k : Part). HasTime (walk_place c) k) is r.time in
@@ -238,15 +238,15 @@ rode_enter s t c d w v u first left laid form addr num r is walks =
     (λ (i : IsInTime (walk_place c) (Periodic first left) r.scene.q r.stage r.hand r.n u).
     inr (subst (λ (q : Qh). IsKeenAt (walk_place (entered left.0 c)) q r.stage r.hand) (sym g.1) (keen_begun (walk_place c) left.0 r.scene.q r.stage r.hand i.0), (let a = i.1 in let b = i.2 in omega (arith, a, b)))) pace in
     let few = few_events (walk_place (entered left.0 c)) r.stage r.hand part.0 time in
-    rode_below s t u (events_left (walk_place (entered left.0 c)) r.stage r.hand) (measure_of r) (hc_step (walk_step (entered left.0 c))) d v (omega (arith, few, was))
+    rode_below s t u (events_left (walk_place (entered left.0 c)) r.stage r.hand) (measure_of r) r.n (hc_step (walk_step (entered left.0 c))) d v (omega (arith, few, was))
     (walked_ride s t (entered left.0 c) d w v r.stage r.hand r.n u laid form addr num g.0 r.follows time now walks)
 
-rode_go : (s : Setting) (t : Moved) (c d : Content) (w v : BulkIn) (u : ℕ) → IsLaidOut s → IsInForm t → s.addr ≡ t.addr → s.ep ≡ t.num → (r : Rides s t c w u) → c.control.part ≡ Asynchronous → Walks asks_wire c w d v → Rode s t u (measure_of r) (hc_step (walk_step c)) d v
+rode_go : (s : Setting) (t : Moved) (c d : Content) (w v : BulkIn) (u : ℕ) → IsLaidOut s → IsInForm t → s.addr ≡ t.addr → s.ep ≡ t.num → (r : Rides s t c w u) → c.control.part ≡ Asynchronous → Walks asks_wire c w d v → Rode s t u (measure_of r) r.n (hc_step (walk_step c)) d v
 rode_go s t c d w v u laid form addr num r is walks =
     let time = subst (λ (k : Part). HasTime (walk_place c) k) is r.time in
     let pace = subst (λ (k : Part). IsOver (packets_sent t) (bus_after t r.n) ⊎ IsInTime (walk_place c) k r.scene.q r.stage r.hand r.n u) is r.pace in
     let was : measure_of r ≡ events_left (walk_place c) r.stage r.hand = ap (λ (k : Part). events_in k (walk_place c) r.stage r.hand) is in
-    subst (λ (m : ℕ). Rode s t u m (hc_step (walk_step c)) d v) (sym was)
+    subst (λ (m : ℕ). Rode s t u m r.n (hc_step (walk_step c)) d v) (sym was)
     (walked_ride s t c d w v r.stage r.hand r.n u laid form addr num r.scene r.follows time pace walks)
 
 -- ---- any event
@@ -257,20 +257,20 @@ kind_at c row e = ap (λ (r : Row). kind_of r c) e
 pub row_at : (c d : Content) (w v : BulkIn) (row : Row) → row_of c.registers c.control.part ≡ row → HasRow begins_wire asks_wire (row_of c.registers c.control.part) c w d v → HasRow begins_wire asks_wire row c w d v
 row_at c d w v row e h = subst (λ (r : Row). HasRow begins_wire asks_wire r c w d v) e h
 
-by_part : (s : Setting) (t : Moved) (c d : Content) (w v : BulkIn) (u : ℕ) (kind : HcStep) (part : Part) → IsLaidOut s → IsInForm t → s.addr ≡ t.addr → s.ep ≡ t.num → (r : Rides s t c w u) → c.control.part ≡ part → Controls c w kind d v → Rode s t u (measure_of r) kind d v
+by_part : (s : Setting) (t : Moved) (c d : Content) (w v : BulkIn) (u : ℕ) (kind : HcStep) (part : Part) → IsLaidOut s → IsInForm t → s.addr ≡ t.addr → s.ep ≡ t.num → (r : Rides s t c w u) → c.control.part ≡ part → Controls c w kind d v → Rode s t u (measure_of r) r.n kind d v
 by_part s t c d w v u kind Over laid form addr num r is e =
     let row = over_row c.registers c.control.part r.scene.runs.run is in
-    subst (λ (k : HcStep). Rode s t u (measure_of r) k d v) (sym (e.1 ∙ kind_at c rows.Begin row))
+    subst (λ (k : HcStep). Rode s t u (measure_of r) r.n k d v) (sym (e.1 ∙ kind_at c rows.Begin row))
     (rode_begin s t c d w v u r is (row_at c d w v rows.Begin row e.0))
 by_part s t c d w v u kind (Periodic first left) laid form addr num r is e =
     let ends : first ≡ links.End = (subst (λ (k : Part). IsPart k r.hand) is r.part).1 in
     let row : row_of c.registers c.control.part ≡ rows.Enter (record { 0 = left.0 }) = ap (row_of c.registers) is ∙ enter_is c.registers first left r.scene.runs.run r.scene.runs.enabled ends in
-    subst (λ (k : HcStep). Rode s t u (measure_of r) k d v) (sym (e.1 ∙ kind_at c (rows.Enter (record { 0 = left.0 })) row))
+    subst (λ (k : HcStep). Rode s t u (measure_of r) r.n k d v) (sym (e.1 ∙ kind_at c (rows.Enter (record { 0 = left.0 })) row))
     (rode_enter s t c d w v u first left laid form addr num r is (row_at c d w v (rows.Enter (record { 0 = left.0 })) row e.0))
 by_part s t c d w v u kind Asynchronous laid form addr num r is e =
     let row : row_of c.registers c.control.part ≡ rows.Go = ap (row_of c.registers) is ∙ go_is c.registers r.scene.runs.run r.scene.runs.enabled in
-    subst (λ (k : HcStep). Rode s t u (measure_of r) k d v) (sym (e.1 ∙ kind_at c rows.Go row))
+    subst (λ (k : HcStep). Rode s t u (measure_of r) r.n k d v) (sym (e.1 ∙ kind_at c rows.Go row))
     (rode_go s t c d w v u laid form addr num r is (row_at c d w v rows.Go row e.0))
 
-pub rides_on : (s : Setting) (t : Moved) (c d : Content) (w v : BulkIn) (u : ℕ) (kind : HcStep) → IsLaidOut s → IsInForm t → s.addr ≡ t.addr → s.ep ≡ t.num → (r : Rides s t c w u) → Controls c w kind d v → Rode s t u (measure_of r) kind d v
+pub rides_on : (s : Setting) (t : Moved) (c d : Content) (w v : BulkIn) (u : ℕ) (kind : HcStep) → IsLaidOut s → IsInForm t → s.addr ≡ t.addr → s.ep ≡ t.num → (r : Rides s t c w u) → Controls c w kind d v → Rode s t u (measure_of r) r.n kind d v
 rides_on s t c d w v u kind laid form addr num r e = by_part s t c d w v u kind c.control.part laid form addr num r refl e

@@ -124,6 +124,7 @@ asked_got w host = got_of Pids.In (outcome_of (in_ask w.addr w.num host) 0 false
 -- after the transaction the bus of some number tells the transfer and the wire
 pub record Asked (t : Moved) (n : ℕ) (w : BulkIn) (x : Transfer) : Type 0 where
   pub count : ℕ
+  pub more : n ≤ count
   pub told : transfer_of (bus_after t count) ≡ record { host = asked_host w x.host; received = x.received ++ asked_got w x.host }
   pub follows : Follows t (wire_after w (in_ask w.addr w.num x.host)) (bus_after t count)
   pub counts : IsOver (packets_sent t) (bus_after t count) ⊎ ((count ≡ n + 1) × (outcome_of (in_ask w.addr w.num x.host) 0 false (reply_of w (in_ask w.addr w.num x.host)) x.host ≢ Outcomes.Nak))
@@ -192,6 +193,7 @@ asked_next t n w bytes f active there =
     ∙ wire_moves_the_bus w b.host b.received bytes active found in
     record {
       count = n + 1;
+      more = omega arith;
       told = ap transfer_of now;
       follows = followed t w v b (bus_after t (n + 1)) f (same_after w (in_ask w.addr w.num b.host)) (sym (ap (λ (k : Bus). k.sent) now)) (sym (ap (λ (k : Bus). k.toggle) now)) (inr (sym (ap (λ (k : Bus). k.packet) now)));
       counts = inr (refl, no_nak w b.host b.received bytes found);
@@ -205,6 +207,7 @@ asked_last t n w form f active none =
     let v = wire_after w (in_ask w.addr w.num b.host) in
     record {
       count = n;
+      more = omega arith;
       told = ap (λ (h : HostSide). let x : Transfer = record { host = h; received = b.received } in x) (sym r.settles)
         ∙ ap (λ (bs : List ℕ). let x : Transfer = record { host = asked_host w b.host; received = bs } in x) (sym (append-nil b.received) ∙ ap (λ (bs : List ℕ). b.received ++ bs) (sym r.got));
       follows = followed t w v b b f (same_after w (in_ask w.addr w.num b.host)) (ap (λ (k : BulkIn). k.sent) r.wire ∙ f.sent) (ap (λ (k : BulkIn). k.toggle) r.wire ∙ f.toggle) (inl (inr none));

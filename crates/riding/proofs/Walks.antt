@@ -165,9 +165,10 @@ ended_pace s t p new stage hand n u kind k q true ended on pace = ⊎_elim
     inr (subst (λ (h : Hand). IsKeenNext q.scene.q q.stage_now h) (sym e.2) (subst (λ (g : Stage). IsKeenNext q.scene.q g AtQueue) (sym e.1) now),
     (let late = e.0 in let i = keen.1 in omega (arith, late, i)))) pace
 
-quiet_walk : (s : Setting) (t : Moved) (p new : Place) (stage : Stage) (hand : Hand) (n u : ℕ) (w v : BulkIn) (kind : WalkStep) (k : Scene s p stage hand (transfer_of (bus_after t n))) → Follows t w (bus_after t n) → p.walk.left ≤ microframe → IsOver (packets_sent t) (bus_after t n) ⊎ IsInTime p Asynchronous k.q stage hand n u → Quietly s p new stage hand (transfer_of (bus_after t n)) k kind → v ≡ w → Walked s t new v u kind (events_left p stage hand)
+quiet_walk : (s : Setting) (t : Moved) (p new : Place) (stage : Stage) (hand : Hand) (n u : ℕ) (w v : BulkIn) (kind : WalkStep) (k : Scene s p stage hand (transfer_of (bus_after t n))) → Follows t w (bus_after t n) → p.walk.left ≤ microframe → IsOver (packets_sent t) (bus_after t n) ⊎ IsInTime p Asynchronous k.q stage hand n u → Quietly s p new stage hand (transfer_of (bus_after t n)) k kind → v ≡ w → Walked s t new v u kind (events_left p stage hand) n
 quiet_walk s t p new stage hand n u w v kind k f time pace q same = record {
   n = n;
+  more = omega arith;
   stage = q.stage_now;
   hand = q.hand_now;
   scene = q.scene;
@@ -208,13 +209,14 @@ scene_told : (s : Setting) (p : Place) (hand : Hand) (x y : Transfer) → x ≡ 
 scene_told s p hand x y e k = (record { q = k.q; t = k.t; runs = k.runs; stands = k.stands; at_stage = k.at_stage; in_hand = k.in_hand; told = subst (λ (z : Transfer). IsToldBy s p.memory k.q k.t Working hand z) e k.told }, refl)
 
 -- by the transfer that is told after it
-moving_by : (s : Setting) (t : Moved) (p new : Place) (stage : Stage) (hand : Hand) (n u : ℕ) (w v : BulkIn) (kind : WalkStep) (k : Scene s p stage hand (transfer_of (bus_after t n))) (m : Moves asks_wire s p new stage hand (transfer_of (bus_after t n)) k w v kind) (count : ℕ) (y : Transfer) → moved_on m.copy m.reply (transfer_of (bus_after t n)) ≡ y → y ≡ transfer_of (bus_after t count) → p.walk.left ≤ microframe → IsOver (packets_sent t) (bus_after t n) ⊎ IsInTime p Asynchronous k.q stage hand n u → Follows t v (bus_after t count) → IsOver (packets_sent t) (bus_after t count) ⊎ ((count ≡ n + 1) × (outcome_after m.copy m.reply ≢ Outcomes.Nak)) → Walked s t new v u kind (events_left p stage hand)
+moving_by : (s : Setting) (t : Moved) (p new : Place) (stage : Stage) (hand : Hand) (n u : ℕ) (w v : BulkIn) (kind : WalkStep) (k : Scene s p stage hand (transfer_of (bus_after t n))) (m : Moves asks_wire s p new stage hand (transfer_of (bus_after t n)) k w v kind) (count : ℕ) (y : Transfer) → moved_on m.copy m.reply (transfer_of (bus_after t n)) ≡ y → y ≡ transfer_of (bus_after t count) → p.walk.left ≤ microframe → IsOver (packets_sent t) (bus_after t n) ⊎ IsInTime p Asynchronous k.q stage hand n u → Follows t v (bus_after t count) → IsOver (packets_sent t) (bus_after t count) ⊎ ((count ≡ n + 1) × (outcome_after m.copy m.reply ≢ Outcomes.Nak)) → n ≤ count → Walked s t new v u kind (events_left p stage hand) n
 unfolding is_ended is_fault
-moving_by s t p new stage hand n u w v kind k m count y told is time pace follows counts =
+moving_by s t p new stage hand n u w v kind k m count y told is time pace follows counts more =
     let e : moved_on m.copy m.reply (transfer_of (bus_after t n)) ≡ transfer_of (bus_after t count) = told ∙ is in
     let g = scene_told s new m.hand_now (moved_on m.copy m.reply (transfer_of (bus_after t n))) (transfer_of (bus_after t count)) e m.scene in
     record {
       n = count;
+      more = more;
       stage = Working;
       hand = m.hand_now;
       scene = g.0;
@@ -228,7 +230,7 @@ moving_by s t p new stage hand n u w v kind k m count y told is time pace follow
       ends = λ f. absurd (false≢true (sym (ap is_ended m.kind_is) ∙ ap is_ended f));
     }
 
-moving_walk : (s : Setting) (t : Moved) (p new : Place) (stage : Stage) (hand : Hand) (n u : ℕ) (w v : BulkIn) (kind : WalkStep) (k : Scene s p stage hand (transfer_of (bus_after t n))) → IsInForm t → s.addr ≡ t.addr → s.ep ≡ t.num → Follows t w (bus_after t n) → p.walk.left ≤ microframe → IsOver (packets_sent t) (bus_after t n) ⊎ IsInTime p Asynchronous k.q stage hand n u → Moves asks_wire s p new stage hand (transfer_of (bus_after t n)) k w v kind → Walked s t new v u kind (events_left p stage hand)
+moving_walk : (s : Setting) (t : Moved) (p new : Place) (stage : Stage) (hand : Hand) (n u : ℕ) (w v : BulkIn) (kind : WalkStep) (k : Scene s p stage hand (transfer_of (bus_after t n))) → IsInForm t → s.addr ≡ t.addr → s.ep ≡ t.num → Follows t w (bus_after t n) → p.walk.left ≤ microframe → IsOver (packets_sent t) (bus_after t n) ⊎ IsInTime p Asynchronous k.q stage hand n u → Moves asks_wire s p new stage hand (transfer_of (bus_after t n)) k w v kind → Walked s t new v u kind (events_left p stage hand) n
 unfolding is_ended is_fault
 moving_walk s t p new stage hand n u w v kind k form addr num f time pace m =
     let x : Transfer = transfer_of (bus_after t n) in
@@ -239,9 +241,9 @@ moving_walk s t p new stage hand n u w v kind k form addr num f time pace m =
     let out = outcome_is m.copy x w m.reply ask m.told heard in
     moving_by s t p new stage hand n u w v kind k m a.count (transfer_of (bus_after t a.count)) told refl time pace
     (subst (λ (y : BulkIn). Follows t y (bus_after t a.count)) (sym (m.made.1 ∙ ap (wire_after w) ask)) a.follows)
-    (⊎_elim (λ (over : IsOver (packets_sent t) (bus_after t a.count)). inl over) (λ c. inr (c.0, λ e. c.1 (sym out ∙ e))) a.counts)
+    (⊎_elim (λ (over : IsOver (packets_sent t) (bus_after t a.count)). inl over) (λ c. inr (c.0, λ e. c.1 (sym out ∙ e))) a.counts) a.more
 
-pub walk_rides : (s : Setting) (t : Moved) (p new : Place) (stage : Stage) (hand : Hand) (n u : ℕ) (w v : BulkIn) → IsLaidOut s → IsInForm t → s.addr ≡ t.addr → s.ep ≡ t.num → (k : Scene s p stage hand (transfer_of (bus_after t n))) → Follows t w (bus_after t n) → p.walk.left ≤ microframe → IsOver (packets_sent t) (bus_after t n) ⊎ IsInTime p Asynchronous k.q stage hand n u → Leads asks_wire (event_row p) (at_event p) w new v → Walked s t new v u (step_of (event_row p) (at_event p)) (events_left p stage hand)
+pub walk_rides : (s : Setting) (t : Moved) (p new : Place) (stage : Stage) (hand : Hand) (n u : ℕ) (w v : BulkIn) → IsLaidOut s → IsInForm t → s.addr ≡ t.addr → s.ep ≡ t.num → (k : Scene s p stage hand (transfer_of (bus_after t n))) → Follows t w (bus_after t n) → p.walk.left ≤ microframe → IsOver (packets_sent t) (bus_after t n) ⊎ IsInTime p Asynchronous k.q stage hand n u → Leads asks_wire (event_row p) (at_event p) w new v → Walked s t new v u (step_of (event_row p) (at_event p)) (events_left p stage hand) n
 walk_rides s t p new stage hand n u w v laid form addr num k f time pace lead =
     let g = starts s p stage hand (transfer_of (bus_after t n)) k in
     let kind : WalkStep = step_of (event_row p) (at_event p) in
@@ -250,7 +252,7 @@ walk_rides s t p new stage hand n u w v laid form addr num k f time pace lead =
     (λ (i : IsInTime p Asynchronous k.q stage hand n u). inr (keen_started s p k.q g.scene.q stage hand g.busy g.queue i.0, i.1)) pace in
     let event : Event asks_wire s (started p) new stage hand (transfer_of (bus_after t n)) g.scene w v kind =
     one_event asks_wire s (started p) new stage hand (transfer_of (bus_after t n)) g.scene w v laid refl (λ ask pid bs a. wire_small w v ask pid bs a) lead in
-    subst (λ (m : ℕ). Walked s t new v u kind m) (left_started p stage hand g.busy)
+    subst (λ (m : ℕ). Walked s t new v u kind m n) (left_started p stage hand g.busy)
     (⊎_elim
     (λ (q : Quietly s (started p) new stage hand (transfer_of (bus_after t n)) g.scene kind × (v ≡ w)). quiet_walk s t (started p) new stage hand n u w v kind g.scene f time begun q.0 q.1)
     (λ (m : Moves asks_wire s (started p) new stage hand (transfer_of (bus_after t n)) g.scene w v kind). moving_walk s t (started p) new stage hand n u w v kind g.scene form addr num f time begun m) event)

@@ -91,8 +91,9 @@ pub record Rides (s : Setting) (t : Moved) (c : Content) (w : BulkIn) (u : ℕ) 
 -- ---- an event of the walk
 
 -- after it the bus of some number of transactions is told again
-pub record Walked (s : Setting) (t : Moved) (new : Place) (w : BulkIn) (u : ℕ) (kind : WalkStep) (measure : ℕ) : Type 0 where
+pub record Walked (s : Setting) (t : Moved) (new : Place) (w : BulkIn) (u : ℕ) (kind : WalkStep) (measure least : ℕ) : Type 0 where
   pub n : ℕ
+  pub more : least ≤ n
   pub stage : Stage
   pub hand : Hand
   pub scene : Scene s new stage hand (transfer_of (bus_after t n))
@@ -125,9 +126,9 @@ abbrev pub measure_of : {s : Setting} {t : Moved} {c : Content} {w : BulkIn} {u 
 measure_of {c = c} r = events_in c.control.part (walk_place c) r.stage r.hand
 
 -- after an event the ride goes on: in the same microframe, with fewer events to come, or at the end of it
-pub record Rode (s : Setting) (t : Moved) (u : ℕ) (measure : ℕ) (kind : HcStep) (d : Content) (v : BulkIn) : Type 0 where
-  pub goes : kind ≢ hc.End → (r : Rides s t d v u) × (measure_of r < measure)
-  pub ends : kind ≡ hc.End → Rides s t d v (u + 1) × (d.control.part ≡ Over)
+pub record Rode (s : Setting) (t : Moved) (u : ℕ) (measure least : ℕ) (kind : HcStep) (d : Content) (v : BulkIn) : Type 0 where
+  pub goes : kind ≢ hc.End → (r : Rides s t d v u) × (measure_of r < measure) × (least ≤ r.n)
+  pub ends : kind ≡ hc.End → (r : Rides s t d v (u + 1)) × (d.control.part ≡ Over) × (least ≤ r.n)
 
 -- ---- before the transfer
 
