@@ -1,2 +1,2 @@
 pub mod Underway
-
+pub mod World

@@ -1,5 +1,5 @@
 -- A transfer under way: the controller, its registers and the wire that move it, and the ring in memory that it stands in.
-use Rattle.std.specs.Prelude.{◌≡◌, ℕ, ◌+◌, ◌-◌, ◌*◌, ◌<◌, ◌≤◌, ◌⊎◌, Bool, true, false, List, take, length, Option, None, Some}
+use Rattle.std.specs.Prelude.{◌≡◌, ℕ, ◌-◌, ◌*◌, ◌≤◌, ◌⊎◌, Bool, true, false, List, take, length, Option, None, Some}
 use Rattle.usb_base.specs.declared.endpoints.EpName.{EpName}
 use Rattle.usb_base.specs.declared.reports.Report.{Report}
 use Rattle.word_mem.specs.Memory.{Mem}
@@ -12,13 +12,12 @@ use Rattle.hc_core.specs.declared.controller.Part.TheVariants.{Over}
 use Rattle.hc_core.specs.Controller.{Control, Content, content, new_control}
 use Rattle.script_text.specs.Grammar.{IsInForm}
 use Rattle.script_text.specs.declared.script.Transfer.{Transfer as Moved}
-use Rattle.transfer_steps.specs.Setting.{Setting, IsLaidOut}
+use Rattle.transfer_steps.specs.Setting.{Setting, IsLaidOut, dummy_qtd}
 use Rattle.transfer_steps.specs.Told.{Runs, Transfer}
 use Rattle.ring_setting.specs.Ring.{RingRuns, setting_of, opening_queue, IsHeld, IsOpened, token_in as ring_token}
 use Rattle.bulk_bus.specs.Wire.{BulkIn}
-use Rattle.bulk_bus.specs.Bus.{Bus}
-use Rattle.bulk_bus.specs.Run.{name_of, what_of, report_at, wire_of, bus_after}
-use Rattle.riding.specs.Riding.{Rides, transfer_of}
+use Rattle.bulk_bus.specs.Run.{name_of, what_of, wire_of, bus_after}
+use Rattle.riding.specs.Riding.{Rides, Idles, transfer_of}
 
 pub record Transferring : Type 0 where
   pub name : EpName  -- the endpoint
@@ -91,7 +90,38 @@ pub record Tracks (t : Moved) (m : Mem) (v : Transferring) (report : Option Repo
   pub ride : Rides (setting_in v) t (content_in v m) v.wire u
   pub reported : IsReported (transfer_of (bus_after t ride.n)) v.name report store
 
--- between two microframes it is reported exactly where it isn't active
-pub record IsBetween (t : Moved) (m : Mem) (v : Transferring) (report : Option Report) (store : List ℕ) (u : ℕ) : Type 0 where
+-- what the words report of it: nothing while the qTD is active
+abbrev pub by_words : Mem → Transferring → Transfer
+by_words m v = record { host = host_in m v; received = received_in m v }
+
+abbrev pub report_by : Bool → EpName → Transfer → Option Report
+report_by true name x = None
+report_by false name x = Some (line_of name x)
+
+abbrev pub words_report : Mem → Transferring → Option Report
+words_report m v = report_by (token_in m v).active v.name (by_words m v)
+
+-- the report is as the transfer tells it now
+pub record IsFinal (x : Transfer) (name : EpName) (line : Option Report) (store : List ℕ) : Type 0 where
+  pub report : line ≡ report_by x.host.active name x
+  pub stored : HasStored x.host.active x.received store
+
+-- ---- before the transfer is published
+
+-- what the words of a ring tell before: no transfer
+abbrev pub no_transfer : Transferring → Mem → Transfer
+no_transfer v m = record { host = host_at dummy_qtd.token 512; received = bytes_at m v.ring.pages 0 (v.asked - 0) }
+
+-- The ring of a script as it was opened in memory m; the controller that walks it changed nothing of it.
+pub record IsIdling (t : Moved) (m n : Mem) (v : Transferring) : Type 0 where
+  pub form : IsInForm t
+  pub name : v.name ≡ name_of t
+  pub asked : v.asked ≡ t.get
+  pub opened : IsOpened m v.ring v.name.addr v.name.num v.asked (opening_queue (setting_in v))
+  pub idle : Idles (setting_in v) (no_transfer v m) (opening_queue (setting_in v)) dummy_qtd m (wire_of t) (content_in v n) v.wire
+
+-- between two microframes, and harvested
+pub record IsNext (t : Moved) (m : Mem) (v : Transferring) (report : Option Report) (store : List ℕ) (u : ℕ) : Type 0 where
   pub tracks : Tracks t m v report store u
   pub over : v.control.part ≡ Over
+  pub harvested : report ≡ None → (token_in m v).active ≡ true

@@ -3,11 +3,14 @@ ghost use Rattle.std.specs.Io.KnownBytes.{Appends};
 ghost use Rattle.usb_base.specs.Outside.{AppendsPrefix, Rose};
 ghost use Rattle.word_mem.specs.Access.{IsByController};
 ghost use Rattle.hc_core.specs.Controller.{new_control};
-ghost use Rattle.transfer_steps.specs.Told.{Runs};
-ghost use Rattle.ring_setting.specs.Ring.{IsHeld, setting_of};
+ghost use Rattle.transfer_steps.specs.Told.{Runs, Waits};
+ghost use Rattle.qh_qtd.specs.declared.qtd.Qtd.{Qtd};
+ghost use Rattle.qh_qtd.specs.declared.queue_head.Qh.{Qh};
+ghost use Rattle.transfer_steps.specs.Setting.{IsLaidOut, Stands};
+ghost use Rattle.ring_setting.specs.Ring.{IsHeld, CanTake, new_qtd, setting_of};
 ghost use Rattle.bulk_bus.specs.Run.{pending_at};
 ghost use Rattle.riding.specs.Riding.{Controls};
-ghost use Rattle.bus_world.specs.Underway.{Transferring, IsLendingAll, IsSameTransfer, content_in, token_in, host_in, received_in};
+ghost use Rattle.bus_world.specs.Underway.{Transferring, IsLendingAll, IsSameTransfer, content_in, setting_in, token_in, received_in};
 
 use bulk_bus::BulkWire;
 use hc_core::{Controller, HcStep};
@@ -93,5 +96,53 @@ impl Running {
         ensures only_lent { IsByController mem.old mem.new }
     {
         self.controller.step(&mut self.registers, mem, &mut self.wire)
+    }
+
+    /// Publishes the transfer: its qTD is written, its token with Active last (EHCI 1.0, 4.10.2).
+    pub fn publish(&self, mem: &mut WordMem)
+        requires held { IsHeld mem.old self.now.ring }
+        requires few { self.now.asked ≤ 20480 }
+        ensures stands { (q : Qh) (t : Qtd) → IsLaidOut (setting_in self.now) → Stands (setting_in self.now) mem.old q t → Stands (setting_in self.now) mem.new q (new_qtd (setting_in self.now)) }
+        ensures waits { (q : Qh) → CanTake (setting_in self.now) q → Waits (setting_in self.now) q (new_qtd (setting_in self.now)) }
+        ensures held { IsHeld mem.new self.now.ring }
+    {
+        self.ring.publish(mem, self.asked);
+    }
+
+    /// The token of its qTD.
+    pub fn token(&self, mem: &WordMem) -> Token
+        requires { IsHeld mem.now self.now.ring }
+        ensures { result ≡ token_in mem.now self.now }
+    {
+        self.ring.token(mem)
+    }
+
+    /// Reads the bytes that the buffer has into the front of `into`, which has room for all that were asked for, and answers how many
+    /// they are.
+    pub fn load(&self, mem: &WordMem, into: &mut [u8]) -> u32
+        requires lending { IsLendingAll mem.now self.now }
+        requires room { self.now.asked ≤ length into.old }
+        ensures count { result ≡ length (received_in mem.now self.now) }
+        ensures front { take result into.new ≡ received_in mem.now self.now }
+        ensures bound { result ≤ self.now.asked }
+    {
+        let had = self.asked.saturating_sub(self.token(mem).total) as u32;
+        self.ring.load(mem, had, into);
+        had
+    }
+
+    /// Prints that the transfer is pending, where its qTD is active, and else nothing.
+    pub fn print_pending<K: Sink>(&self, mem: &WordMem, sink: &mut K) -> Result<(), Failed>
+        requires { IsHeld mem.now self.now.ring }
+        ensures ok { OnOk result (Appends (K.written sink.old) (K.written sink.new) (pending_at (token_in mem.now self.now).active self.now.name)) }
+        ensures err { OnErr result (AppendsPrefix (K.written sink.old) (K.written sink.new) (pending_at (token_in mem.now self.now).active self.now.name)) }
+        ensures failed { OnErr result (Rose (K.faults sink.old) (K.faults sink.new)) }
+        ensures counted { K.faults sink.old ≤ K.faults sink.new }
+    {
+        if self.token(mem).active {
+            print_pending(&self.name, 1, sink)
+        } else {
+            Ok(())
+        }
     }
 }

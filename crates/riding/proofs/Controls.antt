@@ -1,8 +1,8 @@
 -- An event of the controller, from content and wire to the bus.
-use Rattle.std.proofs.Common.{◌≡◌, ◌≢◌, ℕ, ◌+◌, ◌-◌, ◌*◌, ◌/◌, ◌%◌, ◌<◌, ◌≤◌, ◌⊎◌, Bool, true, false, not, ◌&&◌, ◌||◌, if◌then◌else◌, List, [], ap, refl, sym, subst, ◌∙◌, ⊎_elim, inl, inr, arith}
+use Rattle.std.proofs.Common.{◌≡◌, ◌≢◌, ℕ, ◌+◌, ◌*◌, ◌/◌, ◌%◌, ◌<◌, ◌≤◌, ◌⊎◌, Bool, true, false, not, ◌&&◌, ◌||◌, if◌then◌else◌, ap, refl, sym, subst, ◌∙◌, ⊎_elim, inl, inr, arith}
 use Rattle.std.proofs.lemmas.Bool.{false≢true}
 use Rattle.usb_base.specs.declared.numbers.Ps.{Ps}
-use Rattle.word_mem.specs.Memory.{Mem, reaches, refused, word_at}
+use Rattle.word_mem.specs.Memory.{Mem, reaches, word_at}
 use Rattle.link_words.specs.declared.kinds.Link.{Link}
 use Rattle.link_words.specs.declared.kinds.Link.TheVariants as links
 use Rattle.link_words.specs.Links.{link_read}
@@ -11,21 +11,20 @@ use Rattle.op_registers.specs.RegisterFile.{RegisterFile}
 use Rattle.op_registers.specs.Events.{after_begin}
 use Rattle.async_walk.specs.declared.state.WalkStep.{WalkStep}
 use Rattle.async_walk.specs.declared.state.WalkStep.TheVariants as steps
-use Rattle.async_walk.specs.Walk.{Walk, begun, stopped}
-use Rattle.async_walk.specs.Queue.{may_work}
-use Rattle.async_walk.specs.Rows.{Place, step_of, Leads, event_row, at_event}
+use Rattle.async_walk.specs.Walk.{Walk, begun}
+use Rattle.async_walk.specs.Rows.{Place}
 use Rattle.hc_core.specs.declared.controller.HcStep.{HcStep}
 use Rattle.hc_core.specs.declared.controller.HcStep.TheVariants as hc
 use Rattle.hc_core.specs.declared.controller.Part.{Part}
 use Rattle.hc_core.specs.declared.controller.Part.TheVariants.{Over, Periodic, Asynchronous}
 use Rattle.hc_core.specs.declared.controller.Row.{Row}
 use Rattle.hc_core.specs.declared.controller.Row.TheVariants as rows
-use Rattle.hc_core.specs.Controller.{Control, Content, walk_place, row_of, part_row, enter_row, ring_row, names_nothing, kind_of, HasRow, Begins, Walks, began, begun_at, entered, element_address, time_of, hc_step, part_after, walk_step}
+use Rattle.hc_core.specs.Controller.{Content, walk_place, row_of, part_row, enter_row, ring_row, names_nothing, kind_of, HasRow, Begins, Walks, began, begun_at, entered, element_address, hc_step, part_after, walk_step}
 use Rattle.script_text.specs.Grammar.{IsInForm}
 use Rattle.script_text.specs.declared.script.Transfer.{Transfer as Moved}
-use Rattle.transfer_steps.specs.Setting.{Setting, IsLaidOut, Stands}
+use Rattle.transfer_steps.specs.Setting.{Setting, IsLaidOut}
 use Rattle.transfer_steps.specs.Told.{Hand, AtHead, HeadHeld, AtQueue, QueueHeld, Settled, Stage, Resting, Waiting, Working, Transfer, IsInHand, Runs, Scene}
-use Rattle.transfer_steps.specs.Events.{price, is_busy, IsKeenAt, HasNone, events_left, step_left, turn_left}
+use Rattle.transfer_steps.specs.Events.{is_busy, IsKeenAt, HasNone, events_left}
 use Rattle.bulk_bus.specs.Wire.{BulkIn}
 use Rattle.bulk_bus.specs.Bus.{IsOver}
 use Rattle.bulk_bus.specs.Run.{packets_of as packets_sent, bus_after}

@@ -1,8 +1,8 @@
 -- Events of the controller before the transfer is published: they change nothing but where the walk is.
-use Rattle.std.proofs.Common.{◌≡◌, ◌≢◌, ℕ, ◌+◌, ◌*◌, ◌/◌, ◌<◌, ◌≤◌, ◌⊎◌, Bool, true, false, List, [], ap, refl, sym, subst, ◌∙◌, ⊎_elim, inl, inr, arith}
+use Rattle.std.proofs.Common.{◌≡◌, ◌≢◌, ℕ, ◌<◌, ◌≤◌, Bool, true, false, ap, refl, sym, subst, ◌∙◌, ⊎_elim, arith}
 use Rattle.std.proofs.lemmas.Bool.{false≢true}
 use Rattle.usb_base.specs.declared.numbers.Ps.{Ps}
-use Rattle.word_mem.specs.Memory.{Mem, reaches, word_at}
+use Rattle.word_mem.specs.Memory.{Mem}
 use Rattle.link_words.specs.declared.kinds.Link.{Link}
 use Rattle.link_words.specs.declared.kinds.Link.TheVariants as links
 use Rattle.qh_qtd.specs.declared.qtd.Qtd.{Qtd}
@@ -16,7 +16,7 @@ use Rattle.hc_core.specs.declared.controller.HcStep.TheVariants as hc
 use Rattle.hc_core.specs.declared.controller.Part.{Part}
 use Rattle.hc_core.specs.declared.controller.Part.TheVariants.{Over, Periodic, Asynchronous}
 use Rattle.hc_core.specs.declared.controller.Row.TheVariants as rows
-use Rattle.hc_core.specs.Controller.{Content, walk_place, row_of, kind_of, Begins, Walks, entered, element_address, hc_step, part_after, walk_step}
+use Rattle.hc_core.specs.Controller.{Content, walk_place, row_of, Begins, Walks, entered, element_address, hc_step, part_after, walk_step}
 use Rattle.transfer_steps.specs.Setting.{Setting, IsLaidOut}
 use Rattle.transfer_steps.specs.Told.{Hand, AtHead, Stage, Resting, Waiting, Working, Transfer, Scene}
 use Rattle.transfer_steps.specs.Events.{HasNone, events_left, Quietly, Moves}
@@ -25,7 +25,7 @@ use Rattle.transfer_steps.proofs.Stepping.{Event, one_event}
 use Rattle.bulk_bus.specs.Wire.{BulkIn}
 use Rattle.riding.specs.Riding.{HasTime, microframe, begins_wire, asks_wire, Controls, events_in, IsIdlePart, Idles, idle_measure, Idled}
 use Rattle.riding.proofs.Walks.{wire_small, left_started}
-use Rattle.riding.proofs.Controls.{over_row, enter_is, go_is, element_is, began_is, begun_content, runs_begun, scene_registers, scene_begun, few_events, kind_at, row_at, no_end, not_ended, is_end, is_ended_step}
+use Rattle.riding.proofs.Controls.{over_row, enter_is, go_is, element_is, began_is, begun_content, runs_begun, scene_registers, scene_begun, few_events, kind_at, row_at, no_end, not_ended}
 
 abbrev is_resting : Stage → Bool
 is_resting Resting = true

@@ -1,5 +1,5 @@
 -- A transaction of the controller is the next one of the bus, or it is refused by a device that has nothing left.
-use Rattle.std.proofs.Common.{◌≡◌, ◌≢◌, ℕ, suc, ◌+◌, ◌*◌, ◌<◌, ◌≤◌, ◌⊎◌, Bool, true, false, not, ◌&&◌, nat_le, List, [], ◌++◌, length, slice_get, Option, Some, None, ap, refl, sym, subst, ◌∙◌, ⊎_elim, inl, inr, arith, if◌then◌else◌}
+use Rattle.std.proofs.Common.{◌≡◌, ◌≢◌, ℕ, ◌+◌, ◌≤◌, ◌⊎◌, Bool, true, false, nat_le, List, ◌++◌, length, slice_get, Option, Some, None, ap, refl, sym, ◌∙◌, ⊎_elim, inl, inr, arith, if◌then◌else◌}
 use Rattle.std.proofs.lemmas.Bool.{false≢true}
 use Rattle.std.proofs.lemmas.List.{append-nil}
 use Rattle.std.proofs.lemmas.Option.{none-some}
@@ -11,10 +11,9 @@ use Rattle.usb_base.specs.declared.packets.Reply.TheVariants.{Silent, Bytes, Han
 use Rattle.toggle_error.specs.declared.host.HostSide.{HostSide}
 use Rattle.toggle_error.specs.declared.host.Outcome.{Outcome}
 use Rattle.toggle_error.specs.declared.host.Outcome.TheVariants as Outcomes
-use Rattle.toggle_error.specs.declared.rows.Heard.{Heard}
 use Rattle.toggle_error.specs.declared.rows.Heard.TheVariants as Heards
 use Rattle.toggle_error.specs.declared.rows.Token.TheVariants.{In}
-use Rattle.toggle_error.specs.Columns.{expected_pid, limit_of, fitting, heard_data, heard_of}
+use Rattle.toggle_error.specs.Columns.{expected_pid, limit_of, fitting, heard_data}
 use Rattle.toggle_error.specs.PlainRows.{plain_row, plain_outcome, is_last_error, error_outcome}
 use Rattle.toggle_error.specs.Settle.{outcome_of, settled}
 use Rattle.transactions.specs.Calls.{got_of}
@@ -25,10 +24,9 @@ use Rattle.bulk_bus.specs.declared.rows.InRow.{InRow}
 use Rattle.bulk_bus.specs.Stream.{fill_packets}
 use Rattle.bulk_bus.specs.Transaction.{in_row, host_hears}
 use Rattle.bulk_bus.specs.Wire.{BulkIn, is_unheard, data_of, reply_of, wire_after, wire_row, suits, moved_on, later}
-use Rattle.bulk_bus.specs.Bus.{Bus, bus_of, in_ask, next, after, IsOver, row_of, is_too_long, opening}
+use Rattle.bulk_bus.specs.Bus.{Bus, bus_of, in_ask, next, IsOver, is_too_long, opening}
 use Rattle.bulk_bus.specs.Run.{packets_of as packets_sent, unheard_of, bus_after}
-use Rattle.bulk_bus.specs.Unfinished.{IsRefused}
-use Rattle.bulk_bus.proofs.Refines.{wire_moves_the_bus, reply_is, after_is}
+use Rattle.bulk_bus.proofs.Refines.{wire_moves_the_bus, reply_is}
 use Rattle.bulk_bus.proofs.Empty.{after_sum, refused_at_end}
 use Rattle.riding.specs.Riding.{Follows, transfer_of}
 

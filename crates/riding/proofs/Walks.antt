@@ -1,9 +1,8 @@
 -- An event of the walk, from the words to the bus.
-use Rattle.std.proofs.Common.{◌≡◌, ◌≢◌, ℕ, ◌+◌, ◌-◌, ◌*◌, ◌/◌, ◌%◌, ◌<◌, ◌≤◌, ◌⊎◌, Bool, true, false, ◌||◌, if◌then◌else◌, List, [], ◌++◌, length, get_or, slice_index, Option, Some, None, ap, refl, sym, subst, ◌∙◌, ⊎_elim, inl, inr, arith}
+use Rattle.std.proofs.Common.{◌≡◌, ◌≢◌, ℕ, ◌+◌, ◌*◌, ◌/◌, ◌%◌, ◌<◌, ◌≤◌, ◌⊎◌, Bool, true, false, ◌||◌, if◌then◌else◌, List, [], ◌++◌, slice_index, Option, Some, None, ap, refl, sym, subst, ◌∙◌, ⊎_elim, inl, inr, arith}
 use Rattle.std.proofs.lemmas.Bool.{false≢true, cases_lt}
 use Rattle.std.proofs.lemmas.List.{get_or_past}
 use Rattle.std.proofs.lemmas.List.FromFn.{get_or-map-range_with_len}
-use Rattle.std.proofs.lemmas.Option.{same_Some, none-some}
 use Rattle.std.specs.Option.{option_map}
 use Rattle.usb_base.specs.declared.packets.Ask.{Ask}
 use Rattle.usb_base.specs.declared.packets.Pid.{Pid}
@@ -21,13 +20,13 @@ use Rattle.async_walk.specs.declared.state.ReloadMode.TheVariants.{WaitHead, Rel
 use Rattle.async_walk.specs.declared.state.WalkStep.{WalkStep}
 use Rattle.async_walk.specs.declared.state.WalkStep.TheVariants as steps
 use Rattle.async_walk.specs.Queue.{may_work, pipe_of, host_in}
-use Rattle.async_walk.specs.Rows.{Place, started, row_of, was_read, step_of, Leads, event_row, at_event}
+use Rattle.async_walk.specs.Rows.{Place, started, step_of, Leads, event_row, at_event}
 use Rattle.script_text.specs.Grammar.{IsInForm}
 use Rattle.script_text.specs.declared.script.Transfer.{Transfer as Moved}
-use Rattle.hc_core.specs.declared.controller.Part.TheVariants.{Over, Periodic, Asynchronous}
+use Rattle.hc_core.specs.declared.controller.Part.TheVariants.{Over, Asynchronous}
 use Rattle.transfer_steps.specs.Setting.{Setting, IsLaidOut}
-use Rattle.transfer_steps.specs.Told.{Hand, AtHead, HeadHeld, AtQueue, QueueHeld, Settled, Stage, Resting, Waiting, Working, Transfer, IsToldBy, Scene, Goes, host_after, outcome_after, got_after, moved_on}
-use Rattle.transfer_steps.specs.Events.{price, is_busy, IsKeenAt, IsKeen, HasNone, events_left, step_left, turn_left, Quietly, Moves}
+use Rattle.transfer_steps.specs.Told.{Hand, AtHead, HeadHeld, AtQueue, QueueHeld, Settled, Stage, Resting, Waiting, Working, Transfer, IsToldBy, Scene, outcome_after, moved_on}
+use Rattle.transfer_steps.specs.Events.{price, is_busy, IsKeenAt, events_left, step_left, turn_left, Quietly, Moves}
 use Rattle.transfer_steps.proofs.Walking.{starts}
 use Rattle.transfer_steps.proofs.Stepping.{Event, one_event}
 use Rattle.bulk_bus.specs.declared.rows.InRow.{InRow}
@@ -35,8 +34,8 @@ use Rattle.bulk_bus.specs.declared.rows.InRow.TheVariants.{TokenUnheard, AnswerU
 use Rattle.bulk_bus.specs.Stream.{fill_bytes}
 use Rattle.bulk_bus.specs.Transaction.{host_hears}
 use Rattle.bulk_bus.specs.Wire.{BulkIn, suits, data_of, wire_row, bytes_or_none, reply_of, wire_after, next_length}
-use Rattle.bulk_bus.specs.Bus.{Bus, in_ask, IsOver}
-use Rattle.bulk_bus.specs.Run.{packets_of as packets_sent, unheard_of, bus_after}
+use Rattle.bulk_bus.specs.Bus.{in_ask, IsOver}
+use Rattle.bulk_bus.specs.Run.{packets_of as packets_sent, bus_after}
 use Rattle.bulk_bus.proofs.Data.{data_is, length-fill_bytes}
 use Rattle.bulk_bus.proofs.Empty.{same_end}
 use Rattle.riding.specs.Riding.{Follows, transfer_of, IsKeenNext, IsInTime, microframe, Walked, asks_wire}

@@ -1,6 +1,6 @@
 -- A bulk IN transfer that the controller moves: after each of its events words, copy in hand and wire tell the bus of some number of
 -- transactions (EHCI 1.0, 4.8 to 4.10).
-use Rattle.std.specs.Prelude.{◌≡◌, ◌≢◌, ℕ, ◌+◌, ◌*◌, ◌<◌, ◌≤◌, ◌⊎◌, Bool, true, false, List}
+use Rattle.std.specs.Prelude.{◌≡◌, ◌≢◌, ℕ, ◌+◌, ◌*◌, ◌<◌, ◌≤◌, ◌⊎◌, Bool, true, List}
 use Rattle.link_words.specs.declared.kinds.Link.TheVariants as links
 use Rattle.word_mem.specs.Memory.{Mem}
 use Rattle.qh_qtd.specs.declared.qtd.Qtd.{Qtd}
@@ -13,7 +13,7 @@ use Rattle.hc_core.specs.declared.controller.Part.{Part}
 use Rattle.hc_core.specs.declared.controller.Part.TheVariants.{Over, Periodic, Asynchronous}
 use Rattle.hc_core.specs.declared.controller.HcStep.{HcStep}
 use Rattle.hc_core.specs.declared.controller.HcStep.TheVariants as hc
-use Rattle.hc_core.specs.Controller.{Control, Content, walk_place, row_of, kind_of, HasRow}
+use Rattle.hc_core.specs.Controller.{Content, walk_place, row_of, kind_of, HasRow}
 use Rattle.usb_base.specs.declared.packets.Ask.{Ask}
 use Rattle.usb_base.specs.declared.packets.Reply.{Reply}
 use Rattle.script_text.specs.declared.script.Transfer.{Transfer as Moved}

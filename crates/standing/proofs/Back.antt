@@ -1,10 +1,10 @@
 -- A write-back of which nothing is refused, and what it leaves.
-use Rattle.std.proofs.Common.{◌≡◌, ◌≢◌, ℕ, ◌+◌, ◌-◌, ◌*◌, ◌/◌, ◌%◌, ◌<◌, ◌≤◌, ◌⊎◌, List, [], ◌∷◌, ◌++◌, Bool, true, false, ◌&&◌, nat_le, if◌then◌else◌, Option, Some, None, length, take, drop, get_or, arith, ap, refl, sym, subst, ◌∙◌, ⊎_elim, inl, inr}
+use Rattle.std.proofs.Common.{◌≡◌, ℕ, ◌+◌, ◌-◌, ◌%◌, ◌<◌, ◌≤◌, ◌⊎◌, List, Bool, true, false, ◌&&◌, nat_le, if◌then◌else◌, length, take, arith, ap, refl, sym, subst, ◌∙◌, ⊎_elim, inl, inr}
 use Rattle.std.proofs.lemmas.Bool.{le-leb}
 use Rattle.std.proofs.lemmas.List.{take_all}
 use Rattle.word_mem.specs.Memory.{Mem, IsShaped, word_at, reaches}
 use Rattle.word_mem.proofs.Frames.{shaped_same}
-use Rattle.buffers.specs.Bytes.{place, with_bytes, bytes_at, stored, all_reached, AreReached}
+use Rattle.buffers.specs.Bytes.{place, bytes_at, stored, all_reached, AreReached}
 use Rattle.buffers.proofs.Frames.{IsShaped-with_bytes, bytes_at_same}
 use Rattle.buffers.proofs.Reach.{stored_all, all_reached_if}
 use Rattle.qh_qtd.specs.declared.qtd.Qtd.{Qtd}
@@ -12,13 +12,13 @@ use Rattle.qh_qtd.specs.declared.queue_head.Qh.{Qh}
 use Rattle.qh_qtd.specs.Token.{token_rows}
 use Rattle.qh_qtd.specs.QueueHead.{qh_words, IsQhInRange}
 use Rattle.link_words.specs.Layout.{IsWordInRange}
-use Rattle.queue_words.specs.Structures.{reaches_queue_head, overlay_words, overlay_written, token_written}
+use Rattle.queue_words.specs.Structures.{overlay_words, overlay_written, token_written}
 use Rattle.queue_words.proofs.WriteBack.{overlay_outside, overlay_states, overlay_size, token_outside, token_states, token_size}
 use Rattle.async_walk.specs.Queue.{buffer_size, pages_of, place_of, moved}
 use Rattle.async_walk.specs.WriteBack.{Writing, then_write, placed, bytes_written, overlay_after, overlay_back, token_back, written_back}
 use Rattle.async_walk.proofs.Ranges.{moved_in_range}
-use Rattle.standing.specs.Standing.{QueueStands, QtdStands, AreApart, AreBytesApart, token_after, bytes_back, back_written, qtd_after, CanBeWritten}
-use Rattle.standing.proofs.Frames.{queue_stays, qtd_stays, queue_beside_bytes, qtd_beside_bytes, overlay_stands, queue_beside_overlay, qtd_beside_overlay, queue_beside_token, qtd_beside_token, token_stands, nine_words}
+use Rattle.standing.specs.Standing.{QueueStands, QtdStands, AreBytesApart, token_after, bytes_back, back_written, qtd_after, CanBeWritten}
+use Rattle.standing.proofs.Frames.{queue_beside_bytes, qtd_beside_bytes, overlay_stands, qtd_beside_overlay, queue_beside_token, token_stands, nine_words}
 
 -- ---- moved bytes leave the first three words
 

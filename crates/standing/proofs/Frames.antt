@@ -1,5 +1,5 @@
 -- What stands is read, and what writes leave of it.
-use Rattle.std.proofs.Common.{◌≡◌, ◌≢◌, ℕ, ◌+◌, ◌*◌, ◌/◌, ◌%◌, ◌<◌, ◌≤◌, ◌⊎◌, List, [], ◌∷◌, ◌++◌, Bool, true, false, ◌&&◌, if◌then◌else◌, Option, Some, None, length, take, drop, get_or, set, arith, ap, refl, sym, subst, ◌∙◌, ⊎_elim, inl, inr, zero, suc, zero-add, suc-add}
+use Rattle.std.proofs.Common.{◌≡◌, ℕ, ◌+◌, ◌*◌, ◌/◌, ◌%◌, ◌<◌, ◌≤◌, List, ◌∷◌, ◌++◌, Bool, true, false, ◌&&◌, if◌then◌else◌, Some, None, length, take, get_or, set, arith, ap, refl, sym, ◌∙◌, ⊎_elim, inl, inr, zero, suc, zero-add, suc-add}
 use Rattle.std.specs.Result.{result_ok}
 use Rattle.std.proofs.lemmas.Bool.{false≢true}
 use Rattle.std.proofs.lemmas.List.{length-drop, take-append-drop, take-append-le, take_all}
@@ -16,13 +16,12 @@ use Rattle.qh_qtd.specs.declared.token.Token.{Token}
 use Rattle.qh_qtd.specs.declared.qtd.Qtd.{Qtd}
 use Rattle.qh_qtd.specs.declared.queue_head.Qh.{Qh}
 use Rattle.qh_qtd.specs.Token.{token_rows, token_word}
-use Rattle.qh_qtd.specs.Qtd.{qtd_words, qtd_read, IsQtdInRange}
+use Rattle.qh_qtd.specs.Qtd.{qtd_read, IsQtdInRange}
 use Rattle.qh_qtd.specs.QueueHead.{qh_words, qh_read, IsQhInRange}
 use Rattle.qh_qtd.proofs.QhLaws.{qh_read-words, qh_words-length}
 use Rattle.qh_qtd.proofs.QtdLaws.{qtd_read-words, qtd_words-token}
 use Rattle.queue_words.specs.Structures.{qtd_at_address, qtd_was_read, reaches_queue_head, queue_head_at_address, queue_head_was_read, overlay_words, overlay_written, token_written}
-use Rattle.queue_words.proofs.OneBlock.{reaches-same_block}
-use Rattle.queue_words.proofs.WriteBack.{overlay_outside, overlay_states, token_outside, token_states, head_written_back}
+use Rattle.queue_words.proofs.WriteBack.{overlay_outside, overlay_states, token_outside, token_states}
 use Rattle.standing.specs.Standing.{QueueStands, QtdStands, AreApart, AreBytesApart}
 
 -- ---- what stands is read

@@ -4,7 +4,7 @@
 --     AreBytesApart pages k n a s no byte of n from byte k of a buffer lies in the s bytes from a
 --     back_written a q got m      memory after the write-back of the queue head q at a with these bytes, where nothing is refused
 --     WritesBack ..               what such a write-back leaves
-use Rattle.std.specs.Prelude.{◌≡◌, ℕ, ◌+◌, ◌%◌, ◌<◌, ◌≤◌, ◌⊎◌, Bool, true, List, length, take, if◌then◌else◌}
+use Rattle.std.specs.Prelude.{◌≡◌, ℕ, ◌+◌, ◌%◌, ◌<◌, ◌≤◌, ◌⊎◌, true, List, length, take, if◌then◌else◌}
 use Rattle.word_mem.specs.Memory.{Mem, IsShaped, reaches}
 use Rattle.word_mem.specs.Views.{words_at}
 use Rattle.buffers.specs.Bytes.{place, with_bytes, AreReached}

@@ -1,21 +1,17 @@
 -- The queue head takes its qTD: the transfer is as it was.
-use Rattle.std.proofs.Common.{◌≡◌, ℕ, ◌+◌, ◌-◌, ◌*◌, ◌%◌, ◌<◌, ◌≤◌, ◌==◌, Bool, true, false, if◌then◌else◌, List, [], ◌∷◌, length, take, Option, Some, None, ap, refl, sym, subst, ◌∙◌, arith}
-use Rattle.word_mem.specs.Memory.{Mem}
-use Rattle.buffers.specs.Bytes.{bytes_at}
+use Rattle.std.proofs.Common.{◌≡◌, ℕ, ◌-◌, ◌≤◌, ◌==◌, Bool, true, false, if◌then◌else◌, take, Some, None, ap, refl, sym, subst, ◌∙◌, arith}
 use Rattle.qh_qtd.specs.declared.qtd.Qtd.{Qtd}
 use Rattle.qh_qtd.specs.declared.queue_head.Qh.{Qh}
 use Rattle.qh_qtd.specs.declared.token.Token.{Token}
-use Rattle.qh_qtd.specs.QueueHead.{qh_words, IsQhInRange}
-use Rattle.toggle_error.specs.declared.host.HostSide.{HostSide}
+use Rattle.qh_qtd.specs.QueueHead.{qh_words}
 use Rattle.host_token.specs.HostToken.{host_at}
 use Rattle.queue_words.specs.Structures.{reaches_queue_head}
-use Rattle.async_walk.specs.declared.state.Held.{Held}
-use Rattle.async_walk.specs.Queue.{advanced, taken_token, place_of, pages_of}
+use Rattle.async_walk.specs.Queue.{advanced, taken_token}
 use Rattle.async_walk.specs.WriteBack.{overlay_after}
 use Rattle.async_walk.specs.Rows.{Place, took, faulted}
 use Rattle.async_walk.proofs.Ranges.{advanced_in_range}
-use Rattle.transfer_steps.specs.Setting.{Setting, IsQueue, IsLaidOut, Stands, HasPages}
-use Rattle.transfer_steps.specs.Told.{QueueHeld, with_naks, Waiting, Working, host_of_stage, Waits, Works, Transfer, ByWords, IsCopyOf, Scene, Goes}
+use Rattle.transfer_steps.specs.Setting.{Setting, IsQueue, IsLaidOut}
+use Rattle.transfer_steps.specs.Told.{QueueHeld, with_naks, Waiting, Working, Waits, Works, Transfer, Scene, Goes}
 use Rattle.transfer_steps.proofs.Memory.{stands_overlay, bytes_overlay}
 
 -- ---- what an advance leaves of a queue head

@@ -1,7 +1,7 @@
 -- The buffer's pages as a queue head has them.
-use Rattle.std.proofs.Common.{◌≡◌, ℕ, ◌+◌, ◌*◌, ◌/◌, ◌%◌, ◌<◌, ◌≤◌, ◌⊎◌, List, [], ◌∷◌, ◌++◌, true, length, slice_index, ap, refl, sym, subst, ◌∙◌, arith, zero, suc, zero-add}
+use Rattle.std.proofs.Common.{◌≡◌, ℕ, ◌+◌, ◌*◌, ◌/◌, ◌%◌, ◌<◌, ◌≤◌, ◌⊎◌, List, [], ◌∷◌, true, length, ap, refl, sym, subst, ◌∙◌, arith, suc, zero-add}
 use Rattle.word_mem.specs.Memory.{Mem, reaches}
-use Rattle.buffers.specs.Bytes.{place, put_byte, put_bytes, with_bytes, bytes_at, AreReached}
+use Rattle.buffers.specs.Bytes.{place, put_byte, put_bytes, with_bytes, AreReached}
 use Rattle.standing.specs.Standing.{AreBytesApart}
 use Rattle.transfer_steps.specs.Setting.{HasPages}
 

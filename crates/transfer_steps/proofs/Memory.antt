@@ -1,21 +1,21 @@
 -- What the writes of an advance and of a write-back leave of the setting.
-use Rattle.std.proofs.Common.{◌≡◌, ℕ, ◌+◌, ◌-◌, ◌*◌, ◌/◌, ◌%◌, ◌<◌, ◌≤◌, ◌⊎◌, List, [], ◌++◌, Bool, true, false, length, take, slice_index, ap, refl, sym, subst, ◌∙◌, ⊎_elim, inl, inr, arith, zero-add}
-use Rattle.word_mem.specs.Memory.{Mem, IsShaped, reaches, word_at}
+use Rattle.std.proofs.Common.{◌≡◌, ℕ, ◌+◌, ◌*◌, ◌%◌, ◌<◌, ◌≤◌, List, length, take, ap, sym, subst, ◌∙◌, ⊎_elim, inl, inr, arith}
+use Rattle.word_mem.specs.Memory.{Mem, word_at}
 use Rattle.word_mem.proofs.Frames.{shaped_same}
-use Rattle.buffers.specs.Bytes.{place, with_bytes, bytes_at, AreReached}
-use Rattle.buffers.proofs.Frames.{bytes_at_same, IsShaped-with_bytes, word_at-with_bytes}
+use Rattle.buffers.specs.Bytes.{place, bytes_at, AreReached}
+use Rattle.buffers.proofs.Frames.{bytes_at_same}
 use Rattle.qh_qtd.specs.declared.qtd.Qtd.{Qtd}
 use Rattle.qh_qtd.specs.declared.queue_head.Qh.{Qh}
 use Rattle.qh_qtd.specs.QueueHead.{qh_words, IsQhInRange}
 use Rattle.queue_words.specs.Structures.{overlay_words, overlay_written}
 use Rattle.queue_words.proofs.WriteBack.{overlay_outside, overlay_states, overlay_size}
-use Rattle.async_walk.specs.Queue.{buffer_size, pages_of, place_of, moved}
+use Rattle.async_walk.specs.Queue.{pages_of, place_of, moved}
 use Rattle.async_walk.specs.WriteBack.{overlay_after}
-use Rattle.standing.specs.Standing.{QueueStands, QtdStands, AreApart, AreBytesApart, bytes_back, back_written, qtd_after, CanBeWritten}
-use Rattle.standing.proofs.Frames.{reaches_same, nine_words, queue_stays, qtd_stays, queue_beside_bytes, qtd_beside_bytes, overlay_stands, queue_beside_overlay, qtd_beside_overlay, word_beside}
-use Rattle.standing.proofs.Back.{queue_back, qtd_back, word_beside_back, states_back, shape_back, bytes_after_back}
+use Rattle.standing.specs.Standing.{QtdStands, AreApart, AreBytesApart, back_written, qtd_after, CanBeWritten}
+use Rattle.standing.proofs.Frames.{reaches_same, nine_words, queue_stays, qtd_stays, overlay_stands, queue_beside_overlay, qtd_beside_overlay, word_beside}
+use Rattle.standing.proofs.Back.{queue_back, qtd_back, word_beside_back, states_back, shape_back}
 use Rattle.transfer_steps.specs.Setting.{Setting, head_of, dummy_qtd, IsQueue, HasPages, IsLaidOut, Stands}
-use Rattle.transfer_steps.proofs.Buffers.{apart_part, reached_part, with_bytes_same}
+use Rattle.transfer_steps.proofs.Buffers.{apart_part, reached_part}
 
 -- two runs of bytes that share none, the one of which is a part
 pub apart_tail : (b n a : ℕ) → AreApart b n a 48 → AreApart b n (a + 12) 36

@@ -1,17 +1,14 @@
 -- Each event of the walk is a transaction of the transfer's endpoint, or does nothing to the transfer.
-use Rattle.std.proofs.Common.{◌≡◌, ◌≢◌, ℕ, ◌+◌, ◌-◌, ◌*◌, ◌/◌, ◌%◌, ◌<◌, ◌≤◌, ◌⊎◌, Bool, true, false, not, ◌&&◌, ◌||◌, ◌==◌, nat_lt, if◌then◌else◌, List, [], length, slice_index, Option, Some, None, ap, refl, sym, subst, ◌∙◌, ⊎_elim, inl, inr, arith}
+use Rattle.std.proofs.Common.{◌≡◌, ◌≢◌, ℕ, ◌+◌, ◌-◌, ◌*◌, ◌/◌, ◌<◌, ◌≤◌, ◌⊎◌, Bool, true, false, not, ◌&&◌, ◌||◌, ◌==◌, nat_lt, if◌then◌else◌, List, [], length, slice_index, Option, Some, None, ap, refl, sym, subst, ◌∙◌, ⊎_elim, inl, inr, arith}
 use Rattle.std.proofs.lemmas.Bool.{false≢true, ltb-true, ltb-false}
 use Rattle.usb_base.specs.declared.packets.Ask.{Ask}
 use Rattle.usb_base.specs.declared.packets.Pid.{Pid}
 use Rattle.usb_base.specs.declared.packets.Reply.{Reply}
 use Rattle.usb_base.specs.declared.packets.Reply.TheVariants.{Bytes}
-use Rattle.link_words.specs.declared.kinds.Link.TheVariants as links
-use Rattle.link_words.specs.declared.kinds.QtdLink.{QtdLink}
 use Rattle.link_words.specs.declared.kinds.QtdLink.TheVariants as qtd_links
 use Rattle.link_words.specs.Links.{qtd_link_of}
 use Rattle.qh_qtd.specs.declared.qtd.Qtd.{Qtd}
 use Rattle.qh_qtd.specs.declared.queue_head.Qh.{Qh}
-use Rattle.op_registers.specs.RegisterFile.{RegisterFile}
 use Rattle.toggle_error.specs.declared.host.HostSide.{HostSide}
 use Rattle.toggle_error.specs.declared.host.Outcome.{Outcome}
 use Rattle.toggle_error.specs.declared.host.Outcome.TheVariants as outcomes
@@ -21,20 +18,18 @@ use Rattle.usb_base.specs.declared.packets.Split.TheVariants.{Plain}
 use Rattle.async_walk.specs.declared.rows.Row.{Row}
 use Rattle.async_walk.specs.declared.rows.Row.TheVariants as rows
 use Rattle.async_walk.specs.declared.rows.Visit.TheVariants as visits
-use Rattle.async_walk.specs.declared.state.Cursor.TheVariants as cursors
 use Rattle.async_walk.specs.declared.state.Held.{Held}
 use Rattle.async_walk.specs.declared.state.ReloadMode.{ReloadMode}
 use Rattle.async_walk.specs.declared.state.ReloadMode.TheVariants.{WaitHead, Reload, WaitStart}
 use Rattle.async_walk.specs.declared.state.WalkStep.{WalkStep}
 use Rattle.async_walk.specs.declared.state.WalkStep.TheVariants as steps
-use Rattle.async_walk.specs.Queue.{may_work, next_mode, mode_after, reloaded, advanced, naks_after, settled_queue, moved, next_pointer, is_made, pipe_of, host_in, price_in, visit_of}
+use Rattle.async_walk.specs.Queue.{may_work, next_mode, mode_after, reloaded, advanced, naks_after, settled_queue, moved, next_pointer, pipe_of, host_in, price_in}
 use Rattle.qh_qtd.specs.declared.token.Token.{Token}
-use Rattle.async_walk.specs.Rows.{Place, row_at, read_at, cursor_link, row_of, was_read, step_of, after_row, Leads, Transacted, fetched, head_ended, passed, passed_walk, out_of_time, took, took_step, wrote, wrote_step, transacted}
-use Rattle.standing.specs.Standing.{QueueStands, QtdStands}
-use Rattle.transfer_steps.specs.Setting.{Setting, head_of, dummy_qtd, IsQueue, IsLaidOut, Stands}
-use Rattle.transfer_steps.specs.Told.{Hand, AtHead, HeadHeld, AtQueue, QueueHeld, Settled, IsInHand, with_naks, Stage, Resting, Waiting, Working, IsAtStage, Rests, Waits, Works, Transfer, ByWords, BySettled, IsCopyOf, IsToldBy, Scene, Goes, host_after, outcome_after, got_after, moved_on}
-use Rattle.transfer_steps.specs.Events.{price, is_busy, WillReload, IsKeenWaiting, IsKeenWorking, IsKeenAt, IsKeen, step_left, turn_left, events_left, HasNone, Quietly, Rested, Moves}
-use Rattle.transfer_steps.proofs.Visits.{ring_link, fetch_there, fetch_reads, fetch_head, fetch_queue, rest_kind, take_kind, work_kind, used_up, halted_rests, off_takes, on_works, held_kind, held_reads, same_memory}
+use Rattle.async_walk.specs.Rows.{Place, row_at, read_at, cursor_link, row_of, was_read, step_of, Leads, Transacted, fetched, head_ended, passed, passed_walk, out_of_time, took_step, transacted}
+use Rattle.transfer_steps.specs.Setting.{Setting, head_of, dummy_qtd, IsQueue, IsLaidOut}
+use Rattle.transfer_steps.specs.Told.{Hand, AtHead, HeadHeld, AtQueue, QueueHeld, Settled, with_naks, Stage, Resting, Waiting, Working, Transfer, Scene, host_after, outcome_after, got_after}
+use Rattle.transfer_steps.specs.Events.{price, is_busy, IsKeenAt, step_left, turn_left, events_left, Quietly, Moves}
+use Rattle.transfer_steps.proofs.Visits.{ring_link, fetch_there, fetch_reads, fetch_head, fetch_queue, rest_kind, take_kind, work_kind, used_up, halted_rests, off_takes, on_works, same_memory}
 use Rattle.transfer_steps.proofs.Walking.{head_fetched, head_is_quiet, head_passed, queue_fetched, queue_passed, queue_left}
 use Rattle.transfer_steps.proofs.Advancing.{advanced_place, took_is, queue_advanced}
 use Rattle.transfer_steps.proofs.Transacting.{host_is, queue_settled}

@@ -1,24 +1,20 @@
 -- A transaction of the queue head moves the transfer by what it came to, and nothing else does.
-use Rattle.std.proofs.Common.{◌≡◌, ℕ, ◌+◌, ◌-◌, ◌*◌, ◌%◌, ◌<◌, ◌≤◌, Bool, true, false, List, [], ◌∷◌, ◌++◌, length, slice_index, Option, Some, None, ap, refl, sym, subst, ◌∙◌, arith}
+use Rattle.std.proofs.Common.{◌≡◌, ℕ, ◌-◌, ◌<◌, ◌≤◌, true, false, List, ◌++◌, slice_index, Some, None, ap, refl, sym, ◌∙◌, arith}
 use Rattle.usb_base.specs.declared.packets.Pid.{Pid}
-use Rattle.usb_base.specs.declared.packets.Pid.TheVariants as pids
 use Rattle.usb_base.specs.declared.packets.Reply.{Reply}
 use Rattle.usb_base.specs.declared.packets.Reply.TheVariants.{Bytes}
-use Rattle.word_mem.specs.Memory.{Mem}
 use Rattle.buffers.specs.Bytes.{bytes_at}
-use Rattle.qh_qtd.specs.declared.qtd.Qtd.{Qtd}
 use Rattle.qh_qtd.specs.declared.queue_head.Qh.{Qh}
 use Rattle.qh_qtd.specs.QueueHead.{IsQhInRange}
 use Rattle.toggle_error.specs.declared.host.HostSide.{HostSide}
 use Rattle.toggle_error.specs.declared.host.Outcome.{Outcome}
 use Rattle.host_token.specs.HostToken.{host_at}
-use Rattle.async_walk.specs.declared.state.Held.{Held}
 use Rattle.async_walk.specs.Queue.{pipe_of, host_in, price_in, settled_queue}
 use Rattle.async_walk.specs.Rows.{Place, transacted, held_settled}
 use Rattle.async_walk.proofs.Ranges.{settled_in_range}
-use Rattle.transfer_steps.specs.Setting.{Setting, IsQueue}
-use Rattle.transfer_steps.specs.Told.{QueueHeld, Settled, with_naks, Working, Transfer, ByWords, BySettled, IsCopyOf, Scene, Goes, host_after, outcome_after, got_after, moved_on}
-use Rattle.transfer_steps.proofs.Settles.{InFacts, settle_facts, got_one}
+use Rattle.transfer_steps.specs.Setting.{Setting}
+use Rattle.transfer_steps.specs.Told.{QueueHeld, Settled, with_naks, Working, Transfer, Scene, Goes, host_after, outcome_after, got_after, moved_on}
+use Rattle.transfer_steps.proofs.Settles.{settle_facts, got_one}
 
 -- errors and total of a queue head in its ranges
 errors_few : (c : Qh) → IsQhInRange c → c.token.cerr < 4

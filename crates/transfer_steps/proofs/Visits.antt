@@ -1,28 +1,21 @@
 -- Which row an event is, by what is in hand and how far the transfer is; and what it reads stays as it is.
-use Rattle.std.proofs.Common.{◌≡◌, ℕ, ◌+◌, ◌*◌, ◌%◌, ◌<◌, ◌≤◌, ◌⊎◌, Bool, true, false, not, ◌&&◌, ◌||◌, ◌==◌, nat_lt, if◌then◌else◌, List, [], Option, Some, None, ap, refl, sym, subst, ◌∙◌, ⊎_elim, inl, inr, arith}
+use Rattle.std.proofs.Common.{◌≡◌, ℕ, ◌⊎◌, Bool, true, false, not, ◌&&◌, nat_lt, if◌then◌else◌, Some, None, ap, refl, ◌∙◌, ⊎_elim}
 use Rattle.word_mem.specs.Memory.{Mem}
-use Rattle.link_words.specs.declared.kinds.Link.{Link}
 use Rattle.link_words.specs.declared.kinds.Link.TheVariants as links
-use Rattle.link_words.specs.declared.kinds.QtdLink.{QtdLink}
 use Rattle.link_words.specs.declared.kinds.QtdLink.TheVariants as qtd_links
 use Rattle.link_words.specs.Links.{qtd_link_of}
 use Rattle.qh_qtd.specs.declared.qtd.Qtd.{Qtd}
 use Rattle.qh_qtd.specs.declared.queue_head.Qh.{Qh}
 use Rattle.op_registers.specs.RegisterFile.{RegisterFile}
-use Rattle.queue_words.specs.Structures.{qtd_at_address, qtd_was_read, queue_head_at_address, queue_head_was_read}
-use Rattle.async_walk.specs.declared.rows.Row.{Row}
 use Rattle.async_walk.specs.declared.rows.Row.TheVariants as rows
-use Rattle.async_walk.specs.declared.rows.Visit.{Visit}
 use Rattle.async_walk.specs.declared.rows.Visit.TheVariants as visits
 use Rattle.async_walk.specs.declared.state.Cursor.{Cursor}
 use Rattle.async_walk.specs.declared.state.Cursor.TheVariants as cursors
-use Rattle.async_walk.specs.declared.state.Held.{Held}
 use Rattle.async_walk.specs.Queue.{may_work, visit_at, visit_of, next_pointer, is_made, pipe_of, host_in, price_in}
-use Rattle.async_walk.specs.Rows.{Place, place, started, row_at, row_of, ring_row, fetch_row, held_row, visit_row, work_row, take_row, taken_row, cursor_link, read_at, ring_read, held_read, visit_read, take_read, was_read, at_event, event_row}
+use Rattle.async_walk.specs.Rows.{Place, row_at, row_of, ring_row, fetch_row, visit_row, work_row, taken_row, cursor_link, read_at, ring_read, visit_read, was_read}
 use Rattle.standing.specs.Standing.{QueueStands, QtdStands}
 use Rattle.standing.proofs.Frames.{queue_read, queue_was_read, qtd_read_there, qtd_was_read_there}
-use Rattle.transfer_steps.specs.Setting.{Setting, head_of, dummy_qtd, IsQueue, Stands}
-use Rattle.transfer_steps.specs.Told.{Hand, AtHead, HeadHeld, AtQueue, QueueHeld, Settled, IsInHand, with_naks, Rests, Waits, Works, Runs}
+use Rattle.transfer_steps.specs.Setting.{Setting, head_of}
 
 -- ---- nothing is in hand
 

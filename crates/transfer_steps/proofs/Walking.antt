@@ -1,38 +1,20 @@
 -- The events that don't ask the wire: what is in hand next, and that the transfer is as it was.
-use Rattle.std.proofs.Common.{◌≡◌, ℕ, ◌+◌, ◌-◌, ◌*◌, ◌%◌, ◌<◌, ◌≤◌, ◌⊎◌, Bool, true, false, not, ◌&&◌, ◌||◌, ◌==◌, nat_lt, if◌then◌else◌, List, [], ◌++◌, length, take, Option, Some, None, ap, refl, sym, subst, ◌∙◌, ⊎_elim, inl, inr, arith}
-use Rattle.std.proofs.lemmas.Bool.{false≢true}
-use Rattle.word_mem.specs.Memory.{Mem}
-use Rattle.buffers.specs.Bytes.{bytes_at}
-use Rattle.link_words.specs.declared.kinds.Link.{Link}
+use Rattle.std.proofs.Common.{◌≡◌, ℕ, Bool, true, false, ◌||◌, if◌then◌else◌, Option, Some, None, ap, refl, sym, subst, ◌∙◌, inl, inr}
 use Rattle.link_words.specs.declared.kinds.Link.TheVariants as links
-use Rattle.link_words.specs.declared.kinds.QtdLink.{QtdLink}
-use Rattle.link_words.specs.declared.kinds.QtdLink.TheVariants as qtd_links
-use Rattle.link_words.specs.Links.{link_of, qtd_link_of}
-use Rattle.link_words.specs.declared.fields.LinkBits.{LinkBits}
-use Rattle.qh_qtd.specs.declared.qtd.Qtd.{Qtd}
+use Rattle.link_words.specs.Links.{link_of}
 use Rattle.qh_qtd.specs.declared.queue_head.Qh.{Qh}
-use Rattle.qh_qtd.specs.QueueHead.{qh_words, IsQhInRange}
 use Rattle.op_registers.specs.RegisterFile.{RegisterFile}
 use Rattle.op_registers.specs.Events.{after_advance, after_reclamation}
-use Rattle.toggle_error.specs.declared.host.HostSide.{HostSide}
-use Rattle.host_token.specs.HostToken.{host_at}
-use Rattle.queue_words.specs.Structures.{reaches_queue_head}
-use Rattle.async_walk.specs.declared.rows.Row.{Row}
-use Rattle.async_walk.specs.declared.rows.Row.TheVariants as rows
-use Rattle.async_walk.specs.declared.state.Cursor.{Cursor}
 use Rattle.async_walk.specs.declared.state.Cursor.TheVariants as cursors
 use Rattle.async_walk.specs.declared.state.Held.{Held}
 use Rattle.async_walk.specs.declared.state.ReloadMode.{ReloadMode}
 use Rattle.async_walk.specs.declared.state.ReloadMode.TheVariants.{WaitHead, Reload, WaitStart}
-use Rattle.async_walk.specs.Walk.{Walk, stopped}
-use Rattle.async_walk.specs.Queue.{next_pointer, mode_after, reloaded, advanced, taken_token, place_of, pages_of}
-use Rattle.async_walk.specs.WriteBack.{overlay_after}
-use Rattle.async_walk.specs.Rows.{Place, head_read, restarted, head_ended, fetched_registers, fetched_walk, fetched, passed_walk, passed, out_of_time, took, faulted, started, started_registers, started_walk}
-use Rattle.async_walk.proofs.Ranges.{reloaded_in_range, advanced_in_range}
-use Rattle.standing.specs.Standing.{QueueStands, QtdStands}
-use Rattle.transfer_steps.specs.Setting.{Setting, head_of, dummy_qtd, IsQueue, IsLaidOut, Stands, HasPages, leads_to, link_to}
-use Rattle.transfer_steps.specs.Told.{Hand, AtHead, HeadHeld, AtQueue, QueueHeld, Settled, IsInHand, with_naks, Stage, Resting, Waiting, Working, IsAtStage, host_of_stage, Rests, Waits, Works, Runs, Transfer, ByWords, BySettled, IsCopyOf, IsToldBy, Scene, Goes}
-use Rattle.transfer_steps.proofs.Memory.{stands_overlay, bytes_overlay}
+use Rattle.async_walk.specs.Walk.{Walk}
+use Rattle.async_walk.specs.Queue.{mode_after, reloaded}
+use Rattle.async_walk.specs.Rows.{Place, head_read, head_ended, fetched_registers, fetched, passed_walk, passed, out_of_time, started, started_registers, started_walk}
+use Rattle.async_walk.proofs.Ranges.{reloaded_in_range}
+use Rattle.transfer_steps.specs.Setting.{Setting, head_of, IsQueue}
+use Rattle.transfer_steps.specs.Told.{Hand, AtHead, HeadHeld, AtQueue, QueueHeld, Settled, IsInHand, with_naks, Stage, Runs, Transfer, Scene, Goes}
 
 -- ---- registers
 

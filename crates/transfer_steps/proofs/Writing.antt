@@ -1,38 +1,31 @@
 -- The write-back: words tell what the copy told.
-use Rattle.std.proofs.Common.{◌≡◌, ℕ, ◌+◌, ◌-◌, ◌*◌, ◌/◌, ◌%◌, ◌<◌, ◌≤◌, ◌⊎◌, Bool, true, false, not, ◌&&◌, ◌==◌, min, if◌then◌else◌, List, [], ◌∷◌, ◌++◌, length, take, slice_index, Option, Some, None, ap, refl, sym, subst, ◌∙◌, ⊎_elim, inl, inr, arith, zero-add}
+use Rattle.std.proofs.Common.{◌≡◌, ℕ, ◌+◌, ◌-◌, ◌/◌, ◌%◌, ◌<◌, ◌≤◌, Bool, true, false, not, ◌&&◌, ◌==◌, if◌then◌else◌, List, ◌++◌, length, take, slice_index, Option, Some, None, ap, refl, sym, subst, ◌∙◌, inl, inr, arith, zero-add}
 use Rattle.std.proofs.lemmas.Option.{slice_get_within}
 use Rattle.word_mem.specs.Memory.{Mem, IsShaped, reaches}
 use Rattle.word_mem.specs.declared.blocks.BlockState.TheVariants.{Lent}
 use Rattle.word_mem.proofs.Frames.{lent_if_reached}
 use Rattle.buffers.specs.Bytes.{place, with_bytes, bytes_at, AreReached, AreThere}
 use Rattle.buffers.proofs.Frames.{bytes_at-with_bytes_grown}
-use Rattle.link_words.specs.declared.fields.LinkBits.{LinkBits}
-use Rattle.link_words.specs.declared.fields.ShortLink.{ShortLink}
-use Rattle.link_words.specs.declared.kinds.Link.TheVariants as links
 use Rattle.link_words.specs.declared.kinds.QtdLink.TheVariants as qtd_links
 use Rattle.link_words.specs.Links.{link_of, qtd_link_of}
 use Rattle.qh_qtd.specs.declared.qtd.Qtd.{Qtd}
 use Rattle.qh_qtd.specs.declared.queue_head.Qh.{Qh}
 use Rattle.qh_qtd.specs.declared.token.Token.{Token}
-use Rattle.qh_qtd.specs.QueueHead.{qh_words, IsQhInRange}
+use Rattle.qh_qtd.specs.QueueHead.{qh_words}
 use Rattle.op_registers.specs.RegisterFile.{RegisterFile}
 use Rattle.toggle_error.specs.declared.host.HostSide.{HostSide}
 use Rattle.toggle_error.specs.declared.host.Outcome.{Outcome}
 use Rattle.host_token.specs.HostToken.{host_at, with_host}
-use Rattle.async_walk.specs.declared.state.Cursor.{Cursor}
 use Rattle.async_walk.specs.declared.state.Cursor.TheVariants as cursors
 use Rattle.async_walk.specs.declared.state.Held.{Held}
-use Rattle.async_walk.specs.declared.state.Settled.{Settled as SettledCopy}
-use Rattle.async_walk.specs.declared.state.WalkStep.{WalkStep}
 use Rattle.async_walk.specs.declared.state.WalkStep.TheVariants as steps
-use Rattle.async_walk.specs.Walk.{Walk}
-use Rattle.async_walk.specs.Queue.{next_pointer, settled_queue, naks_after, pages_of, place_of, moved}
+use Rattle.async_walk.specs.Queue.{settled_queue, pages_of, place_of, moved}
 use Rattle.async_walk.specs.WriteBack.{Writing, written_back, raised}
-use Rattle.async_walk.specs.Rows.{Place, passed, passed_walk, wrote, wrote_place, wrote_settled, wrote_step, wrote_step_settled, faulted}
+use Rattle.async_walk.specs.Rows.{Place, passed_walk, wrote, wrote_place, wrote_step}
 use Rattle.standing.specs.Standing.{AreBytesApart, bytes_back, back_written, qtd_after}
 use Rattle.standing.proofs.Back.{all_written, bytes_after_back}
-use Rattle.transfer_steps.specs.Setting.{Setting, IsQueue, IsLaidOut, Stands, HasPages, leads_to}
-use Rattle.transfer_steps.specs.Told.{Hand, AtHead, Settled, with_naks, Stage, Resting, Working, IsAtStage, host_of_stage, Rests, Works, Runs, Transfer, ByWords, BySettled, Scene, Goes}
+use Rattle.transfer_steps.specs.Setting.{Setting, IsQueue, IsLaidOut, HasPages, leads_to}
+use Rattle.transfer_steps.specs.Told.{AtHead, Settled, with_naks, Stage, Resting, Working, IsAtStage, host_of_stage, Rests, Works, Runs, Transfer, BySettled, Scene, Goes}
 use Rattle.transfer_steps.proofs.Buffers.{with_bytes_same}
 use Rattle.transfer_steps.proofs.Memory.{IsReady, can_be_written, stands_back}
 

@@ -8,7 +8,6 @@ use Rattle.qh_qtd.specs.declared.qtd.Qtd.{Qtd}
 use Rattle.qh_qtd.specs.declared.queue_head.Qh.{Qh}
 use Rattle.qh_qtd.specs.declared.token.Token.{Token}
 use Rattle.buffers.specs.Bytes.{ArePages, AreDistinct, AreReached}
-use Rattle.async_walk.specs.Queue.{pages_of}
 use Rattle.standing.specs.Standing.{QueueStands, QtdStands, AreApart, AreBytesApart}
 
 -- the addresses of the structures, the pages of the buffer, the endpoint, and how many bytes are asked for

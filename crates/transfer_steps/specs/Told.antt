@@ -1,6 +1,6 @@
 -- What words and copy tell of a transfer: the host's side, and the bytes that were received (EHCI 1.0, 4.10). Between a transaction and
 -- its write-back both are those of the copy in hand.
-use Rattle.std.specs.Prelude.{◌≡◌, ℕ, ◌+◌, ◌-◌, ◌*◌, ◌<◌, ◌≤◌, Bool, true, false, List, [], ◌∷◌, ◌++◌, length, slice_index, Option, None, Some, ◌⊎◌}
+use Rattle.std.specs.Prelude.{◌≡◌, ℕ, ◌+◌, ◌-◌, ◌*◌, ◌<◌, Bool, true, false, List, [], ◌∷◌, ◌++◌, length, slice_index, None, Some, ◌⊎◌}
 use Rattle.word_mem.specs.Memory.{Mem}
 use Rattle.link_words.specs.declared.kinds.Link.TheVariants as links
 use Rattle.link_words.specs.Links.{qtd_link_of}
@@ -14,7 +14,6 @@ use Rattle.toggle_error.specs.Settle.{outcome_of, settled}
 use Rattle.transactions.specs.Calls.{high_call, got_of}
 use Rattle.host_token.specs.HostToken.{host_at}
 use Rattle.buffers.specs.Bytes.{bytes_at}
-use Rattle.async_walk.specs.declared.state.Cursor.{Cursor}
 use Rattle.async_walk.specs.declared.state.Cursor.TheVariants as cursors
 use Rattle.qh_qtd.specs.QueueHead.{IsQhInRange}
 use Rattle.op_registers.specs.RegisterFile.{RegisterFile}
