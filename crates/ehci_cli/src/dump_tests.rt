@@ -142,25 +142,32 @@ fn frames(rt: HostRuntime) -> Result<(), Fail> {
     Ok(())
 }
 
-// An image cut anywhere, and two of another kind.
+fn is_refused(rt: &impl Abort, alloc: Global, input: &[u8], line: &[u8]) -> Result<(), Fail> {
+    let (status, written) = program(alloc, "dump", input, &[], &[])?;
+    assert_eq!(rt; status, Status::Refused);
+    assert_eq!(rt; written.as_slice(), line);
+    Ok(())
+}
+
+// An image cut at four places, a script, and an image whose frame list isn't aligned.
 #[test]
 fn refusals(rt: HostRuntime) -> Result<(), Fail> {
     let bytes = image(rt.alloc(), 0, &[])?;
-    let unaligned = image(rt.alloc(), 0x800, &[])?;
-    let cases: [(&[u8], &[u8]); 6] = [
-        (b"", b"offset 0: length\n"),
-        (&bytes[..23], b"offset 23: length\n"),
-        (&bytes[..24], b"offset 24: length\n"),
-        (&bytes[..bytes.len() - 1], b"offset 8215: length\n"),
-        (b"ehci 1\ndev 3 high\nep 3 1", b"offset 0: magic\n"),
-        (&unaligned, b"offset 12: alignment\n"),
+    let cuts: [(usize, &[u8]); 4] = [
+        (0, b"offset 0: length\n"),
+        (23, b"offset 23: length\n"),
+        (24, b"offset 24: length\n"),
+        (8215, b"offset 8215: length\n"),
     ];
-    for (input, line) in cases {
-        let (status, written) = program(rt.alloc(), "dump", input, &[], &[])?;
-        assert_eq!(rt; status, Status::Refused);
-        assert_eq!(rt; written.as_slice(), line);
+    for (count, line) in cuts {
+        let front = bytes.get(..count).ok_or("a cut past the end")?;
+        is_refused(&rt, rt.alloc(), front, line)?;
     }
-    let (status, written) = program(rt.alloc(), "dump", b"ehci 1\n", &[], &[0])?;
+    let script = b"ehci 1\ndev 3 high\nep 3 1 in bulk 512\n";
+    is_refused(&rt, rt.alloc(), script, b"offset 0: magic\n")?;
+    let unaligned = image(rt.alloc(), 0x800, &[])?;
+    is_refused(&rt, rt.alloc(), &unaligned, b"offset 12: alignment\n")?;
+    let (status, written) = program(rt.alloc(), "dump", script, &[], &[0])?;
     assert_eq!(rt; status, Status::WriteFault);
     assert!(rt; written.is_empty());
     Ok(())
