@@ -1,0 +1,4 @@
+pub mod Walk
+pub mod Queue
+pub mod WriteBack
+pub mod Rows

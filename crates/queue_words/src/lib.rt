@@ -1,0 +1,8 @@
+//! Queue heads and queue element transfer descriptors in the controller's hand: read from the words of Lent blocks, and written back
+//! (EHCI 1.0, 3.5, 3.6 and 4.10).
+#![tactic(auto)]
+
+mod blocks;
+mod structures;
+
+pub use structures::{read_qtd, read_queue_head, write_overlay, write_token};
