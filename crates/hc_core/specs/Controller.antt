@@ -99,8 +99,11 @@ abbrev pub faulted : Content → Content
 faulted c = record c { control = ended c.control; registers = after_fault c.registers }
 
 -- the asynchronous part begins with the time that is left
+abbrev pub entered_control : ℕ → Control → Control
+entered_control left c = record { part = Asynchronous; walk = begun c.walk left }
+
 abbrev pub entered : ℕ → Content → Content
-entered left c = record c { control = record { part = Asynchronous; walk = begun c.control.walk left } }
+entered left c = record c { control = entered_control left c.control }
 
 abbrev pub walk_place : Content → Place
 walk_place c = place c.control.walk c.registers c.memory

@@ -1,9 +1,7 @@
-ghost use Rattle.std.specs.Prelude.{◌≡◌, ◌↔◌, false, if◌then◌else◌};
+ghost use Rattle.std.specs.Prelude.{◌≡◌, ◌↔◌, false};
 ghost use Rattle.word_mem.specs.Access.{IsByController};
-ghost use Rattle.word_mem.specs.Memory.{Mem};
-ghost use Rattle.op_registers.specs.RegisterFile.{RegisterFile};
 ghost use Rattle.async_walk.specs.Walk.{held_address};
-ghost use Rattle.hc_core.specs.Controller.{content, new_control, names_nothing, row_of, began, Begins, ended, faulted, entered, hc_step, part_after, walk_step, Walks, HasRow, kind_of};
+ghost use Rattle.hc_core.specs.Controller.{content, new_control, names_nothing, row_of, Begins, ended, entered_control, hc_step, part_after, walk_step, Walks, HasRow, kind_of};
 
 use async_walk::{AsyncState, WalkStep, step as walk_ring};
 use link_words::{Link, read};
@@ -166,7 +164,7 @@ impl Controller {
     }
 
     fn enter(&mut self, left: Ps)
-        ensures { (r : RegisterFile) (m : Mem) → content self.new r m ≡ entered left.0 (content self.old r m) }
+        ensures { self.new ≡ entered_control left.0 self.old }
     {
         self.part = Part::Asynchronous;
         self.walk.begin(left);
@@ -191,12 +189,7 @@ impl Controller {
     /// - `End` where the parts of the microframe are over, or where the controller met what it can't go on from: then Host System Error
     ///   stands and Run is 0. A structure that the frame list names is such a fault, for the periodic list isn't walked.
     /// - Else an event of the walk of the ring.
-    pub fn step<W: Wire>(
-        &mut self,
-        regs: &mut Registers,
-        mem: &mut WordMem,
-        wire: &mut W,
-    ) -> HcStep
+    pub fn step<W: Wire>(&mut self, regs: &mut Registers, mem: &mut WordMem, wire: &mut W) -> HcStep
         ensures kind { result ≡ kind_of (row_of regs.old self.old.part) (content self.old regs.old mem.old) }
         ensures row { HasRow W.begins W.transacts (row_of regs.old self.old.part) (content self.old regs.old mem.old) wire.old (content self.new regs.new mem.new) wire.new }
         ensures idle { (result ≡ HcStep.Idle) ↔ (regs.old.run ≡ false) }
