@@ -3,6 +3,10 @@
 #![tactic(auto)]
 
 mod blocks;
+pub mod laws;
 mod structures;
 
 pub use structures::{read_qtd, read_queue_head, write_overlay, write_token};
+
+#[cfg(test)]
+mod tests;
