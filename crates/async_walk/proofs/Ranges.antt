@@ -1,5 +1,5 @@
 -- A queue head stays in its ranges, whatever a visit makes of it.
-use Rattle.std.proofs.Common.{◌≡◌, ℕ, ◌+◌, ◌-◌, ◌*◌, ◌/◌, ◌%◌, ◌<◌, ◌≤◌, Bool, true, false, min, List, [], refl, sym, subst, arith}
+use Rattle.std.proofs.Common.{◌≡◌, ℕ, ◌%◌, ◌<◌, ◌≤◌, List, [], sym, subst, arith}
 use Rattle.usb_base.specs.declared.packets.Ask.{Ask}
 use Rattle.usb_base.specs.declared.packets.Reply.{Reply}
 use Rattle.toggle_error.specs.declared.rows.PlainRow.{PlainRow}
@@ -10,9 +10,6 @@ use Rattle.toggle_error.specs.Settle.{settled}
 use Rattle.transactions.specs.declared.pipe.Pipe.{Pipe}
 use Rattle.transactions.specs.declared.pipe.Result3.{Result3}
 use Rattle.transactions.specs.Calls.{Transacts, high_call}
-use Rattle.link_words.specs.Layout.{IsWordInRange}
-use Rattle.qh_qtd.specs.Token.{token_rows}
-use Rattle.qh_qtd.specs.declared.token.Token.{Token}
 use Rattle.qh_qtd.specs.declared.qtd.Qtd.{Qtd}
 use Rattle.qh_qtd.specs.declared.queue_head.Qh.{Qh}
 use Rattle.qh_qtd.specs.Qtd.{IsQtdInRange}
@@ -20,11 +17,10 @@ use Rattle.qh_qtd.specs.QueueHead.{IsQhInRange}
 use Rattle.toggle_error.specs.declared.host.HostSide.{HostSide}
 use Rattle.toggle_error.specs.declared.host.Outcome.{Outcome}
 use Rattle.toggle_error.specs.declared.host.Outcome.TheVariants as outcomes
-use Rattle.host_token.specs.HostToken.{with_host}
 use Rattle.host_token.proofs.Token.{with_host_in_range}
 use Rattle.async_walk.specs.declared.state.ReloadMode.{ReloadMode}
 use Rattle.async_walk.specs.declared.state.ReloadMode.TheVariants.{WaitHead, Reload, WaitStart}
-use Rattle.async_walk.specs.Queue.{reloaded, advanced, taken_token, settled_queue, naks_after, moved}
+use Rattle.async_walk.specs.Queue.{reloaded, advanced, settled_queue, naks_after, moved}
 
 pub reloaded_in_range : (mode : ReloadMode) (q : Qh) → IsQhInRange q → IsQhInRange (reloaded mode q)
 unfolding reloaded

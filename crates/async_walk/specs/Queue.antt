@@ -1,5 +1,5 @@
 -- What a visit makes of a queue head (EHCI 1.0, 3.6, 4.9 and 4.10).
-use Rattle.std.specs.Prelude.{ℕ, ◌+◌, ◌-◌, ◌*◌, ◌/◌, ◌%◌, min, Bool, true, false, not, ◌&&◌, ◌||◌, ◌==◌, nat_lt, List, [], ◌∷◌, if◌then◌else◌}
+use Rattle.std.specs.Prelude.{ℕ, ◌+◌, ◌-◌, ◌*◌, ◌/◌, ◌%◌, min, Bool, true, false, not, ◌&&◌, ◌||◌, ◌==◌, List, [], ◌∷◌, if◌then◌else◌}
 use Rattle.usb_base.specs.declared.packets.EpKind.TheVariants.{Bulk}
 use Rattle.usb_base.specs.declared.packets.Part.TheVariants as parts
 use Rattle.usb_base.specs.declared.packets.Pid.TheVariants as pids

@@ -1,5 +1,5 @@
 -- The content of the walk of the ring (EHCI 1.0, 4.8 and 4.9).
-use Rattle.std.specs.Prelude.{◌≡◌, ℕ, ◌%◌, Bool, true, false, List, Option, None, Some, IfSome}
+use Rattle.std.specs.Prelude.{◌≡◌, ℕ, ◌%◌, Bool, true, false, Option, None, Some, IfSome}
 use Rattle.link_words.specs.declared.kinds.Link.{Link}
 use Rattle.link_words.specs.declared.kinds.Link.TheVariants.{End, Itd, Qh, Sitd, Fstn}
 use Rattle.link_words.specs.Links.{IsAligned}

@@ -1,4 +1,4 @@
-ghost use Rattle.std.specs.Prelude.{◌≡◌, ◌≢◌, ◌≤◌, ◌%◌, ◌<◌, Some, []};
+ghost use Rattle.std.specs.Prelude.{◌≡◌, ◌≢◌, ◌↔◌, ◌≤◌, ◌%◌, ◌<◌, Some, []};
 ghost use Rattle.usb_base.specs.declared.packets.Split.TheVariants.{Plain};
 ghost use Rattle.transactions.specs.Calls.{Transacts, high_call};
 ghost use Rattle.transactions.specs.Prices.{price_of};
@@ -13,7 +13,8 @@ ghost use Rattle.async_walk.specs.Walk.{IsHeld, stopped};
 ghost use Rattle.op_registers.specs.Events.{after_fault};
 ghost use Rattle.async_walk.specs.Queue.{advanced as advanced_queue};
 ghost use Rattle.async_walk.specs.WriteBack.{overlay_after};
-ghost use Rattle.async_walk.specs.Rows.{held_settled, Place, place, row_of, read_at, cursor_link, IsSound, started_walk, started_registers, head_read, restarted, fetched_registers, fetched_walk, passed_walk, took, took_step, wrote, wrote_step, Transacted, Leads, step_of, at_event, event_row};
+ghost use Rattle.async_walk.specs.Rows.{held_settled, Place, place, row_of, read_at, cursor_link, IsSound, started_walk, started_registers, head_read, restarted, fetched_registers, fetched_walk, passed_walk, took, took_step, wrote, wrote_step, Transacted, Leads, step_of, started, at_event, event_row};
+ghost use Rattle.async_walk.specs.Reasons.{HasReason, IsWorked};
 
 use crate::queue::{advanced, mode_of, reloaded, settled};
 use crate::rows::{Row, fetched, visited};
@@ -277,6 +278,7 @@ impl AsyncState {
 /// Words that aren't those of a ring end in `Fault`: a link that leads to no queue head, a structure that isn't wholly in Lent blocks or
 /// has a reserved bit or value, a word to write that isn't Lent, a received byte past the last page. The part also ends, with `Ended`,
 /// where the head of the ring is read with Reclamation 0, and where the price of the next transaction passes the time left.
+#[tactic(auto, using(crate::proofs::Ends::ends_for_a_reason, crate::proofs::Ends::ends_for_each_reason))]
 pub fn step<W: Wire>(
     st: &mut AsyncState,
     regs: &mut Registers,
@@ -286,6 +288,8 @@ pub fn step<W: Wire>(
     ensures kind { result ≡ step_of (event_row (place st.old regs.old mem.old)) (at_event (place st.old regs.old mem.old)) }
     ensures row { Leads W.transacts (event_row (place st.old regs.old mem.old)) (at_event (place st.old regs.old mem.old)) wire.old (place st.new regs.new mem.new) wire.new }
     ensures only_lent { IsByController mem.old mem.new }
+    ensures ends { (result ≡ WalkStep.Ended) ↔ HasReason (started (place st.old regs.old mem.old)) }
+    ensures works { IsWorked st.old result }
 {
     st.start(regs);
     let row = st.row(regs, mem);

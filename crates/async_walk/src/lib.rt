@@ -2,9 +2,11 @@
 #![tactic(auto)]
 
 mod events;
+pub mod laws;
 mod queue;
 mod rows;
 mod state;
+pub mod worked;
 mod write_back;
 
 pub use events::step;

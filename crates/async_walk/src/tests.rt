@@ -86,6 +86,14 @@ fn running() -> Registers {
     regs
 }
 
+/// The word at a byte address, where it lies inside.
+fn word(mem: &WordMem, at: u32) -> Option<u32> {
+    if at % 4 != 0 || at / 4 >= mem.words() {
+        return None;
+    }
+    Some(mem.word(at))
+}
+
 /// Steps until the part is over, and lists the kinds of the events.
 fn part(
     alloc: Global,
@@ -137,11 +145,11 @@ fn a_short_packet(rt: HostRuntime) -> Result<(), Fail> {
         ]
         .as_slice()
     );
-    assert_eq!(rt; mem.word(BUFFER), 0x0003_0201);
-    assert_eq!(rt; mem.word(QUEUE + 12), 0x1080);
-    assert_eq!(rt; mem.word(QUEUE + 24), 0x8200_8d00);
-    assert_eq!(rt; mem.word(QUEUE + 28), BUFFER + 3);
-    assert_eq!(rt; mem.word(0x1088), 0x8200_8d00);
+    assert_eq!(rt; word(&mem, BUFFER), Some(0x0003_0201));
+    assert_eq!(rt; word(&mem, QUEUE + 12), Some(0x1080));
+    assert_eq!(rt; word(&mem, QUEUE + 24), Some(0x8200_8d00));
+    assert_eq!(rt; word(&mem, QUEUE + 28), Some(BUFFER + 3));
+    assert_eq!(rt; word(&mem, 0x1088), Some(0x8200_8d00));
     assert_eq!(rt; mem.foreign(), 0);
     assert_eq!(rt; regs.driver_read(4), Some(0x8001));
     assert_eq!(rt; (st.at(), st.held(), wire.asked), (0, None, 1));
@@ -178,8 +186,8 @@ fn naks_are_counted(rt: HostRuntime) -> Result<(), Fail> {
     st.begin(Ps(125_000_000));
     let kinds = part(rt.alloc(), &mut st, &mut regs, &mut mem, &mut wire)?;
     assert_eq!(rt; transactions(&kinds), 4);
-    assert_eq!(rt; mem.word(QUEUE + 20), 1);
-    assert_eq!(rt; mem.word(QUEUE + 24), 0x0203_8d80);
+    assert_eq!(rt; word(&mem, QUEUE + 20), Some(1));
+    assert_eq!(rt; word(&mem, QUEUE + 24), Some(0x0203_8d80));
     assert_eq!(rt; st.mode(), ReloadMode::WaitStart);
     st.begin(Ps(125_000_000));
     for kind in [
@@ -190,12 +198,12 @@ fn naks_are_counted(rt: HostRuntime) -> Result<(), Fail> {
     ] {
         assert_eq!(rt; step(&mut st, &mut regs, &mut mem, &mut wire), kind);
     }
-    assert_eq!(rt; mem.word(QUEUE + 20), 1);
+    assert_eq!(rt; word(&mem, QUEUE + 20), Some(1));
     assert_eq!(rt;
         step(&mut st, &mut regs, &mut mem, &mut wire),
         WalkStep::WriteBack
     );
-    assert_eq!(rt; mem.word(QUEUE + 20), 7);
+    assert_eq!(rt; word(&mem, QUEUE + 20), Some(7));
     Ok(())
 }
 
@@ -297,8 +305,8 @@ fn past_the_last_page(rt: HostRuntime) -> Result<(), Fail> {
     st.begin(Ps(125_000_000));
     let kinds = part(rt.alloc(), &mut st, &mut regs, &mut mem, &mut wire)?;
     assert_eq!(rt; kinds.last(), Some(&WalkStep::Fault));
-    assert_eq!(rt; mem.word(0x3ffc), 0x0302_0100);
-    assert_eq!(rt; mem.word(QUEUE + 24), 0x0203_cd80);
+    assert_eq!(rt; word(&mem, 0x3ffc), Some(0x0302_0100));
+    assert_eq!(rt; word(&mem, QUEUE + 24), Some(0x0203_cd80));
     assert_eq!(rt; mem.foreign(), 0);
     assert!(rt; !regs.running());
     Ok(())

@@ -6,12 +6,13 @@ use std::process::ExitCode;
 use std::rt::Env;
 use std::{env, io};
 
-const USAGE: &str = "usage: ehci run < SCRIPT";
+const USAGE: &str = "usage: ehci run < SCRIPT, or ehci dump < IMAGE";
 
 const HELP: &str = "\
 ehci: a verified high-speed USB host
 
   ehci run < SCRIPT    runs a script and prints what each endpoint moved
+  ehci dump < IMAGE    prints the frames, the ring and the queues of a memory image
   ehci --help          prints this text
   ehci --version       prints the version
 

@@ -1,14 +1,18 @@
 -- What the program writes: for each form and input, how it ends and which bytes it writes.
-use Rattle.std.specs.Prelude.{◌≡◌, ℕ, List, [], ◌∷◌, ◌++◌, Option, codes}
+use Rattle.std.specs.Prelude.{◌≡◌, ℕ, List, [], ◌∷◌, ◌++◌, Option, None, Some, codes}
 use Rattle.std.specs.Io.KnownBytes.{Appends, Keeps}
 use Rattle.usb_base.specs.Outside.{AppendsPrefix}
 use Rattle.script_text.specs.Grammar.{Spells}
 use Rattle.script_text.specs.declared.script.Script.{Script}
-use Rattle.bus_world.specs.Run.{HasRightStreams}
+use Rattle.bulk_bus.specs.Run.{HasRightStreams}
 use Rattle.bus_world.specs.World.{Content, IsRun, world_text}
+use Rattle.image_codec.specs.Image.{image_fault, image_of}
+use Rattle.image_codec.specs.Shown.{shown}
+use Rattle.image_codec.specs.Text.{refusal_line}
+use Rattle.image_codec.specs.declared.image.Refusal.{Refusal}
 use Rattle.ehci_cli.specs.Form.{words_of}
 use Rattle.ehci_cli.specs.declared.form.Form.{Form}
-use Rattle.ehci_cli.specs.declared.form.Form.TheVariants.{Run}
+use Rattle.ehci_cli.specs.declared.form.Form.TheVariants.{Run, Dump}
 use Rattle.ehci_cli.specs.declared.status.Status.{Status}
 use Rattle.ehci_cli.specs.declared.status.Status.TheVariants.{Ok, Words, Refused, ReadFault, WriteFault, Memory}
 
@@ -27,6 +31,17 @@ pub record RefusesScript (input bytes : List ℕ) : Type 0 where
   pub unspelled : (script : Script) → Spells input script → ⊥
   pub line : bytes ≡ codes "line 0: later" ++ 10 ∷ []
 
+-- The input is an image, and the bytes are the text that shows it.
+pub record ShowsImage (input bytes : List ℕ) : Type 0 where
+  pub sound : image_fault input ≡ None
+  pub told : bytes ≡ shown (image_of input)
+
+-- The input is no image, and the line names the first thing that is wrong with it.
+pub record RefusesImage (input bytes : List ℕ) : Type 0 where
+  pub refusal : Refusal
+  pub refused : image_fault input ≡ Some refusal
+  pub line : bytes ≡ refusal_line refusal
+
 -- the whole output of a form on an input: an end with its bytes
 abbrev pub Gives : Form → List ℕ → Status → List ℕ → Type 0
 Gives Run input Ok bytes = ReportsRun input bytes
@@ -35,6 +50,12 @@ Gives Run input Words bytes = ⊥
 Gives Run input ReadFault bytes = ⊥
 Gives Run input WriteFault bytes = ⊥
 Gives Run input Memory bytes = ⊥
+Gives Dump input Ok bytes = ShowsImage input bytes
+Gives Dump input Refused bytes = RefusesImage input bytes
+Gives Dump input Words bytes = ⊥
+Gives Dump input ReadFault bytes = ⊥
+Gives Dump input WriteFault bytes = ⊥
+Gives Dump input Memory bytes = ⊥
 
 -- all of an output was written
 abbrev pub WritesAll : Form → List ℕ → Status → Option (List ℕ) → Option (List ℕ) → Type 0

@@ -6,6 +6,8 @@ ghost use Rattle.ehci_cli.specs.Form.{words_of, AreNoForm};
 pub enum Form {
     /// `run`: read a script, run it and print the report.
     Run,
+    /// `dump`: read a memory image and print its lists of structures.
+    Dump,
 }
 
 /// The form that these words have; `None` exactly where they have none.
@@ -15,6 +17,7 @@ pub fn form_of(words: &[String]) -> Option<Form>
 {
     match words {
         [word] if is_run(word) => Some(Form::Run),
+        [word] if is_dump(word) => Some(Form::Dump),
         _ => None,
     }
 }
@@ -23,4 +26,10 @@ fn is_run(word: &String) -> bool
     ensures { IsTrue result ↔ (string_bytes word.now ≡ codes "run") }
 {
     word.as_bytes() == b"run".as_slice()
+}
+
+fn is_dump(word: &String) -> bool
+    ensures { IsTrue result ↔ (string_bytes word.now ≡ codes "dump") }
+{
+    word.as_bytes() == b"dump".as_slice()
 }

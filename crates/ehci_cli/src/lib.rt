@@ -1,6 +1,7 @@
 //! The program's top call: what it reads, what it writes and how it ends.
 #![tactic(auto)]
 
+mod dumping;
 mod form;
 mod program;
 mod reading;
@@ -8,12 +9,15 @@ mod running;
 mod status;
 mod std_ends;
 
+pub use dumping::dump;
 pub use form::{Form, form_of};
 pub use program::ehci;
 pub use reading::{Unread, read_input};
 pub use running::run;
 pub use status::Status;
 
+#[cfg(test)]
+mod dump_tests;
 #[cfg(test)]
 mod tests;
 

@@ -1,10 +1,11 @@
-ghost use Rattle.std.specs.Prelude.{◌≡◌, ◌≤◌, ◌↔◌, map, string_bytes, IfSome};
+ghost use Rattle.std.specs.Prelude.{◌≡◌, ◌≢◌, ◌≤◌, ◌↔◌, map, string_bytes, IfSome};
 ghost use Rattle.std.specs.Io.KnownBytes.{Keeps};
 ghost use Rattle.usb_base.specs.Outside.{Rose};
 ghost use Rattle.ehci_cli.specs.Form.{AreNoForm};
 ghost use Rattle.ehci_cli.specs.Input.{input_of};
-ghost use Rattle.ehci_cli.specs.Output.{IsProgram, WritesNothing};
+ghost use Rattle.ehci_cli.specs.Output.{IsAnswer, IsProgram, WritesNothing};
 
+use crate::dumping::dump;
 use crate::form::{Form, form_of};
 use crate::reading::{Unread, read_input};
 use crate::running::run;
@@ -44,7 +45,18 @@ pub fn ehci<S: Source, K: Sink>(
         Err(Unread::Fault) => return Status::ReadFault,
         Err(Unread::Memory) => return Status::Memory,
     };
+    answer(alloc, form, input.as_slice(), sink)
+}
+
+/// The answer of a form to an input.
+fn answer<K: Sink>(alloc: Global, form: Form, input: &[u8], sink: &mut K) -> Status
+    ensures answer { IsAnswer form result input.now (K.written sink.old) (K.written sink.new) }
+    ensures end { (result ≢ Status.Words) × (result ≢ Status.ReadFault) }
+    ensures fault { result ≡ Status.WriteFault → Rose (K.faults sink.old) (K.faults sink.new) }
+    ensures counted { K.faults sink.old ≤ K.faults sink.new }
+{
     match form {
-        Form::Run => run(alloc, input.as_slice(), sink),
+        Form::Run => run(alloc, input, sink),
+        Form::Dump => dump(alloc, input, sink),
     }
 }

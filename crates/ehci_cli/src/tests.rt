@@ -21,7 +21,7 @@ fn one_word(alloc: Global, word: &str) -> Result<Vec<String>, Fail> {
 }
 
 /// The program on one word over an input, where chosen reads and writes fail: its status, and what it wrote.
-fn program(
+pub fn program(
     alloc: Global,
     word: &str,
     input: &[u8],
@@ -30,7 +30,7 @@ fn program(
 ) -> Result<(Status, Vec<u8>), Fail> {
     let words = one_word(alloc, word)?;
     let mut source = MemSource::build(alloc, input, reads)?;
-    let mut sink = MemSink::build(alloc, 4096, writes)?;
+    let mut sink = MemSink::build(alloc, 65536, writes)?;
     let status = ehci(alloc, words.as_slice(), &mut source, &mut sink);
     let written = Vec::from_slice(alloc, sink.written())?;
     Ok((status, written))

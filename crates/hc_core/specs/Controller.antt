@@ -1,6 +1,6 @@
 -- One event of the controller (EHCI 1.0, 4.1, 4.4 and 4.6 to 4.10). A microframe has a Begin, then its periodic part, then its
 -- asynchronous part, then its End. Which row an event is, `row_of` tells.
-use Rattle.std.specs.Prelude.{◌≡◌, ℕ, ◌+◌, ◌*◌, ◌/◌, ◌%◌, Bool, true, false, ◌&&◌, not, List, Option, Some, None, if◌then◌else◌}
+use Rattle.std.specs.Prelude.{◌≡◌, ℕ, ◌+◌, ◌*◌, ◌/◌, ◌%◌, Bool, true, false, ◌&&◌, not, List, if◌then◌else◌}
 use Rattle.usb_base.specs.declared.packets.Ask.{Ask}
 use Rattle.usb_base.specs.declared.packets.Reply.{Reply}
 use Rattle.link_words.specs.declared.kinds.Link.{Link}

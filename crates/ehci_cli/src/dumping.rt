@@ -1,0 +1,58 @@
+ghost use Rattle.std.specs.Prelude.{◌≡◌, ◌≢◌, ◌≤◌, ◌⊎◌, None, Some};
+ghost use Rattle.image_codec.specs.Image.{image_fault, image_of, IsAligned};
+ghost use Rattle.usb_base.specs.Outside.{Rose};
+ghost use Rattle.ehci_cli.specs.Output.{IsAnswer};
+
+use crate::form::Form;
+use crate::status::Status;
+use image_codec::{Image, ImageError, Refusal, ShowError, decode, print_refusal, show};
+use std::alloc::Global;
+use usb_base::Sink;
+
+/// Refuses an input that is no image.
+fn refuse_image<K: Sink>(input: &[u8], refusal: Refusal, sink: &mut K) -> Status
+    requires { image_fault input.now ≡ Some refusal }
+    ensures answer { IsAnswer Form.Dump result input.now (K.written sink.old) (K.written sink.new) }
+    ensures end { (result ≡ Status.Refused) ⊎ (result ≡ Status.WriteFault) }
+    ensures fault { result ≡ Status.WriteFault → Rose (K.faults sink.old) (K.faults sink.new) }
+    ensures counted { K.faults sink.old ≤ K.faults sink.new }
+{
+    match print_refusal(refusal, sink) {
+        Ok(()) => Status::Refused,
+        Err(_) => Status::WriteFault,
+    }
+}
+
+/// Shows the image that the input is.
+fn show_image<K: Sink>(alloc: Global, input: &[u8], image: &Image, sink: &mut K) -> Status
+    requires sound { image_fault input.now ≡ None }
+    requires image { image.now ≡ image_of input.now }
+    requires aligned { IsAligned image.now }
+    ensures answer { IsAnswer Form.Dump result input.now (K.written sink.old) (K.written sink.new) }
+    ensures end { (result ≢ Status.Words) × (result ≢ Status.ReadFault) × (result ≢ Status.Refused) }
+    ensures fault { result ≡ Status.WriteFault → Rose (K.faults sink.old) (K.faults sink.new) }
+    ensures counted { K.faults sink.old ≤ K.faults sink.new }
+{
+    match show(alloc, image, sink) {
+        Ok(()) => Status::Ok,
+        Err(ShowError::Failed(_)) => Status::WriteFault,
+        Err(ShowError::Memory(_)) => Status::Memory,
+    }
+}
+
+/// The form `dump`: the text that shows the image that the input is, or its refusal. All memory is taken before the
+/// first write.
+pub fn dump<K: Sink>(alloc: Global, input: &[u8], sink: &mut K) -> Status
+    ensures answer { IsAnswer Form.Dump result input.now (K.written sink.old) (K.written sink.new) }
+    ensures end { (result ≢ Status.Words) × (result ≢ Status.ReadFault) }
+    ensures fault { result ≡ Status.WriteFault → Rose (K.faults sink.old) (K.faults sink.new) }
+    ensures counted { K.faults sink.old ≤ K.faults sink.new }
+{
+    match decode(alloc, input) {
+        Ok(image) => show_image(alloc, input, &image, sink),
+        Err(ImageError::Refused { offset, why }) => {
+            refuse_image(input, Refusal { offset, why }, sink)
+        }
+        Err(ImageError::Memory(_)) => Status::Memory,
+    }
+}
