@@ -5,11 +5,12 @@ use Rattle.std.proofs.lemmas.Bool.{cases_lt}
 use Rattle.word_mem.specs.Runs.{Run, IsRun, AreApart}
 use Rattle.word_mem.specs.Memory.{Mem, AreAll, with_states}
 use Rattle.word_mem.specs.Free.{IsTaken}
+use Rattle.word_mem.specs.declared.blocks.BlockState.{BlockState}
 use Rattle.word_mem.specs.declared.blocks.BlockState.TheVariants.{Free, Kept, Lent}
 use Rattle.word_mem.proofs.Frames.{run_within, taken_apart, AreAll-with_states, AreAll-with_states_apart}
 use Rattle.buffers.specs.Bytes.{ArePages, AreDistinct}
 use Rattle.buffers.proofs.Frames.{pages_none}
-use Rattle.ring_setting.specs.Taking.{page_run, LendsRun, LendsPages}
+use Rattle.ring_setting.specs.Taking.{page_run, KeepsRuns, LendsRun, LendsPages}
 
 -- ---- one more number in a list
 
@@ -53,7 +54,7 @@ distinct_append xs x new old i j hi hj e = ⊎_elim
 
 -- ---- one run
 
-lent_is_not_free : Lent ≢ Free
+pub lent_is_not_free : Lent ≢ Free
 lent_is_not_free e = cc
 
 abbrev pub lent_after : Mem → Run → Mem
@@ -67,21 +68,38 @@ inside_taken m k r some taken =
 inside_kept : (m : Mem) (k : ℕ) (r : Run) → 1 ≤ r.blocks → IsTaken m.states k (Some r) → r.first + r.blocks ≤ length (with_states m r Kept).states
 inside_kept m k r some taken = run_within (with_states m r Kept) Kept r (AreAll-with_states m r Kept (inside_taken m k r some taken)) some
 
-stays_lent : (m : Mem) (k : ℕ) (r q : Run) → 1 ≤ r.blocks → IsTaken m.states k (Some r) → 1 ≤ q.blocks → AreAll m Lent q → AreAll (lent_after m r) Lent q
-stays_lent m k r q some taken also all =
-    let apart = taken_apart m k r Lent q taken lent_is_not_free also all in
-    AreAll-with_states_apart (with_states m r Kept) r Lent q Lent (inside_kept m k r some taken) apart
-    (AreAll-with_states_apart m r Kept q Lent (inside_taken m k r some taken) apart all)
+stays : (m : Mem) (k : ℕ) (r : Run) (s : BlockState) (q : Run) → 1 ≤ r.blocks → IsTaken m.states k (Some r) → s ≢ Free → 1 ≤ q.blocks → AreAll m s q → AreAll (lent_after m r) s q
+stays m k r s q some taken differs also all =
+    let apart = taken_apart m k r s q taken differs also all in
+    AreAll-with_states_apart (with_states m r Kept) r Lent q s (inside_kept m k r some taken) apart
+    (AreAll-with_states_apart m r Kept q s (inside_taken m k r some taken) apart all)
+
+pub keeps_runs : (m : Mem) (k : ℕ) (r : Run) → IsRun r → IsTaken m.states k (Some r) → KeepsRuns m (lent_after m r)
+keeps_runs m k r run taken = record {
+  sizes = refl;
+  foreign = refl;
+  states = λ s q differs also all. stays m k r s q run.some taken differs also all;
+  words = λ s q differs also all at here. refl;
+}
 
 pub lends_run : (m : Mem) (k : ℕ) (r : Run) → IsRun r → IsTaken m.states k (Some r) → LendsRun m (lent_after m r) k r
 lends_run m k r run taken = record {
-  words = refl;
-  foreign = refl;
   run = run;
   blocks = taken.0;
   lent = AreAll-with_states (with_states m r Kept) r Lent (inside_kept m k r run.some taken);
-  kept = λ q also all. stays_lent m k r q run.some taken also all;
-  apart = λ q also all. taken_apart m k r Lent q taken lent_is_not_free also all;
+  keeps = keeps_runs m k r run taken;
+  apart = λ s q differs also all. taken_apart m k r s q taken differs also all;
+}
+
+pub keeps_nothing : (m : Mem) → KeepsRuns m m
+keeps_nothing m = record { sizes = refl; foreign = refl; states = λ s q differs some all. all; words = λ s q differs some all at here. refl }
+
+pub keeps_both : (m n o : Mem) → KeepsRuns m n → KeepsRuns n o → KeepsRuns m o
+keeps_both m n o one two = record {
+  sizes = two.sizes ∙ one.sizes;
+  foreign = two.foreign ∙ one.foreign;
+  states = λ s q differs some all. two.states s q differs some (one.states s q differs some all);
+  words = λ s q differs some all at here. two.words s q differs some (one.states s q differs some all) at here ∙ one.words s q differs some all at here;
 }
 
 -- ---- pages
@@ -101,26 +119,22 @@ pub one_more_page : (m n : Mem) (r : Run) (pages : List ℕ) → length pages < 
 one_more_page m n r pages few run taken s =
     let is : r ≡ page_run (r.first / 128) = page_is r taken.0 run.one_page in
     let now = lends_run n 128 r run taken in
-    let apart : (i : ℕ) → i < length pages → AreApart (page_run (get_or pages i 0)) r = λ i h. now.apart (page_run (get_or pages i 0)) (omega arith) (s.lent i h) in
+    let apart : (i : ℕ) → i < length pages → AreApart (page_run (get_or pages i 0)) r = λ i h. now.apart Lent (page_run (get_or pages i 0)) lent_is_not_free (omega arith) (s.lent i h) in
     record {
-      words = s.words;
-      foreign = s.foreign;
       numbers = pages_append pages (r.first / 128) (let w = run.within in omega (arith, w)) few s.numbers;
       distinct = distinct_append pages (r.first / 128) (λ i h. other_page (get_or pages i 0) (r.first / 128) (subst (AreApart (page_run (get_or pages i 0))) is (apart i h))) s.distinct;
       lent = each_more (λ p. AreAll (lent_after n r) Lent (page_run p)) pages (r.first / 128)
-          (λ i h. now.kept (page_run (get_or pages i 0)) (omega arith) (s.lent i h))
+          (λ i h. now.keeps.states Lent (page_run (get_or pages i 0)) lent_is_not_free (omega arith) (s.lent i h))
           (subst (AreAll (lent_after n r) Lent) is now.lent);
-      kept = λ q some all. now.kept q some (s.kept q some all);
-      apart = λ q some all. each_more (λ p. AreApart q (page_run p)) pages (r.first / 128) (s.apart q some all) (subst (AreApart q) is (now.apart q some (s.kept q some all)));
+      keeps = keeps_both m n (lent_after n r) s.keeps now.keeps;
+      apart = λ b q differs some all. each_more (λ p. AreApart q (page_run p)) pages (r.first / 128) (s.apart b q differs some all) (subst (AreApart q) is (now.apart b q differs some (s.keeps.states b q differs some all)));
     }
 
 pub no_page : (m : Mem) → LendsPages m m []
 no_page m = record {
-  words = refl;
-  foreign = refl;
   numbers = pages_none;
   distinct = λ i j hi hj e. omega (arith, hi);
   lent = λ i h. absurd (omega (arith, h));
-  kept = λ q some all. all;
-  apart = λ q some all i h. absurd (omega (arith, h));
+  keeps = keeps_nothing m;
+  apart = λ b q differs some all i h. absurd (omega (arith, h));
 }

@@ -1,6 +1,5 @@
 pub mod Lent
 pub mod Written
-pub mod Ranges
 pub mod Spread
 pub mod Rings
 pub mod Published

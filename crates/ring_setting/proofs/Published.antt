@@ -1,5 +1,5 @@
 -- The qTD of a ring is published, and read.
-use Rattle.std.proofs.Common.{◌≡◌, ℕ, ◌+◌, ◌*◌, ◌/◌, ◌<◌, ◌≤◌, ◌⊎◌, List, [], ◌∷◌, zero, suc, length, slice_index, get_or, refl, ap, sym, ◌∙◌, arith, inl, inr, ⊎_elim}
+use Rattle.std.proofs.Common.{◌≡◌, ℕ, ◌+◌, ◌*◌, ◌/◌, ◌<◌, ◌≤◌, ◌⊎◌, length, slice_index, get_or, refl, ap, sym, ◌∙◌, arith, inl, inr, ⊎_elim}
 use Rattle.word_mem.specs.Runs.{Run}
 use Rattle.word_mem.specs.Memory.{Mem, IsShaped, word_at}
 use Rattle.word_mem.specs.Access.{IsByController}
@@ -15,10 +15,9 @@ use Rattle.buffers.specs.Bytes.{place, AreThere}
 use Rattle.standing.specs.Standing.{QtdStands}
 use Rattle.standing.proofs.Frames.{queue_stays, qtd_stays}
 use Rattle.transfer_steps.specs.Setting.{Setting, head_of, dummy_qtd, IsLaidOut, Stands}
-use Rattle.transfer_steps.specs.Told.{Waits}
 use Rattle.ring_setting.specs.Writing.{ChangesOnly}
 use Rattle.ring_setting.specs.Taking.{page_run}
-use Rattle.ring_setting.specs.Ring.{RingRuns, setting_of, new_qtd, token_in, IsHeld, CanTake}
+use Rattle.ring_setting.specs.Ring.{RingRuns, setting_of, token_in, IsHeld}
 use Rattle.ring_setting.proofs.Written.{shape_kept}
 use Rattle.ring_setting.proofs.Rings.{held_same}
 use Rattle.ring_setting.proofs.Spread.{place_in_page}
@@ -61,32 +60,6 @@ qtd_published m n s r q t new laid here one c there st =
       dummy = qtd_stays m n s.dummy dummy_qtd c.states (λ other from below. beside s.dummy 32 other (⊎_elim (λ (low : s.dummy + 32 ≤ s.qtd). inr low) (λ (high : s.qtd + 32 ≤ s.dummy). inl high) laid.dummy_qtd) from below) st.dummy;
       buffer = λ i below. reaches_same m n (place s.pages (0 + i)) c.states ∙ st.buffer i below;
     }
-
--- the pages of a buffer of up to five
-five_pages : (pages : List ℕ) (i : ℕ) → i < 5 → slice_index (slice_index pages 0 ∷ slice_index pages 1 ∷ slice_index pages 2 ∷ slice_index pages 3 ∷ slice_index pages 4 ∷ []) i ≡ slice_index pages i
-five_pages pages zero below = refl
-five_pages pages (suc zero) below = refl
-five_pages pages (suc (suc zero)) below = refl
-five_pages pages (suc (suc (suc zero))) below = refl
-five_pages pages (suc (suc (suc (suc zero)))) below = refl
-five_pages pages (suc (suc (suc (suc (suc i))))) below = absurd (omega arith)
-
-pub new_qtd_waits : (m : Mem) (r : RingRuns) (addr ep asked : ℕ) (q : Qh) → IsHeld m r → CanTake (setting_of r addr ep asked) q → Waits (setting_of r addr ep asked) q (new_qtd (setting_of r addr ep asked))
-new_qtd_waits m r addr ep asked q held takes = record {
-  queue_off = takes.off;
-  queue_on = takes.goes_on;
-  next = takes.next;
-  queue_toggle = takes.toggle;
-  queue_ping = takes.ping;
-  qtd_on = refl;
-  goes_on = refl;
-  pid = refl;
-  follows = refl;
-  instead = refl;
-  start = refl;
-  pages = λ i below. five_pages r.pages i (let f = held.few in omega (arith, below, f));
-  left = refl;
-}
 
 -- ---- the bytes
 

@@ -1,16 +1,19 @@
 -- The parts of a ring are taken and written one after another.
-use Rattle.std.proofs.Common.{◌≡◌, ℕ, ◌+◌, ◌*◌, ◌<◌, ◌≤◌, length, slice_index, refl, ◌∙◌, arith, inl, inr}
-use Rattle.word_mem.specs.Runs.{Run}
-use Rattle.word_mem.specs.Memory.{Mem, IsShaped, word_at}
+use Rattle.std.proofs.Common.{◌≡◌, ◌≢◌, ℕ, ◌+◌, ◌*◌, ◌<◌, ◌≤◌, length, slice_index, slice_get, ap, refl, ◌∙◌, arith, inl, inr}
+use Rattle.word_mem.specs.Runs.{Run, IsInRun}
+use Rattle.word_mem.specs.Memory.{Mem, IsShaped, AreAll, word_at}
+use Rattle.word_mem.specs.declared.blocks.BlockState.{BlockState}
+use Rattle.word_mem.specs.declared.blocks.BlockState.TheVariants.{Free, Lent}
 use Rattle.word_mem.proofs.Frames.{reaches_lent}
 use Rattle.qh_qtd.specs.declared.qtd.Qtd.{Qtd}
 use Rattle.qh_qtd.specs.declared.queue_head.Qh.{Qh}
 use Rattle.standing.specs.Standing.{QueueStands, QtdStands}
 use Rattle.transfer_steps.specs.Setting.{head_of, dummy_qtd, IsQueue, Stands}
-use Rattle.ring_setting.specs.Taking.{page_run, LendsRun, LendsPages}
+use Rattle.ring_setting.specs.Taking.{page_run, KeepsRuns, LendsRun, LendsPages}
 use Rattle.ring_setting.specs.Writing.{ChangesOnly}
-use Rattle.ring_setting.specs.Ring.{RingRuns, setting_of, opening_queue, IsHeld, IsSpread, IsOpened}
+use Rattle.ring_setting.specs.Ring.{RingRuns, setting_of, opening_queue, IsHeld, IsSpread, IsBeside, IsOpened}
 use Rattle.ring_setting.proofs.Written.{shape_kept, word_beside_run, queue_beside_run, qtd_beside_run, all_same, lent_same}
+use Rattle.ring_setting.proofs.Lent.{lent_is_not_free}
 use Rattle.ring_setting.proofs.Spread.{bytes_reached, laid_out}
 
 -- ---- the runs
@@ -40,11 +43,11 @@ held_by m n r few l =
     let qtd_some = l.qtd.run.some in
     let dummy_some = l.dummy.run.some in
     record {
-      list = record { run = l.list.run; blocks = l.list.blocks; lent = l.pages.kept r.list list_some (l.dummy.kept r.list list_some (l.qtd.kept r.list list_some (l.queue.kept r.list list_some (l.head.kept r.list list_some l.list.lent)))) };
-      head = record { run = l.head.run; blocks = l.head.blocks; lent = l.pages.kept r.head head_some (l.dummy.kept r.head head_some (l.qtd.kept r.head head_some (l.queue.kept r.head head_some l.head.lent))) };
-      queue = record { run = l.queue.run; blocks = l.queue.blocks; lent = l.pages.kept r.queue queue_some (l.dummy.kept r.queue queue_some (l.qtd.kept r.queue queue_some l.queue.lent)) };
-      qtd = record { run = l.qtd.run; blocks = l.qtd.blocks; lent = l.pages.kept r.qtd qtd_some (l.dummy.kept r.qtd qtd_some l.qtd.lent) };
-      dummy = record { run = l.dummy.run; blocks = l.dummy.blocks; lent = l.pages.kept r.dummy dummy_some l.dummy.lent };
+      list = record { run = l.list.run; blocks = l.list.blocks; lent = l.pages.keeps.states Lent r.list lent_is_not_free list_some (l.dummy.keeps.states Lent r.list lent_is_not_free list_some (l.qtd.keeps.states Lent r.list lent_is_not_free list_some (l.queue.keeps.states Lent r.list lent_is_not_free list_some (l.head.keeps.states Lent r.list lent_is_not_free list_some l.list.lent)))) };
+      head = record { run = l.head.run; blocks = l.head.blocks; lent = l.pages.keeps.states Lent r.head lent_is_not_free head_some (l.dummy.keeps.states Lent r.head lent_is_not_free head_some (l.qtd.keeps.states Lent r.head lent_is_not_free head_some (l.queue.keeps.states Lent r.head lent_is_not_free head_some l.head.lent))) };
+      queue = record { run = l.queue.run; blocks = l.queue.blocks; lent = l.pages.keeps.states Lent r.queue lent_is_not_free queue_some (l.dummy.keeps.states Lent r.queue lent_is_not_free queue_some (l.qtd.keeps.states Lent r.queue lent_is_not_free queue_some l.queue.lent)) };
+      qtd = record { run = l.qtd.run; blocks = l.qtd.blocks; lent = l.pages.keeps.states Lent r.qtd lent_is_not_free qtd_some (l.dummy.keeps.states Lent r.qtd lent_is_not_free qtd_some l.qtd.lent) };
+      dummy = record { run = l.dummy.run; blocks = l.dummy.blocks; lent = l.pages.keeps.states Lent r.dummy lent_is_not_free dummy_some l.dummy.lent };
       numbers = l.pages.numbers;
       distinct = l.pages.distinct;
       few = few;
@@ -58,32 +61,47 @@ spread_by m n r l =
     let queue_some = l.queue.run.some in
     let qtd_some = l.qtd.run.some in
     let dummy_some = l.dummy.run.some in
-    let list_two = l.head.kept r.list list_some l.list.lent in
-    let list_three = l.queue.kept r.list list_some list_two in
-    let list_four = l.qtd.kept r.list list_some list_three in
-    let list_five = l.dummy.kept r.list list_some list_four in
-    let head_three = l.queue.kept r.head head_some l.head.lent in
-    let head_four = l.qtd.kept r.head head_some head_three in
-    let head_five = l.dummy.kept r.head head_some head_four in
-    let queue_four = l.qtd.kept r.queue queue_some l.queue.lent in
-    let queue_five = l.dummy.kept r.queue queue_some queue_four in
-    let qtd_five = l.dummy.kept r.qtd qtd_some l.qtd.lent in
+    let list_two = l.head.keeps.states Lent r.list lent_is_not_free list_some l.list.lent in
+    let list_three = l.queue.keeps.states Lent r.list lent_is_not_free list_some list_two in
+    let list_four = l.qtd.keeps.states Lent r.list lent_is_not_free list_some list_three in
+    let list_five = l.dummy.keeps.states Lent r.list lent_is_not_free list_some list_four in
+    let head_three = l.queue.keeps.states Lent r.head lent_is_not_free head_some l.head.lent in
+    let head_four = l.qtd.keeps.states Lent r.head lent_is_not_free head_some head_three in
+    let head_five = l.dummy.keeps.states Lent r.head lent_is_not_free head_some head_four in
+    let queue_four = l.qtd.keeps.states Lent r.queue lent_is_not_free queue_some l.queue.lent in
+    let queue_five = l.dummy.keeps.states Lent r.queue lent_is_not_free queue_some queue_four in
+    let qtd_five = l.dummy.keeps.states Lent r.qtd lent_is_not_free qtd_some l.qtd.lent in
     record {
-      list_head = l.head.apart r.list list_some l.list.lent;
-      list_queue = l.queue.apart r.list list_some list_two;
-      list_qtd = l.qtd.apart r.list list_some list_three;
-      list_dummy = l.dummy.apart r.list list_some list_four;
-      head_queue = l.queue.apart r.head head_some l.head.lent;
-      head_qtd = l.qtd.apart r.head head_some head_three;
-      head_dummy = l.dummy.apart r.head head_some head_four;
-      queue_qtd = l.qtd.apart r.queue queue_some l.queue.lent;
-      queue_dummy = l.dummy.apart r.queue queue_some queue_four;
-      qtd_dummy = l.dummy.apart r.qtd qtd_some l.qtd.lent;
-      list_pages = l.pages.apart r.list list_some list_five;
-      head_pages = l.pages.apart r.head head_some head_five;
-      queue_pages = l.pages.apart r.queue queue_some queue_five;
-      qtd_pages = l.pages.apart r.qtd qtd_some qtd_five;
-      dummy_pages = l.pages.apart r.dummy dummy_some l.dummy.lent;
+      list_head = l.head.apart Lent r.list lent_is_not_free list_some l.list.lent;
+      list_queue = l.queue.apart Lent r.list lent_is_not_free list_some list_two;
+      list_qtd = l.qtd.apart Lent r.list lent_is_not_free list_some list_three;
+      list_dummy = l.dummy.apart Lent r.list lent_is_not_free list_some list_four;
+      head_queue = l.queue.apart Lent r.head lent_is_not_free head_some l.head.lent;
+      head_qtd = l.qtd.apart Lent r.head lent_is_not_free head_some head_three;
+      head_dummy = l.dummy.apart Lent r.head lent_is_not_free head_some head_four;
+      queue_qtd = l.qtd.apart Lent r.queue lent_is_not_free queue_some l.queue.lent;
+      queue_dummy = l.dummy.apart Lent r.queue lent_is_not_free queue_some queue_four;
+      qtd_dummy = l.dummy.apart Lent r.qtd lent_is_not_free qtd_some l.qtd.lent;
+      list_pages = l.pages.apart Lent r.list lent_is_not_free list_some list_five;
+      head_pages = l.pages.apart Lent r.head lent_is_not_free head_some head_five;
+      queue_pages = l.pages.apart Lent r.queue lent_is_not_free queue_some queue_five;
+      qtd_pages = l.pages.apart Lent r.qtd lent_is_not_free qtd_some qtd_five;
+      dummy_pages = l.pages.apart Lent r.dummy lent_is_not_free dummy_some l.dummy.lent;
+    }
+
+-- a run that was taken before shares no block with it
+pub beside_by : (m n : Mem) (r : RingRuns) (s : BlockState) (q : Run) → Lends m n r → s ≢ Free → 1 ≤ q.blocks → AreAll m s q → IsBeside q r
+beside_by m n r s q l differs some all =
+    let one = l.list.keeps.states s q differs some all in
+    let two = l.head.keeps.states s q differs some one in
+    let three = l.queue.keeps.states s q differs some two in
+    let four = l.qtd.keeps.states s q differs some three in
+    record {
+      list = l.list.apart s q differs some all;
+      head = l.head.apart s q differs some one;
+      queue = l.queue.apart s q differs some two;
+      qtd = l.qtd.apart s q differs some three;
+      dummy = l.dummy.apart s q differs some four;
     }
 
 -- states alone tell it, so every event of the controller keeps it
@@ -122,6 +140,18 @@ pub record Writes (m n : Mem) (r : RingRuns) (head queue : Qh) (t d : Qtd) : Typ
 pub states_after : (m n : Mem) (r : RingRuns) (head queue : Qh) (t d : Qtd) → Writes m n r head queue t d → n.states ≡ m.states
 states_after m n r head queue t d w =
     w.dummy_only.states ∙ w.qtd_only.states ∙ w.queue_only.states ∙ w.head_only.states ∙ w.list_only.states
+
+pub foreign_after : (m n : Mem) (r : RingRuns) (head queue : Qh) (t d : Qtd) → Writes m n r head queue t d → n.foreign ≡ m.foreign
+foreign_after m n r head queue t d w =
+    w.dummy_only.foreign ∙ w.qtd_only.foreign ∙ w.queue_only.foreign ∙ w.head_only.foreign ∙ w.list_only.foreign
+
+pub word_beside_ring : (m n : Mem) (r : RingRuns) (head queue : Qh) (t d : Qtd) (q : Run) (at : ℕ) → Writes m n r head queue t d → IsBeside q r → IsInRun q at → word_at n at ≡ word_at m at
+word_beside_ring m n r head queue t d q at w beside here =
+    word_beside_run w.four n r.dummy q at w.dummy_only beside.dummy here.from here.below
+    ∙ word_beside_run w.three w.four r.qtd q at w.qtd_only beside.qtd here.from here.below
+    ∙ word_beside_run w.two w.three r.queue q at w.queue_only beside.queue here.from here.below
+    ∙ word_beside_run w.one w.two r.head q at w.head_only beside.head here.from here.below
+    ∙ word_beside_run m w.one r.list q at w.list_only beside.list here.from here.below
 
 shape_after : (m n : Mem) (r : RingRuns) (head queue : Qh) (t d : Qtd) → Writes m n r head queue t d → IsShaped m → IsShaped n
 shape_after m n r head queue t d w shape =
@@ -164,6 +194,15 @@ ring_stands m n r addr ep asked shape before spread room w =
     }
 
 -- ---- the whole
+
+-- what was lent, and then written, leaves the runs that were taken before
+pub keeps_open : (m n o : Mem) (r : RingRuns) → KeepsRuns m n → ((s : BlockState) (q : Run) → s ≢ Free → 1 ≤ q.blocks → AreAll m s q → IsBeside q r) → o.states ≡ n.states → length o.words ≡ length n.words → o.foreign ≡ n.foreign → ((q : Run) (at : ℕ) → IsBeside q r → IsInRun q at → word_at o at ≡ word_at n at) → KeepsRuns m o
+keeps_open m n o r keeps beside states sizes foreign words = record {
+  sizes = sizes ∙ keeps.sizes;
+  foreign = foreign ∙ keeps.foreign;
+  states = λ s q differs some all b from below. ap (λ x. slice_get x b) states ∙ keeps.states s q differs some all b from below;
+  words = λ s q differs some all at here. words q at (beside s q differs some all) here ∙ keeps.words s q differs some all at here;
+}
 
 pub ring_opened : (n : Mem) (r : RingRuns) (addr ep asked : ℕ) → 1 ≤ asked → asked ≤ 20480 → asked ≤ 4096 * length r.pages → IsHeld n r → IsSpread r → Stands (setting_of r addr ep asked) n (opening_queue (setting_of r addr ep asked)) dummy_qtd → IsOpened n r addr ep asked (opening_queue (setting_of r addr ep asked))
 ring_opened n r addr ep asked some few room held spread stands = record {

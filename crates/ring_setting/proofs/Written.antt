@@ -1,7 +1,7 @@
 -- What writes into a run leave of memory, and what stands there.
-use Rattle.std.proofs.Common.{◌≡◌, ℕ, ◌+◌, ◌*◌, ◌/◌, ◌%◌, ◌<◌, ◌≤◌, List, [], ◌∷◌, ◌++◌, Bool, true, ◌&&◌, length, length-append, get_or, set, take, drop, slice_get, ap, refl, sym, ◌∙◌, arith, ⊎_elim, inl, inr}
-use Rattle.std.proofs.lemmas.List.{set_comm, length-take-le, take_more, take-append-drop, length-set, get_or-set_other}
-use Rattle.word_mem.specs.Runs.{Run, IsInRun, AreApart}
+use Rattle.std.proofs.Common.{◌≡◌, ℕ, ◌+◌, ◌*◌, ◌/◌, ◌<◌, ◌≤◌, List, [], ◌∷◌, ◌++◌, Bool, true, ◌&&◌, length, length-append, get_or, set, take, drop, slice_get, ap, refl, sym, ◌∙◌, arith, ⊎_elim, inl, inr}
+use Rattle.std.proofs.lemmas.List.{set_comm, length-take-le, take_more, take-append-drop}
+use Rattle.word_mem.specs.Runs.{Run, AreApart}
 use Rattle.word_mem.specs.Memory.{Mem, IsShaped, AreAll, word_at, with_word, reaches}
 use Rattle.word_mem.specs.Views.{words_at, with_words, with_words_in}
 use Rattle.word_mem.specs.declared.blocks.BlockState.TheVariants.{Lent}
@@ -20,36 +20,23 @@ use Rattle.ring_setting.specs.Writing.{ChangesOnly}
 
 -- ---- nothing else changes
 
-pub changes_nothing : (m : Mem) (r : Run) → ChangesOnly m m r
-changes_nothing m r = record { states = refl; sizes = refl; foreign = refl; outside = λ at apart. refl }
-
--- one more word in the run
-pub one_more_word : (m n : Mem) (r : Run) (at v : ℕ) → IsInRun r at → at % 4 ≡ 0 → ChangesOnly m n r → ChangesOnly m (with_word n at v) r
-one_more_word m n r at v here aligned c = record {
-  states = c.states;
-  sizes = length-set n.words (at / 4) v ∙ c.sizes;
-  foreign = c.foreign;
-  outside = λ other apart. get_or-set_other n.words (at / 4) (other / 4) v 0
-      (λ e. ⊎_elim (λ (low : other < 32 * r.first). omega (arith, e, low, here.from, aligned)) (λ (high : 32 * (r.first + r.blocks) ≤ other). omega (arith, e, high, here.below)) apart)
-      ∙ c.outside other apart;
-}
-
 -- the words of a run that lies in memory
 room_inside : (m : Mem) (r : Run) (ws : List ℕ) → IsShaped m → 1 ≤ r.blocks → AreAll m Lent r → 4 * length ws ≤ 32 * r.blocks → 32 * r.first / 4 + length ws ≤ length m.words
 room_inside m r ws shape some all room =
     let inside = run_within m Lent r all some in
     omega (arith, shape.eight_each, inside, room)
 
-pub changes_words : (m : Mem) (r : Run) (ws : List ℕ) → IsShaped m → 1 ≤ r.blocks → AreAll m Lent r → 4 * length ws ≤ 32 * r.blocks → ChangesOnly m (with_words m (32 * r.first) ws) r
-changes_words m r ws shape some all room =
-    let within = room_inside m r ws shape some all room in
+pub changes_words : (m : Mem) (r : Run) (k : ℕ) (ws : List ℕ) → IsShaped m → IsLent m r k → 4 * length ws ≤ 32 * k → ChangesOnly m (with_words m (32 * r.first) ws) r
+changes_words m r k ws shape lent room =
+    let blocks = lent.blocks in
+    let within = room_inside m r ws shape lent.run.some lent.lent (omega (arith, room, blocks)) in
     record {
       states = refl;
       sizes = length-with_words_in m.words (32 * r.first) ws;
       foreign = refl;
       outside = λ at apart. ⊎_elim
           (λ (low : at < 32 * r.first). get_or-with_words_in_before m.words (32 * r.first) ws (at / 4) within (omega (arith, low)))
-          (λ (high : 32 * (r.first + r.blocks) ≤ at). get_or-with_words_in_after m.words (32 * r.first) ws (at / 4) within (omega (arith, high, room)))
+          (λ (high : 32 * (r.first + r.blocks) ≤ at). get_or-with_words_in_after m.words (32 * r.first) ws (at / 4) within (omega (arith, high, room, blocks)))
           apart;
     }
 

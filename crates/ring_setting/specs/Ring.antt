@@ -5,6 +5,9 @@
 --     new_qtd s                     the qTD of a new IN transfer
 --     IsHeld m r                    each run has its size, is lent to the controller, and no two pages are the same
 --     IsSpread r                    no two of the runs share a block
+--     IsBeside q r                  the run q shares no block with a part of the ring that is written
+--     token_in m r                  the token of its qTD
+--     CanTake s q                   the queue head can take a qTD next
 --     IsOpened m r addr ep asked q  the ring stands in memory with this queue head, and nothing is published
 use Rattle.std.specs.Prelude.{◌≡◌, ℕ, ◌*◌, ◌+◌, ◌<◌, ◌≤◌, true, false, List, length, slice_index}
 use Rattle.word_mem.specs.Runs.{Run, IsRun, AreApart}
@@ -149,6 +152,14 @@ pub record IsSpread (r : RingRuns) : Type 0 where
   pub queue_pages : IsBesidePages r.queue r.pages
   pub qtd_pages : IsBesidePages r.qtd r.pages
   pub dummy_pages : IsBesidePages r.dummy r.pages
+
+-- the run shares no block with a part of the ring that is written
+pub record IsBeside (q : Run) (r : RingRuns) : Type 0 where
+  pub list : AreApart q r.list
+  pub head : AreApart q r.head
+  pub queue : AreApart q r.queue
+  pub qtd : AreApart q r.qtd
+  pub dummy : AreApart q r.dummy
 
 -- the token of the ring's qTD
 abbrev pub token_in : Mem → RingRuns → Token

@@ -12,3 +12,6 @@ mod words;
 
 pub use opening::open_ring;
 pub use ring::Ring;
+
+#[cfg(test)]
+mod tests;

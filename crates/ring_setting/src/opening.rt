@@ -1,8 +1,13 @@
-ghost use Rattle.std.specs.Prelude.{◌≡◌, ℕ, ◌*◌, ◌≤◌, length, IfOk, IfErr};
+ghost use Rattle.std.specs.Prelude.{◌≡◌, ◌≢◌, ℕ, ◌*◌, ◌≤◌, length, IfOk, IfErr};
 ghost use Rattle.qh_qtd.specs.Qtd.{IsQtdInRange};
 ghost use Rattle.qh_qtd.specs.QueueHead.{IsQhInRange};
 ghost use Rattle.transfer_steps.specs.Setting.{head_of, no_token, leads_nowhere, dummy_qtd, Stands};
-ghost use Rattle.ring_setting.specs.Ring.{setting_of, opening_queue, IsHeld, IsSpread, IsOpened};
+ghost use Rattle.ring_setting.specs.Ring.{setting_of, opening_queue, IsHeld, IsSpread, IsBeside, IsOpened};
+ghost use Rattle.ring_setting.specs.Taking.{KeepsRuns};
+ghost use Rattle.word_mem.specs.Runs.{Run, IsInRun};
+ghost use Rattle.word_mem.specs.Memory.{AreAll, word_at};
+ghost use Rattle.word_mem.specs.declared.blocks.BlockState.{BlockState};
+ghost use Rattle.word_mem.specs.declared.blocks.BlockState.TheVariants.{Free};
 
 use crate::ring::Ring;
 use crate::structures::{write_qtd, write_queue};
@@ -18,7 +23,7 @@ use word_mem::WordMem;
 const QUEUE_HEAD: u8 = 1;
 
 /// A token of which nothing is done.
-pub(crate) fn idle_token(halted: bool) -> Token
+fn idle_token(halted: bool) -> Token
     ensures { result ≡ no_token halted }
 {
     Token {
@@ -160,6 +165,9 @@ fn write_ring(ring: &Ring, mem: &mut WordMem, addr: DevAddr, ep: EpNum)
     requires spread { IsSpread ring.now }
     ensures stands { (asked : ℕ) → asked ≤ 4096 * length ring.now.pages → Stands (setting_of ring.now addr ep asked) mem.new (opening_queue (setting_of ring.now addr ep asked)) dummy_qtd }
     ensures states { mem.new.states ≡ mem.old.states }
+    ensures sizes { length mem.new.words ≡ length mem.old.words }
+    ensures foreign { mem.new.foreign ≡ mem.old.foreign }
+    ensures others { (q : Run) (at : ℕ) → IsBeside q ring.now → IsInRun q at → word_at mem.new at ≡ word_at mem.old at }
 {
     let _words = mem.words();
     write_list(mem, &ring.list);
@@ -179,7 +187,9 @@ fn lend_ring(alloc: Global, mem: &mut WordMem, asked: u16) -> Result<Ring, Memor
     ensures held { IfOk result (IsHeld mem.new) }
     ensures spread { IfOk result IsSpread }
     ensures room { IfOk result (λ r. asked ≤ 4096 * length r.pages) }
+    ensures beside { IfOk result (λ r. (s : BlockState) (q : Run) → s ≢ Free → 1 ≤ q.blocks → AreAll mem.old s q → IsBeside q r) }
     ensures words { mem.new.words ≡ mem.old.words }
+    ensures others { KeepsRuns mem.old mem.new }
 {
     let list = lend_run(mem, 128)?;
     let head = lend_run(mem, 2)?;
@@ -199,7 +209,7 @@ fn lend_ring(alloc: Global, mem: &mut WordMem, asked: u16) -> Result<Ring, Memor
 
 /// Opens a ring for the high-speed bulk endpoint `ep` of the device `addr`, with room for `asked` bytes, 1 to 20,480: a frame list that
 /// leads nowhere, a halted head, a queue head, and the qTD of its first transfer, which isn't published yet. All of it is lent to the
-/// controller.
+/// controller. Runs that were taken before stay as they are.
 ///
 /// # Errors
 ///
@@ -216,6 +226,7 @@ pub fn open_ring(
     requires few { asked ≤ 20480 }
     ensures opened { IfOk result (λ r. IsOpened mem.new r addr ep asked (opening_queue (setting_of r addr ep asked))) }
     ensures refused { IfErr result (λ _. mem.new.words ≡ mem.old.words) }
+    ensures others { KeepsRuns mem.old mem.new }
 {
     let ring = lend_ring(alloc, mem, asked)?;
     write_ring(&ring, mem, addr, ep);

@@ -97,7 +97,7 @@ impl Ring {
         Token::from_word(mem.shared_read(&self.qtd, 32 * self.qtd.first() + 8))
     }
 
-    /// Reads the first `n` bytes of the buffer into the front of `into`.
+    /// Reads the first `n` bytes of the buffer, which its pages have room for, into the front of `into`; the rest of `into` stays.
     pub fn load(&self, mem: &WordMem, n: u32, into: &mut [u8])
         requires held { IsHeld mem.now self.now }
         requires there { n ≤ 4096 * length self.now.pages }

@@ -1,5 +1,5 @@
 ghost use Rattle.std.specs.Prelude.{◌≡◌, ◌≤◌, vec_len, IfOk};
-ghost use Rattle.ring_setting.specs.Taking.{LendsRun, LendsPages};
+ghost use Rattle.ring_setting.specs.Taking.{KeepsRuns, LendsRun, LendsPages};
 
 use std::alloc::Global;
 use usb_base::Memory;
@@ -17,6 +17,7 @@ pub(crate) fn lend_run(mem: &mut WordMem, n: u32) -> Result<LentRun, Memory>
     requires { (1 ≤ n) × (n ≤ 128) }
     ensures lent { IfOk result (LendsRun mem.old mem.new n) }
     ensures words { mem.new.words ≡ mem.old.words }
+    ensures others { KeepsRuns mem.old mem.new }
 {
     match mem.take(n) {
         None => Err(Memory),
@@ -37,6 +38,7 @@ pub(crate) fn lend_pages(alloc: Global, mem: &mut WordMem, n: u32) -> Result<Vec
     ensures lent { IfOk result (λ v. LendsPages mem.old mem.new v.items) }
     ensures count { IfOk result (λ v. vec_len v ≡ n) }
     ensures words { mem.new.words ≡ mem.old.words }
+    ensures others { KeepsRuns mem.old mem.new }
 {
     let mut pages = Vec::with_capacity(alloc, n as usize)?;
     for _page in 0..n {

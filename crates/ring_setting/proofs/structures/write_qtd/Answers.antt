@@ -31,6 +31,5 @@ pub returns-clause-only : goal.returns-clause-only
 returns-clause-only c =
     let r = c.args.run.now in
     let n = qtd_words-length c.args.qtd.now in
-    let b = c.requires.lent.blocks in
     subst (λ m. ChangesOnly c.args.mem.now m r) (sym (written c))
-    (changes_words c.args.mem.now r (qtd_words c.args.qtd.now) c.words-words.ensures.shape (omega (arith, b)) c.requires.lent.lent (omega (arith, n, b)))
+    (changes_words c.args.mem.now r 1 (qtd_words c.args.qtd.now) c.words-words.ensures.shape c.requires.lent (omega (arith, n)))

@@ -21,6 +21,5 @@ returns-clause-only c =
     let is : c.write_words.new.mem ≡ with_words c.args.mem.now (32 * r.first) (qh_words c.args.queue.now) =
     c.write_words.ensures ∙ ap (λ k. with_words c.args.mem.now (32 * k) c.write.result) c.first.ensures.first ∙ ap (with_words c.args.mem.now (32 * r.first)) c.write.ensures in
     let n = qh_words-length c.args.queue.now in
-    let b = c.requires.lent.blocks in
     subst (λ m. ChangesOnly c.args.mem.now m r) (sym is)
-    (changes_words c.args.mem.now r (qh_words c.args.queue.now) c.words-words.ensures.shape (omega (arith, b)) c.requires.lent.lent (omega (arith, n, b)))
+    (changes_words c.args.mem.now r 2 (qh_words c.args.queue.now) c.words-words.ensures.shape c.requires.lent (omega (arith, n)))

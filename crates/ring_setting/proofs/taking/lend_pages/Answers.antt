@@ -1,4 +1,4 @@
-use Rattle.std.proofs.Common.{◌≡◌, ◌/◌, [], ◌∷◌, ◌++◌, ap, sym, subst, ◌∙◌, arith}
+use Rattle.std.proofs.Common.{◌≡◌, ◌/◌, [], ◌∷◌, ◌++◌, ap, refl, sym, subst, ◌∙◌, arith}
 use Rattle.std.proofs.lemmas.Grind.{common_steps}
 use Rattle.word_mem.specs.Memory.{with_states}
 use Rattle.word_mem.specs.declared.blocks.BlockState.TheVariants.{Lent}
@@ -12,6 +12,7 @@ loop-page-init c =
     record {
       count = none.len;
       room = grind (arith, common_steps);
+      words = refl;
       lent = subst (LendsPages c.args.mem.now c.args.mem.now) (sym none.items) (no_page c.args.mem.now);
     }
 
@@ -25,5 +26,6 @@ loop-page-preserved c =
     record {
       count = grind (arith, common_steps);
       room = grind (arith, common_steps);
+      words = ap (λ m. m.words) mem_is ∙ c.loop-page.invariant.words;
       lent = rw (mem_is, items_are) (one_more_page c.args.mem.now c.loop-page.mem run c.loop-page.pages.items (grind (arith, common_steps)) c.first-page.ensures.run c.in-Some.ensures.run c.loop-page.invariant.lent);
     }
