@@ -13,7 +13,7 @@ ghost use Rattle.async_walk.specs.Walk.{IsHeld, stopped};
 ghost use Rattle.op_registers.specs.Events.{after_fault};
 ghost use Rattle.async_walk.specs.Queue.{advanced as advanced_queue};
 ghost use Rattle.async_walk.specs.WriteBack.{overlay_after};
-ghost use Rattle.async_walk.specs.Rows.{held_settled, Place, place, row_of, read_at, cursor_link, IsSound, started_walk, started_registers, head_read, restarted, fetched_registers, fetched_walk, passed_walk, took, took_step, wrote, wrote_step, Transacted, Leads, step_of, started, at_event, event_row};
+ghost use Rattle.async_walk.specs.Rows.{held_settled, Place, place, cursor_link, IsSound, started_walk, started_registers, head_read, restarted, fetched_registers, fetched_walk, passed_walk, took, took_step, wrote, wrote_step, Transacted, Leads, step_of, started, at_event, event_row};
 ghost use Rattle.async_walk.specs.Reasons.{HasReason, IsWorked};
 
 use crate::queue::{advanced, mode_of, reloaded, settled};
@@ -113,22 +113,6 @@ impl AsyncState {
         }
     }
 
-    /// The kind of the next event.
-    fn row(&self, regs: &Registers, mem: &mut WordMem) -> Row
-        ensures row { result ≡ row_of (place self.now regs.now mem.old) }
-        ensures memory { mem.new ≡ read_at (place self.now regs.now mem.old) self.now.held }
-        ensures sound { IsSound result }
-        ensures only_lent { IsByController mem.old mem.new }
-    {
-        match &self.held {
-            None => fetched(self.link(regs), regs.reclamation(), mem),
-            Some(held) => match &held.settled {
-                None => visited(&held.queue_head, self.left, mem),
-                Some(_) => Row::WriteBack,
-            },
-        }
-    }
-
     fn fault(&mut self, regs: &mut Registers)
         ensures walk { self.new ≡ stopped self.old }
         ensures registers { regs.new ≡ after_fault regs.old }
@@ -145,6 +129,7 @@ impl AsyncState {
         read_head(regs);
     }
 
+    #[inline(always)]
     fn fetch(&mut self, at: u32, queue_head: Qh, regs: &mut Registers)
         requires aligned { at % 32 ≡ 0 }
         requires range { IsQhInRange queue_head }
@@ -230,6 +215,7 @@ impl AsyncState {
     }
 
     /// Makes an event of this kind.
+    #[inline(always)]
     fn make<W: Wire>(
         &mut self,
         row: Row,
@@ -292,6 +278,17 @@ pub fn step<W: Wire>(
     ensures works { IsWorked st.old result }
 {
     st.start(regs);
-    let row = st.row(regs, mem);
-    st.make(row, regs, mem, wire)
+    match &st.held {
+        None => {
+            let row = fetched(st.link(regs), regs.reclamation(), mem);
+            st.make(row, regs, mem, wire)
+        }
+        Some(held) => match &held.settled {
+            None => {
+                let row = visited(&held.queue_head, st.left, mem);
+                st.make(row, regs, mem, wire)
+            }
+            Some(_) => st.make(Row::WriteBack, regs, mem, wire),
+        },
+    }
 }

@@ -66,6 +66,7 @@ pub(crate) fn write_queue(mem: &mut WordMem, at: u32, queue_head: &Qh) -> bool
 
 /// Writes back what the transaction of the queue head at `at` gave. False: something may not be touched; what comes before it is written.
 #[tactic(auto, unfolding(crate::specs::WriteBack::written_back))]
+#[inline(never)]
 pub(crate) fn write_back(mem: &mut WordMem, at: u32, queue_head: &Qh, got: &[u8]) -> bool
     requires aligned { at % 32 ≡ 0 }
     requires range { IsQhInRange queue_head.now }
