@@ -1,5 +1,5 @@
 -- A page that the controller has.
-use Rattle.std.specs.Prelude.{◌≡◌, ℕ}
+use Rattle.std.specs.Prelude.{◌≡◌}
 use Rattle.word_mem.specs.Runs.{Run}
 use Rattle.word_mem.specs.Memory.{Mem, AreAll}
 use Rattle.word_mem.specs.declared.blocks.BlockState.TheVariants.{Lent}
