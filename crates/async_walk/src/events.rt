@@ -259,6 +259,34 @@ impl AsyncState {
     }
 }
 
+/// Makes one event; each kind of copy in hand makes its own row, so that a row's value is no larger than that kind needs.
+#[inline(always)]
+fn turn<W: Wire>(
+    st: &mut AsyncState,
+    regs: &mut Registers,
+    mem: &mut WordMem,
+    wire: &mut W,
+) -> WalkStep
+    ensures kind { result ≡ step_of (event_row (place st.old regs.old mem.old)) (at_event (place st.old regs.old mem.old)) }
+    ensures row { Leads W.transacts (event_row (place st.old regs.old mem.old)) (at_event (place st.old regs.old mem.old)) wire.old (place st.new regs.new mem.new) wire.new }
+    ensures only_lent { IsByController mem.old mem.new }
+{
+    st.start(regs);
+    match &st.held {
+        None => {
+            let row = fetched(st.link(regs), regs.reclamation(), mem);
+            st.make(row, regs, mem, wire)
+        }
+        Some(held) => match &held.settled {
+            None => {
+                let row = visited(&held.queue_head, st.left, mem);
+                st.make(row, regs, mem, wire)
+            }
+            Some(_) => st.make(Row::WriteBack, regs, mem, wire),
+        },
+    }
+}
+
 /// Makes one event of the asynchronous part of a microframe, over whatever registers, words and wire it is lent (EHCI 1.0, 4.8 to 4.10).
 ///
 /// Words that aren't those of a ring end in `Fault`: a link that leads to no queue head, a structure that isn't wholly in Lent blocks or
@@ -277,18 +305,5 @@ pub fn step<W: Wire>(
     ensures ends { (result ≡ WalkStep.Ended) ↔ HasReason (started (place st.old regs.old mem.old)) }
     ensures works { IsWorked st.old result }
 {
-    st.start(regs);
-    match &st.held {
-        None => {
-            let row = fetched(st.link(regs), regs.reclamation(), mem);
-            st.make(row, regs, mem, wire)
-        }
-        Some(held) => match &held.settled {
-            None => {
-                let row = visited(&held.queue_head, st.left, mem);
-                st.make(row, regs, mem, wire)
-            }
-            Some(_) => st.make(Row::WriteBack, regs, mem, wire),
-        },
-    }
+    turn(st, regs, mem, wire)
 }

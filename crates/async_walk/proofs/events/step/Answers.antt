@@ -1,4 +1,4 @@
-use Rattle.std.proofs.Common.{◌≡◌, rules, sym, subst}
+use Rattle.std.proofs.Common.{◌≡◌, sym, subst}
 use Rattle.async_walk.specs.declared.state.WalkStep.{WalkStep}
 use Rattle.async_walk.specs.Rows.{Place, place, at_event, event_row, step_of}
 use Rattle.async_walk.specs.Reasons.{IsWorked}
@@ -8,5 +8,5 @@ use Rattle.async_walk.proofs.events.step.Goals as goal
 pub returns-clause-works : goal.returns-clause-works
 returns-clause-works g c =
     let p : Place = place c.args.st.now c.args.regs.now c.args.mem.now in
-    let kind : c.make.result ≡ step_of (event_row p) (at_event p) = search rules in
+    let kind : c.turn.result ≡ step_of (event_row p) (at_event p) = c.turn.ensures.kind in
     subst (λ (step : WalkStep). IsWorked p.walk step) (sym kind) (works p)
