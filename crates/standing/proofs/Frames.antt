@@ -97,7 +97,6 @@ block_inside m a shape aligned reached =
     let inside = slice_get_within m.states (a / 32) Lent (lent_if_reached m a reached) in
     omega (arith, inside, shape.eight_each)
 
-
 pub nine_words : (q : Qh) → length (overlay_words q) ≡ 9
 nine_words q = let l = length-drop 3 (qh_words q) in let n = qh_words-length q in omega (arith, l, n)
 
@@ -170,8 +169,8 @@ token_stands m a t d shape range s = record {
   aligned = s.aligned;
   lent = reaches_same m (token_written m a t) a (token_states m a t) ∙ s.lent;
   words =
-    ap (λ (x : Mem). words_at x a 8) (ap (λ (b : Bool). if b then with_word m (a + 8) (token_word t) else refused m) s.lent)
-    ∙ words_in-set_inside m.words a 8 2 (token_word t) (let e = s.aligned in omega (arith, e)) (omega arith) (block_inside m a shape s.aligned s.lent)
-    ∙ ap (λ xs. set xs 2 (token_word t)) s.words ∙ qtd_words-token d t;
+      ap (λ (x : Mem). words_at x a 8) (ap (λ (b : Bool). if b then with_word m (a + 8) (token_word t) else refused m) s.lent)
+      ∙ words_in-set_inside m.words a 8 2 (token_word t) (let e = s.aligned in omega (arith, e)) (omega arith) (block_inside m a shape s.aligned s.lent)
+      ∙ ap (λ xs. set xs 2 (token_word t)) s.words ∙ qtd_words-token d t;
   range = with_token_in_range d t s.range range;
 }

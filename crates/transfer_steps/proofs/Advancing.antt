@@ -91,10 +91,13 @@ queue_advanced s p c x laid first k fewer =
         stands = stands_overlay s p.memory k.q (advanced c s.qtd k.t) k.t laid k.stands range (front_advanced c s.qtd k.t ∙ front_copy k.q c same) (fixed_advanced s c s.qtd k.t fixed);
         at_stage = works_advanced s k.q c k.t laid k.at_stage token;
         in_hand = (refl, k.in_hand.1);
-        told = (record { same = refl; range = range }, record {
-          host = k.told.1.host ∙ sym (ap (λ (v : Token). host_at v 512) token);
-          received = k.told.1.received ∙ sym (bytes_overlay s p.memory (advanced c s.qtd k.t) (s.asked - x.host.left) laid (omega arith));
-        });
+        told = (
+          record { same = refl; range = range },
+          record {
+            host = k.told.1.host ∙ sym (ap (λ (v : Token). host_at v 512) token);
+            received = k.told.1.received ∙ sym (bytes_overlay s p.memory (advanced c s.qtd k.t) (s.asked - x.host.left) laid (omega arith));
+          },
+        );
       };
       queue = refl;
       qtd = refl;

@@ -36,7 +36,7 @@ stands_overlay s m q new t laid st range front fixed =
       shape = shaped_same m n (overlay_size m s.queue ws) states st.shape;
       list_lent = λ f below. reaches_same m n (s.list + 4 * f) states ∙ st.list_lent f below;
       list_empty = λ f below. overlay_outside m s.queue ws (s.list + 4 * f) (let e = laid.queue_aligned in omega (arith, e)) (nine_words new)
-        (⊎_elim (λ (low : s.list + 4096 ≤ s.queue). inl (omega (arith, low, below))) (λ (high : s.queue + 48 ≤ s.list). inr (omega (arith, high))) laid.list_queue) ∙ st.list_empty f below;
+          (⊎_elim (λ (low : s.list + 4096 ≤ s.queue). inl (omega (arith, low, below))) (λ (high : s.queue + 48 ≤ s.list). inr (omega (arith, high))) laid.list_queue) ∙ st.list_empty f below;
       head = queue_beside_overlay m s.queue new s.head (head_of s) laid.queue_aligned (apart_tail s.head 48 s.queue laid.head_queue) st.head;
       queue = overlay_stands m s.queue q new st.shape range front st.queue;
       fixed = fixed;
@@ -95,7 +95,7 @@ stands_back s m q c t got laid st r fixed =
       list_lent = λ f below. reaches_same m n (s.list + 4 * f) states ∙ st.list_lent f below;
       list_empty = λ f below. beside s m q c t got s.list 4096 (s.list + 4 * f) laid r laid.list_aligned (omega arith) laid.bytes_list laid.list_queue laid.list_qtd (omega arith) (omega (arith, below)) ∙ st.list_empty f below;
       head = queue_stays m n s.head (head_of s) states (λ other from below. beside s m q c t got s.head 48 other laid r (let e = laid.head_aligned in omega (arith, e)) (omega arith) laid.bytes_head laid.head_queue
-        (⊎_elim (λ (low : s.qtd + 32 ≤ s.head). inr low) (λ (high : s.head + 48 ≤ s.qtd). inl high) laid.qtd_head) from below) st.head;
+          (⊎_elim (λ (low : s.qtd + 32 ≤ s.head). inr low) (λ (high : s.head + 48 ≤ s.qtd). inl high) laid.qtd_head) from below) st.head;
       queue = queue_back m s.queue q c got t ready;
       fixed = fixed;
       qtd = subst (λ (a : ℕ). QtdStands n a (qtd_after (moved c (length got)) t)) r.current (qtd_back m s.queue q c got t ready);

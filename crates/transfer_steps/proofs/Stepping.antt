@@ -158,9 +158,9 @@ at_head_busy s p stage x k first busy =
       ends = goes_on_by steps.Fetch steps.Fetch refl refl;
       rests = λ e. record { stage_is = e; memory = refl; queue = g.queue; qtd = g.qtd; ended = goes_on_by steps.Fetch steps.Fetch refl refl };
       falls = λ on.
-        let now = measure_is (fetched s.head (head_of s) p) stage HeadHeld false p.walk.left (busy_is (fetched s.head (head_of s) p) g.first ∙ g.busy) g.left in
-        let was = measure_is p stage AtHead true p.walk.left (busy_is p first ∙ busy) refl in
-        omega (arith, now, was);
+          let now = measure_is (fetched s.head (head_of s) p) stage HeadHeld false p.walk.left (busy_is (fetched s.head (head_of s) p) g.first ∙ g.busy) g.left in
+          let was = measure_is p stage AtHead true p.walk.left (busy_is p first ∙ busy) refl in
+          omega (arith, now, was);
     }
 
 at_head_quiet : (s : Setting) (p : Place) (stage : Stage) (x : Transfer) (k : Scene s p stage AtHead x) → p.walk.first ≡ false → p.registers.reclamation ≡ false → Quietly s p (head_ended p) stage AtHead x k steps.Ended
@@ -207,9 +207,9 @@ head_skipped s p stage x k first =
       ends = goes_on_by steps.Skip steps.Skip refl refl;
       rests = λ e. record { stage_is = e; memory = refl; queue = g.queue; qtd = g.qtd; ended = goes_on_by steps.Skip steps.Skip refl refl };
       falls = λ on.
-        let now = measure_is (passed p) stage AtQueue p.registers.reclamation p.walk.left (busy_is (passed p) g.first ∙ g.busy) g.left in
-        let was = measure_is p stage HeadHeld p.registers.reclamation p.walk.left (busy_is p first) refl in
-        omega (arith, now, was);
+          let now = measure_is (passed p) stage AtQueue p.registers.reclamation p.walk.left (busy_is (passed p) g.first ∙ g.busy) g.left in
+          let was = measure_is p stage HeadHeld p.registers.reclamation p.walk.left (busy_is p first) refl in
+          omega (arith, now, was);
     }
 
 -- ---- the queue head is read next
@@ -237,10 +237,10 @@ queue_is_fetched s p stage x k first =
       ends = goes_on_by steps.Fetch steps.Fetch refl refl;
       rests = λ e. record { stage_is = e; memory = refl; queue = g.queue; qtd = g.qtd; ended = goes_on_by steps.Fetch steps.Fetch refl refl };
       falls = λ on.
-        let now = measure_is (fetched s.queue k.q p) stage (QueueHeld c) p.registers.reclamation p.walk.left (busy_is (fetched s.queue k.q p) g.first ∙ g.busy) g.left in
-        let was = measure_is p stage AtQueue p.registers.reclamation p.walk.left (busy_is p first) refl in
-        let small = held_small stage c in
-        omega (arith, now, was, small);
+          let now = measure_is (fetched s.queue k.q p) stage (QueueHeld c) p.registers.reclamation p.walk.left (busy_is (fetched s.queue k.q p) g.first ∙ g.busy) g.left in
+          let was = measure_is p stage AtQueue p.registers.reclamation p.walk.left (busy_is p first) refl in
+          let small = held_small stage c in
+          omega (arith, now, was, small);
     }
 
 -- ---- the queue head is in hand and rests
@@ -264,10 +264,10 @@ queue_skipped s p stage c x k first never =
       ends = goes_on_by steps.Skip steps.Skip refl refl;
       rests = λ e. record { stage_is = e; memory = refl; queue = g.queue; qtd = g.qtd; ended = goes_on_by steps.Skip steps.Skip refl refl };
       falls = λ on.
-        let now = measure_is (passed p) stage AtHead p.registers.reclamation p.walk.left (busy_is (passed p) g.first ∙ g.busy) g.left in
-        let was = measure_is p stage (QueueHeld c) p.registers.reclamation p.walk.left (busy_is p first) refl in
-        let large = held_large stage c in
-        omega (arith, now, was, large);
+          let now = measure_is (passed p) stage AtHead p.registers.reclamation p.walk.left (busy_is (passed p) g.first ∙ g.busy) g.left in
+          let was = measure_is p stage (QueueHeld c) p.registers.reclamation p.walk.left (busy_is p first) refl in
+          let large = held_large stage c in
+          omega (arith, now, was, large);
     }
   where
     held_large : (stage : Stage) (c : Qh) → 3 ≤ step_left stage (QueueHeld c)
@@ -292,9 +292,9 @@ queue_takes s p c x laid k first =
       ends = goes_on_by steps.Advance steps.Advance refl refl;
       rests = λ e. absurd (false≢true (ap is_resting e));
       falls = λ on.
-        let now = measure_is (advanced_place s p c k.t) Working (QueueHeld (advanced c s.qtd k.t)) p.registers.reclamation p.walk.left (busy_is (advanced_place s p c k.t) g.first ∙ g.busy) g.left in
-        let was = measure_is p Waiting (QueueHeld c) p.registers.reclamation p.walk.left (busy_is p first) refl in
-        omega (arith, now, was);
+          let now = measure_is (advanced_place s p c k.t) Working (QueueHeld (advanced c s.qtd k.t)) p.registers.reclamation p.walk.left (busy_is (advanced_place s p c k.t) g.first ∙ g.busy) g.left in
+          let was = measure_is p Waiting (QueueHeld c) p.registers.reclamation p.walk.left (busy_is p first) refl in
+          omega (arith, now, was);
     }
 
 -- ---- it works, and no time is left
@@ -347,10 +347,10 @@ queue_moves transacts s p new c x k wire after kind first enough small t is =
       keen = λ keen other. (g.busy, may_settled (host_after c t.reply) (outcome_after c t.reply) c other ∙ keen.0);
       kind_is = is;
       falls =
-        let now = measure_is to Working now_hand true (p.walk.left - price) (busy_is to g.first ∙ g.busy) (g.left ∙ ap (λ (n : ℕ). p.walk.left - n) cost) in
-        let was = measure_is p Working (QueueHeld c) p.registers.reclamation p.walk.left (busy_is p first) refl in
-        let less = enough_falls p.walk.left enough in
-        omega (arith, now, was, less);
+          let now = measure_is to Working now_hand true (p.walk.left - price) (busy_is to g.first ∙ g.busy) (g.left ∙ ap (λ (n : ℕ). p.walk.left - n) cost) in
+          let was = measure_is p Working (QueueHeld c) p.registers.reclamation p.walk.left (busy_is p first) refl in
+          let less = enough_falls p.walk.left enough in
+          omega (arith, now, was, less);
     })
 
 -- ---- the write-back
@@ -373,10 +373,10 @@ queue_is_written s p c o got x laid k first =
       ends = goes_on_by steps.WriteBack steps.WriteBack refl refl;
       rests = λ e. absurd (false≢true (ap is_resting e));
       falls = λ on.
-        let now = measure_is (written_place s p c o got) (stage_by x.host.active) AtHead p.registers.reclamation p.walk.left (busy_is (written_place s p c o got) g.first ∙ g.busy) g.left in
-        let was = measure_is p Working (Settled c o got) p.registers.reclamation p.walk.left (busy_is p first) refl in
-        let small = turn_small p.registers.reclamation in
-        omega (arith, now, was, small);
+          let now = measure_is (written_place s p c o got) (stage_by x.host.active) AtHead p.registers.reclamation p.walk.left (busy_is (written_place s p c o got) g.first ∙ g.busy) g.left in
+          let was = measure_is p Working (Settled c o got) p.registers.reclamation p.walk.left (busy_is p first) refl in
+          let small = turn_small p.registers.reclamation in
+          omega (arith, now, was, small);
     }
   where
     turn_small : (b : Bool) → (if b then 8 else 0) ≤ 8

@@ -50,17 +50,20 @@ queue_settled s p c reply x first k small =
         stands = k.stands;
         at_stage = k.at_stage;
         in_hand = (settled_held p s.queue c (host_after c reply) (outcome_after c reply) (got_after c reply) k.in_hand.0, k.in_hand.1);
-        told = (refl, record {
-          naks = c.nak_cnt;
-          copy = settled_copy k.q c (host_after c reply) (outcome_after c reply) same;
-          range = settled_in_range (host_after c reply) (outcome_after c reply) c range (let e = facts.errors in omega (arith, e, errors)) (let l = facts.left in omega (arith, l, total));
-          received = ap (λ (bs : List ℕ). bs ++ got_after c reply) (k.told.1.received ∙ ap (λ (n : ℕ). bytes_at p.memory s.pages 0 (s.asked - n)) told_left);
-          moved = facts.left ∙ left_is;
-          bytes = got_one (λ (bs : List ℕ). (i : ℕ) → slice_index bs i < 256) (outcome_after c reply) reply (λ i. omega arith) small;
-          packets = facts.packets ∙ ap (λ (v : Qh). v.max) same ∙ k.stands.fixed.packets;
-          some_left = facts.some_left (let o = k.at_stage.some_left in omega (arith, o, left_is));
-          going = facts.going (ap (λ (v : Qh). v.token.halted) same ∙ k.at_stage.goes_on);
-        });
+        told = (
+          refl,
+          record {
+            naks = c.nak_cnt;
+            copy = settled_copy k.q c (host_after c reply) (outcome_after c reply) same;
+            range = settled_in_range (host_after c reply) (outcome_after c reply) c range (let e = facts.errors in omega (arith, e, errors)) (let l = facts.left in omega (arith, l, total));
+            received = ap (λ (bs : List ℕ). bs ++ got_after c reply) (k.told.1.received ∙ ap (λ (n : ℕ). bytes_at p.memory s.pages 0 (s.asked - n)) told_left);
+            moved = facts.left ∙ left_is;
+            bytes = got_one (λ (bs : List ℕ). (i : ℕ) → slice_index bs i < 256) (outcome_after c reply) reply (λ i. omega arith) small;
+            packets = facts.packets ∙ ap (λ (v : Qh). v.max) same ∙ k.stands.fixed.packets;
+            some_left = facts.some_left (let o = k.at_stage.some_left in omega (arith, o, left_is));
+            going = facts.going (ap (λ (v : Qh). v.token.halted) same ∙ k.at_stage.goes_on);
+          },
+        );
       };
       queue = refl;
       qtd = refl;

@@ -60,24 +60,28 @@ visit_by q may halted active a b c =
 
 -- it rests
 pub rest_kind : (p : Place) (a : ℕ) (c : Qh) → p.walk.held ≡ Some (record { at = a; queue_head = c; settled = None }) → visit_of c ≡ visits.Rest → (row_of p ≡ rows.Skip) × (was_read p ≡ p)
-rest_kind p a c held rest =
-    (held_kind p a c held ∙ ap (visit_row p.memory p.walk.left c) rest,
-    same_memory p (read_at p p.walk.held) (held_reads p a c held ∙ ap (visit_read p.memory) rest))
+rest_kind p a c held rest = (
+  held_kind p a c held ∙ ap (visit_row p.memory p.walk.left c) rest,
+  same_memory p (read_at p p.walk.held) (held_reads p a c held ∙ ap (visit_read p.memory) rest),
+)
 
 -- it would take a qTD that stands there
 pub take_kind : (p : Place) (a : ℕ) (c : Qh) (b : ℕ) (t : Qtd) → p.walk.held ≡ Some (record { at = a; queue_head = c; settled = None }) → visit_of c ≡ visits.Take (qtd_links.To b) → QtdStands p.memory b t → (row_of p ≡ (if t.token.active then rows.Advance b t else rows.Skip)) × (was_read p ≡ p)
-take_kind p a c b t held take there =
-    (held_kind p a c held ∙ ap (visit_row p.memory p.walk.left c) take ∙ ap (taken_row b) (qtd_read_there p.memory b t there),
-    same_memory p (read_at p p.walk.held) (held_reads p a c held ∙ ap (visit_read p.memory) take ∙ qtd_was_read_there p.memory b t there))
+take_kind p a c b t held take there = (
+  held_kind p a c held ∙ ap (visit_row p.memory p.walk.left c) take ∙ ap (taken_row b) (qtd_read_there p.memory b t there),
+  same_memory p (read_at p p.walk.held) (held_reads p a c held ∙ ap (visit_read p.memory) take ∙ qtd_was_read_there p.memory b t there),
+)
 
 -- it works
 pub work_kind : (p : Place) (a : ℕ) (c : Qh) (b : Bool) → p.walk.held ≡ Some (record { at = a; queue_head = c; settled = None }) → visit_of c ≡ visits.Work → is_made c ≡ true → nat_lt p.walk.left (price_in c) ≡ b → (row_of p ≡ (if b then rows.OutOfTime else rows.Transact (pipe_of c) (host_in c))) × (was_read p ≡ p)
-work_kind p a c true held work made late =
-    (held_kind p a c held ∙ ap (visit_row p.memory p.walk.left c) work ∙ ap (λ (x : Bool). work_row x (nat_lt p.walk.left (price_in c)) c) made ∙ ap (λ (x : Bool). work_row true x c) late,
-    same_memory p (read_at p p.walk.held) (held_reads p a c held ∙ ap (visit_read p.memory) work))
-work_kind p a c false held work made late =
-    (held_kind p a c held ∙ ap (visit_row p.memory p.walk.left c) work ∙ ap (λ (x : Bool). work_row x (nat_lt p.walk.left (price_in c)) c) made ∙ ap (λ (x : Bool). work_row true x c) late,
-    same_memory p (read_at p p.walk.held) (held_reads p a c held ∙ ap (visit_read p.memory) work))
+work_kind p a c true held work made late = (
+  held_kind p a c held ∙ ap (visit_row p.memory p.walk.left c) work ∙ ap (λ (x : Bool). work_row x (nat_lt p.walk.left (price_in c)) c) made ∙ ap (λ (x : Bool). work_row true x c) late,
+  same_memory p (read_at p p.walk.held) (held_reads p a c held ∙ ap (visit_read p.memory) work),
+)
+work_kind p a c false held work made late = (
+  held_kind p a c held ∙ ap (visit_row p.memory p.walk.left c) work ∙ ap (λ (x : Bool). work_row x (nat_lt p.walk.left (price_in c)) c) made ∙ ap (λ (x : Bool). work_row true x c) late,
+  same_memory p (read_at p p.walk.held) (held_reads p a c held ∙ ap (visit_read p.memory) work),
+)
 
 -- ---- the visits of the transfer's queue head, by the stage
 

@@ -53,7 +53,7 @@ pub starts : (s : Setting) (p : Place) (stage : Stage) (hand : Hand) (x : Transf
 starts s p stage hand x k = record {
   scene = record { q = k.q; t = k.t; runs = started_runs s p.walk.first p.registers k.runs; stands = k.stands; at_stage = k.at_stage; in_hand = in_hand_started s p.walk hand k.in_hand; told = k.told };
   queue = refl;
-      qtd = refl;
+  qtd = refl;
   first = refl;
   busy = started_busy p.walk.first p.registers;
   left = refl;
@@ -186,7 +186,7 @@ pub queue_left : (s : Setting) (p : Place) (stage : Stage) (c : Qh) (x : Transfe
 queue_left s p stage c x first k = record {
   scene = record { q = k.q; t = k.t; runs = k.runs; stands = k.stands; at_stage = k.at_stage; in_hand = (refl, k.in_hand.1); told = k.told.1 };
   queue = refl;
-      qtd = refl;
+  qtd = refl;
   first = first;
   busy = refl;
   left = refl;

@@ -243,7 +243,7 @@ queue_written s p c o got x b is laid first k =
         t = qtd_after new k.t;
         runs = raised_runs s c o p.registers k.runs;
         stands = stands_back s p.memory k.q c k.t got laid k.stands (ready_to_write s p c o got x laid k)
-          (fixed_moved s c (length got) (subst (IsQueue s) (sym k.told.1.copy) (fixed_settled s x.host o k.q k.told.1.naks k.stands.fixed)));
+            (fixed_moved s c (length got) (subst (IsQueue s) (sym k.told.1.copy) (fixed_settled s x.host o k.q k.told.1.naks k.stands.fixed)));
         at_stage = at_stage_now s p c o got x b is laid k;
         in_hand = (refl, inr (ap cursors.At (ap link_of (facts.link ∙ k.stands.fixed.link))));
         told = record { host = host_told b new k.t (qtd_after new k.t) x.host active refl (host_now c (length got) k.q x facts k.told.1.packets); received = received_now s p c o got x laid k };

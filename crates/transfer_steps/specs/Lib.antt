@@ -1,3 +1,4 @@
 pub mod Setting
 pub mod Told
 pub mod Events
+pub mod Rows
