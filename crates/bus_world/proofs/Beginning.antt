@@ -31,30 +31,33 @@ part_is : (v : Transferring) → v.control ≡ new_control → v.control.part �
 part_is v e = ap (λ (c : Control). c.part) e
 
 pub idling : (t : Moved) (m : Mem) (v : Transferring) → IsOpenedFor t m v → IsIdling t m m v × (v.control.part ≡ Over)
-idling t m v o = (record {
-  form = o.form;
-  name = o.name;
-  asked = o.asked;
-  opened = o.opened;
-  idle = record {
-    hand = AtHead;
-    scene = record {
-      q = opening_queue (setting_in v);
-      t = dummy_qtd;
-      runs = o.runs;
-      stands = o.opened.stands;
-      at_stage = o.opened.rests;
-      in_hand = subst (λ (c : Control). IsInHand (setting_in v) c.walk AtHead) (sym o.control) (refl, inl refl);
-      told = record { host = refl; received = refl };
+idling t m v o = (
+  record {
+    form = o.form;
+    name = o.name;
+    asked = o.asked;
+    opened = o.opened;
+    idle = record {
+      hand = AtHead;
+      scene = record {
+        q = opening_queue (setting_in v);
+        t = dummy_qtd;
+        runs = o.runs;
+        stands = o.opened.stands;
+        at_stage = o.opened.rests;
+        in_hand = subst (λ (c : Control). IsInHand (setting_in v) c.walk AtHead) (sym o.control) (refl, inl refl);
+        told = record { host = refl; received = refl };
+      };
+      queue = refl;
+      qtd = refl;
+      memory = refl;
+      wire = o.wire;
+      part = subst (λ (p : Part). IsIdlePart p AtHead) (sym (part_is v o.control)) refl;
+      time = subst (λ (p : Part). HasTime (walk_place (content_in v m)) p) (sym (part_is v o.control)) tt;
     };
-    queue = refl;
-    qtd = refl;
-    memory = refl;
-    wire = o.wire;
-    part = subst (λ (p : Part). IsIdlePart p AtHead) (sym (part_is v o.control)) refl;
-    time = subst (λ (p : Part). HasTime (walk_place (content_in v m)) p) (sym (part_is v o.control)) tt;
-  };
-}, part_is v o.control)
+  },
+  part_is v o.control,
+)
 
 -- ---- an event
 
@@ -78,8 +81,8 @@ idling_now t m n k v w i same idle = record {
   name = same.name ∙ i.name;
   asked = same.asked ∙ i.asked;
   opened = subst (λ (r : RingRuns). IsOpened m r w.name.addr w.name.num w.asked (opening_queue (setting_of r w.name.addr w.name.num w.asked))) (sym same.ring)
-    (subst (λ (e : EpName). IsOpened m v.ring e.addr e.num w.asked (opening_queue (setting_of v.ring e.addr e.num w.asked))) (sym same.name)
-    (subst (λ (a : ℕ). IsOpened m v.ring v.name.addr v.name.num a (opening_queue (setting_of v.ring v.name.addr v.name.num a))) (sym same.asked) i.opened));
+      (subst (λ (e : EpName). IsOpened m v.ring e.addr e.num w.asked (opening_queue (setting_of v.ring e.addr e.num w.asked))) (sym same.name)
+      (subst (λ (a : ℕ). IsOpened m v.ring v.name.addr v.name.num a (opening_queue (setting_of v.ring v.name.addr v.name.num a))) (sym same.asked) i.opened));
   idle = record {
     hand = idle.hand;
     scene = (idle_scene (setting_in v) (setting_in w) (walk_place (content_in w k)) idle.hand (no_transfer v m) (no_transfer w m) (sym (same_setting v w same)) (same_none v w m same) idle.scene).0;

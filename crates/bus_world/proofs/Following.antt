@@ -149,15 +149,18 @@ harvested_by t m v old new store kept u k false off is stored =
 
 -- the transfer is tracked on with what was harvested of it
 pub harvested : (t : Moved) (m : Mem) (v : Transferring) (old new : Option Report) (store kept : List ℕ) (u : ℕ) → (k : Tracks t m v old store u) → new ≡ words_report m v → HasStored (token_in m v).active (received_in m v) kept → (g : Tracks t m v new kept u) × (measure_of g.ride ≡ measure_of k.ride)
-harvested t m v old new store kept u k is stored = (record {
-  form = k.form;
-  name = k.name;
-  asked = k.asked;
-  held = k.held;
-  laid = k.laid;
-  ride = k.ride;
-  reported = harvested_by t m v old new store kept u k (token_in m v).active refl is stored;
-}, refl)
+harvested t m v old new store kept u k is stored = (
+  record {
+    form = k.form;
+    name = k.name;
+    asked = k.asked;
+    held = k.held;
+    laid = k.laid;
+    ride = k.ride;
+    reported = harvested_by t m v old new store kept u k (token_in m v).active refl is stored;
+  },
+  refl,
+)
 
 -- ---- between two microframes
 
@@ -182,7 +185,7 @@ active_is t m v report store u k over =
 final_by : (x : Transfer) (name : EpName) (report : Option Report) (store : List ℕ) (b : Bool) → x.host.active ≡ b → IsReported x name report store → (report ≡ None → b ≡ true) → IsFinal x name report store
 final_by x name report store true on reported some = record {
   report = ⊎_elim (λ (none : report ≡ None). none) (λ (r : (x.host.active ≡ false) × (report ≡ Some (line_of name x)) × (take (length x.received) store ≡ x.received)). absurd (false≢true (sym r.0 ∙ on))) reported
-    ∙ sym (ap (λ (a : Bool). report_by a name x) on);
+      ∙ sym (ap (λ (a : Bool). report_by a name x) on);
   stored = subst (λ (a : Bool). HasStored a x.received store) (sym on) tt;
 }
 final_by x name report store false off reported some = ⊎_elim

@@ -40,11 +40,11 @@ opened_for t m v ring name asked form named name_is asks get wire rings opened c
   asked = asks ∙ get;
   wire = wire;
   opened = subst (λ (r : RingRuns). IsOpened m r v.name.addr v.name.num v.asked (opening_queue (setting_of r v.name.addr v.name.num v.asked))) (sym rings)
-    (subst (λ (e : EpName). IsOpened m ring e.addr e.num v.asked (opening_queue (setting_of ring e.addr e.num v.asked))) (sym named)
-    (subst (λ (a : ℕ). IsOpened m ring name.addr name.num a (opening_queue (setting_of ring name.addr name.num a))) (sym asks) opened));
+      (subst (λ (e : EpName). IsOpened m ring e.addr e.num v.asked (opening_queue (setting_of ring e.addr e.num v.asked))) (sym named)
+      (subst (λ (a : ℕ). IsOpened m ring name.addr name.num a (opening_queue (setting_of ring name.addr name.num a))) (sym asks) opened));
   control = control;
   runs = subst (λ (r : RingRuns). Runs (setting_of r v.name.addr v.name.num v.asked) v.registers) (sym rings)
-    (subst (λ (a : ℕ). Runs (setting_of ring v.name.addr v.name.num a) v.registers) (sym asks) (runs v.name.addr v.name.num));
+      (subst (λ (a : ℕ). Runs (setting_of ring v.name.addr v.name.num a) v.registers) (sym asks) (runs v.name.addr v.name.num));
 }
 
 -- ---- the end
@@ -65,11 +65,16 @@ ended t m v report store next =
     let k = next.tracks in
     let b = bus_after t k.ride.n in
     let final = final_between t m v report store 20 k next.over next.harvested in
-    let active = active_is t m v report store 20 k next.over in
-    (v, b, refl, k.name, record { count = k.ride.n; reached = refl; over = over_now t m v report store k next.over },
-    record { active = active; ended = λ off. (let w = by_words_is t m v report store 20 k (active ∙ off) in (ap (λ (x : Told). x.host) w, ap (λ (x : Told). x.received) w)) },
-    final.report ∙ ap (λ (n : EpName). report_by b.host.active n (transfer_of b)) k.name ∙ same_report b.host.active (name_of t) b,
-    final.stored)
+    let active = active_is t m v report store 20 k next.over in (
+      v,
+      b,
+      refl,
+      k.name,
+      record { count = k.ride.n; reached = refl; over = over_now t m v report store k next.over },
+      record { active = active; ended = λ off. (let w = by_words_is t m v report store 20 k (active ∙ off) in (ap (λ (x : Told). x.host) w, ap (λ (x : Told). x.received) w)) },
+      final.report ∙ ap (λ (n : EpName). report_by b.host.active n (transfer_of b)) k.name ∙ same_report b.host.active (name_of t) b,
+      final.stored,
+    )
 
 -- ---- the run
 

@@ -95,7 +95,8 @@ impl Running {
         ensures same { IsSameTransfer self.old self.new }
         ensures only_lent { IsByController mem.old mem.new }
     {
-        self.controller.step(&mut self.registers, mem, &mut self.wire)
+        self.controller
+            .step(&mut self.registers, mem, &mut self.wire)
     }
 
     /// Publishes the transfer: its qTD is written, its token with Active last (EHCI 1.0, 4.10.2).

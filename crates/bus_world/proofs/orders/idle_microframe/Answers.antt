@@ -16,11 +16,11 @@ loop-event-preserved c = record {
   lending = lending_now c.loop-event.mem c.event.new.mem c.loop-event.transfer c.event.new.self c.event.ensures.only_lent c.event.ensures.same c.loop-event.invariant.lending;
   same = same_then c.args.transfer.now c.loop-event.transfer c.event.new.self c.loop-event.invariant.same c.event.ensures.same;
   goes = λ t m k over.
-    let g = c.loop-event.invariant.goes t m k over in
-    let h = (idling_on t m c.loop-event.mem c.event.new.mem c.loop-event.transfer c.event.new.self c.event.result g.0 c.event.ensures.controls c.event.ensures.same).goes (c.ends.ensures.no c.if-ends.false) in
-    let a = g.1 in
-    let b = h.1 in
-    (h.0, omega (arith, a, b));
+      let g = c.loop-event.invariant.goes t m k over in
+      let h = (idling_on t m c.loop-event.mem c.event.new.mem c.loop-event.transfer c.event.new.self c.event.result g.0 c.event.ensures.controls c.event.ensures.same).goes (c.ends.ensures.no c.if-ends.false) in
+      let a = g.1 in
+      let b = h.1 in
+      (h.0, omega (arith, a, b));
 }
 
 pub returns-clause-ends : goal.returns-clause-ends

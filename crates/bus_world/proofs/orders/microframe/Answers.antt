@@ -24,11 +24,11 @@ loop-event-preserved c = record {
   size = c.turn.ensures.size ∙ c.loop-event.invariant.size;
   stored = c.turn.ensures.stored;
   goes = λ t u k over.
-    let g = c.loop-event.invariant.goes t u k over in
-    let h = c.turn.ensures.goes t u g.0 (c.ends.ensures.no c.if-ends.false) in
-    let a = g.1 in
-    let b = h.1 in
-    (h.0, omega (arith, a, b));
+      let g = c.loop-event.invariant.goes t u k over in
+      let h = c.turn.ensures.goes t u g.0 (c.ends.ensures.no c.if-ends.false) in
+      let a = g.1 in
+      let b = h.1 in
+      (h.0, omega (arith, a, b));
 }
 
 pub returns-clause-ends : goal.returns-clause-ends

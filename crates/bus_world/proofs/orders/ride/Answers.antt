@@ -20,12 +20,12 @@ loop-microframe-preserved c = record {
   size = c.microframe.ensures.size ∙ c.loop-microframe.invariant.size;
   stored = c.microframe.ensures.stored;
   rides = λ t k over.
-    let g = c.loop-microframe.invariant.rides t k over in
-    let e = c.microframe.ensures.ends t c.loop-microframe._microframe g.0 g.1 in
-    (e.tracks, e.over);
+      let g = c.loop-microframe.invariant.rides t k over in
+      let e = c.microframe.ensures.ends t c.loop-microframe._microframe g.0 g.1 in
+      (e.tracks, e.over);
   next = λ t k over some.
-    let g = c.loop-microframe.invariant.rides t k over in
-    c.microframe.ensures.ends t c.loop-microframe._microframe g.0 g.1;
+      let g = c.loop-microframe.invariant.rides t k over in
+      c.microframe.ensures.ends t c.loop-microframe._microframe g.0 g.1;
 }
 
 pub returns-clause-rides : goal.returns-clause-rides
