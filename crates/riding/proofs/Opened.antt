@@ -12,12 +12,18 @@ use Rattle.qh_qtd.specs.Token.{token_rows}
 use Rattle.qh_qtd.specs.QueueHead.{IsQhInRange, qh_words}
 use Rattle.qh_qtd.specs.Qtd.{IsQtdInRange, qtd_words}
 use Rattle.qh_qtd.specs.declared.qtd.Qtd.{Qtd}
-use Rattle.script_text.specs.Grammar.{IsInForm}
+use Rattle.script_text.specs.Grammar.{IsInForm, AreOnce}
 use Rattle.transfer_steps.specs.Setting.{HasPages, Stands, IsLaidOut, no_token, head_of, dummy_qtd}
 use Rattle.transfer_steps.specs.Told.{AtHead, Resting, Waiting, Waits, Scene, Transfer}
 use Rattle.bulk_bus.specs.Run.{wire_of, bus_after}
-use Rattle.riding.specs.Riding.{Rides, transfer_of, measure_of}
-use Rattle.riding.specs.Worked.{moved, setting, queue, qtd, structures, words, memory, opened}
+use Rattle.riding.specs.Riding.{Rides, Controls, Rode, Idles, microframe}
+use Rattle.link_words.specs.declared.kinds.Link.TheVariants as links
+use Rattle.link_words.specs.Links.{link_read}
+use Rattle.hc_core.specs.declared.controller.Part.{Part}
+use Rattle.hc_core.specs.declared.controller.Part.TheVariants.{Periodic}
+use Rattle.hc_core.specs.declared.controller.HcStep.TheVariants as hc
+use Rattle.riding.proofs.Controls.{rides_on}
+use Rattle.riding.specs.Worked.{moved, setting, queue, qtd, structures, words, memory, opened, first_begun, no_transfer}
 
 -- ---- the words
 
@@ -171,3 +177,49 @@ rides = record {
   follows = record { addr = refl; num = refl; packets = refl; unheard = refl; sent = refl; toggle = refl; packet = inr refl };
   pace = inr (tt, omega arith);
 }
+
+pub idles : Idles setting no_transfer queue dummy_qtd (memory dummy_qtd) (wire_of moved) (opened dummy_qtd) (wire_of moved)
+idles = record {
+  hand = AtHead;
+  scene = record {
+    q = queue;
+    t = dummy_qtd;
+    runs = record { run = refl; enabled = refl; quiet = refl; list = refl; ring = refl };
+    stands = stands dummy_qtd dummy_range;
+    at_stage = record { queue_off = refl; qtd_off = refl; next = inr (inl refl) };
+    in_hand = (refl, inl refl);
+    told = record { host = refl; received = refl };
+  };
+  queue = refl;
+  qtd = refl;
+  memory = refl;
+  wire = refl;
+  part = refl;
+  time = tt;
+}
+
+pub in_form : IsInForm moved
+unfolding AreOnce
+in_form = record {
+  addr = (omega arith, omega arith);
+  num = (omega arith, omega arith);
+  fill = record { some = omega arith; len = omega arith; seed = omega arith };
+  fates = tt;
+  few = omega arith;
+  once = λ i j d a b. absurd (omega (arith, a, b));
+  answered = tt;
+  get = (omega arith, omega arith);
+}
+
+-- ---- the first event
+
+pub begins : Controls (opened qtd) (wire_of moved) hc.Begin first_begun (wire_of moved)
+begins = (record { allowed = true; asked = (refl, refl); contents = refl }, refl)
+
+pub begun_part : first_begun.control.part ≡ Periodic links.End (record { 0 = microframe })
+unfolding link_read
+begun_part = ap (λ (w : ℕ). let p : Part = Periodic (link_read w) (record { 0 = microframe }) in p) (empty qtd 0 (omega arith))
+
+pub goes_on : Rode setting moved 0 300 0 hc.Begin first_begun (wire_of moved)
+unfolding rides
+goes_on = rides_on setting moved (opened qtd) first_begun (wire_of moved) (wire_of moved) 0 hc.Begin laid_out in_form refl refl rides begins

@@ -9,8 +9,11 @@ use Rattle.qh_qtd.specs.Qtd.{qtd_words}
 use Rattle.op_registers.specs.RegisterFile.{RegisterFile, reset_file}
 use Rattle.async_walk.specs.Walk.{new_walk, begun}
 use Rattle.async_walk.specs.Rows.{Place, place}
-use Rattle.hc_core.specs.Controller.{Content, content, new_control}
+use Rattle.hc_core.specs.Controller.{Content, content, new_control, began}
 use Rattle.script_text.specs.declared.script.Transfer.{Transfer as Moved}
+use Rattle.transfer_steps.specs.Told.{Transfer}
+use Rattle.host_token.specs.HostToken.{host_at}
+use Rattle.buffers.specs.Bytes.{bytes_at}
 use Rattle.transfer_steps.specs.Setting.{Setting, link_to, leads_to, leads_nowhere, no_token, head_of, dummy_qtd}
 
 -- the script's transfer: 515 bytes are sent and asked for, and no packet is lost
@@ -100,3 +103,11 @@ opened t = content new_control registers (memory t)
 -- the asynchronous part of a microframe, of which this time is left, begins
 abbrev pub part_begun : ℕ → Place
 part_begun left = place (begun new_walk left) registers (memory qtd)
+
+-- after its first event: the bus may be used
+abbrev pub first_begun : Content
+first_begun = began true (opened qtd)
+
+-- what the words tell before the qTD is published: no transfer
+abbrev pub no_transfer : Transfer
+no_transfer = record { host = host_at dummy_qtd.token 512; received = bytes_at (memory dummy_qtd) (2 ∷ []) 0 515 }
