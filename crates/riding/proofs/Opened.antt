@@ -1,11 +1,11 @@
 -- The worked transfer: its ring stands in memory, and the ride begins.
-use Rattle.std.proofs.Common.{◌≡◌, ℕ, zero, suc, ◌+◌, ◌*◌, ◌/◌, ◌%◌, ◌<◌, ◌≤◌, Bool, true, false, List, [], ◌∷◌, ◌++◌, length, slice_index, slice_get, Some, replicate, ap, refl, sym, subst, ◌∙◌, inl, inr, arith}
+use Rattle.std.proofs.Common.{◌≡◌, ℕ, zero, suc, ◌+◌, ◌*◌, ◌/◌, ◌%◌, ◌<◌, true, false, [], ◌∷◌, ◌++◌, length, slice_index, Some, replicate, ap, refl, sym, ◌∙◌, inl, inr, arith}
 use Rattle.std.proofs.lemmas.List.{get_or-replicate, get_or_append_left, length-append, length-replicate}
 use Rattle.std.proofs.lemmas.Option.{slice_get-get_or}
-use Rattle.word_mem.specs.Memory.{Mem, IsShaped, reaches, is_lent, word_at}
+use Rattle.word_mem.specs.Memory.{IsShaped, reaches, is_lent, word_at}
 use Rattle.word_mem.specs.declared.blocks.BlockState.TheVariants.{Lent}
 use Rattle.word_mem.specs.Views.{words_in, words_at}
-use Rattle.buffers.specs.Bytes.{ArePages, AreDistinct, AreReached, place}
+use Rattle.buffers.specs.Bytes.{place}
 use Rattle.buffers.proofs.Loads.{bytes_at_none}
 use Rattle.link_words.specs.Layout.{IsWordInRange}
 use Rattle.qh_qtd.specs.Token.{token_rows}
@@ -14,8 +14,8 @@ use Rattle.qh_qtd.specs.Qtd.{IsQtdInRange, qtd_words}
 use Rattle.qh_qtd.specs.declared.qtd.Qtd.{Qtd}
 use Rattle.script_text.specs.Grammar.{IsInForm, AreOnce}
 use Rattle.transfer_steps.specs.Setting.{HasPages, Stands, IsLaidOut, no_token, head_of, dummy_qtd}
-use Rattle.transfer_steps.specs.Told.{AtHead, Resting, Waiting, Waits, Scene, Transfer}
-use Rattle.bulk_bus.specs.Run.{wire_of, bus_after}
+use Rattle.transfer_steps.specs.Told.{AtHead, Waiting, Waits}
+use Rattle.bulk_bus.specs.Run.{wire_of}
 use Rattle.riding.specs.Riding.{Rides, Controls, Rode, Idles, microframe}
 use Rattle.link_words.specs.declared.kinds.Link.TheVariants as links
 use Rattle.link_words.specs.Links.{link_read}

@@ -1,5 +1,5 @@
 -- A transfer of 515 bytes in values: its ring in a memory of three pages, a controller that runs, and the wire.
-use Rattle.std.specs.Prelude.{ℕ, true, false, List, [], ◌∷◌, ◌++◌, replicate, None, Some}
+use Rattle.std.specs.Prelude.{ℕ, true, false, List, [], ◌∷◌, ◌++◌, replicate, Some}
 use Rattle.word_mem.specs.Memory.{Mem}
 use Rattle.word_mem.specs.declared.blocks.BlockState.TheVariants.{Lent}
 use Rattle.qh_qtd.specs.declared.qtd.Qtd.{Qtd}
