@@ -1,17 +1,15 @@
 //! Worked rows of the definitions, which the check computes: a transfer of 515 bytes.
-ghost use Rattle.std.specs.Prelude.{◌≡◌, true, Some};
-ghost use Rattle.std.specs.List.{concat};
+ghost use Rattle.std.specs.Prelude.{◌≡◌};
 ghost use Rattle.hc_core.specs.declared.controller.Part.TheVariants.{Over, Periodic, Asynchronous};
-ghost use Rattle.hc_core.specs.declared.controller.Row.TheVariants as rows;
-ghost use Rattle.hc_core.specs.Controller.{walk_place, row_of};
+ghost use Rattle.hc_core.specs.Controller.{walk_place};
 ghost use Rattle.link_words.specs.declared.kinds.Link.TheVariants as links;
 ghost use Rattle.hc_core.specs.declared.controller.HcStep.TheVariants as steps;
 ghost use Rattle.script_text.specs.Grammar.{IsInForm};
 ghost use Rattle.transfer_steps.specs.Setting.{IsLaidOut, dummy_qtd};
-ghost use Rattle.transfer_steps.specs.Told.{AtHead, AtQueue, Resting, Waiting, Working};
+ghost use Rattle.transfer_steps.specs.Told.{AtHead, AtQueue, Waiting, Working};
 ghost use Rattle.bulk_bus.specs.Bus.{IsOver};
 ghost use Rattle.bulk_bus.specs.Run.{packets_of, wire_of, bus_after};
-ghost use Rattle.riding.specs.Riding.{Rides, Idles, Controls, Rode, Follows, IsKeenNext, IsInTime, HasTime, IsPart, IsIdlePart, microframe, events_in};
+ghost use Rattle.riding.specs.Riding.{Rides, Idles, Controls, Rode, Follows, IsInTime, microframe, events_in};
 ghost use Rattle.riding.specs.Worked.{moved, setting, queue, qtd, memory, opened, first_begun, part_begun, no_transfer};
 
 /// Before its first packet the wire stands as the bus of no transactions; after two the run is over.
