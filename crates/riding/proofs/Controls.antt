@@ -155,31 +155,36 @@ goes_on : (s : Setting) (t : Moved) (d : Content) (v : BulkIn) (u : ℕ) (st : W
 goes_on s t d v u st measure least w on is =
     let g = w.goes on in
     let m : events_in d.control.part (walk_place d) w.stage w.hand ≡ events_left (walk_place d) w.stage w.hand = ap (λ (k : Part). events_in k (walk_place d) w.stage w.hand) is in
-    let less = g.1 in
-    (record {
-      n = w.n;
-      stage = w.stage;
-      hand = w.hand;
-      scene = w.scene;
-      part = subst (λ (k : Part). IsPart k w.hand) (sym is) tt;
-      time = subst (λ (k : Part). HasTime (walk_place d) k) (sym is) w.time;
-      follows = w.follows;
-      pace = subst (λ (k : Part). IsOver (packets_sent t) (bus_after t w.n) ⊎ IsInTime (walk_place d) k w.scene.q w.stage w.hand w.n u) (sym is) g.0;
-    }, omega (arith, m, less), w.more)
+    let less = g.1 in (
+      record {
+        n = w.n;
+        stage = w.stage;
+        hand = w.hand;
+        scene = w.scene;
+        part = subst (λ (k : Part). IsPart k w.hand) (sym is) tt;
+        time = subst (λ (k : Part). HasTime (walk_place d) k) (sym is) w.time;
+        follows = w.follows;
+        pace = subst (λ (k : Part). IsOver (packets_sent t) (bus_after t w.n) ⊎ IsInTime (walk_place d) k w.scene.q w.stage w.hand w.n u) (sym is) g.0;
+      },
+      omega (arith, m, less),
+      w.more,
+    )
 
 ended_now : (s : Setting) (t : Moved) (d : Content) (v : BulkIn) (u : ℕ) (st : WalkStep) (measure least : ℕ) → (w : Walked s t (walk_place d) v u st measure least) → st ≡ steps.Ended → d.control.part ≡ Over → (r : Rides s t d v (u + 1)) × (least ≤ r.n)
 ended_now s t d v u st measure least w on is =
-    let e = w.ends on in
-    (record {
-      n = w.n;
-      stage = w.stage;
-      hand = w.hand;
-      scene = w.scene;
-      part = subst (λ (k : Part). IsPart k w.hand) (sym is) e.0;
-      time = subst (λ (k : Part). HasTime (walk_place d) k) (sym is) tt;
-      follows = w.follows;
-      pace = subst (λ (k : Part). IsOver (packets_sent t) (bus_after t w.n) ⊎ IsInTime (walk_place d) k w.scene.q w.stage w.hand w.n (u + 1)) (sym is) e.1;
-    }, w.more)
+    let e = w.ends on in (
+      record {
+        n = w.n;
+        stage = w.stage;
+        hand = w.hand;
+        scene = w.scene;
+        part = subst (λ (k : Part). IsPart k w.hand) (sym is) e.0;
+        time = subst (λ (k : Part). HasTime (walk_place d) k) (sym is) tt;
+        follows = w.follows;
+        pace = subst (λ (k : Part). IsOver (packets_sent t) (bus_after t w.n) ⊎ IsInTime (walk_place d) k w.scene.q w.stage w.hand w.n (u + 1)) (sym is) e.1;
+      },
+      w.more,
+    )
 
 pub no_end : {A : Type 0} (kind : HcStep) → is_end kind ≡ false → kind ≡ hc.End → A
 no_end kind off e = absurd (false≢true (sym off ∙ ap is_end e))

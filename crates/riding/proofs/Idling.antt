@@ -86,17 +86,19 @@ rest_walk s x q t m w u v p new hand laid k queue qtd memory wire time lead =
 idle_on : (s : Setting) (x : Transfer) (q : Qh) (t : Qtd) (m : Mem) (w : BulkIn) (d : Content) (v : BulkIn) (st : WalkStep) (measure : ℕ) → (r : Rested s x q t m w (walk_place d) v st measure) → st ≢ steps.Ended → d.control.part ≡ Asynchronous → (i : Idles s x q t m w d v) × (idle_measure i < measure)
 idle_on s x q t m w d v st measure r on is =
     let less = r.goes on in
-    let n : events_in d.control.part (walk_place d) Resting r.hand ≡ events_left (walk_place d) Resting r.hand = ap (λ (k : Part). events_in k (walk_place d) Resting r.hand) is in
-    (record {
-      hand = r.hand;
-      scene = r.scene;
-      queue = r.queue;
-      qtd = r.qtd;
-      memory = r.memory;
-      wire = r.wire;
-      part = subst (λ (k : Part). IsIdlePart k r.hand) (sym is) tt;
-      time = subst (λ (k : Part). HasTime (walk_place d) k) (sym is) r.time;
-    }, omega (arith, n, less))
+    let n : events_in d.control.part (walk_place d) Resting r.hand ≡ events_left (walk_place d) Resting r.hand = ap (λ (k : Part). events_in k (walk_place d) Resting r.hand) is in (
+      record {
+        hand = r.hand;
+        scene = r.scene;
+        queue = r.queue;
+        qtd = r.qtd;
+        memory = r.memory;
+        wire = r.wire;
+        part = subst (λ (k : Part). IsIdlePart k r.hand) (sym is) tt;
+        time = subst (λ (k : Part). HasTime (walk_place d) k) (sym is) r.time;
+      },
+      omega (arith, n, less),
+    )
 
 idle_end : (s : Setting) (x : Transfer) (q : Qh) (t : Qtd) (m : Mem) (w : BulkIn) (d : Content) (v : BulkIn) (measure : ℕ) → (r : Rested s x q t m w (walk_place d) v steps.Ended measure) → d.control.part ≡ Over → Idles s x q t m w d v
 idle_end s x q t m w d v measure r is = record {

@@ -207,7 +207,7 @@ asked_last t n w form f active none =
       count = n;
       more = omega arith;
       told = ap (λ (h : HostSide). let x : Transfer = record { host = h; received = b.received } in x) (sym r.settles)
-        ∙ ap (λ (bs : List ℕ). let x : Transfer = record { host = asked_host w b.host; received = bs } in x) (sym (append-nil b.received) ∙ ap (λ (bs : List ℕ). b.received ++ bs) (sym r.got));
+          ∙ ap (λ (bs : List ℕ). let x : Transfer = record { host = asked_host w b.host; received = bs } in x) (sym (append-nil b.received) ∙ ap (λ (bs : List ℕ). b.received ++ bs) (sym r.got));
       follows = followed t w v b b f (same_after w (in_ask w.addr w.num b.host)) (ap (λ (k : BulkIn). k.sent) r.wire ∙ f.sent) (ap (λ (k : BulkIn). k.toggle) r.wire ∙ f.toggle) (inl (inr none));
       counts = inl (inr none);
     }

@@ -161,8 +161,10 @@ ended_pace s t p new stage hand n u kind k q true ended on pace = ⊎_elim
     (λ (keen : IsInTime p Asynchronous k.q stage hand n u).
     let e = (q.ends ended).1 keen.0 in
     let now : IsKeenAt new q.scene.q Working AtQueue = subst (λ (h : Hand). IsKeenAt new q.scene.q Working h) e.2 (subst (λ (g : Stage). IsKeenAt new q.scene.q g q.hand_now) e.1 (q.keen on keen.0)) in
-    inr (subst (λ (h : Hand). IsKeenNext q.scene.q q.stage_now h) (sym e.2) (subst (λ (g : Stage). IsKeenNext q.scene.q g AtQueue) (sym e.1) now),
-    (let late = e.0 in let i = keen.1 in omega (arith, late, i)))) pace
+    inr (
+      subst (λ (h : Hand). IsKeenNext q.scene.q q.stage_now h) (sym e.2) (subst (λ (g : Stage). IsKeenNext q.scene.q g AtQueue) (sym e.1) now),
+      (let late = e.0 in let i = keen.1 in omega (arith, late, i)),
+    )) pace
 
 quiet_walk : (s : Setting) (t : Moved) (p new : Place) (stage : Stage) (hand : Hand) (n u : ℕ) (w v : BulkIn) (kind : WalkStep) (k : Scene s p stage hand (transfer_of (bus_after t n))) → Follows t w (bus_after t n) → p.walk.left ≤ microframe → IsOver (packets_sent t) (bus_after t n) ⊎ IsInTime p Asynchronous k.q stage hand n u → Quietly s p new stage hand (transfer_of (bus_after t n)) k kind → v ≡ w → Walked s t new v u kind (events_left p stage hand) n
 quiet_walk s t p new stage hand n u w v kind k f time pace q same = record {
@@ -222,10 +224,13 @@ moving_by s t p new stage hand n u w v kind k m count y told is time pace follow
       follows = follows;
       time = (let l = m.time in omega (arith, l, time));
       no_fault = λ f. false≢true (sym (ap is_fault m.kind_is) ∙ ap is_fault f);
-      goes = λ on. (⊎_elim
-        (λ (over : IsOver (packets_sent t) (bus_after t count)). inl over)
-        (λ (c : (count ≡ n + 1) × (outcome_after m.copy m.reply ≢ Outcomes.Nak)).
-        moved_pace s t p new stage hand n count u k.q g.0.q m.hand_now m.time (λ keen one. subst (λ (q : Qh). IsKeenAt new q Working m.hand_now) (sym g.1) (m.keen keen c.1)) (inr c.0) pace) counts, m.falls);
+      goes = λ on. (
+        ⊎_elim
+            (λ (over : IsOver (packets_sent t) (bus_after t count)). inl over)
+            (λ (c : (count ≡ n + 1) × (outcome_after m.copy m.reply ≢ Outcomes.Nak)).
+            moved_pace s t p new stage hand n count u k.q g.0.q m.hand_now m.time (λ keen one. subst (λ (q : Qh). IsKeenAt new q Working m.hand_now) (sym g.1) (m.keen keen c.1)) (inr c.0) pace) counts,
+        m.falls,
+      );
       ends = λ f. absurd (false≢true (sym (ap is_ended m.kind_is) ∙ ap is_ended f));
     }
 
