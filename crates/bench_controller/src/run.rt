@@ -2,7 +2,7 @@ ghost use Rattle.std.specs.Prelude.{◌≤◌, IfOk};
 
 use crate::ring::Ring;
 use crate::wire::SteadyWire;
-use hc_core::{Controller, HcStep};
+use in_core::{Controller, HcStep};
 use std::alloc::{AllocError, Global};
 use usb_base::Memory;
 

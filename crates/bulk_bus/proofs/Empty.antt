@@ -19,10 +19,10 @@ use Rattle.transactions.specs.Calls.{got_of}
 use Rattle.toggle_error.specs.Settle.{outcome_of, settled}
 use Rattle.pipe_agreement.specs.Pipe.{alike, toggle_after}
 use Rattle.pipe_agreement.proofs.Agreement.{alike_of, unlike_of, toggle_turns}
-use Rattle.script_text.specs.declared.script.Fated.{Fated}
-use Rattle.script_text.specs.declared.script.Fill.{Fill}
-use Rattle.script_text.specs.declared.script.Transfer.{Transfer as Moved}
-use Rattle.script_text.specs.Grammar.{IsFill, IsAnswered, IsInForm}
+use Rattle.transfer_text.specs.declared.script.Fated.{Fated}
+use Rattle.transfer_text.specs.declared.script.Fill.{Fill}
+use Rattle.transfer_text.specs.declared.script.Transfer.{Transfer as Moved}
+use Rattle.transfer_text.specs.Grammar.{IsFill, IsAnswered, IsInForm}
 use Rattle.bulk_bus.specs.declared.rows.InRow.{InRow}
 use Rattle.bulk_bus.specs.declared.rows.InRow.TheVariants.{TokenUnheard, AnswerUnheard, Nak, TooLong, AckUnheard, AckHeard}
 use Rattle.bulk_bus.specs.Stream.{fill_packet, fill_packets, packet_count}

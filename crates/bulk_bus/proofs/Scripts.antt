@@ -1,11 +1,11 @@
 -- What the ranges of a script give.
 use Rattle.std.proofs.Common.{◌≡◌, List, [], ◌∷◌, map, Option, Some, None, refl, lt-ltb}
 use Rattle.std.specs.List.{AllByRecursion}
-use Rattle.script_text.specs.declared.script.Fated.{Fated}
-use Rattle.script_text.specs.declared.script.Fill.{Fill}
-use Rattle.script_text.specs.declared.script.Script.TheVariants.{Transfer}
-use Rattle.script_text.specs.declared.script.Transfer.{Transfer as Moved}
-use Rattle.script_text.specs.Grammar.{IsSpoilt, IsInForm}
+use Rattle.transfer_text.specs.declared.script.Fated.{Fated}
+use Rattle.transfer_text.specs.declared.script.Fill.{Fill}
+use Rattle.transfer_text.specs.declared.script.Script.TheVariants.{Transfer}
+use Rattle.transfer_text.specs.declared.script.Transfer.{Transfer as Moved}
+use Rattle.transfer_text.specs.Grammar.{IsSpoilt, IsInForm}
 use Rattle.bulk_bus.specs.Stream.{fill_packets}
 use Rattle.bulk_bus.specs.Measure.{AreShort}
 use Rattle.bulk_bus.specs.Run.{packets_at, unheard_of}

@@ -11,13 +11,13 @@ use Rattle.usb_base.specs.declared.reports.What.{What}
 use Rattle.usb_base.specs.declared.reports.What.TheVariants.{Done, Halt}
 use Rattle.toggle_error.specs.declared.host.HostSide.{HostSide}
 use Rattle.pipe_agreement.specs.Prefix.{IsPrefix}
-use Rattle.script_text.specs.declared.script.Fill.{Fill}
-use Rattle.script_text.specs.declared.script.Script.{Script}
-use Rattle.script_text.specs.declared.script.Script.TheVariants.{Empty, Transfer}
-use Rattle.script_text.specs.declared.script.Transfer.{Transfer as Moved}
-use Rattle.script_text.specs.ReportText.{report_text, pending_line}
+use Rattle.transfer_text.specs.declared.script.Fill.{Fill}
+use Rattle.transfer_text.specs.declared.script.Script.{Script}
+use Rattle.transfer_text.specs.declared.script.Script.TheVariants.{Empty, Transfer}
+use Rattle.transfer_text.specs.declared.script.Transfer.{Transfer as Moved}
+use Rattle.transfer_text.specs.ReportText.{report_text, pending_line}
 use Rattle.bulk_bus.specs.Stream.{fill_packets}
-use Rattle.script_text.specs.Grammar.{Spells}
+use Rattle.transfer_text.specs.Grammar.{Spells}
 use Rattle.bulk_bus.specs.Wire.{BulkIn, is_unheard}
 use Rattle.bulk_bus.specs.Bus.{Bus, after, opening, IsOver}
 

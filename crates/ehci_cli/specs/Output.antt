@@ -2,10 +2,10 @@
 use Rattle.std.specs.Prelude.{◌≡◌, ℕ, List, [], ◌∷◌, ◌++◌, Option, None, Some, codes}
 use Rattle.std.specs.Io.KnownBytes.{Appends, Keeps}
 use Rattle.usb_base.specs.Outside.{AppendsPrefix}
-use Rattle.script_text.specs.Grammar.{Spells}
-use Rattle.script_text.specs.declared.script.Script.{Script}
+use Rattle.transfer_text.specs.Grammar.{Spells}
+use Rattle.transfer_text.specs.declared.script.Script.{Script}
 use Rattle.bulk_bus.specs.Run.{HasRightStreams}
-use Rattle.bus_world.specs.World.{Content, IsRun, world_text}
+use Rattle.transfer_world.specs.World.{Content, IsRun, world_text}
 use Rattle.image_codec.specs.Image.{image_fault, image_of}
 use Rattle.image_codec.specs.Shown.{shown}
 use Rattle.image_codec.specs.Text.{refusal_line}

@@ -1,13 +1,13 @@
 ghost use Rattle.std.specs.Prelude.{◌≡◌, ◌≢◌, ◌≤◌, ◌⊎◌};
-ghost use Rattle.script_text.specs.Grammar.{Spells};
+ghost use Rattle.transfer_text.specs.Grammar.{Spells};
 ghost use Rattle.usb_base.specs.Outside.{Rose};
 ghost use Rattle.ehci_cli.specs.Output.{IsAnswer, RefusesScript, ReportsRun};
 
 use crate::form::Form;
 use crate::status::Status;
-use bus_world::World;
-use script_text::{Script, TextError, parse};
 use std::alloc::Global;
+use transfer_text::{Script, TextError, parse};
+use transfer_world::World;
 use usb_base::{Sink, write_all};
 
 /// The line of a refused script.

@@ -9,19 +9,19 @@ use Rattle.link_words.specs.Links.{link_read}
 use Rattle.qh_qtd.specs.declared.queue_head.Qh.{Qh}
 use Rattle.op_registers.specs.RegisterFile.{RegisterFile}
 use Rattle.op_registers.specs.Events.{after_begin}
-use Rattle.async_walk.specs.declared.state.WalkStep.{WalkStep}
-use Rattle.async_walk.specs.declared.state.WalkStep.TheVariants as steps
-use Rattle.async_walk.specs.Walk.{Walk, begun}
-use Rattle.async_walk.specs.Rows.{Place}
-use Rattle.hc_core.specs.declared.controller.HcStep.{HcStep}
-use Rattle.hc_core.specs.declared.controller.HcStep.TheVariants as hc
-use Rattle.hc_core.specs.declared.controller.Part.{Part}
-use Rattle.hc_core.specs.declared.controller.Part.TheVariants.{Over, Periodic, Asynchronous}
-use Rattle.hc_core.specs.declared.controller.Row.{Row}
-use Rattle.hc_core.specs.declared.controller.Row.TheVariants as rows
-use Rattle.hc_core.specs.Controller.{Content, walk_place, row_of, part_row, enter_row, ring_row, names_nothing, kind_of, HasRow, Begins, Walks, began, begun_at, entered, element_address, hc_step, part_after, walk_step}
-use Rattle.script_text.specs.Grammar.{IsInForm}
-use Rattle.script_text.specs.declared.script.Transfer.{Transfer as Moved}
+use Rattle.in_walk.specs.declared.state.WalkStep.{WalkStep}
+use Rattle.in_walk.specs.declared.state.WalkStep.TheVariants as steps
+use Rattle.in_walk.specs.Walk.{Walk, begun}
+use Rattle.in_walk.specs.Rows.{Place}
+use Rattle.in_core.specs.declared.controller.HcStep.{HcStep}
+use Rattle.in_core.specs.declared.controller.HcStep.TheVariants as hc
+use Rattle.in_core.specs.declared.controller.Part.{Part}
+use Rattle.in_core.specs.declared.controller.Part.TheVariants.{Over, Periodic, Asynchronous}
+use Rattle.in_core.specs.declared.controller.Row.{Row}
+use Rattle.in_core.specs.declared.controller.Row.TheVariants as rows
+use Rattle.in_core.specs.Controller.{Content, walk_place, row_of, part_row, enter_row, ring_row, names_nothing, kind_of, HasRow, Begins, Walks, began, begun_at, entered, element_address, hc_step, part_after, walk_step}
+use Rattle.transfer_text.specs.Grammar.{IsInForm}
+use Rattle.transfer_text.specs.declared.script.Transfer.{Transfer as Moved}
 use Rattle.transfer_steps.specs.Setting.{Setting, IsLaidOut}
 use Rattle.transfer_steps.specs.Told.{Hand, AtHead, HeadHeld, AtQueue, QueueHeld, Settled, Stage, Resting, Waiting, Working, Transfer, IsInHand, Runs, Scene}
 use Rattle.transfer_steps.specs.Events.{is_busy, IsKeenAt, HasNone, events_left}

@@ -8,15 +8,15 @@ use Rattle.link_words.specs.declared.kinds.Link.TheVariants as links
 use Rattle.qh_qtd.specs.declared.qtd.Qtd.{Qtd}
 use Rattle.qh_qtd.specs.declared.queue_head.Qh.{Qh}
 use Rattle.op_registers.specs.Events.{after_begin}
-use Rattle.async_walk.specs.declared.state.WalkStep.{WalkStep}
-use Rattle.async_walk.specs.declared.state.WalkStep.TheVariants as steps
-use Rattle.async_walk.specs.Rows.{Place, started, step_of, Leads, event_row, at_event}
-use Rattle.hc_core.specs.declared.controller.HcStep.{HcStep}
-use Rattle.hc_core.specs.declared.controller.HcStep.TheVariants as hc
-use Rattle.hc_core.specs.declared.controller.Part.{Part}
-use Rattle.hc_core.specs.declared.controller.Part.TheVariants.{Over, Periodic, Asynchronous}
-use Rattle.hc_core.specs.declared.controller.Row.TheVariants as rows
-use Rattle.hc_core.specs.Controller.{Content, walk_place, row_of, Begins, Walks, entered, element_address, hc_step, part_after, walk_step}
+use Rattle.in_walk.specs.declared.state.WalkStep.{WalkStep}
+use Rattle.in_walk.specs.declared.state.WalkStep.TheVariants as steps
+use Rattle.in_walk.specs.Rows.{Place, started, step_of, Leads, event_row, at_event}
+use Rattle.in_core.specs.declared.controller.HcStep.{HcStep}
+use Rattle.in_core.specs.declared.controller.HcStep.TheVariants as hc
+use Rattle.in_core.specs.declared.controller.Part.{Part}
+use Rattle.in_core.specs.declared.controller.Part.TheVariants.{Over, Periodic, Asynchronous}
+use Rattle.in_core.specs.declared.controller.Row.TheVariants as rows
+use Rattle.in_core.specs.Controller.{Content, walk_place, row_of, Begins, Walks, entered, element_address, hc_step, part_after, walk_step}
 use Rattle.transfer_steps.specs.Setting.{Setting, IsLaidOut}
 use Rattle.transfer_steps.specs.Told.{Hand, AtHead, Stage, Resting, Waiting, Working, Transfer, Scene}
 use Rattle.transfer_steps.specs.Events.{HasNone, events_left, Quietly, Moves}

@@ -12,16 +12,16 @@ use Rattle.qh_qtd.specs.Token.{token_rows}
 use Rattle.qh_qtd.specs.QueueHead.{IsQhInRange, qh_words}
 use Rattle.qh_qtd.specs.Qtd.{IsQtdInRange, qtd_words}
 use Rattle.qh_qtd.specs.declared.qtd.Qtd.{Qtd}
-use Rattle.script_text.specs.Grammar.{IsInForm, AreOnce}
+use Rattle.transfer_text.specs.Grammar.{IsInForm, AreOnce}
 use Rattle.transfer_steps.specs.Setting.{HasPages, Stands, IsLaidOut, no_token, head_of, dummy_qtd}
 use Rattle.transfer_steps.specs.Told.{AtHead, Waiting, Waits}
 use Rattle.bulk_bus.specs.Run.{wire_of}
 use Rattle.riding.specs.Riding.{Rides, Controls, Rode, Idles, microframe}
 use Rattle.link_words.specs.declared.kinds.Link.TheVariants as links
 use Rattle.link_words.specs.Links.{link_read}
-use Rattle.hc_core.specs.declared.controller.Part.{Part}
-use Rattle.hc_core.specs.declared.controller.Part.TheVariants.{Periodic}
-use Rattle.hc_core.specs.declared.controller.HcStep.TheVariants as hc
+use Rattle.in_core.specs.declared.controller.Part.{Part}
+use Rattle.in_core.specs.declared.controller.Part.TheVariants.{Periodic}
+use Rattle.in_core.specs.declared.controller.HcStep.TheVariants as hc
 use Rattle.riding.proofs.Controls.{rides_on}
 use Rattle.riding.specs.Worked.{moved, setting, queue, qtd, structures, words, memory, opened, first_begun, no_transfer}
 

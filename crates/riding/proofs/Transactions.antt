@@ -17,8 +17,8 @@ use Rattle.toggle_error.specs.Columns.{expected_pid, limit_of, fitting, heard_da
 use Rattle.toggle_error.specs.PlainRows.{plain_row, plain_outcome, is_last_error, error_outcome}
 use Rattle.toggle_error.specs.Settle.{outcome_of, settled}
 use Rattle.transactions.specs.Calls.{got_of}
-use Rattle.script_text.specs.Grammar.{IsInForm}
-use Rattle.script_text.specs.declared.script.Transfer.{Transfer as Moved}
+use Rattle.transfer_text.specs.Grammar.{IsInForm}
+use Rattle.transfer_text.specs.declared.script.Transfer.{Transfer as Moved}
 use Rattle.transfer_steps.specs.Told.{Transfer}
 use Rattle.bulk_bus.specs.declared.rows.InRow.{InRow}
 use Rattle.bulk_bus.specs.Stream.{fill_packets}

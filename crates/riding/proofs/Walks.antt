@@ -15,15 +15,15 @@ use Rattle.toggle_error.specs.Columns.{expected_pid}
 use Rattle.toggle_error.specs.Settle.{outcome_of, settled}
 use Rattle.transactions.specs.Calls.{high_call, got_of}
 use Rattle.qh_qtd.specs.declared.queue_head.Qh.{Qh}
-use Rattle.async_walk.specs.declared.state.ReloadMode.{ReloadMode}
-use Rattle.async_walk.specs.declared.state.ReloadMode.TheVariants.{WaitHead, Reload}
-use Rattle.async_walk.specs.declared.state.WalkStep.{WalkStep}
-use Rattle.async_walk.specs.declared.state.WalkStep.TheVariants as steps
-use Rattle.async_walk.specs.Queue.{may_work, pipe_of, host_in}
-use Rattle.async_walk.specs.Rows.{Place, started, step_of, Leads, event_row, at_event}
-use Rattle.script_text.specs.Grammar.{IsInForm}
-use Rattle.script_text.specs.declared.script.Transfer.{Transfer as Moved}
-use Rattle.hc_core.specs.declared.controller.Part.TheVariants.{Over, Asynchronous}
+use Rattle.in_walk.specs.declared.state.ReloadMode.{ReloadMode}
+use Rattle.in_walk.specs.declared.state.ReloadMode.TheVariants.{WaitHead, Reload}
+use Rattle.in_walk.specs.declared.state.WalkStep.{WalkStep}
+use Rattle.in_walk.specs.declared.state.WalkStep.TheVariants as steps
+use Rattle.in_walk.specs.Queue.{may_work, pipe_of, host_in}
+use Rattle.in_walk.specs.Rows.{Place, started, step_of, Leads, event_row, at_event}
+use Rattle.transfer_text.specs.Grammar.{IsInForm}
+use Rattle.transfer_text.specs.declared.script.Transfer.{Transfer as Moved}
+use Rattle.in_core.specs.declared.controller.Part.TheVariants.{Over, Asynchronous}
 use Rattle.transfer_steps.specs.Setting.{Setting, IsLaidOut}
 use Rattle.transfer_steps.specs.Told.{Hand, AtHead, HeadHeld, AtQueue, QueueHeld, Settled, Stage, Resting, Waiting, Working, Transfer, IsToldBy, Scene, outcome_after, moved_on}
 use Rattle.transfer_steps.specs.Events.{price, is_busy, IsKeenAt, events_left, step_left, turn_left, Quietly, Moves}

@@ -5,18 +5,18 @@ use Rattle.link_words.specs.declared.kinds.Link.TheVariants as links
 use Rattle.word_mem.specs.Memory.{Mem}
 use Rattle.qh_qtd.specs.declared.qtd.Qtd.{Qtd}
 use Rattle.qh_qtd.specs.declared.queue_head.Qh.{Qh}
-use Rattle.async_walk.specs.declared.state.WalkStep.{WalkStep}
-use Rattle.async_walk.specs.declared.state.WalkStep.TheVariants as steps
-use Rattle.async_walk.specs.Queue.{may_work}
-use Rattle.async_walk.specs.Rows.{Place}
-use Rattle.hc_core.specs.declared.controller.Part.{Part}
-use Rattle.hc_core.specs.declared.controller.Part.TheVariants.{Over, Periodic, Asynchronous}
-use Rattle.hc_core.specs.declared.controller.HcStep.{HcStep}
-use Rattle.hc_core.specs.declared.controller.HcStep.TheVariants as hc
-use Rattle.hc_core.specs.Controller.{Content, walk_place, row_of, kind_of, HasRow}
+use Rattle.in_walk.specs.declared.state.WalkStep.{WalkStep}
+use Rattle.in_walk.specs.declared.state.WalkStep.TheVariants as steps
+use Rattle.in_walk.specs.Queue.{may_work}
+use Rattle.in_walk.specs.Rows.{Place}
+use Rattle.in_core.specs.declared.controller.Part.{Part}
+use Rattle.in_core.specs.declared.controller.Part.TheVariants.{Over, Periodic, Asynchronous}
+use Rattle.in_core.specs.declared.controller.HcStep.{HcStep}
+use Rattle.in_core.specs.declared.controller.HcStep.TheVariants as hc
+use Rattle.in_core.specs.Controller.{Content, walk_place, row_of, kind_of, HasRow}
 use Rattle.usb_base.specs.declared.packets.Ask.{Ask}
 use Rattle.usb_base.specs.declared.packets.Reply.{Reply}
-use Rattle.script_text.specs.declared.script.Transfer.{Transfer as Moved}
+use Rattle.transfer_text.specs.declared.script.Transfer.{Transfer as Moved}
 use Rattle.transfer_steps.specs.Setting.{Setting}
 use Rattle.transfer_steps.specs.Told.{Hand, AtHead, HeadHeld, AtQueue, QueueHeld, Settled, Stage, Resting, Waiting, Working, Transfer, Scene}
 use Rattle.transfer_steps.specs.Events.{IsKeenAt, HasNone, events_left, price}

@@ -7,10 +7,10 @@ use Rattle.qh_qtd.specs.declared.queue_head.Qh.{Qh}
 use Rattle.qh_qtd.specs.QueueHead.{qh_words}
 use Rattle.qh_qtd.specs.Qtd.{qtd_words}
 use Rattle.op_registers.specs.RegisterFile.{RegisterFile, reset_file}
-use Rattle.async_walk.specs.Walk.{new_walk, begun}
-use Rattle.async_walk.specs.Rows.{Place, place}
-use Rattle.hc_core.specs.Controller.{Content, content, new_control, began}
-use Rattle.script_text.specs.declared.script.Transfer.{Transfer as Moved}
+use Rattle.in_walk.specs.Walk.{new_walk, begun}
+use Rattle.in_walk.specs.Rows.{Place, place}
+use Rattle.in_core.specs.Controller.{Content, content, new_control, began}
+use Rattle.transfer_text.specs.declared.script.Transfer.{Transfer as Moved}
 use Rattle.transfer_steps.specs.Told.{Transfer}
 use Rattle.host_token.specs.HostToken.{host_at}
 use Rattle.buffers.specs.Bytes.{bytes_at}

@@ -1,10 +1,10 @@
 //! Worked rows of the definitions, which the check computes: a transfer of 515 bytes.
 ghost use Rattle.std.specs.Prelude.{◌≡◌};
-ghost use Rattle.hc_core.specs.declared.controller.Part.TheVariants.{Over, Periodic, Asynchronous};
-ghost use Rattle.hc_core.specs.Controller.{walk_place};
+ghost use Rattle.in_core.specs.declared.controller.Part.TheVariants.{Over, Periodic, Asynchronous};
+ghost use Rattle.in_core.specs.Controller.{walk_place};
 ghost use Rattle.link_words.specs.declared.kinds.Link.TheVariants as links;
-ghost use Rattle.hc_core.specs.declared.controller.HcStep.TheVariants as steps;
-ghost use Rattle.script_text.specs.Grammar.{IsInForm};
+ghost use Rattle.in_core.specs.declared.controller.HcStep.TheVariants as steps;
+ghost use Rattle.transfer_text.specs.Grammar.{IsInForm};
 ghost use Rattle.transfer_steps.specs.Setting.{IsLaidOut, dummy_qtd};
 ghost use Rattle.transfer_steps.specs.Told.{AtHead, AtQueue, Waiting, Working};
 ghost use Rattle.bulk_bus.specs.Bus.{IsOver};

@@ -20,7 +20,7 @@ use Rattle.qh_qtd.specs.declared.qtd.Qtd.{Qtd}
 use Rattle.qh_qtd.specs.declared.queue_head.Qh.{Qh}
 use Rattle.qh_qtd.specs.Token.{token_at}
 use Rattle.buffers.specs.Bytes.{ArePages, AreDistinct}
-use Rattle.async_walk.specs.Queue.{next_pointer}
+use Rattle.in_walk.specs.Queue.{next_pointer}
 use Rattle.transfer_steps.specs.Setting.{Setting, link_to, leads_to, leads_nowhere, no_token, dummy_qtd, IsLaidOut, Stands}
 use Rattle.transfer_steps.specs.Told.{Rests}
 use Rattle.ring_setting.specs.Taking.{page_run}

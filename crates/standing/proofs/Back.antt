@@ -14,9 +14,9 @@ use Rattle.qh_qtd.specs.QueueHead.{qh_words, IsQhInRange}
 use Rattle.link_words.specs.Layout.{IsWordInRange}
 use Rattle.queue_words.specs.Structures.{overlay_words, overlay_written, token_written}
 use Rattle.queue_words.proofs.WriteBack.{overlay_outside, overlay_states, overlay_size, token_outside, token_states, token_size}
-use Rattle.async_walk.specs.Queue.{buffer_size, pages_of, place_of, moved}
-use Rattle.async_walk.specs.WriteBack.{Writing, then_write, placed, bytes_written, overlay_after, overlay_back, token_back, written_back}
-use Rattle.async_walk.proofs.Ranges.{moved_in_range}
+use Rattle.in_walk.specs.Queue.{buffer_size, pages_of, place_of, moved}
+use Rattle.in_walk.specs.WriteBack.{Writing, then_write, placed, bytes_written, overlay_after, overlay_back, token_back, written_back}
+use Rattle.in_walk.proofs.Ranges.{moved_in_range}
 use Rattle.standing.specs.Standing.{QueueStands, QtdStands, AreBytesApart, token_after, bytes_back, back_written, qtd_after, CanBeWritten}
 use Rattle.standing.proofs.Frames.{queue_beside_bytes, qtd_beside_bytes, overlay_stands, qtd_beside_overlay, queue_beside_token, token_stands, nine_words}
 

@@ -5,7 +5,7 @@ use Rattle.word_mem.specs.Views.{words_in}
 use Rattle.buffers.specs.Bytes.{AreReached}
 use Rattle.qh_qtd.specs.Qtd.{qtd_words, IsQtdInRange}
 use Rattle.qh_qtd.specs.QueueHead.{qh_words, IsQhInRange}
-use Rattle.async_walk.specs.Queue.{pages_of}
+use Rattle.in_walk.specs.Queue.{pages_of}
 use Rattle.standing.specs.Standing.{QueueStands, QtdStands, AreBytesApart, CanBeWritten}
 use Rattle.standing.specs.Rows.{queue, qtd, memory}
 

@@ -13,7 +13,7 @@ use Rattle.qh_qtd.specs.declared.queue_head.Qh.{Qh}
 use Rattle.qh_qtd.specs.Qtd.{qtd_words, IsQtdInRange}
 use Rattle.qh_qtd.specs.QueueHead.{qh_words, IsQhInRange}
 use Rattle.queue_words.specs.Structures.{reaches_queue_head, overlay_words, overlay_written, token_written}
-use Rattle.async_walk.specs.Queue.{buffer_size, pages_of, place_of, moved}
+use Rattle.in_walk.specs.Queue.{buffer_size, pages_of, place_of, moved}
 
 pub record QueueStands (m : Mem) (a : ℕ) (q : Qh) : Type 0 where
   pub aligned : a % 32 ≡ 0

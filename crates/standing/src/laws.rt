@@ -9,8 +9,8 @@ ghost use Rattle.qh_qtd.specs.declared.queue_head.Qh.{Qh};
 ghost use Rattle.qh_qtd.specs.Token.{token_rows};
 ghost use Rattle.qh_qtd.specs.QueueHead.{qh_words, IsQhInRange};
 ghost use Rattle.queue_words.specs.Structures.{qtd_at_address, qtd_was_read, queue_head_at_address, queue_head_was_read, overlay_words, overlay_written, token_written};
-ghost use Rattle.async_walk.specs.Queue.{moved};
-ghost use Rattle.async_walk.specs.WriteBack.{written_back};
+ghost use Rattle.in_walk.specs.Queue.{moved};
+ghost use Rattle.in_walk.specs.WriteBack.{written_back};
 ghost use Rattle.standing.specs.Standing.{QueueStands, QtdStands, AreApart, AreBytesApart, CanBeWritten, bytes_back, back_written, qtd_after};
 
 /// The controller reads the structure that stands at an address, and isn't refused (3.5 and 3.6).

@@ -3,8 +3,8 @@ ghost use Rattle.std.specs.Prelude.{◌≡◌, true, false, [], ◌∷◌, Some}
 ghost use Rattle.word_mem.specs.Memory.{word_at, state_at};
 ghost use Rattle.buffers.specs.Bytes.{bytes_at};
 ghost use Rattle.queue_words.specs.Structures.{qtd_at_address, queue_head_at_address};
-ghost use Rattle.async_walk.specs.Queue.{moved};
-ghost use Rattle.async_walk.specs.WriteBack.{written_back};
+ghost use Rattle.in_walk.specs.Queue.{moved};
+ghost use Rattle.in_walk.specs.WriteBack.{written_back};
 ghost use Rattle.standing.specs.Standing.{QueueStands, QtdStands, CanBeWritten, back_written};
 ghost use Rattle.standing.specs.Rows.{queue, qtd, token, memory};
 

@@ -6,10 +6,10 @@ use Rattle.qh_qtd.specs.declared.token.Token.{Token}
 use Rattle.qh_qtd.specs.QueueHead.{qh_words}
 use Rattle.host_token.specs.HostToken.{host_at}
 use Rattle.queue_words.specs.Structures.{reaches_queue_head}
-use Rattle.async_walk.specs.Queue.{advanced, taken_token}
-use Rattle.async_walk.specs.WriteBack.{overlay_after}
-use Rattle.async_walk.specs.Rows.{Place, took, faulted}
-use Rattle.async_walk.proofs.Ranges.{advanced_in_range}
+use Rattle.in_walk.specs.Queue.{advanced, taken_token}
+use Rattle.in_walk.specs.WriteBack.{overlay_after}
+use Rattle.in_walk.specs.Rows.{Place, took, faulted}
+use Rattle.in_walk.proofs.Ranges.{advanced_in_range}
 use Rattle.transfer_steps.specs.Setting.{Setting, IsQueue, IsLaidOut}
 use Rattle.transfer_steps.specs.Told.{QueueHeld, with_naks, Waiting, Working, Waits, Works, Transfer, Scene, Goes}
 use Rattle.transfer_steps.proofs.Memory.{stands_overlay, bytes_overlay}

@@ -9,8 +9,8 @@ use Rattle.qh_qtd.specs.declared.queue_head.Qh.{Qh}
 use Rattle.qh_qtd.specs.QueueHead.{qh_words, IsQhInRange}
 use Rattle.queue_words.specs.Structures.{overlay_words, overlay_written}
 use Rattle.queue_words.proofs.WriteBack.{overlay_outside, overlay_states, overlay_size}
-use Rattle.async_walk.specs.Queue.{pages_of, place_of, moved}
-use Rattle.async_walk.specs.WriteBack.{overlay_after}
+use Rattle.in_walk.specs.Queue.{pages_of, place_of, moved}
+use Rattle.in_walk.specs.WriteBack.{overlay_after}
 use Rattle.standing.specs.Standing.{QtdStands, AreApart, AreBytesApart, back_written, qtd_after, CanBeWritten}
 use Rattle.standing.proofs.Frames.{reaches_same, nine_words, queue_stays, qtd_stays, overlay_stands, queue_beside_overlay, qtd_beside_overlay, word_beside}
 use Rattle.standing.proofs.Back.{queue_back, qtd_back, word_beside_back, states_back, shape_back}

@@ -15,7 +15,7 @@ use Rattle.toggle_error.specs.Columns.{limit_of, fitting, heard_data, heard_hand
 use Rattle.toggle_error.specs.PlainRows.{plain_row, is_last_error, error_outcome, plain_outcome, after_plain}
 use Rattle.qh_qtd.specs.declared.queue_head.Qh.{Qh}
 use Rattle.transactions.specs.Calls.{got_of}
-use Rattle.async_walk.specs.Queue.{host_in}
+use Rattle.in_walk.specs.Queue.{host_in}
 use Rattle.transfer_steps.specs.Told.{host_after, got_after}
 
 pub record InFacts (host after : HostSide) (got : List ℕ) : Type 0 where

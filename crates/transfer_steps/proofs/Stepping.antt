@@ -15,17 +15,17 @@ use Rattle.toggle_error.specs.declared.host.Outcome.TheVariants as outcomes
 use Rattle.transactions.specs.Calls.{high_call}
 use Rattle.transactions.specs.Prices.{price_of}
 use Rattle.usb_base.specs.declared.packets.Split.TheVariants.{Plain}
-use Rattle.async_walk.specs.declared.rows.Row.{Row}
-use Rattle.async_walk.specs.declared.rows.Row.TheVariants as rows
-use Rattle.async_walk.specs.declared.rows.Visit.TheVariants as visits
-use Rattle.async_walk.specs.declared.state.Held.{Held}
-use Rattle.async_walk.specs.declared.state.ReloadMode.{ReloadMode}
-use Rattle.async_walk.specs.declared.state.ReloadMode.TheVariants.{WaitHead, Reload, WaitStart}
-use Rattle.async_walk.specs.declared.state.WalkStep.{WalkStep}
-use Rattle.async_walk.specs.declared.state.WalkStep.TheVariants as steps
-use Rattle.async_walk.specs.Queue.{may_work, next_mode, mode_after, reloaded, advanced, naks_after, settled_queue, moved, next_pointer, pipe_of, host_in, price_in}
+use Rattle.in_walk.specs.declared.rows.Row.{Row}
+use Rattle.in_walk.specs.declared.rows.Row.TheVariants as rows
+use Rattle.in_walk.specs.declared.rows.Visit.TheVariants as visits
+use Rattle.in_walk.specs.declared.state.Held.{Held}
+use Rattle.in_walk.specs.declared.state.ReloadMode.{ReloadMode}
+use Rattle.in_walk.specs.declared.state.ReloadMode.TheVariants.{WaitHead, Reload, WaitStart}
+use Rattle.in_walk.specs.declared.state.WalkStep.{WalkStep}
+use Rattle.in_walk.specs.declared.state.WalkStep.TheVariants as steps
+use Rattle.in_walk.specs.Queue.{may_work, next_mode, mode_after, reloaded, advanced, naks_after, settled_queue, moved, next_pointer, pipe_of, host_in, price_in}
 use Rattle.qh_qtd.specs.declared.token.Token.{Token}
-use Rattle.async_walk.specs.Rows.{Place, row_at, read_at, cursor_link, row_of, was_read, step_of, Leads, Transacted, fetched, head_ended, passed, passed_walk, out_of_time, took_step, transacted}
+use Rattle.in_walk.specs.Rows.{Place, row_at, read_at, cursor_link, row_of, was_read, step_of, Leads, Transacted, fetched, head_ended, passed, passed_walk, out_of_time, took_step, transacted}
 use Rattle.transfer_steps.specs.Setting.{Setting, head_of, dummy_qtd, IsQueue, IsLaidOut}
 use Rattle.transfer_steps.specs.Told.{Hand, AtHead, HeadHeld, AtQueue, QueueHeld, Settled, with_naks, Stage, Resting, Waiting, Working, Transfer, Scene, host_after, outcome_after, got_after}
 use Rattle.transfer_steps.specs.Events.{price, is_busy, IsKeenAt, step_left, turn_left, events_left, Quietly, Moves}

@@ -9,9 +9,9 @@ use Rattle.qh_qtd.specs.QueueHead.{IsQhInRange}
 use Rattle.toggle_error.specs.declared.host.HostSide.{HostSide}
 use Rattle.toggle_error.specs.declared.host.Outcome.{Outcome}
 use Rattle.host_token.specs.HostToken.{host_at}
-use Rattle.async_walk.specs.Queue.{pipe_of, host_in, price_in, settled_queue}
-use Rattle.async_walk.specs.Rows.{Place, transacted, held_settled}
-use Rattle.async_walk.proofs.Ranges.{settled_in_range}
+use Rattle.in_walk.specs.Queue.{pipe_of, host_in, price_in, settled_queue}
+use Rattle.in_walk.specs.Rows.{Place, transacted, held_settled}
+use Rattle.in_walk.proofs.Ranges.{settled_in_range}
 use Rattle.transfer_steps.specs.Setting.{Setting}
 use Rattle.transfer_steps.specs.Told.{QueueHeld, Settled, with_naks, Working, Transfer, Scene, Goes, host_after, outcome_after, got_after, moved_on}
 use Rattle.transfer_steps.proofs.Settles.{settle_facts, got_one}

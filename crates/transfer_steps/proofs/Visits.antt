@@ -7,12 +7,12 @@ use Rattle.link_words.specs.Links.{qtd_link_of}
 use Rattle.qh_qtd.specs.declared.qtd.Qtd.{Qtd}
 use Rattle.qh_qtd.specs.declared.queue_head.Qh.{Qh}
 use Rattle.op_registers.specs.RegisterFile.{RegisterFile}
-use Rattle.async_walk.specs.declared.rows.Row.TheVariants as rows
-use Rattle.async_walk.specs.declared.rows.Visit.TheVariants as visits
-use Rattle.async_walk.specs.declared.state.Cursor.{Cursor}
-use Rattle.async_walk.specs.declared.state.Cursor.TheVariants as cursors
-use Rattle.async_walk.specs.Queue.{may_work, visit_at, visit_of, next_pointer, is_made, pipe_of, host_in, price_in}
-use Rattle.async_walk.specs.Rows.{Place, row_at, row_of, ring_row, fetch_row, visit_row, work_row, taken_row, cursor_link, read_at, ring_read, visit_read, was_read}
+use Rattle.in_walk.specs.declared.rows.Row.TheVariants as rows
+use Rattle.in_walk.specs.declared.rows.Visit.TheVariants as visits
+use Rattle.in_walk.specs.declared.state.Cursor.{Cursor}
+use Rattle.in_walk.specs.declared.state.Cursor.TheVariants as cursors
+use Rattle.in_walk.specs.Queue.{may_work, visit_at, visit_of, next_pointer, is_made, pipe_of, host_in, price_in}
+use Rattle.in_walk.specs.Rows.{Place, row_at, row_of, ring_row, fetch_row, visit_row, work_row, taken_row, cursor_link, read_at, ring_read, visit_read, was_read}
 use Rattle.standing.specs.Standing.{QueueStands, QtdStands}
 use Rattle.standing.proofs.Frames.{queue_read, queue_was_read, qtd_read_there, qtd_was_read_there}
 use Rattle.transfer_steps.specs.Setting.{Setting, head_of}

@@ -5,14 +5,14 @@ use Rattle.link_words.specs.Links.{link_of}
 use Rattle.qh_qtd.specs.declared.queue_head.Qh.{Qh}
 use Rattle.op_registers.specs.RegisterFile.{RegisterFile}
 use Rattle.op_registers.specs.Events.{after_advance, after_reclamation}
-use Rattle.async_walk.specs.declared.state.Cursor.TheVariants as cursors
-use Rattle.async_walk.specs.declared.state.Held.{Held}
-use Rattle.async_walk.specs.declared.state.ReloadMode.{ReloadMode}
-use Rattle.async_walk.specs.declared.state.ReloadMode.TheVariants.{WaitHead, Reload, WaitStart}
-use Rattle.async_walk.specs.Walk.{Walk}
-use Rattle.async_walk.specs.Queue.{mode_after, reloaded}
-use Rattle.async_walk.specs.Rows.{Place, head_read, head_ended, fetched_registers, fetched, passed_walk, passed, out_of_time, started, started_registers, started_walk}
-use Rattle.async_walk.proofs.Ranges.{reloaded_in_range}
+use Rattle.in_walk.specs.declared.state.Cursor.TheVariants as cursors
+use Rattle.in_walk.specs.declared.state.Held.{Held}
+use Rattle.in_walk.specs.declared.state.ReloadMode.{ReloadMode}
+use Rattle.in_walk.specs.declared.state.ReloadMode.TheVariants.{WaitHead, Reload, WaitStart}
+use Rattle.in_walk.specs.Walk.{Walk}
+use Rattle.in_walk.specs.Queue.{mode_after, reloaded}
+use Rattle.in_walk.specs.Rows.{Place, head_read, head_ended, fetched_registers, fetched, passed_walk, passed, out_of_time, started, started_registers, started_walk}
+use Rattle.in_walk.proofs.Ranges.{reloaded_in_range}
 use Rattle.transfer_steps.specs.Setting.{Setting, head_of, IsQueue}
 use Rattle.transfer_steps.specs.Told.{Hand, AtHead, HeadHeld, AtQueue, QueueHeld, Settled, IsInHand, with_naks, Stage, Runs, Transfer, Scene, Goes}
 

@@ -16,12 +16,12 @@ use Rattle.op_registers.specs.RegisterFile.{RegisterFile}
 use Rattle.toggle_error.specs.declared.host.HostSide.{HostSide}
 use Rattle.toggle_error.specs.declared.host.Outcome.{Outcome}
 use Rattle.host_token.specs.HostToken.{host_at, with_host}
-use Rattle.async_walk.specs.declared.state.Cursor.TheVariants as cursors
-use Rattle.async_walk.specs.declared.state.Held.{Held}
-use Rattle.async_walk.specs.declared.state.WalkStep.TheVariants as steps
-use Rattle.async_walk.specs.Queue.{settled_queue, pages_of, place_of, moved}
-use Rattle.async_walk.specs.WriteBack.{Writing, written_back, raised}
-use Rattle.async_walk.specs.Rows.{Place, passed_walk, wrote, wrote_place, wrote_step}
+use Rattle.in_walk.specs.declared.state.Cursor.TheVariants as cursors
+use Rattle.in_walk.specs.declared.state.Held.{Held}
+use Rattle.in_walk.specs.declared.state.WalkStep.TheVariants as steps
+use Rattle.in_walk.specs.Queue.{settled_queue, pages_of, place_of, moved}
+use Rattle.in_walk.specs.WriteBack.{Writing, written_back, raised}
+use Rattle.in_walk.specs.Rows.{Place, passed_walk, wrote, wrote_place, wrote_step}
 use Rattle.standing.specs.Standing.{AreBytesApart, bytes_back, back_written, qtd_after}
 use Rattle.standing.proofs.Back.{all_written, bytes_after_back}
 use Rattle.transfer_steps.specs.Setting.{Setting, IsQueue, IsLaidOut, HasPages, leads_to}

@@ -5,11 +5,11 @@ use Rattle.usb_base.specs.declared.packets.Reply.{Reply}
 use Rattle.qh_qtd.specs.declared.queue_head.Qh.{Qh}
 use Rattle.toggle_error.specs.declared.host.Outcome.TheVariants as outcomes
 use Rattle.transactions.specs.Calls.{high_call}
-use Rattle.async_walk.specs.declared.state.ReloadMode.TheVariants.{WaitHead, Reload}
-use Rattle.async_walk.specs.declared.state.WalkStep.{WalkStep}
-use Rattle.async_walk.specs.declared.state.WalkStep.TheVariants as steps
-use Rattle.async_walk.specs.Queue.{may_work, pipe_of, host_in}
-use Rattle.async_walk.specs.Rows.{Place}
+use Rattle.in_walk.specs.declared.state.ReloadMode.TheVariants.{WaitHead, Reload}
+use Rattle.in_walk.specs.declared.state.WalkStep.{WalkStep}
+use Rattle.in_walk.specs.declared.state.WalkStep.TheVariants as steps
+use Rattle.in_walk.specs.Queue.{may_work, pipe_of, host_in}
+use Rattle.in_walk.specs.Rows.{Place}
 use Rattle.transfer_steps.specs.Setting.{Setting}
 use Rattle.transfer_steps.specs.Told.{Hand, AtHead, HeadHeld, AtQueue, QueueHeld, Settled, Stage, Resting, Waiting, Working, Transfer, Scene, outcome_after, moved_on}
 

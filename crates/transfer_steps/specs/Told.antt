@@ -14,12 +14,12 @@ use Rattle.toggle_error.specs.Settle.{outcome_of, settled}
 use Rattle.transactions.specs.Calls.{high_call, got_of}
 use Rattle.host_token.specs.HostToken.{host_at}
 use Rattle.buffers.specs.Bytes.{bytes_at}
-use Rattle.async_walk.specs.declared.state.Cursor.TheVariants as cursors
+use Rattle.in_walk.specs.declared.state.Cursor.TheVariants as cursors
 use Rattle.qh_qtd.specs.QueueHead.{IsQhInRange}
 use Rattle.op_registers.specs.RegisterFile.{RegisterFile}
-use Rattle.async_walk.specs.Walk.{Walk}
-use Rattle.async_walk.specs.Rows.{Place}
-use Rattle.async_walk.specs.Queue.{next_pointer, pages_of, place_of, settled_queue, pipe_of, host_in}
+use Rattle.in_walk.specs.Walk.{Walk}
+use Rattle.in_walk.specs.Rows.{Place}
+use Rattle.in_walk.specs.Queue.{next_pointer, pages_of, place_of, settled_queue, pipe_of, host_in}
 use Rattle.transfer_steps.specs.Setting.{Setting, HasPages, Stands, leads_to, head_of}
 
 -- what the walk has in hand

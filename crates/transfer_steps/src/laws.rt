@@ -3,7 +3,7 @@ ghost use Rattle.std.specs.Prelude.{◌≡◌, ℕ, ◌<◌, ◌⊎◌, false, L
 ghost use Rattle.usb_base.specs.declared.packets.Ask.{Ask};
 ghost use Rattle.usb_base.specs.declared.packets.Pid.{Pid};
 ghost use Rattle.usb_base.specs.declared.packets.Reply.TheVariants.{Bytes};
-ghost use Rattle.async_walk.specs.Rows.{Place, row_of, was_read, step_of, Leads};
+ghost use Rattle.in_walk.specs.Rows.{Place, row_of, was_read, step_of, Leads};
 ghost use Rattle.transfer_steps.specs.Setting.{Setting, IsLaidOut};
 ghost use Rattle.transfer_steps.specs.Told.{Hand, Stage, Transfer, Scene};
 ghost use Rattle.transfer_steps.specs.Events.{Quietly, Moves};

@@ -3,8 +3,8 @@ ghost use Rattle.std.specs.Prelude.{◌≡◌, true, false, [], ◌∷◌, repli
 ghost use Rattle.usb_base.specs.declared.packets.Pid.TheVariants as pids;
 ghost use Rattle.usb_base.specs.declared.packets.Reply.TheVariants.{Silent, Bytes, Hand};
 ghost use Rattle.toggle_error.specs.declared.host.Outcome.TheVariants as outcomes;
-ghost use Rattle.async_walk.specs.Walk.{new_walk};
-ghost use Rattle.async_walk.specs.Rows.{place};
+ghost use Rattle.in_walk.specs.Walk.{new_walk};
+ghost use Rattle.in_walk.specs.Rows.{place};
 ghost use Rattle.word_mem.specs.Memory.{fresh};
 ghost use Rattle.op_registers.specs.RegisterFile.{reset_file};
 ghost use Rattle.transfer_steps.specs.Told.{AtHead, HeadHeld, AtQueue, QueueHeld, Settled, Resting, Waiting, Working, outcome_after, moved_on, with_naks};

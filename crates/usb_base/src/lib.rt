@@ -2,6 +2,7 @@
 //! endpoints, the wire, prices (USB 2.0, 5.11.3), and the outside as sources and sinks of bytes.
 #![tactic(auto)]
 
+mod commands;
 mod endpoints;
 mod items;
 mod mem_sink;
@@ -16,6 +17,7 @@ mod wire;
 pub mod worked;
 mod writing;
 
+pub use commands::Cmd;
 pub use endpoints::{EndCause, EpDesc, EpName};
 pub use items::{ListOf, Packet};
 pub use mem_sink::MemSink;

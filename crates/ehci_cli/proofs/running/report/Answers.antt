@@ -1,8 +1,8 @@
 use Rattle.std.proofs.Common.{List, ℕ, refl}
-use Rattle.script_text.specs.Grammar.{Spells}
-use Rattle.script_text.specs.declared.script.Script.{Script}
-use Rattle.bus_world.specs.World.{Content, IsRun, world_text}
-use Rattle.bus_world.proofs.Whole.{right_after_run}
+use Rattle.transfer_text.specs.Grammar.{Spells}
+use Rattle.transfer_text.specs.declared.script.Script.{Script}
+use Rattle.transfer_world.specs.World.{Content, IsRun, world_text}
+use Rattle.transfer_world.proofs.Whole.{right_after_run}
 use Rattle.ehci_cli.specs.declared.status.Status.TheVariants as Statuses
 use Rattle.ehci_cli.specs.Output.{ReportsRun}
 use Rattle.ehci_cli.proofs.running.report.Goals as goal

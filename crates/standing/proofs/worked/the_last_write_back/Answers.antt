@@ -5,8 +5,8 @@ use Rattle.link_words.specs.Layout.{first_bad_bit}
 use Rattle.qh_qtd.specs.Token.{token_word, token_at}
 use Rattle.qh_qtd.specs.Qtd.{qtd_words, qtd_read, qtd_bad, qtd_at}
 use Rattle.qh_qtd.specs.QueueHead.{qh_words, qh_read, qh_bad, qh_at}
-use Rattle.async_walk.specs.Queue.{moved}
-use Rattle.async_walk.specs.WriteBack.{written_back, overlay_after}
+use Rattle.in_walk.specs.Queue.{moved}
+use Rattle.in_walk.specs.WriteBack.{written_back, overlay_after}
 use Rattle.standing.specs.Standing.{back_written}
 use Rattle.standing.proofs.worked.the_last_write_back.Goals as goal
 
