@@ -1,5 +1,7 @@
 //! Admission of periodic endpoints under the budgets of microframes, of frames below a hub and of translators
 //! (USB 2.0, 5.11.3 and 11.18; EHCI 1.0, 4.7 and 4.12).
+//!
+//! `Plan::admit` answers the best placement of an endpoint, or why there is none; `Plan::remove` and `Plan::load` stand beside it.
 #![tactic(auto)]
 
 mod asks;

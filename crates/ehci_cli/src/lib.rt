@@ -1,4 +1,6 @@
 //! The program's top call: what it reads, what it writes and how it ends.
+//!
+//! `ehci` carries the theorem of the whole; `StdSource` and `StdSink` are the standard ends that `main` makes it over.
 #![tactic(auto)]
 
 mod dumping;

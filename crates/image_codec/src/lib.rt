@@ -1,4 +1,6 @@
-//! Memory images of a host: the bytes of an image, both ways, and the text that shows one.
+//! Memory images of a host: the bytes of an image, both ways, and the text that shows one (structures by EHCI 1.0, section 3).
+//!
+//! `decode`, `encode` and `show`. The layouts are those of `qh_qtd` and `itd_sitd`.
 #![tactic(auto)]
 
 mod chain;

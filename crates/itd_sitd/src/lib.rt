@@ -1,4 +1,6 @@
 //! Isochronous transfer descriptors (EHCI 1.0, 3.3 and 3.4): their words read and written.
+//!
+//! `Itd::read`, `Sitd::read` and their `write`; one microframe of an iTD is `ItdSlot`. Queue heads and qTDs stand beside it in `qh_qtd`.
 #![tactic(auto)]
 
 mod itd;

@@ -1,4 +1,7 @@
 //! Link words of the EHCI structures (EHCI 1.0, section 3), and the words in which layouts are written.
+//!
+//! `read` and `write` are for links, `read_qtd` and `write_qtd` for those of a queue; specs/Layout.antt has the tables' own words, which
+//! `qh_qtd` and `itd_sitd` beside it use for whole structures.
 #![tactic(auto)]
 
 mod conversions;

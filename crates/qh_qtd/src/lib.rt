@@ -1,4 +1,7 @@
 //! Queue heads and queue element transfer descriptors (EHCI 1.0, 3.5 and 3.6): their words read and written.
+//!
+//! `Qh::read`, `Qtd::read` and their `write`; a token alone is `Token`. Isochronous descriptors stand beside it in `itd_sitd`, structures at
+//! addresses of memory above it in `queue_words`.
 #![tactic(auto)]
 
 mod laws;
