@@ -1,0 +1,33 @@
+-- What a script says of an endpoint, item by item.
+use Rattle.std.specs.Prelude.{ℕ, ◌-◌, ◌^◌, min, nat_le, sum, map, filter_map, List, [], ◌∷◌, Option, Some, None, if◌then◌else◌}
+use Rattle.script_types.specs.declared.devices.Item.{Item}
+use Rattle.script_types.specs.declared.devices.Item.TheVariants.{Bytes, Nak, Nyet, Stall, Request}
+use Rattle.endpoint_script.specs.declared.control.KnownRequest.{KnownRequest}
+
+-- one of n NAKs was used; the last one ends the item
+abbrev pub nak_used : ℕ → List Item → List Item
+nak_used n items = if nat_le n 1 then items else Nak (n - 1) ∷ items
+
+abbrev pub packet_in : Item → Option (List ℕ)
+packet_in (Bytes bytes) = Some bytes
+packet_in _ = None
+
+-- the data packets among the items, in order
+abbrev pub packets_of : List Item → List (List ℕ)
+packets_of items = filter_map packet_in items
+
+abbrev pub naks_in : Item → ℕ
+naks_in (Nak n) = n
+naks_in _ = 0
+
+-- all NAKs among the items together, up to the last value of 64 bits
+abbrev pub naks_of : List Item → ℕ
+naks_of items = min (sum (map naks_in items)) (2 ^ 64 - 1)
+
+abbrev pub request_in : Item → Option KnownRequest
+request_in (Request setup bytes) = Some (record { setup = setup; reply = bytes })
+request_in _ = None
+
+-- the requests among the items with their replies, in order
+abbrev pub requests_of : List Item → List KnownRequest
+requests_of items = filter_map request_in items

@@ -1,0 +1,7 @@
+pub mod Items
+pub mod Sending
+pub mod Taking
+pub mod Controlling
+pub mod Streaming
+pub mod Device
+pub mod Places
