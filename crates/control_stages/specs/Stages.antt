@@ -110,13 +110,13 @@ in_row AllWritten = Confirms
 in_row NoData = Confirms
 in_row _ = Stalls
 
--- The table for an OUT, by what its data PID is, whether it is the status packet of a read (an empty DATA1), and whether its
--- bytes are no more than are to come.
-abbrev pub out_row : Stage → Sequence → Bool → Bool → StageRow
---                 sequence status fits
+-- The table for an OUT, by what its data PID is, whether it is the status packet of a read (an empty DATA1), and how far the data
+-- stage of a write is with its bytes, where they are no more than are to come.
+abbrev pub out_row : Stage → Sequence → Bool → Option ℕ → StageRow
+-- stage, sequence, status, how far
 out_row Reading _ true _ = Acknowledges
 out_row AllRead _ true _ = Acknowledges
-out_row Writing Next _ true = Takes
+out_row Writing Next _ (Some to) = Takes to
 out_row Writing Repeat _ _ = Drops
 out_row AllWritten Repeat _ _ = Drops
 out_row _ _ _ _ = Stalls
@@ -127,8 +127,8 @@ ping_row Refusing = Stalls
 ping_row _ = HasRoom
 
 -- a SETUP is never refused (8.4.6.4)
-abbrev pub setup_row : ℕ → StageRow
-setup_row n = if n == 8 then Begins else Ignores
+abbrev pub setup_row : List ℕ → StageRow
+setup_row out = if length out == 8 then Begins out else Ignores
 
 abbrev pub is_data1 : Pid → Bool
 is_data1 Pids.Data1 = true
@@ -138,34 +138,29 @@ is_data1 _ = false
 abbrev pub is_status : Pid → ℕ → Bool
 is_status pid n = is_data1 pid && n == 0
 
--- what a data PID is to the request under way; before the first one it is nothing
-abbrev pub sequence_at : Option Request → Pid → Sequence
-sequence_at None _ = Neither
-sequence_at (Some u) pid = sequence_of u.toggle pid
+-- how far a write is with n more bytes, where they are no more than are to come
+abbrev pub far_with : Request → ℕ → Option ℕ
+far_with u n = if nat_le (u.moved + n) (wanted_of u.setup) then Some (u.moved + n) else None
 
--- n more bytes are no more than are to come
-abbrev pub fits_at : Option Request → ℕ → Bool
-fits_at None n = false
-fits_at (Some u) n = nat_le (u.moved + n) (wanted_of u.setup)
-
+-- n bytes with this data PID
 abbrev pub out_row_at : Stage → Option Request → Pid → ℕ → StageRow
-out_row_at stage u pid n = out_row stage (sequence_at u pid) (is_status pid n) (fits_at u n)
-
--- by the token, where no NAK is left
-abbrev pub token_row : Token → Stage → Option Request → Pid → ℕ → StageRow
-token_row Tokens.In stage u pid n = in_row stage
-token_row Tokens.Out stage u pid n = out_row_at stage u pid n
-token_row Tokens.Ping stage u pid n = ping_row stage
-token_row _ stage u pid n = Stalls
+out_row_at stage None pid n = Stalls
+out_row_at stage (Some u) pid n = out_row stage (sequence_of u.toggle pid) (is_status pid n) (far_with u n)
 
 -- NAKs that are left come before every other rule
-abbrev pub row_by : Token → Stage → Stages → Pid → ℕ → StageRow
-row_by Tokens.Setup stage c pid n = setup_row n
-row_by token stage c pid n = if c.naks == 0 then token_row token stage c.request pid n else Naks
+abbrev pub unless_nak : ℕ → StageRow → StageRow
+unless_nak naks row = if naks == 0 then row else Naks
+
+abbrev pub row_by : Token → Stage → Stages → Pid → List ℕ → StageRow
+row_by Tokens.Setup stage c pid out = setup_row out
+row_by Tokens.In stage c pid out = unless_nak c.naks (in_row stage)
+row_by Tokens.Out stage c pid out = unless_nak c.naks (out_row_at stage c.request pid (length out))
+row_by Tokens.Ping stage c pid out = unless_nak c.naks (ping_row stage)
+row_by Tokens.Other stage c pid out = unless_nak c.naks Stalls
 
 -- what it does at an ask that sends these bytes
 abbrev pub row_of : Option (List ℕ) → Stages → Ask → List ℕ → StageRow
-row_of reply c ask out = row_by (token_of ask.pid) (stage_of reply c) c ask.toggle (length out)
+row_of reply c ask out = row_by (token_of ask.pid) (stage_of reply c) c ask.toggle out
 
 -- ---- what a row answers
 
@@ -178,11 +173,11 @@ pid_with None = Pids.Data1
 pid_with (Some u) = data_pid u.toggle
 
 abbrev pub row_reply : StageRow → Option (List ℕ) → Stages → Reply
-row_reply Begins reply c = Hand Pids.Ack
+row_reply (Begins setup) reply c = Hand Pids.Ack
 row_reply Ignores reply c = Silent
 row_reply Naks reply c = Hand Pids.Nak
 row_reply Sends reply c = Bytes (pid_with c.request) (packet_with c.max reply c.request)
-row_reply Takes reply c = Hand Pids.Ack
+row_reply (Takes to) reply c = Hand Pids.Ack
 row_reply Drops reply c = Hand Pids.Ack
 row_reply Acknowledges reply c = Hand Pids.Ack
 row_reply Confirms reply c = Bytes Pids.Data1 []
@@ -195,10 +190,10 @@ row_reply Stalls reply c = Hand Pids.Stall
 abbrev pub begun_with : List ℕ → Request
 begun_with setup = record { setup = setup; moved = 0; toggle = true; done = false }
 
--- a data packet of n bytes was moved
-abbrev pub moved_by : ℕ → Option Request → Option Request
-moved_by n None = None
-moved_by n (Some u) = Some (record u { moved = u.moved + n; toggle = not u.toggle })
+-- a data packet was moved, and the data stage is that far
+abbrev pub moved_to : ℕ → Option Request → Option Request
+moved_to to None = None
+moved_to to (Some u) = Some (record u { moved = to; toggle = not u.toggle })
 
 -- a count of 32 bits after one more
 abbrev pub one_more_act : ℕ → ℕ
@@ -216,17 +211,17 @@ acted_with (Some u) c = acted_at u.done u c
 abbrev pub acted_on : Stages → Stages
 acted_on c = acted_with c.request c
 
-abbrev pub after_row : StageRow → List ℕ → Stages → Stages
-after_row Begins out c = record c { request = Some (begun_with out) }
-after_row Ignores out c = c
-after_row Naks out c = record c { naks = c.naks - 1 }
-after_row Sends out c = c
-after_row Takes out c = record c { request = moved_by (length out) c.request }
-after_row Drops out c = c
-after_row Acknowledges out c = acted_on c
-after_row Confirms out c = acted_on c
-after_row HasRoom out c = c
-after_row Stalls out c = c
+abbrev pub after_row : StageRow → Stages → Stages
+after_row (Begins setup) c = record c { request = Some (begun_with setup) }
+after_row Ignores c = c
+after_row Naks c = record c { naks = c.naks - 1 }
+after_row Sends c = c
+after_row (Takes to) c = record c { request = moved_to to c.request }
+after_row Drops c = c
+after_row Acknowledges c = acted_on c
+after_row Confirms c = acted_on c
+after_row HasRoom c = c
+after_row Stalls c = c
 
 -- what it answers to an ask that sends these bytes
 abbrev pub stages_reply : Option (List ℕ) → Stages → Ask → List ℕ → Reply
@@ -234,14 +229,14 @@ stages_reply reply c ask out = row_reply (row_of reply c ask out) reply c
 
 -- what that answer leaves
 abbrev pub stages_after : Option (List ℕ) → Stages → Ask → List ℕ → Stages
-stages_after reply c ask out = after_row (row_of reply c ask out) out c
+stages_after reply c ask out = after_row (row_of reply c ask out) c
 
 -- ---- the acknowledgement
 
-abbrev pub acked_at : Stage → Stages → Stages
-acked_at Reading c = record c { request = moved_by c.max c.request }
-acked_at _ c = c
+abbrev pub acked_with : Stage → Option Request → Stages → Stages
+acked_with Reading (Some u) c = record c { request = Some (record u { moved = u.moved + c.max; toggle = not u.toggle }) }
+acked_with _ _ c = c
 
 -- the host's ACK of the data just sent moves a read on to its next packet; that of a status packet changes nothing
 abbrev pub stages_acked : Option (List ℕ) → Stages → Stages
-stages_acked reply c = acked_at (stage_of reply c) c
+stages_acked reply c = acked_with (stage_of reply c) c.request c

@@ -10,5 +10,5 @@ mod control;
 mod rows;
 pub mod worked;
 
-pub use control::{ControlStages, Request};
+pub use control::{ControlStages, Request, data_pid, sequence, token};
 pub use rows::{Sequence, Stage, StageRow, Token};

@@ -40,16 +40,16 @@ pub enum Stage {
 /// What a control endpoint does at a token.
 #[derive(Clone, Copy, Debug, PartialEq, Eq)]
 pub enum StageRow {
-    /// A SETUP of eight bytes: ACK, and its request begins.
-    Begins,
+    /// A SETUP of eight bytes: ACK, and the request with these setup bytes begins.
+    Begins([u8; 8]),
     /// A SETUP of another length: no answer.
     Ignores,
     /// NAK, one of those that are left.
     Naks,
     /// The next data packet of a read.
     Sends,
-    /// ACK to the next data packet of a write, which is taken.
-    Takes,
+    /// ACK to the next data packet of a write, which is taken: the data stage is this many bytes far with it.
+    Takes(u32),
     /// ACK to a data packet of a write that was taken before.
     Drops,
     /// ACK to the status stage of a read; the first one acts on the request.
