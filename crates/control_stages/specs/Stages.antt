@@ -56,6 +56,11 @@ sequence_of _ _ = Neither
 
 -- ---- the request (USB 2.0, 9.3)
 
+-- the setup bytes of the last SETUP
+abbrev pub setup_of : Option Request → Option (List ℕ)
+setup_of None = None
+setup_of (Some u) = Some u.setup
+
 -- bit 7 of its first byte: the data stage is an IN (9.3.1)
 abbrev pub is_read : List ℕ → Bool
 is_read setup = nat_le 128 (slice_index setup 0)

@@ -3,10 +3,10 @@ use Rattle.std.specs.Prelude.{ℕ, Bool, List, position, slice_get, bytes_eq, Op
 use Rattle.usb_base.specs.declared.packets.Ask.{Ask}
 use Rattle.usb_base.specs.declared.packets.Reply.{Reply}
 use Rattle.control_stages.specs.declared.control.Request.{Request as UnderWay}
-use Rattle.control_stages.specs.Stages.{Stages, opened, stages_reply, stages_after, stages_acked}
+use Rattle.control_stages.specs.Stages.{Stages, opened, setup_of, stages_reply, stages_after, stages_acked}
 use Rattle.script_types.specs.declared.devices.Item.{Item}
 use Rattle.endpoint_script.specs.Items.{naks_of, requests_of}
-use Rattle.endpoint_script.specs.declared.control.KnownRequest.{KnownRequest}
+use Rattle.endpoint_script.specs.declared.control_endpoint.KnownRequest.{KnownRequest}
 
 pub record Controlling : Type 0 where
   pub stages : Stages
@@ -27,14 +27,17 @@ abbrev pub reply_at : List KnownRequest → Option ℕ → Option (List ℕ)
 reply_at requests None = None
 reply_at requests (Some i) = option_map (λ known. known.reply) (slice_get requests i)
 
--- the reply to these setup bytes, if the script has one
-abbrev pub reply_to : List KnownRequest → List ℕ → Option (List ℕ)
-reply_to requests setup = reply_at requests (place_in requests setup)
+abbrev pub place_at : List KnownRequest → Option (List ℕ) → Option ℕ
+place_at requests None = None
+place_at requests (Some setup) = place_in requests setup
 
--- the reply to the request under way
+-- where the request under way stands
+abbrev pub place_under : List KnownRequest → Option UnderWay → Option ℕ
+place_under requests u = place_at requests (setup_of u)
+
+-- the reply to the request under way, if the script has one
 abbrev pub reply_under : List KnownRequest → Option UnderWay → Option (List ℕ)
-reply_under requests None = None
-reply_under requests (Some u) = reply_to requests u.setup
+reply_under requests u = reply_at requests (place_under requests u)
 
 abbrev pub reply_of : Controlling → Option (List ℕ)
 reply_of c = reply_under c.requests c.stages.request

@@ -3,5 +3,3 @@ pub mod Sending
 pub mod Taking
 pub mod Controlling
 pub mod Streaming
-pub mod Device
-pub mod Places

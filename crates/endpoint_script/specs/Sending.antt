@@ -6,7 +6,7 @@ use Rattle.usb_base.specs.declared.packets.Reply.TheVariants as Replies
 use Rattle.script_types.specs.declared.devices.Item.{Item}
 use Rattle.script_types.specs.declared.devices.Item.TheVariants.{Bytes, Nak, Stall}
 use Rattle.control_stages.specs.Stages.{data_pid}
-use Rattle.endpoint_script.specs.Items.{nak_used}
+use Rattle.endpoint_script.specs.Items.{nak_given}
 
 pub record Sending : Type 0 where
   pub items : List Item  -- the items that are left
@@ -23,16 +23,12 @@ sent_reply toggle (Nak _ ∷ _) = Replies.Hand Pids.Nak
 sent_reply toggle (Stall ∷ _) = Replies.Hand Pids.Stall
 sent_reply toggle _ = Replies.Hand Pids.Nak
 
--- what an answer leaves: a packet stays until the host's acknowledgement is heard
-abbrev pub items_answered : List Item → List Item
-items_answered (Nak n ∷ items) = nak_used n items
-items_answered items = items
-
 abbrev pub sending_reply : Sending → Reply
 sending_reply s = sent_reply s.toggle s.items
 
+-- what an answer leaves: a packet stays until the host's acknowledgement is heard
 abbrev pub sending_answered : Sending → Sending
-sending_answered s = record s { items = items_answered s.items }
+sending_answered s = record s { items = nak_given s.items }
 
 -- The host's acknowledgement moves on to the next item and flips the toggle.
 abbrev pub acked_at : List Item → Sending → Sending

@@ -6,7 +6,7 @@ use Rattle.usb_base.specs.declared.packets.Pid.TheVariants as Pids
 use Rattle.usb_base.specs.declared.packets.Reply.{Reply}
 use Rattle.usb_base.specs.declared.packets.Reply.TheVariants.{Bytes}
 use Rattle.script_types.specs.declared.devices.Item.{Item}
-use Rattle.endpoint_script.specs.Items.{packets_of}
+use Rattle.endpoint_script.specs.Items.{packets_of, rest_of}
 
 pub record Streaming : Type 0 where
   pub packets : List (List ℕ)  -- the packets that are left
@@ -31,10 +31,6 @@ count_pid n = if n == 0 then Pids.Data0 else (if n == 1 then Pids.Data1 else Pid
 abbrev pub first_of : List (List ℕ) → List ℕ
 first_of [] = []
 first_of (packet ∷ _) = packet
-
-abbrev pub rest_of : List (List ℕ) → List (List ℕ)
-rest_of [] = []
-rest_of (_ ∷ packets) = packets
 
 -- the next packet; where none is due, an empty DATA0
 abbrev pub streaming_reply : Streaming → Reply

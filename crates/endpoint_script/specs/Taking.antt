@@ -1,6 +1,7 @@
 -- A bulk or interrupt OUT endpoint (USB 2.0, 8.5.1, 8.5.2, 8.5.4 and 8.6): what an OUT or a PING meets, what is answered and left.
-use Rattle.std.specs.Prelude.{ℕ, ◌+◌, Bool, true, false, not, nat_le, List, [], ◌∷◌, ◌++◌, length}
+use Rattle.std.specs.Prelude.{ℕ, ◌+◌, Bool, true, false, not, IsTrue, ⊤, nat_le, List, [], ◌∷◌, ◌++◌, length}
 use Rattle.usb_base.specs.declared.packets.Ask.{Ask}
+use Rattle.usb_base.specs.declared.packets.Pid.{Pid}
 use Rattle.usb_base.specs.declared.packets.Pid.TheVariants as Pids
 use Rattle.usb_base.specs.declared.packets.Reply.{Reply}
 use Rattle.usb_base.specs.declared.packets.Reply.TheVariants.{Hand}
@@ -10,10 +11,8 @@ use Rattle.script_types.specs.declared.devices.Item.{Item}
 use Rattle.script_types.specs.declared.devices.Item.TheVariants.{Nak, Nyet, Stall}
 use Rattle.control_stages.specs.declared.rows.Sequence.{Sequence}
 use Rattle.control_stages.specs.declared.rows.Sequence.TheVariants.{Next}
-use Rattle.control_stages.specs.declared.rows.Token.{Token}
-use Rattle.control_stages.specs.declared.rows.Token.TheVariants.{Ping}
-use Rattle.control_stages.specs.Stages.{sequence_of, token_of}
-use Rattle.endpoint_script.specs.Items.{nak_used}
+use Rattle.control_stages.specs.Stages.{sequence_of}
+use Rattle.endpoint_script.specs.Items.{nak_given, rest_of}
 use Rattle.endpoint_script.specs.declared.rows.TakeRow.{TakeRow}
 use Rattle.endpoint_script.specs.declared.rows.TakeRow.TheVariants.{Drops, Naks, IsFull, Stalls, Takes, TakesLast, HasRoom}
 
@@ -31,11 +30,11 @@ taking_at items room = record { items = items; toggle = false; taken = []; room 
 -- of another kind of endpoint, they are taken.
 abbrev pub next_row : List Item → Bool → TakeRow
 --       item        fits
-next_row (Nak _ ∷ _) _     = Naks
-next_row (Stall ∷ _) _     = Stalls
-next_row (Nyet ∷ _)  true  = TakesLast
-next_row _           true  = Takes
-next_row _           false = IsFull
+next_row (Nak _ ∷ _) _ = Naks
+next_row (Stall ∷ _) _ = Stalls
+next_row (Nyet ∷ _) true = TakesLast
+next_row _ true = Takes
+next_row _ false = IsFull
 
 -- data with another PID than the one that it expects were taken before
 abbrev pub out_row : Sequence → List Item → Bool → TakeRow
@@ -52,13 +51,17 @@ ping_row _ = HasRoom
 abbrev pub has_room : Taking → ℕ → Bool
 has_room t n = nat_le (length t.taken + n) t.room
 
-abbrev pub take_row : Token → Taking → Sequence → ℕ → TakeRow
-take_row Ping t sequence n = ping_row t.items
-take_row _ t sequence n = out_row sequence t.items (has_room t n)
+abbrev pub is_ping : Pid → Bool
+is_ping Pids.Ping = true
+is_ping _ = false
+
+abbrev pub take_row : Bool → Taking → Sequence → ℕ → TakeRow
+take_row true t sequence n = ping_row t.items
+take_row false t sequence n = out_row sequence t.items (has_room t n)
 
 -- what it does at an ask that sends these bytes
 abbrev pub row_of : Taking → Ask → List ℕ → TakeRow
-row_of t ask out = take_row (token_of ask.pid) t (sequence_of t.toggle ask.toggle) (length out)
+row_of t ask out = take_row (is_ping ask.pid) t (sequence_of t.toggle ask.toggle) (length out)
 
 -- the handshake of data that are the last for now: NYET stands at high speed alone
 abbrev pub last_hand : Speed → Reply
@@ -74,16 +77,6 @@ row_reply speed Takes = Hand Pids.Ack
 row_reply speed TakesLast = last_hand speed
 row_reply speed HasRoom = Hand Pids.Ack
 
--- the items after a NAK was given
-abbrev pub nak_given : List Item → List Item
-nak_given (Nak n ∷ items) = nak_used n items
-nak_given items = items
-
--- the items after the one that stands
-abbrev pub rest_of : List Item → List Item
-rest_of [] = []
-rest_of (_ ∷ items) = items
-
 abbrev pub took : List ℕ → Taking → Taking
 took out t = record t { taken = t.taken ++ out; toggle = not t.toggle }
 
@@ -95,6 +88,12 @@ after_row Stalls out t = t
 after_row Takes out t = took out t
 after_row TakesLast out t = record (took out t) { items = rest_of t.items }
 after_row HasRoom out t = t
+
+-- data are taken only where there is room for them
+abbrev pub HasRoomIfTaken : TakeRow → Bool → Type 0
+HasRoomIfTaken Takes fits = IsTrue fits
+HasRoomIfTaken TakesLast fits = IsTrue fits
+HasRoomIfTaken _ fits = ⊤
 
 abbrev pub taking_reply : Speed → Taking → Ask → List ℕ → Reply
 taking_reply speed t ask out = row_reply speed (row_of t ask out)

@@ -6,15 +6,11 @@
 //! `Streaming` (isochronous); `specs/Device.antt` puts them together.
 #![tactic(auto)]
 
-mod control;
-mod device;
-mod endpoint;
-mod places;
+mod control_endpoint;
+mod iso_sender;
+mod item_list;
 mod receiver;
 mod rows;
 mod sender;
-mod streamer;
 
-pub use device::Device;
-pub use endpoint::{Endpoint, Part};
 pub use rows::TakeRow;
