@@ -1,5 +1,5 @@
 -- Lists of which a front part is over, and the packets and requests among items.
-use Rattle.std.proofs.Common.{◌≡◌, ℕ, zero, suc, ◌+◌, ◌<◌, Bool, true, false, ◌&&◌, List, [], ◌∷◌, ◌++◌, length, drop, take, get_or, refl, ap, sym, ◌∙◌, arith, drop-cons, add-one, Option, Some, None}
+use Rattle.std.proofs.Common.{◌≡◌, ℕ, zero, suc, ◌+◌, ◌<◌, Bool, true, false, ◌&&◌, List, [], ◌∷◌, ◌++◌, length, drop, take, map, get_or, set, subst, refl, ap, sym, ◌∙◌, arith, drop-cons, add-one, Option, Some, None}
 use Rattle.std.proofs.lemmas.Grind.{common_steps}
 use Rattle.std.proofs.lemmas.List.{take_more}
 use Rattle.std.proofs.lemmas.List.Elements.{filter_map-append}
@@ -40,3 +40,28 @@ short_packets (Nak n ∷ items) h = short_packets items h
 short_packets (Nyet ∷ items) h = short_packets items h
 short_packets (Stall ∷ items) h = short_packets items h
 short_packets (Request setup bytes ∷ items) h = short_packets items h
+
+-- ---- a list whose first n items have become f of them
+
+length-partly : {A : Type 0} (f : A → A) (xs : List A) (n : ℕ) → length (map f (take n xs) ++ drop n xs) ≡ length xs
+length-partly f [] n = grind (arith, common_steps)
+length-partly f (x ∷ xs) zero = refl
+length-partly f (x ∷ xs) (suc n) = let rest : length (map f (take n xs) ++ drop n xs) ≡ length xs = length-partly f xs n in grind (arith, common_steps)
+
+get_or-partly : {A : Type 0} (f : A → A) (xs : List A) (n : ℕ) (d : A) → get_or (map f (take n xs) ++ drop n xs) n d ≡ get_or xs n d
+get_or-partly f [] zero d = refl
+get_or-partly f [] (suc n) d = refl
+get_or-partly f (x ∷ xs) zero d = refl
+get_or-partly f (x ∷ xs) (suc n) d = get_or-partly f xs n d
+
+set-partly : {A : Type 0} (f : A → A) (xs : List A) (n : ℕ) (d : A) → n < length xs → set (map f (take n xs) ++ drop n xs) n (f (get_or xs n d)) ≡ map f (take (suc n) xs) ++ drop (suc n) xs
+set-partly f [] n d h = absurd (grind arith)
+set-partly f (x ∷ xs) zero d h = refl
+set-partly f (x ∷ xs) (suc n) d h = ap (λ ys. f x ∷ ys) (set-partly f xs n d (omega (arith, h)))
+
+-- the next item becomes f of it
+pub one_more_becomes : {A : Type 0} (f : A → A) (xs ys : List A) (n : ℕ) (x : A) → ys ≡ map f (take n xs) ++ drop n xs → n < length ys → x ≡ get_or ys n x → set ys n (f x) ≡ map f (take (n + 1) xs) ++ drop (n + 1) xs
+one_more_becomes f xs ys n x is h e =
+    let inside : n < length xs = subst (λ m. n < m) (ap length is ∙ length-partly f xs n) h in
+    let item : x ≡ get_or xs n x = e ∙ ap (λ zs. get_or zs n x) is ∙ get_or-partly f xs n x in
+    rw (is, add-one n) (ap (λ y. set (map f (take n xs) ++ drop n xs) n (f y)) item ∙ set-partly f xs n x inside)

@@ -3,3 +3,5 @@ pub mod Sending
 pub mod Taking
 pub mod Controlling
 pub mod Streaming
+pub mod Device
+pub mod Places

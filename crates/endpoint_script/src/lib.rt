@@ -7,10 +7,15 @@
 #![tactic(auto)]
 
 mod control_endpoint;
+mod device;
+mod endpoint;
 mod iso_sender;
 mod item_list;
+mod places;
 mod receiver;
 mod rows;
 mod sender;
 
+pub use device::Device;
+pub use endpoint::{Endpoint, Part};
 pub use rows::TakeRow;
