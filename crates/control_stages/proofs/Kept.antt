@@ -1,17 +1,17 @@
 -- A request stays under way until the next SETUP.
-use Rattle.std.proofs.Common.{◌≡◌, ◌≢◌, ℕ, ◌==◌, Bool, true, false, List, Option, Some, None, if◌then◌else◌, refl, sym, ap, ◌∙◌}
+use Rattle.std.proofs.Common.{◌≡◌, ◌≢◌, ℕ, ◌==◌, Bool, true, false, List, Option, Some, None, if◌then◌else◌, refl, sym, ap}
 use Rattle.usb_base.specs.declared.packets.Ask.{Ask}
 use Rattle.usb_base.specs.declared.packets.Pid.{Pid}
 use Rattle.control_stages.specs.declared.control.Request.{Request}
 use Rattle.control_stages.specs.declared.rows.Sequence.{Sequence}
-use Rattle.control_stages.specs.declared.rows.Sequence.TheVariants.{Next, Repeat, Neither}
+use Rattle.control_stages.specs.declared.rows.Sequence.TheVariants.{Next, Repeat}
 use Rattle.control_stages.specs.declared.rows.Stage.{Stage}
 use Rattle.control_stages.specs.declared.rows.Stage.TheVariants.{Refusing, Reading, AllRead, Writing, AllWritten, NoData}
 use Rattle.control_stages.specs.declared.rows.StageRow.{StageRow}
 use Rattle.control_stages.specs.declared.rows.StageRow.TheVariants.{Begins, Ignores, Naks, Sends, Takes, Drops, Acknowledges, Confirms, HasRoom, Stalls}
 use Rattle.control_stages.specs.declared.rows.Token.{Token}
 use Rattle.control_stages.specs.declared.rows.Token.TheVariants as Tokens
-use Rattle.control_stages.specs.Stages.{Stages, setup_of, token_of, stage_of, in_row, out_row, out_row_at, ping_row, is_status, far_with, sequence_of, unless_nak, row_by, row_of, moved_to, acted_at, acted_with, acted_on, acked_with, after_row, stages_after, stages_acked}
+use Rattle.control_stages.specs.Stages.{Stages, setup_of, token_of, stage_of, in_row, out_row, out_row_at, ping_row, is_status, far_with, sequence_of, row_by, row_of, moved_to, acted_at, acted_with, acked_with, after_row, stages_after, stages_acked}
 
 -- the row begins no request
 keeps : StageRow → Bool

@@ -5,3 +5,4 @@ pub mod Controlling
 pub mod Streaming
 pub mod Device
 pub mod Places
+pub mod Worked

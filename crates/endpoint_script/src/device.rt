@@ -1,14 +1,44 @@
 ghost use Rattle.std.specs.Prelude.{◌≡◌, ◌≤◌, ◌<◌, length, map, IfOk, IfSome, IsTrue};
 ghost use Rattle.std.specs.List.{list_all};
+ghost use Rattle.endpoint_script.specs.Items.{is_short};
 ghost use Rattle.endpoint_script.specs.Device.{is_scripted, is_scripted_endpoint, opened_endpoint, opening, begun, endpoint_begun, place_of, place_of_name, answer_of, answered, acked_by, taken_of, acted_of};
 
 use crate::endpoint::Endpoint;
 use crate::places::Places;
 use control_stages::token;
-use script_types::{DeviceText, EpText};
+use script_types::{DeviceText, EpText, Item};
 use std::alloc::{AllocError, Global};
 use std::marker::Model;
 use usb_base::{Ask, DevAddr, EpName, Memory, Reply, Speed};
+
+fn is_short(item: &Item) -> bool
+    ensures { result ≡ is_short item.now }
+{
+    match item {
+        Item::Bytes(bytes) => bytes.as_slice().len() <= 1024,
+        _ => true,
+    }
+}
+
+fn are_short(items: &[Item]) -> bool
+    ensures { result ≡ list_all is_short items.now }
+{
+    items.iter().all(|item| is_short(item))
+}
+
+fn is_scripted_endpoint(text: &EpText) -> bool
+    ensures { result ≡ is_scripted_endpoint text.now }
+{
+    text.desc.max <= 1024 && are_short(text.items.as_slice())
+}
+
+/// Whether no packet of a device is longer than USB allows, 1,024 bytes, as in each text that a script gives.
+pub fn is_scripted(text: &DeviceText) -> bool
+    ensures { result ≡ is_scripted text.now }
+{
+    let eps = text.eps.as_slice();
+    eps.iter().all(|ep| is_scripted_endpoint(ep))
+}
 
 /// The endpoints of these texts, in their order.
 fn open_all(alloc: Global, texts: &[EpText]) -> Result<Vec<Endpoint>, AllocError>
@@ -52,7 +82,8 @@ impl Model for Device {
 }
 
 impl Device {
-    /// The device as its text describes it, before the first ask. Its text is one that the lines of a script can give.
+    /// The device as its text describes it, before the first ask. Its text is one that the lines of a script can give; `is_scripted`
+    /// tests what is needed of that.
     ///
     /// # Errors
     ///

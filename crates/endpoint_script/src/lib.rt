@@ -15,7 +15,11 @@ mod places;
 mod receiver;
 mod rows;
 mod sender;
+pub mod worked;
 
-pub use device::Device;
+pub use device::{Device, is_scripted};
 pub use endpoint::{Endpoint, Part};
 pub use rows::TakeRow;
+
+#[cfg(test)]
+mod tests;
