@@ -1,5 +1,5 @@
 -- Lists of which a front part is over, and the packets and requests among items.
-use Rattle.std.proofs.Common.{◌≡◌, ℕ, zero, suc, ◌+◌, ◌<◌, Bool, true, false, ◌&&◌, List, [], ◌∷◌, ◌++◌, length, drop, take, map, get_or, set, subst, refl, ap, sym, ◌∙◌, arith, drop-cons, add-one, Option, Some, None}
+use Rattle.std.proofs.Common.{◌≡◌, ℕ, zero, suc, ◌+◌, ◌<◌, Bool, List, [], ◌∷◌, ◌++◌, length, drop, take, map, get_or, set, subst, refl, ap, sym, ◌∙◌, arith, add-one, Option, Some, None}
 use Rattle.std.proofs.lemmas.Grind.{common_steps}
 use Rattle.std.proofs.lemmas.List.{take_more}
 use Rattle.std.proofs.lemmas.List.Elements.{filter_map-append}
@@ -8,7 +8,7 @@ use Rattle.std.specs.List.{list_all}
 use Rattle.std.specs.Option.{option_to_list}
 use Rattle.script_types.specs.declared.devices.Item.{Item}
 use Rattle.script_types.specs.declared.devices.Item.TheVariants.{Bytes, Nak, Nyet, Stall, Request}
-use Rattle.endpoint_script.specs.Items.{rest_of, is_short, is_packet, packet_in, packets_of}
+use Rattle.endpoint_script.specs.Items.{rest_of, is_short, is_packet, packets_of}
 
 -- one more is over
 pub rest_of_dropped : {A : Type 0} (xs : List A) (n : ℕ) → n < length xs → rest_of (drop n xs) ≡ drop (n + 1) xs

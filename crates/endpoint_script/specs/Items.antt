@@ -1,7 +1,7 @@
 -- What a script says of an endpoint, item by item.
 use Rattle.std.specs.Prelude.{ℕ, ◌-◌, ◌^◌, min, Bool, true, length, nat_le, sum, map, filter_map, List, [], ◌∷◌, Option, Some, None, if◌then◌else◌}
 use Rattle.script_types.specs.declared.devices.Item.{Item}
-use Rattle.script_types.specs.declared.devices.Item.TheVariants.{Bytes, Nak, Nyet, Stall, Request}
+use Rattle.script_types.specs.declared.devices.Item.TheVariants.{Bytes, Nak, Request}
 use Rattle.endpoint_script.specs.declared.control_endpoint.KnownRequest.{KnownRequest}
 
 -- a data packet has at most 1,024 bytes (USB 2.0, 5.6.3 and 5.8.3)

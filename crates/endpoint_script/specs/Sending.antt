@@ -1,5 +1,5 @@
 -- A bulk or interrupt IN endpoint (USB 2.0, 8.5.2, 8.5.4 and 8.6): what an IN meets, item by item, what is answered and left.
-use Rattle.std.specs.Prelude.{Bool, false, not, List, [], ◌∷◌}
+use Rattle.std.specs.Prelude.{Bool, false, not, List, ◌∷◌}
 use Rattle.usb_base.specs.declared.packets.Pid.TheVariants as Pids
 use Rattle.usb_base.specs.declared.packets.Reply.{Reply}
 use Rattle.usb_base.specs.declared.packets.Reply.TheVariants as Replies

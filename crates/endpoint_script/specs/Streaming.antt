@@ -1,6 +1,6 @@
 -- An isochronous IN endpoint (USB 2.0, 5.6, 5.9.2 and 8.5.5): up to Multi packets in a microframe, or one in a frame, whose PIDs
 -- count down to DATA0; they are used up whether they are heard or not.
-use Rattle.std.specs.Prelude.{ℕ, ◌+◌, ◌-◌, ◌==◌, min, nat_lt, List, [], ◌∷◌, length, if◌then◌else◌}
+use Rattle.std.specs.Prelude.{ℕ, ◌+◌, ◌-◌, ◌==◌, min, List, [], ◌∷◌, length, if◌then◌else◌}
 use Rattle.usb_base.specs.declared.packets.Pid.{Pid}
 use Rattle.usb_base.specs.declared.packets.Pid.TheVariants as Pids
 use Rattle.usb_base.specs.declared.packets.Reply.{Reply}

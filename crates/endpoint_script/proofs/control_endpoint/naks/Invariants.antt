@@ -1,4 +1,4 @@
-use Rattle.std.proofs.Common.{◌≡◌, ◌^◌, ◌-◌, ◌+◌, min, take, map}
+use Rattle.std.proofs.Common.{◌≡◌, ◌^◌, ◌-◌, min, take, map}
 use Rattle.std.specs.Prelude.{sum}
 use Rattle.endpoint_script.specs.Items.{naks_in}
 use Rattle.endpoint_script.proofs.control_endpoint.naks.Given as goal
