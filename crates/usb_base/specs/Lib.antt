@@ -1,3 +1,4 @@
 pub mod Outside
 pub mod Cost
 pub mod Memories
+pub mod Acknowledgement

@@ -66,9 +66,7 @@ impl Packet {
         ensures { result ≡ bytes.now }
     {
         let mut copy = ArrayVec::new();
-        for byte in bytes {
-            copy.push(*byte);
-        }
+        let _fits = copy.try_extend_from_slice(bytes);
         Packet { bytes: copy }
     }
 
