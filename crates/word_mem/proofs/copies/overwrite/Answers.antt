@@ -1,6 +1,6 @@
 use Rattle.std.proofs.Common.{◌≡◌, ◌-◌, ◌+◌, arith, ap, sym, ◌∙◌, set}
 use Rattle.word_mem.proofs.Filled.{filled_none, filled_more}
-use Rattle.word_mem.proofs.scan.overwrite.Goals as goal
+use Rattle.word_mem.proofs.copies.overwrite.Goals as goal
 
 pub loop-place-init : goal.loop-place-init
 loop-place-init g c =
