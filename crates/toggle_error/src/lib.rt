@@ -11,7 +11,7 @@ mod settling;
 pub mod worked;
 
 pub use host::{HostSide, Outcome};
-pub use rows::{CompleteRow, Heard, PlainRow, Row, StartRow, Token};
+pub use rows::{CompleteRow, Heard, PlainRow, Row, StartRow, AskToken};
 
 #[cfg(test)]
 mod tests;
