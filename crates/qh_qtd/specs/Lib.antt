@@ -1,3 +1,4 @@
 pub mod Token
 pub mod Qtd
 pub mod QueueHead
+pub mod Blank
