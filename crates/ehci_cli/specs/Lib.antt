@@ -1,4 +1,2 @@
 pub mod Form
-pub mod Input
-pub mod Codes
 pub mod Output

@@ -4,8 +4,9 @@
 
 mod model;
 
-use ehci_cli::{Status, ehci};
+use ehci_cli::ehci;
 use model::{Ending, model_of};
+use program_ends::Status;
 use std::alloc::{AllocError, Global};
 use std::io;
 use usb_base::{MemSink, MemSource};

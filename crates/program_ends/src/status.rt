@@ -1,5 +1,5 @@
 ghost use Rattle.std.specs.Prelude.{◌≡◌};
-ghost use Rattle.ehci_cli.specs.Codes.{exit_code};
+ghost use Rattle.program_ends.specs.Codes.{exit_code};
 
 /// How the program ended.
 #[derive(Clone, Copy, Debug, PartialEq, Eq)]

@@ -1,7 +1,7 @@
 -- The exit status of the process for each way to end.
 use Rattle.std.specs.Prelude.{ℕ}
-use Rattle.ehci_cli.specs.declared.status.Status.{Status}
-use Rattle.ehci_cli.specs.declared.status.Status.TheVariants.{Ok, Words, Refused, ReadFault, WriteFault, Memory}
+use Rattle.program_ends.specs.declared.status.Status.{Status}
+use Rattle.program_ends.specs.declared.status.Status.TheVariants.{Ok, Words, Refused, ReadFault, WriteFault, Memory}
 
 abbrev pub exit_code : Status → ℕ
 exit_code Ok = 0
