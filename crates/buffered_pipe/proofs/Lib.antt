@@ -1,0 +1,5 @@
+mod Streams
+mod InSteps
+mod InStranded
+mod OutSteps
+mod OutStranded
