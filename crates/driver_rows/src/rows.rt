@@ -1,0 +1,75 @@
+ghost use Rattle.std.specs.Prelude.{◌≡◌};
+
+use crate::content::Mend;
+use usb_base::What;
+
+/// The kind of an event of the driver.
+#[derive(Clone, Copy, Debug, PartialEq, Eq)]
+pub enum DriverStep {
+    /// The runs of a command were lent to the controller.
+    Lend,
+    /// One word was stored that the controller shares.
+    Store,
+    /// One register was read or written.
+    Register,
+    /// One token was read.
+    Harvest,
+    /// The blocks of a transfer or of an endpoint were given back.
+    Release,
+    /// There was nothing to do.
+    Rest,
+}
+
+/// What the token tells that a harvest reads.
+#[derive(Clone, Copy, Debug, PartialEq, Eq)]
+pub enum Found {
+    /// The qTD isn't done.
+    Active,
+    /// It is done, this many bytes were moved, and its transfer goes on.
+    Moved(u16),
+    /// This many bytes were moved, and its transfer ends so.
+    Ended(u16, What),
+}
+
+/// One event of the driver, with its data.
+#[derive(Clone, Copy, Debug, PartialEq, Eq)]
+pub enum Row {
+    /// The runs taken by the command are lent.
+    Lend,
+    /// The command stores a word into the structure that begins in the block: block, byte address, word.
+    Store(u16, u32, u32),
+    /// The same for a stalled control endpoint.
+    Mend(Mend),
+    /// The blocks of the transfer are given back.
+    ReleaseTransfer(usize),
+    /// The blocks of the cancelled endpoint are given back.
+    ReleaseEndpoint(usize),
+    /// Async Advance is cleared.
+    ClearAdvance,
+    /// The doorbell is set.
+    RingBell,
+    /// USBSTS is read, with Async Advance in it or not.
+    ReadStatus(bool),
+    /// A token of the endpoint's transfer is read: endpoint, transfer, what it tells.
+    Harvest(usize, usize, Found),
+    /// There is nothing to do.
+    Rest,
+}
+
+impl Row {
+    ghost use Rattle.driver_rows.specs.Rows.{step_of};
+
+    /// What kind of event it is.
+    pub fn step(self) -> DriverStep
+        ensures { result ≡ step_of self }
+    {
+        match self {
+            Row::Lend => DriverStep::Lend,
+            Row::Store(_, _, _) | Row::Mend(_) => DriverStep::Store,
+            Row::ReleaseTransfer(_) | Row::ReleaseEndpoint(_) => DriverStep::Release,
+            Row::ClearAdvance | Row::RingBell | Row::ReadStatus(_) => DriverStep::Register,
+            Row::Harvest(_, _, _) => DriverStep::Harvest,
+            Row::Rest => DriverStep::Rest,
+        }
+    }
+}
