@@ -5,7 +5,7 @@ ghost use Rattle.toggle_error.specs.SplitRows.{start_row, start_outcome, after_s
 ghost use Rattle.toggle_error.specs.Settle.{outcome_of, settled};
 
 use crate::host::{HostSide, Outcome};
-use crate::rows::{CompleteRow, Heard, PlainRow, StartRow, AskToken};
+use crate::rows::{AskToken, CompleteRow, Heard, PlainRow, StartRow};
 use usb_base::{Ask, EndCause, EpKind, Pid, Reply, Speed, Split};
 
 /// The token of an ask.
