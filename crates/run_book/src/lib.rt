@@ -7,6 +7,8 @@
 
 mod book;
 mod slots;
+#[cfg(test)]
+mod tests;
 pub mod worked;
 
 pub use book::RunBook;
