@@ -2,4 +2,5 @@ pub mod WordBytes
 pub mod Stores
 pub mod Reach
 pub mod Loads
+pub mod WholeBlocks
 pub mod Frames
