@@ -1,0 +1,5 @@
+pub mod Walk
+pub mod Naks
+pub mod Rows
+pub mod Causes
+pub mod Samples

@@ -1,0 +1,100 @@
+ghost use Rattle.std.specs.Prelude.{◌≡◌, nat_lt};
+ghost use Rattle.word_mem.specs.Access.{IsByController};
+ghost use Rattle.link_words.specs.Links.{IsAligned, IsQtdAligned};
+ghost use Rattle.qh_qtd.specs.QueueHead.{IsQhInRange};
+ghost use Rattle.walk_copy.specs.Visits.{visit_of};
+ghost use Rattle.async_walk.specs.Naks.{may_work, planned};
+ghost use Rattle.async_walk.specs.Rows.{ring_row, work_row, take_row, visit_row, ring_read, take_read, visit_read, IsSound};
+
+use crate::naks::{kind, may};
+use link_words::{Link, QtdLink};
+use qh_qtd::{Qh, Qtd};
+use queue_words::{read_qtd, read_queue_head};
+use usb_base::Ps;
+use walk_copy::{Transaction, Visit, next_transaction, visit};
+use word_mem::WordMem;
+
+/// The kind of an event, with what it read.
+#[derive(Clone, Copy, Debug, PartialEq, Eq)]
+pub enum Row {
+    /// The walk can't go on.
+    Fault,
+    /// The head of the ring was read, and nothing was done since it was read before: the part is over.
+    HeadEnds,
+    /// A queue head was read.
+    Fetch(u32, Qh),
+    /// There is nothing to do at the queue head in hand.
+    Skip,
+    /// The next transaction takes more time than is left: the part is over.
+    OutOfTime,
+    /// The queue head in hand takes this qTD.
+    Advance(u32, Qtd),
+    /// The transaction of the queue head in hand.
+    Transact(Transaction),
+    /// The transaction of the queue head in hand is written back.
+    WriteBack,
+}
+
+/// The row of a queue head that works.
+fn work(queue_head: &Qh, left: Ps) -> Row
+    requires { IsQhInRange queue_head.now }
+    ensures sound { IsSound result }
+    ensures row { result ≡ work_row (nat_lt left.0 (planned queue_head.now).price.0) (planned queue_head.now) }
+{
+    let transaction = next_transaction(queue_head, kind(queue_head));
+    if transaction.price > left {
+        return Row::OutOfTime;
+    }
+    Row::Transact(transaction)
+}
+
+/// The row of a queue head that takes a qTD.
+fn take_row_of(link: QtdLink, mem: &mut WordMem) -> Row
+    requires { IsQtdAligned link }
+    ensures sound { IsSound result }
+    ensures row { result ≡ take_row mem.old link }
+    ensures memory { mem.new ≡ take_read mem.old link }
+    ensures only_lent { IsByController mem.old mem.new }
+{
+    match link {
+        QtdLink::End => Row::Skip,
+        QtdLink::To(at) => match read_qtd(mem, at) {
+            None => Row::Fault,
+            Some(qtd) if qtd.token.active => Row::Advance(at, qtd),
+            Some(_) => Row::Skip,
+        },
+    }
+}
+
+/// The row of a copy whose transaction wasn't made yet.
+pub(crate) fn visited(queue_head: &Qh, left: Ps, mem: &mut WordMem) -> Row
+    requires { IsQhInRange queue_head.now }
+    ensures sound { IsSound result }
+    ensures row { result ≡ visit_row mem.old left.0 queue_head.now (visit_of (may_work queue_head.now) queue_head.now) }
+    ensures memory { mem.new ≡ visit_read mem.old (visit_of (may_work queue_head.now) queue_head.now) }
+    ensures only_lent { IsByController mem.old mem.new }
+{
+    match visit(queue_head, may(queue_head)) {
+        Visit::Rest => Row::Skip,
+        Visit::Work => work(queue_head, left),
+        Visit::Take(link) => take_row_of(link, mem),
+    }
+}
+
+/// The row of a cursor at this link, where no copy is in hand.
+pub(crate) fn fetched(link: Link, reclamation: bool, mem: &mut WordMem) -> Row
+    requires { IsAligned link }
+    ensures sound { IsSound result }
+    ensures row { result ≡ ring_row mem.old reclamation link }
+    ensures memory { mem.new ≡ ring_read mem.old link }
+    ensures only_lent { IsByController mem.old mem.new }
+{
+    match link {
+        Link::Qh(at) => match read_queue_head(mem, at) {
+            None => Row::Fault,
+            Some(queue_head) if queue_head.head && !reclamation => Row::HeadEnds,
+            Some(queue_head) => Row::Fetch(at, queue_head),
+        },
+        _ => Row::Fault,
+    }
+}
