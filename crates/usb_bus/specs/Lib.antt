@@ -1,0 +1,3 @@
+pub mod WhoHeard
+pub mod Fates
+pub mod Seats

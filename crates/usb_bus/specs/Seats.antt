@@ -1,0 +1,60 @@
+-- The endpoints on the bus, each with the place of its device, and which of them an ask is for.
+use Rattle.std.specs.Prelude.{ℕ, ◌+◌, ◌*◌, ◌/◌, ◌%◌, ◌==◌, ◌&&◌, ◌≡◌, ◌<◌, length, slice_get, Some, Bool, true, false, List, [], ◌++◌, ◌∷◌, map, Option, position, if◌then◌else◌}
+use Rattle.usb_base.specs.declared.endpoints.EpName.{EpName}
+use Rattle.usb_base.specs.declared.packets.Pid.{Pid}
+use Rattle.usb_base.specs.declared.packets.Pid.TheVariants as Pids
+use Rattle.usb_base.specs.declared.packets.Way.{Way}
+use Rattle.usb_base.specs.declared.packets.Way.TheVariants as Ways
+use Rattle.script_types.specs.declared.devices.DeviceText.{DeviceText}
+use Rattle.usb_bus.specs.declared.seats.Seat.{Seat}
+use Rattle.usb_bus.specs.declared.seats.TokenKind.{TokenKind}
+use Rattle.usb_bus.specs.declared.seats.TokenKind.TheVariants.{In, Out, Setup, Other}
+
+-- the token of an ask; a PING asks an OUT endpoint for its room (USB 2.0, 8.5.1)
+abbrev pub token_kind : Pid → TokenKind
+token_kind Pids.In = In
+token_kind Pids.Out = Out
+token_kind Pids.Ping = Out
+token_kind Pids.Setup = Setup
+token_kind _ = Other
+
+-- which tokens an endpoint is asked by (8.4.1): a control endpoint has both directions
+abbrev pub takes_token : Way → TokenKind → Bool
+takes_token Ways.In In = true
+takes_token Ways.Out Out = true
+takes_token Ways.Ctl In = true
+takes_token Ways.Ctl Out = true
+takes_token Ways.Ctl Setup = true
+takes_token _ _ = false
+
+-- the endpoint has this address and number, and is asked by this token
+abbrev pub suits : EpName → ℕ → ℕ → TokenKind → Bool
+suits name addr num kind = name.addr == addr && (name.num == num && takes_token name.way kind)
+
+-- the place of the first endpoint that suits
+abbrev pub place_for : List Seat → ℕ → ℕ → TokenKind → Option ℕ
+place_for seats addr num kind = position (λ s. suits s.name addr num kind) seats
+
+-- the endpoints of the devices from place n on, in the order of the devices and of the lines of each
+abbrev pub seats_from : ℕ → List DeviceText → List Seat
+seats_from n [] = []
+seats_from n (d ∷ ds) = map (λ e. record { name = e.desc.name; device = n }) d.eps ++ seats_from (n + 1) ds
+
+-- ---- places by number: a table of 64 places an address, four a number
+
+abbrev pub column_of : TokenKind → ℕ
+column_of In = 0
+column_of Out = 1
+column_of Setup = 2
+column_of Other = 3
+
+abbrev pub token_kind_at : ℕ → TokenKind
+token_kind_at column = if column == 0 then In else (if column == 1 then Out else (if column == 2 then Setup else Other))
+
+abbrev pub place_at : List Seat → ℕ → Option ℕ
+place_at seats key = place_for seats (key / 64) (key / 4 % 16) (token_kind_at (key % 4))
+
+-- the table has the place for each number
+pub record IsTable (seats : List Seat) (table : List (Option ℕ)) : Type 0 where
+  pub size : length table ≡ 8192
+  pub each : (key : ℕ) → key < 8192 → slice_get table key ≡ Some (place_at seats key)
