@@ -1,6 +1,6 @@
 -- A search in rising numbers tells whether a number is among them.
-use Rattle.std.proofs.Common.{◌≡◌, ℕ, ◌+◌, ◌≤◌, ◌<◌, ◌==◌, Bool, true, false, List, length, get_or, Result, Ok, Err, is_ok, sym, refl, ap, ◌∙◌, inl, inr, ◌⊎◌, ◌≢◌, arith, eq-eqb}
-use Rattle.std.specs.List.{list_any, All}
+use Rattle.std.proofs.Common.{◌≡◌, ℕ, ◌≤◌, ◌<◌, ◌==◌, false, List, get_or, Result, Ok, Err, is_ok, sym, inl, inr, ◌⊎◌, ◌≢◌, arith, eq-eqb}
+use Rattle.std.specs.List.{list_any}
 use Rattle.std.specs.List.Sorted.{IsBinarySearchResult, IsNonDecreasing}
 use Rattle.std.specs.Ordering.{nat_cmp}
 use Rattle.std.proofs.lemmas.List.Sorted.{searched}

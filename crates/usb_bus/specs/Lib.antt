@@ -1,3 +1,4 @@
 pub mod WhoHeard
 pub mod Fates
 pub mod Seats
+pub mod Bus

@@ -1,11 +1,12 @@
 -- The endpoints on the bus, each with the place of its device, and which of them an ask is for.
-use Rattle.std.specs.Prelude.{ℕ, ◌+◌, ◌*◌, ◌/◌, ◌%◌, ◌==◌, ◌&&◌, ◌≡◌, ◌<◌, length, slice_get, Some, Bool, true, false, List, [], ◌++◌, ◌∷◌, map, Option, position, if◌then◌else◌}
+use Rattle.std.specs.Prelude.{ℕ, ◌+◌, ◌/◌, ◌%◌, ◌==◌, ◌&&◌, ◌≡◌, ◌<◌, length, slice_get, Some, Bool, true, false, List, [], ◌++◌, ◌∷◌, map, Option, position, if◌then◌else◌}
 use Rattle.usb_base.specs.declared.endpoints.EpName.{EpName}
 use Rattle.usb_base.specs.declared.packets.Pid.{Pid}
 use Rattle.usb_base.specs.declared.packets.Pid.TheVariants as Pids
 use Rattle.usb_base.specs.declared.packets.Way.{Way}
 use Rattle.usb_base.specs.declared.packets.Way.TheVariants as Ways
 use Rattle.script_types.specs.declared.devices.DeviceText.{DeviceText}
+use Rattle.script_types.specs.declared.devices.EpText.{EpText}
 use Rattle.usb_bus.specs.declared.seats.Seat.{Seat}
 use Rattle.usb_bus.specs.declared.seats.TokenKind.{TokenKind}
 use Rattle.usb_bus.specs.declared.seats.TokenKind.TheVariants.{In, Out, Setup, Other}
@@ -35,10 +36,14 @@ suits name addr num kind = name.addr == addr && (name.num == num && takes_token 
 abbrev pub place_for : List Seat → ℕ → ℕ → TokenKind → Option ℕ
 place_for seats addr num kind = position (λ s. suits s.name addr num kind) seats
 
+-- an endpoint of the device at place n
+abbrev pub seat_at : ℕ → EpText → Seat
+seat_at n e = record { name = e.desc.name; device = n }
+
 -- the endpoints of the devices from place n on, in the order of the devices and of the lines of each
 abbrev pub seats_from : ℕ → List DeviceText → List Seat
 seats_from n [] = []
-seats_from n (d ∷ ds) = map (λ e. record { name = e.desc.name; device = n }) d.eps ++ seats_from (n + 1) ds
+seats_from n (d ∷ ds) = map (seat_at n) d.eps ++ seats_from (n + 1) ds
 
 -- ---- places by number: a table of 64 places an address, four a number
 

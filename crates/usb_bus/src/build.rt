@@ -1,0 +1,67 @@
+ghost use Rattle.std.specs.Prelude.{◌≡◌, ◌++◌, IfOk, OnOk, IsTrue, map};
+ghost use Rattle.std.specs.List.{list_all};
+ghost use Rattle.endpoint_script.specs.Device.{opening, is_scripted};
+ghost use Rattle.usb_bus.specs.Bus.{AreNumbers};
+ghost use Rattle.usb_bus.specs.Seats.{seat_at, seats_from};
+
+use crate::numbers::Numbers;
+use crate::seats::Seat;
+use endpoint_script::Device;
+use script_types::{DeviceText, EpText, FateText};
+use std::alloc::Global;
+use usb_base::Memory;
+
+fn seat_endpoints(seats: &mut Vec<Seat>, device: usize, eps: &[EpText]) -> Result<(), Memory>
+    ensures { OnOk result (seats.new.items ≡ seats.old.items ++ map (seat_at device) eps.now) }
+{
+    for ep in eps {
+        let seat = Seat {
+            name: ep.desc.name,
+            device,
+        };
+        if seats.push(seat).is_err() {
+            return Err(Memory);
+        }
+    }
+    Ok(())
+}
+
+/// The endpoints of these devices, in the order of the devices and of the lines of each.
+pub fn seats_of(alloc: Global, devices: &[DeviceText]) -> Result<Vec<Seat>, Memory>
+    ensures { IfOk result (λ v. v.items ≡ seats_from 0 devices.now) }
+{
+    let mut seats = Vec::new(alloc);
+    for (device, text) in devices.iter().enumerate() {
+        seat_endpoints(&mut seats, device, text.eps.as_slice())?;
+    }
+    Ok(seats)
+}
+
+/// The numbers of the packets of each endpoint that don't get through.
+pub fn numbers_of(alloc: Global, fates: &[FateText], seats: &[Seat]) -> Result<Vec<Numbers>, Memory>
+    ensures { IfOk result (λ v. AreNumbers fates.now seats.now v.items) }
+{
+    let mut numbers = Vec::new(alloc);
+    for seat in seats {
+        let unheard = Numbers::of(alloc, fates, &seat.name, false)?;
+        if numbers.push(unheard).is_err() {
+            return Err(Memory);
+        }
+    }
+    Ok(numbers)
+}
+
+/// The devices that these texts describe.
+pub fn devices_of(alloc: Global, texts: &[DeviceText]) -> Result<Vec<Device>, Memory>
+    requires { IsTrue (list_all is_scripted texts.now) }
+    ensures { IfOk result (λ v. v.items ≡ map opening texts.now) }
+{
+    let mut devices = Vec::new(alloc);
+    for text in texts {
+        let device = Device::build(alloc, text)?;
+        if devices.push(device).is_err() {
+            return Err(Memory);
+        }
+    }
+    Ok(devices)
+}
