@@ -25,4 +25,4 @@ search_tells xs x (Ok i) found rising =
 search_tells xs x (Err i) found rising =
     let f = searched xs x (Err i) found (λ i j h k. rising i j 0 h k) in
     sym (list_any_none (λ n. n == x) xs (All-from_get_or (λ n. (n == x) ≡ false) xs 0 (λ k h.
-      unequal (get_or xs k 0) x (apart (get_or xs k 0) x i k (λ b. f.1 k b) (λ a. f.2 k a h)))))
+    unequal (get_or xs k 0) x (apart (get_or xs k 0) x i k (λ b. f.1 k b) (λ a. f.2 k a h)))))

@@ -21,9 +21,9 @@ record HasSeat (fixed : Fixed) (e : Asked) : Type 0 where
 seat_of : (fixed : Fixed) (b : Bus) (e : Asked) → asked_at fixed b e.place ≡ Some e → HasSeat fixed e
 seat_of fixed b e h =
     option_and_then_some (λ seat. option_map (λ packet. record { place = e.place; name = seat.name; device = seat.device; packet = packet }) (slice_get b.high e.place))
-      (slice_get fixed.seats e.place) e h
-      (λ seat there found. mapped_some (λ packet. record { place = e.place; name = seat.name; device = seat.device; packet = packet }) (slice_get b.high e.place) e found
-        (λ packet at is. record { seat = seat; there = there; named = ap (λ (x : Asked). x.name) is }))
+    (slice_get fixed.seats e.place) e h
+    (λ seat there found. mapped_some (λ packet. record { place = e.place; name = seat.name; device = seat.device; packet = packet }) (slice_get b.high e.place) e found
+    (λ packet at is. record { seat = seat; there = there; named = ap (λ (x : Asked). x.name) is }))
 
 pub numbers_tell : (fixed : Fixed) (b : Bus) (e : Asked) (unheard : List (List ℕ)) (ns : List ℕ) (k : ℕ) → AreNumbers fixed.fates fixed.seats unheard → asked_at fixed b e.place ≡ Some e → slice_get unheard e.place ≡ Some ns → list_any (λ n. n == k) ns ≡ is_unheard fixed.fates e.name false k
 numbers_tell fixed b e unheard ns k are h at =

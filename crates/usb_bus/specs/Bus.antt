@@ -81,7 +81,7 @@ is_allowed fixed b = not (is_held fixed.holds (later b.microframe 1))
 abbrev pub asked_at : Fixed → Bus → ℕ → Option Asked
 asked_at fixed b place =
     option_and_then (λ seat. option_map (λ packet. record { place = place; name = seat.name; device = seat.device; packet = packet }) (slice_get b.high place))
-      (slice_get fixed.seats place)
+    (slice_get fixed.seats place)
 
 -- Whom an ask is for: a plain one is for a device. Hubs, which split asks are for, are not on the bus yet.
 abbrev pub asked_of : Fixed → Bus → Ask → Option Asked

@@ -38,7 +38,7 @@ place_for seats addr num kind = position (λ s. suits s.name addr num kind) seat
 
 -- an endpoint of the device at place n
 abbrev pub seat_at : ℕ → EpText → Seat
-seat_at n e = record { name = e.desc.name; device = n }
+seat_at n e = record { name = e.desc.name; kind = e.desc.kind; device = n }
 
 -- the endpoints of the devices from place n on, in the order of the devices and of the lines of each
 abbrev pub seats_from : ℕ → List DeviceText → List Seat

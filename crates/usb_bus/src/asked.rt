@@ -1,8 +1,5 @@
-ghost use Rattle.std.specs.Prelude.{◌≡◌};
-
-use crate::who_heard::{WhoHeard, answers};
-use endpoint_script::Device;
-use usb_base::{Ask, EpName, Reply};
+use crate::who_heard::WhoHeard;
+use usb_base::{EpName, Reply};
 
 /// An endpoint that is asked.
 #[derive(Clone, Copy, Debug, PartialEq, Eq)]

@@ -17,6 +17,7 @@ fn seat_endpoints(seats: &mut Vec<Seat>, device: usize, eps: &[EpText]) -> Resul
     for ep in eps {
         let seat = Seat {
             name: ep.desc.name,
+            kind: ep.desc.kind,
             device,
         };
         if seats.push(seat).is_err() {

@@ -9,6 +9,7 @@ use crate::asking::ask_device;
 use crate::build::{devices_of, numbers_of, seats_of};
 use crate::numbers::Numbers;
 use crate::places::Places;
+use crate::seats::Seat;
 use crate::who_heard::{sent_before_answer, steps_later};
 use endpoint_script::Device;
 use script_types::{FateText, Script};
@@ -67,6 +68,13 @@ impl UsbBus {
         })
     }
 
+    /// The endpoints, in the order of the devices and of the lines of each.
+    pub fn seats(&self) -> &[Seat]
+        ensures { result.now ≡ self.now.fixed.seats }
+    {
+        self.places.seats()
+    }
+
     /// The device with this address; None exactly where there is none.
     pub fn device(&self, addr: DevAddr) -> Option<&Device>
         ensures { option_copied result ≡ find (λ d. d.address == addr) self.now.bus.devices }
@@ -121,9 +129,7 @@ impl UsbBus {
 fn holds_back(holds: &[(u32, u32)], microframe: u64) -> bool
     ensures { result ≡ is_held holds.now microframe }
 {
-    holds
-        .iter()
-        .any(|span| span.0 as u64 <= microframe && microframe <= span.1 as u64)
+    holds.iter().any(|span| span.0 as u64 <= microframe && microframe <= span.1 as u64)
 }
 
 fn is_new(speed: Speed, frindex: u16) -> bool

@@ -52,7 +52,12 @@ fn speaks_against(fate: &FateText, name: &EpName, below: bool) -> bool
     fate.down == below && is_lost(fate.fate) && are_same_names(&fate.name, name)
 }
 
-fn numbers_against(alloc: Global, fates: &[FateText], name: &EpName, below: bool) -> Result<Vec<u64>, Memory>
+fn numbers_against(
+    alloc: Global,
+    fates: &[FateText],
+    name: &EpName,
+    below: bool,
+) -> Result<Vec<u64>, Memory>
     ensures { IfOk result (λ v. v.items ≡ bad_numbers fates.now name.now below) }
 {
     let mut numbers = Vec::new(alloc);
@@ -66,7 +71,12 @@ fn numbers_against(alloc: Global, fates: &[FateText], name: &EpName, below: bool
 
 impl Numbers {
     /// The numbers of the packets of the endpoint that the fates speak against, on the bus below a translator or on the high-speed bus.
-    pub fn of(alloc: Global, fates: &[FateText], name: &EpName, below: bool) -> Result<Numbers, Memory>
+    pub fn of(
+        alloc: Global,
+        fates: &[FateText],
+        name: &EpName,
+        below: bool,
+    ) -> Result<Numbers, Memory>
         ensures { IfOk result (λ n. IsPermutation (bad_numbers fates.now name.now below) n) }
     {
         let mut rising = numbers_against(alloc, fates, name, below)?;

@@ -64,6 +64,13 @@ impl Places {
         self.table[key]
     }
 
+    /// All endpoints.
+    pub fn seats(&self) -> &[Seat]
+        ensures { result.now ≡ self.now }
+    {
+        self.seats.as_slice()
+    }
+
     /// The endpoint at a place.
     pub fn seat(&self, place: usize) -> Option<Seat>
         ensures { result ≡ slice_get self.now place }

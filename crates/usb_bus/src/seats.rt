@@ -1,15 +1,15 @@
-ghost use Rattle.std.specs.Prelude.{◌≡◌, ℕ, ◌<◌, ◌≤◌, ◌+◌, ◌*◌, IfOk, Some, slice_get, length};
+ghost use Rattle.std.specs.Prelude.{◌≡◌, ◌<◌};
 ghost use Rattle.usb_bus.specs.Seats.{token_kind, takes_token, column_of, token_kind_at};
 
-use std::alloc::Global;
-use std::marker::Model;
-use usb_base::{Ask, EpName, Memory, Pid, Way};
+use usb_base::{EpKind, EpName, Pid, Way};
 
 /// An endpoint on the bus.
 #[derive(Clone, Copy, Debug, PartialEq, Eq)]
 pub struct Seat {
     /// Its name.
     pub name: EpName,
+    /// Its transfer type.
+    pub kind: EpKind,
     /// The place of its device among those of the bus, from 0.
     pub device: usize,
 }
@@ -79,6 +79,8 @@ impl Seat {
     pub fn suits(&self, addr: usize, num: usize, kind: TokenKind) -> bool
         ensures { result ≡ suits self.now.name addr num kind }
     {
-        self.name.addr.get() as usize == addr && self.name.num.get() as usize == num && takes(self.name.way, kind)
+        self.name.addr.get() as usize == addr
+            && self.name.num.get() as usize == num
+            && takes(self.name.way, kind)
     }
 }

@@ -25,7 +25,12 @@ impl WhoHeard {
 
     /// The row of a transaction whose token and sent data were heard: by whether there is an answer, whether that is unheard, whether the
     /// asker acknowledges it, and whether the acknowledgement is unheard.
-    pub fn of_heard(answers: bool, answer_unheard: bool, acknowledged: bool, ack_unheard: bool) -> WhoHeard
+    pub fn of_heard(
+        answers: bool,
+        answer_unheard: bool,
+        acknowledged: bool,
+        ack_unheard: bool,
+    ) -> WhoHeard
         ensures { result ≡ who_heard false answers answer_unheard acknowledged ack_unheard }
     {
         match (answers, answer_unheard, acknowledged, ack_unheard) {

@@ -10,7 +10,7 @@ ghost use Rattle.usb_bus.specs.Bus.{is_held, begins_anew};
 
 use crate::seats::TokenKind;
 use crate::who_heard::WhoHeard;
-use usb_base::{Pid, Reply, Speed};
+use usb_base::{EpKind, Pid, Reply, Speed};
 
 /// Who heard what, row by row, and how many packets were on the bus: of an IN, whose token alone comes before the answer, and of an OUT,
 /// whose data come right behind it.
@@ -47,11 +47,9 @@ pub fn hearing()
 
 /// Fates of an endpoint on its own bus alone; spans of microframes; when devices begin anew.
 pub fn fates()
-    ensures numbers {
-      let name : EpName = record { addr = 3; num = 1; way = Ways.In } in
-      let other : EpName = record { addr = 3; num = 1; way = Ways.Out } in
-      bad_numbers (record { name = name; down = false; k = 7; fate = Fates.Lost } ∷ record { name = other; down = false; k = 1; fate = Fates.Lost } ∷ record { name = name; down = true; k = 2; fate = Fates.Lost } ∷ record { name = name; down = false; k = 0; fate = Fates.Damaged } ∷ []) name false ≡ 7 ∷ 0 ∷ []
-    }
+    ensures numbers { let name : EpName = record { addr = 3; num = 1; way = Ways.In } in
+        let other : EpName = record { addr = 3; num = 1; way = Ways.Out } in
+        bad_numbers (record { name = name; down = false; k = 7; fate = Fates.Lost } ∷ record { name = other; down = false; k = 1; fate = Fates.Lost } ∷ record { name = name; down = true; k = 2; fate = Fates.Lost } ∷ record { name = name; down = false; k = 0; fate = Fates.Damaged } ∷ []) name false ≡ 7 ∷ 0 ∷ [] }
     ensures held { is_held ((3, 5) ∷ (9, 9) ∷ []) 5 ≡ true }
     ensures free { is_held ((3, 5) ∷ (9, 9) ∷ []) 8 ≡ false }
     ensures high { begins_anew Speed.High 3 ≡ true }
@@ -61,16 +59,8 @@ pub fn fates()
 
 /// Which endpoint an ask is for.
 pub fn places()
-    ensures in_endpoint {
-      place_for (record { name = record { addr = 3; num = 1; way = Ways.Out }; device = 0 } ∷ record { name = record { addr = 3; num = 1; way = Ways.In }; device = 0 } ∷ []) 3 1 TokenKind.In ≡ Some 1
-    }
-    ensures no_setup {
-      place_for (record { name = record { addr = 3; num = 1; way = Ways.Out }; device = 0 } ∷ []) 3 1 TokenKind.Setup ≡ None
-    }
-    ensures control {
-      place_for (record { name = record { addr = 4; num = 0; way = Ways.Ctl }; device = 2 } ∷ []) 4 0 TokenKind.Setup ≡ Some 0
-    }
-    ensures numbered {
-      place_at (record { name = record { addr = 4; num = 1; way = Ways.Out }; device = 2 } ∷ []) (4 * 64 + 1 * 4 + 1) ≡ Some 0
-    }
+    ensures in_endpoint { place_for (record { name = record { addr = 3; num = 1; way = Ways.Out }; kind = EpKind.Bulk; device = 0 } ∷ record { name = record { addr = 3; num = 1; way = Ways.In }; kind = EpKind.Bulk; device = 0 } ∷ []) 3 1 TokenKind.In ≡ Some 1 }
+    ensures no_setup { place_for (record { name = record { addr = 3; num = 1; way = Ways.Out }; kind = EpKind.Bulk; device = 0 } ∷ []) 3 1 TokenKind.Setup ≡ None }
+    ensures control { place_for (record { name = record { addr = 4; num = 0; way = Ways.Ctl }; kind = EpKind.Bulk; device = 2 } ∷ []) 4 0 TokenKind.Setup ≡ Some 0 }
+    ensures numbered { place_at (record { name = record { addr = 4; num = 1; way = Ways.Out }; kind = EpKind.Bulk; device = 2 } ∷ []) (4 * 64 + 1 * 4 + 1) ≡ Some 0 }
 {}
