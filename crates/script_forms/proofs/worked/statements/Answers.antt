@@ -1,0 +1,14 @@
+use Rattle.std.proofs.Common.{refl}
+use Rattle.std.specs.Fmt.{digits}
+use Rattle.script_forms.specs.Syntax.{number_of, hex_of}
+use Rattle.script_forms.specs.Fitting.{form_of}
+use Rattle.script_forms.specs.Values.{statement_of}
+use Rattle.script_forms.proofs.worked.statements.Goals as goal
+
+pub returns-clause-micro : goal.returns-clause-micro
+unfolding number_of hex_of form_of statement_of digits
+returns-clause-micro c = refl
+
+pub returns-clause-hold : goal.returns-clause-hold
+unfolding number_of hex_of form_of statement_of digits
+returns-clause-hold c = refl

@@ -1,0 +1,4 @@
+pub mod Table
+pub mod Syntax
+pub mod Fitting
+pub mod Values

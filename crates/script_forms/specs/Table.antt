@@ -1,0 +1,130 @@
+-- The lines of a script: for each first word the forms of what follows it, and for each form its slots.
+use Rattle.std.specs.Prelude.{ℕ, List, [], ◌∷◌, Option, codes}
+use Rattle.std.specs.List.{find}
+use Rattle.std.specs.Str.{bytes_eq}
+use Rattle.script_forms.specs.declared.table.FirstWord.{FirstWord}
+use Rattle.script_forms.specs.declared.table.FirstWord.TheVariants as F
+use Rattle.script_forms.specs.declared.table.Keyword.{Keyword}
+use Rattle.script_forms.specs.declared.table.Keyword.TheVariants as K
+use Rattle.script_forms.specs.declared.table.Form.{Form}
+use Rattle.script_forms.specs.declared.table.Form.TheVariants as form
+use Rattle.script_forms.specs.declared.table.Slot.{Slot}
+use Rattle.script_forms.specs.declared.table.Slot.TheVariants.{Number, Hex, Setup, Key, Way, Bus, Fate}
+
+-- the first words
+abbrev pub first_text : FirstWord → List ℕ
+first_text F.Mem = codes "mem"
+first_text F.Hub = codes "hub"
+first_text F.Dev = codes "dev"
+first_text F.Ep = codes "ep"
+first_text F.Reply = codes "reply"
+first_text F.Fate = codes "fate"
+first_text F.Hold = codes "hold"
+first_text F.Open = codes "open"
+first_text F.Cancel = codes "cancel"
+first_text F.Get = codes "get"
+first_text F.Put = codes "put"
+first_text F.Control = codes "control"
+first_text F.Iso = codes "iso"
+first_text F.Order = codes "order"
+
+abbrev pub first_words : List FirstWord
+first_words = F.Mem ∷ F.Hub ∷ F.Dev ∷ F.Ep ∷ F.Reply ∷ F.Fate ∷ F.Hold ∷ F.Open ∷ F.Cancel ∷ F.Get ∷ F.Put ∷ F.Control ∷ F.Iso ∷ F.Order ∷ []
+
+-- the first word that is spelled so
+abbrev pub first_of : List ℕ → Option FirstWord
+first_of w = find (λ f. bytes_eq w (first_text f)) first_words
+
+-- the words that stand for themselves
+abbrev pub keyword_word : Keyword → List ℕ
+keyword_word K.High = codes "high"
+keyword_word K.Full = codes "full"
+keyword_word K.Low = codes "low"
+keyword_word K.Down = codes "down"
+keyword_word K.Control = codes "control"
+keyword_word K.Bulk = codes "bulk"
+keyword_word K.Interrupt = codes "interrupt"
+keyword_word K.Iso = codes "iso"
+keyword_word K.In = codes "in"
+keyword_word K.Out = codes "out"
+keyword_word K.Ctl = codes "ctl"
+keyword_word K.Data = codes "data"
+keyword_word K.Fill = codes "fill"
+keyword_word K.Nak = codes "nak"
+keyword_word K.Nyet = codes "nyet"
+keyword_word K.Stall = codes "stall"
+keyword_word K.Request = codes "request"
+keyword_word K.Lost = codes "lost"
+keyword_word K.Damaged = codes "damaged"
+keyword_word K.By = codes "by"
+keyword_word K.D = codes "d"
+keyword_word K.C = codes "c"
+keyword_word K.M = codes "m"
+
+-- a number of any value
+abbrev pub any : Slot
+any = Number 0 4294967295
+
+-- the address of a device or hub (USB 2.0, 8.3.2.1)
+abbrev pub address : Slot
+address = Number 1 127
+
+-- the bytes of a qTD (EHCI 1.0, 3.5.4)
+abbrev pub by_bytes : Slot
+by_bytes = Number 1 20480
+
+-- the first byte of bytes that each are one more
+abbrev pub seed : Slot
+seed = Number 0 255
+
+-- the slots of each form; an endpoint is `<addr> <num> <way>`
+abbrev pub slots_of : Form → List Slot
+slots_of form.Mem = Number 2048 262144 ∷ []
+slots_of form.Hub = address ∷ Number 1 15 ∷ []
+slots_of form.DevHigh = address ∷ Key K.High ∷ []
+slots_of form.DevFull = address ∷ Key K.Full ∷ any ∷ any ∷ []
+slots_of form.DevLow = address ∷ Key K.Low ∷ any ∷ any ∷ []
+slots_of form.EpControl = any ∷ Number 0 0 ∷ Key K.Ctl ∷ Key K.Control ∷ any ∷ []
+slots_of form.EpBulk = any ∷ Number 1 15 ∷ Way ∷ Key K.Bulk ∷ any ∷ []
+slots_of form.EpInterrupt = any ∷ Number 1 15 ∷ Way ∷ Key K.Interrupt ∷ any ∷ any ∷ any ∷ []
+slots_of form.EpIso = any ∷ Number 1 15 ∷ Way ∷ Key K.Iso ∷ any ∷ any ∷ any ∷ []
+slots_of form.ReplyData = any ∷ any ∷ Way ∷ Key K.Data ∷ Hex ∷ []
+slots_of form.ReplyFill = any ∷ any ∷ Way ∷ Key K.Fill ∷ Number 0 65536 ∷ seed ∷ []
+slots_of form.ReplyNak = any ∷ any ∷ Way ∷ Key K.Nak ∷ Number 1 1000000 ∷ []
+slots_of form.ReplyNyet = any ∷ any ∷ Way ∷ Key K.Nyet ∷ []
+slots_of form.ReplyStall = any ∷ any ∷ Way ∷ Key K.Stall ∷ []
+slots_of form.ReplyRequest = any ∷ any ∷ Way ∷ Key K.Request ∷ Setup ∷ Hex ∷ []
+slots_of form.Fate = any ∷ any ∷ Way ∷ Bus ∷ any ∷ Fate ∷ []
+slots_of form.Hold = Number 1 4294967295 ∷ Number 1 4294967295 ∷ []
+slots_of form.Open = any ∷ any ∷ Way ∷ []
+slots_of form.Cancel = any ∷ any ∷ Way ∷ []
+slots_of form.Get = any ∷ any ∷ Way ∷ Number 0 65535 ∷ []
+slots_of form.GetBy = any ∷ any ∷ Way ∷ Number 0 65535 ∷ Key K.By ∷ by_bytes ∷ []
+slots_of form.Put = any ∷ any ∷ Way ∷ Hex ∷ []
+slots_of form.PutBy = any ∷ any ∷ Way ∷ Hex ∷ Key K.By ∷ by_bytes ∷ []
+slots_of form.PutFill = any ∷ any ∷ Way ∷ Key K.Fill ∷ Number 0 65535 ∷ seed ∷ []
+slots_of form.PutFillBy = any ∷ any ∷ Way ∷ Key K.Fill ∷ Number 0 65535 ∷ seed ∷ Key K.By ∷ by_bytes ∷ []
+slots_of form.Control = any ∷ Setup ∷ []
+slots_of form.ControlData = any ∷ Setup ∷ Hex ∷ []
+slots_of form.IsoIn = any ∷ any ∷ Key K.In ∷ Number 1 8 ∷ []
+slots_of form.IsoOut = any ∷ any ∷ Key K.Out ∷ Number 1 8 ∷ Number 0 3072 ∷ seed ∷ []
+slots_of form.OrderD = Key K.D ∷ any ∷ []
+slots_of form.OrderC = Key K.C ∷ any ∷ []
+slots_of form.OrderM = Key K.M ∷ any ∷ []
+
+-- the forms of each first word
+abbrev pub forms_of : FirstWord → List Form
+forms_of F.Mem = form.Mem ∷ []
+forms_of F.Hub = form.Hub ∷ []
+forms_of F.Dev = form.DevHigh ∷ form.DevFull ∷ form.DevLow ∷ []
+forms_of F.Ep = form.EpControl ∷ form.EpBulk ∷ form.EpInterrupt ∷ form.EpIso ∷ []
+forms_of F.Reply = form.ReplyData ∷ form.ReplyFill ∷ form.ReplyNak ∷ form.ReplyNyet ∷ form.ReplyStall ∷ form.ReplyRequest ∷ []
+forms_of F.Fate = form.Fate ∷ []
+forms_of F.Hold = form.Hold ∷ []
+forms_of F.Open = form.Open ∷ []
+forms_of F.Cancel = form.Cancel ∷ []
+forms_of F.Get = form.Get ∷ form.GetBy ∷ []
+forms_of F.Put = form.Put ∷ form.PutBy ∷ form.PutFill ∷ form.PutFillBy ∷ []
+forms_of F.Control = form.Control ∷ form.ControlData ∷ []
+forms_of F.Iso = form.IsoIn ∷ form.IsoOut ∷ []
+forms_of F.Order = form.OrderD ∷ form.OrderC ∷ form.OrderM ∷ []
