@@ -1,0 +1,39 @@
+//! Worked values, which the check computes.
+ghost use Rattle.std.specs.Prelude.{◌≡◌, ℕ, List, [], ◌∷◌, Some, None, true, false};
+ghost use Rattle.script_world.specs.Draft.{empty, filled, packets};
+ghost use Rattle.script_world.specs.Ranges.{is_size, is_rate, out_len};
+ghost use Rattle.script_world.specs.Rows.{cause_of, after, is_built};
+
+use script_forms::{Statement, TextWhy};
+use script_types::Item;
+use usb_base::{EpKind, Speed, Way};
+
+/// Bytes of a seed, and packets.
+pub fn contents()
+    ensures bytes { filled 3 254 ≡ 254 ∷ 255 ∷ 0 ∷ [] }
+    ensures cut { packets 2 (1 ∷ 2 ∷ 3 ∷ []) ≡ Item.Bytes (1 ∷ 2 ∷ []) ∷ Item.Bytes (3 ∷ []) ∷ [] }
+    ensures none { packets 512 [] ≡ [] }
+    ensures whole { packets 2 (1 ∷ 2 ∷ []) ≡ Item.Bytes (1 ∷ 2 ∷ []) ∷ [] }
+{}
+
+/// Sizes and rates.
+pub fn sizes()
+    ensures bulk { is_size EpKind.Bulk Speed.High 512 ≡ true }
+    ensures bulk_below { is_size EpKind.Bulk Speed.High 64 ≡ false }
+    ensures low { is_size EpKind.Interrupt Speed.Low 9 ≡ false }
+    ensures rate { is_rate Speed.High 8192 3 ≡ true }
+    ensures power { is_rate Speed.High 6 1 ≡ false }
+    ensures translator { is_rate Speed.Full 4 1 ≡ false }
+    ensures stage { out_len (0 ∷ 9 ∷ 1 ∷ 0 ∷ 0 ∷ 0 ∷ 2 ∷ 1 ∷ []) ≡ 258 }
+    ensures no_stage { out_len (128 ∷ 6 ∷ 0 ∷ 1 ∷ 0 ∷ 0 ∷ 18 ∷ 0 ∷ []) ≡ 0 }
+{}
+
+/// Causes of lines at the beginning of a script, and behind another line.
+pub fn causes()
+    ensures range { cause_of empty (Statement.Mem 2049) ≡ Some TextWhy.Range }
+    ensures unknown { cause_of empty (Statement.Open (record { addr = 3; num = 1; way = Way.In })) ≡ Some TextWhy.Unknown }
+    ensures twice { cause_of (after empty 2 (Statement.DevHigh 3)) (Statement.DevHigh 3) ≡ Some TextWhy.Twice }
+    ensures limit { cause_of empty (Statement.Micro 16385) ≡ Some TextWhy.Limit }
+    ensures later { cause_of empty (Statement.Hub 9 4) ≡ Some TextWhy.Later }
+    ensures fine { cause_of empty (Statement.DevHigh 3) ≡ None }
+{}
