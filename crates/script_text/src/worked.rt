@@ -1,0 +1,92 @@
+//! Laws of the definitions, and worked texts, which the check computes.
+ghost use Rattle.std.specs.Prelude.{◌≡◌, ℕ, ◌<◌, ◌⊎◌, List, [], ◌∷◌, Option, Some, None, Ok, Err, length};
+ghost use Rattle.script_types.specs.declared.scripts.Script.{Script as Told};
+ghost use Rattle.script_forms.specs.declared.causes.TextWhy.{TextWhy as Why};
+ghost use Rattle.script_text.specs.Reading.{script_read};
+ghost use Rattle.script_text.specs.Faults.{Spells, first_fault};
+
+use script_forms::TextWhy;
+use script_types::{Event, Item, Line};
+use usb_base::{Cmd, EpKind, Speed, Way};
+
+/// A text spells at most one script.
+pub fn one_script()
+    ensures { (text : List ℕ) (s t : Told) → Spells text s → Spells text t → s ≡ t }
+{}
+
+/// Each text spells a script and has no fault, or has a fault and spells no script.
+pub fn script_or_fault()
+    ensures { (text : List ℕ) → ((s : Told) × Spells text s × (first_fault text ≡ None)) ⊎ ((fault : ℕ × Why) × (first_fault text ≡ Some fault) × ((s : Told) → Spells text s → ⊥)) }
+{}
+
+/// A text of more than 1,048,576 bytes is too long before any of its lines is.
+pub fn too_long()
+    ensures { (text : List ℕ) → 1048576 < length text → first_fault text ≡ Some (0, TextWhy.Long) }
+{}
+
+pub const BYTE: &[u8] = b"ehci 1\ndev 3\thigh";
+
+pub const VERSION: &[u8] = b"ehci 2\n";
+
+pub const WORD: &[u8] = b"ehci 1\n\n# a device\ndevice 3 high\n";
+
+pub const LATE: &[u8] = b"ehci 1\norder d 1\nmem 1\n";
+
+pub const COUNT: &[u8] = b"ehci 1\ndev 3";
+
+pub const NUMBER: &[u8] = b"ehci 1\ndev 03 high\n";
+
+pub const HEX: &[u8] = b"ehci 1\nput 3 1 out full\n";
+
+pub const RANGE: &[u8] = b"ehci 1\ndev 200 high\n";
+
+pub const UNKNOWN: &[u8] = b"ehci 1\nopen 3 1 in\n";
+
+pub const TWICE: &[u8] = b"ehci 1\nmem 2048\nmem 4096\n";
+
+pub const LIMIT: &[u8] = b"ehci 1\norder d 1000001\n";
+
+pub const LATER: &[u8] = b"ehci 1\nhub 9 4\n";
+
+/// A text for each cause but the first, each with its line.
+pub fn causes()
+    ensures byte { first_fault BYTE.now ≡ Some (2, TextWhy.Byte) }
+    ensures version { first_fault VERSION.now ≡ Some (1, TextWhy.Version) }
+    ensures word { first_fault WORD.now ≡ Some (4, TextWhy.Word) }
+    ensures late { first_fault LATE.now ≡ Some (3, TextWhy.Late) }
+    ensures count { first_fault COUNT.now ≡ Some (2, TextWhy.Count) }
+    ensures number { first_fault NUMBER.now ≡ Some (2, TextWhy.Number) }
+    ensures hex { first_fault HEX.now ≡ Some (2, TextWhy.Hex) }
+    ensures range { first_fault RANGE.now ≡ Some (2, TextWhy.Range) }
+    ensures unknown { first_fault UNKNOWN.now ≡ Some (2, TextWhy.Unknown) }
+    ensures twice { first_fault TWICE.now ≡ Some (3, TextWhy.Twice) }
+    ensures limit { first_fault LIMIT.now ≡ Some (2, TextWhy.Limit) }
+    ensures later { first_fault LATER.now ≡ Some (2, TextWhy.Later) }
+{}
+
+/// A script of one device.
+pub const ONE_DEVICE: &[u8] =
+    b"ehci 1\nmem 2048\ndev 3 high\nep 3 1 in bulk 512\nreply 3 1 in data 01ff\nreply 3 1 in nak 2\nopen 3 1 in\nget 3 1 in 5\norder m 20\n";
+
+/// What it spells.
+pub fn one_device()
+    ensures { Spells ONE_DEVICE.now (record {
+      words = 2048;
+      hubs = [];
+      devices = record {
+        addr = 3;
+        speed = Speed.High;
+        eps = record {
+          desc = record { name = record { addr = 3; num = 1; way = Way.In }; speed = Speed.High; kind = EpKind.Bulk; max = 512; period = 0; multi = 1; hub = None; port = 0 };
+          items = Item.Bytes (1 ∷ 255 ∷ []) ∷ Item.Nak 2 ∷ [];
+          room = 0;
+        } ∷ [];
+      } ∷ [];
+      fates = [];
+      holds = [];
+      lines = (7, Line.Command (Cmd.OpenEp (record { name = record { addr = 3; num = 1; way = Way.In }; speed = Speed.High; kind = EpKind.Bulk; max = 512; period = 0; multi = 1; hub = None; port = 0 })))
+          ∷ (8, Line.Command (Cmd.Get (record { addr = 3; num = 1; way = Way.In }) 5 20480))
+          ∷ (9, Line.Micro 20)
+          ∷ [];
+    }) }
+{}
