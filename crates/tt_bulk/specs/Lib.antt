@@ -1,0 +1,5 @@
+pub mod Answers
+pub mod Contents
+pub mod Rows
+pub mod Work
+pub mod Worked
