@@ -7,6 +7,7 @@ use Rattle.usb_base.specs.declared.packets.Ask.{Ask}
 use Rattle.usb_base.specs.declared.packets.Reply.{Reply}
 use Rattle.tt_keys.specs.Keys.{key_of}
 use Rattle.tt_keys.specs.declared.key.Key.{Key}
+use Rattle.tt_pipeline.specs.declared.entry.Brought.{Brought}
 use Rattle.tt_pipeline.specs.declared.entry.Entry.{Entry}
 use Rattle.tt_pipeline.specs.declared.rows.StartRow.{StartRow}
 use Rattle.tt_pipeline.specs.declared.rows.StartRow.TheVariants.{Enters, Joins, Forgotten}
@@ -33,12 +34,16 @@ pub record Frame : Type 0 where
   pub now : ℕ  -- the microframe of the frame, 8 at the begin of the next one
   pub watched : List Watched  -- in order of arrival
 
--- the microframe that is worked from now on brought no part to an entry that lacks its last
-abbrev pub is_gap : Entry → Bool
-is_gap e = nat_lt 0 e.heard.parts && not e.heard.whole && (e.before.parts == e.heard.parts && not e.before.whole)
+-- from the earlier to the later of two moments no part came, while the last was lacked
+abbrev pub is_gap : Brought → Brought → Bool
+is_gap a b = not a.whole && not b.whole && nat_lt 0 a.parts && b.parts == a.parts
 
+abbrev pub gap_between : Brought → Brought → ℕ
+gap_between a b = if is_gap a b then 1 else 0
+
+-- the microframe that is worked from its turn on
 abbrev pub gap_of : Entry → ℕ
-gap_of e = if is_gap e then 1 else 0
+gap_of e = gap_between e.heard e.before
 
 abbrev pub entries_of : List Watched → List Entry
 entries_of ws = map (λ w. w.entry) ws
@@ -84,3 +89,7 @@ contents_after Clear es = []
 -- a frame begins with an empty pipeline
 abbrev pub opening : Plan → Frame
 opening plan = record { plan = plan; now = 0; watched = [] }
+
+abbrev pub run_contents : List Event → List Entry → List Entry
+run_contents [] es = es
+run_contents (event ∷ events) es = run_contents events (contents_after event es)

@@ -8,7 +8,7 @@ use Rattle.usb_base.specs.declared.packets.Ask.{Ask}
 use Rattle.usb_base.specs.declared.packets.EpKind.TheVariants.{Interrupt}
 use Rattle.usb_base.specs.declared.packets.Part.{Part}
 use Rattle.usb_base.specs.declared.packets.Part.TheVariants.{All, Begin, Middle, End}
-use Rattle.usb_base.specs.declared.packets.Speed.TheVariants.{Full}
+use Rattle.usb_base.specs.declared.packets.Speed.TheVariants.{Full, High}
 use Rattle.tt_keys.specs.Asks.{work_of}
 use Rattle.tt_keys.specs.Keys.{key_of}
 use Rattle.tt_keys.specs.declared.key.Key.{Key}
@@ -16,11 +16,11 @@ use Rattle.tt_pipeline.specs.declared.entry.Entry.{Entry}
 use Rattle.tt_pipeline.specs.declared.rows.AnswerRow.TheVariants.{Result}
 use Rattle.tt_pipeline.specs.declared.rows.StartRow.{StartRow}
 use Rattle.tt_pipeline.specs.declared.rows.StartRow.TheVariants.{Enters, Joins, Forgotten}
-use Rattle.tt_pipeline.specs.Answers.{answer_row}
+use Rattle.tt_pipeline.specs.Answers.{answer_row, answer_of}
 use Rattle.tt_pipeline.specs.Starting.{has_key, start_row}
 use Rattle.tt_pipeline.specs.Work.{part_of, called_for}
 use Rattle.translator_keeps_up.specs.Plans.{Plan, laid, Fits}
-use Rattle.translator_keeps_up.specs.Frames.{Event, Watched, Frame, entries_of, next}
+use Rattle.translator_keeps_up.specs.Frames.{Event, Start, Complete, Work, Drop, Clear, Watched, Frame, entries_of, next}
 
 -- k is one of the keys
 abbrev pub In : Key → List Key → Type 0
@@ -39,6 +39,7 @@ pub record IsFirst (p : Plan) (now : ℕ) (ask : Ask) (n : ℕ) : Type 0 where
   pub placed : In (key_of ask) p.keys
   pub on_time : now ≡ p.first (key_of ask)
   pub within : now < 8
+  pub classic : ask.speed ≡ High → ⊥
   pub part : FirstPart (part_of ask) p (key_of ask) ask n
 
 abbrev pub LaterPart : Part → Plan → ℕ → Key → ℕ → Type 0
@@ -94,3 +95,14 @@ pub record KeepsUp (p : Plan) (now : ℕ) (w : Watched) : Type 0 where
 abbrev pub AllKeepUp : Plan → ℕ → List Watched → Type 0
 AllKeepUp p now [] = Unit {0}
 AllKeepUp p now (w ∷ ws) = KeepsUp p now w × AllKeepUp p now ws
+
+-- an interrupt's answer that was there is there, and the same
+abbrev pub Stays : Watched → Watched → Type 0
+Stays w v =
+    w.entry.ask.kind ≡ Interrupt → w.entry.heard.whole ≡ true → answer_row w.entry ≡ Result → (answer_row v.entry ≡ Result) × (answer_of v.entry ≡ answer_of w.entry)
+
+abbrev pub AllStay : List Watched → List Watched → Type 0
+AllStay [] [] = Unit {0}
+AllStay [] (v ∷ vs) = ⊥
+AllStay (w ∷ ws) [] = ⊥
+AllStay (w ∷ ws) (v ∷ vs) = Stays w v × AllStay ws vs
