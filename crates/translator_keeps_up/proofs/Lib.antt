@@ -1,0 +1,10 @@
+pub mod Keys
+pub mod Sums
+pub mod Numbers
+pub mod Owing
+pub mod Work
+pub mod Starts
+pub mod Keeps
+pub mod Watching
+pub mod Works
+pub mod Stays

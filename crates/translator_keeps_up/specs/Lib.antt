@@ -1,0 +1,4 @@
+pub mod Plans
+pub mod Frames
+pub mod Premises
+pub mod Worked
