@@ -1,0 +1,3 @@
+mod HubWork
+mod Effects
+mod Acks

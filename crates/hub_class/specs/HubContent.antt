@@ -1,0 +1,26 @@
+-- What a hub has in it (USB 2.0, 11.1 and 11.14).
+use Rattle.std.specs.Prelude.{ℕ, List, [], map}
+use Rattle.control_stages.specs.Stages.{Stages, opened}
+use Rattle.hub_ports.specs.declared.port.Port.{Port}
+use Rattle.hub_ports.specs.Ports.{opened_port}
+use Rattle.script_types.specs.declared.devices.HubText.{HubText}
+use Rattle.tt_bulk.specs.Contents.{TwoBuffers}
+use Rattle.tt_bulk.specs.Contents as Bulk
+use Rattle.tt_pipeline.specs.declared.entry.Entry.{Entry}
+
+pub record HubContent : Type 0 where
+  pub address : ℕ
+  pub ports : List Port  -- from port 1 on
+  pub control : Stages  -- its endpoint 0
+  pub bulk : TwoBuffers
+  pub pipeline : List Entry
+
+-- as a script describes it; endpoint 0 has packets of at most 64 bytes
+abbrev pub opening : HubText → HubContent
+opening text = record {
+  address = text.addr;
+  ports = map opened_port text.attached;
+  control = opened 64 0;
+  bulk = Bulk.opening;
+  pipeline = [];
+}

@@ -1,0 +1,5 @@
+pub mod HubContent
+pub mod Requesting
+pub mod EndpointZero
+pub mod Translating
+pub mod Worked
