@@ -1,4 +1,4 @@
-ghost use Rattle.std.specs.Prelude.{◌≡◌, ◌+◌, ◌-◌, ◌^◌, take, min, length, true};
+ghost use Rattle.std.specs.Prelude.{◌≡◌, ◌+◌, ◌-◌, ◌^◌, ◌≤◌, ℕ, List, take, min, length, true};
 ghost use Rattle.usb_base.specs.declared.packets.Reply.{Reply as Answer};
 ghost use Rattle.bench_controller.specs.Answers.{answer, moved_by};
 
@@ -33,6 +33,19 @@ impl SteadyWire {
     {
         self.moved
     }
+
+    /// The bytes of an answer.
+    fn bytes(&self, limit: u16) -> Packet
+        ensures { result ≡ take (min 512 (min self.now.size limit)) self.now.payload }
+    {
+        let bytes = u16::min(512, u16::min(self.size, limit));
+        let mut items = ArrayVec::new();
+        // They fit: a packet has room for 1,024.
+        items
+            .try_extend_from_slice(&self.payload[..bytes as usize])
+            .ok();
+        Packet::of(items)
+    }
 }
 
 impl Wire for SteadyWire {
@@ -47,17 +60,16 @@ impl Wire for SteadyWire {
     // Not inlined, as the wire of a whole world isn't.
     #[inline(never)]
     fn transact(&mut self, ask: &Ask, out: &[u8]) -> Reply {
-        let Pid::In = ask.pid else {
-            self.moved = self.moved.saturating_add(out.len() as u64);
-            return Reply::Hand(Pid::Ack);
-        };
-        let bytes = u16::min(512, u16::min(self.size, ask.limit));
-        self.moved = self.moved.saturating_add(bytes as u64);
-        let mut items = ArrayVec::new();
-        // They fit: a packet has room for 1,024.
-        items
-            .try_extend_from_slice(&self.payload[..bytes as usize])
-            .ok();
-        Reply::Bytes(ask.toggle, Packet::of(items))
+        match ask.pid {
+            Pid::In => {
+                let bytes = u16::min(512, u16::min(self.size, ask.limit));
+                self.moved = self.moved.saturating_add(bytes as u64);
+                Reply::Bytes(ask.toggle, self.bytes(ask.limit))
+            }
+            _ => {
+                self.moved = self.moved.saturating_add(out.len() as u64);
+                Reply::Hand(Pid::Ack)
+            }
+        }
     }
 }

@@ -1,0 +1,6 @@
+pub mod Lists
+pub mod Freed
+pub mod Moved
+pub mod Counts
+pub mod Lines
+pub mod Kept
