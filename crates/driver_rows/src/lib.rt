@@ -2,7 +2,7 @@
 //!
 //! specs/DriverContent.antt has the content, specs/Offers.antt what becomes of a command (`offered`), specs/Rows.antt which event comes next
 //! (`row_of`) and what stands after it (`after_row`), specs/Opening.antt the host when its driver was built. `worked` has rows of these,
-//! computed. The code of a driver whose calls meet these definitions comes above it; beside it stands `run_book`, which has the runs of blocks.
+//! computed. Above it stands `ehci_driver`, whose calls meet these definitions; beside it `run_book`, which has the runs of blocks.
 #![tactic(auto)]
 
 mod content;

@@ -102,20 +102,6 @@ impl Device {
         })
     }
 
-    /// Its address.
-    pub fn address(&self) -> DevAddr
-        ensures { result ≡ self.now.address }
-    {
-        self.address
-    }
-
-    /// Its speed.
-    pub fn speed(&self) -> Speed
-        ensures { result ≡ self.now.speed }
-    {
-        self.speed
-    }
-
     /// Begins a new microframe of a high-speed device, or a new frame of any other, for the count of isochronous packets; nothing
     /// else changes.
     pub fn begin(&mut self)

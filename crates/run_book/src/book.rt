@@ -1,6 +1,5 @@
-ghost use Rattle.std.specs.Prelude.{◌≡◌, ◌≤◌, ◌<◌, ◌+◌, ◌*◌, ◌%◌, ◌/◌, ℕ, ◌^◌, [], ◌∷◌, ◌++◌, length, replicate, Some, None, IfOk, IfSome, IfNone};
+ghost use Rattle.std.specs.Prelude.{◌≡◌, ◌≤◌, ◌<◌, ◌+◌, ◌*◌, ◌%◌, ℕ, ◌^◌, [], ◌∷◌, ◌++◌, length, replicate, Some, None, IfOk, IfSome, IfNone};
 ghost use Rattle.run_book.specs.Book.{has_address};
-ghost use Rattle.word_mem.specs.Memory.{fresh};
 
 use crate::slots::Slot;
 use std::alloc::Global;
@@ -30,23 +29,12 @@ impl Model for RunBook {
 impl RunBook {
     ghost use Rattle.run_book.specs.Book.{Book, Holding, holding, Stands, take_run, lend_slot, lend_taken, release_run, store, store_words, slot_of, slot_at, with_slot, kept_in, drop_slot, IsTakenFrom};
 
-    /// A book of no runs, for a memory just built, all of whose blocks are Free.
+    /// A book of no runs, for a memory of `blocks` blocks, at most 32,768.
     ///
     /// # Errors
     ///
     /// `Memory` where the book finds no room.
-    pub fn build(alloc: Global, mem: &WordMem) -> Result<RunBook, Memory>
-        requires { mem.now ≡ fresh (length mem.now.words) }
-        ensures book { IfOk result (λ k. k ≡ record { slots = replicate (length mem.now.words / 8) Slot.Empty; taken = [] }) }
-        ensures stands { IfOk result (λ k. Stands (holding k mem.now)) }
-    {
-        let words = mem.words();
-        let book = Self::of_blocks(alloc, words / 8)?;
-        Ok(book)
-    }
-
-    /// A book of no runs, for this many blocks.
-    fn of_blocks(alloc: Global, blocks: u32) -> Result<RunBook, Memory>
+    pub fn build(alloc: Global, blocks: u32) -> Result<RunBook, Memory>
         requires { blocks ≤ 32768 }
         ensures { IfOk result (λ k. k ≡ record { slots = replicate blocks Slot.Empty; taken = [] }) }
     {

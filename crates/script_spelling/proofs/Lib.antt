@@ -1,0 +1,4 @@
+pub mod Hexes
+pub mod Standing
+pub mod Ambiguity
+pub mod Furthest

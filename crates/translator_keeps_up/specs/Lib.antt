@@ -1,4 +1,0 @@
-pub mod Plans
-pub mod Frames
-pub mod Premises
-pub mod Worked

@@ -1,5 +1,0 @@
-pub mod Work
-pub mod Starting
-pub mod Working
-pub mod Answers
-pub mod Worked
