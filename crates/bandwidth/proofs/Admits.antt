@@ -5,7 +5,7 @@ use Rattle.std.specs.List.{flat_map, range_with_len}
 use Rattle.bandwidth.specs.declared.placements.Want.{Want}
 use Rattle.bandwidth.specs.declared.placements.Placement.{Placement}
 use Rattle.bandwidth.specs.declared.placements.Placed.{Placed}
-use Rattle.bandwidth.specs.Placements.{allowed, in_phase, placement_at, placement_row, frame_period, is_period, IsWant, IsPlace}
+use Rattle.bandwidth.specs.Placements.{allowed, in_phase, placement_at, row_of, frame_period, is_period, IsWant, IsPlace}
 use Rattle.bandwidth.specs.Sums.{Fits}
 use Rattle.bandwidth.specs.Admission.{joined, keeps, peak, best, IsBest, HasNone}
 use Rattle.bandwidth.proofs.Budgets.{fits_fact, fits_test}
@@ -36,7 +36,7 @@ all_places : (w : Want) → is_period w.period ≡ true → (a n : ℕ) → a + 
 unfolding Every
 all_places w p a zero h = tt
 all_places w p a (suc n) h =
-    every_append IsPlace (in_phase w a) _ (phase_places w a p (omega arith) 0 (placement_row w).starts)
+    every_append IsPlace (in_phase w a) _ (phase_places w a p (omega arith) 0 (row_of w).starts)
     (all_places w p (a + 1) n (omega arith))
 
 allowed_places : (w : Want) → is_period w.period ≡ true → Every IsPlace (allowed w)

@@ -1,7 +1,8 @@
 -- The tests of budgets are the facts of budgets, and what one placement more does to them.
-use Rattle.std.proofs.Common.{◌≡◌, ℕ, ◌+◌, ◌/◌, ◌%◌, ◌<◌, ◌≤◌, Bool, true, false, cond, List, [], refl, ap, sym, ◌∙◌, arith, nat_le, eq-eqb, lit≤}
+use Rattle.std.proofs.Common.{◌≡◌, ℕ, ◌+◌, ◌/◌, ◌%◌, ◌<◌, ◌≤◌, Bool, true, false, cond, List, [], refl, ap, sym, ◌∙◌, arith, nat_le, eq-eqb, lit≤, length, get_or}
 use Rattle.std.specs.Prelude.{zero, suc, sum_by, Option, Some, None, if◌then◌else◌, slice_index, max, filter, not}
-use Rattle.std.proofs.lemmas.List.Sums.{sum_by_push}
+use Rattle.std.proofs.lemmas.List.Sums.{sum_by_push, sum_by-remove}
+use Rattle.std.specs.List.{remove}
 use Rattle.std.proofs.lemmas.List.Filters.{sum_by-filter_both}
 use Rattle.std.proofs.lemmas.Bool.Decides.{nat_tests}
 use borrow.Author.Tests.{eqb-true}
@@ -253,3 +254,25 @@ fits_none = record {
   frames = λ hub f h k. lit≤ tt;
   bytes = λ hub u h k. lit≤ tt;
 }
+
+-- ---- the table of microframes when one is placed or taken out
+
+pub load_removed : (placed : List Placed) (i : ℕ) (x : Placed) → i < length placed → x ≡ get_or placed i x → (u : ℕ) → load (remove placed i) u + cost_at u x ≡ load placed u
+load_removed placed i x inside is u =
+    let e = sum_by-remove (cost_at u) placed i x inside in
+    rw (← is) at e
+
+pub load_holds : (placed : List Placed) (i : ℕ) (x : Placed) → i < length placed → x ≡ get_or placed i x → (u : ℕ) → is_active x.placement (u / 8) ≡ true → cost_in x.want x.placement (u % 8) ≤ load placed u
+load_holds placed i x inside is u active =
+    let e = load_removed placed i x inside is u in
+    let c : cost_at u x ≡ cost_in x.want x.placement (u % 8) = taken (is_active x.placement (u / 8)) _ active in
+    omega arith
+
+pub join_sum : (placed : List Placed) (w : Want) (p : Placement) (u new old amount : ℕ) → new ≡ old + cond (is_active p (u / 8)) amount 0 → amount ≡ cost_in w p (u % 8) → old ≡ load placed u → new ≡ load (joined placed w p) u
+join_sum placed w p u new old amount e a o = rw (load_joined placed w p u) (rw (a, o) at e)
+
+pub leave_sum : (placed : List Placed) (i : ℕ) (x : Placed) → i < length placed → x ≡ get_or placed i x → (u new old amount : ℕ) → old ≡ new + cond (is_active x.placement (u / 8)) amount 0 → amount ≡ cost_in x.want x.placement (u % 8) → old ≡ load placed u → new ≡ load (remove placed i) u
+leave_sum placed i x inside is u new old amount e a o =
+    let r = load_removed placed i x inside is u in
+    let e' = rw a at e in
+    omega arith

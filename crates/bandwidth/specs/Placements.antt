@@ -4,7 +4,7 @@
 --     first_in mask        the lowest microframe of a mask, 8 for none
 --     frame_period p       how many frames a period of p microframes has, 1 below 8
 --     IsWant w             what may be asked of a plan
---     placement_row w             the row of the table of placements that the endpoint has
+--     row_of w             the row of the table of placements that the endpoint has
 --     allowed w            each allowed placement, by phase and then by first microframe
 use Rattle.std.specs.Prelude.{◌≡◌, ℕ, ◌+◌, ◌-◌, ◌/◌, ◌%◌, ◌^◌, ◌<◌, ◌≤◌, max, Bool, true, false, ◌&&◌, nat_eq, nat_lt, nat_le, if◌then◌else◌, List, [], ◌∷◌, map, sum_by, is_some}
 use Rattle.std.specs.List.{range_with_len, flat_map, list_any, position_or_len}
@@ -85,44 +85,44 @@ pub record IsWant (w : Want) : Type 0 where
   pub hub : is_some w.hub ≡ is_classic w.speed
 
 -- how many first microframes there are, and the masks from each on
-pub record PlacementRow : Type 0 where
+pub record Row : Type 0 where
   pub starts : ℕ
   pub smask : ℕ → ℕ
   pub cmask : ℕ → ℕ
 
-abbrev pub high_row : ℕ → PlacementRow
+abbrev pub high_row : ℕ → Row
 high_row period =
     if nat_lt period 8
     then record { starts = period; smask = λ s. every period s; cmask = λ s. 0 }
     else record { starts = 8; smask = λ s. run s 1; cmask = λ s. 0 }
 
 -- complete-splits in the second to the fourth microframe after the start-split
-abbrev pub interrupt_row : PlacementRow
+abbrev pub interrupt_row : Row
 interrupt_row = record { starts = 4; smask = λ s. run s 1; cmask = λ s. run (s + 2) 3 }
 
 -- k microframes of 188 byte-times, with the 9 that a transaction takes beside its bytes
-abbrev pub iso_in_row : ℕ → PlacementRow
+abbrev pub iso_in_row : ℕ → Row
 iso_in_row k = record { starts = 6 - k; smask = λ s. run s 1; cmask = λ s. run (s + 2) (k + 1) }
 
 -- k start-splits of at most 188 bytes
-abbrev pub iso_out_row : ℕ → PlacementRow
+abbrev pub iso_out_row : ℕ → Row
 iso_out_row k = record { starts = 7 - k; smask = λ s. run s k; cmask = λ s. 0 }
 
-abbrev pub classic_row : EpKind → Dir → ℕ → PlacementRow
+abbrev pub classic_row : EpKind → Dir → ℕ → Row
 classic_row Iso In bytes = iso_in_row ((bytes + 9 + 187) / 188)
 classic_row Iso Out bytes = iso_out_row ((bytes + 187) / 188)
 classic_row _ _ bytes = interrupt_row
 
-abbrev pub placement_row : Want → PlacementRow
-placement_row w = if is_classic w.speed then classic_row w.kind w.dir w.max else high_row w.period
+abbrev pub row_of : Want → Row
+row_of w = if is_classic w.speed then classic_row w.kind w.dir w.max else high_row w.period
 
 abbrev pub placement_at : Want → ℕ → ℕ → Placement
 placement_at w phase s =
-    record { period = w.period; phase = phase; smask = (placement_row w).smask s; cmask = (placement_row w).cmask s }
+    record { period = w.period; phase = phase; smask = (row_of w).smask s; cmask = (row_of w).cmask s }
 
 -- the placements of one phase
 abbrev pub in_phase : Want → ℕ → List Placement
-in_phase w phase = map (placement_at w phase) (below (placement_row w).starts)
+in_phase w phase = map (placement_at w phase) (below (row_of w).starts)
 
 unfoldable pub allowed : Want → List Placement
 allowed w = flat_map (in_phase w) (below (frame_period w.period))

@@ -1,6 +1,7 @@
 -- What a plan keeps beside its list: tables for the sums that an admission asks for.
---     Sheet                the list, its room, and a cell for each sum: the bus time of a microframe; below one hub the
---                          classic bus time of a frame and the byte-times of a microframe
+--     Sheet                the list, its room, and a cell for each sum: the bus time of a microframe, in every state;
+--                          below the hub of the last admission the classic bus time of a frame and the byte-times of a
+--                          microframe
 --     IsPlaced x           what is placed was asked for rightly and has a place
 --     AreSums s hub        the cells are the sums of the list, those of frames and byte-times at the hub, if there is one
 use Rattle.std.specs.Prelude.{◌≡◌, ℕ, ◌+◌, ◌/◌, ◌%◌, ◌<◌, ◌≤◌, true, List, Option, Some, slice_index, All, length}
@@ -28,6 +29,7 @@ pub record IsSheet (s : Sheet) : Type 0 where
   pub bytes : length s.bytes ≡ 8192
   pub room : length s.placed ≤ s.room
   pub placed : All IsPlaced s.placed
+  pub sums : (u : ℕ) → u < 8192 → slice_index s.loads u ≡ load s.placed u
   pub fits : Fits s.placed
   pub ids : AreDistinct s.placed
 

@@ -142,16 +142,3 @@ pub(crate) fn is_below(want: &Want, hub: DevAddr) -> bool
         None => false,
     }
 }
-
-/// The bus time of microframe `u` of a placed endpoint, in picoseconds.
-pub(crate) fn cost_at_microframe(x: &Placed, u: u16) -> u64
-    requires placed { IsPlaced x.now }
-    requires microframe { u < 8192 }
-    ensures cost { result ≡ cost_at u x.now }
-    ensures bound { result ≤ 63000000 }
-{
-    if (u / 8) % frames_of(x.placement.period) != x.placement.phase {
-        return 0;
-    }
-    cost_of(&x.want, &x.placement, (u % 8) as u8)
-}

@@ -1,4 +1,4 @@
-ghost use Rattle.std.specs.Prelude.{◌≡◌, ℕ, ◌+◌, ◌<◌, ◌≤◌, ◌↔◌, ◌++◌, ◌∷◌, [], length, not, nat_eq, false, filter, IfOk, IsTrue, vec_len, vec_capacity, replicate};
+ghost use Rattle.std.specs.Prelude.{◌≡◌, ℕ, ◌+◌, ◌<◌, ◌≤◌, ◌↔◌, ◌++◌, ◌∷◌, [], length, not, nat_eq, false, filter, position, IfOk, IsTrue, vec_len, vec_capacity, replicate};
 ghost use Rattle.std.specs.List.{list_any};
 ghost use Rattle.bandwidth.specs.Placements.{IsWant, IsPlace};
 ghost use Rattle.bandwidth.specs.Sums.{Fits, load};
@@ -7,7 +7,8 @@ ghost use Rattle.bandwidth.specs.Admission.{joined, keeps, peak};
 use crate::asks::{byte_times_of, costs_of, time_in_frame};
 use crate::peaks::peak_of;
 use crate::placements::{Placed, Placement, Want};
-use crate::sums::{sum_byte_times, sum_frames, sum_loads};
+use crate::sums::{sum_byte_times, sum_frames};
+use crate::table::Table;
 use crate::tables::{frames_fit, microframes_fit};
 use std::alloc::Global;
 use std::marker::Model;
@@ -35,7 +36,7 @@ fn zeros(alloc: Global, cells: usize) -> Result<Vec<u64>, Memory>
 pub(crate) struct Ledger {
     room: u32,
     placed: Vec<Placed>,
-    loads: Vec<u64>,
+    loads: Table,
     frames: Vec<u64>,
     bytes: Vec<u64>,
 }
@@ -46,9 +47,9 @@ impl Model for Ledger {
 
     ghost Value = { Sheet };
 
-    ghost view = { λ a. record { room = a.room; placed = a.placed.items; loads = a.loads.items; frames = a.frames.items; bytes = a.bytes.items } };
+    ghost view = { λ a. record { room = a.room; placed = a.placed.items; loads = a.loads; frames = a.frames.items; bytes = a.bytes.items } };
 
-    ghost invariant = { λ a. IsSheet (record { room = a.room; placed = a.placed.items; loads = a.loads.items; frames = a.frames.items; bytes = a.bytes.items }) × (a.room ≤ vec_capacity a.placed) };
+    ghost invariant = { λ a. IsSheet (record { room = a.room; placed = a.placed.items; loads = a.loads; frames = a.frames.items; bytes = a.bytes.items }) × (a.room ≤ vec_capacity a.placed) };
 }
 
 impl Ledger {
@@ -70,13 +71,20 @@ impl Ledger {
         self.room
     }
 
-    /// Makes the tables the sums of what is placed, those of frames and byte-times below the hub, if there is one.
+    /// The bus time of each of the 8,192 microframes, in picoseconds.
+    pub(crate) fn loads(&self) -> &Table
+        ensures same { result.now ≡ self.now.loads }
+        ensures sheet { IsSheet self.now }
+    {
+        &self.loads
+    }
+
+    /// Makes the tables of frames and byte-times the sums of what is placed below the hub, if there is one.
     pub(crate) fn sum(&mut self, hub: Option<DevAddr>)
         ensures room { self.new.room ≡ self.old.room }
         ensures placed { self.new.placed ≡ self.old.placed }
         ensures sums { AreSums self.new hub }
     {
-        sum_loads(&mut self.loads, &self.placed);
         if let Some(hub) = hub {
             sum_frames(&mut self.frames, &self.placed, hub);
             sum_byte_times(&mut self.bytes, &self.placed, hub);
@@ -93,7 +101,7 @@ impl Ledger {
         ensures sheet { Fits self.now.placed }
     {
         microframes_fit(
-            &self.loads,
+            self.loads.as_slice(),
             placement,
             &costs_of(want, placement),
             MICROFRAME_BUDGET,
@@ -158,7 +166,7 @@ impl Ledger {
         requires place { IsPlace placement.now }
         ensures { result ≡ peak self.now.placed want.now placement.now }
     {
-        peak_of(&self.loads, placement, &costs_of(want, placement))
+        peak_of(self.loads.as_slice(), placement, &costs_of(want, placement))
     }
 
     /// Places one more.
@@ -170,10 +178,18 @@ impl Ledger {
         ensures room { self.new.room ≡ self.old.room }
         ensures placed { self.new.placed ≡ joined self.old.placed want.now placement.now }
     {
+        self.loads.add(placement, &costs_of(want, placement));
         self.placed.push_reserved(Placed {
             want: *want,
             placement: *placement,
         });
+    }
+
+    /// Where an id stands in the list.
+    fn place(&self, id: u32) -> Option<usize>
+        ensures { result ≡ position (λ x. nat_eq x.want.id id) self.now.placed }
+    {
+        self.placed.iter().position(|x| x.want.id == id)
     }
 
     /// Takes out what stands under an id.
@@ -181,7 +197,12 @@ impl Ledger {
         ensures room { self.new.room ≡ self.old.room }
         ensures placed { self.new.placed ≡ filter (λ x. not (nat_eq x.want.id id)) self.old.placed }
     {
-        self.placed.retain(|x| x.want.id != id);
+        if let Some(i) = self.place(id) {
+            let x = self.placed[i];
+            self.loads
+                .sub(&x.placement, &costs_of(&x.want, &x.placement));
+            self.placed.remove(i);
+        }
     }
 
     /// An empty ledger with room for so many.
@@ -189,7 +210,7 @@ impl Ledger {
         ensures { IfOk result (λ l. (l.room ≡ room) × (l.placed ≡ [])) }
     {
         let placed = Vec::with_capacity(alloc, room as usize)?;
-        let loads = zeros(alloc, 8192)?;
+        let loads = Table::zeros(alloc, 8192)?;
         let frames = zeros(alloc, 1024)?;
         let bytes = zeros(alloc, 8192)?;
         Ok(Ledger {

@@ -15,6 +15,7 @@ mod placements;
 mod plan;
 mod search;
 mod sums;
+mod table;
 mod tables;
 #[cfg(test)]
 mod tests;
@@ -22,3 +23,4 @@ pub mod worked;
 
 pub use placements::{Placed, Placement, Refused, Want};
 pub use plan::Plan;
+pub use table::Table;

@@ -1,5 +1,5 @@
 ghost use Rattle.std.specs.Prelude.{◌≡◌, ◌+◌, ◌/◌, ◌<◌, ◌≤◌};
-ghost use Rattle.bandwidth.specs.Placements.{IsWant, IsPlace, frame_period, high_row, classic_row, is_classic, placement_row, placement_at};
+ghost use Rattle.bandwidth.specs.Placements.{IsWant, IsPlace, frame_period, high_row, classic_row, is_classic, row_of, placement_at};
 
 use crate::asks::classic;
 use crate::masks::{every_of, run_of};
@@ -18,7 +18,7 @@ fn microframes(bytes: u16) -> u8
 /// How many first microframes a placement may have in its frame.
 pub(crate) fn starts(want: &Want) -> u8
     requires { IsWant want.now }
-    ensures value { result ≡ (placement_row want.now).starts }
+    ensures value { result ≡ (row_of want.now).starts }
     ensures bound { result ≤ 8 }
 {
     if !classic(want.speed) {
@@ -68,9 +68,9 @@ fn classic_masks(want: &Want, first: u8) -> (u8, u8)
 /// The microframes of a placement from a first one on.
 fn masks(want: &Want, first: u8) -> (u8, u8)
     requires want { IsWant want.now }
-    requires first { first < (placement_row want.now).starts }
-    ensures smask { result.0 ≡ (placement_row want.now).smask first }
-    ensures cmask { result.1 ≡ (placement_row want.now).cmask first }
+    requires first { first < (row_of want.now).starts }
+    ensures smask { result.0 ≡ (row_of want.now).smask first }
+    ensures cmask { result.1 ≡ (row_of want.now).cmask first }
 {
     if classic(want.speed) {
         return classic_masks(want, first);
@@ -82,7 +82,7 @@ fn masks(want: &Want, first: u8) -> (u8, u8)
 pub(crate) fn placement_of(want: &Want, phase: u16, first: u8) -> Placement
     requires want { IsWant want.now }
     requires phase { phase < frame_period want.now.period }
-    requires first { first < (placement_row want.now).starts }
+    requires first { first < (row_of want.now).starts }
     ensures value { result ≡ placement_at want.now phase first }
     ensures place { IsPlace result }
 {

@@ -1,14 +1,14 @@
-ghost use Rattle.std.specs.Prelude.{◌≡◌, ℕ, ◌+◌, ◌<◌, ◌≤◌, ◌↔◌, false, true, List, [], length, IfOk, Result};
+ghost use Rattle.std.specs.Prelude.{◌≡◌, ℕ, ◌+◌, ◌<◌, ◌≤◌, ◌↔◌, false, true, List, [], length, slice_index, IfOk, Result};
 ghost use Rattle.std.specs.Bool.{OnTrue, OnFalse};
 ghost use Rattle.bandwidth.specs.declared.placements.Refused.TheVariants.{NoPlacement, Room};
 ghost use Rattle.bandwidth.specs.Placements.{IsWant};
 ghost use Rattle.bandwidth.specs.Sums.{Fits, load};
 ghost use Rattle.bandwidth.specs.Admission.{answer, admitted, is_placed, without, AreDistinct, HasNone, IsBest};
 
-use crate::asks::cost_at_microframe;
 use crate::ledger::Ledger;
 use crate::placements::{Placement, Refused, Want};
 use crate::search::best_placement;
+use crate::table::Table;
 use std::alloc::Global;
 use std::marker::Model;
 use usb_base::{Memory, Ps};
@@ -79,17 +79,21 @@ impl Plan {
         true
     }
 
+    /// The bus time of the periodic transactions of each of the 8,192 microframes, in picoseconds.
+    pub fn loads(&self) -> &Table
+        ensures cells { length result.now ≡ 8192 }
+        ensures sums { (u : ℕ) → u < 8192 → slice_index result.now u ≡ load self.now.placed u }
+    {
+        self.ledger.loads()
+    }
+
     /// The bus time of the periodic transactions of microframe `u`, at most 100,000,000 ps.
     pub fn load(&self, u: u16) -> Ps
         requires { u < 8192 }
         ensures load { result.0 ≡ load self.now.placed u }
         ensures fits { Fits self.now.placed }
     {
-        let mut sum = 0;
-        for x in self.ledger.placed() {
-            sum += cost_at_microframe(x, u);
-        }
-        Ps(sum)
+        Ps(self.ledger.loads().as_slice()[u as usize])
     }
 
     /// Whether an endpoint with this id is placed.

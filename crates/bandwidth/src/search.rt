@@ -1,5 +1,5 @@
 ghost use Rattle.std.specs.Prelude.{◌≡◌, ◌<◌, Option};
-ghost use Rattle.bandwidth.specs.Placements.{IsWant, IsPlace, frame_period, in_phase, placement_row, placement_at};
+ghost use Rattle.bandwidth.specs.Placements.{IsWant, IsPlace, frame_period, in_phase, row_of, placement_at};
 ghost use Rattle.bandwidth.specs.Admission.{best};
 ghost use Rattle.bandwidth.specs.Tables.{AreSums};
 ghost use Rattle.bandwidth.specs.Choice.{candidate, lesser, better, choice, place_in};

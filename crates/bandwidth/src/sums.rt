@@ -1,8 +1,8 @@
 ghost use Rattle.std.specs.Prelude.{◌≡◌, ℕ, ◌+◌, ◌/◌, ◌<◌, ◌≤◌, length, slice_index, if◌then◌else◌, All};
-ghost use Rattle.bandwidth.specs.Sums.{load, frame_sum, tt_sum, time_at, laid_at, is_hub};
+ghost use Rattle.bandwidth.specs.Sums.{frame_sum, tt_sum, time_at, laid_at, is_hub};
 ghost use Rattle.bandwidth.specs.Tables.{IsPlaced};
 
-use crate::asks::{byte_times_of, costs_of, is_below, time_in_frame};
+use crate::asks::{byte_times_of, is_below, time_in_frame};
 use crate::placements::Placed;
 use crate::tables::{add_frames, add_microframes};
 use usb_base::DevAddr;
@@ -13,19 +13,6 @@ fn clear(table: &mut [u64])
 {
     for cell in table.iter_mut() {
         *cell = 0;
-    }
-}
-
-/// Makes the cells the bus time of each microframe.
-pub(crate) fn sum_loads(table: &mut [u64], placed: &[Placed])
-    requires cells { length table.old ≡ 8192 }
-    requires placed { All IsPlaced placed.now }
-    requires fits { (u : ℕ) → u < 8192 → load placed.now u ≤ 1000000000000 }
-    ensures { (u : ℕ) → u < 8192 → slice_index table.new u ≡ load placed.now u }
-{
-    clear(table);
-    for x in placed {
-        add_microframes(table, &x.placement, &costs_of(&x.want, &x.placement));
     }
 }
 

@@ -31,6 +31,30 @@ pub(crate) fn add_microframes(table: &mut [u64], placement: &Placement, amounts:
     }
 }
 
+/// Takes the amounts of the eight microframes from those of one frame.
+fn sub_in_frame(table: &mut [u64], frame: usize, amounts: &[u64; 8])
+    requires cells { length table.old ≡ 8192 }
+    requires frame { frame < 1024 }
+    requires enough { (m : ℕ) → m < 8 → slice_index amounts.now m ≤ slice_index table.old (8 * frame + m) }
+    ensures { (u : ℕ) → u < 8192 → slice_index table.old u ≡ slice_index table.new u + (if nat_eq (u / 8) frame then slice_index amounts.now (u % 8) else 0) }
+{
+    for m in 0..8 {
+        table[8 * frame + m] -= amounts[m];
+    }
+}
+
+/// Takes the amounts of the eight microframes of a frame from each active frame of a placement.
+pub(crate) fn sub_microframes(table: &mut [u64], placement: &Placement, amounts: &[u64; 8])
+    requires cells { length table.old ≡ 8192 }
+    requires place { IsPlace placement.now }
+    requires enough { (u : ℕ) → u < 8192 → is_active placement.now (u / 8) ≡ true → slice_index amounts.now (u % 8) ≤ slice_index table.old u }
+    ensures { (u : ℕ) → u < 8192 → slice_index table.old u ≡ slice_index table.new u + (if is_active placement.now (u / 8) then slice_index amounts.now (u % 8) else 0) }
+{
+    for k in 0..turns(placement) {
+        sub_in_frame(table, active_frame(placement, k), amounts);
+    }
+}
+
 /// Adds an amount to that of one frame.
 fn add_to_frame(table: &mut [u64], frame: usize, amount: u64)
     requires cells { length table.old ≡ 1024 }

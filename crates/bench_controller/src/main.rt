@@ -1,10 +1,6 @@
-//! Steps a controller over a ring of busy queue heads. Each line of the input has the kind of the queue heads (`in`, `out` or `control`),
-//! their number, the bytes of a packet and a number of events.
-//!
-//! It calls `hc_core`, and nothing calls it; docs/SPEED.md has what was measured with it.
+//! Steps a controller over a ring of 32 busy queue heads. Each line of the input has the bytes of an answer and a number of events.
 #![tactic(auto)]
 
-mod line;
 mod ring;
 mod run;
 mod wire;

@@ -3,7 +3,6 @@
 --     ArePages pages              page numbers: each is below 2 ^ 20, so that each byte has an address of 32 bits
 --     AreDistinct pages           no two of them are the same
 --     bytes_of w, word_of bs      the four bytes of a word, the lowest first, and the word of four bytes
---     words_from bs i n           the n words of the bytes from byte i on
 --     with_byte m a b             the byte at the byte address a, byte a mod 4 of its word, is b now, and nothing else differs
 --     place pages k               the byte address of byte k, for k below 4,096 times the number of pages
 --     places pages k n            the byte addresses of n bytes from byte k on
@@ -17,7 +16,7 @@
 --                                 touch, and then one more refusal is counted
 --     loaded m pages k old        what the controller loaded into `old`: a byte into each place, or those before the first that it may
 --                                 not touch, and the places after these as they were
-use Rattle.std.specs.Prelude.{◌≡◌, ℕ, zero, suc, ◌+◌, ◌*◌, ◌/◌, ◌%◌, ◌<◌, ◌≤◌, Bool, true, List, [], ◌∷◌, ◌++◌, length, take, drop, map, slice_index, slice_set, if◌then◌else◌}
+use Rattle.std.specs.Prelude.{◌≡◌, ℕ, ◌+◌, ◌*◌, ◌/◌, ◌%◌, ◌<◌, ◌≤◌, Bool, true, List, [], ◌∷◌, ◌++◌, length, take, drop, map, slice_index, slice_set, if◌then◌else◌}
 use Rattle.std.specs.Int.{w32, to_le_bytes, from_le_bytes}
 use Rattle.std.specs.List.{list_all, prefix_len, range_with_len}
 use Rattle.word_mem.specs.Memory.{Mem, reaches, refused}
@@ -35,11 +34,6 @@ bytes_of w = to_le_bytes w32 w
 
 abbrev pub word_of : List ℕ → ℕ
 word_of bs = from_le_bytes w32 bs
-
--- n words of these bytes, from byte i of them on
-unfoldable pub words_from : List ℕ → ℕ → ℕ → List ℕ
-words_from bs i zero = []
-words_from bs i (suc n) = word_of (slice_index bs i ∷ slice_index bs (i + 1) ∷ slice_index bs (i + 2) ∷ slice_index bs (i + 3) ∷ []) ∷ words_from bs (i + 4) n
 
 -- the words with another byte at the byte address a
 unfoldable pub put_byte : List ℕ → ℕ → ℕ → List ℕ

@@ -4,7 +4,6 @@
 //! `hc_store` and `hc_load` are the controller's, `load` is the driver's. The words themselves are `word_mem`'s.
 #![tactic(auto)]
 
-mod blocks;
 mod pieces;
 #[cfg(test)]
 mod tests;

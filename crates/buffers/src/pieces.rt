@@ -3,7 +3,6 @@ ghost use Rattle.word_mem.specs.Memory.{reaches, refused, word_at, with_word};
 ghost use Rattle.word_mem.specs.Access.{IsByController};
 ghost use Rattle.buffers.specs.Bytes.{ArePages, place, with_byte, with_bytes, word_of, bytes_of, bytes_at, AreReached};
 
-use crate::blocks::{hc_get_block, hc_put_block};
 use word_mem::WordMem;
 
 /// The bytes of a page (EHCI 1.0, 3.5.4).
@@ -59,7 +58,7 @@ pub(crate) fn hc_put_byte(mem: &mut WordMem, at: u32, byte: u8) -> bool
     }
 }
 
-/// Stores the first 32 of these bytes where they make a block, the first four where they make a word, and else the first. None: the controller may not touch its place, and
+/// Stores the first four of these bytes where they make a word, and else the first. None: the controller may not touch its place, and
 /// one more refusal is counted.
 pub(crate) fn hc_put(mem: &mut WordMem, pages: &[u32], k: u32, bytes: &[u8]) -> Option<usize>
     requires pages { ArePages pages.now }
@@ -70,9 +69,6 @@ pub(crate) fn hc_put(mem: &mut WordMem, pages: &[u32], k: u32, bytes: &[u8]) -> 
     ensures only_lent { IsByController mem.old mem.new }
 {
     let at = address(pages, k);
-    if at % 32 == 0 && bytes.len() >= 32 {
-        return hc_put_block(mem, pages, k, at, bytes);
-    }
     if at % 4 == 0 && bytes.len() >= 4 {
         let word = u32::from_le_bytes([bytes[0], bytes[1], bytes[2], bytes[3]]);
         if hc_put_word(mem, at, word) {
@@ -108,7 +104,7 @@ fn spread(word: u32, at: u32, into: &mut [u8]) -> usize
     1
 }
 
-/// Loads the first 32 bytes where they make a block, the first four where they make a word, and else the first. None: the controller may not touch its place, and one more
+/// Loads the first four bytes where they make a word, and else the first. None: the controller may not touch its place, and one more
 /// refusal is counted.
 pub(crate) fn hc_get(mem: &mut WordMem, pages: &[u32], k: u32, into: &mut [u8]) -> Option<usize>
     requires pages { ArePages pages.now }
@@ -120,9 +116,6 @@ pub(crate) fn hc_get(mem: &mut WordMem, pages: &[u32], k: u32, into: &mut [u8]) 
     ensures bytes { MatchOption result (into.new ≡ into.old) (λ n. into.new ≡ bytes_at mem.old pages.now k n ++ drop n into.old) }
 {
     let at = address(pages, k);
-    if at % 32 == 0 && into.len() >= 32 {
-        return hc_get_block(mem, pages, k, at, into);
-    }
     match hc_word(mem, at) {
         None => None,
         Some(word) => Some(spread(word, at, into)),

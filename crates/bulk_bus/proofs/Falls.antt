@@ -1,7 +1,7 @@
 -- Each transaction leaves less to do.
 use Rattle.std.proofs.Common.{◌≡◌, ℕ, ◌+◌, ◌-◌, ◌^◌, ◌<◌, ◌≤◌, Bool, true, false, not, ◌&&◌, nat_le, List, length, refl, ap, ◌∙◌, arith}
 use Rattle.std.proofs.lemmas.Bool.{false≢true}
-use Rattle.toggle_error.specs.declared.rows.AskToken.TheVariants.{In}
+use Rattle.toggle_error.specs.declared.rows.Token.TheVariants.{In}
 use Rattle.toggle_error.specs.Columns.{limit_of}
 use Rattle.toggle_error.specs.PlainRows.{plain_row, after_plain}
 use Rattle.pipe_agreement.specs.Pipe.{alike}

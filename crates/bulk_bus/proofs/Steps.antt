@@ -10,7 +10,7 @@ use Rattle.usb_base.specs.declared.packets.Reply.TheVariants.{Silent, Bytes}
 use Rattle.toggle_error.specs.declared.host.HostSide.{HostSide}
 use Rattle.toggle_error.specs.declared.rows.Heard.{Heard}
 use Rattle.toggle_error.specs.declared.rows.Heard.TheVariants as Heards
-use Rattle.toggle_error.specs.declared.rows.AskToken.TheVariants.{In}
+use Rattle.toggle_error.specs.declared.rows.Token.TheVariants.{In}
 use Rattle.toggle_error.specs.Columns.{expected_pid, limit_of, heard_data, heard_of, fitting}
 use Rattle.toggle_error.specs.PlainRows.{error_outcome, is_last_error, plain_row, plain_outcome, after_plain}
 use Rattle.toggle_error.specs.Settle.{settled}

@@ -1,18 +1,10 @@
 //! The program `ehci`: its words, standard input and standard output for the top call of `ehci_cli`.
-//!
-//! What it reads and writes with, and the exit status of each end, stand in `program_ends`.
 #![tactic(auto)]
 
-ghost use Rattle.std.specs.Process.{exit_status};
-ghost use Rattle.program_ends.specs.Ends.{ExitsBy, IsFault, IsWriteFault};
-
-use ehci_cli::ehci;
-use program_ends::{Status, StdSink, StdSource, ended, tell};
-use std::alloc::Global;
+use ehci_cli::{Status, StdSink, StdSource};
 use std::process::ExitCode;
 use std::rt::Env;
 use std::{env, io};
-use usb_base::{Sink, Source};
 
 const USAGE: &str = "usage: ehci run < SCRIPT, or ehci dump < IMAGE";
 
@@ -55,42 +47,25 @@ fn about(words: &[String]) -> Option<&'static str> {
     }
 }
 
-/// The program on these words: what it says of itself, or its forms.
-fn program<S: Source, K: Sink>(
-    alloc: Global,
-    words: &[String],
-    source: &mut S,
-    sink: &mut K,
-) -> Status
-    ensures read { IsFault result (S.faults source.old) (S.faults source.new) }
-    ensures write { IsWriteFault result (K.faults sink.old) (K.faults sink.new) }
-{
-    match about(words) {
-        Some(text) => tell(text, sink),
-        None => ehci(alloc, words, source, sink),
+/// The exit status; other words are told how to call the program.
+fn ended(rt: &impl Eprint, status: Status) -> io::Result<ExitCode> {
+    if status == Status::Words {
+        eprintln!(rt; "{USAGE}")?;
     }
+    Ok(ExitCode::from(status.code()))
 }
 
-/// Runs the program on these words and gives its exit status, by which a read or a write that failed is told.
-fn run<S: Source, K: Sink>(
-    rt: &impl Eprint,
-    alloc: Global,
-    words: &[String],
-    source: &mut S,
-    sink: &mut K,
-) -> ExitCode
-    ensures { ExitsBy (exit_status result) (S.faults source.old) (S.faults source.new) (K.faults sink.old) (K.faults sink.new) }
-{
-    let status = program(alloc, words, source, sink);
-    ended(rt, USAGE, status)
-}
-
-fn main(rt: HostRuntime) -> ExitCode {
+fn main(rt: HostRuntime) -> io::Result<ExitCode> {
     let words = match words(&rt) {
         Ok(words) => words,
-        Err(status) => return ended(&rt, USAGE, status),
+        Err(status) => return ended(&rt, status),
     };
+    if let Some(text) = about(words.as_slice()) {
+        print!(rt; "{text}")?;
+        return Ok(ExitCode::SUCCESS);
+    }
     let mut source = StdSource::new(rt.stdin());
     let mut sink = StdSink::new(rt.stdout());
-    run(&rt, rt.alloc(), words.as_slice(), &mut source, &mut sink)
+    let status = ehci_cli::ehci(rt.alloc(), words.as_slice(), &mut source, &mut sink);
+    ended(&rt, status)
 }

@@ -1,11 +1,11 @@
 -- The answer of the form that the words have is that of the program.
 use Rattle.std.proofs.Common.{◌≡◌, ◌≢◌, ℕ, List, Option, Some, None, IfSome, refl, subst, ◌∙◌}
 use Rattle.ehci_cli.specs.Form.{words_of}
-use Rattle.program_ends.specs.Input.{input_of}
+use Rattle.ehci_cli.specs.Input.{input_of}
 use Rattle.ehci_cli.specs.Output.{IsAnswer, IsProgram}
 use Rattle.ehci_cli.specs.declared.form.Form.{Form}
-use Rattle.program_ends.specs.declared.status.Status.{Status}
-use Rattle.program_ends.specs.declared.status.Status.TheVariants.{Ok, Words, Refused, ReadFault, WriteFault, Memory}
+use Rattle.ehci_cli.specs.declared.status.Status.{Status}
+use Rattle.ehci_cli.specs.declared.status.Status.TheVariants.{Ok, Words, Refused, ReadFault, WriteFault, Memory}
 
 pub program_of : (words : List (List ℕ)) (form : Form) (status : Status) (items : List ℕ) (old new : Option (List ℕ)) → words ≡ words_of form → status ≢ Words → IsAnswer form status items old new → IsProgram words status items old new
 program_of words form Ok items old new same other answer = (form, same, answer)

@@ -1,2 +1,4 @@
 pub mod Form
+pub mod Input
+pub mod Codes
 pub mod Output

@@ -13,8 +13,8 @@ use Rattle.image_codec.specs.declared.image.Refusal.{Refusal}
 use Rattle.ehci_cli.specs.Form.{words_of}
 use Rattle.ehci_cli.specs.declared.form.Form.{Form}
 use Rattle.ehci_cli.specs.declared.form.Form.TheVariants.{Run, Dump}
-use Rattle.program_ends.specs.declared.status.Status.{Status}
-use Rattle.program_ends.specs.declared.status.Status.TheVariants.{Ok, Words, Refused, ReadFault, WriteFault, Memory}
+use Rattle.ehci_cli.specs.declared.status.Status.{Status}
+use Rattle.ehci_cli.specs.declared.status.Status.TheVariants.{Ok, Words, Refused, ReadFault, WriteFault, Memory}
 
 -- The input spells a script. It was run in a world whose text these bytes are, and they are the report of the script with
 -- right streams: what is told of an endpoint begins its stream.
@@ -75,3 +75,12 @@ IsAnswer form Words input old new = Keeps old new
 abbrev pub IsProgram : List (List ℕ) → Status → List ℕ → Option (List ℕ) → Option (List ℕ) → Type 0
 IsProgram words Words input old new = Keeps old new
 IsProgram words status input old new = (form : Form) × (words ≡ words_of form) × IsAnswer form status input old new
+
+-- the ends with which nothing is written
+abbrev pub WritesNothing : Status → Type 0
+WritesNothing Words = Unit {0}
+WritesNothing ReadFault = Unit {0}
+WritesNothing Memory = Unit {0}
+WritesNothing Ok = ⊥
+WritesNothing Refused = ⊥
+WritesNothing WriteFault = ⊥

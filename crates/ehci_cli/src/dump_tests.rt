@@ -1,5 +1,5 @@
+use crate::status::Status;
 use crate::tests::program;
-use program_ends::Status;
 use std::alloc::Global;
 use std::process::Abort;
 use std::test::Fail;

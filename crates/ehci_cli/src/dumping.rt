@@ -1,11 +1,11 @@
 ghost use Rattle.std.specs.Prelude.{◌≡◌, ◌≢◌, ◌≤◌, ◌⊎◌, None, Some};
 ghost use Rattle.image_codec.specs.Image.{image_fault, image_of, IsAligned};
-ghost use Rattle.program_ends.specs.Ends.{IsWriteFault, WritesNothing};
+ghost use Rattle.usb_base.specs.Outside.{Rose};
 ghost use Rattle.ehci_cli.specs.Output.{IsAnswer};
 
 use crate::form::Form;
+use crate::status::Status;
 use image_codec::{Image, ImageError, Refusal, ShowError, decode, print_refusal, show};
-use program_ends::Status;
 use std::alloc::Global;
 use usb_base::Sink;
 
@@ -14,8 +14,8 @@ fn refuse_image<K: Sink>(input: &[u8], refusal: Refusal, sink: &mut K) -> Status
     requires { image_fault input.now ≡ Some refusal }
     ensures answer { IsAnswer Form.Dump result input.now (K.written sink.old) (K.written sink.new) }
     ensures end { (result ≡ Status.Refused) ⊎ (result ≡ Status.WriteFault) }
-    ensures nothing { WritesNothing result → sink.new ≡ sink.old }
-    ensures fault { IsWriteFault result (K.faults sink.old) (K.faults sink.new) }
+    ensures fault { result ≡ Status.WriteFault → Rose (K.faults sink.old) (K.faults sink.new) }
+    ensures counted { K.faults sink.old ≤ K.faults sink.new }
 {
     match print_refusal(refusal, sink) {
         Ok(()) => Status::Refused,
@@ -30,8 +30,8 @@ fn show_image<K: Sink>(alloc: Global, input: &[u8], image: &Image, sink: &mut K)
     requires aligned { IsAligned image.now }
     ensures answer { IsAnswer Form.Dump result input.now (K.written sink.old) (K.written sink.new) }
     ensures end { (result ≢ Status.Words) × (result ≢ Status.ReadFault) × (result ≢ Status.Refused) }
-    ensures nothing { WritesNothing result → sink.new ≡ sink.old }
-    ensures fault { IsWriteFault result (K.faults sink.old) (K.faults sink.new) }
+    ensures fault { result ≡ Status.WriteFault → Rose (K.faults sink.old) (K.faults sink.new) }
+    ensures counted { K.faults sink.old ≤ K.faults sink.new }
 {
     match show(alloc, image, sink) {
         Ok(()) => Status::Ok,
@@ -45,8 +45,8 @@ fn show_image<K: Sink>(alloc: Global, input: &[u8], image: &Image, sink: &mut K)
 pub fn dump<K: Sink>(alloc: Global, input: &[u8], sink: &mut K) -> Status
     ensures answer { IsAnswer Form.Dump result input.now (K.written sink.old) (K.written sink.new) }
     ensures end { (result ≢ Status.Words) × (result ≢ Status.ReadFault) }
-    ensures nothing { WritesNothing result → sink.new ≡ sink.old }
-    ensures fault { IsWriteFault result (K.faults sink.old) (K.faults sink.new) }
+    ensures fault { result ≡ Status.WriteFault → Rose (K.faults sink.old) (K.faults sink.new) }
+    ensures counted { K.faults sink.old ≤ K.faults sink.new }
 {
     match decode(alloc, input) {
         Ok(image) => show_image(alloc, input, &image, sink),

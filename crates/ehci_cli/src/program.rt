@@ -1,26 +1,26 @@
 ghost use Rattle.std.specs.Prelude.{◌≡◌, ◌≢◌, ◌≤◌, ◌↔◌, map, string_bytes, IfSome};
-ghost use Rattle.program_ends.specs.Ends.{IsFault, IsLeft, IsWriteFault, WritesNothing};
-ghost use Rattle.program_ends.specs.Input.{input_of};
+ghost use Rattle.std.specs.Io.KnownBytes.{Keeps};
+ghost use Rattle.usb_base.specs.Outside.{Rose};
 ghost use Rattle.ehci_cli.specs.Form.{AreNoForm};
-ghost use Rattle.ehci_cli.specs.Output.{IsAnswer, IsProgram};
+ghost use Rattle.ehci_cli.specs.Input.{input_of};
+ghost use Rattle.ehci_cli.specs.Output.{IsAnswer, IsProgram, WritesNothing};
 
 use crate::dumping::dump;
 use crate::form::{Form, form_of};
+use crate::reading::{Unread, read_input};
 use crate::running::run;
-use program_ends::{Status, Unread, read_input};
+use crate::status::Status;
 use std::alloc::Global;
 use usb_base::{Sink, Source};
 
 /// The program on these words (without its own name), which reads from the source and writes to the sink.
 ///
-/// It reads all that the source has, or its first 1,048,601 bytes, and writes only once all of the input was read.
+/// It reads at most 1,048,601 bytes, and writes only once all of the input was read.
 ///
 /// - `Words` exactly where the words have none of the forms; nothing is read or written.
-/// - `ReadFault` exactly where a read failed, which is the last one: the source's count of faults rose by one. Nothing is
-///   written.
+/// - `ReadFault` only where the source's count of faults rose; nothing is written.
 /// - `Refused` only where the input isn't what the form reads; its one line is written.
-/// - `WriteFault` exactly where a write failed, which is the last one: the sink's count of faults rose by one. A front part of
-///   the output is written.
+/// - `WriteFault` only where the sink's count of faults rose; a front part of the output is written.
 /// - `Memory` only before the first write.
 pub fn ehci<S: Source, K: Sink>(
     alloc: Global,
@@ -31,10 +31,10 @@ pub fn ehci<S: Source, K: Sink>(
     ensures words { (result ≡ Status.Words) ↔ AreNoForm (map string_bytes words.now) }
     ensures untouched { result ≡ Status.Words → (source.new ≡ source.old) × (sink.new ≡ sink.old) }
     ensures output { IfSome (S.left source.old) (λ xs. IsProgram (map string_bytes words.now) result (input_of xs) (K.written sink.old) (K.written sink.new)) }
-    ensures left { IfSome (S.left source.old) (λ xs. IsLeft result xs (S.left source.new)) }
-    ensures nothing { WritesNothing result → sink.new ≡ sink.old }
-    ensures read { IsFault result (S.faults source.old) (S.faults source.new) }
-    ensures write { IsWriteFault result (K.faults sink.old) (K.faults sink.new) }
+    ensures nothing { WritesNothing result → Keeps (K.written sink.old) (K.written sink.new) }
+    ensures read { result ≡ Status.ReadFault → Rose (S.faults source.old) (S.faults source.new) }
+    ensures write { result ≡ Status.WriteFault → Rose (K.faults sink.old) (K.faults sink.new) }
+    ensures counted { (S.faults source.old ≤ S.faults source.new) × (K.faults sink.old ≤ K.faults sink.new) }
 {
     let form = match form_of(words) {
         Some(form) => form,
@@ -52,8 +52,8 @@ pub fn ehci<S: Source, K: Sink>(
 fn answer<K: Sink>(alloc: Global, form: Form, input: &[u8], sink: &mut K) -> Status
     ensures answer { IsAnswer form result input.now (K.written sink.old) (K.written sink.new) }
     ensures end { (result ≢ Status.Words) × (result ≢ Status.ReadFault) }
-    ensures nothing { WritesNothing result → sink.new ≡ sink.old }
-    ensures fault { IsWriteFault result (K.faults sink.old) (K.faults sink.new) }
+    ensures fault { result ≡ Status.WriteFault → Rose (K.faults sink.old) (K.faults sink.new) }
+    ensures counted { K.faults sink.old ≤ K.faults sink.new }
 {
     match form {
         Form::Run => run(alloc, input, sink),

@@ -1,10 +1,10 @@
 ghost use Rattle.std.specs.Prelude.{◌≡◌, ◌≢◌, ◌≤◌, ◌⊎◌};
 ghost use Rattle.transfer_text.specs.Grammar.{Spells};
-ghost use Rattle.program_ends.specs.Ends.{IsWriteFault, WritesNothing};
+ghost use Rattle.usb_base.specs.Outside.{Rose};
 ghost use Rattle.ehci_cli.specs.Output.{IsAnswer, RefusesScript, ReportsRun};
 
 use crate::form::Form;
-use program_ends::Status;
+use crate::status::Status;
 use std::alloc::Global;
 use transfer_text::{Script, TextError, parse};
 use transfer_world::World;
@@ -18,8 +18,8 @@ fn refuse<K: Sink>(input: &[u8], sink: &mut K) -> Status
     requires { (script : Script) → Spells input.now script → ⊥ }
     ensures answer { IsAnswer Form.Run result input.now (K.written sink.old) (K.written sink.new) }
     ensures end { (result ≡ Status.Refused) ⊎ (result ≡ Status.WriteFault) }
-    ensures nothing { WritesNothing result → sink.new ≡ sink.old }
-    ensures fault { IsWriteFault result (K.faults sink.old) (K.faults sink.new) }
+    ensures fault { result ≡ Status.WriteFault → Rose (K.faults sink.old) (K.faults sink.new) }
+    ensures counted { K.faults sink.old ≤ K.faults sink.new }
 {
     match write_all(sink, LATER) {
         Ok(()) => Status::Refused,
@@ -32,8 +32,8 @@ fn report<K: Sink>(alloc: Global, input: &[u8], script: &Script, sink: &mut K) -
     requires { Spells input.now script.now }
     ensures answer { IsAnswer Form.Run result input.now (K.written sink.old) (K.written sink.new) }
     ensures end { (result ≢ Status.Words) × (result ≢ Status.ReadFault) × (result ≢ Status.Refused) }
-    ensures nothing { WritesNothing result → sink.new ≡ sink.old }
-    ensures fault { IsWriteFault result (K.faults sink.old) (K.faults sink.new) }
+    ensures fault { result ≡ Status.WriteFault → Rose (K.faults sink.old) (K.faults sink.new) }
+    ensures counted { K.faults sink.old ≤ K.faults sink.new }
 {
     let mut world = match World::build(alloc, script) {
         Ok(world) => world,
@@ -50,8 +50,8 @@ fn report<K: Sink>(alloc: Global, input: &[u8], script: &Script, sink: &mut K) -
 pub fn run<K: Sink>(alloc: Global, input: &[u8], sink: &mut K) -> Status
     ensures answer { IsAnswer Form.Run result input.now (K.written sink.old) (K.written sink.new) }
     ensures end { (result ≢ Status.Words) × (result ≢ Status.ReadFault) }
-    ensures nothing { WritesNothing result → sink.new ≡ sink.old }
-    ensures fault { IsWriteFault result (K.faults sink.old) (K.faults sink.new) }
+    ensures fault { result ≡ Status.WriteFault → Rose (K.faults sink.old) (K.faults sink.new) }
+    ensures counted { K.faults sink.old ≤ K.faults sink.new }
 {
     match parse(alloc, input) {
         Ok(script) => report(alloc, input, &script, sink),

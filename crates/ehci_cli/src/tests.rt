@@ -1,8 +1,11 @@
 ghost use Rattle.std.specs.Prelude.{None};
 
 use crate::program::ehci;
-use program_ends::Status;
+use crate::status::Status;
+use crate::std_ends::{StdSink, StdSource};
 use std::alloc::Global;
+use std::io;
+use std::io::{Read, Write};
 use std::test::Fail;
 use usb_base::{Failed, MemSink, MemSource, Sink, Source};
 
@@ -104,6 +107,50 @@ fn one_byte_a_call(rt: HostRuntime) -> Result<(), Fail> {
     let status = ehci(rt.alloc(), words.as_slice(), &mut source, &mut sink);
     assert_eq!(rt; status, Status::Ok);
     assert_eq!(rt; sink.0.written(), REPORT);
+    Ok(())
+}
+
+/// A reader and writer that fails, or takes nothing.
+#[derive(Drop)]
+struct Broken {
+    fails: bool,
+}
+
+impl Read for Broken {
+    fn read(&mut self, _buf: &mut [u8]) -> io::Result<usize> {
+        Err(io::Error::from(io::ErrorKind::Other))
+    }
+}
+
+impl Write for Broken {
+    fn write(&mut self, _buf: &[u8]) -> io::Result<usize> {
+        if self.fails {
+            Err(io::Error::from(io::ErrorKind::Other))
+        } else {
+            Ok(0)
+        }
+    }
+
+    fn flush(&mut self) -> io::Result<()> {
+        Ok(())
+    }
+}
+
+// The adapters count each fault, and a write that takes nothing is one.
+#[test]
+fn adapters_count(rt: HostRuntime) -> Result<(), Fail> {
+    let mut source = StdSource::new(Broken { fails: true });
+    let mut byte = [0u8; 1];
+    assert!(rt; source.read(&mut byte).is_err());
+    assert!(rt; source.read(&mut byte).is_err());
+    assert_eq!(rt; source.faults(), 2);
+    let mut none = StdSink::new(Broken { fails: false });
+    assert!(rt; none.write(b"a").is_err());
+    assert_eq!(rt; none.write(b""), Ok(0));
+    assert_eq!(rt; none.faults(), 1);
+    let mut broken = StdSink::new(Broken { fails: true });
+    assert!(rt; broken.write(b"a").is_err());
+    assert_eq!(rt; broken.faults(), 1);
     Ok(())
 }
 

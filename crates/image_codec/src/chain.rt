@@ -1,5 +1,5 @@
 ghost use Rattle.std.specs.Prelude.{◌≡◌, ℕ, ◌+◌, ◌*◌, ◌/◌, ◌%◌, ◌≤◌, ◌<◌, ◌++◌, false, length, OnOk, OnErr, IfNone};
-ghost use Rattle.usb_base.specs.Outside.{AppendsPrefix, one_more};
+ghost use Rattle.usb_base.specs.Outside.{AppendsPrefix, Rose};
 ghost use Rattle.link_words.specs.Links.{IsAligned as IsLinkAligned};
 ghost use Rattle.image_codec.specs.Image.{IsAligned};
 ghost use Rattle.image_codec.specs.Linked.{count, list_text, passed};
@@ -44,8 +44,7 @@ pub fn put_chain<K: Sink>(
     requires aligned { IsLinkAligned first }
     ensures ok { OnOk result (Passes (K.written sink.old) (K.written sink.new) page.old page.new (list_text (chain image.now.words place.home (seen_before image.now place.frames)) first)) }
     ensures err { OnErr result (AppendsPrefix (K.written sink.old) (K.written sink.new) (page.old ++ list_text (chain image.now.words place.home (seen_before image.now place.frames)) first)) }
-    ensures stays { OnOk result (K.faults sink.new ≡ K.faults sink.old) }
-    ensures rises { OnErr result (K.faults sink.new ≡ one_more (K.faults sink.old)) }
+    ensures failed { OnErr result (Rose (K.faults sink.old) (K.faults sink.new)) }
     ensures counted { K.faults sink.old ≤ K.faults sink.new }
     ensures marked { let l = chain image.now.words place.home (seen_before image.now place.frames) in
         OnOk result (AreMarks lists.new queues.new (place.frames + 2) (seen_before image.now place.frames ++ passed l first (count l first))) }

@@ -1,5 +1,5 @@
 ghost use Rattle.std.specs.Prelude.{◌≡◌, ℕ, ◌+◌, ◌≤◌, ◌<◌, ◌++◌, None, length, OnOk, OnErr};
-ghost use Rattle.usb_base.specs.Outside.{AppendsPrefix, one_more};
+ghost use Rattle.usb_base.specs.Outside.{AppendsPrefix, Rose};
 ghost use Rattle.link_words.specs.Links.{IsAligned as IsLinkAligned};
 ghost use Rattle.image_codec.specs.Image.{IsAligned};
 ghost use Rattle.image_codec.specs.Linked.{count, list_text, passed};
@@ -33,8 +33,7 @@ pub fn put_frames<K: Sink>(
     requires marks { AreMarks lists.old queues.old 1 (seen_before image.now 0) }
     ensures ok { OnOk result (Passes (K.written sink.old) (K.written sink.new) page.old page.new (frames_text image.now 1024)) }
     ensures err { OnErr result (AppendsPrefix (K.written sink.old) (K.written sink.new) (page.old ++ frames_text image.now 1024)) }
-    ensures stays { OnOk result (K.faults sink.new ≡ K.faults sink.old) }
-    ensures rises { OnErr result (K.faults sink.new ≡ one_more (K.faults sink.old)) }
+    ensures failed { OnErr result (Rose (K.faults sink.old) (K.faults sink.new)) }
     ensures counted { K.faults sink.old ≤ K.faults sink.new }
     ensures marked { OnOk result (AreMarks lists.new queues.new 1025 (seen_before image.now 1024)) }
 {
@@ -59,8 +58,7 @@ pub fn put_ring<K: Sink>(
     requires marks { AreMarks lists.old queues.old 1025 (seen_before image.now 1024) }
     ensures ok { OnOk result (Passes (K.written sink.old) (K.written sink.new) page.old page.new (ring_text image.now)) }
     ensures err { OnErr result (AppendsPrefix (K.written sink.old) (K.written sink.new) (page.old ++ ring_text image.now)) }
-    ensures stays { OnOk result (K.faults sink.new ≡ K.faults sink.old) }
-    ensures rises { OnErr result (K.faults sink.new ≡ one_more (K.faults sink.old)) }
+    ensures failed { OnErr result (Rose (K.faults sink.old) (K.faults sink.new)) }
     ensures counted { K.faults sink.old ≤ K.faults sink.new }
 {
     page.put(sink, b"async\n")?;
@@ -94,8 +92,7 @@ fn put_frame<K: Sink>(
     requires marks { AreMarks lists.old queues.old (n + 1) (seen_before image.now n) }
     ensures ok { OnOk result (Passes (K.written sink.old) (K.written sink.new) page.old page.new (frame_text image.now n)) }
     ensures err { OnErr result (AppendsPrefix (K.written sink.old) (K.written sink.new) (page.old ++ frame_text image.now n)) }
-    ensures stays { OnOk result (K.faults sink.new ≡ K.faults sink.old) }
-    ensures rises { OnErr result (K.faults sink.new ≡ one_more (K.faults sink.old)) }
+    ensures failed { OnErr result (Rose (K.faults sink.old) (K.faults sink.new)) }
     ensures counted { K.faults sink.old ≤ K.faults sink.new }
     ensures marked { OnOk result (AreMarks lists.new queues.new (n + 2) (seen_before image.now (n + 1))) }
 {
@@ -128,8 +125,7 @@ fn put_listed<K: Sink>(
     requires aligned { IsLinkAligned first }
     ensures ok { OnOk result (Passes (K.written sink.old) (K.written sink.new) page.old page.new (frame_line n ++ list_text (chain image.now.words None (seen_before image.now n)) first)) }
     ensures err { OnErr result (AppendsPrefix (K.written sink.old) (K.written sink.new) (page.old ++ (frame_line n ++ list_text (chain image.now.words None (seen_before image.now n)) first))) }
-    ensures stays { OnOk result (K.faults sink.new ≡ K.faults sink.old) }
-    ensures rises { OnErr result (K.faults sink.new ≡ one_more (K.faults sink.old)) }
+    ensures failed { OnErr result (Rose (K.faults sink.old) (K.faults sink.new)) }
     ensures counted { K.faults sink.old ≤ K.faults sink.new }
     ensures marked { let l = chain image.now.words None (seen_before image.now n) in
         OnOk result (AreMarks lists.new queues.new (n + 2) (seen_before image.now n ++ passed l first (count l first))) }
@@ -145,8 +141,7 @@ fn put_listed<K: Sink>(
 fn put_outside<K: Sink>(page: &mut Page, sink: &mut K, n: u32, at: u32) -> Result<(), Failed>
     ensures ok { OnOk result (Passes (K.written sink.old) (K.written sink.new) page.old page.new (outside_text n at)) }
     ensures err { OnErr result (AppendsPrefix (K.written sink.old) (K.written sink.new) (page.old ++ outside_text n at)) }
-    ensures stays { OnOk result (K.faults sink.new ≡ K.faults sink.old) }
-    ensures rises { OnErr result (K.faults sink.new ≡ one_more (K.faults sink.old)) }
+    ensures failed { OnErr result (Rose (K.faults sink.old) (K.faults sink.new)) }
     ensures counted { K.faults sink.old ≤ K.faults sink.new }
 {
     page.put(sink, line_of_frame(n).as_slice())?;

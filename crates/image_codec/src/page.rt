@@ -1,7 +1,7 @@
 ghost use Rattle.std.specs.Prelude.{◌≡◌, ℕ, ◌≤◌, ◌+◌, ◌++◌, List, [], length, OnOk, OnErr};
 ghost use Rattle.std.specs.Io.KnownBytes.{Appends};
 ghost use Rattle.arrayvec.specs.ArrayVec.{array_vec_len};
-ghost use Rattle.usb_base.specs.Outside.{AppendsPrefix, one_more};
+ghost use Rattle.usb_base.specs.Outside.{AppendsPrefix, Rose};
 ghost use Rattle.image_codec.specs.Printing.{Passes};
 
 use arrayvec::ArrayVec;
@@ -35,8 +35,7 @@ impl Page {
         requires { length piece.now ≤ 4096 }
         ensures ok { OnOk result (Passes (K.written sink.old) (K.written sink.new) self.old self.new piece.now) }
         ensures err { OnErr result (AppendsPrefix (K.written sink.old) (K.written sink.new) (self.old ++ piece.now)) }
-        ensures stays { OnOk result (K.faults sink.new ≡ K.faults sink.old) }
-        ensures rises { OnErr result (K.faults sink.new ≡ one_more (K.faults sink.old)) }
+        ensures failed { OnErr result (Rose (K.faults sink.old) (K.faults sink.new)) }
         ensures counted { K.faults sink.old ≤ K.faults sink.new }
     {
         self.make_room(sink, piece.len())?;
@@ -49,8 +48,7 @@ impl Page {
         ensures empty { OnOk result (self.new ≡ []) }
         ensures ok { OnOk result (Appends (K.written sink.old) (K.written sink.new) self.old) }
         ensures err { OnErr result (AppendsPrefix (K.written sink.old) (K.written sink.new) self.old) }
-        ensures stays { OnOk result (K.faults sink.new ≡ K.faults sink.old) }
-        ensures rises { OnErr result (K.faults sink.new ≡ one_more (K.faults sink.old)) }
+        ensures failed { OnErr result (Rose (K.faults sink.old) (K.faults sink.new)) }
         ensures counted { K.faults sink.old ≤ K.faults sink.new }
     {
         write_all(sink, self.bytes.as_slice())?;
@@ -76,8 +74,7 @@ impl Page {
         ensures room { OnOk result (length self.new + n ≤ 4096) }
         ensures ok { OnOk result (Passes (K.written sink.old) (K.written sink.new) self.old self.new []) }
         ensures err { OnErr result (AppendsPrefix (K.written sink.old) (K.written sink.new) self.old) }
-        ensures stays { OnOk result (K.faults sink.new ≡ K.faults sink.old) }
-        ensures rises { OnErr result (K.faults sink.new ≡ one_more (K.faults sink.old)) }
+        ensures failed { OnErr result (Rose (K.faults sink.old) (K.faults sink.new)) }
         ensures counted { K.faults sink.old ≤ K.faults sink.new }
     {
         if n <= self.room() {

@@ -1,5 +1,5 @@
 ghost use Rattle.std.specs.Prelude.{◌≡◌, ℕ, ◌+◌, ◌*◌, ◌/◌, ◌%◌, ◌≤◌, ◌<◌, ◌⊎◌, ◌++◌, false, length, slice_index, slice_set, OnOk, OnErr, IfNone};
-ghost use Rattle.usb_base.specs.Outside.{AppendsPrefix, one_more};
+ghost use Rattle.usb_base.specs.Outside.{AppendsPrefix, Rose};
 ghost use Rattle.link_words.specs.Links.{IsQtdAligned};
 ghost use Rattle.image_codec.specs.Linked.{list_text};
 ghost use Rattle.image_codec.specs.Marks.{is_marked, IsFresh};
@@ -30,8 +30,7 @@ pub fn put_queue<K: Sink>(
     requires aligned { IsQtdAligned first }
     ensures ok { OnOk result (Passes (K.written sink.old) (K.written sink.new) page.old page.new (list_text (queue words.now) first)) }
     ensures err { OnErr result (AppendsPrefix (K.written sink.old) (K.written sink.new) (page.old ++ list_text (queue words.now) first)) }
-    ensures stays { OnOk result (K.faults sink.new ≡ K.faults sink.old) }
-    ensures rises { OnErr result (K.faults sink.new ≡ one_more (K.faults sink.old)) }
+    ensures failed { OnErr result (Rose (K.faults sink.old) (K.faults sink.new)) }
     ensures counted { K.faults sink.old ≤ K.faults sink.new }
     ensures marks { (u : ℕ) → (slice_index marks.new u ≡ head) ⊎ (slice_index marks.new u ≡ slice_index marks.old u) }
 {
@@ -99,8 +98,7 @@ fn put_descriptor<K: Sink>(
     requires inside { at + 32 ≤ 4 * length words.now }
     ensures ok { OnOk result (Passes (K.written sink.old) (K.written sink.new) page.old page.new (descriptor_text words.now at)) }
     ensures err { OnErr result (AppendsPrefix (K.written sink.old) (K.written sink.new) (page.old ++ descriptor_text words.now at)) }
-    ensures stays { OnOk result (K.faults sink.new ≡ K.faults sink.old) }
-    ensures rises { OnErr result (K.faults sink.new ≡ one_more (K.faults sink.old)) }
+    ensures failed { OnErr result (Rose (K.faults sink.old) (K.faults sink.new)) }
     ensures counted { K.faults sink.old ≤ K.faults sink.new }
 {
     page.put(sink, line_of_descriptor(words, at).as_slice())

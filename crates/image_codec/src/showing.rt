@@ -1,6 +1,6 @@
 ghost use Rattle.std.specs.Prelude.{◌≡◌, ℕ, ◌≤◌, ◌/◌, length, replicate, IfOk, IfErr, OnOk, OnErr};
 ghost use Rattle.std.specs.Io.KnownBytes.{Appends};
-ghost use Rattle.usb_base.specs.Outside.{AppendsPrefix, one_more};
+ghost use Rattle.usb_base.specs.Outside.{AppendsPrefix, Rose};
 ghost use Rattle.image_codec.specs.Image.{IsAligned};
 ghost use Rattle.image_codec.specs.Marks.{AreMarks};
 ghost use Rattle.image_codec.specs.Shown.{seen_before, shown, units};
@@ -25,8 +25,7 @@ pub fn show<K: Sink>(alloc: Global, image: &Image, sink: &mut K) -> Result<(), S
     requires { IsAligned image.now }
     ensures ok { OnOk result (Appends (K.written sink.old) (K.written sink.new) (shown image.now)) }
     ensures written { IfErr result (λ e. OnFailed e (AppendsPrefix (K.written sink.old) (K.written sink.new) (shown image.now))) }
-    ensures stays { OnOk result (K.faults sink.new ≡ K.faults sink.old) }
-    ensures rises { IfErr result (λ e. OnFailed e (K.faults sink.new ≡ one_more (K.faults sink.old))) }
+    ensures failed { IfErr result (λ e. OnFailed e (Rose (K.faults sink.old) (K.faults sink.new))) }
     ensures memory { IfErr result (λ e. OnMemory e (sink.new ≡ sink.old)) }
     ensures counted { K.faults sink.old ≤ K.faults sink.new }
 {
@@ -50,8 +49,7 @@ pub fn show<K: Sink>(alloc: Global, image: &Image, sink: &mut K) -> Result<(), S
 pub fn print_refusal<K: Sink>(refusal: Refusal, sink: &mut K) -> Result<(), Failed>
     ensures ok { OnOk result (Appends (K.written sink.old) (K.written sink.new) (refusal_line refusal)) }
     ensures err { OnErr result (AppendsPrefix (K.written sink.old) (K.written sink.new) (refusal_line refusal)) }
-    ensures stays { OnOk result (K.faults sink.new ≡ K.faults sink.old) }
-    ensures rises { OnErr result (K.faults sink.new ≡ one_more (K.faults sink.old)) }
+    ensures failed { OnErr result (Rose (K.faults sink.old) (K.faults sink.new)) }
     ensures counted { K.faults sink.old ≤ K.faults sink.new }
 {
     write_all(sink, line_of_refusal(refusal).as_slice())
@@ -75,8 +73,7 @@ fn put_image<K: Sink>(
     requires queues { queues.old ≡ replicate (units image.now.words) 1 }
     ensures ok { OnOk result (Appends (K.written sink.old) (K.written sink.new) (shown image.now)) }
     ensures err { OnErr result (AppendsPrefix (K.written sink.old) (K.written sink.new) (shown image.now)) }
-    ensures stays { OnOk result (K.faults sink.new ≡ K.faults sink.old) }
-    ensures rises { OnErr result (K.faults sink.new ≡ one_more (K.faults sink.old)) }
+    ensures failed { OnErr result (Rose (K.faults sink.old) (K.faults sink.new)) }
     ensures counted { K.faults sink.old ≤ K.faults sink.new }
 {
     let mut page = Page::new();

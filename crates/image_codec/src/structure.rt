@@ -1,5 +1,5 @@
 ghost use Rattle.std.specs.Prelude.{◌≡◌, ℕ, ◌+◌, ◌*◌, ◌%◌, ◌≤◌, ◌⊎◌, ◌++◌, true, length, slice_index, OnOk, OnErr};
-ghost use Rattle.usb_base.specs.Outside.{AppendsPrefix, one_more};
+ghost use Rattle.usb_base.specs.Outside.{AppendsPrefix, Rose};
 ghost use Rattle.image_codec.specs.Marks.{IsFresh};
 ghost use Rattle.image_codec.specs.Printing.{Passes};
 ghost use Rattle.image_codec.specs.Shown.{address_of, is_queue_head, itd_at_address, itd_text, qh_text, queue_head, sitd_at_address, sitd_text, size_of, structure_text, units};
@@ -27,8 +27,7 @@ pub fn put_structure<K: Sink>(
     requires fresh { is_queue_head link ≡ true → IsFresh queues.old (address_of link) }
     ensures ok { OnOk result (Passes (K.written sink.old) (K.written sink.new) page.old page.new (structure_text words.now link)) }
     ensures err { OnErr result (AppendsPrefix (K.written sink.old) (K.written sink.new) (page.old ++ structure_text words.now link)) }
-    ensures stays { OnOk result (K.faults sink.new ≡ K.faults sink.old) }
-    ensures rises { OnErr result (K.faults sink.new ≡ one_more (K.faults sink.old)) }
+    ensures failed { OnErr result (Rose (K.faults sink.old) (K.faults sink.new)) }
     ensures counted { K.faults sink.old ≤ K.faults sink.new }
     ensures queues { (u : ℕ) → (slice_index queues.new u ≡ address_of link) ⊎ (slice_index queues.new u ≡ slice_index queues.old u) }
 {
@@ -73,8 +72,7 @@ fn put_queue_head<K: Sink>(
     requires fresh { IsFresh queues.old at }
     ensures ok { OnOk result (Passes (K.written sink.old) (K.written sink.new) page.old page.new (qh_text words.now at (queue_head words.now at))) }
     ensures err { OnErr result (AppendsPrefix (K.written sink.old) (K.written sink.new) (page.old ++ qh_text words.now at (queue_head words.now at))) }
-    ensures stays { OnOk result (K.faults sink.new ≡ K.faults sink.old) }
-    ensures rises { OnErr result (K.faults sink.new ≡ one_more (K.faults sink.old)) }
+    ensures failed { OnErr result (Rose (K.faults sink.old) (K.faults sink.new)) }
     ensures counted { K.faults sink.old ≤ K.faults sink.new }
     ensures queues { (u : ℕ) → (slice_index queues.new u ≡ at) ⊎ (slice_index queues.new u ≡ slice_index queues.old u) }
 {

@@ -4,9 +4,8 @@
 
 mod model;
 
-use ehci_cli::ehci;
+use ehci_cli::{Status, ehci};
 use model::{Ending, model_of};
-use program_ends::Status;
 use std::alloc::{AllocError, Global};
 use std::io;
 use usb_base::{MemSink, MemSource};

@@ -38,18 +38,18 @@ pub data Write : Type 0 where
   Fixed Stored StoredHalted ClearedByOne SetByOne Resets : Write
 
 -- A row of a register: its bits from `high` down to `low`, what they are, what they read after a reset, and how they take a write.
-pub record RegisterRow : Type 0 where
+pub record Row : Type 0 where
   pub high : ℕ
   pub low : ℕ
   pub field : Field
   pub reset : ℕ
   pub write : Write
 
-abbrev row : ℕ → ℕ → Field → ℕ → Write → RegisterRow
+abbrev row : ℕ → ℕ → Field → ℕ → Write → Row
 row high low field reset write = record { high = high; low = low; field = field; reset = reset; write = write }
 
 -- The rows of each register, its lowest bits first. A bit of no row reads 0, and a write does nothing to it.
-abbrev pub rows : Register → List RegisterRow
+abbrev pub rows : Register → List Row
 -- USBCMD, EHCI 1.0 section 2.3.1
 rows Command =
     row 0 0 Run 0 Stored
@@ -125,7 +125,7 @@ abbrev at_place : ℕ → ℕ → ℕ
 at_place value low = if low == 0 then value else value * 2 ^ low
 
 -- the word that rows make together
-abbrev pub word_of_rows : RegisterFile → List RegisterRow → ℕ
+abbrev pub word_of_rows : RegisterFile → List Row → ℕ
 word_of_rows r [] = 0
 word_of_rows r (row ∷ []) = at_place (value_of r row.field) row.low
 word_of_rows r (row ∷ next ∷ rest) = at_place (value_of r row.field) row.low + word_of_rows r (next ∷ rest)
@@ -172,24 +172,24 @@ taken ClearedByOne running old bits = if bits == 1 then 0 else old
 taken SetByOne running old bits = if bits == 1 then 1 else old
 taken Resets running old bits = old
 
--- the registers r after rows took a word, each bit as its row says over the registers `before` the write
-abbrev pub after_rows : RegisterFile → List RegisterRow → ℕ → RegisterFile → RegisterFile
-after_rows before [] word r = r
-after_rows before (row ∷ rest) word r =
-    after_rows before rest word (with_value r row.field (taken row.write before.run (value_of before row.field) (bits_of word row.high row.low)))
+-- the registers after rows took a word
+abbrev pub after_rows : RegisterFile → List Row → ℕ → RegisterFile
+after_rows r [] word = r
+after_rows r (row ∷ rest) word =
+    after_rows (with_value r row.field (taken row.write r.run (value_of r row.field) (bits_of word row.high row.low))) rest word
 
 abbrev pub is_reset : Write → Bool
 is_reset Resets = true
 is_reset _ = false
 
 -- whether a word has a 1 at the bit of a register that resets
-abbrev pub asks_reset : List RegisterRow → ℕ → Bool
+abbrev pub asks_reset : List Row → ℕ → Bool
 asks_reset [] word = false
 asks_reset (row ∷ rest) word = (is_reset row.write && (bits_of word row.high row.low == 1)) || asks_reset rest word
 
 -- the registers after the driver wrote a word to a register
 abbrev pub after_write_to : RegisterFile → Register → ℕ → RegisterFile
-after_write_to r register word = if asks_reset (rows register) word then reset_file else after_rows r (rows register) word r
+after_write_to r register word = if asks_reset (rows register) word then reset_file else after_rows r (rows register) word
 
 -- the registers after the driver wrote a word at an offset; the same at one of no register
 abbrev pub after_write : RegisterFile → ℕ → ℕ → RegisterFile
@@ -201,5 +201,5 @@ after_writes r [] = r
 after_writes r (write ∷ rest) = after_writes (after_write r write.0 write.1) rest
 
 -- whether each row's value after a reset is what the registers hold then
-abbrev pub shows_resets : List RegisterRow → Bool
+abbrev pub shows_resets : List Row → Bool
 shows_resets rows = list_all (λ row. value_of reset_file row.field == row.reset) rows

@@ -1,4 +1,3 @@
 pub mod Token
 pub mod Qtd
 pub mod QueueHead
-pub mod Blank

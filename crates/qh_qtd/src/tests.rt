@@ -7,6 +7,23 @@ const END: ShortLink = ShortLink {
     address: 0,
 };
 
+const NOTHING: Token = Token {
+    ping: false,
+    split_state: false,
+    missed: false,
+    xact_err: false,
+    babble: false,
+    buffer_error: false,
+    halted: false,
+    active: false,
+    pid: 0,
+    cerr: 0,
+    c_page: 0,
+    ioc: false,
+    total: 0,
+    toggle: false,
+};
+
 #[test]
 fn head_of_an_empty_ring(rt: HostRuntime) -> Result<(), Fail> {
     let words = [
@@ -29,15 +46,37 @@ fn head_of_an_empty_ring(rt: HostRuntime) -> Result<(), Fail> {
             typ: 1,
             address: 0x1000,
         },
+        addr: 0,
+        inactivate: false,
+        ep: 0,
         eps: 2,
+        dtc: false,
         head: true,
         max: 64,
+        control: false,
+        rl: 0,
+        smask: 0,
+        cmask: 0,
+        hub: 0,
+        port: 0,
         mult: 1,
+        current: 0,
+        next: END,
+        alternate: END,
+        nak_cnt: 0,
         token: Token {
             halted: true,
-            ..Token::blank()
+            ..NOTHING
         },
-        ..Qh::blank()
+        offset: 0,
+        page0: 0,
+        c_prog: 0,
+        page1: 0,
+        frame_tag: 0,
+        s_bytes: 0,
+        page2: 0,
+        page3: 0,
+        page4: 0,
     };
     assert_eq!(rt; Qh::read(&words), Ok(head));
     assert_eq!(rt; head.write(), words);
@@ -102,7 +141,7 @@ fn every_field_of_a_queue_head(rt: HostRuntime) {
             ioc: true,
             total: 0x1234,
             toggle: true,
-            ..Token::blank()
+            ..NOTHING
         },
         offset: 0x123,
         page0: 0xABCDE,
@@ -142,7 +181,7 @@ fn every_field_of_a_descriptor(rt: HostRuntime) {
             cerr: 3,
             c_page: 4,
             total: 0x200,
-            ..Token::blank()
+            ..NOTHING
         },
         offset: 0xA00,
         page0: 0x10,

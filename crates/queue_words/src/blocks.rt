@@ -1,10 +1,33 @@
 ghost use Rattle.std.specs.Prelude.{◌≡◌, ◌+◌, ◌%◌, if◌then◌else◌, Some, None, true, length};
-ghost use Rattle.word_mem.specs.Memory.{reaches, refused};
+ghost use Rattle.word_mem.specs.Memory.{reaches, refused, word_at, with_word};
 ghost use Rattle.word_mem.specs.Access.{IsByController};
 ghost use Rattle.word_mem.specs.Views.{words_at, with_words};
 ghost use Rattle.queue_words.specs.Structures.{reaches_queue_head, queue_head_was_read, overlay_written};
 
 use word_mem::WordMem;
+
+/// The word at the byte address `at`, a multiple of 4 in a Lent block.
+fn lent_word(mem: &mut WordMem, at: u32) -> u32
+    requires aligned { at % 4 ≡ 0 }
+    requires lent { reaches mem.old at ≡ true }
+    ensures word { result ≡ word_at mem.old at }
+    ensures memory { mem.new ≡ mem.old }
+{
+    match mem.hc_read(at) {
+        Some(word) => word,
+        None => 0,
+    }
+}
+
+/// Writes the word at the byte address `at`, a multiple of 4 in a Lent block.
+fn put_lent(mem: &mut WordMem, at: u32, word: u32)
+    requires aligned { at % 4 ≡ 0 }
+    requires lent { reaches mem.old at ≡ true }
+    ensures memory { mem.new ≡ with_word mem.old at word }
+    ensures only_lent { IsByController mem.old mem.new }
+{
+    mem.hc_write(at, word);
+}
 
 /// The block after the Lent block at `at`.
 fn block_after(mem: &WordMem, at: u32) -> u32
@@ -19,31 +42,41 @@ fn block_after(mem: &WordMem, at: u32) -> u32
 }
 
 /// The controller reads the eight words of the block at `at`. None: the block isn't Lent, and one more refusal is counted.
+#[tactic(auto, using(crate::proofs::OneBlock::reached_near, crate::proofs::OneBlock::eight_words))]
 pub(crate) fn read_eight(mem: &mut WordMem, at: u32) -> Option<[u32; 8]>
     requires { at % 32 ≡ 0 }
     ensures words { result ≡ (if reaches mem.old at then Some (words_at mem.old at 8) else None) }
     ensures memory { mem.new ≡ (if reaches mem.old at then mem.old else refused mem.old) }
     ensures only_lent { IsByController mem.old mem.new }
 {
-    let mut words = [0; 8];
-    if mem.hc_read_words(at, &mut words) {
-        return Some(words);
-    }
-    None
+    let first = mem.hc_read(at)?;
+    Some([
+        first,
+        lent_word(mem, at + 4),
+        lent_word(mem, at + 8),
+        lent_word(mem, at + 12),
+        lent_word(mem, at + 16),
+        lent_word(mem, at + 20),
+        lent_word(mem, at + 24),
+        lent_word(mem, at + 28),
+    ])
 }
 
 /// The controller reads the first four words of the block at `at`. None: the block isn't Lent, and one more refusal is counted.
+#[tactic(auto, using(crate::proofs::OneBlock::reached_near, crate::proofs::OneBlock::four_words))]
 fn read_four(mem: &mut WordMem, at: u32) -> Option<[u32; 4]>
     requires { at % 32 ≡ 0 }
     ensures words { result ≡ (if reaches mem.old at then Some (words_at mem.old at 4) else None) }
     ensures memory { mem.new ≡ (if reaches mem.old at then mem.old else refused mem.old) }
     ensures only_lent { IsByController mem.old mem.new }
 {
-    let mut words = [0; 4];
-    if mem.hc_read_words(at, &mut words) {
-        return Some(words);
-    }
-    None
+    let first = mem.hc_read(at)?;
+    Some([
+        first,
+        lent_word(mem, at + 4),
+        lent_word(mem, at + 8),
+        lent_word(mem, at + 12),
+    ])
 }
 
 /// The controller reads the twelve words from the block at `at` on, which lie in two blocks. None: one of these isn't Lent, and one more
@@ -62,7 +95,7 @@ pub(crate) fn read_twelve(mem: &mut WordMem, at: u32) -> Option<[u32; 12]>
 }
 
 /// The controller writes words 3 to 7 of the block at `at`. False: the block isn't Lent, and one more refusal is counted.
-#[tactic(auto, using(crate::proofs::OneBlock::fourth_reached))]
+#[tactic(auto, using(crate::proofs::OneBlock::reached_near, crate::proofs::OneBlock::five_written, word_mem::proofs::ByController::by_both))]
 fn write_five(mem: &mut WordMem, at: u32, words: &[u32]) -> bool
     requires aligned { at % 32 ≡ 0 }
     requires five { length words.now ≡ 5 }
@@ -70,10 +103,18 @@ fn write_five(mem: &mut WordMem, at: u32, words: &[u32]) -> bool
     ensures memory { mem.new ≡ (if reaches mem.old at then with_words mem.old (at + 12) words.now else refused mem.old) }
     ensures only_lent { IsByController mem.old mem.new }
 {
-    mem.hc_write_words(at + 12, words)
+    if !mem.hc_write(at + 12, words[0]) {
+        return false;
+    }
+    put_lent(mem, at + 16, words[1]);
+    put_lent(mem, at + 20, words[2]);
+    put_lent(mem, at + 24, words[3]);
+    put_lent(mem, at + 28, words[4]);
+    true
 }
 
 /// The controller writes the first four words of the block at `at`. False: the block isn't Lent, and one more refusal is counted.
+#[tactic(auto, using(crate::proofs::OneBlock::reached_near, crate::proofs::OneBlock::four_written, word_mem::proofs::ByController::by_both))]
 fn write_four(mem: &mut WordMem, at: u32, words: &[u32]) -> bool
     requires aligned { at % 32 ≡ 0 }
     requires four { length words.now ≡ 4 }
@@ -81,7 +122,13 @@ fn write_four(mem: &mut WordMem, at: u32, words: &[u32]) -> bool
     ensures memory { mem.new ≡ (if reaches mem.old at then with_words mem.old at words.now else refused mem.old) }
     ensures only_lent { IsByController mem.old mem.new }
 {
-    mem.hc_write_words(at, words)
+    if !mem.hc_write(at, words[0]) {
+        return false;
+    }
+    put_lent(mem, at + 4, words[1]);
+    put_lent(mem, at + 8, words[2]);
+    put_lent(mem, at + 12, words[3]);
+    true
 }
 
 /// The controller writes nine words: five as words 3 to 7 of the block at `at`, and four in the block after it. False: one of the two

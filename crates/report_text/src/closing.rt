@@ -1,7 +1,7 @@
 //! Writing the lines that close a report, at most two for each endpoint that was opened.
 ghost use Rattle.std.specs.Prelude.{◌≡◌, ℕ, ◌≤◌, ◌<◌, ◌^◌, ◌++◌, length, OnOk, OnErr};
 ghost use Rattle.std.specs.Io.KnownBytes.{Appends};
-ghost use Rattle.usb_base.specs.Outside.{AppendsPrefix, one_more};
+ghost use Rattle.usb_base.specs.Outside.{AppendsPrefix, Rose};
 ghost use Rattle.report_text.specs.ReportText.{pending_line, taken_line, acted_line};
 
 use crate::report::{front, print_line};
@@ -13,8 +13,7 @@ use usb_base::{EpName, Failed, Sink, write_all};
 pub fn print_pending<K: Sink>(name: &EpName, k: u32, sink: &mut K) -> Result<(), Failed>
     ensures ok { OnOk result (Appends (K.written sink.old) (K.written sink.new) (pending_line name.now k)) }
     ensures err { OnErr result (AppendsPrefix (K.written sink.old) (K.written sink.new) (pending_line name.now k)) }
-    ensures stays { OnOk result (K.faults sink.new ≡ K.faults sink.old) }
-    ensures rises { OnErr result (K.faults sink.new ≡ one_more (K.faults sink.old)) }
+    ensures failed { OnErr result (Rose (K.faults sink.old) (K.faults sink.new)) }
     ensures counted { K.faults sink.old ≤ K.faults sink.new }
 {
     write_all(sink, pending_text(name, k).as_bytes())
@@ -27,8 +26,7 @@ pub fn print_taken<K: Sink>(name: &EpName, bytes: &[u8], sink: &mut K) -> Result
     requires { length bytes.now < 2 ^ 32 }
     ensures ok { OnOk result (Appends (K.written sink.old) (K.written sink.new) (taken_line name.now bytes.now)) }
     ensures err { OnErr result (AppendsPrefix (K.written sink.old) (K.written sink.new) (taken_line name.now bytes.now)) }
-    ensures stays { OnOk result (K.faults sink.new ≡ K.faults sink.old) }
-    ensures rises { OnErr result (K.faults sink.new ≡ one_more (K.faults sink.old)) }
+    ensures failed { OnErr result (Rose (K.faults sink.old) (K.faults sink.new)) }
     ensures counted { K.faults sink.old ≤ K.faults sink.new }
 {
     print_line(
@@ -44,8 +42,7 @@ pub fn print_taken<K: Sink>(name: &EpName, bytes: &[u8], sink: &mut K) -> Result
 pub fn print_acted<K: Sink>(name: &EpName, k: u32, sink: &mut K) -> Result<(), Failed>
     ensures ok { OnOk result (Appends (K.written sink.old) (K.written sink.new) (acted_line name.now k)) }
     ensures err { OnErr result (AppendsPrefix (K.written sink.old) (K.written sink.new) (acted_line name.now k)) }
-    ensures stays { OnOk result (K.faults sink.new ≡ K.faults sink.old) }
-    ensures rises { OnErr result (K.faults sink.new ≡ one_more (K.faults sink.old)) }
+    ensures failed { OnErr result (Rose (K.faults sink.old) (K.faults sink.new)) }
     ensures counted { K.faults sink.old ≤ K.faults sink.new }
 {
     write_all(sink, acted_text(name, k).as_bytes())

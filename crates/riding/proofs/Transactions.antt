@@ -12,7 +12,7 @@ use Rattle.toggle_error.specs.declared.host.HostSide.{HostSide}
 use Rattle.toggle_error.specs.declared.host.Outcome.{Outcome}
 use Rattle.toggle_error.specs.declared.host.Outcome.TheVariants as Outcomes
 use Rattle.toggle_error.specs.declared.rows.Heard.TheVariants as Heards
-use Rattle.toggle_error.specs.declared.rows.AskToken.TheVariants.{In}
+use Rattle.toggle_error.specs.declared.rows.Token.TheVariants.{In}
 use Rattle.toggle_error.specs.Columns.{expected_pid, limit_of, fitting, heard_data}
 use Rattle.toggle_error.specs.PlainRows.{plain_row, plain_outcome, is_last_error, error_outcome}
 use Rattle.toggle_error.specs.Settle.{outcome_of, settled}

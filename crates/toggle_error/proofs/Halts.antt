@@ -27,8 +27,8 @@ use Rattle.toggle_error.specs.declared.rows.Row.{Row}
 use Rattle.toggle_error.specs.declared.rows.Row.TheVariants as Rows
 use Rattle.toggle_error.specs.declared.rows.StartRow.{StartRow}
 use Rattle.toggle_error.specs.declared.rows.StartRow.TheVariants.{Unheard}
-use Rattle.toggle_error.specs.declared.rows.AskToken.{AskToken}
-use Rattle.toggle_error.specs.declared.rows.AskToken.TheVariants.{In}
+use Rattle.toggle_error.specs.declared.rows.Token.{Token}
+use Rattle.toggle_error.specs.declared.rows.Token.TheVariants.{In}
 use Rattle.toggle_error.specs.Columns.{heard_data, heard_hand, heard_of, limit_of, expected_pid, token_at, token_of, out_token}
 use Rattle.toggle_error.specs.Halts.{is_answered, RanOut, IsStalled, IsBabble}
 use Rattle.toggle_error.specs.PlainRows.{plain_row, error_outcome, plain_outcome, after_plain}
@@ -109,17 +109,17 @@ babbled_row Failed host e = let other_cause = error_cause host Ends.Babble e in 
 babbled_row FailedPinged host e = let other_cause = error_cause host Ends.Babble e in cc
 babbled_row _ host e = cc
 
-stalled_heard : (token : AskToken) (heard : Heard) (sent : ℕ) → plain_row token heard sent ≡ Stalled → heard ≡ Heards.Stall
+stalled_heard : (token : Token) (heard : Heard) (sent : ℕ) → plain_row token heard sent ≡ Stalled → heard ≡ Heards.Stall
 stalled_heard In Heards.Stall sent e = refl
 stalled_heard _ Heards.Stall sent e = refl
 stalled_heard _ _ sent e = cc
 
-babbled_token : (token : AskToken) (heard : Heard) (sent : ℕ) → plain_row token heard sent ≡ Babbled → token ≡ In
+babbled_token : (token : Token) (heard : Heard) (sent : ℕ) → plain_row token heard sent ≡ Babbled → token ≡ In
 babbled_token In heard sent e = refl
 babbled_token _ Heards.Nothing sent e = cc
 babbled_token _ _ sent e = cc
 
-babbled_heard : (token : AskToken) (heard : Heard) (sent : ℕ) → plain_row token heard sent ≡ Babbled → heard ≡ Heards.TooLong
+babbled_heard : (token : Token) (heard : Heard) (sent : ℕ) → plain_row token heard sent ≡ Babbled → heard ≡ Heards.TooLong
 babbled_heard In Heards.TooLong sent e = refl
 babbled_heard _ Heards.TooLong sent e = refl
 babbled_heard _ _ sent e = cc
@@ -165,7 +165,7 @@ token_in Packets.Out _ _ e = cc
 token_in _ _ _ e = cc
 
 -- how a STALL is settled
-stall_row : (token : AskToken) (sent : ℕ) → plain_row token Heards.Stall sent ≡ Stalled
+stall_row : (token : Token) (sent : ℕ) → plain_row token Heards.Stall sent ≡ Stalled
 stall_row In sent = refl
 stall_row _ sent = refl
 
@@ -178,12 +178,12 @@ long_complete : (kind : EpKind) (last : Bool) → complete_row kind last Heards.
 long_complete Kinds.Interrupt true = refl
 long_complete _ _ = refl
 
-stall_from : (split : Split) (kind : EpKind) (last : Bool) (token : AskToken) (sent : ℕ) (reply : Reply) (host : HostSide) → outcome_of_row (row_at split kind last (heard_of host reply) (plain_row token (heard_of host reply) sent)) host ≡ Halt Ends.Stall → (is_answered split ≡ true) × (reply ≡ Hand Packets.Stall)
+stall_from : (split : Split) (kind : EpKind) (last : Bool) (token : Token) (sent : ℕ) (reply : Reply) (host : HostSide) → outcome_of_row (row_at split kind last (heard_of host reply) (plain_row token (heard_of host reply) sent)) host ≡ Halt Ends.Stall → (is_answered split ≡ true) × (reply ≡ Hand Packets.Stall)
 stall_from Splits.Plain kind last token sent reply host e = (refl, heard_stall host reply (stalled_heard token _ sent (stalled_row _ host e)))
 stall_from (Splits.Start _ _ _) kind last token sent reply host e = let wrong : Ends.Stall ≡ Ends.Error = start_cause _ host Ends.Stall e in let bad : ⊥ = cc in absurd bad
 stall_from (Splits.Complete _ _) kind last token sent reply host e = (refl, heard_stall host reply (stalled_heard token _ sent (stalled_row _ host (complete_cause kind last _ _ host Ends.Stall (λ (w : Ends.Stall ≡ Ends.Error). cc) e))))
 
-stall_to : (split : Split) (kind : EpKind) (last : Bool) (token : AskToken) (sent : ℕ) (host : HostSide) → is_answered split ≡ true → outcome_of_row (row_at split kind last Heards.Stall (plain_row token Heards.Stall sent)) host ≡ Halt Ends.Stall
+stall_to : (split : Split) (kind : EpKind) (last : Bool) (token : Token) (sent : ℕ) (host : HostSide) → is_answered split ≡ true → outcome_of_row (row_at split kind last Heards.Stall (plain_row token Heards.Stall sent)) host ≡ Halt Ends.Stall
 stall_to Splits.Plain kind last token sent host h = ap (λ row. plain_outcome row host) (stall_row token sent)
 stall_to (Splits.Start _ _ _) kind last token sent host h = cc
 stall_to (Splits.Complete _ _) kind last token sent host h = ap (λ row. complete_outcome (complete_row kind last Heards.Stall row) host) (stall_row token sent) ∙ ap (λ row. complete_outcome row host) (stall_complete kind last)
@@ -208,12 +208,12 @@ expected_heard true heard = refl
 long_heard : (host : HostSide) (bytes : List ℕ) → limit_of host < length bytes → heard_of host (Bytes (expected_pid host.toggle) bytes) ≡ Heards.TooLong
 long_heard host bytes h = expected_heard host.toggle _ ∙ ap (λ b. if b then Heards.Fitting (length bytes) else Heards.TooLong) (lt-leb (length bytes) (limit_of host) h)
 
-babble_row : (split : Split) (kind : EpKind) (last : Bool) (token : AskToken) (sent : ℕ) (reply : Reply) (host : HostSide) → outcome_of_row (row_at split kind last (heard_of host reply) (plain_row token (heard_of host reply) sent)) host ≡ Halt Ends.Babble → (is_answered split ≡ true) × (plain_row token (heard_of host reply) sent ≡ Babbled)
+babble_row : (split : Split) (kind : EpKind) (last : Bool) (token : Token) (sent : ℕ) (reply : Reply) (host : HostSide) → outcome_of_row (row_at split kind last (heard_of host reply) (plain_row token (heard_of host reply) sent)) host ≡ Halt Ends.Babble → (is_answered split ≡ true) × (plain_row token (heard_of host reply) sent ≡ Babbled)
 babble_row Splits.Plain kind last token sent reply host e = (refl, babbled_row _ host e)
 babble_row (Splits.Start _ _ _) kind last token sent reply host e = let wrong : Ends.Babble ≡ Ends.Error = start_cause _ host Ends.Babble e in let bad : ⊥ = cc in absurd bad
 babble_row (Splits.Complete _ _) kind last token sent reply host e = (refl, babbled_row _ host (complete_cause kind last _ _ host Ends.Babble (λ (w : Ends.Babble ≡ Ends.Error). cc) e))
 
-babble_to : (split : Split) (kind : EpKind) (last : Bool) (token : AskToken) (heard : Heard) (sent : ℕ) (host : HostSide) → is_answered split ≡ true → token ≡ In → heard ≡ Heards.TooLong → outcome_of_row (row_at split kind last heard (plain_row token heard sent)) host ≡ Halt Ends.Babble
+babble_to : (split : Split) (kind : EpKind) (last : Bool) (token : Token) (heard : Heard) (sent : ℕ) (host : HostSide) → is_answered split ≡ true → token ≡ In → heard ≡ Heards.TooLong → outcome_of_row (row_at split kind last heard (plain_row token heard sent)) host ≡ Halt Ends.Babble
 babble_to Splits.Plain kind last token heard sent host h t l = simp (t, l)
 babble_to (Splits.Start _ _ _) kind last token heard sent host h t l = cc
 babble_to (Splits.Complete _ _) kind last token heard sent host h t l = simp (t, l, long_complete)

@@ -13,8 +13,8 @@ use Rattle.usb_base.specs.declared.packets.Speed.TheVariants.{High}
 use Rattle.toggle_error.specs.declared.host.HostSide.{HostSide}
 use Rattle.toggle_error.specs.declared.rows.Heard.{Heard}
 use Rattle.toggle_error.specs.declared.rows.Heard.TheVariants.{Fitting, Repeat, TooLong, Ack, Nak, Nyet, Stall, Err, Nothing}
-use Rattle.toggle_error.specs.declared.rows.AskToken.{AskToken}
-use Rattle.toggle_error.specs.declared.rows.AskToken.TheVariants.{In, Out, PingedOut, Setup, Ping, Unknown}
+use Rattle.toggle_error.specs.declared.rows.Token.{Token}
+use Rattle.toggle_error.specs.declared.rows.Token.TheVariants.{In, Out, PingedOut, Setup, Ping, Unknown}
 
 -- the data PID that the host sends or expects at a toggle (USB 2.0, 8.6)
 abbrev pub expected_pid : Bool → Pid
@@ -26,19 +26,19 @@ abbrev pub limit_of : HostSide → ℕ
 limit_of host = min host.max host.left
 
 -- the OUT token of a high-speed bulk or control endpoint, which is pinged (USB 2.0, 8.5.1)
-abbrev pub out_token : Speed → EpKind → AskToken
+abbrev pub out_token : Speed → EpKind → Token
 out_token High Bulk = PingedOut
 out_token High Control = PingedOut
 out_token _ _ = Out
 
-abbrev pub token_at : Pid → AskToken → AskToken
+abbrev pub token_at : Pid → Token → Token
 token_at Packets.In _ = In
 token_at Packets.Out out = out
 token_at Packets.Setup _ = Setup
 token_at Packets.Ping _ = Ping
 token_at _ _ = Unknown
 
-abbrev pub token_of : Ask → AskToken
+abbrev pub token_of : Ask → Token
 token_of ask = token_at ask.pid (out_token ask.speed ask.kind)
 
 -- data of the expected PID: n bytes where the host can take limit

@@ -8,11 +8,11 @@ use Rattle.toggle_error.specs.declared.rows.Heard.{Heard}
 use Rattle.toggle_error.specs.declared.rows.Heard.TheVariants as Heards
 use Rattle.toggle_error.specs.declared.rows.PlainRow.{PlainRow}
 use Rattle.toggle_error.specs.declared.rows.PlainRow.TheVariants.{Received, Repeated, Babbled, Sent, SentLast, Refused, RefusedPinged, Room, NoRoom, Stalled, Failed, FailedPinged}
-use Rattle.toggle_error.specs.declared.rows.AskToken.{AskToken}
-use Rattle.toggle_error.specs.declared.rows.AskToken.TheVariants.{In, Out, PingedOut, Setup, Ping}
+use Rattle.toggle_error.specs.declared.rows.Token.{Token}
+use Rattle.toggle_error.specs.declared.rows.Token.TheVariants.{In, Out, PingedOut, Setup, Ping}
 
 -- the row of a token and what the host heard, where this number of bytes was sent
-abbrev pub plain_row : AskToken → Heard → ℕ → PlainRow
+abbrev pub plain_row : Token → Heard → ℕ → PlainRow
 plain_row In (Heards.Fitting n) _ = Received n
 plain_row In Heards.Repeat _ = Repeated
 plain_row In Heards.TooLong _ = Babbled

@@ -1,6 +1,6 @@
 /// The ask of a settle row: which token goes out.
 #[derive(Clone, Copy, Debug, PartialEq, Eq)]
-pub enum AskToken {
+pub enum Token {
     In,
     /// An OUT of an endpoint that isn't pinged.
     Out,

@@ -5,22 +5,22 @@ ghost use Rattle.toggle_error.specs.SplitRows.{start_row, start_outcome, after_s
 ghost use Rattle.toggle_error.specs.Settle.{outcome_of, settled};
 
 use crate::host::{HostSide, Outcome};
-use crate::rows::{AskToken, CompleteRow, Heard, PlainRow, StartRow};
+use crate::rows::{CompleteRow, Heard, PlainRow, StartRow, Token};
 use usb_base::{Ask, EndCause, EpKind, Pid, Reply, Speed, Split};
 
 /// The token of an ask.
-fn token(ask: &Ask) -> AskToken
+fn token(ask: &Ask) -> Token
     ensures { result ≡ token_of ask.now }
 {
     match ask.pid {
-        Pid::In => AskToken::In,
+        Pid::In => Token::In,
         Pid::Out => match (ask.speed, ask.kind) {
-            (Speed::High, EpKind::Bulk | EpKind::Control) => AskToken::PingedOut,
-            _ => AskToken::Out,
+            (Speed::High, EpKind::Bulk | EpKind::Control) => Token::PingedOut,
+            _ => Token::Out,
         },
-        Pid::Setup => AskToken::Setup,
-        Pid::Ping => AskToken::Ping,
-        _ => AskToken::Unknown,
+        Pid::Setup => Token::Setup,
+        Pid::Ping => Token::Ping,
+        _ => Token::Unknown,
     }
 }
 
@@ -39,21 +39,21 @@ fn handshake(pid: Pid) -> Heard
 }
 
 /// The row of a plain ask that sent this number of bytes.
-fn plain(token: AskToken, heard: Heard, sent: u16) -> PlainRow
+fn plain(token: Token, heard: Heard, sent: u16) -> PlainRow
     ensures { result ≡ plain_row token heard sent }
 {
     match (token, heard) {
-        (AskToken::In, Heard::Fitting(n)) => PlainRow::Received(n),
-        (AskToken::In, Heard::Repeat) => PlainRow::Repeated,
-        (AskToken::In, Heard::TooLong) => PlainRow::Babbled,
-        (AskToken::Out | AskToken::PingedOut | AskToken::Setup, Heard::Ack) => PlainRow::Sent(sent),
-        (AskToken::PingedOut, Heard::Nyet) => PlainRow::SentLast(sent),
-        (AskToken::In | AskToken::Out, Heard::Nak) => PlainRow::Refused,
-        (AskToken::PingedOut, Heard::Nak) => PlainRow::RefusedPinged,
-        (AskToken::Ping, Heard::Ack) => PlainRow::Room,
-        (AskToken::Ping, Heard::Nak) => PlainRow::NoRoom,
+        (Token::In, Heard::Fitting(n)) => PlainRow::Received(n),
+        (Token::In, Heard::Repeat) => PlainRow::Repeated,
+        (Token::In, Heard::TooLong) => PlainRow::Babbled,
+        (Token::Out | Token::PingedOut | Token::Setup, Heard::Ack) => PlainRow::Sent(sent),
+        (Token::PingedOut, Heard::Nyet) => PlainRow::SentLast(sent),
+        (Token::In | Token::Out, Heard::Nak) => PlainRow::Refused,
+        (Token::PingedOut, Heard::Nak) => PlainRow::RefusedPinged,
+        (Token::Ping, Heard::Ack) => PlainRow::Room,
+        (Token::Ping, Heard::Nak) => PlainRow::NoRoom,
         (_, Heard::Stall) => PlainRow::Stalled,
-        (AskToken::PingedOut | AskToken::Ping, _) => PlainRow::FailedPinged,
+        (Token::PingedOut | Token::Ping, _) => PlainRow::FailedPinged,
         _ => PlainRow::Failed,
     }
 }

@@ -5,8 +5,7 @@ use Rattle.usb_base.specs.declared.packets.Pid.{Pid}
 use Rattle.usb_base.specs.declared.packets.Pid.TheVariants as Packets
 use Rattle.usb_base.specs.declared.packets.Reply.{Reply}
 use Rattle.usb_base.specs.declared.packets.Reply.TheVariants.{Bytes}
-use Rattle.usb_base.specs.declared.packets.Split.{Split}
-use Rattle.usb_base.specs.declared.packets.Split.TheVariants.{Plain, Complete}
+use Rattle.usb_base.specs.declared.packets.Split.TheVariants.{Plain}
 use Rattle.toggle_error.specs.declared.host.HostSide.{HostSide}
 use Rattle.toggle_error.specs.declared.host.Outcome.{Outcome}
 use Rattle.toggle_error.specs.declared.host.Outcome.TheVariants.{Moved}
@@ -50,20 +49,6 @@ complete_call pipe host last = record {
   last = last;
 }
 
--- the number of bytes that an acknowledgement moves, where this number goes out with the token
-abbrev pub moving_of : Split → Pid → HostSide → ℕ → ℕ
-moving_of (Complete _ _) pid host _ = complete_sent pid host
-moving_of _ _ _ n = n
-
--- a transaction that is split so and sends these bytes
-abbrev pub call_of : Split → Pipe → HostSide → List ℕ → Bool → Call
-call_of split pipe host out last = record {
-  ask = ask_of split pipe host;
-  out = sends split (ask_of split pipe host).pid out;
-  sent = moving_of split pipe.pid host (length out);
-  last = last;
-}
-
 -- the bytes that were received: those of an IN that moved
 abbrev pub got_of : Pid → Outcome → Reply → List ℕ
 got_of Packets.In (Moved _) (Bytes _ bytes) = bytes
@@ -76,12 +61,6 @@ pub record Transacts {W : Type 0} (transacts : W → Ask → List ℕ → Reply 
   pub outcome : result.outcome ≡ outcome_of call.ask call.sent call.last reply host
   pub settles : new ≡ settled call.ask call.sent call.last reply host
   pub got : result.got ≡ got_of call.ask.pid result.outcome reply
-
--- exactly this call was made on the wire, once; its reply is this one, and it was settled
-pub record Exchanges {W : Type 0} (transacts : W → Ask → List ℕ → Reply → W → Type 0) (call : Call) (host : HostSide) (before after : W) (reply : Reply) (outcome : Outcome) (new : HostSide) : Type 0 where
-  pub made : transacts before call.ask call.out reply after
-  pub comes_to : outcome ≡ outcome_of call.ask call.sent call.last reply host
-  pub settles : new ≡ settled call.ask call.sent call.last reply host
 
 -- exactly this isochronous ask was made on the wire, once, and its reply handed on
 abbrev pub IsoTransacts : {W : Type 0} → (W → Ask → List ℕ → Reply → W → Type 0) → Ask → List ℕ → W → W → IsoResult → Type 0

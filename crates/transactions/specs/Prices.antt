@@ -32,11 +32,7 @@ abbrev pub priced_speed : Split → Speed → Speed
 priced_speed Plain speed = speed
 priced_speed _ _ = High
 
--- the price of a transaction that sends this number of bytes
-abbrev pub price_at : Split → Pipe → HostSide → ℕ → ℕ
-price_at split pipe host n =
-    let pid : Pid = token_pid split pipe.pid (pinged pipe.kind host.ping) in
-    bus_time (priced_speed split pipe.speed) pipe.kind (dir_of pid) (priced_bytes split pid pipe.kind host.max n)
-
 abbrev pub price_of : Split → Pipe → HostSide → List ℕ → ℕ
-price_of split pipe host out = price_at split pipe host (length out)
+price_of split pipe host out =
+    let pid : Pid = token_pid split pipe.pid (pinged pipe.kind host.ping) in
+    bus_time (priced_speed split pipe.speed) pipe.kind (dir_of pid) (priced_bytes split pid pipe.kind host.max (length out))

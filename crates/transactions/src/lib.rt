@@ -4,15 +4,13 @@
 //! `run_high`, `run_split_start`, `run_split_complete` and `run_iso`, and `price` before each. The settle table is `toggle_error`'s.
 #![tactic(auto)]
 
-mod exchanges;
 mod pipe;
 mod pricing;
 mod runs;
 pub mod worked;
 
-pub use exchanges::{exchange, received};
 pub use pipe::{IsoResult, Pipe, Result3};
-pub use pricing::{price, price_of_bytes};
+pub use pricing::price;
 pub use runs::{run_high, run_iso, run_split_complete, run_split_start};
 
 #[cfg(test)]

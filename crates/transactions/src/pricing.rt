@@ -1,7 +1,7 @@
 ghost use Rattle.std.specs.Prelude.{◌≡◌, ℕ, ◌≤◌, min, length};
 ghost use Rattle.usb_base.specs.Cost.{bus_time};
 ghost use Rattle.transactions.specs.Asks.{pinged, token_pid, dir_of};
-ghost use Rattle.transactions.specs.Prices.{priced_bytes, priced_speed, price_of, price_at};
+ghost use Rattle.transactions.specs.Prices.{priced_bytes, priced_speed, price_of};
 
 use crate::pipe::Pipe;
 use toggle_error::HostSide;
@@ -61,22 +61,6 @@ fn priced(split: &Split, pid: Pid, kind: EpKind, max: u16, out: u16) -> u16
         (Split::Complete { .. }, _, _) | (_, Pid::In | Pid::Ping, _) => 0,
         _ => out,
     }
-}
-
-/// The price of a transaction of which the number of bytes that it sends is known, and not yet the bytes: `price` of that many.
-pub fn price_of_bytes(split: &Split, pipe: &Pipe, host: &HostSide, bytes: u16) -> Ps
-    requires max { host.now.max ≤ 1024 }
-    requires bytes { bytes ≤ 1024 }
-    ensures { result.0 ≡ price_at split.now pipe.now host.now bytes }
-{
-    let pid = token(split, pipe, host);
-    let bytes = priced(split, pid, pipe.kind, host.max, bytes);
-    cost(
-        bus_speed(split, pipe.speed),
-        pipe.kind,
-        direction(pid),
-        bytes,
-    )
 }
 
 /// The bus time, in picoseconds, that the controller gives to a transaction of `pipe` that is split so and sends `out`

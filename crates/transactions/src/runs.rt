@@ -10,7 +10,7 @@ use toggle_error::{HostSide, Outcome};
 use usb_base::{Ask, Packet, Pid, Ps, Reply, Split, Wire};
 
 /// The ask of a transaction.
-pub(crate) fn ask(split: &Split, pipe: &Pipe, host: &HostSide) -> Ask
+fn ask(split: &Split, pipe: &Pipe, host: &HostSide) -> Ask
     ensures { result ≡ ask_of split.now pipe.now host.now }
 {
     Ask {
@@ -26,7 +26,7 @@ pub(crate) fn ask(split: &Split, pipe: &Pipe, host: &HostSide) -> Ask
 }
 
 /// The bytes that go out with a token.
-pub(crate) fn sent<'a>(split: &Split, pid: Pid, out: &'a [u8]) -> &'a [u8]
+fn sent<'a>(split: &Split, pid: Pid, out: &'a [u8]) -> &'a [u8]
     ensures { result.now ≡ sends split.now pid out.now }
 {
     match (split, pid) {
@@ -136,7 +136,7 @@ pub fn run_split_start<W: Wire>(
 }
 
 /// The number of bytes that the start-split of an OUT or SETUP sent.
-pub(crate) fn started(pid: Pid, host: &HostSide) -> u16
+fn started(pid: Pid, host: &HostSide) -> u16
     ensures value { result ≡ complete_sent pid host.now }
     ensures bound { result ≤ host.now.left }
 {

@@ -10,7 +10,7 @@ use Rattle.toggle_error.specs.declared.host.Outcome.{Outcome}
 use Rattle.toggle_error.specs.declared.host.Outcome.TheVariants as outcomes
 use Rattle.toggle_error.specs.declared.rows.Heard.{Heard}
 use Rattle.toggle_error.specs.declared.rows.Heard.TheVariants as heards
-use Rattle.toggle_error.specs.declared.rows.AskToken.TheVariants.{In}
+use Rattle.toggle_error.specs.declared.rows.Token.TheVariants.{In}
 use Rattle.toggle_error.specs.Columns.{limit_of, fitting, heard_data, heard_hand, heard_of}
 use Rattle.toggle_error.specs.PlainRows.{plain_row, is_last_error, error_outcome, plain_outcome, after_plain}
 use Rattle.qh_qtd.specs.declared.queue_head.Qh.{Qh}

@@ -4,7 +4,7 @@ ghost use Rattle.std.specs.Fmt.{decimal};
 ghost use Rattle.std.specs.Io.KnownBytes.{Appends};
 ghost use Rattle.hex.specs.Hex.{encode_lower};
 ghost use Rattle.usb_base.specs.declared.endpoints.EpName.{EpName as Named};
-ghost use Rattle.usb_base.specs.Outside.{AppendsPrefix, one_more};
+ghost use Rattle.usb_base.specs.Outside.{AppendsPrefix, Rose};
 ghost use Rattle.transfer_text.specs.ReportText.{line_text, ep_word, hex_word, after_cause, told, report_line, report_text, pending_line, fault_line, AreStored};
 
 use crate::error::TextWhy;
@@ -23,8 +23,7 @@ fn encode(bytes: &[u8], digits: &mut [u8])
 fn print_hex<K: Sink>(bytes: &[u8], sink: &mut K) -> Result<(), Failed>
     ensures ok { OnOk result (Appends (K.written sink.old) (K.written sink.new) (encode_lower bytes.now)) }
     ensures err { OnErr result (AppendsPrefix (K.written sink.old) (K.written sink.new) (encode_lower bytes.now)) }
-    ensures stays { OnOk result (K.faults sink.new ≡ K.faults sink.old) }
-    ensures rises { OnErr result (K.faults sink.new ≡ one_more (K.faults sink.old)) }
+    ensures failed { OnErr result (Rose (K.faults sink.old) (K.faults sink.new)) }
     ensures counted { K.faults sink.old ≤ K.faults sink.new }
 {
     let mut buffer = [0; 1024];
@@ -45,8 +44,7 @@ fn print_hex<K: Sink>(bytes: &[u8], sink: &mut K) -> Result<(), Failed>
 fn print_digits<K: Sink>(bytes: &[u8], sink: &mut K) -> Result<(), Failed>
     ensures ok { OnOk result (Appends (K.written sink.old) (K.written sink.new) (hex_word bytes.now)) }
     ensures err { OnErr result (AppendsPrefix (K.written sink.old) (K.written sink.new) (hex_word bytes.now)) }
-    ensures stays { OnOk result (K.faults sink.new ≡ K.faults sink.old) }
-    ensures rises { OnErr result (K.faults sink.new ≡ one_more (K.faults sink.old)) }
+    ensures failed { OnErr result (Rose (K.faults sink.old) (K.faults sink.new)) }
     ensures counted { K.faults sink.old ≤ K.faults sink.new }
 {
     if bytes.is_empty() {
@@ -114,8 +112,7 @@ fn refused_text(line: u32, why: OfferError) -> Text
 fn print_line<K: Sink>(front: &[u8], bytes: &[u8], back: &[u8], sink: &mut K) -> Result<(), Failed>
     ensures ok { OnOk result (Appends (K.written sink.old) (K.written sink.new) (front.now ++ (hex_word bytes.now ++ back.now))) }
     ensures err { OnErr result (AppendsPrefix (K.written sink.old) (K.written sink.new) (front.now ++ (hex_word bytes.now ++ back.now))) }
-    ensures stays { OnOk result (K.faults sink.new ≡ K.faults sink.old) }
-    ensures rises { OnErr result (K.faults sink.new ≡ one_more (K.faults sink.old)) }
+    ensures failed { OnErr result (Rose (K.faults sink.old) (K.faults sink.new)) }
     ensures counted { K.faults sink.old ≤ K.faults sink.new }
 {
     write_all(sink, front)?;
@@ -128,8 +125,7 @@ fn print_told<K: Sink>(what: What, name: &EpName, bytes: &[u8], sink: &mut K) ->
     requires { length bytes.now < 2 ^ 32 }
     ensures ok { OnOk result (Appends (K.written sink.old) (K.written sink.new) (line_text (told what name.now bytes.now))) }
     ensures err { OnErr result (AppendsPrefix (K.written sink.old) (K.written sink.new) (line_text (told what name.now bytes.now))) }
-    ensures stays { OnOk result (K.faults sink.new ≡ K.faults sink.old) }
-    ensures rises { OnErr result (K.faults sink.new ≡ one_more (K.faults sink.old)) }
+    ensures failed { OnErr result (Rose (K.faults sink.old) (K.faults sink.new)) }
     ensures counted { K.faults sink.old ≤ K.faults sink.new }
 {
     let len = bytes.len() as u32;
@@ -177,8 +173,7 @@ fn print_one<K: Sink>(report: &Report, store: &[u8], sink: &mut K) -> Result<(),
     requires { report.now.from + report.now.len ≤ length store.now }
     ensures ok { OnOk result (Appends (K.written sink.old) (K.written sink.new) (report_line store.now report.now)) }
     ensures err { OnErr result (AppendsPrefix (K.written sink.old) (K.written sink.new) (report_line store.now report.now)) }
-    ensures stays { OnOk result (K.faults sink.new ≡ K.faults sink.old) }
-    ensures rises { OnErr result (K.faults sink.new ≡ one_more (K.faults sink.old)) }
+    ensures failed { OnErr result (Rose (K.faults sink.old) (K.faults sink.new)) }
     ensures counted { K.faults sink.old ≤ K.faults sink.new }
 {
     let (_, rest) = store.split_at(report.from as usize);
@@ -192,8 +187,7 @@ pub fn print_report<K: Sink>(reports: &[Report], store: &[u8], sink: &mut K) -> 
     requires { AreStored reports.now (length store.now) }
     ensures ok { OnOk result (Appends (K.written sink.old) (K.written sink.new) (report_text reports.now store.now)) }
     ensures err { OnErr result (AppendsPrefix (K.written sink.old) (K.written sink.new) (report_text reports.now store.now)) }
-    ensures stays { OnOk result (K.faults sink.new ≡ K.faults sink.old) }
-    ensures rises { OnErr result (K.faults sink.new ≡ one_more (K.faults sink.old)) }
+    ensures failed { OnErr result (Rose (K.faults sink.old) (K.faults sink.new)) }
     ensures counted { K.faults sink.old ≤ K.faults sink.new }
 {
     for report in reports {
@@ -207,8 +201,7 @@ pub fn print_report<K: Sink>(reports: &[Report], store: &[u8], sink: &mut K) -> 
 pub fn print_pending<K: Sink>(name: &EpName, k: u32, sink: &mut K) -> Result<(), Failed>
     ensures ok { OnOk result (Appends (K.written sink.old) (K.written sink.new) (pending_line name.now k)) }
     ensures err { OnErr result (AppendsPrefix (K.written sink.old) (K.written sink.new) (pending_line name.now k)) }
-    ensures stays { OnOk result (K.faults sink.new ≡ K.faults sink.old) }
-    ensures rises { OnErr result (K.faults sink.new ≡ one_more (K.faults sink.old)) }
+    ensures failed { OnErr result (Rose (K.faults sink.old) (K.faults sink.new)) }
     ensures counted { K.faults sink.old ≤ K.faults sink.new }
 {
     write_all(sink, pending_text(name, k).as_bytes())
@@ -232,8 +225,7 @@ fn pending_text(name: &EpName, k: u32) -> Text
 pub fn print_fault<K: Sink>(line: u32, why: TextWhy, sink: &mut K) -> Result<(), Failed>
     ensures ok { OnOk result (Appends (K.written sink.old) (K.written sink.new) (fault_line line why)) }
     ensures err { OnErr result (AppendsPrefix (K.written sink.old) (K.written sink.new) (fault_line line why)) }
-    ensures stays { OnOk result (K.faults sink.new ≡ K.faults sink.old) }
-    ensures rises { OnErr result (K.faults sink.new ≡ one_more (K.faults sink.old)) }
+    ensures failed { OnErr result (Rose (K.faults sink.old) (K.faults sink.new)) }
     ensures counted { K.faults sink.old ≤ K.faults sink.new }
 {
     write_all(sink, fault_text(line, why).as_bytes())

@@ -1,6 +1,6 @@
 ghost use Rattle.std.specs.Prelude.{◌≡◌, ℕ, ◌+◌, ◌*◌, ◌%◌, ◌<◌, ◌≤◌, ◌-◌, true, false, length, take, OnOk, OnErr};
 ghost use Rattle.std.specs.Io.KnownBytes.{Appends};
-ghost use Rattle.usb_base.specs.Outside.{AppendsPrefix, one_more};
+ghost use Rattle.usb_base.specs.Outside.{AppendsPrefix, Rose};
 ghost use Rattle.word_mem.specs.Access.{IsByController};
 ghost use Rattle.in_core.specs.Controller.{new_control};
 ghost use Rattle.transfer_steps.specs.Told.{Runs, Waits};
@@ -137,8 +137,7 @@ impl Running {
         requires { IsHeld mem.now self.now.ring }
         ensures ok { OnOk result (Appends (K.written sink.old) (K.written sink.new) (pending_at (token_in mem.now self.now).active self.now.name)) }
         ensures err { OnErr result (AppendsPrefix (K.written sink.old) (K.written sink.new) (pending_at (token_in mem.now self.now).active self.now.name)) }
-        ensures stays { OnOk result (K.faults sink.new ≡ K.faults sink.old) }
-        ensures rises { OnErr result (K.faults sink.new ≡ one_more (K.faults sink.old)) }
+        ensures failed { OnErr result (Rose (K.faults sink.old) (K.faults sink.new)) }
         ensures counted { K.faults sink.old ≤ K.faults sink.new }
     {
         if self.token(mem).active {

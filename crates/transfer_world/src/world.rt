@@ -1,6 +1,6 @@
 ghost use Rattle.std.specs.Prelude.{◌≡◌, ℕ, ◌≤◌, ◌++◌, ◌+◌, ◌-◌, ◌*◌, drop, true, false, List, [], length, Option, Some, None, IfOk, OnOk, OnErr, map};
 ghost use Rattle.std.specs.Io.KnownBytes.{Appends};
-ghost use Rattle.usb_base.specs.Outside.{AppendsPrefix, one_more};
+ghost use Rattle.usb_base.specs.Outside.{AppendsPrefix, Rose};
 ghost use Rattle.transfer_text.specs.Grammar.{IsInForm};
 ghost use Rattle.transfer_text.specs.ReportText.{report_text};
 ghost use Rattle.std.specs.Option.{option_to_list};
@@ -111,8 +111,7 @@ impl World {
     fn print_line<K: Sink>(&self, sink: &mut K) -> Result<(), Failed>
         ensures ok { OnOk result (Appends (K.written sink.old) (K.written sink.new) (report_text (option_to_list self.now.report) self.now.store)) }
         ensures err { OnErr result (AppendsPrefix (K.written sink.old) (K.written sink.new) (report_text (option_to_list self.now.report) self.now.store)) }
-        ensures stays { OnOk result (K.faults sink.new ≡ K.faults sink.old) }
-        ensures rises { OnErr result (K.faults sink.new ≡ one_more (K.faults sink.old)) }
+        ensures failed { OnErr result (Rose (K.faults sink.old) (K.faults sink.new)) }
         ensures counted { K.faults sink.old ≤ K.faults sink.new }
     {
         match self.report {
@@ -124,8 +123,7 @@ impl World {
     fn print_rest<K: Sink>(&self, sink: &mut K) -> Result<(), Failed>
         ensures ok { OnOk result (Appends (K.written sink.old) (K.written sink.new) (pending_of self.now.memory self.now.transfer)) }
         ensures err { OnErr result (AppendsPrefix (K.written sink.old) (K.written sink.new) (pending_of self.now.memory self.now.transfer)) }
-        ensures stays { OnOk result (K.faults sink.new ≡ K.faults sink.old) }
-        ensures rises { OnErr result (K.faults sink.new ≡ one_more (K.faults sink.old)) }
+        ensures failed { OnErr result (Rose (K.faults sink.old) (K.faults sink.new)) }
         ensures counted { K.faults sink.old ≤ K.faults sink.new }
     {
         match &self.transfer {
@@ -138,8 +136,7 @@ impl World {
     pub fn print<K: Sink>(&self, sink: &mut K) -> Result<(), Failed>
         ensures ok { OnOk result (Appends (K.written sink.old) (K.written sink.new) (world_text self.now)) }
         ensures err { OnErr result (AppendsPrefix (K.written sink.old) (K.written sink.new) (world_text self.now)) }
-        ensures stays { OnOk result (K.faults sink.new ≡ K.faults sink.old) }
-        ensures rises { OnErr result (K.faults sink.new ≡ one_more (K.faults sink.old)) }
+        ensures failed { OnErr result (Rose (K.faults sink.old) (K.faults sink.new)) }
         ensures counted { K.faults sink.old ≤ K.faults sink.new }
     {
         match self.print_line(sink) {

@@ -1,4 +1,3 @@
 pub mod Outside
 pub mod Cost
 pub mod Memories
-pub mod Acknowledgement

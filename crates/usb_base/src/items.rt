@@ -66,7 +66,9 @@ impl Packet {
         ensures { result ≡ bytes.now }
     {
         let mut copy = ArrayVec::new();
-        let _fits = copy.try_extend_from_slice(bytes);
+        for byte in bytes {
+            copy.push(*byte);
+        }
         Packet { bytes: copy }
     }
 

@@ -1,14 +1,11 @@
 //! The vocabulary of the host, which every crate above names: addresses and packets (USB 2.0, chapters 5 and 8),
-//! endpoints, commands, the wire and what is acknowledged on it, prices (USB 2.0, 5.11.3 and 11.18), and the outside as
-//! sources and sinks of bytes.
+//! endpoints, the wire, prices (USB 2.0, 5.11.3), and the outside as sources and sinks of bytes.
 //!
-//! Others begin with `Ask`, `Reply` and `Wire` (`Ask::acknowledges`), price by `cost` and `tt_bytes`, and write by `write_all`
-//! to a `Sink`. The types of scripts stand beside it in `script_types`.
+//! Others begin with `Ask`, `Reply` and `Wire`, and price by `cost` and `tt_bytes`. The types of scripts stand beside it in `script_types`.
 #![tactic(auto)]
 
 mod commands;
 mod endpoints;
-mod handshake;
 mod items;
 mod mem_sink;
 mod mem_source;

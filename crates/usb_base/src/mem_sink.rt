@@ -1,8 +1,8 @@
-ghost use Rattle.std.specs.Prelude.{◌≡◌, ℕ, ◌≤◌, ◌<◌, ◌+◌, ◌-◌, ◌↔◌, ◌++◌, [], length, nat_le, ◌==◌, min, take, IfOk, OnOk, OnErr, IsErr, IsTrue, Some, vec_len, vec_capacity};
+ghost use Rattle.std.specs.Prelude.{◌≡◌, ℕ, ◌≤◌, ◌<◌, ◌+◌, ◌-◌, ◌↔◌, ◌++◌, [], length, nat_le, ◌==◌, min, take, IfOk, OnErr, IsErr, IsTrue, Some, vec_len, vec_capacity};
 ghost use Rattle.std.specs.List.{list_any};
 ghost use Rattle.std.specs.Io.{WritesAtMost};
 ghost use Rattle.std.specs.Io.KnownBytes.{WriteAppends};
-ghost use Rattle.usb_base.specs.Outside.{one_more};
+ghost use Rattle.usb_base.specs.Outside.{one_more, Rose};
 ghost use Rattle.usb_base.specs.Memories.{SinkContent, writes_fail};
 
 use crate::memory::Memory;
@@ -121,8 +121,7 @@ impl Sink for MemSink {
         ensures bound { WritesAtMost result piece.now }
         ensures some { IfOk result (λ n. 0 < length piece.now → 0 < n) }
         ensures bytes { WriteAppends (Some self.old.written) (Some self.new.written) result piece.now }
-        ensures stays { OnOk result (self.new.faults ≡ self.old.faults) }
-        ensures rises { OnErr result (self.new.faults ≡ one_more self.old.faults) }
+        ensures failed { OnErr result (Rose self.old.faults self.new.faults) }
         ensures counted { self.old.faults ≤ self.new.faults }
         ensures chosen { IsErr result ↔ IsTrue (writes_fail self.old) }
         ensures amount { IfOk result (λ n. n ≡ min (length piece.now) (self.old.room - length self.old.written)) }

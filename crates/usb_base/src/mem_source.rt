@@ -1,7 +1,7 @@
-ghost use Rattle.std.specs.Prelude.{◌≡◌, ℕ, ◌≤◌, ◌↔◌, ◌++◌, [], length, min, take, drop, IfOk, OnOk, OnErr, IsErr, IsTrue, Some};
+ghost use Rattle.std.specs.Prelude.{◌≡◌, ℕ, ◌≤◌, ◌↔◌, ◌++◌, [], length, min, take, drop, IfOk, OnErr, IsErr, IsTrue, Some};
 ghost use Rattle.std.specs.Io.{ReadsAtMost};
 ghost use Rattle.std.specs.Io.KnownBytes.{ReadConsumes};
-ghost use Rattle.usb_base.specs.Outside.{one_more};
+ghost use Rattle.usb_base.specs.Outside.{one_more, Rose};
 ghost use Rattle.usb_base.specs.Memories.{SourceContent, reads_fail};
 
 use crate::memory::Memory;
@@ -103,8 +103,7 @@ impl Source for MemSource {
     fn read(&mut self, into: &mut [u8]) -> Result<usize, Failed>
         ensures bound { ReadsAtMost result into.new }
         ensures bytes { ReadConsumes (Some self.old.left) (Some self.new.left) result into.new }
-        ensures stays { OnOk result (self.new.faults ≡ self.old.faults) }
-        ensures rises { OnErr result (self.new.faults ≡ one_more self.old.faults) }
+        ensures failed { OnErr result (Rose self.old.faults self.new.faults) }
         ensures counted { self.old.faults ≤ self.new.faults }
         ensures chosen { IsErr result ↔ IsTrue (reads_fail self.old) }
         ensures amount { IfOk result (λ n. n ≡ min (length into.old) (length self.old.left)) }

@@ -32,10 +32,11 @@ pub fn cost(speed: Speed, kind: EpKind, dir: Dir, bytes: u16) -> Ps
     })
 }
 
-/// The byte-times that a transaction with `bytes` bytes of data takes below a translator (USB 2.0, 11.18). The speed
-/// isn't high.
+/// The byte-times that a transaction with `bytes` bytes, at most 1,024, takes below a translator (USB 2.0, 11.18).
+/// The speed isn't high.
 pub fn tt_bytes(speed: Speed, kind: EpKind, bytes: u16) -> u32
-    requires { speed ≢ Speed.High }
+    requires classic { speed ≢ Speed.High }
+    requires size { bytes ≤ 1024 }
     ensures { result ≡ byte_times speed kind bytes }
 {
     match (speed, kind) {

@@ -6,10 +6,7 @@ use crate::packets::{Ask, Reply};
 
 /// The bus below a controller or a translator.
 ///
-/// A wire means two relations: what `begin` may answer and leave, and what `transact` may answer and leave. The asker's
-/// handshake is the wire's part: it sends ACK for the data of a plain IN exactly where `acknowledges` of
-/// specs/Acknowledgement.antt says so, which is `Ask::acknowledges` (USB 2.0, 8.5 and 8.6). No handshake follows data of
-/// an isochronous transaction or of a complete-split.
+/// A wire means two relations: what `begin` may answer and leave, and what `transact` may answer and leave.
 pub trait Wire {
     // The wire before, the frame index, whether the bus may be used, the wire after.
     ghost begins: { Self → ℕ → Bool → Self → Type 0 };

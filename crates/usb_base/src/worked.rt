@@ -1,11 +1,8 @@
 //! Worked values of the definitions, which the check computes.
-ghost use Rattle.std.specs.Prelude.{◌≡◌, ◌∷◌, [], Bool, true, false, ℕ, ◌+◌, ◌<◌, ◌≤◌, replicate};
+ghost use Rattle.std.specs.Prelude.{◌≡◌};
 ghost use Rattle.usb_base.specs.Cost.{bus_time, byte_times};
-ghost use Rattle.usb_base.specs.Outside.{one_more, Rose};
-ghost use Rattle.usb_base.specs.Acknowledgement.{acknowledges};
-ghost use Rattle.usb_base.specs.declared.packets.Ask.{Ask as Asked};
 
-use crate::packets::{Dir, EpKind, Part, Pid, Reply, Speed, Split};
+use crate::packets::{Dir, EpKind, Speed};
 
 /// Bus times in picoseconds.
 pub fn prices()
@@ -24,32 +21,7 @@ pub fn prices()
 /// Byte-times below a translator.
 pub fn byte_times_of_packets()
     ensures full_64 { byte_times Speed.Full EpKind.Interrupt 64 ≡ 77 }
-    ensures full_1025 { byte_times Speed.Full EpKind.Bulk 1025 ≡ 1038 }
     ensures full_8 { byte_times Speed.Full EpKind.Interrupt 8 ≡ 21 }
     ensures full_iso_931 { byte_times Speed.Full EpKind.Iso 931 ≡ 940 }
     ensures low_8 { byte_times Speed.Low EpKind.Interrupt 8 ≡ 168 }
-{}
-
-/// Which answers to an IN of device 3 are acknowledged, where DATA1 with at most two bytes is expected.
-pub fn acknowledged()
-    ensures fits { let ask : Asked = record { split = Split.Plain; pid = Pid.In; addr = 3; ep = 1; speed = Speed.High; kind = EpKind.Bulk; toggle = Pid.Data1; limit = 2 } in
-        (acknowledges ask (Reply.Bytes Pid.Data1 (7 ∷ 8 ∷ [])) ≡ true)
-        × (acknowledges ask (Reply.Bytes Pid.Data1 (7 ∷ 8 ∷ 9 ∷ [])) ≡ false)
-        × (acknowledges ask (Reply.Bytes Pid.Data1 []) ≡ true)
-        × (acknowledges ask (Reply.Bytes Pid.Data0 (7 ∷ 8 ∷ 9 ∷ [])) ≡ true)
-        × (acknowledges ask (Reply.Bytes Pid.Mdata (7 ∷ 8 ∷ 9 ∷ [])) ≡ true)
-        × (acknowledges ask (Reply.Hand Pid.Nak) ≡ false)
-        × (acknowledges ask Reply.Silent ≡ false)
-        × (acknowledges (record ask { kind = EpKind.Iso }) (Reply.Bytes Pid.Data1 (7 ∷ [])) ≡ false)
-        × (acknowledges (record ask { split = Split.Complete 9 1 }) (Reply.Bytes Pid.Data1 (7 ∷ [])) ≡ false)
-        × (acknowledges (record ask { split = Split.Start 9 1 Part.All }) (Reply.Bytes Pid.Data1 (7 ∷ [])) ≡ false)
-        × (acknowledges (record ask { pid = Pid.Out }) (Reply.Bytes Pid.Data1 (7 ∷ [])) ≡ false) }
-{}
-
-/// The count of faults after one more.
-#[tactic(auto, using(crate::proofs::Known::rose_by_one))]
-pub fn faults_counted()
-    ensures first { one_more 0 ≡ 1 }
-    ensures last { one_more 18446744073709551615 ≡ 18446744073709551615 }
-    ensures rose { (n : ℕ) → Rose n (one_more n) }
 {}

@@ -1,14 +1,13 @@
 -- How the states go on telling the runs as these are taken, lent, taken back and released.
-use Rattle.std.proofs.Common.{◌≡◌, ℕ, zero, suc, ◌+◌, ◌-◌, ◌/◌, ◌<◌, ◌≤◌, ◌⊎◌, true, false, cond, List, [], ◌∷◌, ◌++◌, Some, length, get_or, max, slice_get, replicate, arith, ap, sym, ◌∙◌, inl, inr, ⊎_elim, refl, zero-add, add_assoc}
+use Rattle.std.proofs.Common.{◌≡◌, ℕ, zero, suc, ◌+◌, ◌-◌, ◌/◌, ◌<◌, ◌≤◌, ◌⊎◌, true, false, cond, List, [], ◌∷◌, ◌++◌, Some, length, slice_get, replicate, arith, ap, sym, ◌∙◌, inl, inr, ⊎_elim, refl, zero-add, add_assoc}
 use Rattle.std.proofs.lemmas.Bool.{cases_lt, cases_Bool, false≢true}
 use Rattle.std.proofs.lemmas.Bool.Decides.{nat_tests}
 use Rattle.std.proofs.lemmas.List.{length-replicate, get_or-replicate}
 use Rattle.std.proofs.lemmas.Option.{slice_get-get_or, slice_get_within, same_Some}
-use Rattle.std.specs.Prelude.{All}
-use Rattle.word_mem.specs.Runs.{Run, HasBlock, AreApart}
-use Rattle.word_mem.specs.Memory.{Mem, state_at, AreAll, fresh, with_word, with_states, released, refused}
+use Rattle.word_mem.specs.Runs.{Run, HasBlock}
+use Rattle.word_mem.specs.Memory.{Mem, state_at, AreAll, fresh, with_states, released}
 use Rattle.word_mem.specs.Free.{IsTaken}
-use Rattle.word_mem.specs.Owners.{has_block, holders, state_by, IsHeldBy, AreDisjoint}
+use Rattle.word_mem.specs.Owners.{has_block, holders, state_by, IsHeldBy}
 use Rattle.word_mem.proofs.Filled.{length-filled}
 use Rattle.word_mem.proofs.FreeTail.{run_within}
 use Rattle.word_mem.proofs.Frames.{state_at-with_states_inside, state_at-with_states_before, state_at-with_states_after}
@@ -197,41 +196,3 @@ held_states m q kept lent same held =
       once = held.once;
       within = λ b past. held.within b (omega (arith, past, ap length same));
     }
-
--- two runs with no common block
-apart_by : (r q : Run) → 1 ≤ r.blocks → 1 ≤ q.blocks → ((b : ℕ) → has_block r b ≡ true → has_block q b ≡ true → ⊥) → AreApart r q
-apart_by r q some also none =
-    ⊎_elim (λ (reach : q.first < r.first + r.blocks).
-    ⊎_elim (λ (meet : r.first < q.first + q.blocks).
-    let b = max r.first q.first in
-    absurd (none b (has_block_from r b (omega arith) (omega arith)) (has_block_from q b (omega arith) (omega arith))))
-    (λ (high : q.first + q.blocks ≤ r.first). inr high) (cases_lt r.first (q.first + q.blocks)))
-    (λ (low : r.first + r.blocks ≤ q.first). inl low) (cases_lt q.first (r.first + r.blocks))
-
--- a run of the list counts at its blocks
-holders_at : (rs : List Run) (j : ℕ) (d : Run) (b : ℕ) → j < length rs → has_block (get_or rs j d) b ≡ true → 1 ≤ holders rs b
-holders_at [] j d b below has = absurd (omega arith)
-holders_at (r ∷ rs) zero d b below has = omega (arith, holders_has r rs b has)
-holders_at (r ∷ rs) (suc j) d b below has = omega (arith, holders_at rs j d b (omega arith) has)
-
-apart_at : (rs : List Run) → ((b : ℕ) → holders rs b ≤ 1) → All (λ r. 1 ≤ r.blocks) rs → (i j : ℕ) (d : Run) → i < j → j < length rs → AreApart (get_or rs i d) (get_or rs j d)
-apart_at [] once some i j d less below = absurd (omega arith)
-apart_at (r ∷ rs) once some i zero d less below = absurd (omega arith)
-apart_at (r ∷ rs) once some zero (suc j) d less below =
-    apart_by r (get_or rs j d) (some 0 d (omega arith)) (some (suc j) d below)
-    (λ b has also. absurd (omega (arith, once b, holders_has r rs b has, holders_at rs j d b (omega arith) also)))
-apart_at (r ∷ rs) once some (suc i) (suc j) d less below =
-    apart_at rs (λ b. omega (arith, once b)) (λ k e inside. some (suc k) e (omega arith)) i j d (omega arith) (omega arith)
-
--- runs in hand share no block
-pub held_disjoint : (m : Mem) (kept lent : List Run) → IsHeldBy m kept lent → All (λ r. 1 ≤ r.blocks) (kept ++ lent) → AreDisjoint (kept ++ lent)
-held_disjoint m kept lent held some =
-    λ i j d less below. apart_at (kept ++ lent) (λ b. omega (arith, held.once b, holders-append kept lent b)) some i j d less below
-
--- a write of a word
-pub held_word : (m : Mem) (at v : ℕ) (kept lent : List Run) → IsHeldBy m kept lent → IsHeldBy (with_word m at v) kept lent
-held_word m at v kept lent held = held_states m (with_word m at v) kept lent refl held
-
--- a refused read or write of the controller
-pub held_refused : (m : Mem) (kept lent : List Run) → IsHeldBy m kept lent → IsHeldBy (refused m) kept lent
-held_refused m kept lent held = held_states m (refused m) kept lent refl held

@@ -1,11 +1,9 @@
 -- Words in a row: what stands at an address after writes.
-use Rattle.std.proofs.Common.{◌≡◌, ℕ, zero, suc, ◌+◌, ◌-◌, ◌*◌, ◌/◌, ◌%◌, ◌<◌, ◌≤◌, ◌⊎◌, List, [], ◌∷◌, ◌++◌, length, take, drop, get_or, set, replicate, append_assoc, arith, ap, sym, subst, ◌∙◌, ⊎_elim, refl}
+use Rattle.std.proofs.Common.{◌≡◌, ℕ, zero, suc, ◌+◌, ◌*◌, ◌/◌, ◌%◌, ◌<◌, ◌≤◌, ◌⊎◌, List, [], ◌∷◌, ◌++◌, length, take, drop, get_or, set, replicate, append_assoc, arith, ap, sym, subst, ◌∙◌, ⊎_elim, refl}
 use Rattle.std.proofs.lemmas.Bool.{cases_lt, cases_eq}
 use Rattle.std.proofs.lemmas.List.{places, get_or-set_same, get_or-set_other, length-set, length-take-le, length-replicate, get_or-replicate, take_more, take_more_set}
 use Rattle.std.proofs.lemmas.List.Edits.{sets, sets-eq}
 use Rattle.std.proofs.lemmas.Grind.{same_number_lists, get_or-set_at}
-use Rattle.std.proofs.Math.Seq.{drop-drop}
-use borrow.Rule.Slice.PartMut.{put_mid}
 use Rattle.word_mem.specs.Memory.{Mem, filled, with_word}
 use Rattle.word_mem.specs.Views.{words_in, with_words_in, with_words}
 use Rattle.word_mem.proofs.Filled.{get_or-filled_inside, get_or-filled_before, get_or-filled_after}
@@ -149,21 +147,3 @@ words_in-filled_apart ws at n first count v aligned within apart =
     (λ k below.
     ⊎_elim (λ (low : at / 4 + n ≤ first). get_or-filled_before ws first count v ((at + 4 * k) / 4) 0 within (omega arith))
     (λ (high : first + count ≤ at / 4). get_or-filled_after ws first count v ((at + 4 * k) / 4) 0 within (omega arith)) apart)
-
--- words in a row are a part of the list
-pub copied_out : (ws : List ℕ) (first n m : ℕ) → m ≡ first + n → m ≤ length ws → take (m - first) (drop first ws) ≡ words_in ws (4 * first) n
-copied_out ws first n m end within =
-    let count : m - first ≡ n = omega arith in
-    words_in_is ws (4 * first) n (take (m - first) (drop first ws)) (grind (arith, places))
-    (λ k below.
-    let place : (4 * first + 4 * k) / 4 ≡ first + k = omega arith in
-    let part : get_or (take (m - first) (drop first ws)) k 0 ≡ get_or ws (first + k) 0 = grind (arith, places) in
-    part ∙ ap (λ i. get_or ws i 0) (sym place))
-
--- words written over a part of the list
-pub copied_in : (ws : List ℕ) (first k : ℕ) (new : List ℕ) → k ≡ length new → first + length new ≤ length ws → put_mid first k ws new ≡ with_words_in ws (4 * first) new
-copied_in ws first k new e within =
-    let place : 4 * first / 4 ≡ first = omega arith in
-    ap (λ (t : List ℕ). take first ws ++ (new ++ t)) (drop-drop k first ws ∙ ap (λ n. drop (first + n) ws) e)
-    ∙ ap (λ i. take i ws ++ (new ++ drop (i + length new) ws)) (sym place)
-    ∙ sym (with_words_in_is ws (4 * first) new (omega (arith, within, place)))

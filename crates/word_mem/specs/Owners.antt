@@ -3,9 +3,8 @@
 --     holders rs b             how many of the runs have block b
 --     state_by l k             the state of a block that l lent and k kept runs have: Free where none has it
 --     IsHeldBy m kept lent     each block has the state that these runs tell; no two of them share a block, and none goes past the last
---     AreDisjoint rs           no two of the runs share a block
-use Rattle.std.specs.Prelude.{◌≡◌, ℕ, zero, suc, ◌+◌, ◌<◌, ◌≤◌, Bool, ◌&&◌, nat_le, nat_lt, List, [], ◌∷◌, length, AllPairs, Some, if◌then◌else◌}
-use Rattle.word_mem.specs.Runs.{Run, AreApart}
+use Rattle.std.specs.Prelude.{◌≡◌, ℕ, zero, suc, ◌+◌, ◌<◌, ◌≤◌, Bool, ◌&&◌, nat_le, nat_lt, List, [], ◌∷◌, length, Some, if◌then◌else◌}
+use Rattle.word_mem.specs.Runs.{Run}
 use Rattle.word_mem.specs.Memory.{Mem, state_at}
 use Rattle.word_mem.specs.declared.blocks.BlockState.{BlockState}
 use Rattle.word_mem.specs.declared.blocks.BlockState.TheVariants.{Free, Kept, Lent}
@@ -26,6 +25,3 @@ pub record IsHeldBy (m : Mem) (kept lent : List Run) : Type 0 where
   pub each : (b : ℕ) → b < length m.states → state_at m b ≡ Some (state_by (holders lent b) (holders kept b))
   pub once : (b : ℕ) → holders kept b + holders lent b ≤ 1
   pub within : (b : ℕ) → length m.states ≤ b → holders kept b + holders lent b ≡ 0
-
-abbrev pub AreDisjoint : List Run → Type 0
-AreDisjoint rs = AllPairs AreApart rs

@@ -1,8 +1,7 @@
-ghost use Rattle.std.specs.Prelude.{◌≡◌, ℕ, ◌+◌, ◌*◌, ◌/◌, ◌%◌, ◌^◌, ◌<◌, ◌≤◌, List, length, slice_get, slice_index, Option, Some, None, true, IsTrue, IfOk, IfSome, if◌then◌else◌};
+ghost use Rattle.std.specs.Prelude.{◌≡◌, ℕ, ◌+◌, ◌*◌, ◌/◌, ◌%◌, ◌^◌, ◌<◌, ◌≤◌, List, length, slice_get, slice_index, Option, Some, None, IsTrue, IfOk, IfSome, if◌then◌else◌};
 
 use crate::blocks::{BlockRun, BlockState, LentRun};
-use crate::copies::{copy_in, copy_out, overwrite};
-use crate::scan::{longest_free_run, lowest_free_run};
+use crate::scan::{longest_free_run, lowest_free_run, overwrite};
 use std::alloc::Global;
 use std::marker::Model;
 use usb_base::Memory;
@@ -32,7 +31,6 @@ impl WordMem {
     ghost use Rattle.word_mem.specs.Runs.{IsInRun};
     ghost use Rattle.word_mem.specs.Memory.{IsShaped, AreAll, fresh, all_lent, word_at, state_at, reaches, with_word, with_states, released, refused};
     ghost use Rattle.word_mem.specs.Access.{IsByController};
-    ghost use Rattle.word_mem.specs.Views.{words_at, with_words};
     ghost use Rattle.word_mem.specs.Free.{IsTaken, IsLongest, with_taken, lowest_run, longest_run};
 
     /// Memory of `words` words, all of them 0, in Free blocks. `words` is a multiple of 1,024 from 1,024 to 262,144.
@@ -164,8 +162,7 @@ impl WordMem {
         requires kept { AreAll self.now BlockState.Kept run.now }
         ensures { result ≡ word_at self.now at }
     {
-        let kept = (at / 4) as usize;
-        self.words[kept]
+        self.words[(at / 4) as usize]
     }
 
     /// Writes `v` to the word at the byte address `at`, a multiple of 4 in the run, whose blocks are all Kept in this memory.
@@ -176,8 +173,7 @@ impl WordMem {
         ensures memory { self.new ≡ with_word self.old at v }
         ensures word { word_at self.new at ≡ v }
     {
-        let kept = &mut self.words[(at / 4) as usize];
-        *kept = v;
+        self.words[(at / 4) as usize] = v;
     }
 
     /// The word at the byte address `at`, a multiple of 4 in the run, whose blocks are all Lent in this memory.
@@ -187,8 +183,7 @@ impl WordMem {
         requires lent { AreAll self.now BlockState.Lent run.now }
         ensures { result ≡ word_at self.now at }
     {
-        let lent = (at / 4) as usize;
-        self.words[lent]
+        self.words[(at / 4) as usize]
     }
 
     /// Writes `v` to the word at the byte address `at`, a multiple of 4 in the run, whose blocks are all Lent in this memory.
@@ -199,8 +194,7 @@ impl WordMem {
         ensures memory { self.new ≡ with_word self.old at v }
         ensures word { word_at self.new at ≡ v }
     {
-        let lent = &mut self.words[(at / 4) as usize];
-        *lent = v;
+        self.words[(at / 4) as usize] = v;
     }
 
     /// The controller's read of the word at the byte address `at`, a multiple of 4. None: the word is in no Lent block, or past the last
@@ -213,9 +207,9 @@ impl WordMem {
         ensures same { IfSome result (λ _. self.new ≡ self.old) }
         ensures only_lent { IsByController self.old self.new }
     {
-        match self.lent_place(at) {
-            Some(place) => Some(self.words[place]),
-            None => {
+        match self.states.get((at / 32) as usize) {
+            Some(BlockState::Lent) => Some(self.words[(at / 4) as usize]),
+            _ => {
                 self.refuse();
                 None
             }
@@ -231,55 +225,12 @@ impl WordMem {
         ensures word { IsTrue result → word_at self.new at ≡ v }
         ensures only_lent { IsByController self.old self.new }
     {
-        match self.lent_place(at) {
-            Some(place) => {
-                self.words[place] = v;
+        match self.states.get((at / 32) as usize) {
+            Some(BlockState::Lent) => {
+                self.words[(at / 4) as usize] = v;
                 true
             }
-            None => {
-                self.refuse();
-                false
-            }
-        }
-    }
-
-    /// The controller's read of the words in a row from the byte address `at` on, a multiple of 4, into all of `into`; they lie in one
-    /// block. False: that block isn't Lent, or lies past the last; then one more refusal is counted, and nothing else changes.
-    pub fn hc_read_words(&mut self, at: u32, into: &mut [u32]) -> bool
-        requires aligned { at % 4 ≡ 0 }
-        requires one_block { at % 32 + 4 * length into.old ≤ 32 }
-        ensures read { result ≡ reaches self.old at }
-        ensures words { into.new ≡ (if reaches self.old at then words_at self.old at (length into.old) else into.old) }
-        ensures memory { self.new ≡ (if reaches self.old at then self.old else refused self.old) }
-        ensures only_lent { IsByController self.old self.new }
-    {
-        match self.lent_place(at) {
-            Some(first) => {
-                copy_out(&self.words, first, into);
-                true
-            }
-            None => {
-                self.refuse();
-                false
-            }
-        }
-    }
-
-    /// The controller's write of words in a row from the byte address `at` on, a multiple of 4; they lie in one block. False: that block
-    /// isn't Lent, or lies past the last; then one more refusal is counted, and nothing else changes.
-    pub fn hc_write_words(&mut self, at: u32, words: &[u32]) -> bool
-        requires aligned { at % 4 ≡ 0 }
-        requires one_block { at % 32 + 4 * length words.now ≤ 32 }
-        ensures written { result ≡ reaches self.old at }
-        ensures memory { self.new ≡ (if reaches self.old at then with_words self.old at words.now else refused self.old) }
-        ensures only_lent { IsByController self.old self.new }
-    {
-        match self.lent_place(at) {
-            Some(_) => {
-                self.put_words(at, words);
-                true
-            }
-            None => {
+            _ => {
                 self.refuse();
                 false
             }
@@ -300,27 +251,6 @@ impl WordMem {
         ensures all { AreAll self.new state (record { first = first; blocks = blocks }) }
     {
         overwrite(&mut self.states, first as usize, blocks as usize, state);
-    }
-
-    /// The place among the words of the one at the byte address `at`, where the controller may touch it; its block is whole.
-    fn lent_place(&self, at: u32) -> Option<usize>
-        ensures place { result ≡ (if reaches self.now at then Some (at / 4) else None) }
-        ensures within { IfSome result (λ place. place / 8 * 8 + 8 ≤ length self.now.words) }
-        ensures lent { IfSome result (λ _. reaches self.now at ≡ true) }
-    {
-        match self.states.get((at / 32) as usize) {
-            Some(BlockState::Lent) => Some((at / 4) as usize),
-            _ => None,
-        }
-    }
-
-    /// Writes words in a row from the byte address `at` on, a multiple of 4.
-    fn put_words(&mut self, at: u32, words: &[u32])
-        requires aligned { at % 4 ≡ 0 }
-        requires within { at / 4 + length words.now ≤ length self.old.words }
-        ensures { self.new ≡ with_words self.old at words.now }
-    {
-        copy_in(&mut self.words, (at / 4) as usize, words);
     }
 
     /// Counts a refusal.

@@ -1,4 +1,5 @@
 ghost use Rattle.std.specs.Prelude.{◌≡◌, ◌+◌, ◌<◌, ◌≤◌, length, MatchOption, IfSome};
+ghost use Rattle.word_mem.specs.Memory.{filled};
 ghost use Rattle.word_mem.specs.Free.{HasNoFreeRun, IsLowest, IsLongest, IsFreeTail};
 
 use crate::blocks::BlockState;
@@ -48,4 +49,14 @@ pub(crate) fn longest_free_run(states: &[BlockState]) -> usize
         }
     }
     best
+}
+
+/// Writes `x` into `n` places from `first` on.
+pub(crate) fn overwrite<T: Copy>(items: &mut [T], first: usize, n: usize, x: T)
+    requires { first + n ≤ length items.old }
+    ensures { items.new ≡ filled items.old first n x }
+{
+    for place in first..first + n {
+        items[place] = x;
+    }
 }

@@ -58,22 +58,3 @@ fn given_words_are_lent(rt: HostRuntime) -> Result<(), Fail> {
     assert_eq!(rt; mem.foreign(), 1);
     Ok(())
 }
-
-/// Words in a row of a Lent block are written and read whole, and of a Kept block not at all.
-#[test]
-fn rows_of_words(rt: HostRuntime) -> Result<(), Fail> {
-    let mut mem = WordMem::build(rt.alloc(), 1024)?;
-    let run = mem.take(1).ok_or("no run of 1")?;
-    let _lent = mem.lend(run);
-    assert!(rt; mem.hc_write_words(12, &[1, 2, 3, 4, 5]));
-    let mut row = [9; 3];
-    assert!(rt; mem.hc_read_words(8, &mut row));
-    assert_eq!(rt; row, [0, 1, 2]);
-    assert_eq!(rt; mem.word(28), 5);
-    assert!(rt; !mem.hc_write_words(32, &[7]));
-    assert!(rt; !mem.hc_read_words(32, &mut row));
-    assert_eq!(rt; row, [0, 1, 2]);
-    assert_eq!(rt; mem.word(32), 0);
-    assert_eq!(rt; mem.foreign(), 2);
-    Ok(())
-}

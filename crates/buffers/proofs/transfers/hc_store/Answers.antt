@@ -1,4 +1,4 @@
-use Rattle.std.proofs.Common.{ℕ, ◌+◌, arith, ap, sym, ◌∙◌, length-take, length-drop}
+use Rattle.std.proofs.Common.{ℕ, ◌+◌, arith, ap, sym, ◌∙◌, length, length-take, length-drop}
 use Rattle.word_mem.specs.Memory.{refused}
 use Rattle.word_mem.proofs.ByController.{by_nothing, by_both}
 use Rattle.buffers.proofs.Reach.{all_reached_if, all_reached_no, stored_short, stored_done, with_bytes_none, with_bytes_on, AreReached_more, AreReached_before, unreached_before}

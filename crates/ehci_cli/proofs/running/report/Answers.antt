@@ -3,7 +3,7 @@ use Rattle.transfer_text.specs.Grammar.{Spells}
 use Rattle.transfer_text.specs.declared.script.Script.{Script}
 use Rattle.transfer_world.specs.World.{Content, IsRun, world_text}
 use Rattle.transfer_world.proofs.Whole.{right_after_run}
-use Rattle.program_ends.specs.declared.status.Status.TheVariants as Statuses
+use Rattle.ehci_cli.specs.declared.status.Status.TheVariants as Statuses
 use Rattle.ehci_cli.specs.Output.{ReportsRun}
 use Rattle.ehci_cli.proofs.running.report.Goals as goal
 

@@ -64,7 +64,6 @@ loop-ending-init g c =
       );
       marks = in_list-first c.args.lists.now c.args.queues.now (c.args.place.frames + 1) seen c.requires.marks;
       counted = omega arith;
-      same = refl;
     }
 
 pub returns-in-Some-clause-ok : goal.returns-in-Some-clause-ok
@@ -164,5 +163,4 @@ loop-ending-preserved g c =
       marks = subst (λ (x : ℕ). InList (set c.loop-ending.lists (x / 32) (c.args.place.frames + 1)) c.put_structure.new.queues (c.args.place.frames + 1) seen)
           (sym c.address_of_link-at.ensures.address) marks;
       counted = omega (arith, c.loop-ending.invariant.counted, c.in_ok-put_structure.ensures.counted);
-      same = c.in_ok-put_structure.ensures.stays ∙ c.loop-ending.invariant.same;
     }

@@ -13,7 +13,6 @@ invariant-loop-ending g l = record {
   stage : (k : ℕ) × (Stage (chain l.image.words l.place.home (seen_before l.image l.place.frames)) l.fn.first l.number l.lists l.link k (g.K.Sink.written l.fn.sink) (g.K.Sink.written l.sink) l.fn.page l.page × (ltb 0 k ≡ l.begun));
   marks : InList l.lists l.queues l.number (seen_before l.image l.place.frames);
   counted : g.K.Sink.faults l.fn.sink ≤ g.K.Sink.faults l.sink;
-  same : g.K.Sink.faults l.sink ≡ g.K.Sink.faults l.fn.sink;
 }
 
 abbrev pub decreases-loop-ending : goal.decreases-loop-ending

@@ -1,4 +1,4 @@
-use Rattle.std.proofs.Common.{◌≡◌, ℕ, ◌+◌, subst, arith, refl, ◌∙◌}
+use Rattle.std.proofs.Common.{◌≡◌, ℕ, ◌+◌, subst, arith}
 use Rattle.image_codec.specs.Marks.{AreMarks}
 use Rattle.image_codec.specs.Shown.{frame_text, frames_text, seen_before}
 use Rattle.image_codec.proofs.FrameTexts.{frames-front, frames-more, frames-none}
@@ -10,7 +10,6 @@ loop-n-init g c = record {
   passed = passes_same _ _ _ _ _ _ (frames-none c.args.image.now) (passes_none _ c.args.page.now);
   marks = c.requires.marks;
   counted = omega arith;
-  same = refl;
 }
 
 pub returns-in_err-put_frame-clause-err : goal.returns-in_err-put_frame-clause-err
@@ -28,5 +27,4 @@ loop-n-preserved g c =
           c.in_ok-put_frame.ensures.ok (frames-more c.args.image.now c.loop-n.n);
       marks = subst (λ (k : ℕ). AreMarks c.put_frame.new.lists c.put_frame.new.queues k (seen_before c.args.image.now (c.loop-n.n + 1))) two c.in_ok-put_frame.ensures.marked;
       counted = omega (arith, c.loop-n.invariant.counted, c.in_ok-put_frame.ensures.counted);
-      same = c.in_ok-put_frame.ensures.stays ∙ c.loop-n.invariant.same;
     }

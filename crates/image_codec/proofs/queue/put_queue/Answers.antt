@@ -22,7 +22,6 @@ loop-ending-init g c = record {
   aligned = c.requires.aligned;
   stage = (0, stage-none (queue c.args.words.now) c.args.first c.args.head c.args.marks.now _ _ c.requires.fresh c.requires.whole);
   counted = omega arith;
-  same = refl;
   marks = λ u. inr refl;
 }
 
@@ -83,6 +82,5 @@ loop-ending-preserved g c =
             _ _ _ _ c.address_of-at.ensures.address c.read_qtd-link.ensures.meaning c.read_word.ensures more,
       );
       counted = omega (arith, c.loop-ending.invariant.counted, c.in_ok-put_descriptor.ensures.counted);
-      same = c.in_ok-put_descriptor.ensures.stays ∙ c.loop-ending.invariant.same;
       marks = either_mark c.loop-ending.marks c.args.marks.now (c.address_of-at.result / 32) c.args.head within c.loop-ending.invariant.marks;
     }

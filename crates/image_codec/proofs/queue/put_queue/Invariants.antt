@@ -11,7 +11,6 @@ invariant-loop-ending g l = record {
   aligned : IsQtdAligned l.link;
   stage : (k : ℕ) × Stage (queue l.words) l.fn.first l.head l.marks l.link k (g.K.Sink.written l.fn.sink) (g.K.Sink.written l.sink) l.fn.page l.page;
   counted : g.K.Sink.faults l.fn.sink ≤ g.K.Sink.faults l.sink;
-  same : g.K.Sink.faults l.sink ≡ g.K.Sink.faults l.fn.sink;
   marks : (u : ℕ) → (slice_index l.marks u ≡ l.head) ⊎ (slice_index l.marks u ≡ slice_index l.fn.marks u);
 }
 

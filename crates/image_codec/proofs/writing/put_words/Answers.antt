@@ -20,5 +20,4 @@ loop-word-preserved g c =
     record {
       passed = passes_all _ _ _ _ _ _ front c.bytes_of.result _ c.loop-word.invariant.passed c.in_ok-put.ensures.ok more;
       counted = omega arith;
-      same = c.in_ok-put.ensures.stays ∙ c.loop-word.invariant.same;
     }

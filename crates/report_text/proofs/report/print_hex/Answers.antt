@@ -1,4 +1,4 @@
-use Rattle.std.proofs.Common.{arith, take, ap, ◌∙◌, refl}
+use Rattle.std.proofs.Common.{arith, take, ap, ◌∙◌}
 use Rattle.std.proofs.lemmas.Grind.{common_steps}
 use Rattle.std.proofs.lemmas.Result.{err_from_is_err_and}
 use Rattle.hex.specs.Hex.{encode_lower}
@@ -10,7 +10,6 @@ loop-at-init g c = record {
   bound = omega arith;
   appended = no_digits _;
   counted = omega arith;
-  same = refl;
 }
 
 pub returns-in_err-write_all-clause-err : goal.returns-in_err-write_all-clause-err
@@ -23,5 +22,4 @@ loop-at-preserved g c = record {
   appended = digits_more _ _ _ c.loop-at.at c.min-n.result c.args.bytes.now _ c.loop-at.invariant.appended
       (c.encode.ensures ∙ ap encode_lower (c.split_at-in-loop-at.ensures.front ∙ ap (take c.min-n.result) c.split_at.ensures.back)) c.in_ok-write_all.ensures.ok;
   counted = grind (arith, common_steps);
-  same = c.in_ok-write_all.ensures.stays ∙ c.loop-at.invariant.same;
 }

@@ -1,5 +1,0 @@
-pub mod Walk
-pub mod Naks
-pub mod Rows
-pub mod Causes
-pub mod Samples

@@ -1,3 +1,0 @@
-mod HubWork
-mod Effects
-mod Acks

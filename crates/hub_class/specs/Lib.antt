@@ -1,5 +1,0 @@
-pub mod HubContent
-pub mod Requesting
-pub mod EndpointZero
-pub mod Translating
-pub mod Worked

@@ -1,3 +1,0 @@
-pub mod Input
-pub mod Codes
-pub mod Ends

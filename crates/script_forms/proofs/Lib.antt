@@ -1,3 +1,0 @@
-pub mod Decimals
-pub mod Pairs
-pub mod Ends

@@ -1,4 +1,0 @@
-pub mod Table
-pub mod Syntax
-pub mod Fitting
-pub mod Values

@@ -1,5 +1,0 @@
-pub mod Answers
-pub mod Contents
-pub mod Rows
-pub mod Work
-pub mod Worked

@@ -1,4 +1,0 @@
-pub mod WhoHeard
-pub mod Fates
-pub mod Seats
-pub mod Bus

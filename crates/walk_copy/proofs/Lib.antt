@@ -1,3 +1,0 @@
-pub mod Ranges
-pub mod Errors
-pub mod Loading
