@@ -25,6 +25,7 @@ const ADVANCE: u32 = 0x20;
 impl Driver {
     /// Makes one event of the driver, and tells its kind: the next event of the unfinished command; else one of the leaving work or one
     /// harvest, by turns; `Rest` where there is neither.
+    #[tactic(auto, using(std::proofs::lemmas::Grind::common_steps, crate::proofs::Kept::row_room))]
     pub fn step(&mut self, regs: &mut Registers, mem: &mut WordMem) -> DriverStep
         requires { Stands (holding self.old.book mem.old) }
         ensures kind { result ≡ step_of (row_of (record { driver = self.old; registers = regs.old; memory = mem.old })) }
@@ -32,6 +33,7 @@ impl Driver {
         ensures registers { regs.new ≡ (after_row (row_of (record { driver = self.old; registers = regs.old; memory = mem.old })) (record { driver = self.old; registers = regs.old; memory = mem.old })).registers }
         ensures memory { mem.new ≡ (after_row (row_of (record { driver = self.old; registers = regs.old; memory = mem.old })) (record { driver = self.old; registers = regs.old; memory = mem.old })).memory }
         ensures stands { Stands (holding self.new.book mem.new) }
+        ensures room { self.new.room ≡ self.old.room }
     {
         let row = self.row(regs, mem);
         self.make(regs, mem, row);
