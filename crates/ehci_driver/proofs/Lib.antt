@@ -6,3 +6,4 @@ pub mod Lines
 pub mod Kept
 pub mod Behind
 pub mod Gone
+pub mod Written

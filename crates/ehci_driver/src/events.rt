@@ -4,6 +4,7 @@ ghost use Rattle.run_book.specs.Book.{holding, Stands, lend_taken, store};
 ghost use Rattle.op_registers.specs.Table.{after_write};
 ghost use Rattle.driver_rows.specs.Rows.{Parts, row_of, after_row, step_of, advance, after_lend, after_transfer, freed_by, after_endpoint, doorbell_command, bell_after, after_harvest, served, free_qtd, free_runs, free_qtds, finished, no_command, leave_ring, events_of};
 ghost use Rattle.driver_rows.specs.Harvests.{note_at};
+ghost use Rattle.ehci_driver.specs.Written.{OnlyStores};
 
 use crate::driver::Driver;
 use driver_rows::{Bell, Command, DriverStep, Endpoint, Found, Mend, Row, Transfer, Turn};
@@ -34,7 +35,9 @@ impl Driver {
         ensures memory { mem.new ≡ (after_row (row_of (record { driver = self.old; registers = regs.old; memory = mem.old })) (record { driver = self.old; registers = regs.old; memory = mem.old })).memory }
         ensures stands { Stands (holding self.new.book mem.new) }
         ensures room { self.new.room ≡ self.old.room }
+        ensures words { OnlyStores (row_of (record { driver = self.old; registers = regs.old; memory = mem.old })) mem.old mem.new }
     {
+        let _words = mem.words();
         let row = self.row(regs, mem);
         self.make(regs, mem, row);
         row.step()
