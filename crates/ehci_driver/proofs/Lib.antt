@@ -7,3 +7,5 @@ pub mod Kept
 pub mod Behind
 pub mod Gone
 pub mod Written
+pub mod Entered
+pub mod Offered

@@ -10,9 +10,12 @@ mod cancels;
 mod driver;
 mod events;
 mod harvests;
+mod offers;
+mod opening;
 mod releases;
 mod row;
 mod told;
+mod transfers;
 
 pub use driver::Driver;
 pub use driver_rows::{DriverStep, Reserve};
