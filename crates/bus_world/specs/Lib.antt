@@ -1,0 +1,5 @@
+pub mod World
+pub mod Orders
+pub mod Rooms
+pub mod Opening
+pub mod Closing

@@ -1,0 +1,117 @@
+ghost use Rattle.std.specs.Prelude.{◌≡◌, IfOk, IfSome, List};
+ghost use Rattle.driver_rows.specs.Words.{request_length};
+ghost use Rattle.script_fits.specs.Fits.{IsFit};
+ghost use Rattle.bus_world.specs.Rooms.{needs, needs_line, transfer_room, with_room, reserve_of, no_room};
+ghost use Rattle.bus_world.specs.Opening.{opening_standing};
+
+use crate::world::World;
+use ehci_driver::{Driver, Reserve};
+use hc_core::Controller;
+use op_registers::Registers;
+use script_types::{Line, Script};
+use std::alloc::Global;
+use usb_base::{Cmd, Memory};
+use usb_bus::UsbBus;
+use word_mem::WordMem;
+
+/// The longest transfer that the driver takes, in bytes.
+const LONGEST: u32 = 20_480;
+
+/// The bytes of the report that a transfer of this length can use: none where the driver refuses it.
+fn told_bytes(length: usize) -> u32 {
+    if length <= LONGEST as usize {
+        length as u32
+    } else {
+        0
+    }
+}
+
+/// The bytes of the data stage of a request.
+fn data_length(setup: &[u8; 8]) -> usize {
+    setup[6] as usize + 256 * setup[7] as usize
+}
+
+/// The room for one transfer of this length.
+fn room_of_transfer(length: usize) -> Reserve {
+    Reserve {
+        endpoints: 0,
+        transfers: 1,
+        reports: 1,
+        report_bytes: told_bytes(length),
+    }
+}
+
+/// The room that a command uses, accepted or refused.
+fn room_of(cmd: &Cmd) -> Reserve {
+    match cmd {
+        Cmd::OpenEp(_) => Reserve {
+            endpoints: 1,
+            transfers: 0,
+            reports: 1,
+            report_bytes: 0,
+        },
+        Cmd::Get { len, .. } => room_of_transfer(*len as usize),
+        Cmd::Put { bytes, .. } => room_of_transfer(bytes.as_slice().len()),
+        Cmd::Control { setup, .. } => room_of_transfer(data_length(setup)),
+        Cmd::Iso { count, .. } => Reserve {
+            endpoints: 0,
+            transfers: *count as u32,
+            reports: *count as u32,
+            report_bytes: 0,
+        },
+        Cmd::Cancel(_) => Reserve {
+            endpoints: 0,
+            transfers: 0,
+            reports: 1,
+            report_bytes: 0,
+        },
+    }
+}
+
+/// Both rooms together; None where a number of it passes 32 bits.
+fn joined(a: &Reserve, b: &Reserve) -> Option<Reserve> {
+    Some(Reserve {
+        endpoints: a.endpoints.checked_add(b.endpoints)?,
+        transfers: a.transfers.checked_add(b.transfers)?,
+        reports: a.reports.checked_add(b.reports)?,
+        report_bytes: a.report_bytes.checked_add(b.report_bytes)?,
+    })
+}
+
+/// The room for all commands of a script.
+fn reserve_of(lines: &[(u32, Line)]) -> Option<Reserve> {
+    let mut all = Reserve {
+        endpoints: 0,
+        transfers: 0,
+        reports: 0,
+        report_bytes: 0,
+    };
+    for entry in lines {
+        if let Line::Command(cmd) = &entry.1 {
+            all = joined(&all, &room_of(cmd))?;
+        }
+    }
+    Some(all)
+}
+
+impl World {
+    /// The world of a script at the end of microframe 0: the driver was built with room for every command line, and nothing was offered
+    /// or stepped.
+    ///
+    /// # Errors
+    ///
+    /// `Memory` where a part of it finds no room.
+    pub fn build(alloc: Global, script: &Script) -> Result<World, Memory>
+        requires { IsFit script.now }
+        ensures { IfOk result (λ w. w ≡ opening_standing script.now) }
+    {
+        let Some(reserve) = reserve_of(script.lines.as_slice()) else {
+            return Err(Memory);
+        };
+        let bus = UsbBus::build(alloc, script)?;
+        let mut mem = WordMem::build(alloc, script.words)?;
+        let mut registers = Registers::reset();
+        let driver = Driver::build(alloc, &reserve, &mut registers, &mut mem)?;
+        Ok(World::of_parts(registers, mem, Controller::new(), driver, bus))
+    }
+}

@@ -1,0 +1,7 @@
+//! Scratch: the driver's public contracts, over a driver of which there is none.
+#![tactic(auto)]
+
+mod driver;
+
+pub use driver::Driver;
+pub use driver_rows::{DriverStep, Reserve};
