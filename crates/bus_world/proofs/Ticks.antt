@@ -92,3 +92,48 @@ one_event fixed p w event n m rest e h =
     joined fixed p (at_place w (Events event (suc m) ∷ rest)) (at_place (next fixed w event) (Events event m ∷ rest))
       (subst (λ k. Leads fixed p (at_place w (Events event k ∷ rest))) e h)
       (one_tick fixed (at_place w (Events event (suc m) ∷ rest)))
+
+-- ---- several of one kind
+
+-- of `count` events or microframes of this order so many are left
+abbrev pub GoneOn : Standing → Standing → (ℕ → Left) → ℕ → ℕ → Type 0
+GoneOn begun now kind count left = (rest : List Left) → Leads begun.fixed (at_place begun.world (kind count ∷ rest)) (at_place now.world (kind left ∷ rest))
+
+pub gone_begins : (begun : Standing) (kind : ℕ → Left) (count left : ℕ) → left ≡ count → GoneOn begun begun kind count left
+gone_begins begun kind count left e rest =
+    subst (λ n. Leads begun.fixed (at_place begun.world (kind count ∷ rest)) (at_place begun.world (kind n ∷ rest))) (sym e)
+      (nothing begun.fixed (at_place begun.world (kind count ∷ rest)))
+
+pub event_more : (begun now later : Standing) (event : Event) (count left fewer_left : ℕ) → left ≡ suc fewer_left → later ≡ record now { world = next now.fixed now.world event } → now.fixed ≡ begun.fixed → GoneOn begun now (Events event) count left → GoneOn begun later (Events event) count fewer_left
+event_more begun now later event count left fewer_left e world fixed gone rest =
+    let is : later.world ≡ next begun.fixed now.world event = ap (λ (s : Standing). s.world) world ∙ ap (λ (f : Fixed). next f now.world event) fixed in
+    subst (λ w. Leads begun.fixed (at_place begun.world (Events event count ∷ rest)) (at_place w (Events event fewer_left ∷ rest))) (sym is)
+      (one_event begun.fixed (at_place begun.world (Events event count ∷ rest)) now.world event left fewer_left rest e (gone rest))
+
+pub events_done : (begun now : Standing) (event : Event) (count left : ℕ) → left ≡ 0 → GoneOn begun now (Events event) count left → (rest : List Left) → Leads begun.fixed (at_place begun.world (Events event count ∷ rest)) (at_place now.world rest)
+events_done begun now event count left z gone rest = events_end begun.fixed (at_place begun.world (Events event count ∷ rest)) now.world event left rest z (gone rest)
+
+-- what one microframe that ended leads to
+abbrev pub Ended : Standing → Standing → Type 0
+Ended now later = (n : ℕ) (rest : List Left) → Leads now.fixed (at_place now.world (Microframes (suc n) ∷ rest)) (at_place later.world (Microframes n ∷ rest))
+
+abbrev pub Unended : Standing → Standing → Type 0
+Unended now later = (n : ℕ) (rest : List Left) → IsUnended now.fixed (at_place now.world (Microframes (suc n) ∷ rest)) (at_place later.world (Microframes (suc n) ∷ rest))
+
+pub microframe_more : (begun now later : Standing) (count left fewer_left : ℕ) → left ≡ suc fewer_left → now.fixed ≡ begun.fixed → Ended now later → GoneOn begun now Microframes count left → GoneOn begun later Microframes count fewer_left
+microframe_more begun now later count left fewer_left e fixed ended gone rest =
+    joined begun.fixed (at_place begun.world (Microframes count ∷ rest)) (at_place now.world (Microframes left ∷ rest)) (at_place later.world (Microframes fewer_left ∷ rest)) (gone rest)
+      (subst (λ n. Leads begun.fixed (at_place now.world (Microframes n ∷ rest)) (at_place later.world (Microframes fewer_left ∷ rest))) (sym e)
+        (subst (λ (f : Fixed). Leads f (at_place now.world (Microframes (suc fewer_left) ∷ rest)) (at_place later.world (Microframes fewer_left ∷ rest))) fixed (ended fewer_left rest)))
+
+pub microframes_done : (begun now : Standing) (count left : ℕ) → left ≡ 0 → GoneOn begun now Microframes count left → (rest : List Left) → Leads begun.fixed (at_place begun.world (Microframes count ∷ rest)) (at_place now.world rest)
+microframes_done begun now count left z gone rest = orders_end begun.fixed (at_place begun.world (Microframes count ∷ rest)) now.world left rest z (gone rest)
+
+pub microframes_overlong : (begun now later : Standing) (count left fewer_left : ℕ) → left ≡ suc fewer_left → now.fixed ≡ begun.fixed → Unended now later → GoneOn begun now Microframes count left → (rest : List Left) → IsOverlong begun.fixed (at_place begun.world (Microframes count ∷ rest)) later.world
+microframes_overlong begun now later count left fewer_left e fixed unended gone rest = record {
+  begun = now.world;
+  n = fewer_left;
+  rest = rest;
+  leads = subst (λ n. Leads begun.fixed (at_place begun.world (Microframes count ∷ rest)) (at_place now.world (Microframes n ∷ rest))) e (gone rest);
+  unended = subst (λ (f : Fixed). IsUnended f (at_place now.world (Microframes (suc fewer_left) ∷ rest)) (at_place later.world (Microframes (suc fewer_left) ∷ rest))) fixed (unended fewer_left rest);
+}

@@ -1,4 +1,5 @@
 pub mod World
+pub mod Sound
 pub mod Orders
 pub mod Rooms
 pub mod Opening

@@ -32,8 +32,6 @@ use Rattle.hc_core.specs.Controller.{Control, Content, content, row_of, kind_of,
 use Rattle.driver_rows.specs.DriverContent.{DriverContent}
 use Rattle.driver_rows.specs.Rows.{Parts, row_of as driver_row, after_row as after_driver}
 use Rattle.driver_rows.specs.Offers.{Offered, offered}
-use Rattle.run_book.specs.Book.{holding, Stands}
-use Rattle.report_text.specs.ReportText.{AreStored}
 use Rattle.usb_bus.specs.Bus.{Bus, Fixed, Wired, begin_after, is_allowed, reply_of, transact_after}
 
 pub record World : Type 0 where
@@ -47,11 +45,6 @@ pub record World : Type 0 where
 pub record Standing : Type 0 where
   pub fixed : Fixed
   pub world : World
-
--- the driver's runs stand in memory, and the bytes of each line of the report among those of all lines
-pub record IsSound (d : DriverContent) (m : Mem) : Type 0 where
-  pub stands : Stands (holding d.book m)
-  pub stored : AreStored d.reports (length d.store)
 
 -- ---- an event of the driver
 

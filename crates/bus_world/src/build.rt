@@ -1,4 +1,4 @@
-ghost use Rattle.std.specs.Prelude.{◌≡◌, IfOk, IfSome, List};
+ghost use Rattle.std.specs.Prelude.{◌≡◌, nat_le, IfOk, IfSome};
 ghost use Rattle.driver_rows.specs.Words.{request_length};
 ghost use Rattle.script_fits.specs.Fits.{IsFit};
 ghost use Rattle.bus_world.specs.Rooms.{needs, needs_line, transfer_room, with_room, reserve_of, no_room};
@@ -17,8 +17,18 @@ use word_mem::WordMem;
 /// The longest transfer that the driver takes, in bytes.
 const LONGEST: u32 = 20_480;
 
+/// No room.
+const NO_ROOM: Reserve = Reserve {
+    endpoints: 0,
+    transfers: 0,
+    reports: 0,
+    report_bytes: 0,
+};
+
 /// The bytes of the report that a transfer of this length can use: none where the driver refuses it.
-fn told_bytes(length: usize) -> u32 {
+fn told_bytes(length: usize) -> u32
+    ensures { result ≡ (if nat_le length 20480 then length else 0) }
+{
     if length <= LONGEST as usize {
         length as u32
     } else {
@@ -27,12 +37,16 @@ fn told_bytes(length: usize) -> u32 {
 }
 
 /// The bytes of the data stage of a request.
-fn data_length(setup: &[u8; 8]) -> usize {
+fn data_length(setup: &[u8; 8]) -> usize
+    ensures { result ≡ request_length setup.now }
+{
     setup[6] as usize + 256 * setup[7] as usize
 }
 
 /// The room for one transfer of this length.
-fn room_of_transfer(length: usize) -> Reserve {
+fn room_of_transfer(length: usize) -> Reserve
+    ensures { result ≡ transfer_room length }
+{
     Reserve {
         endpoints: 0,
         transfers: 1,
@@ -42,7 +56,9 @@ fn room_of_transfer(length: usize) -> Reserve {
 }
 
 /// The room that a command uses, accepted or refused.
-fn room_of(cmd: &Cmd) -> Reserve {
+fn room_of(cmd: &Cmd) -> Reserve
+    ensures { result ≡ needs cmd.now }
+{
     match cmd {
         Cmd::OpenEp(_) => Reserve {
             endpoints: 1,
@@ -68,8 +84,20 @@ fn room_of(cmd: &Cmd) -> Reserve {
     }
 }
 
+/// The room that a line uses: none but a command's.
+fn room_of_line(line: &Line) -> Reserve
+    ensures { result ≡ needs_line line.now }
+{
+    match line {
+        Line::Command(cmd) => room_of(cmd),
+        Line::Order(_, _) | Line::Micro(_) => NO_ROOM,
+    }
+}
+
 /// Both rooms together; None where a number of it passes 32 bits.
-fn joined(a: &Reserve, b: &Reserve) -> Option<Reserve> {
+fn joined(a: &Reserve, b: &Reserve) -> Option<Reserve>
+    ensures { IfSome result (λ r. r ≡ with_room a.now b.now) }
+{
     Some(Reserve {
         endpoints: a.endpoints.checked_add(b.endpoints)?,
         transfers: a.transfers.checked_add(b.transfers)?,
@@ -79,17 +107,12 @@ fn joined(a: &Reserve, b: &Reserve) -> Option<Reserve> {
 }
 
 /// The room for all commands of a script.
-fn reserve_of(lines: &[(u32, Line)]) -> Option<Reserve> {
-    let mut all = Reserve {
-        endpoints: 0,
-        transfers: 0,
-        reports: 0,
-        report_bytes: 0,
-    };
+fn reserve_of(lines: &[(u32, Line)]) -> Option<Reserve>
+    ensures { IfSome result (λ r. r ≡ reserve_of lines.now) }
+{
+    let mut all = NO_ROOM;
     for entry in lines {
-        if let Line::Command(cmd) = &entry.1 {
-            all = joined(&all, &room_of(cmd))?;
-        }
+        all = joined(&all, &room_of_line(&entry.1))?;
     }
     Some(all)
 }

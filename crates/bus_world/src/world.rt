@@ -1,7 +1,8 @@
 ghost use Rattle.std.specs.Prelude.{◌≡◌, ◌≤◌, ◌==◌, ◌+◌, find};
 ghost use Rattle.std.specs.Option.{option_copied};
 ghost use Rattle.driver_rows.specs.Offers.{IsOffered};
-ghost use Rattle.bus_world.specs.World.{IsSound, driver_next, controller_next, next, kind_next, name_in, commanded};
+ghost use Rattle.bus_world.specs.Sound.{IsSound};
+ghost use Rattle.bus_world.specs.World.{driver_next, controller_next, next, kind_next, name_in, commanded};
 
 use ehci_driver::Driver;
 use endpoint_script::Device;
@@ -25,7 +26,8 @@ pub struct World {
 }
 
 impl Model for World {
-    ghost use Rattle.bus_world.specs.World.{Standing, IsSound};
+    ghost use Rattle.bus_world.specs.World.{Standing};
+    ghost use Rattle.bus_world.specs.Sound.{IsSound};
 
     ghost Value = { Standing };
 
@@ -34,7 +36,7 @@ impl Model for World {
       world = record { registers = w.registers; memory = w.mem; control = w.controller; driver = w.driver; bus = w.bus.bus };
     } };
 
-    ghost invariant = { λ w. IsSound w.driver w.mem };
+    ghost invariant = { λ w. IsSound w.driver w.mem w.bus.bus };
 }
 
 /// The endpoint that a command is for.
@@ -60,7 +62,7 @@ impl World {
         driver: Driver,
         bus: UsbBus,
     ) -> World
-        requires { IsSound driver mem }
+        requires { IsSound driver mem bus.bus }
         ensures { result ≡ record { fixed = bus.fixed; world = record { registers = registers; memory = mem; control = controller; driver = driver; bus = bus.bus } } }
     {
         World {
