@@ -9,7 +9,7 @@ use Rattle.usb_base.specs.declared.reports.What.TheVariants as lines
 use Rattle.usb_base.specs.declared.reports.Report.{Report}
 use Rattle.report_text.specs.ReportText.{AreStored}
 use Rattle.word_mem.specs.Memory.{Mem}
-use Rattle.run_book.specs.Book.{Book, Holding}
+use Rattle.run_book.specs.Book.{Book, Holding, holding, lend_taken}
 use Rattle.driver_rows.specs.declared.content.Endpoint.{Endpoint}
 use Rattle.driver_rows.specs.declared.content.Transfer.{Transfer}
 use Rattle.driver_rows.specs.declared.content.QtdNote.{QtdNote}
@@ -21,7 +21,7 @@ use Rattle.driver_rows.specs.declared.rows.Found.{Found}
 use Rattle.driver_rows.specs.declared.rows.Found.TheVariants as founds
 use Rattle.driver_rows.specs.DriverContent.{DriverContent, waits_for}
 use Rattle.driver_rows.specs.Harvests.{reported, noted, end_of, is_stall}
-use Rattle.driver_rows.specs.Rows.{Parts, after_row, advance, advanced_by, finished, no_command, leave_ring, events_of, after_lend, after_transfer, after_endpoint, cancel_told, is_told, gone_with, after_harvest, harvested_as, after_end, told_with, stalled, goes_on, behind, behind_one, mends_of, served, moved_on}
+use Rattle.driver_rows.specs.Rows.{Parts, after_row, advance, advanced_by, finished, no_command, leave_ring, events_of, after_lend, after_transfer, freed_by, after_endpoint, cancel_told, is_told, gone_with, after_harvest, harvested_as, after_end, told_with, stalled, goes_on, behind, behind_one, mends_of, served, moved_on}
 
 -- the reserve stays, and lines keep their bytes
 pub record Keeps (d e : DriverContent) : Type 0 where
@@ -44,9 +44,9 @@ stored_more : (rs : List Report) (n m : ℕ) → n ≤ m → AreStored rs n → 
 stored_more [] n m le h = tt
 stored_more (r ∷ rs) n m le h = (let e : r.from + r.len ≤ n = h.0 in omega (arith, e, le), stored_more rs n m le h.1)
 
-stored_append : (rs : List Report) (r : Report) (n : ℕ) → AreStored rs n → r.from + r.len ≤ n → AreStored (rs ++ r ∷ []) n
-stored_append [] r n h k = (k, tt)
-stored_append (x ∷ rs) r n h k = (h.0, stored_append rs r n h.1 k)
+pub line_stored : (rs : List Report) (r : Report) (n : ℕ) → AreStored rs n → r.from + r.len ≤ n → AreStored (rs ++ r ∷ []) n
+line_stored [] r n h k = (k, tt)
+line_stored (x ∷ rs) r n h k = (h.0, line_stored rs r n h.1 k)
 
 pub reported_keeps : (d : DriverContent) (what : What) (name : EpName) (bytes : List ℕ) → Keeps d (reported d what name bytes)
 reported_keeps d what name bytes =
@@ -54,7 +54,7 @@ reported_keeps d what name bytes =
     record {
       room = refl;
       stored = λ h.
-        stored_append d.reports _ (length (d.store ++ bytes)) (stored_more d.reports (length d.store) (length (d.store ++ bytes)) (omega (arith, long)) h) (omega (arith, long));
+        line_stored d.reports _ (length (d.store ++ bytes)) (stored_more d.reports (length d.store) (length (d.store ++ bytes)) (omega (arith, long)) h) (omega (arith, long));
     }
 
 -- ---- commands
@@ -147,13 +147,16 @@ harvest_keeps d m e t found (Some x) None = keeps_all d
 -- ---- any event
 
 pub row_keeps : (row : Row) (p : Parts) → Keeps p.driver (after_row row p).driver
-row_keeps rows.Lend p = keeps_join p.driver _ _ (record { room = refl; stored = λ s. s }) (advance_keeps _)
+row_keeps rows.Lend p =
+    let lent : DriverContent = record p.driver { book = (lend_taken (holding p.driver.book p.memory)).book } in
+    keeps_join p.driver lent _ (record { room = refl; stored = λ s. s }) (advance_keeps lent)
 row_keeps (rows.Store b at v) p = advance_keeps p.driver
 row_keeps (rows.Mend w) p = record { room = refl; stored = λ s. s }
-row_keeps (rows.ReleaseTransfer t) p = transfer_keeps p t _ _
-row_keeps (rows.ReleaseEndpoint e) p = endpoint_keeps p e _
+row_keeps (rows.ReleaseTransfer t) p =
+    transfer_keeps p t (slice_get p.driver.transfers t) (freed_by p.driver (holding p.driver.book p.memory) (slice_get p.driver.transfers t))
+row_keeps (rows.ReleaseEndpoint e) p = endpoint_keeps p e (slice_get p.driver.endpoints e)
 row_keeps rows.ClearAdvance p = record { room = refl; stored = λ s. s }
 row_keeps rows.RingBell p = record { room = refl; stored = λ s. s }
 row_keeps (rows.ReadStatus heard) p = record { room = refl; stored = λ s. s }
-row_keeps (rows.Harvest e t found) p = harvest_keeps p.driver p.memory e t found _ _
+row_keeps (rows.Harvest e t found) p = harvest_keeps p.driver p.memory e t found (slice_get p.driver.endpoints e) (slice_get p.driver.transfers t)
 row_keeps rows.Rest p = keeps_all p.driver

@@ -1,6 +1,7 @@
 -- A command uses at most the room that it needs, accepted or refused.
-use Rattle.std.proofs.Common.{◌≡◌, ℕ, suc, ◌+◌, ◌-◌, ◌≤◌, ◌<◌, Bool, true, false, List, [], ◌∷◌, ◌++◌, length, Option, Some, None, Result, Ok, Err, refl, ap, sym, ◌∙◌, subst, arith}
+use Rattle.std.proofs.Common.{◌≡◌, ℕ, suc, ◌+◌, ◌-◌, ◌≤◌, ◌<◌, Bool, true, false, List, [], ◌∷◌, ◌++◌, length, Option, Some, None, Result, Ok, Err, refl, ap, sym, ◌∙◌, subst, arith, get_or, drop}
 use Rattle.std.specs.Prelude.{if◌then◌else◌, nat_lt, nat_le, unwrap_or}
+use Rattle.std.proofs.Math.Seq.{drop-cons}
 use Rattle.usb_base.specs.declared.commands.Cmd.{Cmd}
 use Rattle.usb_base.specs.declared.commands.Cmd.TheVariants as commands
 use Rattle.usb_base.specs.declared.endpoints.EpName.{EpName}
@@ -16,10 +17,11 @@ use Rattle.driver_rows.specs.declared.content.Reserve.{Reserve}
 use Rattle.driver_rows.specs.declared.content.Endpoint.{Endpoint}
 use Rattle.driver_rows.specs.DriverContent.{DriverContent, busy, endpoint_of, endpoint_named}
 use Rattle.driver_rows.specs.Words.{request_length}
-use Rattle.driver_rows.specs.Offers.{Offered, offered, offered_next, offered_open, taken_open, offered_transfer, found_transfer, open_transfer, taken_transfer, offered_cancel, take_runs, Asked, IsOffered, HasRoom}
+use Rattle.driver_rows.specs.Offers.{Offered, offered, offered_next, offered_open, taken_open, offered_transfer, found_transfer, open_transfer, taken_transfer, offered_cancel, take_runs, takes_get, takes_put, takes_control, Asked, IsOffered, HasRoom}
 use Rattle.script_fits.specs.Fits.{IsFitCommand, IsFitLine}
-use Rattle.bus_world.specs.Rooms.{needs, needs_line, no_room, transfer_room, with_room, HasRoomFor}
+use Rattle.bus_world.specs.Rooms.{needs, needs_line, no_room, transfer_room, with_room, HasRoomFor, reserve_of}
 use Rattle.bus_world.specs.World.{World, commanded, commanded_by}
+use Rattle.bus_world.proofs.Offering.{get_asked, put_asked, request_asked}
 
 -- an accepted command leaves this room
 abbrev pub Leaves : Reserve → Result Offered OfferError → Type 0
@@ -101,9 +103,9 @@ cancel_leaves d m e (Some x) r room =
 
 next_leaves : (d : DriverContent) (m : Mem) (cmd : Cmd) (r : Reserve) → HasRoomFor d.room (with_room (needs cmd) r) → Leaves r (offered_next d m cmd)
 next_leaves d m (commands.OpenEp x) r room = open_leaves d m x r (endpoint_named d x.name) room
-next_leaves d m (commands.Get name len by) r room = transfer_leaves d m name _ _ r room
-next_leaves d m (commands.Put name bytes by) r room = transfer_leaves d m name _ _ r room
-next_leaves d m (commands.Control name setup bytes) r room = transfer_leaves d m name _ _ r room
+next_leaves d m (commands.Get name len by) r room = transfer_leaves d m name takes_get (get_asked len by) r room
+next_leaves d m (commands.Put name bytes by) r room = transfer_leaves d m name takes_put (put_asked bytes by) r room
+next_leaves d m (commands.Control name setup bytes) r room = transfer_leaves d m name takes_control (request_asked setup bytes) r room
 next_leaves d m (commands.Iso name count len seed) r room = tt
 next_leaves d m (commands.Cancel name) r room = cancel_leaves d m (unwrap_or (endpoint_of d name) 0) (endpoint_named d name) r room
 
@@ -163,3 +165,50 @@ rest_room room r has = record {
   reports = omega (arith, has.reports);
   report_bytes = omega (arith, has.report_bytes);
 }
+
+-- ---- the room for all lines
+
+with_assoc : (a n r : Reserve) → with_room (with_room a n) r ≡ with_room a (with_room n r)
+with_assoc a n r =
+    let e : a.endpoints + n.endpoints + r.endpoints ≡ a.endpoints + (n.endpoints + r.endpoints) = omega arith in
+    let t : a.transfers + n.transfers + r.transfers ≡ a.transfers + (n.transfers + r.transfers) = omega arith in
+    let p : a.reports + n.reports + r.reports ≡ a.reports + (n.reports + r.reports) = omega arith in
+    let b : a.report_bytes + n.report_bytes + r.report_bytes ≡ a.report_bytes + (n.report_bytes + r.report_bytes) = omega arith in
+    rw (e, t, p, b) refl
+
+with_none : (r : Reserve) → with_room no_room r ≡ r
+with_none r =
+    let e : 0 + r.endpoints ≡ r.endpoints = omega arith in
+    let t : 0 + r.transfers ≡ r.transfers = omega arith in
+    let p : 0 + r.reports ≡ r.reports = omega arith in
+    let b : 0 + r.report_bytes ≡ r.report_bytes = omega arith in
+    rw (e, t, p, b) refl
+
+none_with : (r : Reserve) → with_room r no_room ≡ r
+none_with r =
+    let e : r.endpoints + 0 ≡ r.endpoints = omega arith in
+    let t : r.transfers + 0 ≡ r.transfers = omega arith in
+    let p : r.reports + 0 ≡ r.reports = omega arith in
+    let b : r.report_bytes + 0 ≡ r.report_bytes = omega arith in
+    rw (e, t, p, b) refl
+
+-- the next of a list, and those after it
+pub drop_next : {X : Type 0} (xs : List X) (i : ℕ) (x : X) → i < length xs → drop i xs ≡ get_or xs i x ∷ drop (i + 1) xs
+drop_next xs i x h =
+    let e : suc i ≡ i + 1 = omega arith in
+    drop-cons xs i x h ∙ ap (λ n. get_or xs i x ∷ drop n xs) e
+
+-- the room so far, and that of the lines that are left
+pub rooms_begin : (xs left : List (ℕ × Line)) → left ≡ xs → with_room no_room (reserve_of left) ≡ reserve_of xs
+rooms_begin xs left e = with_none (reserve_of left) ∙ ap reserve_of e
+
+pub rooms_more : (all next : Reserve) (xs : List (ℕ × Line)) (i : ℕ) (x : ℕ × Line) → i < length xs → x ≡ get_or xs i x → next ≡ with_room all (needs_line x.1) → with_room all (reserve_of (drop i xs)) ≡ reserve_of xs → with_room next (reserve_of (drop (i + 1) xs)) ≡ reserve_of xs
+rooms_more all next xs i x h e is so_far =
+    ap (λ r. with_room r (reserve_of (drop (i + 1) xs))) is
+    ∙ with_assoc all (needs_line x.1) (reserve_of (drop (i + 1) xs))
+    ∙ ap (λ (y : ℕ × Line). with_room all (with_room (needs_line y.1) (reserve_of (drop (i + 1) xs)))) e
+    ∙ ap (λ ys. with_room all (reserve_of ys)) (sym (drop_next xs i x h))
+    ∙ so_far
+
+pub rooms_end : (all : Reserve) (xs left : List (ℕ × Line)) → left ≡ [] → with_room all (reserve_of left) ≡ reserve_of xs → all ≡ reserve_of xs
+rooms_end all xs left z so_far = sym (none_with all) ∙ sym (ap (λ ys. with_room all (reserve_of ys)) z) ∙ so_far

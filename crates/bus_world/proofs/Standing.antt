@@ -4,12 +4,6 @@ use Rattle.run_book.specs.Book.{Book, holding, Stands}
 use Rattle.word_mem.specs.declared.blocks.BlockState.TheVariants.{Free}
 use Rattle.word_mem.specs.Memory.{Mem, is_lent, reaches}
 use Rattle.word_mem.specs.Access.{IsByController}
-use Rattle.ehci_driver.specs.DriverContent.{DriverContent}
-use Rattle.ehci_driver.specs.Opening.{StandsIn}
-
-pub stands_on : (d : DriverContent) (old new : Mem) → StandsIn d old → IsByController old new → StandsIn d new
-unfolding StandsIn
-stands_on d old new stands by = tt
 
 -- the word at place i of block b
 place_block : (b i : ℕ) → i < 8 → 4 * (8 * b + i) / 32 ≡ b

@@ -1,5 +1,5 @@
 -- The lines of a script, one after the other: what is left leads where all led, and there is room for its commands.
-use Rattle.std.proofs.Common.{◌≡◌, ℕ, suc, ◌+◌, ◌≤◌, ◌<◌, List, [], ◌∷◌, length, drop, get_or, Bool, true, false, refl, ap, sym, ◌∙◌, subst, inl, inr, arith, drop-cons}
+use Rattle.std.proofs.Common.{◌≡◌, ℕ, suc, ◌+◌, ◌≤◌, ◌<◌, List, [], ◌∷◌, length, drop, get_or, Bool, true, false, refl, ap, sym, ◌∙◌, subst, inl, inr, arith}
 use Rattle.std.specs.List.{AllByRecursion}
 use Rattle.std.specs.Bool.{OnTrue, OnFalse}
 use Rattle.script_types.specs.declared.scripts.Event.{Event}
@@ -16,7 +16,7 @@ use Rattle.bus_world.specs.Orders.{Left, Command, Place, Leads, at_place, left_o
 use Rattle.bus_world.specs.Rooms.{HasRoomFor, needs_line, with_room, reserve_of}
 use Rattle.bus_world.proofs.Kept.{row_keeps}
 use Rattle.bus_world.proofs.Ticks.{joined, nothing, one_tick}
-use Rattle.bus_world.proofs.Rooming.{less_room}
+use Rattle.bus_world.proofs.Rooming.{less_room, drop_next}
 
 -- an event leaves the driver's reserve as it was
 pub next_room : (fixed : Fixed) (w : World) (event : Event) → (next fixed w event).driver.room ≡ w.driver.room
@@ -47,7 +47,7 @@ way_begins begun all left e room fits =
 -- the next line, and those after it
 pub way_at : (begun now : Standing) (all : List (ℕ × Line)) (i : ℕ) (x : ℕ × Line) → i < length all → x ≡ get_or all i x → IsUnderWay begun now all (drop i all) → IsUnderWay begun now all (x ∷ drop (i + 1) all)
 way_at begun now all i x h e way =
-    subst (λ (y : ℕ × Line). IsUnderWay begun now all (y ∷ drop (i + 1) all)) (sym e) (subst (IsUnderWay begun now all) (drop-cons i all x h) way)
+    subst (λ (y : ℕ × Line). IsUnderWay begun now all (y ∷ drop (i + 1) all)) (sym e) (subst (IsUnderWay begun now all) (drop_next all i x h) way)
 
 pub line_fits : (begun now : Standing) (all rest : List (ℕ × Line)) (x : ℕ × Line) → IsUnderWay begun now all (x ∷ rest) → IsFitLine x.1
 line_fits begun now all rest x way = way.fits.0

@@ -35,10 +35,11 @@ abbrev pub told_by : Seat → Option Device → List ℕ
 told_by s None = []
 told_by s (Some d) = device_text s.name.way s.kind s.name d
 
+abbrev pub opened_text : World → Seat → List ℕ
+opened_text w s = waiting_text s.name (waiting w.driver s.name) ++ told_by s (find (λ d. d.address == s.name.addr) w.bus.devices)
+
 abbrev pub closing_text : World → Seat → List ℕ
-closing_text w s =
-    if opened w.driver s.name then waiting_text s.name (waiting w.driver s.name) ++ told_by s (find (λ d. d.address == s.name.addr) w.bus.devices)
-    else []
+closing_text w s = if opened w.driver s.name then opened_text w s else []
 
 abbrev pub world_text : Fixed → World → List ℕ
 world_text fixed w = report_text w.driver.reports w.driver.store ++ flat_map (closing_text w) fixed.seats

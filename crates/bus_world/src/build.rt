@@ -1,4 +1,4 @@
-ghost use Rattle.std.specs.Prelude.{◌≡◌, nat_le, IfOk, IfSome};
+ghost use Rattle.std.specs.Prelude.{◌≡◌, nat_le, if◌then◌else◌, IfOk, IfSome};
 ghost use Rattle.driver_rows.specs.Words.{request_length};
 ghost use Rattle.script_fits.specs.Fits.{IsFit};
 ghost use Rattle.bus_world.specs.Rooms.{needs, needs_line, transfer_room, with_room, reserve_of, no_room};

@@ -4,7 +4,7 @@ ghost use Rattle.std.specs.Io.KnownBytes.{Appends};
 ghost use Rattle.usb_base.specs.Outside.{AppendsPrefix, one_more};
 ghost use Rattle.image_codec.specs.Image.{IsAligned, HasFields};
 ghost use Rattle.endpoint_script.specs.Device.{taken_of};
-ghost use Rattle.bus_world.specs.Closing.{waiting, waiting_text, device_text, told_by, closing_text, world_text, world_image};
+ghost use Rattle.bus_world.specs.Closing.{waiting, waiting_text, device_text, told_by, opened_text, closing_text, world_text, world_image};
 
 use crate::world::World;
 use endpoint_script::Device;
@@ -71,6 +71,18 @@ impl World {
         }
     }
 
+    /// Writes what closes the report of an endpoint that was opened.
+    fn print_opened<K: Sink>(&self, seat: &Seat, sink: &mut K) -> Result<(), Failed>
+        ensures ok { OnOk result (Appends (K.written sink.old) (K.written sink.new) (opened_text self.now.world seat.now)) }
+        ensures err { OnErr result (AppendsPrefix (K.written sink.old) (K.written sink.new) (opened_text self.now.world seat.now)) }
+        ensures stays { OnOk result (K.faults sink.new ≡ K.faults sink.old) }
+        ensures rises { OnErr result (K.faults sink.new ≡ one_more (K.faults sink.old)) }
+        ensures counted { K.faults sink.old ≤ K.faults sink.new }
+    {
+        print_waiting(&seat.name, self.waiting(&seat.name), sink)?;
+        self.print_told(seat, sink)
+    }
+
     /// Writes what closes the report of an endpoint, if it was opened.
     fn print_closing<K: Sink>(&self, seat: &Seat, sink: &mut K) -> Result<(), Failed>
         ensures ok { OnOk result (Appends (K.written sink.old) (K.written sink.new) (closing_text self.now.world seat.now)) }
@@ -79,11 +91,10 @@ impl World {
         ensures rises { OnErr result (K.faults sink.new ≡ one_more (K.faults sink.old)) }
         ensures counted { K.faults sink.old ≤ K.faults sink.new }
     {
-        if !self.driver().opened(&seat.name) {
-            return Ok(());
+        if self.driver().opened(&seat.name) {
+            return self.print_opened(seat, sink);
         }
-        print_waiting(&seat.name, self.waiting(&seat.name), sink)?;
-        self.print_told(seat, sink)
+        Ok(())
     }
 
     /// Writes what closes the reports of these endpoints.

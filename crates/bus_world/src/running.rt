@@ -1,5 +1,6 @@
 ghost use Rattle.std.specs.Prelude.{◌≡◌, ℕ, suc, List, ◌∷◌};
 ghost use Rattle.std.specs.Bool.{OnTrue, OnFalse};
+ghost use Rattle.std.specs.List.{AllByRecursion};
 ghost use Rattle.script_types.specs.declared.scripts.Event.{Event as Kind};
 ghost use Rattle.bus_world.specs.World.{next, kind_next};
 ghost use Rattle.driver_rows.specs.declared.content.Reserve.{Reserve as Room};
@@ -28,6 +29,7 @@ impl World {
     fn turn(&mut self) -> bool
         ensures ended { result ≡ is_end (kind_next self.old.world) }
         ensures world { self.new ≡ record self.old { world = next self.old.fixed (next self.old.fixed self.old.world Kind.C) Kind.D } }
+        ensures room { self.new.world.driver.room ≡ self.old.world.driver.room }
     {
         let ended = ends(self.controller_event());
         self.driver_event();
@@ -37,6 +39,7 @@ impl World {
     /// Turns until the microframe has ended; false where it hasn't after the most turns.
     fn microframe(&mut self) -> bool
         ensures fixed { self.new.fixed ≡ self.old.fixed }
+        ensures room { self.new.world.driver.room ≡ self.old.world.driver.room }
         ensures ended { OnTrue result ((n : ℕ) (rest : List Left) → Leads self.old.fixed (at_place self.old.world (Microframes (suc n) ∷ rest)) (at_place self.new.world (Microframes n ∷ rest))) }
         ensures unended { OnFalse result ((n : ℕ) (rest : List Left) → IsUnended self.old.fixed (at_place self.old.world (Microframes (suc n) ∷ rest)) (at_place self.new.world (Microframes (suc n) ∷ rest))) }
     {
@@ -51,6 +54,7 @@ impl World {
     /// So many microframes; false where one of them doesn't end.
     fn microframes(&mut self, count: u32) -> bool
         ensures fixed { self.new.fixed ≡ self.old.fixed }
+        ensures room { self.new.world.driver.room ≡ self.old.world.driver.room }
         ensures done { OnTrue result ((rest : List Left) → Leads self.old.fixed (at_place self.old.world (Microframes count ∷ rest)) (at_place self.new.world rest)) }
         ensures overlong { OnFalse result ((rest : List Left) → IsOverlong self.old.fixed (at_place self.old.world (Microframes count ∷ rest)) self.new.world) }
     {
@@ -65,6 +69,7 @@ impl World {
     /// So many events of one kind.
     fn events(&mut self, event: Event, count: u32)
         ensures fixed { self.new.fixed ≡ self.old.fixed }
+        ensures room { self.new.world.driver.room ≡ self.old.world.driver.room }
         ensures done { (rest : List Left) → Leads self.old.fixed (at_place self.old.world (Events event count ∷ rest)) (at_place self.new.world rest) }
     {
         for _event in 0..count {
@@ -96,6 +101,20 @@ impl World {
         }
     }
 
+    /// Carries out these lines, in their order.
+    fn lines(&mut self, lines: &[(u32, Line)])
+        requires fits { AllByRecursion (λ x. IsFitLine x.1) lines.now }
+        requires room { HasRoomFor self.old.world.driver.room (reserve_of lines.now) }
+        ensures fixed { self.new.fixed ≡ self.old.fixed }
+        ensures run { IsRun self.old.fixed self.old.world (orders_of lines.now) self.new.world }
+    {
+        for entry in lines {
+            if !self.line(entry.0, &entry.1) {
+                return;
+            }
+        }
+    }
+
     /// Carries out the action lines of a script, in their order. A microframe that doesn't end within 1,048,576 turns ends the run.
     pub fn run(&mut self, script: &Script)
         requires fits { IsFit script.now }
@@ -103,10 +122,6 @@ impl World {
         ensures fixed { self.new.fixed ≡ self.old.fixed }
         ensures run { IsRun self.old.fixed self.old.world (orders_of script.now.lines) self.new.world }
     {
-        for entry in script.lines.as_slice() {
-            if !self.line(entry.0, &entry.1) {
-                return;
-            }
-        }
+        self.lines(script.lines.as_slice());
     }
 }

@@ -1,5 +1,8 @@
-ghost use Rattle.std.specs.Prelude.{◌≡◌, ◌≤◌, ◌==◌, ◌+◌, find};
+ghost use Rattle.std.specs.Prelude.{◌≡◌, ◌≤◌, ◌<◌, ◌^◌, ◌==◌, length, find, IfSome};
 ghost use Rattle.std.specs.Option.{option_copied};
+ghost use Rattle.usb_base.specs.declared.endpoints.EpName.{EpName as Named};
+ghost use Rattle.report_text.specs.ReportText.{AreStored};
+ghost use Rattle.endpoint_script.specs.Device.{taken_of};
 ghost use Rattle.driver_rows.specs.Offers.{IsOffered};
 ghost use Rattle.bus_world.specs.Sound.{IsSound};
 ghost use Rattle.bus_world.specs.World.{driver_next, controller_next, next, kind_next, name_in, commanded};
@@ -115,7 +118,8 @@ impl World {
 
     /// The driver.
     pub fn driver(&self) -> &Driver
-        ensures { result.now ≡ self.now.world.driver }
+        ensures driver { result.now ≡ self.now.world.driver }
+        ensures stored { AreStored self.now.world.driver.reports (length self.now.world.driver.store) }
     {
         &self.driver
     }
@@ -150,7 +154,8 @@ impl World {
 
     /// The device with this address; None exactly where there is none.
     pub fn device(&self, addr: DevAddr) -> Option<&Device>
-        ensures { option_copied result ≡ find (λ d. d.address == addr) self.now.world.bus.devices }
+        ensures device { option_copied result ≡ find (λ d. d.address == addr) self.now.world.bus.devices }
+        ensures few { (name : Named) → IfSome result (λ d. length (taken_of d.now name) < 2 ^ 32) }
     {
         self.bus.device(addr)
     }

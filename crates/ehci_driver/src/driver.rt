@@ -41,7 +41,7 @@ pub struct Driver {
 }
 
 impl Model for Driver {
-    ghost use Rattle.std.specs.Prelude.{◌≤◌};
+    ghost use Rattle.ehci_driver.specs.Stub.{Never};
     ghost use Rattle.driver_rows.specs.DriverContent.{DriverContent};
 
     ghost Value = { DriverContent };
@@ -66,7 +66,7 @@ impl Model for Driver {
       room = d.room;
     } };
 
-    ghost invariant = { λ d. ⊥ };
+    ghost invariant = { λ d. Never d.made };
 }
 
 impl Driver {

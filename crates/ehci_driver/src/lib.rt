@@ -1,5 +1,5 @@
 //! Scratch: the driver's public contracts, over a driver of which there is none.
-#![tactic(auto)]
+#![tactic(auto, unfolding(crate::specs::Stub::Never))]
 
 mod driver;
 
