@@ -212,3 +212,11 @@ rooms_more all next xs i x h e is so_far =
 
 pub rooms_end : (all : Reserve) (xs left : List (ℕ × Line)) → left ≡ [] → with_room all (reserve_of left) ≡ reserve_of xs → all ≡ reserve_of xs
 rooms_end all xs left z so_far = sym (none_with all) ∙ sym (ap (λ ys. with_room all (reserve_of ys)) z) ∙ so_far
+
+pub room_itself : (room r : Reserve) → room ≡ r → HasRoomFor room r
+room_itself room r e = record {
+  endpoints = omega (arith, ap (λ (x : Reserve). x.endpoints) e);
+  transfers = omega (arith, ap (λ (x : Reserve). x.transfers) e);
+  reports = omega (arith, ap (λ (x : Reserve). x.reports) e);
+  report_bytes = omega (arith, ap (λ (x : Reserve). x.report_bytes) e);
+}

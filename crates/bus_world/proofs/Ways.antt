@@ -16,7 +16,7 @@ use Rattle.bus_world.specs.Orders.{Left, Command, Place, Leads, at_place, left_o
 use Rattle.bus_world.specs.Rooms.{HasRoomFor, needs_line, with_room, reserve_of}
 use Rattle.bus_world.proofs.Kept.{row_keeps}
 use Rattle.bus_world.proofs.Ticks.{joined, nothing, one_tick}
-use Rattle.bus_world.proofs.Rooming.{less_room, drop_next}
+use Rattle.bus_world.proofs.Rooming.{less_room, drop_next, command_leaves}
 
 -- an event leaves the driver's reserve as it was
 pub next_room : (fixed : Fixed) (w : World) (event : Event) → (next fixed w event).driver.room ≡ w.driver.room
@@ -31,6 +31,15 @@ pub command_done : (now later : Standing) (n : ℕ) (cmd : Cmd) → later ≡ re
 command_done now later n cmd e rest =
     subst (λ (w : World). Leads now.fixed (at_place now.world (Command n cmd ∷ rest)) (at_place w rest)) (sym (ap (λ (s : Standing). s.world) e))
       (one_tick now.fixed (at_place now.world (Command n cmd ∷ rest)))
+
+pub command_line_done : (now later : Standing) (l : Line) (n : ℕ) (cmd : Cmd) → l ≡ lines.Command cmd → later ≡ record now { world = commanded now.world n cmd } → (rest : List Left) → Leads now.fixed (at_place now.world (left_of l n ∷ rest)) (at_place later.world rest)
+command_line_done now later l n cmd is e rest =
+    subst (λ (x : Line). Leads now.fixed (at_place now.world (left_of x n ∷ rest)) (at_place later.world rest)) (sym is) (command_done now later n cmd e rest)
+
+pub command_line_room : (now later : Standing) (l : Line) (n : ℕ) (cmd : Cmd) → l ≡ lines.Command cmd → later ≡ record now { world = commanded now.world n cmd } → IsFitLine l → (r : Reserve) → HasRoomFor now.world.driver.room (with_room (needs_line l) r) → HasRoomFor later.world.driver.room r
+command_line_room now later l n cmd is e fit r room =
+    subst (λ (s : Standing). HasRoomFor s.world.driver.room r) (sym e)
+      (command_leaves now.world n cmd r (subst IsFitLine is fit) (subst (λ (x : Line). HasRoomFor now.world.driver.room (with_room (needs_line x) r)) is room))
 
 -- ---- lines
 

@@ -1,7 +1,7 @@
 ghost use Rattle.std.specs.Prelude.{◌≡◌, nat_le, if◌then◌else◌, IfOk, IfSome};
 ghost use Rattle.driver_rows.specs.Words.{request_length};
 ghost use Rattle.script_fits.specs.Fits.{IsFit};
-ghost use Rattle.bus_world.specs.Rooms.{needs, needs_line, transfer_room, with_room, reserve_of, no_room};
+ghost use Rattle.bus_world.specs.Rooms.{needs, needs_line, transfer_room, with_room, reserve_of, HasRoomFor};
 ghost use Rattle.bus_world.specs.Opening.{opening_standing};
 
 use crate::world::World;
@@ -126,7 +126,8 @@ impl World {
     /// `Memory` where a part of it finds no room.
     pub fn build(alloc: Global, script: &Script) -> Result<World, Memory>
         requires { IsFit script.now }
-        ensures { IfOk result (λ w. w ≡ opening_standing script.now) }
+        ensures world { IfOk result (λ w. w ≡ opening_standing script.now) }
+        ensures room { IfOk result (λ w. HasRoomFor w.world.driver.room (reserve_of script.now.lines)) }
     {
         let Some(reserve) = reserve_of(script.lines.as_slice()) else {
             return Err(Memory);

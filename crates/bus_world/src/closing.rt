@@ -1,8 +1,10 @@
-ghost use Rattle.std.specs.Prelude.{◌≡◌, ◌≤◌, ◌<◌, ◌^◌, ◌==◌, ◌%◌, length, find, IfOk, IfSome, OnOk, OnErr};
+ghost use Rattle.std.specs.Prelude.{◌≡◌, ℕ, ◌≤◌, ◌<◌, ◌^◌, ◌==◌, length, find, slice_index, IfOk, OnOk, OnErr};
 ghost use Rattle.std.specs.List.{flat_map};
 ghost use Rattle.std.specs.Io.KnownBytes.{Appends};
 ghost use Rattle.usb_base.specs.Outside.{AppendsPrefix, one_more};
+ghost use Rattle.report_text.specs.ReportText.{report_text};
 ghost use Rattle.image_codec.specs.Image.{IsAligned, HasFields};
+ghost use Rattle.word_mem.specs.Memory.{IsShaped};
 ghost use Rattle.endpoint_script.specs.Device.{taken_of};
 ghost use Rattle.bus_world.specs.Closing.{waiting, waiting_text, device_text, told_by, opened_text, closing_text, world_text, world_image};
 
@@ -14,8 +16,8 @@ use std::alloc::Global;
 use usb_base::{EpKind, EpName, Failed, ListOf, Memory, Sink, Way};
 use usb_bus::Seat;
 
-/// Writes the line of what waits at an endpoint, if something does.
-fn print_waiting<K: Sink>(name: &EpName, k: u32, sink: &mut K) -> Result<(), Failed>
+/// Writes the line of so many transfers that wait at an endpoint, if there are some.
+fn print_count<K: Sink>(name: &EpName, k: u32, sink: &mut K) -> Result<(), Failed>
     ensures ok { OnOk result (Appends (K.written sink.old) (K.written sink.new) (waiting_text name.now k)) }
     ensures err { OnErr result (AppendsPrefix (K.written sink.old) (K.written sink.new) (waiting_text name.now k)) }
     ensures stays { OnOk result (K.faults sink.new ≡ K.faults sink.old) }
@@ -71,6 +73,17 @@ impl World {
         }
     }
 
+    /// Writes the line of what waits at an endpoint that hasn't ended, if something does.
+    fn print_waiting<K: Sink>(&self, name: &EpName, sink: &mut K) -> Result<(), Failed>
+        ensures ok { OnOk result (Appends (K.written sink.old) (K.written sink.new) (waiting_text name.now (waiting self.now.world.driver name.now))) }
+        ensures err { OnErr result (AppendsPrefix (K.written sink.old) (K.written sink.new) (waiting_text name.now (waiting self.now.world.driver name.now))) }
+        ensures stays { OnOk result (K.faults sink.new ≡ K.faults sink.old) }
+        ensures rises { OnErr result (K.faults sink.new ≡ one_more (K.faults sink.old)) }
+        ensures counted { K.faults sink.old ≤ K.faults sink.new }
+    {
+        print_count(name, self.waiting(name), sink)
+    }
+
     /// Writes what closes the report of an endpoint that was opened.
     fn print_opened<K: Sink>(&self, seat: &Seat, sink: &mut K) -> Result<(), Failed>
         ensures ok { OnOk result (Appends (K.written sink.old) (K.written sink.new) (opened_text self.now.world seat.now)) }
@@ -79,7 +92,7 @@ impl World {
         ensures rises { OnErr result (K.faults sink.new ≡ one_more (K.faults sink.old)) }
         ensures counted { K.faults sink.old ≤ K.faults sink.new }
     {
-        print_waiting(&seat.name, self.waiting(&seat.name), sink)?;
+        self.print_waiting(&seat.name, sink)?;
         self.print_told(seat, sink)
     }
 
@@ -111,6 +124,28 @@ impl World {
         Ok(())
     }
 
+    /// Writes the lines of the report.
+    fn print_lines<K: Sink>(&self, sink: &mut K) -> Result<(), Failed>
+        ensures ok { OnOk result (Appends (K.written sink.old) (K.written sink.new) (report_text self.now.world.driver.reports self.now.world.driver.store)) }
+        ensures err { OnErr result (AppendsPrefix (K.written sink.old) (K.written sink.new) (report_text self.now.world.driver.reports self.now.world.driver.store)) }
+        ensures stays { OnOk result (K.faults sink.new ≡ K.faults sink.old) }
+        ensures rises { OnErr result (K.faults sink.new ≡ one_more (K.faults sink.old)) }
+        ensures counted { K.faults sink.old ≤ K.faults sink.new }
+    {
+        print_report(self.driver().reports(), self.driver().store(), sink)
+    }
+
+    /// Writes what closes the report of each endpoint.
+    fn print_ends<K: Sink>(&self, sink: &mut K) -> Result<(), Failed>
+        ensures ok { OnOk result (Appends (K.written sink.old) (K.written sink.new) (flat_map (closing_text self.now.world) self.now.fixed.seats)) }
+        ensures err { OnErr result (AppendsPrefix (K.written sink.old) (K.written sink.new) (flat_map (closing_text self.now.world) self.now.fixed.seats)) }
+        ensures stays { OnOk result (K.faults sink.new ≡ K.faults sink.old) }
+        ensures rises { OnErr result (K.faults sink.new ≡ one_more (K.faults sink.old)) }
+        ensures counted { K.faults sink.old ≤ K.faults sink.new }
+    {
+        self.print_closings(self.seats(), sink)
+    }
+
     /// Writes the report: its lines, and then for each endpoint that was opened those that close it. `Failed` comes only where the sink's
     /// count of faults rose, with a front part of the text written. It takes no memory.
     pub fn print<K: Sink>(&self, sink: &mut K) -> Result<(), Failed>
@@ -120,13 +155,15 @@ impl World {
         ensures rises { OnErr result (K.faults sink.new ≡ one_more (K.faults sink.old)) }
         ensures counted { K.faults sink.old ≤ K.faults sink.new }
     {
-        print_report(self.driver().reports(), self.driver().store(), sink)?;
-        self.print_closings(self.seats(), sink)
+        self.print_lines(sink)?;
+        self.print_ends(sink)
     }
 
     /// The words of memory.
     fn copied_words(&self, alloc: Global) -> Result<Vec<u32>, Memory>
-        ensures { IfOk result (λ v. v.items ≡ self.now.world.memory.words) }
+        ensures words { IfOk result (λ v. v.items ≡ self.now.world.memory.words) }
+        ensures shape { IsShaped self.now.world.memory }
+        ensures fits { (i : ℕ) → slice_index self.now.world.memory.words i < 2 ^ 32 }
     {
         let count = self.mem().words();
         let mut words = Vec::with_capacity(alloc, count as usize)?;

@@ -1,5 +1,4 @@
 use Rattle.std.proofs.Common.{◌∙◌, ◌-◌, ◌+◌, ap, refl, arith}
-use Rattle.std.proofs.lemmas.Bool.{OnTrue_at, OnFalse_at}
 use Rattle.bus_world.specs.Orders.{Microframes}
 use Rattle.bus_world.proofs.Ticks.{gone_begins, microframe_more, microframes_done, microframes_overlong}
 use Rattle.bus_world.proofs.world.World.microframes.Goals as goal
@@ -13,13 +12,13 @@ loop-microframe-preserved c = record {
   room = c.microframe.ensures.room ∙ c.loop-microframe.invariant.room;
   gone =
       microframe_more c.args.self.now c.loop-microframe.self c.microframe.new.self c.args.count (c.args.count - c.loop-microframe._microframe) (c.args.count - (c.loop-microframe._microframe + 1))
-      (omega arith) c.loop-microframe.invariant.fixed (OnTrue_at c.if-microframe.true c.microframe.ensures.ended) c.loop-microframe.invariant.gone;
+      (omega arith) c.loop-microframe.invariant.fixed c.if-not-microframe.ensures.ended c.loop-microframe.invariant.gone;
 }
 
-pub returns-then-microframe-clause-overlong : goal.returns-then-microframe-clause-overlong
-returns-then-microframe-clause-overlong c =
+pub returns-then-not-microframe-clause-overlong : goal.returns-then-not-microframe-clause-overlong
+returns-then-not-microframe-clause-overlong c =
     microframes_overlong c.args.self.now c.loop-microframe.self c.microframe.new.self c.args.count (c.args.count - c.loop-microframe._microframe) (c.args.count - (c.loop-microframe._microframe + 1))
-    (omega arith) c.loop-microframe.invariant.fixed (OnFalse_at c.if-microframe.false c.microframe.ensures.unended) c.loop-microframe.invariant.gone
+    (omega arith) c.loop-microframe.invariant.fixed c.if-not-microframe.ensures.unended c.loop-microframe.invariant.gone
 
 pub returns-clause-done : goal.returns-clause-done
 returns-clause-done c = microframes_done c.args.self.now c.loop-microframe.self c.args.count (c.args.count - c.loop-microframe._microframe) (omega arith) c.loop-microframe.invariant.gone
