@@ -11,5 +11,6 @@ mod build;
 mod closing;
 mod running;
 mod world;
+pub mod worked;
 
 pub use world::World;
