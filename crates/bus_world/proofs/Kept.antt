@@ -1,6 +1,6 @@
 -- An event of the driver leaves its reserve as it was, and each line of the report keeps its bytes.
-use Rattle.std.proofs.Common.{◌≡◌, ℕ, zero, suc, ◌+◌, ◌-◌, ◌≤◌, ◌<◌, Bool, true, false, List, [], ◌∷◌, ◌++◌, length, slice_get, slice_set, Option, Some, None, refl, ap, sym, ◌∙◌, subst, arith, length-append}
-use Rattle.std.specs.Prelude.{if◌then◌else◌, nat_lt, not, ◌&&◌, take, drop, map}
+use Rattle.std.proofs.Common.{◌≡◌, ℕ, zero, suc, ◌+◌, ◌-◌, ◌≤◌, Bool, true, false, List, [], ◌∷◌, ◌++◌, length, slice_get, slice_set, Option, Some, None, refl, ◌∙◌, arith, length-append}
+use Rattle.std.specs.Prelude.{if◌then◌else◌, nat_lt}
 use Rattle.usb_base.specs.declared.endpoints.EpName.{EpName}
 use Rattle.usb_base.specs.declared.endpoints.EndCause.{EndCause}
 use Rattle.usb_base.specs.declared.endpoints.EndCause.TheVariants as causes
@@ -21,7 +21,7 @@ use Rattle.driver_rows.specs.declared.rows.Found.{Found}
 use Rattle.driver_rows.specs.declared.rows.Found.TheVariants as founds
 use Rattle.driver_rows.specs.DriverContent.{DriverContent, waits_for}
 use Rattle.driver_rows.specs.Harvests.{reported, noted, end_of, is_stall}
-use Rattle.driver_rows.specs.Rows.{Parts, after_row, advance, advanced_by, finished, no_command, leave_ring, events_of, after_lend, after_transfer, freed_by, after_endpoint, cancel_told, is_told, gone_with, after_harvest, harvested_as, after_end, told_with, stalled, goes_on, behind, behind_one, mends_of, served, moved_on}
+use Rattle.driver_rows.specs.Rows.{Parts, after_row, advance, advanced_by, finished, no_command, leave_ring, events_of, after_transfer, freed_by, after_endpoint, cancel_told, is_told, gone_with, after_harvest, harvested_as, after_end, told_with, stalled, goes_on, behind, behind_one, mends_of, served}
 
 -- the reserve stays, and lines keep their bytes
 pub record Keeps (d e : DriverContent) : Type 0 where
@@ -54,7 +54,7 @@ reported_keeps d what name bytes =
     record {
       room = refl;
       stored = λ h.
-        line_stored d.reports _ (length (d.store ++ bytes)) (stored_more d.reports (length d.store) (length (d.store ++ bytes)) (omega (arith, long)) h) (omega (arith, long));
+          line_stored d.reports _ (length (d.store ++ bytes)) (stored_more d.reports (length d.store) (length (d.store ++ bytes)) (omega (arith, long)) h) (omega (arith, long));
     }
 
 -- ---- commands
@@ -91,8 +91,8 @@ endpoint_keeps : (p : Parts) (e : ℕ) (x : Option Endpoint) → Keeps p.driver 
 endpoint_keeps p e None = keeps_all p.driver
 endpoint_keeps p e (Some x) =
     keeps_join p.driver (cancel_told p.driver p.memory e x) _
-      (told_keeps p.driver p.memory e x)
-      (gone_keeps (cancel_told p.driver p.memory e x) e x (is_told x) _)
+    (told_keeps p.driver p.memory e x)
+    (gone_keeps (cancel_told p.driver p.memory e x) e x (is_told x) _)
 
 -- ---- harvests
 
@@ -100,16 +100,16 @@ one_behind_keeps : (d : DriverContent) (e : ℕ) (name : EpName) (k : ℕ) (x : 
 one_behind_keeps d e name k None = keeps_all d
 one_behind_keeps d e name k (Some x) =
     keeps_if d (waits_for e x) _ d
-      (keeps_join d (reported d (lines.Halt causes.Stall) name []) _ (reported_keeps d (lines.Halt causes.Stall) name []) (record { room = refl; stored = λ s. s }))
-      (keeps_all d)
+    (keeps_join d (reported d (lines.Halt causes.Stall) name []) _ (reported_keeps d (lines.Halt causes.Stall) name []) (record { room = refl; stored = λ s. s }))
+    (keeps_all d)
 
 behind_keeps : (d : DriverContent) (e : ℕ) (name : EpName) (k n : ℕ) → Keeps d (behind d e name k n)
 unfolding behind
 behind_keeps d e name k zero = keeps_all d
 behind_keeps d e name k (suc n) =
     keeps_join d (behind_one d e name k (slice_get d.transfers k)) _
-      (one_behind_keeps d e name k (slice_get d.transfers k))
-      (behind_keeps (behind_one d e name k (slice_get d.transfers k)) e name (suc k) n)
+    (one_behind_keeps d e name k (slice_get d.transfers k))
+    (behind_keeps (behind_one d e name k (slice_get d.transfers k)) e name (suc k) n)
 
 stalled_keeps : (d : DriverContent) (e t : ℕ) (x : Endpoint) → Keeps d (stalled d e t x)
 stalled_keeps d e t x =
@@ -133,14 +133,14 @@ found_keeps d m e t x y founds.Active = keeps_all d
 found_keeps d m e t x y (founds.Moved n) = record { room = refl; stored = λ s. s }
 found_keeps d m e t x y (founds.Ended n what) =
     keeps_join d (told_with d m t y what x.desc.name (noted d.notes y.place n)) _
-      (told_with_keeps d m t y what x.desc.name (noted d.notes y.place n))
-      (end_keeps (told_with d m t y what x.desc.name (noted d.notes y.place n)) e t x (is_stall what) (end_of x.desc.kind what))
+    (told_with_keeps d m t y what x.desc.name (noted d.notes y.place n))
+    (end_keeps (told_with d m t y what x.desc.name (noted d.notes y.place n)) e t x (is_stall what) (end_of x.desc.kind what))
 
 harvest_keeps : (d : DriverContent) (m : Mem) (e t : ℕ) (found : Found) (x : Option Endpoint) (y : Option Transfer) → Keeps d (after_harvest d m e t found x y)
 harvest_keeps d m e t found (Some x) (Some y) =
     keeps_if d (waits_for e y) (served (harvested_as d m e t x y found) e) d
-      (keeps_join d (harvested_as d m e t x y found) _ (found_keeps d m e t x y found) (record { room = refl; stored = λ s. s }))
-      (keeps_all d)
+    (keeps_join d (harvested_as d m e t x y found) _ (found_keeps d m e t x y found) (record { room = refl; stored = λ s. s }))
+    (keeps_all d)
 harvest_keeps d m e t found None y = keeps_all d
 harvest_keeps d m e t found (Some x) None = keeps_all d
 

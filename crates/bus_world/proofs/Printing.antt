@@ -1,5 +1,5 @@
 -- A text made of one piece after the other, of which so many are written.
-use Rattle.std.proofs.Common.{◌≡◌, ℕ, ◌+◌, ◌<◌, List, [], ◌∷◌, ◌++◌, length, get_or, take, drop, Option, Some, None, refl, append_assoc, ap, sym, ◌∙◌, subst}
+use Rattle.std.proofs.Common.{◌≡◌, ℕ, ◌+◌, ◌<◌, List, [], ◌∷◌, ◌++◌, length, get_or, take, drop, Option, Some, None, append_assoc, ap, sym, ◌∙◌, subst}
 use Rattle.std.specs.List.{flat_map}
 use Rattle.std.specs.Io.KnownBytes.{Appends}
 use Rattle.std.proofs.lemmas.List.{take_more, take-append-drop, append-nil}
@@ -28,7 +28,7 @@ appends_piece a b c f xs i x h e s k = subst (Appends a c) (sym (flat_more f xs 
 pub prefix_of_piece : {X : Type 0} (a b c : Option (List ℕ)) (f : X → List ℕ) (xs : List X) (i : ℕ) (x : X) → i < length xs → x ≡ get_or xs i x → Appends a b (flat_map f (take i xs)) → AppendsPrefix b c (f x) → AppendsPrefix a c (flat_map f xs)
 prefix_of_piece a b c f xs i x h e s k =
     subst (AppendsPrefix a c) (sym (flat_parts f xs i x h e))
-      (prefix_after a b c (flat_map f (take i xs)) (f x ++ flat_map f (drop (i + 1) xs)) s (prefix_more b c (f x) (flat_map f (drop (i + 1) xs)) k))
+    (prefix_after a b c (flat_map f (take i xs)) (f x ++ flat_map f (drop (i + 1) xs)) s (prefix_more b c (f x) (flat_map f (drop (i + 1) xs)) k))
 
 -- nothing is written
 pub appends_none : (a : Option (List ℕ)) → Appends a a []

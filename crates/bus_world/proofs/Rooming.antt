@@ -1,5 +1,5 @@
 -- A command uses at most the room that it needs, accepted or refused.
-use Rattle.std.proofs.Common.{◌≡◌, ℕ, suc, ◌+◌, ◌-◌, ◌≤◌, ◌<◌, Bool, true, false, List, [], ◌∷◌, ◌++◌, length, Option, Some, None, Result, Ok, Err, refl, ap, sym, ◌∙◌, subst, arith, get_or, drop}
+use Rattle.std.proofs.Common.{◌≡◌, ℕ, suc, ◌+◌, ◌≤◌, ◌<◌, Bool, true, false, List, [], ◌∷◌, length, Option, Some, None, Result, Ok, Err, refl, ap, sym, ◌∙◌, arith, get_or, drop}
 use Rattle.std.specs.Prelude.{if◌then◌else◌, nat_lt, nat_le, unwrap_or}
 use Rattle.std.proofs.Math.Seq.{drop-cons}
 use Rattle.usb_base.specs.declared.commands.Cmd.{Cmd}
@@ -10,7 +10,6 @@ use Rattle.usb_base.specs.declared.endpoints.EndCause.{EndCause}
 use Rattle.usb_base.specs.declared.reports.OfferError.{OfferError}
 use Rattle.usb_base.specs.declared.reports.OfferError.TheVariants as errors
 use Rattle.script_types.specs.declared.scripts.Line.{Line}
-use Rattle.script_types.specs.declared.scripts.Line.TheVariants as lines
 use Rattle.word_mem.specs.Memory.{Mem}
 use Rattle.run_book.specs.Book.{Holding, holding}
 use Rattle.driver_rows.specs.declared.content.Reserve.{Reserve}
@@ -18,7 +17,7 @@ use Rattle.driver_rows.specs.declared.content.Endpoint.{Endpoint}
 use Rattle.driver_rows.specs.DriverContent.{DriverContent, busy, endpoint_of, endpoint_named}
 use Rattle.driver_rows.specs.Words.{request_length}
 use Rattle.driver_rows.specs.Offers.{Offered, offered, offered_next, offered_open, taken_open, offered_transfer, found_transfer, open_transfer, taken_transfer, offered_cancel, take_runs, takes_get, takes_put, takes_control, Asked, IsOffered, HasRoom}
-use Rattle.script_fits.specs.Fits.{IsFitCommand, IsFitLine}
+use Rattle.script_fits.specs.Fits.{IsFitCommand}
 use Rattle.bus_world.specs.Rooms.{needs, needs_line, no_room, transfer_room, with_room, HasRoomFor, reserve_of}
 use Rattle.bus_world.specs.World.{World, commanded, commanded_by}
 use Rattle.bus_world.proofs.Offering.{get_asked, put_asked, request_asked}
@@ -75,8 +74,8 @@ open_transfer_leaves : (d : DriverContent) (m : Mem) (e : ℕ) (x : Endpoint) (a
 open_transfer_leaves d m e x a r (Some cause) room = tt
 open_transfer_leaves d m e x a r None room =
     leaves_if r (nat_lt 20480 a.most) (Err errors.TooLong) (taken_transfer d e x a (take_runs (holding d.book m) _))
-      (λ _. tt)
-      (λ h. taken_transfer_leaves d e x a r _ (short a.most h) room)
+    (λ _. tt)
+    (λ h. taken_transfer_leaves d e x a r _ (short a.most h) room)
 
 found_leaves : (d : DriverContent) (m : Mem) (takes : Endpoint → Bool) (a : Asked) (e : ℕ) (r : Reserve) (x : Option Endpoint) → HasRoomFor d.room (with_room (transfer_room a.most) r) → Leaves r (found_transfer d m takes a e x)
 found_leaves d m takes a e r None room = tt
@@ -92,12 +91,12 @@ cancel_leaves : (d : DriverContent) (m : Mem) (e : ℕ) (x : Option Endpoint) (r
 cancel_leaves d m e None r room = tt
 cancel_leaves d m e (Some x) r room =
     leaves_if r x.cancelled _ _ (λ _. tt)
-      (λ _. record {
-        endpoints = omega (arith, room.endpoints);
-        transfers = omega (arith, room.transfers);
-        reports = omega (arith, room.reports);
-        report_bytes = omega (arith, room.report_bytes);
-      })
+    (λ _. record {
+      endpoints = omega (arith, room.endpoints);
+      transfers = omega (arith, room.transfers);
+      reports = omega (arith, room.reports);
+      report_bytes = omega (arith, room.report_bytes);
+    })
 
 -- ---- any command
 

@@ -1,11 +1,8 @@
 -- A device takes no more bytes than it has room for.
-use Rattle.std.proofs.Common.{◌≡◌, ℕ, zero, suc, ◌+◌, ◌≤◌, ◌<◌, Bool, true, false, List, [], ◌∷◌, ◌++◌, length, map, slice_get, slice_set, Option, Some, None, refl, ap, sym, ◌∙◌, subst, arith, length-append}
-use Rattle.std.specs.Prelude.{if◌then◌else◌, nat_le, ◌==◌, ◌^◌}
+use Rattle.std.proofs.Common.{◌≡◌, ℕ, zero, suc, ◌+◌, ◌<◌, Bool, true, false, List, [], ◌∷◌, length, map, slice_get, slice_set, Option, Some, None, refl, subst, arith, length-append}
 use Rattle.std.specs.List.{AllByRecursion, find}
-use Rattle.std.specs.Option.{option_map, option_and_then}
 use Rattle.std.proofs.lemmas.Bool.{cond_both, leb-true}
 use Rattle.usb_base.specs.declared.packets.Ask.{Ask}
-use Rattle.usb_base.specs.declared.packets.Pid.{Pid}
 use Rattle.usb_base.specs.declared.packets.EpKind.{EpKind}
 use Rattle.usb_base.specs.declared.packets.EpKind.TheVariants as Kinds
 use Rattle.usb_base.specs.declared.packets.Way.{Way}
@@ -23,12 +20,12 @@ use Rattle.endpoint_script.specs.declared.endpoint.Part.{Part}
 use Rattle.endpoint_script.specs.declared.endpoint.Part.TheVariants.{Sends, Takes, Controls, Streams, Hears}
 use Rattle.endpoint_script.specs.declared.rows.TakeRow.{TakeRow}
 use Rattle.endpoint_script.specs.declared.rows.TakeRow.TheVariants as takes
-use Rattle.endpoint_script.specs.Taking.{Taking, next_row, out_row, ping_row, has_room, is_ping, take_row, row_of, took, after_row as after_taking, taking_answered, taking_at}
+use Rattle.endpoint_script.specs.Taking.{Taking, next_row, out_row, ping_row, has_room, is_ping, take_row, row_of, after_row as after_taking}
 use Rattle.endpoint_script.specs.Device.{Device, opened_part, opened_endpoint, opening, part_begun, endpoint_begun, begun, part_answered, endpoint_answered, part_acked, endpoint_acked, answered, answered_in, answered_at, acked_by, acked_in, acked_at, place_of, taken_of, taken_from, part_taken, endpoint_at, place_of_name}
 use Rattle.usb_bus.specs.declared.asked.Asked.{Asked}
 use Rattle.usb_bus.specs.declared.who_heard.WhoHeard.{WhoHeard}
 use Rattle.usb_bus.specs.declared.who_heard.WhoHeard.TheVariants as rows
-use Rattle.usb_bus.specs.Bus.{Fixed, Bus, begins_anew, begun_at, begin_after, asked_of, device_after, after_row, after_by, after_at, row_of as heard_row, transact_after}
+use Rattle.usb_bus.specs.Bus.{Fixed, Bus, begins_anew, begun_at, begin_after, asked_of, device_after, after_by, after_at, row_of as heard_row, transact_after}
 use Rattle.script_fits.specs.Fits.{IsFitRoom}
 use Rattle.bus_world.specs.Sound.{IsRoomy, IsRoomyEndpoint, IsRoomyDevice}
 
@@ -200,7 +197,7 @@ opened_roomy Ways.Out Kinds.Control e h = (omega arith, h)
 pub opening_roomy : (ds : List DeviceText) → AllByRecursion (λ d. AllByRecursion IsFitRoom d.eps) ds → AllByRecursion IsRoomyDevice (map opening ds)
 opening_roomy ds h =
     all_map (λ d. AllByRecursion IsFitRoom d.eps) IsRoomyDevice opening ds
-      (λ d k. record { each = all_map IsFitRoom IsRoomyEndpoint opened_endpoint d.eps (λ e r. opened_roomy e.desc.name.way e.desc.kind e r) k }) h
+    (λ d k. record { each = all_map IsFitRoom IsRoomyEndpoint opened_endpoint d.eps (λ e r. opened_roomy e.desc.name.way e.desc.kind e r) k }) h
 
 -- ---- the bytes that were taken
 

@@ -1,5 +1,5 @@
 -- What holds of a world at each moment holds after each event and each command.
-use Rattle.std.proofs.Common.{◌≡◌, ℕ, ◌+◌, ◌≤◌, Bool, true, false, List, [], ◌∷◌, ◌++◌, length, map, Option, Some, None, Result, Ok, Err, refl, ap, sym, ◌∙◌, subst, arith}
+use Rattle.std.proofs.Common.{◌≡◌, ℕ, Bool, true, false, List, length, Option, Some, None, Ok, sym, subst, arith}
 use Rattle.std.specs.List.{AllByRecursion}
 use Rattle.usb_base.specs.declared.commands.Cmd.{Cmd}
 use Rattle.usb_base.specs.declared.endpoints.EpName.{EpName}
@@ -10,7 +10,7 @@ use Rattle.word_mem.specs.Access.{IsByController}
 use Rattle.run_book.specs.Book.{Book, holding, Stands}
 use Rattle.walk_copy.specs.declared.held.Held.{Held}
 use Rattle.walk_copy.specs.declared.held.Transaction.{Transaction}
-use Rattle.walk_copy.specs.Buffer.{Reading, sending}
+use Rattle.walk_copy.specs.Buffer.{sending}
 use Rattle.walk_copy.specs.Transacting.{call_in}
 use Rattle.op_registers.specs.Events.{next_index}
 use Rattle.async_walk.specs.declared.rows.Row.{Row as WalkRow}
@@ -22,10 +22,9 @@ use Rattle.hc_core.specs.Controller.{Content, entered, walk_place}
 use Rattle.driver_rows.specs.DriverContent.{DriverContent, new_driver}
 use Rattle.driver_rows.specs.declared.content.Reserve.{Reserve}
 use Rattle.driver_rows.specs.Rows.{Parts, row_of, after_row}
-use Rattle.driver_rows.specs.Offers.{Offered, offered}
-use Rattle.script_types.specs.declared.devices.DeviceText.{DeviceText}
+use Rattle.driver_rows.specs.Offers.{offered}
 use Rattle.usb_bus.specs.Bus.{Fixed, Bus}
-use Rattle.bus_world.specs.World.{Standing, World, controller_row, controller_parts, controller_next, turned_by, walk_by, walk_next, sends_by, sent_by, refused_line}
+use Rattle.bus_world.specs.World.{Standing, World, controller_row, controller_parts, controller_next, turned_by, walk_by, sends_by, sent_by, refused_line}
 use Rattle.bus_world.specs.Sound.{IsSound, IsRoomyDevice}
 use Rattle.bus_world.proofs.Kept.{row_keeps, line_stored}
 use Rattle.bus_world.proofs.Standing.{book_stands}

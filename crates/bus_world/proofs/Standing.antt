@@ -22,12 +22,12 @@ book_stands k old new s by = record {
   };
   placed = s.placed;
   clean = λ b i free h.
-    let was : slice_get old.states b ≡ Some Free = ap (λ ss. slice_get ss b) (sym by.states) ∙ free in
-    let out : reaches old (4 * (8 * b + i)) ≡ false = ap (λ n. is_lent (slice_get old.states n)) (place_block b i h) ∙ ap is_lent was in
-    ap (λ n. slice_index new.words n) (sym (place_word b i))
-    ∙ by.outside (4 * (8 * b + i)) out
-    ∙ ap (λ n. slice_index old.words n) (place_word b i)
-    ∙ s.clean b i was h;
+      let was : slice_get old.states b ≡ Some Free = ap (λ ss. slice_get ss b) (sym by.states) ∙ free in
+      let out : reaches old (4 * (8 * b + i)) ≡ false = ap (λ n. is_lent (slice_get old.states n)) (place_block b i h) ∙ ap is_lent was in
+      ap (λ n. slice_index new.words n) (sym (place_word b i))
+      ∙ by.outside (4 * (8 * b + i)) out
+      ∙ ap (λ n. slice_index old.words n) (place_word b i)
+      ∙ s.clean b i was h;
   sizes = s.sizes ∙ ap length (sym by.states);
   few = s.few;
 }

@@ -1,10 +1,10 @@
 -- Ticks one after the other: they join, and what turns and events are.
-use Rattle.std.proofs.Common.{◌≡◌, ℕ, zero, suc, ◌+◌, ◌*◌, ◌-◌, ◌≤◌, List, [], ◌∷◌, Bool, true, false, refl, ap, sym, ◌∙◌, zero-add, arith, subst}
+use Rattle.std.proofs.Common.{◌≡◌, ℕ, zero, suc, ◌+◌, ◌*◌, ◌≤◌, List, ◌∷◌, Bool, true, false, refl, ap, sym, ◌∙◌, zero-add, arith, subst}
 use Rattle.script_types.specs.declared.scripts.Event.{Event}
 use Rattle.script_types.specs.declared.scripts.Event.TheVariants as events
 use Rattle.usb_bus.specs.Bus.{Fixed}
 use Rattle.bus_world.specs.World.{World, Standing, next, kind_next}
-use Rattle.bus_world.specs.Orders.{Left, Events, Microframes, Answer, Place, tick, ticks, Leads, at_place, is_end, fewer, IsUnended, IsOverlong, most_turns}
+use Rattle.bus_world.specs.Orders.{Left, Events, Microframes, Place, tick, ticks, Leads, at_place, is_end, fewer, IsUnended, IsOverlong, most_turns}
 
 pub ticks_more : (fixed : Fixed) (p : Place) (a b : ℕ) → ticks fixed p (a + b) ≡ ticks fixed (ticks fixed p a) b
 unfolding ticks
@@ -78,20 +78,20 @@ is_unended begun now k many still n rest = record { turns = k; many = many; stil
 pub orders_end : (fixed : Fixed) (p : Place) (w : World) (n : ℕ) (rest : List Left) → n ≡ 0 → Leads fixed p (at_place w (Microframes n ∷ rest)) → Leads fixed p (at_place w rest)
 orders_end fixed p w n rest z h =
     joined fixed p (at_place w (Microframes 0 ∷ rest)) (at_place w rest)
-      (subst (λ m. Leads fixed p (at_place w (Microframes m ∷ rest))) z h)
-      (one_tick fixed (at_place w (Microframes 0 ∷ rest)))
+    (subst (λ m. Leads fixed p (at_place w (Microframes m ∷ rest))) z h)
+    (one_tick fixed (at_place w (Microframes 0 ∷ rest)))
 
 pub events_end : (fixed : Fixed) (p : Place) (w : World) (event : Event) (n : ℕ) (rest : List Left) → n ≡ 0 → Leads fixed p (at_place w (Events event n ∷ rest)) → Leads fixed p (at_place w rest)
 events_end fixed p w event n rest z h =
     joined fixed p (at_place w (Events event 0 ∷ rest)) (at_place w rest)
-      (subst (λ m. Leads fixed p (at_place w (Events event m ∷ rest))) z h)
-      (one_tick fixed (at_place w (Events event 0 ∷ rest)))
+    (subst (λ m. Leads fixed p (at_place w (Events event m ∷ rest))) z h)
+    (one_tick fixed (at_place w (Events event 0 ∷ rest)))
 
 pub one_event : (fixed : Fixed) (p : Place) (w : World) (event : Event) (n m : ℕ) (rest : List Left) → n ≡ suc m → Leads fixed p (at_place w (Events event n ∷ rest)) → Leads fixed p (at_place (next fixed w event) (Events event m ∷ rest))
 one_event fixed p w event n m rest e h =
     joined fixed p (at_place w (Events event (suc m) ∷ rest)) (at_place (next fixed w event) (Events event m ∷ rest))
-      (subst (λ k. Leads fixed p (at_place w (Events event k ∷ rest))) e h)
-      (one_tick fixed (at_place w (Events event (suc m) ∷ rest)))
+    (subst (λ k. Leads fixed p (at_place w (Events event k ∷ rest))) e h)
+    (one_tick fixed (at_place w (Events event (suc m) ∷ rest)))
 
 -- ---- several of one kind
 
@@ -102,13 +102,13 @@ GoneOn begun now kind count left = (rest : List Left) → Leads begun.fixed (at_
 pub gone_begins : (begun : Standing) (kind : ℕ → Left) (count left : ℕ) → left ≡ count → GoneOn begun begun kind count left
 gone_begins begun kind count left e rest =
     subst (λ n. Leads begun.fixed (at_place begun.world (kind count ∷ rest)) (at_place begun.world (kind n ∷ rest))) (sym e)
-      (nothing begun.fixed (at_place begun.world (kind count ∷ rest)))
+    (nothing begun.fixed (at_place begun.world (kind count ∷ rest)))
 
 pub event_more : (begun now later : Standing) (event : Event) (count left fewer_left : ℕ) → left ≡ suc fewer_left → later ≡ record now { world = next now.fixed now.world event } → now.fixed ≡ begun.fixed → GoneOn begun now (Events event) count left → GoneOn begun later (Events event) count fewer_left
 event_more begun now later event count left fewer_left e world fixed gone rest =
     let is : later.world ≡ next begun.fixed now.world event = ap (λ (s : Standing). s.world) world ∙ ap (λ (f : Fixed). next f now.world event) fixed in
     subst (λ w. Leads begun.fixed (at_place begun.world (Events event count ∷ rest)) (at_place w (Events event fewer_left ∷ rest))) (sym is)
-      (one_event begun.fixed (at_place begun.world (Events event count ∷ rest)) now.world event left fewer_left rest e (gone rest))
+    (one_event begun.fixed (at_place begun.world (Events event count ∷ rest)) now.world event left fewer_left rest e (gone rest))
 
 pub events_done : (begun now : Standing) (event : Event) (count left : ℕ) → left ≡ 0 → GoneOn begun now (Events event) count left → (rest : List Left) → Leads begun.fixed (at_place begun.world (Events event count ∷ rest)) (at_place now.world rest)
 events_done begun now event count left z gone rest = events_end begun.fixed (at_place begun.world (Events event count ∷ rest)) now.world event left rest z (gone rest)
@@ -123,8 +123,8 @@ Unended now later = (n : ℕ) (rest : List Left) → IsUnended now.fixed (at_pla
 pub microframe_more : (begun now later : Standing) (count left fewer_left : ℕ) → left ≡ suc fewer_left → now.fixed ≡ begun.fixed → Ended now later → GoneOn begun now Microframes count left → GoneOn begun later Microframes count fewer_left
 microframe_more begun now later count left fewer_left e fixed ended gone rest =
     joined begun.fixed (at_place begun.world (Microframes count ∷ rest)) (at_place now.world (Microframes left ∷ rest)) (at_place later.world (Microframes fewer_left ∷ rest)) (gone rest)
-      (subst (λ n. Leads begun.fixed (at_place now.world (Microframes n ∷ rest)) (at_place later.world (Microframes fewer_left ∷ rest))) (sym e)
-        (subst (λ (f : Fixed). Leads f (at_place now.world (Microframes (suc fewer_left) ∷ rest)) (at_place later.world (Microframes fewer_left ∷ rest))) fixed (ended fewer_left rest)))
+    (subst (λ n. Leads begun.fixed (at_place now.world (Microframes n ∷ rest)) (at_place later.world (Microframes fewer_left ∷ rest))) (sym e)
+    (subst (λ (f : Fixed). Leads f (at_place now.world (Microframes (suc fewer_left) ∷ rest)) (at_place later.world (Microframes fewer_left ∷ rest))) fixed (ended fewer_left rest)))
 
 pub microframes_done : (begun now : Standing) (count left : ℕ) → left ≡ 0 → GoneOn begun now Microframes count left → (rest : List Left) → Leads begun.fixed (at_place begun.world (Microframes count ∷ rest)) (at_place now.world rest)
 microframes_done begun now count left z gone rest = orders_end begun.fixed (at_place begun.world (Microframes count ∷ rest)) now.world left rest z (gone rest)

@@ -1,7 +1,6 @@
 -- The lines of a script, one after the other: what is left leads where all led, and there is room for its commands.
-use Rattle.std.proofs.Common.{◌≡◌, ℕ, suc, ◌+◌, ◌≤◌, ◌<◌, List, [], ◌∷◌, length, drop, get_or, Bool, true, false, refl, ap, sym, ◌∙◌, subst, inl, inr, arith}
+use Rattle.std.proofs.Common.{◌≡◌, ℕ, ◌+◌, ◌<◌, List, [], ◌∷◌, length, drop, get_or, refl, ap, sym, ◌∙◌, subst, inl, inr}
 use Rattle.std.specs.List.{AllByRecursion}
-use Rattle.std.specs.Bool.{OnTrue, OnFalse}
 use Rattle.script_types.specs.declared.scripts.Event.{Event}
 use Rattle.script_types.specs.declared.scripts.Event.TheVariants as events
 use Rattle.script_types.specs.declared.scripts.Line.{Line}
@@ -30,7 +29,7 @@ event_room now later event e = ap (λ (s : Standing). s.world.driver.room) e ∙
 pub command_done : (now later : Standing) (n : ℕ) (cmd : Cmd) → later ≡ record now { world = commanded now.world n cmd } → (rest : List Left) → Leads now.fixed (at_place now.world (Command n cmd ∷ rest)) (at_place later.world rest)
 command_done now later n cmd e rest =
     subst (λ (w : World). Leads now.fixed (at_place now.world (Command n cmd ∷ rest)) (at_place w rest)) (sym (ap (λ (s : Standing). s.world) e))
-      (one_tick now.fixed (at_place now.world (Command n cmd ∷ rest)))
+    (one_tick now.fixed (at_place now.world (Command n cmd ∷ rest)))
 
 pub command_line_done : (now later : Standing) (l : Line) (n : ℕ) (cmd : Cmd) → l ≡ lines.Command cmd → later ≡ record now { world = commanded now.world n cmd } → (rest : List Left) → Leads now.fixed (at_place now.world (left_of l n ∷ rest)) (at_place later.world rest)
 command_line_done now later l n cmd is e rest =
@@ -39,7 +38,7 @@ command_line_done now later l n cmd is e rest =
 pub command_line_room : (now later : Standing) (l : Line) (n : ℕ) (cmd : Cmd) → l ≡ lines.Command cmd → later ≡ record now { world = commanded now.world n cmd } → IsFitLine l → (r : Reserve) → HasRoomFor now.world.driver.room (with_room (needs_line l) r) → HasRoomFor later.world.driver.room r
 command_line_room now later l n cmd is e fit r room =
     subst (λ (s : Standing). HasRoomFor s.world.driver.room r) (sym e)
-      (command_leaves now.world n cmd r (subst IsFitLine is fit) (subst (λ (x : Line). HasRoomFor now.world.driver.room (with_room (needs_line x) r)) is room))
+    (command_leaves now.world n cmd r (subst IsFitLine is fit) (subst (λ (x : Line). HasRoomFor now.world.driver.room (with_room (needs_line x) r)) is room))
 
 -- ---- lines
 
@@ -69,7 +68,7 @@ way_more begun now later all rest x way fixed done room = record {
   fixed = fixed ∙ way.fixed;
   leads =
       joined begun.fixed (at_place begun.world (orders_of all)) (at_place now.world (orders_of (x ∷ rest))) (at_place later.world (orders_of rest)) way.leads
-        (subst (λ (f : Fixed). Leads f (at_place now.world (orders_of (x ∷ rest))) (at_place later.world (orders_of rest))) way.fixed (done (orders_of rest)));
+      (subst (λ (f : Fixed). Leads f (at_place now.world (orders_of (x ∷ rest))) (at_place later.world (orders_of rest))) way.fixed (done (orders_of rest)));
   room = room (reserve_of rest) way.room;
   fits = way.fits.1;
 }
@@ -87,7 +86,7 @@ pub way_overlong : (begun now later : Standing) (all rest : List (ℕ × Line)) 
 way_overlong begun now later all rest x way overlong =
     inr
     (overlong_after begun.fixed (at_place begun.world (orders_of all)) (at_place now.world (orders_of (x ∷ rest))) later.world way.leads
-      (subst (λ (f : Fixed). IsOverlong f (at_place now.world (orders_of (x ∷ rest))) later.world) way.fixed (overlong (orders_of rest))))
+    (subst (λ (f : Fixed). IsOverlong f (at_place now.world (orders_of (x ∷ rest))) later.world) way.fixed (overlong (orders_of rest))))
 
 pub way_ends : (begun now : Standing) (all left : List (ℕ × Line)) → left ≡ [] → IsUnderWay begun now all left → IsRun begun.fixed begun.world (orders_of all) now.world
 way_ends begun now all left e way = inl (subst (λ (xs : List (ℕ × Line)). Leads begun.fixed (at_place begun.world (orders_of all)) (at_place now.world (orders_of xs))) e way.leads)

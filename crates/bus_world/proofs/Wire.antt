@@ -1,5 +1,5 @@
 -- Over the wire of the world an event of the controller is a function.
-use Rattle.std.proofs.Common.{◌≡◌, ℕ, Bool, true, false, List, [], Option, Some, None, refl, ap, sym, ◌∙◌, subst}
+use Rattle.std.proofs.Common.{◌≡◌, ℕ, Bool, true, false, List, Option, Some, None, ap, ◌∙◌}
 use Rattle.usb_base.specs.declared.packets.Ask.{Ask}
 use Rattle.usb_base.specs.declared.packets.Reply.{Reply}
 use Rattle.walk_copy.specs.declared.held.Held.{Held}
@@ -14,9 +14,9 @@ use Rattle.hc_core.specs.declared.controller.Row.{Row}
 use Rattle.hc_core.specs.declared.controller.Row.TheVariants as rows
 use Rattle.word_mem.specs.Memory.{Mem}
 use Rattle.op_registers.specs.RegisterFile.{RegisterFile}
-use Rattle.hc_core.specs.Controller.{Control, Content, content, began, faulted, ended, entered, walk_place, walk_step, part_after, Walks, HasRow}
-use Rattle.usb_bus.specs.Bus.{Bus, Fixed, Wired, begin_after, is_allowed, reply_of, transact_after}
-use Rattle.bus_world.specs.World.{Standing, World, controller_row, controller_parts, controller_next, with_turned, Turned, Walked, sent_by, sends_by, walk_by, walk_next, walked, walked_content, turned_by}
+use Rattle.hc_core.specs.Controller.{Control, Content, content, began, faulted, ended, entered, walk_place, Walks, HasRow}
+use Rattle.usb_bus.specs.Bus.{Fixed, Wired, begin_after, is_allowed, reply_of, transact_after}
+use Rattle.bus_world.specs.World.{Standing, controller_row, controller_parts, controller_next, with_turned, Turned, Walked, sent_by, sends_by, walk_by, walk_next, walked, turned_by}
 
 -- the relations of the bus
 abbrev pub begins_in : Wired → ℕ → Bool → Wired → Type 0
@@ -41,8 +41,8 @@ sent_is : (b : Bool) (t : Transaction) (h : Held) (read : Reading) (p : Place) (
 sent_is true t h read p w new v s = record {
   is =
       walked_pair new v (transacted t h read.bytes (reply_of w.fixed w.bus (call_in t read.bytes false).ask (call_in t read.bytes false).out) (record p { memory = read.memory }))
-        (record w { bus = transact_after w.fixed w.bus (call_in t read.bytes false).ask (call_in t read.bytes false).out })
-        (s.place ∙ ap (λ r. transacted t h read.bytes r (record p { memory = read.memory })) s.made.0) s.made.1;
+      (record w { bus = transact_after w.fixed w.bus (call_in t read.bytes false).ask (call_in t read.bytes false).out })
+      (s.place ∙ ap (λ r. transacted t h read.bytes r (record p { memory = read.memory })) s.made.0) s.made.1;
   fixed = ap (λ (x : Wired). x.fixed) s.made.1;
 }
 sent_is false t h read p w new v s = still_is w (walk_faulted (record p { memory = read.memory })) new v s
@@ -87,7 +87,7 @@ turned_is rows.Idle c w new v s = stays_is w c new v s
 turned_is rows.Begin c w new v s = record {
   is =
       turned_pair new v (began (is_allowed w.fixed w.bus) c) (record w { bus = begin_after (next_index c.registers.frame_index) w.bus })
-        (s.contents ∙ ap (λ allowed. began allowed c) s.asked.0) s.asked.1;
+      (s.contents ∙ ap (λ allowed. began allowed c) s.asked.0) s.asked.1;
   fixed = ap (λ (x : Wired). x.fixed) s.asked.1;
 }
 turned_is rows.FrameFault c w new v s = stays_is w (faulted c) new v s

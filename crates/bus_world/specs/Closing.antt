@@ -2,13 +2,13 @@
 --     closing_text w s      what closes the report of an endpoint
 --     world_text fixed w    the whole report
 --     world_image w         the image of memory
-use Rattle.std.specs.Prelude.{ℕ, nat_lt, Bool, true, false, List, [], ◌++◌, ◌==◌, find, Option, Some, None, is_none, if◌then◌else◌}
+use Rattle.std.specs.Prelude.{ℕ, nat_lt, List, [], ◌++◌, ◌==◌, find, Option, Some, None, is_none, if◌then◌else◌}
 use Rattle.std.specs.List.{flat_map}
 use Rattle.usb_base.specs.declared.endpoints.EpName.{EpName}
 use Rattle.usb_base.specs.declared.packets.EpKind.{EpKind}
-use Rattle.usb_base.specs.declared.packets.EpKind.TheVariants.{Control, Iso, Bulk, Interrupt}
+use Rattle.usb_base.specs.declared.packets.EpKind.TheVariants.{Bulk, Interrupt}
 use Rattle.usb_base.specs.declared.packets.Way.{Way}
-use Rattle.usb_base.specs.declared.packets.Way.TheVariants.{In, Out, Ctl}
+use Rattle.usb_base.specs.declared.packets.Way.TheVariants.{Out, Ctl}
 use Rattle.report_text.specs.ReportText.{report_text, pending_line, taken_line, acted_line}
 use Rattle.endpoint_script.specs.Device.{Device, taken_of, acted_of}
 use Rattle.driver_rows.specs.DriverContent.{DriverContent, pending, opened, ended}

@@ -1,6 +1,6 @@
 -- What holds of a world at each moment, beside its content's own form: the driver's runs stand in memory, the bytes of each line of the
 -- report among those of all lines, and no device took more bytes than it has room for.
-use Rattle.std.specs.Prelude.{ℕ, ◌≤◌, length}
+use Rattle.std.specs.Prelude.{◌≤◌, length}
 use Rattle.std.specs.List.{AllByRecursion}
 use Rattle.report_text.specs.ReportText.{AreStored}
 use Rattle.endpoint_script.specs.declared.endpoint.Endpoint.{Endpoint}

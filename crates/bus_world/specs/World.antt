@@ -4,12 +4,10 @@
 --     next fixed w event         what one event leaves: of the driver, or of the controller over the wire
 --     kind_after fixed w         the kind of the controller's next event
 --     commanded w n cmd          what a command on line n leaves
-use Rattle.std.specs.Prelude.{◌≡◌, ℕ, ◌-◌, Bool, true, false, ◌&&◌, List, [], ◌∷◌, ◌++◌, length, Option, Some, None, Result, Ok, Err, if◌then◌else◌}
+use Rattle.std.specs.Prelude.{ℕ, ◌-◌, Bool, true, false, List, [], ◌∷◌, ◌++◌, length, Option, Some, None, Result, Ok, Err}
 use Rattle.usb_base.specs.declared.commands.Cmd.{Cmd}
 use Rattle.usb_base.specs.declared.commands.Cmd.TheVariants as commands
 use Rattle.usb_base.specs.declared.endpoints.EpName.{EpName}
-use Rattle.usb_base.specs.declared.packets.Ask.{Ask}
-use Rattle.usb_base.specs.declared.packets.Reply.{Reply}
 use Rattle.usb_base.specs.declared.reports.OfferError.{OfferError}
 use Rattle.usb_base.specs.declared.reports.What.TheVariants.{Refused}
 use Rattle.script_types.specs.declared.scripts.Event.{Event}
@@ -24,7 +22,7 @@ use Rattle.walk_copy.specs.Buffer.{Reading, sending}
 use Rattle.walk_copy.specs.Transacting.{call_in}
 use Rattle.async_walk.specs.declared.rows.Row.{Row as WalkRow}
 use Rattle.async_walk.specs.declared.rows.Row.TheVariants as walks
-use Rattle.async_walk.specs.Rows.{Place as WalkPlace, place, at_event, event_row, after_row as after_walk, transacted, faulted as walk_faulted}
+use Rattle.async_walk.specs.Rows.{Place as WalkPlace, at_event, event_row, after_row as after_walk, transacted, faulted as walk_faulted}
 use Rattle.hc_core.specs.declared.controller.HcStep.{HcStep}
 use Rattle.hc_core.specs.declared.controller.Row.{Row}
 use Rattle.hc_core.specs.declared.controller.Row.TheVariants as rows
@@ -32,7 +30,7 @@ use Rattle.hc_core.specs.Controller.{Control, Content, content, row_of, kind_of,
 use Rattle.driver_rows.specs.DriverContent.{DriverContent}
 use Rattle.driver_rows.specs.Rows.{Parts, row_of as driver_row, after_row as after_driver}
 use Rattle.driver_rows.specs.Offers.{Offered, offered}
-use Rattle.usb_bus.specs.Bus.{Bus, Fixed, Wired, begin_after, is_allowed, reply_of, transact_after}
+use Rattle.usb_bus.specs.Bus.{Bus, Fixed, begin_after, is_allowed, reply_of, transact_after}
 
 pub record World : Type 0 where
   pub registers : RegisterFile

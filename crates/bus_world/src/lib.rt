@@ -10,7 +10,7 @@
 mod build;
 mod closing;
 mod running;
-mod world;
 pub mod worked;
+mod world;
 
 pub use world::World;

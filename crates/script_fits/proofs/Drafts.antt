@@ -96,7 +96,7 @@ ep_fits es name h = mapped IsFitEp IsFitDesc (λ e. e.desc) (find (is_named name
 device_ep_fits : (w : Draft) (name : Name) → IsFitDraft w → Holds IsFitDesc (device_ep w name)
 device_ep_fits w name h =
     then_holds IsFitDevice IsFitDesc (λ d. ep_of d.eps name) (device_of w.devices name.addr) (λ d k. ep_fits d.eps name k.eps)
-      (found IsFitDevice (λ d. d.addr == name.addr) w.devices h.devices)
+    (found IsFitDevice (λ d. d.addr == name.addr) w.devices h.devices)
 
 hub_fits : (a : ℕ) → IsFitDesc (hub_desc a)
 hub_fits a = record { max = omega arith; port = omega arith; kind = tt }
@@ -108,14 +108,14 @@ always (Some x) = tt
 hub_ep_fits : (w : Draft) (name : Name) → Holds IsFitDesc (hub_ep w name)
 hub_ep_fits w name =
     cond_both (name.num == 0 && same_way name.way way.Ctl) (option_map (λ h. hub_desc h.addr) (hub_of w.hubs name.addr)) None (Holds IsFitDesc)
-      (λ _. mapped (λ _. Unit {0}) IsFitDesc (λ (h : HubText). hub_desc h.addr) (hub_of w.hubs name.addr) (λ h _. hub_fits h.addr) (always (hub_of w.hubs name.addr)))
-      (λ _. tt)
+    (λ _. mapped (λ _. Unit {0}) IsFitDesc (λ (h : HubText). hub_desc h.addr) (hub_of w.hubs name.addr) (λ h _. hub_fits h.addr) (always (hub_of w.hubs name.addr)))
+    (λ _. tt)
 
 pub known_fits : (w : Draft) (name : Name) → IsFitDraft w → Holds IsFitDesc (known w name)
 known_fits w name h =
     cond_both (is_name name) (option_or (device_ep w name) (hub_ep w name)) None (Holds IsFitDesc)
-      (λ _. or_holds IsFitDesc (device_ep w name) (hub_ep w name) (device_ep_fits w name h) (hub_ep_fits w name))
-      (λ _. tt)
+    (λ _. or_holds IsFitDesc (device_ep w name) (hub_ep w name) (device_ep_fits w name h) (hub_ep_fits w name))
+    (λ _. tt)
 
 -- ---- answers
 
@@ -145,8 +145,8 @@ some_short : (w : Way) (a : Answer) (ks : List EpKind) → list_any (λ kind. ca
 some_short w a [] e = cc
 some_short w a (k ∷ ks) e =
     elim (or_cases (can_answer w a k 1024) (list_any (λ kind. can_answer w a kind 1024) ks) e) [
-      inl h ↦ answers_short w a k 1024 (omega arith) h
-    | inr h ↦ some_short w a ks h
+      | inl h ↦ answers_short w a k 1024 (omega arith) h
+      | inr h ↦ some_short w a ks h
     ]
 
 reply_at : (way : Way) (a : Answer) (x : Option EpDesc) → Holds IsFitDesc x → option_map_or (λ d. can_answer way a d.kind d.max) x (some_answer way a) ≡ true → AreShort a
@@ -168,7 +168,7 @@ answered_fits a e short h = record {
 at_ep_fits : (name : Name) (f : EpText → EpText) (ds : List Placed) → ((e : EpText) → IsFitEp e → IsFitEp (f e)) → AllByRecursion IsFitDevice ds → AllByRecursion IsFitDevice (at_ep name f ds)
 at_ep_fits name f ds g h =
     all_change IsFitDevice (λ d. d.addr == name.addr) (λ d. record d { eps = change (is_named name) f d.eps }) ds
-      (λ d k. record { port = k.port; eps = all_change IsFitEp (is_named name) f d.eps g k.eps }) h
+    (λ d k. record { port = k.port; eps = all_change IsFitEp (is_named name) f d.eps g k.eps }) h
 
 counted_fits : (a n : ℕ) → counted a n ≤ 4294967295
 counted_fits a n = omega arith
@@ -176,7 +176,7 @@ counted_fits a n = omega arith
 put_room_fits : (name : Name) (n : ℕ) (ds : List Placed) → AllByRecursion IsFitDevice ds → AllByRecursion IsFitDevice (put_room name n ds)
 put_room_fits name n ds h =
     cond_both (same_way name.way way.Out) (at_ep name (roomier n) ds) ds (AllByRecursion IsFitDevice)
-      (λ _. at_ep_fits name (roomier n) ds (λ e k. record { desc = k.desc; items = k.items; room = counted_fits e.room n }) h) (λ _. h)
+    (λ _. at_ep_fits name (roomier n) ds (λ e k. record { desc = k.desc; items = k.items; room = counted_fits e.room n }) h) (λ _. h)
 
 -- ---- endpoints that are declared
 
@@ -231,19 +231,19 @@ after_fits w n (says.Mem words) t said h =
 after_fits w n (says.Hub addr ports) t said h = let e = t.built in cc
 after_fits w n (says.DevHigh addr) t said h =
     cond_both (within 1 127 addr) _ w IsFitDraft
-      (λ _. record { words = h.words; devices = all_append IsFitDevice w.devices _ h.devices (record { port = omega arith; eps = tt }); lines = h.lines })
-      (λ _. h)
+    (λ _. record { words = h.words; devices = all_append IsFitDevice w.devices _ h.devices (record { port = omega arith; eps = tt }); lines = h.lines })
+    (λ _. h)
 after_fits w n (says.DevBelow b) t said h = let e = t.built in cc
 after_fits w n (says.Ep l) t said h =
     let a = and_parts (is_endpoint l && is_placed l.kind l.name) _ t.ranged in
     let b = and_parts (is_endpoint l) (is_placed l.kind l.name) a.0 in
     cond_both (is_endpoint l && is_some (device_of w.devices l.name.addr)) _ w IsFitDraft
-      (λ _. record {
-        words = h.words;
-        devices = all_change IsFitDevice (λ d. d.addr == l.name.addr) (with_ep l) w.devices (λ d k. with_ep_fits l d (max_within l b.0) (built_ring l.kind t.built) k) h.devices;
-        lines = h.lines;
-      })
-      (λ _. h)
+    (λ _. record {
+      words = h.words;
+      devices = all_change IsFitDevice (λ d. d.addr == l.name.addr) (with_ep l) w.devices (λ d k. with_ep_fits l d (max_within l b.0) (built_ring l.kind t.built) k) h.devices;
+      lines = h.lines;
+    })
+    (λ _. h)
 after_fits w n (says.Reply name a) t said h = record {
   words = h.words;
   devices = at_ep_fits name (answered a) w.devices (λ e k. answered_fits a e (reply_short w name a h t.ranged) k) h.devices;
@@ -257,7 +257,7 @@ after_fits w n (says.Get l) t said h =
     where_fits w l.name _ h (commanded_fits (record w { asked = counted w.asked l.len }) n _ (piece l.by said) (record { words = h.words; devices = h.devices; lines = h.lines }))
 after_fits w n (says.Put l) t said h =
     where_fits w l.name _ h
-      (commanded_fits (record w { scripted = counted w.scripted (content_len l.content); devices = put_room l.name (content_len l.content) w.devices }) n _ (piece l.by said) (record { words = h.words; devices = put_room_fits l.name _ w.devices h.devices; lines = h.lines }))
+    (commanded_fits (record w { scripted = counted w.scripted (content_len l.content); devices = put_room l.name (content_len l.content) w.devices }) n _ (piece l.by said) (record { words = h.words; devices = put_room_fits l.name _ w.devices h.devices; lines = h.lines }))
 after_fits w n (says.Control c) t said h =
     where_fits w (control_name c.addr) _ h (commanded_fits (record w { scripted = counted w.scripted (bytes_len c.bytes) }) n _ tt (record { words = h.words; devices = h.devices; lines = h.lines }))
 after_fits w n (says.Iso l) t said h = let e = t.built in cc

@@ -27,7 +27,7 @@ HasLength ws (Some m) = length (slots_of m.form) ≡ length ws
 further_long : (ws : List (List ℕ)) (m n : Mark) → HasLength ws (Some m) → HasLength ws (Some n) → HasLength ws (Some (further m n))
 further_long ws m n h k =
     cond_both (nat_lt m.at n.at) n (if nat_lt n.at m.at then m else record m { why = worse m.why n.why }) (λ x. HasLength ws (Some x)) (λ _. k)
-      (λ _. cond_both (nat_lt n.at m.at) m (record m { why = worse m.why n.why }) (λ x. HasLength ws (Some x)) (λ _. h) (λ _. h))
+    (λ _. cond_both (nat_lt n.at m.at) m (record m { why = worse m.why n.why }) (λ x. HasLength ws (Some x)) (λ _. h) (λ _. h))
 
 joined_long : (ws : List (List ℕ)) (best : Option Mark) (m : Mark) → HasLength ws best → HasLength ws (Some m) → HasLength ws (joined best m)
 joined_long ws None m h k = k
@@ -36,8 +36,8 @@ joined_long ws (Some best) m h k = further_long ws best m h k
 held_long : (ws : List (List ℕ)) (best : Option Mark) (form : Form) → HasLength ws best → HasLength ws (held ws best form)
 held_long ws best form h =
     cond_both (length (slots_of form) == length ws) (joined best (marked form ws)) best (HasLength ws)
-      (λ e. joined_long ws best (marked form ws) h (eqb-true (length (slots_of form)) (length ws) e))
-      (λ _. h)
+    (λ e. joined_long ws best (marked form ws) h (eqb-true (length (slots_of form)) (length ws) e))
+    (λ _. h)
 
 folded_long : (ws : List (List ℕ)) (best : Option Mark) (forms : List Form) → HasLength ws best → HasLength ws (fold (held ws) best forms)
 folded_long ws best [] h = h
@@ -51,8 +51,8 @@ verdict_ranged : (ws : List (List ℕ)) (best : Option Mark) → HasLength ws be
 verdict_ranged ws None h = tt
 verdict_ranged ws (Some m) h =
     cond_both (m.at == length ws) (if all_ranged (slots_of m.form) ws then Ok m.form else Err _) (Err m.why) (IsRangedIf ws)
-      (λ _. cond_both (all_ranged (slots_of m.form) ws) (Ok m.form) (Err _) (IsRangedIf ws) (λ e. record { ranged = e; long = h }) (λ _. tt))
-      (λ _. tt)
+    (λ _. cond_both (all_ranged (slots_of m.form) ws) (Ok m.form) (Err _) (IsRangedIf ws) (λ e. record { ranged = e; long = h }) (λ _. tt))
+    (λ _. tt)
 
 pub form_ranged : (first : FirstWord) (ws : List (List ℕ)) → IsRangedIf ws (form_of first ws)
 unfolding form_of

@@ -70,10 +70,10 @@ words_fit w n (first ∷ more) h =
 line_fits : (w : Draft) (n : ℕ) (line : List ℕ) → IsFitDraft w → Fits (line_read w n line)
 line_fits w n line h =
     cond_both (nat_lt 65535 (length line)) (Err C.Long) _ Fits (λ _. tt)
-      (λ _. cond_both (not (list_all may_stand line)) (Err C.Byte) _ Fits (λ _. tt)
-        (λ _. cond_both (n == 1) (if bytes_eq line (codes "ehci 1") then Ok w else Err C.Version) _ Fits
-          (λ _. cond_both (bytes_eq line (codes "ehci 1")) (Ok w) (Err C.Version) Fits (λ _. h) (λ _. tt))
-          (λ _. cond_both (says line) (words_read w n (words_in line)) (Ok w) Fits (λ _. words_fit w n (words_in line) h) (λ _. h))))
+    (λ _. cond_both (not (list_all may_stand line)) (Err C.Byte) _ Fits (λ _. tt)
+    (λ _. cond_both (n == 1) (if bytes_eq line (codes "ehci 1") then Ok w else Err C.Version) _ Fits
+    (λ _. cond_both (bytes_eq line (codes "ehci 1")) (Ok w) (Err C.Version) Fits (λ _. h) (λ _. tt))
+    (λ _. cond_both (says line) (words_read w n (words_in line)) (Ok w) Fits (λ _. words_fit w n (words_in line) h) (λ _. h))))
 
 -- ---- a text
 
@@ -92,7 +92,7 @@ empty_fits = record { words = tt; devices = tt; lines = tt }
 text_fits : (text : List ℕ) → Fits (text_read text)
 text_fits text =
     cond_both (nat_lt 1048576 (length text)) (Err (0, C.Long)) _ Fits (λ _. tt)
-      (λ _. cond_both (no_bytes text) (Ok empty) (lines_read empty 1 (lines_in text)) Fits (λ _. empty_fits) (λ _. lines_fit empty 1 (lines_in text) empty_fits))
+    (λ _. cond_both (no_bytes text) (Ok empty) (lines_read empty 1 (lines_in text)) Fits (λ _. empty_fits) (λ _. lines_fit empty 1 (lines_in text) empty_fits))
 
 -- ---- its script
 
@@ -100,8 +100,8 @@ eps_scripted : (es : List EpText) → AllByRecursion IsFitEp es → list_all is_
 eps_scripted [] h = refl
 eps_scripted (e ∷ es) h =
     and_from (is_scripted_endpoint e) (list_all is_scripted_endpoint es)
-      (and_from (nat_le e.desc.max 1024) (list_all is_short e.items) (le-leb e.desc.max 1024 h.0.desc.max) h.0.items)
-      (eps_scripted es h.1)
+    (and_from (nat_le e.desc.max 1024) (list_all is_short e.items) (le-leb e.desc.max 1024 h.0.desc.max) h.0.items)
+    (eps_scripted es h.1)
 
 devices_scripted : (ds : List Placed) → AllByRecursion IsFitDevice ds → list_all is_scripted (map device_text ds) ≡ true
 devices_scripted [] h = refl

@@ -17,7 +17,7 @@ invariant_of-self c =
       };
     } in
     controller_sound s c.step.new.mem c.step.new.wire.bus c.self.invariant c.step.ensures.only_lent
-      (ap (λ (x : Standing). x.world.bus) (event_is s c.step.new.self c.step.new.regs c.step.new.mem c.step.new.wire c.step.ensures.row))
+    (ap (λ (x : Standing). x.world.bus) (event_is s c.step.new.self c.step.new.regs c.step.new.mem c.step.new.wire c.step.ensures.row))
 
 pub returns-clause-world : goal.returns-clause-world
 returns-clause-world c =

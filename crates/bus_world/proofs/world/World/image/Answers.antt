@@ -1,6 +1,5 @@
-use Rattle.std.proofs.Common.{◌≡◌, ◌∙◌, ◌%◌, ◌≤◌, ◌<◌, ℕ, List, length, slice_index, ap, sym, subst, arith}
+use Rattle.std.proofs.Common.{◌≡◌, ◌∙◌, ◌%◌, ◌<◌, ℕ, List, length, slice_index, ap, sym, subst, arith}
 use Rattle.word_mem.specs.Memory.{Mem, IsShaped}
-use Rattle.image_codec.specs.declared.image.Image.{Image}
 use Rattle.image_codec.specs.Image.{IsAligned, HasFields}
 use Rattle.bus_world.proofs.world.World.image.Goals as goal
 

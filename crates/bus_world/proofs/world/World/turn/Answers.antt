@@ -1,6 +1,5 @@
 use Rattle.std.proofs.Common.{◌∙◌}
 use Rattle.script_types.specs.declared.scripts.Event.TheVariants as events
-use Rattle.bus_world.specs.World.{Standing}
 use Rattle.bus_world.proofs.Ways.{event_room}
 use Rattle.bus_world.proofs.world.World.turn.Goals as goal
 
