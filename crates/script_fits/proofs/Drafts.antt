@@ -1,10 +1,10 @@
 -- Each line that is taken leaves a script that fits.
-use Rattle.std.proofs.Common.{◌≡◌, ℕ, zero, suc, ◌+◌, ◌≤◌, ◌<◌, ◌%◌, Bool, true, false, List, [], ◌∷◌, ◌++◌, length, Option, Some, None, Result, Ok, Err, refl, ap, sym, ◌∙◌, subst, inl, inr, arith}
-use Rattle.std.specs.Prelude.{if◌then◌else◌, nat_lt, nat_le, ◌==◌, ◌&&◌, ◌||◌, not, take, drop, map, unwrap_or, is_some}
+use Rattle.std.proofs.Common.{◌≡◌, ℕ, zero, suc, ◌≤◌, ◌%◌, Bool, true, List, [], ◌∷◌, ◌++◌, length, Option, Some, None, refl, ◌∙◌, inl, inr, arith}
+use Rattle.std.specs.Prelude.{nat_le, ◌==◌, ◌&&◌, not, take, drop, map, is_some}
 use Rattle.std.specs.List.{list_all, list_any, find, AllByRecursion}
 use Rattle.std.specs.Option.{option_map, option_map_or, option_and_then, option_or}
 use Rattle.std.specs.Simd.{first_chunks}
-use Rattle.std.proofs.lemmas.Bool.{cond_both, and_parts, and_from, or_cases, eqb-true, leb-true, le-leb, not-false}
+use Rattle.std.proofs.lemmas.Bool.{cond_both, and_parts, and_from, or_cases, eqb-true, leb-true, le-leb}
 use Rattle.std.proofs.lemmas.List.{length-take}
 use Rattle.std.proofs.lemmas.List.Folds.{list_all-append}
 use Rattle.usb_base.specs.declared.packets.Way.{Way}
@@ -16,19 +16,16 @@ use Rattle.usb_base.specs.declared.commands.Cmd.{Cmd}
 use Rattle.usb_base.specs.declared.commands.Cmd.TheVariants as commands
 use Rattle.script_types.specs.declared.devices.EpText.{EpText}
 use Rattle.script_types.specs.declared.devices.HubText.{HubText}
-use Rattle.script_types.specs.declared.devices.Item.{Item}
 use Rattle.script_types.specs.declared.devices.Item.TheVariants as items
-use Rattle.script_types.specs.declared.scripts.Line.{Line}
-use Rattle.script_forms.specs.declared.causes.TextWhy.{TextWhy}
 use Rattle.script_forms.specs.declared.statements.Name.{Name}
 use Rattle.script_forms.specs.declared.statements.EpLine.{EpLine}
 use Rattle.script_forms.specs.declared.statements.Answer.{Answer}
 use Rattle.script_forms.specs.declared.statements.Answer.TheVariants as answer
 use Rattle.script_forms.specs.declared.statements.Statement.{Statement}
 use Rattle.script_forms.specs.declared.statements.Statement.TheVariants as says
-use Rattle.script_world.specs.Draft.{Draft, Placed, known, device_ep, hub_ep, hub_desc, hub_of, device_of, ep_of, is_name, is_named, same_way, change, packets, packet_count, filled}
+use Rattle.script_world.specs.Draft.{Draft, Placed, known, device_ep, hub_ep, hub_desc, hub_of, device_of, ep_of, is_name, is_named, same_way, change, packet_count, filled}
 use Rattle.script_world.specs.Ranges.{in_range, within, is_endpoint, is_placed, can_answer, some_answer, kinds_of, reply_ranged}
-use Rattle.script_world.specs.Rows.{is_built, is_built_kind, cause_of, is_known, is_twice, has_room, after, answered, items_of, at_ep, with_ep, desc_of, device, commanded, where_known, by_of, put_room, roomier, counted, content_len, bytes_len, after_ep, after_reply, after_open, name_of, control_name, after_high, after_get, after_put, after_control, after_fate}
+use Rattle.script_world.specs.Rows.{is_built, is_built_kind, after, answered, items_of, at_ep, with_ep, commanded, where_known, by_of, put_room, roomier, counted, content_len, bytes_len, control_name}
 use Rattle.endpoint_script.specs.Items.{is_short, is_packet}
 use Rattle.driver_rows.specs.Offers.{IsRing}
 use Rattle.script_fits.specs.Fits.{IsPiece, IsFitCommand, IsFitLine, IsFitRoom}

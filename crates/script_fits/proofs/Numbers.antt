@@ -1,6 +1,6 @@
 -- A number of a line that fits a form is in the range of its slot.
-use Rattle.std.proofs.Common.{◌≡◌, ℕ, zero, suc, ◌≤◌, Bool, true, false, List, [], ◌∷◌, length, Option, Some, None, Result, Ok, Err, refl, ap, sym, ◌∙◌, subst, arith}
-use Rattle.std.specs.Prelude.{if◌then◌else◌, nat_lt, nat_le, ◌==◌, ◌&&◌, slice_get, slice_index_or, unwrap_or}
+use Rattle.std.proofs.Common.{◌≡◌, ℕ, zero, suc, ◌≤◌, true, false, List, [], ◌∷◌, length, Option, Some, None, Result, Ok, Err, subst, arith}
+use Rattle.std.specs.Prelude.{if◌then◌else◌, nat_lt, nat_le, ◌==◌, ◌&&◌, slice_get, unwrap_or}
 use Rattle.std.specs.List.{fold}
 use Rattle.std.specs.Option.{option_map_or}
 use Rattle.std.proofs.lemmas.Bool.{cond_both, and_parts, eqb-true, leb-true}
@@ -12,8 +12,8 @@ use Rattle.script_forms.specs.declared.causes.TextWhy.{TextWhy}
 use Rattle.script_forms.specs.declared.fitting.Mark.{Mark}
 use Rattle.script_forms.specs.Table.{slots_of, forms_of}
 use Rattle.script_forms.specs.Syntax.{number_of}
-use Rattle.script_forms.specs.Fitting.{is_ranged, all_ranged, reach, marked, further, worse, joined, held, verdict, form_of}
-use Rattle.script_forms.specs.Values.{word_at, number_at}
+use Rattle.script_forms.specs.Fitting.{is_ranged, all_ranged, marked, further, worse, joined, held, verdict, form_of}
+use Rattle.script_forms.specs.Values.{number_at}
 
 -- the words have the form's ranges, and its number of slots
 pub record IsRanged (form : Form) (ws : List (List ℕ)) : Type 0 where

@@ -1,5 +1,5 @@
 -- What a line that fits a form says of the bytes of a qTD.
-use Rattle.std.proofs.Common.{◌≡◌, ℕ, ◌≤◌, List, Option, Some, None, refl}
+use Rattle.std.proofs.Common.{ℕ, List, Option, Some, None, refl}
 use Rattle.script_forms.specs.declared.table.Form.{Form}
 use Rattle.script_forms.specs.declared.table.Form.TheVariants as form
 use Rattle.script_forms.specs.declared.statements.Statement.{Statement}

@@ -1,9 +1,9 @@
 -- The script that a text spells fits.
-use Rattle.std.proofs.Common.{◌≡◌, ℕ, ◌+◌, ◌≤◌, ◌%◌, Bool, true, false, List, [], ◌∷◌, length, Option, Some, None, Result, Ok, Err, refl, ap, sym, ◌∙◌, subst, arith}
-use Rattle.std.specs.Prelude.{if◌then◌else◌, nat_lt, nat_le, not, ◌==◌, ◌&&◌, map, unwrap_or, codes, IsTrue}
+use Rattle.std.proofs.Common.{◌≡◌, ℕ, ◌+◌, ◌≤◌, ◌%◌, Bool, true, false, List, [], ◌∷◌, length, Option, Some, None, Result, Ok, Err, refl, subst, arith}
+use Rattle.std.specs.Prelude.{if◌then◌else◌, nat_lt, nat_le, not, ◌==◌, map, unwrap_or, codes}
 use Rattle.std.specs.List.{list_all, list_any, AllByRecursion}
 use Rattle.std.specs.Str.{bytes_eq}
-use Rattle.std.proofs.lemmas.Bool.{cond_both, and_parts, and_from, le-leb}
+use Rattle.std.proofs.lemmas.Bool.{cond_both, and_from, le-leb}
 use Rattle.script_types.specs.declared.scripts.Script.{Script}
 use Rattle.script_types.specs.declared.devices.EpText.{EpText}
 use Rattle.script_forms.specs.declared.causes.TextWhy.{TextWhy}

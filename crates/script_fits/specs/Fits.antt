@@ -1,7 +1,7 @@
 -- What a script keeps that a host carries out: sizes and lengths that hardware and driver can have.
 --     IsFitCommand cmd      the ranges of a command (EHCI 1.0, 3.5; USB 2.0, 5.5 to 5.8)
 --     IsFit script          the ranges of a whole script
-use Rattle.std.specs.Prelude.{◌≡◌, ℕ, ◌≤◌, ◌%◌, List, IsTrue}
+use Rattle.std.specs.Prelude.{◌≡◌, ℕ, ◌≤◌, ◌%◌, IsTrue}
 use Rattle.std.specs.List.{list_all, AllByRecursion}
 use Rattle.usb_base.specs.declared.commands.Cmd.{Cmd}
 use Rattle.usb_base.specs.declared.commands.Cmd.TheVariants as commands
