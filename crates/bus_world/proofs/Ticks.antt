@@ -70,7 +70,7 @@ pub still_begins : (begun : Standing) → Still begun begun 0
 unfolding ticks
 still_begins begun n rest = refl
 
-pub is_unended : (begun now : Standing) (k : ℕ) → most_turns ≤ k → Still begun now k → (n : ℕ) (rest : List Left) → IsUnended begun.fixed (at_place begun.world (Microframes (suc n) ∷ rest)) (at_place now.world (Microframes (suc n) ∷ rest))
+pub is_unended : (begun now : Standing) (k : ℕ) → k ≡ most_turns → Still begun now k → (n : ℕ) (rest : List Left) → IsUnended begun.fixed (at_place begun.world (Microframes (suc n) ∷ rest)) (at_place now.world (Microframes (suc n) ∷ rest))
 is_unended begun now k many still n rest = record { turns = k; many = many; still = still n rest }
 
 -- ---- orders that go on

@@ -75,13 +75,13 @@ at_place w orders = record { world = w; orders = orders }
 abbrev pub most_turns : ℕ
 most_turns = 1048576
 
--- From p on, so many turns were made, and the microframe hasn't ended.
+-- From p on, the most turns were made, and the microframe hasn't ended.
 pub record IsUnended (fixed : Fixed) (p q : Place) : Type 0 where
   pub turns : ℕ
-  pub many : most_turns ≤ turns
+  pub many : turns ≡ most_turns
   pub still : ticks fixed p (2 * turns) ≡ q
 
--- The run from p on came to a microframe with more turns than that, and stopped there with the world w.
+-- The run from p on came to a microframe that hasn't ended after the most turns, and stopped there with the world w.
 pub record IsOverlong (fixed : Fixed) (p : Place) (w : World) : Type 0 where
   pub begun : World  -- where the microframe began, or the orders of microframes did
   pub n : ℕ
@@ -89,6 +89,6 @@ pub record IsOverlong (fixed : Fixed) (p : Place) (w : World) : Type 0 where
   pub leads : Leads fixed p (at_place begun (Microframes (suc n) ∷ rest))
   pub unended : IsUnended fixed (at_place begun (Microframes (suc n) ∷ rest)) (at_place w (Microframes (suc n) ∷ rest))
 
--- The run of these orders: every one was carried out, or a microframe had more turns than the program makes.
+-- The run of these orders: every one was carried out, or a microframe hasn't ended after the most turns that the program makes.
 abbrev pub IsRun : Fixed → World → List Left → World → Type 0
 IsRun fixed w orders end = Leads fixed (at_place w orders) (at_place end []) ⊎ IsOverlong fixed (at_place w orders) end

@@ -1,0 +1,11 @@
+pub mod Lists
+pub mod Freed
+pub mod Moved
+pub mod Counts
+pub mod Lines
+pub mod Kept
+pub mod Behind
+pub mod Gone
+pub mod Written
+pub mod Entered
+pub mod Offered

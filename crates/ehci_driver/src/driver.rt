@@ -1,48 +1,47 @@
-ghost use Rattle.std.specs.Prelude.{◌≡◌, ◌≤◌, ◌-◌, ◌+◌, ◌/◌, length, Ok, Err, IfOk, IfErr, ◌++◌, ◌∷◌, [], slice_range};
+ghost use Rattle.std.specs.Prelude.{◌≡◌, ◌≤◌, ◌<◌, ◌+◌, ◌*◌, ◌/◌, ℕ, length, Ok, Err, Some, None, IfOk, IfErr, ◌++◌, ◌∷◌, []};
 ghost use Rattle.op_registers.specs.RegisterFile.{reset_file};
 ghost use Rattle.word_mem.specs.Memory.{fresh};
 ghost use Rattle.run_book.specs.Book.{holding, Stands};
-ghost use Rattle.usb_base.specs.declared.reports.What.TheVariants.{Refused};
-ghost use Rattle.driver_rows.specs.DriverContent.{new_driver, busy, pending, opened, ended};
-ghost use Rattle.driver_rows.specs.Opening.{opening_book, opening_memory, opening_registers};
-ghost use Rattle.driver_rows.specs.Offers.{offered, IsOffered};
-ghost use Rattle.driver_rows.specs.Rows.{row_of, after_row, step_of};
 
-use driver_rows::{Bell, Command, Endpoint, Mend, QtdNote, Reserve, Transfer, Turn};
-use driver_rows::DriverStep;
+use driver_rows::{
+    Bell, Command, DriverStep, Endpoint, Mend, QtdNote, Reserve, Row, Transfer, Turn,
+};
 use op_registers::Registers;
 use run_book::RunBook;
 use std::alloc::Global;
 use std::collections::VecDeque;
 use std::marker::Model;
-use usb_base::{Cmd, EndCause, EpName, Memory, OfferError, Report};
+use usb_base::{Cmd, EndCause, EpName, Memory, OfferError, Report, What};
 use word_mem::WordMem;
 
 /// The driver of the host controller.
 #[derive(Drop)]
 pub struct Driver {
-    book: RunBook,
-    endpoints: Vec<Endpoint>,
-    transfers: Vec<Transfer>,
-    notes: Vec<QtdNote>,
-    command: Option<Command>,
-    made: u8,
-    turn: Turn,
-    place: usize,
-    mends: VecDeque<Mend>,
-    harvested: VecDeque<usize>,
-    waiting: VecDeque<usize>,
-    rung: VecDeque<usize>,
-    cleared: VecDeque<usize>,
-    bell: Bell,
-    reports: Vec<Report>,
-    store: Vec<u8>,
-    room: Reserve,
+    pub(crate) book: RunBook,
+    pub(crate) endpoints: Vec<Endpoint>,
+    pub(crate) transfers: Vec<Transfer>,
+    pub(crate) notes: Vec<QtdNote>,
+    pub(crate) command: Option<Command>,
+    pub(crate) made: u8,
+    pub(crate) turn: Turn,
+    pub(crate) place: usize,
+    pub(crate) mends: VecDeque<Mend>,
+    pub(crate) harvested: VecDeque<usize>,
+    pub(crate) waiting: VecDeque<usize>,
+    pub(crate) rung: VecDeque<usize>,
+    pub(crate) cleared: VecDeque<usize>,
+    pub(crate) bell: Bell,
+    pub(crate) reports: Vec<Report>,
+    pub(crate) store: Vec<u8>,
+    pub(crate) room: Reserve,
 }
 
 impl Model for Driver {
-    ghost use Rattle.ehci_driver.specs.Stub.{Never};
+    ghost use Rattle.std.specs.Prelude.{◌≤◌, ◌+◌, ◌*◌};
     ghost use Rattle.driver_rows.specs.DriverContent.{DriverContent};
+    ghost use Rattle.ehci_driver.specs.Rooms.{HasRooms};
+    ghost use Rattle.std.specs.VecDeque.{deque_len, deque_capacity};
+    ghost use Rattle.std.specs.Prelude.{vec_len, vec_capacity};
 
     ghost Value = { DriverContent };
 
@@ -66,102 +65,9 @@ impl Model for Driver {
       room = d.room;
     } };
 
-    ghost invariant = { λ d. Never d.made };
-}
-
-impl Driver {
-    pub fn build(
-        alloc: Global,
-        reserve: &Reserve,
-        regs: &mut Registers,
-        mem: &mut WordMem,
-    ) -> Result<Driver, Memory>
-        requires registers { regs.old ≡ reset_file }
-        requires memory { mem.old ≡ fresh (length mem.old.words) }
-        requires words { 2048 ≤ length mem.old.words }
-        ensures driver { IfOk result (λ d. d ≡ new_driver (opening_book (length mem.old.words / 8)) (length mem.old.words / 8) reserve.now) }
-        ensures registers { IfOk result (λ _. regs.new ≡ opening_registers) }
-        ensures memory { IfOk result (λ _. mem.new ≡ opening_memory (length mem.old.words)) }
-        ensures stands { IfOk result (λ d. Stands (holding d.book mem.new)) }
-        ensures same { IfErr result (λ _. (regs.new ≡ regs.old) × (mem.new ≡ mem.old)) }
-    {
-        Err(Memory)
-    }
-
-    pub fn step(&mut self, regs: &mut Registers, mem: &mut WordMem) -> DriverStep
-        requires { Stands (holding self.old.book mem.old) }
-        ensures kind { result ≡ step_of (row_of (record { driver = self.old; registers = regs.old; memory = mem.old })) }
-        ensures driver { self.new ≡ (after_row (row_of (record { driver = self.old; registers = regs.old; memory = mem.old })) (record { driver = self.old; registers = regs.old; memory = mem.old })).driver }
-        ensures registers { regs.new ≡ (after_row (row_of (record { driver = self.old; registers = regs.old; memory = mem.old })) (record { driver = self.old; registers = regs.old; memory = mem.old })).registers }
-        ensures memory { mem.new ≡ (after_row (row_of (record { driver = self.old; registers = regs.old; memory = mem.old })) (record { driver = self.old; registers = regs.old; memory = mem.old })).memory }
-        ensures stands { Stands (holding self.new.book mem.new) }
-    {
-        let _made = self.made;
-        DriverStep::Rest
-    }
-
-    pub fn offer(&mut self, cmd: &Cmd, mem: &mut WordMem) -> Result<(), OfferError>
-        requires stands { Stands (holding self.old.book mem.old) }
-        requires room { IsOffered self.old.room cmd.now }
-        ensures accepted { IfOk result (λ _. offered self.old mem.old cmd.now ≡ Ok (record { driver = self.new; memory = mem.new })) }
-        ensures refused { IfErr result (λ why. offered self.old mem.old cmd.now ≡ Err why) }
-        ensures same { IfErr result (λ _. (self.new ≡ self.old) × (mem.new ≡ mem.old)) }
-        ensures stands { Stands (holding self.new.book mem.new) }
-    {
-        let _made = self.made;
-        Ok(())
-    }
-
-    pub fn busy(&self) -> bool
-        ensures { result ≡ busy self.now }
-    {
-        let _made = self.made;
-        true
-    }
-
-    pub fn reports(&self) -> &[Report]
-        ensures { result.now ≡ self.now.reports }
-    {
-        self.reports.as_slice()
-    }
-
-    pub fn store(&self) -> &[u8]
-        ensures { result.now ≡ self.now.store }
-    {
-        self.store.as_slice()
-    }
-
-    pub fn room(&self) -> Reserve
-        ensures { result ≡ self.now.room }
-    {
-        self.room
-    }
-
-    pub fn pending(&self, name: &EpName) -> u32
-        ensures { result ≡ pending self.now name.now }
-    {
-        let _made = self.made;
-        0
-    }
-
-    pub fn opened(&self, name: &EpName) -> bool
-        ensures { result ≡ opened self.now name.now }
-    {
-        let _made = self.made;
-        true
-    }
-
-    pub fn ended(&self, name: &EpName) -> Option<EndCause>
-        ensures { result ≡ ended self.now name.now }
-    {
-        let _made = self.made;
-        None
-    }
-
-    pub fn refuse(&mut self, line: u32, name: EpName, why: OfferError)
-        requires { 1 ≤ self.old.room.reports }
-        ensures { self.new ≡ record self.old { reports = self.old.reports ++ (record { name = name; what = Refused line why; from = length self.old.store; len = 0 }) ∷ []; room = record self.old.room { reports = self.old.room.reports - 1 } } }
-    {
-        let _made = self.made;
-    }
+    ghost invariant = { λ d. HasRooms d.endpoints.items d.transfers.items d.room
+        (vec_capacity d.endpoints) (vec_capacity d.transfers)
+        (vec_len d.reports) (vec_capacity d.reports) (vec_len d.store) (vec_capacity d.store)
+        (deque_len d.harvested) (deque_capacity d.harvested) (deque_len d.mends) (deque_capacity d.mends)
+        (deque_len d.waiting) (deque_capacity d.waiting) (deque_len d.rung) (deque_capacity d.rung) (deque_len d.cleared) (deque_capacity d.cleared) };
 }

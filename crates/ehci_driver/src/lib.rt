@@ -1,7 +1,21 @@
-//! Scratch: the driver's public contracts, over a driver of which there is none.
-#![tactic(auto, unfolding(crate::specs::Stub::Never))]
+//! The driver of the host controller, in single steps (EHCI 1.0, 4.8 to 4.10): it opens endpoints, publishes transfers, harvests what the
+//! controller has done, and gives back what has left.
+//!
+//! `Driver::offer` accepts a command or refuses it, and `Driver::step` makes one event. A contract sees the driver as the content of
+//! `driver_rows`, specs/DriverContent.antt; what an accepted command leaves is `offered`, and each event is one row (its specs/Rows.antt).
+//! Beside it stand `run_book`, which has its runs of blocks, and `word_mem`, whose words it shares with the controller.
+#![tactic(auto)]
 
+mod cancels;
 mod driver;
+mod events;
+mod harvests;
+mod offers;
+mod opening;
+mod releases;
+mod row;
+mod told;
+mod transfers;
 
 pub use driver::Driver;
 pub use driver_rows::{DriverStep, Reserve};

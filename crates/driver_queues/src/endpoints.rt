@@ -1,0 +1,52 @@
+ghost use Rattle.std.specs.Prelude.{◌≡◌, ◌≤◌};
+ghost use Rattle.run_book.specs.Book.{holding, Stands};
+ghost use Rattle.driver_rows.specs.Offers.{newest_of, oldest_of, written_open};
+
+use driver_rows::Endpoint;
+use driver_words::{HEAD_BLOCK, inactive_qtd, new_queue_head};
+use run_book::RunBook;
+use usb_base::EpDesc;
+use word_mem::WordMem;
+
+/// The block of the newest of these endpoints that is in the ring, or that of the head.
+pub fn newest(endpoints: &[Endpoint]) -> u16
+    ensures { result ≡ newest_of endpoints.now }
+{
+    endpoints.iter().fold(
+        HEAD_BLOCK,
+        |block, x| if x.linked { x.queue } else { block },
+    )
+}
+
+/// The block of the oldest of these endpoints that is in the ring, or that of the head.
+pub fn oldest(endpoints: &[Endpoint]) -> u16
+    ensures { result ≡ oldest_of endpoints.now }
+{
+    for x in endpoints {
+        if x.linked {
+            return x.queue;
+        }
+    }
+    HEAD_BLOCK
+}
+
+/// Writes the queue head and the dummy of a new endpoint, whose queue head leads to the one in the block `link`.
+pub fn write_endpoint(
+    book: &RunBook,
+    mem: &mut WordMem,
+    desc: &EpDesc,
+    link: u16,
+    queue: u16,
+    dummy: u16,
+)
+    requires max { desc.now.max ≤ 1024 }
+    requires port { desc.now.port ≤ 127 }
+    requires stands { Stands (holding book.now mem.old) }
+    ensures memory { mem.new ≡ written_open book.now mem.old desc.now link queue dummy }
+    ensures stands { Stands (holding book.now mem.new) }
+{
+    let head = new_queue_head(desc, link, dummy).write();
+    book.store_words(mem, queue, 32 * queue as u32, &head);
+    let last = inactive_qtd().write();
+    book.store_words(mem, dummy, 32 * dummy as u32, &last);
+}

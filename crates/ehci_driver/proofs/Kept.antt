@@ -1,0 +1,92 @@
+-- What an event leaves as it is: the registers in those that give blocks back, and the room of the reserve in each.
+use Rattle.std.proofs.Common.{◌≡◌, ℕ, zero, suc, Bool, true, false, cond, slice_get, length, nat_lt, Option, Some, None, refl, ◌∙◌}
+use Rattle.usb_base.specs.declared.endpoints.EpName.{EpName}
+use Rattle.usb_base.specs.declared.endpoints.EndCause.{EndCause}
+use Rattle.run_book.specs.Book.{Holding, holding}
+use Rattle.word_mem.specs.Memory.{Mem}
+use Rattle.driver_rows.specs.declared.content.Endpoint.{Endpoint}
+use Rattle.driver_rows.specs.declared.content.Transfer.{Transfer}
+use Rattle.driver_rows.specs.declared.content.Reserve.{Reserve}
+use Rattle.driver_rows.specs.declared.content.Command.{Command}
+use Rattle.driver_rows.specs.declared.content.Command.TheVariants as unfinished
+use Rattle.driver_rows.specs.declared.rows.Row.{Row}
+use Rattle.driver_rows.specs.declared.rows.Row.TheVariants as rows
+use Rattle.driver_rows.specs.declared.rows.Found.{Found}
+use Rattle.driver_rows.specs.declared.rows.Found.TheVariants as founds
+use Rattle.driver_rows.specs.DriverContent.{DriverContent, waits_for}
+use Rattle.driver_rows.specs.Rows.{Parts, after_row, after_transfer, after_endpoint, advanced_by, finished, no_command, leave_ring, events_of, cancel_told, is_told, behind, behind_one, stalled, goes_on, after_end, harvested_as, after_harvest, freed_by, told_with}
+use Rattle.driver_rows.specs.Harvests.{noted, is_stall, end_of}
+
+pub transfer_registers : (p : Parts) (t : ℕ) (o : Option Transfer) (h : Holding) → (after_transfer p t o h).registers ≡ p.registers
+transfer_registers p t None h = refl
+transfer_registers p t (Some x) h = refl
+
+pub endpoint_registers : (p : Parts) (e : ℕ) (o : Option Endpoint) → (after_endpoint p e o).registers ≡ p.registers
+endpoint_registers p e None = refl
+endpoint_registers p e (Some x) = refl
+
+-- ---- the room
+
+either : (b : Bool) (x y : DriverContent) (r : Reserve) → x.room ≡ r → y.room ≡ r → (cond b x y).room ≡ r
+either true x y r f g = f
+either false x y r f g = g
+
+leave_room : (d : DriverContent) (e : ℕ) (o : Option Endpoint) → (leave_ring d e o).room ≡ d.room
+leave_room d e None = refl
+leave_room d e (Some x) = either x.linked _ d d.room refl refl
+
+finished_room : (d : DriverContent) (c : Command) → (finished d c).room ≡ d.room
+finished_room d (unfinished.Open queue) = refl
+finished_room d (unfinished.Publish b words) = refl
+finished_room d (unfinished.Unlink e b link) = leave_room (no_command d) e (slice_get d.endpoints e)
+
+advanced_room : (d : DriverContent) (o : Option Command) → (advanced_by d o).room ≡ d.room
+advanced_room d None = refl
+advanced_room d (Some c) = either (nat_lt (suc d.made) (length (events_of c))) _ (finished d c) d.room refl (finished_room d c)
+
+transfer_room : (p : Parts) (t : ℕ) (o : Option Transfer) (h : Holding) → (after_transfer p t o h).driver.room ≡ p.driver.room
+transfer_room p t None h = refl
+transfer_room p t (Some x) h = refl
+
+told_room : (d : DriverContent) (m : Mem) (e : ℕ) (x : Endpoint) → (cancel_told d m e x).room ≡ d.room
+told_room d m e x = either (is_told x) _ d d.room refl refl
+
+endpoint_room : (p : Parts) (e : ℕ) (o : Option Endpoint) → (after_endpoint p e o).driver.room ≡ p.driver.room
+endpoint_room p e None = refl
+endpoint_room p e (Some x) = told_room p.driver p.memory e x
+
+one_room : (d : DriverContent) (e : ℕ) (name : EpName) (k : ℕ) (o : Option Transfer) → (behind_one d e name k o).room ≡ d.room
+one_room d e name k None = refl
+one_room d e name k (Some x) = either (waits_for e x) _ d d.room refl refl
+
+behind_room : (d : DriverContent) (e : ℕ) (name : EpName) (k n : ℕ) → (behind d e name k n).room ≡ d.room
+unfolding behind
+behind_room d e name k zero = refl
+behind_room d e name k (suc n) =
+    behind_room (behind_one d e name k (slice_get d.transfers k)) e name (suc k) n ∙ one_room d e name k (slice_get d.transfers k)
+
+end_room : (d : DriverContent) (e t : ℕ) (x : Endpoint) (stall : Bool) (o : Option EndCause) → (after_end d e t x stall o).room ≡ d.room
+end_room d e t x stall (Some cause) = refl
+end_room d e t x stall None = either stall (stalled d e t x) (goes_on d e t x) d.room (behind_room _ e x.desc.name (suc t) _) refl
+
+read_room : (d : DriverContent) (m : Mem) (e t : ℕ) (x : Endpoint) (y : Transfer) (found : Found) → (harvested_as d m e t x y found).room ≡ d.room
+read_room d m e t x y founds.Active = refl
+read_room d m e t x y (founds.Moved n) = refl
+read_room d m e t x y (founds.Ended n what) = end_room (told_with d m t y what x.desc.name (noted d.notes y.place n)) e t x (is_stall what) (end_of x.desc.kind what)
+
+harvest_room : (d : DriverContent) (m : Mem) (e t : ℕ) (found : Found) (o : Option Endpoint) (q : Option Transfer) → (after_harvest d m e t found o q).room ≡ d.room
+harvest_room d m e t found None q = refl
+harvest_room d m e t found (Some x) None = refl
+harvest_room d m e t found (Some x) (Some y) = either (waits_for e y) _ d d.room (read_room d m e t x y found) refl
+
+pub row_room : (row : Row) (p : Parts) → (after_row row p).driver.room ≡ p.driver.room
+row_room rows.Lend p = advanced_room _ p.driver.command
+row_room (rows.Store b at v) p = advanced_room p.driver p.driver.command
+row_room (rows.Mend w) p = refl
+row_room (rows.ReleaseTransfer t) p = transfer_room p t (slice_get p.driver.transfers t) (freed_by p.driver (holding p.driver.book p.memory) (slice_get p.driver.transfers t))
+row_room (rows.ReleaseEndpoint e) p = endpoint_room p e (slice_get p.driver.endpoints e)
+row_room rows.ClearAdvance p = refl
+row_room rows.RingBell p = refl
+row_room (rows.ReadStatus heard) p = refl
+row_room (rows.Harvest e t found) p = harvest_room p.driver p.memory e t found (slice_get p.driver.endpoints e) (slice_get p.driver.transfers t)
+row_room rows.Rest p = refl

@@ -1,0 +1,207 @@
+ghost use Rattle.std.specs.Prelude.{◌≡◌, ◌≤◌, ◌+◌, ◌*◌, ℕ, length, slice_get, Some, drop, [], ◌++◌, ◌∷◌, suc, take, map};
+ghost use Rattle.std.specs.VecDeque.{deque_len, deque_capacity};
+ghost use Rattle.run_book.specs.Book.{holding, Stands, lend_taken, store};
+ghost use Rattle.op_registers.specs.Table.{after_write};
+ghost use Rattle.driver_rows.specs.Rows.{Parts, row_of, after_row, step_of, advance, after_lend, after_transfer, freed_by, after_endpoint, doorbell_command, bell_after, after_harvest, served, free_qtd, free_runs, free_qtds, finished, no_command, leave_ring, events_of};
+ghost use Rattle.driver_rows.specs.Harvests.{note_at};
+ghost use Rattle.ehci_driver.specs.Written.{OnlyStores};
+
+use crate::driver::Driver;
+use driver_rows::{Bell, Command, DriverStep, Endpoint, Found, Mend, Row, Transfer, Turn};
+use op_registers::Registers;
+use std::collections::VecDeque;
+use word_mem::WordMem;
+
+/// The offsets of USBCMD and USBSTS (EHCI 1.0, 2.3).
+const COMMAND: u32 = 0x00;
+
+const STATUS: u32 = 0x04;
+
+/// USBCMD as at the opening, with the doorbell.
+const DOORBELL: u32 = 0x0008_0071;
+
+/// Async Advance in USBSTS.
+const ADVANCE: u32 = 0x20;
+
+impl Driver {
+    /// Makes one event of the driver, and tells its kind: the next event of the unfinished command; else one of the leaving work or one
+    /// harvest, by turns; `Rest` where there is neither.
+    #[tactic(auto, using(std::proofs::lemmas::Grind::common_steps, crate::proofs::Kept::row_room))]
+    pub fn step(&mut self, regs: &mut Registers, mem: &mut WordMem) -> DriverStep
+        requires { Stands (holding self.old.book mem.old) }
+        ensures kind { result ≡ step_of (row_of (record { driver = self.old; registers = regs.old; memory = mem.old })) }
+        ensures driver { self.new ≡ (after_row (row_of (record { driver = self.old; registers = regs.old; memory = mem.old })) (record { driver = self.old; registers = regs.old; memory = mem.old })).driver }
+        ensures registers { regs.new ≡ (after_row (row_of (record { driver = self.old; registers = regs.old; memory = mem.old })) (record { driver = self.old; registers = regs.old; memory = mem.old })).registers }
+        ensures memory { mem.new ≡ (after_row (row_of (record { driver = self.old; registers = regs.old; memory = mem.old })) (record { driver = self.old; registers = regs.old; memory = mem.old })).memory }
+        ensures stands { Stands (holding self.new.book mem.new) }
+        ensures room { self.new.room ≡ self.old.room }
+        ensures words { OnlyStores (row_of (record { driver = self.old; registers = regs.old; memory = mem.old })) mem.old mem.new }
+    {
+        let _words = mem.words();
+        let row = self.row(regs, mem);
+        self.make(regs, mem, row);
+        row.step()
+    }
+
+    /// Makes the event that this row tells.
+    #[tactic(auto, using(std::proofs::lemmas::Grind::common_steps, crate::proofs::Kept::transfer_registers, crate::proofs::Kept::endpoint_registers))]
+    fn make(&mut self, regs: &mut Registers, mem: &mut WordMem, row: Row)
+        requires { Stands (holding self.old.book mem.old) }
+        ensures driver { self.new ≡ (after_row row (record { driver = self.old; registers = regs.old; memory = mem.old })).driver }
+        ensures registers { regs.new ≡ (after_row row (record { driver = self.old; registers = regs.old; memory = mem.old })).registers }
+        ensures memory { mem.new ≡ (after_row row (record { driver = self.old; registers = regs.old; memory = mem.old })).memory }
+        ensures stands { Stands (holding self.new.book mem.new) }
+    {
+        match row {
+            Row::Lend => self.lend(mem),
+            Row::Store(block, at, value) => self.store_word(mem, block, at, value),
+            Row::Mend(mend) => self.mend(mem, mend),
+            Row::ReleaseTransfer(t) => self.release_transfer(mem, t),
+            Row::ReleaseEndpoint(e) => self.release_endpoint(mem, e),
+            Row::ClearAdvance => self.clear_advance(regs),
+            Row::RingBell => self.ring_bell(regs),
+            Row::ReadStatus(heard) => self.read_status(heard),
+            Row::Harvest(e, t, found) => self.harvest(mem, e, t, found),
+            Row::Rest => {}
+        }
+    }
+
+    /// The runs of the command are lent.
+    fn lend(&mut self, mem: &mut WordMem)
+        requires { Stands (holding self.old.book mem.old) }
+        ensures driver { self.new ≡ advance (record self.old { book = (lend_taken (holding self.old.book mem.old)).book }) }
+        ensures memory { mem.new ≡ (lend_taken (holding self.old.book mem.old)).memory }
+        ensures stands { Stands (holding self.new.book mem.new) }
+    {
+        self.book.lend_taken(mem);
+        self.advance();
+    }
+
+    /// The command stores a word.
+    fn store_word(&mut self, mem: &mut WordMem, block: u16, at: u32, value: u32)
+        requires { Stands (holding self.old.book mem.old) }
+        ensures driver { self.new ≡ advance self.old }
+        ensures memory { mem.new ≡ store self.old.book mem.old block at value }
+        ensures stands { Stands (holding self.new.book mem.new) }
+    {
+        self.book.store(mem, block, at, value);
+        self.advance();
+    }
+
+    /// One more event of the command was made.
+    fn advance(&mut self)
+        ensures driver { self.new ≡ advance self.old }
+        ensures book { self.new.book ≡ self.old.book }
+    {
+        let Some(command) = self.command else {
+            return;
+        };
+        if self.made < last_event(&command) {
+            self.made += 1;
+            return;
+        }
+        self.finish(command);
+    }
+
+    /// The last event of the command was made.
+    fn finish(&mut self, command: Command)
+        ensures driver { self.new ≡ finished self.old command }
+        ensures book { self.new.book ≡ self.old.book }
+    {
+        self.command = None;
+        self.made = 0;
+        match command {
+            Command::Open(_) | Command::Publish(_, _) => {}
+            Command::Unlink(e, _, _) => self.leave_ring(e),
+        }
+    }
+
+    /// The endpoint of this number left the ring.
+    #[tactic(auto, using(std::proofs::lemmas::Grind::common_steps, crate::proofs::Counts::left_ring, crate::proofs::Counts::kept_cancels))]
+    fn leave_ring(&mut self, e: usize)
+        ensures driver { self.new ≡ leave_ring self.old e (slice_get self.old.endpoints e) }
+        ensures book { self.new.book ≡ self.old.book }
+    {
+        if e >= self.endpoints.len() {
+            return;
+        }
+        let endpoint = self.endpoints[e];
+        if !endpoint.linked {
+            return;
+        }
+        self.endpoints[e] = Endpoint {
+            linked: false,
+            ..endpoint
+        };
+        self.waiting.push_back_reserved(e);
+    }
+
+    /// A stalled control endpoint gets one of its words.
+    fn mend(&mut self, mem: &mut WordMem, mend: Mend)
+        requires { Stands (holding self.old.book mem.old) }
+        ensures driver { self.new ≡ record self.old { mends = drop 1 self.old.mends; turn = Turn.Harvest } }
+        ensures memory { mem.new ≡ store self.old.book mem.old mend.queue mend.at mend.value }
+        ensures stands { Stands (holding self.new.book mem.new) }
+    {
+        self.book.store(mem, mend.queue, mend.at, mend.value);
+        self.mends.pop_front();
+        self.turn = Turn::Harvest;
+    }
+
+    /// Async Advance is cleared: the batch that was rung may be given back.
+    fn clear_advance(&mut self, regs: &mut Registers)
+        ensures driver { self.new ≡ record self.old { cleared = self.old.cleared ++ self.old.rung; rung = []; bell = Bell.Quiet; turn = Turn.Harvest } }
+        ensures registers { regs.new ≡ after_write regs.old 0x04 0x20 }
+    {
+        regs.driver_write(STATUS, ADVANCE);
+        move_all(&mut self.rung, &mut self.cleared);
+        self.bell = Bell::Quiet;
+        self.turn = Turn::Harvest;
+    }
+
+    /// The doorbell is set: the batch that waits is rung.
+    fn ring_bell(&mut self, regs: &mut Registers)
+        ensures driver { self.new ≡ record self.old { rung = self.old.rung ++ self.old.waiting; waiting = []; bell = Bell.Rung; turn = Turn.Harvest } }
+        ensures registers { regs.new ≡ after_write regs.old 0x00 doorbell_command }
+    {
+        regs.driver_write(COMMAND, DOORBELL);
+        move_all(&mut self.waiting, &mut self.rung);
+        self.bell = Bell::Rung;
+        self.turn = Turn::Harvest;
+    }
+
+    /// USBSTS was read.
+    fn read_status(&mut self, heard: bool)
+        ensures { self.new ≡ record self.old { bell = bell_after heard; turn = Turn.Harvest } }
+    {
+        self.bell = if heard { Bell::Heard } else { Bell::Rung };
+        self.turn = Turn::Harvest;
+    }
+}
+
+/// Moves everything to the end of another queue, which has room for it.
+fn move_all(from: &mut VecDeque<usize>, to: &mut VecDeque<usize>)
+    requires { deque_len from.old + deque_len to.old ≤ deque_capacity to.old }
+    ensures to { to.new.items ≡ to.old.items ++ from.old.items }
+    ensures from { from.new.items ≡ [] }
+    ensures long { deque_len to.new ≡ deque_len from.old + deque_len to.old }
+    ensures none { deque_len from.new ≡ 0 }
+    ensures room { deque_capacity to.new ≡ deque_capacity to.old }
+    ensures kept { deque_capacity from.new ≡ deque_capacity from.old }
+{
+    while let Some(e) = from.pop_front() {
+        to.push_back_reserved(e);
+    }
+}
+
+/// The number of the command's last event, from 0.
+fn last_event(command: &Command) -> u8
+    ensures last { length (events_of command.now) ≡ result + 1 }
+    ensures few { result ≤ 8 }
+{
+    match command {
+        Command::Open(_) => 1,
+        Command::Publish(_, _) => 8,
+        Command::Unlink(_, _, _) => 0,
+    }
+}

@@ -1,0 +1,195 @@
+ghost use Rattle.std.specs.Prelude.{◌≡◌, ◌≤◌, ◌<◌, ◌+◌, ◌-◌, length, slice_get, slice_set, Some, None, Ok, Err, IfOk, IfErr, [], ◌∷◌, ◌++◌, unwrap_or};
+ghost use Rattle.word_mem.specs.Memory.{Mem};
+ghost use Rattle.run_book.specs.Book.{holding, Stands};
+ghost use Rattle.driver_rows.specs.DriverContent.{DriverContent, endpoint_of, endpoint_named};
+ghost use Rattle.driver_rows.specs.Words.{queue_head_link};
+ghost use Rattle.driver_rows.specs.Offers.{offered, offered_next, offered_open, offered_cancel, accepted_cancel, before, after, first_end, written_open, new_endpoint, newest_of, IsOffered};
+
+use crate::driver::Driver;
+use driver_queues::{newest, oldest, take_endpoint, write_endpoint};
+use driver_rows::{Command, Endpoint};
+use usb_base::{Cmd, EndCause, EpDesc, EpName, OfferError};
+use word_mem::WordMem;
+
+impl Driver {
+    /// Accepts a command or refuses it. What an accepted one asks for is written while no one else sees it, and made by the next events.
+    ///
+    /// # Errors
+    ///
+    /// The first of these that there is: `Busy`, `NoEndpoint`, `Closed`, `AlreadyOpen`, `TooLong`, `NoBlocks`. Nothing changes then.
+    pub fn offer(&mut self, cmd: &Cmd, mem: &mut WordMem) -> Result<(), OfferError>
+        requires stands { Stands (holding self.old.book mem.old) }
+        requires offered { IsOffered self.old.room cmd.now }
+        ensures accepted { IfOk result (λ _. offered self.old mem.old cmd.now ≡ Ok (record { driver = self.new; memory = mem.new })) }
+        ensures refused { IfErr result (λ why. offered self.old mem.old cmd.now ≡ Err why) }
+        ensures same { IfErr result (λ _. (self.new ≡ self.old) × (mem.new ≡ mem.old)) }
+        ensures stands { Stands (holding self.new.book mem.new) }
+    {
+        if self.busy() {
+            return Err(OfferError::Busy);
+        }
+        self.offer_next(cmd, mem)
+    }
+
+    /// Accepts or refuses a command where none is unfinished.
+    fn offer_next(&mut self, cmd: &Cmd, mem: &mut WordMem) -> Result<(), OfferError>
+        requires stands { Stands (holding self.old.book mem.old) }
+        requires offered { IsOffered self.old.room cmd.now }
+        ensures accepted { IfOk result (λ _. offered_next self.old mem.old cmd.now ≡ Ok (record { driver = self.new; memory = mem.new })) }
+        ensures refused { IfErr result (λ why. offered_next self.old mem.old cmd.now ≡ Err why) }
+        ensures same { IfErr result (λ _. (self.new ≡ self.old) × (mem.new ≡ mem.old)) }
+        ensures stands { Stands (holding self.new.book mem.new) }
+    {
+        match cmd {
+            Cmd::OpenEp(desc) => self.offer_open(desc, mem),
+            Cmd::Get { name, len, by } => self.offer_get(name, *len, *by, mem),
+            Cmd::Put { name, bytes, by } => self.offer_put(name, bytes.as_slice(), *by, mem),
+            Cmd::Control { name, setup, bytes } => self.offer_control(
+                name,
+                setup,
+                bytes.as_slice(),
+                mem,
+            ),
+            Cmd::Iso { .. } => Err(OfferError::NoEndpoint),
+            Cmd::Cancel(name) => self.offer_cancel(name),
+        }
+    }
+
+    /// The open of a bulk or control endpoint: its queue head and the dummy are taken and written, and the queue head is to be lent and
+    /// linked behind the head of the ring.
+    ///
+    /// # Errors
+    ///
+    /// `Closed` where the endpoint has ended, `AlreadyOpen` where it is open, `NoBlocks` where a run isn't found. Nothing changes then.
+    fn offer_open(&mut self, desc: &EpDesc, mem: &mut WordMem) -> Result<(), OfferError>
+        requires stands { Stands (holding self.old.book mem.old) }
+        requires room { 1 ≤ self.old.room.endpoints }
+        requires max { desc.now.max ≤ 1024 }
+        requires port { desc.now.port ≤ 127 }
+        ensures accepted { IfOk result (λ _. offered_open self.old mem.old desc.now (endpoint_named self.old desc.now.name) ≡ Ok (record { driver = self.new; memory = mem.new })) }
+        ensures refused { IfErr result (λ why. offered_open self.old mem.old desc.now (endpoint_named self.old desc.now.name) ≡ Err why) }
+        ensures same { IfErr result (λ _. (self.new ≡ self.old) × (mem.new ≡ mem.old)) }
+        ensures stands { Stands (holding self.new.book mem.new) }
+    {
+        if let Some((_, endpoint)) = self.endpoint_by(&desc.name) {
+            return Err(not_again(&endpoint));
+        }
+        match take_endpoint(&mut self.book, mem) {
+            Ok((queue, dummy)) => {
+                self.accept_open(desc, mem, queue, dummy);
+                Ok(())
+            }
+            Err(why) => Err(why),
+        }
+    }
+
+    /// The open is accepted with these runs.
+    fn accept_open(&mut self, desc: &EpDesc, mem: &mut WordMem, queue: u16, dummy: u16)
+        requires stands { Stands (holding self.old.book mem.old) }
+        requires room { 1 ≤ self.old.room.endpoints }
+        requires max { desc.now.max ≤ 1024 }
+        requires port { desc.now.port ≤ 127 }
+        ensures driver { self.new ≡ record self.old { endpoints = self.old.endpoints ++ new_endpoint desc.now queue dummy ∷ []; command = Some (Command.Open queue); made = 0; room = record self.old.room { endpoints = self.old.room.endpoints - 1 } } }
+        ensures memory { mem.new ≡ written_open self.old.book mem.old desc.now (newest_of self.old.endpoints) queue dummy }
+        ensures stands { Stands (holding self.new.book mem.new) }
+    {
+        let link = newest(&self.endpoints);
+        write_endpoint(&self.book, mem, desc, link, queue, dummy);
+        self.endpoints.push_reserved(Endpoint {
+            desc: *desc,
+            queue,
+            dummy,
+            next: None,
+            ended: None,
+            cancelled: false,
+            linked: true,
+            gone: false,
+        });
+        self.command = Some(Command::Open(queue));
+        self.made = 0;
+        self.room.endpoints -= 1;
+    }
+
+    /// The cancel of an endpoint: its predecessor in the ring is to lead to its successor.
+    ///
+    /// # Errors
+    ///
+    /// `NoEndpoint` where it was never opened, `Closed` where a cancel was accepted before. Nothing changes then.
+    fn offer_cancel(&mut self, name: &EpName) -> Result<(), OfferError>
+        requires room { 1 ≤ self.old.room.reports }
+        ensures accepted { IfOk result (λ _. (m : Mem) → offered_cancel self.old m (unwrap_or (endpoint_of self.old name.now) 0) (endpoint_named self.old name.now) ≡ Ok (record { driver = self.new; memory = m })) }
+        ensures refused { IfErr result (λ why. (m : Mem) → offered_cancel self.old m (unwrap_or (endpoint_of self.old name.now) 0) (endpoint_named self.old name.now) ≡ Err why) }
+        ensures same { IfErr result (λ _. self.new ≡ self.old) }
+        ensures book { self.new.book ≡ self.old.book }
+    {
+        let Some((e, endpoint)) = self.endpoint_by(name) else {
+            return Err(OfferError::NoEndpoint);
+        };
+        if endpoint.cancelled {
+            return Err(OfferError::Closed(EndCause::Cancel));
+        }
+        self.accept_cancel(e, &endpoint);
+        Ok(())
+    }
+
+    /// The cancel of this endpoint is accepted.
+    fn accept_cancel(&mut self, e: usize, endpoint: &Endpoint)
+        requires room { 1 ≤ self.old.room.reports }
+        requires endpoint { slice_get self.old.endpoints e ≡ Some endpoint.now }
+        ensures driver { self.new ≡ accepted_cancel self.old e endpoint.now }
+    {
+        let behind = self.block_before(e);
+        let link = link_to(self.block_after(e));
+        self.room.reports -= 1;
+        self.command = Some(Command::Unlink(e, behind, link));
+        self.made = 0;
+        self.endpoints[e] = Endpoint {
+            cancelled: true,
+            ended: or_cancel(endpoint.ended),
+            ..*endpoint
+        };
+    }
+
+    /// The block that leads to the endpoint of this number in the ring.
+    fn block_before(&self, e: usize) -> u16
+        requires { e < length self.now.endpoints }
+        ensures { result ≡ before self.now e }
+    {
+        oldest(&self.endpoints[e + 1..])
+    }
+
+    /// The block to which the endpoint of this number leads in the ring.
+    fn block_after(&self, e: usize) -> u16
+        requires { e < length self.now.endpoints }
+        ensures { result ≡ after self.now e }
+    {
+        newest(&self.endpoints[..e])
+    }
+}
+
+/// Why an endpoint isn't opened again.
+fn not_again(endpoint: &Endpoint) -> OfferError
+    ensures { (d : DriverContent) (m : Mem) (x : EpDesc) → offered_open d m x (Some endpoint.now) ≡ Err result }
+{
+    match endpoint.ended {
+        Some(cause) => OfferError::Closed(cause),
+        None => OfferError::AlreadyOpen,
+    }
+}
+
+/// Why an endpoint that is cancelled ended first.
+fn or_cancel(ended: Option<EndCause>) -> Option<EndCause>
+    ensures { result ≡ first_end ended }
+{
+    match ended {
+        Some(cause) => Some(cause),
+        None => Some(EndCause::Cancel),
+    }
+}
+
+/// The link to the queue head that begins in this block.
+fn link_to(block: u16) -> u32
+    ensures { result ≡ queue_head_link block }
+{
+    32 * block as u32 + 2
+}

@@ -1,0 +1,359 @@
+ghost use Rattle.std.specs.Prelude.{◌≡◌, ℕ, ◌≤◌, ◌<◌, ◌-◌, ◌*◌, false, nat_eq, length, take, drop, slice_get, slice_set, slice_index, Some, None, Ok, Err, IfOk, IfErr, IfSome, IfNone, [], ◌∷◌, ◌++◌};
+ghost use Rattle.word_mem.specs.Memory.{Mem};
+ghost use Rattle.qh_qtd.specs.Qtd.{qtd_words};
+ghost use Rattle.run_book.specs.Book.{holding, Stands, store_words};
+ghost use Rattle.driver_rows.specs.DriverContent.{DriverContent, endpoint_of, endpoint_named};
+ghost use Rattle.driver_rows.specs.Harvests.{note_at};
+ghost use Rattle.driver_rows.specs.Words.{needs, dummy_qtd, get_stages, put_stages, request_stages, request_length};
+ghost use Rattle.driver_rows.specs.Offers.{Offered, Asked, take_runs, taken_transfer, offered_transfer, open_transfer, accepted_transfer, stage_words, note_stages, write_stages, send_stages, first_of, first_waiting, with_queued, with_transfer, takes_get, takes_put, takes_control, is_queued, HasRoom};
+ghost use Rattle.driver_words.specs.Cuts.{stages_of, IsCut};
+
+use crate::driver::Driver;
+use crate::told::{find, goes_same_way};
+use driver_queues::{Queued, take_transfer, write_transfer};
+use driver_rows::{Command, Endpoint, Reserve, Sort, Transfer};
+use driver_words::{Cut, is_for_control};
+use usb_base::{EpKind, EpName, OfferError, Way};
+use word_mem::WordMem;
+
+impl Driver {
+    /// A get: `len` bytes are asked of an IN endpoint, in qTDs of `by`.
+    ///
+    /// # Errors
+    ///
+    /// `NoEndpoint`, `Closed`, `TooLong` or `NoBlocks`. Nothing changes then.
+    pub(crate) fn offer_get(
+        &mut self,
+        name: &EpName,
+        len: u32,
+        by: u32,
+        mem: &mut WordMem,
+    ) -> Result<(), OfferError>
+        requires some { 1 ≤ by }
+        requires few { by ≤ 20480 }
+        requires room { HasRoom self.old.room len }
+        requires stands { Stands (holding self.old.book mem.old) }
+        ensures accepted { IfOk result (λ _. offered_transfer self.old mem.old name.now takes_get (record { sort = Sort.Get; stages = get_stages len by; most = len; bytes = [] }) ≡ Ok (record { driver = self.new; memory = mem.new })) }
+        ensures refused { IfErr result (λ why. offered_transfer self.old mem.old name.now takes_get (record { sort = Sort.Get; stages = get_stages len by; most = len; bytes = [] }) ≡ Err why) }
+        ensures same { IfErr result (λ _. (self.new ≡ self.old) × (mem.new ≡ mem.old)) }
+        ensures stands { Stands (holding self.new.book mem.new) }
+    {
+        let Some((e, endpoint)) = self.endpoint_by(name) else {
+            return Err(OfferError::NoEndpoint);
+        };
+        if !can_get(&endpoint) {
+            return Err(OfferError::NoEndpoint);
+        }
+        if let Some(why) = refusal(&endpoint, len as usize) {
+            return Err(why);
+        }
+        self.take_at(
+            e,
+            &endpoint,
+            Sort::Get,
+            &Cut::Get(len, by),
+            len,
+            &[],
+            &[],
+            mem,
+        )
+    }
+
+    /// A put: these bytes are sent to an OUT endpoint, in qTDs of `by`.
+    ///
+    /// # Errors
+    ///
+    /// `NoEndpoint`, `Closed`, `TooLong` or `NoBlocks`. Nothing changes then.
+    pub(crate) fn offer_put(
+        &mut self,
+        name: &EpName,
+        bytes: &[u8],
+        by: u32,
+        mem: &mut WordMem,
+    ) -> Result<(), OfferError>
+        requires some { 1 ≤ by }
+        requires few { by ≤ 20480 }
+        requires room { HasRoom self.old.room (length bytes.now) }
+        requires stands { Stands (holding self.old.book mem.old) }
+        ensures accepted { IfOk result (λ _. offered_transfer self.old mem.old name.now takes_put (record { sort = Sort.Put; stages = put_stages (length bytes.now) by; most = length bytes.now; bytes = bytes.now }) ≡ Ok (record { driver = self.new; memory = mem.new })) }
+        ensures refused { IfErr result (λ why. offered_transfer self.old mem.old name.now takes_put (record { sort = Sort.Put; stages = put_stages (length bytes.now) by; most = length bytes.now; bytes = bytes.now }) ≡ Err why) }
+        ensures same { IfErr result (λ _. (self.new ≡ self.old) × (mem.new ≡ mem.old)) }
+        ensures stands { Stands (holding self.new.book mem.new) }
+    {
+        let Some((e, endpoint)) = self.endpoint_by(name) else {
+            return Err(OfferError::NoEndpoint);
+        };
+        if !can_put(&endpoint) {
+            return Err(OfferError::NoEndpoint);
+        }
+        if let Some(why) = refusal(&endpoint, bytes.len()) {
+            return Err(why);
+        }
+        self.take_at(
+            e,
+            &endpoint,
+            Sort::Put,
+            &Cut::Put(bytes.len() as u32, by),
+            bytes.len() as u32,
+            &[],
+            bytes,
+            mem,
+        )
+    }
+
+    /// A request to a control endpoint (USB 2.0, 9.3), with the bytes of its data stage where that is an OUT.
+    ///
+    /// # Errors
+    ///
+    /// `NoEndpoint`, `Closed`, `TooLong` or `NoBlocks`. Nothing changes then.
+    pub(crate) fn offer_control(
+        &mut self,
+        name: &EpName,
+        setup: &[u8; 8],
+        bytes: &[u8],
+        mem: &mut WordMem,
+    ) -> Result<(), OfferError>
+        requires room { HasRoom self.old.room (request_length setup.now) }
+        requires stands { Stands (holding self.old.book mem.old) }
+        ensures accepted { IfOk result (λ _. offered_transfer self.old mem.old name.now takes_control (record { sort = Sort.Request; stages = request_stages setup.now; most = request_length setup.now; bytes = setup.now ++ bytes.now }) ≡ Ok (record { driver = self.new; memory = mem.new })) }
+        ensures refused { IfErr result (λ why. offered_transfer self.old mem.old name.now takes_control (record { sort = Sort.Request; stages = request_stages setup.now; most = request_length setup.now; bytes = setup.now ++ bytes.now }) ≡ Err why) }
+        ensures same { IfErr result (λ _. (self.new ≡ self.old) × (mem.new ≡ mem.old)) }
+        ensures stands { Stands (holding self.new.book mem.new) }
+    {
+        let Some((e, endpoint)) = self.endpoint_by(name) else {
+            return Err(OfferError::NoEndpoint);
+        };
+        if !is_for_control(endpoint.desc.kind) {
+            return Err(OfferError::NoEndpoint);
+        }
+        let len = setup[6] as u32 + 256 * setup[7] as u32;
+        if let Some(why) = refusal(&endpoint, len as usize) {
+            return Err(why);
+        }
+        self.take_at(
+            e,
+            &endpoint,
+            Sort::Request,
+            &Cut::Request(*setup),
+            len,
+            setup,
+            bytes,
+            mem,
+        )
+    }
+
+    /// The endpoint with this name, and its number.
+    pub(crate) fn endpoint_by(&self, name: &EpName) -> Option<(usize, Endpoint)>
+        ensures number { IfSome result (λ both. endpoint_of self.now name.now ≡ Some both.0) }
+        ensures endpoint { IfSome result (λ both. endpoint_named self.now name.now ≡ Some both.1) }
+        ensures there { IfSome result (λ both. slice_get self.now.endpoints both.0 ≡ Some both.1) }
+        ensures none { IfNone result (endpoint_named self.now name.now ≡ None) }
+    {
+        match find(&self.endpoints, name) {
+            Some(e) => Some((e, self.endpoints[e])),
+            None => None,
+        }
+    }
+
+    /// A transfer of this endpoint, which takes it where its runs are found: its qTDs, the most bytes that its report tells, and the
+    /// bytes that it sends, `front` and then `bytes`.
+    ///
+    /// # Errors
+    ///
+    /// `NoBlocks` where a run isn't found. Nothing changes then.
+    fn take_at(
+        &mut self,
+        e: usize,
+        endpoint: &Endpoint,
+        sort: Sort,
+        cut: &Cut,
+        most: u32,
+        front: &[u8],
+        bytes: &[u8],
+        mem: &mut WordMem,
+    ) -> Result<(), OfferError>
+        requires endpoint { slice_get self.old.endpoints e ≡ Some endpoint.now }
+        requires cut { IsCut cut.now }
+        requires front { length front.now ≤ 8 }
+        requires transfers { 1 ≤ self.old.room.transfers }
+        requires reports { 1 ≤ self.old.room.reports }
+        requires bytes { most ≤ self.old.room.report_bytes }
+        requires stands { Stands (holding self.old.book mem.old) }
+        ensures accepted { IfOk result (λ _. taken_transfer self.old e endpoint.now (record { sort = sort; stages = stages_of cut.now; most = most; bytes = front.now ++ bytes.now }) (take_runs (holding self.old.book mem.old) (needs (stages_of cut.now))) ≡ Ok (record { driver = self.new; memory = mem.new })) }
+        ensures refused { IfErr result (λ why. taken_transfer self.old e endpoint.now (record { sort = sort; stages = stages_of cut.now; most = most; bytes = front.now ++ bytes.now }) (take_runs (holding self.old.book mem.old) (needs (stages_of cut.now))) ≡ Err why) }
+        ensures same { IfErr result (λ _. (self.new ≡ self.old) × (mem.new ≡ mem.old)) }
+        ensures stands { Stands (holding self.new.book mem.new) }
+    {
+        let keep = self.book.taken().len();
+        match take_transfer(&mut self.book, mem, cut) {
+            Ok(()) => {
+                self.accept_at(e, endpoint, sort, cut, most, keep, front, bytes, mem);
+                Ok(())
+            }
+            Err(why) => Err(why),
+        }
+    }
+
+    /// The transfer is accepted with the runs that were taken after the first `keep`.
+    fn accept_at(
+        &mut self,
+        e: usize,
+        endpoint: &Endpoint,
+        sort: Sort,
+        cut: &Cut,
+        most: u32,
+        keep: usize,
+        front: &[u8],
+        bytes: &[u8],
+        mem: &mut WordMem,
+    )
+        requires endpoint { slice_get self.old.endpoints e ≡ Some endpoint.now }
+        requires cut { IsCut cut.now }
+        requires front { length front.now ≤ 8 }
+        requires transfers { 1 ≤ self.old.room.transfers }
+        requires reports { 1 ≤ self.old.room.reports }
+        requires bytes { most ≤ self.old.room.report_bytes }
+        requires stands { Stands (holding self.old.book mem.old) }
+        ensures accepted { ◌≡◌ {A = Offered} (record { driver = self.new; memory = mem.new }) (accepted_transfer self.old e endpoint.now (record { sort = sort; stages = stages_of cut.now; most = most; bytes = front.now ++ bytes.now }) (holding self.old.book mem.old) (slice_index (take (length (stages_of cut.now)) (drop keep self.old.book.taken)) (length (stages_of cut.now) - 1)) (note_stages self.old.notes (stages_of cut.now) endpoint.now.dummy (take (length (stages_of cut.now)) (drop keep self.old.book.taken)) (drop (length (stages_of cut.now)) (drop keep self.old.book.taken)))) }
+        ensures stands { Stands (holding self.new.book mem.new) }
+    {
+        let queued = self.write_at(cut, endpoint.dummy, keep, front, bytes, mem);
+        let transfer = Transfer {
+            endpoint: e,
+            sort,
+            first: endpoint.dummy,
+            qtds: queued.qtds,
+            place: endpoint.dummy,
+            left: queued.qtds,
+            most,
+            reported: false,
+            released: false,
+        };
+        self.enter(e, endpoint, transfer, &queued);
+    }
+
+    /// The qTDs of a transfer and the bytes that it sends are noted and written, with the old dummy in the block `first`.
+    fn write_at(
+        &mut self,
+        cut: &Cut,
+        first: u16,
+        keep: usize,
+        front: &[u8],
+        bytes: &[u8],
+        mem: &mut WordMem,
+    ) -> Queued
+        requires cut { IsCut cut.now }
+        requires front { length front.now ≤ 8 }
+        requires stands { Stands (holding self.old.book mem.old) }
+        ensures qtds { result.qtds ≡ length (stages_of cut.now) }
+        ensures dummy { result.dummy ≡ slice_index (take (length (stages_of cut.now)) (drop keep self.old.book.taken)) (length (stages_of cut.now) - 1) }
+        ensures driver { self.new ≡ record self.old { notes = note_stages self.old.notes (stages_of cut.now) first (take (length (stages_of cut.now)) (drop keep self.old.book.taken)) (drop (length (stages_of cut.now)) (drop keep self.old.book.taken)) } }
+        ensures words { result.words ≡ stage_words self.new.notes (first_of (stages_of cut.now)) first result.dummy (nat_eq (length (stages_of cut.now)) 1) }
+        ensures memory { mem.new ≡ send_stages self.old.book (store_words self.old.book (write_stages self.old.book mem.old self.new.notes result.dummy (drop 1 (stages_of cut.now)) (note_at self.new.notes first).next) result.dummy (32 * result.dummy) (qtd_words dummy_qtd)) self.new.notes (stages_of cut.now) first (front.now ++ bytes.now) }
+        ensures stands { Stands (holding self.new.book mem.new) }
+    {
+        write_transfer(
+            &self.book,
+            mem,
+            self.notes.as_mut_slice(),
+            cut,
+            first,
+            keep,
+            front,
+            bytes,
+        )
+    }
+
+    /// A new transfer of this endpoint is the last in its queue, and its first qTD is to be published.
+    fn enter(&mut self, e: usize, endpoint: &Endpoint, transfer: Transfer, queued: &Queued)
+        requires endpoint { slice_get self.old.endpoints e ≡ Some endpoint.now }
+        requires transfers { 1 ≤ self.old.room.transfers }
+        requires reports { 1 ≤ self.old.room.reports }
+        requires bytes { transfer.most ≤ self.old.room.report_bytes }
+        requires open { transfer.reported ≡ false }
+        ensures driver { self.new ≡ record self.old { endpoints = slice_set self.old.endpoints e (with_queued endpoint.now queued.now.dummy (length self.old.transfers)); transfers = self.old.transfers ++ transfer ∷ []; command = Some (Command.Publish transfer.first queued.now.words); made = 0; room = with_transfer self.old.room transfer.most } }
+    {
+        let next = or_first(endpoint.next, self.transfers.len());
+        self.room = less_room(self.room, transfer.most);
+        self.command = Some(Command::Publish(transfer.first, queued.words));
+        self.made = 0;
+        self.transfers.push_reserved(transfer);
+        self.endpoints[e] = Endpoint {
+            dummy: queued.dummy,
+            next,
+            ..*endpoint
+        };
+    }
+}
+
+/// Why this endpoint takes no transfer of `most` bytes: it has ended, or there are more than 20,480.
+fn refusal(endpoint: &Endpoint, most: usize) -> Option<OfferError>
+    ensures some { IfSome result (λ why. (d : DriverContent) (m : Mem) (e : ℕ) (a : Asked) → a.most ≡ most → open_transfer d m e endpoint.now a endpoint.now.ended ≡ Err why) }
+    ensures going { IfNone result (endpoint.now.ended ≡ None) }
+    ensures short { IfNone result (most ≤ 20480) }
+{
+    match endpoint.ended {
+        Some(cause) => Some(OfferError::Closed(cause)),
+        None => if_long(most),
+    }
+}
+
+/// Whether there are more than 20,480 bytes.
+fn if_long(most: usize) -> Option<OfferError>
+    ensures some { IfSome result (λ why. (why ≡ OfferError.TooLong) × (20480 < most)) }
+    ensures short { IfNone result (most ≤ 20480) }
+{
+    if most > 20480 {
+        return Some(OfferError::TooLong);
+    }
+    None
+}
+
+/// The number of the first transfer that isn't harvested: the new one, where there was none.
+fn or_first(next: Option<usize>, new: usize) -> Option<usize>
+    ensures { result ≡ first_waiting next new }
+{
+    match next {
+        Some(t) => Some(t),
+        None => Some(new),
+    }
+}
+
+/// The room once a transfer is accepted.
+fn less_room(room: Reserve, most: u32) -> Reserve
+    requires transfers { 1 ≤ room.transfers }
+    requires reports { 1 ≤ room.reports }
+    requires bytes { most ≤ room.report_bytes }
+    ensures { result ≡ with_transfer room most }
+{
+    Reserve {
+        endpoints: room.endpoints,
+        transfers: room.transfers - 1,
+        reports: room.reports - 1,
+        report_bytes: room.report_bytes - most,
+    }
+}
+
+/// Whether a get is for this endpoint.
+fn can_get(endpoint: &Endpoint) -> bool
+    ensures { result ≡ takes_get endpoint.now }
+{
+    is_of_queue(endpoint.desc.kind) && goes_same_way(endpoint.desc.name.way, Way::In)
+}
+
+/// Whether a put is for this endpoint.
+fn can_put(endpoint: &Endpoint) -> bool
+    ensures { result ≡ takes_put endpoint.now }
+{
+    is_of_queue(endpoint.desc.kind) && goes_same_way(endpoint.desc.name.way, Way::Out)
+}
+
+/// Whether its transfers stand in a queue and have no setup stage.
+fn is_of_queue(kind: EpKind) -> bool
+    ensures { result ≡ is_queued kind }
+{
+    match kind {
+        EpKind::Bulk | EpKind::Interrupt => true,
+        EpKind::Control | EpKind::Iso => false,
+    }
+}
