@@ -1,2 +1,0 @@
-pub mod Riding
-pub mod Worked

@@ -1,4 +1,0 @@
-pub mod Setting
-pub mod Told
-pub mod Events
-pub mod Rows
