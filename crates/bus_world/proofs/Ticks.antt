@@ -1,5 +1,5 @@
 -- Ticks one after the other: they join, and what turns and events are.
-use Rattle.std.proofs.Common.{◌≡◌, ℕ, zero, suc, ◌+◌, ◌*◌, ◌≤◌, List, ◌∷◌, Bool, true, false, refl, ap, sym, ◌∙◌, zero-add, arith, subst}
+use Rattle.std.proofs.Common.{◌≡◌, ℕ, zero, suc, ◌+◌, ◌*◌, List, ◌∷◌, Bool, true, false, refl, ap, sym, ◌∙◌, zero-add, arith, subst}
 use Rattle.script_types.specs.declared.scripts.Event.{Event}
 use Rattle.script_types.specs.declared.scripts.Event.TheVariants as events
 use Rattle.usb_bus.specs.Bus.{Fixed}

@@ -3,7 +3,7 @@
 --     tick                       one event or command
 --     ticks fixed p n            n of them
 --     Leads fixed p q            some number of them leads from p to q
-use Rattle.std.specs.Prelude.{◌≡◌, ℕ, zero, suc, ◌*◌, ◌≤◌, ◌⊎◌, Bool, true, false, List, [], ◌∷◌, map}
+use Rattle.std.specs.Prelude.{◌≡◌, ℕ, zero, suc, ◌*◌, ◌⊎◌, Bool, true, false, List, [], ◌∷◌, map}
 use Rattle.usb_base.specs.declared.commands.Cmd.{Cmd}
 use Rattle.script_types.specs.declared.scripts.Event.{Event}
 use Rattle.script_types.specs.declared.scripts.Event.TheVariants as events
