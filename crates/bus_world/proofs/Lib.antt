@@ -1,0 +1,10 @@
+pub mod Ticks
+pub mod Wire
+pub mod Standing
+pub mod Kept
+pub mod Rooming
+pub mod Roomy
+pub mod Offering
+pub mod Sounds
+pub mod Ways
+pub mod Printing

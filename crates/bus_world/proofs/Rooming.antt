@@ -1,0 +1,221 @@
+-- A command uses at most the room that it needs, accepted or refused.
+use Rattle.std.proofs.Common.{◌≡◌, ℕ, suc, ◌+◌, ◌≤◌, ◌<◌, Bool, true, false, List, [], ◌∷◌, length, Option, Some, None, Result, Ok, Err, refl, ap, sym, ◌∙◌, arith, get_or, drop}
+use Rattle.std.specs.Prelude.{if◌then◌else◌, nat_lt, nat_le, unwrap_or}
+use Rattle.std.proofs.Math.Seq.{drop-cons}
+use Rattle.usb_base.specs.declared.commands.Cmd.{Cmd}
+use Rattle.usb_base.specs.declared.commands.Cmd.TheVariants as commands
+use Rattle.usb_base.specs.declared.endpoints.EpName.{EpName}
+use Rattle.usb_base.specs.declared.endpoints.EpDesc.{EpDesc}
+use Rattle.usb_base.specs.declared.endpoints.EndCause.{EndCause}
+use Rattle.usb_base.specs.declared.reports.OfferError.{OfferError}
+use Rattle.usb_base.specs.declared.reports.OfferError.TheVariants as errors
+use Rattle.script_types.specs.declared.scripts.Line.{Line}
+use Rattle.word_mem.specs.Memory.{Mem}
+use Rattle.run_book.specs.Book.{Holding, holding}
+use Rattle.driver_rows.specs.declared.content.Reserve.{Reserve}
+use Rattle.driver_rows.specs.declared.content.Endpoint.{Endpoint}
+use Rattle.driver_rows.specs.DriverContent.{DriverContent, busy, endpoint_of, endpoint_named}
+use Rattle.driver_rows.specs.Words.{request_length}
+use Rattle.driver_rows.specs.Offers.{Offered, offered, offered_next, offered_open, taken_open, offered_transfer, found_transfer, open_transfer, taken_transfer, offered_cancel, take_runs, takes_get, takes_put, takes_control, Asked, IsOffered, HasRoom}
+use Rattle.script_fits.specs.Fits.{IsFitCommand}
+use Rattle.bus_world.specs.Rooms.{needs, needs_line, no_room, transfer_room, with_room, HasRoomFor, reserve_of}
+use Rattle.bus_world.specs.World.{World, commanded, commanded_by}
+use Rattle.bus_world.proofs.Offering.{get_asked, put_asked, request_asked}
+
+-- an accepted command leaves this room
+abbrev pub Leaves : Reserve → Result Offered OfferError → Type 0
+Leaves r (Ok o) = HasRoomFor o.driver.room r
+Leaves r (Err why) = Unit {0}
+
+leaves_if : (r : Reserve) (b : Bool) (x y : Result Offered OfferError) → (b ≡ true → Leaves r x) → (b ≡ false → Leaves r y) → Leaves r (if b then x else y)
+leaves_if r true x y h k = h refl
+leaves_if r false x y h k = k refl
+
+refused_leaves : (r : Reserve) (why : OfferError) → Leaves r (Err why)
+refused_leaves r why = tt
+
+-- ---- open
+
+ended_leaves : (r : Reserve) (cause : Option EndCause) → Leaves r (elim cause [ Some c ↦ Err (errors.Closed c) | None ↦ Err errors.AlreadyOpen ])
+ended_leaves r (Some c) = tt
+ended_leaves r None = tt
+
+taken_open_leaves : (d : DriverContent) (x : EpDesc) (r : Reserve) (h : Result Holding OfferError) → HasRoomFor d.room (with_room (record no_room { endpoints = 1; reports = 1 }) r) → Leaves r (taken_open d x h)
+taken_open_leaves d x r (Err why) room = tt
+taken_open_leaves d x r (Ok h) room = record {
+  endpoints = omega (arith, room.endpoints);
+  transfers = omega (arith, room.transfers);
+  reports = omega (arith, room.reports);
+  report_bytes = omega (arith, room.report_bytes);
+}
+
+open_leaves : (d : DriverContent) (m : Mem) (x : EpDesc) (r : Reserve) (old : Option Endpoint) → HasRoomFor d.room (with_room (record no_room { endpoints = 1; reports = 1 }) r) → Leaves r (offered_open d m x old)
+open_leaves d m x r (Some old) room = ended_leaves r old.ended
+open_leaves d m x r None room = taken_open_leaves d x r (take_runs (holding d.book m) (2 ∷ 1 ∷ [])) room
+
+-- ---- transfers
+
+told : (n : ℕ) → n ≤ 20480 → (if nat_le n 20480 then n else 0) ≡ n
+told n h = grind arith
+
+short : (n : ℕ) → nat_lt 20480 n ≡ false → n ≤ 20480
+short n h = grind arith
+
+taken_transfer_leaves : (d : DriverContent) (e : ℕ) (x : Endpoint) (a : Asked) (r : Reserve) (h : Result Holding OfferError) → a.most ≤ 20480 → HasRoomFor d.room (with_room (transfer_room a.most) r) → Leaves r (taken_transfer d e x a h)
+taken_transfer_leaves d e x a r (Err why) le room = tt
+taken_transfer_leaves d e x a r (Ok h) le room = record {
+  endpoints = omega (arith, room.endpoints);
+  transfers = omega (arith, room.transfers);
+  reports = omega (arith, room.reports);
+  report_bytes = omega (arith, room.report_bytes, told a.most le);
+}
+
+open_transfer_leaves : (d : DriverContent) (m : Mem) (e : ℕ) (x : Endpoint) (a : Asked) (r : Reserve) (cause : Option EndCause) → HasRoomFor d.room (with_room (transfer_room a.most) r) → Leaves r (open_transfer d m e x a cause)
+open_transfer_leaves d m e x a r (Some cause) room = tt
+open_transfer_leaves d m e x a r None room =
+    leaves_if r (nat_lt 20480 a.most) (Err errors.TooLong) (taken_transfer d e x a (take_runs (holding d.book m) _))
+    (λ _. tt)
+    (λ h. taken_transfer_leaves d e x a r _ (short a.most h) room)
+
+found_leaves : (d : DriverContent) (m : Mem) (takes : Endpoint → Bool) (a : Asked) (e : ℕ) (r : Reserve) (x : Option Endpoint) → HasRoomFor d.room (with_room (transfer_room a.most) r) → Leaves r (found_transfer d m takes a e x)
+found_leaves d m takes a e r None room = tt
+found_leaves d m takes a e r (Some x) room =
+    leaves_if r (takes x) (open_transfer d m e x a x.ended) (Err errors.NoEndpoint) (λ _. open_transfer_leaves d m e x a r x.ended room) (λ _. tt)
+
+transfer_leaves : (d : DriverContent) (m : Mem) (name : EpName) (takes : Endpoint → Bool) (a : Asked) (r : Reserve) → HasRoomFor d.room (with_room (transfer_room a.most) r) → Leaves r (offered_transfer d m name takes a)
+transfer_leaves d m name takes a r room = found_leaves d m takes a (unwrap_or (endpoint_of d name) 0) r (endpoint_named d name) room
+
+-- ---- cancel
+
+cancel_leaves : (d : DriverContent) (m : Mem) (e : ℕ) (x : Option Endpoint) (r : Reserve) → HasRoomFor d.room (with_room (record no_room { reports = 1 }) r) → Leaves r (offered_cancel d m e x)
+cancel_leaves d m e None r room = tt
+cancel_leaves d m e (Some x) r room =
+    leaves_if r x.cancelled _ _ (λ _. tt)
+    (λ _. record {
+      endpoints = omega (arith, room.endpoints);
+      transfers = omega (arith, room.transfers);
+      reports = omega (arith, room.reports);
+      report_bytes = omega (arith, room.report_bytes);
+    })
+
+-- ---- any command
+
+next_leaves : (d : DriverContent) (m : Mem) (cmd : Cmd) (r : Reserve) → HasRoomFor d.room (with_room (needs cmd) r) → Leaves r (offered_next d m cmd)
+next_leaves d m (commands.OpenEp x) r room = open_leaves d m x r (endpoint_named d x.name) room
+next_leaves d m (commands.Get name len by) r room = transfer_leaves d m name takes_get (get_asked len by) r room
+next_leaves d m (commands.Put name bytes by) r room = transfer_leaves d m name takes_put (put_asked bytes by) r room
+next_leaves d m (commands.Control name setup bytes) r room = transfer_leaves d m name takes_control (request_asked setup bytes) r room
+next_leaves d m (commands.Iso name count len seed) r room = tt
+next_leaves d m (commands.Cancel name) r room = cancel_leaves d m (unwrap_or (endpoint_of d name) 0) (endpoint_named d name) r room
+
+offer_leaves : (d : DriverContent) (m : Mem) (cmd : Cmd) (r : Reserve) → HasRoomFor d.room (with_room (needs cmd) r) → Leaves r (offered d m cmd)
+offer_leaves d m cmd r room = leaves_if r (busy d) (Err errors.Busy) (offered_next d m cmd) (λ _. tt) (λ _. next_leaves d m cmd r room)
+
+-- each command needs one line of the report
+one_line : (cmd : Cmd) → IsFitCommand cmd → 1 ≤ (needs cmd).reports
+one_line (commands.OpenEp x) fit = omega arith
+one_line (commands.Get name len by) fit = omega arith
+one_line (commands.Put name bytes by) fit = omega arith
+one_line (commands.Control name setup bytes) fit = omega arith
+one_line (commands.Iso name count len seed) fit = fit
+one_line (commands.Cancel name) fit = omega arith
+
+pub has_line : (room : Reserve) (cmd : Cmd) → IsFitCommand cmd → HasRoomFor room (needs cmd) → 1 ≤ room.reports
+has_line room cmd fit has = omega (arith, one_line cmd fit, has.reports)
+
+commanded_by_leaves : (w : World) (n : ℕ) (name : EpName) (cmd : Cmd) (r : Reserve) (x : Result Offered OfferError) → 1 ≤ (needs cmd).reports → HasRoomFor w.driver.room (with_room (needs cmd) r) → Leaves r x → HasRoomFor (commanded_by w n name x).driver.room r
+commanded_by_leaves w n name cmd r (Ok o) one room h = h
+commanded_by_leaves w n name cmd r (Err why) one room h = record {
+  endpoints = omega (arith, room.endpoints);
+  transfers = omega (arith, room.transfers);
+  reports = omega (arith, room.reports, one);
+  report_bytes = omega (arith, room.report_bytes);
+}
+
+pub command_leaves : (w : World) (n : ℕ) (cmd : Cmd) (r : Reserve) → IsFitCommand cmd → HasRoomFor w.driver.room (with_room (needs cmd) r) → HasRoomFor (commanded w n cmd).driver.room r
+command_leaves w n cmd r fit room = commanded_by_leaves w n _ cmd r (offered w.driver w.memory cmd) (one_line cmd fit) room (offer_leaves w.driver w.memory cmd r room)
+
+-- ---- what an offer asks
+
+has_room : (room : Reserve) (n : ℕ) → HasRoomFor room (transfer_room n) → HasRoom room n
+has_room room n has = (has.transfers, has.reports, λ le. omega (arith, has.report_bytes, told n le))
+
+pub can_offer : (room : Reserve) (cmd : Cmd) → IsFitCommand cmd → HasRoomFor room (needs cmd) → IsOffered room cmd
+can_offer room (commands.OpenEp x) fit has = (has.endpoints, fit.0, fit.1, fit.2)
+can_offer room (commands.Get name len by) fit has = (fit.0, fit.1, has_room room len has)
+can_offer room (commands.Put name bytes by) fit has = (fit.0, fit.1, has_room room (length bytes) has)
+can_offer room (commands.Control name setup bytes) fit has = has_room room (request_length setup) has
+can_offer room (commands.Iso name count len seed) fit has = tt
+can_offer room (commands.Cancel name) fit has = has.reports
+
+-- the room for more has room for less
+pub less_room : (room a r : Reserve) → HasRoomFor room (with_room a r) → HasRoomFor room a
+less_room room a r has = record {
+  endpoints = omega (arith, has.endpoints);
+  transfers = omega (arith, has.transfers);
+  reports = omega (arith, has.reports);
+  report_bytes = omega (arith, has.report_bytes);
+}
+
+pub rest_room : (room r : Reserve) → HasRoomFor room (with_room no_room r) → HasRoomFor room r
+rest_room room r has = record {
+  endpoints = omega (arith, has.endpoints);
+  transfers = omega (arith, has.transfers);
+  reports = omega (arith, has.reports);
+  report_bytes = omega (arith, has.report_bytes);
+}
+
+-- ---- the room for all lines
+
+with_assoc : (a n r : Reserve) → with_room (with_room a n) r ≡ with_room a (with_room n r)
+with_assoc a n r =
+    let e : a.endpoints + n.endpoints + r.endpoints ≡ a.endpoints + (n.endpoints + r.endpoints) = omega arith in
+    let t : a.transfers + n.transfers + r.transfers ≡ a.transfers + (n.transfers + r.transfers) = omega arith in
+    let p : a.reports + n.reports + r.reports ≡ a.reports + (n.reports + r.reports) = omega arith in
+    let b : a.report_bytes + n.report_bytes + r.report_bytes ≡ a.report_bytes + (n.report_bytes + r.report_bytes) = omega arith in
+    rw (e, t, p, b) refl
+
+with_none : (r : Reserve) → with_room no_room r ≡ r
+with_none r =
+    let e : 0 + r.endpoints ≡ r.endpoints = omega arith in
+    let t : 0 + r.transfers ≡ r.transfers = omega arith in
+    let p : 0 + r.reports ≡ r.reports = omega arith in
+    let b : 0 + r.report_bytes ≡ r.report_bytes = omega arith in
+    rw (e, t, p, b) refl
+
+none_with : (r : Reserve) → with_room r no_room ≡ r
+none_with r =
+    let e : r.endpoints + 0 ≡ r.endpoints = omega arith in
+    let t : r.transfers + 0 ≡ r.transfers = omega arith in
+    let p : r.reports + 0 ≡ r.reports = omega arith in
+    let b : r.report_bytes + 0 ≡ r.report_bytes = omega arith in
+    rw (e, t, p, b) refl
+
+-- the next of a list, and those after it
+pub drop_next : {X : Type 0} (xs : List X) (i : ℕ) (x : X) → i < length xs → drop i xs ≡ get_or xs i x ∷ drop (i + 1) xs
+drop_next xs i x h =
+    let e : suc i ≡ i + 1 = omega arith in
+    drop-cons xs i x h ∙ ap (λ n. get_or xs i x ∷ drop n xs) e
+
+-- the room so far, and that of the lines that are left
+pub rooms_begin : (xs left : List (ℕ × Line)) → left ≡ xs → with_room no_room (reserve_of left) ≡ reserve_of xs
+rooms_begin xs left e = with_none (reserve_of left) ∙ ap reserve_of e
+
+pub rooms_more : (all next : Reserve) (xs : List (ℕ × Line)) (i : ℕ) (x : ℕ × Line) → i < length xs → x ≡ get_or xs i x → next ≡ with_room all (needs_line x.1) → with_room all (reserve_of (drop i xs)) ≡ reserve_of xs → with_room next (reserve_of (drop (i + 1) xs)) ≡ reserve_of xs
+rooms_more all next xs i x h e is so_far =
+    ap (λ r. with_room r (reserve_of (drop (i + 1) xs))) is
+    ∙ with_assoc all (needs_line x.1) (reserve_of (drop (i + 1) xs))
+    ∙ ap (λ (y : ℕ × Line). with_room all (with_room (needs_line y.1) (reserve_of (drop (i + 1) xs)))) e
+    ∙ ap (λ ys. with_room all (reserve_of ys)) (sym (drop_next xs i x h))
+    ∙ so_far
+
+pub rooms_end : (all : Reserve) (xs left : List (ℕ × Line)) → left ≡ [] → with_room all (reserve_of left) ≡ reserve_of xs → all ≡ reserve_of xs
+rooms_end all xs left z so_far = sym (none_with all) ∙ sym (ap (λ ys. with_room all (reserve_of ys)) z) ∙ so_far
+
+pub room_itself : (room r : Reserve) → room ≡ r → HasRoomFor room r
+room_itself room r e = record {
+  endpoints = omega (arith, ap (λ (x : Reserve). x.endpoints) e);
+  transfers = omega (arith, ap (λ (x : Reserve). x.transfers) e);
+  reports = omega (arith, ap (λ (x : Reserve). x.reports) e);
+  report_bytes = omega (arith, ap (λ (x : Reserve). x.report_bytes) e);
+}

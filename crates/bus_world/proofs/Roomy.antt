@@ -1,0 +1,227 @@
+-- A device takes no more bytes than it has room for.
+use Rattle.std.proofs.Common.{◌≡◌, ℕ, zero, suc, ◌+◌, ◌<◌, Bool, true, false, List, [], ◌∷◌, length, map, slice_get, slice_set, Option, Some, None, refl, subst, arith, length-append}
+use Rattle.std.specs.List.{AllByRecursion, find}
+use Rattle.std.proofs.lemmas.Bool.{cond_both, leb-true}
+use Rattle.usb_base.specs.declared.packets.Ask.{Ask}
+use Rattle.usb_base.specs.declared.packets.EpKind.{EpKind}
+use Rattle.usb_base.specs.declared.packets.EpKind.TheVariants as Kinds
+use Rattle.usb_base.specs.declared.packets.Way.{Way}
+use Rattle.usb_base.specs.declared.packets.Way.TheVariants as Ways
+use Rattle.usb_base.specs.declared.endpoints.EpName.{EpName}
+use Rattle.script_types.specs.declared.devices.Item.{Item}
+use Rattle.script_types.specs.declared.devices.Item.TheVariants as items
+use Rattle.script_types.specs.declared.devices.EpText.{EpText}
+use Rattle.script_types.specs.declared.devices.DeviceText.{DeviceText}
+use Rattle.control_stages.specs.declared.rows.Sequence.{Sequence}
+use Rattle.control_stages.specs.declared.rows.Sequence.TheVariants as sequences
+use Rattle.control_stages.specs.Stages.{sequence_of}
+use Rattle.endpoint_script.specs.declared.endpoint.Endpoint.{Endpoint}
+use Rattle.endpoint_script.specs.declared.endpoint.Part.{Part}
+use Rattle.endpoint_script.specs.declared.endpoint.Part.TheVariants.{Sends, Takes, Controls, Streams, Hears}
+use Rattle.endpoint_script.specs.declared.rows.TakeRow.{TakeRow}
+use Rattle.endpoint_script.specs.declared.rows.TakeRow.TheVariants as takes
+use Rattle.endpoint_script.specs.Taking.{Taking, next_row, out_row, ping_row, has_room, is_ping, take_row, row_of, after_row as after_taking}
+use Rattle.endpoint_script.specs.Device.{Device, opened_part, opened_endpoint, opening, part_begun, endpoint_begun, begun, part_answered, endpoint_answered, part_acked, endpoint_acked, answered, answered_in, answered_at, acked_by, acked_in, acked_at, place_of, taken_of, taken_from, part_taken, endpoint_at, place_of_name}
+use Rattle.usb_bus.specs.declared.asked.Asked.{Asked}
+use Rattle.usb_bus.specs.declared.who_heard.WhoHeard.{WhoHeard}
+use Rattle.usb_bus.specs.declared.who_heard.WhoHeard.TheVariants as rows
+use Rattle.usb_bus.specs.Bus.{Fixed, Bus, begins_anew, begun_at, begin_after, asked_of, device_after, after_by, after_at, row_of as heard_row, transact_after}
+use Rattle.script_fits.specs.Fits.{IsFitRoom}
+use Rattle.bus_world.specs.Sound.{IsRoomy, IsRoomyEndpoint, IsRoomyDevice}
+
+-- ---- lists
+
+all_set : {X : Type 0} (P : X → Type 0) (xs : List X) (i : ℕ) (y : X) → AllByRecursion P xs → P y → AllByRecursion P (slice_set xs i y)
+all_set P [] i y h k = tt
+all_set P (x ∷ xs) zero y h k = (k, h.1)
+all_set P (x ∷ xs) (suc i) y h k = (h.0, all_set P xs i y h.1 k)
+
+abbrev Holds : {X : Type 0} → (X → Type 0) → Option X → Type 0
+Holds P None = Unit {0}
+Holds P (Some x) = P x
+
+all_get : {X : Type 0} (P : X → Type 0) (xs : List X) (i : ℕ) → AllByRecursion P xs → Holds P (slice_get xs i)
+all_get P [] i h = tt
+all_get P (x ∷ xs) zero h = h.0
+all_get P (x ∷ xs) (suc i) h = all_get P xs i h.1
+
+all_map : {X Y : Type 0} (P : X → Type 0) (Q : Y → Type 0) (f : X → Y) (xs : List X) → ((x : X) → P x → Q (f x)) → AllByRecursion P xs → AllByRecursion Q (map f xs)
+all_map P Q f [] g h = tt
+all_map P Q f (x ∷ xs) g h = (g x h.0, all_map P Q f xs g h.1)
+
+found : {X : Type 0} (P : X → Type 0) (p : X → Bool) (xs : List X) → AllByRecursion P xs → Holds P (find p xs)
+found P p [] h = tt
+found P p (x ∷ xs) h = cond_both (p x) (Some x) (find p xs) (Holds P) (λ _. h.0) (λ _. found P p xs h.1)
+
+-- ---- an OUT endpoint
+
+-- data are taken only where there is room for them
+abbrev IfTaken : TakeRow → Bool → Type 0
+IfTaken takes.Takes fits = fits ≡ true
+IfTaken takes.TakesLast fits = fits ≡ true
+IfTaken takes.Drops fits = Unit {0}
+IfTaken takes.Naks fits = Unit {0}
+IfTaken takes.IsFull fits = Unit {0}
+IfTaken takes.Stalls fits = Unit {0}
+IfTaken takes.HasRoom fits = Unit {0}
+
+next_fits : (xs : List Item) (fits : Bool) → IfTaken (next_row xs fits) fits
+next_fits [] true = refl
+next_fits [] false = tt
+next_fits (items.Bytes bytes ∷ xs) true = refl
+next_fits (items.Bytes bytes ∷ xs) false = tt
+next_fits (items.Nak n ∷ xs) true = tt
+next_fits (items.Nak n ∷ xs) false = tt
+next_fits (items.Nyet ∷ xs) true = refl
+next_fits (items.Nyet ∷ xs) false = tt
+next_fits (items.Stall ∷ xs) true = tt
+next_fits (items.Stall ∷ xs) false = tt
+next_fits (items.Request setup bytes ∷ xs) true = refl
+next_fits (items.Request setup bytes ∷ xs) false = tt
+
+out_fits : (s : Sequence) (xs : List Item) (fits : Bool) → IfTaken (out_row s xs fits) fits
+out_fits sequences.Next xs fits = next_fits xs fits
+out_fits sequences.Repeat xs fits = tt
+out_fits sequences.Neither xs fits = tt
+
+ping_fits : (xs : List Item) (fits : Bool) → IfTaken (ping_row xs) fits
+ping_fits [] fits = tt
+ping_fits (items.Bytes bytes ∷ xs) fits = tt
+ping_fits (items.Nak n ∷ xs) fits = tt
+ping_fits (items.Nyet ∷ xs) fits = tt
+ping_fits (items.Stall ∷ xs) fits = tt
+ping_fits (items.Request setup bytes ∷ xs) fits = tt
+
+row_fits : (ping : Bool) (t : Taking) (s : Sequence) (n : ℕ) → IfTaken (take_row ping t s n) (has_room t n)
+row_fits true t s n = ping_fits t.items (has_room t n)
+row_fits false t s n = out_fits s t.items (has_room t n)
+
+taken_roomy : (row : TakeRow) (t : Taking) (out : List ℕ) → IfTaken row (has_room t (length out)) → IsRoomy (Takes t) → IsRoomy (Takes (after_taking row out t))
+taken_roomy takes.Drops t out fits h = h
+taken_roomy takes.Naks t out fits h = h
+taken_roomy takes.IsFull t out fits h = h
+taken_roomy takes.Stalls t out fits h = h
+taken_roomy takes.Takes t out fits h = (omega (arith, leb-true (length t.taken + length out) t.room fits, length-append t.taken out), h.1)
+taken_roomy takes.TakesLast t out fits h = (omega (arith, leb-true (length t.taken + length out) t.room fits, length-append t.taken out), h.1)
+taken_roomy takes.HasRoom t out fits h = h
+
+part_roomy : (part : Part) (ask : Ask) (out : List ℕ) → IsRoomy part → IsRoomy (part_answered part ask out)
+part_roomy (Sends s) ask out h = tt
+part_roomy (Takes t) ask out h = taken_roomy (row_of t ask out) t out (row_fits (is_ping ask.pid) t (sequence_of t.toggle ask.toggle) (length out)) h
+part_roomy (Controls c) ask out h = tt
+part_roomy (Streams s) ask out h = tt
+part_roomy Hears ask out h = tt
+
+acked_roomy : (part : Part) → IsRoomy part → IsRoomy (part_acked part)
+acked_roomy (Sends s) h = tt
+acked_roomy (Takes t) h = h
+acked_roomy (Controls c) h = tt
+acked_roomy (Streams s) h = tt
+acked_roomy Hears h = tt
+
+begun_roomy : (part : Part) → IsRoomy part → IsRoomy (part_begun part)
+begun_roomy (Sends s) h = tt
+begun_roomy (Takes t) h = h
+begun_roomy (Controls c) h = tt
+begun_roomy (Streams s) h = tt
+begun_roomy Hears h = tt
+
+-- ---- a device
+
+answered_at_roomy : (es : List Endpoint) (place : ℕ) (e : Option Endpoint) (ask : Ask) (out : List ℕ) → AllByRecursion IsRoomyEndpoint es → Holds IsRoomyEndpoint e → AllByRecursion IsRoomyEndpoint (answered_at es place e ask out)
+answered_at_roomy es place None ask out h k = h
+answered_at_roomy es place (Some e) ask out h k = all_set IsRoomyEndpoint es place (endpoint_answered e ask out) h (part_roomy e.part ask out k)
+
+answered_in_roomy : (es : List Endpoint) (place : Option ℕ) (ask : Ask) (out : List ℕ) → AllByRecursion IsRoomyEndpoint es → AllByRecursion IsRoomyEndpoint (answered_in es place ask out)
+answered_in_roomy es None ask out h = h
+answered_in_roomy es (Some place) ask out h = answered_at_roomy es place (slice_get es place) ask out h (all_get IsRoomyEndpoint es place h)
+
+answered_roomy : (d : Device) (ask : Ask) (out : List ℕ) → IsRoomyDevice d → IsRoomyDevice (answered d ask out)
+answered_roomy d ask out h = record { each = answered_in_roomy d.endpoints (place_of d ask) ask out h.each }
+
+acked_at_roomy : (es : List Endpoint) (place : ℕ) (e : Option Endpoint) → AllByRecursion IsRoomyEndpoint es → Holds IsRoomyEndpoint e → AllByRecursion IsRoomyEndpoint (acked_at es place e)
+acked_at_roomy es place None h k = h
+acked_at_roomy es place (Some e) h k = all_set IsRoomyEndpoint es place (endpoint_acked e) h (acked_roomy e.part k)
+
+acked_in_roomy : (es : List Endpoint) (place : Option ℕ) → AllByRecursion IsRoomyEndpoint es → AllByRecursion IsRoomyEndpoint (acked_in es place)
+acked_in_roomy es None h = h
+acked_in_roomy es (Some place) h = acked_at_roomy es place (slice_get es place) h (all_get IsRoomyEndpoint es place h)
+
+acked_by_roomy : (d : Device) (ask : Ask) → IsRoomyDevice d → IsRoomyDevice (acked_by d ask)
+acked_by_roomy d ask h = record { each = acked_in_roomy d.endpoints (place_of d ask) h.each }
+
+device_begun_roomy : (d : Device) → IsRoomyDevice d → IsRoomyDevice (begun d)
+device_begun_roomy d h = record { each = all_map IsRoomyEndpoint IsRoomyEndpoint endpoint_begun d.endpoints (λ e k. begun_roomy e.part k) h.each }
+
+begun_at_roomy : (frindex : ℕ) (d : Device) → IsRoomyDevice d → IsRoomyDevice (begun_at frindex d)
+begun_at_roomy frindex d h = cond_both (begins_anew d.speed frindex) (begun d) d IsRoomyDevice (λ _. device_begun_roomy d h) (λ _. h)
+
+-- ---- the bus
+
+device_after_roomy : (row : WhoHeard) (ask : Ask) (out : List ℕ) (d : Device) → IsRoomyDevice d → IsRoomyDevice (device_after row ask out d)
+device_after_roomy rows.SentUnheard ask out d h = h
+device_after_roomy rows.NoAnswer ask out d h = answered_roomy d ask out h
+device_after_roomy rows.AnswerUnheard ask out d h = answered_roomy d ask out h
+device_after_roomy rows.AnswerHeard ask out d h = answered_roomy d ask out h
+device_after_roomy rows.AckUnheard ask out d h = answered_roomy d ask out h
+device_after_roomy rows.AckHeard ask out d h = acked_by_roomy (answered d ask out) ask (answered_roomy d ask out h)
+
+by_roomy : (fixed : Fixed) (e : Asked) (ask : Ask) (out : List ℕ) (d : Option Device) (b : Bus) → AllByRecursion IsRoomyDevice b.devices → Holds IsRoomyDevice d → AllByRecursion IsRoomyDevice (after_by fixed e ask out d b).devices
+by_roomy fixed e ask out None b h k = h
+by_roomy fixed e ask out (Some d) b h k =
+    all_set IsRoomyDevice b.devices e.device _ h (device_after_roomy (heard_row fixed e ask out d) ask out d k)
+
+at_roomy : (fixed : Fixed) (b : Bus) (ask : Ask) (out : List ℕ) (e : Option Asked) → AllByRecursion IsRoomyDevice b.devices → AllByRecursion IsRoomyDevice (after_at fixed b ask out e).devices
+at_roomy fixed b ask out None h = h
+at_roomy fixed b ask out (Some e) h = by_roomy fixed e ask out (slice_get b.devices e.device) b h (all_get IsRoomyDevice b.devices e.device h)
+
+pub transact_roomy : (fixed : Fixed) (b : Bus) (ask : Ask) (out : List ℕ) → AllByRecursion IsRoomyDevice b.devices → AllByRecursion IsRoomyDevice (transact_after fixed b ask out).devices
+transact_roomy fixed b ask out h = at_roomy fixed b ask out (asked_of fixed b ask) h
+
+pub begin_roomy : (frindex : ℕ) (b : Bus) → AllByRecursion IsRoomyDevice b.devices → AllByRecursion IsRoomyDevice (begin_after frindex b).devices
+begin_roomy frindex b h = all_map IsRoomyDevice IsRoomyDevice (begun_at frindex) b.devices (begun_at_roomy frindex) h
+
+-- ---- the opening
+
+opened_roomy : (way : Way) (kind : EpKind) (e : EpText) → IsFitRoom e → IsRoomy (opened_part way kind e)
+opened_roomy Ways.Ctl kind e h = tt
+opened_roomy Ways.In Kinds.Iso e h = tt
+opened_roomy Ways.In Kinds.Bulk e h = tt
+opened_roomy Ways.In Kinds.Interrupt e h = tt
+opened_roomy Ways.In Kinds.Control e h = tt
+opened_roomy Ways.Out Kinds.Iso e h = tt
+opened_roomy Ways.Out Kinds.Bulk e h = (omega arith, h)
+opened_roomy Ways.Out Kinds.Interrupt e h = (omega arith, h)
+opened_roomy Ways.Out Kinds.Control e h = (omega arith, h)
+
+pub opening_roomy : (ds : List DeviceText) → AllByRecursion (λ d. AllByRecursion IsFitRoom d.eps) ds → AllByRecursion IsRoomyDevice (map opening ds)
+opening_roomy ds h =
+    all_map (λ d. AllByRecursion IsFitRoom d.eps) IsRoomyDevice opening ds
+    (λ d k. record { each = all_map IsFitRoom IsRoomyEndpoint opened_endpoint d.eps (λ e r. opened_roomy e.desc.name.way e.desc.kind e r) k }) h
+
+-- ---- the bytes that were taken
+
+abbrev IsShort : List ℕ → Type 0
+IsShort bytes = length bytes < 4294967296
+
+part_short : (part : Part) → IsRoomy part → IsShort (part_taken part)
+part_short (Sends s) h = omega arith
+part_short (Takes t) h = omega (arith, h.0, h.1)
+part_short (Controls c) h = omega arith
+part_short (Streams s) h = omega arith
+part_short Hears h = omega arith
+
+part_taken_short : (e : Option Endpoint) → Holds IsRoomyEndpoint e → IsShort (taken_from e)
+part_taken_short None h = omega arith
+part_taken_short (Some e) h = part_short e.part h
+
+at_place_roomy : (es : List Endpoint) (place : Option ℕ) → AllByRecursion IsRoomyEndpoint es → Holds IsRoomyEndpoint (endpoint_at es place)
+at_place_roomy es None h = tt
+at_place_roomy es (Some place) h = all_get IsRoomyEndpoint es place h
+
+pub taken_short : (d : Device) (name : EpName) → IsRoomyDevice d → length (taken_of d name) < 4294967296
+taken_short d name h = part_taken_short (endpoint_at d.endpoints (place_of_name d name)) (at_place_roomy d.endpoints (place_of_name d name) h.each)
+
+-- the device that is found
+pub found_short : (ds : List Device) (p : Device → Bool) (d : Device) (name : EpName) → AllByRecursion IsRoomyDevice ds → find p ds ≡ Some d → length (taken_of d name) < 4294967296
+found_short ds p d name h e = taken_short d name (subst (Holds IsRoomyDevice) e (found IsRoomyDevice p ds h))

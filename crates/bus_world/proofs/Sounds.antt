@@ -1,0 +1,111 @@
+-- What holds of a world at each moment holds after each event and each command.
+use Rattle.std.proofs.Common.{◌≡◌, ℕ, Bool, true, false, List, length, Option, Some, None, Ok, sym, subst, arith}
+use Rattle.std.specs.List.{AllByRecursion}
+use Rattle.usb_base.specs.declared.commands.Cmd.{Cmd}
+use Rattle.usb_base.specs.declared.endpoints.EpName.{EpName}
+use Rattle.usb_base.specs.declared.reports.OfferError.{OfferError}
+use Rattle.report_text.specs.ReportText.{AreStored}
+use Rattle.word_mem.specs.Memory.{Mem}
+use Rattle.word_mem.specs.Access.{IsByController}
+use Rattle.run_book.specs.Book.{Book, holding, Stands}
+use Rattle.walk_copy.specs.declared.held.Held.{Held}
+use Rattle.walk_copy.specs.declared.held.Transaction.{Transaction}
+use Rattle.walk_copy.specs.Buffer.{sending}
+use Rattle.walk_copy.specs.Transacting.{call_in}
+use Rattle.op_registers.specs.Events.{next_index}
+use Rattle.async_walk.specs.declared.rows.Row.{Row as WalkRow}
+use Rattle.async_walk.specs.declared.rows.Row.TheVariants as walks
+use Rattle.async_walk.specs.Rows.{Place, at_event, event_row}
+use Rattle.hc_core.specs.declared.controller.Row.{Row}
+use Rattle.hc_core.specs.declared.controller.Row.TheVariants as rows
+use Rattle.hc_core.specs.Controller.{Content, entered, walk_place}
+use Rattle.driver_rows.specs.DriverContent.{DriverContent, new_driver}
+use Rattle.driver_rows.specs.declared.content.Reserve.{Reserve}
+use Rattle.driver_rows.specs.Rows.{Parts, row_of, after_row}
+use Rattle.driver_rows.specs.Offers.{offered}
+use Rattle.usb_bus.specs.Bus.{Fixed, Bus}
+use Rattle.bus_world.specs.World.{Standing, World, controller_row, controller_parts, controller_next, turned_by, walk_by, sends_by, sent_by, refused_line}
+use Rattle.bus_world.specs.Sound.{IsSound, IsRoomyDevice}
+use Rattle.bus_world.proofs.Kept.{row_keeps, line_stored}
+use Rattle.bus_world.proofs.Standing.{book_stands}
+use Rattle.bus_world.proofs.Roomy.{transact_roomy, begin_roomy}
+use Rattle.bus_world.proofs.Offering.{Lines, SameLines, offer_lines}
+
+-- ---- the driver
+
+pub driver_sound : (p : Parts) (new : DriverContent) (m : Mem) (b : Bus) → IsSound p.driver p.memory b → Stands (holding new.book m) → new ≡ (after_row (row_of p) p).driver → IsSound new m b
+driver_sound p new m b h stands e = record {
+  stands = stands;
+  stored = subst (λ (d : DriverContent). AreStored d.reports (length d.store)) (sym e) ((row_keeps (row_of p) p).stored h.stored);
+  roomy = h.roomy;
+}
+
+-- ---- the controller
+
+abbrev AreRoomy : Bus → Type 0
+AreRoomy b = AllByRecursion IsRoomyDevice b.devices
+
+sent_roomy : (fixed : Fixed) (all : Bool) (t : Transaction) (h : Held) (bytes : List ℕ) (p : Place) (b : Bus) → AreRoomy b → AreRoomy (sent_by fixed all t h bytes p b).bus
+sent_roomy fixed true t h bytes p b r = transact_roomy fixed b (call_in t bytes false).ask (call_in t bytes false).out r
+sent_roomy fixed false t h bytes p b r = r
+
+sends_roomy : (fixed : Fixed) (t : Transaction) (p : Place) (held : Option Held) (b : Bus) → AreRoomy b → AreRoomy (sends_by fixed t p held b).bus
+sends_roomy fixed t p None b r = r
+sends_roomy fixed t p (Some h) b r =
+    sent_roomy fixed (sending t h.queue_head p.memory).all t h (sending t h.queue_head p.memory).bytes (record p { memory = (sending t h.queue_head p.memory).memory }) b r
+
+walk_roomy : (fixed : Fixed) (row : WalkRow) (p : Place) (b : Bus) → AreRoomy b → AreRoomy (walk_by fixed row p b).bus
+walk_roomy fixed (walks.Transact t) p b r = sends_roomy fixed t p p.walk.held b r
+walk_roomy fixed walks.Fault p b r = r
+walk_roomy fixed walks.HeadEnds p b r = r
+walk_roomy fixed (walks.Fetch a q) p b r = r
+walk_roomy fixed walks.Skip p b r = r
+walk_roomy fixed walks.OutOfTime p b r = r
+walk_roomy fixed (walks.Advance a t) p b r = r
+walk_roomy fixed walks.WriteBack p b r = r
+
+turned_roomy : (fixed : Fixed) (row : Row) (c : Content) (b : Bus) → AreRoomy b → AreRoomy (turned_by fixed row c b).bus
+turned_roomy fixed rows.Idle c b r = r
+turned_roomy fixed rows.Begin c b r = begin_roomy (next_index c.registers.frame_index) b r
+turned_roomy fixed rows.FrameFault c b r = r
+turned_roomy fixed (rows.Enter left) c b r = walk_roomy fixed (event_row (walk_place (entered left.0 c))) (at_event (walk_place (entered left.0 c))) b r
+turned_roomy fixed rows.Go c b r = walk_roomy fixed (event_row (walk_place c)) (at_event (walk_place c)) b r
+turned_roomy fixed rows.End c b r = r
+
+pub next_roomy : (fixed : Fixed) (w : World) → AreRoomy w.bus → AreRoomy (controller_next fixed w).bus
+next_roomy fixed w r = turned_roomy fixed (controller_row w) (controller_parts w) w.bus r
+
+pub controller_sound : (s : Standing) (m : Mem) (b : Bus) → IsSound s.world.driver s.world.memory s.world.bus → IsByController s.world.memory m → b ≡ (controller_next s.fixed s.world).bus → IsSound s.world.driver m b
+controller_sound s m b h by e = record {
+  stands = book_stands s.world.driver.book s.world.memory m h.stands by;
+  stored = h.stored;
+  roomy = subst AreRoomy (sym e) (next_roomy s.fixed s.world h.roomy);
+}
+
+-- ---- a command
+
+same_stored : (d e : DriverContent) → SameLines d e → AreStored d.reports (length d.store) → AreStored e.reports (length e.store)
+same_stored d e same h = rw (same.reports, same.store) h
+
+pub accepted_sound : (d : DriverContent) (m : Mem) (b : Bus) (cmd : Cmd) (new : DriverContent) (n : Mem) → IsSound d m b → offered d m cmd ≡ Ok (record { driver = new; memory = n }) → Stands (holding new.book n) → IsSound new n b
+accepted_sound d m b cmd new n h e stands = record {
+  stands = stands;
+  stored = same_stored d new (subst (Lines d) e (offer_lines d m cmd)) h.stored;
+  roomy = h.roomy;
+}
+
+pub refused_sound : (d : DriverContent) (m : Mem) (b : Bus) (n : ℕ) (name : EpName) (why : OfferError) → IsSound d m b → IsSound (refused_line d n name why) m b
+refused_sound d m b n name why h = record {
+  stands = h.stands;
+  stored = line_stored d.reports _ (length d.store) h.stored (omega arith);
+  roomy = h.roomy;
+}
+
+-- ---- the opening
+
+pub opening_sound : (d : DriverContent) (m : Mem) (b : Bus) (book : Book) (blocks : ℕ) (room : Reserve) → d ≡ new_driver book blocks room → Stands (holding d.book m) → AreRoomy b → IsSound d m b
+opening_sound d m b book blocks room e stands roomy = record {
+  stands = stands;
+  stored = subst (λ (x : DriverContent). AreStored x.reports (length x.store)) (sym e) tt;
+  roomy = roomy;
+}

@@ -1,0 +1,14 @@
+use Rattle.std.proofs.Common.{◌/◌, length, sym, subst}
+use Rattle.std.specs.List.{AllByRecursion}
+use Rattle.usb_bus.specs.Bus.{Wired}
+use Rattle.driver_rows.specs.Opening.{opening_book}
+use Rattle.bus_world.specs.Sound.{IsRoomyDevice}
+use Rattle.bus_world.proofs.Roomy.{opening_roomy}
+use Rattle.bus_world.proofs.Sounds.{opening_sound}
+use Rattle.bus_world.proofs.world.World.build.Goals as goal
+
+pub of_parts-requires : goal.of_parts-requires
+of_parts-requires c =
+    opening_sound c.in_ok-driver.driver c.build-3.new.mem c.in_ok-bus.bus.bus (opening_book (length c.in_ok-mem.mem.words / 8)) (length c.in_ok-mem.mem.words / 8) c.in-Some.reserve
+    c.in_ok-driver.ensures.driver c.in_ok-driver.ensures.stands
+    (subst (λ (w : Wired). AllByRecursion IsRoomyDevice w.bus.devices) (sym c.in_ok-bus.ensures) (opening_roomy c.args.script.now.devices c.requires.rooms))

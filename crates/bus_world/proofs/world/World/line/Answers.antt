@@ -1,0 +1,9 @@
+use Rattle.bus_world.proofs.Ways.{command_line_done, command_line_room}
+use Rattle.bus_world.proofs.world.World.line.Goals as goal
+
+pub returns-in-Command-clause-done : goal.returns-in-Command-clause-done
+returns-in-Command-clause-done c = command_line_done c.args.self.now c.offer.new.self c.args.line.now c.args.number c.in-Command.cmd c.in-Command.is c.offer.ensures
+
+pub returns-in-Command-clause-room_left : goal.returns-in-Command-clause-room_left
+returns-in-Command-clause-room_left c =
+    command_line_room c.args.self.now c.offer.new.self c.args.line.now c.args.number c.in-Command.cmd c.in-Command.is c.offer.ensures c.requires.fits

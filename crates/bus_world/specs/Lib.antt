@@ -1,0 +1,6 @@
+pub mod World
+pub mod Sound
+pub mod Orders
+pub mod Rooms
+pub mod Opening
+pub mod Closing

@@ -1,0 +1,48 @@
+-- The room that a driver needs for the commands of a script: what each command uses, accepted or refused.
+--     needs cmd             what a command uses
+--     reserve_of lines      the room for all commands of these lines
+--     HasRoomFor room r     there is as much room as r, in each of its numbers
+use Rattle.std.specs.Prelude.{ℕ, ◌+◌, ◌≤◌, nat_le, List, [], ◌∷◌, length, if◌then◌else◌}
+use Rattle.usb_base.specs.declared.commands.Cmd.{Cmd}
+use Rattle.usb_base.specs.declared.commands.Cmd.TheVariants as commands
+use Rattle.script_types.specs.declared.scripts.Line.{Line}
+use Rattle.script_types.specs.declared.scripts.Line.TheVariants as lines
+use Rattle.driver_rows.specs.declared.content.Reserve.{Reserve}
+use Rattle.driver_rows.specs.Words.{request_length}
+
+abbrev pub no_room : Reserve
+no_room = record { endpoints = 0; transfers = 0; reports = 0; report_bytes = 0 }
+
+-- A transfer has one line of the report, with all its bytes; a longer one than 20,480 bytes is refused.
+abbrev pub transfer_room : ℕ → Reserve
+transfer_room n = record { endpoints = 0; transfers = 1; reports = 1; report_bytes = if nat_le n 20480 then n else 0 }
+
+abbrev pub needs : Cmd → Reserve
+needs (commands.OpenEp desc) = record no_room { endpoints = 1; reports = 1 }
+needs (commands.Get name len by) = transfer_room len
+needs (commands.Put name bytes by) = transfer_room (length bytes)
+needs (commands.Control name setup bytes) = transfer_room (request_length setup)
+needs (commands.Iso name count len seed) = record no_room { transfers = count; reports = count }
+needs (commands.Cancel name) = record no_room { reports = 1 }
+
+abbrev pub needs_line : Line → Reserve
+needs_line (lines.Command cmd) = needs cmd
+needs_line _ = no_room
+
+abbrev pub with_room : Reserve → Reserve → Reserve
+with_room a b = record {
+  endpoints = a.endpoints + b.endpoints;
+  transfers = a.transfers + b.transfers;
+  reports = a.reports + b.reports;
+  report_bytes = a.report_bytes + b.report_bytes;
+}
+
+abbrev pub reserve_of : List (ℕ × Line) → Reserve
+reserve_of [] = no_room
+reserve_of (x ∷ xs) = with_room (needs_line x.1) (reserve_of xs)
+
+pub record HasRoomFor (room r : Reserve) : Type 0 where
+  pub endpoints : r.endpoints ≤ room.endpoints
+  pub transfers : r.transfers ≤ room.transfers
+  pub reports : r.reports ≤ room.reports
+  pub report_bytes : r.report_bytes ≤ room.report_bytes

@@ -1,0 +1,31 @@
+-- What holds of a world at each moment, beside its content's own form: the driver's runs stand in memory, the bytes of each line of the
+-- report among those of all lines, and no device took more bytes than it has room for.
+use Rattle.std.specs.Prelude.{◌≤◌, length}
+use Rattle.std.specs.List.{AllByRecursion}
+use Rattle.report_text.specs.ReportText.{AreStored}
+use Rattle.endpoint_script.specs.declared.endpoint.Endpoint.{Endpoint}
+use Rattle.endpoint_script.specs.declared.endpoint.Part.{Part}
+use Rattle.endpoint_script.specs.declared.endpoint.Part.TheVariants.{Sends, Takes, Controls, Streams, Hears}
+use Rattle.endpoint_script.specs.Device.{Device}
+use Rattle.word_mem.specs.Memory.{Mem}
+use Rattle.run_book.specs.Book.{holding, Stands}
+use Rattle.driver_rows.specs.DriverContent.{DriverContent}
+use Rattle.usb_bus.specs.Bus.{Bus}
+
+abbrev pub IsRoomy : Part → Type 0
+IsRoomy (Sends s) = Unit {0}
+IsRoomy (Takes t) = (length t.taken ≤ t.room) × (t.room ≤ 4294967295)
+IsRoomy (Controls c) = Unit {0}
+IsRoomy (Streams s) = Unit {0}
+IsRoomy Hears = Unit {0}
+
+abbrev pub IsRoomyEndpoint : Endpoint → Type 0
+IsRoomyEndpoint e = IsRoomy e.part
+
+pub record IsRoomyDevice (d : Device) : Type 0 where
+  pub each : AllByRecursion IsRoomyEndpoint d.endpoints
+
+pub record IsSound (d : DriverContent) (m : Mem) (b : Bus) : Type 0 where
+  pub stands : Stands (holding d.book m)
+  pub stored : AreStored d.reports (length d.store)
+  pub roomy : AllByRecursion IsRoomyDevice b.devices

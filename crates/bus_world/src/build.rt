@@ -1,0 +1,141 @@
+ghost use Rattle.std.specs.Prelude.{◌≡◌, nat_le, if◌then◌else◌, IfOk, IfSome};
+ghost use Rattle.driver_rows.specs.Words.{request_length};
+ghost use Rattle.script_fits.specs.Fits.{IsFit};
+ghost use Rattle.bus_world.specs.Rooms.{needs, needs_line, transfer_room, with_room, reserve_of, HasRoomFor};
+ghost use Rattle.bus_world.specs.Opening.{opening_standing};
+
+use crate::world::World;
+use ehci_driver::{Driver, Reserve};
+use hc_core::Controller;
+use op_registers::Registers;
+use script_types::{Line, Script};
+use std::alloc::Global;
+use usb_base::{Cmd, Memory};
+use usb_bus::UsbBus;
+use word_mem::WordMem;
+
+/// The longest transfer that the driver takes, in bytes.
+const LONGEST: u32 = 20_480;
+
+/// No room.
+const NO_ROOM: Reserve = Reserve {
+    endpoints: 0,
+    transfers: 0,
+    reports: 0,
+    report_bytes: 0,
+};
+
+/// The bytes of the report that a transfer of this length can use: none where the driver refuses it.
+fn told_bytes(length: usize) -> u32
+    ensures { result ≡ (if nat_le length 20480 then length else 0) }
+{
+    if length <= LONGEST as usize {
+        length as u32
+    } else {
+        0
+    }
+}
+
+/// The bytes of the data stage of a request.
+fn data_length(setup: &[u8; 8]) -> usize
+    ensures { result ≡ request_length setup.now }
+{
+    setup[6] as usize + 256 * setup[7] as usize
+}
+
+/// The room for one transfer of this length.
+fn room_of_transfer(length: usize) -> Reserve
+    ensures { result ≡ transfer_room length }
+{
+    Reserve {
+        endpoints: 0,
+        transfers: 1,
+        reports: 1,
+        report_bytes: told_bytes(length),
+    }
+}
+
+/// The room that a command uses, accepted or refused.
+fn room_of(cmd: &Cmd) -> Reserve
+    ensures { result ≡ needs cmd.now }
+{
+    match cmd {
+        Cmd::OpenEp(_) => Reserve {
+            endpoints: 1,
+            transfers: 0,
+            reports: 1,
+            report_bytes: 0,
+        },
+        Cmd::Get { len, .. } => room_of_transfer(*len as usize),
+        Cmd::Put { bytes, .. } => room_of_transfer(bytes.as_slice().len()),
+        Cmd::Control { setup, .. } => room_of_transfer(data_length(setup)),
+        Cmd::Iso { count, .. } => Reserve {
+            endpoints: 0,
+            transfers: *count as u32,
+            reports: *count as u32,
+            report_bytes: 0,
+        },
+        Cmd::Cancel(_) => Reserve {
+            endpoints: 0,
+            transfers: 0,
+            reports: 1,
+            report_bytes: 0,
+        },
+    }
+}
+
+/// The room that a line uses: none but a command's.
+fn room_of_line(line: &Line) -> Reserve
+    ensures { result ≡ needs_line line.now }
+{
+    match line {
+        Line::Command(cmd) => room_of(cmd),
+        Line::Order(_, _) | Line::Micro(_) => NO_ROOM,
+    }
+}
+
+/// Both rooms together; None where a number of it passes 32 bits.
+fn joined(a: &Reserve, b: &Reserve) -> Option<Reserve>
+    ensures { IfSome result (λ r. r ≡ with_room a.now b.now) }
+{
+    Some(Reserve {
+        endpoints: a.endpoints.checked_add(b.endpoints)?,
+        transfers: a.transfers.checked_add(b.transfers)?,
+        reports: a.reports.checked_add(b.reports)?,
+        report_bytes: a.report_bytes.checked_add(b.report_bytes)?,
+    })
+}
+
+/// The room for all commands of a script.
+fn reserve_of(lines: &[(u32, Line)]) -> Option<Reserve>
+    ensures { IfSome result (λ r. r ≡ reserve_of lines.now) }
+{
+    let mut all = NO_ROOM;
+    for entry in lines {
+        all = joined(&all, &room_of_line(&entry.1))?;
+    }
+    Some(all)
+}
+
+impl World {
+    /// The world of a script at the end of microframe 0: the driver was built with room for every command line, and nothing was offered
+    /// or stepped.
+    ///
+    /// # Errors
+    ///
+    /// `Memory` where a part of it finds no room.
+    pub fn build(alloc: Global, script: &Script) -> Result<World, Memory>
+        requires { IsFit script.now }
+        ensures world { IfOk result (λ w. w ≡ opening_standing script.now) }
+        ensures room { IfOk result (λ w. HasRoomFor w.world.driver.room (reserve_of script.now.lines)) }
+    {
+        let Some(reserve) = reserve_of(script.lines.as_slice()) else {
+            return Err(Memory);
+        };
+        let bus = UsbBus::build(alloc, script)?;
+        let mut mem = WordMem::build(alloc, script.words)?;
+        let mut registers = Registers::reset();
+        let driver = Driver::build(alloc, &reserve, &mut registers, &mut mem)?;
+        Ok(World::of_parts(registers, mem, Controller::new(), driver, bus))
+    }
+}

@@ -1,0 +1,194 @@
+ghost use Rattle.std.specs.Prelude.{◌≡◌, ℕ, ◌≤◌, ◌<◌, ◌^◌, ◌==◌, length, find, slice_index, IfOk, OnOk, OnErr};
+ghost use Rattle.std.specs.List.{flat_map};
+ghost use Rattle.std.specs.Io.KnownBytes.{Appends};
+ghost use Rattle.usb_base.specs.Outside.{AppendsPrefix, one_more};
+ghost use Rattle.report_text.specs.ReportText.{report_text};
+ghost use Rattle.image_codec.specs.Image.{IsAligned, HasFields};
+ghost use Rattle.word_mem.specs.Memory.{IsShaped};
+ghost use Rattle.endpoint_script.specs.Device.{taken_of};
+ghost use Rattle.bus_world.specs.Closing.{waiting, waiting_text, device_text, told_by, opened_text, closing_text, world_text, world_image};
+
+use crate::world::World;
+use endpoint_script::Device;
+use image_codec::Image;
+use report_text::{print_acted, print_pending, print_report, print_taken};
+use std::alloc::Global;
+use usb_base::{EpKind, EpName, Failed, ListOf, Memory, Sink, Way};
+use usb_bus::Seat;
+
+/// Writes the line of so many transfers that wait at an endpoint, if there are some.
+fn print_count<K: Sink>(name: &EpName, k: u32, sink: &mut K) -> Result<(), Failed>
+    ensures ok { OnOk result (Appends (K.written sink.old) (K.written sink.new) (waiting_text name.now k)) }
+    ensures err { OnErr result (AppendsPrefix (K.written sink.old) (K.written sink.new) (waiting_text name.now k)) }
+    ensures stays { OnOk result (K.faults sink.new ≡ K.faults sink.old) }
+    ensures rises { OnErr result (K.faults sink.new ≡ one_more (K.faults sink.old)) }
+    ensures counted { K.faults sink.old ≤ K.faults sink.new }
+{
+    if k == 0 {
+        return Ok(());
+    }
+    print_pending(name, k, sink)
+}
+
+/// Writes the line of what a device took at an endpoint, or how often it acted, if there is one.
+fn print_device<K: Sink>(seat: &Seat, device: &Device, sink: &mut K) -> Result<(), Failed>
+    requires { length (taken_of device.now seat.now.name) < 2 ^ 32 }
+    ensures ok { OnOk result (Appends (K.written sink.old) (K.written sink.new) (device_text seat.now.name.way seat.now.kind seat.now.name device.now)) }
+    ensures err { OnErr result (AppendsPrefix (K.written sink.old) (K.written sink.new) (device_text seat.now.name.way seat.now.kind seat.now.name device.now)) }
+    ensures stays { OnOk result (K.faults sink.new ≡ K.faults sink.old) }
+    ensures rises { OnErr result (K.faults sink.new ≡ one_more (K.faults sink.old)) }
+    ensures counted { K.faults sink.old ≤ K.faults sink.new }
+{
+    match (seat.name.way, seat.kind) {
+        (Way::Out, EpKind::Bulk | EpKind::Interrupt) => {
+            print_taken(&seat.name, device.taken(&seat.name), sink)
+        }
+        (Way::Ctl, _) => print_acted(&seat.name, device.acted(&seat.name), sink),
+        _ => Ok(()),
+    }
+}
+
+impl World {
+    /// How many transfers wait at an endpoint that hasn't ended.
+    fn waiting(&self, name: &EpName) -> u32
+        ensures { result ≡ waiting self.now.world.driver name.now }
+    {
+        if self.driver().ended(name).is_some() {
+            return 0;
+        }
+        self.driver().pending(name)
+    }
+
+    /// Writes the line of what the device of an endpoint took, or how often it acted, if there is one.
+    fn print_told<K: Sink>(&self, seat: &Seat, sink: &mut K) -> Result<(), Failed>
+        ensures ok { OnOk result (Appends (K.written sink.old) (K.written sink.new) (told_by seat.now (find (λ d. d.address == seat.now.name.addr) self.now.world.bus.devices))) }
+        ensures err { OnErr result (AppendsPrefix (K.written sink.old) (K.written sink.new) (told_by seat.now (find (λ d. d.address == seat.now.name.addr) self.now.world.bus.devices))) }
+        ensures stays { OnOk result (K.faults sink.new ≡ K.faults sink.old) }
+        ensures rises { OnErr result (K.faults sink.new ≡ one_more (K.faults sink.old)) }
+        ensures counted { K.faults sink.old ≤ K.faults sink.new }
+    {
+        match self.device(seat.name.addr) {
+            Some(device) => print_device(seat, device, sink),
+            None => Ok(()),
+        }
+    }
+
+    /// Writes the line of what waits at an endpoint that hasn't ended, if something does.
+    fn print_waiting<K: Sink>(&self, name: &EpName, sink: &mut K) -> Result<(), Failed>
+        ensures ok { OnOk result (Appends (K.written sink.old) (K.written sink.new) (waiting_text name.now (waiting self.now.world.driver name.now))) }
+        ensures err { OnErr result (AppendsPrefix (K.written sink.old) (K.written sink.new) (waiting_text name.now (waiting self.now.world.driver name.now))) }
+        ensures stays { OnOk result (K.faults sink.new ≡ K.faults sink.old) }
+        ensures rises { OnErr result (K.faults sink.new ≡ one_more (K.faults sink.old)) }
+        ensures counted { K.faults sink.old ≤ K.faults sink.new }
+    {
+        print_count(name, self.waiting(name), sink)
+    }
+
+    /// Writes what closes the report of an endpoint that was opened.
+    fn print_opened<K: Sink>(&self, seat: &Seat, sink: &mut K) -> Result<(), Failed>
+        ensures ok { OnOk result (Appends (K.written sink.old) (K.written sink.new) (opened_text self.now.world seat.now)) }
+        ensures err { OnErr result (AppendsPrefix (K.written sink.old) (K.written sink.new) (opened_text self.now.world seat.now)) }
+        ensures stays { OnOk result (K.faults sink.new ≡ K.faults sink.old) }
+        ensures rises { OnErr result (K.faults sink.new ≡ one_more (K.faults sink.old)) }
+        ensures counted { K.faults sink.old ≤ K.faults sink.new }
+    {
+        self.print_waiting(&seat.name, sink)?;
+        self.print_told(seat, sink)
+    }
+
+    /// Writes what closes the report of an endpoint, if it was opened.
+    fn print_closing<K: Sink>(&self, seat: &Seat, sink: &mut K) -> Result<(), Failed>
+        ensures ok { OnOk result (Appends (K.written sink.old) (K.written sink.new) (closing_text self.now.world seat.now)) }
+        ensures err { OnErr result (AppendsPrefix (K.written sink.old) (K.written sink.new) (closing_text self.now.world seat.now)) }
+        ensures stays { OnOk result (K.faults sink.new ≡ K.faults sink.old) }
+        ensures rises { OnErr result (K.faults sink.new ≡ one_more (K.faults sink.old)) }
+        ensures counted { K.faults sink.old ≤ K.faults sink.new }
+    {
+        if self.driver().opened(&seat.name) {
+            return self.print_opened(seat, sink);
+        }
+        Ok(())
+    }
+
+    /// Writes what closes the reports of these endpoints.
+    fn print_closings<K: Sink>(&self, seats: &[Seat], sink: &mut K) -> Result<(), Failed>
+        ensures ok { OnOk result (Appends (K.written sink.old) (K.written sink.new) (flat_map (closing_text self.now.world) seats.now)) }
+        ensures err { OnErr result (AppendsPrefix (K.written sink.old) (K.written sink.new) (flat_map (closing_text self.now.world) seats.now)) }
+        ensures stays { OnOk result (K.faults sink.new ≡ K.faults sink.old) }
+        ensures rises { OnErr result (K.faults sink.new ≡ one_more (K.faults sink.old)) }
+        ensures counted { K.faults sink.old ≤ K.faults sink.new }
+    {
+        for seat in seats {
+            self.print_closing(seat, sink)?;
+        }
+        Ok(())
+    }
+
+    /// Writes the lines of the report.
+    fn print_lines<K: Sink>(&self, sink: &mut K) -> Result<(), Failed>
+        ensures ok { OnOk result (Appends (K.written sink.old) (K.written sink.new) (report_text self.now.world.driver.reports self.now.world.driver.store)) }
+        ensures err { OnErr result (AppendsPrefix (K.written sink.old) (K.written sink.new) (report_text self.now.world.driver.reports self.now.world.driver.store)) }
+        ensures stays { OnOk result (K.faults sink.new ≡ K.faults sink.old) }
+        ensures rises { OnErr result (K.faults sink.new ≡ one_more (K.faults sink.old)) }
+        ensures counted { K.faults sink.old ≤ K.faults sink.new }
+    {
+        print_report(self.driver().reports(), self.driver().store(), sink)
+    }
+
+    /// Writes what closes the report of each endpoint.
+    fn print_ends<K: Sink>(&self, sink: &mut K) -> Result<(), Failed>
+        ensures ok { OnOk result (Appends (K.written sink.old) (K.written sink.new) (flat_map (closing_text self.now.world) self.now.fixed.seats)) }
+        ensures err { OnErr result (AppendsPrefix (K.written sink.old) (K.written sink.new) (flat_map (closing_text self.now.world) self.now.fixed.seats)) }
+        ensures stays { OnOk result (K.faults sink.new ≡ K.faults sink.old) }
+        ensures rises { OnErr result (K.faults sink.new ≡ one_more (K.faults sink.old)) }
+        ensures counted { K.faults sink.old ≤ K.faults sink.new }
+    {
+        self.print_closings(self.seats(), sink)
+    }
+
+    /// Writes the report: its lines, and then for each endpoint that was opened those that close it. `Failed` comes only where the sink's
+    /// count of faults rose, with a front part of the text written. It takes no memory.
+    pub fn print<K: Sink>(&self, sink: &mut K) -> Result<(), Failed>
+        ensures ok { OnOk result (Appends (K.written sink.old) (K.written sink.new) (world_text self.now.fixed self.now.world)) }
+        ensures err { OnErr result (AppendsPrefix (K.written sink.old) (K.written sink.new) (world_text self.now.fixed self.now.world)) }
+        ensures stays { OnOk result (K.faults sink.new ≡ K.faults sink.old) }
+        ensures rises { OnErr result (K.faults sink.new ≡ one_more (K.faults sink.old)) }
+        ensures counted { K.faults sink.old ≤ K.faults sink.new }
+    {
+        self.print_lines(sink)?;
+        self.print_ends(sink)
+    }
+
+    /// The words of memory.
+    fn copied_words(&self, alloc: Global) -> Result<Vec<u32>, Memory>
+        ensures words { IfOk result (λ v. v.items ≡ self.now.world.memory.words) }
+        ensures shape { IsShaped self.now.world.memory }
+        ensures fits { (i : ℕ) → slice_index self.now.world.memory.words i < 2 ^ 32 }
+    {
+        let count = self.mem().words();
+        let mut words = Vec::with_capacity(alloc, count as usize)?;
+        for word in 0..count {
+            words.push_reserved(self.mem().word(4 * word));
+        }
+        Ok(words)
+    }
+
+    /// The image of memory.
+    ///
+    /// # Errors
+    ///
+    /// `Memory` where the words find no room.
+    pub fn image(&self, alloc: Global) -> Result<Image, Memory>
+        ensures image { IfOk result (λ i. i ≡ world_image self.now.world) }
+        ensures aligned { IfOk result (λ i. IsAligned i) }
+        ensures fields { IfOk result (λ i. HasFields i) }
+    {
+        let words = self.copied_words(alloc)?;
+        Ok(Image {
+            frindex: self.registers().frame_index(),
+            list_base: self.registers().periodic_list_base(),
+            async_at: self.registers().async_list_address(),
+            words: ListOf::of(words),
+        })
+    }
+}

@@ -1,0 +1,127 @@
+ghost use Rattle.std.specs.Prelude.{◌≡◌, ℕ, suc, List, ◌∷◌};
+ghost use Rattle.std.specs.Bool.{OnTrue, OnFalse};
+ghost use Rattle.std.specs.List.{AllByRecursion};
+ghost use Rattle.script_types.specs.declared.scripts.Event.{Event as Kind};
+ghost use Rattle.bus_world.specs.World.{next, kind_next};
+ghost use Rattle.driver_rows.specs.declared.content.Reserve.{Reserve as Room};
+ghost use Rattle.script_fits.specs.Fits.{IsFit, IsFitLine};
+ghost use Rattle.bus_world.specs.Rooms.{HasRoomFor, needs_line, with_room, reserve_of};
+ghost use Rattle.bus_world.specs.Orders.{Left, at_place, is_end, left_of, orders_of, Leads, IsUnended, IsOverlong, IsRun, Events, Microframes};
+
+use crate::world::World;
+use hc_core::HcStep;
+use script_types::{Event, Line, Script};
+
+/// The most turns of one microframe.
+const MOST_TURNS: u32 = 1_048_576;
+
+fn ends(step: HcStep) -> bool
+    ensures { result ≡ is_end step }
+{
+    match step {
+        HcStep::End => true,
+        _ => false,
+    }
+}
+
+impl World {
+    /// One turn: a step of the controller, then one of the driver. Whether the controller's ended the microframe.
+    fn turn(&mut self) -> bool
+        ensures ended { result ≡ is_end (kind_next self.old.world) }
+        ensures world { self.new ≡ record self.old { world = next self.old.fixed (next self.old.fixed self.old.world Kind.C) Kind.D } }
+        ensures room { self.new.world.driver.room ≡ self.old.world.driver.room }
+    {
+        let ended = ends(self.controller_event());
+        self.driver_event();
+        ended
+    }
+
+    /// Turns until the microframe has ended; false where it hasn't after the most turns.
+    fn microframe(&mut self) -> bool
+        ensures fixed { self.new.fixed ≡ self.old.fixed }
+        ensures room { self.new.world.driver.room ≡ self.old.world.driver.room }
+        ensures ended { OnTrue result ((n : ℕ) (rest : List Left) → Leads self.old.fixed (at_place self.old.world (Microframes (suc n) ∷ rest)) (at_place self.new.world (Microframes n ∷ rest))) }
+        ensures unended { OnFalse result ((n : ℕ) (rest : List Left) → IsUnended self.old.fixed (at_place self.old.world (Microframes (suc n) ∷ rest)) (at_place self.new.world (Microframes (suc n) ∷ rest))) }
+    {
+        for _turn in 0..MOST_TURNS {
+            if self.turn() {
+                return true;
+            }
+        }
+        false
+    }
+
+    /// So many microframes; false where one of them doesn't end.
+    fn microframes(&mut self, count: u32) -> bool
+        ensures fixed { self.new.fixed ≡ self.old.fixed }
+        ensures room { self.new.world.driver.room ≡ self.old.world.driver.room }
+        ensures done { OnTrue result ((rest : List Left) → Leads self.old.fixed (at_place self.old.world (Microframes count ∷ rest)) (at_place self.new.world rest)) }
+        ensures overlong { OnFalse result ((rest : List Left) → IsOverlong self.old.fixed (at_place self.old.world (Microframes count ∷ rest)) self.new.world) }
+    {
+        for _microframe in 0..count {
+            if !self.microframe() {
+                return false;
+            }
+        }
+        true
+    }
+
+    /// So many events of one kind.
+    fn events(&mut self, event: Event, count: u32)
+        ensures fixed { self.new.fixed ≡ self.old.fixed }
+        ensures room { self.new.world.driver.room ≡ self.old.world.driver.room }
+        ensures done { (rest : List Left) → Leads self.old.fixed (at_place self.old.world (Events event count ∷ rest)) (at_place self.new.world rest) }
+    {
+        for _event in 0..count {
+            self.event(event);
+        }
+    }
+}
+
+impl World {
+    /// One action line; false where a microframe of it doesn't end.
+    fn line(&mut self, number: u32, line: &Line) -> bool
+        requires fits { IsFitLine line.now }
+        requires room { HasRoomFor self.old.world.driver.room (needs_line line.now) }
+        ensures fixed { self.new.fixed ≡ self.old.fixed }
+        ensures done { OnTrue result ((rest : List Left) → Leads self.old.fixed (at_place self.old.world (left_of line.now number ∷ rest)) (at_place self.new.world rest)) }
+        ensures overlong { OnFalse result ((rest : List Left) → IsOverlong self.old.fixed (at_place self.old.world (left_of line.now number ∷ rest)) self.new.world) }
+        ensures room_left { (r : Room) → HasRoomFor self.old.world.driver.room (with_room (needs_line line.now) r) → HasRoomFor self.new.world.driver.room r }
+    {
+        match line {
+            Line::Order(event, count) => {
+                self.events(*event, *count);
+                true
+            }
+            Line::Micro(count) => self.microframes(*count),
+            Line::Command(cmd) => {
+                self.offer(number, cmd);
+                true
+            }
+        }
+    }
+
+    /// Carries out these lines, in their order.
+    fn lines(&mut self, lines: &[(u32, Line)])
+        requires fits { AllByRecursion (λ x. IsFitLine x.1) lines.now }
+        requires room { HasRoomFor self.old.world.driver.room (reserve_of lines.now) }
+        ensures fixed { self.new.fixed ≡ self.old.fixed }
+        ensures run { IsRun self.old.fixed self.old.world (orders_of lines.now) self.new.world }
+    {
+        for entry in lines {
+            if !self.line(entry.0, &entry.1) {
+                return;
+            }
+        }
+    }
+
+    /// Carries out the action lines of a script, in their order. A microframe that doesn't end within 1,048,576 turns ends the run.
+    pub fn run(&mut self, script: &Script)
+        requires fits { IsFit script.now }
+        requires room { HasRoomFor self.old.world.driver.room (reserve_of script.now.lines) }
+        ensures fixed { self.new.fixed ≡ self.old.fixed }
+        ensures run { IsRun self.old.fixed self.old.world (orders_of script.now.lines) self.new.world }
+    {
+        self.lines(script.lines.as_slice());
+    }
+}

@@ -1,0 +1,262 @@
+-- Each line that is taken leaves a script that fits.
+use Rattle.std.proofs.Common.{◌≡◌, ℕ, zero, suc, ◌≤◌, ◌%◌, Bool, true, List, [], ◌∷◌, ◌++◌, length, Option, Some, None, refl, ◌∙◌, inl, inr, arith}
+use Rattle.std.specs.Prelude.{nat_le, ◌==◌, ◌&&◌, not, take, drop, map, is_some}
+use Rattle.std.specs.List.{list_all, list_any, find, AllByRecursion}
+use Rattle.std.specs.Option.{option_map, option_map_or, option_and_then, option_or}
+use Rattle.std.specs.Simd.{first_chunks}
+use Rattle.std.proofs.lemmas.Bool.{cond_both, and_parts, and_from, or_cases, eqb-true, leb-true, le-leb}
+use Rattle.std.proofs.lemmas.List.{length-take}
+use Rattle.std.proofs.lemmas.List.Folds.{list_all-append}
+use Rattle.usb_base.specs.declared.packets.Way.{Way}
+use Rattle.usb_base.specs.declared.packets.Way.TheVariants as way
+use Rattle.usb_base.specs.declared.packets.EpKind.{EpKind}
+use Rattle.usb_base.specs.declared.packets.EpKind.TheVariants as kinds
+use Rattle.usb_base.specs.declared.endpoints.EpDesc.{EpDesc}
+use Rattle.usb_base.specs.declared.commands.Cmd.{Cmd}
+use Rattle.usb_base.specs.declared.commands.Cmd.TheVariants as commands
+use Rattle.script_types.specs.declared.devices.EpText.{EpText}
+use Rattle.script_types.specs.declared.devices.HubText.{HubText}
+use Rattle.script_types.specs.declared.devices.Item.TheVariants as items
+use Rattle.script_forms.specs.declared.statements.Name.{Name}
+use Rattle.script_forms.specs.declared.statements.EpLine.{EpLine}
+use Rattle.script_forms.specs.declared.statements.Answer.{Answer}
+use Rattle.script_forms.specs.declared.statements.Answer.TheVariants as answer
+use Rattle.script_forms.specs.declared.statements.Statement.{Statement}
+use Rattle.script_forms.specs.declared.statements.Statement.TheVariants as says
+use Rattle.script_world.specs.Draft.{Draft, Placed, known, device_ep, hub_ep, hub_desc, hub_of, device_of, ep_of, is_name, is_named, same_way, change, packet_count, filled}
+use Rattle.script_world.specs.Ranges.{in_range, within, is_endpoint, is_placed, can_answer, some_answer, kinds_of, reply_ranged}
+use Rattle.script_world.specs.Rows.{is_built, is_built_kind, after, answered, items_of, at_ep, with_ep, commanded, where_known, by_of, put_room, roomier, counted, content_len, bytes_len, control_name}
+use Rattle.endpoint_script.specs.Items.{is_short, is_packet}
+use Rattle.driver_rows.specs.Offers.{IsRing}
+use Rattle.script_fits.specs.Fits.{IsPiece, IsFitCommand, IsFitLine, IsFitRoom}
+use Rattle.script_fits.proofs.Statements.{IsPieceIf, IsSaid}
+
+pub record IsFitDesc (d : EpDesc) : Type 0 where
+  pub max : d.max ≤ 1024
+  pub port : d.port ≤ 127
+  pub kind : IsRing d.kind
+
+pub record IsFitEp (e : EpText) : Type 0 where
+  pub desc : IsFitDesc e.desc
+  pub items : list_all is_short e.items ≡ true
+  pub room : IsFitRoom e
+
+pub record IsFitDevice (d : Placed) : Type 0 where
+  pub port : d.port ≤ 127
+  pub eps : AllByRecursion IsFitEp d.eps
+
+abbrev pub IsFitSize : Option ℕ → Type 0
+IsFitSize None = Unit {0}
+IsFitSize (Some n) = (2048 ≤ n) × ((n ≤ 262144) × (n % 1024 ≡ 0))
+
+pub record IsFitDraft (w : Draft) : Type 0 where
+  pub words : IsFitSize w.words
+  pub devices : AllByRecursion IsFitDevice w.devices
+  pub lines : AllByRecursion (λ x. IsFitLine x.1) w.lines
+
+-- ---- lists
+
+all_append : {X : Type 0} (P : X → Type 0) (xs : List X) (y : X) → AllByRecursion P xs → P y → AllByRecursion P (xs ++ y ∷ [])
+all_append P [] y h k = (k, tt)
+all_append P (x ∷ xs) y h k = (h.0, all_append P xs y h.1 k)
+
+all_change : {X : Type 0} (P : X → Type 0) (p : X → Bool) (f : X → X) (xs : List X) → ((x : X) → P x → P (f x)) → AllByRecursion P xs → AllByRecursion P (change p f xs)
+all_change P p f [] g h = tt
+all_change P p f (x ∷ xs) g h =
+    cond_both (p x) (f x ∷ xs) (x ∷ change p f xs) (AllByRecursion P) (λ _. (g x h.0, h.1)) (λ _. (h.0, all_change P p f xs g h.1))
+
+abbrev Holds : {X : Type 0} → (X → Type 0) → Option X → Type 0
+Holds P None = Unit {0}
+Holds P (Some x) = P x
+
+found : {X : Type 0} (P : X → Type 0) (p : X → Bool) (xs : List X) → AllByRecursion P xs → Holds P (find p xs)
+found P p [] h = tt
+found P p (x ∷ xs) h = cond_both (p x) (Some x) (find p xs) (Holds P) (λ _. h.0) (λ _. found P p xs h.1)
+
+mapped : {X Y : Type 0} (P : X → Type 0) (Q : Y → Type 0) (f : X → Y) (x : Option X) → ((a : X) → P a → Q (f a)) → Holds P x → Holds Q (option_map f x)
+mapped P Q f None g h = tt
+mapped P Q f (Some x) g h = g x h
+
+then_holds : {X Y : Type 0} (P : X → Type 0) (Q : Y → Type 0) (f : X → Option Y) (x : Option X) → ((a : X) → P a → Holds Q (f a)) → Holds P x → Holds Q (option_and_then f x)
+then_holds P Q f None g h = tt
+then_holds P Q f (Some x) g h = g x h
+
+or_holds : {X : Type 0} (P : X → Type 0) (x y : Option X) → Holds P x → Holds P y → Holds P (option_or x y)
+or_holds P None y h k = k
+or_holds P (Some x) y h k = h
+
+-- ---- endpoints that are known
+
+ep_fits : (es : List EpText) (name : Name) → AllByRecursion IsFitEp es → Holds IsFitDesc (ep_of es name)
+ep_fits es name h = mapped IsFitEp IsFitDesc (λ e. e.desc) (find (is_named name) es) (λ e k. k.desc) (found IsFitEp (is_named name) es h)
+
+device_ep_fits : (w : Draft) (name : Name) → IsFitDraft w → Holds IsFitDesc (device_ep w name)
+device_ep_fits w name h =
+    then_holds IsFitDevice IsFitDesc (λ d. ep_of d.eps name) (device_of w.devices name.addr) (λ d k. ep_fits d.eps name k.eps)
+    (found IsFitDevice (λ d. d.addr == name.addr) w.devices h.devices)
+
+hub_fits : (a : ℕ) → IsFitDesc (hub_desc a)
+hub_fits a = record { max = omega arith; port = omega arith; kind = tt }
+
+always : {X : Type 0} (x : Option X) → Holds (λ _. Unit {0}) x
+always None = tt
+always (Some x) = tt
+
+hub_ep_fits : (w : Draft) (name : Name) → Holds IsFitDesc (hub_ep w name)
+hub_ep_fits w name =
+    cond_both (name.num == 0 && same_way name.way way.Ctl) (option_map (λ h. hub_desc h.addr) (hub_of w.hubs name.addr)) None (Holds IsFitDesc)
+    (λ _. mapped (λ _. Unit {0}) IsFitDesc (λ (h : HubText). hub_desc h.addr) (hub_of w.hubs name.addr) (λ h _. hub_fits h.addr) (always (hub_of w.hubs name.addr)))
+    (λ _. tt)
+
+pub known_fits : (w : Draft) (name : Name) → IsFitDraft w → Holds IsFitDesc (known w name)
+known_fits w name h =
+    cond_both (is_name name) (option_or (device_ep w name) (hub_ep w name)) None (Holds IsFitDesc)
+    (λ _. or_holds IsFitDesc (device_ep w name) (hub_ep w name) (device_ep_fits w name h) (hub_ep_fits w name))
+    (λ _. tt)
+
+-- ---- answers
+
+-- at an endpoint of this packet size, each data packet has at most 1,024 bytes
+abbrev AreShort : Answer → Type 0
+AreShort a = (max : ℕ) → max ≤ 1024 → list_all is_short (items_of max a) ≡ true
+
+take_short : (n : ℕ) (xs : List ℕ) → length (take n xs) ≤ n
+take_short n xs = omega (arith, length-take n xs)
+
+chunks_short : (max k : ℕ) (xs : List ℕ) → max ≤ 1024 → list_all is_short (map items.Bytes (first_chunks max k xs)) ≡ true
+chunks_short max zero xs le = refl
+chunks_short max (suc k) xs le =
+    and_from (is_packet (take max xs)) _ (le-leb (length (take max xs)) 1024 (omega (arith, take_short max xs, le))) (chunks_short max k (drop max xs) le)
+
+answers_short : (w : Way) (a : Answer) (kind : EpKind) (max : ℕ) → max ≤ 1024 → can_answer w a kind max ≡ true → AreShort a
+answers_short w (answer.Data bytes) kind max le e =
+    let p = and_parts (same_way w way.In) (nat_le (length bytes) max) e in
+    λ m h. and_from (is_packet bytes) true (le-leb (length bytes) 1024 (omega (arith, leb-true (length bytes) max p.1, le))) refl
+answers_short w (answer.Fill n seed) kind max le e = λ m h. chunks_short m (packet_count m (length (filled n seed))) (filled n seed) h
+answers_short w (answer.Nak k) kind max le e = λ m h. refl
+answers_short w answer.Nyet kind max le e = λ m h. refl
+answers_short w answer.Stall kind max le e = λ m h. refl
+answers_short w (answer.Request setup bytes) kind max le e = λ m h. refl
+
+some_short : (w : Way) (a : Answer) (ks : List EpKind) → list_any (λ kind. can_answer w a kind 1024) ks ≡ true → AreShort a
+some_short w a [] e = cc
+some_short w a (k ∷ ks) e =
+    elim (or_cases (can_answer w a k 1024) (list_any (λ kind. can_answer w a kind 1024) ks) e) [
+      | inl h ↦ answers_short w a k 1024 (omega arith) h
+      | inr h ↦ some_short w a ks h
+    ]
+
+reply_at : (way : Way) (a : Answer) (x : Option EpDesc) → Holds IsFitDesc x → option_map_or (λ d. can_answer way a d.kind d.max) x (some_answer way a) ≡ true → AreShort a
+reply_at way a None h e = some_short way a (kinds_of way) e
+reply_at way a (Some d) h e = answers_short way a d.kind d.max h.max e
+
+reply_short : (w : Draft) (name : Name) (a : Answer) → IsFitDraft w → reply_ranged w name a ≡ true → AreShort a
+reply_short w name a h e =
+    let p = and_parts (not (is_some (hub_ep w name))) _ e in
+    reply_at name.way a (device_ep w name) (device_ep_fits w name h) p.1
+
+answered_fits : (a : Answer) (e : EpText) → AreShort a → IsFitEp e → IsFitEp (answered a e)
+answered_fits a e short h = record {
+  desc = h.desc;
+  items = list_all-append is_short e.items (items_of e.desc.max a) ∙ and_from (list_all is_short e.items) (list_all is_short (items_of e.desc.max a)) h.items (short e.desc.max h.desc.max);
+  room = h.room;
+}
+
+at_ep_fits : (name : Name) (f : EpText → EpText) (ds : List Placed) → ((e : EpText) → IsFitEp e → IsFitEp (f e)) → AllByRecursion IsFitDevice ds → AllByRecursion IsFitDevice (at_ep name f ds)
+at_ep_fits name f ds g h =
+    all_change IsFitDevice (λ d. d.addr == name.addr) (λ d. record d { eps = change (is_named name) f d.eps }) ds
+    (λ d k. record { port = k.port; eps = all_change IsFitEp (is_named name) f d.eps g k.eps }) h
+
+counted_fits : (a n : ℕ) → counted a n ≤ 4294967295
+counted_fits a n = omega arith
+
+put_room_fits : (name : Name) (n : ℕ) (ds : List Placed) → AllByRecursion IsFitDevice ds → AllByRecursion IsFitDevice (put_room name n ds)
+put_room_fits name n ds h =
+    cond_both (same_way name.way way.Out) (at_ep name (roomier n) ds) ds (AllByRecursion IsFitDevice)
+    (λ _. at_ep_fits name (roomier n) ds (λ e k. record { desc = k.desc; items = k.items; room = counted_fits e.room n }) h) (λ _. h)
+
+-- ---- endpoints that are declared
+
+built_ring : (kind : EpKind) → is_built_kind kind ≡ true → IsRing kind
+built_ring kinds.Control e = tt
+built_ring kinds.Bulk e = tt
+built_ring kinds.Interrupt e = cc
+built_ring kinds.Iso e = cc
+
+max_within : (l : EpLine) → is_endpoint l ≡ true → l.max ≤ 1024
+max_within l e =
+    let a = and_parts (nat_le l.name.num 15 && within 1 1024 l.max && nat_le l.period 8192) (nat_le l.multi 3) e in
+    let b = and_parts (nat_le l.name.num 15 && within 1 1024 l.max) (nat_le l.period 8192) a.0 in
+    let c = and_parts (nat_le l.name.num 15) (within 1 1024 l.max) b.0 in
+    let d = and_parts (nat_le 1 l.max) (nat_le l.max 1024) c.1 in
+    leb-true l.max 1024 d.1
+
+with_ep_fits : (l : EpLine) (d : Placed) → l.max ≤ 1024 → IsRing l.kind → IsFitDevice d → IsFitDevice (with_ep l d)
+with_ep_fits l d max ring h = record {
+  port = h.port;
+  eps = all_append IsFitEp d.eps _ h.eps (record { desc = record { max = max; port = h.port; kind = ring }; items = refl; room = omega arith });
+}
+
+-- ---- commands
+
+commanded_fits : (w : Draft) (n : ℕ) (c : Cmd) → IsFitCommand c → IsFitDraft w → IsFitDraft (commanded w n c)
+commanded_fits w n c fit h = record { words = h.words; devices = h.devices; lines = all_append (λ x. IsFitLine x.1) w.lines _ h.lines fit }
+
+where_fits : (w : Draft) (name : Name) (v : Draft) → IsFitDraft w → IsFitDraft v → IsFitDraft (where_known w name v)
+where_fits w name v h k = cond_both (is_some (known w name)) v w IsFitDraft (λ _. k) (λ _. h)
+
+piece : (by : Option ℕ) → IsPieceIf by → IsPiece (by_of by)
+piece None h = (omega arith, omega arith)
+piece (Some n) h = h
+
+opened_fits : (w : Draft) (n : ℕ) (x : Option EpDesc) → Holds IsFitDesc x → IsFitDraft w → IsFitDraft (option_map_or (λ d. commanded w n (commands.OpenEp d)) x w)
+opened_fits w n None k h = h
+opened_fits w n (Some d) k h = commanded_fits w n (commands.OpenEp d) (k.max, k.port, k.kind) h
+
+-- ---- any line
+
+-- the line was in range, and is built
+pub record IsTaken (w : Draft) (s : Statement) : Type 0 where
+  pub ranged : in_range w s ≡ true
+  pub built : is_built s ≡ true
+
+pub after_fits : (w : Draft) (n : ℕ) (s : Statement) → IsTaken w s → IsSaid s → IsFitDraft w → IsFitDraft (after w n s)
+after_fits w n (says.Mem words) t said h =
+    let a = and_parts (within 2048 262144 words) (words % 1024 == 0) t.ranged in
+    let b = and_parts (nat_le 2048 words) (nat_le words 262144) a.0 in
+    record { words = (leb-true 2048 words b.0, (leb-true words 262144 b.1, eqb-true (words % 1024) 0 a.1)); devices = h.devices; lines = h.lines }
+after_fits w n (says.Hub addr ports) t said h = let e = t.built in cc
+after_fits w n (says.DevHigh addr) t said h =
+    cond_both (within 1 127 addr) _ w IsFitDraft
+    (λ _. record { words = h.words; devices = all_append IsFitDevice w.devices _ h.devices (record { port = omega arith; eps = tt }); lines = h.lines })
+    (λ _. h)
+after_fits w n (says.DevBelow b) t said h = let e = t.built in cc
+after_fits w n (says.Ep l) t said h =
+    let a = and_parts (is_endpoint l && is_placed l.kind l.name) _ t.ranged in
+    let b = and_parts (is_endpoint l) (is_placed l.kind l.name) a.0 in
+    cond_both (is_endpoint l && is_some (device_of w.devices l.name.addr)) _ w IsFitDraft
+    (λ _. record {
+      words = h.words;
+      devices = all_change IsFitDevice (λ d. d.addr == l.name.addr) (with_ep l) w.devices (λ d k. with_ep_fits l d (max_within l b.0) (built_ring l.kind t.built) k) h.devices;
+      lines = h.lines;
+    })
+    (λ _. h)
+after_fits w n (says.Reply name a) t said h = record {
+  words = h.words;
+  devices = at_ep_fits name (answered a) w.devices (λ e k. answered_fits a e (reply_short w name a h t.ranged) k) h.devices;
+  lines = h.lines;
+}
+after_fits w n (says.Fate f) t said h = where_fits w f.name _ h (record { words = h.words; devices = h.devices; lines = h.lines })
+after_fits w n (says.Hold first last) t said h = record { words = h.words; devices = h.devices; lines = h.lines }
+after_fits w n (says.Open name) t said h = opened_fits w n (known w name) (known_fits w name h) h
+after_fits w n (says.Cancel name) t said h = let e = t.built in cc
+after_fits w n (says.Get l) t said h =
+    where_fits w l.name _ h (commanded_fits (record w { asked = counted w.asked l.len }) n _ (piece l.by said) (record { words = h.words; devices = h.devices; lines = h.lines }))
+after_fits w n (says.Put l) t said h =
+    where_fits w l.name _ h
+    (commanded_fits (record w { scripted = counted w.scripted (content_len l.content); devices = put_room l.name (content_len l.content) w.devices }) n _ (piece l.by said) (record { words = h.words; devices = put_room_fits l.name _ w.devices h.devices; lines = h.lines }))
+after_fits w n (says.Control c) t said h =
+    where_fits w (control_name c.addr) _ h (commanded_fits (record w { scripted = counted w.scripted (bytes_len c.bytes) }) n _ tt (record { words = h.words; devices = h.devices; lines = h.lines }))
+after_fits w n (says.Iso l) t said h = let e = t.built in cc
+after_fits w n (says.Order event k) t said h = record { words = h.words; devices = h.devices; lines = all_append (λ x. IsFitLine x.1) w.lines _ h.lines tt }
+after_fits w n (says.Micro k) t said h = record { words = h.words; devices = h.devices; lines = all_append (λ x. IsFitLine x.1) w.lines _ h.lines tt }

@@ -1,0 +1,4 @@
+pub mod Numbers
+pub mod Statements
+pub mod Drafts
+pub mod Texts

@@ -1,0 +1,43 @@
+-- What a script keeps that a host carries out: sizes and lengths that hardware and driver can have.
+--     IsFitCommand cmd      the ranges of a command (EHCI 1.0, 3.5; USB 2.0, 5.5 to 5.8)
+--     IsFit script          the ranges of a whole script
+use Rattle.std.specs.Prelude.{◌≡◌, ℕ, ◌≤◌, ◌%◌, IsTrue}
+use Rattle.std.specs.List.{list_all, AllByRecursion}
+use Rattle.usb_base.specs.declared.commands.Cmd.{Cmd}
+use Rattle.usb_base.specs.declared.commands.Cmd.TheVariants as commands
+use Rattle.script_types.specs.declared.devices.EpText.{EpText}
+use Rattle.script_types.specs.declared.scripts.Line.{Line}
+use Rattle.script_types.specs.declared.scripts.Line.TheVariants as lines
+use Rattle.script_types.specs.declared.scripts.Script.{Script}
+use Rattle.endpoint_script.specs.Device.{is_scripted}
+use Rattle.driver_rows.specs.Offers.{IsRing}
+
+-- a qTD has 1 to 20,480 bytes of a transfer
+abbrev pub IsPiece : ℕ → Type 0
+IsPiece by = (1 ≤ by) × (by ≤ 20480)
+
+-- an endpoint that is opened is one of the ring
+abbrev pub IsFitCommand : Cmd → Type 0
+IsFitCommand (commands.OpenEp x) = (x.max ≤ 1024) × (x.port ≤ 127) × IsRing x.kind
+IsFitCommand (commands.Get name len by) = IsPiece by
+IsFitCommand (commands.Put name bytes by) = IsPiece by
+IsFitCommand (commands.Control name setup bytes) = Unit {0}
+IsFitCommand (commands.Iso name count len seed) = 1 ≤ count
+IsFitCommand (commands.Cancel name) = Unit {0}
+
+abbrev pub IsFitLine : Line → Type 0
+IsFitLine (lines.Command cmd) = IsFitCommand cmd
+IsFitLine (lines.Order event n) = Unit {0}
+IsFitLine (lines.Micro n) = Unit {0}
+
+-- room that a count of 32 bits can tell
+abbrev pub IsFitRoom : EpText → Type 0
+IsFitRoom e = e.room ≤ 4294967295
+
+pub record IsFit (s : Script) : Type 0 where
+  pub least : 2048 ≤ s.words
+  pub most : s.words ≤ 262144
+  pub whole_pages : s.words % 1024 ≡ 0
+  pub devices : IsTrue (list_all is_scripted s.devices)
+  pub rooms : AllByRecursion (λ d. AllByRecursion IsFitRoom d.eps) s.devices
+  pub lines : AllByRecursion (λ x. IsFitLine x.1) s.lines

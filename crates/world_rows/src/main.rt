@@ -1,0 +1,47 @@
+//! Scripts with their reports: NYET and PING, a lost status stage and a stall between two requests, errors that are counted for each qTD, a
+//! bus that may not be used, a lost acknowledgement, and a put that finds no blocks. The stored reports come from an independent model.
+//!
+//! It calls `script_fits` and `bus_world`, and nothing calls it.
+#![tactic(auto)]
+
+mod scripts;
+
+use bus_world::World;
+use script_fits::read;
+use scripts::SCRIPTS;
+use std::alloc::Global;
+use std::io;
+use usb_base::MemSink;
+
+/// Writes the report of a script; false where the script has a fault or memory is short.
+fn report(alloc: Global, sink: &mut MemSink, text: &[u8]) -> bool {
+    let Ok(script) = read(alloc, text) else {
+        return false;
+    };
+    let Ok(mut world) = World::build(alloc, &script) else {
+        return false;
+    };
+    world.run(&script);
+    world.print(sink).is_ok()
+}
+
+fn main(rt: HostRuntime) -> io::Result<()> {
+    let alloc = rt.alloc();
+    let Ok(mut sink) = MemSink::build(alloc, 65_536, &[]) else {
+        println!(rt; "no memory")?;
+        return Ok(());
+    };
+    for script in SCRIPTS {
+        if !report(alloc, &mut sink, script) {
+            println!(rt; "no report")?;
+        }
+    }
+    for line in sink.written().split(|b| *b == b'\n') {
+        if let Ok(line) = str::from_utf8(line) {
+            if !line.is_empty() {
+                println!(rt; "{line}")?;
+            }
+        }
+    }
+    Ok(())
+}
