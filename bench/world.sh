@@ -1,6 +1,7 @@
 #!/bin/bash
 # Builds bench_world and times it: a script with so many high-speed bulk IN endpoints, fates and words of memory, where some of the endpoints
-# are opened and asked for 4,096 bytes each, which come after 300,000 NAKs; then steps of the controller and of the driver, 100 by turns.
+# are opened and asked for 4,096 bytes each, which come after 300,000 NAKs; two packets of each endpoint are lost, and the other fates are of
+# packets that never come; then steps of the controller and of the driver, 100 by turns.
 # It prints what the report came to, and events per second of the process's own time, in the fastest of several runs, reading included.
 # Usage: bench/world.sh [ENDPOINTS [FATES [STREAMS [WORDS [EVENTS [RUNS]]]]]]     at most 256, 4096, 64, 262144 and 4000000
 set -e
@@ -27,7 +28,7 @@ awk -v endpoints="$endpoints" -v fates="$fates" -v streams="$streams" -v words="
             print "reply " ep(k) " nak 300000"
             print "reply " ep(k) " fill 4096 7"
         }
-        for (k = 0; k < fates; k++) print "fate " ep(k % endpoints) " high " 1000 * int(k / endpoints) + 10 " lost"
+        for (k = 0; k < fates; k++) print "fate " ep(k % endpoints) " high " (k < 2 * endpoints ? 10 : 1000000) + int(k / endpoints) " lost"
         for (k = 0; k < streams; k++) {
             print "open " ep(k)
             print "order d 20"
