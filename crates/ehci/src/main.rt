@@ -14,12 +14,14 @@ use std::rt::Env;
 use std::{env, io};
 use usb_base::{Sink, Source};
 
-const USAGE: &str = "usage: ehci run < SCRIPT, or ehci dump < IMAGE";
+const USAGE: &str = "usage: ehci run|image|check < SCRIPT, or ehci dump|check < IMAGE";
 
 const HELP: &str = "\
 ehci: a verified high-speed USB host
 
   ehci run < SCRIPT    runs a script and prints what each endpoint moved
+  ehci image < SCRIPT  runs a script and writes the image of memory afterwards
+  ehci check < INPUT   says that a script or an image is one, or what is wrong with it first
   ehci dump < IMAGE    prints the frames, the ring and the queues of a memory image
   ehci --help          prints this text
   ehci --version       prints the version

@@ -1,35 +1,60 @@
 -- What the program writes: for each form and input, how it ends and which bytes it writes.
-use Rattle.std.specs.Prelude.{◌≡◌, ℕ, List, [], ◌∷◌, ◌++◌, Option, None, Some, codes}
+--     Gives form input status bytes        the whole output: an end with its bytes
+--     IsAnswer form status input old new   how what is written follows from how the program ended
+use Rattle.std.specs.Prelude.{◌≡◌, ℕ, Bool, true, false, List, [], ◌∷◌, ◌++◌, Option, None, Some, is_none, codes}
 use Rattle.std.specs.Io.KnownBytes.{Appends, Keeps}
 use Rattle.usb_base.specs.Outside.{AppendsPrefix}
-use Rattle.transfer_text.specs.Grammar.{Spells}
-use Rattle.transfer_text.specs.declared.script.Script.{Script}
-use Rattle.bulk_bus.specs.Run.{HasRightStreams}
-use Rattle.transfer_world.specs.World.{Content, IsRun, world_text}
-use Rattle.image_codec.specs.Image.{image_fault, image_of}
+use Rattle.report_text.specs.ReportText.{line_text}
+use Rattle.script_types.specs.declared.scripts.Script.{Script}
+use Rattle.script_forms.specs.declared.causes.TextWhy.{TextWhy}
+use Rattle.script_text.specs.Faults.{Spells, first_fault, fault_line, check_text, is_image}
+use Rattle.bus_world.specs.World.{Standing}
+use Rattle.bus_world.specs.Opening.{opening_standing}
+use Rattle.bus_world.specs.Orders.{IsRun, orders_of}
+use Rattle.bus_world.specs.Closing.{world_text, world_image}
+use Rattle.image_codec.specs.Image.{image_bytes, image_fault, image_of}
 use Rattle.image_codec.specs.Shown.{shown}
 use Rattle.image_codec.specs.Text.{refusal_line}
 use Rattle.image_codec.specs.declared.image.Refusal.{Refusal}
 use Rattle.ehci_cli.specs.Form.{words_of}
 use Rattle.ehci_cli.specs.declared.form.Form.{Form}
-use Rattle.ehci_cli.specs.declared.form.Form.TheVariants.{Run, Dump}
+use Rattle.ehci_cli.specs.declared.form.Form.TheVariants.{Run, Image, Check, Dump}
 use Rattle.program_ends.specs.declared.status.Status.{Status}
 use Rattle.program_ends.specs.declared.status.Status.TheVariants.{Ok, Words, Refused, ReadFault, WriteFault, Memory}
 
--- The input spells a script. It was run in a world whose text these bytes are, and they are the report of the script with
--- right streams: what is told of an endpoint begins its stream.
-pub record ReportsRun (input bytes : List ℕ) : Type 0 where
+-- ---- scripts
+
+-- a world after the run of a script: from its opening on, all action lines in their order
+pub record IsRunOf (s : Script) (w : Standing) : Type 0 where
+  pub fixed : w.fixed ≡ (opening_standing s).fixed
+  pub ran : IsRun (opening_standing s).fixed (opening_standing s).world (orders_of s.lines) w.world
+
+-- The input spells a script, and this is a world after its run.
+pub record RunOf (input : List ℕ) (w : Standing) : Type 0 where
   pub script : Script
   pub spelled : Spells input script
-  pub world : Content
-  pub ran : IsRun script world
-  pub told : bytes ≡ world_text world
-  pub right : HasRightStreams script bytes
+  pub ran : IsRunOf script w
 
--- no script is spelled, and the line says so
+-- The bytes are the report of a world after the run of the script that the input spells.
+pub record ReportsRun (input bytes : List ℕ) : Type 0 where
+  pub world : Standing
+  pub ran : RunOf input world
+  pub told : bytes ≡ world_text world.fixed world.world
+
+-- The bytes are the image of memory after that run.
+pub record GivesImage (input bytes : List ℕ) : Type 0 where
+  pub world : Standing
+  pub ran : RunOf input world
+  pub told : bytes ≡ image_bytes (world_image world.world)
+
+-- The input spells no script, and the line names its first fault.
 pub record RefusesScript (input bytes : List ℕ) : Type 0 where
-  pub unspelled : (script : Script) → Spells input script → ⊥
-  pub line : bytes ≡ codes "line 0: later" ++ 10 ∷ []
+  pub number : ℕ
+  pub why : TextWhy
+  pub first : first_fault input ≡ Some (number, why)
+  pub line : bytes ≡ fault_line number why
+
+-- ---- images
 
 -- The input is an image, and the bytes are the text that shows it.
 pub record ShowsImage (input bytes : List ℕ) : Type 0 where
@@ -42,20 +67,41 @@ pub record RefusesImage (input bytes : List ℕ) : Type 0 where
   pub refused : image_fault input ≡ Some refusal
   pub line : bytes ≡ refusal_line refusal
 
+-- ---- what `check` says: of an image where the first four bytes are those of one, and else of a text
+
+abbrev pub image_line : Option Refusal → List ℕ
+image_line None = line_text (codes "image" ∷ codes "ok" ∷ [])
+image_line (Some refusal) = refusal_line refusal
+
+abbrev pub checked_as : Bool → List ℕ → List ℕ
+checked_as true input = image_line (image_fault input)
+checked_as false input = check_text input
+
+abbrev pub is_sound_as : Bool → List ℕ → Bool
+is_sound_as true input = is_none (image_fault input)
+is_sound_as false input = is_none (first_fault input)
+
+-- the input is a script or an image, or it isn't; the line says so, or names the first thing that is wrong with it
+pub record Checks (input : List ℕ) (sound : Bool) (bytes : List ℕ) : Type 0 where
+  pub is : is_sound_as (is_image input) input ≡ sound
+  pub line : bytes ≡ checked_as (is_image input) input
+
+-- ---- the program
+
 -- the whole output of a form on an input: an end with its bytes
 abbrev pub Gives : Form → List ℕ → Status → List ℕ → Type 0
 Gives Run input Ok bytes = ReportsRun input bytes
 Gives Run input Refused bytes = RefusesScript input bytes
-Gives Run input Words bytes = ⊥
-Gives Run input ReadFault bytes = ⊥
-Gives Run input WriteFault bytes = ⊥
-Gives Run input Memory bytes = ⊥
+Gives Image input Ok bytes = GivesImage input bytes
+Gives Image input Refused bytes = RefusesScript input bytes
+Gives Check input Ok bytes = Checks input true bytes
+Gives Check input Refused bytes = Checks input false bytes
 Gives Dump input Ok bytes = ShowsImage input bytes
 Gives Dump input Refused bytes = RefusesImage input bytes
-Gives Dump input Words bytes = ⊥
-Gives Dump input ReadFault bytes = ⊥
-Gives Dump input WriteFault bytes = ⊥
-Gives Dump input Memory bytes = ⊥
+Gives form input Words bytes = ⊥
+Gives form input ReadFault bytes = ⊥
+Gives form input WriteFault bytes = ⊥
+Gives form input Memory bytes = ⊥
 
 -- all of an output was written
 abbrev pub WritesAll : Form → List ℕ → Status → Option (List ℕ) → Option (List ℕ) → Type 0

@@ -173,6 +173,27 @@ fn refusals(rt: HostRuntime) -> Result<(), Fail> {
     Ok(())
 }
 
+// The world before its first line has the image of an empty frame list and an empty ring, which is an image. Each write of it fails in
+// turn.
+#[test]
+fn images(rt: HostRuntime) -> Result<(), Fail> {
+    let script = b"ehci 1\nmem 2048\n";
+    let bytes = image(rt.alloc(), 0, &[])?;
+    let (status, written) = program(rt.alloc(), "image", script, &[], &[])?;
+    assert_eq!(rt; status, Status::Ok);
+    assert_eq!(rt; written.as_slice(), bytes.as_slice());
+    for write in 0..3u32 {
+        let (status, written) = program(rt.alloc(), "image", script, &[], &[write])?;
+        assert_eq!(rt; status, Status::WriteFault);
+        assert_eq!(rt; written.is_empty(), write == 0);
+        assert!(rt; bytes.as_slice().starts_with(written.as_slice()));
+    }
+    let (status, written) = program(rt.alloc(), "check", &bytes, &[], &[])?;
+    assert_eq!(rt; status, Status::Ok);
+    assert_eq!(rt; written.as_slice(), b"image ok\n".as_slice());
+    Ok(())
+}
+
 // Each read fails in turn, and each write of a text of nine pages.
 #[test]
 fn each_call_of_dump_fails(rt: HostRuntime) -> Result<(), Fail> {

@@ -1,27 +1,14 @@
-ghost use Rattle.std.specs.Prelude.{◌≡◌, ◌≢◌, ◌≤◌, ◌⊎◌, None, Some};
+ghost use Rattle.std.specs.Prelude.{◌≡◌, ◌≢◌, None};
 ghost use Rattle.image_codec.specs.Image.{image_fault, image_of, IsAligned};
 ghost use Rattle.program_ends.specs.Ends.{IsWriteFault, WritesNothing};
 ghost use Rattle.ehci_cli.specs.Output.{IsAnswer};
 
 use crate::form::Form;
-use image_codec::{Image, ImageError, Refusal, ShowError, decode, print_refusal, show};
+use crate::refusing::refuse_image;
+use image_codec::{Image, ImageError, Refusal, ShowError, decode, show};
 use program_ends::Status;
 use std::alloc::Global;
 use usb_base::Sink;
-
-/// Refuses an input that is no image.
-fn refuse_image<K: Sink>(input: &[u8], refusal: Refusal, sink: &mut K) -> Status
-    requires { image_fault input.now ≡ Some refusal }
-    ensures answer { IsAnswer Form.Dump result input.now (K.written sink.old) (K.written sink.new) }
-    ensures end { (result ≡ Status.Refused) ⊎ (result ≡ Status.WriteFault) }
-    ensures nothing { WritesNothing result → sink.new ≡ sink.old }
-    ensures fault { IsWriteFault result (K.faults sink.old) (K.faults sink.new) }
-{
-    match print_refusal(refusal, sink) {
-        Ok(()) => Status::Refused,
-        Err(_) => Status::WriteFault,
-    }
-}
 
 /// Shows the image that the input is.
 fn show_image<K: Sink>(alloc: Global, input: &[u8], image: &Image, sink: &mut K) -> Status

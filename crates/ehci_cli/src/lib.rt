@@ -1,17 +1,21 @@
 //! The program's top call: what it reads, what it writes and how it ends.
 //!
-//! `ehci` carries the theorem of the whole; what it reads with and how it ends stands below it in `program_ends`.
+//! `ehci` carries the theorem of the whole; each form has its function (`run`, `image`, `check`, `dump`). What it reads with and
+//! how it ends stands below it in `program_ends`.
 #![tactic(auto)]
 
+mod checking;
 mod dumping;
 mod form;
 mod program;
+mod refusing;
 mod running;
 
+pub use checking::check;
 pub use dumping::dump;
 pub use form::{Form, form_of};
 pub use program::ehci;
-pub use running::run;
+pub use running::{image, run};
 
 #[cfg(test)]
 mod dump_tests;

@@ -4,9 +4,10 @@ ghost use Rattle.program_ends.specs.Input.{input_of};
 ghost use Rattle.ehci_cli.specs.Form.{AreNoForm};
 ghost use Rattle.ehci_cli.specs.Output.{IsAnswer, IsProgram};
 
+use crate::checking::check;
 use crate::dumping::dump;
 use crate::form::{Form, form_of};
-use crate::running::run;
+use crate::running::{image, run};
 use program_ends::{Status, Unread, read_input};
 use std::alloc::Global;
 use usb_base::{Sink, Source};
@@ -57,6 +58,8 @@ fn answer<K: Sink>(alloc: Global, form: Form, input: &[u8], sink: &mut K) -> Sta
 {
     match form {
         Form::Run => run(alloc, input, sink),
+        Form::Image => image(alloc, input, sink),
+        Form::Check => check(alloc, input, sink),
         Form::Dump => dump(alloc, input, sink),
     }
 }

@@ -39,7 +39,21 @@ fn ends_as_it_must(rt: HostRuntime) -> Result<(), Fail> {
     for (word, input, status, output) in [
         ("run", SCRIPT, Status::Ok, REPORT),
         ("run", b"", Status::Ok, b""),
-        ("run", b"ehci 1\n", Status::Refused, b"line 0: later\n"),
+        ("run", b"ehci 2\n", Status::Refused, b"line 1: version\n"),
+        (
+            "image",
+            b"ehci 1\nmem 2047\n",
+            Status::Refused,
+            b"line 2: range\n",
+        ),
+        ("check", SCRIPT, Status::Ok, b"script ok\n"),
+        (
+            "check",
+            b"ehci 1\ndev 200 high\n",
+            Status::Refused,
+            b"line 2: range\n",
+        ),
+        ("check", b"EHCI", Status::Refused, b"offset 4: length\n"),
         ("walk", SCRIPT, Status::Words, b""),
     ] {
         let (ended, written) = program(rt.alloc(), word, input, &[], &[])?;
@@ -49,14 +63,39 @@ fn ends_as_it_must(rt: HostRuntime) -> Result<(), Fail> {
     Ok(())
 }
 
-// Each read and each write of the transfer fails in turn.
+// Each read fails in turn, whatever is asked.
 #[test]
-fn each_call_fails(rt: HostRuntime) -> Result<(), Fail> {
-    for read in 0..2 {
-        let (status, written) = program(rt.alloc(), "run", SCRIPT, &[read], &[])?;
-        assert_eq!(rt; status, Status::ReadFault);
+fn each_read_fails(rt: HostRuntime) -> Result<(), Fail> {
+    for word in ["run", "image", "check"] {
+        for read in 0..2 {
+            let (status, written) = program(rt.alloc(), word, SCRIPT, &[read], &[])?;
+            assert_eq!(rt; status, Status::ReadFault);
+            assert!(rt; written.is_empty());
+        }
+    }
+    Ok(())
+}
+
+// Each write of a line fails.
+#[test]
+fn each_line_fails(rt: HostRuntime) -> Result<(), Fail> {
+    for (word, input) in [
+        ("run", b"ehci 2\n".as_slice()),
+        ("image", b"ehci 2\n".as_slice()),
+        ("check", SCRIPT),
+        ("check", b"ehci 2\n".as_slice()),
+        ("check", b"EHCI".as_slice()),
+    ] {
+        let (status, written) = program(rt.alloc(), word, input, &[], &[0])?;
+        assert_eq!(rt; status, Status::WriteFault);
         assert!(rt; written.is_empty());
     }
+    Ok(())
+}
+
+// Each write of a report fails in turn.
+#[test]
+fn each_write_of_a_report_fails(rt: HostRuntime) -> Result<(), Fail> {
     for write in 0..8 {
         let (status, written) = program(rt.alloc(), "run", SCRIPT, &[], &[write])?;
         assert!(rt; REPORT.starts_with(written.as_slice()));
@@ -132,7 +171,7 @@ fn too_long_an_input(rt: HostRuntime) -> Result<(), Fail> {
         ehci(rt.alloc(), words.as_slice(), &mut source, &mut sink),
         Status::Refused
     );
-    assert_eq!(rt; sink.written(), b"line 0: later\n".as_slice());
+    assert_eq!(rt; sink.written(), b"line 0: long\n".as_slice());
     assert_eq!(rt; source.left().len(), 1);
     Ok(())
 }
