@@ -1,7 +1,7 @@
 -- What the program writes: for each form and input, how it ends and which bytes it writes.
 --     Gives form input status bytes        the whole output: an end with its bytes
 --     IsAnswer form status input old new   how what is written follows from how the program ended
-use Rattle.std.specs.Prelude.{◌≡◌, ℕ, Bool, true, false, List, [], ◌∷◌, ◌++◌, Option, None, Some, is_none, codes}
+use Rattle.std.specs.Prelude.{◌≡◌, ℕ, Bool, true, false, List, [], ◌∷◌, Option, None, Some, is_none, codes}
 use Rattle.std.specs.Io.KnownBytes.{Appends, Keeps}
 use Rattle.usb_base.specs.Outside.{AppendsPrefix}
 use Rattle.report_text.specs.ReportText.{line_text}
