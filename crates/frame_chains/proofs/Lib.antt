@@ -1,0 +1,14 @@
+pub mod Bits
+pub mod Orders
+pub mod First
+pub mod Links
+pub mod Words
+pub mod Beside
+pub mod Following
+pub mod Linking
+pub mod ByClass
+pub mod Tree
+pub mod Search
+pub mod Descriptors
+pub mod Readings
+pub mod Sequence
