@@ -1,0 +1,5 @@
+pub mod Apart
+pub mod Hexes
+pub mod Standing
+pub mod Ambiguity
+pub mod Furthest
