@@ -1,0 +1,13 @@
+use Rattle.hub_laws.proofs.Answers.{read_has_four}
+use Rattle.hub_laws.proofs.Transfers.{read_reply, read_sent, read_received, read_status, read_after}
+use Rattle.hub_laws.proofs.laws.status_is_read.Goals as goal
+
+pub returns : goal.returns
+returns c = record {
+  four_bytes = λ setup bytes h e. (read_has_four setup bytes h e).has;
+  data = read_reply;
+  sent = read_sent;
+  received = read_received;
+  status = read_status;
+  after = read_after;
+}
