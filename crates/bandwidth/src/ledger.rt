@@ -1,13 +1,15 @@
-ghost use Rattle.std.specs.Prelude.{◌≡◌, ℕ, ◌+◌, ◌<◌, ◌≤◌, ◌↔◌, ◌++◌, ◌∷◌, [], length, not, nat_eq, false, filter, IfOk, IsTrue, vec_len, vec_capacity, replicate};
-ghost use Rattle.std.specs.List.{list_any};
+ghost use Rattle.std.specs.Prelude.{◌≡◌, ℕ, ◌+◌, ◌<◌, ◌≤◌, ◌↔◌, ◌++◌, ◌∷◌, [], length, not, nat_eq, false, filter, IfOk, IsTrue, vec_len, vec_capacity};
+ghost use Rattle.std.specs.List.{list_any, position};
 ghost use Rattle.bandwidth.specs.Placements.{IsWant, IsPlace};
 ghost use Rattle.bandwidth.specs.Sums.{Fits, load};
 ghost use Rattle.bandwidth.specs.Admission.{joined, keeps, peak};
 
 use crate::asks::{byte_times_of, costs_of, time_in_frame};
+use crate::hub_sums::HubSums;
+use crate::hubs::{add_below, no_sums, sub_below};
 use crate::peaks::peak_of;
 use crate::placements::{Placed, Placement, Want};
-use crate::sums::{sum_byte_times, sum_frames, sum_loads};
+use crate::table::Table;
 use crate::tables::{frames_fit, microframes_fit};
 use std::alloc::Global;
 use std::marker::Model;
@@ -22,42 +24,33 @@ const FRAME_BUDGET: u64 = 900_000_000;
 /// The byte-times that a translator moves in a microframe (USB 2.0, 11.18.4).
 const BYTE_TIMES: u64 = 188;
 
-/// A table of so many cells, each 0.
-fn zeros(alloc: Global, cells: usize) -> Result<Vec<u64>, Memory>
-    ensures { IfOk result (λ v. length v.items ≡ cells) }
-{
-    let table = vec![in alloc; 0u64; cells]?;
-    Ok(table)
-}
-
-/// What is placed, with tables for the sums that an admission asks for.
+/// What is placed, with a table for each sum that an admission asks for.
 #[derive(Debug, Drop)]
 pub(crate) struct Ledger {
     room: u32,
     placed: Vec<Placed>,
-    loads: Vec<u64>,
-    frames: Vec<u64>,
-    bytes: Vec<u64>,
+    loads: Table,
+    hubs: Vec<HubSums>,
 }
 
 impl Model for Ledger {
     ghost use Rattle.std.specs.Prelude.{◌≤◌, vec_capacity};
-    ghost use Rattle.bandwidth.specs.Tables.{Sheet, IsSheet};
+    ghost use Rattle.bandwidth.specs.Tables.{Book, IsBook};
 
-    ghost Value = { Sheet };
+    ghost Value = { Book };
 
-    ghost view = { λ a. record { room = a.room; placed = a.placed.items; loads = a.loads.items; frames = a.frames.items; bytes = a.bytes.items } };
+    ghost view = { λ a. record { room = a.room; placed = a.placed.items; loads = a.loads; hubs = a.hubs.items } };
 
-    ghost invariant = { λ a. IsSheet (record { room = a.room; placed = a.placed.items; loads = a.loads.items; frames = a.frames.items; bytes = a.bytes.items }) × (a.room ≤ vec_capacity a.placed) };
+    ghost invariant = { λ a. IsBook (record { room = a.room; placed = a.placed.items; loads = a.loads; hubs = a.hubs.items }) × (a.room ≤ vec_capacity a.placed) };
 }
 
 impl Ledger {
-    ghost use Rattle.bandwidth.specs.Tables.{IsPlaced, AreSums, IsSheet, LoadsFit, FramesFit, BytesFit};
+    ghost use Rattle.bandwidth.specs.Tables.{IsPlaced, AreSums, IsBook, LoadsFit, FramesFit, BytesFit, sheet_at, tables_of};
 
     /// The placed endpoints, in the order of admission.
     pub(crate) fn placed(&self) -> &[Placed]
         ensures same { result.now ≡ self.now.placed }
-        ensures sheet { IsSheet self.now }
+        ensures sheet { IsBook self.now }
     {
         self.placed.as_slice()
     }
@@ -65,35 +58,38 @@ impl Ledger {
     /// How many endpoints may be placed.
     pub(crate) fn room(&self) -> u32
         ensures same { result ≡ self.now.room }
-        ensures sheet { IsSheet self.now }
+        ensures sheet { IsBook self.now }
     {
         self.room
     }
 
-    /// Makes the tables the sums of what is placed, those of frames and byte-times below the hub, if there is one.
-    pub(crate) fn sum(&mut self, hub: Option<DevAddr>)
-        ensures room { self.new.room ≡ self.old.room }
-        ensures placed { self.new.placed ≡ self.old.placed }
-        ensures sums { AreSums self.new hub }
+    /// The bus time of each of the 8,192 microframes, in picoseconds.
+    pub(crate) fn loads(&self) -> &Table
+        ensures same { result.now ≡ self.now.loads }
+        ensures sheet { IsBook self.now }
     {
-        sum_loads(&mut self.loads, &self.placed);
-        if let Some(hub) = hub {
-            sum_frames(&mut self.frames, &self.placed, hub);
-            sum_byte_times(&mut self.bytes, &self.placed, hub);
-        }
+        &self.loads
+    }
+
+    /// The tables of a hub.
+    pub(crate) fn below(&self, hub: DevAddr) -> &HubSums
+        ensures same { result.now ≡ tables_of self.now.hubs hub }
+        ensures hub { hub < 128 }
+        ensures sheet { IsBook self.now }
+    {
+        &self.hubs[hub.get() as usize]
     }
 
     /// Whether each microframe of a placement's active frames keeps its budget.
     #[tactic(auto, using(crate::proofs::Budgets::loads_roomy))]
     fn loads_keep(&self, want: &Want, placement: &Placement) -> bool
-        requires sums { AreSums self.now want.now.hub }
         requires want { IsWant want.now }
         requires place { IsPlace placement.now }
-        ensures fits { IsTrue result ↔ LoadsFit self.now want.now placement.now }
+        ensures fits { IsTrue result ↔ LoadsFit (sheet_at self.now want.now.hub) want.now placement.now }
         ensures sheet { Fits self.now.placed }
     {
         microframes_fit(
-            &self.loads,
+            self.loads.as_slice(),
             placement,
             &costs_of(want, placement),
             MICROFRAME_BUDGET,
@@ -103,28 +99,28 @@ impl Ledger {
     /// Whether each active frame of a placement keeps the budget below its hub.
     #[tactic(auto, using(crate::proofs::Budgets::frames_roomy))]
     fn frames_keep(&self, want: &Want, placement: &Placement, hub: DevAddr) -> bool
-        requires sums { AreSums self.now want.now.hub }
         requires hub { want.now.hub ≡ Some hub }
         requires want { IsWant want.now }
         requires place { IsPlace placement.now }
-        ensures fits { IsTrue result ↔ FramesFit self.now want.now placement.now }
+        ensures fits { IsTrue result ↔ FramesFit (sheet_at self.now want.now.hub) want.now placement.now }
         ensures hub { hub < 128 }
     {
-        frames_fit(&self.frames, placement, time_in_frame(want), FRAME_BUDGET)
+        let table = self.below(hub).frames.as_slice();
+        frames_fit(table, placement, time_in_frame(want), FRAME_BUDGET)
     }
 
     /// Whether each microframe of a placement's active frames keeps the byte-times of its hub's translator.
     #[tactic(auto, using(crate::proofs::Budgets::bytes_roomy))]
     fn bytes_keep(&self, want: &Want, placement: &Placement, hub: DevAddr) -> bool
-        requires sums { AreSums self.now want.now.hub }
         requires hub { want.now.hub ≡ Some hub }
         requires want { IsWant want.now }
         requires place { IsPlace placement.now }
-        ensures fits { IsTrue result ↔ BytesFit self.now want.now placement.now }
+        ensures fits { IsTrue result ↔ BytesFit (sheet_at self.now want.now.hub) want.now placement.now }
         ensures hub { hub < 128 }
     {
+        let table = self.below(hub).bytes.as_slice();
         microframes_fit(
-            &self.bytes,
+            table,
             placement,
             &byte_times_of(want, placement),
             BYTE_TIMES,
@@ -133,7 +129,6 @@ impl Ledger {
 
     /// Whether a placement keeps every budget beside what is placed, where the tables are the sums.
     pub(crate) fn keeps(&self, want: &Want, placement: &Placement) -> bool
-        requires sums { AreSums self.now want.now.hub }
         requires want { IsWant want.now }
         requires place { IsPlace placement.now }
         ensures { result ≡ keeps self.now.placed want.now placement.now }
@@ -153,12 +148,11 @@ impl Ledger {
     /// The greatest microframe sum over a placement's own microframes, with it included, where the tables are the sums.
     #[tactic(auto, using(crate::proofs::Budgets::peak_is))]
     pub(crate) fn peak(&self, want: &Want, placement: &Placement) -> u64
-        requires sums { AreSums self.now want.now.hub }
         requires want { IsWant want.now }
         requires place { IsPlace placement.now }
         ensures { result ≡ peak self.now.placed want.now placement.now }
     {
-        peak_of(&self.loads, placement, &costs_of(want, placement))
+        peak_of(self.loads.as_slice(), placement, &costs_of(want, placement))
     }
 
     /// Places one more.
@@ -170,10 +164,20 @@ impl Ledger {
         ensures room { self.new.room ≡ self.old.room }
         ensures placed { self.new.placed ≡ joined self.old.placed want.now placement.now }
     {
+        self.loads
+            .add_microframes(placement, &costs_of(want, placement));
+        add_below(&mut self.hubs, want, placement);
         self.placed.push_reserved(Placed {
             want: *want,
             placement: *placement,
         });
+    }
+
+    /// Where an id stands in the list.
+    fn place(&self, id: u32) -> Option<usize>
+        ensures { result ≡ position (λ x. nat_eq x.want.id id) self.now.placed }
+    {
+        self.placed.iter().position(|x| x.want.id == id)
     }
 
     /// Takes out what stands under an id.
@@ -181,7 +185,14 @@ impl Ledger {
         ensures room { self.new.room ≡ self.old.room }
         ensures placed { self.new.placed ≡ filter (λ x. not (nat_eq x.want.id id)) self.old.placed }
     {
-        self.placed.retain(|x| x.want.id != id);
+        let Some(i) = self.place(id) else {
+            return;
+        };
+        let x = self.placed[i];
+        self.loads
+            .sub_microframes(&x.placement, &costs_of(&x.want, &x.placement));
+        sub_below(&mut self.hubs, &x.want, &x.placement);
+        self.placed.remove(i);
     }
 
     /// An empty ledger with room for so many.
@@ -189,15 +200,13 @@ impl Ledger {
         ensures { IfOk result (λ l. (l.room ≡ room) × (l.placed ≡ [])) }
     {
         let placed = Vec::with_capacity(alloc, room as usize)?;
-        let loads = zeros(alloc, 8192)?;
-        let frames = zeros(alloc, 1024)?;
-        let bytes = zeros(alloc, 8192)?;
+        let loads = Table::zeros(alloc, 8192)?;
+        let hubs = no_sums(alloc)?;
         Ok(Ledger {
             room,
             placed,
             loads,
-            frames,
-            bytes,
+            hubs,
         })
     }
 }

@@ -7,6 +7,8 @@
 mod asks;
 mod choice;
 mod frames;
+mod hub_sums;
+mod hubs;
 mod ledger;
 mod masks;
 mod options;
@@ -14,7 +16,7 @@ mod peaks;
 mod placements;
 mod plan;
 mod search;
-mod sums;
+mod table;
 mod tables;
 #[cfg(test)]
 mod tests;
@@ -22,3 +24,4 @@ pub mod worked;
 
 pub use placements::{Placed, Placement, Refused, Want};
 pub use plan::Plan;
+pub use table::Table;

@@ -1,17 +1,17 @@
-ghost use Rattle.std.specs.Prelude.{◌≡◌, ℕ, ◌+◌, ◌<◌, ◌≤◌, ◌↔◌, false, true, List, [], length, IfOk, Result};
+ghost use Rattle.std.specs.Prelude.{◌≡◌, ℕ, ◌+◌, ◌<◌, ◌≤◌, ◌↔◌, false, true, List, [], length, slice_index, Some, None, IfOk, IfSome, Result};
 ghost use Rattle.std.specs.Bool.{OnTrue, OnFalse};
 ghost use Rattle.bandwidth.specs.declared.placements.Refused.TheVariants.{NoPlacement, Room};
 ghost use Rattle.bandwidth.specs.Placements.{IsWant};
-ghost use Rattle.bandwidth.specs.Sums.{Fits, load};
-ghost use Rattle.bandwidth.specs.Admission.{answer, admitted, is_placed, without, AreDistinct, HasNone, IsBest};
+ghost use Rattle.bandwidth.specs.Sums.{Fits, load, frame_sum, tt_sum};
+ghost use Rattle.bandwidth.specs.Admission.{answer, admitted, is_placed, hub_of, without, AreDistinct, HasNone, IsBest};
 
-use crate::asks::cost_at_microframe;
 use crate::ledger::Ledger;
 use crate::placements::{Placement, Refused, Want};
 use crate::search::best_placement;
+use crate::table::Table;
 use std::alloc::Global;
 use std::marker::Model;
-use usb_base::{Memory, Ps};
+use usb_base::{DevAddr, Memory, Ps};
 
 /// The periodic endpoints that are placed, in the order of admission, and how many may be. What is placed keeps every
 /// budget, and no two have one id.
@@ -55,7 +55,6 @@ impl Plan {
         if self.ledger.placed().len() >= self.ledger.room() as usize {
             return Err(Refused::Room);
         }
-        self.ledger.sum(want.hub);
         match best_placement(&self.ledger, want) {
             Some(placement) => {
                 self.ledger.join(want, &placement);
@@ -85,11 +84,53 @@ impl Plan {
         ensures load { result.0 ≡ load self.now.placed u }
         ensures fits { Fits self.now.placed }
     {
-        let mut sum = 0;
-        for x in self.ledger.placed() {
-            sum += cost_at_microframe(x, u);
+        let cells = self.ledger.loads().as_slice();
+        Ps(cells[u as usize])
+    }
+
+    /// The bus time of the periodic transactions of each of the 8,192 microframes, in picoseconds.
+    pub fn loads(&self) -> &Table
+        ensures cells { length result.now ≡ 8192 }
+        ensures sums { (u : ℕ) → u < 8192 → slice_index result.now u ≡ load self.now.placed u }
+    {
+        self.ledger.loads()
+    }
+
+    /// The classic bus time of each of the 1,024 frames below the hub of a placement, in picoseconds; `None` exactly where the id isn't
+    /// placed or its endpoint has no hub.
+    pub fn frame_sums(&self, id: u32) -> Option<&Table>
+        ensures none { (result ≡ None) ↔ (hub_of self.now.placed id ≡ None) }
+        ensures cells { IfSome result (λ t. length t.now ≡ 1024) }
+        ensures sums { IfSome result (λ t. (hub f : ℕ) → hub_of self.now.placed id ≡ Some hub → f < 1024 → slice_index t.now f ≡ frame_sum self.now.placed hub f) }
+    {
+        match self.hub(id) {
+            Some(hub) => Some(&self.ledger.below(hub).frames),
+            None => None,
         }
-        Ps(sum)
+    }
+
+    /// The byte-times of each of the 8,192 microframes in the translator of the hub of a placement; `None` exactly where the id isn't
+    /// placed or its endpoint has no hub.
+    pub fn byte_sums(&self, id: u32) -> Option<&Table>
+        ensures none { (result ≡ None) ↔ (hub_of self.now.placed id ≡ None) }
+        ensures cells { IfSome result (λ t. length t.now ≡ 8192) }
+        ensures sums { IfSome result (λ t. (hub u : ℕ) → hub_of self.now.placed id ≡ Some hub → u < 8192 → slice_index t.now u ≡ tt_sum self.now.placed hub u) }
+    {
+        match self.hub(id) {
+            Some(hub) => Some(&self.ledger.below(hub).bytes),
+            None => None,
+        }
+    }
+
+    fn hub(&self, id: u32) -> Option<DevAddr>
+        ensures { result ≡ hub_of self.now.placed id }
+    {
+        for x in self.ledger.placed() {
+            if x.want.id == id {
+                return x.want.hub;
+            }
+        }
+        None
     }
 
     /// Whether an endpoint with this id is placed.

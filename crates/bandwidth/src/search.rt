@@ -1,7 +1,6 @@
 ghost use Rattle.std.specs.Prelude.{◌≡◌, ◌<◌, Option};
 ghost use Rattle.bandwidth.specs.Placements.{IsWant, IsPlace, frame_period, in_phase, placement_row, placement_at};
 ghost use Rattle.bandwidth.specs.Admission.{best};
-ghost use Rattle.bandwidth.specs.Tables.{AreSums};
 ghost use Rattle.bandwidth.specs.Choice.{candidate, lesser, better, choice, place_in};
 
 use crate::choice::Candidate;
@@ -43,7 +42,6 @@ fn better_of(
     so_far: Option<Candidate>,
     placement: Placement,
 ) -> Option<Candidate>
-    requires sums { AreSums ledger.now want.now.hub }
     requires want { IsWant want.now }
     requires place { IsPlace placement }
     ensures { result ≡ better ledger.now.placed want.now so_far placement }
@@ -63,7 +61,6 @@ fn best_in_phase(
     phase: u16,
     so_far: Option<Candidate>,
 ) -> Option<Candidate>
-    requires sums { AreSums ledger.now want.now.hub }
     requires want { IsWant want.now }
     requires phase { phase < frame_period want.now.period }
     ensures { result ≡ choice ledger.now.placed want.now so_far (in_phase want.now phase) }
@@ -78,7 +75,6 @@ fn best_in_phase(
 /// The allowed placement that keeps every budget with the least peak, the first of these.
 #[tactic(auto, using(crate::proofs::Best::choice_none, crate::proofs::Best::choice_phase, crate::proofs::Best::best_of))]
 pub(crate) fn best_placement(ledger: &Ledger, want: &Want) -> Option<Placement>
-    requires sums { AreSums ledger.now want.now.hub }
     requires want { IsWant want.now }
     ensures { result ≡ best ledger.now.placed want.now }
 {

@@ -55,6 +55,52 @@ pub(crate) fn add_frames(table: &mut [u64], placement: &Placement, amount: u64)
     }
 }
 
+/// Takes the amounts of the eight microframes from those of one frame.
+fn sub_in_frame(table: &mut [u64], frame: usize, amounts: &[u64; 8])
+    requires cells { length table.old ≡ 8192 }
+    requires frame { frame < 1024 }
+    requires enough { (m : ℕ) → m < 8 → slice_index amounts.now m ≤ slice_index table.old (8 * frame + m) }
+    ensures { (u : ℕ) → u < 8192 → slice_index table.old u ≡ slice_index table.new u + (if nat_eq (u / 8) frame then slice_index amounts.now (u % 8) else 0) }
+{
+    for m in 0..8 {
+        table[8 * frame + m] -= amounts[m];
+    }
+}
+
+/// Takes the amounts of the eight microframes of a frame from each active frame of a placement.
+pub(crate) fn sub_microframes(table: &mut [u64], placement: &Placement, amounts: &[u64; 8])
+    requires cells { length table.old ≡ 8192 }
+    requires place { IsPlace placement.now }
+    requires enough { (u : ℕ) → u < 8192 → is_active placement.now (u / 8) ≡ true → slice_index amounts.now (u % 8) ≤ slice_index table.old u }
+    ensures { (u : ℕ) → u < 8192 → slice_index table.old u ≡ slice_index table.new u + (if is_active placement.now (u / 8) then slice_index amounts.now (u % 8) else 0) }
+{
+    for k in 0..turns(placement) {
+        sub_in_frame(table, active_frame(placement, k), amounts);
+    }
+}
+
+/// Takes an amount from that of one frame.
+fn sub_from_frame(table: &mut [u64], frame: usize, amount: u64)
+    requires cells { length table.old ≡ 1024 }
+    requires frame { frame < 1024 }
+    requires enough { amount ≤ slice_index table.old frame }
+    ensures { (f : ℕ) → f < 1024 → slice_index table.old f ≡ slice_index table.new f + (if nat_eq f frame then amount else 0) }
+{
+    table[frame] -= amount;
+}
+
+/// Takes an amount from each active frame of a placement.
+pub(crate) fn sub_frames(table: &mut [u64], placement: &Placement, amount: u64)
+    requires cells { length table.old ≡ 1024 }
+    requires place { IsPlace placement.now }
+    requires enough { (f : ℕ) → f < 1024 → is_active placement.now f ≡ true → amount ≤ slice_index table.old f }
+    ensures { (f : ℕ) → f < 1024 → slice_index table.old f ≡ slice_index table.new f + (if is_active placement.now f then amount else 0) }
+{
+    for k in 0..turns(placement) {
+        sub_from_frame(table, active_frame(placement, k), amount);
+    }
+}
+
 /// Whether each of the eight microframes of one frame stays within the limit with its amount.
 fn frame_fits(table: &[u64], frame: usize, amounts: &[u64; 8], limit: u64) -> bool
     requires cells { length table.now ≡ 8192 }
