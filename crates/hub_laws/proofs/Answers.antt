@@ -1,17 +1,17 @@
 -- What the answer to a request says of its setup bytes: a change has no data, a read has four bytes.
-use Rattle.std.proofs.Common.{◌≡◌, ℕ, ◌+◌, ◌*◌, Bool, true, false, List, [], ◌∷◌, length, Option, Some, None, refl, sym, ap, ◌≤◌, ◌⊎◌, inl, inr, if◌then◌else◌, arith}
+use Rattle.std.proofs.Common.{◌≡◌, ℕ, Bool, true, false, List, [], ◌∷◌, length, Option, Some, None, refl, sym, ap, ◌≤◌, ◌⊎◌, inl, inr, if◌then◌else◌, arith}
 use Rattle.std.proofs.lemmas.Bool.{eqb-true, le-leb}
-use Rattle.std.specs.Prelude.{nat_le, slice_index, ◌==◌, ◌&&◌}
+use Rattle.std.specs.Prelude.{nat_le, ◌==◌, ◌&&◌}
 use Rattle.hub_ports.specs.declared.port.Port.{Port}
 use Rattle.hub_ports.specs.declared.requests.SetupFields.{SetupFields}
 use Rattle.hub_ports.specs.declared.rows.ClassRequest.{ClassRequest}
 use Rattle.hub_ports.specs.declared.rows.ClassRequest.TheVariants.{GetHubStatus, GetPortStatus, SetPortFeature, ClearPortFeature, ClearTtBuffer, ResetTt}
-use Rattle.hub_ports.specs.declared.rows.HubReply.TheVariants.{Bytes, Done, Stall}
+use Rattle.hub_ports.specs.declared.rows.HubReply.TheVariants.{Bytes, Done}
 use Rattle.hub_ports.specs.declared.rows.HubRequest.{HubRequest}
 use Rattle.hub_ports.specs.declared.rows.HubRequest.TheVariants.{HubStatus, PortStatus, ChangePort, ClearBuffer, ResetTranslator}
 use Rattle.hub_ports.specs.declared.rows.PortChange.{PortChange}
 use Rattle.hub_ports.specs.Ports.{status_bytes, status_of, port_at, reply_of}
-use Rattle.hub_ports.specs.Requests.{fields_of, class_request, set_feature, clear_feature, buffer_key, at_port, change_at, clear_of, request_by, request_with}
+use Rattle.hub_ports.specs.Requests.{fields_of, class_request, set_feature, clear_feature, buffer_key, change_at, clear_of, request_by, request_with}
 use Rattle.control_stages.specs.Stages.{is_read, wanted_of}
 use Rattle.tt_keys.specs.declared.key.Key.{Key}
 use Rattle.hub_class.specs.HubContent.{HubContent}

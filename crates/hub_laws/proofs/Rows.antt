@@ -1,16 +1,15 @@
 -- One stage of a transfer, by its row.
-use Rattle.std.proofs.Common.{◌≡◌, ℕ, Bool, true, false, List, [], length, Option, Some, None, refl, sym, subst, if◌then◌else◌}
+use Rattle.std.proofs.Common.{◌≡◌, ℕ, Bool, true, List, length, refl, sym, subst, if◌then◌else◌}
 use Rattle.std.specs.Prelude.{◌==◌}
 use Rattle.std.proofs.lemmas.Bool.{eq-eqb}
 use Rattle.usb_base.specs.declared.packets.Ask.{Ask}
 use Rattle.usb_base.specs.declared.packets.Pid.TheVariants as Pids
-use Rattle.usb_base.specs.declared.packets.Reply.{Reply}
 use Rattle.usb_base.specs.declared.packets.Reply.TheVariants.{Silent, Hand}
 use Rattle.control_stages.specs.declared.rows.StageRow.{StageRow}
 use Rattle.control_stages.specs.declared.rows.StageRow.TheVariants.{Begins, Ignores}
 use Rattle.control_stages.specs.declared.rows.Token.{Token}
 use Rattle.control_stages.specs.declared.rows.Token.TheVariants as Tokens
-use Rattle.control_stages.specs.Stages.{Stages, token_of, stage_of, row_by, row_of, row_reply, after_row, in_row, out_row_at, unless_nak}
+use Rattle.control_stages.specs.Stages.{token_of, stage_of, row_by, row_reply, after_row, unless_nak}
 use Rattle.hub_class.specs.HubContent.{HubContent}
 use Rattle.hub_class.specs.EndpointZero.{reply_under, suits, acts_on, acted_with, row_at, hub_reply, hub_answered, hub_answered_at}
 use Rattle.hub_laws.specs.Stages.{Hears, told}

@@ -1,16 +1,14 @@
 -- The later stages of a transfer, for each kind of answer.
-use Rattle.std.proofs.Common.{◌≡◌, ◌≢◌, ◌≤◌, ℕ, ◌+◌, Bool, true, false, List, [], length, take, drop, Option, Some, None, refl, sym, ap, ◌∙◌, ◌∷◌, subst, if◌then◌else◌, arith}
+use Rattle.std.proofs.Common.{◌≡◌, ◌≢◌, ℕ, ◌+◌, Bool, true, false, List, [], length, take, Option, Some, None, refl, sym, ap, ◌∙◌, ◌∷◌, subst, if◌then◌else◌, arith}
 use Rattle.std.specs.Prelude.{◌==◌}
 use Rattle.std.proofs.lemmas.Bool.{eq-eqb}
 use Rattle.usb_base.specs.declared.packets.Ask.{Ask}
 use Rattle.usb_base.specs.declared.packets.Pid.{Pid}
 use Rattle.usb_base.specs.declared.packets.Pid.TheVariants as Pids
-use Rattle.usb_base.specs.declared.packets.Reply.{Reply}
 use Rattle.usb_base.specs.declared.packets.Reply.TheVariants.{Bytes, Hand}
 use Rattle.control_stages.specs.declared.control.Request.{Request}
 use Rattle.control_stages.specs.declared.rows.Stage.{Stage}
 use Rattle.control_stages.specs.declared.rows.Stage.TheVariants.{Refusing, Reading, AllRead, NoData}
-use Rattle.control_stages.specs.declared.rows.StageRow.{StageRow}
 use Rattle.control_stages.specs.declared.rows.StageRow.TheVariants.{Confirms, Sends, Acknowledges, Stalls}
 use Rattle.control_stages.specs.declared.rows.Token.{Token}
 use Rattle.control_stages.specs.declared.rows.Token.TheVariants as Tokens
@@ -19,7 +17,6 @@ use Rattle.hub_ports.specs.declared.rows.HubReply.{HubReply}
 use Rattle.hub_ports.specs.declared.rows.HubReply.TheVariants as Answers
 use Rattle.hub_ports.specs.declared.rows.HubRequest.{HubRequest}
 use Rattle.hub_ports.specs.declared.rows.HubRequest.TheVariants.{HubStatus, PortStatus, ChangePort, ClearBuffer, ResetTranslator}
-use Rattle.hub_ports.specs.Requests.{request_of}
 use Rattle.hub_class.specs.HubContent.{HubContent}
 use Rattle.hub_class.specs.Requesting.{effect_if, reply_if, request_at, requested, request_answer}
 use Rattle.hub_class.specs.EndpointZero.{reply_bytes, reply_under, suits, row_at, hub_reply, hub_answered, hub_acked}
@@ -132,7 +129,7 @@ pub read_reply : (a b : Ask) (setup bytes out : List ℕ) (h : HubContent) → I
 read_reply a b setup bytes out h ready heard n e hears =
     ap (hub_reply b out) (setup_after a setup h heard n)
     ∙ reply_by_row b out (told setup h) Sends hears.suited (sends b setup bytes out h ready e hears)
-    ∙ ap (Bytes Pids.Data1) (packet_is setup bytes h ready e)
+    ∙ ap (λ (x : List ℕ). Bytes Pids.Data1 x) (packet_is setup bytes h ready e)
 
 pub read_sent : (a b : Ask) (setup bytes out : List ℕ) (h : HubContent) → IsReady h → Hears Tokens.Setup a h → length setup ≡ 8 → request_answer setup h ≡ Answers.Bytes bytes → Hears Tokens.In b h → hub_answered b out (hub_answered a setup h) ≡ told setup h
 read_sent a b setup bytes out h ready heard n e hears =

@@ -39,7 +39,7 @@ pub fn change_is_made()
 /// status stage, an empty DATA1 to the hub, is acknowledged; the request is then done, and nothing else has changed.
 pub fn status_is_read()
     ensures four_bytes { (setup : List ℕ) (bytes : List ℕ) (h : HubContent) → request_answer setup h ≡ Answers.Bytes bytes → length bytes ≡ 4 }
-    ensures data { (a : Asked) (b : Asked) (setup : List ℕ) (bytes : List ℕ) (out : List ℕ) (h : HubContent) → IsReady h
+    ensures packet { (a : Asked) (b : Asked) (setup : List ℕ) (bytes : List ℕ) (out : List ℕ) (h : HubContent) → IsReady h
         → Hears Tokens.Setup a h → length setup ≡ 8 → request_answer setup h ≡ Answers.Bytes bytes → Hears Tokens.In b h
         → hub_reply b out (hub_answered a setup h) ≡ DataPacket Pids.Data1 bytes }
     ensures sent { (a : Asked) (b : Asked) (setup : List ℕ) (bytes : List ℕ) (out : List ℕ) (h : HubContent) → IsReady h

@@ -12,7 +12,7 @@ ghost use Rattle.hub_laws.specs.Stages.{Hears, IsReady, told, finished, read_of}
 pub fn premises()
     ensures ready { IsReady hub }
     ensures setup { Hears Tokens.Setup setup_ask hub }
-    ensures data { Hears Tokens.In in_ask hub }
+    ensures packet { Hears Tokens.In in_ask hub }
     ensures status { Hears Tokens.Out status_ask hub }
     ensures change { request_answer power_off hub ≡ Answers.Done }
     ensures read { request_answer get_status hub ≡ Answers.Bytes (3 ∷ 1 ∷ 0 ∷ 0 ∷ []) }

@@ -5,7 +5,7 @@ use Rattle.hub_laws.proofs.laws.status_is_read.Goals as goal
 pub returns : goal.returns
 returns c = record {
   four_bytes = λ setup bytes h e. (read_has_four setup bytes h e).has;
-  data = read_reply;
+  packet = read_reply;
   sent = read_sent;
   received = read_received;
   status = read_status;

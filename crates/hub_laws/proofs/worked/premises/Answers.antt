@@ -5,7 +5,7 @@ pub returns : goal.returns
 returns c = record {
   ready = record { max = refl; naks = refl };
   setup = record { suited = refl; token_is = refl };
-  data = record { suited = refl; token_is = refl };
+  packet = record { suited = refl; token_is = refl };
   status = record { suited = refl; token_is = refl };
   change = refl;
   read = refl;
