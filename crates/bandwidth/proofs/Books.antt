@@ -1,7 +1,8 @@
 -- The tables of a plan are the sums of its list, before and after one placement comes or goes.
-use Rattle.std.proofs.Common.{◌≡◌, ◌≢◌, ℕ, ◌+◌, ◌/◌, ◌%◌, ◌<◌, ◌≤◌, Bool, true, false, cond, List, [], ◌∷◌, refl, ap, sym, ◌∙◌, subst, arith, length, length-append, get_or, nat_eq, nat_lt, nat_le}
-use Rattle.std.specs.Prelude.{sum_by, Option, Some, None, slice_index, filter, not, All, AllPairs}
+use Rattle.std.proofs.Common.{◌≡◌, ◌≢◌, ℕ, ◌+◌, ◌/◌, ◌%◌, ◌<◌, ◌≤◌, true, false, cond, List, [], ◌∷◌, ap, sym, ◌∙◌, subst, arith, length, length-append, get_or, nat_eq}
+use Rattle.std.specs.Prelude.{sum_by, replicate, Option, Some, slice_index, filter, not}
 use Rattle.std.specs.List.{list_any, position, remove}
+use Rattle.std.proofs.lemmas.List.{get_or-replicate, length-replicate}
 use Rattle.std.proofs.lemmas.List.Sums.{sum_by-remove}
 use Rattle.std.proofs.lemmas.List.Edits.{length-remove}
 use Rattle.std.proofs.lemmas.List.Elements.{All-push, All-filter}
@@ -10,11 +11,11 @@ use Rattle.std.proofs.lemmas.List.Quantifiers.{all_pairs_push}
 use Rattle.bandwidth.specs.declared.placements.Want.{Want}
 use Rattle.bandwidth.specs.declared.placements.Placement.{Placement}
 use Rattle.bandwidth.specs.declared.placements.Placed.{Placed}
-use Rattle.bandwidth.specs.Sums.{load, frame_sum, tt_sum, cost_at, laid_at, time_at, cost_in, laid_in, time_of, is_active, is_hub, Fits}
-use Rattle.bandwidth.specs.Admission.{joined, AreDistinct}
+use Rattle.bandwidth.specs.Sums.{load, frame_sum, tt_sum, cost_at, laid_at, time_at, cost_in, is_active, is_hub, Fits}
+use Rattle.bandwidth.specs.Admission.{joined}
 use Rattle.bandwidth.specs.Tables.{Book, IsBook, HubTables, AreCells, AreHubSums, AreSmall, AreZero, Adds, Holds, IsPlaced, AreSums, tables_of, tables_at, sheet_at, frame_share, byte_share}
-use Rattle.bandwidth.proofs.Budgets.{load_joined, frame_joined, bytes_joined, fits_fewer, fits_none, is_own_hub, taken}
-use Rattle.bandwidth.proofs.Ids.{none_has, of_id, taken_out, place_of}
+use Rattle.bandwidth.proofs.Budgets.{load_joined, frame_joined, bytes_joined, fits_fewer, fits_none, taken}
+use Rattle.bandwidth.proofs.Ids.{none_has, of_id, taken_out}
 
 -- ---- what an admission sees
 
@@ -28,6 +29,10 @@ sums_at b o book = record {
   bytes = λ hub u e h k. ap (λ (t : HubTables). slice_index t.bytes u) (tables_is b.hubs o hub e) ∙ (book.hubs hub h).bytes u k;
 }
 
+-- the same with the hub known
+pub sums_below : (b : Book) (hub : ℕ) (o : Option ℕ) → o ≡ Some hub → IsBook b → AreSums (sheet_at b (Some hub)) o
+sums_below b hub o e book = subst (λ (x : Option ℕ). AreSums (sheet_at b x) o) e (sums_at b o book)
+
 pub loads_small : (b : Book) → IsBook b → (u : ℕ) → u < 8192 → slice_index b.loads u ≤ 1000000000000
 loads_small b book u h = omega (arith, book.loads u h, book.fits.loads u h)
 
@@ -38,6 +43,19 @@ hub_small b book hub h = record {
 }
 
 -- ---- nothing is placed
+
+pub zero_count : (n : ℕ) (xs : List ℕ) → xs ≡ replicate n 0 → length xs ≡ n
+zero_count n xs e = ap length e ∙ length-replicate n 0
+
+pub zero_at : (n : ℕ) (xs : List ℕ) → xs ≡ replicate n 0 → (i : ℕ) → i < n → slice_index xs i ≡ 0
+zero_at n xs e i h = ap (λ (ys : List ℕ). slice_index ys i) e ∙ get_or-replicate n i 0 0 h
+
+pub zero_tables : (t : HubTables) → t.frames ≡ replicate 1024 0 → t.bytes ≡ replicate 8192 0 → AreZero t
+zero_tables t f b = record {
+  cells = record { frames = zero_count 1024 t.frames f; bytes = zero_count 8192 t.bytes b };
+  frames = zero_at 1024 t.frames f;
+  bytes = zero_at 8192 t.bytes b;
+}
 
 pub book_opening : (room : ℕ) (loads : List ℕ) (hubs : List HubTables) → length loads ≡ 8192 → ((u : ℕ) → u < 8192 → slice_index loads u ≡ 0) → length hubs ≡ 128 → ((hub : ℕ) → hub < 128 → AreZero (tables_of hubs hub)) → IsBook (record { room = room; placed = []; loads = loads; hubs = hubs })
 book_opening room loads hubs n zero count zeros = record {

@@ -211,16 +211,6 @@ peak_is s w p top sums covers least =
     (λ u h. bounded (is_own p u) _ _ (λ own. omega (arith, own_cell s w p sums u h own, covers u h own))) in
     omega (arith, above, under)
 
--- a cell within its budget is far within the range that is added without care
-pub loads_roomy : (s : Sheet) (hub : Option ℕ) → AreSums s hub → Fits s.placed → (u : ℕ) → u < 8192 → slice_index s.loads u ≤ 1000000000000
-loads_roomy s hub sums fit u h = omega (arith, sums.loads u h, fit.loads u h)
-
-pub frames_roomy : (s : Sheet) (o : Option ℕ) (hub : ℕ) → o ≡ Some hub → hub < 128 → AreSums s o → Fits s.placed → (f : ℕ) → f < 1024 → slice_index s.frames f ≤ 1000000000000
-frames_roomy s o hub e k sums fit f h = omega (arith, sums.frames hub f e k h, fit.frames hub f k h)
-
-pub bytes_roomy : (s : Sheet) (o : Option ℕ) (hub : ℕ) → o ≡ Some hub → hub < 128 → AreSums s o → Fits s.placed → (u : ℕ) → u < 8192 → slice_index s.bytes u ≤ 1000000000000
-bytes_roomy s o hub e k sums fit u h = omega (arith, sums.bytes hub u e k h, fit.bytes hub u k h)
-
 -- two tests of one fact agree
 pub same_test : (a b : Bool) (P : Type 0) → (a ≡ true → P) → (P → a ≡ true) → (P → b ≡ true) → ((P → ⊥) → b ≡ false) → a ≡ b
 same_test true b P gives back right wrong = sym (right (gives refl))

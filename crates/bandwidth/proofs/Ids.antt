@@ -1,6 +1,6 @@
 -- The ids of what is placed.
 use Rattle.std.proofs.Common.{◌≡◌, ◌≢◌, ℕ, ◌+◌, ◌<◌, ◌≤◌, Bool, true, false, cond, List, [], ◌∷◌, length, get_or, refl, ap, sym, ◌∙◌, arith, eq-eqb, inl, inr, ◌⊎◌}
-use Rattle.std.specs.Prelude.{zero, suc, not, nat_eq, nat_lt, filter, ◌||◌, Option, Some, None}
+use Rattle.std.specs.Prelude.{zero, suc, not, nat_eq, nat_lt, filter, ◌||◌, Some, None}
 use Rattle.std.specs.List.{list_any, position, position_or_len, remove}
 use Rattle.std.proofs.lemmas.Bool.{ltb-true, ltb-false}
 use borrow.Author.Tests.{eqb-true}

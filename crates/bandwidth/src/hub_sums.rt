@@ -1,4 +1,4 @@
-ghost use Rattle.std.specs.Prelude.{◌≡◌, ℕ, ◌+◌, ◌/◌, ◌%◌, ◌<◌, ◌≤◌, true, length, slice_index, replicate, if◌then◌else◌, IfOk};
+ghost use Rattle.std.specs.Prelude.{◌≡◌, ℕ, ◌+◌, ◌/◌, ◌%◌, ◌<◌, ◌≤◌, true, length, slice_index, if◌then◌else◌, IfOk};
 ghost use Rattle.bandwidth.specs.Placements.{IsWant, IsPlace};
 ghost use Rattle.bandwidth.specs.Sums.{is_active, is_hub, laid_in, time_of};
 
@@ -26,11 +26,11 @@ impl Model for HubSums {
 }
 
 impl HubSums {
-    ghost use Rattle.bandwidth.specs.Tables.{AreCells};
+    ghost use Rattle.bandwidth.specs.Tables.{AreCells, AreZero};
 
     /// Tables whose cells are all 0.
     pub(crate) fn zeros(alloc: Global) -> Result<HubSums, Memory>
-        ensures { IfOk result (λ h. h ≡ record { frames = replicate 1024 0; bytes = replicate 8192 0 }) }
+        ensures { IfOk result (λ h. AreZero h) }
     {
         let frames = Table::zeros(alloc, 1024)?;
         let bytes = Table::zeros(alloc, 8192)?;

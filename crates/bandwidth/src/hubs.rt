@@ -1,4 +1,4 @@
-ghost use Rattle.std.specs.Prelude.{◌≡◌, ℕ, ◌+◌, ◌/◌, ◌%◌, ◌<◌, ◌≤◌, true, Some, length, slice_index, IfOk, vec_len};
+ghost use Rattle.std.specs.Prelude.{◌≡◌, ℕ, ◌+◌, ◌/◌, ◌%◌, ◌<◌, ◌≤◌, true, Some, length, slice_index, IfOk};
 ghost use Rattle.bandwidth.specs.Placements.{IsWant, IsPlace};
 ghost use Rattle.bandwidth.specs.Sums.{is_active, laid_in, time_of};
 ghost use Rattle.bandwidth.specs.Tables.{AreCells, AreSmall, AreZero, Adds, tables_of, Holds};
@@ -15,7 +15,8 @@ pub(crate) fn no_sums(alloc: Global) -> Result<Vec<HubSums>, Memory>
 {
     let mut hubs = Vec::with_capacity(alloc, 128)?;
     for _k in 0..128 {
-        hubs.push_reserved(HubSums::zeros(alloc)?);
+        let sums = HubSums::zeros(alloc)?;
+        hubs.push_reserved(sums);
     }
     Ok(hubs)
 }

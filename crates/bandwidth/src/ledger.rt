@@ -1,4 +1,4 @@
-ghost use Rattle.std.specs.Prelude.{◌≡◌, ℕ, ◌+◌, ◌<◌, ◌≤◌, ◌↔◌, ◌++◌, ◌∷◌, [], length, not, nat_eq, false, filter, IfOk, IsTrue, vec_len, vec_capacity};
+ghost use Rattle.std.specs.Prelude.{◌≡◌, ℕ, ◌+◌, ◌<◌, ◌≤◌, ◌↔◌, ◌++◌, ◌∷◌, [], length, not, nat_eq, false, filter, Some, None, IfOk, IsTrue, vec_len, vec_capacity};
 ghost use Rattle.std.specs.List.{list_any, position};
 ghost use Rattle.bandwidth.specs.Placements.{IsWant, IsPlace};
 ghost use Rattle.bandwidth.specs.Sums.{Fits, load};
@@ -81,12 +81,12 @@ impl Ledger {
     }
 
     /// Whether each microframe of a placement's active frames keeps its budget.
-    #[tactic(auto, using(crate::proofs::Budgets::loads_roomy))]
+    #[tactic(auto, using(crate::proofs::Books::loads_small))]
     fn loads_keep(&self, want: &Want, placement: &Placement) -> bool
         requires want { IsWant want.now }
         requires place { IsPlace placement.now }
-        ensures fits { IsTrue result ↔ LoadsFit (sheet_at self.now want.now.hub) want.now placement.now }
-        ensures sheet { Fits self.now.placed }
+        ensures fits { IsTrue result ↔ LoadsFit (sheet_at self.now None) want.now placement.now }
+        ensures sheet { IsBook self.now }
     {
         microframes_fit(
             self.loads.as_slice(),
@@ -97,12 +97,11 @@ impl Ledger {
     }
 
     /// Whether each active frame of a placement keeps the budget below its hub.
-    #[tactic(auto, using(crate::proofs::Budgets::frames_roomy))]
     fn frames_keep(&self, want: &Want, placement: &Placement, hub: DevAddr) -> bool
         requires hub { want.now.hub ≡ Some hub }
         requires want { IsWant want.now }
         requires place { IsPlace placement.now }
-        ensures fits { IsTrue result ↔ FramesFit (sheet_at self.now want.now.hub) want.now placement.now }
+        ensures fits { IsTrue result ↔ FramesFit (sheet_at self.now (Some hub)) want.now placement.now }
         ensures hub { hub < 128 }
     {
         let table = self.below(hub).frames.as_slice();
@@ -110,12 +109,11 @@ impl Ledger {
     }
 
     /// Whether each microframe of a placement's active frames keeps the byte-times of its hub's translator.
-    #[tactic(auto, using(crate::proofs::Budgets::bytes_roomy))]
     fn bytes_keep(&self, want: &Want, placement: &Placement, hub: DevAddr) -> bool
         requires hub { want.now.hub ≡ Some hub }
         requires want { IsWant want.now }
         requires place { IsPlace placement.now }
-        ensures fits { IsTrue result ↔ BytesFit (sheet_at self.now want.now.hub) want.now placement.now }
+        ensures fits { IsTrue result ↔ BytesFit (sheet_at self.now (Some hub)) want.now placement.now }
         ensures hub { hub < 128 }
     {
         let table = self.below(hub).bytes.as_slice();
@@ -146,7 +144,7 @@ impl Ledger {
     }
 
     /// The greatest microframe sum over a placement's own microframes, with it included, where the tables are the sums.
-    #[tactic(auto, using(crate::proofs::Budgets::peak_is))]
+    #[tactic(auto, using(crate::proofs::Books::loads_small))]
     pub(crate) fn peak(&self, want: &Want, placement: &Placement) -> u64
         requires want { IsWant want.now }
         requires place { IsPlace placement.now }

@@ -1,9 +1,10 @@
-use Rattle.std.proofs.Common.{rules}
-use Rattle.bandwidth.proofs.Budgets.{frames_roomy}
+use Rattle.bandwidth.proofs.Books.{hub_small}
 use Rattle.bandwidth.proofs.ledger.Ledger.frames_keep.Goals as goal
+
+pub frames_fit-requires-clause-cells : goal.frames_fit-requires-clause-cells
+frames_fit-requires-clause-cells c =
+    rw (c.as_slice-table.ensures, c.below-table.ensures.same) (c.below-table.ensures.sheet.hubs c.args.hub c.below-table.ensures.hub).cells.frames
 
 pub frames_fit-requires-clause-room : goal.frames_fit-requires-clause-room
 frames_fit-requires-clause-room c =
-    let sums = rw (← c.self.view_is) at c.requires.sums in
-    rw c.deref.ensures.value
-    (λ f h. frames_roomy _ c.args.want.now.hub c.args.hub c.requires.hub (search rules) sums c.self.invariant.0.fits f h)
+    rw (c.as_slice-table.ensures, c.below-table.ensures.same) (hub_small c.args.self.now c.below-table.ensures.sheet c.args.hub c.below-table.ensures.hub).frames
