@@ -1,0 +1,2 @@
+pub mod TwoBlocks
+pub mod WriteBack
