@@ -1,4 +1,4 @@
-ghost use Rattle.std.specs.Prelude.{◌≡◌};
+ghost use Rattle.std.specs.Prelude.{◌≡◌, ◌%◌};
 
 use arrayvec::ArrayVec;
 use iso_visits::{HeldItd, HeldSitd};
