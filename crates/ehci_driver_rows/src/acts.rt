@@ -1,0 +1,254 @@
+use crate::cases::{Act, Case};
+use crate::events::{blocks, differences, events};
+use crate::host::Host;
+use crate::image::words_from;
+use crate::pipes::{Pipe, desc_of, name_of};
+use crate::reports::{cause, name, refusal, since};
+use crate::shot::Shot;
+use ehci_driver::Reserve;
+use std::alloc::{AllocError, Global};
+use usb_base::{Cmd, EpName, ListOf, OfferError};
+
+/// The room that the rows make.
+const ROOM: Reserve = Reserve {
+    endpoints: 4,
+    transfers: 8,
+    reports: 16,
+    report_bytes: 65_536,
+};
+
+/// The bytes of a put: k at byte 4,096 (k - 1), 255 at the last, and else 0.
+fn sent(alloc: Global, len: u32) -> Result<ListOf<u8>, AllocError> {
+    let mut bytes = Vec::with_capacity(alloc, len as usize)?;
+    for place in 0..len {
+        let page = place / 4096;
+        let byte = if place + 1 == len {
+            255
+        } else if place % 4096 == 0 && page < 255 {
+            page as u8 + 1
+        } else {
+            0
+        };
+        bytes.push(byte)?;
+    }
+    Ok(ListOf::of(bytes))
+}
+
+/// Offers a command, and tells the answer and what differs: of a refusal, whether anything does.
+fn offer(alloc: Global, host: &mut Host, cmd: &Cmd) -> Result<String, AllocError> {
+    let before = Shot::of(alloc, host)?;
+    let room = host.driver().room();
+    let answer = host.offer(cmd);
+    let now = Shot::of(alloc, host)?;
+    match answer {
+        None => format!(in alloc; "not offered"),
+        Some(Ok(())) => format!(in alloc; "accepted{}", blocks(alloc, now.blocks())?.as_str()),
+        Some(Err(why)) => {
+            let text = refusal(alloc, why)?;
+            let same = before.is_same(&now) && room == host.driver().room();
+            format!(in alloc;
+                "refused {}, {}",
+                text.as_str(),
+                if same {
+                    "nothing differs"
+                } else {
+                    "something differs"
+                }
+            )
+        }
+    }
+}
+
+/// A command that is offered, with its name and that of the endpoint.
+fn offered(
+    alloc: Global,
+    host: &mut Host,
+    verb: &str,
+    pipe: Pipe,
+    cmd: &Cmd,
+) -> Result<String, AllocError> {
+    let Some(named) = name_of(pipe) else {
+        return format!(in alloc; "no such endpoint");
+    };
+    let to = name(alloc, &named)?;
+    let answer = offer(alloc, host, cmd)?;
+    format!(in alloc; "{verb} {}: {}", to.as_str(), answer.as_str())
+}
+
+/// The controller writes a word, or the same word at several places: how often it may.
+fn write(
+    alloc: Global,
+    host: &mut Host,
+    at: u32,
+    every: u32,
+    count: u32,
+    word: u32,
+) -> Result<String, AllocError> {
+    let mut made = 0u32;
+    for place in 0..count {
+        if host.write(at.saturating_add(place.saturating_mul(every)), word) {
+            made = made.saturating_add(1);
+        }
+    }
+    format!(in alloc; "controller {at:x}={word:x}, {made} written")
+}
+
+/// The controller answers the doorbell.
+fn answer(alloc: Global, host: &mut Host) -> Result<String, AllocError> {
+    let before = Shot::of(alloc, host)?;
+    host.answer();
+    let now = Shot::of(alloc, host)?;
+    format!(in alloc; "controller{}", differences(alloc, &before, &now)?.as_str())
+}
+
+/// All registers, by their offsets.
+fn registers(alloc: Global, host: &Host) -> Result<String, AllocError> {
+    let mut text = format!(in alloc; "registers")?;
+    for offset in [0x00, 0x04, 0x08, 0x0c, 0x10, 0x14, 0x18, 0x40, 0x44] {
+        let word = host.regs().driver_read(offset).unwrap_or(0);
+        let one = format!(in alloc; " {offset:x}={word:x}")?;
+        text.push_str(one.as_str())?;
+    }
+    Ok(text)
+}
+
+/// What of the room isn't used.
+fn room(alloc: Global, host: &Host) -> Result<String, AllocError> {
+    let room = host.driver().room();
+    format!(in alloc;
+        "room {} {} {} {}",
+        room.endpoints, room.transfers, room.reports, room.report_bytes
+    )
+}
+
+/// What the driver tells of an endpoint.
+fn told(alloc: Global, host: &Host, named: &EpName) -> Result<String, AllocError> {
+    let ended = match host.driver().ended(named) {
+        Some(first) => cause(first),
+        None => "none",
+    };
+    let text = name(alloc, named)?;
+    format!(in alloc;
+        "{} opened {} pending {} ended {ended}",
+        text.as_str(),
+        host.driver().opened(named),
+        host.driver().pending(named)
+    )
+}
+
+/// A line that tells a refusal.
+fn refuse(
+    alloc: Global,
+    host: &mut Host,
+    named: EpName,
+    why: OfferError,
+) -> Result<String, AllocError> {
+    let lines = host.driver().reports().len();
+    host.refuse(named, why);
+    format!(in alloc; "report{}", since(alloc, host, lines)?.as_str())
+}
+
+/// An act that offers a command of this endpoint.
+fn command(alloc: Global, host: &mut Host, act: &Act, named: EpName) -> Result<String, AllocError> {
+    match *act {
+        Act::Get(pipe, len, by) => offered(
+            alloc,
+            host,
+            "get",
+            pipe,
+            &Cmd::Get {
+                name: named,
+                len,
+                by,
+            },
+        ),
+        Act::Put(pipe, len, by) => {
+            let bytes = sent(alloc, len)?;
+            offered(
+                alloc,
+                host,
+                "put",
+                pipe,
+                &Cmd::Put {
+                    name: named,
+                    bytes,
+                    by,
+                },
+            )
+        }
+        Act::Request(pipe, setup, len) => {
+            let bytes = sent(alloc, len)?;
+            offered(
+                alloc,
+                host,
+                "control",
+                pipe,
+                &Cmd::Control {
+                    name: named,
+                    setup,
+                    bytes,
+                },
+            )
+        }
+        Act::Cancel(pipe) => offered(alloc, host, "cancel", pipe, &Cmd::Cancel(named)),
+        Act::Refuse(_, why) => refuse(alloc, host, named, why),
+        _ => told(alloc, host, &named),
+    }
+}
+
+/// What an act gives.
+fn act(alloc: Global, host: &mut Host, act: &Act) -> Result<String, AllocError> {
+    match *act {
+        Act::Open(pipe) => match desc_of(pipe) {
+            Some(desc) => offered(alloc, host, "open", pipe, &Cmd::OpenEp(desc)),
+            None => format!(in alloc; "no such endpoint"),
+        },
+        Act::Get(pipe, _, _)
+        | Act::Put(pipe, _, _)
+        | Act::Request(pipe, _, _)
+        | Act::Cancel(pipe)
+        | Act::Refuse(pipe, _)
+        | Act::Tell(pipe) => match name_of(pipe) {
+            Some(named) => command(alloc, host, act, named),
+            None => format!(in alloc; "no such endpoint"),
+        },
+        Act::Events(count) => events(alloc, host, count),
+        Act::Write(at, word) => write(alloc, host, at, 0, 1, word),
+        Act::Writes {
+            at,
+            every,
+            count,
+            word,
+        } => write(alloc, host, at, every, count, word),
+        Act::Answer => answer(alloc, host),
+        Act::Image(at) => {
+            let shot = Shot::of(alloc, host)?;
+            format!(in alloc; "image{}", words_from(alloc, &shot, at)?.as_str())
+        }
+        Act::Registers => registers(alloc, host),
+        Act::Room => room(alloc, host),
+    }
+}
+
+/// What a row gives: its name with the blocks at the opening, and then a line an act.
+pub(crate) fn describe(alloc: Global, case: &Case) -> Result<String, AllocError> {
+    let words = if case.words < 2048 || case.words > 262_144 || case.words % 1024 != 0 {
+        2048
+    } else {
+        case.words
+    };
+    let Ok(mut host) = Host::build(alloc, words, &ROOM) else {
+        return format!(in alloc; "no memory");
+    };
+    let opening = Shot::of(alloc, &host)?;
+    let mut text = format!(in alloc;
+        "{}:{}",
+        case.name,
+        blocks(alloc, opening.blocks())?.as_str()
+    )?;
+    for one in case.acts {
+        text.push_str("\n  ")?;
+        text.push_str(act(alloc, &mut host, one)?.as_str())?;
+    }
+    Ok(text)
+}

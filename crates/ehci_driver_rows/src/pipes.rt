@@ -1,0 +1,59 @@
+use usb_base::{DevAddr, EpDesc, EpKind, EpName, EpNum, Speed, Way};
+
+/// The endpoints of the rows.
+#[derive(Clone, Copy)]
+pub(crate) enum Pipe {
+    /// 3.1.in, bulk, high speed.
+    In,
+    /// 3.2.out, bulk, high speed.
+    Out,
+    /// 3.4.out, bulk, high speed.
+    Other,
+    /// 4.0.ctl, control, high speed.
+    Control,
+    /// 5.1.in, bulk, full speed, behind port 2 of hub 9.
+    Classic,
+    /// 5.0.ctl, control, full speed, behind port 2 of hub 9.
+    ClassicControl,
+}
+
+/// The name of an endpoint.
+pub(crate) fn name_of(pipe: Pipe) -> Option<EpName> {
+    let (addr, num, way) = match pipe {
+        Pipe::In => (3, 1, Way::In),
+        Pipe::Out => (3, 2, Way::Out),
+        Pipe::Other => (3, 4, Way::Out),
+        Pipe::Control => (4, 0, Way::Ctl),
+        Pipe::Classic => (5, 1, Way::In),
+        Pipe::ClassicControl => (5, 0, Way::Ctl),
+    };
+    Some(EpName {
+        addr: DevAddr::new(addr)?,
+        num: EpNum::new(num)?,
+        way,
+    })
+}
+
+/// What the host knows of an endpoint.
+pub(crate) fn desc_of(pipe: Pipe) -> Option<EpDesc> {
+    let (kind, speed, max) = match pipe {
+        Pipe::In | Pipe::Out | Pipe::Other => (EpKind::Bulk, Speed::High, 512),
+        Pipe::Control => (EpKind::Control, Speed::High, 64),
+        Pipe::Classic => (EpKind::Bulk, Speed::Full, 64),
+        Pipe::ClassicControl => (EpKind::Control, Speed::Full, 64),
+    };
+    let (hub, port) = match speed {
+        Speed::High => (None, 0),
+        Speed::Full | Speed::Low => (DevAddr::new(9), 2),
+    };
+    Some(EpDesc {
+        name: name_of(pipe)?,
+        speed,
+        kind,
+        max,
+        period: 0,
+        multi: 1,
+        hub,
+        port,
+    })
+}
