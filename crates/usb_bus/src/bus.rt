@@ -201,10 +201,10 @@ impl Wire for UsbBus {
         !holds_back(self.holds.as_slice(), self.microframe)
     }
 
-    fn transact(&mut self, ask: &Ask, out: &[u8]) -> Reply {
-        match self.asked(ask) {
+    fn transact(&mut self, ask: &Ask, out: &[u8], reply: &mut Reply) {
+        *reply = match self.asked(ask) {
             Some(asked) => self.transact_at(&asked, ask, out),
             None => Reply::Silent,
-        }
+        };
     }
 }
