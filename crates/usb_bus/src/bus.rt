@@ -50,7 +50,7 @@ impl UsbBus {
         requires { IsTrue (list_all is_scripted script.now.devices) }
         ensures { IfOk result (λ b. b ≡ opening_wired script.now) }
     {
-        let seats = seats_of(alloc, script.devices.as_slice())?;
+        let seats = seats_of(alloc, script)?;
         let fates = Vec::from_slice(alloc, script.fates.as_slice())?;
         let holds = Vec::from_slice(alloc, script.holds.as_slice())?;
         let unheard = numbers_of(alloc, fates.as_slice(), seats.as_slice())?;
@@ -68,7 +68,7 @@ impl UsbBus {
         })
     }
 
-    /// The endpoints, in the order of the devices and of the lines of each.
+    /// The endpoints, in the order of their lines.
     pub fn seats(&self) -> &[Seat]
         ensures { result.now ≡ self.now.fixed.seats }
     {
