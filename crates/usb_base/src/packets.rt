@@ -1,4 +1,5 @@
 ghost use Rattle.std.specs.Prelude.{◌≡◌, ◌≤◌, length};
+
 use crate::items::Packet;
 use crate::numbers::{DevAddr, EpNum};
 
