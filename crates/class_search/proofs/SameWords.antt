@@ -16,7 +16,7 @@ unfolding word_after
 last_word s q [] others = refl
 last_word s q (r ∷ qs) others = last_word s r qs others
 
-last_same : (s : Schedule) (qs : List QueueHead) (others : List Found) (words : List Predecessor) → map (word_of s) others ≡ words → map (word_of s) (last_found (last_or None qs) others) ≡ last_of (map Each qs) words
+pub last_same : (s : Schedule) (qs : List QueueHead) (others : List Found) (words : List Predecessor) → map (word_of s) others ≡ words → map (word_of s) (last_found (last_or None qs) others) ≡ last_of (map Each qs) words
 last_same s [] others words e = e
 last_same s (q ∷ qs) others words e = last_word s q qs others
 

@@ -3,7 +3,9 @@ ghost use Rattle.std.specs.List.{last_or};
 ghost use Rattle.frame_chains.specs.Chains.{Schedule};
 ghost use Rattle.frame_chains.specs.Classes.{members};
 ghost use Rattle.class_search.specs.Search.{found_at, found_below, pending, words_left, IsSearch};
+ghost use Rattle.class_search.specs.Reads.{after_read};
 
+use crate::reads::Reads;
 use frame_chains::QueueHead;
 
 /// What holds the classes of queue heads.
@@ -11,11 +13,12 @@ pub trait Classes {
     // The members of the frame list.
     ghost schedule: { Self → Schedule };
 
-    /// The last member of the class of this level and phase.
-    fn last(&self, level: u8, phase: u16) -> Option<QueueHead>
+    /// The last member of the class of this level and phase: one class is read.
+    fn last(&self, level: u8, phase: u16, reads: &mut Reads) -> Option<QueueHead>
         requires level { level ≤ 10 }
         requires phase { phase < 2 ^ level }
-        ensures { result ≡ last_or None (members (schedule self.now) level phase) };
+        ensures last { result ≡ last_or None (members (schedule self.now) level phase) }
+        ensures reads { reads.new ≡ after_read reads.old };
 }
 
 /// What stands right before a class in some of its frames.
@@ -64,14 +67,15 @@ fn frames_of(level: u8) -> u16
 
 /// From a class down to the first that has a member, or to the frame.
 #[tactic(auto, using(crate::proofs::Steps::deeper))]
-fn first_found<C: Classes>(classes: &C, level: u8, phase: u16) -> Met
+fn first_found<C: Classes>(classes: &C, level: u8, phase: u16, reads: &mut Reads) -> Met
     requires level { level ≤ 10 }
     requires phase { phase < 2 ^ level }
     ensures not_above { level ≤ result.level }
     ensures most { result.level ≤ 10 }
+    ensures reads { reads.new + level ≤ reads.old + 11 }
     ensures found { (depth : ℕ) → found_at (C.schedule classes.now) (10 - level) level phase ++ pending (C.schedule classes.now) depth (10 - level) level phase ≡ result.found ∷ pending (C.schedule classes.now) (depth + (result.level - level)) (10 - result.level) result.level phase }
 {
-    if let Some(queue) = classes.last(level, phase) {
+    if let Some(queue) = classes.last(level, phase, reads) {
         return Met {
             found: Found::Last(queue),
             level,
@@ -83,7 +87,7 @@ fn first_found<C: Classes>(classes: &C, level: u8, phase: u16) -> Met
             level,
         };
     }
-    first_found(classes, level + 1, phase)
+    first_found(classes, level + 1, phase, reads)
 }
 
 /// From what was found up to the next class that wasn't looked at.
@@ -139,12 +143,13 @@ impl Search {
         }
     }
 
-    /// The next that stands right before the class; `None` exactly where all is found.
-    pub fn next<C: Classes>(&mut self, classes: &C) -> Option<Found>
+    /// The next that stands right before the class; `None` exactly where all is found. It reads at most eleven classes.
+    pub fn next<C: Classes>(&mut self, classes: &C, reads: &mut Reads) -> Option<Found>
         requires { IsSearch self.old }
         ensures left { words_left (C.schedule classes.now) self.old ≡ option_to_list result ++ words_left (C.schedule classes.now) self.new }
         ensures end { result ≡ None → words_left (C.schedule classes.now) self.old ≡ [] }
         ensures valid { IsSearch self.new }
+        ensures reads { reads.new ≤ reads.old + 11 }
     {
         match self.stage {
             Stage::Ended => None,
@@ -154,7 +159,7 @@ impl Search {
                 Some(Found::Frame(frame))
             }
             Stage::AtClass => {
-                let met = first_found(classes, self.level, self.phase);
+                let met = first_found(classes, self.level, self.phase, reads);
                 *self = next_place(self.floor, met.level, self.phase);
                 Some(met.found)
             }
