@@ -1,12 +1,14 @@
 -- One step of the search, down and up.
-use Rattle.std.proofs.Common.{◌≡◌, ℕ, suc, ◌+◌, ◌-◌, ◌^◌, ◌<◌, ◌≤◌, [], ◌∷◌, ◌++◌, Some, None, if◌then◌else◌, ap, sym, ◌∙◌, subst, arith}
+use Rattle.std.proofs.Common.{◌≡◌, ℕ, zero, suc, length, List, ◌+◌, ◌-◌, ◌^◌, ◌<◌, ◌≤◌, [], ◌∷◌, ◌++◌, Some, None, if◌then◌else◌, ap, sym, ◌∙◌, subst, arith}
+use Rattle.std.specs.Prelude.{Option}
 use Rattle.std.specs.List.{last_or}
 use Rattle.std.proofs.lemmas.Bool.{lt-ltb, le-ltb}
-use Rattle.std.proofs.lemmas.List.{append_assoc, append-nil}
+use Rattle.std.proofs.lemmas.List.{append_assoc, append-nil, length-append}
 use Rattle.std.proofs.Math.Nat.{pow-le-pow_right}
 use Rattle.frame_chains.specs.declared.members.QueueHead.{QueueHead}
 use Rattle.frame_chains.specs.Chains.{Schedule}
 use Rattle.frame_chains.specs.Classes.{members}
+use Rattle.class_search.specs.declared.search.Found.{Found}
 use Rattle.class_search.specs.declared.search.Found.TheVariants.{Last, Frame}
 use Rattle.class_search.specs.Search.{last_found, found_at, found_below, pending}
 
@@ -119,3 +121,16 @@ start_frame s level phase l =
 -- a phase of a class is one of each class of a longer period
 pub deeper : (phase low high : ℕ) → low ≤ high → phase < 2 ^ low → phase < 2 ^ high
 deeper phase low high h l = let two : 0 < 2 = omega arith in let p : 2 ^ low ≤ 2 ^ high = pow-le-pow_right two h in omega (arith, l, p)
+
+-- something is found below each class
+or_more : (o : Option QueueHead) (others : List Found) → 1 ≤ length others → 1 ≤ length (last_found o others)
+or_more None others h = h
+or_more (Some q) others h = omega arith
+
+pub some_below : (s : Schedule) (left level phase : ℕ) → 1 ≤ length (found_below s left level phase)
+unfolding found_below
+some_below s zero level phase = omega arith
+some_below s (suc left) level phase =
+    let a = or_more (last_or None (members s (suc level) phase)) (found_below s left (suc level) phase) (some_below s left (suc level) phase) in
+    let e = length-append (found_at s left (suc level) phase) (found_at s left (suc level) (phase + 2 ^ level)) in
+    omega (arith, a, e)

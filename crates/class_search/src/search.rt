@@ -1,4 +1,4 @@
-ghost use Rattle.std.specs.Prelude.{◌≡◌, ℕ, ◌+◌, ◌-◌, ◌^◌, ◌<◌, ◌≤◌, nat_le, nat_lt, ◌++◌, ◌∷◌, [], Option, None, option_to_list, if◌then◌else◌};
+ghost use Rattle.std.specs.Prelude.{◌≡◌, ℕ, ◌+◌, ◌-◌, ◌^◌, ◌<◌, ◌≤◌, nat_le, nat_lt, length, ◌++◌, ◌∷◌, [], Option, None, option_to_list, if◌then◌else◌};
 ghost use Rattle.std.specs.List.{last_or};
 ghost use Rattle.frame_chains.specs.Chains.{Schedule};
 ghost use Rattle.frame_chains.specs.Classes.{members};
@@ -120,11 +120,25 @@ fn next_place(floor: u8, level: u8, phase: u16) -> Search
 }
 
 impl Search {
+    /// A search that has nothing to find.
+    pub fn nothing() -> Search
+        ensures left { (s : Schedule) → words_left s result ≡ [] }
+        ensures valid { IsSearch result }
+    {
+        Search {
+            floor: 0,
+            level: 0,
+            phase: 0,
+            stage: Stage::Ended,
+        }
+    }
+
     /// A search below the class of this level and phase.
     pub fn below(level: u8, phase: u16) -> Search
         requires level { level ≤ 10 }
         requires phase { phase < 2 ^ level }
         ensures left { (s : Schedule) → words_left s result ≡ found_below s (10 - level) level phase }
+        ensures some { (s : Schedule) → 1 ≤ length (words_left s result) }
         ensures valid { IsSearch result }
     {
         if level >= 10 {

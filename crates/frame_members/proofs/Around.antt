@@ -100,6 +100,11 @@ once_chain s d at =
 once_ahead : (d : Descriptor) (ds : List Descriptor) → AllByRecursion (λ x. is_called d.id x ≡ false) ds → AllByRecursion (λ m. is_the (Once d) m ≡ false) (map Once (filter (is_in d.frame) ds))
 once_ahead d ds h = each_map (λ m. is_the (Once d) m ≡ false) Once (filter (is_in d.frame) ds) (all_kept (λ x. is_called d.id x ≡ false) (is_in d.frame) ds h)
 
+pub descriptor_word : (s : Schedule) (d : Descriptor) → (at : IsAt (is_called d.id) d s.descriptors) → predecessor s (Once d) d.frame ≡ word_after (Element d.frame) (map Once (filter (λ x. nat_eq x.frame d.frame) at.front))
+descriptor_word s d at =
+    ap (λ ms. word_after (Element d.frame) (before_the (Once d) ms)) (once_chain s d at)
+    ∙ ap (λ ms. word_after (Element d.frame) ms) (before_it (Once d) (map Once (filter (is_in d.frame) at.front)) (map Once (filter (is_in d.frame) at.back) ++ queue_part s d.frame) (once_ahead d at.front at.before))
+
 pub ahead_descriptor : (s : Schedule) (d : Descriptor) → IsKept s → (at : IsAt (is_called d.id) d s.descriptors)
     → predecessor s (Once d) d.frame ≡ word_in_frame d.frame (last_or None (filter (λ x. leb d.frame (frame_in x)) (before_first (is_called d.id) s.descriptors)))
 ahead_descriptor s d k at =
@@ -107,9 +112,7 @@ ahead_descriptor s d k at =
     let ahead : filter (is_in d.frame) at.front ≡ filter (λ x. leb d.frame (frame_in x)) at.front =
     same_pass (is_in d.frame) (λ x. leb d.frame (frame_in x)) at.front (weaken (λ x. frame_in x ≤ d.frame) (λ x. is_in d.frame x ≡ leb d.frame (frame_in x)) (λ x m. same_frame d.frame x m) at.front lower) in
     let front : at.front ≡ before_first (is_called d.id) s.descriptors = sym (ap (λ ds. before_first (is_called d.id) ds) at.is ∙ front_is (is_called d.id) d at.front at.back at.before (eq-eqb d.id d.id refl)) in
-    ap (λ ms. word_after (Element d.frame) (before_the (Once d) ms)) (once_chain s d at)
-    ∙ ap (λ ms. word_after (Element d.frame) ms) (before_it (Once d) (map Once (filter (is_in d.frame) at.front)) (map Once (filter (is_in d.frame) at.back) ++ queue_part s d.frame) (once_ahead d at.front at.before))
-    ∙ last_once d.frame (filter (is_in d.frame) at.front) ∙ ap (λ ds. word_in_frame d.frame (last_or None ds)) (ahead ∙ ap (λ ds. filter (λ x. leb d.frame (frame_in x)) ds) front)
+    descriptor_word s d at ∙ last_once d.frame (filter (is_in d.frame) at.front) ∙ ap (λ ds. word_in_frame d.frame (last_or None ds)) (ahead ∙ ap (λ ds. filter (λ x. leb d.frame (frame_in x)) ds) front)
 
 -- behind a queue head
 found_or_not : (p : QueueHead → Bool) (q : QueueHead) (qs : List QueueHead) (b : Bool) → first_of (map Each (filter p qs)) ≡ option_map Each (find p qs)

@@ -8,13 +8,13 @@ use crate::places::put_at;
 use frame_chains::Descriptor;
 
 /// How many of these descriptors, which stand by frame, have a lower frame than this.
-pub(crate) fn below(descriptors: &[Descriptor], frame: u16) -> usize
+pub(crate) fn below(descriptors: &[Descriptor], frame: u32) -> usize
     requires { IsRising frame_in descriptors.now }
     ensures front { take result descriptors.now ≡ filter (is_below frame) descriptors.now }
     ensures back { drop result descriptors.now ≡ filter (λ d. not (is_below frame d)) descriptors.now }
     ensures within { result ≤ length descriptors.now }
 {
-    descriptors.partition_point(|d| d.frame < frame)
+    descriptors.partition_point(|d| (d.frame as u32) < frame)
 }
 
 /// The last of the first `count` of these, where its frame isn't below `low`.
@@ -35,11 +35,10 @@ fn last_of(descriptors: &[Descriptor], count: usize, low: u16) -> Option<Descrip
 
 /// The last of these descriptors, which stand by frame, that has this one.
 pub(crate) fn last_in(descriptors: &[Descriptor], frame: u16) -> Option<Descriptor>
-    requires framed { IsRising frame_in descriptors.now }
-    requires frame { frame < 1024 }
+    requires { IsRising frame_in descriptors.now }
     ensures { result ≡ last_or None (filter (λ (d : One). nat_eq d.frame frame) descriptors.now) }
 {
-    last_of(descriptors, below(descriptors, frame + 1), frame)
+    last_of(descriptors, below(descriptors, frame as u32 + 1), frame)
 }
 
 /// The place of the first of these with this name, or else how many they are.
@@ -89,7 +88,7 @@ pub(crate) fn put_descriptor(descriptors: &mut Vec<Descriptor>, descriptor: Desc
     ensures len { vec_len descriptors.new ≡ vec_len descriptors.old + 1 }
     ensures capacity { vec_capacity descriptors.old ≤ vec_capacity descriptors.new }
 {
-    let place = below(descriptors, descriptor.frame);
+    let place = below(descriptors, descriptor.frame as u32);
     put_at(descriptors, place, descriptor);
 }
 

@@ -119,7 +119,6 @@ impl FrameMembers {
 
     /// The word behind all descriptors of a frame.
     pub fn word_in(&self, frame: u16) -> Predecessor
-        requires frame { frame < 1024 }
         ensures { result ≡ word_after (InList frame) (map Once (descriptors_in self.now.schedule frame)) }
     {
         word_of(descriptors::last_in(&self.descriptors, frame), frame)
@@ -151,7 +150,7 @@ impl FrameMembers {
     {
         match *member {
             Member::Once(descriptor) => {
-                let place = descriptors::below(&self.descriptors, descriptor.frame);
+                let place = descriptors::below(&self.descriptors, descriptor.frame as u32);
                 self.in_frame_from(place, descriptor.frame)
             }
             Member::Each(queue) => {
