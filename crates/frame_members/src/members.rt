@@ -103,7 +103,8 @@ impl FrameMembers {
         requires class { list_any (λ p. nat_eq queue.now.period p) (periods_of level) ≡ true }
         requires queue { is_queue queue.now ≡ true }
         requires linked { is_linked self.now.schedule (Each queue.now) ≡ true }
-        ensures { (others : List Word) → last_of (before_the (Each queue.now) (map Each (members self.now.schedule level queue.now.phase))) others ≡ words_ahead result others }
+        ensures ahead { (others : List Word) → last_of (before_the (Each queue.now) (map Each (members self.now.schedule level queue.now.phase))) others ≡ words_ahead result others }
+        ensures kept { IsKept self.now.schedule }
     {
         queues::last_ahead(&self.queues, queue.id, lowest_of(level, queue.phase))
     }
@@ -111,7 +112,8 @@ impl FrameMembers {
     /// The word whose link leads to this descriptor in its frame.
     pub fn word_ahead(&self, descriptor: &Descriptor) -> Predecessor
         requires linked { is_linked self.now.schedule (Once descriptor.now) ≡ true }
-        ensures { result ≡ predecessor self.now.schedule (Once descriptor.now) descriptor.now.frame }
+        ensures word { result ≡ predecessor self.now.schedule (Once descriptor.now) descriptor.now.frame }
+        ensures kept { IsKept self.now.schedule }
     {
         let ahead = descriptors::last_ahead(&self.descriptors, descriptor.id, descriptor.frame);
         word_of(ahead, descriptor.frame)
@@ -128,7 +130,8 @@ impl FrameMembers {
     pub fn behind(&self, member: &Member) -> Option<Member>
         requires member { IsMember member.now }
         requires linked { is_linked self.now.schedule member.now ≡ true }
-        ensures { result ≡ successor self.now.schedule member.now (frame_of member.now) }
+        ensures behind { result ≡ successor self.now.schedule member.now (frame_of member.now) }
+        ensures kept { IsKept self.now.schedule }
     {
         match *member {
             Member::Once(descriptor) => {
@@ -146,7 +149,8 @@ impl FrameMembers {
     pub fn behind_new(&self, member: &Member) -> Option<Member>
         requires member { IsMember member.now }
         requires new { has_name self.now.schedule (id_of member.now) ≡ false }
-        ensures { result ≡ successor (with_member self.now.schedule member.now) member.now (frame_of member.now) }
+        ensures behind { result ≡ successor (with_member self.now.schedule member.now) member.now (frame_of member.now) }
+        ensures kept { IsKept self.now.schedule }
     {
         match *member {
             Member::Once(descriptor) => {

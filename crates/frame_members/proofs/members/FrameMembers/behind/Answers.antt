@@ -11,8 +11,8 @@ use Rattle.frame_members.proofs.Keeping.{queue_at, descriptor_at}
 use Rattle.frame_members.proofs.Around.{behind_queue, behind_descriptor}
 use Rattle.frame_members.proofs.members.FrameMembers.behind.Goals as goal
 
-pub returns-in-Once : goal.returns-in-Once
-returns-in-Once c =
+pub returns-in-Once-clause-behind : goal.returns-in-Once-clause-behind
+returns-in-Once-clause-behind c =
     let s = c.args.self.now.schedule in
     let d = c.in-Once.descriptor in
     let kept : IsKept s = subst (λ m. IsKept m.schedule) c.self.view_is c.self.invariant.0 in
@@ -23,8 +23,8 @@ returns-in-Once c =
     c.in_frame_from.ensures ∙ ap (λ xs. first_of_both (find (λ x. nat_eq (frame_in x) d.frame) (take 1 xs)) (find (is_active d.frame) s.queues)) back
     ∙ sym (behind_descriptor s d kept at) ∙ ap (λ m. successor s m (frame_of m)) (sym c.in-Once.is)
 
-pub returns-in-Each : goal.returns-in-Each
-returns-in-Each c =
+pub returns-in-Each-clause-behind : goal.returns-in-Each-clause-behind
+returns-in-Each-clause-behind c =
     let s = c.args.self.now.schedule in
     let q = c.in-Each.queue in
     let kept : IsKept s = subst (λ m. IsKept m.schedule) c.self.view_is c.self.invariant.0 in

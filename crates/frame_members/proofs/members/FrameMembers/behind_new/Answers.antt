@@ -8,8 +8,8 @@ use Rattle.frame_members.specs.Members.{IsKept, IsMember, is_up_to, is_below, wi
 use Rattle.frame_members.proofs.Around.{behind_new_queue, behind_new_descriptor}
 use Rattle.frame_members.proofs.members.FrameMembers.behind_new.Goals as goal
 
-pub returns-in-Once : goal.returns-in-Once
-returns-in-Once c =
+pub returns-in-Once-clause-behind : goal.returns-in-Once-clause-behind
+returns-in-Once-clause-behind c =
     let s = c.args.self.now.schedule in
     let d = c.in-Once.descriptor in
     let kept : IsKept s = subst (λ m. IsKept m.schedule) c.self.view_is c.self.invariant.0 in
@@ -21,8 +21,8 @@ returns-in-Once c =
     ∙ sym (behind_new_descriptor s d kept low new)
     ∙ ap (λ m. successor (with_member s m) m (frame_of m)) (sym c.in-Once.is)
 
-pub returns-in-Each : goal.returns-in-Each
-returns-in-Each c =
+pub returns-in-Each-clause-behind : goal.returns-in-Each-clause-behind
+returns-in-Each-clause-behind c =
     let s = c.args.self.now.schedule in
     let q = c.in-Each.queue in
     let kept : IsKept s = subst (λ m. IsKept m.schedule) c.self.view_is c.self.invariant.0 in

@@ -7,8 +7,8 @@ use Rattle.frame_members.proofs.Keeping.{descriptor_at}
 use Rattle.frame_members.proofs.Around.{ahead_descriptor}
 use Rattle.frame_members.proofs.members.FrameMembers.word_ahead.Goals as goal
 
-pub returns : goal.returns
-returns c =
+pub returns-clause-word : goal.returns-clause-word
+returns-clause-word c =
     let s = c.args.self.now.schedule in
     let d = c.args.descriptor.now in
     let kept : IsKept s = subst (λ m. IsKept m.schedule) c.self.view_is c.self.invariant.0 in
