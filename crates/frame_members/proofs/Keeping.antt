@@ -11,7 +11,7 @@ use Rattle.frame_chains.specs.declared.members.Member.{Member}
 use Rattle.frame_chains.specs.declared.members.Member.TheVariants.{Once, Each}
 use Rattle.frame_chains.specs.Chains.{Schedule, of_lists, has_name, id_of}
 use Rattle.frame_members.specs.Ranks.{rank_of, is_queue, is_named, is_called}
-use Rattle.frame_members.specs.Members.{IsRising, IsKept, IsMember, names, frame_in, is_up_to, with_queue, is_below, with_descriptor, with_member, without_member, is_linked}
+use Rattle.frame_members.specs.Members.{IsRising, IsKept, IsMember, names, frame_in, is_up_to, with_queue, is_below, with_descriptor, with_member, without_member, is_this, is_that, is_linked}
 use Rattle.frame_members.proofs.Sorted.{not_up, not_below}
 use Rattle.frame_members.proofs.Merge.{both_all, rising_kept, rising_more}
 use Rattle.frame_members.proofs.Splits.{IsAt, is_at, none_any, none_counted, none_listed, one_if, count_first, count_two, count_parts, count_fewer}
@@ -115,10 +115,10 @@ same_queue x q h =
     ∙ ap (λ (n : ℕ). record { id = q.id; period = q.period; phase = n }) (eqb-true x.phase q.phase l.1)
 
 pub queue_at : (s : Schedule) (q : QueueHead) → IsKept s → is_linked s (Each q) ≡ true → IsAt (is_named q.id) q s.queues
-queue_at s q k h = let n = k.named q.id in let l : count_by (is_named q.id) s.queues ≤ 1 = omega (arith, n) in is_at (λ x. nat_eq x.id q.id && (nat_eq x.period q.period && nat_eq x.phase q.phase)) (is_named q.id) q (λ x e. same_queue x q e) (eq-eqb q.id q.id refl) s.queues h l
+queue_at s q k h = let n = k.named q.id in let l : count_by (is_named q.id) s.queues ≤ 1 = omega (arith, n) in is_at (is_this q) (is_named q.id) q (λ x e. same_queue x q e) (eq-eqb q.id q.id refl) s.queues h l
 
 pub descriptor_at : (s : Schedule) (d : Descriptor) → IsKept s → is_linked s (Once d) ≡ true → IsAt (is_called d.id) d s.descriptors
-descriptor_at s d k h = let n = k.named d.id in let l : count_by (is_called d.id) s.descriptors ≤ 1 = omega (arith, n) in is_at (λ x. nat_eq x.id d.id && nat_eq x.frame d.frame) (is_called d.id) d (λ x e. same_descriptor x d e) (eq-eqb d.id d.id refl) s.descriptors h l
+descriptor_at s d k h = let n = k.named d.id in let l : count_by (is_called d.id) s.descriptors ≤ 1 = omega (arith, n) in is_at (is_that d) (is_called d.id) d (λ x e. same_descriptor x d e) (eq-eqb d.id d.id refl) s.descriptors h l
 
 -- the others have other names
 pub queue_alone : (s : Schedule) (q : QueueHead) → IsKept s → (at : IsAt (is_named q.id) q s.queues) → AllByRecursion (λ d. is_called q.id d ≡ false) s.descriptors

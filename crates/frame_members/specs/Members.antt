@@ -5,6 +5,7 @@
 --     IsKept s                 the schedule is in this order, its members are in range, and no two have one name
 --     IsMember m               a queue head with a period and a phase, or a descriptor of a frame below 1,024
 --     HasRoom m x              there is room for one more of its kind
+--     takes m x               x is a member with a new name, and there is room
 --     with_member s m          m stands behind all queue heads of no higher rank, or ahead of all descriptors of no lower frame
 --     without_member s m       no member has the name of m
 --     words_ahead o others     the words that lead to a queue head, by the one ahead of it in its class
@@ -18,7 +19,7 @@ use Rattle.frame_chains.specs.declared.members.Member.{Member}
 use Rattle.frame_chains.specs.declared.members.Member.TheVariants.{Once, Each}
 use Rattle.frame_chains.specs.declared.members.Predecessor.{Predecessor}
 use Rattle.frame_chains.specs.declared.members.Predecessor.TheVariants.{Element, After}
-use Rattle.frame_chains.specs.Chains.{Schedule, of_lists}
+use Rattle.frame_chains.specs.Chains.{Schedule, of_lists, has_name, id_of}
 use Rattle.frame_members.specs.Ranks.{rank_of, is_queue, is_named, is_called}
 
 pub record Members : Type 0 where
@@ -74,9 +75,15 @@ abbrev pub frame_of : Member → ℕ
 frame_of (Once d) = d.frame
 frame_of (Each q) = q.phase
 
+abbrev pub is_that : Descriptor → Descriptor → Bool
+is_that d x = nat_eq x.id d.id && nat_eq x.frame d.frame
+
+abbrev pub is_this : QueueHead → QueueHead → Bool
+is_this q x = nat_eq x.id q.id && (nat_eq x.period q.period && nat_eq x.phase q.phase)
+
 abbrev pub is_linked : Schedule → Member → Bool
-is_linked s (Once d) = list_any (λ (x : Descriptor). nat_eq x.id d.id && nat_eq x.frame d.frame) s.descriptors
-is_linked s (Each q) = list_any (λ (x : QueueHead). nat_eq x.id q.id && (nat_eq x.period q.period && nat_eq x.phase q.phase)) s.queues
+is_linked s (Once d) = list_any (is_that d) s.descriptors
+is_linked s (Each q) = list_any (is_this q) s.queues
 
 -- the words that lead to a queue head: of the one ahead in its class, or else others
 abbrev pub words_ahead : Option QueueHead → List Predecessor → List Predecessor
@@ -97,6 +104,18 @@ first_of_both None q = option_map Each q
 abbrev pub HasRoom : Members → Member → Type 0
 HasRoom m (Once d) = length m.schedule.descriptors < m.descriptor_room
 HasRoom m (Each q) = length m.schedule.queues < m.queue_room
+
+-- the same as tests
+abbrev pub is_member : Member → Bool
+is_member (Once d) = nat_lt d.frame 1024
+is_member (Each q) = is_queue q
+
+abbrev pub has_room : Members → Member → Bool
+has_room m (Once d) = nat_lt (length m.schedule.descriptors) m.descriptor_room
+has_room m (Each q) = nat_lt (length m.schedule.queues) m.queue_room
+
+abbrev pub takes : Members → Member → Bool
+takes m x = is_member x && (not (has_name m.schedule (id_of x)) && has_room m x)
 
 abbrev pub with_schedule : Members → Schedule → Members
 with_schedule m s = record m { schedule = s }

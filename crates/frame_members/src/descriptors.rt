@@ -1,8 +1,8 @@
 ghost use Rattle.std.specs.Prelude.{◌≡◌, ◌≤◌, ◌<◌, ◌+◌, nat_eq, nat_le, not, take, drop, filter, length, None, vec_len, vec_capacity};
-ghost use Rattle.std.specs.List.{last_or, before_first, position_or_len, find};
+ghost use Rattle.std.specs.List.{list_any, last_or, before_first, position_or_len, find};
 ghost use Rattle.frame_chains.specs.declared.members.Descriptor.{Descriptor as One};
 ghost use Rattle.frame_members.specs.Ranks.{is_called};
-ghost use Rattle.frame_members.specs.Members.{IsRising, frame_in, is_below, with_descriptor};
+ghost use Rattle.frame_members.specs.Members.{IsRising, is_that, frame_in, is_below, with_descriptor};
 
 use crate::places::put_at;
 use frame_chains::Descriptor;
@@ -99,4 +99,21 @@ pub(crate) fn drop_descriptor(descriptors: &mut Vec<Descriptor>, id: u32)
     ensures capacity { vec_capacity descriptors.new ≡ vec_capacity descriptors.old }
 {
     descriptors.retain(|d| d.id != id);
+}
+
+/// Whether one of these has this name.
+pub(crate) fn has_name_in(descriptors: &[Descriptor], id: u32) -> bool
+    ensures { result ≡ list_any (is_called id) descriptors.now }
+{
+    descriptors.iter().any(|descriptor| descriptor.id == id)
+}
+
+/// Whether this is one of these.
+pub(crate) fn has(descriptors: &[Descriptor], descriptor: &Descriptor) -> bool
+    ensures { result ≡ list_any (is_that descriptor.now) descriptors.now }
+{
+    let descriptor = *descriptor;
+    descriptors
+        .iter()
+        .any(|x| x.id == descriptor.id && x.frame == descriptor.frame)
 }

@@ -4,6 +4,7 @@
 //! it as the schedule of `frame_chains`. `class_search` finds the words of a class in it; `periodic_list` links and unlinks its members.
 #![tactic(auto)]
 
+mod checks;
 mod descriptors;
 mod levels;
 mod members;
@@ -13,3 +14,4 @@ mod queues;
 
 pub use levels::level_of;
 pub use members::FrameMembers;
+pub use checks::may_be_member;

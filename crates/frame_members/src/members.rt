@@ -1,4 +1,4 @@
-ghost use Rattle.std.specs.Prelude.{◌≡◌, ◌≤◌, ◌<◌, ◌^◌, nat_eq, true, false, List, [], ◌∷◌, map, take, drop, length, IfOk, option_map};
+ghost use Rattle.std.specs.Prelude.{◌≡◌, ◌≤◌, ◌<◌, ◌^◌, nat_eq, true, false, List, [], ◌∷◌, map, take, drop, length, IfOk, IsTrue, option_map};
 ghost use Rattle.std.specs.List.{list_any, last_or, find};
 ghost use Rattle.frame_chains.specs.declared.members.Descriptor.{Descriptor as One};
 ghost use Rattle.frame_chains.specs.declared.members.Member.TheVariants.{Once, Each};
@@ -8,6 +8,7 @@ ghost use Rattle.frame_chains.specs.Chains.{Schedule, is_active, of_lists, has_n
 ghost use Rattle.frame_chains.specs.Classes.{members, periods_of, last_of};
 ghost use Rattle.frame_members.specs.Members.{word_in_frame};
 
+use crate::checks::may_be_member;
 use crate::descriptors;
 use crate::order::{highest_of, lowest_of, rank_of_queue};
 use crate::queues;
@@ -49,7 +50,7 @@ impl Classes for FrameMembers {
 
 impl FrameMembers {
     ghost use Rattle.frame_members.specs.Ranks.{is_queue};
-    ghost use Rattle.frame_members.specs.Members.{IsKept, IsMember, HasRoom, with_member, without_member, with_schedule, frame_of, is_linked, words_ahead, first_of_both};
+    ghost use Rattle.frame_members.specs.Members.{IsKept, IsMember, HasRoom, has_room, takes, with_member, without_member, with_schedule, frame_of, is_linked, words_ahead, first_of_both};
 
     /// No member yet, with room for so many of each kind.
     ///
@@ -65,6 +66,43 @@ impl FrameMembers {
             queue_room: queues,
             descriptor_room: descriptors,
         })
+    }
+
+    /// Whether a member may be put in: it is in range, its name is new, and there is room.
+    pub fn takes(&self, member: &Member) -> bool
+        ensures test { result ≡ takes self.now member.now }
+        ensures member { IsTrue result → IsMember member.now }
+        ensures new { IsTrue result → has_name self.now.schedule (id_of member.now) ≡ false }
+        ensures room { IsTrue result → HasRoom self.now member.now }
+    {
+        may_be_member(member) && !self.has_name(name_of(member)) && self.has_room(member)
+    }
+
+    /// Whether a member has this name.
+    fn has_name(&self, id: u32) -> bool
+        ensures { result ≡ has_name self.now.schedule id }
+    {
+        descriptors::has_name_in(&self.descriptors, id) || queues::has_name_in(&self.queues, id)
+    }
+
+    /// Whether there is room for one more of this kind.
+    fn has_room(&self, member: &Member) -> bool
+        ensures { result ≡ has_room self.now member.now }
+    {
+        match member {
+            Member::Once(_) => self.descriptors.len() < self.descriptor_room as usize,
+            Member::Each(_) => self.queues.len() < self.queue_room as usize,
+        }
+    }
+
+    /// Whether this is a member.
+    pub fn has(&self, member: &Member) -> bool
+        ensures { result ≡ is_linked self.now.schedule member.now }
+    {
+        match member {
+            Member::Once(descriptor) => descriptors::has(&self.descriptors, descriptor),
+            Member::Each(queue) => queues::has(&self.queues, queue),
+        }
     }
 
     /// Puts a member in its place: a queue head behind those of its period and phase, a descriptor ahead of those of its frame.
@@ -172,6 +210,16 @@ impl FrameMembers {
             Some(descriptor) => Some(Member::Once(descriptor)),
             None => each(queues::first_from(&self.queues, 0, frame)),
         }
+    }
+}
+
+/// The name of a member.
+fn name_of(member: &Member) -> u32
+    ensures { result ≡ id_of member.now }
+{
+    match member {
+        Member::Once(descriptor) => descriptor.id,
+        Member::Each(queue) => queue.id,
     }
 }
 

@@ -1,8 +1,8 @@
 ghost use Rattle.std.specs.Prelude.{◌≡◌, ◌≤◌, ◌<◌, ◌+◌, nat_le, not, take, drop, filter, length, None, vec_len, vec_capacity};
-ghost use Rattle.std.specs.List.{last_or, before_first, after_first, position_or_len, find};
+ghost use Rattle.std.specs.List.{list_any, last_or, before_first, after_first, position_or_len, find};
 ghost use Rattle.frame_chains.specs.Chains.{is_active};
 ghost use Rattle.frame_members.specs.Ranks.{rank_of, is_between, is_named};
-ghost use Rattle.frame_members.specs.Members.{IsRising, is_up_to, with_queue};
+ghost use Rattle.frame_members.specs.Members.{IsRising, is_this, is_up_to, with_queue};
 
 use crate::order::{rank_of_queue, stands_in_frame};
 use crate::places::put_at;
@@ -95,4 +95,21 @@ pub(crate) fn drop_queue(queues: &mut Vec<QueueHead>, id: u32)
     ensures capacity { vec_capacity queues.new ≡ vec_capacity queues.old }
 {
     queues.retain(|q| q.id != id);
+}
+
+/// Whether one of these has this name.
+pub(crate) fn has_name_in(queues: &[QueueHead], id: u32) -> bool
+    ensures { result ≡ list_any (is_named id) queues.now }
+{
+    queues.iter().any(|queue| queue.id == id)
+}
+
+/// Whether this is one of these.
+pub(crate) fn has(queues: &[QueueHead], queue: &QueueHead) -> bool
+    ensures { result ≡ list_any (is_this queue.now) queues.now }
+{
+    let queue = *queue;
+    queues
+        .iter()
+        .any(|x| x.id == queue.id && x.period == queue.period && x.phase == queue.phase)
 }

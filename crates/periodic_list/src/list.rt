@@ -1,13 +1,13 @@
-ghost use Rattle.std.specs.Prelude.{◌≡◌, ◌+◌, ◌≤◌, true, false, Some, None, IfOk, IsSome};
+ghost use Rattle.std.specs.Prelude.{◌≡◌, ◌+◌, ◌%◌, ◌≤◌, ◌↔◌, ◌&&◌, true, false, Some, None, IfOk, IfSome, IsSome, IsTrue, is_none};
 ghost use Rattle.frame_chains.specs.Chains.{has_name, id_of, successor};
-ghost use Rattle.frame_members.specs.Members.{IsMember, HasRoom, with_member, frame_of, is_linked};
+ghost use Rattle.frame_members.specs.Members.{IsMember, HasRoom, is_member, takes, with_member, frame_of, is_linked};
 
 use crate::start::{start, word_found};
 use crate::stores::{finish, link_word, name_of, next_task, store_of};
 use crate::work::{Progress, Store, Task, Work};
 use class_search::Reads;
 use frame_chains::Member;
-use frame_members::FrameMembers;
+use frame_members::{FrameMembers, may_be_member};
 use std::alloc::Global;
 use std::marker::Model;
 use usb_base::Memory;
@@ -54,6 +54,34 @@ impl PeriodicList {
         })
     }
 
+    /// Whether a member may be linked: nothing is under way, it is in range, its name is new, and there is room.
+    pub fn takes(&self, member: &Member) -> bool
+        ensures test { result ≡ (is_none self.now.work && takes self.now.members member.now) }
+        ensures idle { IsTrue result → self.now.work ≡ None }
+        ensures member { IsTrue result → IsMember member.now }
+        ensures new { IsTrue result → has_name self.now.members.schedule (id_of member.now) ≡ false }
+        ensures room { IsTrue result → HasRoom self.now.members member.now }
+    {
+        self.is_idle() && self.members.takes(member)
+    }
+
+    /// Whether a member may be unlinked: nothing is under way, and it is linked.
+    pub fn may_remove(&self, member: &Member) -> bool
+        ensures idle { IsTrue result → self.now.work ≡ None }
+        ensures member { IsTrue result → IsMember member.now }
+        ensures linked { IsTrue result → is_linked self.now.members.schedule member.now ≡ true }
+        ensures test { result ≡ (is_none self.now.work && (is_member member.now && is_linked self.now.members.schedule member.now)) }
+    {
+        self.is_idle() && may_be_member(member) && self.members.has(member)
+    }
+
+    /// Whether nothing is under way.
+    pub fn is_idle(&self) -> bool
+        ensures { result ≡ is_none self.now.work }
+    {
+        self.task.is_none()
+    }
+
     /// The link word that a new member must have before it is linked.
     pub fn link_behind(&self, member: &Member) -> u32
         requires member { IsMember member.now }
@@ -91,7 +119,9 @@ impl PeriodicList {
 
     /// The next store; `None` exactly where nothing is under way.
     pub fn next_store(&self) -> Option<Store>
-        ensures { result ≡ next_store self.now }
+        ensures store { result ≡ next_store self.now }
+        ensures aligned { IfSome result (λ s. s.at % 4 ≡ 0) }
+        ensures working { IsSome result ↔ IsSome self.now.work }
     {
         match self.task {
             Some(task) => Some(store_of(self.list, task.word, task.value)),

@@ -1,4 +1,4 @@
-ghost use Rattle.std.specs.Prelude.{◌≡◌, ◌+◌, ◌<◌, ◌^◌, Option};
+ghost use Rattle.std.specs.Prelude.{◌≡◌, ◌+◌, ◌%◌, ◌<◌, ◌^◌, Option};
 ghost use Rattle.frame_chains.specs.Chains.{id_of};
 ghost use Rattle.periodic_list.specs.Periodic.{link_to, store_at, members_after};
 
@@ -29,7 +29,8 @@ pub(crate) fn link_word(member: Option<Member>) -> u32
 
 /// The store of a value into a word.
 pub(crate) fn store_of(list: u16, word: Predecessor, value: u32) -> Store
-    ensures { result ≡ store_at list word value }
+    ensures store { result ≡ store_at list word value }
+    ensures aligned { result.at % 4 ≡ 0 }
 {
     match word {
         Predecessor::Element(frame) => Store {
