@@ -1,4 +1,4 @@
-ghost use Rattle.std.specs.Prelude.{◌≡◌, ◌<◌, ◌≤◌, nat_eq, [], length, IfOk};
+ghost use Rattle.std.specs.Prelude.{◌≡◌, ◌<◌, ◌≤◌, nat_eq, nat_lt, [], length, IfOk, IsTrue};
 
 use crate::departures::Departure;
 use crate::readings::{gone_place, read_all};
@@ -53,7 +53,15 @@ impl Leaving {
         });
     }
 
-    /// Whether any has left.
+    /// Whether one more may leave.
+    pub fn has_room(&self) -> bool
+        ensures test { result ≡ nat_lt (length self.now.departures) self.now.room }
+        ensures room { IsTrue result → length self.now.departures < self.now.room }
+    {
+        self.departures.len() < self.room as usize
+    }
+
+    /// Whether nothing has left that isn't given back.
     pub fn is_empty(&self) -> bool
         ensures { result ≡ nat_eq (length self.now.departures) 0 }
     {
