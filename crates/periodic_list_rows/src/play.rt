@@ -137,7 +137,7 @@ impl Play {
         let mut text = format!(in alloc; "frame {frame}:")?;
         let mut at = 4 * frame as u32;
         for _member in 0..20u32 {
-            match self.mem.hc_read(at) {
+            match self.mem.hc_read(at - at % 4) {
                 Some(word) if word % 2 == 0 => {
                     let block = word / 32;
                     text.push_str(format!(in alloc; " {block}")?.as_str())?;
