@@ -17,7 +17,7 @@ fn queue(n: u32) -> Member {
     Member::Each(QueueHead {
         id: (128 + 2 * (n % 4096)) * 32 + 2,
         period,
-        phase: (n * 37 % frames as u32) as u16,
+        phase: (n % 4096 * 37 % frames as u32) as u16,
     })
 }
 
