@@ -1,5 +1,6 @@
 -- Runs that begin in different blocks of the book share no block.
-use Rattle.std.proofs.Common.{◌≡◌, ◌≢◌, ℕ, zero, suc, ◌+◌, ◌≤◌, List, [], ◌∷◌, set, ap, refl, arith}
+use Rattle.std.proofs.Common.{◌≡◌, ◌≢◌, ℕ, zero, suc, ◌+◌, ◌<◌, ◌≤◌, List, [], ◌∷◌, length, set, ap, ⊎_elim, refl, arith}
+use Rattle.std.proofs.lemmas.Bool.{cases_lt}
 use Rattle.std.proofs.lemmas.List.{get_or-set_other}
 use Rattle.word_mem.specs.Owners.{holders}
 use Rattle.word_mem.proofs.Holders.{holders-append, holders_has}
@@ -42,3 +43,11 @@ runs_apart h b c x stands differs one two =
     let ks = ap (λ t. holders (kept_of t) x) same in
     let ls = ap (λ t. holders (lent_of t) x) same in
     omega (arith, held.once x, holders-append (kept_of s) (kept_in rest) x, holders-append (lent_of s) (lent_in rest) x, k, l, ks, ls, other, slot_holds s x one)
+
+-- and each block of a run lies in memory
+pub has_within : (h : Holding) (b x : ℕ) → Stands h → SlotHas (slot_of h.book.slots b) x → x < length h.memory.states
+has_within h b x stands has =
+    ⊎_elim (λ (below : x < length h.memory.states). below)
+    (λ (past : length h.memory.states ≤ x).
+    absurd (omega (arith, stands.held.within x past, kept_part h.book.slots b x, lent_part h.book.slots b x, slot_holds (slot_of h.book.slots b) x has)))
+    (cases_lt x (length h.memory.states))

@@ -63,15 +63,15 @@ first_ones (suc n) zero ys below = refl
 first_ones (suc n) (suc i) ys below = first_ones n i ys (omega arith)
 
 -- what the new runs are: `b` is the old inactive qTD, and n the number of new ones
-record AreNew (slot now : ℕ → Slot) (owner mine : ℕ → Owner) (b e t n : ℕ) (qtds runs : List ℕ) : Type 0 where
-  kept : (c : ℕ) (o : Owner) → c ≢ b → IsPlaced slot owner c o → IsPlaced now mine c o
-  elements : (i : ℕ) → i < n → IsPlaced now mine (get_or (b ∷ qtds) i 0) (Element t)
-  dummy : IsPlaced now mine (get_or qtds (n - 1) 0) (Dummy e)
-  buffers : AllByRecursion (λ c. IsPlaced now mine c (Buffer t)) runs
-  distinct : (i j : ℕ) → i < j → j < n → get_or (b ∷ qtds) j 0 ≢ get_or (b ∷ qtds) i 0
-  apart : (c : ℕ) → HasRun (slot c) → c ≢ b → (i : ℕ) → i < n → get_or (b ∷ qtds) i 0 ≢ c
+pub record AreNew (slot now : ℕ → Slot) (owner mine : ℕ → Owner) (b e t n : ℕ) (qtds runs : List ℕ) : Type 0 where
+  pub kept : (c : ℕ) (o : Owner) → c ≢ b → IsPlaced slot owner c o → IsPlaced now mine c o
+  pub elements : (i : ℕ) → i < n → IsPlaced now mine (get_or (b ∷ qtds) i 0) (Element t)
+  pub dummy : IsPlaced now mine (get_or qtds (n - 1) 0) (Dummy e)
+  pub buffers : AllByRecursion (λ c. IsPlaced now mine c (Buffer t)) runs
+  pub distinct : (i j : ℕ) → i < j → j < n → get_or (b ∷ qtds) j 0 ≢ get_or (b ∷ qtds) i 0
+  pub apart : (c : ℕ) → HasRun (slot c) → c ≢ b → (i : ℕ) → i < n → get_or (b ∷ qtds) i 0 ≢ c
 
-new_owners : (owner : ℕ → Owner) (b e t : ℕ) (dummy : ℕ) (qtds runs : List ℕ) → ℕ → Owner
+pub new_owners : (owner : ℕ → Owner) (b e t : ℕ) (dummy : ℕ) (qtds runs : List ℕ) → ℕ → Owner
 new_owners owner b e t dummy qtds runs = given (dummy ∷ []) (Dummy e) (given (b ∷ qtds) (Element t) (given runs (Buffer t) owner))
 
 one_not : (b c : ℕ) → b ≢ c → (i : ℕ) → i < length (b ∷ []) → get_or (b ∷ []) i 0 ≢ c
@@ -108,7 +108,7 @@ new_buffer owner b e t dummy qtds runs i below last first each =
     ∙ given_not (b ∷ qtds) (Element t) (given runs (Buffer t) owner) c (first_not b c qtds first each)
     ∙ given_at runs (Buffer t) owner i below
 
-are_new : {h g : Holding} {bs : List ℕ} (ss : List Stage) (owner : ℕ → Owner) (b e t : ℕ) → 1 ≤ length ss → AreTaken h g (needs ss) bs → IsPlaced (slot_of h.book.slots) owner b (Dummy e) → AreNew (slot_of h.book.slots) (slot_of g.book.slots) owner (new_owners owner b e t (get_or (take (length ss) bs) (length ss - 1) 0) (take (length ss) bs) (drop (length ss) bs)) b e t (length ss) (take (length ss) bs) (drop (length ss) bs)
+pub are_new : {h g : Holding} {bs : List ℕ} (ss : List Stage) (owner : ℕ → Owner) (b e t : ℕ) → 1 ≤ length ss → AreTaken h g (needs ss) bs → IsPlaced (slot_of h.book.slots) owner b (Dummy e) → AreNew (slot_of h.book.slots) (slot_of g.book.slots) owner (new_owners owner b e t (get_or (take (length ss) bs) (length ss - 1) 0) (take (length ss) bs) (drop (length ss) bs)) b e t (length ss) (take (length ss) bs) (drop (length ss) bs)
 are_new {h = h} {g = g} {bs = bs} ss owner b e t some taken was =
     let n = length ss in
     let qtds = take n bs in
