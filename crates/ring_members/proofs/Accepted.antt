@@ -68,7 +68,7 @@ link_first x link dummy =
     let e : 32 * link + (1 * 2 + 0) ≡ queue_head_link link = omega arith in
     (drop 1 (qh_words (queue_head x link dummy)), ap (λ w. w ∷ drop 1 (qh_words (queue_head x link dummy))) e)
 
-one_more_on : (xs : List Endpoint) (y : Endpoint) → GoOn xs (xs ++ y ∷ [])
+pub one_more_on : (xs : List Endpoint) (y : Endpoint) → GoOn xs (xs ++ y ∷ [])
 one_more_on xs y f z here = record { endpoint = z; here = more xs f here; queue = refl; linked = λ on. on }
   where
     more : (xs : List Endpoint) (f : ℕ) → slice_get xs f ≡ Some z → slice_get (xs ++ y ∷ []) f ≡ Some z
@@ -116,7 +116,7 @@ open_ring d m desc g bs stands shape taken idle has old =
           (pushed d.endpoints (new_endpoint desc queue dummy) e x there);
     }
 
-shaped_taken : {h g : Holding} {ns bs : List ℕ} → AreTaken h g ns bs → Stands h → IsShaped h.memory → IsShaped g.memory
+pub shaped_taken : {h g : Holding} {ns bs : List ℕ} → AreTaken h g ns bs → Stands h → IsShaped h.memory → IsShaped g.memory
 shaped_taken taken stands shape =
     let words = ap length taken.words in
     record {
@@ -128,7 +128,7 @@ shaped_taken taken stands shape =
 
 -- ---- a transfer
 
-owner_kind : Owner → ℕ
+unfoldable pub owner_kind : Owner → ℕ
 owner_kind FrameList = 0
 owner_kind Head = 1
 owner_kind (QueueHead e) = 2
@@ -136,7 +136,7 @@ owner_kind (Dummy e) = 3
 owner_kind (Element t) = 4
 owner_kind (Buffer t) = 5
 
-other_kind : (owner : ℕ → Owner) (b c : ℕ) (o q : Owner) → owner b ≡ o → owner c ≡ q → owner_kind o ≢ owner_kind q → c ≢ b
+pub other_kind : (owner : ℕ → Owner) (b c : ℕ) (o q : Owner) → owner b ≡ o → owner c ≡ q → owner_kind o ≢ owner_kind q → c ≢ b
 other_kind owner b c o q one two differ = λ same. differ (ap owner_kind (sym one) ∙ ap (λ k. owner_kind (owner k)) (sym same) ∙ ap owner_kind two)
 
 all_at : (P : ℕ → Type 0) (xs : List ℕ) → ((i : ℕ) → i < length xs → P (get_or xs i 0)) → AllByRecursion P xs
@@ -149,9 +149,9 @@ tail_not notes c b [] some all = absurd (omega arith)
 tail_not notes c b (s ∷ ss) some all = all.1
 
 -- a block of the book that is none of the new ones keeps its words
-transfer_word : (d : DriverContent) (m : Mem) (a : Asked) (g : Holding) (bs : List ℕ) (owner : ℕ → Owner) (e b c : ℕ) → AreTaken (holding d.book m) g (needs a.stages) bs → 1 ≤ length a.stages → length d.notes ≡ length d.book.slots → IsPlaced (slot_of d.book.slots) owner b (Dummy e) → HasRun (slot_of d.book.slots c) → c ≢ b → c ≢ 0
-    → link_in (send_stages g.book (store_words g.book (write_stages g.book g.memory (note_stages d.notes a.stages b (take (length a.stages) bs) (drop (length a.stages) bs)) (get_or (take (length a.stages) bs) (length a.stages - 1) 0) (drop 1 a.stages) (note_at (note_stages d.notes a.stages b (take (length a.stages) bs) (drop (length a.stages) bs)) b).next) (get_or (take (length a.stages) bs) (length a.stages - 1) 0) (32 * get_or (take (length a.stages) bs) (length a.stages - 1) 0) (qtd_words dummy_qtd)) (note_stages d.notes a.stages b (take (length a.stages) bs) (drop (length a.stages) bs)) a.stages b a.bytes) c ≡ link_in m c
-transfer_word d m a g bs owner e b c taken some sizes was run differs not_list =
+pub transfer_word : (d : DriverContent) (m : Mem) (a : Asked) (g : Holding) (bs : List ℕ) (owner : ℕ → Owner) (e b c other : ℕ) → AreTaken (holding d.book m) g (needs a.stages) bs → 1 ≤ length a.stages → length d.notes ≡ length d.book.slots → IsPlaced (slot_of d.book.slots) owner b (Dummy e) → HasRun (slot_of d.book.slots c) → c ≢ b → c ≢ 0 → SlotHas (slot_of g.book.slots c) (other / 32)
+    → word_at (send_stages g.book (store_words g.book (write_stages g.book g.memory (note_stages d.notes a.stages b (take (length a.stages) bs) (drop (length a.stages) bs)) (get_or (take (length a.stages) bs) (length a.stages - 1) 0) (drop 1 a.stages) (note_at (note_stages d.notes a.stages b (take (length a.stages) bs) (drop (length a.stages) bs)) b).next) (get_or (take (length a.stages) bs) (length a.stages - 1) 0) (32 * get_or (take (length a.stages) bs) (length a.stages - 1) 0) (qtd_words dummy_qtd)) (note_stages d.notes a.stages b (take (length a.stages) bs) (drop (length a.stages) bs)) a.stages b a.bytes) other ≡ word_at m other
+transfer_word d m a g bs owner e b c other taken some sizes was run differs not_list at =
     let ss = a.stages in
     let n = length ss in
     let qtds = take n bs in
@@ -161,7 +161,6 @@ transfer_word d m a g bs owner e b c taken some sizes was run differs not_list =
     let k = g.book in
     let apart = slots_apart g taken.stands in
     let new = are_new ss owner b e 0 some taken was in
-    let at = has_word g c taken.stands (subst HasRun (sym (taken.old c run)) run) in
     let long : length bs ≡ n + length (buffers_of ss) = taken.long ∙ length-append (replicate n 1) (buffers_of ss) ∙ ap (λ j. j + length (buffers_of ss)) (length-replicate {A = ℕ} n 1) in
     let rest : length runs + n ≡ length bs = omega (arith, length-drop n bs, long) in
     let away = new.apart c run differs in
@@ -172,10 +171,10 @@ transfer_word d m a g bs owner e b c taken some sizes was run differs not_list =
     let mid = write_stages k g.memory notes dummy (drop 1 ss) (note_at notes b).next in
     let mid2 = store_words k mid dummy (32 * dummy) (qtd_words dummy_qtd) in
     let last : c ≢ dummy = λ same. fresh_differs (n - 1) c taken (omega (arith, some, long)) run (sym (get_or-take n bs (n - 1) 0 (omega (arith, some))) ∙ sym same) in
-    sends_elsewhere k mid2 notes ss b a.bytes c (32 * c) apart at out.1
-    ∙ words_elsewhere k mid dummy c (32 * dummy) (32 * c) (qtd_words dummy_qtd) apart last at
-    ∙ stages_elsewhere k g.memory notes dummy (drop 1 ss) (note_at notes b).next c (32 * c) apart at (tail_not notes c b ss some out.0)
-    ∙ ap (λ ws. slice_index ws (32 * c / 4)) taken.words
+    sends_elsewhere k mid2 notes ss b a.bytes c other apart at out.1
+    ∙ words_elsewhere k mid dummy c (32 * dummy) other (qtd_words dummy_qtd) apart last at
+    ∙ stages_elsewhere k g.memory notes dummy (drop 1 ss) (note_at notes b).next c other apart at (tail_not notes c b ss some out.0)
+    ∙ ap (λ ws. slice_index ws (other / 4)) taken.words
 
 transfer_ring : (d : DriverContent) (m : Mem) (e : ℕ) (x : Endpoint) (a : Asked) (g : Holding) (bs : List ℕ) → AreTaken (holding d.book m) g (needs a.stages) bs → 1 ≤ length a.stages → slice_get d.endpoints e ≡ Some x → x.gone ≡ false → d.command ≡ None → HasOwners d → IsRing (link_in m) d
     → IsRing (link_in (accepted_transfer d e x a g (get_or (take (length a.stages) bs) (length a.stages - 1) 0) (note_stages d.notes a.stages x.dummy (take (length a.stages) bs) (drop (length a.stages) bs))).memory) (accepted_transfer d e x a g (get_or (take (length a.stages) bs) (length a.stages - 1) 0) (note_stages d.notes a.stages x.dummy (take (length a.stages) bs) (drop (length a.stages) bs))).driver
@@ -187,9 +186,10 @@ transfer_ring d m e x a g bs taken some here alive idle has old =
     let was = has.owned.each.dummy e (runs_of_endpoint x) (ap (option_map runs_of_endpoint) here) alive in
     let list = has.owned.each.list in
     let same : (c : ℕ) (o : Owner) → IsPlaced (slot_of d.book.slots) has.owner c o → owner_kind o ≢ 3 → owner_kind o ≢ 0 → now c ≡ link_in m c = λ c o p one two.
-    transfer_word d m a g bs has.owner e x.dummy c taken some has.owned.sizes was (placed_run c o p)
+    transfer_word d m a g bs has.owner e x.dummy c (32 * c) taken some has.owned.sizes was (placed_run c o p)
     (other_kind has.owner x.dummy c (Dummy e) o was.owned p.owned (λ k. one (sym k)))
-    (other_kind has.owner 0 c FrameList o list.owned p.owned (λ k. two (sym k))) in
+    (other_kind has.owner 0 c FrameList o list.owned p.owned (λ k. two (sym k)))
+    (has_word g c taken.stands (subst HasRun (sym (taken.old c (placed_run c o p))) (placed_run c o p))) in
     let keeps : KeepsQueues d has.owner (link_in m) now =
     (λ c f p. same c (QueueHead f) p (λ k. omega (arith, k)) (λ k. omega (arith, k)), same head_block Head has.owned.each.head (λ k. omega (arith, k)) (λ k. omega (arith, k))) in
     let y = with_queued x dummy (length d.transfers) in

@@ -46,16 +46,16 @@ pub linked_still : (word now : ℕ → ℕ) (e : DriverContent) (b : ℕ) → Ha
 linked_still word now e b has keeps linked =
     linked_kept word now b e.endpoints (λ i x here on. keeps x.queue (queue_run e i x has here (in_ring_alive e i x has.orderly here on))) (keeps head_block (head_run_there e has)) linked
 
-record RingBack (xs : List Endpoint) (f : ℕ) (x : Endpoint) : Type 0 where
-  endpoint : Endpoint
-  here : slice_get xs f ≡ Some endpoint
-  same : ring_of endpoint ≡ ring_of x
+pub record RingBack (xs : List Endpoint) (f : ℕ) (x : Endpoint) : Type 0 where
+  pub endpoint : Endpoint
+  pub here : slice_get xs f ≡ Some endpoint
+  pub same : ring_of endpoint ≡ ring_of x
 
 ring_back_at : (xs : List Endpoint) (f : ℕ) (x : Endpoint) (o : Option Endpoint) → slice_get xs f ≡ o → Some (ring_of x) ≡ option_map ring_of o → RingBack xs f x
 ring_back_at xs f x None here e = absurd (cc)
 ring_back_at xs f x (Some y) here e = record { endpoint = y; here = here; same = sym (same_Some (ring_of x) (ring_of y) e) }
 
-ring_back : (xs ys : List Endpoint) (f : ℕ) (x : Endpoint) → SameRing xs ys → slice_get ys f ≡ Some x → RingBack xs f x
+pub ring_back : (xs ys : List Endpoint) (f : ℕ) (x : Endpoint) → SameRing xs ys → slice_get ys f ≡ Some x → RingBack xs f x
 ring_back xs ys f x same here = ring_back_at xs f x (slice_get xs f) refl (sym (ap (option_map ring_of) here) ∙ same f)
 
 pub kept_still : (xs ys : List Endpoint) → SameRing xs ys → ((f : ℕ) (x : Endpoint) → slice_get xs f ≡ Some x → x.cancelled ≡ false → x.linked ≡ true) → (f : ℕ) (x : Endpoint) → slice_get ys f ≡ Some x → x.cancelled ≡ false → x.linked ≡ true
@@ -83,7 +83,7 @@ idle_ring word now d e idle none has keeps same leaving mends old =
       kept = kept_still d.endpoints e.endpoints same old.kept;
     }
 
-is_element : Owner → Bool
+unfoldable pub is_element : Owner → Bool
 is_element FrameList = false
 is_element Head = false
 is_element (QueueHead e) = false
@@ -145,12 +145,12 @@ lend_ring_by word d (unfinished.Unlink f b link) is next old = absurd (lend_neve
 
 -- ---- storing
 
-open_store : (q made b at v : ℕ) → slice_get (events_of (unfinished.Open q)) made ≡ Some (rows.Store b at v) → (made ≡ 1) × (((b ≡ head_block) × (at ≡ 32 * head_block)) × (v ≡ queue_head_link q))
+pub open_store : (q made b at v : ℕ) → slice_get (events_of (unfinished.Open q)) made ≡ Some (rows.Store b at v) → (made ≡ 1) × (((b ≡ head_block) × (at ≡ 32 * head_block)) × (v ≡ queue_head_link q))
 open_store q zero b at v e = absurd (cc)
 open_store q (suc zero) b at v e = (refl, ((cc, cc), cc))
 open_store q (suc (suc n)) b at v e = absurd (cc)
 
-unlink_store : (f b link made c at v : ℕ) → slice_get (events_of (unfinished.Unlink f b link)) made ≡ Some (rows.Store c at v) → (made ≡ 0) × (((c ≡ b) × (at ≡ 32 * b)) × (v ≡ link))
+pub unlink_store : (f b link made c at v : ℕ) → slice_get (events_of (unfinished.Unlink f b link)) made ≡ Some (rows.Store c at v) → (made ≡ 0) × (((c ≡ b) × (at ≡ 32 * b)) × (v ≡ link))
 unlink_store f b link zero c at v e = (refl, ((cc, cc), cc))
 unlink_store f b link (suc n) c at v e = absurd (cc)
 
@@ -158,7 +158,7 @@ mapped_store : (f : ℕ → ℕ) (g : ℕ → ℕ) (b c at v : ℕ) (o : Option 
 mapped_store f g b c at v None e = absurd (cc)
 mapped_store f g b c at v (Some i) e = let s : rows.Store b (f i) (g i) ≡ rows.Store c at v = same_Some _ _ e in cc
 
-publish_store : (b : ℕ) (words : List ℕ) (made c at v : ℕ) → slice_get (events_of (unfinished.Publish b words)) made ≡ Some (rows.Store c at v) → c ≡ b
+pub publish_store : (b : ℕ) (words : List ℕ) (made c at v : ℕ) → slice_get (events_of (unfinished.Publish b words)) made ≡ Some (rows.Store c at v) → c ≡ b
 publish_store b words zero c at v e = absurd (cc)
 publish_store b words (suc n) c at v e =
     mapped_store (λ i. 32 * b + 4 * i) (λ i. slice_index words i) b c at v (slice_get store_order n) (sym (slice_get-map _ store_order n) ∙ e)
@@ -238,15 +238,15 @@ first_piece : (slot : ℕ → Slot) (owner : ℕ → Owner) (note : ℕ → Note
 first_piece slot owner note t b zero some pieces = absurd (omega arith)
 first_piece slot owner note t b (suc n) some pieces = pieces.0.element
 
-stands_as : (word : ℕ → ℕ) (d : DriverContent) (c : Command) → d.command ≡ Some c → IsRing word d → StandsFor word d.endpoints d.transfers (Some c)
+pub stands_as : (word : ℕ → ℕ) (d : DriverContent) (c : Command) → d.command ≡ Some c → IsRing word d → StandsFor word d.endpoints d.transfers (Some c)
 stands_as word d c is old = subst (λ (o : Option Command). StandsFor word d.endpoints d.transfers o) is old.ring
 
 -- the runs of queue heads are others than that of a transfer's qTD
-not_element : (t : ℕ) (o : Owner) → is_element o ≡ false → o ≢ Element t
+pub not_element : (t : ℕ) (o : Owner) → is_element o ≡ false → o ≢ Element t
 unfolding is_element
 not_element t o off same = false≢true (sym off ∙ ap is_element same)
 
-block_of : (d : DriverContent) (has : HasOwners d) (word : ℕ → ℕ) (b : ℕ) (u : IsPublishing word d.endpoints d.transfers b) → IsPlaced (slot_of d.book.slots) has.owner b (Element u.number)
+pub block_of : (d : DriverContent) (has : HasOwners d) (word : ℕ → ℕ) (b : ℕ) (u : IsPublishing word d.endpoints d.transfers b) → IsPlaced (slot_of d.book.slots) has.owner b (Element u.number)
 block_of d has word b u =
     let pieces = has.owned.each.pieces u.number (runs_of_transfer u.transfer) (ap (option_map runs_of_transfer) u.there) u.released in
     subst (λ k. IsPlaced (slot_of d.book.slots) has.owner k (Element u.number)) u.first
@@ -361,11 +361,11 @@ mend_word k m w c mending = at (can_store (slot_of k.slots w.queue) w.at)
     at true = get_or-set_other m.words (w.at / 4) (32 * c / 4) w.value 0 apart
     at false = refl
 
-first_mend : (ws : List Mend) (w : Mend) → slice_get ws 0 ≡ Some w → AllByRecursion IsMending ws → IsMending w
+pub first_mend : (ws : List Mend) (w : Mend) → slice_get ws 0 ≡ Some w → AllByRecursion IsMending ws → IsMending w
 first_mend [] w here all = absurd (cc)
 first_mend (x ∷ ws) w here all = let same : x ≡ w = cc in subst IsMending same all.0
 
-no_more : (es : List ℕ) → es ++ [] ≡ es
+pub no_more : (es : List ℕ) → es ++ [] ≡ es
 no_more [] = refl
 no_more (e ∷ es) = ap (λ fs. e ∷ fs) (no_more es)
 

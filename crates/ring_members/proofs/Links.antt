@@ -2,6 +2,7 @@
 use Rattle.std.proofs.Common.{◌≡◌, ◌≢◌, ℕ, zero, suc, ◌+◌, Bool, true, false, cond, List, [], ◌∷◌, ◌++◌, take, drop, set, slice_get, Some, option_map, ap, sym, subst, ◌∙◌, inl, inr, refl, arith}
 use Rattle.std.specs.Prelude.{◌⊎◌}
 use Rattle.std.proofs.lemmas.Option.{same_Some}
+use Rattle.usb_base.specs.declared.endpoints.EpDesc.{EpDesc}
 use Rattle.driver_rows.specs.declared.content.Endpoint.{Endpoint}
 use Rattle.driver_rows.specs.Words.{head_block, queue_head_link}
 use Rattle.driver_rows.specs.Offers.{oldest_of}
@@ -106,9 +107,10 @@ pub record RingOf : Type 0 where
   pub queue : ℕ
   pub linked : Bool
   pub cancelled : Bool
+  pub desc : EpDesc
 
 abbrev pub ring_of : Endpoint → RingOf
-ring_of x = record { queue = x.queue; linked = x.linked; cancelled = x.cancelled }
+ring_of x = record { queue = x.queue; linked = x.linked; cancelled = x.cancelled; desc = x.desc }
 
 abbrev pub SameRing : List Endpoint → List Endpoint → Type 0
 SameRing xs ys = (i : ℕ) → option_map ring_of (slice_get ys i) ≡ option_map ring_of (slice_get xs i)
