@@ -1,3 +1,4 @@
 pub mod Decoded
 pub mod InChains
 pub mod Stored
+pub mod Half
