@@ -2,3 +2,5 @@ pub mod Decoded
 pub mod InChains
 pub mod Stored
 pub mod Half
+pub mod Steps
+pub mod Begins

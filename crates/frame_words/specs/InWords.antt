@@ -16,7 +16,7 @@ use Rattle.frame_chains.specs.declared.members.Predecessor.{Predecessor}
 use Rattle.frame_chains.specs.declared.members.Predecessor.TheVariants.{Element, After}
 use Rattle.frame_chains.specs.Chains.{Schedule, chain, id_of, successor}
 use Rattle.frame_chains.specs.Stores.{is_made}
-use Rattle.frame_members.specs.Members.{without_member, frame_of, is_linked}
+use Rattle.frame_members.specs.Members.{IsMember, without_member, frame_of, is_linked}
 use Rattle.periodic_list.specs.declared.work.Work.{Work}
 use Rattle.periodic_list.specs.Periodic.{Periodic, link_to, address_of, words_of, value_of}
 
@@ -62,6 +62,11 @@ StandsBy list s (Some w) word = Begun list s w word
 
 abbrev pub StandFor : Periodic → (ℕ → ℕ) → Type 0
 StandFor p word = StandsBy p.list p.members.schedule p.work word
+
+-- what is under way has a member of the schedule
+abbrev pub HasMember : Schedule → Option Work → Type 0
+HasMember s None = Unit {0}
+HasMember s (Some w) = IsMember w.member × (is_linked s w.member ≡ true)
 
 -- the words once v is stored at an address
 abbrev pub with_value : (ℕ → ℕ) → ℕ → ℕ → ℕ → ℕ
