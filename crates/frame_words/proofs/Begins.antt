@@ -1,6 +1,6 @@
 -- What is under way begins: the words stood for the schedule before it.
 use Rattle.std.proofs.Common.{◌≡◌, ℕ, ◌+◌, ◌*◌, ◌/◌, ◌%◌, ◌<◌, ◌≤◌, Bool, true, false, List, [], ◌∷◌, ◌++◌, map, cond, nat_eq, leb, ltb, ◌⊎◌, inl, inr, Some, None, Option, if◌then◌else◌, refl, ap, sym, ◌∙◌, subst, arith}
-use Rattle.std.specs.Prelude.{◌||◌, ◌&&◌, filter, not}
+use Rattle.std.specs.Prelude.{◌||◌, ◌&&◌, filter, not, is_some}
 use Rattle.std.specs.List.{AllByRecursion, list_any, flat_map}
 use Rattle.std.proofs.lemmas.Bool.{false≢true, eqb-true, eq-eqb, or_cases, and_parts, leb-true, leb-false, ltb-true, ltb-false}
 use Rattle.frame_chains.specs.declared.members.Descriptor.{Descriptor}
@@ -20,8 +20,8 @@ use Rattle.frame_members.proofs.Classes.{chain_is}
 use Rattle.frame_chains.proofs.Words.{all_kept}
 use Rattle.frame_members.proofs.Splits.{IsAt}
 use Rattle.periodic_list.specs.declared.work.Work.{Work}
-use Rattle.periodic_list.specs.Periodic.{Periodic, link_to, address_of, begun}
-use Rattle.frame_words.specs.InWords.{Leads, set_all, AllLead, Begun}
+use Rattle.periodic_list.specs.Periodic.{Periodic, link_to, address_of, begun, inserting, removing}
+use Rattle.frame_words.specs.InWords.{Leads, set_all, AllLead, Begun, StandsBy, StandFor}
 use Rattle.frame_words.proofs.Stored.{queue_out, descriptor_out}
 
 -- a new member taken out again
@@ -173,3 +173,15 @@ removing_begins list s m word k i h stood = record {
   own = own_led list word m (Element (frame_of m)) (chain s (frame_of m)) (stands s m k i h) (stood (frame_of m) (frame_below m i));
   since = λ at. refl;
 }
+
+-- of a whole list
+all_by : (list : ℕ) (s : Schedule) (word : ℕ → ℕ) (o : Option Work) → o ≡ None → StandsBy list s o word → AllLead list word s
+all_by list s word None e h = h
+all_by list s word (Some w) e h = absurd (false≢true (sym (ap is_some e)))
+
+pub insert_stands : (p : Periodic) (m : Member) (word : ℕ → ℕ) → IsKept p.members.schedule → has_name p.members.schedule (id_of m) ≡ false → p.work ≡ None
+    → word (address_of p.list (After m)) ≡ link_to (successor (with_member p.members.schedule m) m (frame_of m)) → StandFor p word → StandFor (inserting p m) word
+insert_stands p m word k n idle own h = inserting_begins p.list p.members.schedule m word k n (all_by p.list p.members.schedule word p.work idle h) own
+
+pub remove_stands : (p : Periodic) (m : Member) (word : ℕ → ℕ) → IsKept p.members.schedule → IsMember m → is_linked p.members.schedule m ≡ true → p.work ≡ None → StandFor p word → StandFor (removing p m) word
+remove_stands p m word k i l idle h = removing_begins p.list p.members.schedule m word k i l (all_by p.list p.members.schedule word p.work idle h)

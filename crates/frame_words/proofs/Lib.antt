@@ -4,3 +4,4 @@ pub mod Stored
 pub mod Half
 pub mod Steps
 pub mod Begins
+pub mod Opening

@@ -1,0 +1,5 @@
+use Rattle.frame_words.proofs.Steps.{one_store}
+use Rattle.frame_words.proofs.laws.each_store_keeps_the_words.Goals as goal
+
+pub returns : goal.returns
+returns c = one_store
