@@ -124,7 +124,7 @@ any_left p (x ∷ xs) ys h = elim (or_cases (p x) (list_any p xs) h) [
   | inr b ↦ right_or (p x) (list_any p (xs ++ ys)) (any_left p xs ys b)
 ]
 
-any_right : {X : Type 0} (p : X → Bool) (xs ys : List X) → list_any p ys ≡ true → list_any p (xs ++ ys) ≡ true
+pub any_right : {X : Type 0} (p : X → Bool) (xs ys : List X) → list_any p ys ≡ true → list_any p (xs ++ ys) ≡ true
 any_right p [] ys h = h
 any_right p (x ∷ xs) ys h = right_or (p x) (list_any p (xs ++ ys)) (any_right p xs ys h)
 

@@ -22,7 +22,7 @@ use Rattle.frame_members.proofs.Classes.{chain_is}
 use Rattle.frame_words.proofs.Decoded.{IsIn, IsInOr, IsWordOf}
 
 -- each of a list is in it
-left_or : (a b : Bool) → a ≡ true → (a || b) ≡ true
+pub left_or : (a b : Bool) → a ≡ true → (a || b) ≡ true
 left_or true b h = refl
 left_or false b h = absurd (false≢true h)
 
@@ -35,10 +35,10 @@ self_in same own [] = tt
 self_in same own (x ∷ xs) =
     (left_or (same x x) (list_any (same x) xs) (own x), weaken (λ y. list_any (same y) xs ≡ true) (λ y. list_any (same y) (x ∷ xs) ≡ true) (λ y h. right_or (same y x) (list_any (same y) xs) h) xs (self_in same own xs))
 
-that_itself : (d : Descriptor) → is_that d d ≡ true
+pub that_itself : (d : Descriptor) → is_that d d ≡ true
 that_itself d = and_from (nat_eq d.id d.id) (nat_eq d.frame d.frame) (eq-eqb d.id d.id refl) (eq-eqb d.frame d.frame refl)
 
-this_itself : (q : QueueHead) → is_this q q ≡ true
+pub this_itself : (q : QueueHead) → is_this q q ≡ true
 this_itself q = and_from (nat_eq q.id q.id) (nat_eq q.period q.period && nat_eq q.phase q.phase) (eq-eqb q.id q.id refl) (and_from (nat_eq q.period q.period) (nat_eq q.phase q.phase) (eq-eqb q.period q.period refl) (eq-eqb q.phase q.phase refl))
 
 pub chain_in : (s : Schedule) (f : ℕ) → IsKept s → AllByRecursion (IsIn s) (chain s f)

@@ -5,3 +5,4 @@ pub mod Half
 pub mod Steps
 pub mod Begins
 pub mod Opening
+pub mod Order

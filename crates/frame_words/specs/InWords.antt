@@ -8,6 +8,8 @@
 --     shown s w f                 the chain of frame f: the new one where its store was made, else the old one
 --     Begun p w word              before the first store the words stood for the old schedule and the member's own link led to the one
 --                                 behind it; since then the first stores were made, and nothing else
+--     HasMember s o               what is under way has a member of the schedule
+--     IsInOrder p                 the members are kept in order, and what is under way has one of them
 --     StandFor p word             the words stand for the list: each frame's lead to its chain, or what is under way has begun so
 use Rattle.std.specs.Prelude.{◌≡◌, ℕ, ◌+◌, ◌*◌, ◌/◌, ◌<◌, ◌≤◌, ◌⊎◌, Bool, true, nat_eq, List, [], ◌∷◌, take, Option, Some, None, if◌then◌else◌}
 use Rattle.std.specs.List.{list_any}
@@ -16,7 +18,7 @@ use Rattle.frame_chains.specs.declared.members.Predecessor.{Predecessor}
 use Rattle.frame_chains.specs.declared.members.Predecessor.TheVariants.{Element, After}
 use Rattle.frame_chains.specs.Chains.{Schedule, chain, id_of, successor}
 use Rattle.frame_chains.specs.Stores.{is_made}
-use Rattle.frame_members.specs.Members.{IsMember, without_member, frame_of, is_linked}
+use Rattle.frame_members.specs.Members.{IsKept, IsMember, without_member, frame_of, is_linked}
 use Rattle.periodic_list.specs.declared.work.Work.{Work}
 use Rattle.periodic_list.specs.Periodic.{Periodic, link_to, address_of, words_of, value_of}
 
@@ -67,6 +69,10 @@ StandFor p word = StandsBy p.list p.members.schedule p.work word
 abbrev pub HasMember : Schedule → Option Work → Type 0
 HasMember s None = Unit {0}
 HasMember s (Some w) = IsMember w.member × (is_linked s w.member ≡ true)
+
+pub record IsInOrder (p : Periodic) : Type 0 where
+  pub kept : IsKept p.members.schedule
+  pub member : HasMember p.members.schedule p.work
 
 -- the words once v is stored at an address
 abbrev pub with_value : (ℕ → ℕ) → ℕ → ℕ → ℕ → ℕ

@@ -8,12 +8,20 @@ ghost use Rattle.frame_chains.specs.Chains.{Schedule, of_lists, has_name, id_of,
 ghost use Rattle.frame_members.specs.Members.{IsKept, IsMember, is_linked, with_queue, with_descriptor, with_member, frame_of};
 ghost use Rattle.periodic_list.specs.declared.work.Work.{Work};
 ghost use Rattle.periodic_list.specs.declared.work.Store.{Store};
-ghost use Rattle.periodic_list.specs.Periodic.{Periodic, link_to, address_of, next_store, inserting, removing, after_store};
-ghost use Rattle.frame_words.specs.InWords.{Leads, IsSpread, HasMember, StandFor, Begun, shown, with_value};
+ghost use Rattle.periodic_list.specs.Periodic.{Periodic, new_list, link_to, address_of, next_store, inserting, removing, after_store};
+ghost use Rattle.frame_words.specs.InWords.{Leads, IsSpread, IsInOrder, StandFor, Begun, shown, with_value};
+
+/// The members stay in order, and what is under way has one of them.
+pub fn the_list_stays_in_order()
+    ensures empty { (list q d : ℕ) → IsInOrder (new_list list q d) }
+    ensures insert { (p : Periodic) → (m : Member) → IsInOrder p → IsMember m → has_name p.members.schedule (id_of m) ≡ false → IsInOrder (inserting p m) }
+    ensures remove { (p : Periodic) → (m : Member) → IsInOrder p → IsMember m → is_linked p.members.schedule m ≡ true → IsInOrder (removing p m) }
+    ensures store { (p : Periodic) → IsInOrder p → IsInOrder (after_store p) }
+{}
 
 /// Where the words stand for the list, they stand for it after the next store.
 pub fn each_store_keeps_the_words()
-    ensures { (p : Periodic) → (s : Store) → (word : ℕ → ℕ) → IsKept p.members.schedule → IsSpread p.list p.members.schedule → HasMember p.members.schedule p.work → StandFor p word → next_store p ≡ Some s → StandFor (after_store p) (with_value word s.at s.value) }
+    ensures { (p : Periodic) → (s : Store) → (word : ℕ → ℕ) → IsInOrder p → IsSpread p.list p.members.schedule → StandFor p word → next_store p ≡ Some s → StandFor (after_store p) (with_value word s.at s.value) }
 {}
 
 /// While a member is linked or unlinked, the words of each frame lead to the new chain where its store was made, else to the old one.
