@@ -8,7 +8,9 @@ use usb_base::Memory;
 const OPENED: u32 = 256;
 
 /// The periods that are opened in turn.
-const PERIODS: [u16; 14] = [1, 2, 4, 8, 16, 32, 64, 128, 256, 512, 1024, 2048, 4096, 8192];
+const PERIODS: [u16; 14] = [
+    1, 2, 4, 8, 16, 32, 64, 128, 256, 512, 1024, 2048, 4096, 8192,
+];
 
 /// The queue head number `n`: its phase goes through the frames of its period.
 fn queue(n: u32) -> Member {

@@ -57,11 +57,11 @@ descriptor_count s d id =
 pub keeps_queue : (s : Schedule) (q : QueueHead) → IsKept s → is_queue q ≡ true → has_name s q.id ≡ false → IsKept (of_lists s.descriptors (with_queue s.queues q))
 keeps_queue s q k h n = record {
   ranked = rising_more rank_of (filter (is_up_to (rank_of q)) s.queues) q (filter (λ x. not (is_up_to (rank_of q) x)) s.queues)
-  (rising_kept rank_of (is_up_to (rank_of q)) s.queues k.ranked) (rising_kept rank_of (λ x. not (is_up_to (rank_of q) x)) s.queues k.ranked)
-  (kept_pass (λ x. rank_of x ≤ rank_of q) (is_up_to (rank_of q)) (λ x e. leb-true (rank_of x) (rank_of q) e) s.queues)
-  (kept_pass (λ x. rank_of q ≤ rank_of x) (λ x. not (is_up_to (rank_of q) x)) (λ x e. not_up (rank_of x) (rank_of q) e) s.queues);
+      (rising_kept rank_of (is_up_to (rank_of q)) s.queues k.ranked) (rising_kept rank_of (λ x. not (is_up_to (rank_of q) x)) s.queues k.ranked)
+      (kept_pass (λ x. rank_of x ≤ rank_of q) (is_up_to (rank_of q)) (λ x e. leb-true (rank_of x) (rank_of q) e) s.queues)
+      (kept_pass (λ x. rank_of q ≤ rank_of x) (λ x. not (is_up_to (rank_of q) x)) (λ x e. not_up (rank_of x) (rank_of q) e) s.queues);
   queues = both_all (λ x. is_queue x ≡ true) (filter (is_up_to (rank_of q)) s.queues) (q ∷ filter (λ x. not (is_up_to (rank_of q) x)) s.queues)
-  (all_kept (λ x. is_queue x ≡ true) (is_up_to (rank_of q)) s.queues k.queues) (h, all_kept (λ x. is_queue x ≡ true) (λ x. not (is_up_to (rank_of q) x)) s.queues k.queues);
+      (all_kept (λ x. is_queue x ≡ true) (is_up_to (rank_of q)) s.queues k.queues) (h, all_kept (λ x. is_queue x ≡ true) (λ x. not (is_up_to (rank_of q) x)) s.queues k.queues);
   framed = k.framed;
   frames = k.frames;
   named = λ id. one_more id q.id (names (of_lists s.descriptors (with_queue s.queues q)) id) s (nat_eq q.id id) refl n (k.named id) (queue_count s q id);
@@ -72,11 +72,11 @@ keeps_descriptor s d k h n = record {
   ranked = k.ranked;
   queues = k.queues;
   framed = rising_more frame_in (filter (is_below d.frame) s.descriptors) d (filter (λ x. not (is_below d.frame x)) s.descriptors)
-  (rising_kept frame_in (is_below d.frame) s.descriptors k.framed) (rising_kept frame_in (λ x. not (is_below d.frame x)) s.descriptors k.framed)
-  (kept_pass (λ x. frame_in x ≤ d.frame) (is_below d.frame) (λ x e. let l = ltb-true x.frame d.frame e in omega (arith, l)) s.descriptors)
-  (kept_pass (λ x. d.frame ≤ frame_in x) (λ x. not (is_below d.frame x)) (λ x e. not_below x.frame d.frame e) s.descriptors);
+      (rising_kept frame_in (is_below d.frame) s.descriptors k.framed) (rising_kept frame_in (λ x. not (is_below d.frame x)) s.descriptors k.framed)
+      (kept_pass (λ x. frame_in x ≤ d.frame) (is_below d.frame) (λ x e. let l = ltb-true x.frame d.frame e in omega (arith, l)) s.descriptors)
+      (kept_pass (λ x. d.frame ≤ frame_in x) (λ x. not (is_below d.frame x)) (λ x e. not_below x.frame d.frame e) s.descriptors);
   frames = both_all (λ x. frame_in x < 1024) (filter (is_below d.frame) s.descriptors) (d ∷ filter (λ x. not (is_below d.frame x)) s.descriptors)
-  (all_kept (λ x. frame_in x < 1024) (is_below d.frame) s.descriptors k.frames) (h, all_kept (λ x. frame_in x < 1024) (λ x. not (is_below d.frame x)) s.descriptors k.frames);
+      (all_kept (λ x. frame_in x < 1024) (is_below d.frame) s.descriptors k.frames) (h, all_kept (λ x. frame_in x < 1024) (λ x. not (is_below d.frame x)) s.descriptors k.frames);
   named = λ id. one_more id d.id (names (of_lists (with_descriptor s.descriptors d) s.queues) id) s (nat_eq d.id id) refl n (k.named id) (descriptor_count s d id);
 }
 

@@ -96,4 +96,3 @@ pub ahead_lower : {X : Type 0} (n : X → ℕ) (xs : List X) (y : X) (zs : List 
 unfolding IsRising
 ahead_lower n [] y zs up = tt
 ahead_lower n (x ∷ xs) y zs up = (at_one (λ z. n x ≤ n z) xs y zs up.0, ahead_lower n xs y zs up.1)
-

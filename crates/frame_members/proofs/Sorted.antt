@@ -125,13 +125,13 @@ no_last n low xs k d up p l h =
     let e : length (take k xs) ≡ k = length-take-le k xs l in
     sym (ap (λ ys. last_or None ys) (none_pass (λ x. leb low (n x)) (take k xs) (recursion_from_All (λ x. leb low (n x) ≡ false) (take k xs)
     (λ i c j.
-        let below : i < k = omega (arith, j, e) in
-        let order : i ≤ k - 1 = omega (arith, below) in
-        let last : k - 1 < length xs = omega (arith, p, l) in
-        let a : n (get_or xs i d) ≤ n (get_or xs (k - 1) d) = rises n xs up i (k - 1) d order last in
-        let s : get_or xs i c ≡ get_or xs i d = same_item xs i c d (omega (arith, below, l)) in
-        let less : n (get_or xs i d) < low = omega (arith, a, h) in
-        subst (λ y. leb low (n y) ≡ false) (sym (get_or-take k xs i c below ∙ s)) (lt-leb low (n (get_or xs i d)) less)))))
+    let below : i < k = omega (arith, j, e) in
+    let order : i ≤ k - 1 = omega (arith, below) in
+    let last : k - 1 < length xs = omega (arith, p, l) in
+    let a : n (get_or xs i d) ≤ n (get_or xs (k - 1) d) = rises n xs up i (k - 1) d order last in
+    let s : get_or xs i c ≡ get_or xs i d = same_item xs i c d (omega (arith, below, l)) in
+    let less : n (get_or xs i d) < low = omega (arith, a, h) in
+    subst (λ y. leb low (n y) ≡ false) (sym (get_or-take k xs i c below ∙ s)) (lt-leb low (n (get_or xs i d)) less)))))
 
 opened : (b : Bool) → not b ≡ true → b ≡ false
 opened true h = absurd (false≢true h)

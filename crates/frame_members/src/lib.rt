@@ -12,6 +12,6 @@ mod order;
 mod places;
 mod queues;
 
+pub use checks::may_be_member;
 pub use levels::level_of;
 pub use members::FrameMembers;
-pub use checks::may_be_member;

@@ -9,9 +9,8 @@ ghost use Rattle.frame_chains.specs.Classes.{members, periods_of, last_of};
 ghost use Rattle.frame_members.specs.Members.{word_in_frame};
 
 use crate::checks::may_be_member;
-use crate::descriptors;
 use crate::order::{highest_of, lowest_of, rank_of_queue};
-use crate::queues;
+use crate::{descriptors, queues};
 use class_search::{Classes, Reads};
 use frame_chains::{Descriptor, Member, Predecessor, QueueHead};
 use std::alloc::Global;
@@ -44,7 +43,11 @@ impl Classes for FrameMembers {
 
     fn last(&self, level: u8, phase: u16, reads: &mut Reads) -> Option<QueueHead> {
         reads.count_one();
-        queues::last_between(&self.queues, lowest_of(level, phase), highest_of(level, phase))
+        queues::last_between(
+            &self.queues,
+            lowest_of(level, phase),
+            highest_of(level, phase),
+        )
     }
 }
 

@@ -109,7 +109,5 @@ pub(crate) fn has(queues: &[QueueHead], queue: &QueueHead) -> bool
     ensures { result ≡ list_any (is_this queue.now) queues.now }
 {
     let queue = *queue;
-    queues
-        .iter()
-        .any(|x| x.id == queue.id && x.period == queue.period && x.phase == queue.phase)
+    queues.iter().any(|x| x.id == queue.id && x.period == queue.period && x.phase == queue.phase)
 }

@@ -1,8 +1,8 @@
 -- What is under way begins: the words stood for the schedule before it.
-use Rattle.std.proofs.Common.{◌≡◌, ℕ, ◌+◌, ◌*◌, ◌/◌, ◌%◌, ◌<◌, ◌≤◌, Bool, true, false, List, [], ◌∷◌, ◌++◌, map, cond, nat_eq, leb, ltb, ◌⊎◌, inl, inr, Some, None, Option, if◌then◌else◌, refl, ap, sym, ◌∙◌, subst, arith}
+use Rattle.std.proofs.Common.{◌≡◌, ℕ, ◌*◌, ◌/◌, ◌%◌, ◌<◌, Bool, true, false, List, [], ◌∷◌, ◌++◌, map, cond, nat_eq, leb, inl, inr, Some, None, Option, if◌then◌else◌, refl, ap, sym, ◌∙◌, subst, arith}
 use Rattle.std.specs.Prelude.{◌||◌, ◌&&◌, filter, not, is_some}
 use Rattle.std.specs.List.{AllByRecursion, list_any, flat_map}
-use Rattle.std.proofs.lemmas.Bool.{false≢true, eqb-true, eq-eqb, or_cases, and_parts, leb-true, leb-false, ltb-true, ltb-false}
+use Rattle.std.proofs.lemmas.Bool.{false≢true, eqb-true, or_cases, and_parts, leb-true, leb-false, ltb-true}
 use Rattle.frame_chains.specs.declared.members.Descriptor.{Descriptor}
 use Rattle.frame_chains.specs.declared.members.QueueHead.{QueueHead}
 use Rattle.frame_chains.specs.declared.members.Member.{Member}
@@ -21,7 +21,7 @@ use Rattle.frame_chains.proofs.Words.{all_kept}
 use Rattle.frame_members.proofs.Splits.{IsAt}
 use Rattle.periodic_list.specs.declared.work.Work.{Work}
 use Rattle.periodic_list.specs.Periodic.{Periodic, link_to, address_of, begun, inserting, removing}
-use Rattle.frame_words.specs.InWords.{Leads, set_all, AllLead, Begun, StandsBy, StandFor}
+use Rattle.frame_words.specs.InWords.{Leads, AllLead, Begun, StandsBy, StandFor}
 use Rattle.frame_words.proofs.Stored.{queue_out, descriptor_out}
 
 -- a new member taken out again

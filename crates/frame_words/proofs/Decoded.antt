@@ -1,8 +1,8 @@
 -- The link that a word is: which member has this name.
-use Rattle.std.proofs.Common.{◌≡◌, ℕ, ◌+◌, ◌*◌, ◌/◌, ◌<◌, ◌≤◌, Bool, true, false, List, [], ◌∷◌, ◌++◌, map, cond, nat_eq, ◌⊎◌, inl, inr, Some, None, Option, if◌then◌else◌, refl, ap, sym, ◌∙◌, subst, arith}
-use Rattle.std.specs.Prelude.{◌||◌, ◌&&◌, filter, is_some}
+use Rattle.std.proofs.Common.{◌≡◌, ℕ, ◌+◌, ◌*◌, ◌/◌, ◌<◌, ◌≤◌, Bool, true, false, List, [], ◌∷◌, ◌++◌, cond, nat_eq, ◌⊎◌, inl, inr, Some, None, Option, if◌then◌else◌, refl, ap, sym, ◌∙◌, arith}
+use Rattle.std.specs.Prelude.{◌||◌, ◌&&◌, is_some}
 use Rattle.std.specs.List.{AllByRecursion, list_any, find}
-use Rattle.std.proofs.lemmas.Bool.{false≢true, eqb-true, eq-eqb, ne_eqb, and_from, or_cases}
+use Rattle.std.proofs.lemmas.Bool.{false≢true, eqb-true, eq-eqb, ne_eqb, and_from}
 use Rattle.frame_chains.specs.declared.members.Descriptor.{Descriptor}
 use Rattle.frame_chains.specs.declared.members.QueueHead.{QueueHead}
 use Rattle.frame_chains.specs.declared.members.Member.{Member}
@@ -12,10 +12,8 @@ use Rattle.frame_chains.specs.declared.members.Predecessor.TheVariants.{Element,
 use Rattle.frame_chains.specs.Chains.{Schedule, id_of}
 use Rattle.frame_chains.specs.Stores.{IsChain, is_same, is_word, is_among, stored}
 use Rattle.frame_chains.proofs.Following.{one_word}
-use Rattle.frame_chains.proofs.Links.{not_true}
 use Rattle.frame_members.specs.Ranks.{is_named, is_called}
 use Rattle.frame_members.specs.Members.{IsKept, is_linked}
-use Rattle.frame_members.proofs.Splits.{IsAt}
 use Rattle.frame_members.proofs.Keeping.{queue_at, descriptor_at, queue_alone}
 use Rattle.periodic_list.specs.Periodic.{link_to, address_of}
 use Rattle.frame_words.specs.InWords.{Leads, is_at, set_all, IsSpread}

@@ -1,8 +1,8 @@
 -- Each frame of the list while a member is linked or unlinked, and once all its stores are made.
-use Rattle.std.proofs.Common.{◌≡◌, ℕ, ◌+◌, ◌%◌, ◌^◌, ◌<◌, ◌≤◌, Bool, true, false, List, [], ◌∷◌, ◌++◌, map, take, cond, nat_eq, Some, None, Option, if◌then◌else◌, refl, ap, sym, ◌∙◌, subst, arith}
-use Rattle.std.specs.Prelude.{◌&&◌, filter, not, nat_lt}
+use Rattle.std.proofs.Common.{◌≡◌, ℕ, ◌^◌, ◌<◌, Bool, true, false, List, ◌++◌, map, take, nat_eq, Some, Option, if◌then◌else◌, refl, ap, sym, ◌∙◌, subst, arith}
+use Rattle.std.specs.Prelude.{◌&&◌, nat_lt}
 use Rattle.std.specs.List.{AllByRecursion, flat_map}
-use Rattle.std.proofs.lemmas.Bool.{false≢true, eq-eqb, eqb-true, and_parts}
+use Rattle.std.proofs.lemmas.Bool.{eqb-true, and_parts}
 use Rattle.frame_chains.specs.declared.members.Descriptor.{Descriptor}
 use Rattle.frame_chains.specs.declared.members.QueueHead.{QueueHead}
 use Rattle.frame_chains.specs.declared.members.Member.{Member}
@@ -10,7 +10,7 @@ use Rattle.frame_chains.specs.declared.members.Member.TheVariants.{Once, Each}
 use Rattle.frame_chains.specs.declared.members.Predecessor.{Predecessor}
 use Rattle.frame_chains.specs.declared.members.Predecessor.TheVariants.{Element, After}
 use Rattle.frame_chains.specs.Order.{frames}
-use Rattle.frame_chains.specs.Chains.{Schedule, of_lists, is_period, frame_period, is_active, stands_in, has_name, id_of, queues_in, periods, chain, predecessor, predecessors, successor}
+use Rattle.frame_chains.specs.Chains.{Schedule, is_period, frame_period, is_active, stands_in, id_of, queues_in, periods, chain, predecessor, predecessors, successor}
 use Rattle.frame_chains.specs.Stores.{IsChain, stored, is_among, is_made, half_linked, half_unlinked}
 use Rattle.frame_chains.proofs.Beside.{without, idle_chain}
 use Rattle.frame_chains.proofs.Linking.{weaken, all_made}
@@ -18,13 +18,13 @@ use Rattle.frame_chains.proofs.Descriptors.{all_made_once}
 use Rattle.frame_chains.proofs.Following.{first_ones}
 use Rattle.frame_chains.proofs.OneLink.{one_link}
 use Rattle.frame_members.specs.Ranks.{is_queue, is_named, is_called}
-use Rattle.frame_members.specs.Members.{IsKept, IsMember, is_linked, without_member, frame_of}
+use Rattle.frame_members.specs.Members.{IsKept, IsMember, without_member, frame_of}
 use Rattle.frame_members.proofs.Splits.{IsAt}
 use Rattle.frame_members.proofs.Ranges.{own_frame}
 use Rattle.frame_members.proofs.Keeping.{keeps_without, queue_at, queue_named, descriptor_at, descriptor_named}
 use Rattle.periodic_list.specs.Periodic.{link_to, address_of}
 use Rattle.frame_words.specs.InWords.{Leads, set_all, IsSpread, AllLead}
-use Rattle.frame_words.proofs.Decoded.{IsIn, IsInOr, IsWordOf, decoded, decoded_link, links_by, linked_by}
+use Rattle.frame_words.proofs.Decoded.{IsIn, IsWordOf, decoded, decoded_link, links_by, linked_by}
 use Rattle.frame_words.proofs.InChains.{chain_in, fewer_in, successor_in, half_in, words_in}
 use Rattle.frame_words.proofs.Stored.{to_words, queue_out, descriptor_out, queue_put, descriptor_put, queue_linked, queue_unlinked, once_linked, once_unlinked}
 

@@ -1,5 +1,5 @@
 -- The members of a chain, and the words before them, are those of the schedule.
-use Rattle.std.proofs.Common.{◌≡◌, ℕ, ◌+◌, ◌%◌, ◌^◌, ◌<◌, ◌≤◌, Bool, true, false, List, [], ◌∷◌, ◌++◌, map, take, cond, nat_eq, ◌⊎◌, inl, inr, Some, None, Option, if◌then◌else◌, refl, ap, sym, ◌∙◌, subst, arith}
+use Rattle.std.proofs.Common.{◌≡◌, ℕ, ◌^◌, ◌<◌, Bool, true, false, List, [], ◌∷◌, map, cond, nat_eq, inl, inr, if◌then◌else◌, refl, sym, subst, arith}
 use Rattle.std.specs.Prelude.{◌||◌, ◌&&◌, filter, not}
 use Rattle.std.specs.List.{AllByRecursion, list_any, flat_map}
 use Rattle.std.proofs.lemmas.Bool.{false≢true, eq-eqb, and_from, or_cases}
@@ -9,7 +9,7 @@ use Rattle.frame_chains.specs.declared.members.QueueHead.{QueueHead}
 use Rattle.frame_chains.specs.declared.members.Member.{Member}
 use Rattle.frame_chains.specs.declared.members.Member.TheVariants.{Once, Each}
 use Rattle.frame_chains.specs.declared.members.Predecessor.{Predecessor}
-use Rattle.frame_chains.specs.declared.members.Predecessor.TheVariants.{Element, After}
+use Rattle.frame_chains.specs.declared.members.Predecessor.TheVariants.{Element}
 use Rattle.frame_chains.specs.Order.{frames}
 use Rattle.frame_chains.specs.Chains.{Schedule, is_the, is_active, stands_in, first_frame, descriptors_in, first_of, before_the, behind_the, chain, predecessor, predecessors, word_met, successor}
 use Rattle.frame_chains.proofs.Orders.{all_below, both_parts}
@@ -17,7 +17,7 @@ use Rattle.frame_chains.proofs.Words.{all_kept, holds_after, after_all}
 use Rattle.frame_chains.proofs.Beside.{each_map}
 use Rattle.frame_chains.proofs.Linking.{weaken}
 use Rattle.frame_members.specs.Ranks.{is_named, is_called}
-use Rattle.frame_members.specs.Members.{IsKept, is_that, is_this, is_linked, without_member}
+use Rattle.frame_members.specs.Members.{IsKept, is_that, is_this, without_member}
 use Rattle.frame_members.proofs.Classes.{chain_is}
 use Rattle.frame_words.proofs.Decoded.{IsIn, IsInOr, IsWordOf}
 

@@ -1,16 +1,15 @@
 -- A frame's chain has its queue heads of one period in the order of opening, and its descriptors the newest first.
-use Rattle.std.proofs.Common.{◌≡◌, ℕ, ◌+◌, ◌-◌, ◌*◌, ◌%◌, ◌<◌, ◌≤◌, Bool, true, false, List, [], ◌∷◌, ◌++◌, map, cond, nat_eq, leb, ltb, refl, ap, sym, ◌∙◌, subst, arith}
-use Rattle.std.specs.Prelude.{◌&&◌, filter, not}
+use Rattle.std.proofs.Common.{◌≡◌, ℕ, ◌%◌, ◌≤◌, Bool, true, false, List, [], ◌∷◌, ◌++◌, map, cond, nat_eq, leb, ltb, refl, ap, sym, ◌∙◌, arith}
+use Rattle.std.specs.Prelude.{filter, not}
 use Rattle.std.specs.List.{flat_map}
-use Rattle.std.proofs.lemmas.Bool.{false≢true, eqb-true, and_parts, le-leb, lt-ltb, ltb-true}
+use Rattle.std.proofs.lemmas.Bool.{false≢true, eqb-true, and_parts, le-leb, ltb-true}
 use Rattle.std.proofs.lemmas.List.{append-nil}
 use Rattle.std.proofs.lemmas.List.Elements.{filter-append}
 use Rattle.frame_chains.proofs.Links.{not_true}
 use Rattle.frame_chains.specs.declared.members.Descriptor.{Descriptor}
 use Rattle.frame_chains.specs.declared.members.QueueHead.{QueueHead}
-use Rattle.frame_chains.specs.declared.members.Member.{Member}
 use Rattle.frame_chains.specs.declared.members.Member.TheVariants.{Once, Each}
-use Rattle.frame_chains.specs.Chains.{Schedule, of_lists, periods, frame_period, at_place, descriptors_in, queues_in, chain}
+use Rattle.frame_chains.specs.Chains.{of_lists, periods, frame_period, at_place, descriptors_in, queues_in, chain}
 use Rattle.frame_members.specs.Ranks.{rank, rank_of}
 use Rattle.frame_members.specs.Members.{is_up_to, is_below, with_queue, with_descriptor}
 

@@ -1,10 +1,10 @@
 -- The list stays in order, and what is under way has its member in it.
-use Rattle.std.proofs.Common.{◌≡◌, ℕ, ◌+◌, ◌<◌, ◌≤◌, Bool, true, false, List, [], ◌∷◌, ◌++◌, nat_eq, Some, None, Option, if◌then◌else◌, refl, ap, sym, ◌∙◌, subst}
-use Rattle.std.specs.Prelude.{◌||◌, ◌&&◌, filter, not}
+use Rattle.std.proofs.Common.{◌≡◌, ℕ, ◌+◌, Bool, true, false, [], ◌∷◌, Some, None, Option, if◌then◌else◌, refl}
+use Rattle.std.specs.Prelude.{filter, not}
 use Rattle.std.specs.List.{list_any}
 use Rattle.frame_chains.specs.declared.members.Member.{Member}
 use Rattle.frame_chains.specs.declared.members.Member.TheVariants.{Once, Each}
-use Rattle.frame_chains.specs.Chains.{Schedule, of_lists, has_name, id_of}
+use Rattle.frame_chains.specs.Chains.{Schedule, has_name, id_of}
 use Rattle.frame_members.specs.Ranks.{rank_of}
 use Rattle.frame_members.specs.Members.{Members, IsKept, IsMember, is_this, is_that, is_linked, is_up_to, is_below, with_member, without_member, with_schedule}
 use Rattle.frame_members.proofs.Keeping.{keeps_with, keeps_without, kept_at_first}

@@ -1,7 +1,7 @@
 -- One store keeps the words standing for the list.
-use Rattle.std.proofs.Common.{◌≡◌, ℕ, zero, suc, ◌+◌, ◌<◌, ◌≤◌, Bool, true, false, List, [], ◌∷◌, ◌++◌, length, take, nat_eq, ltb, Some, None, Option, if◌then◌else◌, refl, ap, sym, ◌∙◌, subst, arith}
+use Rattle.std.proofs.Common.{◌≡◌, ℕ, zero, suc, ◌+◌, ◌<◌, Bool, true, false, List, [], ◌∷◌, ◌++◌, length, take, nat_eq, Some, None, Option, if◌then◌else◌, refl, ap, sym, ◌∙◌, subst, arith}
 use Rattle.std.specs.Prelude.{◌||◌, option_map, option_and_then, is_some}
-use Rattle.std.specs.List.{AllByRecursion, list_any, slice_get}
+use Rattle.std.specs.List.{list_any, slice_get}
 use Rattle.std.proofs.lemmas.Bool.{false≢true, eqb-true, eq-eqb, ltb-false}
 use Rattle.std.proofs.lemmas.List.{take_all}
 use Rattle.frame_chains.proofs.Links.{not_true}
@@ -9,7 +9,7 @@ use Rattle.frame_chains.specs.declared.members.Member.{Member}
 use Rattle.frame_chains.specs.declared.members.Predecessor.{Predecessor}
 use Rattle.frame_chains.specs.declared.members.Predecessor.TheVariants.{Element, After}
 use Rattle.frame_chains.specs.Chains.{Schedule, chain, id_of, successor}
-use Rattle.frame_chains.specs.Stores.{half_linked, half_unlinked, is_made}
+use Rattle.frame_chains.specs.Stores.{is_made}
 use Rattle.frame_members.specs.Members.{Members, IsKept, IsMember, is_linked, without_member, with_schedule, frame_of}
 use Rattle.periodic_list.specs.declared.work.Work.{Work}
 use Rattle.periodic_list.specs.declared.work.Store.{Store}

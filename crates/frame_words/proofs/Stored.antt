@@ -1,9 +1,8 @@
 -- The words while a member is linked or unlinked: each frame's lead to the new chain where its store is made, else to the old one.
-use Rattle.std.proofs.Common.{◌≡◌, ℕ, ◌+◌, ◌%◌, ◌^◌, ◌<◌, ◌≤◌, Bool, true, false, List, [], ◌∷◌, ◌++◌, map, take, cond, nat_eq, Some, None, Option, if◌then◌else◌, refl, ap, sym, ◌∙◌, subst, arith}
-use Rattle.std.specs.Prelude.{◌&&◌, filter, not}
+use Rattle.std.proofs.Common.{◌≡◌, ℕ, ◌<◌, Bool, true, false, List, ◌∷◌, ◌++◌, take, cond, nat_eq, Some, Option, refl, ap, sym, ◌∙◌, subst}
+use Rattle.std.specs.Prelude.{filter, not}
 use Rattle.std.specs.List.{AllByRecursion}
-use Rattle.std.proofs.lemmas.Bool.{false≢true, eq-eqb, eqb-true, and_parts}
-use Rattle.std.proofs.lemmas.List.{append-nil}
+use Rattle.std.proofs.lemmas.Bool.{eq-eqb}
 use Rattle.std.proofs.lemmas.List.Elements.{filter-append}
 use Rattle.frame_chains.specs.declared.members.Descriptor.{Descriptor}
 use Rattle.frame_chains.specs.declared.members.QueueHead.{QueueHead}
@@ -12,24 +11,19 @@ use Rattle.frame_chains.specs.declared.members.Member.TheVariants.{Once, Each}
 use Rattle.frame_chains.specs.declared.members.Predecessor.{Predecessor}
 use Rattle.frame_chains.specs.declared.members.Predecessor.TheVariants.{Element, After}
 use Rattle.frame_chains.specs.Order.{frames}
-use Rattle.frame_chains.specs.Chains.{Schedule, of_lists, is_period, frame_period, is_active, has_name, chain, predecessor, predecessors, successor}
-use Rattle.frame_chains.specs.Stores.{IsChain, stored, is_made, half_linked, half_unlinked}
+use Rattle.frame_chains.specs.Chains.{Schedule, of_lists, is_period, is_active, has_name, chain, predecessors, successor}
+use Rattle.frame_chains.specs.Stores.{IsChain, stored, half_linked, half_unlinked}
 use Rattle.frame_chains.proofs.Beside.{each_map}
 use Rattle.frame_chains.proofs.Links.{Links, led}
 use Rattle.frame_chains.proofs.Linking.{weaken, linking, unlinking}
 use Rattle.frame_chains.proofs.Descriptors.{linking_once, unlinking_once}
-use Rattle.frame_chains.proofs.Following.{first_ones}
-use Rattle.frame_chains.proofs.OneLink.{one_link}
-use Rattle.frame_members.specs.Ranks.{is_queue, is_named, is_called}
-use Rattle.frame_members.specs.Members.{IsKept, IsMember, is_linked, without_member, frame_of}
+use Rattle.frame_members.specs.Ranks.{is_named, is_called}
+use Rattle.frame_members.specs.Members.{IsKept, without_member}
 use Rattle.frame_members.proofs.Sorted.{all_pass}
 use Rattle.frame_members.proofs.Splits.{IsAt}
-use Rattle.frame_members.proofs.Ranges.{own_frame}
-use Rattle.frame_members.proofs.Keeping.{keeps_without, queue_at, queue_named, descriptor_at, descriptor_named}
-use Rattle.periodic_list.specs.Periodic.{link_to, address_of}
-use Rattle.frame_words.specs.InWords.{Leads, set_all, IsSpread, AllLead}
-use Rattle.frame_words.proofs.Decoded.{IsIn, IsInOr, IsWordOf, decoded, decoded_link, links_by, linked_by, leads_by, same_links}
-use Rattle.frame_words.proofs.InChains.{chain_in, fewer_in, successor_in, half_in, words_in}
+use Rattle.periodic_list.specs.Periodic.{link_to}
+use Rattle.frame_words.specs.InWords.{Leads, set_all, IsSpread}
+use Rattle.frame_words.proofs.Decoded.{IsIn, IsInOr, IsWordOf, links_by, leads_by, same_links}
 
 -- from the links that are stored to the words
 pub to_words : (list : ℕ) (s : Schedule) (before : ℕ → ℕ) (ps : List Predecessor) (o : Option Member) (f : ℕ) (ms : List Member) → IsKept s → IsSpread list s → IsInOr s o → AllByRecursion (IsWordOf s) ps → f < 1024 → AllByRecursion (IsIn s) ms

@@ -11,7 +11,7 @@
 --     HasMember s o               what is under way has a member of the schedule
 --     IsInOrder p                 the members are kept in order, and what is under way has one of them
 --     StandFor p word             the words stand for the list: each frame's lead to its chain, or what is under way has begun so
-use Rattle.std.specs.Prelude.{◌≡◌, ℕ, ◌+◌, ◌*◌, ◌/◌, ◌<◌, ◌≤◌, ◌⊎◌, Bool, true, nat_eq, List, [], ◌∷◌, take, Option, Some, None, if◌then◌else◌}
+use Rattle.std.specs.Prelude.{◌≡◌, ℕ, ◌+◌, ◌/◌, ◌<◌, ◌≤◌, ◌⊎◌, Bool, true, nat_eq, List, [], ◌∷◌, take, Option, Some, None, if◌then◌else◌}
 use Rattle.std.specs.List.{list_any}
 use Rattle.frame_chains.specs.declared.members.Member.{Member}
 use Rattle.frame_chains.specs.declared.members.Predecessor.{Predecessor}

@@ -72,7 +72,11 @@ impl Play {
     /// What the step did.
     pub fn step(&mut self, alloc: Global, step: &Step) -> Result<String, AllocError> {
         match *step {
-            Step::Link(block, period, phase) => self.link(alloc, &queue(block, period, phase), 2000),
+            Step::Link(block, period, phase) => self.link(
+                alloc,
+                &queue(block, period, phase),
+                2000,
+            ),
             Step::Begin(block, period, phase, most) => {
                 self.link(alloc, &queue(block, period, phase), most)
             }
