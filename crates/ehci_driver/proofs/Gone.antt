@@ -7,7 +7,8 @@ use Rattle.driver_rows.specs.declared.content.Transfer.{Transfer}
 use Rattle.driver_rows.specs.declared.content.Reserve.{Reserve}
 use Rattle.driver_rows.specs.DriverContent.{waits_for}
 use Rattle.driver_rows.specs.Rows.{let_go, is_told, ended_by_cancel}
-use Rattle.ehci_driver.specs.Rooms.{HasRooms, unreported, owed_bytes, owed_of}
+use Rattle.driver_harvests.specs.Owed.{owed_of}
+use Rattle.ehci_driver.specs.Rooms.{HasRooms, unreported, owed_bytes}
 use Rattle.ehci_driver.proofs.Counts.{kept_linked, less_cancels, gone_cancel}
 
 one_less : (n : ℕ) (r told : Bool) → cond (r || told) 0 n ≤ cond r 0 n

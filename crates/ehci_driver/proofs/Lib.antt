@@ -1,6 +1,3 @@
-pub mod Lists
-pub mod Freed
-pub mod Moved
 pub mod Counts
 pub mod Lines
 pub mod Kept
@@ -9,3 +6,4 @@ pub mod Gone
 pub mod Written
 pub mod Entered
 pub mod Offered
+pub mod Rosters

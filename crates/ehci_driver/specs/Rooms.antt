@@ -1,23 +1,18 @@
 -- The room that a driver made when it was built: each list has room for what is still owed to it, so that nothing grows later.
 --     unreported ts       how many transfers have no line of the report yet
 --     owed_bytes ts       the most bytes that their lines tell
---     owed_of e ts        the same of those of endpoint e
 --     owed_cancels xs     how many cancelled endpoints aren't given back yet
 --     linked xs           how many endpoints are in the ring
 use Rattle.std.specs.Prelude.{ℕ, ◌+◌, ◌*◌, ◌≤◌, ◌<◌, not, ◌&&◌, List, length, sum_by, if◌then◌else◌}
 use Rattle.driver_rows.specs.declared.content.Endpoint.{Endpoint}
 use Rattle.driver_rows.specs.declared.content.Transfer.{Transfer}
 use Rattle.driver_rows.specs.declared.content.Reserve.{Reserve}
-use Rattle.driver_rows.specs.DriverContent.{waits_for}
 
 abbrev pub unreported : List Transfer → ℕ
 unreported ts = sum_by (λ t. if t.reported then 0 else 1) ts
 
 abbrev pub owed_bytes : List Transfer → ℕ
 owed_bytes ts = sum_by (λ t. if t.reported then 0 else t.most) ts
-
-abbrev pub owed_of : ℕ → List Transfer → ℕ
-owed_of e ts = sum_by (λ t. if waits_for e t then t.most else 0) ts
 
 abbrev pub owed_cancels : List Endpoint → ℕ
 owed_cancels xs = sum_by (λ x. if x.cancelled && not x.gone then 1 else 0) xs

@@ -3,9 +3,8 @@ ghost use Rattle.op_registers.specs.RegisterFile.{reset_file};
 ghost use Rattle.word_mem.specs.Memory.{fresh};
 ghost use Rattle.run_book.specs.Book.{holding, Stands};
 
-use driver_rows::{
-    Bell, Command, DriverStep, Endpoint, Mend, QtdNote, Reserve, Row, Transfer, Turn,
-};
+use driver_endpoints::Endpoints;
+use driver_rows::{Bell, Command, Mend, QtdNote, Reserve, Transfer, Turn};
 use op_registers::Registers;
 use run_book::RunBook;
 use std::alloc::Global;
@@ -18,7 +17,7 @@ use word_mem::WordMem;
 #[derive(Drop)]
 pub struct Driver {
     pub(crate) book: RunBook,
-    pub(crate) endpoints: Vec<Endpoint>,
+    pub(crate) endpoints: Endpoints,
     pub(crate) transfers: Vec<Transfer>,
     pub(crate) notes: Vec<QtdNote>,
     pub(crate) command: Option<Command>,
@@ -66,7 +65,7 @@ impl Model for Driver {
     } };
 
     ghost invariant = { λ d. HasRooms d.endpoints.items d.transfers.items d.room
-        (vec_capacity d.endpoints) (vec_capacity d.transfers)
+        d.endpoints.most (vec_capacity d.transfers)
         (vec_len d.reports) (vec_capacity d.reports) (vec_len d.store) (vec_capacity d.store)
         (deque_len d.harvested) (deque_capacity d.harvested) (deque_len d.mends) (deque_capacity d.mends)
         (deque_len d.waiting) (deque_capacity d.waiting) (deque_len d.rung) (deque_capacity d.rung) (deque_len d.cleared) (deque_capacity d.cleared) };

@@ -7,6 +7,7 @@ ghost use Rattle.driver_rows.specs.Harvests.{note_at};
 ghost use Rattle.ehci_driver.specs.Written.{OnlyStores};
 
 use crate::driver::Driver;
+use driver_endpoints::last_event;
 use driver_rows::{Bell, Command, DriverStep, Endpoint, Found, Mend, Row, Transfer, Turn};
 use op_registers::Registers;
 use std::collections::VecDeque;
@@ -122,17 +123,17 @@ impl Driver {
         ensures driver { self.new ≡ leave_ring self.old e (slice_get self.old.endpoints e) }
         ensures book { self.new.book ≡ self.old.book }
     {
-        if e >= self.endpoints.len() {
+        let Some(endpoint) = self.endpoints.get(e) else {
             return;
-        }
-        let endpoint = self.endpoints[e];
+        };
         if !endpoint.linked {
             return;
         }
-        self.endpoints[e] = Endpoint {
+        let unlinked = Endpoint {
             linked: false,
             ..endpoint
         };
+        self.endpoints.write(e, unlinked);
         self.waiting.push_back_reserved(e);
     }
 
@@ -191,17 +192,5 @@ fn move_all(from: &mut VecDeque<usize>, to: &mut VecDeque<usize>)
 {
     while let Some(e) = from.pop_front() {
         to.push_back_reserved(e);
-    }
-}
-
-/// The number of the command's last event, from 0.
-fn last_event(command: &Command) -> u8
-    ensures last { length (events_of command.now) ≡ result + 1 }
-    ensures few { result ≤ 8 }
-{
-    match command {
-        Command::Open(_) => 1,
-        Command::Publish(_, _) => 8,
-        Command::Unlink(_, _, _) => 0,
     }
 }

@@ -6,7 +6,6 @@
 //! Beside it stand `run_book`, which has its runs of blocks, and `word_mem`, whose words it shares with the controller.
 #![tactic(auto)]
 
-mod cancels;
 mod driver;
 mod events;
 mod harvests;

@@ -6,6 +6,7 @@ ghost use Rattle.driver_rows.specs.Words.{queue_head_link};
 ghost use Rattle.driver_rows.specs.Offers.{offered, offered_next, offered_open, offered_cancel, accepted_cancel, before, after, first_end, written_open, new_endpoint, newest_of, IsOffered};
 
 use crate::driver::Driver;
+use driver_endpoints::{not_again, or_cancel};
 use driver_queues::{newest, oldest, take_endpoint, write_endpoint};
 use driver_rows::{Command, Endpoint};
 use usb_base::{Cmd, EndCause, EpDesc, EpName, OfferError};
@@ -93,9 +94,9 @@ impl Driver {
         ensures memory { mem.new ≡ written_open self.old.book mem.old desc.now (newest_of self.old.endpoints) queue dummy }
         ensures stands { Stands (holding self.new.book mem.new) }
     {
-        let link = newest(&self.endpoints);
+        let link = newest(self.endpoints.as_slice());
         write_endpoint(&self.book, mem, desc, link, queue, dummy);
-        self.endpoints.push_reserved(Endpoint {
+        self.endpoints.push(&Endpoint {
             desc: *desc,
             queue,
             dummy,
@@ -143,11 +144,12 @@ impl Driver {
         self.room.reports -= 1;
         self.command = Some(Command::Unlink(e, behind, link));
         self.made = 0;
-        self.endpoints[e] = Endpoint {
+        let cancelled = Endpoint {
             cancelled: true,
             ended: or_cancel(endpoint.ended),
             ..*endpoint
         };
+        self.endpoints.write(e, cancelled);
     }
 
     /// The block that leads to the endpoint of this number in the ring.
@@ -155,7 +157,7 @@ impl Driver {
         requires { e < length self.now.endpoints }
         ensures { result ≡ before self.now e }
     {
-        oldest(&self.endpoints[e + 1..])
+        oldest(&self.endpoints.as_slice()[e + 1..])
     }
 
     /// The block to which the endpoint of this number leads in the ring.
@@ -163,27 +165,7 @@ impl Driver {
         requires { e < length self.now.endpoints }
         ensures { result ≡ after self.now e }
     {
-        newest(&self.endpoints[..e])
-    }
-}
-
-/// Why an endpoint isn't opened again.
-fn not_again(endpoint: &Endpoint) -> OfferError
-    ensures { (d : DriverContent) (m : Mem) (x : EpDesc) → offered_open d m x (Some endpoint.now) ≡ Err result }
-{
-    match endpoint.ended {
-        Some(cause) => OfferError::Closed(cause),
-        None => OfferError::AlreadyOpen,
-    }
-}
-
-/// Why an endpoint that is cancelled ended first.
-fn or_cancel(ended: Option<EndCause>) -> Option<EndCause>
-    ensures { result ≡ first_end ended }
-{
-    match ended {
-        Some(cause) => Some(cause),
-        None => Some(EndCause::Cancel),
+        newest(&self.endpoints.as_slice()[..e])
     }
 }
 

@@ -7,6 +7,7 @@ ghost use Rattle.driver_rows.specs.DriverContent.{new_driver};
 ghost use Rattle.driver_rows.specs.Opening.{opening_book, opening_memory, opening_registers};
 
 use crate::driver::Driver;
+use driver_endpoints::Endpoints;
 use driver_queues::open_ring;
 use driver_rows::{Bell, QtdNote, Reserve, Turn};
 use op_registers::Registers;
@@ -62,7 +63,7 @@ impl Driver {
         };
         Ok(Driver {
             book: RunBook::build(alloc, mem)?,
-            endpoints: Vec::with_capacity(alloc, endpoints)?,
+            endpoints: Endpoints::build(alloc, endpoints)?,
             transfers: Vec::with_capacity(alloc, transfers)?,
             notes: vec![in alloc; no_note; blocks as usize]?,
             command: None,

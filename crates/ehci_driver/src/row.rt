@@ -1,15 +1,13 @@
-ghost use Rattle.std.specs.Prelude.{◌≡◌, ◌≤◌, ◌+◌, ◌*◌, ℕ, length, slice_get, slice_index_or, ◌<◌, slice_index, Some, None, position, IfSome};
+ghost use Rattle.std.specs.Prelude.{◌≡◌, ◌≤◌, ◌+◌, ◌*◌, ℕ, slice_get, ◌<◌, slice_index, Some, None};
 ghost use Rattle.driver_rows.specs.Rows.{Parts, row_of, command_row, leaving_row, bell_row, harvest_row, worker_row, transfer_row, reading_row, next_worker, worker_from, tells_advance, first_row, turn_row};
-ghost use Rattle.driver_rows.specs.Harvests.{note_at, token_in, found_in, moved_of, done_of, ends_by, halt_of, is_get};
-ghost use Rattle.driver_rows.specs.DriverContent.{works, waits_for};
-ghost use Rattle.word_mem.specs.Memory.{word_at};
+ghost use Rattle.driver_rows.specs.Harvests.{note_at, token_in, found_in};
+ghost use Rattle.driver_rows.specs.DriverContent.{waits_for};
 
 use crate::driver::Driver;
-use driver_rows::{Bell, Command, Endpoint, Found, QtdNote, Row, Sort, Transfer, Turn};
-use driver_words::HEAD_BLOCK;
+use driver_endpoints::row_of_command;
+use driver_harvests::{found, note_of, token_at};
+use driver_rows::{Bell, QtdNote, Row, Turn};
 use op_registers::Registers;
-use qh_qtd::Token;
-use usb_base::{EndCause, What};
 use word_mem::WordMem;
 
 /// The offset of USBSTS (EHCI 1.0, 2.3.2).
@@ -143,106 +141,11 @@ impl Driver {
     fn next_worker(&self) -> Option<usize>
         ensures { result ≡ next_worker self.now }
     {
-        if let Some(e) = self.worker_from(self.place) {
+        if let Some(e) = self.endpoints.next_from(self.place) {
             return Some(e);
         }
-        self.worker_from(0)
+        self.endpoints.next_from(0)
     }
-
-    #[tactic(auto, using(std::proofs::lemmas::Grind::common_steps, crate::proofs::Lists::drop_past))]
-    fn worker_from(&self, from: usize) -> Option<usize>
-        ensures { result ≡ worker_from self.now.endpoints from }
-    {
-        if from > self.endpoints.len() {
-            return None;
-        }
-        match first_with_work(&self.endpoints[from..]) {
-            Some(i) => Some(from + i),
-            None => None,
-        }
-    }
-}
-
-/// What is known of the qTD in a block.
-pub(crate) fn note_of(notes: &[QtdNote], block: u16) -> QtdNote
-    ensures { result ≡ note_at notes.now block }
-{
-    match notes.get(block as usize) {
-        Some(note) => *note,
-        None => QtdNote {
-            next: 0,
-            buffer: [0; 5],
-            runs: 0,
-            told: 0,
-            moved: 0,
-        },
-    }
-}
-
-/// The first of these endpoints that has a transfer to harvest.
-fn first_with_work(endpoints: &[Endpoint]) -> Option<usize>
-    ensures place { result ≡ position works endpoints.now }
-    ensures within { IfSome result (λ i. i < length endpoints.now) }
-{
-    endpoints.iter().position(|endpoint| has_work(endpoint))
-}
-
-/// Whether the endpoint has a transfer to harvest.
-fn has_work(endpoint: &Endpoint) -> bool
-    ensures { result ≡ works endpoint.now }
-{
-    endpoint.next.is_some() && endpoint.ended.is_none()
-}
-
-/// Whether the transfer is the endpoint's and isn't reported.
-pub(crate) fn waits_at(transfer: &Transfer, e: usize) -> bool
-    ensures { result ≡ waits_for e transfer.now }
-{
-    transfer.endpoint == e && !transfer.reported
-}
-
-/// The next event of a command.
-fn row_of_command(command: &Command, made: u8) -> Row
-    ensures { result ≡ command_row command.now made }
-{
-    match command {
-        Command::Open(queue) => match made {
-            0 => Row::Lend,
-            1 => Row::Store(HEAD_BLOCK, 32 * HEAD_BLOCK as u32, 32 * *queue as u32 + 2),
-            _ => Row::Rest,
-        },
-        Command::Publish(block, words) => publish_row(*block, words, made),
-        Command::Unlink(_, block, link) => match made {
-            0 => Row::Store(*block, 32 * *block as u32, *link),
-            _ => Row::Rest,
-        },
-    }
-}
-
-/// The next event of a command that publishes a transfer.
-fn publish_row(block: u16, words: &[u32; 8], made: u8) -> Row
-    ensures { result ≡ command_row (Command.Publish block words.now) made }
-{
-    match made {
-        0 => Row::Lend,
-        1 => store_row(block, words, 0),
-        2 => store_row(block, words, 1),
-        3 => store_row(block, words, 3),
-        4 => store_row(block, words, 4),
-        5 => store_row(block, words, 5),
-        6 => store_row(block, words, 6),
-        7 => store_row(block, words, 7),
-        8 => store_row(block, words, 2),
-        _ => Row::Rest,
-    }
-}
-
-/// The store of one word of a qTD.
-fn store_row(block: u16, words: &[u32; 8], i: u8) -> Row
-    requires { i < 8 }
-    ensures { result ≡ Row.Store block (32 * block + 4 * i) (slice_index words.now i) }
-{
-    Row::Store(block, 32 * block as u32 + 4 * i as u32, words[i as usize])
 }
 
 /// Whether USBSTS tells Async Advance.
@@ -253,72 +156,4 @@ fn reads_advance(regs: &Registers) -> bool
         Some(status) => status & ADVANCE == ADVANCE,
         None => false,
     }
-}
-
-/// The word at the byte address `at`, and 0 past the last word.
-pub(crate) fn word_or_zero(mem: &WordMem, at: u32) -> u32
-    ensures { result ≡ word_at mem.now at }
-{
-    if at / 4 < mem.words() {
-        mem.word(at - at % 4)
-    } else {
-        0
-    }
-}
-
-/// The token of the qTD in this block.
-pub(crate) fn token_at(mem: &WordMem, block: u16) -> Token
-    ensures { result ≡ token_in mem.now block }
-{
-    Token::from_word(word_or_zero(mem, 32 * block as u32 + 8))
-}
-
-/// What a token tells.
-fn found(sort: Sort, last: bool, note: &QtdNote, token: &Token) -> Found
-    ensures { result ≡ found_in sort last note.now token.now }
-{
-    if token.active {
-        return Found::Active;
-    }
-    let moved = moved_bytes_of(note.told, token.total);
-    if token.halted {
-        return Found::Ended(moved, halt(token));
-    }
-    if last || asks_bytes(sort) && token.total != 0 {
-        return Found::Ended(moved, What::Done);
-    }
-    Found::Moved(moved)
-}
-
-/// How many of `told` bytes were moved where `left` are left: none where more are left than there were.
-pub(crate) fn moved_bytes_of(told: u16, left: u16) -> u16
-    ensures moved { result ≡ moved_of told left }
-    ensures within { result ≤ told }
-{
-    if left <= told { told - left } else { 0 }
-}
-
-fn asks_bytes(sort: Sort) -> bool
-    ensures { result ≡ is_get sort }
-{
-    match sort {
-        Sort::Get => true,
-        Sort::Put | Sort::Request => false,
-    }
-}
-
-/// Why a token is halted (EHCI 1.0, 4.15.1).
-fn halt(token: &Token) -> What
-    ensures { result ≡ halt_of token.now }
-{
-    if token.missed {
-        return What::Miss;
-    }
-    if token.babble {
-        return What::Halt(EndCause::Babble);
-    }
-    if token.cerr == 0 {
-        return What::Halt(EndCause::Error);
-    }
-    What::Halt(EndCause::Stall)
 }

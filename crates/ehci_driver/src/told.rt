@@ -3,8 +3,8 @@ ghost use Rattle.driver_rows.specs.DriverContent.{busy, pending, opened, ended, 
 ghost use Rattle.usb_base.specs.declared.reports.What.TheVariants.{Refused};
 
 use crate::driver::Driver;
-use driver_rows::{Endpoint, Reserve, Transfer};
-use usb_base::{EndCause, EpName, OfferError, Report, Way, What};
+use driver_rows::{Reserve, Transfer};
+use usb_base::{EndCause, EpName, OfferError, Report, What};
 
 impl Driver {
     /// Whether an accepted command is unfinished.
@@ -48,7 +48,7 @@ impl Driver {
     pub fn pending(&self, name: &EpName) -> u32
         ensures { result ≡ pending self.now name.now }
     {
-        match find(&self.endpoints, name) {
+        match self.endpoints.find(name) {
             Some(e) => self.count_waiting(e),
             None => 0,
         }
@@ -65,7 +65,7 @@ impl Driver {
     pub fn opened(&self, name: &EpName) -> bool
         ensures { result ≡ opened self.now name.now }
     {
-        find(&self.endpoints, name).is_some()
+        self.endpoints.find(name).is_some()
     }
 
     /// Why the endpoint ended first: by a halt or miss from its harvest on, by a cancel from its acceptance on. None: it wasn't opened,
@@ -73,7 +73,7 @@ impl Driver {
     pub fn ended(&self, name: &EpName) -> Option<EndCause>
         ensures { result ≡ ended self.now name.now }
     {
-        match find(&self.endpoints, name) {
+        match self.endpoints.find(name) {
             Some(e) => self.ended_at(e),
             None => None,
         }
@@ -83,10 +83,10 @@ impl Driver {
     fn ended_at(&self, e: usize) -> Option<EndCause>
         ensures { result ≡ option_and_then (λ x. x.ended) (slice_get self.now.endpoints e) }
     {
-        if e >= self.endpoints.len() {
-            return None;
+        match self.endpoints.get(e) {
+            Some(endpoint) => endpoint.ended,
+            None => None,
         }
-        self.endpoints[e].ended
     }
 
     /// One more line of the report: the command on this line of the script was refused. There is room for it.
@@ -114,31 +114,4 @@ fn count_waiting_in(transfers: &[Transfer], e: usize) -> usize
         .iter()
         .filter(|transfer| transfer.endpoint == e && !transfer.reported)
         .count()
-}
-
-/// The number of the endpoint with this name.
-pub(crate) fn find(endpoints: &[Endpoint], name: &EpName) -> Option<usize>
-    ensures place { result ≡ position (λ x. is_same_name x.desc.name name.now) endpoints.now }
-    ensures within { IfSome result (λ e. e < length endpoints.now) }
-{
-    endpoints
-        .iter()
-        .position(|endpoint| has_same_name(&endpoint.desc.name, name))
-}
-
-/// Whether the names are the same.
-fn has_same_name(a: &EpName, b: &EpName) -> bool
-    ensures { result ≡ is_same_name a.now b.now }
-{
-    a.addr.get() == b.addr.get() && a.num.get() == b.num.get() && goes_same_way(a.way, b.way)
-}
-
-/// Whether the ways are the same.
-pub(crate) fn goes_same_way(a: Way, b: Way) -> bool
-    ensures { result ≡ is_same_way a b }
-{
-    match (a, b) {
-        (Way::In, Way::In) | (Way::Out, Way::Out) | (Way::Ctl, Way::Ctl) => true,
-        _ => false,
-    }
 }

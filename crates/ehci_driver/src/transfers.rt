@@ -9,11 +9,11 @@ ghost use Rattle.driver_rows.specs.Offers.{Offered, Asked, take_runs, taken_tran
 ghost use Rattle.driver_words.specs.Cuts.{stages_of, IsCut};
 
 use crate::driver::Driver;
-use crate::told::{find, goes_same_way};
+use driver_endpoints::{can_get, can_put, less_room, or_first, refusal};
 use driver_queues::{Queued, take_transfer, write_transfer};
-use driver_rows::{Command, Endpoint, Reserve, Sort, Transfer};
+use driver_rows::{Command, Endpoint, Sort, Transfer};
 use driver_words::{Cut, is_for_control};
-use usb_base::{EpKind, EpName, OfferError, Way};
+use usb_base::{EpName, OfferError};
 use word_mem::WordMem;
 
 impl Driver {
@@ -149,8 +149,11 @@ impl Driver {
         ensures there { IfSome result (λ both. slice_get self.now.endpoints both.0 ≡ Some both.1) }
         ensures none { IfNone result (endpoint_named self.now name.now ≡ None) }
     {
-        match find(&self.endpoints, name) {
-            Some(e) => Some((e, self.endpoints[e])),
+        let Some(e) = self.endpoints.find(name) else {
+            return None;
+        };
+        match self.endpoints.get(e) {
+            Some(endpoint) => Some((e, endpoint)),
             None => None,
         }
     }
@@ -278,82 +281,11 @@ impl Driver {
         self.command = Some(Command::Publish(transfer.first, queued.words));
         self.made = 0;
         self.transfers.push_reserved(transfer);
-        self.endpoints[e] = Endpoint {
+        let longer = Endpoint {
             dummy: queued.dummy,
             next,
             ..*endpoint
         };
-    }
-}
-
-/// Why this endpoint takes no transfer of `most` bytes: it has ended, or there are more than 20,480.
-fn refusal(endpoint: &Endpoint, most: usize) -> Option<OfferError>
-    ensures some { IfSome result (λ why. (d : DriverContent) (m : Mem) (e : ℕ) (a : Asked) → a.most ≡ most → open_transfer d m e endpoint.now a endpoint.now.ended ≡ Err why) }
-    ensures going { IfNone result (endpoint.now.ended ≡ None) }
-    ensures short { IfNone result (most ≤ 20480) }
-{
-    match endpoint.ended {
-        Some(cause) => Some(OfferError::Closed(cause)),
-        None => if_long(most),
-    }
-}
-
-/// Whether there are more than 20,480 bytes.
-fn if_long(most: usize) -> Option<OfferError>
-    ensures some { IfSome result (λ why. (why ≡ OfferError.TooLong) × (20480 < most)) }
-    ensures short { IfNone result (most ≤ 20480) }
-{
-    if most > 20480 {
-        return Some(OfferError::TooLong);
-    }
-    None
-}
-
-/// The number of the first transfer that isn't harvested: the new one, where there was none.
-fn or_first(next: Option<usize>, new: usize) -> Option<usize>
-    ensures { result ≡ first_waiting next new }
-{
-    match next {
-        Some(t) => Some(t),
-        None => Some(new),
-    }
-}
-
-/// The room once a transfer is accepted.
-fn less_room(room: Reserve, most: u32) -> Reserve
-    requires transfers { 1 ≤ room.transfers }
-    requires reports { 1 ≤ room.reports }
-    requires bytes { most ≤ room.report_bytes }
-    ensures { result ≡ with_transfer room most }
-{
-    Reserve {
-        endpoints: room.endpoints,
-        transfers: room.transfers - 1,
-        reports: room.reports - 1,
-        report_bytes: room.report_bytes - most,
-    }
-}
-
-/// Whether a get is for this endpoint.
-fn can_get(endpoint: &Endpoint) -> bool
-    ensures { result ≡ takes_get endpoint.now }
-{
-    is_of_queue(endpoint.desc.kind) && goes_same_way(endpoint.desc.name.way, Way::In)
-}
-
-/// Whether a put is for this endpoint.
-fn can_put(endpoint: &Endpoint) -> bool
-    ensures { result ≡ takes_put endpoint.now }
-{
-    is_of_queue(endpoint.desc.kind) && goes_same_way(endpoint.desc.name.way, Way::Out)
-}
-
-/// Whether its transfers stand in a queue and have no setup stage.
-fn is_of_queue(kind: EpKind) -> bool
-    ensures { result ≡ is_queued kind }
-{
-    match kind {
-        EpKind::Bulk | EpKind::Interrupt => true,
-        EpKind::Control | EpKind::Iso => false,
+        self.endpoints.write(e, longer);
     }
 }

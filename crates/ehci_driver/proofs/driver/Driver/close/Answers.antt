@@ -3,6 +3,7 @@ use Rattle.std.specs.VecDeque.{deque_len, deque_capacity}
 use Rattle.std.proofs.lemmas.Option.{slice_get_within}
 use Rattle.driver_rows.specs.DriverContent.{DriverContent}
 use Rattle.ehci_driver.proofs.Lines.{can_tell, told_after}
+use Rattle.ehci_driver.proofs.Rosters.{written_rooms}
 use Rattle.ehci_driver.proofs.driver.Driver.close.Goals as goal
 
 pub report-requires-clause-line : goal.report-requires-clause-line
@@ -25,8 +26,8 @@ index_mut-requires c =
     let there = ap (λ (d : DriverContent). slice_get d.transfers c.args.t) c.self.view_is ∙ c.requires.transfer in
     omega (arith, slice_get_within c.self.inside.transfers.items c.args.t c.args.transfer.now there)
 
-pub index_mut-requires-2 : goal.index_mut-requires-2
-index_mut-requires-2 c =
+pub write-requires : goal.write-requires
+write-requires c =
     let here = ap (λ (d : DriverContent). slice_get d.endpoints c.args.e) c.self.view_is ∙ c.requires.endpoint in
     omega (arith, slice_get_within c.self.inside.endpoints.items c.args.e c.args.endpoint.now here)
 
@@ -34,9 +35,10 @@ pub invariant_of-self : goal.invariant_of-self
 invariant_of-self c =
     let there = ap (λ (d : DriverContent). slice_get d.transfers c.args.t) c.self.view_is ∙ c.requires.transfer in
     let here = ap (λ (d : DriverContent). slice_get d.endpoints c.args.e) c.self.view_is ∙ c.requires.endpoint in
-    told_after c.args.t c.args.transfer.now c.args.e c.args.endpoint.now (record c.args.endpoint.now { ended = Some c.args.cause })
+    written_rooms _ _ _ _ c.write.ensures.items c.write.ensures.room
+    (told_after c.args.t c.args.transfer.now c.args.e c.args.endpoint.now (record c.args.endpoint.now { ended = Some c.args.cause })
     (vec_len c.report.new.reports) (vec_capacity c.report.new.reports) (vec_len c.report.new.store) (vec_capacity c.report.new.store)
     (deque_len c.self.inside.harvested) (deque_capacity c.self.inside.harvested) (deque_len c.self.inside.mends) (deque_capacity c.self.inside.mends)
     c.self.invariant there c.requires.open here refl refl refl
     c.report.ensures.len c.report.ensures.capacity c.report.ensures.store_len c.report.ensures.store_capacity
-    (omega arith) refl (omega arith) refl
+    (omega arith) refl (omega arith) refl)

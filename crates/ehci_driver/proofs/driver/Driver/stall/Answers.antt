@@ -4,6 +4,7 @@ use Rattle.std.proofs.lemmas.Option.{slice_get_within}
 use Rattle.std.proofs.lemmas.List.{length-set}
 use Rattle.driver_rows.specs.DriverContent.{DriverContent}
 use Rattle.ehci_driver.proofs.Lines.{can_tell, told_after}
+use Rattle.ehci_driver.proofs.Rosters.{written_rooms}
 use Rattle.ehci_driver.proofs.driver.Driver.stall.Goals as goal
 
 pub report-requires-clause-line : goal.report-requires-clause-line
@@ -26,8 +27,8 @@ index_mut-requires c =
     let there = ap (λ (d : DriverContent). slice_get d.transfers c.args.t) c.self.view_is ∙ c.requires.transfer in
     omega (arith, slice_get_within c.self.inside.transfers.items c.args.t c.args.transfer.now there)
 
-pub index_mut-requires-2 : goal.index_mut-requires-2
-index_mut-requires-2 c =
+pub write-requires : goal.write-requires
+write-requires c =
     let here = ap (λ (d : DriverContent). slice_get d.endpoints c.args.e) c.self.view_is ∙ c.requires.endpoint in
     omega (arith, slice_get_within c.self.inside.endpoints.items c.args.e c.args.endpoint.now here)
 
@@ -45,12 +46,13 @@ pub invariant_of-self : goal.invariant_of-self
 invariant_of-self c =
     let there = ap (λ (d : DriverContent). slice_get d.transfers c.args.t) c.self.view_is ∙ c.requires.transfer in
     let here = ap (λ (d : DriverContent). slice_get d.endpoints c.args.e) c.self.view_is ∙ c.requires.endpoint in
-    told_after c.args.t c.args.transfer.now c.args.e c.args.endpoint.now (record c.args.endpoint.now { next = None })
+    written_rooms _ _ _ _ c.write.ensures.items c.write.ensures.room
+    (told_after c.args.t c.args.transfer.now c.args.e c.args.endpoint.now (record c.args.endpoint.now { next = None })
     (vec_len c.report.new.reports) (vec_capacity c.report.new.reports) (vec_len c.report.new.store) (vec_capacity c.report.new.store)
     (deque_len c.push_back_reserved.new.self) (deque_capacity c.push_back_reserved.new.self) (deque_len c.owe_stores.new.mends) (deque_capacity c.owe_stores.new.mends)
     c.self.invariant there c.requires.open here refl refl refl
     c.report.ensures.len c.report.ensures.capacity c.report.ensures.store_len c.report.ensures.store_capacity
-    (omega (arith, c.push_back_reserved.ensures.len)) c.push_back_reserved.ensures.capacity (omega (arith, c.owe_stores.ensures.len)) c.owe_stores.ensures.capacity
+    (omega (arith, c.push_back_reserved.ensures.len)) c.push_back_reserved.ensures.capacity (omega (arith, c.owe_stores.ensures.len)) c.owe_stores.ensures.capacity)
 
 pub overflow_add-t : goal.overflow_add-t
 overflow_add-t c =

@@ -1,0 +1,88 @@
+//! The events of an accepted command, and the room that it leaves.
+ghost use Rattle.std.specs.Prelude.{◌≡◌, ◌≤◌, ◌<◌, ◌+◌, ◌*◌, ◌-◌, length, slice_index};
+ghost use Rattle.driver_rows.specs.Rows.{command_row, events_of};
+ghost use Rattle.driver_rows.specs.Offers.{first_waiting, with_transfer};
+
+use driver_rows::{Command, Reserve, Row};
+use driver_words::HEAD_BLOCK;
+
+/// The next event of a command.
+pub fn row_of_command(command: &Command, made: u8) -> Row
+    ensures { result ≡ command_row command.now made }
+{
+    match command {
+        Command::Open(queue) => match made {
+            0 => Row::Lend,
+            1 => Row::Store(HEAD_BLOCK, 32 * HEAD_BLOCK as u32, 32 * *queue as u32 + 2),
+            _ => Row::Rest,
+        },
+        Command::Publish(block, words) => publish_row(*block, words, made),
+        Command::Unlink(_, block, link) => match made {
+            0 => Row::Store(*block, 32 * *block as u32, *link),
+            _ => Row::Rest,
+        },
+    }
+}
+
+/// The next event of a command that publishes a transfer.
+fn publish_row(block: u16, words: &[u32; 8], made: u8) -> Row
+    ensures { result ≡ command_row (Command.Publish block words.now) made }
+{
+    match made {
+        0 => Row::Lend,
+        1 => store_row(block, words, 0),
+        2 => store_row(block, words, 1),
+        3 => store_row(block, words, 3),
+        4 => store_row(block, words, 4),
+        5 => store_row(block, words, 5),
+        6 => store_row(block, words, 6),
+        7 => store_row(block, words, 7),
+        8 => store_row(block, words, 2),
+        _ => Row::Rest,
+    }
+}
+
+/// The store of one word of a qTD.
+fn store_row(block: u16, words: &[u32; 8], i: u8) -> Row
+    requires { i < 8 }
+    ensures { result ≡ Row.Store block (32 * block + 4 * i) (slice_index words.now i) }
+{
+    Row::Store(block, 32 * block as u32 + 4 * i as u32, words[i as usize])
+}
+
+/// The number of the command's last event, from 0.
+pub fn last_event(command: &Command) -> u8
+    ensures last { length (events_of command.now) ≡ result + 1 }
+    ensures few { result ≤ 8 }
+{
+    match command {
+        Command::Open(_) => 1,
+        Command::Publish(_, _) => 8,
+        Command::Unlink(_, _, _) => 0,
+    }
+}
+
+/// The number of the first transfer that isn't harvested: the new one, where there was none.
+pub fn or_first(next: Option<usize>, new: usize) -> Option<usize>
+    ensures { result ≡ first_waiting next new }
+{
+    match next {
+        Some(t) => Some(t),
+        None => Some(new),
+    }
+}
+
+/// The room once a transfer is accepted.
+pub fn less_room(room: Reserve, most: u32) -> Reserve
+    requires transfers { 1 ≤ room.transfers }
+    requires reports { 1 ≤ room.reports }
+    requires bytes { most ≤ room.report_bytes }
+    ensures { result ≡ with_transfer room most }
+{
+    Reserve {
+        endpoints: room.endpoints,
+        transfers: room.transfers - 1,
+        reports: room.reports - 1,
+        report_bytes: room.report_bytes - most,
+    }
+}
