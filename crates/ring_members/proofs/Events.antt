@@ -165,12 +165,12 @@ publish_store b words (suc n) c at v e =
 
 -- -- an open
 
-older_get : (xs : List Endpoint) (y : Endpoint) (i : ℕ) (x : Endpoint) → slice_get xs i ≡ Some x → slice_get (xs ++ y ∷ []) i ≡ Some x
+pub older_get : (xs : List Endpoint) (y : Endpoint) (i : ℕ) (x : Endpoint) → slice_get xs i ≡ Some x → slice_get (xs ++ y ∷ []) i ≡ Some x
 older_get [] y i x here = absurd (cc)
 older_get (z ∷ xs) y zero x here = here
 older_get (z ∷ xs) y (suc i) x here = older_get xs y i x here
 
-newest_get : (xs : List Endpoint) (y : Endpoint) → slice_get (xs ++ y ∷ []) (length xs) ≡ Some y
+pub newest_get : (xs : List Endpoint) (y : Endpoint) → slice_get (xs ++ y ∷ []) (length xs) ≡ Some y
 newest_get [] y = refl
 newest_get (x ∷ xs) y = newest_get xs y
 

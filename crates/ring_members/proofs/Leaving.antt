@@ -115,7 +115,7 @@ link_at word b (y ∷ xs) zero x here on linked =
     subst (λ (z : Endpoint). word z.queue ≡ queue_head_link b) same (leads_now word y b (ap (λ (z : Endpoint). z.linked) same ∙ on) linked.0)
 link_at word b (y ∷ xs) (suc e) x here on linked = link_at word (step_to b y) xs e x here on linked.1
 
-get_take : (xs : List Endpoint) (e i : ℕ) (y : Endpoint) → slice_get (take e xs) i ≡ Some y → (i < e) × (slice_get xs i ≡ Some y)
+pub get_take : (xs : List Endpoint) (e i : ℕ) (y : Endpoint) → slice_get (take e xs) i ≡ Some y → (i < e) × (slice_get xs i ≡ Some y)
 get_take xs zero i y here = absurd (cc)
 get_take [] (suc e) i y here = absurd (cc)
 get_take (x ∷ xs) (suc e) zero y here = (omega arith, here)

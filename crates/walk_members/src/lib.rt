@@ -1,0 +1,38 @@
+//! Where a walk of the ring may go (EHCI 1.0, 4.8 and 4.8.2): its cursor and the copy in hand name the head, a queue head in the ring, or one that
+//! has left since the last answered doorbell, and so does the copy's link, whatever was stored since the copy was read.
+//!
+//! The crate has no code of its own: each function is a law over the definitions of `async_walk` and `driver_rows`, and its body is empty.
+//! `the_walk_meets_members` says it of each event of the walk; `ring_members` and `queue_head_words` stand below it.
+#![tactic(auto)]
+
+ghost use Rattle.std.specs.Prelude.{ℕ};
+ghost use Rattle.op_registers.specs.RegisterFile.{RegisterFile};
+ghost use Rattle.async_walk.specs.Walk.{Walk, new_walk, begun, stopped};
+ghost use Rattle.async_walk.specs.Rows.{Place, at_event, event_row, Leads};
+ghost use Rattle.driver_rows.specs.declared.content.Reserve.{Reserve};
+ghost use Rattle.driver_rows.specs.DriverContent.{DriverContent};
+ghost use Rattle.driver_rows.specs.Opening.{opening};
+ghost use Rattle.ring_members.specs.Links.{link_in};
+ghost use Rattle.ring_members.specs.Ring.{IsRing};
+ghost use Rattle.queue_head_words.specs.Fixed.{AreFixed};
+ghost use Rattle.walk_members.specs.Reached.{IsWalkIn, AreNoHeads};
+
+use usb_base::Wire;
+
+/// A new walk begins at the head.
+pub fn a_new_walk_begins_at_the_head()
+    ensures { (n : ℕ) (room : Reserve) → IsWalkIn (opening n room).driver (opening n room).registers new_walk }
+{}
+
+/// Each event of the walk goes on to a queue head that it may meet: where the head is read and the doorbell answered, those of the rung batch
+/// are met no more.
+pub fn the_walk_meets_members<W: Wire>()
+    ensures { (d : DriverContent) (p : Place) (before : W) (new : Place) (after : W) → IsRing (link_in p.memory) d → AreFixed p.memory d → AreNoHeads d → IsWalkIn d p.registers p.walk
+        → Leads W.transacts (event_row p) (at_event p) before new after → IsWalkIn d new.registers new.walk }
+{}
+
+/// The end of a microframe and the begin of the next leave the walk where it was.
+pub fn microframes_leave_the_walk()
+    ensures stopped { (d : DriverContent) (r : RegisterFile) (w : Walk) → IsWalkIn d r w → IsWalkIn d r (stopped w) }
+    ensures begun { (d : DriverContent) (r : RegisterFile) (w : Walk) (left : ℕ) → IsWalkIn d r w → IsWalkIn d r (begun w left) }
+{}
