@@ -1,0 +1,4 @@
+pub mod Reports
+pub mod Streams
+pub mod Requests
+pub mod Samples
