@@ -1,0 +1,9 @@
+pub mod Hearing
+pub mod Rows
+pub mod Beginning
+pub mod Reading
+pub mod Writing
+pub mod Confirming
+pub mod Steps
+pub mod Counts
+pub mod Told

@@ -1,0 +1,5 @@
+pub mod Host
+pub mod Line
+pub mod Windows
+pub mod Standing
+pub mod Samples
