@@ -150,3 +150,19 @@ one_number a b = grind (arith, nat_tests)
 pub exactly : {X : Type 0} (n : X → ℕ) (a : ℕ) (xs : List X) → filter (λ x. leb a (n x) && ltb (n x) (a + 1)) xs ≡ filter (λ x. nat_eq (n x) a) xs
 exactly n a [] = refl
 exactly n a (x ∷ xs) = ap (λ b. cond b (x ∷ filter (λ y. leb a (n y) && ltb (n y) (a + 1)) xs) (filter (λ y. leb a (n y) && ltb (n y) (a + 1)) xs)) (one_number a (n x)) ∙ ap (λ ys. cond (nat_eq (n x) a) (x ∷ ys) ys) (exactly n a xs)
+
+-- those of no lower number
+each_from : {X : Type 0} (n : X → ℕ) (low : ℕ) (xs : List X) → low ≡ 0 → AllByRecursion (λ x. leb low (n x) ≡ true) xs
+each_from n low [] e = tt
+each_from n low (x ∷ xs) e = (le-leb low (n x) (omega (arith, e)), each_from n low xs e)
+
+pub from_first : {X : Type 0} (n : X → ℕ) (low : ℕ) (xs : List X) → low ≡ 0 → xs ≡ filter (λ x. leb low (n x)) xs
+from_first n low xs e = sym (all_pass (λ x. leb low (n x)) xs (each_from n low xs e))
+
+not_lower : (low a : ℕ) → 0 < low → not (leb a (low - 1)) ≡ leb low a
+not_lower low a h = grind (arith, nat_tests, h)
+
+pub above_last : {X : Type 0} (n : X → ℕ) (low : ℕ) (xs : List X) → 0 < low → filter (λ x. not (leb (n x) (low - 1))) xs ≡ filter (λ x. leb low (n x)) xs
+above_last n low [] h = refl
+above_last n low (x ∷ xs) h =
+    ap (λ b. cond b (x ∷ filter (λ y. not (leb (n y) (low - 1))) xs) (filter (λ y. not (leb (n y) (low - 1))) xs)) (not_lower low (n x) h) ∙ ap (λ ys. cond (leb low (n x)) (x ∷ ys) ys) (above_last n low xs h)

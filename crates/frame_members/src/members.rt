@@ -137,6 +137,19 @@ impl FrameMembers {
         }
     }
 
+    /// The queue heads of a class, in the order of the chain.
+    pub fn class(&self, level: u8, phase: u16) -> &[QueueHead]
+        requires level { level ≤ 10 }
+        requires phase { phase < 2 ^ level }
+        ensures { result.now ≡ members self.now.schedule level phase }
+    {
+        queues::between(
+            &self.queues,
+            lowest_of(level, phase),
+            highest_of(level, phase),
+        )
+    }
+
     /// The queue head right before this one in its class, which has this level.
     pub fn ahead_in_class(&self, level: u8, queue: &QueueHead) -> Option<QueueHead>
         requires level { level ≤ 10 }

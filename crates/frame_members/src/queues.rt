@@ -42,6 +42,26 @@ pub(crate) fn last_between(queues: &[QueueHead], low: u32, high: u32) -> Option<
     last_of(queues, up_to(queues, high), low)
 }
 
+/// Those of these queue heads, which stand by rank, whose rank lies between these.
+pub(crate) fn between(queues: &[QueueHead], low: u32, high: u32) -> &[QueueHead]
+    requires { IsRising rank_of queues.now }
+    ensures { result.now ≡ filter (is_between low high) queues.now }
+{
+    let front = &queues[..up_to(queues, high)];
+    from_rank(front, low)
+}
+
+/// Those of these queue heads, which stand by rank, whose rank isn't below this.
+fn from_rank(queues: &[QueueHead], low: u32) -> &[QueueHead]
+    requires { IsRising rank_of queues.now }
+    ensures { result.now ≡ filter (λ q. nat_le low (rank_of q)) queues.now }
+{
+    if low == 0 {
+        return queues;
+    }
+    &queues[up_to(queues, low - 1)..]
+}
+
 /// The place of the first of these with this name, or else how many they are.
 pub(crate) fn place_of(queues: &[QueueHead], id: u32) -> usize
     ensures place { result ≡ position_or_len (is_named id) queues.now }

@@ -1,4 +1,5 @@
-ghost use Rattle.std.specs.Prelude.{◌≡◌, ◌+◌, ◌%◌, ◌≤◌, ◌↔◌, ◌&&◌, true, false, Some, None, IfOk, IfSome, IsSome, IsTrue, is_none};
+ghost use Rattle.std.specs.Prelude.{◌≡◌, ◌+◌, ◌%◌, ◌^◌, ◌<◌, ◌≤◌, ◌↔◌, ◌&&◌, true, false, Some, None, IfOk, IfSome, IsSome, IsTrue, is_none};
+ghost use Rattle.frame_chains.specs.Classes.{members};
 ghost use Rattle.frame_chains.specs.Chains.{has_name, id_of, successor};
 ghost use Rattle.frame_members.specs.Members.{IsMember, HasRoom, is_member, takes, with_member, frame_of, is_linked};
 
@@ -6,7 +7,7 @@ use crate::start::{start, word_found};
 use crate::stores::{finish, link_word, name_of, next_task, store_of};
 use crate::work::{Progress, Store, Task, Work};
 use class_search::Reads;
-use frame_chains::Member;
+use frame_chains::{Member, QueueHead};
 use frame_members::{FrameMembers, may_be_member};
 use std::alloc::Global;
 use std::marker::Model;
@@ -52,6 +53,16 @@ impl PeriodicList {
             members: FrameMembers::build(alloc, queues, descriptors)?,
             task: None,
         })
+    }
+
+    /// The queue heads of the class of this level and phase, in the order of the chain: those that are linked, and the one that is linked
+    /// or unlinked just now.
+    pub fn members(&self, level: u8, phase: u16) -> &[QueueHead]
+        requires level { level ≤ 10 }
+        requires phase { phase < 2 ^ level }
+        ensures { result.now ≡ members self.now.members.schedule level phase }
+    {
+        self.members.class(level, phase)
     }
 
     /// Whether a member may be linked: nothing is under way, it is in range, its name is new, and there is room.
