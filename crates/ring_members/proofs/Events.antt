@@ -188,7 +188,7 @@ open_done word now d q has o head others =
 
 -- -- a cancel
 
-leaves_one : (xs : List Endpoint) (e : ℕ) (x : Endpoint) → slice_get xs e ≡ Some x → LeavesOne xs (set xs e (record x { linked = false })) e
+pub leaves_one : (xs : List Endpoint) (e : ℕ) (x : Endpoint) → slice_get xs e ≡ Some x → LeavesOne xs (set xs e (record x { linked = false })) e
 leaves_one xs e x here = record {
   itself = λ y at. record { endpoint = record x { linked = false }; here = set_here xs e x (record x { linked = false }) here; queue = ap (λ (z : Endpoint). z.queue) (same_Some x y (sym here ∙ at)) };
   others = λ f y differs at. set_there xs e f (record x { linked = false }) differs ∙ at;

@@ -73,7 +73,7 @@ pub record LeavesOne (xs ys : List Endpoint) (e : ℕ) : Type 0 where
   pub itself : (x : Endpoint) → slice_get xs e ≡ Some x → IsQueueOf ys e x.queue
   pub others : (f : ℕ) (y : Endpoint) → f ≢ e → slice_get xs f ≡ Some y → slice_get ys f ≡ Some y
 
-queue_still : (xs ys : List Endpoint) (e f b : ℕ) → LeavesOne xs ys e → IsQueueOf xs f b → IsQueueOf ys f b
+pub queue_still : (xs ys : List Endpoint) (e f b : ℕ) → LeavesOne xs ys e → IsQueueOf xs f b → IsQueueOf ys f b
 queue_still xs ys e f b one at =
     ⊎_elim
     (λ (same : f ≡ e).

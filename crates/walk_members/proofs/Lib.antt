@@ -1,3 +1,4 @@
 pub mod Leading
 pub mod Decoding
 pub mod Walking
+pub mod Driving

@@ -15,7 +15,9 @@ ghost use Rattle.driver_rows.specs.Opening.{opening};
 ghost use Rattle.ring_members.specs.Links.{link_in};
 ghost use Rattle.ring_members.specs.Ring.{IsRing};
 ghost use Rattle.queue_head_words.specs.Fixed.{AreFixed};
+ghost use Rattle.driver_rows.specs.Rows.{Parts, row_of, after_row};
 ghost use Rattle.walk_members.specs.Reached.{IsWalkIn, AreNoHeads};
+ghost use Rattle.walk_members.specs.Bell.{IsBellIn};
 
 use usb_base::Wire;
 
@@ -35,4 +37,10 @@ pub fn the_walk_meets_members<W: Wire>()
 pub fn microframes_leave_the_walk()
     ensures stopped { (d : DriverContent) (r : RegisterFile) (w : Walk) → IsWalkIn d r w → IsWalkIn d r (stopped w) }
     ensures begun { (d : DriverContent) (r : RegisterFile) (w : Walk) (left : ℕ) → IsWalkIn d r w → IsWalkIn d r (begun w left) }
+{}
+
+/// Each event of the driver leaves the walk among the queue heads that it may meet: one that leaves the ring is still one of them, until the
+/// doorbell that was set after it is answered.
+pub fn the_driver_leaves_the_walk()
+    ensures { (p : Parts) (w : Walk) → IsBellIn p.driver p.registers → IsWalkIn p.driver p.registers w → IsWalkIn (after_row (row_of p) p).driver (after_row (row_of p) p).registers w }
 {}
