@@ -7,3 +7,4 @@ pub mod Confirming
 pub mod Steps
 pub mod Counts
 pub mod Told
+pub mod Scripts

@@ -3,3 +3,4 @@ pub mod Line
 pub mod Windows
 pub mod Standing
 pub mod Samples
+pub mod Scripted

@@ -6,10 +6,17 @@ ghost use Rattle.usb_base.specs.declared.reports.What.TheVariants as Tells;
 ghost use Rattle.control_stages.specs.Stages.{Stages};
 ghost use Rattle.endpoint_laws.specs.Acts.{IsOnce, counted};
 ghost use Rattle.usb_bus.specs.declared.asked.Losses.{Losses as Lost};
-ghost use Rattle.report_streams.specs.Requests.{Request, Window, IsTold, has_acted};
+ghost use Rattle.report_streams.specs.Requests.{Request, Window, IsTold, has_acted, data_of as told_data};
 ghost use Rattle.request_windows.specs.Host.{Endpoint, Done};
-ghost use Rattle.request_windows.specs.Line.{Line, line_at, transacted};
+ghost use Rattle.request_windows.specs.Line.{Line, line_at, transacted, answer_of, answered, acked};
 ghost use Rattle.request_windows.specs.Windows.{Turn, IsRequest, AreRequests, IsRight, AreRight, data_of, windows, left_after, counted_in, told_window, told_windows};
+ghost use Rattle.request_windows.specs.Scripted.{scripted};
+ghost use Rattle.usb_base.specs.declared.packets.Ask.{Ask as Asked};
+ghost use Rattle.usb_base.specs.declared.endpoints.EpName.{EpName as Name};
+ghost use Rattle.script_types.specs.declared.scripts.Script.{Script as Text};
+ghost use Rattle.endpoint_script.specs.Controlling.{Controlling, controlling_reply, controlling_answered, controlling_acked};
+ghost use Rattle.endpoint_script.specs.Items.{requests_of};
+ghost use Rattle.report_streams.specs.Streams.{items_of};
 ghost use Rattle.request_windows.specs.Standing.{Stands};
 
 /// Before the first transaction of a request host and device stand to each other as they must, whatever the device was left as.
@@ -50,4 +57,13 @@ pub fn windows_are_told()
     ensures acts { (e : Endpoint) (ts : List Turn) (c : Stages) → AreRight e ts c → AllByRecursion (λ w. IsOnce w.request.setup w.acts) (told_windows e ts c) }
     ensures count { (e : Endpoint) (ts : List Turn) (c : Stages) → AreRight e ts c → c.acted ≤ 4294967295
         → (left_after e ts c).acted ≡ min (c.acted + length (filter has_acted (told_windows e ts c))) 4294967295 }
+{}
+
+/// A scripted control endpoint is the device of such a line: it answers, and is left, by the replies of its script; and the data of a
+/// request are those that a right report tells.
+pub fn scripted_device()
+    ensures answer { (addr num max : ℕ) (c : Controlling) (ask : Asked) (out : List ℕ) → controlling_reply c ask out ≡ answer_of (scripted addr num max c.requests) ask out c.stages }
+    ensures left { (addr num max : ℕ) (c : Controlling) (ask : Asked) (out : List ℕ) → controlling_answered c ask out ≡ record c { stages = answered (scripted addr num max c.requests) ask out c.stages } }
+    ensures acknowledged { (addr num max : ℕ) (c : Controlling) → controlling_acked c ≡ record c { stages = acked (scripted addr num max c.requests) c.stages } }
+    ensures sent { (addr num max : ℕ) (s : Text) (name : Name) (r : Request) → data_of (scripted addr num max (requests_of (items_of s name))) r ≡ told_data s name r }
 {}
