@@ -48,7 +48,7 @@ walk_mapped d e r s w address more old = record {
 -- ---- what may be met
 
 -- endpoints that go on as they were
-goes_reach : (d e : DriverContent) (rings : Bool) → GoOn d.endpoints e.endpoints → e.waiting ≡ d.waiting → e.rung ≡ d.rung → Reaches d rings e rings
+pub goes_reach : (d e : DriverContent) (rings : Bool) → GoOn d.endpoints e.endpoints → e.waiting ≡ d.waiting → e.rung ≡ d.rung → Reaches d rings e rings
 goes_reach d e rings on ws rs = reach
   where
     queue : (f b : ℕ) (at : IsQueueOf d.endpoints f b) → IsQueueOf e.endpoints f b

@@ -2,3 +2,4 @@ pub mod Leading
 pub mod Decoding
 pub mod Walking
 pub mod Driving
+pub mod Offering

@@ -5,7 +5,10 @@
 //! `the_walk_meets_members` says it of each event of the walk; `ring_members` and `queue_head_words` stand below it.
 #![tactic(auto)]
 
-ghost use Rattle.std.specs.Prelude.{ℕ};
+ghost use Rattle.std.specs.Prelude.{◌≡◌, ℕ, Ok};
+ghost use Rattle.usb_base.specs.declared.commands.Cmd.{Cmd};
+ghost use Rattle.word_mem.specs.Memory.{Mem};
+ghost use Rattle.driver_rows.specs.Offers.{Offered, offered};
 ghost use Rattle.op_registers.specs.RegisterFile.{RegisterFile};
 ghost use Rattle.async_walk.specs.Walk.{Walk, new_walk, begun, stopped};
 ghost use Rattle.async_walk.specs.Rows.{Place, at_event, event_row, Leads};
@@ -43,4 +46,9 @@ pub fn microframes_leave_the_walk()
 /// doorbell that was set after it is answered.
 pub fn the_driver_leaves_the_walk()
     ensures { (p : Parts) (w : Walk) → IsBellIn p.driver p.registers → IsWalkIn p.driver p.registers w → IsWalkIn (after_row (row_of p) p).driver (after_row (row_of p) p).registers w }
+{}
+
+/// And so does a command that is accepted.
+pub fn commands_leave_the_walk()
+    ensures { (d : DriverContent) (m : Mem) (cmd : Cmd) (o : Offered) (r : RegisterFile) (w : Walk) → offered d m cmd ≡ Ok o → IsWalkIn d r w → IsWalkIn o.driver r w }
 {}
