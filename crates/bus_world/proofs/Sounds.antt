@@ -18,13 +18,16 @@ use Rattle.async_walk.specs.declared.rows.Row.TheVariants as walks
 use Rattle.async_walk.specs.Rows.{Place, at_event, event_row}
 use Rattle.hc_core.specs.declared.controller.Row.{Row}
 use Rattle.hc_core.specs.declared.controller.Row.TheVariants as rows
-use Rattle.hc_core.specs.Controller.{Content, entered, walk_place}
+use Rattle.periodic_walk.specs.Place.{Effect}
+use Rattle.periodic_walk.specs.Place.Effect.{Leaves, Asks}
+use Rattle.periodic_walk.specs.Rows.{effect_of}
+use Rattle.hc_core.specs.Controller.{Content, entered, frame_place, walk_place}
 use Rattle.driver_rows.specs.DriverContent.{DriverContent, new_driver}
 use Rattle.driver_rows.specs.declared.content.Reserve.{Reserve}
 use Rattle.driver_rows.specs.Rows.{Parts, row_of, after_row}
 use Rattle.driver_rows.specs.Offers.{offered}
 use Rattle.usb_bus.specs.Bus.{Fixed, Bus}
-use Rattle.bus_world.specs.World.{Standing, World, controller_row, controller_parts, controller_next, turned_by, walk_by, sends_by, sent_by, refused_line}
+use Rattle.bus_world.specs.World.{Standing, World, controller_row, controller_parts, controller_next, turned_by, frame_by, walk_by, sends_by, sent_by, refused_line}
 use Rattle.bus_world.specs.Sound.{IsSound, IsRoomyDevice}
 use Rattle.bus_world.proofs.Kept.{row_keeps, line_stored}
 use Rattle.bus_world.proofs.Standing.{book_stands}
@@ -64,11 +67,15 @@ walk_roomy fixed walks.OutOfTime p b r = r
 walk_roomy fixed (walks.Advance a t) p b r = r
 walk_roomy fixed walks.WriteBack p b r = r
 
+frame_roomy : (fixed : Fixed) (e : Effect) (b : Bus) → AreRoomy b → AreRoomy (frame_by fixed e b).bus
+frame_roomy fixed (Leaves p) b r = r
+frame_roomy fixed (Asks ask out left_by) b r = transact_roomy fixed b ask out r
+
 turned_roomy : (fixed : Fixed) (row : Row) (c : Content) (b : Bus) → AreRoomy b → AreRoomy (turned_by fixed row c b).bus
 turned_roomy fixed rows.Idle c b r = r
 turned_roomy fixed rows.Begin c b r = begin_roomy (next_index c.registers.frame_index) b r
-turned_roomy fixed rows.FrameFault c b r = r
-turned_roomy fixed (rows.Enter left) c b r = walk_roomy fixed (event_row (walk_place (entered left.0 c))) (at_event (walk_place (entered left.0 c))) b r
+turned_roomy fixed rows.Frame c b r = frame_roomy fixed (effect_of (frame_place c)) b r
+turned_roomy fixed rows.Enter c b r = walk_roomy fixed (event_row (walk_place (entered c))) (at_event (walk_place (entered c))) b r
 turned_roomy fixed rows.Go c b r = walk_roomy fixed (event_row (walk_place c)) (at_event (walk_place c)) b r
 turned_roomy fixed rows.End c b r = r
 

@@ -10,13 +10,20 @@ use Rattle.op_registers.specs.Events.{next_index}
 use Rattle.async_walk.specs.declared.rows.Row.{Row as WalkRow}
 use Rattle.async_walk.specs.declared.rows.Row.TheVariants as walks
 use Rattle.async_walk.specs.Rows.{Place, at_event, event_row, after_row, transacted, faulted as walk_faulted, Stays as Still, SentAt, Sends, Leads}
+use Rattle.periodic_walk.specs.Walk.{Walk as FrameWalk}
+use Rattle.periodic_walk.specs.Place.{Place as FramePlace, Effect, HasEffect}
+use Rattle.periodic_walk.specs.Place.Effect.{Leaves, Asks}
+use Rattle.periodic_walk.specs.Rows.{effect_of}
+use Rattle.async_walk.specs.Walk.{Walk}
+use Rattle.hc_core.specs.declared.controller.Part.{Part}
+use Rattle.hc_core.specs.declared.controller.Part.TheVariants.{Periodic, Asynchronous}
 use Rattle.hc_core.specs.declared.controller.Row.{Row}
 use Rattle.hc_core.specs.declared.controller.Row.TheVariants as rows
 use Rattle.word_mem.specs.Memory.{Mem}
 use Rattle.op_registers.specs.RegisterFile.{RegisterFile}
-use Rattle.hc_core.specs.Controller.{Control, Content, content, began, faulted, ended, entered, walk_place, Walks, HasRow}
+use Rattle.hc_core.specs.Controller.{Control, Content, content, began, ended, entered, part_after, frame_place, frame_step, walk_place, walk_step, WalksFrame, Walks, HasRow}
 use Rattle.usb_bus.specs.Bus.{Fixed, Wired, begin_after, is_allowed, reply_of, transact_after}
-use Rattle.bus_world.specs.World.{Standing, controller_row, controller_parts, controller_next, with_turned, Turned, Walked, sent_by, sends_by, walk_by, walk_next, walked, turned_by}
+use Rattle.bus_world.specs.World.{Standing, controller_row, controller_parts, controller_next, with_turned, Turned, FrameWalked, frame_by, frame_next, framed, Walked, sent_by, sends_by, walk_by, walk_next, walked, turned_by}
 
 -- the relations of the bus
 abbrev pub begins_in : Wired → ℕ → Bool → Wired → Type 0
@@ -61,6 +68,28 @@ walk_is walks.OutOfTime p w new v s = still_is w (after_row walks.OutOfTime p) n
 walk_is (walks.Advance a t) p w new v s = still_is w (after_row (walks.Advance a t) p) new v s
 walk_is walks.WriteBack p w new v s = still_is w (after_row walks.WriteBack p) new v s
 
+-- ---- the walk of the frame's chain
+
+record IsFramed (w : Wired) (expected : FrameWalked) (new : FramePlace) (v : Wired) : Type 0 where
+  pub is : record { place = new; bus = v.bus } ≡ expected
+  pub fixed : v.fixed ≡ w.fixed
+
+framed_pair : (new : FramePlace) (v : Wired) (place : FramePlace) (u : Wired) → new ≡ place → v ≡ u → ◌≡◌ {A = FrameWalked} (record { place = new; bus = v.bus }) (record { place = place; bus = u.bus })
+framed_pair new v place u a b =
+    ap (λ (n : FramePlace). let r : FrameWalked = record { place = n; bus = v.bus } in r) a
+    ∙ ap (λ (x : Wired). let r : FrameWalked = record { place = place; bus = x.bus } in r) b
+
+frame_is : (e : Effect) (w : Wired) (new : FramePlace) (v : Wired) → HasEffect transacts_in e w new v → IsFramed w (frame_by w.fixed e w.bus) new v
+frame_is (Leaves p) w new v h = record { is = framed_pair new v p w h.0 h.1; fixed = ap (λ (x : Wired). x.fixed) h.1 }
+frame_is (Asks ask out left_by) w new v a = record {
+  is =
+      framed_pair new v (left_by (reply_of w.fixed w.bus ask out)) (record w { bus = transact_after w.fixed w.bus ask out })
+      (a.place ∙ ap left_by a.made.0) a.made.1;
+  fixed = ap (λ (x : Wired). x.fixed) a.made.1;
+}
+
+-- ---- the controller
+
 pub record IsTurned (w : Wired) (expected : Turned) (new : Content) (v : Wired) : Type 0 where
   pub is : record { content = new; bus = v.bus } ≡ expected
   pub fixed : v.fixed ≡ w.fixed
@@ -72,12 +101,31 @@ turned_pair new v content u a b =
 stays_is : (w : Wired) (content new : Content) (v : Wired) → (new ≡ content) × (v ≡ w) → IsTurned w (record { content = content; bus = w.bus }) new v
 stays_is w content new v h = record { is = turned_pair new v content w h.0 h.1; fixed = ap (λ (x : Wired). x.fixed) h.1 }
 
+-- these contents, with this control
+abbrev turned_at : Content → Wired → Part → FrameWalk → Walk → Turned
+turned_at new v part frame walk = record {
+  content = record { control = record { part = part; frame = frame; walk = walk }; registers = new.registers; memory = new.memory };
+  bus = v.bus;
+}
+
+frames_is : (old : Content) (w : Wired) (new : Content) (v : Wired) → WalksFrame transacts_in old w new v → IsTurned w (framed old (frame_next w.fixed (frame_place old) w.bus)) new v
+frames_is old w new v s =
+    let e = frame_is (effect_of (frame_place old)) w (frame_place new) v s.walked in
+    record {
+      is =
+          ap (λ (part : Part). turned_at new v part new.control.frame new.control.walk) s.part
+          ∙ ap (λ (ring : Walk). turned_at new v (part_after Periodic (frame_step old)) new.control.frame ring) s.ring
+          ∙ ap (framed old) e.is;
+      fixed = e.fixed;
+    }
+
 walks_is : (old : Content) (w : Wired) (new : Content) (v : Wired) → Walks transacts_in old w new v → IsTurned w (walked old (walk_next w.fixed (walk_place old) w.bus)) new v
 walks_is old w new v s =
     let e = walk_is (event_row (walk_place old)) (at_event (walk_place old)) w (walk_place new) v s.walked in
     record {
       is =
-          ap (λ part. let r : Turned = record { content = record { control = record { part = part; walk = new.control.walk }; registers = new.registers; memory = new.memory }; bus = v.bus } in r) s.part
+          ap (λ (part : Part). turned_at new v part new.control.frame new.control.walk) s.part
+          ∙ ap (λ (frame : FrameWalk). turned_at new v (part_after Asynchronous (walk_step old)) frame new.control.walk) s.frame
           ∙ ap (walked old) e.is;
       fixed = e.fixed;
     }
@@ -90,8 +138,8 @@ turned_is rows.Begin c w new v s = record {
       (s.contents ∙ ap (λ allowed. began allowed c) s.asked.0) s.asked.1;
   fixed = ap (λ (x : Wired). x.fixed) s.asked.1;
 }
-turned_is rows.FrameFault c w new v s = stays_is w (faulted c) new v s
-turned_is (rows.Enter left) c w new v s = walks_is (entered left.0 c) w new v s
+turned_is rows.Frame c w new v s = frames_is c w new v s
+turned_is rows.Enter c w new v s = walks_is (entered c) w new v s
 turned_is rows.Go c w new v s = walks_is c w new v s
 turned_is rows.End c w new v s = stays_is w (record c { control = ended c.control }) new v s
 

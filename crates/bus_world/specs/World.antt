@@ -24,9 +24,13 @@ use Rattle.async_walk.specs.declared.rows.Row.{Row as WalkRow}
 use Rattle.async_walk.specs.declared.rows.Row.TheVariants as walks
 use Rattle.async_walk.specs.Rows.{Place as WalkPlace, at_event, event_row, after_row as after_walk, transacted, faulted as walk_faulted}
 use Rattle.hc_core.specs.declared.controller.HcStep.{HcStep}
+use Rattle.periodic_walk.specs.Place.{Place as FramePlace, Effect}
+use Rattle.periodic_walk.specs.Place.Effect.{Leaves, Asks}
+use Rattle.periodic_walk.specs.Rows.{effect_of}
+use Rattle.hc_core.specs.declared.controller.Part.TheVariants.{Periodic, Asynchronous}
 use Rattle.hc_core.specs.declared.controller.Row.{Row}
 use Rattle.hc_core.specs.declared.controller.Row.TheVariants as rows
-use Rattle.hc_core.specs.Controller.{Control, Content, content, row_of, kind_of, began, faulted, ended, entered, walk_place, walk_step, part_after}
+use Rattle.hc_core.specs.Controller.{Control, Content, content, row_of, kind_of, began, ended, entered, frame_place, frame_step, walk_place, walk_step, part_after}
 use Rattle.driver_rows.specs.DriverContent.{DriverContent}
 use Rattle.driver_rows.specs.Rows.{Parts, row_of as driver_row, after_row as after_driver}
 use Rattle.driver_rows.specs.Offers.{Offered, offered}
@@ -62,6 +66,29 @@ pub record Turned : Type 0 where
   pub content : Content
   pub bus : Bus
 
+pub record FrameWalked : Type 0 where
+  pub place : FramePlace
+  pub bus : Bus
+
+-- one event of the walk of the frame's chain: it asks the bus once, or not at all
+abbrev pub frame_by : Fixed → Effect → Bus → FrameWalked
+frame_by fixed (Leaves p) b = record { place = p; bus = b }
+frame_by fixed (Asks ask out left_by) b = record { place = left_by (reply_of fixed b ask out); bus = transact_after fixed b ask out }
+
+abbrev pub frame_next : Fixed → FramePlace → Bus → FrameWalked
+frame_next fixed p b = frame_by fixed (effect_of p) b
+
+-- that event as one of the controller
+abbrev pub framed_content : Content → FramePlace → Content
+framed_content c p = record {
+  control = record { part = part_after Periodic (frame_step c); frame = p.walk; walk = c.control.walk };
+  registers = p.registers;
+  memory = p.memory;
+}
+
+abbrev pub framed : Content → FrameWalked → Turned
+framed c v = record { content = framed_content c v.place; bus = v.bus }
+
 pub record Walked : Type 0 where
   pub place : WalkPlace
   pub bus : Bus
@@ -88,10 +115,10 @@ walk_by fixed row p b = record { place = after_walk row p; bus = b }
 abbrev pub walk_next : Fixed → WalkPlace → Bus → Walked
 walk_next fixed p b = walk_by fixed (event_row p) (at_event p) b
 
--- the walk's event as one of the controller
+-- that event as one of the controller
 abbrev pub walked_content : Content → WalkPlace → Content
 walked_content c p = record {
-  control = record { part = part_after (walk_step c); walk = p.walk };
+  control = record { part = part_after Asynchronous (walk_step c); frame = c.control.frame; walk = p.walk };
   registers = p.registers;
   memory = p.memory;
 }
@@ -102,8 +129,8 @@ walked c v = record { content = walked_content c v.place; bus = v.bus }
 abbrev pub turned_by : Fixed → Row → Content → Bus → Turned
 turned_by fixed rows.Idle c b = record { content = c; bus = b }
 turned_by fixed rows.Begin c b = record { content = began (is_allowed fixed b) c; bus = begin_after (next_index c.registers.frame_index) b }
-turned_by fixed rows.FrameFault c b = record { content = faulted c; bus = b }
-turned_by fixed (rows.Enter left) c b = walked (entered left.0 c) (walk_next fixed (walk_place (entered left.0 c)) b)
+turned_by fixed rows.Frame c b = framed c (frame_next fixed (frame_place c) b)
+turned_by fixed rows.Enter c b = walked (entered c) (walk_next fixed (walk_place (entered c)) b)
 turned_by fixed rows.Go c b = walked c (walk_next fixed (walk_place c) b)
 turned_by fixed rows.End c b = record { content = record c { control = ended c.control }; bus = b }
 
@@ -114,7 +141,7 @@ abbrev pub with_turned : World → Turned → World
 with_turned w t = record w { control = t.content.control; registers = t.content.registers; memory = t.content.memory; bus = t.bus }
 
 abbrev pub controller_row : World → Row
-controller_row w = row_of w.registers w.control.part
+controller_row w = row_of w.registers w.control
 
 abbrev pub controller_next : Fixed → World → World
 controller_next fixed w = with_turned w (turned_by fixed (controller_row w) (controller_parts w) w.bus)

@@ -1,12 +1,12 @@
 ghost use Rattle.std.specs.Prelude.{◌≡◌, ◌↔◌, false};
 ghost use Rattle.word_mem.specs.Access.{IsByController};
-ghost use Rattle.async_walk.specs.Walk.{held_address};
 ghost use Rattle.async_walk.specs.Causes.{AreRefusalsFaults};
-ghost use Rattle.hc_core.specs.Controller.{content, new_control, row_of, Begins, ended, entered_control, hc_step, part_after, walk_step, Walks, HasRow, kind_of};
+ghost use Rattle.hc_core.specs.Controller.{content, new_control, either_address, address_in_hand, row_of, Begins, ended, entered_control, hc_step, part_after, frame_step, WalksFrame, walk_step, Walks, HasRow, kind_of};
 
 use async_walk::{AsyncState, WalkStep, step as walk_ring};
-use link_words::{Link, read};
+use link_words::read;
 use op_registers::Registers;
+use periodic_walk::{PeriodicState, step as walk_frame};
 use std::marker::Model;
 use usb_base::{Ps, Wire};
 use word_mem::WordMem;
@@ -40,8 +40,8 @@ pub enum HcStep {
 pub enum Part {
     /// The microframe is over.
     Over,
-    /// It has begun: what the element of the frame list leads to, and the time left.
-    Periodic(Link, Ps),
+    /// The chain of the frame is walked.
+    Periodic,
     /// The ring is walked.
     Asynchronous,
 }
@@ -53,20 +53,21 @@ pub enum Row {
     Idle,
     /// A microframe begins.
     Begin,
-    /// The frame list names a structure, and those aren't walked.
-    FrameFault,
-    /// The asynchronous part begins, with the time left and its first event.
-    Enter(Ps),
+    /// The periodic part goes on.
+    Frame,
+    /// The asynchronous part begins with its first event.
+    Enter,
     /// The asynchronous part goes on.
     Go,
     /// The microframe is over.
     End,
 }
 
-/// The host controller: where in the microframe it is, and its walk of the ring.
+/// The host controller: where in the microframe it is, and its walks of the frame's chain and of the ring.
 #[derive(Debug, Drop)]
 pub struct Controller {
     part: Part,
+    frame: PeriodicState,
     walk: AsyncState,
 }
 
@@ -75,7 +76,7 @@ impl Model for Controller {
 
     ghost Value = { Control };
 
-    ghost view = { λ c. record { part = c.part; walk = c.walk } };
+    ghost view = { λ c. record { part = c.part; frame = c.frame; walk = c.walk } };
 }
 
 fn kind(step: WalkStep) -> HcStep
@@ -91,12 +92,23 @@ fn kind(step: WalkStep) -> HcStep
     }
 }
 
-fn part_of(step: WalkStep) -> Part
-    ensures { result ≡ part_after step }
+/// Where in the microframe an event of a walk leaves the controller.
+fn part_of(part: Part, step: WalkStep) -> Part
+    ensures { result ≡ part_after part step }
 {
     match step {
         WalkStep::Ended | WalkStep::Fault => Part::Over,
-        _ => Part::Asynchronous,
+        _ => part,
+    }
+}
+
+/// The first of both, else the other.
+fn either(first: Option<u32>, other: Option<u32>) -> Option<u32>
+    ensures { result ≡ either_address first other }
+{
+    match first {
+        Some(at) => Some(at),
+        None => other,
     }
 }
 
@@ -107,30 +119,31 @@ impl Controller {
     {
         Controller {
             part: Part::Over,
+            frame: PeriodicState::new(),
             walk: AsyncState::new(),
         }
     }
 
     /// The byte address of the structure whose copy is in hand; None exactly where no copy is.
     pub fn held(&self) -> Option<u32>
-        ensures { result ≡ held_address self.now.walk.held }
+        ensures { result ≡ address_in_hand self.now }
     {
-        self.walk.held()
+        either(self.frame.held(), self.walk.held())
     }
 
     /// The kind of the next event.
     fn row(&self, regs: &Registers) -> Row
-        ensures { result ≡ row_of regs.now self.now.part }
+        ensures { result ≡ row_of regs.now self.now }
     {
         if !regs.running() {
             return Row::Idle;
         }
         match self.part {
             Part::Over => Row::Begin,
-            Part::Periodic(first, _) if regs.periodic_on() && !first.is_end() => Row::FrameFault,
-            Part::Periodic(_, left) if regs.async_on() => Row::Enter(left),
+            Part::Periodic if regs.periodic_on() && !self.frame.is_over() => Row::Frame,
+            Part::Periodic if regs.async_on() => Row::Enter,
             Part::Asynchronous if regs.async_on() => Row::Go,
-            Part::Periodic(_, _) | Part::Asynchronous => Row::End,
+            Part::Periodic | Part::Asynchronous => Row::End,
         }
     }
 
@@ -144,7 +157,10 @@ impl Controller {
         let left = if wire.begin(index) { MICROFRAME } else { 0 };
         let at = regs.periodic_list_base() + 4 * (index as u32 / 8 % 1024);
         match mem.hc_read(at) {
-            Some(word) => self.part = Part::Periodic(read(word), Ps(left)),
+            Some(word) => {
+                self.part = Part::Periodic;
+                self.frame.begin(read(word), index, Ps(left));
+            }
             None => regs.fault(),
         }
     }
@@ -153,14 +169,33 @@ impl Controller {
         ensures { self.new ≡ ended self.old }
     {
         self.part = Part::Over;
+        self.frame.stop();
         self.walk.stop();
     }
 
-    fn enter(&mut self, left: Ps)
-        ensures { self.new ≡ entered_control left.0 self.old }
+    fn enter(&mut self)
+        ensures { self.new ≡ entered_control self.old }
     {
         self.part = Part::Asynchronous;
-        self.walk.begin(left);
+        self.frame.stop();
+        self.walk.begin(self.frame.left());
+    }
+
+    /// One event of the walk of the frame's chain.
+    fn go_frame<W: Wire>(
+        &mut self,
+        regs: &mut Registers,
+        mem: &mut WordMem,
+        wire: &mut W,
+    ) -> HcStep
+        ensures kind { result ≡ hc_step (frame_step (content self.old regs.old mem.old)) }
+        ensures row { WalksFrame W.transacts (content self.old regs.old mem.old) wire.old (content self.new regs.new mem.new) wire.new }
+        ensures only_lent { IsByController mem.old mem.new }
+        ensures refused { AreRefusalsFaults mem.old mem.new regs.new }
+    {
+        let step = walk_frame(&mut self.frame, regs, mem, wire);
+        self.part = part_of(Part::Periodic, step);
+        kind(step)
     }
 
     /// One event of the walk of the ring.
@@ -171,7 +206,7 @@ impl Controller {
         ensures refused { AreRefusalsFaults mem.old mem.new regs.new }
     {
         let step = walk_ring(&mut self.walk, regs, mem, wire);
-        self.part = part_of(step);
+        self.part = part_of(Part::Asynchronous, step);
         kind(step)
     }
 
@@ -181,11 +216,11 @@ impl Controller {
     /// - `Begin` where the last microframe has ended. Where the element of the frame list lies in no Lent block, that is a host system
     ///   error.
     /// - `End` where the parts of the microframe are over, or where the controller met what it can't go on from: then Host System Error
-    ///   stands and Run is 0. A structure that the frame list names is such a fault, for the periodic list isn't walked.
-    /// - Else an event of the walk of the ring.
+    ///   stands and Run is 0.
+    /// - Else an event of the walk of the frame's chain, and when that has ended one of the walk of the ring.
     pub fn step<W: Wire>(&mut self, regs: &mut Registers, mem: &mut WordMem, wire: &mut W) -> HcStep
-        ensures kind { result ≡ kind_of (row_of regs.old self.old.part) (content self.old regs.old mem.old) }
-        ensures row { HasRow W.begins W.transacts (row_of regs.old self.old.part) (content self.old regs.old mem.old) wire.old (content self.new regs.new mem.new) wire.new }
+        ensures kind { result ≡ kind_of (row_of regs.old self.old) (content self.old regs.old mem.old) }
+        ensures row { HasRow W.begins W.transacts (row_of regs.old self.old) (content self.old regs.old mem.old) wire.old (content self.new regs.new mem.new) wire.new }
         ensures idle { (result ≡ HcStep.Idle) ↔ (regs.old.run ≡ false) }
         ensures only_lent { IsByController mem.old mem.new }
         ensures refused { AreRefusalsFaults mem.old mem.new regs.new }
@@ -196,13 +231,9 @@ impl Controller {
                 self.begin(regs, mem, wire);
                 HcStep::Begin
             }
-            Row::FrameFault => {
-                self.end();
-                regs.fault();
-                HcStep::End
-            }
-            Row::Enter(left) => {
-                self.enter(left);
+            Row::Frame => self.go_frame(regs, mem, wire),
+            Row::Enter => {
+                self.enter();
                 self.go(regs, mem, wire)
             }
             Row::Go => self.go(regs, mem, wire),

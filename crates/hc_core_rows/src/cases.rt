@@ -41,7 +41,7 @@ fn broken(name: &'static str, link: u32, characteristics: u32) -> Case {
 }
 
 /// The rows.
-pub(crate) fn all() -> [Case; 13] {
+pub(crate) fn all() -> [Case; 15] {
     [
         // The walk goes round behind the head, and never comes back to it.
         Case {
@@ -57,12 +57,28 @@ pub(crate) fn all() -> [Case; 13] {
         broken("a link to an iTD", 0x1040, 0x2003),
         broken("a reserved speed", 0x1042, 0x3003),
         broken("a link to nothing", 1, 0x2003),
+        // The chain is the queue head, which has nothing to do; then the ring.
         Case {
-            name: "a frame list that names a structure",
+            name: "a frame list that names a queue head",
             element: 0x1042,
             link: 0x1002,
-            queue: [0x1042, 0x2003, 0],
+            queue: [1, 0x2003, 0],
+            acts: &[Command(RUN), Step(2), Step(4)],
+        },
+        Case {
+            name: "a frame list that names an FSTN",
+            element: 0x1046,
+            link: 0x1002,
+            queue: [1, 0x2003, 0],
             acts: &[Command(RUN), Step(3)],
+        },
+        // Its copy is dropped, and the ring's first event comes.
+        Case {
+            name: "a periodic part that is disabled in a visit",
+            element: 0x1042,
+            link: 0x1002,
+            queue: [1, 0x2003, 0],
+            acts: &[Command(RUN), Step(2), Command(0x0008_0021), Step(1)],
         },
         Case {
             name: "and the periodic part is off",
