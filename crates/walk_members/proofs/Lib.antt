@@ -3,3 +3,5 @@ pub mod Decoding
 pub mod Walking
 pub mod Driving
 pub mod Offering
+pub mod Ringing
+pub mod Answering

@@ -1,5 +1,5 @@
 -- An accepted command leaves the walk among the queue heads that it may meet.
-use Rattle.std.proofs.Common.{◌≡◌, ◌≢◌, ℕ, ◌-◌, Bool, true, false, List, [], ◌∷◌, ◌++◌, length, take, drop, get_or, set, slice_get, Some, Ok, ap, sym, subst, ◌∙◌, ⊎_elim, refl}
+use Rattle.std.proofs.Common.{◌≡◌, ◌≢◌, ℕ, ◌-◌, Bool, true, List, length, take, get_or, set, slice_get, Some, Ok, ap, sym, subst, ◌∙◌, ⊎_elim, refl}
 use Rattle.std.proofs.lemmas.Bool.{cases_eq}
 use Rattle.std.proofs.lemmas.Option.{same_Some}
 use Rattle.usb_base.specs.declared.commands.Cmd.{Cmd}
@@ -9,11 +9,10 @@ use Rattle.async_walk.specs.Walk.{Walk}
 use Rattle.driver_rows.specs.declared.content.Endpoint.{Endpoint}
 use Rattle.driver_rows.specs.DriverContent.{DriverContent}
 use Rattle.driver_rows.specs.Offers.{Offered, offered, new_runs, new_endpoint, with_queued, first_end}
-use Rattle.run_owners.specs.Accepts.{Opens, Transfers, Cancels, Accepts, opens, transfers, cancels}
+use Rattle.run_owners.specs.Accepts.{Accepts, opens, transfers, cancels}
 use Rattle.run_owners.proofs.Released.{set_here, set_there}
 use Rattle.run_owners.proofs.Commands.{accepted_for_a_reason}
-use Rattle.ring_members.proofs.Leaving.{GoOn, same_go_on}
-use Rattle.ring_members.proofs.Harvests.{endpoint_set}
+use Rattle.ring_members.proofs.Leaving.{GoOn}
 use Rattle.ring_members.proofs.Accepted.{one_more_on}
 use Rattle.walk_members.specs.Reached.{IsWalkIn}
 use Rattle.walk_members.proofs.Driving.{Reaches, goes_reach, walk_mapped}

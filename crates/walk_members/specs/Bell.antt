@@ -1,5 +1,5 @@
 -- How far the doorbell of the ring is (EHCI 1.0, 4.8.2), told by the driver's content and the registers together.
---     IsBellIn d r        while no doorbell is pending no batch is rung and Async Advance is 0; once Async Advance is 1, or was read, the
+--     IsBellIn d r        while no doorbell is pending no batch is rung, and doorbell and Async Advance are 0; once Async Advance is 1, or was read, the
 --                         doorbell is 0
 use Rattle.std.specs.Prelude.{◌≡◌, true, false, []}
 use Rattle.op_registers.specs.RegisterFile.{RegisterFile}
@@ -7,6 +7,6 @@ use Rattle.driver_rows.specs.declared.content.Bell.TheVariants as bells
 use Rattle.driver_rows.specs.DriverContent.{DriverContent}
 
 pub record IsBellIn (d : DriverContent) (r : RegisterFile) : Type 0 where
-  pub quiet : d.bell ≡ bells.Quiet → (d.rung ≡ []) × (r.async_advance ≡ false)
+  pub quiet : d.bell ≡ bells.Quiet → (d.rung ≡ []) × (r.async_advance ≡ false) × (r.doorbell ≡ false)
   pub answered : r.async_advance ≡ true → r.doorbell ≡ false
   pub heard : d.bell ≡ bells.Heard → r.doorbell ≡ false

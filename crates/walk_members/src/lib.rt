@@ -52,3 +52,13 @@ pub fn the_driver_leaves_the_walk()
 pub fn commands_leave_the_walk()
     ensures { (d : DriverContent) (m : Mem) (cmd : Cmd) (o : Offered) (r : RegisterFile) (w : Walk) → offered d m cmd ≡ Ok o → IsWalkIn d r w → IsWalkIn o.driver r w }
 {}
+
+/// Content and registers agree on the doorbell: each event of the driver keeps it.
+pub fn the_driver_keeps_the_bell()
+    ensures { (p : Parts) → IsBellIn p.driver p.registers → IsBellIn (after_row (row_of p) p).driver (after_row (row_of p) p).registers }
+{}
+
+/// And so does each event of the walk, which answers the doorbell where the head is read.
+pub fn the_walk_keeps_the_bell<W: Wire>()
+    ensures { (d : DriverContent) (p : Place) (before : W) (new : Place) (after : W) → IsBellIn d p.registers → Leads W.transacts (event_row p) (at_event p) before new after → IsBellIn d new.registers }
+{}
