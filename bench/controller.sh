@@ -1,7 +1,7 @@
 #!/bin/bash
 # Builds bench_controller and times it: what the controller did, and the events and transactions per second of the process's own time,
 # in the fastest of several runs.
-# Usage: bench/controller.sh [KIND [QUEUES [BYTES [EVENTS [RUNS]]]]]     KIND is in, out or control
+# Usage: bench/controller.sh [KIND [QUEUES [BYTES [EVENTS [RUNS]]]]]     KIND is in, out, control or interrupt
 set -e
 kind=${1:-in}
 queues=${2:-32}

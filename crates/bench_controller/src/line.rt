@@ -1,6 +1,7 @@
 ghost use Rattle.std.specs.Prelude.{◌≡◌, ◌<◌, ◌≤◌, IfSome};
+ghost use Rattle.bench_controller.specs.Loads.{fewest};
 
-/// What the queue heads of a ring do.
+/// What the queue heads do.
 #[derive(Clone, Copy, PartialEq, Eq)]
 pub(crate) enum Kind {
     /// Bulk INs.
@@ -9,13 +10,15 @@ pub(crate) enum Kind {
     Out,
     /// The SETUPs of control endpoints.
     Control,
+    /// INs of interrupt endpoints, in the chain of each frame and in each microframe; the ring is its head alone.
+    Interrupt,
 }
 
 /// What is stepped.
 #[derive(Clone, Copy)]
 pub(crate) struct Load {
     pub(crate) kind: Kind,
-    /// How many queue heads there are beside the ring's head, 1 to 256.
+    /// How many queue heads there are beside the ring's head, up to 256; at least one, but for interrupt endpoints.
     pub(crate) queues: u32,
     /// The bytes of a packet, at most 512.
     pub(crate) size: u16,
@@ -32,14 +35,26 @@ fn kind_of(word: &str) -> Option<Kind> {
     if word == "control" {
         return Some(Kind::Control);
     }
+    if word == "interrupt" {
+        return Some(Kind::Interrupt);
+    }
     None
+}
+
+fn fewest(kind: Kind) -> u32
+    ensures { result ≡ fewest kind }
+{
+    match kind {
+        Kind::In | Kind::Out | Kind::Control => 1,
+        Kind::Interrupt => 0,
+    }
 }
 
 /// The load of these numbers, where they are in their ranges.
 fn within(kind: Kind, queues: u32, size: u16, events: u64) -> Option<Load>
-    ensures { IfSome result (λ l. (1 ≤ l.queues) × (l.queues ≤ 256) × (l.size ≤ 512)) }
+    ensures { IfSome result (λ l. (fewest l.kind ≤ l.queues) × (l.queues ≤ 256) × (l.size ≤ 512)) }
 {
-    if queues < 1 || queues > 256 || size > 512 {
+    if queues < fewest(kind) || queues > 256 || size > 512 {
         return None;
     }
     Some(Load {
@@ -52,7 +67,7 @@ fn within(kind: Kind, queues: u32, size: u16, events: u64) -> Option<Load>
 
 /// The load that a line tells; None where it tells none.
 pub(crate) fn read(line: &str) -> Option<Load>
-    ensures { IfSome result (λ l. (1 ≤ l.queues) × (l.queues ≤ 256) × (l.size ≤ 512)) }
+    ensures { IfSome result (λ l. (fewest l.kind ≤ l.queues) × (l.queues ≤ 256) × (l.size ≤ 512)) }
 {
     let (first, rest) = line.split_once(' ')?;
     let (queues, rest) = rest.split_once(' ')?;

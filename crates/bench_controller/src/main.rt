@@ -1,5 +1,5 @@
-//! Steps a controller over a ring of busy queue heads. Each line of the input has the kind of the queue heads (`in`, `out` or `control`),
-//! their number, the bytes of a packet and a number of events.
+//! Steps a controller over a ring or a frame's chain of busy queue heads. Each line of the input has the kind of the queue heads (`in`,
+//! `out`, `control` or `interrupt`), their number, the bytes of a packet and a number of events.
 //!
 //! It calls `hc_core`, and nothing calls it; docs/SPEED.md has what was measured with it.
 #![tactic(auto)]

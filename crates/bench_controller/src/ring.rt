@@ -18,7 +18,7 @@ const STRUCTURES: u32 = 161 * 4096;
 /// Where the qTDs begin in a page of structures. The queue heads stand before them, 64 bytes each.
 const QTDS: u32 = 2112;
 
-/// Memory with a ring of queue heads, each with one qTD that is its own next.
+/// Memory with a ring or a chain of queue heads, each with one qTD that is its own next.
 #[derive(Drop)]
 pub(crate) struct Ring {
     pub(crate) mem: WordMem,
@@ -28,7 +28,7 @@ pub(crate) struct Ring {
 /// The token of a qTD that is active: 20,480 bytes, and an interrupt when it is done.
 fn active(kind: Kind) -> u32 {
     match kind {
-        Kind::In => 0x5000_8d80,
+        Kind::In | Kind::Interrupt => 0x5000_8d80,
         Kind::Out => 0x5000_8c80,
         Kind::Control => 0x5000_8e80,
     }
@@ -62,29 +62,58 @@ fn set(words: &mut [u32], at: u32, new: &[u32])
     }
 }
 
+/// Whether the queue heads stand in the chain of each frame.
+fn periodic(load: &Load) -> bool {
+    load.kind == Kind::Interrupt
+}
+
+/// The link word that ends the queue heads: to the head of the ring, or to nothing.
+fn last(load: &Load) -> u32 {
+    if periodic(load) {
+        return 1;
+    }
+    STRUCTURES | 2
+}
+
+/// The masks and the number of transactions of a microframe.
+fn capabilities(load: &Load) -> u32 {
+    if periodic(load) {
+        return 0x4000_00ff;
+    }
+    0x4000_0000
+}
+
+/// How many NAKs a queue head counts.
+fn reload(load: &Load, queue: u32) -> u32 {
+    if periodic(load) {
+        return 0;
+    }
+    queue % 2 * 4
+}
+
 /// Writes a queue head whose overlay is done: of a device of its own, endpoint 1 (0 for control), with RL 0 or 4 and as many NAKs left.
 fn set_queue(words: &mut [u32], load: &Load, queue: u32)
     requires { queue < 256 }
     ensures { length words.new ≡ length words.old }
 {
     let next = if queue + 1 < load.queues && queue < 255 {
-        queue_at(queue + 1)
+        queue_at(queue + 1) | 2
     } else {
-        STRUCTURES
+        last(load)
     };
     let endpoint = match load.kind {
-        Kind::In | Kind::Out => 0x2100,
+        Kind::In | Kind::Out | Kind::Interrupt => 0x2100,
         Kind::Control => 0x6000,
     };
-    let rl = queue % 2 * 4;
+    let rl = reload(load, queue);
     let characteristics = rl << 28 | (load.size as u32) << 16 | endpoint | (queue % 127 + 1);
     set(
         words,
         queue_at(queue),
         &[
-            next | 2,
+            next,
             characteristics,
-            0x4000_0000,
+            capabilities(load),
             0,
             qtd_at(queue),
             rl << 1 | 1,
@@ -120,12 +149,28 @@ fn blank(alloc: Global) -> Result<Vec<u32>, Memory> {
     Ok(vec![in alloc; 0u32; WORDS]?)
 }
 
-/// Writes the frame list, whose elements all lead nowhere, the head, which is halted, and each queue head with its qTD.
+/// Where each element of the frame list leads: to the first queue head, or nowhere.
+fn element(load: &Load) -> u32 {
+    if periodic(load) && load.queues > 0 {
+        return queue_at(0) | 2;
+    }
+    1
+}
+
+/// Where the head of the ring leads: to the first queue head, or to itself.
+fn behind(load: &Load) -> u32 {
+    if periodic(load) {
+        return STRUCTURES | 2;
+    }
+    queue_at(0) | 2
+}
+
+/// Writes the frame list, the head of the ring, which is halted, and each queue head with its qTD.
 fn fill(words: &mut [u32], load: &Load) {
     for frame in 0..1024 {
-        set(words, 4 * frame, &[1]);
+        set(words, 4 * frame, &[element(load)]);
     }
-    let head = [queue_at(0) | 2, 0x0040_a000, 0x4000_0000, 0, 1, 1, 0x40];
+    let head = [behind(load), 0x0040_a000, 0x4000_0000, 0, 1, 1, 0x40];
     set(words, STRUCTURES, &head);
     for queue in 0..u32::min(load.queues, 256) {
         set_queue(words, load, queue);
