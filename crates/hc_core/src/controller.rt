@@ -182,12 +182,7 @@ impl Controller {
     }
 
     /// One event of the walk of the frame's chain.
-    fn go_frame<W: Wire>(
-        &mut self,
-        regs: &mut Registers,
-        mem: &mut WordMem,
-        wire: &mut W,
-    ) -> HcStep
+    fn go_frame<W: Wire>(&mut self, regs: &mut Registers, mem: &mut WordMem, wire: &mut W) -> HcStep
         ensures kind { result ≡ hc_step (frame_step (content self.old regs.old mem.old)) }
         ensures row { WalksFrame W.transacts (content self.old regs.old mem.old) wire.old (content self.new regs.new mem.new) wire.new }
         ensures only_lent { IsByController mem.old mem.new }
