@@ -1,3 +1,4 @@
 pub mod Events
 pub mod Accepted
 pub mod Opened
+pub mod Stored

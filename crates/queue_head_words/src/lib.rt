@@ -3,8 +3,10 @@
 //!
 //! The crate has no code of its own: each function is a law over the definitions of `driver_rows`, and its body is empty. A world whose
 //! driver `HasOwners`, whose words are its `IsRing` and `AreFixed`, keeps the last by `commands_keep_the_fixed_words` and
-//! `events_keep_the_fixed_words`; `ring_members` stands below it.
+//! `events_keep_the_fixed_words`, and its overlays by `overlay::events_leave_the_overlay`; `ring_members` stands below it.
 #![tactic(auto)]
+
+pub mod overlay;
 
 ghost use Rattle.std.specs.Prelude.{◌≡◌, ℕ, ◌≤◌, Ok};
 ghost use Rattle.usb_base.specs.declared.commands.Cmd.{Cmd};

@@ -1,0 +1,222 @@
+-- What the driver's events store in queue heads.
+use Rattle.std.proofs.Common.{◌≡◌, ◌≢◌, ℕ, zero, suc, ◌+◌, ◌*◌, ◌/◌, ◌<◌, ◌≤◌, Bool, true, false, cond, List, drop, slice_get, slice_index, Option, Some, None, ap, sym, subst, ◌∙◌, ⊎_elim, inl, inr, refl, arith}
+use Rattle.std.specs.Prelude.{◌⊎◌}
+use Rattle.std.proofs.lemmas.Bool.{cases_eq}
+use Rattle.std.proofs.lemmas.Option.{same_Some}
+use Rattle.std.proofs.lemmas.List.{get_or-set_other}
+use Rattle.word_mem.specs.Memory.{Mem, IsShaped, word_at, with_word}
+use Rattle.word_mem.proofs.Holders.{has_block_from}
+use Rattle.run_book.specs.Book.{Book, Holding, holding, Stands, IsAt, slot_of, can_store, store}
+use Rattle.run_book.specs.declared.slots.Slot.{Slot}
+use Rattle.run_book.specs.declared.slots.Slot.TheVariants.{Empty, Keeps, Lends}
+use Rattle.driver_rows.specs.declared.content.Endpoint.{Endpoint}
+use Rattle.driver_rows.specs.declared.content.Transfer.{Transfer}
+use Rattle.driver_rows.specs.declared.content.Mend.{Mend}
+use Rattle.driver_rows.specs.declared.content.Command.{Command}
+use Rattle.driver_rows.specs.declared.content.Command.TheVariants as unfinished
+use Rattle.driver_rows.specs.declared.rows.Row.{Row}
+use Rattle.driver_rows.specs.declared.rows.Row.TheVariants as rows
+use Rattle.driver_rows.specs.DriverContent.{DriverContent}
+use Rattle.driver_rows.specs.Words.{head_block}
+use Rattle.driver_rows.specs.Offers.{oldest_of}
+use Rattle.driver_rows.specs.Rows.{Parts, events_of, row_of, after_row, after_transfer, after_endpoint, freed_by, free_qtds, free_endpoint}
+use Rattle.run_owners.specs.Owners.{Owner, Head, QueueHead, Element, HasBlocks, HasRun, SlotHas, IsPlaced}
+use Rattle.run_owners.specs.Due.{IsDue}
+use Rattle.run_owners.specs.Kept.{HasOwners}
+use Rattle.run_owners.proofs.Reasons.{each_is_due}
+use Rattle.run_owners.proofs.Runs.{placed_run}
+use Rattle.run_owners.proofs.Laws.{event_owned}
+use Rattle.ring_members.specs.Links.{link_in}
+use Rattle.ring_members.specs.Ring.{IsMending, IsRing}
+use Rattle.ring_members.proofs.Links.{LeadsTo, oldest_is, dropped}
+use Rattle.ring_members.proofs.Stores.{slots_apart}
+use Rattle.ring_members.proofs.Freed.{LeavesRest, lent_words, rest_qtds, rest_endpoint}
+use Rattle.ring_members.proofs.Placed.{has_first, queue_placed, queue_run, head_run_there, in_ring_alive}
+use Rattle.ring_members.proofs.Events.{first_mend, open_store, unlink_store, stands_as, block_of, is_element, not_element}
+use Rattle.queue_head_words.specs.Overlay.{HasQueueHead, of_ring, of_endpoint, stored_address, IsMendOf}
+
+-- ---- where a queue head lies
+
+record QueueRun (d : DriverContent) (has : HasOwners d) (b : ℕ) : Type 0 where
+  owner : Owner
+  there : IsPlaced (slot_of d.book.slots) has.owner b owner
+  off : is_element owner ≡ false
+  two : HasBlocks 2 (slot_of d.book.slots b)
+
+run_at : (d : DriverContent) (has : HasOwners d) (b : ℕ) → HasQueueHead d b → QueueRun d has b
+unfolding is_element
+run_at d has b (of_ring is) =
+    let p = subst (λ k. IsPlaced (slot_of d.book.slots) has.owner k Head) (sym is) has.owned.each.head in
+    record { owner = Head; there = p; off = refl; two = p.run }
+run_at d has b (of_endpoint e x here alive is) =
+    let p = subst (λ k. IsPlaced (slot_of d.book.slots) has.owner k (QueueHead e)) is (queue_placed d e x has here alive) in
+    record { owner = QueueHead e; there = p; off = refl; two = p.run }
+
+in_two : (s : Slot) (b k : ℕ) → IsAt b s → HasBlocks 2 s → b ≤ k → k < b + 2 → SlotHas s k
+in_two Empty b k at two low high = two
+in_two (Keeps r) b k at two low high = has_block_from r k (omega (arith, at.0, low)) (omega (arith, at.0, two, high))
+in_two (Lends r) b k at two low high = has_block_from r k (omega (arith, at.0, low)) (omega (arith, at.0, two, high))
+
+-- a run that begins in one of the two blocks of another is that run
+same_run : (h : Holding) (b c : ℕ) → Stands h → HasBlocks 2 (slot_of h.book.slots b) → HasRun (slot_of h.book.slots c) → b ≤ c → c < b + 2 → c ≡ b
+same_run h b c stands two run low high =
+    ⊎_elim (λ (same : c ≡ b). same)
+    (λ (differs : c ≢ b). absurd (slots_apart h stands b c c differs (in_two (slot_of h.book.slots b) b c (stands.placed b) two low high) (has_first h c stands run)))
+    (cases_eq c b)
+
+-- ---- the addresses of a command's stores
+
+-- those of a qTD lie in its block
+publish_within : (b : ℕ) (words : List ℕ) (made c at v : ℕ) → slice_get (events_of (unfinished.Publish b words)) made ≡ Some (rows.Store c at v) → (32 * b ≤ at) × (at < 32 * b + 32)
+publish_within b words zero c at v e = absurd (cc)
+publish_within b words (suc zero) c at v e = let w : 32 * b + 4 * 0 ≡ at = cc in (omega (arith, w), omega (arith, w))
+publish_within b words (suc (suc zero)) c at v e = let w : 32 * b + 4 * 1 ≡ at = cc in (omega (arith, w), omega (arith, w))
+publish_within b words (suc (suc (suc zero))) c at v e = let w : 32 * b + 4 * 3 ≡ at = cc in (omega (arith, w), omega (arith, w))
+publish_within b words (suc (suc (suc (suc zero)))) c at v e = let w : 32 * b + 4 * 4 ≡ at = cc in (omega (arith, w), omega (arith, w))
+publish_within b words (suc (suc (suc (suc (suc zero))))) c at v e = let w : 32 * b + 4 * 5 ≡ at = cc in (omega (arith, w), omega (arith, w))
+publish_within b words (suc (suc (suc (suc (suc (suc zero)))))) c at v e = let w : 32 * b + 4 * 6 ≡ at = cc in (omega (arith, w), omega (arith, w))
+publish_within b words (suc (suc (suc (suc (suc (suc (suc zero))))))) c at v e = let w : 32 * b + 4 * 7 ≡ at = cc in (omega (arith, w), omega (arith, w))
+publish_within b words (suc (suc (suc (suc (suc (suc (suc (suc zero)))))))) c at v e = let w : 32 * b + 4 * 2 ≡ at = cc in (omega (arith, w), omega (arith, w))
+publish_within b words (suc (suc (suc (suc (suc (suc (suc (suc (suc n))))))))) c at v e = absurd (cc)
+
+-- the queue head, or the head, that leads to one that leaves has a run
+oldest_run : (d : DriverContent) (n : ℕ) → HasOwners d → HasRun (slot_of d.book.slots (oldest_of (drop n d.endpoints)))
+oldest_run d n has =
+    ⊎_elim (λ (head : oldest_of (drop n d.endpoints) ≡ head_block). subst (λ k. HasRun (slot_of d.book.slots k)) (sym head) (head_run_there d has))
+    (λ (l : LeadsTo (drop n d.endpoints) (oldest_of (drop n d.endpoints))).
+    let at : slice_get d.endpoints (n + l.number) ≡ Some l.endpoint = sym (dropped d.endpoints n l.number) ∙ l.here in
+    subst (λ k. HasRun (slot_of d.book.slots k)) l.queue (queue_run d (n + l.number) l.endpoint has at (in_ring_alive d (n + l.number) l.endpoint has.orderly at l.linked)))
+    (oldest_is (drop n d.endpoints))
+
+-- a command's store within a queue head is one to its link
+command_stores : (p : Parts) (c : Command) (b q at v : ℕ) → p.driver.command ≡ Some c → slice_get (events_of c) p.driver.made ≡ Some (rows.Store q at v) → Stands (holding p.driver.book p.memory) → HasOwners p.driver → IsRing (link_in p.memory) p.driver → HasQueueHead p.driver b → 32 * b ≤ at → at < 32 * b + 48 → at ≡ 32 * b
+command_stores p (unfinished.Open f) b q at v is next stands has ring there low high =
+    let d = p.driver in
+    let s = open_store f d.made q at v next in
+    let word = s.1.0.1 in
+    let same = same_run (holding d.book p.memory) b head_block stands (run_at d has b there).two (head_run_there d has) (omega (arith, word, high)) (omega (arith, word, high)) in
+    omega (arith, word, same)
+command_stores p (unfinished.Publish f words) b q at v is next stands has ring there low high =
+    let d = p.driver in
+    let h = holding d.book p.memory in
+    let u = stands_as (link_in p.memory) d (unfinished.Publish f words) is ring in
+    let here = block_of d has (link_in p.memory) f u in
+    let w = publish_within f words d.made q at v next in
+    let r = run_at d has b there in
+    let same = same_run h b f stands r.two (placed_run f (Element u.number) here) (omega (arith, w.0, w.1, low, high)) (omega (arith, w.0, w.1, low, high)) in
+    absurd (not_element u.number r.owner r.off (sym r.there.owned ∙ ap has.owner (sym same) ∙ here.owned))
+command_stores p (unfinished.Unlink e f link) b q at v is next stands has ring there low high =
+    let d = p.driver in
+    let s = unlink_store e f link d.made q at v next in
+    let u = stands_as (link_in p.memory) d (unfinished.Unlink e f link) is ring in
+    let run : HasRun (slot_of d.book.slots f) = subst (λ k. HasRun (slot_of d.book.slots k)) (sym u.from) (oldest_run d (suc e) has) in
+    let word = s.1.0.1 in
+    let same = same_run (holding d.book p.memory) b f stands (run_at d has b there).two run (omega (arith, word, low, high)) (omega (arith, word, low, high)) in
+    omega (arith, word, same)
+
+-- ---- a store after a stalled request
+
+mend_queue : (w : Mend) (b : ℕ) → IsMending w → 32 * b ≤ w.at → w.at < 32 * b + 48 → w.queue ≡ b
+mend_queue w b mending low high =
+    ⊎_elim (λ (one : w.at ≡ 32 * w.queue + 16). omega (arith, one, low, high))
+    (λ (rest : (w.at ≡ 32 * w.queue + 20) ⊎ (w.at ≡ 32 * w.queue + 24)).
+    ⊎_elim (λ (one : w.at ≡ 32 * w.queue + 20). omega (arith, one, low, high)) (λ (one : w.at ≡ 32 * w.queue + 24). omega (arith, one, low, high)) rest) mending
+
+mends : (p : Parts) (w : Mend) (b : ℕ) → slice_get p.driver.mends 0 ≡ Some w → IsMending w → w.queue ≡ b → IsMendOf p (rows.Mend w) b w.at
+mends p w b owed mending same = record {
+  mend = w;
+  is = refl;
+  owed = owed;
+  queue = same;
+  address = refl;
+  word = subst (λ q. (w.at ≡ 32 * q + 16) ⊎ ((w.at ≡ 32 * q + 20) ⊎ (w.at ≡ 32 * q + 24))) same mending;
+}
+
+row_stores : (row : Row) (p : Parts) (b at : ℕ) → IsDue p row → Stands (holding p.driver.book p.memory) → HasOwners p.driver → IsRing (link_in p.memory) p.driver → HasQueueHead p.driver b → 32 * b ≤ at → at < 32 * b + 48 → stored_address row ≡ Some at → (at ≡ 32 * b) ⊎ IsMendOf p row b at
+row_stores (rows.Store q to v) p b at due stands has ring there low high is =
+    let same : to ≡ at = same_Some to at is in
+    inl (command_stores p due.command b q at v due.unfinished (subst (λ a. slice_get (events_of due.command) p.driver.made ≡ Some (rows.Store q a v)) same due.next) stands has ring there low high)
+row_stores (rows.Mend w) p b at due stands has ring there low high is =
+    let same : w.at ≡ at = same_Some w.at at is in
+    let mending = first_mend p.driver.mends w due.1 ring.mends in
+    inr (subst (λ a. IsMendOf p (rows.Mend w) b a) same (mends p w b due.1 mending (mend_queue w b mending (omega (arith, same, low)) (omega (arith, same, high)))))
+row_stores rows.Lend p b at due stands has ring there low high is = absurd (cc)
+row_stores (rows.ReleaseTransfer t) p b at due stands has ring there low high is = absurd (cc)
+row_stores (rows.ReleaseEndpoint e) p b at due stands has ring there low high is = absurd (cc)
+row_stores rows.ClearAdvance p b at due stands has ring there low high is = absurd (cc)
+row_stores rows.RingBell p b at due stands has ring there low high is = absurd (cc)
+row_stores (rows.ReadStatus heard) p b at due stands has ring there low high is = absurd (cc)
+row_stores (rows.Harvest e t found) p b at due stands has ring there low high is = absurd (cc)
+row_stores rows.Rest p b at due stands has ring there low high is = absurd (cc)
+
+pub event_stores : (p : Parts) (b at : ℕ) → Stands (holding p.driver.book p.memory) → HasOwners p.driver → IsRing (link_in p.memory) p.driver → HasQueueHead p.driver b → 32 * b ≤ at → at < 32 * b + 48 → stored_address (row_of p) ≡ Some at → (at ≡ 32 * b) ⊎ IsMendOf p (row_of p) b at
+event_stores p b at stands has ring there low high is = row_stores (row_of p) p b at (each_is_due p) stands has ring there low high is
+
+-- ---- what any event leaves
+
+maybe : (m : Mem) (at v other : ℕ) (can : Bool) → at / 4 ≢ other / 4 → word_at (cond can (with_word m at v) m) other ≡ word_at m other
+maybe m at v other true differs = get_or-set_other m.words (at / 4) (other / 4) v 0 (λ same. differs (sym same))
+maybe m at v other false differs = refl
+
+store_apart : (k : Book) (m : Mem) (q at v other : ℕ) → at / 4 ≢ other / 4 → word_at (store k m q at v) other ≡ word_at m other
+store_apart k m q at v other differs = maybe m at v other (can_store (slot_of k.slots q) at) differs
+
+-- the word i of the queue head in block b is as before, or a store after a stalled request writes it
+abbrev pub IsLeft : Row → Parts → ℕ → ℕ → Type 0
+IsLeft row p b i = (word_at (after_row row p).memory (32 * b + 4 * i) ≡ word_at p.memory (32 * b + 4 * i)) ⊎ IsMendOf p row b (32 * b + 4 * i)
+
+mend_leaves : (p : Parts) (w : Mend) (b i : ℕ) → slice_get p.driver.mends 0 ≡ Some w → IsMending w → i < 12 → IsLeft (rows.Mend w) p b i
+mend_leaves p w b i owed mending small =
+    ⊎_elim
+    (λ (same : w.at ≡ 32 * b + 4 * i).
+    inr (subst (λ a. IsMendOf p (rows.Mend w) b a) same (mends p w b owed mending (mend_queue w b mending (omega (arith, same)) (omega (arith, same, small))))))
+    (λ (differs : w.at ≢ 32 * b + 4 * i).
+    inl (store_apart p.driver.book p.memory w.queue w.at w.value (32 * b + 4 * i)
+    (λ word.
+    differs
+    (⊎_elim (λ (one : w.at ≡ 32 * w.queue + 16). omega (arith, one, word))
+    (λ (rest : (w.at ≡ 32 * w.queue + 20) ⊎ (w.at ≡ 32 * w.queue + 24)).
+    ⊎_elim (λ (one : w.at ≡ 32 * w.queue + 20). omega (arith, one, word)) (λ (one : w.at ≡ 32 * w.queue + 24). omega (arith, one, word)) rest) mending))))
+    (cases_eq w.at (32 * b + 4 * i))
+
+-- the words of a queue head that has its run once others were given back
+rest_left : (h : Holding) (d : DriverContent) (m : Mem) (b i : ℕ) → LeavesRest h (holding d.book m) → (has : HasOwners d) → HasQueueHead d b → i < 12 → word_at m (32 * b + 4 * i) ≡ word_at h.memory (32 * b + 4 * i)
+rest_left h d m b i rest has there small =
+    rest.words b (32 * b + 4 * i) (in_two (slot_of d.book.slots b) b ((32 * b + 4 * i) / 32) (rest.stands.placed b) (run_at d has b there).two (omega arith) (omega (arith, small)))
+
+transfer_left : (p : Parts) (t b i : ℕ) (o : Option Transfer) → Stands (holding p.driver.book p.memory) → IsShaped p.memory → HasOwners (after_transfer p t o (freed_by p.driver (holding p.driver.book p.memory) o)).driver → HasQueueHead (after_transfer p t o (freed_by p.driver (holding p.driver.book p.memory) o)).driver b → i < 12 → word_at (after_transfer p t o (freed_by p.driver (holding p.driver.book p.memory) o)).memory (32 * b + 4 * i) ≡ word_at p.memory (32 * b + 4 * i)
+transfer_left p t b i None stands shape has there small = refl
+transfer_left p t b i (Some x) stands shape has there small =
+    let h = holding p.driver.book p.memory in
+    let g = free_qtds p.driver.notes h x.first x.qtds in
+    rest_left h _ g.memory b i (rest_qtds p.driver.notes h x.first x.qtds stands shape) has there small
+
+endpoint_left : (p : Parts) (e b i : ℕ) (o : Option Endpoint) → Stands (holding p.driver.book p.memory) → IsShaped p.memory → HasOwners (after_endpoint p e o).driver → HasQueueHead (after_endpoint p e o).driver b → i < 12 → word_at (after_endpoint p e o).memory (32 * b + 4 * i) ≡ word_at p.memory (32 * b + 4 * i)
+endpoint_left p e b i None stands shape has there small = refl
+endpoint_left p e b i (Some x) stands shape has there small =
+    let h = holding p.driver.book p.memory in
+    let g = free_endpoint p.driver e x h in
+    rest_left h _ g.memory b i (rest_endpoint p.driver e x h stands shape) has there small
+
+row_leaves : (row : Row) (p : Parts) (b i : ℕ) → IsDue p row → Stands (holding p.driver.book p.memory) → IsShaped p.memory → HasOwners p.driver → HasOwners (after_row row p).driver → IsRing (link_in p.memory) p.driver → HasQueueHead p.driver b → HasQueueHead (after_row row p).driver b → 1 ≤ i → i < 12 → IsLeft row p b i
+row_leaves rows.Lend p b i due stands shape has after ring there later from small =
+    inl (ap (λ ws. slice_index ws ((32 * b + 4 * i) / 4)) (lent_words (holding p.driver.book p.memory)))
+row_leaves (rows.Store q to v) p b i due stands shape has after ring there later from small =
+    inl (store_apart p.driver.book p.memory q to v (32 * b + 4 * i)
+    (λ word.
+    let link = command_stores p due.command b q to v due.unfinished due.next stands has ring there (omega (arith, word)) (omega (arith, word, small)) in
+    omega (arith, word, link, from)))
+row_leaves (rows.Mend w) p b i due stands shape has after ring there later from small = mend_leaves p w b i due.1 (first_mend p.driver.mends w due.1 ring.mends) small
+row_leaves (rows.ReleaseTransfer t) p b i due stands shape has after ring there later from small =
+    inl (transfer_left p t b i (slice_get p.driver.transfers t) stands shape after later small)
+row_leaves (rows.ReleaseEndpoint e) p b i due stands shape has after ring there later from small =
+    inl (endpoint_left p e b i (slice_get p.driver.endpoints e) stands shape after later small)
+row_leaves rows.ClearAdvance p b i due stands shape has after ring there later from small = inl refl
+row_leaves rows.RingBell p b i due stands shape has after ring there later from small = inl refl
+row_leaves (rows.ReadStatus heard) p b i due stands shape has after ring there later from small = inl refl
+row_leaves (rows.Harvest e t found) p b i due stands shape has after ring there later from small = inl refl
+row_leaves rows.Rest p b i due stands shape has after ring there later from small = inl refl
+
+pub event_leaves : (p : Parts) (b i : ℕ) → Stands (holding p.driver.book p.memory) → IsShaped p.memory → HasOwners p.driver → IsRing (link_in p.memory) p.driver → HasQueueHead p.driver b → HasQueueHead (after_row (row_of p) p).driver b → 1 ≤ i → i < 12
+    → (word_at (after_row (row_of p) p).memory (32 * b + 4 * i) ≡ word_at p.memory (32 * b + 4 * i)) ⊎ IsMendOf p (row_of p) b (32 * b + 4 * i)
+event_leaves p b i stands shape has ring there later from small = row_leaves (row_of p) p b i (each_is_due p) stands shape has (event_owned p has) ring there later from small

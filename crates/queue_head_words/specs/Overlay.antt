@@ -1,0 +1,31 @@
+-- What the driver stores in queue heads (EHCI 1.0, 3.6, 3.6.3 and 4.10). A queue head has twelve words: its link, two that no event writes,
+-- and from word 3 on the overlay, which is the controller's.
+--     HasQueueHead d b        a queue head begins in block b: the head of the ring, or that of an endpoint that wasn't given back
+--     stored_address row      the byte address of the word that the row stores
+--     IsMendOf p row b at     the row is one of the three stores after a stalled request, and its word that of the queue head in block b
+use Rattle.std.specs.Prelude.{◌≡◌, ℕ, ◌+◌, ◌*◌, ◌⊎◌, false, slice_get, Option, Some, None}
+use Rattle.driver_rows.specs.declared.content.Endpoint.{Endpoint}
+use Rattle.driver_rows.specs.declared.content.Mend.{Mend}
+use Rattle.driver_rows.specs.declared.rows.Row.{Row}
+use Rattle.driver_rows.specs.declared.rows.Row.TheVariants as rows
+use Rattle.driver_rows.specs.DriverContent.{DriverContent}
+use Rattle.driver_rows.specs.Words.{head_block}
+use Rattle.driver_rows.specs.Rows.{Parts}
+
+pub data HasQueueHead (d : DriverContent) (b : ℕ) : Type 0 where
+  of_ring : b ≡ head_block → HasQueueHead d b
+  of_endpoint : (e : ℕ) (x : Endpoint) → slice_get d.endpoints e ≡ Some x → x.gone ≡ false → x.queue ≡ b → HasQueueHead d b
+
+abbrev pub stored_address : Row → Option ℕ
+stored_address (rows.Store b at v) = Some at
+stored_address (rows.Mend w) = Some w.at
+stored_address _ = None
+
+-- the driver owes this store; the word is the overlay's next pointer, its alternate or its token, words 4 to 6
+pub record IsMendOf (p : Parts) (row : Row) (b at : ℕ) : Type 0 where
+  pub mend : Mend
+  pub is : row ≡ rows.Mend mend
+  pub owed : slice_get p.driver.mends 0 ≡ Some mend
+  pub queue : mend.queue ≡ b
+  pub address : mend.at ≡ at
+  pub word : (at ≡ 32 * b + 16) ⊎ ((at ≡ 32 * b + 20) ⊎ (at ≡ 32 * b + 24))
