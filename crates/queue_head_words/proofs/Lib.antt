@@ -2,3 +2,4 @@ pub mod Events
 pub mod Accepted
 pub mod Opened
 pub mod Stored
+pub mod Offering

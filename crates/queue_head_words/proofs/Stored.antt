@@ -37,13 +37,13 @@ use Rattle.queue_head_words.specs.Overlay.{HasQueueHead, of_ring, of_endpoint, s
 
 -- ---- where a queue head lies
 
-record QueueRun (d : DriverContent) (has : HasOwners d) (b : ℕ) : Type 0 where
-  owner : Owner
-  there : IsPlaced (slot_of d.book.slots) has.owner b owner
-  off : is_element owner ≡ false
-  two : HasBlocks 2 (slot_of d.book.slots b)
+pub record QueueRun (d : DriverContent) (has : HasOwners d) (b : ℕ) : Type 0 where
+  pub owner : Owner
+  pub there : IsPlaced (slot_of d.book.slots) has.owner b owner
+  pub off : is_element owner ≡ false
+  pub two : HasBlocks 2 (slot_of d.book.slots b)
 
-run_at : (d : DriverContent) (has : HasOwners d) (b : ℕ) → HasQueueHead d b → QueueRun d has b
+pub run_at : (d : DriverContent) (has : HasOwners d) (b : ℕ) → HasQueueHead d b → QueueRun d has b
 unfolding is_element
 run_at d has b (of_ring is) =
     let p = subst (λ k. IsPlaced (slot_of d.book.slots) has.owner k Head) (sym is) has.owned.each.head in
@@ -52,7 +52,7 @@ run_at d has b (of_endpoint e x here alive is) =
     let p = subst (λ k. IsPlaced (slot_of d.book.slots) has.owner k (QueueHead e)) is (queue_placed d e x has here alive) in
     record { owner = QueueHead e; there = p; off = refl; two = p.run }
 
-in_two : (s : Slot) (b k : ℕ) → IsAt b s → HasBlocks 2 s → b ≤ k → k < b + 2 → SlotHas s k
+pub in_two : (s : Slot) (b k : ℕ) → IsAt b s → HasBlocks 2 s → b ≤ k → k < b + 2 → SlotHas s k
 in_two Empty b k at two low high = two
 in_two (Keeps r) b k at two low high = has_block_from r k (omega (arith, at.0, low)) (omega (arith, at.0, two, high))
 in_two (Lends r) b k at two low high = has_block_from r k (omega (arith, at.0, low)) (omega (arith, at.0, two, high))

@@ -1,11 +1,14 @@
 //! What the driver stores in queue heads: their links, and after a stalled request the three words of the overlay by which the queue goes on
 //! (EHCI 1.0, 3.6.3 and 4.10). All else of the overlay only the controller writes.
-ghost use Rattle.std.specs.Prelude.{◌≡◌, ℕ, ◌+◌, ◌*◌, ◌<◌, ◌≤◌, ◌⊎◌, [], ◌∷◌, map, Some, None};
-ghost use Rattle.word_mem.specs.Memory.{IsShaped, word_at};
+ghost use Rattle.std.specs.Prelude.{◌≡◌, ℕ, ◌+◌, ◌*◌, ◌<◌, ◌≤◌, ◌⊎◌, [], ◌∷◌, map, Some, None, Ok};
+ghost use Rattle.usb_base.specs.declared.commands.Cmd.{Cmd};
+ghost use Rattle.word_mem.specs.Memory.{Mem, IsShaped, word_at};
 ghost use Rattle.run_book.specs.Book.{holding, Stands};
 ghost use Rattle.driver_rows.specs.declared.content.Command.TheVariants as unfinished;
 ghost use Rattle.driver_rows.specs.declared.content.Endpoint.{Endpoint};
 ghost use Rattle.driver_rows.specs.declared.rows.Row.TheVariants as rows;
+ghost use Rattle.driver_rows.specs.DriverContent.{DriverContent};
+ghost use Rattle.driver_rows.specs.Offers.{Offered, offered};
 ghost use Rattle.driver_rows.specs.Rows.{Parts, events_of, mends_of, row_of, after_row};
 ghost use Rattle.run_owners.specs.Kept.{HasOwners};
 ghost use Rattle.ring_members.specs.Links.{link_in};
@@ -22,6 +25,11 @@ pub fn stores_are_links_and_mends()
 /// that a store after a stalled request is owed.
 pub fn events_leave_the_overlay()
     ensures { (p : Parts) (b i : ℕ) → Stands (holding p.driver.book p.memory) → IsShaped p.memory → HasOwners p.driver → IsRing (link_in p.memory) p.driver → HasQueueHead p.driver b → HasQueueHead (after_row (row_of p) p).driver b → 1 ≤ i → i < 12 → (word_at (after_row (row_of p) p).memory (32 * b + 4 * i) ≡ word_at p.memory (32 * b + 4 * i)) ⊎ IsMendOf p (row_of p) b (32 * b + 4 * i) }
+{}
+
+/// A command that is accepted leaves all twelve words of each queue head that there is: it writes those of a new one, which is linked later.
+pub fn commands_leave_queue_heads()
+    ensures { (d : DriverContent) (m : Mem) (cmd : Cmd) (o : Offered) (b i : ℕ) → Stands (holding d.book m) → HasOwners d → HasQueueHead d b → i < 12 → offered d m cmd ≡ Ok o → word_at o.memory (32 * b + 4 * i) ≡ word_at m (32 * b + 4 * i) }
 {}
 
 /// Worked rows, with a queue head in block 130 and a qTD in block 132: an open stores the link of the head, a cancel the link of the queue
