@@ -1,5 +1,5 @@
 //! What the driver stores in queue heads: their links, and after a stalled request the three words of the overlay by which the queue goes on
-//! (EHCI 1.0, 3.6.3 and 4.10). All else of the overlay only the controller writes.
+//! (EHCI 1.0, 3.6.3 and 4.10). Once a command has written the queue head, all else of its overlay is the controller's.
 ghost use Rattle.std.specs.Prelude.{◌≡◌, ℕ, ◌+◌, ◌*◌, ◌<◌, ◌≤◌, ◌⊎◌, [], ◌∷◌, map, Some, None, Ok};
 ghost use Rattle.usb_base.specs.declared.commands.Cmd.{Cmd};
 ghost use Rattle.word_mem.specs.Memory.{Mem, IsShaped, word_at};
@@ -22,7 +22,7 @@ pub fn stores_are_links_and_mends()
 {}
 
 /// Any event, also one that lends or gives back runs, leaves words 1 to 11 of a queue head that stands before and after it, but for the word
-/// that a store after a stalled request is owed.
+/// of the overlay that a store after a stalled request mends.
 pub fn events_leave_the_overlay()
     ensures { (p : Parts) (b i : ℕ) → Stands (holding p.driver.book p.memory) → IsShaped p.memory → HasOwners p.driver → IsRing (link_in p.memory) p.driver → HasQueueHead p.driver b → HasQueueHead (after_row (row_of p) p).driver b → 1 ≤ i → i < 12 → (word_at (after_row (row_of p) p).memory (32 * b + 4 * i) ≡ word_at p.memory (32 * b + 4 * i)) ⊎ IsMendOf p (row_of p) b (32 * b + 4 * i) }
 {}
