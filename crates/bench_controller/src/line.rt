@@ -10,7 +10,7 @@ pub(crate) enum Kind {
     Out,
     /// The SETUPs of control endpoints.
     Control,
-    /// INs of interrupt endpoints, in the chain of each frame and in each microframe; the ring is its head alone.
+    /// INs of interrupt endpoints, in the chain of each frame and in each microframe; the ring is off.
     Interrupt,
 }
 

@@ -201,11 +201,16 @@ impl Ring {
         })
     }
 
-    /// Registers of a controller that runs with both of its parts on, over this ring.
+    /// Registers of a controller that runs with both of its parts on, over this ring; with the periodic part alone where all queue heads
+    /// are in the chains of the frames.
     pub(crate) fn running(&self) -> Registers {
         let mut regs = Registers::reset();
         regs.driver_write(0x18, STRUCTURES);
-        regs.driver_write(0x00, 0x0008_0031);
+        let parts = match self.load.kind {
+            Kind::In | Kind::Out | Kind::Control => 0x30,
+            Kind::Interrupt => 0x10,
+        };
+        regs.driver_write(0x00, 0x0008_0001 | parts);
         regs
     }
 
