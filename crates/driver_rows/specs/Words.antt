@@ -2,11 +2,12 @@
 --     head_block, head_at          where the head of the ring stands, right after the frame list
 --     opening_head                 the head: halted for ever, its link at itself
 --     queue_head x link dummy      a new queue head for the endpoint x, with this link, before its first transfer
+--     interrupt_head x p next dummy      the same of an interrupt endpoint that is placed so, before this member of its chains
 --     dummy_qtd                    the qTD at the end of a queue
 --     stages_of ..                 the qTDs of a transfer
 --     new_qtd s next dummy buffer last      the qTD of a stage
 --     needs ss                     the lengths of the runs that a transfer takes, in blocks
-use Rattle.std.specs.Prelude.{ℕ, zero, suc, ◌+◌, ◌-◌, ◌*◌, ◌/◌, ◌%◌, min, max, Bool, true, false, not, ◌&&◌, nat_eq, nat_le, List, [], ◌∷◌, ◌++◌, length, map, flat_map, replicate, slice_index, unwrap_or, if◌then◌else◌}
+use Rattle.std.specs.Prelude.{ℕ, zero, suc, ◌+◌, ◌-◌, ◌*◌, ◌/◌, ◌%◌, min, max, Bool, true, false, not, ◌&&◌, nat_eq, nat_le, List, [], ◌∷◌, ◌++◌, length, map, flat_map, replicate, slice_index, Option, Some, None, unwrap_or, if◌then◌else◌}
 use Rattle.std.specs.List.{range_with_len}
 use Rattle.usb_base.specs.declared.endpoints.EpDesc.{EpDesc}
 use Rattle.usb_base.specs.declared.packets.Speed.{Speed}
@@ -18,6 +19,10 @@ use Rattle.link_words.specs.declared.fields.ShortLink.{ShortLink}
 use Rattle.qh_qtd.specs.declared.token.Token.{Token}
 use Rattle.qh_qtd.specs.declared.qtd.Qtd.{Qtd}
 use Rattle.qh_qtd.specs.declared.queue_head.Qh.{Qh}
+use Rattle.bandwidth.specs.declared.placements.Placement.{Placement}
+use Rattle.frame_chains.specs.declared.members.Member.{Member}
+use Rattle.frame_chains.specs.Chains.{id_of}
+use Rattle.periodic_rows.specs.Periodic.{block_of}
 use Rattle.driver_rows.specs.declared.content.Alternate.{Alternate}
 use Rattle.driver_rows.specs.declared.content.Alternate.TheVariants as alternates
 use Rattle.driver_rows.specs.declared.content.Stage.{Stage}
@@ -112,6 +117,22 @@ queue_head x link dummy = record {
   page2 = 0;
   page3 = 0;
   page4 = 0;
+}
+
+-- behind a queue head only queue heads stand (4.6)
+abbrev pub to_next : Option Member → LinkBits
+to_next None = record { t = true; typ = 0; address = 0 }
+to_next (Some m) = to_queue_head (block_of (id_of m))
+
+-- The queue head of an interrupt endpoint has the masks of its placement and so many transactions a microframe; NAKs aren't counted
+-- (3.6.2, 4.10.3).
+abbrev pub interrupt_head : EpDesc → Placement → Option Member → ℕ → Qh
+interrupt_head x p next dummy = record (queue_head x 0 dummy) {
+  link = to_next next;
+  rl = 0;
+  smask = p.smask;
+  cmask = p.cmask;
+  mult = x.multi;
 }
 
 -- the head of the reclamation list (4.8): its queue is halted for ever

@@ -1,0 +1,3 @@
+pub mod Periodic
+pub mod Frames
+pub mod Descriptors
