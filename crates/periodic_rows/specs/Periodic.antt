@@ -12,7 +12,7 @@
 --     with_descriptor s d    .. with one more descriptor, the newest
 --     note_at notes b        what is known of the descriptor in block b
 --     read_again n rs        the removals after one reading of FRINDEX more
-use Rattle.std.specs.Prelude.{ℕ, ◌+◌, ◌*◌, ◌/◌, ◌==◌, not, Bool, true, false, List, [], ◌∷◌, ◌++◌, map, replicate, filter, slice_index_or, Option, Some, None}
+use Rattle.std.specs.Prelude.{ℕ, ◌+◌, ◌*◌, ◌/◌, ◌%◌, nat_eq, not, Bool, true, false, List, [], ◌∷◌, ◌++◌, map, replicate, filter, slice_index_or, Option, Some, None}
 use Rattle.usb_base.specs.declared.endpoints.EpDesc.{EpDesc}
 use Rattle.usb_base.specs.declared.packets.EpKind.{EpKind}
 use Rattle.usb_base.specs.declared.packets.EpKind.TheVariants as kinds
@@ -94,8 +94,9 @@ itd_name b = 32 * b
 abbrev pub queue_name : ℕ → ℕ
 queue_name b = 32 * b + 2
 
+-- memory has less than 65,536 blocks
 abbrev pub block_of : ℕ → ℕ
-block_of name = name / 32
+block_of name = name / 32 % 65536
 
 -- bit 0 ends a list (3.1)
 abbrev pub link_to : Option Member → ℕ
@@ -125,7 +126,7 @@ abbrev pub unlink_store : Schedule → Descriptor → LinkStore
 unlink_store s d = store_of (link_to (successor s (Once d) d.frame)) (predecessor s (Once d) d.frame)
 
 abbrev pub without_queue : Schedule → ℕ → Schedule
-without_queue s name = record s { queues = filter (λ q. not (q.id == name)) s.queues }
+without_queue s name = record s { queues = filter (λ q. not (nat_eq q.id name)) s.queues }
 
 abbrev pub with_queue : Schedule → QueueHead → Schedule
 with_queue s q = record s { queues = s.queues ++ q ∷ [] }
@@ -134,7 +135,7 @@ abbrev pub with_descriptor : Schedule → Descriptor → Schedule
 with_descriptor s d = record s { descriptors = d ∷ s.descriptors }
 
 abbrev pub without_descriptor : Schedule → ℕ → Schedule
-without_descriptor s name = record s { descriptors = filter (λ d. not (d.id == name)) s.descriptors }
+without_descriptor s name = record s { descriptors = filter (λ d. not (nat_eq d.id name)) s.descriptors }
 
 -- the word of the frame list's element f
 abbrev pub element_word : Schedule → ℕ → ℕ
