@@ -38,6 +38,7 @@ use Rattle.driver_rows.specs.declared.content.Transfer.{Transfer}
 use Rattle.driver_rows.specs.declared.content.QtdNote.{QtdNote}
 use Rattle.driver_rows.specs.declared.content.Sort.{Sort}
 use Rattle.driver_rows.specs.declared.content.Sort.TheVariants as sorts
+use Rattle.driver_rows.specs.declared.content.Slots.{Slots}
 use Rattle.driver_rows.specs.declared.content.Stage.{Stage}
 use Rattle.driver_rows.specs.declared.content.Command.TheVariants as unfinished
 use Rattle.driver_rows.specs.DriverContent.{DriverContent, busy, is_same_way, endpoint_of, endpoint_named, waits_for}
@@ -119,7 +120,7 @@ queue_member queue p = record { id = queue_name queue; period = p.period; phase 
 
 abbrev pub written_chain : Book → Mem → EpDesc → Placement → Option Member → ℕ → ℕ → Mem
 written_chain k m x p next queue dummy =
-    store_words k (store_words k m queue (32 * queue) (qh_words (interrupt_head x p next dummy))) dummy (32 * dummy) (qtd_words dummy_qtd)
+    store_words k (store_words k m queue (32 * queue) (qh_words (interrupt_head x p.smask p.cmask next dummy))) dummy (32 * dummy) (qtd_words dummy_qtd)
 
 -- an interrupt endpoint has a queue, which is linked in the chains of its frames
 abbrev pub accepted_chain : DriverContent → EpDesc → Placement → Holding → ℕ → ℕ → Offered
@@ -130,10 +131,10 @@ accepted_chain d x p h queue dummy =
       driver = record d {
         book = h.book;
         endpoints = d.endpoints ++ placed_endpoint x p queue dummy ∷ [];
-        command = Some (unfinished.Chain q);
+        command = Some unfinished.Chain;
         made = 0;
         room = record d.room { endpoints = d.room.endpoints - 1 };
-        periodic = record d.periodic { plan = with_placement d x p; stores = link_stores chains (Each q) };
+        periodic = record d.periodic { plan = with_placement d x p; chains = chains; stores = link_stores chains (Each q) };
       };
       memory = written_chain h.book h.memory x p (successor chains (Each q) q.phase) queue dummy;
     }
@@ -304,11 +305,6 @@ abbrev pub takes_control : Endpoint → Bool
 takes_control x = is_control x.desc.kind
 
 -- ---- iso: descriptors of an isochronous endpoint (EHCI 1.0, 4.7)
-
--- what is the same of each descriptor of a command: the microframes and the bytes of its slots
-pub record Slots : Type 0 where
-  pub smask : ℕ
-  pub slot : ℕ
 
 abbrev pub total_of : Slots → ℕ
 total_of s = slots_in s.smask * s.slot

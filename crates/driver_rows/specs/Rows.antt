@@ -29,7 +29,7 @@ use Rattle.periodic_rows.specs.declared.content.LinkStore.{LinkStore}
 use Rattle.periodic_rows.specs.declared.content.Removal.{Removal}
 use Rattle.periodic_rows.specs.declared.content.Removed.{Removed}
 use Rattle.periodic_rows.specs.declared.content.Removed.TheVariants as removed
-use Rattle.periodic_rows.specs.Periodic.{Periodic, itd_name, queue_name, store_of, unlink_store, member_of, element_word, with_queue, without_queue, with_descriptor, without_descriptor, read_again, note_at as periodic_note}
+use Rattle.periodic_rows.specs.Periodic.{Periodic, itd_name, queue_name, store_of, unlink_store, member_of, element_word, without_queue, with_descriptor, without_descriptor, read_again, note_at as periodic_note}
 use Rattle.periodic_rows.specs.Frames.{first_frame, frames_from}
 use Rattle.periodic_rows.specs.Descriptors.{is_served, errors_in, told_bytes}
 use Rattle.driver_rows.specs.declared.content.Endpoint.{Endpoint}
@@ -75,7 +75,7 @@ abbrev pub events_of : List LinkStore → ℕ → Command → List Row
 events_of stores n (unfinished.Open queue) = rows.Lend ∷ rows.Store head_block (32 * head_block) (queue_head_link queue) ∷ []
 events_of stores n (unfinished.Publish b words) = rows.Lend ∷ map (λ i. rows.Store b (32 * b + 4 * i) (slice_index words i)) store_order
 events_of stores n (unfinished.Unlink e b link) = rows.Store b (32 * b) link ∷ []
-events_of stores n (unfinished.Chain q) = rows.Lend ∷ map store_row stores
+events_of stores n unfinished.Chain = rows.Lend ∷ map store_row stores
 events_of stores n (unfinished.Iso e t count) = rows.Frames n ∷ rows.LendDescriptors ∷ map store_row stores
 events_of stores n (unfinished.Unchain e) = map store_row stores
 
@@ -230,8 +230,7 @@ abbrev pub finished : DriverContent → Command → DriverContent
 finished d (unfinished.Open queue) = no_command d
 finished d (unfinished.Publish b words) = no_command d
 finished d (unfinished.Unlink e b link) = leave_ring (no_command d) e (slice_get d.endpoints e)
-finished d (unfinished.Chain q) =
-    record (no_command d) { periodic = record d.periodic { chains = with_queue d.periodic.chains q; stores = [] } }
+finished d unfinished.Chain = record (no_command d) { periodic = record d.periodic { stores = [] } }
 finished d (unfinished.Iso e t count) =
     record (no_command d) { periodic = record d.periodic { chains = with_descriptors d.periodic.notes (take count (drop t d.transfers)) d.periodic.chains; stores = [] } }
 finished d (unfinished.Unchain e) = leave_frames (no_command d) e (slice_get d.endpoints e)

@@ -2,7 +2,7 @@
 --     head_block, head_at          where the head of the ring stands, right after the frame list
 --     opening_head                 the head: halted for ever, its link at itself
 --     queue_head x link dummy      a new queue head for the endpoint x, with this link, before its first transfer
---     interrupt_head x p next dummy      the same of an interrupt endpoint that is placed so, before this member of its chains
+--     interrupt_head x smask cmask next dummy      the same of an interrupt endpoint with these masks, before this member of its chains
 --     dummy_qtd                    the qTD at the end of a queue
 --     stages_of ..                 the qTDs of a transfer
 --     new_qtd s next dummy buffer last      the qTD of a stage
@@ -19,7 +19,6 @@ use Rattle.link_words.specs.declared.fields.ShortLink.{ShortLink}
 use Rattle.qh_qtd.specs.declared.token.Token.{Token}
 use Rattle.qh_qtd.specs.declared.qtd.Qtd.{Qtd}
 use Rattle.qh_qtd.specs.declared.queue_head.Qh.{Qh}
-use Rattle.bandwidth.specs.declared.placements.Placement.{Placement}
 use Rattle.frame_chains.specs.declared.members.Member.{Member}
 use Rattle.frame_chains.specs.Chains.{id_of}
 use Rattle.periodic_rows.specs.Periodic.{block_of}
@@ -126,12 +125,12 @@ to_next (Some m) = to_queue_head (block_of (id_of m))
 
 -- The queue head of an interrupt endpoint has the masks of its placement and so many transactions a microframe; NAKs aren't counted
 -- (3.6.2, 4.10.3).
-abbrev pub interrupt_head : EpDesc → Placement → Option Member → ℕ → Qh
-interrupt_head x p next dummy = record (queue_head x 0 dummy) {
+abbrev pub interrupt_head : EpDesc → ℕ → ℕ → Option Member → ℕ → Qh
+interrupt_head x smask cmask next dummy = record (queue_head x 0 dummy) {
   link = to_next next;
   rl = 0;
-  smask = p.smask;
-  cmask = p.cmask;
+  smask = smask;
+  cmask = cmask;
   mult = x.multi;
 }
 

@@ -1,5 +1,4 @@
 use bandwidth::Placement;
-use frame_chains::QueueHead;
 use usb_base::{EndCause, EpDesc};
 
 /// How much room is made for what a driver is given, or how much of it isn't used.
@@ -110,8 +109,8 @@ pub enum Command {
     Publish(u16, [u32; 8]),
     /// The endpoint of this number leaves the ring: the queue head in this block gets this link.
     Unlink(usize, u16, u32),
-    /// What was taken is lent, and this queue head is linked in the chains of its frames.
-    Chain(QueueHead),
+    /// What was taken is lent, and the queue head of a new interrupt endpoint is linked in the chains of its frames.
+    Chain,
     /// So many descriptors of the endpoint of this number, from this transfer on, get their frames, are lent and are linked there.
     Iso(usize, usize, u8),
     /// The periodic endpoint of this number leaves the chains of its frames.
@@ -158,4 +157,13 @@ pub struct Stage {
     /// Its first data PID is DATA1.
     pub toggle: bool,
     pub alternate: Alternate,
+}
+
+/// What is the same of each descriptor of a command.
+#[derive(Clone, Copy, Debug, PartialEq, Eq)]
+pub struct Slots {
+    /// The microframes of its slots, microframe 0 in bit 0.
+    pub smask: u8,
+    /// The bytes of each slot.
+    pub slot: u16,
 }

@@ -1,11 +1,12 @@
-ghost use Rattle.std.specs.Prelude.{◌≡◌, ◌≤◌, ◌<◌, if◌then◌else◌, unwrap_or};
+ghost use Rattle.std.specs.Prelude.{◌≡◌, ◌≤◌, ◌<◌, ◌%◌, if◌then◌else◌, unwrap_or};
 ghost use Rattle.qh_qtd.specs.Qtd.{IsQtdInRange};
 ghost use Rattle.qh_qtd.specs.QueueHead.{IsQhInRange};
-ghost use Rattle.driver_rows.specs.Words.{to_queue_head, to_qtd, nowhere, idle_token, is_high, speed_field, is_control, queue_head, opening_head, dummy_qtd, new_token, alternate_link, new_qtd};
+ghost use Rattle.driver_rows.specs.Words.{to_queue_head, to_qtd, nowhere, idle_token, is_high, speed_field, is_control, queue_head, to_next, interrupt_head, opening_head, dummy_qtd, new_token, alternate_link, new_qtd};
 ghost use Rattle.link_words.specs.Layout.{IsWordInRange};
 ghost use Rattle.qh_qtd.specs.Token.{token_rows};
 
 use driver_rows::{Alternate, Stage};
+use frame_chains::Member;
 use link_words::{LinkBits, ShortLink};
 use qh_qtd::{Qh, Qtd, Token};
 use usb_base::{EpDesc, EpKind, Speed};
@@ -137,6 +138,72 @@ pub fn new_queue_head(desc: &EpDesc, link: u16, dummy: u16) -> Qh
         hub: hub_bits(desc, high),
         port: if high { 0 } else { desc.port },
         mult: 1,
+        current: 0,
+        next: link_to_qtd(dummy),
+        alternate: no_link(),
+        nak_cnt: 0,
+        token: token_of_nothing(false),
+        offset: 0,
+        page0: 0,
+        c_prog: 0,
+        page1: 0,
+        frame_tag: 0,
+        s_bytes: 0,
+        page2: 0,
+        page3: 0,
+        page4: 0,
+    }
+}
+
+/// A link to the next queue head of a chain, or its end (EHCI 1.0, 3.1).
+fn link_to_next(next: Option<Member>) -> LinkBits
+    ensures link { result ≡ to_next next }
+    ensures aligned { result.address % 32 ≡ 0 }
+    ensures typ { result.typ < 4 }
+{
+    match next {
+        Some(Member::Once(descriptor)) => link_to_queue_head((descriptor.id / 32 % 65_536) as u16),
+        Some(Member::Each(queue)) => link_to_queue_head((queue.id / 32 % 65_536) as u16),
+        None => LinkBits {
+            t: true,
+            typ: 0,
+            address: 0,
+        },
+    }
+}
+
+/// The queue head of a new interrupt endpoint with these masks and its link at this member of its chains (EHCI 1.0, 3.6 and 4.6).
+pub fn new_interrupt_head(
+    desc: &EpDesc,
+    smask: u8,
+    cmask: u8,
+    next: Option<Member>,
+    dummy: u16,
+) -> Qh
+    requires max { desc.now.max ≤ 1024 }
+    requires port { desc.now.port ≤ 127 }
+    requires multi { desc.now.multi ≤ 3 }
+    ensures head { result ≡ interrupt_head desc.now smask cmask next dummy }
+    ensures range { IsQhInRange result }
+{
+    let high = runs_at_high(desc.speed);
+    let control = is_for_control(desc.kind);
+    Qh {
+        link: link_to_next(next),
+        addr: desc.name.addr.get(),
+        inactivate: false,
+        ep: desc.name.num.get(),
+        eps: speed_bits(desc.speed),
+        dtc: control,
+        head: false,
+        max: desc.max,
+        control: control && !high,
+        rl: 0,
+        smask,
+        cmask,
+        hub: hub_bits(desc, high),
+        port: if high { 0 } else { desc.port },
+        mult: desc.multi,
         current: 0,
         next: link_to_qtd(dummy),
         alternate: no_link(),

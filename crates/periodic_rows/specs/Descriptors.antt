@@ -8,7 +8,7 @@
 --     errors_in m b             how many of them have an error bit
 --     told_bytes note m b       the bytes that were moved in its slots, joined
 --     write_seeded ..           n words of the bytes that count up from a first one
-use Rattle.std.specs.Prelude.{ℕ, zero, suc, ◌+◌, ◌*◌, ◌/◌, ◌%◌, Bool, true, false, not, ◌||◌, nat_le, nat_lt, if◌then◌else◌, List, [], ◌∷◌, map, count_by, flat_map, slice_index}
+use Rattle.std.specs.Prelude.{ℕ, zero, suc, ◌+◌, ◌*◌, ◌/◌, ◌%◌, Bool, true, false, not, ◌||◌, nat_le, nat_lt, if◌then◌else◌, List, [], ◌∷◌, ◌++◌, map, count_by, slice_index}
 use Rattle.std.specs.List.{range_with_len, list_any}
 use Rattle.usb_base.specs.declared.endpoints.EpDesc.{EpDesc}
 use Rattle.usb_base.specs.declared.packets.Way.{Way}
@@ -100,8 +100,13 @@ slot_told note m b u =
     then bytes_from m note.buffer (slots_before note.smask u * note.slot) (moved_in note.slot (slot_in m b u).length)
     else []
 
-unfoldable pub told_bytes : DescriptorNote → Mem → ℕ → List ℕ
-told_bytes note m b = flat_map (slot_told note m b) (below 8)
+-- those of n slots from microframe u on
+unfoldable pub told_from : DescriptorNote → Mem → ℕ → ℕ → ℕ → List ℕ
+told_from note m b u zero = []
+told_from note m b u (suc n) = slot_told note m b u ++ told_from note m b (u + 1) n
+
+abbrev pub told_bytes : DescriptorNote → Mem → ℕ → List ℕ
+told_bytes note m b = told_from note m b 0 8
 
 -- ---- the bytes that it sends
 
