@@ -7,6 +7,7 @@ use driver_rows::{
     Bell, Command, DriverStep, Endpoint, Mend, QtdNote, Reserve, Row, Transfer, Turn,
 };
 use op_registers::Registers;
+use periodic_part::PeriodicPart;
 use run_book::RunBook;
 use std::alloc::Global;
 use std::collections::VecDeque;
@@ -22,7 +23,7 @@ pub struct Driver {
     pub(crate) transfers: Vec<Transfer>,
     pub(crate) notes: Vec<QtdNote>,
     pub(crate) command: Option<Command>,
-    pub(crate) made: u8,
+    pub(crate) made: u16,
     pub(crate) turn: Turn,
     pub(crate) place: usize,
     pub(crate) mends: VecDeque<Mend>,
@@ -34,6 +35,7 @@ pub struct Driver {
     pub(crate) reports: Vec<Report>,
     pub(crate) store: Vec<u8>,
     pub(crate) room: Reserve,
+    pub(crate) periodic: PeriodicPart,
 }
 
 impl Model for Driver {
@@ -63,6 +65,7 @@ impl Model for Driver {
       reports = d.reports.items;
       store = d.store.items;
       room = d.room;
+      periodic = d.periodic.periodic;
     } };
 
     ghost invariant = { λ d. HasRooms d.endpoints.items d.transfers.items d.room

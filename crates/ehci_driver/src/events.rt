@@ -62,6 +62,11 @@ impl Driver {
             Row::RingBell => self.ring_bell(regs),
             Row::ReadStatus(heard) => self.read_status(heard),
             Row::Harvest(e, t, found) => self.harvest(mem, e, t, found),
+            Row::Frames(frindex) => self.give_frames(frindex),
+            Row::LendDescriptors => self.lend_descriptors(mem),
+            Row::Unlink(t, store) => self.unlink(mem, t, &store),
+            Row::ReleaseRemoved(what) => self.release_removed(mem, what),
+            Row::ReadFrame(frindex) => self.read_frame(frindex),
             Row::Rest => {}
         }
     }
@@ -89,14 +94,14 @@ impl Driver {
     }
 
     /// One more event of the command was made.
-    fn advance(&mut self)
+    pub(crate) fn advance(&mut self)
         ensures driver { self.new ≡ advance self.old }
         ensures book { self.new.book ≡ self.old.book }
     {
         let Some(command) = self.command else {
             return;
         };
-        if self.made < last_event(&command) {
+        if self.made as usize + 1 < self.event_count(&command) {
             self.made += 1;
             return;
         }
@@ -112,6 +117,9 @@ impl Driver {
         self.made = 0;
         match command {
             Command::Open(_) | Command::Publish(_, _) => {}
+            Command::Chain => self.periodic.clear_stores(),
+            Command::Iso(_, t, count) => self.link_descriptors(t, count),
+            Command::Unchain(e) => self.leave_frames(e),
             Command::Unlink(e, _, _) => self.leave_ring(e),
         }
     }
@@ -170,10 +178,25 @@ impl Driver {
         self.turn = Turn::Harvest;
     }
 
+    /// How many events a command has.
+    fn event_count(&self, command: &Command) -> usize
+        ensures { result ≡ length (events_of self.now.periodic.stores 0 command.now) }
+    {
+        match command {
+            Command::Open(_) => 2,
+            Command::Publish(_, _) => 9,
+            Command::Unlink(_, _, _) => 1,
+            Command::Chain => self.periodic.store_count() + 1,
+            Command::Iso(_, _, _) => self.periodic.store_count() + 2,
+            Command::Unchain(_) => self.periodic.store_count(),
+        }
+    }
+
     /// USBSTS was read.
     fn read_status(&mut self, heard: bool)
-        ensures { self.new ≡ record self.old { bell = bell_after heard; turn = Turn.Harvest } }
+        ensures { self.new ≡ record self.old { bell = bell_after heard; turn = Turn.Harvest; periodic = record self.old.periodic { status_next = false } } }
     {
+        self.periodic.set_reads_status(false);
         self.bell = if heard { Bell::Heard } else { Bell::Rung };
         self.turn = Turn::Harvest;
     }
@@ -191,17 +214,5 @@ fn move_all(from: &mut VecDeque<usize>, to: &mut VecDeque<usize>)
 {
     while let Some(e) = from.pop_front() {
         to.push_back_reserved(e);
-    }
-}
-
-/// The number of the command's last event, from 0.
-fn last_event(command: &Command) -> u8
-    ensures last { length (events_of command.now) ≡ result + 1 }
-    ensures few { result ≤ 8 }
-{
-    match command {
-        Command::Open(_) => 1,
-        Command::Publish(_, _) => 8,
-        Command::Unlink(_, _, _) => 0,
     }
 }

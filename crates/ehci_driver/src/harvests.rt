@@ -146,6 +146,7 @@ impl Driver {
     {
         match found {
             Found::Active => {}
+            Found::Served(errors) => self.tell_descriptor(mem, e, t, endpoint, transfer, errors),
             Found::Moved(n) => self.move_on(t, transfer, n),
             Found::Ended(n, what) => self.end_with(mem, e, t, endpoint, transfer, n, what),
         }
@@ -434,7 +435,7 @@ fn report(
 }
 
 /// The endpoint's first transfer after number `t` that isn't harvested.
-fn next_waiting(transfers: &[Transfer], e: usize, t: usize) -> Option<usize>
+pub(crate) fn next_waiting(transfers: &[Transfer], e: usize, t: usize) -> Option<usize>
     requires { t < length transfers.now }
     ensures { result ≡ next_after transfers.now e t }
 {

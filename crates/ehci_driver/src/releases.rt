@@ -14,7 +14,7 @@ use word_mem::WordMem;
 
 /// Gives back the runs that begin in these blocks.
 #[tactic(auto, using(std::proofs::lemmas::Grind::common_steps, crate::proofs::Freed::runs_more, crate::proofs::Freed::runs_all))]
-fn free_runs_at(book: &mut RunBook, mem: &mut WordMem, blocks: &[u16])
+pub(crate) fn free_runs_at(book: &mut RunBook, mem: &mut WordMem, blocks: &[u16])
     requires { Stands (holding book.old mem.old) }
     ensures freed { holding book.new mem.new ≡ free_runs (holding book.old mem.old) blocks.now }
     ensures stands { Stands (holding book.new mem.new) }

@@ -1,13 +1,15 @@
-ghost use Rattle.std.specs.Prelude.{◌≡◌, ◌≤◌, ◌+◌, ◌*◌, ℕ, length, slice_get, slice_index_or, ◌<◌, slice_index, Some, None, position, IfSome};
-ghost use Rattle.driver_rows.specs.Rows.{Parts, row_of, command_row, leaving_row, bell_row, harvest_row, worker_row, transfer_row, reading_row, next_worker, worker_from, tells_advance, first_row, turn_row};
+ghost use Rattle.std.specs.Prelude.{◌≡◌, ◌≤◌, ◌+◌, ◌*◌, ℕ, List, length, slice_get, slice_index_or, ◌<◌, slice_index, Some, None, position, IfSome, unwrap_or, option_map};
+ghost use Rattle.driver_rows.specs.Rows.{Parts, row_of, command_row, events_of, store_row, leaving_row, bell_row, reading_for, removes, unlink_row, unlink_row_of, removal_row, harvest_row, worker_row, transfer_row, reading_row, found_of, next_worker, worker_from, tells_advance, first_row, turn_row};
+ghost use Rattle.periodic_rows.specs.declared.content.LinkStore.{LinkStore};
 ghost use Rattle.driver_rows.specs.Harvests.{note_at, token_in, found_in, moved_of, done_of, ends_by, halt_of, is_get};
 ghost use Rattle.driver_rows.specs.DriverContent.{works, waits_for};
-ghost use Rattle.word_mem.specs.Memory.{word_at};
+ghost use Rattle.word_mem.specs.Memory.{Mem, word_at};
 
 use crate::driver::Driver;
 use driver_rows::{Bell, Command, Endpoint, Found, QtdNote, Row, Sort, Transfer, Turn};
 use driver_words::HEAD_BLOCK;
 use op_registers::Registers;
+use iso_queues::descriptor_found;
 use qh_qtd::Token;
 use usb_base::{EndCause, What};
 use word_mem::WordMem;
@@ -24,7 +26,7 @@ impl Driver {
         ensures { result ≡ row_of (record { driver = self.now; registers = regs.now; memory = mem.now }) }
     {
         match &self.command {
-            Some(command) => row_of_command(command, self.made),
+            Some(command) => self.row_of_command(regs, command),
             None => match self.turn {
                 Turn::Leaving => self.leaving_first(regs, mem),
                 Turn::Harvest => self.harvest_first(regs, mem),
@@ -66,10 +68,76 @@ impl Driver {
         if let Some(t) = self.harvested.front() {
             return Some(Row::ReleaseTransfer(*t));
         }
+        self.leaving_frames(regs)
+    }
+
+    /// The first of what leaves the frame list, of the batch that was cleared, or of what the registers are waited for.
+    fn leaving_frames(&self, regs: &Registers) -> Option<Row>
+        ensures { result ≡ first_row (unlink_row self.now (slice_get self.now.periodic.unlinks 0)) (first_row (option_map Row.ReleaseEndpoint (slice_get self.now.cleared 0)) (first_row (removal_row (slice_get self.now.periodic.removals 0)) (bell_row self.now regs.now self.now.bell))) }
+    {
+        if let Some(row) = self.unlink_row() {
+            return Some(row);
+        }
         if let Some(e) = self.cleared.front() {
             return Some(Row::ReleaseEndpoint(*e));
         }
+        if let Some(row) = self.removal_row() {
+            return Some(row);
+        }
         self.bell_row(regs)
+    }
+
+    /// The store that unlinks the first harvested descriptor that is still linked.
+    fn unlink_row(&self) -> Option<Row>
+        ensures { result ≡ unlink_row self.now (slice_get self.now.periodic.unlinks 0) }
+    {
+        match self.periodic.first_unlink() {
+            Some(t) => self.unlink_row_of(t),
+            None => None,
+        }
+    }
+
+    fn unlink_row_of(&self, t: usize) -> Option<Row>
+        ensures { result ≡ unlink_row_of self.now t (slice_get self.now.transfers t) }
+    {
+        match self.transfers.get(t) {
+            Some(transfer) => Some(Row::Unlink(t, self.periodic.unlink_store(transfer.first))),
+            None => None,
+        }
+    }
+
+    /// The release of what left the frame list first, once its boundary was seen.
+    fn removal_row(&self) -> Option<Row>
+        ensures { result ≡ removal_row (slice_get self.now.periodic.removals 0) }
+    {
+        match self.periodic.first_removal() {
+            Some(removal) => {
+                if removal.boundary.is_seen() {
+                    Some(Row::ReleaseRemoved(removal.what))
+                } else {
+                    None
+                }
+            }
+            None => None,
+        }
+    }
+
+    /// The reading of a register for which leaving work waits.
+    fn reading_for(&self, regs: &Registers, rung: bool) -> Option<Row>
+        ensures { result ≡ reading_for self.now regs.now rung (removes self.now) }
+    {
+        match (rung, self.periodic.removes()) {
+            (false, false) => None,
+            (true, false) => Some(Row::ReadStatus(reads_advance(regs))),
+            (false, true) => Some(Row::ReadFrame(regs.frame_index())),
+            (true, true) => {
+                if self.periodic.reads_status() {
+                    Some(Row::ReadStatus(reads_advance(regs)))
+                } else {
+                    Some(Row::ReadFrame(regs.frame_index()))
+                }
+            }
+        }
     }
 
     /// What the doorbell wants.
@@ -78,10 +146,10 @@ impl Driver {
     {
         match self.bell {
             Bell::Heard => Some(Row::ClearAdvance),
-            Bell::Rung => Some(Row::ReadStatus(reads_advance(regs))),
+            Bell::Rung => self.reading_for(regs, true),
             Bell::Quiet => {
                 if self.waiting.is_empty() {
-                    None
+                    self.reading_for(regs, false)
                 } else {
                     Some(Row::RingBell)
                 }
@@ -118,17 +186,63 @@ impl Driver {
             None => None,
             Some(transfer) => {
                 if transfer.endpoint == e && !transfer.reported {
-                    let note = self.note(transfer.place);
-                    let token = token_at(mem, transfer.place);
-                    Some(Row::Harvest(
-                        e,
-                        t,
-                        found(transfer.sort, transfer.left <= 1, &note, &token),
-                    ))
+                    Some(Row::Harvest(e, t, self.found_of(mem, transfer)))
                 } else {
                     None
                 }
             }
+        }
+    }
+
+    /// What is found of a transfer.
+    fn found_of(&self, mem: &WordMem, transfer: &Transfer) -> Found
+        ensures { result ≡ found_of self.now mem.now transfer.now transfer.now.sort }
+    {
+        match transfer.sort {
+            Sort::Descriptor => descriptor_found(mem, transfer.first),
+            Sort::Get | Sort::Put | Sort::Request => {
+                let note = self.note(transfer.place);
+                let token = token_at(mem, transfer.place);
+                found(transfer.sort, transfer.left <= 1, &note, &token)
+            }
+        }
+    }
+
+    /// The next event of a command.
+    fn row_of_command(&self, regs: &Registers, command: &Command) -> Row
+        ensures { (m : Mem) → result ≡ command_row (record { driver = self.now; registers = regs.now; memory = m }) command.now }
+    {
+        match command {
+            Command::Open(queue) => match self.made {
+                0 => Row::Lend,
+                1 => Row::Store(HEAD_BLOCK, 32 * HEAD_BLOCK as u32, 32 * *queue as u32 + 2),
+                _ => Row::Rest,
+            },
+            Command::Publish(block, words) => publish_row(*block, words, self.made),
+            Command::Unlink(_, block, link) => match self.made {
+                0 => Row::Store(*block, 32 * *block as u32, *link),
+                _ => Row::Rest,
+            },
+            Command::Chain => match self.made {
+                0 => Row::Lend,
+                made => self.link_row(made - 1),
+            },
+            Command::Iso(_, _, _) => match self.made {
+                0 => Row::Frames(regs.frame_index()),
+                1 => Row::LendDescriptors,
+                made => self.link_row(made - 2),
+            },
+            Command::Unchain(_) => self.link_row(self.made),
+        }
+    }
+
+    /// The store of this number of those that the command makes.
+    fn link_row(&self, i: u16) -> Row
+        ensures { result ≡ unwrap_or (option_map store_row (slice_get self.now.periodic.stores i)) Row.Rest }
+    {
+        match self.periodic.store(i as usize) {
+            Some(store) => Row::Store(store.block, store.at, store.value),
+            None => Row::Rest,
         }
     }
 
@@ -201,27 +315,9 @@ pub(crate) fn waits_at(transfer: &Transfer, e: usize) -> bool
     transfer.endpoint == e && !transfer.reported
 }
 
-/// The next event of a command.
-fn row_of_command(command: &Command, made: u8) -> Row
-    ensures { result ≡ command_row command.now made }
-{
-    match command {
-        Command::Open(queue) => match made {
-            0 => Row::Lend,
-            1 => Row::Store(HEAD_BLOCK, 32 * HEAD_BLOCK as u32, 32 * *queue as u32 + 2),
-            _ => Row::Rest,
-        },
-        Command::Publish(block, words) => publish_row(*block, words, made),
-        Command::Unlink(_, block, link) => match made {
-            0 => Row::Store(*block, 32 * *block as u32, *link),
-            _ => Row::Rest,
-        },
-    }
-}
-
 /// The next event of a command that publishes a transfer.
-fn publish_row(block: u16, words: &[u32; 8], made: u8) -> Row
-    ensures { result ≡ command_row (Command.Publish block words.now) made }
+fn publish_row(block: u16, words: &[u32; 8], made: u16) -> Row
+    ensures { (stores : List LinkStore) (n : ℕ) → result ≡ unwrap_or (slice_get (events_of stores n (Command.Publish block words.now)) made) Row.Rest }
 {
     match made {
         0 => Row::Lend,
@@ -303,7 +399,7 @@ fn asks_bytes(sort: Sort) -> bool
 {
     match sort {
         Sort::Get => true,
-        Sort::Put | Sort::Request => false,
+        Sort::Put | Sort::Request | Sort::Descriptor => false,
     }
 }
 

@@ -1,5 +1,6 @@
-ghost use Rattle.std.specs.Prelude.{◌≡◌, ◌≤◌, ◌<◌, ◌+◌, ◌×◌, length, false, slice_get, IfOk, IfSome, IfNone, Some, Ok, Err};
+ghost use Rattle.std.specs.Prelude.{◌≡◌, ◌≤◌, ◌<◌, ◌+◌, [], length, false, slice_get, IfOk, IfSome, IfNone, Some, Ok, Err};
 ghost use Rattle.bandwidth.specs.Placements.{IsWant};
+ghost use Rattle.bandwidth.specs.declared.placements.Refused.{Refused as Why};
 ghost use Rattle.bandwidth.specs.Admission.{answer, is_placed, without};
 ghost use Rattle.periodic_rows.specs.Periodic.{new_periodic, want_of, dir_of, note_at, is_periodic};
 ghost use Rattle.periodic_part.specs.Part.{with_place, with_periodic, with_stores};
@@ -135,7 +136,7 @@ impl PeriodicPart {
         requires room { length self.old.periodic.plan.placed < self.old.periodic.plan.room }
         requires want { IsWant (want_of e desc.now) }
         ensures placed { IfSome result (λ p. (answer self.old.periodic.plan (want_of e desc.now) ≡ Ok p) × (self.new ≡ with_place self.old e desc.now p)) }
-        ensures refused { IfNone result ((why : Refused) × (answer self.old.periodic.plan (want_of e desc.now) ≡ Err why)) }
+        ensures refused { IfNone result ((why : Why) × (answer self.old.periodic.plan (want_of e desc.now) ≡ Err why)) }
         ensures same { IfNone result (self.new ≡ self.old) }
     {
         self.plan.admit(&want(e, desc)).ok()

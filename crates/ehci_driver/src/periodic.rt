@@ -1,0 +1,383 @@
+ghost use Rattle.std.specs.Prelude.{◌≡◌, ◌≤◌, ◌<◌, ◌+◌, ◌-◌, ◌*◌, ◌^◌, ℕ, List, suc, length, take, drop, filter, count_by, slice_get, slice_index, slice_set, map, fold, Some, None, Ok, Err, IfOk, IfErr, [], ◌∷◌, ◌++◌, unwrap_or, option_map, option_and_then, true, false};
+ghost use Rattle.run_book.specs.Book.{holding, Stands, store, lend_taken};
+ghost use Rattle.bandwidth.specs.Placements.{IsWant};
+ghost use Rattle.frame_chains.specs.declared.members.Predecessor.TheVariants.{Element};
+ghost use Rattle.periodic_rows.specs.Periodic.{want_of, is_periodic, with_descriptor, without_descriptor, member_of, itd_name, store_of, element_word, unlink_store, note_at as periodic_note};
+ghost use Rattle.periodic_rows.specs.Frames.{first_frame, frames_from};
+ghost use Rattle.driver_rows.specs.DriverContent.{waits_for, endpoint_of, endpoint_named};
+ghost use Rattle.driver_rows.specs.Offers.{Offered, IsOpened, planned_open, placed_open, taken_chain, accepted_chain, accepted_iso, new_open, take_runs, written_chain, offered_iso, open_iso, taken_iso, entered_iso, all_descriptors, one_descriptor, slots_of as slots_in_spec, total_of, iso_bytes, with_cancel, accepted_unchain, endpoint_stores, descriptor_stores};
+ghost use Rattle.driver_rows.specs.Rows.{advance, framed_by, with_frames, element_store, last_waiting, last_frame, linked_by, linked_descriptors, after_lend, with_descriptors, leave_frames, without_endpoint, without_descriptors, descriptor_told};
+
+use crate::driver::Driver;
+use bandwidth::Placement;
+use driver_queues::{take_endpoint, write_interrupt_endpoint};
+use driver_rows::{Command, Endpoint, Slots, Sort, Transfer, Turn};
+use iso_queues::{slots_of, take_descriptors, total_bytes};
+use periodic_part::{first_of_command, frame_after, store_of_element};
+use periodic_rows::Removed;
+use usb_base::{EndCause, EpDesc, EpKind, EpName, OfferError};
+use word_mem::WordMem;
+
+/// The most descriptors of an endpoint that are outstanding.
+const MOST_DESCRIPTORS: u32 = 8;
+
+/// The microframes of the frame list.
+const LIST_SPAN: u32 = 8192;
+
+/// Whether an endpoint of this kind has descriptors, and no queue.
+fn is_isochronous(kind: EpKind) -> bool
+    ensures { result ≡ is_iso kind }
+{
+    match kind {
+        EpKind::Iso => true,
+        EpKind::Bulk | EpKind::Interrupt | EpKind::Control => false,
+    }
+}
+
+impl Driver {
+    /// The open of a periodic endpoint: its placement is asked of the plan (EHCI 1.0, 4.6; USB 2.0, 5.6.4 and 5.7.4).
+    ///
+    /// # Errors
+    ///
+    /// `NoPlacement` where every allowed placement breaks a budget, `NoBlocks` where a run isn't found. Nothing changes then.
+    pub(crate) fn plan_open(&mut self, desc: &EpDesc, mem: &mut WordMem) -> Result<(), OfferError> {
+        let e = self.endpoints.len() as u32;
+        match self.periodic.admit(e, desc) {
+            None => Err(OfferError::NoPlacement),
+            Some(placement) => {
+                if is_isochronous(desc.kind) {
+                    self.enter_placed(desc, &placement, 0, 0);
+                    return Ok(());
+                }
+                self.take_chain(e, desc, &placement, mem)
+            }
+        }
+    }
+
+    /// The queue head of an interrupt endpoint and its dummy are taken; where they aren't found its placement leaves the plan again.
+    fn take_chain(
+        &mut self,
+        e: u32,
+        desc: &EpDesc,
+        placement: &Placement,
+        mem: &mut WordMem,
+    ) -> Result<(), OfferError> {
+        match take_endpoint(&mut self.book, mem) {
+            Ok((queue, dummy)) => {
+                let next = self.periodic.chain(queue, placement);
+                write_interrupt_endpoint(&self.book, mem, desc, placement, next, queue, dummy);
+                self.enter_placed(desc, placement, queue, dummy);
+                self.command = Some(Command::Chain);
+                self.made = 0;
+                Ok(())
+            }
+            Err(why) => {
+                self.periodic.withdraw(e);
+                Err(why)
+            }
+        }
+    }
+
+    /// A new endpoint that is placed so.
+    fn enter_placed(&mut self, desc: &EpDesc, placement: &Placement, queue: u16, dummy: u16) {
+        self.endpoints.push_reserved(Endpoint {
+            desc: *desc,
+            placement: Some(*placement),
+            queue,
+            dummy,
+            next: None,
+            ended: None,
+            cancelled: false,
+            linked: false,
+            chained: true,
+            gone: false,
+        });
+        self.room.endpoints -= 1;
+    }
+
+    /// Descriptors of an isochronous endpoint: they are taken and written, and get their frames by the next events.
+    ///
+    /// # Errors
+    ///
+    /// `NoEndpoint`, `Closed`, `TooLong` or `NoBlocks`. Nothing changes then.
+    pub(crate) fn offer_iso(
+        &mut self,
+        name: &EpName,
+        count: u8,
+        len: u16,
+        seed: u8,
+        mem: &mut WordMem,
+    ) -> Result<(), OfferError> {
+        let Some((e, endpoint)) = self.endpoint_by(name) else {
+            return Err(OfferError::NoEndpoint);
+        };
+        if !is_isochronous(endpoint.desc.kind) {
+            return Err(OfferError::NoEndpoint);
+        }
+        if let Some(cause) = endpoint.ended {
+            return Err(OfferError::Closed(cause));
+        }
+        let all = count as u32 + self.count_waiting(e);
+        if spans_too_long(all, endpoint.desc.period) {
+            return Err(OfferError::TooLong);
+        }
+        match slots_of(&endpoint, len) {
+            None => Err(OfferError::TooLong),
+            Some(slots) => self.take_iso(e, &endpoint, &slots, count, seed, mem),
+        }
+    }
+
+    fn take_iso(
+        &mut self,
+        e: usize,
+        endpoint: &Endpoint,
+        slots: &Slots,
+        count: u8,
+        seed: u8,
+        mem: &mut WordMem,
+    ) -> Result<(), OfferError> {
+        let keep = self.book.taken().len();
+        match take_descriptors(&mut self.book, mem, slots, count) {
+            Ok(()) => {
+                self.accept_iso(e, endpoint, slots, count, seed, keep, mem);
+                Ok(())
+            }
+            Err(why) => Err(why),
+        }
+    }
+
+    fn accept_iso(
+        &mut self,
+        e: usize,
+        endpoint: &Endpoint,
+        slots: &Slots,
+        count: u8,
+        seed: u8,
+        keep: usize,
+        mem: &mut WordMem,
+    ) {
+        let first = self.transfers.len();
+        self.write_descriptors(e, endpoint, slots, count, seed, keep, mem);
+        let next = match endpoint.next {
+            Some(t) => Some(t),
+            None => Some(first),
+        };
+        let total = total_bytes(slots) as u32;
+        self.room.transfers -= count as u32;
+        self.room.reports -= count as u32;
+        self.room.report_bytes -= count as u32 * total;
+        self.command = Some(Command::Iso(e, first, count));
+        self.made = 0;
+        self.endpoints[e] = Endpoint { next, ..*endpoint };
+    }
+
+    /// The descriptors are noted, written and listed.
+    fn write_descriptors(
+        &mut self,
+        e: usize,
+        endpoint: &Endpoint,
+        slots: &Slots,
+        count: u8,
+        seed: u8,
+        keep: usize,
+        mem: &mut WordMem,
+    ) {
+        let total = total_bytes(slots);
+        let runs = run_count_of(total) as usize;
+        let mut from = keep;
+        let mut first_byte = seed;
+        for _descriptor in 0..count {
+            let block = self.periodic.write(
+                &self.book,
+                mem,
+                &endpoint.desc,
+                slots,
+                first_byte,
+                from,
+            );
+            self.transfers.push_reserved(Transfer {
+                endpoint: e,
+                sort: Sort::Descriptor,
+                first: block,
+                qtds: 0,
+                place: block,
+                left: 0,
+                most: total as u32,
+                reported: false,
+                released: false,
+            });
+            from += runs + 1;
+            first_byte = ((first_byte as u32 + total as u32) % 256) as u8;
+        }
+    }
+
+    /// The cancel of a periodic endpoint is accepted.
+    pub(crate) fn accept_unchain(&mut self, e: usize, endpoint: &Endpoint, placement: &Placement) {
+        self.room.reports -= 1;
+        self.command = Some(Command::Unchain(e));
+        self.made = 0;
+        if is_isochronous(endpoint.desc.kind) {
+            self.note_unlinks(e);
+        } else {
+            self.periodic.unchain(endpoint.queue, placement);
+        }
+        self.endpoints[e] = Endpoint {
+            cancelled: true,
+            ended: match endpoint.ended {
+                Some(cause) => Some(cause),
+                None => Some(EndCause::Cancel),
+            },
+            ..*endpoint
+        };
+        if self.periodic.store_count() == 0 {
+            self.command = None;
+            self.leave_frames(e);
+        }
+    }
+
+    /// The stores that unlink each outstanding descriptor of the endpoint.
+    fn note_unlinks(&mut self, e: usize) {
+        self.periodic.clear_stores();
+        for t in 0..self.transfers.len() {
+            let transfer = self.transfers[t];
+            if transfer.endpoint == e && !transfer.reported {
+                let store = self.periodic.unlink_store(transfer.first);
+                self.periodic.push_store(store);
+            }
+        }
+    }
+
+    /// The descriptors of the command get their frames, by a reading of FRINDEX.
+    pub(crate) fn give_frames(&mut self, frindex: u16) {
+        let Some(Command::Iso(e, t, count)) = self.command else {
+            return;
+        };
+        self.frame_each(e, t, count, frindex);
+        self.note_elements(t, count);
+        self.periodic.read(frindex);
+        self.advance();
+    }
+
+    fn frame_each(&mut self, e: usize, t: usize, count: u8, frindex: u16) {
+        if e >= self.endpoints.len() {
+            return;
+        }
+        let Some(placement) = self.endpoints[e].placement else {
+            return;
+        };
+        let mut frame = first_of_command(&placement, frindex, self.last_frame(e, t));
+        for k in 0..count as usize {
+            if let Some(transfer) = self.transfers.get(t + k) {
+                self.periodic.set_frame(transfer.first, frame);
+                frame = frame_after(&placement, frame);
+            }
+        }
+    }
+
+    /// The frame of the last outstanding descriptor of the endpoint before transfer t.
+    fn last_frame(&self, e: usize, t: usize) -> Option<u16> {
+        let mut last = None;
+        for k in 0..self.transfers.len().min(t) {
+            let transfer = self.transfers[k];
+            if transfer.endpoint == e && !transfer.reported {
+                last = Some(transfer.first);
+            }
+        }
+        match last {
+            Some(block) => Some(self.periodic.note(block).frame),
+            None => None,
+        }
+    }
+
+    /// The stores of the elements that lead to the command's descriptors.
+    fn note_elements(&mut self, t: usize, count: u8) {
+        self.periodic.clear_stores();
+        for k in 0..count as usize {
+            if let Some(transfer) = self.transfers.get(t + k) {
+                let frame = self.periodic.note(transfer.first).frame;
+                self.periodic.push_store(store_of_element(transfer.first, frame));
+            }
+        }
+    }
+
+    /// The links of the command's descriptors are written, and they are lent.
+    pub(crate) fn lend_descriptors(&mut self, mem: &mut WordMem) {
+        if let Some(Command::Iso(_, t, count)) = self.command {
+            self.write_links(mem, t, count);
+        }
+        self.book.lend_taken(mem);
+        self.advance();
+    }
+
+    fn write_links(&mut self, mem: &mut WordMem, t: usize, count: u8) {
+        for k in 0..count as usize {
+            if let Some(transfer) = self.transfers.get(t + k) {
+                let frame = self.periodic.note(transfer.first).frame;
+                let link = self.periodic.element(frame);
+                self.book
+                    .store(mem, transfer.first, 32 * transfer.first as u32, link);
+            }
+        }
+    }
+
+    /// The command's descriptors are linked.
+    pub(crate) fn link_descriptors(&mut self, t: usize, count: u8) {
+        for k in 0..count as usize {
+            if let Some(transfer) = self.transfers.get(t + k) {
+                self.periodic.add_descriptor(transfer.first);
+            }
+        }
+        self.periodic.clear_stores();
+    }
+
+    /// The endpoint of this number left its frames.
+    pub(crate) fn leave_frames(&mut self, e: usize) {
+        if e >= self.endpoints.len() {
+            return;
+        }
+        let endpoint = self.endpoints[e];
+        if !endpoint.chained {
+            return;
+        }
+        if is_isochronous(endpoint.desc.kind) {
+            self.drop_descriptors(e);
+        } else {
+            self.periodic.drop_queue(endpoint.queue);
+        }
+        self.endpoints[e] = Endpoint {
+            chained: false,
+            ..endpoint
+        };
+        self.periodic.clear_stores();
+        self.periodic.push_removal(Removed::Endpoint(e));
+    }
+
+    /// The outstanding descriptors of the endpoint are members no more.
+    fn drop_descriptors(&mut self, e: usize) {
+        for t in 0..self.transfers.len() {
+            let transfer = self.transfers[t];
+            if transfer.endpoint == e && !transfer.reported {
+                self.periodic.drop_descriptor(transfer.first);
+            }
+        }
+    }
+}
+
+/// Whether so many descriptors of this period are more than are outstanding at a time.
+fn spans_too_long(all: u32, period: u16) -> bool {
+    if all > MOST_DESCRIPTORS {
+        return true;
+    }
+    all * period as u32 > LIST_SPAN
+}
+
+/// How many runs the buffer of a descriptor of so many bytes has.
+fn run_count_of(total: u16) -> u8 {
+    if total == 0 {
+        return 0;
+    }
+    if total <= 4096 {
+        return 1;
+    }
+    ((total + 4095) / 4096) as u8
+}
