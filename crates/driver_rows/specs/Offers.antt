@@ -486,20 +486,16 @@ offered d m cmd = if busy d then Err errors.Busy else offered_next d m cmd
 abbrev pub HasRoom : Reserve → ℕ → Type 0
 HasRoom room most = (1 ≤ room.transfers) × (1 ≤ room.reports) × (most ≤ 20480 → most ≤ room.report_bytes)
 
--- the bytes that a descriptor of this endpoint can move
-abbrev pub iso_bytes : Option Endpoint → ℕ → ℕ
-iso_bytes None len = 0
-iso_bytes (Some x) len = total_of (slots_of x len)
-
 -- what is opened is a bulk or control endpoint, or can be asked of a plan
 abbrev pub IsOpened : EpDesc → Type 0
 IsOpened x = is_periodic x.kind ≡ true → IsWant (want_of 0 x)
 
-abbrev pub IsOffered : DriverContent → Cmd → Type 0
-IsOffered d (commands.OpenEp x) = (1 ≤ d.room.endpoints) × (x.max ≤ 1024) × (x.port ≤ 127) × IsOpened x
-IsOffered d (commands.Get name len by) = (1 ≤ by) × (by ≤ 20480) × HasRoom d.room len
-IsOffered d (commands.Put name bytes by) = (1 ≤ by) × (by ≤ 20480) × HasRoom d.room (length bytes)
-IsOffered d (commands.Control name setup bytes) = HasRoom d.room (request_length setup)
-IsOffered d (commands.Iso name count len seed) =
-    (count ≤ 8) × (count ≤ d.room.transfers) × (count ≤ d.room.reports) × (count * iso_bytes (endpoint_named d name) len ≤ d.room.report_bytes)
-IsOffered d (commands.Cancel name) = 1 ≤ d.room.reports
+-- a descriptor has at most eight slots of 3,072 bytes
+abbrev pub IsOffered : Reserve → Cmd → Type 0
+IsOffered room (commands.OpenEp x) = (1 ≤ room.endpoints) × (x.max ≤ 1024) × (x.port ≤ 127) × IsOpened x
+IsOffered room (commands.Get name len by) = (1 ≤ by) × (by ≤ 20480) × HasRoom room len
+IsOffered room (commands.Put name bytes by) = (1 ≤ by) × (by ≤ 20480) × HasRoom room (length bytes)
+IsOffered room (commands.Control name setup bytes) = HasRoom room (request_length setup)
+IsOffered room (commands.Iso name count len seed) =
+    (count ≤ room.transfers) × (count ≤ room.reports) × (24576 * count ≤ room.report_bytes)
+IsOffered room (commands.Cancel name) = 1 ≤ room.reports

@@ -1,10 +1,11 @@
 -- What is owed, as one transfer or endpoint changes.
-use Rattle.std.proofs.Common.{◌≡◌, ℕ, ◌+◌, ◌≤◌, Bool, true, false, not, ◌&&◌, cond, List, set, get_or, slice_get, Some, sum_by, arith, ap, sym, ◌∙◌, refl}
+use Rattle.std.proofs.Common.{◌≡◌, ℕ, ◌+◌, ◌≤◌, Bool, true, false, not, ◌&&◌, cond, List, set, get_or, slice_get, Some, sum_by, [], ◌∷◌, ◌<◌, subst, arith, ap, sym, ◌∙◌, refl}
 use Rattle.std.proofs.lemmas.Option.{slice_get_within, same_Some, slice_get-get_or}
 use Rattle.std.proofs.lemmas.List.Sums.{sum_by-set}
+use Rattle.bandwidth.specs.declared.placements.Placed.{Placed}
 use Rattle.driver_rows.specs.declared.content.Endpoint.{Endpoint}
 use Rattle.driver_rows.specs.declared.content.Transfer.{Transfer}
-use Rattle.ehci_driver.specs.Rooms.{unreported, owed_bytes, owed_cancels, linked}
+use Rattle.ehci_driver.specs.Rooms.{unreported, owed_bytes, owed_cancels, linked, chained, AreBefore}
 
 -- one item of a sum changes
 pub counted : {X : Type 0} (f : X → ℕ) (xs : List X) (i : ℕ) (x y : X) → slice_get xs i ≡ Some x → sum_by f (set xs i y) + f x ≡ sum_by f xs + f y
@@ -45,6 +46,19 @@ pub kept_linked : (xs : List Endpoint) (e : ℕ) (x y : Endpoint) → slice_get 
 kept_linked xs e x y there same =
     let f : ◌≡◌ {A = ℕ} (cond y.linked 1 0) (cond x.linked 1 0) = ap (λ b. cond b 1 0) same in
     omega (arith, counted (λ (u : Endpoint). cond u.linked 1 0) xs e x y there, f)
+
+pub kept_chained : (xs : List Endpoint) (e : ℕ) (x y : Endpoint) → slice_get xs e ≡ Some x → y.chained ≡ x.chained → chained (set xs e y) ≡ chained xs
+kept_chained xs e x y there same =
+    let f : ◌≡◌ {A = ℕ} (cond y.chained 1 0) (cond x.chained 1 0) = ap (λ b. cond b 1 0) same in
+    omega (arith, counted (λ (u : Endpoint). cond u.chained 1 0) xs e x y there, f)
+
+-- placements of endpoints below a number
+pub before_same : (n m : ℕ) (ps : List Placed) → m ≡ n → AreBefore n ps → AreBefore m ps
+before_same n m ps same all = subst (λ (k : ℕ). AreBefore k ps) (sym same) all
+
+pub before_more : (n m : ℕ) (ps : List Placed) → m ≡ n + 1 → AreBefore n ps → AreBefore m ps
+before_more n m [] more all = tt
+before_more n m (p ∷ ps) more all = (omega (arith, more, all.0), before_more n m ps more all.1)
 
 pub kept_cancels : (xs : List Endpoint) (e : ℕ) (x y : Endpoint) → slice_get xs e ≡ Some x → y.cancelled ≡ x.cancelled → y.gone ≡ x.gone → owed_cancels (set xs e y) ≡ owed_cancels xs
 kept_cancels xs e x y there same also =

@@ -2,12 +2,13 @@
 use Rattle.std.proofs.Common.{◌≡◌, ℕ, ◌+◌, ◌-◌, ◌≤◌, Bool, true, false, not, ◌&&◌, cond, List, [], ◌∷◌, ◌++◌, length, set, slice_get, Some, arith, ap, ◌∙◌}
 use Rattle.std.proofs.lemmas.List.{length-set, length_push}
 use Rattle.std.proofs.lemmas.List.Sums.{sum_by_push}
+use Rattle.periodic_part.specs.Part.{Held}
 use Rattle.driver_rows.specs.declared.content.Endpoint.{Endpoint}
 use Rattle.driver_rows.specs.declared.content.Transfer.{Transfer}
 use Rattle.driver_rows.specs.declared.content.Reserve.{Reserve}
 use Rattle.driver_rows.specs.Offers.{with_transfer}
-use Rattle.ehci_driver.specs.Rooms.{HasRooms, unreported, owed_bytes, owed_cancels, linked}
-use Rattle.ehci_driver.proofs.Counts.{counted, kept_linked, kept_cancels}
+use Rattle.ehci_driver.specs.Rooms.{HasRooms, unreported, owed_bytes, owed_cancels, linked, chained}
+use Rattle.ehci_driver.proofs.Counts.{counted, kept_linked, kept_cancels, kept_chained, before_same, before_more}
 
 -- a new endpoint
 one_linked : (xs : List Endpoint) (y : Endpoint) → y.linked ≡ true → linked (xs ++ y ∷ []) ≡ linked xs + 1
@@ -15,16 +16,22 @@ one_linked xs y on =
     let one : ◌≡◌ {A = ℕ} (cond y.linked 1 0) 1 = ap (λ b. cond b 1 0) on in
     omega (arith, sum_by_push (λ (u : Endpoint). cond u.linked 1 0) xs y, one)
 
+not_chained : (xs : List Endpoint) (y : Endpoint) → y.chained ≡ false → chained (xs ++ y ∷ []) ≡ chained xs
+not_chained xs y off =
+    let none : ◌≡◌ {A = ℕ} (cond y.chained 1 0) 0 = ap (λ b. cond b 1 0) off in
+    omega (arith, sum_by_push (λ (u : Endpoint). cond u.chained 1 0) xs y, none)
+
 no_cancel : (xs : List Endpoint) (y : Endpoint) → y.cancelled ≡ false → owed_cancels (xs ++ y ∷ []) ≡ owed_cancels xs
 no_cancel xs y off =
     let none : ◌≡◌ {A = ℕ} (cond (y.cancelled && not y.gone) 1 0) 0 = ap (λ b. cond (b && not y.gone) 1 0) off in
     omega (arith, sum_by_push (λ (u : Endpoint). cond (u.cancelled && not u.gone) 1 0) xs y, none)
 
-pub opened_rooms : {xs : List Endpoint} {ts : List Transfer} {room : Reserve} {endpoints transfers reports report_room bytes byte_room harvested harvest_room mends mend_room waiting waiting_room rung rung_room cleared cleared_room : ℕ} (ys : List Endpoint) (y : Endpoint) (cap : ℕ) → HasRooms xs ts room endpoints transfers reports report_room bytes byte_room harvested harvest_room mends mend_room waiting waiting_room rung rung_room cleared cleared_room → 1 ≤ room.endpoints → ys ≡ xs ++ y ∷ [] → y.cancelled ≡ false → y.linked ≡ true → cap ≡ endpoints → HasRooms ys ts (record room { endpoints = room.endpoints - 1 }) cap transfers reports report_room bytes byte_room harvested harvest_room mends mend_room waiting waiting_room rung rung_room cleared cleared_room
-opened_rooms {xs = xs} {ts = ts} ys y cap rooms some these off on same =
+pub opened_rooms : {xs : List Endpoint} {ts : List Transfer} {room : Reserve} {endpoints transfers reports report_room bytes byte_room harvested harvest_room mends mend_room waiting waiting_room rung rung_room cleared cleared_room pending : ℕ} {held : Held} (ys : List Endpoint) (y : Endpoint) (cap : ℕ) → HasRooms xs ts room endpoints transfers reports report_room bytes byte_room harvested harvest_room mends mend_room waiting waiting_room rung rung_room cleared cleared_room pending held → 1 ≤ room.endpoints → ys ≡ xs ++ y ∷ [] → y.cancelled ≡ false → y.linked ≡ true → y.chained ≡ false → cap ≡ endpoints → HasRooms ys ts (record room { endpoints = room.endpoints - 1 }) cap transfers reports report_room bytes byte_room harvested harvest_room mends mend_room waiting waiting_room rung rung_room cleared cleared_room 0 held
+opened_rooms {xs = xs} {ts = ts} ys y cap rooms some these off on none same =
     let long : length ys ≡ length xs + 1 = ap (length {A = Endpoint}) these ∙ length_push xs y in
     let ring : linked ys ≡ linked xs + 1 = ap linked these ∙ one_linked xs y on in
     let owed : owed_cancels ys ≡ owed_cancels xs = ap owed_cancels these ∙ no_cancel xs y off in
+    let chains : chained ys ≡ chained xs = ap chained these ∙ not_chained xs y none in
     record {
       for_endpoints = omega (arith, rooms.for_endpoints);
       for_transfers = rooms.for_transfers;
@@ -37,6 +44,13 @@ opened_rooms {xs = xs} {ts = ts} ys y cap rooms some these off on same =
       for_waiting = omega (arith, rooms.for_waiting);
       for_rung = omega (arith, rooms.for_rung);
       for_cleared = omega (arith, rooms.for_cleared);
+      for_queues = omega (arith, rooms.for_queues);
+      for_plan = omega (arith, rooms.for_plan);
+      placed_before = before_more _ _ _ long rooms.placed_before;
+      for_descriptors = omega (arith, rooms.for_descriptors);
+      for_stores = rooms.for_stores;
+      for_unlinks = rooms.for_unlinks;
+      for_removals = omega (arith, chains, some, rooms.for_removals);
     }
 
 -- a new transfer
@@ -50,8 +64,8 @@ more_bytes ts t fresh =
     let most : cond t.reported 0 t.most ≡ t.most = ap (λ b. cond b 0 t.most) fresh in
     omega (arith, sum_by_push (λ (u : Transfer). cond u.reported 0 u.most) ts t, most)
 
-pub entered_rooms : {xs : List Endpoint} {ts : List Transfer} {room : Reserve} {endpoints transfers reports report_room bytes byte_room harvested harvest_room mends mend_room waiting waiting_room rung rung_room cleared cleared_room : ℕ} (us : List Transfer) (t : Transfer) (left : Reserve) (cap e : ℕ) (old y : Endpoint) → HasRooms xs ts room endpoints transfers reports report_room bytes byte_room harvested harvest_room mends mend_room waiting waiting_room rung rung_room cleared cleared_room → 1 ≤ room.transfers → 1 ≤ room.reports → t.most ≤ room.report_bytes → t.reported ≡ false → us ≡ ts ++ t ∷ [] → cap ≡ transfers → slice_get xs e ≡ Some old → y.linked ≡ old.linked → y.cancelled ≡ old.cancelled → y.gone ≡ old.gone → left ≡ with_transfer room t.most → HasRooms (set xs e y) us left endpoints cap reports report_room bytes byte_room harvested harvest_room mends mend_room waiting waiting_room rung rung_room cleared cleared_room
-entered_rooms {xs = xs} {ts = ts} {room = room} us t left cap e old y rooms some line fits fresh these same here ring cancel gone rest =
+pub entered_rooms : {xs : List Endpoint} {ts : List Transfer} {room : Reserve} {endpoints transfers reports report_room bytes byte_room harvested harvest_room mends mend_room waiting waiting_room rung rung_room cleared cleared_room pending : ℕ} {held : Held} (us : List Transfer) (t : Transfer) (left : Reserve) (cap e : ℕ) (old y : Endpoint) → HasRooms xs ts room endpoints transfers reports report_room bytes byte_room harvested harvest_room mends mend_room waiting waiting_room rung rung_room cleared cleared_room pending held → 1 ≤ room.transfers → 1 ≤ room.reports → t.most ≤ room.report_bytes → t.reported ≡ false → us ≡ ts ++ t ∷ [] → cap ≡ transfers → slice_get xs e ≡ Some old → y.linked ≡ old.linked → y.cancelled ≡ old.cancelled → y.gone ≡ old.gone → y.chained ≡ old.chained → left ≡ with_transfer room t.most → HasRooms (set xs e y) us left endpoints cap reports report_room bytes byte_room harvested harvest_room mends mend_room waiting waiting_room rung rung_room cleared cleared_room 0 held
+entered_rooms {xs = xs} {ts = ts} {room = room} us t left cap e old y rooms some line fits fresh these same here ring cancel gone chain rest =
     let many = length-set xs e y in
     let long : length us ≡ length ts + 1 = ap (length {A = Transfer}) these ∙ length_push ts t in
     let r0 : left.endpoints ≡ room.endpoints = ap (λ (r : Reserve). r.endpoints) rest in
@@ -62,6 +76,7 @@ entered_rooms {xs = xs} {ts = ts} {room = room} us t left cap e old y rooms some
     let owed : owed_bytes us ≡ owed_bytes ts + t.most = ap owed_bytes these ∙ more_bytes ts t fresh in
     let links = kept_linked xs e old y here ring in
     let cancels = kept_cancels xs e old y here cancel gone in
+    let chains = kept_chained xs e old y here chain in
     record {
       for_endpoints = omega (arith, many, rooms.for_endpoints);
       for_transfers = omega (arith, rooms.for_transfers);
@@ -74,6 +89,13 @@ entered_rooms {xs = xs} {ts = ts} {room = room} us t left cap e old y rooms some
       for_waiting = omega (arith, links, rooms.for_waiting);
       for_rung = omega (arith, links, rooms.for_rung);
       for_cleared = omega (arith, links, rooms.for_cleared);
+      for_queues = omega (arith, r0, rooms.for_queues);
+      for_plan = omega (arith, r0, rooms.for_plan);
+      placed_before = before_same _ _ _ many rooms.placed_before;
+      for_descriptors = omega (arith, r1, rooms.for_descriptors);
+      for_stores = omega (arith, long, r1, some, rooms.for_stores);
+      for_unlinks = omega (arith, lines, r1, some, rooms.for_unlinks);
+      for_removals = omega (arith, lines, r0, r1, some, chains, rooms.for_removals);
     }
 
 -- a cancel
@@ -81,12 +103,13 @@ one_at_most : (b : Bool) → cond b 1 0 ≤ 1
 one_at_most true = omega arith
 one_at_most false = omega arith
 
-pub cancelled_rooms : {xs : List Endpoint} {ts : List Transfer} {room : Reserve} {endpoints transfers reports report_room bytes byte_room harvested harvest_room mends mend_room waiting waiting_room rung rung_room cleared cleared_room : ℕ} (e : ℕ) (old y : Endpoint) → HasRooms xs ts room endpoints transfers reports report_room bytes byte_room harvested harvest_room mends mend_room waiting waiting_room rung rung_room cleared cleared_room → 1 ≤ room.reports → slice_get xs e ≡ Some old → y.linked ≡ old.linked → HasRooms (set xs e y) ts (record room { reports = room.reports - 1 }) endpoints transfers reports report_room bytes byte_room harvested harvest_room mends mend_room waiting waiting_room rung rung_room cleared cleared_room
-cancelled_rooms {xs = xs} {ts = ts} e old y rooms line here ring =
+pub cancelled_rooms : {xs : List Endpoint} {ts : List Transfer} {room : Reserve} {endpoints transfers reports report_room bytes byte_room harvested harvest_room mends mend_room waiting waiting_room rung rung_room cleared cleared_room pending : ℕ} {held : Held} (e : ℕ) (old y : Endpoint) → HasRooms xs ts room endpoints transfers reports report_room bytes byte_room harvested harvest_room mends mend_room waiting waiting_room rung rung_room cleared cleared_room pending held → 1 ≤ room.reports → slice_get xs e ≡ Some old → y.linked ≡ old.linked → y.chained ≡ old.chained → HasRooms (set xs e y) ts (record room { reports = room.reports - 1 }) endpoints transfers reports report_room bytes byte_room harvested harvest_room mends mend_room waiting waiting_room rung rung_room cleared cleared_room 0 held
+cancelled_rooms {xs = xs} {ts = ts} e old y rooms line here ring chain =
     let many = length-set xs e y in
     let links = kept_linked xs e old y here ring in
     let owed : owed_cancels (set xs e y) ≤ owed_cancels xs + 1 =
     omega (arith, counted (λ (u : Endpoint). cond (u.cancelled && not u.gone) 1 0) xs e old y here, one_at_most (y.cancelled && not y.gone)) in
+    let chains = kept_chained xs e old y here chain in
     record {
       for_endpoints = omega (arith, many, rooms.for_endpoints);
       for_transfers = rooms.for_transfers;
@@ -99,4 +122,11 @@ cancelled_rooms {xs = xs} {ts = ts} e old y rooms line here ring =
       for_waiting = omega (arith, links, rooms.for_waiting);
       for_rung = omega (arith, links, rooms.for_rung);
       for_cleared = omega (arith, links, rooms.for_cleared);
+      for_queues = rooms.for_queues;
+      for_plan = rooms.for_plan;
+      placed_before = before_same _ _ _ many rooms.placed_before;
+      for_descriptors = omega (arith, rooms.for_descriptors);
+      for_stores = rooms.for_stores;
+      for_unlinks = rooms.for_unlinks;
+      for_removals = omega (arith, chains, rooms.for_removals);
     }

@@ -2,13 +2,14 @@
 use Rattle.std.proofs.Common.{◌≡◌, ℕ, ◌+◌, ◌<◌, ◌≤◌, ◌==◌, Bool, true, false, not, ◌&&◌, ◌||◌, cond, List, [], ◌∷◌, length, map, set, slice_get, Some, arith, suc, refl, ap, ◌∙◌}
 use Rattle.std.proofs.lemmas.List.{length-set}
 use Rattle.std.proofs.lemmas.List.Sums.{sum_by-cons}
+use Rattle.periodic_part.specs.Part.{Held}
 use Rattle.driver_rows.specs.declared.content.Endpoint.{Endpoint}
 use Rattle.driver_rows.specs.declared.content.Transfer.{Transfer}
 use Rattle.driver_rows.specs.declared.content.Reserve.{Reserve}
 use Rattle.driver_rows.specs.DriverContent.{waits_for}
 use Rattle.driver_rows.specs.Rows.{let_go, is_told, ended_by_cancel}
 use Rattle.ehci_driver.specs.Rooms.{HasRooms, unreported, owed_bytes, owed_of}
-use Rattle.ehci_driver.proofs.Counts.{kept_linked, less_cancels, gone_cancel}
+use Rattle.ehci_driver.proofs.Counts.{kept_linked, less_cancels, gone_cancel, kept_chained, before_same}
 
 one_less : (n : ℕ) (r told : Bool) → cond (r || told) 0 n ≤ cond r 0 n
 one_less n true told = omega arith
@@ -52,7 +53,7 @@ same_long e told [] = refl
 same_long e told (t ∷ ts) = ap suc (same_long e told ts)
 
 -- an endpoint whose blocks were given back without a line
-pub gone_rooms : {xs : List Endpoint} {ts : List Transfer} {room : Reserve} {endpoints transfers reports report_room bytes byte_room harvested harvest_room mends mend_room waiting waiting_room rung rung_room cleared cleared_room : ℕ} (e : ℕ) (told : Bool) (x : Endpoint) (now : List Transfer) (now_room rest rest_room : ℕ) → HasRooms xs ts room endpoints transfers reports report_room bytes byte_room harvested harvest_room mends mend_room waiting waiting_room rung rung_room cleared cleared_room → slice_get xs e ≡ Some x → now ≡ map (let_go e told) ts → now_room ≡ transfers → rest ≤ cleared → rest_room ≡ cleared_room → HasRooms (set xs e (record x { gone = true })) now room endpoints now_room reports report_room bytes byte_room harvested harvest_room mends mend_room waiting waiting_room rung rung_room rest rest_room
+pub gone_rooms : {xs : List Endpoint} {ts : List Transfer} {room : Reserve} {endpoints transfers reports report_room bytes byte_room harvested harvest_room mends mend_room waiting waiting_room rung rung_room cleared cleared_room pending : ℕ} {held : Held} (e : ℕ) (told : Bool) (x : Endpoint) (now : List Transfer) (now_room rest rest_room : ℕ) → HasRooms xs ts room endpoints transfers reports report_room bytes byte_room harvested harvest_room mends mend_room waiting waiting_room rung rung_room cleared cleared_room pending held → slice_get xs e ≡ Some x → now ≡ map (let_go e told) ts → now_room ≡ transfers → rest ≤ cleared → rest_room ≡ cleared_room → HasRooms (set xs e (record x { gone = true })) now room endpoints now_room reports report_room bytes byte_room harvested harvest_room mends mend_room waiting waiting_room rung rung_room rest rest_room pending held
 gone_rooms {xs = xs} {ts = ts} e told x now now_room rest rest_room rooms here is size few same_room =
     let lines : unreported now ≤ unreported ts = omega (arith, ap unreported is, fewer_lines e told ts) in
     let less : owed_bytes now ≤ owed_bytes ts = omega (arith, ap owed_bytes is, fewer_bytes e told ts) in
@@ -60,6 +61,7 @@ gone_rooms {xs = xs} {ts = ts} e told x now now_room rest rest_room rooms here i
     let also = less_cancels xs e x here in
     let long : length now ≡ length ts = ap length is ∙ same_long e told ts in
     let many = length-set xs e (record x { gone = true }) in
+    let chains = kept_chained xs e x (record x { gone = true }) here refl in
     record {
       for_endpoints = omega (arith, many, rooms.for_endpoints);
       for_transfers = omega (arith, long, rooms.for_transfers);
@@ -72,10 +74,17 @@ gone_rooms {xs = xs} {ts = ts} e told x now now_room rest rest_room rooms here i
       for_waiting = omega (arith, same, rooms.for_waiting);
       for_rung = omega (arith, same, rooms.for_rung);
       for_cleared = omega (arith, same, rooms.for_cleared);
+      for_queues = rooms.for_queues;
+      for_plan = rooms.for_plan;
+      placed_before = before_same _ _ _ many rooms.placed_before;
+      for_descriptors = rooms.for_descriptors;
+      for_stores = omega (arith, long, rooms.for_stores);
+      for_unlinks = omega (arith, lines, rooms.for_unlinks);
+      for_removals = omega (arith, lines, chains, rooms.for_removals);
     }
 
 -- the same with a line
-pub line_rooms : {xs : List Endpoint} {ts : List Transfer} {room : Reserve} {endpoints transfers reports report_room bytes byte_room harvested harvest_room mends mend_room waiting waiting_room rung rung_room cleared cleared_room : ℕ} (e : ℕ) (x : Endpoint) (now : List Transfer) (now_room lines line_room more more_room rest rest_room : ℕ) → HasRooms xs ts room endpoints transfers reports report_room bytes byte_room harvested harvest_room mends mend_room waiting waiting_room rung rung_room cleared cleared_room → slice_get xs e ≡ Some x → x.cancelled ≡ true → x.gone ≡ false → now ≡ map (let_go e true) ts → now_room ≡ transfers → lines ≡ reports + 1 → line_room ≡ report_room → more ≤ bytes + owed_of e ts → more_room ≡ byte_room → rest ≤ cleared → rest_room ≡ cleared_room → HasRooms (set xs e (record x { gone = true })) now room endpoints now_room lines line_room more more_room harvested harvest_room mends mend_room waiting waiting_room rung rung_room rest rest_room
+pub line_rooms : {xs : List Endpoint} {ts : List Transfer} {room : Reserve} {endpoints transfers reports report_room bytes byte_room harvested harvest_room mends mend_room waiting waiting_room rung rung_room cleared cleared_room pending : ℕ} {held : Held} (e : ℕ) (x : Endpoint) (now : List Transfer) (now_room lines line_room more more_room rest rest_room : ℕ) → HasRooms xs ts room endpoints transfers reports report_room bytes byte_room harvested harvest_room mends mend_room waiting waiting_room rung rung_room cleared cleared_room pending held → slice_get xs e ≡ Some x → x.cancelled ≡ true → x.gone ≡ false → now ≡ map (let_go e true) ts → now_room ≡ transfers → lines ≡ reports + 1 → line_room ≡ report_room → more ≤ bytes + owed_of e ts → more_room ≡ byte_room → rest ≤ cleared → rest_room ≡ cleared_room → HasRooms (set xs e (record x { gone = true })) now room endpoints now_room lines line_room more more_room harvested harvest_room mends mend_room waiting waiting_room rung rung_room rest rest_room pending held
 line_rooms {xs = xs} {ts = ts} e x now now_room lines line_room more more_room rest rest_room rooms here on fresh is size l lr m mr few same_room =
     let fewer : unreported now ≤ unreported ts = omega (arith, ap unreported is, fewer_lines e true ts) in
     let less : owed_bytes now + owed_of e ts ≡ owed_bytes ts = omega (arith, ap owed_bytes is, owed_left e ts) in
@@ -83,6 +92,7 @@ line_rooms {xs = xs} {ts = ts} e x now now_room lines line_room more more_room r
     let once = gone_cancel xs e x here on fresh in
     let long : length now ≡ length ts = ap length is ∙ same_long e true ts in
     let many = length-set xs e (record x { gone = true }) in
+    let chains = kept_chained xs e x (record x { gone = true }) here refl in
     record {
       for_endpoints = omega (arith, many, rooms.for_endpoints);
       for_transfers = omega (arith, long, rooms.for_transfers);
@@ -95,6 +105,13 @@ line_rooms {xs = xs} {ts = ts} e x now now_room lines line_room more more_room r
       for_waiting = omega (arith, same, rooms.for_waiting);
       for_rung = omega (arith, same, rooms.for_rung);
       for_cleared = omega (arith, same, rooms.for_cleared);
+      for_queues = rooms.for_queues;
+      for_plan = rooms.for_plan;
+      placed_before = before_same _ _ _ many rooms.placed_before;
+      for_descriptors = rooms.for_descriptors;
+      for_stores = omega (arith, long, rooms.for_stores);
+      for_unlinks = omega (arith, fewer, rooms.for_unlinks);
+      for_removals = omega (arith, fewer, chains, rooms.for_removals);
     }
 
 -- there is room for the line of an endpoint that is to be told
@@ -103,7 +120,7 @@ pub record CanTellGone (e : ℕ) (ts : List Transfer) (reports report_room bytes
   pub holds : bytes + owed_of e ts ≤ byte_room
   pub fits : bytes + owed_of e ts < 4294967296
 
-pub can_tell_gone : {xs : List Endpoint} {ts : List Transfer} {room : Reserve} {endpoints transfers reports report_room bytes byte_room harvested harvest_room mends mend_room waiting waiting_room rung rung_room cleared cleared_room : ℕ} (e : ℕ) (x : Endpoint) → HasRooms xs ts room endpoints transfers reports report_room bytes byte_room harvested harvest_room mends mend_room waiting waiting_room rung rung_room cleared cleared_room → slice_get xs e ≡ Some x → x.cancelled ≡ true → x.gone ≡ false → CanTellGone e ts reports report_room bytes byte_room
+pub can_tell_gone : {xs : List Endpoint} {ts : List Transfer} {room : Reserve} {endpoints transfers reports report_room bytes byte_room harvested harvest_room mends mend_room waiting waiting_room rung rung_room cleared cleared_room pending : ℕ} {held : Held} (e : ℕ) (x : Endpoint) → HasRooms xs ts room endpoints transfers reports report_room bytes byte_room harvested harvest_room mends mend_room waiting waiting_room rung rung_room cleared cleared_room pending held → slice_get xs e ≡ Some x → x.cancelled ≡ true → x.gone ≡ false → CanTellGone e ts reports report_room bytes byte_room
 can_tell_gone {xs = xs} {ts = ts} e x rooms here on fresh =
     let once = gone_cancel xs e x here on fresh in
     let less = owed_left e ts in

@@ -4,7 +4,15 @@
 --     owed_of e ts        the same of those of endpoint e
 --     owed_cancels xs     how many cancelled endpoints aren't given back yet
 --     linked xs           how many endpoints are in the ring
-use Rattle.std.specs.Prelude.{ℕ, ◌+◌, ◌*◌, ◌≤◌, ◌<◌, not, ◌&&◌, List, length, sum_by, if◌then◌else◌}
+--     chained xs          how many have a place in the frame list
+--     coming c            how many descriptors the unfinished command is still to link
+--     AreBefore n ps      each placement is that of an endpoint below number n
+use Rattle.std.specs.Prelude.{ℕ, ◌+◌, ◌*◌, ◌≤◌, ◌<◌, not, ◌&&◌, List, length, sum_by, Option, Some, if◌then◌else◌}
+use Rattle.std.specs.List.{AllByRecursion}
+use Rattle.bandwidth.specs.declared.placements.Placed.{Placed}
+use Rattle.periodic_part.specs.Part.{Held}
+use Rattle.driver_rows.specs.declared.content.Command.{Command}
+use Rattle.driver_rows.specs.declared.content.Command.TheVariants as unfinished
 use Rattle.driver_rows.specs.declared.content.Endpoint.{Endpoint}
 use Rattle.driver_rows.specs.declared.content.Transfer.{Transfer}
 use Rattle.driver_rows.specs.declared.content.Reserve.{Reserve}
@@ -25,7 +33,17 @@ owed_cancels xs = sum_by (λ x. if x.cancelled && not x.gone then 1 else 0) xs
 abbrev pub linked : List Endpoint → ℕ
 linked xs = sum_by (λ x. if x.linked then 1 else 0) xs
 
-pub record HasRooms (xs : List Endpoint) (ts : List Transfer) (room : Reserve) (endpoints transfers : ℕ) (reports report_room bytes byte_room harvested harvest_room mends mend_room waiting waiting_room rung rung_room cleared cleared_room : ℕ) : Type 0 where
+abbrev pub chained : List Endpoint → ℕ
+chained xs = sum_by (λ x. if x.chained then 1 else 0) xs
+
+abbrev pub coming : Option Command → ℕ
+coming (Some (unfinished.Iso e t count)) = count
+coming _ = 0
+
+abbrev pub AreBefore : ℕ → List Placed → Type 0
+AreBefore n ps = AllByRecursion (λ p. p.want.id < n) ps
+
+pub record HasRooms (xs : List Endpoint) (ts : List Transfer) (room : Reserve) (endpoints transfers : ℕ) (reports report_room bytes byte_room harvested harvest_room mends mend_room waiting waiting_room rung rung_room cleared cleared_room pending : ℕ) (held : Held) : Type 0 where
   pub for_endpoints : length xs + room.endpoints ≤ endpoints
   pub for_transfers : length ts + room.transfers ≤ transfers
   pub few_transfers : length ts + room.transfers < 4294967296
@@ -37,3 +55,10 @@ pub record HasRooms (xs : List Endpoint) (ts : List Transfer) (room : Reserve) (
   pub for_waiting : waiting + (linked xs + room.endpoints) ≤ waiting_room
   pub for_rung : waiting + rung + (linked xs + room.endpoints) ≤ rung_room
   pub for_cleared : waiting + rung + cleared + (linked xs + room.endpoints) ≤ cleared_room
+  pub for_queues : length held.periodic.chains.queues + room.endpoints ≤ held.queue_room
+  pub for_plan : length held.periodic.plan.placed + room.endpoints ≤ held.periodic.plan.room
+  pub placed_before : AreBefore (length xs) held.periodic.plan.placed
+  pub for_descriptors : length held.periodic.chains.descriptors + pending + room.transfers ≤ held.descriptor_room
+  pub for_stores : 1024 + (length ts + room.transfers) ≤ held.store_room
+  pub for_unlinks : length held.periodic.unlinks + (unreported ts + room.transfers) ≤ held.unlink_room
+  pub for_removals : length held.periodic.removals + length held.periodic.unlinks + (unreported ts + room.transfers) + (chained xs + room.endpoints) ≤ held.removal_room

@@ -23,7 +23,7 @@ pub struct Driver {
     pub(crate) transfers: Vec<Transfer>,
     pub(crate) notes: Vec<QtdNote>,
     pub(crate) command: Option<Command>,
-    pub(crate) made: u16,
+    pub(crate) made: usize,
     pub(crate) turn: Turn,
     pub(crate) place: usize,
     pub(crate) mends: VecDeque<Mend>,
@@ -41,7 +41,7 @@ pub struct Driver {
 impl Model for Driver {
     ghost use Rattle.std.specs.Prelude.{◌≤◌, ◌+◌, ◌*◌};
     ghost use Rattle.driver_rows.specs.DriverContent.{DriverContent};
-    ghost use Rattle.ehci_driver.specs.Rooms.{HasRooms};
+    ghost use Rattle.ehci_driver.specs.Rooms.{HasRooms, coming};
     ghost use Rattle.std.specs.VecDeque.{deque_len, deque_capacity};
     ghost use Rattle.std.specs.Prelude.{vec_len, vec_capacity};
 
@@ -72,5 +72,6 @@ impl Model for Driver {
         (vec_capacity d.endpoints) (vec_capacity d.transfers)
         (vec_len d.reports) (vec_capacity d.reports) (vec_len d.store) (vec_capacity d.store)
         (deque_len d.harvested) (deque_capacity d.harvested) (deque_len d.mends) (deque_capacity d.mends)
-        (deque_len d.waiting) (deque_capacity d.waiting) (deque_len d.rung) (deque_capacity d.rung) (deque_len d.cleared) (deque_capacity d.cleared) };
+        (deque_len d.waiting) (deque_capacity d.waiting) (deque_len d.rung) (deque_capacity d.rung) (deque_len d.cleared) (deque_capacity d.cleared)
+        (coming d.command) d.periodic };
 }

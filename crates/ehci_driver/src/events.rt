@@ -101,7 +101,7 @@ impl Driver {
         let Some(command) = self.command else {
             return;
         };
-        if self.made as usize + 1 < self.event_count(&command) {
+        if self.made < self.event_count(&command).saturating_sub(1) {
             self.made += 1;
             return;
         }

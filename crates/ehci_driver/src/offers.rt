@@ -20,7 +20,7 @@ impl Driver {
     /// The first of these that there is: `Busy`, `NoEndpoint`, `Closed`, `AlreadyOpen`, `TooLong`, `NoBlocks`. Nothing changes then.
     pub fn offer(&mut self, cmd: &Cmd, mem: &mut WordMem) -> Result<(), OfferError>
         requires stands { Stands (holding self.old.book mem.old) }
-        requires offered { IsOffered self.old cmd.now }
+        requires offered { IsOffered self.old.room cmd.now }
         ensures accepted { IfOk result (λ _. offered self.old mem.old cmd.now ≡ Ok (record { driver = self.new; memory = mem.new })) }
         ensures refused { IfErr result (λ why. offered self.old mem.old cmd.now ≡ Err why) }
         ensures same { IfErr result (λ _. (self.new ≡ self.old) × (mem.new ≡ mem.old)) }
@@ -35,7 +35,7 @@ impl Driver {
     /// Accepts or refuses a command where none is unfinished.
     fn offer_next(&mut self, cmd: &Cmd, mem: &mut WordMem) -> Result<(), OfferError>
         requires stands { Stands (holding self.old.book mem.old) }
-        requires offered { IsOffered self.old cmd.now }
+        requires offered { IsOffered self.old.room cmd.now }
         ensures accepted { IfOk result (λ _. offered_next self.old mem.old cmd.now ≡ Ok (record { driver = self.new; memory = mem.new })) }
         ensures refused { IfErr result (λ why. offered_next self.old mem.old cmd.now ≡ Err why) }
         ensures same { IfErr result (λ _. (self.new ≡ self.old) × (mem.new ≡ mem.old)) }

@@ -1,4 +1,8 @@
-ghost use Rattle.std.specs.Prelude.{◌≡◌, ◌≤◌, ◌<◌, ◌+◌, ℕ, length, take, drop, slice_get, slice_set, Some, None, [], ◌∷◌, ◌++◌};
+ghost use Rattle.std.specs.Prelude.{◌≡◌, ◌≤◌, ◌<◌, ◌+◌, false, take, slice_get, Some, ◌∷◌};
+ghost use Rattle.op_registers.specs.RegisterFile.{RegisterFile};
+ghost use Rattle.run_book.specs.Book.{holding, Stands};
+ghost use Rattle.periodic_rows.specs.Periodic.{read_again};
+ghost use Rattle.driver_rows.specs.Rows.{Parts, free_runs, descriptor_told, after_unlink, after_removed, after_descriptor, after_placed, free_placed, free_descriptors};
 
 use crate::cancels::{is_told_at_release, let_all_go, report_cancel};
 use crate::driver::Driver;
@@ -11,7 +15,11 @@ use usb_base::{EpKind, Report, What};
 use word_mem::WordMem;
 
 /// Gives back the blocks of the descriptor in this block and of its buffer.
-fn free_descriptor(book: &mut RunBook, mem: &mut WordMem, block: u16, note: &DescriptorNote) {
+fn free_descriptor(book: &mut RunBook, mem: &mut WordMem, block: u16, note: &DescriptorNote)
+    requires { Stands (holding book.old mem.old) }
+    ensures freed { holding book.new mem.new ≡ free_runs (holding book.old mem.old) (block ∷ take note.now.runs note.now.buffer) }
+    ensures stands { Stands (holding book.new mem.new) }
+{
     book.release(mem, block);
     let runs = (note.runs as usize).min(6);
     free_runs_at(book, mem, &note.buffer[..runs]);
@@ -27,7 +35,13 @@ impl Driver {
         endpoint: &Endpoint,
         transfer: &Transfer,
         errors: u8,
-    ) {
+    )
+        requires endpoint { slice_get self.old.endpoints e ≡ Some endpoint.now }
+        requires transfer { slice_get self.old.transfers t ≡ Some transfer.now }
+        requires open { transfer.now.reported ≡ false }
+        ensures driver { self.new ≡ descriptor_told self.old mem.now e t endpoint.now transfer.now errors }
+        ensures book { self.new.book ≡ self.old.book }
+    {
         let note = self.periodic.note(transfer.first);
         let from = self.store.len();
         append_told(&mut self.store, mem, &note, transfer.first, transfer.most);
@@ -49,7 +63,12 @@ impl Driver {
     }
 
     /// The first harvested descriptor that is still linked leaves its frame.
-    pub(crate) fn unlink(&mut self, mem: &mut WordMem, t: usize, store: &LinkStore) {
+    pub(crate) fn unlink(&mut self, mem: &mut WordMem, t: usize, store: &LinkStore)
+        requires stands { Stands (holding self.old.book mem.old) }
+        ensures driver { (r : RegisterFile) → self.new ≡ (after_unlink (record { driver = self.old; registers = r; memory = mem.old }) t store.now (slice_get self.old.transfers t)).driver }
+        ensures memory { (r : RegisterFile) → mem.new ≡ (after_unlink (record { driver = self.old; registers = r; memory = mem.old }) t store.now (slice_get self.old.transfers t)).memory }
+        ensures stands { Stands (holding self.new.book mem.new) }
+    {
         if t >= self.transfers.len() {
             return;
         }
@@ -62,21 +81,33 @@ impl Driver {
     }
 
     /// FRINDEX was read.
-    pub(crate) fn read_frame(&mut self, frindex: u16) {
+    pub(crate) fn read_frame(&mut self, frindex: u16)
+        ensures { self.new ≡ record self.old { turn = Turn.Harvest; periodic = record self.old.periodic { status_next = true; removals = read_again frindex self.old.periodic.removals } } }
+    {
         self.periodic.read(frindex);
         self.periodic.set_reads_status(true);
         self.turn = Turn::Harvest;
     }
 
     /// What left the frame list is given back.
-    pub(crate) fn release_removed(&mut self, mem: &mut WordMem, what: Removed) {
+    pub(crate) fn release_removed(&mut self, mem: &mut WordMem, what: Removed)
+        requires stands { Stands (holding self.old.book mem.old) }
+        ensures driver { (r : RegisterFile) → self.new ≡ (after_removed (record { driver = self.old; registers = r; memory = mem.old }) what).driver }
+        ensures memory { (r : RegisterFile) → mem.new ≡ (after_removed (record { driver = self.old; registers = r; memory = mem.old }) what).memory }
+        ensures stands { Stands (holding self.new.book mem.new) }
+    {
         match what {
             Removed::Descriptor(t) => self.release_descriptor(mem, t),
             Removed::Endpoint(e) => self.release_placed(mem, e),
         }
     }
 
-    fn release_descriptor(&mut self, mem: &mut WordMem, t: usize) {
+    fn release_descriptor(&mut self, mem: &mut WordMem, t: usize)
+        requires stands { Stands (holding self.old.book mem.old) }
+        ensures driver { (r : RegisterFile) → self.new ≡ (after_descriptor (record { driver = self.old; registers = r; memory = mem.old }) t (slice_get self.old.transfers t)).driver }
+        ensures memory { (r : RegisterFile) → mem.new ≡ (after_descriptor (record { driver = self.old; registers = r; memory = mem.old }) t (slice_get self.old.transfers t)).memory }
+        ensures stands { Stands (holding self.new.book mem.new) }
+    {
         if t >= self.transfers.len() {
             return;
         }
@@ -91,7 +122,12 @@ impl Driver {
         self.turn = Turn::Harvest;
     }
 
-    fn release_placed(&mut self, mem: &mut WordMem, e: usize) {
+    fn release_placed(&mut self, mem: &mut WordMem, e: usize)
+        requires stands { Stands (holding self.old.book mem.old) }
+        ensures driver { (r : RegisterFile) → self.new ≡ (after_placed (record { driver = self.old; registers = r; memory = mem.old }) e (slice_get self.old.endpoints e)).driver }
+        ensures memory { (r : RegisterFile) → mem.new ≡ (after_placed (record { driver = self.old; registers = r; memory = mem.old }) e (slice_get self.old.endpoints e)).memory }
+        ensures stands { Stands (holding self.new.book mem.new) }
+    {
         if e >= self.endpoints.len() {
             return;
         }
@@ -120,7 +156,12 @@ impl Driver {
     }
 
     /// The blocks of an interrupt endpoint, or of the outstanding descriptors of an isochronous one, are given back.
-    fn free_placed(&mut self, mem: &mut WordMem, e: usize, endpoint: &Endpoint) {
+    fn free_placed(&mut self, mem: &mut WordMem, e: usize, endpoint: &Endpoint)
+        requires stands { Stands (holding self.old.book mem.old) }
+        ensures driver { self.new ≡ record self.old { book = (free_placed self.old e endpoint.now (holding self.old.book mem.old)).book } }
+        ensures memory { mem.new ≡ (free_placed self.old e endpoint.now (holding self.old.book mem.old)).memory }
+        ensures stands { Stands (holding self.new.book mem.new) }
+    {
         match endpoint.desc.kind {
             EpKind::Iso => self.free_descriptors(mem, e),
             EpKind::Bulk | EpKind::Interrupt | EpKind::Control => {
@@ -130,7 +171,12 @@ impl Driver {
         }
     }
 
-    fn free_descriptors(&mut self, mem: &mut WordMem, e: usize) {
+    fn free_descriptors(&mut self, mem: &mut WordMem, e: usize)
+        requires stands { Stands (holding self.old.book mem.old) }
+        ensures driver { self.new ≡ record self.old { book = (free_descriptors self.old.periodic.notes e (holding self.old.book mem.old) self.old.transfers).book } }
+        ensures memory { mem.new ≡ (free_descriptors self.old.periodic.notes e (holding self.old.book mem.old) self.old.transfers).memory }
+        ensures stands { Stands (holding self.new.book mem.new) }
+    {
         for t in 0..self.transfers.len() {
             let transfer = self.transfers[t];
             if transfer.endpoint == e && !transfer.reported {

@@ -237,10 +237,10 @@ impl Driver {
     }
 
     /// The store of this number of those that the command makes.
-    fn link_row(&self, i: u16) -> Row
+    fn link_row(&self, i: usize) -> Row
         ensures { result ≡ unwrap_or (option_map store_row (slice_get self.now.periodic.stores i)) Row.Rest }
     {
-        match self.periodic.store(i as usize) {
+        match self.periodic.store(i) {
             Some(store) => Row::Store(store.block, store.at, store.value),
             None => Row::Rest,
         }
@@ -316,7 +316,7 @@ pub(crate) fn waits_at(transfer: &Transfer, e: usize) -> bool
 }
 
 /// The next event of a command that publishes a transfer.
-fn publish_row(block: u16, words: &[u32; 8], made: u16) -> Row
+fn publish_row(block: u16, words: &[u32; 8], made: usize) -> Row
     ensures { (stores : List LinkStore) (n : ℕ) → result ≡ unwrap_or (slice_get (events_of stores n (Command.Publish block words.now)) made) Row.Rest }
 {
     match made {

@@ -1,11 +1,13 @@
 ghost use Rattle.std.specs.Prelude.{◌≡◌, ◌≤◌, ◌<◌, ◌+◌, [], ◌∷◌, ◌++◌, drop, length, map, slice_get, nat_lt};
 ghost use Rattle.frame_chains.specs.declared.boundary.Boundary.TheVariants.{Unread};
-ghost use Rattle.periodic_rows.specs.Periodic.{read_again, read_once};
+ghost use Rattle.periodic_rows.specs.Periodic.{read_again};
+ghost use Rattle.std.specs.VecDeque.{deque_capacity};
 ghost use Rattle.periodic_part.specs.Part.{with_periodic, with_removals};
 
 use crate::part::PeriodicPart;
 use frame_chains::Boundary;
 use periodic_rows::{Removal, Removed};
+use std::collections::VecDeque;
 
 impl PeriodicPart {
     /// The first harvested descriptor that is still linked, by its transfer.
@@ -69,21 +71,11 @@ impl PeriodicPart {
     }
 
     /// FRINDEX was read.
+    #[tactic(auto, using(std::proofs::lemmas::Grind::common_steps, crate::proofs::Readings::more))]
     pub fn read(&mut self, frindex: u16)
         ensures { self.new ≡ with_removals self.old (read_again frindex self.old.periodic.removals) }
     {
-        for i in 0..self.removals.len() {
-            self.read_for(i, frindex);
-        }
-    }
-
-    /// FRINDEX was read, for the removal of this number.
-    fn read_for(&mut self, i: usize, frindex: u16)
-        requires { i < length self.old.periodic.removals }
-    {
-        if let Some(removal) = self.removals.get_mut(i) {
-            removal.boundary.read(frindex);
-        }
+        read_each(&mut self.removals, frindex);
     }
 
     /// Whether USBSTS is read next, where both registers are waited for.
@@ -98,5 +90,18 @@ impl PeriodicPart {
         ensures { self.new ≡ with_periodic self.old (record self.old.periodic { status_next = next }) }
     {
         self.status_next = next;
+    }
+}
+
+/// FRINDEX was read, for each of these.
+#[tactic(auto, using(std::proofs::lemmas::Grind::common_steps, crate::proofs::Readings::more))]
+fn read_each(removals: &mut VecDeque<Removal>, frindex: u16)
+    ensures items { removals.new.items ≡ read_again frindex removals.old.items }
+    ensures capacity { deque_capacity removals.new ≡ deque_capacity removals.old }
+{
+    for i in 0..removals.len() {
+        if let Some(removal) = removals.get_mut(i) {
+            removal.boundary.read(frindex);
+        }
     }
 }

@@ -6,4 +6,4 @@ use Rattle.ehci_driver.proofs.driver.Driver.accept_cancel.Goals as goal
 pub invariant_of-self : goal.invariant_of-self
 invariant_of-self c =
     let here = ap (λ (d : DriverContent). slice_get d.endpoints c.args.e) c.self.view_is ∙ c.requires.endpoint in
-    cancelled_rooms c.args.e c.args.endpoint.now _ c.self.invariant (omega (arith, ap (λ (d : DriverContent). d.room.reports) c.self.view_is, c.requires.room)) here refl
+    cancelled_rooms c.args.e c.args.endpoint.now _ c.self.invariant (omega (arith, ap (λ (d : DriverContent). d.room.reports) c.self.view_is, c.requires.room)) here refl refl

@@ -37,6 +37,6 @@ invariant_of-self c =
     told_after c.args.t c.args.transfer.now c.args.e c.args.endpoint.now (record c.args.endpoint.now { ended = Some c.args.cause })
     (vec_len c.report.new.reports) (vec_capacity c.report.new.reports) (vec_len c.report.new.store) (vec_capacity c.report.new.store)
     (deque_len c.self.inside.harvested) (deque_capacity c.self.inside.harvested) (deque_len c.self.inside.mends) (deque_capacity c.self.inside.mends)
-    c.self.invariant there c.requires.open here refl refl refl
+    c.self.invariant there c.requires.open here refl refl refl refl
     c.report.ensures.len c.report.ensures.capacity c.report.ensures.store_len c.report.ensures.store_capacity
     (omega arith) refl (omega arith) refl

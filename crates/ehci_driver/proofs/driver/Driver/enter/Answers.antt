@@ -10,4 +10,4 @@ invariant_of-self c =
     (omega (arith, ap (λ (d : DriverContent). d.room.transfers) c.self.view_is, c.requires.transfers))
     (omega (arith, ap (λ (d : DriverContent). d.room.reports) c.self.view_is, c.requires.reports))
     (omega (arith, ap (λ (d : DriverContent). d.room.report_bytes) c.self.view_is, c.requires.bytes))
-    c.requires.open c.push_reserved.ensures.items c.push_reserved.ensures.capacity here refl refl refl c.less_room-self-inside.ensures
+    c.requires.open c.push_reserved.ensures.items c.push_reserved.ensures.capacity here refl refl refl refl c.less_room-self-inside.ensures

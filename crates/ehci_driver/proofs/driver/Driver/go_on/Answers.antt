@@ -48,6 +48,6 @@ invariant_of-self c =
     told_after c.args.t c.args.transfer.now c.args.e c.args.endpoint.now (record c.args.endpoint.now { next = c.next_waiting-next.result })
     (vec_len c.report.new.reports) (vec_capacity c.report.new.reports) (vec_len c.report.new.store) (vec_capacity c.report.new.store)
     (deque_len c.push_back_reserved.new.self) (deque_capacity c.push_back_reserved.new.self) (deque_len c.self.inside.mends) (deque_capacity c.self.inside.mends)
-    c.self.invariant there c.requires.open here refl refl refl
+    c.self.invariant there c.requires.open here refl refl refl refl
     c.report.ensures.len c.report.ensures.capacity c.report.ensures.store_len c.report.ensures.store_capacity
     (omega (arith, c.push_back_reserved.ensures.len)) c.push_back_reserved.ensures.capacity (omega arith) refl

@@ -48,7 +48,7 @@ invariant_of-self c =
     told_after c.args.t c.args.transfer.now c.args.e c.args.endpoint.now (record c.args.endpoint.now { next = None })
     (vec_len c.report.new.reports) (vec_capacity c.report.new.reports) (vec_len c.report.new.store) (vec_capacity c.report.new.store)
     (deque_len c.push_back_reserved.new.self) (deque_capacity c.push_back_reserved.new.self) (deque_len c.owe_stores.new.mends) (deque_capacity c.owe_stores.new.mends)
-    c.self.invariant there c.requires.open here refl refl refl
+    c.self.invariant there c.requires.open here refl refl refl refl
     c.report.ensures.len c.report.ensures.capacity c.report.ensures.store_len c.report.ensures.store_capacity
     (omega (arith, c.push_back_reserved.ensures.len)) c.push_back_reserved.ensures.capacity (omega (arith, c.owe_stores.ensures.len)) c.owe_stores.ensures.capacity
 
