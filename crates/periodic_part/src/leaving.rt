@@ -1,6 +1,6 @@
-ghost use Rattle.std.specs.Prelude.{◌≡◌, ◌≤◌, ◌<◌, ◌+◌, [], ◌∷◌, ◌++◌, drop, length, map, slice_get, nat_lt};
+ghost use Rattle.std.specs.Prelude.{◌≡◌, ◌≤◌, ◌<◌, ◌+◌, [], ◌∷◌, ◌++◌, drop, length, map, slice_get, slice_set, Some, nat_lt};
 ghost use Rattle.frame_chains.specs.declared.boundary.Boundary.TheVariants.{Unread};
-ghost use Rattle.periodic_rows.specs.Periodic.{read_again};
+ghost use Rattle.periodic_rows.specs.Periodic.{read_again, read_once};
 ghost use Rattle.std.specs.VecDeque.{deque_capacity};
 ghost use Rattle.periodic_part.specs.Part.{with_periodic, with_removals};
 
@@ -71,7 +71,6 @@ impl PeriodicPart {
     }
 
     /// FRINDEX was read.
-    #[tactic(auto, using(std::proofs::lemmas::Grind::common_steps, crate::proofs::Readings::more))]
     pub fn read(&mut self, frindex: u16)
         ensures { self.new ≡ with_removals self.old (read_again frindex self.old.periodic.removals) }
     {
@@ -94,14 +93,21 @@ impl PeriodicPart {
 }
 
 /// FRINDEX was read, for each of these.
-#[tactic(auto, using(std::proofs::lemmas::Grind::common_steps, crate::proofs::Readings::more))]
 fn read_each(removals: &mut VecDeque<Removal>, frindex: u16)
     ensures items { removals.new.items ≡ read_again frindex removals.old.items }
     ensures capacity { deque_capacity removals.new ≡ deque_capacity removals.old }
 {
     for i in 0..removals.len() {
-        if let Some(removal) = removals.get_mut(i) {
-            removal.boundary.read(frindex);
-        }
+        read_at(removals, i, frindex);
+    }
+}
+
+/// FRINDEX was read, for the one of this number.
+fn read_at(removals: &mut VecDeque<Removal>, i: usize, frindex: u16)
+    ensures items { (r : Removal) → slice_get removals.old.items i ≡ Some r → removals.new.items ≡ slice_set removals.old.items i (read_once frindex r) }
+    ensures capacity { deque_capacity removals.new ≡ deque_capacity removals.old }
+{
+    if let Some(removal) = removals.get_mut(i) {
+        removal.boundary.read(frindex);
     }
 }
