@@ -26,11 +26,11 @@ use Rattle.async_walk.proofs.Steps.{reads_here}
 
 -- ---- writes that were all made count no refusal
 
-both_true : (b c : Bool) → (b && c) ≡ true → (b ≡ true) × (c ≡ true)
+pub both_true : (b c : Bool) → (b && c) ≡ true → (b ≡ true) × (c ≡ true)
 both_true true c is = (refl, is)
 both_true false c is = absurd cc
 
-first_of : (b : Bool) (x y : Mem) → b ≡ true → (if b then x else y) ≡ x
+pub first_of : (b : Bool) (x y : Mem) → b ≡ true → (if b then x else y) ≡ x
 first_of true x y is = refl
 first_of false x y is = absurd cc
 
@@ -58,11 +58,11 @@ token_counts : (q : Qh) (m : Mem) → (token_back q m).all ≡ true → (token_b
 token_counts q m all = token_at q.token.active (reaches m q.current) m (with_word m (q.current + 8) (token_word q.token)) (refused m) refl all
 
 -- writes one after the other
-then_counts : (first : Mem) (b : Bool) (next : Mem → Writing) (foreign : ℕ) → (b ≡ true → first.foreign ≡ foreign) → ((m : Mem) → (next m).all ≡ true → (next m).memory.foreign ≡ m.foreign) → (then_write (record { memory = first; all = b }) next).all ≡ true → (then_write (record { memory = first; all = b }) next).memory.foreign ≡ foreign
+pub then_counts : (first : Mem) (b : Bool) (next : Mem → Writing) (foreign : ℕ) → (b ≡ true → first.foreign ≡ foreign) → ((m : Mem) → (next m).all ≡ true → (next m).memory.foreign ≡ m.foreign) → (then_write (record { memory = first; all = b }) next).all ≡ true → (then_write (record { memory = first; all = b }) next).memory.foreign ≡ foreign
 then_counts first true next foreign before after all = after first all ∙ before refl
 then_counts first false next foreign before after all = absurd cc
 
-written_counts : (a : ℕ) (q : Qh) (outcome : Outcome) (got : List ℕ) (m : Mem) → (written_back a q outcome got m).all ≡ true → (written_back a q outcome got m).memory.foreign ≡ m.foreign
+pub written_counts : (a : ℕ) (q : Qh) (outcome : Outcome) (got : List ℕ) (m : Mem) → (written_back a q outcome got m).all ≡ true → (written_back a q outcome got m).memory.foreign ≡ m.foreign
 unfolding written_back
 written_counts a q outcome got m all =
     let new : Qh = moved q (moved_by outcome) in
@@ -76,15 +76,15 @@ written_counts a q outcome got m all =
     (λ w reach. token_counts new w reach) all
 
 -- by whether the bytes have places, and whether the controller may touch these
-abbrev reading_memory : Bool → Bool → Mem → Mem
+abbrev pub reading_memory : Bool → Bool → Mem → Mem
 reading_memory inside reach m = if inside then (if reach then m else refused m) else m
 
-reading_counts : (inside reach : Bool) (m : Mem) → (inside && reach) ≡ true → (reading_memory inside reach m).foreign ≡ m.foreign
+pub reading_counts : (inside reach : Bool) (m : Mem) → (inside && reach) ≡ true → (reading_memory inside reach m).foreign ≡ m.foreign
 reading_counts true true m all = refl
 reading_counts true false m all = absurd cc
 reading_counts false reach m all = absurd cc
 
-sending_counts : (t : Transaction) (q : Qh) (m : Mem) → (sending t q m).all ≡ true → (sending t q m).memory.foreign ≡ m.foreign
+pub sending_counts : (t : Transaction) (q : Qh) (m : Mem) → (sending t q m).all ≡ true → (sending t q m).memory.foreign ≡ m.foreign
 sending_counts t q m all =
     reading_counts (nat_le (place_of q + t.bytes) (size_of (pages_of q))) (all_reached m (pages_of q) (place_of q) t.bytes) m all
 

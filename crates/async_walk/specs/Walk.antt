@@ -3,8 +3,7 @@ use Rattle.std.specs.Prelude.{ℕ, Bool, true, false, Option, None, Some, IfSome
 use Rattle.usb_base.specs.declared.packets.Reply.{Reply}
 use Rattle.usb_base.specs.declared.packets.Reply.TheVariants.{Silent}
 use Rattle.link_words.specs.declared.kinds.Link.{Link}
-use Rattle.link_words.specs.declared.kinds.Link.TheVariants.{End, Itd, Qh, Sitd, Fstn}
-use Rattle.link_words.specs.Links.{IsAligned}
+use Rattle.link_words.specs.Links.{IsAligned, address_of}
 use Rattle.walk_copy.specs.declared.held.Held.{Held}
 use Rattle.walk_copy.specs.Visits.{IsHeld}
 use Rattle.async_walk.specs.declared.state.Cursor.{Cursor}
@@ -31,14 +30,6 @@ begun w left = record w { held = None; left = left; first = true }
 -- the part is over, whatever is in hand
 abbrev pub stopped : Walk → Walk
 stopped w = record w { held = None }
-
--- the address that a link names; the end of a list names none, which is told as 0
-abbrev pub address_of : Link → ℕ
-address_of End = 0
-address_of (Itd a) = a
-address_of (Qh a) = a
-address_of (Sitd a) = a
-address_of (Fstn a) = a
 
 -- the address of the cursor; that of a walk at the start of the ring is told as 0
 abbrev pub cursor_address : Cursor → ℕ

@@ -62,7 +62,7 @@ impl Wire for ListedWire {
         true
     }
 
-    fn transact(&mut self, ask: &Ask, out: &[u8]) -> Reply {
+    fn transact(&mut self, ask: &Ask, out: &[u8], heard: &mut Reply) {
         let answer = self
             .answers
             .get(self.asked.len())
@@ -79,6 +79,6 @@ impl Wire for ListedWire {
                 answer,
             })
             .ok();
-        reply(answer, ask.toggle)
+        *heard = reply(answer, ask.toggle);
     }
 }

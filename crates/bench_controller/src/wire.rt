@@ -2,8 +2,7 @@ ghost use Rattle.std.specs.Prelude.{◌≡◌, ◌+◌, ◌-◌, ◌^◌, take, 
 ghost use Rattle.usb_base.specs.declared.packets.Reply.{Reply as Answer};
 ghost use Rattle.bench_controller.specs.Answers.{answer, moved_by};
 
-use arrayvec::ArrayVec;
-use usb_base::{Ask, Packet, Pid, Reply, Wire};
+use usb_base::{Ask, Pid, Reply, Wire};
 
 /// A bus on which each IN is answered with the same number of bytes, or with as many of them as the host can take, and with the PID that
 /// it expects; all other tokens are acknowledged.
@@ -46,18 +45,14 @@ impl Wire for SteadyWire {
 
     // Not inlined, as the wire of a whole world isn't.
     #[inline(never)]
-    fn transact(&mut self, ask: &Ask, out: &[u8]) -> Reply {
+    fn transact(&mut self, ask: &Ask, out: &[u8], reply: &mut Reply) {
         let Pid::In = ask.pid else {
             self.moved = self.moved.saturating_add(out.len() as u64);
-            return Reply::Hand(Pid::Ack);
+            reply.set_hand(Pid::Ack);
+            return;
         };
         let bytes = u16::min(512, u16::min(self.size, ask.limit));
         self.moved = self.moved.saturating_add(bytes as u64);
-        let mut items = ArrayVec::new();
-        // They fit: a packet has room for 1,024.
-        items
-            .try_extend_from_slice(&self.payload[..bytes as usize])
-            .ok();
-        Reply::Bytes(ask.toggle, Packet::of(items))
+        reply.set_bytes(ask.toggle, &self.payload[..bytes as usize]);
     }
 }

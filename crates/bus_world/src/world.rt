@@ -145,7 +145,7 @@ impl World {
         &self.controller
     }
 
-    /// The endpoints, in the order of the devices and of the lines of each.
+    /// The endpoints, in the order of their lines.
     pub fn seats(&self) -> &[Seat]
         ensures { result.now ≡ self.now.fixed.seats }
     {

@@ -12,3 +12,4 @@ pub mod Search
 pub mod Descriptors
 pub mod Readings
 pub mod Sequence
+pub mod OneLink

@@ -56,6 +56,11 @@ pub fn half_unlinked_chains()
     ensures descriptor { (xs ys : List Descriptor) → (d : Descriptor) → (qs : List QueueHead) → (links : Predecessor → Option Member) → (fs : List ℕ) → (n f : ℕ) → has_name (of_lists (xs ++ ys) qs) d.id ≡ false → IsChain links (Element f) (chain (of_lists (xs ++ d ∷ ys) qs) f) → IsChain (stored links (take n (predecessors (of_lists (xs ++ d ∷ ys) qs) (Once d) fs)) (links (After (Once d)))) (Element f) (half_unlinked (of_lists (xs ++ d ∷ ys) qs) (of_lists (xs ++ ys) qs) (Once d) (take n (predecessors (of_lists (xs ++ d ∷ ys) qs) (Once d) fs)) f) }
 {}
 
+/// A queue head has one successor in all its frames: so its own link serves them all.
+pub fn one_link_serves_all_frames()
+    ensures { (ds : List Descriptor) → (xs ys : List QueueHead) → (q : QueueHead) → (f g : ℕ) → has_name (of_lists ds (xs ++ ys)) q.id ≡ false → is_period q.period ≡ true → is_active f q ≡ true → is_active g q ≡ true → successor (of_lists ds (xs ++ q ∷ ys)) (Each q) f ≡ successor (of_lists ds (xs ++ q ∷ ys)) (Each q) g }
+{}
+
 /// The words that are stored come in the order of their first frames, each once.
 pub fn stores_come_in_order()
     ensures { (s : Schedule) → (m : Member) → (bits : ℕ) → AreInOrder (map first_frame (predecessors s m (frames bits))) }

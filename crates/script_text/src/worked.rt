@@ -82,6 +82,7 @@ pub fn one_device()
           room = 0;
         } ∷ [];
       } ∷ [];
+      endpoints = record { addr = 3; num = 1; way = Way.In } ∷ [];
       fates = [];
       holds = [];
       lines = (7, Line.Command (Cmd.OpenEp (record { name = record { addr = 3; num = 1; way = Way.In }; speed = Speed.High; kind = EpKind.Bulk; max = 512; period = 0; multi = 1; hub = None; port = 0 })))

@@ -43,6 +43,8 @@ pub struct Script {
     pub hubs: ListOf<HubText>,
     /// The devices, in the order of their lines.
     pub devices: ListOf<DeviceText>,
+    /// The endpoints of all devices, in the order of their lines.
+    pub endpoints: ListOf<EpName>,
     /// The fates, in the order of their lines.
     pub fates: ListOf<FateText>,
     /// The spans of microframes in which the bus may not be used: the first and the last of each, counted from 1.

@@ -68,6 +68,22 @@ change_at p f xs i x y e h k =
     let l : position_or_len p xs < length xs = omega (arith, s.0, s.1) in
     ap (λ n. set xs n y) (sym s.0) ∙ change_place p f xs x y l (h ∙ ap (λ n. get_or xs n x) (sym s.0)) k
 
+passes_place : {X : Type 0} (p : X → Bool) (xs : List X) (x : X) → position_or_len p xs < length xs → x ≡ get_or xs (position_or_len p xs) x → p x ≡ true
+passes_place p [] x h e = absurd (omega arith)
+passes_place p (z ∷ zs) x h e = elim (cases_Bool (p z)) [
+  | inl t ↦ ap p (e ∙ ap (λ n. get_or (z ∷ zs) n x) (here p z zs t)) ∙ t
+  | inr t ↦ let n1 = later p z zs t in
+      let l : position_or_len p zs < length zs = omega (arith, n1, h) in
+      passes_place p zs x l (e ∙ ap (λ n. get_or (z ∷ zs) n x) n1)
+]
+
+-- the first that passes does
+pub passes_at : {X : Type 0} (p : X → Bool) (xs : List X) (i : ℕ) (x : X) → position p xs ≡ Some i → x ≡ get_or xs i x → p x ≡ true
+passes_at p xs i x e h =
+    let s = place_is p xs i e in
+    let l : position_or_len p xs < length xs = omega (arith, s.0, s.1) in
+    passes_place p xs x l (h ∙ ap (λ n. get_or xs n x) (sym s.0))
+
 nowhere : {X : Type 0} (p : X → Bool) (f : X → X) (xs : List X) → length xs ≤ position_or_len p xs → change p f xs ≡ xs
 nowhere p f [] h = refl
 nowhere p f (z ∷ zs) h = elim (cases_Bool (p z)) [

@@ -9,6 +9,7 @@ use Rattle.usb_base.specs.declared.packets.Speed.{Speed}
 use Rattle.usb_base.specs.declared.packets.Speed.TheVariants as speed
 use Rattle.usb_base.specs.declared.packets.EpKind.TheVariants as kind
 use Rattle.usb_base.specs.declared.endpoints.EpDesc.{EpDesc}
+use Rattle.usb_base.specs.declared.endpoints.EpName.{EpName}
 use Rattle.script_types.specs.declared.devices.EpText.{EpText}
 use Rattle.script_types.specs.declared.devices.DeviceText.{DeviceText}
 use Rattle.script_types.specs.declared.devices.HubText.{HubText}
@@ -33,10 +34,10 @@ pub record Draft : Type 0 where
   pub acting : Bool  -- an action came
   pub hubs : List HubText
   pub devices : List Placed
+  pub endpoints : List EpName  -- the endpoints of all devices in the order of their lines
   pub fates : List FateText
   pub holds : List (ℕ × ℕ)
   pub lines : List (ℕ × Line)
-  pub endpoints : ℕ  -- how many endpoints are declared
   pub commands : ℕ  -- how many commands there are
   pub steps : ℕ  -- how many steps of the driver and of the controller are ordered
   pub microframes : ℕ  -- how many microframes are ordered
@@ -45,7 +46,7 @@ pub record Draft : Type 0 where
 
 -- nothing is read yet
 abbrev pub empty : Draft
-empty = record { words = None; declaring = false; acting = false; hubs = []; devices = []; fates = []; holds = []; lines = []; endpoints = 0; commands = 0; steps = 0; microframes = 0; scripted = 0; asked = 0 }
+empty = record { words = None; declaring = false; acting = false; hubs = []; devices = []; endpoints = []; fates = []; holds = []; lines = []; commands = 0; steps = 0; microframes = 0; scripted = 0; asked = 0 }
 
 -- the number of a way, which tells it from the others
 abbrev pub way_number : Way → ℕ
@@ -116,4 +117,4 @@ abbrev pub device_text : Placed → DeviceText
 device_text d = record { addr = d.addr; speed = d.speed; eps = d.eps }
 
 abbrev pub script_of : Draft → Script
-script_of w = record { words = unwrap_or w.words 65536; hubs = w.hubs; devices = map device_text w.devices; fates = w.fates; holds = w.holds; lines = w.lines }
+script_of w = record { words = unwrap_or w.words 65536; hubs = w.hubs; devices = map device_text w.devices; endpoints = w.endpoints; fates = w.fates; holds = w.holds; lines = w.lines }

@@ -110,7 +110,7 @@ has_room w (says.Mem n) = true
 has_room w (says.Hub addr ports) = nat_lt (length w.hubs) 8
 has_room w (says.DevHigh addr) = nat_lt (length w.devices) 127
 has_room w (says.DevBelow b) = nat_lt (length w.devices) 127
-has_room w (says.Ep l) = nat_lt w.endpoints 256
+has_room w (says.Ep l) = nat_lt (length w.endpoints) 256
 has_room w (says.Reply name a) = may_script w (answer_len a)
 has_room w (says.Fate f) = nat_lt (length w.fates) 4096
 has_room w (says.Hold first last) = nat_lt (length w.holds) 256
@@ -233,7 +233,7 @@ abbrev pub after_below : Draft → Below → Draft
 after_below w b = if within 1 127 b.addr && nat_le b.hub 127 && is_known w (says.DevBelow b) then record w { declaring = true; hubs = change (λ h. h.addr == b.hub) (attach b.port b.speed) w.hubs; devices = w.devices ++ device b.addr b.speed (Some b.hub) b.port ∷ [] } else w
 
 abbrev pub after_ep : Draft → EpLine → Draft
-after_ep w l = if is_endpoint l && is_some (device_of w.devices l.name.addr) then record w { declaring = true; endpoints = counted w.endpoints 1; devices = change (λ d. d.addr == l.name.addr) (with_ep l) w.devices } else w
+after_ep w l = if is_endpoint l && is_some (device_of w.devices l.name.addr) then record w { declaring = true; devices = change (λ d. d.addr == l.name.addr) (with_ep l) w.devices; endpoints = w.endpoints ++ name_of l.name ∷ [] } else w
 
 abbrev pub after_reply : Draft → Name → Answer → Draft
 after_reply w name a = record w { declaring = true; scripted = counted w.scripted (answer_len a); devices = at_ep name (answered a) w.devices }

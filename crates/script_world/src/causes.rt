@@ -234,7 +234,7 @@ impl Draft {
             Statement::Hub(_, _) => self.hubs.len() < 8,
             Statement::DevHigh(_) => self.devices.len() < 127,
             Statement::DevBelow(_) => self.devices.len() < 127,
-            Statement::Ep(_) => self.endpoints < 256,
+            Statement::Ep(_) => self.endpoints.len() < 256,
             Statement::Reply(_, answer) => self.may_script(answer_len(answer)),
             Statement::Fate(_) => self.fates.len() < 4_096,
             Statement::Hold(_, _) => self.holds.len() < 256,

@@ -17,7 +17,7 @@ use script_forms::{
 };
 use script_types::{Event, FateText, HubText, Line};
 use std::alloc::Global;
-use usb_base::{Cmd, DevAddr, ListOf, Memory, Speed, Way};
+use usb_base::{Cmd, DevAddr, EpName, EpNum, ListOf, Memory, Speed, Way};
 
 /// The bytes of a line.
 fn content_bytes(alloc: Global, content: Content) -> Result<ListOf<u8>, Memory>
@@ -183,6 +183,23 @@ impl Draft {
         self.place_below(alloc, place, below, addr, hub)
     }
 
+    /// The name of an endpoint whose device stands at a place.
+    #[tactic(auto, using(crate::proofs::Places::passes_at))]
+    fn name_at(&self, place: usize, name: &Name) -> Option<EpName>
+        requires num { name.now.num ≤ 15 }
+        requires found { position (λ d. d.addr == name.now.addr) self.now.devices ≡ Some place }
+        ensures { result ≡ Some (name_of name.now) }
+    {
+        let Some(num) = EpNum::new(name.num as u8) else {
+            return None;
+        };
+        Some(EpName {
+            addr: self.devices[place].addr(),
+            num,
+            way: name.way,
+        })
+    }
+
     /// An endpoint.
     #[tactic(auto, using(crate::proofs::Places::find_at, crate::proofs::Places::find_nowhere, crate::proofs::Places::change_at))]
     fn add_ep(&mut self, alloc: Global, line: &EpLine) -> Result<(), Memory>
@@ -194,10 +211,13 @@ impl Draft {
         let Some(place) = self.device_place(line.name.addr) else {
             return Ok(());
         };
+        let Some(name) = self.name_at(place, &line.name) else {
+            return Ok(());
+        };
         let device = &mut self.devices[place];
         device.add(alloc, line)?;
+        push(&mut self.endpoints, name)?;
         self.declaring = true;
-        self.endpoints = counted(self.endpoints, 1);
         Ok(())
     }
 

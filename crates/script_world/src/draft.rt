@@ -7,7 +7,7 @@ use crate::devices::DeviceDraft;
 use script_types::{DeviceText, FateText, HubText, Line, Script};
 use std::alloc::Global;
 use std::marker::Model;
-use usb_base::{ListOf, Memory};
+use usb_base::{EpName, ListOf, Memory};
 
 /// A script as far as it is read: what is declared, the actions so far, and what counts toward the limits.
 #[derive(Drop)]
@@ -17,10 +17,10 @@ pub struct Draft {
     pub(crate) acting: bool,
     pub(crate) hubs: Vec<HubText>,
     pub(crate) devices: Vec<DeviceDraft>,
+    pub(crate) endpoints: Vec<EpName>,
     pub(crate) fates: Vec<FateText>,
     pub(crate) holds: Vec<(u32, u32)>,
     pub(crate) lines: Vec<(u32, Line)>,
-    pub(crate) endpoints: u32,
     pub(crate) commands: u32,
     pub(crate) steps: u32,
     pub(crate) microframes: u32,
@@ -33,7 +33,7 @@ impl Model for Draft {
 
     ghost Value = { Drafted };
 
-    ghost view = { λ w. record { words = w.words; declaring = w.declaring; acting = w.acting; hubs = w.hubs.items; devices = w.devices.items; fates = w.fates.items; holds = w.holds.items; lines = w.lines.items; endpoints = w.endpoints; commands = w.commands; steps = w.steps; microframes = w.microframes; scripted = w.scripted; asked = w.asked } };
+    ghost view = { λ w. record { words = w.words; declaring = w.declaring; acting = w.acting; hubs = w.hubs.items; devices = w.devices.items; endpoints = w.endpoints.items; fates = w.fates.items; holds = w.holds.items; lines = w.lines.items; commands = w.commands; steps = w.steps; microframes = w.microframes; scripted = w.scripted; asked = w.asked } };
 }
 
 impl Draft {
@@ -47,10 +47,10 @@ impl Draft {
             acting: false,
             hubs: Vec::new(alloc),
             devices: Vec::new(alloc),
+            endpoints: Vec::new(alloc),
             fates: Vec::new(alloc),
             holds: Vec::new(alloc),
             lines: Vec::new(alloc),
-            endpoints: 0,
             commands: 0,
             steps: 0,
             microframes: 0,
@@ -72,6 +72,7 @@ impl Draft {
             words: self.words.unwrap_or(65_536),
             hubs: ListOf::of(self.hubs),
             devices: ListOf::of(devices),
+            endpoints: ListOf::of(self.endpoints),
             fates: ListOf::of(self.fates),
             holds: ListOf::of(self.holds),
             lines: ListOf::of(self.lines),

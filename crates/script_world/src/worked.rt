@@ -37,3 +37,9 @@ pub fn causes()
     ensures later { cause_of empty (Statement.Hub 9 4) ≡ Some TextWhy.Later }
     ensures fine { cause_of empty (Statement.DevHigh 3) ≡ None }
 {}
+
+/// Endpoints of two devices keep the order of their lines.
+pub fn order()
+    ensures { (after (after (after (after (after empty 2 (Statement.DevHigh 3)) 3 (Statement.DevHigh 4)) 4 (Statement.Ep (record { name = record { addr = 4; num = 2; way = Way.Out }; kind = EpKind.Bulk; max = 512; period = 0; multi = 1 }))) 5 (Statement.Ep (record { name = record { addr = 3; num = 1; way = Way.In }; kind = EpKind.Bulk; max = 512; period = 0; multi = 1 }))) 6 (Statement.Ep (record { name = record { addr = 4; num = 1; way = Way.In }; kind = EpKind.Bulk; max = 512; period = 0; multi = 1 }))).endpoints
+        ≡ record { addr = 4; num = 2; way = Way.Out } ∷ record { addr = 3; num = 1; way = Way.In } ∷ record { addr = 4; num = 1; way = Way.In } ∷ [] }
+{}

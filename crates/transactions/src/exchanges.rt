@@ -40,7 +40,7 @@ pub fn exchange<W: Wire>(
 {
     let bytes = moving(split, pipe, host, out);
     let ask = ask(split, pipe, host);
-    *reply = wire.transact(&ask, sent(&ask.split, ask.pid, out));
+    wire.transact(&ask, sent(&ask.split, ask.pid, out), reply);
     host.settle(&ask, bytes, last, reply)
 }
 

@@ -7,7 +7,7 @@ ghost use Rattle.transactions.specs.Prices.{price_of};
 use crate::pipe::{IsoResult, Pipe, Result3};
 use crate::pricing::{price, token};
 use toggle_error::{HostSide, Outcome};
-use usb_base::{Ask, Packet, Pid, Ps, Reply, Split, Wire};
+use usb_base::{Ask, Packet, Pid, Ps, Reply, Split, Wire, reply_to};
 
 /// The ask of a transaction.
 pub(crate) fn ask(split: &Split, pipe: &Pipe, host: &HostSide) -> Ask
@@ -66,7 +66,7 @@ fn run<W: Wire>(
     ensures kept { (host.new.max ≡ host.old.max) × (host.new.left ≤ host.old.left) }
     ensures spent { result.spent ≡ spent }
 {
-    let reply = wire.transact(ask, out);
+    let reply = reply_to(wire, ask, out);
     let outcome = host.settle(ask, bytes, last, &reply);
     let got = received(ask.pid, outcome, reply);
     Result3 {
@@ -192,6 +192,6 @@ pub fn run_iso<W: Wire>(
         toggle,
         ..ask(split, pipe, host)
     };
-    let reply = wire.transact(&ask, sent(split, ask.pid, out));
+    let reply = reply_to(wire, &ask, sent(split, ask.pid, out));
     IsoResult { reply, spent }
 }

@@ -26,11 +26,11 @@ impl Wire for CountingWire {
         true
     }
 
-    fn transact(&mut self, ask: &Ask, out: &[u8]) -> Reply {
+    fn transact(&mut self, ask: &Ask, out: &[u8], reply: &mut Reply) {
         self.asked = self.asked.saturating_add(1);
         self.sent = out.len();
         self.pid = ask.pid;
-        Reply::Silent
+        *reply = Reply::Silent;
     }
 }
 
@@ -49,11 +49,11 @@ impl Wire for ScriptedWire {
         true
     }
 
-    fn transact(&mut self, _ask: &Ask, _out: &[u8]) -> Reply {
-        match self.replies.pop() {
-            Some(reply) => reply,
+    fn transact(&mut self, _ask: &Ask, _out: &[u8], reply: &mut Reply) {
+        *reply = match self.replies.pop() {
+            Some(next) => next,
             None => Reply::Silent,
-        }
+        };
     }
 }
 

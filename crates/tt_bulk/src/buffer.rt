@@ -7,7 +7,7 @@ use crate::answers::{Answer, reply, result};
 use crate::rows::{Stage, Stand};
 use std::marker::Model;
 use tt_keys::{Key, classic_ask, work};
-use usb_base::{Ask, DevAddr, EpKind, EpNum, Packet, Pid, Reply, Speed, Split, Wire};
+use usb_base::{Ask, DevAddr, EpKind, EpNum, Packet, Pid, Reply, Speed, Split, Wire, reply_to};
 
 /// One of a translator's buffers. What it shows depends on its stage: a free buffer shows nothing of its fields.
 #[derive(Debug, Drop)]
@@ -137,7 +137,7 @@ impl Buffer {
         if room < due {
             return room;
         }
-        let reply = port.transact(&classic_ask(&self.ask), self.packet.as_slice());
+        let reply = reply_to(port, &classic_ask(&self.ask), self.packet.as_slice());
         self.hear(reply);
         room - due
     }

@@ -28,9 +28,9 @@ impl Wire for Below {
         true
     }
 
-    fn transact(&mut self, _ask: &Ask, _out: &[u8]) -> Reply {
+    fn transact(&mut self, _ask: &Ask, _out: &[u8], reply: &mut Reply) {
         self.asked = self.asked.saturating_add(1);
-        match self.gives {
+        *reply = match self.gives {
             Gives::Silence => Reply::Silent,
             Gives::Hand(pid) => Reply::Hand(pid),
             Gives::Data(a, b) => {
@@ -39,6 +39,6 @@ impl Wire for Below {
                 bytes.push(b);
                 Reply::Bytes(Pid::Data0, Packet::of(bytes))
             }
-        }
+        };
     }
 }

@@ -7,7 +7,7 @@ ghost use Rattle.tt_pipeline.specs.Answers.{answer_row, bytes_row, result_of, re
 use crate::out_data::OutData;
 use crate::rows::AnswerRow;
 use tt_keys::{Key, classic_ask, work};
-use usb_base::{Ask, EpKind, Packet, Part, Pid, Reply, Split, Wire};
+use usb_base::{Ask, EpKind, Packet, Part, Pid, Reply, Split, Wire, reply_to};
 
 /// What start-splits brought to an entry.
 #[derive(Clone, Copy, Debug, PartialEq, Eq)]
@@ -222,7 +222,7 @@ impl Entry {
         if !self.is_due() {
             return;
         }
-        let reply = port.transact(&classic_ask(&self.ask), self.sent());
+        let reply = reply_to(port, &classic_ask(&self.ask), self.sent());
         self.exchange = Exchange::Made(reply);
     }
 

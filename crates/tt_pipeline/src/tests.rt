@@ -25,13 +25,13 @@ impl Wire for Port {
         true
     }
 
-    fn transact(&mut self, ask: &Ask, out: &[u8]) -> Reply {
+    fn transact(&mut self, ask: &Ask, out: &[u8], reply: &mut Reply) {
         self.asked = self.asked.saturating_add(1);
         self.sent = out.len();
-        match ask.pid {
+        *reply = match ask.pid {
             Pid::In => Reply::Bytes(Pid::Data0, Packet::copy_of(self.bytes.as_slice())),
             _ => Reply::Silent,
-        }
+        };
     }
 }
 

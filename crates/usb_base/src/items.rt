@@ -70,6 +70,15 @@ impl Packet {
         Packet { bytes: copy }
     }
 
+    /// Becomes a copy of `bytes`, in the room that it has.
+    pub fn set(&mut self, bytes: &[u8])
+        requires { length bytes.now ≤ 1024 }
+        ensures { self.new ≡ bytes.now }
+    {
+        self.bytes.clear();
+        let _fits = self.bytes.try_extend_from_slice(bytes);
+    }
+
     /// The bytes in their order, at most 1,024.
     pub fn as_slice(&self) -> &[u8]
         ensures bytes { result.now ≡ self.now }

@@ -33,5 +33,5 @@ pub use outside::{Failed, Sink, Source};
 pub use packets::{Ask, Dir, EpKind, Fate, Part, Pid, Reply, Speed, Split, Way};
 pub use price::{cost, tt_bytes};
 pub use reports::{OfferError, Report, What};
-pub use wire::Wire;
+pub use wire::{Wire, reply_to};
 pub use writing::write_all;

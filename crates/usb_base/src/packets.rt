@@ -1,3 +1,5 @@
+ghost use Rattle.std.specs.Prelude.{◌≡◌, ◌≤◌, length};
+
 use crate::items::Packet;
 use crate::numbers::{DevAddr, EpNum};
 
@@ -113,4 +115,32 @@ pub enum Reply {
     Bytes(Pid, Packet),
     /// A handshake.
     Hand(Pid),
+}
+
+impl Reply {
+    ghost use Rattle.usb_base.specs.declared.packets.Reply.{Reply as Answer};
+
+    /// Becomes a data packet with this PID and a copy of `bytes`, in the room of the packet that stands there, if one does.
+    pub fn set_bytes(&mut self, pid: Pid, bytes: &[u8])
+        requires { length bytes.now ≤ 1024 }
+        ensures { self.new ≡ Answer.Bytes pid bytes.now }
+    {
+        match self {
+            Reply::Bytes(old, packet) => {
+                *old = pid;
+                packet.set(bytes);
+            }
+            _ => *self = Reply::Bytes(pid, Packet::copy_of(bytes)),
+        }
+    }
+
+    /// Becomes a handshake. Where one stands there, no room of a packet is cleared.
+    pub fn set_hand(&mut self, pid: Pid)
+        ensures { self.new ≡ Answer.Hand pid }
+    {
+        match self {
+            Reply::Hand(old) => *old = pid,
+            _ => *self = Reply::Hand(pid),
+        }
+    }
 }

@@ -21,8 +21,19 @@ pub trait Wire {
     fn begin(&mut self, frindex: u16) -> bool
         ensures { begins self.old frindex result self.new };
 
-    /// Makes one transaction that sends `out` (at most 1,024 bytes, empty for an IN) and answers what the asker heard.
-    fn transact(&mut self, ask: &Ask, out: &[u8]) -> Reply
+    /// Makes one transaction that sends `out` (at most 1,024 bytes, empty for an IN), and leaves what the asker heard in `reply`, so that
+    /// a packet's bytes are written where they are wanted. What stood in `reply` tells nothing.
+    fn transact(&mut self, ask: &Ask, out: &[u8], reply: &mut Reply)
         requires { length out.now ≤ 1024 }
-        ensures { transacts self.old ask.now out.now result self.new };
+        ensures { transacts self.old ask.now out.now reply.new self.new };
+}
+
+/// What the asker hears in one transaction, as a value of its own.
+pub fn reply_to<W: Wire>(wire: &mut W, ask: &Ask, out: &[u8]) -> Reply
+    requires { length out.now ≤ 1024 }
+    ensures { W.transacts wire.old ask.now out.now result wire.new }
+{
+    let mut reply = Reply::Silent;
+    wire.transact(ask, out, &mut reply);
+    reply
 }

@@ -23,11 +23,11 @@ use Rattle.usb_bus.specs.declared.seats.Seat.{Seat}
 use Rattle.usb_bus.specs.declared.who_heard.WhoHeard.{WhoHeard}
 use Rattle.usb_bus.specs.declared.who_heard.WhoHeard.TheVariants.{SentUnheard, NoAnswer, AnswerUnheard, AnswerHeard, AckUnheard, AckHeard}
 use Rattle.usb_bus.specs.Fates.{is_unheard, bad_numbers}
-use Rattle.usb_bus.specs.Seats.{token_kind, place_for, seats_from}
+use Rattle.usb_bus.specs.Seats.{token_kind, place_for, seats_of}
 use Rattle.usb_bus.specs.WhoHeard.{who_heard, packets_sent, packets_of, asker_hears, is_answer, later}
 
 pub record Fixed : Type 0 where
-  pub seats : List Seat  -- the endpoints, each with the place of its device
+  pub seats : List Seat  -- the endpoints in the order of their lines, each with the place of its device
   pub fates : List FateText  -- the packets that are lost or damaged
   pub holds : List (ℕ × ℕ)  -- the spans of microframes in which the bus may not be used, the first and the last of each
 
@@ -44,12 +44,12 @@ pub record Wired : Type 0 where
 -- ---- the opening: the end of microframe 0, with no packet sent
 
 abbrev pub fixed_of : Script → Fixed
-fixed_of s = record { seats = seats_from 0 s.devices; fates = s.fates; holds = s.holds }
+fixed_of s = record { seats = seats_of s; fates = s.fates; holds = s.holds }
 
 abbrev pub opening_bus : Script → Bus
 opening_bus s = record {
   devices = map opening s.devices;
-  high = replicate (length (seats_from 0 s.devices)) 0;
+  high = replicate (length (seats_of s)) 0;
   microframe = 0;
 }
 

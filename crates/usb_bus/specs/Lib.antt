@@ -1,4 +1,5 @@
-pub mod WhoHeard
-pub mod Fates
-pub mod Seats
 pub mod Bus
+pub mod Fates
+pub mod Samples
+pub mod Seats
+pub mod WhoHeard

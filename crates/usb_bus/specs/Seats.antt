@@ -1,5 +1,5 @@
 -- The endpoints on the bus, each with the place of its device, and which of them an ask is for.
-use Rattle.std.specs.Prelude.{ℕ, ◌+◌, ◌/◌, ◌%◌, ◌==◌, ◌&&◌, ◌≡◌, ◌<◌, length, slice_get, Some, Bool, true, false, List, [], ◌++◌, ◌∷◌, map, Option, position, if◌then◌else◌}
+use Rattle.std.specs.Prelude.{ℕ, ◌+◌, ◌/◌, ◌%◌, ◌==◌, ◌&&◌, ◌≡◌, ◌<◌, length, slice_get, Some, Bool, true, false, List, [], ◌++◌, ◌∷◌, map, Option, position, find, filter_map, if◌then◌else◌}
 use Rattle.usb_base.specs.declared.endpoints.EpName.{EpName}
 use Rattle.usb_base.specs.declared.packets.Pid.{Pid}
 use Rattle.usb_base.specs.declared.packets.Pid.TheVariants as Pids
@@ -7,7 +7,9 @@ use Rattle.usb_base.specs.declared.packets.Way.{Way}
 use Rattle.usb_base.specs.declared.packets.Way.TheVariants as Ways
 use Rattle.script_types.specs.declared.devices.DeviceText.{DeviceText}
 use Rattle.script_types.specs.declared.devices.EpText.{EpText}
+use Rattle.script_types.specs.declared.scripts.Script.{Script}
 use Rattle.usb_bus.specs.declared.seats.Seat.{Seat}
+use Rattle.usb_bus.specs.Fates.{is_same_name}
 use Rattle.usb_bus.specs.declared.seats.TokenKind.{TokenKind}
 use Rattle.usb_bus.specs.declared.seats.TokenKind.TheVariants.{In, Out, Setup, Other}
 
@@ -44,6 +46,14 @@ seat_at n e = record { name = e.desc.name; kind = e.desc.kind; device = n }
 abbrev pub seats_from : ℕ → List DeviceText → List Seat
 seats_from n [] = []
 seats_from n (d ∷ ds) = map (seat_at n) d.eps ++ seats_from (n + 1) ds
+
+-- the endpoint with this name
+abbrev pub seat_named : List Seat → EpName → Option Seat
+seat_named seats name = find (λ s. is_same_name s.name name) seats
+
+-- the endpoints in the order of their lines, whichever the device of each is
+abbrev pub seats_of : Script → List Seat
+seats_of s = filter_map (seat_named (seats_from 0 s.devices)) s.endpoints
 
 -- ---- places by number: a table of 64 places an address, four a number
 

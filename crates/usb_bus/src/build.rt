@@ -1,15 +1,16 @@
-ghost use Rattle.std.specs.Prelude.{◌≡◌, ◌++◌, IfOk, OnOk, IsTrue, map};
+ghost use Rattle.std.specs.Prelude.{◌≡◌, ◌++◌, IfOk, OnOk, IsTrue, map, filter_map};
 ghost use Rattle.std.specs.List.{list_all};
+ghost use Rattle.std.specs.Option.{option_copied};
 ghost use Rattle.endpoint_script.specs.Device.{opening, is_scripted};
 ghost use Rattle.usb_bus.specs.Bus.{AreNumbers};
-ghost use Rattle.usb_bus.specs.Seats.{seat_at, seats_from};
+ghost use Rattle.usb_bus.specs.Seats.{seat_at, seats_from, seat_named, seats_of};
 
-use crate::numbers::Numbers;
+use crate::numbers::{Numbers, are_same_names};
 use crate::seats::Seat;
 use endpoint_script::Device;
-use script_types::{DeviceText, EpText, FateText};
+use script_types::{DeviceText, EpText, FateText, Script};
 use std::alloc::Global;
-use usb_base::Memory;
+use usb_base::{EpName, Memory};
 
 fn seat_endpoints(seats: &mut Vec<Seat>, device: usize, eps: &[EpText]) -> Result<(), Memory>
     ensures { OnOk result (seats.new.items ≡ seats.old.items ++ map (seat_at device) eps.now) }
@@ -28,7 +29,7 @@ fn seat_endpoints(seats: &mut Vec<Seat>, device: usize, eps: &[EpText]) -> Resul
 }
 
 /// The endpoints of these devices, in the order of the devices and of the lines of each.
-pub fn seats_of(alloc: Global, devices: &[DeviceText]) -> Result<Vec<Seat>, Memory>
+fn seats_by_device(alloc: Global, devices: &[DeviceText]) -> Result<Vec<Seat>, Memory>
     ensures { IfOk result (λ v. v.items ≡ seats_from 0 devices.now) }
 {
     let mut seats = Vec::new(alloc);
@@ -36,6 +37,37 @@ pub fn seats_of(alloc: Global, devices: &[DeviceText]) -> Result<Vec<Seat>, Memo
         seat_endpoints(&mut seats, device, text.eps.as_slice())?;
     }
     Ok(seats)
+}
+
+/// The endpoint with this name.
+fn seat_named<'a>(seats: &'a [Seat], name: &EpName) -> Option<&'a Seat>
+    ensures { option_copied result ≡ seat_named seats.now name.now }
+{
+    seats.iter().find(|seat| are_same_names(&seat.name, name))
+}
+
+/// The endpoints with these names.
+fn seats_in_order(alloc: Global, seats: &[Seat], names: &[EpName]) -> Result<Vec<Seat>, Memory>
+    ensures { IfOk result (λ v. v.items ≡ filter_map (seat_named seats.now) names.now) }
+{
+    let mut named = Vec::new(alloc);
+    for name in names {
+        let Some(seat) = seat_named(seats, name) else {
+            continue;
+        };
+        if named.push(*seat).is_err() {
+            return Err(Memory);
+        }
+    }
+    Ok(named)
+}
+
+/// The endpoints of a script, in the order of their lines.
+pub fn seats_of(alloc: Global, script: &Script) -> Result<Vec<Seat>, Memory>
+    ensures { IfOk result (λ v. v.items ≡ seats_of script.now) }
+{
+    let seats = seats_by_device(alloc, script.devices.as_slice())?;
+    seats_in_order(alloc, seats.as_slice(), script.endpoints.as_slice())
 }
 
 /// The numbers of the packets of each endpoint that don't get through.

@@ -50,7 +50,7 @@ impl UsbBus {
         requires { IsTrue (list_all is_scripted script.now.devices) }
         ensures { IfOk result (λ b. b ≡ opening_wired script.now) }
     {
-        let seats = seats_of(alloc, script.devices.as_slice())?;
+        let seats = seats_of(alloc, script)?;
         let fates = Vec::from_slice(alloc, script.fates.as_slice())?;
         let holds = Vec::from_slice(alloc, script.holds.as_slice())?;
         let unheard = numbers_of(alloc, fates.as_slice(), seats.as_slice())?;
@@ -68,7 +68,7 @@ impl UsbBus {
         })
     }
 
-    /// The endpoints, in the order of the devices and of the lines of each.
+    /// The endpoints, in the order of their lines.
     pub fn seats(&self) -> &[Seat]
         ensures { result.now ≡ self.now.fixed.seats }
     {
@@ -201,10 +201,10 @@ impl Wire for UsbBus {
         !holds_back(self.holds.as_slice(), self.microframe)
     }
 
-    fn transact(&mut self, ask: &Ask, out: &[u8]) -> Reply {
-        match self.asked(ask) {
+    fn transact(&mut self, ask: &Ask, out: &[u8], reply: &mut Reply) {
+        *reply = match self.asked(ask) {
             Some(asked) => self.transact_at(&asked, ask, out),
             None => Reply::Silent,
-        }
+        };
     }
 }

@@ -31,7 +31,8 @@ fn are_same_ways(a: Way, b: Way) -> bool
     }
 }
 
-fn are_same_names(a: &EpName, b: &EpName) -> bool
+/// Whether two names are the same.
+pub fn are_same_names(a: &EpName, b: &EpName) -> bool
     ensures { result ≡ is_same_name a.now b.now }
 {
     a.addr.get() == b.addr.get() && a.num.get() == b.num.get() && are_same_ways(a.way, b.way)

@@ -1,10 +1,11 @@
 //! Worked values of the definitions, which the check computes.
-ghost use Rattle.std.specs.Prelude.{◌≡◌, ◌+◌, ◌*◌, true, false, [], ◌∷◌, Some, None};
+ghost use Rattle.std.specs.Prelude.{◌≡◌, ◌+◌, ◌*◌, true, false, [], ◌∷◌, map, Some, None};
 ghost use Rattle.usb_base.specs.declared.endpoints.EpName.{EpName};
 ghost use Rattle.usb_base.specs.declared.packets.Way.TheVariants as Ways;
 ghost use Rattle.usb_base.specs.declared.packets.Fate.TheVariants as Fates;
 ghost use Rattle.usb_bus.specs.Fates.{bad_numbers, is_unheard};
-ghost use Rattle.usb_bus.specs.Seats.{place_for, place_at};
+ghost use Rattle.usb_bus.specs.Seats.{place_for, place_at, seats_of};
+ghost use Rattle.usb_bus.specs.Samples.{device};
 ghost use Rattle.usb_bus.specs.WhoHeard.{who_heard, packets_of, packets_sent, asker_hears, later};
 ghost use Rattle.usb_bus.specs.Bus.{is_held, begins_anew};
 
@@ -63,4 +64,12 @@ pub fn places()
     ensures no_setup { place_for (record { name = record { addr = 3; num = 1; way = Ways.Out }; kind = EpKind.Bulk; device = 0 } ∷ []) 3 1 TokenKind.Setup ≡ None }
     ensures control { place_for (record { name = record { addr = 4; num = 0; way = Ways.Ctl }; kind = EpKind.Bulk; device = 2 } ∷ []) 4 0 TokenKind.Setup ≡ Some 0 }
     ensures numbered { place_at (record { name = record { addr = 4; num = 1; way = Ways.Out }; kind = EpKind.Bulk; device = 2 } ∷ []) (4 * 64 + 1 * 4 + 1) ≡ Some 0 }
+{}
+
+/// The endpoints of two devices stand in the order of their lines.
+pub fn order()
+    ensures { let first : EpName = record { addr = 4; num = 2; way = Ways.Out } in
+        let second : EpName = record { addr = 3; num = 1; way = Ways.In } in
+        let third : EpName = record { addr = 4; num = 1; way = Ways.In } in
+        map (λ s. s.device) (seats_of (record { words = 2048; hubs = []; devices = device 3 (second ∷ []) ∷ device 4 (first ∷ third ∷ []) ∷ []; endpoints = first ∷ second ∷ third ∷ []; fates = []; holds = []; lines = [] })) ≡ 1 ∷ 0 ∷ 1 ∷ [] }
 {}

@@ -1,5 +1,6 @@
 //! Scripts with their reports: NYET and PING, a lost status stage and a stall between two requests, errors that are counted for each qTD, a
-//! bus that may not be used, a lost acknowledgement, and a put that finds no blocks. The stored reports come from an independent model.
+//! bus that may not be used, a lost acknowledgement, a put that finds no blocks, and endpoints of two devices whose lines are mixed. The
+//! stored reports come from an independent model, the last one from the lines themselves.
 //!
 //! It calls `script_fits` and `bus_world`, and nothing calls it.
 #![tactic(auto)]

@@ -1,0 +1,4 @@
+pub mod Itd
+pub mod Sitd
+pub mod WriteBack
+pub mod Samples

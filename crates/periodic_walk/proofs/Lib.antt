@@ -1,0 +1,5 @@
+pub mod Got
+pub mod Causing
+pub mod Caused
+pub mod Refusals
+pub mod Works

@@ -1,0 +1,9 @@
+pub mod Walk
+pub mod Place
+pub mod Chain
+pub mod Queue
+pub mod Itd
+pub mod Sitd
+pub mod Rows
+pub mod Causes
+pub mod Samples

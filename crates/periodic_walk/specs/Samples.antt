@@ -1,0 +1,26 @@
+-- Places of worked rows; memory is empty in each.
+--     at_hand hand index left   this copy is in hand in the microframe of FRINDEX, with this time left
+--     queue q made settled      the copy of a queue head, after so many transactions of its visit
+use Rattle.std.specs.Prelude.{ℕ, [], Some, Option}
+use Rattle.usb_base.specs.declared.packets.Reply.TheVariants.{Silent}
+use Rattle.link_words.specs.declared.kinds.Link.TheVariants as links
+use Rattle.op_registers.specs.RegisterFile.{reset_file}
+use Rattle.qh_qtd.specs.declared.queue_head.Qh.{Qh}
+use Rattle.toggle_error.specs.declared.host.Outcome.{Outcome}
+use Rattle.word_mem.specs.Memory.{Mem}
+use Rattle.periodic_walk.specs.declared.state.HeldQueue.{HeldQueue}
+use Rattle.periodic_walk.specs.declared.state.Hand.{Hand}
+use Rattle.periodic_walk.specs.Place.{Place}
+
+abbrev pub no_memory : Mem
+no_memory = record { words = []; states = []; foreign = 0 }
+
+abbrev pub at_hand : Hand → ℕ → ℕ → Place
+at_hand hand index left = record {
+  walk = record { cursor = links.Qh 0x2000; index = index; hand = Some hand; reply = Silent; got = []; left = left };
+  registers = reset_file;
+  memory = no_memory;
+}
+
+abbrev pub queue : Qh → ℕ → Option Outcome → HeldQueue
+queue q made settled = record { copy = record { at = 0x2000; queue_head = q; settled = settled }; made = made }

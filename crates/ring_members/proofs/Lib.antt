@@ -1,0 +1,11 @@
+pub mod Links
+pub mod Stores
+pub mod Freed
+pub mod Leaving
+pub mod Placed
+pub mod Harvests
+pub mod Events
+pub mod Noted
+pub mod Accepted
+pub mod Opened
+pub mod Laws

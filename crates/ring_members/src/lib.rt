@@ -1,0 +1,53 @@
+//! The ring of queue heads as its words tell it (EHCI 1.0, 4.8): the head leads to the newest endpoint in the ring, each endpoint to the
+//! one before, and the oldest to the head; one that has left leads to the head, to one in the ring, or to one that left later.
+//!
+//! The crate has no code of its own: each function is a law over the definitions of `driver_rows`, and its body is empty. A world whose
+//! driver `HasOwners` and whose words are its `IsRing` keeps both by `commands_keep_the_ring` and `events_keep_the_ring`; `run_owners`
+//! stands below it.
+#![tactic(auto)]
+
+ghost use Rattle.std.specs.Prelude.{◌≡◌, ◌≢◌, ℕ, ◌≤◌, Ok, None, false, slice_get, Some};
+ghost use Rattle.usb_base.specs.declared.commands.Cmd.{Cmd};
+ghost use Rattle.word_mem.specs.Memory.{Mem, IsShaped};
+ghost use Rattle.run_book.specs.Book.{holding, Stands};
+ghost use Rattle.driver_rows.specs.declared.content.Endpoint.{Endpoint};
+ghost use Rattle.driver_rows.specs.declared.content.Reserve.{Reserve};
+ghost use Rattle.driver_rows.specs.DriverContent.{DriverContent};
+ghost use Rattle.driver_rows.specs.Offers.{Offered, offered};
+ghost use Rattle.driver_rows.specs.Opening.{opening};
+ghost use Rattle.driver_rows.specs.Rows.{Parts, row_of, after_row};
+ghost use Rattle.driver_rows.specs.Words.{head_block};
+ghost use Rattle.run_owners.specs.Kept.{HasOwners};
+ghost use Rattle.ring_members.specs.Links.{link_in, members, IsChain};
+ghost use Rattle.ring_members.specs.Ring.{IsRing};
+
+/// When the driver was built the head leads to itself.
+#[tactic(auto, using(crate::proofs::Opened::opening_ring))]
+pub fn opening_is_a_ring()
+    ensures { (n : ℕ) (room : Reserve) → 2048 ≤ n → IsRing (link_in (opening n room).memory) (opening n room).driver }
+{}
+
+/// A command that is accepted leaves the ring as it is; a new queue head leads to the newest in it.
+#[tactic(auto, using(crate::proofs::Laws::command_ring))]
+pub fn commands_keep_the_ring()
+    ensures { (d : DriverContent) (m : Mem) (cmd : Cmd) (o : Offered) → Stands (holding d.book m) → IsShaped m → HasOwners d → IsRing (link_in m) d → offered d m cmd ≡ Ok o → IsRing (link_in o.memory) o.driver }
+{}
+
+/// Each event of the driver keeps the ring: an endpoint joins by the store to the head's link, and leaves by the store that passes it over.
+#[tactic(auto, using(crate::proofs::Events::event_ring))]
+pub fn events_keep_the_ring()
+    ensures { (p : Parts) → Stands (holding p.driver.book p.memory) → IsShaped p.memory → HasOwners p.driver → IsRing (link_in p.memory) p.driver → IsRing (link_in (after_row (row_of p) p).memory) (after_row (row_of p) p).driver }
+{}
+
+/// Where no command is unfinished, the words lead from the head through each queue head in the ring, the newest first, and back to the
+/// head.
+#[tactic(auto, using(crate::proofs::Laws::idle_chain))]
+pub fn the_ring_is_read()
+    ensures { (word : ℕ → ℕ) (d : DriverContent) → d.command ≡ None → IsRing word d → IsChain word head_block (members d.endpoints) }
+{}
+
+/// Queue heads that weren't given back stand in blocks of their own, so each is met once.
+#[tactic(auto, using(crate::proofs::Placed::queues_apart))]
+pub fn each_is_met_once()
+    ensures { (d : DriverContent) (e f : ℕ) (x y : Endpoint) → HasOwners d → slice_get d.endpoints e ≡ Some x → x.gone ≡ false → slice_get d.endpoints f ≡ Some y → y.gone ≡ false → e ≢ f → x.queue ≢ y.queue }
+{}

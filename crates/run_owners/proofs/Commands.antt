@@ -1,0 +1,169 @@
+-- Each accepted command was accepted for a reason.
+use Rattle.std.proofs.Common.{◌≡◌, ℕ, zero, suc, ◌+◌, ◌-◌, ◌*◌, ◌≤◌, Bool, true, false, not, cond, min, max, nat_lt, nat_eq, List, [], ◌∷◌, ◌++◌, length, map, get_or, slice_get, Option, Some, None, Result, Ok, Err, unwrap_or, ap, sym, ◌∙◌, refl, arith}
+use Rattle.std.specs.Prelude.{option_and_then, is_some, position}
+use Rattle.std.proofs.lemmas.Option.{slice_get-get_or}
+use Rattle.std.proofs.lemmas.List.Quantifiers.{position-Some}
+use Rattle.std.specs.List.{range_with_len}
+use Rattle.std.proofs.lemmas.Bool.Decides.{nat_tests}
+use Rattle.usb_base.specs.declared.endpoints.EpDesc.{EpDesc}
+use Rattle.usb_base.specs.declared.endpoints.EndCause.{EndCause}
+use Rattle.usb_base.specs.declared.endpoints.EndCause.TheVariants as causes
+use Rattle.usb_base.specs.declared.commands.Cmd.{Cmd}
+use Rattle.usb_base.specs.declared.commands.Cmd.TheVariants as commands
+use Rattle.usb_base.specs.declared.reports.OfferError.{OfferError}
+use Rattle.usb_base.specs.declared.reports.OfferError.TheVariants as errors
+use Rattle.word_mem.specs.Memory.{Mem}
+use Rattle.run_book.specs.Book.{Holding, holding}
+use Rattle.driver_rows.specs.declared.content.Endpoint.{Endpoint}
+use Rattle.driver_rows.specs.declared.content.Stage.{Stage}
+use Rattle.driver_rows.specs.declared.content.Command.{Command}
+use Rattle.driver_rows.specs.declared.content.Sort.TheVariants as sorts
+use Rattle.driver_rows.specs.DriverContent.{DriverContent, endpoint_of, endpoint_named}
+use Rattle.driver_rows.specs.Words.{pieces, in_stage, out_stage, get_stages, put_stages, request_length, request_stages, asks_in, setup_stage, data_stage, status_stage, needs}
+use Rattle.driver_rows.specs.Offers.{Offered, Asked, take_runs, taken_open, offered_open, taken_transfer, open_transfer, found_transfer, takes_get, takes_put, takes_control, accepted_cancel, offered_cancel, offered_next, offered}
+use Rattle.run_owners.specs.Accepts.{AreShort, Accepts, opens, transfers, cancels}
+
+-- ---- the stages of a transfer
+
+record AreAsked (a : Asked) : Type 0 where
+  short : a.most ≤ 20480 → AreShort a.stages
+  some : 1 ≤ length a.stages
+
+cuts_short : (f : ℕ → Stage) (g : ℕ → ℕ) (xs : List ℕ) → ((n : ℕ) → (f (g n)).long ≤ 20480) → AreShort (map f (map g xs))
+cuts_short f g [] each = tt
+cuts_short f g (x ∷ xs) each = (each x, cuts_short f g xs each)
+
+cuts_many : (f : ℕ → Stage) (g : ℕ → ℕ) (from n : ℕ) → length (map f (map g (range_with_len from n))) ≡ n
+cuts_many f g from zero = refl
+cuts_many f g from (suc n) = ap suc (cuts_many f g (from + 1) n)
+
+get_asked : (len by : ℕ) → AreAsked (record { sort = sorts.Get; stages = get_stages len by; most = len; bytes = [] })
+get_asked len by = record {
+  short = λ few. cuts_short in_stage (λ k. min by (len - k * by)) (range_with_len 0 (max 1 (pieces len by))) (λ n. omega (arith, few));
+  some = let m = cuts_many in_stage (λ k. min by (len - k * by)) 0 (max 1 (pieces len by)) in omega (arith, m);
+}
+
+put_asked : (bytes : List ℕ) (by : ℕ) → AreAsked (record { sort = sorts.Put; stages = put_stages (length bytes) by; most = length bytes; bytes = bytes })
+put_asked bytes by = record {
+  short = λ few. cuts_short out_stage (λ k. min by (length bytes - k * by)) (range_with_len 0 (max 1 (pieces (length bytes) by))) (λ n. omega (arith, few));
+  some = let m = cuts_many out_stage (λ k. min by (length bytes - k * by)) 0 (max 1 (pieces (length bytes) by)) in omega (arith, m);
+}
+
+request_short : (setup : List ℕ) (n : ℕ) (b : Bool) → n ≤ 20480 → AreShort (cond b (setup_stage ∷ status_stage true ∷ []) (setup_stage ∷ data_stage (asks_in setup) n ∷ status_stage (not (asks_in setup)) ∷ []))
+request_short setup n true few = (omega arith, (omega arith, tt))
+request_short setup n false few = (omega arith, (few, (omega arith, tt)))
+
+request_some : (b : Bool) (x y : List Stage) → 1 ≤ length x → 1 ≤ length y → 1 ≤ length (cond b x y)
+request_some true x y one two = one
+request_some false x y one two = two
+
+control_asked : (setup bytes : List ℕ) → AreAsked (record { sort = sorts.Request; stages = request_stages setup; most = request_length setup; bytes = setup ++ bytes })
+control_asked setup bytes = record {
+  short = λ few. request_short setup (request_length setup) (nat_eq (request_length setup) 0) few;
+  some = request_some (nat_eq (request_length setup) 0) _ _ (omega arith) (omega arith);
+}
+
+-- ---- transfers
+
+ok_is : (o p : Offered) → ◌≡◌ {A = Result Offered OfferError} (Ok o) (Ok p) → p ≡ o
+ok_is o p e = cc
+
+taken_why : (d : DriverContent) (m : Mem) (e : ℕ) (x : Endpoint) (a : Asked) (o : Offered) (r : Result Holding OfferError) → d.command ≡ None → slice_get d.endpoints e ≡ Some x → x.ended ≡ None → AreAsked a → a.most ≤ 20480 → take_runs (holding d.book m) (needs a.stages) ≡ r → taken_transfer d e x a r ≡ Ok o → Accepts d m o
+taken_why d m e x a o (Err why) idle here ended asked few is f = absurd (cc)
+taken_why d m e x a o (Ok h) idle here ended asked few is f =
+    transfers (record {
+      number = e;
+      endpoint = x;
+      asked = a;
+      holding_after = h;
+      idle = idle;
+      here = here;
+      goes_on = ended;
+      short = asked.short few;
+      some = asked.some;
+      runs = is;
+      is = ok_is _ o f;
+    })
+
+long_why : (d : DriverContent) (m : Mem) (e : ℕ) (x : Endpoint) (a : Asked) (o : Offered) (b : Bool) → d.command ≡ None → slice_get d.endpoints e ≡ Some x → x.ended ≡ None → AreAsked a → nat_lt 20480 a.most ≡ b → cond b (Err errors.TooLong) (taken_transfer d e x a (take_runs (holding d.book m) (needs a.stages))) ≡ Ok o → Accepts d m o
+long_why d m e x a o true idle here ended asked is f = absurd (cc)
+long_why d m e x a o false idle here ended asked is f =
+    let few : a.most ≤ 20480 = grind (arith, nat_tests) in
+    taken_why d m e x a o (take_runs (holding d.book m) (needs a.stages)) idle here ended asked few refl f
+
+ended_why : (d : DriverContent) (m : Mem) (e : ℕ) (x : Endpoint) (a : Asked) (o : Offered) (c : Option EndCause) → d.command ≡ None → slice_get d.endpoints e ≡ Some x → x.ended ≡ c → AreAsked a → open_transfer d m e x a c ≡ Ok o → Accepts d m o
+ended_why d m e x a o (Some cause) idle here ended asked f = absurd (cc)
+ended_why d m e x a o None idle here ended asked f = long_why d m e x a o (nat_lt 20480 a.most) idle here ended asked refl f
+
+takes_why : (d : DriverContent) (m : Mem) (e : ℕ) (x : Endpoint) (a : Asked) (o : Offered) (b : Bool) → d.command ≡ None → slice_get d.endpoints e ≡ Some x → AreAsked a → cond b (open_transfer d m e x a x.ended) (Err errors.NoEndpoint) ≡ Ok o → Accepts d m o
+takes_why d m e x a o false idle here asked f = absurd (cc)
+takes_why d m e x a o true idle here asked f = ended_why d m e x a o x.ended idle here refl asked f
+
+found_why : (d : DriverContent) (m : Mem) (takes : Endpoint → Bool) (e : ℕ) (a : Asked) (o : Offered) (q : Option Endpoint) → d.command ≡ None → slice_get d.endpoints e ≡ q → AreAsked a → found_transfer d m takes a e q ≡ Ok o → Accepts d m o
+found_why d m takes e a o None idle here asked f = absurd (cc)
+found_why d m takes e a o (Some x) idle here asked f = takes_why d m e x a o (takes x) idle here asked f
+
+named_why : (d : DriverContent) (m : Mem) (takes : Endpoint → Bool) (a : Asked) (o : Offered) (q : Option ℕ) → d.command ≡ None → AreAsked a → found_transfer d m takes a (unwrap_or q 0) (option_and_then (λ e. slice_get d.endpoints e) q) ≡ Ok o → Accepts d m o
+named_why d m takes a o None idle asked f = absurd (cc)
+named_why d m takes a o (Some e) idle asked f = found_why d m takes e a o (slice_get d.endpoints e) idle refl asked f
+
+-- ---- an open
+
+found_there : (xs : List Endpoint) (p : Endpoint → Bool) (e : ℕ) → position p xs ≡ Some e → (y : Endpoint) × (slice_get xs e ≡ Some y)
+found_there [] p e f = absurd (cc)
+found_there (x ∷ xs) p e f =
+    let at = position-Some p (x ∷ xs) e x f in (get_or (x ∷ xs) e x, slice_get-get_or (x ∷ xs) e x at.0)
+
+opened_why : (d : DriverContent) (m : Mem) (x : EpDesc) (o : Offered) (r : Result Holding OfferError) → d.command ≡ None → endpoint_of d x.name ≡ None → take_runs (holding d.book m) (2 ∷ 1 ∷ []) ≡ r → taken_open d x r ≡ Ok o → Accepts d m o
+opened_why d m x o (Err why) idle none is f = absurd (cc)
+opened_why d m x o (Ok h) idle none is f =
+    opens (record { desc = x; holding_after = h; idle = idle; new_name = none; runs = is; is = ok_is _ o f })
+
+again_why : (d : DriverContent) (m : Mem) (x : EpDesc) (old : Endpoint) (o : Offered) (c : Option EndCause) → old.ended ≡ c → offered_open d m x (Some old) ≡ Ok o → Accepts d m o
+again_why d m x old o (Some cause) is f =
+    let e : offered_open d m x (Some old) ≡ Err (errors.Closed cause) = ap (λ (k : Option EndCause). again k) is in absurd (cc)
+  where
+    again : Option EndCause → Result Offered OfferError
+    again k = elim k [ Some cause ↦ Err (errors.Closed cause) | None ↦ Err errors.AlreadyOpen ]
+again_why d m x old o None is f =
+    let e : offered_open d m x (Some old) ≡ Err errors.AlreadyOpen = ap (λ (k : Option EndCause). again k) is in absurd (cc)
+  where
+    again : Option EndCause → Result Offered OfferError
+    again k = elim k [ Some cause ↦ Err (errors.Closed cause) | None ↦ Err errors.AlreadyOpen ]
+
+open_why : (d : DriverContent) (m : Mem) (x : EpDesc) (o : Offered) (n : Option ℕ) (q : Option Endpoint) → d.command ≡ None → endpoint_of d x.name ≡ n → option_and_then (λ e. slice_get d.endpoints e) n ≡ q → (n ≡ None → q ≡ None) → ((e : ℕ) → n ≡ Some e → (y : Endpoint) × (slice_get d.endpoints e ≡ Some y)) → offered_open d m x q ≡ Ok o → Accepts d m o
+open_why d m x o n (Some old) idle is at none some f = again_why d m x old o old.ended refl f
+open_why d m x o None None idle is at none some f = opened_why d m x o (take_runs (holding d.book m) (2 ∷ 1 ∷ [])) idle is refl f
+open_why d m x o (Some e) None idle is at none some f = let y = some e refl in let w : Some y.0 ≡ None = sym y.1 ∙ at in absurd (cc)
+
+-- ---- a cancel
+
+cancel_why : (d : DriverContent) (m : Mem) (e : ℕ) (x : Endpoint) (o : Offered) (b : Bool) → d.command ≡ None → slice_get d.endpoints e ≡ Some x → x.cancelled ≡ b → cond b (Err (errors.Closed causes.Cancel)) (Ok (record { driver = accepted_cancel d e x; memory = m })) ≡ Ok o → Accepts d m o
+cancel_why d m e x o true idle here is f = absurd (cc)
+cancel_why d m e x o false idle here is f = cancels (record { number = e; endpoint = x; idle = idle; here = here; fresh = is; is = ok_is _ o f })
+
+cancel_at : (d : DriverContent) (m : Mem) (o : Offered) (e : ℕ) (q : Option Endpoint) → d.command ≡ None → slice_get d.endpoints e ≡ q → offered_cancel d m e q ≡ Ok o → Accepts d m o
+cancel_at d m o e None idle here f = absurd (cc)
+cancel_at d m o e (Some x) idle here f = cancel_why d m e x o x.cancelled idle here refl f
+
+cancel_named : (d : DriverContent) (m : Mem) (o : Offered) (q : Option ℕ) → d.command ≡ None → offered_cancel d m (unwrap_or q 0) (option_and_then (λ e. slice_get d.endpoints e) q) ≡ Ok o → Accepts d m o
+cancel_named d m o None idle f = absurd (cc)
+cancel_named d m o (Some e) idle f = cancel_at d m o e (slice_get d.endpoints e) idle refl f
+
+-- ---- any command
+
+next_why : (d : DriverContent) (m : Mem) (cmd : Cmd) (o : Offered) → d.command ≡ None → offered_next d m cmd ≡ Ok o → Accepts d m o
+next_why d m (commands.OpenEp x) o idle f =
+    open_why d m x o (endpoint_of d x.name) (endpoint_named d x.name) idle refl refl (λ none. ap (λ (n : Option ℕ). option_and_then (λ e. slice_get d.endpoints e) n) none) (λ e is. found_there d.endpoints _ e is) f
+next_why d m (commands.Get name len by) o idle f = named_why d m takes_get _ o (endpoint_of d name) idle (get_asked len by) f
+next_why d m (commands.Put name bytes by) o idle f = named_why d m takes_put _ o (endpoint_of d name) idle (put_asked bytes by) f
+next_why d m (commands.Control name setup bytes) o idle f = named_why d m takes_control _ o (endpoint_of d name) idle (control_asked setup bytes) f
+next_why d m (commands.Iso name count len seed) o idle f = absurd (cc)
+next_why d m (commands.Cancel name) o idle f = cancel_named d m o (endpoint_of d name) idle f
+
+busy_why : (d : DriverContent) (m : Mem) (cmd : Cmd) (o : Offered) (c : Option Command) → d.command ≡ c → cond (is_some c) (Err errors.Busy) (offered_next d m cmd) ≡ Ok o → Accepts d m o
+busy_why d m cmd o (Some c) is f = absurd (cc)
+busy_why d m cmd o None is f = next_why d m cmd o is f
+
+pub accepted_for_a_reason : (d : DriverContent) (m : Mem) (cmd : Cmd) (o : Offered) → offered d m cmd ≡ Ok o → Accepts d m o
+accepted_for_a_reason d m cmd o f = busy_why d m cmd o d.command refl f

@@ -1,0 +1,36 @@
+-- The laws, in the form in which they are stated.
+use Rattle.std.proofs.Common.{◌≡◌, ◌≢◌, ℕ, Ok, ap, sym, ◌∙◌}
+use Rattle.usb_base.specs.declared.commands.Cmd.{Cmd}
+use Rattle.word_mem.specs.Memory.{Mem}
+use Rattle.run_book.specs.Book.{Holding, holding, Stands, slot_of}
+use Rattle.driver_rows.specs.DriverContent.{DriverContent}
+use Rattle.driver_rows.specs.Offers.{Offered, offered}
+use Rattle.driver_rows.specs.Rows.{Parts, row_of, after_row}
+use Rattle.run_owners.specs.Accepts.{Accepts, opens, transfers, cancels}
+use Rattle.run_owners.specs.Owners.{Owner, SlotHas, IsPlaced, IsOwned}
+use Rattle.run_owners.specs.Kept.{HasOwners}
+use Rattle.run_owners.proofs.Commands.{accepted_for_a_reason}
+use Rattle.run_owners.proofs.Accepted.{open_owned, cancel_owned}
+use Rattle.run_owners.proofs.Transferred.{transfer_owned}
+use Rattle.run_owners.proofs.Ordered.{accepted_orderly}
+use Rattle.run_owners.proofs.Rows.{row_owned, row_orderly}
+use Rattle.run_owners.proofs.Apart.{runs_apart}
+
+accepted_owned : (d : DriverContent) (m : Mem) (o : Offered) → Stands (holding d.book m) → Accepts d m o → (old : HasOwners d) → (mine : ℕ → Owner) × IsOwned o.driver mine
+accepted_owned d m o stands (opens why) old = open_owned d m old.owner o stands why old.owned
+accepted_owned d m o stands (transfers why) old = transfer_owned d m old.owner o stands why old.orderly old.owned
+accepted_owned d m o stands (cancels why) old = (old.owner, cancel_owned d m old.owner o why old.owned)
+
+pub command_owned : (d : DriverContent) (m : Mem) (cmd : Cmd) (o : Offered) → Stands (holding d.book m) → HasOwners d → offered d m cmd ≡ Ok o → HasOwners o.driver
+command_owned d m cmd o stands old is =
+    let why = accepted_for_a_reason d m cmd o is in
+    let now = accepted_owned d m o stands why old in
+    record { owner = now.0; owned = now.1; orderly = accepted_orderly d m o why old.orderly }
+
+pub event_owned : (p : Parts) → HasOwners p.driver → HasOwners (after_row (row_of p) p).driver
+event_owned p old = record { owner = old.owner; owned = row_owned p old.owner old.orderly old.owned; orderly = row_orderly p old.orderly }
+
+-- structures of different owners share no block
+pub owners_apart : (h : Holding) (owner : ℕ → Owner) (b c k : ℕ) (o q : Owner) → Stands h → IsPlaced (slot_of h.book.slots) owner b o → IsPlaced (slot_of h.book.slots) owner c q → o ≢ q → SlotHas (slot_of h.book.slots b) k → SlotHas (slot_of h.book.slots c) k → ⊥
+owners_apart h owner b c k o q stands one two differ has also =
+    runs_apart h b c k stands (λ same. differ (sym one.owned ∙ ap owner (sym same) ∙ two.owned)) has also

@@ -1,0 +1,200 @@
+-- What is given back: all else stands as before.
+use Rattle.std.proofs.Common.{◌≡◌, ◌≢◌, ℕ, zero, suc, ◌==◌, Bool, true, false, not, ◌&&◌, ◌||◌, cond, List, [], ◌∷◌, length, map, set, take, slice_get, Option, Some, None, option_map, ap, sym, subst, ◌∙◌, ⊎_elim, refl, arith}
+use Rattle.std.proofs.lemmas.Bool.{cases_eq, false≢true}
+use Rattle.std.proofs.lemmas.Bool.Decides.{nat_tests}
+use Rattle.std.proofs.lemmas.List.{length-set}
+use Rattle.std.proofs.lemmas.Option.{same_Some, slice_get-map}
+use Rattle.word_mem.specs.Memory.{Mem}
+use Rattle.run_book.specs.Book.{Holding, holding, slot_of, slot_at, release_slot, release_run}
+use Rattle.run_book.specs.declared.slots.Slot.{Slot}
+use Rattle.run_book.specs.declared.slots.Slot.TheVariants.{Empty, Keeps, Lends}
+use Rattle.driver_rows.specs.declared.content.Endpoint.{Endpoint}
+use Rattle.driver_rows.specs.declared.content.Transfer.{Transfer}
+use Rattle.driver_rows.specs.declared.content.QtdNote.{QtdNote}
+use Rattle.driver_rows.specs.DriverContent.{DriverContent}
+use Rattle.driver_rows.specs.Harvests.{note_at}
+use Rattle.driver_rows.specs.Rows.{Parts, free_runs, free_qtd, free_qtds, free_transfers, free_endpoint, freed_by, after_transfer, after_endpoint, is_held_of, is_told, cancel_told, let_go}
+use Rattle.run_owners.specs.Owners.{Owner, FrameList, Head, QueueHead, Dummy, Element, Buffer, IsRunFor, EndpointRuns, TransferRuns, runs_of_endpoint, runs_of_transfer, endpoint_in, transfer_in, note_in, AreOwned, IsOwned}
+use Rattle.run_owners.proofs.Runs.{owned_kept}
+use Rattle.run_owners.proofs.Freeing.{runs_freed, qtds_freed, transfers_freed}
+
+-- ---- as many slots
+
+many_slot : (h : Holding) (b : ℕ) (s : Slot) → length (release_slot h b s).book.slots ≡ length h.book.slots
+many_slot h b Empty = refl
+many_slot h b (Keeps r) = refl
+many_slot h b (Lends r) = length-set h.book.slots b Empty
+
+many_runs : (h : Holding) (bs : List ℕ) → length (free_runs h bs).book.slots ≡ length h.book.slots
+many_runs h [] = refl
+many_runs h (b ∷ bs) = many_runs (release_run h b) bs ∙ many_slot h b (slot_at h b)
+
+pub many_qtds : (notes : List QtdNote) (h : Holding) (b n : ℕ) → length (free_qtds notes h b n).book.slots ≡ length h.book.slots
+unfolding free_qtds
+many_qtds notes h b zero = refl
+many_qtds notes h b (suc n) =
+    many_qtds notes (free_qtd h b (note_at notes b)) (note_at notes b).next n ∙ many_runs h (b ∷ take (note_at notes b).runs (note_at notes b).buffer)
+
+many_held : (b : Bool) (h g : Holding) → length g.book.slots ≡ length h.book.slots → length (cond b g h).book.slots ≡ length h.book.slots
+many_held true h g same = same
+many_held false h g same = refl
+
+many_transfers : (notes : List QtdNote) (e : ℕ) (h : Holding) (ts : List Transfer) → length (free_transfers notes e h ts).book.slots ≡ length h.book.slots
+unfolding free_transfers
+many_transfers notes e h [] = refl
+many_transfers notes e h (y ∷ ts) =
+    many_transfers notes e (cond (is_held_of e y) (free_qtds notes h y.first y.qtds) h) ts
+    ∙ many_held (is_held_of e y) h (free_qtds notes h y.first y.qtds) (many_qtds notes h y.first y.qtds)
+
+-- ---- tests of numbers
+
+pub same_number : (n : ℕ) → (n == n) ≡ true
+same_number n = grind (arith, nat_tests)
+
+pub other_number : (m n : ℕ) → m ≢ n → (m == n) ≡ false
+other_number m n differs = grind (arith, nat_tests)
+
+-- ---- one thing of a list is changed
+
+pub set_here : {X : Type 0} (xs : List X) (e : ℕ) (x y : X) → slice_get xs e ≡ Some x → slice_get (set xs e y) e ≡ Some y
+set_here [] e x y here = absurd (cc)
+set_here (z ∷ xs) zero x y here = refl
+set_here (z ∷ xs) (suc e) x y here = set_here xs e x y here
+
+pub set_there : {X : Type 0} (xs : List X) (e i : ℕ) (y : X) → i ≢ e → slice_get (set xs e y) i ≡ slice_get xs i
+set_there [] e i y differs = refl
+set_there (z ∷ xs) zero zero y differs = absurd (differs refl)
+set_there (z ∷ xs) zero (suc i) y differs = refl
+set_there (z ∷ xs) (suc e) zero y differs = refl
+set_there (z ∷ xs) (suc e) (suc i) y differs = set_there xs e i y (λ same. differs (ap suc same))
+
+-- ---- a transfer
+
+goes_transfer : ℕ → Owner → Bool
+goes_transfer t FrameList = false
+goes_transfer t Head = false
+goes_transfer t (QueueHead e) = false
+goes_transfer t (Dummy e) = false
+goes_transfer t (Element u) = u == t
+goes_transfer t (Buffer u) = u == t
+
+other_transfers : (ts : List Transfer) (t : ℕ) (x : Transfer) (u : ℕ) (y : TransferRuns) → slice_get ts t ≡ Some x → transfer_in (set ts t (record x { released = true })) u ≡ Some y → y.released ≡ false → (u ≢ t) × (transfer_in ts u ≡ Some y)
+other_transfers ts t x u y here there on =
+    ⊎_elim
+    (λ (same : u ≡ t).
+    let is : Some (runs_of_transfer (record x { released = true })) ≡ Some y =
+    sym (ap (option_map runs_of_transfer) (set_here ts t x (record x { released = true }) here)) ∙ ap (λ k. transfer_in (set ts t (record x { released = true })) k) (sym same) ∙ there in
+    let r : true ≡ y.released = ap (λ (z : TransferRuns). z.released) (same_Some _ y is) in
+    absurd (false≢true (sym on ∙ sym r)))
+    (λ (differs : u ≢ t). (differs, sym (ap (option_map runs_of_transfer) (set_there ts t u (record x { released = true }) differs)) ∙ there))
+    (cases_eq u t)
+
+pub transfer_owned : (p : Parts) (t : ℕ) (owner : ℕ → Owner) (x : Transfer) → slice_get p.driver.transfers t ≡ Some x → x.released ≡ false → IsOwned p.driver owner → IsOwned (after_transfer p t (Some x) (freed_by p.driver (holding p.driver.book p.memory) (Some x))).driver owner
+unfolding goes_transfer
+transfer_owned p t owner x here on old =
+    let d = p.driver in
+    let h = holding d.book p.memory in
+    let g = free_qtds d.notes h x.first x.qtds in
+    let pieces = old.each.pieces t (runs_of_transfer x) (ap (option_map runs_of_transfer) here) on in
+    record {
+      each = owned_kept (slot_of d.book.slots) (slot_of g.book.slots) (endpoint_in d.endpoints) (endpoint_in d.endpoints) (transfer_in d.transfers) (transfer_in (set d.transfers t (record x { released = true }))) (note_in d.notes) (note_in d.notes) owner (goes_transfer t) refl refl
+          (λ c stays run. subst (λ (s : Slot). IsRunFor (owner c) s) (sym (qtds_freed (slot_of d.book.slots) owner (goes_transfer t) d.notes h t x.first x.qtds c stays (same_number t) (same_number t) pieces)) run)
+          (λ e y there gone. (there, refl, refl))
+          (λ u y there gone.
+          let o = other_transfers d.transfers t x u y here there gone in
+          (o.1, other_number u t o.0, other_number u t o.0))
+          (λ c. refl)
+          old.each;
+      sizes = old.sizes ∙ sym (many_qtds d.notes h x.first x.qtds);
+    }
+
+-- ---- an endpoint
+
+held_at : ℕ → Option Transfer → Bool
+held_at e None = false
+held_at e (Some y) = is_held_of e y
+
+goes_endpoint : ℕ → List Transfer → Owner → Bool
+goes_endpoint e ts FrameList = false
+goes_endpoint e ts Head = false
+goes_endpoint e ts (QueueHead u) = u == e
+goes_endpoint e ts (Dummy u) = u == e
+goes_endpoint e ts (Element t) = held_at e (slice_get ts t)
+goes_endpoint e ts (Buffer t) = held_at e (slice_get ts t)
+
+other_endpoints : (xs : List Endpoint) (e : ℕ) (x : Endpoint) (u : ℕ) (y : EndpointRuns) → slice_get xs e ≡ Some x → endpoint_in (set xs e (record x { gone = true })) u ≡ Some y → y.gone ≡ false → (u ≢ e) × (endpoint_in xs u ≡ Some y)
+other_endpoints xs e x u y here there on =
+    ⊎_elim
+    (λ (same : u ≡ e).
+    let is : Some (runs_of_endpoint (record x { gone = true })) ≡ Some y =
+    sym (ap (option_map runs_of_endpoint) (set_here xs e x (record x { gone = true }) here)) ∙ ap (λ k. endpoint_in (set xs e (record x { gone = true })) k) (sym same) ∙ there in
+    let r : true ≡ y.gone = ap (λ (z : EndpointRuns). z.gone) (same_Some _ y is) in
+    absurd (false≢true (sym on ∙ sym r)))
+    (λ (differs : u ≢ e). (differs, sym (ap (option_map runs_of_endpoint) (set_there xs e u (record x { gone = true }) differs)) ∙ there))
+    (cases_eq u e)
+
+-- a transfer that isn't given back is another endpoint's
+kept_one : (e : ℕ) (told : Bool) (b : Bool) (z : Transfer) (y : TransferRuns) → (z.endpoint == e) ≡ b → runs_of_transfer (cond b (record z { reported = z.reported || told; released = true }) z) ≡ y → y.released ≡ false → (runs_of_transfer z ≡ y) × (is_held_of e z ≡ false)
+kept_one e told true z y test is on = absurd (false≢true (sym on ∙ sym (ap (λ (r : TransferRuns). r.released) is)))
+kept_one e told false z y test is on = (is, ap (λ b. b && not z.released) test)
+
+kept_transfer : (e : ℕ) (told : Bool) (o : Option Transfer) (y : TransferRuns) → option_map runs_of_transfer (option_map (let_go e told) o) ≡ Some y → y.released ≡ false → (option_map runs_of_transfer o ≡ Some y) × (held_at e o ≡ false)
+unfolding held_at
+kept_transfer e told None y there on = absurd (cc)
+kept_transfer e told (Some z) y there on =
+    let k = kept_one e told (z.endpoint == e) z y refl (same_Some (runs_of_transfer (let_go e told z)) y there) on in
+    (ap Some k.0, k.1)
+
+told_is : (d e : DriverContent) (b : Bool) → e.endpoints ≡ d.endpoints → e.transfers ≡ d.transfers → e.notes ≡ d.notes → (((cond b e d).endpoints ≡ d.endpoints) × ((cond b e d).transfers ≡ d.transfers)) × ((cond b e d).notes ≡ d.notes)
+told_is d e true xs ts ns = ((xs, ts), ns)
+told_is d e false xs ts ns = ((refl, refl), refl)
+
+pub cancel_same : (d : DriverContent) (m : Mem) (e : ℕ) (x : Endpoint) → (((cancel_told d m e x).endpoints ≡ d.endpoints) × ((cancel_told d m e x).transfers ≡ d.transfers)) × ((cancel_told d m e x).notes ≡ d.notes)
+cancel_same d m e x = told_is d _ (is_told x) refl refl refl
+
+endpoint_each : (d : DriverContent) (m : Mem) (e : ℕ) (owner : ℕ → Owner) (x : Endpoint) (told : Bool) → slice_get d.endpoints e ≡ Some x → x.gone ≡ false → IsOwned d owner → AreOwned (slot_of (free_endpoint d e x (holding d.book m)).book.slots) (endpoint_in (set d.endpoints e (record x { gone = true }))) (transfer_in (map (let_go e told) d.transfers)) (note_in d.notes) owner
+unfolding goes_endpoint held_at
+endpoint_each d m e owner x told here on old =
+    let h = holding d.book m in
+    let goes = goes_endpoint e d.transfers in
+    let ring = ap (option_map runs_of_endpoint) here in
+    let queue = old.each.queue e (runs_of_endpoint x) ring on in
+    let dummy = old.each.dummy e (runs_of_endpoint x) ring on in
+    owned_kept (slot_of d.book.slots) (slot_of (free_endpoint d e x h).book.slots) (endpoint_in d.endpoints) (endpoint_in (set d.endpoints e (record x { gone = true }))) (transfer_in d.transfers) (transfer_in (map (let_go e told) d.transfers)) (note_in d.notes) (note_in d.notes) owner goes refl refl
+    (λ c stays run.
+    let away : (b : ℕ) (o : Owner) → goes o ≡ true → owner b ≡ o → c ≢ b = λ b o gone is same. false≢true (sym stays ∙ ap (λ k. goes (owner k)) same ∙ ap goes is ∙ gone) in
+    let first = runs_freed h (x.queue ∷ x.dummy ∷ []) c (away x.queue (QueueHead e) (same_number e) queue.owned, (away x.dummy (Dummy e) (same_number e) dummy.owned, tt)) in
+    let rest = transfers_freed (slot_of d.book.slots) owner goes d.notes e c 0 (free_runs h (x.queue ∷ x.dummy ∷ [])) d.transfers stays
+    (λ i y there held.
+    let test : held_at e (slice_get d.transfers i) ≡ true = ap (held_at e) there ∙ held in
+    (i, test, test, old.each.pieces i (runs_of_transfer y) (ap (option_map runs_of_transfer) there) (held_kept e y held))) in
+    subst (λ (s : Slot). IsRunFor (owner c) s) (sym (rest ∙ first)) run)
+    (λ u y there gone.
+    let o = other_endpoints d.endpoints e x u y here there gone in
+    (o.1, other_number u e o.0, other_number u e o.0))
+    (λ t y there gone.
+    let k = kept_transfer e told (slice_get d.transfers t) y (sym (ap (option_map runs_of_transfer) (slice_get-map (let_go e told) d.transfers t)) ∙ there) gone in
+    (k.0, k.1, k.1))
+    (λ c. refl)
+    old.each
+  where
+    held_kept : (e : ℕ) (y : Transfer) → is_held_of e y ≡ true → y.released ≡ false
+    held_kept e y held = two (y.endpoint == e) y.released held
+      where
+        two : (a b : Bool) → a && not b ≡ true → b ≡ false
+        two a false t = refl
+        two true true t = absurd (false≢true t)
+        two false true t = absurd (false≢true t)
+
+pub endpoint_owned : (p : Parts) (e : ℕ) (owner : ℕ → Owner) (x : Endpoint) → slice_get p.driver.endpoints e ≡ Some x → x.gone ≡ false → IsOwned p.driver owner → IsOwned (after_endpoint p e (Some x)).driver owner
+endpoint_owned p e owner x here on old =
+    let d = p.driver in
+    let h = holding d.book p.memory in
+    let same = cancel_same d p.memory e x in
+    record {
+      each = subst (λ (ts : List Transfer). AreOwned (slot_of (free_endpoint d e x h).book.slots) (endpoint_in (set (cancel_told d p.memory e x).endpoints e (record x { gone = true }))) (transfer_in (map (let_go e (is_told x)) ts)) (note_in (cancel_told d p.memory e x).notes) owner) (sym same.0.1)
+          (subst (λ (xs : List Endpoint). AreOwned (slot_of (free_endpoint d e x h).book.slots) (endpoint_in (set xs e (record x { gone = true }))) (transfer_in (map (let_go e (is_told x)) d.transfers)) (note_in (cancel_told d p.memory e x).notes) owner) (sym same.0.0)
+          (subst (λ (ns : List QtdNote). AreOwned (slot_of (free_endpoint d e x h).book.slots) (endpoint_in (set d.endpoints e (record x { gone = true }))) (transfer_in (map (let_go e (is_told x)) d.transfers)) (note_in ns) owner) (sym same.1)
+          (endpoint_each d p.memory e owner x (is_told x) here on old)));
+      sizes = ap length same.1 ∙ (old.sizes ∙ sym (many_transfers d.notes e (free_runs h (x.queue ∷ x.dummy ∷ [])) d.transfers ∙ many_runs h (x.queue ∷ x.dummy ∷ [])));
+    }

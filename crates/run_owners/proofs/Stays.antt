@@ -1,0 +1,195 @@
+-- What an event changes of the driver's content where it gives nothing back: nothing that tells runs.
+use Rattle.std.proofs.Common.{◌≡◌, ℕ, zero, suc, ◌-◌, Bool, true, false, cond, nat_lt, List, [], ◌∷◌, ◌++◌, length, get_or, set, reverse, slice_get, Option, Some, None, option_map, ap, sym, subst, ◌∙◌, refl}
+use Rattle.std.proofs.lemmas.List.{length-set}
+use Rattle.usb_base.specs.declared.endpoints.EpName.{EpName}
+use Rattle.usb_base.specs.declared.endpoints.EndCause.{EndCause}
+use Rattle.usb_base.specs.declared.reports.What.{What}
+use Rattle.word_mem.specs.Memory.{Mem}
+use Rattle.run_book.specs.Book.{Holding, holding, slot_of, slot_at, lend_slot, lend_runs, lend_taken, none_taken}
+use Rattle.run_book.specs.declared.slots.Slot.{Slot}
+use Rattle.run_book.specs.declared.slots.Slot.TheVariants.{Empty, Keeps, Lends}
+use Rattle.driver_rows.specs.declared.content.Endpoint.{Endpoint}
+use Rattle.driver_rows.specs.declared.content.Transfer.{Transfer}
+use Rattle.driver_rows.specs.declared.content.QtdNote.{QtdNote}
+use Rattle.driver_rows.specs.declared.content.Command.{Command}
+use Rattle.driver_rows.specs.declared.content.Command.TheVariants as unfinished
+use Rattle.driver_rows.specs.declared.rows.Found.{Found}
+use Rattle.driver_rows.specs.declared.rows.Found.TheVariants as founds
+use Rattle.driver_rows.specs.DriverContent.{DriverContent, no_note, waits_for, next_after}
+use Rattle.driver_rows.specs.Harvests.{note_at, noted, is_stall, end_of}
+use Rattle.driver_rows.specs.Rows.{Parts, events_of, leave_ring, no_command, finished, advanced_by, advance, served, moved_on, told_with, goes_on, behind_one, behind, stalled, mends_of, after_end, harvested_as, after_harvest}
+use Rattle.run_owners.specs.Owners.{Owner, IsRunFor, runs_of_endpoint, runs_of_transfer, runs_of_note, endpoint_in, transfer_in, note_in, IsOwned}
+use Rattle.run_owners.proofs.Runs.{owned_stays}
+use Rattle.run_owners.proofs.Freeing.{runs_lent}
+
+-- ---- a list in which one thing is changed
+
+pub same_view : {X Y : Type 0} (f : X → Y) (xs : List X) (e : ℕ) (x y : X) → slice_get xs e ≡ Some x → f y ≡ f x → (i : ℕ) → option_map f (slice_get (set xs e y) i) ≡ option_map f (slice_get xs i)
+same_view f [] e x y here same i = absurd (cc)
+same_view f (z ∷ xs) zero x y here same zero = let is : z ≡ x = cc in ap Some same ∙ ap (λ w. Some (f w)) (sym is)
+same_view f (z ∷ xs) zero x y here same (suc i) = refl
+same_view f (z ∷ xs) (suc e) x y here same zero = refl
+same_view f (z ∷ xs) (suc e) x y here same (suc i) = same_view f xs e x y here same i
+
+pub same_item : {X Y : Type 0} (f : X → Y) (xs : List X) (e : ℕ) (y d : X) → f y ≡ f (get_or xs e d) → (i : ℕ) → f (get_or (set xs e y) i d) ≡ f (get_or xs i d)
+same_item f [] e y d same i = refl
+same_item f (z ∷ xs) zero y d same zero = same
+same_item f (z ∷ xs) zero y d same (suc i) = refl
+same_item f (z ∷ xs) (suc e) y d same zero = refl
+same_item f (z ∷ xs) (suc e) y d same (suc i) = same_item f xs e y d same i
+
+-- ---- a content that tells the same runs
+
+pub record StaysPlaced (d e : DriverContent) : Type 0 where
+  pub slots : (c : ℕ) (o : Owner) → IsRunFor o (slot_of d.book.slots c) → IsRunFor o (slot_of e.book.slots c)
+  pub many : length e.book.slots ≡ length d.book.slots
+  pub endpoints : (i : ℕ) → endpoint_in e.endpoints i ≡ endpoint_in d.endpoints i
+  pub transfers : (i : ℕ) → transfer_in e.transfers i ≡ transfer_in d.transfers i
+  pub notes : (c : ℕ) → note_in e.notes c ≡ note_in d.notes c
+  pub as_many : length e.notes ≡ length d.notes
+
+pub stays_same : (d e : DriverContent) → e.book.slots ≡ d.book.slots → ((i : ℕ) → endpoint_in e.endpoints i ≡ endpoint_in d.endpoints i) → ((i : ℕ) → transfer_in e.transfers i ≡ transfer_in d.transfers i) → ((c : ℕ) → note_in e.notes c ≡ note_in d.notes c) → length e.notes ≡ length d.notes → StaysPlaced d e
+stays_same d e slots endpoints transfers notes many = record {
+  slots = λ c o run. subst (λ (ss : List Slot). IsRunFor o (slot_of ss c)) (sym slots) run;
+  many = ap length slots;
+  endpoints = endpoints;
+  transfers = transfers;
+  notes = notes;
+  as_many = many;
+}
+
+pub stays_both : (d e f : DriverContent) → StaysPlaced d e → StaysPlaced e f → StaysPlaced d f
+stays_both d e f one two = record {
+  slots = λ c o run. two.slots c o (one.slots c o run);
+  many = two.many ∙ one.many;
+  endpoints = λ i. two.endpoints i ∙ one.endpoints i;
+  transfers = λ i. two.transfers i ∙ one.transfers i;
+  notes = λ c. two.notes c ∙ one.notes c;
+  as_many = two.as_many ∙ one.as_many;
+}
+
+pub stays_owned : (d e : DriverContent) (owner : ℕ → Owner) → StaysPlaced d e → IsOwned d owner → IsOwned e owner
+stays_owned d e owner stays old = record {
+  each = owned_stays (slot_of d.book.slots) (slot_of e.book.slots) (endpoint_in d.endpoints) (endpoint_in e.endpoints) (transfer_in d.transfers) (transfer_in e.transfers) (note_in d.notes) (note_in e.notes) owner stays.slots stays.endpoints stays.transfers stays.notes old.each;
+  sizes = stays.as_many ∙ (old.sizes ∙ sym stays.many);
+}
+
+nothing : (d : DriverContent) → StaysPlaced d d
+nothing d = stays_same d d refl (λ i. refl) (λ i. refl) (λ c. refl) refl
+
+either : (d e f : DriverContent) (b : Bool) → StaysPlaced d e → StaysPlaced d f → StaysPlaced d (cond b e f)
+either d e f true one two = one
+either d e f false one two = two
+
+-- an endpoint, and a transfer, of which other things are written
+pub endpoint_stays : (d : DriverContent) (e : ℕ) (x y : Endpoint) → slice_get d.endpoints e ≡ Some x → runs_of_endpoint y ≡ runs_of_endpoint x → (i : ℕ) → endpoint_in (set d.endpoints e y) i ≡ endpoint_in d.endpoints i
+endpoint_stays d e x y here same = same_view runs_of_endpoint d.endpoints e x y here same
+
+-- ---- the command goes on
+
+pub left : (d : DriverContent) (e : ℕ) (o : Option Endpoint) → slice_get d.endpoints e ≡ o → StaysPlaced d (leave_ring d e o)
+left d e None here = nothing d
+left d e (Some x) here =
+    either d (record d { waiting = d.waiting ++ e ∷ []; endpoints = set d.endpoints e (record x { linked = false }) }) d x.linked
+    (stays_same d _ refl (endpoint_stays d e x (record x { linked = false }) here refl) (λ i. refl) (λ c. refl) refl) (nothing d)
+
+done : (d : DriverContent) (c : Command) → StaysPlaced d (finished d c)
+done d (unfinished.Open queue) = stays_same d _ refl (λ i. refl) (λ i. refl) (λ c. refl) refl
+done d (unfinished.Publish b words) = stays_same d _ refl (λ i. refl) (λ i. refl) (λ c. refl) refl
+done d (unfinished.Unlink e b link) =
+    stays_both d (no_command d) (leave_ring (no_command d) e (slice_get d.endpoints e)) (stays_same d (no_command d) refl (λ i. refl) (λ i. refl) (λ c. refl) refl) (left (no_command d) e (slice_get d.endpoints e) refl)
+
+went_on : (d : DriverContent) (o : Option Command) → StaysPlaced d (advanced_by d o)
+went_on d None = nothing d
+went_on d (Some c) =
+    either d (record d { made = suc d.made }) (finished d c) (nat_lt (suc d.made) (length (events_of c))) (stays_same d _ refl (λ i. refl) (λ i. refl) (λ c. refl) refl) (done d c)
+
+pub advanced : (d : DriverContent) → StaysPlaced d (advance d)
+advanced d = went_on d d.command
+
+-- ---- lending
+
+lent_many : (h : Holding) (b : ℕ) (s : Slot) → length (lend_slot h b s).book.slots ≡ length h.book.slots
+lent_many h b Empty = refl
+lent_many h b (Keeps r) = length-set h.book.slots b (Lends r)
+lent_many h b (Lends r) = refl
+
+lends_many : (h : Holding) (bs : List ℕ) → length (lend_runs h bs).book.slots ≡ length h.book.slots
+unfolding lend_runs
+lends_many h [] = refl
+lends_many h (b ∷ bs) = lends_many (lend_slot h b (slot_at h b)) bs ∙ lent_many h b (slot_at h b)
+
+pub lent : (p : Parts) → StaysPlaced p.driver (advance (record p.driver { book = (lend_taken (holding p.driver.book p.memory)).book }))
+lent p =
+    let h = holding p.driver.book p.memory in
+    let d = record p.driver { book = (lend_taken h).book } in
+    stays_both p.driver d (advance d)
+    (record {
+      slots = λ c o run. runs_lent h c o run;
+      many = lends_many (none_taken h) (reverse h.book.taken);
+      endpoints = λ i. refl;
+      transfers = λ i. refl;
+      notes = λ c. refl;
+      as_many = refl;
+    })
+    (advanced d)
+
+-- ---- harvest
+
+noted_stays : (notes : List QtdNote) (b moved c : ℕ) → note_in (noted notes b moved) c ≡ note_in notes c
+noted_stays notes b moved c = same_item runs_of_note notes b (record (note_at notes b) { moved = moved }) no_note refl c
+
+noted_many : (notes : List QtdNote) (b moved : ℕ) → length (noted notes b moved) ≡ length notes
+noted_many notes b moved = length-set notes b (record (note_at notes b) { moved = moved })
+
+moved_stays : (d : DriverContent) (t : ℕ) (y : Transfer) (moved : ℕ) → slice_get d.transfers t ≡ Some y → StaysPlaced d (moved_on d t y moved)
+moved_stays d t y moved there =
+    stays_same d (moved_on d t y moved) refl (λ i. refl) (same_view runs_of_transfer d.transfers t y (record y { place = (note_at d.notes y.place).next; left = y.left - 1 }) there refl)
+    (noted_stays d.notes y.place moved) (noted_many d.notes y.place moved)
+
+told_stays : (d : DriverContent) (m : Mem) (t : ℕ) (y : Transfer) (what : What) (name : EpName) (n : ℕ) → slice_get d.transfers t ≡ Some y → StaysPlaced d (told_with d m t y what name (noted d.notes y.place n))
+told_stays d m t y what name n there =
+    stays_same d (told_with d m t y what name (noted d.notes y.place n)) refl (λ i. refl) (same_view runs_of_transfer d.transfers t y (record y { reported = true }) there refl)
+    (noted_stays d.notes y.place n) (noted_many d.notes y.place n)
+
+goes_on_stays : (d : DriverContent) (e t : ℕ) (x : Endpoint) → slice_get d.endpoints e ≡ Some x → StaysPlaced d (goes_on d e t x)
+goes_on_stays d e t x here =
+    stays_same d (goes_on d e t x) refl (endpoint_stays d e x (record x { next = next_after d.transfers e t }) here refl) (λ i. refl) (λ c. refl) refl
+
+one_stays : (d : DriverContent) (e : ℕ) (name : EpName) (k : ℕ) (o : Option Transfer) → slice_get d.transfers k ≡ o → StaysPlaced d (behind_one d e name k o)
+one_stays d e name k None there = nothing d
+one_stays d e name k (Some y) there =
+    either d _ d (waits_for e y)
+    (stays_same d _ refl (λ i. refl) (same_view runs_of_transfer d.transfers k y (record y { reported = true }) there refl) (λ c. refl) refl) (nothing d)
+
+behind_stays : (d : DriverContent) (e : ℕ) (name : EpName) (k n : ℕ) → StaysPlaced d (behind d e name k n)
+unfolding behind
+behind_stays d e name k zero = nothing d
+behind_stays d e name k (suc n) =
+    stays_both d (behind_one d e name k (slice_get d.transfers k)) (behind (behind_one d e name k (slice_get d.transfers k)) e name (suc k) n)
+    (one_stays d e name k (slice_get d.transfers k) refl) (behind_stays (behind_one d e name k (slice_get d.transfers k)) e name (suc k) n)
+
+stalled_stays : (d : DriverContent) (e t : ℕ) (x : Endpoint) → slice_get d.endpoints e ≡ Some x → StaysPlaced d (stalled d e t x)
+stalled_stays d e t x here =
+    let now = record d { harvested = d.harvested ++ t ∷ []; endpoints = set d.endpoints e (record x { next = None }); mends = d.mends ++ mends_of x } in
+    stays_both d now (stalled d e t x) (stays_same d now refl (endpoint_stays d e x (record x { next = None }) here refl) (λ i. refl) (λ c. refl) refl)
+    (behind_stays now e x.desc.name (suc t) (length d.transfers - suc t))
+
+end_stays : (d : DriverContent) (e t : ℕ) (x : Endpoint) (stall : Bool) (o : Option EndCause) → slice_get d.endpoints e ≡ Some x → StaysPlaced d (after_end d e t x stall o)
+end_stays d e t x stall (Some cause) here = stays_same d _ refl (endpoint_stays d e x (record x { ended = Some cause }) here refl) (λ i. refl) (λ c. refl) refl
+end_stays d e t x stall None here = either d (stalled d e t x) (goes_on d e t x) stall (stalled_stays d e t x here) (goes_on_stays d e t x here)
+
+read_stays : (d : DriverContent) (m : Mem) (e t : ℕ) (x : Endpoint) (y : Transfer) (found : Found) → slice_get d.endpoints e ≡ Some x → slice_get d.transfers t ≡ Some y → StaysPlaced d (harvested_as d m e t x y found)
+read_stays d m e t x y founds.Active here there = nothing d
+read_stays d m e t x y (founds.Moved n) here there = moved_stays d t y n there
+read_stays d m e t x y (founds.Ended n what) here there =
+    let told = told_with d m t y what x.desc.name (noted d.notes y.place n) in
+    stays_both d told (after_end told e t x (is_stall what) (end_of x.desc.kind what)) (told_stays d m t y what x.desc.name n there) (end_stays told e t x (is_stall what) (end_of x.desc.kind what) here)
+
+pub harvest_stays : (d : DriverContent) (m : Mem) (e t : ℕ) (found : Found) (o : Option Endpoint) (q : Option Transfer) → slice_get d.endpoints e ≡ o → slice_get d.transfers t ≡ q → StaysPlaced d (after_harvest d m e t found o q)
+harvest_stays d m e t found None q here there = nothing d
+harvest_stays d m e t found (Some x) None here there = nothing d
+harvest_stays d m e t found (Some x) (Some y) here there =
+    let read = harvested_as d m e t x y found in
+    either d (served read e) d (waits_for e y)
+    (stays_both d read (served read e) (read_stays d m e t x y found here there) (stays_same read (served read e) refl (λ i. refl) (λ i. refl) (λ c. refl) refl)) (nothing d)

@@ -1,0 +1,53 @@
+-- Why an event of the driver is the one that it is (EHCI 1.0, 4.8 to 4.10).
+--     IsDue p row        the content says why the row comes next
+use Rattle.std.specs.Prelude.{◌≡◌, ℕ, true, nat_le, slice_get, Some, None}
+use Rattle.driver_rows.specs.declared.content.Endpoint.{Endpoint}
+use Rattle.driver_rows.specs.declared.content.Transfer.{Transfer}
+use Rattle.driver_rows.specs.declared.content.Command.{Command}
+use Rattle.driver_rows.specs.declared.content.Bell.TheVariants as bells
+use Rattle.driver_rows.specs.declared.rows.Row.{Row}
+use Rattle.driver_rows.specs.declared.rows.Row.TheVariants as rows
+use Rattle.driver_rows.specs.declared.rows.Found.{Found}
+use Rattle.driver_rows.specs.DriverContent.{waits_for}
+use Rattle.driver_rows.specs.Harvests.{note_at, token_in, found_in}
+use Rattle.driver_rows.specs.Rows.{Parts, events_of, tells_advance}
+
+-- the next event of the unfinished command
+pub record IsNextOf (p : Parts) (row : Row) : Type 0 where
+  pub command : Command
+  pub unfinished : p.driver.command ≡ Some command
+  pub next : slice_get (events_of command) p.driver.made ≡ Some row
+
+pub record IsTransferDue (p : Parts) (t : ℕ) : Type 0 where
+  pub idle : p.driver.command ≡ None
+  pub first : slice_get p.driver.harvested 0 ≡ Some t
+
+-- a transfer is given back before an endpoint
+pub record IsEndpointDue (p : Parts) (e : ℕ) : Type 0 where
+  pub idle : p.driver.command ≡ None
+  pub first : slice_get p.driver.cleared 0 ≡ Some e
+  pub none_before : slice_get p.driver.harvested 0 ≡ None
+
+-- an endpoint that hasn't ended has this transfer to harvest
+pub record IsHarvestDue (p : Parts) (e t : ℕ) (found : Found) : Type 0 where
+  pub idle : p.driver.command ≡ None
+  pub endpoint : Endpoint
+  pub transfer : Transfer
+  pub here : slice_get p.driver.endpoints e ≡ Some endpoint
+  pub goes_on : endpoint.ended ≡ None
+  pub next : endpoint.next ≡ Some t
+  pub there : slice_get p.driver.transfers t ≡ Some transfer
+  pub waits : waits_for e transfer ≡ true
+  pub tells : found ≡ found_in transfer.sort (nat_le transfer.left 1) (note_at p.driver.notes transfer.place) (token_in p.memory transfer.place)
+
+abbrev pub IsDue : Parts → Row → Type 0
+IsDue p rows.Lend = IsNextOf p rows.Lend
+IsDue p (rows.Store b at v) = IsNextOf p (rows.Store b at v)
+IsDue p (rows.Mend w) = (p.driver.command ≡ None) × (slice_get p.driver.mends 0 ≡ Some w)
+IsDue p (rows.ReleaseTransfer t) = IsTransferDue p t
+IsDue p (rows.ReleaseEndpoint e) = IsEndpointDue p e
+IsDue p rows.ClearAdvance = (p.driver.command ≡ None) × (p.driver.bell ≡ bells.Heard)
+IsDue p rows.RingBell = (p.driver.command ≡ None) × (p.driver.bell ≡ bells.Quiet)
+IsDue p (rows.ReadStatus heard) = (p.driver.command ≡ None) × (p.driver.bell ≡ bells.Rung) × (heard ≡ tells_advance p.registers)
+IsDue p (rows.Harvest e t found) = IsHarvestDue p e t found
+IsDue p rows.Rest = Unit {0}
