@@ -9,3 +9,4 @@ pub mod Gone
 pub mod Written
 pub mod Entered
 pub mod Offered
+pub mod Stores

@@ -10,6 +10,7 @@ use Rattle.driver_rows.specs.declared.rows.Row.TheVariants as rows
 abbrev pub stores_at : Row → ℕ → Bool
 stores_at (rows.Store b to v) at = at / 4 == to / 4
 stores_at (rows.Mend w) at = at / 4 == w.at / 4
+stores_at (rows.Unlink t s) at = at / 4 == s.at / 4
 stores_at _ at = false
 
 abbrev pub OnlyStores : Row → Mem → Mem → Type 0

@@ -44,7 +44,7 @@ impl Driver {
     }
 
     /// Makes the event that this row tells.
-    #[tactic(auto, using(std::proofs::lemmas::Grind::common_steps, crate::proofs::Kept::transfer_registers, crate::proofs::Kept::endpoint_registers))]
+    #[tactic(auto, using(std::proofs::lemmas::Grind::common_steps, crate::proofs::Kept::transfer_registers, crate::proofs::Kept::endpoint_registers, crate::proofs::Kept::unlink_registers, crate::proofs::Kept::removed_registers))]
     fn make(&mut self, regs: &mut Registers, mem: &mut WordMem, row: Row)
         requires { Stands (holding self.old.book mem.old) }
         ensures driver { self.new ≡ (after_row row (record { driver = self.old; registers = regs.old; memory = mem.old })).driver }
