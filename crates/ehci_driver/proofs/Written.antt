@@ -10,13 +10,14 @@ use Rattle.run_book.specs.Book.{Holding, holding, Stands, slot_of, slot_at, lend
 use Rattle.run_book.specs.declared.slots.Slot.{Slot}
 use Rattle.run_book.specs.declared.slots.Slot.TheVariants.{Empty, Keeps, Lends}
 use Rattle.run_book.proofs.Standing.{stands_released, within_lent}
+use Rattle.periodic_rows.specs.declared.content.LinkStore.{LinkStore}
 use Rattle.driver_rows.specs.declared.content.Endpoint.{Endpoint}
 use Rattle.driver_rows.specs.declared.content.Transfer.{Transfer}
 use Rattle.driver_rows.specs.declared.content.QtdNote.{QtdNote}
 use Rattle.driver_rows.specs.declared.rows.Row.{Row}
 use Rattle.driver_rows.specs.declared.rows.Row.TheVariants as rows
 use Rattle.driver_rows.specs.Harvests.{note_at}
-use Rattle.driver_rows.specs.Rows.{Parts, after_row, after_transfer, after_endpoint, freed_by, free_runs, free_qtd, free_qtds, free_transfers, free_endpoint, is_held_of}
+use Rattle.driver_rows.specs.Rows.{Parts, after_row, after_transfer, after_endpoint, freed_by, free_runs, free_qtd, free_qtds, free_transfers, free_endpoint, is_held_of, after_unlink}
 use Rattle.ehci_driver.specs.Written.{OnlyStores}
 
 -- ---- lending
@@ -138,16 +139,23 @@ endpoint_words p e (Some x) stands shape at busy =
 
 -- ---- each row
 
+unlink_words : (p : Parts) (t : ℕ) (w : LinkStore) (o : Option Transfer) (at : ℕ) → (at / 4 == w.at / 4) ≡ false → word_at (after_unlink p t w o).memory at ≡ word_at p.memory at
+unlink_words p t w None at apart = refl
+unlink_words p t w (Some x) at apart = written (can_store (slot_of p.driver.book.slots w.block) w.at) p.memory w.at w.value at apart
+
 pub row_words : (row : Row) (p : Parts) → Stands (holding p.driver.book p.memory) → IsShaped p.memory → OnlyStores row p.memory (after_row row p).memory
-row_words rows.Lend p stands shape at apart busy =
+row_words rows.Lend p stands shape at apart beside busy =
     let h = holding p.driver.book p.memory in
     ap (λ ws. slice_index ws (at / 4)) (lent_runs (none_taken h) (reverse h.book.taken))
-row_words (rows.Store b to v) p stands shape at apart busy = written (can_store (slot_of p.driver.book.slots b) to) p.memory to v at apart
-row_words (rows.Mend w) p stands shape at apart busy = written (can_store (slot_of p.driver.book.slots w.queue) w.at) p.memory w.at w.value at apart
-row_words (rows.ReleaseTransfer t) p stands shape at apart busy = transfer_words p t (slice_get p.driver.transfers t) stands shape at busy
-row_words (rows.ReleaseEndpoint e) p stands shape at apart busy = endpoint_words p e (slice_get p.driver.endpoints e) stands shape at busy
-row_words rows.ClearAdvance p stands shape at apart busy = refl
-row_words rows.RingBell p stands shape at apart busy = refl
-row_words (rows.ReadStatus heard) p stands shape at apart busy = refl
-row_words (rows.Harvest e t found) p stands shape at apart busy = refl
-row_words rows.Rest p stands shape at apart busy = refl
+row_words (rows.Store b to v) p stands shape at apart beside busy = written (can_store (slot_of p.driver.book.slots b) to) p.memory to v at apart
+row_words (rows.Mend w) p stands shape at apart beside busy = written (can_store (slot_of p.driver.book.slots w.queue) w.at) p.memory w.at w.value at apart
+row_words (rows.ReleaseTransfer t) p stands shape at apart beside busy = transfer_words p t (slice_get p.driver.transfers t) stands shape at busy
+row_words (rows.ReleaseEndpoint e) p stands shape at apart beside busy = endpoint_words p e (slice_get p.driver.endpoints e) stands shape at busy
+row_words rows.ClearAdvance p stands shape at apart beside busy = refl
+row_words rows.RingBell p stands shape at apart beside busy = refl
+row_words (rows.ReadStatus heard) p stands shape at apart beside busy = refl
+row_words (rows.Harvest e t found) p stands shape at apart beside busy = refl
+row_words (rows.Frames n) p stands shape at apart beside busy = refl
+row_words (rows.Unlink t s) p stands shape at apart beside busy = unlink_words p t s (slice_get p.driver.transfers t) at apart
+row_words (rows.ReadFrame n) p stands shape at apart beside busy = refl
+row_words rows.Rest p stands shape at apart beside busy = refl
