@@ -96,11 +96,11 @@ frames_in s w p sums fit l hub f h k =
     (added (is_hub w.hub hub) _ _ _ (fit.frames hub f h k)
     (λ own.
     added (is_active p f) _ _ _ (fit.frames hub f h k)
-    (λ a. rw (← sums.frames hub f (hub_is w.hub hub own) k) (l f k a))))
+    (λ a. rw (← sums.frames hub f (hub_is w.hub hub own) h k) (l f k a))))
 
 pub frames_out : (s : Sheet) (w : Want) (p : Placement) (hub : ℕ) → hub < 128 → w.hub ≡ Some hub → AreSums s w.hub → Fits (joined s.placed w p) → FramesFit s w p
 frames_out s w p hub h e sums fit f k a =
-    rw (sums.frames hub f e k)
+    rw (sums.frames hub f e h k)
     (dropped (is_active p f) _ _ _
     (dropped (is_hub w.hub hub) _ _ _ (rw (frame_joined s.placed w p hub f) at (fit.frames hub f h k)) (is_own_hub w.hub hub e))
     a)
@@ -111,11 +111,11 @@ bytes_in s w p sums fit l hub u h k =
     (added (is_hub w.hub hub) _ _ _ (fit.bytes hub u h k)
     (λ own.
     added (is_active p (u / 8)) _ _ _ (fit.bytes hub u h k)
-    (λ a. rw (← sums.bytes hub u (hub_is w.hub hub own) k) (l u k a))))
+    (λ a. rw (← sums.bytes hub u (hub_is w.hub hub own) h k) (l u k a))))
 
 pub bytes_out : (s : Sheet) (w : Want) (p : Placement) (hub : ℕ) → hub < 128 → w.hub ≡ Some hub → AreSums s w.hub → Fits (joined s.placed w p) → BytesFit s w p
 bytes_out s w p hub h e sums fit u k a =
-    rw (sums.bytes hub u e k)
+    rw (sums.bytes hub u e h k)
     (dropped (is_active p (u / 8)) _ _ _
     (dropped (is_hub w.hub hub) _ _ _ (rw (bytes_joined s.placed w p hub u) at (fit.bytes hub u h k)) (is_own_hub w.hub hub e))
     a)
@@ -180,7 +180,7 @@ greatest_below (suc n) f b all =
 abbrev pub own_sum : List Placed → Want → Placement → ℕ → ℕ
 own_sum placed w p u = if is_own p u then load (joined placed w p) u else 0
 
-taken : (b : Bool) (x : ℕ) → b ≡ true → cond b x 0 ≡ x
+pub taken : (b : Bool) (x : ℕ) → b ≡ true → cond b x 0 ≡ x
 taken true x h = refl
 taken false x h = cc
 
@@ -210,16 +210,6 @@ peak_is s w p top sums covers least =
     greatest_below 8192 (own_sum s.placed w p) top
     (λ u h. bounded (is_own p u) _ _ (λ own. omega (arith, own_cell s w p sums u h own, covers u h own))) in
     omega (arith, above, under)
-
--- a cell within its budget is far within the range that is added without care
-pub loads_roomy : (s : Sheet) (hub : Option ℕ) → AreSums s hub → Fits s.placed → (u : ℕ) → u < 8192 → slice_index s.loads u ≤ 1000000000000
-loads_roomy s hub sums fit u h = omega (arith, sums.loads u h, fit.loads u h)
-
-pub frames_roomy : (s : Sheet) (o : Option ℕ) (hub : ℕ) → o ≡ Some hub → hub < 128 → AreSums s o → Fits s.placed → (f : ℕ) → f < 1024 → slice_index s.frames f ≤ 1000000000000
-frames_roomy s o hub e k sums fit f h = omega (arith, sums.frames hub f e h, fit.frames hub f k h)
-
-pub bytes_roomy : (s : Sheet) (o : Option ℕ) (hub : ℕ) → o ≡ Some hub → hub < 128 → AreSums s o → Fits s.placed → (u : ℕ) → u < 8192 → slice_index s.bytes u ≤ 1000000000000
-bytes_roomy s o hub e k sums fit u h = omega (arith, sums.bytes hub u e h, fit.bytes hub u k h)
 
 -- two tests of one fact agree
 pub same_test : (a b : Bool) (P : Type 0) → (a ≡ true → P) → (P → a ≡ true) → (P → b ≡ true) → ((P → ⊥) → b ≡ false) → a ≡ b

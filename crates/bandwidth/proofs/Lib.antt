@@ -5,3 +5,4 @@ pub mod Best
 pub mod Ids
 pub mod Least
 pub mod Admits
+pub mod Books
