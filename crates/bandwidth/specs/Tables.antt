@@ -5,9 +5,10 @@
 --     IsPlaced x            what is placed was asked for rightly and has a place
 --     serves P hub          something is placed below the hub
 --     HubStands P hub t     a hub has tables exactly where something is placed below it, and their cells are its sums
+--     IsLess x P Q          Q is P without one x
 --     IsBook b              every cell is its sum, and what is placed keeps every budget
 --     sheet_at b hub        what an admission below this hub, if there is one, sees of the tables
-use Rattle.std.specs.Prelude.{◌≡◌, ℕ, ◌+◌, ◌/◌, ◌%◌, ◌<◌, ◌≤◌, min, Bool, true, false, if◌then◌else◌, List, [], Option, Some, None, is_some, slice_index, slice_index_or, All, length}
+use Rattle.std.specs.Prelude.{◌≡◌, ℕ, ◌+◌, ◌/◌, ◌%◌, ◌<◌, ◌≤◌, min, Bool, true, false, ◌||◌, if◌then◌else◌, List, [], Option, Some, None, is_some, sum_by, slice_index, slice_index_or, All, length}
 use Rattle.std.specs.List.{list_any, count_by}
 use Rattle.bandwidth.specs.declared.placements.Placement.{Placement}
 use Rattle.bandwidth.specs.declared.placements.Placed.{Placed}
@@ -62,6 +63,11 @@ abbrev pub HubStands : List Placed → ℕ → Option HubTables → Type 0
 HubStands placed hub None = serves placed hub ≡ false
 HubStands placed hub (Some t) = (serves placed hub ≡ true) × AreHubSums placed hub t
 
+-- left is all without one x
+pub record IsLess (x : Placed) (all left : List Placed) : Type 0 where
+  pub sums : (f : Placed → ℕ) → sum_by f all ≡ sum_by f left + f x
+  pub serves : (hub : ℕ) → serves all hub ≡ (is_hub x.want.hub hub || serves left hub)
+
 -- 128 addresses
 pub record IsPool (placed : List Placed) (pool : Pool) : Type 0 where
   pub count : length pool.hubs ≡ 128
@@ -84,20 +90,20 @@ pub record IsBook (b : Book) : Type 0 where
 abbrev pub frame_share : ℕ → Placement → ℕ → ℕ
 frame_share time p f = if is_active p f then time else 0
 
-abbrev pub byte_share : List ℕ → Placement → ℕ → ℕ
-byte_share bytes p u = if is_active p (u / 8) then slice_index bytes (u % 8) else 0
+abbrev pub byte_share : (ℕ → ℕ) → Placement → ℕ → ℕ
+byte_share laid p u = if is_active p (u / 8) then laid (u % 8) else 0
 
 -- the cells of u are those of t with one placement more
-pub record Adds (time : ℕ) (bytes : List ℕ) (p : Placement) (t u : HubTables) : Type 0 where
+pub record Adds (time : ℕ) (laid : ℕ → ℕ) (p : Placement) (t u : HubTables) : Type 0 where
   pub cells : AreCells u
   pub frames : (f : ℕ) → f < 1024 → slice_index u.frames f ≡ slice_index t.frames f + frame_share time p f
-  pub bytes : (m : ℕ) → m < 8192 → slice_index u.bytes m ≡ slice_index t.bytes m + byte_share bytes p m
+  pub bytes : (m : ℕ) → m < 8192 → slice_index u.bytes m ≡ slice_index t.bytes m + byte_share laid p m
 
 -- the cells hold what the placement adds
-pub record Holds (time : ℕ) (bytes : List ℕ) (p : Placement) (t : HubTables) : Type 0 where
+pub record Holds (time : ℕ) (laid : ℕ → ℕ) (p : Placement) (t : HubTables) : Type 0 where
   pub cells : AreCells t
   pub frames : (f : ℕ) → f < 1024 → is_active p f ≡ true → time ≤ slice_index t.frames f
-  pub bytes : (m : ℕ) → m < 8192 → is_active p (m / 8) ≡ true → slice_index bytes (m % 8) ≤ slice_index t.bytes m
+  pub bytes : (m : ℕ) → m < 8192 → is_active p (m / 8) ≡ true → laid (m % 8) ≤ slice_index t.bytes m
 
 -- within the budgets
 pub record AreWithin (t : HubTables) : Type 0 where

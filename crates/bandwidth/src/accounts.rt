@@ -1,12 +1,13 @@
-ghost use Rattle.std.specs.Prelude.{◌≡◌, ◌+◌, ◌*◌, ◌<◌, ◌++◌, ◌∷◌, [], length, not, nat_eq, true, false, filter, slice_index, Some, None, if◌then◌else◌, IfOk, IfSome, IfNone, IsTrue, ◌↔◌};
+ghost use Rattle.std.specs.Prelude.{◌≡◌, ℕ, ◌+◌, ◌*◌, ◌<◌, ◌≤◌, List, [], length, not, nat_eq, true, false, filter, Some, None, IfOk, IfSome, IfNone, IsTrue, ◌↔◌};
 ghost use Rattle.std.specs.List.{list_any, position};
-ghost use Rattle.bandwidth.specs.Placements.{IsWant};
+ghost use Rattle.bandwidth.specs.Placements.{IsWant, IsPlace};
 ghost use Rattle.bandwidth.specs.Sums.{Fits, laid_in, time_of};
 ghost use Rattle.bandwidth.specs.Admission.{joined, keeps, peak};
 ghost use Rattle.bandwidth.specs.Shapes.{turns, cells, laid_cells, IsShape, IsOf};
+ghost use Rattle.bandwidth.specs.Tables.{IsPool, IsLess, AreWithin, serves, tables_of, pool_size};
 
 use crate::asks::{byte_times_of, costs_of, is_below, time_in_frame};
-use crate::budgets::peak_within;
+use crate::limits::peak_within;
 use crate::hub_pool::HubPool;
 use crate::hub_sums::{FRAME_BUDGET, HubSums};
 use crate::placements::{Placed, Placement, Want};
@@ -20,7 +21,7 @@ use step_count::Steps;
 use usb_base::{DevAddr, Memory};
 
 /// The budget of a microframe: 80 % of 125 microseconds, in picoseconds (USB 2.0, 5.6.4 and 5.7.4).
-const MICROFRAME_BUDGET: u64 = 100_000_000;
+pub(crate) const MICROFRAME_BUDGET: u64 = 100_000_000;
 
 /// The addresses of hubs.
 const ADDRESSES: u32 = 128;
@@ -46,7 +47,7 @@ impl Model for Accounts {
 }
 
 impl Accounts {
-    ghost use Rattle.bandwidth.specs.Tables.{IsPlaced, IsBook, BelowFits, tables_of, tables_at};
+    ghost use Rattle.bandwidth.specs.Tables.{IsBook, BelowFits, tables_at};
 
     /// An empty book with room for so many, and with tables for as many hubs as may need them at once.
     pub(crate) fn build(alloc: Global, room: u32) -> Result<Accounts, Memory>
@@ -109,7 +110,7 @@ impl Accounts {
         requires shape { IsShape want.now shape.now }
         requires place { IsOf shape.now placement.now }
         ensures alone { want.now.hub ≡ None → result ≡ true }
-        ensures fits { (hub : ℕ) → want.now.hub ≡ Some hub → IsTrue result ↔ BelowFits (tables_at self.now.pool (Some hub)) (time_of want.now) (laid_in want.now placement.now) placement.now }
+        ensures fits { (hub : ℕ) → want.now.hub ≡ Some hub → (IsTrue result) ↔ (BelowFits (tables_at self.now.pool (Some hub)) (time_of want.now) (laid_in want.now placement.now) placement.now) }
         ensures hub { (hub : ℕ) → want.now.hub ≡ Some hub → hub < 128 }
         ensures steps { steps.new ≤ steps.old + turns placement.now.period * (laid_cells want.now + 1) }
     {
@@ -122,28 +123,26 @@ impl Accounts {
         sums.keep(placement, shape.time, &shape.bytes, steps)
     }
 
-    /// The greatest microframe sum over a placement's own microframes, with it included, where it keeps every budget beside what is
-    /// placed; `None` exactly where it breaks one.
+    /// The greatest microframe sum over a placement's own microframes, with it included, where the placement keeps every budget beside
+    /// what is placed and that sum doesn't pass the limit; `None` exactly where it breaks a budget or passes the limit.
     pub(crate) fn kept_peak<L: Ledger>(
         &self,
         want: &Want,
         placement: &Placement,
         shape: &Shape,
+        limit: u64,
         steps: &mut Steps<L>,
     ) -> Option<u64>
         requires want { IsWant want.now }
         requires shape { IsShape want.now shape.now }
         requires place { IsOf shape.now placement.now }
-        ensures peak { result ≡ (if keeps self.now.placed want.now placement.now then Some (peak self.now.placed want.now placement.now) else None) }
+        requires limit { limit ≤ 100000000 }
+        ensures keeps { IfSome result (λ top. keeps self.now.placed want.now placement.now ≡ true) }
+        ensures peak { IfSome result (λ top. top ≡ peak self.now.placed want.now placement.now) }
+        ensures none { IfNone result (keeps self.now.placed want.now placement.now ≡ true → limit < peak self.now.placed want.now placement.now) }
         ensures steps { steps.new ≤ steps.old + turns placement.now.period * cells want.now }
     {
-        let peak = peak_within(
-            &self.loads,
-            placement,
-            &shape.costs,
-            MICROFRAME_BUDGET,
-            steps,
-        )?;
+        let peak = peak_within(&self.loads, placement, &shape.costs, limit, steps)?;
         if !self.below_keeps(want, placement, shape, steps) {
             return None;
         }
@@ -207,26 +206,45 @@ fn add_below<L: Ledger>(
     shape: &Shape,
     steps: &mut Steps<L>,
 )
+    requires shape { IsShape want.now shape.now }
+    requires place { IsOf shape.now placement.now }
+    requires free { (hub : ℕ) → want.now.hub ≡ Some hub → tables_of pool.old hub ≡ None → 1 ≤ length pool.old.free }
+    requires within { (hub : ℕ) → want.now.hub ≡ Some hub → IfSome (tables_of pool.old hub) AreWithin }
+    ensures pool { (placed : List Placed) → IsPool placed pool.old → IsPool (joined placed want.now placement.now) pool.new }
+    ensures size { pool_size pool.new ≡ pool_size pool.old }
+    ensures steps { steps.new ≤ steps.old + turns placement.now.period * (laid_cells want.now + 1) }
 {
-    if let Some(hub) = want.hub {
-        pool.add(hub, placement, shape.time, &shape.bytes, steps);
-    }
+    let Some(hub) = want.hub else {
+        return;
+    };
+    pool.add(hub, placement, shape.time, &shape.bytes, steps);
 }
 
 /// Whether something is placed below a hub.
-fn serves(placed: &[Placed], hub: DevAddr) -> bool
+fn is_served(placed: &[Placed], hub: DevAddr) -> bool
+    ensures { result ≡ serves placed.now hub }
 {
     placed.iter().any(|x| is_below(&x.want, hub))
 }
 
 /// Takes a placement out of the tables of its hub, if it has one, and frees them if nothing else is placed below it.
 fn sub_below(pool: &mut HubPool, placed: &[Placed], want: &Want, placement: &Placement)
+    requires want { IsWant want.now }
+    requires place { IsPlace placement.now }
+    requires was { (all : List Placed) × IsLess (record { want = want.now; placement = placement.now }) all placed.now × IsPool all pool.old }
+    ensures pool { IsPool placed.now pool.new }
+    ensures size { pool_size pool.new ≡ pool_size pool.old }
 {
     let Some(hub) = want.hub else {
         return;
     };
-    pool.sub(hub, placement, time_in_frame(want), &byte_times_of(want, placement));
-    if !serves(placed, hub) {
+    pool.sub(
+        hub,
+        placement,
+        time_in_frame(want),
+        &byte_times_of(want, placement),
+    );
+    if !is_served(placed, hub) {
         pool.give_back(hub);
     }
 }

@@ -1,4 +1,4 @@
-ghost use Rattle.std.specs.Prelude.{◌≡◌, ◌+◌, ◌-◌, ◌*◌, ◌<◌, ◌≤◌, true, length, slice_set, replicate, vec_capacity, All, Some, None, is_some, IfOk, IfSome, IfNone};
+ghost use Rattle.std.specs.Prelude.{◌≡◌, ◌+◌, ◌-◌, ◌*◌, ◌<◌, ◌≤◌, true, length, slice_index, slice_set, replicate, vec_capacity, All, Some, None, is_some, IfOk, IfSome, IfNone};
 ghost use Rattle.bandwidth.specs.Placements.{IsPlace};
 ghost use Rattle.bandwidth.specs.Shapes.{turns, IsAmounts};
 ghost use Rattle.bandwidth.specs.Tables.{AreCells, AreZero};
@@ -105,7 +105,7 @@ impl HubPool {
         requires place { IsPlace placement.now }
         requires time { time ≤ 1000000000000 }
         requires bytes { IsAmounts bytes.now }
-        ensures hubs { (t u : HubTables) × Had (tables_of self.old hub) t × Adds time bytes.now.each placement.now t u × (self.new.hubs ≡ slice_set self.old.hubs hub (Some u)) }
+        ensures hubs { (t u : HubTables) × Had (tables_of self.old hub) t × Adds time (slice_index bytes.now.each) placement.now t u × (self.new.hubs ≡ slice_set self.old.hubs hub (Some u)) }
         ensures free { All AreZero self.new.free }
         ensures size { pool_size self.new ≡ pool_size self.old }
         ensures steps { steps.new ≤ steps.old + turns placement.now.period * (bytes.now.to - bytes.now.from + 1) }
@@ -130,7 +130,7 @@ impl HubPool {
         requires place { IsPlace placement.now }
         requires time { time ≤ 1000000000000 }
         requires bytes { IsAmounts bytes.now }
-        ensures hubs { (t u : HubTables) × (tables_of self.old hub ≡ Some t) × Adds time bytes.now.each placement.now t u × (self.new.hubs ≡ slice_set self.old.hubs hub (Some u)) }
+        ensures hubs { (t u : HubTables) × (tables_of self.old hub ≡ Some t) × Adds time (slice_index bytes.now.each) placement.now t u × (self.new.hubs ≡ slice_set self.old.hubs hub (Some u)) }
         ensures free { self.new.free ≡ self.old.free }
         ensures steps { steps.new ≤ steps.old + turns placement.now.period * (bytes.now.to - bytes.now.from + 1) }
     {
@@ -143,8 +143,8 @@ impl HubPool {
     pub(crate) fn sub(&mut self, hub: DevAddr, placement: &Placement, time: u64, bytes: &[u64; 8])
         requires some { is_some (tables_of self.old hub) ≡ true }
         requires place { IsPlace placement.now }
-        requires holds { IfSome (tables_of self.old hub) (Holds time bytes.now placement.now) }
-        ensures hubs { (t u : HubTables) × (tables_of self.old hub ≡ Some t) × AreCells u × Adds time bytes.now placement.now u t × (self.new.hubs ≡ slice_set self.old.hubs hub (Some u)) }
+        requires holds { IfSome (tables_of self.old hub) (Holds time (slice_index bytes.now) placement.now) }
+        ensures hubs { (t u : HubTables) × (tables_of self.old hub ≡ Some t) × AreCells u × Adds time (slice_index bytes.now) placement.now u t × (self.new.hubs ≡ slice_set self.old.hubs hub (Some u)) }
         ensures free { self.new.free ≡ self.old.free }
     {
         if let Some(sums) = &mut self.hubs[hub.get() as usize] {

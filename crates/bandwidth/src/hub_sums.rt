@@ -1,8 +1,8 @@
-ghost use Rattle.std.specs.Prelude.{◌≡◌, ◌+◌, ◌-◌, ◌*◌, ◌≤◌, length, slice_index, IfOk, IsTrue, ◌↔◌};
+ghost use Rattle.std.specs.Prelude.{◌≡◌, ◌+◌, ◌-◌, ◌*◌, ◌≤◌, slice_index, IfOk, IsTrue, ◌↔◌};
 ghost use Rattle.bandwidth.specs.Placements.{IsPlace};
 ghost use Rattle.bandwidth.specs.Shapes.{turns, IsAmounts};
 
-use crate::budgets::{frames_fit, microframes_fit};
+use crate::limits::{frames_fit, microframes_fit};
 use crate::placements::Placement;
 use crate::shapes::Amounts;
 use crate::table::Table;
@@ -59,7 +59,7 @@ impl HubSums {
         requires place { IsPlace placement.now }
         requires time { time ≤ 1000000000000 }
         requires bytes { IsAmounts bytes.now }
-        ensures sums { Adds time bytes.now.each placement.now self.old self.new }
+        ensures sums { Adds time (slice_index bytes.now.each) placement.now self.old self.new }
         ensures steps { steps.new ≤ steps.old + turns placement.now.period * (bytes.now.to - bytes.now.from + 1) }
     {
         add_frames(&mut self.frames, placement, time, steps);
@@ -69,8 +69,8 @@ impl HubSums {
     /// Takes out a placement with so much classic time in each frame, and these byte-times.
     pub(crate) fn sub(&mut self, placement: &Placement, time: u64, bytes: &[u64; 8])
         requires place { IsPlace placement.now }
-        requires holds { Holds time bytes.now placement.now self.old }
-        ensures sums { Adds time bytes.now placement.now self.new self.old }
+        requires holds { Holds time (slice_index bytes.now) placement.now self.old }
+        ensures sums { Adds time (slice_index bytes.now) placement.now self.new self.old }
         ensures cells { AreCells self.new }
     {
         sub_frames(&mut self.frames, placement, time);

@@ -6,11 +6,11 @@
 
 mod accounts;
 mod asks;
-mod budgets;
 mod choice;
 mod frames;
 mod hub_pool;
 mod hub_sums;
+mod limits;
 mod masks;
 mod options;
 mod placements;

@@ -2,9 +2,9 @@ ghost use Rattle.std.specs.Prelude.{◌≡◌, ◌+◌, ◌*◌, ◌<◌, ◌≤
 ghost use Rattle.bandwidth.specs.Placements.{IsWant, frame_period, in_phase, placement_row, placement_at};
 ghost use Rattle.bandwidth.specs.Shapes.{turns, cells, IsShape, AreShapes};
 ghost use Rattle.bandwidth.specs.Admission.{best};
-ghost use Rattle.bandwidth.specs.Choice.{lesser, better, choice, place_in};
+ghost use Rattle.bandwidth.specs.Choice.{lesser, limit, better, choice, place_in};
 
-use crate::accounts::Accounts;
+use crate::accounts::{Accounts, MICROFRAME_BUDGET};
 use crate::choice::Candidate;
 use crate::frames::frames_of;
 use crate::options::starts;
@@ -39,6 +39,16 @@ fn placement_in(best: Option<Candidate>) -> Option<Placement>
     }
 }
 
+/// The greatest peak, in picoseconds, with which a placement keeps the budget of microframes and is better than the candidate so far.
+fn limit_of(so_far: &Option<Candidate>) -> u64
+    ensures { result ≡ limit so_far.now }
+{
+    match so_far {
+        None => MICROFRAME_BUDGET,
+        Some(old) => old.peak.saturating_sub(1).min(MICROFRAME_BUDGET),
+    }
+}
+
 /// The better of the candidate so far and a placement.
 fn better_of<L: Ledger>(
     accounts: &Accounts,
@@ -55,7 +65,8 @@ fn better_of<L: Ledger>(
     ensures steps { steps.new ≤ steps.old + turns want.now.period * cells want.now }
 {
     let placement = shape.placed(want.period, phase);
-    match accounts.kept_peak(want, &placement, shape, steps) {
+    let limit = limit_of(&so_far);
+    match accounts.kept_peak(want, &placement, shape, limit, steps) {
         Some(peak) => lesser_of(so_far, Candidate { placement, peak }),
         None => so_far,
     }

@@ -73,7 +73,7 @@ fn sub_in_frame(table: &mut Table, frame: u32, amounts: &[u64; 8])
     ensures cells { length table.new ≡ 8192 }
     ensures sums { (u : ℕ) → u < 8192 → slice_index table.old u ≡ slice_index table.new u + (if nat_eq (u / 8) frame then slice_index amounts.now (u % 8) else 0) }
 {
-    for m in 0..8 {
+    for m in 0..8u8 {
         table.sub(8 * frame + m as u32, amounts[m as usize]);
     }
 }

@@ -1,4 +1,4 @@
-ghost use Rattle.std.specs.Prelude.{◌≡◌, ℕ, ◌+◌, ◌-◌, ◌*◌, ◌/◌, ◌%◌, ◌<◌, ◌≤◌, true, length, slice_index, IsTrue, ◌↔◌, IfSome, IfNone, ⊥};
+ghost use Rattle.std.specs.Prelude.{◌≡◌, ℕ, ◌+◌, ◌-◌, ◌*◌, ◌/◌, ◌%◌, ◌<◌, ◌≤◌, true, length, slice_index, IsTrue, ◌↔◌, IfSome, IfNone};
 ghost use Rattle.bandwidth.specs.Placements.{IsPlace};
 ghost use Rattle.bandwidth.specs.Shapes.{turns, IsAmounts};
 ghost use Rattle.bandwidth.specs.Sums.{is_active};
