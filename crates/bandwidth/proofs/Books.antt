@@ -1,7 +1,7 @@
 -- The tables of a plan are the sums of its list, before and after one placement comes or goes.
-use Rattle.std.proofs.Common.{◌≡◌, ◌≢◌, ℕ, ◌+◌, ◌/◌, ◌%◌, ◌<◌, ◌≤◌, Bool, true, false, cond, List, [], ◌∷◌, refl, ap, sym, ◌∙◌, subst, arith, length, length-append, get_or, nat_eq, Unit}
-use Rattle.std.specs.Prelude.{zero, suc, ◌||◌, sum_by, replicate, is_some, min, All, Option, Some, None, IfSome, slice_index, filter, not}
-use Rattle.std.specs.List.{list_any, count_by, position, remove}
+use Rattle.std.proofs.Common.{◌≡◌, ◌≢◌, ℕ, ◌+◌, ◌/◌, ◌%◌, ◌<◌, ◌≤◌, Bool, true, false, cond, List, [], ◌∷◌, refl, ap, sym, ◌∙◌, subst, arith, length, length-append, get_or, nat_eq}
+use Rattle.std.specs.Prelude.{zero, suc, ◌||◌, sum_by, replicate, min, All, Option, Some, None, IfSome, slice_index, filter, not}
+use Rattle.std.specs.List.{list_any, position, remove}
 use Rattle.std.proofs.lemmas.List.{get_or-replicate, length-replicate}
 use Rattle.std.proofs.lemmas.List.Sums.{sum_by-remove}
 use Rattle.std.proofs.lemmas.List.Edits.{length-remove}
@@ -11,13 +11,15 @@ use Rattle.std.proofs.lemmas.List.Quantifiers.{all_pairs_push}
 use Rattle.bandwidth.specs.declared.placements.Want.{Want}
 use Rattle.bandwidth.specs.declared.placements.Placement.{Placement}
 use Rattle.bandwidth.specs.declared.placements.Placed.{Placed}
-use Rattle.bandwidth.specs.Placements.{IsWant}
 use Rattle.bandwidth.specs.Sums.{load, frame_sum, tt_sum, cost_at, cost_in, laid_in, time_of, is_active, is_hub, Fits}
-use Rattle.bandwidth.specs.Admission.{joined}
-use Rattle.bandwidth.specs.Tables.{Book, Pool, IsBook, IsPool, IsLess, HubTables, AreCells, AreZero, HubStands, IsPlaced, AreSums, BelowFits, serves, tables_of, tables_at, tables_or_none, pool_size, sheet_at}
-use Rattle.bandwidth.proofs.Budgets.{load_joined, fits_fewer, fits_none, taken}
+use Rattle.bandwidth.specs.Admission.{joined, keeps}
+use Rattle.bandwidth.specs.Tables.{Book, Pool, IsBook, IsPool, IsLess, HubTables, AreZero, HubStands, IsPlaced, AreSums, LoadsFit, BelowFits, Tells, serves, tables_of, pool_size, sheet_at}
+use Rattle.bandwidth.specs.declared.shapes.Shape.{Shape}
+use Rattle.bandwidth.specs.Shapes.{IsShape, IsOf}
+use Rattle.bandwidth.proofs.Spans.{shape_costs}
+use Rattle.bandwidth.proofs.Budgets.{load_joined, fits_fewer, fits_none, fits_fact, frames_out, bytes_out, keeps_alone, keeps_all, taken}
 use Rattle.bandwidth.proofs.Ids.{none_has, of_id, taken_out}
-use Rattle.bandwidth.proofs.Pools.{sums_or_none}
+use Rattle.bandwidth.proofs.Pools.{sums_or_none, no_hubs}
 
 -- ---- what an admission sees
 
@@ -53,28 +55,21 @@ zero_tables t f b = record {
   bytes = zero_at 8192 t.bytes b;
 }
 
-none_there : (n : ℕ) → count_by is_some (replicate n (None {A = HubTables})) ≡ 0
-none_there zero = refl
-none_there (suc n) = none_there n
+pub pool_size_of : (pool : Pool) (n : ℕ) → All (λ (o : Option HubTables). o ≡ None) pool.hubs → length pool.free ≡ n → pool_size pool ≡ n
+pool_size_of pool n e f = omega (arith, no_hubs pool.hubs e, f)
 
-pub pool_size_of : (pool : Pool) (n : ℕ) → pool.hubs ≡ replicate 128 None → length pool.free ≡ n → pool_size pool ≡ n
-pool_size_of pool n e f = omega (arith, ap (count_by is_some) e ∙ none_there 128, f)
-
-pub pool_opening : (pool : Pool) → pool.hubs ≡ replicate 128 None → All AreZero pool.free → IsPool [] pool
-pool_opening pool e free = record {
-  count = ap length e ∙ length-replicate 128 None;
+pub pool_opening : (pool : Pool) → length pool.hubs ≡ 128 → All (λ (o : Option HubTables). o ≡ None) pool.hubs → IsPool [] pool
+pool_opening pool count none = record {
+  count = count;
   hubs = λ hub h.
-      subst (λ (o : Option HubTables). HubStands [] hub o)
-      (sym (ap (λ (xs : List (Option HubTables)). get_or xs hub None) e ∙ get_or-replicate 128 hub None None h))
-      refl;
-  free = free;
+      subst (λ (o : Option HubTables). HubStands [] hub o) (sym (none hub None (omega (arith, count)))) refl;
 }
 
-pub book_opening : (room : ℕ) (loads : List ℕ) (pool : Pool) → loads ≡ replicate 8192 0 → pool.hubs ≡ replicate 128 None → All AreZero pool.free → length pool.free ≡ min room 128 → IsBook (record { room = room; placed = []; loads = loads; pool = pool })
-book_opening room loads pool zeros none free size = record {
-  cells = zero_count 8192 loads zeros;
-  loads = zero_at 8192 loads zeros;
-  pool = pool_opening pool none free;
+pub book_opening : (room : ℕ) (table : List ℕ) (pool : Pool) → table ≡ replicate 8192 0 → length pool.hubs ≡ 128 → All (λ (o : Option HubTables). o ≡ None) pool.hubs → length pool.free ≡ min room 128 → IsBook (record { room = room; placed = []; loads = table; pool = pool })
+book_opening room table pool zeros count none size = record {
+  cells = zero_count 8192 table zeros;
+  loads = zero_at 8192 table zeros;
+  pool = pool_opening pool count none;
   size = pool_size_of pool (min room 128) none size;
   room = omega arith;
   placed = All-nil IsPlaced;
@@ -84,11 +79,11 @@ book_opening room loads pool zeros none free size = record {
 
 -- ---- one more
 
-pub record Comes (b : Book) (w : Want) (p : Placement) (loads : List ℕ) (pool : Pool) : Type 0 where
-  pub cells : length loads ≡ 8192
-  pub loads : (u : ℕ) → u < 8192 → slice_index loads u ≡ slice_index b.loads u + cond (is_active p (u / 8)) (cost_in w p (u % 8)) 0
-  pub pool : IsPool (joined b.placed w p) pool
-  pub size : pool_size pool ≡ pool_size b.pool
+pub record Comes (b : Book) (w : Want) (p : Placement) (table : List ℕ) (next : Pool) : Type 0 where
+  pub cells : length table ≡ 8192
+  pub loads : (u : ℕ) → u < 8192 → slice_index table u ≡ slice_index b.loads u + cond (is_active p (u / 8)) (cost_in w p (u % 8)) 0
+  pub pool : IsPool (joined b.placed w p) next
+  pub size : pool_size next ≡ pool_size b.pool
 
 pub book_joined : (b : Book) (w : Want) (p : Placement) (loads : List ℕ) (pool : Pool) → IsBook b → IsPlaced (record { want = w; placement = p }) → Fits (joined b.placed w p) → length b.placed < b.room → list_any (λ x. nat_eq x.want.id w.id) b.placed ≡ false → Comes b w p loads pool → IsBook (record { room = b.room; placed = joined b.placed w p; loads = loads; pool = pool })
 book_joined b w p loads pool book placed fits room fresh comes = record {
@@ -138,11 +133,11 @@ load_holds b x left book less u h active =
       taken (is_active x.placement (u / 8)) (cost_in x.want x.placement (u % 8)) active,
     )
 
-pub record Goes (b : Book) (x : Placed) (left : List Placed) (loads : List ℕ) (pool : Pool) : Type 0 where
-  pub cells : length loads ≡ 8192
-  pub loads : (u : ℕ) → u < 8192 → slice_index b.loads u ≡ slice_index loads u + cond (is_active x.placement (u / 8)) (cost_in x.want x.placement (u % 8)) 0
-  pub pool : IsPool left pool
-  pub size : pool_size pool ≡ pool_size b.pool
+pub record Goes (b : Book) (x : Placed) (left : List Placed) (table : List ℕ) (next : Pool) : Type 0 where
+  pub cells : length table ≡ 8192
+  pub loads : (u : ℕ) → u < 8192 → slice_index b.loads u ≡ slice_index table u + cond (is_active x.placement (u / 8)) (cost_in x.want x.placement (u % 8)) 0
+  pub pool : IsPool left next
+  pub size : pool_size next ≡ pool_size b.pool
 
 pub book_left : (b : Book) (i id : ℕ) (x : Placed) (loads : List ℕ) (pool : Pool) → IsBook b → i < length b.placed → x ≡ get_or b.placed i x → position (of_id id) b.placed ≡ Some i → Goes b x (remove b.placed i) loads pool → IsBook (record { room = b.room; placed = remove b.placed i; loads = loads; pool = pool })
 book_left b i id x loads pool book inside e at goes =
@@ -158,3 +153,49 @@ book_left b i id x loads pool book inside e at goes =
       fits = rw left (fits_fewer (λ x. not (of_id id x)) b.placed book.fits);
       ids = rw left (AllPairs-filter (λ x y. x.want.id ≢ y.want.id) (λ x. not (of_id id x)) b.placed book.ids);
     }
+
+-- ---- what a placement has to keep below its hub
+
+sums_below : (b : Book) (hub : ℕ) (o : Option ℕ) → o ≡ Some hub → IsBook b → AreSums (sheet_at b (Some hub)) o
+sums_below b hub o e book = subst (λ (x : Option ℕ). AreSums (sheet_at b x) o) e (sums_for b o book)
+
+sums_alone : (b : Book) (o : Option ℕ) → o ≡ None → IsBook b → AreSums (sheet_at b None) o
+sums_alone b o e book = subst (λ (x : Option ℕ). AreSums (sheet_at b x) o) e (sums_for b o book)
+
+needed_by : (b : Book) (w : Want) (p : Placement) (r : Bool) (o : Option ℕ) → w.hub ≡ o → IsBook b → Tells b w p r → keeps b.placed w p ≡ true → r ≡ true
+needed_by b w p r None e book tells kept = tells.alone e
+needed_by b w p r (Some hub) e book tells kept =
+    let s = sheet_at b (Some hub) in
+    let fit = fits_fact (joined b.placed w p) kept in
+    let sums = sums_below b hub w.hub e book in
+    (tells.fits hub e).1
+    (record {
+      frames = frames_out s w p hub (tells.small hub e) e sums fit;
+      bytes = bytes_out s w p hub (tells.small hub e) e sums fit;
+    })
+
+pub below_needed : (b : Book) (w : Want) (p : Placement) (r : Bool) → IsBook b → Tells b w p r → keeps b.placed w p ≡ true → r ≡ true
+below_needed b w p r book tells kept = needed_by b w p r w.hub refl book tells kept
+
+enough_by : (b : Book) (w : Want) (p : Placement) (r : Bool) (o : Option ℕ) → w.hub ≡ o → IsBook b → Tells b w p r → LoadsFit b.loads (cost_in w p) p → r ≡ true → keeps b.placed w p ≡ true
+enough_by b w p r None e book tells loads on =
+    keeps_alone (sheet_at b None) w p e (sums_alone b w.hub e book) book.fits loads
+enough_by b w p r (Some hub) e book tells loads on =
+    let below = (tells.fits hub e).0 on in
+    keeps_all (sheet_at b (Some hub)) w p (sums_below b hub w.hub e book) book.fits loads below.frames below.bytes
+
+pub below_enough : (b : Book) (w : Want) (p : Placement) (r : Bool) → IsBook b → Tells b w p r → LoadsFit b.loads (cost_in w p) p → r ≡ true → keeps b.placed w p ≡ true
+below_enough b w p r book tells loads on = enough_by b w p r w.hub refl book tells loads on
+
+-- ---- the amounts of a shape are the costs of its placements
+
+pub costs_as : (table next : List ℕ) (w : Want) (x : Shape) (p : Placement) → IsShape w x → IsOf x p → ((u : ℕ) → u < 8192 → slice_index next u ≡ slice_index table u + cond (is_active p (u / 8)) (slice_index x.costs.each (u % 8)) 0) → (u : ℕ) → u < 8192 → slice_index next u ≡ slice_index table u + cond (is_active p (u / 8)) (cost_in w p (u % 8)) 0
+costs_as table next w x p shape of sums u h =
+    let small : u % 8 < 8 = omega arith in
+    sums u h
+    ∙ ap (λ n. slice_index table u + cond (is_active p (u / 8)) n 0) (shape_costs w x p shape of (u % 8) small)
+
+pub costs_left : (table next amounts : List ℕ) (w : Want) (p : Placement) → ((m : ℕ) → m < 8 → slice_index amounts m ≡ cost_in w p m) → ((u : ℕ) → u < 8192 → slice_index table u ≡ slice_index next u + cond (is_active p (u / 8)) (slice_index amounts (u % 8)) 0) → (u : ℕ) → u < 8192 → slice_index table u ≡ slice_index next u + cond (is_active p (u / 8)) (cost_in w p (u % 8)) 0
+costs_left table next amounts w p same sums u h =
+    let small : u % 8 < 8 = omega arith in
+    sums u h ∙ ap (λ n. slice_index next u + cond (is_active p (u / 8)) n 0) (same (u % 8) small)

@@ -12,7 +12,9 @@ use Rattle.bandwidth.specs.Sums.{load, frame_sum, tt_sum, cost_at, laid_at, time
 use Rattle.bandwidth.specs.Placements.{IsWant}
 use Rattle.bandwidth.specs.Admission.{joined, keeps, is_own, peak, greatest}
 use Rattle.bandwidth.specs.Tables.{Sheet, AreSums, LoadsFit, FramesFit, BytesFit}
-use Rattle.bandwidth.proofs.Spans.{cost_some, own_of}
+use Rattle.bandwidth.specs.declared.shapes.Shape.{Shape}
+use Rattle.bandwidth.specs.Shapes.{IsShape, IsOf}
+use Rattle.bandwidth.proofs.Spans.{cost_some, own_of, shape_costs}
 use Rattle.bandwidth.proofs.Turns.{both, both_left, both_right, earlier_or_now}
 
 le_test : (a b : ℕ) → a ≤ b → nat_le a b ≡ true
@@ -263,6 +265,25 @@ pub passes : (s : Sheet) (w : Want) (p : Placement) (n : ℕ) → AreSums s w.hu
 passes s w p n sums wrong =
     not_within (peak s.placed w p) n
     (λ l. wrong (λ u h active some. omega (arith, cells_peak s w p sums u h active some, l)))
+
+-- the same in the amounts of a shape
+abbrev pub AmountsWithin : List ℕ → Shape → Placement → ℕ → Type 0
+AmountsWithin loads x p n =
+    (u : ℕ) → u < 8192 → is_active p (u / 8) ≡ true → 1 ≤ slice_index x.costs.each (u % 8) → slice_index loads u + slice_index x.costs.each (u % 8) ≤ n
+
+pub cells_in : (loads : List ℕ) (w : Want) (x : Shape) (p : Placement) (n : ℕ) → IsShape w x → IsOf x p → AmountsWithin loads x p n → CellsWithin loads w p n
+cells_in loads w x p n shape of all u h active some =
+    let small : u % 8 < 8 = omega arith in
+    let e : slice_index x.costs.each (u % 8) ≡ cost_in w p (u % 8) = shape_costs w x p shape of (u % 8) small in
+    let some_amount : 1 ≤ slice_index x.costs.each (u % 8) = omega (arith, e, some) in
+    omega (arith, all u h active some_amount, e)
+
+pub cells_out : (loads : List ℕ) (w : Want) (x : Shape) (p : Placement) (n : ℕ) → IsShape w x → IsOf x p → CellsWithin loads w p n → AmountsWithin loads x p n
+cells_out loads w x p n shape of all u h active some =
+    let small : u % 8 < 8 = omega arith in
+    let e : slice_index x.costs.each (u % 8) ≡ cost_in w p (u % 8) = shape_costs w x p shape of (u % 8) small in
+    let some_cost : 1 ≤ cost_in w p (u % 8) = omega (arith, e, some) in
+    omega (arith, all u h active some_cost, e)
 
 -- two tests of one fact agree
 pub same_test : (a b : Bool) (P : Type 0) → (a ≡ true → P) → (P → a ≡ true) → (P → b ≡ true) → ((P → ⊥) → b ≡ false) → a ≡ b

@@ -1,18 +1,20 @@
 -- The tables of hubs: one hub at most for each placement has some, and their cells are its sums, also after one placement comes or goes.
-use Rattle.std.proofs.Common.{◌≡◌, ◌≢◌, ℕ, ◌+◌, ◌/◌, ◌%◌, ◌<◌, ◌≤◌, Bool, true, false, cond, List, [], ◌∷◌, refl, ap, sym, ◌∙◌, subst, arith, inl, inr, ◌⊎◌, length, length-set, get_or, set, nat_eq, eq-eqb, get_or-set_other, get_or-set_same}
-use Rattle.std.specs.Prelude.{zero, suc, ◌||◌, sum_by, is_some, min, All, Option, Some, None, IfSome, slice_index}
+use Rattle.std.proofs.Common.{◌≡◌, ◌≢◌, ℕ, ◌+◌, ◌/◌, ◌%◌, ◌<◌, ◌≤◌, Bool, true, false, cond, List, [], ◌∷◌, refl, ap, sym, ◌∙◌, subst, arith, inl, inr, ◌⊎◌, length, length-set, get_or, set, nat_eq, nat_le, ◌*◌, ◌↔◌, eq-eqb, get_or-set_other, get_or-set_same, set-set}
+use Rattle.std.specs.Prelude.{zero, suc, ◌||◌, sum_by, is_some, min, All, Option, Some, None, IfSome, IsSome, slice_index, option_to_list}
 use Rattle.std.specs.List.{list_any, count_by}
 use Rattle.std.proofs.lemmas.Bool.Decides.{nat_tests}
-use Rattle.std.proofs.lemmas.List.Sums.{count_by-le-length}
+use Rattle.std.proofs.lemmas.List.Sums.{sum_by-set}
+use Rattle.std.proofs.lemmas.List.Recursion.{is_count_by}
 use borrow.Author.Tests.{eqb-true}
 use Rattle.bandwidth.specs.declared.placements.Want.{Want}
 use Rattle.bandwidth.specs.declared.placements.Placement.{Placement}
 use Rattle.bandwidth.specs.declared.placements.Placed.{Placed}
 use Rattle.bandwidth.specs.Sums.{frame_sum, tt_sum, laid_at, time_at, laid_in, time_of, is_active, is_hub, Fits}
 use Rattle.bandwidth.specs.Admission.{joined}
-use Rattle.bandwidth.specs.Tables.{HubTables, Pool, Book, AreCells, AreZero, AreHubSums, AreWithin, Adds, Holds, Had, HubStands, IsPool, IsBook, IsLess, serves, tables_of, tables_or_none, pool_size, frame_share, byte_share}
+use Rattle.bandwidth.specs.Tables.{HubTables, Pool, Book, AreCells, AreZero, AreHubSums, AreWithin, Adds, Holds, Had, Gives, AddsAt, TakesAt, BelowFits, HubStands, IsPool, IsBook, IsLess, serves, tables_of, tables_or_none, pool_size, frame_share, byte_share}
 use Rattle.bandwidth.proofs.Budgets.{frame_joined, bytes_joined, is_own_hub, taken}
-use Rattle.bandwidth.proofs.Turns.{earlier_or_now}
+use Rattle.bandwidth.specs.Placements.{IsPlace, frame_period}
+use Rattle.bandwidth.proofs.Turns.{whole_of, active_of}
 
 or_false : (a : Bool) → (a || false) ≡ a
 or_false true = refl
@@ -38,13 +40,22 @@ same_or_not x h = by_test (nat_eq x h) x h refl
 
 -- ---- as many hubs as placements
 
--- how many of a to a + n - 1 pass
-passing : (ℕ → Bool) → ℕ → ℕ → ℕ
-passing test a zero = 0
-passing test a (suc n) = cond (test a) 1 0 + passing test (a + 1) n
+-- how many hubs have tables
+unfoldable count_some : List (Option HubTables) → ℕ
+count_some [] = 0
+count_some (x ∷ xs) = cond (is_some x) (1 + count_some xs) (count_some xs)
 
-count_as : (xs : List (Option HubTables)) (test : ℕ → Bool) (a : ℕ) → ((i : ℕ) → i < length xs → is_some (get_or xs i None) ≡ test (a + i)) → count_by is_some xs ≡ passing test a (length xs)
-unfolding passing
+count_same : (xs : List (Option HubTables)) → count_some xs ≡ count_by is_some xs
+unfolding count_some
+count_same xs = is_count_by count_some is_some refl (λ x xs. refl) xs
+
+-- how many of the numbers from a on, one for each of a list, pass
+unfoldable along : (ℕ → Bool) → ℕ → List (Option HubTables) → ℕ
+along test a [] = 0
+along test a (x ∷ xs) = cond (test a) (1 + along test (a + 1) xs) (along test (a + 1) xs)
+
+count_as : (xs : List (Option HubTables)) (test : ℕ → Bool) (a : ℕ) → ((i : ℕ) → i < length xs → is_some (get_or xs i None) ≡ test (a + i)) → count_some xs ≡ along test a xs
+unfolding count_some along
 count_as [] test a h = refl
 count_as (x ∷ xs) test a h =
     let zero_add : a + 0 ≡ a = omega arith in
@@ -54,58 +65,60 @@ count_as (x ∷ xs) test a h =
     (λ i k.
     let e : a + suc i ≡ a + 1 + i = omega arith in
     let s : is_some (get_or xs i None) ≡ test (a + suc i) = h (suc i) (omega arith) in rw e at s) in
-    rw here (rw rest refl)
+    rw (here, rest) refl
 
-either_cell : (p q : Bool) → cond (p || q) 1 0 ≤ cond p 1 0 + cond q 1 0
-either_cell true q = omega arith
-either_cell false q = omega arith
+either_cell : (p q : Bool) (x y z : ℕ) → x ≤ y + z → cond (p || q) (1 + x) x ≤ cond p (1 + y) y + cond q (1 + z) z
+either_cell true true x y z h = omega arith
+either_cell true false x y z h = omega arith
+either_cell false true x y z h = omega arith
+either_cell false false x y z h = h
 
-passing_either : (p q : ℕ → Bool) (a n : ℕ) → passing (λ h. p h || q h) a n ≤ passing p a n + passing q a n
-unfolding passing
-passing_either p q a zero = omega arith
-passing_either p q a (suc n) = omega (arith, either_cell (p a) (q a), passing_either p q (a + 1) n)
+along_either : (p q : ℕ → Bool) (a : ℕ) (xs : List (Option HubTables)) → along (λ h. p h || q h) a xs ≤ along p a xs + along q a xs
+unfolding along
+along_either p q a [] = omega arith
+along_either p q a (x ∷ xs) = either_cell (p a) (q a) _ _ _ (along_either p q (a + 1) xs)
 
-passing_none : (a n : ℕ) → passing (λ h. false) a n ≡ 0
-unfolding passing
-passing_none a zero = refl
-passing_none a (suc n) = passing_none (a + 1) n
+along_none : (a : ℕ) (xs : List (Option HubTables)) → along (λ h. false) a xs ≡ 0
+unfolding along
+along_none a [] = refl
+along_none a (x ∷ xs) = along_none (a + 1) xs
 
-passing_past : (x a n : ℕ) → x < a → passing (λ h. nat_eq x h) a n ≡ 0
-unfolding passing
-passing_past x a zero h = refl
-passing_past x a (suc n) h =
-    let off : nat_eq x a ≡ false = grind (arith, nat_tests) in rw off (passing_past x (a + 1) n (omega arith))
+along_past : (x a : ℕ) (xs : List (Option HubTables)) → x < a → along (λ h. nat_eq x h) a xs ≡ 0
+unfolding along
+along_past x a [] h = refl
+along_past x a (y ∷ xs) h =
+    let off : nat_eq x a ≡ false = grind (arith, nat_tests) in rw off (along_past x (a + 1) xs (omega arith))
 
-cell_one : (b : Bool) (x a n : ℕ) → nat_eq x a ≡ b → passing (λ h. nat_eq x h) (a + 1) n ≤ 1 → (b ≡ true → passing (λ h. nat_eq x h) (a + 1) n ≡ 0) → cond b 1 0 + passing (λ h. nat_eq x h) (a + 1) n ≤ 1
-cell_one true x a n e h k = omega (arith, k refl)
-cell_one false x a n e h k = h
+one_cell : (b : Bool) (n : ℕ) → n ≤ 1 → (b ≡ true → n ≡ 0) → cond b (1 + n) n ≤ 1
+one_cell true n h k = omega (arith, k refl)
+one_cell false n h k = h
 
-passing_same : (x a n : ℕ) → passing (λ h. nat_eq x h) a n ≤ 1
-unfolding passing
-passing_same x a zero = omega arith
-passing_same x a (suc n) =
-    cell_one (nat_eq x a) x a n refl (passing_same x (a + 1) n)
-    (λ t. let e : x ≡ a = eqb-true x a t in passing_past x (a + 1) n (omega arith))
+along_same : (x a : ℕ) (xs : List (Option HubTables)) → along (λ h. nat_eq x h) a xs ≤ 1
+unfolding along
+along_same x a [] = omega arith
+along_same x a (y ∷ xs) =
+    one_cell (nat_eq x a) _ (along_same x (a + 1) xs)
+    (λ t. let e : x ≡ a = eqb-true x a t in along_past x (a + 1) xs (omega arith))
 
-passing_one : (o : Option ℕ) (n : ℕ) → passing (is_hub o) 0 n ≤ 1
-passing_one None n = omega (arith, passing_none 0 n)
-passing_one (Some x) n = passing_same x 0 n
+along_one : (o : Option ℕ) (xs : List (Option HubTables)) → along (is_hub o) 0 xs ≤ 1
+along_one None xs = omega (arith, along_none 0 xs)
+along_one (Some x) xs = along_same x 0 xs
 
-pub serves_count : (placed : List Placed) (n : ℕ) → passing (serves placed) 0 n ≤ length placed
-serves_count [] n = omega (arith, passing_none 0 n)
-serves_count (x ∷ xs) n =
+serves_count : (placed : List Placed) (xs : List (Option HubTables)) → along (serves placed) 0 xs ≤ length placed
+serves_count [] xs = omega (arith, along_none 0 xs)
+serves_count (x ∷ ps) xs =
     omega (
       arith,
-      passing_either (is_hub x.want.hub) (serves xs) 0 n,
-      passing_one x.want.hub n,
-      serves_count xs n,
+      along_either (is_hub x.want.hub) (serves ps) 0 xs,
+      along_one x.want.hub xs,
+      serves_count ps xs,
     )
 
 stands_some : (placed : List Placed) (hub : ℕ) (t : Option HubTables) → HubStands placed hub t → is_some t ≡ serves placed hub
 stands_some placed hub None h = sym h
 stands_some placed hub (Some t) h = sym h.0
 
-few_hubs : (placed : List Placed) (pool : Pool) → IsPool placed pool → count_by is_some pool.hubs ≤ length placed
+few_hubs : (placed : List Placed) (pool : Pool) → IsPool placed pool → count_some pool.hubs ≤ length placed
 few_hubs placed pool p =
     let same =
     count_as pool.hubs (serves placed) 0
@@ -113,17 +126,24 @@ few_hubs placed pool p =
     let e : 0 + i ≡ i = omega arith in
     let s : is_some (get_or pool.hubs i None) ≡ serves placed i =
     stands_some placed i (get_or pool.hubs i None) (p.hubs i (omega (arith, p.count))) in rw e s) in
-    omega (arith, same, serves_count placed (length pool.hubs))
+    omega (arith, same, serves_count placed pool.hubs)
 
-one_at_most : (b : Bool) → cond b 1 0 ≤ 1
-one_at_most true = omega arith
-one_at_most false = omega arith
+count_step : (b : Bool) (n : ℕ) → cond b (1 + n) n ≤ n + 1
+count_step true n = omega arith
+count_step false n = omega arith
 
-one_short : (xs : List (Option HubTables)) (i : ℕ) → i < length xs → get_or xs i None ≡ None → count_by is_some xs + 1 ≤ length xs
+count_most : (xs : List (Option HubTables)) → count_some xs ≤ length xs
+unfolding count_some
+count_most [] = omega arith
+count_most (x ∷ xs) = omega (arith, count_step (is_some x) (count_some xs), count_most xs)
+
+one_short : (xs : List (Option HubTables)) (i : ℕ) → i < length xs → get_or xs i None ≡ None → count_some xs + 1 ≤ length xs
+unfolding count_some
 one_short [] i h e = absurd (omega arith)
 one_short (x ∷ xs) zero h e =
-    let off : is_some x ≡ false = ap is_some e in rw off (omega (arith, count_by-le-length is_some xs))
-one_short (x ∷ xs) (suc i) h e = omega (arith, one_at_most (is_some x), one_short xs i (omega arith) e)
+    let off : is_some x ≡ false = ap is_some e in rw off (omega (arith, count_most xs))
+one_short (x ∷ xs) (suc i) h e =
+    omega (arith, count_step (is_some x) (count_some xs), one_short xs i (omega arith) e)
 
 -- a hub without tables finds some as long as there is room
 pub free_left : (b : Book) (hub : ℕ) → IsBook b → length b.placed < b.room → hub < 128 → tables_of b.pool hub ≡ None → 1 ≤ length b.pool.free
@@ -135,7 +155,133 @@ free_left b hub book room h none =
       few_hubs b.placed b.pool book.pool,
       one_short b.pool.hubs hub (omega (arith, book.pool.count)) none,
       book.pool.count,
+      count_same b.pool.hubs,
     )
+
+none_some : (xs : List (Option HubTables)) → All (λ (o : Option HubTables). o ≡ None) xs → count_some xs ≡ 0
+unfolding count_some
+none_some [] all = refl
+none_some (x ∷ xs) all =
+    let off : is_some x ≡ false = ap is_some (all 0 None (omega arith)) in
+    rw off (none_some xs (λ k d l. all (suc k) d (omega arith)))
+
+pub no_hubs : (xs : List (Option HubTables)) → All (λ (o : Option HubTables). o ≡ None) xs → count_by is_some xs ≡ 0
+no_hubs xs all = sym (count_same xs) ∙ none_some xs all
+
+-- ---- one entry is written
+
+cell : Option HubTables → ℕ
+cell o = cond (is_some o) 1 0
+
+count_set : (xs ys : List (Option HubTables)) (hub : ℕ) (v : Option HubTables) → ys ≡ set xs hub v → hub < length xs → count_by is_some ys + cell (get_or xs hub None) ≡ count_by is_some xs + cell v
+unfolding cell
+count_set xs ys hub v e inside =
+    ap (λ (zs : List (Option HubTables)). count_by is_some zs + cond (is_some (get_or xs hub None)) 1 0) e
+    ∙ sum_by-set (λ (o : Option HubTables). cond (is_some o) 1 0) xs hub v None inside
+
+cell_some : (o : Option HubTables) → is_some o ≡ true → cell o ≡ 1
+unfolding cell
+cell_some o h = rw h refl
+
+popped : (o : Option HubTables) → cell o ≡ length (option_to_list o)
+unfolding cell
+popped None = refl
+popped (Some t) = refl
+
+-- tables stay where they were
+pub size_kept : (old new : Pool) (hub : ℕ) (t : HubTables) → length old.hubs ≡ 128 → hub < 128 → is_some (tables_of old hub) ≡ true → new.hubs ≡ set old.hubs hub (Some t) → new.free ≡ old.free → pool_size new ≡ pool_size old
+unfolding cell
+size_kept old new hub t count h some e same =
+    omega (
+      arith,
+      count_set old.hubs new.hubs hub (Some t) e (omega (arith, count)),
+      cell_some (tables_of old hub) some,
+      ap length same,
+    )
+
+-- the last of the free goes to a hub that had none
+pub size_given : (old new : Pool) (hub : ℕ) (r : Option HubTables) → length old.hubs ≡ 128 → hub < 128 → tables_of old hub ≡ None → new.hubs ≡ set old.hubs hub r → length new.free + length (option_to_list r) ≡ length old.free → pool_size new ≡ pool_size old
+size_given old new hub r count h none e popped_is =
+    omega (
+      arith,
+      count_set old.hubs new.hubs hub r e (omega (arith, count)),
+      ap cell none,
+      popped None,
+      popped r,
+      popped_is,
+    )
+
+-- a hub's go back to the free
+pub size_back : (old new : Pool) (hub : ℕ) → length old.hubs ≡ 128 → hub < 128 → is_some (tables_of old hub) ≡ true → new.hubs ≡ set old.hubs hub None → length new.free ≡ length old.free + 1 → pool_size new ≡ pool_size old
+size_back old new hub count h some e more =
+    omega (
+      arith,
+      count_set old.hubs new.hubs hub None e (omega (arith, count)),
+      cell_some (tables_of old hub) some,
+      popped None,
+      more,
+    )
+
+-- a hub with tables that were just given
+pub added_given : (old mid new : Pool) (hub time : ℕ) (laid : ℕ → ℕ) (p : Placement) → length old.hubs ≡ 128 → hub < 128 → tables_of old hub ≡ None → Gives old mid hub → AddsAt mid new hub time laid p → AddsAt old new hub time laid p
+added_given old mid new hub time laid p count h none gives adds =
+    let at : tables_of mid hub ≡ Some gives.given =
+    ap (λ (xs : List (Option HubTables)). get_or xs hub None) gives.hubs
+    ∙ get_or-set_same old.hubs hub (Some gives.given) None (omega (arith, count)) in
+    let same : gives.given ≡ adds.was = subst (λ (o : Option HubTables). Had o adds.was) at adds.had in
+    record {
+      was = adds.was;
+      now = adds.now;
+      had = subst (λ (o : Option HubTables). Had o adds.was) (sym none) (subst AreZero same gives.zero);
+      adds = adds.adds;
+      hubs =
+          adds.hubs
+          ∙ ap (λ (xs : List (Option HubTables)). set xs hub (Some adds.now)) gives.hubs
+          ∙ set-set old.hubs hub (Some gives.given) (Some adds.now);
+    }
+
+pub at_given : (old mid : Pool) (hub : ℕ) → length old.hubs ≡ 128 → hub < 128 → (g : Gives old mid hub) → tables_of mid hub ≡ Some g.given
+at_given old mid hub count h g =
+    ap (λ (xs : List (Option HubTables)). get_or xs hub None) g.hubs
+    ∙ get_or-set_same old.hubs hub (Some g.given) None (omega (arith, count))
+
+pub zero_within : (t : HubTables) → AreZero t → AreWithin t
+zero_within t z = record {
+  cells = z.cells;
+  frames = λ f k. omega (arith, z.frames f k);
+  bytes = λ u k. omega (arith, z.bytes u k);
+}
+
+pub if_at : (P : HubTables → Type 0) (o : Option HubTables) (t : HubTables) → o ≡ Some t → P t → IfSome o P
+if_at P o t e h = subst (λ (x : Option HubTables). IfSome x P) (sym e) h
+
+pub some_at : (o : Option HubTables) (t : HubTables) → o ≡ Some t → is_some o ≡ true
+some_at o t e = ap is_some e
+
+pub gives_by : (old new : Pool) (hub : ℕ) (r : Option HubTables) → IsSome r → IfSome r AreZero → new.hubs ≡ set old.hubs hub r → Gives old new hub
+gives_by old new hub None some zeros e = cc
+gives_by old new hub (Some t) some zeros e = record { given = t; zero = zeros; hubs = e }
+
+-- the same amounts, written otherwise
+pub adds_as : (time other : ℕ) (laid amounts : ℕ → ℕ) (p : Placement) (t u : HubTables) → other ≡ time → ((m : ℕ) → m < 8 → amounts m ≡ laid m) → Adds other amounts p t u → Adds time laid p t u
+adds_as time other laid amounts p t u e same adds = record {
+  cells = adds.cells;
+  frames = λ f k. adds.frames f k ∙ ap (λ n. slice_index t.frames f + cond (is_active p f) n 0) e;
+  bytes = λ m k.
+      let small : m % 8 < 8 = omega arith in
+      adds.bytes m k ∙ ap (λ n. slice_index t.bytes m + cond (is_active p (m / 8)) n 0) (same (m % 8) small);
+}
+
+holds_as : (time other : ℕ) (laid amounts : ℕ → ℕ) (p : Placement) (t : HubTables) → other ≡ time → ((m : ℕ) → m < 8 → amounts m ≡ laid m) → Holds time laid p t → Holds other amounts p t
+holds_as time other laid amounts p t e same holds = record {
+  cells = holds.cells;
+  frames = λ f k a. rw e (holds.frames f k a);
+  bytes = λ m k a. let small : m % 8 < 8 = omega arith in rw (same (m % 8) small) (holds.bytes m k a);
+}
+
+pub holds_if_as : (time other : ℕ) (laid amounts : ℕ → ℕ) (p : Placement) (o : Option HubTables) → other ≡ time → ((m : ℕ) → m < 8 → amounts m ≡ laid m) → IfSome o (Holds time laid p) → IfSome o (Holds other amounts p)
+holds_if_as time other laid amounts p None e same h = h
+holds_if_as time other laid amounts p (Some t) e same h = holds_as time other laid amounts p t e same h
 
 -- ---- the sums of a hub below which nothing is placed
 
@@ -188,7 +334,7 @@ serves_joined (x ∷ xs) w p hub =
 stands_joined : (placed : List Placed) (w : Want) (p : Placement) (hub : ℕ) (t : Option HubTables) → is_hub w.hub hub ≡ false → HubStands placed hub t → HubStands (joined placed w p) hub t
 stands_joined placed w p hub None off h = serves_joined placed w p hub ∙ rw (h, off) refl
 stands_joined placed w p hub (Some t) off h = (
-  serves_joined placed w p hub ∙ rw (h.0, off) refl,
+  serves_joined placed w p hub ∙ rw h.0 refl,
   record {
     cells = h.1.cells;
     frames = λ f k. h.1.frames f k ∙ sym (frame_joined placed w p hub f ∙ rw off (omega arith));
@@ -240,7 +386,6 @@ pub pool_alone : (placed : List Placed) (pool : Pool) (w : Want) (p : Placement)
 pool_alone placed pool w p e is = record {
   count = is.count;
   hubs = λ h k. stands_joined placed w p h (tables_of pool h) (rw e refl) (is.hubs h k);
-  free = is.free;
 }
 
 at_or_off : (P : ℕ → Type 0) (h hub : ℕ) → P hub → (h ≢ hub → P h) → P h
@@ -255,8 +400,8 @@ written P xs ys hub v e inside here off h =
     (rw (get_or-set_same xs hub v None inside) here)
     (λ ne. rw (get_or-set_other xs hub h v None ne) (off h ne)))
 
-pub pool_joined : (placed : List Placed) (pool new : Pool) (w : Want) (p : Placement) (hub : ℕ) (t u : HubTables) → w.hub ≡ Some hub → hub < 128 → IsPool placed pool → Had (tables_of pool hub) t → Adds (time_of w) (laid_in w p) p t u → new.hubs ≡ set pool.hubs hub (Some u) → All AreZero new.free → IsPool (joined placed w p) new
-pool_joined placed pool new w p hub t u e h is had adds hubs free =
+pub pool_joined : (placed : List Placed) (pool new : Pool) (w : Want) (p : Placement) (hub : ℕ) (t u : HubTables) → w.hub ≡ Some hub → hub < 128 → IsPool placed pool → Had (tables_of pool hub) t → Adds (time_of w) (laid_in w p) p t u → new.hubs ≡ set pool.hubs hub (Some u) → IsPool (joined placed w p) new
+pool_joined placed pool new w p hub t u e h is had adds hubs =
     let sums = had_sums placed hub (tables_of pool hub) t (is.hubs hub h) had in
     let count : length new.hubs ≡ 128 = ap length hubs ∙ length-set pool.hubs hub (Some u) ∙ is.count in
     record {
@@ -266,7 +411,6 @@ pool_joined placed pool new w p hub t u e h is had adds hubs free =
           (omega (arith, is.count))
           (λ k. own_joined placed w p hub t u e sums adds)
           (λ k ne l. stands_joined placed w p k (tables_of pool k) (other_hub w.hub hub k e ne) (is.hubs k l));
-      free = free;
     }
 
 -- ---- one less
@@ -321,7 +465,6 @@ pub less_alone : (x : Placed) (all left : List Placed) (pool : Pool) → x.want.
 less_alone x all left pool e less is = record {
   count = is.count;
   hubs = λ h k. stands_less x all left h (tables_of pool h) (rw e refl) less (is.hubs h k);
-  free = is.free;
 }
 
 -- the hub of what goes has tables, and they hold what it added
@@ -364,8 +507,8 @@ pub less_holds : (x : Placed) (all left : List Placed) (pool : Pool) (hub : ℕ)
 less_holds x all left pool hub e h less is = holds_if x all left hub (tables_of pool hub) e less (is.hubs hub h)
 
 -- what is written for the hub: its sums where something is left below it, else nothing
-less_written : (x : Placed) (all left : List Placed) (pool new : Pool) (hub : ℕ) (v : Option HubTables) → x.want.hub ≡ Some hub → hub < 128 → IsLess x all left → IsPool all pool → new.hubs ≡ set pool.hubs hub v → All AreZero new.free → HubStands left hub v → IsPool left new
-less_written x all left pool new hub v e h less is hubs free stands =
+less_written : (x : Placed) (all left : List Placed) (pool new : Pool) (hub : ℕ) (v : Option HubTables) → x.want.hub ≡ Some hub → hub < 128 → IsLess x all left → IsPool all pool → new.hubs ≡ set pool.hubs hub v → HubStands left hub v → IsPool left new
+less_written x all left pool new hub v e h less is hubs stands =
     let count : length new.hubs ≡ 128 = ap length hubs ∙ length-set pool.hubs hub v ∙ is.count in
     record {
       count = count;
@@ -374,17 +517,16 @@ less_written x all left pool new hub v e h less is hubs free stands =
           (omega (arith, is.count))
           (λ k. stands)
           (λ k ne l. stands_less x all left k (tables_of pool k) (other_hub x.want.hub hub k e ne) less (is.hubs k l));
-      free = free;
     }
 
-pub less_kept : (x : Placed) (all left : List Placed) (pool new : Pool) (hub : ℕ) (t u : HubTables) → x.want.hub ≡ Some hub → hub < 128 → IsLess x all left → IsPool all pool → tables_of pool hub ≡ Some t → AreCells u → Adds (time_of x.want) (laid_in x.want x.placement) x.placement u t → new.hubs ≡ set pool.hubs hub (Some u) → All AreZero new.free → serves left hub ≡ true → IsPool left new
-less_kept x all left pool new hub t u e h less is had cells adds hubs free on =
+pub less_kept : (x : Placed) (all left : List Placed) (pool new : Pool) (hub : ℕ) (t u : HubTables) → x.want.hub ≡ Some hub → hub < 128 → IsLess x all left → IsPool all pool → tables_of pool hub ≡ Some t → AreCells u → Adds (time_of x.want) (laid_in x.want x.placement) x.placement u t → new.hubs ≡ set pool.hubs hub (Some u) → serves left hub ≡ true → IsPool left new
+less_kept x all left pool new hub t u e h less is had cells adds hubs on =
     let sums = sums_at all hub (tables_of pool hub) t had (is.hubs hub h) in
-    less_written x all left pool new hub (Some u) e h less is hubs free (on, own_left x all left hub t u e less sums cells adds)
+    less_written x all left pool new hub (Some u) e h less is hubs (on, own_left x all left hub t u e less sums cells adds)
 
-pub less_freed : (x : Placed) (all left : List Placed) (pool new : Pool) (hub : ℕ) → x.want.hub ≡ Some hub → hub < 128 → IsLess x all left → IsPool all pool → new.hubs ≡ set pool.hubs hub None → All AreZero new.free → serves left hub ≡ false → IsPool left new
-less_freed x all left pool new hub e h less is hubs free off =
-    less_written x all left pool new hub None e h less is hubs free off
+pub less_freed : (x : Placed) (all left : List Placed) (pool new : Pool) (hub : ℕ) → x.want.hub ≡ Some hub → hub < 128 → IsLess x all left → IsPool all pool → new.hubs ≡ set pool.hubs hub None → serves left hub ≡ false → IsPool left new
+less_freed x all left pool new hub e h less is hubs off =
+    less_written x all left pool new hub None e h less is hubs off
 
 -- the tables of a hub below which nothing is left are 0
 pub less_zero : (x : Placed) (all left : List Placed) (pool : Pool) (hub : ℕ) (t u : HubTables) → x.want.hub ≡ Some hub → hub < 128 → IsLess x all left → IsPool all pool → tables_of pool hub ≡ Some t → AreCells u → Adds (time_of x.want) (laid_in x.want x.placement) x.placement u t → serves left hub ≡ false → AreZero u
@@ -396,3 +538,39 @@ less_zero x all left pool hub t u e h less is had cells adds off =
       frames = λ f k. left_sums.frames f k ∙ no_frames left hub f off;
       bytes = λ m k. left_sums.bytes m k ∙ no_bytes left hub m off;
     }
+
+-- ---- the budgets below a hub
+
+pub at_taken : (old mid : Pool) (hub time : ℕ) (laid : ℕ → ℕ) (p : Placement) → length old.hubs ≡ 128 → hub < 128 → (g : TakesAt old mid hub time laid p) → tables_of mid hub ≡ Some g.now
+at_taken old mid hub time laid p count h g =
+    ap (λ (xs : List (Option HubTables)). get_or xs hub None) g.hubs
+    ∙ get_or-set_same old.hubs hub (Some g.now) None (omega (arith, count))
+
+below_to : (time other : ℕ) (laid amounts : ℕ → ℕ) (t : HubTables) (p : Placement) → other ≡ time → ((m : ℕ) → m < 8 → amounts m ≡ laid m) → BelowFits t other amounts p → BelowFits t time laid p
+below_to time other laid amounts t p e same fits = record {
+  frames = λ f k a. omega (arith, fits.frames f k a, e);
+  bytes = λ u k a. let small : u % 8 < 8 = omega arith in omega (arith, fits.bytes u k a, same (u % 8) small);
+}
+
+pub below_as : (time other : ℕ) (laid amounts : ℕ → ℕ) (t : HubTables) (p : Placement) → other ≡ time → ((m : ℕ) → m < 8 → amounts m ≡ laid m) → (r : Bool) → (r ≡ true) ↔ BelowFits t other amounts p → (r ≡ true) ↔ BelowFits t time laid p
+below_as time other laid amounts t p e same r fits = (
+  λ on. below_to time other laid amounts t p e same (fits.0 on),
+  λ all. fits.1 (below_to other time amounts laid t p (sym e) (λ m h. sym (same m h)) all),
+)
+
+-- where no sum is above 0
+pub none_below : (time : ℕ) (laid : ℕ → ℕ) (p : Placement) → IsPlace p → ((m : ℕ) → m < 8 → laid m ≤ 188) → (nat_le time 900000000 ≡ true) ↔ BelowFits (record { frames = []; bytes = [] }) time laid p
+none_below time laid p place most = (
+  λ on.
+  record {
+    frames = λ f k a. let le : time ≤ 900000000 = grind (arith, nat_tests) in le;
+    bytes = λ u k a. let small : u % 8 < 8 = omega arith in most (u % 8) small;
+  },
+  λ all.
+  let whole = whole_of p.period place.period in
+  let phase = place.phase in
+  let start : p.phase + 0 * frame_period p.period ≡ p.phase = omega arith in
+  let active : is_active p p.phase ≡ true = rw start at (active_of p 0 phase) in
+  let le : time ≤ 900000000 = all.frames p.phase (omega (arith, whole.most, phase)) active in
+  grind (arith, nat_tests),
+)

@@ -12,7 +12,7 @@ use Rattle.usb_base.specs.declared.packets.Dir.TheVariants.{In, Out}
 use Rattle.usb_base.specs.Cost.{bus_time, bit_times, byte_times}
 use Rattle.bandwidth.specs.declared.placements.Want.{Want}
 use Rattle.bandwidth.specs.declared.placements.Placement.{Placement}
-use Rattle.bandwidth.specs.Placements.{mask, has, first_in, run, every, is_period, most_bytes, IsWant, PlacementRow, high_row, interrupt_row, iso_in_row, iso_out_row, classic_row, is_classic, placement_row, placement_at}
+use Rattle.bandwidth.specs.Placements.{mask, has, first_in, run, every, is_period, most_bytes, IsWant, PlacementRow, high_row, interrupt_row, iso_in_row, iso_out_row, classic_row, is_classic, placement_row, placement_at, frame_period}
 use Rattle.bandwidth.specs.Sums.{cost_in, laid_in, price, time_of}
 use Rattle.bandwidth.specs.declared.shapes.Amounts.{Amounts}
 use Rattle.bandwidth.specs.declared.shapes.Shape.{Shape}
@@ -438,6 +438,13 @@ own_by false h = absurd (h refl)
 
 pub own_of : (w : Want) (p : Placement) (m : ℕ) → 1 ≤ cost_in w p m → (has p.smask m || has p.cmask m) ≡ true
 own_of w p m h = own_by (has p.smask m || has p.cmask m) (λ off. let z : cost_in w p m ≡ 0 = cost_none w p m off in omega arith)
+
+-- the placement of a shape in a phase
+pub placed_is : (w : Want) (x : Shape) (phase : ℕ) → IsShape w x → record { period = w.period; phase = phase; smask = x.smask; cmask = x.cmask } ≡ placement_at w phase x.costs.from
+placed_is w x phase shape = rw (shape.smask, shape.cmask) refl
+
+pub placed_of : (w : Want) (x : Shape) (phase : ℕ) → IsWant w → phase < frame_period w.period → IsOf x (record { period = w.period; phase = phase; smask = x.smask; cmask = x.cmask })
+placed_of w x phase want h = record { place = record { period = want.period; phase = h }; smask = refl; cmask = refl }
 
 -- one after another, each at its place
 pub written_any : {X : Type 0} (P : ℕ → X → Type 0) (xs : List X) (i : ℕ) (v : X) → i < length xs → ((k : ℕ) (d : X) → k < i → P k (get_or xs k d)) → P i v → (k : ℕ) (d : X) → k < i + 1 → P k (get_or (set xs i v) k d)

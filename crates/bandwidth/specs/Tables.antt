@@ -8,13 +8,14 @@
 --     IsLess x P Q          Q is P without one x
 --     IsBook b              every cell is its sum, and what is placed keeps every budget
 --     sheet_at b hub        what an admission below this hub, if there is one, sees of the tables
-use Rattle.std.specs.Prelude.{◌≡◌, ℕ, ◌+◌, ◌/◌, ◌%◌, ◌<◌, ◌≤◌, min, Bool, true, false, ◌||◌, if◌then◌else◌, List, [], Option, Some, None, is_some, sum_by, slice_index, slice_index_or, All, length}
+use Rattle.std.specs.Prelude.{◌≡◌, ◌↔◌, ℕ, ◌+◌, ◌/◌, ◌%◌, ◌<◌, ◌≤◌, min, Bool, true, false, ◌||◌, if◌then◌else◌, List, [], Option, Some, None, is_some, sum_by, slice_index, slice_index_or, slice_set, All, length}
 use Rattle.std.specs.List.{list_any, count_by}
+use Rattle.bandwidth.specs.declared.placements.Want.{Want}
 use Rattle.bandwidth.specs.declared.placements.Placement.{Placement}
 use Rattle.bandwidth.specs.declared.placements.Placed.{Placed}
 use Rattle.bandwidth.specs.Placements.{IsWant, IsPlace}
 use Rattle.bandwidth.specs.Admission.{AreDistinct}
-use Rattle.bandwidth.specs.Sums.{load, frame_sum, tt_sum, Fits, is_active, is_hub}
+use Rattle.bandwidth.specs.Sums.{load, frame_sum, tt_sum, Fits, is_active, is_hub, laid_in, time_of}
 
 -- 1,024 frames and 8,192 microframes
 pub record HubTables : Type 0 where
@@ -72,7 +73,18 @@ pub record IsLess (x : Placed) (all left : List Placed) : Type 0 where
 pub record IsPool (placed : List Placed) (pool : Pool) : Type 0 where
   pub count : length pool.hubs ≡ 128
   pub hubs : (hub : ℕ) → hub < 128 → HubStands placed hub (tables_of pool hub)
+
+-- the pool stands for a list that has one x more
+pub record HadMore (x : Placed) (left : List Placed) (pool : Pool) : Type 0 where
+  pub all : List Placed
+  pub less : IsLess x all left
+  pub pool : IsPool all pool
+
+-- what no hub has is 0, and there is room for all of it
+pub record IsRoomy (pool : Pool) (room : ℕ) : Type 0 where
+  pub count : length pool.hubs ≡ 128
   pub free : All AreZero pool.free
+  pub fits : pool_size pool ≤ room
 
 -- 8,192 microframes
 pub record IsBook (b : Book) : Type 0 where
@@ -116,6 +128,29 @@ abbrev pub Had : Option HubTables → HubTables → Type 0
 Had None t = AreZero t
 Had (Some s) t = s ≡ t
 
+-- the hub without tables gets some
+pub record Gives (old new : Pool) (hub : ℕ) : Type 0 where
+  pub given : HubTables
+  pub zero : AreZero given
+  pub hubs : new.hubs ≡ slice_set old.hubs hub (Some given)
+
+-- a placement more stands in the tables of the hub
+pub record AddsAt (old new : Pool) (hub time : ℕ) (laid : ℕ → ℕ) (p : Placement) : Type 0 where
+  pub was : HubTables
+  pub now : HubTables
+  pub had : Had (tables_of old hub) was
+  pub adds : Adds time laid p was now
+  pub hubs : new.hubs ≡ slice_set old.hubs hub (Some now)
+
+-- a placement less
+pub record TakesAt (old new : Pool) (hub time : ℕ) (laid : ℕ → ℕ) (p : Placement) : Type 0 where
+  pub was : HubTables
+  pub now : HubTables
+  pub had : tables_of old hub ≡ Some was
+  pub cells : AreCells now
+  pub adds : Adds time laid p now was
+  pub hubs : new.hubs ≡ slice_set old.hubs hub (Some now)
+
 -- ---- what an admission sees
 
 pub record Sheet : Type 0 where
@@ -158,3 +193,9 @@ BytesFit bytes laid p =
 pub record BelowFits (t : HubTables) (time : ℕ) (laid : ℕ → ℕ) (p : Placement) : Type 0 where
   pub frames : FramesFit t.frames time p
   pub bytes : BytesFit t.bytes laid p
+
+-- what the answer r of a test of the budgets below the hub, if there is one, says
+pub record Tells (b : Book) (w : Want) (p : Placement) (r : Bool) : Type 0 where
+  pub alone : w.hub ≡ None → r ≡ true
+  pub fits : (hub : ℕ) → w.hub ≡ Some hub → (r ≡ true) ↔ (BelowFits (tables_at b.pool (Some hub)) (time_of w) (laid_in w p) p)
+  pub small : (hub : ℕ) → w.hub ≡ Some hub → hub < 128

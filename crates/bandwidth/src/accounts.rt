@@ -1,10 +1,11 @@
-ghost use Rattle.std.specs.Prelude.{◌≡◌, ℕ, ◌+◌, ◌*◌, ◌<◌, ◌≤◌, List, [], length, not, nat_eq, true, false, filter, Some, None, IfOk, IfSome, IfNone, IsTrue, ◌↔◌};
+ghost use Rattle.std.specs.Prelude.{◌≡◌, ℕ, ◌+◌, ◌*◌, ◌<◌, ◌≤◌, List, [], length, not, nat_eq, true, false, filter, slice_index, Some, None, IfOk, IfSome, IfNone, IsTrue, ◌↔◌};
 ghost use Rattle.std.specs.List.{list_any, position};
+ghost use Rattle.std.specs.Option.{option_copied};
 ghost use Rattle.bandwidth.specs.Placements.{IsWant, IsPlace};
-ghost use Rattle.bandwidth.specs.Sums.{Fits, laid_in, time_of};
+ghost use Rattle.bandwidth.specs.Sums.{Fits};
 ghost use Rattle.bandwidth.specs.Admission.{joined, keeps, peak};
 ghost use Rattle.bandwidth.specs.Shapes.{turns, cells, laid_cells, IsShape, IsOf};
-ghost use Rattle.bandwidth.specs.Tables.{IsPool, IsLess, AreWithin, serves, tables_of, pool_size};
+ghost use Rattle.bandwidth.specs.Tables.{IsPool, HadMore, AreWithin, serves, tables_of, pool_size};
 
 use crate::asks::{byte_times_of, costs_of, is_below, time_in_frame};
 use crate::limits::peak_within;
@@ -47,7 +48,7 @@ impl Model for Accounts {
 }
 
 impl Accounts {
-    ghost use Rattle.bandwidth.specs.Tables.{IsBook, BelowFits, tables_at};
+    ghost use Rattle.bandwidth.specs.Tables.{IsBook, BelowFits, Tells, tables_at};
 
     /// An empty book with room for so many, and with tables for as many hubs as may need them at once.
     pub(crate) fn build(alloc: Global, room: u32) -> Result<Accounts, Memory>
@@ -90,12 +91,33 @@ impl Accounts {
 
     /// The tables of a hub, if something is placed below it.
     pub(crate) fn below(&self, hub: DevAddr) -> Option<&HubSums>
-        ensures some { IfSome result (λ t. tables_of self.now.pool hub ≡ Some t.now) }
-        ensures none { IfNone result (tables_of self.now.pool hub ≡ None) }
+        ensures tables { option_copied result ≡ tables_of self.now.pool hub }
         ensures hub { hub < 128 }
         ensures book { IsBook self.now }
     {
         self.pool.below(hub)
+    }
+
+    /// Whether a placement keeps the budgets below a hub.
+    fn hub_keeps<L: Ledger>(
+        &self,
+        hub: DevAddr,
+        want: &Want,
+        placement: &Placement,
+        shape: &Shape,
+        steps: &mut Steps<L>,
+    ) -> bool
+        requires shape { IsShape want.now shape.now }
+        requires place { IsOf shape.now placement.now }
+        ensures fits { (IsTrue result) ↔ (BelowFits (tables_at self.now.pool (Some hub)) shape.now.time (slice_index shape.now.bytes.each) placement.now) }
+        ensures hub { hub < 128 }
+        ensures book { IsBook self.now }
+        ensures steps { steps.new ≤ steps.old + turns placement.now.period * (laid_cells want.now + 1) }
+    {
+        match self.below(hub) {
+            Some(sums) => sums.keep(placement, shape.time, &shape.bytes, steps),
+            None => shape.time <= FRAME_BUDGET,
+        }
     }
 
     /// Whether a placement keeps the budgets below its hub, if it has one.
@@ -106,21 +128,17 @@ impl Accounts {
         shape: &Shape,
         steps: &mut Steps<L>,
     ) -> bool
-        requires want { IsWant want.now }
         requires shape { IsShape want.now shape.now }
         requires place { IsOf shape.now placement.now }
-        ensures alone { want.now.hub ≡ None → result ≡ true }
-        ensures fits { (hub : ℕ) → want.now.hub ≡ Some hub → (IsTrue result) ↔ (BelowFits (tables_at self.now.pool (Some hub)) (time_of want.now) (laid_in want.now placement.now) placement.now) }
-        ensures hub { (hub : ℕ) → want.now.hub ≡ Some hub → hub < 128 }
+        ensures tells { Tells self.now want.now placement.now result }
+        ensures book { IsBook self.now }
         ensures steps { steps.new ≤ steps.old + turns placement.now.period * (laid_cells want.now + 1) }
     {
+        let _room = self.room;
         let Some(hub) = want.hub else {
             return true;
         };
-        let Some(sums) = self.below(hub) else {
-            return shape.time <= FRAME_BUDGET;
-        };
-        sums.keep(placement, shape.time, &shape.bytes, steps)
+        self.hub_keeps(hub, want, placement, shape, steps)
     }
 
     /// The greatest microframe sum over a placement's own microframes, with it included, where the placement keeps every budget beside
@@ -142,7 +160,9 @@ impl Accounts {
         ensures none { IfNone result (keeps self.now.placed want.now placement.now ≡ true → limit < peak self.now.placed want.now placement.now) }
         ensures steps { steps.new ≤ steps.old + turns placement.now.period * cells want.now }
     {
-        let peak = peak_within(&self.loads, placement, &shape.costs, limit, steps)?;
+        let Some(peak) = peak_within(&self.loads, placement, &shape.costs, limit, steps) else {
+            return None;
+        };
         if !self.below_keeps(want, placement, shape, steps) {
             return None;
         }
@@ -208,8 +228,8 @@ fn add_below<L: Ledger>(
 )
     requires shape { IsShape want.now shape.now }
     requires place { IsOf shape.now placement.now }
-    requires free { (hub : ℕ) → want.now.hub ≡ Some hub → tables_of pool.old hub ≡ None → 1 ≤ length pool.old.free }
-    requires within { (hub : ℕ) → want.now.hub ≡ Some hub → IfSome (tables_of pool.old hub) AreWithin }
+    requires free { (hub : ℕ) → hub < 128 → want.now.hub ≡ Some hub → tables_of pool.old hub ≡ None → 1 ≤ length pool.old.free }
+    requires within { (hub : ℕ) → hub < 128 → want.now.hub ≡ Some hub → IfSome (tables_of pool.old hub) AreWithin }
     ensures pool { (placed : List Placed) → IsPool placed pool.old → IsPool (joined placed want.now placement.now) pool.new }
     ensures size { pool_size pool.new ≡ pool_size pool.old }
     ensures steps { steps.new ≤ steps.old + turns placement.now.period * (laid_cells want.now + 1) }
@@ -231,7 +251,7 @@ fn is_served(placed: &[Placed], hub: DevAddr) -> bool
 fn sub_below(pool: &mut HubPool, placed: &[Placed], want: &Want, placement: &Placement)
     requires want { IsWant want.now }
     requires place { IsPlace placement.now }
-    requires was { (all : List Placed) × IsLess (record { want = want.now; placement = placement.now }) all placed.now × IsPool all pool.old }
+    requires was { HadMore (record { want = want.now; placement = placement.now }) placed.now pool.old }
     ensures pool { IsPool placed.now pool.new }
     ensures size { pool_size pool.new ≡ pool_size pool.old }
 {
@@ -244,7 +264,8 @@ fn sub_below(pool: &mut HubPool, placed: &[Placed], want: &Want, placement: &Pla
         time_in_frame(want),
         &byte_times_of(want, placement),
     );
-    if !is_served(placed, hub) {
-        pool.give_back(hub);
+    if is_served(placed, hub) {
+        return;
     }
+    pool.give_back(hub);
 }

@@ -1,7 +1,8 @@
-ghost use Rattle.std.specs.Prelude.{◌≡◌, ◌+◌, ◌-◌, ◌*◌, ◌<◌, ◌≤◌, true, length, slice_index, slice_set, replicate, vec_capacity, All, Some, None, is_some, IfOk, IfSome, IfNone};
+ghost use Rattle.std.specs.Prelude.{◌≡◌, ◌+◌, ◌-◌, ◌*◌, ◌<◌, ◌≤◌, true, length, slice_index, slice_set, vec_capacity, All, Some, None, is_some, IfOk, IfSome};
+ghost use Rattle.std.specs.Option.{option_copied};
 ghost use Rattle.bandwidth.specs.Placements.{IsPlace};
 ghost use Rattle.bandwidth.specs.Shapes.{turns, IsAmounts};
-ghost use Rattle.bandwidth.specs.Tables.{AreCells, AreZero};
+ghost use Rattle.bandwidth.specs.Tables.{AreZero};
 
 use crate::hub_sums::HubSums;
 use crate::placements::Placement;
@@ -20,15 +21,14 @@ pub(crate) struct HubPool {
 }
 
 impl Model for HubPool {
-    ghost use Rattle.std.specs.Prelude.{◌≡◌, ◌≤◌, ◌+◌, All, is_some, length, vec_capacity};
-    ghost use Rattle.std.specs.List.{count_by};
-    ghost use Rattle.bandwidth.specs.Tables.{Pool, AreZero};
+    ghost use Rattle.std.specs.Prelude.{vec_capacity};
+    ghost use Rattle.bandwidth.specs.Tables.{Pool, IsRoomy};
 
     ghost Value = { Pool };
 
     ghost view = { λ p. record { hubs = p.hubs.items; free = p.free.items } };
 
-    ghost invariant = { λ p. (length p.hubs.items ≡ 128) × All AreZero p.free.items × (length p.free.items + count_by is_some p.hubs.items ≤ vec_capacity p.free) };
+    ghost invariant = { λ p. IsRoomy (record { hubs = p.hubs.items; free = p.free.items }) (vec_capacity p.free) };
 }
 
 /// So many tables whose cells are all 0.
@@ -47,23 +47,23 @@ fn zero_tables(alloc: Global, size: usize) -> Result<Vec<HubSums>, Memory>
 
 /// No tables at any of the 128 addresses.
 fn no_tables(alloc: Global) -> Result<Vec<Option<HubSums>>, Memory>
-    ensures count { IfOk result (λ v. v.items ≡ replicate 128 None) }
+    ensures count { IfOk result (λ v. length v.items ≡ 128) }
+    ensures none { IfOk result (λ v. All (λ o. o ≡ None) v.items) }
 {
     let mut hubs = Vec::with_capacity(alloc, 128)?;
-    for _k in 0..128 {
+    for _k in 0..128usize {
         hubs.push_reserved(None);
     }
     Ok(hubs)
 }
 
 impl HubPool {
-    ghost use Rattle.std.specs.List.{count_by};
-    ghost use Rattle.bandwidth.specs.Tables.{HubTables, AreWithin, Adds, Holds, Had, tables_of, pool_size};
+    ghost use Rattle.bandwidth.specs.Tables.{AreWithin, Holds, Gives, AddsAt, TakesAt, tables_of, pool_size};
 
     /// So many tables, and no hub that has any.
     pub(crate) fn build(alloc: Global, size: u32) -> Result<HubPool, Memory>
-        ensures hubs { IfOk result (λ p. p.hubs ≡ replicate 128 None) }
-        ensures free { IfOk result (λ p. All AreZero p.free) }
+        ensures count { IfOk result (λ p. length p.hubs ≡ 128) }
+        ensures none { IfOk result (λ p. All (λ o. o ≡ None) p.hubs) }
         ensures size { IfOk result (λ p. length p.free ≡ size) }
     {
         let free = zero_tables(alloc, size as usize)?;
@@ -73,8 +73,7 @@ impl HubPool {
 
     /// The tables of a hub, if it has any.
     pub(crate) fn below(&self, hub: DevAddr) -> Option<&HubSums>
-        ensures some { IfSome result (λ t. tables_of self.now hub ≡ Some t.now) }
-        ensures none { IfNone result (tables_of self.now hub ≡ None) }
+        ensures tables { option_copied result ≡ tables_of self.now hub }
         ensures hub { hub < 128 }
     {
         self.hubs[hub.get() as usize].as_ref()
@@ -84,36 +83,11 @@ impl HubPool {
     fn give(&mut self, hub: DevAddr)
         requires none { tables_of self.old hub ≡ None }
         requires free { 1 ≤ length self.old.free }
-        ensures hubs { (t : HubTables) × AreZero t × (self.new.hubs ≡ slice_set self.old.hubs hub (Some t)) }
+        ensures gives { Gives self.old self.new hub }
         ensures size { pool_size self.new ≡ pool_size self.old }
     {
         let sums = self.free.pop();
         self.hubs[hub.get() as usize] = sums;
-    }
-
-    /// Adds a placement to the tables of its hub, which gets some if it has none.
-    pub(crate) fn add<L: Ledger>(
-        &mut self,
-        hub: DevAddr,
-        placement: &Placement,
-        time: u64,
-        bytes: &Amounts,
-        steps: &mut Steps<L>,
-    )
-        requires free { tables_of self.old hub ≡ None → 1 ≤ length self.old.free }
-        requires within { IfSome (tables_of self.old hub) AreWithin }
-        requires place { IsPlace placement.now }
-        requires time { time ≤ 1000000000000 }
-        requires bytes { IsAmounts bytes.now }
-        ensures hubs { (t u : HubTables) × Had (tables_of self.old hub) t × Adds time (slice_index bytes.now.each) placement.now t u × (self.new.hubs ≡ slice_set self.old.hubs hub (Some u)) }
-        ensures free { All AreZero self.new.free }
-        ensures size { pool_size self.new ≡ pool_size self.old }
-        ensures steps { steps.new ≤ steps.old + turns placement.now.period * (bytes.now.to - bytes.now.from + 1) }
-    {
-        if self.below(hub).is_none() {
-            self.give(hub);
-        }
-        self.add_to(hub, placement, time, bytes, steps);
     }
 
     /// Adds a placement to the tables that its hub has.
@@ -130,8 +104,8 @@ impl HubPool {
         requires place { IsPlace placement.now }
         requires time { time ≤ 1000000000000 }
         requires bytes { IsAmounts bytes.now }
-        ensures hubs { (t u : HubTables) × (tables_of self.old hub ≡ Some t) × Adds time (slice_index bytes.now.each) placement.now t u × (self.new.hubs ≡ slice_set self.old.hubs hub (Some u)) }
-        ensures free { self.new.free ≡ self.old.free }
+        ensures adds { AddsAt self.old self.new hub time (slice_index bytes.now.each) placement.now }
+        ensures size { pool_size self.new ≡ pool_size self.old }
         ensures steps { steps.new ≤ steps.old + turns placement.now.period * (bytes.now.to - bytes.now.from + 1) }
     {
         if let Some(sums) = &mut self.hubs[hub.get() as usize] {
@@ -139,13 +113,39 @@ impl HubPool {
         }
     }
 
+    /// Adds a placement to the tables of its hub, which gets some if it has none.
+    pub(crate) fn add<L: Ledger>(
+        &mut self,
+        hub: DevAddr,
+        placement: &Placement,
+        time: u64,
+        bytes: &Amounts,
+        steps: &mut Steps<L>,
+    )
+        requires free { tables_of self.old hub ≡ None → 1 ≤ length self.old.free }
+        requires within { IfSome (tables_of self.old hub) AreWithin }
+        requires place { IsPlace placement.now }
+        requires time { time ≤ 1000000000000 }
+        requires bytes { IsAmounts bytes.now }
+        ensures adds { AddsAt self.old self.new hub time (slice_index bytes.now.each) placement.now }
+        ensures size { pool_size self.new ≡ pool_size self.old }
+        ensures steps { steps.new ≤ steps.old + turns placement.now.period * (bytes.now.to - bytes.now.from + 1) }
+    {
+        if self.below(hub).is_some() {
+            self.add_to(hub, placement, time, bytes, steps);
+            return;
+        }
+        self.give(hub);
+        self.add_to(hub, placement, time, bytes, steps);
+    }
+
     /// Takes a placement out of the tables of its hub.
     pub(crate) fn sub(&mut self, hub: DevAddr, placement: &Placement, time: u64, bytes: &[u64; 8])
         requires some { is_some (tables_of self.old hub) ≡ true }
         requires place { IsPlace placement.now }
         requires holds { IfSome (tables_of self.old hub) (Holds time (slice_index bytes.now) placement.now) }
-        ensures hubs { (t u : HubTables) × (tables_of self.old hub ≡ Some t) × AreCells u × Adds time (slice_index bytes.now) placement.now u t × (self.new.hubs ≡ slice_set self.old.hubs hub (Some u)) }
-        ensures free { self.new.free ≡ self.old.free }
+        ensures takes { TakesAt self.old self.new hub time (slice_index bytes.now) placement.now }
+        ensures size { pool_size self.new ≡ pool_size self.old }
     {
         if let Some(sums) = &mut self.hubs[hub.get() as usize] {
             sums.sub(placement, time, bytes);
@@ -158,7 +158,6 @@ impl HubPool {
         requires zero { IfSome (tables_of self.old hub) AreZero }
         ensures hubs { self.new.hubs ≡ slice_set self.old.hubs hub None }
         ensures size { pool_size self.new ≡ pool_size self.old }
-        ensures free { All AreZero self.new.free }
     {
         if let Some(sums) = self.hubs[hub.get() as usize].take() {
             self.free.push_reserved(sums);
