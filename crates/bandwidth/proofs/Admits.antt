@@ -7,8 +7,12 @@ use Rattle.bandwidth.specs.declared.placements.Placement.{Placement}
 use Rattle.bandwidth.specs.declared.placements.Placed.{Placed}
 use Rattle.bandwidth.specs.Placements.{allowed, in_phase, first_in, placement_at, placement_row, frame_period, IsWant, IsPlace}
 use Rattle.bandwidth.specs.declared.shapes.Shape.{Shape}
-use Rattle.bandwidth.specs.Shapes.{IsShape, IsOf}
-use Rattle.bandwidth.proofs.Spans.{span_of}
+use Rattle.bandwidth.specs.Shapes.{IsShape, IsOf, turns, cells}
+use Rattle.std.proofs.Common.{◌*◌, mul_comm}
+use Rattle.std.proofs.Math.Nat.{div-le_self}
+use Rattle.bandwidth.proofs.Cells.{within_steps}
+use Rattle.bandwidth.proofs.Turns.{whole_of}
+use Rattle.bandwidth.proofs.Spans.{span_of, few_cells}
 use Rattle.bandwidth.specs.Sums.{Fits}
 use Rattle.bandwidth.specs.Admission.{joined, keeps, peak, best, IsBest, HasNone}
 use Rattle.bandwidth.proofs.Budgets.{fits_fact, fits_test}
@@ -104,3 +108,14 @@ none_best placed w all =
 
 pub some_not_none : (placed : List Placed) (w : Want) (p : Placement) → best placed w ≡ Some p → HasNone placed w → ⊥
 some_not_none placed w p e all = let b = best_is placed w p e in all b.place p b.at b.fits
+
+-- the steps of a search and of the placement that it finds
+pub all_steps : (w : Want) → IsWant w → frame_period w.period * ((placement_row w).starts * (turns w.period * cells w)) + turns w.period * cells w ≤ 40960
+all_steps w want =
+    let whole = whole_of w.period want.period in
+    let once : frame_period w.period * turns w.period ≡ 1024 = mul_comm (frame_period w.period) (turns w.period) ∙ whole.divides in
+    within_steps (frame_period w.period) (placement_row w).starts (turns w.period) (cells w)
+    (omega (arith, once)) (div-le_self 1024 (frame_period w.period)) (few_cells w want)
+
+pub option_turns : (w : Want) (p : Placement) → IsOption w p → p.period ≡ w.period
+option_turns w p opt = ap (λ (q : Placement). q.period) opt.at

@@ -75,10 +75,10 @@ pub record IsPool (placed : List Placed) (pool : Pool) : Type 0 where
   pub hubs : (hub : ℕ) → hub < 128 → HubStands placed hub (tables_of pool hub)
 
 -- the pool stands for a list that has one x more
-pub record HadMore (x : Placed) (left : List Placed) (pool : Pool) : Type 0 where
+pub record HadMore (x : Placed) (left : List Placed) (next : Pool) : Type 0 where
   pub all : List Placed
   pub less : IsLess x all left
-  pub pool : IsPool all pool
+  pub pool : IsPool all next
 
 -- what no hub has is 0, and there is room for all of it
 pub record IsRoomy (pool : Pool) (room : ℕ) : Type 0 where

@@ -1,8 +1,18 @@
-use Rattle.std.proofs.Common.{◌≡◌, ◌%◌, ◌<◌, get_or, length, sym, arith, rules}
-use Rattle.bandwidth.specs.declared.placements.Placed.{Placed}
-use Rattle.bandwidth.proofs.Ids.{place_of, nothing_out, taken_out}
-use Rattle.bandwidth.proofs.Books.{less_removed, load_holds, book_left, costs_left}
+use Rattle.std.proofs.Common.{sym}
+use Rattle.bandwidth.proofs.Ids.{nothing_out}
 use Rattle.bandwidth.proofs.accounts.Accounts.remove.Goals as goal
+
+pub returns-in_default-clause-placed : goal.returns-in_default-clause-placed
+returns-in_default-clause-placed c = nothing_out c.args.self.now.placed c.args.id (sym c.in_default.ensures.place)
+
+pub sub_microframes-requires-clause-enough : goal.sub_microframes-requires-clause-enough
+sub_microframes-requires-clause-enough c = ?
+
+pub sub_below-requires-clause-was : goal.sub_below-requires-clause-was
+sub_below-requires-clause-was c = ?
+
+pub returns-clause-placed : goal.returns-clause-placed
+returns-clause-placed c = ?
 
 pub invariant_of-self : goal.invariant_of-self
 invariant_of-self c = ?
