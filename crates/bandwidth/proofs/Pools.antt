@@ -563,14 +563,15 @@ pub none_below : (time : ℕ) (laid : ℕ → ℕ) (p : Placement) → IsPlace p
 none_below time laid p place most = (
   λ on.
   record {
-    frames = λ f k a. let le : time ≤ 900000000 = grind (arith, nat_tests) in le;
-    bytes = λ u k a. let small : u % 8 < 8 = omega arith in most (u % 8) small;
+    frames = λ f k a. let le : time ≤ 900000000 = grind (arith, nat_tests) in omega (arith, le);
+    bytes = λ u k a. let small : u % 8 < 8 = omega arith in omega (arith, most (u % 8) small);
   },
   λ all.
   let whole = whole_of p.period place.period in
   let phase = place.phase in
   let start : p.phase + 0 * frame_period p.period ≡ p.phase = omega arith in
   let active : is_active p p.phase ≡ true = rw start at (active_of p 0 phase) in
-  let le : time ≤ 900000000 = all.frames p.phase (omega (arith, whole.most, phase)) active in
+  let got = all.frames p.phase (omega (arith, whole.most, phase)) active in
+  let le : time ≤ 900000000 = omega (arith, got) in
   grind (arith, nat_tests),
 )

@@ -242,7 +242,8 @@ fn add_below<L: Ledger>(
 
 /// Whether something is placed below a hub.
 fn is_served(placed: &[Placed], hub: DevAddr) -> bool
-    ensures { result ≡ serves placed.now hub }
+    ensures served { result ≡ serves placed.now hub }
+    ensures hub { hub < 128 }
 {
     placed.iter().any(|x| is_below(&x.want, hub))
 }
@@ -258,13 +259,14 @@ fn sub_below(pool: &mut HubPool, placed: &[Placed], want: &Want, placement: &Pla
     let Some(hub) = want.hub else {
         return;
     };
+    let served = is_served(placed, hub);
     pool.sub(
         hub,
         placement,
         time_in_frame(want),
         &byte_times_of(want, placement),
     );
-    if is_served(placed, hub) {
+    if served {
         return;
     }
     pool.give_back(hub);

@@ -75,6 +75,7 @@ impl HubPool {
     pub(crate) fn below(&self, hub: DevAddr) -> Option<&HubSums>
         ensures tables { option_copied result ≡ tables_of self.now hub }
         ensures hub { hub < 128 }
+        ensures count { length self.now.hubs ≡ 128 }
     {
         self.hubs[hub.get() as usize].as_ref()
     }
@@ -105,6 +106,7 @@ impl HubPool {
         requires time { time ≤ 1000000000000 }
         requires bytes { IsAmounts bytes.now }
         ensures adds { AddsAt self.old self.new hub time (slice_index bytes.now.each) placement.now }
+        ensures hub { hub < 128 }
         ensures size { pool_size self.new ≡ pool_size self.old }
         ensures steps { steps.new ≤ steps.old + turns placement.now.period * (bytes.now.to - bytes.now.from + 1) }
     {
@@ -128,6 +130,7 @@ impl HubPool {
         requires time { time ≤ 1000000000000 }
         requires bytes { IsAmounts bytes.now }
         ensures adds { AddsAt self.old self.new hub time (slice_index bytes.now.each) placement.now }
+        ensures hub { hub < 128 }
         ensures size { pool_size self.new ≡ pool_size self.old }
         ensures steps { steps.new ≤ steps.old + turns placement.now.period * (bytes.now.to - bytes.now.from + 1) }
     {

@@ -1,4 +1,4 @@
-use Rattle.std.proofs.Common.{◌≡◌, ◌<◌, sym, arith, rules}
+use Rattle.std.proofs.Common.{arith}
 use Rattle.bandwidth.proofs.Cells.{more_turns}
 use Rattle.bandwidth.proofs.Pools.{pool_alone, pool_joined, adds_as}
 use Rattle.bandwidth.proofs.Spans.{shape_bytes}
@@ -14,11 +14,10 @@ returns-clause-pool g c placed is =
     let p = c.args.placement.now in
     let x = c.args.shape.now in
     let at = c.add.ensures.adds in
-    let small : c.in-Some.hub < 128 = search rules in
-    pool_joined placed c.args.pool.now c.add.new.self w p c.in-Some.hub at.was at.now c.in-Some.is small is at.had
+    pool_joined placed c.args.pool.now c.add.new.self w p c.in-Some.hub at.was at.now c.in-Some.is c.add.ensures.hub is at.had
     (adds_as _ _ _ _ p at.was at.now c.requires.shape.time (shape_bytes w x p c.requires.shape c.requires.place) at.adds)
     at.hubs
 
 pub returns-clause-steps : goal.returns-clause-steps
 returns-clause-steps g c =
-    more_turns _ _ _ _ c.add.ensures.steps (omega (arith, c.requires.shape.laid_span))
+    more_turns _ _ _ _ _ c.add.ensures.steps (omega (arith, c.requires.shape.laid_span))
