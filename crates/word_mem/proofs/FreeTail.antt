@@ -1,10 +1,17 @@
 -- How the Free blocks in a row before a block go on with it.
-use Rattle.std.proofs.Common.{◌≡◌, ◌≢◌, ℕ, ◌+◌, ◌-◌, ◌%◌, ◌<◌, ◌≤◌, ◌⊎◌, List, Some, length, slice_get, arith, subst, inl, inr, ⊎_elim}
-use Rattle.std.proofs.lemmas.Bool.{cases_lt}
+use Rattle.std.proofs.Common.{◌≡◌, ◌≢◌, ℕ, ◌+◌, ◌-◌, ◌%◌, ◌<◌, ◌≤◌, ◌⊎◌, List, Option, None, Some, length, slice_get, arith, refl, sym, subst, inl, inr, ⊎_elim}
+use Rattle.std.proofs.lemmas.Bool.{cases_eq, cases_lt}
 use Rattle.std.proofs.lemmas.Option.{slice_get_within}
-use Rattle.word_mem.specs.Free.{IsFreeRun, IsFreeTail}
+use Rattle.word_mem.specs.Free.{IsFreeRun}
 use Rattle.word_mem.specs.declared.blocks.BlockState.{BlockState}
-use Rattle.word_mem.specs.declared.blocks.BlockState.TheVariants.{Free}
+use Rattle.word_mem.specs.declared.blocks.BlockState.TheVariants.{Free, Kept, Lent}
+
+-- n is the length of the longest run of Free blocks in one page, or 0, among those that end right before block `end`
+pub record IsFreeTail (states : List BlockState) (end n : ℕ) : Type 0 where
+  pub short : n ≤ end
+  pub one_page : (end - n) % 128 + n ≤ 128
+  pub free : (b : ℕ) → end ≤ b + n → b < end → slice_get states b ≡ Some Free
+  pub longest : (first other : ℕ) → first + other ≡ end → IsFreeRun states first other → other ≤ n
 
 -- the front of a run is a run
 pub shorter : (states : List BlockState) (first n m : ℕ) → IsFreeRun states first n → 1 ≤ m → m ≤ n → IsFreeRun states first m
@@ -21,7 +28,7 @@ run_within states first n run =
     let last = slice_get_within states (first + n - 1) Free (run.free (first + n - 1) (omega (arith, run.some)) (omega (arith, run.some))) in
     omega (arith, last, run.some)
 
-pub tail_grows : (states : List BlockState) (block before : ℕ) → IsFreeTail states block before → slice_get states block ≡ Some Free → block % 128 ≢ 0 → IsFreeTail states (block + 1) (before + 1)
+tail_grows : (states : List BlockState) (block before : ℕ) → IsFreeTail states block before → slice_get states block ≡ Some Free → block % 128 ≢ 0 → IsFreeTail states (block + 1) (before + 1)
 tail_grows states block before tail free inner =
     record {
       short = omega (arith, tail.short);
@@ -34,7 +41,7 @@ tail_grows states block before tail free inner =
           (λ (ge : other ≤ 1). omega arith) (cases_lt 1 other);
     }
 
-pub tail_ends : (states : List BlockState) (block : ℕ) → (slice_get states block ≡ Some Free → ⊥) → IsFreeTail states (block + 1) 0
+tail_ends : (states : List BlockState) (block : ℕ) → (slice_get states block ≡ Some Free → ⊥) → IsFreeTail states (block + 1) 0
 tail_ends states block taken =
     record {
       short = omega arith;
@@ -42,6 +49,35 @@ tail_ends states block taken =
       free = λ b from below. absurd (omega arith);
       longest = λ first other ends run. absurd (taken (run.free block (omega (arith, run.some)) (omega (arith, run.some))));
     }
+
+tail_begins : (states : List BlockState) (block : ℕ) → slice_get states block ≡ Some Free → block % 128 ≡ 0 → IsFreeTail states (block + 1) 1
+tail_begins states block free edge =
+    record {
+      short = omega arith;
+      one_page = omega arith;
+      free = λ b from below. let e : block ≡ b = omega arith in subst (λ (k : ℕ). slice_get states k ≡ Some Free) e free;
+      longest = λ first other ends run. omega (arith, run.one_page);
+    }
+
+tail_at : (states : List BlockState) (block before after : ℕ) (o : Option BlockState) → slice_get states block ≡ o → IsFreeTail states block before
+    → (o ≡ Some Free → block % 128 ≢ 0 → after ≡ before + 1) → (o ≡ Some Free → block % 128 ≡ 0 → after ≡ 1) → (o ≢ Some Free → after ≡ 0)
+    → IsFreeTail states (block + 1) after
+tail_at states block before after (Some Free) is tail goes_on begins ends =
+    ⊎_elim (λ (edge : block % 128 ≡ 0). subst (IsFreeTail states (block + 1)) (sym (begins refl edge)) (tail_begins states block is edge))
+    (λ (inner : block % 128 ≢ 0). subst (IsFreeTail states (block + 1)) (sym (goes_on refl inner)) (tail_grows states block before tail is inner))
+    (cases_eq (block % 128) 0)
+tail_at states block before after (Some Kept) is tail goes_on begins ends =
+    subst (IsFreeTail states (block + 1)) (sym (ends (λ e. cc))) (tail_ends states block (λ e. cc))
+tail_at states block before after (Some Lent) is tail goes_on begins ends =
+    subst (IsFreeTail states (block + 1)) (sym (ends (λ e. cc))) (tail_ends states block (λ e. cc))
+tail_at states block before after None is tail goes_on begins ends =
+    subst (IsFreeTail states (block + 1)) (sym (ends (λ e. cc))) (tail_ends states block (λ e. cc))
+
+-- the tail one block on
+pub tail_next : (states : List BlockState) (block before after : ℕ) → IsFreeTail states block before
+    → (slice_get states block ≡ Some Free → block % 128 ≢ 0 → after ≡ before + 1) → (slice_get states block ≡ Some Free → block % 128 ≡ 0 → after ≡ 1)
+    → (slice_get states block ≢ Some Free → after ≡ 0) → IsFreeTail states (block + 1) after
+tail_next states block before after tail goes_on begins ends = tail_at states block before after (slice_get states block) refl tail goes_on begins ends
 
 -- no run that ends up to `block` is longer than `best`, and none that ends right after it is longer than `tail`
 pub longest_more : (states : List BlockState) (block tail best most : ℕ) → IsFreeTail states (block + 1) tail → best ≤ most → tail ≤ most → ((first other : ℕ) → IsFreeRun states first other → first + other ≤ block → other ≤ best) → (first other : ℕ) → IsFreeRun states first other → first + other ≤ block + 1 → other ≤ most

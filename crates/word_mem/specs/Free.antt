@@ -6,7 +6,6 @@
 --     IsLongest states n              n is the length of the longest such run, or 0
 --     lowest_run states n             that run, found by looking at each place; None: there is none
 --     longest_run states              that length, found by looking for each
---     IsFreeTail states end n         n is the length of the longest such run, or 0, among those that end right before block `end`
 --     with_taken m r                  the blocks of the run handed out are Kept, and nothing else differs; None: nothing differs
 use Rattle.std.specs.Prelude.{◌≡◌, ℕ, zero, suc, ◌+◌, ◌-◌, ◌%◌, ◌<◌, ◌≤◌, ◌⊎◌, Bool, true, false, ◌&&◌, nat_le, List, length, take, drop, slice_get, Option, Some, None, is_some, if◌then◌else◌}
 use Rattle.std.specs.List.{list_all}
@@ -35,12 +34,6 @@ IsTaken states n (Some r) = (r.blocks ≡ n) × IsLowest states n r.first
 pub record IsLongest (states : List BlockState) (n : ℕ) : Type 0 where
   pub there : (n ≡ 0) ⊎ ((first : ℕ) × IsFreeRun states first n)
   pub longest : (first other : ℕ) → IsFreeRun states first other → other ≤ n
-
-pub record IsFreeTail (states : List BlockState) (end n : ℕ) : Type 0 where
-  pub short : n ≤ end
-  pub one_page : (end - n) % 128 + n ≤ 128
-  pub free : (b : ℕ) → end ≤ b + n → b < end → slice_get states b ≡ Some Free
-  pub longest : (first other : ℕ) → first + other ≡ end → IsFreeRun states first other → other ≤ n
 
 abbrev pub is_free : BlockState → Bool
 is_free Free = true

@@ -2,9 +2,8 @@
 //! of them share a block. Each function does nothing; its contract is the law, over the contents that the calls of `WordMem` leave.
 ghost use Rattle.std.specs.Prelude.{◌≡◌, ℕ, ◌≤◌, All, List, [], ◌∷◌, ◌++◌, Some};
 ghost use Rattle.word_mem.specs.Runs.{Run};
-ghost use Rattle.word_mem.specs.Memory.{Mem, AreAll, state_at, fresh, with_states, with_word, released, refused};
-ghost use Rattle.word_mem.specs.Free.{IsTaken};
-ghost use Rattle.word_mem.specs.Owners.{IsHeldBy, AreDisjoint, holders};
+ghost use Rattle.word_mem.specs.Memory.{Mem, AreAll, state_at, fresh, with_word, refused};
+ghost use Rattle.word_mem.specs.Owners.{IsHeldBy, AreDisjoint, TakingKeeps, LendingKeeps, UnlendingKeeps, ReleasingKeeps, HasNoOrder, holders};
 
 use crate::blocks::BlockState;
 
@@ -18,10 +17,10 @@ pub fn runs_are_disjoint()
 #[tactic(auto, using(crate::proofs::Holders::held_fresh, crate::proofs::Holders::held_taken, crate::proofs::Holders::held_lent, crate::proofs::Holders::held_unlent, crate::proofs::Holders::held_released, crate::proofs::Holders::held_word, crate::proofs::Holders::held_refused))]
 pub fn calls_keep_the_runs()
     ensures built { (n : ℕ) → IsHeldBy (fresh n) [] [] }
-    ensures taken { (m : Mem) (n : ℕ) (r : Run) (kept lent : List Run) → IsTaken m.states n (Some r) → IsHeldBy m kept lent → IsHeldBy (with_states m r BlockState.Kept) (r ∷ kept) lent }
-    ensures lent { (m : Mem) (r : Run) (kept lent : List Run) → 1 ≤ r.blocks → IsHeldBy m (r ∷ kept) lent → IsHeldBy (with_states m r BlockState.Lent) kept (r ∷ lent) }
-    ensures unlent { (m : Mem) (r : Run) (kept lent : List Run) → 1 ≤ r.blocks → IsHeldBy m kept (r ∷ lent) → IsHeldBy (with_states m r BlockState.Kept) (r ∷ kept) lent }
-    ensures released { (m : Mem) (r : Run) (kept lent : List Run) → 1 ≤ r.blocks → IsHeldBy m (r ∷ kept) lent → IsHeldBy (released m r) kept lent }
+    ensures taken { TakingKeeps }
+    ensures lent { LendingKeeps }
+    ensures unlent { UnlendingKeeps }
+    ensures released { ReleasingKeeps }
     ensures written { (m : Mem) (at v : ℕ) (kept lent : List Run) → IsHeldBy m kept lent → IsHeldBy (with_word m at v) kept lent }
     ensures refused { (m : Mem) (kept lent : List Run) → IsHeldBy m kept lent → IsHeldBy (refused m) kept lent }
 {}
@@ -29,7 +28,7 @@ pub fn calls_keep_the_runs()
 /// The order in which runs are listed says nothing.
 #[tactic(auto, using(crate::proofs::Holders::held_same))]
 pub fn runs_have_no_order()
-    ensures { (m : Mem) (kept lent kept_otherwise lent_otherwise : List Run) → ((b : ℕ) → holders kept b ≡ holders kept_otherwise b) → ((b : ℕ) → holders lent b ≡ holders lent_otherwise b) → IsHeldBy m kept lent → IsHeldBy m kept_otherwise lent_otherwise }
+    ensures { HasNoOrder }
 {}
 
 /// The blocks of a kept run are all Kept and those of a lent run all Lent, which is what the calls that take a run require; and the Lent

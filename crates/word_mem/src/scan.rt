@@ -1,16 +1,19 @@
-ghost use Rattle.std.specs.Prelude.{◌≡◌, ◌+◌, ◌<◌, ◌≤◌, length, MatchOption, IfSome};
-ghost use Rattle.word_mem.specs.Free.{HasNoFreeRun, IsLowest, IsLongest, IsFreeTail};
+ghost use Rattle.std.specs.Prelude.{◌≡◌, ◌≢◌, ◌+◌, ◌%◌, ◌<◌, ◌≤◌, length, slice_get, Some, MatchOption, IfSome};
+ghost use Rattle.word_mem.specs.Free.{HasNoFreeRun, IsLowest, IsLongest};
 
 use crate::blocks::BlockState;
 
 /// How many blocks a page has.
 const PAGE: usize = 128;
 
-/// The length of the longest Free run that ends with `block`, where `before` is that of the longest that ends right before it.
+/// The length of the longest Free run that ends with `block`, where `before` is that of the longest that ends right before it: a run
+/// goes on within its page alone.
 fn free_tail(states: &[BlockState], block: usize, before: usize) -> usize
     requires inside { block < length states.now }
-    requires tail { IsFreeTail states.now block before }
-    ensures tail { IsFreeTail states.now (block + 1) result }
+    requires short { before ≤ block }
+    ensures goes_on { slice_get states.now block ≡ Some BlockState.Free → block % 128 ≢ 0 → result ≡ before + 1 }
+    ensures begins { slice_get states.now block ≡ Some BlockState.Free → block % 128 ≡ 0 → result ≡ 1 }
+    ensures ends { slice_get states.now block ≢ Some BlockState.Free → result ≡ 0 }
     ensures step { result ≤ before + 1 }
 {
     match states[block] {

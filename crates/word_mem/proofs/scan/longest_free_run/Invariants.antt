@@ -1,5 +1,6 @@
 use Rattle.std.proofs.Common.{◌≡◌, ◌+◌, ◌≤◌, ◌⊎◌, ℕ}
-use Rattle.word_mem.specs.Free.{IsFreeRun, IsFreeTail}
+use Rattle.word_mem.specs.Free.{IsFreeRun}
+use Rattle.word_mem.proofs.FreeTail.{IsFreeTail}
 use Rattle.word_mem.proofs.scan.longest_free_run.Given as goal
 
 -- the best is the length of a run, and no run that ends before the block is longer

@@ -1,5 +1,6 @@
 use Rattle.std.proofs.Common.{◌+◌, ◌<◌, ℕ}
-use Rattle.word_mem.specs.Free.{IsFreeRun, IsFreeTail}
+use Rattle.word_mem.specs.Free.{IsFreeRun}
+use Rattle.word_mem.proofs.FreeTail.{IsFreeTail}
 use Rattle.word_mem.proofs.scan.lowest_free_run.Given as goal
 
 -- no run of n ends before the block, and the tail is shorter than n
