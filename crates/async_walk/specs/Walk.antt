@@ -32,14 +32,6 @@ begun w left = record w { held = None; left = left; first = true }
 abbrev pub stopped : Walk → Walk
 stopped w = record w { held = None }
 
--- the address that a link names; the end of a list names none, which is told as 0
-abbrev pub address_of : Link → ℕ
-address_of End = 0
-address_of (Itd a) = a
-address_of (Qh a) = a
-address_of (Sitd a) = a
-address_of (Fstn a) = a
-
 -- the address of the cursor; that of a walk at the start of the ring is told as 0
 abbrev pub cursor_address : Cursor → ℕ
 cursor_address cursors.Start = 0

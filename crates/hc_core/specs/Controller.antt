@@ -60,7 +60,7 @@ ring_row false = rows.End
 
 abbrev pub part_row : RegisterFile → Part → Row
 part_row r Over = rows.Begin
-part_row r (Periodic first left) = if r.periodic_enable && not (names_nothing first) then rows.FrameFault else enter_row r.async_enable left.0
+part_row r (Periodic first left) = if r.periodic_enable && not (is_end first) then rows.FrameFault else enter_row r.async_enable left.0
 part_row r Asynchronous = ring_row r.async_enable
 
 abbrev pub row_of : RegisterFile → Part → Row

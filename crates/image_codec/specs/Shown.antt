@@ -6,7 +6,7 @@ use Rattle.link_words.specs.declared.kinds.Link.{Link}
 use Rattle.link_words.specs.declared.kinds.Link.TheVariants as links
 use Rattle.link_words.specs.declared.kinds.QtdLink.{QtdLink}
 use Rattle.link_words.specs.declared.kinds.QtdLink.TheVariants as queue_links
-use Rattle.link_words.specs.Links.{link_read, qtd_link_read}
+use Rattle.link_words.specs.Links.{address_of, is_end, link_read, qtd_link_read}
 use Rattle.qh_qtd.specs.declared.qtd.Qtd.{Qtd}
 use Rattle.qh_qtd.specs.declared.queue_head.Qh.{Qh}
 use Rattle.qh_qtd.specs.Qtd.{qtd_read}
@@ -105,13 +105,6 @@ queue words = record {
 
 -- ---- structures (EHCI 1.0, 3.3, 3.4 and 3.6)
 
-abbrev pub address_of : Link → ℕ
-address_of links.End = 0
-address_of (links.Itd a) = a
-address_of (links.Qh a) = a
-address_of (links.Sitd a) = a
-address_of (links.Fstn a) = a
-
 -- the words of a structure
 abbrev pub size_of : Link → ℕ
 size_of links.End = 0
@@ -119,10 +112,6 @@ size_of (links.Itd a) = 16
 size_of (links.Qh a) = 12
 size_of (links.Sitd a) = 7
 size_of (links.Fstn a) = 2
-
-abbrev pub is_end : Link → Bool
-is_end links.End = true
-is_end _ = false
 
 abbrev pub is_fstn : Link → Bool
 is_fstn (links.Fstn a) = true

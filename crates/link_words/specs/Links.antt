@@ -1,5 +1,5 @@
 -- What a link says (EHCI 1.0, 3.3.1 and 3.5.1).
-use Rattle.std.specs.Prelude.{◌≡◌, ℕ, ◌%◌, ◌==◌, true, false, if◌then◌else◌, ◌⊎◌}
+use Rattle.std.specs.Prelude.{◌≡◌, ℕ, ◌%◌, ◌==◌, Bool, true, false, if◌then◌else◌, ◌⊎◌}
 use Rattle.link_words.specs.declared.fields.LinkBits.{LinkBits}
 use Rattle.link_words.specs.declared.fields.ShortLink.{ShortLink}
 use Rattle.link_words.specs.declared.kinds.Link.{Link}
@@ -20,17 +20,40 @@ link_of l = if l.t then kinds.End else typed l.typ l.address
 abbrev pub qtd_link_of : ShortLink → QtdLink
 qtd_link_of l = if l.t then qtd_kinds.End else qtd_kinds.To l.address
 
--- the fields of a link: those of an end are T=1 and 0
+-- the fields of a link that leads nowhere: T=1, and else 0
+abbrev pub no_link : LinkBits
+no_link = record { t = true; typ = 0; address = 0 }
+
+abbrev pub no_qtd : ShortLink
+no_qtd = record { t = true; address = 0 }
+
+-- the fields of a link
 abbrev pub link_fields : Link → LinkBits
-link_fields kinds.End = record { t = true; typ = 0; address = 0 }
+link_fields kinds.End = no_link
 link_fields (kinds.Itd a) = record { t = false; typ = 0; address = a }
 link_fields (kinds.Qh a) = record { t = false; typ = 1; address = a }
 link_fields (kinds.Sitd a) = record { t = false; typ = 2; address = a }
 link_fields (kinds.Fstn a) = record { t = false; typ = 3; address = a }
 
 abbrev pub qtd_link_fields : QtdLink → ShortLink
-qtd_link_fields qtd_kinds.End = record { t = true; address = 0 }
+qtd_link_fields qtd_kinds.End = no_qtd
 qtd_link_fields (qtd_kinds.To a) = record { t = false; address = a }
+
+-- the byte address that a link names; the end of a list names none, which is told as 0
+abbrev pub address_of : Link → ℕ
+address_of kinds.End = 0
+address_of (kinds.Itd a) = a
+address_of (kinds.Qh a) = a
+address_of (kinds.Sitd a) = a
+address_of (kinds.Fstn a) = a
+
+-- whether a link ends its list
+abbrev pub is_end : Link → Bool
+is_end kinds.End = true
+is_end (kinds.Itd a) = false
+is_end (kinds.Qh a) = false
+is_end (kinds.Sitd a) = false
+is_end (kinds.Fstn a) = false
 
 -- where a link word leads
 unfoldable pub link_read : ℕ → Link

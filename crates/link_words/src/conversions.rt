@@ -1,5 +1,5 @@
-ghost use Rattle.std.specs.Prelude.{◌≡◌};
-ghost use Rattle.link_words.specs.Links.{link_of, link_fields, qtd_link_of, qtd_link_fields};
+ghost use Rattle.std.specs.Prelude.{◌≡◌, ◌%◌};
+ghost use Rattle.link_words.specs.Links.{link_of, link_fields, qtd_link_of, qtd_link_fields, no_link, no_qtd, address_of, is_end, IsAligned};
 
 use crate::fields::{LinkBits, ShortLink};
 use crate::kinds::{Link, QtdLink};
@@ -27,11 +27,7 @@ impl From<Link> for LinkBits {
 
     fn from(link: Link) -> LinkBits {
         match link {
-            Link::End => LinkBits {
-                t: true,
-                typ: 0,
-                address: 0,
-            },
+            Link::End => LinkBits::end(),
             Link::Itd(address) => LinkBits {
                 t: false,
                 typ: 0,
@@ -74,11 +70,61 @@ impl From<QtdLink> for ShortLink {
 
     fn from(link: QtdLink) -> ShortLink {
         match link {
-            QtdLink::End => ShortLink {
-                t: true,
-                address: 0,
-            },
+            QtdLink::End => ShortLink::end(),
             QtdLink::To(address) => ShortLink { t: false, address },
+        }
+    }
+}
+
+impl Link {
+    /// The byte address that the link names; the end of a list names none, which is told as 0.
+    #[inline]
+    pub fn address(self) -> u32
+        requires { IsAligned self }
+        ensures address { result ≡ address_of self }
+        ensures aligned { address_of self % 32 ≡ 0 }
+    {
+        match self {
+            Link::End => 0,
+            Link::Itd(at) | Link::Qh(at) | Link::Sitd(at) | Link::Fstn(at) => at,
+        }
+    }
+
+    /// Whether the link ends its list.
+    #[inline]
+    pub fn is_end(self) -> bool
+        ensures { result ≡ is_end self }
+    {
+        match self {
+            Link::End => true,
+            Link::Itd(_) | Link::Qh(_) | Link::Sitd(_) | Link::Fstn(_) => false,
+        }
+    }
+}
+
+impl LinkBits {
+    /// The fields of a link that leads nowhere: T=1, and else 0.
+    #[inline]
+    pub fn end() -> LinkBits
+        ensures { result ≡ no_link }
+    {
+        LinkBits {
+            t: true,
+            typ: 0,
+            address: 0,
+        }
+    }
+}
+
+impl ShortLink {
+    /// The fields of a link of a queue that leads nowhere: T=1, and else 0.
+    #[inline]
+    pub fn end() -> ShortLink
+        ensures { result ≡ no_qtd }
+    {
+        ShortLink {
+            t: true,
+            address: 0,
         }
     }
 }

@@ -2,18 +2,11 @@
 --     blank_token     the word 0
 --     blank_qtd       both links end, and all else is 0
 --     blank_head      the link and the overlay's two links end, and all else is 0
-use Rattle.std.specs.Prelude.{true, false}
-use Rattle.link_words.specs.declared.fields.LinkBits.{LinkBits}
-use Rattle.link_words.specs.declared.fields.ShortLink.{ShortLink}
+use Rattle.std.specs.Prelude.{false}
+use Rattle.link_words.specs.Links.{no_link, no_qtd}
 use Rattle.qh_qtd.specs.declared.token.Token.{Token}
 use Rattle.qh_qtd.specs.declared.qtd.Qtd.{Qtd}
 use Rattle.qh_qtd.specs.declared.queue_head.Qh.{Qh}
-
-abbrev pub no_link : LinkBits
-no_link = record { t = true; typ = 0; address = 0 }
-
-abbrev pub no_qtd : ShortLink
-no_qtd = record { t = true; address = 0 }
 
 abbrev pub blank_token : Token
 blank_token = record {

@@ -9,12 +9,6 @@ use crate::queue_head::Qh;
 use crate::token::Token;
 use link_words::{LinkBits, ShortLink};
 
-/// A link to no descriptor: T is 1 (EHCI 1.0, 3.5.1).
-const NO_QTD: ShortLink = ShortLink {
-    t: true,
-    address: 0,
-};
-
 impl Token {
     /// A token with nothing in it: not active, no byte to move, toggle 0. It is the word 0.
     pub fn blank() -> Token
@@ -45,8 +39,8 @@ impl Qtd {
         ensures { result ≡ blank_qtd }
     {
         Qtd {
-            next: NO_QTD,
-            alternate: NO_QTD,
+            next: ShortLink::end(),
+            alternate: ShortLink::end(),
             token: Token::blank(),
             offset: 0,
             page0: 0,
@@ -64,11 +58,7 @@ impl Qh {
         ensures { result ≡ blank_head }
     {
         Qh {
-            link: LinkBits {
-                t: true,
-                typ: 0,
-                address: 0,
-            },
+            link: LinkBits::end(),
             addr: 0,
             inactivate: false,
             ep: 0,
@@ -84,8 +74,8 @@ impl Qh {
             port: 0,
             mult: 0,
             current: 0,
-            next: NO_QTD,
-            alternate: NO_QTD,
+            next: ShortLink::end(),
+            alternate: ShortLink::end(),
             nak_cnt: 0,
             token: Token::blank(),
             offset: 0,
