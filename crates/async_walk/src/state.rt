@@ -108,8 +108,8 @@ impl AsyncState {
         ensures { result ≡ cursor_address self.now.cursor }
     {
         match self.cursor {
-            Cursor::Start | Cursor::At(Link::End) => 0,
-            Cursor::At(Link::Itd(at) | Link::Qh(at) | Link::Sitd(at) | Link::Fstn(at)) => at,
+            Cursor::Start => 0,
+            Cursor::At(link) => link.address(),
         }
     }
 

@@ -15,6 +15,8 @@ use Rattle.usb_base.specs.declared.packets.EpKind.{EpKind}
 use Rattle.usb_base.specs.declared.packets.EpKind.TheVariants as kinds
 use Rattle.link_words.specs.declared.fields.LinkBits.{LinkBits}
 use Rattle.link_words.specs.declared.fields.ShortLink.{ShortLink}
+use Rattle.link_words.specs.Links.{no_qtd}
+use Rattle.qh_qtd.specs.Blank.{blank_token, blank_qtd, blank_head}
 use Rattle.qh_qtd.specs.declared.token.Token.{Token}
 use Rattle.qh_qtd.specs.declared.qtd.Qtd.{Qtd}
 use Rattle.qh_qtd.specs.declared.queue_head.Qh.{Qh}
@@ -38,27 +40,9 @@ queue_head_link b = 32 * b + 2
 abbrev pub to_qtd : ℕ → ShortLink
 to_qtd b = record { t = false; address = 32 * b }
 
-abbrev pub nowhere : ShortLink
-nowhere = record { t = true; address = 0 }
-
 -- a token of which nothing is to be done
 abbrev pub idle_token : Bool → Token
-idle_token halted = record {
-  ping = false;
-  split_state = false;
-  missed = false;
-  xact_err = false;
-  babble = false;
-  buffer_error = false;
-  halted = halted;
-  active = false;
-  pid = 0;
-  cerr = 0;
-  c_page = 0;
-  ioc = false;
-  total = 0;
-  toggle = false;
-}
+idle_token halted = record blank_token { halted = halted }
 
 -- ---- queue heads
 
@@ -82,108 +66,50 @@ is_control kinds.Interrupt = false
 -- The queue head of a bulk or control endpoint. The toggle of a control request comes from its qTDs. Up to four NAKs in a row are let
 -- pass at high speed (4.9); an endpoint behind a hub names the hub and its port.
 abbrev pub queue_head : EpDesc → ℕ → ℕ → Qh
-queue_head x link dummy = record {
+queue_head x link dummy = record blank_head {
   link = to_queue_head link;
   addr = x.name.addr;
-  inactivate = false;
   ep = x.name.num;
   eps = speed_field x.speed;
   dtc = is_control x.kind;
-  head = false;
   max = x.max;
   control = is_control x.kind && not (is_high x.speed);
   rl = if is_high x.speed then 4 else 0;
-  smask = 0;
-  cmask = 0;
   hub = if is_high x.speed then 0 else unwrap_or x.hub 0;
   port = if is_high x.speed then 0 else x.port;
   mult = 1;
-  current = 0;
   next = to_qtd dummy;
-  alternate = nowhere;
-  nak_cnt = 0;
-  token = idle_token false;
-  offset = 0;
-  page0 = 0;
-  c_prog = 0;
-  page1 = 0;
-  frame_tag = 0;
-  s_bytes = 0;
-  page2 = 0;
-  page3 = 0;
-  page4 = 0;
 }
 
 -- the head of the reclamation list (4.8): its queue is halted for ever
 abbrev pub opening_head : Qh
-opening_head = record {
+opening_head = record blank_head {
   link = to_queue_head head_block;
-  addr = 0;
-  inactivate = false;
-  ep = 0;
   eps = 2;
-  dtc = false;
   head = true;
   max = 64;
-  control = false;
-  rl = 0;
-  smask = 0;
-  cmask = 0;
-  hub = 0;
-  port = 0;
   mult = 1;
-  current = 0;
-  next = nowhere;
-  alternate = nowhere;
-  nak_cnt = 0;
   token = idle_token true;
-  offset = 0;
-  page0 = 0;
-  c_prog = 0;
-  page1 = 0;
-  frame_tag = 0;
-  s_bytes = 0;
-  page2 = 0;
-  page3 = 0;
-  page4 = 0;
 }
 
 -- ---- qTDs
 
 abbrev pub dummy_qtd : Qtd
-dummy_qtd = record {
-  next = nowhere;
-  alternate = nowhere;
-  token = idle_token false;
-  offset = 0;
-  page0 = 0;
-  page1 = 0;
-  page2 = 0;
-  page3 = 0;
-  page4 = 0;
-}
+dummy_qtd = blank_qtd
 
 -- three errors to come; the last qTD of a transfer asks for an interrupt (3.5.3)
 abbrev pub new_token : Stage → Bool → Token
-new_token s last = record {
-  ping = false;
-  split_state = false;
-  missed = false;
-  xact_err = false;
-  babble = false;
-  buffer_error = false;
-  halted = false;
+new_token s last = record blank_token {
   active = true;
   pid = s.pid;
   cerr = 3;
-  c_page = 0;
   ioc = last;
   total = s.long;
   toggle = s.toggle;
 }
 
 abbrev pub alternate_link : Alternate → ℕ → ℕ → ShortLink
-alternate_link alternates.Nowhere next dummy = nowhere
+alternate_link alternates.Nowhere next dummy = no_qtd
 alternate_link alternates.Dummy next dummy = to_qtd dummy
 alternate_link alternates.Next next dummy = to_qtd next
 

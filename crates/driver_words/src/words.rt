@@ -1,7 +1,7 @@
 ghost use Rattle.std.specs.Prelude.{◌≡◌, ◌≤◌, ◌<◌, if◌then◌else◌, unwrap_or};
 ghost use Rattle.qh_qtd.specs.Qtd.{IsQtdInRange};
 ghost use Rattle.qh_qtd.specs.QueueHead.{IsQhInRange};
-ghost use Rattle.driver_rows.specs.Words.{to_queue_head, to_qtd, nowhere, idle_token, is_high, speed_field, is_control, queue_head, opening_head, dummy_qtd, new_token, alternate_link, new_qtd};
+ghost use Rattle.driver_rows.specs.Words.{to_queue_head, to_qtd, idle_token, is_high, speed_field, is_control, queue_head, opening_head, dummy_qtd, new_token, alternate_link, new_qtd};
 ghost use Rattle.link_words.specs.Layout.{IsWordInRange};
 ghost use Rattle.qh_qtd.specs.Token.{token_rows};
 
@@ -34,36 +34,14 @@ fn link_to_qtd(block: u16) -> ShortLink
     }
 }
 
-/// The end of a queue.
-fn no_link() -> ShortLink
-    ensures { result ≡ nowhere }
-{
-    ShortLink {
-        t: true,
-        address: 0,
-    }
-}
-
 /// A token of which nothing is to be done.
 fn token_of_nothing(halted: bool) -> Token
     ensures token { result ≡ idle_token halted }
     ensures range { IsWordInRange token_rows result }
 {
     Token {
-        ping: false,
-        split_state: false,
-        missed: false,
-        xact_err: false,
-        babble: false,
-        buffer_error: false,
         halted,
-        active: false,
-        pid: 0,
-        cerr: 0,
-        c_page: 0,
-        ioc: false,
-        total: 0,
-        toggle: false,
+        ..Token::blank()
     }
 }
 
@@ -124,33 +102,17 @@ pub fn new_queue_head(desc: &EpDesc, link: u16, dummy: u16) -> Qh
     Qh {
         link: link_to_queue_head(link),
         addr: desc.name.addr.get(),
-        inactivate: false,
         ep: desc.name.num.get(),
         eps: speed_bits(desc.speed),
         dtc: control,
-        head: false,
         max: desc.max,
         control: control && !high,
         rl: if high { 4 } else { 0 },
-        smask: 0,
-        cmask: 0,
         hub: hub_bits(desc, high),
         port: if high { 0 } else { desc.port },
         mult: 1,
-        current: 0,
         next: link_to_qtd(dummy),
-        alternate: no_link(),
-        nak_cnt: 0,
-        token: token_of_nothing(false),
-        offset: 0,
-        page0: 0,
-        c_prog: 0,
-        page1: 0,
-        frame_tag: 0,
-        s_bytes: 0,
-        page2: 0,
-        page3: 0,
-        page4: 0,
+        ..Qh::blank()
     }
 }
 
@@ -161,34 +123,12 @@ pub fn head_of_ring() -> Qh
 {
     Qh {
         link: link_to_queue_head(HEAD_BLOCK),
-        addr: 0,
-        inactivate: false,
-        ep: 0,
         eps: 2,
-        dtc: false,
         head: true,
         max: 64,
-        control: false,
-        rl: 0,
-        smask: 0,
-        cmask: 0,
-        hub: 0,
-        port: 0,
         mult: 1,
-        current: 0,
-        next: no_link(),
-        alternate: no_link(),
-        nak_cnt: 0,
         token: token_of_nothing(true),
-        offset: 0,
-        page0: 0,
-        c_prog: 0,
-        page1: 0,
-        frame_tag: 0,
-        s_bytes: 0,
-        page2: 0,
-        page3: 0,
-        page4: 0,
+        ..Qh::blank()
     }
 }
 
@@ -197,17 +137,7 @@ pub fn inactive_qtd() -> Qtd
     ensures qtd { result ≡ dummy_qtd }
     ensures range { IsQtdInRange result }
 {
-    Qtd {
-        next: no_link(),
-        alternate: no_link(),
-        token: token_of_nothing(false),
-        offset: 0,
-        page0: 0,
-        page1: 0,
-        page2: 0,
-        page3: 0,
-        page4: 0,
-    }
+    Qtd::blank()
 }
 
 /// The token of a new qTD (EHCI 1.0, 3.5.3).
@@ -218,20 +148,13 @@ fn active_token(stage: &Stage, last: bool) -> Token
     ensures range { IsWordInRange token_rows result }
 {
     Token {
-        ping: false,
-        split_state: false,
-        missed: false,
-        xact_err: false,
-        babble: false,
-        buffer_error: false,
-        halted: false,
         active: true,
         pid: stage.pid,
         cerr: 3,
-        c_page: 0,
         ioc: last,
         total: stage.long,
         toggle: stage.toggle,
+        ..Token::blank()
     }
 }
 
@@ -240,7 +163,7 @@ fn alternate_to(alternate: Alternate, next: u16, dummy: u16) -> ShortLink
     ensures { result ≡ alternate_link alternate next dummy }
 {
     match alternate {
-        Alternate::Nowhere => no_link(),
+        Alternate::Nowhere => ShortLink::end(),
         Alternate::Dummy => link_to_qtd(dummy),
         Alternate::Next => link_to_qtd(next),
     }

@@ -3,9 +3,7 @@
 use Rattle.std.specs.Prelude.{◌≡◌, ℕ, ◌+◌, ◌*◌, ◌/◌, ◌%◌, Bool, true, false, ◌&&◌, not, List, if◌then◌else◌}
 use Rattle.usb_base.specs.declared.packets.Ask.{Ask}
 use Rattle.usb_base.specs.declared.packets.Reply.{Reply}
-use Rattle.link_words.specs.declared.kinds.Link.{Link}
-use Rattle.link_words.specs.declared.kinds.Link.TheVariants as links
-use Rattle.link_words.specs.Links.{link_read}
+use Rattle.link_words.specs.Links.{is_end, link_read}
 use Rattle.word_mem.specs.Memory.{Mem, reaches, refused, word_at}
 use Rattle.op_registers.specs.RegisterFile.{RegisterFile}
 use Rattle.op_registers.specs.Events.{after_begin, after_fault, next_index}
@@ -40,15 +38,6 @@ new_control = record { part = Over; walk = new_walk }
 
 -- ---- which row it is
 
--- The frame list's element ends the periodic part where it names nothing. The structures of the periodic list aren't walked: one that is
--- named is the fault.
-abbrev pub names_nothing : Link → Bool
-names_nothing links.End = true
-names_nothing (links.Itd a) = false
-names_nothing (links.Qh a) = false
-names_nothing (links.Sitd a) = false
-names_nothing (links.Fstn a) = false
-
 -- by whether the asynchronous part is enabled: a disabled part is over at once
 abbrev pub enter_row : Bool → ℕ → Row
 enter_row true left = rows.Enter (record { 0 = left })
@@ -58,6 +47,8 @@ abbrev pub ring_row : Bool → Row
 ring_row true = rows.Go
 ring_row false = rows.End
 
+-- The frame list's element ends the periodic part where it names nothing. The structures of the periodic list aren't walked: one that is
+-- named is the fault.
 abbrev pub part_row : RegisterFile → Part → Row
 part_row r Over = rows.Begin
 part_row r (Periodic first left) = if r.periodic_enable && not (is_end first) then rows.FrameFault else enter_row r.async_enable left.0

@@ -2,7 +2,7 @@ ghost use Rattle.std.specs.Prelude.{◌≡◌, ◌↔◌, false};
 ghost use Rattle.word_mem.specs.Access.{IsByController};
 ghost use Rattle.async_walk.specs.Walk.{held_address};
 ghost use Rattle.async_walk.specs.Causes.{AreRefusalsFaults};
-ghost use Rattle.hc_core.specs.Controller.{content, new_control, names_nothing, row_of, Begins, ended, entered_control, hc_step, part_after, walk_step, Walks, HasRow, kind_of};
+ghost use Rattle.hc_core.specs.Controller.{content, new_control, row_of, Begins, ended, entered_control, hc_step, part_after, walk_step, Walks, HasRow, kind_of};
 
 use async_walk::{AsyncState, WalkStep, step as walk_ring};
 use link_words::{Link, read};
@@ -78,15 +78,6 @@ impl Model for Controller {
     ghost view = { λ c. record { part = c.part; walk = c.walk } };
 }
 
-fn ends(link: Link) -> bool
-    ensures { result ≡ names_nothing link }
-{
-    match link {
-        Link::End => true,
-        _ => false,
-    }
-}
-
 fn kind(step: WalkStep) -> HcStep
     ensures { result ≡ hc_step step }
 {
@@ -136,7 +127,7 @@ impl Controller {
         }
         match self.part {
             Part::Over => Row::Begin,
-            Part::Periodic(first, _) if regs.periodic_on() && !ends(first) => Row::FrameFault,
+            Part::Periodic(first, _) if regs.periodic_on() && !first.is_end() => Row::FrameFault,
             Part::Periodic(_, left) if regs.async_on() => Row::Enter(left),
             Part::Asynchronous if regs.async_on() => Row::Go,
             Part::Periodic(_, _) | Part::Asynchronous => Row::End,

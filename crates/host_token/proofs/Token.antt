@@ -2,6 +2,7 @@
 use Rattle.std.proofs.Common.{◌≡◌, ◌<◌, ◌≤◌, Option, Some, None, Result, Ok, Err, slice_index, refl, ap, sym, ◌∙◌, arith, false}
 use Rattle.link_words.specs.declared.refusal.Bad.{Bad}
 use Rattle.link_words.specs.Layout.{IsWordInRange, unless_bad}
+use Rattle.qh_qtd.specs.Blank.{blank_qtd}
 use Rattle.qh_qtd.specs.declared.token.Token.{Token}
 use Rattle.qh_qtd.specs.declared.qtd.Qtd.{Qtd}
 use Rattle.qh_qtd.specs.Token.{token_rows, token_at, token_word}
@@ -12,17 +13,7 @@ use Rattle.host_token.specs.HostToken.{with_host}
 
 -- a descriptor with this token and nothing else
 abbrev alone : Token → Qtd
-alone t = record {
-  next = record { t = false; address = 0 };
-  alternate = record { t = false; address = 0 };
-  token = t;
-  offset = 0;
-  page0 = 0;
-  page1 = 0;
-  page2 = 0;
-  page3 = 0;
-  page4 = 0;
-}
+alone t = record blank_qtd { token = t }
 
 value_of : Qtd → Result Qtd Bad → Qtd
 value_of d (Ok p) = p

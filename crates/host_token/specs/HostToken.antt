@@ -1,4 +1,4 @@
--- The host's side of a transfer as a token has it (EHCI 1.0, 3.5.3 and 3.6.4).
+-- The host's side of a transfer as a token has it (EHCI 1.0, 3.5.3 and 3.6.3).
 use Rattle.std.specs.Prelude.{ℕ}
 use Rattle.qh_qtd.specs.declared.token.Token.{Token}
 use Rattle.toggle_error.specs.declared.host.HostSide.{HostSide}

@@ -1,4 +1,4 @@
-//! The host's side of a transfer in the token of a qTD or of a queue head's overlay (EHCI 1.0, 3.5.3 and 3.6.4).
+//! The host's side of a transfer in the token of a qTD or of a queue head's overlay (EHCI 1.0, 3.5.3 and 3.6.3).
 //!
 //! `host_of` takes it out of a token, `token_of` puts it back. What a transaction makes of it is `toggle_error`'s.
 #![tactic(auto)]

@@ -8,11 +8,11 @@ use Rattle.link_words.specs.declared.kinds.Link.TheVariants as links
 use Rattle.link_words.specs.declared.kinds.QtdLink.{QtdLink}
 use Rattle.link_words.specs.declared.kinds.QtdLink.TheVariants as queue_links
 use Rattle.link_words.specs.Layout.{bits, is_set}
-use Rattle.link_words.specs.Links.{link_read, qtd_link_read, IsAligned, IsQtdAligned}
+use Rattle.link_words.specs.Links.{link_read, qtd_link_read, IsAligned, IsQtdAligned, address_of}
 use Rattle.image_codec.specs.declared.ending.Ending.{Ending}
 use Rattle.image_codec.specs.Linked.{Linked, count, ending_at, first_below, first_ending, first_from, is_in, link_at, when}
 use Rattle.image_codec.specs.Marks.{is_marked}
-use Rattle.image_codec.specs.Shown.{address_of, chain, chain_ending, chain_endings, is_outside, queue, queue_address, queue_ending, queue_endings, units, word_at}
+use Rattle.image_codec.specs.Shown.{chain, chain_ending, chain_endings, is_outside, queue, queue_address, queue_ending, queue_endings, units, word_at}
 use Rattle.image_codec.proofs.Listing.{Progress, ending_here, progress-more, progress-none}
 use Rattle.image_codec.proofs.Marking.{zeros}
 

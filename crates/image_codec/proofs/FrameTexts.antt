@@ -3,11 +3,11 @@ use Rattle.std.proofs.Common.{◌≡◌, ℕ, zero, suc, ◌+◌, ◌<◌, true,
 use Rattle.std.proofs.lemmas.Bool.{cases_eq}
 use Rattle.link_words.specs.declared.kinds.Link.{Link}
 use Rattle.link_words.specs.declared.kinds.Link.TheVariants as links
-use Rattle.link_words.specs.Links.{link_read}
+use Rattle.link_words.specs.Links.{link_read, is_end}
 use Rattle.image_codec.specs.declared.image.Image.{Image}
 use Rattle.image_codec.specs.Linked.{count, ending_at, list_text, passed}
 use Rattle.image_codec.specs.Marks.{AreMarks}
-use Rattle.image_codec.specs.Shown.{chain, element_at, frame_first, frame_line, frame_text, frames_text, is_end, is_outside, outside_text, seen_before, word_at}
+use Rattle.image_codec.specs.Shown.{chain, element_at, frame_first, frame_line, frame_text, frames_text, is_outside, outside_text, seen_before, word_at}
 use Rattle.image_codec.proofs.Listing.{first_below-at, is_marked-fresh}
 use Rattle.image_codec.proofs.Marking.{are_marks-next, fresh-first, in_list-first}
 

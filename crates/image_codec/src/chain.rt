@@ -1,11 +1,11 @@
 ghost use Rattle.std.specs.Prelude.{◌≡◌, ℕ, ◌+◌, ◌*◌, ◌/◌, ◌%◌, ◌≤◌, ◌<◌, ◌++◌, false, length, OnOk, OnErr, IfNone};
 ghost use Rattle.usb_base.specs.Outside.{AppendsPrefix, one_more};
-ghost use Rattle.link_words.specs.Links.{IsAligned as IsLinkAligned};
+ghost use Rattle.link_words.specs.Links.{IsAligned as IsLinkAligned, address_of, is_end};
 ghost use Rattle.image_codec.specs.Image.{IsAligned};
 ghost use Rattle.image_codec.specs.Linked.{count, list_text, passed};
 ghost use Rattle.image_codec.specs.Marks.{is_marked_before, AreMarks};
 ghost use Rattle.image_codec.specs.Printing.{Passes};
-ghost use Rattle.image_codec.specs.Shown.{address_of, bad_of, chain, chain_ending, end_of, is_end, is_fstn, is_home, is_queue_head, seen_before, size_of, units};
+ghost use Rattle.image_codec.specs.Shown.{bad_of, chain, chain_ending, end_of, is_fstn, is_home, is_queue_head, seen_before, size_of, units};
 
 use crate::ending::Ending;
 use crate::image::Image;
@@ -55,7 +55,7 @@ pub fn put_chain<K: Sink>(
     let mut link = first;
     let mut begun = false;
     loop {
-        let at = address_of_link(link);
+        let at = link.address();
         let here = has_mark(lists, number, at);
         let earlier = has_earlier_mark(lists, number, at);
         if let Some(ending) = ending_of(words, place.home, begun, here, earlier, link) {
@@ -65,20 +65,6 @@ pub fn put_chain<K: Sink>(
         lists[(at / 32) as usize] = number;
         link = read(read_word(words, at));
         begun = true;
-    }
-}
-
-fn address_of_link(link: Link) -> u32
-    requires { IsLinkAligned link }
-    ensures address { result ≡ address_of link }
-    ensures aligned { address_of link % 32 ≡ 0 }
-{
-    match link {
-        Link::End => 0,
-        Link::Itd(at) => at,
-        Link::Qh(at) => at,
-        Link::Sitd(at) => at,
-        Link::Fstn(at) => at,
     }
 }
 
@@ -100,16 +86,6 @@ fn words_of_link(link: Link) -> u32
         Link::Qh(_) => 12,
         Link::Sitd(_) => 7,
         Link::Fstn(_) => 2,
-    }
-}
-
-/// Whether a link has T=1.
-pub fn is_end_link(link: Link) -> bool
-    ensures { result ≡ is_end link }
-{
-    match link {
-        Link::End => true,
-        Link::Itd(_) | Link::Qh(_) | Link::Sitd(_) | Link::Fstn(_) => false,
     }
 }
 
@@ -177,9 +153,9 @@ fn ending_of(
     ensures fresh { IfNone result (here ≡ false) }
     ensures unseen { IfNone result (earlier ≡ false) }
 {
-    let at = address_of_link(link);
+    let at = link.address();
     let size = words_of_link(link);
-    if is_end_link(link) {
+    if link.is_end() {
         return Some(end_at(home));
     }
     if begun && comes_home(home, at) {

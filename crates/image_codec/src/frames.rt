@@ -7,7 +7,7 @@ ghost use Rattle.image_codec.specs.Marks.{AreMarks};
 ghost use Rattle.image_codec.specs.Printing.{Passes};
 ghost use Rattle.image_codec.specs.Shown.{chain, element_at, frame_first, frame_line, frame_text, frames_text, outside_text, ring_text, seen_before, units};
 
-use crate::chain::{Place, is_end_link, put_chain};
+use crate::chain::{Place, put_chain};
 use crate::ending::Ending;
 use crate::image::Image;
 use crate::lines::{line_of_ending, line_of_frame};
@@ -105,7 +105,7 @@ fn put_frame<K: Sink>(
         return put_outside(page, sink, n, at);
     }
     let first = read(read_word(words, at));
-    if is_end_link(first) {
+    if first.is_end() {
         return Ok(());
     }
     put_listed(page, sink, image, lists, queues, n, first)

@@ -1,8 +1,9 @@
 ghost use Rattle.std.specs.Prelude.{◌≡◌, ℕ, ◌+◌, ◌*◌, ◌%◌, ◌≤◌, ◌⊎◌, ◌++◌, true, length, slice_index, OnOk, OnErr};
 ghost use Rattle.usb_base.specs.Outside.{AppendsPrefix, one_more};
+ghost use Rattle.link_words.specs.Links.{address_of};
 ghost use Rattle.image_codec.specs.Marks.{IsFresh};
 ghost use Rattle.image_codec.specs.Printing.{Passes};
-ghost use Rattle.image_codec.specs.Shown.{address_of, is_queue_head, itd_at_address, itd_text, qh_text, queue_head, sitd_at_address, sitd_text, size_of, structure_text, units};
+ghost use Rattle.image_codec.specs.Shown.{is_queue_head, itd_at_address, itd_text, qh_text, queue_head, sitd_at_address, sitd_text, size_of, structure_text, units};
 
 use crate::line::Line;
 use crate::lines::{line_of_itd, line_of_queue_head, line_of_sitd};

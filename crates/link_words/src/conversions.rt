@@ -80,9 +80,8 @@ impl Link {
     /// The byte address that the link names; the end of a list names none, which is told as 0.
     #[inline]
     pub fn address(self) -> u32
-        requires { IsAligned self }
         ensures address { result ≡ address_of self }
-        ensures aligned { address_of self % 32 ≡ 0 }
+        ensures aligned { IsAligned self → result % 32 ≡ 0 }
     {
         match self {
             Link::End => 0,

@@ -8,6 +8,7 @@ use Rattle.std.specs.Prelude.{ℕ, true, false, List, [], ◌∷◌, ◌++◌, r
 use Rattle.word_mem.specs.Memory.{Mem}
 use Rattle.word_mem.specs.declared.blocks.BlockState.{BlockState}
 use Rattle.word_mem.specs.declared.blocks.BlockState.TheVariants.{Kept}
+use Rattle.qh_qtd.specs.Blank.{blank_token, blank_qtd}
 use Rattle.qh_qtd.specs.declared.token.Token.{Token}
 use Rattle.qh_qtd.specs.declared.qtd.Qtd.{Qtd}
 use Rattle.qh_qtd.specs.declared.queue_head.Qh.{Qh}
@@ -22,15 +23,11 @@ abbrev pub split_words : List ℕ
 split_words = 0x12344 ∷ 0xA2BCDB93 ∷ 0xCB963C81 ∷ 0x20040 ∷ 0x30061 ∷ 0x40096 ∷ 0x92349E35 ∷ 0xABCDE123 ∷ 0x123450A5 ∷ 0x6789AF6D ∷ 0xFEDCB000 ∷ 0x1000 ∷ []
 
 abbrev pub split_token : Token
-split_token = record {
+split_token = record blank_token {
   ping = true;
-  split_state = false;
   missed = true;
-  xact_err = false;
   babble = true;
   buffer_error = true;
-  halted = false;
-  active = false;
   pid = 2;
   cerr = 3;
   c_page = 1;
@@ -76,26 +73,10 @@ abbrev pub last_words : List ℕ
 last_words = 1 ∷ 0x2041 ∷ 0x2004D80 ∷ 0x10A00 ∷ 0x20000 ∷ 0x30000 ∷ 0x40000 ∷ 0xFFFFF000 ∷ []
 
 abbrev pub last_token : Token
-last_token = record {
-  ping = false;
-  split_state = false;
-  missed = false;
-  xact_err = false;
-  babble = false;
-  buffer_error = false;
-  halted = false;
-  active = true;
-  pid = 1;
-  cerr = 3;
-  c_page = 4;
-  ioc = false;
-  total = 0x200;
-  toggle = false;
-}
+last_token = record blank_token { active = true; pid = 1; cerr = 3; c_page = 4; total = 0x200 }
 
 abbrev pub last_qtd : Qtd
-last_qtd = record {
-  next = record { t = true; address = 0 };
+last_qtd = record blank_qtd {
   alternate = record { t = true; address = 0x2040 };
   token = last_token;
   offset = 0xA00;

@@ -8,49 +8,25 @@
 --     done n t      its overlay is done with n bytes left, and T of its alternate pointer is t
 --     short_qtd     an active qTD of 18 bytes with toggle 0
 use Rattle.std.specs.Prelude.{ℕ, Bool, true, false}
+use Rattle.qh_qtd.specs.Blank.{blank_token, blank_qtd, blank_head}
 use Rattle.qh_qtd.specs.declared.token.Token.{Token}
 use Rattle.qh_qtd.specs.declared.qtd.Qtd.{Qtd}
 use Rattle.qh_qtd.specs.declared.queue_head.Qh.{Qh}
 
 abbrev pub moving : Token
-moving = record {
-  ping = false;
-  split_state = false;
-  missed = false;
-  xact_err = false;
-  babble = false;
-  buffer_error = false;
-  halted = false;
-  active = true;
-  pid = 1;
-  cerr = 3;
-  c_page = 0;
-  ioc = false;
-  total = 515;
-  toggle = true;
-}
+moving = record blank_token { active = true; pid = 1; cerr = 3; total = 515; toggle = true }
 
 abbrev pub bulk_in : Qh
-bulk_in = record {
+bulk_in = record blank_head {
   link = record { t = false; typ = 1; address = 0x1000 };
   addr = 3;
-  inactivate = false;
   ep = 1;
   eps = 2;
-  dtc = false;
-  head = false;
   max = 512;
-  control = false;
-  rl = 0;
-  smask = 0;
-  cmask = 0;
-  hub = 0;
-  port = 0;
   mult = 1;
   current = 0x1060;
   next = record { t = false; address = 0x1080 };
   alternate = record { t = false; address = 0x10A0 };
-  nak_cnt = 0;
   token = moving;
   offset = 0xFFD;
   page0 = 2;
@@ -95,8 +71,7 @@ done n t = record bulk_in {
 }
 
 abbrev pub short_qtd : Qtd
-short_qtd = record {
-  next = record { t = true; address = 0 };
+short_qtd = record blank_qtd {
   alternate = record { t = false; address = 0x10C0 };
   token = record moving { ping = true; ioc = true; total = 18; toggle = false };
   offset = 0x123;

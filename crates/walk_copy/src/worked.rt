@@ -6,6 +6,7 @@ ghost use Rattle.usb_base.specs.declared.packets.Part.TheVariants.{All};
 ghost use Rattle.usb_base.specs.declared.packets.Pid.TheVariants as pids;
 ghost use Rattle.usb_base.specs.declared.packets.Reply.TheVariants.{Silent, Bytes, Hand};
 ghost use Rattle.usb_base.specs.declared.packets.Split.TheVariants.{Plain, Start, Complete};
+ghost use Rattle.link_words.specs.Links.{no_qtd};
 ghost use Rattle.link_words.specs.declared.kinds.QtdLink.TheVariants.{End, To};
 ghost use Rattle.toggle_error.specs.declared.host.Outcome.TheVariants.{Moved, Nak, Wait, Error, Halt};
 ghost use Rattle.walk_copy.specs.declared.held.Visit.TheVariants.{Rest, Work, Take};
@@ -25,7 +26,7 @@ pub fn visits()
     ensures short { visit_of true (done 3 false) ≡ Take (To 0x10A0) }
     ensures short_without_alternate { visit_of true (done 3 true) ≡ Take (To 0x1080) }
     ensures whole { visit_of true (done 0 false) ≡ Take (To 0x1080) }
-    ensures last { visit_of true (record bulk_in { token = record moving { active = false; total = 0 }; next = record { t = true; address = 0 } }) ≡ Take End }
+    ensures last { visit_of true (record bulk_in { token = record moving { active = false; total = 0 }; next = no_qtd }) ≡ Take End }
     ensures may_not_and_done { visit_of false (done 0 false) ≡ Rest }
 {}
 
@@ -38,7 +39,7 @@ pub fn qtds_taken()
           rl = 4;
           nak_cnt = 4;
           current = 0x1080;
-          next = record { t = true; address = 0 };
+          next = no_qtd;
           alternate = record { t = false; address = 0x10C0 };
           token = record moving { ioc = true; total = 18 };
           offset = 0x123;

@@ -2,15 +2,19 @@ use Rattle.std.proofs.Common.{◌≡◌, ℕ, suc, ◌+◌, ◌/◌, ◌%◌, �
 use Rattle.std.proofs.lemmas.Bool.{lt-ltb}
 use Rattle.std.proofs.lemmas.List.{length-set}
 use Rattle.link_words.specs.declared.kinds.Link.{Link}
-use Rattle.link_words.specs.Links.{link_read}
+use Rattle.link_words.specs.Links.{link_read, address_of}
 use Rattle.image_codec.specs.declared.ending.Ending.{Ending}
 use Rattle.image_codec.specs.Linked.{Linked, count, is_in, passed}
 use Rattle.image_codec.specs.Marks.{is_marked, is_marked_before, AreMarks}
-use Rattle.image_codec.specs.Shown.{address_of, chain, chain_ending, next_in_chain, seen_before, structure_text, word_at}
+use Rattle.image_codec.specs.Shown.{chain, chain_ending, next_in_chain, seen_before, structure_text, word_at}
 use Rattle.image_codec.proofs.Listing.{Stage, ends_here, put_ending_err, put_ending_ok, stage-goes_err, stage-more, stage-none}
 use Rattle.image_codec.proofs.Marking.{InList, are_marks-next, fresh-first, in_list-first, in_list-more}
 use Rattle.image_codec.proofs.Passing.{on_err, on_ok, passes_same, prefix_same}
 use Rattle.image_codec.proofs.chain.put_chain.Goals as goal
+
+-- the link's address is a multiple of 32
+multiple : (at : ℕ) (link : Link) → at ≡ address_of link → at % 32 ≡ 0 → address_of link % 32 ≡ 0
+multiple at link e h = subst (λ (a : ℕ). a % 32 ≡ 0) e h
 
 -- the ending by the marks is the one that was found
 found : (words own seen lists : List ℕ) (home : Option ℕ) (number at k : ℕ) (begun here earlier : Bool) (link : Link) (result answer : Option Ending)
@@ -73,13 +77,13 @@ returns-in-Some-clause-ok g c =
     let l = chain c.args.image.now.words c.args.place.home seen in
     let k = c.loop-ending.invariant.stage.0 in
     let s = c.loop-ending.invariant.stage.1.0 in
-    let ends = found c.args.image.now.words c.as_slice-words.result.now seen c.loop-ending.lists c.args.place.home (c.args.place.frames + 1) c.address_of_link-at.result k
+    let ends = found c.args.image.now.words c.as_slice-words.result.now seen c.loop-ending.lists c.args.place.home (c.args.place.frames + 1) c.address-at.result k
     c.loop-ending.begun c.has_mark-here.result c.has_earlier_mark-earlier.result c.loop-ending.link c.ending_of.result (Some c.in-Some.ending)
-    c.as_slice-words.ensures c.address_of_link-at.ensures.address c.has_mark-here.ensures c.has_earlier_mark-earlier.ensures
-    (c.loop-ending.invariant.marks.earlier (address_of c.loop-ending.link) c.address_of_link-at.ensures.aligned) c.loop-ending.invariant.stage.1.1
+    c.as_slice-words.ensures c.address-at.ensures.address c.has_mark-here.ensures c.has_earlier_mark-earlier.ensures
+    (c.loop-ending.invariant.marks.earlier (address_of c.loop-ending.link) (multiple _ _ c.address-at.ensures.address (c.address-at.ensures.aligned c.loop-ending.invariant.aligned))) c.loop-ending.invariant.stage.1.1
     c.ending_of.ensures.ending c.in-Some.is in
     put_ending_ok l c.args.first (c.args.place.frames + 1) c.loop-ending.lists c.put.result c.loop-ending.link k _ _ _ _ _ _ _ c.in-Some.ending s
-    c.address_of_link-at.ensures.aligned ends (c.as_slice.ensures.bytes ∙ c.line_of_ending.ensures) c.put.ensures.ok
+    (multiple _ _ c.address-at.ensures.address (c.address-at.ensures.aligned c.loop-ending.invariant.aligned)) ends (c.as_slice.ensures.bytes ∙ c.line_of_ending.ensures) c.put.ensures.ok
 
 pub returns-in-Some-clause-err : goal.returns-in-Some-clause-err
 returns-in-Some-clause-err g c =
@@ -87,13 +91,13 @@ returns-in-Some-clause-err g c =
     let l = chain c.args.image.now.words c.args.place.home seen in
     let k = c.loop-ending.invariant.stage.0 in
     let s = c.loop-ending.invariant.stage.1.0 in
-    let ends = found c.args.image.now.words c.as_slice-words.result.now seen c.loop-ending.lists c.args.place.home (c.args.place.frames + 1) c.address_of_link-at.result k
+    let ends = found c.args.image.now.words c.as_slice-words.result.now seen c.loop-ending.lists c.args.place.home (c.args.place.frames + 1) c.address-at.result k
     c.loop-ending.begun c.has_mark-here.result c.has_earlier_mark-earlier.result c.loop-ending.link c.ending_of.result (Some c.in-Some.ending)
-    c.as_slice-words.ensures c.address_of_link-at.ensures.address c.has_mark-here.ensures c.has_earlier_mark-earlier.ensures
-    (c.loop-ending.invariant.marks.earlier (address_of c.loop-ending.link) c.address_of_link-at.ensures.aligned) c.loop-ending.invariant.stage.1.1
+    c.as_slice-words.ensures c.address-at.ensures.address c.has_mark-here.ensures c.has_earlier_mark-earlier.ensures
+    (c.loop-ending.invariant.marks.earlier (address_of c.loop-ending.link) (multiple _ _ c.address-at.ensures.address (c.address-at.ensures.aligned c.loop-ending.invariant.aligned))) c.loop-ending.invariant.stage.1.1
     c.ending_of.ensures.ending c.in-Some.is in
     put_ending_err l c.args.first (c.args.place.frames + 1) c.loop-ending.lists c.put.result c.loop-ending.link k _ _ _ _ _ _ c.in-Some.ending s
-    c.address_of_link-at.ensures.aligned ends (c.as_slice.ensures.bytes ∙ c.line_of_ending.ensures) c.put.ensures.err
+    (multiple _ _ c.address-at.ensures.address (c.address-at.ensures.aligned c.loop-ending.invariant.aligned)) ends (c.as_slice.ensures.bytes ∙ c.line_of_ending.ensures) c.put.ensures.err
 
 pub returns-in-Some-clause-marked : goal.returns-in-Some-clause-marked
 returns-in-Some-clause-marked g c =
@@ -101,12 +105,12 @@ returns-in-Some-clause-marked g c =
     let l = chain c.args.image.now.words c.args.place.home seen in
     let k = c.loop-ending.invariant.stage.0 in
     let s = c.loop-ending.invariant.stage.1.0 in
-    let ends = found c.args.image.now.words c.as_slice-words.result.now seen c.loop-ending.lists c.args.place.home (c.args.place.frames + 1) c.address_of_link-at.result k
+    let ends = found c.args.image.now.words c.as_slice-words.result.now seen c.loop-ending.lists c.args.place.home (c.args.place.frames + 1) c.address-at.result k
     c.loop-ending.begun c.has_mark-here.result c.has_earlier_mark-earlier.result c.loop-ending.link c.ending_of.result (Some c.in-Some.ending)
-    c.as_slice-words.ensures c.address_of_link-at.ensures.address c.has_mark-here.ensures c.has_earlier_mark-earlier.ensures
-    (c.loop-ending.invariant.marks.earlier (address_of c.loop-ending.link) c.address_of_link-at.ensures.aligned) c.loop-ending.invariant.stage.1.1
+    c.as_slice-words.ensures c.address-at.ensures.address c.has_mark-here.ensures c.has_earlier_mark-earlier.ensures
+    (c.loop-ending.invariant.marks.earlier (address_of c.loop-ending.link) (multiple _ _ c.address-at.ensures.address (c.address-at.ensures.aligned c.loop-ending.invariant.aligned))) c.loop-ending.invariant.stage.1.1
     c.ending_of.ensures.ending c.in-Some.is in
-    let here = ends_here l c.args.first (c.args.place.frames + 1) c.loop-ending.lists k c.loop-ending.link s.shown c.in-Some.ending s.progress c.address_of_link-at.ensures.aligned ends in
+    let here = ends_here l c.args.first (c.args.place.frames + 1) c.loop-ending.lists k c.loop-ending.link s.shown c.in-Some.ending s.progress (multiple _ _ c.address-at.ensures.address (c.address-at.ensures.aligned c.loop-ending.invariant.aligned)) ends in
     on_ok c.put.result _ (next_marks l c.args.first c.loop-ending.lists c.loop-ending.queues seen c.args.place.frames k c.loop-ending.invariant.marks s.progress.marked here.0)
 
 pub returns-in_err-put_structure-clause-err : goal.returns-in_err-put_structure-clause-err
@@ -115,18 +119,18 @@ returns-in_err-put_structure-clause-err g c =
     let l = chain c.args.image.now.words c.args.place.home seen in
     let k = c.loop-ending.invariant.stage.0 in
     let s = c.loop-ending.invariant.stage.1.0 in
-    let goes = found c.args.image.now.words c.as_slice-words.result.now seen c.loop-ending.lists c.args.place.home (c.args.place.frames + 1) c.address_of_link-at.result k
+    let goes = found c.args.image.now.words c.as_slice-words.result.now seen c.loop-ending.lists c.args.place.home (c.args.place.frames + 1) c.address-at.result k
     c.loop-ending.begun c.has_mark-here.result c.has_earlier_mark-earlier.result c.loop-ending.link c.ending_of.result None
-    c.as_slice-words.ensures c.address_of_link-at.ensures.address c.has_mark-here.ensures c.has_earlier_mark-earlier.ensures
-    (c.loop-ending.invariant.marks.earlier (address_of c.loop-ending.link) c.address_of_link-at.ensures.aligned) c.loop-ending.invariant.stage.1.1
+    c.as_slice-words.ensures c.address-at.ensures.address c.has_mark-here.ensures c.has_earlier_mark-earlier.ensures
+    (c.loop-ending.invariant.marks.earlier (address_of c.loop-ending.link) (multiple _ _ c.address-at.ensures.address (c.address-at.ensures.aligned c.loop-ending.invariant.aligned))) c.loop-ending.invariant.stage.1.1
     c.ending_of.ensures.ending c.in_default.is in
-    let fresh = sym (c.has_mark-here.ensures ∙ ap (is_marked c.loop-ending.lists (c.args.place.frames + 1)) c.address_of_link-at.ensures.address) ∙ c.in_default.ensures.fresh in
+    let fresh = sym (c.has_mark-here.ensures ∙ ap (is_marked c.loop-ending.lists (c.args.place.frames + 1)) c.address-at.ensures.address) ∙ c.in_default.ensures.fresh in
     let long = ap length c.as_slice-words.ensures in
     let inside : address_of c.loop-ending.link / 32 < length c.loop-ending.lists =
-    omega (arith, long, c.loop-ending.invariant.lists_whole, c.in_default.ensures.inside, c.in_default.ensures.size, c.address_of_link-at.ensures.aligned) in
+    omega (arith, long, c.loop-ending.invariant.lists_whole, c.in_default.ensures.inside, c.in_default.ensures.size, (multiple _ _ c.address-at.ensures.address (c.address-at.ensures.aligned c.loop-ending.invariant.aligned))) in
     let piece = prefix_same _ _ c.loop-ending.page _ _ (ap (λ (x : List ℕ). structure_text x c.loop-ending.link) c.as_slice-words.ensures) c.in_err-put_structure.ensures.err in
     on_err c.from_residual.result _ (stage-goes_err l c.args.first (c.args.place.frames + 1) c.loop-ending.lists c.loop-ending.link k _ _ _ _ _ s
-    c.address_of_link-at.ensures.aligned inside fresh goes piece)
+    (multiple _ _ c.address-at.ensures.address (c.address-at.ensures.aligned c.loop-ending.invariant.aligned)) inside fresh goes piece)
 
 pub loop-ending-preserved : goal.loop-ending-preserved
 loop-ending-preserved g c =
@@ -134,35 +138,35 @@ loop-ending-preserved g c =
     let l = chain c.args.image.now.words c.args.place.home seen in
     let k = c.loop-ending.invariant.stage.0 in
     let s = c.loop-ending.invariant.stage.1.0 in
-    let goes = found c.args.image.now.words c.as_slice-words.result.now seen c.loop-ending.lists c.args.place.home (c.args.place.frames + 1) c.address_of_link-at.result k
+    let goes = found c.args.image.now.words c.as_slice-words.result.now seen c.loop-ending.lists c.args.place.home (c.args.place.frames + 1) c.address-at.result k
     c.loop-ending.begun c.has_mark-here.result c.has_earlier_mark-earlier.result c.loop-ending.link c.ending_of.result None
-    c.as_slice-words.ensures c.address_of_link-at.ensures.address c.has_mark-here.ensures c.has_earlier_mark-earlier.ensures
-    (c.loop-ending.invariant.marks.earlier (address_of c.loop-ending.link) c.address_of_link-at.ensures.aligned) c.loop-ending.invariant.stage.1.1
+    c.as_slice-words.ensures c.address-at.ensures.address c.has_mark-here.ensures c.has_earlier_mark-earlier.ensures
+    (c.loop-ending.invariant.marks.earlier (address_of c.loop-ending.link) (multiple _ _ c.address-at.ensures.address (c.address-at.ensures.aligned c.loop-ending.invariant.aligned))) c.loop-ending.invariant.stage.1.1
     c.ending_of.ensures.ending c.in_default.is in
-    let fresh = sym (c.has_mark-here.ensures ∙ ap (is_marked c.loop-ending.lists (c.args.place.frames + 1)) c.address_of_link-at.ensures.address) ∙ c.in_default.ensures.fresh in
+    let fresh = sym (c.has_mark-here.ensures ∙ ap (is_marked c.loop-ending.lists (c.args.place.frames + 1)) c.address-at.ensures.address) ∙ c.in_default.ensures.fresh in
     let long = ap length c.as_slice-words.ensures in
     let inside : address_of c.loop-ending.link / 32 < length c.loop-ending.lists =
-    omega (arith, long, c.loop-ending.invariant.lists_whole, c.in_default.ensures.inside, c.in_default.ensures.size, c.address_of_link-at.ensures.aligned) in
-    let unseen = sym (c.has_earlier_mark-earlier.ensures ∙ ap (is_marked_before c.loop-ending.lists (c.args.place.frames + 1)) c.address_of_link-at.ensures.address) ∙ c.in_default.ensures.unseen in
+    omega (arith, long, c.loop-ending.invariant.lists_whole, c.in_default.ensures.inside, c.in_default.ensures.size, (multiple _ _ c.address-at.ensures.address (c.address-at.ensures.aligned c.loop-ending.invariant.aligned))) in
+    let unseen = sym (c.has_earlier_mark-earlier.ensures ∙ ap (is_marked_before c.loop-ending.lists (c.args.place.frames + 1)) c.address-at.ensures.address) ∙ c.in_default.ensures.unseen in
     let piece = passes_same _ _ _ _ _ _ (ap (λ (x : List ℕ). structure_text x c.loop-ending.link) c.as_slice-words.ensures) c.in_ok-put_structure.ensures.ok in
-    let more = stage-more l c.args.first (c.args.place.frames + 1) c.loop-ending.lists c.loop-ending.link k _ _ _ _ _ _ s c.address_of_link-at.ensures.aligned inside fresh goes piece in
+    let more = stage-more l c.args.first (c.args.place.frames + 1) c.loop-ending.lists c.loop-ending.link k _ _ _ _ _ _ s (multiple _ _ c.address-at.ensures.address (c.address-at.ensures.aligned c.loop-ending.invariant.aligned)) inside fresh goes piece in
     let marks = in_list-more c.loop-ending.lists c.loop-ending.queues c.put_structure.new.queues (c.args.place.frames + 1) seen (address_of c.loop-ending.link)
-    c.loop-ending.invariant.marks c.address_of_link-at.ensures.aligned inside (omega arith) unseen c.put_structure.auto.queues c.in_ok-put_structure.ensures.queues in
+    c.loop-ending.invariant.marks (multiple _ _ c.address-at.ensures.address (c.address-at.ensures.aligned c.loop-ending.invariant.aligned)) inside (omega arith) unseen c.put_structure.auto.queues c.in_ok-put_structure.ensures.queues in
     record {
       aligned = c.read-link.ensures.aligned;
-      lists_whole = length-set c.loop-ending.lists (c.address_of_link-at.result / 32) (c.args.place.frames + 1) ∙ c.loop-ending.invariant.lists_whole;
+      lists_whole = length-set c.loop-ending.lists (c.address-at.result / 32) (c.args.place.frames + 1) ∙ c.loop-ending.invariant.lists_whole;
       queues_whole = c.put_structure.auto.queues ∙ c.loop-ending.invariant.queues_whole;
       stage = (
         suc k,
         (
           moved c.args.image.now.words c.as_slice-words.result.now seen c.loop-ending.lists c.args.place.home c.args.first c.loop-ending.link c.read-link.result
-              (c.args.place.frames + 1) c.address_of_link-at.result c.read_word.result (suc k) _ _ _ _ c.as_slice-words.ensures c.address_of_link-at.ensures.address
+              (c.args.place.frames + 1) c.address-at.result c.read_word.result (suc k) _ _ _ _ c.as_slice-words.ensures c.address-at.ensures.address
               c.read-link.ensures.meaning c.read_word.ensures more,
           lt-ltb 0 (suc k) (omega arith),
         ),
       );
       marks = subst (λ (x : ℕ). InList (set c.loop-ending.lists (x / 32) (c.args.place.frames + 1)) c.put_structure.new.queues (c.args.place.frames + 1) seen)
-          (sym c.address_of_link-at.ensures.address) marks;
+          (sym c.address-at.ensures.address) marks;
       counted = omega (arith, c.loop-ending.invariant.counted, c.in_ok-put_structure.ensures.counted);
       same = c.in_ok-put_structure.ensures.stays ∙ c.loop-ending.invariant.same;
     }

@@ -1,10 +1,10 @@
 use Rattle.std.proofs.Common.{◌≡◌, ℕ, Bool, true, false, List, None, sym, ap, ◌∙◌, ◌++◌}
 use Rattle.std.proofs.lemmas.Result.{on_ok_weaker}
 use Rattle.link_words.specs.declared.kinds.Link.{Link}
-use Rattle.link_words.specs.Links.{link_read}
+use Rattle.link_words.specs.Links.{link_read, is_end}
 use Rattle.image_codec.specs.declared.image.Image.{Image}
 use Rattle.image_codec.specs.Linked.{list_text}
-use Rattle.image_codec.specs.Shown.{chain, element_at, frame_line, frame_text, is_end, is_outside, seen_before, word_at}
+use Rattle.image_codec.specs.Shown.{chain, element_at, frame_line, frame_text, is_outside, seen_before, word_at}
 use Rattle.image_codec.proofs.FrameTexts.{first-end, first-outside, frame-end, frame-listed, frame-outside, marks-listed, marks-skipped}
 use Rattle.image_codec.proofs.Passing.{err_same, ok_same, on_ok, passes_none, passes_same}
 use Rattle.image_codec.proofs.frames.put_frame.Goals as goal
@@ -35,22 +35,22 @@ returns-then-reaches_outside-clause-marked g c =
     c.as_slice-words.ensures c.reaches_outside.ensures c.if-reaches_outside.true in
     on_ok c.put_outside.result _ (marks-skipped c.args.image.now c.args.n c.args.lists.now c.args.queues.now (first-outside c.args.image.now c.args.n outside) c.requires.marks)
 
-pub returns-then-is_end_link-clause-ok : goal.returns-then-is_end_link-clause-ok
-returns-then-is_end_link-clause-ok g c =
+pub returns-then-is_end-clause-ok : goal.returns-then-is_end-clause-ok
+returns-then-is_end-clause-ok g c =
     let inside = tested c.args.image.now.words c.as_slice-words.result.now (element_at c.args.image.now c.args.n) c.reaches_outside.result false
     c.as_slice-words.ensures c.reaches_outside.ensures c.if-reaches_outside.false in
     let first = linked c.args.image.now.words c.as_slice-words.result.now (element_at c.args.image.now c.args.n) c.read_word.result c.read-first.result
     c.as_slice-words.ensures c.read-first.ensures.meaning c.read_word.ensures in
-    let ends = ap is_end (sym first) ∙ sym c.is_end_link.ensures ∙ c.if-is_end_link.true in
+    let ends = ap is_end (sym first) ∙ sym c.is_end.ensures ∙ c.if-is_end.true in
     passes_same _ _ _ _ _ _ (sym (frame-end c.args.image.now c.args.n inside ends)) (passes_none _ c.args.page.now)
 
-pub returns-then-is_end_link-clause-marked : goal.returns-then-is_end_link-clause-marked
-returns-then-is_end_link-clause-marked g c =
+pub returns-then-is_end-clause-marked : goal.returns-then-is_end-clause-marked
+returns-then-is_end-clause-marked g c =
     let inside = tested c.args.image.now.words c.as_slice-words.result.now (element_at c.args.image.now c.args.n) c.reaches_outside.result false
     c.as_slice-words.ensures c.reaches_outside.ensures c.if-reaches_outside.false in
     let first = linked c.args.image.now.words c.as_slice-words.result.now (element_at c.args.image.now c.args.n) c.read_word.result c.read-first.result
     c.as_slice-words.ensures c.read-first.ensures.meaning c.read_word.ensures in
-    let ends = ap is_end (sym first) ∙ sym c.is_end_link.ensures ∙ c.if-is_end_link.true in
+    let ends = ap is_end (sym first) ∙ sym c.is_end.ensures ∙ c.if-is_end.true in
     marks-skipped c.args.image.now c.args.n c.args.lists.now c.args.queues.now (first-end c.args.image.now c.args.n inside ends) c.requires.marks
 
 -- the text of a frame with a chain
@@ -65,7 +65,7 @@ returns-clause-ok g c =
     c.as_slice-words.ensures c.reaches_outside.ensures c.if-reaches_outside.false in
     let first = linked c.args.image.now.words c.as_slice-words.result.now (element_at c.args.image.now c.args.n) c.read_word.result c.read-first.result
     c.as_slice-words.ensures c.read-first.ensures.meaning c.read_word.ensures in
-    ok_same c.put_listed.result _ _ _ _ _ _ (listed c.args.image.now c.args.n c.read-first.result inside first (sym c.is_end_link.ensures ∙ c.if-is_end_link.false)) c.put_listed.ensures.ok
+    ok_same c.put_listed.result _ _ _ _ _ _ (listed c.args.image.now c.args.n c.read-first.result inside first (sym c.is_end.ensures ∙ c.if-is_end.false)) c.put_listed.ensures.ok
 
 pub returns-clause-err : goal.returns-clause-err
 returns-clause-err g c =
@@ -73,7 +73,7 @@ returns-clause-err g c =
     c.as_slice-words.ensures c.reaches_outside.ensures c.if-reaches_outside.false in
     let first = linked c.args.image.now.words c.as_slice-words.result.now (element_at c.args.image.now c.args.n) c.read_word.result c.read-first.result
     c.as_slice-words.ensures c.read-first.ensures.meaning c.read_word.ensures in
-    err_same c.put_listed.result _ _ c.args.page.now _ _ (listed c.args.image.now c.args.n c.read-first.result inside first (sym c.is_end_link.ensures ∙ c.if-is_end_link.false)) c.put_listed.ensures.err
+    err_same c.put_listed.result _ _ c.args.page.now _ _ (listed c.args.image.now c.args.n c.read-first.result inside first (sym c.is_end.ensures ∙ c.if-is_end.false)) c.put_listed.ensures.err
 
 pub returns-clause-marked : goal.returns-clause-marked
 returns-clause-marked g c =
