@@ -1,7 +1,6 @@
 //! Writing the lines that close a report, at most two for each endpoint that was opened.
-ghost use Rattle.std.specs.Prelude.{◌≡◌, ℕ, ◌≤◌, ◌<◌, ◌^◌, ◌++◌, length, OnOk, OnErr};
-ghost use Rattle.std.specs.Io.KnownBytes.{Appends};
-ghost use Rattle.usb_base.specs.Outside.{AppendsPrefix, one_more};
+ghost use Rattle.std.specs.Prelude.{◌≡◌, ℕ, ◌≤◌, ◌<◌, ◌^◌, ◌++◌, length};
+ghost use Rattle.usb_base.specs.Outside.{Prints};
 ghost use Rattle.report_text.specs.ReportText.{pending_line, taken_line, acted_line};
 
 use crate::report::{front, print_line};
@@ -11,11 +10,7 @@ use usb_base::{EpName, Failed, Sink, write_all};
 /// Writes the line `pending <ep> <k>` of an endpoint of which `k` transfers, requests or descriptors weren't reported.
 /// `Failed` comes only where the sink's count of faults rose, with a front part of the line written. It takes no memory.
 pub fn print_pending<K: Sink>(name: &EpName, k: u32, sink: &mut K) -> Result<(), Failed>
-    ensures ok { OnOk result (Appends (K.written sink.old) (K.written sink.new) (pending_line name.now k)) }
-    ensures err { OnErr result (AppendsPrefix (K.written sink.old) (K.written sink.new) (pending_line name.now k)) }
-    ensures stays { OnOk result (K.faults sink.new ≡ K.faults sink.old) }
-    ensures rises { OnErr result (K.faults sink.new ≡ one_more (K.faults sink.old)) }
-    ensures counted { K.faults sink.old ≤ K.faults sink.new }
+    ensures { Prints K.written K.faults sink.old sink.new result (pending_line name.now k) }
 {
     write_all(sink, pending_text(name, k).as_bytes())
 }
@@ -25,11 +20,7 @@ pub fn print_pending<K: Sink>(name: &EpName, k: u32, sink: &mut K) -> Result<(),
 /// written. It takes no memory.
 pub fn print_taken<K: Sink>(name: &EpName, bytes: &[u8], sink: &mut K) -> Result<(), Failed>
     requires { length bytes.now < 2 ^ 32 }
-    ensures ok { OnOk result (Appends (K.written sink.old) (K.written sink.new) (taken_line name.now bytes.now)) }
-    ensures err { OnErr result (AppendsPrefix (K.written sink.old) (K.written sink.new) (taken_line name.now bytes.now)) }
-    ensures stays { OnOk result (K.faults sink.new ≡ K.faults sink.old) }
-    ensures rises { OnErr result (K.faults sink.new ≡ one_more (K.faults sink.old)) }
-    ensures counted { K.faults sink.old ≤ K.faults sink.new }
+    ensures { Prints K.written K.faults sink.old sink.new result (taken_line name.now bytes.now) }
 {
     print_line(
         front("taken", name, None, bytes.len() as u32).as_bytes(),
@@ -42,11 +33,7 @@ pub fn print_taken<K: Sink>(name: &EpName, bytes: &[u8], sink: &mut K) -> Result
 /// Writes the line `acted <ep> <k>` of a control endpoint whose device acted on `k` requests. `Failed` comes only where
 /// the sink's count of faults rose, with a front part of the line written. It takes no memory.
 pub fn print_acted<K: Sink>(name: &EpName, k: u32, sink: &mut K) -> Result<(), Failed>
-    ensures ok { OnOk result (Appends (K.written sink.old) (K.written sink.new) (acted_line name.now k)) }
-    ensures err { OnErr result (AppendsPrefix (K.written sink.old) (K.written sink.new) (acted_line name.now k)) }
-    ensures stays { OnOk result (K.faults sink.new ≡ K.faults sink.old) }
-    ensures rises { OnErr result (K.faults sink.new ≡ one_more (K.faults sink.old)) }
-    ensures counted { K.faults sink.old ≤ K.faults sink.new }
+    ensures { Prints K.written K.faults sink.old sink.new result (acted_line name.now k) }
 {
     write_all(sink, acted_text(name, k).as_bytes())
 }

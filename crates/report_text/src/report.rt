@@ -1,10 +1,9 @@
 //! Writing a report.
-ghost use Rattle.std.specs.Prelude.{◌≡◌, ℕ, ◌≤◌, ◌<◌, ◌+◌, ◌*◌, ◌^◌, ◌++◌, ◌∷◌, List, [], length, codes, Option, OnOk, OnErr};
+ghost use Rattle.std.specs.Prelude.{◌≡◌, ℕ, ◌≤◌, ◌<◌, ◌+◌, ◌*◌, ◌^◌, ◌++◌, ◌∷◌, List, [], length, codes, Option};
 ghost use Rattle.std.specs.Fmt.{decimal};
-ghost use Rattle.std.specs.Io.KnownBytes.{Appends};
 ghost use Rattle.hex.specs.Hex.{encode_lower};
 ghost use Rattle.usb_base.specs.declared.endpoints.EpName.{EpName as Named};
-ghost use Rattle.usb_base.specs.Outside.{AppendsPrefix, one_more};
+ghost use Rattle.usb_base.specs.Outside.{Prints};
 ghost use Rattle.report_text.specs.ReportText.{line_text, ep_word, hex_word, after_cause, told, report_line, report_text, AreStored};
 
 use crate::text::{Text, cause_text};
@@ -20,11 +19,7 @@ fn encode(bytes: &[u8], digits: &mut [u8])
 
 /// Writes the digits of some bytes, 512 bytes at a time.
 fn print_hex<K: Sink>(bytes: &[u8], sink: &mut K) -> Result<(), Failed>
-    ensures ok { OnOk result (Appends (K.written sink.old) (K.written sink.new) (encode_lower bytes.now)) }
-    ensures err { OnErr result (AppendsPrefix (K.written sink.old) (K.written sink.new) (encode_lower bytes.now)) }
-    ensures stays { OnOk result (K.faults sink.new ≡ K.faults sink.old) }
-    ensures rises { OnErr result (K.faults sink.new ≡ one_more (K.faults sink.old)) }
-    ensures counted { K.faults sink.old ≤ K.faults sink.new }
+    ensures { Prints K.written K.faults sink.old sink.new result (encode_lower bytes.now) }
 {
     let mut buffer = [0; 1024];
     let mut at = 0;
@@ -42,11 +37,7 @@ fn print_hex<K: Sink>(bytes: &[u8], sink: &mut K) -> Result<(), Failed>
 
 /// Writes the digits of some bytes, or `-` for none.
 fn print_digits<K: Sink>(bytes: &[u8], sink: &mut K) -> Result<(), Failed>
-    ensures ok { OnOk result (Appends (K.written sink.old) (K.written sink.new) (hex_word bytes.now)) }
-    ensures err { OnErr result (AppendsPrefix (K.written sink.old) (K.written sink.new) (hex_word bytes.now)) }
-    ensures stays { OnOk result (K.faults sink.new ≡ K.faults sink.old) }
-    ensures rises { OnErr result (K.faults sink.new ≡ one_more (K.faults sink.old)) }
-    ensures counted { K.faults sink.old ≤ K.faults sink.new }
+    ensures { Prints K.written K.faults sink.old sink.new result (hex_word bytes.now) }
 {
     if bytes.is_empty() {
         return write_all(sink, b"-");
@@ -116,11 +107,7 @@ pub fn print_line<K: Sink>(
     back: &[u8],
     sink: &mut K,
 ) -> Result<(), Failed>
-    ensures ok { OnOk result (Appends (K.written sink.old) (K.written sink.new) (front.now ++ (hex_word bytes.now ++ back.now))) }
-    ensures err { OnErr result (AppendsPrefix (K.written sink.old) (K.written sink.new) (front.now ++ (hex_word bytes.now ++ back.now))) }
-    ensures stays { OnOk result (K.faults sink.new ≡ K.faults sink.old) }
-    ensures rises { OnErr result (K.faults sink.new ≡ one_more (K.faults sink.old)) }
-    ensures counted { K.faults sink.old ≤ K.faults sink.new }
+    ensures { Prints K.written K.faults sink.old sink.new result (front.now ++ (hex_word bytes.now ++ back.now)) }
 {
     write_all(sink, front)?;
     print_digits(bytes, sink)?;
@@ -130,11 +117,7 @@ pub fn print_line<K: Sink>(
 /// Writes a line that tells of an endpoint and its bytes.
 fn print_told<K: Sink>(what: What, name: &EpName, bytes: &[u8], sink: &mut K) -> Result<(), Failed>
     requires { length bytes.now < 2 ^ 32 }
-    ensures ok { OnOk result (Appends (K.written sink.old) (K.written sink.new) (line_text (told what name.now bytes.now))) }
-    ensures err { OnErr result (AppendsPrefix (K.written sink.old) (K.written sink.new) (line_text (told what name.now bytes.now))) }
-    ensures stays { OnOk result (K.faults sink.new ≡ K.faults sink.old) }
-    ensures rises { OnErr result (K.faults sink.new ≡ one_more (K.faults sink.old)) }
-    ensures counted { K.faults sink.old ≤ K.faults sink.new }
+    ensures { Prints K.written K.faults sink.old sink.new result (line_text (told what name.now bytes.now)) }
 {
     let len = bytes.len() as u32;
     match what {
@@ -179,11 +162,7 @@ fn print_told<K: Sink>(what: What, name: &EpName, bytes: &[u8], sink: &mut K) ->
 /// Writes one line of the report.
 fn print_one<K: Sink>(report: &Report, store: &[u8], sink: &mut K) -> Result<(), Failed>
     requires { report.now.from + report.now.len ≤ length store.now }
-    ensures ok { OnOk result (Appends (K.written sink.old) (K.written sink.new) (report_line store.now report.now)) }
-    ensures err { OnErr result (AppendsPrefix (K.written sink.old) (K.written sink.new) (report_line store.now report.now)) }
-    ensures stays { OnOk result (K.faults sink.new ≡ K.faults sink.old) }
-    ensures rises { OnErr result (K.faults sink.new ≡ one_more (K.faults sink.old)) }
-    ensures counted { K.faults sink.old ≤ K.faults sink.new }
+    ensures { Prints K.written K.faults sink.old sink.new result (report_line store.now report.now) }
 {
     let (_, rest) = store.split_at(report.from as usize);
     let (bytes, _) = rest.split_at(report.len as usize);
@@ -194,11 +173,7 @@ fn print_one<K: Sink>(report: &Report, store: &[u8], sink: &mut K) -> Result<(),
 /// count of faults rose, with a front part of the report written. It takes no memory.
 pub fn print_report<K: Sink>(reports: &[Report], store: &[u8], sink: &mut K) -> Result<(), Failed>
     requires { AreStored reports.now (length store.now) }
-    ensures ok { OnOk result (Appends (K.written sink.old) (K.written sink.new) (report_text reports.now store.now)) }
-    ensures err { OnErr result (AppendsPrefix (K.written sink.old) (K.written sink.new) (report_text reports.now store.now)) }
-    ensures stays { OnOk result (K.faults sink.new ≡ K.faults sink.old) }
-    ensures rises { OnErr result (K.faults sink.new ≡ one_more (K.faults sink.old)) }
-    ensures counted { K.faults sink.old ≤ K.faults sink.new }
+    ensures { Prints K.written K.faults sink.old sink.new result (report_text reports.now store.now) }
 {
     for report in reports {
         print_one(report, store, sink)?;
