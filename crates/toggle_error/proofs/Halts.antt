@@ -23,8 +23,8 @@ use Rattle.toggle_error.specs.declared.rows.Heard.{Heard}
 use Rattle.toggle_error.specs.declared.rows.Heard.TheVariants as Heards
 use Rattle.toggle_error.specs.declared.rows.PlainRow.{PlainRow}
 use Rattle.toggle_error.specs.declared.rows.PlainRow.TheVariants.{Babbled, Stalled, Failed, FailedPinged}
-use Rattle.toggle_error.specs.declared.rows.Row.{Row}
-use Rattle.toggle_error.specs.declared.rows.Row.TheVariants as Rows
+use Rattle.toggle_error.specs.declared.rows.SettleRow.{SettleRow}
+use Rattle.toggle_error.specs.declared.rows.SettleRow.TheVariants as Rows
 use Rattle.toggle_error.specs.declared.rows.StartRow.{StartRow}
 use Rattle.toggle_error.specs.declared.rows.StartRow.TheVariants.{Unheard}
 use Rattle.toggle_error.specs.declared.rows.AskToken.{AskToken}
@@ -68,7 +68,7 @@ complete_error (Answered row) host = answered_error row host
 complete_error BrokeBelow host = error_halts host _ refl
 complete_error Unanswered host = error_halts host _ refl
 
-pub row_error : (row : Row) (host : HostSide) → (outcome_of_row row host ≡ Halt Ends.Error) ↔ RanOut host (after_row row host)
+pub row_error : (row : SettleRow) (host : HostSide) → (outcome_of_row row host ≡ Halt Ends.Error) ↔ RanOut host (after_row row host)
 row_error (Rows.Plain row) host = plain_error row host
 row_error (Rows.Start row) host = start_error row host
 row_error (Rows.Complete row) host = complete_error row host

@@ -9,36 +9,36 @@ use Rattle.toggle_error.specs.declared.host.HostSide.{HostSide}
 use Rattle.toggle_error.specs.declared.host.Outcome.{Outcome}
 use Rattle.toggle_error.specs.declared.rows.Heard.{Heard}
 use Rattle.toggle_error.specs.declared.rows.PlainRow.{PlainRow}
-use Rattle.toggle_error.specs.declared.rows.Row.{Row}
-use Rattle.toggle_error.specs.declared.rows.Row.TheVariants.{Plain, Start, Complete}
+use Rattle.toggle_error.specs.declared.rows.SettleRow.{SettleRow}
+use Rattle.toggle_error.specs.declared.rows.SettleRow.TheVariants.{Plain, Start, Complete}
 use Rattle.toggle_error.specs.Columns.{token_of, heard_of}
 use Rattle.toggle_error.specs.PlainRows.{plain_row, plain_outcome, after_plain}
 use Rattle.toggle_error.specs.SplitRows.{start_row, start_outcome, after_start, complete_row, complete_outcome, after_complete}
 
-abbrev pub row_at : Split → EpKind → Bool → Heard → PlainRow → Row
+abbrev pub row_at : Split → EpKind → Bool → Heard → PlainRow → SettleRow
 row_at Splits.Plain _ _ _ plain = Plain plain
 row_at (Splits.Start _ _ _) kind _ heard _ = Start (start_row kind heard)
 row_at (Splits.Complete _ _) kind last heard plain = Complete (complete_row kind last heard plain)
 
 -- the row that fits
-abbrev pub row_of : Ask → ℕ → Bool → Reply → HostSide → Row
-row_of ask sent last reply host =
+abbrev pub settle_row : Ask → ℕ → Bool → Reply → HostSide → SettleRow
+settle_row ask sent last reply host =
     row_at ask.split ask.kind last (heard_of host reply) (plain_row (token_of ask) (heard_of host reply) sent)
 
-abbrev pub outcome_of_row : Row → HostSide → Outcome
+abbrev pub outcome_of_row : SettleRow → HostSide → Outcome
 outcome_of_row (Plain row) host = plain_outcome row host
 outcome_of_row (Start row) host = start_outcome row host
 outcome_of_row (Complete row) host = complete_outcome row host
 
-abbrev pub after_row : Row → HostSide → HostSide
+abbrev pub after_row : SettleRow → HostSide → HostSide
 after_row (Plain row) host = after_plain row host
 after_row (Start row) host = after_start row host
 after_row (Complete row) host = after_complete row host
 
 -- what a transaction comes to
 abbrev pub outcome_of : Ask → ℕ → Bool → Reply → HostSide → Outcome
-outcome_of ask sent last reply host = outcome_of_row (row_of ask sent last reply host) host
+outcome_of ask sent last reply host = outcome_of_row (settle_row ask sent last reply host) host
 
 -- the host's side after it
 abbrev pub settled : Ask → ℕ → Bool → Reply → HostSide → HostSide
-settled ask sent last reply host = after_row (row_of ask sent last reply host) host
+settled ask sent last reply host = after_row (settle_row ask sent last reply host) host

@@ -11,7 +11,7 @@ mod settling;
 pub mod worked;
 
 pub use host::{HostSide, Outcome};
-pub use rows::{AskToken, CompleteRow, Heard, PlainRow, Row, StartRow};
+pub use rows::{AskToken, CompleteRow, Heard, PlainRow, SettleRow, StartRow};
 
 #[cfg(test)]
 mod tests;

@@ -90,7 +90,7 @@ pub enum CompleteRow {
 
 /// A row of the settle table.
 #[derive(Clone, Copy, Debug, PartialEq, Eq)]
-pub enum Row {
+pub enum SettleRow {
     Plain(PlainRow),
     Start(StartRow),
     Complete(CompleteRow),

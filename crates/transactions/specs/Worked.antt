@@ -27,8 +27,8 @@ host_of max = record {
 }
 
 -- an endpoint behind port 2 of hub 9, where it is split
-abbrev pub pipe_of : Pid → Speed → EpKind → Pipe
-pipe_of pid speed kind = record {
+abbrev pub worked_pipe : Pid → Speed → EpKind → Pipe
+worked_pipe pid speed kind = record {
   addr = 3;
   ep = 1;
   speed = speed;
@@ -40,10 +40,10 @@ pipe_of pid speed kind = record {
 }
 
 abbrev pub high : Pid → EpKind → Pipe
-high pid kind = pipe_of pid High kind
+high pid kind = worked_pipe pid High kind
 
 abbrev pub full : Pid → EpKind → Pipe
-full pid kind = pipe_of pid Full kind
+full pid kind = worked_pipe pid Full kind
 
 abbrev pub eight : List ℕ
 eight = 0 ∷ 1 ∷ 2 ∷ 3 ∷ 4 ∷ 5 ∷ 6 ∷ 7 ∷ []

@@ -10,11 +10,11 @@ use Rattle.toggle_error.specs.declared.rows.StartRow.{StartRow}
 use Rattle.toggle_error.specs.declared.rows.StartRow.TheVariants.{Accepted, Declined, Unheard, Begun}
 use Rattle.toggle_error.specs.declared.rows.CompleteRow.{CompleteRow}
 use Rattle.toggle_error.specs.declared.rows.CompleteRow.TheVariants.{Pending, NeverCame, Answered, BrokeBelow, Unanswered}
-use Rattle.toggle_error.specs.declared.rows.Row.{Row}
-use Rattle.toggle_error.specs.declared.rows.Row.TheVariants.{Plain, Start, Complete}
+use Rattle.toggle_error.specs.declared.rows.SettleRow.{SettleRow}
+use Rattle.toggle_error.specs.declared.rows.SettleRow.TheVariants.{Plain, Start, Complete}
 use Rattle.toggle_error.specs.PlainRows.{after_plain}
 use Rattle.toggle_error.specs.SplitRows.{after_start, after_complete}
-use Rattle.toggle_error.specs.Settle.{row_of, after_row, settled}
+use Rattle.toggle_error.specs.Settle.{settle_row, after_row, settled}
 use Rattle.transactions.specs.Calls.{Call, Exchanges}
 
 plain_keeps : (row : PlainRow) (host : HostSide) → (after_plain row host).cerr ≤ host.cerr
@@ -44,12 +44,12 @@ complete_keeps (Answered row) host = plain_keeps row host
 complete_keeps BrokeBelow host = omega arith
 complete_keeps Unanswered host = omega arith
 
-row_keeps : (row : Row) (host : HostSide) → (after_row row host).cerr ≤ host.cerr
+row_keeps : (row : SettleRow) (host : HostSide) → (after_row row host).cerr ≤ host.cerr
 row_keeps (Plain row) host = plain_keeps row host
 row_keeps (Start row) host = start_keeps row host
 row_keeps (Complete row) host = complete_keeps row host
 
 pub errors_left : {W : Type 0} (transacts : W → Ask → List ℕ → Reply → W → Type 0) (call : Call) (host : HostSide) (before after : W) (reply : Reply) (outcome : Outcome) (new : HostSide) → Exchanges transacts call host before after reply outcome new → host.cerr < 4 → new.cerr < 4
 errors_left transacts call host before after reply outcome new made few =
-    let kept : (settled call.ask call.sent call.last reply host).cerr ≤ host.cerr = row_keeps (row_of call.ask call.sent call.last reply host) host in
+    let kept : (settled call.ask call.sent call.last reply host).cerr ≤ host.cerr = row_keeps (settle_row call.ask call.sent call.last reply host) host in
     subst (λ (h : HostSide). h.cerr < 4) (sym made.settles) (omega (arith, kept, few))
