@@ -1,2 +1,3 @@
 pub mod Descriptors
 pub mod Samples
+pub mod WriteBack

@@ -1,13 +1,11 @@
 //! Worked rows of the definitions, which the check computes, and laws of them.
 ghost use Rattle.std.specs.Prelude.{◌≡◌, ℕ, ◌+◌, ◌%◌, ◌<◌, ◌≤◌, ◌⊎◌, List, ◌∷◌, [], ◌++◌, ◌^◌, length, replicate, slice_index, slice_set, Some, None};
-ghost use Rattle.word_mem.specs.Memory.{Mem, IsShaped, word_at};
-ghost use Rattle.link_words.specs.Layout.{IsWordInRange};
-ghost use Rattle.itd_sitd.specs.Slot.{slot_rows};
+ghost use Rattle.word_mem.specs.Memory.{Mem, word_at};
 ghost use Rattle.itd_sitd.specs.declared.slot.ItdSlot.{ItdSlot};
-ghost use Rattle.itd_sitd.specs.declared.itd.Itd.{Itd};
 ghost use Rattle.itd_sitd.specs.declared.sitd.Sitd.{Sitd};
 ghost use Rattle.word_mem.specs.declared.blocks.BlockState.TheVariants.{Lent, Kept, Free};
-ghost use Rattle.descriptor_words.specs.Descriptors.{itd_at_address, itd_was_read, sitd_at_address, sitd_was_read, slot_address, slot_written, state_words, state_written};
+ghost use Rattle.descriptor_words.specs.Descriptors.{itd_at_address, itd_was_read, sitd_at_address, sitd_was_read, slot_written, state_words, state_written};
+ghost use Rattle.descriptor_words.specs.WriteBack.{SlotChangesNoMore, SlotIsRead};
 ghost use Rattle.descriptor_words.specs.Samples.{itd_memory, sitd_memory, full_words, full_itd, first_slot, split_words, split_sitd};
 
 /// An iTD is read where both of its blocks are Lent and no reserved bit is set. A refusal is counted once, and a reserved bit never.
@@ -72,7 +70,7 @@ pub fn reads_change_nothing()
 /// A write changes no state, and no word but that of the microframe, or the three of the state.
 #[tactic(auto, using(crate::proofs::WriteBack::slot_outside, crate::proofs::WriteBack::slot_states, crate::proofs::WriteBack::state_outside, crate::proofs::WriteBack::state_states))]
 pub fn writes_change_no_more()
-    ensures slot_words { (m : Mem) (a k : ℕ) (s : ItdSlot) (other : ℕ) → a % 4 ≡ 0 → (other < slot_address a k) ⊎ (slot_address a k + 4 ≤ other) → word_at (slot_written m a k s) other ≡ word_at m other }
+    ensures slot_words { SlotChangesNoMore }
     ensures slot_states { (m : Mem) (a k : ℕ) (s : ItdSlot) → (slot_written m a k s).states ≡ m.states }
     ensures state_words { (m : Mem) (a : ℕ) (ws : List ℕ) (other : ℕ) → a % 4 ≡ 0 → length ws ≡ 3 → (other < a + 12) ⊎ (a + 24 ≤ other) → word_at (state_written m a ws) other ≡ word_at m other }
     ensures state_states { (m : Mem) (a : ℕ) (ws : List ℕ) → (state_written m a ws).states ≡ m.states }
@@ -81,5 +79,5 @@ pub fn writes_change_no_more()
 /// What was written is read: of an iTD that is there a written microframe changes that microframe alone.
 #[tactic(auto, using(crate::proofs::WriteBack::slot_written_back))]
 pub fn written_is_read()
-    ensures slot { (m : Mem) (a k : ℕ) (s : ItdSlot) (v : Itd) → IsShaped m → ((i : ℕ) → slice_index m.words i < 2 ^ 32) → a % 32 ≡ 0 → k < 8 → IsWordInRange slot_rows s → itd_at_address m a ≡ Some v → itd_at_address (slot_written m a k s) a ≡ Some (record v { slots = slice_set v.slots k s }) }
+    ensures { SlotIsRead }
 {}

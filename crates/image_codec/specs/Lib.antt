@@ -5,3 +5,4 @@ pub mod Linked
 pub mod Shown
 pub mod Marks
 pub mod Show
+pub mod Samples

@@ -1,5 +1,5 @@
 //! What follows of the definitions alone.
-ghost use Rattle.std.specs.Prelude.{◌≡◌, ℕ, ◌%◌, ◌++◌, List, [], ◌∷◌, Option, None, Some, is_some, true, length};
+ghost use Rattle.std.specs.Prelude.{◌≡◌, ℕ, ◌%◌, ◌++◌, List, [], ◌∷◌, Option, None, Some, is_some, true, length, codes};
 ghost use Rattle.link_words.specs.declared.kinds.Link.{Link};
 ghost use Rattle.link_words.specs.declared.kinds.QtdLink.{QtdLink};
 ghost use Rattle.link_words.specs.Links.{IsAligned as IsLinkAligned, IsQtdAligned};
@@ -33,13 +33,13 @@ pub fn fields()
 /// Worked values: short bytes are refused at their number, and bytes of a header at the first field that is wrong.
 pub fn refusals()
     ensures nothing { image_fault [] ≡ Some (record { offset = 0; why = ImageWhy.Length }) }
-    ensures short { image_fault (69 ∷ 72 ∷ 67 ∷ 73 ∷ []) ≡ Some (record { offset = 4; why = ImageWhy.Length }) }
-    ensures magic { image_fault (69 ∷ 72 ∷ 67 ∷ 74 ∷ 2 ∷ 0 ∷ 0 ∷ 0 ∷ 0 ∷ 64 ∷ 0 ∷ 0 ∷ 1 ∷ 0 ∷ 0 ∷ 0 ∷ 1 ∷ 0 ∷ 0 ∷ 0 ∷ 1 ∷ 0 ∷ 0 ∷ 0 ∷ []) ≡ Some (record { offset = 0; why = ImageWhy.Magic }) }
-    ensures version { image_fault (69 ∷ 72 ∷ 67 ∷ 73 ∷ 2 ∷ 0 ∷ 0 ∷ 0 ∷ 0 ∷ 64 ∷ 0 ∷ 0 ∷ 1 ∷ 0 ∷ 0 ∷ 0 ∷ 1 ∷ 0 ∷ 0 ∷ 0 ∷ 1 ∷ 0 ∷ 0 ∷ 0 ∷ []) ≡ Some (record { offset = 4; why = ImageWhy.Version }) }
-    ensures frindex { image_fault (69 ∷ 72 ∷ 67 ∷ 73 ∷ 1 ∷ 0 ∷ 0 ∷ 0 ∷ 0 ∷ 64 ∷ 0 ∷ 0 ∷ 1 ∷ 0 ∷ 0 ∷ 0 ∷ 1 ∷ 0 ∷ 0 ∷ 0 ∷ 1 ∷ 0 ∷ 0 ∷ 0 ∷ []) ≡ Some (record { offset = 8; why = ImageWhy.Alignment }) }
-    ensures list_base { image_fault (69 ∷ 72 ∷ 67 ∷ 73 ∷ 1 ∷ 0 ∷ 0 ∷ 0 ∷ 255 ∷ 63 ∷ 0 ∷ 0 ∷ 0 ∷ 8 ∷ 0 ∷ 0 ∷ 1 ∷ 0 ∷ 0 ∷ 0 ∷ 1 ∷ 0 ∷ 0 ∷ 0 ∷ []) ≡ Some (record { offset = 12; why = ImageWhy.Alignment }) }
-    ensures async_at { image_fault (69 ∷ 72 ∷ 67 ∷ 73 ∷ 1 ∷ 0 ∷ 0 ∷ 0 ∷ 255 ∷ 63 ∷ 0 ∷ 0 ∷ 0 ∷ 16 ∷ 0 ∷ 0 ∷ 16 ∷ 0 ∷ 0 ∷ 0 ∷ 1 ∷ 0 ∷ 0 ∷ 0 ∷ []) ≡ Some (record { offset = 16; why = ImageWhy.Alignment }) }
-    ensures words { image_fault (69 ∷ 72 ∷ 67 ∷ 73 ∷ 1 ∷ 0 ∷ 0 ∷ 0 ∷ 255 ∷ 63 ∷ 0 ∷ 0 ∷ 0 ∷ 16 ∷ 0 ∷ 0 ∷ 32 ∷ 0 ∷ 0 ∷ 0 ∷ 0 ∷ 0 ∷ 0 ∷ 0 ∷ []) ≡ Some (record { offset = 20; why = ImageWhy.Alignment }) }
-    ensures most { image_fault (69 ∷ 72 ∷ 67 ∷ 73 ∷ 1 ∷ 0 ∷ 0 ∷ 0 ∷ 255 ∷ 63 ∷ 0 ∷ 0 ∷ 0 ∷ 16 ∷ 0 ∷ 0 ∷ 32 ∷ 0 ∷ 0 ∷ 0 ∷ 0 ∷ 4 ∷ 4 ∷ 0 ∷ []) ≡ Some (record { offset = 20; why = ImageWhy.Alignment }) }
-    ensures total { image_fault (69 ∷ 72 ∷ 67 ∷ 73 ∷ 1 ∷ 0 ∷ 0 ∷ 0 ∷ 255 ∷ 63 ∷ 0 ∷ 0 ∷ 0 ∷ 16 ∷ 0 ∷ 0 ∷ 32 ∷ 0 ∷ 0 ∷ 0 ∷ 0 ∷ 8 ∷ 0 ∷ 0 ∷ []) ≡ Some (record { offset = 24; why = ImageWhy.Length }) }
+    ensures short { image_fault (codes "EHCI") ≡ Some (record { offset = 4; why = ImageWhy.Length }) }
+    ensures magic { image_fault (codes "EHCJ" ++ 2 ∷ 0 ∷ 0 ∷ 0 ∷ 0 ∷ 64 ∷ 0 ∷ 0 ∷ 1 ∷ 0 ∷ 0 ∷ 0 ∷ 1 ∷ 0 ∷ 0 ∷ 0 ∷ 1 ∷ 0 ∷ 0 ∷ 0 ∷ []) ≡ Some (record { offset = 0; why = ImageWhy.Magic }) }
+    ensures version { image_fault (codes "EHCI" ++ 2 ∷ 0 ∷ 0 ∷ 0 ∷ 0 ∷ 64 ∷ 0 ∷ 0 ∷ 1 ∷ 0 ∷ 0 ∷ 0 ∷ 1 ∷ 0 ∷ 0 ∷ 0 ∷ 1 ∷ 0 ∷ 0 ∷ 0 ∷ []) ≡ Some (record { offset = 4; why = ImageWhy.Version }) }
+    ensures frindex { image_fault (codes "EHCI" ++ 1 ∷ 0 ∷ 0 ∷ 0 ∷ 0 ∷ 64 ∷ 0 ∷ 0 ∷ 1 ∷ 0 ∷ 0 ∷ 0 ∷ 1 ∷ 0 ∷ 0 ∷ 0 ∷ 1 ∷ 0 ∷ 0 ∷ 0 ∷ []) ≡ Some (record { offset = 8; why = ImageWhy.Alignment }) }
+    ensures list_base { image_fault (codes "EHCI" ++ 1 ∷ 0 ∷ 0 ∷ 0 ∷ 255 ∷ 63 ∷ 0 ∷ 0 ∷ 0 ∷ 8 ∷ 0 ∷ 0 ∷ 1 ∷ 0 ∷ 0 ∷ 0 ∷ 1 ∷ 0 ∷ 0 ∷ 0 ∷ []) ≡ Some (record { offset = 12; why = ImageWhy.Alignment }) }
+    ensures async_at { image_fault (codes "EHCI" ++ 1 ∷ 0 ∷ 0 ∷ 0 ∷ 255 ∷ 63 ∷ 0 ∷ 0 ∷ 0 ∷ 16 ∷ 0 ∷ 0 ∷ 16 ∷ 0 ∷ 0 ∷ 0 ∷ 1 ∷ 0 ∷ 0 ∷ 0 ∷ []) ≡ Some (record { offset = 16; why = ImageWhy.Alignment }) }
+    ensures words { image_fault (codes "EHCI" ++ 1 ∷ 0 ∷ 0 ∷ 0 ∷ 255 ∷ 63 ∷ 0 ∷ 0 ∷ 0 ∷ 16 ∷ 0 ∷ 0 ∷ 32 ∷ 0 ∷ 0 ∷ 0 ∷ 0 ∷ 0 ∷ 0 ∷ 0 ∷ []) ≡ Some (record { offset = 20; why = ImageWhy.Alignment }) }
+    ensures most { image_fault (codes "EHCI" ++ 1 ∷ 0 ∷ 0 ∷ 0 ∷ 255 ∷ 63 ∷ 0 ∷ 0 ∷ 0 ∷ 16 ∷ 0 ∷ 0 ∷ 32 ∷ 0 ∷ 0 ∷ 0 ∷ 0 ∷ 4 ∷ 4 ∷ 0 ∷ []) ≡ Some (record { offset = 20; why = ImageWhy.Alignment }) }
+    ensures total { image_fault (codes "EHCI" ++ 1 ∷ 0 ∷ 0 ∷ 0 ∷ 255 ∷ 63 ∷ 0 ∷ 0 ∷ 0 ∷ 16 ∷ 0 ∷ 0 ∷ 32 ∷ 0 ∷ 0 ∷ 0 ∷ 0 ∷ 8 ∷ 0 ∷ 0 ∷ []) ≡ Some (record { offset = 24; why = ImageWhy.Length }) }
 {}

@@ -1,2 +1,3 @@
 pub mod Structures
 pub mod Samples
+pub mod WriteBack

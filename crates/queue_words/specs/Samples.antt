@@ -2,6 +2,7 @@
 -- refusals were counted.
 --     head_memory ws s t      twelve words of a queue head in the blocks 1 and 2, of the states s and t; after them four words are 9
 --     qtd_memory ws s         eight words of a qTD in block 1, of the state s
+--     nine_words              nine words to write as an overlay
 --     split_words, split_head        a queue head in the middle of a split transaction: its words, and its fields
 --     last_words, last_qtd           an active qTD that ends its list
 use Rattle.std.specs.Prelude.{ℕ, true, false, List, [], ◌∷◌, ◌++◌, replicate}
@@ -18,6 +19,9 @@ head_memory ws s t = record { words = replicate 8 7 ++ (ws ++ replicate 4 9); st
 
 abbrev pub qtd_memory : List ℕ → BlockState → Mem
 qtd_memory ws s = record { words = replicate 8 7 ++ ws; states = Kept ∷ s ∷ []; foreign = 5 }
+
+abbrev pub nine_words : List ℕ
+nine_words = 11 ∷ 12 ∷ 13 ∷ 14 ∷ 15 ∷ 16 ∷ 17 ∷ 18 ∷ 19 ∷ []
 
 abbrev pub split_words : List ℕ
 split_words = 0x12344 ∷ 0xA2BCDB93 ∷ 0xCB963C81 ∷ 0x20040 ∷ 0x30061 ∷ 0x40096 ∷ 0x92349E35 ∷ 0xABCDE123 ∷ 0x123450A5 ∷ 0x6789AF6D ∷ 0xFEDCB000 ∷ 0x1000 ∷ []

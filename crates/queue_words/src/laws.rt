@@ -1,16 +1,11 @@
 //! Worked rows of the definitions, which the check computes, and laws of them.
-ghost use Rattle.std.specs.Prelude.{◌≡◌, ℕ, ◌+◌, ◌%◌, ◌<◌, ◌≤◌, ◌⊎◌, List, ◌∷◌, [], ◌++◌, ◌^◌, length, take, replicate, slice_index, Some, None, true};
-ghost use Rattle.word_mem.specs.Memory.{Mem, IsShaped, word_at};
-ghost use Rattle.word_mem.specs.Views.{words_at};
-ghost use Rattle.link_words.specs.Layout.{IsWordInRange};
-ghost use Rattle.qh_qtd.specs.Token.{token_rows};
-ghost use Rattle.qh_qtd.specs.QueueHead.{IsQhInRange, qh_words};
+ghost use Rattle.std.specs.Prelude.{◌≡◌, ℕ, ◌+◌, ◌%◌, ◌<◌, ◌≤◌, ◌⊎◌, List, ◌∷◌, [], ◌++◌, length, take, replicate, Some, None};
+ghost use Rattle.word_mem.specs.Memory.{Mem, word_at};
 ghost use Rattle.qh_qtd.specs.declared.token.Token.{Token};
-ghost use Rattle.qh_qtd.specs.declared.qtd.Qtd.{Qtd};
-ghost use Rattle.qh_qtd.specs.declared.queue_head.Qh.{Qh};
 ghost use Rattle.word_mem.specs.declared.blocks.BlockState.TheVariants.{Lent, Kept, Free};
-ghost use Rattle.queue_words.specs.Structures.{qtd_at_address, qtd_was_read, reaches_queue_head, queue_head_at_address, queue_head_was_read, overlay_words, overlay_written, token_written};
-ghost use Rattle.queue_words.specs.Samples.{head_memory, qtd_memory, split_words, split_head, last_words, last_qtd, split_token};
+ghost use Rattle.queue_words.specs.Structures.{qtd_at_address, qtd_was_read, queue_head_at_address, queue_head_was_read, overlay_words, overlay_written, token_written};
+ghost use Rattle.queue_words.specs.WriteBack.{OverlayIsRead, StepIsRead, TokenIsRead};
+ghost use Rattle.queue_words.specs.Samples.{head_memory, qtd_memory, nine_words, split_words, split_head, last_words, last_qtd, split_token};
 
 /// A queue head is read where both of its blocks are Lent and no reserved bit is set. A refusal is counted once, and a reserved bit never.
 #[tactic(auto, unfolding(word_mem::specs::Views::words_in, qh_qtd::specs::QueueHead::qh_read, qh_qtd::specs::QueueHead::qh_bad, qh_qtd::specs::QueueHead::qh_at, qh_qtd::specs::Token::token_at, link_words::specs::Layout::first_bad_bit))]
@@ -18,9 +13,9 @@ pub fn queue_heads_read()
     ensures read { queue_head_at_address (head_memory split_words Lent Lent) 32 ≡ Some split_head }
     ensures nothing_changed { queue_head_was_read (head_memory split_words Lent Lent) 32 ≡ head_memory split_words Lent Lent }
     ensures first { queue_head_at_address (head_memory split_words Kept Lent) 32 ≡ None }
-    ensures first_counted { queue_head_was_read (head_memory split_words Kept Lent) 32 ≡ record { words = replicate 8 7 ++ (split_words ++ replicate 4 9); states = Kept ∷ Kept ∷ Lent ∷ []; foreign = 6 } }
+    ensures first_counted { queue_head_was_read (head_memory split_words Kept Lent) 32 ≡ record (head_memory split_words Kept Lent) { foreign = 6 } }
     ensures second { queue_head_at_address (head_memory split_words Lent Kept) 32 ≡ None }
-    ensures second_counted { queue_head_was_read (head_memory split_words Lent Kept) 32 ≡ record { words = replicate 8 7 ++ (split_words ++ replicate 4 9); states = Kept ∷ Lent ∷ Kept ∷ []; foreign = 6 } }
+    ensures second_counted { queue_head_was_read (head_memory split_words Lent Kept) 32 ≡ record (head_memory split_words Lent Kept) { foreign = 6 } }
 
     // The last block: the second one would lie past the end.
     ensures past { queue_head_at_address (head_memory split_words Lent Lent) 64 ≡ None }
@@ -37,7 +32,7 @@ pub fn qtds_read()
     ensures read { qtd_at_address (qtd_memory last_words Lent) 32 ≡ Some last_qtd }
     ensures nothing_changed { qtd_was_read (qtd_memory last_words Lent) 32 ≡ qtd_memory last_words Lent }
     ensures free { qtd_at_address (qtd_memory last_words Free) 32 ≡ None }
-    ensures free_counted { qtd_was_read (qtd_memory last_words Free) 32 ≡ record { words = replicate 8 7 ++ last_words; states = Kept ∷ Free ∷ []; foreign = 6 } }
+    ensures free_counted { qtd_was_read (qtd_memory last_words Free) 32 ≡ record (qtd_memory last_words Free) { foreign = 6 } }
     ensures kept { qtd_at_address (qtd_memory last_words Lent) 0 ≡ None }
     ensures past { qtd_at_address (qtd_memory last_words Lent) 64 ≡ None }
     ensures past_counted { (qtd_was_read (qtd_memory last_words Lent) 64).foreign ≡ 6 }
@@ -51,9 +46,11 @@ pub fn qtds_read()
 #[tactic(auto, unfolding(word_mem::specs::Views::with_words_in, qh_qtd::specs::QueueHead::qh_words))]
 pub fn overlays_written()
     ensures words { overlay_words split_head ≡ 0x20040 ∷ 0x30061 ∷ 0x40096 ∷ 0x92349E35 ∷ 0xABCDE123 ∷ 0x123450A5 ∷ 0x6789AF6D ∷ 0xFEDCB000 ∷ 0x1000 ∷ [] }
-    ensures both { overlay_written (head_memory (replicate 12 0) Lent Lent) 32 (11 ∷ 12 ∷ 13 ∷ 14 ∷ 15 ∷ 16 ∷ 17 ∷ 18 ∷ 19 ∷ []) ≡ head_memory (0 ∷ 0 ∷ 0 ∷ 11 ∷ 12 ∷ 13 ∷ 14 ∷ 15 ∷ 16 ∷ 17 ∷ 18 ∷ 19 ∷ []) Lent Lent }
-    ensures first_alone { overlay_written (head_memory (replicate 12 0) Lent Kept) 32 (11 ∷ 12 ∷ 13 ∷ 14 ∷ 15 ∷ 16 ∷ 17 ∷ 18 ∷ 19 ∷ []) ≡ record { words = replicate 8 7 ++ 0 ∷ 0 ∷ 0 ∷ 11 ∷ 12 ∷ 13 ∷ 14 ∷ 15 ∷ (replicate 4 0 ++ replicate 4 9); states = Kept ∷ Lent ∷ Kept ∷ []; foreign = 6 } }
-    ensures second_alone { overlay_written (head_memory (replicate 12 0) Kept Lent) 32 (11 ∷ 12 ∷ 13 ∷ 14 ∷ 15 ∷ 16 ∷ 17 ∷ 18 ∷ 19 ∷ []) ≡ record { words = replicate 8 7 ++ (replicate 12 0 ++ replicate 4 9); states = Kept ∷ Kept ∷ Lent ∷ []; foreign = 6 } }
+    ensures both { overlay_written (head_memory (replicate 12 0) Lent Lent) 32 nine_words ≡ head_memory (0 ∷ 0 ∷ 0 ∷ nine_words) Lent Lent }
+    ensures first_alone { overlay_written (head_memory (replicate 12 0) Lent Kept) 32 nine_words ≡
+        record (head_memory (0 ∷ 0 ∷ 0 ∷ (take 5 nine_words ++ replicate 4 0)) Lent Kept) { foreign = 6 } }
+    ensures second_alone { overlay_written (head_memory (replicate 12 0) Kept Lent) 32 nine_words ≡
+        record (head_memory (replicate 12 0) Kept Lent) { foreign = 6 } }
 {}
 
 /// The token is word 2 of its block.
@@ -87,7 +84,7 @@ pub fn writes_change_no_more()
 /// its overlay is written. Of a qTD that is there a written token changes that field alone.
 #[tactic(auto, using(crate::proofs::WriteBack::head_written_back, crate::proofs::WriteBack::head_stepped, crate::proofs::WriteBack::token_written_back))]
 pub fn written_is_read()
-    ensures overlay { (m : Mem) (a : ℕ) (q : Qh) → IsShaped m → a % 32 ≡ 0 → IsQhInRange q → reaches_queue_head m a ≡ true → words_at m a 3 ≡ take 3 (qh_words q) → queue_head_at_address (overlay_written m a (overlay_words q)) a ≡ Some q }
-    ensures stepped { (m : Mem) (a : ℕ) (before q : Qh) → IsShaped m → ((i : ℕ) → slice_index m.words i < 2 ^ 32) → a % 32 ≡ 0 → IsQhInRange q → queue_head_at_address m a ≡ Some before → take 3 (qh_words q) ≡ take 3 (qh_words before) → queue_head_at_address (overlay_written m a (overlay_words q)) a ≡ Some q }
-    ensures token { (m : Mem) (a : ℕ) (t : Token) (d : Qtd) → IsShaped m → ((i : ℕ) → slice_index m.words i < 2 ^ 32) → a % 32 ≡ 0 → IsWordInRange token_rows t → qtd_at_address m a ≡ Some d → qtd_at_address (token_written m a t) a ≡ Some (record d { token = t }) }
+    ensures overlay { OverlayIsRead }
+    ensures stepped { StepIsRead }
+    ensures token { TokenIsRead }
 {}
