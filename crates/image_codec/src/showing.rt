@@ -1,6 +1,6 @@
 ghost use Rattle.std.specs.Prelude.{◌≡◌, ℕ, ◌≤◌, ◌/◌, length, replicate, IfOk, IfErr, OnOk, OnErr};
 ghost use Rattle.std.specs.Io.KnownBytes.{Appends};
-ghost use Rattle.usb_base.specs.Outside.{AppendsPrefix, one_more};
+ghost use Rattle.usb_base.specs.Outside.{AppendsPrefix, Prints, one_more};
 ghost use Rattle.image_codec.specs.Image.{IsAligned};
 ghost use Rattle.image_codec.specs.Marks.{AreMarks};
 ghost use Rattle.image_codec.specs.Shown.{seen_before, shown, units};
@@ -48,11 +48,7 @@ pub fn show<K: Sink>(alloc: Global, image: &Image, sink: &mut K) -> Result<(), S
 /// Writes the line that says why bytes are no image, `offset <n>: <why>`. It takes no memory. `Failed` comes only where
 /// the sink's count of faults rose, with a front part of the line written.
 pub fn print_refusal<K: Sink>(refusal: Refusal, sink: &mut K) -> Result<(), Failed>
-    ensures ok { OnOk result (Appends (K.written sink.old) (K.written sink.new) (refusal_line refusal)) }
-    ensures err { OnErr result (AppendsPrefix (K.written sink.old) (K.written sink.new) (refusal_line refusal)) }
-    ensures stays { OnOk result (K.faults sink.new ≡ K.faults sink.old) }
-    ensures rises { OnErr result (K.faults sink.new ≡ one_more (K.faults sink.old)) }
-    ensures counted { K.faults sink.old ≤ K.faults sink.new }
+    ensures { Prints K.written K.faults sink.old sink.new result (refusal_line refusal) }
 {
     write_all(sink, line_of_refusal(refusal).as_slice())
 }
@@ -73,11 +69,7 @@ fn put_image<K: Sink>(
     requires image { IsAligned image.now }
     requires lists { lists.old ≡ replicate (units image.now.words) 0 }
     requires queues { queues.old ≡ replicate (units image.now.words) 1 }
-    ensures ok { OnOk result (Appends (K.written sink.old) (K.written sink.new) (shown image.now)) }
-    ensures err { OnErr result (AppendsPrefix (K.written sink.old) (K.written sink.new) (shown image.now)) }
-    ensures stays { OnOk result (K.faults sink.new ≡ K.faults sink.old) }
-    ensures rises { OnErr result (K.faults sink.new ≡ one_more (K.faults sink.old)) }
-    ensures counted { K.faults sink.old ≤ K.faults sink.new }
+    ensures { Prints K.written K.faults sink.old sink.new result (shown image.now) }
 {
     let mut page = Page::new();
     page.put(sink, line_of_header(image).as_slice())?;

@@ -1,7 +1,6 @@
 ghost use Rattle.std.specs.Prelude.{◌≡◌, ℕ, ◌≤◌, ◌<◌, ◌++◌, length, OnOk, OnErr};
 ghost use Rattle.std.specs.List.{flat_map};
-ghost use Rattle.std.specs.Io.KnownBytes.{Appends};
-ghost use Rattle.usb_base.specs.Outside.{AppendsPrefix, one_more};
+ghost use Rattle.usb_base.specs.Outside.{AppendsPrefix, Prints, one_more};
 ghost use Rattle.image_codec.specs.Image.{field_bytes, header_bytes, image_bytes, IsAligned};
 ghost use Rattle.image_codec.specs.Printing.{Passes};
 
@@ -14,11 +13,7 @@ use usb_base::{Failed, Sink};
 /// memory. `Failed` comes only where the sink's count of faults rose, with a front part of the bytes written.
 pub fn encode<K: Sink>(image: &Image, sink: &mut K) -> Result<(), Failed>
     requires { IsAligned image.now }
-    ensures ok { OnOk result (Appends (K.written sink.old) (K.written sink.new) (image_bytes image.now)) }
-    ensures err { OnErr result (AppendsPrefix (K.written sink.old) (K.written sink.new) (image_bytes image.now)) }
-    ensures stays { OnOk result (K.faults sink.new ≡ K.faults sink.old) }
-    ensures rises { OnErr result (K.faults sink.new ≡ one_more (K.faults sink.old)) }
-    ensures counted { K.faults sink.old ≤ K.faults sink.new }
+    ensures { Prints K.written K.faults sink.old sink.new result (image_bytes image.now) }
 {
     let mut page = Page::new();
     page.put(sink, &header_of(image))?;

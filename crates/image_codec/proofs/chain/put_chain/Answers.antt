@@ -76,41 +76,44 @@ returns-in-Some-clause-ok g c =
     let seen = seen_before c.args.image.now c.args.place.frames in
     let l = chain c.args.image.now.words c.args.place.home seen in
     let k = c.loop-ending.invariant.stage.0 in
+    let aligned = multiple c.address-at.result c.loop-ending.link c.address-at.ensures.address (c.address-at.ensures.aligned c.loop-ending.invariant.aligned) in
     let s = c.loop-ending.invariant.stage.1.0 in
     let ends = found c.args.image.now.words c.as_slice-words.result.now seen c.loop-ending.lists c.args.place.home (c.args.place.frames + 1) c.address-at.result k
     c.loop-ending.begun c.has_mark-here.result c.has_earlier_mark-earlier.result c.loop-ending.link c.ending_of.result (Some c.in-Some.ending)
     c.as_slice-words.ensures c.address-at.ensures.address c.has_mark-here.ensures c.has_earlier_mark-earlier.ensures
-    (c.loop-ending.invariant.marks.earlier (address_of c.loop-ending.link) (multiple c.address-at.result c.loop-ending.link c.address-at.ensures.address (c.address-at.ensures.aligned c.loop-ending.invariant.aligned))) c.loop-ending.invariant.stage.1.1
+    (c.loop-ending.invariant.marks.earlier (address_of c.loop-ending.link) aligned) c.loop-ending.invariant.stage.1.1
     c.ending_of.ensures.ending c.in-Some.is in
     put_ending_ok l c.args.first (c.args.place.frames + 1) c.loop-ending.lists c.put.result c.loop-ending.link k _ _ _ _ _ _ _ c.in-Some.ending s
-    (multiple c.address-at.result c.loop-ending.link c.address-at.ensures.address (c.address-at.ensures.aligned c.loop-ending.invariant.aligned)) ends (c.as_slice.ensures.bytes ∙ c.line_of_ending.ensures) c.put.ensures.ok
+    aligned ends (c.as_slice.ensures.bytes ∙ c.line_of_ending.ensures) c.put.ensures.ok
 
 pub returns-in-Some-clause-err : goal.returns-in-Some-clause-err
 returns-in-Some-clause-err g c =
     let seen = seen_before c.args.image.now c.args.place.frames in
     let l = chain c.args.image.now.words c.args.place.home seen in
     let k = c.loop-ending.invariant.stage.0 in
+    let aligned = multiple c.address-at.result c.loop-ending.link c.address-at.ensures.address (c.address-at.ensures.aligned c.loop-ending.invariant.aligned) in
     let s = c.loop-ending.invariant.stage.1.0 in
     let ends = found c.args.image.now.words c.as_slice-words.result.now seen c.loop-ending.lists c.args.place.home (c.args.place.frames + 1) c.address-at.result k
     c.loop-ending.begun c.has_mark-here.result c.has_earlier_mark-earlier.result c.loop-ending.link c.ending_of.result (Some c.in-Some.ending)
     c.as_slice-words.ensures c.address-at.ensures.address c.has_mark-here.ensures c.has_earlier_mark-earlier.ensures
-    (c.loop-ending.invariant.marks.earlier (address_of c.loop-ending.link) (multiple c.address-at.result c.loop-ending.link c.address-at.ensures.address (c.address-at.ensures.aligned c.loop-ending.invariant.aligned))) c.loop-ending.invariant.stage.1.1
+    (c.loop-ending.invariant.marks.earlier (address_of c.loop-ending.link) aligned) c.loop-ending.invariant.stage.1.1
     c.ending_of.ensures.ending c.in-Some.is in
     put_ending_err l c.args.first (c.args.place.frames + 1) c.loop-ending.lists c.put.result c.loop-ending.link k _ _ _ _ _ _ c.in-Some.ending s
-    (multiple c.address-at.result c.loop-ending.link c.address-at.ensures.address (c.address-at.ensures.aligned c.loop-ending.invariant.aligned)) ends (c.as_slice.ensures.bytes ∙ c.line_of_ending.ensures) c.put.ensures.err
+    aligned ends (c.as_slice.ensures.bytes ∙ c.line_of_ending.ensures) c.put.ensures.err
 
 pub returns-in-Some-clause-marked : goal.returns-in-Some-clause-marked
 returns-in-Some-clause-marked g c =
     let seen = seen_before c.args.image.now c.args.place.frames in
     let l = chain c.args.image.now.words c.args.place.home seen in
     let k = c.loop-ending.invariant.stage.0 in
+    let aligned = multiple c.address-at.result c.loop-ending.link c.address-at.ensures.address (c.address-at.ensures.aligned c.loop-ending.invariant.aligned) in
     let s = c.loop-ending.invariant.stage.1.0 in
     let ends = found c.args.image.now.words c.as_slice-words.result.now seen c.loop-ending.lists c.args.place.home (c.args.place.frames + 1) c.address-at.result k
     c.loop-ending.begun c.has_mark-here.result c.has_earlier_mark-earlier.result c.loop-ending.link c.ending_of.result (Some c.in-Some.ending)
     c.as_slice-words.ensures c.address-at.ensures.address c.has_mark-here.ensures c.has_earlier_mark-earlier.ensures
-    (c.loop-ending.invariant.marks.earlier (address_of c.loop-ending.link) (multiple c.address-at.result c.loop-ending.link c.address-at.ensures.address (c.address-at.ensures.aligned c.loop-ending.invariant.aligned))) c.loop-ending.invariant.stage.1.1
+    (c.loop-ending.invariant.marks.earlier (address_of c.loop-ending.link) aligned) c.loop-ending.invariant.stage.1.1
     c.ending_of.ensures.ending c.in-Some.is in
-    let here = ends_here l c.args.first (c.args.place.frames + 1) c.loop-ending.lists k c.loop-ending.link s.shown c.in-Some.ending s.progress (multiple c.address-at.result c.loop-ending.link c.address-at.ensures.address (c.address-at.ensures.aligned c.loop-ending.invariant.aligned)) ends in
+    let here = ends_here l c.args.first (c.args.place.frames + 1) c.loop-ending.lists k c.loop-ending.link s.shown c.in-Some.ending s.progress aligned ends in
     on_ok c.put.result _ (next_marks l c.args.first c.loop-ending.lists c.loop-ending.queues seen c.args.place.frames k c.loop-ending.invariant.marks s.progress.marked here.0)
 
 pub returns-in_err-put_structure-clause-err : goal.returns-in_err-put_structure-clause-err
@@ -118,40 +121,42 @@ returns-in_err-put_structure-clause-err g c =
     let seen = seen_before c.args.image.now c.args.place.frames in
     let l = chain c.args.image.now.words c.args.place.home seen in
     let k = c.loop-ending.invariant.stage.0 in
+    let aligned = multiple c.address-at.result c.loop-ending.link c.address-at.ensures.address (c.address-at.ensures.aligned c.loop-ending.invariant.aligned) in
     let s = c.loop-ending.invariant.stage.1.0 in
     let goes = found c.args.image.now.words c.as_slice-words.result.now seen c.loop-ending.lists c.args.place.home (c.args.place.frames + 1) c.address-at.result k
     c.loop-ending.begun c.has_mark-here.result c.has_earlier_mark-earlier.result c.loop-ending.link c.ending_of.result None
     c.as_slice-words.ensures c.address-at.ensures.address c.has_mark-here.ensures c.has_earlier_mark-earlier.ensures
-    (c.loop-ending.invariant.marks.earlier (address_of c.loop-ending.link) (multiple c.address-at.result c.loop-ending.link c.address-at.ensures.address (c.address-at.ensures.aligned c.loop-ending.invariant.aligned))) c.loop-ending.invariant.stage.1.1
+    (c.loop-ending.invariant.marks.earlier (address_of c.loop-ending.link) aligned) c.loop-ending.invariant.stage.1.1
     c.ending_of.ensures.ending c.in_default.is in
     let fresh = sym (c.has_mark-here.ensures ∙ ap (is_marked c.loop-ending.lists (c.args.place.frames + 1)) c.address-at.ensures.address) ∙ c.in_default.ensures.fresh in
     let long = ap length c.as_slice-words.ensures in
     let inside : address_of c.loop-ending.link / 32 < length c.loop-ending.lists =
-    omega (arith, long, c.loop-ending.invariant.lists_whole, c.in_default.ensures.inside, c.in_default.ensures.size, (multiple c.address-at.result c.loop-ending.link c.address-at.ensures.address (c.address-at.ensures.aligned c.loop-ending.invariant.aligned))) in
+    omega (arith, long, c.loop-ending.invariant.lists_whole, c.in_default.ensures.inside, c.in_default.ensures.size, aligned) in
     let piece = prefix_same _ _ c.loop-ending.page _ _ (ap (λ (x : List ℕ). structure_text x c.loop-ending.link) c.as_slice-words.ensures) c.in_err-put_structure.ensures.err in
     on_err c.from_residual.result _ (stage-goes_err l c.args.first (c.args.place.frames + 1) c.loop-ending.lists c.loop-ending.link k _ _ _ _ _ s
-    (multiple c.address-at.result c.loop-ending.link c.address-at.ensures.address (c.address-at.ensures.aligned c.loop-ending.invariant.aligned)) inside fresh goes piece)
+    aligned inside fresh goes piece)
 
 pub loop-ending-preserved : goal.loop-ending-preserved
 loop-ending-preserved g c =
     let seen = seen_before c.args.image.now c.args.place.frames in
     let l = chain c.args.image.now.words c.args.place.home seen in
     let k = c.loop-ending.invariant.stage.0 in
+    let aligned = multiple c.address-at.result c.loop-ending.link c.address-at.ensures.address (c.address-at.ensures.aligned c.loop-ending.invariant.aligned) in
     let s = c.loop-ending.invariant.stage.1.0 in
     let goes = found c.args.image.now.words c.as_slice-words.result.now seen c.loop-ending.lists c.args.place.home (c.args.place.frames + 1) c.address-at.result k
     c.loop-ending.begun c.has_mark-here.result c.has_earlier_mark-earlier.result c.loop-ending.link c.ending_of.result None
     c.as_slice-words.ensures c.address-at.ensures.address c.has_mark-here.ensures c.has_earlier_mark-earlier.ensures
-    (c.loop-ending.invariant.marks.earlier (address_of c.loop-ending.link) (multiple c.address-at.result c.loop-ending.link c.address-at.ensures.address (c.address-at.ensures.aligned c.loop-ending.invariant.aligned))) c.loop-ending.invariant.stage.1.1
+    (c.loop-ending.invariant.marks.earlier (address_of c.loop-ending.link) aligned) c.loop-ending.invariant.stage.1.1
     c.ending_of.ensures.ending c.in_default.is in
     let fresh = sym (c.has_mark-here.ensures ∙ ap (is_marked c.loop-ending.lists (c.args.place.frames + 1)) c.address-at.ensures.address) ∙ c.in_default.ensures.fresh in
     let long = ap length c.as_slice-words.ensures in
     let inside : address_of c.loop-ending.link / 32 < length c.loop-ending.lists =
-    omega (arith, long, c.loop-ending.invariant.lists_whole, c.in_default.ensures.inside, c.in_default.ensures.size, (multiple c.address-at.result c.loop-ending.link c.address-at.ensures.address (c.address-at.ensures.aligned c.loop-ending.invariant.aligned))) in
+    omega (arith, long, c.loop-ending.invariant.lists_whole, c.in_default.ensures.inside, c.in_default.ensures.size, aligned) in
     let unseen = sym (c.has_earlier_mark-earlier.ensures ∙ ap (is_marked_before c.loop-ending.lists (c.args.place.frames + 1)) c.address-at.ensures.address) ∙ c.in_default.ensures.unseen in
     let piece = passes_same _ _ _ _ _ _ (ap (λ (x : List ℕ). structure_text x c.loop-ending.link) c.as_slice-words.ensures) c.in_ok-put_structure.ensures.ok in
-    let more = stage-more l c.args.first (c.args.place.frames + 1) c.loop-ending.lists c.loop-ending.link k _ _ _ _ _ _ s (multiple c.address-at.result c.loop-ending.link c.address-at.ensures.address (c.address-at.ensures.aligned c.loop-ending.invariant.aligned)) inside fresh goes piece in
+    let more = stage-more l c.args.first (c.args.place.frames + 1) c.loop-ending.lists c.loop-ending.link k _ _ _ _ _ _ s aligned inside fresh goes piece in
     let marks = in_list-more c.loop-ending.lists c.loop-ending.queues c.put_structure.new.queues (c.args.place.frames + 1) seen (address_of c.loop-ending.link)
-    c.loop-ending.invariant.marks (multiple c.address-at.result c.loop-ending.link c.address-at.ensures.address (c.address-at.ensures.aligned c.loop-ending.invariant.aligned)) inside (omega arith) unseen c.put_structure.auto.queues c.in_ok-put_structure.ensures.queues in
+    c.loop-ending.invariant.marks aligned inside (omega arith) unseen c.put_structure.auto.queues c.in_ok-put_structure.ensures.queues in
     record {
       aligned = c.read-link.ensures.aligned;
       lists_whole = length-set c.loop-ending.lists (c.address-at.result / 32) (c.args.place.frames + 1) ∙ c.loop-ending.invariant.lists_whole;

@@ -1,11 +1,12 @@
-use Rattle.std.proofs.Common.{◌≡◌, ℕ, List, [], ◌++◌, sym, ap, subst, ◌∙◌, append_assoc, append-nil, replicate}
-use Rattle.std.proofs.lemmas.Result.{on_ok_weaker, on_err_weaker}
+use Rattle.std.proofs.Common.{◌≡◌, ℕ, List, [], ◌++◌, sym, ap, subst, ◌∙◌, append_assoc, append-nil, replicate, arith}
+use Rattle.std.proofs.lemmas.Result.{err_from_is_err_and, on_ok_weaker, on_err_weaker}
+use Rattle.usb_base.specs.Outside.{one_more}
 use Rattle.image_codec.specs.declared.image.Image.{Image}
 use Rattle.image_codec.specs.Marks.{AreMarks}
 use Rattle.image_codec.specs.Shown.{frames_text, header_line, ring_text, seen_before, shown, units}
 use Rattle.image_codec.proofs.FrameTexts.{seen-none}
 use Rattle.image_codec.proofs.Marking.{are_marks-start}
-use Rattle.image_codec.proofs.Passing.{appends_flushed, on_err, passes_all, passes_from_empty, passes_join, prefix_all, prefix_flushed, prefix_from_empty, prefix_within}
+use Rattle.image_codec.proofs.Passing.{appends_flushed, passes_all, passes_from_empty, passes_join, prefix_all, prefix_flushed, prefix_from_empty, prefix_within}
 use Rattle.image_codec.proofs.showing.put_image.Goals as goal
 
 whole : (i : Image) (header : List ℕ) → header ≡ header_line i → header ++ (frames_text i 1024 ++ ring_text i) ≡ shown i
@@ -23,43 +24,62 @@ started i lists queues l q =
 pub put_frames-requires-clause-marks : goal.put_frames-requires-clause-marks
 put_frames-requires-clause-marks g c = started c.args.image.now c.args.lists.now c.args.queues.now c.requires.lists c.requires.queues
 
-pub returns-in_err-put-clause-err : goal.returns-in_err-put-clause-err
-returns-in_err-put-clause-err g c =
+pub returns-in_err-put : goal.returns-in_err-put
+returns-in_err-put g c =
+    let p = err_from_is_err_and c.from_residual.result c.from_residual.ensures.1 in
     let header = c.as_slice.ensures.bytes ∙ c.line_of_header.ensures in
-    on_err c.from_residual.result _ (prefix_from_empty _ _ c.new-page.result (shown c.args.image.now) c.new-page.ensures
-    (prefix_all _ _ c.new-page.result c.as_slice.result.now _ _ (whole c.args.image.now c.as_slice.result.now header) c.in_err-put.ensures.err))
+    rw p.1 (record {
+      ok = tt;
+      err = prefix_from_empty _ _ c.new-page.result (shown c.args.image.now) c.new-page.ensures
+          (prefix_all _ _ c.new-page.result c.as_slice.result.now _ _ (whole c.args.image.now c.as_slice.result.now header) c.in_err-put.ensures.err);
+      stays = tt;
+      rises = c.in_err-put.ensures.rises;
+      counted = c.in_err-put.ensures.counted;
+    })
 
-pub returns-in_err-put_frames-clause-err : goal.returns-in_err-put_frames-clause-err
-returns-in_err-put_frames-clause-err g c =
+pub returns-in_err-put_frames : goal.returns-in_err-put_frames
+returns-in_err-put_frames g c =
+    let p = err_from_is_err_and c.from_residual-in_err-put_frames.result c.from_residual-in_err-put_frames.ensures.1 in
     let header = c.as_slice.ensures.bytes ∙ c.line_of_header.ensures in
-    on_err c.from_residual-in_err-put_frames.result _ (prefix_from_empty _ _ c.new-page.result (shown c.args.image.now) c.new-page.ensures
-    (prefix_within _ _ _ c.new-page.result _ c.as_slice.result.now (frames_text c.args.image.now 1024) (ring_text c.args.image.now) (shown c.args.image.now)
-    c.in_ok-put.ensures.ok c.in_err-put_frames.ensures.err (whole c.args.image.now c.as_slice.result.now header)))
+    rw p.1 (record {
+      ok = tt;
+      err = prefix_from_empty _ _ c.new-page.result (shown c.args.image.now) c.new-page.ensures
+          (prefix_within _ _ _ c.new-page.result _ c.as_slice.result.now (frames_text c.args.image.now 1024) (ring_text c.args.image.now) (shown c.args.image.now)
+          c.in_ok-put.ensures.ok c.in_err-put_frames.ensures.err (whole c.args.image.now c.as_slice.result.now header));
+      stays = tt;
+      rises = c.in_err-put_frames.ensures.rises ∙ ap one_more c.in_ok-put.ensures.stays;
+      counted = omega (arith, c.in_err-put_frames.ensures.counted, c.in_ok-put.ensures.counted);
+    })
 
-pub returns-in_err-put_ring-clause-err : goal.returns-in_err-put_ring-clause-err
-returns-in_err-put_ring-clause-err g c =
+pub returns-in_err-put_ring : goal.returns-in_err-put_ring
+returns-in_err-put_ring g c =
+    let p = err_from_is_err_and c.from_residual-in_err-put_ring.result c.from_residual-in_err-put_ring.ensures.1 in
     let header = c.as_slice.ensures.bytes ∙ c.line_of_header.ensures in
     let front = passes_join _ _ _ c.new-page.result _ _ c.as_slice.result.now (frames_text c.args.image.now 1024) c.in_ok-put.ensures.ok c.in_ok-put_frames.ensures.ok in
     let all = ap (λ (t : List ℕ). (c.as_slice.result.now ++ frames_text c.args.image.now 1024) ++ t) (append-nil (ring_text c.args.image.now))
     ∙ whole_left c.args.image.now c.as_slice.result.now header in
-    on_err c.from_residual-in_err-put_ring.result _ (prefix_from_empty _ _ c.new-page.result (shown c.args.image.now) c.new-page.ensures
-    (prefix_within _ _ _ c.new-page.result _ (c.as_slice.result.now ++ frames_text c.args.image.now 1024) (ring_text c.args.image.now) [] (shown c.args.image.now)
-    front c.in_err-put_ring.ensures.err all))
+    rw p.1 (record {
+      ok = tt;
+      err = prefix_from_empty _ _ c.new-page.result (shown c.args.image.now) c.new-page.ensures
+          (prefix_within _ _ _ c.new-page.result _ (c.as_slice.result.now ++ frames_text c.args.image.now 1024) (ring_text c.args.image.now) [] (shown c.args.image.now)
+          front c.in_err-put_ring.ensures.err all);
+      stays = tt;
+      rises = c.in_err-put_ring.ensures.rises ∙ ap one_more (c.in_ok-put_frames.ensures.stays ∙ c.in_ok-put.ensures.stays);
+      counted = omega (arith, c.in_err-put_ring.ensures.counted, c.in_ok-put_frames.ensures.counted, c.in_ok-put.ensures.counted);
+    })
 
-pub returns-clause-ok : goal.returns-clause-ok
-returns-clause-ok g c =
+pub returns : goal.returns
+returns g c =
     let header = c.as_slice.ensures.bytes ∙ c.line_of_header.ensures in
     let front = passes_join _ _ _ c.new-page.result _ _ c.as_slice.result.now (frames_text c.args.image.now 1024) c.in_ok-put.ensures.ok c.in_ok-put_frames.ensures.ok in
     let all = passes_all _ _ _ c.new-page.result _ _ (c.as_slice.result.now ++ frames_text c.args.image.now 1024) (ring_text c.args.image.now) (shown c.args.image.now)
     front c.in_ok-put_ring.ensures.ok (whole_left c.args.image.now c.as_slice.result.now header) in
     let passed = passes_from_empty _ _ c.new-page.result _ (shown c.args.image.now) c.new-page.ensures all in
-    on_ok_weaker c.flush.result (λ h. appends_flushed _ _ _ _ _ passed h) c.flush.ensures.ok
-
-pub returns-clause-err : goal.returns-clause-err
-returns-clause-err g c =
-    let header = c.as_slice.ensures.bytes ∙ c.line_of_header.ensures in
-    let front = passes_join _ _ _ c.new-page.result _ _ c.as_slice.result.now (frames_text c.args.image.now 1024) c.in_ok-put.ensures.ok c.in_ok-put_frames.ensures.ok in
-    let all = passes_all _ _ _ c.new-page.result _ _ (c.as_slice.result.now ++ frames_text c.args.image.now 1024) (ring_text c.args.image.now) (shown c.args.image.now)
-    front c.in_ok-put_ring.ensures.ok (whole_left c.args.image.now c.as_slice.result.now header) in
-    let passed = passes_from_empty _ _ c.new-page.result _ (shown c.args.image.now) c.new-page.ensures all in
-    on_err_weaker c.flush.result (λ h. prefix_flushed _ _ _ _ _ passed h) c.flush.ensures.err
+    let same = c.in_ok-put_ring.ensures.stays ∙ c.in_ok-put_frames.ensures.stays ∙ c.in_ok-put.ensures.stays in
+    record {
+      ok = on_ok_weaker c.flush.result (λ h. appends_flushed _ _ _ _ _ passed h) c.flush.ensures.ok;
+      err = on_err_weaker c.flush.result (λ h. prefix_flushed _ _ _ _ _ passed h) c.flush.ensures.err;
+      stays = on_ok_weaker c.flush.result (λ h. h ∙ same) c.flush.ensures.stays;
+      rises = on_err_weaker c.flush.result (λ h. h ∙ ap one_more same) c.flush.ensures.rises;
+      counted = omega (arith, c.flush.ensures.counted, c.in_ok-put_ring.ensures.counted, c.in_ok-put_frames.ensures.counted, c.in_ok-put.ensures.counted);
+    }

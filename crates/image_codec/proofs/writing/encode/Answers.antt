@@ -1,10 +1,10 @@
-use Rattle.std.proofs.Common.{◌≡◌, ℕ, List, [], ◌++◌, append-nil, Option, ap, ◌∙◌, subst}
+use Rattle.std.proofs.Common.{◌≡◌, ℕ, List, [], ◌++◌, append-nil, Option, ap, ◌∙◌, subst, arith}
 use Rattle.std.specs.List.{flat_map}
-use Rattle.usb_base.specs.Outside.{AppendsPrefix}
+use Rattle.usb_base.specs.Outside.{AppendsPrefix, one_more}
 use Rattle.image_codec.specs.Image.{field_bytes, header_bytes, image_bytes}
 use Rattle.image_codec.specs.Printing.{Passes}
-use Rattle.std.proofs.lemmas.Result.{on_ok_weaker, on_err_weaker}
-use Rattle.image_codec.proofs.Passing.{on_err, prefix_more, prefix_within, passes_all, appends_flushed, prefix_flushed}
+use Rattle.std.proofs.lemmas.Result.{err_from_is_err_and, on_ok_weaker, on_err_weaker}
+use Rattle.image_codec.proofs.Passing.{prefix_more, prefix_within, passes_all, appends_flushed, prefix_flushed}
 use Rattle.image_codec.proofs.writing.encode.Goals as goal
 
 -- the header and the words are the image
@@ -22,28 +22,41 @@ at_header a b p header header_of words e same h =
     let front = subst (λ (t : List ℕ). AppendsPrefix a b (t ++ header)) e h in
     subst (λ (t : List ℕ). AppendsPrefix a b (t ++ words)) same (prefix_more a b header words front)
 
-pub returns-in_err-put-clause-err : goal.returns-in_err-put-clause-err
-returns-in_err-put-clause-err g c =
-    on_err c.from_residual.result _
-    (at_header _ _ c.new-page.result c.header_of.result _ (flat_map field_bytes c.args.image.now.words) c.new-page.ensures c.header_of.ensures c.in_err-put.ensures.err)
+pub returns-in_err-put : goal.returns-in_err-put
+returns-in_err-put g c =
+    let p = err_from_is_err_and c.from_residual.result c.from_residual.ensures.1 in
+    rw p.1 (record {
+      ok = tt;
+      err = at_header _ _ c.new-page.result c.header_of.result _ (flat_map field_bytes c.args.image.now.words) c.new-page.ensures c.header_of.ensures c.in_err-put.ensures.err;
+      stays = tt;
+      rises = c.in_err-put.ensures.rises;
+      counted = c.in_err-put.ensures.counted;
+    })
 
-pub returns-in_err-put_words-clause-err : goal.returns-in_err-put_words-clause-err
-returns-in_err-put_words-clause-err g c =
+pub returns-in_err-put_words : goal.returns-in_err-put_words
+returns-in_err-put_words g c =
+    let p = err_from_is_err_and c.from_residual-in_err-put_words.result c.from_residual-in_err-put_words.ensures.1 in
     let first = from_empty _ _ c.new-page.result _ c.header_of.result c.new-page.ensures c.in_ok-put.ensures.ok in
     let all = whole c.header_of.result c.as_slice.result.now (header_bytes c.args.image.now) c.args.image.now.words c.header_of.ensures c.as_slice.ensures in
     let plain = ap (λ (t : List ℕ). c.header_of.result ++ t) (append-nil (flat_map field_bytes c.as_slice.result.now)) ∙ all in
-    on_err c.from_residual-in_err-put_words.result _ (prefix_within _ _ _ [] _ c.header_of.result _ [] (image_bytes c.args.image.now) first c.in_err-put_words.ensures.err plain)
+    rw p.1 (record {
+      ok = tt;
+      err = prefix_within _ _ _ [] _ c.header_of.result _ [] (image_bytes c.args.image.now) first c.in_err-put_words.ensures.err plain;
+      stays = tt;
+      rises = c.in_err-put_words.ensures.rises ∙ ap one_more c.in_ok-put.ensures.stays;
+      counted = omega (arith, c.in_err-put_words.ensures.counted, c.in_ok-put.ensures.counted);
+    })
 
-pub returns-clause-ok : goal.returns-clause-ok
-returns-clause-ok g c =
+pub returns : goal.returns
+returns g c =
     let first = from_empty _ _ c.new-page.result _ c.header_of.result c.new-page.ensures c.in_ok-put.ensures.ok in
     let all = whole c.header_of.result c.as_slice.result.now (header_bytes c.args.image.now) c.args.image.now.words c.header_of.ensures c.as_slice.ensures in
     let passed = passes_all _ _ _ [] _ _ c.header_of.result _ (image_bytes c.args.image.now) first c.in_ok-put_words.ensures.ok all in
-    on_ok_weaker c.flush.result (λ h. appends_flushed _ _ _ _ _ passed h) c.flush.ensures.ok
-
-pub returns-clause-err : goal.returns-clause-err
-returns-clause-err g c =
-    let first = from_empty _ _ c.new-page.result _ c.header_of.result c.new-page.ensures c.in_ok-put.ensures.ok in
-    let all = whole c.header_of.result c.as_slice.result.now (header_bytes c.args.image.now) c.args.image.now.words c.header_of.ensures c.as_slice.ensures in
-    let passed = passes_all _ _ _ [] _ _ c.header_of.result _ (image_bytes c.args.image.now) first c.in_ok-put_words.ensures.ok all in
-    on_err_weaker c.flush.result (λ h. prefix_flushed _ _ _ _ _ passed h) c.flush.ensures.err
+    let same = c.in_ok-put_words.ensures.stays ∙ c.in_ok-put.ensures.stays in
+    record {
+      ok = on_ok_weaker c.flush.result (λ h. appends_flushed _ _ _ _ _ passed h) c.flush.ensures.ok;
+      err = on_err_weaker c.flush.result (λ h. prefix_flushed _ _ _ _ _ passed h) c.flush.ensures.err;
+      stays = on_ok_weaker c.flush.result (λ h. h ∙ same) c.flush.ensures.stays;
+      rises = on_err_weaker c.flush.result (λ h. h ∙ ap one_more same) c.flush.ensures.rises;
+      counted = omega (arith, c.flush.ensures.counted, c.in_ok-put_words.ensures.counted, c.in_ok-put.ensures.counted);
+    }
