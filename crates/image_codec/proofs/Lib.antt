@@ -6,3 +6,4 @@ pub mod Listing
 pub mod Marking
 pub mod FrameTexts
 pub mod Ends
+pub mod Paged

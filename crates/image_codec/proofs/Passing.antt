@@ -75,11 +75,6 @@ pub flat_map-more : {X : Type 0} (f : X → List ℕ) (xs : List X) (i : ℕ) (d
     → flat_map f (take i xs) ++ f (get_or xs i d) ≡ flat_map f (take (i + 1) xs)
 flat_map-more f xs i d h = flat_map_more f [] (take i xs) (get_or xs i d) ∙ ap (flat_map f) (sym (take_more xs i d h))
 
--- what holds anyway holds on an error
-pub on_err : {T E : Type 0} (r : Result T E) (P : Type 0) → P → OnErr r P
-on_err (Ok x) P p = tt
-on_err (Err e) P p = p
-
 -- the same piece, written otherwise
 pub passes_same : (a b : Option (List ℕ)) (p q xs ys : List ℕ) → xs ≡ ys → Passes a b p q xs → Passes a b p q ys
 passes_same a b p q xs ys e h = subst (λ (t : List ℕ). Passes a b p q t) e h
@@ -87,32 +82,10 @@ passes_same a b p q xs ys e h = subst (λ (t : List ℕ). Passes a b p q t) e h
 pub prefix_same : (a b : Option (List ℕ)) (p xs ys : List ℕ) → xs ≡ ys → AppendsPrefix a b (p ++ xs) → AppendsPrefix a b (p ++ ys)
 prefix_same a b p xs ys e h = subst (λ (t : List ℕ). AppendsPrefix a b (p ++ t)) e h
 
--- a piece passed and then another one, which are all, or not
-pub two_ok : {T E : Type 0} (r : Result T E) (a b c : Option (List ℕ)) (p q s xs ys all : List ℕ) → Passes a b p q xs → xs ++ ys ≡ all
-    → OnOk r (Passes b c q s ys) → OnOk r (Passes a c p s all)
-two_ok r a b c p q s xs ys all first e h = on_ok_weaker r (λ second. passes_all a b c p q s xs ys all first second e) h
-
-pub two_err : {T E : Type 0} (r : Result T E) (a b c : Option (List ℕ)) (p q xs ys all : List ℕ) → Passes a b p q xs → xs ++ ys ≡ all
-    → OnErr r (AppendsPrefix b c (q ++ ys)) → OnErr r (AppendsPrefix a c (p ++ all))
-two_err r a b c p q xs ys all first e h =
-    on_err_weaker r (λ front. prefix_within a b c p q xs ys [] all first front (ap (λ (t : List ℕ). xs ++ t) (append-nil ys) ∙ e)) h
-
--- a front part of the first piece is one of all
-pub first_err : {T E : Type 0} (r : Result T E) (a b : Option (List ℕ)) (p xs ys all : List ℕ) → xs ++ ys ≡ all
-    → AppendsPrefix a b (p ++ xs) → OnErr r (AppendsPrefix a b (p ++ all))
-first_err r a b p xs ys all e h =
-    let same : (p ++ xs) ++ ys ≡ p ++ all = append_assoc p xs ys ∙ ap (λ (t : List ℕ). p ++ t) e in
-    on_err r _ (subst (AppendsPrefix a b) same (prefix_more a b (p ++ xs) ys h))
-
-pub err_same : {T E : Type 0} (r : Result T E) (a b : Option (List ℕ)) (p xs ys : List ℕ) → xs ≡ ys → OnErr r (AppendsPrefix a b (p ++ xs)) → OnErr r (AppendsPrefix a b (p ++ ys))
-err_same r a b p xs ys e h = on_err_weaker r (λ front. prefix_same a b p xs ys e front) h
-
+-- what holds anyway holds on a success
 pub on_ok : {T E : Type 0} (r : Result T E) (P : Type 0) → P → OnOk r P
 on_ok (Ok x) P p = p
 on_ok (Err e) P p = tt
-
-pub ok_same : {T E : Type 0} (r : Result T E) (a b : Option (List ℕ)) (p q xs ys : List ℕ) → xs ≡ ys → OnOk r (Passes a b p q xs) → OnOk r (Passes a b p q ys)
-ok_same r a b p q xs ys e h = on_ok_weaker r (λ piece. passes_same a b p q xs ys e piece) h
 
 -- from an empty page
 pub passes_from_empty : (a b : Option (List ℕ)) (p q xs : List ℕ) → p ≡ [] → Passes a b p q xs → Passes a b [] q xs

@@ -1,10 +1,9 @@
 ghost use Rattle.std.specs.Prelude.{◌≡◌, ℕ, ◌+◌, ◌*◌, ◌/◌, ◌%◌, ◌≤◌, ◌<◌, ◌++◌, false, length, OnOk, OnErr, IfNone};
-ghost use Rattle.usb_base.specs.Outside.{AppendsPrefix, one_more};
 ghost use Rattle.link_words.specs.Links.{IsAligned as IsLinkAligned, address_of, is_end};
 ghost use Rattle.image_codec.specs.Image.{IsAligned};
 ghost use Rattle.image_codec.specs.Linked.{count, list_text, passed};
 ghost use Rattle.image_codec.specs.Marks.{is_marked_before, AreMarks};
-ghost use Rattle.image_codec.specs.Printing.{Passes};
+ghost use Rattle.image_codec.specs.Printing.{PrintsOn};
 ghost use Rattle.image_codec.specs.Shown.{bad_of, chain, chain_ending, end_of, is_fstn, is_home, is_queue_head, seen_before, size_of, units};
 
 use crate::ending::Ending;
@@ -42,11 +41,7 @@ pub fn put_chain<K: Sink>(
     requires frames { place.frames ≤ 1024 }
     requires marks { AreMarks lists.old queues.old (place.frames + 1) (seen_before image.now place.frames) }
     requires aligned { IsLinkAligned first }
-    ensures ok { OnOk result (Passes (K.written sink.old) (K.written sink.new) page.old page.new (list_text (chain image.now.words place.home (seen_before image.now place.frames)) first)) }
-    ensures err { OnErr result (AppendsPrefix (K.written sink.old) (K.written sink.new) (page.old ++ list_text (chain image.now.words place.home (seen_before image.now place.frames)) first)) }
-    ensures stays { OnOk result (K.faults sink.new ≡ K.faults sink.old) }
-    ensures rises { OnErr result (K.faults sink.new ≡ one_more (K.faults sink.old)) }
-    ensures counted { K.faults sink.old ≤ K.faults sink.new }
+    ensures printed { PrintsOn K.written K.faults sink.old sink.new page.old page.new result (list_text (chain image.now.words place.home (seen_before image.now place.frames)) first) }
     ensures marked { let l = chain image.now.words place.home (seen_before image.now place.frames) in
         OnOk result (AreMarks lists.new queues.new (place.frames + 2) (seen_before image.now place.frames ++ passed l first (count l first))) }
 {

@@ -1,10 +1,9 @@
 ghost use Rattle.std.specs.Prelude.{◌≡◌, ℕ, ◌+◌, ◌≤◌, ◌<◌, ◌++◌, None, length, OnOk, OnErr};
-ghost use Rattle.usb_base.specs.Outside.{AppendsPrefix, one_more};
 ghost use Rattle.link_words.specs.Links.{IsAligned as IsLinkAligned};
 ghost use Rattle.image_codec.specs.Image.{IsAligned};
 ghost use Rattle.image_codec.specs.Linked.{count, list_text, passed};
 ghost use Rattle.image_codec.specs.Marks.{AreMarks};
-ghost use Rattle.image_codec.specs.Printing.{Passes};
+ghost use Rattle.image_codec.specs.Printing.{PrintsOn};
 ghost use Rattle.image_codec.specs.Shown.{chain, element_at, frame_first, frame_line, frame_text, frames_text, outside_text, ring_text, seen_before, units};
 
 use crate::chain::{Place, put_chain};
@@ -31,11 +30,7 @@ pub fn put_frames<K: Sink>(
     requires lists_whole { length lists.old ≡ units image.now.words }
     requires queues_whole { length queues.old ≡ units image.now.words }
     requires marks { AreMarks lists.old queues.old 1 (seen_before image.now 0) }
-    ensures ok { OnOk result (Passes (K.written sink.old) (K.written sink.new) page.old page.new (frames_text image.now 1024)) }
-    ensures err { OnErr result (AppendsPrefix (K.written sink.old) (K.written sink.new) (page.old ++ frames_text image.now 1024)) }
-    ensures stays { OnOk result (K.faults sink.new ≡ K.faults sink.old) }
-    ensures rises { OnErr result (K.faults sink.new ≡ one_more (K.faults sink.old)) }
-    ensures counted { K.faults sink.old ≤ K.faults sink.new }
+    ensures printed { PrintsOn K.written K.faults sink.old sink.new page.old page.new result (frames_text image.now 1024) }
     ensures marked { OnOk result (AreMarks lists.new queues.new 1025 (seen_before image.now 1024)) }
 {
     for n in 0..FRAMES {
@@ -57,11 +52,7 @@ pub fn put_ring<K: Sink>(
     requires lists_whole { length lists.old ≡ units image.now.words }
     requires queues_whole { length queues.old ≡ units image.now.words }
     requires marks { AreMarks lists.old queues.old 1025 (seen_before image.now 1024) }
-    ensures ok { OnOk result (Passes (K.written sink.old) (K.written sink.new) page.old page.new (ring_text image.now)) }
-    ensures err { OnErr result (AppendsPrefix (K.written sink.old) (K.written sink.new) (page.old ++ ring_text image.now)) }
-    ensures stays { OnOk result (K.faults sink.new ≡ K.faults sink.old) }
-    ensures rises { OnErr result (K.faults sink.new ≡ one_more (K.faults sink.old)) }
-    ensures counted { K.faults sink.old ≤ K.faults sink.new }
+    ensures { PrintsOn K.written K.faults sink.old sink.new page.old page.new result (ring_text image.now) }
 {
     page.put(sink, b"async\n")?;
     let place = Place {
@@ -92,11 +83,7 @@ fn put_frame<K: Sink>(
     requires queues_whole { length queues.old ≡ units image.now.words }
     requires frame { n < 1024 }
     requires marks { AreMarks lists.old queues.old (n + 1) (seen_before image.now n) }
-    ensures ok { OnOk result (Passes (K.written sink.old) (K.written sink.new) page.old page.new (frame_text image.now n)) }
-    ensures err { OnErr result (AppendsPrefix (K.written sink.old) (K.written sink.new) (page.old ++ frame_text image.now n)) }
-    ensures stays { OnOk result (K.faults sink.new ≡ K.faults sink.old) }
-    ensures rises { OnErr result (K.faults sink.new ≡ one_more (K.faults sink.old)) }
-    ensures counted { K.faults sink.old ≤ K.faults sink.new }
+    ensures printed { PrintsOn K.written K.faults sink.old sink.new page.old page.new result (frame_text image.now n) }
     ensures marked { OnOk result (AreMarks lists.new queues.new (n + 2) (seen_before image.now (n + 1))) }
 {
     let words = image.words.as_slice();
@@ -126,11 +113,7 @@ fn put_listed<K: Sink>(
     requires frame { n < 1024 }
     requires marks { AreMarks lists.old queues.old (n + 1) (seen_before image.now n) }
     requires aligned { IsLinkAligned first }
-    ensures ok { OnOk result (Passes (K.written sink.old) (K.written sink.new) page.old page.new (frame_line n ++ list_text (chain image.now.words None (seen_before image.now n)) first)) }
-    ensures err { OnErr result (AppendsPrefix (K.written sink.old) (K.written sink.new) (page.old ++ (frame_line n ++ list_text (chain image.now.words None (seen_before image.now n)) first))) }
-    ensures stays { OnOk result (K.faults sink.new ≡ K.faults sink.old) }
-    ensures rises { OnErr result (K.faults sink.new ≡ one_more (K.faults sink.old)) }
-    ensures counted { K.faults sink.old ≤ K.faults sink.new }
+    ensures printed { PrintsOn K.written K.faults sink.old sink.new page.old page.new result (frame_line n ++ list_text (chain image.now.words None (seen_before image.now n)) first) }
     ensures marked { let l = chain image.now.words None (seen_before image.now n) in
         OnOk result (AreMarks lists.new queues.new (n + 2) (seen_before image.now n ++ passed l first (count l first))) }
 {
@@ -143,11 +126,7 @@ fn put_listed<K: Sink>(
 }
 
 fn put_outside<K: Sink>(page: &mut Page, sink: &mut K, n: u32, at: u32) -> Result<(), Failed>
-    ensures ok { OnOk result (Passes (K.written sink.old) (K.written sink.new) page.old page.new (outside_text n at)) }
-    ensures err { OnErr result (AppendsPrefix (K.written sink.old) (K.written sink.new) (page.old ++ outside_text n at)) }
-    ensures stays { OnOk result (K.faults sink.new ≡ K.faults sink.old) }
-    ensures rises { OnErr result (K.faults sink.new ≡ one_more (K.faults sink.old)) }
-    ensures counted { K.faults sink.old ≤ K.faults sink.new }
+    ensures { PrintsOn K.written K.faults sink.old sink.new page.old page.new result (outside_text n at) }
 {
     page.put(sink, line_of_frame(n).as_slice())?;
     page.put(sink, line_of_ending(b"  ", Ending::Outside(at)).as_slice())

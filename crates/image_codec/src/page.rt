@@ -1,8 +1,7 @@
 ghost use Rattle.std.specs.Prelude.{◌≡◌, ℕ, ◌≤◌, ◌+◌, ◌++◌, List, [], length, OnOk, OnErr};
-ghost use Rattle.std.specs.Io.KnownBytes.{Appends};
 ghost use Rattle.arrayvec.specs.ArrayVec.{array_vec_len};
-ghost use Rattle.usb_base.specs.Outside.{AppendsPrefix, one_more};
-ghost use Rattle.image_codec.specs.Printing.{Passes};
+ghost use Rattle.usb_base.specs.Outside.{AppendsPrefix, Prints, one_more};
+ghost use Rattle.image_codec.specs.Printing.{Passes, PrintsOn};
 
 use arrayvec::ArrayVec;
 use std::marker::Model;
@@ -33,11 +32,7 @@ impl Page {
     /// Hands on a piece of at most 4,096 bytes. `Failed` comes only where the sink's count of faults rose.
     pub fn put<K: Sink>(&mut self, sink: &mut K, piece: &[u8]) -> Result<(), Failed>
         requires { length piece.now ≤ 4096 }
-        ensures ok { OnOk result (Passes (K.written sink.old) (K.written sink.new) self.old self.new piece.now) }
-        ensures err { OnErr result (AppendsPrefix (K.written sink.old) (K.written sink.new) (self.old ++ piece.now)) }
-        ensures stays { OnOk result (K.faults sink.new ≡ K.faults sink.old) }
-        ensures rises { OnErr result (K.faults sink.new ≡ one_more (K.faults sink.old)) }
-        ensures counted { K.faults sink.old ≤ K.faults sink.new }
+        ensures { PrintsOn K.written K.faults sink.old sink.new self.old self.new result piece.now }
     {
         self.make_room(sink, piece.len())?;
         self.append(piece);
@@ -47,11 +42,7 @@ impl Page {
     /// Writes what the page holds.
     pub fn flush<K: Sink>(&mut self, sink: &mut K) -> Result<(), Failed>
         ensures empty { OnOk result (self.new ≡ []) }
-        ensures ok { OnOk result (Appends (K.written sink.old) (K.written sink.new) self.old) }
-        ensures err { OnErr result (AppendsPrefix (K.written sink.old) (K.written sink.new) self.old) }
-        ensures stays { OnOk result (K.faults sink.new ≡ K.faults sink.old) }
-        ensures rises { OnErr result (K.faults sink.new ≡ one_more (K.faults sink.old)) }
-        ensures counted { K.faults sink.old ≤ K.faults sink.new }
+        ensures printed { Prints K.written K.faults sink.old sink.new result self.old }
     {
         write_all(sink, self.bytes.as_slice())?;
         self.bytes.clear();

@@ -1,9 +1,8 @@
 ghost use Rattle.std.specs.Prelude.{◌≡◌, ℕ, ◌+◌, ◌*◌, ◌/◌, ◌%◌, ◌≤◌, ◌<◌, ◌⊎◌, ◌++◌, false, length, slice_index, slice_set, OnOk, OnErr, IfNone};
-ghost use Rattle.usb_base.specs.Outside.{AppendsPrefix, one_more};
 ghost use Rattle.link_words.specs.Links.{IsQtdAligned};
 ghost use Rattle.image_codec.specs.Linked.{list_text};
 ghost use Rattle.image_codec.specs.Marks.{is_marked, IsFresh};
-ghost use Rattle.image_codec.specs.Printing.{Passes};
+ghost use Rattle.image_codec.specs.Printing.{PrintsOn};
 ghost use Rattle.image_codec.specs.Shown.{descriptor_text, is_outside, next_in_queue, queue, queue_address, queue_ending, units};
 
 use crate::ending::Ending;
@@ -28,11 +27,7 @@ pub fn put_queue<K: Sink>(
     requires whole { length marks.old ≡ units words.now }
     requires fresh { IsFresh marks.old head }
     requires aligned { IsQtdAligned first }
-    ensures ok { OnOk result (Passes (K.written sink.old) (K.written sink.new) page.old page.new (list_text (queue words.now) first)) }
-    ensures err { OnErr result (AppendsPrefix (K.written sink.old) (K.written sink.new) (page.old ++ list_text (queue words.now) first)) }
-    ensures stays { OnOk result (K.faults sink.new ≡ K.faults sink.old) }
-    ensures rises { OnErr result (K.faults sink.new ≡ one_more (K.faults sink.old)) }
-    ensures counted { K.faults sink.old ≤ K.faults sink.new }
+    ensures printed { PrintsOn K.written K.faults sink.old sink.new page.old page.new result (list_text (queue words.now) first) }
     ensures marks { (u : ℕ) → (slice_index marks.new u ≡ head) ⊎ (slice_index marks.new u ≡ slice_index marks.old u) }
 {
     let mut link = first;
@@ -97,11 +92,7 @@ fn put_descriptor<K: Sink>(
 ) -> Result<(), Failed>
     requires memory { length words.now ≤ 262144 }
     requires inside { at + 32 ≤ 4 * length words.now }
-    ensures ok { OnOk result (Passes (K.written sink.old) (K.written sink.new) page.old page.new (descriptor_text words.now at)) }
-    ensures err { OnErr result (AppendsPrefix (K.written sink.old) (K.written sink.new) (page.old ++ descriptor_text words.now at)) }
-    ensures stays { OnOk result (K.faults sink.new ≡ K.faults sink.old) }
-    ensures rises { OnErr result (K.faults sink.new ≡ one_more (K.faults sink.old)) }
-    ensures counted { K.faults sink.old ≤ K.faults sink.new }
+    ensures { PrintsOn K.written K.faults sink.old sink.new page.old page.new result (descriptor_text words.now at) }
 {
     page.put(sink, line_of_descriptor(words, at).as_slice())
 }

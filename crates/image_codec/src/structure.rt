@@ -1,8 +1,7 @@
 ghost use Rattle.std.specs.Prelude.{◌≡◌, ℕ, ◌+◌, ◌*◌, ◌%◌, ◌≤◌, ◌⊎◌, ◌++◌, true, length, slice_index, OnOk, OnErr};
-ghost use Rattle.usb_base.specs.Outside.{AppendsPrefix, one_more};
 ghost use Rattle.link_words.specs.Links.{address_of};
 ghost use Rattle.image_codec.specs.Marks.{IsFresh};
-ghost use Rattle.image_codec.specs.Printing.{Passes};
+ghost use Rattle.image_codec.specs.Printing.{PrintsOn};
 ghost use Rattle.image_codec.specs.Shown.{is_queue_head, itd_at_address, itd_text, qh_text, queue_head, sitd_at_address, sitd_text, size_of, structure_text, units};
 
 use crate::line::Line;
@@ -26,11 +25,7 @@ pub fn put_structure<K: Sink>(
     requires whole { length queues.old ≡ units words.now }
     requires inside { address_of link + 4 * size_of link ≤ 4 * length words.now }
     requires fresh { is_queue_head link ≡ true → IsFresh queues.old (address_of link) }
-    ensures ok { OnOk result (Passes (K.written sink.old) (K.written sink.new) page.old page.new (structure_text words.now link)) }
-    ensures err { OnErr result (AppendsPrefix (K.written sink.old) (K.written sink.new) (page.old ++ structure_text words.now link)) }
-    ensures stays { OnOk result (K.faults sink.new ≡ K.faults sink.old) }
-    ensures rises { OnErr result (K.faults sink.new ≡ one_more (K.faults sink.old)) }
-    ensures counted { K.faults sink.old ≤ K.faults sink.new }
+    ensures printed { PrintsOn K.written K.faults sink.old sink.new page.old page.new result (structure_text words.now link) }
     ensures queues { (u : ℕ) → (slice_index queues.new u ≡ address_of link) ⊎ (slice_index queues.new u ≡ slice_index queues.old u) }
 {
     match link {
@@ -72,11 +67,7 @@ fn put_queue_head<K: Sink>(
     requires whole { length queues.old ≡ units words.now }
     requires inside { at + 48 ≤ 4 * length words.now }
     requires fresh { IsFresh queues.old at }
-    ensures ok { OnOk result (Passes (K.written sink.old) (K.written sink.new) page.old page.new (qh_text words.now at (queue_head words.now at))) }
-    ensures err { OnErr result (AppendsPrefix (K.written sink.old) (K.written sink.new) (page.old ++ qh_text words.now at (queue_head words.now at))) }
-    ensures stays { OnOk result (K.faults sink.new ≡ K.faults sink.old) }
-    ensures rises { OnErr result (K.faults sink.new ≡ one_more (K.faults sink.old)) }
-    ensures counted { K.faults sink.old ≤ K.faults sink.new }
+    ensures printed { PrintsOn K.written K.faults sink.old sink.new page.old page.new result (qh_text words.now at (queue_head words.now at)) }
     ensures queues { (u : ℕ) → (slice_index queues.new u ≡ at) ⊎ (slice_index queues.new u ≡ slice_index queues.old u) }
 {
     let head = match read_queue_head(words, at) {

@@ -1,8 +1,8 @@
-ghost use Rattle.std.specs.Prelude.{◌≡◌, ℕ, ◌≤◌, ◌<◌, ◌++◌, length, OnOk, OnErr};
+ghost use Rattle.std.specs.Prelude.{◌≡◌, ℕ, ◌≤◌, ◌<◌, ◌++◌, length};
 ghost use Rattle.std.specs.List.{flat_map};
-ghost use Rattle.usb_base.specs.Outside.{AppendsPrefix, Prints, one_more};
+ghost use Rattle.usb_base.specs.Outside.{Prints};
 ghost use Rattle.image_codec.specs.Image.{field_bytes, header_bytes, image_bytes, IsAligned};
-ghost use Rattle.image_codec.specs.Printing.{Passes};
+ghost use Rattle.image_codec.specs.Printing.{PrintsOn};
 
 use crate::image::Image;
 use crate::page::Page;
@@ -45,11 +45,7 @@ fn bytes_of(word: u32) -> [u8; 4]
 }
 
 fn put_words<K: Sink>(page: &mut Page, sink: &mut K, words: &[u32]) -> Result<(), Failed>
-    ensures ok { OnOk result (Passes (K.written sink.old) (K.written sink.new) page.old page.new (flat_map field_bytes words.now)) }
-    ensures err { OnErr result (AppendsPrefix (K.written sink.old) (K.written sink.new) (page.old ++ flat_map field_bytes words.now)) }
-    ensures stays { OnOk result (K.faults sink.new ≡ K.faults sink.old) }
-    ensures rises { OnErr result (K.faults sink.new ≡ one_more (K.faults sink.old)) }
-    ensures counted { K.faults sink.old ≤ K.faults sink.new }
+    ensures { PrintsOn K.written K.faults sink.old sink.new page.old page.new result (flat_map field_bytes words.now) }
 {
     for word in words {
         page.put(sink, &bytes_of(*word))?;

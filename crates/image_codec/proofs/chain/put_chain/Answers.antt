@@ -1,5 +1,7 @@
 use Rattle.std.proofs.Common.{◌≡◌, ℕ, suc, ◌+◌, ◌/◌, ◌%◌, ◌<◌, ◌++◌, Bool, ltb, List, length, set, Option, Some, None, refl, sym, ap, subst, ◌∙◌, arith}
 use Rattle.std.proofs.lemmas.Bool.{lt-ltb}
+use Rattle.std.proofs.lemmas.Result.{err_from_is_err_and, on_err_weaker, on_ok_weaker}
+use Rattle.usb_base.specs.Outside.{one_more}
 use Rattle.std.proofs.lemmas.List.{length-set}
 use Rattle.link_words.specs.declared.kinds.Link.{Link}
 use Rattle.link_words.specs.Links.{link_read, address_of}
@@ -9,7 +11,7 @@ use Rattle.image_codec.specs.Marks.{is_marked, is_marked_before, AreMarks}
 use Rattle.image_codec.specs.Shown.{chain, chain_ending, next_in_chain, seen_before, structure_text, word_at}
 use Rattle.image_codec.proofs.Listing.{Stage, ends_here, put_ending_err, put_ending_ok, stage-goes_err, stage-more, stage-none}
 use Rattle.image_codec.proofs.Marking.{InList, are_marks-next, fresh-first, in_list-first, in_list-more}
-use Rattle.image_codec.proofs.Passing.{on_err, on_ok, passes_same, prefix_same}
+use Rattle.image_codec.proofs.Passing.{on_ok, passes_same, prefix_same}
 use Rattle.image_codec.proofs.chain.put_chain.Goals as goal
 
 -- the link's address is a multiple of 32
@@ -71,8 +73,8 @@ loop-ending-init g c =
       same = refl;
     }
 
-pub returns-in-Some-clause-ok : goal.returns-in-Some-clause-ok
-returns-in-Some-clause-ok g c =
+pub returns-in-Some-clause-printed : goal.returns-in-Some-clause-printed
+returns-in-Some-clause-printed g c =
     let seen = seen_before c.args.image.now c.args.place.frames in
     let l = chain c.args.image.now.words c.args.place.home seen in
     let k = c.loop-ending.invariant.stage.0 in
@@ -83,23 +85,15 @@ returns-in-Some-clause-ok g c =
     c.as_slice-words.ensures c.address-at.ensures.address c.has_mark-here.ensures c.has_earlier_mark-earlier.ensures
     (c.loop-ending.invariant.marks.earlier (address_of c.loop-ending.link) aligned) c.loop-ending.invariant.stage.1.1
     c.ending_of.ensures.ending c.in-Some.is in
-    put_ending_ok l c.args.first (c.args.place.frames + 1) c.loop-ending.lists c.put.result c.loop-ending.link k _ _ _ _ _ _ _ c.in-Some.ending s
-    aligned ends (c.as_slice.ensures.bytes ∙ c.line_of_ending.ensures) c.put.ensures.ok
-
-pub returns-in-Some-clause-err : goal.returns-in-Some-clause-err
-returns-in-Some-clause-err g c =
-    let seen = seen_before c.args.image.now c.args.place.frames in
-    let l = chain c.args.image.now.words c.args.place.home seen in
-    let k = c.loop-ending.invariant.stage.0 in
-    let aligned = multiple c.address-at.result c.loop-ending.link c.address-at.ensures.address (c.address-at.ensures.aligned c.loop-ending.invariant.aligned) in
-    let s = c.loop-ending.invariant.stage.1.0 in
-    let ends = found c.args.image.now.words c.as_slice-words.result.now seen c.loop-ending.lists c.args.place.home (c.args.place.frames + 1) c.address-at.result k
-    c.loop-ending.begun c.has_mark-here.result c.has_earlier_mark-earlier.result c.loop-ending.link c.ending_of.result (Some c.in-Some.ending)
-    c.as_slice-words.ensures c.address-at.ensures.address c.has_mark-here.ensures c.has_earlier_mark-earlier.ensures
-    (c.loop-ending.invariant.marks.earlier (address_of c.loop-ending.link) aligned) c.loop-ending.invariant.stage.1.1
-    c.ending_of.ensures.ending c.in-Some.is in
-    put_ending_err l c.args.first (c.args.place.frames + 1) c.loop-ending.lists c.put.result c.loop-ending.link k _ _ _ _ _ _ c.in-Some.ending s
-    aligned ends (c.as_slice.ensures.bytes ∙ c.line_of_ending.ensures) c.put.ensures.err
+    record {
+      ok = put_ending_ok l c.args.first (c.args.place.frames + 1) c.loop-ending.lists c.put.result c.loop-ending.link k _ _ _ _ _ _ _ c.in-Some.ending s
+          aligned ends (c.as_slice.ensures.bytes ∙ c.line_of_ending.ensures) c.put.ensures.ok;
+      err = put_ending_err l c.args.first (c.args.place.frames + 1) c.loop-ending.lists c.put.result c.loop-ending.link k _ _ _ _ _ _ c.in-Some.ending s
+          aligned ends (c.as_slice.ensures.bytes ∙ c.line_of_ending.ensures) c.put.ensures.err;
+      stays = on_ok_weaker c.put.result (λ h. h ∙ c.loop-ending.invariant.same) c.put.ensures.stays;
+      rises = on_err_weaker c.put.result (λ h. h ∙ ap one_more c.loop-ending.invariant.same) c.put.ensures.rises;
+      counted = omega (arith, c.put.ensures.counted, c.loop-ending.invariant.counted);
+    }
 
 pub returns-in-Some-clause-marked : goal.returns-in-Some-clause-marked
 returns-in-Some-clause-marked g c =
@@ -116,8 +110,8 @@ returns-in-Some-clause-marked g c =
     let here = ends_here l c.args.first (c.args.place.frames + 1) c.loop-ending.lists k c.loop-ending.link s.shown c.in-Some.ending s.progress aligned ends in
     on_ok c.put.result _ (next_marks l c.args.first c.loop-ending.lists c.loop-ending.queues seen c.args.place.frames k c.loop-ending.invariant.marks s.progress.marked here.0)
 
-pub returns-in_err-put_structure-clause-err : goal.returns-in_err-put_structure-clause-err
-returns-in_err-put_structure-clause-err g c =
+pub returns-in_err-put_structure-clause-printed : goal.returns-in_err-put_structure-clause-printed
+returns-in_err-put_structure-clause-printed g c =
     let seen = seen_before c.args.image.now c.args.place.frames in
     let l = chain c.args.image.now.words c.args.place.home seen in
     let k = c.loop-ending.invariant.stage.0 in
@@ -132,9 +126,15 @@ returns-in_err-put_structure-clause-err g c =
     let long = ap length c.as_slice-words.ensures in
     let inside : address_of c.loop-ending.link / 32 < length c.loop-ending.lists =
     omega (arith, long, c.loop-ending.invariant.lists_whole, c.in_default.ensures.inside, c.in_default.ensures.size, aligned) in
-    let piece = prefix_same _ _ c.loop-ending.page _ _ (ap (λ (x : List ℕ). structure_text x c.loop-ending.link) c.as_slice-words.ensures) c.in_err-put_structure.ensures.err in
-    on_err c.from_residual.result _ (stage-goes_err l c.args.first (c.args.place.frames + 1) c.loop-ending.lists c.loop-ending.link k _ _ _ _ _ s
-    aligned inside fresh goes piece)
+    let piece = prefix_same _ _ c.loop-ending.page _ _ (ap (λ (x : List ℕ). structure_text x c.loop-ending.link) c.as_slice-words.ensures) c.in_err-put_structure.ensures.printed.err in
+    let p = err_from_is_err_and c.from_residual.result c.from_residual.ensures.1 in
+    rw p.1 (record {
+      ok = tt;
+      err = stage-goes_err l c.args.first (c.args.place.frames + 1) c.loop-ending.lists c.loop-ending.link k _ _ _ _ _ s aligned inside fresh goes piece;
+      stays = tt;
+      rises = c.in_err-put_structure.ensures.printed.rises ∙ ap one_more c.loop-ending.invariant.same;
+      counted = omega (arith, c.in_err-put_structure.ensures.printed.counted, c.loop-ending.invariant.counted);
+    })
 
 pub loop-ending-preserved : goal.loop-ending-preserved
 loop-ending-preserved g c =
@@ -153,7 +153,7 @@ loop-ending-preserved g c =
     let inside : address_of c.loop-ending.link / 32 < length c.loop-ending.lists =
     omega (arith, long, c.loop-ending.invariant.lists_whole, c.in_default.ensures.inside, c.in_default.ensures.size, aligned) in
     let unseen = sym (c.has_earlier_mark-earlier.ensures ∙ ap (is_marked_before c.loop-ending.lists (c.args.place.frames + 1)) c.address-at.ensures.address) ∙ c.in_default.ensures.unseen in
-    let piece = passes_same _ _ _ _ _ _ (ap (λ (x : List ℕ). structure_text x c.loop-ending.link) c.as_slice-words.ensures) c.in_ok-put_structure.ensures.ok in
+    let piece = passes_same _ _ _ _ _ _ (ap (λ (x : List ℕ). structure_text x c.loop-ending.link) c.as_slice-words.ensures) c.in_ok-put_structure.ensures.printed.ok in
     let more = stage-more l c.args.first (c.args.place.frames + 1) c.loop-ending.lists c.loop-ending.link k _ _ _ _ _ _ s aligned inside fresh goes piece in
     let marks = in_list-more c.loop-ending.lists c.loop-ending.queues c.put_structure.new.queues (c.args.place.frames + 1) seen (address_of c.loop-ending.link)
     c.loop-ending.invariant.marks aligned inside (omega arith) unseen c.put_structure.auto.queues c.in_ok-put_structure.ensures.queues in
@@ -172,6 +172,6 @@ loop-ending-preserved g c =
       );
       marks = subst (λ (x : ℕ). InList (set c.loop-ending.lists (x / 32) (c.args.place.frames + 1)) c.put_structure.new.queues (c.args.place.frames + 1) seen)
           (sym c.address-at.ensures.address) marks;
-      counted = omega (arith, c.loop-ending.invariant.counted, c.in_ok-put_structure.ensures.counted);
-      same = c.in_ok-put_structure.ensures.stays ∙ c.loop-ending.invariant.same;
+      counted = omega (arith, c.loop-ending.invariant.counted, c.in_ok-put_structure.ensures.printed.counted);
+      same = c.in_ok-put_structure.ensures.printed.stays ∙ c.loop-ending.invariant.same;
     }

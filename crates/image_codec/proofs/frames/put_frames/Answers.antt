@@ -1,8 +1,10 @@
+use Rattle.std.proofs.lemmas.Result.{err_from_is_err_and}
 use Rattle.std.proofs.Common.{◌≡◌, ℕ, ◌+◌, subst, arith, refl, ◌∙◌}
 use Rattle.image_codec.specs.Marks.{AreMarks}
 use Rattle.image_codec.specs.Shown.{frame_text, frames_text, seen_before}
 use Rattle.image_codec.proofs.FrameTexts.{frames-front, frames-more, frames-none}
-use Rattle.image_codec.proofs.Passing.{on_err, passes_all, passes_none, passes_same, prefix_within}
+use Rattle.image_codec.proofs.Passing.{passes_all, passes_none, passes_same}
+use Rattle.image_codec.proofs.Paged.{on_stop}
 use Rattle.image_codec.proofs.frames.put_frames.Goals as goal
 
 pub loop-n-init : goal.loop-n-init
@@ -13,20 +15,20 @@ loop-n-init g c = record {
   same = refl;
 }
 
-pub returns-in_err-put_frame-clause-err : goal.returns-in_err-put_frame-clause-err
-returns-in_err-put_frame-clause-err g c =
+pub returns-in_err-put_frame-clause-printed : goal.returns-in_err-put_frame-clause-printed
+returns-in_err-put_frame-clause-printed g c =
     let rest = frames-front c.args.image.now c.loop-n.n 1024 c.loop-n-test.true in
-    on_err c.from_residual.result _
-    (prefix_within _ _ _ _ _ (frames_text c.args.image.now c.loop-n.n) (frame_text c.args.image.now c.loop-n.n) rest.0 (frames_text c.args.image.now 1024)
-    c.loop-n.invariant.passed c.in_err-put_frame.ensures.err rest.1)
+    let p = err_from_is_err_and c.from_residual.result c.from_residual.ensures.1 in
+    rw p.1 (on_stop _ _ _ _ _ _ _ _ _ _ _ (frames_text c.args.image.now c.loop-n.n) (frame_text c.args.image.now c.loop-n.n) rest.0 (frames_text c.args.image.now 1024)
+    c.loop-n.invariant.passed c.loop-n.invariant.same c.in_err-put_frame.ensures.printed rest.1)
 
 pub loop-n-preserved : goal.loop-n-preserved
 loop-n-preserved g c =
     let two : c.loop-n.n + 2 ≡ c.loop-n.n + 1 + 1 = omega arith in
     record {
       passed = passes_all _ _ _ _ _ _ (frames_text c.args.image.now c.loop-n.n) (frame_text c.args.image.now c.loop-n.n) _ c.loop-n.invariant.passed
-          c.in_ok-put_frame.ensures.ok (frames-more c.args.image.now c.loop-n.n);
+          c.in_ok-put_frame.ensures.printed.ok (frames-more c.args.image.now c.loop-n.n);
       marks = subst (λ (k : ℕ). AreMarks c.put_frame.new.lists c.put_frame.new.queues k (seen_before c.args.image.now (c.loop-n.n + 1))) two c.in_ok-put_frame.ensures.marked;
-      counted = omega (arith, c.loop-n.invariant.counted, c.in_ok-put_frame.ensures.counted);
-      same = c.in_ok-put_frame.ensures.stays ∙ c.loop-n.invariant.same;
+      counted = omega (arith, c.loop-n.invariant.counted, c.in_ok-put_frame.ensures.printed.counted);
+      same = c.in_ok-put_frame.ensures.printed.stays ∙ c.loop-n.invariant.same;
     }

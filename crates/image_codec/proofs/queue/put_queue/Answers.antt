@@ -1,3 +1,5 @@
+use Rattle.std.proofs.lemmas.Result.{err_from_is_err_and, on_err_weaker, on_ok_weaker}
+use Rattle.usb_base.specs.Outside.{one_more}
 use Rattle.std.proofs.Common.{◌≡◌, ℕ, suc, ◌/◌, ◌<◌, Bool, List, length, set, Option, Some, None, inr, refl, sym, ap, subst, ◌∙◌, arith}
 use Rattle.image_codec.specs.declared.ending.Ending.{Ending}
 use Rattle.link_words.specs.declared.kinds.QtdLink.{QtdLink}
@@ -6,7 +8,7 @@ use Rattle.std.proofs.lemmas.List.{length-set}
 use Rattle.image_codec.specs.Marks.{is_marked}
 use Rattle.image_codec.specs.Shown.{descriptor_text, next_in_queue, queue, queue_address, queue_ending, word_at}
 use Rattle.image_codec.proofs.Listing.{Stage, either_mark, put_ending_err, put_ending_ok, stage-goes_err, stage-more, stage-none}
-use Rattle.image_codec.proofs.Passing.{on_err, passes_same, prefix_same}
+use Rattle.image_codec.proofs.Passing.{passes_same, prefix_same}
 use Rattle.image_codec.proofs.queue.put_queue.Goals as goal
 
 -- the ending by the marks is the one that was found
@@ -26,32 +28,38 @@ loop-ending-init g c = record {
   marks = λ u. inr refl;
 }
 
-pub returns-in-Some-clause-ok : goal.returns-in-Some-clause-ok
-returns-in-Some-clause-ok g c =
+pub returns-in-Some-clause-printed : goal.returns-in-Some-clause-printed
+returns-in-Some-clause-printed g c =
     let s = c.loop-ending.invariant.stage in
     let ends = found c.args.words.now c.loop-ending.marks c.args.head c.address_of-at.result c.has_mark-here.result c.loop-ending.link c.ending_of.result (Some c.in-Some.ending)
     c.address_of-at.ensures.address c.has_mark-here.ensures c.ending_of.ensures.ending c.in-Some.is in
-    put_ending_ok (queue c.args.words.now) c.args.first c.args.head c.loop-ending.marks c.put.result c.loop-ending.link s.0 _ _ _ _ _ _ _ c.in-Some.ending s.1
-    c.address_of-at.ensures.aligned ends (c.as_slice.ensures.bytes ∙ c.line_of_ending.ensures) c.put.ensures.ok
+    record {
+      ok = put_ending_ok (queue c.args.words.now) c.args.first c.args.head c.loop-ending.marks c.put.result c.loop-ending.link s.0 _ _ _ _ _ _ _ c.in-Some.ending s.1
+          c.address_of-at.ensures.aligned ends (c.as_slice.ensures.bytes ∙ c.line_of_ending.ensures) c.put.ensures.ok;
+      err = put_ending_err (queue c.args.words.now) c.args.first c.args.head c.loop-ending.marks c.put.result c.loop-ending.link s.0 _ _ _ _ _ _ c.in-Some.ending s.1
+          c.address_of-at.ensures.aligned ends (c.as_slice.ensures.bytes ∙ c.line_of_ending.ensures) c.put.ensures.err;
+      stays = on_ok_weaker c.put.result (λ h. h ∙ c.loop-ending.invariant.same) c.put.ensures.stays;
+      rises = on_err_weaker c.put.result (λ h. h ∙ ap one_more c.loop-ending.invariant.same) c.put.ensures.rises;
+      counted = omega (arith, c.put.ensures.counted, c.loop-ending.invariant.counted);
+    }
 
-pub returns-in-Some-clause-err : goal.returns-in-Some-clause-err
-returns-in-Some-clause-err g c =
-    let s = c.loop-ending.invariant.stage in
-    let ends = found c.args.words.now c.loop-ending.marks c.args.head c.address_of-at.result c.has_mark-here.result c.loop-ending.link c.ending_of.result (Some c.in-Some.ending)
-    c.address_of-at.ensures.address c.has_mark-here.ensures c.ending_of.ensures.ending c.in-Some.is in
-    put_ending_err (queue c.args.words.now) c.args.first c.args.head c.loop-ending.marks c.put.result c.loop-ending.link s.0 _ _ _ _ _ _ c.in-Some.ending s.1
-    c.address_of-at.ensures.aligned ends (c.as_slice.ensures.bytes ∙ c.line_of_ending.ensures) c.put.ensures.err
-
-pub returns-in_err-put_descriptor-clause-err : goal.returns-in_err-put_descriptor-clause-err
-returns-in_err-put_descriptor-clause-err g c =
+pub returns-in_err-put_descriptor-clause-printed : goal.returns-in_err-put_descriptor-clause-printed
+returns-in_err-put_descriptor-clause-printed g c =
+    let p = err_from_is_err_and c.from_residual.result c.from_residual.ensures.1 in
     let s = c.loop-ending.invariant.stage in
     let goes = found c.args.words.now c.loop-ending.marks c.args.head c.address_of-at.result c.has_mark-here.result c.loop-ending.link c.ending_of.result None
     c.address_of-at.ensures.address c.has_mark-here.ensures c.ending_of.ensures.ending c.in_default.is in
     let fresh = sym (c.has_mark-here.ensures ∙ ap (is_marked c.loop-ending.marks c.args.head) c.address_of-at.ensures.address) ∙ c.in_default.ensures.fresh in
     let inside : queue_address c.loop-ending.link / 32 < length c.loop-ending.marks = omega (arith, c.loop-ending.invariant.whole, c.in_default.ensures.inside) in
     let piece = prefix_same _ _ c.loop-ending.page _ _ (ap (descriptor_text c.args.words.now) c.address_of-at.ensures.address) c.in_err-put_descriptor.ensures.err in
-    on_err c.from_residual.result _ (stage-goes_err (queue c.args.words.now) c.args.first c.args.head c.loop-ending.marks c.loop-ending.link s.0 _ _ _ _ _ s.1
-    c.address_of-at.ensures.aligned inside fresh goes piece)
+    rw p.1 (record {
+      ok = tt;
+      err = stage-goes_err (queue c.args.words.now) c.args.first c.args.head c.loop-ending.marks c.loop-ending.link s.0 _ _ _ _ _ s.1
+          c.address_of-at.ensures.aligned inside fresh goes piece;
+      stays = tt;
+      rises = c.in_err-put_descriptor.ensures.rises ∙ ap one_more c.loop-ending.invariant.same;
+      counted = omega (arith, c.in_err-put_descriptor.ensures.counted, c.loop-ending.invariant.counted);
+    })
 
 -- the mark and the link, as the code has them
 moved : (words marks : List ℕ) (first link next : QtdLink) (head at word k : ℕ) (start now : Option (List ℕ)) (held holds : List ℕ)

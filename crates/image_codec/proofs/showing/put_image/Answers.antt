@@ -1,12 +1,13 @@
-use Rattle.std.proofs.Common.{◌≡◌, ℕ, List, [], ◌++◌, sym, ap, subst, ◌∙◌, append_assoc, append-nil, replicate, arith}
-use Rattle.std.proofs.lemmas.Result.{err_from_is_err_and, on_ok_weaker, on_err_weaker}
+use Rattle.std.proofs.Common.{◌≡◌, ℕ, List, [], ◌++◌, refl, sym, ap, subst, ◌∙◌, append_assoc, append-nil, replicate, arith}
+use Rattle.std.proofs.lemmas.Result.{err_from_is_err_and}
 use Rattle.usb_base.specs.Outside.{one_more}
 use Rattle.image_codec.specs.declared.image.Image.{Image}
 use Rattle.image_codec.specs.Marks.{AreMarks}
 use Rattle.image_codec.specs.Shown.{frames_text, header_line, ring_text, seen_before, shown, units}
 use Rattle.image_codec.proofs.FrameTexts.{seen-none}
 use Rattle.image_codec.proofs.Marking.{are_marks-start}
-use Rattle.image_codec.proofs.Passing.{appends_flushed, passes_all, passes_from_empty, passes_join, prefix_all, prefix_flushed, prefix_from_empty, prefix_within}
+use Rattle.image_codec.proofs.Passing.{passes_join, prefix_all, prefix_from_empty, prefix_within}
+use Rattle.image_codec.proofs.Paged.{on_flush, on_join}
 use Rattle.image_codec.proofs.showing.put_image.Goals as goal
 
 whole : (i : Image) (header : List ℕ) → header ≡ header_line i → header ++ (frames_text i 1024 ++ ring_text i) ≡ shown i
@@ -45,17 +46,17 @@ returns-in_err-put_frames g c =
       ok = tt;
       err = prefix_from_empty _ _ c.new-page.result (shown c.args.image.now) c.new-page.ensures
           (prefix_within _ _ _ c.new-page.result _ c.as_slice.result.now (frames_text c.args.image.now 1024) (ring_text c.args.image.now) (shown c.args.image.now)
-          c.in_ok-put.ensures.ok c.in_err-put_frames.ensures.err (whole c.args.image.now c.as_slice.result.now header));
+          c.in_ok-put.ensures.ok c.in_err-put_frames.ensures.printed.err (whole c.args.image.now c.as_slice.result.now header));
       stays = tt;
-      rises = c.in_err-put_frames.ensures.rises ∙ ap one_more c.in_ok-put.ensures.stays;
-      counted = omega (arith, c.in_err-put_frames.ensures.counted, c.in_ok-put.ensures.counted);
+      rises = c.in_err-put_frames.ensures.printed.rises ∙ ap one_more c.in_ok-put.ensures.stays;
+      counted = omega (arith, c.in_err-put_frames.ensures.printed.counted, c.in_ok-put.ensures.counted);
     })
 
 pub returns-in_err-put_ring : goal.returns-in_err-put_ring
 returns-in_err-put_ring g c =
     let p = err_from_is_err_and c.from_residual-in_err-put_ring.result c.from_residual-in_err-put_ring.ensures.1 in
     let header = c.as_slice.ensures.bytes ∙ c.line_of_header.ensures in
-    let front = passes_join _ _ _ c.new-page.result _ _ c.as_slice.result.now (frames_text c.args.image.now 1024) c.in_ok-put.ensures.ok c.in_ok-put_frames.ensures.ok in
+    let front = passes_join _ _ _ c.new-page.result _ _ c.as_slice.result.now (frames_text c.args.image.now 1024) c.in_ok-put.ensures.ok c.in_ok-put_frames.ensures.printed.ok in
     let all = ap (λ (t : List ℕ). (c.as_slice.result.now ++ frames_text c.args.image.now 1024) ++ t) (append-nil (ring_text c.args.image.now))
     ∙ whole_left c.args.image.now c.as_slice.result.now header in
     rw p.1 (record {
@@ -64,22 +65,14 @@ returns-in_err-put_ring g c =
           (prefix_within _ _ _ c.new-page.result _ (c.as_slice.result.now ++ frames_text c.args.image.now 1024) (ring_text c.args.image.now) [] (shown c.args.image.now)
           front c.in_err-put_ring.ensures.err all);
       stays = tt;
-      rises = c.in_err-put_ring.ensures.rises ∙ ap one_more (c.in_ok-put_frames.ensures.stays ∙ c.in_ok-put.ensures.stays);
-      counted = omega (arith, c.in_err-put_ring.ensures.counted, c.in_ok-put_frames.ensures.counted, c.in_ok-put.ensures.counted);
+      rises = c.in_err-put_ring.ensures.rises ∙ ap one_more (c.in_ok-put_frames.ensures.printed.stays ∙ c.in_ok-put.ensures.stays);
+      counted = omega (arith, c.in_err-put_ring.ensures.counted, c.in_ok-put_frames.ensures.printed.counted, c.in_ok-put.ensures.counted);
     })
 
 pub returns : goal.returns
 returns g c =
     let header = c.as_slice.ensures.bytes ∙ c.line_of_header.ensures in
-    let front = passes_join _ _ _ c.new-page.result _ _ c.as_slice.result.now (frames_text c.args.image.now 1024) c.in_ok-put.ensures.ok c.in_ok-put_frames.ensures.ok in
-    let all = passes_all _ _ _ c.new-page.result _ _ (c.as_slice.result.now ++ frames_text c.args.image.now 1024) (ring_text c.args.image.now) (shown c.args.image.now)
-    front c.in_ok-put_ring.ensures.ok (whole_left c.args.image.now c.as_slice.result.now header) in
-    let passed = passes_from_empty _ _ c.new-page.result _ (shown c.args.image.now) c.new-page.ensures all in
-    let same = c.in_ok-put_ring.ensures.stays ∙ c.in_ok-put_frames.ensures.stays ∙ c.in_ok-put.ensures.stays in
-    record {
-      ok = on_ok_weaker c.flush.result (λ h. appends_flushed _ _ _ _ _ passed h) c.flush.ensures.ok;
-      err = on_err_weaker c.flush.result (λ h. prefix_flushed _ _ _ _ _ passed h) c.flush.ensures.err;
-      stays = on_ok_weaker c.flush.result (λ h. h ∙ same) c.flush.ensures.stays;
-      rises = on_err_weaker c.flush.result (λ h. h ∙ ap one_more same) c.flush.ensures.rises;
-      counted = omega (arith, c.flush.ensures.counted, c.in_ok-put_ring.ensures.counted, c.in_ok-put_frames.ensures.counted, c.in_ok-put.ensures.counted);
-    }
+    let front = on_join _ _ _ _ _ _ _ c.new-page.result _ _ c.as_slice.result.now (frames_text c.args.image.now 1024) _ c.in_ok-put.ensures c.in_ok-put_frames.ensures.printed refl in
+    let all = on_join _ _ _ _ _ _ _ c.new-page.result _ _ (c.as_slice.result.now ++ frames_text c.args.image.now 1024) (ring_text c.args.image.now) (shown c.args.image.now)
+    front c.in_ok-put_ring.ensures (whole_left c.args.image.now c.as_slice.result.now header) in
+    on_flush _ _ _ _ _ _ _ c.new-page.result _ _ c.new-page.ensures all c.flush.ensures.printed

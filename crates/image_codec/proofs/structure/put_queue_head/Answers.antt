@@ -1,10 +1,11 @@
+use Rattle.std.proofs.lemmas.Result.{err_from_is_err_and}
 use Rattle.std.proofs.Common.{◌≡◌, ℕ, ◌+◌, ◌++◌, List, Ok, ap, ◌∙◌}
 use Rattle.link_words.specs.declared.kinds.QtdLink.{QtdLink}
 use Rattle.link_words.specs.Links.{qtd_link_read}
 use Rattle.qh_qtd.specs.declared.queue_head.Qh.{Qh}
 use Rattle.image_codec.specs.Linked.{list_text}
 use Rattle.image_codec.specs.Shown.{qh_line, qh_text, queue, queue_head, word_at}
-use Rattle.image_codec.proofs.Passing.{first_err, two_err, two_ok}
+use Rattle.image_codec.proofs.Paged.{on_cut, on_join}
 use Rattle.image_codec.proofs.structure.put_queue_head.Goals as goal
 
 -- the line and the queue are the queue head's text
@@ -22,22 +23,14 @@ begun : (words : List ℕ) (at token : ℕ) (head : Qh) (piece : List ℕ) → p
 begun words at token head piece p t h =
     ap (λ (x : List ℕ). x ++ list_text (queue words) (qtd_link_read (word_at words (at + 16)))) (p ∙ ap (λ (x : ℕ). qh_line at x head) t) ∙ ap (qh_text words at) h
 
-pub returns-in_err-put-clause-err : goal.returns-in_err-put-clause-err
-returns-in_err-put-clause-err g c =
-    first_err c.from_residual.result _ _ c.args.page.now c.as_slice.result.now _ _
-    (begun c.args.words.now c.args.at c.read_word.result c.in-Ok.head c.as_slice.result.now (c.as_slice.ensures.bytes ∙ c.line_of_queue_head-line.ensures) c.read_word.ensures c.in-Ok.ensures)
-    c.in_err-put.ensures.err
+pub returns-in_err-put-clause-printed : goal.returns-in_err-put-clause-printed
+returns-in_err-put-clause-printed g c =
+    let p = err_from_is_err_and c.from_residual.result c.from_residual.ensures.1 in
+    rw p.1 (on_cut _ _ _ _ _ _ _ _ _ c.as_slice.result.now _ _ c.in_err-put.ensures
+    (begun c.args.words.now c.args.at c.read_word.result c.in-Ok.head c.as_slice.result.now (c.as_slice.ensures.bytes ∙ c.line_of_queue_head-line.ensures) c.read_word.ensures c.in-Ok.ensures))
 
-pub returns-clause-ok : goal.returns-clause-ok
-returns-clause-ok g c =
-    two_ok c.put_queue.result _ _ _ _ _ _ c.as_slice.result.now _ _ c.in_ok-put.ensures.ok
+pub returns-clause-printed : goal.returns-clause-printed
+returns-clause-printed g c =
+    on_join _ _ _ _ _ _ _ _ _ _ c.as_slice.result.now _ _ c.in_ok-put.ensures c.put_queue.ensures.printed
     (whole c.args.words.now c.args.at c.read_word.result c.read_word-2.result c.in-Ok.head c.as_slice.result.now c.read_qtd.result
     (c.as_slice.ensures.bytes ∙ c.line_of_queue_head-line.ensures) c.read_word.ensures c.read_qtd.ensures.meaning c.read_word-2.ensures c.in-Ok.ensures)
-    c.put_queue.ensures.ok
-
-pub returns-clause-err : goal.returns-clause-err
-returns-clause-err g c =
-    two_err c.put_queue.result _ _ _ _ _ c.as_slice.result.now _ _ c.in_ok-put.ensures.ok
-    (whole c.args.words.now c.args.at c.read_word.result c.read_word-2.result c.in-Ok.head c.as_slice.result.now c.read_qtd.result
-    (c.as_slice.ensures.bytes ∙ c.line_of_queue_head-line.ensures) c.read_word.ensures c.read_qtd.ensures.meaning c.read_word-2.ensures c.in-Ok.ensures)
-    c.put_queue.ensures.err

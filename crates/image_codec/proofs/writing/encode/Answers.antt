@@ -3,8 +3,9 @@ use Rattle.std.specs.List.{flat_map}
 use Rattle.usb_base.specs.Outside.{AppendsPrefix, one_more}
 use Rattle.image_codec.specs.Image.{field_bytes, header_bytes, image_bytes}
 use Rattle.image_codec.specs.Printing.{Passes}
-use Rattle.std.proofs.lemmas.Result.{err_from_is_err_and, on_ok_weaker, on_err_weaker}
-use Rattle.image_codec.proofs.Passing.{prefix_more, prefix_within, passes_all, appends_flushed, prefix_flushed}
+use Rattle.std.proofs.lemmas.Result.{err_from_is_err_and}
+use Rattle.image_codec.proofs.Passing.{prefix_more, prefix_within}
+use Rattle.image_codec.proofs.Paged.{on_flush, on_join}
 use Rattle.image_codec.proofs.writing.encode.Goals as goal
 
 -- the header and the words are the image
@@ -49,14 +50,6 @@ returns-in_err-put_words g c =
 
 pub returns : goal.returns
 returns g c =
-    let first = from_empty _ _ c.new-page.result _ c.header_of.result c.new-page.ensures c.in_ok-put.ensures.ok in
     let all = whole c.header_of.result c.as_slice.result.now (header_bytes c.args.image.now) c.args.image.now.words c.header_of.ensures c.as_slice.ensures in
-    let passed = passes_all _ _ _ [] _ _ c.header_of.result _ (image_bytes c.args.image.now) first c.in_ok-put_words.ensures.ok all in
-    let same = c.in_ok-put_words.ensures.stays ∙ c.in_ok-put.ensures.stays in
-    record {
-      ok = on_ok_weaker c.flush.result (λ h. appends_flushed _ _ _ _ _ passed h) c.flush.ensures.ok;
-      err = on_err_weaker c.flush.result (λ h. prefix_flushed _ _ _ _ _ passed h) c.flush.ensures.err;
-      stays = on_ok_weaker c.flush.result (λ h. h ∙ same) c.flush.ensures.stays;
-      rises = on_err_weaker c.flush.result (λ h. h ∙ ap one_more same) c.flush.ensures.rises;
-      counted = omega (arith, c.flush.ensures.counted, c.in_ok-put_words.ensures.counted, c.in_ok-put.ensures.counted);
-    }
+    let printed = on_join _ _ _ _ _ _ _ c.new-page.result _ _ c.header_of.result _ (image_bytes c.args.image.now) c.in_ok-put.ensures c.in_ok-put_words.ensures all in
+    on_flush _ _ _ _ _ _ _ c.new-page.result _ _ c.new-page.ensures printed c.flush.ensures.printed

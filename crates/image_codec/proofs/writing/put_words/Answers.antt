@@ -1,16 +1,19 @@
+use Rattle.std.proofs.lemmas.Result.{err_from_is_err_and}
 use Rattle.std.proofs.Common.{length, ap, ◌∙◌, ◌++◌, ◌<◌, List, ℕ, arith, take, drop, ◌+◌}
 use Rattle.std.specs.List.{flat_map}
 use Rattle.image_codec.specs.Image.{field_bytes}
-use Rattle.image_codec.proofs.Passing.{on_err, prefix_within, passes_all, flat_map-at, flat_map-more}
+use Rattle.image_codec.proofs.Passing.{passes_all, flat_map-at, flat_map-more}
+use Rattle.image_codec.proofs.Paged.{on_stop}
 use Rattle.image_codec.proofs.writing.put_words.Goals as goal
 
-pub returns-in_err-put-clause-err : goal.returns-in_err-put-clause-err
-returns-in_err-put-clause-err g c =
+pub returns-in_err-put : goal.returns-in_err-put
+returns-in_err-put g c =
     let at : c.loop-word.word-index < length c.args.words.now = omega arith in
     let rest = flat_map field_bytes (drop (c.loop-word.word-index + 1) c.args.words.now) in
     let front = flat_map field_bytes (take c.loop-word.word-index c.args.words.now) in
     let whole = ap (λ (t : List ℕ). front ++ (t ++ rest)) c.bytes_of.ensures ∙ flat_map-at field_bytes c.args.words.now c.loop-word.word-index 0 at in
-    on_err c.from_residual.result _ (prefix_within _ _ _ _ _ front c.bytes_of.result rest _ c.loop-word.invariant.passed c.in_err-put.ensures.err whole)
+    let p = err_from_is_err_and c.from_residual.result c.from_residual.ensures.1 in
+    rw p.1 (on_stop _ _ _ _ _ _ _ _ _ _ _ front c.bytes_of.result rest _ c.loop-word.invariant.passed c.loop-word.invariant.same c.in_err-put.ensures whole)
 
 pub loop-word-preserved : goal.loop-word-preserved
 loop-word-preserved g c =
