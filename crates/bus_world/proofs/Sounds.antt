@@ -66,7 +66,7 @@ walk_roomy fixed walks.WriteBack p b r = r
 
 turned_roomy : (fixed : Fixed) (row : Row) (c : Content) (b : Bus) → AreRoomy b → AreRoomy (turned_by fixed row c b).bus
 turned_roomy fixed rows.Idle c b r = r
-turned_roomy fixed rows.Begin c b r = begin_roomy (next_index c.registers.frame_index) b r
+turned_roomy fixed rows.Begin c b r = begin_roomy fixed (next_index c.registers.frame_index) b r
 turned_roomy fixed rows.FrameFault c b r = r
 turned_roomy fixed (rows.Enter left) c b r = walk_roomy fixed (event_row (walk_place (entered left.0 c))) (at_event (walk_place (entered left.0 c))) b r
 turned_roomy fixed rows.Go c b r = walk_roomy fixed (event_row (walk_place c)) (at_event (walk_place c)) b r

@@ -45,11 +45,24 @@ impl Model for BelowHub {
 fn ports_enabled(hub: &Hub) -> [bool; 16]
     ensures { result ≡ enabled_ports hub.now }
 {
-    let mut enabled = [false; 16];
-    for port in 0..16 {
-        enabled[port] = hub.enabled(port as u8);
-    }
-    enabled
+    [
+        hub.enabled(0),
+        hub.enabled(1),
+        hub.enabled(2),
+        hub.enabled(3),
+        hub.enabled(4),
+        hub.enabled(5),
+        hub.enabled(6),
+        hub.enabled(7),
+        hub.enabled(8),
+        hub.enabled(9),
+        hub.enabled(10),
+        hub.enabled(11),
+        hub.enabled(12),
+        hub.enabled(13),
+        hub.enabled(14),
+        hub.enabled(15),
+    ]
 }
 
 fn is_new(speed: Speed, frindex: u16) -> bool

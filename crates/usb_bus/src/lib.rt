@@ -15,8 +15,6 @@ mod fixed;
 mod numbers;
 mod places;
 mod seats;
-#[cfg(test)]
-mod tests;
 mod who_heard;
 pub mod worked;
 
