@@ -73,7 +73,7 @@ frame_roomy fixed (Asks ask out left_by) b r = transact_roomy fixed b ask out r
 
 turned_roomy : (fixed : Fixed) (row : Row) (c : Content) (b : Bus) → AreRoomy b → AreRoomy (turned_by fixed row c b).bus
 turned_roomy fixed rows.Idle c b r = r
-turned_roomy fixed rows.Begin c b r = begin_roomy (next_index c.registers.frame_index) b r
+turned_roomy fixed rows.Begin c b r = begin_roomy fixed (next_index c.registers.frame_index) b r
 turned_roomy fixed rows.Frame c b r = frame_roomy fixed (effect_of (frame_place c)) b r
 turned_roomy fixed rows.Enter c b r = walk_roomy fixed (event_row (walk_place (entered c))) (at_event (walk_place (entered c))) b r
 turned_roomy fixed rows.Go c b r = walk_roomy fixed (event_row (walk_place c)) (at_event (walk_place c)) b r

@@ -27,7 +27,7 @@ use Rattle.bus_world.specs.World.{Standing, controller_row, controller_parts, co
 
 -- the relations of the bus
 abbrev pub begins_in : Wired → ℕ → Bool → Wired → Type 0
-begins_in w frindex allowed v = (allowed ≡ is_allowed w.fixed w.bus) × (v ≡ record w { bus = begin_after frindex w.bus })
+begins_in w frindex allowed v = (allowed ≡ is_allowed w.fixed w.bus) × (v ≡ record w { bus = begin_after w.fixed frindex w.bus })
 
 abbrev pub transacts_in : Wired → Ask → List ℕ → Reply → Wired → Type 0
 transacts_in w ask out reply v = (reply ≡ reply_of w.fixed w.bus ask out) × (v ≡ record w { bus = transact_after w.fixed w.bus ask out })
@@ -134,7 +134,7 @@ pub turned_is : (row : Row) (c : Content) (w : Wired) (new : Content) (v : Wired
 turned_is rows.Idle c w new v s = stays_is w c new v s
 turned_is rows.Begin c w new v s = record {
   is =
-      turned_pair new v (began (is_allowed w.fixed w.bus) c) (record w { bus = begin_after (next_index c.registers.frame_index) w.bus })
+      turned_pair new v (began (is_allowed w.fixed w.bus) c) (record w { bus = begin_after w.fixed (next_index c.registers.frame_index) w.bus })
       (s.contents ∙ ap (λ allowed. began allowed c) s.asked.0) s.asked.1;
   fixed = ap (λ (x : Wired). x.fixed) s.asked.1;
 }

@@ -6,7 +6,7 @@ ghost use Rattle.report_text.specs.ReportText.{report_text};
 ghost use Rattle.image_codec.specs.Image.{IsAligned, HasFields};
 ghost use Rattle.word_mem.specs.Memory.{IsShaped};
 ghost use Rattle.endpoint_script.specs.Device.{taken_of};
-ghost use Rattle.bus_world.specs.Closing.{waiting, waiting_text, device_text, told_by, opened_text, closing_text, world_text, world_image};
+ghost use Rattle.bus_world.specs.Closing.{waiting, waiting_text, device_text, hub_text, told_text, opened_text, closing_text, world_text, world_image};
 
 use crate::world::World;
 use endpoint_script::Device;
@@ -59,17 +59,31 @@ impl World {
         self.driver().pending(name)
     }
 
-    /// Writes the line of what the device of an endpoint took, or how often it acted, if there is one.
+    /// Writes the line of how often endpoint 0 of a hub acted, if there is the hub.
+    fn print_hub<K: Sink>(&self, name: &EpName, sink: &mut K) -> Result<(), Failed>
+        ensures ok { OnOk result (Appends (K.written sink.old) (K.written sink.new) (hub_text name.now (find (λ h. h.address == name.now.addr) self.now.world.bus.hubs))) }
+        ensures err { OnErr result (AppendsPrefix (K.written sink.old) (K.written sink.new) (hub_text name.now (find (λ h. h.address == name.now.addr) self.now.world.bus.hubs))) }
+        ensures stays { OnOk result (K.faults sink.new ≡ K.faults sink.old) }
+        ensures rises { OnErr result (K.faults sink.new ≡ one_more (K.faults sink.old)) }
+        ensures counted { K.faults sink.old ≤ K.faults sink.new }
+    {
+        match self.hub(name.addr) {
+            Some(hub) => print_acted(name, hub.acted(), sink),
+            None => Ok(()),
+        }
+    }
+
+    /// Writes the line of what the device of an endpoint took, or how often it or a hub acted, if there is one.
     fn print_told<K: Sink>(&self, seat: &Seat, sink: &mut K) -> Result<(), Failed>
-        ensures ok { OnOk result (Appends (K.written sink.old) (K.written sink.new) (told_by seat.now (find (λ d. d.address == seat.now.name.addr) self.now.world.bus.devices))) }
-        ensures err { OnErr result (AppendsPrefix (K.written sink.old) (K.written sink.new) (told_by seat.now (find (λ d. d.address == seat.now.name.addr) self.now.world.bus.devices))) }
+        ensures ok { OnOk result (Appends (K.written sink.old) (K.written sink.new) (told_text self.now.world.bus seat.now)) }
+        ensures err { OnErr result (AppendsPrefix (K.written sink.old) (K.written sink.new) (told_text self.now.world.bus seat.now)) }
         ensures stays { OnOk result (K.faults sink.new ≡ K.faults sink.old) }
         ensures rises { OnErr result (K.faults sink.new ≡ one_more (K.faults sink.old)) }
         ensures counted { K.faults sink.old ≤ K.faults sink.new }
     {
         match self.device(seat.name.addr) {
             Some(device) => print_device(seat, device, sink),
-            None => Ok(()),
+            None => self.print_hub(&seat.name, sink),
         }
     }
 

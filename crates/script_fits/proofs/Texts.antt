@@ -6,6 +6,8 @@ use Rattle.std.specs.Str.{bytes_eq}
 use Rattle.std.proofs.lemmas.Bool.{cond_both, and_from, le-leb}
 use Rattle.script_types.specs.declared.scripts.Script.{Script}
 use Rattle.script_types.specs.declared.devices.EpText.{EpText}
+use Rattle.script_types.specs.declared.devices.HubText.{HubText}
+use Rattle.hub_class.specs.HubContent.{has_few_ports}
 use Rattle.script_forms.specs.declared.causes.TextWhy.{TextWhy}
 use Rattle.script_forms.specs.declared.causes.TextWhy.TheVariants as C
 use Rattle.script_forms.specs.declared.table.FirstWord.{FirstWord}
@@ -24,7 +26,7 @@ use Rattle.endpoint_script.specs.Device.{is_scripted, is_scripted_endpoint}
 use Rattle.script_fits.specs.Fits.{IsFit, IsFitRoom}
 use Rattle.script_fits.proofs.Numbers.{form_is_ranged}
 use Rattle.script_fits.proofs.Statements.{IsSaid, form_said}
-use Rattle.script_fits.proofs.Drafts.{IsFitDraft, IsFitDevice, IsFitEp, IsFitSize, IsTaken, after_fits}
+use Rattle.script_fits.proofs.Drafts.{IsFitDraft, IsFitHub, IsFitDevice, IsFitEp, IsFitSize, IsTaken, after_fits}
 
 abbrev Fits : {X : Type 0} → Result Draft X → Type 0
 Fits (Ok w) = IsFitDraft w
@@ -87,7 +89,7 @@ lines_fit w n (line ∷ lines) h =
     onward_fits n (line_read w n line) (λ v. lines_read v (n + 1) lines) (λ v k. lines_fit v (n + 1) lines k) (line_fits w n line h)
 
 empty_fits : IsFitDraft empty
-empty_fits = record { words = tt; devices = tt; lines = tt }
+empty_fits = record { words = tt; hubs = tt; devices = tt; lines = tt }
 
 text_fits : (text : List ℕ) → Fits (text_read text)
 text_fits text =
@@ -115,6 +117,10 @@ devices_roomy : (ds : List Placed) → AllByRecursion IsFitDevice ds → AllByRe
 devices_roomy [] h = tt
 devices_roomy (d ∷ ds) h = (eps_roomy d.eps h.0.eps, devices_roomy ds h.1)
 
+hubs_few : (hs : List HubText) → AllByRecursion IsFitHub hs → list_all has_few_ports hs ≡ true
+hubs_few [] h = refl
+hubs_few (x ∷ hs) h = and_from (has_few_ports x) (list_all has_few_ports hs) (le-leb (length x.attached) 15 h.0.attached) (hubs_few hs h.1)
+
 sized : (words : Option ℕ) → IsFitSize words → (2048 ≤ unwrap_or words 65536) × ((unwrap_or words 65536 ≤ 262144) × (unwrap_or words 65536 % 1024 ≡ 0))
 sized None h = (omega arith, (omega arith, refl))
 sized (Some n) h = h
@@ -127,6 +133,7 @@ script_fits w h =
       most = size.1.0;
       whole_pages = size.1.1;
       devices = devices_scripted w.devices h.devices;
+      hubs = hubs_few w.hubs h.hubs;
       rooms = devices_roomy w.devices h.devices;
       lines = h.lines;
     }

@@ -10,6 +10,7 @@ use Rattle.script_types.specs.declared.scripts.Line.{Line}
 use Rattle.script_types.specs.declared.scripts.Line.TheVariants as lines
 use Rattle.script_types.specs.declared.scripts.Script.{Script}
 use Rattle.endpoint_script.specs.Device.{is_scripted}
+use Rattle.hub_class.specs.HubContent.{has_few_ports}
 use Rattle.driver_rows.specs.Offers.{IsRing}
 
 -- a qTD has 1 to 20,480 bytes of a transfer
@@ -39,5 +40,6 @@ pub record IsFit (s : Script) : Type 0 where
   pub most : s.words ≤ 262144
   pub whole_pages : s.words % 1024 ≡ 0
   pub devices : IsTrue (list_all is_scripted s.devices)
+  pub hubs : IsTrue (list_all has_few_ports s.hubs)
   pub rooms : AllByRecursion (λ d. AllByRecursion IsFitRoom d.eps) s.devices
   pub lines : AllByRecursion (λ x. IsFitLine x.1) s.lines

@@ -2,7 +2,7 @@ use Rattle.std.proofs.Common.{◌∙◌, ap, sym}
 use Rattle.std.proofs.Math.ListN.{set}
 use Rattle.std.proofs.lemmas.List.Edits.{map_over_more}
 use Rattle.usb_bus.specs.Bus.{begun_at}
-use Rattle.usb_bus.proofs.bus.begin_devices.Goals as goal
+use Rattle.usb_bus.proofs.below.begin_devices.Goals as goal
 
 pub loop-device-preserved : goal.loop-device-preserved
 loop-device-preserved c =
