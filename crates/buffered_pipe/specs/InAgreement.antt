@@ -1,7 +1,9 @@
 -- When the two ends of a bulk IN pipe through a translator agree (USB 2.0, 8.6 and 11.17).
 use Rattle.std.specs.Prelude.{◌≡◌, ℕ, ◌+◌, ◌⊎◌, Bool, true, false, List, [], length, take, drop, slice_get, Some}
+use Rattle.std.specs.List.{concat}
 use Rattle.pipe_agreement.specs.Pipe.{toggle_after}
-use Rattle.buffered_pipe.specs.InPipe.{Bytes, Nak, Stall, InBuffer, Free, Pending, Ready, Old, InPipe, InEvent, in_after_all, in_accepted, in_known}
+use Rattle.pipe_agreement.specs.Prefix.{IsPrefix}
+use Rattle.buffered_pipe.specs.InPipe.{Bytes, Nak, Stall, InBuffer, Free, Pending, Ready, Old, InPipe, InEvent, in_opening, in_after_all, in_accepted, in_known}
 
 -- In the following p is the number of packets that the host accepted, q the number that the device knows to be accepted.
 
@@ -52,3 +54,12 @@ pub record OnlyEnds {A : Type 0} (w : InPipe A) (es : List InEvent) : Type 0 whe
   pub stranded : IsStranded (in_after_all w es)
   pub accepted : in_accepted w es ≡ []
   pub known : in_known w es ≡ 0
+
+-- The two ends agree after these events.
+abbrev pub InAgreesAfter : {A : Type 0} → List A → List InEvent → Type 0
+InAgreesAfter packets events = InAgrees packets (in_after_all (in_opening packets) events)
+    (in_accepted (in_opening packets) events) (in_known (in_opening packets) events)
+
+-- The bytes that the host accepted in these events begin the stream.
+abbrev pub BeginsAfter : List (List ℕ) → List InEvent → Type 0
+BeginsAfter packets events = IsPrefix (concat (in_accepted (in_opening packets) events)) (concat packets)

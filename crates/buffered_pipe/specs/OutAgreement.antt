@@ -1,7 +1,7 @@
 -- When the two ends of a bulk OUT pipe through a translator agree (USB 2.0, 8.6 and 11.17).
 use Rattle.std.specs.Prelude.{◌≡◌, ℕ, ◌+◌, Bool, true, false, List, [], length, take, drop, slice_get, Some}
 use Rattle.pipe_agreement.specs.Pipe.{toggle_after, IsNear}
-use Rattle.buffered_pipe.specs.OutPipe.{Ack, Nak, Stall, OutBuffer, Free, Pending, Ready, Old, OutPipe, OutEvent, out_after_all, out_accepted, out_known}
+use Rattle.buffered_pipe.specs.OutPipe.{Ack, Nak, Stall, OutBuffer, Free, Pending, Ready, Old, OutPipe, OutEvent, out_opening, out_after_all, out_accepted, out_known}
 
 -- In the following p is the number of packets that the device accepted, q the number that the host knows to be accepted.
 
@@ -42,3 +42,8 @@ pub record OnlyEnds {A : Type 0} (w : OutPipe A) (es : List OutEvent) : Type 0 w
   pub stranded : IsStranded (out_after_all w es)
   pub accepted : out_accepted w es ≡ []
   pub known : out_known w es ≡ 0
+
+-- The two ends agree after these events, whatever they are.
+abbrev pub OutAgreesAfter : {A : Type 0} → List A → List OutEvent → Type 0
+OutAgreesAfter packets events = OutAgrees packets (out_after_all (out_opening packets) events)
+    (out_accepted (out_opening packets) events) (out_known (out_opening packets) events)

@@ -1,13 +1,13 @@
-ghost use Rattle.std.specs.Prelude.{◌≡◌, ℕ, List};
+ghost use Rattle.std.specs.Prelude.{ℕ, List};
 ghost use Rattle.std.specs.List.{concat};
 ghost use Rattle.pipe_agreement.specs.Prefix.{IsPrefix};
-ghost use Rattle.buffered_pipe.specs.OutPipe.{OutPipe, OutEvent, out_opening, out_after_all, out_accepted, out_known};
-ghost use Rattle.buffered_pipe.specs.OutAgreement.{OutAgrees, IsStranded, OnlyEnds};
+ghost use Rattle.buffered_pipe.specs.OutPipe.{OutPipe, OutEvent, out_opening, out_accepted};
+ghost use Rattle.buffered_pipe.specs.OutAgreement.{OutAgreesAfter, IsStranded, OnlyEnds};
 
 /// Whatever is lost on both buses and cleared, the two ends of an OUT pipe agree after each list of events, and the
 /// bytes that the device accepted begin the stream.
 pub fn out_pipe_agrees()
-    ensures agrees { (packets : List (List ℕ)) → (events : List OutEvent) → OutAgrees packets (out_after_all (out_opening packets) events) (out_accepted (out_opening packets) events) (out_known (out_opening packets) events) }
+    ensures agrees { (packets : List (List ℕ)) → (events : List OutEvent) → OutAgreesAfter packets events }
     ensures begins { (packets : List (List ℕ)) → (events : List OutEvent) → IsPrefix (concat (out_accepted (out_opening packets) events)) (concat packets) }
 {}
 

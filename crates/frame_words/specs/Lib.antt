@@ -1,2 +1,3 @@
 pub mod InWords
+pub mod Laws
 pub mod Worked

@@ -10,9 +10,10 @@ use Rattle.usb_base.specs.declared.packets.Speed.TheVariants.{High}
 use Rattle.usb_base.specs.declared.packets.Way.{Way}
 use Rattle.usb_base.specs.declared.packets.Way.TheVariants as Ways
 use Rattle.usb_base.specs.declared.reports.Report.{Report}
-use Rattle.usb_base.specs.declared.endpoints.EndCause.TheVariants.{Stall}
+use Rattle.usb_base.specs.declared.endpoints.EndCause.TheVariants.{Stall, Error}
+use Rattle.usb_base.specs.declared.reports.OfferError.TheVariants.{Closed}
 use Rattle.usb_base.specs.declared.reports.What.{What}
-use Rattle.usb_base.specs.declared.reports.What.TheVariants.{Done, Halt}
+use Rattle.usb_base.specs.declared.reports.What.TheVariants.{Done, Halt, Refused}
 use Rattle.script_types.specs.declared.devices.Item.{Item}
 use Rattle.script_types.specs.declared.devices.Item.TheVariants.{Request}
 use Rattle.script_types.specs.declared.scripts.Line.{Line}
@@ -44,6 +45,10 @@ commanded n cmd = (n, lines.Command cmd)
 
 abbrev pub line_of : EpName → What → ℕ → ℕ → Report
 line_of name what from len = record { name = name; what = what; from = from; len = len }
+
+-- two gets of the same endpoint, of which the second was halted, and a command that is refused then
+abbrev pub halted_lines : EpName → List Report
+halted_lines name = line_of name Done 0 2 ∷ line_of name (Halt Error) 2 1 ∷ line_of name (Refused 11 (Closed Error)) 3 0 ∷ []
 
 abbrev pub report_of : List Report → List ℕ → List Closing → WholeReport
 report_of reports store closings = record { lines = reports; store = store; closings = closings }

@@ -2,10 +2,10 @@
 ghost use Rattle.std.specs.Prelude.{◌≡◌, ℕ, List, [], ◌∷◌, ◌++◌, codes, Some};
 ghost use Rattle.script_types.specs.declared.devices.Item.TheVariants.{Bytes, Nak};
 ghost use Rattle.usb_base.specs.declared.commands.Cmd.TheVariants.{Get, Put};
-ghost use Rattle.usb_base.specs.declared.reports.OfferError.TheVariants.{Closed, Busy};
+ghost use Rattle.usb_base.specs.declared.reports.OfferError.TheVariants.{Busy};
 ghost use Rattle.report_streams.specs.Reports.{Taken, whole_text, taken};
 ghost use Rattle.report_streams.specs.Streams.{stream, told, AreRightStreams};
-ghost use Rattle.report_streams.specs.Samples.{script_of, commanded, line_of, report_of, sender, receiver, bulk};
+ghost use Rattle.report_streams.specs.Samples.{script_of, commanded, line_of, halted_lines, report_of, sender, receiver, bulk};
 
 use usb_base::{EndCause, What};
 
@@ -20,17 +20,18 @@ pub fn short_packet()
 
 /// An IN that halts in its second get, and a command that is refused then: both gets together begin the stream.
 pub fn halted_in()
-    ensures told { told (report_of (line_of sender What.Done 0 2 ∷ line_of sender (What.Halt EndCause.Error) 2 1 ∷ line_of sender (What.Refused 11 (Closed EndCause.Error)) 3 0 ∷ []) (1 ∷ 2 ∷ 3 ∷ []) []) sender ≡ 1 ∷ 2 ∷ 3 ∷ [] }
+    ensures told { told (report_of (halted_lines sender) (1 ∷ 2 ∷ 3 ∷ []) []) sender ≡ 1 ∷ 2 ∷ 3 ∷ [] }
     ensures ended { told (report_of (line_of sender (What.Halt EndCause.Error) 0 2 ∷ line_of sender What.Done 2 2 ∷ []) (1 ∷ 2 ∷ 3 ∷ 4 ∷ []) []) sender ≡ 1 ∷ 2 ∷ [] }
     ensures right { AreRightStreams (script_of (bulk sender) (Bytes (1 ∷ 2 ∷ []) ∷ Bytes (3 ∷ 4 ∷ []) ∷ []) [])
-        (report_of (line_of sender What.Done 0 2 ∷ line_of sender (What.Halt EndCause.Error) 2 1 ∷ line_of sender (What.Refused 11 (Closed EndCause.Error)) 3 0 ∷ []) (1 ∷ 2 ∷ 3 ∷ []) []) }
+        (report_of (halted_lines sender) (1 ∷ 2 ∷ 3 ∷ []) []) }
     ensures not_after { AreRightStreams (script_of (bulk sender) (Bytes (1 ∷ 2 ∷ []) ∷ Bytes (3 ∷ 4 ∷ []) ∷ []) [])
         (report_of (line_of sender (What.Halt EndCause.Error) 0 2 ∷ line_of sender What.Done 2 2 ∷ []) (1 ∷ 2 ∷ 3 ∷ 4 ∷ []) []) → ⊥ }
 {}
 
 /// An OUT whose last acknowledgements were lost: more was taken than is told. A refused put isn't in the stream.
 pub fn lost_acknowledgement()
-    ensures stream { stream (script_of (bulk receiver) [] (commanded 7 (Put receiver (1 ∷ 2 ∷ 3 ∷ 4 ∷ []) 20480) ∷ commanded 8 (Put receiver (5 ∷ []) 20480) ∷ [])) (report_of (line_of receiver (What.Refused 8 Busy) 0 0 ∷ []) [] []) receiver ≡ 1 ∷ 2 ∷ 3 ∷ 4 ∷ [] }
+    ensures stream { stream (script_of (bulk receiver) [] (commanded 7 (Put receiver (1 ∷ 2 ∷ 3 ∷ 4 ∷ []) 20480) ∷ commanded 8 (Put receiver (5 ∷ []) 20480) ∷ []))
+        (report_of (line_of receiver (What.Refused 8 Busy) 0 0 ∷ []) [] []) receiver ≡ 1 ∷ 2 ∷ 3 ∷ 4 ∷ [] }
     ensures taken { taken (report_of (line_of receiver (What.Halt EndCause.Error) 0 2 ∷ []) (1 ∷ 2 ∷ []) (Taken receiver (1 ∷ 2 ∷ 3 ∷ 4 ∷ []) ∷ [])) receiver ≡ Some (1 ∷ 2 ∷ 3 ∷ 4 ∷ []) }
     ensures right { AreRightStreams (script_of (bulk receiver) [] (commanded 7 (Put receiver (1 ∷ 2 ∷ 3 ∷ 4 ∷ []) 20480) ∷ []))
         (report_of (line_of receiver (What.Halt EndCause.Error) 0 2 ∷ []) (1 ∷ 2 ∷ []) (Taken receiver (1 ∷ 2 ∷ 3 ∷ 4 ∷ []) ∷ [])) }
