@@ -1,6 +1,6 @@
 -- An event of the driver leaves its reserve as it was, and each line of the report keeps its bytes.
 use Rattle.std.proofs.Common.{◌≡◌, ℕ, zero, suc, ◌+◌, ◌-◌, ◌≤◌, Bool, true, false, List, [], ◌∷◌, ◌++◌, length, slice_get, slice_set, Option, Some, None, refl, ◌∙◌, arith, length-append}
-use Rattle.std.specs.Prelude.{if◌then◌else◌, nat_lt}
+use Rattle.std.specs.Prelude.{if◌then◌else◌, nat_lt, is_none, take, drop}
 use Rattle.usb_base.specs.declared.endpoints.EpName.{EpName}
 use Rattle.usb_base.specs.declared.endpoints.EndCause.{EndCause}
 use Rattle.usb_base.specs.declared.endpoints.EndCause.TheVariants as causes
@@ -10,6 +10,9 @@ use Rattle.usb_base.specs.declared.reports.Report.{Report}
 use Rattle.report_text.specs.ReportText.{AreStored}
 use Rattle.word_mem.specs.Memory.{Mem}
 use Rattle.run_book.specs.Book.{Book, Holding, holding, lend_taken}
+use Rattle.periodic_rows.specs.declared.content.Removed.{Removed}
+use Rattle.periodic_rows.specs.declared.content.Removed.TheVariants as removed
+use Rattle.periodic_rows.specs.Linking.{begun_next}
 use Rattle.driver_rows.specs.declared.content.Endpoint.{Endpoint}
 use Rattle.driver_rows.specs.declared.content.Transfer.{Transfer}
 use Rattle.driver_rows.specs.declared.content.QtdNote.{QtdNote}
@@ -21,7 +24,10 @@ use Rattle.driver_rows.specs.declared.rows.Found.{Found}
 use Rattle.driver_rows.specs.declared.rows.Found.TheVariants as founds
 use Rattle.driver_rows.specs.DriverContent.{DriverContent, waits_for}
 use Rattle.driver_rows.specs.Harvests.{reported, noted, end_of, is_stall}
-use Rattle.driver_rows.specs.Rows.{Parts, after_row, advance, advanced_by, finished, no_command, leave_ring, events_of, after_transfer, freed_by, after_endpoint, cancel_told, is_told, gone_with, after_harvest, harvested_as, after_end, told_with, stalled, goes_on, behind, behind_one, mends_of, served}
+use Rattle.driver_rows.specs.Rows.{Parts, after_row, advance, advanced_by, finished, no_command, leave_ring, leave_frames, events_of, links, removes_members, list_after, linked_on}
+use Rattle.driver_rows.specs.Rows.{framed_by, with_notes, framed_notes, placement_at, linked_by, after_transfer, freed_by, after_endpoint, cancel_told}
+use Rattle.driver_rows.specs.Rows.{after_unlink, after_descriptor, after_placed, after_removed, removed_with}
+use Rattle.driver_rows.specs.Rows.{is_told, gone_with, after_harvest, harvested_as, after_end, told_with, stalled, goes_on, behind, behind_one, mends_of, served}
 
 -- the reserve stays, and lines keep their bytes
 pub record Keeps (d e : DriverContent) : Type 0 where
@@ -63,17 +69,44 @@ left_keeps : (d : DriverContent) (e : ℕ) (x : Option Endpoint) → Keeps d (le
 left_keeps d e None = keeps_all d
 left_keeps d e (Some x) = keeps_if d x.linked _ d (record { room = refl; stored = λ h. h }) (keeps_all d)
 
+frames_left_keeps : (d : DriverContent) (e : ℕ) (x : Option Endpoint) → Keeps d (leave_frames d e x)
+frames_left_keeps d e None = keeps_all d
+frames_left_keeps d e (Some x) = keeps_if d x.chained _ d (record { room = refl; stored = λ h. h }) (keeps_all d)
+
 finished_keeps : (d : DriverContent) (c : Command) → Keeps d (finished d c)
 finished_keeps d (unfinished.Open queue) = record { room = refl; stored = λ h. h }
 finished_keeps d (unfinished.Publish b words) = record { room = refl; stored = λ h. h }
 finished_keeps d (unfinished.Unlink e b link) = keeps_join d (no_command d) _ (record { room = refl; stored = λ h. h }) (left_keeps (no_command d) e (slice_get d.endpoints e))
+finished_keeps d unfinished.Chain = record { room = refl; stored = λ h. h }
+finished_keeps d (unfinished.Iso e t count) = record { room = refl; stored = λ h. h }
+finished_keeps d (unfinished.Unchain e) =
+    keeps_join d (no_command d) _ (record { room = refl; stored = λ h. h }) (frames_left_keeps (no_command d) e (slice_get d.endpoints e))
+
+linked_keeps : (d : DriverContent) (c : Command) → Keeps d (linked_on d c)
+linked_keeps d c =
+    let on : DriverContent = record d { made = length (events_of c); periodic = begun_next (removes_members c) (record d.periodic { list = list_after d c }) } in
+    keeps_join d on _ (record { room = refl; stored = λ h. h }) (keeps_if on (is_none on.periodic.list.work) (finished on c) on (finished_keeps on c) (keeps_all on))
 
 advanced_keeps : (d : DriverContent) (c : Option Command) → Keeps d (advanced_by d c)
 advanced_keeps d None = keeps_all d
-advanced_keeps d (Some c) = keeps_if d (nat_lt (suc d.made) (length (events_of c))) _ (finished d c) (record { room = refl; stored = λ h. h }) (finished_keeps d c)
+advanced_keeps d (Some c) =
+    keeps_if d (nat_lt (suc d.made) (length (events_of c))) _ (if links c then linked_on d c else finished d c) (record { room = refl; stored = λ h. h })
+    (keeps_if d (links c) (linked_on d c) (finished d c) (linked_keeps d c) (finished_keeps d c))
 
 advance_keeps : (d : DriverContent) → Keeps d (advance d)
 advance_keeps d = advanced_keeps d d.command
+
+-- the descriptors of a command have their frames
+framed_keeps : (d : DriverContent) (n : ℕ) (c : Option Command) → Keeps d (framed_by d n c)
+framed_keeps d n None = keeps_all d
+framed_keeps d n (Some (unfinished.Open queue)) = keeps_all d
+framed_keeps d n (Some (unfinished.Publish b words)) = keeps_all d
+framed_keeps d n (Some (unfinished.Unlink e b link)) = keeps_all d
+framed_keeps d n (Some unfinished.Chain) = keeps_all d
+framed_keeps d n (Some (unfinished.Iso e t count)) =
+    let with : DriverContent = with_notes d n (take count (drop t d.transfers)) (framed_notes d n e t count (placement_at d e)) in
+    keeps_join d with _ (record { room = refl; stored = λ h. h }) (advance_keeps with)
+framed_keeps d n (Some (unfinished.Unchain e)) = keeps_all d
 
 -- ---- leaving work
 
@@ -93,6 +126,28 @@ endpoint_keeps p e (Some x) =
     keeps_join p.driver (cancel_told p.driver p.memory e x) _
     (told_keeps p.driver p.memory e x)
     (gone_keeps (cancel_told p.driver p.memory e x) e x (is_told x) _)
+
+unlink_keeps : (p : Parts) (t : ℕ) (x : Option Transfer) → Keeps p.driver (after_unlink p t x).driver
+unlink_keeps p t None = keeps_all p.driver
+unlink_keeps p t (Some x) = record { room = refl; stored = λ s. s }
+
+descriptor_keeps : (p : Parts) (t : ℕ) (x : Option Transfer) → Keeps p.driver (after_descriptor p t x).driver
+descriptor_keeps p t None = keeps_all p.driver
+descriptor_keeps p t (Some x) = record { room = refl; stored = λ s. s }
+
+removed_keeps : (d : DriverContent) (e : ℕ) (x : Endpoint) (told : Bool) (book : Book) → Keeps d (removed_with d e x told book)
+removed_keeps d e x told book = record { room = refl; stored = λ s. s }
+
+placed_keeps : (p : Parts) (e : ℕ) (x : Option Endpoint) → Keeps p.driver (after_placed p e x).driver
+placed_keeps p e None = keeps_all p.driver
+placed_keeps p e (Some x) =
+    keeps_join p.driver (cancel_told p.driver p.memory e x) _
+    (told_keeps p.driver p.memory e x)
+    (removed_keeps (cancel_told p.driver p.memory e x) e x (is_told x) _)
+
+what_keeps : (p : Parts) (what : Removed) → Keeps p.driver (after_removed p what).driver
+what_keeps p (removed.Descriptor t) = descriptor_keeps p t (slice_get p.driver.transfers t)
+what_keeps p (removed.Endpoint e) = placed_keeps p e (slice_get p.driver.endpoints e)
 
 -- ---- harvests
 
@@ -131,6 +186,8 @@ told_with_keeps d m t x what name notes =
 found_keeps : (d : DriverContent) (m : Mem) (e t : ℕ) (x : Endpoint) (y : Transfer) (found : Found) → Keeps d (harvested_as d m e t x y found)
 found_keeps d m e t x y founds.Active = keeps_all d
 found_keeps d m e t x y (founds.Moved n) = record { room = refl; stored = λ s. s }
+found_keeps d m e t x y (founds.Served errors) =
+    keeps_join d (reported d (lines.Iso errors) x.desc.name _) _ (reported_keeps d (lines.Iso errors) x.desc.name _) (record { room = refl; stored = λ s. s })
 found_keeps d m e t x y (founds.Ended n what) =
     keeps_join d (told_with d m t y what x.desc.name (noted d.notes y.place n)) _
     (told_with_keeps d m t y what x.desc.name (noted d.notes y.place n))
@@ -158,5 +215,12 @@ row_keeps (rows.ReleaseEndpoint e) p = endpoint_keeps p e (slice_get p.driver.en
 row_keeps rows.ClearAdvance p = record { room = refl; stored = λ s. s }
 row_keeps rows.RingBell p = record { room = refl; stored = λ s. s }
 row_keeps (rows.ReadStatus heard) p = record { room = refl; stored = λ s. s }
+row_keeps (rows.ReadFrame n) p = record { room = refl; stored = λ s. s }
+row_keeps rows.Frames p = framed_keeps p.driver p.registers.frame_index p.driver.command
+row_keeps rows.LendDescriptors p =
+    let lent : DriverContent = record p.driver { book = (lend_taken (holding p.driver.book (linked_by p.driver p.memory p.driver.command))).book } in
+    keeps_join p.driver lent _ (record { room = refl; stored = λ s. s }) (advance_keeps lent)
+row_keeps (rows.Unlink t) p = unlink_keeps p t (slice_get p.driver.transfers t)
+row_keeps (rows.ReleaseRemoved what) p = what_keeps p what
 row_keeps (rows.Harvest e t found) p = harvest_keeps p.driver p.memory e t found (slice_get p.driver.endpoints e) (slice_get p.driver.transfers t)
 row_keeps rows.Rest p = keeps_all p.driver

@@ -22,10 +22,12 @@ flat_parts f xs i x h e =
     ∙ ap (λ ys. ys ++ flat_map f (drop (i + 1) xs)) (flat_more f xs i x h e)
     ∙ append_assoc (flat_map f (take i xs)) (f x) (flat_map f (drop (i + 1) xs))
 
-pub appends_piece : {X : Type 0} (a b c : Option (List ℕ)) (f : X → List ℕ) (xs : List X) (i : ℕ) (x : X) → i < length xs → x ≡ get_or xs i x → Appends a b (flat_map f (take i xs)) → Appends b c (f x) → Appends a c (flat_map f (take (i + 1) xs))
+pub appends_piece : {X : Type 0} (a b c : Option (List ℕ)) (f : X → List ℕ) (xs : List X) (i : ℕ) (x : X) → i < length xs → x ≡ get_or xs i x → Appends a b (flat_map f (take i xs))
+    → Appends b c (f x) → Appends a c (flat_map f (take (i + 1) xs))
 appends_piece a b c f xs i x h e s k = subst (Appends a c) (sym (flat_more f xs i x h e)) (appends_join a b c (flat_map f (take i xs)) (f x) s k)
 
-pub prefix_of_piece : {X : Type 0} (a b c : Option (List ℕ)) (f : X → List ℕ) (xs : List X) (i : ℕ) (x : X) → i < length xs → x ≡ get_or xs i x → Appends a b (flat_map f (take i xs)) → AppendsPrefix b c (f x) → AppendsPrefix a c (flat_map f xs)
+pub prefix_of_piece : {X : Type 0} (a b c : Option (List ℕ)) (f : X → List ℕ) (xs : List X) (i : ℕ) (x : X) → i < length xs → x ≡ get_or xs i x → Appends a b (flat_map f (take i xs))
+    → AppendsPrefix b c (f x) → AppendsPrefix a c (flat_map f xs)
 prefix_of_piece a b c f xs i x h e s k =
     subst (AppendsPrefix a c) (sym (flat_parts f xs i x h e))
     (prefix_after a b c (flat_map f (take i xs)) (f x ++ flat_map f (drop (i + 1) xs)) s (prefix_more b c (f x) (flat_map f (drop (i + 1) xs)) k))

@@ -21,11 +21,19 @@ use Rattle.endpoint_script.specs.declared.endpoint.Part.TheVariants.{Sends, Take
 use Rattle.endpoint_script.specs.declared.rows.TakeRow.{TakeRow}
 use Rattle.endpoint_script.specs.declared.rows.TakeRow.TheVariants as takes
 use Rattle.endpoint_script.specs.Taking.{Taking, next_row, out_row, ping_row, has_room, is_ping, take_row, row_of, after_row as after_taking}
-use Rattle.endpoint_script.specs.Device.{Device, opened_part, opened_endpoint, opening, part_begun, endpoint_begun, begun, part_answered, endpoint_answered, part_acked, endpoint_acked, answered, answered_in, answered_at, acked_by, acked_in, acked_at, place_of, taken_of, taken_from, part_taken, endpoint_at, place_of_name}
+use Rattle.endpoint_script.specs.Device.{Device, opened_part, opened_endpoint, opening, part_begun, endpoint_begun, begun, part_answered, endpoint_answered, part_acked}
+use Rattle.endpoint_script.specs.Device.{endpoint_acked, answered, answered_in, answered_at, acked_by, acked_in, acked_at, place_of, taken_of, taken_from, part_taken, endpoint_at}
+use Rattle.endpoint_script.specs.Device.{place_of_name}
 use Rattle.usb_bus.specs.declared.asked.Asked.{Asked}
 use Rattle.usb_bus.specs.declared.who_heard.WhoHeard.{WhoHeard}
 use Rattle.usb_bus.specs.declared.who_heard.WhoHeard.TheVariants as rows
-use Rattle.usb_bus.specs.Bus.{Fixed, Bus, begins_anew, begun_at, begin_after, asked_of, device_after, after_by, after_at, row_of as heard_row, transact_after}
+use Rattle.hub_class.specs.HubContent.{HubContent}
+use Rattle.hub_class.proofs.Microframe.{work_keeps}
+use Rattle.usb_bus.specs.declared.asked.Answerer.{Answerer}
+use Rattle.usb_bus.specs.declared.asked.Answerer.TheVariants as answerers
+use Rattle.usb_bus.specs.Asking.{device_after, put_at, changed_at}
+use Rattle.usb_bus.specs.Below.{Below, Floor, below_at, asked_below, below_row, devices_after, below_reply, below_after_at, below_after, floor_left, floor_worked}
+use Rattle.usb_bus.specs.Bus.{Fixed, Bus, floor_of, begins_anew, begun_at, begin_after, asked_of, changed_by, after_at, row_of as heard_row, transact_after}
 use Rattle.script_fits.specs.Fits.{IsFitRoom}
 use Rattle.bus_world.specs.Sound.{IsRoomy, IsRoomyEndpoint, IsRoomyDevice}
 
@@ -128,7 +136,8 @@ begun_roomy Hears h = tt
 
 -- ---- a device
 
-answered_at_roomy : (es : List Endpoint) (place : ℕ) (e : Option Endpoint) (ask : Ask) (out : List ℕ) → AllByRecursion IsRoomyEndpoint es → Holds IsRoomyEndpoint e → AllByRecursion IsRoomyEndpoint (answered_at es place e ask out)
+answered_at_roomy : (es : List Endpoint) (place : ℕ) (e : Option Endpoint) (ask : Ask) (out : List ℕ) → AllByRecursion IsRoomyEndpoint es → Holds IsRoomyEndpoint e
+    → AllByRecursion IsRoomyEndpoint (answered_at es place e ask out)
 answered_at_roomy es place None ask out h k = h
 answered_at_roomy es place (Some e) ask out h k = all_set IsRoomyEndpoint es place (endpoint_answered e ask out) h (part_roomy e.part ask out k)
 
@@ -166,20 +175,53 @@ device_after_roomy rows.AnswerHeard ask out d h = answered_roomy d ask out h
 device_after_roomy rows.AckUnheard ask out d h = answered_roomy d ask out h
 device_after_roomy rows.AckHeard ask out d h = acked_by_roomy (answered d ask out) ask (answered_roomy d ask out h)
 
-by_roomy : (fixed : Fixed) (e : Asked) (ask : Ask) (out : List ℕ) (d : Option Device) (b : Bus) → AllByRecursion IsRoomyDevice b.devices → Holds IsRoomyDevice d → AllByRecursion IsRoomyDevice (after_by fixed e ask out d b).devices
-by_roomy fixed e ask out None b h k = h
-by_roomy fixed e ask out (Some d) b h k =
-    all_set IsRoomyDevice b.devices e.device _ h (device_after_roomy (heard_row fixed e ask out d) ask out d k)
+abbrev AreRoomy : List Device → Type 0
+AreRoomy ds = AllByRecursion IsRoomyDevice ds
 
-at_roomy : (fixed : Fixed) (b : Bus) (ask : Ask) (out : List ℕ) (e : Option Asked) → AllByRecursion IsRoomyDevice b.devices → AllByRecursion IsRoomyDevice (after_at fixed b ask out e).devices
+put_roomy : (d : Option Device) (place : ℕ) (f : Device → Device) (ds : List Device) → ((x : Device) → IsRoomyDevice x → IsRoomyDevice (f x)) → AreRoomy ds → Holds IsRoomyDevice d
+    → AreRoomy (put_at d place f ds)
+put_roomy None place f ds g h k = h
+put_roomy (Some d) place f ds g h k = all_set IsRoomyDevice ds place (f d) h (g d k)
+
+changed_roomy : (place : ℕ) (row : WhoHeard) (ask : Ask) (out : List ℕ) (ds : List Device) → AreRoomy ds → AreRoomy (changed_at place (device_after row ask out) ds)
+changed_roomy place row ask out ds h =
+    put_roomy (slice_get ds place) place (device_after row ask out) ds (device_after_roomy row ask out) h (all_get IsRoomyDevice ds place h)
+
+changed_by_roomy : (row : WhoHeard) (who : Answerer) (ask : Ask) (out : List ℕ) (b : Bus) → AreRoomy b.devices → AreRoomy (changed_by row who ask out b).devices
+changed_by_roomy row (answerers.Device place) ask out b h = changed_roomy place row ask out b.devices h
+changed_by_roomy row (answerers.Hub place) ask out b h = h
+changed_by_roomy row (answerers.Translator place) ask out b h = h
+changed_by_roomy row answerers.Nobody ask out b h = h
+
+at_roomy : (fixed : Fixed) (b : Bus) (ask : Ask) (out : List ℕ) (e : Option Asked) → AreRoomy b.devices → AreRoomy (after_at fixed b ask out e).devices
 at_roomy fixed b ask out None h = h
-at_roomy fixed b ask out (Some e) h = by_roomy fixed e ask out (slice_get b.devices e.device) b h (all_get IsRoomyDevice b.devices e.device h)
+at_roomy fixed b ask out (Some e) h = changed_by_roomy (heard_row fixed b e ask out) e.who ask out b h
 
 pub transact_roomy : (fixed : Fixed) (b : Bus) (ask : Ask) (out : List ℕ) → AllByRecursion IsRoomyDevice b.devices → AllByRecursion IsRoomyDevice (transact_after fixed b ask out).devices
 transact_roomy fixed b ask out h = at_roomy fixed b ask out (asked_of fixed b ask) h
 
-pub begin_roomy : (frindex : ℕ) (b : Bus) → AllByRecursion IsRoomyDevice b.devices → AllByRecursion IsRoomyDevice (begin_after frindex b).devices
-begin_roomy frindex b h = all_map IsRoomyDevice IsRoomyDevice (begun_at frindex) b.devices (begun_at_roomy frindex) h
+-- ---- the buses below hubs
+
+devices_after_roomy : (row : WhoHeard) (who : Answerer) (ask : Ask) (out : List ℕ) (ds : List Device) → AreRoomy ds → AreRoomy (devices_after row who ask out ds)
+devices_after_roomy row (answerers.Device place) ask out ds h = changed_roomy place row ask out ds h
+devices_after_roomy row (answerers.Hub place) ask out ds h = h
+devices_after_roomy row (answerers.Translator place) ask out ds h = h
+devices_after_roomy row answerers.Nobody ask out ds h = h
+
+below_roomy : (w : Below) (ask : Ask) (out : List ℕ) (e : Option Asked) → AreRoomy w.floor.devices → AreRoomy (below_after_at w ask out e).floor.devices
+below_roomy w ask out None h = h
+below_roomy w ask out (Some e) h = devices_after_roomy (below_row w e ask out) e.who ask out w.floor.devices h
+
+worked_roomy : (fixed : Fixed) (hs : List HubContent) (floor : Floor) → AreRoomy floor.devices → AreRoomy (floor_worked fixed hs floor).devices
+worked_roomy fixed [] floor h = h
+worked_roomy fixed (x ∷ hs) floor h =
+    worked_roomy fixed hs (floor_left fixed x floor)
+    (work_keeps below_reply below_after (λ (w : Below). AreRoomy w.floor.devices) (λ w ask out k. below_roomy w ask out (asked_below w ask) k) x (below_at fixed x floor) h)
+
+pub begin_roomy : (fixed : Fixed) (frindex : ℕ) (b : Bus) → AllByRecursion IsRoomyDevice b.devices → AllByRecursion IsRoomyDevice (begin_after fixed frindex b).devices
+begin_roomy fixed frindex b h =
+    all_map IsRoomyDevice IsRoomyDevice (begun_at frindex) (floor_worked fixed b.hubs (floor_of b)).devices (begun_at_roomy frindex)
+    (worked_roomy fixed b.hubs (floor_of b) h)
 
 -- ---- the opening
 

@@ -73,7 +73,7 @@ frame_roomy fixed (Asks ask out left_by) b r = transact_roomy fixed b ask out r
 
 turned_roomy : (fixed : Fixed) (row : Row) (c : Content) (b : Bus) → AreRoomy b → AreRoomy (turned_by fixed row c b).bus
 turned_roomy fixed rows.Idle c b r = r
-turned_roomy fixed rows.Begin c b r = begin_roomy (next_index c.registers.frame_index) b r
+turned_roomy fixed rows.Begin c b r = begin_roomy fixed (next_index c.registers.frame_index) b r
 turned_roomy fixed rows.Frame c b r = frame_roomy fixed (effect_of (frame_place c)) b r
 turned_roomy fixed rows.Enter c b r = walk_roomy fixed (event_row (walk_place (entered c))) (at_event (walk_place (entered c))) b r
 turned_roomy fixed rows.Go c b r = walk_roomy fixed (event_row (walk_place c)) (at_event (walk_place c)) b r
@@ -82,7 +82,8 @@ turned_roomy fixed rows.End c b r = r
 pub next_roomy : (fixed : Fixed) (w : World) → AreRoomy w.bus → AreRoomy (controller_next fixed w).bus
 next_roomy fixed w r = turned_roomy fixed (controller_row w) (controller_parts w) w.bus r
 
-pub controller_sound : (s : Standing) (m : Mem) (b : Bus) → IsSound s.world.driver s.world.memory s.world.bus → IsByController s.world.memory m → b ≡ (controller_next s.fixed s.world).bus → IsSound s.world.driver m b
+pub controller_sound : (s : Standing) (m : Mem) (b : Bus) → IsSound s.world.driver s.world.memory s.world.bus → IsByController s.world.memory m → b ≡ (controller_next s.fixed s.world).bus
+    → IsSound s.world.driver m b
 controller_sound s m b h by e = record {
   stands = book_stands s.world.driver.book s.world.memory m h.stands by;
   stored = h.stored;
@@ -94,7 +95,8 @@ controller_sound s m b h by e = record {
 same_stored : (d e : DriverContent) → SameLines d e → AreStored d.reports (length d.store) → AreStored e.reports (length e.store)
 same_stored d e same h = rw (same.reports, same.store) h
 
-pub accepted_sound : (d : DriverContent) (m : Mem) (b : Bus) (cmd : Cmd) (new : DriverContent) (n : Mem) → IsSound d m b → offered d m cmd ≡ Ok (record { driver = new; memory = n }) → Stands (holding new.book n) → IsSound new n b
+pub accepted_sound : (d : DriverContent) (m : Mem) (b : Bus) (cmd : Cmd) (new : DriverContent) (n : Mem) → IsSound d m b → offered d m cmd ≡ Ok (record { driver = new; memory = n })
+    → Stands (holding new.book n) → IsSound new n b
 accepted_sound d m b cmd new n h e stands = record {
   stands = stands;
   stored = same_stored d new (subst (Lines d) e (offer_lines d m cmd)) h.stored;

@@ -28,7 +28,8 @@ unfolding ticks
 one_tick fixed p = record { count = 1; there = refl }
 
 -- a turn of the controller and the driver
-pub two_ticks : (fixed : Fixed) (w : World) (n : ℕ) (rest : List Left) → ticks fixed (at_place w (Microframes (suc n) ∷ rest)) 2 ≡ at_place (next fixed (next fixed w events.C) events.D) (Microframes (fewer (is_end (kind_next w)) (suc n)) ∷ rest)
+pub two_ticks : (fixed : Fixed) (w : World) (n : ℕ) (rest : List Left)
+    → ticks fixed (at_place w (Microframes (suc n) ∷ rest)) 2 ≡ at_place (next fixed (next fixed w events.C) events.D) (Microframes (fewer (is_end (kind_next w)) (suc n)) ∷ rest)
 unfolding ticks
 two_ticks fixed w n rest = refl
 
@@ -42,7 +43,8 @@ abbrev pub turned : Standing → World
 turned s = next s.fixed (next s.fixed s.world events.C) events.D
 
 -- one turn more
-turn_more : (begun now later : Standing) (k : ℕ) (ended : Bool) → ended ≡ is_end (kind_next now.world) → later ≡ record now { world = turned now } → now.fixed ≡ begun.fixed → Still begun now k → (n : ℕ) (rest : List Left) → ticks begun.fixed (at_place begun.world (Microframes (suc n) ∷ rest)) (2 * k + 2) ≡ at_place later.world (Microframes (fewer ended (suc n)) ∷ rest)
+turn_more : (begun now later : Standing) (k : ℕ) (ended : Bool) → ended ≡ is_end (kind_next now.world) → later ≡ record now { world = turned now } → now.fixed ≡ begun.fixed → Still begun now k
+    → (n : ℕ) (rest : List Left) → ticks begun.fixed (at_place begun.world (Microframes (suc n) ∷ rest)) (2 * k + 2) ≡ at_place later.world (Microframes (fewer ended (suc n)) ∷ rest)
 turn_more begun now later k ended is world fixed still n rest =
     ticks_more begun.fixed (at_place begun.world (Microframes (suc n) ∷ rest)) (2 * k) 2
     ∙ ap (λ q. ticks begun.fixed q 2) (still n rest)
@@ -51,14 +53,16 @@ turn_more begun now later k ended is world fixed still n rest =
     ∙ ap (λ w. at_place w (Microframes (fewer (is_end (kind_next now.world)) (suc n)) ∷ rest)) (sym (ap (λ (s : Standing). s.world) world))
     ∙ ap (λ b. at_place later.world (Microframes (fewer b (suc n)) ∷ rest)) (sym is)
 
-pub still_more : (begun now later : Standing) (k : ℕ) (ended : Bool) → ended ≡ is_end (kind_next now.world) → later ≡ record now { world = turned now } → now.fixed ≡ begun.fixed → Still begun now k → ended ≡ false → Still begun later (k + 1)
+pub still_more : (begun now later : Standing) (k : ℕ) (ended : Bool) → ended ≡ is_end (kind_next now.world) → later ≡ record now { world = turned now } → now.fixed ≡ begun.fixed
+    → Still begun now k → ended ≡ false → Still begun later (k + 1)
 still_more begun now later k ended is world fixed still goes n rest =
     let e : 2 * (k + 1) ≡ 2 * k + 2 = omega arith in
     ap (λ m. ticks begun.fixed (at_place begun.world (Microframes (suc n) ∷ rest)) m) e
     ∙ turn_more begun now later k ended is world fixed still n rest
     ∙ ap (λ b. at_place later.world (Microframes (fewer b (suc n)) ∷ rest)) goes
 
-pub microframe_ends : (begun now later : Standing) (k : ℕ) (ended : Bool) → ended ≡ is_end (kind_next now.world) → later ≡ record now { world = turned now } → now.fixed ≡ begun.fixed → Still begun now k → ended ≡ true → (n : ℕ) (rest : List Left) → Leads begun.fixed (at_place begun.world (Microframes (suc n) ∷ rest)) (at_place later.world (Microframes n ∷ rest))
+pub microframe_ends : (begun now later : Standing) (k : ℕ) (ended : Bool) → ended ≡ is_end (kind_next now.world) → later ≡ record now { world = turned now } → now.fixed ≡ begun.fixed
+    → Still begun now k → ended ≡ true → (n : ℕ) (rest : List Left) → Leads begun.fixed (at_place begun.world (Microframes (suc n) ∷ rest)) (at_place later.world (Microframes n ∷ rest))
 microframe_ends begun now later k ended is world fixed still ends n rest = record {
   count = 2 * k + 2;
   there =
@@ -70,7 +74,8 @@ pub still_begins : (begun : Standing) → Still begun begun 0
 unfolding ticks
 still_begins begun n rest = refl
 
-pub is_unended : (begun now : Standing) (k : ℕ) → k ≡ most_turns → Still begun now k → (n : ℕ) (rest : List Left) → IsUnended begun.fixed (at_place begun.world (Microframes (suc n) ∷ rest)) (at_place now.world (Microframes (suc n) ∷ rest))
+pub is_unended : (begun now : Standing) (k : ℕ) → k ≡ most_turns → Still begun now k → (n : ℕ) (rest : List Left)
+    → IsUnended begun.fixed (at_place begun.world (Microframes (suc n) ∷ rest)) (at_place now.world (Microframes (suc n) ∷ rest))
 is_unended begun now k many still n rest = record { turns = k; many = many; still = still n rest }
 
 -- ---- orders that go on
@@ -87,7 +92,8 @@ events_end fixed p w event n rest z h =
     (subst (λ m. Leads fixed p (at_place w (Events event m ∷ rest))) z h)
     (one_tick fixed (at_place w (Events event 0 ∷ rest)))
 
-pub one_event : (fixed : Fixed) (p : Place) (w : World) (event : Event) (n m : ℕ) (rest : List Left) → n ≡ suc m → Leads fixed p (at_place w (Events event n ∷ rest)) → Leads fixed p (at_place (next fixed w event) (Events event m ∷ rest))
+pub one_event : (fixed : Fixed) (p : Place) (w : World) (event : Event) (n m : ℕ) (rest : List Left) → n ≡ suc m → Leads fixed p (at_place w (Events event n ∷ rest))
+    → Leads fixed p (at_place (next fixed w event) (Events event m ∷ rest))
 one_event fixed p w event n m rest e h =
     joined fixed p (at_place w (Events event (suc m) ∷ rest)) (at_place (next fixed w event) (Events event m ∷ rest))
     (subst (λ k. Leads fixed p (at_place w (Events event k ∷ rest))) e h)
@@ -104,13 +110,15 @@ gone_begins begun kind count left e rest =
     subst (λ n. Leads begun.fixed (at_place begun.world (kind count ∷ rest)) (at_place begun.world (kind n ∷ rest))) (sym e)
     (nothing begun.fixed (at_place begun.world (kind count ∷ rest)))
 
-pub event_more : (begun now later : Standing) (event : Event) (count left fewer_left : ℕ) → left ≡ suc fewer_left → later ≡ record now { world = next now.fixed now.world event } → now.fixed ≡ begun.fixed → GoneOn begun now (Events event) count left → GoneOn begun later (Events event) count fewer_left
+pub event_more : (begun now later : Standing) (event : Event) (count left fewer_left : ℕ) → left ≡ suc fewer_left → later ≡ record now { world = next now.fixed now.world event }
+    → now.fixed ≡ begun.fixed → GoneOn begun now (Events event) count left → GoneOn begun later (Events event) count fewer_left
 event_more begun now later event count left fewer_left e world fixed gone rest =
     let is : later.world ≡ next begun.fixed now.world event = ap (λ (s : Standing). s.world) world ∙ ap (λ (f : Fixed). next f now.world event) fixed in
     subst (λ w. Leads begun.fixed (at_place begun.world (Events event count ∷ rest)) (at_place w (Events event fewer_left ∷ rest))) (sym is)
     (one_event begun.fixed (at_place begun.world (Events event count ∷ rest)) now.world event left fewer_left rest e (gone rest))
 
-pub events_done : (begun now : Standing) (event : Event) (count left : ℕ) → left ≡ 0 → GoneOn begun now (Events event) count left → (rest : List Left) → Leads begun.fixed (at_place begun.world (Events event count ∷ rest)) (at_place now.world rest)
+pub events_done : (begun now : Standing) (event : Event) (count left : ℕ) → left ≡ 0 → GoneOn begun now (Events event) count left → (rest : List Left)
+    → Leads begun.fixed (at_place begun.world (Events event count ∷ rest)) (at_place now.world rest)
 events_done begun now event count left z gone rest = events_end begun.fixed (at_place begun.world (Events event count ∷ rest)) now.world event left rest z (gone rest)
 
 -- what one microframe that ended leads to
@@ -120,16 +128,19 @@ Ended now later = (n : ℕ) (rest : List Left) → Leads now.fixed (at_place now
 abbrev pub Unended : Standing → Standing → Type 0
 Unended now later = (n : ℕ) (rest : List Left) → IsUnended now.fixed (at_place now.world (Microframes (suc n) ∷ rest)) (at_place later.world (Microframes (suc n) ∷ rest))
 
-pub microframe_more : (begun now later : Standing) (count left fewer_left : ℕ) → left ≡ suc fewer_left → now.fixed ≡ begun.fixed → Ended now later → GoneOn begun now Microframes count left → GoneOn begun later Microframes count fewer_left
+pub microframe_more : (begun now later : Standing) (count left fewer_left : ℕ) → left ≡ suc fewer_left → now.fixed ≡ begun.fixed → Ended now later → GoneOn begun now Microframes count left
+    → GoneOn begun later Microframes count fewer_left
 microframe_more begun now later count left fewer_left e fixed ended gone rest =
     joined begun.fixed (at_place begun.world (Microframes count ∷ rest)) (at_place now.world (Microframes left ∷ rest)) (at_place later.world (Microframes fewer_left ∷ rest)) (gone rest)
     (subst (λ n. Leads begun.fixed (at_place now.world (Microframes n ∷ rest)) (at_place later.world (Microframes fewer_left ∷ rest))) (sym e)
     (subst (λ (f : Fixed). Leads f (at_place now.world (Microframes (suc fewer_left) ∷ rest)) (at_place later.world (Microframes fewer_left ∷ rest))) fixed (ended fewer_left rest)))
 
-pub microframes_done : (begun now : Standing) (count left : ℕ) → left ≡ 0 → GoneOn begun now Microframes count left → (rest : List Left) → Leads begun.fixed (at_place begun.world (Microframes count ∷ rest)) (at_place now.world rest)
+pub microframes_done : (begun now : Standing) (count left : ℕ) → left ≡ 0 → GoneOn begun now Microframes count left → (rest : List Left)
+    → Leads begun.fixed (at_place begun.world (Microframes count ∷ rest)) (at_place now.world rest)
 microframes_done begun now count left z gone rest = orders_end begun.fixed (at_place begun.world (Microframes count ∷ rest)) now.world left rest z (gone rest)
 
-pub microframes_overlong : (begun now later : Standing) (count left fewer_left : ℕ) → left ≡ suc fewer_left → now.fixed ≡ begun.fixed → Unended now later → GoneOn begun now Microframes count left → (rest : List Left) → IsOverlong begun.fixed (at_place begun.world (Microframes count ∷ rest)) later.world
+pub microframes_overlong : (begun now later : Standing) (count left fewer_left : ℕ) → left ≡ suc fewer_left → now.fixed ≡ begun.fixed → Unended now later → GoneOn begun now Microframes count left
+    → (rest : List Left) → IsOverlong begun.fixed (at_place begun.world (Microframes count ∷ rest)) later.world
 microframes_overlong begun now later count left fewer_left e fixed unended gone rest = record {
   begun = now.world;
   n = fewer_left;

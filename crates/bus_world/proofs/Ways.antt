@@ -15,7 +15,8 @@ use Rattle.bus_world.specs.Orders.{Left, Command, Place, Leads, at_place, left_o
 use Rattle.bus_world.specs.Rooms.{HasRoomFor, needs_line, with_room, reserve_of}
 use Rattle.bus_world.proofs.Kept.{row_keeps}
 use Rattle.bus_world.proofs.Ticks.{joined, nothing, one_tick}
-use Rattle.bus_world.proofs.Rooming.{less_room, drop_next, command_leaves}
+use Rattle.driver_rows.specs.Offers.{IsOffered}
+use Rattle.bus_world.proofs.Rooming.{less_room, drop_next, can_offer, command_leaves}
 
 -- an event leaves the driver's reserve as it was
 pub next_room : (fixed : Fixed) (w : World) (event : Event) → (next fixed w event).driver.room ≡ w.driver.room
@@ -26,19 +27,26 @@ pub event_room : (now later : Standing) (event : Event) → later ≡ record now
 event_room now later event e = ap (λ (s : Standing). s.world.driver.room) e ∙ next_room now.fixed now.world event
 
 -- a command is one tick
-pub command_done : (now later : Standing) (n : ℕ) (cmd : Cmd) → later ≡ record now { world = commanded now.world n cmd } → (rest : List Left) → Leads now.fixed (at_place now.world (Command n cmd ∷ rest)) (at_place later.world rest)
+pub command_done : (now later : Standing) (n : ℕ) (cmd : Cmd) → later ≡ record now { world = commanded now.world n cmd } → (rest : List Left)
+    → Leads now.fixed (at_place now.world (Command n cmd ∷ rest)) (at_place later.world rest)
 command_done now later n cmd e rest =
     subst (λ (w : World). Leads now.fixed (at_place now.world (Command n cmd ∷ rest)) (at_place w rest)) (sym (ap (λ (s : Standing). s.world) e))
     (one_tick now.fixed (at_place now.world (Command n cmd ∷ rest)))
 
-pub command_line_done : (now later : Standing) (l : Line) (n : ℕ) (cmd : Cmd) → l ≡ lines.Command cmd → later ≡ record now { world = commanded now.world n cmd } → (rest : List Left) → Leads now.fixed (at_place now.world (left_of l n ∷ rest)) (at_place later.world rest)
+pub command_line_done : (now later : Standing) (l : Line) (n : ℕ) (cmd : Cmd) → l ≡ lines.Command cmd → later ≡ record now { world = commanded now.world n cmd } → (rest : List Left)
+    → Leads now.fixed (at_place now.world (left_of l n ∷ rest)) (at_place later.world rest)
 command_line_done now later l n cmd is e rest =
     subst (λ (x : Line). Leads now.fixed (at_place now.world (left_of x n ∷ rest)) (at_place later.world rest)) (sym is) (command_done now later n cmd e rest)
 
-pub command_line_room : (now later : Standing) (l : Line) (n : ℕ) (cmd : Cmd) → l ≡ lines.Command cmd → later ≡ record now { world = commanded now.world n cmd } → IsFitLine l → (r : Reserve) → HasRoomFor now.world.driver.room (with_room (needs_line l) r) → HasRoomFor later.world.driver.room r
+pub command_line_room : (now later : Standing) (l : Line) (n : ℕ) (cmd : Cmd) → l ≡ lines.Command cmd → later ≡ record now { world = commanded now.world n cmd } → IsFitLine l → (r : Reserve)
+    → HasRoomFor now.world.driver.room (with_room (needs_line l) r) → HasRoomFor later.world.driver.room r
 command_line_room now later l n cmd is e fit r room =
     subst (λ (s : Standing). HasRoomFor s.world.driver.room r) (sym e)
     (command_leaves now.world n cmd r (subst IsFitLine is fit) (subst (λ (x : Line). HasRoomFor now.world.driver.room (with_room (needs_line x) r)) is room))
+
+-- the command of a line that fits may be offered where there is room for it
+pub command_line_offers : (room : Reserve) (l : Line) (cmd : Cmd) → l ≡ lines.Command cmd → IsFitLine l → HasRoomFor room (needs_line l) → IsOffered room cmd
+command_line_offers room l cmd is fit has = can_offer room cmd (subst IsFitLine is fit) (subst (λ (x : Line). HasRoomFor room (needs_line x)) is has)
 
 -- ---- lines
 
@@ -48,12 +56,14 @@ pub record IsUnderWay (begun now : Standing) (all left : List (ℕ × Line)) : T
   pub room : HasRoomFor now.world.driver.room (reserve_of left)
   pub fits : AllByRecursion (λ x. IsFitLine x.1) left
 
-pub way_begins : (begun : Standing) (all left : List (ℕ × Line)) → left ≡ all → HasRoomFor begun.world.driver.room (reserve_of all) → AllByRecursion (λ x. IsFitLine x.1) all → IsUnderWay begun begun all left
+pub way_begins : (begun : Standing) (all left : List (ℕ × Line)) → left ≡ all → HasRoomFor begun.world.driver.room (reserve_of all) → AllByRecursion (λ x. IsFitLine x.1) all
+    → IsUnderWay begun begun all left
 way_begins begun all left e room fits =
     subst (IsUnderWay begun begun all) (sym e) (record { fixed = refl; leads = nothing begun.fixed (at_place begun.world (orders_of all)); room = room; fits = fits })
 
 -- the next line, and those after it
-pub way_at : (begun now : Standing) (all : List (ℕ × Line)) (i : ℕ) (x : ℕ × Line) → i < length all → x ≡ get_or all i x → IsUnderWay begun now all (drop i all) → IsUnderWay begun now all (x ∷ drop (i + 1) all)
+pub way_at : (begun now : Standing) (all : List (ℕ × Line)) (i : ℕ) (x : ℕ × Line) → i < length all → x ≡ get_or all i x → IsUnderWay begun now all (drop i all)
+    → IsUnderWay begun now all (x ∷ drop (i + 1) all)
 way_at begun now all i x h e way =
     subst (λ (y : ℕ × Line). IsUnderWay begun now all (y ∷ drop (i + 1) all)) (sym e) (subst (IsUnderWay begun now all) (drop_next all i x h) way)
 
@@ -63,7 +73,9 @@ line_fits begun now all rest x way = way.fits.0
 pub line_room : (begun now : Standing) (all rest : List (ℕ × Line)) (x : ℕ × Line) → IsUnderWay begun now all (x ∷ rest) → HasRoomFor now.world.driver.room (needs_line x.1)
 line_room begun now all rest x way = less_room now.world.driver.room (needs_line x.1) (reserve_of rest) way.room
 
-pub way_more : (begun now later : Standing) (all rest : List (ℕ × Line)) (x : ℕ × Line) → IsUnderWay begun now all (x ∷ rest) → later.fixed ≡ now.fixed → ((r : List Left) → Leads now.fixed (at_place now.world (left_of x.1 x.0 ∷ r)) (at_place later.world r)) → ((r : Reserve) → HasRoomFor now.world.driver.room (with_room (needs_line x.1) r) → HasRoomFor later.world.driver.room r) → IsUnderWay begun later all rest
+pub way_more : (begun now later : Standing) (all rest : List (ℕ × Line)) (x : ℕ × Line) → IsUnderWay begun now all (x ∷ rest) → later.fixed ≡ now.fixed
+    → ((r : List Left) → Leads now.fixed (at_place now.world (left_of x.1 x.0 ∷ r)) (at_place later.world r))
+    → ((r : Reserve) → HasRoomFor now.world.driver.room (with_room (needs_line x.1) r) → HasRoomFor later.world.driver.room r) → IsUnderWay begun later all rest
 way_more begun now later all rest x way fixed done room = record {
   fixed = fixed ∙ way.fixed;
   leads =
@@ -82,7 +94,8 @@ overlong_after fixed p q w h o = record {
   unended = o.unended;
 }
 
-pub way_overlong : (begun now later : Standing) (all rest : List (ℕ × Line)) (x : ℕ × Line) → IsUnderWay begun now all (x ∷ rest) → ((r : List Left) → IsOverlong now.fixed (at_place now.world (left_of x.1 x.0 ∷ r)) later.world) → IsRun begun.fixed begun.world (orders_of all) later.world
+pub way_overlong : (begun now later : Standing) (all rest : List (ℕ × Line)) (x : ℕ × Line) → IsUnderWay begun now all (x ∷ rest)
+    → ((r : List Left) → IsOverlong now.fixed (at_place now.world (left_of x.1 x.0 ∷ r)) later.world) → IsRun begun.fixed begun.world (orders_of all) later.world
 way_overlong begun now later all rest x way overlong =
     inr
     (overlong_after begun.fixed (at_place begun.world (orders_of all)) (at_place now.world (orders_of (x ∷ rest))) later.world way.leads

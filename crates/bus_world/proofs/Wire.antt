@@ -23,11 +23,12 @@ use Rattle.word_mem.specs.Memory.{Mem}
 use Rattle.op_registers.specs.RegisterFile.{RegisterFile}
 use Rattle.hc_core.specs.Controller.{Control, Content, content, began, ended, entered, part_after, frame_place, frame_step, walk_place, walk_step, WalksFrame, Walks, HasRow}
 use Rattle.usb_bus.specs.Bus.{Fixed, Wired, begin_after, is_allowed, reply_of, transact_after}
-use Rattle.bus_world.specs.World.{Standing, controller_row, controller_parts, controller_next, with_turned, Turned, FrameWalked, frame_by, frame_next, framed, Walked, sent_by, sends_by, walk_by, walk_next, walked, turned_by}
+use Rattle.bus_world.specs.World.{Standing, controller_row, controller_parts, controller_next, with_turned, Turned, FrameWalked, frame_by, frame_next, framed, Walked, sent_by}
+use Rattle.bus_world.specs.World.{sends_by, walk_by, walk_next, walked, turned_by}
 
 -- the relations of the bus
 abbrev pub begins_in : Wired → ℕ → Bool → Wired → Type 0
-begins_in w frindex allowed v = (allowed ≡ is_allowed w.fixed w.bus) × (v ≡ record w { bus = begin_after frindex w.bus })
+begins_in w frindex allowed v = (allowed ≡ is_allowed w.fixed w.bus) × (v ≡ record w { bus = begin_after w.fixed frindex w.bus })
 
 abbrev pub transacts_in : Wired → Ask → List ℕ → Reply → Wired → Type 0
 transacts_in w ask out reply v = (reply ≡ reply_of w.fixed w.bus ask out) × (v ≡ record w { bus = transact_after w.fixed w.bus ask out })
@@ -44,7 +45,8 @@ walked_pair new v place u a b =
 still_is : (w : Wired) (place new : Place) (v : Wired) → Still place w new v → IsWalked w (record { place = place; bus = w.bus }) new v
 still_is w place new v h = record { is = walked_pair new v place w h.0 h.1; fixed = ap (λ (x : Wired). x.fixed) h.1 }
 
-sent_is : (b : Bool) (t : Transaction) (h : Held) (read : Reading) (p : Place) (w : Wired) (new : Place) (v : Wired) → SentAt transacts_in b t h read p w new v → IsWalked w (sent_by w.fixed b t h read.bytes (record p { memory = read.memory }) w.bus) new v
+sent_is : (b : Bool) (t : Transaction) (h : Held) (read : Reading) (p : Place) (w : Wired) (new : Place) (v : Wired) → SentAt transacts_in b t h read p w new v
+    → IsWalked w (sent_by w.fixed b t h read.bytes (record p { memory = read.memory }) w.bus) new v
 sent_is true t h read p w new v s = record {
   is =
       walked_pair new v (transacted t h read.bytes (reply_of w.fixed w.bus (call_in t read.bytes false).ask (call_in t read.bytes false).out) (record p { memory = read.memory }))
@@ -74,7 +76,8 @@ record IsFramed (w : Wired) (expected : FrameWalked) (new : FramePlace) (v : Wir
   pub is : record { place = new; bus = v.bus } ≡ expected
   pub fixed : v.fixed ≡ w.fixed
 
-framed_pair : (new : FramePlace) (v : Wired) (place : FramePlace) (u : Wired) → new ≡ place → v ≡ u → ◌≡◌ {A = FrameWalked} (record { place = new; bus = v.bus }) (record { place = place; bus = u.bus })
+framed_pair : (new : FramePlace) (v : Wired) (place : FramePlace) (u : Wired) → new ≡ place → v ≡ u
+    → ◌≡◌ {A = FrameWalked} (record { place = new; bus = v.bus }) (record { place = place; bus = u.bus })
 framed_pair new v place u a b =
     ap (λ (n : FramePlace). let r : FrameWalked = record { place = n; bus = v.bus } in r) a
     ∙ ap (λ (x : Wired). let r : FrameWalked = record { place = place; bus = x.bus } in r) b
@@ -134,7 +137,7 @@ pub turned_is : (row : Row) (c : Content) (w : Wired) (new : Content) (v : Wired
 turned_is rows.Idle c w new v s = stays_is w c new v s
 turned_is rows.Begin c w new v s = record {
   is =
-      turned_pair new v (began (is_allowed w.fixed w.bus) c) (record w { bus = begin_after (next_index c.registers.frame_index) w.bus })
+      turned_pair new v (began (is_allowed w.fixed w.bus) c) (record w { bus = begin_after w.fixed (next_index c.registers.frame_index) w.bus })
       (s.contents ∙ ap (λ allowed. began allowed c) s.asked.0) s.asked.1;
   fixed = ap (λ (x : Wired). x.fixed) s.asked.1;
 }
@@ -144,7 +147,10 @@ turned_is rows.Go c w new v s = walks_is c w new v s
 turned_is rows.End c w new v s = stays_is w (record c { control = ended c.control }) new v s
 
 -- what stands after an event of the controller
-pub event_is : (s : Standing) (control : Control) (r : RegisterFile) (m : Mem) (v : Wired) → HasRow begins_in transacts_in (controller_row s.world) (controller_parts s.world) (record { fixed = s.fixed; bus = s.world.bus }) (content control r m) v → ◌≡◌ {A = Standing} (record { fixed = v.fixed; world = record { registers = r; memory = m; control = control; driver = s.world.driver; bus = v.bus } }) (record s { world = controller_next s.fixed s.world })
+pub event_is : (s : Standing) (control : Control) (r : RegisterFile) (m : Mem) (v : Wired)
+    → HasRow begins_in transacts_in (controller_row s.world) (controller_parts s.world) (record { fixed = s.fixed; bus = s.world.bus }) (content control r m) v
+    → ◌≡◌ {A = Standing} (record { fixed = v.fixed; world = record { registers = r; memory = m; control = control; driver = s.world.driver; bus = v.bus } })
+    (record s { world = controller_next s.fixed s.world })
 event_is s control r m v h =
     let t = turned_is (controller_row s.world) (controller_parts s.world) (record { fixed = s.fixed; bus = s.world.bus }) (content control r m) v h in
     ap (λ (f : Fixed). let x : Standing = record { fixed = f; world = record { registers = r; memory = m; control = control; driver = s.world.driver; bus = v.bus } } in x) t.fixed

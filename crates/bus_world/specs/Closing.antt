@@ -11,9 +11,10 @@ use Rattle.usb_base.specs.declared.packets.Way.{Way}
 use Rattle.usb_base.specs.declared.packets.Way.TheVariants.{Out, Ctl}
 use Rattle.report_text.specs.ReportText.{report_text, pending_line, taken_line, acted_line}
 use Rattle.endpoint_script.specs.Device.{Device, taken_of, acted_of}
+use Rattle.hub_class.specs.HubContent.{HubContent}
 use Rattle.driver_rows.specs.DriverContent.{DriverContent, pending, opened, ended}
 use Rattle.usb_bus.specs.declared.seats.Seat.{Seat}
-use Rattle.usb_bus.specs.Bus.{Fixed}
+use Rattle.usb_bus.specs.Bus.{Fixed, Bus}
 use Rattle.image_codec.specs.declared.image.Image.{Image}
 use Rattle.bus_world.specs.World.{World}
 
@@ -31,12 +32,25 @@ device_text Out Interrupt name d = taken_line name (taken_of d name)
 device_text Ctl _ name d = acted_line name (acted_of d name)
 device_text _ _ name d = []
 
-abbrev pub told_by : Seat → Option Device → List ℕ
-told_by s None = []
-told_by s (Some d) = device_text s.name.way s.kind s.name d
+-- the hub with the address of this endpoint
+abbrev pub hub_of : Bus → EpName → Option HubContent
+hub_of b name = find (λ h. h.address == name.addr) b.hubs
+
+-- how often endpoint 0 of a hub acted on a request
+abbrev pub hub_text : EpName → Option HubContent → List ℕ
+hub_text name None = []
+hub_text name (Some h) = acted_line name h.control.acted
+
+-- by the device of this address, else by the hub
+abbrev pub told_by : Seat → Option Device → Option HubContent → List ℕ
+told_by s None h = hub_text s.name h
+told_by s (Some d) h = device_text s.name.way s.kind s.name d
+
+abbrev pub told_text : Bus → Seat → List ℕ
+told_text b s = told_by s (find (λ d. d.address == s.name.addr) b.devices) (hub_of b s.name)
 
 abbrev pub opened_text : World → Seat → List ℕ
-opened_text w s = waiting_text s.name (waiting w.driver s.name) ++ told_by s (find (λ d. d.address == s.name.addr) w.bus.devices)
+opened_text w s = waiting_text s.name (waiting w.driver s.name) ++ told_text w.bus s
 
 abbrev pub closing_text : World → Seat → List ℕ
 closing_text w s = if opened w.driver s.name then opened_text w s else []

@@ -2,7 +2,7 @@
 --     needs cmd             what a command uses
 --     reserve_of lines      the room for all commands of these lines
 --     HasRoomFor room r     there is as much room as r, in each of its numbers
-use Rattle.std.specs.Prelude.{ℕ, ◌+◌, ◌≤◌, nat_le, List, [], ◌∷◌, length, if◌then◌else◌}
+use Rattle.std.specs.Prelude.{ℕ, ◌+◌, ◌*◌, ◌≤◌, nat_le, List, [], ◌∷◌, length, if◌then◌else◌}
 use Rattle.usb_base.specs.declared.commands.Cmd.{Cmd}
 use Rattle.usb_base.specs.declared.commands.Cmd.TheVariants as commands
 use Rattle.script_types.specs.declared.scripts.Line.{Line}
@@ -17,12 +17,16 @@ no_room = record { endpoints = 0; transfers = 0; reports = 0; report_bytes = 0 }
 abbrev pub transfer_room : ℕ → Reserve
 transfer_room n = record { endpoints = 0; transfers = 1; reports = 1; report_bytes = if nat_le n 20480 then n else 0 }
 
+-- A descriptor has one line of the report; its slots have at most 8 times 3,072 bytes.
+abbrev pub iso_room : ℕ → Reserve
+iso_room n = record { endpoints = 0; transfers = n; reports = n; report_bytes = 24576 * n }
+
 abbrev pub needs : Cmd → Reserve
 needs (commands.OpenEp desc) = record no_room { endpoints = 1; reports = 1 }
 needs (commands.Get name len by) = transfer_room len
 needs (commands.Put name bytes by) = transfer_room (length bytes)
 needs (commands.Control name setup bytes) = transfer_room (request_length setup)
-needs (commands.Iso name count len seed) = record no_room { transfers = count; reports = count }
+needs (commands.Iso name count len seed) = iso_room count
 needs (commands.Cancel name) = record no_room { reports = 1 }
 
 abbrev pub needs_line : Line → Reserve

@@ -128,7 +128,7 @@ walked c v = record { content = walked_content c v.place; bus = v.bus }
 
 abbrev pub turned_by : Fixed → Row → Content → Bus → Turned
 turned_by fixed rows.Idle c b = record { content = c; bus = b }
-turned_by fixed rows.Begin c b = record { content = began (is_allowed fixed b) c; bus = begin_after (next_index c.registers.frame_index) b }
+turned_by fixed rows.Begin c b = record { content = began (is_allowed fixed b) c; bus = begin_after fixed (next_index c.registers.frame_index) b }
 turned_by fixed rows.Frame c b = framed c (frame_next fixed (frame_place c) b)
 turned_by fixed rows.Enter c b = walked (entered c) (walk_next fixed (walk_place (entered c)) b)
 turned_by fixed rows.Go c b = walked c (walk_next fixed (walk_place c) b)

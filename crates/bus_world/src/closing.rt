@@ -1,12 +1,11 @@
-ghost use Rattle.std.specs.Prelude.{◌≡◌, ℕ, ◌≤◌, ◌<◌, ◌^◌, ◌==◌, length, find, slice_index, IfOk, OnOk, OnErr};
+ghost use Rattle.std.specs.Prelude.{◌≡◌, ℕ, ◌<◌, ◌^◌, length, slice_index, IfOk};
 ghost use Rattle.std.specs.List.{flat_map};
-ghost use Rattle.std.specs.Io.KnownBytes.{Appends};
-ghost use Rattle.usb_base.specs.Outside.{AppendsPrefix, one_more};
+ghost use Rattle.usb_base.specs.Outside.{Prints};
 ghost use Rattle.report_text.specs.ReportText.{report_text};
 ghost use Rattle.image_codec.specs.Image.{IsAligned, HasFields};
 ghost use Rattle.word_mem.specs.Memory.{IsShaped};
 ghost use Rattle.endpoint_script.specs.Device.{taken_of};
-ghost use Rattle.bus_world.specs.Closing.{waiting, waiting_text, device_text, told_by, opened_text, closing_text, world_text, world_image};
+ghost use Rattle.bus_world.specs.Closing.{waiting, waiting_text, device_text, hub_of, hub_text, told_text, opened_text, closing_text, world_text, world_image};
 
 use crate::world::World;
 use endpoint_script::Device;
@@ -18,11 +17,7 @@ use usb_bus::Seat;
 
 /// Writes the line of so many transfers that wait at an endpoint, if there are some.
 fn print_count<K: Sink>(name: &EpName, k: u32, sink: &mut K) -> Result<(), Failed>
-    ensures ok { OnOk result (Appends (K.written sink.old) (K.written sink.new) (waiting_text name.now k)) }
-    ensures err { OnErr result (AppendsPrefix (K.written sink.old) (K.written sink.new) (waiting_text name.now k)) }
-    ensures stays { OnOk result (K.faults sink.new ≡ K.faults sink.old) }
-    ensures rises { OnErr result (K.faults sink.new ≡ one_more (K.faults sink.old)) }
-    ensures counted { K.faults sink.old ≤ K.faults sink.new }
+    ensures { Prints K.written K.faults sink.old sink.new result (waiting_text name.now k) }
 {
     if k == 0 {
         return Ok(());
@@ -33,11 +28,7 @@ fn print_count<K: Sink>(name: &EpName, k: u32, sink: &mut K) -> Result<(), Faile
 /// Writes the line of what a device took at an endpoint, or how often it acted, if there is one.
 fn print_device<K: Sink>(seat: &Seat, device: &Device, sink: &mut K) -> Result<(), Failed>
     requires { length (taken_of device.now seat.now.name) < 2 ^ 32 }
-    ensures ok { OnOk result (Appends (K.written sink.old) (K.written sink.new) (device_text seat.now.name.way seat.now.kind seat.now.name device.now)) }
-    ensures err { OnErr result (AppendsPrefix (K.written sink.old) (K.written sink.new) (device_text seat.now.name.way seat.now.kind seat.now.name device.now)) }
-    ensures stays { OnOk result (K.faults sink.new ≡ K.faults sink.old) }
-    ensures rises { OnErr result (K.faults sink.new ≡ one_more (K.faults sink.old)) }
-    ensures counted { K.faults sink.old ≤ K.faults sink.new }
+    ensures { Prints K.written K.faults sink.old sink.new result (device_text seat.now.name.way seat.now.kind seat.now.name device.now) }
 {
     match (seat.name.way, seat.kind) {
         (Way::Out, EpKind::Bulk | EpKind::Interrupt) => {
@@ -59,38 +50,36 @@ impl World {
         self.driver().pending(name)
     }
 
-    /// Writes the line of what the device of an endpoint took, or how often it acted, if there is one.
+    /// Writes the line of how often endpoint 0 of a hub acted, if there is the hub.
+    fn print_hub<K: Sink>(&self, name: &EpName, sink: &mut K) -> Result<(), Failed>
+        ensures { Prints K.written K.faults sink.old sink.new result (hub_text name.now (hub_of self.now.world.bus name.now)) }
+    {
+        match self.hub(name.addr) {
+            Some(hub) => print_acted(name, hub.acted(), sink),
+            None => Ok(()),
+        }
+    }
+
+    /// Writes the line of what the device of an endpoint took, or how often it or a hub acted, if there is one.
     fn print_told<K: Sink>(&self, seat: &Seat, sink: &mut K) -> Result<(), Failed>
-        ensures ok { OnOk result (Appends (K.written sink.old) (K.written sink.new) (told_by seat.now (find (λ d. d.address == seat.now.name.addr) self.now.world.bus.devices))) }
-        ensures err { OnErr result (AppendsPrefix (K.written sink.old) (K.written sink.new) (told_by seat.now (find (λ d. d.address == seat.now.name.addr) self.now.world.bus.devices))) }
-        ensures stays { OnOk result (K.faults sink.new ≡ K.faults sink.old) }
-        ensures rises { OnErr result (K.faults sink.new ≡ one_more (K.faults sink.old)) }
-        ensures counted { K.faults sink.old ≤ K.faults sink.new }
+        ensures { Prints K.written K.faults sink.old sink.new result (told_text self.now.world.bus seat.now) }
     {
         match self.device(seat.name.addr) {
             Some(device) => print_device(seat, device, sink),
-            None => Ok(()),
+            None => self.print_hub(&seat.name, sink),
         }
     }
 
     /// Writes the line of what waits at an endpoint that hasn't ended, if something does.
     fn print_waiting<K: Sink>(&self, name: &EpName, sink: &mut K) -> Result<(), Failed>
-        ensures ok { OnOk result (Appends (K.written sink.old) (K.written sink.new) (waiting_text name.now (waiting self.now.world.driver name.now))) }
-        ensures err { OnErr result (AppendsPrefix (K.written sink.old) (K.written sink.new) (waiting_text name.now (waiting self.now.world.driver name.now))) }
-        ensures stays { OnOk result (K.faults sink.new ≡ K.faults sink.old) }
-        ensures rises { OnErr result (K.faults sink.new ≡ one_more (K.faults sink.old)) }
-        ensures counted { K.faults sink.old ≤ K.faults sink.new }
+        ensures { Prints K.written K.faults sink.old sink.new result (waiting_text name.now (waiting self.now.world.driver name.now)) }
     {
         print_count(name, self.waiting(name), sink)
     }
 
     /// Writes what closes the report of an endpoint that was opened.
     fn print_opened<K: Sink>(&self, seat: &Seat, sink: &mut K) -> Result<(), Failed>
-        ensures ok { OnOk result (Appends (K.written sink.old) (K.written sink.new) (opened_text self.now.world seat.now)) }
-        ensures err { OnErr result (AppendsPrefix (K.written sink.old) (K.written sink.new) (opened_text self.now.world seat.now)) }
-        ensures stays { OnOk result (K.faults sink.new ≡ K.faults sink.old) }
-        ensures rises { OnErr result (K.faults sink.new ≡ one_more (K.faults sink.old)) }
-        ensures counted { K.faults sink.old ≤ K.faults sink.new }
+        ensures { Prints K.written K.faults sink.old sink.new result (opened_text self.now.world seat.now) }
     {
         self.print_waiting(&seat.name, sink)?;
         self.print_told(seat, sink)
@@ -98,11 +87,7 @@ impl World {
 
     /// Writes what closes the report of an endpoint, if it was opened.
     fn print_closing<K: Sink>(&self, seat: &Seat, sink: &mut K) -> Result<(), Failed>
-        ensures ok { OnOk result (Appends (K.written sink.old) (K.written sink.new) (closing_text self.now.world seat.now)) }
-        ensures err { OnErr result (AppendsPrefix (K.written sink.old) (K.written sink.new) (closing_text self.now.world seat.now)) }
-        ensures stays { OnOk result (K.faults sink.new ≡ K.faults sink.old) }
-        ensures rises { OnErr result (K.faults sink.new ≡ one_more (K.faults sink.old)) }
-        ensures counted { K.faults sink.old ≤ K.faults sink.new }
+        ensures { Prints K.written K.faults sink.old sink.new result (closing_text self.now.world seat.now) }
     {
         if self.driver().opened(&seat.name) {
             return self.print_opened(seat, sink);
@@ -112,11 +97,7 @@ impl World {
 
     /// Writes what closes the reports of these endpoints.
     fn print_closings<K: Sink>(&self, seats: &[Seat], sink: &mut K) -> Result<(), Failed>
-        ensures ok { OnOk result (Appends (K.written sink.old) (K.written sink.new) (flat_map (closing_text self.now.world) seats.now)) }
-        ensures err { OnErr result (AppendsPrefix (K.written sink.old) (K.written sink.new) (flat_map (closing_text self.now.world) seats.now)) }
-        ensures stays { OnOk result (K.faults sink.new ≡ K.faults sink.old) }
-        ensures rises { OnErr result (K.faults sink.new ≡ one_more (K.faults sink.old)) }
-        ensures counted { K.faults sink.old ≤ K.faults sink.new }
+        ensures { Prints K.written K.faults sink.old sink.new result (flat_map (closing_text self.now.world) seats.now) }
     {
         for seat in seats {
             self.print_closing(seat, sink)?;
@@ -126,22 +107,14 @@ impl World {
 
     /// Writes the lines of the report.
     fn print_lines<K: Sink>(&self, sink: &mut K) -> Result<(), Failed>
-        ensures ok { OnOk result (Appends (K.written sink.old) (K.written sink.new) (report_text self.now.world.driver.reports self.now.world.driver.store)) }
-        ensures err { OnErr result (AppendsPrefix (K.written sink.old) (K.written sink.new) (report_text self.now.world.driver.reports self.now.world.driver.store)) }
-        ensures stays { OnOk result (K.faults sink.new ≡ K.faults sink.old) }
-        ensures rises { OnErr result (K.faults sink.new ≡ one_more (K.faults sink.old)) }
-        ensures counted { K.faults sink.old ≤ K.faults sink.new }
+        ensures { Prints K.written K.faults sink.old sink.new result (report_text self.now.world.driver.reports self.now.world.driver.store) }
     {
         print_report(self.driver().reports(), self.driver().store(), sink)
     }
 
     /// Writes what closes the report of each endpoint.
     fn print_ends<K: Sink>(&self, sink: &mut K) -> Result<(), Failed>
-        ensures ok { OnOk result (Appends (K.written sink.old) (K.written sink.new) (flat_map (closing_text self.now.world) self.now.fixed.seats)) }
-        ensures err { OnErr result (AppendsPrefix (K.written sink.old) (K.written sink.new) (flat_map (closing_text self.now.world) self.now.fixed.seats)) }
-        ensures stays { OnOk result (K.faults sink.new ≡ K.faults sink.old) }
-        ensures rises { OnErr result (K.faults sink.new ≡ one_more (K.faults sink.old)) }
-        ensures counted { K.faults sink.old ≤ K.faults sink.new }
+        ensures { Prints K.written K.faults sink.old sink.new result (flat_map (closing_text self.now.world) self.now.fixed.seats) }
     {
         self.print_closings(self.seats(), sink)
     }
@@ -149,11 +122,7 @@ impl World {
     /// Writes the report: its lines, and then for each endpoint that was opened those that close it. `Failed` comes only where the sink's
     /// count of faults rose, with a front part of the text written. It takes no memory.
     pub fn print<K: Sink>(&self, sink: &mut K) -> Result<(), Failed>
-        ensures ok { OnOk result (Appends (K.written sink.old) (K.written sink.new) (world_text self.now.fixed self.now.world)) }
-        ensures err { OnErr result (AppendsPrefix (K.written sink.old) (K.written sink.new) (world_text self.now.fixed self.now.world)) }
-        ensures stays { OnOk result (K.faults sink.new ≡ K.faults sink.old) }
-        ensures rises { OnErr result (K.faults sink.new ≡ one_more (K.faults sink.old)) }
-        ensures counted { K.faults sink.old ≤ K.faults sink.new }
+        ensures { Prints K.written K.faults sink.old sink.new result (world_text self.now.fixed self.now.world) }
     {
         self.print_lines(sink)?;
         self.print_ends(sink)

@@ -1,4 +1,4 @@
-ghost use Rattle.std.specs.Prelude.{◌≡◌, ℕ, suc, List, ◌∷◌};
+ghost use Rattle.std.specs.Prelude.{◌≡◌};
 ghost use Rattle.std.specs.Bool.{OnTrue, OnFalse};
 ghost use Rattle.std.specs.List.{AllByRecursion};
 ghost use Rattle.script_types.specs.declared.scripts.Event.{Event as Kind};
@@ -6,7 +6,7 @@ ghost use Rattle.bus_world.specs.World.{next, kind_next};
 ghost use Rattle.driver_rows.specs.declared.content.Reserve.{Reserve as Room};
 ghost use Rattle.script_fits.specs.Fits.{IsFit, IsFitLine};
 ghost use Rattle.bus_world.specs.Rooms.{HasRoomFor, needs_line, with_room, reserve_of};
-ghost use Rattle.bus_world.specs.Orders.{Left, at_place, is_end, left_of, orders_of, Leads, IsUnended, IsOverlong, IsRun, Events, Microframes};
+ghost use Rattle.bus_world.specs.Orders.{is_end, left_of, orders_of, CarriesOut, EndsMicroframe, IsMicroframeUnended, StopsIn, IsRun, Events, Microframes};
 
 use crate::world::World;
 use hc_core::HcStep;
@@ -40,8 +40,8 @@ impl World {
     fn microframe(&mut self) -> bool
         ensures fixed { self.new.fixed ≡ self.old.fixed }
         ensures room { self.new.world.driver.room ≡ self.old.world.driver.room }
-        ensures ended { OnTrue result ((n : ℕ) (rest : List Left) → Leads self.old.fixed (at_place self.old.world (Microframes (suc n) ∷ rest)) (at_place self.new.world (Microframes n ∷ rest))) }
-        ensures unended { OnFalse result ((n : ℕ) (rest : List Left) → IsUnended self.old.fixed (at_place self.old.world (Microframes (suc n) ∷ rest)) (at_place self.new.world (Microframes (suc n) ∷ rest))) }
+        ensures ended { OnTrue result (EndsMicroframe self.old.fixed self.old.world self.new.world) }
+        ensures unended { OnFalse result (IsMicroframeUnended self.old.fixed self.old.world self.new.world) }
     {
         for _turn in 0..MOST_TURNS {
             if self.turn() {
@@ -55,8 +55,8 @@ impl World {
     fn microframes(&mut self, count: u32) -> bool
         ensures fixed { self.new.fixed ≡ self.old.fixed }
         ensures room { self.new.world.driver.room ≡ self.old.world.driver.room }
-        ensures done { OnTrue result ((rest : List Left) → Leads self.old.fixed (at_place self.old.world (Microframes count ∷ rest)) (at_place self.new.world rest)) }
-        ensures overlong { OnFalse result ((rest : List Left) → IsOverlong self.old.fixed (at_place self.old.world (Microframes count ∷ rest)) self.new.world) }
+        ensures done { OnTrue result (CarriesOut self.old.fixed self.old.world (Microframes count) self.new.world) }
+        ensures overlong { OnFalse result (StopsIn self.old.fixed self.old.world (Microframes count) self.new.world) }
     {
         for _microframe in 0..count {
             if !self.microframe() {
@@ -70,7 +70,7 @@ impl World {
     fn events(&mut self, event: Event, count: u32)
         ensures fixed { self.new.fixed ≡ self.old.fixed }
         ensures room { self.new.world.driver.room ≡ self.old.world.driver.room }
-        ensures done { (rest : List Left) → Leads self.old.fixed (at_place self.old.world (Events event count ∷ rest)) (at_place self.new.world rest) }
+        ensures done { CarriesOut self.old.fixed self.old.world (Events event count) self.new.world }
     {
         for _event in 0..count {
             self.event(event);
@@ -84,8 +84,8 @@ impl World {
         requires fits { IsFitLine line.now }
         requires room { HasRoomFor self.old.world.driver.room (needs_line line.now) }
         ensures fixed { self.new.fixed ≡ self.old.fixed }
-        ensures done { OnTrue result ((rest : List Left) → Leads self.old.fixed (at_place self.old.world (left_of line.now number ∷ rest)) (at_place self.new.world rest)) }
-        ensures overlong { OnFalse result ((rest : List Left) → IsOverlong self.old.fixed (at_place self.old.world (left_of line.now number ∷ rest)) self.new.world) }
+        ensures done { OnTrue result (CarriesOut self.old.fixed self.old.world (left_of line.now number) self.new.world) }
+        ensures overlong { OnFalse result (StopsIn self.old.fixed self.old.world (left_of line.now number) self.new.world) }
         ensures room_left { (r : Room) → HasRoomFor self.old.world.driver.room (with_room (needs_line line.now) r) → HasRoomFor self.new.world.driver.room r }
     {
         match line {

@@ -12,7 +12,8 @@ ghost use Rattle.bus_world.specs.Closing.{waiting_text};
 pub fn rooms()
     ensures longest { transfer_room 20480 ≡ record { endpoints = 0; transfers = 1; reports = 1; report_bytes = 20480 } }
     ensures refused { transfer_room 20481 ≡ record { endpoints = 0; transfers = 1; reports = 1; report_bytes = 0 } }
-    ensures lines { (name : EpName) → reserve_of ((2, Order D 5) ∷ (3, Commanded (Get name 515 512)) ∷ (4, Commanded (Cancel name)) ∷ []) ≡ record { endpoints = 0; transfers = 1; reports = 2; report_bytes = 515 } }
+    ensures lines { (name : EpName) → reserve_of ((2, Order D 5) ∷ (3, Commanded (Get name 515 512)) ∷ (4, Commanded (Cancel name)) ∷ [])
+        ≡ record { endpoints = 0; transfers = 1; reports = 2; report_bytes = 515 } }
 {}
 
 /// What is left of the lines at first, and of microframes after a turn.

@@ -10,6 +10,7 @@ ghost use Rattle.bus_world.specs.World.{driver_next, controller_next, next, kind
 use ehci_driver::Driver;
 use endpoint_script::Device;
 use hc_core::{Controller, HcStep};
+use hub_class::Hub;
 use op_registers::Registers;
 use script_types::Event;
 use std::marker::Model;
@@ -158,5 +159,12 @@ impl World {
         ensures few { (name : Named) → IfSome result (λ d. length (taken_of d.now name) < 2 ^ 32) }
     {
         self.bus.device(addr)
+    }
+
+    /// The hub with this address; None exactly where there is none.
+    pub fn hub(&self, addr: DevAddr) -> Option<&Hub>
+        ensures { option_copied result ≡ find (λ h. h.address == addr) self.now.world.bus.hubs }
+    {
+        self.bus.hub(addr)
     }
 }

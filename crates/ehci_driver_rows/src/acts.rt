@@ -1,5 +1,5 @@
 use crate::cases::{Act, Case};
-use crate::events::{blocks, differences, events};
+use crate::events::{blocks, differences, events, run};
 use crate::host::Host;
 use crate::image::words_from;
 use crate::pipes::{Pipe, desc_of, name_of};
@@ -101,6 +101,14 @@ fn answer(alloc: Global, host: &mut Host) -> Result<String, AllocError> {
     format!(in alloc; "controller{}", differences(alloc, &before, &now)?.as_str())
 }
 
+/// So many microframes begin: what FRINDEX is then.
+fn begin(alloc: Global, host: &mut Host, count: u32) -> Result<String, AllocError> {
+    for _microframe in 0..count {
+        host.begin();
+    }
+    format!(in alloc; "controller frindex {:x}", host.regs().frame_index())
+}
+
 /// All registers, by their offsets.
 fn registers(alloc: Global, host: &Host) -> Result<String, AllocError> {
     let mut text = format!(in alloc; "registers")?;
@@ -148,49 +156,53 @@ fn refuse(
     format!(in alloc; "report{}", since(alloc, host, lines)?.as_str())
 }
 
-/// An act that offers a command of this endpoint.
-fn command(alloc: Global, host: &mut Host, act: &Act, named: EpName) -> Result<String, AllocError> {
+/// The command that an act offers to this endpoint, if it offers one.
+fn command_of(alloc: Global, act: &Act, named: EpName) -> Result<Option<Cmd>, AllocError> {
+    let name = named;
     match *act {
-        Act::Get(pipe, len, by) => offered(
-            alloc,
-            host,
-            "get",
-            pipe,
-            &Cmd::Get {
-                name: named,
-                len,
-                by,
-            },
-        ),
-        Act::Put(pipe, len, by) => {
+        Act::Get(_, len, by) => Ok(Some(Cmd::Get { name, len, by })),
+        Act::Put(_, len, by) => {
             let bytes = sent(alloc, len)?;
-            offered(
-                alloc,
-                host,
-                "put",
-                pipe,
-                &Cmd::Put {
-                    name: named,
-                    bytes,
-                    by,
-                },
-            )
+            Ok(Some(Cmd::Put { name, bytes, by }))
         }
-        Act::Request(pipe, setup, len) => {
+        Act::Request(_, setup, len) => {
             let bytes = sent(alloc, len)?;
-            offered(
-                alloc,
-                host,
-                "control",
-                pipe,
-                &Cmd::Control {
-                    name: named,
-                    setup,
-                    bytes,
-                },
-            )
+            Ok(Some(Cmd::Control { name, setup, bytes }))
         }
-        Act::Cancel(pipe) => offered(alloc, host, "cancel", pipe, &Cmd::Cancel(named)),
+        Act::Iso(_, count, len, seed) => Ok(Some(Cmd::Iso {
+            name,
+            count,
+            len,
+            seed,
+        })),
+        Act::Cancel(_) => Ok(Some(Cmd::Cancel(name))),
+        _ => Ok(None),
+    }
+}
+
+/// What an act that offers a command is called.
+fn verb(act: &Act) -> &'static str {
+    match act {
+        Act::Get(_, _, _) => "get",
+        Act::Put(_, _, _) => "put",
+        Act::Request(_, _, _) => "control",
+        Act::Iso(_, _, _, _) => "iso",
+        _ => "cancel",
+    }
+}
+
+/// An act with this endpoint.
+fn command(
+    alloc: Global,
+    host: &mut Host,
+    pipe: Pipe,
+    act: &Act,
+    named: EpName,
+) -> Result<String, AllocError> {
+    if let Some(cmd) = command_of(alloc, act, named)? {
+        return offered(alloc, host, verb(act), pipe, &cmd);
+    }
+    match *act {
         Act::Refuse(_, why) => refuse(alloc, host, named, why),
         _ => told(alloc, host, &named),
     }
@@ -206,13 +218,16 @@ fn act(alloc: Global, host: &mut Host, act: &Act) -> Result<String, AllocError> 
         Act::Get(pipe, _, _)
         | Act::Put(pipe, _, _)
         | Act::Request(pipe, _, _)
+        | Act::Iso(pipe, _, _, _)
         | Act::Cancel(pipe)
         | Act::Refuse(pipe, _)
         | Act::Tell(pipe) => match name_of(pipe) {
-            Some(named) => command(alloc, host, act, named),
+            Some(named) => command(alloc, host, pipe, act, named),
             None => format!(in alloc; "no such endpoint"),
         },
         Act::Events(count) => events(alloc, host, count),
+        Act::Run(count) => run(alloc, host, count),
+        Act::Microframes(count) => begin(alloc, host, count),
         Act::Write(at, word) => write(alloc, host, at, 0, 1, word),
         Act::Writes {
             at,

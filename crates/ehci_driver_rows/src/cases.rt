@@ -16,10 +16,16 @@ pub(crate) enum Act {
     Put(Pipe, u32, u32),
     /// A request with these setup bytes, and with so many bytes to be sent.
     Request(Pipe, [u8; 8], u32),
+    /// So many descriptors, with slots of so many bytes, which count up from the last number.
+    Iso(Pipe, u8, u16, u8),
     /// The endpoint is to be cancelled.
     Cancel(Pipe),
     /// So many events of the driver.
     Events(u32),
+    /// So many events of the driver, of which the last is told alone.
+    Run(u32),
+    /// So many microframes begin.
+    Microframes(u32),
     /// The controller writes a word at a byte address.
     Write(u32, u32),
     /// The controller writes the same word at so many places, one every so many bytes.

@@ -67,6 +67,22 @@ fn add(alloc: Global, text: &mut String, made: &str, times: u32) -> Result<(), A
     Ok(())
 }
 
+/// So many events of the driver: the last one, and what differs after all of them.
+pub(crate) fn run(alloc: Global, host: &mut Host, count: u32) -> Result<String, AllocError> {
+    let before = Shot::of(alloc, host)?;
+    let mut last = DriverStep::Rest;
+    for _event in 0..count {
+        last = host.step();
+    }
+    let now = Shot::of(alloc, host)?;
+    let mut text = format!(in alloc; "{count} events, the last {}", kind(last))?;
+    if before.blocks() != now.blocks() {
+        text.push_str(blocks(alloc, now.blocks())?.as_str())?;
+    }
+    text.push_str(since(alloc, host, before.lines)?.as_str())?;
+    Ok(text)
+}
+
 /// So many events of the driver, a line each; equal ones in a row on one line.
 pub(crate) fn events(alloc: Global, host: &mut Host, count: u32) -> Result<String, AllocError> {
     let mut text = format!(in alloc; "events")?;

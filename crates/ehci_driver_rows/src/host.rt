@@ -1,13 +1,13 @@
 ghost use Rattle.std.specs.Prelude.{◌≡◌, ◌≤◌, ◌%◌, IsTrue};
+ghost use Rattle.bandwidth.specs.Placements.{is_period};
 ghost use Rattle.run_book.specs.Book.{holding, Stands};
-ghost use Rattle.driver_rows.specs.Offers.{IsOffered, IsRing, HasRoom};
-ghost use Rattle.usb_base.specs.declared.packets.EpKind.{EpKind as Kind};
+ghost use Rattle.driver_rows.specs.Offers.{IsOffered, IsOpened, HasRoom};
 
 use ehci_driver::{Driver, DriverStep, Reserve};
 use op_registers::Registers;
 use std::alloc::Global;
 use std::marker::Model;
-use usb_base::{Cmd, EpKind, EpName, Memory, OfferError};
+use usb_base::{Cmd, EpDesc, EpKind, EpName, Memory, OfferError, Speed};
 use word_mem::WordMem;
 
 /// The driver, and the registers and words that it shares with a controller.
@@ -74,6 +74,11 @@ impl Host {
         self.mem.hc_write(at, word)
     }
 
+    /// The next microframe begins.
+    pub(crate) fn begin(&mut self) {
+        self.regs.begin_microframe();
+    }
+
     /// The controller answers the doorbell.
     pub(crate) fn answer(&mut self) {
         self.regs.advance();
@@ -100,23 +105,63 @@ fn is_offered(room: &Reserve, cmd: &Cmd) -> bool
         Cmd::OpenEp(desc) => room.endpoints >= 1
             && desc.max <= 1024
             && desc.port <= 127
-            && is_ring(desc.kind),
+            && is_opened(desc),
         Cmd::Get { len, by, .. } => is_cut(*by) && has_room(room, *len as usize),
         Cmd::Put { bytes, by, .. } => is_cut(*by) && has_room(room, bytes.as_slice().len()),
         Cmd::Control { setup, .. } => has_room(room, setup[6] as usize + 256 * setup[7] as usize),
-        Cmd::Iso { .. } => true,
+        Cmd::Iso { count, .. } => {
+            *count as u32 <= room.transfers
+                && *count as u32 <= room.reports
+                && 24_576 * *count as u32 <= room.report_bytes
+        }
         Cmd::Cancel(_) => room.reports >= 1,
     }
 }
 
-/// Whether an endpoint of this kind may be opened.
-fn is_ring(kind: EpKind) -> bool
-    ensures { IsTrue result → IsRing kind }
+/// Whether an endpoint may be opened: of those with a place in the frame list the ones at high speed.
+#[tactic(auto, using(std::proofs::lemmas::Grind::common_steps, crate::proofs::Wants::in_ring))]
+fn is_opened(desc: &EpDesc) -> bool
+    ensures { IsTrue result → IsOpened desc.now }
 {
-    match kind {
+    match desc.kind {
         EpKind::Bulk | EpKind::Control => true,
-        EpKind::Interrupt | EpKind::Iso => false,
+        EpKind::Interrupt | EpKind::Iso => match desc.speed {
+            Speed::High => is_wanted(desc),
+            Speed::Full | Speed::Low => false,
+        },
     }
+}
+
+/// Whether a plan may be asked for it, at high speed.
+#[tactic(auto, using(std::proofs::lemmas::Grind::common_steps, crate::proofs::Wants::wanted))]
+fn is_wanted(desc: &EpDesc) -> bool
+    requires { desc.now.speed ≡ Speed.High }
+    ensures { IsTrue result → IsOpened desc.now }
+{
+    if desc.hub.is_some() || !is_power(desc.period) {
+        return false;
+    }
+    desc.period >= 1 && desc.max >= 1 && desc.max <= 1024 && desc.multi >= 1 && desc.multi <= 3
+}
+
+/// Whether an endpoint may have this period.
+fn is_power(period: u16) -> bool
+    ensures { result ≡ is_period period }
+{
+    period == 1
+        || period == 2
+        || period == 4
+        || period == 8
+        || period == 16
+        || period == 32
+        || period == 64
+        || period == 128
+        || period == 256
+        || period == 512
+        || period == 1024
+        || period == 2048
+        || period == 4096
+        || period == 8192
 }
 
 /// Whether a transfer may be cut so.

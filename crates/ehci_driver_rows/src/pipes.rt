@@ -15,6 +15,16 @@ pub(crate) enum Pipe {
     Classic,
     /// 5.0.ctl, control, full speed, behind port 2 of hub 9.
     ClassicControl,
+    /// 6.1.in, interrupt, 8 bytes every 1,024 frames.
+    Rare,
+    /// 6.2.in, interrupt, three packets of 1,024 bytes in each microframe.
+    Wide,
+    /// 6.3.in, the same.
+    OtherWide,
+    /// 7.1.in, isochronous, 64 bytes every second frame.
+    IsoIn,
+    /// 7.2.out, isochronous, 64 bytes every 1,024 frames.
+    IsoOut,
 }
 
 /// The name of an endpoint.
@@ -26,6 +36,11 @@ pub(crate) fn name_of(pipe: Pipe) -> Option<EpName> {
         Pipe::Control => (4, 0, Way::Ctl),
         Pipe::Classic => (5, 1, Way::In),
         Pipe::ClassicControl => (5, 0, Way::Ctl),
+        Pipe::Rare => (6, 1, Way::In),
+        Pipe::Wide => (6, 2, Way::In),
+        Pipe::OtherWide => (6, 3, Way::In),
+        Pipe::IsoIn => (7, 1, Way::In),
+        Pipe::IsoOut => (7, 2, Way::Out),
     };
     Some(EpName {
         addr: DevAddr::new(addr)?,
@@ -41,6 +56,15 @@ pub(crate) fn desc_of(pipe: Pipe) -> Option<EpDesc> {
         Pipe::Control => (EpKind::Control, Speed::High, 64),
         Pipe::Classic => (EpKind::Bulk, Speed::Full, 64),
         Pipe::ClassicControl => (EpKind::Control, Speed::Full, 64),
+        Pipe::Rare => (EpKind::Interrupt, Speed::High, 8),
+        Pipe::Wide | Pipe::OtherWide => (EpKind::Interrupt, Speed::High, 1024),
+        Pipe::IsoIn | Pipe::IsoOut => (EpKind::Iso, Speed::High, 64),
+    };
+    let (period, multi) = match pipe {
+        Pipe::Rare | Pipe::IsoOut => (8192, 1),
+        Pipe::Wide | Pipe::OtherWide => (1, 3),
+        Pipe::IsoIn => (16, 1),
+        _ => (0, 1),
     };
     let (hub, port) = match speed {
         Speed::High => (None, 0),
@@ -51,8 +75,8 @@ pub(crate) fn desc_of(pipe: Pipe) -> Option<EpDesc> {
         speed,
         kind,
         max,
-        period: 0,
-        multi: 1,
+        period,
+        multi,
         hub,
         port,
     })

@@ -1,3 +1,4 @@
 mod HubWork
 mod Effects
 mod Acks
+pub mod Microframe

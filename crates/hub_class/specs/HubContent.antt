@@ -1,5 +1,5 @@
 -- What a hub has in it (USB 2.0, 11.1 and 11.14).
-use Rattle.std.specs.Prelude.{ℕ, List, [], map}
+use Rattle.std.specs.Prelude.{ℕ, Bool, nat_le, length, List, [], map}
 use Rattle.control_stages.specs.Stages.{Stages, opened}
 use Rattle.hub_ports.specs.declared.port.Port.{Port}
 use Rattle.hub_ports.specs.Ports.{opened_port}
@@ -14,6 +14,10 @@ pub record HubContent : Type 0 where
   pub control : Stages  -- its endpoint 0
   pub bulk : TwoBuffers
   pub pipeline : List Entry
+
+-- what each hub of a script has: at most 15 ports
+abbrev pub has_few_ports : HubText → Bool
+has_few_ports text = nat_le (length text.attached) 15
 
 -- as a script describes it; endpoint 0 has packets of at most 64 bytes
 abbrev pub opening : HubText → HubContent

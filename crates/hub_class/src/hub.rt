@@ -60,6 +60,13 @@ impl Hub {
         })
     }
 
+    /// Its address.
+    pub fn address(&self) -> DevAddr
+        ensures { result ≡ self.now.address }
+    {
+        self.addr
+    }
+
     /// Makes the request of eight setup bytes (USB 2.0, 11.24.2). `Stall` comes exactly where the hub doesn't know it, and
     /// then nothing changes.
     pub fn request(&mut self, setup: [u8; 8]) -> HubReply

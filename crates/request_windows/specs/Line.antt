@@ -11,7 +11,7 @@ use Rattle.transactions.specs.Calls.{Call}
 use Rattle.usb_bus.specs.declared.asked.Losses.{Losses}
 use Rattle.usb_bus.specs.declared.who_heard.WhoHeard.{WhoHeard}
 use Rattle.usb_bus.specs.declared.who_heard.WhoHeard.TheVariants.{SentUnheard, AckHeard}
-use Rattle.usb_bus.specs.Bus.{row_for}
+use Rattle.usb_bus.specs.Asking.{row_for}
 use Rattle.usb_bus.specs.WhoHeard.{asker_hears}
 use Rattle.report_streams.specs.Requests.{Request}
 use Rattle.request_windows.specs.Host.{Endpoint, Host, is_over, host_at, call_at, heard_by}

@@ -5,6 +5,7 @@ pub mod Stays
 pub mod Released
 pub mod Orders
 pub mod Leaves
+pub mod Goes
 pub mod Harvest
 pub mod Rows
 pub mod Taking
@@ -12,6 +13,7 @@ pub mod Chains
 pub mod Commands
 pub mod Accepted
 pub mod Transferred
+pub mod Described
 pub mod Ordered
 pub mod Apart
 pub mod Opened

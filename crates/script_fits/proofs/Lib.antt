@@ -2,3 +2,4 @@ pub mod Numbers
 pub mod Statements
 pub mod Drafts
 pub mod Texts
+pub mod Opened

@@ -69,7 +69,8 @@ number_within low high (Some n) e =
     let p = and_parts (nat_le low n) (nat_le n high) e in
     (leb-true low n p.0, leb-true n high p.1)
 
-pub number_in : (ss : List Slot) (ws : List (List ℕ)) (i low high : ℕ) → all_ranged ss ws ≡ true → length ss ≡ length ws → slice_get ss i ≡ Some (Number low high) → (low ≤ number_at i ws) × (number_at i ws ≤ high)
+pub number_in : (ss : List Slot) (ws : List (List ℕ)) (i low high : ℕ) → all_ranged ss ws ≡ true → length ss ≡ length ws → slice_get ss i ≡ Some (Number low high)
+    → (low ≤ number_at i ws) × (number_at i ws ≤ high)
 number_in [] ws i low high r long e = cc
 number_in (s ∷ ss) [] i low high r long e = cc
 number_in (s ∷ ss) (w ∷ ws) zero low high r long e =

@@ -1,11 +1,13 @@
--- What a line that fits a form says of the bytes of a qTD.
-use Rattle.std.proofs.Common.{ℕ, List, Option, Some, None, refl}
+-- What a line that fits a form says of the bytes of a qTD, and of the speed behind a hub.
+use Rattle.std.proofs.Common.{◌≡◌, ℕ, List, Option, Some, None, refl}
+use Rattle.std.specs.Prelude.{false}
 use Rattle.script_forms.specs.declared.table.Form.{Form}
 use Rattle.script_forms.specs.declared.table.Form.TheVariants as form
 use Rattle.script_forms.specs.declared.statements.Statement.{Statement}
 use Rattle.script_forms.specs.declared.statements.Statement.TheVariants as says
 use Rattle.script_forms.specs.Table.{slots_of}
 use Rattle.script_forms.specs.Values.{statement_of}
+use Rattle.driver_rows.specs.Words.{is_high}
 use Rattle.script_fits.specs.Fits.{IsPiece}
 use Rattle.script_fits.proofs.Numbers.{IsRanged, number_in}
 
@@ -17,7 +19,7 @@ abbrev pub IsSaid : Statement → Type 0
 IsSaid (says.Mem n) = Unit {0}
 IsSaid (says.Hub addr ports) = Unit {0}
 IsSaid (says.DevHigh addr) = Unit {0}
-IsSaid (says.DevBelow b) = Unit {0}
+IsSaid (says.DevBelow b) = is_high b.speed ≡ false
 IsSaid (says.Ep l) = Unit {0}
 IsSaid (says.Reply name a) = Unit {0}
 IsSaid (says.Fate f) = Unit {0}
@@ -36,8 +38,8 @@ unfolding statement_of
 form_said form.Mem ws r = tt
 form_said form.Hub ws r = tt
 form_said form.DevHigh ws r = tt
-form_said form.DevFull ws r = tt
-form_said form.DevLow ws r = tt
+form_said form.DevFull ws r = refl
+form_said form.DevLow ws r = refl
 form_said form.EpControl ws r = tt
 form_said form.EpBulk ws r = tt
 form_said form.EpInterrupt ws r = tt

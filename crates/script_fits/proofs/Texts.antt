@@ -6,6 +6,8 @@ use Rattle.std.specs.Str.{bytes_eq}
 use Rattle.std.proofs.lemmas.Bool.{cond_both, and_from, le-leb}
 use Rattle.script_types.specs.declared.scripts.Script.{Script}
 use Rattle.script_types.specs.declared.devices.EpText.{EpText}
+use Rattle.script_types.specs.declared.devices.HubText.{HubText}
+use Rattle.hub_class.specs.HubContent.{has_few_ports}
 use Rattle.script_forms.specs.declared.causes.TextWhy.{TextWhy}
 use Rattle.script_forms.specs.declared.causes.TextWhy.TheVariants as C
 use Rattle.script_forms.specs.declared.table.FirstWord.{FirstWord}
@@ -17,14 +19,15 @@ use Rattle.script_forms.specs.Values.{statement_of}
 use Rattle.script_world.specs.Draft.{Draft, Placed, empty, script_of, device_text}
 use Rattle.script_world.specs.Ranges.{in_range}
 use Rattle.script_world.specs.Rows.{cause_of, is_known, is_twice, has_room, is_built, is_late, after}
-use Rattle.script_text.specs.Reading.{lines_in, words_in, says, may_stand, no_bytes, answer, said, form_read, first_read, words_read, line_read, onward, lines_read, script_after, text_read, script_read}
+use Rattle.script_text.specs.Reading.{lines_in, words_in, says, may_stand, no_bytes, answer, said, form_read, first_read, words_read, line_read, onward, lines_read, script_after}
+use Rattle.script_text.specs.Reading.{text_read, script_read}
 use Rattle.script_text.specs.Faults.{Spells}
 use Rattle.endpoint_script.specs.Items.{is_short}
 use Rattle.endpoint_script.specs.Device.{is_scripted, is_scripted_endpoint}
 use Rattle.script_fits.specs.Fits.{IsFit, IsFitRoom}
 use Rattle.script_fits.proofs.Numbers.{form_is_ranged}
 use Rattle.script_fits.proofs.Statements.{IsSaid, form_said}
-use Rattle.script_fits.proofs.Drafts.{IsFitDraft, IsFitDevice, IsFitEp, IsFitSize, IsTaken, after_fits}
+use Rattle.script_fits.proofs.Drafts.{IsFitDraft, IsFitHub, IsFitDevice, IsFitEp, IsFitSize, after_fits}
 
 abbrev Fits : {X : Type 0} → Result Draft X → Type 0
 Fits (Ok w) = IsFitDraft w
@@ -32,19 +35,15 @@ Fits (Err x) = Unit {0}
 
 -- ---- a line
 
--- where a line has no cause it is in range, and built
-taken_by : (a b c d e : Bool) → (if not a then Some C.Range else if not b then Some C.Unknown else if c then Some C.Twice else if not d then Some C.Limit else if not e then Some C.Later else None) ≡ None → (a ≡ true) × (e ≡ true)
-taken_by false b c d e h = cc
-taken_by true false c d e h = cc
-taken_by true true true d e h = cc
-taken_by true true false false e h = cc
-taken_by true true false true false h = cc
-taken_by true true false true true h = (refl, refl)
+-- where a line has no cause it is in range
+in_range_by : (a b c d e : Bool)
+    → (if not a then Some C.Range else if not b then Some C.Unknown else if c then Some C.Twice else if not d then Some C.Limit else if not e then Some C.Later else None) ≡ None
+    → a ≡ true
+in_range_by false b c d e h = cc
+in_range_by true b c d e h = refl
 
-is_taken : (w : Draft) (s : Statement) → cause_of w s ≡ None → IsTaken w s
-is_taken w s e =
-    let p = taken_by (in_range w s) (is_known w s) (is_twice w s) (has_room w s) (is_built s) e in
-    record { ranged = p.0; built = p.1 }
+is_taken : (w : Draft) (s : Statement) → cause_of w s ≡ None → in_range w s ≡ true
+is_taken w s e = in_range_by (in_range w s) (is_known w s) (is_twice w s) (has_room w s) (is_built w s) e
 
 answer_fits : (why : Option TextWhy) (v : Draft) → (why ≡ None → IsFitDraft v) → Fits (answer why v)
 answer_fits None v h = h refl
@@ -87,7 +86,7 @@ lines_fit w n (line ∷ lines) h =
     onward_fits n (line_read w n line) (λ v. lines_read v (n + 1) lines) (λ v k. lines_fit v (n + 1) lines k) (line_fits w n line h)
 
 empty_fits : IsFitDraft empty
-empty_fits = record { words = tt; devices = tt; lines = tt }
+empty_fits = record { words = tt; hubs = tt; devices = tt; lines = tt }
 
 text_fits : (text : List ℕ) → Fits (text_read text)
 text_fits text =
@@ -115,6 +114,10 @@ devices_roomy : (ds : List Placed) → AllByRecursion IsFitDevice ds → AllByRe
 devices_roomy [] h = tt
 devices_roomy (d ∷ ds) h = (eps_roomy d.eps h.0.eps, devices_roomy ds h.1)
 
+hubs_few : (hs : List HubText) → AllByRecursion IsFitHub hs → list_all has_few_ports hs ≡ true
+hubs_few [] h = refl
+hubs_few (x ∷ hs) h = and_from (has_few_ports x) (list_all has_few_ports hs) (le-leb (length x.attached) 15 h.0.attached) (hubs_few hs h.1)
+
 sized : (words : Option ℕ) → IsFitSize words → (2048 ≤ unwrap_or words 65536) × ((unwrap_or words 65536 ≤ 262144) × (unwrap_or words 65536 % 1024 ≡ 0))
 sized None h = (omega arith, (omega arith, refl))
 sized (Some n) h = h
@@ -127,6 +130,7 @@ script_fits w h =
       most = size.1.0;
       whole_pages = size.1.1;
       devices = devices_scripted w.devices h.devices;
+      hubs = hubs_few w.hubs h.hubs;
       rooms = devices_roomy w.devices h.devices;
       lines = h.lines;
     }

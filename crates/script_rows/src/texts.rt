@@ -81,6 +81,7 @@ pub const TEXTS: &[&[u8]] = &[
     b"ehci 1\ndev 3 high\nep 3 1 in bulk 512\nfate 3 1 in down 0 lost\n",
     b"ehci 1\ndev 3 high\nep 3 1 in bulk 512\ncancel 3 1 in\n",
     b"ehci 1\ncancel 3 1 in\n",
+    b"ehci 1\nhub 9 4\ndev 3 full 9 1\nep 3 1 in iso 8 8 1\n",
 ];
 
 /// A script of every line that is built.

@@ -46,7 +46,7 @@ pub const TWICE: &[u8] = b"ehci 1\nmem 2048\nmem 4096\n";
 
 pub const LIMIT: &[u8] = b"ehci 1\norder d 1000001\n";
 
-pub const LATER: &[u8] = b"ehci 1\nhub 9 4\n";
+pub const LATER: &[u8] = b"ehci 1\nhub 9 4\ndev 3 full 9 1\nep 3 1 in iso 8 8 1\n";
 
 /// A text for each cause but the first, each with its line.
 pub fn causes()
@@ -61,7 +61,7 @@ pub fn causes()
     ensures unknown { first_fault UNKNOWN.now ≡ Some (2, TextWhy.Unknown) }
     ensures twice { first_fault TWICE.now ≡ Some (3, TextWhy.Twice) }
     ensures limit { first_fault LIMIT.now ≡ Some (2, TextWhy.Limit) }
-    ensures later { first_fault LATER.now ≡ Some (2, TextWhy.Later) }
+    ensures later { first_fault LATER.now ≡ Some (4, TextWhy.Later) }
 {}
 
 /// A script of one device.

@@ -123,20 +123,14 @@ has_room w (says.Iso l) = may_command w
 has_room w (says.Order event n) = nat_le n 1000000 && nat_le (w.steps + n) 4000000
 has_room w (says.Micro n) = nat_le (w.microframes + n) 16384
 
--- the lines that can be run; each other line without a fault is refused as a later one
-abbrev pub is_built_kind : EpKind → Bool
-is_built_kind Control = true
-is_built_kind Bulk = true
-is_built_kind kind = false
+-- the lines that can be run; each other line without a fault is refused as a later one: isochronous endpoints behind hubs
+abbrev pub is_built_at : EpKind → Option Speed → Bool
+is_built_at Iso (Some speed.Full) = false
+is_built_at _ _ = true
 
-abbrev pub is_built : Statement → Bool
-is_built (says.Hub addr ports) = false
-is_built (says.DevBelow b) = false
-is_built (says.Ep l) = is_built_kind l.kind
-is_built (says.Fate f) = not f.down
-is_built (says.Iso l) = false
-is_built (says.Cancel name) = false
-is_built _ = true
+abbrev pub is_built : Draft → Statement → Bool
+is_built w (says.Ep l) = is_built_at l.kind (speed_of w l.name.addr)
+is_built w _ = true
 
 -- the first cause of a line whose words fit a form
 abbrev pub cause_of : Draft → Statement → Option TextWhy
@@ -145,7 +139,7 @@ cause_of w s =
     else if not (is_known w s) then Some C.Unknown
     else if is_twice w s then Some C.Twice
     else if not (has_room w s) then Some C.Limit
-    else if not (is_built s) then Some C.Later
+    else if not (is_built w s) then Some C.Later
     else None
 
 -- lines that tell of the world, all but the memory's

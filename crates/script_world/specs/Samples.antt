@@ -1,8 +1,11 @@
 -- Lines of worked rows.
 --     bulk_line addr num way    the line of a bulk endpoint of a high-speed device
+--     iso_line addr num way     the line of an isochronous endpoint
 --     two_devices               a script with the devices 3 and 4
+--     behind_a_hub              a script with the full-speed device 3 behind hub 9
 use Rattle.std.specs.Prelude.{ℕ}
 use Rattle.usb_base.specs.declared.packets.EpKind.TheVariants as kind
+use Rattle.usb_base.specs.declared.packets.Speed.TheVariants.{Full}
 use Rattle.usb_base.specs.declared.packets.Way.{Way}
 use Rattle.script_forms.specs.declared.statements.Statement.{Statement}
 use Rattle.script_forms.specs.declared.statements.Statement.TheVariants as says
@@ -14,3 +17,9 @@ bulk_line addr num way = says.Ep (record { name = record { addr = addr; num = nu
 
 abbrev pub two_devices : Draft
 two_devices = after (after empty 2 (says.DevHigh 3)) 3 (says.DevHigh 4)
+
+abbrev pub iso_line : ℕ → ℕ → Way → Statement
+iso_line addr num way = says.Ep (record { name = record { addr = addr; num = num; way = way }; kind = kind.Iso; max = 512; period = 8; multi = 1 })
+
+abbrev pub behind_a_hub : Draft
+behind_a_hub = after (after empty 2 (says.Hub 9 4)) 3 (says.DevBelow (record { addr = 3; speed = Full; hub = 9; port = 1 }))

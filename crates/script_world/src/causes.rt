@@ -2,7 +2,7 @@
 ghost use Rattle.std.specs.Prelude.{◌≡◌, ℕ, ◌<◌, ◌==◌, not, length, Option, is_some, slice_get, ◌-◌};
 ghost use Rattle.std.specs.Option.{option_flatten};
 ghost use Rattle.script_world.specs.Draft.{known};
-ghost use Rattle.script_world.specs.Rows.{control_name, is_known, is_used, is_attached, same_bus, is_fated, is_twice, answer_len, content_len, bytes_len, may_command, may_script, has_room, is_built_kind, is_built, cause_of, is_world, is_late};
+ghost use Rattle.script_world.specs.Rows.{control_name, is_known, is_used, is_attached, same_bus, is_fated, is_twice, answer_len, content_len, bytes_len, may_command, may_script, has_room, is_built_at, is_built, cause_of, is_world, is_late};
 
 use crate::draft::Draft;
 use crate::endpoints::same_way;
@@ -76,30 +76,11 @@ pub fn bytes_len(bytes: &Option<ListOf<u8>>) -> u64
     }
 }
 
-/// Whether an endpoint of this kind is built at high speed.
-fn is_built_kind(kind: EpKind) -> bool
-    ensures { result ≡ is_built_kind kind }
+/// Whether endpoints of this kind can be run on a device of this speed.
+fn is_built_at(kind: EpKind, speed: Option<Speed>) -> bool
+    ensures { result ≡ is_built_at kind speed }
 {
-    match kind {
-        EpKind::Control => true,
-        EpKind::Bulk => true,
-        _ => false,
-    }
-}
-
-/// Whether a line can be run.
-fn is_built(statement: &Statement) -> bool
-    ensures { result ≡ is_built statement.now }
-{
-    match statement {
-        Statement::Hub(_, _) => false,
-        Statement::DevBelow(_) => false,
-        Statement::Ep(line) => is_built_kind(line.kind),
-        Statement::Fate(line) => !line.down,
-        Statement::Iso(_) => false,
-        Statement::Cancel(_) => false,
-        _ => true,
-    }
+    !matches!((kind, speed), (EpKind::Iso, Some(Speed::Full)))
 }
 
 /// Whether a line tells of the world, and not of its memory.
@@ -257,6 +238,16 @@ impl Draft {
         }
     }
 
+    /// Whether a line can be run.
+    fn is_built(&self, statement: &Statement) -> bool
+        ensures { result ≡ is_built self.now statement.now }
+    {
+        match statement {
+            Statement::Ep(line) => is_built_at(line.kind, self.speed_of(line.name.addr)),
+            _ => true,
+        }
+    }
+
     /// The first cause of a line whose words fit a form.
     pub(crate) fn cause_of(&self, statement: &Statement) -> Option<TextWhy>
         ensures { result ≡ cause_of self.now statement.now }
@@ -273,7 +264,7 @@ impl Draft {
         if !self.has_room(statement) {
             return Some(TextWhy::Limit);
         }
-        if !is_built(statement) {
+        if !self.is_built(statement) {
             return Some(TextWhy::Later);
         }
         None

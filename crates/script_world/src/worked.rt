@@ -2,8 +2,8 @@
 ghost use Rattle.std.specs.Prelude.{◌≡◌, ℕ, List, [], ◌∷◌, Some, None, true, false};
 ghost use Rattle.script_world.specs.Draft.{empty, filled, packets};
 ghost use Rattle.script_world.specs.Ranges.{is_size, is_rate, out_len};
-ghost use Rattle.script_world.specs.Rows.{cause_of, after, is_built};
-ghost use Rattle.script_world.specs.Samples.{bulk_line, two_devices};
+ghost use Rattle.script_world.specs.Rows.{cause_of, after};
+ghost use Rattle.script_world.specs.Samples.{bulk_line, iso_line, two_devices, behind_a_hub};
 
 use script_forms::{Statement, TextWhy};
 use script_types::Item;
@@ -35,8 +35,9 @@ pub fn causes()
     ensures unknown { cause_of empty (Statement.Open (record { addr = 3; num = 1; way = Way.In })) ≡ Some TextWhy.Unknown }
     ensures twice { cause_of (after empty 2 (Statement.DevHigh 3)) (Statement.DevHigh 3) ≡ Some TextWhy.Twice }
     ensures limit { cause_of empty (Statement.Micro 16385) ≡ Some TextWhy.Limit }
-    ensures later { cause_of empty (Statement.Hub 9 4) ≡ Some TextWhy.Later }
+    ensures later { cause_of behind_a_hub (iso_line 3 1 Way.In) ≡ Some TextWhy.Later }
     ensures fine { cause_of empty (Statement.DevHigh 3) ≡ None }
+    ensures hub { cause_of empty (Statement.Hub 9 4) ≡ None }
 {}
 
 /// Endpoints of two devices keep the order of their lines.

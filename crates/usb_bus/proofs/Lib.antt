@@ -1,3 +1,4 @@
 pub mod Search
 pub mod Table
 pub mod Unheard
+pub mod Hubs

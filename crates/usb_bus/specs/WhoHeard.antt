@@ -1,12 +1,17 @@
--- Who heard what in one transaction (USB 2.0, 8.5 and 8.6): one table for every token, with a device or a hub that is asked.
+-- Who heard what in one transaction (USB 2.0, 8.5, 8.6 and 11.17): one table for every token, with a device, a hub or a translator that is
+-- asked, on the high-speed bus and below a translator.
 --
--- The asker sends the token, and for OUT and SETUP the data right behind it. Whoever is asked answers with data or a handshake, or not at
--- all. Data that answer a plain IN are acknowledged. A packet that is lost or damaged is unheard.
+-- The asker sends the token, and for OUT and SETUP the data right behind it; the token of a split transaction and the SPLIT before it count
+-- as one packet, and nothing follows the token of a complete-split. Whoever is asked answers with data or a handshake, or not at all. Data
+-- that answer a plain IN are acknowledged. A packet that is lost or damaged is unheard.
 use Rattle.std.specs.Prelude.{ℕ, ◌+◌, ◌^◌, ◌-◌, min, Bool, true, false}
+use Rattle.usb_base.specs.declared.packets.Ask.{Ask}
 use Rattle.usb_base.specs.declared.packets.Pid.{Pid}
 use Rattle.usb_base.specs.declared.packets.Pid.TheVariants as Pids
 use Rattle.usb_base.specs.declared.packets.Reply.{Reply}
 use Rattle.usb_base.specs.declared.packets.Reply.TheVariants.{Silent, Bytes, Hand}
+use Rattle.usb_base.specs.declared.packets.Split.{Split}
+use Rattle.usb_base.specs.declared.packets.Split.TheVariants.{Plain, Start, Complete}
 use Rattle.usb_bus.specs.declared.who_heard.WhoHeard.{WhoHeard}
 use Rattle.usb_bus.specs.declared.who_heard.WhoHeard.TheVariants.{SentUnheard, NoAnswer, AnswerUnheard, AnswerHeard, AckUnheard, AckHeard}
 
@@ -21,11 +26,20 @@ who_heard false true false false _ = AnswerHeard
 who_heard false true false true true = AckUnheard
 who_heard false true false true false = AckHeard
 
+-- the token, and the data behind that of an OUT or SETUP
+abbrev pub with_data : Pid → ℕ
+with_data Pids.Out = 2
+with_data Pids.Setup = 2
+with_data _ = 1
+
 -- how many packets the asker sends before the answer
-abbrev pub packets_sent : Pid → ℕ
-packets_sent Pids.Out = 2
-packets_sent Pids.Setup = 2
-packets_sent _ = 1
+abbrev pub packets_sent : Split → Pid → ℕ
+packets_sent Plain pid = with_data pid
+packets_sent (Start _ _ _) pid = with_data pid
+packets_sent (Complete _ _) pid = 1
+
+abbrev pub packets_before : Ask → ℕ
+packets_before ask = packets_sent ask.split ask.pid
 
 -- how many packets were on the bus, where the asker sent so many before the answer
 abbrev pub packets_of : WhoHeard → ℕ → ℕ
@@ -50,6 +64,15 @@ abbrev pub is_answer : Reply → Bool
 is_answer Silent = false
 is_answer (Bytes pid bytes) = true
 is_answer (Hand pid) = true
+
+-- What whoever is asked is left as, by the row: as it was, as its answer leaves it, or as that and its acknowledgement leave it.
+abbrev pub left_by : {X : Type 0} → WhoHeard → X → X → X → X
+left_by SentUnheard before answered acked = before
+left_by NoAnswer before answered acked = answered
+left_by AnswerUnheard before answered acked = answered
+left_by AnswerHeard before answered acked = answered
+left_by AckUnheard before answered acked = answered
+left_by AckHeard before answered acked = acked
 
 -- ---- numbers of packets and of microframes
 

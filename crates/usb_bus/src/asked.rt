@@ -1,5 +1,17 @@
-use crate::who_heard::WhoHeard;
-use usb_base::{EpName, Reply};
+use usb_base::EpName;
+
+/// Who hears an ask, and answers.
+#[derive(Clone, Copy, Debug, PartialEq, Eq)]
+pub enum Answerer {
+    /// The device at this place.
+    Device(usize),
+    /// Endpoint 0 of the hub at this place.
+    Hub(usize),
+    /// The translator of the hub at this place.
+    Translator(usize),
+    /// Nobody on this bus.
+    Nobody,
+}
 
 /// An endpoint that is asked.
 #[derive(Clone, Copy, Debug, PartialEq, Eq)]
@@ -8,10 +20,10 @@ pub struct Asked {
     pub place: usize,
     /// Its name.
     pub name: EpName,
-    /// The place of its device.
-    pub device: usize,
-    /// The number of its next packet.
+    /// The number of its next packet on this bus.
     pub packet: u64,
+    /// Who hears the ask.
+    pub who: Answerer,
 }
 
 /// Which packets of one transaction are lost or damaged.
@@ -23,13 +35,4 @@ pub struct Losses {
     pub answer: bool,
     /// The acknowledgement of the answer.
     pub acknowledgement: bool,
-}
-
-/// What the asker heard in one transaction, and who heard what.
-#[derive(Debug, Drop)]
-pub struct Told {
-    /// What the asker heard.
-    pub reply: Reply,
-    /// Who heard what.
-    pub row: WhoHeard,
 }

@@ -1,210 +1,254 @@
-ghost use Rattle.std.specs.Prelude.{◌≡◌, ℕ, ◌+◌, ◌≤◌, ◌&&◌, ◌||◌, Option, Some, None, length, slice_get, nat_le, true, false, map, IfOk, IsTrue, ◌==◌, find};
+ghost use Rattle.std.specs.Prelude.{◌≡◌, ◌≤◌, ◌<◌, ◌==◌, Option, Some, length, slice_get, slice_set, position, find, IfOk, IfSome, IsTrue};
 ghost use Rattle.std.specs.List.{list_all};
 ghost use Rattle.std.specs.Option.{option_copied};
 ghost use Rattle.endpoint_script.specs.Device.{is_scripted};
-ghost use Rattle.usb_bus.specs.Bus.{is_held, begins_anew, begun_at, begin_after, is_allowed, asked_at, asked_of, unheard_later, losses_of, reply_at, after_at, reply_of, transact_after, opening_wired};
+ghost use Rattle.hub_class.specs.HubContent.{has_few_ports};
+ghost use Rattle.usb_bus.specs.Asking.{row_for};
+ghost use Rattle.usb_bus.specs.Below.{below_at, hub_worked_at, floor_left, hubs_worked, floor_worked};
+ghost use Rattle.usb_bus.specs.Bus.{hears_split, hears, asked_at, asked_of, answer_by, changed_by, begin_after, is_allowed, reply_at, after_at, reply_of, transact_after, opening_wired};
+ghost use Rattle.usb_bus.specs.Fixed.{IsSeated};
+ghost use Rattle.usb_bus.specs.WhoHeard.{asker_hears};
 
-use crate::asked::{Asked, Losses};
-use crate::asking::ask_device;
-use crate::build::{devices_of, numbers_of, seats_of};
-use crate::numbers::Numbers;
-use crate::places::Places;
-use crate::seats::Seat;
-use crate::who_heard::{sent_before_answer, steps_later};
+use crate::asked::{Answerer, Asked, Losses};
+use crate::asking::{ask_hub_at, ask_nobody, ask_translator_at};
+use crate::below::BelowHub;
+use crate::build::{devices_of, hubs_of};
+use crate::fixed::FixedBus;
+use crate::seats::{Owner, Seat};
+use crate::who_heard::{WhoHeard, sent_before_answer, steps_later};
 use endpoint_script::Device;
-use script_types::{FateText, Script};
+use hub_class::Hub;
+use script_types::Script;
 use std::alloc::Global;
 use std::marker::Model;
-use usb_base::{Ask, DevAddr, Memory, Pid, Reply, Speed, Split, Wire};
+use usb_base::{Ask, DevAddr, Memory, Reply, Split, Wire};
 
-/// The bus of a script: its devices and the packets between them and the host controller. Contracts see what is fixed of it, `Fixed`, and
-/// what changes, `Bus`.
+/// The bus of a script: its devices and hubs, and the packets between them and the host controller. Contracts see what is fixed of it,
+/// `Fixed`, and what changes, `Bus`.
 #[derive(Drop)]
 pub struct UsbBus {
-    places: Places,
-    fates: Vec<FateText>,
-    holds: Vec<(u32, u32)>,
-    unheard: Vec<Numbers>,
-    devices: Vec<Device>,
+    below: BelowHub,
+    hubs: Vec<Hub>,
     high: Vec<u64>,
     microframe: u64,
 }
 
 impl Model for UsbBus {
-    ghost use Rattle.std.specs.Prelude.{false};
-    ghost use Rattle.usb_bus.specs.Bus.{Wired, AreNumbers};
+    ghost use Rattle.usb_bus.specs.Bus.{Wired};
 
     ghost Value = { Wired };
 
     ghost view = { λ b. record {
-      fixed = record { seats = b.places; fates = b.fates.items; holds = b.holds.items };
-      bus = record { devices = b.devices.items; high = b.high.items; microframe = b.microframe };
+      fixed = b.below.fixed;
+      bus = record {
+        devices = b.below.floor.devices;
+        hubs = b.hubs.items;
+        high = b.high.items;
+        below = b.below.floor.numbers;
+        microframe = b.microframe;
+      };
     } };
+}
 
-    ghost invariant = { λ b. AreNumbers b.fates.items b.places b.unheard.items };
+/// The address that no device has.
+fn nobody() -> DevAddr {
+    match DevAddr::new(0) {
+        Some(addr) => addr,
+        None => unreachable!(),
+    }
+}
+
+/// Lets a hub work for the microframe that ended, at the begin of the one with this frame index.
+fn work_hub(hub: &mut Hub, below: &mut BelowHub, frindex: u16)
+    ensures hub { hub.new ≡ hub_worked_at below.old.fixed frindex hub.old below.old.floor }
+    ensures floor { below.new.floor ≡ floor_left below.old.fixed hub.old below.old.floor }
+    ensures fixed { below.new.fixed ≡ below.old.fixed }
+{
+    below.turn_to(hub);
+    hub.microframe(frindex, below);
+}
+
+/// Lets all hubs work, in their order.
+fn work_hubs(hubs: &mut [Hub], below: &mut BelowHub, frindex: u16)
+    ensures hubs { hubs.new ≡ hubs_worked below.old.fixed frindex hubs.old below.old.floor }
+    ensures floor { below.new.floor ≡ floor_worked below.old.fixed hubs.old below.old.floor }
+    ensures fixed { below.new.fixed ≡ below.old.fixed }
+{
+    for hub in hubs.iter_mut() {
+        work_hub(hub, below, frindex);
+    }
 }
 
 impl UsbBus {
     /// The bus of a script, at the end of microframe 0.
     pub fn build(alloc: Global, script: &Script) -> Result<UsbBus, Memory>
-        requires { IsTrue (list_all is_scripted script.now.devices) }
+        requires devices { IsTrue (list_all is_scripted script.now.devices) }
+        requires hubs { IsTrue (list_all has_few_ports script.now.hubs) }
         ensures { IfOk result (λ b. b ≡ opening_wired script.now) }
     {
-        let seats = seats_of(alloc, script)?;
-        let fates = Vec::from_slice(alloc, script.fates.as_slice())?;
-        let holds = Vec::from_slice(alloc, script.holds.as_slice())?;
-        let unheard = numbers_of(alloc, fates.as_slice(), seats.as_slice())?;
+        let fixed = FixedBus::build(alloc, script)?;
         let devices = devices_of(alloc, script.devices.as_slice())?;
-        let high = vec![in alloc; 0u64; seats.len()]?;
-        let places = Places::build(alloc, seats)?;
+        let hubs = hubs_of(alloc, script.hubs.as_slice())?;
+        let high = vec![in alloc; 0u64; fixed.seats().len()]?;
+        let numbers = vec![in alloc; 0u64; fixed.seats().len()]?;
         Ok(UsbBus {
-            places,
-            fates,
-            holds,
-            unheard,
-            devices,
+            below: BelowHub::new(fixed, devices, numbers, nobody()),
+            hubs,
             high,
             microframe: 0,
         })
     }
 
-    /// The endpoints, in the order of their lines.
+    /// The endpoints: endpoint 0 of each hub, then those of the devices in the order of their lines.
     pub fn seats(&self) -> &[Seat]
         ensures { result.now ≡ self.now.fixed.seats }
     {
-        self.places.seats()
+        self.below.fixed().seats()
     }
 
     /// The device with this address; None exactly where there is none.
     pub fn device(&self, addr: DevAddr) -> Option<&Device>
         ensures { option_copied result ≡ find (λ d. d.address == addr) self.now.bus.devices }
     {
-        self.devices
+        self.below
+            .devices()
             .iter()
             .find(|device| device.address().get() == addr.get())
     }
 
-    fn asked_at(&self, place: usize) -> Option<Asked>
-        ensures { result ≡ asked_at self.now.fixed self.now.bus place }
+    /// The hub with this address; None exactly where there is none.
+    pub fn hub(&self, addr: DevAddr) -> Option<&Hub>
+        ensures { option_copied result ≡ find (λ h. h.address == addr) self.now.bus.hubs }
     {
-        let seat = self.places.seat(place)?;
+        self.hubs
+            .iter()
+            .find(|hub| hub.address().get() == addr.get())
+    }
+
+    /// The translator of the hub with this address.
+    fn translator(&self, addr: DevAddr) -> Answerer
+        ensures { result ≡ hears_split self.now.bus.hubs addr }
+    {
+        match self.hub_place(addr) {
+            Some(place) => Answerer::Translator(place),
+            None => Answerer::Nobody,
+        }
+    }
+
+    fn hub_place(&self, addr: DevAddr) -> Option<usize>
+        ensures { result ≡ position (λ h. h.address == addr) self.now.bus.hubs }
+    {
+        self.hubs
+            .iter()
+            .position(|hub| hub.address().get() == addr.get())
+    }
+
+    /// Who hears an ask for an endpoint.
+    fn hears(&self, split: &Split, owner: Owner) -> Answerer
+        ensures { result ≡ hears self.now.bus split.now owner }
+    {
+        match (split, owner) {
+            (Split::Start { hub, .. } | Split::Complete { hub, .. }, _) => self.translator(*hub),
+            (Split::Plain, Owner::Hub(place)) => Answerer::Hub(place),
+            (Split::Plain, Owner::High(place)) => Answerer::Device(place),
+            (Split::Plain, Owner::Below { .. }) => Answerer::Nobody,
+        }
+    }
+
+    fn asked_at(&self, split: &Split, place: usize) -> Option<Asked>
+        ensures asked { result ≡ asked_at self.now.fixed self.now.bus split.now place }
+        ensures seated { IfSome result (λ e. IsSeated self.now.fixed.seats e) }
+    {
+        let seat = self.below.fixed().seat(place)?;
         match self.high.get(place) {
             Some(packet) => Some(Asked {
                 place,
                 name: seat.name,
-                device: seat.device,
                 packet: *packet,
+                who: self.hears(split, seat.owner),
             }),
             None => None,
         }
     }
 
-    /// Whom an ask is for.
+    /// The endpoint that an ask is for.
     fn asked(&self, ask: &Ask) -> Option<Asked>
-        ensures { result ≡ asked_of self.now.fixed self.now.bus ask.now }
+        ensures asked { result ≡ asked_of self.now.fixed self.now.bus ask.now }
+        ensures seated { IfSome result (λ e. IsSeated self.now.fixed.seats e) }
     {
-        match ask.split {
-            Split::Plain => match self.places.of_ask(ask) {
-                Some(place) => self.asked_at(place),
-                None => None,
-            },
-            Split::Start { .. } | Split::Complete { .. } => None,
+        match self.below.fixed().place_of(ask) {
+            Some(place) => self.asked_at(&ask.split, place),
+            None => None,
         }
-    }
-
-    /// Whether the packet some packets later is lost or damaged.
-    fn is_unheard(&self, asked: &Asked, n: u64) -> bool
-        requires { asked_at self.now.fixed self.now.bus asked.now.place ≡ Some asked.now }
-        ensures { result ≡ unheard_later self.now.fixed asked.now n }
-    {
-        if asked.place < self.unheard.len() {
-            self.unheard[asked.place].has(steps_later(asked.packet, n))
-        } else {
-            false
-        }
-    }
-}
-
-/// Whether the bus may not be used in this microframe.
-fn holds_back(holds: &[(u32, u32)], microframe: u64) -> bool
-    ensures { result ≡ is_held holds.now microframe }
-{
-    holds.iter().any(|span| span.0 as u64 <= microframe && microframe <= span.1 as u64)
-}
-
-fn is_new(speed: Speed, frindex: u16) -> bool
-    ensures { result ≡ begins_anew speed frindex }
-{
-    match speed {
-        Speed::High => true,
-        Speed::Full | Speed::Low => frindex % 8 == 0,
-    }
-}
-
-/// A microframe begins for a device.
-fn begin_device(device: &mut Device, frindex: u16)
-    ensures { device.new ≡ begun_at frindex device.old }
-{
-    if is_new(device.speed(), frindex) {
-        device.begin();
-    }
-}
-
-fn begin_devices(devices: &mut [Device], frindex: u16)
-    ensures { devices.new ≡ map (begun_at frindex) devices.old }
-{
-    for device in devices.iter_mut() {
-        begin_device(device, frindex);
     }
 }
 
 impl UsbBus {
-    /// Which packets of a transaction are lost or damaged.
-    fn losses(&self, asked: &Asked, pid: Pid) -> Losses
-        requires { asked_at self.now.fixed self.now.bus asked.now.place ≡ Some asked.now }
-        ensures { result ≡ losses_of self.now.fixed asked.now pid }
+    /// Asks whoever hears it.
+    fn ask(
+        &mut self,
+        who: Answerer,
+        ask: &Ask,
+        out: &[u8],
+        losses: &Losses,
+        reply: &mut Reply,
+    ) -> WhoHeard
+        requires { length out.now ≤ 1024 }
+        ensures row { result ≡ row_for losses.now ask.now (answer_by self.old.bus who ask.now out.now) }
+        ensures reply { reply.new ≡ asker_hears result (answer_by self.old.bus who ask.now out.now) }
+        ensures after { self.new ≡ record self.old { bus = changed_by result who ask.now out.now self.old.bus } }
     {
-        let sent = sent_before_answer(pid);
-        Losses {
-            sent: self.is_unheard(asked, 0) || self.is_unheard(asked, sent - 1),
-            answer: self.is_unheard(asked, sent),
-            acknowledgement: self.is_unheard(asked, sent + 1),
+        match who {
+            Answerer::Device(place) => self.below.ask_device(place, ask, out, losses, reply),
+            Answerer::Hub(place) => {
+                ask_hub_at(self.hubs.as_mut_slice(), place, ask, out, losses, reply)
+            }
+            Answerer::Translator(place) => {
+                ask_translator_at(self.hubs.as_mut_slice(), place, ask, out, losses, reply)
+            }
+            Answerer::Nobody => ask_nobody(ask, losses, reply),
+        }
+    }
+
+    /// The number of the next packet of the endpoint at a place.
+    fn count(&mut self, place: usize, packet: u64)
+        ensures { self.new ≡ record self.old { bus = record self.old.bus { high = slice_set self.old.bus.high place packet } } }
+    {
+        if place < self.high.len() {
+            self.high[place] = packet;
         }
     }
 
     /// Asks an endpoint.
-    fn transact_at(&mut self, asked: &Asked, ask: &Ask, out: &[u8]) -> Reply
+    fn transact_at(&mut self, asked: &Asked, ask: &Ask, out: &[u8], reply: &mut Reply)
         requires sent { length out.now ≤ 1024 }
-        requires asked { asked_at self.old.fixed self.old.bus asked.now.place ≡ Some asked.now }
-        ensures reply { result ≡ reply_at self.old.fixed self.old.bus ask.now out.now (Some asked.now) }
+        requires seated { IsSeated self.old.fixed.seats asked.now }
+        ensures reply { reply.new ≡ reply_at self.old.fixed self.old.bus ask.now out.now (Some asked.now) }
         ensures after { self.new ≡ record self.old { bus = after_at self.old.fixed self.old.bus ask.now out.now (Some asked.now) } }
     {
-        let losses = self.losses(asked, ask.pid);
-        if asked.device >= self.devices.len() || asked.place >= self.high.len() {
-            return Reply::Silent;
-        }
-        let told = ask_device(&mut self.devices[asked.device], ask, out, &losses);
-        let packets = told.row.packets(sent_before_answer(ask.pid));
-        self.high[asked.place] = steps_later(asked.packet, packets);
-        told.reply
+        let sent = sent_before_answer(ask);
+        let losses = self.below.fixed().losses(false, asked, sent);
+        let row = self.ask(asked.who, ask, out, &losses, reply);
+        self.count(asked.place, steps_later(asked.packet, row.packets(sent)));
     }
 }
 
 impl Wire for UsbBus {
-    ghost begins = { λ w frindex allowed v. (allowed ≡ is_allowed w.fixed w.bus) × (v ≡ record w { bus = begin_after frindex w.bus }) };
+    ghost begins = { λ w frindex allowed v. (allowed ≡ is_allowed w.fixed w.bus) × (v ≡ record w { bus = begin_after w.fixed frindex w.bus }) };
 
     ghost transacts = { λ w ask out reply v. (reply ≡ reply_of w.fixed w.bus ask out) × (v ≡ record w { bus = transact_after w.fixed w.bus ask out }) };
 
     fn begin(&mut self, frindex: u16) -> bool {
         self.microframe = steps_later(self.microframe, 1);
-        begin_devices(self.devices.as_mut_slice(), frindex);
-        !holds_back(self.holds.as_slice(), self.microframe)
+        work_hubs(self.hubs.as_mut_slice(), &mut self.below, frindex);
+        self.below.begin_devices(frindex);
+        !self.below.fixed().holds_back(self.microframe)
     }
 
     fn transact(&mut self, ask: &Ask, out: &[u8], reply: &mut Reply) {
-        *reply = match self.asked(ask) {
-            Some(asked) => self.transact_at(&asked, ask, out),
-            None => Reply::Silent,
-        };
+        match self.asked(ask) {
+            Some(asked) => self.transact_at(&asked, ask, out, reply),
+            None => *reply = Reply::Silent,
+        }
     }
 }

@@ -1,7 +1,25 @@
 ghost use Rattle.std.specs.Prelude.{◌≡◌, ◌<◌};
 ghost use Rattle.usb_bus.specs.Seats.{token_kind, takes_token, column_of, token_kind_at};
 
-use usb_base::{EpKind, EpName, Pid, Way};
+use usb_base::{DevAddr, EpKind, EpName, Pid, Way};
+
+/// Whose endpoint one is. Places are counted from 0.
+#[derive(Clone, Copy, Debug, PartialEq, Eq)]
+pub enum Owner {
+    /// The hub at this place among those of the bus.
+    Hub(usize),
+    /// The device at this place, on the high-speed bus.
+    High(usize),
+    /// A full- or low-speed device.
+    Below {
+        /// Its place among the devices.
+        device: usize,
+        /// The address of its hub.
+        hub: DevAddr,
+        /// The port of that hub, from 1.
+        port: u8,
+    },
+}
 
 /// An endpoint on the bus.
 #[derive(Clone, Copy, Debug, PartialEq, Eq)]
@@ -10,8 +28,8 @@ pub struct Seat {
     pub name: EpName,
     /// Its transfer type.
     pub kind: EpKind,
-    /// The place of its device among those of the bus, from 0.
-    pub device: usize,
+    /// Whose it is.
+    pub owner: Owner,
 }
 
 /// The token of an ask, as far as it tells which endpoint is asked.

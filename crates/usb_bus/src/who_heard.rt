@@ -1,7 +1,7 @@
 ghost use Rattle.std.specs.Prelude.{◌≡◌, ◌+◌, ◌≤◌, false};
-ghost use Rattle.usb_bus.specs.WhoHeard.{packets_sent, is_answer, later};
+ghost use Rattle.usb_bus.specs.WhoHeard.{with_data, packets_before, is_answer, later};
 
-use usb_base::{Pid, Reply};
+use usb_base::{Ask, Pid, Reply, Split};
 
 /// Who heard what in one transaction (USB 2.0, 8.5 and 8.6).
 #[derive(Clone, Copy, Debug, PartialEq, Eq)]
@@ -21,7 +21,7 @@ pub enum WhoHeard {
 }
 
 impl WhoHeard {
-    ghost use Rattle.usb_bus.specs.WhoHeard.{who_heard, packets_of};
+    ghost use Rattle.usb_bus.specs.WhoHeard.{who_heard, packets_of, asker_hears};
 
     /// The row of a transaction whose token and sent data were heard: by whether there is an answer, whether that is unheard, whether the
     /// asker acknowledges it, and whether the acknowledgement is unheard.
@@ -53,15 +53,42 @@ impl WhoHeard {
             WhoHeard::AckUnheard | WhoHeard::AckHeard => sent + 2,
         }
     }
+
+    /// Leaves what the asker hears of an answer.
+    pub fn let_hear(self, answer: &mut Reply)
+        ensures { answer.new ≡ asker_hears self answer.old }
+    {
+        match self {
+            WhoHeard::SentUnheard | WhoHeard::NoAnswer | WhoHeard::AnswerUnheard => {
+                *answer = Reply::Silent
+            }
+            WhoHeard::AnswerHeard | WhoHeard::AckUnheard | WhoHeard::AckHeard => {}
+        }
+    }
 }
 
-/// How many packets are sent before the answer: the token, and for OUT and SETUP the data behind it.
-pub fn sent_before_answer(pid: Pid) -> u64
-    ensures { result ≡ packets_sent pid }
+/// The packets of a token, and for OUT and SETUP of the data behind it.
+fn with_data(pid: Pid) -> u64
+    ensures value { result ≡ with_data pid }
+    ensures some { 1 ≤ result }
+    ensures few { result ≤ 2 }
 {
     match pid {
         Pid::Out | Pid::Setup => 2,
         _ => 1,
+    }
+}
+
+/// How many packets are sent before the answer: the token, and for OUT and SETUP the data behind it, but none behind that of a
+/// complete-split.
+pub fn sent_before_answer(ask: &Ask) -> u64
+    ensures value { result ≡ packets_before ask.now }
+    ensures some { 1 ≤ result }
+    ensures few { result ≤ 2 }
+{
+    match ask.split {
+        Split::Plain | Split::Start { .. } => with_data(ask.pid),
+        Split::Complete { .. } => 1,
     }
 }
 

@@ -1,6 +1,8 @@
 //! Scripts with their reports: NYET and PING, a lost status stage and a stall between two requests, errors that are counted for each qTD, a
-//! bus that may not be used, a lost acknowledgement, a put that finds no blocks, and endpoints of two devices whose lines are mixed. The
-//! stored reports come from an independent model, the last one from the lines themselves.
+//! bus that may not be used, a lost acknowledgement, a put that finds no blocks, and endpoints of two devices whose lines are mixed; behind a
+//! hub a token and then the data that are lost below it, three tokens that are lost there, a port that a request disables, a request to a
+//! low-speed device, and a bulk OUT with losses on both buses. The stored reports of the first six come from an independent model, those of
+//! the others from the lines themselves.
 //!
 //! It calls `script_fits` and `bus_world`, and nothing calls it.
 #![tactic(auto)]

@@ -8,7 +8,8 @@ use Rattle.bus_world.specs.Sound.{IsRoomyDevice}
 use Rattle.bus_world.proofs.Roomy.{found_short}
 use Rattle.bus_world.proofs.world.World.device.Goals as goal
 
-few_if : (o : Option (Bor Device)) (ds : List Device) (p : Device → Bool) (name : EpName) → AllByRecursion IsRoomyDevice ds → option_copied o ≡ find p ds → IfSome o (λ d. length (taken_of d.now name) < 4294967296)
+few_if : (o : Option (Bor Device)) (ds : List Device) (p : Device → Bool) (name : EpName) → AllByRecursion IsRoomyDevice ds → option_copied o ≡ find p ds
+    → IfSome o (λ d. length (taken_of d.now name) < 4294967296)
 few_if None ds p name h e = tt
 few_if (Some d) ds p name h e = found_short ds p d.now name h (sym e)
 

@@ -4,7 +4,8 @@ use Rattle.image_codec.specs.Image.{IsAligned, HasFields}
 use Rattle.bus_world.proofs.world.World.image.Goals as goal
 
 -- an image of these words
-aligned : (frindex list_base async_at : ℕ) (words : List ℕ) (m : Mem) → words ≡ m.words → IsShaped m → frindex < 16384 → list_base % 4096 ≡ 0 → async_at % 32 ≡ 0 → IsAligned (record { frindex = frindex; list_base = list_base; async_at = async_at; words = words })
+aligned : (frindex list_base async_at : ℕ) (words : List ℕ) (m : Mem) → words ≡ m.words → IsShaped m → frindex < 16384 → list_base % 4096 ≡ 0 → async_at % 32 ≡ 0
+    → IsAligned (record { frindex = frindex; list_base = list_base; async_at = async_at; words = words })
 aligned frindex list_base async_at words m e shape f l a =
     let long : length words ≡ length m.words = ap length e in
     record {
@@ -16,7 +17,8 @@ aligned frindex list_base async_at words m e shape f l a =
       most = omega (arith, shape.at_most, long);
     }
 
-fields : (frindex list_base async_at : ℕ) (words : List ℕ) (m : Mem) → words ≡ m.words → ((i : ℕ) → slice_index m.words i < 4294967296) → list_base < 4294967296 → async_at < 4294967296 → HasFields (record { frindex = frindex; list_base = list_base; async_at = async_at; words = words })
+fields : (frindex list_base async_at : ℕ) (words : List ℕ) (m : Mem) → words ≡ m.words → ((i : ℕ) → slice_index m.words i < 4294967296) → list_base < 4294967296 → async_at < 4294967296
+    → HasFields (record { frindex = frindex; list_base = list_base; async_at = async_at; words = words })
 fields frindex list_base async_at words m e fit l a = record {
   list_base = l;
   async_at = a;

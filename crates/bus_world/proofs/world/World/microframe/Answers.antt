@@ -10,14 +10,17 @@ pub loop-turn-preserved : goal.loop-turn-preserved
 loop-turn-preserved c = record {
   fixed = ap (λ (s : Standing). s.fixed) c.turn.ensures.world ∙ c.loop-turn.invariant.fixed;
   room = c.turn.ensures.room ∙ c.loop-turn.invariant.room;
-  still = still_more c.args.self.now c.loop-turn.self c.turn.new.self c.loop-turn._turn c.turn.result c.turn.ensures.ended c.turn.ensures.world c.loop-turn.invariant.fixed c.loop-turn.invariant.still c.if-turn.false;
+  still = still_more c.args.self.now c.loop-turn.self c.turn.new.self c.loop-turn._turn c.turn.result c.turn.ensures.ended c.turn.ensures.world c.loop-turn.invariant.fixed
+      c.loop-turn.invariant.still c.if-turn.false;
 }
 
 pub returns-then-turn-clause-fixed : goal.returns-then-turn-clause-fixed
 returns-then-turn-clause-fixed c = ap (λ (s : Standing). s.fixed) c.turn.ensures.world ∙ c.loop-turn.invariant.fixed
 
 pub returns-then-turn-clause-ended : goal.returns-then-turn-clause-ended
-returns-then-turn-clause-ended c = microframe_ends c.args.self.now c.loop-turn.self c.turn.new.self c.loop-turn._turn c.turn.result c.turn.ensures.ended c.turn.ensures.world c.loop-turn.invariant.fixed c.loop-turn.invariant.still c.if-turn.true
+returns-then-turn-clause-ended c =
+    microframe_ends c.args.self.now c.loop-turn.self c.turn.new.self c.loop-turn._turn c.turn.result c.turn.ensures.ended c.turn.ensures.world c.loop-turn.invariant.fixed
+    c.loop-turn.invariant.still c.if-turn.true
 
 pub returns-clause-unended : goal.returns-clause-unended
 returns-clause-unended c = is_unended c.args.self.now c.loop-turn.self c.loop-turn._turn (omega arith) c.loop-turn.invariant.still

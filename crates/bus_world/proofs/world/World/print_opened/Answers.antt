@@ -1,17 +1,11 @@
-use Rattle.std.specs.Prelude.{◌==◌, find}
-use Rattle.std.proofs.lemmas.Result.{err_from_is_err_and, on_err_weaker}
-use Rattle.usb_base.proofs.Known.{prefix_more, prefix_after}
-use Rattle.bus_world.specs.Closing.{waiting, waiting_text, told_by}
+use Rattle.std.proofs.lemmas.Result.{err_from_is_err_and}
+use Rattle.usb_base.proofs.Known.{prints_cut, prints_join}
 use Rattle.bus_world.proofs.world.World.print_opened.Goals as goal
 
-pub returns-in_err-print_waiting-clause-err : goal.returns-in_err-print_waiting-clause-err
-returns-in_err-print_waiting-clause-err g c =
+pub returns-in_err-print_waiting : goal.returns-in_err-print_waiting
+returns-in_err-print_waiting g c =
     let p = err_from_is_err_and c.from_residual.result c.from_residual.ensures.1 in
-    rw p.1 (prefix_more _ _ (waiting_text c.args.seat.now.name (waiting c.args.self.now.world.driver c.args.seat.now.name))
-    (told_by c.args.seat.now (find (λ d. d.address == c.args.seat.now.name.addr) c.args.self.now.world.bus.devices)) c.in_err-print_waiting.ensures.err)
+    rw p.1 (prints_cut _ _ _ _ _ _ _ _ c.in_err-print_waiting.ensures)
 
-pub returns-clause-err : goal.returns-clause-err
-returns-clause-err g c =
-    on_err_weaker c.print_told.result
-    (λ k. prefix_after _ _ _ (waiting_text c.args.seat.now.name (waiting c.args.self.now.world.driver c.args.seat.now.name))
-    (told_by c.args.seat.now (find (λ d. d.address == c.args.seat.now.name.addr) c.args.self.now.world.bus.devices)) c.in_ok-print_waiting.ensures.ok k) c.print_told.ensures.err
+pub returns : goal.returns
+returns g c = prints_join _ _ _ _ _ _ _ _ _ c.in_ok-print_waiting.ensures c.print_told.ensures
