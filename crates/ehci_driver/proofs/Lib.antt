@@ -7,3 +7,4 @@ pub mod Written
 pub mod Entered
 pub mod Offered
 pub mod Rosters
+pub mod Placed

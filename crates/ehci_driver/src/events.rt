@@ -1,4 +1,4 @@
-ghost use Rattle.std.specs.Prelude.{◌≡◌, ◌≤◌, ◌+◌, ◌*◌, ℕ, length, slice_get, Some, drop, [], ◌++◌, ◌∷◌, suc, take, map};
+ghost use Rattle.std.specs.Prelude.{◌≡◌, ◌≤◌, ◌+◌, ◌*◌, ℕ, false, length, slice_get, Some, drop, [], ◌++◌, ◌∷◌, suc, take, map};
 ghost use Rattle.std.specs.VecDeque.{deque_len, deque_capacity};
 ghost use Rattle.run_book.specs.Book.{holding, Stands, lend_taken, store};
 ghost use Rattle.op_registers.specs.Table.{after_write};
@@ -7,7 +7,7 @@ ghost use Rattle.driver_rows.specs.Harvests.{note_at};
 ghost use Rattle.ehci_driver.specs.Written.{OnlyStores};
 
 use crate::driver::Driver;
-use driver_endpoints::last_event;
+use driver_endpoints::{event_count, has_links};
 use driver_rows::{Bell, Command, DriverStep, Endpoint, Found, Mend, Row, Transfer, Turn};
 use op_registers::Registers;
 use std::collections::VecDeque;
@@ -45,7 +45,7 @@ impl Driver {
     }
 
     /// Makes the event that this row tells.
-    #[tactic(auto, using(std::proofs::lemmas::Grind::common_steps, crate::proofs::Kept::transfer_registers, crate::proofs::Kept::endpoint_registers))]
+    #[tactic(auto, using(std::proofs::lemmas::Grind::common_steps, crate::proofs::Kept::transfer_registers, crate::proofs::Kept::endpoint_registers, crate::proofs::Kept::unlink_registers, crate::proofs::Kept::removed_registers))]
     fn make(&mut self, regs: &mut Registers, mem: &mut WordMem, row: Row)
         requires { Stands (holding self.old.book mem.old) }
         ensures driver { self.new ≡ (after_row row (record { driver = self.old; registers = regs.old; memory = mem.old })).driver }
@@ -63,6 +63,11 @@ impl Driver {
             Row::RingBell => self.ring_bell(regs),
             Row::ReadStatus(heard) => self.read_status(heard),
             Row::Harvest(e, t, found) => self.harvest(mem, e, t, found),
+            Row::Frames => self.give_frames(regs.frame_index()),
+            Row::LendDescriptors => self.lend_descriptors(mem),
+            Row::Unlink(t) => self.unlink(mem, t),
+            Row::ReleaseRemoved(what) => self.release_removed(mem, what),
+            Row::ReadFrame(frindex) => self.read_frame(frindex),
             Row::Rest => {}
         }
     }
@@ -90,30 +95,35 @@ impl Driver {
     }
 
     /// One more event of the command was made.
-    fn advance(&mut self)
+    pub(crate) fn advance(&mut self)
         ensures driver { self.new ≡ advance self.old }
         ensures book { self.new.book ≡ self.old.book }
     {
         let Some(command) = self.command else {
             return;
         };
-        if self.made < last_event(&command) {
+        if self.made < event_count(&command).saturating_sub(1) {
             self.made += 1;
+            return;
+        }
+        if has_links(&command) {
+            self.link_on(command);
             return;
         }
         self.finish(command);
     }
 
     /// The last event of the command was made.
-    fn finish(&mut self, command: Command)
+    pub(crate) fn finish(&mut self, command: Command)
         ensures driver { self.new ≡ finished self.old command }
         ensures book { self.new.book ≡ self.old.book }
     {
         self.command = None;
         self.made = 0;
         match command {
-            Command::Open(_) | Command::Publish(_, _) => {}
+            Command::Open(_) | Command::Publish(_, _) | Command::Chain | Command::Iso(_, _, _) => {}
             Command::Unlink(e, _, _) => self.leave_ring(e),
+            Command::Unchain(e) => self.leave_frames(e),
         }
     }
 
@@ -173,8 +183,9 @@ impl Driver {
 
     /// USBSTS was read.
     fn read_status(&mut self, heard: bool)
-        ensures { self.new ≡ record self.old { bell = bell_after heard; turn = Turn.Harvest } }
+        ensures { self.new ≡ record self.old { bell = bell_after heard; turn = Turn.Harvest; periodic = record self.old.periodic { status_next = false } } }
     {
+        self.periodic.set_reads_status(false);
         self.bell = if heard { Bell::Heard } else { Bell::Rung };
         self.turn = Turn::Harvest;
     }

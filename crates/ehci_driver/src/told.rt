@@ -55,7 +55,7 @@ impl Driver {
     }
 
     /// How many transfers wait at the endpoint of this number.
-    fn count_waiting(&self, e: usize) -> u32
+    pub(crate) fn count_waiting(&self, e: usize) -> u32
         ensures { result ≡ count_by (waits_for e) self.now.transfers }
     {
         count_waiting_in(&self.transfers, e) as u32

@@ -1,0 +1,4 @@
+pub mod Freed
+pub mod Framed
+pub mod Listed
+pub mod Queued
