@@ -1,26 +1,14 @@
-//! Which endpoints have descriptors, and how many of them at a time.
+//! How many descriptors an endpoint has at a time.
 ghost use Rattle.std.specs.Prelude.{◌≡◌};
-ghost use Rattle.driver_rows.specs.Rows.{is_iso};
 ghost use Rattle.driver_rows.specs.Offers.{spans_too_long};
 
 use driver_rows::Endpoint;
-use usb_base::EpKind;
 
 /// The most descriptors of an endpoint that are outstanding.
 const MOST_DESCRIPTORS: u32 = 8;
 
 /// The microframes of the frame list (EHCI 1.0, 3.1).
 const LIST_SPAN: u32 = 8192;
-
-/// Whether an endpoint of this kind has descriptors, and no queue.
-pub fn is_isochronous(kind: EpKind) -> bool
-    ensures { result ≡ is_iso kind }
-{
-    match kind {
-        EpKind::Iso => true,
-        EpKind::Bulk | EpKind::Interrupt | EpKind::Control => false,
-    }
-}
 
 /// Whether so many descriptors of this period are more than are outstanding at a time.
 pub fn spans_too_long(all: u32, period: u16) -> bool

@@ -17,7 +17,7 @@ mod spans;
 
 pub use descriptors::write_descriptors;
 pub use framing::{give_frames, write_links};
-pub use kinds::{is_isochronous, spans_too_long};
+pub use kinds::spans_too_long;
 pub use linking::{go_on, queue_descriptors, queue_leaving, unlink_descriptor};
 pub use releases::{free_descriptor, free_placed};
 pub use reports::report_descriptor;

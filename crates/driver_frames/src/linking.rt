@@ -8,8 +8,8 @@ ghost use Rattle.periodic_part.specs.Part.{with_list, with_periodic, with_queued
 ghost use Rattle.driver_rows.specs.DriverContent.{waits_for};
 ghost use Rattle.driver_rows.specs.Rows.{is_iso, stored_link};
 
-use crate::kinds::is_isochronous;
 use bandwidth::Placement;
+use driver_endpoints::is_isochronous;
 use driver_harvests::waits_at;
 use driver_rows::{Endpoint, Transfer};
 use periodic_list::Store;

@@ -4,9 +4,9 @@ ghost use Rattle.run_book.specs.Book.{holding, Stands};
 ghost use Rattle.driver_rows.specs.DriverContent.{waits_for};
 ghost use Rattle.driver_rows.specs.Rows.{is_iso, free_runs, free_transfers, free_descriptor, free_descriptors};
 
+use driver_endpoints::is_isochronous;
 use driver_harvests::{free_runs_at, free_transfers_of, waits_at};
 use driver_rows::{Endpoint, QtdNote, Transfer};
-use crate::kinds::is_isochronous;
 use periodic_part::PeriodicPart;
 use run_book::RunBook;
 use word_mem::WordMem;

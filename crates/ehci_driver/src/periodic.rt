@@ -8,10 +8,8 @@ ghost use Rattle.driver_rows.specs.Offers.{Offered, Descriptors, planned_open, t
 
 use crate::driver::Driver;
 use bandwidth::Placement;
-use driver_endpoints::or_first;
-use driver_frames::{
-    blocks_from, is_isochronous, room_for_descriptors, spans_too_long, write_descriptors,
-};
+use driver_endpoints::{is_isochronous, or_first};
+use driver_frames::{blocks_from, room_for_descriptors, spans_too_long, write_descriptors};
 use driver_queues::{take_endpoint, write_interrupt_endpoint};
 use driver_rows::{Command, Endpoint, Slots};
 use iso_queues::{slots_of, take_descriptors, total_bytes};
