@@ -7,7 +7,7 @@ ghost use Rattle.driver_rows.specs.Harvests.{note_at};
 ghost use Rattle.ehci_driver.specs.Written.{OnlyStores};
 
 use crate::driver::Driver;
-use driver_endpoints::{event_count, has_links};
+use driver_endpoints::{event_count, links};
 use driver_rows::{Bell, Command, DriverStep, Endpoint, Found, Mend, Row, Transfer, Turn};
 use op_registers::Registers;
 use std::collections::VecDeque;
@@ -106,7 +106,7 @@ impl Driver {
             self.made += 1;
             return;
         }
-        if has_links(&command) {
+        if links(&command) {
             self.link_on(command);
             return;
         }

@@ -5,7 +5,7 @@ ghost use Rattle.driver_rows.specs.Rows.{framed_by, framed_notes, with_notes, pl
 
 use crate::driver::Driver;
 use bandwidth::Placement;
-use driver_endpoints::{event_count, has_removals, or_cancel};
+use driver_endpoints::{event_count, removes_members, or_cancel};
 use driver_frames::{
     give_frames, go_on, of_command, queue_descriptors, queue_leaving, write_links,
 };
@@ -89,7 +89,7 @@ impl Driver {
     {
         let own = event_count(&command);
         let stored = self.made >= own;
-        go_on(&mut self.periodic, stored, has_removals(&command));
+        go_on(&mut self.periodic, stored, removes_members(&command));
         self.made = own;
         self.finish_if_idle(command);
     }

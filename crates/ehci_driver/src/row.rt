@@ -5,7 +5,7 @@ ghost use Rattle.driver_rows.specs.Harvests.{note_at, token_in, found_in};
 ghost use Rattle.driver_rows.specs.DriverContent.{waits_for};
 
 use crate::driver::Driver;
-use driver_endpoints::{event_count, has_links, row_of_command};
+use driver_endpoints::{event_count, links, row_of_command};
 use driver_harvests::{found, note_of, token_at};
 use driver_rows::{Bell, Command, Found, QtdNote, Row, Sort, Transfer, Turn};
 use iso_queues::descriptor_found;
@@ -36,7 +36,7 @@ impl Driver {
     fn next_row(&self, command: &Command) -> Row
         ensures { result ≡ next_row self.now command.now }
     {
-        if has_links(command) && self.made >= event_count(command) {
+        if links(command) && self.made >= event_count(command) {
             return self.link_row();
         }
         row_of_command(command, self.made)
