@@ -19,7 +19,7 @@ pub use descriptors::write_descriptors;
 pub use framing::{give_frames, write_links};
 pub use kinds::spans_too_long;
 pub use linking::{go_on, queue_descriptors, queue_leaving, unlink_descriptor};
-pub use releases::{free_descriptor, free_placed};
+pub use releases::{free_descriptor, free_placed, let_placed_go};
 pub use reports::report_descriptor;
 pub use rooms::room_for_descriptors;
 pub use spans::{blocks_from, of_command};

@@ -1,11 +1,11 @@
 //! Blocks that are given back once they have left the frame list (EHCI 1.0, 4.6).
-ghost use Rattle.std.specs.Prelude.{◌≡◌, ◌∷◌, [], if◌then◌else◌};
+ghost use Rattle.std.specs.Prelude.{◌≡◌, ◌∷◌, [], map, if◌then◌else◌, vec_capacity};
 ghost use Rattle.run_book.specs.Book.{holding, Stands};
 ghost use Rattle.driver_rows.specs.DriverContent.{waits_for};
-ghost use Rattle.driver_rows.specs.Rows.{is_iso, free_runs, free_transfers, free_descriptor, free_descriptors};
+ghost use Rattle.driver_rows.specs.Rows.{is_iso, free_runs, free_transfers, free_descriptor, free_descriptors, let_go_waiting, let_go_placed};
 
 use driver_endpoints::is_isochronous;
-use driver_harvests::{free_runs_at, free_transfers_of, waits_at};
+use driver_harvests::{free_runs_at, free_transfers_of, let_all_go, waits_at};
 use driver_rows::{Endpoint, QtdNote, Transfer};
 use periodic_part::PeriodicPart;
 use run_book::RunBook;
@@ -84,4 +84,39 @@ pub fn free_placed(
     }
     free_runs_at(book, mem, &[endpoint.queue, endpoint.dummy]);
     free_transfers_of(book, notes, mem, e, transfers);
+}
+
+/// A descriptor that lets its blocks go, if it waits at the endpoint, and with `told` is reported.
+fn let_if_waiting(transfer: Transfer, e: usize, told: bool) -> Transfer
+    ensures { result ≡ let_go_waiting e told transfer }
+{
+    if !waits_at(&transfer, e) {
+        return transfer;
+    }
+    let mut gone = transfer;
+    gone.released = true;
+    gone.reported = transfer.reported || told;
+    gone
+}
+
+/// Each descriptor that waits at the endpoint lets its blocks go, and with `told` it is reported.
+fn let_waiting_go(transfers: &mut Vec<Transfer>, e: usize, told: bool)
+    ensures items { transfers.new.items ≡ map (let_go_waiting e told) transfers.old.items }
+    ensures capacity { vec_capacity transfers.new ≡ vec_capacity transfers.old }
+{
+    for k in 0..transfers.len() {
+        transfers[k] = let_if_waiting(transfers[k], e, told);
+    }
+}
+
+/// The transfers of a periodic endpoint let their blocks go, and with `told` they are reported; of an isochronous one those that wait.
+pub fn let_placed_go(transfers: &mut Vec<Transfer>, e: usize, iso: bool, told: bool)
+    ensures items { transfers.new.items ≡ map (let_go_placed iso e told) transfers.old.items }
+    ensures capacity { vec_capacity transfers.new ≡ vec_capacity transfers.old }
+{
+    if !iso {
+        let_all_go(transfers, e, told);
+        return;
+    }
+    let_waiting_go(transfers, e, told);
 }

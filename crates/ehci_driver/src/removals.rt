@@ -7,8 +7,11 @@ ghost use Rattle.driver_rows.specs.Harvests.{reported};
 ghost use Rattle.driver_rows.specs.Rows.{Parts, descriptor_told, after_unlink, after_removed, after_descriptor, after_placed, free_placed, removed_with, cancelled_bytes, is_told};
 
 use crate::driver::Driver;
-use driver_frames::{free_descriptor, free_placed, report_descriptor, unlink_descriptor};
-use driver_harvests::{is_told_at_release, let_all_go, next_waiting, report_cancel};
+use driver_endpoints::is_isochronous;
+use driver_frames::{
+    free_descriptor, free_placed, let_placed_go, report_descriptor, unlink_descriptor,
+};
+use driver_harvests::{is_told_at_release, next_waiting, report_cancel};
 use driver_rows::{Endpoint, Transfer, Turn};
 use periodic_rows::Removed;
 use word_mem::WordMem;
@@ -152,7 +155,8 @@ impl Driver {
             endpoint,
             &self.transfers,
         );
-        let_all_go(&mut self.transfers, e, true);
+        let iso = is_isochronous(endpoint.desc.kind);
+        let_placed_go(&mut self.transfers, e, iso, true);
         let gone = Endpoint {
             gone: true,
             ..*endpoint
@@ -180,7 +184,8 @@ impl Driver {
             endpoint,
             &self.transfers,
         );
-        let_all_go(&mut self.transfers, e, false);
+        let iso = is_isochronous(endpoint.desc.kind);
+        let_placed_go(&mut self.transfers, e, iso, false);
         let gone = Endpoint {
             gone: true,
             ..*endpoint
