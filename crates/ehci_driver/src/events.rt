@@ -36,7 +36,7 @@ impl Driver {
         ensures memory { mem.new ≡ (after_row (row_of (record { driver = self.old; registers = regs.old; memory = mem.old })) (record { driver = self.old; registers = regs.old; memory = mem.old })).memory }
         ensures stands { Stands (holding self.new.book mem.new) }
         ensures room { self.new.room ≡ self.old.room }
-        ensures words { OnlyStores (row_of (record { driver = self.old; registers = regs.old; memory = mem.old })) mem.old mem.new }
+        ensures words { OnlyStores self.old (row_of (record { driver = self.old; registers = regs.old; memory = mem.old })) mem.old mem.new }
     {
         let _words = mem.words();
         let row = self.row(regs, mem);

@@ -10,5 +10,5 @@ pub returns-clause-words : goal.returns-clause-words
 returns-clause-words c =
     let p : Parts = record { driver = c.args.self.now; registers = c.args.regs.now; memory = c.args.mem.now } in
     let row = c.row-row.result in
-    subst (λ (r : Row). OnlyStores r p.memory c.make.new.mem) c.row-row.ensures
-    (subst (λ (m : Mem). OnlyStores row p.memory m) (sym c.make.ensures.memory) (row_words row p c.requires c.words-words.ensures.shape))
+    subst (λ (r : Row). OnlyStores p.driver r p.memory c.make.new.mem) c.row-row.ensures
+    (subst (λ (m : Mem). OnlyStores p.driver row p.memory m) (sym c.make.ensures.memory) (row_words row p c.requires c.words-words.ensures.shape))
