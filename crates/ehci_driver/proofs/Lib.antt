@@ -7,4 +7,7 @@ pub mod Written
 pub mod Entered
 pub mod Offered
 pub mod Rosters
+pub mod Makes
 pub mod Placed
+pub mod Descriptors
+pub mod Released

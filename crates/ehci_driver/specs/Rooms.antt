@@ -46,6 +46,7 @@ AreBefore n ps = AllByRecursion (λ p. p.want.id < n) ps
 
 -- the same of the endpoints that have a place in the frame list
 pub record HasFrameRooms (xs : List Endpoint) (ts : List Transfer) (room : Reserve) (held : Held) : Type 0 where
+  pub few_endpoints : length xs + room.endpoints < 4294967296
   pub for_queued : length ts + room.transfers + 1 ≤ held.queued_room
   pub for_plan : length held.periodic.plan.placed + room.endpoints ≤ held.periodic.plan.room
   pub placed_before : AreBefore (length xs) held.periodic.plan.placed

@@ -4,6 +4,7 @@ ghost use Rattle.run_book.specs.Book.{holding, Stands, lend_taken, store};
 ghost use Rattle.op_registers.specs.Table.{after_write};
 ghost use Rattle.driver_rows.specs.Rows.{Parts, row_of, after_row, step_of, advance, after_lend, after_transfer, freed_by, after_endpoint, doorbell_command, bell_after, after_harvest, served, free_qtd, free_runs, free_qtds, finished, no_command, leave_ring, events_of};
 ghost use Rattle.driver_rows.specs.Harvests.{note_at};
+ghost use Rattle.ehci_driver.specs.Makes.{CanMake};
 ghost use Rattle.ehci_driver.specs.Written.{OnlyStores};
 
 use crate::driver::Driver;
@@ -47,7 +48,8 @@ impl Driver {
     /// Makes the event that this row tells.
     #[tactic(auto, using(std::proofs::lemmas::Grind::common_steps, crate::proofs::Kept::transfer_registers, crate::proofs::Kept::endpoint_registers, crate::proofs::Kept::unlink_registers, crate::proofs::Kept::removed_registers))]
     fn make(&mut self, regs: &mut Registers, mem: &mut WordMem, row: Row)
-        requires { Stands (holding self.old.book mem.old) }
+        requires stands { Stands (holding self.old.book mem.old) }
+        requires can { CanMake self.old row }
         ensures driver { self.new ≡ (after_row row (record { driver = self.old; registers = regs.old; memory = mem.old })).driver }
         ensures registers { regs.new ≡ (after_row row (record { driver = self.old; registers = regs.old; memory = mem.old })).registers }
         ensures memory { mem.new ≡ (after_row row (record { driver = self.old; registers = regs.old; memory = mem.old })).memory }

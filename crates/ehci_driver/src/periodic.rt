@@ -1,19 +1,22 @@
 ghost use Rattle.std.specs.Prelude.{◌≡◌, ◌≤◌, ◌<◌, ◌+◌, ◌-◌, ◌*◌, length, take, drop, slice_get, slice_set, Some, Ok, Err, IfOk, IfErr, ◌∷◌, ◌++◌, [], true, unwrap_or};
 ghost use Rattle.run_book.specs.Book.{holding, Stands};
 ghost use Rattle.bandwidth.specs.Placements.{IsWant};
-ghost use Rattle.bandwidth.specs.Admission.{answer, without};
+ghost use Rattle.bandwidth.specs.Admission.{answer};
 ghost use Rattle.periodic_rows.specs.Periodic.{want_of, is_periodic};
-ghost use Rattle.driver_rows.specs.DriverContent.{DriverContent, endpoint_of, endpoint_named};
-ghost use Rattle.driver_rows.specs.Offers.{Offered, Descriptors, planned_open, taken_chain, placed_endpoint, with_placement, take_runs, offered_iso, taken_iso, iso_needs, entered_iso, all_descriptors, total_of};
+ghost use Rattle.driver_rows.specs.DriverContent.{endpoint_of, endpoint_named};
+ghost use Rattle.driver_rows.specs.Rows.{is_iso};
+ghost use Rattle.driver_frames.specs.Placing.{started};
+ghost use Rattle.driver_rows.specs.Offers.{Offered, Descriptors, planned_open, take_runs, offered_iso, taken_iso, iso_needs, entered_iso, all_descriptors, total_of};
 
 use crate::driver::Driver;
-use bandwidth::Placement;
 use driver_endpoints::{is_isochronous, or_first};
-use driver_frames::{blocks_from, room_for_descriptors, spans_too_long, write_descriptors};
-use driver_queues::{take_endpoint, write_interrupt_endpoint};
+use driver_frames::{
+    blocks_from, new_placed, place_endpoint, room_for_descriptors, spans_too_long,
+    write_descriptors,
+};
 use driver_rows::{Command, Endpoint, Slots};
 use iso_queues::{slots_of, take_descriptors, total_bytes};
-use usb_base::{EpDesc, EpName, OfferError};
+use usb_base::{EpDesc, EpKind, EpName, OfferError};
 use word_mem::WordMem;
 
 impl Driver {
@@ -35,72 +38,26 @@ impl Driver {
         ensures stands { Stands (holding self.new.book mem.new) }
     {
         let e = self.endpoints.as_slice().len() as u32;
-        match self.periodic.admit(e, desc) {
-            None => Err(OfferError::NoPlacement),
-            Some(placement) => {
-                if is_isochronous(desc.kind) {
-                    self.enter_placed(desc, &placement, 0, 0);
-                    return Ok(());
-                }
-                self.take_chain(e, desc, &placement, mem)
-            }
-        }
-    }
-
-    /// The queue head of an interrupt endpoint and its dummy are taken; where they aren't found its placement leaves the plan again.
-    fn take_chain(
-        &mut self,
-        e: u32,
-        desc: &EpDesc,
-        placement: &Placement,
-        mem: &mut WordMem,
-    ) -> Result<(), OfferError>
-        requires stands { Stands (holding self.old.book mem.old) }
-        requires room { 1 ≤ self.old.room.endpoints }
-        requires max { desc.now.max ≤ 1024 }
-        requires port { desc.now.port ≤ 127 }
-        requires multi { desc.now.multi ≤ 3 }
-        requires number { e ≡ length self.old.endpoints }
-        ensures accepted { IfOk result (λ _. (before : DriverContent) → self.old ≡ record before { periodic = record before.periodic { plan = with_placement before desc.now placement.now } } → taken_chain before desc.now placement.now (take_runs (holding before.book mem.old) (2 ∷ 1 ∷ [])) ≡ Ok (record { driver = self.new; memory = mem.new })) }
-        ensures refused { IfErr result (λ why. (before : DriverContent) → taken_chain before desc.now placement.now (take_runs (holding self.old.book mem.old) (2 ∷ 1 ∷ [])) ≡ Err why) }
-        ensures same { IfErr result (λ _. (self.new ≡ record self.old { periodic = record self.old.periodic { plan = without self.old.periodic.plan e } }) × (mem.new ≡ mem.old)) }
-        ensures stands { Stands (holding self.new.book mem.new) }
-    {
-        match take_endpoint(&mut self.book, mem) {
-            Ok((queue, dummy)) => {
-                let link = self.periodic.queue_link(queue, placement);
-                write_interrupt_endpoint(&self.book, mem, desc, placement, link, queue, dummy);
-                self.periodic.link_queue(queue, placement);
-                self.enter_placed(desc, placement, queue, dummy);
-                self.command = Some(Command::Chain);
-                self.made = 0;
+        match place_endpoint(&mut self.book, mem, &mut self.periodic, e, desc) {
+            Ok(place) => {
+                self.endpoints.push(&new_placed(desc, &place));
+                self.room.endpoints -= 1;
+                self.start_chain(desc.kind);
                 Ok(())
             }
-            Err(why) => {
-                self.periodic.withdraw(e);
-                Err(why)
-            }
+            Err(why) => Err(why),
         }
     }
 
-    /// A new endpoint that is placed so.
-    fn enter_placed(&mut self, desc: &EpDesc, placement: &Placement, queue: u16, dummy: u16)
-        requires room { 1 ≤ self.old.room.endpoints }
-        ensures { self.new ≡ record self.old { endpoints = self.old.endpoints ++ placed_endpoint desc.now placement.now queue dummy ∷ []; room = record self.old.room { endpoints = self.old.room.endpoints - 1 } } }
+    /// The queue head of a new periodic endpoint is to be linked, where it has one.
+    fn start_chain(&mut self, kind: EpKind)
+        ensures { self.new ≡ started (is_iso kind) self.old }
     {
-        self.endpoints.push(&Endpoint {
-            desc: *desc,
-            placement: Some(*placement),
-            queue,
-            dummy,
-            next: None,
-            ended: None,
-            cancelled: false,
-            linked: false,
-            chained: true,
-            gone: false,
-        });
-        self.room.endpoints -= 1;
+        if is_isochronous(kind) {
+            return;
+        }
+        self.command = Some(Command::Chain);
+        self.made = 0;
     }
 
     /// Descriptors of an isochronous endpoint: they are taken and written, and get their frames by the next events.

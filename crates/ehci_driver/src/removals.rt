@@ -1,4 +1,4 @@
-ghost use Rattle.std.specs.Prelude.{◌≡◌, slice_get, true, false, Some};
+ghost use Rattle.std.specs.Prelude.{◌≡◌, ◌≤◌, length, slice_get, true, false, Some};
 ghost use Rattle.op_registers.specs.RegisterFile.{RegisterFile};
 ghost use Rattle.usb_base.specs.declared.reports.What.TheVariants.{Cancel};
 ghost use Rattle.run_book.specs.Book.{holding, Stands};
@@ -55,6 +55,7 @@ impl Driver {
     /// The first harvested descriptor that is still linked leaves its frame.
     pub(crate) fn unlink(&mut self, mem: &mut WordMem, t: usize)
         requires stands { Stands (holding self.old.book mem.old) }
+        requires waits { 1 ≤ length self.old.periodic.unlinks }
         ensures driver { (r : RegisterFile) → self.new ≡ (after_unlink (record { driver = self.old; registers = r; memory = mem.old }) t (slice_get self.old.transfers t)).driver }
         ensures memory { (r : RegisterFile) → mem.new ≡ (after_unlink (record { driver = self.old; registers = r; memory = mem.old }) t (slice_get self.old.transfers t)).memory }
         ensures stands { Stands (holding self.new.book mem.new) }

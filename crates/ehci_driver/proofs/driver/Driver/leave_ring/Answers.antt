@@ -6,4 +6,4 @@ pub push_back_reserved-requires : goal.push_back_reserved-requires
 push_back_reserved-requires c =
     let there : slice_get c.self.inside.endpoints.items c.args.e ≡ Some c.in-Some.endpoint = sym c.get.ensures.endpoint ∙ c.in-Some.is in
     let on : c.in-Some.endpoint.linked ≡ true = search rules in
-    omega (arith, c.self.invariant.for_waiting, left_ring c.self.inside.endpoints.items c.args.e c.in-Some.endpoint there on)
+    omega (arith, c.self.invariant.0.for_waiting, left_ring c.self.inside.endpoints.items c.args.e c.in-Some.endpoint there on)
