@@ -2,4 +2,4 @@ pub mod Freed
 pub mod Framed
 pub mod Listed
 pub mod Queued
-pub mod Placing
+pub mod Places

@@ -7,7 +7,7 @@ ghost use Rattle.periodic_rows.specs.Periodic.{want_of, queue_member};
 ghost use Rattle.periodic_rows.specs.Linking.{new_link};
 ghost use Rattle.driver_rows.specs.DriverContent.{DriverContent};
 ghost use Rattle.driver_rows.specs.Offers.{planned_open, placed_endpoint, take_runs};
-ghost use Rattle.driver_frames.specs.Placing.{opened_placed, placed_part, chained_part, withdrawn, IsChained};
+ghost use Rattle.driver_frames.specs.Places.{opened_placed, placed_part, chained_part, withdrawn, IsChained};
 
 use bandwidth::Placement;
 use driver_endpoints::is_isochronous;

@@ -5,7 +5,7 @@ ghost use Rattle.bandwidth.specs.Admission.{answer};
 ghost use Rattle.periodic_rows.specs.Periodic.{want_of, is_periodic};
 ghost use Rattle.driver_rows.specs.DriverContent.{endpoint_of, endpoint_named};
 ghost use Rattle.driver_rows.specs.Rows.{is_iso};
-ghost use Rattle.driver_frames.specs.Placing.{started};
+ghost use Rattle.driver_frames.specs.Places.{started};
 ghost use Rattle.driver_rows.specs.Offers.{Offered, Descriptors, planned_open, take_runs, offered_iso, taken_iso, iso_needs, entered_iso, all_descriptors, total_of};
 
 use crate::driver::Driver;

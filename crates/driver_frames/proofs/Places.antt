@@ -20,7 +20,7 @@ use Rattle.driver_rows.specs.DriverContent.{DriverContent}
 use Rattle.driver_rows.specs.Rows.{is_iso}
 use Rattle.driver_rows.specs.Offers.{Offered, planned_open, placed_open, taken_chain, accepted_chain, accepted_iso, with_placement, placed_endpoint, written_chain, take_runs}
 use Rattle.driver_frames.specs.declared.placing.Place.{Place}
-use Rattle.driver_frames.specs.Placing.{IsChained, opened_placed, started, placed_part, chained_part, withdrawn}
+use Rattle.driver_frames.specs.Places.{IsChained, opened_placed, started, placed_part, chained_part, withdrawn}
 
 abbrev at_place : Placement → ℕ → ℕ → Place
 at_place p queue dummy = record { placement = p; queue = queue; dummy = dummy }
