@@ -62,7 +62,7 @@ pub fn give_frames(
     count: u8,
     frindex: u16,
 )
-    ensures { (d : DriverContent) → d.transfers ≡ transfers.now → d.periodic ≡ periodic.old.periodic → periodic.new ≡ with_notes periodic.old (framed_notes d frindex e t count placement.now) }
+    ensures { (d : DriverContent) → d.transfers ≡ transfers.now → d.periodic ≡ periodic.old.periodic → periodic.new ≡ with_notes periodic.old (framed_notes d frindex e t count placement) }
 {
     let Some(placement) = placement else {
         return;

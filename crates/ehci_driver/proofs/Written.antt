@@ -1,7 +1,7 @@
 -- Which words an event writes: lending leaves each, a store changes the one at its address, and giving runs back those of blocks that
 -- are Free then.
 use Rattle.std.proofs.Common.{◌≡◌, ◌≢◌, ℕ, zero, suc, ◌+◌, ◌*◌, ◌/◌, ◌%◌, ◌==◌, ◌<◌, ◌≤◌, Bool, true, false, ◌||◌, cond, List, [], ◌∷◌, length, take, reverse, slice_get, slice_index, Option, Some, None, arith, ap, sym, subst, ◌∙◌, ⊎_elim, refl}
-use Rattle.std.proofs.lemmas.Bool.{cases_lt, eqb-false}
+use Rattle.std.proofs.lemmas.Bool.{cases_lt, eqb-false, true≢false}
 use Rattle.std.proofs.lemmas.List.{get_or-set_other}
 use Rattle.word_mem.specs.Memory.{Mem, IsShaped, word_at, state_at, with_word}
 use Rattle.word_mem.specs.declared.blocks.BlockState.TheVariants.{Free}
@@ -154,7 +154,7 @@ first_off true b off = off
 
 later_off : (a b : Bool) → (a || b) ≡ false → b ≡ false
 later_off false b off = off
-later_off true b off = absurd off
+later_off true b off = absurd (true≢false off)
 
 linked_apart : (k : Book) (list : Periodic) (notes : List DescriptorNote) (ts : List Transfer) (m : Mem) (at : ℕ) → links_at ts at ≡ false → word_at (linked_descriptors k list notes ts m) at ≡ word_at m at
 unfolding linked_descriptors
