@@ -10,4 +10,5 @@ pub mod Rosters
 pub mod Makes
 pub mod Placed
 pub mod Descriptors
+pub mod Left
 pub mod Released

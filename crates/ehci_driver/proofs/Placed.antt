@@ -1,12 +1,19 @@
 -- There is still room in the frame list's part for what is owed, as one transfer or endpoint changes.
-use Rattle.std.proofs.Common.{◌≡◌, ℕ, ◌+◌, ◌-◌, ◌≤◌, ◌<◌, Bool, true, false, cond, List, [], ◌∷◌, ◌++◌, length, set, map, slice_get, Some, sum_by, arith, ap, sym, subst, ◌∙◌, refl}
+use Rattle.std.proofs.Common.{◌≡◌, ℕ, ◌+◌, ◌-◌, ◌≤◌, ◌<◌, Bool, true, false, cond, List, [], ◌∷◌, ◌++◌, length, set, map, filter, take, drop, zero, suc, is_none, nat_eq, not, ◌||◌, slice_get, Some, sum_by, arith, ap, sym, subst, ◌∙◌, refl}
+use Rattle.std.proofs.lemmas.Bool.{ne_eqb}
 use Rattle.std.proofs.lemmas.List.{length-set, length_push}
 use Rattle.std.proofs.lemmas.List.Sums.{sum_by_push}
 use Rattle.std.specs.List.{AllByRecursion}
 use Rattle.bandwidth.specs.declared.placements.Placed.{Placed}
-use Rattle.bandwidth.specs.Admission.{Admissions}
+use Rattle.std.specs.List.{list_any}
+use Rattle.bandwidth.specs.Admission.{Admissions, without}
+use Rattle.frame_chains.specs.declared.members.Member.{Member}
+use Rattle.periodic_list.specs.Periodic.{Periodic}
+use Rattle.periodic_rows.specs.declared.content.DescriptorNote.{DescriptorNote}
+use Rattle.periodic_rows.specs.Periodic.{PeriodicContent, read_again}
+use Rattle.periodic_rows.specs.Linking.{with_first, begun_next}
 use Rattle.periodic_rows.specs.declared.content.Removal.{Removal}
-use Rattle.periodic_part.specs.Part.{Held}
+use Rattle.periodic_part.specs.Part.{Held, with_periodic, with_list, with_queued, with_notes, with_removals}
 use Rattle.driver_rows.specs.declared.content.Endpoint.{Endpoint}
 use Rattle.driver_rows.specs.declared.content.Transfer.{Transfer}
 use Rattle.driver_rows.specs.declared.content.Reserve.{Reserve}
@@ -232,3 +239,103 @@ frames_unlinked {xs = xs} {ts = ts} {room = room} g rooms plan unlinks removals 
   for_unlinks = omega (arith, unlinks, r1, rooms.for_unlinks);
   for_removals = omega (arith, unlinks, removals, r2, rooms.for_removals);
 }
+
+-- ---- changes of the part that owe nothing
+
+pub keeps_both : {h g k : Held} → Keeps h g → Keeps g k → Keeps h k
+keeps_both one two = record {
+  plan = two.plan ∙ one.plan;
+  unlinks = two.unlinks ∙ one.unlinks;
+  removals = omega (arith, one.removals, two.removals);
+  queued_room = two.queued_room ∙ one.queued_room;
+  unlink_room = two.unlink_room ∙ one.unlink_room;
+  removal_room = two.removal_room ∙ one.removal_room;
+}
+
+pub keeps_queued : (h : Held) (ms : List Member) → Keeps h (with_queued h ms)
+keeps_queued h ms = record { plan = refl; unlinks = refl; removals = omega arith; queued_room = refl; unlink_room = refl; removal_room = refl }
+
+pub keeps_list : (h : Held) (l : Periodic) → Keeps h (with_list h l)
+keeps_list h l = record { plan = refl; unlinks = refl; removals = omega arith; queued_room = refl; unlink_room = refl; removal_room = refl }
+
+pub keeps_notes : (h : Held) (notes : List DescriptorNote) → Keeps h (with_notes h notes)
+keeps_notes h notes = record { plan = refl; unlinks = refl; removals = omega arith; queued_room = refl; unlink_room = refl; removal_room = refl }
+
+same_long_removals : (n : ℕ) (rs : List Removal) → length (read_again n rs) ≡ length rs
+same_long_removals n [] = refl
+same_long_removals n (r ∷ rs) = ap suc (same_long_removals n rs)
+
+pub keeps_read : (h : Held) (n : ℕ) → Keeps h (with_removals h (read_again n h.periodic.removals))
+keeps_read h n = record { plan = refl; unlinks = refl; removals = omega (arith, same_long_removals n h.periodic.removals); queued_room = refl; unlink_room = refl; removal_room = refl }
+
+less_long : (rs : List Removal) → length (drop 1 rs) ≤ length rs
+less_long [] = omega arith
+less_long (r ∷ rs) = omega arith
+
+pub keeps_less : (h : Held) → Keeps h (with_removals h (drop 1 h.periodic.removals))
+keeps_less h = record { plan = refl; unlinks = refl; removals = omega (arith, less_long h.periodic.removals); queued_room = refl; unlink_room = refl; removal_room = refl }
+
+keeps_first : (b : Bool) (h : Held) (ms : List Member) → Keeps h (with_periodic h (with_first b h.periodic ms))
+keeps_first b h [] = record { plan = refl; unlinks = refl; removals = omega arith; queued_room = refl; unlink_room = refl; removal_room = refl }
+keeps_first b h (m ∷ ms) = record { plan = refl; unlinks = refl; removals = omega arith; queued_room = refl; unlink_room = refl; removal_room = refl }
+
+keeps_either : (h : Held) (t : Bool) (p q : PeriodicContent) → Keeps h (with_periodic h p) → Keeps h (with_periodic h q) → Keeps h (with_periodic h (cond t p q))
+keeps_either h true p q one other = one
+keeps_either h false p q one other = other
+
+pub keeps_begun : (b : Bool) (h : Held) → Keeps h (with_periodic h (begun_next b h.periodic))
+keeps_begun b h = keeps_either h (is_none h.periodic.list.work) (with_first b h.periodic h.periodic.queued) h.periodic (keeps_first b h h.periodic.queued) (keeps_list h h.periodic.list)
+
+-- a placement leaves the plan
+fewer_one : (f : Placed → Bool) (p : Placed) (ps : List Placed) (b : Bool) → length (filter f ps) ≤ length ps → length (cond b (p ∷ filter f ps) (filter f ps)) ≤ suc (length ps)
+fewer_one f p ps true few = omega (arith, few)
+fewer_one f p ps false few = omega (arith, few)
+
+fewer_placed : (f : Placed → Bool) (ps : List Placed) → length (filter f ps) ≤ length ps
+fewer_placed f [] = omega arith
+fewer_placed f (p ∷ ps) = fewer_one f p ps (f p) (fewer_placed f ps)
+
+before_one : (n : ℕ) (f : Placed → Bool) (p : Placed) (ps : List Placed) (b : Bool) → p.want.id < n → AreBefore n (filter f ps) → AreBefore n (cond b (p ∷ filter f ps) (filter f ps))
+before_one n f p ps true below rest = (below, rest)
+before_one n f p ps false below rest = rest
+
+before_fewer : (n : ℕ) (f : Placed → Bool) (ps : List Placed) → AreBefore n ps → AreBefore n (filter f ps)
+before_fewer n f [] all = tt
+before_fewer n f (p ∷ ps) all = before_one n f p ps (f p) all.0 (before_fewer n f ps all.1)
+
+pub frames_withdrawn : {xs : List Endpoint} {ts : List Transfer} {room : Reserve} {h : Held} (id : ℕ) → HasFrameRooms xs ts room h → HasFrameRooms xs ts room (with_periodic h (record h.periodic { plan = without h.periodic.plan id }))
+frames_withdrawn {xs = xs} {h = h} id rooms = record {
+  few_endpoints = rooms.few_endpoints;
+  for_queued = rooms.for_queued;
+  for_plan = omega (arith, fewer_placed (λ (x : Placed). not (nat_eq x.want.id id)) h.periodic.plan.placed, rooms.for_plan);
+  placed_before = before_fewer (length xs) (λ (x : Placed). not (nat_eq x.want.id id)) h.periodic.plan.placed rooms.placed_before;
+  for_unlinks = rooms.for_unlinks;
+  for_removals = rooms.for_removals;
+}
+
+-- a new number isn't placed
+differs : (a b : ℕ) → a < b → nat_eq a b ≡ false
+differs a b below = ne_eqb a b (λ (same : a ≡ b). omega (arith, below, same))
+
+pub fresh_number : (n : ℕ) (ps : List Placed) → AreBefore n ps → list_any (λ (x : Placed). nat_eq x.want.id n) ps ≡ false
+fresh_number n [] all = refl
+fresh_number n (p ∷ ps) all =
+    let off : nat_eq p.want.id n ≡ false = differs p.want.id n all.0 in
+    ap (λ (b : Bool). b || list_any (λ (x : Placed). nat_eq x.want.id n) ps) off ∙ fresh_number n ps all.1
+
+pub one_less : (xs : List ℕ) → 1 ≤ length xs → length (drop 1 xs) + 1 ≡ length xs
+one_less [] some = absurd (omega (arith, some))
+one_less (x ∷ xs) some = omega arith
+
+short_take : (n : ℕ) (xs : List Transfer) → length (take n xs) ≤ length xs
+short_take zero xs = omega arith
+short_take (suc n) [] = omega arith
+short_take (suc n) (x ∷ xs) = omega (arith, short_take n xs)
+
+short_drop : (n : ℕ) (xs : List Transfer) → length (drop n xs) ≤ length xs
+short_drop zero xs = omega arith
+short_drop (suc n) [] = omega arith
+short_drop (suc n) (x ∷ xs) = omega (arith, short_drop n xs)
+
+pub short_span : (n t : ℕ) (xs : List Transfer) → length (take n (drop t xs)) ≤ length xs
+short_span n t xs = omega (arith, short_take n (drop t xs), short_drop t xs)

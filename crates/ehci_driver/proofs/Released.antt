@@ -6,7 +6,9 @@ use Rattle.driver_rows.specs.declared.content.Transfer.{Transfer}
 use Rattle.driver_rows.specs.declared.content.Reserve.{Reserve}
 use Rattle.driver_rows.specs.DriverContent.{waits_for}
 use Rattle.driver_rows.specs.Rows.{let_go, let_go_waiting, let_go_placed}
-use Rattle.ehci_driver.specs.Rooms.{HasRooms, unreported, owed_bytes}
+use Rattle.periodic_part.specs.Part.{Held}
+use Rattle.ehci_driver.specs.Rooms.{HasRooms, HasFrameRooms, unreported, owed_bytes}
+use Rattle.ehci_driver.proofs.Placed.{frames_kept}
 
 -- a count of what isn't reported
 abbrev owed : Bool → ℕ → ℕ
@@ -86,3 +88,6 @@ owed_as us vs as rooms = record {
   for_rung = rooms.for_rung;
   for_cleared = rooms.for_cleared;
 }
+
+pub frames_owed : {xs : List Endpoint} {room : Reserve} {h : Held} (us vs : List Transfer) → IsOwedAs us vs → HasFrameRooms xs vs room h → HasFrameRooms xs us room h
+frames_owed {xs = xs} us vs as rooms = frames_kept xs us rooms refl (omega arith) as.many (omega (arith, as.lines))

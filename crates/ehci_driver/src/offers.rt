@@ -3,7 +3,7 @@ ghost use Rattle.word_mem.specs.Memory.{Mem};
 ghost use Rattle.run_book.specs.Book.{holding, Stands};
 ghost use Rattle.driver_rows.specs.DriverContent.{DriverContent, endpoint_of, endpoint_named};
 ghost use Rattle.driver_rows.specs.Words.{queue_head_link};
-ghost use Rattle.driver_rows.specs.Offers.{offered, offered_next, offered_open, taken_open, take_runs, offered_cancel, accepted_cancel, before, after, first_end, written_open, new_endpoint, newest_of, IsOpened, IsOffered};
+ghost use Rattle.driver_rows.specs.Offers.{offered, offered_next, offered_open, taken_open, take_runs, offered_cancel, cancelled_by, accepted_cancel, before, after, first_end, written_open, new_endpoint, newest_of, IsOpened, IsOffered};
 
 use crate::driver::Driver;
 use driver_endpoints::{not_again, or_cancel};
@@ -138,7 +138,7 @@ impl Driver {
         self.room.endpoints -= 1;
     }
 
-    /// The cancel of an endpoint: its predecessor in the ring is to lead to its successor.
+    /// The cancel of an endpoint: its predecessor in the ring is to lead to its successor, or what it has in the frame list is to leave it.
     ///
     /// # Errors
     ///
@@ -156,18 +156,29 @@ impl Driver {
         if endpoint.cancelled {
             return Err(OfferError::Closed(EndCause::Cancel));
         }
-        match endpoint.placement {
-            Some(placement) => self.accept_unchain(e, &endpoint, &placement),
-            None => self.accept_cancel(e, &endpoint),
-        }
+        self.cancel_endpoint(e, &endpoint);
         Ok(())
     }
 
-    /// The cancel of this endpoint is accepted.
+    /// The cancel of this endpoint is accepted: it leaves its frames, or the ring.
+    fn cancel_endpoint(&mut self, e: usize, endpoint: &Endpoint)
+        requires room { 1 ≤ self.old.room.reports }
+        requires endpoint { slice_get self.old.endpoints e ≡ Some endpoint.now }
+        ensures driver { self.new ≡ cancelled_by self.old e endpoint.now endpoint.now.placement }
+        ensures book { self.new.book ≡ self.old.book }
+    {
+        match endpoint.placement {
+            Some(placement) => self.accept_unchain(e, endpoint, &placement),
+            None => self.accept_cancel(e, endpoint),
+        }
+    }
+
+    /// The cancel of this endpoint of the ring is accepted.
     fn accept_cancel(&mut self, e: usize, endpoint: &Endpoint)
         requires room { 1 ≤ self.old.room.reports }
         requires endpoint { slice_get self.old.endpoints e ≡ Some endpoint.now }
         ensures driver { self.new ≡ accepted_cancel self.old e endpoint.now }
+        ensures book { self.new.book ≡ self.old.book }
     {
         let behind = self.block_before(e);
         let link = link_to(self.block_after(e));

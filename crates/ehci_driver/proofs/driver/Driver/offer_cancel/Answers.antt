@@ -10,8 +10,8 @@ returns-then-endpoint-clause-refused c =
 pub returns-clause-accepted : goal.returns-clause-accepted
 returns-clause-accepted c =
     λ m.
-    cancelled_now c.args.self.now c.accept_cancel.new.self m c.args.name.now c.in-Some.e c.in-Some.endpoint c.in-Some.ensures.number c.in-Some.ensures.endpoint c.if-endpoint.false
-    c.accept_cancel.ensures.driver
+    cancelled_now c.args.self.now c.cancel_endpoint.new.self m c.args.name.now c.in-Some.e c.in-Some.endpoint c.in-Some.ensures.number c.in-Some.ensures.endpoint c.if-endpoint.false
+    c.cancel_endpoint.ensures.driver
 
 pub returns-clause-book : goal.returns-clause-book
-returns-clause-book c = ap (λ (d : DriverContent). d.book) c.accept_cancel.ensures.driver
+returns-clause-book c = ap (λ (d : DriverContent). d.book) c.cancel_endpoint.ensures.driver
