@@ -1,5 +1,5 @@
 -- The frames and links of descriptors, one more.
-use Rattle.std.proofs.Common.{◌≡◌, ℕ, ◌+◌, ◌*◌, ◌<◌, ◌≤◌, List, [], ◌∷◌, length, get_or, set, drop, ap, sym, ◌∙◌}
+use Rattle.std.proofs.Common.{◌≡◌, ℕ, ◌+◌, ◌*◌, ◌<◌, ◌≤◌, List, length, get_or, set, drop, ap, sym}
 use Rattle.std.proofs.lemmas.List.{drop_all}
 use Rattle.word_mem.specs.Memory.{Mem}
 use Rattle.run_book.specs.Book.{Book, store}

@@ -1,22 +1,17 @@
 -- New descriptors, one more.
-use Rattle.std.proofs.Common.{◌≡◌, ℕ, zero, suc, ◌+◌, ◌-◌, ◌*◌, ◌%◌, ◌<◌, ◌≤◌, List, [], ◌∷◌, drop, refl, arith, ap, sym, ◌∙◌}
+use Rattle.std.proofs.Common.{◌≡◌, ℕ, suc, ◌+◌, ◌-◌, ◌*◌, ◌%◌, ◌<◌, ◌≤◌, List, drop, arith, ap, sym, ◌∙◌}
+use Rattle.std.proofs.lemmas.List.{drop-drop}
 use Rattle.run_book.specs.Book.{Book}
 use Rattle.usb_base.specs.declared.endpoints.EpDesc.{EpDesc}
 use Rattle.driver_rows.specs.declared.content.Slots.{Slots}
 use Rattle.driver_rows.specs.Offers.{Descriptors, all_descriptors, one_descriptor, slot_runs, total_of}
-
-drop_twice : (i j : ℕ) (xs : List ℕ) → drop i (drop j xs) ≡ drop (j + i) xs
-drop_twice i zero xs = refl
-drop_twice zero (suc j) [] = refl
-drop_twice (suc i) (suc j) [] = refl
-drop_twice i (suc j) (x ∷ xs) = drop_twice i j xs
 
 pub listed_more : (k : Book) (e : ℕ) (x : EpDesc) (s : Slots) (n i seed each : ℕ) (runs : List ℕ) (a : Descriptors) → i < n → each ≡ 1 + slot_runs s → all_descriptors k e x s (n - (i + 1)) ((seed + total_of s) % 256) (drop (each * (i + 1)) runs) (one_descriptor k e x s seed (drop (each * i) runs) a) ≡ all_descriptors k e x s (n - i) seed (drop (each * i) runs) a
 unfolding all_descriptors
 listed_more k e x s n i seed each runs a below size =
     let more : n - i ≡ suc (n - (i + 1)) = omega arith in
     let one : each * (i + 1) ≡ each * i + suc (slot_runs s) = omega arith in
-    let rest : drop (each * (i + 1)) runs ≡ drop (suc (slot_runs s)) (drop (each * i) runs) = ap (λ j. drop j runs) one ∙ sym (drop_twice (suc (slot_runs s)) (each * i) runs) in
+    let rest : drop (each * (i + 1)) runs ≡ drop (suc (slot_runs s)) (drop (each * i) runs) = ap (λ j. drop j runs) one ∙ sym (drop-drop (suc (slot_runs s)) (each * i) runs) in
     ap (λ rs. all_descriptors k e x s (n - (i + 1)) ((seed + total_of s) % 256) rs (one_descriptor k e x s seed (drop (each * i) runs) a)) rest
     ∙ ap (λ c. all_descriptors k e x s c seed (drop (each * i) runs) a) (sym more)
 

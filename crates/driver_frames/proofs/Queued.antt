@@ -1,5 +1,5 @@
 -- The members of a command, one more.
-use Rattle.std.proofs.Common.{◌≡◌, ℕ, ◌+◌, ◌<◌, ◌≤◌, Bool, true, false, cond, List, [], ◌∷◌, ◌++◌, length, map, filter, get_or, drop, ap, sym, ◌∙◌, refl, append-nil}
+use Rattle.std.proofs.Common.{◌≡◌, ℕ, ◌+◌, ◌<◌, ◌≤◌, Bool, true, false, cond, List, [], ◌∷◌, ◌++◌, length, map, filter, get_or, drop, ap, sym, ◌∙◌, refl, append-nil, append_assoc}
 use Rattle.std.proofs.lemmas.List.{drop_all}
 use Rattle.frame_chains.specs.declared.members.Member.{Member}
 use Rattle.periodic_rows.specs.declared.content.DescriptorNote.{DescriptorNote}
@@ -8,12 +8,8 @@ use Rattle.driver_rows.specs.declared.content.Transfer.{Transfer}
 use Rattle.driver_rows.specs.DriverContent.{waits_for}
 use Rattle.driver_frames.proofs.Freed.{drop_one}
 
-abbrev member : List DescriptorNote → Transfer → Member
-member notes t = itd_member notes t.first
-
 joined : (xs : List Member) (m : Member) (ys : List Member) → (xs ++ m ∷ []) ++ ys ≡ xs ++ m ∷ ys
-joined [] m ys = refl
-joined (x ∷ xs) m ys = ap (λ zs. x ∷ zs) (joined xs m ys)
+joined xs m ys = append_assoc xs (m ∷ []) ys
 
 pub members_more : (notes : List DescriptorNote) (sofar : List Member) (ts : List Transfer) (i : ℕ) (d : Transfer) → i < length ts → (sofar ++ itd_member notes (get_or ts i d).first ∷ []) ++ map (λ (t : Transfer). itd_member notes t.first) (drop (i + 1) ts) ≡ sofar ++ map (λ (t : Transfer). itd_member notes t.first) (drop i ts)
 members_more notes sofar ts i d below =

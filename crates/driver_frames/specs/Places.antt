@@ -4,10 +4,10 @@
 --     placed_part h e x place     .. once endpoint e, so described, has this place
 --     IsChained ..                the runs of an interrupt endpoint were taken and written
 --     opened_placed d x place k q    what an accepted open leaves, with the book k and the periodic content q afterwards
-use Rattle.std.specs.Prelude.{◌≡◌, ℕ, ◌-◌, Bool, List, [], ◌∷◌, ◌++◌, length, drop, slice_index, Some, Ok, if◌then◌else◌}
+use Rattle.std.specs.Prelude.{◌≡◌, ℕ, ◌-◌, Bool, [], ◌∷◌, ◌++◌, length, drop, slice_index, Some, Ok, if◌then◌else◌}
 use Rattle.usb_base.specs.declared.endpoints.EpDesc.{EpDesc}
 use Rattle.word_mem.specs.Memory.{Mem}
-use Rattle.run_book.specs.Book.{Book, Holding, holding}
+use Rattle.run_book.specs.Book.{Book, holding}
 use Rattle.bandwidth.specs.declared.placements.Placement.{Placement}
 use Rattle.bandwidth.specs.Admission.{without}
 use Rattle.periodic_rows.specs.Periodic.{PeriodicContent, queue_member}

@@ -96,7 +96,9 @@ pub fn write_descriptors(
     let mut first_byte = seed;
     for k in 0..count {
         let own = blocks_from(runs, each * k as usize);
-        write_one(book, mem, periodic, transfers, e, desc, slots, first_byte, own);
+        write_one(
+            book, mem, periodic, transfers, e, desc, slots, first_byte, own,
+        );
         first_byte = next_seed(first_byte, total);
     }
 }

@@ -20,7 +20,11 @@ fn last_waiting(transfers: &[Transfer], e: usize) -> Option<Transfer>
 {
     transfers.iter().fold(
         None,
-        |last, transfer| if waits_at(transfer, e) { Some(*transfer) } else { last },
+        |last, transfer| if waits_at(transfer, e) {
+            Some(*transfer)
+        } else {
+            last
+        },
     )
 }
 

@@ -101,12 +101,7 @@ fn store_link(book: &RunBook, mem: &mut WordMem, store: Option<Store>)
 }
 
 /// The descriptor in this block leaves its frame by one store.
-pub fn unlink_descriptor(
-    book: &RunBook,
-    mem: &mut WordMem,
-    periodic: &mut PeriodicPart,
-    block: u16,
-)
+pub fn unlink_descriptor(book: &RunBook, mem: &mut WordMem, periodic: &mut PeriodicPart, block: u16)
     requires stands { Stands (holding book.now mem.old) }
     ensures periodic { periodic.new ≡ with_list periodic.old (after_store (unlinking periodic.old.periodic.list (itd_member periodic.old.periodic.notes block))) }
     ensures memory { mem.new ≡ stored_link book.now mem.old (next_store (unlinking periodic.old.periodic.list (itd_member periodic.old.periodic.notes block))) }

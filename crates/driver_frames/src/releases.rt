@@ -12,12 +12,7 @@ use run_book::RunBook;
 use word_mem::WordMem;
 
 /// Gives back the blocks of the descriptor in this block and of its buffer.
-pub fn free_descriptor(
-    book: &mut RunBook,
-    mem: &mut WordMem,
-    periodic: &PeriodicPart,
-    block: u16,
-)
+pub fn free_descriptor(book: &mut RunBook, mem: &mut WordMem, periodic: &PeriodicPart, block: u16)
     requires { Stands (holding book.old mem.old) }
     ensures freed { holding book.new mem.new ≡ free_descriptor periodic.now.periodic.notes (holding book.old mem.old) block }
     ensures stands { Stands (holding book.new mem.new) }

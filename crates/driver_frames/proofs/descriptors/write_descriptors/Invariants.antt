@@ -1,6 +1,6 @@
-use Rattle.std.proofs.Common.{◌≡◌, ◌≤◌, ◌+◌, ◌-◌, ◌*◌, drop, vec_len, vec_capacity}
+use Rattle.std.proofs.Common.{◌≡◌, ◌+◌, ◌-◌, ◌*◌, drop, vec_len, vec_capacity}
 use Rattle.run_book.specs.Book.{holding, Stands}
-use Rattle.driver_rows.specs.Offers.{Descriptors, all_descriptors}
+use Rattle.driver_rows.specs.Offers.{all_descriptors}
 use Rattle.periodic_part.specs.Part.{with_notes}
 use Rattle.driver_frames.proofs.descriptors.write_descriptors.Given as goal
 
