@@ -1,5 +1,6 @@
 -- There is still room for what is owed once descriptors were accepted.
 use Rattle.std.proofs.Common.{◌≡◌, ℕ, zero, suc, ◌+◌, ◌-◌, ◌*◌, ◌≤◌, ◌%◌, cond, List, [], ◌∷◌, ◌++◌, length, drop, set, slice_get, Some, sum_by, arith, ap, sym, ◌∙◌, refl}
+use Rattle.std.proofs.Math.Nat.{suc-mul}
 use Rattle.std.proofs.lemmas.List.{length-set, length_push}
 use Rattle.std.proofs.lemmas.List.Sums.{sum_by_push}
 use Rattle.usb_base.specs.declared.endpoints.EpDesc.{EpDesc}
@@ -26,7 +27,7 @@ adds_one n e s b ts us rest =
     let l = length_push ts t in
     let u = sum_by_push (λ (x : Transfer). cond x.reported 0 1) ts t in
     let o = sum_by_push (λ (x : Transfer). cond x.reported 0 x.most) ts t in
-    let more : suc n * total_of s ≡ total_of s + n * total_of s = refl in
+    let more : suc n * total_of s ≡ n * total_of s + total_of s = suc-mul n (total_of s) in
     record {
       many = omega (arith, rest.many, l);
       lines = omega (arith, rest.lines, u);

@@ -11,4 +11,5 @@ pub mod Makes
 pub mod Placed
 pub mod Descriptors
 pub mod Left
+pub mod Cancelled
 pub mod Released

@@ -33,6 +33,7 @@ impl Driver {
         ensures driver { self.new ≡ descriptor_told self.old mem.now e t endpoint.now transfer.now errors }
         ensures book { self.new.book ≡ self.old.book }
     {
+        let next = next_waiting(&self.transfers, e, t);
         let note = self.periodic.note(transfer.first);
         report_descriptor(
             &mut self.reports,
@@ -47,7 +48,6 @@ impl Driver {
             reported: true,
             ..*transfer
         };
-        let next = next_waiting(&self.transfers, e, t);
         self.endpoints.write(e, Endpoint { next, ..*endpoint });
         self.periodic.push_unlink(t);
     }

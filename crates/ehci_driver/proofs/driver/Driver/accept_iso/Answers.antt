@@ -13,15 +13,15 @@ pub write_descriptors-requires-clause-room : goal.write_descriptors-requires-cla
 write_descriptors-requires-clause-room c =
     omega (arith, ap (λ (d : DriverContent). d.room.transfers) c.self.view_is, c.requires.transfers, c.self.invariant.0.for_transfers)
 
-pub room_for_descriptors-requires-clause-bytes : goal.room_for_descriptors-requires-clause-bytes
-room_for_descriptors-requires-clause-bytes c =
+pub room_for_descriptors-self-inside-requires-clause-bytes : goal.room_for_descriptors-self-inside-requires-clause-bytes
+room_for_descriptors-self-inside-requires-clause-bytes c =
     omega (arith, mul-le-mul_left c.args.count c.total_bytes.ensures.few, c.requires.bytes, ap (λ (d : DriverContent). d.room.report_bytes) c.self.view_is)
 
 pub invariant_of-self : goal.invariant_of-self
 invariant_of-self c =
     let here = ap (λ (d : DriverContent). slice_get d.endpoints c.args.e) c.self.view_is ∙ c.requires.endpoint in
     let most = total_of c.args.slots.now in
-    let rest = c.room_for_descriptors.ensures ∙ ap (λ (n : ℕ). with_descriptors c.self.inside.room c.args.count n) c.total_bytes.ensures.total in
+    let rest = c.room_for_descriptors-self-inside.ensures ∙ ap (λ (n : ℕ). with_descriptors c.self.inside.room c.args.count n) c.total_bytes.ensures.total in
     let adds : Adds c.args.count most c.self.inside.transfers.items c.write_descriptors.new.transfers.items =
     subst (λ (ts : List Transfer). Adds c.args.count most c.self.inside.transfers.items ts) (sym (ap (λ (a : Descriptors). a.transfers) c.write_descriptors.ensures.written))
     (adds_all _ c.args.e c.args.endpoint.now.desc c.args.slots.now c.args.count c.args.seed _ _) in

@@ -1,13 +1,15 @@
-use Rattle.std.proofs.Common.{◌≡◌, slice_get, vec_len, vec_capacity, ap, subst, sym, ◌∙◌, arith, refl, length, true}
+use Rattle.std.proofs.Common.{◌≡◌, set, slice_get, vec_len, vec_capacity, ap, subst, sym, ◌∙◌, arith, refl, length, true}
 use Rattle.std.specs.VecDeque.{deque_len, deque_capacity}
 use Rattle.std.proofs.lemmas.Option.{slice_get_within}
-use Rattle.std.proofs.lemmas.List.{length-set}
-use Rattle.driver_rows.specs.DriverContent.{DriverContent}
+use Rattle.driver_rows.specs.DriverContent.{DriverContent, next_after}
 use Rattle.periodic_part.specs.Part.{Held}
 use Rattle.ehci_driver.specs.Rooms.{HasFrameRooms}
 use Rattle.ehci_driver.proofs.Lines.{can_tell, told_after}
 use Rattle.ehci_driver.proofs.Rosters.{written_rooms}
 use Rattle.ehci_driver.proofs.Placed.{can_serve, frames_served}
+use Rattle.driver_rows.specs.declared.content.Transfer.{Transfer}
+use Rattle.periodic_rows.specs.declared.content.DescriptorNote.{DescriptorNote}
+use Rattle.ehci_driver.proofs.Cancelled.{served_made}
 use Rattle.ehci_driver.proofs.driver.Driver.tell_descriptor.Goals as goal
 
 pub report_descriptor-requires-clause-line : goal.report_descriptor-requires-clause-line
@@ -33,7 +35,7 @@ index_mut-requires c =
 pub next_waiting-next-requires : goal.next_waiting-next-requires
 next_waiting-next-requires c =
     let there = ap (λ (d : DriverContent). slice_get d.transfers c.args.t) c.self.view_is ∙ c.requires.transfer in
-    omega (arith, slice_get_within c.self.inside.transfers.items c.args.t c.args.transfer.now there, length-set c.self.inside.transfers.items c.args.t (record c.args.transfer.now { reported = true }), ap length c.deref.ensures.value)
+    omega (arith, slice_get_within c.self.inside.transfers.items c.args.t c.args.transfer.now there, ap length c.deref.ensures.value)
 
 pub write-requires : goal.write-requires
 write-requires c =
@@ -56,5 +58,8 @@ invariant_of-self c =
     c.self.invariant.0 there c.requires.open here refl refl refl
     c.report_descriptor.ensures.len c.report_descriptor.ensures.capacity c.report_descriptor.ensures.store_len c.report_descriptor.ensures.store_capacity
     (omega arith) refl (omega arith) refl),
-    subst (λ (h : Held). HasFrameRooms c.write.new.self.items _ c.self.inside.room h) (sym c.push_unlink.ensures)
+    subst (λ (h : Held). HasFrameRooms c.write.new.self.items (set c.self.inside.transfers.items c.args.t (record c.args.transfer.now { reported = true })) c.self.inside.room h) (sym c.push_unlink.ensures)
     (frames_served _ c.args.t c.args.transfer.now c.args.e c.args.endpoint.now _ c.self.invariant.1 there c.requires.open c.write.ensures.items here refl))
+
+pub returns-clause-driver : goal.returns-clause-driver
+returns-clause-driver c = ?

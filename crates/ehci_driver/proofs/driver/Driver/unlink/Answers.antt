@@ -1,5 +1,8 @@
 use Rattle.std.proofs.Common.{◌≡◌, ◌+◌, ◌≤◌, ℕ, List, [], ◌∷◌, length, drop, ap, subst, sym, ◌∙◌, arith, refl}
 use Rattle.std.proofs.lemmas.List.{length_push}
+use Rattle.frame_chains.specs.declared.boundary.Boundary.TheVariants.{Unread}
+use Rattle.periodic_rows.specs.declared.content.Removal.{Removal}
+use Rattle.periodic_rows.specs.declared.content.Removed.TheVariants.{Descriptor}
 use Rattle.driver_rows.specs.DriverContent.{DriverContent}
 use Rattle.periodic_part.specs.Part.{Held}
 use Rattle.ehci_driver.proofs.Placed.{one_less, frames_unlinked}
@@ -20,6 +23,7 @@ invariant_of-self c =
     let a = c.unlink_descriptor.ensures.periodic in
     let b = c.pop_unlink.ensures in
     let d = c.push_removal.ensures in
+    let removal : Removal = record { what = Descriptor c.args.t; boundary = Unread } in
     (c.self.invariant.0,
     frames_unlinked c.push_removal.new.self c.self.invariant.1
     (ap (λ (h : Held). h.periodic.plan) d ∙ ap (λ (h : Held). h.periodic.plan) b ∙ ap (λ (h : Held). h.periodic.plan) a)
@@ -31,7 +35,7 @@ invariant_of-self c =
     (let e = ap (λ (h : Held). length h.periodic.removals) d in
     let f = ap (λ (h : Held). length h.periodic.removals) b in
     let g = ap (λ (h : Held). length h.periodic.removals) a in
-    omega (arith, e, f, g, length_push c.pop_unlink.new.self.periodic.removals _))
+    omega (arith, e, f, g, length_push c.pop_unlink.new.self.periodic.removals removal))
     (ap (λ (h : Held). h.queued_room) d ∙ ap (λ (h : Held). h.queued_room) b ∙ ap (λ (h : Held). h.queued_room) a)
     (ap (λ (h : Held). h.unlink_room) d ∙ ap (λ (h : Held). h.unlink_room) b ∙ ap (λ (h : Held). h.unlink_room) a)
     (ap (λ (h : Held). h.removal_room) d ∙ ap (λ (h : Held). h.removal_room) b ∙ ap (λ (h : Held). h.removal_room) a))
