@@ -1,18 +1,20 @@
 -- What stands once the cancel of a periodic endpoint was accepted, or a descriptor was told.
-use Rattle.std.proofs.Common.{◌≡◌, ℕ, ◌-◌, true, List, [], ◌∷◌, ◌++◌, length, take, set, Some, ap, sym, ◌∙◌}
+use Rattle.std.proofs.Common.{◌≡◌, ℕ, ◌-◌, true, cond, List, [], ◌∷◌, ◌++◌, length, take, map, filter, set, Some, ap, sym, ◌∙◌}
 use Rattle.usb_base.specs.declared.reports.Report.{Report}
 use Rattle.usb_base.specs.declared.reports.What.TheVariants as lines
 use Rattle.word_mem.specs.Memory.{Mem}
 use Rattle.bandwidth.specs.declared.placements.Placement.{Placement}
-use Rattle.periodic_rows.specs.Periodic.{PeriodicContent, note_at}
+use Rattle.frame_chains.specs.declared.members.Member.{Member}
+use Rattle.periodic_part.specs.Part.{Held, with_periodic, with_queued}
+use Rattle.periodic_rows.specs.Periodic.{PeriodicContent, note_at, itd_member, queue_member}
 use Rattle.periodic_rows.specs.Linking.{begun_next}
 use Rattle.periodic_rows.specs.Descriptors.{told_bytes}
 use Rattle.driver_rows.specs.declared.content.Endpoint.{Endpoint}
 use Rattle.driver_rows.specs.declared.content.Transfer.{Transfer}
 use Rattle.driver_rows.specs.declared.content.Command.TheVariants as unfinished
-use Rattle.driver_rows.specs.DriverContent.{DriverContent, next_after}
+use Rattle.driver_rows.specs.DriverContent.{DriverContent, next_after, waits_for}
 use Rattle.driver_rows.specs.Offers.{with_cancel, endpoint_members, first_end}
-use Rattle.driver_rows.specs.Rows.{descriptor_told}
+use Rattle.driver_rows.specs.Rows.{descriptor_told, is_iso}
 
 -- v is the driver as its fields show it
 pub unchain_made : (v d : DriverContent) (e : ℕ) (x : Endpoint) (p : Placement) (xs : List Endpoint) (q : PeriodicContent) → v ≡ d → xs ≡ set v.endpoints e (record x { cancelled = true; ended = first_end x.ended }) → q ≡ begun_next true (record v.periodic { queued = endpoint_members v e x p }) → record v { endpoints = xs; command = Some (unfinished.Unchain e); made = 0; room = record v.room { reports = v.room.reports - 1 }; periodic = q } ≡ with_cancel d e x (endpoint_members d e x p)
@@ -31,3 +33,14 @@ served_made v d m e t x y errors told bytes xs ts q same b l es us part =
     ∙ ap (λ (r : List Transfer). record v { store = all; reports = v.reports ++ line ∷ []; endpoints = set v.endpoints e (record x { next = next_after v.transfers e t }); transfers = r; periodic = q }) us
     ∙ ap (λ (r : PeriodicContent). record v { store = all; reports = v.reports ++ line ∷ []; endpoints = set v.endpoints e (record x { next = next_after v.transfers e t }); transfers = set v.transfers t (record y { reported = true }); periodic = r }) part
     ∙ ap (λ (w : DriverContent). descriptor_told w m e t x y errors) same
+
+-- ---- the members that leave
+
+abbrev pub members_at : PeriodicContent → List Transfer → ℕ → Endpoint → Placement → List Member
+members_at q ts e x p = cond (is_iso x.desc.kind) (map (λ (t : Transfer). itd_member q.notes t.first) (filter (waits_for e) ts)) (queue_member x.queue p ∷ [])
+
+pub unchained_part : (h g k : Held) (ts us : List Transfer) (e : ℕ) (x : Endpoint) (p : Placement) → g ≡ with_queued h (members_at h.periodic ts e x p) → k ≡ with_periodic g (begun_next true g.periodic) → ts ≡ us → k.periodic ≡ begun_next true (record h.periodic { queued = members_at h.periodic us e x p })
+unchained_part h g k ts us e x p one two same =
+    ap (λ (r : Held). r.periodic) two
+    ∙ ap (λ (r : Held). begun_next true r.periodic) one
+    ∙ ap (λ (vs : List Transfer). begun_next true (record h.periodic { queued = members_at h.periodic vs e x p })) same

@@ -29,7 +29,7 @@ invariant_of-self c =
     (descriptors_rooms c.write_descriptors.new.transfers.items _ c.args.count most _ c.args.e c.args.endpoint.now _ c.self.invariant.0
     (omega (arith, ap (λ (d : DriverContent). d.room.transfers) c.self.view_is, c.requires.transfers))
     (omega (arith, ap (λ (d : DriverContent). d.room.reports) c.self.view_is, c.requires.reports))
-    (omega (arith, mul-le-mul_left c.args.count c.total_bytes.ensures.few, c.total_bytes.ensures.total, c.requires.bytes, ap (λ (d : DriverContent). d.room.report_bytes) c.self.view_is))
+    (omega (arith, mul-le-mul_left c.args.count (subst (λ (n : ℕ). n ≤ 24576) c.total_bytes.ensures.total c.total_bytes.ensures.few), c.requires.bytes, ap (λ (d : DriverContent). d.room.report_bytes) c.self.view_is))
     adds c.write_descriptors.ensures.capacity here refl refl refl rest),
     descriptors_frames _ c.write_descriptors.new.transfers.items _ c.args.count most c.args.e c.args.endpoint.now _
     (frames_held c.write_descriptors.new.periodic c.self.invariant.1 (subst (λ (g : Held). Keeps c.self.inside.periodic g) (sym c.write_descriptors.ensures.rest) (keeps_notes c.self.inside.periodic _)))

@@ -5,9 +5,7 @@ use Rattle.periodic_part.specs.Part.{Held}
 use Rattle.ehci_driver.proofs.Entered.{cancelled_rooms}
 use Rattle.ehci_driver.proofs.Rosters.{written_rooms}
 use Rattle.ehci_driver.proofs.Placed.{Keeps, keeps_both, keeps_queued, keeps_begun, frames_held, frames_cancelled}
-use Rattle.bandwidth.specs.declared.placements.Placement.{Placement}
-use Rattle.periodic_rows.specs.Linking.{begun_next}
-use Rattle.ehci_driver.proofs.Cancelled.{unchain_made}
+use Rattle.ehci_driver.proofs.Cancelled.{unchain_made, unchained_part}
 use Rattle.ehci_driver.proofs.driver.Driver.begin_unchain.Goals as goal
 
 pub queue_leaving-requires : goal.queue_leaving-requires
@@ -24,7 +22,6 @@ invariant_of-self c =
 
 pub returns-clause-driver : goal.returns-clause-driver
 returns-clause-driver c =
-    let queued = ap (λ (h : Held). begun_next true h.periodic) c.queue_leaving.ensures in
     unchain_made _ c.args.self.now c.args.e c.args.endpoint.now c.args.placement.now _ _ c.self.view_is
     (c.write.ensures.items ∙ ap (λ o. set c.self.inside.endpoints.items c.args.e (record c.args.endpoint.now { cancelled = true; ended = o })) c.or_cancel.ensures)
-    (ap (λ (h : Held). h.periodic) c.begin_next.ensures ∙ queued ∙ ?)
+    (unchained_part c.self.inside.periodic c.queue_leaving.new.periodic c.begin_next.new.self c.deref.result.now c.self.inside.transfers.items c.args.e c.args.endpoint.now c.args.placement.now c.queue_leaving.ensures c.begin_next.ensures c.deref.ensures.value)

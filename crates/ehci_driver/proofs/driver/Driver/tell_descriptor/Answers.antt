@@ -1,7 +1,9 @@
-use Rattle.std.proofs.Common.{◌≡◌, set, slice_get, vec_len, vec_capacity, ap, subst, sym, ◌∙◌, arith, refl, length, true}
+use Rattle.std.proofs.Common.{◌≡◌, List, [], ◌∷◌, ◌++◌, take, set, slice_get, vec_len, vec_capacity, ap, subst, sym, ◌∙◌, arith, refl, length, true}
 use Rattle.std.specs.VecDeque.{deque_len, deque_capacity}
 use Rattle.std.proofs.lemmas.Option.{slice_get_within}
 use Rattle.driver_rows.specs.DriverContent.{DriverContent, next_after}
+use Rattle.usb_base.specs.declared.reports.What.TheVariants.{Iso}
+use Rattle.periodic_rows.specs.Descriptors.{told_bytes}
 use Rattle.periodic_part.specs.Part.{Held}
 use Rattle.ehci_driver.specs.Rooms.{HasFrameRooms}
 use Rattle.ehci_driver.proofs.Lines.{can_tell, told_after}
@@ -62,4 +64,11 @@ invariant_of-self c =
     (frames_served _ c.args.t c.args.transfer.now c.args.e c.args.endpoint.now _ c.self.invariant.1 there c.requires.open c.write.ensures.items here refl))
 
 pub returns-clause-driver : goal.returns-clause-driver
-returns-clause-driver c = ?
+returns-clause-driver c =
+    let moved = λ (n : DescriptorNote). take c.args.transfer.now.most (told_bytes n c.args.mem.now c.args.transfer.now.first) in
+    let name = c.args.endpoint.now.desc.name in
+    served_made _ c.args.self.now c.args.mem.now c.args.e c.args.t c.args.endpoint.now c.args.transfer.now c.args.errors _ _ _ _ _ c.self.view_is
+    (c.report_descriptor.ensures.store ∙ ap (λ (n : DescriptorNote). c.self.inside.store.items ++ moved n) c.note-note.ensures)
+    (c.report_descriptor.ensures.line ∙ ap (λ (n : DescriptorNote). c.self.inside.reports.items ++ (record { name = name; what = Iso c.args.errors; from = length c.self.inside.store.items; len = length (moved n) }) ∷ []) c.note-note.ensures)
+    (c.write.ensures.items ∙ ap (λ o. set c.self.inside.endpoints.items c.args.e (record c.args.endpoint.now { next = o })) (c.next_waiting-next.ensures ∙ ap (λ (ts : List Transfer). next_after ts c.args.e c.args.t) c.deref.ensures.value))
+    refl (ap (λ (h : Held). h.periodic) c.push_unlink.ensures)
