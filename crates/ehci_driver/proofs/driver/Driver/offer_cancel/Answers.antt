@@ -1,5 +1,3 @@
-use Rattle.std.proofs.Common.{ap}
-use Rattle.driver_rows.specs.DriverContent.{DriverContent}
 use Rattle.ehci_driver.proofs.Offered.{cancel_again, cancelled_now}
 use Rattle.ehci_driver.proofs.driver.Driver.offer_cancel.Goals as goal
 
@@ -14,4 +12,4 @@ returns-clause-accepted c =
     c.cancel_endpoint.ensures.driver
 
 pub returns-clause-book : goal.returns-clause-book
-returns-clause-book c = ap (λ (d : DriverContent). d.book) c.cancel_endpoint.ensures.driver
+returns-clause-book c = c.cancel_endpoint.ensures.book
