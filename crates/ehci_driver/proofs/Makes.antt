@@ -53,7 +53,7 @@ next_can d c =
 
 -- ---- leaving work and harvest
 
-CanOption : DriverContent → Option Row → Type 0
+abbrev CanOption : DriverContent → Option Row → Type 0
 CanOption d None = Unit {0}
 CanOption d (Some row) = CanMake d row
 

@@ -1,6 +1,6 @@
 -- Which words an event writes: lending leaves each, a store changes the one at its address, and giving runs back those of blocks that
 -- are Free then.
-use Rattle.std.proofs.Common.{◌≡◌, ◌≢◌, ℕ, zero, suc, ◌+◌, ◌*◌, ◌/◌, ◌%◌, ◌==◌, ◌<◌, ◌≤◌, Bool, true, false, ◌||◌, cond, List, [], ◌∷◌, length, take, reverse, slice_get, slice_index, Option, Some, None, arith, ap, sym, subst, ◌∙◌, ⊎_elim, refl}
+use Rattle.std.proofs.Common.{◌≡◌, ◌≢◌, ℕ, zero, suc, ◌+◌, ◌*◌, ◌/◌, ◌%◌, ◌==◌, ◌<◌, ◌≤◌, Bool, true, false, ◌||◌, cond, List, [], ◌∷◌, length, take, drop, reverse, slice_get, slice_index, Option, Some, None, arith, ap, sym, subst, ◌∙◌, ⊎_elim, refl}
 use Rattle.std.proofs.lemmas.Bool.{cases_lt, eqb-false, true≢false}
 use Rattle.std.proofs.lemmas.List.{get_or-set_other}
 use Rattle.word_mem.specs.Memory.{Mem, IsShaped, word_at, state_at, with_word}

@@ -5,7 +5,7 @@ ghost use Rattle.driver_rows.specs.Rows.{framed_by, framed_notes, with_notes, pl
 
 use crate::driver::Driver;
 use bandwidth::Placement;
-use driver_endpoints::{event_count, removes_members, or_cancel};
+use driver_endpoints::{event_count, or_cancel, removes_members};
 use driver_frames::{
     give_frames, go_on, of_command, queue_descriptors, queue_leaving, write_links,
 };

@@ -15,10 +15,11 @@ pub invariant_of-self : goal.invariant_of-self
 invariant_of-self c =
     let here = ap (λ (d : DriverContent). slice_get d.endpoints c.args.e) c.self.view_is ∙ c.requires.endpoint in
     let one : Keeps c.self.inside.periodic c.queue_leaving.new.periodic = subst (λ (g : Held). Keeps c.self.inside.periodic g) (sym c.queue_leaving.ensures) (keeps_queued c.self.inside.periodic _) in
-    let two : Keeps c.queue_leaving.new.periodic c.begin_next.new.self = subst (λ (g : Held). Keeps c.queue_leaving.new.periodic g) (sym c.begin_next.ensures) (keeps_begun true c.queue_leaving.new.periodic) in
-    (written_rooms _ _ _ _ c.write.ensures.items c.write.ensures.room
-    (cancelled_rooms c.args.e c.args.endpoint.now _ c.self.invariant.0 (omega (arith, ap (λ (d : DriverContent). d.room.reports) c.self.view_is, c.requires.room)) here refl),
-    frames_cancelled _ c.args.e _ c.args.endpoint.now _ (frames_held c.begin_next.new.self c.self.invariant.1 (keeps_both one two)) c.write.ensures.items here refl)
+    let two : Keeps c.queue_leaving.new.periodic c.begin_next.new.self = subst (λ (g : Held). Keeps c.queue_leaving.new.periodic g) (sym c.begin_next.ensures) (keeps_begun true c.queue_leaving.new.periodic) in (
+      written_rooms _ _ _ _ c.write.ensures.items c.write.ensures.room
+          (cancelled_rooms c.args.e c.args.endpoint.now _ c.self.invariant.0 (omega (arith, ap (λ (d : DriverContent). d.room.reports) c.self.view_is, c.requires.room)) here refl),
+      frames_cancelled _ c.args.e _ c.args.endpoint.now _ (frames_held c.begin_next.new.self c.self.invariant.1 (keeps_both one two)) c.write.ensures.items here refl,
+    )
 
 pub returns-clause-driver : goal.returns-clause-driver
 returns-clause-driver c =

@@ -13,6 +13,7 @@ push_back_reserved-requires c =
 pub invariant_of-self : goal.invariant_of-self
 invariant_of-self c =
     let there : slice_get c.self.inside.endpoints.items c.args.e ≡ Some c.in-Some.endpoint = sym c.get.ensures.endpoint ∙ c.in-Some.is in
-    let on : c.in-Some.endpoint.linked ≡ true = search rules in
-    (left_rooms _ _ c.args.e c.in-Some.endpoint _ _ c.self.invariant.0 c.write.ensures.items c.write.ensures.room there on c.push_back_reserved.ensures.len c.push_back_reserved.ensures.capacity,
-    frames_endpoint _ c.args.e c.in-Some.endpoint _ c.self.invariant.1 c.write.ensures.items there refl)
+    let on : c.in-Some.endpoint.linked ≡ true = search rules in (
+      left_rooms _ _ c.args.e c.in-Some.endpoint _ _ c.self.invariant.0 c.write.ensures.items c.write.ensures.room there on c.push_back_reserved.ensures.len c.push_back_reserved.ensures.capacity,
+      frames_endpoint _ c.args.e c.in-Some.endpoint _ c.self.invariant.1 c.write.ensures.items there refl,
+    )

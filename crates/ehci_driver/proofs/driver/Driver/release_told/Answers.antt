@@ -34,11 +34,12 @@ write-requires c =
 pub invariant_of-self : goal.invariant_of-self
 invariant_of-self c =
     let here = ap (λ (d : DriverContent). slice_get d.endpoints c.args.e) c.self.view_is ∙ c.requires.endpoint in
-    let told = told_is c.args.endpoint.now c.requires.told in
-    (written_rooms _ _ _ _ c.write.ensures.items c.write.ensures.room
-    (line_rooms c.args.e c.args.endpoint.now c.let_all_go.new.transfers.items (vec_capacity c.let_all_go.new.transfers)
-    (vec_len c.report_cancel.new.reports) (vec_capacity c.report_cancel.new.reports) (vec_len c.report_cancel.new.store) (vec_capacity c.report_cancel.new.store)
-    (deque_len c.pop_front.new.self) (deque_capacity c.pop_front.new.self)
-    c.self.invariant.0 here told.0 told.1 c.let_all_go.ensures.items c.let_all_go.ensures.capacity c.report_cancel.ensures.len c.report_cancel.ensures.capacity
-    (omega (arith, c.report_cancel.ensures.store_len, ap (owed_of c.args.e) c.deref-2.ensures.value)) c.report_cancel.ensures.store_capacity (omega (arith, c.pop_front.ensures.len)) c.pop_front.ensures.capacity),
-    frames_gone _ _ c.args.e true c.args.endpoint.now c.self.invariant.1 c.write.ensures.items here c.let_all_go.ensures.items)
+    let told = told_is c.args.endpoint.now c.requires.told in (
+      written_rooms _ _ _ _ c.write.ensures.items c.write.ensures.room
+          (line_rooms c.args.e c.args.endpoint.now c.let_all_go.new.transfers.items (vec_capacity c.let_all_go.new.transfers)
+          (vec_len c.report_cancel.new.reports) (vec_capacity c.report_cancel.new.reports) (vec_len c.report_cancel.new.store) (vec_capacity c.report_cancel.new.store)
+          (deque_len c.pop_front.new.self) (deque_capacity c.pop_front.new.self)
+          c.self.invariant.0 here told.0 told.1 c.let_all_go.ensures.items c.let_all_go.ensures.capacity c.report_cancel.ensures.len c.report_cancel.ensures.capacity
+          (omega (arith, c.report_cancel.ensures.store_len, ap (owed_of c.args.e) c.deref-2.ensures.value)) c.report_cancel.ensures.store_capacity (omega (arith, c.pop_front.ensures.len)) c.pop_front.ensures.capacity),
+      frames_gone _ _ c.args.e true c.args.endpoint.now c.self.invariant.1 c.write.ensures.items here c.let_all_go.ensures.items,
+    )

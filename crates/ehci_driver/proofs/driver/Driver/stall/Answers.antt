@@ -46,15 +46,16 @@ owe_stores-requires c =
 pub invariant_of-self : goal.invariant_of-self
 invariant_of-self c =
     let there = ap (λ (d : DriverContent). slice_get d.transfers c.args.t) c.self.view_is ∙ c.requires.transfer in
-    let here = ap (λ (d : DriverContent). slice_get d.endpoints c.args.e) c.self.view_is ∙ c.requires.endpoint in
-    (written_rooms _ _ _ _ c.write.ensures.items c.write.ensures.room
-    (told_after c.args.t c.args.transfer.now c.args.e c.args.endpoint.now (record c.args.endpoint.now { next = None })
-    (vec_len c.report.new.reports) (vec_capacity c.report.new.reports) (vec_len c.report.new.store) (vec_capacity c.report.new.store)
-    (deque_len c.push_back_reserved.new.self) (deque_capacity c.push_back_reserved.new.self) (deque_len c.owe_stores.new.mends) (deque_capacity c.owe_stores.new.mends)
-    c.self.invariant.0 there c.requires.open here refl refl refl
-    c.report.ensures.len c.report.ensures.capacity c.report.ensures.store_len c.report.ensures.store_capacity
-    (omega (arith, c.push_back_reserved.ensures.len)) c.push_back_reserved.ensures.capacity (omega (arith, c.owe_stores.ensures.len)) c.owe_stores.ensures.capacity),
-    frames_told _ c.args.t c.args.transfer.now c.args.e c.args.endpoint.now _ c.self.invariant.1 there c.requires.open c.write.ensures.items here refl)
+    let here = ap (λ (d : DriverContent). slice_get d.endpoints c.args.e) c.self.view_is ∙ c.requires.endpoint in (
+      written_rooms _ _ _ _ c.write.ensures.items c.write.ensures.room
+          (told_after c.args.t c.args.transfer.now c.args.e c.args.endpoint.now (record c.args.endpoint.now { next = None })
+          (vec_len c.report.new.reports) (vec_capacity c.report.new.reports) (vec_len c.report.new.store) (vec_capacity c.report.new.store)
+          (deque_len c.push_back_reserved.new.self) (deque_capacity c.push_back_reserved.new.self) (deque_len c.owe_stores.new.mends) (deque_capacity c.owe_stores.new.mends)
+          c.self.invariant.0 there c.requires.open here refl refl refl
+          c.report.ensures.len c.report.ensures.capacity c.report.ensures.store_len c.report.ensures.store_capacity
+          (omega (arith, c.push_back_reserved.ensures.len)) c.push_back_reserved.ensures.capacity (omega (arith, c.owe_stores.ensures.len)) c.owe_stores.ensures.capacity),
+      frames_told _ c.args.t c.args.transfer.now c.args.e c.args.endpoint.now _ c.self.invariant.1 there c.requires.open c.write.ensures.items here refl,
+    )
 
 pub overflow_add-t : goal.overflow_add-t
 overflow_add-t c =

@@ -52,16 +52,17 @@ push_unlink-requires c =
 pub invariant_of-self : goal.invariant_of-self
 invariant_of-self c =
     let there = ap (λ (d : DriverContent). slice_get d.transfers c.args.t) c.self.view_is ∙ c.requires.transfer in
-    let here = ap (λ (d : DriverContent). slice_get d.endpoints c.args.e) c.self.view_is ∙ c.requires.endpoint in
-    (written_rooms _ _ _ _ c.write.ensures.items c.write.ensures.room
-    (told_after c.args.t c.args.transfer.now c.args.e c.args.endpoint.now (record c.args.endpoint.now { next = c.next_waiting-next.result })
-    (vec_len c.report_descriptor.new.reports) (vec_capacity c.report_descriptor.new.reports) (vec_len c.report_descriptor.new.store) (vec_capacity c.report_descriptor.new.store)
-    (deque_len c.self.inside.harvested) (deque_capacity c.self.inside.harvested) (deque_len c.self.inside.mends) (deque_capacity c.self.inside.mends)
-    c.self.invariant.0 there c.requires.open here refl refl refl
-    c.report_descriptor.ensures.len c.report_descriptor.ensures.capacity c.report_descriptor.ensures.store_len c.report_descriptor.ensures.store_capacity
-    (omega arith) refl (omega arith) refl),
-    subst (λ (h : Held). HasFrameRooms c.write.new.self.items (set c.self.inside.transfers.items c.args.t (record c.args.transfer.now { reported = true })) c.self.inside.room h) (sym c.push_unlink.ensures)
-    (frames_served _ c.args.t c.args.transfer.now c.args.e c.args.endpoint.now _ c.self.invariant.1 there c.requires.open c.write.ensures.items here refl))
+    let here = ap (λ (d : DriverContent). slice_get d.endpoints c.args.e) c.self.view_is ∙ c.requires.endpoint in (
+      written_rooms _ _ _ _ c.write.ensures.items c.write.ensures.room
+          (told_after c.args.t c.args.transfer.now c.args.e c.args.endpoint.now (record c.args.endpoint.now { next = c.next_waiting-next.result })
+          (vec_len c.report_descriptor.new.reports) (vec_capacity c.report_descriptor.new.reports) (vec_len c.report_descriptor.new.store) (vec_capacity c.report_descriptor.new.store)
+          (deque_len c.self.inside.harvested) (deque_capacity c.self.inside.harvested) (deque_len c.self.inside.mends) (deque_capacity c.self.inside.mends)
+          c.self.invariant.0 there c.requires.open here refl refl refl
+          c.report_descriptor.ensures.len c.report_descriptor.ensures.capacity c.report_descriptor.ensures.store_len c.report_descriptor.ensures.store_capacity
+          (omega arith) refl (omega arith) refl),
+      subst (λ (h : Held). HasFrameRooms c.write.new.self.items (set c.self.inside.transfers.items c.args.t (record c.args.transfer.now { reported = true })) c.self.inside.room h) (sym c.push_unlink.ensures)
+          (frames_served _ c.args.t c.args.transfer.now c.args.e c.args.endpoint.now _ c.self.invariant.1 there c.requires.open c.write.ensures.items here refl),
+    )
 
 pub returns-clause-driver : goal.returns-clause-driver
 returns-clause-driver c =

@@ -23,19 +23,20 @@ invariant_of-self c =
     let a = c.unlink_descriptor.ensures.periodic in
     let b = c.pop_unlink.ensures in
     let d = c.push_removal.ensures in
-    let removal : Removal = record { what = Descriptor c.args.t; boundary = Unread } in
-    (c.self.invariant.0,
-    frames_unlinked c.push_removal.new.self c.self.invariant.1
-    (ap (λ (h : Held). h.periodic.plan) d ∙ ap (λ (h : Held). h.periodic.plan) b ∙ ap (λ (h : Held). h.periodic.plan) a)
-    (let e = ap (λ (h : Held). length h.periodic.unlinks) d in
-    let f = ap (λ (h : Held). length h.periodic.unlinks) b in
-    let g = ap (λ (h : Held). length h.periodic.unlinks) a in
-    let less = one_less c.unlink_descriptor.new.periodic.periodic.unlinks (omega (arith, waits, g, c.requires.waits)) in
-    omega (arith, e, f, g, less))
-    (let e = ap (λ (h : Held). length h.periodic.removals) d in
-    let f = ap (λ (h : Held). length h.periodic.removals) b in
-    let g = ap (λ (h : Held). length h.periodic.removals) a in
-    omega (arith, e, f, g, length_push c.pop_unlink.new.self.periodic.removals removal))
-    (ap (λ (h : Held). h.queued_room) d ∙ ap (λ (h : Held). h.queued_room) b ∙ ap (λ (h : Held). h.queued_room) a)
-    (ap (λ (h : Held). h.unlink_room) d ∙ ap (λ (h : Held). h.unlink_room) b ∙ ap (λ (h : Held). h.unlink_room) a)
-    (ap (λ (h : Held). h.removal_room) d ∙ ap (λ (h : Held). h.removal_room) b ∙ ap (λ (h : Held). h.removal_room) a))
+    let removal : Removal = record { what = Descriptor c.args.t; boundary = Unread } in (
+      c.self.invariant.0,
+      frames_unlinked c.push_removal.new.self c.self.invariant.1
+          (ap (λ (h : Held). h.periodic.plan) d ∙ ap (λ (h : Held). h.periodic.plan) b ∙ ap (λ (h : Held). h.periodic.plan) a)
+          (let e = ap (λ (h : Held). length h.periodic.unlinks) d in
+          let f = ap (λ (h : Held). length h.periodic.unlinks) b in
+          let g = ap (λ (h : Held). length h.periodic.unlinks) a in
+          let less = one_less c.unlink_descriptor.new.periodic.periodic.unlinks (omega (arith, waits, g, c.requires.waits)) in
+          omega (arith, e, f, g, less))
+          (let e = ap (λ (h : Held). length h.periodic.removals) d in
+          let f = ap (λ (h : Held). length h.periodic.removals) b in
+          let g = ap (λ (h : Held). length h.periodic.removals) a in
+          omega (arith, e, f, g, length_push c.pop_unlink.new.self.periodic.removals removal))
+          (ap (λ (h : Held). h.queued_room) d ∙ ap (λ (h : Held). h.queued_room) b ∙ ap (λ (h : Held). h.queued_room) a)
+          (ap (λ (h : Held). h.unlink_room) d ∙ ap (λ (h : Held). h.unlink_room) b ∙ ap (λ (h : Held). h.unlink_room) a)
+          (ap (λ (h : Held). h.removal_room) d ∙ ap (λ (h : Held). h.removal_room) b ∙ ap (λ (h : Held). h.removal_room) a),
+    )
