@@ -12,4 +12,5 @@ pub mod Placed
 pub mod Descriptors
 pub mod Left
 pub mod Cancelled
+pub mod Isochronous
 pub mod Released
