@@ -221,8 +221,16 @@ after_hub w addr ports = if within 1 127 addr && within 1 15 ports then record w
 abbrev pub after_high : Draft → ℕ → Draft
 after_high w addr = if within 1 127 addr then record w { declaring = true; devices = w.devices ++ device addr speed.High None 0 ∷ [] } else w
 
+-- a device on a port of a hub of these addresses
+abbrev pub placed_below : ℕ → ℕ → Below → Draft → Draft
+placed_below addr hub b w = record w {
+  declaring = true;
+  hubs = change (λ h. h.addr == b.hub) (attach b.port b.speed) w.hubs;
+  devices = w.devices ++ device addr b.speed (Some hub) b.port ∷ [];
+}
+
 abbrev pub after_below : Draft → Below → Draft
-after_below w b = if within 1 127 b.addr && nat_le b.hub 127 && is_known w (says.DevBelow b) then record w { declaring = true; hubs = change (λ h. h.addr == b.hub) (attach b.port b.speed) w.hubs; devices = w.devices ++ device b.addr b.speed (Some b.hub) b.port ∷ [] } else w
+after_below w b = if within 1 127 b.addr && nat_le b.hub 127 && is_known w (says.DevBelow b) then placed_below b.addr b.hub b w else w
 
 abbrev pub after_ep : Draft → EpLine → Draft
 after_ep w l = if is_endpoint l && is_some (device_of w.devices l.name.addr) then record w { declaring = true; devices = change (λ d. d.addr == l.name.addr) (with_ep l) w.devices; endpoints = w.endpoints ++ name_of l.name ∷ [] } else w
