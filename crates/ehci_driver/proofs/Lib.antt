@@ -9,6 +9,7 @@ pub mod Offered
 pub mod Rosters
 pub mod Makes
 pub mod Placed
+pub mod Placing
 pub mod Descriptors
 pub mod Left
 pub mod Cancelled
