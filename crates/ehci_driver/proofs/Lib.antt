@@ -14,3 +14,4 @@ pub mod Left
 pub mod Cancelled
 pub mod Isochronous
 pub mod Released
+pub mod Placing

@@ -74,20 +74,27 @@ placed_as true e told ts = record {
 }
 placed_as false e told ts = record { many = refl; lines = refl; bytes = refl }
 
+pub owed_by : (ws us vs : List Transfer) → ws ≡ us → IsOwedAs us vs → IsOwedAs ws vs
+owed_by ws us vs same alike = record {
+  many = ap (length {A = Transfer}) same ∙ alike.many;
+  lines = ap unreported same ∙ alike.lines;
+  bytes = ap owed_bytes same ∙ alike.bytes;
+}
+
 pub owed_as : {xs : List Endpoint} {room : Reserve} {endpoints transfers reports report_room bytes byte_room harvested harvest_room mends mend_room waiting waiting_room rung rung_room cleared cleared_room : ℕ} (us vs : List Transfer) → IsOwedAs us vs → HasRooms xs vs room endpoints transfers reports report_room bytes byte_room harvested harvest_room mends mend_room waiting waiting_room rung rung_room cleared cleared_room → HasRooms xs us room endpoints transfers reports report_room bytes byte_room harvested harvest_room mends mend_room waiting waiting_room rung rung_room cleared cleared_room
-owed_as us vs as rooms = record {
+owed_as us vs alike rooms = record {
   for_endpoints = rooms.for_endpoints;
-  for_transfers = omega (arith, as.many, rooms.for_transfers);
-  few_transfers = omega (arith, as.many, rooms.few_transfers);
-  for_reports = omega (arith, as.lines, rooms.for_reports);
-  for_bytes = omega (arith, as.bytes, rooms.for_bytes);
-  bytes_fit = omega (arith, as.bytes, rooms.bytes_fit);
-  for_harvested = omega (arith, as.lines, rooms.for_harvested);
-  for_mends = omega (arith, as.lines, rooms.for_mends);
+  for_transfers = omega (arith, alike.many, rooms.for_transfers);
+  few_transfers = omega (arith, alike.many, rooms.few_transfers);
+  for_reports = omega (arith, alike.lines, rooms.for_reports);
+  for_bytes = omega (arith, alike.bytes, rooms.for_bytes);
+  bytes_fit = omega (arith, alike.bytes, rooms.bytes_fit);
+  for_harvested = omega (arith, alike.lines, rooms.for_harvested);
+  for_mends = omega (arith, alike.lines, rooms.for_mends);
   for_waiting = rooms.for_waiting;
   for_rung = rooms.for_rung;
   for_cleared = rooms.for_cleared;
 }
 
 pub frames_owed : {xs : List Endpoint} {room : Reserve} {h : Held} (us vs : List Transfer) → IsOwedAs us vs → HasFrameRooms xs vs room h → HasFrameRooms xs us room h
-frames_owed {xs = xs} us vs as rooms = frames_kept xs us rooms refl (omega arith) as.many (omega (arith, as.lines))
+frames_owed {xs = xs} us vs alike rooms = frames_kept xs us rooms refl (omega arith) alike.many (omega (arith, alike.lines))
