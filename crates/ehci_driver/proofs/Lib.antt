@@ -15,3 +15,4 @@ pub mod Left
 pub mod Cancelled
 pub mod Isochronous
 pub mod Released
+pub mod Placing
