@@ -15,4 +15,3 @@ pub mod Left
 pub mod Cancelled
 pub mod Isochronous
 pub mod Released
-pub mod Placing
