@@ -124,18 +124,10 @@ has_room w (says.Order event n) = nat_le n 1000000 && nat_le (w.steps + n) 40000
 has_room w (says.Micro n) = nat_le (w.microframes + n) 16384
 
 -- the lines that can be run; each other line without a fault is refused as a later one
-abbrev pub is_built_kind : EpKind → Bool
-is_built_kind Control = true
-is_built_kind Bulk = true
-is_built_kind kind = false
-
 abbrev pub is_built : Statement → Bool
 is_built (says.Hub addr ports) = false
 is_built (says.DevBelow b) = false
-is_built (says.Ep l) = is_built_kind l.kind
 is_built (says.Fate f) = not f.down
-is_built (says.Iso l) = false
-is_built (says.Cancel name) = false
 is_built _ = true
 
 -- the first cause of a line whose words fit a form
