@@ -1,5 +1,5 @@
 -- Choosing one after another gives the best.
-use Rattle.std.proofs.Common.{◌≡◌, ℕ, ◌+◌, true, false, cond, List, [], ◌∷◌, ◌++◌, map, refl, ap, ◌∙◌}
+use Rattle.std.proofs.Common.{◌≡◌, ℕ, ◌+◌, Bool, true, false, cond, List, [], ◌∷◌, ◌++◌, map, refl, ap, ◌∙◌, arith, ◌<◌, ◌≤◌}
 use Rattle.std.specs.Prelude.{Option, Some, None, filter, nat_lt, if◌then◌else◌}
 use Rattle.std.specs.List.{flat_map}
 use Rattle.std.proofs.lemmas.List.{map-append, append-nil}
@@ -10,7 +10,9 @@ use Rattle.bandwidth.specs.declared.placements.Placed.{Placed}
 use Rattle.bandwidth.specs.declared.choice.Candidate.{Candidate}
 use Rattle.bandwidth.specs.Placements.{below, allowed, in_phase, frame_period}
 use Rattle.bandwidth.specs.Admission.{keeps, peak, best, least_by, least_from}
-use Rattle.bandwidth.specs.Choice.{candidate, lesser, better, choice, place_in}
+use Rattle.bandwidth.specs.Choice.{candidate, lesser, limit, better, choice, place_in}
+use Rattle.std.proofs.lemmas.Bool.Decides.{nat_tests}
+use Rattle.bandwidth.proofs.Budgets.{kept_within}
 use Rattle.bandwidth.proofs.Microframes.{range_more}
 
 choice_append : (placed : List Placed) (w : Want) (b : Option Candidate) (ps qs : List Placement) → choice placed w b (ps ++ qs) ≡ choice placed w (choice placed w b ps) qs
@@ -67,3 +69,19 @@ choice_best placed w (q ∷ ps) =
 pub best_of : (placed : List Placed) (w : Want) → place_in (choice placed w None (flat_map (in_phase w) (below (frame_period w.period)))) ≡ best placed w
 unfolding best allowed
 best_of placed w = choice_best placed w (flat_map (in_phase w) (below (frame_period w.period)))
+
+-- a placement whose peak passes what would be better changes nothing
+passed_test : (a b : ℕ) → b ≤ a → nat_lt a b ≡ false
+passed_test a b h = grind (arith, nat_tests)
+
+passed_by : (kept : Bool) (so_far : Option Candidate) (p : Placement) (top : ℕ) → (kept ≡ true → limit so_far < top) → (kept ≡ true → top ≤ 100000000) → so_far ≡ (if kept then lesser so_far (record { placement = p; peak = top }) else so_far)
+passed_by false so_far p top h k = refl
+passed_by true None p top h k = absurd (omega (arith, h refl, k refl))
+passed_by true (Some old) p top h k =
+    let off : nat_lt top old.peak ≡ false = passed_test top old.peak (omega (arith, h refl, k refl)) in rw off refl
+
+pub passed_over : (placed : List Placed) (w : Want) (so_far : Option Candidate) (p : Placement) → (keeps placed w p ≡ true → limit so_far < peak placed w p) → so_far ≡ better placed w so_far p
+passed_over placed w so_far p h = passed_by (keeps placed w p) so_far p (peak placed w p) h (kept_within placed w p)
+
+pub kept_better : (placed : List Placed) (w : Want) (so_far : Option Candidate) (p : Placement) (top : ℕ) → keeps placed w p ≡ true → top ≡ peak placed w p → lesser so_far (record { placement = p; peak = top }) ≡ better placed w so_far p
+kept_better placed w so_far p top kept e = rw (kept, e) refl

@@ -1,5 +1,5 @@
 -- The tests of budgets are the facts of budgets, and what one placement more does to them.
-use Rattle.std.proofs.Common.{◌≡◌, ℕ, ◌+◌, ◌/◌, ◌%◌, ◌<◌, ◌≤◌, Bool, true, false, cond, List, [], refl, ap, sym, ◌∙◌, arith, nat_le, eq-eqb, lit≤}
+use Rattle.std.proofs.Common.{◌≡◌, ℕ, ◌+◌, ◌/◌, ◌%◌, ◌<◌, ◌≤◌, Bool, true, false, cond, List, [], refl, ap, sym, ◌∙◌, arith, nat_le, eq-eqb, lit≤, inl, inr, ◌⊎◌}
 use Rattle.std.specs.Prelude.{zero, suc, sum_by, Option, Some, None, if◌then◌else◌, slice_index, max, filter, not}
 use Rattle.std.proofs.lemmas.List.Sums.{sum_by_push}
 use Rattle.std.proofs.lemmas.List.Filters.{sum_by-filter_both}
@@ -8,9 +8,13 @@ use borrow.Author.Tests.{eqb-true}
 use Rattle.bandwidth.specs.declared.placements.Want.{Want}
 use Rattle.bandwidth.specs.declared.placements.Placement.{Placement}
 use Rattle.bandwidth.specs.declared.placements.Placed.{Placed}
-use Rattle.bandwidth.specs.Sums.{load, frame_sum, tt_sum, cost_at, laid_at, time_at, cost_in, is_active, is_hub, Fits, fits, each_below}
+use Rattle.bandwidth.specs.Sums.{load, frame_sum, tt_sum, cost_at, laid_at, time_at, cost_in, laid_in, time_of, is_active, is_hub, Fits, fits, each_below}
+use Rattle.bandwidth.specs.Placements.{IsWant}
 use Rattle.bandwidth.specs.Admission.{joined, keeps, is_own, peak, greatest}
-use Rattle.bandwidth.specs.Tables.{Sheet, AreSums, LoadsFit, FramesFit, BytesFit}
+use Rattle.bandwidth.specs.Tables.{CellsWithin, Sheet, AreSums, LoadsFit, FramesFit, BytesFit}
+use Rattle.bandwidth.specs.declared.shapes.Shape.{Shape}
+use Rattle.bandwidth.specs.Shapes.{IsShape, IsOf}
+use Rattle.bandwidth.proofs.Spans.{cost_some, own_of, shape_costs}
 use Rattle.bandwidth.proofs.Turns.{both, both_left, both_right, earlier_or_now}
 
 le_test : (a b : ℕ) → a ≤ b → nat_le a b ≡ true
@@ -74,48 +78,48 @@ dropped : (b : Bool) (x y m : ℕ) → x + cond b y 0 ≤ m → b ≡ true → x
 dropped true x y m h k = h
 dropped false x y m h k = cc
 
-hub_is : (o : Option ℕ) (h : ℕ) → is_hub o h ≡ true → o ≡ Some h
+pub hub_is : (o : Option ℕ) (h : ℕ) → is_hub o h ≡ true → o ≡ Some h
 hub_is None h e = cc
 hub_is (Some x) h e = ap Some (eqb-true x h e)
 
-is_own_hub : (o : Option ℕ) (h : ℕ) → o ≡ Some h → is_hub o h ≡ true
+pub is_own_hub : (o : Option ℕ) (h : ℕ) → o ≡ Some h → is_hub o h ≡ true
 is_own_hub o h e = rw e (eq-eqb h h refl)
 
-pub loads_in : (s : Sheet) (w : Want) (p : Placement) → AreSums s w.hub → Fits s.placed → LoadsFit s w p → (u : ℕ) → u < 8192 → load (joined s.placed w p) u ≤ 100000000
+pub loads_in : (s : Sheet) (w : Want) (p : Placement) → AreSums s w.hub → Fits s.placed → LoadsFit s.loads (cost_in w p) p → (u : ℕ) → u < 8192 → load (joined s.placed w p) u ≤ 100000000
 loads_in s w p sums f l u h =
     rw (load_joined s.placed w p u)
     (added (is_active p (u / 8)) _ _ _ (f.loads u h) (λ a. rw (← sums.loads u h) (l u h a)))
 
-pub loads_out : (s : Sheet) (w : Want) (p : Placement) → AreSums s w.hub → Fits (joined s.placed w p) → LoadsFit s w p
+pub loads_out : (s : Sheet) (w : Want) (p : Placement) → AreSums s w.hub → Fits (joined s.placed w p) → LoadsFit s.loads (cost_in w p) p
 loads_out s w p sums f u h a =
     rw (sums.loads u h) (dropped (is_active p (u / 8)) _ _ _ (rw (load_joined s.placed w p u) at (f.loads u h)) a)
 
-pub frames_in : (s : Sheet) (w : Want) (p : Placement) → AreSums s w.hub → Fits s.placed → FramesFit s w p → (hub f : ℕ) → hub < 128 → f < 1024 → frame_sum (joined s.placed w p) hub f ≤ 900000000
+pub frames_in : (s : Sheet) (w : Want) (p : Placement) → AreSums s w.hub → Fits s.placed → FramesFit s.frames (time_of w) p → (hub f : ℕ) → hub < 128 → f < 1024 → frame_sum (joined s.placed w p) hub f ≤ 900000000
 frames_in s w p sums fit l hub f h k =
     rw (frame_joined s.placed w p hub f)
     (added (is_hub w.hub hub) _ _ _ (fit.frames hub f h k)
     (λ own.
     added (is_active p f) _ _ _ (fit.frames hub f h k)
-    (λ a. rw (← sums.frames hub f (hub_is w.hub hub own) k) (l f k a))))
+    (λ a. rw (← sums.frames hub f (hub_is w.hub hub own) h k) (l f k a))))
 
-pub frames_out : (s : Sheet) (w : Want) (p : Placement) (hub : ℕ) → hub < 128 → w.hub ≡ Some hub → AreSums s w.hub → Fits (joined s.placed w p) → FramesFit s w p
+pub frames_out : (s : Sheet) (w : Want) (p : Placement) (hub : ℕ) → hub < 128 → w.hub ≡ Some hub → AreSums s w.hub → Fits (joined s.placed w p) → FramesFit s.frames (time_of w) p
 frames_out s w p hub h e sums fit f k a =
-    rw (sums.frames hub f e k)
+    rw (sums.frames hub f e h k)
     (dropped (is_active p f) _ _ _
     (dropped (is_hub w.hub hub) _ _ _ (rw (frame_joined s.placed w p hub f) at (fit.frames hub f h k)) (is_own_hub w.hub hub e))
     a)
 
-pub bytes_in : (s : Sheet) (w : Want) (p : Placement) → AreSums s w.hub → Fits s.placed → BytesFit s w p → (hub u : ℕ) → hub < 128 → u < 8192 → tt_sum (joined s.placed w p) hub u ≤ 188
+pub bytes_in : (s : Sheet) (w : Want) (p : Placement) → AreSums s w.hub → Fits s.placed → BytesFit s.bytes (laid_in w p) p → (hub u : ℕ) → hub < 128 → u < 8192 → tt_sum (joined s.placed w p) hub u ≤ 188
 bytes_in s w p sums fit l hub u h k =
     rw (bytes_joined s.placed w p hub u)
     (added (is_hub w.hub hub) _ _ _ (fit.bytes hub u h k)
     (λ own.
     added (is_active p (u / 8)) _ _ _ (fit.bytes hub u h k)
-    (λ a. rw (← sums.bytes hub u (hub_is w.hub hub own) k) (l u k a))))
+    (λ a. rw (← sums.bytes hub u (hub_is w.hub hub own) h k) (l u k a))))
 
-pub bytes_out : (s : Sheet) (w : Want) (p : Placement) (hub : ℕ) → hub < 128 → w.hub ≡ Some hub → AreSums s w.hub → Fits (joined s.placed w p) → BytesFit s w p
+pub bytes_out : (s : Sheet) (w : Want) (p : Placement) (hub : ℕ) → hub < 128 → w.hub ≡ Some hub → AreSums s w.hub → Fits (joined s.placed w p) → BytesFit s.bytes (laid_in w p) p
 bytes_out s w p hub h e sums fit u k a =
-    rw (sums.bytes hub u e k)
+    rw (sums.bytes hub u e h k)
     (dropped (is_active p (u / 8)) _ _ _
     (dropped (is_hub w.hub hub) _ _ _ (rw (bytes_joined s.placed w p hub u) at (fit.bytes hub u h k)) (is_own_hub w.hub hub e))
     a)
@@ -134,16 +138,16 @@ false_of true h = absurd (h refl)
 false_of false h = refl
 
 -- the answer of the test, by what was found
-pub keeps_not_loads : (s : Sheet) (w : Want) (p : Placement) → AreSums s w.hub → (LoadsFit s w p → ⊥) → keeps s.placed w p ≡ false
+pub keeps_not_loads : (s : Sheet) (w : Want) (p : Placement) → AreSums s w.hub → (LoadsFit s.loads (cost_in w p) p → ⊥) → keeps s.placed w p ≡ false
 keeps_not_loads s w p sums wrong = false_of _ (λ t. wrong (loads_out s w p sums (fits_fact _ t)))
 
-pub keeps_not_frames : (s : Sheet) (w : Want) (p : Placement) (hub : ℕ) → hub < 128 → w.hub ≡ Some hub → AreSums s w.hub → (FramesFit s w p → ⊥) → keeps s.placed w p ≡ false
+pub keeps_not_frames : (s : Sheet) (w : Want) (p : Placement) (hub : ℕ) → hub < 128 → w.hub ≡ Some hub → AreSums s w.hub → (FramesFit s.frames (time_of w) p → ⊥) → keeps s.placed w p ≡ false
 keeps_not_frames s w p hub h e sums wrong = false_of _ (λ t. wrong (frames_out s w p hub h e sums (fits_fact _ t)))
 
-pub keeps_not_bytes : (s : Sheet) (w : Want) (p : Placement) (hub : ℕ) → hub < 128 → w.hub ≡ Some hub → AreSums s w.hub → (BytesFit s w p → ⊥) → keeps s.placed w p ≡ false
+pub keeps_not_bytes : (s : Sheet) (w : Want) (p : Placement) (hub : ℕ) → hub < 128 → w.hub ≡ Some hub → AreSums s w.hub → (BytesFit s.bytes (laid_in w p) p → ⊥) → keeps s.placed w p ≡ false
 keeps_not_bytes s w p hub h e sums wrong = false_of _ (λ t. wrong (bytes_out s w p hub h e sums (fits_fact _ t)))
 
-pub keeps_alone : (s : Sheet) (w : Want) (p : Placement) → w.hub ≡ None → AreSums s w.hub → Fits s.placed → LoadsFit s w p → keeps s.placed w p ≡ true
+pub keeps_alone : (s : Sheet) (w : Want) (p : Placement) → w.hub ≡ None → AreSums s w.hub → Fits s.placed → LoadsFit s.loads (cost_in w p) p → keeps s.placed w p ≡ true
 keeps_alone s w p e sums fit l =
     fits_test _
     (record {
@@ -152,7 +156,7 @@ keeps_alone s w p e sums fit l =
       bytes = alone_bytes s w p e fit;
     })
 
-pub keeps_all : (s : Sheet) (w : Want) (p : Placement) → AreSums s w.hub → Fits s.placed → LoadsFit s w p → FramesFit s w p → BytesFit s w p → keeps s.placed w p ≡ true
+pub keeps_all : (s : Sheet) (w : Want) (p : Placement) → AreSums s w.hub → Fits s.placed → LoadsFit s.loads (cost_in w p) p → FramesFit s.frames (time_of w) p → BytesFit s.bytes (laid_in w p) p → keeps s.placed w p ≡ true
 keeps_all s w p sums fit l f b =
     fits_test _
     (record {
@@ -180,7 +184,7 @@ greatest_below (suc n) f b all =
 abbrev pub own_sum : List Placed → Want → Placement → ℕ → ℕ
 own_sum placed w p u = if is_own p u then load (joined placed w p) u else 0
 
-taken : (b : Bool) (x : ℕ) → b ≡ true → cond b x 0 ≡ x
+pub taken : (b : Bool) (x : ℕ) → b ≡ true → cond b x 0 ≡ x
 taken true x h = refl
 taken false x h = cc
 
@@ -194,32 +198,83 @@ own_cell s w p sums u h own =
     load_joined s.placed w p u
     ∙ omega (arith, sums.loads u h, taken (is_active p (u / 8)) (cost_in w p (u % 8)) active)
 
-pub peak_is : (s : Sheet) (w : Want) (p : Placement) (top : ℕ) → AreSums s w.hub → ((u : ℕ) → u < 8192 → is_own p u ≡ true → slice_index s.loads u + cost_in w p (u % 8) ≤ top) → ((b : ℕ) → ((u : ℕ) → u < 8192 → is_own p u ≡ true → slice_index s.loads u + cost_in w p (u % 8) ≤ b) → top ≤ b) → top ≡ peak s.placed w p
+-- the placement has a transaction exactly where it costs
+own_cost : (w : Want) (p : Placement) (u : ℕ) → IsWant w → is_own p u ≡ true → 1 ≤ cost_in w p (u % 8)
+own_cost w p u want own = cost_some w p (u % 8) want (both_right (is_active p (u / 8)) _ own)
+
+cost_own : (w : Want) (p : Placement) (u : ℕ) → is_active p (u / 8) ≡ true → 1 ≤ cost_in w p (u % 8) → is_own p u ≡ true
+cost_own w p u active some = both _ _ active (own_of w p (u % 8) some)
+
+pub cells_peak : (s : Sheet) (w : Want) (p : Placement) → AreSums s w.hub → CellsWithin s.loads (cost_in w p) p (peak s.placed w p)
 unfolding peak
-peak_is s w p top sums covers least =
-    let above : top ≤ greatest 8192 (own_sum s.placed w p) =
-    least (greatest 8192 (own_sum s.placed w p))
-    (λ u h own.
+cells_peak s w p sums u h active some =
+    let own = cost_own w p u active some in
     omega (
       arith,
       own_cell s w p sums u h own,
       taken (is_own p u) (load (joined s.placed w p) u) own,
       below_greatest 8192 (own_sum s.placed w p) u h,
-    )) in
-    let under : greatest 8192 (own_sum s.placed w p) ≤ top =
+    )
+
+pub peak_least : (s : Sheet) (w : Want) (p : Placement) (top : ℕ) → IsWant w → AreSums s w.hub → CellsWithin s.loads (cost_in w p) p top → peak s.placed w p ≤ top
+unfolding peak
+peak_least s w p top want sums covers =
     greatest_below 8192 (own_sum s.placed w p) top
-    (λ u h. bounded (is_own p u) _ _ (λ own. omega (arith, own_cell s w p sums u h own, covers u h own))) in
-    omega (arith, above, under)
+    (λ u h.
+    bounded (is_own p u) _ _
+    (λ own.
+    let active : is_active p (u / 8) ≡ true = both_left _ _ own in
+    omega (arith, own_cell s w p sums u h own, covers u h active (own_cost w p u want own))))
 
--- a cell within its budget is far within the range that is added without care
-pub loads_roomy : (s : Sheet) (hub : Option ℕ) → AreSums s hub → Fits s.placed → (u : ℕ) → u < 8192 → slice_index s.loads u ≤ 1000000000000
-loads_roomy s hub sums fit u h = omega (arith, sums.loads u h, fit.loads u h)
+pub peak_is : (s : Sheet) (w : Want) (p : Placement) (top : ℕ) → IsWant w → AreSums s w.hub → CellsWithin s.loads (cost_in w p) p top → ((b : ℕ) → CellsWithin s.loads (cost_in w p) p b → top ≤ b) → top ≡ peak s.placed w p
+peak_is s w p top want sums covers least =
+    omega (arith, least (peak s.placed w p) (cells_peak s w p sums), peak_least s w p top want sums covers)
 
-pub frames_roomy : (s : Sheet) (o : Option ℕ) (hub : ℕ) → o ≡ Some hub → hub < 128 → AreSums s o → Fits s.placed → (f : ℕ) → f < 1024 → slice_index s.frames f ≤ 1000000000000
-frames_roomy s o hub e k sums fit f h = omega (arith, sums.frames hub f e h, fit.frames hub f k h)
+or_nothing : (x c b : ℕ) → x ≤ b → (1 ≤ c → x + c ≤ b) → x + c ≤ b
+or_nothing x zero b h k = omega arith
+or_nothing x (suc c) b h k = k (omega arith)
 
-pub bytes_roomy : (s : Sheet) (o : Option ℕ) (hub : ℕ) → o ≡ Some hub → hub < 128 → AreSums s o → Fits s.placed → (u : ℕ) → u < 8192 → slice_index s.bytes u ≤ 1000000000000
-bytes_roomy s o hub e k sums fit u h = omega (arith, sums.bytes hub u e h, fit.bytes hub u k h)
+pub loads_kept : (s : Sheet) (w : Want) (p : Placement) (top : ℕ) → AreSums s w.hub → Fits s.placed → top ≤ 100000000 → CellsWithin s.loads (cost_in w p) p top → LoadsFit s.loads (cost_in w p) p
+loads_kept s w p top sums fit within covers u h active =
+    or_nothing (slice_index s.loads u) (cost_in w p (u % 8)) 100000000
+    (omega (arith, sums.loads u h, fit.loads u h))
+    (λ some. omega (arith, covers u h active some))
+
+pub kept_within : (placed : List Placed) (w : Want) (p : Placement) → keeps placed w p ≡ true → peak placed w p ≤ 100000000
+unfolding peak
+kept_within placed w p kept =
+    let fit = fits_fact (joined placed w p) kept in
+    greatest_below 8192 (own_sum placed w p) 100000000 (λ u h. bounded (is_own p u) _ _ (λ own. fit.loads u h))
+
+le_by : (t : Bool) (a b : ℕ) → nat_le a b ≡ t → (a ≤ b) ⊎ (b < a)
+le_by true a b e = inl (le_fact a b e)
+le_by false a b e = inr (grind (arith, nat_tests))
+
+le_or_lt : (a b : ℕ) → (a ≤ b) ⊎ (b < a)
+le_or_lt a b = le_by (nat_le a b) a b refl
+
+not_within : (a b : ℕ) → (a ≤ b → ⊥) → b < a
+not_within a b h = elim (le_or_lt a b) [ inl l ↦ absurd (h l) | inr l ↦ l ]
+
+pub passes : (s : Sheet) (w : Want) (p : Placement) (n : ℕ) → AreSums s w.hub → (CellsWithin s.loads (cost_in w p) p n → ⊥) → n < peak s.placed w p
+passes s w p n sums wrong =
+    not_within (peak s.placed w p) n
+    (λ l. wrong (λ u h active some. omega (arith, cells_peak s w p sums u h active some, l)))
+
+-- the same in the amounts of a shape
+pub cells_in : (loads : List ℕ) (w : Want) (x : Shape) (p : Placement) (n : ℕ) → IsShape w x → IsOf x p → CellsWithin loads (slice_index x.costs.each) p n → CellsWithin loads (cost_in w p) p n
+cells_in loads w x p n shape of all u h active some =
+    let small : u % 8 < 8 = omega arith in
+    let e : slice_index x.costs.each (u % 8) ≡ cost_in w p (u % 8) = shape_costs w x p shape of (u % 8) small in
+    let some_amount : 1 ≤ slice_index x.costs.each (u % 8) = omega (arith, e, some) in
+    omega (arith, all u h active some_amount, e)
+
+pub cells_out : (loads : List ℕ) (w : Want) (x : Shape) (p : Placement) (n : ℕ) → IsShape w x → IsOf x p → CellsWithin loads (cost_in w p) p n → CellsWithin loads (slice_index x.costs.each) p n
+cells_out loads w x p n shape of all u h active some =
+    let small : u % 8 < 8 = omega arith in
+    let e : slice_index x.costs.each (u % 8) ≡ cost_in w p (u % 8) = shape_costs w x p shape of (u % 8) small in
+    let some_cost : 1 ≤ cost_in w p (u % 8) = omega (arith, e, some) in
+    omega (arith, all u h active some_cost, e)
 
 -- two tests of one fact agree
 pub same_test : (a b : Bool) (P : Type 0) → (a ≡ true → P) → (P → a ≡ true) → (P → b ≡ true) → ((P → ⊥) → b ≡ false) → a ≡ b

@@ -1,7 +1,8 @@
 -- The ids of what is placed.
-use Rattle.std.proofs.Common.{◌≡◌, ◌≢◌, ℕ, ◌+◌, ◌<◌, Bool, true, false, List, [], ◌∷◌, length, get_or, refl, ap, sym, ◌∙◌, arith, eq-eqb, inl, inr, ◌⊎◌}
-use Rattle.std.specs.Prelude.{zero, suc, not, nat_eq, filter, ◌||◌}
-use Rattle.std.specs.List.{list_any}
+use Rattle.std.proofs.Common.{◌≡◌, ◌≢◌, ℕ, ◌+◌, ◌<◌, ◌≤◌, Bool, true, false, cond, List, [], ◌∷◌, length, get_or, refl, ap, sym, ◌∙◌, arith, eq-eqb, inl, inr, ◌⊎◌}
+use Rattle.std.specs.Prelude.{zero, suc, not, nat_eq, nat_lt, filter, ◌||◌, Some, None}
+use Rattle.std.specs.List.{list_any, position, position_or_len, remove}
+use Rattle.std.proofs.lemmas.Bool.{ltb-true, ltb-false}
 use borrow.Author.Tests.{eqb-true}
 use Rattle.bandwidth.specs.declared.placements.Placed.{Placed}
 use Rattle.bandwidth.specs.Admission.{AreDistinct}
@@ -29,7 +30,7 @@ off : (b : Bool) → (b ≡ true → ⊥) → b ≡ false
 off true h = absurd (h refl)
 off false h = refl
 
-on_or_off : (b : Bool) → (b ≡ true) ⊎ (b ≡ false)
+pub on_or_off : (b : Bool) → (b ≡ true) ⊎ (b ≡ false)
 on_or_off true = inl refl
 on_or_off false = inr refl
 
@@ -53,3 +54,48 @@ without_one (x ∷ xs) id all h =
           rw t (rw (← rest) (omega arith))
       | inr f ↦ rw f (omega (arith, without_one xs id (tail_distinct x xs all) (rw f at h)))
     ]
+
+-- ---- taking out the one with an id
+
+some_at : (b : Bool) (n i : ℕ) → cond b (Some n) None ≡ Some i → (b ≡ true) × (i ≡ n)
+some_at true n i h = (refl, cc)
+some_at false n i h = absurd cc
+
+none_at : (b : Bool) (n : ℕ) → cond b (Some n) None ≡ None → b ≡ false
+none_at true n h = absurd cc
+none_at false n h = refl
+
+abbrev pub of_id : ℕ → Placed → Bool
+of_id id x = nat_eq x.want.id id
+
+pub place_of : (placed : List Placed) (id i : ℕ) → position (of_id id) placed ≡ Some i → (i ≡ position_or_len (of_id id) placed) × (position_or_len (of_id id) placed < length placed)
+place_of placed id i h =
+    let f = some_at (nat_lt (position_or_len (of_id id) placed) (length placed)) (position_or_len (of_id id) placed) i h in
+    (f.1, ltb-true _ _ f.0)
+
+none_any : (placed : List Placed) (id : ℕ) → length placed ≤ position_or_len (of_id id) placed → list_any (of_id id) placed ≡ false
+none_any [] id h = refl
+none_any (x ∷ xs) id h =
+    elim (on_or_off (of_id id x)) [
+      | inl t ↦ let h' = rw t at h in absurd (omega arith)
+      | inr f ↦ let h' = rw f at h in rw f (none_any xs id (omega arith))
+    ]
+
+pub nothing_out : (placed : List Placed) (id : ℕ) → position (of_id id) placed ≡ None → placed ≡ filter (λ x. not (of_id id x)) placed
+nothing_out placed id h =
+    let off = none_at (nat_lt (position_or_len (of_id id) placed) (length placed)) (position_or_len (of_id id) placed) h in
+    without_none placed id (none_any placed id (ltb-false _ _ off))
+
+one_out : (placed : List Placed) (id : ℕ) → AreDistinct placed → position_or_len (of_id id) placed < length placed → remove placed (position_or_len (of_id id) placed) ≡ filter (λ x. not (of_id id x)) placed
+one_out [] id all h = absurd (omega arith)
+one_out (x ∷ xs) id all h =
+    elim (on_or_off (of_id id x)) [
+      | inl t ↦ rw t (without_none xs id (head_distinct x xs id all (eqb-true x.want.id id t)))
+      | inr f ↦
+          let h' = rw f at h in
+          let s : 1 + position_or_len (of_id id) xs ≡ suc (position_or_len (of_id id) xs) = omega arith in
+          rw (f, s) (ap (λ ys. x ∷ ys) (one_out xs id (tail_distinct x xs all) (omega arith)))
+    ]
+
+pub taken_out : (placed : List Placed) (id i : ℕ) → AreDistinct placed → position (of_id id) placed ≡ Some i → remove placed i ≡ filter (λ x. not (of_id id x)) placed
+taken_out placed id i all h = let at = place_of placed id i h in rw at.0 (one_out placed id all at.1)

@@ -1,7 +1,11 @@
 pub mod Microframes
 pub mod Turns
+pub mod Cells
+pub mod Spans
 pub mod Budgets
 pub mod Best
 pub mod Ids
 pub mod Least
 pub mod Admits
+pub mod Pools
+pub mod Books

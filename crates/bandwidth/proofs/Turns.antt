@@ -130,3 +130,43 @@ written_more P xs i v h below here k t =
     earlier_or_now (P k (get_or (set xs i v) k 0)) k i t
     (λ l. let ne : k ≢ i = omega arith in rw get_or-set_other (below k l))
     (λ (e : k ≡ i). rw e (rw get_or-set_same here))
+
+-- the three periods below a frame, and the others
+pub periods_each : (P : ℕ → Type 0) → P 1 → P 2 → P 4 → ((period : ℕ) → 8 ≤ period → P period) → (period : ℕ) → is_period period ≡ true → P period
+unfolding Each
+periods_each P one two four long period h =
+    each_of P periods period (
+      one,
+      (
+        two,
+        (
+          four,
+          (
+            long 8 (lit≤ tt),
+            (
+              long 16 (lit≤ tt),
+              (
+                long 32 (lit≤ tt),
+                (
+                  long 64 (lit≤ tt),
+                  (
+                    long 128 (lit≤ tt),
+                    (
+                      long 256 (lit≤ tt),
+                      (
+                        long 512 (lit≤ tt),
+                        (
+                          long 1024 (lit≤ tt),
+                          (long 2048 (lit≤ tt), (long 4096 (lit≤ tt), (long 8192 (lit≤ tt), tt))),
+                        ),
+                      ),
+                    ),
+                  ),
+                ),
+              ),
+            ),
+          ),
+        ),
+      ),
+    )
+    h

@@ -4,8 +4,10 @@
 --     peak P w p              the greatest microframe sum over the microframes of p, with it included
 --     best P w                the allowed placement that keeps every budget with the least peak, the first of these
 --     answer a w, admitted    the answer to a want, and the plan after it
---     is_placed, without      an id is placed; the plan without it
-use Rattle.std.specs.Prelude.{◌≡◌, ◌≢◌, ℕ, ◌/◌, ◌%◌, ◌<◌, ◌≤◌, max, zero, suc, Bool, ◌&&◌, ◌||◌, not, nat_eq, nat_lt, if◌then◌else◌, List, [], ◌∷◌, ◌++◌, length, filter, slice_get, AllPairs, Option, Some, None, Result, Ok, Err}
+--     is_placed, hub_of       an id is placed; its hub
+--     without                 the plan without an id
+use Rattle.std.specs.Prelude.{◌≡◌, ◌≢◌, ℕ, ◌/◌, ◌%◌, ◌<◌, ◌≤◌, max, zero, suc, Bool, ◌&&◌, ◌||◌, not, nat_eq, nat_lt, if◌then◌else◌}
+use Rattle.std.specs.Prelude.{List, [], ◌∷◌, ◌++◌, length, filter, slice_get, AllPairs, Option, Some, None, Result, Ok, Err}
 use Rattle.std.specs.List.{list_any}
 use Rattle.bandwidth.specs.declared.placements.Want.{Want}
 use Rattle.bandwidth.specs.declared.placements.Placement.{Placement}
@@ -69,6 +71,11 @@ AreDistinct placed = AllPairs (λ x y. x.want.id ≢ y.want.id) placed
 
 abbrev pub is_placed : Admissions → ℕ → Bool
 is_placed a id = list_any (λ x. nat_eq x.want.id id) a.placed
+
+-- the hub of the one with this id, if it is placed and has one
+abbrev pub hub_of : List Placed → ℕ → Option ℕ
+hub_of [] id = None
+hub_of (x ∷ xs) id = if nat_eq x.want.id id then x.want.hub else hub_of xs id
 
 abbrev pub without : Admissions → ℕ → Admissions
 without a id = record a { placed = filter (λ x. not (nat_eq x.want.id id)) a.placed }

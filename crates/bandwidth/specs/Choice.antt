@@ -2,7 +2,7 @@
 --     candidate P w p           the placement with its peak
 --     better P w b p            the better of the one so far and p
 --     choice P w b ps           the best of the one so far and of these
-use Rattle.std.specs.Prelude.{nat_lt, if◌then◌else◌, List, [], ◌∷◌, Option, Some, None}
+use Rattle.std.specs.Prelude.{ℕ, ◌-◌, min, nat_lt, if◌then◌else◌, List, [], ◌∷◌, Option, Some, None}
 use Rattle.bandwidth.specs.declared.placements.Want.{Want}
 use Rattle.bandwidth.specs.declared.placements.Placement.{Placement}
 use Rattle.bandwidth.specs.declared.placements.Placed.{Placed}
@@ -15,6 +15,11 @@ candidate placed w p = record { placement = p; peak = peak placed w p }
 abbrev pub lesser : Option Candidate → Candidate → Option Candidate
 lesser None new = Some new
 lesser (Some old) new = if nat_lt new.peak old.peak then Some new else Some old
+
+-- the greatest peak within the budget of microframes that is less than that of the one so far
+abbrev pub limit : Option Candidate → ℕ
+limit None = 100000000
+limit (Some old) = min (old.peak - 1) 100000000
 
 abbrev pub better : List Placed → Want → Option Candidate → Placement → Option Candidate
 better placed w so_far p = if keeps placed w p then lesser so_far (candidate placed w p) else so_far

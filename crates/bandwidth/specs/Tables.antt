@@ -1,49 +1,213 @@
--- What a plan keeps beside its list: tables for the sums that an admission asks for.
---     Sheet                the list, its room, and a cell for each sum: the bus time of a microframe; below one hub the
---                          classic bus time of a frame and the byte-times of a microframe
---     IsPlaced x           what is placed was asked for rightly and has a place
---     AreSums s hub        the cells are the sums of the list, those of frames and byte-times at the hub, if there is one
-use Rattle.std.specs.Prelude.{◌≡◌, ℕ, ◌+◌, ◌/◌, ◌%◌, ◌<◌, ◌≤◌, true, List, Option, Some, slice_index, All, length}
+-- What a plan keeps beside its list: a table for each sum that an admission asks for (USB 2.0, 5.11.3 and 11.18).
+--     HubTables             the tables of one hub: the classic bus time of each frame and the byte-times of each microframe
+--     Pool                  the tables that hubs have, by address, and those that no hub has
+--     Book                  the list, its room, the bus time of each microframe, and the pool
+--     IsPlaced x            what is placed was asked for rightly and has a place
+--     serves P hub          something is placed below the hub
+--     HubStands P hub t     a hub has tables exactly where something is placed below it, and their cells are its sums
+--     IsLess x P Q          Q is P without one x
+--     IsBook b              every cell is its sum, and what is placed keeps every budget
+--     sheet_at b hub        what an admission below this hub, if there is one, sees of the tables
+--     LoadsFit, FramesFit, BytesFit      the cells of a placement's own frames keep their budget with it
+--     CellsWithin, FrameWithin           the cells that a placement adds to are at most so much with it
+use Rattle.std.specs.Prelude.{◌≡◌, ◌↔◌, ℕ, ◌+◌, ◌*◌, ◌/◌, ◌%◌, ◌<◌, ◌≤◌, min, Bool, true, false, ◌||◌, if◌then◌else◌}
+use Rattle.std.specs.Prelude.{List, [], Option, Some, None, is_some, sum_by, slice_index, slice_index_or, slice_set, All, length}
+use Rattle.std.specs.List.{list_any, count_by}
 use Rattle.bandwidth.specs.declared.placements.Want.{Want}
 use Rattle.bandwidth.specs.declared.placements.Placement.{Placement}
 use Rattle.bandwidth.specs.declared.placements.Placed.{Placed}
 use Rattle.bandwidth.specs.Placements.{IsWant, IsPlace}
 use Rattle.bandwidth.specs.Admission.{AreDistinct}
-use Rattle.bandwidth.specs.Sums.{load, frame_sum, tt_sum, Fits, is_active, cost_in, laid_in, time_of}
+use Rattle.bandwidth.specs.Sums.{load, frame_sum, tt_sum, Fits, is_active, is_hub, laid_in, time_of}
 
-pub record Sheet : Type 0 where
+-- 1,024 frames and 8,192 microframes
+pub record HubTables : Type 0 where
+  pub frames : List ℕ
+  pub bytes : List ℕ
+
+pub record Pool : Type 0 where
+  pub hubs : List (Option HubTables)  -- by address
+  pub free : List HubTables
+
+pub record Book : Type 0 where
   pub room : ℕ
   pub placed : List Placed
   pub loads : List ℕ
-  pub frames : List ℕ
-  pub bytes : List ℕ
+  pub pool : Pool
+
+abbrev pub tables_of : Pool → ℕ → Option HubTables
+tables_of pool hub = slice_index_or pool.hubs hub None
+
+-- how many tables there are
+abbrev pub pool_size : Pool → ℕ
+pool_size pool = length pool.free + count_by is_some pool.hubs
+
+pub record AreCells (t : HubTables) : Type 0 where
+  pub frames : length t.frames ≡ 1024
+  pub bytes : length t.bytes ≡ 8192
+
+pub record AreZero (t : HubTables) : Type 0 where
+  pub cells : AreCells t
+  pub frames : (f : ℕ) → f < 1024 → slice_index t.frames f ≡ 0
+  pub bytes : (u : ℕ) → u < 8192 → slice_index t.bytes u ≡ 0
+
+pub record AreHubSums (placed : List Placed) (hub : ℕ) (t : HubTables) : Type 0 where
+  pub cells : AreCells t
+  pub frames : (f : ℕ) → f < 1024 → slice_index t.frames f ≡ frame_sum placed hub f
+  pub bytes : (u : ℕ) → u < 8192 → slice_index t.bytes u ≡ tt_sum placed hub u
 
 pub record IsPlaced (x : Placed) : Type 0 where
   pub want : IsWant x.want
   pub place : IsPlace x.placement
 
-pub record IsSheet (s : Sheet) : Type 0 where
-  pub loads : length s.loads ≡ 8192
-  pub frames : length s.frames ≡ 1024
-  pub bytes : length s.bytes ≡ 8192
-  pub room : length s.placed ≤ s.room
-  pub placed : All IsPlaced s.placed
-  pub fits : Fits s.placed
-  pub ids : AreDistinct s.placed
+abbrev pub serves : List Placed → ℕ → Bool
+serves placed hub = list_any (λ x. is_hub x.want.hub hub) placed
+
+abbrev pub HubStands : List Placed → ℕ → Option HubTables → Type 0
+HubStands placed hub None = serves placed hub ≡ false
+HubStands placed hub (Some t) = (serves placed hub ≡ true) × AreHubSums placed hub t
+
+-- left is all without one x
+pub record IsLess (x : Placed) (all left : List Placed) : Type 0 where
+  pub sums : (f : Placed → ℕ) → sum_by f all ≡ sum_by f left + f x
+  pub serves : (hub : ℕ) → serves all hub ≡ (is_hub x.want.hub hub || serves left hub)
+
+-- 128 addresses
+pub record IsPool (placed : List Placed) (pool : Pool) : Type 0 where
+  pub count : length pool.hubs ≡ 128
+  pub hubs : (hub : ℕ) → hub < 128 → HubStands placed hub (tables_of pool hub)
+
+-- the pool stands for a list that has one x more
+pub record HadMore (x : Placed) (left : List Placed) (next : Pool) : Type 0 where
+  pub all : List Placed
+  pub less : IsLess x all left
+  pub pool : IsPool all next
+
+-- what no hub has is 0, and there is room for all of it
+pub record IsRoomy (pool : Pool) (room : ℕ) : Type 0 where
+  pub count : length pool.hubs ≡ 128
+  pub free : All AreZero pool.free
+  pub fits : pool_size pool ≤ room
+
+-- 8,192 microframes
+pub record IsBook (b : Book) : Type 0 where
+  pub cells : length b.loads ≡ 8192
+  pub loads : (u : ℕ) → u < 8192 → slice_index b.loads u ≡ load b.placed u
+  pub pool : IsPool b.placed b.pool
+  pub size : pool_size b.pool ≡ min b.room 128
+  pub room : length b.placed ≤ b.room
+  pub placed : All IsPlaced b.placed
+  pub fits : Fits b.placed
+  pub ids : AreDistinct b.placed
+
+-- ---- what a placement below a hub adds to its tables, by its classic time and its byte-times in a frame
+
+abbrev pub frame_share : ℕ → Placement → ℕ → ℕ
+frame_share time p f = if is_active p f then time else 0
+
+abbrev pub byte_share : (ℕ → ℕ) → Placement → ℕ → ℕ
+byte_share laid p u = if is_active p (u / 8) then laid (u % 8) else 0
+
+-- the cells of u are those of t with one placement more
+pub record Adds (time : ℕ) (laid : ℕ → ℕ) (p : Placement) (t u : HubTables) : Type 0 where
+  pub cells : AreCells u
+  pub frames : (f : ℕ) → f < 1024 → slice_index u.frames f ≡ slice_index t.frames f + frame_share time p f
+  pub bytes : (m : ℕ) → m < 8192 → slice_index u.bytes m ≡ slice_index t.bytes m + byte_share laid p m
+
+-- the cells hold what the placement adds
+pub record Holds (time : ℕ) (laid : ℕ → ℕ) (p : Placement) (t : HubTables) : Type 0 where
+  pub cells : AreCells t
+  pub frames : (f : ℕ) → f < 1024 → is_active p f ≡ true → time ≤ slice_index t.frames f
+  pub bytes : (m : ℕ) → m < 8192 → is_active p (m / 8) ≡ true → laid (m % 8) ≤ slice_index t.bytes m
+
+-- within the budgets
+pub record AreWithin (t : HubTables) : Type 0 where
+  pub cells : AreCells t
+  pub frames : (f : ℕ) → f < 1024 → slice_index t.frames f ≤ 900000000
+  pub bytes : (m : ℕ) → m < 8192 → slice_index t.bytes m ≤ 188
+
+-- the tables that a hub has, or new ones
+abbrev pub Had : Option HubTables → HubTables → Type 0
+Had None t = AreZero t
+Had (Some s) t = s ≡ t
+
+-- the hub without tables gets some
+pub record Gives (old new : Pool) (hub : ℕ) : Type 0 where
+  pub given : HubTables
+  pub zero : AreZero given
+  pub hubs : new.hubs ≡ slice_set old.hubs hub (Some given)
+
+-- a placement more stands in the tables of the hub
+pub record AddsAt (old new : Pool) (hub time : ℕ) (laid : ℕ → ℕ) (p : Placement) : Type 0 where
+  pub was : HubTables
+  pub now : HubTables
+  pub had : Had (tables_of old hub) was
+  pub adds : Adds time laid p was now
+  pub hubs : new.hubs ≡ slice_set old.hubs hub (Some now)
+
+-- a placement less
+pub record TakesAt (old new : Pool) (hub time : ℕ) (laid : ℕ → ℕ) (p : Placement) : Type 0 where
+  pub was : HubTables
+  pub now : HubTables
+  pub had : tables_of old hub ≡ Some was
+  pub cells : AreCells now
+  pub adds : Adds time laid p now was
+  pub hubs : new.hubs ≡ slice_set old.hubs hub (Some now)
+
+-- ---- what an admission sees
+
+pub record Sheet : Type 0 where
+  pub placed : List Placed
+  pub loads : List ℕ
+  pub frames : List ℕ
+  pub bytes : List ℕ
+
+-- a hub without tables has no sum above 0, as an empty table
+abbrev pub tables_or_none : Option HubTables → HubTables
+tables_or_none None = record { frames = []; bytes = [] }
+tables_or_none (Some t) = t
+
+abbrev pub tables_at : Pool → Option ℕ → HubTables
+tables_at pool None = record { frames = []; bytes = [] }
+tables_at pool (Some hub) = tables_or_none (tables_of pool hub)
+
+abbrev pub sheet_at : Book → Option ℕ → Sheet
+sheet_at b hub =
+    record { placed = b.placed; loads = b.loads; frames = (tables_at b.pool hub).frames; bytes = (tables_at b.pool hub).bytes }
 
 pub record AreSums (s : Sheet) (hub : Option ℕ) : Type 0 where
   pub loads : (u : ℕ) → u < 8192 → slice_index s.loads u ≡ load s.placed u
-  pub frames : (h f : ℕ) → hub ≡ Some h → f < 1024 → slice_index s.frames f ≡ frame_sum s.placed h f
-  pub bytes : (h u : ℕ) → hub ≡ Some h → u < 8192 → slice_index s.bytes u ≡ tt_sum s.placed h u
+  pub frames : (h f : ℕ) → hub ≡ Some h → h < 128 → f < 1024 → slice_index s.frames f ≡ frame_sum s.placed h f
+  pub bytes : (h u : ℕ) → hub ≡ Some h → h < 128 → u < 8192 → slice_index s.bytes u ≡ tt_sum s.placed h u
 
 -- what must stay within the budgets in the placement's own frames
-abbrev pub LoadsFit : Sheet → Want → Placement → Type 0
-LoadsFit s w p =
-    (u : ℕ) → u < 8192 → is_active p (u / 8) ≡ true → slice_index s.loads u + cost_in w p (u % 8) ≤ 100000000
 
-abbrev pub FramesFit : Sheet → Want → Placement → Type 0
-FramesFit s w p = (f : ℕ) → f < 1024 → is_active p f ≡ true → slice_index s.frames f + time_of w ≤ 900000000
+abbrev pub LoadsFit : List ℕ → (ℕ → ℕ) → Placement → Type 0
+LoadsFit loads cost p =
+    (u : ℕ) → u < 8192 → is_active p (u / 8) ≡ true → slice_index loads u + cost (u % 8) ≤ 100000000
 
-abbrev pub BytesFit : Sheet → Want → Placement → Type 0
-BytesFit s w p =
-    (u : ℕ) → u < 8192 → is_active p (u / 8) ≡ true → slice_index s.bytes u + laid_in w p (u % 8) ≤ 188
+abbrev pub FramesFit : List ℕ → ℕ → Placement → Type 0
+FramesFit frames time p = (f : ℕ) → f < 1024 → is_active p f ≡ true → slice_index frames f + time ≤ 900000000
+
+abbrev pub BytesFit : List ℕ → (ℕ → ℕ) → Placement → Type 0
+BytesFit bytes laid p =
+    (u : ℕ) → u < 8192 → is_active p (u / 8) ≡ true → slice_index bytes u + laid (u % 8) ≤ 188
+
+-- each cell of the placement's own frames that gets an amount is at most n with it
+abbrev pub CellsWithin : List ℕ → (ℕ → ℕ) → Placement → ℕ → Type 0
+CellsWithin cells amount p n =
+    (u : ℕ) → u < 8192 → is_active p (u / 8) ≡ true → 1 ≤ amount (u % 8) → slice_index cells u + amount (u % 8) ≤ n
+
+-- the same of one frame
+abbrev pub FrameWithin : List ℕ → ℕ → (ℕ → ℕ) → ℕ → Type 0
+FrameWithin cells frame amount n = (m : ℕ) → m < 8 → 1 ≤ amount m → slice_index cells (8 * frame + m) + amount m ≤ n
+
+pub record BelowFits (t : HubTables) (time : ℕ) (laid : ℕ → ℕ) (p : Placement) : Type 0 where
+  pub frames : FramesFit t.frames time p
+  pub bytes : BytesFit t.bytes laid p
+
+-- what the answer r of a test of the budgets below the hub, if there is one, says
+pub record Tells (b : Book) (w : Want) (p : Placement) (r : Bool) : Type 0 where
+  pub alone : w.hub ≡ None → r ≡ true
+  pub fits : (hub : ℕ) → w.hub ≡ Some hub → (r ≡ true) ↔ (BelowFits (tables_at b.pool (Some hub)) (time_of w) (laid_in w p) p)
+  pub small : (hub : ℕ) → w.hub ≡ Some hub → hub < 128

@@ -1,12 +1,10 @@
 ghost use Rattle.std.specs.Prelude.{◌≡◌, ◌≢◌, ℕ, ◌+◌, ◌*◌, ◌<◌, ◌≤◌, slice_index};
 ghost use Rattle.usb_base.specs.Cost.{bus_time, byte_times};
 ghost use Rattle.bandwidth.specs.Placements.{is_classic, IsWant};
-ghost use Rattle.bandwidth.specs.Sums.{start_bytes, complete_bytes, sent_bytes, price, cost_in, cost_at, laid_in, time_of, is_hub};
-ghost use Rattle.bandwidth.specs.Tables.{IsPlaced};
+ghost use Rattle.bandwidth.specs.Sums.{start_bytes, complete_bytes, sent_bytes, price, cost_in, laid_in, time_of, is_hub};
 
-use crate::frames::frames_of;
 use crate::masks::{first_bit, has_bit};
-use crate::placements::{Placed, Placement, Want};
+use crate::placements::{Placement, Want};
 use usb_base::{DevAddr, Dir, EpKind, Speed, cost, tt_bytes};
 
 /// Whether a translator serves endpoints of this speed.
@@ -141,17 +139,4 @@ pub(crate) fn is_below(want: &Want, hub: DevAddr) -> bool
         Some(own) => own.get() == hub.get(),
         None => false,
     }
-}
-
-/// The bus time of microframe `u` of a placed endpoint, in picoseconds.
-pub(crate) fn cost_at_microframe(x: &Placed, u: u16) -> u64
-    requires placed { IsPlaced x.now }
-    requires microframe { u < 8192 }
-    ensures cost { result ≡ cost_at u x.now }
-    ensures bound { result ≤ 63000000 }
-{
-    if (u / 8) % frames_of(x.placement.period) != x.placement.phase {
-        return 0;
-    }
-    cost_of(&x.want, &x.placement, (u % 8) as u8)
 }

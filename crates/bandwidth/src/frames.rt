@@ -24,7 +24,7 @@ pub(crate) fn turns(placement: &Placement) -> u16
 }
 
 /// The active frame number `k` of a placement, from 0.
-pub(crate) fn active_frame(placement: &Placement, k: u16) -> usize
+pub(crate) fn active_frame(placement: &Placement, k: u16) -> u32
     requires place { IsPlace placement.now }
     requires turn { k < 1024 / frame_period placement.now.period }
     ensures bound { result < 1024 }
@@ -32,5 +32,5 @@ pub(crate) fn active_frame(placement: &Placement, k: u16) -> usize
     ensures turn { result / frame_period placement.now.period ≡ k }
     ensures only { (f : ℕ) → is_active placement.now f ≡ true → f / frame_period placement.now.period ≡ k → f ≡ result }
 {
-    placement.phase as usize + k as usize * frames_of(placement.period) as usize
+    placement.phase as u32 + k as u32 * frames_of(placement.period) as u32
 }

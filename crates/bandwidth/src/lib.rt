@@ -4,17 +4,20 @@
 //! `Plan::admit` answers the best placement of an endpoint, or why there is none; `Plan::remove` and `Plan::load` stand beside it.
 #![tactic(auto)]
 
+mod accounts;
 mod asks;
 mod choice;
 mod frames;
-mod ledger;
+mod hub_pool;
+mod hub_sums;
+mod limits;
 mod masks;
 mod options;
-mod peaks;
 mod placements;
 mod plan;
 mod search;
-mod sums;
+mod shapes;
+mod table;
 mod tables;
 #[cfg(test)]
 mod tests;
@@ -22,3 +25,4 @@ pub mod worked;
 
 pub use placements::{Placed, Placement, Refused, Want};
 pub use plan::Plan;
+pub use table::Table;

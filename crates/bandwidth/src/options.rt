@@ -7,7 +7,7 @@ use crate::placements::{Placement, Want};
 use usb_base::{Dir, EpKind};
 
 /// How many microframes of 188 byte-times so many byte-times fill.
-fn microframes(bytes: u16) -> u8
+pub(crate) fn microframes(bytes: u16) -> u8
     requires { bytes ≤ 1032 }
     ensures value { result ≡ (bytes + 187) / 188 }
     ensures bound { result ≤ 6 }

@@ -1,23 +1,27 @@
-ghost use Rattle.std.specs.Prelude.{◌≡◌, ℕ, ◌+◌, ◌<◌, ◌≤◌, ◌↔◌, false, true, List, [], length, IfOk, Result};
+ghost use Rattle.std.specs.Prelude.{◌≡◌, ℕ, ◌+◌, ◌<◌, ◌≤◌, ◌↔◌, false, true, List, [], length, slice_index, Some, None, IfOk, IfSome, Result};
 ghost use Rattle.std.specs.Bool.{OnTrue, OnFalse};
 ghost use Rattle.bandwidth.specs.declared.placements.Refused.TheVariants.{NoPlacement, Room};
 ghost use Rattle.bandwidth.specs.Placements.{IsWant};
-ghost use Rattle.bandwidth.specs.Sums.{Fits, load};
-ghost use Rattle.bandwidth.specs.Admission.{answer, admitted, is_placed, without, AreDistinct, HasNone, IsBest};
+ghost use Rattle.bandwidth.specs.Sums.{Fits, load, frame_sum, tt_sum};
+ghost use Rattle.bandwidth.specs.Admission.{answer, admitted, is_placed, hub_of, without, AreDistinct, HasNone, IsBest};
 
-use crate::asks::cost_at_microframe;
-use crate::ledger::Ledger;
+use crate::accounts::Accounts;
+use crate::masks::first_bit;
 use crate::placements::{Placement, Refused, Want};
 use crate::search::best_placement;
+use crate::shapes::shapes_of;
+use crate::table::Table;
 use std::alloc::Global;
-use std::marker::Model;
-use usb_base::{Memory, Ps};
+use std::marker::{Brand, Model};
+use std::sync::ledger::{Blank, Ledger};
+use step_count::Steps;
+use usb_base::{DevAddr, Memory, Ps};
 
 /// The periodic endpoints that are placed, in the order of admission, and how many may be. What is placed keeps every
 /// budget, and no two have one id.
 #[derive(Debug, Drop)]
 pub struct Plan {
-    ledger: Ledger,
+    accounts: Accounts,
 }
 
 impl Model for Plan {
@@ -25,7 +29,7 @@ impl Model for Plan {
 
     ghost Value = { Admissions };
 
-    ghost view = { λ p. record { placed = p.ledger.placed; room = p.ledger.room } };
+    ghost view = { λ p. record { placed = p.accounts.placed; room = p.accounts.room } };
 }
 
 impl Plan {
@@ -33,8 +37,8 @@ impl Plan {
     pub fn build(alloc: Global, room: u32) -> Result<Plan, Memory>
         ensures { IfOk result (λ p. p ≡ record { placed = []; room = room }) }
     {
-        let ledger = Ledger::build(alloc, room)?;
-        Ok(Plan { ledger })
+        let accounts = Accounts::build(alloc, room)?;
+        Ok(Plan { accounts })
     }
 
     /// Places an endpoint where it keeps every budget with the least greatest microframe sum, the first of these by phase and
@@ -52,13 +56,52 @@ impl Plan {
         ensures placed { IfOk result (λ p. IsBest self.old.placed want.now p) }
         ensures fits { Fits self.new.placed }
     {
-        if self.ledger.placed().len() >= self.ledger.room() as usize {
+        self.admit_blank::<Brand>(want, Blank::new(1))
+    }
+
+    /// Admits with a counter of its own.
+    fn admit_blank<L: Ledger>(&mut self, want: &Want, blank: Blank) -> Result<Placement, Refused>
+        requires name { blank.name ≡ L.name }
+        requires parts { blank.parts ≡ L.parts }
+        requires some { 0 < L.parts }
+        requires fresh { is_placed self.old want.now.id ≡ false }
+        requires want { IsWant want.now }
+        ensures answer { result ≡ answer self.old want.now }
+        ensures plan { self.new ≡ admitted self.old want.now result }
+        ensures room { (result ≡ Err Room) ↔ (length self.old.placed ≡ self.old.room) }
+        ensures no_placement { (result ≡ Err NoPlacement) ↔ ((length self.old.placed < self.old.room) × HasNone self.old.placed want.now) }
+        ensures placed { IfOk result (λ p. IsBest self.old.placed want.now p) }
+        ensures fits { Fits self.new.placed }
+    {
+        let mut steps = Steps::<L>::begin(blank);
+        self.admit_counted(want, &mut steps)
+    }
+
+    /// As `admit`, in at most 40,960 readings and writings of cells of the tables, whatever number is placed.
+    pub fn admit_counted<L: Ledger>(
+        &mut self,
+        want: &Want,
+        steps: &mut Steps<L>,
+    ) -> Result<Placement, Refused>
+        requires fresh { is_placed self.old want.now.id ≡ false }
+        requires want { IsWant want.now }
+        ensures answer { result ≡ answer self.old want.now }
+        ensures plan { self.new ≡ admitted self.old want.now result }
+        ensures room { (result ≡ Err Room) ↔ (length self.old.placed ≡ self.old.room) }
+        ensures no_placement { (result ≡ Err NoPlacement) ↔ ((length self.old.placed < self.old.room) × HasNone self.old.placed want.now) }
+        ensures placed { IfOk result (λ p. IsBest self.old.placed want.now p) }
+        ensures fits { Fits self.new.placed }
+        ensures steps { steps.new ≤ steps.old + 40960 }
+    {
+        if self.accounts.placed().len() >= self.accounts.room() as usize {
             return Err(Refused::Room);
         }
-        self.ledger.sum(want.hub);
-        match best_placement(&self.ledger, want) {
+        let shapes = shapes_of(want);
+        match best_placement(&self.accounts, want, &shapes, steps) {
             Some(placement) => {
-                self.ledger.join(want, &placement);
+                let first = first_bit(placement.smask);
+                self.accounts
+                    .join(want, &placement, &shapes[first as usize], steps);
                 Ok(placement)
             }
             None => Err(Refused::NoPlacement),
@@ -75,7 +118,7 @@ impl Plan {
         if !self.has(id) {
             return false;
         }
-        self.ledger.remove(id);
+        self.accounts.remove(id);
         true
     }
 
@@ -85,11 +128,55 @@ impl Plan {
         ensures load { result.0 ≡ load self.now.placed u }
         ensures fits { Fits self.now.placed }
     {
-        let mut sum = 0;
-        for x in self.ledger.placed() {
-            sum += cost_at_microframe(x, u);
+        Ps(cell::<Brand>(self.accounts.loads(), u as u32, Blank::new(1)))
+    }
+
+    /// The bus time of the periodic transactions of each of the 8,192 microframes, in picoseconds.
+    pub fn loads(&self) -> &Table
+        ensures cells { length result.now ≡ 8192 }
+        ensures sums { (u : ℕ) → u < 8192 → slice_index result.now u ≡ load self.now.placed u }
+    {
+        self.accounts.loads()
+    }
+
+    /// The classic bus time of each of the 1,024 frames below the hub of a placement, in picoseconds; `None` exactly where the id isn't
+    /// placed or its endpoint has no hub.
+    pub fn frame_sums(&self, id: u32) -> Option<&Table>
+        ensures none { (result ≡ None) ↔ (hub_of self.now.placed id ≡ None) }
+        ensures cells { IfSome result (λ t. length t.now ≡ 1024) }
+        ensures sums { IfSome result (λ t. (hub f : ℕ) → hub_of self.now.placed id ≡ Some hub → f < 1024 → slice_index t.now f ≡ frame_sum self.now.placed hub f) }
+    {
+        let hub = self.hub(id)?;
+        match self.accounts.below(hub) {
+            Some(sums) => Some(&sums.frames),
+            None => None,
         }
-        Ps(sum)
+    }
+
+    /// The byte-times of each of the 8,192 microframes in the translator of the hub of a placement; `None` exactly where the id isn't
+    /// placed or its endpoint has no hub.
+    pub fn byte_sums(&self, id: u32) -> Option<&Table>
+        ensures none { (result ≡ None) ↔ (hub_of self.now.placed id ≡ None) }
+        ensures cells { IfSome result (λ t. length t.now ≡ 8192) }
+        ensures sums { IfSome result (λ t. (hub u : ℕ) → hub_of self.now.placed id ≡ Some hub → u < 8192 → slice_index t.now u ≡ tt_sum self.now.placed hub u) }
+    {
+        let hub = self.hub(id)?;
+        match self.accounts.below(hub) {
+            Some(sums) => Some(&sums.bytes),
+            None => None,
+        }
+    }
+
+    /// The hub of a placement.
+    fn hub(&self, id: u32) -> Option<DevAddr>
+        ensures { result ≡ hub_of self.now.placed id }
+    {
+        for x in self.accounts.placed() {
+            if x.want.id == id {
+                return x.want.hub;
+            }
+        }
+        None
     }
 
     /// Whether an endpoint with this id is placed.
@@ -97,6 +184,18 @@ impl Plan {
         ensures found { result ≡ is_placed self.now id }
         ensures ids { AreDistinct self.now.placed }
     {
-        self.ledger.placed().iter().any(|x| x.want.id == id)
+        self.accounts.placed().iter().any(|x| x.want.id == id)
     }
+}
+
+/// Reads a cell with a counter of its own.
+fn cell<L: Ledger>(table: &Table, at: u32, blank: Blank) -> u64
+    requires name { blank.name ≡ L.name }
+    requires parts { blank.parts ≡ L.parts }
+    requires some { 0 < L.parts }
+    requires cell { at < length table.now }
+    ensures { result ≡ slice_index table.now at }
+{
+    let mut steps = Steps::<L>::begin(blank);
+    table.get(at, &mut steps)
 }

@@ -1,14 +1,17 @@
-ghost use Rattle.std.specs.Prelude.{◌≡◌, ◌<◌, Option};
-ghost use Rattle.bandwidth.specs.Placements.{IsWant, IsPlace, frame_period, in_phase, placement_row, placement_at};
+ghost use Rattle.std.specs.Prelude.{◌≡◌, ◌+◌, ◌*◌, ◌<◌, ◌≤◌};
+ghost use Rattle.bandwidth.specs.Placements.{IsWant, frame_period, in_phase, placement_row, placement_at};
+ghost use Rattle.bandwidth.specs.Shapes.{turns, cells, IsShape, AreShapes};
 ghost use Rattle.bandwidth.specs.Admission.{best};
-ghost use Rattle.bandwidth.specs.Tables.{AreSums};
-ghost use Rattle.bandwidth.specs.Choice.{candidate, lesser, better, choice, place_in};
+ghost use Rattle.bandwidth.specs.Choice.{lesser, limit, better, choice, place_in};
 
+use crate::accounts::{Accounts, MICROFRAME_BUDGET};
 use crate::choice::Candidate;
 use crate::frames::frames_of;
-use crate::ledger::Ledger;
-use crate::options::{placement_of, starts};
+use crate::options::starts;
 use crate::placements::{Placement, Want};
+use crate::shapes::Shape;
+use std::sync::ledger::Ledger;
+use step_count::Steps;
 
 /// The one with the lesser peak, the one so far where they are equal.
 fn lesser_of(so_far: Option<Candidate>, new: Candidate) -> Option<Candidate>
@@ -36,55 +39,76 @@ fn placement_in(best: Option<Candidate>) -> Option<Placement>
     }
 }
 
-/// The better of the candidate so far and a placement.
-fn better_of(
-    ledger: &Ledger,
-    want: &Want,
-    so_far: Option<Candidate>,
-    placement: Placement,
-) -> Option<Candidate>
-    requires sums { AreSums ledger.now want.now.hub }
-    requires want { IsWant want.now }
-    requires place { IsPlace placement }
-    ensures { result ≡ better ledger.now.placed want.now so_far placement }
+/// The greatest peak, in picoseconds, with which a placement keeps the budget of microframes and is better than the candidate so far.
+fn limit_of(so_far: &Option<Candidate>) -> u64
+    ensures { result ≡ limit so_far.now }
 {
-    if !ledger.keeps(want, &placement) {
-        return so_far;
+    match so_far {
+        None => MICROFRAME_BUDGET,
+        Some(old) => old.peak.saturating_sub(1).min(MICROFRAME_BUDGET),
     }
-    let peak = ledger.peak(want, &placement);
-    lesser_of(so_far, Candidate { placement, peak })
+}
+
+/// The better of the candidate so far and a placement.
+fn better_of<L: Ledger>(
+    accounts: &Accounts,
+    want: &Want,
+    shape: &Shape,
+    phase: u16,
+    so_far: Option<Candidate>,
+    steps: &mut Steps<L>,
+) -> Option<Candidate>
+    requires want { IsWant want.now }
+    requires shape { IsShape want.now shape.now }
+    requires phase { phase < frame_period want.now.period }
+    ensures better { result ≡ better accounts.now.placed want.now so_far (placement_at want.now phase shape.now.costs.from) }
+    ensures steps { steps.new ≤ steps.old + turns want.now.period * cells want.now }
+{
+    let placement = shape.placed(want.period, phase);
+    let limit = limit_of(&so_far);
+    match accounts.kept_peak(want, &placement, shape, limit, steps) {
+        Some(peak) => lesser_of(so_far, Candidate { placement, peak }),
+        None => so_far,
+    }
 }
 
 /// The best of the candidate so far and the placements of one phase.
-#[tactic(auto, using(crate::proofs::Best::choice_none, crate::proofs::Best::choice_more))]
-fn best_in_phase(
-    ledger: &Ledger,
+fn best_in_phase<L: Ledger>(
+    accounts: &Accounts,
     want: &Want,
+    shapes: &[Shape; 8],
     phase: u16,
     so_far: Option<Candidate>,
+    steps: &mut Steps<L>,
 ) -> Option<Candidate>
-    requires sums { AreSums ledger.now want.now.hub }
     requires want { IsWant want.now }
     requires phase { phase < frame_period want.now.period }
-    ensures { result ≡ choice ledger.now.placed want.now so_far (in_phase want.now phase) }
+    requires shapes { AreShapes want.now shapes.now }
+    ensures best { result ≡ choice accounts.now.placed want.now so_far (in_phase want.now phase) }
+    ensures steps { steps.new ≤ steps.old + (placement_row want.now).starts * (turns want.now.period * cells want.now) }
 {
     let mut best = so_far;
     for first in 0..starts(want) {
-        best = better_of(ledger, want, best, placement_of(want, phase, first));
+        best = better_of(accounts, want, &shapes[first as usize], phase, best, steps);
     }
     best
 }
 
 /// The allowed placement that keeps every budget with the least peak, the first of these.
-#[tactic(auto, using(crate::proofs::Best::choice_none, crate::proofs::Best::choice_phase, crate::proofs::Best::best_of))]
-pub(crate) fn best_placement(ledger: &Ledger, want: &Want) -> Option<Placement>
-    requires sums { AreSums ledger.now want.now.hub }
+pub(crate) fn best_placement<L: Ledger>(
+    accounts: &Accounts,
+    want: &Want,
+    shapes: &[Shape; 8],
+    steps: &mut Steps<L>,
+) -> Option<Placement>
     requires want { IsWant want.now }
-    ensures { result ≡ best ledger.now.placed want.now }
+    requires shapes { AreShapes want.now shapes.now }
+    ensures best { result ≡ best accounts.now.placed want.now }
+    ensures steps { steps.new ≤ steps.old + frame_period want.now.period * ((placement_row want.now).starts * (turns want.now.period * cells want.now)) }
 {
     let mut best = None;
     for phase in 0..frames_of(want.period) {
-        best = best_in_phase(ledger, want, phase, best);
+        best = best_in_phase(accounts, want, shapes, phase, best, steps);
     }
     placement_in(best)
 }

@@ -114,3 +114,100 @@ pub(crate) fn want(id: u32, draws: &mut Draws) -> Want
         _ => high(id, draws),
     }
 }
+
+/// A drawn high-speed endpoint with a transaction of at most 128 bytes in every microframe, in every second or in every fourth.
+fn dense(id: u32, draws: &mut Draws) -> Want
+    ensures { IsWant result }
+{
+    let period = match draws.draw() % 3 {
+        0 => 1,
+        1 => 2,
+        _ => 4,
+    };
+    Want {
+        id,
+        speed: Speed::High,
+        kind: EpKind::Interrupt,
+        dir: direction(draws.draw()),
+        max: 1 + (draws.draw() % 128) as u16,
+        multi: 1,
+        period,
+        hub: None,
+    }
+}
+
+/// A drawn low-speed interrupt endpoint below a hub.
+fn slow(id: u32, hub: DevAddr, draws: &mut Draws) -> Want
+    ensures { IsWant result }
+{
+    Want {
+        id,
+        speed: Speed::Low,
+        kind: EpKind::Interrupt,
+        dir: direction(draws.draw()),
+        max: 1 + (draws.draw() % 8) as u16,
+        multi: 1,
+        period: long_period(draws.draw()),
+        hub: Some(hub),
+    }
+}
+
+/// A drawn endpoint of any speed, kind and period.
+pub(crate) fn any_want(id: u32, draws: &mut Draws) -> Want
+    ensures { IsWant result }
+{
+    let kind = draws.draw() % 8;
+    let Some(hub) = DevAddr::new((draws.draw() % 8) as u8) else {
+        return want(id, draws);
+    };
+    match kind {
+        0 => dense(id, draws),
+        1 | 2 => slow(id, hub, draws),
+        3 | 4 => classic(id, hub, draws),
+        _ => want(id, draws),
+    }
+}
+
+/// A high-speed interrupt IN endpoint of 8 bytes, each 32 milliseconds.
+pub(crate) fn small(id: u32) -> Want
+    ensures { IsWant result }
+{
+    Want {
+        id,
+        speed: Speed::High,
+        kind: EpKind::Interrupt,
+        dir: Dir::In,
+        max: 8,
+        multi: 1,
+        period: 256,
+        hub: None,
+    }
+}
+
+/// A high-speed interrupt IN endpoint of the longest period.
+pub(crate) fn long_high(id: u32) -> Want
+    ensures { IsWant result }
+{
+    Want {
+        period: 8192,
+        ..small(id)
+    }
+}
+
+/// A full-speed isochronous OUT endpoint of three start-splits below hub 9.
+pub(crate) fn long_out(id: u32, period: u16) -> Want
+    requires period { is_period period ≡ true }
+    requires frames { 8 ≤ period }
+    ensures { IsWant result }
+{
+    Want {
+        id,
+        speed: Speed::Full,
+        kind: EpKind::Iso,
+        dir: Dir::Out,
+        max: 564,
+        multi: 1,
+        period,
+        hub: DevAddr::new(9),
+    }
+}

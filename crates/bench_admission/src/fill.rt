@@ -36,14 +36,8 @@ fn fill(alloc: Global, seed: u32, wants: u32) -> Result<u32, Memory> {
     Ok(placed)
 }
 
-/// What a line with a seed and a number of endpoints gives.
-pub(crate) fn describe(alloc: Global, line: &str) -> Result<String, AllocError> {
-    let Some((seed, wants)) = line.split_once(' ') else {
-        return format!(in alloc; "not a seed and a number");
-    };
-    let (Ok(seed), Ok(wants)) = (seed.parse::<u32>(), wants.parse::<u32>()) else {
-        return format!(in alloc; "not a seed and a number");
-    };
+/// What so many endpoints of a seed give.
+pub(crate) fn describe(alloc: Global, seed: u32, wants: u32) -> Result<String, AllocError> {
     match fill(alloc, seed, wants) {
         Ok(placed) => format!(in alloc; "placed {placed} of {wants}"),
         Err(Memory) => format!(in alloc; "no memory"),

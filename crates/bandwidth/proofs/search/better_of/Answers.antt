@@ -1,0 +1,23 @@
+use Rattle.std.proofs.Common.{ap, ◌∙◌}
+use Rattle.bandwidth.specs.Choice.{better}
+use Rattle.bandwidth.proofs.Best.{passed_over, kept_better}
+use Rattle.bandwidth.proofs.Spans.{placed_is, placed_of}
+use Rattle.bandwidth.proofs.search.better_of.Goals as goal
+
+pub kept_peak-requires-clause-place : goal.kept_peak-requires-clause-place
+kept_peak-requires-clause-place g c =
+    rw c.placed-placement.ensures (placed_of c.args.want.now c.args.shape.now c.args.phase c.requires.want c.requires.phase)
+
+pub returns-in-Some-clause-better : goal.returns-in-Some-clause-better
+returns-in-Some-clause-better g c =
+    let at = c.placed-placement.ensures ∙ placed_is c.args.want.now c.args.shape.now c.args.phase c.requires.shape in
+    c.lesser_of.ensures
+    ∙ kept_better c.args.accounts.now.placed c.args.want.now c.args.so_far c.placed-placement.result c.in-Some.peak c.in-Some.ensures.keeps c.in-Some.ensures.peak
+    ∙ ap (λ p. better c.args.accounts.now.placed c.args.want.now c.args.so_far p) at
+
+pub returns-in-None-clause-better : goal.returns-in-None-clause-better
+returns-in-None-clause-better g c =
+    let at = c.placed-placement.ensures ∙ placed_is c.args.want.now c.args.shape.now c.args.phase c.requires.shape in
+    passed_over c.args.accounts.now.placed c.args.want.now c.args.so_far c.placed-placement.result
+    (λ kept. rw c.limit_of-limit.ensures at (c.in-None.ensures.none kept))
+    ∙ ap (λ p. better c.args.accounts.now.placed c.args.want.now c.args.so_far p) at

@@ -1,0 +1,279 @@
+ghost use Rattle.std.specs.Prelude.{◌≡◌, ℕ, ◌+◌, ◌*◌, ◌<◌, ◌≤◌, List, [], length, not, nat_eq};
+ghost use Rattle.std.specs.Prelude.{true, false, filter, slice_index, Some, None, IfOk, IfSome, IfNone, IsTrue, ◌↔◌};
+ghost use Rattle.std.specs.List.{list_any, position};
+ghost use Rattle.std.specs.Option.{option_copied};
+ghost use Rattle.bandwidth.specs.Placements.{IsWant, IsPlace};
+ghost use Rattle.bandwidth.specs.Sums.{Fits};
+ghost use Rattle.bandwidth.specs.Admission.{joined, keeps, peak};
+ghost use Rattle.bandwidth.specs.Shapes.{turns, cells, laid_cells, IsShape, IsOf};
+ghost use Rattle.bandwidth.specs.Tables.{IsPool, HadMore, AreWithin, serves, tables_of, pool_size};
+
+use crate::asks::{byte_times_of, costs_of, is_below, time_in_frame};
+use crate::hub_pool::HubPool;
+use crate::hub_sums::{FRAME_BUDGET, HubSums};
+use crate::limits::peak_within;
+use crate::placements::{Placed, Placement, Want};
+use crate::shapes::Shape;
+use crate::table::Table;
+use crate::tables::{add_microframes, sub_microframes};
+use std::alloc::Global;
+use std::marker::Model;
+use std::sync::ledger::Ledger;
+use step_count::Steps;
+use usb_base::{DevAddr, Memory};
+
+/// The budget of a microframe: 80 % of 125 microseconds, in picoseconds (USB 2.0, 5.6.4 and 5.7.4).
+pub(crate) const MICROFRAME_BUDGET: u64 = 100_000_000;
+
+/// The addresses of hubs.
+const ADDRESSES: u32 = 128;
+
+/// What is placed, with a table for each sum that an admission asks for.
+#[derive(Debug, Drop)]
+pub(crate) struct Accounts {
+    room: u32,
+    placed: Vec<Placed>,
+    loads: Table,
+    pool: HubPool,
+}
+
+impl Model for Accounts {
+    ghost use Rattle.std.specs.Prelude.{◌≤◌, vec_capacity};
+    ghost use Rattle.bandwidth.specs.Tables.{Book, IsBook};
+
+    ghost Value = { Book };
+
+    ghost view = { λ a. record { room = a.room; placed = a.placed.items; loads = a.loads; pool = a.pool } };
+
+    ghost invariant = { λ a. IsBook (record { room = a.room; placed = a.placed.items; loads = a.loads; pool = a.pool }) × (a.room ≤ vec_capacity a.placed) };
+}
+
+impl Accounts {
+    ghost use Rattle.bandwidth.specs.Tables.{IsBook, BelowFits, Tells, tables_at};
+
+    /// An empty book with room for so many, and with tables for as many hubs as may need them at once.
+    pub(crate) fn build(alloc: Global, room: u32) -> Result<Accounts, Memory>
+        ensures { IfOk result (λ a. (a.room ≡ room) × (a.placed ≡ [])) }
+    {
+        let placed = Vec::with_capacity(alloc, room as usize)?;
+        let loads = Table::zeros(alloc, 8192)?;
+        let pool = HubPool::build(alloc, room.min(ADDRESSES))?;
+        Ok(Accounts {
+            room,
+            placed,
+            loads,
+            pool,
+        })
+    }
+
+    /// The placed endpoints, in the order of admission.
+    pub(crate) fn placed(&self) -> &[Placed]
+        ensures same { result.now ≡ self.now.placed }
+        ensures book { IsBook self.now }
+    {
+        self.placed.as_slice()
+    }
+
+    /// How many endpoints may be placed.
+    pub(crate) fn room(&self) -> u32
+        ensures same { result ≡ self.now.room }
+        ensures book { IsBook self.now }
+    {
+        self.room
+    }
+
+    /// The bus time of each of the 8,192 microframes, in picoseconds.
+    pub(crate) fn loads(&self) -> &Table
+        ensures same { result.now ≡ self.now.loads }
+        ensures book { IsBook self.now }
+    {
+        &self.loads
+    }
+
+    /// The tables of a hub, if something is placed below it.
+    pub(crate) fn below(&self, hub: DevAddr) -> Option<&HubSums>
+        ensures tables { option_copied result ≡ tables_of self.now.pool hub }
+        ensures hub { hub < 128 }
+        ensures book { IsBook self.now }
+    {
+        self.pool.below(hub)
+    }
+
+    /// Whether a placement keeps the budgets below a hub.
+    fn hub_keeps<L: Ledger>(
+        &self,
+        hub: DevAddr,
+        want: &Want,
+        placement: &Placement,
+        shape: &Shape,
+        steps: &mut Steps<L>,
+    ) -> bool
+        requires shape { IsShape want.now shape.now }
+        requires place { IsOf shape.now placement.now }
+        ensures fits { (IsTrue result) ↔ (BelowFits (tables_at self.now.pool (Some hub)) shape.now.time (slice_index shape.now.bytes.each) placement.now) }
+        ensures hub { hub < 128 }
+        ensures book { IsBook self.now }
+        ensures steps { steps.new ≤ steps.old + turns placement.now.period * (laid_cells want.now + 1) }
+    {
+        match self.below(hub) {
+            Some(sums) => sums.keep(placement, shape.time, &shape.bytes, steps),
+            None => shape.time <= FRAME_BUDGET,
+        }
+    }
+
+    /// Whether a placement keeps the budgets below its hub, if it has one.
+    fn below_keeps<L: Ledger>(
+        &self,
+        want: &Want,
+        placement: &Placement,
+        shape: &Shape,
+        steps: &mut Steps<L>,
+    ) -> bool
+        requires shape { IsShape want.now shape.now }
+        requires place { IsOf shape.now placement.now }
+        ensures tells { Tells self.now want.now placement.now result }
+        ensures book { IsBook self.now }
+        ensures steps { steps.new ≤ steps.old + turns placement.now.period * (laid_cells want.now + 1) }
+    {
+        let _room = self.room;
+        let Some(hub) = want.hub else {
+            return true;
+        };
+        self.hub_keeps(hub, want, placement, shape, steps)
+    }
+
+    /// The greatest microframe sum over a placement's own microframes, with it included, where the placement keeps every budget beside
+    /// what is placed and that sum doesn't pass the limit; `None` exactly where it breaks a budget or passes the limit.
+    pub(crate) fn kept_peak<L: Ledger>(
+        &self,
+        want: &Want,
+        placement: &Placement,
+        shape: &Shape,
+        limit: u64,
+        steps: &mut Steps<L>,
+    ) -> Option<u64>
+        requires want { IsWant want.now }
+        requires shape { IsShape want.now shape.now }
+        requires place { IsOf shape.now placement.now }
+        requires limit { limit ≤ 100000000 }
+        ensures keeps { IfSome result (λ top. keeps self.now.placed want.now placement.now ≡ true) }
+        ensures peak { IfSome result (λ top. top ≡ peak self.now.placed want.now placement.now) }
+        ensures none { IfNone result (keeps self.now.placed want.now placement.now ≡ true → limit < peak self.now.placed want.now placement.now) }
+        ensures steps { steps.new ≤ steps.old + turns placement.now.period * cells want.now }
+    {
+        let Some(peak) = peak_within(&self.loads, placement, &shape.costs, limit, steps) else {
+            return None;
+        };
+        if !self.below_keeps(want, placement, shape, steps) {
+            return None;
+        }
+        Some(peak)
+    }
+
+    /// Places one more.
+    pub(crate) fn join<L: Ledger>(
+        &mut self,
+        want: &Want,
+        placement: &Placement,
+        shape: &Shape,
+        steps: &mut Steps<L>,
+    )
+        requires room { length self.old.placed < self.old.room }
+        requires want { IsWant want.now }
+        requires shape { IsShape want.now shape.now }
+        requires place { IsOf shape.now placement.now }
+        requires fits { Fits (joined self.old.placed want.now placement.now) }
+        requires id { list_any (λ x. nat_eq x.want.id want.now.id) self.old.placed ≡ false }
+        ensures room { self.new.room ≡ self.old.room }
+        ensures placed { self.new.placed ≡ joined self.old.placed want.now placement.now }
+        ensures steps { steps.new ≤ steps.old + turns placement.now.period * cells want.now }
+    {
+        add_microframes(&mut self.loads, placement, &shape.costs, steps);
+        add_below(&mut self.pool, want, placement, shape, steps);
+        self.placed.push_reserved(Placed {
+            want: *want,
+            placement: *placement,
+        });
+    }
+
+    /// Where an id stands in the list.
+    fn place(&self, id: u32) -> Option<usize>
+        ensures place { result ≡ position (λ x. nat_eq x.want.id id) self.now.placed }
+        ensures book { IsBook self.now }
+    {
+        self.placed.iter().position(|x| x.want.id == id)
+    }
+
+    /// Takes out what stands under an id.
+    pub(crate) fn remove(&mut self, id: u32)
+        ensures room { self.new.room ≡ self.old.room }
+        ensures placed { self.new.placed ≡ filter (λ x. not (nat_eq x.want.id id)) self.old.placed }
+    {
+        let Some(i) = self.place(id) else {
+            return;
+        };
+        let x = self.placed[i];
+        sub_microframes(
+            &mut self.loads,
+            &x.placement,
+            &costs_of(&x.want, &x.placement),
+        );
+        self.placed.remove(i);
+        sub_below(&mut self.pool, &self.placed, &x.want, &x.placement);
+    }
+}
+
+/// Adds a placement to the tables of its hub, if it has one.
+fn add_below<L: Ledger>(
+    pool: &mut HubPool,
+    want: &Want,
+    placement: &Placement,
+    shape: &Shape,
+    steps: &mut Steps<L>,
+)
+    requires shape { IsShape want.now shape.now }
+    requires place { IsOf shape.now placement.now }
+    requires free { (hub : ℕ) → hub < 128 → want.now.hub ≡ Some hub → tables_of pool.old hub ≡ None → 1 ≤ length pool.old.free }
+    requires within { (hub : ℕ) → hub < 128 → want.now.hub ≡ Some hub → IfSome (tables_of pool.old hub) AreWithin }
+    ensures pool { (placed : List Placed) → IsPool placed pool.old → IsPool (joined placed want.now placement.now) pool.new }
+    ensures size { pool_size pool.new ≡ pool_size pool.old }
+    ensures steps { steps.new ≤ steps.old + turns placement.now.period * (laid_cells want.now + 1) }
+{
+    let Some(hub) = want.hub else {
+        return;
+    };
+    let _address = hub.get();
+    pool.add(hub, placement, shape.time, &shape.bytes, steps);
+}
+
+/// Whether something is placed below a hub.
+fn is_served(placed: &[Placed], hub: DevAddr) -> bool
+    ensures served { result ≡ serves placed.now hub }
+    ensures hub { hub < 128 }
+{
+    placed.iter().any(|x| is_below(&x.want, hub))
+}
+
+/// Takes a placement out of the tables of its hub, if it has one, and frees them if nothing else is placed below it.
+fn sub_below(pool: &mut HubPool, placed: &[Placed], want: &Want, placement: &Placement)
+    requires want { IsWant want.now }
+    requires place { IsPlace placement.now }
+    requires was { HadMore (record { want = want.now; placement = placement.now }) placed.now pool.old }
+    ensures pool { IsPool placed.now pool.new }
+    ensures size { pool_size pool.new ≡ pool_size pool.old }
+{
+    let Some(hub) = want.hub else {
+        return;
+    };
+    let served = is_served(placed, hub);
+    pool.sub(
+        hub,
+        placement,
+        time_in_frame(want),
+        &byte_times_of(want, placement),
+    );
+    if served {
+        return;
+    }
+    pool.give_back(hub);
+}
