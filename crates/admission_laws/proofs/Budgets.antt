@@ -1,7 +1,8 @@
 -- The budgets hold at the opening, and each command and each event keeps them.
-use Rattle.std.proofs.Common.{◌≡◌, ℕ, ◌+◌, ◌-◌, ◌≤◌, Bool, true, false, List, [], ◌∷◌, ◌++◌, length, cond, slice_get, Option, Some, None, Ok, subst, sym, arith}
+use Rattle.std.proofs.Common.{◌≡◌, ℕ, ◌+◌, ◌-◌, ◌≤◌, Bool, true, false, List, [], ◌∷◌, ◌++◌, length, slice_get, Option, Some, None, Ok, subst, sym, refl, arith}
 use Rattle.std.specs.Prelude.{filter, not, nat_eq}
 use Rattle.std.proofs.lemmas.List.{length-append}
+use Rattle.std.proofs.lemmas.List.Filters.{length-filter_both}
 use Rattle.usb_base.specs.declared.endpoints.EpDesc.{EpDesc}
 use Rattle.usb_base.specs.declared.commands.Cmd.{Cmd}
 use Rattle.usb_base.specs.declared.commands.Cmd.TheVariants as commands
@@ -58,12 +59,7 @@ command_kept d m (commands.Cancel name) o ok old is =
 -- ---- an event
 
 no_more : (test : Placed → Bool) (placed : List Placed) → length (filter test placed) ≤ length placed
-no_more test [] = omega arith
-no_more test (x ∷ xs) = by (test x)
-  where
-    by : (b : Bool) → length (cond b (x ∷ filter test xs) (filter test xs)) ≤ length (x ∷ xs)
-    by true = omega (arith, no_more test xs)
-    by false = omega (arith, no_more test xs)
+no_more test placed = omega (arith, length-filter_both test (λ x. not (test x)) (λ x. refl) placed)
 
 out_kept : (a : Account) (e : ℕ) (o : Option Endpoint) → KeepsBudgets a → KeepsBudgets (taken_out a e o)
 out_kept a e None old = old

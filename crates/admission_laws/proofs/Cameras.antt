@@ -1,21 +1,19 @@
 -- Two cameras: the first is placed, and beside it the second breaks the budget of each microframe.
-use Rattle.std.proofs.Common.{◌≡◌, ℕ, zero, suc, ◌+◌, ◌-◌, ◌/◌, ◌%◌, ◌<◌, ◌≤◌, Bool, true, false, List, [], ◌∷◌, slice_get, Option, Some, None, Result, Ok, Err, subst, sym, refl, ap, ◌∙◌, arith, lit≤}
+use Rattle.std.proofs.Common.{◌≡◌, ℕ, zero, suc, ◌/◌, ◌%◌, ◌≤◌, Bool, true, false, List, [], ◌∷◌, slice_get, Option, Some, None, Ok, Err, subst, refl, ap, ◌∙◌, arith, lit≤}
 use Rattle.std.specs.Prelude.{if◌then◌else◌}
 use Rattle.usb_base.specs.declared.commands.Cmd.TheVariants.{OpenEp}
 use Rattle.usb_base.specs.declared.reports.OfferError.TheVariants.{NoPlacement}
 use Rattle.word_mem.specs.Memory.{Mem}
-use Rattle.bandwidth.specs.declared.placements.Want.{Want}
 use Rattle.bandwidth.specs.declared.placements.Placement.{Placement}
 use Rattle.bandwidth.specs.Placements.{allowed, mask, has}
-use Rattle.bandwidth.specs.Sums.{Fits, load, cost_in, cost_at, is_active}
+use Rattle.bandwidth.specs.Sums.{Fits, load, price, cost_in, cost_at, is_active}
 use Rattle.bandwidth.specs.Admission.{joined, best, chosen}
 use Rattle.bandwidth.proofs.Admits.{best_is, best_none}
-use Rattle.bandwidth.proofs.Budgets.{load_joined, frame_joined, bytes_joined}
+use Rattle.bandwidth.proofs.Budgets.{load_joined}
 use Rattle.periodic_rows.specs.Periodic.{want_of}
 use Rattle.driver_rows.specs.declared.content.Reserve.{Reserve}
-use Rattle.driver_rows.specs.DriverContent.{DriverContent}
 use Rattle.driver_rows.specs.Opening.{opening}
-use Rattle.driver_rows.specs.Offers.{Offered, offered, planned_open, accepted_iso}
+use Rattle.driver_rows.specs.Offers.{offered, planned_open, accepted_iso}
 use Rattle.admission_laws.specs.Budgets.{account_of, KeepsBudgets}
 use Rattle.admission_laws.specs.Opens.{IsNew}
 use Rattle.admission_laws.specs.Worked.{camera, each_microframe}
@@ -41,10 +39,7 @@ either_within false x y n one two = two
 
 its_cost : (e num m : ℕ) → cost_in (want_of e (camera num)) each_microframe m ≤ 61655136
 its_cost e num m =
-    either_within (has 255 m) 61655136 _ 61655136 (lit≤ tt) (either_within (has 0 m) _ 0 61655136 (lit≤ tt) (lit≤ tt))
-
-first : Want
-first = want_of 0 (camera 1)
+    either_within (has 255 m) 61655136 _ 61655136 (lit≤ tt) (either_within (has 0 m) (price (want_of e (camera num)) 188) 0 61655136 (lit≤ tt) (lit≤ tt))
 
 one_load : (u : ℕ) → load (joined [] (want_of 0 (camera 1)) each_microframe) u ≤ 61655136
 one_load u =
@@ -78,9 +73,6 @@ first_accepted n room m some =
     ∙ ap (λ (b : Option Placement). planned_open (opening n room).driver m (camera 1) (chosen b)) (first_of (best [] (want_of 0 (camera 1))) refl)
 
 -- ---- the second
-
-with_first : ℕ → Reserve → DriverContent
-with_first n room = accepted_iso (opening n room).driver (camera 1) each_microframe
 
 first_kept : (n : ℕ) (room : Reserve) → 1 ≤ room.endpoints → KeepsBudgets (account_of (accepted_iso (opening n room).driver (camera 1) each_microframe))
 first_kept n room some = record { fits = one_fits; room = omega (arith, some) }

@@ -1,6 +1,6 @@
 -- What each accepted command does to the plan.
-use Rattle.std.proofs.Common.{◌≡◌, ℕ, ◌-◌, Bool, true, false, List, [], ◌∷◌, slice_get, Option, Some, None, Result, Ok, Err, subst, refl, ap, ◌∙◌}
-use Rattle.std.specs.Prelude.{IfOk, option_and_then, unwrap_or, is_some, nat_lt, nat_le, not, ◌||◌, ◌+◌, length, count_by, if◌then◌else◌}
+use Rattle.std.proofs.Common.{◌≡◌, ℕ, Bool, true, false, List, [], ◌∷◌, Option, Some, None, Result, Ok, Err, refl, ap, ◌∙◌}
+use Rattle.std.specs.Prelude.{IfOk, slice_index, unwrap_or, nat_lt, not, ◌||◌, ◌+◌, length, count_by, if◌then◌else◌}
 use Rattle.std.proofs.lemmas.Result.{IfOk-at_ok}
 use Rattle.usb_base.specs.declared.endpoints.EpName.{EpName}
 use Rattle.usb_base.specs.declared.endpoints.EpDesc.{EpDesc}
@@ -14,14 +14,12 @@ use Rattle.usb_base.specs.declared.reports.OfferError.{OfferError}
 use Rattle.usb_base.specs.declared.reports.OfferError.TheVariants as errors
 use Rattle.word_mem.specs.Memory.{Mem}
 use Rattle.run_book.specs.Book.{Holding, holding}
-use Rattle.bandwidth.specs.declared.placements.Want.{Want}
 use Rattle.bandwidth.specs.declared.placements.Placement.{Placement}
-use Rattle.bandwidth.specs.declared.placements.Refused.{Refused}
-use Rattle.bandwidth.specs.declared.placements.Refused.TheVariants.{NoPlacement, Room}
-use Rattle.bandwidth.specs.Admission.{Admissions, IsBest, best, chosen, answer}
+use Rattle.bandwidth.specs.declared.placements.Refused.TheVariants.{Room}
+use Rattle.bandwidth.specs.Admission.{IsBest, best, chosen, answer}
 use Rattle.bandwidth.proofs.Admits.{best_is}
 use Rattle.frame_chains.specs.declared.members.Member.{Member}
-use Rattle.periodic_rows.specs.Periodic.{is_periodic, want_of}
+use Rattle.periodic_rows.specs.Periodic.{is_periodic}
 use Rattle.periodic_rows.specs.Linking.{begun_next}
 use Rattle.driver_rows.specs.declared.content.Endpoint.{Endpoint}
 use Rattle.driver_rows.specs.declared.content.Slots.{Slots}
@@ -29,21 +27,18 @@ use Rattle.driver_rows.specs.declared.content.Command.TheVariants as unfinished
 use Rattle.driver_rows.specs.DriverContent.{DriverContent, busy, endpoint_of, endpoint_named, waits_for}
 use Rattle.driver_rows.specs.Words.{needs}
 use Rattle.driver_rows.specs.Rows.{is_iso}
-use Rattle.driver_rows.specs.Offers.{Offered, Asked, take_runs, taken_open, taken_chain, placed_open, planned_open, new_open, offered_open}
-use Rattle.driver_rows.specs.Offers.{taken_transfer, open_transfer, found_transfer, offered_transfer, takes_get, takes_put, takes_control}
+use Rattle.driver_rows.specs.Offers.{Offered, Asked, take_runs, new_runs, taken_open, taken_chain, placed_open, planned_open, offered_open}
+use Rattle.driver_rows.specs.Offers.{taken_transfer, open_transfer, found_transfer, takes_get, takes_put, takes_control}
 use Rattle.driver_rows.specs.Offers.{slots_of, iso_needs, taken_iso, open_iso, offered_iso, spans_too_long, has_slots}
 use Rattle.driver_rows.specs.Offers.{with_cancel, accepted_unchain, cancelled_by, endpoint_members, offered_cancel, offered_next, offered}
 use Rattle.admission_laws.specs.Budgets.{account_of}
 use Rattle.admission_laws.specs.Opens.{asked, IsPlaced, OpenAfter, AccountAfter}
-use Rattle.admission_laws.proofs.Events.{next_begun, or_done}
+use Rattle.admission_laws.proofs.Events.{with_plan, next_begun, or_done}
 
 -- where both are, one of two is
 or_else : (P : Offered → Type 0) (b : Bool) (x y : Result Offered OfferError) → IfOk x P → IfOk y P → IfOk (if b then x else y) P
 or_else P true x y one two = one
 or_else P false x y one two = two
-
-Same : DriverContent → Offered → Type 0
-Same d o = account_of o.driver ≡ account_of d
 
 -- ---- transfers
 
@@ -87,7 +82,7 @@ iso_found d m e n len seed (Some x) =
 unchained : (d : DriverContent) (e : ℕ) (x : Endpoint) (ms : List Member) → account_of (accepted_unchain d e x ms) ≡ account_of d
 unchained d e x ms =
     or_done (with_cancel d e x ms) (unfinished.Unchain e)
-    ∙ ap (λ (a : Admissions). record { plan = a; endpoints = d.room.endpoints }) (next_begun true (record d.periodic { queued = ms }))
+    ∙ ap (with_plan d.room.endpoints) (next_begun true (record d.periodic { queued = ms }))
 
 cancelled : (d : DriverContent) (e : ℕ) (x : Endpoint) (o : Option Placement) → account_of (cancelled_by d e x o) ≡ account_of d
 cancelled d e x None = refl
@@ -107,7 +102,7 @@ open_taken d x (Ok h) = refl
 
 chain_taken : (d : DriverContent) (x : EpDesc) (p : Placement) (r : Result Holding OfferError) → IsBest d.periodic.plan.placed (asked d x) p → IfOk (taken_chain d x p r) (IsPlaced d x)
 chain_taken d x p (Err why) good = tt
-chain_taken d x p (Ok h) good = record { placement = p; queue = _; dummy = _; best = good; account = refl; endpoints = refl }
+chain_taken d x p (Ok h) good = record { placement = p; queue = slice_index (new_runs d h) 0; dummy = slice_index (new_runs d h) 1; best = good; account = refl; endpoints = refl }
 
 pub placed_there : (d : DriverContent) (m : Mem) (x : EpDesc) (p : Placement) (k : EpKind) → IsBest d.periodic.plan.placed (asked d x) p → IfOk (placed_open d m x p k) (IsPlaced d x)
 placed_there d m x p kinds.Iso good = record { placement = p; queue = 0; dummy = 0; best = good; account = refl; endpoints = refl }
@@ -137,7 +132,7 @@ open_found d m x None = kind_open d m x (is_periodic x.kind)
 
 -- ---- any command
 
-next_offered : (d : DriverContent) (m : Mem) (cmd : Cmd) → IfOk (offered_next d m cmd) (AccountAfter d cmd)
+next_offered : (d : DriverContent) (m : Mem) (cmd : Cmd) → IfOk (offered_next d m cmd) (λ o. AccountAfter d cmd o)
 next_offered d m (commands.OpenEp x) = open_found d m x (endpoint_named d x.name)
 next_offered d m (commands.Get name len by) = transfer_found d m takes_get _ (unwrap_or (endpoint_of d name) 0) (endpoint_named d name)
 next_offered d m (commands.Put name bytes by) = transfer_found d m takes_put _ (unwrap_or (endpoint_of d name) 0) (endpoint_named d name)
@@ -145,8 +140,8 @@ next_offered d m (commands.Control name setup bytes) = transfer_found d m takes_
 next_offered d m (commands.Iso name count len seed) = iso_found d m (unwrap_or (endpoint_of d name) 0) count len seed (endpoint_named d name)
 next_offered d m (commands.Cancel name) = cancel_found d m (unwrap_or (endpoint_of d name) 0) (endpoint_named d name)
 
-pub command_account : (d : DriverContent) (m : Mem) (cmd : Cmd) → IfOk (offered d m cmd) (AccountAfter d cmd)
-command_account d m cmd = or_else (AccountAfter d cmd) (busy d) (Err errors.Busy) (offered_next d m cmd) tt (next_offered d m cmd)
+pub command_account : (d : DriverContent) (m : Mem) (cmd : Cmd) → IfOk (offered d m cmd) (λ o. AccountAfter d cmd o)
+command_account d m cmd = or_else (λ o. AccountAfter d cmd o) (busy d) (Err errors.Busy) (offered_next d m cmd) tt (next_offered d m cmd)
 
 pub account_of_command : (d : DriverContent) (m : Mem) (cmd : Cmd) (o : Offered) → offered d m cmd ≡ Ok o → AccountAfter d cmd o
-account_of_command d m cmd o is = IfOk-at_ok (AccountAfter d cmd) is (command_account d m cmd)
+account_of_command d m cmd o is = IfOk-at_ok (λ o. AccountAfter d cmd o) is (command_account d m cmd)

@@ -1,6 +1,6 @@
 -- What each event does to the plan.
 use Rattle.std.proofs.Common.{◌≡◌, ℕ, zero, suc, Bool, true, false, List, [], ◌∷◌, slice_get, Option, Some, None, ◌∙◌, refl, ap}
-use Rattle.std.specs.Prelude.{◌+◌, ◌-◌, ◌&&◌, nat_lt, is_none, length, take, drop, if◌then◌else◌}
+use Rattle.std.specs.Prelude.{◌-◌, nat_lt, is_none, length, take, drop, if◌then◌else◌}
 use Rattle.usb_base.specs.declared.endpoints.EndCause.{EndCause}
 use Rattle.usb_base.specs.declared.endpoints.EpName.{EpName}
 use Rattle.word_mem.specs.Memory.{Mem}
@@ -10,7 +10,7 @@ use Rattle.bandwidth.specs.Admission.{Admissions}
 use Rattle.periodic_rows.specs.declared.content.Removed.{Removed}
 use Rattle.periodic_rows.specs.declared.content.Removed.TheVariants as removed
 use Rattle.periodic_rows.specs.Periodic.{PeriodicContent}
-use Rattle.periodic_rows.specs.Linking.{with_first, begun_next, begun}
+use Rattle.periodic_rows.specs.Linking.{with_first, begun_next}
 use Rattle.driver_rows.specs.declared.content.Endpoint.{Endpoint}
 use Rattle.driver_rows.specs.declared.content.Transfer.{Transfer}
 use Rattle.driver_rows.specs.declared.content.Command.{Command}
@@ -20,17 +20,19 @@ use Rattle.driver_rows.specs.declared.rows.Row.TheVariants as rows
 use Rattle.driver_rows.specs.declared.rows.Found.{Found}
 use Rattle.driver_rows.specs.declared.rows.Found.TheVariants as founds
 use Rattle.driver_rows.specs.DriverContent.{DriverContent, waits_for}
-use Rattle.driver_rows.specs.Harvests.{is_stall, noted, end_of, reported}
-
-use Rattle.driver_rows.specs.Rows.{Parts, events_of, links, removes_members, no_command, leave_ring, leave_frames, finished, list_after, or_finished, linked_on, advanced_by, advance, framed_by, after_lend, linked_by, after_row}
-use Rattle.driver_rows.specs.Rows.{after_transfer, freed_by, is_told, cancel_told, after_endpoint, after_unlink, after_descriptor, after_placed, after_removed}
-use Rattle.driver_rows.specs.Rows.{told_with, behind_one, behind, stalled, goes_on, after_end, harvested_as, served, after_harvest}
+use Rattle.driver_rows.specs.Harvests.{is_stall, noted, end_of}
+use Rattle.driver_rows.specs.Rows.{Parts, events_of, links, removes_members, no_command, leave_ring, leave_frames, finished, list_after, or_finished, linked_on, advanced_by, advance, framed_by, with_notes, framed_notes, placement_at, linked_by, after_row}
+use Rattle.driver_rows.specs.Rows.{after_transfer, is_told, cancel_told, after_endpoint, after_unlink, after_descriptor, after_placed, after_removed}
+use Rattle.driver_rows.specs.Rows.{told_with, behind_one, behind, stalled, after_end, harvested_as, served, after_harvest}
 use Rattle.admission_laws.specs.Budgets.{Account, account_of, taken_out, account_after}
 
 -- either way the same
 pub either : {A B : Type 0} (f : A → B) (b : Bool) (x y : A) (z : B) → f x ≡ z → f y ≡ z → f (if b then x else y) ≡ z
 either f true x y z one two = one
 either f false x y z one two = two
+
+abbrev pub with_plan : ℕ → Admissions → Account
+with_plan n plan = record { plan = plan; endpoints = n }
 
 -- ---- a command
 
@@ -63,7 +65,7 @@ or_done d c = either account_of (is_none d.periodic.list.work) (finished d c) d 
 linked : (d : DriverContent) (c : Command) → account_of (linked_on d c) ≡ account_of d
 linked d c =
     or_done (record d { made = length (events_of c); periodic = begun_next (removes_members c) (record d.periodic { list = list_after d c }) }) c
-    ∙ ap (λ (a : Admissions). record { plan = a; endpoints = d.room.endpoints }) (next_begun (removes_members c) (record d.periodic { list = list_after d c }))
+    ∙ ap (with_plan d.room.endpoints) (next_begun (removes_members c) (record d.periodic { list = list_after d c }))
 
 went_on : (d : DriverContent) (c : Option Command) → account_of (advanced_by d c) ≡ account_of d
 went_on d None = refl
@@ -80,7 +82,8 @@ framed d n (Some (unfinished.Open queue)) = refl
 framed d n (Some (unfinished.Publish b words)) = refl
 framed d n (Some (unfinished.Unlink e b link)) = refl
 framed d n (Some unfinished.Chain) = refl
-framed d n (Some (unfinished.Iso e t count)) = advanced _
+framed d n (Some (unfinished.Iso e t count)) =
+    advanced (with_notes d n (take count (drop t d.transfers)) (framed_notes d n e t count (placement_at d e)))
 framed d n (Some (unfinished.Unchain e)) = refl
 
 -- ---- a release
@@ -148,7 +151,7 @@ harvested d m e t found (Some x) (Some y) =
 -- ---- any event
 
 pub account_of_event : (row : Row) (p : Parts) → account_of (after_row row p).driver ≡ account_after row p.driver
-account_of_event rows.Lend p = advanced _
+account_of_event rows.Lend p = advanced (record p.driver { book = (lend_taken (holding p.driver.book p.memory)).book })
 account_of_event (rows.Store b at v) p = advanced p.driver
 account_of_event (rows.Mend w) p = refl
 account_of_event (rows.ReleaseTransfer t) p = transfer_let_go p t (slice_get p.driver.transfers t) _
@@ -158,7 +161,8 @@ account_of_event rows.RingBell p = refl
 account_of_event (rows.ReadStatus heard) p = refl
 account_of_event (rows.ReadFrame n) p = refl
 account_of_event rows.Frames p = framed p.driver p.registers.frame_index p.driver.command
-account_of_event rows.LendDescriptors p = advanced _
+account_of_event rows.LendDescriptors p =
+    advanced (record p.driver { book = (lend_taken (holding p.driver.book (linked_by p.driver p.memory p.driver.command))).book })
 account_of_event (rows.Unlink t) p = unlinked p t (slice_get p.driver.transfers t)
 account_of_event (rows.ReleaseRemoved what) p = removed_let_go p what
 account_of_event (rows.Harvest e t found) p = harvested p.driver p.memory e t found (slice_get p.driver.endpoints e) (slice_get p.driver.transfers t)

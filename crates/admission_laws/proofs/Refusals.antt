@@ -39,15 +39,13 @@ asks_best d m x kept new =
     ∙ ap (λ (b : Bool). planned_open d m x (if b then chosen (best d.periodic.plan.placed (asked d x)) else Err Room)) (has_room d x kept new)
 
 -- runs that aren't found are refused for themselves
-Otherwise : Result Holding OfferError → Type 0
-
 or_run : (h : Holding) (n : ℕ) (ns : List ℕ) (o : Option Holding) → ((more : Holding) → IfErr (take_runs more ns) (λ why. why ≢ errors.NoPlacement)) → IfErr (elim o [ None ↦ Err (errors.NoBlocks n (longest_run h.memory.states)) | Some more ↦ take_runs more ns ]) (λ why. why ≢ errors.NoPlacement)
 or_run h n ns None rest = λ e. cc
 or_run h n ns (Some more) rest = rest more
 
 runs_refused : (ns : List ℕ) (h : Holding) → IfErr (take_runs h ns) (λ why. why ≢ errors.NoPlacement)
 runs_refused [] h = tt
-runs_refused (n ∷ ns) h = or_run h n ns (take_run h n) (runs_refused ns)
+runs_refused (n ∷ ns) h = or_run h n ns (take_run h n) (λ more. runs_refused ns more)
 
 why_is : (a b : OfferError) → ◌≡◌ {A = Result Offered OfferError} (Err a) (Err b) → a ≡ b
 why_is a b e = cc
@@ -73,4 +71,4 @@ refused_exactly d m x kept new = (
 )
 
 pub accepted_best : (d : DriverContent) (m : Mem) (x : EpDesc) (o : Offered) → is_periodic x.kind ≡ true → offered d m (OpenEp x) ≡ Ok o → IsPlaced d x o
-accepted_best d m x o kind is = subst (OpenAfter d x o) kind (account_of_command d m (OpenEp x) o is)
+accepted_best d m x o kind is = subst (λ (b : Bool). OpenAfter d x o b) kind (account_of_command d m (OpenEp x) o is)

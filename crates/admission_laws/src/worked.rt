@@ -1,5 +1,5 @@
 //! Worked rows: the premises computed, and what the laws say of them.
-ghost use Rattle.std.specs.Prelude.{◌≡◌, ◌≢◌, ℕ, ◌≤◌, [], ◌∷◌, Ok, Err};
+ghost use Rattle.std.specs.Prelude.{◌≡◌, ℕ, ◌≤◌, [], ◌∷◌, Ok, Err};
 ghost use Rattle.usb_base.specs.declared.commands.Cmd.TheVariants.{OpenEp};
 ghost use Rattle.usb_base.specs.declared.reports.OfferError.TheVariants.{NoPlacement};
 ghost use Rattle.word_mem.specs.Memory.{Mem};
@@ -8,7 +8,7 @@ ghost use Rattle.bandwidth.specs.Sums.{cost_in, load};
 ghost use Rattle.bandwidth.specs.Admission.{joined};
 ghost use Rattle.periodic_rows.specs.Periodic.{want_of};
 ghost use Rattle.driver_rows.specs.declared.content.Reserve.{Reserve};
-ghost use Rattle.driver_rows.specs.Offers.{Offered, offered, accepted_iso};
+ghost use Rattle.driver_rows.specs.Offers.{offered, accepted_iso};
 ghost use Rattle.driver_rows.specs.Opening.{opening};
 ghost use Rattle.admission_laws.specs.Worked.{camera, each_microframe};
 
