@@ -1,6 +1,6 @@
 -- Endpoint 0 of a hub: the stages of a control transfer over the requests that the hub knows (USB 2.0, 8.5.3 and 11.24).
 -- A reply is taken at the data stage; an effect is made once, when the request is acted on.
-use Rattle.std.specs.Prelude.{ℕ, ◌==◌, Bool, true, false, ◌&&◌, List, [], Option, Some, None, if◌then◌else◌}
+use Rattle.std.specs.Prelude.{◌≡◌, ℕ, ◌==◌, Bool, true, false, ◌&&◌, List, [], Option, Some, None, if◌then◌else◌}
 use Rattle.usb_base.specs.declared.packets.Ask.{Ask}
 use Rattle.usb_base.specs.declared.packets.Reply.{Reply}
 use Rattle.usb_base.specs.declared.packets.Reply.TheVariants.{Silent}
@@ -68,3 +68,8 @@ hub_answered ask out h = if suits ask h then hub_answered_at ask out h else h
 -- the hub after the host's ACK of the data just sent
 abbrev pub hub_acked : Ask → HubContent → HubContent
 hub_acked ask h = if suits ask h then record h { control = stages_acked (reply_under h) h.control } else h
+
+-- where an answer of endpoint 0 acts on a request, the ports change as that request changes them
+abbrev pub ChangesAsRequested : Ask → List ℕ → HubContent → Type 0
+ChangesAsRequested ask out h = (setup : List ℕ) → suits ask h ≡ true → acts_on (row_at ask out h) h.control.request ≡ Some setup
+    → (hub_answered ask out h).ports ≡ (requested setup h).ports

@@ -1,9 +1,9 @@
 //! What follows of a hub's rows.
-ghost use Rattle.std.specs.Prelude.{◌≡◌, ℕ, List, None, Some, true};
+ghost use Rattle.std.specs.Prelude.{◌≡◌, ℕ, List, None};
 ghost use Rattle.usb_base.specs.declared.packets.Ask.{Ask as Asked};
 ghost use Rattle.hub_class.specs.HubContent.{HubContent};
 ghost use Rattle.hub_class.specs.Requesting.{requested, request_at};
-ghost use Rattle.hub_class.specs.EndpointZero.{acts_on, row_at, suits, hub_acked, hub_answered};
+ghost use Rattle.hub_class.specs.EndpointZero.{acts_on, row_at, hub_acked, hub_answered, ChangesAsRequested};
 ghost use Rattle.hub_class.specs.Translating.{HubWorks, transacted};
 
 use usb_base::Wire;
@@ -23,7 +23,7 @@ pub fn acks_and_work_leave_the_ports<W: Wire>()
 /// An answer of endpoint 0 changes the ports only where it acts on a request, and then as that request does.
 pub fn ports_change_by_requests()
     ensures still { (ask : Asked) → (out : List ℕ) → (h : HubContent) → acts_on (row_at ask out h) h.control.request ≡ None → (hub_answered ask out h).ports ≡ h.ports }
-    ensures acts { (ask : Asked) → (out : List ℕ) → (setup : List ℕ) → (h : HubContent) → suits ask h ≡ true → acts_on (row_at ask out h) h.control.request ≡ Some setup → (hub_answered ask out h).ports ≡ (requested setup h).ports }
+    ensures acts { (ask : Asked) → (out : List ℕ) → (h : HubContent) → ChangesAsRequested ask out h }
 {}
 
 /// A request that the hub doesn't know changes nothing.
