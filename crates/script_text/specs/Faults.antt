@@ -20,6 +20,14 @@ Spells text s = script_read text ≡ Ok s
 abbrev pub first_fault : List ℕ → Option (ℕ × TextWhy)
 first_fault text = result_err (script_read text)
 
+-- the text spells a script, and has no fault
+abbrev pub HasScript : List ℕ → Type 0
+HasScript text = (s : Script) × Spells text s × (first_fault text ≡ None)
+
+-- the text has a fault, and spells no script
+abbrev pub HasFault : List ℕ → Type 0
+HasFault text = (fault : ℕ × TextWhy) × (first_fault text ≡ Some fault) × ((s : Script) → Spells text s → ⊥)
+
 -- an error is this first fault, or want of memory
 abbrev pub IsFault : Result Script (ℕ × TextWhy) → TextError → Type 0
 IsFault r (Fault line why) = r ≡ Err (line, why)
