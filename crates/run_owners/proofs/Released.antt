@@ -11,12 +11,14 @@ use Rattle.run_book.specs.declared.slots.Slot.TheVariants.{Empty, Keeps, Lends}
 use Rattle.driver_rows.specs.declared.content.Endpoint.{Endpoint}
 use Rattle.driver_rows.specs.declared.content.Transfer.{Transfer}
 use Rattle.driver_rows.specs.declared.content.QtdNote.{QtdNote}
-use Rattle.driver_rows.specs.DriverContent.{DriverContent}
+use Rattle.periodic_rows.specs.declared.content.DescriptorNote.{DescriptorNote}
+use Rattle.periodic_rows.specs.Periodic.{Periodic}
+use Rattle.driver_rows.specs.DriverContent.{DriverContent, waits_for}
 use Rattle.driver_rows.specs.Harvests.{note_at}
-use Rattle.driver_rows.specs.Rows.{Parts, free_runs, free_qtd, free_qtds, free_transfers, free_endpoint, freed_by, after_transfer, after_endpoint, is_held_of, is_told, cancel_told, let_go}
-use Rattle.run_owners.specs.Owners.{Owner, FrameList, Head, QueueHead, Dummy, Element, Buffer, IsRunFor, EndpointRuns, TransferRuns, runs_of_endpoint, runs_of_transfer, endpoint_in, transfer_in, note_in, AreOwned, IsOwned}
-use Rattle.run_owners.proofs.Runs.{owned_kept}
-use Rattle.run_owners.proofs.Freeing.{runs_freed, qtds_freed, transfers_freed}
+use Rattle.driver_rows.specs.Rows.{Parts, free_runs, free_qtd, free_qtds, free_transfers, free_endpoint, free_descriptor, free_descriptors, freed_by, after_transfer, after_endpoint, after_descriptor, is_iso, is_held_of, is_told, cancel_told, let_go}
+use Rattle.run_owners.specs.Owners.{Owner, FrameList, Head, QueueHead, Dummy, Element, Described, Buffer, IsRunFor, EndpointRuns, TransferRuns, is_descriptor, runs_of_endpoint, runs_of_transfer, endpoint_in, transfer_in, note_in, buffer_in, Views, views_of, AreOwned, IsOwned}
+use Rattle.run_owners.proofs.Runs.{AreKept, owned_kept}
+use Rattle.run_owners.proofs.Freeing.{runs_freed, qtds_freed, transfers_freed, descriptor_freed, descriptors_freed}
 
 -- ---- as many slots
 
@@ -45,6 +47,16 @@ many_transfers notes e h [] = refl
 many_transfers notes e h (y ∷ ts) =
     many_transfers notes e (cond (is_held_of e y) (free_qtds notes h y.first y.qtds) h) ts
     ∙ many_held (is_held_of e y) h (free_qtds notes h y.first y.qtds) (many_qtds notes h y.first y.qtds)
+
+many_descriptor : (notes : List DescriptorNote) (h : Holding) (b : ℕ) → length (free_descriptor notes h b).book.slots ≡ length h.book.slots
+many_descriptor notes h b = many_runs h (b ∷ buffer_in notes b)
+
+many_descriptors : (notes : List DescriptorNote) (e : ℕ) (h : Holding) (ts : List Transfer) → length (free_descriptors notes e h ts).book.slots ≡ length h.book.slots
+unfolding free_descriptors
+many_descriptors notes e h [] = refl
+many_descriptors notes e h (y ∷ ts) =
+    many_descriptors notes e (cond (waits_for e y) (free_descriptor notes h y.first) h) ts
+    ∙ many_held (waits_for e y) h (free_descriptor notes h y.first) (many_descriptor notes h y.first)
 
 -- ---- tests of numbers
 
@@ -76,6 +88,7 @@ goes_transfer t Head = false
 goes_transfer t (QueueHead e) = false
 goes_transfer t (Dummy e) = false
 goes_transfer t (Element u) = u == t
+goes_transfer t (Described u) = u == t
 goes_transfer t (Buffer u) = u == t
 
 other_transfers : (ts : List Transfer) (t : ℕ) (x : Transfer) (u : ℕ) (y : TransferRuns) → slice_get ts t ≡ Some x → transfer_in (set ts t (record x { released = true })) u ≡ Some y → y.released ≡ false → (u ≢ t) × (transfer_in ts u ≡ Some y)
@@ -97,15 +110,47 @@ transfer_owned p t owner x here on old =
     let g = free_qtds d.notes h x.first x.qtds in
     let pieces = old.each.pieces t (runs_of_transfer x) (ap (option_map runs_of_transfer) here) on in
     record {
-      each = owned_kept (slot_of d.book.slots) (slot_of g.book.slots) (endpoint_in d.endpoints) (endpoint_in d.endpoints) (transfer_in d.transfers) (transfer_in (set d.transfers t (record x { released = true }))) (note_in d.notes) (note_in d.notes) owner (goes_transfer t) refl refl
-          (λ c stays run. subst (λ (s : Slot). IsRunFor (owner c) s) (sym (qtds_freed (slot_of d.book.slots) owner (goes_transfer t) d.notes h t x.first x.qtds c stays (same_number t) (same_number t) pieces)) run)
-          (λ e y there gone. (there, refl, refl))
-          (λ u y there gone.
-          let o = other_transfers d.transfers t x u y here there gone in
-          (o.1, other_number u t o.0, other_number u t o.0))
-          (λ c. refl)
+      each = owned_kept (views_of d) (record (views_of d) { slot = slot_of g.book.slots; transfer = transfer_in (set d.transfers t (record x { released = true })) }) owner (goes_transfer t)
+          (record {
+            list = refl;
+            head = refl;
+            runs = λ c stays run. subst (λ (s : Slot). IsRunFor (owner c) s) (sym (qtds_freed (slot_of d.book.slots) owner (goes_transfer t) d.notes h t x.first x.qtds c stays (same_number t) (same_number t) pieces)) run;
+            endpoints = λ e y there gone. (there, record { queue = refl; dummy = refl });
+            transfers = λ u y there gone.
+                let o = other_transfers d.transfers t x u y here there gone in
+                (o.1, record { element = other_number u t o.0; descriptor = other_number u t o.0; buffer = other_number u t o.0 });
+            notes = λ c. refl;
+            buffers = λ c. refl;
+          })
           old.each;
       sizes = old.sizes ∙ sym (many_qtds d.notes h x.first x.qtds);
+      as_many = old.as_many ∙ sym (many_qtds d.notes h x.first x.qtds);
+    }
+
+-- a descriptor
+pub descriptor_owned : (p : Parts) (t : ℕ) (owner : ℕ → Owner) (x : Transfer) → slice_get p.driver.transfers t ≡ Some x → is_descriptor x.sort ≡ true → x.released ≡ false → IsOwned p.driver owner → IsOwned (after_descriptor p t (Some x)).driver owner
+unfolding goes_transfer
+descriptor_owned p t owner x here sort on old =
+    let d = p.driver in
+    let h = holding d.book p.memory in
+    let g = free_descriptor d.periodic.notes h x.first in
+    let is = old.each.described t (runs_of_transfer x) (ap (option_map runs_of_transfer) here) sort on in
+    record {
+      each = owned_kept (views_of d) (record (views_of d) { slot = slot_of g.book.slots; transfer = transfer_in (set d.transfers t (record x { released = true })) }) owner (goes_transfer t)
+          (record {
+            list = refl;
+            head = refl;
+            runs = λ c stays run. subst (λ (s : Slot). IsRunFor (owner c) s) (sym (descriptor_freed (slot_of d.book.slots) owner (goes_transfer t) d.periodic.notes h t x.first c stays (same_number t) (same_number t) is)) run;
+            endpoints = λ e y there gone. (there, record { queue = refl; dummy = refl });
+            transfers = λ u y there gone.
+                let o = other_transfers d.transfers t x u y here there gone in
+                (o.1, record { element = other_number u t o.0; descriptor = other_number u t o.0; buffer = other_number u t o.0 });
+            notes = λ c. refl;
+            buffers = λ c. refl;
+          })
+          old.each;
+      sizes = old.sizes ∙ sym (many_descriptor d.periodic.notes h x.first);
+      as_many = old.as_many ∙ sym (many_descriptor d.periodic.notes h x.first);
     }
 
 -- ---- an endpoint
@@ -120,23 +165,35 @@ goes_endpoint e ts Head = false
 goes_endpoint e ts (QueueHead u) = u == e
 goes_endpoint e ts (Dummy u) = u == e
 goes_endpoint e ts (Element t) = held_at e (slice_get ts t)
+goes_endpoint e ts (Described t) = held_at e (slice_get ts t)
 goes_endpoint e ts (Buffer t) = held_at e (slice_get ts t)
 
-other_endpoints : (xs : List Endpoint) (e : ℕ) (x : Endpoint) (u : ℕ) (y : EndpointRuns) → slice_get xs e ≡ Some x → endpoint_in (set xs e (record x { gone = true })) u ≡ Some y → y.gone ≡ false → (u ≢ e) × (endpoint_in xs u ≡ Some y)
+other_endpoints : (xs : List Endpoint) (e : ℕ) (x : Endpoint) (u : ℕ) (y : EndpointRuns) → slice_get xs e ≡ Some x → endpoint_in (set xs e (record x { gone = true })) u ≡ Some y → y.bare ≡ false → (u ≢ e) × (endpoint_in xs u ≡ Some y)
 other_endpoints xs e x u y here there on =
     ⊎_elim
     (λ (same : u ≡ e).
     let is : Some (runs_of_endpoint (record x { gone = true })) ≡ Some y =
     sym (ap (option_map runs_of_endpoint) (set_here xs e x (record x { gone = true }) here)) ∙ ap (λ k. endpoint_in (set xs e (record x { gone = true })) k) (sym same) ∙ there in
-    let r : true ≡ y.gone = ap (λ (z : EndpointRuns). z.gone) (same_Some _ y is) in
-    absurd (false≢true (sym on ∙ sym r)))
+    let r : is_iso x.desc.kind || true ≡ y.bare = ap (λ (z : EndpointRuns). z.bare) (same_Some _ y is) in
+    absurd (false≢true (sym on ∙ sym r ∙ or_true (is_iso x.desc.kind))))
     (λ (differs : u ≢ e). (differs, sym (ap (option_map runs_of_endpoint) (set_there xs e u (record x { gone = true }) differs)) ∙ there))
     (cases_eq u e)
+  where
+    or_true : (b : Bool) → b || true ≡ true
+    or_true true = refl
+    or_true false = refl
 
 -- a transfer that isn't given back is another endpoint's
 kept_one : (e : ℕ) (told : Bool) (b : Bool) (z : Transfer) (y : TransferRuns) → (z.endpoint == e) ≡ b → runs_of_transfer (cond b (record z { reported = z.reported || told; released = true }) z) ≡ y → y.released ≡ false → (runs_of_transfer z ≡ y) × (is_held_of e z ≡ false)
 kept_one e told true z y test is on = absurd (false≢true (sym on ∙ sym (ap (λ (r : TransferRuns). r.released) is)))
 kept_one e told false z y test is on = (is, ap (λ b. b && not z.released) test)
+
+-- what tells runs, and what left the frames, is the same
+pub record AreUntouched (d f : DriverContent) : Type 0 where
+  pub endpoints : f.endpoints ≡ d.endpoints
+  pub transfers : f.transfers ≡ d.transfers
+  pub notes : f.notes ≡ d.notes
+  pub periodic : f.periodic ≡ d.periodic
 
 kept_transfer : (e : ℕ) (told : Bool) (o : Option Transfer) (y : TransferRuns) → option_map runs_of_transfer (option_map (let_go e told) o) ≡ Some y → y.released ≡ false → (option_map runs_of_transfer o ≡ Some y) × (held_at e o ≡ false)
 unfolding held_at
@@ -145,37 +202,47 @@ kept_transfer e told (Some z) y there on =
     let k = kept_one e told (z.endpoint == e) z y refl (same_Some (runs_of_transfer (let_go e told z)) y there) on in
     (ap Some k.0, k.1)
 
-told_is : (d e : DriverContent) (b : Bool) → e.endpoints ≡ d.endpoints → e.transfers ≡ d.transfers → e.notes ≡ d.notes → (((cond b e d).endpoints ≡ d.endpoints) × ((cond b e d).transfers ≡ d.transfers)) × ((cond b e d).notes ≡ d.notes)
-told_is d e true xs ts ns = ((xs, ts), ns)
-told_is d e false xs ts ns = ((refl, refl), refl)
+told_is : (d e : DriverContent) (b : Bool) → e.endpoints ≡ d.endpoints → e.transfers ≡ d.transfers → e.notes ≡ d.notes → e.periodic ≡ d.periodic → AreUntouched d (cond b e d)
+told_is d e true xs ts ns ps = record { endpoints = xs; transfers = ts; notes = ns; periodic = ps }
+told_is d e false xs ts ns ps = record { endpoints = refl; transfers = refl; notes = refl; periodic = refl }
 
-pub cancel_same : (d : DriverContent) (m : Mem) (e : ℕ) (x : Endpoint) → (((cancel_told d m e x).endpoints ≡ d.endpoints) × ((cancel_told d m e x).transfers ≡ d.transfers)) × ((cancel_told d m e x).notes ≡ d.notes)
-cancel_same d m e x = told_is d _ (is_told x) refl refl refl
+pub cancel_same : (d : DriverContent) (m : Mem) (e : ℕ) (x : Endpoint) → AreUntouched d (cancel_told d m e x)
+cancel_same d m e x = told_is d _ (is_told x) refl refl refl refl
 
-endpoint_each : (d : DriverContent) (m : Mem) (e : ℕ) (owner : ℕ → Owner) (x : Endpoint) (told : Bool) → slice_get d.endpoints e ≡ Some x → x.gone ≡ false → IsOwned d owner → AreOwned (slot_of (free_endpoint d e x (holding d.book m)).book.slots) (endpoint_in (set d.endpoints e (record x { gone = true }))) (transfer_in (map (let_go e told) d.transfers)) (note_in d.notes) owner
+-- what is left of the content once an endpoint's runs were given back
+abbrev left_views : DriverContent → Holding → ℕ → Endpoint → List Transfer → Views
+left_views d g e x ts = record (views_of d) { slot = slot_of g.book.slots; endpoint = endpoint_in (set d.endpoints e (record x { gone = true })); transfer = transfer_in ts }
+
+endpoint_each : (d : DriverContent) (m : Mem) (e : ℕ) (owner : ℕ → Owner) (x : Endpoint) (told : Bool) → slice_get d.endpoints e ≡ Some x → x.gone ≡ false → is_iso x.desc.kind ≡ false → IsOwned d owner → AreOwned (left_views d (free_endpoint d e x (holding d.book m)) e x (map (let_go e told) d.transfers)) owner
 unfolding goes_endpoint held_at
-endpoint_each d m e owner x told here on old =
+endpoint_each d m e owner x told here on queued old =
     let h = holding d.book m in
     let goes = goes_endpoint e d.transfers in
     let ring = ap (option_map runs_of_endpoint) here in
-    let queue = old.each.queue e (runs_of_endpoint x) ring on in
-    let dummy = old.each.dummy e (runs_of_endpoint x) ring on in
-    owned_kept (slot_of d.book.slots) (slot_of (free_endpoint d e x h).book.slots) (endpoint_in d.endpoints) (endpoint_in (set d.endpoints e (record x { gone = true }))) (transfer_in d.transfers) (transfer_in (map (let_go e told) d.transfers)) (note_in d.notes) (note_in d.notes) owner goes refl refl
-    (λ c stays run.
-    let away : (b : ℕ) (o : Owner) → goes o ≡ true → owner b ≡ o → c ≢ b = λ b o gone is same. false≢true (sym stays ∙ ap (λ k. goes (owner k)) same ∙ ap goes is ∙ gone) in
-    let first = runs_freed h (x.queue ∷ x.dummy ∷ []) c (away x.queue (QueueHead e) (same_number e) queue.owned, (away x.dummy (Dummy e) (same_number e) dummy.owned, tt)) in
-    let rest = transfers_freed (slot_of d.book.slots) owner goes d.notes e c 0 (free_runs h (x.queue ∷ x.dummy ∷ [])) d.transfers stays
-    (λ i y there held.
-    let test : held_at e (slice_get d.transfers i) ≡ true = ap (held_at e) there ∙ held in
-    (i, test, test, old.each.pieces i (runs_of_transfer y) (ap (option_map runs_of_transfer) there) (held_kept e y held))) in
-    subst (λ (s : Slot). IsRunFor (owner c) s) (sym (rest ∙ first)) run)
-    (λ u y there gone.
-    let o = other_endpoints d.endpoints e x u y here there gone in
-    (o.1, other_number u e o.0, other_number u e o.0))
-    (λ t y there gone.
-    let k = kept_transfer e told (slice_get d.transfers t) y (sym (ap (option_map runs_of_transfer) (slice_get-map (let_go e told) d.transfers t)) ∙ there) gone in
-    (k.0, k.1, k.1))
-    (λ c. refl)
+    let bare : is_iso x.desc.kind || x.gone ≡ false = ap (λ b. b || x.gone) queued ∙ on in
+    let queue = old.each.queue e (runs_of_endpoint x) ring bare in
+    let dummy = old.each.dummy e (runs_of_endpoint x) ring bare in
+    owned_kept (views_of d) (left_views d (free_endpoint d e x h) e x (map (let_go e told) d.transfers)) owner goes
+    (record {
+      list = refl;
+      head = refl;
+      runs = λ c stays run.
+          let away : (b : ℕ) (o : Owner) → goes o ≡ true → owner b ≡ o → c ≢ b = λ b o gone is same. false≢true (sym stays ∙ ap (λ k. goes (owner k)) same ∙ ap goes is ∙ gone) in
+          let first = runs_freed h (x.queue ∷ x.dummy ∷ []) c (away x.queue (QueueHead e) (same_number e) queue.owned, (away x.dummy (Dummy e) (same_number e) dummy.owned, tt)) in
+          let rest = transfers_freed (slot_of d.book.slots) owner goes d.notes e c 0 (free_runs h (x.queue ∷ x.dummy ∷ [])) d.transfers stays
+          (λ i y there held.
+          let test : held_at e (slice_get d.transfers i) ≡ true = ap (held_at e) there ∙ held in
+          (i, test, test, old.each.pieces i (runs_of_transfer y) (ap (option_map runs_of_transfer) there) (held_kept e y held))) in
+          subst (λ (s : Slot). IsRunFor (owner c) s) (sym (rest ∙ first)) run;
+      endpoints = λ u y there gone.
+          let o = other_endpoints d.endpoints e x u y here there gone in
+          (o.1, record { queue = other_number u e o.0; dummy = other_number u e o.0 });
+      transfers = λ t y there gone.
+          let k = kept_transfer e told (slice_get d.transfers t) y (sym (ap (option_map runs_of_transfer) (slice_get-map (let_go e told) d.transfers t)) ∙ there) gone in
+          (k.0, record { element = k.1; descriptor = k.1; buffer = k.1 });
+      notes = λ c. refl;
+      buffers = λ c. refl;
+    })
     old.each
   where
     held_kept : (e : ℕ) (y : Transfer) → is_held_of e y ≡ true → y.released ≡ false
@@ -186,15 +253,22 @@ endpoint_each d m e owner x told here on old =
         two true true t = absurd (false≢true t)
         two false true t = absurd (false≢true t)
 
-pub endpoint_owned : (p : Parts) (e : ℕ) (owner : ℕ → Owner) (x : Endpoint) → slice_get p.driver.endpoints e ≡ Some x → x.gone ≡ false → IsOwned p.driver owner → IsOwned (after_endpoint p e (Some x)).driver owner
-endpoint_owned p e owner x here on old =
+-- the same of a content in which only the report differs
+owned_told : (d f : DriverContent) (g : Holding) (e : ℕ) (owner : ℕ → Owner) (x : Endpoint) (go : Transfer → Transfer) → AreUntouched d f → AreOwned (left_views d g e x (map go d.transfers)) owner → AreOwned (left_views f g e x (map go f.transfers)) owner
+owned_told d f g e owner x go same old =
+    subst (λ (ns : List DescriptorNote). AreOwned (record (left_views f g e x (map go f.transfers)) { buffer = buffer_in ns }) owner) (sym (ap (λ (q : Periodic). q.notes) same.periodic))
+    (subst (λ (ns : List QtdNote). AreOwned (record (left_views d g e x (map go f.transfers)) { endpoint = endpoint_in (set f.endpoints e (record x { gone = true })); note = note_in ns }) owner) (sym same.notes)
+    (subst (λ (xs : List Endpoint). AreOwned (record (left_views d g e x (map go f.transfers)) { endpoint = endpoint_in (set xs e (record x { gone = true })) }) owner) (sym same.endpoints)
+    (subst (λ (ts : List Transfer). AreOwned (left_views d g e x (map go ts)) owner) (sym same.transfers) old)))
+
+pub endpoint_owned : (p : Parts) (e : ℕ) (owner : ℕ → Owner) (x : Endpoint) → slice_get p.driver.endpoints e ≡ Some x → x.gone ≡ false → is_iso x.desc.kind ≡ false → IsOwned p.driver owner → IsOwned (after_endpoint p e (Some x)).driver owner
+endpoint_owned p e owner x here on queued old =
     let d = p.driver in
     let h = holding d.book p.memory in
     let same = cancel_same d p.memory e x in
+    let many = many_transfers d.notes e (free_runs h (x.queue ∷ x.dummy ∷ [])) d.transfers ∙ many_runs h (x.queue ∷ x.dummy ∷ []) in
     record {
-      each = subst (λ (ts : List Transfer). AreOwned (slot_of (free_endpoint d e x h).book.slots) (endpoint_in (set (cancel_told d p.memory e x).endpoints e (record x { gone = true }))) (transfer_in (map (let_go e (is_told x)) ts)) (note_in (cancel_told d p.memory e x).notes) owner) (sym same.0.1)
-          (subst (λ (xs : List Endpoint). AreOwned (slot_of (free_endpoint d e x h).book.slots) (endpoint_in (set xs e (record x { gone = true }))) (transfer_in (map (let_go e (is_told x)) d.transfers)) (note_in (cancel_told d p.memory e x).notes) owner) (sym same.0.0)
-          (subst (λ (ns : List QtdNote). AreOwned (slot_of (free_endpoint d e x h).book.slots) (endpoint_in (set d.endpoints e (record x { gone = true }))) (transfer_in (map (let_go e (is_told x)) d.transfers)) (note_in ns) owner) (sym same.1)
-          (endpoint_each d p.memory e owner x (is_told x) here on old)));
-      sizes = ap length same.1 ∙ (old.sizes ∙ sym (many_transfers d.notes e (free_runs h (x.queue ∷ x.dummy ∷ [])) d.transfers ∙ many_runs h (x.queue ∷ x.dummy ∷ [])));
+      each = owned_told d (cancel_told d p.memory e x) (free_endpoint d e x h) e owner x (let_go e (is_told x)) same (endpoint_each d p.memory e owner x (is_told x) here on queued old);
+      sizes = ap length same.notes ∙ (old.sizes ∙ sym many);
+      as_many = ap (λ (q : Periodic). length q.notes) same.periodic ∙ (old.as_many ∙ sym many);
     }

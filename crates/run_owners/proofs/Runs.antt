@@ -4,7 +4,7 @@ use Rattle.std.specs.List.{AllByRecursion}
 use Rattle.run_book.specs.declared.slots.Slot.{Slot}
 use Rattle.run_book.specs.declared.slots.Slot.TheVariants.{Empty, Keeps, Lends}
 use Rattle.driver_rows.specs.Words.{head_block}
-use Rattle.run_owners.specs.Owners.{Owner, FrameList, Head, QueueHead, Dummy, Element, Buffer, HasBlocks, HasRun, IsRunFor, IsPlaced, EndpointRuns, TransferRuns, NoteRuns, ArePieces, AreOwned}
+use Rattle.run_owners.specs.Owners.{Owner, FrameList, Head, QueueHead, Dummy, Element, Described, Buffer, HasBlocks, HasRun, IsRunFor, IsPlaced, EndpointRuns, TransferRuns, NoteRuns, ArePieces, IsDescribed, Views, AreOwned}
 
 pub all_still : {P Q : ℕ → Type 0} (xs : List ℕ) → ((c : ℕ) → P c → Q c) → AllByRecursion P xs → AllByRecursion Q xs
 all_still [] each all = tt
@@ -22,6 +22,7 @@ has_run Head s h = blocks_run 2 s h
 has_run (QueueHead e) s h = blocks_run 2 s h
 has_run (Dummy e) s h = blocks_run 1 s h
 has_run (Element t) s h = blocks_run 1 s h
+has_run (Described t) s h = blocks_run 2 s h
 has_run (Buffer t) s h = h
 
 pub placed_run : {slot : ℕ → Slot} {owner : ℕ → Owner} (b : ℕ) (o : Owner) → IsPlaced slot owner b o → HasRun (slot b)
@@ -39,6 +40,13 @@ pieces_still slot now owner mine note other t b (suc n) elements buffers same al
       subst (λ (r : NoteRuns). ArePieces now mine other t r.next n) (sym here) (pieces_still slot now owner mine note other t (note b).next n elements buffers same all.1),
     )
 
+-- and so does a descriptor
+pub described_still : (slot now : ℕ → Slot) (owner mine : ℕ → Owner) (buffer other : List ℕ) (t b : ℕ) → ((c : ℕ) → IsPlaced slot owner c (Described t) → IsPlaced now mine c (Described t)) → ((c : ℕ) → IsPlaced slot owner c (Buffer t) → IsPlaced now mine c (Buffer t)) → (IsPlaced slot owner b (Described t) → other ≡ buffer) → IsDescribed slot owner buffer t b → IsDescribed now mine other t b
+described_still slot now owner mine buffer other t b descriptors buffers same old = record {
+  descriptor = descriptors b old.descriptor;
+  buffers = subst (λ (bs : List ℕ). AllByRecursion (λ c. IsPlaced now mine c (Buffer t)) bs) (sym (same old.descriptor)) (all_still buffer buffers old.buffers);
+}
+
 -- one run goes on standing where its owner isn't one that goes
 still : (slot now : ℕ → Slot) (owner : ℕ → Owner) (goes : Owner → Bool) (b : ℕ) (o : Owner) → ((c : ℕ) → goes (owner c) ≡ false → IsRunFor (owner c) (slot c) → IsRunFor (owner c) (now c)) → goes o ≡ false → IsPlaced slot owner b o → IsPlaced now owner b o
 still slot now owner goes b o each stays p = record {
@@ -46,26 +54,63 @@ still slot now owner goes b o each stays p = record {
   run = subst (λ (q : Owner). IsRunFor q (now b)) p.owned (each b (ap goes p.owned ∙ stays) (subst (λ (q : Owner). IsRunFor q (slot b)) (sym p.owned) p.run));
 }
 
+-- the owners of a queue, and of a transfer, are none that go
+pub record QueueStays (goes : Owner → Bool) (e : ℕ) : Type 0 where
+  pub queue : goes (QueueHead e) ≡ false
+  pub dummy : goes (Dummy e) ≡ false
+
+pub record TransferStays (goes : Owner → Bool) (t : ℕ) : Type 0 where
+  pub element : goes (Element t) ≡ false
+  pub descriptor : goes (Described t) ≡ false
+  pub buffer : goes (Buffer t) ≡ false
+
 -- what is left once some owners' runs were given back, and all others' stand
-pub owned_kept : (slot now : ℕ → Slot) (endpoint endpoint2 : ℕ → Option EndpointRuns) (transfer transfer2 : ℕ → Option TransferRuns) (note note2 : ℕ → NoteRuns) (owner : ℕ → Owner) (goes : Owner → Bool) → goes FrameList ≡ false → goes Head ≡ false → ((c : ℕ) → goes (owner c) ≡ false → IsRunFor (owner c) (slot c) → IsRunFor (owner c) (now c)) → ((e : ℕ) (x : EndpointRuns) → endpoint2 e ≡ Some x → x.gone ≡ false → (endpoint e ≡ Some x) × (goes (QueueHead e) ≡ false) × (goes (Dummy e) ≡ false)) → ((t : ℕ) (y : TransferRuns) → transfer2 t ≡ Some y → y.released ≡ false → (transfer t ≡ Some y) × (goes (Element t) ≡ false) × (goes (Buffer t) ≡ false)) → ((c : ℕ) → note2 c ≡ note c) → AreOwned slot endpoint transfer note owner → AreOwned now endpoint2 transfer2 note2 owner
-owned_kept slot now endpoint endpoint2 transfer transfer2 note note2 owner goes list head each queues chains notes old = record {
-  list = still slot now owner goes 0 FrameList each list old.list;
-  head = still slot now owner goes head_block Head each head old.head;
-  queue = λ e x there on. let was = queues e x there on in still slot now owner goes x.queue (QueueHead e) each was.1 (old.queue e x was.0 on);
-  dummy = λ e x there on. let was = queues e x there on in still slot now owner goes x.dummy (Dummy e) each was.2 (old.dummy e x was.0 on);
+pub record AreKept (v w : Views) (owner : ℕ → Owner) (goes : Owner → Bool) : Type 0 where
+  pub list : goes FrameList ≡ false
+  pub head : goes Head ≡ false
+  pub runs : (c : ℕ) → goes (owner c) ≡ false → IsRunFor (owner c) (v.slot c) → IsRunFor (owner c) (w.slot c)
+  pub endpoints : (e : ℕ) (x : EndpointRuns) → w.endpoint e ≡ Some x → x.bare ≡ false → (v.endpoint e ≡ Some x) × QueueStays goes e
+  pub transfers : (t : ℕ) (y : TransferRuns) → w.transfer t ≡ Some y → y.released ≡ false → (v.transfer t ≡ Some y) × TransferStays goes t
+  pub notes : (c : ℕ) → w.note c ≡ v.note c
+  pub buffers : (c : ℕ) → w.buffer c ≡ v.buffer c
+
+pub owned_kept : (v w : Views) (owner : ℕ → Owner) (goes : Owner → Bool) → AreKept v w owner goes → AreOwned v owner → AreOwned w owner
+owned_kept v w owner goes kept old = record {
+  list = still v.slot w.slot owner goes 0 FrameList kept.runs kept.list old.list;
+  head = still v.slot w.slot owner goes head_block Head kept.runs kept.head old.head;
+  queue = λ e x there on. let was = kept.endpoints e x there on in still v.slot w.slot owner goes x.queue (QueueHead e) kept.runs was.1.queue (old.queue e x was.0 on);
+  dummy = λ e x there on. let was = kept.endpoints e x there on in still v.slot w.slot owner goes x.dummy (Dummy e) kept.runs was.1.dummy (old.dummy e x was.0 on);
   pieces = λ t y there on.
-      let was = chains t y there on in
-      pieces_still slot now owner owner note note2 t y.first y.qtds
-      (λ c p. still slot now owner goes c (Element t) each was.1 p)
-      (λ c p. still slot now owner goes c (Buffer t) each was.2 p)
-      (λ c p. notes c) (old.pieces t y was.0 on);
+      let was = kept.transfers t y there on in
+      pieces_still v.slot w.slot owner owner v.note w.note t y.first y.qtds
+      (λ c p. still v.slot w.slot owner goes c (Element t) kept.runs was.1.element p)
+      (λ c p. still v.slot w.slot owner goes c (Buffer t) kept.runs was.1.buffer p)
+      (λ c p. kept.notes c) (old.pieces t y was.0 on);
+  described = λ t y there iso on.
+      let was = kept.transfers t y there on in
+      described_still v.slot w.slot owner owner (v.buffer y.first) (w.buffer y.first) t y.first
+      (λ c p. still v.slot w.slot owner goes c (Described t) kept.runs was.1.descriptor p)
+      (λ c p. still v.slot w.slot owner goes c (Buffer t) kept.runs was.1.buffer p)
+      (λ p. kept.buffers y.first) (old.described t y was.0 iso on);
 }
 
 -- and where nothing goes
-pub owned_stays : (slot now : ℕ → Slot) (endpoint endpoint2 : ℕ → Option EndpointRuns) (transfer transfer2 : ℕ → Option TransferRuns) (note note2 : ℕ → NoteRuns) (owner : ℕ → Owner) → ((c : ℕ) (o : Owner) → IsRunFor o (slot c) → IsRunFor o (now c)) → ((e : ℕ) → endpoint2 e ≡ endpoint e) → ((t : ℕ) → transfer2 t ≡ transfer t) → ((c : ℕ) → note2 c ≡ note c) → AreOwned slot endpoint transfer note owner → AreOwned now endpoint2 transfer2 note2 owner
-owned_stays slot now endpoint endpoint2 transfer transfer2 note note2 owner runs endpoints transfers notes old =
-    owned_kept slot now endpoint endpoint2 transfer transfer2 note note2 owner (λ o. false) refl refl
-    (λ c stays run. runs c (owner c) run)
-    (λ e x there on. (sym (endpoints e) ∙ there, refl, refl))
-    (λ t y there on. (sym (transfers t) ∙ there, refl, refl))
-    notes old
+pub record AreSame (v w : Views) : Type 0 where
+  pub runs : (c : ℕ) (o : Owner) → IsRunFor o (v.slot c) → IsRunFor o (w.slot c)
+  pub endpoints : (e : ℕ) → w.endpoint e ≡ v.endpoint e
+  pub transfers : (t : ℕ) → w.transfer t ≡ v.transfer t
+  pub notes : (c : ℕ) → w.note c ≡ v.note c
+  pub buffers : (c : ℕ) → w.buffer c ≡ v.buffer c
+
+pub owned_stays : (v w : Views) (owner : ℕ → Owner) → AreSame v w → AreOwned v owner → AreOwned w owner
+owned_stays v w owner same old =
+    owned_kept v w owner (λ o. false)
+    (record {
+      list = refl;
+      head = refl;
+      runs = λ c stays run. same.runs c (owner c) run;
+      endpoints = λ e x there on. (sym (same.endpoints e) ∙ there, record { queue = refl; dummy = refl });
+      transfers = λ t y there on. (sym (same.transfers t) ∙ there, record { element = refl; descriptor = refl; buffer = refl });
+      notes = same.notes;
+      buffers = same.buffers;
+    }) old

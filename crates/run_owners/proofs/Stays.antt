@@ -11,15 +11,16 @@ use Rattle.run_book.specs.declared.slots.Slot.TheVariants.{Empty, Keeps, Lends}
 use Rattle.driver_rows.specs.declared.content.Endpoint.{Endpoint}
 use Rattle.driver_rows.specs.declared.content.Transfer.{Transfer}
 use Rattle.driver_rows.specs.declared.content.QtdNote.{QtdNote}
+use Rattle.periodic_rows.specs.declared.content.DescriptorNote.{DescriptorNote}
 use Rattle.driver_rows.specs.declared.content.Command.{Command}
 use Rattle.driver_rows.specs.declared.content.Command.TheVariants as unfinished
 use Rattle.driver_rows.specs.declared.rows.Found.{Found}
 use Rattle.driver_rows.specs.declared.rows.Found.TheVariants as founds
 use Rattle.driver_rows.specs.DriverContent.{DriverContent, no_note, waits_for, next_after}
 use Rattle.driver_rows.specs.Harvests.{note_at, noted, is_stall, end_of}
-use Rattle.driver_rows.specs.Rows.{Parts, events_of, leave_ring, no_command, finished, advanced_by, advance, served, moved_on, told_with, goes_on, behind_one, behind, stalled, mends_of, after_end, harvested_as, after_harvest}
-use Rattle.run_owners.specs.Owners.{Owner, IsRunFor, runs_of_endpoint, runs_of_transfer, runs_of_note, endpoint_in, transfer_in, note_in, IsOwned}
-use Rattle.run_owners.proofs.Runs.{owned_stays}
+use Rattle.driver_rows.specs.Rows.{Parts, events_of, leave_ring, no_command, finished, advanced_by, advance, served, moved_on, told_with, goes_on, behind_one, behind, stalled, mends_of, after_end, descriptor_told, harvested_as, after_harvest}
+use Rattle.run_owners.specs.Owners.{Owner, IsRunFor, runs_of_endpoint, runs_of_transfer, runs_of_note, endpoint_in, transfer_in, note_in, buffer_in, buffer_of, views_of, IsOwned}
+use Rattle.run_owners.proofs.Runs.{AreSame, owned_stays}
 use Rattle.run_owners.proofs.Freeing.{runs_lent}
 
 -- ---- a list in which one thing is changed
@@ -41,41 +42,48 @@ same_item f (z ∷ xs) (suc e) y d same (suc i) = same_item f xs e y d same i
 -- ---- a content that tells the same runs
 
 pub record StaysPlaced (d e : DriverContent) : Type 0 where
-  pub slots : (c : ℕ) (o : Owner) → IsRunFor o (slot_of d.book.slots c) → IsRunFor o (slot_of e.book.slots c)
+  pub same : AreSame (views_of d) (views_of e)
   pub many : length e.book.slots ≡ length d.book.slots
-  pub endpoints : (i : ℕ) → endpoint_in e.endpoints i ≡ endpoint_in d.endpoints i
-  pub transfers : (i : ℕ) → transfer_in e.transfers i ≡ transfer_in d.transfers i
-  pub notes : (c : ℕ) → note_in e.notes c ≡ note_in d.notes c
   pub as_many : length e.notes ≡ length d.notes
+  pub descriptors : length e.periodic.notes ≡ length d.periodic.notes
 
-pub stays_same : (d e : DriverContent) → e.book.slots ≡ d.book.slots → ((i : ℕ) → endpoint_in e.endpoints i ≡ endpoint_in d.endpoints i) → ((i : ℕ) → transfer_in e.transfers i ≡ transfer_in d.transfers i) → ((c : ℕ) → note_in e.notes c ≡ note_in d.notes c) → length e.notes ≡ length d.notes → StaysPlaced d e
-stays_same d e slots endpoints transfers notes many = record {
-  slots = λ c o run. subst (λ (ss : List Slot). IsRunFor o (slot_of ss c)) (sym slots) run;
+pub stays_same : (d e : DriverContent) → e.book.slots ≡ d.book.slots → ((i : ℕ) → endpoint_in e.endpoints i ≡ endpoint_in d.endpoints i) → ((i : ℕ) → transfer_in e.transfers i ≡ transfer_in d.transfers i) → ((c : ℕ) → note_in e.notes c ≡ note_in d.notes c) → length e.notes ≡ length d.notes → e.periodic.notes ≡ d.periodic.notes → StaysPlaced d e
+stays_same d e slots endpoints transfers notes many descriptors = record {
+  same = record {
+    runs = λ c o run. subst (λ (ss : List Slot). IsRunFor o (slot_of ss c)) (sym slots) run;
+    endpoints = endpoints;
+    transfers = transfers;
+    notes = notes;
+    buffers = λ c. ap (λ (ns : List DescriptorNote). buffer_in ns c) descriptors;
+  };
   many = ap length slots;
-  endpoints = endpoints;
-  transfers = transfers;
-  notes = notes;
   as_many = many;
+  descriptors = ap length descriptors;
 }
 
 pub stays_both : (d e f : DriverContent) → StaysPlaced d e → StaysPlaced e f → StaysPlaced d f
 stays_both d e f one two = record {
-  slots = λ c o run. two.slots c o (one.slots c o run);
+  same = record {
+    runs = λ c o run. two.same.runs c o (one.same.runs c o run);
+    endpoints = λ i. two.same.endpoints i ∙ one.same.endpoints i;
+    transfers = λ i. two.same.transfers i ∙ one.same.transfers i;
+    notes = λ c. two.same.notes c ∙ one.same.notes c;
+    buffers = λ c. two.same.buffers c ∙ one.same.buffers c;
+  };
   many = two.many ∙ one.many;
-  endpoints = λ i. two.endpoints i ∙ one.endpoints i;
-  transfers = λ i. two.transfers i ∙ one.transfers i;
-  notes = λ c. two.notes c ∙ one.notes c;
   as_many = two.as_many ∙ one.as_many;
+  descriptors = two.descriptors ∙ one.descriptors;
 }
 
 pub stays_owned : (d e : DriverContent) (owner : ℕ → Owner) → StaysPlaced d e → IsOwned d owner → IsOwned e owner
 stays_owned d e owner stays old = record {
-  each = owned_stays (slot_of d.book.slots) (slot_of e.book.slots) (endpoint_in d.endpoints) (endpoint_in e.endpoints) (transfer_in d.transfers) (transfer_in e.transfers) (note_in d.notes) (note_in e.notes) owner stays.slots stays.endpoints stays.transfers stays.notes old.each;
+  each = owned_stays (views_of d) (views_of e) owner stays.same old.each;
   sizes = stays.as_many ∙ (old.sizes ∙ sym stays.many);
+  as_many = stays.descriptors ∙ (old.as_many ∙ sym stays.many);
 }
 
 nothing : (d : DriverContent) → StaysPlaced d d
-nothing d = stays_same d d refl (λ i. refl) (λ i. refl) (λ c. refl) refl
+nothing d = stays_same d d refl (λ i. refl) (λ i. refl) (λ c. refl) refl refl
 
 either : (d e f : DriverContent) (b : Bool) → StaysPlaced d e → StaysPlaced d f → StaysPlaced d (cond b e f)
 either d e f true one two = one
@@ -91,18 +99,18 @@ pub left : (d : DriverContent) (e : ℕ) (o : Option Endpoint) → slice_get d.e
 left d e None here = nothing d
 left d e (Some x) here =
     either d (record d { waiting = d.waiting ++ e ∷ []; endpoints = set d.endpoints e (record x { linked = false }) }) d x.linked
-    (stays_same d _ refl (endpoint_stays d e x (record x { linked = false }) here refl) (λ i. refl) (λ c. refl) refl) (nothing d)
+    (stays_same d _ refl (endpoint_stays d e x (record x { linked = false }) here refl) (λ i. refl) (λ c. refl) refl refl) (nothing d)
 
 done : (d : DriverContent) (c : Command) → StaysPlaced d (finished d c)
-done d (unfinished.Open queue) = stays_same d _ refl (λ i. refl) (λ i. refl) (λ c. refl) refl
-done d (unfinished.Publish b words) = stays_same d _ refl (λ i. refl) (λ i. refl) (λ c. refl) refl
+done d (unfinished.Open queue) = stays_same d _ refl (λ i. refl) (λ i. refl) (λ c. refl) refl refl
+done d (unfinished.Publish b words) = stays_same d _ refl (λ i. refl) (λ i. refl) (λ c. refl) refl refl
 done d (unfinished.Unlink e b link) =
-    stays_both d (no_command d) (leave_ring (no_command d) e (slice_get d.endpoints e)) (stays_same d (no_command d) refl (λ i. refl) (λ i. refl) (λ c. refl) refl) (left (no_command d) e (slice_get d.endpoints e) refl)
+    stays_both d (no_command d) (leave_ring (no_command d) e (slice_get d.endpoints e)) (stays_same d (no_command d) refl (λ i. refl) (λ i. refl) (λ c. refl) refl refl) (left (no_command d) e (slice_get d.endpoints e) refl)
 
 went_on : (d : DriverContent) (o : Option Command) → StaysPlaced d (advanced_by d o)
 went_on d None = nothing d
 went_on d (Some c) =
-    either d (record d { made = suc d.made }) (finished d c) (nat_lt (suc d.made) (length (events_of c))) (stays_same d _ refl (λ i. refl) (λ i. refl) (λ c. refl) refl) (done d c)
+    either d (record d { made = suc d.made }) (finished d c) (nat_lt (suc d.made) (length (events_of c))) (stays_same d _ refl (λ i. refl) (λ i. refl) (λ c. refl) refl refl) (done d c)
 
 pub advanced : (d : DriverContent) → StaysPlaced d (advance d)
 advanced d = went_on d d.command
@@ -125,12 +133,16 @@ lent p =
     let d = record p.driver { book = (lend_taken h).book } in
     stays_both p.driver d (advance d)
     (record {
-      slots = λ c o run. runs_lent h c o run;
+      same = record {
+        runs = λ c o run. runs_lent h c o run;
+        endpoints = λ i. refl;
+        transfers = λ i. refl;
+        notes = λ c. refl;
+        buffers = λ c. refl;
+      };
       many = lends_many (none_taken h) (reverse h.book.taken);
-      endpoints = λ i. refl;
-      transfers = λ i. refl;
-      notes = λ c. refl;
       as_many = refl;
+      descriptors = refl;
     })
     (advanced d)
 
@@ -145,22 +157,22 @@ noted_many notes b moved = length-set notes b (record (note_at notes b) { moved 
 moved_stays : (d : DriverContent) (t : ℕ) (y : Transfer) (moved : ℕ) → slice_get d.transfers t ≡ Some y → StaysPlaced d (moved_on d t y moved)
 moved_stays d t y moved there =
     stays_same d (moved_on d t y moved) refl (λ i. refl) (same_view runs_of_transfer d.transfers t y (record y { place = (note_at d.notes y.place).next; left = y.left - 1 }) there refl)
-    (noted_stays d.notes y.place moved) (noted_many d.notes y.place moved)
+    (noted_stays d.notes y.place moved) (noted_many d.notes y.place moved) refl
 
 told_stays : (d : DriverContent) (m : Mem) (t : ℕ) (y : Transfer) (what : What) (name : EpName) (n : ℕ) → slice_get d.transfers t ≡ Some y → StaysPlaced d (told_with d m t y what name (noted d.notes y.place n))
 told_stays d m t y what name n there =
     stays_same d (told_with d m t y what name (noted d.notes y.place n)) refl (λ i. refl) (same_view runs_of_transfer d.transfers t y (record y { reported = true }) there refl)
-    (noted_stays d.notes y.place n) (noted_many d.notes y.place n)
+    (noted_stays d.notes y.place n) (noted_many d.notes y.place n) refl
 
 goes_on_stays : (d : DriverContent) (e t : ℕ) (x : Endpoint) → slice_get d.endpoints e ≡ Some x → StaysPlaced d (goes_on d e t x)
 goes_on_stays d e t x here =
-    stays_same d (goes_on d e t x) refl (endpoint_stays d e x (record x { next = next_after d.transfers e t }) here refl) (λ i. refl) (λ c. refl) refl
+    stays_same d (goes_on d e t x) refl (endpoint_stays d e x (record x { next = next_after d.transfers e t }) here refl) (λ i. refl) (λ c. refl) refl refl
 
 one_stays : (d : DriverContent) (e : ℕ) (name : EpName) (k : ℕ) (o : Option Transfer) → slice_get d.transfers k ≡ o → StaysPlaced d (behind_one d e name k o)
 one_stays d e name k None there = nothing d
 one_stays d e name k (Some y) there =
     either d _ d (waits_for e y)
-    (stays_same d _ refl (λ i. refl) (same_view runs_of_transfer d.transfers k y (record y { reported = true }) there refl) (λ c. refl) refl) (nothing d)
+    (stays_same d _ refl (λ i. refl) (same_view runs_of_transfer d.transfers k y (record y { reported = true }) there refl) (λ c. refl) refl refl) (nothing d)
 
 behind_stays : (d : DriverContent) (e : ℕ) (name : EpName) (k n : ℕ) → StaysPlaced d (behind d e name k n)
 unfolding behind
@@ -172,16 +184,22 @@ behind_stays d e name k (suc n) =
 stalled_stays : (d : DriverContent) (e t : ℕ) (x : Endpoint) → slice_get d.endpoints e ≡ Some x → StaysPlaced d (stalled d e t x)
 stalled_stays d e t x here =
     let now = record d { harvested = d.harvested ++ t ∷ []; endpoints = set d.endpoints e (record x { next = None }); mends = d.mends ++ mends_of x } in
-    stays_both d now (stalled d e t x) (stays_same d now refl (endpoint_stays d e x (record x { next = None }) here refl) (λ i. refl) (λ c. refl) refl)
+    stays_both d now (stalled d e t x) (stays_same d now refl (endpoint_stays d e x (record x { next = None }) here refl) (λ i. refl) (λ c. refl) refl refl)
     (behind_stays now e x.desc.name (suc t) (length d.transfers - suc t))
 
 end_stays : (d : DriverContent) (e t : ℕ) (x : Endpoint) (stall : Bool) (o : Option EndCause) → slice_get d.endpoints e ≡ Some x → StaysPlaced d (after_end d e t x stall o)
-end_stays d e t x stall (Some cause) here = stays_same d _ refl (endpoint_stays d e x (record x { ended = Some cause }) here refl) (λ i. refl) (λ c. refl) refl
+end_stays d e t x stall (Some cause) here = stays_same d _ refl (endpoint_stays d e x (record x { ended = Some cause }) here refl) (λ i. refl) (λ c. refl) refl refl
 end_stays d e t x stall None here = either d (stalled d e t x) (goes_on d e t x) stall (stalled_stays d e t x here) (goes_on_stays d e t x here)
+
+served_stays : (d : DriverContent) (m : Mem) (e t : ℕ) (x : Endpoint) (y : Transfer) (errors : ℕ) → slice_get d.endpoints e ≡ Some x → slice_get d.transfers t ≡ Some y → StaysPlaced d (descriptor_told d m e t x y errors)
+served_stays d m e t x y errors here there =
+    stays_same d _ refl (endpoint_stays d e x (record x { next = next_after d.transfers e t }) here refl)
+    (same_view runs_of_transfer d.transfers t y (record y { reported = true }) there refl) (λ c. refl) refl refl
 
 read_stays : (d : DriverContent) (m : Mem) (e t : ℕ) (x : Endpoint) (y : Transfer) (found : Found) → slice_get d.endpoints e ≡ Some x → slice_get d.transfers t ≡ Some y → StaysPlaced d (harvested_as d m e t x y found)
 read_stays d m e t x y founds.Active here there = nothing d
 read_stays d m e t x y (founds.Moved n) here there = moved_stays d t y n there
+read_stays d m e t x y (founds.Served errors) here there = served_stays d m e t x y errors here there
 read_stays d m e t x y (founds.Ended n what) here there =
     let told = told_with d m t y what x.desc.name (noted d.notes y.place n) in
     stays_both d told (after_end told e t x (is_stall what) (end_of x.desc.kind what)) (told_stays d m t y what x.desc.name n there) (end_stays told e t x (is_stall what) (end_of x.desc.kind what) here)
@@ -192,4 +210,4 @@ harvest_stays d m e t found (Some x) None here there = nothing d
 harvest_stays d m e t found (Some x) (Some y) here there =
     let read = harvested_as d m e t x y found in
     either d (served read e) d (waits_for e y)
-    (stays_both d read (served read e) (read_stays d m e t x y found here there) (stays_same read (served read e) refl (λ i. refl) (λ i. refl) (λ c. refl) refl)) (nothing d)
+    (stays_both d read (served read e) (read_stays d m e t x y found here there) (stays_same read (served read e) refl (λ i. refl) (λ i. refl) (λ c. refl) refl refl)) (nothing d)
