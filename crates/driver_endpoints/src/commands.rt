@@ -1,12 +1,12 @@
 //! The events of an accepted command, and the room that it leaves.
 ghost use Rattle.std.specs.Prelude.{◌≡◌, ◌≤◌, ◌<◌, ◌+◌, ◌*◌, ◌-◌, length, slice_index};
-ghost use Rattle.driver_rows.specs.Rows.{command_row, events_of};
+ghost use Rattle.driver_rows.specs.Rows.{command_row, events_of, links, removes_members};
 ghost use Rattle.driver_rows.specs.Offers.{first_waiting, with_transfer};
 
 use driver_rows::{Command, Reserve, Row};
 use driver_words::HEAD_BLOCK;
 
-/// The next event of a command.
+/// The next event of a command, of those that aren't stores of the frame list.
 pub fn row_of_command(command: &Command, made: u8) -> Row
     ensures { result ≡ command_row command.now made }
 {
@@ -21,6 +21,16 @@ pub fn row_of_command(command: &Command, made: u8) -> Row
             0 => Row::Store(*block, 32 * *block as u32, *link),
             _ => Row::Rest,
         },
+        Command::Chain => match made {
+            0 => Row::Lend,
+            _ => Row::Rest,
+        },
+        Command::Iso(_, _, _) => match made {
+            0 => Row::Frames,
+            1 => Row::LendDescriptors,
+            _ => Row::Rest,
+        },
+        Command::Unchain(_) => Row::Rest,
     }
 }
 
@@ -50,16 +60,34 @@ fn store_row(block: u16, words: &[u32; 8], i: u8) -> Row
     Row::Store(block, 32 * block as u32 + 4 * i as u32, words[i as usize])
 }
 
-/// The number of the command's last event, from 0.
-pub fn last_event(command: &Command) -> u8
-    ensures last { length (events_of command.now) ≡ result + 1 }
-    ensures few { result ≤ 8 }
+/// How many events a command has that aren't stores of the frame list.
+pub fn event_count(command: &Command) -> u8
+    ensures count { result ≡ length (events_of command.now) }
+    ensures few { result ≤ 9 }
 {
     match command {
-        Command::Open(_) => 1,
-        Command::Publish(_, _) => 8,
-        Command::Unlink(_, _, _) => 0,
+        Command::Open(_) | Command::Iso(_, _, _) => 2,
+        Command::Publish(_, _) => 9,
+        Command::Unlink(_, _, _) | Command::Chain => 1,
+        Command::Unchain(_) => 0,
     }
+}
+
+/// Whether a command links or unlinks members of the frame list.
+pub fn has_links(command: &Command) -> bool
+    ensures { result ≡ links command.now }
+{
+    match command {
+        Command::Open(_) | Command::Publish(_, _) | Command::Unlink(_, _, _) => false,
+        Command::Chain | Command::Iso(_, _, _) | Command::Unchain(_) => true,
+    }
+}
+
+/// Whether a command unlinks members of the frame list.
+pub fn has_removals(command: &Command) -> bool
+    ensures { result ≡ removes_members command.now }
+{
+    matches!(command, Command::Unchain(_))
 }
 
 /// The number of the first transfer that isn't harvested: the new one, where there was none.

@@ -2,6 +2,7 @@
 ghost use Rattle.std.specs.Prelude.{◌≡◌, ℕ, ◌≤◌, ◌<◌, Some, None, Err, IfSome, IfNone};
 ghost use Rattle.word_mem.specs.Memory.{Mem};
 ghost use Rattle.driver_rows.specs.DriverContent.{DriverContent};
+ghost use Rattle.driver_rows.specs.Rows.{is_iso};
 ghost use Rattle.driver_rows.specs.Offers.{Asked, open_transfer, offered_open, first_end, takes_get, takes_put, is_queued};
 
 use crate::names::goes_same_way;
@@ -72,5 +73,15 @@ fn is_of_queue(kind: EpKind) -> bool
     match kind {
         EpKind::Bulk | EpKind::Interrupt => true,
         EpKind::Control | EpKind::Iso => false,
+    }
+}
+
+/// Whether its place in the frame list has descriptors, and no queue head.
+pub fn is_isochronous(kind: EpKind) -> bool
+    ensures { result ≡ is_iso kind }
+{
+    match kind {
+        EpKind::Iso => true,
+        EpKind::Bulk | EpKind::Interrupt | EpKind::Control => false,
     }
 }

@@ -81,7 +81,7 @@ fn asks_bytes(sort: Sort) -> bool
 {
     match sort {
         Sort::Get => true,
-        Sort::Put | Sort::Request => false,
+        Sort::Put | Sort::Request | Sort::Descriptor => false,
     }
 }
 

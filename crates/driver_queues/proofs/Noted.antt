@@ -13,10 +13,10 @@ pub count_runs : (n : ℕ) → 4096 < n → length (buffer_needs n) ≡ (n + 409
 count_runs n long = ap (length {A = ℕ}) (whole_pages n long) ∙ length-replicate ((n + 4095) / 4096) 128
 
 -- the block at place i of c, and 0 past them
-abbrev pick : ℕ → List ℕ → ℕ → ℕ
+abbrev pub pick : ℕ → List ℕ → ℕ → ℕ
 pick c runs i = cond (nat_lt i c) (get_or runs i 0) 0
 
-abbrev picks : ℕ → ℕ → ℕ → List ℕ → List ℕ
+abbrev pub picks : ℕ → ℕ → ℕ → List ℕ → List ℕ
 picks zero i c runs = []
 picks (suc n) i c runs = pick c runs i ∷ picks n (suc i) c runs
 
@@ -40,7 +40,7 @@ later_picks (suc n) i c x xs =
     let e : nat_lt (suc i) (suc c) ≡ nat_lt i c = grind (arith, nat_tests) in
     ap (λ b. cond b (get_or xs i 0) 0 ∷ picks n (suc (suc i)) (suc c) (x ∷ xs)) e ∙ ap (λ l. pick c xs i ∷ l) (later_picks n (suc i) c x xs)
 
-padded : (n m c : ℕ) (runs : List ℕ) → n ≤ m → take n (take c runs ++ replicate m 0) ≡ picks n 0 c runs
+pub padded : (n m c : ℕ) (runs : List ℕ) → n ≤ m → take n (take c runs ++ replicate m 0) ≡ picks n 0 c runs
 padded n m zero runs few = take-replicate n m 0 few ∙ sym (no_picks n 0 runs)
 padded n m (suc c) [] few = take-replicate n m 0 few ∙ sym (picks_of_none n 0 (suc c))
 padded zero m (suc c) (x ∷ xs) few = refl

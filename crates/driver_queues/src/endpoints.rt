@@ -1,9 +1,10 @@
 ghost use Rattle.std.specs.Prelude.{◌≡◌, ◌≤◌};
 ghost use Rattle.run_book.specs.Book.{holding, Stands};
-ghost use Rattle.driver_rows.specs.Offers.{newest_of, oldest_of, written_open};
+ghost use Rattle.driver_rows.specs.Offers.{newest_of, oldest_of, written_open, written_chain};
 
+use bandwidth::Placement;
 use driver_rows::Endpoint;
-use driver_words::{HEAD_BLOCK, inactive_qtd, new_queue_head};
+use driver_words::{HEAD_BLOCK, inactive_qtd, new_interrupt_head, new_queue_head};
 use run_book::RunBook;
 use usb_base::EpDesc;
 use word_mem::WordMem;
@@ -46,6 +47,29 @@ pub fn write_endpoint(
     ensures stands { Stands (holding book.now mem.new) }
 {
     let head = new_queue_head(desc, link, dummy).write();
+    book.store_words(mem, queue, 32 * queue as u32, &head);
+    let last = inactive_qtd().write();
+    book.store_words(mem, dummy, 32 * dummy as u32, &last);
+}
+
+/// Writes the queue head and the dummy of a new interrupt endpoint, whose queue head has this link word.
+pub fn write_interrupt_endpoint(
+    book: &RunBook,
+    mem: &mut WordMem,
+    desc: &EpDesc,
+    placement: &Placement,
+    link: u32,
+    queue: u16,
+    dummy: u16,
+)
+    requires max { desc.now.max ≤ 1024 }
+    requires port { desc.now.port ≤ 127 }
+    requires multi { desc.now.multi ≤ 3 }
+    requires stands { Stands (holding book.now mem.old) }
+    ensures memory { mem.new ≡ written_chain book.now mem.old desc.now placement.now link queue dummy }
+    ensures stands { Stands (holding book.now mem.new) }
+{
+    let head = new_interrupt_head(desc, placement.smask, placement.cmask, link, dummy).write();
     book.store_words(mem, queue, 32 * queue as u32, &head);
     let last = inactive_qtd().write();
     book.store_words(mem, dummy, 32 * dummy as u32, &last);

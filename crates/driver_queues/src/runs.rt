@@ -65,9 +65,13 @@ fn take_buffers(book: &mut RunBook, mem: &mut WordMem, cut: &Cut) -> Result<(), 
 }
 
 /// Takes the runs of a buffer of `long` bytes, as far as they are found: one run, or whole pages (EHCI 1.0, 3.5.4).
+///
+/// # Errors
+///
+/// `NoBlocks` where a run isn't found; those before it are taken then.
 #[tactic(auto, using(std::proofs::lemmas::Grind::common_steps, crate::proofs::Taking::needs_nothing, crate::proofs::Taking::needs_one, crate::proofs::Taking::needs_pages))]
-fn take_buffer(book: &mut RunBook, mem: &mut WordMem, long: u16) -> Result<(), OfferError>
-    requires long { long ≤ 20480 }
+pub fn take_buffer(book: &mut RunBook, mem: &mut WordMem, long: u16) -> Result<(), OfferError>
+    requires long { long ≤ 24576 }
     requires stands { Stands (holding book.old mem.old) }
     ensures taken { IfOk result (λ _. take_runs (holding book.old mem.old) (buffer_needs long) ≡ Ok (holding book.new mem.new)) }
     ensures refused { IfErr result (λ why. take_runs (holding book.old mem.old) (buffer_needs long) ≡ Err why) }
@@ -84,8 +88,12 @@ fn take_buffer(book: &mut RunBook, mem: &mut WordMem, long: u16) -> Result<(), O
 }
 
 /// Takes `count` runs of `n` blocks, as far as they are found.
+///
+/// # Errors
+///
+/// `NoBlocks` where a run isn't found; those before it are taken then.
 #[tactic(auto, using(std::proofs::lemmas::Grind::common_steps, crate::proofs::Taking::found_next, crate::proofs::Taking::missing_next, crate::proofs::Taking::none_left))]
-fn take_each(book: &mut RunBook, mem: &mut WordMem, n: u32, count: u16) -> Result<(), OfferError>
+pub fn take_each(book: &mut RunBook, mem: &mut WordMem, n: u32, count: u16) -> Result<(), OfferError>
     requires at_least { 1 ≤ n }
     requires at_most { n ≤ 128 }
     requires stands { Stands (holding book.old mem.old) }

@@ -1,6 +1,6 @@
 -- What the driver has (EHCI 1.0, 4.8 to 4.10). Endpoints and transfers have numbers, from 0, in the order of opening and of acceptance;
--- structures are told by the block of 32 bytes in which they begin. An interrupt or isochronous endpoint will have its placement beside
--- `desc`, its descriptors stand as transfers do, and chains and periodic removals are further fields of the record.
+-- structures are told by the block of 32 bytes in which they begin. An interrupt or isochronous endpoint has its placement beside `desc`;
+-- isochronous descriptors stand as transfers do, and the plan, the frame list and what leaves it in a record of their own.
 --     DriverContent        the content
 --     new_driver           what it has when it was built
 --     is_same_name a b     the names are the same
@@ -15,6 +15,7 @@ use Rattle.usb_base.specs.declared.packets.Way.{Way}
 use Rattle.usb_base.specs.declared.packets.Way.TheVariants as ways
 use Rattle.usb_base.specs.declared.reports.Report.{Report}
 use Rattle.run_book.specs.Book.{Book}
+use Rattle.periodic_rows.specs.Periodic.{PeriodicContent, new_periodic}
 use Rattle.driver_rows.specs.declared.content.Reserve.{Reserve}
 use Rattle.driver_rows.specs.declared.content.Endpoint.{Endpoint}
 use Rattle.driver_rows.specs.declared.content.Transfer.{Transfer}
@@ -44,6 +45,7 @@ pub record DriverContent : Type 0 where
   pub reports : List Report
   pub store : List ℕ  -- the bytes of all reports
   pub room : Reserve
+  pub periodic : PeriodicContent  -- what it has of periodic endpoints alone
 
 abbrev pub no_note : QtdNote
 no_note = record { next = 0; buffer = 0 ∷ 0 ∷ 0 ∷ 0 ∷ 0 ∷ []; runs = 0; told = 0; moved = 0 }
@@ -68,6 +70,7 @@ new_driver book n room = record {
   reports = [];
   store = [];
   room = room;
+  periodic = new_periodic n room.endpoints room.transfers;
 }
 
 -- ---- endpoints by name

@@ -51,6 +51,7 @@ abbrev pub is_get : Sort → Bool
 is_get sorts.Get = true
 is_get sorts.Put = false
 is_get sorts.Request = false
+is_get sorts.Descriptor = false
 
 -- a qTD that is done: the last ends its transfer, and so does a short one of a get
 abbrev pub done_of : Bool → ℕ → Found

@@ -2,11 +2,12 @@
 --     head_block, head_at          where the head of the ring stands, right after the frame list
 --     opening_head                 the head: halted for ever, its link at itself
 --     queue_head x link dummy      a new queue head for the endpoint x, with this link, before its first transfer
+--     interrupt_head x smask cmask link dummy      the same of an interrupt endpoint with these masks and this link word
 --     dummy_qtd                    the qTD at the end of a queue
 --     stages_of ..                 the qTDs of a transfer
 --     new_qtd s next dummy buffer last      the qTD of a stage
 --     needs ss                     the lengths of the runs that a transfer takes, in blocks
-use Rattle.std.specs.Prelude.{ℕ, zero, suc, ◌+◌, ◌-◌, ◌*◌, ◌/◌, ◌%◌, min, max, Bool, true, false, not, ◌&&◌, nat_eq, nat_le, List, [], ◌∷◌, ◌++◌, length, map, flat_map, replicate, slice_index, unwrap_or, if◌then◌else◌}
+use Rattle.std.specs.Prelude.{ℕ, zero, suc, ◌+◌, ◌-◌, ◌*◌, ◌/◌, ◌%◌, min, max, Bool, true, false, not, ◌&&◌, nat_eq, nat_le, List, [], ◌∷◌, ◌++◌, length, map, flat_map, replicate, slice_index, Option, Some, None, unwrap_or, if◌then◌else◌}
 use Rattle.std.specs.List.{range_with_len}
 use Rattle.usb_base.specs.declared.endpoints.EpDesc.{EpDesc}
 use Rattle.usb_base.specs.declared.packets.Speed.{Speed}
@@ -14,6 +15,7 @@ use Rattle.usb_base.specs.declared.packets.Speed.TheVariants as speeds
 use Rattle.usb_base.specs.declared.packets.EpKind.{EpKind}
 use Rattle.usb_base.specs.declared.packets.EpKind.TheVariants as kinds
 use Rattle.link_words.specs.declared.fields.LinkBits.{LinkBits}
+use Rattle.link_words.specs.Fields.{link_at}
 use Rattle.link_words.specs.declared.fields.ShortLink.{ShortLink}
 use Rattle.link_words.specs.Links.{no_qtd}
 use Rattle.qh_qtd.specs.Blank.{blank_token, blank_qtd, blank_head}
@@ -79,6 +81,17 @@ queue_head x link dummy = record blank_head {
   port = if is_high x.speed then 0 else x.port;
   mult = 1;
   next = to_qtd dummy;
+}
+
+-- The queue head of an interrupt endpoint has the masks of its placement and so many transactions a microframe; NAKs aren't counted
+-- (3.6.2, 4.10.3).
+abbrev pub interrupt_head : EpDesc → ℕ → ℕ → ℕ → ℕ → Qh
+interrupt_head x smask cmask link dummy = record (queue_head x 0 dummy) {
+  link = link_at link;
+  rl = 0;
+  smask = smask;
+  cmask = cmask;
+  mult = x.multi;
 }
 
 -- the head of the reclamation list (4.8): its queue is halted for ever

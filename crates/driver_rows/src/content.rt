@@ -1,3 +1,4 @@
+use bandwidth::Placement;
 use usb_base::{EndCause, EpDesc};
 
 /// How much room is made for what a driver is given, or how much of it isn't used.
@@ -18,9 +19,11 @@ pub struct Reserve {
 pub struct Endpoint {
     /// What the host knows of it.
     pub desc: EpDesc,
-    /// The block in which its queue head begins.
+    /// Its place in the frame list, of an interrupt or isochronous endpoint alone.
+    pub placement: Option<Placement>,
+    /// The block in which its queue head begins; 0 where it is isochronous, and has none.
     pub queue: u16,
-    /// The block of the inactive qTD at the end of its queue.
+    /// The block of the inactive qTD at the end of its queue; 0 where it has no queue.
     pub dummy: u16,
     /// The number of its first transfer that isn't harvested.
     pub next: Option<usize>,
@@ -30,6 +33,8 @@ pub struct Endpoint {
     pub cancelled: bool,
     /// It is in the ring, or its open is unfinished.
     pub linked: bool,
+    /// It has a place in the frame list, and isn't out of it by a cancel.
+    pub chained: bool,
     /// It was cancelled, and its blocks were given back.
     pub gone: bool,
 }
@@ -43,6 +48,8 @@ pub enum Sort {
     Put,
     /// A request to a control endpoint (USB 2.0, 8.5.3).
     Request,
+    /// A descriptor of an isochronous endpoint (EHCI 1.0, 3.3): it has no qTD.
+    Descriptor,
 }
 
 /// A transfer that was accepted.
@@ -51,7 +58,7 @@ pub struct Transfer {
     /// The number of its endpoint.
     pub endpoint: usize,
     pub sort: Sort,
-    /// The block of its first qTD.
+    /// The block of its first qTD, or of its descriptor.
     pub first: u16,
     /// How many qTDs it has.
     pub qtds: u16,
@@ -102,6 +109,12 @@ pub enum Command {
     Publish(u16, [u32; 8]),
     /// The endpoint of this number leaves the ring: the queue head in this block gets this link.
     Unlink(usize, u16, u32),
+    /// What was taken is lent, and the queue head of a new interrupt endpoint is linked in its frames.
+    Chain,
+    /// So many descriptors of the endpoint of this number, from this transfer on, get their frames, are lent and are linked there.
+    Iso(usize, usize, u8),
+    /// The periodic endpoint of this number leaves its frames.
+    Unchain(usize),
 }
 
 /// Whose turn it is where no command is unfinished.
@@ -144,4 +157,13 @@ pub struct Stage {
     /// Its first data PID is DATA1.
     pub toggle: bool,
     pub alternate: Alternate,
+}
+
+/// What is the same of each descriptor of a command.
+#[derive(Clone, Copy, Debug, PartialEq, Eq)]
+pub struct Slots {
+    /// The microframes of its slots, microframe 0 in bit 0.
+    pub smask: u8,
+    /// The bytes of each slot.
+    pub slot: u16,
 }

@@ -10,6 +10,6 @@ mod rows;
 pub mod worked;
 
 pub use content::{
-    Alternate, Bell, Command, Endpoint, Mend, QtdNote, Reserve, Sort, Stage, Transfer, Turn,
+    Alternate, Bell, Command, Endpoint, Mend, QtdNote, Reserve, Slots, Sort, Stage, Transfer, Turn,
 };
 pub use rows::{DriverStep, Found, Row};

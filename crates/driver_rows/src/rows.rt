@@ -1,6 +1,7 @@
 ghost use Rattle.std.specs.Prelude.{◌≡◌};
 
 use crate::content::Mend;
+use periodic_rows::Removed;
 use usb_base::What;
 
 /// The kind of an event of the driver.
@@ -29,6 +30,8 @@ pub enum Found {
     Moved(u16),
     /// This many bytes were moved, and its transfer ends so.
     Ended(u16, What),
+    /// No slot of the isochronous descriptor is active any more, and this number of them has an error bit.
+    Served(u8),
 }
 
 /// One event of the driver, with its data.
@@ -40,6 +43,14 @@ pub enum Row {
     Store(u16, u32, u32),
     /// The same for a stalled control endpoint.
     Mend(Mend),
+    /// FRINDEX is read, and the command's descriptors get their frames.
+    Frames,
+    /// The links of the command's descriptors are written, and they are lent.
+    LendDescriptors,
+    /// The harvested descriptor of this transfer leaves its frame by one store.
+    Unlink(usize),
+    /// What left the frame list is given back.
+    ReleaseRemoved(Removed),
     /// The blocks of the transfer are given back.
     ReleaseTransfer(usize),
     /// The blocks of the cancelled endpoint are given back.
@@ -50,6 +61,8 @@ pub enum Row {
     RingBell,
     /// USBSTS is read, with Async Advance in it or not.
     ReadStatus(bool),
+    /// FRINDEX is read.
+    ReadFrame(u16),
     /// A token of the endpoint's transfer is read: endpoint, transfer, what it tells.
     Harvest(usize, usize, Found),
     /// There is nothing to do.
@@ -64,10 +77,13 @@ impl Row {
         ensures { result ≡ step_of self }
     {
         match self {
-            Row::Lend => DriverStep::Lend,
-            Row::Store(_, _, _) | Row::Mend(_) => DriverStep::Store,
-            Row::ReleaseTransfer(_) | Row::ReleaseEndpoint(_) => DriverStep::Release,
+            Row::Lend | Row::LendDescriptors => DriverStep::Lend,
+            Row::Store(_, _, _) | Row::Mend(_) | Row::Unlink(_) => DriverStep::Store,
+            Row::ReleaseTransfer(_) | Row::ReleaseEndpoint(_) | Row::ReleaseRemoved(_) => {
+                DriverStep::Release
+            }
             Row::ClearAdvance | Row::RingBell | Row::ReadStatus(_) => DriverStep::Register,
+            Row::Frames | Row::ReadFrame(_) => DriverStep::Register,
             Row::Harvest(_, _, _) => DriverStep::Harvest,
             Row::Rest => DriverStep::Rest,
         }

@@ -1,7 +1,7 @@
 ghost use Rattle.std.specs.Prelude.{◌≡◌, ◌≤◌, ◌<◌, if◌then◌else◌, unwrap_or};
 ghost use Rattle.qh_qtd.specs.Qtd.{IsQtdInRange};
 ghost use Rattle.qh_qtd.specs.QueueHead.{IsQhInRange};
-ghost use Rattle.driver_rows.specs.Words.{to_queue_head, to_qtd, idle_token, is_high, speed_field, is_control, queue_head, opening_head, dummy_qtd, new_token, alternate_link, new_qtd};
+ghost use Rattle.driver_rows.specs.Words.{to_queue_head, to_qtd, idle_token, is_high, speed_field, is_control, queue_head, interrupt_head, opening_head, dummy_qtd, new_token, alternate_link, new_qtd};
 ghost use Rattle.link_words.specs.Layout.{IsWordInRange};
 ghost use Rattle.qh_qtd.specs.Token.{token_rows};
 
@@ -111,6 +111,40 @@ pub fn new_queue_head(desc: &EpDesc, link: u16, dummy: u16) -> Qh
         hub: hub_bits(desc, high),
         port: if high { 0 } else { desc.port },
         mult: 1,
+        next: link_to_qtd(dummy),
+        ..Qh::blank()
+    }
+}
+
+/// The queue head of a new interrupt endpoint with these masks and this link word (EHCI 1.0, 3.6 and 4.6).
+pub fn new_interrupt_head(
+    desc: &EpDesc,
+    smask: u8,
+    cmask: u8,
+    link: u32,
+    dummy: u16,
+) -> Qh
+    requires max { desc.now.max ≤ 1024 }
+    requires port { desc.now.port ≤ 127 }
+    requires multi { desc.now.multi ≤ 3 }
+    ensures head { result ≡ interrupt_head desc.now smask cmask link dummy }
+    ensures range { IsQhInRange result }
+{
+    let high = runs_at_high(desc.speed);
+    let control = is_for_control(desc.kind);
+    Qh {
+        link: LinkBits::from_word(link),
+        addr: desc.name.addr.get(),
+        ep: desc.name.num.get(),
+        eps: speed_bits(desc.speed),
+        dtc: control,
+        max: desc.max,
+        control: control && !high,
+        smask,
+        cmask,
+        hub: hub_bits(desc, high),
+        port: if high { 0 } else { desc.port },
+        mult: desc.multi,
         next: link_to_qtd(dummy),
         ..Qh::blank()
     }

@@ -1,0 +1,5 @@
+pub mod Counting
+pub mod Telling
+pub mod Taken
+pub mod Noting
+pub mod Seeding

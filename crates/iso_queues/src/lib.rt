@@ -1,0 +1,18 @@
+//! The descriptors of an isochronous endpoint as the driver writes and reads them (EHCI 1.0, 3.3, 4.7 and 4.7.1).
+//!
+//! `slots_of` tells the slots of an endpoint's descriptors, `take_descriptors` takes their runs, `write_descriptor` writes one and the bytes
+//! that it sends, `descriptor_found` reads whether it was served, and `append_told` the bytes that were moved. Their values are those of
+//! specs/Descriptors.antt of `periodic_rows` and specs/Offers.antt of `driver_rows`. Beside it stands `driver_queues`, which writes queues.
+#![tactic(auto)]
+
+mod descriptors;
+mod reading;
+mod runs;
+mod slots;
+mod writing;
+
+pub use descriptors::new_descriptor;
+pub use reading::{append_told, descriptor_found};
+pub use runs::take_descriptors;
+pub use slots::{slots_of, total_bytes};
+pub use writing::write_descriptor;

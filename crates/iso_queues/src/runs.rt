@@ -1,0 +1,76 @@
+ghost use Rattle.std.specs.Prelude.{◌≡◌, ◌≤◌, ◌-◌, ◌∷◌, ◌++◌, [], replicate, Ok, Err, Some, None, IfOk, IfErr};
+ghost use Rattle.run_book.specs.Book.{Holding, holding, Stands, take_run, IsTakenFrom};
+ghost use Rattle.word_mem.specs.Free.{longest_run};
+ghost use Rattle.driver_rows.specs.Words.{buffer_needs};
+ghost use Rattle.driver_rows.specs.Offers.{take_runs, iso_needs, total_of};
+
+use crate::slots::total_bytes;
+use driver_queues::{take_buffer, take_each};
+use driver_rows::Slots;
+use run_book::RunBook;
+use usb_base::OfferError;
+use word_mem::WordMem;
+
+/// Takes the runs of so many descriptors: two blocks for each iTD, and then those of its buffer.
+///
+/// # Errors
+///
+/// `NoBlocks` where a run isn't found. Nothing changes then.
+pub fn take_descriptors(
+    book: &mut RunBook,
+    mem: &mut WordMem,
+    slots: &Slots,
+    count: u8,
+) -> Result<(), OfferError>
+    requires slot { slots.now.slot ≤ 3072 }
+    requires stands { Stands (holding book.old mem.old) }
+    ensures taken { IfOk result (λ _. take_runs (holding book.old mem.old) (iso_needs slots.now count) ≡ Ok (holding book.new mem.new)) }
+    ensures refused { IfErr result (λ why. take_runs (holding book.old mem.old) (iso_needs slots.now count) ≡ Err why) }
+    ensures same { IfErr result (λ _. holding book.new mem.new ≡ holding book.old mem.old) }
+    ensures stands { Stands (holding book.new mem.new) }
+{
+    let before = book.taken().len();
+    match take_all(book, mem, slots, count) {
+        Ok(()) => Ok(()),
+        Err(why) => {
+            book.give_back(mem, before);
+            Err(why)
+        }
+    }
+}
+
+/// Takes the runs of so many descriptors, as far as they are found.
+#[tactic(auto, using(std::proofs::lemmas::Grind::common_steps, crate::proofs::Taken::one_found, crate::proofs::Taken::one_missing, crate::proofs::Taken::all_found))]
+fn take_all(
+    book: &mut RunBook,
+    mem: &mut WordMem,
+    slots: &Slots,
+    count: u8,
+) -> Result<(), OfferError>
+    requires slot { slots.now.slot ≤ 3072 }
+    requires stands { Stands (holding book.old mem.old) }
+    ensures taken { IfOk result (λ _. take_runs (holding book.old mem.old) (iso_needs slots.now count) ≡ Ok (holding book.new mem.new)) }
+    ensures refused { IfErr result (λ why. take_runs (holding book.old mem.old) (iso_needs slots.now count) ≡ Err why) }
+    ensures from { (before : Holding) → IsTakenFrom before (holding book.old mem.old) → IsTakenFrom before (holding book.new mem.new) }
+    ensures stands { Stands (holding book.new mem.new) }
+{
+    let total = total_bytes(slots);
+    for _descriptor in 0..count {
+        take_one_descriptor(book, mem, total)?;
+    }
+    Ok(())
+}
+
+/// Takes the runs of a descriptor, as far as they are found.
+#[tactic(auto, using(std::proofs::lemmas::Grind::common_steps, crate::proofs::Taken::first_found, crate::proofs::Taken::first_missing))]
+fn take_one_descriptor(book: &mut RunBook, mem: &mut WordMem, total: u16) -> Result<(), OfferError>
+    requires total { total ≤ 24576 }
+    requires stands { Stands (holding book.old mem.old) }
+    ensures taken { IfOk result (λ _. take_runs (holding book.old mem.old) (2 ∷ buffer_needs total) ≡ Ok (holding book.new mem.new)) }
+    ensures refused { IfErr result (λ why. take_runs (holding book.old mem.old) (2 ∷ buffer_needs total) ≡ Err why) }
+    ensures from { (before : Holding) → IsTakenFrom before (holding book.old mem.old) → IsTakenFrom before (holding book.new mem.new) }
+    ensures stands { Stands (holding book.new mem.new) }
+{
+    take_each(book, mem, 2, 1)?;
+    take_buffer(book, mem, total)
+}

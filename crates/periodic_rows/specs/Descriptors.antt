@@ -1,0 +1,123 @@
+-- An isochronous transfer descriptor of the driver (EHCI 1.0, 3.3 and 4.7.1): a slot for each microframe of the placement, whose bytes
+-- stand in its buffer one after the other.
+--     slots_before smask u      how many slots stand before microframe u
+--     slot_bytes x len          the bytes of a slot: of an IN as many as its packets can have, of an OUT as many as are sent
+--     buffer_address runs j     where byte j of a buffer stands: in its one run, or in its pages
+--     new_itd x smask slot runs the descriptor, with link word 0
+--     is_served m b             none of its slots is active any more
+--     errors_in m b             how many of them have an error bit
+--     told_bytes note m b       the bytes that were moved in its slots, joined
+--     write_seeded ..           n words of the bytes that count up from a first one
+use Rattle.std.specs.Prelude.{ℕ, zero, suc, ◌+◌, ◌*◌, ◌/◌, ◌%◌, Bool, true, false, not, ◌||◌, nat_le, nat_lt, if◌then◌else◌, List, [], ◌∷◌, ◌++◌, map, count_by, slice_index}
+use Rattle.std.specs.List.{range_with_len, list_any}
+use Rattle.usb_base.specs.declared.endpoints.EpDesc.{EpDesc}
+use Rattle.usb_base.specs.declared.packets.Way.{Way}
+use Rattle.usb_base.specs.declared.packets.Way.TheVariants as ways
+use Rattle.word_mem.specs.Memory.{Mem, word_at}
+use Rattle.word_mem.specs.Views.{byte_at}
+use Rattle.run_book.specs.Book.{Book, store}
+use Rattle.itd_sitd.specs.declared.slot.ItdSlot.{ItdSlot}
+use Rattle.itd_sitd.specs.declared.itd.Itd.{Itd}
+use Rattle.itd_sitd.specs.Slot.{slot_at, no_slot}
+use Rattle.bandwidth.specs.Placements.{has, below}
+use Rattle.periodic_rows.specs.declared.content.DescriptorNote.{DescriptorNote}
+
+-- ---- its size
+
+unfoldable pub slots_before : ℕ → ℕ → ℕ
+slots_before smask u = count_by (has smask) (below u)
+
+abbrev pub slots_in : ℕ → ℕ
+slots_in smask = slots_before smask 8
+
+abbrev pub is_in : Way → Bool
+is_in ways.In = true
+is_in ways.Out = false
+is_in ways.Ctl = false
+
+abbrev pub slot_bytes : EpDesc → ℕ → ℕ
+slot_bytes x len = if is_in x.name.way then x.max * x.multi else len
+
+-- ---- its words
+
+abbrev pub buffer_address : List ℕ → ℕ → ℕ
+buffer_address runs j = 32 * slice_index runs (j / 4096) + j % 4096
+
+-- a slot whose first byte is byte j of the buffer
+abbrev pub active_slot : ℕ → List ℕ → ℕ → ItdSlot
+active_slot slot runs j = record no_slot {
+  offset = buffer_address runs j % 4096;
+  pg = j / 4096;
+  length = slot;
+  active = true;
+}
+
+abbrev pub new_slot : ℕ → ℕ → List ℕ → ℕ → ItdSlot
+new_slot smask slot runs u = if has smask u then active_slot slot runs (slots_before smask u * slot) else no_slot
+
+abbrev pub new_itd : EpDesc → ℕ → ℕ → List ℕ → Itd
+new_itd x smask slot runs = record {
+  link = record { t = false; typ = 0; address = 0 };
+  slots = map (new_slot smask slot runs) (below 8);
+  addr = x.name.addr;
+  ep = x.name.num;
+  page0 = slice_index runs 0 / 128;
+  max = x.max;
+  dir_in = is_in x.name.way;
+  page1 = slice_index runs 1 / 128;
+  multi = x.multi;
+  page2 = slice_index runs 2 / 128;
+  page3 = slice_index runs 3 / 128;
+  page4 = slice_index runs 4 / 128;
+  page5 = slice_index runs 5 / 128;
+  page6 = 0;
+}
+
+-- ---- what it tells
+
+abbrev pub slot_in : Mem → ℕ → ℕ → ItdSlot
+slot_in m b u = slot_at (word_at m (32 * b + 4 + 4 * u))
+
+abbrev pub is_served : Mem → ℕ → Bool
+is_served m b = not (list_any (λ u. (slot_in m b u).active) (below 8))
+
+abbrev pub has_error : ItdSlot → Bool
+has_error s = s.xact_err || s.babble || s.buffer_error
+
+abbrev pub errors_in : Mem → ℕ → ℕ
+errors_in m b = count_by (λ u. has_error (slot_in m b u)) (below 8)
+
+-- a slot that tells more bytes than it has counts none
+abbrev pub moved_in : ℕ → ℕ → ℕ
+moved_in slot length = if nat_le length slot then length else 0
+
+unfoldable pub bytes_from : Mem → List ℕ → ℕ → ℕ → List ℕ
+bytes_from m runs j n = map (λ i. byte_at m (buffer_address runs (j + i))) (range_with_len 0 n)
+
+abbrev pub slot_told : DescriptorNote → Mem → ℕ → ℕ → List ℕ
+slot_told note m b u =
+    if has note.smask u
+    then bytes_from m note.buffer (slots_before note.smask u * note.slot) (moved_in note.slot (slot_in m b u).length)
+    else []
+
+-- those of n slots from microframe u on
+unfoldable pub told_from : DescriptorNote → Mem → ℕ → ℕ → ℕ → List ℕ
+told_from note m b u zero = []
+told_from note m b u (suc n) = slot_told note m b u ++ told_from note m b (u + 1) n
+
+abbrev pub told_bytes : DescriptorNote → Mem → ℕ → List ℕ
+told_bytes note m b = told_from note m b 0 8
+
+-- ---- the bytes that it sends
+
+abbrev pub seeded_byte : ℕ → ℕ → ℕ → ℕ
+seeded_byte seed total i = if nat_lt i total then (seed + i) % 256 else 0
+
+abbrev pub seeded_word : ℕ → ℕ → ℕ → ℕ
+seeded_word seed total i =
+    seeded_byte seed total i + 256 * seeded_byte seed total (i + 1) + 65536 * seeded_byte seed total (i + 2) + 16777216 * seeded_byte seed total (i + 3)
+
+abbrev pub write_seeded : Book → Mem → List ℕ → ℕ → ℕ → ℕ → ℕ → Mem
+write_seeded k m runs seed total i zero = m
+write_seeded k m runs seed total i (suc n) =
+    write_seeded k (store k m (slice_index runs (i / 4096)) (buffer_address runs i) (seeded_word seed total i)) runs seed total (i + 4) n

@@ -1,0 +1,4 @@
+pub mod Periodic
+pub mod Linking
+pub mod Frames
+pub mod Descriptors
