@@ -74,7 +74,7 @@ pub fn event_count(command: &Command) -> u8
 }
 
 /// Whether a command links or unlinks members of the frame list.
-pub fn has_links(command: &Command) -> bool
+pub fn links(command: &Command) -> bool
     ensures { result ≡ links command.now }
 {
     match command {
@@ -84,7 +84,7 @@ pub fn has_links(command: &Command) -> bool
 }
 
 /// Whether a command unlinks members of the frame list.
-pub fn has_removals(command: &Command) -> bool
+pub fn removes_members(command: &Command) -> bool
     ensures { result ≡ removes_members command.now }
 {
     matches!(command, Command::Unchain(_))

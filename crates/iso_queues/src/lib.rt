@@ -15,4 +15,4 @@ pub use descriptors::new_descriptor;
 pub use reading::{append_told, descriptor_found};
 pub use runs::take_descriptors;
 pub use slots::{slots_of, total_bytes};
-pub use writing::write_descriptor;
+pub use writing::{run_count, write_descriptor};

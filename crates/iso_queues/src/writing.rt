@@ -15,7 +15,7 @@ use word_mem::WordMem;
 
 /// How many runs a buffer of `long` bytes has.
 #[tactic(auto, using(std::proofs::lemmas::Grind::common_steps, crate::proofs::Noting::count_runs))]
-pub(crate) fn run_count(long: u16) -> u8
+pub fn run_count(long: u16) -> u8
     requires { long ≤ 24576 }
     ensures count { result ≡ length (buffer_needs long) }
     ensures few { result ≤ 6 }
@@ -143,7 +143,7 @@ fn write_words(
     }
 }
 
-/// Notes and writes a new descriptor: its block stands at place `from` of the runs that were taken, and those of its buffer right behind. It
+/// Notes and writes a new descriptor: its block is the first of these runs that were taken, and those of its buffer stand right behind. It
 /// tells the block.
 pub fn write_descriptor(
     book: &RunBook,
@@ -152,21 +152,20 @@ pub fn write_descriptor(
     desc: &EpDesc,
     slots: &Slots,
     seed: u8,
-    from: usize,
+    runs: &[u16],
 ) -> u16
     requires slot { slots.now.slot ≤ 3072 }
     requires max { desc.now.max ≤ 1024 }
     requires some { 1 ≤ desc.now.multi }
     requires multi { desc.now.multi ≤ 3 }
-    requires from { from + 1 < 2 ^ 32 }
     requires stands { Stands (holding book.now mem.old) }
-    ensures block { result ≡ slice_index book.now.taken from }
-    ensures notes { notes.new ≡ slice_set notes.old result (descriptor_note slots.now (drop (from + 1) book.now.taken)) }
-    ensures memory { mem.new ≡ written_descriptor book.now mem.old desc.now (descriptor_note slots.now (drop (from + 1) book.now.taken)) result seed (total_of slots.now) }
+    ensures block { result ≡ slice_index runs.now 0 }
+    ensures notes { notes.new ≡ slice_set notes.old result (descriptor_note slots.now (drop 1 runs.now)) }
+    ensures memory { mem.new ≡ written_descriptor book.now mem.old desc.now (descriptor_note slots.now (drop 1 runs.now)) result seed (total_of slots.now) }
     ensures stands { Stands (holding book.now mem.new) }
 {
-    let block = block_at(book.taken(), from);
-    let note = note_of_runs(slots, book.taken(), from + 1);
+    let block = block_at(runs, 0);
+    let note = note_of_runs(slots, runs, 1);
     if (block as usize) < notes.len() {
         notes[block as usize] = note;
     }

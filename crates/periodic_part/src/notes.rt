@@ -1,4 +1,4 @@
-ghost use Rattle.std.specs.Prelude.{◌≡◌, ◌≤◌, ◌<◌, ◌+◌, ◌^◌, drop, slice_index, slice_set};
+ghost use Rattle.std.specs.Prelude.{◌≡◌, ◌≤◌, drop, slice_index, slice_set};
 ghost use Rattle.run_book.specs.Book.{holding, Stands};
 ghost use Rattle.periodic_rows.specs.Periodic.{note_at};
 ghost use Rattle.driver_rows.specs.Offers.{descriptor_note, written_descriptor, total_of};
@@ -41,17 +41,16 @@ impl PeriodicPart {
         desc: &EpDesc,
         slots: &Slots,
         seed: u8,
-        from: usize,
+        runs: &[u16],
     ) -> u16
         requires slot { slots.now.slot ≤ 3072 }
         requires max { desc.now.max ≤ 1024 }
         requires some { 1 ≤ desc.now.multi }
         requires multi { desc.now.multi ≤ 3 }
-        requires from { from + 1 < 2 ^ 32 }
         requires stands { Stands (holding book.now mem.old) }
-        ensures block { result ≡ slice_index book.now.taken from }
-        ensures part { self.new ≡ with_notes self.old (slice_set self.old.periodic.notes result (descriptor_note slots.now (drop (from + 1) book.now.taken))) }
-        ensures memory { mem.new ≡ written_descriptor book.now mem.old desc.now (descriptor_note slots.now (drop (from + 1) book.now.taken)) result seed (total_of slots.now) }
+        ensures block { result ≡ slice_index runs.now 0 }
+        ensures part { self.new ≡ with_notes self.old (slice_set self.old.periodic.notes result (descriptor_note slots.now (drop 1 runs.now))) }
+        ensures memory { mem.new ≡ written_descriptor book.now mem.old desc.now (descriptor_note slots.now (drop 1 runs.now)) result seed (total_of slots.now) }
         ensures stands { Stands (holding book.now mem.new) }
     {
         write_descriptor(
@@ -61,7 +60,7 @@ impl PeriodicPart {
             desc,
             slots,
             seed,
-            from,
+            runs,
         )
     }
 }
