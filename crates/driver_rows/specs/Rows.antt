@@ -362,6 +362,13 @@ cancel_told d m e x =
 abbrev pub let_go : ℕ → Bool → Transfer → Transfer
 let_go e told t = if t.endpoint == e then record t { reported = t.reported || told; released = true } else t
 
+abbrev pub let_go_waiting : ℕ → Bool → Transfer → Transfer
+let_go_waiting e told t = if waits_for e t then record t { reported = t.reported || told; released = true } else t
+
+-- of an isochronous endpoint what was reported is unlinked and given back by itself
+abbrev pub let_go_placed : Bool → ℕ → Bool → Transfer → Transfer
+let_go_placed iso e told t = if iso then let_go_waiting e told t else let_go e told t
+
 abbrev pub gone_with : DriverContent → ℕ → Endpoint → Bool → Book → DriverContent
 gone_with d e x told book =
     record d {
@@ -442,7 +449,7 @@ removed_with d e x told book =
     record d {
       book = book;
       endpoints = slice_set d.endpoints e (record x { gone = true });
-      transfers = map (let_go e told) d.transfers;
+      transfers = map (let_go_placed (is_iso x.desc.kind) e told) d.transfers;
       turn = turns.Harvest;
       periodic = unplaced d.periodic e;
     }

@@ -1,5 +1,5 @@
 -- An endpoint leaves the ring or its frames, its doorbell is rung and answered or its frames have passed, and it is given back.
-use Rattle.std.proofs.Common.{◌≡◌, ◌≢◌, ℕ, suc, ◌+◌, ◌<◌, ◌==◌, Bool, true, false, not, ◌||◌, cond, nat_lt, List, [], ◌∷◌, ◌++◌, length, map, drop, set, slice_get, Option, Some, None, option_map, ap, sym, ◌∙◌, ⊎_elim, inl, inr, refl, arith}
+use Rattle.std.proofs.Common.{◌≡◌, ◌≢◌, ℕ, suc, ◌+◌, ◌<◌, ◌==◌, Bool, true, false, not, ◌||◌, ◌&&◌, cond, nat_lt, List, [], ◌∷◌, ◌++◌, length, map, drop, set, slice_get, Option, Some, None, option_map, ap, sym, ◌∙◌, ⊎_elim, inl, inr, refl, arith}
 use Rattle.std.specs.Prelude.{is_some, ◌⊎◌, ◌≤◌}
 use Rattle.std.proofs.lemmas.Bool.{cases_eq, cases_lt, cases_Bool, false≢true}
 use Rattle.std.proofs.lemmas.List.{length-set}
@@ -10,12 +10,12 @@ use Rattle.periodic_rows.specs.declared.content.Removed.TheVariants as removed
 use Rattle.driver_rows.specs.declared.content.Endpoint.{Endpoint}
 use Rattle.driver_rows.specs.declared.content.Transfer.{Transfer}
 use Rattle.driver_rows.specs.declared.content.Sort.{Sort}
-use Rattle.driver_rows.specs.DriverContent.{DriverContent}
-use Rattle.driver_rows.specs.Rows.{is_iso, leave_ring, no_command, let_go}
+use Rattle.driver_rows.specs.DriverContent.{DriverContent, waits_for}
+use Rattle.driver_rows.specs.Rows.{is_iso, leave_ring, no_command, let_go, let_go_waiting}
 use Rattle.run_owners.specs.Owners.{is_descriptor}
 use Rattle.run_owners.specs.Leaving.{times, transfer_before, endpoint_before, transfers_in, endpoints_in, owes, leaves_ring, leaves_frames, leaver, IsSteady, Returns, AreOrderly, IsOrderly}
-use Rattle.run_owners.proofs.Released.{other_number, set_here, set_there}
-use Rattle.run_owners.proofs.Orders.{counts, times_push, times_both, times_first, one_same, none_other, none_at_all, transfers_push, endpoints_push, transfers_read, endpoints_read, transfers_kept, endpoint_first, IsLeft, has_left, IsRemoved, has_removed, in_ring, out_of_ring, in_frames, out_of_frames, set_case, same_count}
+use Rattle.run_owners.proofs.Released.{same_by_test, set_here, set_there}
+use Rattle.run_owners.proofs.Orders.{counts, times_push, times_both, times_first, one_same, none_other, none_at_all, transfers_push, endpoints_push, transfers_read, endpoints_read, transfers_kept, endpoint_first, IsLeft, has_left, IsRemoved, has_removed, owes_nothing, in_ring, out_of_ring, in_frames, out_of_frames, set_case, same_count}
 
 -- ---- the command goes on
 
@@ -190,9 +190,6 @@ first_removed {r = r} {xs = xs} e m first what old =
     let count = endpoint_first e e r.removals m first what in
     has_removed xs e (slice_get xs e) refl (omega (arith, count, one_same e, old.removed e))
 
-pub same_by_test : (m n : ℕ) → (m == n) ≡ true → m ≡ n
-same_by_test m n test = ⊎_elim (λ (same : m ≡ n). same) (λ (differs : m ≢ n). absurd (false≢true (sym (other_number m n differs) ∙ test))) (cases_eq m n)
-
 -- What becomes of a transfer where an endpoint is given back: it is as it was, or is one of the endpoint's, and nothing is owed of it.
 pub record HasGone (e : ℕ) (r : Returns) (t : ℕ) (y z : Transfer) : Type 0 where
   pub was : y.endpoint ≡ e
@@ -295,6 +292,24 @@ let_go_one e told false r t y z test is none = inl (sym is)
 
 pub let_go_goes : (e : ℕ) (told : Bool) (r : Returns) (t : ℕ) (y : Transfer) → ((y.endpoint ≡ e) → counts r t ≡ 0) → GoesBy e r t y (let_go e told y)
 let_go_goes e told r t y none = let_go_one e told (y.endpoint == e) r t y (let_go e told y) refl refl none
+
+-- without one: those that wait, which aren't to be given back either
+let_waiting_one : (e : ℕ) (told b : Bool) (r : Returns) (t : ℕ) (y z : Transfer) → waits_for e y ≡ b → cond b (record y { reported = y.reported || told; released = true }) y ≡ z → (y.endpoint ≡ e → y.reported ≡ false → counts r t ≡ 0) → GoesBy e r t y z
+let_waiting_one e told true r t y z test is none =
+    let both = two (y.endpoint == e) y.reported test in
+    let same = same_by_test y.endpoint e both.0 in
+    inr (record { was = same; endpoint = ap (λ (v : Transfer). v.endpoint) (sym is); sort = ap (λ (v : Transfer). v.sort) (sym is); none = none same both.1 })
+  where
+    two : (a b : Bool) → a && not b ≡ true → (a ≡ true) × (b ≡ false)
+    two true false w = (refl, refl)
+    two true true w = absurd (false≢true w)
+    two false b w = absurd (false≢true w)
+let_waiting_one e told false r t y z test is none = inl (sym is)
+
+pub let_waiting_goes : {r : Returns} {ts : List Transfer} {xs : List Endpoint} {l : Option ℕ} (e : ℕ) (told : Bool) (t : ℕ) (y : Transfer) → slice_get ts t ≡ Some y → AreOrderly r ts xs l → GoesBy e r t y (let_go_waiting e told y)
+let_waiting_goes {r = r} e told t y there old =
+    let_waiting_one e told (waits_for e y) r t y (let_go_waiting e told y) refl refl
+    (λ same untold. let n = ap owes there ∙ owes_nothing y untold in omega (arith, n, old.harvests t))
 
 -- nothing of an endpoint with a queue is unlinked from the frame list as a descriptor
 pub none_of : {r : Returns} {ts : List Transfer} {xs : List Endpoint} {l : Option ℕ} (e : ℕ) (x : Endpoint) → slice_get xs e ≡ Some x → is_iso x.desc.kind ≡ false → slice_get r.harvested 0 ≡ None → AreOrderly r ts xs l → (t : ℕ) (y : Transfer) → slice_get ts t ≡ Some y → y.endpoint ≡ e → counts r t ≡ 0

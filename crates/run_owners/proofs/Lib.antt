@@ -5,6 +5,7 @@ pub mod Stays
 pub mod Released
 pub mod Orders
 pub mod Leaves
+pub mod Goes
 pub mod Harvest
 pub mod Rows
 pub mod Taking

@@ -1,10 +1,14 @@
 -- Each event of the driver has its reason.
-use Rattle.std.proofs.Common.{get_or, ◌≡◌, ℕ, zero, suc, ◌+◌, ◌*◌, Bool, true, false, ◌&&◌, cond, nat_lt, nat_le, List, [], ◌∷◌, length, drop, slice_get, slice_index, Option, Some, None, unwrap_or, option_map, ap, sym, subst, ◌∙◌, refl, arith}
+use Rattle.std.proofs.Common.{get_or, ◌≡◌, ℕ, zero, suc, ◌+◌, ◌*◌, Bool, true, false, ◌&&◌, cond, nat_lt, nat_le, List, [], ◌∷◌, length, drop, slice_get, slice_index, Option, Some, None, unwrap_or, option_map, ap, sym, subst, ◌∙◌, inl, inr, refl, arith}
 use Rattle.std.specs.Prelude.{position, option_and_then, is_some, is_none}
 use Rattle.std.proofs.lemmas.Bool.{false≢true}
 use Rattle.std.proofs.lemmas.Option.{same_Some, slice_get-map, slice_get-get_or}
 use Rattle.std.proofs.lemmas.List.Quantifiers.{position-Some}
 use Rattle.usb_base.specs.declared.endpoints.EndCause.{EndCause}
+use Rattle.frame_chains.specs.Boundary.{is_seen}
+use Rattle.periodic_list.specs.declared.work.Store.{Store}
+use Rattle.periodic_list.specs.Periodic.{next_store}
+use Rattle.periodic_rows.specs.declared.content.Removal.{Removal}
 use Rattle.driver_rows.specs.declared.content.Endpoint.{Endpoint}
 use Rattle.driver_rows.specs.declared.content.Transfer.{Transfer}
 use Rattle.driver_rows.specs.declared.content.Mend.{Mend}
@@ -17,8 +21,7 @@ use Rattle.driver_rows.specs.declared.content.Bell.TheVariants as bells
 use Rattle.driver_rows.specs.declared.rows.Row.{Row}
 use Rattle.driver_rows.specs.declared.rows.Row.TheVariants as rows
 use Rattle.driver_rows.specs.DriverContent.{DriverContent, works, waits_for}
-use Rattle.driver_rows.specs.Harvests.{note_at, token_in, found_in}
-use Rattle.driver_rows.specs.Rows.{Parts, store_order, events_of, tells_advance, bell_row, first_row, leaving_row, worker_from, first_of_two, next_worker, reading_row, transfer_row, worker_row, harvest_row, turn_row, row_for, row_of}
+use Rattle.driver_rows.specs.Rows.{Parts, store_order, events_of, links, command_row, link_row, tells_advance, removes, reading_for, bell_row, removal_row, found_of, first_row, leaving_row, worker_from, first_of_two, next_worker, reading_row, transfer_row, worker_row, harvest_row, turn_row, row_for, row_of}
 use Rattle.run_owners.specs.Due.{IsDue}
 
 -- ---- the command
@@ -27,6 +30,11 @@ abbrev IsCommandRow : Row → Type 0
 IsCommandRow rows.Lend = Unit {0}
 IsCommandRow (rows.Store b at v) = Unit {0}
 IsCommandRow (rows.Mend w) = ⊥
+IsCommandRow rows.Frames = Unit {0}
+IsCommandRow rows.LendDescriptors = Unit {0}
+IsCommandRow (rows.Unlink t) = ⊥
+IsCommandRow (rows.ReleaseRemoved what) = ⊥
+IsCommandRow (rows.ReadFrame n) = ⊥
 IsCommandRow (rows.ReleaseTransfer t) = ⊥
 IsCommandRow (rows.ReleaseEndpoint e) = ⊥
 IsCommandRow rows.ClearAdvance = ⊥
@@ -48,11 +56,22 @@ events_are (unfinished.Publish b words) (suc i) row e =
     stored_are (λ i. rows.Store b (32 * b + 4 * i) (slice_index words i)) (slice_get store_order i) row (λ i. tt) (sym (slice_get-map _ store_order i) ∙ e)
 events_are (unfinished.Unlink n b link) zero row e = subst IsCommandRow (same_Some _ row e) tt
 events_are (unfinished.Unlink n b link) (suc i) row e = absurd (cc)
+events_are unfinished.Chain zero row e = subst IsCommandRow (same_Some _ row e) tt
+events_are unfinished.Chain (suc i) row e = absurd (cc)
+events_are (unfinished.Iso n t count) zero row e = subst IsCommandRow (same_Some _ row e) tt
+events_are (unfinished.Iso n t count) (suc zero) row e = subst IsCommandRow (same_Some _ row e) tt
+events_are (unfinished.Iso n t count) (suc (suc i)) row e = absurd (cc)
+events_are (unfinished.Unchain n) i row e = absurd (cc)
 
 due_next : (p : Parts) (c : Command) (row : Row) → p.driver.command ≡ Some c → slice_get (events_of c) p.driver.made ≡ Some row → IsCommandRow row → IsDue p row
 due_next p c rows.Lend is next row = record { command = c; unfinished = is; next = next }
-due_next p c (rows.Store b at v) is next row = record { command = c; unfinished = is; next = next }
+due_next p c (rows.Store b at v) is next row = inl (record { command = c; unfinished = is; next = next })
 due_next p c (rows.Mend w) is next row = absurd row
+due_next p c rows.Frames is next row = record { command = c; unfinished = is; next = next }
+due_next p c rows.LendDescriptors is next row = record { command = c; unfinished = is; next = next }
+due_next p c (rows.Unlink t) is next row = absurd row
+due_next p c (rows.ReleaseRemoved what) is next row = absurd row
+due_next p c (rows.ReadFrame n) is next row = absurd row
 due_next p c (rows.ReleaseTransfer t) is next row = absurd row
 due_next p c (rows.ReleaseEndpoint e) is next row = absurd row
 due_next p c rows.ClearAdvance is next row = absurd row
@@ -65,31 +84,78 @@ due_command : (p : Parts) (c : Command) (o : Option Row) → p.driver.command �
 due_command p c None is next = tt
 due_command p c (Some row) is next = due_next p c row is next (events_are c p.driver.made row next)
 
+-- the stores of the frame list
+due_link : (p : Parts) (c : Command) (o : Option Store) → p.driver.command ≡ Some c → links c ≡ true → next_store p.driver.periodic.list ≡ o → IsDue p (link_row o)
+due_link p c None is on next = tt
+due_link p c (Some s) is on next = inr (record { command = c; unfinished = is; links = on; store = s; next = next; is = refl })
+
+first_true : (a b : Bool) → a && b ≡ true → a ≡ true
+first_true true b e = refl
+first_true false b e = e
+
+due_after : (p : Parts) (c : Command) (b : Bool) → p.driver.command ≡ Some c → (b ≡ true → links c ≡ true) → IsDue p (cond b (link_row (next_store p.driver.periodic.list)) (command_row c p.driver.made))
+due_after p c true is on = due_link p c (next_store p.driver.periodic.list) is (on refl) refl
+due_after p c false is on = due_command p c (slice_get (events_of c) p.driver.made) is refl
+
 -- ---- the leaving work
+
+-- what comes after another row, or is there itself
+due_first : (p : Parts) (a b : Option Row) (row : Row) → ((r : Row) → a ≡ Some r → IsDue p r) → (a ≡ None → b ≡ Some row → IsDue p row) → first_row a b ≡ Some row → IsDue p row
+due_first p (Some r) b row one other e = subst (IsDue p) (same_Some r row e) (one r refl)
+due_first p None b row one other e = other refl e
+
+-- a list that has no first has no row
+no_first : (f : ℕ → Row) (o : Option ℕ) → option_map f o ≡ None → o ≡ None
+no_first f None e = refl
+no_first f (Some n) e = absurd (cc)
+
+first_is : (p : Parts) (f : ℕ → Row) (o : Option ℕ) (row : Row) → ((n : ℕ) → o ≡ Some n → IsDue p (f n)) → option_map f o ≡ Some row → IsDue p row
+first_is p f None row each e = absurd (cc)
+first_is p f (Some n) row each e = subst (IsDue p) (same_Some (f n) row e) (each n refl)
+
+due_reading : (p : Parts) (a b : Bool) (row : Row) → p.driver.command ≡ None → (a ≡ true → p.driver.bell ≡ bells.Rung) → reading_for p.driver p.registers a b ≡ Some row → IsDue p row
+due_reading p false false row idle rung e = absurd (cc)
+due_reading p true false row idle rung e = subst (IsDue p) (same_Some (rows.ReadStatus (tells_advance p.registers)) row e) (idle, rung refl, refl)
+due_reading p false true row idle rung e = subst (IsDue p) (same_Some (rows.ReadFrame p.registers.frame_index) row e) (idle, refl)
+due_reading p true true row idle rung e = at p.driver.periodic.status_next e
+  where
+    at : (b : Bool) → Some (cond b (rows.ReadStatus (tells_advance p.registers)) (rows.ReadFrame p.registers.frame_index)) ≡ Some row → IsDue p row
+    at true f = subst (IsDue p) (same_Some (rows.ReadStatus (tells_advance p.registers)) row f) (idle, rung refl, refl)
+    at false f = subst (IsDue p) (same_Some (rows.ReadFrame p.registers.frame_index) row f) (idle, refl)
 
 due_bell : (p : Parts) (b : Bell) (row : Row) → p.driver.command ≡ None → p.driver.bell ≡ b → bell_row p.driver p.registers b ≡ Some row → IsDue p row
 due_bell p bells.Heard row idle is e = subst (IsDue p) (same_Some _ row e) (idle, is)
-due_bell p bells.Rung row idle is e = subst (IsDue p) (same_Some (rows.ReadStatus (tells_advance p.registers)) row e) (idle, is, refl)
+due_bell p bells.Rung row idle is e = due_reading p true (removes p.driver) row idle (λ on. is) e
 due_bell p bells.Quiet row idle is e = quiet (nat_lt 0 (length p.driver.waiting)) e
   where
-    quiet : (b : Bool) → cond b (Some rows.RingBell) None ≡ Some row → IsDue p row
+    quiet : (b : Bool) → cond b (Some rows.RingBell) (reading_for p.driver p.registers false (removes p.driver)) ≡ Some row → IsDue p row
     quiet true f = subst (IsDue p) (same_Some _ row f) (idle, is)
-    quiet false f = absurd (cc)
+    quiet false f = due_reading p false (removes p.driver) row idle (λ off. absurd (false≢true off)) f
 
-due_cleared : (p : Parts) (o : Option ℕ) (row : Row) → p.driver.command ≡ None → slice_get p.driver.harvested 0 ≡ None → slice_get p.driver.cleared 0 ≡ o → first_row (option_map rows.ReleaseEndpoint o) (bell_row p.driver p.registers p.driver.bell) ≡ Some row → IsDue p row
-due_cleared p None row idle none is e = due_bell p p.driver.bell row idle refl e
-due_cleared p (Some n) row idle none is e = subst (IsDue p) (same_Some (rows.ReleaseEndpoint n) row e) (record { idle = idle; first = is; none_before = none })
-
-due_harvested : (p : Parts) (o : Option ℕ) (row : Row) → p.driver.command ≡ None → slice_get p.driver.harvested 0 ≡ o → first_row (option_map rows.ReleaseTransfer o) (first_row (option_map rows.ReleaseEndpoint (slice_get p.driver.cleared 0)) (bell_row p.driver p.registers p.driver.bell)) ≡ Some row → IsDue p row
-due_harvested p None row idle is e = due_cleared p (slice_get p.driver.cleared 0) row idle is refl e
-due_harvested p (Some t) row idle is e = subst (IsDue p) (same_Some (rows.ReleaseTransfer t) row e) (record { idle = idle; first = is })
-
-due_mend : (p : Parts) (o : Option Mend) (row : Row) → p.driver.command ≡ None → slice_get p.driver.mends 0 ≡ o → first_row (option_map rows.Mend o) (first_row (option_map rows.ReleaseTransfer (slice_get p.driver.harvested 0)) (first_row (option_map rows.ReleaseEndpoint (slice_get p.driver.cleared 0)) (bell_row p.driver p.registers p.driver.bell))) ≡ Some row → IsDue p row
-due_mend p None row idle is e = due_harvested p (slice_get p.driver.harvested 0) row idle refl e
-due_mend p (Some w) row idle is e = subst (IsDue p) (same_Some (rows.Mend w) row e) (idle, is)
+due_removal : (p : Parts) (o : Option Removal) (row : Row) → p.driver.command ≡ None → slice_get p.driver.harvested 0 ≡ None → slice_get p.driver.periodic.unlinks 0 ≡ None → slice_get p.driver.periodic.removals 0 ≡ o → removal_row o ≡ Some row → IsDue p row
+due_removal p None row idle none all is e = absurd (cc)
+due_removal p (Some r) row idle none all is e = at (is_seen r.boundary) e
+  where
+    at : (b : Bool) → cond b (Some (rows.ReleaseRemoved r.what)) None ≡ Some row → IsDue p row
+    at true f = subst (IsDue p) (same_Some (rows.ReleaseRemoved r.what) row f) (record { idle = idle; removal = r; first = is; is = refl; none_before = none; all_unlinked = all })
+    at false f = absurd (cc)
 
 due_leaving : (p : Parts) (row : Row) → p.driver.command ≡ None → leaving_row p.driver p.registers ≡ Some row → IsDue p row
-due_leaving p row idle e = due_mend p (slice_get p.driver.mends 0) row idle refl e
+due_leaving p row idle e =
+    due_first p (option_map rows.Mend (slice_get p.driver.mends 0)) _ row (λ r f. mended (slice_get p.driver.mends 0) r refl f)
+    (λ no_mend. due_first p (option_map rows.ReleaseTransfer (slice_get p.driver.harvested 0)) _ row
+    (λ r f. first_is p rows.ReleaseTransfer (slice_get p.driver.harvested 0) r (λ t is. record { idle = idle; first = is }) f)
+    (λ none. due_first p (option_map rows.Unlink (slice_get p.driver.periodic.unlinks 0)) _ row
+    (λ r f. first_is p rows.Unlink (slice_get p.driver.periodic.unlinks 0) r (λ t is. record { idle = idle; first = is }) f)
+    (λ all. due_first p (option_map rows.ReleaseEndpoint (slice_get p.driver.cleared 0)) _ row
+    (λ r f. first_is p rows.ReleaseEndpoint (slice_get p.driver.cleared 0) r (λ n is. record { idle = idle; first = is; none_before = no_first rows.ReleaseTransfer (slice_get p.driver.harvested 0) none }) f)
+    (λ none_cleared. due_first p (removal_row (slice_get p.driver.periodic.removals 0)) _ row
+    (λ r f. due_removal p (slice_get p.driver.periodic.removals 0) r idle (no_first rows.ReleaseTransfer (slice_get p.driver.harvested 0) none) (no_first rows.Unlink (slice_get p.driver.periodic.unlinks 0) all) refl f)
+    (λ no_removal. due_bell p p.driver.bell row idle refl))))) e
+  where
+    mended : (o : Option Mend) (r : Row) → slice_get p.driver.mends 0 ≡ o → option_map rows.Mend o ≡ Some r → IsDue p r
+    mended None r is f = absurd (cc)
+    mended (Some w) r is f = subst (IsDue p) (same_Some (rows.Mend w) r f) (idle, is)
 
 -- ---- harvest
 
@@ -138,9 +204,9 @@ due_read : (p : Parts) (e t : ℕ) (x : Endpoint) (o : Option Transfer) (row : R
 due_read p e t x None row idle here ended next there f = absurd (cc)
 due_read p e t x (Some y) row idle here ended next there f = at (waits_for e y) refl f
   where
-    at : (b : Bool) → waits_for e y ≡ b → cond b (Some (rows.Harvest e t (found_in y.sort (nat_le y.left 1) (note_at p.driver.notes y.place) (token_in p.memory y.place)))) None ≡ Some row → IsDue p row
+    at : (b : Bool) → waits_for e y ≡ b → cond b (Some (rows.Harvest e t (found_of p.driver p.memory y y.sort))) None ≡ Some row → IsDue p row
     at true on g =
-        subst (IsDue p) (same_Some (rows.Harvest e t (found_in y.sort (nat_le y.left 1) (note_at p.driver.notes y.place) (token_in p.memory y.place))) row g)
+        subst (IsDue p) (same_Some (rows.Harvest e t (found_of p.driver p.memory y y.sort)) row g)
         (record { idle = idle; endpoint = x; transfer = y; here = here; goes_on = ended; next = next; there = there; waits = on; tells = refl })
     at false off g = absurd (cc)
 
@@ -170,7 +236,7 @@ due_turn p turns.Leaving idle = two p (leaving_row p.driver p.registers) (harves
 due_turn p turns.Harvest idle = two p (harvest_row p.driver p.memory) (leaving_row p.driver p.registers) (λ row. due_harvest p row idle) (λ row. due_leaving p row idle)
 
 due_for : (p : Parts) (o : Option Command) → p.driver.command ≡ o → IsDue p (row_for p o)
-due_for p (Some c) is = due_command p c (slice_get (events_of c) p.driver.made) is refl
+due_for p (Some c) is = due_after p c (links c && nat_le (length (events_of c)) p.driver.made) is (first_true (links c) (nat_le (length (events_of c)) p.driver.made))
 due_for p None is = due_turn p p.driver.turn is
 
 pub each_is_due : (p : Parts) → IsDue p (row_of p)

@@ -1,6 +1,6 @@
 -- What is given back: all else stands as before.
 use Rattle.std.proofs.Common.{◌≡◌, ◌≢◌, ℕ, zero, suc, ◌==◌, Bool, true, false, not, ◌&&◌, ◌||◌, cond, List, [], ◌∷◌, length, map, set, take, slice_get, Option, Some, None, option_map, ap, sym, subst, ◌∙◌, ⊎_elim, refl, arith}
-use Rattle.std.proofs.lemmas.Bool.{cases_eq, false≢true}
+use Rattle.std.proofs.lemmas.Bool.{cases_eq, cases_Bool, false≢true}
 use Rattle.std.proofs.lemmas.Bool.Decides.{nat_tests}
 use Rattle.std.proofs.lemmas.List.{length-set}
 use Rattle.std.proofs.lemmas.Option.{same_Some, slice_get-map}
@@ -12,11 +12,12 @@ use Rattle.driver_rows.specs.declared.content.Endpoint.{Endpoint}
 use Rattle.driver_rows.specs.declared.content.Transfer.{Transfer}
 use Rattle.driver_rows.specs.declared.content.QtdNote.{QtdNote}
 use Rattle.periodic_rows.specs.declared.content.DescriptorNote.{DescriptorNote}
-use Rattle.periodic_rows.specs.Periodic.{Periodic}
+use Rattle.periodic_rows.specs.Periodic.{PeriodicContent}
 use Rattle.driver_rows.specs.DriverContent.{DriverContent, waits_for}
 use Rattle.driver_rows.specs.Harvests.{note_at}
-use Rattle.driver_rows.specs.Rows.{Parts, free_runs, free_qtd, free_qtds, free_transfers, free_endpoint, free_descriptor, free_descriptors, freed_by, after_transfer, after_endpoint, after_descriptor, is_iso, is_held_of, is_told, cancel_told, let_go}
+use Rattle.driver_rows.specs.Rows.{Parts, free_runs, free_qtd, free_qtds, free_transfers, free_endpoint, free_descriptor, free_descriptors, freed_by, after_transfer, after_endpoint, after_descriptor, after_placed, free_placed, is_iso, is_held_of, is_told, cancel_told, let_go, let_go_waiting, let_go_placed}
 use Rattle.run_owners.specs.Owners.{Owner, FrameList, Head, QueueHead, Dummy, Element, Described, Buffer, IsRunFor, EndpointRuns, TransferRuns, is_descriptor, runs_of_endpoint, runs_of_transfer, endpoint_in, transfer_in, note_in, buffer_in, Views, views_of, AreOwned, IsOwned}
+use Rattle.run_owners.specs.Leaving.{IsOrderly}
 use Rattle.run_owners.proofs.Runs.{AreKept, owned_kept}
 use Rattle.run_owners.proofs.Freeing.{runs_freed, qtds_freed, transfers_freed, descriptor_freed, descriptors_freed}
 
@@ -65,6 +66,9 @@ same_number n = grind (arith, nat_tests)
 
 pub other_number : (m n : ℕ) → m ≢ n → (m == n) ≡ false
 other_number m n differs = grind (arith, nat_tests)
+
+pub same_by_test : (m n : ℕ) → (m == n) ≡ true → m ≡ n
+same_by_test m n test = ⊎_elim (λ (same : m ≡ n). same) (λ (differs : m ≢ n). absurd (false≢true (sym (other_number m n differs) ∙ test))) (cases_eq m n)
 
 -- ---- one thing of a list is changed
 
@@ -256,7 +260,7 @@ endpoint_each d m e owner x told here on queued old =
 -- the same of a content in which only the report differs
 owned_told : (d f : DriverContent) (g : Holding) (e : ℕ) (owner : ℕ → Owner) (x : Endpoint) (go : Transfer → Transfer) → AreUntouched d f → AreOwned (left_views d g e x (map go d.transfers)) owner → AreOwned (left_views f g e x (map go f.transfers)) owner
 owned_told d f g e owner x go same old =
-    subst (λ (ns : List DescriptorNote). AreOwned (record (left_views f g e x (map go f.transfers)) { buffer = buffer_in ns }) owner) (sym (ap (λ (q : Periodic). q.notes) same.periodic))
+    subst (λ (ns : List DescriptorNote). AreOwned (record (left_views f g e x (map go f.transfers)) { buffer = buffer_in ns }) owner) (sym (ap (λ (q : PeriodicContent). q.notes) same.periodic))
     (subst (λ (ns : List QtdNote). AreOwned (record (left_views d g e x (map go f.transfers)) { endpoint = endpoint_in (set f.endpoints e (record x { gone = true })); note = note_in ns }) owner) (sym same.notes)
     (subst (λ (xs : List Endpoint). AreOwned (record (left_views d g e x (map go f.transfers)) { endpoint = endpoint_in (set xs e (record x { gone = true })) }) owner) (sym same.endpoints)
     (subst (λ (ts : List Transfer). AreOwned (left_views d g e x (map go ts)) owner) (sym same.transfers) old)))
@@ -270,5 +274,95 @@ endpoint_owned p e owner x here on queued old =
     record {
       each = owned_told d (cancel_told d p.memory e x) (free_endpoint d e x h) e owner x (let_go e (is_told x)) same (endpoint_each d p.memory e owner x (is_told x) here on queued old);
       sizes = ap length same.notes ∙ (old.sizes ∙ sym many);
-      as_many = ap (λ (q : Periodic). length q.notes) same.periodic ∙ (old.as_many ∙ sym many);
+      as_many = ap (λ (q : PeriodicContent). length q.notes) same.periodic ∙ (old.as_many ∙ sym many);
+    }
+
+-- ---- a periodic endpoint
+
+-- a transfer that waits at an isochronous endpoint goes with it
+waits_at : ℕ → Option Transfer → Bool
+waits_at e None = false
+waits_at e (Some y) = waits_for e y
+
+goes_placed : ℕ → List Transfer → Owner → Bool
+goes_placed e ts FrameList = false
+goes_placed e ts Head = false
+goes_placed e ts (QueueHead u) = false
+goes_placed e ts (Dummy u) = false
+goes_placed e ts (Element t) = false
+goes_placed e ts (Described t) = waits_at e (slice_get ts t)
+goes_placed e ts (Buffer t) = waits_at e (slice_get ts t)
+
+waiting_one : (e : ℕ) (told : Bool) (b : Bool) (z : Transfer) (y : TransferRuns) → waits_for e z ≡ b → runs_of_transfer (cond b (record z { reported = z.reported || told; released = true }) z) ≡ y → y.released ≡ false → (runs_of_transfer z ≡ y) × (waits_for e z ≡ false)
+waiting_one e told true z y test is on = absurd (false≢true (sym on ∙ sym (ap (λ (r : TransferRuns). r.released) is)))
+waiting_one e told false z y test is on = (is, test)
+
+kept_waiting : (e : ℕ) (told : Bool) (o : Option Transfer) (y : TransferRuns) → option_map runs_of_transfer (option_map (let_go_waiting e told) o) ≡ Some y → y.released ≡ false → (option_map runs_of_transfer o ≡ Some y) × (waits_at e o ≡ false)
+unfolding waits_at
+kept_waiting e told None y there on = absurd (cc)
+kept_waiting e told (Some z) y there on =
+    let k = waiting_one e told (waits_for e z) z y refl (same_Some (runs_of_transfer (let_go_waiting e told z)) y there) on in
+    (ap Some k.0, k.1)
+
+-- what waits at an isochronous endpoint that wasn't given back is a descriptor that wasn't either
+waiting_is : (d : DriverContent) (e t : ℕ) (x : Endpoint) (y : Transfer) → slice_get d.endpoints e ≡ Some x → x.gone ≡ false → is_iso x.desc.kind ≡ true → slice_get d.transfers t ≡ Some y → waits_for e y ≡ true → IsOrderly d → (is_descriptor y.sort ≡ true) × (y.released ≡ false)
+waiting_is d e t x y here alive iso there waits order =
+    let both = two (y.endpoint == e) y.reported waits in
+    let at : slice_get d.endpoints y.endpoint ≡ Some x = ap (slice_get d.endpoints) (same_by_test y.endpoint e both.0) ∙ here in (
+      order.sorts t y x there at ∙ iso,
+      ⊎_elim (λ (on : y.released ≡ true). absurd (false≢true (sym alive ∙ order.untold t y there on both.1 x at))) (λ (off : y.released ≡ false). off) (cases_Bool y.released),
+    )
+  where
+    two : (a b : Bool) → a && not b ≡ true → (a ≡ true) × (b ≡ false)
+    two true false w = (refl, refl)
+    two true true w = absurd (false≢true w)
+    two false b w = absurd (false≢true w)
+
+placed_each : (d : DriverContent) (m : Mem) (e : ℕ) (owner : ℕ → Owner) (x : Endpoint) (told : Bool) → slice_get d.endpoints e ≡ Some x → x.gone ≡ false → is_iso x.desc.kind ≡ true → IsOrderly d → IsOwned d owner → AreOwned (left_views d (free_descriptors d.periodic.notes e (holding d.book m) d.transfers) e x (map (let_go_waiting e told) d.transfers)) owner
+unfolding goes_placed waits_at
+placed_each d m e owner x told here on iso order old =
+    let h = holding d.book m in
+    let goes = goes_placed e d.transfers in
+    owned_kept (views_of d) (left_views d (free_descriptors d.periodic.notes e h d.transfers) e x (map (let_go_waiting e told) d.transfers)) owner goes
+    (record {
+      list = refl;
+      head = refl;
+      runs = λ c stays run.
+          let freed = descriptors_freed (slot_of d.book.slots) owner goes d.periodic.notes e c h d.transfers stays
+          (λ t y there waits.
+          let test : waits_at e (slice_get d.transfers t) ≡ true = ap (waits_at e) there ∙ waits in
+          let is = waiting_is d e t x y here on iso there waits order in
+          (t, test, test, old.each.described t (runs_of_transfer y) (ap (option_map runs_of_transfer) there) is.0 is.1)) in
+          subst (λ (s : Slot). IsRunFor (owner c) s) (sym freed) run;
+      endpoints = λ u y there bare.
+          let o = other_endpoints d.endpoints e x u y here there bare in
+          (o.1, record { queue = refl; dummy = refl });
+      transfers = λ t y there gone.
+          let k = kept_waiting e told (slice_get d.transfers t) y (sym (ap (option_map runs_of_transfer) (slice_get-map (let_go_waiting e told) d.transfers t)) ∙ there) gone in
+          (k.0, record { element = refl; descriptor = k.1; buffer = k.1 });
+      notes = λ c. refl;
+      buffers = λ c. refl;
+    })
+    old.each
+
+placed_by : (d : DriverContent) (m : Mem) (e : ℕ) (owner : ℕ → Owner) (x : Endpoint) (told : Bool) (iso : Bool) → is_iso x.desc.kind ≡ iso → slice_get d.endpoints e ≡ Some x → x.gone ≡ false → IsOrderly d → IsOwned d owner → AreOwned (left_views d (cond iso (free_descriptors d.periodic.notes e (holding d.book m) d.transfers) (free_endpoint d e x (holding d.book m))) e x (map (let_go_placed iso e told) d.transfers)) owner
+placed_by d m e owner x told true is here on order old = placed_each d m e owner x told here on is order old
+placed_by d m e owner x told false is here on order old = endpoint_each d m e owner x told here on is old
+
+many_placed : (d : DriverContent) (m : Mem) (e : ℕ) (x : Endpoint) (iso : Bool) → length (cond iso (free_descriptors d.periodic.notes e (holding d.book m) d.transfers) (free_endpoint d e x (holding d.book m))).book.slots ≡ length d.book.slots
+many_placed d m e x true = many_descriptors d.periodic.notes e (holding d.book m) d.transfers
+many_placed d m e x false =
+    many_transfers d.notes e (free_runs (holding d.book m) (x.queue ∷ x.dummy ∷ [])) d.transfers ∙ many_runs (holding d.book m) (x.queue ∷ x.dummy ∷ [])
+
+pub placed_owned : (p : Parts) (e : ℕ) (owner : ℕ → Owner) (x : Endpoint) → slice_get p.driver.endpoints e ≡ Some x → x.gone ≡ false → IsOrderly p.driver → IsOwned p.driver owner → IsOwned (after_placed p e (Some x)).driver owner
+placed_owned p e owner x here on order old =
+    let d = p.driver in
+    let h = holding d.book p.memory in
+    let same = cancel_same d p.memory e x in
+    let iso = is_iso x.desc.kind in
+    let many = many_placed d p.memory e x iso in
+    record {
+      each = owned_told d (cancel_told d p.memory e x) (free_placed d e x h) e owner x (let_go_placed iso e (is_told x)) same (placed_by d p.memory e owner x (is_told x) iso refl here on order old);
+      sizes = ap length same.notes ∙ (old.sizes ∙ sym many);
+      as_many = ap (λ (q : PeriodicContent). length q.notes) same.periodic ∙ (old.as_many ∙ sym many);
     }

@@ -1,5 +1,6 @@
 -- What an event changes of the driver's content where it gives nothing back: nothing that tells runs.
-use Rattle.std.proofs.Common.{◌≡◌, ℕ, zero, suc, ◌-◌, Bool, true, false, cond, nat_lt, List, [], ◌∷◌, ◌++◌, length, get_or, set, reverse, slice_get, Option, Some, None, option_map, ap, sym, subst, ◌∙◌, refl}
+use Rattle.std.proofs.Common.{◌≡◌, ℕ, zero, suc, ◌-◌, Bool, true, false, cond, nat_lt, List, [], ◌∷◌, ◌++◌, length, get_or, set, take, drop, reverse, slice_get, Option, Some, None, option_map, ap, sym, subst, ◌∙◌, refl}
+use Rattle.std.specs.Prelude.{is_none}
 use Rattle.std.proofs.lemmas.List.{length-set}
 use Rattle.usb_base.specs.declared.endpoints.EpName.{EpName}
 use Rattle.usb_base.specs.declared.endpoints.EndCause.{EndCause}
@@ -11,14 +12,19 @@ use Rattle.run_book.specs.declared.slots.Slot.TheVariants.{Empty, Keeps, Lends}
 use Rattle.driver_rows.specs.declared.content.Endpoint.{Endpoint}
 use Rattle.driver_rows.specs.declared.content.Transfer.{Transfer}
 use Rattle.driver_rows.specs.declared.content.QtdNote.{QtdNote}
+use Rattle.bandwidth.specs.declared.placements.Placement.{Placement}
+use Rattle.frame_chains.specs.declared.members.Member.{Member}
 use Rattle.periodic_rows.specs.declared.content.DescriptorNote.{DescriptorNote}
+use Rattle.periodic_rows.specs.Periodic.{PeriodicContent, no_descriptor, note_at as descriptor_at}
+use Rattle.periodic_rows.specs.Linking.{with_first, begun_next}
+use Rattle.periodic_rows.specs.Frames.{first_frame, frames_from}
 use Rattle.driver_rows.specs.declared.content.Command.{Command}
 use Rattle.driver_rows.specs.declared.content.Command.TheVariants as unfinished
 use Rattle.driver_rows.specs.declared.rows.Found.{Found}
 use Rattle.driver_rows.specs.declared.rows.Found.TheVariants as founds
 use Rattle.driver_rows.specs.DriverContent.{DriverContent, no_note, waits_for, next_after}
 use Rattle.driver_rows.specs.Harvests.{note_at, noted, is_stall, end_of}
-use Rattle.driver_rows.specs.Rows.{Parts, events_of, leave_ring, no_command, finished, advanced_by, advance, served, moved_on, told_with, goes_on, behind_one, behind, stalled, mends_of, after_end, descriptor_told, harvested_as, after_harvest}
+use Rattle.driver_rows.specs.Rows.{Parts, events_of, links, removes_members, leave_ring, leave_frames, no_command, finished, list_after, or_finished, linked_on, advanced_by, advance, with_frames, last_frame, framed_notes, with_notes, placement_at, framed_by, after_unlink, served, moved_on, told_with, goes_on, behind_one, behind, stalled, mends_of, after_end, descriptor_told, harvested_as, after_harvest}
 use Rattle.run_owners.specs.Owners.{Owner, IsRunFor, runs_of_endpoint, runs_of_transfer, runs_of_note, endpoint_in, transfer_in, note_in, buffer_in, buffer_of, views_of, IsOwned}
 use Rattle.run_owners.proofs.Runs.{AreSame, owned_stays}
 use Rattle.run_owners.proofs.Freeing.{runs_lent}
@@ -101,19 +107,102 @@ left d e (Some x) here =
     either d (record d { waiting = d.waiting ++ e ∷ []; endpoints = set d.endpoints e (record x { linked = false }) }) d x.linked
     (stays_same d _ refl (endpoint_stays d e x (record x { linked = false }) here refl) (λ i. refl) (λ c. refl) refl refl) (nothing d)
 
-done : (d : DriverContent) (c : Command) → StaysPlaced d (finished d c)
-done d (unfinished.Open queue) = stays_same d _ refl (λ i. refl) (λ i. refl) (λ c. refl) refl refl
-done d (unfinished.Publish b words) = stays_same d _ refl (λ i. refl) (λ i. refl) (λ c. refl) refl refl
+-- the endpoint left its frames
+left_frames : (d : DriverContent) (e : ℕ) (o : Option Endpoint) → slice_get d.endpoints e ≡ o → StaysPlaced d (leave_frames d e o)
+left_frames d e None here = nothing d
+left_frames d e (Some x) here =
+    either d _ d x.chained (stays_same d _ refl (endpoint_stays d e x (record x { chained = false }) here refl) (λ i. refl) (λ c. refl) refl refl) (nothing d)
+
+none_now : (d : DriverContent) → StaysPlaced d (no_command d)
+none_now d = stays_same d (no_command d) refl (λ i. refl) (λ i. refl) (λ c. refl) refl refl
+
+pub done : (d : DriverContent) (c : Command) → StaysPlaced d (finished d c)
+done d (unfinished.Open queue) = none_now d
+done d (unfinished.Publish b words) = none_now d
 done d (unfinished.Unlink e b link) =
-    stays_both d (no_command d) (leave_ring (no_command d) e (slice_get d.endpoints e)) (stays_same d (no_command d) refl (λ i. refl) (λ i. refl) (λ c. refl) refl refl) (left (no_command d) e (slice_get d.endpoints e) refl)
+    stays_both d (no_command d) (leave_ring (no_command d) e (slice_get d.endpoints e)) (none_now d) (left (no_command d) e (slice_get d.endpoints e) refl)
+done d unfinished.Chain = none_now d
+done d (unfinished.Iso e t count) = none_now d
+done d (unfinished.Unchain e) =
+    stays_both d (no_command d) (leave_frames (no_command d) e (slice_get d.endpoints e)) (none_now d) (left_frames (no_command d) e (slice_get d.endpoints e) refl)
+
+-- the next member is begun
+begun_notes : (removes : Bool) (q : PeriodicContent) → (begun_next removes q).notes ≡ q.notes
+begun_notes removes q = at (is_none q.list.work) q.queued
+  where
+    at : (b : Bool) (ms : List Member) → (cond b (with_first removes q ms) q).notes ≡ q.notes
+    at true [] = refl
+    at true (m ∷ ms) = refl
+    at false ms = refl
+
+pub or_done : (d : DriverContent) (c : Command) → StaysPlaced d (or_finished d c)
+or_done d c = either d (finished d c) d (is_none d.periodic.list.work) (done d c) (nothing d)
+
+linked : (d : DriverContent) (c : Command) → StaysPlaced d (linked_on d c)
+linked d c =
+    let q = begun_next (removes_members c) (record d.periodic { list = list_after d c }) in
+    let e = record d { made = length (events_of c); periodic = q } in
+    stays_both d e (linked_on d c) (stays_same d e refl (λ i. refl) (λ i. refl) (λ c. refl) refl (begun_notes (removes_members c) (record d.periodic { list = list_after d c })))
+    (or_done e c)
 
 went_on : (d : DriverContent) (o : Option Command) → StaysPlaced d (advanced_by d o)
 went_on d None = nothing d
 went_on d (Some c) =
-    either d (record d { made = suc d.made }) (finished d c) (nat_lt (suc d.made) (length (events_of c))) (stays_same d _ refl (λ i. refl) (λ i. refl) (λ c. refl) refl refl) (done d c)
+    either d (record d { made = suc d.made }) (cond (links c) (linked_on d c) (finished d c)) (nat_lt (suc d.made) (length (events_of c)))
+    (stays_same d _ refl (λ i. refl) (λ i. refl) (λ c. refl) refl refl)
+    (either d (linked_on d c) (finished d c) (links c) (linked d c) (done d c))
 
 pub advanced : (d : DriverContent) → StaysPlaced d (advance d)
 advanced d = went_on d d.command
+
+-- ---- the frames of descriptors
+
+framed_many : (p : Placement) (ts : List Transfer) (f : ℕ) (notes : List DescriptorNote) → length (with_frames p ts f notes) ≡ length notes
+unfolding with_frames
+framed_many p [] f notes = refl
+framed_many p (t ∷ ts) f notes =
+    let note = record (descriptor_at notes t.first) { frame = f } in
+    framed_many p ts (frames_from p f 1) (set notes t.first note) ∙ length-set notes t.first note
+
+framed_runs : (p : Placement) (ts : List Transfer) (f : ℕ) (notes : List DescriptorNote) (c : ℕ) → buffer_in (with_frames p ts f notes) c ≡ buffer_in notes c
+unfolding with_frames
+framed_runs p [] f notes c = refl
+framed_runs p (t ∷ ts) f notes c =
+    let note = record (descriptor_at notes t.first) { frame = f } in
+    framed_runs p ts (frames_from p f 1) (set notes t.first note) c ∙ same_item buffer_of notes t.first note no_descriptor refl c
+
+-- a content in which only frames of descriptors, and what is linked, differ
+frames_stay : (d e : DriverContent) → e.book.slots ≡ d.book.slots → e.endpoints ≡ d.endpoints → e.transfers ≡ d.transfers → e.notes ≡ d.notes → ((c : ℕ) → buffer_in e.periodic.notes c ≡ buffer_in d.periodic.notes c) → length e.periodic.notes ≡ length d.periodic.notes → StaysPlaced d e
+frames_stay d e slots endpoints transfers notes buffers many = record {
+  same = record {
+    runs = λ c o run. subst (λ (ss : List Slot). IsRunFor o (slot_of ss c)) (sym slots) run;
+    endpoints = λ i. ap (λ (xs : List Endpoint). endpoint_in xs i) endpoints;
+    transfers = λ i. ap (λ (ts : List Transfer). transfer_in ts i) transfers;
+    notes = λ c. ap (λ (ns : List QtdNote). note_in ns c) notes;
+    buffers = buffers;
+  };
+  many = ap length slots;
+  as_many = ap length notes;
+  descriptors = many;
+}
+
+noted_frames : (d : DriverContent) (n : ℕ) (ts : List Transfer) (f e t count : ℕ) (o : Option Placement) → StaysPlaced d (with_notes d n ts (framed_notes d f e t count o))
+noted_frames d n ts f e t count None = frames_stay d _ refl refl refl refl (λ c. refl) refl
+noted_frames d n ts f e t count (Some p) =
+    let us = take count (drop t d.transfers) in
+    let first = first_frame p f (last_frame d e t) in
+    frames_stay d _ refl refl refl refl (framed_runs p us first d.periodic.notes) (framed_many p us first d.periodic.notes)
+
+pub framed : (d : DriverContent) (n : ℕ) (o : Option Command) → StaysPlaced d (framed_by d n o)
+framed d n None = nothing d
+framed d n (Some (unfinished.Open queue)) = nothing d
+framed d n (Some (unfinished.Publish b words)) = nothing d
+framed d n (Some (unfinished.Unlink e b link)) = nothing d
+framed d n (Some unfinished.Chain) = nothing d
+framed d n (Some (unfinished.Unchain e)) = nothing d
+framed d n (Some (unfinished.Iso e t count)) =
+    let f = with_notes d n (take count (drop t d.transfers)) (framed_notes d n e t count (placement_at d e)) in
+    stays_both d f (advance f) (noted_frames d n (take count (drop t d.transfers)) n e t count (placement_at d e)) (advanced f)
 
 -- ---- lending
 
@@ -127,11 +216,12 @@ unfolding lend_runs
 lends_many h [] = refl
 lends_many h (b ∷ bs) = lends_many (lend_slot h b (slot_at h b)) bs ∙ lent_many h b (slot_at h b)
 
-pub lent : (p : Parts) → StaysPlaced p.driver (advance (record p.driver { book = (lend_taken (holding p.driver.book p.memory)).book }))
-lent p =
-    let h = holding p.driver.book p.memory in
-    let d = record p.driver { book = (lend_taken h).book } in
-    stays_both p.driver d (advance d)
+-- whatever stands in memory
+pub lent : (e : DriverContent) (m : Mem) → StaysPlaced e (advance (record e { book = (lend_taken (holding e.book m)).book }))
+lent e m =
+    let h = holding e.book m in
+    let d = record e { book = (lend_taken h).book } in
+    stays_both e d (advance d)
     (record {
       same = record {
         runs = λ c o run. runs_lent h c o run;
@@ -145,6 +235,12 @@ lent p =
       descriptors = refl;
     })
     (advanced d)
+
+-- ---- a descriptor leaves its frame
+
+pub unlinks : (p : Parts) (t : ℕ) (o : Option Transfer) → StaysPlaced p.driver (after_unlink p t o).driver
+unlinks p t None = nothing p.driver
+unlinks p t (Some x) = stays_same p.driver _ refl (λ i. refl) (λ i. refl) (λ c. refl) refl refl
 
 -- ---- harvest
 
