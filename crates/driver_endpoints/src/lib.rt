@@ -12,6 +12,6 @@ mod endpoints;
 mod names;
 mod refusals;
 
-pub use commands::{event_count, links, removes_members, less_room, or_first, row_of_command};
+pub use commands::{event_count, less_room, links, or_first, removes_members, row_of_command};
 pub use endpoints::Endpoints;
 pub use refusals::{can_get, can_put, is_isochronous, not_again, or_cancel, refusal};

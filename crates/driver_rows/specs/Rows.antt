@@ -4,7 +4,7 @@
 --     row_of p              the row: the next event of the unfinished command; else leaving work and harvest by turns
 --     after_row row p       what stands after it
 --     step_of row           what kind of event it is
-use Rattle.std.specs.Prelude.{ℕ, zero, suc, ◌+◌, ◌-◌, ◌*◌, ◌==◌, Bool, true, false, not, ◌&&◌, ◌||◌, nat_le, nat_lt, List, [], ◌∷◌, ◌++◌, length, map, filter, fold, take, drop, position, slice_get, slice_index, slice_set, Option, Some, None, is_none, unwrap_or, option_map, option_and_then, if◌then◌else◌}
+use Rattle.std.specs.Prelude.{ℕ, zero, suc, ◌+◌, ◌-◌, ◌*◌, ◌==◌, Bool, true, false, not, ◌&&◌, ◌||◌, nat_le, nat_lt, List, [], ◌∷◌, ◌++◌, length, map, fold, take, drop, position, slice_get, slice_index, slice_set, Option, Some, None, is_none, unwrap_or, option_map, option_and_then, if◌then◌else◌}
 use Rattle.usb_base.specs.declared.endpoints.EpName.{EpName}
 use Rattle.usb_base.specs.declared.endpoints.EndCause.{EndCause}
 use Rattle.usb_base.specs.declared.endpoints.EndCause.TheVariants as causes

@@ -8,4 +8,7 @@ mod cuts;
 mod words;
 
 pub use cuts::Cut;
-pub use words::{HEAD_BLOCK, head_of_ring, inactive_qtd, is_for_control, new_interrupt_head, new_queue_head, qtd_of};
+pub use words::{
+    HEAD_BLOCK, head_of_ring, inactive_qtd, is_for_control, new_interrupt_head, new_queue_head,
+    qtd_of,
+};

@@ -117,13 +117,7 @@ pub fn new_queue_head(desc: &EpDesc, link: u16, dummy: u16) -> Qh
 }
 
 /// The queue head of a new interrupt endpoint with these masks and this link word (EHCI 1.0, 3.6 and 4.6).
-pub fn new_interrupt_head(
-    desc: &EpDesc,
-    smask: u8,
-    cmask: u8,
-    link: u32,
-    dummy: u16,
-) -> Qh
+pub fn new_interrupt_head(desc: &EpDesc, smask: u8, cmask: u8, link: u32, dummy: u16) -> Qh
     requires max { desc.now.max ≤ 1024 }
     requires port { desc.now.port ≤ 127 }
     requires multi { desc.now.multi ≤ 3 }

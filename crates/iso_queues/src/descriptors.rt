@@ -65,7 +65,11 @@ fn slot_in_frame(note: &DescriptorNote, u: u8) -> ItdSlot
     ensures range { IsWordInRange slot_rows result }
 {
     if has_bit(note.smask, u) {
-        return slot_at_byte(note.slot, &note.buffer, count_before(note.smask, u) * note.slot);
+        return slot_at_byte(
+            note.slot,
+            &note.buffer,
+            count_before(note.smask, u) * note.slot,
+        );
     }
     empty_slot()
 }

@@ -62,7 +62,11 @@ fn error_at(mem: &WordMem, block: u16, u: u8) -> u8
     requires { u ≤ 7 }
     ensures { result ≡ (if has_error (slot_in mem.now block u) then 1 else 0) }
 {
-    if fails(&slot_of_memory(mem, block, u)) { 1 } else { 0 }
+    if fails(&slot_of_memory(mem, block, u)) {
+        1
+    } else {
+        0
+    }
 }
 
 /// Whether no slot of the descriptor in this block is active, and how many have an error bit.
@@ -144,13 +148,7 @@ fn append_slot(
 
 /// Appends the bytes that were moved in the slots of the descriptor in this block, but at most `most`.
 #[tactic(auto, using(std::proofs::lemmas::Grind::common_steps, crate::proofs::Telling::told_more, crate::proofs::Telling::told_none))]
-pub fn append_told(
-    store: &mut Vec<u8>,
-    mem: &WordMem,
-    note: &DescriptorNote,
-    block: u16,
-    most: u32,
-)
+pub fn append_told(store: &mut Vec<u8>, mem: &WordMem, note: &DescriptorNote, block: u16, most: u32)
     requires { vec_len store.old + most ≤ vec_capacity store.old }
     ensures items { store.new.items ≡ store.old.items ++ take most (told_bytes note.now mem.now block) }
     ensures len { vec_len store.new ≤ vec_len store.old + most }

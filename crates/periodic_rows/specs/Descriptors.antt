@@ -8,7 +8,7 @@
 --     errors_in m b             how many of them have an error bit
 --     told_bytes note m b       the bytes that were moved in its slots, joined
 --     write_seeded ..           n words of the bytes that count up from a first one
-use Rattle.std.specs.Prelude.{ℕ, zero, suc, ◌+◌, ◌*◌, ◌/◌, ◌%◌, Bool, true, false, not, ◌||◌, nat_le, nat_lt, if◌then◌else◌, List, [], ◌∷◌, ◌++◌, map, count_by, slice_index}
+use Rattle.std.specs.Prelude.{ℕ, zero, suc, ◌+◌, ◌*◌, ◌/◌, ◌%◌, Bool, true, false, not, ◌||◌, nat_le, nat_lt, if◌then◌else◌, List, [], ◌++◌, map, count_by, slice_index}
 use Rattle.std.specs.List.{range_with_len, list_any}
 use Rattle.usb_base.specs.declared.endpoints.EpDesc.{EpDesc}
 use Rattle.usb_base.specs.declared.packets.Way.{Way}
