@@ -1,5 +1,5 @@
 -- The chain of the qTDs of a new transfer, as its notes tell it; and that no other chain's notes change.
-use Rattle.std.proofs.Common.{◌≡◌, ◌≢◌, ℕ, zero, suc, ◌<◌, ◌≤◌, true, false, nat_le, cond, List, [], ◌∷◌, ◌++◌, length, take, drop, replicate, set, get_or, ap, sym, subst, ◌∙◌, ⊎_elim, refl, arith, length-append, length-drop}
+use Rattle.std.proofs.Common.{◌≡◌, ◌≢◌, ◌*◌, ℕ, zero, suc, ◌<◌, ◌≤◌, true, false, nat_le, cond, List, [], ◌∷◌, ◌++◌, length, take, drop, replicate, set, get_or, ap, sym, subst, ◌∙◌, ⊎_elim, refl, arith, length-append, length-drop}
 use Rattle.std.specs.List.{AllByRecursion, flat_map}
 use Rattle.std.proofs.lemmas.Bool.{cases_Bool}
 use Rattle.std.proofs.lemmas.List.{get_or-set_same, get_or-set_other, length-set, length-replicate}
@@ -41,14 +41,14 @@ notes_many notes (s ∷ ss) b qtds runs =
 
 -- ---- the runs of a buffer
 
-few_runs : (n : ℕ) → n ≤ 20480 → length (buffer_needs n) ≤ 5
-few_runs zero few = omega arith
-few_runs (suc n) few =
+pub few_runs : (k n : ℕ) → n ≤ 4096 * k → 1 ≤ k → length (buffer_needs n) ≤ k
+few_runs k zero few some = omega arith
+few_runs k (suc n) few some =
     ⊎_elim
-    (λ (short : nat_le (suc n) 4096 ≡ true). let e = ap (λ b. length (cond b (pieces (suc n) 32 ∷ []) (replicate (pieces (suc n) 4096) 128))) short in omega (arith, e))
+    (λ (short : nat_le (suc n) 4096 ≡ true). let e = ap (λ b. length (cond b (pieces (suc n) 32 ∷ []) (replicate (pieces (suc n) 4096) 128))) short in omega (arith, e, some))
     (λ (long : nat_le (suc n) 4096 ≡ false).
     let e = ap (λ b. length (cond b (pieces (suc n) 32 ∷ []) (replicate (pieces (suc n) 4096) 128))) long ∙ length-replicate (pieces (suc n) 4096) 128 in
-    omega (arith, e))
+    omega (arith, e, few))
     (cases_Bool (nat_le (suc n) 4096))
 
 pub dropped_all : (P : ℕ → Type 0) (n : ℕ) (xs : List ℕ) → AllByRecursion P xs → AllByRecursion P (drop n xs)
@@ -62,6 +62,13 @@ filled_up P zero m xs zs few long all = tt
 filled_up P (suc k) zero xs zs few long all = absurd (omega arith)
 filled_up P (suc k) (suc m) [] zs few long all = absurd (omega arith)
 filled_up P (suc k) (suc m) (x ∷ xs) zs few long all = (all.0, filled_up P k m xs zs (omega arith) (omega arith) all.1)
+
+-- .. where what is told is told by place
+pub filled_at : (P : ℕ → Type 0) (k m : ℕ) (xs zs : List ℕ) → k ≤ m → k ≤ length xs → ((i : ℕ) → i < k → P (get_or xs i 0)) → AllByRecursion P (take k (take m (take k xs ++ zs)))
+filled_at P zero m xs zs few long all = tt
+filled_at P (suc k) zero xs zs few long all = absurd (omega arith)
+filled_at P (suc k) (suc m) [] zs few long all = absurd (omega arith)
+filled_at P (suc k) (suc m) (x ∷ xs) zs few long all = (all 0 (omega arith), filled_at P k m xs zs (omega arith) (omega arith) (λ i below. all (suc i) (omega arith)))
 
 -- ---- the chain
 
@@ -81,7 +88,7 @@ pieces_noted slot owner t notes (s ∷ ss) b qtds runs short elements within dis
       record {
         element = elements 0 (omega arith);
         buffers = subst (λ (n : QtdNote). AllByRecursion (λ c. IsPlaced slot owner c (Buffer t)) (take n.runs n.buffer)) (sym here)
-            (filled_up (λ c. IsPlaced slot owner c (Buffer t)) (runs_of s) 5 runs (replicate 5 0) (few_runs s.long short.0) (omega (arith, many, long)) buffers);
+            (filled_up (λ c. IsPlaced slot owner c (Buffer t)) (runs_of s) 5 runs (replicate 5 0) (few_runs 5 s.long short.0 (omega arith)) (omega (arith, many, long)) buffers);
       },
       subst (λ (n : QtdNote). ArePieces slot owner (note_in rest) t n.next (length ss)) (sym here)
           (pieces_noted slot owner t one ss q (drop 1 qtds) (drop (runs_of s) runs) short.1

@@ -48,7 +48,7 @@ same_returns d n removes q unlinks removals = at (is_none q.list.work) q.queued
     at true (m ∷ ms) = kept
     at false ms = kept
 
-begun_orderly : (d : DriverContent) (removes : Bool) (n : ℕ) (q : PeriodicContent) → q.unlinks ≡ d.periodic.unlinks → q.removals ≡ d.periodic.removals → IsOrderly d → IsOrderly (record d { made = n; periodic = begun_next removes q })
+pub begun_orderly : (d : DriverContent) (removes : Bool) (n : ℕ) (q : PeriodicContent) → q.unlinks ≡ d.periodic.unlinks → q.removals ≡ d.periodic.removals → IsOrderly d → IsOrderly (record d { made = n; periodic = begun_next removes q })
 begun_orderly d removes n q unlinks removals old =
     subst (λ (r : Returns). AreOrderly r d.transfers d.endpoints (leaver d.command)) (sym (same_returns d n removes q unlinks removals)) old
 

@@ -6,11 +6,12 @@ use Rattle.run_book.specs.Book.{Holding, holding, Stands, slot_of}
 use Rattle.driver_rows.specs.DriverContent.{DriverContent}
 use Rattle.driver_rows.specs.Offers.{Offered, offered}
 use Rattle.driver_rows.specs.Rows.{Parts, row_of, after_row}
-use Rattle.run_owners.specs.Accepts.{Accepts, opens, transfers, cancels}
+use Rattle.run_owners.specs.Accepts.{Accepts, opens, chains, places, transfers, describes, cancels, unchains}
 use Rattle.run_owners.specs.Owners.{Owner, SlotHas, IsPlaced, IsOwned}
 use Rattle.run_owners.specs.Kept.{HasOwners}
 use Rattle.run_owners.proofs.Commands.{accepted_for_a_reason}
-use Rattle.run_owners.proofs.Accepted.{open_owned, cancel_owned}
+use Rattle.run_owners.proofs.Accepted.{open_owned, chain_owned, place_owned, cancel_owned, unchain_owned}
+use Rattle.run_owners.proofs.Described.{describe_owned}
 use Rattle.run_owners.proofs.Transferred.{transfer_owned}
 use Rattle.run_owners.proofs.Ordered.{accepted_orderly}
 use Rattle.run_owners.proofs.Rows.{row_owned, row_orderly}
@@ -19,6 +20,10 @@ use Rattle.run_owners.proofs.Apart.{runs_apart}
 accepted_owned : (d : DriverContent) (m : Mem) (o : Offered) → Stands (holding d.book m) → Accepts d m o → (old : HasOwners d) → (mine : ℕ → Owner) × IsOwned o.driver mine
 accepted_owned d m o stands (opens why) old = open_owned d m old.owner o stands why old.owned
 accepted_owned d m o stands (transfers why) old = transfer_owned d m old.owner o stands why old.orderly old.owned
+accepted_owned d m o stands (chains why) old = chain_owned d m old.owner o stands why old.owned
+accepted_owned d m o stands (places why) old = (old.owner, place_owned d m old.owner o why old.owned)
+accepted_owned d m o stands (describes why) old = describe_owned d m old.owner o stands why old.owned
+accepted_owned d m o stands (unchains why) old = (old.owner, unchain_owned d m old.owner o why old.owned)
 accepted_owned d m o stands (cancels why) old = (old.owner, cancel_owned d m old.owner o why old.owned)
 
 pub command_owned : (d : DriverContent) (m : Mem) (cmd : Cmd) (o : Offered) → Stands (holding d.book m) → HasOwners d → offered d m cmd ≡ Ok o → HasOwners o.driver

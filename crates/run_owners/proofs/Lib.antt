@@ -13,6 +13,7 @@ pub mod Chains
 pub mod Commands
 pub mod Accepted
 pub mod Transferred
+pub mod Described
 pub mod Ordered
 pub mod Apart
 pub mod Opened

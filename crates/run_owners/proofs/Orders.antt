@@ -70,20 +70,20 @@ transfers_kept e (k ∷ ms) m here what =
 
 -- one more was unlinked
 pub transfers_push : (n : ℕ) (ms : List Removal) (m : Removal) → times n (transfers_in (ms ++ m ∷ [])) ≡ times n (transfers_in ms) + times n (transfer_before m.what [])
-transfers_push n [] m = refl
-transfers_push n (k ∷ ms) m = at k.what
+transfers_push n [] m = omega arith
+transfers_push n (k ∷ ms) m = one_before n k.what (transfers_in (ms ++ m ∷ [])) (transfers_in ms) (times n (transfer_before m.what [])) (transfers_push n ms m)
   where
-    at : (w : Removed) → times n (transfer_before w (transfers_in (ms ++ m ∷ []))) ≡ times n (transfer_before w (transfers_in ms)) + times n (transfer_before m.what [])
-    at (removed.Descriptor t) = omega (arith, transfers_push n ms m)
-    at (removed.Endpoint e) = transfers_push n ms m
+    one_before : (n : ℕ) (w : Removed) (xs ys : List ℕ) (k : ℕ) → times n xs ≡ times n ys + k → times n (transfer_before w xs) ≡ times n (transfer_before w ys) + k
+    one_before n (removed.Descriptor t) xs ys k same = omega (arith, same)
+    one_before n (removed.Endpoint e) xs ys k same = same
 
 pub endpoints_push : (n : ℕ) (ms : List Removal) (m : Removal) → times n (endpoints_in (ms ++ m ∷ [])) ≡ times n (endpoints_in ms) + times n (endpoint_before m.what [])
-endpoints_push n [] m = refl
-endpoints_push n (k ∷ ms) m = at k.what
+endpoints_push n [] m = omega arith
+endpoints_push n (k ∷ ms) m = one_before n k.what (endpoints_in (ms ++ m ∷ [])) (endpoints_in ms) (times n (endpoint_before m.what [])) (endpoints_push n ms m)
   where
-    at : (w : Removed) → times n (endpoint_before w (endpoints_in (ms ++ m ∷ []))) ≡ times n (endpoint_before w (endpoints_in ms)) + times n (endpoint_before m.what [])
-    at (removed.Descriptor t) = endpoints_push n ms m
-    at (removed.Endpoint e) = omega (arith, endpoints_push n ms m)
+    one_before : (n : ℕ) (w : Removed) (xs ys : List ℕ) (k : ℕ) → times n xs ≡ times n ys + k → times n (endpoint_before w xs) ≡ times n (endpoint_before w ys) + k
+    one_before n (removed.Descriptor t) xs ys k same = same
+    one_before n (removed.Endpoint e) xs ys k same = omega (arith, same)
 
 -- what was read of the frame index tells nothing of whose it is
 pub transfers_read : (n : ℕ) (ms : List Removal) → transfers_in (read_again n ms) ≡ transfers_in ms
@@ -212,7 +212,7 @@ same_steady x y like s = record {
 }
 
 -- a count by endpoint, where one changes and tells the same
-same_count : (f : Option Endpoint → ℕ) (xs : List Endpoint) (e : ℕ) (x y : Endpoint) → slice_get xs e ≡ Some x → f (Some y) ≡ f (Some x) → (i : ℕ) → f (slice_get (set xs e y) i) ≡ f (slice_get xs i)
+pub same_count : (f : Option Endpoint → ℕ) (xs : List Endpoint) (e : ℕ) (x y : Endpoint) → slice_get xs e ≡ Some x → f (Some y) ≡ f (Some x) → (i : ℕ) → f (slice_get (set xs e y) i) ≡ f (slice_get xs i)
 same_count f xs e x y here same i =
     ⊎_elim (λ (at : i ≡ e). ap (λ j. f (slice_get (set xs e y) j)) at ∙ ap f (set_here xs e x y here) ∙ same ∙ ap f (sym here) ∙ ap (λ j. f (slice_get xs j)) (sym at))
     (λ (differs : i ≢ e). ap f (set_there xs e i y differs)) (cases_eq i e)

@@ -56,7 +56,7 @@ placed_row_owned p e owner (Some x) here on order old = placed_owned p e owner x
 -- no endpoint of the ring is isochronous
 not_iso : (k : EpKind) → is_periodic k ≡ false → is_iso k ≡ false
 not_iso kinds.Interrupt off = refl
-not_iso kinds.Iso off = sym off
+not_iso kinds.Iso off = absurd (false≢true (sym off))
 not_iso kinds.Bulk off = refl
 not_iso kinds.Control off = refl
 

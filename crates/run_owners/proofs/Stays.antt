@@ -127,7 +127,7 @@ done d (unfinished.Unchain e) =
     stays_both d (no_command d) (leave_frames (no_command d) e (slice_get d.endpoints e)) (none_now d) (left_frames (no_command d) e (slice_get d.endpoints e) refl)
 
 -- the next member is begun
-begun_notes : (removes : Bool) (q : PeriodicContent) → (begun_next removes q).notes ≡ q.notes
+pub begun_notes : (removes : Bool) (q : PeriodicContent) → (begun_next removes q).notes ≡ q.notes
 begun_notes removes q = at (is_none q.list.work) q.queued
   where
     at : (b : Bool) (ms : List Member) → (cond b (with_first removes q ms) q).notes ≡ q.notes

@@ -1,5 +1,5 @@
 -- What is taken for a transfer has its owners: the old inactive qTD becomes the first qTD, and the last new one is inactive.
-use Rattle.std.proofs.Common.{◌≡◌, ◌≢◌, ℕ, zero, suc, ◌+◌, ◌-◌, ◌<◌, ◌≤◌, Bool, true, false, List, [], ◌∷◌, ◌++◌, length, take, drop, replicate, get_or, set, slice_get, Some, option_map, ap, sym, subst, ◌∙◌, ⊎_elim, inl, inr, refl, arith, length-append, length-take, length-drop}
+use Rattle.std.proofs.Common.{◌≡◌, ◌≢◌, ℕ, zero, suc, ◌+◌, ◌-◌, ◌<◌, ◌≤◌, Bool, true, false, ◌||◌, List, [], ◌∷◌, ◌++◌, length, take, drop, replicate, get_or, set, slice_get, Some, None, option_map, ap, sym, subst, ◌∙◌, ⊎_elim, inl, inr, refl, arith, length-append, length-take, length-drop}
 use Rattle.std.specs.Prelude.{◌⊎◌, is_some}
 use Rattle.std.specs.List.{AllByRecursion}
 use Rattle.std.proofs.lemmas.Bool.{cases_eq, cases_Bool, false≢true}
@@ -14,9 +14,10 @@ use Rattle.driver_rows.specs.DriverContent.{DriverContent}
 use Rattle.driver_rows.specs.Words.{head_block, needs}
 use Rattle.driver_rows.specs.Offers.{Offered, Asked, new_runs, note_stages, accepted_transfer, with_queued, new_transfer}
 use Rattle.run_owners.specs.Accepts.{AreShort, Transfers}
-use Rattle.run_owners.specs.Leaving.{IsOrderly}
-use Rattle.run_owners.specs.Owners.{Owner, FrameList, Head, QueueHead, Dummy, Element, Buffer, HasBlocks, HasRun, IsPlaced, EndpointRuns, TransferRuns, runs_of_endpoint, runs_of_transfer, runs_of_note, endpoint_in, transfer_in, note_in, ArePieces, AreOwned, IsOwned}
-use Rattle.run_owners.proofs.Runs.{placed_run, pieces_still}
+use Rattle.driver_rows.specs.Rows.{is_iso}
+use Rattle.run_owners.specs.Leaving.{IsSteady, IsOrderly}
+use Rattle.run_owners.specs.Owners.{Owner, FrameList, Head, QueueHead, Dummy, Element, Described, Buffer, HasBlocks, HasRun, IsPlaced, EndpointRuns, TransferRuns, is_descriptor, runs_of_endpoint, runs_of_transfer, runs_of_note, endpoint_in, transfer_in, note_in, buffer_in, ArePieces, Views, views_of, AreOwned, IsOwned}
+use Rattle.run_owners.proofs.Runs.{placed_run, pieces_still, described_still}
 use Rattle.run_owners.proofs.Released.{set_here, set_there}
 use Rattle.run_owners.proofs.Taking.{AreTaken, runs_taken, blocks_some}
 use Rattle.run_owners.proofs.Chains.{buffers_of, notes_apart, notes_many, pieces_noted}
@@ -30,6 +31,7 @@ number_of Head = 0
 number_of (QueueHead e) = e
 number_of (Dummy e) = e
 number_of (Element t) = t
+number_of (Described t) = t
 number_of (Buffer t) = t
 
 is_dummy : Owner → Bool
@@ -38,6 +40,7 @@ is_dummy FrameList = false
 is_dummy Head = false
 is_dummy (QueueHead e) = false
 is_dummy (Element t) = false
+is_dummy (Described t) = false
 is_dummy (Buffer t) = false
 
 -- a block of an owner that isn't this endpoint's inactive qTD is another block
@@ -74,7 +77,7 @@ pub record AreNew (slot now : ℕ → Slot) (owner mine : ℕ → Owner) (b e t 
 pub new_owners : (owner : ℕ → Owner) (b e t : ℕ) (dummy : ℕ) (qtds runs : List ℕ) → ℕ → Owner
 new_owners owner b e t dummy qtds runs = given (dummy ∷ []) (Dummy e) (given (b ∷ qtds) (Element t) (given runs (Buffer t) owner))
 
-one_not : (b c : ℕ) → b ≢ c → (i : ℕ) → i < length (b ∷ []) → get_or (b ∷ []) i 0 ≢ c
+pub one_not : (b c : ℕ) → b ≢ c → (i : ℕ) → i < length (b ∷ []) → get_or (b ∷ []) i 0 ≢ c
 one_not b c differs zero below = differs
 one_not b c differs (suc i) below = absurd (omega arith)
 
@@ -182,10 +185,27 @@ get_case f xs e i x y z here there =
     ⊎_elim (λ (same : i ≡ e). inl (same, sym (same_Some (f y) z (sym (ap (option_map f) (ap (slice_get (set xs e y)) same ∙ set_here xs e x y here)) ∙ there))))
     (λ (differs : i ≢ e). inr (differs, sym (ap (option_map f) (set_there xs e i y differs)) ∙ there)) (cases_eq i e)
 
-transfer_each : {h g : Holding} {bs : List ℕ} (d : DriverContent) (owner : ℕ → Owner) (e : ℕ) (x : Endpoint) (a : Asked) → AreTaken h g (needs a.stages) bs → h.book.slots ≡ d.book.slots → slice_get d.endpoints e ≡ Some x → x.gone ≡ false → AreShort a.stages → 1 ≤ length a.stages → IsOwned d owner
-    → AreOwned (slot_of g.book.slots) (endpoint_in (set d.endpoints e (with_queued x (get_or (take (length a.stages) bs) (length a.stages - 1) 0) (length d.transfers)))) (transfer_in (d.transfers ++ new_transfer e a x.dummy ∷ [])) (note_in (note_stages d.notes a.stages x.dummy (take (length a.stages) bs) (drop (length a.stages) bs))) (new_owners owner x.dummy e (length d.transfers) (get_or (take (length a.stages) bs) (length a.stages - 1) 0) (take (length a.stages) bs) (drop (length a.stages) bs))
+-- an endpoint that hasn't ended wasn't given back
+pub goes_on_alive : (x : Endpoint) → x.ended ≡ None → IsSteady x → x.gone ≡ false
+goes_on_alive x goes steady =
+    ⊎_elim (λ (g : x.gone ≡ true). let out = steady.gone g in absurd (false≢true (sym (ap is_some goes) ∙ steady.ended out.0 out.1))) (λ (g : x.gone ≡ false). g) (cases_Bool x.gone)
+
+-- the content once the transfer was accepted, told by its runs
+abbrev after_transfer : DriverContent → Holding → ℕ → Endpoint → Asked → List ℕ → Views
+after_transfer d g e x a bs = record (views_of d) {
+  slot = slot_of g.book.slots;
+  endpoint = endpoint_in (set d.endpoints e (with_queued x (get_or (take (length a.stages) bs) (length a.stages - 1) 0) (length d.transfers)));
+  transfer = transfer_in (d.transfers ++ new_transfer e a x.dummy ∷ []);
+  note = note_in (note_stages d.notes a.stages x.dummy (take (length a.stages) bs) (drop (length a.stages) bs));
+}
+
+abbrev owners_after : DriverContent → (ℕ → Owner) → ℕ → Endpoint → Asked → List ℕ → ℕ → Owner
+owners_after d owner e x a bs =
+    new_owners owner x.dummy e (length d.transfers) (get_or (take (length a.stages) bs) (length a.stages - 1) 0) (take (length a.stages) bs) (drop (length a.stages) bs)
+
+transfer_each : {h g : Holding} {bs : List ℕ} (d : DriverContent) (owner : ℕ → Owner) (e : ℕ) (x : Endpoint) (a : Asked) → AreTaken h g (needs a.stages) bs → h.book.slots ≡ d.book.slots → slice_get d.endpoints e ≡ Some x → is_iso x.desc.kind || x.gone ≡ false → is_descriptor a.sort ≡ false → AreShort a.stages → 1 ≤ length a.stages → IsOwned d owner → AreOwned (after_transfer d g e x a bs) (owners_after d owner e x a bs)
 unfolding is_dummy
-transfer_each {h = h} {g = g} {bs = bs} d owner e x a taken slots here alive short some old =
+transfer_each {h = h} {g = g} {bs = bs} d owner e x a taken slots here alive sort short some old =
     let ss = a.stages in
     let n = length ss in
     let qtds = take n bs in
@@ -195,7 +215,7 @@ transfer_each {h = h} {g = g} {bs = bs} d owner e x a taken slots here alive sho
     let b = x.dummy in
     let mine = new_owners owner b e t dummy qtds runs in
     let now = slot_of g.book.slots in
-    let each = subst (λ (ss : List Slot). AreOwned (slot_of ss) (endpoint_in d.endpoints) (transfer_in d.transfers) (note_in d.notes) owner) (sym slots) old.each in
+    let each = subst (λ (ss : List Slot). AreOwned (record (views_of d) { slot = slot_of ss }) owner) (sym slots) old.each in
     let ring = ap (option_map runs_of_endpoint) here in
     let was = each.dummy e (runs_of_endpoint x) ring alive in
     let new = are_new ss owner b e t some taken was in
@@ -241,6 +261,16 @@ transfer_each {h = h} {g = g} {bs = bs} d owner e x a taken slots here alive sho
           (omega (arith, length-drop n bs, taken.long, length-append (replicate n 1) (buffers_of ss), length-replicate {A = ℕ} n 1))
           new.buffers)))
           (push_case runs_of_transfer d.transfers (new_transfer e a b) u z there);
+      described = λ u z there iso on.
+          ⊎_elim
+          (λ (w : transfer_in d.transfers u ≡ Some z).
+          described_still (slot_of h.book.slots) now owner mine (buffer_in d.periodic.notes z.first) (buffer_in d.periodic.notes z.first) u z.first
+          (λ c p. new.kept c (Described u) (not_dummy b c e (Described u) was refl p) p)
+          (λ c p. new.kept c (Buffer u) (not_dummy b c e (Buffer u) was refl p) p)
+          (λ p. refl) (each.described u z w iso on))
+          (λ (w : (u ≡ t) × (z ≡ runs_of_transfer (new_transfer e a b))).
+          absurd (false≢true (sym sort ∙ ap (λ (r : TransferRuns). r.isochronous) (sym w.1) ∙ iso)))
+          (push_case runs_of_transfer d.transfers (new_transfer e a b) u z there);
     }
 
 pub transfer_owned : (d : DriverContent) (m : Mem) (owner : ℕ → Owner) (o : Offered) → Stands (holding d.book m) → Transfers d m o → IsOrderly d → IsOwned d owner → (mine : ℕ → Owner) × IsOwned o.driver mine
@@ -249,14 +279,13 @@ transfer_owned d m owner o stands why order old =
     let bs = all.blocks in
     let n = length why.asked.stages in
     let x = why.endpoint in
-    let mine = new_owners owner x.dummy why.number (length d.transfers) (get_or (take n bs) (n - 1) 0) (take n bs) (drop n bs) in
+    let mine = owners_after d owner why.number x why.asked bs in
     let new : new_runs d why.holding_after ≡ bs = ap (drop (length d.book.taken)) all.are.taken ∙ drop_first d.book.taken bs in
-    let steady = order.steady why.number x why.here in
-    let alive : x.gone ≡ false =
-    ⊎_elim (λ (g : x.gone ≡ true). absurd (false≢true (sym (ap is_some why.goes_on) ∙ steady.ended (steady.gone g)))) (λ (g : x.gone ≡ false). g) (cases_Bool x.gone) in
+    let alive = goes_on_alive x why.goes_on (order.steady why.number x why.here) in
     let now : IsOwned (accepted_transfer d why.number x why.asked why.holding_after (get_or (take n bs) (n - 1) 0) (note_stages d.notes why.asked.stages x.dummy (take n bs) (drop n bs))).driver mine = record {
-      each = transfer_each d owner why.number x why.asked all.are refl why.here alive why.short why.some old;
+      each = transfer_each d owner why.number x why.asked all.are refl why.here (ap (λ k. k || x.gone) why.queued ∙ alive) why.sort why.short why.some old;
       sizes = notes_many d.notes why.asked.stages x.dummy (take n bs) (drop n bs) ∙ (old.sizes ∙ sym all.are.many);
+      as_many = old.as_many ∙ sym all.are.many;
     } in (
       mine,
       subst (λ (f : Offered). IsOwned f.driver mine) (sym why.is)
