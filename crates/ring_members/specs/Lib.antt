@@ -1,2 +1,3 @@
 pub mod Links
 pub mod Ring
+pub mod Lists

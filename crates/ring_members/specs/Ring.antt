@@ -9,9 +9,11 @@ use Rattle.driver_rows.specs.declared.content.Transfer.{Transfer}
 use Rattle.driver_rows.specs.declared.content.Mend.{Mend}
 use Rattle.driver_rows.specs.declared.content.Command.{Command}
 use Rattle.driver_rows.specs.declared.content.Command.TheVariants as unfinished
+use Rattle.periodic_rows.specs.Periodic.{is_periodic}
 use Rattle.driver_rows.specs.DriverContent.{DriverContent}
 use Rattle.driver_rows.specs.Words.{head_block, queue_head_link}
 use Rattle.driver_rows.specs.Offers.{newest_of, oldest_of}
+use Rattle.run_owners.specs.Owners.{is_descriptor}
 use Rattle.ring_members.specs.Links.{AreLinked}
 
 -- ---- those that left
@@ -76,11 +78,19 @@ pub record IsPublishing (word : ℕ → ℕ) (xs : List Endpoint) (ts : List Tra
   pub released : transfer.released ≡ false
   pub some : 1 ≤ transfer.qtds
 
+-- new descriptors are the last transfers, and none was given back
+pub record IsDescribing (word : ℕ → ℕ) (xs : List Endpoint) (ts : List Transfer) (t count : ℕ) : Type 0 where
+  pub ring : AreLinked word head_block xs
+  pub described : (i : ℕ) (y : Transfer) → slice_get (take count (drop t ts)) i ≡ Some y → (is_descriptor y.sort ≡ true) × (y.released ≡ false)
+
 abbrev pub StandsFor : (ℕ → ℕ) → List Endpoint → List Transfer → Option Command → Type 0
 StandsFor word xs ts None = AreLinked word head_block xs
 StandsFor word xs ts (Some (unfinished.Open queue)) = IsOpening word xs queue
 StandsFor word xs ts (Some (unfinished.Publish b words)) = IsPublishing word xs ts b
 StandsFor word xs ts (Some (unfinished.Unlink e b link)) = IsUnlinking word xs e b link
+StandsFor word xs ts (Some unfinished.Chain) = AreLinked word head_block xs
+StandsFor word xs ts (Some (unfinished.Iso e t count)) = IsDescribing word xs ts t count
+StandsFor word xs ts (Some (unfinished.Unchain e)) = AreLinked word head_block xs
 
 -- ---- the whole
 
@@ -92,5 +102,5 @@ pub record IsRing (word : ℕ → ℕ) (d : DriverContent) : Type 0 where
   pub ring : StandsFor word d.endpoints d.transfers d.command
   pub leaving : AreLeaving word d.endpoints (d.rung ++ d.waiting)
   pub mends : AllByRecursion IsMending d.mends
-  -- an endpoint that wasn't cancelled is in the ring
-  pub kept : (e : ℕ) (x : Endpoint) → slice_get d.endpoints e ≡ Some x → x.cancelled ≡ false → x.linked ≡ true
+  -- a bulk or control endpoint that wasn't cancelled is in the ring
+  pub kept : (e : ℕ) (x : Endpoint) → slice_get d.endpoints e ≡ Some x → is_periodic x.desc.kind ≡ false → x.cancelled ≡ false → x.linked ≡ true

@@ -1,6 +1,5 @@
 -- What is taken for the descriptors of a command has its owners.
-use Rattle.std.proofs.Common.{◌≡◌, ◌≢◌, ℕ, zero, suc, ◌+◌, ◌<◌, ◌≤◌, ◌==◌, ◌%◌, Bool, true, false, List, [], ◌∷◌, ◌++◌, length, take, drop, replicate, get_or, set, slice_get, Option, Some, None, option_map, ap, sym, subst, ◌∙◌, ⊎_elim, refl, arith, length-append, length-take, length-drop}
-use Rattle.std.specs.Prelude.{◌⊎◌}
+use Rattle.std.proofs.Common.{◌≡◌, ◌≢◌, ℕ, zero, suc, ◌+◌, ◌<◌, ◌≤◌, ◌==◌, ◌%◌, Bool, false, List, [], ◌∷◌, ◌++◌, length, take, drop, replicate, get_or, set, slice_get, Option, Some, None, option_map, ap, sym, subst, ◌∙◌, ⊎_elim, refl, arith, length-append, length-take, length-drop}
 use Rattle.std.specs.List.{AllByRecursion}
 use Rattle.std.proofs.lemmas.Bool.{false≢true}
 use Rattle.std.proofs.lemmas.List.{get_or-set_same, get_or-set_other, length-set, get_or-take, get_or-drop}
@@ -10,7 +9,7 @@ use Rattle.word_mem.specs.Memory.{Mem}
 use Rattle.run_book.specs.Book.{Book, Holding, holding, Stands, slot_of}
 use Rattle.run_book.specs.declared.slots.Slot.{Slot}
 use Rattle.periodic_rows.specs.declared.content.DescriptorNote.{DescriptorNote}
-use Rattle.periodic_rows.specs.Periodic.{no_descriptor, note_at as descriptor_at}
+use Rattle.periodic_rows.specs.Periodic.{no_descriptor}
 use Rattle.driver_rows.specs.declared.content.Endpoint.{Endpoint}
 use Rattle.driver_rows.specs.declared.content.Transfer.{Transfer}
 use Rattle.driver_rows.specs.declared.content.Slots.{Slots}
@@ -18,8 +17,8 @@ use Rattle.driver_rows.specs.DriverContent.{DriverContent}
 use Rattle.driver_rows.specs.Words.{head_block, buffer_needs}
 use Rattle.driver_rows.specs.Offers.{Offered, Descriptors, new_runs, first_waiting, total_of, slot_runs, iso_needs, descriptor_note, descriptor_transfer, one_descriptor, all_descriptors, entered_iso}
 use Rattle.run_owners.specs.Accepts.{Describes}
-use Rattle.run_owners.specs.Owners.{Owner, FrameList, Head, QueueHead, Dummy, Element, Described, Buffer, HasBlocks, HasRun, IsPlaced, EndpointRuns, TransferRuns, runs_of_endpoint, runs_of_transfer, buffer_of, endpoint_in, transfer_in, note_in, buffer_in, ArePieces, IsDescribed, Views, views_of, AreOwned, IsOwned}
-use Rattle.run_owners.proofs.Runs.{placed_run, pieces_still, described_still, AreSame, owned_stays}
+use Rattle.run_owners.specs.Owners.{Owner, FrameList, Head, QueueHead, Dummy, Element, Described, Buffer, HasBlocks, IsPlaced, EndpointRuns, TransferRuns, runs_of_endpoint, runs_of_transfer, buffer_of, endpoint_in, transfer_in, note_in, buffer_in, ArePieces, IsDescribed, Views, views_of, AreOwned, IsOwned}
+use Rattle.run_owners.proofs.Runs.{placed_run, pieces_still, described_still, owned_stays}
 use Rattle.run_owners.proofs.Stays.{same_view}
 use Rattle.run_owners.proofs.Released.{same_number, other_number}
 use Rattle.run_owners.proofs.Taking.{AreTaken, runs_taken, blocks_some}

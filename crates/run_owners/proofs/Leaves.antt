@@ -1,5 +1,5 @@
 -- An endpoint leaves the ring or its frames, its doorbell is rung and answered or its frames have passed, and it is given back.
-use Rattle.std.proofs.Common.{◌≡◌, ◌≢◌, ℕ, suc, ◌+◌, ◌<◌, ◌==◌, Bool, true, false, not, ◌||◌, ◌&&◌, cond, nat_lt, List, [], ◌∷◌, ◌++◌, length, map, drop, set, slice_get, Option, Some, None, option_map, ap, sym, ◌∙◌, ⊎_elim, inl, inr, refl, arith}
+use Rattle.std.proofs.Common.{◌≡◌, ◌≢◌, ℕ, ◌+◌, ◌<◌, ◌==◌, Bool, true, false, not, ◌||◌, ◌&&◌, cond, List, [], ◌∷◌, ◌++◌, map, drop, set, slice_get, Option, Some, None, option_map, ap, sym, ◌∙◌, ⊎_elim, inl, inr, refl, arith}
 use Rattle.std.specs.Prelude.{is_some, ◌⊎◌, ◌≤◌}
 use Rattle.std.proofs.lemmas.Bool.{cases_eq, cases_lt, cases_Bool, false≢true}
 use Rattle.std.proofs.lemmas.List.{length-set}
@@ -13,7 +13,7 @@ use Rattle.driver_rows.specs.declared.content.Sort.{Sort}
 use Rattle.driver_rows.specs.DriverContent.{DriverContent, waits_for}
 use Rattle.driver_rows.specs.Rows.{is_iso, leave_ring, no_command, let_go, let_go_waiting}
 use Rattle.run_owners.specs.Owners.{is_descriptor}
-use Rattle.run_owners.specs.Leaving.{times, transfer_before, endpoint_before, transfers_in, endpoints_in, owes, leaves_ring, leaves_frames, leaver, IsSteady, Returns, AreOrderly, IsOrderly}
+use Rattle.run_owners.specs.Leaving.{times, transfer_before, endpoint_before, transfers_in, endpoints_in, owes, leaves_ring, leaves_frames, IsSteady, Returns, AreOrderly, IsOrderly}
 use Rattle.run_owners.proofs.Released.{same_by_test, set_here, set_there}
 use Rattle.run_owners.proofs.Orders.{counts, times_push, times_both, times_first, one_same, none_other, none_at_all, transfers_push, endpoints_push, transfers_read, endpoints_read, transfers_kept, endpoint_first, IsLeft, has_left, IsRemoved, has_removed, owes_nothing, in_ring, out_of_ring, in_frames, out_of_frames, set_case, same_count}
 

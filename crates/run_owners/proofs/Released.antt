@@ -18,7 +18,7 @@ use Rattle.driver_rows.specs.Harvests.{note_at}
 use Rattle.driver_rows.specs.Rows.{Parts, free_runs, free_qtd, free_qtds, free_transfers, free_endpoint, free_descriptor, free_descriptors, freed_by, after_transfer, after_endpoint, after_descriptor, after_placed, free_placed, is_iso, is_held_of, is_told, cancel_told, let_go, let_go_waiting, let_go_placed}
 use Rattle.run_owners.specs.Owners.{Owner, FrameList, Head, QueueHead, Dummy, Element, Described, Buffer, IsRunFor, EndpointRuns, TransferRuns, is_descriptor, runs_of_endpoint, runs_of_transfer, endpoint_in, transfer_in, note_in, buffer_in, Views, views_of, AreOwned, IsOwned}
 use Rattle.run_owners.specs.Leaving.{IsOrderly}
-use Rattle.run_owners.proofs.Runs.{AreKept, owned_kept}
+use Rattle.run_owners.proofs.Runs.{owned_kept}
 use Rattle.run_owners.proofs.Freeing.{runs_freed, qtds_freed, transfers_freed, descriptor_freed, descriptors_freed}
 
 -- ---- as many slots

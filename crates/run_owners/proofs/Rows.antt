@@ -17,7 +17,6 @@ use Rattle.periodic_rows.specs.declared.content.Removed.TheVariants as removed
 use Rattle.driver_rows.specs.declared.content.QtdNote.{QtdNote}
 use Rattle.driver_rows.specs.declared.content.Sort.{Sort}
 use Rattle.driver_rows.specs.declared.content.Sort.TheVariants as sorts
-use Rattle.driver_rows.specs.declared.rows.Found.{Found}
 use Rattle.driver_rows.specs.declared.rows.Found.TheVariants as founds
 use Rattle.driver_rows.specs.DriverContent.{DriverContent}
 use Rattle.driver_rows.specs.Rows.{Parts, row_of, after_row, after_transfer, after_endpoint, after_descriptor, after_placed, after_removed, after_unlink, removal_of, found_of, freed_by, linked_by, free_endpoint, free_placed, gone_with, removed_with, let_go, let_go_placed, is_iso, advance, cancelled_bytes, is_told}
@@ -25,7 +24,7 @@ use Rattle.driver_rows.specs.Harvests.{note_at, token_in, moved_of, halt_of, don
 use Rattle.usb_base.specs.declared.reports.What.TheVariants as lines
 use Rattle.word_mem.specs.Memory.{Mem}
 use Rattle.run_owners.specs.Owners.{Owner, is_descriptor, IsOwned}
-use Rattle.run_owners.specs.Leaving.{Returns, returns_of, leaver, AreOrderly, IsOrderly}
+use Rattle.run_owners.specs.Leaving.{returns_of, leaver, AreOrderly, IsOrderly}
 use Rattle.run_owners.specs.Due.{IsDue, IsRemovalDue}
 use Rattle.run_owners.proofs.Stays.{stays_same, stays_owned, advanced, framed, unlinks, lent, harvest_stays}
 use Rattle.run_owners.proofs.Released.{transfer_owned, descriptor_owned, endpoint_owned, placed_owned}

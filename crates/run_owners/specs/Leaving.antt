@@ -5,7 +5,7 @@
 --     leaves_ring x         an endpoint that left the ring and wasn't given back is owed one release
 --     leaves_frames x       .. and so is a periodic one that left its frames
 --     IsOrderly d           each release is owed, and none stands in the driver's lists more than once
-use Rattle.std.specs.Prelude.{◌≡◌, ℕ, ◌+◌, ◌<◌, ◌≤◌, ◌==◌, Bool, true, false, not, ◌&&◌, ◌||◌, List, [], ◌∷◌, length, slice_get, Option, Some, None, is_some, if◌then◌else◌}
+use Rattle.std.specs.Prelude.{◌≡◌, ℕ, ◌+◌, ◌<◌, ◌≤◌, ◌==◌, true, false, not, ◌&&◌, ◌||◌, List, [], ◌∷◌, length, slice_get, Option, Some, None, is_some, if◌then◌else◌}
 use Rattle.periodic_rows.specs.Periodic.{is_periodic}
 use Rattle.periodic_rows.specs.declared.content.Removal.{Removal}
 use Rattle.periodic_rows.specs.declared.content.Removed.{Removed}
