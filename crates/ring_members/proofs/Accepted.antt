@@ -1,5 +1,5 @@
 -- Each accepted command keeps the ring standing for the driver's content.
-use Rattle.std.proofs.Common.{◌≡◌, ◌≢◌, ℕ, zero, suc, ◌+◌, ◌-◌, ◌*◌, ◌/◌, ◌%◌, ◌<◌, ◌≤◌, true, false, cond, List, [], ◌∷◌, ◌++◌, length, take, drop, replicate, get_or, set, slice_get, slice_index, Option, Some, None, option_map, ap, sym, subst, ◌∙◌, ⊎_elim, refl, arith, length-append, length-drop}
+use Rattle.std.proofs.Common.{Bool, append_assoc, length-take, ◌||◌, ◌≡◌, ◌≢◌, ℕ, zero, suc, ◌+◌, ◌-◌, ◌*◌, ◌/◌, ◌%◌, ◌<◌, ◌≤◌, true, false, cond, List, [], ◌∷◌, ◌++◌, length, take, drop, replicate, get_or, set, slice_get, slice_index, Option, Some, None, option_map, ap, sym, subst, ◌∙◌, ⊎_elim, refl, arith, length-append, length-drop}
 use Rattle.std.specs.Prelude.{is_some}
 use Rattle.std.specs.List.{AllByRecursion}
 use Rattle.std.proofs.lemmas.Bool.{cases_eq, cases_Bool, false≢true}
@@ -9,18 +9,27 @@ use Rattle.usb_base.specs.declared.endpoints.EpDesc.{EpDesc}
 use Rattle.word_mem.specs.Memory.{Mem, IsShaped, word_at}
 use Rattle.qh_qtd.specs.QueueHead.{qh_words}
 use Rattle.qh_qtd.specs.Qtd.{qtd_words}
-use Rattle.run_book.specs.Book.{Holding, holding, Stands, slot_of, store_words}
+use Rattle.run_book.specs.Book.{Book, Holding, holding, Stands, slot_of, store, store_words}
 use Rattle.driver_rows.specs.declared.content.Endpoint.{Endpoint}
 use Rattle.driver_rows.specs.declared.content.Transfer.{Transfer}
 use Rattle.driver_rows.specs.declared.content.QtdNote.{QtdNote}
 use Rattle.driver_rows.specs.declared.content.Stage.{Stage}
 use Rattle.driver_rows.specs.declared.content.Command.{Command}
+use Rattle.itd_sitd.specs.Itd.{itd_words}
+use Rattle.bandwidth.specs.declared.placements.Placement.{Placement}
+use Rattle.periodic_rows.specs.declared.content.DescriptorNote.{DescriptorNote}
+use Rattle.periodic_rows.specs.Periodic.{is_periodic, queue_member}
+use Rattle.periodic_rows.specs.Linking.{new_link}
+use Rattle.periodic_rows.specs.Descriptors.{buffer_address as descriptor_address, is_in, new_itd, seeded_word, write_seeded}
+use Rattle.driver_rows.specs.declared.content.Slots.{Slots}
+use Rattle.driver_rows.specs.declared.content.Command.TheVariants as unfinished
+use Rattle.driver_rows.specs.Rows.{is_iso}
 use Rattle.driver_rows.specs.DriverContent.{DriverContent}
-use Rattle.driver_rows.specs.Words.{head_block, queue_head_link, queue_head, dummy_qtd, needs}
+use Rattle.driver_rows.specs.Words.{head_block, queue_head_link, queue_head, interrupt_head, dummy_qtd, needs, pieces}
 use Rattle.driver_rows.specs.Harvests.{note_at}
-use Rattle.driver_rows.specs.Offers.{Offered, Asked, new_runs, newest_of, oldest_of, new_endpoint, note_stages, write_stages, send_stages, with_queued, new_transfer, accepted_open, accepted_transfer, accepted_cancel, first_end}
-use Rattle.run_owners.specs.Accepts.{Accepts, opens, transfers, cancels}
-use Rattle.run_owners.specs.Owners.{Owner, FrameList, Head, QueueHead, Dummy, Element, Buffer, HasRun, SlotHas, IsPlaced, runs_of_endpoint}
+use Rattle.driver_rows.specs.Offers.{Offered, Asked, Descriptors, new_runs, newest_of, oldest_of, new_endpoint, placed_endpoint, note_stages, write_stages, send_stages, first_waiting, with_queued, new_transfer, total_of, slot_runs, iso_needs, descriptor_note, descriptor_transfer, one_descriptor, all_descriptors, entered_iso, accepted_open, accepted_chain, accepted_transfer, accepted_cancel, endpoint_members, with_cancel, first_end}
+use Rattle.run_owners.specs.Accepts.{Accepts, opens, chains, places, transfers, describes, cancels, unchains, Describes}
+use Rattle.run_owners.specs.Owners.{Owner, FrameList, Head, QueueHead, Dummy, Element, Described, Buffer, HasRun, SlotHas, IsPlaced, runs_of_endpoint, is_descriptor}
 use Rattle.run_owners.specs.Kept.{HasOwners}
 use Rattle.run_owners.proofs.Runs.{placed_run}
 use Rattle.run_owners.proofs.Orders.{times_both, set_case}
@@ -28,17 +37,17 @@ use Rattle.run_owners.proofs.Released.{set_here, set_there}
 use Rattle.run_owners.proofs.Taking.{AreTaken, runs_taken, blocks_some}
 use Rattle.run_owners.proofs.Chains.{buffers_of}
 use Rattle.run_owners.proofs.Accepted.{drop_first, fresh_differs, within_slots}
-use Rattle.run_owners.proofs.Transferred.{are_new}
-use Rattle.run_owners.proofs.Ordered.{pushed}
+use Rattle.run_owners.proofs.Transferred.{are_new, goes_on_alive}
+use Rattle.run_owners.proofs.Ordered.{pushed, iso_periodic}
 use Rattle.ring_members.specs.Links.{link_in, step_to, LeadsFrom, AreLinked}
-use Rattle.ring_members.specs.Ring.{AreLeaving, StandsFor, IsRing}
+use Rattle.ring_members.specs.Ring.{AreLeaving, IsDescribing, StandsFor, IsRing}
 use Rattle.ring_members.proofs.Links.{linked_kept, linked_same}
-use Rattle.ring_members.proofs.Stores.{AreNotAt, slots_apart, words_elsewhere, stages_elsewhere, sends_elsewhere, first_stored}
+use Rattle.ring_members.proofs.Stores.{AreNotAt, AreApart, slots_apart, store_elsewhere, words_elsewhere, stages_elsewhere, sends_elsewhere, first_stored}
 use Rattle.ring_members.proofs.Leaving.{GoOn, same_go_on, leaving_kept}
-use Rattle.ring_members.proofs.Placed.{has_word, can_begin, in_ring_alive, queue_placed, head_run_there, left_alive, word_inside}
+use Rattle.ring_members.proofs.Placed.{has_word, has_queue, can_begin, in_ring_alive, queue_placed, head_run_there, left_alive, word_inside}
 use Rattle.ring_members.proofs.Harvests.{endpoint_set}
 use Rattle.ring_members.proofs.Noted.{noted_apart}
-use Rattle.ring_members.proofs.Events.{kept_still}
+use Rattle.ring_members.proofs.Events.{kept_still, or_finished_ring}
 
 -- ---- the words that were there
 
@@ -110,8 +119,8 @@ open_ring d m desc g bs stands shape taken idle has old =
       };
       leaving = leaving_through (link_in m) now d (d.endpoints ++ new_endpoint desc queue dummy ∷ []) has keeps (one_more_on d.endpoints (new_endpoint desc queue dummy)) old.leaving;
       mends = old.mends;
-      kept = λ e x there fresh.
-          ⊎_elim (λ (w : slice_get d.endpoints e ≡ Some x). old.kept e x w fresh)
+      kept = λ e x there ring fresh.
+          ⊎_elim (λ (w : slice_get d.endpoints e ≡ Some x). old.kept e x w ring fresh)
           (λ (w : (e ≡ length d.endpoints) × (x ≡ new_endpoint desc queue dummy)). ap (λ (z : Endpoint). z.linked) w.1)
           (pushed d.endpoints (new_endpoint desc queue dummy) e x there);
     }
@@ -126,6 +135,45 @@ shaped_taken taken stands shape =
       eight_each = omega (arith, words, shape.eight_each, taken.stands.sizes, taken.many, stands.sizes);
     }
 
+-- ---- an open of a periodic endpoint, which isn't in the ring
+
+outside_ring : (word : ℕ → ℕ) (b : ℕ) (xs : List Endpoint) (y : Endpoint) → y.linked ≡ false → AreLinked word b xs → AreLinked word b (xs ++ y ∷ [])
+outside_ring word b [] y off linked = (
+  subst (λ (t : Bool). LeadsFrom word t y.queue b) (sym off) tt,
+  subst (λ (t : Bool). word head_block ≡ queue_head_link (cond t y.queue b)) (sym off) linked,
+)
+outside_ring word b (x ∷ xs) y off linked = (linked.0, outside_ring word (step_to b x) xs y off linked.1)
+
+outside_kept : (d : DriverContent) (y : Endpoint) → is_periodic y.desc.kind ≡ true → ((e : ℕ) (x : Endpoint) → slice_get d.endpoints e ≡ Some x → is_periodic x.desc.kind ≡ false → x.cancelled ≡ false → x.linked ≡ true) → (e : ℕ) (x : Endpoint) → slice_get (d.endpoints ++ y ∷ []) e ≡ Some x → is_periodic x.desc.kind ≡ false → x.cancelled ≡ false → x.linked ≡ true
+outside_kept d y frames old e x there ring fresh =
+    ⊎_elim (λ (w : slice_get d.endpoints e ≡ Some x). old e x w ring fresh)
+    (λ (w : (e ≡ length d.endpoints) × (x ≡ y)). absurd (false≢true (sym ring ∙ ap (λ (z : Endpoint). is_periodic z.desc.kind) w.1 ∙ frames)))
+    (pushed d.endpoints y e x there)
+
+chain_ring : (d : DriverContent) (m : Mem) (desc : EpDesc) (p : Placement) (g : Holding) (bs : List ℕ) → AreTaken (holding d.book m) g (2 ∷ 1 ∷ []) bs → is_periodic desc.kind ≡ true → d.command ≡ None → HasOwners d → IsRing (link_in m) d → IsRing (link_in (accepted_chain d desc p g (get_or bs 0 0) (get_or bs 1 0)).memory) (accepted_chain d desc p g (get_or bs 0 0) (get_or bs 1 0)).driver
+chain_ring d m desc p g bs taken frames idle has old =
+    let queue = get_or bs 0 0 in
+    let dummy = get_or bs 1 0 in
+    let k = g.book in
+    let apart = slots_apart g taken.stands in
+    let ws = qh_words (interrupt_head desc p.smask p.cmask (new_link d.periodic.list (queue_member queue p)) dummy) in
+    let mid = store_words k g.memory queue (32 * queue) ws in
+    let now = link_in (store_words k mid dummy (32 * dummy) (qtd_words dummy_qtd)) in
+    let two : 1 < length bs = omega (arith, taken.long) in
+    let y = placed_endpoint desc p queue dummy in
+    let run : (c : ℕ) → HasRun (slot_of d.book.slots c) → SlotHas (slot_of k.slots c) (32 * c / 32) = λ c there. has_word g c taken.stands (subst HasRun (sym (taken.old c there)) there) in
+    let same : (c : ℕ) → HasRun (slot_of d.book.slots c) → now c ≡ link_in m c = λ c there.
+    words_elsewhere k mid dummy c (32 * dummy) (32 * c) (qtd_words dummy_qtd) apart (λ is. fresh_differs 1 c taken two there (sym is)) (run c there)
+    ∙ words_elsewhere k g.memory queue c (32 * queue) (32 * c) ws apart (λ is. fresh_differs 0 c taken (omega (arith, two)) there (sym is)) (run c there)
+    ∙ ap (λ vs. slice_index vs (32 * c / 4)) taken.words in
+    let keeps : KeepsQueues d has.owner (link_in m) now = (λ c e q. same c (placed_run c (QueueHead e) q), same head_block (head_run_there d has)) in
+    record {
+      ring = outside_ring now head_block d.endpoints y refl (linked_through (link_in m) now d has keeps head_block (idle_linked (link_in m) d idle old));
+      leaving = leaving_through (link_in m) now d (d.endpoints ++ y ∷ []) has keeps (one_more_on d.endpoints y) old.leaving;
+      mends = old.mends;
+      kept = outside_kept d y frames old.kept;
+    }
+
 -- ---- a transfer
 
 unfoldable pub owner_kind : Owner → ℕ
@@ -134,6 +182,7 @@ owner_kind Head = 1
 owner_kind (QueueHead e) = 2
 owner_kind (Dummy e) = 3
 owner_kind (Element t) = 4
+owner_kind (Described t) = 6
 owner_kind (Buffer t) = 5
 
 pub other_kind : (owner : ℕ → Owner) (b c : ℕ) (o q : Owner) → owner b ≡ o → owner c ≡ q → owner_kind o ≢ owner_kind q → c ≢ b
@@ -176,7 +225,7 @@ transfer_word d m a g bs owner e b c other taken some sizes was run differs not_
     ∙ stages_elsewhere k g.memory notes dummy (drop 1 ss) (note_at notes b).next c other apart at (tail_not notes c b ss some out.0)
     ∙ ap (λ ws. slice_index ws (other / 4)) taken.words
 
-transfer_ring : (d : DriverContent) (m : Mem) (e : ℕ) (x : Endpoint) (a : Asked) (g : Holding) (bs : List ℕ) → AreTaken (holding d.book m) g (needs a.stages) bs → 1 ≤ length a.stages → slice_get d.endpoints e ≡ Some x → x.gone ≡ false → d.command ≡ None → HasOwners d → IsRing (link_in m) d
+transfer_ring : (d : DriverContent) (m : Mem) (e : ℕ) (x : Endpoint) (a : Asked) (g : Holding) (bs : List ℕ) → AreTaken (holding d.book m) g (needs a.stages) bs → 1 ≤ length a.stages → slice_get d.endpoints e ≡ Some x → is_iso x.desc.kind || x.gone ≡ false → d.command ≡ None → HasOwners d → IsRing (link_in m) d
     → IsRing (link_in (accepted_transfer d e x a g (get_or (take (length a.stages) bs) (length a.stages - 1) 0) (note_stages d.notes a.stages x.dummy (take (length a.stages) bs) (drop (length a.stages) bs))).memory) (accepted_transfer d e x a g (get_or (take (length a.stages) bs) (length a.stages - 1) 0) (note_stages d.notes a.stages x.dummy (take (length a.stages) bs) (drop (length a.stages) bs))).driver
 unfolding owner_kind
 transfer_ring d m e x a g bs taken some here alive idle has old =
@@ -213,6 +262,143 @@ transfer_ring d m e x a g bs taken some here alive idle has old =
     last_pushed [] t = refl
     last_pushed (u ∷ ts) t = last_pushed ts t
 
+-- ---- descriptors
+
+-- the words of an OUT's bytes go to the runs of its buffer
+seeded_elsewhere : (k : Book) (m : Mem) (runs : List ℕ) (seed total i n c other : ℕ) → AreApart k.slots → SlotHas (slot_of k.slots c) (other / 32) → ((j : ℕ) → c ≢ get_or runs j 0) → word_at (write_seeded k m runs seed total i n) other ≡ word_at m other
+seeded_elsewhere k m runs seed total i zero c other apart here not = refl
+seeded_elsewhere k m runs seed total i (suc n) c other apart here not =
+    seeded_elsewhere k (store k m (get_or runs (i / 4096) 0) (descriptor_address runs i) (seeded_word seed total i)) runs seed total (i + 4) n c other apart here not
+    ∙ store_elsewhere k m (get_or runs (i / 4096) 0) c (descriptor_address runs i) (seeded_word seed total i) other apart (not (i / 4096)) here
+
+get_any : (c : ℕ) (xs : List ℕ) (j : ℕ) → c ≢ 0 → ((i : ℕ) → i < length xs → c ≢ get_or xs i 0) → c ≢ get_or xs j 0
+get_any c [] j none each = none
+get_any c (x ∷ xs) zero none each = each 0 (omega arith)
+get_any c (x ∷ xs) (suc j) none each = get_any c xs j none (λ i below. each (suc i) (omega arith))
+
+note_any : (c n : ℕ) (xs : List ℕ) (j : ℕ) → c ≢ 0 → ((i : ℕ) → c ≢ get_or xs i 0) → c ≢ get_or (take 6 (take n xs ++ replicate 6 0)) j 0
+note_any c n xs j none each =
+    get_any c (take 6 (take n xs ++ replicate 6 0)) j none
+    (λ i below.
+    ap_differs c (get_or-take 6 (take n xs ++ replicate 6 0) i 0 (omega (arith, length-take 6 (take n xs ++ replicate 6 0), below)))
+    (both_any c (take n xs) (replicate 6 0) i none (take_any c n xs none each) (λ k. zeros_any c 6 k none)))
+  where
+    ap_differs : (c : ℕ) {a b : ℕ} → a ≡ b → c ≢ b → c ≢ a
+    ap_differs c same differs is = differs (is ∙ same)
+
+    take_any : (c n : ℕ) (xs : List ℕ) → c ≢ 0 → ((i : ℕ) → c ≢ get_or xs i 0) → (i : ℕ) → c ≢ get_or (take n xs) i 0
+    take_any c zero xs none each i = none
+    take_any c (suc n) [] none each i = none
+    take_any c (suc n) (x ∷ xs) none each zero = each 0
+    take_any c (suc n) (x ∷ xs) none each (suc i) = take_any c n xs none (λ j. each (suc j)) i
+
+    both_any : (c : ℕ) (xs ys : List ℕ) (i : ℕ) → c ≢ 0 → ((j : ℕ) → c ≢ get_or xs j 0) → ((j : ℕ) → c ≢ get_or ys j 0) → c ≢ get_or (xs ++ ys) i 0
+    both_any c [] ys i none one two = two i
+    both_any c (x ∷ xs) ys zero none one two = one 0
+    both_any c (x ∷ xs) ys (suc i) none one two = both_any c xs ys i none (λ j. one (suc j)) two
+
+    zeros_any : (c n k : ℕ) → c ≢ 0 → c ≢ get_or (replicate n 0) k 0
+    zeros_any c zero k none = none
+    zeros_any c (suc n) zero none = none
+    zeros_any c (suc n) (suc k) none = zeros_any c n k none
+
+get_dropped : (n : ℕ) (xs : List ℕ) (i : ℕ) → get_or (drop n xs) i 0 ≡ get_or xs (n + i) 0
+get_dropped n xs i = get_or-drop n xs i 0
+
+-- what is written of descriptors leaves each block that isn't one of the runs
+descriptors_elsewhere : (k : Book) (e : ℕ) (x : EpDesc) (s : Slots) (n seed : ℕ) (rs : List ℕ) (a : Descriptors) (c other : ℕ) → AreApart k.slots → SlotHas (slot_of k.slots c) (other / 32) → c ≢ 0 → ((i : ℕ) → c ≢ get_or rs i 0) → word_at (all_descriptors k e x s n seed rs a).memory other ≡ word_at a.memory other
+unfolding all_descriptors
+descriptors_elsewhere k e x s zero seed rs a c other apart here none not = refl
+descriptors_elsewhere k e x s (suc n) seed rs a c other apart here none not =
+    let b = get_or rs 0 0 in
+    let note = descriptor_note s (drop 1 rs) in
+    let ws = itd_words (new_itd x note.smask note.slot note.buffer) in
+    let mid = store_words k a.memory b (32 * b) ws in
+    descriptors_elsewhere k e x s n ((seed + total_of s) % 256) (drop (suc (slot_runs s)) rs) (one_descriptor k e x s seed rs a) c other apart here none
+    (λ i same. not (suc (slot_runs s) + i) (same ∙ get_dropped (suc (slot_runs s)) rs i))
+    ∙ written (is_in x.name.way) b note mid (λ j. note_any c (slot_runs s) (drop 1 rs) j none (λ i same. not (1 + i) (same ∙ get_dropped 1 rs i)))
+    ∙ words_elsewhere k a.memory b c (32 * b) other ws apart (not 0) here
+  where
+    written : (in_way : Bool) (b : ℕ) (note : DescriptorNote) (mid : Mem) → ((j : ℕ) → c ≢ get_or note.buffer j 0) → word_at (cond in_way mid (write_seeded k mid note.buffer seed (total_of s) 0 (pieces (total_of s) 4))) other ≡ word_at mid other
+    written true b note mid away = refl
+    written false b note mid away = seeded_elsewhere k mid note.buffer seed (total_of s) 0 (pieces (total_of s) 4) c other apart here away
+
+-- the new transfers, behind the old ones
+pub record AreAdded (a b : List Transfer) (n : ℕ) : Type 0 where
+  pub new : List Transfer
+  pub all : b ≡ a ++ new
+  pub each : (i : ℕ) (y : Transfer) → slice_get new i ≡ Some y → (is_descriptor y.sort ≡ true) × (y.released ≡ false)
+
+descriptors_added : (k : Book) (e : ℕ) (x : EpDesc) (s : Slots) (n seed : ℕ) (rs : List ℕ) (a : Descriptors) → AreAdded a.transfers (all_descriptors k e x s n seed rs a).transfers n
+unfolding all_descriptors
+descriptors_added k e x s zero seed rs a = record { new = []; all = sym (append_none a.transfers); each = λ i y there. absurd (cc) }
+  where
+    append_none : (ts : List Transfer) → ts ++ [] ≡ ts
+    append_none [] = refl
+    append_none (t ∷ ts) = ap (λ us. t ∷ us) (append_none ts)
+descriptors_added k e x s (suc n) seed rs a =
+    let t = descriptor_transfer e s (get_or rs 0 0) in
+    let rest = descriptors_added k e x s n ((seed + total_of s) % 256) (drop (suc (slot_runs s)) rs) (one_descriptor k e x s seed rs a) in
+    record { new = t ∷ rest.new; all = rest.all ∙ append_assoc a.transfers (t ∷ []) rest.new; each = λ i y there. first_or i y t rest.new there (refl, refl) rest.each }
+  where
+    first_or : (i : ℕ) (y t : Transfer) (us : List Transfer) → slice_get (t ∷ us) i ≡ Some y → (is_descriptor t.sort ≡ true) × (t.released ≡ false) → ((i : ℕ) (y : Transfer) → slice_get us i ≡ Some y → (is_descriptor y.sort ≡ true) × (y.released ≡ false)) → (is_descriptor y.sort ≡ true) × (y.released ≡ false)
+    first_or zero y t us there one each =
+        let same = same_Some t y there in
+        subst (λ (z : Transfer). (is_descriptor z.sort ≡ true) × (z.released ≡ false)) same one
+    first_or (suc i) y t us there one each = each i y there
+
+drop_all : (xs ys : List Transfer) → drop (length xs) (xs ++ ys) ≡ ys
+drop_all [] ys = refl
+drop_all (x ∷ xs) ys = drop_all xs ys
+
+take_get : (n : ℕ) (ts : List Transfer) (i : ℕ) (y : Transfer) → slice_get (take n ts) i ≡ Some y → slice_get ts i ≡ Some y
+take_get zero ts i y there = absurd (cc)
+take_get (suc n) [] i y there = absurd (cc)
+take_get (suc n) (t ∷ ts) zero y there = there
+take_get (suc n) (t ∷ ts) (suc i) y there = take_get n ts i y there
+
+describing : (word : ℕ → ℕ) (xs : List Endpoint) (us vs : List Transfer) (n : ℕ) → AreLinked word head_block xs → AreAdded us vs n → IsDescribing word xs vs (length us) n
+describing word xs us vs n ring added = record {
+  ring = ring;
+  described = λ i y there. added.each i y (sym (ap (λ (ws : List Transfer). slice_get ws i) (ap (drop (length us)) added.all ∙ drop_all us added.new)) ∙ take_get n (drop (length us) vs) i y there);
+}
+
+describe_at : (d : DriverContent) (m : Mem) (e : ℕ) (x : Endpoint) (s : Slots) (n seed : ℕ) (g : Holding) (bs : List ℕ) → AreTaken (holding d.book m) g (iso_needs s n) bs → slice_get d.endpoints e ≡ Some x → d.command ≡ None → HasOwners d → IsRing (link_in m) d
+    → IsRing (link_in (entered_iso d e x n (total_of s) g.book (all_descriptors g.book e x.desc s n seed bs (record { notes = d.periodic.notes; transfers = d.transfers; memory = g.memory }))).memory) (entered_iso d e x n (total_of s) g.book (all_descriptors g.book e x.desc s n seed bs (record { notes = d.periodic.notes; transfers = d.transfers; memory = g.memory }))).driver
+unfolding owner_kind
+describe_at d m e x s n seed g bs taken here idle has old =
+    let a : Descriptors = record { notes = d.periodic.notes; transfers = d.transfers; memory = g.memory } in
+    let r = all_descriptors g.book e x.desc s n seed bs a in
+    let now = link_in r.memory in
+    let list = has.owned.each.list in
+    let same : (c : ℕ) (o : Owner) → IsPlaced (slot_of d.book.slots) has.owner c o → owner_kind o ≢ 0 → now c ≡ link_in m c = λ c o p differs.
+    let none : c ≢ 0 = other_kind has.owner 0 c FrameList o list.owned p.owned (λ k. differs (sym k)) in
+    descriptors_elsewhere g.book e x.desc s n seed bs a c (32 * c) (slots_apart g taken.stands) (has_word g c taken.stands (subst HasRun (sym (taken.old c (placed_run c o p))) (placed_run c o p))) none
+    (λ i. get_any c bs i none (λ j below is. fresh_differs j c taken below (placed_run c o p) (sym is)))
+    ∙ ap (λ ws. slice_index ws (32 * c / 4)) taken.words in
+    let keeps : KeepsQueues d has.owner (link_in m) now = (λ c f p. same c (QueueHead f) p (λ k. omega (arith, k)), same head_block Head has.owned.each.head (λ k. omega (arith, k))) in
+    let y : Endpoint = record x { next = first_waiting x.next (length d.transfers) } in
+    let same_ring = endpoint_set d.endpoints e x y here refl in
+    record {
+      ring = describing now (set d.endpoints e y) d.transfers r.transfers n
+          (linked_same now head_block d.endpoints (set d.endpoints e y) same_ring (linked_through (link_in m) now d has keeps head_block (idle_linked (link_in m) d idle old)))
+          (descriptors_added g.book e x.desc s n seed bs a);
+      leaving = leaving_through (link_in m) now d (set d.endpoints e y) has keeps (same_go_on d.endpoints (set d.endpoints e y) same_ring) old.leaving;
+      mends = old.mends;
+      kept = kept_still d.endpoints (set d.endpoints e y) same_ring old.kept;
+    }
+
+describe_ring : (d : DriverContent) (m : Mem) (o : Offered) → Stands (holding d.book m) → Describes d m o → HasOwners d → IsRing (link_in m) d → IsRing (link_in o.memory) o.driver
+describe_ring d m o stands why has old =
+    let h = why.holding_after in
+    let all = runs_taken (holding d.book m) h (iso_needs why.slots why.count) stands why.runs in
+    let bs = all.blocks in
+    let a : Descriptors = record { notes = d.periodic.notes; transfers = d.transfers; memory = h.memory } in
+    let new : new_runs d h ≡ bs = ap (drop (length d.book.taken)) all.are.taken ∙ drop_first d.book.taken bs in
+    subst (λ (f : Offered). IsRing (link_in f.memory) f.driver) (sym why.is)
+    (subst (λ (rs : List ℕ). IsRing (link_in (entered_iso d why.number why.endpoint why.count (total_of why.slots) h.book (all_descriptors h.book why.number why.endpoint.desc why.slots why.count why.seed rs a)).memory) (entered_iso d why.number why.endpoint why.count (total_of why.slots) h.book (all_descriptors h.book why.number why.endpoint.desc why.slots why.count why.seed rs a)).driver) (sym new)
+    (describe_at d m why.number why.endpoint why.slots why.count why.seed h bs all.are why.here why.idle has old))
+
 -- ---- a cancel
 
 drop_set : {X : Type 0} (xs : List X) (e : ℕ) (y : X) → drop (suc e) (set xs e y) ≡ drop (suc e) xs
@@ -236,8 +422,16 @@ linked_set word b (z ∷ xs) zero x y here queue on linked =
     )
 linked_set word b (z ∷ xs) (suc e) x y here queue on linked = (linked.0, linked_set word (step_to b z) xs e x y here queue on linked.1)
 
-cancel_ring : (d : DriverContent) (m : Mem) (e : ℕ) (x : Endpoint) → slice_get d.endpoints e ≡ Some x → x.cancelled ≡ false → d.command ≡ None → IsRing (link_in m) d → IsRing (link_in m) (accepted_cancel d e x)
-cancel_ring d m e x here fresh idle old =
+set_goes : (xs : List Endpoint) (e : ℕ) (x y : Endpoint) → slice_get xs e ≡ Some x → y.queue ≡ x.queue → y.linked ≡ x.linked → GoOn xs (set xs e y)
+set_goes xs e x y here queue on = λ f z at.
+    ⊎_elim
+    (λ (same : f ≡ e).
+    let is = same_Some z x (sym at ∙ ap (slice_get xs) same ∙ here) in
+    record { endpoint = y; here = ap (slice_get (set xs e y)) same ∙ set_here xs e x y here; queue = queue ∙ ap (λ (v : Endpoint). v.queue) (sym is); linked = λ l. on ∙ ap (λ (v : Endpoint). v.linked) (sym is) ∙ l })
+    (λ (differs : f ≢ e). record { endpoint = z; here = set_there xs e f y differs ∙ at; queue = refl; linked = λ l. l }) (cases_eq f e)
+
+cancel_ring : (d : DriverContent) (m : Mem) (e : ℕ) (x : Endpoint) → slice_get d.endpoints e ≡ Some x → is_periodic x.desc.kind ≡ false → x.cancelled ≡ false → d.command ≡ None → IsRing (link_in m) d → IsRing (link_in m) (accepted_cancel d e x)
+cancel_ring d m e x here ring fresh idle old =
     let y : Endpoint = record x { cancelled = true; ended = first_end x.ended } in
     let ys = set d.endpoints e y in
     record {
@@ -245,26 +439,18 @@ cancel_ring d m e x here fresh idle old =
         ring = linked_set (link_in m) head_block d.endpoints e x y here refl refl (idle_linked (link_in m) d idle old);
         endpoint = y;
         here = set_here d.endpoints e x y here;
-        linked = old.kept e x here fresh;
+        linked = old.kept e x here ring fresh;
         cancelled = refl;
         from = ap oldest_of (sym (drop_set d.endpoints e y));
         over = ap (λ (xs : List Endpoint). queue_head_link (newest_of xs)) (sym (take_set d.endpoints e y));
       };
-      leaving = leaving_kept (link_in m) (link_in m) d.endpoints ys (d.rung ++ d.waiting) (goes d.endpoints e x y here refl refl) (λ f z among at. refl) old.leaving;
+      leaving = leaving_kept (link_in m) (link_in m) d.endpoints ys (d.rung ++ d.waiting) (set_goes d.endpoints e x y here refl refl) (λ f z among at. refl) old.leaving;
       mends = old.mends;
-      kept = λ f z there on.
-          set_case (λ j (v : Endpoint). v.cancelled ≡ false → v.linked ≡ true) d.endpoints e f x y z here there
-          (λ off. absurd (false≢true (sym off)))
-          (λ differs was off. old.kept f z was off) on;
+      kept = λ f z there on off.
+          set_case (λ j (v : Endpoint). is_periodic v.desc.kind ≡ false → v.cancelled ≡ false → v.linked ≡ true) d.endpoints e f x y z here there
+          (λ none cancel. absurd (false≢true (sym cancel)))
+          (λ differs was none cancel. old.kept f z was none cancel) on off;
     }
-  where
-    goes : (xs : List Endpoint) (e : ℕ) (x y : Endpoint) → slice_get xs e ≡ Some x → y.queue ≡ x.queue → y.linked ≡ x.linked → GoOn xs (set xs e y)
-    goes xs e x y here queue on = λ f z at.
-        ⊎_elim
-        (λ (same : f ≡ e).
-        let is = same_Some z x (sym at ∙ ap (slice_get xs) same ∙ here) in
-        record { endpoint = y; here = ap (slice_get (set xs e y)) same ∙ set_here xs e x y here; queue = queue ∙ ap (λ (v : Endpoint). v.queue) (sym is); linked = λ l. on ∙ ap (λ (v : Endpoint). v.linked) (sym is) ∙ l })
-        (λ (differs : f ≢ e). record { endpoint = z; here = set_there xs e f y differs ∙ at; queue = refl; linked = λ l. l }) (cases_eq f e)
 
 -- ---- any command
 
@@ -282,11 +468,44 @@ accepted_ring d m o (transfers why) stands shape has old =
     let all = runs_taken (holding d.book m) why.holding_after (needs why.asked.stages) stands why.runs in
     let bs = all.blocks in
     let new : new_runs d why.holding_after ≡ bs = ap (drop (length d.book.taken)) all.are.taken ∙ drop_first d.book.taken bs in
-    let steady = has.orderly.steady why.number x why.here in
-    let alive : x.gone ≡ false =
-    ⊎_elim (λ (g : x.gone ≡ true). absurd (false≢true (sym (ap is_some why.goes_on) ∙ steady.ended (steady.gone g)))) (λ (g : x.gone ≡ false). g) (cases_Bool x.gone) in
+    let alive = has_queue x why.queued (goes_on_alive x why.goes_on (has.orderly.steady why.number x why.here)) in
     subst (λ (f : Offered). IsRing (link_in f.memory) f.driver) (sym why.is)
     (subst (λ (rs : List ℕ). IsRing (link_in (accepted_transfer d why.number x why.asked why.holding_after (get_or (take n rs) (n - 1) 0) (note_stages d.notes why.asked.stages x.dummy (take n rs) (drop n rs))).memory) (accepted_transfer d why.number x why.asked why.holding_after (get_or (take n rs) (n - 1) 0) (note_stages d.notes why.asked.stages x.dummy (take n rs) (drop n rs))).driver) (sym new)
     (transfer_ring d m why.number x why.asked why.holding_after bs all.are why.some why.here alive why.idle has old))
 accepted_ring d m o (cancels why) stands shape has old =
-    subst (λ (f : Offered). IsRing (link_in f.memory) f.driver) (sym why.is) (cancel_ring d m why.number why.endpoint why.here why.fresh why.idle old)
+    let ring : is_periodic why.endpoint.desc.kind ≡ false = sym (has.orderly.steady why.number why.endpoint why.here).placed ∙ ap (λ (p : Option Placement). is_some p) why.ring in
+    subst (λ (f : Offered). IsRing (link_in f.memory) f.driver) (sym why.is) (cancel_ring d m why.number why.endpoint why.here ring why.fresh why.idle old)
+accepted_ring d m o (chains why) stands shape has old =
+    let all = runs_taken (holding d.book m) why.holding_after (2 ∷ 1 ∷ []) stands why.runs in
+    let bs = all.blocks in
+    let new : new_runs d why.holding_after ≡ bs = ap (drop (length d.book.taken)) all.are.taken ∙ drop_first d.book.taken bs in
+    subst (λ (f : Offered). IsRing (link_in f.memory) f.driver) (sym why.is)
+    (subst (λ (rs : List ℕ). IsRing (link_in (accepted_chain d why.desc why.placement why.holding_after (get_or rs 0 0) (get_or rs 1 0)).memory) (accepted_chain d why.desc why.placement why.holding_after (get_or rs 0 0) (get_or rs 1 0)).driver) (sym new)
+    (chain_ring d m why.desc why.placement why.holding_after bs all.are why.periodic why.idle has old))
+accepted_ring d m o (places why) stands shape has old =
+    let y = placed_endpoint why.desc why.placement 0 0 in
+    subst (λ (f : Offered). IsRing (link_in f.memory) f.driver) (sym why.is)
+    (record {
+      ring = subst (λ (c : Option Command). StandsFor (link_in m) (d.endpoints ++ y ∷ []) d.transfers c) (sym why.idle) (outside_ring (link_in m) head_block d.endpoints y refl (idle_linked (link_in m) d why.idle old));
+      leaving = leaving_kept (link_in m) (link_in m) d.endpoints (d.endpoints ++ y ∷ []) (d.rung ++ d.waiting) (one_more_on d.endpoints y) (λ f z among here. refl) old.leaving;
+      mends = old.mends;
+      kept = outside_kept d y (iso_periodic why.desc.kind why.isochronous) old.kept;
+    })
+accepted_ring d m o (describes why) stands shape has old = describe_ring d m o stands why has old
+accepted_ring d m o (unchains why) stands shape has old =
+    let x = why.endpoint in
+    let y : Endpoint = record x { cancelled = true; ended = first_end x.ended } in
+    let members = endpoint_members d why.number x why.placement in
+    let frames : is_periodic x.desc.kind ≡ true = sym (has.orderly.steady why.number x why.here).placed ∙ ap (λ (p : Option Placement). is_some p) why.placed in
+    let e = with_cancel d why.number x members in
+    subst (λ (f : Offered). IsRing (link_in f.memory) f.driver) (sym why.is)
+    (or_finished_ring (link_in m) e (unfinished.Unchain why.number) refl refl
+    (record {
+      ring = linked_set (link_in m) head_block d.endpoints why.number x y why.here refl refl (idle_linked (link_in m) d why.idle old);
+      leaving = leaving_kept (link_in m) (link_in m) d.endpoints (set d.endpoints why.number y) (d.rung ++ d.waiting) (set_goes d.endpoints why.number x y why.here refl refl) (λ f z among at. refl) old.leaving;
+      mends = old.mends;
+      kept = λ f z there ring fresh.
+          set_case (λ j (v : Endpoint). is_periodic v.desc.kind ≡ false → v.cancelled ≡ false → v.linked ≡ true) d.endpoints why.number f x y z why.here there
+          (λ off cancel. absurd (false≢true (sym off ∙ frames)))
+          (λ differs was off cancel. old.kept f z was off cancel) ring fresh;
+    }))

@@ -1,6 +1,6 @@
 -- Each event of the driver keeps the ring standing for its content.
-use Rattle.std.proofs.Common.{◌≡◌, ◌≢◌, ℕ, zero, suc, ◌+◌, ◌*◌, ◌/◌, ◌≤◌, Bool, true, false, cond, nat_lt, List, [], ◌∷◌, ◌++◌, length, drop, set, slice_get, slice_index, Option, Some, None, option_map, ap, sym, subst, ◌∙◌, ⊎_elim, inl, inr, refl, arith, append_assoc}
-use Rattle.std.specs.Prelude.{◌⊎◌}
+use Rattle.std.proofs.Common.{◌≡◌, ◌≢◌, ℕ, zero, suc, ◌+◌, ◌*◌, ◌/◌, ◌≤◌, Bool, true, false, ◌||◌, cond, nat_lt, List, [], ◌∷◌, ◌++◌, length, take, drop, set, slice_get, slice_index, Option, Some, None, option_map, ap, sym, subst, ◌∙◌, ⊎_elim, inl, inr, refl, arith, append_assoc}
+use Rattle.std.specs.Prelude.{◌⊎◌, is_none}
 use Rattle.std.specs.List.{AllByRecursion}
 use Rattle.std.proofs.lemmas.Bool.{cases_eq, false≢true}
 use Rattle.std.proofs.lemmas.Option.{same_Some, slice_get-map}
@@ -15,25 +15,38 @@ use Rattle.driver_rows.specs.declared.content.Command.{Command}
 use Rattle.driver_rows.specs.declared.content.Command.TheVariants as unfinished
 use Rattle.driver_rows.specs.declared.rows.Row.{Row}
 use Rattle.driver_rows.specs.declared.rows.Row.TheVariants as rows
+use Rattle.frame_chains.specs.declared.members.Member.{Member}
+use Rattle.frame_members.specs.Members.{Members}
+use Rattle.periodic_list.specs.declared.work.Store.{Store}
+use Rattle.periodic_list.specs.Periodic.{Periodic, next_store, removing}
+use Rattle.periodic_rows.specs.declared.content.DescriptorNote.{DescriptorNote}
+use Rattle.periodic_rows.specs.declared.content.Removed.{Removed}
+use Rattle.periodic_rows.specs.declared.content.Removed.TheVariants as removed
+use Rattle.periodic_rows.specs.Periodic.{is_periodic, itd_member}
+use Rattle.periodic_rows.specs.Linking.{may_unlink, unlinking, new_link, begun_next}
 use Rattle.driver_rows.specs.DriverContent.{DriverContent}
 use Rattle.driver_rows.specs.Words.{head_block, queue_head_link}
 use Rattle.driver_rows.specs.Offers.{oldest_of}
-use Rattle.driver_rows.specs.Rows.{Parts, store_order, events_of, leave_ring, no_command, finished, advanced_by, advance, row_of, after_row, after_transfer, after_endpoint, freed_by, free_qtds, free_endpoint, cancel_told}
+use Rattle.driver_rows.specs.Rows.{Parts, is_iso, store_order, events_of, links, removes_members, leave_ring, leave_frames, no_command, removal_of, finished, list_after, or_finished, linked_on, advanced_by, advance, framed_notes, with_notes, placement_at, framed_by, linked_descriptors, linked_by, row_of, after_row, after_transfer, after_endpoint, stored_link, descriptor_leaving, after_unlink, after_descriptor, after_placed, after_removed, freed_by, free_qtds, free_endpoint, free_descriptor, free_placed, cancel_told}
 use Rattle.run_owners.proofs.Runs.{placed_run}
-use Rattle.run_owners.specs.Owners.{Owner, FrameList, Head, QueueHead, Dummy, Element, Buffer, HasRun, IsPlaced, NoteRuns, ArePieces, runs_of_transfer, note_in}
-use Rattle.run_owners.specs.Due.{IsDue}
+use Rattle.run_owners.specs.Owners.{Owner, FrameList, Head, QueueHead, Dummy, Element, Described, Buffer, HasRun, SlotHas, IsPlaced, NoteRuns, ArePieces, runs_of_transfer, note_in}
+use Rattle.run_owners.specs.Leaving.{IsOrderly}
+use Rattle.run_owners.proofs.Rows.{not_iso}
+use Rattle.run_owners.specs.Due.{IsDue, IsNextOf, IsLinkOf}
 use Rattle.run_owners.specs.Kept.{HasOwners}
 use Rattle.run_owners.proofs.Orders.{times_both}
 use Rattle.run_owners.proofs.Released.{set_here, set_there, cancel_same}
 use Rattle.run_owners.proofs.Laws.{event_owned}
 use Rattle.run_owners.proofs.Reasons.{each_is_due}
 use Rattle.ring_members.specs.Links.{link_in, AreLinked}
-use Rattle.ring_members.specs.Ring.{AreLeaving, IsOpening, IsUnlinking, IsPublishing, StandsFor, IsMending, IsRing}
+use Rattle.ring_members.specs.Ring.{AreLeaving, IsOpening, IsUnlinking, IsPublishing, IsDescribing, StandsFor, IsMending, IsRing}
+use Rattle.ring_members.specs.Lists.{IsOffRing, AreOffRing, IsListApart}
+use Rattle.ring_members.proofs.Lists.{store_off_ring}
 use Rattle.ring_members.proofs.Links.{RingOf, ring_of, SameRing, LeadsTo, linked_kept, linked_same, passed, joined, oldest_is, oldest_not, dropped}
-use Rattle.ring_members.proofs.Stores.{slots_apart, store_elsewhere}
-use Rattle.ring_members.proofs.Freed.{LeavesRest, lent_words, rest_qtds, rest_endpoint}
+use Rattle.ring_members.proofs.Stores.{AreApart, slots_apart, store_elsewhere}
+use Rattle.ring_members.proofs.Freed.{LeavesRest, lent_words, rest_qtds, rest_endpoint, rest_descriptor, rest_placed}
 use Rattle.ring_members.proofs.Leaving.{same_go_on, leaving_kept, leaving_rest, leaving_more, LeavesOne, link_at, last_leaves}
-use Rattle.ring_members.proofs.Placed.{has_word, stored_here, stored_there, in_ring_alive, queue_placed, queue_run, head_run_there, queue_off_head, queues_apart, ring_distinct, left_alive}
+use Rattle.ring_members.proofs.Placed.{has_word, has_queue, left_ring, linked_alive, stored_here, stored_there, in_ring_alive, queue_placed, queue_run, head_run_there, queue_off_head, queues_apart, ring_distinct, left_alive}
 use Rattle.ring_members.proofs.Harvests.{endpoint_set, all_rest, told_stays, harvest_stays}
 
 -- ---- the words of queue heads stay
@@ -58,10 +71,14 @@ ring_back_at xs f x (Some y) here e = record { endpoint = y; here = here; same =
 pub ring_back : (xs ys : List Endpoint) (f : ℕ) (x : Endpoint) → SameRing xs ys → slice_get ys f ≡ Some x → RingBack xs f x
 ring_back xs ys f x same here = ring_back_at xs f x (slice_get xs f) refl (sym (ap (option_map ring_of) here) ∙ same f)
 
-pub kept_still : (xs ys : List Endpoint) → SameRing xs ys → ((f : ℕ) (x : Endpoint) → slice_get xs f ≡ Some x → x.cancelled ≡ false → x.linked ≡ true) → (f : ℕ) (x : Endpoint) → slice_get ys f ≡ Some x → x.cancelled ≡ false → x.linked ≡ true
-kept_still xs ys same kept f x here fresh =
+-- bulk and control endpoints that weren't cancelled are in the ring
+abbrev pub AreKept : List Endpoint → Type 0
+AreKept xs = (f : ℕ) (x : Endpoint) → slice_get xs f ≡ Some x → is_periodic x.desc.kind ≡ false → x.cancelled ≡ false → x.linked ≡ true
+
+pub kept_still : (xs ys : List Endpoint) → SameRing xs ys → AreKept xs → AreKept ys
+kept_still xs ys same kept f x here ring fresh =
     let b = ring_back xs ys f x same here in
-    ap (λ (r : RingOf). r.linked) (sym b.same) ∙ kept f b.endpoint b.here (ap (λ (r : RingOf). r.cancelled) b.same ∙ fresh)
+    ap (λ (r : RingOf). r.linked) (sym b.same) ∙ kept f b.endpoint b.here (ap (λ (r : RingOf). is_periodic r.desc.kind) b.same ∙ ring) (ap (λ (r : RingOf). r.cancelled) b.same ∙ fresh)
 
 pub leaving_still : (word now : ℕ → ℕ) (xs : List Endpoint) (e : DriverContent) → HasOwners e → KeepsFirsts e word now → SameRing xs e.endpoints → AreLeaving word xs (e.rung ++ e.waiting) → AreLeaving now e.endpoints (e.rung ++ e.waiting)
 leaving_still word now xs e has keeps same all =
@@ -90,13 +107,14 @@ is_element (QueueHead e) = false
 is_element (Dummy e) = false
 is_element (Element t) = true
 is_element (Buffer t) = false
+is_element (Described t) = false
 
 -- ---- the command goes on
 
-advance_by : (P : DriverContent → Type 0) (d : DriverContent) (c : Command) → d.command ≡ Some c → (nat_lt (suc d.made) (length (events_of c)) ≡ true → P (record d { made = suc d.made })) → (nat_lt (suc d.made) (length (events_of c)) ≡ false → P (finished d c)) → P (advance d)
+advance_by : (P : DriverContent → Type 0) (d : DriverContent) (c : Command) → d.command ≡ Some c → (nat_lt (suc d.made) (length (events_of c)) ≡ true → P (record d { made = suc d.made })) → (nat_lt (suc d.made) (length (events_of c)) ≡ false → P (cond (links c) (linked_on d c) (finished d c))) → P (advance d)
 advance_by P d c is one two = subst (λ (o : Option Command). P (advanced_by d o)) (sym is) (at (nat_lt (suc d.made) (length (events_of c))) refl)
   where
-    at : (b : Bool) → nat_lt (suc d.made) (length (events_of c)) ≡ b → P (cond b (record d { made = suc d.made }) (finished d c))
+    at : (b : Bool) → nat_lt (suc d.made) (length (events_of c)) ≡ b → P (cond b (record d { made = suc d.made }) (cond (links c) (linked_on d c) (finished d c)))
     at true e = one e
     at false e = two e
 
@@ -117,6 +135,213 @@ done_command word now d ring has keeps old = record {
   mends = old.mends;
   kept = old.kept;
 }
+
+-- ---- the frame list goes on: the ring stays
+
+links_ring : (word : ℕ → ℕ) (xs : List Endpoint) (ts : List Transfer) (c : Command) → links c ≡ true → StandsFor word xs ts (Some c) → AreLinked word head_block xs
+links_ring word xs ts (unfinished.Open q) on s = absurd (false≢true on)
+links_ring word xs ts (unfinished.Publish b words) on s = absurd (false≢true on)
+links_ring word xs ts (unfinished.Unlink e b link) on s = absurd (false≢true on)
+links_ring word xs ts unfinished.Chain on s = s
+links_ring word xs ts (unfinished.Iso e t count) on s = s.ring
+links_ring word xs ts (unfinished.Unchain e) on s = s
+
+-- the command is done, and no word differs
+none_left : (word : ℕ → ℕ) (d : DriverContent) → AreLinked word head_block d.endpoints → IsRing word d → IsRing word (no_command d)
+none_left word d ring old = record { ring = ring; leaving = old.leaving; mends = old.mends; kept = old.kept }
+
+frames_left : (word : ℕ → ℕ) (d : DriverContent) (e : ℕ) (o : Option Endpoint) → slice_get d.endpoints e ≡ o → AreLinked word head_block d.endpoints → IsRing word d → IsRing word (leave_frames (no_command d) e o)
+frames_left word d e None here ring old = none_left word d ring old
+frames_left word d e (Some x) here ring old = at x.chained
+  where
+    at : (b : Bool) → IsRing word (cond b (record (no_command d) { endpoints = set d.endpoints e (record x { chained = false }); periodic = record d.periodic { removals = d.periodic.removals ++ removal_of (removed.Endpoint e) ∷ [] } }) (no_command d))
+    at true =
+        let same = endpoint_set d.endpoints e x (record x { chained = false }) here refl in
+        record {
+          ring = linked_same word head_block d.endpoints (set d.endpoints e (record x { chained = false })) same ring;
+          leaving = leaving_kept word word d.endpoints (set d.endpoints e (record x { chained = false })) (d.rung ++ d.waiting) (same_go_on d.endpoints (set d.endpoints e (record x { chained = false })) same) (λ f z among there. refl) old.leaving;
+          mends = old.mends;
+          kept = kept_still d.endpoints (set d.endpoints e (record x { chained = false })) same old.kept;
+        }
+    at false = none_left word d ring old
+
+finished_ring : (word : ℕ → ℕ) (d : DriverContent) (c : Command) → links c ≡ true → AreLinked word head_block d.endpoints → IsRing word d → IsRing word (finished d c)
+finished_ring word d (unfinished.Open q) on ring old = absurd (false≢true on)
+finished_ring word d (unfinished.Publish b words) on ring old = absurd (false≢true on)
+finished_ring word d (unfinished.Unlink e b link) on ring old = absurd (false≢true on)
+finished_ring word d unfinished.Chain on ring old = none_left word d ring old
+finished_ring word d (unfinished.Iso e t count) on ring old = none_left word d ring old
+finished_ring word d (unfinished.Unchain e) on ring old = frames_left word d e (slice_get d.endpoints e) refl ring old
+
+pub or_finished_ring : (word : ℕ → ℕ) (d : DriverContent) (c : Command) → d.command ≡ Some c → links c ≡ true → IsRing word d → IsRing word (or_finished d c)
+or_finished_ring word d c is on old = at (is_none d.periodic.list.work)
+  where
+    at : (b : Bool) → IsRing word (cond b (finished d c) d)
+    at true = finished_ring word d c on (links_ring word d.endpoints d.transfers c on (subst (λ (o : Option Command). StandsFor word d.endpoints d.transfers o) is old.ring)) old
+    at false = old
+
+linked_on_ring : (word : ℕ → ℕ) (d : DriverContent) (c : Command) → d.command ≡ Some c → links c ≡ true → IsRing word d → IsRing word (linked_on d c)
+linked_on_ring word d c is on old =
+    or_finished_ring word (record d { made = length (events_of c); periodic = begun_next (removes_members c) (record d.periodic { list = list_after d c }) }) c is on
+    (record { ring = old.ring; leaving = old.leaving; mends = old.mends; kept = old.kept })
+
+-- one more event of a command that links members was made
+links_on : (word : ℕ → ℕ) (d : DriverContent) (c : Command) → d.command ≡ Some c → links c ≡ true → IsRing word d → IsRing word (advance d)
+links_on word d c is on old =
+    advance_by (IsRing word) d c is (λ more. record { ring = old.ring; leaving = old.leaving; mends = old.mends; kept = old.kept })
+    (λ last. subst (λ b. IsRing word (cond b (linked_on d c) (finished d c))) (sym on) (linked_on_ring word d c is on old))
+
+framed_ring : (word : ℕ → ℕ) (d : DriverContent) (n : ℕ) (o : Option Command) → d.command ≡ o → IsRing word d → IsRing word (framed_by d n o)
+framed_ring word d n None is old = old
+framed_ring word d n (Some (unfinished.Open q)) is old = old
+framed_ring word d n (Some (unfinished.Publish b words)) is old = old
+framed_ring word d n (Some (unfinished.Unlink e b link)) is old = old
+framed_ring word d n (Some unfinished.Chain) is old = old
+framed_ring word d n (Some (unfinished.Unchain e)) is old = old
+framed_ring word d n (Some (unfinished.Iso e t count)) is old =
+    let f = with_notes d n (take count (drop t d.transfers)) (framed_notes d n e t count (placement_at d e)) in
+    links_on word f (unfinished.Iso e t count) is refl (record { ring = old.ring; leaving = old.leaving; mends = old.mends; kept = old.kept })
+
+-- the words of the ring's queue heads stay
+abbrev pub KeepsRing : DriverContent → (ℕ → ℕ) → (ℕ → ℕ) → Type 0
+KeepsRing d word now = ((e : ℕ) (x : Endpoint) → slice_get d.endpoints e ≡ Some x → is_periodic x.desc.kind ≡ false → x.gone ≡ false → now x.queue ≡ word x.queue) × (now head_block ≡ word head_block)
+
+linked_apart : (word now : ℕ → ℕ) (d : DriverContent) → IsOrderly d → KeepsRing d word now → AreLinked word head_block d.endpoints → AreLinked now head_block d.endpoints
+linked_apart word now d order keeps linked =
+    linked_kept word now head_block d.endpoints (λ i x here on. let l = linked_alive d i x order here on in keeps.0 i x here l.0 l.1) keeps.1 linked
+
+leaving_apart : (word now : ℕ → ℕ) (d : DriverContent) → IsOrderly d → KeepsRing d word now → AreLeaving word d.endpoints (d.rung ++ d.waiting) → AreLeaving now d.endpoints (d.rung ++ d.waiting)
+leaving_apart word now d order keeps all =
+    leaving_kept word now d.endpoints d.endpoints (d.rung ++ d.waiting) (same_go_on d.endpoints d.endpoints (λ i. refl))
+    (λ f y among here.
+    let l = left_ring d f y (d.rung ++ d.waiting) order (omega (arith, times_both f d.rung d.waiting)) among here in
+    keeps.0 f y here l.0 l.1) all
+
+-- .. while a command links members, or none is unfinished
+command_apart : (word now : ℕ → ℕ) (d : DriverContent) (c : Command) → links c ≡ true → IsOrderly d → KeepsRing d word now → StandsFor word d.endpoints d.transfers (Some c) → StandsFor now d.endpoints d.transfers (Some c)
+command_apart word now d (unfinished.Open q) on order keeps s = absurd (false≢true on)
+command_apart word now d (unfinished.Publish b words) on order keeps s = absurd (false≢true on)
+command_apart word now d (unfinished.Unlink e b link) on order keeps s = absurd (false≢true on)
+command_apart word now d unfinished.Chain on order keeps s = linked_apart word now d order keeps s
+command_apart word now d (unfinished.Iso e t count) on order keeps s = record { ring = linked_apart word now d order keeps s.ring; described = s.described }
+command_apart word now d (unfinished.Unchain e) on order keeps s = linked_apart word now d order keeps s
+
+ring_apart : (word now : ℕ → ℕ) (d : DriverContent) (c : Command) → d.command ≡ Some c → links c ≡ true → IsOrderly d → KeepsRing d word now → IsRing word d → IsRing now d
+ring_apart word now d c is on order keeps old = record {
+  ring = subst (λ (o : Option Command). StandsFor now d.endpoints d.transfers o) (sym is)
+      (command_apart word now d c on order keeps (subst (λ (o : Option Command). StandsFor word d.endpoints d.transfers o) is old.ring));
+  leaving = leaving_apart word now d order keeps old.leaving;
+  mends = old.mends;
+  kept = old.kept;
+}
+
+idle_apart : (word now : ℕ → ℕ) (d : DriverContent) → d.command ≡ None → IsOrderly d → KeepsRing d word now → IsRing word d → IsRing now d
+idle_apart word now d idle order keeps old = record {
+  ring = subst (λ (o : Option Command). StandsFor now d.endpoints d.transfers o) (sym idle)
+      (linked_apart word now d order keeps (subst (λ (o : Option Command). StandsFor word d.endpoints d.transfers o) idle old.ring));
+  leaving = leaving_apart word now d order keeps old.leaving;
+  mends = old.mends;
+  kept = old.kept;
+}
+
+-- a store into a run off the ring
+pub stored_apart : (p : Parts) (b at v : ℕ) → Stands (holding p.driver.book p.memory) → HasOwners p.driver → IsOffRing p.driver b → KeepsRing p.driver (link_in p.memory) (link_in (store p.driver.book p.memory b at v))
+stored_apart p b at v stands has off =
+    let d = p.driver in
+    let h = holding d.book p.memory in (
+      (λ e x here ring alive.
+      store_elsewhere d.book p.memory b x.queue at v (32 * x.queue) (slots_apart h stands) (off.endpoints e x here ring alive)
+      (has_word h x.queue stands (queue_run d e x has here (has_queue x (not_iso x.desc.kind ring) alive)))),
+      store_elsewhere d.book p.memory b head_block at v (32 * head_block) (slots_apart h stands) off.head (has_word h head_block stands (head_run_there d has)),
+    )
+
+-- ---- the links of new descriptors
+
+pub stands_as : (word : ℕ → ℕ) (d : DriverContent) (c : Command) → d.command ≡ Some c → IsRing word d → StandsFor word d.endpoints d.transfers (Some c)
+stands_as word d c is old = subst (λ (o : Option Command). StandsFor word d.endpoints d.transfers o) is old.ring
+
+is_described : Owner → Bool
+is_described FrameList = false
+is_described Head = false
+is_described (QueueHead e) = false
+is_described (Dummy e) = false
+is_described (Element t) = false
+is_described (Described t) = true
+is_described (Buffer t) = false
+
+described_elsewhere : (k : Book) (list : Periodic) (notes : List DescriptorNote) (ts : List Transfer) (m : Mem) (c : ℕ) → AreApart k.slots → SlotHas (slot_of k.slots c) (32 * c / 32) → AllByRecursion (λ (y : Transfer). c ≢ y.first) ts → link_in (linked_descriptors k list notes ts m) c ≡ link_in m c
+unfolding linked_descriptors
+described_elsewhere k list notes [] m c apart here differ = refl
+described_elsewhere k list notes (y ∷ ts) m c apart here differ =
+    let v = new_link list (itd_member notes y.first) in
+    described_elsewhere k list notes ts (store k m y.first (32 * y.first) v) c apart here differ.1
+    ∙ store_elsewhere k m y.first c (32 * y.first) v (32 * c) apart differ.0 here
+
+all_got : (P : Transfer → Type 0) (ts : List Transfer) → ((i : ℕ) (y : Transfer) → slice_get ts i ≡ Some y → P y) → AllByRecursion P ts
+all_got P [] each = tt
+all_got P (y ∷ ts) each = (each 0 y refl, all_got P ts (λ i z there. each (suc i) z there))
+
+dropped_get : (t n : ℕ) (ts : List Transfer) (i : ℕ) (y : Transfer) → slice_get (take n (drop t ts)) i ≡ Some y → slice_get ts (t + i) ≡ Some y
+dropped_get zero zero ts i y there = absurd (cc)
+dropped_get zero (suc n) [] i y there = absurd (cc)
+dropped_get zero (suc n) (x ∷ ts) zero y there = there
+dropped_get zero (suc n) (x ∷ ts) (suc i) y there =
+    let e : 0 + suc i ≡ suc (0 + i) = omega arith in
+    ap (λ j. slice_get (x ∷ ts) j) e ∙ dropped_get zero n ts i y there
+dropped_get (suc t) zero [] i y there = absurd (cc)
+dropped_get (suc t) (suc n) [] i y there = absurd (cc)
+dropped_get (suc t) n (x ∷ ts) i y there =
+    let e : suc t + i ≡ suc (t + i) = omega arith in
+    ap (λ j. slice_get (x ∷ ts) j) e ∙ dropped_get t n ts i y there
+
+-- a queue head, or the head, begins in no block of a new descriptor
+off_described : (d : DriverContent) (word : ℕ → ℕ) (t n c : ℕ) (o : Owner) → (has : HasOwners d) → IsDescribing word d.endpoints d.transfers t n → IsPlaced (slot_of d.book.slots) has.owner c o → is_described o ≡ false → AllByRecursion (λ (y : Transfer). c ≢ y.first) (take n (drop t d.transfers))
+unfolding is_described
+off_described d word t n c o has describing placed off =
+    all_got (λ (y : Transfer). c ≢ y.first) (take n (drop t d.transfers))
+    (λ i y there same.
+    let new = describing.described i y there in
+    let is = has.owned.each.described (t + i) (runs_of_transfer y) (ap (option_map runs_of_transfer) (dropped_get t n d.transfers i y there)) new.0 new.1 in
+    false≢true (sym off ∙ ap is_described (sym placed.owned) ∙ ap (λ k. is_described (has.owner k)) same ∙ ap is_described is.descriptor.owned))
+
+linked_by_apart : (p : Parts) (o : Option Command) → p.driver.command ≡ o → Stands (holding p.driver.book p.memory) → (has : HasOwners p.driver) → IsRing (link_in p.memory) p.driver → KeepsRing p.driver (link_in p.memory) (link_in (linked_by p.driver p.memory o))
+unfolding is_described
+linked_by_apart p None is stands has old = (λ e x here ring alive. refl, refl)
+linked_by_apart p (Some (unfinished.Open q)) is stands has old = (λ e x here ring alive. refl, refl)
+linked_by_apart p (Some (unfinished.Publish b words)) is stands has old = (λ e x here ring alive. refl, refl)
+linked_by_apart p (Some (unfinished.Unlink e b link)) is stands has old = (λ e x here ring alive. refl, refl)
+linked_by_apart p (Some unfinished.Chain) is stands has old = (λ e x here ring alive. refl, refl)
+linked_by_apart p (Some (unfinished.Unchain e)) is stands has old = (λ e x here ring alive. refl, refl)
+linked_by_apart p (Some (unfinished.Iso e t count)) is stands has old =
+    let d = p.driver in
+    let h = holding d.book p.memory in
+    let s = stands_as (link_in p.memory) d (unfinished.Iso e t count) is old in
+    let ts = take count (drop t d.transfers) in (
+      (λ f x here ring alive.
+      let q = queue_placed d f x has here (has_queue x (not_iso x.desc.kind ring) alive) in
+      described_elsewhere d.book d.periodic.list d.periodic.notes ts p.memory x.queue (slots_apart h stands) (has_word h x.queue stands (placed_run x.queue (QueueHead f) q))
+      (off_described d (link_in p.memory) t count x.queue (QueueHead f) has s q refl)),
+      described_elsewhere d.book d.periodic.list d.periodic.notes ts p.memory head_block (slots_apart h stands) (has_word h head_block stands (head_run_there d has))
+          (off_described d (link_in p.memory) t count head_block Head has s has.owned.each.head refl),
+    )
+
+-- only descriptors are lent by that row
+lends_descriptors : (c : Command) (made : ℕ) → slice_get (events_of c) made ≡ Some rows.LendDescriptors → links c ≡ true
+lends_descriptors (unfinished.Open q) zero e = absurd (cc)
+lends_descriptors (unfinished.Open q) (suc zero) e = absurd (cc)
+lends_descriptors (unfinished.Open q) (suc (suc n)) e = absurd (cc)
+lends_descriptors (unfinished.Publish b words) zero e = absurd (cc)
+lends_descriptors (unfinished.Publish b words) (suc n) e =
+    absurd (mapped_never (λ i. 32 * b + 4 * i) (λ i. slice_index words i) b (slice_get store_order n) (sym (slice_get-map _ store_order n) ∙ e))
+  where
+    mapped_never : (f g : ℕ → ℕ) (b : ℕ) (o : Option ℕ) → option_map (λ i. rows.Store b (f i) (g i)) o ≡ Some rows.LendDescriptors → ⊥
+    mapped_never f g b None e = cc
+    mapped_never f g b (Some i) e = cc
+lends_descriptors (unfinished.Unlink e b link) zero f = absurd (cc)
+lends_descriptors (unfinished.Unlink e b link) (suc n) f = absurd (cc)
+lends_descriptors unfinished.Chain made e = refl
+lends_descriptors (unfinished.Iso e t count) made f = refl
+lends_descriptors (unfinished.Unchain e) made f = refl
 
 -- ---- lending
 
@@ -142,6 +367,9 @@ lend_ring_by word d (unfinished.Publish b words) is next old =
     (λ more. record { ring = old.ring; leaving = old.leaving; mends = old.mends; kept = old.kept })
     (λ last. record { ring = publishing_ring word d.endpoints d.transfers b (subst (λ (o : Option Command). StandsFor word d.endpoints d.transfers o) is old.ring); leaving = old.leaving; mends = old.mends; kept = old.kept })
 lend_ring_by word d (unfinished.Unlink f b link) is next old = absurd (lend_never f b link d.made next)
+lend_ring_by word d unfinished.Chain is next old = links_on word d unfinished.Chain is refl old
+lend_ring_by word d (unfinished.Iso e t count) is next old = links_on word d (unfinished.Iso e t count) is refl old
+lend_ring_by word d (unfinished.Unchain e) is next old = links_on word d (unfinished.Unchain e) is refl old
 
 -- ---- storing
 
@@ -162,6 +390,18 @@ pub publish_store : (b : ℕ) (words : List ℕ) (made c at v : ℕ) → slice_g
 publish_store b words zero c at v e = absurd (cc)
 publish_store b words (suc n) c at v e =
     mapped_store (λ i. 32 * b + 4 * i) (λ i. slice_index words i) b c at v (slice_get store_order n) (sym (slice_get-map _ store_order n) ∙ e)
+
+pub chain_never : (made b at v : ℕ) → slice_get (events_of unfinished.Chain) made ≡ Some (rows.Store b at v) → ⊥
+chain_never zero b at v e = cc
+chain_never (suc n) b at v e = cc
+
+pub iso_never : (f t count made b at v : ℕ) → slice_get (events_of (unfinished.Iso f t count)) made ≡ Some (rows.Store b at v) → ⊥
+iso_never f t count zero b at v e = cc
+iso_never f t count (suc zero) b at v e = cc
+iso_never f t count (suc (suc n)) b at v e = cc
+
+pub unchain_never : (f made b at v : ℕ) → slice_get (events_of (unfinished.Unchain f)) made ≡ Some (rows.Store b at v) → ⊥
+unchain_never f made b at v e = cc
 
 -- -- an open
 
@@ -199,7 +439,7 @@ unlink_done word now d e b link x has u here on cancelled stored others old =
     let y : Endpoint = record x { linked = false } in
     let ys = set d.endpoints e y in
     let one = leaves_one d.endpoints e x here in
-    let away : (f : ℕ) (z : Endpoint) → slice_get d.endpoints f ≡ Some z → z.gone ≡ false → (z.linked ≡ false ⊎ (f ≡ e)) → z.queue ≢ b = λ f z there alive out same.
+    let away : (f : ℕ) (z : Endpoint) → slice_get d.endpoints f ≡ Some z → is_iso z.desc.kind || z.gone ≡ false → (z.linked ≡ false ⊎ (f ≡ e)) → z.queue ≢ b = λ f z there alive out same.
     oldest_not z.queue (drop (suc e) d.endpoints) (λ h. queue_off_head d f z has there alive (sym h))
     (λ i w at also.
     let g : slice_get d.endpoints (suc e + i) ≡ Some w = sym (dropped d.endpoints (suc e) i) ∙ at in
@@ -219,12 +459,12 @@ unlink_done word now d e b link x has u here on cancelled stored others old =
           (others x.queue (away e x here (in_ring_alive d e x has.orderly here on) (inr refl)) ∙ link_at word head_block d.endpoints e x here on u.ring))
           old.leaving);
       mends = old.mends;
-      kept = λ f z there fresh.
+      kept = λ f z there ring fresh.
           ⊎_elim
           (λ (same : f ≡ e).
           let is = same_Some z y (sym there ∙ ap (slice_get ys) same ∙ set_here d.endpoints e x y here) in
           absurd (false≢true (sym fresh ∙ ap (λ (v : Endpoint). v.cancelled) is ∙ cancelled)))
-          (λ (differs : f ≢ e). old.kept f z (sym (set_there d.endpoints e f y differs) ∙ there) fresh) (cases_eq f e);
+          (λ (differs : f ≢ e). old.kept f z (sym (set_there d.endpoints e f y differs) ∙ there) ring fresh) (cases_eq f e);
     }
 
 leave_when : (P : DriverContent → Type 0) (d : DriverContent) (e : ℕ) (x : Endpoint) (o : Option Endpoint) → o ≡ Some x → x.linked ≡ true → P (record d { waiting = d.waiting ++ e ∷ []; endpoints = set d.endpoints e (record x { linked = false }) }) → P (leave_ring d e o)
@@ -237,9 +477,6 @@ leave_when P d e x o here on p =
 first_piece : (slot : ℕ → Slot) (owner : ℕ → Owner) (note : ℕ → NoteRuns) (t b n : ℕ) → 1 ≤ n → ArePieces slot owner note t b n → IsPlaced slot owner b (Element t)
 first_piece slot owner note t b zero some pieces = absurd (omega arith)
 first_piece slot owner note t b (suc n) some pieces = pieces.0.element
-
-pub stands_as : (word : ℕ → ℕ) (d : DriverContent) (c : Command) → d.command ≡ Some c → IsRing word d → StandsFor word d.endpoints d.transfers (Some c)
-stands_as word d c is old = subst (λ (o : Option Command). StandsFor word d.endpoints d.transfers o) is old.ring
 
 -- the runs of queue heads are others than that of a transfer's qTD
 pub not_element : (t : ℕ) (o : Owner) → is_element o ≡ false → o ≢ Element t
@@ -346,6 +583,19 @@ store_ring_by p (unfinished.Unlink e f link) b at v is next stands shape has old
     (λ last. leave_when (IsRing now) (no_command d) e u.endpoint (slice_get d.endpoints e) u.here u.linked
     (unlink_done (link_in p.memory) now d e f link u.endpoint has u u.here u.linked u.cancelled (stored_here h f link stands shape run) (λ c differs. stored_there d.book p.memory f link c differs) old)))
 
+store_ring_by p unfinished.Chain b at v is next stands shape has old = absurd (chain_never p.driver.made b at v next)
+store_ring_by p (unfinished.Iso e t count) b at v is next stands shape has old = absurd (iso_never e t count p.driver.made b at v next)
+store_ring_by p (unfinished.Unchain e) b at v is next stands shape has old = absurd (unchain_never e p.driver.made b at v next)
+
+-- a store of the frame list
+link_ring : (p : Parts) (b at v : ℕ) → IsLinkOf p (rows.Store b at v) → Stands (holding p.driver.book p.memory) → HasOwners p.driver → IsListApart p.driver → IsRing (link_in p.memory) p.driver → IsRing (link_in (store p.driver.book p.memory b at v)) (advance p.driver)
+link_ring p b at v is stands has apart old =
+    let d = p.driver in
+    let same : is.store.block ≡ b = cc in
+    let off = subst (IsOffRing d) same (store_off_ring d d.periodic.list is.store has apart.list apart.members is.next) in
+    links_on (link_in (store d.book p.memory b at v)) d is.command is.unfinished is.links
+    (ring_apart (link_in p.memory) (link_in (store d.book p.memory b at v)) d is.command is.unfinished is.links has.orderly (stored_apart p b at v stands has off) old)
+
 -- ---- the other rows
 
 mend_word : (k : Book) (m : Mem) (w : Mend) (c : ℕ) → IsMending w → link_in (store k m w.queue w.at w.value) c ≡ link_in m c
@@ -392,33 +642,100 @@ endpoint_ring p e (Some x) here idle stands shape after old =
     let g = free_endpoint d e x h in
     let told = cancel_told d p.memory e x in
     let s = told_stays d p.memory e x in
-    let there : slice_get told.endpoints e ≡ Some x = ap (λ (xs : List Endpoint). slice_get xs e) (cancel_same d p.memory e x).0.0 ∙ here in
+    let there : slice_get told.endpoints e ≡ Some x = ap (λ (xs : List Endpoint). slice_get xs e) (cancel_same d p.memory e x).endpoints ∙ here in
     idle_ring (link_in p.memory) (link_in g.memory) d _ idle (s.command ∙ idle) after (first_words h g (rest_endpoint d e x h stands shape))
     (λ i. endpoint_set told.endpoints e x (record x { gone = true }) there refl i ∙ s.endpoints i)
     (same_leaving (link_in p.memory) d.endpoints d.rung _ d.waiting _ s.rung s.waiting old.leaving) (s.mends old.mends) old
 
-pub row_ring : (row : Row) (p : Parts) → IsDue p row → Stands (holding p.driver.book p.memory) → IsShaped p.memory → HasOwners p.driver → HasOwners (after_row row p).driver → IsRing (link_in p.memory) p.driver → IsRing (link_in (after_row row p).memory) (after_row row p).driver
-row_ring rows.Lend p due stands shape has after old =
+descriptor_ring : (p : Parts) (t : ℕ) (o : Option Transfer) → p.driver.command ≡ None → Stands (holding p.driver.book p.memory) → IsShaped p.memory → HasOwners (after_descriptor p t o).driver → IsRing (link_in p.memory) p.driver → IsRing (link_in (after_descriptor p t o).memory) (after_descriptor p t o).driver
+descriptor_ring p t None idle stands shape after old = old
+descriptor_ring p t (Some x) idle stands shape after old =
+    let h = holding p.driver.book p.memory in
+    let g = free_descriptor p.driver.periodic.notes h x.first in
+    idle_ring (link_in p.memory) (link_in g.memory) p.driver _ idle idle after (first_words h g (rest_descriptor p.driver.periodic.notes h x.first stands shape)) (λ i. refl) old.leaving old.mends old
+
+placed_ring : (p : Parts) (e : ℕ) (o : Option Endpoint) → slice_get p.driver.endpoints e ≡ o → p.driver.command ≡ None → Stands (holding p.driver.book p.memory) → IsShaped p.memory → HasOwners (after_placed p e o).driver → IsRing (link_in p.memory) p.driver → IsRing (link_in (after_placed p e o).memory) (after_placed p e o).driver
+placed_ring p e None here idle stands shape after old = old
+placed_ring p e (Some x) here idle stands shape after old =
+    let d = p.driver in
+    let h = holding d.book p.memory in
+    let g = free_placed d e x h in
+    let told = cancel_told d p.memory e x in
+    let s = told_stays d p.memory e x in
+    let there : slice_get told.endpoints e ≡ Some x = ap (λ (xs : List Endpoint). slice_get xs e) (cancel_same d p.memory e x).endpoints ∙ here in
+    idle_ring (link_in p.memory) (link_in g.memory) d _ idle (s.command ∙ idle) after (first_words h g (rest_placed d e x h stands shape))
+    (λ i. endpoint_set told.endpoints e x (record x { gone = true }) there refl i ∙ s.endpoints i)
+    (same_leaving (link_in p.memory) d.endpoints d.rung _ d.waiting _ s.rung s.waiting old.leaving) (s.mends old.mends) old
+
+removed_ring : (p : Parts) (what : Removed) → p.driver.command ≡ None → Stands (holding p.driver.book p.memory) → IsShaped p.memory → HasOwners (after_removed p what).driver → IsRing (link_in p.memory) p.driver → IsRing (link_in (after_removed p what).memory) (after_removed p what).driver
+removed_ring p (removed.Descriptor t) idle stands shape after old = descriptor_ring p t (slice_get p.driver.transfers t) idle stands shape after old
+removed_ring p (removed.Endpoint e) idle stands shape after old = placed_ring p e (slice_get p.driver.endpoints e) refl idle stands shape after old
+
+-- a harvested descriptor is unlinked
+unlinked_store : (p : Parts) (list : Periodic) (o : Option Store) → next_store list ≡ o → list.list ≡ 0 → AreOffRing p.driver list.members.schedule → Stands (holding p.driver.book p.memory) → HasOwners p.driver → KeepsRing p.driver (link_in p.memory) (link_in (stored_link p.driver.book p.memory o))
+unlinked_store p list None next begins off stands has = (λ e x here ring alive. refl, refl)
+unlinked_store p list (Some s) next begins off stands has = stored_apart p s.block s.at s.value stands has (store_off_ring p.driver list s has begins off next)
+
+begun_members : (list : Periodic) (m : Member) → (((unlinking list m).list ≡ list.list) × ((unlinking list m).members ≡ list.members))
+begun_members list m = at (may_unlink list m)
+  where
+    at : (b : Bool) → (((cond b (removing list m) list).list ≡ list.list) × ((cond b (removing list m) list).members ≡ list.members))
+    at true = (refl, refl)
+    at false = (refl, refl)
+
+unlinked_ring : (p : Parts) (t : ℕ) (o : Option Transfer) → p.driver.command ≡ None → Stands (holding p.driver.book p.memory) → HasOwners p.driver → IsListApart p.driver → IsRing (link_in p.memory) p.driver → IsRing (link_in (after_unlink p t o).memory) (after_unlink p t o).driver
+unlinked_ring p t None idle stands has apart old = old
+unlinked_ring p t (Some x) idle stands has apart old =
+    let d = p.driver in
+    let list = descriptor_leaving d x in
+    let m = itd_member d.periodic.notes x.first in
+    let same = begun_members d.periodic.list m in
+    let keeps = unlinked_store p list (next_store list) refl (same.0 ∙ apart.list) (subst (λ (k : Members). AreOffRing d k.schedule) (sym same.1) apart.members) stands has in
+    let now = idle_apart (link_in p.memory) (link_in (stored_link d.book p.memory (next_store list))) d idle has.orderly keeps old in
+    record { ring = now.ring; leaving = now.leaving; mends = now.mends; kept = now.kept }
+
+lent_words_ring : (h : Holding) (d : DriverContent) → IsRing (link_in h.memory) d → IsRing (link_in (lend_taken h).memory) d
+lent_words_ring h d old = subst (λ (ws : List ℕ). IsRing (λ b. slice_index ws (32 * b / 4)) d) (sym (lent_words h)) old
+
+lend_descriptors_ring : (p : Parts) → IsNextOf p rows.LendDescriptors → Stands (holding p.driver.book p.memory) → HasOwners p.driver → IsRing (link_in p.memory) p.driver → IsRing (link_in (after_row rows.LendDescriptors p).memory) (after_row rows.LendDescriptors p).driver
+lend_descriptors_ring p due stands has old =
+    let d = p.driver in
+    let c = due.command in
+    let on = lends_descriptors c d.made due.next in
+    let m = linked_by d p.memory d.command in
+    let h = holding d.book m in
+    let e = record d { book = (lend_taken h).book } in
+    let there = ring_apart (link_in p.memory) (link_in m) d c due.unfinished on has.orderly (linked_by_apart p d.command refl stands has old) old in
+    lent_words_ring h (advance e) (links_on (link_in m) e c due.unfinished on (record { ring = there.ring; leaving = there.leaving; mends = there.mends; kept = there.kept }))
+
+pub row_ring : (row : Row) (p : Parts) → IsDue p row → Stands (holding p.driver.book p.memory) → IsShaped p.memory → HasOwners p.driver → HasOwners (after_row row p).driver → IsListApart p.driver → IsRing (link_in p.memory) p.driver → IsRing (link_in (after_row row p).memory) (after_row row p).driver
+row_ring rows.Lend p due stands shape has after apart old =
     let h = holding p.driver.book p.memory in
     let d = record p.driver { book = (lend_taken h).book } in
     subst (λ (ws : List ℕ). IsRing (λ b. slice_index ws (32 * b / 4)) (advance d)) (sym (lent_words h))
     (lend_ring_by (link_in p.memory) d due.command due.unfinished due.next (record { ring = old.ring; leaving = old.leaving; mends = old.mends; kept = old.kept }))
-row_ring (rows.Store b at v) p due stands shape has after old = store_ring_by p due.command b at v due.unfinished due.next stands shape has old
-row_ring (rows.Mend w) p due stands shape has after old =
+row_ring (rows.Store b at v) p (inl due) stands shape has after apart old = store_ring_by p due.command b at v due.unfinished due.next stands shape has old
+row_ring (rows.Store b at v) p (inr due) stands shape has after apart old = link_ring p b at v due stands has apart old
+row_ring rows.Frames p due stands shape has after apart old = framed_ring (link_in p.memory) p.driver p.registers.frame_index p.driver.command refl old
+row_ring rows.LendDescriptors p due stands shape has after apart old = lend_descriptors_ring p due stands has old
+row_ring (rows.Unlink t) p due stands shape has after apart old = unlinked_ring p t (slice_get p.driver.transfers t) due.idle stands has apart old
+row_ring (rows.ReleaseRemoved what) p due stands shape has after apart old = removed_ring p what due.idle stands shape after old
+row_ring (rows.ReadFrame n) p due stands shape has after apart old = record { ring = old.ring; leaving = old.leaving; mends = old.mends; kept = old.kept }
+row_ring (rows.Mend w) p due stands shape has after apart old =
     idle_ring (link_in p.memory) _ p.driver _ due.0 due.0 after (λ c run. mend_word p.driver.book p.memory w c (first_mend p.driver.mends w due.1 old.mends)) (λ i. refl) old.leaving (all_rest p.driver.mends old.mends) old
-row_ring (rows.ReleaseTransfer t) p due stands shape has after old = transfer_ring p t (slice_get p.driver.transfers t) due.idle stands shape after old
-row_ring (rows.ReleaseEndpoint e) p due stands shape has after old = endpoint_ring p e (slice_get p.driver.endpoints e) refl due.idle stands shape after old
-row_ring rows.ClearAdvance p due stands shape has after old =
+row_ring (rows.ReleaseTransfer t) p due stands shape has after apart old = transfer_ring p t (slice_get p.driver.transfers t) due.idle stands shape after old
+row_ring (rows.ReleaseEndpoint e) p due stands shape has after apart old = endpoint_ring p e (slice_get p.driver.endpoints e) refl due.idle stands shape after old
+row_ring rows.ClearAdvance p due stands shape has after apart old =
     idle_ring (link_in p.memory) (link_in p.memory) p.driver _ due.0 due.0 after (λ c run. refl) (λ i. refl) (leaving_rest (link_in p.memory) p.driver.endpoints p.driver.rung p.driver.waiting old.leaving) old.mends old
-row_ring rows.RingBell p due stands shape has after old =
+row_ring rows.RingBell p due stands shape has after apart old =
     idle_ring (link_in p.memory) (link_in p.memory) p.driver _ due.0 due.0 after (λ c run. refl) (λ i. refl)
     (subst (λ (es : List ℕ). AreLeaving (link_in p.memory) p.driver.endpoints es) (sym (no_more (p.driver.rung ++ p.driver.waiting))) old.leaving) old.mends old
-row_ring (rows.ReadStatus heard) p due stands shape has after old = record { ring = old.ring; leaving = old.leaving; mends = old.mends; kept = old.kept }
-row_ring (rows.Harvest e t found) p due stands shape has after old =
+row_ring (rows.ReadStatus heard) p due stands shape has after apart old = record { ring = old.ring; leaving = old.leaving; mends = old.mends; kept = old.kept }
+row_ring (rows.Harvest e t found) p due stands shape has after apart old =
     let s = harvest_stays p.driver p.memory e t found (slice_get p.driver.endpoints e) (slice_get p.driver.transfers t) refl in
     idle_ring (link_in p.memory) (link_in p.memory) p.driver _ due.idle (s.command ∙ due.idle) after (λ c run. refl) s.endpoints
     (same_leaving (link_in p.memory) p.driver.endpoints p.driver.rung _ p.driver.waiting _ s.rung s.waiting old.leaving) (s.mends old.mends) old
-row_ring rows.Rest p due stands shape has after old = old
+row_ring rows.Rest p due stands shape has after apart old = old
 
-pub event_ring : (p : Parts) → Stands (holding p.driver.book p.memory) → IsShaped p.memory → HasOwners p.driver → IsRing (link_in p.memory) p.driver → IsRing (link_in (after_row (row_of p) p).memory) (after_row (row_of p) p).driver
-event_ring p stands shape has old = row_ring (row_of p) p (each_is_due p) stands shape has (event_owned p has) old
+pub event_ring : (p : Parts) → Stands (holding p.driver.book p.memory) → IsShaped p.memory → HasOwners p.driver → IsListApart p.driver → IsRing (link_in p.memory) p.driver → IsRing (link_in (after_row (row_of p) p).memory) (after_row (row_of p) p).driver
+event_ring p stands shape has apart old = row_ring (row_of p) p (each_is_due p) stands shape has (event_owned p has) apart old

@@ -15,8 +15,10 @@ use Rattle.driver_rows.specs.declared.content.Endpoint.{Endpoint}
 use Rattle.driver_rows.specs.declared.content.Transfer.{Transfer}
 use Rattle.driver_rows.specs.declared.content.QtdNote.{QtdNote}
 use Rattle.driver_rows.specs.Harvests.{note_at}
-use Rattle.driver_rows.specs.DriverContent.{DriverContent}
-use Rattle.driver_rows.specs.Rows.{free_runs, free_qtd, free_qtds, free_transfers, free_endpoint, is_held_of}
+use Rattle.periodic_rows.specs.declared.content.DescriptorNote.{DescriptorNote}
+use Rattle.periodic_rows.specs.Periodic.{note_at as descriptor_at}
+use Rattle.driver_rows.specs.DriverContent.{DriverContent, waits_for}
+use Rattle.driver_rows.specs.Rows.{free_runs, free_qtd, free_qtds, free_transfers, free_endpoint, free_descriptor, free_descriptors, free_placed, is_iso, is_held_of}
 use Rattle.run_owners.specs.Owners.{SlotHas}
 use Rattle.run_owners.proofs.Apart.{runs_apart}
 
@@ -115,3 +117,22 @@ rest_endpoint d e x h stands shape =
     let g = free_runs h (x.queue ∷ x.dummy ∷ []) in
     let one = rest_runs h (x.queue ∷ x.dummy ∷ []) stands shape in
     rest_both h g (free_endpoint d e x h) one (rest_transfers d.notes e g d.transfers one.stands one.shape)
+
+pub rest_descriptor : (notes : List DescriptorNote) (h : Holding) (b : ℕ) → Stands h → IsShaped h.memory → LeavesRest h (free_descriptor notes h b)
+rest_descriptor notes h b stands shape = rest_runs h (b ∷ take (descriptor_at notes b).runs (descriptor_at notes b).buffer) stands shape
+
+rest_descriptors : (notes : List DescriptorNote) (e : ℕ) (h : Holding) (ts : List Transfer) → Stands h → IsShaped h.memory → LeavesRest h (free_descriptors notes e h ts)
+unfolding free_descriptors
+rest_descriptors notes e h [] stands shape = rest_same h stands shape
+rest_descriptors notes e h (t ∷ ts) stands shape =
+    let g = free_descriptor notes h t.first in
+    let next = cond (waits_for e t) g h in
+    let one = rest_held (waits_for e t) h g stands shape (rest_descriptor notes h t.first stands shape) in
+    rest_both h next (free_descriptors notes e next ts) one (rest_descriptors notes e next ts one.stands one.shape)
+
+pub rest_placed : (d : DriverContent) (e : ℕ) (x : Endpoint) (h : Holding) → Stands h → IsShaped h.memory → LeavesRest h (free_placed d e x h)
+rest_placed d e x h stands shape = at (is_iso x.desc.kind)
+  where
+    at : (b : Bool) → LeavesRest h (cond b (free_descriptors d.periodic.notes e h d.transfers) (free_endpoint d e x h))
+    at true = rest_descriptors d.periodic.notes e h d.transfers stands shape
+    at false = rest_endpoint d e x h stands shape

@@ -89,6 +89,8 @@ end_stays d e t x stall None here =
 read_stays : (d : DriverContent) (m : Mem) (e t : ℕ) (x : Endpoint) (y : Transfer) (found : Found) → slice_get d.endpoints e ≡ Some x → StaysRing d (harvested_as d m e t x y found)
 read_stays d m e t x y founds.Active here = nothing d
 read_stays d m e t x y (founds.Moved n) here = record { endpoints = λ i. refl; command = refl; waiting = refl; rung = refl; mends = λ all. all }
+read_stays d m e t x y (founds.Served errors) here =
+    record { endpoints = endpoint_set d.endpoints e x (record x { next = next_after d.transfers e t }) here refl; command = refl; waiting = refl; rung = refl; mends = λ all. all }
 read_stays d m e t x y (founds.Ended n what) here =
     let told = told_with d m t y what x.desc.name (noted d.notes y.place n) in
     both d told (after_end told e t x (is_stall what) (end_of x.desc.kind what))

@@ -4,6 +4,7 @@ pub mod Freed
 pub mod Leaving
 pub mod Placed
 pub mod Harvests
+pub mod Lists
 pub mod Events
 pub mod Noted
 pub mod Accepted

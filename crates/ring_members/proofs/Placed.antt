@@ -1,5 +1,5 @@
 -- Queue heads that weren't given back stand in runs of their own: what is written to others leaves them.
-use Rattle.std.proofs.Common.{◌≡◌, ◌≢◌, ℕ, suc, ◌+◌, ◌*◌, ◌/◌, ◌<◌, ◌≤◌, Bool, true, false, cond, List, length, slice_get, Some, option_map, ap, sym, subst, ◌∙◌, ⊎_elim, refl, arith}
+use Rattle.std.proofs.Common.{◌≡◌, ◌≢◌, ℕ, suc, ◌+◌, ◌*◌, ◌/◌, ◌<◌, ◌≤◌, Bool, true, false, ◌||◌, cond, List, length, slice_get, Some, option_map, ap, sym, subst, ◌∙◌, ⊎_elim, refl, arith}
 use Rattle.std.proofs.lemmas.Bool.{cases_Bool, false≢true}
 use Rattle.std.proofs.lemmas.Bool.Decides.{nat_tests}
 use Rattle.std.proofs.lemmas.Option.{same_Some}
@@ -12,13 +12,16 @@ use Rattle.run_book.specs.declared.slots.Slot.TheVariants.{Empty, Keeps, Lends}
 use Rattle.driver_rows.specs.declared.content.Endpoint.{Endpoint}
 use Rattle.driver_rows.specs.DriverContent.{DriverContent}
 use Rattle.driver_rows.specs.Words.{head_block}
-use Rattle.run_owners.specs.Owners.{Owner, FrameList, Head, QueueHead, Dummy, Element, Buffer, HasRun, SlotHas, IsPlaced, runs_of_endpoint}
+use Rattle.run_owners.specs.Owners.{Owner, FrameList, Head, QueueHead, Dummy, Element, Described, Buffer, HasRun, SlotHas, IsPlaced, runs_of_endpoint}
 use Rattle.run_owners.specs.Leaving.{times, IsOrderly}
 use Rattle.run_owners.specs.Kept.{HasOwners}
 use Rattle.run_owners.proofs.Runs.{placed_run}
+use Rattle.periodic_rows.specs.Periodic.{is_periodic}
+use Rattle.driver_rows.specs.Rows.{is_iso}
+use Rattle.run_owners.proofs.Rows.{not_iso}
 use Rattle.run_owners.proofs.Orders.{has_left}
 use Rattle.run_owners.proofs.Apart.{has_within}
-use Rattle.ring_members.specs.Ring.{IsAmong}
+use Rattle.ring_members.specs.Ring.{IsAmong, HasQueue}
 use Rattle.ring_members.specs.Links.{link_in}
 use Rattle.ring_members.proofs.Links.{AreDistinct}
 use Rattle.ring_members.proofs.Leaving.{among_times}
@@ -70,6 +73,7 @@ queue_number Head = 0
 queue_number (QueueHead e) = suc e
 queue_number (Dummy e) = 0
 queue_number (Element t) = 0
+queue_number (Described t) = 0
 queue_number (Buffer t) = 0
 
 pub queues_differ : (i j : ℕ) → i ≢ j → QueueHead i ≢ QueueHead j
@@ -80,24 +84,30 @@ pub not_head : (e : ℕ) → QueueHead e ≢ Head
 unfolding queue_number
 not_head e same = let f : suc e ≡ 0 = ap queue_number same in omega (arith, f)
 
-pub in_ring_alive : (d : DriverContent) (e : ℕ) (x : Endpoint) → IsOrderly d → slice_get d.endpoints e ≡ Some x → x.linked ≡ true → x.gone ≡ false
-in_ring_alive d e x order here on =
-    ⊎_elim (λ (g : x.gone ≡ true). absurd (false≢true (sym ((order.steady e x here).gone g) ∙ on))) (λ (g : x.gone ≡ false). g) (cases_Bool x.gone)
+-- an endpoint with a queue that wasn't given back
+pub has_queue : (x : Endpoint) → is_iso x.desc.kind ≡ false → x.gone ≡ false → is_iso x.desc.kind || x.gone ≡ false
+has_queue x queued alive = ap (λ b. b || x.gone) queued ∙ alive
 
-pub queue_placed : (d : DriverContent) (e : ℕ) (x : Endpoint) → (has : HasOwners d) → slice_get d.endpoints e ≡ Some x → x.gone ≡ false → IsPlaced (slot_of d.book.slots) has.owner x.queue (QueueHead e)
+pub in_ring_alive : (d : DriverContent) (e : ℕ) (x : Endpoint) → IsOrderly d → slice_get d.endpoints e ≡ Some x → x.linked ≡ true → is_iso x.desc.kind || x.gone ≡ false
+in_ring_alive d e x order here on =
+    let steady = order.steady e x here in
+    has_queue x (not_iso x.desc.kind (steady.ring on))
+    (⊎_elim (λ (g : x.gone ≡ true). absurd (false≢true (sym (steady.gone g).0 ∙ on))) (λ (g : x.gone ≡ false). g) (cases_Bool x.gone))
+
+pub queue_placed : (d : DriverContent) (e : ℕ) (x : Endpoint) → (has : HasOwners d) → slice_get d.endpoints e ≡ Some x → is_iso x.desc.kind || x.gone ≡ false → IsPlaced (slot_of d.book.slots) has.owner x.queue (QueueHead e)
 queue_placed d e x has here alive = has.owned.each.queue e (runs_of_endpoint x) (ap (option_map runs_of_endpoint) here) alive
 
-pub queue_run : (d : DriverContent) (e : ℕ) (x : Endpoint) → HasOwners d → slice_get d.endpoints e ≡ Some x → x.gone ≡ false → HasRun (slot_of d.book.slots x.queue)
+pub queue_run : (d : DriverContent) (e : ℕ) (x : Endpoint) → HasOwners d → slice_get d.endpoints e ≡ Some x → is_iso x.desc.kind || x.gone ≡ false → HasRun (slot_of d.book.slots x.queue)
 queue_run d e x has here alive = placed_run x.queue (QueueHead e) (queue_placed d e x has here alive)
 
 pub head_run_there : (d : DriverContent) → HasOwners d → HasRun (slot_of d.book.slots head_block)
 head_run_there d has = placed_run head_block Head has.owned.each.head
 
-pub queue_off_head : (d : DriverContent) (e : ℕ) (x : Endpoint) → HasOwners d → slice_get d.endpoints e ≡ Some x → x.gone ≡ false → x.queue ≢ head_block
+pub queue_off_head : (d : DriverContent) (e : ℕ) (x : Endpoint) → HasOwners d → slice_get d.endpoints e ≡ Some x → is_iso x.desc.kind || x.gone ≡ false → x.queue ≢ head_block
 queue_off_head d e x has here alive = λ same.
     not_head e (sym (queue_placed d e x has here alive).owned ∙ ap has.owner same ∙ has.owned.each.head.owned)
 
-pub queues_apart : (d : DriverContent) (e f : ℕ) (x y : Endpoint) → HasOwners d → slice_get d.endpoints e ≡ Some x → x.gone ≡ false → slice_get d.endpoints f ≡ Some y → y.gone ≡ false → e ≢ f → x.queue ≢ y.queue
+pub queues_apart : (d : DriverContent) (e f : ℕ) (x y : Endpoint) → HasOwners d → slice_get d.endpoints e ≡ Some x → is_iso x.desc.kind || x.gone ≡ false → slice_get d.endpoints f ≡ Some y → is_iso y.desc.kind || y.gone ≡ false → e ≢ f → x.queue ≢ y.queue
 queues_apart d e f x y has here alive there also differ = λ same.
     queues_differ e f differ (sym (queue_placed d e x has here alive).owned ∙ ap has.owner same ∙ (queue_placed d f y has there also).owned)
 
@@ -108,8 +118,26 @@ ring_distinct d has = record {
 }
 
 -- one that left, and wasn't given back
-pub left_alive : (d : DriverContent) (e : ℕ) (x : Endpoint) (es : List ℕ) → IsOrderly d → times e es ≤ times e d.rung + times e d.waiting → IsAmong e es → slice_get d.endpoints e ≡ Some x → (x.gone ≡ false) × (x.linked ≡ false)
+pub left_alive : (d : DriverContent) (e : ℕ) (x : Endpoint) (es : List ℕ) → IsOrderly d → times e es ≤ times e d.rung + times e d.waiting → IsAmong e es → slice_get d.endpoints e ≡ Some x → (is_iso x.desc.kind || x.gone ≡ false) × (x.linked ≡ false)
 left_alive d e x es order few among here =
     let l = has_left d.endpoints e (slice_get d.endpoints e) refl (omega (arith, few, among_times e es among, order.leaving e)) in
+    let same = same_Some l.endpoint x (sym l.here ∙ here) in (
+      has_queue x (not_iso x.desc.kind (ap (λ (z : Endpoint). is_periodic z.desc.kind) (sym same) ∙ l.ring)) (ap (λ (z : Endpoint). z.gone) (sym same) ∙ l.gone),
+      ap (λ (z : Endpoint). z.linked) (sym same) ∙ l.linked,
+    )
+
+-- and it is no periodic one
+pub left_ring : (d : DriverContent) (e : ℕ) (x : Endpoint) (es : List ℕ) → IsOrderly d → times e es ≤ times e d.rung + times e d.waiting → IsAmong e es → slice_get d.endpoints e ≡ Some x → (is_periodic x.desc.kind ≡ false) × (x.gone ≡ false)
+left_ring d e x es order few among here =
+    let l = has_left d.endpoints e (slice_get d.endpoints e) refl (omega (arith, few, among_times e es among, order.leaving e)) in
     let same = same_Some l.endpoint x (sym l.here ∙ here) in
-    (ap (λ (z : Endpoint). z.gone) (sym same) ∙ l.gone, ap (λ (z : Endpoint). z.linked) (sym same) ∙ l.linked)
+    (ap (λ (z : Endpoint). is_periodic z.desc.kind) (sym same) ∙ l.ring, ap (λ (z : Endpoint). z.gone) (sym same) ∙ l.gone)
+
+pub linked_alive : (d : DriverContent) (e : ℕ) (x : Endpoint) → IsOrderly d → slice_get d.endpoints e ≡ Some x → x.linked ≡ true → (is_periodic x.desc.kind ≡ false) × (x.gone ≡ false)
+linked_alive d e x order here on =
+    let steady = order.steady e x here in
+    (steady.ring on, ⊎_elim (λ (g : x.gone ≡ true). absurd (false≢true (sym (steady.gone g).0 ∙ on))) (λ (g : x.gone ≡ false). g) (cases_Bool x.gone))
+
+-- where two endpoints have queues, these stand apart
+pub queues_stand_apart : (d : DriverContent) (e f : ℕ) (x y : Endpoint) → HasOwners d → HasQueue d e x → HasQueue d f y → e ≢ f → x.queue ≢ y.queue
+queues_stand_apart d e f x y has one two differ = queues_apart d e f x y has one.here (has_queue x one.queued one.alive) two.here (has_queue y two.queued two.alive) differ

@@ -12,9 +12,16 @@ use Rattle.driver_rows.specs.declared.content.Command.TheVariants as unfinished
 use Rattle.periodic_rows.specs.Periodic.{is_periodic}
 use Rattle.driver_rows.specs.DriverContent.{DriverContent}
 use Rattle.driver_rows.specs.Words.{head_block, queue_head_link}
+use Rattle.driver_rows.specs.Rows.{is_iso}
 use Rattle.driver_rows.specs.Offers.{newest_of, oldest_of}
 use Rattle.run_owners.specs.Owners.{is_descriptor}
 use Rattle.ring_members.specs.Links.{AreLinked}
+
+-- an endpoint with a queue, which wasn't given back
+pub record HasQueue (d : DriverContent) (e : ℕ) (x : Endpoint) : Type 0 where
+  pub here : slice_get d.endpoints e ≡ Some x
+  pub queued : is_iso x.desc.kind ≡ false
+  pub alive : x.gone ≡ false
 
 -- ---- those that left
 

@@ -19,7 +19,8 @@ ghost use Rattle.driver_rows.specs.Rows.{Parts, row_of, after_row};
 ghost use Rattle.driver_rows.specs.Words.{head_block};
 ghost use Rattle.run_owners.specs.Kept.{HasOwners};
 ghost use Rattle.ring_members.specs.Links.{link_in, members, IsChain};
-ghost use Rattle.ring_members.specs.Ring.{IsRing};
+ghost use Rattle.ring_members.specs.Ring.{HasQueue, IsRing};
+ghost use Rattle.ring_members.specs.Lists.{IsListApart};
 
 /// When the driver was built the head leads to itself.
 #[tactic(auto, using(crate::proofs::Opened::opening_ring))]
@@ -34,9 +35,10 @@ pub fn commands_keep_the_ring()
 {}
 
 /// Each event of the driver keeps the ring: an endpoint joins by the store to the head's link, and leaves by the store that passes it over.
+/// The stores of the frame list go to the list and its members, which begin in blocks of their own (`IsListApart`).
 #[tactic(auto, using(crate::proofs::Events::event_ring))]
 pub fn events_keep_the_ring()
-    ensures { (p : Parts) → Stands (holding p.driver.book p.memory) → IsShaped p.memory → HasOwners p.driver → IsRing (link_in p.memory) p.driver → IsRing (link_in (after_row (row_of p) p).memory) (after_row (row_of p) p).driver }
+    ensures { (p : Parts) → Stands (holding p.driver.book p.memory) → IsShaped p.memory → HasOwners p.driver → IsListApart p.driver → IsRing (link_in p.memory) p.driver → IsRing (link_in (after_row (row_of p) p).memory) (after_row (row_of p) p).driver }
 {}
 
 /// Where no command is unfinished, the words lead from the head through each queue head in the ring, the newest first, and back to the
@@ -46,8 +48,8 @@ pub fn the_ring_is_read()
     ensures { (word : ℕ → ℕ) (d : DriverContent) → d.command ≡ None → IsRing word d → IsChain word head_block (members d.endpoints) }
 {}
 
-/// Queue heads that weren't given back stand in blocks of their own, so each is met once.
-#[tactic(auto, using(crate::proofs::Placed::queues_apart))]
+/// Queue heads that weren't given back stand in blocks of their own, so each is met once. Isochronous endpoints have none.
+#[tactic(auto, using(crate::proofs::Placed::queues_stand_apart))]
 pub fn each_is_met_once()
-    ensures { (d : DriverContent) (e f : ℕ) (x y : Endpoint) → HasOwners d → slice_get d.endpoints e ≡ Some x → x.gone ≡ false → slice_get d.endpoints f ≡ Some y → y.gone ≡ false → e ≢ f → x.queue ≢ y.queue }
+    ensures { (d : DriverContent) (e f : ℕ) (x y : Endpoint) → HasOwners d → HasQueue d e x → HasQueue d f y → e ≢ f → x.queue ≢ y.queue }
 {}

@@ -82,7 +82,7 @@ placed_steady x p queue dummy frames = record {
   placed = sym frames;
 }
 
-iso_periodic : (k : EpKind) → is_iso k ≡ true → is_periodic k ≡ true
+pub iso_periodic : (k : EpKind) → is_iso k ≡ true → is_periodic k ≡ true
 iso_periodic kinds.Iso is = refl
 iso_periodic kinds.Interrupt is = refl
 iso_periodic kinds.Bulk is = is

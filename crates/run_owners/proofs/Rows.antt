@@ -53,7 +53,7 @@ placed_row_owned p e owner None here on order old = old
 placed_row_owned p e owner (Some x) here on order old = placed_owned p e owner x here (on x refl) order old
 
 -- no endpoint of the ring is isochronous
-not_iso : (k : EpKind) → is_periodic k ≡ false → is_iso k ≡ false
+pub not_iso : (k : EpKind) → is_periodic k ≡ false → is_iso k ≡ false
 not_iso kinds.Interrupt off = refl
 not_iso kinds.Iso off = absurd (false≢true (sym off))
 not_iso kinds.Bulk off = refl
