@@ -40,8 +40,8 @@ use Rattle.run_owners.proofs.Laws.{event_owned}
 use Rattle.run_owners.proofs.Reasons.{each_is_due}
 use Rattle.ring_members.specs.Links.{link_in, AreLinked}
 use Rattle.ring_members.specs.Ring.{AreLeaving, IsOpening, IsUnlinking, IsPublishing, IsDescribing, StandsFor, IsMending, IsRing}
-use Rattle.ring_members.specs.Lists.{IsOffRing, AreOffRing, IsListApart}
-use Rattle.ring_members.proofs.Lists.{store_off_ring}
+use Rattle.ring_members.specs.Lists.{IsOffRing, AreApart as ListApart, IsListApart}
+use Rattle.ring_members.proofs.Lists.{store_is_apart}
 use Rattle.ring_members.proofs.Links.{RingOf, ring_of, SameRing, LeadsTo, linked_kept, linked_same, passed, joined, oldest_is, oldest_not, dropped}
 use Rattle.ring_members.proofs.Stores.{AreApart, slots_apart, store_elsewhere}
 use Rattle.ring_members.proofs.Freed.{LeavesRest, lent_words, rest_qtds, rest_endpoint, rest_descriptor, rest_placed}
@@ -592,7 +592,7 @@ link_ring : (p : Parts) (b at v : ℕ) → IsLinkOf p (rows.Store b at v) → St
 link_ring p b at v is stands has apart old =
     let d = p.driver in
     let same : is.store.block ≡ b = cc in
-    let off = subst (IsOffRing d) same (store_off_ring d d.periodic.list is.store has apart.list apart.members is.next) in
+    let off = subst (IsOffRing d) same (store_is_apart d d.periodic.list is.store has apart.list apart.members is.next).off in
     links_on (link_in (store d.book p.memory b at v)) d is.command is.unfinished is.links
     (ring_apart (link_in p.memory) (link_in (store d.book p.memory b at v)) d is.command is.unfinished is.links has.orderly (stored_apart p b at v stands has off) old)
 
@@ -672,9 +672,9 @@ removed_ring p (removed.Descriptor t) idle stands shape after old = descriptor_r
 removed_ring p (removed.Endpoint e) idle stands shape after old = placed_ring p e (slice_get p.driver.endpoints e) refl idle stands shape after old
 
 -- a harvested descriptor is unlinked
-unlinked_store : (p : Parts) (list : Periodic) (o : Option Store) → next_store list ≡ o → list.list ≡ 0 → AreOffRing p.driver list.members.schedule → Stands (holding p.driver.book p.memory) → HasOwners p.driver → KeepsRing p.driver (link_in p.memory) (link_in (stored_link p.driver.book p.memory o))
+unlinked_store : (p : Parts) (list : Periodic) (o : Option Store) → next_store list ≡ o → list.list ≡ 0 → ListApart p.driver list.members.schedule → Stands (holding p.driver.book p.memory) → HasOwners p.driver → KeepsRing p.driver (link_in p.memory) (link_in (stored_link p.driver.book p.memory o))
 unlinked_store p list None next begins off stands has = (λ e x here ring alive. refl, refl)
-unlinked_store p list (Some s) next begins off stands has = stored_apart p s.block s.at s.value stands has (store_off_ring p.driver list s has begins off next)
+unlinked_store p list (Some s) next begins off stands has = stored_apart p s.block s.at s.value stands has (store_is_apart p.driver list s has begins off next).off
 
 begun_members : (list : Periodic) (m : Member) → (((unlinking list m).list ≡ list.list) × ((unlinking list m).members ≡ list.members))
 begun_members list m = at (may_unlink list m)
@@ -690,7 +690,7 @@ unlinked_ring p t (Some x) idle stands has apart old =
     let list = descriptor_leaving d x in
     let m = itd_member d.periodic.notes x.first in
     let same = begun_members d.periodic.list m in
-    let keeps = unlinked_store p list (next_store list) refl (same.0 ∙ apart.list) (subst (λ (k : Members). AreOffRing d k.schedule) (sym same.1) apart.members) stands has in
+    let keeps = unlinked_store p list (next_store list) refl (same.0 ∙ apart.list) (subst (λ (k : Members). ListApart d k.schedule) (sym same.1) apart.members) stands has in
     let now = idle_apart (link_in p.memory) (link_in (stored_link d.book p.memory (next_store list))) d idle has.orderly keeps old in
     record { ring = now.ring; leaving = now.leaving; mends = now.mends; kept = now.kept }
 

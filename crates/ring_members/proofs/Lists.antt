@@ -1,7 +1,8 @@
 -- The stores of the frame list go to the list and to its members: where these begin off the ring, so does each.
-use Rattle.std.proofs.Common.{◌≡◌, ◌≢◌, ℕ, zero, suc, ◌*◌, ◌/◌, ◌%◌, Bool, true, false, cond, List, [], ◌∷◌, ◌++◌, map, filter, slice_get, Option, Some, None, option_map, ap, sym, subst, ◌∙◌, refl, arith}
-use Rattle.std.specs.Prelude.{option_and_then, nat_eq}
+use Rattle.std.proofs.Common.{◌≡◌, ◌≢◌, ℕ, zero, suc, ◌+◌, ◌<◌, ◌≤◌, ◌*◌, ◌^◌, ◌/◌, ◌%◌, Bool, true, false, cond, List, [], ◌∷◌, ◌++◌, map, filter, slice_get, Option, Some, None, option_map, ap, sym, subst, ◌∙◌, inl, inr, refl, arith}
+use Rattle.std.specs.Prelude.{◌⊎◌, option_and_then, nat_eq}
 use Rattle.std.specs.List.{AllByRecursion, flat_map}
+use Rattle.std.proofs.lemmas.List.Elements.{recursion_from_All}
 use Rattle.frame_chains.specs.declared.members.Descriptor.{Descriptor}
 use Rattle.frame_chains.specs.declared.members.QueueHead.{QueueHead as Queue}
 use Rattle.frame_chains.specs.declared.members.Member.{Member}
@@ -10,18 +11,20 @@ use Rattle.frame_chains.specs.declared.members.Predecessor.{Predecessor}
 use Rattle.frame_chains.specs.declared.members.Predecessor.TheVariants.{Element as AtElement, After}
 use Rattle.frame_chains.specs.Chains.{Schedule, periods, frame_period, at_place, queues_in, chain, id_of, is_the, stands_in, word_after, before_the, predecessor, first_frame, word_met, predecessors}
 use Rattle.frame_chains.specs.Order.{frames}
+use Rattle.frame_chains.proofs.Orders.{all_below}
+use Rattle.run_owners.proofs.Runs.{all_still}
 use Rattle.periodic_list.specs.declared.work.Work.{Work}
 use Rattle.periodic_list.specs.declared.work.Store.{Store}
-use Rattle.periodic_list.specs.Periodic.{Periodic, block_of, words_of, value_of, store_at, store_of, next_store}
+use Rattle.periodic_list.specs.Periodic.{Periodic, block_of, address_of, words_of, value_of, store_at, store_of, next_store}
 use Rattle.driver_rows.specs.declared.content.Endpoint.{Endpoint}
 use Rattle.driver_rows.specs.DriverContent.{DriverContent}
 use Rattle.driver_rows.specs.Words.{head_block}
 use Rattle.driver_rows.specs.Rows.{is_iso}
 use Rattle.run_book.specs.Book.{slot_of}
-use Rattle.run_owners.specs.Owners.{Owner, FrameList, Head, QueueHead, IsPlaced}
+use Rattle.run_owners.specs.Owners.{Owner, FrameList, Head, QueueHead, HasRun, IsPlaced}
 use Rattle.run_owners.specs.Kept.{HasOwners}
 use Rattle.run_owners.proofs.Rows.{not_iso}
-use Rattle.ring_members.specs.Lists.{IsOffRing, AreOffRing}
+use Rattle.ring_members.specs.Lists.{IsOffRing, IsMemberApart, AreApart}
 use Rattle.ring_members.proofs.Placed.{has_queue, queue_placed}
 
 -- ---- lists
@@ -53,49 +56,46 @@ all_at P (y ∷ xs) (suc i) x all there = all_at P xs i x all.1 there
 
 -- ---- the words that are stored
 
-abbrev MemberOff : DriverContent → Member → Type 0
-MemberOff d m = IsOffRing d (id_of m / 32 % 65536)
+-- a word of the frame list, or the first of a run, off the ring
+pub record IsApartStore (d : DriverContent) (b at : ℕ) : Type 0 where
+  pub off : IsOffRing d b
+  pub there : ((b ≡ 0) × (at < 4096)) ⊎ (HasRun (slot_of d.book.slots b) × (at ≡ 32 * b))
 
-chain_off : (d : DriverContent) (s : Schedule) (f : ℕ) → AreOffRing d s → AllByRecursion (MemberOff d) (chain s f)
-chain_off d s f off =
-    all_both (MemberOff d) (map Once (filter (λ (x : Descriptor). nat_eq x.frame f) s.descriptors)) (map Each (flat_map (queues_in s f) periods))
-    (all_mapped (MemberOff d) Once (filter (λ (x : Descriptor). nat_eq x.frame f) s.descriptors) (all_kept (λ (x : Descriptor). IsOffRing d (x.id / 32 % 65536)) (λ (x : Descriptor). nat_eq x.frame f) s.descriptors off.descriptors))
-    (all_mapped (MemberOff d) Each (flat_map (queues_in s f) periods)
-    (all_joined (λ (q : Queue). IsOffRing d (q.id / 32 % 65536)) (queues_in s f) periods
-    (λ period. all_kept (λ (q : Queue). IsOffRing d (q.id / 32 % 65536)) (at_place period (f % frame_period period)) s.queues off.queues)))
+abbrev MemberApart : DriverContent → Member → Type 0
+MemberApart d m = IsMemberApart d (id_of m)
 
-before_off : (d : DriverContent) (m : Member) (ms : List Member) → AllByRecursion (MemberOff d) ms → AllByRecursion (MemberOff d) (before_the m ms)
+abbrev WordApart : DriverContent → Predecessor → Type 0
+WordApart d word = IsApartStore d (block_of 0 word) (address_of 0 word)
+
+chain_apart : (d : DriverContent) (s : Schedule) (f : ℕ) → AreApart d s → AllByRecursion (MemberApart d) (chain s f)
+chain_apart d s f apart =
+    all_both (MemberApart d) (map Once (filter (λ (x : Descriptor). nat_eq x.frame f) s.descriptors)) (map Each (flat_map (queues_in s f) periods))
+    (all_mapped (MemberApart d) Once (filter (λ (x : Descriptor). nat_eq x.frame f) s.descriptors) (all_kept (λ (x : Descriptor). IsMemberApart d x.id) (λ (x : Descriptor). nat_eq x.frame f) s.descriptors apart.descriptors))
+    (all_mapped (MemberApart d) Each (flat_map (queues_in s f) periods)
+    (all_joined (λ (q : Queue). IsMemberApart d q.id) (queues_in s f) periods
+    (λ period. all_kept (λ (q : Queue). IsMemberApart d q.id) (at_place period (f % frame_period period)) s.queues apart.queues)))
+
+before_apart : (d : DriverContent) (m : Member) (ms : List Member) → AllByRecursion (MemberApart d) ms → AllByRecursion (MemberApart d) (before_the m ms)
 unfolding before_the
-before_off d m [] all = tt
-before_off d m (x ∷ xs) all = at (is_the m x) (before_the m xs) all.0 (before_off d m xs all.1)
+before_apart d m [] all = tt
+before_apart d m (x ∷ xs) all = at (is_the m x) (before_the m xs) all.0 (before_apart d m xs all.1)
   where
-    at : (b : Bool) (ys : List Member) → MemberOff d x → AllByRecursion (MemberOff d) ys → AllByRecursion (MemberOff d) (cond b [] (x ∷ ys))
+    at : (b : Bool) (ys : List Member) → MemberApart d x → AllByRecursion (MemberApart d) ys → AllByRecursion (MemberApart d) (cond b [] (x ∷ ys))
     at true ys one rest = tt
     at false ys one rest = (one, rest)
 
-after_off : (d : DriverContent) (list : ℕ) (word : Predecessor) (ms : List Member) → IsOffRing d (block_of list word) → AllByRecursion (MemberOff d) ms → IsOffRing d (block_of list (word_after word ms))
+member_word : (d : DriverContent) (m : Member) → MemberApart d m → WordApart d (After m)
+member_word d m apart =
+    let small : id_of m / 32 % 65536 ≡ id_of m / 32 = omega (arith, apart.small) in
+    record {
+      off = subst (IsOffRing d) (sym small) apart.off;
+      there = inr (subst (λ b. HasRun (slot_of d.book.slots b)) (sym small) apart.run, omega (arith, small));
+    }
+
+after_apart : (d : DriverContent) (word : Predecessor) (ms : List Member) → WordApart d word → AllByRecursion (MemberApart d) ms → WordApart d (word_after word ms)
 unfolding word_after
-after_off d list word [] off all = off
-after_off d list word (m ∷ ms) off all = after_off d list (After m) ms all.0 all.1
-
-words_off : (d : DriverContent) (list : ℕ) (s : Schedule) (m : Member) (fs : List ℕ) → IsOffRing d list → AreOffRing d s → AllByRecursion (λ word. IsOffRing d (block_of list word)) (predecessors s m fs)
-unfolding predecessors
-words_off d list s m fs begins off =
-    all_joined (λ word. IsOffRing d (block_of list word)) (word_met s m) (filter (λ f. stands_in f m) fs) each
-  where
-    each : (f : ℕ) → AllByRecursion (λ word. IsOffRing d (block_of list word)) (word_met s m f)
-    each f = at (nat_eq (first_frame (predecessor s m f)) f)
-      where
-        at : (b : Bool) → AllByRecursion (λ word. IsOffRing d (block_of list word)) (cond b (predecessor s m f ∷ []) [])
-        at true = (after_off d list (AtElement f) (before_the m (chain s f)) begins (before_off d m (chain s f) (chain_off d s f off)), tt)
-        at false = tt
-
-stored_off : (d : DriverContent) (list : ℕ) (s : Schedule) (w : Work) (x : Store) (o : Option Predecessor) → IsOffRing d list → AreOffRing d s → slice_get (words_of s w) w.made ≡ o → option_map (λ word. store_at list word (value_of s w)) o ≡ Some x → IsOffRing d x.block
-stored_off d list s w x None begins off there is = absurd (cc)
-stored_off d list s w x (Some word) begins off there is =
-    let same : store_at list word (value_of s w) ≡ x = cc in
-    subst (λ (y : Store). IsOffRing d y.block) same
-    (all_at (λ word. IsOffRing d (block_of list word)) (words_of s w) w.made word (words_off d list s w.member (frames 10) begins off) there)
+after_apart d word [] apart all = apart
+after_apart d word (m ∷ ms) apart all = after_apart d (After m) ms (member_word d m all.0) all.1
 
 -- the frame list begins off the ring
 list_off : (d : DriverContent) → HasOwners d → IsOffRing d 0
@@ -107,10 +107,38 @@ list_off d has = record {
       absurd (cc);
 }
 
-work_off : (d : DriverContent) (p : Periodic) (o : Option Work) (x : Store) → IsOffRing d p.list → AreOffRing d p.members.schedule → option_and_then (λ w. store_of p.list p.members.schedule w) o ≡ Some x → IsOffRing d x.block
-work_off d p None x begins off next = absurd (cc)
-work_off d p (Some w) x begins off next =
-    stored_off d p.list p.members.schedule w x (slice_get (words_of p.members.schedule w) w.made) begins off refl next
+element_word : (d : DriverContent) (f : ℕ) → HasOwners d → f < 1024 → WordApart d (AtElement f)
+element_word d f has below = record { off = list_off d has; there = inl (refl, omega (arith, below)) }
 
-pub store_off_ring : (d : DriverContent) (p : Periodic) (x : Store) → HasOwners d → p.list ≡ 0 → AreOffRing d p.members.schedule → next_store p ≡ Some x → IsOffRing d x.block
-store_off_ring d p x has begins off next = work_off d p p.work x (subst (IsOffRing d) (sym begins) (list_off d has)) off next
+one_met : (d : DriverContent) (s : Schedule) (m : Member) (f : ℕ) → HasOwners d → AreApart d s → f < 1024 → AllByRecursion (WordApart d) (word_met s m f)
+one_met d s m f has apart below = at (nat_eq (first_frame (predecessor s m f)) f)
+  where
+    at : (b : Bool) → AllByRecursion (WordApart d) (cond b (predecessor s m f ∷ []) [])
+    at true = (after_apart d (AtElement f) (before_the m (chain s f)) (element_word d f has below) (before_apart d m (chain s f) (chain_apart d s f apart)), tt)
+    at false = tt
+
+met_apart : (d : DriverContent) (s : Schedule) (m : Member) (fs : List ℕ) → HasOwners d → AreApart d s → AllByRecursion (λ f. f < 1024) fs → AllByRecursion (WordApart d) (flat_map (word_met s m) fs)
+met_apart d s m [] has apart all = tt
+met_apart d s m (f ∷ fs) has apart all = all_both (WordApart d) (word_met s m f) (flat_map (word_met s m) fs) (one_met d s m f has apart all.0) (met_apart d s m fs has apart all.1)
+
+-- the frames of the list
+frames_below : AllByRecursion (λ f. f < 1024) (frames 10)
+frames_below = all_still {P = λ f. f < 2 ^ 10} {Q = λ f. f < 1024} (frames 10) (λ f h. omega (arith, h)) (recursion_from_All (λ f. f < 2 ^ 10) (frames 10) (all_below 10))
+
+words_apart : (d : DriverContent) (s : Schedule) (m : Member) → HasOwners d → AreApart d s → AllByRecursion (WordApart d) (predecessors s m (frames 10))
+unfolding predecessors
+words_apart d s m has apart = met_apart d s m (filter (λ f. stands_in f m) (frames 10)) has apart (all_kept (λ f. f < 1024) (λ f. stands_in f m) (frames 10) frames_below)
+
+stored_apart : (d : DriverContent) (s : Schedule) (w : Work) (x : Store) (o : Option Predecessor) → HasOwners d → AreApart d s → slice_get (words_of s w) w.made ≡ o → option_map (λ word. store_at 0 word (value_of s w)) o ≡ Some x → IsApartStore d x.block x.at
+stored_apart d s w x None has apart there is = absurd (cc)
+stored_apart d s w x (Some word) has apart there is =
+    let same : store_at 0 word (value_of s w) ≡ x = cc in
+    subst (λ (y : Store). IsApartStore d y.block y.at) same (all_at (WordApart d) (words_of s w) w.made word (words_apart d s w.member has apart) there)
+
+work_apart : (d : DriverContent) (s : Schedule) (o : Option Work) (x : Store) → HasOwners d → AreApart d s → option_and_then (λ w. store_of 0 s w) o ≡ Some x → IsApartStore d x.block x.at
+work_apart d s None x has apart next = absurd (cc)
+work_apart d s (Some w) x has apart next = stored_apart d s w x (slice_get (words_of s w) w.made) has apart refl next
+
+pub store_is_apart : (d : DriverContent) (p : Periodic) (x : Store) → HasOwners d → p.list ≡ 0 → AreApart d p.members.schedule → next_store p ≡ Some x → IsApartStore d x.block x.at
+store_is_apart d p x has begins apart next =
+    work_apart d p.members.schedule p.work x has apart (sym (ap (λ b. option_and_then (λ w. store_of b p.members.schedule w) p.work) begins) ∙ next)
