@@ -1,6 +1,7 @@
 -- What the driver stores in queue heads (EHCI 1.0, 3.6, 3.6.3 and 4.10). A queue head has twelve words: its link, two that no event writes,
 -- and from word 3 on the overlay, which is the controller's.
---     HasQueueHead d b        a queue head begins in block b: the head of the ring, or that of an endpoint that wasn't given back
+--     HasQueueHead d b        a queue head begins in block b: the head of the ring, or that of an endpoint that wasn't given back, in the
+--                             ring or in the frame list; an isochronous one has none
 --     stored_address row      the byte address of the word that the row stores
 --     IsMendOf p row b at     the row is one of the three stores after a stalled request, and its word that of the queue head in block b
 use Rattle.std.specs.Prelude.{◌≡◌, ℕ, ◌+◌, ◌*◌, ◌⊎◌, false, slice_get, Option, Some, None}
@@ -10,11 +11,11 @@ use Rattle.driver_rows.specs.declared.rows.Row.{Row}
 use Rattle.driver_rows.specs.declared.rows.Row.TheVariants as rows
 use Rattle.driver_rows.specs.DriverContent.{DriverContent}
 use Rattle.driver_rows.specs.Words.{head_block}
-use Rattle.driver_rows.specs.Rows.{Parts}
+use Rattle.driver_rows.specs.Rows.{Parts, is_iso}
 
 pub data HasQueueHead (d : DriverContent) (b : ℕ) : Type 0 where
   of_ring : b ≡ head_block → HasQueueHead d b
-  of_endpoint : (e : ℕ) (x : Endpoint) → slice_get d.endpoints e ≡ Some x → x.gone ≡ false → x.queue ≡ b → HasQueueHead d b
+  of_endpoint : (e : ℕ) (x : Endpoint) → slice_get d.endpoints e ≡ Some x → is_iso x.desc.kind ≡ false → x.gone ≡ false → x.queue ≡ b → HasQueueHead d b
 
 abbrev pub stored_address : Row → Option ℕ
 stored_address (rows.Store b at v) = Some at

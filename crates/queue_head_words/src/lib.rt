@@ -20,6 +20,7 @@ ghost use Rattle.driver_rows.specs.Rows.{Parts, row_of, after_row};
 ghost use Rattle.run_owners.specs.Kept.{HasOwners};
 ghost use Rattle.ring_members.specs.Links.{link_in};
 ghost use Rattle.ring_members.specs.Ring.{IsRing};
+ghost use Rattle.ring_members.specs.Lists.{IsListApart};
 ghost use Rattle.queue_head_words.specs.Fixed.{AreFixed};
 
 /// When the driver was built the head has its words.
@@ -34,5 +35,5 @@ pub fn commands_keep_the_fixed_words()
 
 /// No event of the driver writes them.
 pub fn events_keep_the_fixed_words()
-    ensures { (p : Parts) → Stands (holding p.driver.book p.memory) → IsShaped p.memory → HasOwners p.driver → IsRing (link_in p.memory) p.driver → AreFixed p.memory p.driver → AreFixed (after_row (row_of p) p).memory (after_row (row_of p) p).driver }
+    ensures { (p : Parts) → Stands (holding p.driver.book p.memory) → IsShaped p.memory → HasOwners p.driver → IsListApart p.driver → IsRing (link_in p.memory) p.driver → AreFixed p.memory p.driver → AreFixed (after_row (row_of p) p).memory (after_row (row_of p) p).driver }
 {}

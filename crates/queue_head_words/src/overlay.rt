@@ -13,18 +13,19 @@ ghost use Rattle.driver_rows.specs.Rows.{Parts, events_of, mends_of, row_of, aft
 ghost use Rattle.run_owners.specs.Kept.{HasOwners};
 ghost use Rattle.ring_members.specs.Links.{link_in};
 ghost use Rattle.ring_members.specs.Ring.{IsRing};
+ghost use Rattle.ring_members.specs.Lists.{IsListApart};
 ghost use Rattle.queue_head_words.specs.Overlay.{HasQueueHead, stored_address, IsMendOf};
 
 /// A row of the driver that stores into a queue head that wasn't given back (its twelve words: 48 bytes) stores its link, word 0, or is one
 /// of the three stores after a stalled request (EHCI 1.0, 3.6.3 and 4.10: the overlay is the controller's).
 pub fn stores_are_links_and_mends()
-    ensures { (p : Parts) (b at : ℕ) → Stands (holding p.driver.book p.memory) → HasOwners p.driver → IsRing (link_in p.memory) p.driver → HasQueueHead p.driver b → 32 * b ≤ at → at < 32 * b + 48 → stored_address (row_of p) ≡ Some at → (at ≡ 32 * b) ⊎ IsMendOf p (row_of p) b at }
+    ensures { (p : Parts) (b at : ℕ) → Stands (holding p.driver.book p.memory) → HasOwners p.driver → IsListApart p.driver → IsRing (link_in p.memory) p.driver → HasQueueHead p.driver b → 32 * b ≤ at → at < 32 * b + 48 → stored_address (row_of p) ≡ Some at → (at ≡ 32 * b) ⊎ IsMendOf p (row_of p) b at }
 {}
 
 /// Any event, also one that lends or gives back runs, leaves words 1 to 11 of a queue head that stands before and after it, but for the word
 /// of the overlay that a store after a stalled request mends.
 pub fn events_leave_the_overlay()
-    ensures { (p : Parts) (b i : ℕ) → Stands (holding p.driver.book p.memory) → IsShaped p.memory → HasOwners p.driver → IsRing (link_in p.memory) p.driver → HasQueueHead p.driver b → HasQueueHead (after_row (row_of p) p).driver b → 1 ≤ i → i < 12 → (word_at (after_row (row_of p) p).memory (32 * b + 4 * i) ≡ word_at p.memory (32 * b + 4 * i)) ⊎ IsMendOf p (row_of p) b (32 * b + 4 * i) }
+    ensures { (p : Parts) (b i : ℕ) → Stands (holding p.driver.book p.memory) → IsShaped p.memory → HasOwners p.driver → IsListApart p.driver → IsRing (link_in p.memory) p.driver → HasQueueHead p.driver b → HasQueueHead (after_row (row_of p) p).driver b → 1 ≤ i → i < 12 → (word_at (after_row (row_of p) p).memory (32 * b + 4 * i) ≡ word_at p.memory (32 * b + 4 * i)) ⊎ IsMendOf p (row_of p) b (32 * b + 4 * i) }
 {}
 
 /// A command that is accepted leaves all twelve words of each queue head that there is: it writes those of a new one, which is linked later.

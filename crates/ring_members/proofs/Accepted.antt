@@ -363,6 +363,17 @@ describing word xs us vs n ring added = record {
   described = λ i y there. added.each i y (sym (ap (λ (ws : List Transfer). slice_get ws i) (ap (drop (length us)) added.all ∙ drop_all us added.new)) ∙ take_get n (drop (length us) vs) i y there);
 }
 
+-- a block of the book keeps its words, but for the frame list's
+pub described_word : (d : DriverContent) (m : Mem) (e : ℕ) (x : Endpoint) (s : Slots) (n seed : ℕ) (g : Holding) (bs : List ℕ) (owner : ℕ → Owner) (c : ℕ) (o : Owner) (other : ℕ) → AreTaken (holding d.book m) g (iso_needs s n) bs → IsPlaced (slot_of d.book.slots) owner 0 FrameList → IsPlaced (slot_of d.book.slots) owner c o → owner_kind o ≢ 0 → SlotHas (slot_of g.book.slots c) (other / 32)
+    → word_at (all_descriptors g.book e x.desc s n seed bs (record { notes = d.periodic.notes; transfers = d.transfers; memory = g.memory })).memory other ≡ word_at m other
+unfolding owner_kind
+described_word d m e x s n seed g bs owner c o other taken list p differs at =
+    let a : Descriptors = record { notes = d.periodic.notes; transfers = d.transfers; memory = g.memory } in
+    let none : c ≢ 0 = other_kind owner 0 c FrameList o list.owned p.owned (λ k. differs (sym k)) in
+    descriptors_elsewhere g.book e x.desc s n seed bs a c other (slots_apart g taken.stands) at none
+    (λ i. get_any c bs i none (λ j below is. fresh_differs j c taken below (placed_run c o p) (sym is)))
+    ∙ ap (λ ws. slice_index ws (other / 4)) taken.words
+
 describe_at : (d : DriverContent) (m : Mem) (e : ℕ) (x : Endpoint) (s : Slots) (n seed : ℕ) (g : Holding) (bs : List ℕ) → AreTaken (holding d.book m) g (iso_needs s n) bs → slice_get d.endpoints e ≡ Some x → d.command ≡ None → HasOwners d → IsRing (link_in m) d
     → IsRing (link_in (entered_iso d e x n (total_of s) g.book (all_descriptors g.book e x.desc s n seed bs (record { notes = d.periodic.notes; transfers = d.transfers; memory = g.memory }))).memory) (entered_iso d e x n (total_of s) g.book (all_descriptors g.book e x.desc s n seed bs (record { notes = d.periodic.notes; transfers = d.transfers; memory = g.memory }))).driver
 unfolding owner_kind
@@ -370,12 +381,8 @@ describe_at d m e x s n seed g bs taken here idle has old =
     let a : Descriptors = record { notes = d.periodic.notes; transfers = d.transfers; memory = g.memory } in
     let r = all_descriptors g.book e x.desc s n seed bs a in
     let now = link_in r.memory in
-    let list = has.owned.each.list in
     let same : (c : ℕ) (o : Owner) → IsPlaced (slot_of d.book.slots) has.owner c o → owner_kind o ≢ 0 → now c ≡ link_in m c = λ c o p differs.
-    let none : c ≢ 0 = other_kind has.owner 0 c FrameList o list.owned p.owned (λ k. differs (sym k)) in
-    descriptors_elsewhere g.book e x.desc s n seed bs a c (32 * c) (slots_apart g taken.stands) (has_word g c taken.stands (subst HasRun (sym (taken.old c (placed_run c o p))) (placed_run c o p))) none
-    (λ i. get_any c bs i none (λ j below is. fresh_differs j c taken below (placed_run c o p) (sym is)))
-    ∙ ap (λ ws. slice_index ws (32 * c / 4)) taken.words in
+    described_word d m e x s n seed g bs has.owner c o (32 * c) taken has.owned.each.list p differs (has_word g c taken.stands (subst HasRun (sym (taken.old c (placed_run c o p))) (placed_run c o p))) in
     let keeps : KeepsQueues d has.owner (link_in m) now = (λ c f p. same c (QueueHead f) p (λ k. omega (arith, k)), same head_block Head has.owned.each.head (λ k. omega (arith, k))) in
     let y : Endpoint = record x { next = first_waiting x.next (length d.transfers) } in
     let same_ring = endpoint_set d.endpoints e x y here refl in

@@ -277,11 +277,11 @@ described_elsewhere k list notes (y ∷ ts) m c apart here differ =
     described_elsewhere k list notes ts (store k m y.first (32 * y.first) v) c apart here differ.1
     ∙ store_elsewhere k m y.first c (32 * y.first) v (32 * c) apart differ.0 here
 
-all_got : (P : Transfer → Type 0) (ts : List Transfer) → ((i : ℕ) (y : Transfer) → slice_get ts i ≡ Some y → P y) → AllByRecursion P ts
+pub all_got : (P : Transfer → Type 0) (ts : List Transfer) → ((i : ℕ) (y : Transfer) → slice_get ts i ≡ Some y → P y) → AllByRecursion P ts
 all_got P [] each = tt
 all_got P (y ∷ ts) each = (each 0 y refl, all_got P ts (λ i z there. each (suc i) z there))
 
-dropped_get : (t n : ℕ) (ts : List Transfer) (i : ℕ) (y : Transfer) → slice_get (take n (drop t ts)) i ≡ Some y → slice_get ts (t + i) ≡ Some y
+pub dropped_get : (t n : ℕ) (ts : List Transfer) (i : ℕ) (y : Transfer) → slice_get (take n (drop t ts)) i ≡ Some y → slice_get ts (t + i) ≡ Some y
 dropped_get zero zero ts i y there = absurd (cc)
 dropped_get zero (suc n) [] i y there = absurd (cc)
 dropped_get zero (suc n) (x ∷ ts) zero y there = there
@@ -676,7 +676,7 @@ unlinked_store : (p : Parts) (list : Periodic) (o : Option Store) → next_store
 unlinked_store p list None next begins off stands has = (λ e x here ring alive. refl, refl)
 unlinked_store p list (Some s) next begins off stands has = stored_apart p s.block s.at s.value stands has (store_is_apart p.driver list s has begins off next).off
 
-begun_members : (list : Periodic) (m : Member) → (((unlinking list m).list ≡ list.list) × ((unlinking list m).members ≡ list.members))
+pub begun_members : (list : Periodic) (m : Member) → (((unlinking list m).list ≡ list.list) × ((unlinking list m).members ≡ list.members))
 begun_members list m = at (may_unlink list m)
   where
     at : (b : Bool) → (((cond b (removing list m) list).list ≡ list.list) × ((cond b (removing list m) list).members ≡ list.members))
