@@ -1,5 +1,5 @@
 -- The stores of the frame list go to the list and to its members: where these begin off the ring, so does each.
-use Rattle.std.proofs.Common.{◌≡◌, ◌≢◌, ℕ, zero, suc, ◌+◌, ◌<◌, ◌≤◌, ◌*◌, ◌^◌, ◌/◌, ◌%◌, Bool, true, false, cond, List, [], ◌∷◌, ◌++◌, map, filter, slice_get, Option, Some, None, option_map, ap, sym, subst, ◌∙◌, inl, inr, refl, arith}
+use Rattle.std.proofs.Common.{◌≡◌, ℕ, zero, suc, ◌<◌, ◌*◌, ◌^◌, ◌/◌, ◌%◌, Bool, true, false, cond, List, [], ◌∷◌, ◌++◌, map, filter, slice_get, Option, Some, None, option_map, ap, sym, subst, ◌∙◌, inl, inr, refl, arith}
 use Rattle.std.specs.Prelude.{◌⊎◌, option_and_then, nat_eq}
 use Rattle.std.specs.List.{AllByRecursion, flat_map}
 use Rattle.std.proofs.lemmas.List.Elements.{recursion_from_All}
@@ -16,12 +16,9 @@ use Rattle.run_owners.proofs.Runs.{all_still}
 use Rattle.periodic_list.specs.declared.work.Work.{Work}
 use Rattle.periodic_list.specs.declared.work.Store.{Store}
 use Rattle.periodic_list.specs.Periodic.{Periodic, block_of, address_of, words_of, value_of, store_at, store_of, next_store}
-use Rattle.driver_rows.specs.declared.content.Endpoint.{Endpoint}
 use Rattle.driver_rows.specs.DriverContent.{DriverContent}
-use Rattle.driver_rows.specs.Words.{head_block}
-use Rattle.driver_rows.specs.Rows.{is_iso}
 use Rattle.run_book.specs.Book.{slot_of}
-use Rattle.run_owners.specs.Owners.{Owner, FrameList, Head, QueueHead, HasRun, IsPlaced}
+use Rattle.run_owners.specs.Owners.{FrameList, QueueHead, HasRun}
 use Rattle.run_owners.specs.Kept.{HasOwners}
 use Rattle.run_owners.proofs.Rows.{not_iso}
 use Rattle.ring_members.specs.Lists.{IsOffRing, IsMemberApart, AreApart}

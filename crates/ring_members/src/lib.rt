@@ -49,7 +49,6 @@ pub fn the_ring_is_read()
 {}
 
 /// Queue heads that weren't given back stand in blocks of their own, so each is met once. Isochronous endpoints have none.
-#[tactic(auto, using(crate::proofs::Placed::queues_stand_apart))]
 pub fn each_is_met_once()
     ensures { (d : DriverContent) (e f : ℕ) (x y : Endpoint) → HasOwners d → HasQueue d e x → HasQueue d f y → e ≢ f → x.queue ≢ y.queue }
 {}

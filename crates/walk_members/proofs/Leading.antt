@@ -46,6 +46,9 @@ head_by word xs ts (Some (unfinished.Open q)) s =
     newest_in (word head_block) s.older xs (λ i y there. ap (λ (ys : List Endpoint). slice_get ys i) s.all ∙ older_get s.older s.new i y there) (head_link word head_block s.older s.ring)
 head_by word xs ts (Some (unfinished.Publish b words)) s = newest_in (word head_block) xs xs (λ i y there. there) (head_link word head_block xs s.ring)
 head_by word xs ts (Some (unfinished.Unlink e b link)) s = newest_in (word head_block) xs xs (λ i y there. there) (head_link word head_block xs s.ring)
+head_by word xs ts (Some unfinished.Chain) s = newest_in (word head_block) xs xs (λ i y there. there) (head_link word head_block xs s)
+head_by word xs ts (Some (unfinished.Iso e t count)) s = newest_in (word head_block) xs xs (λ i y there. there) (head_link word head_block xs s.ring)
+head_by word xs ts (Some (unfinished.Unchain e)) s = newest_in (word head_block) xs xs (λ i y there. there) (head_link word head_block xs s)
 
 member_by : (word : ℕ → ℕ) (xs : List Endpoint) (ts : List Transfer) (o : Option Command) (e : ℕ) (x : Endpoint) → StandsFor word xs ts o → slice_get xs e ≡ Some x → x.linked ≡ true → LeadsIn (word x.queue) xs
 member_by word xs ts None e x s here on = member_in word xs e x s here on
@@ -59,6 +62,9 @@ member_by word xs ts (Some (unfinished.Open q)) e x s here on =
     (pushed s.older s.new e x (sym (ap (λ (ys : List Endpoint). slice_get ys e) s.all) ∙ here))
 member_by word xs ts (Some (unfinished.Publish b words)) e x s here on = member_in word xs e x s.ring here on
 member_by word xs ts (Some (unfinished.Unlink f b link)) e x s here on = member_in word xs e x s.ring here on
+member_by word xs ts (Some unfinished.Chain) e x s here on = member_in word xs e x s here on
+member_by word xs ts (Some (unfinished.Iso f t count)) e x s here on = member_in word xs e x s.ring here on
+member_by word xs ts (Some (unfinished.Unchain f)) e x s here on = member_in word xs e x s here on
 
 -- ---- where they lead
 

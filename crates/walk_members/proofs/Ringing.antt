@@ -1,5 +1,6 @@
 -- The doorbell is answered once: each event keeps what content and registers say of it.
-use Rattle.std.proofs.Common.{◌≡◌, ℕ, zero, suc, ◌-◌, Bool, true, false, cond, nat_lt, [], ◌∷◌, ◌++◌, length, set, slice_get, Option, Some, None, sym, ◌∙◌, refl}
+use Rattle.std.proofs.Common.{◌≡◌, ℕ, zero, suc, ◌-◌, Bool, true, false, cond, nat_lt, [], ◌∷◌, ◌++◌, length, take, drop, set, slice_get, Option, Some, None, sym, ◌∙◌, refl}
+use Rattle.std.specs.Prelude.{is_none}
 use Rattle.std.proofs.lemmas.Bool.{false≢true}
 use Rattle.usb_base.specs.declared.endpoints.EpName.{EpName}
 use Rattle.usb_base.specs.declared.endpoints.EndCause.{EndCause}
@@ -17,9 +18,12 @@ use Rattle.driver_rows.specs.declared.rows.Row.{Row}
 use Rattle.driver_rows.specs.declared.rows.Row.TheVariants as rows
 use Rattle.driver_rows.specs.declared.rows.Found.{Found}
 use Rattle.driver_rows.specs.declared.rows.Found.TheVariants as founds
+use Rattle.periodic_rows.specs.declared.content.Removed.{Removed}
+use Rattle.periodic_rows.specs.declared.content.Removed.TheVariants as removed
+use Rattle.periodic_rows.specs.Linking.{begun_next}
 use Rattle.driver_rows.specs.DriverContent.{DriverContent, waits_for}
 use Rattle.driver_rows.specs.Harvests.{noted, is_stall, end_of}
-use Rattle.driver_rows.specs.Rows.{Parts, events_of, leave_ring, no_command, finished, advanced_by, advance, row_of, after_row, after_transfer, after_endpoint, freed_by, is_told, mends_of, doorbell_command, served, told_with, goes_on, behind_one, behind, stalled, after_end, harvested_as, after_harvest}
+use Rattle.driver_rows.specs.Rows.{Parts, events_of, links, removes_members, leave_ring, leave_frames, no_command, finished, list_after, or_finished, linked_on, advanced_by, advance, framed_notes, with_notes, placement_at, framed_by, linked_by, after_descriptor, after_placed, after_removed, after_unlink, row_of, after_row, after_transfer, after_endpoint, freed_by, is_told, mends_of, doorbell_command, served, told_with, goes_on, behind_one, behind, stalled, after_end, harvested_as, after_harvest}
 use Rattle.run_owners.specs.Due.{IsDue}
 use Rattle.run_owners.proofs.Reasons.{each_is_due}
 use Rattle.walk_members.specs.Bell.{IsBellIn}
@@ -51,7 +55,48 @@ left_bell : (d : DriverContent) (e : ℕ) (o : Option Endpoint) → SameBell d (
 left_bell d e None = same d
 left_bell d e (Some x) = either d _ d x.linked (record { bell = refl; rung = refl }) (same d)
 
+framed_bell : (d : DriverContent) (e : ℕ) (o : Option Endpoint) → SameBell d (leave_frames d e o)
+framed_bell d e None = same d
+framed_bell d e (Some x) = either d _ d x.chained (record { bell = refl; rung = refl }) (same d)
+
 done_bell : (d : DriverContent) (c : Command) → SameBell d (finished d c)
+done_bell d (unfinished.Open q) = record { bell = refl; rung = refl }
+done_bell d (unfinished.Publish b words) = record { bell = refl; rung = refl }
+done_bell d (unfinished.Unlink e b link) =
+    both d (no_command d) (leave_ring (no_command d) e (slice_get d.endpoints e)) (record { bell = refl; rung = refl }) (left_bell (no_command d) e (slice_get d.endpoints e))
+
+done_bell d unfinished.Chain = record { bell = refl; rung = refl }
+done_bell d (unfinished.Iso e t count) = record { bell = refl; rung = refl }
+done_bell d (unfinished.Unchain e) =
+    both d (no_command d) (leave_frames (no_command d) e (slice_get d.endpoints e)) (record { bell = refl; rung = refl }) (framed_bell (no_command d) e (slice_get d.endpoints e))
+
+or_done_bell : (d : DriverContent) (c : Command) → SameBell d (or_finished d c)
+or_done_bell d c = either d (finished d c) d (is_none d.periodic.list.work) (done_bell d c) (same d)
+
+linked_bell : (d : DriverContent) (c : Command) → SameBell d (linked_on d c)
+linked_bell d c =
+    let s = or_done_bell (record d { made = length (events_of c); periodic = begun_next (removes_members c) (record d.periodic { list = list_after d c }) }) c in
+    record { bell = s.bell; rung = s.rung }
+
+advanced_bell : (d : DriverContent) (o : Option Command) → SameBell d (advanced_by d o)
+advanced_bell d None = same d
+advanced_bell d (Some c) =
+    either d (record d { made = suc d.made }) (cond (links c) (linked_on d c) (finished d c)) (nat_lt (suc d.made) (length (events_of c))) (record { bell = refl; rung = refl })
+    (either d (linked_on d c) (finished d c) (links c) (linked_bell d c) (done_bell d c))
+
+noted_bell : (d : DriverContent) (n : ℕ) (o : Option Command) → SameBell d (framed_by d n o)
+noted_bell d n None = same d
+noted_bell d n (Some (unfinished.Open q)) = same d
+noted_bell d n (Some (unfinished.Publish b words)) = same d
+noted_bell d n (Some (unfinished.Unlink e b link)) = same d
+noted_bell d n (Some unfinished.Chain) = same d
+noted_bell d n (Some (unfinished.Unchain e)) = same d
+noted_bell d n (Some (unfinished.Iso e t count)) =
+    let f = with_notes d n (take count (drop t d.transfers)) (framed_notes d n e t count (placement_at d e)) in
+    let s = advanced_bell f f.command in
+    record { bell = s.bell; rung = s.rung }
+
+one_bell : (d : DriverContent) (c : Command) → SameBell d (finished d c)
 done_bell d (unfinished.Open q) = record { bell = refl; rung = refl }
 done_bell d (unfinished.Publish b words) = record { bell = refl; rung = refl }
 done_bell d (unfinished.Unlink e b link) =
@@ -84,6 +129,7 @@ end_bell d e t x stall None = either d (stalled d e t x) (goes_on d e t x) stall
 read_bell : (d : DriverContent) (m : Mem) (e t : ℕ) (x : Endpoint) (y : Transfer) (found : Found) → SameBell d (harvested_as d m e t x y found)
 read_bell d m e t x y founds.Active = same d
 read_bell d m e t x y (founds.Moved n) = record { bell = refl; rung = refl }
+read_bell d m e t x y (founds.Served errors) = record { bell = refl; rung = refl }
 read_bell d m e t x y (founds.Ended n what) =
     let told = told_with d m t y what x.desc.name (noted d.notes y.place n) in
     both d told (after_end told e t x (is_stall what) (end_of x.desc.kind what)) (record { bell = refl; rung = refl }) (end_bell told e t x (is_stall what) (end_of x.desc.kind what))
@@ -105,6 +151,24 @@ endpoint_bell p e (Some x) old =
     let s = either p.driver _ p.driver (is_told x) (record { bell = refl; rung = refl }) (same p.driver) in
     bell_kept p.driver _ p.registers (record { bell = s.bell; rung = s.rung }) old
 
+descriptor_bell : (p : Parts) (t : ℕ) (o : Option Transfer) → IsBellIn p.driver p.registers → IsBellIn (after_descriptor p t o).driver (after_descriptor p t o).registers
+descriptor_bell p t None old = old
+descriptor_bell p t (Some x) old = bell_kept p.driver _ p.registers (record { bell = refl; rung = refl }) old
+
+placed_bell : (p : Parts) (e : ℕ) (o : Option Endpoint) → IsBellIn p.driver p.registers → IsBellIn (after_placed p e o).driver (after_placed p e o).registers
+placed_bell p e None old = old
+placed_bell p e (Some x) old =
+    let s = either p.driver _ p.driver (is_told x) (record { bell = refl; rung = refl }) (same p.driver) in
+    bell_kept p.driver _ p.registers (record { bell = s.bell; rung = s.rung }) old
+
+removed_bell : (p : Parts) (what : Removed) → IsBellIn p.driver p.registers → IsBellIn (after_removed p what).driver (after_removed p what).registers
+removed_bell p (removed.Descriptor t) old = descriptor_bell p t (slice_get p.driver.transfers t) old
+removed_bell p (removed.Endpoint e) old = placed_bell p e (slice_get p.driver.endpoints e) old
+
+unlinked_bell : (p : Parts) (t : ℕ) (o : Option Transfer) → IsBellIn p.driver p.registers → IsBellIn (after_unlink p t o).driver (after_unlink p t o).registers
+unlinked_bell p t None old = old
+unlinked_bell p t (Some x) old = bell_kept p.driver _ p.registers (record { bell = refl; rung = refl }) old
+
 -- ---- each row
 
 -- setting the doorbell leaves Async Advance
@@ -122,6 +186,14 @@ row_bell rows.Lend p due old =
     bell_kept p.driver (advance d) p.registers (record { bell = s.bell; rung = s.rung }) old
 row_bell (rows.Store b at v) p due old = bell_kept p.driver (advance p.driver) p.registers (advanced_bell p.driver p.driver.command) old
 row_bell (rows.Mend w) p due old = bell_kept p.driver _ p.registers (record { bell = refl; rung = refl }) old
+row_bell rows.Frames p due old = bell_kept p.driver _ p.registers (noted_bell p.driver p.registers.frame_index p.driver.command) old
+row_bell rows.LendDescriptors p due old =
+    let d = record p.driver { book = (lend_taken (holding p.driver.book (linked_by p.driver p.memory p.driver.command))).book } in
+    let s = advanced_bell d p.driver.command in
+    bell_kept p.driver (advance d) p.registers (record { bell = s.bell; rung = s.rung }) old
+row_bell (rows.Unlink t) p due old = unlinked_bell p t (slice_get p.driver.transfers t) old
+row_bell (rows.ReleaseRemoved what) p due old = removed_bell p what old
+row_bell (rows.ReadFrame n) p due old = bell_kept p.driver _ p.registers (record { bell = refl; rung = refl }) old
 row_bell (rows.ReleaseTransfer t) p due old = transfer_bell p t (slice_get p.driver.transfers t) old
 row_bell (rows.ReleaseEndpoint e) p due old = endpoint_bell p e (slice_get p.driver.endpoints e) old
 row_bell rows.ClearAdvance p due old = record {
