@@ -96,16 +96,6 @@ noted_bell d n (Some (unfinished.Iso e t count)) =
     let s = advanced_bell f f.command in
     record { bell = s.bell; rung = s.rung }
 
-one_bell : (d : DriverContent) (c : Command) → SameBell d (finished d c)
-done_bell d (unfinished.Open q) = record { bell = refl; rung = refl }
-done_bell d (unfinished.Publish b words) = record { bell = refl; rung = refl }
-done_bell d (unfinished.Unlink e b link) =
-    both d (no_command d) (leave_ring (no_command d) e (slice_get d.endpoints e)) (record { bell = refl; rung = refl }) (left_bell (no_command d) e (slice_get d.endpoints e))
-
-advanced_bell : (d : DriverContent) (o : Option Command) → SameBell d (advanced_by d o)
-advanced_bell d None = same d
-advanced_bell d (Some c) = either d _ (finished d c) (nat_lt (suc d.made) (length (events_of c))) (record { bell = refl; rung = refl }) (done_bell d c)
-
 one_bell : (d : DriverContent) (e : ℕ) (name : EpName) (k : ℕ) (o : Option Transfer) → SameBell d (behind_one d e name k o)
 one_bell d e name k None = same d
 one_bell d e name k (Some y) = either d _ d (waits_for e y) (record { bell = refl; rung = refl }) (same d)
