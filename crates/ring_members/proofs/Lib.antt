@@ -9,4 +9,5 @@ pub mod Events
 pub mod Noted
 pub mod Accepted
 pub mod Opened
+pub mod Empty
 pub mod Laws

@@ -6,6 +6,8 @@
 //! stands below it.
 #![tactic(auto)]
 
+pub mod empty_list;
+
 ghost use Rattle.std.specs.Prelude.{◌≡◌, ◌≢◌, ℕ, ◌≤◌, Ok, None, false, slice_get, Some};
 ghost use Rattle.usb_base.specs.declared.commands.Cmd.{Cmd};
 ghost use Rattle.word_mem.specs.Memory.{Mem, IsShaped};

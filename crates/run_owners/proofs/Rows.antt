@@ -196,7 +196,7 @@ unserved s last note t is = at t.active t.halted (ends_by s last t.total) is
     at false false true f = false≢true f
     at false false false f = false≢true f
 
-served_is : (d : DriverContent) (m : Mem) (y : Transfer) (s : Sort) → is_served_found (found_of d m y s) ≡ true → is_descriptor s ≡ true
+pub served_is : (d : DriverContent) (m : Mem) (y : Transfer) (s : Sort) → is_served_found (found_of d m y s) ≡ true → is_descriptor s ≡ true
 served_is d m y sorts.Descriptor is = refl
 served_is d m y sorts.Get is = absurd (unserved sorts.Get (nat_le y.left 1) (note_at d.notes y.place) (token_in m y.place) is)
 served_is d m y sorts.Put is = absurd (unserved sorts.Put (nat_le y.left 1) (note_at d.notes y.place) (token_in m y.place) is)
