@@ -35,7 +35,7 @@ use Rattle.async_walk.specs.declared.state.ReloadMode.{ReloadMode}
 use Rattle.async_walk.specs.declared.state.ReloadMode.TheVariants.{WaitHead}
 use Rattle.async_walk.specs.declared.state.WalkStep.{WalkStep}
 use Rattle.async_walk.specs.declared.state.WalkStep.TheVariants as steps
-use Rattle.async_walk.specs.Walk.{Walk, stopped}
+use Rattle.async_walk.specs.Walk.{Walk, begun, stopped}
 use Rattle.async_walk.specs.Naks.{may_work, mode_after, reloaded, planned, counted_copy}
 
 -- what an event reads and changes
@@ -317,3 +317,7 @@ at_event p = was_read (started p)
 
 abbrev pub event_row : Place → Row
 event_row p = row_of (started p)
+
+-- the next microframe begins once this event was made, with this time, registers and memory
+abbrev pub begun_after : Place → ℕ → RegisterFile → Mem → Place
+begun_after p left r m = place (begun (after_row (event_row p) (at_event p)).walk left) r m

@@ -7,8 +7,7 @@ ghost use Rattle.op_registers.specs.RegisterFile.{RegisterFile};
 ghost use Rattle.walk_copy.specs.declared.held.Transaction.{Transaction};
 ghost use Rattle.async_walk.specs.declared.rows.Row.TheVariants.{OutOfTime, Transact};
 ghost use Rattle.async_walk.specs.declared.state.WalkStep.TheVariants as steps;
-ghost use Rattle.async_walk.specs.Walk.{begun};
-ghost use Rattle.async_walk.specs.Rows.{Place, place, ring_row, cursor_link, row_of, started, at_event, event_row, step_of, after_row};
+ghost use Rattle.async_walk.specs.Rows.{Place, ring_row, cursor_link, row_of, started, at_event, event_row, step_of, after_row, begun_after};
 ghost use Rattle.async_walk.specs.Causes.{HasReason, HasNothing, IsStuck, Cause, IsWorked};
 
 /// Each row has its cause (EHCI 1.0, 4.8 to 4.10 and 4.15.2.4).
@@ -58,5 +57,5 @@ pub fn transactions_fit()
 #[tactic(auto, using(crate::proofs::Times::cursor_stays, crate::proofs::Times::reads_there))]
 pub fn the_next_microframe_goes_on()
     ensures cursor { (p : Place) → event_row p ≡ OutOfTime → (after_row (event_row p) (at_event p)).walk.cursor ≡ p.walk.cursor }
-    ensures there { (p : Place) (left : ℕ) (r : RegisterFile) (m : Mem) → event_row p ≡ OutOfTime → event_row (place (begun (after_row (event_row p) (at_event p)).walk left) r m) ≡ ring_row m true (cursor_link r p.walk.cursor) }
+    ensures there { (p : Place) (left : ℕ) (r : RegisterFile) (m : Mem) → event_row p ≡ OutOfTime → event_row (begun_after p left r m) ≡ ring_row m true (cursor_link r p.walk.cursor) }
 {}

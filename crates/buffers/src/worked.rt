@@ -1,16 +1,16 @@
 //! Worked rows of the definitions, computed: bytes of a word, places in pages, and bytes stored and loaded.
-ghost use Rattle.std.specs.Prelude.{◌≡◌, ◌++◌, [], ◌∷◌, replicate, false, true};
-ghost use Rattle.word_mem.specs.declared.blocks.BlockState.TheVariants.{Lent, Kept};
+ghost use Rattle.std.specs.Prelude.{◌≡◌, [], ◌∷◌, replicate, false, true};
 ghost use Rattle.word_mem.specs.Views.{byte_at};
 ghost use Rattle.buffers.specs.Bytes.{bytes_of, word_of, with_byte, place, places, bytes_at, with_bytes, reached, all_reached, stored, loaded};
+ghost use Rattle.buffers.specs.Samples.{two_words, two_blocks, with_one_byte};
 
 /// The word 0x11223344 has its lowest byte first, and a byte in it changes alone.
 #[tactic(auto, unfolding(crate::specs::Bytes::put_byte))]
 pub fn words_of_bytes()
     ensures lowest_first { bytes_of 287454020 ≡ 68 ∷ 51 ∷ 34 ∷ 17 ∷ [] }
     ensures back { word_of (68 ∷ 51 ∷ 34 ∷ 17 ∷ []) ≡ 287454020 }
-    ensures second { byte_at (record { words = 0 ∷ 287454020 ∷ []; states = []; foreign = 0 }) 5 ≡ 51 }
-    ensures changed { with_byte (record { words = 0 ∷ 287454020 ∷ []; states = []; foreign = 0 }) 5 255 ≡ record { words = 0 ∷ 287506244 ∷ []; states = []; foreign = 0 } }
+    ensures second { byte_at (two_words 0 287454020) 5 ≡ 51 }
+    ensures changed { with_byte (two_words 0 287454020) 5 255 ≡ two_words 0 287506244 }
 {}
 
 /// Pages 5 and 9: after the last byte of page 5 comes the first of page 9.
@@ -23,16 +23,16 @@ pub fn pages_in_turn()
 /// The words 0x11223344 and 0x55667788 in page 0, from an odd place on.
 #[tactic(auto, unfolding(crate::specs::Bytes::places, crate::specs::Bytes::bytes_at, crate::specs::Bytes::put_byte, crate::specs::Bytes::put_bytes))]
 pub fn unaligned()
-    ensures read { bytes_at (record { words = 287454020 ∷ 1432778632 ∷ []; states = []; foreign = 0 }) (0 ∷ []) 2 4 ≡ 34 ∷ 17 ∷ 136 ∷ 119 ∷ [] }
-    ensures written { with_bytes (record { words = 287454020 ∷ 1432778632 ∷ []; states = []; foreign = 0 }) (0 ∷ []) 3 (1 ∷ 2 ∷ []) ≡ record { words = 19018564 ∷ 1432778498 ∷ []; states = []; foreign = 0 } }
+    ensures read { bytes_at (two_words 287454020 1432778632) (0 ∷ []) 2 4 ≡ 34 ∷ 17 ∷ 136 ∷ 119 ∷ [] }
+    ensures written { with_bytes (two_words 287454020 1432778632) (0 ∷ []) 3 (1 ∷ 2 ∷ []) ≡ two_words 19018564 1432778498 }
 {}
 
 /// A Lent block and a Kept one: byte 31 of the page is stored and loaded, and byte 32 is refused.
 #[tactic(auto, unfolding(crate::specs::Bytes::places, crate::specs::Bytes::bytes_at, crate::specs::Bytes::put_byte, crate::specs::Bytes::put_bytes, crate::specs::Bytes::reached, crate::specs::Bytes::all_reached, crate::specs::Bytes::stored, crate::specs::Bytes::loaded))]
 pub fn refused_within()
-    ensures one { reached (record { words = replicate 16 0; states = Lent ∷ Kept ∷ []; foreign = 0 }) (0 ∷ []) 31 3 ≡ 1 }
-    ensures not_all { all_reached (record { words = replicate 16 0; states = Lent ∷ Kept ∷ []; foreign = 0 }) (0 ∷ []) 31 3 ≡ false }
-    ensures all { all_reached (record { words = replicate 16 0; states = Lent ∷ Kept ∷ []; foreign = 0 }) (0 ∷ []) 30 2 ≡ true }
-    ensures stored { stored (record { words = replicate 16 0; states = Lent ∷ Kept ∷ []; foreign = 0 }) (0 ∷ []) 31 (7 ∷ 8 ∷ []) ≡ record { words = replicate 7 0 ++ 117440512 ∷ replicate 8 0; states = Lent ∷ Kept ∷ []; foreign = 1 } }
-    ensures loaded { loaded (record { words = replicate 7 0 ++ 117440512 ∷ replicate 8 0; states = Lent ∷ Kept ∷ []; foreign = 0 }) (0 ∷ []) 31 (1 ∷ 2 ∷ 3 ∷ []) ≡ 7 ∷ 2 ∷ 3 ∷ [] }
+    ensures one { reached (two_blocks (replicate 16 0) 0) (0 ∷ []) 31 3 ≡ 1 }
+    ensures not_all { all_reached (two_blocks (replicate 16 0) 0) (0 ∷ []) 31 3 ≡ false }
+    ensures all { all_reached (two_blocks (replicate 16 0) 0) (0 ∷ []) 30 2 ≡ true }
+    ensures stored { stored (two_blocks (replicate 16 0) 0) (0 ∷ []) 31 (7 ∷ 8 ∷ []) ≡ two_blocks with_one_byte 1 }
+    ensures loaded { loaded (two_blocks with_one_byte 0) (0 ∷ []) 31 (1 ∷ 2 ∷ 3 ∷ []) ≡ 7 ∷ 2 ∷ 3 ∷ [] }
 {}

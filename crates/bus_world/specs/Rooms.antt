@@ -22,7 +22,7 @@ needs (commands.OpenEp desc) = record no_room { endpoints = 1; reports = 1 }
 needs (commands.Get name len by) = transfer_room len
 needs (commands.Put name bytes by) = transfer_room (length bytes)
 needs (commands.Control name setup bytes) = transfer_room (request_length setup)
-needs (commands.Iso name count len seed) = record no_room { transfers = count; reports = count }
+needs (commands.Iso name count len seed) = record no_room { transfers = count; reports = count; report_bytes = 24576 * count }
 needs (commands.Cancel name) = record no_room { reports = 1 }
 
 abbrev pub needs_line : Line → Reserve

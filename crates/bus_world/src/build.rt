@@ -73,7 +73,7 @@ fn room_of(cmd: &Cmd) -> Reserve
             endpoints: 0,
             transfers: *count as u32,
             reports: *count as u32,
-            report_bytes: 0,
+            report_bytes: 24_576 * *count as u32,
         },
         Cmd::Cancel(_) => Reserve {
             endpoints: 0,

@@ -5,7 +5,7 @@ ghost use Rattle.itd_sitd.specs.declared.slot.ItdSlot.{ItdSlot};
 ghost use Rattle.itd_sitd.specs.declared.sitd.Sitd.{Sitd};
 ghost use Rattle.word_mem.specs.declared.blocks.BlockState.TheVariants.{Lent, Kept, Free};
 ghost use Rattle.descriptor_words.specs.Descriptors.{itd_at_address, itd_was_read, sitd_at_address, sitd_was_read, slot_written, state_words, state_written};
-ghost use Rattle.descriptor_words.specs.WriteBack.{SlotChangesNoMore, SlotIsRead};
+ghost use Rattle.descriptor_words.specs.WriteBack.{SlotChangesNoMore, StateChangesNoMore, SlotIsRead};
 ghost use Rattle.descriptor_words.specs.Samples.{itd_memory, sitd_memory, full_words, full_itd, first_slot, split_words, split_sitd};
 
 /// An iTD is read where both of its blocks are Lent and no reserved bit is set. A refusal is counted once, and a reserved bit never.
@@ -72,7 +72,7 @@ pub fn reads_change_nothing()
 pub fn writes_change_no_more()
     ensures slot_words { SlotChangesNoMore }
     ensures slot_states { (m : Mem) (a k : ℕ) (s : ItdSlot) → (slot_written m a k s).states ≡ m.states }
-    ensures state_words { (m : Mem) (a : ℕ) (ws : List ℕ) (other : ℕ) → a % 4 ≡ 0 → length ws ≡ 3 → (other < a + 12) ⊎ (a + 24 ≤ other) → word_at (state_written m a ws) other ≡ word_at m other }
+    ensures state_words { StateChangesNoMore }
     ensures state_states { (m : Mem) (a : ℕ) (ws : List ℕ) → (state_written m a ws).states ≡ m.states }
 {}
 

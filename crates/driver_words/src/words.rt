@@ -124,23 +124,13 @@ pub fn new_interrupt_head(desc: &EpDesc, smask: u8, cmask: u8, link: u32, dummy:
     ensures head { result ≡ interrupt_head desc.now smask cmask link dummy }
     ensures range { IsQhInRange result }
 {
-    let high = runs_at_high(desc.speed);
-    let control = is_for_control(desc.kind);
     Qh {
         link: LinkBits::from_word(link),
-        addr: desc.name.addr.get(),
-        ep: desc.name.num.get(),
-        eps: speed_bits(desc.speed),
-        dtc: control,
-        max: desc.max,
-        control: control && !high,
+        rl: 0,
         smask,
         cmask,
-        hub: hub_bits(desc, high),
-        port: if high { 0 } else { desc.port },
         mult: desc.multi,
-        next: link_to_qtd(dummy),
-        ..Qh::blank()
+        ..new_queue_head(desc, 0, dummy)
     }
 }
 

@@ -100,3 +100,28 @@ cancelled_rooms {xs = xs} {ts = ts} e old y rooms line here ring =
       for_rung = omega (arith, links, rooms.for_rung);
       for_cleared = omega (arith, links, rooms.for_cleared);
     }
+
+-- a new endpoint that isn't in the ring
+not_linked : (xs : List Endpoint) (y : Endpoint) → y.linked ≡ false → linked (xs ++ y ∷ []) ≡ linked xs
+not_linked xs y off =
+    let none : ◌≡◌ {A = ℕ} (cond y.linked 1 0) 0 = ap (λ b. cond b 1 0) off in
+    omega (arith, sum_by_push (λ (u : Endpoint). cond u.linked 1 0) xs y, none)
+
+pub placed_rooms : {xs : List Endpoint} {ts : List Transfer} {room : Reserve} {endpoints transfers reports report_room bytes byte_room harvested harvest_room mends mend_room waiting waiting_room rung rung_room cleared cleared_room : ℕ} (ys : List Endpoint) (y : Endpoint) (cap : ℕ) → HasRooms xs ts room endpoints transfers reports report_room bytes byte_room harvested harvest_room mends mend_room waiting waiting_room rung rung_room cleared cleared_room → 1 ≤ room.endpoints → ys ≡ xs ++ y ∷ [] → y.cancelled ≡ false → y.linked ≡ false → cap ≡ endpoints → HasRooms ys ts (record room { endpoints = room.endpoints - 1 }) cap transfers reports report_room bytes byte_room harvested harvest_room mends mend_room waiting waiting_room rung rung_room cleared cleared_room
+placed_rooms {xs = xs} {ts = ts} ys y cap rooms some these off out same =
+    let long : length ys ≡ length xs + 1 = ap (length {A = Endpoint}) these ∙ length_push xs y in
+    let ring : linked ys ≡ linked xs = ap linked these ∙ not_linked xs y out in
+    let owed : owed_cancels ys ≡ owed_cancels xs = ap owed_cancels these ∙ no_cancel xs y off in
+    record {
+      for_endpoints = omega (arith, rooms.for_endpoints);
+      for_transfers = rooms.for_transfers;
+      few_transfers = rooms.few_transfers;
+      for_reports = omega (arith, rooms.for_reports);
+      for_bytes = rooms.for_bytes;
+      bytes_fit = rooms.bytes_fit;
+      for_harvested = rooms.for_harvested;
+      for_mends = rooms.for_mends;
+      for_waiting = omega (arith, rooms.for_waiting);
+      for_rung = omega (arith, rooms.for_rung);
+      for_cleared = omega (arith, rooms.for_cleared);
+    }

@@ -1,9 +1,11 @@
 -- What an event leaves as it is: the registers in those that give blocks back, and the room of the reserve in each.
-use Rattle.std.proofs.Common.{◌≡◌, ℕ, zero, suc, Bool, true, false, cond, slice_get, length, nat_lt, Option, Some, None, refl, ◌∙◌}
+use Rattle.std.proofs.Common.{◌≡◌, ℕ, zero, suc, Bool, true, false, cond, slice_get, length, take, drop, is_none, nat_lt, Option, Some, None, refl, ◌∙◌}
 use Rattle.usb_base.specs.declared.endpoints.EpName.{EpName}
 use Rattle.usb_base.specs.declared.endpoints.EndCause.{EndCause}
 use Rattle.run_book.specs.Book.{Holding, holding}
 use Rattle.word_mem.specs.Memory.{Mem}
+use Rattle.periodic_rows.specs.declared.content.Removed.{Removed}
+use Rattle.periodic_rows.specs.declared.content.Removed.TheVariants as removed
 use Rattle.driver_rows.specs.declared.content.Endpoint.{Endpoint}
 use Rattle.driver_rows.specs.declared.content.Transfer.{Transfer}
 use Rattle.driver_rows.specs.declared.content.Reserve.{Reserve}
@@ -14,7 +16,7 @@ use Rattle.driver_rows.specs.declared.rows.Row.TheVariants as rows
 use Rattle.driver_rows.specs.declared.rows.Found.{Found}
 use Rattle.driver_rows.specs.declared.rows.Found.TheVariants as founds
 use Rattle.driver_rows.specs.DriverContent.{DriverContent, waits_for}
-use Rattle.driver_rows.specs.Rows.{Parts, after_row, after_transfer, after_endpoint, advanced_by, finished, no_command, leave_ring, events_of, cancel_told, is_told, behind, behind_one, stalled, goes_on, after_end, harvested_as, after_harvest, freed_by, told_with}
+use Rattle.driver_rows.specs.Rows.{Parts, after_row, after_transfer, after_endpoint, advanced_by, finished, no_command, leave_ring, events_of, cancel_told, is_told, behind, behind_one, stalled, goes_on, after_end, harvested_as, after_harvest, freed_by, told_with, links, linked_on, or_finished, leave_frames, framed_by, with_notes, framed_notes, placement_at, after_unlink, after_removed, after_descriptor, after_placed}
 use Rattle.driver_rows.specs.Harvests.{noted, is_stall, end_of}
 
 pub transfer_registers : (p : Parts) (t : ℕ) (o : Option Transfer) (h : Holding) → (after_transfer p t o h).registers ≡ p.registers
@@ -24,6 +26,22 @@ transfer_registers p t (Some x) h = refl
 pub endpoint_registers : (p : Parts) (e : ℕ) (o : Option Endpoint) → (after_endpoint p e o).registers ≡ p.registers
 endpoint_registers p e None = refl
 endpoint_registers p e (Some x) = refl
+
+pub unlink_registers : (p : Parts) (t : ℕ) (o : Option Transfer) → (after_unlink p t o).registers ≡ p.registers
+unlink_registers p t None = refl
+unlink_registers p t (Some x) = refl
+
+descriptor_registers : (p : Parts) (t : ℕ) (o : Option Transfer) → (after_descriptor p t o).registers ≡ p.registers
+descriptor_registers p t None = refl
+descriptor_registers p t (Some x) = refl
+
+placed_registers : (p : Parts) (e : ℕ) (o : Option Endpoint) → (after_placed p e o).registers ≡ p.registers
+placed_registers p e None = refl
+placed_registers p e (Some x) = refl
+
+pub removed_registers : (p : Parts) (what : Removed) → (after_removed p what).registers ≡ p.registers
+removed_registers p (removed.Descriptor t) = descriptor_registers p t (slice_get p.driver.transfers t)
+removed_registers p (removed.Endpoint e) = placed_registers p e (slice_get p.driver.endpoints e)
 
 -- ---- the room
 
@@ -35,14 +53,47 @@ leave_room : (d : DriverContent) (e : ℕ) (o : Option Endpoint) → (leave_ring
 leave_room d e None = refl
 leave_room d e (Some x) = either x.linked _ d d.room refl refl
 
+frames_room : (d : DriverContent) (e : ℕ) (o : Option Endpoint) → (leave_frames d e o).room ≡ d.room
+frames_room d e None = refl
+frames_room d e (Some x) = either x.chained _ d d.room refl refl
+
 finished_room : (d : DriverContent) (c : Command) → (finished d c).room ≡ d.room
 finished_room d (unfinished.Open queue) = refl
 finished_room d (unfinished.Publish b words) = refl
 finished_room d (unfinished.Unlink e b link) = leave_room (no_command d) e (slice_get d.endpoints e)
+finished_room d unfinished.Chain = refl
+finished_room d (unfinished.Iso e t count) = refl
+finished_room d (unfinished.Unchain e) = frames_room (no_command d) e (slice_get d.endpoints e)
+
+idle_room : (d : DriverContent) (c : Command) → (or_finished d c).room ≡ d.room
+idle_room d c = either (is_none d.periodic.list.work) (finished d c) d d.room (finished_room d c) refl
+
+linked_room : (d : DriverContent) (c : Command) → (linked_on d c).room ≡ d.room
+linked_room d c = idle_room _ c
+
+own_room : (d : DriverContent) (c : Command) → (cond (links c) (linked_on d c) (finished d c)).room ≡ d.room
+own_room d c = either (links c) (linked_on d c) (finished d c) d.room (linked_room d c) (finished_room d c)
 
 advanced_room : (d : DriverContent) (o : Option Command) → (advanced_by d o).room ≡ d.room
 advanced_room d None = refl
-advanced_room d (Some c) = either (nat_lt (suc d.made) (length (events_of c))) _ (finished d c) d.room refl (finished_room d c)
+advanced_room d (Some c) = either (nat_lt (suc d.made) (length (events_of c))) _ (cond (links c) (linked_on d c) (finished d c)) d.room refl (own_room d c)
+
+framed_room : (d : DriverContent) (n : ℕ) (o : Option Command) → (framed_by d n o).room ≡ d.room
+framed_room d n None = refl
+framed_room d n (Some (unfinished.Open queue)) = refl
+framed_room d n (Some (unfinished.Publish b words)) = refl
+framed_room d n (Some (unfinished.Unlink e b link)) = refl
+framed_room d n (Some unfinished.Chain) = refl
+framed_room d n (Some (unfinished.Unchain e)) = refl
+framed_room d n (Some (unfinished.Iso e t count)) = advanced_room (with_notes d n (take count (drop t d.transfers)) (framed_notes d n e t count (placement_at d e))) d.command
+
+unlink_room : (p : Parts) (t : ℕ) (o : Option Transfer) → (after_unlink p t o).driver.room ≡ p.driver.room
+unlink_room p t None = refl
+unlink_room p t (Some x) = refl
+
+descriptor_room : (p : Parts) (t : ℕ) (o : Option Transfer) → (after_descriptor p t o).driver.room ≡ p.driver.room
+descriptor_room p t None = refl
+descriptor_room p t (Some x) = refl
 
 transfer_room : (p : Parts) (t : ℕ) (o : Option Transfer) (h : Holding) → (after_transfer p t o h).driver.room ≡ p.driver.room
 transfer_room p t None h = refl
@@ -54,6 +105,14 @@ told_room d m e x = either (is_told x) _ d d.room refl refl
 endpoint_room : (p : Parts) (e : ℕ) (o : Option Endpoint) → (after_endpoint p e o).driver.room ≡ p.driver.room
 endpoint_room p e None = refl
 endpoint_room p e (Some x) = told_room p.driver p.memory e x
+
+placed_room : (p : Parts) (e : ℕ) (o : Option Endpoint) → (after_placed p e o).driver.room ≡ p.driver.room
+placed_room p e None = refl
+placed_room p e (Some x) = told_room p.driver p.memory e x
+
+removed_room : (p : Parts) (what : Removed) → (after_removed p what).driver.room ≡ p.driver.room
+removed_room p (removed.Descriptor t) = descriptor_room p t (slice_get p.driver.transfers t)
+removed_room p (removed.Endpoint e) = placed_room p e (slice_get p.driver.endpoints e)
 
 one_room : (d : DriverContent) (e : ℕ) (name : EpName) (k : ℕ) (o : Option Transfer) → (behind_one d e name k o).room ≡ d.room
 one_room d e name k None = refl
@@ -72,6 +131,7 @@ end_room d e t x stall None = either stall (stalled d e t x) (goes_on d e t x) d
 read_room : (d : DriverContent) (m : Mem) (e t : ℕ) (x : Endpoint) (y : Transfer) (found : Found) → (harvested_as d m e t x y found).room ≡ d.room
 read_room d m e t x y founds.Active = refl
 read_room d m e t x y (founds.Moved n) = refl
+read_room d m e t x y (founds.Served errors) = refl
 read_room d m e t x y (founds.Ended n what) = end_room (told_with d m t y what x.desc.name (noted d.notes y.place n)) e t x (is_stall what) (end_of x.desc.kind what)
 
 harvest_room : (d : DriverContent) (m : Mem) (e t : ℕ) (found : Found) (o : Option Endpoint) (q : Option Transfer) → (after_harvest d m e t found o q).room ≡ d.room
@@ -89,4 +149,9 @@ row_room rows.ClearAdvance p = refl
 row_room rows.RingBell p = refl
 row_room (rows.ReadStatus heard) p = refl
 row_room (rows.Harvest e t found) p = harvest_room p.driver p.memory e t found (slice_get p.driver.endpoints e) (slice_get p.driver.transfers t)
+row_room rows.Frames p = framed_room p.driver p.registers.frame_index p.driver.command
+row_room rows.LendDescriptors p = advanced_room _ p.driver.command
+row_room (rows.Unlink t) p = unlink_room p t (slice_get p.driver.transfers t)
+row_room (rows.ReleaseRemoved what) p = removed_room p what
+row_room (rows.ReadFrame n) p = refl
 row_room rows.Rest p = refl

@@ -7,3 +7,11 @@ pub mod Written
 pub mod Entered
 pub mod Offered
 pub mod Rosters
+pub mod Makes
+pub mod Placed
+pub mod Placing
+pub mod Descriptors
+pub mod Left
+pub mod Cancelled
+pub mod Isochronous
+pub mod Released

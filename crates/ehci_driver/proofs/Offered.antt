@@ -9,12 +9,14 @@ use Rattle.usb_base.specs.declared.reports.OfferError.TheVariants as errors
 use Rattle.word_mem.specs.Memory.{Mem}
 use Rattle.qh_qtd.specs.Qtd.{qtd_words}
 use Rattle.run_book.specs.Book.{Book, Holding, holding, store_words}
+use Rattle.bandwidth.specs.Admission.{answer}
+use Rattle.periodic_rows.specs.Periodic.{is_periodic, want_of}
 use Rattle.driver_rows.specs.declared.content.Endpoint.{Endpoint}
 use Rattle.driver_rows.specs.declared.content.Command.TheVariants as unfinished
 use Rattle.driver_rows.specs.DriverContent.{DriverContent, endpoint_of, endpoint_named}
 use Rattle.driver_rows.specs.Harvests.{note_at}
 use Rattle.driver_rows.specs.Words.{needs, dummy_qtd}
-use Rattle.driver_rows.specs.Offers.{Offered, Asked, take_runs, offered_open, taken_open, accepted_open, offered_transfer, found_transfer, open_transfer, taken_transfer, accepted_transfer, with_queued, with_transfer, stage_words, note_stages, write_stages, send_stages, first_of, offered_cancel, accepted_cancel}
+use Rattle.driver_rows.specs.Offers.{Offered, Asked, take_runs, offered_open, planned_open, cancelled_by, taken_open, accepted_open, offered_transfer, found_transfer, open_transfer, taken_transfer, accepted_transfer, with_queued, with_transfer, stage_words, note_stages, write_stages, send_stages, first_of, offered_cancel, accepted_cancel}
 
 -- ---- which endpoint
 
@@ -75,22 +77,31 @@ takes_it d m name takes a e x r number there on going short this = for_it d m na
 pub open_again : (d : DriverContent) (m : Mem) (x : EpDesc) (old : Endpoint) (r : Result Offered OfferError) → endpoint_named d x.name ≡ Some old → offered_open d m x (Some old) ≡ r → offered_open d m x (endpoint_named d x.name) ≡ r
 open_again d m x old r there this = ap (λ o. offered_open d m x o) there ∙ this
 
+abbrev opened_as : DriverContent → Mem → EpDesc → Bool → Result Offered OfferError
+opened_as d m x b = cond b (planned_open d m x (answer d.periodic.plan (want_of (length d.endpoints) x))) (taken_open d x (take_runs (holding d.book m) (2 ∷ 1 ∷ [])))
+
+pub placed_new : (d : DriverContent) (m : Mem) (x : EpDesc) (r : Result Offered OfferError) → endpoint_named d x.name ≡ None → is_periodic x.kind ≡ true → planned_open d m x (answer d.periodic.plan (want_of (length d.endpoints) x)) ≡ r → offered_open d m x (endpoint_named d x.name) ≡ r
+placed_new d m x r none on this = ap (λ e. offered_open d m x e) none ∙ ap (λ b. opened_as d m x b) on ∙ this
+
+pub ring_new : (d : DriverContent) (m : Mem) (x : EpDesc) (r : Result Offered OfferError) → endpoint_named d x.name ≡ None → is_periodic x.kind ≡ false → taken_open d x (take_runs (holding d.book m) (2 ∷ 1 ∷ [])) ≡ r → offered_open d m x (endpoint_named d x.name) ≡ r
+ring_new d m x r none off this = ap (λ e. offered_open d m x e) none ∙ ap (λ b. opened_as d m x b) off ∙ this
+
 -- v is the driver as its fields show it
-pub opened_by : (v d : DriverContent) (m q : Mem) (x : EpDesc) (k : Book) (queue dummy : ℕ) (o : Offered) → v ≡ d → endpoint_named d x.name ≡ None → take_runs (holding v.book m) (2 ∷ 1 ∷ []) ≡ Ok (holding k q) → get_or (drop (length v.book.taken) k.taken) 0 0 ≡ queue → get_or (drop (length v.book.taken) k.taken) 1 0 ≡ dummy → o ≡ accepted_open v x (holding k q) queue dummy → offered_open d m x (endpoint_named d x.name) ≡ Ok o
-opened_by v d m q x k queue dummy o same none there first second this =
-    let core : offered_open v m x None ≡ Ok o =
+pub opened_by : (v d : DriverContent) (m q : Mem) (x : EpDesc) (k : Book) (queue dummy : ℕ) (o : Offered) → v ≡ d → take_runs (holding v.book m) (2 ∷ 1 ∷ []) ≡ Ok (holding k q) → get_or (drop (length v.book.taken) k.taken) 0 0 ≡ queue → get_or (drop (length v.book.taken) k.taken) 1 0 ≡ dummy → o ≡ accepted_open v x (holding k q) queue dummy → taken_open d x (take_runs (holding d.book m) (2 ∷ 1 ∷ [])) ≡ Ok o
+opened_by v d m q x k queue dummy o same there first second this =
+    let core : taken_open v x (take_runs (holding v.book m) (2 ∷ 1 ∷ [])) ≡ Ok o =
     ap (λ r. taken_open v x r) there
     ∙ ap (λ b. Ok (accepted_open v x (holding k q) b (get_or (drop (length v.book.taken) k.taken) 1 0))) first
     ∙ ap (λ b. Ok (accepted_open v x (holding k q) queue b)) second
     ∙ ap Ok (sym this) in
-    ap (λ e. offered_open d m x e) none ∙ subst (λ (w : DriverContent). offered_open w m x None ≡ Ok o) same core
+    subst (λ (w : DriverContent). taken_open w x (take_runs (holding w.book m) (2 ∷ 1 ∷ [])) ≡ Ok o) same core
 
-pub not_opened : (v d : DriverContent) (m : Mem) (x : EpDesc) (why : OfferError) → v ≡ d → endpoint_named d x.name ≡ None → take_runs (holding v.book m) (2 ∷ 1 ∷ []) ≡ Err why → offered_open d m x (endpoint_named d x.name) ≡ Err why
-not_opened v d m x why same none there =
-    ap (λ e. offered_open d m x e) none ∙ subst (λ (w : DriverContent). offered_open w m x None ≡ Err why) same (ap (λ r. taken_open v x r) there)
+pub not_opened : (v d : DriverContent) (m : Mem) (x : EpDesc) (why : OfferError) → v ≡ d → take_runs (holding v.book m) (2 ∷ 1 ∷ []) ≡ Err why → taken_open d x (take_runs (holding d.book m) (2 ∷ 1 ∷ [])) ≡ Err why
+not_opened v d m x why same there =
+    subst (λ (w : DriverContent). taken_open w x (take_runs (holding w.book m) (2 ∷ 1 ∷ [])) ≡ Err why) same (ap (λ r. taken_open v x r) there)
 
 if_cancelled : DriverContent → Mem → ℕ → Endpoint → Bool → Result Offered OfferError
-if_cancelled d m e x b = cond b (Err (errors.Closed causes.Cancel)) (Ok (record { driver = accepted_cancel d e x; memory = m }))
+if_cancelled d m e x b = cond b (Err (errors.Closed causes.Cancel)) (Ok (record { driver = cancelled_by d e x x.placement; memory = m }))
 
 cancel_at : (d : DriverContent) (m : Mem) (name : EpName) (e : ℕ) (x : Endpoint) → endpoint_of d name ≡ Some e → endpoint_named d name ≡ Some x → offered_cancel d m (unwrap_or (endpoint_of d name) 0) (endpoint_named d name) ≡ if_cancelled d m e x x.cancelled
 unfolding if_cancelled
@@ -101,7 +112,7 @@ pub cancel_again : (d : DriverContent) (m : Mem) (name : EpName) (e : ℕ) (x : 
 unfolding if_cancelled
 cancel_again d m name e x number there on = cancel_at d m name e x number there ∙ ap (λ b. if_cancelled d m e x b) on
 
-pub cancelled_now : (d new : DriverContent) (m : Mem) (name : EpName) (e : ℕ) (x : Endpoint) → endpoint_of d name ≡ Some e → endpoint_named d name ≡ Some x → x.cancelled ≡ false → new ≡ accepted_cancel d e x → offered_cancel d m (unwrap_or (endpoint_of d name) 0) (endpoint_named d name) ≡ Ok (record { driver = new; memory = m })
+pub cancelled_now : (d new : DriverContent) (m : Mem) (name : EpName) (e : ℕ) (x : Endpoint) → endpoint_of d name ≡ Some e → endpoint_named d name ≡ Some x → x.cancelled ≡ false → new ≡ cancelled_by d e x x.placement → offered_cancel d m (unwrap_or (endpoint_of d name) 0) (endpoint_named d name) ≡ Ok (record { driver = new; memory = m })
 unfolding if_cancelled
 cancelled_now d new m name e x number there off this =
     cancel_at d m name e x number there ∙ ap (λ b. if_cancelled d m e x b) off ∙ ap (λ n. Ok (record { driver = n; memory = m })) (sym this)

@@ -1,23 +1,33 @@
 -- Which words an event writes: lending leaves each, a store changes the one at its address, and giving runs back those of blocks that
 -- are Free then.
-use Rattle.std.proofs.Common.{◌≡◌, ◌≢◌, ℕ, zero, suc, ◌+◌, ◌*◌, ◌/◌, ◌%◌, ◌==◌, ◌<◌, ◌≤◌, Bool, true, false, cond, List, [], ◌∷◌, length, take, reverse, slice_get, slice_index, Option, Some, None, arith, ap, sym, subst, ◌∙◌, ⊎_elim, refl}
-use Rattle.std.proofs.lemmas.Bool.{cases_lt, eqb-false}
+use Rattle.std.proofs.Common.{◌≡◌, ◌≢◌, ℕ, zero, suc, ◌+◌, ◌*◌, ◌/◌, ◌%◌, ◌==◌, ◌<◌, ◌≤◌, Bool, true, false, ◌||◌, cond, List, [], ◌∷◌, length, take, drop, reverse, slice_get, slice_index, Option, Some, None, arith, ap, sym, subst, ◌∙◌, ⊎_elim, refl}
+use Rattle.std.proofs.lemmas.Bool.{cases_lt, eqb-false, true≢false}
 use Rattle.std.proofs.lemmas.List.{get_or-set_other}
 use Rattle.word_mem.specs.Memory.{Mem, IsShaped, word_at, state_at, with_word}
 use Rattle.word_mem.specs.declared.blocks.BlockState.TheVariants.{Free}
 use Rattle.word_mem.proofs.Filled.{length-filled, slice_get-filled_inside, slice_get-filled_before, slice_get-filled_after, get_or-filled_before, get_or-filled_after}
-use Rattle.run_book.specs.Book.{Holding, holding, Stands, slot_of, slot_at, lend_slot, lend_runs, none_taken, release_slot, release_run, can_store}
+use Rattle.run_book.specs.Book.{Book, Holding, holding, Stands, store, slot_of, slot_at, lend_slot, lend_runs, none_taken, release_slot, release_run, can_store}
 use Rattle.run_book.specs.declared.slots.Slot.{Slot}
 use Rattle.run_book.specs.declared.slots.Slot.TheVariants.{Empty, Keeps, Lends}
 use Rattle.run_book.proofs.Standing.{stands_released, within_lent}
+use Rattle.periodic_list.specs.declared.work.Store.{Store}
+use Rattle.periodic_list.specs.Periodic.{Periodic, next_store}
+use Rattle.periodic_rows.specs.declared.content.DescriptorNote.{DescriptorNote}
+use Rattle.periodic_rows.specs.declared.content.Removed.{Removed}
+use Rattle.periodic_rows.specs.declared.content.Removed.TheVariants as removed
+use Rattle.periodic_rows.specs.Periodic.{itd_member, note_at as periodic_note}
+use Rattle.periodic_rows.specs.Linking.{new_link}
 use Rattle.driver_rows.specs.declared.content.Endpoint.{Endpoint}
 use Rattle.driver_rows.specs.declared.content.Transfer.{Transfer}
 use Rattle.driver_rows.specs.declared.content.QtdNote.{QtdNote}
+use Rattle.driver_rows.specs.declared.content.Command.{Command}
+use Rattle.driver_rows.specs.declared.content.Command.TheVariants as unfinished
 use Rattle.driver_rows.specs.declared.rows.Row.{Row}
 use Rattle.driver_rows.specs.declared.rows.Row.TheVariants as rows
 use Rattle.driver_rows.specs.Harvests.{note_at}
-use Rattle.driver_rows.specs.Rows.{Parts, after_row, after_transfer, after_endpoint, freed_by, free_runs, free_qtd, free_qtds, free_transfers, free_endpoint, is_held_of}
-use Rattle.ehci_driver.specs.Written.{OnlyStores}
+use Rattle.driver_rows.specs.DriverContent.{DriverContent, waits_for}
+use Rattle.driver_rows.specs.Rows.{Parts, after_row, after_transfer, after_endpoint, freed_by, free_runs, free_qtd, free_qtds, free_transfers, free_endpoint, is_held_of, is_iso, linked_descriptors, linked_by, stored_link, descriptor_leaving, after_unlink, free_descriptor, free_descriptors, free_placed, after_descriptor, after_placed, after_removed}
+use Rattle.ehci_driver.specs.Written.{OnlyStores, is_word, links_at, command_links_at, link_at, unlinks_at}
 
 -- ---- lending
 
@@ -136,9 +146,83 @@ endpoint_words p e (Some x) stands shape at busy =
     let two = freed_transfers p.driver.notes e g p.driver.transfers one.stands one.shape in
     (freed_both h g (free_endpoint p.driver e x h) one two).words at busy
 
+-- ---- the frame list
+
+first_off : (a b : Bool) → (a || b) ≡ false → a ≡ false
+first_off false b off = refl
+first_off true b off = off
+
+later_off : (a b : Bool) → (a || b) ≡ false → b ≡ false
+later_off false b off = off
+later_off true b off = absurd (true≢false off)
+
+linked_apart : (k : Book) (list : Periodic) (notes : List DescriptorNote) (ts : List Transfer) (m : Mem) (at : ℕ) → links_at ts at ≡ false → word_at (linked_descriptors k list notes ts m) at ≡ word_at m at
+unfolding linked_descriptors
+linked_apart k list notes [] m at apart = refl
+linked_apart k list notes (t ∷ ts) m at apart =
+    let v = new_link list (itd_member notes t.first) in
+    linked_apart k list notes ts (store k m t.first (32 * t.first) v) at (later_off (is_word (32 * t.first) at) (links_at ts at) apart)
+    ∙ written (can_store (slot_of k.slots t.first) (32 * t.first)) m (32 * t.first) v at (first_off (is_word (32 * t.first) at) (links_at ts at) apart)
+
+command_apart : (d : DriverContent) (m : Mem) (o : Option Command) (at : ℕ) → command_links_at d o at ≡ false → word_at (linked_by d m o) at ≡ word_at m at
+command_apart d m None at apart = refl
+command_apart d m (Some (unfinished.Open queue)) at apart = refl
+command_apart d m (Some (unfinished.Publish b words)) at apart = refl
+command_apart d m (Some (unfinished.Unlink e b link)) at apart = refl
+command_apart d m (Some unfinished.Chain) at apart = refl
+command_apart d m (Some (unfinished.Unchain e)) at apart = refl
+command_apart d m (Some (unfinished.Iso e t count)) at apart = linked_apart d.book d.periodic.list d.periodic.notes (take count (drop t d.transfers)) m at apart
+
+stored_apart : (k : Book) (m : Mem) (o : Option Store) (at : ℕ) → link_at o at ≡ false → word_at (stored_link k m o) at ≡ word_at m at
+stored_apart k m None at apart = refl
+stored_apart k m (Some s) at apart = written (can_store (slot_of k.slots s.block) s.at) m s.at s.value at apart
+
+unlink_apart : (p : Parts) (t : ℕ) (o : Option Transfer) (at : ℕ) → unlinks_at p.driver o at ≡ false → word_at (after_unlink p t o).memory at ≡ word_at p.memory at
+unlink_apart p t None at apart = refl
+unlink_apart p t (Some x) at apart = stored_apart p.driver.book p.memory (next_store (descriptor_leaving p.driver x)) at apart
+
+freed_descriptor : (notes : List DescriptorNote) (h : Holding) (b : ℕ) → Stands h → IsShaped h.memory → Freed h (free_descriptor notes h b)
+freed_descriptor notes h b stands shape = freed_runs h (b ∷ take (periodic_note notes b).runs (periodic_note notes b).buffer) stands shape
+
+freed_descriptors : (notes : List DescriptorNote) (e : ℕ) (h : Holding) (ts : List Transfer) → Stands h → IsShaped h.memory → Freed h (free_descriptors notes e h ts)
+unfolding free_descriptors
+freed_descriptors notes e h [] stands shape = freed_nothing h stands shape
+freed_descriptors notes e h (t ∷ ts) stands shape =
+    let g = free_descriptor notes h t.first in
+    let next = cond (waits_for e t) g h in
+    let one = freed_held (waits_for e t) h g stands shape (freed_descriptor notes h t.first stands shape) in
+    freed_both h next (free_descriptors notes e next ts) one (freed_descriptors notes e next ts one.stands one.shape)
+
+freed_endpoint : (d : DriverContent) (e : ℕ) (x : Endpoint) (h : Holding) → Stands h → IsShaped h.memory → Freed h (free_endpoint d e x h)
+freed_endpoint d e x h stands shape =
+    let g = free_runs h (x.queue ∷ x.dummy ∷ []) in
+    let one = freed_runs h (x.queue ∷ x.dummy ∷ []) stands shape in
+    freed_both h g (free_endpoint d e x h) one (freed_transfers d.notes e g d.transfers one.stands one.shape)
+
+freed_either : (b : Bool) (h g k : Holding) → Freed h g → Freed h k → Freed h (cond b g k)
+freed_either true h g k one other = one
+freed_either false h g k one other = other
+
+freed_placed : (d : DriverContent) (e : ℕ) (x : Endpoint) (h : Holding) → Stands h → IsShaped h.memory → Freed h (free_placed d e x h)
+freed_placed d e x h stands shape =
+    freed_either (is_iso x.desc.kind) h (free_descriptors d.periodic.notes e h d.transfers) (free_endpoint d e x h)
+    (freed_descriptors d.periodic.notes e h d.transfers stands shape) (freed_endpoint d e x h stands shape)
+
+descriptor_words : (p : Parts) (t : ℕ) (o : Option Transfer) → Stands (holding p.driver.book p.memory) → IsShaped p.memory → (at : ℕ) → state_at (after_descriptor p t o).memory (at / 32) ≢ Some Free → word_at (after_descriptor p t o).memory at ≡ word_at p.memory at
+descriptor_words p t None stands shape at busy = refl
+descriptor_words p t (Some x) stands shape at busy = (freed_descriptor p.driver.periodic.notes (holding p.driver.book p.memory) x.first stands shape).words at busy
+
+placed_words : (p : Parts) (e : ℕ) (o : Option Endpoint) → Stands (holding p.driver.book p.memory) → IsShaped p.memory → (at : ℕ) → state_at (after_placed p e o).memory (at / 32) ≢ Some Free → word_at (after_placed p e o).memory at ≡ word_at p.memory at
+placed_words p e None stands shape at busy = refl
+placed_words p e (Some x) stands shape at busy = (freed_placed p.driver e x (holding p.driver.book p.memory) stands shape).words at busy
+
+removed_words : (p : Parts) (what : Removed) → Stands (holding p.driver.book p.memory) → IsShaped p.memory → (at : ℕ) → state_at (after_removed p what).memory (at / 32) ≢ Some Free → word_at (after_removed p what).memory at ≡ word_at p.memory at
+removed_words p (removed.Descriptor t) stands shape at busy = descriptor_words p t (slice_get p.driver.transfers t) stands shape at busy
+removed_words p (removed.Endpoint e) stands shape at busy = placed_words p e (slice_get p.driver.endpoints e) stands shape at busy
+
 -- ---- each row
 
-pub row_words : (row : Row) (p : Parts) → Stands (holding p.driver.book p.memory) → IsShaped p.memory → OnlyStores row p.memory (after_row row p).memory
+pub row_words : (row : Row) (p : Parts) → Stands (holding p.driver.book p.memory) → IsShaped p.memory → OnlyStores p.driver row p.memory (after_row row p).memory
 row_words rows.Lend p stands shape at apart busy =
     let h = holding p.driver.book p.memory in
     ap (λ ws. slice_index ws (at / 4)) (lent_runs (none_taken h) (reverse h.book.taken))
@@ -150,4 +234,12 @@ row_words rows.ClearAdvance p stands shape at apart busy = refl
 row_words rows.RingBell p stands shape at apart busy = refl
 row_words (rows.ReadStatus heard) p stands shape at apart busy = refl
 row_words (rows.Harvest e t found) p stands shape at apart busy = refl
+row_words rows.Frames p stands shape at apart busy = refl
+row_words rows.LendDescriptors p stands shape at apart busy =
+    let m = linked_by p.driver p.memory p.driver.command in
+    let h = holding p.driver.book m in
+    ap (λ ws. slice_index ws (at / 4)) (lent_runs (none_taken h) (reverse h.book.taken)) ∙ command_apart p.driver p.memory p.driver.command at apart
+row_words (rows.Unlink t) p stands shape at apart busy = unlink_apart p t (slice_get p.driver.transfers t) at apart
+row_words (rows.ReleaseRemoved what) p stands shape at apart busy = removed_words p what stands shape at busy
+row_words (rows.ReadFrame n) p stands shape at apart busy = refl
 row_words rows.Rest p stands shape at apart busy = refl

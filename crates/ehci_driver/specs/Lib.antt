@@ -1,2 +1,3 @@
+pub mod Makes
 pub mod Rooms
 pub mod Written

@@ -3,7 +3,12 @@
 --     owed_bytes ts       the most bytes that their lines tell
 --     owed_cancels xs     how many cancelled endpoints aren't given back yet
 --     linked xs           how many endpoints are in the ring
+--     chained xs          how many have a place in the frame list
+--     AreBefore n ps      each placement is that of an endpoint below number n
 use Rattle.std.specs.Prelude.{ℕ, ◌+◌, ◌*◌, ◌≤◌, ◌<◌, not, ◌&&◌, List, length, sum_by, if◌then◌else◌}
+use Rattle.std.specs.List.{AllByRecursion}
+use Rattle.bandwidth.specs.declared.placements.Placed.{Placed}
+use Rattle.periodic_part.specs.Part.{Held}
 use Rattle.driver_rows.specs.declared.content.Endpoint.{Endpoint}
 use Rattle.driver_rows.specs.declared.content.Transfer.{Transfer}
 use Rattle.driver_rows.specs.declared.content.Reserve.{Reserve}
@@ -32,3 +37,20 @@ pub record HasRooms (xs : List Endpoint) (ts : List Transfer) (room : Reserve) (
   pub for_waiting : waiting + (linked xs + room.endpoints) ≤ waiting_room
   pub for_rung : waiting + rung + (linked xs + room.endpoints) ≤ rung_room
   pub for_cleared : waiting + rung + cleared + (linked xs + room.endpoints) ≤ cleared_room
+
+abbrev pub chained : List Endpoint → ℕ
+chained xs = sum_by (λ x. if x.chained then 1 else 0) xs
+
+abbrev pub AreBefore : ℕ → List Placed → Type 0
+AreBefore n ps = AllByRecursion (λ p. p.want.id < n) ps
+
+-- the same of the endpoints that have a place in the frame list
+pub record HasFrameRooms (xs : List Endpoint) (ts : List Transfer) (room : Reserve) (held : Held) : Type 0 where
+  pub few_endpoints : length xs + room.endpoints < 4294967296
+  pub for_queued : length ts + room.transfers + 1 ≤ held.queued_room
+  pub for_plan : length held.periodic.plan.placed + room.endpoints ≤ held.periodic.plan.room
+  pub placed_before : AreBefore (length xs) held.periodic.plan.placed
+  pub for_unlinks : length held.periodic.unlinks + (unreported ts + room.transfers) ≤ held.unlink_room
+  pub for_removals :
+      length held.periodic.removals + length held.periodic.unlinks + (unreported ts + room.transfers) + (chained xs + room.endpoints)
+      ≤ held.removal_room

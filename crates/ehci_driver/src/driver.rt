@@ -6,6 +6,7 @@ ghost use Rattle.run_book.specs.Book.{holding, Stands};
 use driver_endpoints::Endpoints;
 use driver_rows::{Bell, Command, Mend, QtdNote, Reserve, Transfer, Turn};
 use op_registers::Registers;
+use periodic_part::PeriodicPart;
 use run_book::RunBook;
 use std::alloc::Global;
 use std::collections::VecDeque;
@@ -33,12 +34,13 @@ pub struct Driver {
     pub(crate) reports: Vec<Report>,
     pub(crate) store: Vec<u8>,
     pub(crate) room: Reserve,
+    pub(crate) periodic: PeriodicPart,
 }
 
 impl Model for Driver {
     ghost use Rattle.std.specs.Prelude.{◌≤◌, ◌+◌, ◌*◌};
     ghost use Rattle.driver_rows.specs.DriverContent.{DriverContent};
-    ghost use Rattle.ehci_driver.specs.Rooms.{HasRooms};
+    ghost use Rattle.ehci_driver.specs.Rooms.{HasRooms, HasFrameRooms};
     ghost use Rattle.std.specs.VecDeque.{deque_len, deque_capacity};
     ghost use Rattle.std.specs.Prelude.{vec_len, vec_capacity};
 
@@ -62,11 +64,13 @@ impl Model for Driver {
       reports = d.reports.items;
       store = d.store.items;
       room = d.room;
+      periodic = d.periodic.periodic;
     } };
 
     ghost invariant = { λ d. HasRooms d.endpoints.items d.transfers.items d.room
         d.endpoints.most (vec_capacity d.transfers)
         (vec_len d.reports) (vec_capacity d.reports) (vec_len d.store) (vec_capacity d.store)
         (deque_len d.harvested) (deque_capacity d.harvested) (deque_len d.mends) (deque_capacity d.mends)
-        (deque_len d.waiting) (deque_capacity d.waiting) (deque_len d.rung) (deque_capacity d.rung) (deque_len d.cleared) (deque_capacity d.cleared) };
+        (deque_len d.waiting) (deque_capacity d.waiting) (deque_len d.rung) (deque_capacity d.rung) (deque_len d.cleared) (deque_capacity d.cleared)
+        × HasFrameRooms d.endpoints.items d.transfers.items d.room d.periodic };
 }

@@ -1,13 +1,14 @@
-ghost use Rattle.std.specs.Prelude.{◌≡◌, ◌≤◌, ◌+◌, ◌*◌, ℕ, length, slice_get, Some, drop, [], ◌++◌, ◌∷◌, suc, take, map};
+ghost use Rattle.std.specs.Prelude.{◌≡◌, ◌≤◌, ◌+◌, ◌*◌, ℕ, false, length, slice_get, Some, drop, [], ◌++◌, ◌∷◌, suc, take, map};
 ghost use Rattle.std.specs.VecDeque.{deque_len, deque_capacity};
 ghost use Rattle.run_book.specs.Book.{holding, Stands, lend_taken, store};
 ghost use Rattle.op_registers.specs.Table.{after_write};
 ghost use Rattle.driver_rows.specs.Rows.{Parts, row_of, after_row, step_of, advance, after_lend, after_transfer, freed_by, after_endpoint, doorbell_command, bell_after, after_harvest, served, free_qtd, free_runs, free_qtds, finished, no_command, leave_ring, events_of};
 ghost use Rattle.driver_rows.specs.Harvests.{note_at};
+ghost use Rattle.ehci_driver.specs.Makes.{CanMake};
 ghost use Rattle.ehci_driver.specs.Written.{OnlyStores};
 
 use crate::driver::Driver;
-use driver_endpoints::last_event;
+use driver_endpoints::{event_count, links};
 use driver_rows::{Bell, Command, DriverStep, Endpoint, Found, Mend, Row, Transfer, Turn};
 use op_registers::Registers;
 use std::collections::VecDeque;
@@ -36,7 +37,7 @@ impl Driver {
         ensures memory { mem.new ≡ (after_row (row_of (record { driver = self.old; registers = regs.old; memory = mem.old })) (record { driver = self.old; registers = regs.old; memory = mem.old })).memory }
         ensures stands { Stands (holding self.new.book mem.new) }
         ensures room { self.new.room ≡ self.old.room }
-        ensures words { OnlyStores (row_of (record { driver = self.old; registers = regs.old; memory = mem.old })) mem.old mem.new }
+        ensures words { OnlyStores self.old (row_of (record { driver = self.old; registers = regs.old; memory = mem.old })) mem.old mem.new }
     {
         let _words = mem.words();
         let row = self.row(regs, mem);
@@ -45,9 +46,10 @@ impl Driver {
     }
 
     /// Makes the event that this row tells.
-    #[tactic(auto, using(std::proofs::lemmas::Grind::common_steps, crate::proofs::Kept::transfer_registers, crate::proofs::Kept::endpoint_registers))]
+    #[tactic(auto, using(std::proofs::lemmas::Grind::common_steps, crate::proofs::Kept::transfer_registers, crate::proofs::Kept::endpoint_registers, crate::proofs::Kept::unlink_registers, crate::proofs::Kept::removed_registers))]
     fn make(&mut self, regs: &mut Registers, mem: &mut WordMem, row: Row)
-        requires { Stands (holding self.old.book mem.old) }
+        requires stands { Stands (holding self.old.book mem.old) }
+        requires can { CanMake self.old row }
         ensures driver { self.new ≡ (after_row row (record { driver = self.old; registers = regs.old; memory = mem.old })).driver }
         ensures registers { regs.new ≡ (after_row row (record { driver = self.old; registers = regs.old; memory = mem.old })).registers }
         ensures memory { mem.new ≡ (after_row row (record { driver = self.old; registers = regs.old; memory = mem.old })).memory }
@@ -63,6 +65,11 @@ impl Driver {
             Row::RingBell => self.ring_bell(regs),
             Row::ReadStatus(heard) => self.read_status(heard),
             Row::Harvest(e, t, found) => self.harvest(mem, e, t, found),
+            Row::Frames => self.give_frames(regs.frame_index()),
+            Row::LendDescriptors => self.lend_descriptors(mem),
+            Row::Unlink(t) => self.unlink(mem, t),
+            Row::ReleaseRemoved(what) => self.release_removed(mem, what),
+            Row::ReadFrame(frindex) => self.read_frame(frindex),
             Row::Rest => {}
         }
     }
@@ -90,30 +97,35 @@ impl Driver {
     }
 
     /// One more event of the command was made.
-    fn advance(&mut self)
+    pub(crate) fn advance(&mut self)
         ensures driver { self.new ≡ advance self.old }
         ensures book { self.new.book ≡ self.old.book }
     {
         let Some(command) = self.command else {
             return;
         };
-        if self.made < last_event(&command) {
+        if self.made < event_count(&command).saturating_sub(1) {
             self.made += 1;
+            return;
+        }
+        if links(&command) {
+            self.link_on(command);
             return;
         }
         self.finish(command);
     }
 
     /// The last event of the command was made.
-    fn finish(&mut self, command: Command)
+    pub(crate) fn finish(&mut self, command: Command)
         ensures driver { self.new ≡ finished self.old command }
         ensures book { self.new.book ≡ self.old.book }
     {
         self.command = None;
         self.made = 0;
         match command {
-            Command::Open(_) | Command::Publish(_, _) => {}
+            Command::Open(_) | Command::Publish(_, _) | Command::Chain | Command::Iso(_, _, _) => {}
             Command::Unlink(e, _, _) => self.leave_ring(e),
+            Command::Unchain(e) => self.leave_frames(e),
         }
     }
 
@@ -173,8 +185,9 @@ impl Driver {
 
     /// USBSTS was read.
     fn read_status(&mut self, heard: bool)
-        ensures { self.new ≡ record self.old { bell = bell_after heard; turn = Turn.Harvest } }
+        ensures { self.new ≡ record self.old { bell = bell_after heard; turn = Turn.Harvest; periodic = record self.old.periodic { status_next = false } } }
     {
+        self.periodic.set_reads_status(false);
         self.bell = if heard { Bell::Heard } else { Bell::Rung };
         self.turn = Turn::Harvest;
     }

@@ -58,6 +58,7 @@ impl Driver {
         match found {
             Found::Active => {}
             Found::Moved(n) => self.move_on(t, transfer, n),
+            Found::Served(errors) => self.tell_descriptor(mem, e, t, endpoint, transfer, errors),
             Found::Ended(n, what) => self.end_with(mem, e, t, endpoint, transfer, n, what),
         }
     }

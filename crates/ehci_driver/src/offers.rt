@@ -3,12 +3,13 @@ ghost use Rattle.word_mem.specs.Memory.{Mem};
 ghost use Rattle.run_book.specs.Book.{holding, Stands};
 ghost use Rattle.driver_rows.specs.DriverContent.{DriverContent, endpoint_of, endpoint_named};
 ghost use Rattle.driver_rows.specs.Words.{queue_head_link};
-ghost use Rattle.driver_rows.specs.Offers.{offered, offered_next, offered_open, offered_cancel, accepted_cancel, before, after, first_end, written_open, new_endpoint, newest_of, IsOffered};
+ghost use Rattle.driver_rows.specs.Offers.{offered, offered_next, offered_open, taken_open, take_runs, offered_cancel, cancelled_by, accepted_cancel, before, after, first_end, written_open, new_endpoint, newest_of, IsOpened, IsOffered};
 
 use crate::driver::Driver;
 use driver_endpoints::{not_again, or_cancel};
 use driver_queues::{newest, oldest, take_endpoint, write_endpoint};
 use driver_rows::{Command, Endpoint};
+use periodic_part::is_in_frames;
 use usb_base::{Cmd, EndCause, EpDesc, EpName, OfferError};
 use word_mem::WordMem;
 
@@ -51,22 +52,29 @@ impl Driver {
                 bytes.as_slice(),
                 mem,
             ),
-            Cmd::Iso { .. } => Err(OfferError::NoEndpoint),
+            Cmd::Iso {
+                name,
+                count,
+                len,
+                seed,
+            } => self.offer_iso(name, *count, *len, *seed, mem),
             Cmd::Cancel(name) => self.offer_cancel(name),
         }
     }
 
-    /// The open of a bulk or control endpoint: its queue head and the dummy are taken and written, and the queue head is to be lent and
-    /// linked behind the head of the ring.
+    /// The open of an endpoint: the queue head of a bulk or control endpoint and its dummy are taken and written, and the queue head is to be
+    /// lent and linked behind the head of the ring; a periodic endpoint asks the plan first.
     ///
     /// # Errors
     ///
-    /// `Closed` where the endpoint has ended, `AlreadyOpen` where it is open, `NoBlocks` where a run isn't found. Nothing changes then.
+    /// `Closed` where the endpoint has ended, `AlreadyOpen` where it is open, `NoPlacement` where the plan has none, `NoBlocks` where a run
+    /// isn't found. Nothing changes then.
     fn offer_open(&mut self, desc: &EpDesc, mem: &mut WordMem) -> Result<(), OfferError>
         requires stands { Stands (holding self.old.book mem.old) }
         requires room { 1 ≤ self.old.room.endpoints }
         requires max { desc.now.max ≤ 1024 }
         requires port { desc.now.port ≤ 127 }
+        requires want { IsOpened desc.now }
         ensures accepted { IfOk result (λ _. offered_open self.old mem.old desc.now (endpoint_named self.old desc.now.name) ≡ Ok (record { driver = self.new; memory = mem.new })) }
         ensures refused { IfErr result (λ why. offered_open self.old mem.old desc.now (endpoint_named self.old desc.now.name) ≡ Err why) }
         ensures same { IfErr result (λ _. (self.new ≡ self.old) × (mem.new ≡ mem.old)) }
@@ -75,6 +83,23 @@ impl Driver {
         if let Some((_, endpoint)) = self.endpoint_by(&desc.name) {
             return Err(not_again(&endpoint));
         }
+        if is_in_frames(desc.kind) {
+            return self.plan_open(desc, mem);
+        }
+        self.take_open(desc, mem)
+    }
+
+    /// The open of an endpoint of the ring.
+    fn take_open(&mut self, desc: &EpDesc, mem: &mut WordMem) -> Result<(), OfferError>
+        requires stands { Stands (holding self.old.book mem.old) }
+        requires room { 1 ≤ self.old.room.endpoints }
+        requires max { desc.now.max ≤ 1024 }
+        requires port { desc.now.port ≤ 127 }
+        ensures accepted { IfOk result (λ _. taken_open self.old desc.now (take_runs (holding self.old.book mem.old) (2 ∷ 1 ∷ [])) ≡ Ok (record { driver = self.new; memory = mem.new })) }
+        ensures refused { IfErr result (λ why. taken_open self.old desc.now (take_runs (holding self.old.book mem.old) (2 ∷ 1 ∷ [])) ≡ Err why) }
+        ensures same { IfErr result (λ _. (self.new ≡ self.old) × (mem.new ≡ mem.old)) }
+        ensures stands { Stands (holding self.new.book mem.new) }
+    {
         match take_endpoint(&mut self.book, mem) {
             Ok((queue, dummy)) => {
                 self.accept_open(desc, mem, queue, dummy);
@@ -98,12 +123,14 @@ impl Driver {
         write_endpoint(&self.book, mem, desc, link, queue, dummy);
         self.endpoints.push(&Endpoint {
             desc: *desc,
+            placement: None,
             queue,
             dummy,
             next: None,
             ended: None,
             cancelled: false,
             linked: true,
+            chained: false,
             gone: false,
         });
         self.command = Some(Command::Open(queue));
@@ -111,7 +138,7 @@ impl Driver {
         self.room.endpoints -= 1;
     }
 
-    /// The cancel of an endpoint: its predecessor in the ring is to lead to its successor.
+    /// The cancel of an endpoint: its predecessor in the ring is to lead to its successor, or what it has in the frame list is to leave it.
     ///
     /// # Errors
     ///
@@ -129,15 +156,29 @@ impl Driver {
         if endpoint.cancelled {
             return Err(OfferError::Closed(EndCause::Cancel));
         }
-        self.accept_cancel(e, &endpoint);
+        self.cancel_endpoint(e, &endpoint);
         Ok(())
     }
 
-    /// The cancel of this endpoint is accepted.
+    /// The cancel of this endpoint is accepted: it leaves its frames, or the ring.
+    fn cancel_endpoint(&mut self, e: usize, endpoint: &Endpoint)
+        requires room { 1 ≤ self.old.room.reports }
+        requires endpoint { slice_get self.old.endpoints e ≡ Some endpoint.now }
+        ensures driver { self.new ≡ cancelled_by self.old e endpoint.now endpoint.now.placement }
+        ensures book { self.new.book ≡ self.old.book }
+    {
+        match endpoint.placement {
+            Some(placement) => self.accept_unchain(e, endpoint, &placement),
+            None => self.accept_cancel(e, endpoint),
+        }
+    }
+
+    /// The cancel of this endpoint of the ring is accepted.
     fn accept_cancel(&mut self, e: usize, endpoint: &Endpoint)
         requires room { 1 ≤ self.old.room.reports }
         requires endpoint { slice_get self.old.endpoints e ≡ Some endpoint.now }
         ensures driver { self.new ≡ accepted_cancel self.old e endpoint.now }
+        ensures book { self.new.book ≡ self.old.book }
     {
         let behind = self.block_before(e);
         let link = link_to(self.block_after(e));

@@ -11,6 +11,7 @@ use driver_endpoints::Endpoints;
 use driver_queues::open_ring;
 use driver_rows::{Bell, QtdNote, Reserve, Turn};
 use op_registers::Registers;
+use periodic_part::PeriodicPart;
 use run_book::RunBook;
 use std::alloc::Global;
 use std::collections::VecDeque;
@@ -79,6 +80,7 @@ impl Driver {
             reports: Vec::with_capacity(alloc, reserve.reports as usize)?,
             store: Vec::with_capacity(alloc, reserve.report_bytes as usize)?,
             room: *reserve,
+            periodic: PeriodicPart::build(alloc, blocks, reserve.endpoints, reserve.transfers)?,
         })
     }
 }

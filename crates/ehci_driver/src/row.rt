@@ -1,12 +1,14 @@
-ghost use Rattle.std.specs.Prelude.{◌≡◌, ◌≤◌, ◌+◌, ◌*◌, ℕ, slice_get, ◌<◌, slice_index, Some, None};
-ghost use Rattle.driver_rows.specs.Rows.{Parts, row_of, command_row, leaving_row, bell_row, harvest_row, worker_row, transfer_row, reading_row, next_worker, worker_from, tells_advance, first_row, turn_row};
+ghost use Rattle.std.specs.Prelude.{◌≡◌, ◌≤◌, ◌+◌, ◌*◌, ℕ, slice_get, ◌<◌, slice_index, Some, None, option_map};
+ghost use Rattle.driver_rows.specs.Rows.{Parts, row_of, next_row, link_row, leaving_row, removal_row, reading_for, removes, bell_row, harvest_row, worker_row, transfer_row, reading_row, next_worker, worker_from, found_of, tells_advance, first_row, turn_row};
+ghost use Rattle.periodic_list.specs.Periodic.{next_store};
 ghost use Rattle.driver_rows.specs.Harvests.{note_at, token_in, found_in};
 ghost use Rattle.driver_rows.specs.DriverContent.{waits_for};
 
 use crate::driver::Driver;
-use driver_endpoints::row_of_command;
+use driver_endpoints::{event_count, links, row_of_command};
 use driver_harvests::{found, note_of, token_at};
-use driver_rows::{Bell, QtdNote, Row, Turn};
+use driver_rows::{Bell, Command, Found, QtdNote, Row, Sort, Transfer, Turn};
+use iso_queues::descriptor_found;
 use op_registers::Registers;
 use word_mem::WordMem;
 
@@ -22,11 +24,31 @@ impl Driver {
         ensures { result ≡ row_of (record { driver = self.now; registers = regs.now; memory = mem.now }) }
     {
         match &self.command {
-            Some(command) => row_of_command(command, self.made),
+            Some(command) => self.next_row(command),
             None => match self.turn {
                 Turn::Leaving => self.leaving_first(regs, mem),
                 Turn::Harvest => self.harvest_first(regs, mem),
             },
+        }
+    }
+
+    /// The next event of the unfinished command: one of its own, or else the next store of the frame list.
+    fn next_row(&self, command: &Command) -> Row
+        ensures { result ≡ next_row self.now command.now }
+    {
+        if links(command) && self.made >= event_count(command) {
+            return self.link_row();
+        }
+        row_of_command(command, self.made)
+    }
+
+    /// The next store of the frame list.
+    fn link_row(&self) -> Row
+        ensures { result ≡ link_row (next_store self.now.periodic.list) }
+    {
+        match self.periodic.next_store() {
+            Some(store) => Row::Store(store.block, store.at, store.value),
+            None => Row::Rest,
         }
     }
 
@@ -64,10 +86,57 @@ impl Driver {
         if let Some(t) = self.harvested.front() {
             return Some(Row::ReleaseTransfer(*t));
         }
+        self.leaving_frames(regs)
+    }
+
+    /// The first of what leaves the frame list, of the batch that was cleared, or of what the registers are waited for.
+    fn leaving_frames(&self, regs: &Registers) -> Option<Row>
+        ensures { result ≡ first_row (option_map Row.Unlink (slice_get self.now.periodic.unlinks 0)) (first_row (option_map Row.ReleaseEndpoint (slice_get self.now.cleared 0)) (first_row (removal_row (slice_get self.now.periodic.removals 0)) (bell_row self.now regs.now self.now.bell))) }
+    {
+        if let Some(t) = self.periodic.first_unlink() {
+            return Some(Row::Unlink(t));
+        }
         if let Some(e) = self.cleared.front() {
             return Some(Row::ReleaseEndpoint(*e));
         }
+        if let Some(row) = self.removal_row() {
+            return Some(row);
+        }
         self.bell_row(regs)
+    }
+
+    /// The release of what left the frame list first, once its boundary was seen.
+    fn removal_row(&self) -> Option<Row>
+        ensures { result ≡ removal_row (slice_get self.now.periodic.removals 0) }
+    {
+        match self.periodic.first_removal() {
+            Some(removal) => {
+                if removal.boundary.is_seen() {
+                    Some(Row::ReleaseRemoved(removal.what))
+                } else {
+                    None
+                }
+            }
+            None => None,
+        }
+    }
+
+    /// The reading of a register for which leaving work waits.
+    fn reading_for(&self, regs: &Registers, rung: bool) -> Option<Row>
+        ensures { result ≡ reading_for self.now regs.now rung (removes self.now) }
+    {
+        match (rung, self.periodic.removes()) {
+            (false, false) => None,
+            (true, false) => Some(Row::ReadStatus(reads_advance(regs))),
+            (false, true) => Some(Row::ReadFrame(regs.frame_index())),
+            (true, true) => {
+                if self.periodic.reads_status() {
+                    Some(Row::ReadStatus(reads_advance(regs)))
+                } else {
+                    Some(Row::ReadFrame(regs.frame_index()))
+                }
+            }
+        }
     }
 
     /// What the doorbell wants.
@@ -76,10 +145,10 @@ impl Driver {
     {
         match self.bell {
             Bell::Heard => Some(Row::ClearAdvance),
-            Bell::Rung => Some(Row::ReadStatus(reads_advance(regs))),
+            Bell::Rung => self.reading_for(regs, true),
             Bell::Quiet => {
                 if self.waiting.is_empty() {
-                    None
+                    self.reading_for(regs, false)
                 } else {
                     Some(Row::RingBell)
                 }
@@ -116,16 +185,24 @@ impl Driver {
             None => None,
             Some(transfer) => {
                 if transfer.endpoint == e && !transfer.reported {
-                    let note = self.note(transfer.place);
-                    let token = token_at(mem, transfer.place);
-                    Some(Row::Harvest(
-                        e,
-                        t,
-                        found(transfer.sort, transfer.left <= 1, &note, &token),
-                    ))
+                    Some(Row::Harvest(e, t, self.found_of(mem, transfer)))
                 } else {
                     None
                 }
+            }
+        }
+    }
+
+    /// What is found of a transfer.
+    fn found_of(&self, mem: &WordMem, transfer: &Transfer) -> Found
+        ensures { result ≡ found_of self.now mem.now transfer.now transfer.now.sort }
+    {
+        match transfer.sort {
+            Sort::Descriptor => descriptor_found(mem, transfer.first),
+            Sort::Get | Sort::Put | Sort::Request => {
+                let note = self.note(transfer.place);
+                let token = token_at(mem, transfer.place);
+                found(transfer.sort, transfer.left <= 1, &note, &token)
             }
         }
     }

@@ -55,8 +55,9 @@ impl Driver {
     }
 
     /// How many transfers wait at the endpoint of this number.
-    fn count_waiting(&self, e: usize) -> u32
-        ensures { result ≡ count_by (waits_for e) self.now.transfers }
+    pub(crate) fn count_waiting(&self, e: usize) -> u32
+        ensures count { result ≡ count_by (waits_for e) self.now.transfers }
+        ensures few { result + self.now.room.transfers < 4294967296 }
     {
         count_waiting_in(&self.transfers, e) as u32
     }

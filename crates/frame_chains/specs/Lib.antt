@@ -4,3 +4,4 @@ pub mod Stores
 pub mod Classes
 pub mod Boundary
 pub mod Worked
+pub mod Laws

@@ -18,7 +18,7 @@ use usb_base::{Failed, Sink};
 
 /// Which list of an image is shown.
 #[derive(Clone, Copy)]
-pub struct Place {
+pub struct ShownList {
     /// How many frames are shown before it.
     pub frames: u32,
     /// Where the ring begins, and none for the chain of a frame.
@@ -32,7 +32,7 @@ pub fn put_chain<K: Sink>(
     image: &Image,
     lists: &mut [u32],
     queues: &mut [u32],
-    place: Place,
+    place: ShownList,
     first: Link,
 ) -> Result<(), Failed>
     requires image { IsAligned image.now }

@@ -6,7 +6,7 @@ ghost use Rattle.image_codec.specs.Marks.{AreMarks};
 ghost use Rattle.image_codec.specs.Printing.{PrintsOn};
 ghost use Rattle.image_codec.specs.Shown.{chain, element_at, frame_first, frame_line, frame_text, frames_text, outside_text, ring_text, seen_before, units};
 
-use crate::chain::{Place, put_chain};
+use crate::chain::{ShownList, put_chain};
 use crate::ending::Ending;
 use crate::image::Image;
 use crate::lines::{line_of_ending, line_of_frame};
@@ -55,7 +55,7 @@ pub fn put_ring<K: Sink>(
     ensures { PrintsOn K.written K.faults sink.old sink.new page.old page.new result (ring_text image.now) }
 {
     page.put(sink, b"async\n")?;
-    let place = Place {
+    let place = ShownList {
         frames: FRAMES,
         home: Some(image.async_at),
     };
@@ -118,7 +118,7 @@ fn put_listed<K: Sink>(
         OnOk result (AreMarks lists.new queues.new (n + 2) (seen_before image.now n ++ passed l first (count l first))) }
 {
     page.put(sink, line_of_frame(n).as_slice())?;
-    let place = Place {
+    let place = ShownList {
         frames: n,
         home: None,
     };

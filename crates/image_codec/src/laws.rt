@@ -4,6 +4,7 @@ ghost use Rattle.link_words.specs.declared.kinds.Link.{Link};
 ghost use Rattle.link_words.specs.declared.kinds.QtdLink.{QtdLink};
 ghost use Rattle.link_words.specs.Links.{IsAligned as IsLinkAligned, IsQtdAligned};
 ghost use Rattle.image_codec.specs.Linked.{count, ending_at};
+ghost use Rattle.image_codec.specs.Samples.{header};
 ghost use Rattle.image_codec.specs.Shown.{chain, queue};
 ghost use Rattle.image_codec.specs.Image.{field_bytes, field_of, fields_of, header_bytes, image_bytes, image_fault, image_of, HasFields, IsAligned};
 
@@ -34,12 +35,12 @@ pub fn fields()
 pub fn refusals()
     ensures nothing { image_fault [] ≡ Some (record { offset = 0; why = ImageWhy.Length }) }
     ensures short { image_fault (codes "EHCI") ≡ Some (record { offset = 4; why = ImageWhy.Length }) }
-    ensures magic { image_fault (codes "EHCJ" ++ 2 ∷ 0 ∷ 0 ∷ 0 ∷ 0 ∷ 64 ∷ 0 ∷ 0 ∷ 1 ∷ 0 ∷ 0 ∷ 0 ∷ 1 ∷ 0 ∷ 0 ∷ 0 ∷ 1 ∷ 0 ∷ 0 ∷ 0 ∷ []) ≡ Some (record { offset = 0; why = ImageWhy.Magic }) }
-    ensures version { image_fault (codes "EHCI" ++ 2 ∷ 0 ∷ 0 ∷ 0 ∷ 0 ∷ 64 ∷ 0 ∷ 0 ∷ 1 ∷ 0 ∷ 0 ∷ 0 ∷ 1 ∷ 0 ∷ 0 ∷ 0 ∷ 1 ∷ 0 ∷ 0 ∷ 0 ∷ []) ≡ Some (record { offset = 4; why = ImageWhy.Version }) }
-    ensures frindex { image_fault (codes "EHCI" ++ 1 ∷ 0 ∷ 0 ∷ 0 ∷ 0 ∷ 64 ∷ 0 ∷ 0 ∷ 1 ∷ 0 ∷ 0 ∷ 0 ∷ 1 ∷ 0 ∷ 0 ∷ 0 ∷ 1 ∷ 0 ∷ 0 ∷ 0 ∷ []) ≡ Some (record { offset = 8; why = ImageWhy.Alignment }) }
-    ensures list_base { image_fault (codes "EHCI" ++ 1 ∷ 0 ∷ 0 ∷ 0 ∷ 255 ∷ 63 ∷ 0 ∷ 0 ∷ 0 ∷ 8 ∷ 0 ∷ 0 ∷ 1 ∷ 0 ∷ 0 ∷ 0 ∷ 1 ∷ 0 ∷ 0 ∷ 0 ∷ []) ≡ Some (record { offset = 12; why = ImageWhy.Alignment }) }
-    ensures async_at { image_fault (codes "EHCI" ++ 1 ∷ 0 ∷ 0 ∷ 0 ∷ 255 ∷ 63 ∷ 0 ∷ 0 ∷ 0 ∷ 16 ∷ 0 ∷ 0 ∷ 16 ∷ 0 ∷ 0 ∷ 0 ∷ 1 ∷ 0 ∷ 0 ∷ 0 ∷ []) ≡ Some (record { offset = 16; why = ImageWhy.Alignment }) }
-    ensures words { image_fault (codes "EHCI" ++ 1 ∷ 0 ∷ 0 ∷ 0 ∷ 255 ∷ 63 ∷ 0 ∷ 0 ∷ 0 ∷ 16 ∷ 0 ∷ 0 ∷ 32 ∷ 0 ∷ 0 ∷ 0 ∷ 0 ∷ 0 ∷ 0 ∷ 0 ∷ []) ≡ Some (record { offset = 20; why = ImageWhy.Alignment }) }
-    ensures most { image_fault (codes "EHCI" ++ 1 ∷ 0 ∷ 0 ∷ 0 ∷ 255 ∷ 63 ∷ 0 ∷ 0 ∷ 0 ∷ 16 ∷ 0 ∷ 0 ∷ 32 ∷ 0 ∷ 0 ∷ 0 ∷ 0 ∷ 4 ∷ 4 ∷ 0 ∷ []) ≡ Some (record { offset = 20; why = ImageWhy.Alignment }) }
-    ensures total { image_fault (codes "EHCI" ++ 1 ∷ 0 ∷ 0 ∷ 0 ∷ 255 ∷ 63 ∷ 0 ∷ 0 ∷ 0 ∷ 16 ∷ 0 ∷ 0 ∷ 32 ∷ 0 ∷ 0 ∷ 0 ∷ 0 ∷ 8 ∷ 0 ∷ 0 ∷ []) ≡ Some (record { offset = 24; why = ImageWhy.Length }) }
+    ensures magic { image_fault (codes "EHCJ" ++ header 2 16384 1 1 1) ≡ Some (record { offset = 0; why = ImageWhy.Magic }) }
+    ensures version { image_fault (codes "EHCI" ++ header 2 16384 1 1 1) ≡ Some (record { offset = 4; why = ImageWhy.Version }) }
+    ensures frindex { image_fault (codes "EHCI" ++ header 1 16384 1 1 1) ≡ Some (record { offset = 8; why = ImageWhy.Alignment }) }
+    ensures list_base { image_fault (codes "EHCI" ++ header 1 16383 2048 1 1) ≡ Some (record { offset = 12; why = ImageWhy.Alignment }) }
+    ensures async_at { image_fault (codes "EHCI" ++ header 1 16383 4096 16 1) ≡ Some (record { offset = 16; why = ImageWhy.Alignment }) }
+    ensures words { image_fault (codes "EHCI" ++ header 1 16383 4096 32 0) ≡ Some (record { offset = 20; why = ImageWhy.Alignment }) }
+    ensures most { image_fault (codes "EHCI" ++ header 1 16383 4096 32 263168) ≡ Some (record { offset = 20; why = ImageWhy.Alignment }) }
+    ensures total { image_fault (codes "EHCI" ++ header 1 16383 4096 32 2048) ≡ Some (record { offset = 24; why = ImageWhy.Length }) }
 {}

@@ -11,7 +11,7 @@ ghost use Rattle.walk_copy.specs.Samples.{moving, done};
 ghost use Rattle.interrupt_visits.specs.declared.turns.Turn.TheVariants.{Rest, Work, Miss, Take};
 ghost use Rattle.interrupt_visits.specs.Turns.{tag_of, is_missed, turn_of, planned, is_last_of};
 ghost use Rattle.interrupt_visits.specs.Copies.{with_split, interrupt_copy, missed_queue, goes_on, again_copy};
-ghost use Rattle.interrupt_visits.specs.Samples.{high_in, split_in, held};
+ghost use Rattle.interrupt_visits.specs.Samples.{high_in, split_in, erred, held};
 
 /// A high-speed queue head works in the microframes of its S-mask alone, and takes a qTD in these alone (EHCI 1.0, 4.10.3).
 pub fn high_speed_turns()
@@ -65,9 +65,9 @@ pub fn splits_marked()
 pub fn copies_left()
     ensures started { (interrupt_copy 40 (planned (split_in false 7)) [] Silent (held (split_in false 7))).queue_head ≡ split_in true 0x00 }
     ensures waits { (interrupt_copy 40 (planned (split_in false 7)) [] Silent (held (split_in false 7))).settled ≡ Some Wait }
-    ensures silent { (interrupt_copy 42 (planned (split_in true 0x00)) [] Silent (held (split_in true 0x00))).queue_head ≡ record (split_in true 0x04) { token = record moving { split_state = true; cerr = 2; xact_err = true } } }
+    ensures silent { (interrupt_copy 42 (planned (split_in true 0x00)) [] Silent (held (split_in true 0x00))).queue_head ≡ erred true 0x04 }
     ensures error { (interrupt_copy 42 (planned (split_in true 0x00)) [] Silent (held (split_in true 0x00))).settled ≡ Some Error }
-    ensures late { (interrupt_copy 44 (planned (split_in true 0x0C)) [] (Hand pids.Nyet) (held (split_in true 0x0C))).queue_head ≡ record (split_in true 0x1C) { token = record moving { split_state = false; cerr = 2; xact_err = true } } }
+    ensures late { (interrupt_copy 44 (planned (split_in true 0x0C)) [] (Hand pids.Nyet) (held (split_in true 0x0C))).queue_head ≡ erred false 0x1C }
 {}
 
 /// A miss halts the qTD (4.12.2.4.1).

@@ -86,3 +86,11 @@ sitd_effect rows.Skip h p = Leaves (passing h.sitd.link p)
 sitd_effect (rows.Transact t) h p = sitd_sent t h p
 sitd_effect rows.Miss h p = Leaves (wrote (missed_copy h) Failed p)
 sitd_effect (rows.WriteBack outcome) h p = Leaves (wrote h outcome p)
+
+-- where it works, as far as the time goes
+abbrev pub work_effect : HeldSitd → Place → Effect
+work_effect h p = sitd_effect (timed_row p.walk.left (sitd_transaction h.sitd)) h p
+
+-- where its transaction isn't made yet
+abbrev pub turn_effect : HeldSitd → Place → Effect
+turn_effect h p = sitd_effect (turn_row p.walk.left h.sitd (sitd_turn (microframe_of p.walk.index) h.sitd)) h p

@@ -1,4 +1,4 @@
-ghost use Rattle.std.specs.Prelude.{◌≡◌, ◌%◌};
+ghost use Rattle.std.specs.Prelude.{◌≡◌, ◌%◌, Some};
 ghost use Rattle.word_mem.specs.Access.{IsByController};
 ghost use Rattle.link_words.specs.Links.{IsQtdAligned};
 ghost use Rattle.qh_qtd.specs.Qtd.{IsQtdInRange};
@@ -6,8 +6,10 @@ ghost use Rattle.qh_qtd.specs.QueueHead.{IsQhInRange};
 ghost use Rattle.walk_copy.specs.Visits.{IsHeld};
 ghost use Rattle.walk_copy.specs.Planning.{CanBeMade};
 ghost use Rattle.interrupt_visits.specs.Turns.{turn_of, planned};
-ghost use Rattle.periodic_walk.specs.Place.{place, reading, HasEffect};
-ghost use Rattle.periodic_walk.specs.Queue.{IsSound, timed_row, take_row, turn_row, take_read, turn_read, queue_row, queue_read, took, took_step, visit_after, wrote, wrote_step, missed as missed_held, miss_outcome, queue_step, queue_sent, queue_effect, sent_step};
+ghost use Rattle.periodic_walk.specs.declared.state.Hand.TheVariants.{Queue};
+ghost use Rattle.periodic_walk.specs.Place.{place, HasEffect};
+ghost use Rattle.periodic_walk.specs.Queue.{IsSound, timed_row, take_row, turn_row, take_read, turn_read, took, took_step, visit_after, wrote, wrote_step, missed as missed_held, miss_outcome, queue_step, queue_sent, queue_effect, sent_step};
+ghost use Rattle.periodic_walk.specs.Rows.{step_at, effect_at};
 
 use crate::state::{Hand, HeldQueue, PeriodicState};
 use async_walk::WalkStep;
@@ -232,8 +234,8 @@ impl PeriodicState {
         wire: &mut W,
     ) -> WalkStep
         requires { IsHeld held.copy }
-        ensures step { result ≡ queue_step (queue_row (place self.old regs.old mem.old) held) held (reading (queue_read (place self.old regs.old mem.old) held) (place self.old regs.old mem.old)) }
-        ensures row { HasEffect W.transacts (queue_effect (queue_row (place self.old regs.old mem.old) held) held (reading (queue_read (place self.old regs.old mem.old) held) (place self.old regs.old mem.old))) wire.old (place self.new regs.new mem.new) wire.new }
+        ensures step { result ≡ step_at (place self.old regs.old mem.old) (Some (Queue held)) }
+        ensures row { HasEffect W.transacts (effect_at (place self.old regs.old mem.old) (Some (Queue held))) wire.old (place self.new regs.new mem.new) wire.new }
         ensures only_lent { IsByController mem.old mem.new }
     {
         match held.copy.settled {

@@ -3,7 +3,7 @@ ghost use Rattle.word_mem.specs.Access.{IsByController};
 ghost use Rattle.interrupt_visits.specs.Turns.{microframe_of};
 ghost use Rattle.iso_visits.specs.Sitd.{IsSitdHeld, sitd_turn, sitd_transaction, missed_copy};
 ghost use Rattle.periodic_walk.specs.Place.{place, HasEffect};
-ghost use Rattle.periodic_walk.specs.Sitd.{turn_row, timed_row, sitd_row, wrote, wrote_step, sitd_step, sitd_sent, sitd_effect};
+ghost use Rattle.periodic_walk.specs.Sitd.{turn_row, timed_row, sitd_row, wrote, wrote_step, sitd_step, sitd_sent, sitd_effect, work_effect, turn_effect};
 
 use crate::state::{Hand, PeriodicState};
 use async_walk::WalkStep;
@@ -99,7 +99,7 @@ impl PeriodicState {
     ) -> WalkStep
         requires { IsSitdHeld held }
         ensures step { result ≡ sitd_step (timed_row self.old.left (sitd_transaction held.sitd)) held (place self.old regs.old mem.old) }
-        ensures row { HasEffect W.transacts (sitd_effect (timed_row self.old.left (sitd_transaction held.sitd)) held (place self.old regs.old mem.old)) wire.old (place self.new regs.new mem.new) wire.new }
+        ensures row { HasEffect W.transacts (work_effect held (place self.old regs.old mem.old)) wire.old (place self.new regs.new mem.new) wire.new }
         ensures only_lent { IsByController mem.old mem.new }
     {
         let t = held.next();
@@ -119,7 +119,7 @@ impl PeriodicState {
     ) -> WalkStep
         requires { IsSitdHeld held }
         ensures step { result ≡ sitd_step (turn_row self.old.left held.sitd (sitd_turn (microframe_of self.old.index) held.sitd)) held (place self.old regs.old mem.old) }
-        ensures row { HasEffect W.transacts (sitd_effect (turn_row self.old.left held.sitd (sitd_turn (microframe_of self.old.index) held.sitd)) held (place self.old regs.old mem.old)) wire.old (place self.new regs.new mem.new) wire.new }
+        ensures row { HasEffect W.transacts (turn_effect held (place self.old regs.old mem.old)) wire.old (place self.new regs.new mem.new) wire.new }
         ensures only_lent { IsByController mem.old mem.new }
     {
         match turn(microframe(self.index), &held.sitd) {

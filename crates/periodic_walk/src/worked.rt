@@ -20,7 +20,7 @@ ghost use Rattle.periodic_walk.specs.Chain.{chain_row};
 ghost use Rattle.periodic_walk.specs.Queue.{queue_row, visit_after};
 ghost use Rattle.periodic_walk.specs.Itd.{itd_row, got_after};
 ghost use Rattle.periodic_walk.specs.Sitd.{sitd_row};
-ghost use Rattle.periodic_walk.specs.Samples.{no_memory, at_hand, queue};
+ghost use Rattle.periodic_walk.specs.Samples.{no_memory, at_hand, queue, failed, held_sitd};
 
 /// The end of a chain; and what can't be read, or isn't served, is the fault (EHCI 1.0, 3.7 and 4.6).
 pub fn rows_of_a_chain()
@@ -46,7 +46,7 @@ pub fn rows_of_a_queue_head()
 /// After a write-back the visit goes on, or the link of the copy comes next (3.6.2, 4.10.3 and 4.12.2.4.2).
 #[tactic(auto, unfolding(walk_copy::specs::Overlay::moved))]
 pub fn visits_after_a_write_back()
-    ensures silent { (visit_after (queue (split_in true 4) 1 (Some Error)) Error (at_hand (Queue (queue (split_in true 4) 1 (Some Error))) 42 0).walk).hand ≡ Some (Queue (queue (split_in true 4) 1 None)) }
+    ensures silent { (visit_after failed Error (at_hand (Queue failed) 42 0).walk).hand ≡ Some (Queue (queue (split_in true 4) 1 None)) }
     ensures third { (visit_after (queue high_in 3 (Some (Moved 64))) (Moved 64) (at_hand (Queue (queue high_in 3 (Some (Moved 64)))) 40 0).walk).hand ≡ None }
     ensures link { (visit_after (queue high_in 3 (Some (Moved 64))) (Moved 64) (at_hand (Queue (queue high_in 3 (Some (Moved 64)))) 40 0).walk).cursor ≡ links.Qh 0x1000 }
 {}
@@ -71,8 +71,8 @@ pub fn packets_kept()
 /// The row of a siTD in hand (4.12.3.3).
 #[tactic(auto, unfolding(frame_masks::specs::Masks::lacks))]
 pub fn rows_of_a_sitd()
-    ensures starts { sitd_row (at_hand (Sitd (record { at = 0x2000; sitd = sitd_in false 200; settled = None })) 40 644481) (record { at = 0x2000; sitd = sitd_in false 200; settled = None }) ≡ sitd_rows.Transact (sitd_transaction (sitd_in false 200)) }
-    ensures late { sitd_row (at_hand (Sitd (record { at = 0x2000; sitd = sitd_in false 200; settled = None })) 40 644480) (record { at = 0x2000; sitd = sitd_in false 200; settled = None }) ≡ sitd_rows.Skip }
-    ensures missed { sitd_row (at_hand (Sitd (record { at = 0x2000; sitd = sitd_in true 200; settled = None })) 43 0) (record { at = 0x2000; sitd = sitd_in true 200; settled = None }) ≡ sitd_rows.Miss }
-    ensures settled { sitd_row (at_hand (Sitd (record { at = 0x2000; sitd = sitd_in true 200; settled = Some Nothing })) 40 0) (record { at = 0x2000; sitd = sitd_in true 200; settled = Some Nothing }) ≡ sitd_rows.WriteBack Nothing }
+    ensures starts { sitd_row (at_hand (Sitd (held_sitd false None)) 40 644481) (held_sitd false None) ≡ sitd_rows.Transact (sitd_transaction (sitd_in false 200)) }
+    ensures late { sitd_row (at_hand (Sitd (held_sitd false None)) 40 644480) (held_sitd false None) ≡ sitd_rows.Skip }
+    ensures missed { sitd_row (at_hand (Sitd (held_sitd true None)) 43 0) (held_sitd true None) ≡ sitd_rows.Miss }
+    ensures settled { sitd_row (at_hand (Sitd (held_sitd true (Some Nothing))) 40 0) (held_sitd true (Some Nothing)) ≡ sitd_rows.WriteBack Nothing }
 {}

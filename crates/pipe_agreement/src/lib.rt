@@ -8,6 +8,7 @@ ghost use Rattle.std.specs.Prelude.{◌≡◌, ℕ, List, [], ◌∷◌, true, f
 ghost use Rattle.std.specs.List.{concat};
 ghost use Rattle.pipe_agreement.specs.Prefix.{IsPrefix};
 ghost use Rattle.pipe_agreement.specs.Pipe.{Pipe, Hearing, Unheard, Heard, PipeAgrees, opening, after_all};
+ghost use Rattle.pipe_agreement.specs.Samples.{first, second, packets};
 
 /// Whatever is lost, the two sides of a pipe agree after each list of transactions.
 pub fn pipe_agrees()
@@ -21,8 +22,8 @@ pub fn accepted_bytes_begin_the_stream()
 
 /// The law at work: a lost acknowledgement repeats a packet, which the receiver drops.
 pub fn a_lost_acknowledgement()
-    ensures once { let packets : List (List ℕ) = (1 ∷ 2 ∷ []) ∷ (3 ∷ []) ∷ [] in (after_all packets opening (Heard false ∷ [])).accepted ≡ (1 ∷ 2 ∷ []) ∷ [] }
-    ensures again { let packets : List (List ℕ) = (1 ∷ 2 ∷ []) ∷ (3 ∷ []) ∷ [] in (after_all packets opening (Heard false ∷ Unheard ∷ Heard true ∷ [])).accepted ≡ (1 ∷ 2 ∷ []) ∷ [] }
-    ensures then { let packets : List (List ℕ) = (1 ∷ 2 ∷ []) ∷ (3 ∷ []) ∷ [] in (after_all packets opening (Heard false ∷ Unheard ∷ Heard true ∷ Heard true ∷ [])).accepted ≡ (1 ∷ 2 ∷ []) ∷ (3 ∷ []) ∷ [] }
-    ensures end { let packets : List (List ℕ) = (1 ∷ 2 ∷ []) ∷ (3 ∷ []) ∷ [] in (after_all packets opening (Heard true ∷ Heard true ∷ Heard true ∷ [])).accepted ≡ (1 ∷ 2 ∷ []) ∷ (3 ∷ []) ∷ [] }
+    ensures once { (after_all packets opening (Heard false ∷ [])).accepted ≡ first ∷ [] }
+    ensures again { (after_all packets opening (Heard false ∷ Unheard ∷ Heard true ∷ [])).accepted ≡ first ∷ [] }
+    ensures then { (after_all packets opening (Heard false ∷ Unheard ∷ Heard true ∷ Heard true ∷ [])).accepted ≡ first ∷ second ∷ [] }
+    ensures end { (after_all packets opening (Heard true ∷ Heard true ∷ Heard true ∷ [])).accepted ≡ first ∷ second ∷ [] }
 {}

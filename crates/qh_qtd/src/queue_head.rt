@@ -79,6 +79,7 @@ impl Qh {
     ///
     /// `Bad` exactly where a reserved bit is 1 or a field has a reserved value: the first such bit by word, then by bit,
     /// and for a value its field's lowest bit.
+    #[inline(always)]
     pub fn read(w: &[u32; 12]) -> Result<Qh, Bad>
         ensures exact { result ≡ qh_read w.now }
 
@@ -198,6 +199,7 @@ impl Qh {
     }
 
     #[tactic(auto, unfolding(crate::specs::QueueHead::qh_read))]
+    #[inline(always)]
     fn answer_to(w: &[u32; 12]) -> Result<Qh, Bad>
         ensures { result ≡ qh_read w.now }
     {

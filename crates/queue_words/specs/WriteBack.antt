@@ -1,9 +1,10 @@
--- What was written at an address is read there (EHCI 1.0, 3.5, 3.6 and 4.10).
---     OverlayIsRead     a queue head whose first three words stand in memory is there once its overlay is written
---     StepIsRead        the same where those are the words of the queue head that was there
---     TokenIsRead       of a qTD that is there a written token changes that field alone
-use Rattle.std.specs.Prelude.{◌≡◌, ℕ, ◌%◌, ◌<◌, ◌^◌, List, take, slice_index, Some, true}
-use Rattle.word_mem.specs.Memory.{Mem, IsShaped}
+-- What a write at an address changes, and that it is read there (EHCI 1.0, 3.5, 3.6 and 4.10).
+--     OverlayChangesNoMore  no word but the nine of the overlay is changed
+--     OverlayIsRead         a queue head whose first three words stand in memory is there once its overlay is written
+--     StepIsRead            the same where those are the words of the queue head that was there
+--     TokenIsRead           of a qTD that is there a written token changes that field alone
+use Rattle.std.specs.Prelude.{◌≡◌, ℕ, ◌+◌, ◌%◌, ◌<◌, ◌≤◌, ◌⊎◌, ◌^◌, List, length, take, slice_index, Some, true}
+use Rattle.word_mem.specs.Memory.{Mem, IsShaped, word_at}
 use Rattle.word_mem.specs.Views.{words_at}
 use Rattle.link_words.specs.Layout.{IsWordInRange}
 use Rattle.qh_qtd.specs.declared.token.Token.{Token}
@@ -16,6 +17,10 @@ use Rattle.queue_words.specs.Structures.{qtd_at_address, reaches_queue_head, que
 -- each word has 32 bits
 abbrev pub AreWords : Mem → Type 0
 AreWords m = (i : ℕ) → slice_index m.words i < 2 ^ 32
+
+abbrev pub OverlayChangesNoMore : Type 0
+OverlayChangesNoMore = (m : Mem) (a : ℕ) (ws : List ℕ) (other : ℕ) → a % 4 ≡ 0 → length ws ≡ 9
+    → (other < a + 12) ⊎ (a + 48 ≤ other) → word_at (overlay_written m a ws) other ≡ word_at m other
 
 abbrev pub OverlayIsRead : Type 0
 OverlayIsRead = (m : Mem) (a : ℕ) (q : Qh) → IsShaped m → a % 32 ≡ 0 → IsQhInRange q

@@ -86,6 +86,7 @@ fn write_four(mem: &mut WordMem, at: u32, words: &[u32]) -> bool
 
 /// The controller writes nine words: five as words 3 to 7 of the block at `at`, and four in the block after it. False: one of the two
 /// blocks isn't Lent; then the words before it are written, and one more refusal is counted.
+#[inline(always)]
 pub(crate) fn write_nine(mem: &mut WordMem, at: u32, words: &[u32]) -> bool
     requires aligned { at % 32 ≡ 0 }
     requires nine { length words.now ≡ 9 }

@@ -4,7 +4,7 @@ ghost use Rattle.word_mem.specs.Memory.{Mem, word_at};
 ghost use Rattle.qh_qtd.specs.declared.token.Token.{Token};
 ghost use Rattle.word_mem.specs.declared.blocks.BlockState.TheVariants.{Lent, Kept, Free};
 ghost use Rattle.queue_words.specs.Structures.{qtd_at_address, qtd_was_read, queue_head_at_address, queue_head_was_read, overlay_words, overlay_written, token_written};
-ghost use Rattle.queue_words.specs.WriteBack.{OverlayIsRead, StepIsRead, TokenIsRead};
+ghost use Rattle.queue_words.specs.WriteBack.{OverlayChangesNoMore, OverlayIsRead, StepIsRead, TokenIsRead};
 ghost use Rattle.queue_words.specs.Samples.{head_memory, qtd_memory, nine_words, split_words, split_head, last_words, last_qtd, split_token};
 
 /// A queue head is read where both of its blocks are Lent and no reserved bit is set. A refusal is counted once, and a reserved bit never.
@@ -72,7 +72,7 @@ pub fn reads_change_nothing()
 /// A write changes no state, and no word but the nine of the overlay, or the one of the token.
 #[tactic(auto, using(crate::proofs::WriteBack::overlay_outside, crate::proofs::WriteBack::overlay_states, crate::proofs::WriteBack::overlay_size, crate::proofs::WriteBack::token_outside, crate::proofs::WriteBack::token_states, crate::proofs::WriteBack::token_size))]
 pub fn writes_change_no_more()
-    ensures overlay_words { (m : Mem) (a : ℕ) (ws : List ℕ) (other : ℕ) → a % 4 ≡ 0 → length ws ≡ 9 → (other < a + 12) ⊎ (a + 48 ≤ other) → word_at (overlay_written m a ws) other ≡ word_at m other }
+    ensures overlay_words { OverlayChangesNoMore }
     ensures overlay_states { (m : Mem) (a : ℕ) (ws : List ℕ) → (overlay_written m a ws).states ≡ m.states }
     ensures overlay_size { (m : Mem) (a : ℕ) (ws : List ℕ) → length (overlay_written m a ws).words ≡ length m.words }
     ensures token_words { (m : Mem) (a : ℕ) (t : Token) (other : ℕ) → a % 4 ≡ 0 → (other < a + 8) ⊎ (a + 12 ≤ other) → word_at (token_written m a t) other ≡ word_at m other }

@@ -26,6 +26,7 @@ pub fn read_qtd(mem: &mut WordMem, at: u32) -> Option<Qtd>
 
 /// The controller reads the queue head at the byte address `at`, a multiple of 32 (EHCI 1.0, 4.10.1). None: one of its two blocks isn't
 /// Lent, and one more refusal is counted; or one of its words has a reserved bit or value (3.6), and nothing changes.
+#[inline(always)]
 pub fn read_queue_head(mem: &mut WordMem, at: u32) -> Option<Qh>
     requires { at % 32 ≡ 0 }
     ensures structure { result ≡ queue_head_at_address mem.old at }
@@ -40,6 +41,7 @@ pub fn read_queue_head(mem: &mut WordMem, at: u32) -> Option<Qh>
 /// The controller writes words 3 to 11 of a queue head, each of whose fields is in its range, to the queue head at the byte address `at`,
 /// a multiple of 32 (EHCI 1.0, 4.10.4). False: one of its two blocks isn't Lent; then the words before it are written, and one more
 /// refusal is counted.
+#[inline(always)]
 pub fn write_overlay(mem: &mut WordMem, at: u32, queue_head: &Qh) -> bool
     requires aligned { at % 32 ≡ 0 }
     requires range { IsQhInRange queue_head.now }

@@ -10,15 +10,15 @@ use Rattle.script_types.specs.declared.scripts.Line.{Line}
 use Rattle.script_types.specs.declared.scripts.Line.TheVariants as lines
 use Rattle.script_types.specs.declared.scripts.Script.{Script}
 use Rattle.endpoint_script.specs.Device.{is_scripted}
-use Rattle.driver_rows.specs.Offers.{IsRing}
+use Rattle.driver_rows.specs.Offers.{IsOpened}
 
 -- a qTD has 1 to 20,480 bytes of a transfer
 abbrev pub IsPiece : ℕ → Type 0
 IsPiece by = (1 ≤ by) × (by ≤ 20480)
 
--- an endpoint that is opened is one of the ring
+-- an endpoint that is opened is one of the ring, or can be asked of a plan
 abbrev pub IsFitCommand : Cmd → Type 0
-IsFitCommand (commands.OpenEp x) = (x.max ≤ 1024) × (x.port ≤ 127) × IsRing x.kind
+IsFitCommand (commands.OpenEp x) = (x.max ≤ 1024) × (x.port ≤ 127) × IsOpened x
 IsFitCommand (commands.Get name len by) = IsPiece by
 IsFitCommand (commands.Put name bytes by) = IsPiece by
 IsFitCommand (commands.Control name setup bytes) = Unit {0}

@@ -1,3 +1,4 @@
 pub mod Draft
 pub mod Ranges
 pub mod Rows
+pub mod Samples

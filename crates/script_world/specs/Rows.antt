@@ -124,18 +124,10 @@ has_room w (says.Order event n) = nat_le n 1000000 && nat_le (w.steps + n) 40000
 has_room w (says.Micro n) = nat_le (w.microframes + n) 16384
 
 -- the lines that can be run; each other line without a fault is refused as a later one
-abbrev pub is_built_kind : EpKind → Bool
-is_built_kind Control = true
-is_built_kind Bulk = true
-is_built_kind kind = false
-
 abbrev pub is_built : Statement → Bool
 is_built (says.Hub addr ports) = false
 is_built (says.DevBelow b) = false
-is_built (says.Ep l) = is_built_kind l.kind
 is_built (says.Fate f) = not f.down
-is_built (says.Iso l) = false
-is_built (says.Cancel name) = false
 is_built _ = true
 
 -- the first cause of a line whose words fit a form
@@ -229,8 +221,16 @@ after_hub w addr ports = if within 1 127 addr && within 1 15 ports then record w
 abbrev pub after_high : Draft → ℕ → Draft
 after_high w addr = if within 1 127 addr then record w { declaring = true; devices = w.devices ++ device addr speed.High None 0 ∷ [] } else w
 
+-- a device on a port of a hub of these addresses
+abbrev pub placed_below : ℕ → ℕ → Below → Draft → Draft
+placed_below addr hub b w = record w {
+  declaring = true;
+  hubs = change (λ h. h.addr == b.hub) (attach b.port b.speed) w.hubs;
+  devices = w.devices ++ device addr b.speed (Some hub) b.port ∷ [];
+}
+
 abbrev pub after_below : Draft → Below → Draft
-after_below w b = if within 1 127 b.addr && nat_le b.hub 127 && is_known w (says.DevBelow b) then record w { declaring = true; hubs = change (λ h. h.addr == b.hub) (attach b.port b.speed) w.hubs; devices = w.devices ++ device b.addr b.speed (Some b.hub) b.port ∷ [] } else w
+after_below w b = if within 1 127 b.addr && nat_le b.hub 127 && is_known w (says.DevBelow b) then placed_below b.addr b.hub b w else w
 
 abbrev pub after_ep : Draft → EpLine → Draft
 after_ep w l = if is_endpoint l && is_some (device_of w.devices l.name.addr) then record w { declaring = true; devices = change (λ d. d.addr == l.name.addr) (with_ep l) w.devices; endpoints = w.endpoints ++ name_of l.name ∷ [] } else w

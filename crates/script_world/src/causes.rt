@@ -2,14 +2,14 @@
 ghost use Rattle.std.specs.Prelude.{◌≡◌, ℕ, ◌<◌, ◌==◌, not, length, Option, is_some, slice_get, ◌-◌};
 ghost use Rattle.std.specs.Option.{option_flatten};
 ghost use Rattle.script_world.specs.Draft.{known};
-ghost use Rattle.script_world.specs.Rows.{control_name, is_known, is_used, is_attached, same_bus, is_fated, is_twice, answer_len, content_len, bytes_len, may_command, may_script, has_room, is_built_kind, is_built, cause_of, is_world, is_late};
+ghost use Rattle.script_world.specs.Rows.{control_name, is_known, is_used, is_attached, same_bus, is_fated, is_twice, answer_len, content_len, bytes_len, may_command, may_script, has_room, is_built, cause_of, is_world, is_late};
 
 use crate::draft::Draft;
 use crate::endpoints::same_way;
 use crate::ranges::within;
 use script_forms::{Answer, Below, Content, FateLine, FirstWord, Name, Statement, TextWhy};
 use script_types::FateText;
-use usb_base::{EpKind, ListOf, Speed, Way};
+use usb_base::{ListOf, Speed, Way};
 
 /// The endpoint of a request to a device.
 pub fn control_name(addr: u32) -> Name
@@ -76,17 +76,6 @@ pub fn bytes_len(bytes: &Option<ListOf<u8>>) -> u64
     }
 }
 
-/// Whether an endpoint of this kind is built at high speed.
-fn is_built_kind(kind: EpKind) -> bool
-    ensures { result ≡ is_built_kind kind }
-{
-    match kind {
-        EpKind::Control => true,
-        EpKind::Bulk => true,
-        _ => false,
-    }
-}
-
 /// Whether a line can be run.
 fn is_built(statement: &Statement) -> bool
     ensures { result ≡ is_built statement.now }
@@ -94,10 +83,7 @@ fn is_built(statement: &Statement) -> bool
     match statement {
         Statement::Hub(_, _) => false,
         Statement::DevBelow(_) => false,
-        Statement::Ep(line) => is_built_kind(line.kind),
         Statement::Fate(line) => !line.down,
-        Statement::Iso(_) => false,
-        Statement::Cancel(_) => false,
         _ => true,
     }
 }

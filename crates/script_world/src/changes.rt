@@ -3,7 +3,7 @@ ghost use Rattle.std.specs.Prelude.{◌≡◌, ℕ, ◌<◌, ◌≤◌, ◌==◌
 ghost use Rattle.std.specs.List.{position};
 ghost use Rattle.script_types.specs.declared.devices.HubText.{HubText as Hub};
 ghost use Rattle.script_world.specs.Draft.{change, known, filled};
-ghost use Rattle.script_world.specs.Rows.{name_of, counted, answered, roomier, at_ep, attach, device, with_ep, desc_of, content_len, content_bytes, bytes_len, commanded, by_of, put_room, after_hub, after_high, after_below, after_ep, after_reply, after_fate, after_open, after_cancel, after_get, after_put, after_control, after_iso, after, taken, cause_of};
+ghost use Rattle.script_world.specs.Rows.{name_of, counted, answered, roomier, at_ep, attach, device, with_ep, desc_of, content_len, content_bytes, bytes_len, commanded, by_of, put_room, after_hub, after_high, placed_below, after_below, after_ep, after_reply, after_fate, after_open, after_cancel, after_get, after_put, after_control, after_iso, after, taken, cause_of};
 
 use crate::bytes::{counted, filled, push};
 use crate::causes::{answer_len, bytes_len, content_len, control_name};
@@ -148,7 +148,7 @@ impl Draft {
     ) -> Result<(), Memory>
         requires port { below.now.port ≤ 255 }
         requires found { position (λ h. h.addr == below.now.hub) self.old.hubs ≡ Some place }
-        ensures { IfOk result (λ _. self.new ≡ record self.old { declaring = true; hubs = change (λ h. h.addr == below.now.hub) (attach below.now.port below.now.speed) self.old.hubs; devices = self.old.devices ++ device addr below.now.speed (Some hub) below.now.port ∷ [] }) }
+        ensures { IfOk result (λ _. self.new ≡ placed_below addr hub below.now self.old) }
     {
         let attached = &mut self.hubs[place];
         attach(alloc, attached, below.port, below.speed)?;

@@ -33,7 +33,22 @@ impl Model for Draft {
 
     ghost Value = { Drafted };
 
-    ghost view = { λ w. record { words = w.words; declaring = w.declaring; acting = w.acting; hubs = w.hubs.items; devices = w.devices.items; endpoints = w.endpoints.items; fates = w.fates.items; holds = w.holds.items; lines = w.lines.items; commands = w.commands; steps = w.steps; microframes = w.microframes; scripted = w.scripted; asked = w.asked } };
+    ghost view = { λ w. record {
+      words = w.words;
+      declaring = w.declaring;
+      acting = w.acting;
+      hubs = w.hubs.items;
+      devices = w.devices.items;
+      endpoints = w.endpoints.items;
+      fates = w.fates.items;
+      holds = w.holds.items;
+      lines = w.lines.items;
+      commands = w.commands;
+      steps = w.steps;
+      microframes = w.microframes;
+      scripted = w.scripted;
+      asked = w.asked;
+    } };
 }
 
 impl Draft {

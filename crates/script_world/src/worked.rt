@@ -3,6 +3,7 @@ ghost use Rattle.std.specs.Prelude.{◌≡◌, ℕ, List, [], ◌∷◌, Some, N
 ghost use Rattle.script_world.specs.Draft.{empty, filled, packets};
 ghost use Rattle.script_world.specs.Ranges.{is_size, is_rate, out_len};
 ghost use Rattle.script_world.specs.Rows.{cause_of, after, is_built};
+ghost use Rattle.script_world.specs.Samples.{bulk_line, two_devices};
 
 use script_forms::{Statement, TextWhy};
 use script_types::Item;
@@ -40,6 +41,6 @@ pub fn causes()
 
 /// Endpoints of two devices keep the order of their lines.
 pub fn order()
-    ensures { (after (after (after (after (after empty 2 (Statement.DevHigh 3)) 3 (Statement.DevHigh 4)) 4 (Statement.Ep (record { name = record { addr = 4; num = 2; way = Way.Out }; kind = EpKind.Bulk; max = 512; period = 0; multi = 1 }))) 5 (Statement.Ep (record { name = record { addr = 3; num = 1; way = Way.In }; kind = EpKind.Bulk; max = 512; period = 0; multi = 1 }))) 6 (Statement.Ep (record { name = record { addr = 4; num = 1; way = Way.In }; kind = EpKind.Bulk; max = 512; period = 0; multi = 1 }))).endpoints
+    ensures { (after (after (after two_devices 4 (bulk_line 4 2 Way.Out)) 5 (bulk_line 3 1 Way.In)) 6 (bulk_line 4 1 Way.In)).endpoints
         ≡ record { addr = 4; num = 2; way = Way.Out } ∷ record { addr = 3; num = 1; way = Way.In } ∷ record { addr = 4; num = 1; way = Way.In } ∷ [] }
 {}

@@ -39,6 +39,7 @@ fn handshake(pid: Pid) -> Heard
 }
 
 /// The row of a plain ask that sent this number of bytes.
+#[inline(always)]
 fn plain(token: AskToken, heard: Heard, sent: u16) -> PlainRow
     ensures { result ≡ plain_row token heard sent }
 {
@@ -102,6 +103,7 @@ impl HostSide {
 
     /// Settles the reply to an ask that sent `sent` bytes: the outcome and the new fields are those of the row of
     /// the settle table that fits. `last` tells that a complete-split has the highest bit of its C-mask.
+    #[inline(always)]
     pub fn settle(&mut self, ask: &Ask, sent: u16, last: bool, reply: &Reply) -> Outcome
         requires kind { ask.now.kind ≢ EpKind.Iso }
         requires sent { sent ≤ self.old.left }

@@ -23,6 +23,7 @@ fn moving(split: &Split, pipe: &Pipe, host: &HostSide, out: &[u8]) -> u16
 /// Makes one transaction of `pipe`, split so, which sends `out` (empty for an IN), and settles its reply, which then stands in `reply` as
 /// it was heard: a packet isn't moved on. `last` tells that a complete-split has the highest bit of its C-mask. A plain OUT whose host
 /// side is in the ping state goes out as a PING, which sends nothing.
+#[inline(always)]
 pub fn exchange<W: Wire>(
     wire: &mut W,
     split: &Split,

@@ -64,6 +64,7 @@ fn priced(split: &Split, pid: Pid, kind: EpKind, max: u16, out: u16) -> u16
 }
 
 /// The price of a transaction of which the number of bytes that it sends is known, and not yet the bytes: `price` of that many.
+#[inline(always)]
 pub fn price_of_bytes(split: &Split, pipe: &Pipe, host: &HostSide, bytes: u16) -> Ps
     requires max { host.now.max ≤ 1024 }
     requires bytes { bytes ≤ 1024 }

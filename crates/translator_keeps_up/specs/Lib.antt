@@ -2,3 +2,4 @@ pub mod Plans
 pub mod Frames
 pub mod Premises
 pub mod Worked
+pub mod Laws

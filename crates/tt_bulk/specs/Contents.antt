@@ -2,8 +2,8 @@
 use Rattle.std.specs.Prelude.{ℕ, List}
 use Rattle.usb_base.specs.declared.packets.Ask.{Ask}
 use Rattle.tt_bulk.specs.declared.answers.Answer.{Answer}
-use Rattle.tt_bulk.specs.declared.rows.Place.{Place}
-use Rattle.tt_bulk.specs.declared.rows.Place.TheVariants.{First, Second}
+use Rattle.tt_bulk.specs.declared.rows.BufferIndex.{BufferIndex}
+use Rattle.tt_bulk.specs.declared.rows.BufferIndex.TheVariants.{First, Second}
 use Rattle.tt_bulk.specs.declared.rows.Stage.{Stage}
 use Rattle.tt_bulk.specs.declared.rows.Stage.TheVariants as Stages
 
@@ -21,7 +21,7 @@ pub data BufferContent : Type 0 where
 pub record TwoBuffers : Type 0 where
   pub first : BufferContent
   pub second : BufferContent
-  pub latest : Place  -- the one that took its packet last
+  pub latest : BufferIndex  -- the one that took its packet last
 
 -- both are free
 abbrev pub opening : TwoBuffers
@@ -34,10 +34,10 @@ content_at Stages.Pending taken silences _ = Pending taken silences
 content_at Stages.Ready taken _ answer = Ready taken answer
 content_at Stages.Old taken _ answer = Old taken answer
 
-abbrev pub place_of : Place → TwoBuffers → BufferContent
+abbrev pub place_of : BufferIndex → TwoBuffers → BufferContent
 place_of First w = w.first
 place_of Second w = w.second
 
-abbrev pub with_place : Place → BufferContent → TwoBuffers → TwoBuffers
+abbrev pub with_place : BufferIndex → BufferContent → TwoBuffers → TwoBuffers
 with_place First b w = record w { first = b }
 with_place Second b w = record w { second = b }

@@ -10,7 +10,7 @@ use Rattle.tt_keys.specs.declared.key.Key.{Key}
 use Rattle.tt_keys.specs.Keys.{key_of, is_same_key, is_same_kind, is_same_direction}
 use Rattle.tt_bulk.specs.declared.rows.CompleteRow.{CompleteRow}
 use Rattle.tt_bulk.specs.declared.rows.CompleteRow.TheVariants.{Waits, Gives, Unknown}
-use Rattle.tt_bulk.specs.declared.rows.Place.TheVariants.{First, Second}
+use Rattle.tt_bulk.specs.declared.rows.BufferIndex.TheVariants.{First, Second}
 use Rattle.tt_bulk.specs.declared.rows.Stand.{Stand}
 use Rattle.tt_bulk.specs.declared.rows.Stand.TheVariants as Stands
 use Rattle.tt_bulk.specs.declared.rows.StartRow.{StartRow}

@@ -5,8 +5,8 @@ use Rattle.usb_base.specs.declared.packets.Reply.{Reply}
 use Rattle.tt_keys.specs.Asks.{classic_of, work_of}
 use Rattle.tt_bulk.specs.declared.answers.Answer.{Answer}
 use Rattle.tt_bulk.specs.declared.answers.Answer.TheVariants.{Stall}
-use Rattle.tt_bulk.specs.declared.rows.Place.{Place}
-use Rattle.tt_bulk.specs.declared.rows.Place.TheVariants.{First, Second}
+use Rattle.tt_bulk.specs.declared.rows.BufferIndex.{BufferIndex}
+use Rattle.tt_bulk.specs.declared.rows.BufferIndex.TheVariants.{First, Second}
 use Rattle.tt_bulk.specs.Answers.{result_of}
 use Rattle.tt_bulk.specs.Contents.{Taken, BufferContent, Pending, Ready, TwoBuffers, place_of, with_place}
 
@@ -59,7 +59,7 @@ pub record TakesTurn {W : Type 0} (transacts : W → Ask → List ℕ → Reply 
   pub asks : Asks transacts (turn_of room old) before reply after
   pub becomes : new ≡ after_turn (turn_of room old) reply old
 
-abbrev pub other : Place → Place
+abbrev pub other : BufferIndex → BufferIndex
 other First = Second
 other Second = First
 

@@ -12,7 +12,7 @@ use Rattle.usb_base.specs.declared.packets.Speed.TheVariants.{Full}
 use Rattle.usb_base.specs.declared.packets.Split.TheVariants.{Start}
 use Rattle.tt_bulk.specs.declared.answers.Answer.{Answer}
 use Rattle.tt_bulk.specs.declared.answers.Answer.TheVariants.{Bytes}
-use Rattle.tt_bulk.specs.declared.rows.Place.TheVariants.{Second}
+use Rattle.tt_bulk.specs.declared.rows.BufferIndex.TheVariants.{Second}
 use Rattle.tt_bulk.specs.Contents.{Taken, BufferContent, Pending, Ready, Old, TwoBuffers}
 
 -- a start for an endpoint of device 3, behind port 1 of hub 9, with room for 64 bytes: 77 byte-times for an IN

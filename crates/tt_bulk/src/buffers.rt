@@ -4,7 +4,7 @@ ghost use Rattle.tt_bulk.specs.Rows.{start_answer, started, after_start, complet
 ghost use Rattle.tt_bulk.specs.Work.{Works};
 
 use crate::buffer::Buffer;
-use crate::rows::{CompleteRow, Place, StartRow};
+use crate::rows::{BufferIndex, CompleteRow, StartRow};
 use crate::table::{complete_row, start_row};
 use std::alloc::Global;
 use std::marker::Model;
@@ -17,7 +17,7 @@ use usb_base::{Ask, Memory, Pid, Reply, Wire};
 pub struct Buffers {
     first: Buffer,
     second: Buffer,
-    latest: Place,
+    latest: BufferIndex,
 }
 
 impl Model for Buffers {
@@ -42,7 +42,7 @@ impl Buffers {
         Buffers {
             first: Buffer::free(),
             second: Buffer::free(),
-            latest: Place::Second,
+            latest: BufferIndex::Second,
         }
     }
 
@@ -66,14 +66,14 @@ impl Buffers {
         }
     }
 
-    fn take(&mut self, place: Place, ask: &Ask, bytes: &[u8])
+    fn take(&mut self, place: BufferIndex, ask: &Ask, bytes: &[u8])
         requires { length bytes.now ≤ 1024 }
         ensures { self.new ≡ after_start (StartRow.Takes place) (record { ask = ask.now; packet = bytes.now }) self.old }
     {
         self.latest = place;
         match place {
-            Place::First => self.first.take(ask, bytes),
-            Place::Second => self.second.take(ask, bytes),
+            BufferIndex::First => self.first.take(ask, bytes),
+            BufferIndex::Second => self.second.take(ask, bytes),
         }
     }
 
@@ -85,11 +85,11 @@ impl Buffers {
         ensures { Works W.transacts room self.old port.old self.new port.new }
     {
         match self.latest {
-            Place::First => {
+            BufferIndex::First => {
                 let left = self.second.turn(port, room);
                 self.first.turn(port, left);
             }
-            Place::Second => {
+            BufferIndex::Second => {
                 let left = self.first.turn(port, room);
                 self.second.turn(port, left);
             }
@@ -109,13 +109,13 @@ impl Buffers {
         }
     }
 
-    fn give(&mut self, place: Place) -> Reply
+    fn give(&mut self, place: BufferIndex) -> Reply
         ensures answer { result ≡ given_by (place_of place self.old) }
         ensures after { self.new ≡ with_place place (once_given (place_of place self.old)) self.old }
     {
         match place {
-            Place::First => self.first.give(),
-            Place::Second => self.second.give(),
+            BufferIndex::First => self.first.give(),
+            BufferIndex::Second => self.second.give(),
         }
     }
 

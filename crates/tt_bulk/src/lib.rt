@@ -13,4 +13,4 @@ pub mod worked;
 
 pub use answers::Answer;
 pub use buffers::Buffers;
-pub use rows::{CompleteRow, Place, Stage, Stand, StartRow};
+pub use rows::{BufferIndex, CompleteRow, Stage, Stand, StartRow};

@@ -1,6 +1,6 @@
 /// One of a translator's two buffers.
 #[derive(Clone, Copy, Debug, PartialEq, Eq)]
-pub enum Place {
+pub enum BufferIndex {
     First,
     Second,
 }
@@ -41,7 +41,7 @@ pub enum StartRow {
     /// The start is a repeat of one that was taken: nothing changes.
     Repeated,
     /// This buffer takes the packet.
-    Takes(Place),
+    Takes(BufferIndex),
     /// Both buffers work for other keys.
     Full,
 }
@@ -52,7 +52,7 @@ pub enum CompleteRow {
     /// The key's transaction isn't answered yet.
     Waits,
     /// This buffer has the key's result.
-    Gives(Place),
+    Gives(BufferIndex),
     /// No buffer has the key.
     Unknown,
 }

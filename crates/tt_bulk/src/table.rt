@@ -1,7 +1,7 @@
 ghost use Rattle.std.specs.Prelude.{◌≡◌};
 ghost use Rattle.tt_bulk.specs.Rows.{start_row as start_row_of_stands, complete_row as complete_row_of_stands};
 
-use crate::rows::{CompleteRow, Place, Stand, StartRow};
+use crate::rows::{BufferIndex, CompleteRow, Stand, StartRow};
 
 /// The row of a start-split, by how the two buffers stand to its key.
 pub fn start_row(first: Stand, second: Stand) -> StartRow
@@ -11,12 +11,12 @@ pub fn start_row(first: Stand, second: Stand) -> StartRow
         (Stand::Pending | Stand::Ready, _) | (_, Stand::Pending | Stand::Ready) => {
             StartRow::Repeated
         }
-        (Stand::Old, _) => StartRow::Takes(Place::First),
-        (_, Stand::Old) => StartRow::Takes(Place::Second),
-        (Stand::Free, _) => StartRow::Takes(Place::First),
-        (_, Stand::Free) => StartRow::Takes(Place::Second),
-        (Stand::Spare, _) => StartRow::Takes(Place::First),
-        (_, Stand::Spare) => StartRow::Takes(Place::Second),
+        (Stand::Old, _) => StartRow::Takes(BufferIndex::First),
+        (_, Stand::Old) => StartRow::Takes(BufferIndex::Second),
+        (Stand::Free, _) => StartRow::Takes(BufferIndex::First),
+        (_, Stand::Free) => StartRow::Takes(BufferIndex::Second),
+        (Stand::Spare, _) => StartRow::Takes(BufferIndex::First),
+        (_, Stand::Spare) => StartRow::Takes(BufferIndex::Second),
         (Stand::Busy, Stand::Busy) => StartRow::Full,
     }
 }
@@ -27,8 +27,8 @@ pub fn complete_row(first: Stand, second: Stand) -> CompleteRow
 {
     match (first, second) {
         (Stand::Pending, _) | (_, Stand::Pending) => CompleteRow::Waits,
-        (Stand::Ready | Stand::Old, _) => CompleteRow::Gives(Place::First),
-        (_, Stand::Ready | Stand::Old) => CompleteRow::Gives(Place::Second),
+        (Stand::Ready | Stand::Old, _) => CompleteRow::Gives(BufferIndex::First),
+        (_, Stand::Ready | Stand::Old) => CompleteRow::Gives(BufferIndex::Second),
         _ => CompleteRow::Unknown,
     }
 }

@@ -5,10 +5,11 @@ use Rattle.usb_base.specs.declared.packets.Dir.{Dir}
 use Rattle.usb_base.specs.declared.packets.EpKind.{EpKind}
 use Rattle.usb_base.specs.declared.packets.EpKind.TheVariants.{Iso, Interrupt}
 use Rattle.usb_base.specs.declared.packets.Part.{Part}
-use Rattle.usb_base.specs.declared.packets.Part.TheVariants.{All}
+use Rattle.usb_base.specs.declared.packets.Part.TheVariants.{All, Begin, Middle, End}
 use Rattle.usb_base.specs.declared.packets.Pid.{Pid}
 use Rattle.usb_base.specs.declared.packets.Pid.TheVariants.{In, Out, Data0}
 use Rattle.usb_base.specs.declared.packets.Reply.{Reply}
+use Rattle.usb_base.specs.declared.packets.Reply.TheVariants.{Silent}
 use Rattle.usb_base.specs.declared.packets.Speed.TheVariants.{Full}
 use Rattle.usb_base.specs.declared.packets.Split.TheVariants.{Start}
 use Rattle.tt_keys.specs.Keys.{key_of}
@@ -51,3 +52,8 @@ after_one reply es = worked_with 1 (replicate 4 reply) es
 abbrev pub after_more : ℕ → Reply → List Entry → List Entry
 after_more zero reply es = es
 after_more (suc n) reply es = after_one reply (after_more n reply es)
+
+-- the three parts of an isochronous OUT of 400 bytes came, one in each of three microframes
+abbrev pub out_in_parts : List Entry
+out_in_parts = started (iso_out End 1) (replicate 24 3) (after_one Silent (started (iso_out Middle 1) (replicate 188 2)
+    (after_one Silent (started (iso_out Begin 1) (replicate 188 1) []))))

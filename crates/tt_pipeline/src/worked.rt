@@ -9,7 +9,7 @@ ghost use Rattle.tt_pipeline.specs.declared.rows.StartRow.TheVariants.{Enters, J
 ghost use Rattle.tt_pipeline.specs.Answers.{complete_answer, completed};
 ghost use Rattle.tt_pipeline.specs.Starting.{start_row, started};
 ghost use Rattle.tt_pipeline.specs.Work.{called_for};
-ghost use Rattle.tt_pipeline.specs.Worked.{interrupt_in, iso_in, iso_out, three, after_one, after_more};
+ghost use Rattle.tt_pipeline.specs.Worked.{interrupt_in, iso_in, iso_out, three, after_one, after_more, out_in_parts};
 ghost use Rattle.tt_pipeline.specs.Working.{budget, used_by, worked_with};
 
 /// Two interrupts of 64 bytes and one of 8, started in one microframe, take nothing in the next and 175 byte-times in the
@@ -55,12 +55,9 @@ pub fn isochronous_in()
 /// An isochronous OUT of 400 bytes in three parts, which come in three microframes. It calls for 188, 376 and 409
 /// byte-times, and is sent with the last; without its middle part it is sent short, without its last never.
 pub fn isochronous_out()
-    ensures two { map (λ e. e.done) (after_one Silent (started (iso_out Parts.End 1) (replicate 24 3) (after_one Silent (started (iso_out Parts.Middle 1) (replicate 188 2) (after_one Silent (started (iso_out Parts.Begin 1) (replicate 188 1) []))))))
-        ≡ 376 ∷ [] }
-    ensures unsent { map (λ e. e.exchange) (after_one Silent (started (iso_out Parts.End 1) (replicate 24 3) (after_one Silent (started (iso_out Parts.Middle 1) (replicate 188 2) (after_one Silent (started (iso_out Parts.Begin 1) (replicate 188 1) []))))))
-        ≡ Ahead (replicate 188 1 ++ replicate 188 2 ++ replicate 24 3) ∷ [] }
-    ensures sent { map (λ e. e.exchange) (after_more 2 Silent (started (iso_out Parts.End 1) (replicate 24 3) (after_one Silent (started (iso_out Parts.Middle 1) (replicate 188 2) (after_one Silent (started (iso_out Parts.Begin 1) (replicate 188 1) []))))))
-        ≡ Made Silent ∷ [] }
+    ensures two { map (λ e. e.done) (after_one Silent out_in_parts) ≡ 376 ∷ [] }
+    ensures unsent { map (λ e. e.exchange) (after_one Silent out_in_parts) ≡ Ahead (replicate 188 1 ++ replicate 188 2 ++ replicate 24 3) ∷ [] }
+    ensures sent { map (λ e. e.exchange) (after_more 2 Silent out_in_parts) ≡ Made Silent ∷ [] }
     ensures lost_middle { map called_for (after_more 2 Silent (started (iso_out Parts.End 1) (replicate 24 3) (after_more 2 Silent (started (iso_out Parts.Begin 1) (replicate 188 1) []))))
         ≡ 221 ∷ [] }
     ensures lost_last { map (λ e. e.exchange) (after_more 5 Silent (started (iso_out Parts.Begin 1) (replicate 188 1) []))

@@ -56,6 +56,7 @@ pub(crate) fn advanced(queue_head: &Qh, at: u32, qtd: &Qtd) -> Qh
 
 /// The queue head with the host's side that a transaction left.
 #[tactic(auto, using(crate::proofs::Ranges::settled_in_range), unfolding(crate::specs::Overlay::settled_queue))]
+#[inline(always)]
 pub(crate) fn settled(queue_head: &Qh, host: &HostSide) -> Qh
     requires range { IsQhInRange queue_head.now }
     requires errors { host.now.cerr < 4 }

@@ -93,6 +93,7 @@ fn sent_bytes(split: &Split, pid: Pid, host: &HostSide) -> u16
 }
 
 /// The transaction with its number of bytes and its price.
+#[inline(always)]
 fn priced(split: Split, pipe: Pipe, host: HostSide) -> Transaction
     requires { host.max ≤ 1024 }
     ensures value { result ≡ transaction_at split pipe host }
@@ -112,6 +113,7 @@ fn priced(split: Split, pipe: Pipe, host: HostSide) -> Transaction
 
 /// The transaction that comes next for a queue head whose overlay is active. Of which `kind` the endpoint is, its schedule tells; it
 /// isn't isochronous.
+#[inline(always)]
 pub fn next_transaction(queue_head: &Qh, kind: EpKind) -> Transaction
     requires range { IsQhInRange queue_head.now }
     requires kind { kind ≢ Iso }

@@ -11,6 +11,7 @@ use transactions::exchange;
 use usb_base::{Reply, Wire};
 
 /// The copy has what its transaction left and came to.
+#[inline(always)]
 pub fn settle(held: &mut Held, host: &HostSide, outcome: Outcome)
     requires held { IsHeld held.old }
     requires errors { host.now.cerr < 4 }
@@ -25,6 +26,7 @@ pub fn settle(held: &mut Held, host: &HostSide, outcome: Outcome)
 /// Makes a transaction that sends `out`, and puts what it came to into the copy; what the host heard stands in `reply`. `last` tells that
 /// a complete-split has the highest bit of its C-mask.
 #[tactic(auto, using(crate::proofs::Errors::errors_left))]
+#[inline(always)]
 pub fn transact<W: Wire>(
     wire: &mut W,
     t: &Transaction,

@@ -53,6 +53,7 @@ fn write_done(mem: &mut WordMem, queue_head: &Qh) -> bool
 
 /// Writes words 3 to 11 of the queue head at `at`. False: they may not all be touched; those of a first block that may be are written.
 #[tactic(auto, unfolding(crate::specs::WriteBack::overlay_after))]
+#[inline(always)]
 fn write_queue(mem: &mut WordMem, at: u32, queue_head: &Qh) -> bool
     requires aligned { at % 32 ≡ 0 }
     requires range { IsQhInRange queue_head.now }

@@ -1,5 +1,3 @@
-use Rattle.std.proofs.Common.{ap}
-use Rattle.driver_rows.specs.DriverContent.{DriverContent}
 use Rattle.ehci_driver.proofs.Offered.{cancel_again, cancelled_now}
 use Rattle.ehci_driver.proofs.driver.Driver.offer_cancel.Goals as goal
 
@@ -10,8 +8,8 @@ returns-then-endpoint-clause-refused c =
 pub returns-clause-accepted : goal.returns-clause-accepted
 returns-clause-accepted c =
     λ m.
-    cancelled_now c.args.self.now c.accept_cancel.new.self m c.args.name.now c.in-Some.e c.in-Some.endpoint c.in-Some.ensures.number c.in-Some.ensures.endpoint c.if-endpoint.false
-    c.accept_cancel.ensures.driver
+    cancelled_now c.args.self.now c.cancel_endpoint.new.self m c.args.name.now c.in-Some.e c.in-Some.endpoint c.in-Some.ensures.number c.in-Some.ensures.endpoint c.if-endpoint.false
+    c.cancel_endpoint.ensures.driver
 
 pub returns-clause-book : goal.returns-clause-book
-returns-clause-book c = ap (λ (d : DriverContent). d.book) c.accept_cancel.ensures.driver
+returns-clause-book c = c.cancel_endpoint.ensures.book

@@ -5,22 +5,23 @@ use Rattle.std.proofs.lemmas.List.{length-set}
 use Rattle.driver_rows.specs.DriverContent.{DriverContent}
 use Rattle.ehci_driver.proofs.Lines.{can_tell, told_after}
 use Rattle.ehci_driver.proofs.Rosters.{written_rooms}
+use Rattle.ehci_driver.proofs.Placed.{frames_told}
 use Rattle.ehci_driver.proofs.driver.Driver.stall.Goals as goal
 
 pub report-requires-clause-line : goal.report-requires-clause-line
 report-requires-clause-line c =
     let there = ap (λ (d : DriverContent). slice_get d.transfers c.args.t) c.self.view_is ∙ c.requires.transfer in
-    (can_tell c.args.t c.args.transfer.now c.self.invariant there c.requires.open).line
+    (can_tell c.args.t c.args.transfer.now c.self.invariant.0 there c.requires.open).line
 
 pub report-requires-clause-bytes : goal.report-requires-clause-bytes
 report-requires-clause-bytes c =
     let there = ap (λ (d : DriverContent). slice_get d.transfers c.args.t) c.self.view_is ∙ c.requires.transfer in
-    (can_tell c.args.t c.args.transfer.now c.self.invariant there c.requires.open).holds
+    (can_tell c.args.t c.args.transfer.now c.self.invariant.0 there c.requires.open).holds
 
 pub report-requires-clause-fits : goal.report-requires-clause-fits
 report-requires-clause-fits c =
     let there = ap (λ (d : DriverContent). slice_get d.transfers c.args.t) c.self.view_is ∙ c.requires.transfer in
-    (can_tell c.args.t c.args.transfer.now c.self.invariant there c.requires.open).fits
+    (can_tell c.args.t c.args.transfer.now c.self.invariant.0 there c.requires.open).fits
 
 pub index_mut-requires : goal.index_mut-requires
 index_mut-requires c =
@@ -35,29 +36,31 @@ write-requires c =
 pub push_back_reserved-requires : goal.push_back_reserved-requires
 push_back_reserved-requires c =
     let there = ap (λ (d : DriverContent). slice_get d.transfers c.args.t) c.self.view_is ∙ c.requires.transfer in
-    (can_tell c.args.t c.args.transfer.now c.self.invariant there c.requires.open).harvest
+    (can_tell c.args.t c.args.transfer.now c.self.invariant.0 there c.requires.open).harvest
 
 pub owe_stores-requires : goal.owe_stores-requires
 owe_stores-requires c =
     let there = ap (λ (d : DriverContent). slice_get d.transfers c.args.t) c.self.view_is ∙ c.requires.transfer in
-    (can_tell c.args.t c.args.transfer.now c.self.invariant there c.requires.open).stores
+    (can_tell c.args.t c.args.transfer.now c.self.invariant.0 there c.requires.open).stores
 
 pub invariant_of-self : goal.invariant_of-self
 invariant_of-self c =
     let there = ap (λ (d : DriverContent). slice_get d.transfers c.args.t) c.self.view_is ∙ c.requires.transfer in
-    let here = ap (λ (d : DriverContent). slice_get d.endpoints c.args.e) c.self.view_is ∙ c.requires.endpoint in
-    written_rooms _ _ _ _ c.write.ensures.items c.write.ensures.room
-    (told_after c.args.t c.args.transfer.now c.args.e c.args.endpoint.now (record c.args.endpoint.now { next = None })
-    (vec_len c.report.new.reports) (vec_capacity c.report.new.reports) (vec_len c.report.new.store) (vec_capacity c.report.new.store)
-    (deque_len c.push_back_reserved.new.self) (deque_capacity c.push_back_reserved.new.self) (deque_len c.owe_stores.new.mends) (deque_capacity c.owe_stores.new.mends)
-    c.self.invariant there c.requires.open here refl refl refl
-    c.report.ensures.len c.report.ensures.capacity c.report.ensures.store_len c.report.ensures.store_capacity
-    (omega (arith, c.push_back_reserved.ensures.len)) c.push_back_reserved.ensures.capacity (omega (arith, c.owe_stores.ensures.len)) c.owe_stores.ensures.capacity)
+    let here = ap (λ (d : DriverContent). slice_get d.endpoints c.args.e) c.self.view_is ∙ c.requires.endpoint in (
+      written_rooms _ _ _ _ c.write.ensures.items c.write.ensures.room
+          (told_after c.args.t c.args.transfer.now c.args.e c.args.endpoint.now (record c.args.endpoint.now { next = None })
+          (vec_len c.report.new.reports) (vec_capacity c.report.new.reports) (vec_len c.report.new.store) (vec_capacity c.report.new.store)
+          (deque_len c.push_back_reserved.new.self) (deque_capacity c.push_back_reserved.new.self) (deque_len c.owe_stores.new.mends) (deque_capacity c.owe_stores.new.mends)
+          c.self.invariant.0 there c.requires.open here refl refl refl
+          c.report.ensures.len c.report.ensures.capacity c.report.ensures.store_len c.report.ensures.store_capacity
+          (omega (arith, c.push_back_reserved.ensures.len)) c.push_back_reserved.ensures.capacity (omega (arith, c.owe_stores.ensures.len)) c.owe_stores.ensures.capacity),
+      frames_told _ c.args.t c.args.transfer.now c.args.e c.args.endpoint.now _ c.self.invariant.1 there c.requires.open c.write.ensures.items here refl,
+    )
 
 pub overflow_add-t : goal.overflow_add-t
 overflow_add-t c =
     let there = ap (λ (d : DriverContent). slice_get d.transfers c.args.t) c.self.view_is ∙ c.requires.transfer in
-    omega (arith, slice_get_within c.self.inside.transfers.items c.args.t c.args.transfer.now there, c.self.invariant.few_transfers)
+    omega (arith, slice_get_within c.self.inside.transfers.items c.args.t c.args.transfer.now there, c.self.invariant.0.few_transfers)
 
 pub stall_behind-requires : goal.stall_behind-requires
 stall_behind-requires c =

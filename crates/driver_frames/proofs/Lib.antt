@@ -1,0 +1,5 @@
+pub mod Freed
+pub mod Framed
+pub mod Listed
+pub mod Queued
+pub mod Places

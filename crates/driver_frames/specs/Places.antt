@@ -1,0 +1,53 @@
+-- The place of a new periodic endpoint.
+--     chained_part h p queue      the periodic part once the queue head in this block begins to be linked
+--     withdrawn h e               .. once the placement of endpoint e is out of the plan
+--     placed_part h e x place     .. once endpoint e, so described, has this place
+--     IsChained ..                the runs of an interrupt endpoint were taken and written
+--     opened_placed d x place k q    what an accepted open leaves, with the book k and the periodic content q afterwards
+use Rattle.std.specs.Prelude.{◌≡◌, ℕ, ◌-◌, Bool, [], ◌∷◌, ◌++◌, length, drop, slice_index, Some, Ok, if◌then◌else◌}
+use Rattle.usb_base.specs.declared.endpoints.EpDesc.{EpDesc}
+use Rattle.word_mem.specs.Memory.{Mem}
+use Rattle.run_book.specs.Book.{Book, holding}
+use Rattle.bandwidth.specs.declared.placements.Placement.{Placement}
+use Rattle.bandwidth.specs.Admission.{without}
+use Rattle.periodic_rows.specs.Periodic.{PeriodicContent, queue_member}
+use Rattle.periodic_rows.specs.Linking.{linking}
+use Rattle.periodic_part.specs.Part.{Held, with_list, with_place, with_periodic}
+use Rattle.driver_rows.specs.declared.content.Command.TheVariants as unfinished
+use Rattle.driver_rows.specs.DriverContent.{DriverContent}
+use Rattle.driver_rows.specs.Rows.{is_iso}
+use Rattle.driver_rows.specs.Offers.{placed_endpoint, written_chain, take_runs}
+use Rattle.driver_frames.specs.declared.placing.Place.{Place}
+
+abbrev pub chained_part : Held → Placement → ℕ → Held
+chained_part h p queue = with_list h (linking h.periodic.list (queue_member queue p))
+
+abbrev pub withdrawn : Held → ℕ → Held
+withdrawn h e = with_periodic h (record h.periodic { plan = without h.periodic.plan e })
+
+abbrev pub placed_part : Held → ℕ → EpDesc → Place → Held
+placed_part h e x place =
+    if is_iso x.kind then with_place h e x place.placement
+    else chained_part (with_place h e x place.placement) place.placement place.queue
+
+pub record IsChained (old : Book) (m : Mem) (x : EpDesc) (p : Placement) (place : Place) (link : ℕ) (new : Book) (n : Mem) : Type 0 where
+  pub taken : Mem
+  pub runs : take_runs (holding old m) (2 ∷ 1 ∷ []) ≡ Ok (holding new taken)
+  pub queue : slice_index (drop (length old.taken) new.taken) 0 ≡ place.queue
+  pub dummy : slice_index (drop (length old.taken) new.taken) 1 ≡ place.dummy
+  pub placement : place.placement ≡ p
+  pub written : n ≡ written_chain new taken x p link place.queue place.dummy
+
+-- a queue head is linked by a command, and an isochronous endpoint has none
+abbrev pub started : Bool → DriverContent → DriverContent
+started iso d = if iso then d else record d { command = Some unfinished.Chain; made = 0 }
+
+abbrev pub opened_placed : DriverContent → EpDesc → Place → Book → PeriodicContent → DriverContent
+opened_placed d x place k q =
+    started (is_iso x.kind)
+    (record d {
+      book = k;
+      endpoints = d.endpoints ++ placed_endpoint x place.placement place.queue place.dummy ∷ [];
+      room = record d.room { endpoints = d.room.endpoints - 1 };
+      periodic = q;
+    })

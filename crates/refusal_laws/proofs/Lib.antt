@@ -1,0 +1,4 @@
+pub mod Counting
+pub mod Ring
+pub mod Frame
+pub mod Events
