@@ -26,14 +26,13 @@ use Rattle.driver_rows.specs.DriverContent.{DriverContent, waits_for}
 use Rattle.driver_rows.specs.Harvests.{noted, is_stall, end_of}
 use Rattle.driver_rows.specs.Offers.{Offered, placed_endpoint}
 use Rattle.driver_rows.specs.Opening.{opening}
-use Rattle.driver_rows.specs.Rows.{Parts, is_iso, events_of, links, leave_ring, no_command, finished, linked_on, advanced_by, advance, framed_by, linked_by, row_of, after_row, after_transfer, after_endpoint, after_unlink, after_removed, freed_by, is_told, served, told_with, goes_on, behind_one, behind, stalled, mends_of, after_end, harvested_as, after_harvest}
+use Rattle.driver_rows.specs.Rows.{Parts, events_of, links, leave_ring, no_command, finished, linked_on, advanced_by, advance, framed_by, linked_by, row_of, after_row, after_transfer, after_endpoint, freed_by, is_told, served, told_with, goes_on, behind_one, behind, stalled, mends_of, after_end, harvested_as, after_harvest}
 use Rattle.run_owners.specs.Accepts.{Accepts, opens, chains, places, transfers, describes, cancels, unchains}
-use Rattle.run_owners.specs.Owners.{is_descriptor}
 use Rattle.run_owners.specs.Leaving.{IsOrderly}
 use Rattle.run_owners.specs.Due.{IsDue}
 use Rattle.run_owners.specs.Kept.{HasOwners}
 use Rattle.run_owners.proofs.Reasons.{each_is_due}
-use Rattle.run_owners.proofs.Harvest.{is_served_found, Waits, waits_is}
+use Rattle.run_owners.proofs.Harvest.{is_served_found, waits_is}
 use Rattle.run_owners.proofs.Rows.{served_is}
 use Rattle.run_owners.proofs.Ordered.{iso_periodic}
 use Rattle.ring_members.specs.Lists.{IsMemberApart, IsListApart, AreAllRing, IsListEmpty}

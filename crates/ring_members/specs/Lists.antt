@@ -4,7 +4,7 @@
 --     IsListApart d         the frame list is the first run, and each of its members is apart
 --     AreAllRing d          there is no interrupt or isochronous endpoint
 --     IsListEmpty d         nothing is in the frame list, is linked or unlinked, or has left it
-use Rattle.std.specs.Prelude.{◌≡◌, ◌≢◌, ℕ, ◌/◌, ◌<◌, false, List, [], slice_get, Some}
+use Rattle.std.specs.Prelude.{◌≡◌, ◌≢◌, ℕ, ◌/◌, ◌<◌, false, [], slice_get, Some}
 use Rattle.std.specs.List.{AllByRecursion}
 use Rattle.run_book.specs.Book.{slot_of}
 use Rattle.frame_chains.specs.Chains.{Schedule}

@@ -5,6 +5,8 @@
 //! `the_walk_meets_members` says it of each event of the walk; `ring_members` and `queue_head_words` stand below it.
 #![tactic(auto)]
 
+pub mod numbers;
+
 ghost use Rattle.std.specs.Prelude.{◌≡◌, ℕ, Ok};
 ghost use Rattle.usb_base.specs.declared.commands.Cmd.{Cmd};
 ghost use Rattle.word_mem.specs.Memory.{Mem};
