@@ -27,13 +27,14 @@ use Rattle.periodic_rows.specs.Linking.{begun_next}
 use Rattle.driver_rows.specs.declared.content.Endpoint.{Endpoint}
 use Rattle.driver_rows.specs.declared.content.Transfer.{Transfer}
 use Rattle.driver_rows.specs.declared.content.Slots.{Slots}
+use Rattle.driver_rows.specs.declared.content.Sort.TheVariants as sorts
 use Rattle.driver_rows.specs.declared.content.Command.{Command}
 use Rattle.driver_rows.specs.declared.content.Command.TheVariants as unfinished
 use Rattle.driver_rows.specs.declared.rows.Row.{Row}
 use Rattle.driver_rows.specs.declared.rows.Row.TheVariants as rows
 use Rattle.driver_rows.specs.DriverContent.{DriverContent, busy, waits_for, endpoint_of, endpoint_named}
-use Rattle.driver_rows.specs.Words.{is_high, speed_field, is_control, needs}
-use Rattle.driver_rows.specs.Offers.{Offered, Asked, take_runs, taken_open, taken_chain, placed_open, planned_open, new_open, offered_open, taken_transfer, open_transfer, found_transfer, slots_of, iso_needs, taken_iso, spans_too_long, has_slots, open_iso, offered_iso, endpoint_members, cancelled_by, with_cancel, offered_cancel, offered_next, offered}
+use Rattle.driver_rows.specs.Words.{is_high, speed_field, is_control, get_stages, put_stages, request_length, request_stages, needs}
+use Rattle.driver_rows.specs.Offers.{Offered, Asked, take_runs, taken_open, taken_chain, placed_open, planned_open, new_open, offered_open, taken_transfer, open_transfer, found_transfer, takes_get, takes_put, takes_control, slots_of, iso_needs, taken_iso, spans_too_long, has_slots, open_iso, offered_iso, endpoint_members, cancelled_by, with_cancel, offered_cancel, offered_next, offered}
 use Rattle.driver_rows.specs.Rows.{Parts, is_iso, events_of, links, removes_members, leave_ring, leave_frames, no_command, finished, list_after, or_finished, linked_on, advanced_by, advance, framed_notes, with_notes, placement_at, framed_by, linked_by, row_of, after_row, after_transfer, after_endpoint, after_descriptor, after_placed, after_removed, after_unlink, freed_by, cancel_told}
 use Rattle.run_owners.proofs.Stays.{same_view}
 use Rattle.run_owners.proofs.Released.{cancel_same}
@@ -316,9 +317,9 @@ open_numbers d m x o None fits all f = new_numbers d m x o (is_periodic x.kind) 
 
 next_numbers : (d : DriverContent) (m : Mem) (cmd : Cmd) (o : Offered) → OpensNumbered cmd → AreNumbered d → offered_next d m cmd ≡ Ok o → AreNumbered o.driver
 next_numbers d m (commands.OpenEp x) o fits all f = open_numbers d m x o (endpoint_named d x.name) fits all f
-next_numbers d m (commands.Get name len by) o fits all f = numbered_by d o.driver (named_same d m _ _ o (endpoint_of d name) f) all
-next_numbers d m (commands.Put name bytes by) o fits all f = numbered_by d o.driver (named_same d m _ _ o (endpoint_of d name) f) all
-next_numbers d m (commands.Control name setup bytes) o fits all f = numbered_by d o.driver (named_same d m _ _ o (endpoint_of d name) f) all
+next_numbers d m (commands.Get name len by) o fits all f = numbered_by d o.driver (named_same d m takes_get (record { sort = sorts.Get; stages = get_stages len by; most = len; bytes = [] }) o (endpoint_of d name) f) all
+next_numbers d m (commands.Put name bytes by) o fits all f = numbered_by d o.driver (named_same d m takes_put (record { sort = sorts.Put; stages = put_stages (length bytes) by; most = length bytes; bytes = bytes }) o (endpoint_of d name) f) all
+next_numbers d m (commands.Control name setup bytes) o fits all f = numbered_by d o.driver (named_same d m takes_control (record { sort = sorts.Request; stages = request_stages setup; most = request_length setup; bytes = setup ++ bytes }) o (endpoint_of d name) f) all
 next_numbers d m (commands.Iso name count len seed) o fits all f = numbered_by d o.driver (iso_named d m count len seed o (endpoint_of d name) f) all
 next_numbers d m (commands.Cancel name) o fits all f = numbered_by d o.driver (cancel_named d m o (endpoint_of d name) f) all
 
