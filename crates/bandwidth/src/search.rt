@@ -1,6 +1,6 @@
-ghost use Rattle.std.specs.Prelude.{◌≡◌, ◌+◌, ◌*◌, ◌<◌, ◌≤◌};
+ghost use Rattle.std.specs.Prelude.{◌≡◌, ℕ, ◌+◌, ◌*◌, ◌<◌, ◌≤◌, slice_index};
 ghost use Rattle.bandwidth.specs.Placements.{IsWant, frame_period, in_phase, placement_row, placement_at};
-ghost use Rattle.bandwidth.specs.Shapes.{turns, cells, IsShape, AreShapes};
+ghost use Rattle.bandwidth.specs.Shapes.{turns, cells, IsAmounts, IsShape, AreShapes};
 ghost use Rattle.bandwidth.specs.Admission.{best};
 ghost use Rattle.bandwidth.specs.Choice.{lesser, limit, better, choice, place_in};
 
@@ -9,7 +9,7 @@ use crate::choice::Candidate;
 use crate::frames::frames_of;
 use crate::options::starts;
 use crate::placements::{Placement, Want};
-use crate::shapes::Shape;
+use crate::shapes::{Amounts, Shape};
 use std::sync::ledger::Ledger;
 use step_count::Steps;
 
@@ -49,6 +49,17 @@ fn limit_of(so_far: &Option<Candidate>) -> u64
     }
 }
 
+/// A bus time, in picoseconds, that the greatest sum of no placement with these costs is below: that of its first or of its last microframe.
+fn least_peak(costs: &Amounts) -> u64
+    requires { IsAmounts costs.now }
+    ensures { (b : ℕ) → ((m : ℕ) → m < 8 → slice_index costs.now.each m ≤ b) → result ≤ b }
+{
+    if costs.from >= costs.to {
+        return 0;
+    }
+    costs.each[costs.from as usize].max(costs.each[(costs.to - 1) as usize])
+}
+
 /// The better of the candidate so far and a placement.
 fn better_of<L: Ledger>(
     accounts: &Accounts,
@@ -66,6 +77,10 @@ fn better_of<L: Ledger>(
 {
     let placement = shape.placed(want.period, phase);
     let limit = limit_of(&so_far);
+    let least = least_peak(&shape.costs);
+    if limit < least {
+        return so_far;
+    }
     match accounts.kept_peak(want, &placement, shape, limit, steps) {
         Some(peak) => lesser_of(so_far, Candidate { placement, peak }),
         None => so_far,

@@ -1,6 +1,9 @@
-use Rattle.std.proofs.Common.{ap, ◌∙◌}
+use Rattle.std.proofs.Common.{◌≤◌, arith, ap, ◌∙◌}
+use Rattle.bandwidth.specs.Admission.{peak}
 use Rattle.bandwidth.specs.Choice.{better}
+use Rattle.bandwidth.specs.Shapes.{IsOf}
 use Rattle.bandwidth.proofs.Best.{passed_over, kept_better}
+use Rattle.bandwidth.proofs.Peaks.{cost_peak}
 use Rattle.bandwidth.proofs.Spans.{placed_is, placed_of}
 use Rattle.bandwidth.proofs.search.better_of.Goals as goal
 
@@ -21,3 +24,15 @@ returns-in-None-clause-better g c =
     passed_over c.args.accounts.now.placed c.args.want.now c.args.so_far c.placed-placement.result
     (λ kept. rw c.limit_of-limit.ensures at (c.in-None.ensures.none kept))
     ∙ ap (λ p. better c.args.accounts.now.placed c.args.want.now c.args.so_far p) at
+
+pub returns-then-limit-least-clause-better : goal.returns-then-limit-least-clause-better
+returns-then-limit-least-clause-better g c =
+    let w = c.args.want.now in
+    let x = c.args.shape.now in
+    let p = c.placed-placement.result in
+    let of : IsOf x p = rw c.placed-placement.ensures (placed_of w x c.args.phase c.requires.want c.requires.phase) in
+    let top : c.least_peak-least.result ≤ peak c.args.accounts.now.placed w p = c.least_peak-least.ensures _ (cost_peak c.args.accounts.now.placed w x p c.requires.shape of) in
+    let at = c.placed-placement.ensures ∙ placed_is w x c.args.phase c.requires.shape in
+    passed_over c.args.accounts.now.placed w c.args.so_far p
+    (λ kept. omega (arith, top, c.if-limit-least.true, c.limit_of-limit.ensures))
+    ∙ ap (λ p. better c.args.accounts.now.placed w c.args.so_far p) at
