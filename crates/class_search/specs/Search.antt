@@ -2,6 +2,8 @@
 --     found_at s left level phase      at a class: its last member, or what is found below it
 --     found_below s left level phase   below it: in its two halves, where no level is left the frame
 --     pending s depth left level phase     what is found after the class (level, phase), below the one that stands `depth` levels above it
+--     found_from s depth level phase       what is found at the class, and after it
+--     found_then s found depth level phase     this, and what is found after it
 --     words_left s search              what a search has still to find
 --     IsSearch search                  its level and phase are in range
 --     word_of s found                  the word that was found
@@ -40,10 +42,16 @@ pending s (suc depth) left (suc level) phase =
     then found_at s left (suc level) (phase + 2 ^ level) ++ pending s depth (suc left) level phase
     else pending s depth (suc left) level (phase - 2 ^ level)
 
+abbrev pub found_from : Schedule → ℕ → ℕ → ℕ → List Found
+found_from s depth level phase = found_at s (10 - level) level phase ++ pending s depth (10 - level) level phase
+
+abbrev pub found_then : Schedule → Found → ℕ → ℕ → ℕ → List Found
+found_then s found depth level phase = found ∷ pending s depth (10 - level) level phase
+
 abbrev pub words_in : Schedule → Stage → ℕ → ℕ → ℕ → List Found
 words_in s Ended floor level phase = []
-words_in s AtClass floor level phase = found_at s (10 - level) level phase ++ pending s (level - floor) (10 - level) level phase
-words_in s AtFrame floor level phase = Frame phase ∷ pending s (level - floor) (10 - level) level phase
+words_in s AtClass floor level phase = found_from s (level - floor) level phase
+words_in s AtFrame floor level phase = found_then s (Frame phase) (level - floor) level phase
 
 abbrev pub words_left : Schedule → Place → List Found
 words_left s p = words_in s p.stage p.floor p.level p.phase

@@ -1,8 +1,8 @@
-ghost use Rattle.std.specs.Prelude.{◌≡◌, ℕ, ◌+◌, ◌-◌, ◌^◌, ◌<◌, ◌≤◌, nat_le, nat_lt, length, ◌++◌, ◌∷◌, [], Option, None, option_to_list, if◌then◌else◌};
+ghost use Rattle.std.specs.Prelude.{◌≡◌, ℕ, ◌+◌, ◌-◌, ◌^◌, ◌<◌, ◌≤◌, length, ◌++◌, [], None, option_to_list};
 ghost use Rattle.std.specs.List.{last_or};
 ghost use Rattle.frame_chains.specs.Chains.{Schedule};
 ghost use Rattle.frame_chains.specs.Classes.{members};
-ghost use Rattle.class_search.specs.Search.{found_at, found_below, pending, words_left, IsSearch};
+ghost use Rattle.class_search.specs.Search.{found_below, found_from, found_then, pending, words_left, IsSearch};
 ghost use Rattle.class_search.specs.Reads.{after_read};
 
 use crate::reads::Reads;
@@ -73,7 +73,7 @@ fn first_found<C: Classes>(classes: &C, level: u8, phase: u16, reads: &mut Reads
     ensures not_above { level ≤ result.level }
     ensures most { result.level ≤ 10 }
     ensures reads { reads.new + level ≤ reads.old + 11 }
-    ensures found { (depth : ℕ) → found_at (C.schedule classes.now) (10 - level) level phase ++ pending (C.schedule classes.now) depth (10 - level) level phase ≡ result.found ∷ pending (C.schedule classes.now) (depth + (result.level - level)) (10 - result.level) result.level phase }
+    ensures found { (depth : ℕ) → found_from (C.schedule classes.now) depth level phase ≡ found_then (C.schedule classes.now) result.found (depth + (result.level - level)) result.level phase }
 {
     if let Some(queue) = classes.last(level, phase, reads) {
         return Met {
