@@ -9,3 +9,4 @@ pub mod Least
 pub mod Admits
 pub mod Pools
 pub mod Books
+pub mod Peaks

@@ -1,17 +1,17 @@
 ghost use Rattle.std.specs.Prelude.{◌≡◌, ℕ, ◌+◌, ◌*◌, ◌<◌, ◌≤◌, List, [], length, not, nat_eq};
-ghost use Rattle.std.specs.Prelude.{true, false, filter, slice_index, Some, None, IfOk, IfSome, IfNone, IsTrue, ◌↔◌};
+ghost use Rattle.std.specs.Prelude.{true, false, filter, slice_index, Some, None, is_some, IfOk, IfSome, IfNone, IsTrue, ◌↔◌};
 ghost use Rattle.std.specs.List.{list_any, position};
 ghost use Rattle.std.specs.Option.{option_copied};
 ghost use Rattle.bandwidth.specs.Placements.{IsWant, IsPlace};
 ghost use Rattle.bandwidth.specs.Sums.{Fits};
 ghost use Rattle.bandwidth.specs.Admission.{joined, keeps, peak};
-ghost use Rattle.bandwidth.specs.Shapes.{turns, cells, laid_cells, IsShape, IsOf};
+ghost use Rattle.bandwidth.specs.Shapes.{turns, cells, cost_cells, laid_cells, IsShape, IsOf};
 ghost use Rattle.bandwidth.specs.Tables.{IsPool, HadMore, AreWithin, serves, tables_of, pool_size};
 
 use crate::asks::{byte_times_of, costs_of, is_below, time_in_frame};
 use crate::hub_pool::HubPool;
 use crate::hub_sums::{FRAME_BUDGET, HubSums};
-use crate::limits::peak_within;
+use crate::limits::{first_sum, least_cost, peak_within};
 use crate::placements::{Placed, Placement, Want};
 use crate::shapes::Shape;
 use crate::table::Table;
@@ -100,6 +100,7 @@ impl Accounts {
     }
 
     /// Whether a placement keeps the budgets below a hub.
+    #[inline(always)]
     fn hub_keeps<L: Ledger>(
         &self,
         hub: DevAddr,
@@ -122,6 +123,7 @@ impl Accounts {
     }
 
     /// Whether a placement keeps the budgets below its hub, if it has one.
+    #[inline(always)]
     fn below_keeps<L: Ledger>(
         &self,
         want: &Want,
@@ -134,6 +136,7 @@ impl Accounts {
         ensures tells { Tells self.now want.now placement.now result }
         ensures book { IsBook self.now }
         ensures steps { steps.new ≤ steps.old + turns placement.now.period * (laid_cells want.now + 1) }
+        ensures alone { is_some want.now.hub ≡ false → steps.new ≡ steps.old }
     {
         let _room = self.room;
         let Some(hub) = want.hub else {
@@ -142,8 +145,31 @@ impl Accounts {
         self.hub_keeps(hub, want, placement, shape, steps)
     }
 
+    /// A bus time, in picoseconds, that the greatest microframe sum over a placement's own microframes isn't below. At high speed it is the
+    /// sum of the first of them.
+    #[inline(always)]
+    pub(crate) fn least_peak<L: Ledger>(
+        &self,
+        want: &Want,
+        placement: &Placement,
+        shape: &Shape,
+        steps: &mut Steps<L>,
+    ) -> u64
+        requires shape { IsShape want.now shape.now }
+        requires place { IsOf shape.now placement.now }
+        ensures peak { result ≤ peak self.now.placed want.now placement.now }
+        ensures steps { steps.new ≤ steps.old + 1 }
+        ensures below { is_some want.now.hub ≡ true → steps.new ≤ steps.old }
+    {
+        if want.hub.is_some() {
+            return least_cost(&shape.costs);
+        }
+        first_sum(&self.loads, placement.phase, &shape.costs, steps)
+    }
+
     /// The greatest microframe sum over a placement's own microframes, with it included, where the placement keeps every budget beside
     /// what is placed and that sum doesn't pass the limit; `None` exactly where it breaks a budget or passes the limit.
+    #[inline(always)]
     pub(crate) fn kept_peak<L: Ledger>(
         &self,
         want: &Want,
@@ -160,6 +186,7 @@ impl Accounts {
         ensures peak { IfSome result (λ top. top ≡ peak self.now.placed want.now placement.now) }
         ensures none { IfNone result (keeps self.now.placed want.now placement.now ≡ true → limit < peak self.now.placed want.now placement.now) }
         ensures steps { steps.new ≤ steps.old + turns placement.now.period * cells want.now }
+        ensures alone { is_some want.now.hub ≡ false → steps.new ≤ steps.old + turns placement.now.period * cost_cells want.now }
     {
         let Some(peak) = peak_within(&self.loads, placement, &shape.costs, limit, steps) else {
             return None;

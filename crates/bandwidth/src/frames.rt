@@ -5,6 +5,7 @@ ghost use Rattle.bandwidth.specs.Sums.{is_active};
 use crate::placements::Placement;
 
 /// How many frames a period has, 1 below 8 microframes.
+#[inline(always)]
 #[tactic(auto, using(crate::proofs::Turns::whole_of))]
 pub(crate) fn frames_of(period: u16) -> u16
     requires { is_period period ≡ true }
@@ -16,6 +17,7 @@ pub(crate) fn frames_of(period: u16) -> u16
 }
 
 /// In how many of the 1,024 frames a placement is active.
+#[inline(always)]
 pub(crate) fn turns(placement: &Placement) -> u16
     requires { IsPlace placement.now }
     ensures { result ≡ 1024 / frame_period placement.now.period }
@@ -24,6 +26,7 @@ pub(crate) fn turns(placement: &Placement) -> u16
 }
 
 /// The active frame number `k` of a placement, from 0.
+#[inline(always)]
 pub(crate) fn active_frame(placement: &Placement, k: u16) -> u32
     requires place { IsPlace placement.now }
     requires turn { k < 1024 / frame_period placement.now.period }

@@ -72,6 +72,7 @@ impl HubPool {
     }
 
     /// The tables of a hub, if it has any.
+    #[inline(always)]
     pub(crate) fn below(&self, hub: DevAddr) -> Option<&HubSums>
         ensures tables { option_copied result ≡ tables_of self.now hub }
         ensures hub { hub < 128 }

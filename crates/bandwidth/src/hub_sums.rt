@@ -78,6 +78,7 @@ impl HubSums {
     }
 
     /// Whether a placement keeps the budgets of frames and of byte-times.
+    #[inline(always)]
     pub(crate) fn keep<L: Ledger>(
         &self,
         placement: &Placement,

@@ -12,6 +12,7 @@ use std::sync::ledger::Ledger;
 use step_count::Steps;
 
 /// Whether each of the eight microframes of one frame stays within the limit with its amount, where the cells alone do.
+#[inline(always)]
 fn frame_fits<L: Ledger>(
     table: &Table,
     frame: u32,
@@ -36,6 +37,7 @@ fn frame_fits<L: Ledger>(
 }
 
 /// Whether each microframe of each active frame of a placement stays within the limit with its amount, where the cells alone do.
+#[inline(always)]
 pub(crate) fn microframes_fit<L: Ledger>(
     table: &Table,
     placement: &Placement,
@@ -60,6 +62,7 @@ pub(crate) fn microframes_fit<L: Ledger>(
 }
 
 /// Whether each active frame of a placement stays within the limit with an amount.
+#[inline(always)]
 pub(crate) fn frames_fit<L: Ledger>(
     table: &Table,
     placement: &Placement,
@@ -83,6 +86,7 @@ pub(crate) fn frames_fit<L: Ledger>(
 }
 
 /// The greater of `so_far` and a sum with an amount, where that isn't 0.
+#[inline(always)]
 fn cell_peak(sum: u64, amount: u64, so_far: u64) -> u64
     requires sum { sum ≤ 1000000000000 }
     requires small { amount ≤ 1000000000000 }
@@ -96,7 +100,42 @@ fn cell_peak(sum: u64, amount: u64, so_far: u64) -> u64
     so_far
 }
 
+/// An amount that no bound of all of them is below: that of the first or of the last microframe.
+#[inline(always)]
+pub(crate) fn least_cost(amounts: &Amounts) -> u64
+    requires { IsAmounts amounts.now }
+    ensures { (b : ℕ) → ((m : ℕ) → m < 8 → slice_index amounts.now.each m ≤ b) → result ≤ b }
+{
+    if amounts.from >= amounts.to {
+        return 0;
+    }
+    amounts.each[amounts.from as usize].max(amounts.each[(amounts.to - 1) as usize])
+}
+
+/// The sum of the first microframe of a frame that may have an amount, with it; 0 where it has none.
+#[inline(always)]
+pub(crate) fn first_sum<L: Ledger>(
+    table: &Table,
+    frame: u16,
+    amounts: &Amounts,
+    steps: &mut Steps<L>,
+) -> u64
+    requires cells { length table.now ≡ 8192 }
+    requires frame { frame < 1024 }
+    requires room { (u : ℕ) → u < 8192 → slice_index table.now u ≤ 1000000000000 }
+    requires amounts { IsAmounts amounts.now }
+    ensures least { (b : ℕ) → FrameWithin table.now frame (slice_index amounts.now.each) b → result ≤ b }
+    ensures steps { steps.new ≤ steps.old + 1 }
+{
+    if amounts.from >= amounts.to {
+        return 0;
+    }
+    let sum = table.get(8 * frame as u32 + amounts.from as u32, steps);
+    cell_peak(sum, amounts.each[amounts.from as usize], 0)
+}
+
 /// The greatest of `so_far` and the sums of one frame's microframes that have an amount, with it.
+#[inline(always)]
 fn frame_peak<L: Ledger>(
     table: &Table,
     frame: u32,
@@ -123,6 +162,7 @@ fn frame_peak<L: Ledger>(
 
 /// The greatest sum of the microframes that have an amount, with it, over a placement's active frames; `None` exactly where one passes
 /// the limit.
+#[inline(always)]
 pub(crate) fn peak_within<L: Ledger>(
     table: &Table,
     placement: &Placement,

@@ -14,6 +14,7 @@ use std::sync::ledger::Ledger;
 use step_count::Steps;
 
 /// The one with the lesser peak, the one so far where they are equal.
+#[inline(always)]
 fn lesser_of(so_far: Option<Candidate>, new: Candidate) -> Option<Candidate>
     ensures { result ≡ lesser so_far new }
 {
@@ -40,6 +41,7 @@ fn placement_in(best: Option<Candidate>) -> Option<Placement>
 }
 
 /// The greatest peak, in picoseconds, with which a placement keeps the budget of microframes and is better than the candidate so far.
+#[inline(always)]
 fn limit_of(so_far: &Option<Candidate>) -> u64
     ensures { result ≡ limit so_far.now }
 {
@@ -50,6 +52,7 @@ fn limit_of(so_far: &Option<Candidate>) -> u64
 }
 
 /// The better of the candidate so far and a placement.
+#[inline(always)]
 fn better_of<L: Ledger>(
     accounts: &Accounts,
     want: &Want,
@@ -66,6 +69,10 @@ fn better_of<L: Ledger>(
 {
     let placement = shape.placed(want.period, phase);
     let limit = limit_of(&so_far);
+    let least = accounts.least_peak(want, &placement, shape, steps);
+    if limit < least {
+        return so_far;
+    }
     match accounts.kept_peak(want, &placement, shape, limit, steps) {
         Some(peak) => lesser_of(so_far, Candidate { placement, peak }),
         None => so_far,
@@ -73,6 +80,7 @@ fn better_of<L: Ledger>(
 }
 
 /// The best of the candidate so far and the placements of one phase.
+#[inline(always)]
 fn best_in_phase<L: Ledger>(
     accounts: &Accounts,
     want: &Want,

@@ -118,6 +118,7 @@ pub(crate) fn shapes_of(want: &Want) -> [Shape; 8]
 
 impl Shape {
     /// The placement of this shape in a phase.
+    #[inline(always)]
     pub(crate) fn placed(&self, period: u16, phase: u16) -> Placement
         ensures { result ≡ record { period = period; phase = phase; smask = self.now.smask; cmask = self.now.cmask } }
     {

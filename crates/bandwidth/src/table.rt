@@ -30,6 +30,7 @@ impl Table {
     }
 
     /// Reads a cell, in one step.
+    #[inline(always)]
     pub fn get<L: Ledger>(&self, at: u32, steps: &mut Steps<L>) -> u64
         requires { at < length self.now }
         ensures cell { result ≡ slice_index self.now at }

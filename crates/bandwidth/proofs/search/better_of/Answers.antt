@@ -1,4 +1,4 @@
-use Rattle.std.proofs.Common.{ap, ◌∙◌}
+use Rattle.std.proofs.Common.{arith, ap, ◌∙◌}
 use Rattle.bandwidth.specs.Choice.{better}
 use Rattle.bandwidth.proofs.Best.{passed_over, kept_better}
 use Rattle.bandwidth.proofs.Spans.{placed_is, placed_of}
@@ -21,3 +21,16 @@ returns-in-None-clause-better g c =
     passed_over c.args.accounts.now.placed c.args.want.now c.args.so_far c.placed-placement.result
     (λ kept. rw c.limit_of-limit.ensures at (c.in-None.ensures.none kept))
     ∙ ap (λ p. better c.args.accounts.now.placed c.args.want.now c.args.so_far p) at
+
+pub least_peak-least-requires-clause-place : goal.least_peak-least-requires-clause-place
+least_peak-least-requires-clause-place g c =
+    rw c.placed-placement.ensures (placed_of c.args.want.now c.args.shape.now c.args.phase c.requires.want c.requires.phase)
+
+pub returns-then-limit-least-clause-better : goal.returns-then-limit-least-clause-better
+returns-then-limit-least-clause-better g c =
+    let w = c.args.want.now in
+    let p = c.placed-placement.result in
+    let at = c.placed-placement.ensures ∙ placed_is w c.args.shape.now c.args.phase c.requires.shape in
+    passed_over c.args.accounts.now.placed w c.args.so_far p
+    (λ kept. omega (arith, c.least_peak-least.ensures.peak, c.if-limit-least.true, c.limit_of-limit.ensures))
+    ∙ ap (λ p. better c.args.accounts.now.placed w c.args.so_far p) at
