@@ -14,7 +14,7 @@ seconds() {
         { time echo "$1" | ./out/bench_admission >/dev/null; } 2>&1
     done | sort -n | head -1
 }
-for kind in drawn high long short; do
+for kind in drawn high long short long-in short-in; do
     for placed in 0 100 256; do
         echo "$kind $placed placed: $(echo "rounds $kind $placed $rounds" | ./out/bench_admission)," \
             "$(awk -v s="$(seconds "rounds $kind $placed $rounds")" -v n="$rounds" 'BEGIN { printf "%.1f", 1e6 * s / n }') microseconds"

@@ -194,6 +194,24 @@ pub(crate) fn long_high(id: u32) -> Want
     }
 }
 
+/// A full-speed isochronous IN endpoint of two parts below hub 9.
+pub(crate) fn long_in(id: u32, period: u16) -> Want
+    requires period { is_period period ≡ true }
+    requires frames { 8 ≤ period }
+    ensures { IsWant result }
+{
+    Want {
+        id,
+        speed: Speed::Full,
+        kind: EpKind::Iso,
+        dir: Dir::In,
+        max: 367,
+        multi: 1,
+        period,
+        hub: DevAddr::new(9),
+    }
+}
+
 /// A full-speed isochronous OUT endpoint of three start-splits below hub 9.
 pub(crate) fn long_out(id: u32, period: u16) -> Want
     requires period { is_period period ≡ true }

@@ -28,6 +28,8 @@ fn guests_of(word: &str) -> Option<Guests> {
         "high" => Some(Guests::LongHigh),
         "long" => Some(Guests::LongOut),
         "short" => Some(Guests::ShortOut),
+        "long-in" => Some(Guests::LongIn),
+        "short-in" => Some(Guests::ShortIn),
         _ => None,
     }
 }

@@ -2,7 +2,7 @@
 ghost use Rattle.std.specs.Prelude.{◌≤◌};
 ghost use Rattle.bandwidth.specs.Placements.{IsWant};
 
-use crate::draws::{Draws, any_want, long_high, long_out, small};
+use crate::draws::{Draws, any_want, long_high, long_in, long_out, small};
 use bandwidth::{Plan, Want};
 use std::alloc::{AllocError, Global};
 use usb_base::Memory;
@@ -21,6 +21,10 @@ pub(crate) enum Guests {
     LongOut,
     /// The same of the shortest period, whose placements have the most frames.
     ShortOut,
+    /// One classic isochronous IN endpoint of two parts and of the longest period.
+    LongIn,
+    /// The same of the shortest period: no admission reads and writes more cells.
+    ShortIn,
 }
 
 /// A plan with so many small endpoints.
@@ -44,6 +48,8 @@ fn next_guest(guests: Guests, draws: &mut Draws) -> Want
         Guests::LongHigh => long_high(GUEST),
         Guests::LongOut => long_out(GUEST, 8192),
         Guests::ShortOut => long_out(GUEST, 8),
+        Guests::LongIn => long_in(GUEST, 8192),
+        Guests::ShortIn => long_in(GUEST, 8),
     }
 }
 

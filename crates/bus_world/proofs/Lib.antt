@@ -7,4 +7,5 @@ pub mod Roomy
 pub mod Offering
 pub mod Sounds
 pub mod Ways
+pub mod Budgeted
 pub mod Printing

@@ -1,5 +1,5 @@
 -- An offer writes no line of the report.
-use Rattle.std.proofs.Common.{◌≡◌, ℕ, ◌+◌, ◌-◌, Bool, true, List, [], ◌∷◌, ◌++◌, length, slice_get, Option, Some, None, Result, Ok, Err, refl}
+use Rattle.std.proofs.Common.{◌≡◌, ℕ, ◌+◌, ◌-◌, Bool, List, [], ◌∷◌, ◌++◌, length, slice_get, Option, Some, None, Result, Ok, Err, refl}
 use Rattle.std.specs.Prelude.{nat_lt, unwrap_or, is_none, count_by, ◌||◌, not}
 use Rattle.std.proofs.lemmas.Bool.{cond_both}
 use Rattle.usb_base.specs.declared.commands.Cmd.{Cmd}

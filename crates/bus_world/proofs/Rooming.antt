@@ -1,5 +1,5 @@
 -- A command uses at most the room that it needs, accepted or refused.
-use Rattle.std.proofs.Common.{◌≡◌, ℕ, suc, ◌+◌, ◌≤◌, ◌<◌, Bool, true, false, List, [], ◌∷◌, length, Option, Some, None, Result, Ok, Err, refl, ap, sym, subst, ◌∙◌, arith, get_or, drop}
+use Rattle.std.proofs.Common.{◌≡◌, ℕ, suc, ◌+◌, ◌≤◌, ◌<◌, Bool, true, false, List, [], ◌∷◌, length, Option, Some, None, Result, Ok, Err, refl, ap, sym, subst, ◌∙◌, arith, get_or, drop, lit≤}
 use Rattle.std.specs.Prelude.{if◌then◌else◌, nat_lt, nat_le, unwrap_or, count_by, ◌-◌, ◌*◌, ◌&&◌, ◌||◌, not}
 use Rattle.std.proofs.Math.Nat.{mul-le-mul_left}
 use Rattle.std.proofs.Math.Seq.{drop-cons}
@@ -25,7 +25,7 @@ use Rattle.bandwidth.specs.declared.placements.Refused.{Refused}
 use Rattle.bandwidth.specs.Placements.{has, below}
 use Rattle.bandwidth.specs.Admission.{answer}
 use Rattle.periodic_rows.specs.Periodic.{is_periodic, want_of}
-use Rattle.periodic_rows.specs.Descriptors.{slots_before, slots_in}
+use Rattle.periodic_rows.specs.Descriptors.{slot_limit, slots_before, slots_in}
 use Rattle.driver_rows.specs.declared.content.Endpoint.{Endpoint}
 use Rattle.driver_rows.specs.declared.content.Slots.{Slots}
 use Rattle.driver_rows.specs.DriverContent.{DriverContent, busy, endpoint_of, endpoint_named, waits_for}
@@ -148,8 +148,12 @@ few_slots : (smask : ℕ) → slots_in smask ≤ 8
 unfolding slots_before
 few_slots smask = count_by-le-length (has smask) (below 8)
 
+either_few : (split : Bool) (a b n : ℕ) → a ≤ n → b ≤ n → (if split then a else b) ≤ n
+either_few true a b n h k = h
+either_few false a b n h k = k
+
 few_bytes : (s : Slots) → s.slot ≤ 3072 → total_of s ≤ 24576
-few_bytes s h = mul-le (slots_in s.smask) s.slot 8 3072 (few_slots s.smask) h
+few_bytes s h = either_few s.split s.slot (slots_in s.smask * s.slot) 24576 (omega (arith, h)) (mul-le (slots_in s.smask) s.slot 8 3072 (few_slots s.smask) h)
 
 taken_iso_leaves : (d : DriverContent) (e : ℕ) (x : Endpoint) (s : Slots) (n seed : ℕ) (r : Reserve) (h : Result Holding OfferError) → s.slot ≤ 3072
     → HasRoomFor d.room (with_room (iso_room n) r) → Leaves r (taken_iso d e x s n seed h)
@@ -161,13 +165,18 @@ taken_iso_leaves d e x s n seed r (Ok h) le room = record {
   report_bytes = omega (arith, room.report_bytes, mul-le-mul_left n (few_bytes s le));
 }
 
+limit_most : (split : Bool) → slot_limit split ≤ 3072
+limit_most true = lit≤ tt
+limit_most false = lit≤ tt
+
 slot_of : (x : Endpoint) (s : Slots) (long : Bool) → (long || not (has_slots x s)) ≡ false → s.slot ≤ 3072
 slot_of x s true e = cc
 slot_of x s false e =
-    let a = and_parts (nat_le s.slot 3072 && nat_le x.desc.max 1024 && nat_le 1 x.desc.multi) (nat_le x.desc.multi 3) (not-false (has_slots x s) e) in
-    let b = and_parts (nat_le s.slot 3072 && nat_le x.desc.max 1024) (nat_le 1 x.desc.multi) a.0 in
-    let c = and_parts (nat_le s.slot 3072) (nat_le x.desc.max 1024) b.0 in
-    leb-true s.slot 3072 c.0
+    let a = and_parts (nat_le s.slot (slot_limit s.split) && nat_le x.desc.max 1024 && nat_le 1 x.desc.multi && nat_le x.desc.multi 3) (nat_le x.desc.port 127) (not-false (has_slots x s) e) in
+    let b = and_parts (nat_le s.slot (slot_limit s.split) && nat_le x.desc.max 1024 && nat_le 1 x.desc.multi) (nat_le x.desc.multi 3) a.0 in
+    let c = and_parts (nat_le s.slot (slot_limit s.split) && nat_le x.desc.max 1024) (nat_le 1 x.desc.multi) b.0 in
+    let d = and_parts (nat_le s.slot (slot_limit s.split)) (nat_le x.desc.max 1024) c.0 in
+    omega (arith, leb-true s.slot (slot_limit s.split) d.0, limit_most s.split)
 
 open_iso_leaves : (d : DriverContent) (m : Mem) (e : ℕ) (x : Endpoint) (s : Slots) (n seed : ℕ) (r : Reserve) (cause : Option EndCause)
     → HasRoomFor d.room (with_room (iso_room n) r) → Leaves r (open_iso d m e x s n seed cause)

@@ -25,7 +25,10 @@ use Rattle.hc_core.specs.Controller.{Content, entered, frame_place, walk_place}
 use Rattle.driver_rows.specs.DriverContent.{DriverContent, new_driver}
 use Rattle.driver_rows.specs.declared.content.Reserve.{Reserve}
 use Rattle.driver_rows.specs.Rows.{Parts, row_of, after_row}
-use Rattle.driver_rows.specs.Offers.{offered}
+use Rattle.driver_rows.specs.Offers.{IsOffered, offered}
+use Rattle.bandwidth.proofs.Budgets.{fits_none}
+use Rattle.admission_laws.specs.Budgets.{account_of, KeepsBudgets}
+use Rattle.admission_laws.proofs.Budgets.{command_kept, event_kept}
 use Rattle.usb_bus.specs.Bus.{Fixed, Bus}
 use Rattle.bus_world.specs.World.{Standing, World, controller_row, controller_parts, controller_next, turned_by, frame_by, walk_by, sends_by, sent_by, refused_line}
 use Rattle.bus_world.specs.Sound.{IsSound, IsRoomyDevice}
@@ -41,6 +44,7 @@ driver_sound p new m b h stands e = record {
   stands = stands;
   stored = subst (λ (d : DriverContent). AreStored d.reports (length d.store)) (sym e) ((row_keeps (row_of p) p).stored h.stored);
   roomy = h.roomy;
+  budgets = subst (λ (d : DriverContent). KeepsBudgets (account_of d)) (sym e) (event_kept p h.budgets);
 }
 
 -- ---- the controller
@@ -88,6 +92,7 @@ controller_sound s m b h by e = record {
   stands = book_stands s.world.driver.book s.world.memory m h.stands by;
   stored = h.stored;
   roomy = subst AreRoomy (sym e) (next_roomy s.fixed s.world h.roomy);
+  budgets = h.budgets;
 }
 
 -- ---- a command
@@ -95,12 +100,13 @@ controller_sound s m b h by e = record {
 same_stored : (d e : DriverContent) → SameLines d e → AreStored d.reports (length d.store) → AreStored e.reports (length e.store)
 same_stored d e same h = rw (same.reports, same.store) h
 
-pub accepted_sound : (d : DriverContent) (m : Mem) (b : Bus) (cmd : Cmd) (new : DriverContent) (n : Mem) → IsSound d m b → offered d m cmd ≡ Ok (record { driver = new; memory = n })
+pub accepted_sound : (d : DriverContent) (m : Mem) (b : Bus) (cmd : Cmd) (new : DriverContent) (n : Mem) → IsOffered d.room cmd → IsSound d m b → offered d m cmd ≡ Ok (record { driver = new; memory = n })
     → Stands (holding new.book n) → IsSound new n b
-accepted_sound d m b cmd new n h e stands = record {
+accepted_sound d m b cmd new n ok h e stands = record {
   stands = stands;
   stored = same_stored d new (subst (Lines d) e (offer_lines d m cmd)) h.stored;
   roomy = h.roomy;
+  budgets = command_kept d m cmd (record { driver = new; memory = n }) ok h.budgets e;
 }
 
 pub refused_sound : (d : DriverContent) (m : Mem) (b : Bus) (n : ℕ) (name : EpName) (why : OfferError) → IsSound d m b → IsSound (refused_line d n name why) m b
@@ -108,13 +114,18 @@ refused_sound d m b n name why h = record {
   stands = h.stands;
   stored = line_stored d.reports _ (length d.store) h.stored (omega arith);
   roomy = h.roomy;
+  budgets = h.budgets;
 }
 
 -- ---- the opening
+
+new_kept : (book : Book) (blocks : ℕ) (room : Reserve) → KeepsBudgets (account_of (new_driver book blocks room))
+new_kept book blocks room = record { fits = fits_none; room = omega arith }
 
 pub opening_sound : (d : DriverContent) (m : Mem) (b : Bus) (book : Book) (blocks : ℕ) (room : Reserve) → d ≡ new_driver book blocks room → Stands (holding d.book m) → AreRoomy b → IsSound d m b
 opening_sound d m b book blocks room e stands roomy = record {
   stands = stands;
   stored = subst (λ (x : DriverContent). AreStored x.reports (length x.store)) (sym e) tt;
   roomy = roomy;
+  budgets = subst (λ (x : DriverContent). KeepsBudgets (account_of x)) (sym e) (new_kept book blocks room);
 }

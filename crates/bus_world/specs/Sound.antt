@@ -1,5 +1,5 @@
 -- What holds of a world at each moment, beside its content's own form: the driver's runs stand in memory, the bytes of each line of the
--- report among those of all lines, and no device took more bytes than it has room for.
+-- report among those of all lines, no device took more bytes than it has room for, and what is placed keeps its budgets.
 use Rattle.std.specs.Prelude.{◌≤◌, length}
 use Rattle.std.specs.List.{AllByRecursion}
 use Rattle.report_text.specs.ReportText.{AreStored}
@@ -11,6 +11,7 @@ use Rattle.word_mem.specs.Memory.{Mem}
 use Rattle.run_book.specs.Book.{holding, Stands}
 use Rattle.driver_rows.specs.DriverContent.{DriverContent}
 use Rattle.usb_bus.specs.Bus.{Bus}
+use Rattle.admission_laws.specs.Budgets.{account_of, KeepsBudgets}
 
 abbrev pub IsRoomy : Part → Type 0
 IsRoomy (Sends s) = Unit {0}
@@ -29,3 +30,4 @@ pub record IsSound (d : DriverContent) (m : Mem) (b : Bus) : Type 0 where
   pub stands : Stands (holding d.book m)
   pub stored : AreStored d.reports (length d.store)
   pub roomy : AllByRecursion IsRoomyDevice b.devices
+  pub budgets : KeepsBudgets (account_of d)

@@ -1,4 +1,4 @@
-ghost use Rattle.std.specs.Prelude.{◌≡◌};
+ghost use Rattle.std.specs.Prelude.{◌≡◌, ℕ};
 ghost use Rattle.std.specs.Bool.{OnTrue, OnFalse};
 ghost use Rattle.std.specs.List.{AllByRecursion};
 ghost use Rattle.script_types.specs.declared.scripts.Event.{Event as Kind};
@@ -6,7 +6,8 @@ ghost use Rattle.bus_world.specs.World.{next, kind_next};
 ghost use Rattle.driver_rows.specs.declared.content.Reserve.{Reserve as Room};
 ghost use Rattle.script_fits.specs.Fits.{IsFit, IsFitLine};
 ghost use Rattle.bus_world.specs.Rooms.{HasRoomFor, needs_line, with_room, reserve_of};
-ghost use Rattle.bus_world.specs.Orders.{is_end, left_of, orders_of, CarriesOut, EndsMicroframe, IsMicroframeUnended, StopsIn, IsRun, Events, Microframes};
+ghost use Rattle.bus_world.specs.Orders.{is_end, left_of, orders_of, CarriesOut, EndsMicroframe, IsMicroframeUnended, StopsIn, IsRun, Events, Microframes, at_place, ticks};
+ghost use Rattle.bus_world.specs.Budgets.{AdmitsExactly};
 
 use crate::world::World;
 use hc_core::HcStep;
@@ -116,12 +117,16 @@ impl World {
     }
 
     /// Carries out the action lines of a script, in their order. A microframe that doesn't end within 1,048,576 turns ends the run.
+    /// After each event and each command all that is placed fits, and the open of a periodic endpoint is refused for want of a placement
+    /// exactly where none fits.
     pub fn run(&mut self, script: &Script)
         requires fits { IsFit script.now }
         requires room { HasRoomFor self.old.world.driver.room (reserve_of script.now.lines) }
         ensures fixed { self.new.fixed ≡ self.old.fixed }
         ensures run { IsRun self.old.fixed self.old.world (orders_of script.now.lines) self.new.world }
+        ensures budgets { (k : ℕ) → AdmitsExactly (ticks self.old.fixed (at_place self.old.world (orders_of script.now.lines)) k) }
     {
+        let _driver = self.driver();
         self.lines(script.lines.as_slice());
     }
 }

@@ -4,6 +4,7 @@ ghost use Rattle.usb_base.specs.declared.endpoints.EpName.{EpName as Named};
 ghost use Rattle.report_text.specs.ReportText.{AreStored};
 ghost use Rattle.endpoint_script.specs.Device.{taken_of};
 ghost use Rattle.driver_rows.specs.Offers.{IsOffered};
+ghost use Rattle.admission_laws.specs.Budgets.{account_of, KeepsBudgets};
 ghost use Rattle.bus_world.specs.Sound.{IsSound};
 ghost use Rattle.bus_world.specs.World.{driver_next, controller_next, next, kind_next, name_in, commanded};
 
@@ -121,6 +122,7 @@ impl World {
     pub fn driver(&self) -> &Driver
         ensures driver { result.now ≡ self.now.world.driver }
         ensures stored { AreStored self.now.world.driver.reports (length self.now.world.driver.store) }
+        ensures budgets { KeepsBudgets (account_of self.now.world.driver) }
     {
         &self.driver
     }

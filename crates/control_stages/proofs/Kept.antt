@@ -9,9 +9,9 @@ use Rattle.control_stages.specs.declared.rows.Stage.{Stage}
 use Rattle.control_stages.specs.declared.rows.Stage.TheVariants.{Refusing, Reading, AllRead, Writing, AllWritten, NoData}
 use Rattle.control_stages.specs.declared.rows.StageRow.{StageRow}
 use Rattle.control_stages.specs.declared.rows.StageRow.TheVariants.{Begins, Ignores, Naks, Sends, Takes, Drops, Acknowledges, Confirms, HasRoom, Stalls}
-use Rattle.control_stages.specs.declared.rows.Token.{Token}
-use Rattle.control_stages.specs.declared.rows.Token.TheVariants as Tokens
-use Rattle.control_stages.specs.Stages.{Stages, setup_of, token_of, stage_of, in_row, out_row, out_row_at, ping_row, is_status, far_with, sequence_of, row_by, row_of, moved_to, acted_at, acted_with, acked_with, after_row, stages_after, stages_acked}
+use Rattle.control_stages.specs.declared.rows.StageToken.{StageToken}
+use Rattle.control_stages.specs.declared.rows.StageToken.TheVariants as Tokens
+use Rattle.control_stages.specs.Stages.{Stages, setup_of, token_of, stage_of, in_row, out_row, out_row_at, ping_row, is_status, far_with, sequence_of, row_by, stage_row, moved_to, acted_at, acted_with, acked_with, after_stage_row, stages_after, stages_acked}
 
 -- the row begins no request
 keeps : StageRow → Bool
@@ -30,7 +30,7 @@ acted_with_keeps : (u : Option Request) (c : Stages) → c.request ≡ u → set
 acted_with_keeps None c h = refl
 acted_with_keeps (Some u) c h = acted_at_keeps u.done u c h
 
-row_keeps : (row : StageRow) (c : Stages) → keeps row ≡ true → setup_of (after_row row c).request ≡ setup_of c.request
+row_keeps : (row : StageRow) (c : Stages) → keeps row ≡ true → setup_of (after_stage_row row c).request ≡ setup_of c.request
 unfolding keeps
 row_keeps (Begins setup) c h = absurd cc
 row_keeps Ignores c h = refl
@@ -74,7 +74,7 @@ unfolding keeps
 out_at_keeps stage None pid n = refl
 out_at_keeps stage (Some u) pid n = out_keeps stage (sequence_of u.toggle pid) (is_status pid n) (far_with u n)
 
-by_keeps : (token : Token) (stage : Stage) (c : Stages) (pid : Pid) (out : List ℕ) → token ≢ Tokens.Setup → keeps (row_by token stage c pid out) ≡ true
+by_keeps : (token : StageToken) (stage : Stage) (c : Stages) (pid : Pid) (out : List ℕ) → token ≢ Tokens.Setup → keeps (row_by token stage c pid out) ≡ true
 unfolding keeps
 by_keeps Tokens.Setup stage c pid out h = absurd (h refl)
 by_keeps Tokens.In stage c pid out h = nak_keeps (c.naks == 0) (in_row stage) (in_keeps stage)
@@ -83,7 +83,7 @@ by_keeps Tokens.Ping stage c pid out h = nak_keeps (c.naks == 0) (ping_row stage
 by_keeps Tokens.Other stage c pid out h = nak_keeps (c.naks == 0) Stalls refl
 
 pub setup_stays : (reply : Option (List ℕ)) (c : Stages) (ask : Ask) (out : List ℕ) → token_of ask.pid ≢ Tokens.Setup → setup_of (stages_after reply c ask out).request ≡ setup_of c.request
-setup_stays reply c ask out h = row_keeps (row_of reply c ask out) c (by_keeps (token_of ask.pid) (stage_of reply c) c ask.toggle out h)
+setup_stays reply c ask out h = row_keeps (stage_row reply c ask out) c (by_keeps (token_of ask.pid) (stage_of reply c) c ask.toggle out h)
 
 acked_with_keeps : (stage : Stage) (u : Option Request) (c : Stages) → c.request ≡ u → setup_of (acked_with stage u c).request ≡ setup_of c.request
 acked_with_keeps Reading (Some u) c h = sym (ap setup_of h)

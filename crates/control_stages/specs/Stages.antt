@@ -2,7 +2,7 @@
 --     Stages                       what it is at: the NAKs left, the request under way, how often it acted
 --     opened max naks              before the first SETUP
 --     stage_of reply c             the stage at which the next token finds it
---     row_of reply c ask out       what it does at an ask with these data bytes
+--     stage_row reply c ask out    what it does at an ask with these data bytes
 --     stages_reply, stages_after   what it answers, and what that leaves
 --     stages_acked reply c         what the host's acknowledgement of the data just sent leaves
 -- `reply` is the device's reply to the request under way, if it has one.
@@ -19,8 +19,8 @@ use Rattle.control_stages.specs.declared.rows.Stage.{Stage}
 use Rattle.control_stages.specs.declared.rows.Stage.TheVariants.{Refusing, Reading, AllRead, Writing, AllWritten, NoData}
 use Rattle.control_stages.specs.declared.rows.StageRow.{StageRow}
 use Rattle.control_stages.specs.declared.rows.StageRow.TheVariants.{Begins, Ignores, Naks, Sends, Takes, Drops, Acknowledges, Confirms, HasRoom, Stalls}
-use Rattle.control_stages.specs.declared.rows.Token.{Token}
-use Rattle.control_stages.specs.declared.rows.Token.TheVariants as Tokens
+use Rattle.control_stages.specs.declared.rows.StageToken.{StageToken}
+use Rattle.control_stages.specs.declared.rows.StageToken.TheVariants as Tokens
 
 pub record Stages : Type 0 where
   pub max : ℕ  -- the maximum packet size in bytes
@@ -34,7 +34,7 @@ opened max naks = record { max = max; naks = naks; request = None; acted = 0 }
 
 -- ---- tokens and data packets
 
-abbrev pub token_of : Pid → Token
+abbrev pub token_of : Pid → StageToken
 token_of Pids.Setup = Tokens.Setup
 token_of Pids.In = Tokens.In
 token_of Pids.Out = Tokens.Out
@@ -156,7 +156,7 @@ out_row_at stage (Some u) pid n = out_row stage (sequence_of u.toggle pid) (is_s
 abbrev pub unless_nak : ℕ → StageRow → StageRow
 unless_nak naks row = if naks == 0 then row else Naks
 
-abbrev pub row_by : Token → Stage → Stages → Pid → List ℕ → StageRow
+abbrev pub row_by : StageToken → Stage → Stages → Pid → List ℕ → StageRow
 row_by Tokens.Setup stage c pid out = setup_row out
 row_by Tokens.In stage c pid out = unless_nak c.naks (in_row stage)
 row_by Tokens.Out stage c pid out = unless_nak c.naks (out_row_at stage c.request pid (length out))
@@ -164,8 +164,8 @@ row_by Tokens.Ping stage c pid out = unless_nak c.naks (ping_row stage)
 row_by Tokens.Other stage c pid out = unless_nak c.naks Stalls
 
 -- what it does at an ask that sends these bytes
-abbrev pub row_of : Option (List ℕ) → Stages → Ask → List ℕ → StageRow
-row_of reply c ask out = row_by (token_of ask.pid) (stage_of reply c) c ask.toggle out
+abbrev pub stage_row : Option (List ℕ) → Stages → Ask → List ℕ → StageRow
+stage_row reply c ask out = row_by (token_of ask.pid) (stage_of reply c) c ask.toggle out
 
 -- ---- what a row answers
 
@@ -216,25 +216,25 @@ acted_with (Some u) c = acted_at u.done u c
 abbrev pub acted_on : Stages → Stages
 acted_on c = acted_with c.request c
 
-abbrev pub after_row : StageRow → Stages → Stages
-after_row (Begins setup) c = record c { request = Some (begun_with setup) }
-after_row Ignores c = c
-after_row Naks c = record c { naks = c.naks - 1 }
-after_row Sends c = c
-after_row (Takes to) c = record c { request = moved_to to c.request }
-after_row Drops c = c
-after_row Acknowledges c = acted_on c
-after_row Confirms c = acted_on c
-after_row HasRoom c = c
-after_row Stalls c = c
+abbrev pub after_stage_row : StageRow → Stages → Stages
+after_stage_row (Begins setup) c = record c { request = Some (begun_with setup) }
+after_stage_row Ignores c = c
+after_stage_row Naks c = record c { naks = c.naks - 1 }
+after_stage_row Sends c = c
+after_stage_row (Takes to) c = record c { request = moved_to to c.request }
+after_stage_row Drops c = c
+after_stage_row Acknowledges c = acted_on c
+after_stage_row Confirms c = acted_on c
+after_stage_row HasRoom c = c
+after_stage_row Stalls c = c
 
 -- what it answers to an ask that sends these bytes
 abbrev pub stages_reply : Option (List ℕ) → Stages → Ask → List ℕ → Reply
-stages_reply reply c ask out = row_reply (row_of reply c ask out) reply c
+stages_reply reply c ask out = row_reply (stage_row reply c ask out) reply c
 
 -- what that answer leaves
 abbrev pub stages_after : Option (List ℕ) → Stages → Ask → List ℕ → Stages
-stages_after reply c ask out = after_row (row_of reply c ask out) c
+stages_after reply c ask out = after_stage_row (stage_row reply c ask out) c
 
 -- ---- the acknowledgement
 

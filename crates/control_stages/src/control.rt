@@ -1,21 +1,21 @@
 ghost use Rattle.std.specs.Prelude.{◌≡◌, ℕ, ◌+◌, ◌≤◌, ◌<◌, ◌==◌, nat_lt, nat_le, length, take, if◌then◌else◌};
 ghost use Rattle.std.specs.Option.{option_copied, option_map};
-ghost use Rattle.control_stages.specs.Stages.{opened, token_of, data_pid, sequence_of, is_read, wanted_of, sent_of, has_packet, packet_at, read_stage, write_stage, stage_with, stage_at, stage_of, in_row, out_row, ping_row, setup_row, is_status, far_with, out_row_at, unless_nak, row_of, packet_with, pid_with, row_reply, begun_with, moved_to, acted_on, after_row, stages_reply, stages_after, stages_acked};
+ghost use Rattle.control_stages.specs.Stages.{opened, token_of, data_pid, sequence_of, is_read, wanted_of, sent_of, has_packet, packet_at, read_stage, write_stage, stage_with, stage_at, stage_of, in_row, out_row, ping_row, setup_row, is_status, far_with, out_row_at, unless_nak, stage_row, packet_with, pid_with, row_reply, begun_with, moved_to, acted_on, after_stage_row, stages_reply, stages_after, stages_acked};
 
-use crate::rows::{Sequence, Stage, StageRow, Token};
+use crate::rows::{Sequence, Stage, StageRow, StageToken};
 use std::marker::Model;
 use usb_base::{Ask, Packet, Pid, Reply};
 
 /// The token of a PID (USB 2.0, 8.3.1 and 8.4.1).
-pub fn token(pid: Pid) -> Token
+pub fn token(pid: Pid) -> StageToken
     ensures { result ≡ token_of pid }
 {
     match pid {
-        Pid::Setup => Token::Setup,
-        Pid::In => Token::In,
-        Pid::Out => Token::Out,
-        Pid::Ping => Token::Ping,
-        _ => Token::Other,
+        Pid::Setup => StageToken::Setup,
+        Pid::In => StageToken::In,
+        Pid::Out => StageToken::Out,
+        Pid::Ping => StageToken::Ping,
+        _ => StageToken::Other,
     }
 }
 
@@ -243,14 +243,18 @@ impl ControlStages {
     /// What it does at an ask that sends `out`.
     pub fn row(&self, ask: &Ask, out: &[u8], reply: Option<&[u8]>) -> StageRow
         requires { length out.now ≤ 1024 }
-        ensures { result ≡ row_of (option_copied reply.entry) self.now ask.now out.now }
+        ensures { result ≡ stage_row (option_copied reply.entry) self.now ask.now out.now }
     {
         match token(ask.pid) {
-            Token::Setup => setup_row(out),
-            Token::In => self.unless_nak(in_row(self.stage(reply))),
-            Token::Out => self.unless_nak(self.out_row(self.stage(reply), ask.toggle, out.len())),
-            Token::Ping => self.unless_nak(ping_row(self.stage(reply))),
-            Token::Other => self.unless_nak(StageRow::Stalls),
+            StageToken::Setup => setup_row(out),
+            StageToken::In => self.unless_nak(in_row(self.stage(reply))),
+            StageToken::Out => self.unless_nak(self.out_row(
+                self.stage(reply),
+                ask.toggle,
+                out.len(),
+            )),
+            StageToken::Ping => self.unless_nak(ping_row(self.stage(reply))),
+            StageToken::Other => self.unless_nak(StageRow::Stalls),
         }
     }
 
@@ -309,7 +313,7 @@ impl ControlStages {
 
     fn begin(&mut self, setup: [u8; 8]) -> Reply
         ensures reply { result ≡ Reply.Hand Pid.Ack }
-        ensures after { self.new ≡ after_row (StageRow.Begins setup) self.old }
+        ensures after { self.new ≡ after_stage_row (StageRow.Begins setup) self.old }
     {
         self.request = Some(Request {
             setup,
@@ -322,7 +326,7 @@ impl ControlStages {
 
     fn refuse(&mut self) -> Reply
         ensures reply { result ≡ Reply.Hand Pid.Nak }
-        ensures after { self.new ≡ after_row StageRow.Naks self.old }
+        ensures after { self.new ≡ after_stage_row StageRow.Naks self.old }
     {
         self.naks = self.naks.saturating_sub(1);
         Reply::Hand(Pid::Nak)
@@ -343,7 +347,7 @@ impl ControlStages {
 
     fn take(&mut self, to: u32) -> Reply
         ensures reply { result ≡ Reply.Hand Pid.Ack }
-        ensures after { self.new ≡ after_row (StageRow.Takes to) self.old }
+        ensures after { self.new ≡ after_stage_row (StageRow.Takes to) self.old }
     {
         if let Some(request) = self.request {
             self.request = Some(Request {
@@ -374,7 +378,7 @@ impl ControlStages {
 
     fn acknowledge(&mut self) -> Reply
         ensures reply { result ≡ Reply.Hand Pid.Ack }
-        ensures after { self.new ≡ after_row StageRow.Acknowledges self.old }
+        ensures after { self.new ≡ after_stage_row StageRow.Acknowledges self.old }
     {
         self.act();
         Reply::Hand(Pid::Ack)
@@ -382,7 +386,7 @@ impl ControlStages {
 
     fn confirm(&mut self) -> Reply
         ensures reply { result ≡ row_reply StageRow.Confirms None self.old }
-        ensures after { self.new ≡ after_row StageRow.Confirms self.old }
+        ensures after { self.new ≡ after_stage_row StageRow.Confirms self.old }
     {
         self.act();
         Reply::Bytes(Pid::Data1, Packet::empty())

@@ -11,4 +11,4 @@ mod rows;
 pub mod worked;
 
 pub use control::{ControlStages, Request, data_pid, sequence, token};
-pub use rows::{Sequence, Stage, StageRow, Token};
+pub use rows::{Sequence, Stage, StageRow, StageToken};

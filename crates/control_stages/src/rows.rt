@@ -1,6 +1,6 @@
 /// The token that a device hears (USB 2.0, 8.4.1).
 #[derive(Clone, Copy, Debug, PartialEq, Eq)]
-pub enum Token {
+pub enum StageToken {
     Setup,
     In,
     Out,

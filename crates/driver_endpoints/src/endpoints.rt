@@ -24,7 +24,8 @@ impl Model for Endpoints {
 
     ghost view = { λ x. record { items = x.all.items; most = vec_capacity x.all } };
 
-    ghost invariant = { λ x. IsWorkSet x.all.items x.working.items × (length x.all.items ≤ vec_capacity x.all) × (vec_capacity x.all ≤ 64 * length x.working.items) × (length x.working.items ≤ 2 ^ 58) };
+    ghost invariant = { λ x. IsWorkSet x.all.items x.working.items × (length x.all.items ≤ vec_capacity x.all)
+        × (vec_capacity x.all ≤ 64 * length x.working.items) × (length x.working.items ≤ 2 ^ 58) };
 }
 
 /// Whether the endpoint has a transfer to harvest.

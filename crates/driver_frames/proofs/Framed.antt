@@ -6,7 +6,7 @@ use Rattle.run_book.specs.Book.{Book, store}
 use Rattle.bandwidth.specs.declared.placements.Placement.{Placement}
 use Rattle.periodic_rows.specs.declared.content.DescriptorNote.{DescriptorNote}
 use Rattle.periodic_rows.specs.Frames.{frames_from}
-use Rattle.periodic_rows.specs.Periodic.{note_at, itd_member}
+use Rattle.periodic_rows.specs.Periodic.{note_at, descriptor_member}
 use Rattle.periodic_rows.specs.Linking.{new_link}
 use Rattle.periodic_list.specs.Periodic.{Periodic}
 use Rattle.driver_rows.specs.declared.content.Transfer.{Transfer}
@@ -21,7 +21,7 @@ pub frames_all : (p : Placement) (ts : List Transfer) (f : ℕ) (notes : List De
 unfolding with_frames
 frames_all p ts f notes i past = ap (λ xs. with_frames p xs f notes) (drop_all i ts past)
 
-pub links_more : (k : Book) (p : Periodic) (notes : List DescriptorNote) (ts : List Transfer) (m : Mem) (i : ℕ) (d : Transfer) → i < length ts → linked_descriptors k p notes (drop (i + 1) ts) (store k m (get_or ts i d).first (32 * (get_or ts i d).first) (new_link p (itd_member notes (get_or ts i d).first))) ≡ linked_descriptors k p notes (drop i ts) m
+pub links_more : (k : Book) (p : Periodic) (notes : List DescriptorNote) (ts : List Transfer) (m : Mem) (i : ℕ) (d : Transfer) → i < length ts → linked_descriptors k p notes (drop (i + 1) ts) (store k m (get_or ts i d).first (32 * (get_or ts i d).first) (new_link p (descriptor_member notes (get_or ts i d).first))) ≡ linked_descriptors k p notes (drop i ts) m
 unfolding linked_descriptors
 links_more k p notes ts m i d below = ap (λ xs. linked_descriptors k p notes xs m) (sym (drop_one ts i d below))
 

@@ -4,19 +4,22 @@
 --     placed_part h e x place     .. once endpoint e, so described, has this place
 --     IsChained ..                the runs of an interrupt endpoint were taken and written
 --     opened_placed d x place k q    what an accepted open leaves, with the book k and the periodic content q afterwards
-use Rattle.std.specs.Prelude.{◌≡◌, ℕ, ◌-◌, Bool, [], ◌∷◌, ◌++◌, length, drop, slice_index, Some, Ok, if◌then◌else◌}
+--     opened_with x place k h m d    the answer of the driver d that accepts the open so
+--     AnswersOpen k h m e x f            a driver d with this book and this part, whose next endpoint has number e, answers the open of x by f d
+use Rattle.std.specs.Prelude.{◌≡◌, ℕ, ◌-◌, Bool, [], ◌∷◌, ◌++◌, length, drop, slice_index, Some, Result, Ok, if◌then◌else◌}
 use Rattle.usb_base.specs.declared.endpoints.EpDesc.{EpDesc}
 use Rattle.word_mem.specs.Memory.{Mem}
 use Rattle.run_book.specs.Book.{Book, holding}
 use Rattle.bandwidth.specs.declared.placements.Placement.{Placement}
-use Rattle.bandwidth.specs.Admission.{without}
-use Rattle.periodic_rows.specs.Periodic.{PeriodicContent, queue_member}
+use Rattle.bandwidth.specs.Admission.{answer, without}
+use Rattle.periodic_rows.specs.Periodic.{PeriodicContent, want_of, queue_member}
 use Rattle.periodic_rows.specs.Linking.{linking}
 use Rattle.periodic_part.specs.Part.{Held, with_list, with_place, with_periodic}
 use Rattle.driver_rows.specs.declared.content.Command.TheVariants as unfinished
 use Rattle.driver_rows.specs.DriverContent.{DriverContent}
 use Rattle.driver_rows.specs.Rows.{is_iso}
-use Rattle.driver_rows.specs.Offers.{placed_endpoint, written_chain, take_runs}
+use Rattle.usb_base.specs.declared.reports.OfferError.{OfferError}
+use Rattle.driver_rows.specs.Offers.{Offered, placed_endpoint, written_chain, take_runs, planned_open}
 use Rattle.driver_frames.specs.declared.placing.Place.{Place}
 
 abbrev pub chained_part : Held → Placement → ℕ → Held
@@ -51,3 +54,11 @@ opened_placed d x place k q =
       room = record d.room { endpoints = d.room.endpoints - 1 };
       periodic = q;
     })
+
+abbrev pub opened_with : EpDesc → Place → Book → Held → Mem → DriverContent → Result Offered OfferError
+opened_with x place k h m d = Ok (record { driver = opened_placed d x place k h.periodic; memory = m })
+
+abbrev pub AnswersOpen : Book → Held → Mem → ℕ → EpDesc → (DriverContent → Result Offered OfferError) → Type 0
+AnswersOpen k h m e x f =
+    (d : DriverContent) → d.book ≡ k → d.periodic ≡ h.periodic → length d.endpoints ≡ e
+    → planned_open d m x (answer d.periodic.plan (want_of (length d.endpoints) x)) ≡ f d

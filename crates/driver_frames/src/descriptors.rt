@@ -1,8 +1,10 @@
-//! New descriptors of an isochronous endpoint (EHCI 1.0, 3.3 and 4.7).
+//! New descriptors of an isochronous endpoint (EHCI 1.0, 3.3, 3.4, 4.7 and 4.12.3).
 ghost use Rattle.std.specs.Prelude.{◌≡◌, ◌≤◌, ◌<◌, ◌+◌, ◌-◌, ◌*◌, ◌%◌, drop, length, vec_len, vec_capacity};
 ghost use Rattle.run_book.specs.Book.{holding, Stands};
-ghost use Rattle.driver_rows.specs.Offers.{Descriptors, all_descriptors, one_descriptor, descriptor_transfer, total_of};
+ghost use Rattle.periodic_rows.specs.Descriptors.{slot_limit};
+ghost use Rattle.driver_rows.specs.Offers.{all_descriptors, one_descriptor, descriptor_transfer, total_of};
 ghost use Rattle.periodic_part.specs.Part.{with_notes};
+ghost use Rattle.driver_frames.specs.Listing.{listed_in};
 
 use crate::spans::blocks_from;
 use driver_rows::{Slots, Sort, Transfer};
@@ -14,7 +16,7 @@ use word_mem::WordMem;
 
 /// The transfer of the descriptor in this block.
 fn transfer_of(e: usize, slots: &Slots, block: u16) -> Transfer
-    requires slot { slots.now.slot ≤ 3072 }
+    requires slot { slots.now.slot ≤ slot_limit slots.now.split }
     ensures { result ≡ descriptor_transfer e slots.now block }
 {
     Transfer {
@@ -49,13 +51,14 @@ fn write_one(
     seed: u8,
     runs: &[u16],
 )
-    requires slot { slots.now.slot ≤ 3072 }
+    requires slot { slots.now.slot ≤ slot_limit slots.now.split }
     requires max { desc.now.max ≤ 1024 }
     requires some { 1 ≤ desc.now.multi }
     requires multi { desc.now.multi ≤ 3 }
+    requires port { desc.now.port ≤ 127 }
     requires room { vec_len transfers.old < vec_capacity transfers.old }
     requires stands { Stands (holding book.now mem.old) }
-    ensures written { ◌≡◌ {A = Descriptors} (record { notes = periodic.new.periodic.notes; transfers = transfers.new.items; memory = mem.new }) (one_descriptor book.now e desc.now slots.now seed runs.now (record { notes = periodic.old.periodic.notes; transfers = transfers.old.items; memory = mem.old })) }
+    ensures written { listed_in periodic.new transfers.new.items mem.new ≡ one_descriptor book.now e desc.now slots.now seed runs.now (listed_in periodic.old transfers.old.items mem.old) }
     ensures rest { periodic.new ≡ with_notes periodic.old periodic.new.periodic.notes }
     ensures len { vec_len transfers.new ≡ vec_len transfers.old + 1 }
     ensures capacity { vec_capacity transfers.new ≡ vec_capacity transfers.old }
@@ -79,13 +82,14 @@ pub fn write_descriptors(
     seed: u8,
     runs: &[u16],
 )
-    requires slot { slots.now.slot ≤ 3072 }
+    requires slot { slots.now.slot ≤ slot_limit slots.now.split }
     requires max { desc.now.max ≤ 1024 }
     requires some { 1 ≤ desc.now.multi }
     requires multi { desc.now.multi ≤ 3 }
+    requires port { desc.now.port ≤ 127 }
     requires room { vec_len transfers.old + count ≤ vec_capacity transfers.old }
     requires stands { Stands (holding book.now mem.old) }
-    ensures written { ◌≡◌ {A = Descriptors} (record { notes = periodic.new.periodic.notes; transfers = transfers.new.items; memory = mem.new }) (all_descriptors book.now e desc.now slots.now count seed runs.now (record { notes = periodic.old.periodic.notes; transfers = transfers.old.items; memory = mem.old })) }
+    ensures written { listed_in periodic.new transfers.new.items mem.new ≡ all_descriptors book.now e desc.now slots.now count seed runs.now (listed_in periodic.old transfers.old.items mem.old) }
     ensures rest { periodic.new ≡ with_notes periodic.old periodic.new.periodic.notes }
     ensures len { vec_len transfers.new ≡ vec_len transfers.old + count }
     ensures capacity { vec_capacity transfers.new ≡ vec_capacity transfers.old }

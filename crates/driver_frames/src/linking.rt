@@ -1,12 +1,13 @@
 //! Members that a command links into the frame list or unlinks from it (EHCI 1.0, 4.6).
-ghost use Rattle.std.specs.Prelude.{◌≡◌, ◌≤◌, ◌<◌, ◌++◌, ◌∷◌, [], map, filter, length, if◌then◌else◌};
+ghost use Rattle.std.specs.Prelude.{◌≡◌, ◌≤◌, ◌<◌, ◌++◌, ◌∷◌, [], map, filter, length};
 ghost use Rattle.run_book.specs.Book.{holding, Stands};
 ghost use Rattle.periodic_list.specs.Periodic.{next_store, after_store};
-ghost use Rattle.periodic_rows.specs.Periodic.{itd_member, queue_member};
+ghost use Rattle.periodic_rows.specs.Periodic.{descriptor_member};
 ghost use Rattle.periodic_rows.specs.Linking.{begun_next, unlinking};
 ghost use Rattle.periodic_part.specs.Part.{with_list, with_periodic, with_queued};
 ghost use Rattle.driver_rows.specs.DriverContent.{waits_for};
-ghost use Rattle.driver_rows.specs.Rows.{is_iso, stored_link};
+ghost use Rattle.driver_rows.specs.Rows.{stored_link};
+ghost use Rattle.driver_frames.specs.Leaving.{list_made, more_leaving, leaving_members};
 
 use bandwidth::Placement;
 use driver_endpoints::is_isochronous;
@@ -21,7 +22,7 @@ use word_mem::WordMem;
 #[tactic(auto, using(std::proofs::lemmas::Grind::common_steps, crate::proofs::Queued::members_more, crate::proofs::Queued::members_none))]
 pub fn queue_descriptors(periodic: &mut PeriodicPart, transfers: &[Transfer])
     requires room { length transfers.now < periodic.old.queued_room }
-    ensures { periodic.new ≡ with_queued periodic.old (map (λ t. itd_member periodic.old.periodic.notes t.first) transfers.now) }
+    ensures { periodic.new ≡ with_queued periodic.old (map (λ t. descriptor_member periodic.old.periodic.notes t.first) transfers.now) }
 {
     periodic.clear_queued();
     for transfer in transfers {
@@ -32,7 +33,7 @@ pub fn queue_descriptors(periodic: &mut PeriodicPart, transfers: &[Transfer])
 /// This descriptor is one more member that the command is to unlink, if it waits at the endpoint.
 fn queue_if_waiting(periodic: &mut PeriodicPart, e: usize, transfer: &Transfer)
     requires room { length periodic.old.periodic.queued < periodic.old.queued_room }
-    ensures { periodic.new ≡ with_queued periodic.old (if waits_for e transfer.now then periodic.old.periodic.queued ++ itd_member periodic.old.periodic.notes transfer.now.first ∷ [] else periodic.old.periodic.queued) }
+    ensures { periodic.new ≡ with_queued periodic.old (more_leaving periodic.old e transfer.now) }
 {
     if !waits_at(transfer, e) {
         return;
@@ -44,7 +45,7 @@ fn queue_if_waiting(periodic: &mut PeriodicPart, e: usize, transfer: &Transfer)
 #[tactic(auto, using(std::proofs::lemmas::Grind::common_steps, crate::proofs::Queued::waiting_more, crate::proofs::Queued::waiting_none))]
 fn queue_waiting(periodic: &mut PeriodicPart, transfers: &[Transfer], e: usize)
     requires room { length transfers.now < periodic.old.queued_room }
-    ensures { periodic.new ≡ with_queued periodic.old (map (λ t. itd_member periodic.old.periodic.notes t.first) (filter (waits_for e) transfers.now)) }
+    ensures { periodic.new ≡ with_queued periodic.old (map (λ t. descriptor_member periodic.old.periodic.notes t.first) (filter (waits_for e) transfers.now)) }
 {
     periodic.clear_queued();
     for transfer in transfers {
@@ -62,7 +63,7 @@ pub fn queue_leaving(
     placement: &Placement,
 )
     requires room { length transfers.now < periodic.old.queued_room }
-    ensures { periodic.new ≡ with_queued periodic.old (if is_iso endpoint.now.desc.kind then map (λ t. itd_member periodic.old.periodic.notes t.first) (filter (waits_for e) transfers.now) else queue_member endpoint.now.queue placement.now ∷ []) }
+    ensures { periodic.new ≡ with_queued periodic.old (leaving_members periodic.old transfers.now e endpoint.now placement.now) }
 {
     if is_isochronous(endpoint.desc.kind) {
         queue_waiting(periodic, transfers, e);
@@ -74,7 +75,7 @@ pub fn queue_leaving(
 
 /// The store of the frame list that is under way was made, if `stored`.
 fn made_if(periodic: &mut PeriodicPart, stored: bool)
-    ensures { periodic.new ≡ with_list periodic.old (if stored then after_store periodic.old.periodic.list else periodic.old.periodic.list) }
+    ensures { periodic.new ≡ with_list periodic.old (list_made stored periodic.old.periodic.list) }
 {
     if stored {
         periodic.store_made();
@@ -83,7 +84,7 @@ fn made_if(periodic: &mut PeriodicPart, stored: bool)
 
 /// The store of the frame list that is under way was made, if `stored`, and the command's next member begins where nothing is under way.
 pub fn go_on(periodic: &mut PeriodicPart, stored: bool, removes: bool)
-    ensures { periodic.new ≡ with_periodic periodic.old (begun_next removes (record periodic.old.periodic { list = if stored then after_store periodic.old.periodic.list else periodic.old.periodic.list })) }
+    ensures { periodic.new ≡ with_periodic periodic.old (begun_next removes (record periodic.old.periodic { list = list_made stored periodic.old.periodic.list })) }
 {
     made_if(periodic, stored);
     periodic.begin_next(removes);
@@ -103,8 +104,8 @@ fn store_link(book: &RunBook, mem: &mut WordMem, store: Option<Store>)
 /// The descriptor in this block leaves its frame by one store.
 pub fn unlink_descriptor(book: &RunBook, mem: &mut WordMem, periodic: &mut PeriodicPart, block: u16)
     requires stands { Stands (holding book.now mem.old) }
-    ensures periodic { periodic.new ≡ with_list periodic.old (after_store (unlinking periodic.old.periodic.list (itd_member periodic.old.periodic.notes block))) }
-    ensures memory { mem.new ≡ stored_link book.now mem.old (next_store (unlinking periodic.old.periodic.list (itd_member periodic.old.periodic.notes block))) }
+    ensures periodic { periodic.new ≡ with_list periodic.old (after_store (unlinking periodic.old.periodic.list (descriptor_member periodic.old.periodic.notes block))) }
+    ensures memory { mem.new ≡ stored_link book.now mem.old (next_store (unlinking periodic.old.periodic.list (descriptor_member periodic.old.periodic.notes block))) }
     ensures stands { Stands (holding book.now mem.new) }
 {
     periodic.unlink_descriptor(block);

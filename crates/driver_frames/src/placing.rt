@@ -2,12 +2,11 @@
 ghost use Rattle.std.specs.Prelude.{◌≡◌, ◌≤◌, ◌<◌, ◌∷◌, [], length, false, Ok, Err, IfOk, IfErr};
 ghost use Rattle.run_book.specs.Book.{holding, Stands};
 ghost use Rattle.bandwidth.specs.Placements.{IsWant};
-ghost use Rattle.bandwidth.specs.Admission.{answer, is_placed};
+ghost use Rattle.bandwidth.specs.Admission.{is_placed};
 ghost use Rattle.periodic_rows.specs.Periodic.{want_of, queue_member};
 ghost use Rattle.periodic_rows.specs.Linking.{new_link};
-ghost use Rattle.driver_rows.specs.DriverContent.{DriverContent};
-ghost use Rattle.driver_rows.specs.Offers.{planned_open, placed_endpoint, take_runs};
-ghost use Rattle.driver_frames.specs.Places.{opened_placed, placed_part, chained_part, withdrawn, IsChained};
+ghost use Rattle.driver_rows.specs.Offers.{placed_endpoint, take_runs};
+ghost use Rattle.driver_frames.specs.Places.{placed_part, chained_part, withdrawn, opened_with, AnswersOpen, IsChained};
 
 use bandwidth::Placement;
 use driver_endpoints::is_isochronous;
@@ -104,8 +103,8 @@ pub fn place_endpoint(
     requires fresh { is_placed periodic.old.periodic.plan e ≡ false }
     requires room { length periodic.old.periodic.plan.placed < periodic.old.periodic.plan.room }
     requires want { IsWant (want_of e desc.now) }
-    ensures accepted { IfOk result (λ place. (d : DriverContent) → d.book ≡ book.old → d.periodic ≡ periodic.old.periodic → length d.endpoints ≡ e → planned_open d mem.old desc.now (answer d.periodic.plan (want_of (length d.endpoints) desc.now)) ≡ Ok (record { driver = opened_placed d desc.now place book.new periodic.new.periodic; memory = mem.new })) }
-    ensures refused { IfErr result (λ why. (d : DriverContent) → d.book ≡ book.old → d.periodic ≡ periodic.old.periodic → length d.endpoints ≡ e → planned_open d mem.old desc.now (answer d.periodic.plan (want_of (length d.endpoints) desc.now)) ≡ Err why) }
+    ensures accepted { IfOk result (λ place. AnswersOpen book.old periodic.old mem.old e desc.now (opened_with desc.now place book.new periodic.new mem.new)) }
+    ensures refused { IfErr result (λ why. AnswersOpen book.old periodic.old mem.old e desc.now (λ _. Err why)) }
     ensures part { IfOk result (λ place. periodic.new ≡ placed_part periodic.old e desc.now place) }
     ensures same { IfErr result (λ _. (book.new ≡ book.old) × (periodic.new ≡ periodic.old) × (mem.new ≡ mem.old)) }
     ensures stands { Stands (holding book.new mem.new) }

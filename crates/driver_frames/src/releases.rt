@@ -1,8 +1,8 @@
 //! Blocks that are given back once they have left the frame list (EHCI 1.0, 4.6).
-ghost use Rattle.std.specs.Prelude.{◌≡◌, ◌∷◌, [], map, if◌then◌else◌, vec_capacity};
+ghost use Rattle.std.specs.Prelude.{◌≡◌, map, vec_capacity};
 ghost use Rattle.run_book.specs.Book.{holding, Stands};
-ghost use Rattle.driver_rows.specs.DriverContent.{waits_for};
-ghost use Rattle.driver_rows.specs.Rows.{is_iso, free_runs, free_transfers, free_descriptor, free_descriptors, let_go_waiting, let_go_placed};
+ghost use Rattle.driver_rows.specs.Rows.{free_descriptor, free_descriptors, let_go_waiting, let_go_placed};
+ghost use Rattle.driver_frames.specs.Leaving.{freed_waiting, freed_placed};
 
 use driver_endpoints::is_isochronous;
 use driver_harvests::{free_runs_at, free_transfers_of, let_all_go, waits_at};
@@ -32,7 +32,7 @@ fn free_if_waiting(
     transfer: &Transfer,
 )
     requires { Stands (holding book.old mem.old) }
-    ensures freed { holding book.new mem.new ≡ (if waits_for e transfer.now then free_descriptor periodic.now.periodic.notes (holding book.old mem.old) transfer.now.first else holding book.old mem.old) }
+    ensures freed { holding book.new mem.new ≡ freed_waiting periodic.now.periodic.notes e (holding book.old mem.old) transfer.now }
     ensures stands { Stands (holding book.new mem.new) }
 {
     if !waits_at(transfer, e) {
@@ -70,7 +70,7 @@ pub fn free_placed(
     transfers: &[Transfer],
 )
     requires { Stands (holding book.old mem.old) }
-    ensures freed { holding book.new mem.new ≡ (if is_iso endpoint.now.desc.kind then free_descriptors periodic.now.periodic.notes e (holding book.old mem.old) transfers.now else free_transfers notes.now e (free_runs (holding book.old mem.old) (endpoint.now.queue ∷ endpoint.now.dummy ∷ [])) transfers.now) }
+    ensures freed { holding book.new mem.new ≡ freed_placed notes.now periodic.now.periodic.notes e endpoint.now (holding book.old mem.old) transfers.now }
     ensures stands { Stands (holding book.new mem.new) }
 {
     if is_isochronous(endpoint.desc.kind) {

@@ -1,7 +1,7 @@
 //! The line of a descriptor.
-ghost use Rattle.std.specs.Prelude.{◌≡◌, ◌≤◌, ◌<◌, ◌+◌, ◌^◌, ◌++◌, ◌∷◌, [], take, length, vec_len, vec_capacity};
-ghost use Rattle.periodic_rows.specs.Descriptors.{told_bytes};
+ghost use Rattle.std.specs.Prelude.{◌≡◌, ◌≤◌, ◌<◌, ◌+◌, ◌^◌, ◌++◌, ◌∷◌, [], length, vec_len, vec_capacity};
 ghost use Rattle.usb_base.specs.declared.reports.What.TheVariants.{Iso};
+ghost use Rattle.driver_frames.specs.Listing.{told_in};
 
 use driver_rows::Transfer;
 use iso_queues::append_told;
@@ -22,8 +22,8 @@ pub fn report_descriptor(
     requires line { vec_len reports.old < vec_capacity reports.old }
     requires bytes { vec_len store.old + transfer.now.most ≤ vec_capacity store.old }
     requires fits { vec_len store.old + transfer.now.most < 2 ^ 32 }
-    ensures store { store.new.items ≡ store.old.items ++ take transfer.now.most (told_bytes note.now mem.now transfer.now.first) }
-    ensures line { reports.new.items ≡ reports.old.items ++ (record { name = name; what = Iso errors; from = length store.old.items; len = length (take transfer.now.most (told_bytes note.now mem.now transfer.now.first)) }) ∷ [] }
+    ensures store { store.new.items ≡ store.old.items ++ told_in note.now mem.now transfer.now }
+    ensures line { reports.new.items ≡ reports.old.items ++ (record { name = name; what = Iso errors; from = length store.old.items; len = length (told_in note.now mem.now transfer.now) }) ∷ [] }
     ensures len { vec_len reports.new ≡ vec_len reports.old + 1 }
     ensures capacity { vec_capacity reports.new ≡ vec_capacity reports.old }
     ensures store_len { vec_len store.new ≤ vec_len store.old + transfer.now.most }

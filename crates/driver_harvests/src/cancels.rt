@@ -96,7 +96,8 @@ pub fn report_cancel(
     requires bytes { vec_len store.old + owed_of e transfers.now ≤ vec_capacity store.old }
     requires fits { vec_len store.old + owed_of e transfers.now < 2 ^ 32 }
     ensures store { store.new.items ≡ store.old.items ++ cancelled_bytes notes.now mem.now e endpoint.now.queue transfers.now }
-    ensures line { reports.new.items ≡ reports.old.items ++ (record { name = endpoint.now.desc.name; what = What.Cancel; from = length store.old.items; len = length (cancelled_bytes notes.now mem.now e endpoint.now.queue transfers.now) }) ∷ [] }
+    ensures line { reports.new.items ≡ reports.old.items ++
+        (record { name = endpoint.now.desc.name; what = What.Cancel; from = length store.old.items; len = length (cancelled_bytes notes.now mem.now e endpoint.now.queue transfers.now) }) ∷ [] }
     ensures len { vec_len reports.new ≡ vec_len reports.old + 1 }
     ensures capacity { vec_capacity reports.new ≡ vec_capacity reports.old }
     ensures store_len { vec_len store.new ≤ vec_len store.old + owed_of e transfers.now }
@@ -142,7 +143,8 @@ fn append_if_waiting(
     transfer: &Transfer,
 )
     requires { vec_len store.old + (if waits_for e transfer.now then transfer.now.most else 0) ≤ vec_capacity store.old }
-    ensures items { store.new.items ≡ store.old.items ++ (if waits_for e transfer.now then take transfer.now.most (bytes_now notes.now mem.now queue transfer.now.first transfer.now.qtds transfer.now.left) else []) }
+    ensures items { store.new.items ≡ store.old.items ++
+        (if waits_for e transfer.now then take transfer.now.most (bytes_now notes.now mem.now queue transfer.now.first transfer.now.qtds transfer.now.left) else []) }
     ensures len { vec_len store.new ≤ vec_len store.old + (if waits_for e transfer.now then transfer.now.most else 0) }
     ensures capacity { vec_capacity store.new ≡ vec_capacity store.old }
 {

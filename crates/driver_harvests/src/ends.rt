@@ -25,7 +25,8 @@ pub fn report(
     requires bytes { vec_len store.old + transfer.now.most ≤ vec_capacity store.old }
     requires fits { vec_len store.old + transfer.now.most < 2 ^ 32 }
     ensures store { store.new.items ≡ store.old.items ++ take transfer.now.most (moved_bytes notes.now mem.now transfer.now.first transfer.now.qtds) }
-    ensures line { reports.new.items ≡ reports.old.items ++ (record { name = name; what = what; from = length store.old.items; len = length (take transfer.now.most (moved_bytes notes.now mem.now transfer.now.first transfer.now.qtds)) }) ∷ [] }
+    ensures line { reports.new.items ≡ reports.old.items ++
+        (record { name = name; what = what; from = length store.old.items; len = length (take transfer.now.most (moved_bytes notes.now mem.now transfer.now.first transfer.now.qtds)) }) ∷ [] }
     ensures len { vec_len reports.new ≡ vec_len reports.old + 1 }
     ensures capacity { vec_capacity reports.new ≡ vec_capacity reports.old }
     ensures store_len { vec_len store.new ≤ vec_len store.old + transfer.now.most }

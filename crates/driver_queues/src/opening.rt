@@ -54,7 +54,8 @@ fn lend_lowest(book: &mut RunBook, mem: &mut WordMem, n: u32)
     requires at_most { n ≤ 128 }
     requires none { book.old.taken ≡ [] }
     requires stands { Stands (holding book.old mem.old) }
-    ensures lent { (r : Run) → lowest_run mem.old.states n ≡ Some r → holding book.new mem.new ≡ record { book = record { slots = slice_set book.old.slots r.first (Lends r); taken = [] }; memory = with_states mem.old r Lent } }
+    ensures lent { (r : Run) → lowest_run mem.old.states n ≡ Some r →
+        holding book.new mem.new ≡ record { book = record { slots = slice_set book.old.slots r.first (Lends r); taken = [] }; memory = with_states mem.old r Lent } }
     ensures stands { Stands (holding book.new mem.new) }
 {
     match book.take(mem, n) {

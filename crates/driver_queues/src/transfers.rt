@@ -42,9 +42,12 @@ pub fn write_transfer(
     requires stands { Stands (holding book.now mem.old) }
     ensures qtds { result.qtds ≡ length (stages_of cut.now) }
     ensures dummy { result.dummy ≡ slice_index (take (length (stages_of cut.now)) (drop keep book.now.taken)) (length (stages_of cut.now) - 1) }
-    ensures notes { notes.new ≡ note_stages notes.old (stages_of cut.now) first (take (length (stages_of cut.now)) (drop keep book.now.taken)) (drop (length (stages_of cut.now)) (drop keep book.now.taken)) }
+    ensures notes { notes.new ≡ note_stages notes.old (stages_of cut.now) first
+        (take (length (stages_of cut.now)) (drop keep book.now.taken)) (drop (length (stages_of cut.now)) (drop keep book.now.taken)) }
     ensures words { result.words ≡ stage_words notes.new (first_of (stages_of cut.now)) first result.dummy (nat_eq (length (stages_of cut.now)) 1) }
-    ensures memory { mem.new ≡ send_stages book.now (store_words book.now (write_stages book.now mem.old notes.new result.dummy (drop 1 (stages_of cut.now)) (note_at notes.new first).next) result.dummy (32 * result.dummy) (qtd_words dummy_qtd)) notes.new (stages_of cut.now) first (front.now ++ bytes.now) }
+    ensures memory { mem.new ≡ send_stages book.now
+        (store_words book.now (write_stages book.now mem.old notes.new result.dummy (drop 1 (stages_of cut.now)) (note_at notes.new first).next) result.dummy (32 * result.dummy) (qtd_words dummy_qtd))
+        notes.new (stages_of cut.now) first (front.now ++ bytes.now) }
     ensures stands { Stands (holding book.now mem.new) }
 {
     let count = cut.count();

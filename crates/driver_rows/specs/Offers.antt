@@ -19,16 +19,15 @@ use Rattle.word_mem.specs.Free.{longest_run}
 use Rattle.qh_qtd.specs.Qtd.{qtd_words}
 use Rattle.qh_qtd.specs.QueueHead.{qh_words}
 use Rattle.run_book.specs.Book.{Book, Holding, holding, take_run, store, store_words}
-use Rattle.itd_sitd.specs.Itd.{itd_words}
 use Rattle.bandwidth.specs.declared.placements.Placement.{Placement}
 use Rattle.bandwidth.specs.declared.placements.Refused.{Refused}
-use Rattle.bandwidth.specs.Placements.{IsWant}
+use Rattle.bandwidth.specs.Placements.{IsWant, is_classic}
 use Rattle.bandwidth.specs.Admission.{Admissions, joined, answer}
 use Rattle.frame_chains.specs.declared.members.Member.{Member}
 use Rattle.periodic_rows.specs.declared.content.DescriptorNote.{DescriptorNote}
-use Rattle.periodic_rows.specs.Periodic.{is_periodic, want_of, itd_member, queue_member}
+use Rattle.periodic_rows.specs.Periodic.{is_periodic, want_of, descriptor_member, queue_member}
 use Rattle.periodic_rows.specs.Linking.{linking, new_link, begun_next}
-use Rattle.periodic_rows.specs.Descriptors.{slots_in, slot_bytes, is_in, new_itd, write_seeded}
+use Rattle.periodic_rows.specs.Descriptors.{slots_in, slot_bytes, slot_limit, is_in, descriptor_words, write_seeded}
 use Rattle.driver_rows.specs.declared.content.Reserve.{Reserve}
 use Rattle.driver_rows.specs.declared.content.Endpoint.{Endpoint}
 use Rattle.driver_rows.specs.declared.content.Transfer.{Transfer}
@@ -295,10 +294,11 @@ takes_put x = is_queued x.desc.kind && is_same_way x.desc.name.way ways.Out
 abbrev pub takes_control : Endpoint → Bool
 takes_control x = is_control x.desc.kind
 
--- ---- iso: descriptors of an isochronous endpoint (EHCI 1.0, 4.7)
+-- ---- iso: descriptors of an isochronous endpoint (EHCI 1.0, 4.7 and 4.12.3)
 
+-- the bytes of its buffer
 abbrev pub total_of : Slots → ℕ
-total_of s = slots_in s.smask * s.slot
+total_of s = if s.split then s.slot else slots_in s.smask * s.slot
 
 -- how many runs its buffer has
 abbrev pub slot_runs : Slots → ℕ
@@ -308,13 +308,27 @@ abbrev pub smask_of : Option Placement → ℕ
 smask_of None = 0
 smask_of (Some p) = p.smask
 
+abbrev pub cmask_of : Option Placement → ℕ
+cmask_of None = 0
+cmask_of (Some p) = p.cmask
+
+-- an endpoint that a translator serves has siTDs
 abbrev pub slots_of : Endpoint → ℕ → Slots
-slots_of x len = record { smask = smask_of x.placement; slot = slot_bytes x.desc len }
+slots_of x len = record {
+  split = is_classic x.desc.speed;
+  smask = smask_of x.placement;
+  cmask = cmask_of x.placement;
+  slot = slot_bytes x.desc len;
+}
+
+-- an iTD has sixteen words, a siTD seven
+abbrev pub descriptor_blocks : Slots → ℕ
+descriptor_blocks s = if s.split then 1 else 2
 
 -- n descriptors, each with its buffer right behind it
 abbrev pub iso_needs : Slots → ℕ → List ℕ
 iso_needs s zero = []
-iso_needs s (suc n) = 2 ∷ (buffer_needs (total_of s) ++ iso_needs s n)
+iso_needs s (suc n) = descriptor_blocks s ∷ (buffer_needs (total_of s) ++ iso_needs s n)
 
 -- what a descriptor is noted, listed and written in
 pub record Descriptors : Type 0 where
@@ -325,7 +339,9 @@ pub record Descriptors : Type 0 where
 abbrev pub descriptor_note : Slots → List ℕ → DescriptorNote
 descriptor_note s runs = record {
   frame = 0;
+  split = s.split;
   smask = s.smask;
+  cmask = s.cmask;
   slot = s.slot;
   buffer = take 6 (take (slot_runs s) runs ++ replicate 6 0);
   runs = slot_runs s;
@@ -347,7 +363,7 @@ descriptor_transfer e s b = record {
 -- the words of the descriptor in block b, and of an OUT the bytes from `seed` on
 abbrev pub written_descriptor : Book → Mem → EpDesc → DescriptorNote → ℕ → ℕ → ℕ → Mem
 written_descriptor k m x note b seed total =
-    let words = store_words k m b (32 * b) (itd_words (new_itd x note.smask note.slot note.buffer)) in
+    let words = store_words k m b (32 * b) (descriptor_words x note) in
     if is_in x.name.way then words else write_seeded k words note.buffer seed total 0 (pieces total 4)
 
 abbrev pub one_descriptor : Book → ℕ → EpDesc → Slots → ℕ → List ℕ → Descriptors → Descriptors
@@ -389,12 +405,13 @@ taken_iso d e x s n seed (Ok h) =
     (all_descriptors h.book e x.desc s n seed (new_runs d h) (record { notes = d.periodic.notes; transfers = d.transfers; memory = h.memory })))
 
 -- At most eight descriptors of an endpoint are outstanding, and they span no more than the frame list has frames for. No slot has more
--- bytes than three packets of 1,024 (USB 2.0, 5.9.2).
+-- bytes than its packets can have, and what is written of the endpoint fits its fields.
 abbrev pub spans_too_long : Endpoint → ℕ → Bool
 spans_too_long x n = nat_lt 8 n || nat_lt 8192 (n * x.desc.period)
 
 abbrev pub has_slots : Endpoint → Slots → Bool
-has_slots x s = nat_le s.slot 3072 && nat_le x.desc.max 1024 && nat_le 1 x.desc.multi && nat_le x.desc.multi 3
+has_slots x s =
+    nat_le s.slot (slot_limit s.split) && nat_le x.desc.max 1024 && nat_le 1 x.desc.multi && nat_le x.desc.multi 3 && nat_le x.desc.port 127
 
 abbrev pub open_iso : DriverContent → Mem → ℕ → Endpoint → Slots → ℕ → ℕ → Option EndCause → Result Offered OfferError
 open_iso d m e x s n seed (Some cause) = Err (errors.Closed cause)
@@ -425,7 +442,7 @@ accepted_cancel d e x =
 -- The queue head of an interrupt endpoint leaves its frames; of an isochronous endpoint each outstanding descriptor leaves its frame, the
 -- oldest first.
 abbrev pub outstanding_members : DriverContent → ℕ → List Member
-outstanding_members d e = map (λ (t : Transfer). itd_member d.periodic.notes t.first) (filter (waits_for e) d.transfers)
+outstanding_members d e = map (λ (t : Transfer). descriptor_member d.periodic.notes t.first) (filter (waits_for e) d.transfers)
 
 abbrev pub endpoint_members : DriverContent → ℕ → Endpoint → Placement → List Member
 endpoint_members d e x p = if is_iso x.desc.kind then outstanding_members d e else queue_member x.queue p ∷ []

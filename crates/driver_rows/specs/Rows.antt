@@ -28,7 +28,7 @@ use Rattle.periodic_rows.specs.declared.content.Removed.{Removed}
 use Rattle.periodic_rows.specs.declared.content.Removed.TheVariants as removed
 use Rattle.periodic_list.specs.declared.work.Store.{Store}
 use Rattle.periodic_list.specs.Periodic.{Periodic, next_store, after_store}
-use Rattle.periodic_rows.specs.Periodic.{PeriodicContent, itd_member, read_again, note_at as periodic_note}
+use Rattle.periodic_rows.specs.Periodic.{PeriodicContent, descriptor_member, read_again, note_at as periodic_note}
 use Rattle.periodic_rows.specs.Linking.{unlinking, new_link, begun_next}
 use Rattle.periodic_rows.specs.Frames.{first_frame, frames_from}
 use Rattle.periodic_rows.specs.Descriptors.{is_served, errors_in, told_bytes}
@@ -159,9 +159,13 @@ first_of_two None later = later
 abbrev pub next_worker : DriverContent → Option ℕ
 next_worker d = first_of_two (worker_from d.endpoints d.place) (worker_from d.endpoints 0)
 
+-- the slots of a descriptor
+abbrev pub descriptor_found : DescriptorNote → Mem → ℕ → Found
+descriptor_found note m b = if is_served note m b then founds.Served (errors_in note m b) else founds.Active
+
 -- one token of a transfer with qTDs, the slots of a descriptor
 abbrev pub found_of : DriverContent → Mem → Transfer → Sort → Found
-found_of d m x sorts.Descriptor = if is_served m x.first then founds.Served (errors_in m x.first) else founds.Active
+found_of d m x sorts.Descriptor = descriptor_found (periodic_note d.periodic.notes x.first) m x.first
 found_of d m x sort = found_in sort (nat_le x.left 1) (note_at d.notes x.place) (token_in m x.place)
 
 abbrev pub reading_row : DriverContent → Mem → ℕ → ℕ → Option Transfer → Option Row
@@ -274,7 +278,7 @@ with_notes d n ts notes =
     record d {
       periodic = record d.periodic {
         notes = notes;
-        queued = map (λ t. itd_member notes t.first) ts;
+        queued = map (λ t. descriptor_member notes t.first) ts;
         removals = read_again n d.periodic.removals;
       };
     }
@@ -291,7 +295,7 @@ framed_by d n _ = d
 unfoldable pub linked_descriptors : Book → Periodic → List DescriptorNote → List Transfer → Mem → Mem
 linked_descriptors k list notes [] m = m
 linked_descriptors k list notes (t ∷ ts) m =
-    linked_descriptors k list notes ts (store k m t.first (32 * t.first) (new_link list (itd_member notes t.first)))
+    linked_descriptors k list notes ts (store k m t.first (32 * t.first) (new_link list (descriptor_member notes t.first)))
 
 abbrev pub linked_by : DriverContent → Mem → Option Command → Mem
 linked_by d m (Some (unfinished.Iso e t count)) = linked_descriptors d.book d.periodic.list d.periodic.notes (take count (drop t d.transfers)) m
@@ -394,7 +398,7 @@ stored_link k m (Some s) = store k m s.block s.at s.value
 
 -- with the unlinking of the transfer's descriptor begun
 abbrev pub descriptor_leaving : DriverContent → Transfer → Periodic
-descriptor_leaving d x = unlinking d.periodic.list (itd_member d.periodic.notes x.first)
+descriptor_leaving d x = unlinking d.periodic.list (descriptor_member d.periodic.notes x.first)
 
 -- A descriptor has one word before it, so one store unlinks it.
 abbrev pub after_unlink : Parts → ℕ → Option Transfer → Parts

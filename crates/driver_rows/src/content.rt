@@ -48,7 +48,7 @@ pub enum Sort {
     Put,
     /// A request to a control endpoint (USB 2.0, 8.5.3).
     Request,
-    /// A descriptor of an isochronous endpoint (EHCI 1.0, 3.3): it has no qTD.
+    /// A descriptor of an isochronous endpoint (EHCI 1.0, 3.3 and 3.4): it has no qTD.
     Descriptor,
 }
 
@@ -162,8 +162,12 @@ pub struct Stage {
 /// What is the same of each descriptor of a command.
 #[derive(Clone, Copy, Debug, PartialEq, Eq)]
 pub struct Slots {
-    /// The microframes of its slots, microframe 0 in bit 0.
+    /// The endpoint is behind a hub's translator: its descriptors are siTDs (EHCI 1.0, 3.4), and otherwise iTDs (3.3).
+    pub split: bool,
+    /// The microframes of its slots, of a siTD those of its start-splits; microframe 0 in bit 0.
     pub smask: u8,
-    /// The bytes of each slot.
+    /// The microframes of its complete-splits.
+    pub cmask: u8,
+    /// The bytes of each slot; a siTD has one slot.
     pub slot: u16,
 }

@@ -30,7 +30,7 @@ pub enum Found {
     Moved(u16),
     /// This many bytes were moved, and its transfer ends so.
     Ended(u16, What),
-    /// No slot of the isochronous descriptor is active any more, and this number of them has an error bit.
+    /// No slot of the isochronous descriptor is active any more, and this number of them has an error bit; a siTD is one slot.
     Served(u8),
 }
 

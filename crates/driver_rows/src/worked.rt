@@ -5,6 +5,7 @@ ghost use Rattle.qh_qtd.specs.QueueHead.{qh_words};
 ghost use Rattle.driver_rows.specs.Words.{opening_head, dummy_qtd, queue_head, new_qtd, in_stage, cut, get_stages, request_stages, setup_stage, data_stage, status_stage, needs, buffer_needs};
 ghost use Rattle.driver_rows.specs.Harvests.{halt_of, moved_of, found_in};
 ghost use Rattle.driver_rows.specs.Rows.{events_of, step_of};
+ghost use Rattle.driver_rows.specs.Offers.{iso_needs, total_of};
 ghost use Rattle.driver_rows.specs.Opening.{opening_registers};
 
 /// The words of the head, of a new bulk queue head, of a dummy, and of a qTD with a buffer of two pages.
@@ -38,4 +39,13 @@ pub fn bytes_counted()
     ensures short { moved_of 512 100 ≡ 412 }
     ensures none { moved_of 512 512 ≡ 0 }
     ensures wild { moved_of 512 513 ≡ 0 }
+{}
+
+/// The runs of two iTDs of three slots with 1,003 bytes each, and of two siTDs of 400 bytes, which are sent in three microframes.
+#[tactic(auto, unfolding(periodic_rows::specs::Descriptors::slots_before))]
+pub fn descriptors_taken()
+    ensures slots { iso_needs (record { split = false; smask = 0x49; cmask = 0; slot = 1003 }) 2 ≡ 2 ∷ 95 ∷ 2 ∷ 95 ∷ [] }
+    ensures split { iso_needs (record { split = true; smask = 7; cmask = 0; slot = 400 }) 2 ≡ 1 ∷ 13 ∷ 1 ∷ 13 ∷ [] }
+    ensures empty { iso_needs (record { split = true; smask = 7; cmask = 0; slot = 0 }) 1 ≡ 1 ∷ [] }
+    ensures whole { total_of (record { split = true; smask = 7; cmask = 0; slot = 400 }) ≡ 400 }
 {}

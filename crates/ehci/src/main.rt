@@ -14,7 +14,8 @@ use std::rt::Env;
 use std::{env, io};
 use usb_base::{Sink, Source};
 
-const USAGE: &str = "usage: ehci run|image|check < SCRIPT, or ehci dump|check < IMAGE";
+const USAGE: &str =
+    "usage: ehci run|image|check < SCRIPT, ehci dump|check < IMAGE, or ehci load NUMBER";
 
 const HELP: &str = "\
 ehci: a verified high-speed USB host
@@ -23,6 +24,7 @@ ehci: a verified high-speed USB host
   ehci image < SCRIPT  runs a script and writes the image of memory afterwards
   ehci check < INPUT   says that a script or an image is one, or what is wrong with it first
   ehci dump < IMAGE    prints the frames, the ring and the queues of a memory image
+  ehci load NUMBER     runs a script of forty endpoints, drawn from a number up to 999999, and prints what it counts
   ehci --help          prints this text
   ehci --version       prints the version
 

@@ -1,22 +1,74 @@
 -- The answer of the form that the words have is that of the program.
 use Rattle.std.proofs.Common.{◌≡◌, ◌≢◌, ℕ, List, Option, Some, None, IfSome, refl, subst, ◌∙◌}
-use Rattle.ehci_cli.specs.Form.{words_of}
+use Rattle.program_ends.specs.Ends.{IsLeft}
 use Rattle.program_ends.specs.Input.{input_of}
-use Rattle.ehci_cli.specs.Output.{IsAnswer, IsProgram}
+use Rattle.ehci_cli.specs.Form.{AreWordsOf}
+use Rattle.ehci_cli.specs.Output.{IsAnswer, IsLoad, IsProgram, LeavesAs, Leaves}
+use Rattle.ehci_cli.proofs.Words.{loads_once}
 use Rattle.ehci_cli.specs.declared.form.Form.{Form}
+use Rattle.ehci_cli.specs.declared.form.Form.TheVariants.{Run, Image, Check, Dump, Load}
 use Rattle.program_ends.specs.declared.status.Status.{Status}
 use Rattle.program_ends.specs.declared.status.Status.TheVariants.{Ok, Words, Refused, ReadFault, WriteFault, Memory}
 
-pub program_of : (words : List (List ℕ)) (form : Form) (status : Status) (items : List ℕ) (old new : Option (List ℕ)) → words ≡ words_of form → status ≢ Words → IsAnswer form status items old new → IsProgram words status items old new
-program_of words form Ok items old new same other answer = (form, same, answer)
-program_of words form Refused items old new same other answer = (form, same, answer)
-program_of words form WriteFault items old new same other answer = (form, same, answer)
-program_of words form ReadFault items old new same other answer = (form, same, answer)
-program_of words form Memory items old new same other answer = (form, same, answer)
-program_of words form Words items old new same other answer = absurd (other refl)
+pub program_of : (words : List (List ℕ)) (form : Form) (status : Status) (items : List ℕ) (old new : Option (List ℕ)) → AreWordsOf words form → status ≢ Words → IsAnswer form status items old new → IsProgram words status items old new
+program_of words form Ok items old new are other answer = (form, are, answer)
+program_of words form Refused items old new are other answer = (form, are, answer)
+program_of words form WriteFault items old new are other answer = (form, are, answer)
+program_of words form ReadFault items old new are other answer = (form, are, answer)
+program_of words form Memory items old new are other answer = (form, are, answer)
+program_of words form Words items old new are other answer = absurd (other refl)
+
+-- whatever the source had
+pub program_of_any : (left : Option (List ℕ)) (words : List (List ℕ)) (form : Form) (status : Status) (old new : Option (List ℕ)) → AreWordsOf words form → status ≢ Words
+    → ((input : List ℕ) → IsAnswer form status input old new) → IfSome left (λ xs. IsProgram words status (input_of xs) old new)
+program_of_any None words form status old new are other answer = tt
+program_of_any (Some xs) words form status old new are other answer = program_of words form status (input_of xs) old new are other (answer (input_of xs))
+
+pub program_of_source : (left : Option (List ℕ)) (words : List (List ℕ)) (form : Form) (status : Status) (old new : Option (List ℕ)) → AreWordsOf words form → status ≢ Words
+    → IfSome left (λ xs. IsAnswer form status (input_of xs) old new) → IfSome left (λ xs. IsProgram words status (input_of xs) old new)
+program_of_source None words form status old new are other answer = tt
+program_of_source (Some xs) words form status old new are other answer = program_of words form status (input_of xs) old new are other answer
 
 -- `view` is the slice of the bytes that were read
-pub program_of_source : (left : Option (List ℕ)) (view items : List ℕ) (form : Form) (status : Status) (words : List (List ℕ)) (old new : Option (List ℕ)) → IfSome left (λ xs. items ≡ input_of xs) → view ≡ items → words ≡ words_of form → status ≢ Words → IsAnswer form status view old new → IfSome left (λ xs. IsProgram words status (input_of xs) old new)
-program_of_source None view items form status words old new read whole same other answer = tt
-program_of_source (Some xs) view items form status words old new read whole same other answer =
-    program_of words form status (input_of xs) old new same other (subst (λ v. IsAnswer form status v old new) (whole ∙ read) answer)
+pub answer_of_source : (left : Option (List ℕ)) (view items : List ℕ) (form : Form) (status : Status) (old new : Option (List ℕ)) → IfSome left (λ xs. items ≡ input_of xs) → view ≡ items
+    → IsAnswer form status view old new → IfSome left (λ xs. IsAnswer form status (input_of xs) old new)
+answer_of_source None view items form status old new read whole answer = tt
+answer_of_source (Some xs) view items form status old new read whole answer = subst (λ v. IsAnswer form status v old new) (whole ∙ read) answer
+
+-- ---- what is left
+
+pub leaves_of : (words : List (List ℕ)) (form : Form) (status : Status) (xs : List ℕ) (after : Option (List ℕ)) → AreWordsOf words form → status ≢ Words → LeavesAs form status xs after → Leaves words status xs after
+leaves_of words form Ok xs after are other left = (form, are, left)
+leaves_of words form Refused xs after are other left = (form, are, left)
+leaves_of words form WriteFault xs after are other left = (form, are, left)
+leaves_of words form ReadFault xs after are other left = (form, are, left)
+leaves_of words form Memory xs after are other left = (form, are, left)
+leaves_of words form Words xs after are other left = absurd (other refl)
+
+-- a form that reads
+pub read_leaves : (form : Form) (status : Status) (xs : List ℕ) (after : Option (List ℕ)) → ((n : ℕ) → form ≢ Load n) → IsLeft status xs after → LeavesAs form status xs after
+read_leaves Run status xs after reads left = left
+read_leaves Image status xs after reads left = left
+read_leaves Check status xs after reads left = left
+read_leaves Dump status xs after reads left = left
+read_leaves (Load n) status xs after reads left = absurd (reads n refl)
+
+pub reading_leaves : (before after : Option (List ℕ)) (form : Form) (status : Status) → ((n : ℕ) → form ≢ Load n) → IfSome before (λ xs. IsLeft status xs after) → IfSome before (λ xs. LeavesAs form status xs after)
+reading_leaves None after form status reads left = tt
+reading_leaves (Some xs) after form status reads left = read_leaves form status xs after reads left
+
+pub leaves_of_source : (before after : Option (List ℕ)) (words : List (List ℕ)) (form : Form) (status : Status) → AreWordsOf words form → status ≢ Words → IfSome before (λ xs. LeavesAs form status xs after)
+    → IfSome before (λ xs. Leaves words status xs after)
+leaves_of_source None after words form status are other left = tt
+leaves_of_source (Some xs) after words form status are other left = leaves_of words form status xs after are other left
+
+-- `load` leaves all
+pub leaves_all : (before : Option (List ℕ)) (words : List (List ℕ)) (n : ℕ) (status : Status) → AreWordsOf words (Load n) → status ≢ Words → IfSome before (λ xs. Leaves words status xs before)
+leaves_all None words n status are other = tt
+leaves_all (Some xs) words n status are other = leaves_of words (Load n) status xs (Some xs) are other refl
+
+-- ---- the form `load`
+
+-- what it answers to every input is what the program answers to its words
+pub load_of : (words : List (List ℕ)) (m : ℕ) (status : Status) (old new : Option (List ℕ)) → AreWordsOf words (Load m) → ((input : List ℕ) → IsAnswer (Load m) status input old new) → IsLoad words status old new
+load_of words m status old new are answer = λ n input other. subst (λ k. IsAnswer (Load k) status input old new) (loads_once words m n are other) (answer input)

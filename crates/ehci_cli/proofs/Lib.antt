@@ -1,3 +1,5 @@
+pub mod Admitted
 pub mod Answered
 pub mod Checked
 pub mod Runs
+pub mod Words

@@ -1,6 +1,8 @@
 -- What the program writes: for each form and input, how it ends and which bytes it writes.
 --     Gives form input status bytes        the whole output: an end with its bytes
 --     IsAnswer form status input old new   how what is written follows from how the program ended
+--     IsProgram words status ..            the same by the words
+--     Leaves words status xs after         what is left of a source that had xs
 use Rattle.std.specs.Prelude.{◌≡◌, ℕ, Bool, true, false, List, [], ◌∷◌, Option, None, Some, is_none, codes}
 use Rattle.std.specs.Io.KnownBytes.{Appends, Keeps}
 use Rattle.usb_base.specs.Outside.{AppendsPrefix}
@@ -12,13 +14,16 @@ use Rattle.bus_world.specs.World.{Standing}
 use Rattle.bus_world.specs.Opening.{opening_standing}
 use Rattle.bus_world.specs.Orders.{IsRun, orders_of}
 use Rattle.bus_world.specs.Closing.{world_text, world_image}
+use Rattle.load_script.specs.Load.{load_text}
+use Rattle.load_summary.specs.Summary.{summary_of, summary_line}
 use Rattle.image_codec.specs.Image.{image_bytes, image_fault, image_of}
 use Rattle.image_codec.specs.Shown.{shown}
 use Rattle.image_codec.specs.Text.{refusal_line}
 use Rattle.image_codec.specs.declared.image.Refusal.{Refusal}
-use Rattle.ehci_cli.specs.Form.{words_of}
+use Rattle.ehci_cli.specs.Form.{AreWordsOf}
 use Rattle.ehci_cli.specs.declared.form.Form.{Form}
-use Rattle.ehci_cli.specs.declared.form.Form.TheVariants.{Run, Image, Check, Dump}
+use Rattle.ehci_cli.specs.declared.form.Form.TheVariants.{Run, Image, Check, Dump, Load}
+use Rattle.program_ends.specs.Ends.{IsLeft}
 use Rattle.program_ends.specs.declared.status.Status.{Status}
 use Rattle.program_ends.specs.declared.status.Status.TheVariants.{Ok, Words, Refused, ReadFault, WriteFault, Memory}
 
@@ -46,6 +51,12 @@ pub record GivesImage (input bytes : List ℕ) : Type 0 where
   pub world : Standing
   pub ran : RunOf input world
   pub told : bytes ≡ image_bytes (world_image world.world)
+
+-- The bytes are the line of what the report counts after the run of the load script of n.
+pub record SummarizesLoad (n : ℕ) (bytes : List ℕ) : Type 0 where
+  pub world : Standing
+  pub ran : RunOf (load_text n) world
+  pub told : bytes ≡ summary_line n (summary_of world.fixed world.world)
 
 -- The input spells no script, and the line names its first fault.
 pub record RefusesScript (input bytes : List ℕ) : Type 0 where
@@ -88,7 +99,7 @@ pub record Checks (input : List ℕ) (sound : Bool) (bytes : List ℕ) : Type 0 
 
 -- ---- the program
 
--- the whole output of a form on an input: an end with its bytes
+-- the whole output of a form on an input: an end with its bytes; `load` has the same on every input
 abbrev pub Gives : Form → List ℕ → Status → List ℕ → Type 0
 Gives Run input Ok bytes = ReportsRun input bytes
 Gives Run input Refused bytes = RefusesScript input bytes
@@ -98,6 +109,8 @@ Gives Check input Ok bytes = Checks input true bytes
 Gives Check input Refused bytes = Checks input false bytes
 Gives Dump input Ok bytes = ShowsImage input bytes
 Gives Dump input Refused bytes = RefusesImage input bytes
+Gives (Load n) input Ok bytes = SummarizesLoad n bytes
+Gives (Load n) input Refused bytes = RefusesScript (load_text n) bytes
 Gives form input Words bytes = ⊥
 Gives form input ReadFault bytes = ⊥
 Gives form input WriteFault bytes = ⊥
@@ -120,4 +133,19 @@ IsAnswer form Words input old new = Keeps old new
 -- The answer of the program to these words: that of the form that they have.
 abbrev pub IsProgram : List (List ℕ) → Status → List ℕ → Option (List ℕ) → Option (List ℕ) → Type 0
 IsProgram words Words input old new = Keeps old new
-IsProgram words status input old new = (form : Form) × (words ≡ words_of form) × IsAnswer form status input old new
+IsProgram words status input old new = (form : Form) × AreWordsOf words form × IsAnswer form status input old new
+
+-- The answer of the program to the words of `load`, whatever is known of what it could read.
+abbrev pub IsLoad : List (List ℕ) → Status → Option (List ℕ) → Option (List ℕ) → Type 0
+IsLoad words status old new = (n : ℕ) (input : List ℕ) → AreWordsOf words (Load n) → IsAnswer (Load n) status input old new
+
+-- ---- what is left of a source that had xs
+
+-- `load` reads nothing
+abbrev pub LeavesAs : Form → Status → List ℕ → Option (List ℕ) → Type 0
+LeavesAs (Load n) status xs after = after ≡ Some xs
+LeavesAs form status xs after = IsLeft status xs after
+
+abbrev pub Leaves : List (List ℕ) → Status → List ℕ → Option (List ℕ) → Type 0
+Leaves words Words xs after = after ≡ Some xs
+Leaves words status xs after = (form : Form) × AreWordsOf words form × LeavesAs form status xs after

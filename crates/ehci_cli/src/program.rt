@@ -1,12 +1,16 @@
-ghost use Rattle.std.specs.Prelude.{◌≡◌, ◌≢◌, ◌≤◌, ◌↔◌, map, string_bytes, IfSome};
-ghost use Rattle.program_ends.specs.Ends.{IsFault, IsLeft, IsWriteFault, WritesNothing};
+ghost use Rattle.std.specs.Prelude.{◌≡◌, ◌≢◌, ℕ, ◌≤◌, ◌↔◌, map, string_bytes, IfSome};
+ghost use Rattle.script_types.specs.declared.scripts.Script.{Script};
+ghost use Rattle.script_text.specs.Faults.{Spells};
+ghost use Rattle.bus_world.specs.Budgets.{AdmitsThroughout};
+ghost use Rattle.program_ends.specs.Ends.{IsFault, IsWriteFault, WritesNothing};
 ghost use Rattle.program_ends.specs.Input.{input_of};
-ghost use Rattle.ehci_cli.specs.Form.{AreNoForm};
-ghost use Rattle.ehci_cli.specs.Output.{IsAnswer, IsProgram};
+ghost use Rattle.ehci_cli.specs.Form.{AreWordsOf, AreNoForm};
+ghost use Rattle.ehci_cli.specs.Output.{IsAnswer, IsLoad, IsProgram, LeavesAs, Leaves};
 
 use crate::checking::check;
 use crate::dumping::dump;
 use crate::form::{Form, form_of};
+use crate::loading::load;
 use crate::running::{image, run};
 use program_ends::{Status, Unread, read_input};
 use std::alloc::Global;
@@ -14,7 +18,8 @@ use usb_base::{Sink, Source};
 
 /// The program on these words (without its own name), which reads from the source and writes to the sink.
 ///
-/// It reads all that the source has, or its first 1,048,601 bytes, and writes only once all of the input was read.
+/// It reads all that the source has, or its first 1,048,601 bytes, and writes only once all of the input was read; for `load`
+/// it reads nothing.
 ///
 /// - `Words` exactly where the words have none of the forms; nothing is read or written.
 /// - `ReadFault` exactly where a read failed, which is the last one: the source's count of faults rose by one. Nothing is
@@ -23,6 +28,10 @@ use usb_base::{Sink, Source};
 /// - `WriteFault` exactly where a write failed, which is the last one: the sink's count of faults rose by one. A front part of
 ///   the output is written.
 /// - `Memory` only before the first write.
+///
+/// Where the input spells a script, at each moment of its run all placed endpoints keep the budgets of bus time, and the open of a periodic
+/// endpoint is refused for want of a placement exactly where no allowed one fits beside them.
+#[tactic(auto, using(crate::proofs::Admitted::source_admits))]
 pub fn ehci<S: Source, K: Sink>(
     alloc: Global,
     words: &[String],
@@ -31,16 +40,37 @@ pub fn ehci<S: Source, K: Sink>(
 ) -> Status
     ensures words { (result ≡ Status.Words) ↔ AreNoForm (map string_bytes words.now) }
     ensures untouched { result ≡ Status.Words → (source.new ≡ source.old) × (sink.new ≡ sink.old) }
+    ensures unread { (n : ℕ) → AreWordsOf (map string_bytes words.now) (Form.Load n) → source.new ≡ source.old }
+    ensures load { IsLoad (map string_bytes words.now) result (K.written sink.old) (K.written sink.new) }
     ensures output { IfSome (S.left source.old) (λ xs. IsProgram (map string_bytes words.now) result (input_of xs) (K.written sink.old) (K.written sink.new)) }
-    ensures left { IfSome (S.left source.old) (λ xs. IsLeft result xs (S.left source.new)) }
+    ensures budgets { IfSome (S.left source.old) (λ xs. (s : Script) → Spells (input_of xs) s → AdmitsThroughout s) }
+    ensures left { IfSome (S.left source.old) (λ xs. Leaves (map string_bytes words.now) result xs (S.left source.new)) }
     ensures nothing { WritesNothing result → sink.new ≡ sink.old }
     ensures read { IsFault result (S.faults source.old) (S.faults source.new) }
     ensures write { IsWriteFault result (K.faults sink.old) (K.faults sink.new) }
 {
-    let form = match form_of(words) {
-        Some(form) => form,
-        None => return Status::Words,
-    };
+    match form_of(words) {
+        None => Status::Words,
+        Some(Form::Load(n)) => load(alloc, n, sink),
+        Some(form) => read_and_answer(alloc, form, source, sink),
+    }
+}
+
+/// The answer of a form that reads to all that the source has, or to its first 1,048,601 bytes.
+fn read_and_answer<S: Source, K: Sink>(
+    alloc: Global,
+    form: Form,
+    source: &mut S,
+    sink: &mut K,
+) -> Status
+    requires { (n : ℕ) → form ≢ Form.Load n }
+    ensures answer { IfSome (S.left source.old) (λ xs. IsAnswer form result (input_of xs) (K.written sink.old) (K.written sink.new)) }
+    ensures left { IfSome (S.left source.old) (λ xs. LeavesAs form result xs (S.left source.new)) }
+    ensures end { result ≢ Status.Words }
+    ensures nothing { WritesNothing result → sink.new ≡ sink.old }
+    ensures read { IsFault result (S.faults source.old) (S.faults source.new) }
+    ensures write { IsWriteFault result (K.faults sink.old) (K.faults sink.new) }
+{
     let input = match read_input(alloc, source) {
         Ok(input) => input,
         Err(Unread::Fault) => return Status::ReadFault,
@@ -61,5 +91,6 @@ fn answer<K: Sink>(alloc: Global, form: Form, input: &[u8], sink: &mut K) -> Sta
         Form::Image => image(alloc, input, sink),
         Form::Check => check(alloc, input, sink),
         Form::Dump => dump(alloc, input, sink),
+        Form::Load(n) => load(alloc, n, sink),
     }
 }

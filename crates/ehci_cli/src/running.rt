@@ -17,7 +17,7 @@ use std::alloc::Global;
 use usb_base::{Memory, Sink};
 
 /// The world of a script after its action lines.
-fn world_of(alloc: Global, script: &Script) -> Result<World, Memory>
+pub(crate) fn world_of(alloc: Global, script: &Script) -> Result<World, Memory>
     requires { IsFit script.now }
     ensures { IfOk result (λ w. IsRunOf script.now w) }
 {

@@ -25,7 +25,21 @@ pub fn program(
     reads: &[u32],
     writes: &[u32],
 ) -> Result<(Status, Vec<u8>), Fail> {
-    let words = one_word(alloc, word)?;
+    program_of(alloc, &[word], input, reads, writes)
+}
+
+/// The same on some words.
+pub fn program_of(
+    alloc: Global,
+    all: &[&str],
+    input: &[u8],
+    reads: &[u32],
+    writes: &[u32],
+) -> Result<(Status, Vec<u8>), Fail> {
+    let mut words = Vec::new(alloc);
+    for word in all {
+        words.push(String::from_str(alloc, word)?)?;
+    }
     let mut source = MemSource::build(alloc, input, reads)?;
     let mut sink = MemSink::build(alloc, 65536, writes)?;
     let status = ehci(alloc, words.as_slice(), &mut source, &mut sink);

@@ -1,12 +1,12 @@
 -- What stands once the cancel of a periodic endpoint was accepted, or a descriptor was told.
-use Rattle.std.proofs.Common.{◌≡◌, ℕ, ◌-◌, true, cond, List, [], ◌∷◌, ◌++◌, length, take, map, filter, set, Some, ap, sym, ◌∙◌}
+use Rattle.std.proofs.Common.{◌≡◌, ℕ, ◌-◌, true, cond, List, [], ◌∷◌, ◌++◌, length, take, map, filter, set, Some, ap, ◌∙◌}
 use Rattle.usb_base.specs.declared.reports.Report.{Report}
 use Rattle.usb_base.specs.declared.reports.What.TheVariants as lines
 use Rattle.word_mem.specs.Memory.{Mem}
 use Rattle.bandwidth.specs.declared.placements.Placement.{Placement}
 use Rattle.frame_chains.specs.declared.members.Member.{Member}
 use Rattle.periodic_part.specs.Part.{Held, with_periodic, with_queued}
-use Rattle.periodic_rows.specs.Periodic.{PeriodicContent, note_at, itd_member, queue_member}
+use Rattle.periodic_rows.specs.Periodic.{PeriodicContent, note_at, descriptor_member, queue_member}
 use Rattle.periodic_rows.specs.Linking.{begun_next}
 use Rattle.periodic_rows.specs.Descriptors.{told_bytes}
 use Rattle.driver_rows.specs.declared.content.Endpoint.{Endpoint}
@@ -37,7 +37,7 @@ served_made v d m e t x y errors told bytes xs ts q same b l es us part =
 -- ---- the members that leave
 
 abbrev pub members_at : PeriodicContent → List Transfer → ℕ → Endpoint → Placement → List Member
-members_at q ts e x p = cond (is_iso x.desc.kind) (map (λ (t : Transfer). itd_member q.notes t.first) (filter (waits_for e) ts)) (queue_member x.queue p ∷ [])
+members_at q ts e x p = cond (is_iso x.desc.kind) (map (λ (t : Transfer). descriptor_member q.notes t.first) (filter (waits_for e) ts)) (queue_member x.queue p ∷ [])
 
 pub unchained_part : (h g k : Held) (ts us : List Transfer) (e : ℕ) (x : Endpoint) (p : Placement) → g ≡ with_queued h (members_at h.periodic ts e x p) → k ≡ with_periodic g (begun_next true g.periodic) → ts ≡ us → k.periodic ≡ begun_next true (record h.periodic { queued = members_at h.periodic us e x p })
 unchained_part h g k ts us e x p one two same =

@@ -1,5 +1,5 @@
 -- There is still room for what is owed once descriptors were accepted.
-use Rattle.std.proofs.Common.{◌≡◌, ℕ, zero, suc, ◌+◌, ◌-◌, ◌*◌, ◌≤◌, ◌%◌, cond, List, [], ◌∷◌, ◌++◌, length, drop, set, slice_get, Some, sum_by, arith, ap, sym, ◌∙◌, refl}
+use Rattle.std.proofs.Common.{◌≡◌, ℕ, zero, suc, ◌+◌, ◌-◌, ◌*◌, ◌≤◌, ◌%◌, cond, List, [], ◌∷◌, ◌++◌, length, drop, set, slice_get, Some, arith, ap}
 use Rattle.std.proofs.Math.Nat.{suc-mul}
 use Rattle.std.proofs.lemmas.List.{length-set, length_push}
 use Rattle.std.proofs.lemmas.List.Sums.{sum_by_push}
@@ -11,7 +11,7 @@ use Rattle.driver_rows.specs.declared.content.Transfer.{Transfer}
 use Rattle.driver_rows.specs.declared.content.Reserve.{Reserve}
 use Rattle.driver_rows.specs.declared.content.Slots.{Slots}
 use Rattle.driver_rows.specs.Offers.{Descriptors, all_descriptors, one_descriptor, descriptor_transfer, slot_runs, total_of, with_descriptors}
-use Rattle.ehci_driver.specs.Rooms.{HasRooms, HasFrameRooms, unreported, owed_bytes, owed_cancels, linked, chained}
+use Rattle.ehci_driver.specs.Rooms.{HasRooms, HasFrameRooms, unreported, owed_bytes}
 use Rattle.ehci_driver.proofs.Counts.{kept_linked, kept_cancels}
 use Rattle.ehci_driver.proofs.Placed.{kept_chained, before_same, frames_written}
 

@@ -1,5 +1,5 @@
 -- The event that the content tells can be made.
-use Rattle.std.proofs.Common.{◌≡◌, ℕ, zero, suc, ◌≤◌, Bool, true, false, ◌&&◌, cond, List, [], ◌∷◌, length, nat_le, nat_lt, slice_get, Option, Some, None, option_map, option_and_then, unwrap_or, arith}
+use Rattle.std.proofs.Common.{ℕ, zero, suc, ◌≤◌, Bool, true, false, ◌&&◌, cond, List, [], ◌∷◌, length, nat_le, nat_lt, slice_get, Option, Some, None, option_map, option_and_then, unwrap_or, arith}
 use Rattle.std.specs.List.{AllByRecursion}
 use Rattle.word_mem.specs.Memory.{Mem}
 use Rattle.op_registers.specs.RegisterFile.{RegisterFile}

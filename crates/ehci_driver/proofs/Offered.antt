@@ -16,7 +16,7 @@ use Rattle.driver_rows.specs.declared.content.Command.TheVariants as unfinished
 use Rattle.driver_rows.specs.DriverContent.{DriverContent, endpoint_of, endpoint_named}
 use Rattle.driver_rows.specs.Harvests.{note_at}
 use Rattle.driver_rows.specs.Words.{needs, dummy_qtd}
-use Rattle.driver_rows.specs.Offers.{Offered, Asked, take_runs, offered_open, planned_open, cancelled_by, taken_open, accepted_open, offered_transfer, found_transfer, open_transfer, taken_transfer, accepted_transfer, with_queued, with_transfer, stage_words, note_stages, write_stages, send_stages, first_of, offered_cancel, accepted_cancel}
+use Rattle.driver_rows.specs.Offers.{Offered, Asked, take_runs, offered_open, planned_open, cancelled_by, taken_open, accepted_open, offered_transfer, found_transfer, open_transfer, taken_transfer, accepted_transfer, with_queued, with_transfer, stage_words, note_stages, write_stages, send_stages, first_of, offered_cancel}
 
 -- ---- which endpoint
 

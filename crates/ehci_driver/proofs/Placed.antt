@@ -1,9 +1,8 @@
 -- There is still room in the frame list's part for what is owed, as one transfer or endpoint changes.
-use Rattle.std.proofs.Common.{◌≡◌, ℕ, ◌+◌, ◌-◌, ◌≤◌, ◌<◌, Bool, true, false, cond, List, [], ◌∷◌, ◌++◌, length, set, map, filter, take, drop, zero, suc, is_none, nat_eq, not, ◌||◌, slice_get, Some, sum_by, arith, ap, sym, subst, ◌∙◌, refl}
+use Rattle.std.proofs.Common.{◌≡◌, ℕ, ◌+◌, ◌-◌, ◌≤◌, ◌<◌, Bool, true, false, cond, List, [], ◌∷◌, ◌++◌, length, set, map, filter, take, drop, zero, suc, is_none, nat_eq, not, ◌||◌, slice_get, Some, arith, ap, sym, subst, ◌∙◌, refl}
 use Rattle.std.proofs.lemmas.Bool.{ne_eqb}
 use Rattle.std.proofs.lemmas.List.{length-set, length_push}
 use Rattle.std.proofs.lemmas.List.Sums.{sum_by_push}
-use Rattle.std.specs.List.{AllByRecursion}
 use Rattle.bandwidth.specs.declared.placements.Placed.{Placed}
 use Rattle.std.specs.List.{list_any}
 use Rattle.bandwidth.specs.Admission.{Admissions, without}

@@ -1,5 +1,5 @@
 -- There is still room for what is owed once an endpoint got its place in the frame list.
-use Rattle.std.proofs.Common.{◌≡◌, ℕ, ◌-◌, ◌≤◌, Bool, true, false, cond, List, [], ◌∷◌, ◌++◌, length, refl, arith, sym, subst}
+use Rattle.std.proofs.Common.{◌≡◌, ℕ, ◌-◌, ◌≤◌, Bool, true, false, cond, List, [], ◌∷◌, ◌++◌, length, refl, sym, subst}
 use Rattle.usb_base.specs.declared.endpoints.EpDesc.{EpDesc}
 use Rattle.bandwidth.specs.declared.placements.Placed.{Placed}
 use Rattle.periodic_rows.specs.Periodic.{want_of, queue_member}

@@ -15,7 +15,7 @@ use Rattle.periodic_list.specs.Periodic.{Periodic, next_store}
 use Rattle.periodic_rows.specs.declared.content.DescriptorNote.{DescriptorNote}
 use Rattle.periodic_rows.specs.declared.content.Removed.{Removed}
 use Rattle.periodic_rows.specs.declared.content.Removed.TheVariants as removed
-use Rattle.periodic_rows.specs.Periodic.{itd_member, note_at as periodic_note}
+use Rattle.periodic_rows.specs.Periodic.{descriptor_member, note_at as periodic_note}
 use Rattle.periodic_rows.specs.Linking.{new_link}
 use Rattle.driver_rows.specs.declared.content.Endpoint.{Endpoint}
 use Rattle.driver_rows.specs.declared.content.Transfer.{Transfer}
@@ -160,7 +160,7 @@ linked_apart : (k : Book) (list : Periodic) (notes : List DescriptorNote) (ts : 
 unfolding linked_descriptors
 linked_apart k list notes [] m at apart = refl
 linked_apart k list notes (t ∷ ts) m at apart =
-    let v = new_link list (itd_member notes t.first) in
+    let v = new_link list (descriptor_member notes t.first) in
     linked_apart k list notes ts (store k m t.first (32 * t.first) v) at (later_off (is_word (32 * t.first) at) (links_at ts at) apart)
     ∙ written (can_store (slot_of k.slots t.first) (32 * t.first)) m (32 * t.first) v at (first_off (is_word (32 * t.first) at) (links_at ts at) apart)
 

@@ -1,3 +1,5 @@
 pub mod Makes
 pub mod Rooms
+pub mod Standing
+pub mod Turns
 pub mod Written

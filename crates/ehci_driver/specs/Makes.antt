@@ -1,6 +1,6 @@
 -- Which events can be made.
 --     CanMake d row       a descriptor that is unlinked is one that waits for it
-use Rattle.std.specs.Prelude.{ℕ, ◌≤◌, length}
+use Rattle.std.specs.Prelude.{◌≤◌, length}
 use Rattle.driver_rows.specs.declared.rows.Row.{Row}
 use Rattle.driver_rows.specs.declared.rows.Row.TheVariants as rows
 use Rattle.driver_rows.specs.DriverContent.{DriverContent}

@@ -1,18 +1,10 @@
-ghost use Rattle.std.specs.Prelude.{◌≡◌, ◌≤◌, ◌<◌, ◌+◌, ◌*◌, ◌/◌, ℕ, length, Ok, Err, Some, None, IfOk, IfErr, ◌++◌, ◌∷◌, []};
-ghost use Rattle.op_registers.specs.RegisterFile.{reset_file};
-ghost use Rattle.word_mem.specs.Memory.{fresh};
-ghost use Rattle.run_book.specs.Book.{holding, Stands};
-
 use driver_endpoints::Endpoints;
 use driver_rows::{Bell, Command, Mend, QtdNote, Reserve, Transfer, Turn};
-use op_registers::Registers;
 use periodic_part::PeriodicPart;
 use run_book::RunBook;
-use std::alloc::Global;
 use std::collections::VecDeque;
 use std::marker::Model;
-use usb_base::{Cmd, EndCause, EpName, Memory, OfferError, Report, What};
-use word_mem::WordMem;
+use usb_base::Report;
 
 /// The driver of the host controller.
 #[derive(Drop)]
@@ -38,7 +30,6 @@ pub struct Driver {
 }
 
 impl Model for Driver {
-    ghost use Rattle.std.specs.Prelude.{◌≤◌, ◌+◌, ◌*◌};
     ghost use Rattle.driver_rows.specs.DriverContent.{DriverContent};
     ghost use Rattle.ehci_driver.specs.Rooms.{HasRooms, HasFrameRooms};
     ghost use Rattle.std.specs.VecDeque.{deque_len, deque_capacity};

@@ -1,10 +1,10 @@
-ghost use Rattle.std.specs.Prelude.{◌≡◌, ◌≤◌, ◌+◌, ◌*◌, ℕ, false, length, slice_get, Some, drop, [], ◌++◌, ◌∷◌, suc, take, map};
+ghost use Rattle.std.specs.Prelude.{◌≡◌, ◌≤◌, ◌+◌, false, slice_get, drop, [], ◌++◌};
 ghost use Rattle.std.specs.VecDeque.{deque_len, deque_capacity};
 ghost use Rattle.run_book.specs.Book.{holding, Stands, lend_taken, store};
 ghost use Rattle.op_registers.specs.Table.{after_write};
-ghost use Rattle.driver_rows.specs.Rows.{Parts, row_of, after_row, step_of, advance, after_lend, after_transfer, freed_by, after_endpoint, doorbell_command, bell_after, after_harvest, served, free_qtd, free_runs, free_qtds, finished, no_command, leave_ring, events_of};
-ghost use Rattle.driver_rows.specs.Harvests.{note_at};
+ghost use Rattle.driver_rows.specs.Rows.{row_of, after_row, step_of, advance, doorbell_command, bell_after, finished, leave_ring};
 ghost use Rattle.ehci_driver.specs.Makes.{CanMake};
+ghost use Rattle.ehci_driver.specs.Turns.{parts, after_event};
 ghost use Rattle.ehci_driver.specs.Written.{OnlyStores};
 
 use crate::driver::Driver;
@@ -31,13 +31,13 @@ impl Driver {
     #[tactic(auto, using(std::proofs::lemmas::Grind::common_steps, crate::proofs::Kept::row_room))]
     pub fn step(&mut self, regs: &mut Registers, mem: &mut WordMem) -> DriverStep
         requires { Stands (holding self.old.book mem.old) }
-        ensures kind { result ≡ step_of (row_of (record { driver = self.old; registers = regs.old; memory = mem.old })) }
-        ensures driver { self.new ≡ (after_row (row_of (record { driver = self.old; registers = regs.old; memory = mem.old })) (record { driver = self.old; registers = regs.old; memory = mem.old })).driver }
-        ensures registers { regs.new ≡ (after_row (row_of (record { driver = self.old; registers = regs.old; memory = mem.old })) (record { driver = self.old; registers = regs.old; memory = mem.old })).registers }
-        ensures memory { mem.new ≡ (after_row (row_of (record { driver = self.old; registers = regs.old; memory = mem.old })) (record { driver = self.old; registers = regs.old; memory = mem.old })).memory }
+        ensures kind { result ≡ step_of (row_of (parts self.old regs.old mem.old)) }
+        ensures driver { self.new ≡ (after_event (parts self.old regs.old mem.old)).driver }
+        ensures registers { regs.new ≡ (after_event (parts self.old regs.old mem.old)).registers }
+        ensures memory { mem.new ≡ (after_event (parts self.old regs.old mem.old)).memory }
         ensures stands { Stands (holding self.new.book mem.new) }
         ensures room { self.new.room ≡ self.old.room }
-        ensures words { OnlyStores self.old (row_of (record { driver = self.old; registers = regs.old; memory = mem.old })) mem.old mem.new }
+        ensures words { OnlyStores self.old (row_of (parts self.old regs.old mem.old)) mem.old mem.new }
     {
         let _words = mem.words();
         let row = self.row(regs, mem);
@@ -50,9 +50,9 @@ impl Driver {
     fn make(&mut self, regs: &mut Registers, mem: &mut WordMem, row: Row)
         requires stands { Stands (holding self.old.book mem.old) }
         requires can { CanMake self.old row }
-        ensures driver { self.new ≡ (after_row row (record { driver = self.old; registers = regs.old; memory = mem.old })).driver }
-        ensures registers { regs.new ≡ (after_row row (record { driver = self.old; registers = regs.old; memory = mem.old })).registers }
-        ensures memory { mem.new ≡ (after_row row (record { driver = self.old; registers = regs.old; memory = mem.old })).memory }
+        ensures driver { self.new ≡ (after_row row (parts self.old regs.old mem.old)).driver }
+        ensures registers { regs.new ≡ (after_row row (parts self.old regs.old mem.old)).registers }
+        ensures memory { mem.new ≡ (after_row row (parts self.old regs.old mem.old)).memory }
         ensures stands { Stands (holding self.new.book mem.new) }
     {
         match row {

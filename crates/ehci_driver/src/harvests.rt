@@ -1,7 +1,7 @@
-ghost use Rattle.std.specs.Prelude.{◌≡◌, ◌≤◌, ◌<◌, ◌+◌, ◌*◌, ◌-◌, ◌^◌, ℕ, suc, length, slice_get, slice_set, false, Some, None, ◌++◌, ◌∷◌, []};
-ghost use Rattle.driver_rows.specs.DriverContent.{next_after, waits_for};
-ghost use Rattle.driver_rows.specs.Harvests.{noted, note_at, reported, end_of, is_stall};
-ghost use Rattle.driver_rows.specs.Rows.{after_harvest, harvested_as, served, moved_on, told_with, after_end, goes_on, stalled, behind, behind_one, mends_of};
+ghost use Rattle.std.specs.Prelude.{◌≡◌, ◌≤◌, ◌<◌, ◌+◌, ◌-◌, ◌^◌, length, slice_get, false, Some};
+ghost use Rattle.driver_rows.specs.Harvests.{noted, end_of, is_stall};
+ghost use Rattle.driver_rows.specs.Rows.{after_harvest, harvested_as, served, moved_on, after_end, goes_on, stalled, behind, behind_one};
+ghost use Rattle.ehci_driver.specs.Turns.{told_now};
 
 use crate::driver::Driver;
 use driver_harvests::{end_cause, next_waiting, owe_stores, report, tells_stall, waits_at};
@@ -138,7 +138,7 @@ impl Driver {
         requires endpoint { slice_get self.old.endpoints e ≡ Some endpoint.now }
         requires transfer { slice_get self.old.transfers t ≡ Some transfer.now }
         requires open { transfer.now.reported ≡ false }
-        ensures driver { self.new ≡ after_end (told_with self.old mem.now t transfer.now what endpoint.now.desc.name self.old.notes) e t endpoint.now (is_stall what) (end_of endpoint.now.desc.kind what) }
+        ensures driver { self.new ≡ after_end (told_now self.old mem.now t transfer.now what endpoint.now) e t endpoint.now (is_stall what) (end_of endpoint.now.desc.kind what) }
         ensures book { self.new.book ≡ self.old.book }
     {
         match end_cause(endpoint.desc.kind, what) {
@@ -168,7 +168,7 @@ impl Driver {
         requires endpoint { slice_get self.old.endpoints e ≡ Some endpoint.now }
         requires transfer { slice_get self.old.transfers t ≡ Some transfer.now }
         requires open { transfer.now.reported ≡ false }
-        ensures driver { self.new ≡ after_end (told_with self.old mem.now t transfer.now what endpoint.now.desc.name self.old.notes) e t endpoint.now false (Some cause) }
+        ensures driver { self.new ≡ after_end (told_now self.old mem.now t transfer.now what endpoint.now) e t endpoint.now false (Some cause) }
         ensures book { self.new.book ≡ self.old.book }
     {
         let name = endpoint.desc.name;
@@ -206,7 +206,7 @@ impl Driver {
         requires endpoint { slice_get self.old.endpoints e ≡ Some endpoint.now }
         requires transfer { slice_get self.old.transfers t ≡ Some transfer.now }
         requires open { transfer.now.reported ≡ false }
-        ensures driver { self.new ≡ goes_on (told_with self.old mem.now t transfer.now what endpoint.now.desc.name self.old.notes) e t endpoint.now }
+        ensures driver { self.new ≡ goes_on (told_now self.old mem.now t transfer.now what endpoint.now) e t endpoint.now }
         ensures book { self.new.book ≡ self.old.book }
     {
         let name = endpoint.desc.name;
@@ -242,7 +242,7 @@ impl Driver {
         requires endpoint { slice_get self.old.endpoints e ≡ Some endpoint.now }
         requires transfer { slice_get self.old.transfers t ≡ Some transfer.now }
         requires open { transfer.now.reported ≡ false }
-        ensures driver { self.new ≡ stalled (told_with self.old mem.now t transfer.now what endpoint.now.desc.name self.old.notes) e t endpoint.now }
+        ensures driver { self.new ≡ stalled (told_now self.old mem.now t transfer.now what endpoint.now) e t endpoint.now }
         ensures book { self.new.book ≡ self.old.book }
     {
         let name = endpoint.desc.name;

@@ -1,9 +1,10 @@
-ghost use Rattle.std.specs.Prelude.{◌≡◌, ◌≤◌, ◌<◌, ◌+◌, ◌-◌, length, slice_get, slice_set, Some, None, Ok, Err, IfOk, IfErr, [], ◌∷◌, ◌++◌, unwrap_or};
+ghost use Rattle.std.specs.Prelude.{◌≡◌, ◌≤◌, ◌<◌, length, slice_get, Some, Ok, Err, IfOk, IfErr, [], ◌∷◌};
 ghost use Rattle.word_mem.specs.Memory.{Mem};
 ghost use Rattle.run_book.specs.Book.{holding, Stands};
-ghost use Rattle.driver_rows.specs.DriverContent.{DriverContent, endpoint_of, endpoint_named};
+ghost use Rattle.driver_rows.specs.DriverContent.{endpoint_named};
 ghost use Rattle.driver_rows.specs.Words.{queue_head_link};
-ghost use Rattle.driver_rows.specs.Offers.{offered, offered_next, offered_open, taken_open, take_runs, offered_cancel, cancelled_by, accepted_cancel, before, after, first_end, written_open, new_endpoint, newest_of, IsOpened, IsOffered};
+ghost use Rattle.driver_rows.specs.Offers.{offered, offered_next, offered_open, taken_open, take_runs, cancelled_by, accepted_cancel, before, after, written_open, newest_of, IsOpened, IsOffered};
+ghost use Rattle.ehci_driver.specs.Standing.{standing, opened_at, cancel_answer};
 
 use crate::driver::Driver;
 use driver_endpoints::{not_again, or_cancel};
@@ -22,7 +23,7 @@ impl Driver {
     pub fn offer(&mut self, cmd: &Cmd, mem: &mut WordMem) -> Result<(), OfferError>
         requires stands { Stands (holding self.old.book mem.old) }
         requires offered { IsOffered self.old.room cmd.now }
-        ensures accepted { IfOk result (λ _. offered self.old mem.old cmd.now ≡ Ok (record { driver = self.new; memory = mem.new })) }
+        ensures accepted { IfOk result (λ _. offered self.old mem.old cmd.now ≡ Ok (standing self.new mem.new)) }
         ensures refused { IfErr result (λ why. offered self.old mem.old cmd.now ≡ Err why) }
         ensures same { IfErr result (λ _. (self.new ≡ self.old) × (mem.new ≡ mem.old)) }
         ensures stands { Stands (holding self.new.book mem.new) }
@@ -37,7 +38,7 @@ impl Driver {
     fn offer_next(&mut self, cmd: &Cmd, mem: &mut WordMem) -> Result<(), OfferError>
         requires stands { Stands (holding self.old.book mem.old) }
         requires offered { IsOffered self.old.room cmd.now }
-        ensures accepted { IfOk result (λ _. offered_next self.old mem.old cmd.now ≡ Ok (record { driver = self.new; memory = mem.new })) }
+        ensures accepted { IfOk result (λ _. offered_next self.old mem.old cmd.now ≡ Ok (standing self.new mem.new)) }
         ensures refused { IfErr result (λ why. offered_next self.old mem.old cmd.now ≡ Err why) }
         ensures same { IfErr result (λ _. (self.new ≡ self.old) × (mem.new ≡ mem.old)) }
         ensures stands { Stands (holding self.new.book mem.new) }
@@ -75,7 +76,7 @@ impl Driver {
         requires max { desc.now.max ≤ 1024 }
         requires port { desc.now.port ≤ 127 }
         requires want { IsOpened desc.now }
-        ensures accepted { IfOk result (λ _. offered_open self.old mem.old desc.now (endpoint_named self.old desc.now.name) ≡ Ok (record { driver = self.new; memory = mem.new })) }
+        ensures accepted { IfOk result (λ _. offered_open self.old mem.old desc.now (endpoint_named self.old desc.now.name) ≡ Ok (standing self.new mem.new)) }
         ensures refused { IfErr result (λ why. offered_open self.old mem.old desc.now (endpoint_named self.old desc.now.name) ≡ Err why) }
         ensures same { IfErr result (λ _. (self.new ≡ self.old) × (mem.new ≡ mem.old)) }
         ensures stands { Stands (holding self.new.book mem.new) }
@@ -95,7 +96,7 @@ impl Driver {
         requires room { 1 ≤ self.old.room.endpoints }
         requires max { desc.now.max ≤ 1024 }
         requires port { desc.now.port ≤ 127 }
-        ensures accepted { IfOk result (λ _. taken_open self.old desc.now (take_runs (holding self.old.book mem.old) (2 ∷ 1 ∷ [])) ≡ Ok (record { driver = self.new; memory = mem.new })) }
+        ensures accepted { IfOk result (λ _. taken_open self.old desc.now (take_runs (holding self.old.book mem.old) (2 ∷ 1 ∷ [])) ≡ Ok (standing self.new mem.new)) }
         ensures refused { IfErr result (λ why. taken_open self.old desc.now (take_runs (holding self.old.book mem.old) (2 ∷ 1 ∷ [])) ≡ Err why) }
         ensures same { IfErr result (λ _. (self.new ≡ self.old) × (mem.new ≡ mem.old)) }
         ensures stands { Stands (holding self.new.book mem.new) }
@@ -115,7 +116,7 @@ impl Driver {
         requires room { 1 ≤ self.old.room.endpoints }
         requires max { desc.now.max ≤ 1024 }
         requires port { desc.now.port ≤ 127 }
-        ensures driver { self.new ≡ record self.old { endpoints = self.old.endpoints ++ new_endpoint desc.now queue dummy ∷ []; command = Some (Command.Open queue); made = 0; room = record self.old.room { endpoints = self.old.room.endpoints - 1 } } }
+        ensures driver { self.new ≡ opened_at self.old desc.now queue dummy }
         ensures memory { mem.new ≡ written_open self.old.book mem.old desc.now (newest_of self.old.endpoints) queue dummy }
         ensures stands { Stands (holding self.new.book mem.new) }
     {
@@ -145,8 +146,8 @@ impl Driver {
     /// `NoEndpoint` where it was never opened, `Closed` where a cancel was accepted before. Nothing changes then.
     fn offer_cancel(&mut self, name: &EpName) -> Result<(), OfferError>
         requires room { 1 ≤ self.old.room.reports }
-        ensures accepted { IfOk result (λ _. (m : Mem) → offered_cancel self.old m (unwrap_or (endpoint_of self.old name.now) 0) (endpoint_named self.old name.now) ≡ Ok (record { driver = self.new; memory = m })) }
-        ensures refused { IfErr result (λ why. (m : Mem) → offered_cancel self.old m (unwrap_or (endpoint_of self.old name.now) 0) (endpoint_named self.old name.now) ≡ Err why) }
+        ensures accepted { IfOk result (λ _. (m : Mem) → cancel_answer self.old m name.now ≡ Ok (standing self.new m)) }
+        ensures refused { IfErr result (λ why. (m : Mem) → cancel_answer self.old m name.now ≡ Err why) }
         ensures same { IfErr result (λ _. self.new ≡ self.old) }
         ensures book { self.new.book ≡ self.old.book }
     {

@@ -1,12 +1,11 @@
-ghost use Rattle.std.specs.Prelude.{◌≡◌, ◌≤◌, ◌<◌, ◌+◌, ◌-◌, ◌*◌, length, take, drop, slice_get, slice_set, Some, Ok, Err, IfOk, IfErr, ◌∷◌, ◌++◌, [], true, unwrap_or};
+ghost use Rattle.std.specs.Prelude.{◌≡◌, ◌≤◌, ◌*◌, drop, slice_get, Some, Ok, Err, IfOk, IfErr, true};
 ghost use Rattle.run_book.specs.Book.{holding, Stands};
 ghost use Rattle.bandwidth.specs.Placements.{IsWant};
-ghost use Rattle.bandwidth.specs.Admission.{answer};
 ghost use Rattle.periodic_rows.specs.Periodic.{want_of, is_periodic};
-ghost use Rattle.driver_rows.specs.DriverContent.{endpoint_of, endpoint_named};
+ghost use Rattle.periodic_rows.specs.Descriptors.{slot_limit};
 ghost use Rattle.driver_rows.specs.Rows.{is_iso};
 ghost use Rattle.driver_frames.specs.Places.{started};
-ghost use Rattle.driver_rows.specs.Offers.{Offered, Descriptors, planned_open, take_runs, offered_iso, taken_iso, iso_needs, entered_iso, all_descriptors, total_of};
+ghost use Rattle.ehci_driver.specs.Standing.{standing, plan_answer, iso_answer, taken_descriptors, entered_descriptors};
 
 use crate::driver::Driver;
 use driver_endpoints::{is_isochronous, or_first};
@@ -32,8 +31,8 @@ impl Driver {
         requires port { desc.now.port ≤ 127 }
         requires kind { is_periodic desc.now.kind ≡ true }
         requires want { IsWant (want_of 0 desc.now) }
-        ensures accepted { IfOk result (λ _. planned_open self.old mem.old desc.now (answer self.old.periodic.plan (want_of (length self.old.endpoints) desc.now)) ≡ Ok (record { driver = self.new; memory = mem.new })) }
-        ensures refused { IfErr result (λ why. planned_open self.old mem.old desc.now (answer self.old.periodic.plan (want_of (length self.old.endpoints) desc.now)) ≡ Err why) }
+        ensures accepted { IfOk result (λ _. plan_answer self.old mem.old desc.now ≡ Ok (standing self.new mem.new)) }
+        ensures refused { IfErr result (λ why. plan_answer self.old mem.old desc.now ≡ Err why) }
         ensures same { IfErr result (λ _. (self.new ≡ self.old) × (mem.new ≡ mem.old)) }
         ensures stands { Stands (holding self.new.book mem.new) }
     {
@@ -77,8 +76,8 @@ impl Driver {
         requires transfers { count ≤ self.old.room.transfers }
         requires reports { count ≤ self.old.room.reports }
         requires bytes { 24576 * count ≤ self.old.room.report_bytes }
-        ensures accepted { IfOk result (λ _. offered_iso self.old mem.old (unwrap_or (endpoint_of self.old name.now) 0) count len seed (endpoint_named self.old name.now) ≡ Ok (record { driver = self.new; memory = mem.new })) }
-        ensures refused { IfErr result (λ why. offered_iso self.old mem.old (unwrap_or (endpoint_of self.old name.now) 0) count len seed (endpoint_named self.old name.now) ≡ Err why) }
+        ensures accepted { IfOk result (λ _. iso_answer self.old mem.old name.now count len seed ≡ Ok (standing self.new mem.new)) }
+        ensures refused { IfErr result (λ why. iso_answer self.old mem.old name.now count len seed ≡ Err why) }
         ensures same { IfErr result (λ _. (self.new ≡ self.old) × (mem.new ≡ mem.old)) }
         ensures stands { Stands (holding self.new.book mem.new) }
     {
@@ -115,13 +114,14 @@ impl Driver {
         requires transfers { count ≤ self.old.room.transfers }
         requires reports { count ≤ self.old.room.reports }
         requires bytes { 24576 * count ≤ self.old.room.report_bytes }
-        requires slot { slots.now.slot ≤ 3072 }
+        requires slot { slots.now.slot ≤ slot_limit slots.now.split }
         requires max { endpoint.now.desc.max ≤ 1024 }
         requires some { 1 ≤ endpoint.now.desc.multi }
         requires multi { endpoint.now.desc.multi ≤ 3 }
+        requires port { endpoint.now.desc.port ≤ 127 }
         requires endpoint { slice_get self.old.endpoints e ≡ Some endpoint.now }
-        ensures accepted { IfOk result (λ _. taken_iso self.old e endpoint.now slots.now count seed (take_runs (holding self.old.book mem.old) (iso_needs slots.now count)) ≡ Ok (record { driver = self.new; memory = mem.new })) }
-        ensures refused { IfErr result (λ why. taken_iso self.old e endpoint.now slots.now count seed (take_runs (holding self.old.book mem.old) (iso_needs slots.now count)) ≡ Err why) }
+        ensures accepted { IfOk result (λ _. taken_descriptors self.old mem.old e endpoint.now slots.now count seed ≡ Ok (standing self.new mem.new)) }
+        ensures refused { IfErr result (λ why. taken_descriptors self.old mem.old e endpoint.now slots.now count seed ≡ Err why) }
         ensures same { IfErr result (λ _. (self.new ≡ self.old) × (mem.new ≡ mem.old)) }
         ensures stands { Stands (holding self.new.book mem.new) }
     {
@@ -150,12 +150,13 @@ impl Driver {
         requires transfers { count ≤ self.old.room.transfers }
         requires reports { count ≤ self.old.room.reports }
         requires bytes { 24576 * count ≤ self.old.room.report_bytes }
-        requires slot { slots.now.slot ≤ 3072 }
+        requires slot { slots.now.slot ≤ slot_limit slots.now.split }
         requires max { endpoint.now.desc.max ≤ 1024 }
         requires some { 1 ≤ endpoint.now.desc.multi }
         requires multi { endpoint.now.desc.multi ≤ 3 }
+        requires port { endpoint.now.desc.port ≤ 127 }
         requires endpoint { slice_get self.old.endpoints e ≡ Some endpoint.now }
-        ensures accepted { ◌≡◌ {A = Offered} (record { driver = self.new; memory = mem.new }) (entered_iso self.old e endpoint.now count (total_of slots.now) self.old.book (all_descriptors self.old.book e endpoint.now.desc slots.now count seed (drop keep self.old.book.taken) (record { notes = self.old.periodic.notes; transfers = self.old.transfers; memory = mem.old }))) }
+        ensures accepted { standing self.new mem.new ≡ entered_descriptors self.old mem.old e endpoint.now slots.now count seed (drop keep self.old.book.taken) }
         ensures stands { Stands (holding self.new.book mem.new) }
     {
         let first = self.transfers.len();

@@ -1,9 +1,9 @@
-ghost use Rattle.std.specs.Prelude.{◌≡◌, ℕ, slice_get, true, false, Some};
-ghost use Rattle.usb_base.specs.declared.reports.What.TheVariants.{Cancel};
+ghost use Rattle.std.specs.Prelude.{◌≡◌, slice_get, true, false, Some};
 ghost use Rattle.run_book.specs.Book.{holding, Stands};
-ghost use Rattle.driver_rows.specs.Rows.{Parts, after_transfer, freed_by, after_endpoint, is_told, gone_with, free_endpoint, cancelled_bytes};
-ghost use Rattle.driver_rows.specs.Harvests.{reported};
+ghost use Rattle.driver_rows.specs.Rows.{after_row, is_told, gone_with, free_endpoint};
 ghost use Rattle.op_registers.specs.RegisterFile.{RegisterFile};
+ghost use Rattle.driver_rows.specs.declared.rows.Row.TheVariants.{ReleaseTransfer, ReleaseEndpoint};
+ghost use Rattle.ehci_driver.specs.Turns.{parts, told_cancel};
 
 use crate::driver::Driver;
 use driver_harvests::{
@@ -16,8 +16,8 @@ impl Driver {
     /// The blocks of a harvested transfer are given back.
     pub(crate) fn release_transfer(&mut self, mem: &mut WordMem, t: usize)
         requires { Stands (holding self.old.book mem.old) }
-        ensures driver { (r : RegisterFile) → self.new ≡ (after_transfer (record { driver = self.old; registers = r; memory = mem.old }) t (slice_get self.old.transfers t) (freed_by self.old (holding self.old.book mem.old) (slice_get self.old.transfers t))).driver }
-        ensures memory { (r : RegisterFile) → mem.new ≡ (after_transfer (record { driver = self.old; registers = r; memory = mem.old }) t (slice_get self.old.transfers t) (freed_by self.old (holding self.old.book mem.old) (slice_get self.old.transfers t))).memory }
+        ensures driver { (r : RegisterFile) → self.new ≡ (after_row (ReleaseTransfer t) (parts self.old r mem.old)).driver }
+        ensures memory { (r : RegisterFile) → mem.new ≡ (after_row (ReleaseTransfer t) (parts self.old r mem.old)).memory }
         ensures stands { Stands (holding self.new.book mem.new) }
     {
         if t >= self.transfers.len() {
@@ -44,8 +44,8 @@ impl Driver {
     /// The blocks of a cancelled endpoint are given back.
     pub(crate) fn release_endpoint(&mut self, mem: &mut WordMem, e: usize)
         requires { Stands (holding self.old.book mem.old) }
-        ensures driver { (r : RegisterFile) → self.new ≡ (after_endpoint (record { driver = self.old; registers = r; memory = mem.old }) e (slice_get self.old.endpoints e)).driver }
-        ensures memory { (r : RegisterFile) → mem.new ≡ (after_endpoint (record { driver = self.old; registers = r; memory = mem.old }) e (slice_get self.old.endpoints e)).memory }
+        ensures driver { (r : RegisterFile) → self.new ≡ (after_row (ReleaseEndpoint e) (parts self.old r mem.old)).driver }
+        ensures memory { (r : RegisterFile) → mem.new ≡ (after_row (ReleaseEndpoint e) (parts self.old r mem.old)).memory }
         ensures stands { Stands (holding self.new.book mem.new) }
     {
         let Some(endpoint) = self.endpoints.get(e) else {
@@ -63,7 +63,7 @@ impl Driver {
         requires stands { Stands (holding self.old.book mem.old) }
         requires endpoint { slice_get self.old.endpoints e ≡ Some endpoint.now }
         requires told { is_told endpoint.now ≡ true }
-        ensures driver { self.new ≡ gone_with (reported self.old Cancel endpoint.now.desc.name (cancelled_bytes self.old.notes mem.old e endpoint.now.queue self.old.transfers)) e endpoint.now true (free_endpoint self.old e endpoint.now (holding self.old.book mem.old)).book }
+        ensures driver { self.new ≡ gone_with (told_cancel self.old mem.old e endpoint.now) e endpoint.now true (free_endpoint self.old e endpoint.now (holding self.old.book mem.old)).book }
         ensures memory { mem.new ≡ (free_endpoint self.old e endpoint.now (holding self.old.book mem.old)).memory }
         ensures stands { Stands (holding self.new.book mem.new) }
     {

@@ -1,10 +1,9 @@
 ghost use Rattle.std.specs.Prelude.{◌≡◌, ◌≤◌, length, slice_get, true, false, Some};
 ghost use Rattle.op_registers.specs.RegisterFile.{RegisterFile};
-ghost use Rattle.usb_base.specs.declared.reports.What.TheVariants.{Cancel};
 ghost use Rattle.run_book.specs.Book.{holding, Stands};
 ghost use Rattle.periodic_rows.specs.Periodic.{read_again};
-ghost use Rattle.driver_rows.specs.Harvests.{reported};
-ghost use Rattle.driver_rows.specs.Rows.{Parts, descriptor_told, after_unlink, after_removed, after_descriptor, after_placed, free_placed, removed_with, cancelled_bytes, is_told};
+ghost use Rattle.driver_rows.specs.Rows.{descriptor_told, after_unlink, after_removed, after_descriptor, after_placed, free_placed, removed_with, is_told};
+ghost use Rattle.ehci_driver.specs.Turns.{parts, told_cancel};
 
 use crate::driver::Driver;
 use driver_endpoints::is_isochronous;
@@ -56,8 +55,8 @@ impl Driver {
     pub(crate) fn unlink(&mut self, mem: &mut WordMem, t: usize)
         requires stands { Stands (holding self.old.book mem.old) }
         requires waits { 1 ≤ length self.old.periodic.unlinks }
-        ensures driver { (r : RegisterFile) → self.new ≡ (after_unlink (record { driver = self.old; registers = r; memory = mem.old }) t (slice_get self.old.transfers t)).driver }
-        ensures memory { (r : RegisterFile) → mem.new ≡ (after_unlink (record { driver = self.old; registers = r; memory = mem.old }) t (slice_get self.old.transfers t)).memory }
+        ensures driver { (r : RegisterFile) → self.new ≡ (after_unlink (parts self.old r mem.old) t (slice_get self.old.transfers t)).driver }
+        ensures memory { (r : RegisterFile) → mem.new ≡ (after_unlink (parts self.old r mem.old) t (slice_get self.old.transfers t)).memory }
         ensures stands { Stands (holding self.new.book mem.new) }
     {
         if t >= self.transfers.len() {
@@ -82,8 +81,8 @@ impl Driver {
     /// What left the frame list is given back.
     pub(crate) fn release_removed(&mut self, mem: &mut WordMem, what: Removed)
         requires stands { Stands (holding self.old.book mem.old) }
-        ensures driver { (r : RegisterFile) → self.new ≡ (after_removed (record { driver = self.old; registers = r; memory = mem.old }) what).driver }
-        ensures memory { (r : RegisterFile) → mem.new ≡ (after_removed (record { driver = self.old; registers = r; memory = mem.old }) what).memory }
+        ensures driver { (r : RegisterFile) → self.new ≡ (after_removed (parts self.old r mem.old) what).driver }
+        ensures memory { (r : RegisterFile) → mem.new ≡ (after_removed (parts self.old r mem.old) what).memory }
         ensures stands { Stands (holding self.new.book mem.new) }
     {
         match what {
@@ -95,8 +94,8 @@ impl Driver {
     /// The blocks of a descriptor are given back.
     fn release_descriptor(&mut self, mem: &mut WordMem, t: usize)
         requires stands { Stands (holding self.old.book mem.old) }
-        ensures driver { (r : RegisterFile) → self.new ≡ (after_descriptor (record { driver = self.old; registers = r; memory = mem.old }) t (slice_get self.old.transfers t)).driver }
-        ensures memory { (r : RegisterFile) → mem.new ≡ (after_descriptor (record { driver = self.old; registers = r; memory = mem.old }) t (slice_get self.old.transfers t)).memory }
+        ensures driver { (r : RegisterFile) → self.new ≡ (after_descriptor (parts self.old r mem.old) t (slice_get self.old.transfers t)).driver }
+        ensures memory { (r : RegisterFile) → mem.new ≡ (after_descriptor (parts self.old r mem.old) t (slice_get self.old.transfers t)).memory }
         ensures stands { Stands (holding self.new.book mem.new) }
     {
         if t >= self.transfers.len() {
@@ -115,8 +114,8 @@ impl Driver {
     /// The blocks of a periodic endpoint are given back, and its placement leaves the plan.
     fn release_placed(&mut self, mem: &mut WordMem, e: usize)
         requires stands { Stands (holding self.old.book mem.old) }
-        ensures driver { (r : RegisterFile) → self.new ≡ (after_placed (record { driver = self.old; registers = r; memory = mem.old }) e (slice_get self.old.endpoints e)).driver }
-        ensures memory { (r : RegisterFile) → mem.new ≡ (after_placed (record { driver = self.old; registers = r; memory = mem.old }) e (slice_get self.old.endpoints e)).memory }
+        ensures driver { (r : RegisterFile) → self.new ≡ (after_placed (parts self.old r mem.old) e (slice_get self.old.endpoints e)).driver }
+        ensures memory { (r : RegisterFile) → mem.new ≡ (after_placed (parts self.old r mem.old) e (slice_get self.old.endpoints e)).memory }
         ensures stands { Stands (holding self.new.book mem.new) }
     {
         let Some(endpoint) = self.endpoints.get(e) else {
@@ -134,7 +133,7 @@ impl Driver {
         requires stands { Stands (holding self.old.book mem.old) }
         requires endpoint { slice_get self.old.endpoints e ≡ Some endpoint.now }
         requires told { is_told endpoint.now ≡ true }
-        ensures driver { self.new ≡ removed_with (reported self.old Cancel endpoint.now.desc.name (cancelled_bytes self.old.notes mem.old e endpoint.now.queue self.old.transfers)) e endpoint.now true (free_placed self.old e endpoint.now (holding self.old.book mem.old)).book }
+        ensures driver { self.new ≡ removed_with (told_cancel self.old mem.old e endpoint.now) e endpoint.now true (free_placed self.old e endpoint.now (holding self.old.book mem.old)).book }
         ensures memory { mem.new ≡ (free_placed self.old e endpoint.now (holding self.old.book mem.old)).memory }
         ensures stands { Stands (holding self.new.book mem.new) }
     {

@@ -1,8 +1,8 @@
-ghost use Rattle.std.specs.Prelude.{◌≡◌, ◌≤◌, ◌+◌, ◌*◌, ℕ, slice_get, ◌<◌, slice_index, Some, None, option_map};
-ghost use Rattle.driver_rows.specs.Rows.{Parts, row_of, next_row, link_row, leaving_row, removal_row, reading_for, removes, bell_row, harvest_row, worker_row, transfer_row, reading_row, next_worker, worker_from, found_of, tells_advance, first_row, turn_row};
+ghost use Rattle.std.specs.Prelude.{◌≡◌, slice_get, Some};
+ghost use Rattle.driver_rows.specs.Rows.{row_of, next_row, link_row, leaving_row, removal_row, reading_for, removes, bell_row, harvest_row, worker_row, reading_row, next_worker, found_of, tells_advance, turn_row};
 ghost use Rattle.periodic_list.specs.Periodic.{next_store};
-ghost use Rattle.driver_rows.specs.Harvests.{note_at, token_in, found_in};
-ghost use Rattle.driver_rows.specs.DriverContent.{waits_for};
+ghost use Rattle.driver_rows.specs.Harvests.{note_at};
+ghost use Rattle.ehci_driver.specs.Turns.{parts, later_row};
 
 use crate::driver::Driver;
 use driver_endpoints::{event_count, links, row_of_command};
@@ -21,7 +21,7 @@ const ADVANCE: u32 = 0x20;
 impl Driver {
     /// Which row the next event is.
     pub(crate) fn row(&self, regs: &Registers, mem: &WordMem) -> Row
-        ensures { result ≡ row_of (record { driver = self.now; registers = regs.now; memory = mem.now }) }
+        ensures { result ≡ row_of (parts self.now regs.now mem.now) }
     {
         match &self.command {
             Some(command) => self.next_row(command),
@@ -91,7 +91,7 @@ impl Driver {
 
     /// The first of what leaves the frame list, of the batch that was cleared, or of what the registers are waited for.
     fn leaving_frames(&self, regs: &Registers) -> Option<Row>
-        ensures { result ≡ first_row (option_map Row.Unlink (slice_get self.now.periodic.unlinks 0)) (first_row (option_map Row.ReleaseEndpoint (slice_get self.now.cleared 0)) (first_row (removal_row (slice_get self.now.periodic.removals 0)) (bell_row self.now regs.now self.now.bell))) }
+        ensures { result ≡ later_row self.now regs.now }
     {
         if let Some(t) = self.periodic.first_unlink() {
             return Some(Row::Unlink(t));
@@ -198,7 +198,10 @@ impl Driver {
         ensures { result ≡ found_of self.now mem.now transfer.now transfer.now.sort }
     {
         match transfer.sort {
-            Sort::Descriptor => descriptor_found(mem, transfer.first),
+            Sort::Descriptor => {
+                let note = self.periodic.note(transfer.first);
+                descriptor_found(mem, &note, transfer.first)
+            }
             Sort::Get | Sort::Put | Sort::Request => {
                 let note = self.note(transfer.place);
                 let token = token_at(mem, transfer.place);

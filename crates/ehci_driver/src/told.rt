@@ -1,6 +1,6 @@
-ghost use Rattle.std.specs.Prelude.{◌≡◌, ◌≤◌, ◌<◌, ◌+◌, ◌-◌, ℕ, length, take, drop, [], ◌∷◌, ◌++◌, Some, None, IfSome, position, count_by, slice_get, slice_range, option_and_then};
-ghost use Rattle.driver_rows.specs.DriverContent.{busy, pending, opened, ended, endpoint_of, is_same_name, is_same_way, waits_for};
-ghost use Rattle.usb_base.specs.declared.reports.What.TheVariants.{Refused};
+ghost use Rattle.std.specs.Prelude.{◌≡◌, ◌≤◌, ◌<◌, ◌+◌, length, count_by, slice_get, slice_range, option_and_then};
+ghost use Rattle.driver_rows.specs.DriverContent.{busy, pending, opened, ended, waits_for};
+ghost use Rattle.ehci_driver.specs.Standing.{with_refusal};
 
 use crate::driver::Driver;
 use driver_rows::{Reserve, Transfer};
@@ -93,7 +93,7 @@ impl Driver {
     /// One more line of the report: the command on this line of the script was refused. There is room for it.
     pub fn refuse(&mut self, line: u32, name: EpName, why: OfferError)
         requires { 1 ≤ self.old.room.reports }
-        ensures { self.new ≡ record self.old { reports = self.old.reports ++ (record { name = name; what = Refused line why; from = length self.old.store; len = 0 }) ∷ []; room = record self.old.room { reports = self.old.room.reports - 1 } } }
+        ensures { self.new ≡ with_refusal self.old name line why }
     {
         let from = self.store.len() as u32;
         self.reports.push_reserved(Report {

@@ -1,12 +1,10 @@
-ghost use Rattle.std.specs.Prelude.{◌≡◌, ℕ, ◌≤◌, ◌<◌, ◌-◌, ◌*◌, false, nat_eq, length, take, drop, slice_get, slice_set, slice_index, Some, None, Ok, Err, IfOk, IfErr, IfSome, IfNone, [], ◌∷◌, ◌++◌};
-ghost use Rattle.word_mem.specs.Memory.{Mem};
-ghost use Rattle.qh_qtd.specs.Qtd.{qtd_words};
-ghost use Rattle.run_book.specs.Book.{holding, Stands, store_words};
-ghost use Rattle.driver_rows.specs.DriverContent.{DriverContent, endpoint_of, endpoint_named};
-ghost use Rattle.driver_rows.specs.Harvests.{note_at};
-ghost use Rattle.driver_rows.specs.Words.{needs, dummy_qtd, get_stages, put_stages, request_stages, request_length};
-ghost use Rattle.driver_rows.specs.Offers.{Offered, Asked, take_runs, taken_transfer, offered_transfer, open_transfer, accepted_transfer, stage_words, note_stages, write_stages, send_stages, first_of, first_waiting, with_queued, with_transfer, takes_get, takes_put, takes_control, is_queued, HasRoom};
+ghost use Rattle.std.specs.Prelude.{◌≡◌, ◌≤◌, false, nat_eq, length, drop, slice_get, Some, None, Ok, Err, IfOk, IfErr, IfSome, IfNone, ◌++◌};
+ghost use Rattle.run_book.specs.Book.{holding, Stands};
+ghost use Rattle.driver_rows.specs.DriverContent.{endpoint_of, endpoint_named};
+ghost use Rattle.driver_rows.specs.Words.{request_length};
+ghost use Rattle.driver_rows.specs.Offers.{offered_transfer, stage_words, first_of, takes_get, takes_put, takes_control, HasRoom};
 ghost use Rattle.driver_words.specs.Cuts.{stages_of, IsCut};
+ghost use Rattle.ehci_driver.specs.Standing.{standing, get_asked, put_asked, request_asked, cut_asked, taken_asked, new_dummy, noted_transfer, written_transfer, accepted_with, entered};
 
 use crate::driver::Driver;
 use driver_endpoints::{can_get, can_put, less_room, or_first, refusal};
@@ -33,8 +31,8 @@ impl Driver {
         requires few { by ≤ 20480 }
         requires room { HasRoom self.old.room len }
         requires stands { Stands (holding self.old.book mem.old) }
-        ensures accepted { IfOk result (λ _. offered_transfer self.old mem.old name.now takes_get (record { sort = Sort.Get; stages = get_stages len by; most = len; bytes = [] }) ≡ Ok (record { driver = self.new; memory = mem.new })) }
-        ensures refused { IfErr result (λ why. offered_transfer self.old mem.old name.now takes_get (record { sort = Sort.Get; stages = get_stages len by; most = len; bytes = [] }) ≡ Err why) }
+        ensures accepted { IfOk result (λ _. offered_transfer self.old mem.old name.now takes_get (get_asked len by) ≡ Ok (standing self.new mem.new)) }
+        ensures refused { IfErr result (λ why. offered_transfer self.old mem.old name.now takes_get (get_asked len by) ≡ Err why) }
         ensures same { IfErr result (λ _. (self.new ≡ self.old) × (mem.new ≡ mem.old)) }
         ensures stands { Stands (holding self.new.book mem.new) }
     {
@@ -75,8 +73,8 @@ impl Driver {
         requires few { by ≤ 20480 }
         requires room { HasRoom self.old.room (length bytes.now) }
         requires stands { Stands (holding self.old.book mem.old) }
-        ensures accepted { IfOk result (λ _. offered_transfer self.old mem.old name.now takes_put (record { sort = Sort.Put; stages = put_stages (length bytes.now) by; most = length bytes.now; bytes = bytes.now }) ≡ Ok (record { driver = self.new; memory = mem.new })) }
-        ensures refused { IfErr result (λ why. offered_transfer self.old mem.old name.now takes_put (record { sort = Sort.Put; stages = put_stages (length bytes.now) by; most = length bytes.now; bytes = bytes.now }) ≡ Err why) }
+        ensures accepted { IfOk result (λ _. offered_transfer self.old mem.old name.now takes_put (put_asked bytes.now by) ≡ Ok (standing self.new mem.new)) }
+        ensures refused { IfErr result (λ why. offered_transfer self.old mem.old name.now takes_put (put_asked bytes.now by) ≡ Err why) }
         ensures same { IfErr result (λ _. (self.new ≡ self.old) × (mem.new ≡ mem.old)) }
         ensures stands { Stands (holding self.new.book mem.new) }
     {
@@ -115,8 +113,8 @@ impl Driver {
     ) -> Result<(), OfferError>
         requires room { HasRoom self.old.room (request_length setup.now) }
         requires stands { Stands (holding self.old.book mem.old) }
-        ensures accepted { IfOk result (λ _. offered_transfer self.old mem.old name.now takes_control (record { sort = Sort.Request; stages = request_stages setup.now; most = request_length setup.now; bytes = setup.now ++ bytes.now }) ≡ Ok (record { driver = self.new; memory = mem.new })) }
-        ensures refused { IfErr result (λ why. offered_transfer self.old mem.old name.now takes_control (record { sort = Sort.Request; stages = request_stages setup.now; most = request_length setup.now; bytes = setup.now ++ bytes.now }) ≡ Err why) }
+        ensures accepted { IfOk result (λ _. offered_transfer self.old mem.old name.now takes_control (request_asked setup.now bytes.now) ≡ Ok (standing self.new mem.new)) }
+        ensures refused { IfErr result (λ why. offered_transfer self.old mem.old name.now takes_control (request_asked setup.now bytes.now) ≡ Err why) }
         ensures same { IfErr result (λ _. (self.new ≡ self.old) × (mem.new ≡ mem.old)) }
         ensures stands { Stands (holding self.new.book mem.new) }
     {
@@ -182,8 +180,8 @@ impl Driver {
         requires reports { 1 ≤ self.old.room.reports }
         requires bytes { most ≤ self.old.room.report_bytes }
         requires stands { Stands (holding self.old.book mem.old) }
-        ensures accepted { IfOk result (λ _. taken_transfer self.old e endpoint.now (record { sort = sort; stages = stages_of cut.now; most = most; bytes = front.now ++ bytes.now }) (take_runs (holding self.old.book mem.old) (needs (stages_of cut.now))) ≡ Ok (record { driver = self.new; memory = mem.new })) }
-        ensures refused { IfErr result (λ why. taken_transfer self.old e endpoint.now (record { sort = sort; stages = stages_of cut.now; most = most; bytes = front.now ++ bytes.now }) (take_runs (holding self.old.book mem.old) (needs (stages_of cut.now))) ≡ Err why) }
+        ensures accepted { IfOk result (λ _. taken_asked self.old mem.old e endpoint.now (cut_asked sort cut.now most (front.now ++ bytes.now)) ≡ Ok (standing self.new mem.new)) }
+        ensures refused { IfErr result (λ why. taken_asked self.old mem.old e endpoint.now (cut_asked sort cut.now most (front.now ++ bytes.now)) ≡ Err why) }
         ensures same { IfErr result (λ _. (self.new ≡ self.old) × (mem.new ≡ mem.old)) }
         ensures stands { Stands (holding self.new.book mem.new) }
     {
@@ -217,7 +215,7 @@ impl Driver {
         requires reports { 1 ≤ self.old.room.reports }
         requires bytes { most ≤ self.old.room.report_bytes }
         requires stands { Stands (holding self.old.book mem.old) }
-        ensures accepted { ◌≡◌ {A = Offered} (record { driver = self.new; memory = mem.new }) (accepted_transfer self.old e endpoint.now (record { sort = sort; stages = stages_of cut.now; most = most; bytes = front.now ++ bytes.now }) (holding self.old.book mem.old) (slice_index (take (length (stages_of cut.now)) (drop keep self.old.book.taken)) (length (stages_of cut.now) - 1)) (note_stages self.old.notes (stages_of cut.now) endpoint.now.dummy (take (length (stages_of cut.now)) (drop keep self.old.book.taken)) (drop (length (stages_of cut.now)) (drop keep self.old.book.taken)))) }
+        ensures accepted { standing self.new mem.new ≡ accepted_with self.old mem.old e endpoint.now (cut_asked sort cut.now most (front.now ++ bytes.now)) (drop keep self.old.book.taken) }
         ensures stands { Stands (holding self.new.book mem.new) }
     {
         let queued = self.write_at(cut, endpoint.dummy, keep, front, bytes, mem);
@@ -249,10 +247,10 @@ impl Driver {
         requires front { length front.now ≤ 8 }
         requires stands { Stands (holding self.old.book mem.old) }
         ensures qtds { result.qtds ≡ length (stages_of cut.now) }
-        ensures dummy { result.dummy ≡ slice_index (take (length (stages_of cut.now)) (drop keep self.old.book.taken)) (length (stages_of cut.now) - 1) }
-        ensures driver { self.new ≡ record self.old { notes = note_stages self.old.notes (stages_of cut.now) first (take (length (stages_of cut.now)) (drop keep self.old.book.taken)) (drop (length (stages_of cut.now)) (drop keep self.old.book.taken)) } }
+        ensures dummy { result.dummy ≡ new_dummy (stages_of cut.now) (drop keep self.old.book.taken) }
+        ensures driver { self.new ≡ record self.old { notes = noted_transfer self.old.notes (stages_of cut.now) first (drop keep self.old.book.taken) } }
         ensures words { result.words ≡ stage_words self.new.notes (first_of (stages_of cut.now)) first result.dummy (nat_eq (length (stages_of cut.now)) 1) }
-        ensures memory { mem.new ≡ send_stages self.old.book (store_words self.old.book (write_stages self.old.book mem.old self.new.notes result.dummy (drop 1 (stages_of cut.now)) (note_at self.new.notes first).next) result.dummy (32 * result.dummy) (qtd_words dummy_qtd)) self.new.notes (stages_of cut.now) first (front.now ++ bytes.now) }
+        ensures memory { mem.new ≡ written_transfer self.old.book mem.old self.new.notes (stages_of cut.now) first result.dummy (front.now ++ bytes.now) }
         ensures stands { Stands (holding self.new.book mem.new) }
     {
         write_transfer(
@@ -274,7 +272,7 @@ impl Driver {
         requires reports { 1 ≤ self.old.room.reports }
         requires bytes { transfer.most ≤ self.old.room.report_bytes }
         requires open { transfer.reported ≡ false }
-        ensures driver { self.new ≡ record self.old { endpoints = slice_set self.old.endpoints e (with_queued endpoint.now queued.now.dummy (length self.old.transfers)); transfers = self.old.transfers ++ transfer ∷ []; command = Some (Command.Publish transfer.first queued.now.words); made = 0; room = with_transfer self.old.room transfer.most } }
+        ensures driver { self.new ≡ entered self.old e endpoint.now transfer queued.now.dummy queued.now.words }
     {
         let next = or_first(endpoint.next, self.transfers.len());
         self.room = less_room(self.room, transfer.most);

@@ -11,9 +11,9 @@ use Rattle.control_stages.specs.declared.rows.Stage.{Stage}
 use Rattle.control_stages.specs.declared.rows.Stage.TheVariants.{Refusing, Reading, AllRead, Writing, AllWritten, NoData}
 use Rattle.control_stages.specs.declared.rows.StageRow.{StageRow}
 use Rattle.control_stages.specs.declared.rows.StageRow.TheVariants.{Begins, Ignores, Naks, Sends, Takes, Drops, Acknowledges, Confirms, HasRoom, Stalls}
-use Rattle.control_stages.specs.declared.rows.Token.{Token}
-use Rattle.control_stages.specs.declared.rows.Token.TheVariants as Tokens
-use Rattle.control_stages.specs.Stages.{Stages, setup_of, token_of, stage_of, in_row, out_row, out_row_at, ping_row, is_status, far_with, sequence_of, row_by, row_of, moved_to, acted_at, acted_with, acked_with, after_row}
+use Rattle.control_stages.specs.declared.rows.StageToken.{StageToken}
+use Rattle.control_stages.specs.declared.rows.StageToken.TheVariants as Tokens
+use Rattle.control_stages.specs.Stages.{Stages, setup_of, token_of, stage_of, in_row, out_row, out_row_at, ping_row, is_status, far_with, sequence_of, row_by, stage_row, moved_to, acted_at, acted_with, acked_with, after_stage_row}
 use Rattle.control_stages.proofs.Kept.{setup_stays, setup_stays_acked}
 use Rattle.endpoint_laws.specs.Acts.{Event, Asks, Acks, after, is_setup, begins, is_status_row, done_of, acts_if, acts_at, acts_along, is_within, IsOnce, counted}
 
@@ -52,14 +52,14 @@ out_at_begins_none : (stage : Stage) (u : Option Request) (pid : Pid) (n : ℕ) 
 out_at_begins_none stage None pid n = refl
 out_at_begins_none stage (Some u) pid n = out_begins_none stage (sequence_of u.toggle pid) (is_status pid n) (far_with u n)
 
-begins_none : (token : Token) (stage : Stage) (c : Stages) (pid : Pid) (out : List ℕ) → is_setup token ≡ false → is_begin (row_by token stage c pid out) ≡ false
+begins_none : (token : StageToken) (stage : Stage) (c : Stages) (pid : Pid) (out : List ℕ) → is_setup token ≡ false → is_begin (row_by token stage c pid out) ≡ false
 begins_none Tokens.Setup stage c pid out h = true_not_false h
 begins_none Tokens.In stage c pid out h = nak_begins_none (c.naks == 0) (in_row stage) (in_begins_none stage)
 begins_none Tokens.Out stage c pid out h = nak_begins_none (c.naks == 0) (out_row_at stage c.request pid (length out)) (out_at_begins_none stage c.request pid (length out))
 begins_none Tokens.Ping stage c pid out h = nak_begins_none (c.naks == 0) (ping_row stage) (ping_begins_none stage)
 begins_none Tokens.Other stage c pid out h = nak_begins_none (c.naks == 0) Stalls refl
 
-not_setup : (token : Token) → is_setup token ≡ false → token ≢ Tokens.Setup
+not_setup : (token : StageToken) → is_setup token ≡ false → token ≢ Tokens.Setup
 not_setup token h e = true_not_false (ap is_setup (sym e) ∙ h)
 
 -- ---- whether the request was acted on, after a row
@@ -77,7 +77,7 @@ acted_with_done None c e = ap done_of e
 acted_with_done (Some u) c e = acted_at_done u.done u c refl e
 
 -- a status row acts, and no other does
-status_done : (row : StageRow) (c : Stages) → is_status_row row ≡ true → done_of (after_row row c).request ≡ true
+status_done : (row : StageRow) (c : Stages) → is_status_row row ≡ true → done_of (after_stage_row row c).request ≡ true
 status_done Acknowledges c h = acted_with_done c.request c refl
 status_done Confirms c h = acted_with_done c.request c refl
 status_done (Begins setup) c h = absurd (false≢true h)
@@ -89,7 +89,7 @@ status_done Drops c h = absurd (false≢true h)
 status_done HasRoom c h = absurd (false≢true h)
 status_done Stalls c h = absurd (false≢true h)
 
-other_done : (row : StageRow) (c : Stages) → is_status_row row ≡ false → is_begin row ≡ false → done_of (after_row row c).request ≡ done_of c.request
+other_done : (row : StageRow) (c : Stages) → is_status_row row ≡ false → is_begin row ≡ false → done_of (after_stage_row row c).request ≡ done_of c.request
 other_done Acknowledges c h k = true_not_false h
 other_done Confirms c h k = true_not_false h
 other_done (Begins setup) c h k = true_not_false k
@@ -122,7 +122,7 @@ data Acted (setup : Option (List ℕ)) : Bool → Bool → List (List ℕ) → T
   Now : Acted setup false true (option_to_list setup)
 
 row_acts : (row : StageRow) (c : Stages) (status done : Bool) → is_begin row ≡ false → is_status_row row ≡ status → done_of c.request ≡ done
-    → Acted (setup_of c.request) done (done_of (after_row row c).request) (if status && not done then option_to_list (setup_of c.request) else [])
+    → Acted (setup_of c.request) done (done_of (after_stage_row row c).request) (if status && not done then option_to_list (setup_of c.request) else [])
 row_acts row c true true k h e = subst (λ after. Acted (setup_of c.request) true after []) (sym (status_done row c h)) (Nothing true)
 row_acts row c true false k h e = subst (λ after. Acted (setup_of c.request) false after (option_to_list (setup_of c.request))) (sym (status_done row c h)) Now
 row_acts row c false true k h e = subst (λ after. Acted (setup_of c.request) true after []) (sym (other_done row c h k ∙ e)) (Nothing true)
@@ -130,7 +130,7 @@ row_acts row c false false k h e = subst (λ after. Acted (setup_of c.request) f
 
 event_acts : (c : Stages) (event : Event) → begins event ≡ false → Acted (setup_of c.request) (done_of c.request) (done_of (after c event).request) (acts_at c event)
 event_acts c (Asks reply ask out) h =
-    row_acts (row_of reply c ask out) c (is_status_row (row_of reply c ask out)) (done_of c.request) (begins_none (token_of ask.pid) (stage_of reply c) c ask.toggle out h) refl refl
+    row_acts (stage_row reply c ask out) c (is_status_row (stage_row reply c ask out)) (done_of c.request) (begins_none (token_of ask.pid) (stage_of reply c) c ask.toggle out h) refl refl
 event_acts c (Acks reply) h = subst (λ after. Acted (setup_of c.request) (done_of c.request) after []) (sym (acked_done (stage_of reply c) c.request c refl)) (Nothing (done_of c.request))
 
 -- ---- a run without a SETUP
@@ -194,7 +194,7 @@ acted_with_counts : (u : Option Request) (c : Stages) → (acted_with u c).acted
 acted_with_counts None c = refl
 acted_with_counts (Some u) c = acted_at_counts u.done u c
 
-row_counts : (row : StageRow) (c : Stages) → (after_row row c).acted ≡ counted (acts_if (is_status_row row) c.request) c.acted
+row_counts : (row : StageRow) (c : Stages) → (after_stage_row row c).acted ≡ counted (acts_if (is_status_row row) c.request) c.acted
 row_counts Acknowledges c = acted_with_counts c.request c
 row_counts Confirms c = acted_with_counts c.request c
 row_counts (Begins setup) c = refl
@@ -216,5 +216,5 @@ acked_counts AllWritten _ c = refl
 acked_counts NoData _ c = refl
 
 pub acts_are_counted : (c : Stages) (event : Event) → (after c event).acted ≡ counted (acts_at c event) c.acted
-acts_are_counted c (Asks reply ask out) = row_counts (row_of reply c ask out) c
+acts_are_counted c (Asks reply ask out) = row_counts (stage_row reply c ask out) c
 acts_are_counted c (Acks reply) = acked_counts (stage_of reply c) c.request c

@@ -8,9 +8,9 @@ use Rattle.control_stages.specs.Worked.{ask_of}
 use Rattle.control_stages.specs.declared.control.Request.{Request}
 use Rattle.control_stages.specs.declared.rows.StageRow.{StageRow}
 use Rattle.control_stages.specs.declared.rows.StageRow.TheVariants.{Acknowledges, Confirms}
-use Rattle.control_stages.specs.declared.rows.Token.{Token}
-use Rattle.control_stages.specs.declared.rows.Token.TheVariants as Tokens
-use Rattle.control_stages.specs.Stages.{Stages, setup_of, token_of, row_of, stages_after, stages_acked, one_more_act}
+use Rattle.control_stages.specs.declared.rows.StageToken.{StageToken}
+use Rattle.control_stages.specs.declared.rows.StageToken.TheVariants as Tokens
+use Rattle.control_stages.specs.Stages.{Stages, setup_of, token_of, stage_row, stages_after, stages_acked, one_more_act}
 
 -- What a control endpoint meets, with the device's reply to the request under way at that moment, if it has one.
 pub data Event : Type 0 where
@@ -21,7 +21,7 @@ abbrev pub after : Stages → Event → Stages
 after c (Asks reply ask out) = stages_after reply c ask out
 after c (Acks reply) = stages_acked reply c
 
-abbrev pub is_setup : Token → Bool
+abbrev pub is_setup : StageToken → Bool
 is_setup Tokens.Setup = true
 is_setup _ = false
 
@@ -46,7 +46,7 @@ abbrev pub acts_if : Bool → Option Request → List (List ℕ)
 acts_if acts u = if acts && not (done_of u) then option_to_list (setup_of u) else []
 
 abbrev pub acts_at : Stages → Event → List (List ℕ)
-acts_at c (Asks reply ask out) = acts_if (is_status_row (row_of reply c ask out)) c.request
+acts_at c (Asks reply ask out) = acts_if (is_status_row (stage_row reply c ask out)) c.request
 acts_at c (Acks reply) = []
 
 -- the setup bytes of the requests that are acted on along a run, in order

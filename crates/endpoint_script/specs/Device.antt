@@ -17,8 +17,8 @@ use Rattle.usb_base.specs.declared.packets.Reply.TheVariants.{Silent}
 use Rattle.usb_base.specs.declared.packets.Speed.{Speed}
 use Rattle.usb_base.specs.declared.packets.Way.{Way}
 use Rattle.usb_base.specs.declared.packets.Way.TheVariants as Ways
-use Rattle.control_stages.specs.declared.rows.Token.{Token}
-use Rattle.control_stages.specs.declared.rows.Token.TheVariants as Tokens
+use Rattle.control_stages.specs.declared.rows.StageToken.{StageToken}
+use Rattle.control_stages.specs.declared.rows.StageToken.TheVariants as Tokens
 use Rattle.control_stages.specs.Stages.{token_of}
 use Rattle.script_types.specs.declared.devices.DeviceText.{DeviceText}
 use Rattle.script_types.specs.declared.devices.EpText.{EpText}
@@ -109,7 +109,7 @@ or_else (Some place) other = Some place
 
 -- A SETUP is for a control endpoint, which has both ways; an IN is for it or an IN endpoint, an OUT or PING for it or an OUT
 -- endpoint; no other PID is for any endpoint (USB 2.0, 8.4.1 and 8.5.1).
-abbrev pub place_for : Token → List Endpoint → ℕ → Option ℕ
+abbrev pub place_for : StageToken → List Endpoint → ℕ → Option ℕ
 place_for Tokens.Setup es num = place_named es num Ways.Ctl
 place_for Tokens.In es num = or_else (place_named es num Ways.In) (place_named es num Ways.Ctl)
 place_for Tokens.Out es num = or_else (place_named es num Ways.Out) (place_named es num Ways.Ctl)

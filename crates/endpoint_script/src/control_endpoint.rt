@@ -3,7 +3,7 @@ ghost use Rattle.std.specs.Option.{option_copied, option_to_list};
 ghost use Rattle.endpoint_script.specs.Items.{naks_of, request_in, requests_of};
 ghost use Rattle.endpoint_script.specs.Controlling.{controlling_at, has_setup, place_under, place_in, reply_at, reply_of, controlling_reply, controlling_answered, controlling_acked};
 
-use control_stages::{ControlStages, Request, Token, token};
+use control_stages::{ControlStages, Request, StageToken, token};
 use script_types::Item;
 use std::alloc::{AllocError, Global};
 use std::marker::Model;
@@ -125,7 +125,7 @@ impl ControlEndpoint {
     {
         let reply = reply_at(&self.requests, self.place);
         let answer = self.stages.answer(ask, out, reply);
-        if let Token::Setup = token(ask.pid) {
+        if let StageToken::Setup = token(ask.pid) {
             self.place = place_under(&self.requests, self.stages.request());
         }
         answer

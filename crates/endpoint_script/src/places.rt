@@ -4,7 +4,7 @@ ghost use Rattle.endpoint_script.specs.Device.{is_named, place_named, place_for,
 ghost use Rattle.endpoint_script.specs.Places.{IsIndex, ArePlaces};
 
 use crate::endpoint::Endpoint;
-use control_stages::Token;
+use control_stages::StageToken;
 use usb_base::{EpNum, Way};
 
 /// Where the endpoint of this number and way stands.
@@ -62,14 +62,16 @@ impl Places {
     }
 
     /// Where the endpoint stands that a token with this number is for.
-    pub fn place_for(&self, token: Token, num: EpNum) -> Option<usize>
+    pub fn place_for(&self, token: StageToken, num: EpNum) -> Option<usize>
         ensures { (es : List EndpointContent) → ArePlaces es self.now → result ≡ place_for token es num }
     {
         match token {
-            Token::Setup => self.named(num, Way::Ctl),
-            Token::In => self.named(num, Way::In).or(self.named(num, Way::Ctl)),
-            Token::Out | Token::Ping => self.named(num, Way::Out).or(self.named(num, Way::Ctl)),
-            Token::Other => None,
+            StageToken::Setup => self.named(num, Way::Ctl),
+            StageToken::In => self.named(num, Way::In).or(self.named(num, Way::Ctl)),
+            StageToken::Out | StageToken::Ping => self
+                .named(num, Way::Out)
+                .or(self.named(num, Way::Ctl)),
+            StageToken::Other => None,
         }
     }
 }

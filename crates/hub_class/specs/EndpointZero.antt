@@ -7,9 +7,9 @@ use Rattle.usb_base.specs.declared.packets.Reply.TheVariants.{Silent}
 use Rattle.control_stages.specs.declared.control.Request.{Request}
 use Rattle.control_stages.specs.declared.rows.StageRow.{StageRow}
 use Rattle.control_stages.specs.declared.rows.StageRow.TheVariants.{Acknowledges, Confirms}
-use Rattle.control_stages.specs.declared.rows.Token.{Token}
-use Rattle.control_stages.specs.declared.rows.Token.TheVariants.{Other}
-use Rattle.control_stages.specs.Stages.{token_of, setup_of, row_of, stages_reply, stages_after, stages_acked}
+use Rattle.control_stages.specs.declared.rows.StageToken.{StageToken}
+use Rattle.control_stages.specs.declared.rows.StageToken.TheVariants.{Other}
+use Rattle.control_stages.specs.Stages.{token_of, setup_of, stage_row, stages_reply, stages_after, stages_acked}
 use Rattle.hub_ports.specs.declared.rows.HubReply.{HubReply}
 use Rattle.hub_ports.specs.declared.rows.HubReply.TheVariants.{Bytes, Done, Stall}
 use Rattle.hub_class.specs.HubContent.{HubContent}
@@ -29,7 +29,7 @@ reply_to (Some setup) h = reply_bytes (request_answer setup h)
 abbrev pub reply_under : HubContent → Option (List ℕ)
 reply_under h = reply_to (setup_of h.control.request) h
 
-abbrev pub is_token : Token → Bool
+abbrev pub is_token : StageToken → Bool
 is_token Other = false
 is_token _ = true
 
@@ -52,7 +52,7 @@ acted_with None h = h
 acted_with (Some setup) h = requested setup h
 
 abbrev pub row_at : Ask → List ℕ → HubContent → StageRow
-row_at ask out h = row_of (reply_under h) h.control ask out
+row_at ask out h = stage_row (reply_under h) h.control ask out
 
 -- the answer to a plain ask that sends these bytes, and the hub after it
 abbrev pub hub_reply : Ask → List ℕ → HubContent → Reply

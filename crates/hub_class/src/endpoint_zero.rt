@@ -3,7 +3,7 @@ ghost use Rattle.std.specs.Option.{option_copied};
 ghost use Rattle.control_stages.specs.Stages.{token_of};
 ghost use Rattle.hub_class.specs.EndpointZero.{reply_bytes, is_token, acts_on, unless_done};
 
-use control_stages::{Request, StageRow, Token, token};
+use control_stages::{Request, StageRow, StageToken, token};
 use hub_ports::HubReply;
 use usb_base::Pid;
 
@@ -23,7 +23,7 @@ pub fn is_token_pid(pid: Pid) -> bool
     ensures { result ≡ is_token (token_of pid) }
 {
     match token(pid) {
-        Token::Other => false,
+        StageToken::Other => false,
         _ => true,
     }
 }

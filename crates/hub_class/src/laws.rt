@@ -25,7 +25,8 @@ pub fn acks_and_work_leave_the_ports<W: Wire>()
 /// An answer of endpoint 0 changes the ports only where it acts on a request, and then as that request does.
 pub fn ports_change_by_requests()
     ensures still { (ask : Asked) → (out : List ℕ) → (h : HubContent) → acts_on (row_at ask out h) h.control.request ≡ None → (hub_answered ask out h).ports ≡ h.ports }
-    ensures acts { (ask : Asked) → (out : List ℕ) → (setup : List ℕ) → (h : HubContent) → suits ask h ≡ true → acts_on (row_at ask out h) h.control.request ≡ Some setup → (hub_answered ask out h).ports ≡ (requested setup h).ports }
+    ensures acts { (ask : Asked) → (out : List ℕ) → (setup : List ℕ) → (h : HubContent) → suits ask h ≡ true →
+        acts_on (row_at ask out h) h.control.request ≡ Some setup → (hub_answered ask out h).ports ≡ (requested setup h).ports }
 {}
 
 /// A request that the hub doesn't know changes nothing.
@@ -35,5 +36,8 @@ pub fn unknown_requests_change_nothing()
 
 /// Over a bus below that answers and changes by functions of its content, the work of a microframe is a function.
 pub fn the_work_is_a_function<W: Wire>()
-    ensures { (reply_of : W → Asked → List ℕ → Heard) → (wire_after : W → Asked → List ℕ → W) → ((w : W) → (ask : Asked) → (out : List ℕ) → (reply : Heard) → (v : W) → W.transacts w ask out reply v → (reply ≡ reply_of w ask out) × (v ≡ wire_after w ask out)) → (frindex : ℕ) → (old : HubContent) → (before : W) → (new : HubContent) → (after : W) → HubWorks W.transacts frindex old before new after → (new ≡ hub_worked reply_of wire_after frindex old before) × (after ≡ wire_left reply_of wire_after old before) }
+    ensures { (reply_of : W → Asked → List ℕ → Heard) → (wire_after : W → Asked → List ℕ → W) →
+        ((w : W) → (ask : Asked) → (out : List ℕ) → (reply : Heard) → (v : W) → W.transacts w ask out reply v → (reply ≡ reply_of w ask out) × (v ≡ wire_after w ask out)) →
+        (frindex : ℕ) → (old : HubContent) → (before : W) → (new : HubContent) → (after : W) → HubWorks W.transacts frindex old before new after →
+        (new ≡ hub_worked reply_of wire_after frindex old before) × (after ≡ wire_left reply_of wire_after old before) }
 {}

@@ -7,7 +7,7 @@ use Rattle.control_stages.specs.declared.rows.Stage.{Stage}
 use Rattle.control_stages.specs.declared.rows.Stage.TheVariants.{Refusing, Reading, AllRead, Writing, AllWritten, NoData}
 use Rattle.control_stages.specs.declared.rows.StageRow.{StageRow}
 use Rattle.control_stages.specs.declared.rows.StageRow.TheVariants.{Begins, Ignores, Naks, Sends, Takes, Drops, Acknowledges, Confirms, HasRoom, Stalls}
-use Rattle.control_stages.specs.Stages.{Stages, stage_of, acted_at, after_row, acked_with}
+use Rattle.control_stages.specs.Stages.{Stages, stage_of, acted_at, after_stage_row, acked_with}
 use Rattle.control_stages.specs.Stages as Staging
 use Rattle.hub_ports.specs.declared.rows.HubRequest.{HubRequest}
 use Rattle.hub_ports.specs.declared.rows.HubRequest.TheVariants.{HubStatus, PortStatus, ChangePort, ClearBuffer, ResetTranslator}
@@ -65,7 +65,7 @@ acted_on_steady : (request : Option Request) (c : Stages) → Steady c → Stead
 acted_on_steady None c s = s
 acted_on_steady (Some u) c s = acted_steady u.done u c s
 
-row_steady : (row : StageRow) (c : Stages) → Steady c → Steady (after_row row c)
+row_steady : (row : StageRow) (c : Stages) → Steady c → Steady (after_stage_row row c)
 row_steady (Begins setup) c s = record { max = s.max; naks = s.naks }
 row_steady Ignores c s = s
 row_steady Naks c s = record { max = s.max; naks = omega (arith, s.naks) }
@@ -81,8 +81,8 @@ acted_ready : (setup : Option (List ℕ)) (h : HubContent) → IsReady h → IsR
 acted_ready None h r = r
 acted_ready (Some setup) h r = requested_ready setup h r
 
-answered_by : (b : Bool) (row : StageRow) (h : HubContent) → IsReady h → IsReady (if b then acted_with (acts_on row h.control.request) (record h { control = after_row row h.control }) else h)
-answered_by true row h r = acted_ready (acts_on row h.control.request) (record h { control = after_row row h.control }) (ready_with (after_row row h.control) h (row_steady row h.control (steady_of h r)))
+answered_by : (b : Bool) (row : StageRow) (h : HubContent) → IsReady h → IsReady (if b then acted_with (acts_on row h.control.request) (record h { control = after_stage_row row h.control }) else h)
+answered_by true row h r = acted_ready (acts_on row h.control.request) (record h { control = after_stage_row row h.control }) (ready_with (after_stage_row row h.control) h (row_steady row h.control (steady_of h r)))
 answered_by false row h r = r
 
 pub answered_ready : (ask : Ask) (out : List ℕ) (h : HubContent) → IsReady h → IsReady (hub_answered ask out h)

@@ -7,9 +7,9 @@ use Rattle.usb_base.specs.declared.packets.Pid.TheVariants as Pids
 use Rattle.usb_base.specs.declared.packets.Reply.TheVariants.{Silent, Hand}
 use Rattle.control_stages.specs.declared.rows.StageRow.{StageRow}
 use Rattle.control_stages.specs.declared.rows.StageRow.TheVariants.{Begins, Ignores}
-use Rattle.control_stages.specs.declared.rows.Token.{Token}
-use Rattle.control_stages.specs.declared.rows.Token.TheVariants as Tokens
-use Rattle.control_stages.specs.Stages.{token_of, stage_of, row_by, row_reply, after_row, unless_nak}
+use Rattle.control_stages.specs.declared.rows.StageToken.{StageToken}
+use Rattle.control_stages.specs.declared.rows.StageToken.TheVariants as Tokens
+use Rattle.control_stages.specs.Stages.{token_of, stage_of, row_by, row_reply, after_stage_row, unless_nak}
 use Rattle.hub_class.specs.HubContent.{HubContent}
 use Rattle.hub_class.specs.EndpointZero.{reply_under, suits, acts_on, acted_with, row_at, hub_reply, hub_answered, hub_answered_at}
 use Rattle.hub_laws.specs.Stages.{Hears, told}
@@ -20,15 +20,15 @@ reply_by_row ask out h row e f =
     subst (λ (b : Bool). (if b then row_reply (row_at ask out h) (reply_under h) h.control else Silent) ≡ row_reply row (reply_under h) h.control) (sym e)
     (subst (λ (r : StageRow). row_reply r (reply_under h) h.control ≡ row_reply row (reply_under h) h.control) (sym f) refl)
 
-pub after_by_row : (ask : Ask) (out : List ℕ) (h : HubContent) (row : StageRow) → suits ask h ≡ true → row_at ask out h ≡ row → hub_answered ask out h ≡ acted_with (acts_on row h.control.request) (record h { control = after_row row h.control })
+pub after_by_row : (ask : Ask) (out : List ℕ) (h : HubContent) (row : StageRow) → suits ask h ≡ true → row_at ask out h ≡ row → hub_answered ask out h ≡ acted_with (acts_on row h.control.request) (record h { control = after_stage_row row h.control })
 after_by_row ask out h row e f =
-    subst (λ (b : Bool). (if b then hub_answered_at ask out h else h) ≡ acted_with (acts_on row h.control.request) (record h { control = after_row row h.control })) (sym e)
-    (subst (λ (r : StageRow). acted_with (acts_on r h.control.request) (record h { control = after_row r h.control }) ≡ acted_with (acts_on row h.control.request) (record h { control = after_row row h.control })) (sym f) refl)
+    subst (λ (b : Bool). (if b then hub_answered_at ask out h else h) ≡ acted_with (acts_on row h.control.request) (record h { control = after_stage_row row h.control })) (sym e)
+    (subst (λ (r : StageRow). acted_with (acts_on r h.control.request) (record h { control = after_stage_row r h.control }) ≡ acted_with (acts_on row h.control.request) (record h { control = after_stage_row row h.control })) (sym f) refl)
 
 -- the row of each token
-pub row_by_token : (token : Token) (ask : Ask) (out : List ℕ) (h : HubContent) → token_of ask.pid ≡ token → row_at ask out h ≡ row_by token (stage_of (reply_under h) h.control) h.control ask.toggle out
+pub row_by_token : (token : StageToken) (ask : Ask) (out : List ℕ) (h : HubContent) → token_of ask.pid ≡ token → row_at ask out h ≡ row_by token (stage_of (reply_under h) h.control) h.control ask.toggle out
 row_by_token token ask out h e =
-    subst (λ (t : Token). row_by t (stage_of (reply_under h) h.control) h.control ask.toggle out ≡ row_by token (stage_of (reply_under h) h.control) h.control ask.toggle out) (sym e) refl
+    subst (λ (t : StageToken). row_by t (stage_of (reply_under h) h.control) h.control ask.toggle out ≡ row_by token (stage_of (reply_under h) h.control) h.control ask.toggle out) (sym e) refl
 
 setup_by : (b : Bool) (out : List ℕ) → b ≡ true → (if b then Begins out else Ignores) ≡ Begins out
 setup_by b out e = subst (λ (x : Bool). (if x then Begins out else Ignores) ≡ Begins out) (sym e) refl

@@ -10,8 +10,8 @@ use Rattle.control_stages.specs.declared.control.Request.{Request}
 use Rattle.control_stages.specs.declared.rows.Stage.{Stage}
 use Rattle.control_stages.specs.declared.rows.Stage.TheVariants.{Refusing, Reading, AllRead, NoData}
 use Rattle.control_stages.specs.declared.rows.StageRow.TheVariants.{Confirms, Sends, Acknowledges, Stalls}
-use Rattle.control_stages.specs.declared.rows.Token.{Token}
-use Rattle.control_stages.specs.declared.rows.Token.TheVariants as Tokens
+use Rattle.control_stages.specs.declared.rows.StageToken.{StageToken}
+use Rattle.control_stages.specs.declared.rows.StageToken.TheVariants as Tokens
 use Rattle.control_stages.specs.Stages.{Stages, token_of, wanted_of, begun_with, is_read, data_stage, read_stage, write_stage, stage_of, stage_at, in_row, out_row_at, row_by, packet_with, packet_at, acked_with}
 use Rattle.hub_ports.specs.declared.rows.HubReply.{HubReply}
 use Rattle.hub_ports.specs.declared.rows.HubReply.TheVariants as Answers
@@ -178,7 +178,7 @@ read_after c setup bytes h ready e hears t =
 
 -- ---- a request that the hub doesn't know
 
-refusing_row : (token : Token) (c : Stages) (u : Request) (pid : Pid) (out : List ℕ) → c.naks ≡ 0 → c.request ≡ Some u → token ≢ Tokens.Setup → row_by token Refusing c pid out ≡ Stalls
+refusing_row : (token : StageToken) (c : Stages) (u : Request) (pid : Pid) (out : List ℕ) → c.naks ≡ 0 → c.request ≡ Some u → token ≢ Tokens.Setup → row_by token Refusing c pid out ≡ Stalls
 refusing_row Tokens.Setup c u pid out n r not_setup = absurd (not_setup refl)
 refusing_row Tokens.In c u pid out n r not_setup = never_busy c.naks Stalls n
 refusing_row Tokens.Out c u pid out n r not_setup =

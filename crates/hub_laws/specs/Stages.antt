@@ -2,13 +2,13 @@
 use Rattle.std.specs.Prelude.{◌≡◌, ℕ, true, false, List, Some}
 use Rattle.usb_base.specs.declared.packets.Ask.{Ask}
 use Rattle.control_stages.specs.declared.control.Request.{Request}
-use Rattle.control_stages.specs.declared.rows.Token.{Token}
+use Rattle.control_stages.specs.declared.rows.StageToken.{StageToken}
 use Rattle.control_stages.specs.Stages.{token_of, begun_with, one_more_act}
 use Rattle.hub_class.specs.HubContent.{HubContent}
 use Rattle.hub_class.specs.EndpointZero.{suits}
 
 -- the ask is this token for the hub's endpoint 0
-pub record Hears (token : Token) (ask : Ask) (h : HubContent) : Type 0 where
+pub record Hears (token : StageToken) (ask : Ask) (h : HubContent) : Type 0 where
   pub suited : suits ask h ≡ true
   pub token_is : token_of ask.pid ≡ token
 

@@ -4,7 +4,7 @@ ghost use Rattle.usb_base.specs.declared.packets.Ask.{Ask as Asked};
 ghost use Rattle.usb_base.specs.declared.packets.Pid.TheVariants as Pids;
 ghost use Rattle.usb_base.specs.declared.packets.Reply.TheVariants.{Bytes as DataPacket, Hand as Handshake};
 ghost use Rattle.script_types.specs.declared.devices.HubText.{HubText as HubLine};
-ghost use Rattle.control_stages.specs.declared.rows.Token.TheVariants as Tokens;
+ghost use Rattle.control_stages.specs.declared.rows.StageToken.TheVariants as Tokens;
 ghost use Rattle.control_stages.specs.Stages.{token_of, wanted_of, begun_with};
 ghost use Rattle.hub_ports.specs.declared.rows.HubReply.TheVariants as Answers;
 ghost use Rattle.hub_class.specs.HubContent.{HubContent, opening};

@@ -1,6 +1,6 @@
 //! Worked rows: the premises of the laws at a hub of two ports, which the check computes.
 ghost use Rattle.std.specs.Prelude.{◌≡◌, [], ◌∷◌};
-ghost use Rattle.control_stages.specs.declared.rows.Token.TheVariants as Tokens;
+ghost use Rattle.control_stages.specs.declared.rows.StageToken.TheVariants as Tokens;
 ghost use Rattle.control_stages.specs.Stages.{begun_with};
 ghost use Rattle.hub_ports.specs.declared.rows.HubReply.TheVariants as Answers;
 ghost use Rattle.hub_class.specs.Requesting.{requested, request_answer};

@@ -6,6 +6,8 @@
 
 mod probing;
 mod silence;
+#[cfg(test)]
+mod tests;
 pub mod worked;
 
 pub use probing::{ProbeError, Probed, probe};

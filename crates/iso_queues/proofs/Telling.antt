@@ -5,7 +5,7 @@ use Rattle.word_mem.specs.Memory.{Mem}
 use Rattle.word_mem.specs.Views.{byte_at}
 use Rattle.bandwidth.specs.Placements.{has}
 use Rattle.periodic_rows.specs.declared.content.DescriptorNote.{DescriptorNote}
-use Rattle.periodic_rows.specs.Descriptors.{buffer_address, bytes_from, slots_before, slot_in, moved_in, slot_told, told_from}
+use Rattle.periodic_rows.specs.Descriptors.{buffer_address, bytes_from, slots_before, slot_in, moved_in, slot_told, told_from, moved_beside, sitd_in, split_told}
 
 range_more : (a n : ℕ) → range_with_len a (suc n) ≡ range_with_len a n ++ (a + n) ∷ []
 range_more a zero = ap (λ k. k ∷ []) (let e : a ≡ a + 0 = omega arith in e)
@@ -103,3 +103,9 @@ unfolding told_from
 told_more note m b u n k below =
     let e : n - u ≡ suc (n - (u + 1)) = omega arith in
     ap (λ c. take k (told_from note m b u c)) e ∙ take_both k (slot_told note m b u) (told_from note m b (u + 1) (n - (u + 1)))
+
+-- ---- the one slot of a siTD
+
+pub split_taken : (note : DescriptorNote) (m : Mem) (b most n moved : ℕ) → moved ≡ moved_beside note.slot (sitd_in m b).total → n ≡ min most moved → bytes_from m note.buffer 0 n ≡ take most (split_told note m b)
+split_taken note m b most n moved all small =
+    ap (bytes_from m note.buffer 0) (small ∙ ap (λ k. min most k) all) ∙ sym (take_bytes m note.buffer 0 (moved_beside note.slot (sitd_in m b).total) most)

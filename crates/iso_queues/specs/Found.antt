@@ -1,9 +1,12 @@
--- What the slots of the descriptor in a block tell.
+-- What the descriptor in a block tells: an iTD by its eight slots, a siTD by its one.
 use Rattle.std.specs.Prelude.{ℕ, if◌then◌else◌}
 use Rattle.word_mem.specs.Memory.{Mem}
-use Rattle.periodic_rows.specs.Descriptors.{is_served, errors_in}
+use Rattle.periodic_rows.specs.Descriptors.{itd_is_active, itd_errors, sitd_in, sitd_errors}
 use Rattle.driver_rows.specs.declared.rows.Found.{Found}
 use Rattle.driver_rows.specs.declared.rows.Found.TheVariants as founds
 
-abbrev pub found_at : Mem → ℕ → Found
-found_at m b = if is_served m b then founds.Served (errors_in m b) else founds.Active
+abbrev pub itd_found : Mem → ℕ → Found
+itd_found m b = if itd_is_active m b then founds.Active else founds.Served (itd_errors m b)
+
+abbrev pub sitd_found : Mem → ℕ → Found
+sitd_found m b = if (sitd_in m b).active then founds.Active else founds.Served (sitd_errors m b)

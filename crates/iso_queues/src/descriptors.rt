@@ -74,8 +74,8 @@ fn slot_in_frame(note: &DescriptorNote, u: u8) -> ItdSlot
     empty_slot()
 }
 
-/// A new descriptor of this endpoint, with link word 0 (EHCI 1.0, 3.3).
-pub fn new_descriptor(desc: &EpDesc, note: &DescriptorNote) -> Itd
+/// A new iTD of this endpoint, with link word 0 (EHCI 1.0, 3.3).
+pub fn new_itd(desc: &EpDesc, note: &DescriptorNote) -> Itd
     requires slot { note.now.slot ≤ 3072 }
     requires max { desc.now.max ≤ 1024 }
     requires some { 1 ≤ desc.now.multi }

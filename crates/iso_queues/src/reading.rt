@@ -1,41 +1,18 @@
 ghost use Rattle.std.specs.Prelude.{◌≡◌, ◌≤◌, ◌<◌, ◌+◌, ◌-◌, ◌*◌, ◌++◌, map, take, length, vec_len, vec_capacity, if◌then◌else◌};
-ghost use Rattle.word_mem.specs.Memory.{word_at};
-ghost use Rattle.word_mem.specs.Views.{byte_at};
-ghost use Rattle.periodic_rows.specs.Descriptors.{buffer_address, slot_in, is_served, errors_in, has_error, moved_in, bytes_from, slot_told, told_bytes};
-ghost use Rattle.iso_queues.specs.Found.{found_at};
+ghost use Rattle.driver_rows.specs.Rows.{descriptor_found};
+ghost use Rattle.periodic_rows.specs.Descriptors.{slot_in, itd_is_active, itd_errors, has_error, moved_in, bytes_from, slot_told, told_from, split_told, told_bytes};
+ghost use Rattle.iso_queues.specs.Found.{itd_found};
 
 use crate::descriptors::address_in;
 use crate::slots::{count_before, has_bit};
+use crate::splits::{moved_of_sitd, sitd_found};
+use crate::words::{byte_of_memory, word_or_zero};
 use driver_rows::Found;
 use itd_sitd::ItdSlot;
 use periodic_rows::DescriptorNote;
 use word_mem::WordMem;
 
-/// The word at the byte address `at`, and 0 past the last word.
-fn word_or_zero(mem: &WordMem, at: u32) -> u32
-    ensures { result ≡ word_at mem.now at }
-{
-    if at / 4 < mem.words() {
-        mem.word(at - at % 4)
-    } else {
-        0
-    }
-}
-
-/// The byte at a byte address.
-fn byte_of_memory(mem: &WordMem, at: u32) -> u8
-    ensures { result ≡ byte_at mem.now at }
-{
-    let word = word_or_zero(mem, at);
-    match at % 4 {
-        0 => (word & 0xff) as u8,
-        1 => ((word >> 8) & 0xff) as u8,
-        2 => ((word >> 16) & 0xff) as u8,
-        _ => (word >> 24) as u8,
-    }
-}
-
-/// The slot of a microframe of the descriptor in this block, as it stands.
+/// The slot of a microframe of the iTD in this block, as it stands.
 fn slot_of_memory(mem: &WordMem, block: u16, u: u8) -> ItdSlot
     requires { u ≤ 7 }
     ensures { result ≡ slot_in mem.now block u }
@@ -69,9 +46,9 @@ fn error_at(mem: &WordMem, block: u16, u: u8) -> u8
     }
 }
 
-/// Whether no slot of the descriptor in this block is active, and how many have an error bit.
-pub fn descriptor_found(mem: &WordMem, block: u16) -> Found
-    ensures { result ≡ found_at mem.now block }
+/// Whether no slot of the iTD in this block is active, and how many have an error bit.
+fn itd_found(mem: &WordMem, block: u16) -> Found
+    ensures { result ≡ itd_found mem.now block }
 {
     if is_active_at(mem, block, 0)
         || is_active_at(mem, block, 1)
@@ -94,6 +71,16 @@ pub fn descriptor_found(mem: &WordMem, block: u16) -> Found
             + error_at(mem, block, 6)
             + error_at(mem, block, 7),
     )
+}
+
+/// Whether no slot of the descriptor in this block is active, and how many have an error bit; a siTD is one slot.
+pub fn descriptor_found(mem: &WordMem, note: &DescriptorNote, block: u16) -> Found
+    ensures { result ≡ descriptor_found note.now mem.now block }
+{
+    if note.split {
+        return sitd_found(mem, block);
+    }
+    itd_found(mem, block)
 }
 
 /// How many bytes a slot tells: none where it tells more than it has.
@@ -146,11 +133,11 @@ fn append_slot(
     most - n
 }
 
-/// Appends the bytes that were moved in the slots of the descriptor in this block, but at most `most`.
+/// Appends the bytes that were moved in the slots of the iTD in this block, but at most `most`.
 #[tactic(auto, using(std::proofs::lemmas::Grind::common_steps, crate::proofs::Telling::told_more, crate::proofs::Telling::told_none))]
-pub fn append_told(store: &mut Vec<u8>, mem: &WordMem, note: &DescriptorNote, block: u16, most: u32)
+fn append_slots(store: &mut Vec<u8>, mem: &WordMem, note: &DescriptorNote, block: u16, most: u32)
     requires { vec_len store.old + most ≤ vec_capacity store.old }
-    ensures items { store.new.items ≡ store.old.items ++ take most (told_bytes note.now mem.now block) }
+    ensures items { store.new.items ≡ store.old.items ++ take most (told_from note.now mem.now block 0 8) }
     ensures len { vec_len store.new ≤ vec_len store.old + most }
     ensures capacity { vec_capacity store.new ≡ vec_capacity store.old }
 {
@@ -158,4 +145,29 @@ pub fn append_told(store: &mut Vec<u8>, mem: &WordMem, note: &DescriptorNote, bl
     for u in 0..8 {
         left = append_slot(store, mem, note, block, u, left);
     }
+}
+
+/// Appends the bytes that were moved by the siTD in this block, but at most `most`.
+fn append_split(store: &mut Vec<u8>, mem: &WordMem, note: &DescriptorNote, block: u16, most: u32)
+    requires { vec_len store.old + most ≤ vec_capacity store.old }
+    ensures items { store.new.items ≡ store.old.items ++ take most (split_told note.now mem.now block) }
+    ensures len { vec_len store.new ≤ vec_len store.old + most }
+    ensures capacity { vec_capacity store.new ≡ vec_capacity store.old }
+{
+    let n = most.min(moved_of_sitd(mem, block, note.slot) as u32);
+    append_bytes(store, mem, &note.buffer, 0, n as u16);
+}
+
+/// Appends the bytes that were moved in the slots of the descriptor in this block, but at most `most`.
+pub fn append_told(store: &mut Vec<u8>, mem: &WordMem, note: &DescriptorNote, block: u16, most: u32)
+    requires { vec_len store.old + most ≤ vec_capacity store.old }
+    ensures items { store.new.items ≡ store.old.items ++ take most (told_bytes note.now mem.now block) }
+    ensures len { vec_len store.new ≤ vec_len store.old + most }
+    ensures capacity { vec_capacity store.new ≡ vec_capacity store.old }
+{
+    if note.split {
+        append_split(store, mem, note, block, most);
+        return;
+    }
+    append_slots(store, mem, note, block, most);
 }

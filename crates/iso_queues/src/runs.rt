@@ -2,7 +2,8 @@ ghost use Rattle.std.specs.Prelude.{◌≡◌, ◌≤◌, ◌-◌, ◌∷◌, �
 ghost use Rattle.run_book.specs.Book.{Holding, holding, Stands, take_run, IsTakenFrom};
 ghost use Rattle.word_mem.specs.Free.{longest_run};
 ghost use Rattle.driver_rows.specs.Words.{buffer_needs};
-ghost use Rattle.driver_rows.specs.Offers.{take_runs, iso_needs, total_of};
+ghost use Rattle.periodic_rows.specs.Descriptors.{slot_limit};
+ghost use Rattle.driver_rows.specs.Offers.{take_runs, iso_needs, descriptor_blocks, total_of};
 
 use crate::slots::total_bytes;
 use driver_queues::{take_buffer, take_each};
@@ -11,7 +12,7 @@ use run_book::RunBook;
 use usb_base::OfferError;
 use word_mem::WordMem;
 
-/// Takes the runs of so many descriptors: two blocks for each iTD, and then those of its buffer.
+/// Takes the runs of so many descriptors: two blocks for each iTD or one for each siTD, and then those of its buffer.
 ///
 /// # Errors
 ///
@@ -22,7 +23,7 @@ pub fn take_descriptors(
     slots: &Slots,
     count: u8,
 ) -> Result<(), OfferError>
-    requires slot { slots.now.slot ≤ 3072 }
+    requires slot { slots.now.slot ≤ slot_limit slots.now.split }
     requires stands { Stands (holding book.old mem.old) }
     ensures taken { IfOk result (λ _. take_runs (holding book.old mem.old) (iso_needs slots.now count) ≡ Ok (holding book.new mem.new)) }
     ensures refused { IfErr result (λ why. take_runs (holding book.old mem.old) (iso_needs slots.now count) ≡ Err why) }
@@ -47,30 +48,47 @@ fn take_all(
     slots: &Slots,
     count: u8,
 ) -> Result<(), OfferError>
-    requires slot { slots.now.slot ≤ 3072 }
+    requires slot { slots.now.slot ≤ slot_limit slots.now.split }
     requires stands { Stands (holding book.old mem.old) }
     ensures taken { IfOk result (λ _. take_runs (holding book.old mem.old) (iso_needs slots.now count) ≡ Ok (holding book.new mem.new)) }
     ensures refused { IfErr result (λ why. take_runs (holding book.old mem.old) (iso_needs slots.now count) ≡ Err why) }
     ensures from { (before : Holding) → IsTakenFrom before (holding book.old mem.old) → IsTakenFrom before (holding book.new mem.new) }
     ensures stands { Stands (holding book.new mem.new) }
 {
+    let blocks = blocks_of(slots);
     let total = total_bytes(slots);
     for _descriptor in 0..count {
-        take_one_descriptor(book, mem, total)?;
+        take_one_descriptor(book, mem, blocks, total)?;
     }
     Ok(())
 }
 
-/// Takes the runs of a descriptor, as far as they are found.
+/// How many blocks a descriptor has: an iTD has sixteen words, a siTD seven.
+fn blocks_of(slots: &Slots) -> u32
+    ensures blocks { result ≡ descriptor_blocks slots.now }
+    ensures some { 1 ≤ result }
+    ensures few { result ≤ 2 }
+{
+    if slots.split { 1 } else { 2 }
+}
+
+/// Takes the runs of a descriptor of so many blocks, as far as they are found.
 #[tactic(auto, using(std::proofs::lemmas::Grind::common_steps, crate::proofs::Taken::first_found, crate::proofs::Taken::first_missing))]
-fn take_one_descriptor(book: &mut RunBook, mem: &mut WordMem, total: u16) -> Result<(), OfferError>
+fn take_one_descriptor(
+    book: &mut RunBook,
+    mem: &mut WordMem,
+    blocks: u32,
+    total: u16,
+) -> Result<(), OfferError>
+    requires some { 1 ≤ blocks }
+    requires few { blocks ≤ 2 }
     requires total { total ≤ 24576 }
     requires stands { Stands (holding book.old mem.old) }
-    ensures taken { IfOk result (λ _. take_runs (holding book.old mem.old) (2 ∷ buffer_needs total) ≡ Ok (holding book.new mem.new)) }
-    ensures refused { IfErr result (λ why. take_runs (holding book.old mem.old) (2 ∷ buffer_needs total) ≡ Err why) }
+    ensures taken { IfOk result (λ _. take_runs (holding book.old mem.old) (blocks ∷ buffer_needs total) ≡ Ok (holding book.new mem.new)) }
+    ensures refused { IfErr result (λ why. take_runs (holding book.old mem.old) (blocks ∷ buffer_needs total) ≡ Err why) }
     ensures from { (before : Holding) → IsTakenFrom before (holding book.old mem.old) → IsTakenFrom before (holding book.new mem.new) }
     ensures stands { Stands (holding book.new mem.new) }
 {
-    take_each(book, mem, 2, 1)?;
+    take_each(book, mem, blocks, 1)?;
     take_buffer(book, mem, total)
 }

@@ -1,12 +1,12 @@
 ghost use Rattle.std.specs.Prelude.{◌≡◌, ◌≤◌, ◌<◌, ◌+◌, ◌*◌, ◌/◌, ◌^◌, ℕ, nat_lt, length, take, drop, replicate, slice_index, slice_set, ◌++◌, ◌∷◌, [], if◌then◌else◌};
 ghost use Rattle.run_book.specs.Book.{holding, Stands, store_words};
-ghost use Rattle.itd_sitd.specs.Itd.{itd_words};
 ghost use Rattle.driver_rows.specs.Words.{pieces, buffer_needs};
 ghost use Rattle.driver_rows.specs.Offers.{descriptor_note, written_descriptor, total_of, slot_runs};
-ghost use Rattle.periodic_rows.specs.Descriptors.{buffer_address, seeded_byte, seeded_word, write_seeded, new_itd};
+ghost use Rattle.periodic_rows.specs.Descriptors.{seeded_byte, seeded_word, write_seeded, slot_limit, descriptor_words};
 
-use crate::descriptors::{address_in, new_descriptor};
+use crate::descriptors::{address_in, new_itd};
 use crate::slots::{sends_to_host, total_bytes};
+use crate::splits::new_sitd;
 use driver_rows::Slots;
 use periodic_rows::DescriptorNote;
 use run_book::RunBook;
@@ -53,14 +53,16 @@ pub(crate) fn block_at(blocks: &[u16], i: usize) -> u16
 
 /// What is known of a new descriptor, the runs of whose buffer stand from place `from` on.
 fn note_of_runs(slots: &Slots, runs: &[u16], from: usize) -> DescriptorNote
-    requires slot { slots.now.slot ≤ 3072 }
+    requires slot { slots.now.slot ≤ slot_limit slots.now.split }
     requires from { from < 2 ^ 32 }
     ensures { result ≡ descriptor_note slots.now (drop from runs.now) }
 {
     let count = run_count(total_bytes(slots));
     DescriptorNote {
         frame: 0,
+        split: slots.split,
         smask: slots.smask,
+        cmask: slots.cmask,
         slot: slots.slot,
         buffer: [
             one_of(runs, from, count, 0),
@@ -117,6 +119,32 @@ fn write_seed(book: &RunBook, mem: &mut WordMem, buffer: &[u16; 6], seed: u8, to
     }
 }
 
+/// Writes the words of the descriptor in this block.
+fn store_descriptor(
+    book: &RunBook,
+    mem: &mut WordMem,
+    desc: &EpDesc,
+    note: &DescriptorNote,
+    block: u16,
+)
+    requires slot { note.now.slot ≤ slot_limit note.now.split }
+    requires max { desc.now.max ≤ 1024 }
+    requires some { 1 ≤ desc.now.multi }
+    requires multi { desc.now.multi ≤ 3 }
+    requires port { desc.now.port ≤ 127 }
+    requires stands { Stands (holding book.now mem.old) }
+    ensures memory { mem.new ≡ store_words book.now mem.old block (32 * block) (descriptor_words desc.now note.now) }
+    ensures stands { Stands (holding book.now mem.new) }
+{
+    if note.split {
+        let words = new_sitd(desc, note).write();
+        book.store_words(mem, block, 32 * block as u32, &words);
+        return;
+    }
+    let words = new_itd(desc, note).write();
+    book.store_words(mem, block, 32 * block as u32, &words);
+}
+
 /// Writes the words of the descriptor in this block, and of an OUT the bytes from `seed` on.
 fn write_words(
     book: &RunBook,
@@ -127,17 +155,17 @@ fn write_words(
     seed: u8,
     total: u16,
 )
-    requires slot { note.now.slot ≤ 3072 }
+    requires slot { note.now.slot ≤ slot_limit note.now.split }
     requires max { desc.now.max ≤ 1024 }
     requires some { 1 ≤ desc.now.multi }
     requires multi { desc.now.multi ≤ 3 }
+    requires port { desc.now.port ≤ 127 }
     requires total { total ≤ 24576 }
     requires stands { Stands (holding book.now mem.old) }
     ensures memory { mem.new ≡ written_descriptor book.now mem.old desc.now note.now block seed total }
     ensures stands { Stands (holding book.now mem.new) }
 {
-    let words = new_descriptor(desc, note).write();
-    book.store_words(mem, block, 32 * block as u32, &words);
+    store_descriptor(book, mem, desc, note, block);
     if !sends_to_host(desc.name.way) {
         write_seed(book, mem, &note.buffer, seed, total);
     }
@@ -154,10 +182,11 @@ pub fn write_descriptor(
     seed: u8,
     runs: &[u16],
 ) -> u16
-    requires slot { slots.now.slot ≤ 3072 }
+    requires slot { slots.now.slot ≤ slot_limit slots.now.split }
     requires max { desc.now.max ≤ 1024 }
     requires some { 1 ≤ desc.now.multi }
     requires multi { desc.now.multi ≤ 3 }
+    requires port { desc.now.port ≤ 127 }
     requires stands { Stands (holding book.now mem.old) }
     ensures block { result ≡ slice_index runs.now 0 }
     ensures notes { notes.new ≡ slice_set notes.old result (descriptor_note slots.now (drop 1 runs.now)) }

@@ -1,7 +1,5 @@
 -- A reading for each removal, one after the other.
-use Rattle.std.proofs.Common.{◌≡◌, ℕ, zero, suc, ◌+◌, ◌<◌, ◌≤◌, List, [], ◌∷◌, ◌++◌, length, map, take, drop, set, get_or, slice_get, Some, arith, ap, sym, ◌∙◌, refl}
-use Rattle.std.proofs.lemmas.Option.{same_Some, slice_get-get_or}
-use Rattle.std.proofs.lemmas.List.{drop_all, take_all}
+use Rattle.std.proofs.Common.{◌≡◌, ℕ, zero, suc, ◌+◌, ◌<◌, List, [], ◌∷◌, ◌++◌, length, map, take, drop, set, slice_get, Some, arith, ap, sym, ◌∙◌, refl}
 use Rattle.periodic_rows.specs.declared.content.Removal.{Removal}
 
 pub more : (f : Removal → Removal) (xs : List Removal) (k : ℕ) (r : Removal) → slice_get (map f (take k xs) ++ drop k xs) k ≡ Some r → set (map f (take k xs) ++ drop k xs) k (f r) ≡ map f (take (k + 1) xs) ++ drop (k + 1) xs

@@ -1,6 +1,6 @@
 ghost use Rattle.std.specs.Prelude.{◌≡◌, ◌<◌, ◌%◌, [], ◌∷◌, ◌++◌, length, is_none, IfSome};
 ghost use Rattle.periodic_list.specs.Periodic.{next_store, after_store};
-ghost use Rattle.periodic_rows.specs.Periodic.{itd_member, queue_member};
+ghost use Rattle.periodic_rows.specs.Periodic.{descriptor_name, descriptor_member, queue_member};
 ghost use Rattle.periodic_rows.specs.Linking.{new_link, linking, unlinking, begun, begun_next};
 ghost use Rattle.periodic_part.specs.Part.{with_periodic, with_list, with_queued};
 
@@ -9,6 +9,7 @@ use bandwidth::Placement;
 use class_search::Reads;
 use frame_chains::{Descriptor, Member, QueueHead};
 use periodic_list::{PeriodicList, Store};
+use periodic_rows::DescriptorNote;
 
 /// The queue head in this block as a member of the frame list.
 fn member_in(queue: u16, placement: &Placement) -> Member
@@ -19,6 +20,16 @@ fn member_in(queue: u16, placement: &Placement) -> Member
         period: placement.period,
         phase: placement.phase,
     })
+}
+
+/// The name of the descriptor in this block, the word of a link to it (EHCI 1.0, 3.3.1 and 3.4.1).
+fn name_of(note: &DescriptorNote, block: u16) -> u32
+    ensures { result ≡ descriptor_name note.now block }
+{
+    if note.split {
+        return 32 * block as u32 + 4;
+    }
+    32 * block as u32
 }
 
 /// The link word that a new member has before it is linked. A member whose block was just taken may always be linked.
@@ -74,17 +85,18 @@ impl PeriodicPart {
 
     /// The descriptor in this block as a member of the frame list.
     fn descriptor(&self, block: u16) -> Member
-        ensures { result ≡ itd_member self.now.periodic.notes block }
+        ensures { result ≡ descriptor_member self.now.periodic.notes block }
     {
+        let note = self.note(block);
         Member::Once(Descriptor {
-            id: 32 * block as u32,
-            frame: self.note(block).frame,
+            id: name_of(&note, block),
+            frame: note.frame,
         })
     }
 
     /// The link word that the descriptor in this block has before it is linked.
     pub fn descriptor_link(&self, block: u16) -> u32
-        ensures { result ≡ new_link self.now.periodic.list (itd_member self.now.periodic.notes block) }
+        ensures { result ≡ new_link self.now.periodic.list (descriptor_member self.now.periodic.notes block) }
     {
         new_link(&self.list, &self.descriptor(block))
     }
@@ -92,7 +104,7 @@ impl PeriodicPart {
     /// The descriptor in this block is one more member that the command is to link or unlink.
     pub fn push_descriptor(&mut self, block: u16)
         requires room { length self.old.periodic.queued < self.old.queued_room }
-        ensures { self.new ≡ with_queued self.old (self.old.periodic.queued ++ itd_member self.old.periodic.notes block ∷ []) }
+        ensures { self.new ≡ with_queued self.old (self.old.periodic.queued ++ descriptor_member self.old.periodic.notes block ∷ []) }
     {
         let member = self.descriptor(block);
         self.queued.push_back_reserved(member);
@@ -129,7 +141,7 @@ impl PeriodicPart {
 
     /// Begins to unlink the descriptor in this block.
     pub fn unlink_descriptor(&mut self, block: u16)
-        ensures { self.new ≡ with_list self.old (unlinking self.old.periodic.list (itd_member self.old.periodic.notes block)) }
+        ensures { self.new ≡ with_list self.old (unlinking self.old.periodic.list (descriptor_member self.old.periodic.notes block)) }
     {
         let member = self.descriptor(block);
         begin_unlink(&mut self.list, &member);

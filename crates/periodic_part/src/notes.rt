@@ -1,5 +1,6 @@
 ghost use Rattle.std.specs.Prelude.{◌≡◌, ◌≤◌, drop, slice_index, slice_set};
 ghost use Rattle.run_book.specs.Book.{holding, Stands};
+ghost use Rattle.periodic_rows.specs.Descriptors.{slot_limit};
 ghost use Rattle.periodic_rows.specs.Periodic.{note_at};
 ghost use Rattle.driver_rows.specs.Offers.{descriptor_note, written_descriptor, total_of};
 ghost use Rattle.periodic_part.specs.Part.{with_notes};
@@ -43,10 +44,11 @@ impl PeriodicPart {
         seed: u8,
         runs: &[u16],
     ) -> u16
-        requires slot { slots.now.slot ≤ 3072 }
+        requires slot { slots.now.slot ≤ slot_limit slots.now.split }
         requires max { desc.now.max ≤ 1024 }
         requires some { 1 ≤ desc.now.multi }
         requires multi { desc.now.multi ≤ 3 }
+        requires port { desc.now.port ≤ 127 }
         requires stands { Stands (holding book.now mem.old) }
         ensures block { result ≡ slice_index runs.now 0 }
         ensures part { self.new ≡ with_notes self.old (slice_set self.old.periodic.notes result (descriptor_note slots.now (drop 1 runs.now))) }

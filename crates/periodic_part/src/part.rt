@@ -17,7 +17,9 @@ use usb_base::{Dir, EpDesc, EpKind, Memory, Way};
 /// Nothing known of a descriptor.
 pub(crate) const NO_DESCRIPTOR: DescriptorNote = DescriptorNote {
     frame: 0,
+    split: false,
     smask: 0,
+    cmask: 0,
     slot: 0,
     buffer: [0; 6],
     runs: 0,

@@ -1,5 +1,5 @@
--- The frame list while a command of the driver links and unlinks its members, one store at a time (EHCI 1.0, 3.1 and 4.6). A command is
--- accepted where no other is unfinished, and links only structures whose blocks it took: so each test here is passed.
+-- The frame list while a command of the driver links and unlinks its members, one store at a time (EHCI 1.0, 3.1 and 4.6). What may not be
+-- linked or unlinked isn't begun, and the list stays as it is; that each test here is passed isn't said by these definitions.
 --     may_link p m, may_unlink p m     nothing is under way, and m is new and has room; and m is linked
 --     linking p m, unlinking p m       it is begun, where it may be
 --     new_link p m                     the link word that m has before it is linked: to the one behind it

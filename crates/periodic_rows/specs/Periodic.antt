@@ -1,15 +1,15 @@
 -- What the driver has of its periodic endpoints (EHCI 1.0, 3.1, 4.6 and 4.7). A member of the frame list has as its name the word of a link
--- to it (3.1): 32 times the block in which it begins, and its type, 0 for an iTD, 2 for a queue head.
+-- to it (3.1): 32 times the block in which it begins, and its type in bits 2:1, 0 for an iTD, 1 for a queue head, 2 for a siTD.
 --     PeriodicContent        the content
 --     new_periodic n e d     what it has when it was built, for a memory of n blocks, with room for e endpoints and d descriptors
 --     is_periodic kind       the endpoint has a place in the frame list, and not in the ring
 --     want_of e x            what endpoint e, so described, asks of the plan
---     itd_name, queue_name   the names of the structure that begins in a block
+--     itd_name, sitd_name, queue_name   the names of the structure that begins in a block
 --     note_at notes b        what is known of the descriptor in block b
---     itd_member notes b     .. as a member of the frame list
+--     descriptor_member notes b   .. as a member of the frame list
 --     queue_member b p       the queue head in block b as a member, by its placement
 --     read_again n rs        the removals after one reading of FRINDEX more
-use Rattle.std.specs.Prelude.{ℕ, ◌+◌, ◌*◌, Bool, true, false, List, [], ◌∷◌, map, replicate, slice_index_or}
+use Rattle.std.specs.Prelude.{ℕ, ◌+◌, ◌*◌, Bool, true, false, List, [], ◌∷◌, map, replicate, slice_index_or, if◌then◌else◌}
 use Rattle.usb_base.specs.declared.endpoints.EpDesc.{EpDesc}
 use Rattle.usb_base.specs.declared.packets.EpKind.{EpKind}
 use Rattle.usb_base.specs.declared.packets.EpKind.TheVariants as kinds
@@ -37,7 +37,7 @@ pub record PeriodicContent : Type 0 where
   pub status_next : Bool  -- where leaving work waits for both registers, it reads USBSTS next and not FRINDEX
 
 abbrev pub no_descriptor : DescriptorNote
-no_descriptor = record { frame = 0; smask = 0; slot = 0; buffer = 0 ∷ 0 ∷ 0 ∷ 0 ∷ 0 ∷ 0 ∷ []; runs = 0 }
+no_descriptor = record { frame = 0; split = false; smask = 0; cmask = 0; slot = 0; buffer = 0 ∷ 0 ∷ 0 ∷ 0 ∷ 0 ∷ 0 ∷ []; runs = 0 }
 
 -- the frame list begins at byte address 0
 abbrev pub new_periodic : ℕ → ℕ → ℕ → PeriodicContent
@@ -81,14 +81,20 @@ want_of e x = record {
 abbrev pub itd_name : ℕ → ℕ
 itd_name b = 32 * b
 
+abbrev pub sitd_name : ℕ → ℕ
+sitd_name b = 32 * b + 4
+
 abbrev pub queue_name : ℕ → ℕ
 queue_name b = 32 * b + 2
 
 abbrev pub note_at : List DescriptorNote → ℕ → DescriptorNote
 note_at notes b = slice_index_or notes b no_descriptor
 
-abbrev pub itd_member : List DescriptorNote → ℕ → Member
-itd_member notes b = Once (record { id = itd_name b; frame = (note_at notes b).frame })
+abbrev pub descriptor_name : DescriptorNote → ℕ → ℕ
+descriptor_name note b = if note.split then sitd_name b else itd_name b
+
+abbrev pub descriptor_member : List DescriptorNote → ℕ → Member
+descriptor_member notes b = Once (record { id = descriptor_name (note_at notes b) b; frame = (note_at notes b).frame })
 
 abbrev pub queue_member : ℕ → Placement → Member
 queue_member b p = Each (record { id = queue_name b; period = p.period; phase = p.phase })

@@ -5,9 +5,13 @@ use frame_chains::Boundary;
 pub struct DescriptorNote {
     /// The element of the frame list that leads to it, once its frame is chosen.
     pub frame: u16,
-    /// The microframes of its slots, microframe 0 in bit 0.
+    /// Its endpoint is behind a hub's translator: it is a siTD (EHCI 1.0, 3.4), and otherwise an iTD (3.3).
+    pub split: bool,
+    /// The microframes of its slots, of a siTD those of its start-splits; microframe 0 in bit 0.
     pub smask: u8,
-    /// How many bytes of its buffer each slot has.
+    /// The microframes of its complete-splits.
+    pub cmask: u8,
+    /// How many bytes of its buffer each slot has; a siTD has one slot.
     pub slot: u16,
     /// The blocks in which the runs of its buffer begin: one run, or whole pages.
     pub buffer: [u16; 6],

@@ -4,7 +4,7 @@ ghost use Rattle.program_ends.specs.Codes.{exit_code};
 /// How the program ended.
 #[derive(Clone, Copy, Debug, PartialEq, Eq)]
 pub enum Status {
-    /// The input was read to its end and all output was written.
+    /// All that the form reads was read to its end, and all output was written.
     Ok,
     /// The words have none of the program's forms; nothing was read or written.
     Words,

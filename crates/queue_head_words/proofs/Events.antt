@@ -23,7 +23,7 @@ use Rattle.periodic_list.specs.Periodic.{Periodic, next_store}
 use Rattle.periodic_rows.specs.declared.content.DescriptorNote.{DescriptorNote}
 use Rattle.periodic_rows.specs.declared.content.Removed.{Removed}
 use Rattle.periodic_rows.specs.declared.content.Removed.TheVariants as removed
-use Rattle.periodic_rows.specs.Periodic.{itd_member}
+use Rattle.periodic_rows.specs.Periodic.{descriptor_member}
 use Rattle.periodic_rows.specs.Linking.{new_link, begun_next}
 use Rattle.driver_rows.specs.DriverContent.{DriverContent}
 use Rattle.driver_rows.specs.Words.{head_block}
@@ -37,14 +37,14 @@ use Rattle.run_owners.proofs.Reasons.{each_is_due}
 use Rattle.run_owners.proofs.Laws.{event_owned}
 use Rattle.run_owners.proofs.Runs.{placed_run}
 use Rattle.ring_members.specs.Links.{link_in}
-use Rattle.ring_members.specs.Ring.{IsAmong, first, later, IsPublishing, IsMending, IsRing}
+use Rattle.ring_members.specs.Ring.{IsAmong, first, later, IsPublishing, IsMending, IsRing, IsSound}
 use Rattle.ring_members.proofs.Links.{RingOf, SameRing}
 use Rattle.ring_members.proofs.Stores.{slots_apart, store_elsewhere}
 use Rattle.ring_members.proofs.Freed.{LeavesRest, lent_words, rest_qtds, rest_endpoint, rest_descriptor, rest_placed}
 use Rattle.ring_members.proofs.Placed.{has_first, queue_run, queue_placed, head_run_there, in_ring_alive, left_alive}
 use Rattle.ring_members.proofs.Harvests.{endpoint_set, harvest_stays, told_stays}
 use Rattle.ring_members.proofs.Events.{ring_back, first_mend, open_store, unlink_store, publish_store, stands_as, block_of, is_element, not_element, no_more, chain_never, iso_never, unchain_never, begun_members}
-use Rattle.ring_members.specs.Lists.{AreApart as ListApart, IsListApart}
+use Rattle.ring_members.proofs.Aside.{AreApart as ListApart, IsListApart, list_apart}
 use Rattle.ring_members.proofs.Lists.{IsApartStore, store_is_apart}
 use Rattle.queue_head_words.specs.Fixed.{characteristics, capabilities, IsMet, IsFixed, AreFixed}
 
@@ -296,7 +296,7 @@ is_list Head = false
 is_list (QueueHead e) = false
 is_list (Dummy e) = false
 is_list (Element t) = false
-is_list (Described t) = false
+is_list (Described split t) = false
 is_list (Buffer t) = false
 
 -- a store of the frame list
@@ -340,7 +340,7 @@ described_leaves : (k : Book) (list : Periodic) (notes : List DescriptorNote) (t
 unfolding linked_descriptors
 described_leaves k list notes [] m q = words_same m m q refl
 described_leaves k list notes (y ∷ ts) m q =
-    let v = new_link list (itd_member notes y.first) in
+    let v = new_link list (descriptor_member notes y.first) in
     let rest = described_leaves k list notes ts (store k m y.first (32 * y.first) v) q in
     let one = first_leaves k m y.first q v in
     record { first = rest.first ∙ one.first; second = rest.second ∙ one.second }
@@ -389,7 +389,7 @@ unlinked_fixed p t None stands has apart old = old
 unlinked_fixed p t (Some x) stands has apart old =
     let d = p.driver in
     let list = descriptor_leaving d x in
-    let same = begun_members d.periodic.list (itd_member d.periodic.notes x.first) in
+    let same = begun_members d.periodic.list (descriptor_member d.periodic.notes x.first) in
     let members = subst (λ (k : Members). ListApart d k.schedule) (sym same.1) apart.members in
     let stays : (q : ℕ) (w : Owner) → IsPlaced (slot_of d.book.slots) has.owner q w → is_list w ≡ false → FixedStay p.memory (stored_link d.book p.memory (next_store list)) q = λ q w placed none.
     maybe_leaves p list (next_store list) refl (same.0 ∙ apart.list) members stands has q w placed (λ is. false≢true (sym none ∙ ap is_list is)) in
@@ -475,5 +475,6 @@ row_fixed (rows.Harvest e t found) p due stands shape has after apart ring old =
     (λ f x here met. words_same p.memory p.memory x.queue refl) (words_same p.memory p.memory head_block refl) old
 row_fixed rows.Rest p due stands shape has after apart ring old = old
 
-pub event_fixed : (p : Parts) → Stands (holding p.driver.book p.memory) → IsShaped p.memory → HasOwners p.driver → IsListApart p.driver → IsRing (link_in p.memory) p.driver → AreFixed p.memory p.driver → AreFixed (after_row (row_of p) p).memory (after_row (row_of p) p).driver
-event_fixed p stands shape has apart ring old = row_fixed (row_of p) p (each_is_due p) stands shape has (event_owned p has) apart ring old
+pub event_fixed : (p : Parts) → IsSound p.memory p.driver → AreFixed p.memory p.driver → AreFixed (after_row (row_of p) p).memory (after_row (row_of p) p).driver
+event_fixed p sound old =
+    row_fixed (row_of p) p (each_is_due p) sound.stands sound.shape sound.owners (event_owned p sound.owners) (list_apart p.driver p.memory sound.stands sound.shape sound.owners sound.listed) sound.ring old

@@ -23,21 +23,21 @@ use Rattle.periodic_list.specs.Periodic.{Periodic, next_store}
 use Rattle.periodic_rows.specs.declared.content.DescriptorNote.{DescriptorNote}
 use Rattle.periodic_rows.specs.declared.content.Removed.{Removed}
 use Rattle.periodic_rows.specs.declared.content.Removed.TheVariants as removed
-use Rattle.periodic_rows.specs.Periodic.{itd_member}
+use Rattle.periodic_rows.specs.Periodic.{descriptor_member}
 use Rattle.periodic_rows.specs.Linking.{new_link}
 use Rattle.driver_rows.specs.DriverContent.{DriverContent}
 use Rattle.driver_rows.specs.Words.{head_block}
 use Rattle.driver_rows.specs.Offers.{oldest_of}
 use Rattle.driver_rows.specs.Rows.{Parts, events_of, row_of, after_row, after_transfer, after_endpoint, stored_link, descriptor_leaving, after_unlink, after_descriptor, after_placed, after_removed, linked_descriptors, linked_by, freed_by, free_qtds, free_endpoint, free_descriptor, free_placed}
-use Rattle.run_owners.specs.Owners.{Owner, FrameList, Head, QueueHead, Element, Described, HasBlocks, HasRun, SlotHas, IsPlaced, runs_of_transfer}
+use Rattle.run_owners.specs.Owners.{Owner, FrameList, Head, QueueHead, Element, Described, HasBlocks, HasRun, SlotHas, IsPlaced, runs_of_transfer, descriptor_in}
 use Rattle.run_owners.specs.Due.{IsDue}
 use Rattle.run_owners.specs.Kept.{HasOwners}
 use Rattle.run_owners.proofs.Reasons.{each_is_due}
 use Rattle.run_owners.proofs.Runs.{placed_run}
 use Rattle.run_owners.proofs.Laws.{event_owned}
 use Rattle.ring_members.specs.Links.{link_in}
-use Rattle.ring_members.specs.Ring.{IsDescribing, IsMending, IsRing}
-use Rattle.ring_members.specs.Lists.{AreApart as ListApart, IsListApart}
+use Rattle.ring_members.specs.Ring.{IsDescribing, IsMending, IsRing, IsSound}
+use Rattle.ring_members.proofs.Aside.{AreApart as ListApart, IsListApart, list_apart}
 use Rattle.ring_members.proofs.Lists.{IsApartStore, store_is_apart}
 use Rattle.queue_head_words.proofs.Events.{past_list}
 use Rattle.ring_members.proofs.Links.{LeadsTo, oldest_is, dropped}
@@ -45,7 +45,7 @@ use Rattle.ring_members.proofs.Stores.{slots_apart}
 use Rattle.ring_members.proofs.Freed.{LeavesRest, lent_words, rest_qtds, rest_endpoint, rest_descriptor, rest_placed}
 use Rattle.ring_members.proofs.Placed.{has_first, has_queue, queue_placed, queue_run, head_run_there, in_ring_alive}
 use Rattle.ring_members.proofs.Events.{first_mend, open_store, unlink_store, stands_as, block_of, is_element, not_element, chain_never, iso_never, unchain_never, begun_members, all_got, dropped_get}
-use Rattle.queue_head_words.specs.Overlay.{HasQueueHead, of_ring, of_endpoint, stored_address, IsMendOf}
+use Rattle.queue_head_words.specs.Overlay.{HasQueueHead, of_ring, of_endpoint, stored_address, IsMendOf, StoresAt, LeavesWord}
 
 -- ---- where a queue head lies
 
@@ -191,8 +191,9 @@ row_stores (rows.ReadStatus heard) p b at due stands has apart ring there low hi
 row_stores (rows.Harvest e t found) p b at due stands has apart ring there low high is = absurd (cc)
 row_stores rows.Rest p b at due stands has apart ring there low high is = absurd (cc)
 
-pub event_stores : (p : Parts) (b at : ℕ) → Stands (holding p.driver.book p.memory) → HasOwners p.driver → IsListApart p.driver → IsRing (link_in p.memory) p.driver → HasQueueHead p.driver b → 32 * b ≤ at → at < 32 * b + 48 → stored_address (row_of p) ≡ Some at → (at ≡ 32 * b) ⊎ IsMendOf p (row_of p) b at
-event_stores p b at stands has apart ring there low high is = row_stores (row_of p) p b at (each_is_due p) stands has apart ring there low high is
+pub event_stores : (p : Parts) (b at : ℕ) → IsSound p.memory p.driver → HasQueueHead p.driver b → 32 * b ≤ at → at < 32 * b + 48 → stored_address (row_of p) ≡ Some at → StoresAt p b at
+event_stores p b at sound there low high is =
+    row_stores (row_of p) p b at (each_is_due p) sound.stands sound.owners (list_apart p.driver p.memory sound.stands sound.shape sound.owners sound.listed) sound.ring there low high is
 
 -- ---- what any event leaves
 
@@ -274,7 +275,7 @@ first_words_only : (k : Book) (list : Periodic) (notes : List DescriptorNote) (t
 unfolding linked_descriptors
 first_words_only k list notes [] m b i starts from small = refl
 first_words_only k list notes (y ∷ ts) m b i starts from small =
-    let v = new_link list (itd_member notes y.first) in
+    let v = new_link list (descriptor_member notes y.first) in
     first_words_only k list notes ts (store k m y.first (32 * y.first) v) b i starts.1 from small
     ∙ store_apart k m y.first (32 * y.first) v (32 * b + 4 * i)
     (λ word. let same = starts.0 (omega (arith, word, from)) (omega (arith, word, small)) in omega (arith, word, same, from))
@@ -287,7 +288,7 @@ starts p t n stands has describing b there =
     (λ i y here low high.
     let new = describing.described i y here in
     let is = has.owned.each.described (t + i) (runs_of_transfer y) (ap (option_map runs_of_transfer) (dropped_get t n d.transfers i y here)) new.0 new.1 in
-    same_run (holding d.book p.memory) b y.first stands (run_at d has b there).two (placed_run y.first (Described (t + i)) is.descriptor) low high)
+    same_run (holding d.book p.memory) b y.first stands (run_at d has b there).two (placed_run y.first (Described (descriptor_in d.periodic.notes y.first).split (t + i)) is.descriptor) low high)
 
 -- the links of new descriptors go to their first words
 linked_left : (p : Parts) (o : Option Command) (b i : ℕ) → p.driver.command ≡ o → Stands (holding p.driver.book p.memory) → (has : HasOwners p.driver) → IsRing (link_in p.memory) p.driver → HasQueueHead p.driver b → 1 ≤ i → i < 12 → word_at (linked_by p.driver p.memory o) (32 * b + 4 * i) ≡ word_at p.memory (32 * b + 4 * i)
@@ -305,7 +306,7 @@ unlinked_left p t b i None stands has apart there from small = refl
 unlinked_left p t b i (Some x) stands has apart there from small =
     let d = p.driver in
     let list = descriptor_leaving d x in
-    let same = begun_members d.periodic.list (itd_member d.periodic.notes x.first) in
+    let same = begun_members d.periodic.list (descriptor_member d.periodic.notes x.first) in
     maybe_left p list (next_store list) b i refl (same.0 ∙ apart.list) (subst (λ (k : Members). ListApart d k.schedule) (sym same.1) apart.members) stands has there from small
 
 row_leaves : (row : Row) (p : Parts) (b i : ℕ) → IsDue p row → Stands (holding p.driver.book p.memory) → IsShaped p.memory → HasOwners p.driver → HasOwners (after_row row p).driver → IsListApart p.driver → IsRing (link_in p.memory) p.driver → HasQueueHead p.driver b → HasQueueHead (after_row row p).driver b → 1 ≤ i → i < 12 → IsLeft row p b i
@@ -339,6 +340,6 @@ row_leaves (rows.ReadStatus heard) p b i due stands shape has after apart ring t
 row_leaves (rows.Harvest e t found) p b i due stands shape has after apart ring there later from small = inl refl
 row_leaves rows.Rest p b i due stands shape has after apart ring there later from small = inl refl
 
-pub event_leaves : (p : Parts) (b i : ℕ) → Stands (holding p.driver.book p.memory) → IsShaped p.memory → HasOwners p.driver → IsListApart p.driver → IsRing (link_in p.memory) p.driver → HasQueueHead p.driver b → HasQueueHead (after_row (row_of p) p).driver b → 1 ≤ i → i < 12
-    → (word_at (after_row (row_of p) p).memory (32 * b + 4 * i) ≡ word_at p.memory (32 * b + 4 * i)) ⊎ IsMendOf p (row_of p) b (32 * b + 4 * i)
-event_leaves p b i stands shape has apart ring there later from small = row_leaves (row_of p) p b i (each_is_due p) stands shape has (event_owned p has) apart ring there later from small
+pub event_leaves : (p : Parts) (b i : ℕ) → IsSound p.memory p.driver → HasQueueHead p.driver b → HasQueueHead (after_row (row_of p) p).driver b → 1 ≤ i → i < 12 → LeavesWord p b i
+event_leaves p b i sound there later from small =
+    row_leaves (row_of p) p b i (each_is_due p) sound.stands sound.shape sound.owners (event_owned p sound.owners) (list_apart p.driver p.memory sound.stands sound.shape sound.owners sound.listed) sound.ring there later from small

@@ -4,14 +4,21 @@
 --                             ring or in the frame list; an isochronous one has none
 --     stored_address row      the byte address of the word that the row stores
 --     IsMendOf p row b at     the row is one of the three stores after a stalled request, and its word that of the queue head in block b
-use Rattle.std.specs.Prelude.{◌≡◌, ℕ, ◌+◌, ◌*◌, ◌⊎◌, false, slice_get, Option, Some, None}
+--     StoresAt p b at         the next row stores into a queue head its link, or is such a store
+--     LeavesWord p b i        the next event leaves word i of a queue head, or is such a store
+--     LeaveQueueHeads d m o   an accepted command leaves all twelve words of each queue head
+use Rattle.std.specs.Prelude.{◌≡◌, ℕ, ◌+◌, ◌*◌, ◌<◌, ◌⊎◌, false, slice_get, Option, Some, None}
+use Rattle.word_mem.specs.Memory.{Mem, word_at}
+use Rattle.run_book.specs.Book.{holding, Stands}
 use Rattle.driver_rows.specs.declared.content.Endpoint.{Endpoint}
 use Rattle.driver_rows.specs.declared.content.Mend.{Mend}
 use Rattle.driver_rows.specs.declared.rows.Row.{Row}
 use Rattle.driver_rows.specs.declared.rows.Row.TheVariants as rows
 use Rattle.driver_rows.specs.DriverContent.{DriverContent}
 use Rattle.driver_rows.specs.Words.{head_block}
-use Rattle.driver_rows.specs.Rows.{Parts, is_iso}
+use Rattle.driver_rows.specs.Rows.{Parts, is_iso, row_of, after_row}
+use Rattle.driver_rows.specs.Offers.{Offered}
+use Rattle.run_owners.specs.Kept.{HasOwners}
 
 pub data HasQueueHead (d : DriverContent) (b : ℕ) : Type 0 where
   of_ring : b ≡ head_block → HasQueueHead d b
@@ -30,3 +37,15 @@ pub record IsMendOf (p : Parts) (row : Row) (b at : ℕ) : Type 0 where
   pub queue : mend.queue ≡ b
   pub address : mend.at ≡ at
   pub word : (at ≡ 32 * b + 16) ⊎ ((at ≡ 32 * b + 20) ⊎ (at ≡ 32 * b + 24))
+
+abbrev pub StoresAt : Parts → ℕ → ℕ → Type 0
+StoresAt p b at = (at ≡ 32 * b) ⊎ IsMendOf p (row_of p) b at
+
+abbrev pub LeavesWord : Parts → ℕ → ℕ → Type 0
+LeavesWord p b i =
+    (word_at (after_row (row_of p) p).memory (32 * b + 4 * i) ≡ word_at p.memory (32 * b + 4 * i)) ⊎ IsMendOf p (row_of p) b (32 * b + 4 * i)
+
+abbrev pub LeaveQueueHeads : DriverContent → Mem → Offered → Type 0
+LeaveQueueHeads d m o =
+    (b i : ℕ) → Stands (holding d.book m) → HasOwners d → HasQueueHead d b → i < 12
+    → word_at o.memory (32 * b + 4 * i) ≡ word_at m (32 * b + 4 * i)

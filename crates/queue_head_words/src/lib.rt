@@ -2,26 +2,23 @@
 //! walk may meet they are those of its endpoint, and the head alone is the head of the reclamation list.
 //!
 //! The crate has no code of its own: each function is a law over the definitions of `driver_rows`, and its body is empty. A world whose
-//! driver `HasOwners`, whose words are its `IsRing` and `AreFixed`, keeps the last by `commands_keep_the_fixed_words` and
+//! driver `HasOwners`, whose memory is `IsSound` and `AreFixed`, keeps the last by `commands_keep_the_fixed_words` and
 //! `events_keep_the_fixed_words`, and its overlays by `overlay::events_leave_the_overlay`; `ring_members` stands below it.
 #![tactic(auto)]
 
 pub mod overlay;
+pub mod worked;
 
 ghost use Rattle.std.specs.Prelude.{◌≡◌, ℕ, ◌≤◌, Ok};
 ghost use Rattle.usb_base.specs.declared.commands.Cmd.{Cmd};
-ghost use Rattle.word_mem.specs.Memory.{Mem, IsShaped};
-ghost use Rattle.run_book.specs.Book.{holding, Stands};
+ghost use Rattle.word_mem.specs.Memory.{Mem};
 ghost use Rattle.driver_rows.specs.declared.content.Reserve.{Reserve};
 ghost use Rattle.driver_rows.specs.DriverContent.{DriverContent};
 ghost use Rattle.driver_rows.specs.Offers.{Offered, offered};
 ghost use Rattle.driver_rows.specs.Opening.{opening};
 ghost use Rattle.driver_rows.specs.Rows.{Parts, row_of, after_row};
-ghost use Rattle.run_owners.specs.Kept.{HasOwners};
-ghost use Rattle.ring_members.specs.Links.{link_in};
-ghost use Rattle.ring_members.specs.Ring.{IsRing};
-ghost use Rattle.ring_members.specs.Lists.{IsListApart};
-ghost use Rattle.queue_head_words.specs.Fixed.{AreFixed};
+ghost use Rattle.ring_members.specs.Ring.{IsSound};
+ghost use Rattle.queue_head_words.specs.Fixed.{AreFixed, KeepsFixed};
 
 /// When the driver was built the head has its words.
 pub fn opening_has_fixed_words()
@@ -30,10 +27,10 @@ pub fn opening_has_fixed_words()
 
 /// A command that is accepted leaves the words of all queue heads, and writes those of a new one.
 pub fn commands_keep_the_fixed_words()
-    ensures { (d : DriverContent) (m : Mem) (cmd : Cmd) (o : Offered) → Stands (holding d.book m) → IsShaped m → HasOwners d → AreFixed m d → offered d m cmd ≡ Ok o → AreFixed o.memory o.driver }
+    ensures { (d : DriverContent) (m : Mem) (cmd : Cmd) (o : Offered) → offered d m cmd ≡ Ok o → KeepsFixed d m o }
 {}
 
 /// No event of the driver writes them.
 pub fn events_keep_the_fixed_words()
-    ensures { (p : Parts) → Stands (holding p.driver.book p.memory) → IsShaped p.memory → HasOwners p.driver → IsListApart p.driver → IsRing (link_in p.memory) p.driver → AreFixed p.memory p.driver → AreFixed (after_row (row_of p) p).memory (after_row (row_of p) p).driver }
+    ensures { (p : Parts) → IsSound p.memory p.driver → AreFixed p.memory p.driver → AreFixed (after_row (row_of p) p).memory (after_row (row_of p) p).driver }
 {}

@@ -9,7 +9,7 @@ use Rattle.usb_base.specs.declared.packets.Ask.{Ask}
 use Rattle.usb_base.specs.declared.packets.Reply.{Reply}
 use Rattle.usb_base.specs.declared.packets.Reply.TheVariants.{Silent}
 use Rattle.control_stages.specs.declared.rows.StageRow.{StageRow}
-use Rattle.control_stages.specs.Stages.{Stages, is_read, sent_of, row_of, row_reply, after_row}
+use Rattle.control_stages.specs.Stages.{Stages, is_read, sent_of, stage_row, row_reply, after_stage_row}
 use Rattle.endpoint_laws.specs.Acts.{Asks, acts_at, acts_if, is_status_row}
 use Rattle.toggle_error.specs.declared.host.HostSide.{HostSide}
 use Rattle.toggle_error.specs.declared.host.Outcome.TheVariants.{Error, Halt}
@@ -49,13 +49,13 @@ line h c a = record { host = h; device = c; acts = a }
 
 -- what a row of the device leaves, whether its answer is heard or not
 pub record IsKept (e : Endpoint) (r : Request) (call : Call) (h : Host) (c : Stages) (a : List (List ℕ)) (row : StageRow) : Type 0 where
-  pub unheard : Stands e r (line (heard_by r call Silent h) (after_row row c) (acts_if (is_status_row row) c.request ++ a))
-  pub heard : Stands e r (line (heard_by r call (row_reply row (reply_under e.known c.request) c) h) (after_row row c) (acts_if (is_status_row row) c.request ++ a))
+  pub unheard : Stands e r (line (heard_by r call Silent h) (after_stage_row row c) (acts_if (is_status_row row) c.request ++ a))
+  pub heard : Stands e r (line (heard_by r call (row_reply row (reply_under e.known c.request) c) h) (after_stage_row row c) (acts_if (is_status_row row) c.request ++ a))
   pub told : acknowledges call.ask (row_reply row (reply_under e.known c.request) c) ≡ true
-      → Stands e r (line (heard_by r call (row_reply row (reply_under e.known c.request) c) h) (acked e (after_row row c)) (acts_if (is_status_row row) c.request ++ a))
+      → Stands e r (line (heard_by r call (row_reply row (reply_under e.known c.request) c) h) (acked e (after_stage_row row c)) (acts_if (is_status_row row) c.request ++ a))
 
 pub made_stands : (e : Endpoint) (r : Request) (losses : Losses) (call : Call) (h : Host) (c : Stages) (a : List (List ℕ))
-    → Stands e r (line (heard_by r call Silent h) c a) → IsKept e r call h c a (row_of (reply_under e.known c.request) c call.ask call.out)
+    → Stands e r (line (heard_by r call Silent h) c a) → IsKept e r call h c a (stage_row (reply_under e.known c.request) c call.ask call.out)
     → Stands e r (made e r losses call (line h c a))
 made_stands e r losses call h c a lost k =
     who_by e call.ask call.out c (answer_of e call.ask call.out c) (λ reply d acts. Stands e r (line (heard_by r call reply h) d (acts ++ a)))

@@ -63,7 +63,8 @@ pub fn windows_are_told()
 /// request are those that a right report tells.
 pub fn scripted_device()
     ensures answer { (addr num max : ℕ) (c : Controlling) (ask : Asked) (out : List ℕ) → controlling_reply c ask out ≡ answer_of (scripted addr num max c.requests) ask out c.stages }
-    ensures left { (addr num max : ℕ) (c : Controlling) (ask : Asked) (out : List ℕ) → controlling_answered c ask out ≡ record c { stages = answered (scripted addr num max c.requests) ask out c.stages } }
+    ensures left { (addr num max : ℕ) (c : Controlling) (ask : Asked) (out : List ℕ) →
+        controlling_answered c ask out ≡ record c { stages = answered (scripted addr num max c.requests) ask out c.stages } }
     ensures acknowledged { (addr num max : ℕ) (c : Controlling) → controlling_acked c ≡ record c { stages = acked (scripted addr num max c.requests) c.stages } }
     ensures sent { (addr num max : ℕ) (s : Text) (name : Name) (r : Request) → data_of (scripted addr num max (requests_of (items_of s name))) r ≡ told_data s name r }
 {}

@@ -15,12 +15,11 @@ use Rattle.driver_rows.specs.declared.content.Transfer.{Transfer}
 use Rattle.driver_rows.specs.declared.content.QtdNote.{QtdNote}
 use Rattle.driver_rows.specs.declared.content.Stage.{Stage}
 use Rattle.driver_rows.specs.declared.content.Command.{Command}
-use Rattle.itd_sitd.specs.Itd.{itd_words}
 use Rattle.bandwidth.specs.declared.placements.Placement.{Placement}
 use Rattle.periodic_rows.specs.declared.content.DescriptorNote.{DescriptorNote}
 use Rattle.periodic_rows.specs.Periodic.{is_periodic, queue_member}
 use Rattle.periodic_rows.specs.Linking.{new_link}
-use Rattle.periodic_rows.specs.Descriptors.{buffer_address as descriptor_address, is_in, new_itd, seeded_word, write_seeded}
+use Rattle.periodic_rows.specs.Descriptors.{buffer_address as descriptor_address, is_in, descriptor_words, seeded_word, write_seeded}
 use Rattle.driver_rows.specs.declared.content.Slots.{Slots}
 use Rattle.driver_rows.specs.declared.content.Command.TheVariants as unfinished
 use Rattle.driver_rows.specs.Rows.{is_iso}
@@ -182,7 +181,7 @@ owner_kind Head = 1
 owner_kind (QueueHead e) = 2
 owner_kind (Dummy e) = 3
 owner_kind (Element t) = 4
-owner_kind (Described t) = 6
+owner_kind (Described split t) = 6
 owner_kind (Buffer t) = 5
 
 pub other_kind : (owner : ℕ → Owner) (b c : ℕ) (o q : Owner) → owner b ≡ o → owner c ≡ q → owner_kind o ≢ owner_kind q → c ≢ b
@@ -312,7 +311,7 @@ descriptors_elsewhere k e x s zero seed rs a c other apart here none not = refl
 descriptors_elsewhere k e x s (suc n) seed rs a c other apart here none not =
     let b = get_or rs 0 0 in
     let note = descriptor_note s (drop 1 rs) in
-    let ws = itd_words (new_itd x note.smask note.slot note.buffer) in
+    let ws = descriptor_words x note in
     let mid = store_words k a.memory b (32 * b) ws in
     descriptors_elsewhere k e x s n ((seed + total_of s) % 256) (drop (suc (slot_runs s)) rs) (one_descriptor k e x s seed rs a) c other apart here none
     (λ i same. not (suc (slot_runs s) + i) (same ∙ get_dropped (suc (slot_runs s)) rs i))

@@ -22,7 +22,7 @@ use Rattle.periodic_list.specs.Periodic.{Periodic, next_store, removing}
 use Rattle.periodic_rows.specs.declared.content.DescriptorNote.{DescriptorNote}
 use Rattle.periodic_rows.specs.declared.content.Removed.{Removed}
 use Rattle.periodic_rows.specs.declared.content.Removed.TheVariants as removed
-use Rattle.periodic_rows.specs.Periodic.{is_periodic, itd_member}
+use Rattle.periodic_rows.specs.Periodic.{is_periodic, descriptor_member}
 use Rattle.periodic_rows.specs.Linking.{may_unlink, unlinking, new_link, begun_next}
 use Rattle.driver_rows.specs.DriverContent.{DriverContent}
 use Rattle.driver_rows.specs.Words.{head_block, queue_head_link}
@@ -39,8 +39,8 @@ use Rattle.run_owners.proofs.Released.{set_here, set_there, cancel_same}
 use Rattle.run_owners.proofs.Laws.{event_owned}
 use Rattle.run_owners.proofs.Reasons.{each_is_due}
 use Rattle.ring_members.specs.Links.{link_in, AreLinked}
-use Rattle.ring_members.specs.Ring.{AreLeaving, IsOpening, IsUnlinking, IsPublishing, IsDescribing, StandsFor, IsMending, IsRing}
-use Rattle.ring_members.specs.Lists.{IsOffRing, AreApart as ListApart, IsListApart}
+use Rattle.ring_members.specs.Ring.{AreLeaving, IsOpening, IsUnlinking, IsPublishing, IsDescribing, StandsFor, IsMending, IsRing, IsSound}
+use Rattle.ring_members.proofs.Aside.{IsOffRing, AreApart as ListApart, IsListApart, list_apart}
 use Rattle.ring_members.proofs.Lists.{store_is_apart}
 use Rattle.ring_members.proofs.Links.{RingOf, ring_of, SameRing, LeadsTo, linked_kept, linked_same, passed, joined, oldest_is, oldest_not, dropped}
 use Rattle.ring_members.proofs.Stores.{AreApart, slots_apart, store_elsewhere}
@@ -107,7 +107,7 @@ is_element (QueueHead e) = false
 is_element (Dummy e) = false
 is_element (Element t) = true
 is_element (Buffer t) = false
-is_element (Described t) = false
+is_element (Described split t) = false
 
 -- ---- the command goes on
 
@@ -206,11 +206,11 @@ framed_ring word d n (Some (unfinished.Iso e t count)) is old =
 abbrev pub KeepsRing : DriverContent → (ℕ → ℕ) → (ℕ → ℕ) → Type 0
 KeepsRing d word now = ((e : ℕ) (x : Endpoint) → slice_get d.endpoints e ≡ Some x → is_periodic x.desc.kind ≡ false → x.gone ≡ false → now x.queue ≡ word x.queue) × (now head_block ≡ word head_block)
 
-linked_apart : (word now : ℕ → ℕ) (d : DriverContent) → IsOrderly d → KeepsRing d word now → AreLinked word head_block d.endpoints → AreLinked now head_block d.endpoints
+pub linked_apart : (word now : ℕ → ℕ) (d : DriverContent) → IsOrderly d → KeepsRing d word now → AreLinked word head_block d.endpoints → AreLinked now head_block d.endpoints
 linked_apart word now d order keeps linked =
     linked_kept word now head_block d.endpoints (λ i x here on. let l = linked_alive d i x order here on in keeps.0 i x here l.0 l.1) keeps.1 linked
 
-leaving_apart : (word now : ℕ → ℕ) (d : DriverContent) → IsOrderly d → KeepsRing d word now → AreLeaving word d.endpoints (d.rung ++ d.waiting) → AreLeaving now d.endpoints (d.rung ++ d.waiting)
+pub leaving_apart : (word now : ℕ → ℕ) (d : DriverContent) → IsOrderly d → KeepsRing d word now → AreLeaving word d.endpoints (d.rung ++ d.waiting) → AreLeaving now d.endpoints (d.rung ++ d.waiting)
 leaving_apart word now d order keeps all =
     leaving_kept word now d.endpoints d.endpoints (d.rung ++ d.waiting) (same_go_on d.endpoints d.endpoints (λ i. refl))
     (λ f y among here.
@@ -218,7 +218,7 @@ leaving_apart word now d order keeps all =
     keeps.0 f y here l.0 l.1) all
 
 -- .. while a command links members, or none is unfinished
-command_apart : (word now : ℕ → ℕ) (d : DriverContent) (c : Command) → links c ≡ true → IsOrderly d → KeepsRing d word now → StandsFor word d.endpoints d.transfers (Some c) → StandsFor now d.endpoints d.transfers (Some c)
+pub command_apart : (word now : ℕ → ℕ) (d : DriverContent) (c : Command) → links c ≡ true → IsOrderly d → KeepsRing d word now → StandsFor word d.endpoints d.transfers (Some c) → StandsFor now d.endpoints d.transfers (Some c)
 command_apart word now d (unfinished.Open q) on order keeps s = absurd (false≢true on)
 command_apart word now d (unfinished.Publish b words) on order keeps s = absurd (false≢true on)
 command_apart word now d (unfinished.Unlink e b link) on order keeps s = absurd (false≢true on)
@@ -266,14 +266,14 @@ is_described Head = false
 is_described (QueueHead e) = false
 is_described (Dummy e) = false
 is_described (Element t) = false
-is_described (Described t) = true
+is_described (Described split t) = true
 is_described (Buffer t) = false
 
 described_elsewhere : (k : Book) (list : Periodic) (notes : List DescriptorNote) (ts : List Transfer) (m : Mem) (c : ℕ) → AreApart k.slots → SlotHas (slot_of k.slots c) (32 * c / 32) → AllByRecursion (λ (y : Transfer). c ≢ y.first) ts → link_in (linked_descriptors k list notes ts m) c ≡ link_in m c
 unfolding linked_descriptors
 described_elsewhere k list notes [] m c apart here differ = refl
 described_elsewhere k list notes (y ∷ ts) m c apart here differ =
-    let v = new_link list (itd_member notes y.first) in
+    let v = new_link list (descriptor_member notes y.first) in
     described_elsewhere k list notes ts (store k m y.first (32 * y.first) v) c apart here differ.1
     ∙ store_elsewhere k m y.first c (32 * y.first) v (32 * c) apart differ.0 here
 
@@ -687,7 +687,7 @@ unlinked_ring p t None idle stands has apart old = old
 unlinked_ring p t (Some x) idle stands has apart old =
     let d = p.driver in
     let list = descriptor_leaving d x in
-    let m = itd_member d.periodic.notes x.first in
+    let m = descriptor_member d.periodic.notes x.first in
     let same = begun_members d.periodic.list m in
     let keeps = unlinked_store p list (next_store list) refl (same.0 ∙ apart.list) (subst (λ (k : Members). ListApart d k.schedule) (sym same.1) apart.members) stands has in
     let now = idle_apart (link_in p.memory) (link_in (stored_link d.book p.memory (next_store list))) d idle has.orderly keeps old in
@@ -736,5 +736,6 @@ row_ring (rows.Harvest e t found) p due stands shape has after apart old =
     (same_leaving (link_in p.memory) p.driver.endpoints p.driver.rung _ p.driver.waiting _ s.rung s.waiting old.leaving) (s.mends old.mends) old
 row_ring rows.Rest p due stands shape has after apart old = old
 
-pub event_ring : (p : Parts) → Stands (holding p.driver.book p.memory) → IsShaped p.memory → HasOwners p.driver → IsListApart p.driver → IsRing (link_in p.memory) p.driver → IsRing (link_in (after_row (row_of p) p).memory) (after_row (row_of p) p).driver
-event_ring p stands shape has apart old = row_ring (row_of p) p (each_is_due p) stands shape has (event_owned p has) apart old
+pub event_ring : (p : Parts) → IsSound p.memory p.driver → IsRing (link_in (after_row (row_of p) p).memory) (after_row (row_of p) p).driver
+event_ring p sound =
+    row_ring (row_of p) p (each_is_due p) sound.stands sound.shape sound.owners (event_owned p sound.owners) (list_apart p.driver p.memory sound.stands sound.shape sound.owners sound.listed) sound.ring

@@ -1,21 +1,19 @@
 -- The laws, in the form in which they are stated.
 use Rattle.std.proofs.Common.{◌≡◌, ℕ, Option, None, Ok, subst}
 use Rattle.usb_base.specs.declared.commands.Cmd.{Cmd}
-use Rattle.word_mem.specs.Memory.{Mem, IsShaped}
-use Rattle.run_book.specs.Book.{holding, Stands}
+use Rattle.word_mem.specs.Memory.{Mem}
 use Rattle.driver_rows.specs.declared.content.Command.{Command}
 use Rattle.driver_rows.specs.DriverContent.{DriverContent}
 use Rattle.driver_rows.specs.Offers.{Offered, offered}
 use Rattle.driver_rows.specs.Words.{head_block}
-use Rattle.run_owners.specs.Kept.{HasOwners}
 use Rattle.run_owners.proofs.Commands.{accepted_for_a_reason}
-use Rattle.ring_members.specs.Links.{link_in, members, IsChain}
-use Rattle.ring_members.specs.Ring.{StandsFor, IsRing}
+use Rattle.ring_members.specs.Links.{members, IsChain}
+use Rattle.ring_members.specs.Ring.{StandsFor, IsRing, KeepsRing}
 use Rattle.ring_members.proofs.Links.{ring_is_read}
 use Rattle.ring_members.proofs.Accepted.{accepted_ring}
 
-pub command_ring : (d : DriverContent) (m : Mem) (cmd : Cmd) (o : Offered) → Stands (holding d.book m) → IsShaped m → HasOwners d → IsRing (link_in m) d → offered d m cmd ≡ Ok o → IsRing (link_in o.memory) o.driver
-command_ring d m cmd o stands shape has old is = accepted_ring d m o (accepted_for_a_reason d m cmd o is) stands shape has old
+pub command_ring : (d : DriverContent) (m : Mem) (cmd : Cmd) (o : Offered) → offered d m cmd ≡ Ok o → KeepsRing d m o
+command_ring d m cmd o is stands shape has old = accepted_ring d m o (accepted_for_a_reason d m cmd o is) stands shape has old
 
 -- where no command is unfinished, the words lead from the head through each queue head in the ring, the newest first, and back
 pub idle_chain : (word : ℕ → ℕ) (d : DriverContent) → d.command ≡ None → IsRing word d → IsChain word head_block (members d.endpoints)

@@ -4,10 +4,10 @@ pub mod Freed
 pub mod Leaving
 pub mod Placed
 pub mod Harvests
+pub mod Aside
 pub mod Lists
 pub mod Events
 pub mod Noted
 pub mod Accepted
 pub mod Opened
-pub mod Empty
 pub mod Laws

@@ -21,7 +21,7 @@ use Rattle.run_book.specs.Book.{slot_of}
 use Rattle.run_owners.specs.Owners.{FrameList, QueueHead, HasRun}
 use Rattle.run_owners.specs.Kept.{HasOwners}
 use Rattle.run_owners.proofs.Rows.{not_iso}
-use Rattle.ring_members.specs.Lists.{IsOffRing, IsMemberApart, AreApart}
+use Rattle.ring_members.proofs.Aside.{IsOffRing, IsMemberApart, AreApart}
 use Rattle.ring_members.proofs.Placed.{has_queue, queue_placed}
 
 -- ---- lists

@@ -73,7 +73,7 @@ queue_number Head = 0
 queue_number (QueueHead e) = suc e
 queue_number (Dummy e) = 0
 queue_number (Element t) = 0
-queue_number (Described t) = 0
+queue_number (Described split t) = 0
 queue_number (Buffer t) = 0
 
 pub queues_differ : (i j : ℕ) → i ≢ j → QueueHead i ≢ QueueHead j

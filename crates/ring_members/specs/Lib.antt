@@ -1,3 +1,3 @@
 pub mod Links
 pub mod Ring
-pub mod Lists
+pub mod Worked

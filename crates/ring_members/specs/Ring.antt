@@ -2,8 +2,12 @@
 --     IsTarget xs later b      block b is the head, a queue head in the ring, or one of those that left later
 --     AreLeaving word xs es    the endpoints es, in the order in which they left, each lead to a target
 --     IsRing word d            the links stand for the driver's content
+--     KeepsRing d m o          the ring of what stands once a command was accepted
+--     IsSound m d              what an event of the driver finds: its book stands in the memory, and its owners, its frame list and its ring
 use Rattle.std.specs.Prelude.{◌≡◌, ℕ, suc, ◌+◌, ◌*◌, ◌≤◌, ◌⊎◌, true, false, List, [], ◌∷◌, ◌++◌, drop, take, slice_get, Option, Some, None}
 use Rattle.std.specs.List.{AllByRecursion}
+use Rattle.word_mem.specs.Memory.{Mem, IsShaped}
+use Rattle.run_book.specs.Book.{holding, Stands}
 use Rattle.driver_rows.specs.declared.content.Endpoint.{Endpoint}
 use Rattle.driver_rows.specs.declared.content.Transfer.{Transfer}
 use Rattle.driver_rows.specs.declared.content.Mend.{Mend}
@@ -13,9 +17,11 @@ use Rattle.periodic_rows.specs.Periodic.{is_periodic}
 use Rattle.driver_rows.specs.DriverContent.{DriverContent}
 use Rattle.driver_rows.specs.Words.{head_block, queue_head_link}
 use Rattle.driver_rows.specs.Rows.{is_iso}
-use Rattle.driver_rows.specs.Offers.{newest_of, oldest_of}
+use Rattle.driver_rows.specs.Offers.{Offered, newest_of, oldest_of}
 use Rattle.run_owners.specs.Owners.{is_descriptor}
-use Rattle.ring_members.specs.Links.{AreLinked}
+use Rattle.run_owners.specs.Kept.{HasOwners}
+use Rattle.listed_members.specs.Listed.{IsListed}
+use Rattle.ring_members.specs.Links.{link_in, AreLinked}
 
 -- an endpoint with a queue, which wasn't given back
 pub record HasQueue (d : DriverContent) (e : ℕ) (x : Endpoint) : Type 0 where
@@ -111,3 +117,15 @@ pub record IsRing (word : ℕ → ℕ) (d : DriverContent) : Type 0 where
   pub mends : AllByRecursion IsMending d.mends
   -- a bulk or control endpoint that wasn't cancelled is in the ring
   pub kept : (e : ℕ) (x : Endpoint) → slice_get d.endpoints e ≡ Some x → is_periodic x.desc.kind ≡ false → x.cancelled ≡ false → x.linked ≡ true
+
+-- ---- as commands and events find it
+
+abbrev pub KeepsRing : DriverContent → Mem → Offered → Type 0
+KeepsRing d m o = Stands (holding d.book m) → IsShaped m → HasOwners d → IsRing (link_in m) d → IsRing (link_in o.memory) o.driver
+
+pub record IsSound (m : Mem) (d : DriverContent) : Type 0 where
+  pub stands : Stands (holding d.book m)
+  pub shape : IsShaped m
+  pub owners : HasOwners d
+  pub listed : IsListed d
+  pub ring : IsRing (link_in m) d

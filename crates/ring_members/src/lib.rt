@@ -6,12 +6,11 @@
 //! stands below it.
 #![tactic(auto)]
 
-pub mod empty_list;
+pub mod worked;
 
 ghost use Rattle.std.specs.Prelude.{◌≡◌, ◌≢◌, ℕ, ◌≤◌, Ok, None, false, slice_get, Some};
 ghost use Rattle.usb_base.specs.declared.commands.Cmd.{Cmd};
-ghost use Rattle.word_mem.specs.Memory.{Mem, IsShaped};
-ghost use Rattle.run_book.specs.Book.{holding, Stands};
+ghost use Rattle.word_mem.specs.Memory.{Mem};
 ghost use Rattle.driver_rows.specs.declared.content.Endpoint.{Endpoint};
 ghost use Rattle.driver_rows.specs.declared.content.Reserve.{Reserve};
 ghost use Rattle.driver_rows.specs.DriverContent.{DriverContent};
@@ -21,8 +20,7 @@ ghost use Rattle.driver_rows.specs.Rows.{Parts, row_of, after_row};
 ghost use Rattle.driver_rows.specs.Words.{head_block};
 ghost use Rattle.run_owners.specs.Kept.{HasOwners};
 ghost use Rattle.ring_members.specs.Links.{link_in, members, IsChain};
-ghost use Rattle.ring_members.specs.Ring.{HasQueue, IsRing};
-ghost use Rattle.ring_members.specs.Lists.{IsListApart};
+ghost use Rattle.ring_members.specs.Ring.{HasQueue, IsRing, KeepsRing, IsSound};
 
 /// When the driver was built the head leads to itself.
 #[tactic(auto, using(crate::proofs::Opened::opening_ring))]
@@ -33,14 +31,14 @@ pub fn opening_is_a_ring()
 /// A command that is accepted leaves the ring as it is; a new queue head leads to the newest in it.
 #[tactic(auto, using(crate::proofs::Laws::command_ring))]
 pub fn commands_keep_the_ring()
-    ensures { (d : DriverContent) (m : Mem) (cmd : Cmd) (o : Offered) → Stands (holding d.book m) → IsShaped m → HasOwners d → IsRing (link_in m) d → offered d m cmd ≡ Ok o → IsRing (link_in o.memory) o.driver }
+    ensures { (d : DriverContent) (m : Mem) (cmd : Cmd) (o : Offered) → offered d m cmd ≡ Ok o → KeepsRing d m o }
 {}
 
 /// Each event of the driver keeps the ring: an endpoint joins by the store to the head's link, and leaves by the store that passes it over.
-/// The stores of the frame list go to the list and its members, which begin in blocks of their own (`IsListApart`).
+/// The stores of the frame list go to the list and its members, which begin runs of their own (`IsListed`).
 #[tactic(auto, using(crate::proofs::Events::event_ring))]
 pub fn events_keep_the_ring()
-    ensures { (p : Parts) → Stands (holding p.driver.book p.memory) → IsShaped p.memory → HasOwners p.driver → IsListApart p.driver → IsRing (link_in p.memory) p.driver → IsRing (link_in (after_row (row_of p) p).memory) (after_row (row_of p) p).driver }
+    ensures { (p : Parts) → IsSound p.memory p.driver → IsRing (link_in (after_row (row_of p) p).memory) (after_row (row_of p) p).driver }
 {}
 
 /// Where no command is unfinished, the words lead from the head through each queue head in the ring, the newest first, and back to the

@@ -14,7 +14,7 @@ use Rattle.driver_rows.specs.Offers.{Offered, take_runs, new_runs, accepted_canc
 use Rattle.driver_rows.specs.declared.content.Endpoint.{Endpoint}
 use Rattle.driver_rows.specs.declared.content.Command.TheVariants as unfinished
 use Rattle.run_owners.specs.Accepts.{Opens, Chains, Places, Cancels, Unchains}
-use Rattle.run_owners.specs.Owners.{Owner, FrameList, Head, QueueHead, Dummy, Element, Described, Buffer, HasRun, IsRunFor, IsPlaced, EndpointRuns, runs_of_endpoint, endpoint_in, note_in, buffer_in, Views, views_of, AreOwned, IsOwned}
+use Rattle.run_owners.specs.Owners.{Owner, FrameList, Head, QueueHead, Dummy, Element, Described, Buffer, HasRun, IsRunFor, IsPlaced, EndpointRuns, runs_of_endpoint, endpoint_in, note_in, descriptor_in, Views, views_of, AreOwned, IsOwned}
 use Rattle.run_owners.proofs.Runs.{placed_run, pieces_still, described_still}
 use Rattle.run_owners.proofs.Stays.{stays_same, stays_both, stays_owned, endpoint_stays, begun_notes, or_done}
 use Rattle.run_owners.proofs.Released.{same_number, other_number}
@@ -133,7 +133,7 @@ queue_opened d m owner h y queue_is dummy_is stands runs old =
       pieces = λ t z there on.
           pieces_still (slot_of d.book.slots) (slot_of h.book.slots) owner mine (note_in d.notes) (note_in d.notes) t z.first z.qtds (λ c p. stays c (Element t) p) (λ c p. stays c (Buffer t) p) (λ c p. refl) (old.each.pieces t z there on);
       described = λ t z there iso on.
-          described_still (slot_of d.book.slots) (slot_of h.book.slots) owner mine (buffer_in d.periodic.notes z.first) (buffer_in d.periodic.notes z.first) t z.first (λ c p. stays c (Described t) p) (λ c p. stays c (Buffer t) p) (λ p. refl) (old.each.described t z there iso on);
+          described_still (slot_of d.book.slots) (slot_of h.book.slots) owner mine (descriptor_in d.periodic.notes z.first) (descriptor_in d.periodic.notes z.first) t z.first (λ c p. stays c (Described (descriptor_in d.periodic.notes z.first).split t) p) (λ c p. stays c (Buffer t) p) (λ p. refl) (old.each.described t z there iso on);
     } in
     record {
       mine = mine;

@@ -30,7 +30,7 @@ use Rattle.bandwidth.specs.declared.placements.Refused.{Refused}
 use Rattle.bandwidth.specs.Placements.{has, below}
 use Rattle.bandwidth.specs.Admission.{answer}
 use Rattle.periodic_rows.specs.Periodic.{is_periodic, want_of}
-use Rattle.periodic_rows.specs.Descriptors.{slots_before}
+use Rattle.periodic_rows.specs.Descriptors.{slots_before, slot_limit}
 use Rattle.driver_rows.specs.Rows.{is_iso}
 use Rattle.driver_rows.specs.DriverContent.{DriverContent, is_same_way, waits_for, endpoint_of, endpoint_named}
 use Rattle.driver_rows.specs.Words.{pieces, in_stage, out_stage, get_stages, put_stages, request_length, request_stages, asks_in, setup_stage, data_stage, status_stage, needs, is_control}
@@ -147,8 +147,12 @@ slots_eight : (s : Slots) → slots_before s.smask 8 ≤ 8
 unfolding slots_before
 slots_eight s = count_by-le-length (has s.smask) (below 8)
 
-slots_few : (s : Slots) → s.slot ≤ 3072 → total_of s ≤ 24576
-slots_few s few = mul-le (slots_before s.smask 8) s.slot 8 3072 (slots_eight s) few
+slots_few : (s : Slots) → s.slot ≤ slot_limit s.split → total_of s ≤ 24576
+slots_few s few = at s.split few
+  where
+    at : (split : Bool) → s.slot ≤ slot_limit split → cond split s.slot (slots_before s.smask 8 * s.slot) ≤ 24576
+    at true few = omega (arith, few)
+    at false few = mul-le (slots_before s.smask 8) s.slot 8 3072 (slots_eight s) few
 
 iso_why : (d : DriverContent) (m : Mem) (e : ℕ) (x : Endpoint) (s : Slots) (n seed : ℕ) (o : Offered) (r : Result Holding OfferError) → d.command ≡ None → slice_get d.endpoints e ≡ Some x → x.ended ≡ None → is_iso x.desc.kind ≡ true → total_of s ≤ 24576 → take_runs (holding d.book m) (iso_needs s n) ≡ r → taken_iso d e x s n seed r ≡ Ok o → Accepts d m o
 iso_why d m e x s n seed o (Err why) idle here ended iso short is f = absurd (cc)
@@ -169,21 +173,21 @@ iso_why d m e x s n seed o (Ok h) idle here ended iso short is f =
       is = ok_is _ o f;
     })
 
-iso_long : (d : DriverContent) (m : Mem) (e : ℕ) (x : Endpoint) (s : Slots) (n seed : ℕ) (o : Offered) (a b : Bool) → d.command ≡ None → slice_get d.endpoints e ≡ Some x → x.ended ≡ None → is_iso x.desc.kind ≡ true → (b ≡ true → s.slot ≤ 3072) → cond (a || not b) (Err errors.TooLong) (taken_iso d e x s n seed (take_runs (holding d.book m) (iso_needs s n))) ≡ Ok o → Accepts d m o
+iso_long : (d : DriverContent) (m : Mem) (e : ℕ) (x : Endpoint) (s : Slots) (n seed : ℕ) (o : Offered) (a b : Bool) → d.command ≡ None → slice_get d.endpoints e ≡ Some x → x.ended ≡ None → is_iso x.desc.kind ≡ true → (b ≡ true → s.slot ≤ slot_limit s.split) → cond (a || not b) (Err errors.TooLong) (taken_iso d e x s n seed (take_runs (holding d.book m) (iso_needs s n))) ≡ Ok o → Accepts d m o
 iso_long d m e x s n seed o true b idle here ended iso few f = absurd (cc)
 iso_long d m e x s n seed o false false idle here ended iso few f = absurd (cc)
 iso_long d m e x s n seed o false true idle here ended iso few f =
     iso_why d m e x s n seed o (take_runs (holding d.book m) (iso_needs s n)) idle here ended iso (slots_few s (few refl)) refl f
 
-few_slots : (x : Endpoint) (s : Slots) → has_slots x s ≡ true → s.slot ≤ 3072
-few_slots x s has = first (nat_le s.slot 3072) refl (has_first (nat_le s.slot 3072) (nat_le x.desc.max 1024) (nat_le 1 x.desc.multi) (nat_le x.desc.multi 3) has)
+few_slots : (x : Endpoint) (s : Slots) → has_slots x s ≡ true → s.slot ≤ slot_limit s.split
+few_slots x s has = first (slot_limit s.split) (nat_le s.slot (slot_limit s.split)) refl (has_first (nat_le s.slot (slot_limit s.split)) (nat_le x.desc.max 1024) (nat_le 1 x.desc.multi) (nat_le x.desc.multi 3) (nat_le x.desc.port 127) has)
   where
-    has_first : (a b c d : Bool) → a && b && c && d ≡ true → a ≡ true
-    has_first true b c d e = refl
-    has_first false b c d e = e
+    has_first : (a b c d f : Bool) → a && b && c && d && f ≡ true → a ≡ true
+    has_first true b c d f e = refl
+    has_first false b c d f e = e
 
-    first : (a : Bool) → nat_le s.slot 3072 ≡ a → a ≡ true → s.slot ≤ 3072
-    first a is on = grind (arith, nat_tests)
+    first : (most : ℕ) (a : Bool) → nat_le s.slot most ≡ a → a ≡ true → s.slot ≤ most
+    first most a is on = grind (arith, nat_tests)
 
 iso_ended : (d : DriverContent) (m : Mem) (e : ℕ) (x : Endpoint) (s : Slots) (n seed : ℕ) (o : Offered) (c : Option EndCause) → d.command ≡ None → slice_get d.endpoints e ≡ Some x → x.ended ≡ c → is_iso x.desc.kind ≡ true → open_iso d m e x s n seed c ≡ Ok o → Accepts d m o
 iso_ended d m e x s n seed o (Some cause) idle here ended iso f = absurd (cc)

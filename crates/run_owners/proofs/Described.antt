@@ -15,9 +15,9 @@ use Rattle.driver_rows.specs.declared.content.Transfer.{Transfer}
 use Rattle.driver_rows.specs.declared.content.Slots.{Slots}
 use Rattle.driver_rows.specs.DriverContent.{DriverContent}
 use Rattle.driver_rows.specs.Words.{head_block, buffer_needs}
-use Rattle.driver_rows.specs.Offers.{Offered, Descriptors, new_runs, first_waiting, total_of, slot_runs, iso_needs, descriptor_note, descriptor_transfer, one_descriptor, all_descriptors, entered_iso}
+use Rattle.driver_rows.specs.Offers.{Offered, Descriptors, new_runs, first_waiting, total_of, slot_runs, descriptor_blocks, iso_needs, descriptor_note, descriptor_transfer, one_descriptor, all_descriptors, entered_iso}
 use Rattle.run_owners.specs.Accepts.{Describes}
-use Rattle.run_owners.specs.Owners.{Owner, FrameList, Head, QueueHead, Dummy, Element, Described, Buffer, HasBlocks, IsPlaced, EndpointRuns, TransferRuns, runs_of_endpoint, runs_of_transfer, buffer_of, endpoint_in, transfer_in, note_in, buffer_in, ArePieces, IsDescribed, Views, views_of, AreOwned, IsOwned}
+use Rattle.run_owners.specs.Owners.{Owner, FrameList, Head, QueueHead, Dummy, Element, Described, Buffer, HasBlocks, IsPlaced, EndpointRuns, TransferRuns, runs_of_endpoint, runs_of_transfer, runs_of_descriptor, endpoint_in, transfer_in, note_in, descriptor_in, ArePieces, IsDescribed, Views, views_of, AreOwned, IsOwned}
 use Rattle.run_owners.proofs.Runs.{placed_run, pieces_still, described_still, owned_stays}
 use Rattle.run_owners.proofs.Stays.{same_view}
 use Rattle.run_owners.proofs.Released.{same_number, other_number}
@@ -29,7 +29,7 @@ use Rattle.run_owners.proofs.Transferred.{one_not}
 -- ---- runs that were taken and that nothing tells yet: the spare owner is one of a transfer that there isn't
 
 pub is_spare : ℕ → Owner → Bool
-is_spare u (Described t) = t == u
+is_spare u (Described split t) = t == u
 is_spare u FrameList = false
 is_spare u Head = false
 is_spare u (QueueHead e) = false
@@ -42,18 +42,18 @@ pub record MovesOn (v w : Views) (owner mine : ℕ → Owner) (u : ℕ) : Type 0
   pub placed : (c : ℕ) (o : Owner) → is_spare u o ≡ false → IsPlaced v.slot owner c o → IsPlaced w.slot mine c o
   pub endpoints : (e : ℕ) → w.endpoint e ≡ v.endpoint e
   pub notes : (c : ℕ) → w.note c ≡ v.note c
-  pub buffers : (t c : ℕ) → t ≢ u → IsPlaced v.slot owner c (Described t) → w.buffer c ≡ v.buffer c
+  pub buffers : (split : Bool) (t c : ℕ) → t ≢ u → IsPlaced v.slot owner c (Described split t) → w.descriptor c ≡ v.descriptor c
 
 moved_pieces : (v w : Views) (owner mine : ℕ → Owner) (u t : ℕ) (y : TransferRuns) → MovesOn v w owner mine u → ArePieces v.slot owner v.note t y.first y.qtds → ArePieces w.slot mine w.note t y.first y.qtds
 unfolding is_spare
 moved_pieces v w owner mine u t y moves old =
     pieces_still v.slot w.slot owner mine v.note w.note t y.first y.qtds (λ c p. moves.placed c (Element t) refl p) (λ c p. moves.placed c (Buffer t) refl p) (λ c p. moves.notes c) old
 
-moved_descriptor : (v w : Views) (owner mine : ℕ → Owner) (u t : ℕ) (y : TransferRuns) → t ≢ u → MovesOn v w owner mine u → IsDescribed v.slot owner (v.buffer y.first) t y.first → IsDescribed w.slot mine (w.buffer y.first) t y.first
+moved_descriptor : (v w : Views) (owner mine : ℕ → Owner) (u t : ℕ) (y : TransferRuns) → t ≢ u → MovesOn v w owner mine u → IsDescribed v.slot owner (v.descriptor y.first) t y.first → IsDescribed w.slot mine (w.descriptor y.first) t y.first
 unfolding is_spare
 moved_descriptor v w owner mine u t y differs moves old =
-    described_still v.slot w.slot owner mine (v.buffer y.first) (w.buffer y.first) t y.first
-    (λ c p. moves.placed c (Described t) (other_number t u differs) p) (λ c p. moves.placed c (Buffer t) refl p) (λ p. moves.buffers t y.first differs p) old
+    described_still v.slot w.slot owner mine (v.descriptor y.first) (w.descriptor y.first) t y.first
+    (λ c p. moves.placed c (Described (v.descriptor y.first).split t) (other_number t u differs) p) (λ c p. moves.placed c (Buffer t) refl p) (λ p. moves.buffers (v.descriptor y.first).split t y.first differs p) old
 
 -- with the same transfers
 moved_owned : (v w : Views) (owner mine : ℕ → Owner) (u : ℕ) → MovesOn v w owner mine u → ((t : ℕ) → w.transfer t ≡ v.transfer t) → ((t : ℕ) (y : TransferRuns) → v.transfer t ≡ Some y → t ≢ u) → AreOwned v owner → AreOwned w mine
@@ -73,8 +73,8 @@ moved_owned v w owner mine u moves transfers differ old = record {
 
 -- what stands before the descriptors that are still to be taken on: their runs are rs, which are spare
 pub record AreReady (v : Views) (owner : ℕ → Owner) (u : ℕ) (ns rs : List ℕ) (notes : List DescriptorNote) (transfers : List Transfer) : Type 0 where
-  pub each : AreOwned (record v { transfer = transfer_in transfers; buffer = buffer_in notes }) owner
-  pub spare : (i : ℕ) → i < length rs → owner (get_or rs i 0) ≡ Described u
+  pub each : AreOwned (record v { transfer = transfer_in transfers; descriptor = descriptor_in notes }) owner
+  pub spare : (i : ℕ) → i < length rs → owner (get_or rs i 0) ≡ Described false u
   pub distinct : (i j : ℕ) → i < j → j < length rs → get_or rs j 0 ≢ get_or rs i 0
   pub long : length rs ≡ length ns
   pub runs : (i : ℕ) → i < length rs → HasBlocks (get_or ns i 0) (v.slot (get_or rs i 0))
@@ -91,7 +91,7 @@ next_needs (suc n) i [] ms long = absurd (omega (arith, long))
 next_needs (suc n) i (k ∷ ns) ms long = let e : suc n + i ≡ suc (n + i) = omega arith in ap (λ j. get_or (k ∷ (ns ++ ms)) j 0) e ∙ next_needs n i ns ms (omega (arith, long))
 
 -- a spare block is no block of what is told
-not_spare : (owner : ℕ → Owner) (u c r : ℕ) (o : Owner) → is_spare u o ≡ false → owner c ≡ o → owner r ≡ Described u → r ≢ c
+not_spare : (owner : ℕ → Owner) (u c r : ℕ) (o : Owner) → is_spare u o ≡ false → owner c ≡ o → owner r ≡ Described false u → r ≢ c
 unfolding is_spare
 not_spare owner u c r o off is spare same =
     false≢true (sym off ∙ ap (is_spare u) (sym is) ∙ ap (λ k. is_spare u (owner k)) (sym same) ∙ ap (is_spare u) spare ∙ same_number u)
@@ -100,12 +100,12 @@ abbrev first_runs : Slots → List ℕ → List ℕ
 first_runs s rs = take (slot_runs s) (drop 1 rs)
 
 abbrev next_owner : (ℕ → Owner) → Slots → ℕ → List ℕ → ℕ → Owner
-next_owner owner s t rs = given (get_or rs 0 0 ∷ []) (Described t) (given (first_runs s rs) (Buffer t) owner)
+next_owner owner s t rs = given (get_or rs 0 0 ∷ []) (Described s.split t) (given (first_runs s rs) (Buffer t) owner)
 
 -- the runs of the first descriptor, by place
 pub record AreFirst (v : Views) (owner : ℕ → Owner) (u t : ℕ) (s : Slots) (rs : List ℕ) : Type 0 where
   pub other : (c : ℕ) → ((i : ℕ) → i < suc (slot_runs s) → get_or rs i 0 ≢ c) → next_owner owner s t rs c ≡ owner c
-  pub descriptor : next_owner owner s t rs (get_or rs 0 0) ≡ Described t
+  pub descriptor : next_owner owner s t rs (get_or rs 0 0) ≡ Described s.split t
   pub buffers : (i : ℕ) → i < slot_runs s → next_owner owner s t rs (get_or rs (suc i) 0) ≡ Buffer t
 
 first_at : (s : Slots) (rs : List ℕ) (i : ℕ) → i < slot_runs s → get_or (first_runs s rs) i 0 ≡ get_or rs (suc i) 0
@@ -114,11 +114,11 @@ first_at s rs i below = get_or-take (slot_runs s) (drop 1 rs) i 0 below ∙ get_
 are_first : (v : Views) (owner : ℕ → Owner) (u t n : ℕ) (s : Slots) (rs : List ℕ) (notes : List DescriptorNote) (ts : List Transfer) → AreReady v owner u (iso_needs s (suc n)) rs notes ts → AreFirst v owner u t s rs
 are_first v owner u t n s rs notes ts ready = record {
   other = λ c differs.
-      given_not (get_or rs 0 0 ∷ []) (Described t) (given (first_runs s rs) (Buffer t) owner) c (one_not (get_or rs 0 0) c (differs 0 (omega arith)))
+      given_not (get_or rs 0 0 ∷ []) (Described s.split t) (given (first_runs s rs) (Buffer t) owner) c (one_not (get_or rs 0 0) c (differs 0 (omega arith)))
       ∙ given_not (first_runs s rs) (Buffer t) owner c (λ i below same. differs (suc i) (omega (arith, below, many)) (sym (first_at s rs i (omega (arith, below, many))) ∙ same));
-  descriptor = given_at (get_or rs 0 0 ∷ []) (Described t) (given (first_runs s rs) (Buffer t) owner) 0 (omega arith);
+  descriptor = given_at (get_or rs 0 0 ∷ []) (Described s.split t) (given (first_runs s rs) (Buffer t) owner) 0 (omega arith);
   buffers = λ i below.
-      given_not (get_or rs 0 0 ∷ []) (Described t) (given (first_runs s rs) (Buffer t) owner) (get_or rs (suc i) 0)
+      given_not (get_or rs 0 0 ∷ []) (Described s.split t) (given (first_runs s rs) (Buffer t) owner) (get_or rs (suc i) 0)
       (one_not (get_or rs 0 0) (get_or rs (suc i) 0) (λ same. ready.distinct 0 (suc i) (omega arith) (omega (arith, below, enough)) (sym same)))
       ∙ ap (given (first_runs s rs) (Buffer t) owner) (sym (first_at s rs i below)) ∙ given_at (first_runs s rs) (Buffer t) owner i (omega (arith, below, many));
 }
@@ -140,22 +140,20 @@ one_ready v owner u n seed k e x s rs a short below ready =
     let mine = next_owner owner s t rs in
     let first = are_first v owner u t n s rs a.notes a.transfers ready in
     let enough : length rs ≡ suc (r + length (iso_needs s n)) = let p = length-append (buffer_needs (total_of s)) (iso_needs s n) in omega (arith, ready.long, p) in
-    let v0 : Views = record v { transfer = transfer_in a.transfers; buffer = buffer_in a.notes } in
-    let v1 : Views = record v { transfer = transfer_in a.transfers; buffer = buffer_in (set a.notes b note) } in
+    let v0 : Views = record v { transfer = transfer_in a.transfers; descriptor = descriptor_in a.notes } in
+    let v1 : Views = record v { transfer = transfer_in a.transfers; descriptor = descriptor_in (set a.notes b note) } in
     let kept : (c : ℕ) (o : Owner) → is_spare u o ≡ false → IsPlaced v.slot owner c o → IsPlaced v.slot mine c o = λ c o off p.
     record { owned = first.other c (λ i less. not_spare owner u c (get_or rs i 0) o off p.owned (ready.spare i (omega (arith, less, enough)))) ∙ p.owned; run = p.run } in
     let moves : MovesOn v0 v1 owner mine u = record {
       placed = kept;
       endpoints = λ i. refl;
       notes = λ c. refl;
-      buffers = λ i c differs p. ap buffer_of (get_or-set_other a.notes b c note no_descriptor (λ same. not_spare owner u c b (Described i) (other_number i u differs) p.owned (ready.spare 0 (omega (arith, enough))) (sym same)));
+      buffers = λ split i c differs p. ap runs_of_descriptor (get_or-set_other a.notes b c note no_descriptor (λ same. not_spare owner u c b (Described split i) (other_number i u differs) p.owned (ready.spare 0 (omega (arith, enough))) (sym same)));
     } in
     let old = moved_owned v0 v1 owner mine u moves (λ i. refl) known ready.each in
-    let new : IsDescribed v.slot mine (buffer_in (set a.notes b note) b) t b = record {
-      descriptor = record { owned = first.descriptor; run = ready.runs 0 (omega (arith, enough)) };
-      buffers = subst (λ (q : DescriptorNote). AllByRecursion (λ c. IsPlaced v.slot mine c (Buffer t)) (buffer_of q)) (sym (get_or-set_same a.notes b note no_descriptor (ready.within 0 (omega (arith, enough)))))
-          (filled_runs mine first.buffers enough);
-    } in
+    let new : IsDescribed v.slot mine (descriptor_in (set a.notes b note) b) t b =
+    subst (λ (q : DescriptorNote). IsDescribed v.slot mine (runs_of_descriptor q) t b) (sym (get_or-set_same a.notes b note no_descriptor (ready.within 0 (omega (arith, enough)))))
+    (record { descriptor = record { owned = first.descriptor; run = ready.runs 0 (omega (arith, enough)) }; buffers = filled_runs mine first.buffers enough }) in
     record {
       each = record {
         list = old.list;
@@ -170,8 +168,8 @@ one_ready v owner u n seed k e x s rs a short below ready =
         described = λ i y there iso on.
             ⊎_elim (λ (w : transfer_in a.transfers i ≡ Some y). old.described i y w iso on)
             (λ (w : (i ≡ t) × (y ≡ runs_of_transfer (descriptor_transfer e s b))).
-            subst (λ j. IsDescribed v.slot mine (buffer_in (set a.notes b note) y.first) j y.first) (sym w.0)
-            (subst (λ (q : TransferRuns). IsDescribed v.slot mine (buffer_in (set a.notes b note) q.first) t q.first) (sym w.1) new))
+            subst (λ j. IsDescribed v.slot mine (descriptor_in (set a.notes b note) y.first) j y.first) (sym w.0)
+            (subst (λ (q : TransferRuns). IsDescribed v.slot mine (descriptor_in (set a.notes b note) q.first) t q.first) (sym w.1) new))
             (push_case runs_of_transfer a.transfers (descriptor_transfer e s b) i y there);
       };
       spare = λ i less.
@@ -187,7 +185,7 @@ one_ready v owner u n seed k e x s rs a short below ready =
       runs = λ i less.
           let many = length-drop (suc r) rs in
           subst (λ c. HasBlocks (get_or (iso_needs s n) i 0) (v.slot c)) (sym (get_or-drop (suc r) rs i 0))
-          (subst (λ m. HasBlocks m (v.slot (get_or rs (suc r + i) 0))) (next_needs (suc r) i (2 ∷ buffer_needs (total_of s)) (iso_needs s n) refl)
+          (subst (λ m. HasBlocks m (v.slot (get_or rs (suc r + i) 0))) (next_needs (suc r) i (descriptor_blocks s ∷ buffer_needs (total_of s)) (iso_needs s n) refl)
           (ready.runs (suc r + i) (omega (arith, less, many, enough))));
       within = λ i less.
           let many = length-drop (suc r) rs in
@@ -204,7 +202,7 @@ one_ready v owner u n seed k e x s rs a short below ready =
         let no : None ≡ Some y = sym none ∙ there in
         absurd (cc)
 
-    filled_runs : (mine : ℕ → Owner) → ((i : ℕ) → i < slot_runs s → mine (get_or rs (suc i) 0) ≡ Buffer (length a.transfers)) → length rs ≡ suc (slot_runs s + length (iso_needs s n)) → AllByRecursion (λ c. IsPlaced v.slot mine c (Buffer (length a.transfers))) (buffer_of (descriptor_note s (drop 1 rs)))
+    filled_runs : (mine : ℕ → Owner) → ((i : ℕ) → i < slot_runs s → mine (get_or rs (suc i) 0) ≡ Buffer (length a.transfers)) → length rs ≡ suc (slot_runs s + length (iso_needs s n)) → AllByRecursion (λ c. IsPlaced v.slot mine c (Buffer (length a.transfers))) (runs_of_descriptor (descriptor_note s (drop 1 rs))).buffer
     filled_runs mine buffers enough =
         filled_at (λ c. IsPlaced v.slot mine c (Buffer (length a.transfers))) (slot_runs s) 6 (drop 1 rs) (replicate 6 0) (few_runs 6 (total_of s) short (omega arith)) (omega (arith, length-drop 1 rs, enough))
         (λ i less.
@@ -214,7 +212,7 @@ one_ready v owner u n seed k e x s rs a short below ready =
 -- ---- all of them
 
 all_ready : (v : Views) (owner : ℕ → Owner) (u n seed : ℕ) (k : Book) (e : ℕ) (x : EpDesc) (s : Slots) (rs : List ℕ) (a : Descriptors) → total_of s ≤ 24576 → length a.transfers + n ≤ u → AreReady v owner u (iso_needs s n) rs a.notes a.transfers
-    → (mine : ℕ → Owner) × AreOwned (record v { transfer = transfer_in (all_descriptors k e x s n seed rs a).transfers; buffer = buffer_in (all_descriptors k e x s n seed rs a).notes }) mine
+    → (mine : ℕ → Owner) × AreOwned (record v { transfer = transfer_in (all_descriptors k e x s n seed rs a).transfers; descriptor = descriptor_in (all_descriptors k e x s n seed rs a).notes }) mine
 unfolding all_descriptors
 all_ready v owner u zero seed k e x s rs a short below ready = (owner, ready.each)
 all_ready v owner u (suc n) seed k e x s rs a short below ready =
@@ -230,12 +228,12 @@ all_noted (suc n) seed k e x s rs a =
     all_noted n ((seed + total_of s) % 256) k e x s (drop (suc (slot_runs s)) rs) (one_descriptor k e x s seed rs a) ∙ length-set a.notes (get_or rs 0 0) (descriptor_note s (drop 1 rs))
 
 -- what stood goes on standing where all new runs are spare
-spare_ready : {h g : Holding} {ns bs : List ℕ} (d : DriverContent) (owner : ℕ → Owner) (u : ℕ) → AreTaken h g ns bs → h.book.slots ≡ d.book.slots → IsOwned d owner → AreReady (record (views_of d) { slot = slot_of g.book.slots }) (given bs (Described u) owner) u ns bs d.periodic.notes d.transfers
+spare_ready : {h g : Holding} {ns bs : List ℕ} (d : DriverContent) (owner : ℕ → Owner) (u : ℕ) → AreTaken h g ns bs → h.book.slots ≡ d.book.slots → IsOwned d owner → AreReady (record (views_of d) { slot = slot_of g.book.slots }) (given bs (Described false u) owner) u ns bs d.periodic.notes d.transfers
 spare_ready {h = h} {g = g} {ns = ns} {bs = bs} d owner u taken slots old =
     let each = subst (λ (ss : List Slot). AreOwned (record (views_of d) { slot = slot_of ss }) owner) (sym slots) old.each in
-    let mine = given bs (Described u) owner in
+    let mine = given bs (Described false u) owner in
     let kept : (c : ℕ) (o : Owner) → IsPlaced (slot_of h.book.slots) owner c o → IsPlaced (slot_of g.book.slots) mine c o = λ c o p.
-    still_placed owner mine c o taken (given_not bs (Described u) owner c (λ i below. fresh_differs i c taken below (placed_run c o p))) p in
+    still_placed owner mine c o taken (given_not bs (Described false u) owner c (λ i below. fresh_differs i c taken below (placed_run c o p))) p in
     record {
       each = record {
         list = kept 0 FrameList each.list;
@@ -245,9 +243,9 @@ spare_ready {h = h} {g = g} {ns = ns} {bs = bs} d owner u taken slots old =
         pieces = λ t y there on.
             pieces_still (slot_of h.book.slots) (slot_of g.book.slots) owner mine (note_in d.notes) (note_in d.notes) t y.first y.qtds (λ c p. kept c (Element t) p) (λ c p. kept c (Buffer t) p) (λ c p. refl) (each.pieces t y there on);
         described = λ t y there iso on.
-            described_still (slot_of h.book.slots) (slot_of g.book.slots) owner mine (buffer_in d.periodic.notes y.first) (buffer_in d.periodic.notes y.first) t y.first (λ c p. kept c (Described t) p) (λ c p. kept c (Buffer t) p) (λ p. refl) (each.described t y there iso on);
+            described_still (slot_of h.book.slots) (slot_of g.book.slots) owner mine (descriptor_in d.periodic.notes y.first) (descriptor_in d.periodic.notes y.first) t y.first (λ c p. kept c (Described (descriptor_in d.periodic.notes y.first).split t) p) (λ c p. kept c (Buffer t) p) (λ p. refl) (each.described t y there iso on);
       };
-      spare = λ i below. given_at bs (Described u) owner i below;
+      spare = λ i below. given_at bs (Described false u) owner i below;
       distinct = taken.distinct;
       long = taken.long;
       runs = taken.new;
@@ -281,11 +279,11 @@ describe_owned d m owner o stands why old =
     let x = why.endpoint in
     let y : Endpoint = record x { next = first_waiting x.next (length d.transfers) } in
     let v : Views = record (views_of d) { slot = slot_of h.book.slots } in
-    let r = all_ready v (given bs (Described u) owner) u why.count why.seed h.book why.number x.desc why.slots bs a why.short (omega arith) (spare_ready d owner u all.are refl old) in
+    let r = all_ready v (given bs (Described false u) owner) u why.count why.seed h.book why.number x.desc why.slots bs a why.short (omega arith) (spare_ready d owner u all.are refl old) in
     let e = all_descriptors h.book why.number x.desc why.slots why.count why.seed bs a in
     let n = all_noted why.count why.seed h.book why.number x.desc why.slots bs a in
     let now : IsOwned (entered_iso d why.number x why.count (total_of why.slots) h.book e).driver r.0 = record {
-      each = with_next (record v { transfer = transfer_in e.transfers; buffer = buffer_in e.notes }) r.0 d.endpoints why.number x y why.here refl refl r.1;
+      each = with_next (record v { transfer = transfer_in e.transfers; descriptor = descriptor_in e.notes }) r.0 d.endpoints why.number x y why.here refl refl r.1;
       sizes = old.sizes ∙ sym all.are.many;
       as_many = n ∙ (old.as_many ∙ sym all.are.many);
     } in (

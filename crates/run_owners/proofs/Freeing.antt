@@ -14,7 +14,7 @@ use Rattle.driver_rows.specs.Harvests.{note_at}
 use Rattle.periodic_rows.specs.declared.content.DescriptorNote.{DescriptorNote}
 use Rattle.driver_rows.specs.Rows.{free_runs, free_qtd, free_qtds, free_transfers, is_held_of, free_descriptor, free_descriptors}
 use Rattle.run_book.proofs.Standing.{keeps_within}
-use Rattle.run_owners.specs.Owners.{Owner, FrameList, Head, QueueHead, Dummy, Element, Described, Buffer, IsRunFor, IsPlaced, note_in, buffer_in, ArePieces, IsDescribed}
+use Rattle.run_owners.specs.Owners.{Owner, FrameList, Head, QueueHead, Dummy, Element, Described, Buffer, IsRunFor, IsPlaced, note_in, descriptor_in, ArePieces, IsDescribed}
 
 -- ---- lending
 
@@ -24,7 +24,7 @@ lent_run Head r h = h
 lent_run (QueueHead e) r h = h
 lent_run (Dummy e) r h = h
 lent_run (Element t) r h = h
-lent_run (Described t) r h = h
+lent_run (Described split t) r h = h
 lent_run (Buffer t) r h = h
 
 lent_slot : (h : Holding) (b c : ℕ) (o : Owner) (s : Slot) → slot_of h.book.slots b ≡ s → IsRunFor o (slot_of h.book.slots c) → IsRunFor o (slot_of (lend_slot h b s).book.slots c)
@@ -92,12 +92,13 @@ transfers_freed slot owner goes notes e c k h (y ∷ ts) stays each =
 
 -- ---- descriptors
 
-pub descriptor_freed : (slot : ℕ → Slot) (owner : ℕ → Owner) (goes : Owner → Bool) (notes : List DescriptorNote) (h : Holding) (t b c : ℕ) → goes (owner c) ≡ false → goes (Described t) ≡ true → goes (Buffer t) ≡ true → IsDescribed slot owner (buffer_in notes b) t b → slot_of (free_descriptor notes h b).book.slots c ≡ slot_of h.book.slots c
+pub descriptor_freed : (slot : ℕ → Slot) (owner : ℕ → Owner) (goes : Owner → Bool) (notes : List DescriptorNote) (h : Holding) (t b c : ℕ) → goes (owner c) ≡ false → ((split : Bool) → goes (Described split t) ≡ true) → goes (Buffer t) ≡ true → IsDescribed slot owner (descriptor_in notes b) t b → slot_of (free_descriptor notes h b).book.slots c ≡ slot_of h.book.slots c
 descriptor_freed slot owner goes notes h t b c stays descriptor buffer is =
-    runs_freed h (b ∷ buffer_in notes b) c (differs_by owner goes c b (Described t) stays descriptor is.descriptor.owned, all_differ slot owner goes c (Buffer t) (buffer_in notes b) stays buffer is.buffers)
+    let note = descriptor_in notes b in
+    runs_freed h (b ∷ note.buffer) c (differs_by owner goes c b (Described note.split t) stays (descriptor note.split) is.descriptor.owned, all_differ slot owner goes c (Buffer t) note.buffer stays buffer is.buffers)
 
 -- the descriptors that wait at an endpoint
-pub descriptors_freed : (slot : ℕ → Slot) (owner : ℕ → Owner) (goes : Owner → Bool) (notes : List DescriptorNote) (e c : ℕ) (h : Holding) (ts : List Transfer) → goes (owner c) ≡ false → ((i : ℕ) (y : Transfer) → slice_get ts i ≡ Some y → waits_for e y ≡ true → (t : ℕ) × (goes (Described t) ≡ true) × (goes (Buffer t) ≡ true) × IsDescribed slot owner (buffer_in notes y.first) t y.first) → slot_of (free_descriptors notes e h ts).book.slots c ≡ slot_of h.book.slots c
+pub descriptors_freed : (slot : ℕ → Slot) (owner : ℕ → Owner) (goes : Owner → Bool) (notes : List DescriptorNote) (e c : ℕ) (h : Holding) (ts : List Transfer) → goes (owner c) ≡ false → ((i : ℕ) (y : Transfer) → slice_get ts i ≡ Some y → waits_for e y ≡ true → (t : ℕ) × ((split : Bool) → goes (Described split t) ≡ true) × (goes (Buffer t) ≡ true) × IsDescribed slot owner (descriptor_in notes y.first) t y.first) → slot_of (free_descriptors notes e h ts).book.slots c ≡ slot_of h.book.slots c
 unfolding free_descriptors
 descriptors_freed slot owner goes notes e c h [] stays each = refl
 descriptors_freed slot owner goes notes e c h (y ∷ ts) stays each =

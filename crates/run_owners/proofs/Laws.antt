@@ -2,12 +2,12 @@
 use Rattle.std.proofs.Common.{◌≡◌, ◌≢◌, ℕ, Ok, ap, sym, ◌∙◌}
 use Rattle.usb_base.specs.declared.commands.Cmd.{Cmd}
 use Rattle.word_mem.specs.Memory.{Mem}
-use Rattle.run_book.specs.Book.{Holding, holding, Stands, slot_of}
+use Rattle.run_book.specs.Book.{Holding, holding, Stands}
 use Rattle.driver_rows.specs.DriverContent.{DriverContent}
 use Rattle.driver_rows.specs.Offers.{Offered, offered}
 use Rattle.driver_rows.specs.Rows.{Parts, row_of, after_row}
 use Rattle.run_owners.specs.Accepts.{Accepts, opens, chains, places, transfers, describes, cancels, unchains}
-use Rattle.run_owners.specs.Owners.{Owner, SlotHas, IsPlaced, IsOwned}
+use Rattle.run_owners.specs.Owners.{Owner, ShareNoBlock, IsOwned}
 use Rattle.run_owners.specs.Kept.{HasOwners}
 use Rattle.run_owners.proofs.Commands.{accepted_for_a_reason}
 use Rattle.run_owners.proofs.Accepted.{open_owned, chain_owned, place_owned, cancel_owned, unchain_owned}
@@ -36,6 +36,6 @@ pub event_owned : (p : Parts) → HasOwners p.driver → HasOwners (after_row (r
 event_owned p old = record { owner = old.owner; owned = row_owned p old.owner old.orderly old.owned; orderly = row_orderly p old.orderly }
 
 -- structures of different owners share no block
-pub owners_apart : (h : Holding) (owner : ℕ → Owner) (b c k : ℕ) (o q : Owner) → Stands h → IsPlaced (slot_of h.book.slots) owner b o → IsPlaced (slot_of h.book.slots) owner c q → o ≢ q → SlotHas (slot_of h.book.slots b) k → SlotHas (slot_of h.book.slots c) k → ⊥
-owners_apart h owner b c k o q stands one two differ has also =
+pub owners_apart : (h : Holding) (owner : ℕ → Owner) (o q : Owner) → Stands h → o ≢ q → ShareNoBlock h owner o q
+owners_apart h owner o q stands differ b c k one two has also =
     runs_apart h b c k stands (λ same. differ (sym one.owned ∙ ap owner (sym same) ∙ two.owned)) has also

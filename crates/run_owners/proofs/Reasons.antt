@@ -1,7 +1,8 @@
 -- Each event of the driver has its reason.
-use Rattle.std.proofs.Common.{get_or, ◌≡◌, ℕ, zero, suc, ◌+◌, ◌*◌, Bool, true, false, ◌&&◌, cond, nat_lt, nat_le, List, [], ◌∷◌, length, drop, slice_get, slice_index, Option, Some, None, unwrap_or, option_map, ap, sym, subst, ◌∙◌, inl, inr, refl, arith}
+use Rattle.std.proofs.Common.{get_or, ◌≡◌, ℕ, zero, suc, ◌+◌, ◌*◌, ◌≤◌, Bool, true, false, ◌&&◌, cond, nat_lt, nat_le, List, [], ◌∷◌, length, drop, slice_get, slice_index, Option, Some, None, unwrap_or, option_map, ap, sym, subst, ◌∙◌, inl, inr, refl, arith}
 use Rattle.std.specs.Prelude.{position, option_and_then, is_some, is_none}
 use Rattle.std.proofs.lemmas.Bool.{false≢true}
+use Rattle.std.proofs.lemmas.Bool.Decides.{nat_tests}
 use Rattle.std.proofs.lemmas.Option.{same_Some, slice_get-map, slice_get-get_or}
 use Rattle.std.proofs.lemmas.List.Quantifiers.{position-Some}
 use Rattle.usb_base.specs.declared.endpoints.EndCause.{EndCause}
@@ -85,16 +86,19 @@ due_command p c None is next = tt
 due_command p c (Some row) is next = due_next p c row is next (events_are c p.driver.made row next)
 
 -- the stores of the frame list
-due_link : (p : Parts) (c : Command) (o : Option Store) → p.driver.command ≡ Some c → links c ≡ true → next_store p.driver.periodic.list ≡ o → IsDue p (link_row o)
-due_link p c None is on next = tt
-due_link p c (Some s) is on next = inr (record { command = c; unfinished = is; links = on; store = s; next = next; is = refl })
+due_link : (p : Parts) (c : Command) (o : Option Store) → p.driver.command ≡ Some c → links c ≡ true → length (events_of c) ≤ p.driver.made → next_store p.driver.periodic.list ≡ o → IsDue p (link_row o)
+due_link p c None is on late next = tt
+due_link p c (Some s) is on late next = inr (record { command = c; unfinished = is; links = on; late = late; store = s; next = next; is = refl })
 
-first_true : (a b : Bool) → a && b ≡ true → a ≡ true
-first_true true b e = refl
-first_true false b e = e
+both_true : (a b : Bool) → a && b ≡ true → (a ≡ true) × (b ≡ true)
+both_true true b e = (refl, e)
+both_true false b e = absurd (false≢true e)
 
-due_after : (p : Parts) (c : Command) (b : Bool) → p.driver.command ≡ Some c → (b ≡ true → links c ≡ true) → IsDue p (cond b (link_row (next_store p.driver.periodic.list)) (command_row c p.driver.made))
-due_after p c true is on = due_link p c (next_store p.driver.periodic.list) is (on refl) refl
+not_before : (m n : ℕ) (b : Bool) → nat_le m n ≡ b → b ≡ true → m ≤ n
+not_before m n b is on = grind (arith, nat_tests)
+
+due_after : (p : Parts) (c : Command) (b : Bool) → p.driver.command ≡ Some c → (b ≡ true → (links c ≡ true) × (length (events_of c) ≤ p.driver.made)) → IsDue p (cond b (link_row (next_store p.driver.periodic.list)) (command_row c p.driver.made))
+due_after p c true is on = due_link p c (next_store p.driver.periodic.list) is (on refl).0 (on refl).1 refl
 due_after p c false is on = due_command p c (slice_get (events_of c) p.driver.made) is refl
 
 -- ---- the leaving work
@@ -236,7 +240,7 @@ due_turn p turns.Leaving idle = two p (leaving_row p.driver p.registers) (harves
 due_turn p turns.Harvest idle = two p (harvest_row p.driver p.memory) (leaving_row p.driver p.registers) (λ row. due_harvest p row idle) (λ row. due_leaving p row idle)
 
 due_for : (p : Parts) (o : Option Command) → p.driver.command ≡ o → IsDue p (row_for p o)
-due_for p (Some c) is = due_after p c (links c && nat_le (length (events_of c)) p.driver.made) is (first_true (links c) (nat_le (length (events_of c)) p.driver.made))
+due_for p (Some c) is = due_after p c (links c && nat_le (length (events_of c)) p.driver.made) is (λ on. let b = both_true (links c) (nat_le (length (events_of c)) p.driver.made) on in (b.0, not_before (length (events_of c)) p.driver.made (nat_le (length (events_of c)) p.driver.made) refl b.1))
 due_for p None is = due_turn p p.driver.turn is
 
 pub each_is_due : (p : Parts) → IsDue p (row_of p)

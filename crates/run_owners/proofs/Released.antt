@@ -16,7 +16,7 @@ use Rattle.periodic_rows.specs.Periodic.{PeriodicContent}
 use Rattle.driver_rows.specs.DriverContent.{DriverContent, waits_for}
 use Rattle.driver_rows.specs.Harvests.{note_at}
 use Rattle.driver_rows.specs.Rows.{Parts, free_runs, free_qtd, free_qtds, free_transfers, free_endpoint, free_descriptor, free_descriptors, freed_by, after_transfer, after_endpoint, after_descriptor, after_placed, free_placed, is_iso, is_held_of, is_told, cancel_told, let_go, let_go_waiting, let_go_placed}
-use Rattle.run_owners.specs.Owners.{Owner, FrameList, Head, QueueHead, Dummy, Element, Described, Buffer, IsRunFor, EndpointRuns, TransferRuns, is_descriptor, runs_of_endpoint, runs_of_transfer, endpoint_in, transfer_in, note_in, buffer_in, Views, views_of, AreOwned, IsOwned}
+use Rattle.run_owners.specs.Owners.{Owner, FrameList, Head, QueueHead, Dummy, Element, Described, Buffer, IsRunFor, EndpointRuns, TransferRuns, is_descriptor, runs_of_endpoint, runs_of_transfer, endpoint_in, transfer_in, note_in, descriptor_in, Views, views_of, AreOwned, IsOwned}
 use Rattle.run_owners.specs.Leaving.{IsOrderly}
 use Rattle.run_owners.proofs.Runs.{owned_kept}
 use Rattle.run_owners.proofs.Freeing.{runs_freed, qtds_freed, transfers_freed, descriptor_freed, descriptors_freed}
@@ -50,7 +50,7 @@ many_transfers notes e h (y ∷ ts) =
     ∙ many_held (is_held_of e y) h (free_qtds notes h y.first y.qtds) (many_qtds notes h y.first y.qtds)
 
 many_descriptor : (notes : List DescriptorNote) (h : Holding) (b : ℕ) → length (free_descriptor notes h b).book.slots ≡ length h.book.slots
-many_descriptor notes h b = many_runs h (b ∷ buffer_in notes b)
+many_descriptor notes h b = many_runs h (b ∷ (descriptor_in notes b).buffer)
 
 many_descriptors : (notes : List DescriptorNote) (e : ℕ) (h : Holding) (ts : List Transfer) → length (free_descriptors notes e h ts).book.slots ≡ length h.book.slots
 unfolding free_descriptors
@@ -92,7 +92,7 @@ goes_transfer t Head = false
 goes_transfer t (QueueHead e) = false
 goes_transfer t (Dummy e) = false
 goes_transfer t (Element u) = u == t
-goes_transfer t (Described u) = u == t
+goes_transfer t (Described split u) = u == t
 goes_transfer t (Buffer u) = u == t
 
 other_transfers : (ts : List Transfer) (t : ℕ) (x : Transfer) (u : ℕ) (y : TransferRuns) → slice_get ts t ≡ Some x → transfer_in (set ts t (record x { released = true })) u ≡ Some y → y.released ≡ false → (u ≢ t) × (transfer_in ts u ≡ Some y)
@@ -122,7 +122,7 @@ transfer_owned p t owner x here on old =
             endpoints = λ e y there gone. (there, record { queue = refl; dummy = refl });
             transfers = λ u y there gone.
                 let o = other_transfers d.transfers t x u y here there gone in
-                (o.1, record { element = other_number u t o.0; descriptor = other_number u t o.0; buffer = other_number u t o.0 });
+                (o.1, record { element = other_number u t o.0; descriptor = λ split. other_number u t o.0; buffer = other_number u t o.0 });
             notes = λ c. refl;
             buffers = λ c. refl;
           })
@@ -144,11 +144,11 @@ descriptor_owned p t owner x here sort on old =
           (record {
             list = refl;
             head = refl;
-            runs = λ c stays run. subst (λ (s : Slot). IsRunFor (owner c) s) (sym (descriptor_freed (slot_of d.book.slots) owner (goes_transfer t) d.periodic.notes h t x.first c stays (same_number t) (same_number t) is)) run;
+            runs = λ c stays run. subst (λ (s : Slot). IsRunFor (owner c) s) (sym (descriptor_freed (slot_of d.book.slots) owner (goes_transfer t) d.periodic.notes h t x.first c stays (λ split. same_number t) (same_number t) is)) run;
             endpoints = λ e y there gone. (there, record { queue = refl; dummy = refl });
             transfers = λ u y there gone.
                 let o = other_transfers d.transfers t x u y here there gone in
-                (o.1, record { element = other_number u t o.0; descriptor = other_number u t o.0; buffer = other_number u t o.0 });
+                (o.1, record { element = other_number u t o.0; descriptor = λ split. other_number u t o.0; buffer = other_number u t o.0 });
             notes = λ c. refl;
             buffers = λ c. refl;
           })
@@ -169,7 +169,7 @@ goes_endpoint e ts Head = false
 goes_endpoint e ts (QueueHead u) = u == e
 goes_endpoint e ts (Dummy u) = u == e
 goes_endpoint e ts (Element t) = held_at e (slice_get ts t)
-goes_endpoint e ts (Described t) = held_at e (slice_get ts t)
+goes_endpoint e ts (Described split t) = held_at e (slice_get ts t)
 goes_endpoint e ts (Buffer t) = held_at e (slice_get ts t)
 
 other_endpoints : (xs : List Endpoint) (e : ℕ) (x : Endpoint) (u : ℕ) (y : EndpointRuns) → slice_get xs e ≡ Some x → endpoint_in (set xs e (record x { gone = true })) u ≡ Some y → y.bare ≡ false → (u ≢ e) × (endpoint_in xs u ≡ Some y)
@@ -243,7 +243,7 @@ endpoint_each d m e owner x told here on queued old =
           (o.1, record { queue = other_number u e o.0; dummy = other_number u e o.0 });
       transfers = λ t y there gone.
           let k = kept_transfer e told (slice_get d.transfers t) y (sym (ap (option_map runs_of_transfer) (slice_get-map (let_go e told) d.transfers t)) ∙ there) gone in
-          (k.0, record { element = k.1; descriptor = k.1; buffer = k.1 });
+          (k.0, record { element = k.1; descriptor = λ split. k.1; buffer = k.1 });
       notes = λ c. refl;
       buffers = λ c. refl;
     })
@@ -260,7 +260,7 @@ endpoint_each d m e owner x told here on queued old =
 -- the same of a content in which only the report differs
 owned_told : (d f : DriverContent) (g : Holding) (e : ℕ) (owner : ℕ → Owner) (x : Endpoint) (go : Transfer → Transfer) → AreUntouched d f → AreOwned (left_views d g e x (map go d.transfers)) owner → AreOwned (left_views f g e x (map go f.transfers)) owner
 owned_told d f g e owner x go same old =
-    subst (λ (ns : List DescriptorNote). AreOwned (record (left_views f g e x (map go f.transfers)) { buffer = buffer_in ns }) owner) (sym (ap (λ (q : PeriodicContent). q.notes) same.periodic))
+    subst (λ (ns : List DescriptorNote). AreOwned (record (left_views f g e x (map go f.transfers)) { descriptor = descriptor_in ns }) owner) (sym (ap (λ (q : PeriodicContent). q.notes) same.periodic))
     (subst (λ (ns : List QtdNote). AreOwned (record (left_views d g e x (map go f.transfers)) { endpoint = endpoint_in (set f.endpoints e (record x { gone = true })); note = note_in ns }) owner) (sym same.notes)
     (subst (λ (xs : List Endpoint). AreOwned (record (left_views d g e x (map go f.transfers)) { endpoint = endpoint_in (set xs e (record x { gone = true })) }) owner) (sym same.endpoints)
     (subst (λ (ts : List Transfer). AreOwned (left_views d g e x (map go ts)) owner) (sym same.transfers) old)))
@@ -290,7 +290,7 @@ goes_placed e ts Head = false
 goes_placed e ts (QueueHead u) = false
 goes_placed e ts (Dummy u) = false
 goes_placed e ts (Element t) = false
-goes_placed e ts (Described t) = waits_at e (slice_get ts t)
+goes_placed e ts (Described split t) = waits_at e (slice_get ts t)
 goes_placed e ts (Buffer t) = waits_at e (slice_get ts t)
 
 waiting_one : (e : ℕ) (told : Bool) (b : Bool) (z : Transfer) (y : TransferRuns) → waits_for e z ≡ b → runs_of_transfer (cond b (record z { reported = z.reported || told; released = true }) z) ≡ y → y.released ≡ false → (runs_of_transfer z ≡ y) × (waits_for e z ≡ false)
@@ -332,14 +332,14 @@ placed_each d m e owner x told here on iso order old =
           (λ t y there waits.
           let test : waits_at e (slice_get d.transfers t) ≡ true = ap (waits_at e) there ∙ waits in
           let is = waiting_is d e t x y here on iso there waits order in
-          (t, test, test, old.each.described t (runs_of_transfer y) (ap (option_map runs_of_transfer) there) is.0 is.1)) in
+          (t, (λ split. test), test, old.each.described t (runs_of_transfer y) (ap (option_map runs_of_transfer) there) is.0 is.1)) in
           subst (λ (s : Slot). IsRunFor (owner c) s) (sym freed) run;
       endpoints = λ u y there bare.
           let o = other_endpoints d.endpoints e x u y here there bare in
           (o.1, record { queue = refl; dummy = refl });
       transfers = λ t y there gone.
           let k = kept_waiting e told (slice_get d.transfers t) y (sym (ap (option_map runs_of_transfer) (slice_get-map (let_go_waiting e told) d.transfers t)) ∙ there) gone in
-          (k.0, record { element = refl; descriptor = k.1; buffer = k.1 });
+          (k.0, record { element = refl; descriptor = λ split. k.1; buffer = k.1 });
       notes = λ c. refl;
       buffers = λ c. refl;
     })

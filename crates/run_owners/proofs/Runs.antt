@@ -1,10 +1,10 @@
 -- What goes on standing as runs are taken, lent and given back.
-use Rattle.std.proofs.Common.{◌≡◌, ℕ, zero, suc, Bool, false, List, [], ◌∷◌, Some, ap, sym, subst, ◌∙◌, refl}
+use Rattle.std.proofs.Common.{◌≡◌, ℕ, zero, suc, Bool, false, cond, List, [], ◌∷◌, Some, ap, sym, subst, ◌∙◌, refl}
 use Rattle.std.specs.List.{AllByRecursion}
 use Rattle.run_book.specs.declared.slots.Slot.{Slot}
 use Rattle.run_book.specs.declared.slots.Slot.TheVariants.{Empty, Keeps, Lends}
 use Rattle.driver_rows.specs.Words.{head_block}
-use Rattle.run_owners.specs.Owners.{Owner, FrameList, Head, QueueHead, Dummy, Element, Described, Buffer, HasBlocks, HasRun, IsRunFor, IsPlaced, EndpointRuns, TransferRuns, NoteRuns, ArePieces, IsDescribed, Views, AreOwned}
+use Rattle.run_owners.specs.Owners.{Owner, FrameList, Head, QueueHead, Dummy, Element, Described, Buffer, HasBlocks, HasRun, IsRunFor, IsPlaced, EndpointRuns, TransferRuns, NoteRuns, DescriptorRuns, ArePieces, IsDescribed, Views, AreOwned}
 
 pub all_still : {P Q : ℕ → Type 0} (xs : List ℕ) → ((c : ℕ) → P c → Q c) → AllByRecursion P xs → AllByRecursion Q xs
 all_still [] each all = tt
@@ -22,7 +22,7 @@ has_run Head s h = blocks_run 2 s h
 has_run (QueueHead e) s h = blocks_run 2 s h
 has_run (Dummy e) s h = blocks_run 1 s h
 has_run (Element t) s h = blocks_run 1 s h
-has_run (Described t) s h = blocks_run 2 s h
+has_run (Described split t) s h = blocks_run (cond split 1 2) s h
 has_run (Buffer t) s h = h
 
 pub placed_run : {slot : ℕ → Slot} {owner : ℕ → Owner} (b : ℕ) (o : Owner) → IsPlaced slot owner b o → HasRun (slot b)
@@ -41,11 +41,9 @@ pieces_still slot now owner mine note other t b (suc n) elements buffers same al
     )
 
 -- and so does a descriptor
-pub described_still : (slot now : ℕ → Slot) (owner mine : ℕ → Owner) (buffer other : List ℕ) (t b : ℕ) → ((c : ℕ) → IsPlaced slot owner c (Described t) → IsPlaced now mine c (Described t)) → ((c : ℕ) → IsPlaced slot owner c (Buffer t) → IsPlaced now mine c (Buffer t)) → (IsPlaced slot owner b (Described t) → other ≡ buffer) → IsDescribed slot owner buffer t b → IsDescribed now mine other t b
-described_still slot now owner mine buffer other t b descriptors buffers same old = record {
-  descriptor = descriptors b old.descriptor;
-  buffers = subst (λ (bs : List ℕ). AllByRecursion (λ c. IsPlaced now mine c (Buffer t)) bs) (sym (same old.descriptor)) (all_still buffer buffers old.buffers);
-}
+pub described_still : (slot now : ℕ → Slot) (owner mine : ℕ → Owner) (note other : DescriptorRuns) (t b : ℕ) → ((c : ℕ) → IsPlaced slot owner c (Described note.split t) → IsPlaced now mine c (Described note.split t)) → ((c : ℕ) → IsPlaced slot owner c (Buffer t) → IsPlaced now mine c (Buffer t)) → (IsPlaced slot owner b (Described note.split t) → other ≡ note) → IsDescribed slot owner note t b → IsDescribed now mine other t b
+described_still slot now owner mine note other t b descriptors buffers same old =
+    subst (λ (r : DescriptorRuns). IsDescribed now mine r t b) (sym (same old.descriptor)) (record { descriptor = descriptors b old.descriptor; buffers = all_still note.buffer buffers old.buffers })
 
 -- one run goes on standing where its owner isn't one that goes
 still : (slot now : ℕ → Slot) (owner : ℕ → Owner) (goes : Owner → Bool) (b : ℕ) (o : Owner) → ((c : ℕ) → goes (owner c) ≡ false → IsRunFor (owner c) (slot c) → IsRunFor (owner c) (now c)) → goes o ≡ false → IsPlaced slot owner b o → IsPlaced now owner b o
@@ -61,7 +59,7 @@ pub record QueueStays (goes : Owner → Bool) (e : ℕ) : Type 0 where
 
 pub record TransferStays (goes : Owner → Bool) (t : ℕ) : Type 0 where
   pub element : goes (Element t) ≡ false
-  pub descriptor : goes (Described t) ≡ false
+  pub descriptor : (split : Bool) → goes (Described split t) ≡ false
   pub buffer : goes (Buffer t) ≡ false
 
 -- what is left once some owners' runs were given back, and all others' stand
@@ -72,7 +70,7 @@ pub record AreKept (v w : Views) (owner : ℕ → Owner) (goes : Owner → Bool)
   pub endpoints : (e : ℕ) (x : EndpointRuns) → w.endpoint e ≡ Some x → x.bare ≡ false → (v.endpoint e ≡ Some x) × QueueStays goes e
   pub transfers : (t : ℕ) (y : TransferRuns) → w.transfer t ≡ Some y → y.released ≡ false → (v.transfer t ≡ Some y) × TransferStays goes t
   pub notes : (c : ℕ) → w.note c ≡ v.note c
-  pub buffers : (c : ℕ) → w.buffer c ≡ v.buffer c
+  pub buffers : (c : ℕ) → w.descriptor c ≡ v.descriptor c
 
 pub owned_kept : (v w : Views) (owner : ℕ → Owner) (goes : Owner → Bool) → AreKept v w owner goes → AreOwned v owner → AreOwned w owner
 owned_kept v w owner goes kept old = record {
@@ -88,8 +86,8 @@ owned_kept v w owner goes kept old = record {
       (λ c p. kept.notes c) (old.pieces t y was.0 on);
   described = λ t y there iso on.
       let was = kept.transfers t y there on in
-      described_still v.slot w.slot owner owner (v.buffer y.first) (w.buffer y.first) t y.first
-      (λ c p. still v.slot w.slot owner goes c (Described t) kept.runs was.1.descriptor p)
+      described_still v.slot w.slot owner owner (v.descriptor y.first) (w.descriptor y.first) t y.first
+      (λ c p. still v.slot w.slot owner goes c (Described (v.descriptor y.first).split t) kept.runs (was.1.descriptor (v.descriptor y.first).split) p)
       (λ c p. still v.slot w.slot owner goes c (Buffer t) kept.runs was.1.buffer p)
       (λ p. kept.buffers y.first) (old.described t y was.0 iso on);
 }
@@ -100,7 +98,7 @@ pub record AreSame (v w : Views) : Type 0 where
   pub endpoints : (e : ℕ) → w.endpoint e ≡ v.endpoint e
   pub transfers : (t : ℕ) → w.transfer t ≡ v.transfer t
   pub notes : (c : ℕ) → w.note c ≡ v.note c
-  pub buffers : (c : ℕ) → w.buffer c ≡ v.buffer c
+  pub buffers : (c : ℕ) → w.descriptor c ≡ v.descriptor c
 
 pub owned_stays : (v w : Views) (owner : ℕ → Owner) → AreSame v w → AreOwned v owner → AreOwned w owner
 owned_stays v w owner same old =
@@ -110,7 +108,7 @@ owned_stays v w owner same old =
       head = refl;
       runs = λ c stays run. same.runs c (owner c) run;
       endpoints = λ e x there on. (sym (same.endpoints e) ∙ there, record { queue = refl; dummy = refl });
-      transfers = λ t y there on. (sym (same.transfers t) ∙ there, record { element = refl; descriptor = refl; buffer = refl });
+      transfers = λ t y there on. (sym (same.transfers t) ∙ there, record { element = refl; descriptor = λ split. refl; buffer = refl });
       notes = same.notes;
       buffers = same.buffers;
     }) old

@@ -25,7 +25,7 @@ use Rattle.driver_rows.specs.declared.rows.Found.TheVariants as founds
 use Rattle.driver_rows.specs.DriverContent.{DriverContent, no_note, waits_for, next_after}
 use Rattle.driver_rows.specs.Harvests.{note_at, noted, is_stall, end_of}
 use Rattle.driver_rows.specs.Rows.{Parts, events_of, links, removes_members, leave_ring, leave_frames, no_command, finished, list_after, or_finished, linked_on, advanced_by, advance, with_frames, last_frame, framed_notes, with_notes, placement_at, framed_by, after_unlink, served, moved_on, told_with, goes_on, behind_one, behind, stalled, mends_of, after_end, descriptor_told, harvested_as, after_harvest}
-use Rattle.run_owners.specs.Owners.{Owner, IsRunFor, runs_of_endpoint, runs_of_transfer, runs_of_note, endpoint_in, transfer_in, note_in, buffer_in, buffer_of, views_of, IsOwned}
+use Rattle.run_owners.specs.Owners.{Owner, IsRunFor, runs_of_endpoint, runs_of_transfer, runs_of_note, endpoint_in, transfer_in, note_in, descriptor_in, runs_of_descriptor, views_of, IsOwned}
 use Rattle.run_owners.proofs.Runs.{AreSame, owned_stays}
 use Rattle.run_owners.proofs.Freeing.{runs_lent}
 
@@ -60,7 +60,7 @@ stays_same d e slots endpoints transfers notes many descriptors = record {
     endpoints = endpoints;
     transfers = transfers;
     notes = notes;
-    buffers = λ c. ap (λ (ns : List DescriptorNote). buffer_in ns c) descriptors;
+    buffers = λ c. ap (λ (ns : List DescriptorNote). descriptor_in ns c) descriptors;
   };
   many = ap length slots;
   as_many = many;
@@ -164,15 +164,15 @@ framed_many p (t ∷ ts) f notes =
     let note = record (descriptor_at notes t.first) { frame = f } in
     framed_many p ts (frames_from p f 1) (set notes t.first note) ∙ length-set notes t.first note
 
-framed_runs : (p : Placement) (ts : List Transfer) (f : ℕ) (notes : List DescriptorNote) (c : ℕ) → buffer_in (with_frames p ts f notes) c ≡ buffer_in notes c
+framed_runs : (p : Placement) (ts : List Transfer) (f : ℕ) (notes : List DescriptorNote) (c : ℕ) → descriptor_in (with_frames p ts f notes) c ≡ descriptor_in notes c
 unfolding with_frames
 framed_runs p [] f notes c = refl
 framed_runs p (t ∷ ts) f notes c =
     let note = record (descriptor_at notes t.first) { frame = f } in
-    framed_runs p ts (frames_from p f 1) (set notes t.first note) c ∙ same_item buffer_of notes t.first note no_descriptor refl c
+    framed_runs p ts (frames_from p f 1) (set notes t.first note) c ∙ same_item runs_of_descriptor notes t.first note no_descriptor refl c
 
 -- a content in which only frames of descriptors, and what is linked, differ
-frames_stay : (d e : DriverContent) → e.book.slots ≡ d.book.slots → e.endpoints ≡ d.endpoints → e.transfers ≡ d.transfers → e.notes ≡ d.notes → ((c : ℕ) → buffer_in e.periodic.notes c ≡ buffer_in d.periodic.notes c) → length e.periodic.notes ≡ length d.periodic.notes → StaysPlaced d e
+frames_stay : (d e : DriverContent) → e.book.slots ≡ d.book.slots → e.endpoints ≡ d.endpoints → e.transfers ≡ d.transfers → e.notes ≡ d.notes → ((c : ℕ) → descriptor_in e.periodic.notes c ≡ descriptor_in d.periodic.notes c) → length e.periodic.notes ≡ length d.periodic.notes → StaysPlaced d e
 frames_stay d e slots endpoints transfers notes buffers many = record {
   same = record {
     runs = λ c o run. subst (λ (ss : List Slot). IsRunFor o (slot_of ss c)) (sym slots) run;

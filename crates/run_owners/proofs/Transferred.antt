@@ -16,7 +16,7 @@ use Rattle.driver_rows.specs.Offers.{Offered, Asked, new_runs, note_stages, acce
 use Rattle.run_owners.specs.Accepts.{AreShort, Transfers}
 use Rattle.driver_rows.specs.Rows.{is_iso}
 use Rattle.run_owners.specs.Leaving.{IsSteady, IsOrderly}
-use Rattle.run_owners.specs.Owners.{Owner, FrameList, Head, QueueHead, Dummy, Element, Described, Buffer, HasBlocks, HasRun, IsPlaced, EndpointRuns, TransferRuns, is_descriptor, runs_of_endpoint, runs_of_transfer, runs_of_note, endpoint_in, transfer_in, note_in, buffer_in, ArePieces, Views, views_of, AreOwned, IsOwned}
+use Rattle.run_owners.specs.Owners.{Owner, FrameList, Head, QueueHead, Dummy, Element, Described, Buffer, HasBlocks, HasRun, IsPlaced, EndpointRuns, TransferRuns, is_descriptor, runs_of_endpoint, runs_of_transfer, runs_of_note, endpoint_in, transfer_in, note_in, descriptor_in, ArePieces, Views, views_of, AreOwned, IsOwned}
 use Rattle.run_owners.proofs.Runs.{placed_run, pieces_still, described_still}
 use Rattle.run_owners.proofs.Released.{set_here, set_there}
 use Rattle.run_owners.proofs.Taking.{AreTaken, runs_taken, blocks_some}
@@ -31,7 +31,7 @@ number_of Head = 0
 number_of (QueueHead e) = e
 number_of (Dummy e) = e
 number_of (Element t) = t
-number_of (Described t) = t
+number_of (Described split t) = t
 number_of (Buffer t) = t
 
 is_dummy : Owner → Bool
@@ -40,7 +40,7 @@ is_dummy FrameList = false
 is_dummy Head = false
 is_dummy (QueueHead e) = false
 is_dummy (Element t) = false
-is_dummy (Described t) = false
+is_dummy (Described split t) = false
 is_dummy (Buffer t) = false
 
 -- a block of an owner that isn't this endpoint's inactive qTD is another block
@@ -264,8 +264,8 @@ transfer_each {h = h} {g = g} {bs = bs} d owner e x a taken slots here alive sor
       described = λ u z there iso on.
           ⊎_elim
           (λ (w : transfer_in d.transfers u ≡ Some z).
-          described_still (slot_of h.book.slots) now owner mine (buffer_in d.periodic.notes z.first) (buffer_in d.periodic.notes z.first) u z.first
-          (λ c p. new.kept c (Described u) (not_dummy b c e (Described u) was refl p) p)
+          described_still (slot_of h.book.slots) now owner mine (descriptor_in d.periodic.notes z.first) (descriptor_in d.periodic.notes z.first) u z.first
+          (λ c p. let o = Described (descriptor_in d.periodic.notes z.first).split u in new.kept c o (not_dummy b c e o was refl p) p)
           (λ c p. new.kept c (Buffer u) (not_dummy b c e (Buffer u) was refl p) p)
           (λ p. refl) (each.described u z w iso on))
           (λ (w : (u ≡ t) × (z ≡ runs_of_transfer (new_transfer e a b))).

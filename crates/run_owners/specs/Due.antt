@@ -1,6 +1,6 @@
 -- Why an event of the driver is the one that it is (EHCI 1.0, 4.6 to 4.10).
 --     IsDue p row        the content says why the row comes next
-use Rattle.std.specs.Prelude.{◌≡◌, ℕ, ◌⊎◌, true, slice_get, Some, None}
+use Rattle.std.specs.Prelude.{◌≡◌, ℕ, ◌≤◌, ◌⊎◌, true, length, slice_get, Some, None}
 use Rattle.periodic_list.specs.declared.work.Store.{Store}
 use Rattle.periodic_list.specs.Periodic.{next_store}
 use Rattle.periodic_rows.specs.declared.content.Removal.{Removal}
@@ -21,11 +21,12 @@ pub record IsNextOf (p : Parts) (row : Row) : Type 0 where
   pub unfinished : p.driver.command ≡ Some command
   pub next : slice_get (events_of command) p.driver.made ≡ Some row
 
--- the next store of the frame list
+-- the next store of the frame list, behind the command's own events
 pub record IsLinkOf (p : Parts) (row : Row) : Type 0 where
   pub command : Command
   pub unfinished : p.driver.command ≡ Some command
   pub links : links command ≡ true
+  pub late : length (events_of command) ≤ p.driver.made
   pub store : Store
   pub next : next_store p.driver.periodic.list ≡ Some store
   pub is : row ≡ rows.Store store.block store.at store.value

@@ -3,3 +3,4 @@ pub mod Leaving
 pub mod Due
 pub mod Accepts
 pub mod Kept
+pub mod Worked

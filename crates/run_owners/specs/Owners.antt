@@ -5,15 +5,16 @@
 --     IsRunFor o s                     the slot s of the book has a run, as long as the owner wants it
 --     SlotHas s k                      block k belongs to the slot's run
 --     IsPlaced slot owner b o          the run that begins in block b is o's
+--     ShareNoBlock h owner o q         no run of o's shares a block with one of q's
 --     ArePieces slot owner note t b n  the n qTDs from block b on, and their buffers, are those of transfer t
---     IsDescribed slot owner bs t b    the isochronous descriptor in block b, and the runs bs of its buffer, are those of transfer t
+--     IsDescribed slot owner note t b  the isochronous descriptor in block b, and the runs of its buffer, are those of transfer t
 --     AreOwned slot .. owner           each endpoint with a queue that wasn't given back has its queue head and its inactive qTD, and each
 --                                      transfer that wasn't given back its qTDs or its descriptor, and their buffers
 --     IsOwned d owner                  the same of the driver's content
-use Rattle.std.specs.Prelude.{◌≡◌, ℕ, zero, suc, Bool, true, false, ◌||◌, List, length, take, slice_get, Option, Some, option_map}
+use Rattle.std.specs.Prelude.{◌≡◌, ℕ, zero, suc, Bool, true, false, ◌||◌, List, length, take, slice_get, Option, Some, option_map, if◌then◌else◌}
 use Rattle.std.specs.List.{AllByRecursion}
 use Rattle.word_mem.specs.Owners.{has_block}
-use Rattle.run_book.specs.Book.{slot_of}
+use Rattle.run_book.specs.Book.{Holding, slot_of}
 use Rattle.run_book.specs.declared.slots.Slot.{Slot}
 use Rattle.run_book.specs.declared.slots.Slot.TheVariants.{Empty, Keeps, Lends}
 use Rattle.driver_rows.specs.declared.content.Endpoint.{Endpoint}
@@ -34,7 +35,7 @@ pub data Owner : Type 0 where
   QueueHead : ℕ → Owner  -- of an endpoint
   Dummy : ℕ → Owner  -- the inactive qTD at the end of an endpoint's queue
   Element : ℕ → Owner  -- a qTD of a transfer
-  Described : ℕ → Owner  -- the isochronous descriptor of a transfer
+  Described : Bool → ℕ → Owner  -- the isochronous descriptor of a transfer: a siTD, or an iTD
   Buffer : ℕ → Owner  -- a run of a buffer of a transfer
 
 -- ---- how long the runs are
@@ -55,19 +56,24 @@ SlotHas Empty k = ⊥
 SlotHas (Keeps r) k = has_block r k ≡ true
 SlotHas (Lends r) k = has_block r k ≡ true
 
--- a page, two blocks for a queue head and for a descriptor, one for a qTD, and whatever a buffer wants
+-- a page, two blocks for a queue head and for an iTD, one for a qTD and for a siTD, and whatever a buffer wants
 abbrev pub IsRunFor : Owner → Slot → Type 0
 IsRunFor FrameList s = HasBlocks 128 s
 IsRunFor Head s = HasBlocks 2 s
 IsRunFor (QueueHead e) s = HasBlocks 2 s
 IsRunFor (Dummy e) s = HasBlocks 1 s
 IsRunFor (Element t) s = HasBlocks 1 s
-IsRunFor (Described t) s = HasBlocks 2 s
+IsRunFor (Described split t) s = HasBlocks (if split then 1 else 2) s
 IsRunFor (Buffer t) s = HasRun s
 
 pub record IsPlaced (slot : ℕ → Slot) (owner : ℕ → Owner) (b : ℕ) (o : Owner) : Type 0 where
   pub owned : owner b ≡ o
   pub run : IsRunFor o (slot b)
+
+abbrev pub ShareNoBlock : Holding → (ℕ → Owner) → Owner → Owner → Type 0
+ShareNoBlock h owner o q =
+    (b c k : ℕ) → IsPlaced (slot_of h.book.slots) owner b o → IsPlaced (slot_of h.book.slots) owner c q
+    → SlotHas (slot_of h.book.slots b) k → SlotHas (slot_of h.book.slots c) k → ⊥
 
 -- ---- what endpoints, transfers and notes say of runs
 
@@ -113,12 +119,16 @@ transfer_in ts t = option_map runs_of_transfer (slice_get ts t)
 abbrev pub note_in : List QtdNote → ℕ → NoteRuns
 note_in notes b = runs_of_note (note_at notes b)
 
--- where the runs of the buffer of the isochronous descriptor in block b begin
-abbrev pub buffer_of : DescriptorNote → List ℕ
-buffer_of n = take n.runs n.buffer
+-- which structure an isochronous descriptor is, and where the runs of its buffer begin
+pub record DescriptorRuns : Type 0 where
+  pub split : Bool
+  pub buffer : List ℕ
 
-abbrev pub buffer_in : List DescriptorNote → ℕ → List ℕ
-buffer_in notes b = buffer_of (descriptor_at notes b)
+abbrev pub runs_of_descriptor : DescriptorNote → DescriptorRuns
+runs_of_descriptor n = record { split = n.split; buffer = take n.runs n.buffer }
+
+abbrev pub descriptor_in : List DescriptorNote → ℕ → DescriptorRuns
+descriptor_in notes b = runs_of_descriptor (descriptor_at notes b)
 
 -- ---- whose they are
 
@@ -131,9 +141,9 @@ abbrev pub ArePieces : (ℕ → Slot) → (ℕ → Owner) → (ℕ → NoteRuns)
 ArePieces slot owner note t b zero = Unit {0}
 ArePieces slot owner note t b (suc n) = IsPiece slot owner (note b) t b × ArePieces slot owner note t (note b).next n
 
-pub record IsDescribed (slot : ℕ → Slot) (owner : ℕ → Owner) (buffer : List ℕ) (t b : ℕ) : Type 0 where
-  pub descriptor : IsPlaced slot owner b (Described t)
-  pub buffers : AllByRecursion (λ c. IsPlaced slot owner c (Buffer t)) buffer
+pub record IsDescribed (slot : ℕ → Slot) (owner : ℕ → Owner) (note : DescriptorRuns) (t b : ℕ) : Type 0 where
+  pub descriptor : IsPlaced slot owner b (Described note.split t)
+  pub buffers : AllByRecursion (λ c. IsPlaced slot owner c (Buffer t)) note.buffer
 
 -- what tells the runs: endpoints and transfers by number, the notes of qTDs and of descriptors by block
 pub record Views : Type 0 where
@@ -141,7 +151,7 @@ pub record Views : Type 0 where
   pub endpoint : ℕ → Option EndpointRuns
   pub transfer : ℕ → Option TransferRuns
   pub note : ℕ → NoteRuns
-  pub buffer : ℕ → List ℕ
+  pub descriptor : ℕ → DescriptorRuns
 
 pub record AreOwned (v : Views) (owner : ℕ → Owner) : Type 0 where
   pub list : IsPlaced v.slot owner 0 FrameList
@@ -149,7 +159,7 @@ pub record AreOwned (v : Views) (owner : ℕ → Owner) : Type 0 where
   pub queue : (e : ℕ) (x : EndpointRuns) → v.endpoint e ≡ Some x → x.bare ≡ false → IsPlaced v.slot owner x.queue (QueueHead e)
   pub dummy : (e : ℕ) (x : EndpointRuns) → v.endpoint e ≡ Some x → x.bare ≡ false → IsPlaced v.slot owner x.dummy (Dummy e)
   pub pieces : (t : ℕ) (y : TransferRuns) → v.transfer t ≡ Some y → y.released ≡ false → ArePieces v.slot owner v.note t y.first y.qtds
-  pub described : (t : ℕ) (y : TransferRuns) → v.transfer t ≡ Some y → y.isochronous ≡ true → y.released ≡ false → IsDescribed v.slot owner (v.buffer y.first) t y.first
+  pub described : (t : ℕ) (y : TransferRuns) → v.transfer t ≡ Some y → y.isochronous ≡ true → y.released ≡ false → IsDescribed v.slot owner (v.descriptor y.first) t y.first
 
 abbrev pub views_of : DriverContent → Views
 views_of d = record {
@@ -157,7 +167,7 @@ views_of d = record {
   endpoint = endpoint_in d.endpoints;
   transfer = transfer_in d.transfers;
   note = note_in d.notes;
-  buffer = buffer_in d.periodic.notes;
+  descriptor = descriptor_in d.periodic.notes;
 }
 
 pub record IsOwned (d : DriverContent) (owner : ℕ → Owner) : Type 0 where

@@ -6,16 +6,18 @@
 //! driver `HasOwners` keeps it by `commands_keep_owners` and `events_keep_owners`; `driver_rows` and `run_book` stand below it.
 #![tactic(auto)]
 
+pub mod worked;
+
 ghost use Rattle.std.specs.Prelude.{◌≡◌, ◌≢◌, ℕ, ◌≤◌, Ok};
 ghost use Rattle.usb_base.specs.declared.commands.Cmd.{Cmd};
 ghost use Rattle.word_mem.specs.Memory.{Mem};
-ghost use Rattle.run_book.specs.Book.{Holding, holding, Stands, slot_of};
+ghost use Rattle.run_book.specs.Book.{Holding, holding, Stands};
 ghost use Rattle.driver_rows.specs.declared.content.Reserve.{Reserve};
 ghost use Rattle.driver_rows.specs.DriverContent.{DriverContent};
 ghost use Rattle.driver_rows.specs.Offers.{Offered, offered};
 ghost use Rattle.driver_rows.specs.Opening.{opening};
 ghost use Rattle.driver_rows.specs.Rows.{Parts, row_of, after_row};
-ghost use Rattle.run_owners.specs.Owners.{Owner, SlotHas, IsPlaced};
+ghost use Rattle.run_owners.specs.Owners.{Owner, ShareNoBlock};
 ghost use Rattle.run_owners.specs.Due.{IsDue};
 ghost use Rattle.run_owners.specs.Accepts.{Accepts};
 ghost use Rattle.run_owners.specs.Kept.{HasOwners};
@@ -41,7 +43,7 @@ pub fn events_keep_owners()
 /// Structures of different owners share no block.
 #[tactic(auto, using(crate::proofs::Laws::owners_apart))]
 pub fn owners_share_no_block()
-    ensures { (h : Holding) (owner : ℕ → Owner) (b c k : ℕ) (o q : Owner) → Stands h → IsPlaced (slot_of h.book.slots) owner b o → IsPlaced (slot_of h.book.slots) owner c q → o ≢ q → SlotHas (slot_of h.book.slots b) k → SlotHas (slot_of h.book.slots c) k → ⊥ }
+    ensures { (h : Holding) (owner : ℕ → Owner) (o q : Owner) → Stands h → o ≢ q → ShareNoBlock h owner o q }
 {}
 
 /// Each event comes for its reason: the next event of the unfinished command, the first of the leaving work, or a token to read.

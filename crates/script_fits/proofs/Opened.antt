@@ -1,6 +1,6 @@
 -- An endpoint with the packets and the pace of its speed can be asked of a plan.
-use Rattle.std.proofs.Common.{◌≡◌, ℕ, zero, suc, ◌≤◌, Bool, true, false, List, [], ◌∷◌, refl, sym, subst, ◌∙◌, ap, inl, inr, arith}
-use Rattle.std.specs.Prelude.{nat_eq, nat_le, ◌==◌, ◌&&◌, ◌||◌, not, is_some}
+use Rattle.std.proofs.Common.{◌≡◌, ℕ, zero, suc, ◌≤◌, Bool, true, false, List, [], ◌∷◌, refl, sym, subst, ◌∙◌, inl, inr, arith}
+use Rattle.std.specs.Prelude.{nat_eq, nat_le, ◌==◌, ◌&&◌, ◌||◌, not}
 use Rattle.std.specs.List.{list_any}
 use Rattle.std.proofs.lemmas.Bool.{and_parts, or_cases, eqb-true, eq-eqb, leb-true}
 use Rattle.usb_base.specs.declared.packets.Speed.{Speed}
@@ -8,8 +8,8 @@ use Rattle.usb_base.specs.declared.packets.Speed.TheVariants.{High, Full, Low}
 use Rattle.usb_base.specs.declared.packets.EpKind.{EpKind}
 use Rattle.usb_base.specs.declared.packets.EpKind.TheVariants as kinds
 use Rattle.usb_base.specs.declared.endpoints.EpDesc.{EpDesc}
-use Rattle.bandwidth.specs.Placements.{periods, is_period as is_plan_period, least_period, most_bytes, most_multi, is_classic, IsWant}
-use Rattle.periodic_rows.specs.Periodic.{is_periodic, want_of}
+use Rattle.bandwidth.specs.Placements.{periods, is_period as is_plan_period, least_period, most_bytes, most_multi, is_classic}
+use Rattle.periodic_rows.specs.Periodic.{is_periodic}
 use Rattle.driver_rows.specs.Words.{is_high}
 use Rattle.driver_rows.specs.Offers.{IsOpened}
 use Rattle.script_world.specs.Ranges.{within, is_size, is_period, is_rate, is_paced}

@@ -18,7 +18,7 @@ use Rattle.script_forms.specs.Fitting.{form_of}
 use Rattle.script_forms.specs.Values.{statement_of}
 use Rattle.script_world.specs.Draft.{Draft, Placed, empty, script_of, device_text}
 use Rattle.script_world.specs.Ranges.{in_range}
-use Rattle.script_world.specs.Rows.{cause_of, is_known, is_twice, has_room, is_built, is_late, after}
+use Rattle.script_world.specs.Rows.{cause_of, is_known, is_twice, has_room, is_late, after}
 use Rattle.script_text.specs.Reading.{lines_in, words_in, says, may_stand, no_bytes, answer, said, form_read, first_read, words_read, line_read, onward, lines_read, script_after}
 use Rattle.script_text.specs.Reading.{text_read, script_read}
 use Rattle.script_text.specs.Faults.{Spells}
@@ -36,14 +36,14 @@ Fits (Err x) = Unit {0}
 -- ---- a line
 
 -- where a line has no cause it is in range
-in_range_by : (a b c d e : Bool)
-    → (if not a then Some C.Range else if not b then Some C.Unknown else if c then Some C.Twice else if not d then Some C.Limit else if not e then Some C.Later else None) ≡ None
+in_range_by : (a b c d : Bool)
+    → (if not a then Some C.Range else if not b then Some C.Unknown else if c then Some C.Twice else if not d then Some C.Limit else None) ≡ None
     → a ≡ true
-in_range_by false b c d e h = cc
-in_range_by true b c d e h = refl
+in_range_by false b c d h = cc
+in_range_by true b c d h = refl
 
 is_taken : (w : Draft) (s : Statement) → cause_of w s ≡ None → in_range w s ≡ true
-is_taken w s e = in_range_by (in_range w s) (is_known w s) (is_twice w s) (has_room w s) (is_built w s) e
+is_taken w s e = in_range_by (in_range w s) (is_known w s) (is_twice w s) (has_room w s) e
 
 answer_fits : (why : Option TextWhy) (v : Draft) → (why ≡ None → IsFitDraft v) → Fits (answer why v)
 answer_fits None v h = h refl

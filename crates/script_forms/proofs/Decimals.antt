@@ -1,5 +1,5 @@
 -- Decimal words and their numbers.
-use Rattle.std.proofs.Common.{◌≡◌, ℕ, ◌<◌, ◌^◌, ◌⊎◌, List, length, get_or, arith, Ok, Err, Some, None, Option, Bool, true, false, ◌&&◌, refl, sym, ◌∙◌, ap, subst, inl, inr, lit<}
+use Rattle.std.proofs.Common.{◌≡◌, ℕ, ◌<◌, ◌^◌, ◌⊎◌, List, length, get_or, arith, Ok, Err, Some, None, Bool, true, false, ◌&&◌, refl, sym, ◌∙◌, ap, subst, inl, inr, lit<}
 use Rattle.std.specs.Fmt.{decimal}
 use Rattle.std.specs.Str.{IsUtf8}
 use Rattle.std.specs.Str.Parse.{AllDigits, digits_value, ParsesUnsigned}

@@ -1,5 +1,5 @@
 -- Where words end before the slots.
-use Rattle.std.proofs.Common.{◌≡◌, ℕ, ◌≤◌, Bool, true, List, [], ◌∷◌, length, drop, refl, ap, ◌∙◌}
+use Rattle.std.proofs.Common.{◌≡◌, ℕ, ◌≤◌, true, List, [], ◌∷◌, length, drop, refl, ap, ◌∙◌}
 use Rattle.std.proofs.lemmas.List.{drop_all}
 use Rattle.script_forms.specs.declared.table.Slot.{Slot}
 use Rattle.script_forms.specs.Fitting.{reach, all_ranged}

@@ -1,5 +1,5 @@
 -- What the words of a form say.
-use Rattle.std.specs.Prelude.{ℕ, Bool, false, true, if◌then◌else◌, List, [], Option, Some, None, unwrap_or, slice_index_or, length, replicate, ◌==◌}
+use Rattle.std.specs.Prelude.{ℕ, Bool, if◌then◌else◌, List, [], Some, None, unwrap_or, slice_index_or, length, replicate, ◌==◌}
 use Rattle.std.specs.Str.{bytes_eq}
 use Rattle.usb_base.specs.declared.packets.Way.{Way}
 use Rattle.usb_base.specs.declared.packets.Way.TheVariants as way
@@ -14,7 +14,6 @@ use Rattle.script_forms.specs.declared.table.Form.{Form}
 use Rattle.script_forms.specs.declared.table.Form.TheVariants as form
 use Rattle.script_forms.specs.declared.statements.Name.{Name}
 use Rattle.script_forms.specs.declared.statements.EpLine.{EpLine}
-use Rattle.script_forms.specs.declared.statements.FateLine.{FateLine}
 use Rattle.script_forms.specs.declared.statements.Content.TheVariants as content
 use Rattle.script_forms.specs.declared.statements.Answer.TheVariants as answer
 use Rattle.script_forms.specs.declared.statements.Statement.{Statement}

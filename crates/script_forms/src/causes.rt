@@ -25,6 +25,4 @@ pub enum TextWhy {
     Twice,
     /// The line passes a limit of a whole script.
     Limit,
-    /// The line has no fault, and what it says isn't built yet.
-    Later,
 }

@@ -84,6 +84,6 @@ pub const TEXTS: &[&[u8]] = &[
     b"ehci 1\nhub 9 4\ndev 3 full 9 1\nep 3 1 in iso 8 8 1\n",
 ];
 
-/// A script of every line that is built.
+/// A script of many kinds of lines.
 pub const WHOLE: &[u8] =
     b"ehci 1\nmem 4096\ndev 3 high\nep 3 0 ctl control 64\nep 3 1 in bulk 512\nep 3 2 out bulk 512\nreply 3 0 ctl request 8006000100000200 0102\nreply 3 1 in fill 1025 7\nreply 3 2 out nyet\nreply 3 1 in stall\nfate 3 1 in high 0 lost\nhold 2 3\nopen 3 2 out\norder d 5\norder c 7\nput 3 2 out fill 600 1 by 512\nput 3 2 out 0102\ncontrol 3 8006000100000200\norder m 20";

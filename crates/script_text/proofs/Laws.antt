@@ -1,11 +1,11 @@
 -- What holds of every text.
-use Rattle.std.proofs.Common.{◌≡◌, ℕ, ◌<◌, ◌⊎◌, List, length, Option, Some, None, Result, Ok, Err, nat_lt, refl, ap, sym, ◌∙◌, inl, inr}
+use Rattle.std.proofs.Common.{◌≡◌, ℕ, ◌<◌, ◌⊎◌, List, length, Some, None, Result, Ok, Err, refl, inl, inr}
 use Rattle.std.specs.Result.{result_err}
 use Rattle.std.proofs.lemmas.Bool.{lt-ltb}
 use Rattle.script_types.specs.declared.scripts.Script.{Script}
 use Rattle.script_forms.specs.declared.causes.TextWhy.{TextWhy}
 use Rattle.script_forms.specs.declared.causes.TextWhy.TheVariants.{Long}
-use Rattle.script_text.specs.Reading.{script_read, script_after, text_read}
+use Rattle.script_text.specs.Reading.{script_read}
 use Rattle.script_text.specs.Faults.{Spells, first_fault}
 
 pub spells_once : (text : List ℕ) (s t : Script) → Spells text s → Spells text t → s ≡ t

@@ -1,7 +1,6 @@
 -- Scripts and faults of texts, and the lines that tell them.
 use Rattle.std.specs.Prelude.{◌≡◌, ℕ, Bool, List, [], ◌∷◌, ◌++◌, take, Option, Some, None, Result, Ok, Err, codes}
 use Rattle.std.specs.Result.{result_err}
-use Rattle.std.specs.Option.{option_map_or}
 use Rattle.std.specs.Str.{bytes_eq}
 use Rattle.std.specs.Fmt.{decimal}
 use Rattle.script_types.specs.declared.scripts.Script.{Script}
@@ -19,6 +18,14 @@ Spells text s = script_read text ≡ Ok s
 -- the number of the first faulty line, 0 for the text as a whole, and its first cause
 abbrev pub first_fault : List ℕ → Option (ℕ × TextWhy)
 first_fault text = result_err (script_read text)
+
+-- the text spells a script, and has no fault
+abbrev pub HasScript : List ℕ → Type 0
+HasScript text = (s : Script) × Spells text s × (first_fault text ≡ None)
+
+-- the text has a fault, and spells no script
+abbrev pub HasFault : List ℕ → Type 0
+HasFault text = (fault : ℕ × TextWhy) × (first_fault text ≡ Some fault) × ((s : Script) → Spells text s → ⊥)
 
 -- an error is this first fault, or want of memory
 abbrev pub IsFault : Result Script (ℕ × TextWhy) → TextError → Type 0
@@ -42,7 +49,6 @@ cause_word C.Range = codes "range"
 cause_word C.Unknown = codes "unknown"
 cause_word C.Twice = codes "twice"
 cause_word C.Limit = codes "limit"
-cause_word C.Later = codes "later"
 
 -- the line of a fault: `line <n>: <cause>`
 abbrev pub fault_line : ℕ → TextWhy → List ℕ

@@ -1,7 +1,6 @@
 //! Writing faults, and what a check of a text says.
-ghost use Rattle.std.specs.Prelude.{◌≡◌, ℕ, ◌≤◌, Option, None, Some, OnOk, OnErr, length};
-ghost use Rattle.std.specs.Io.KnownBytes.{Appends};
-ghost use Rattle.usb_base.specs.Outside.{AppendsPrefix, one_more};
+ghost use Rattle.std.specs.Prelude.{◌≡◌, ◌≤◌, length};
+ghost use Rattle.usb_base.specs.Outside.{Prints};
 ghost use Rattle.script_text.specs.Faults.{cause_word, fault_line, check_line, is_image};
 
 use report_text::Text;
@@ -26,7 +25,6 @@ fn cause_text(why: TextWhy) -> &'static str
         TextWhy::Unknown => "unknown",
         TextWhy::Twice => "twice",
         TextWhy::Limit => "limit",
-        TextWhy::Later => "later",
     }
 }
 
@@ -46,11 +44,7 @@ fn fault_text(line: u32, why: TextWhy) -> Text
 /// Writes the line `line <n>: <cause>` of a text that isn't a script. `Failed` comes of the first write that fails, which
 /// the sink counts, with a front part of the line written. It takes no memory.
 pub fn print_fault<K: Sink>(line: u32, why: TextWhy, sink: &mut K) -> Result<(), Failed>
-    ensures ok { OnOk result (Appends (K.written sink.old) (K.written sink.new) (fault_line line why)) }
-    ensures err { OnErr result (AppendsPrefix (K.written sink.old) (K.written sink.new) (fault_line line why)) }
-    ensures stays { OnOk result (K.faults sink.new ≡ K.faults sink.old) }
-    ensures rises { OnErr result (K.faults sink.new ≡ one_more (K.faults sink.old)) }
-    ensures counted { K.faults sink.old ≤ K.faults sink.new }
+    ensures { Prints K.written K.faults sink.old sink.new result (fault_line line why) }
 {
     write_all(sink, fault_text(line, why).as_bytes())
 }
@@ -58,11 +52,7 @@ pub fn print_fault<K: Sink>(line: u32, why: TextWhy, sink: &mut K) -> Result<(),
 /// Writes what a check of a text says: `script ok`, or the line of its first fault. `Failed` comes of the
 /// first write that fails, which the sink counts, with a front part of the line written. It takes no memory.
 pub fn print_check<K: Sink>(fault: Option<(u32, TextWhy)>, sink: &mut K) -> Result<(), Failed>
-    ensures ok { OnOk result (Appends (K.written sink.old) (K.written sink.new) (check_line fault)) }
-    ensures err { OnErr result (AppendsPrefix (K.written sink.old) (K.written sink.new) (check_line fault)) }
-    ensures stays { OnOk result (K.faults sink.new ≡ K.faults sink.old) }
-    ensures rises { OnErr result (K.faults sink.new ≡ one_more (K.faults sink.old)) }
-    ensures counted { K.faults sink.old ≤ K.faults sink.new }
+    ensures { Prints K.written K.faults sink.old sink.new result (check_line fault) }
 {
     match fault {
         None => write_all(sink, b"script ok\n"),

@@ -1,9 +1,7 @@
 //! Laws of the definitions, and worked texts, which the check computes.
-ghost use Rattle.std.specs.Prelude.{◌≡◌, ℕ, ◌<◌, ◌⊎◌, List, [], ◌∷◌, Option, Some, None, Ok, Err, length};
+ghost use Rattle.std.specs.Prelude.{◌≡◌, ℕ, ◌<◌, ◌⊎◌, List, [], ◌∷◌, Some, None, length};
 ghost use Rattle.script_types.specs.declared.scripts.Script.{Script as Told};
-ghost use Rattle.script_forms.specs.declared.causes.TextWhy.{TextWhy as Why};
-ghost use Rattle.script_text.specs.Reading.{script_read};
-ghost use Rattle.script_text.specs.Faults.{Spells, first_fault};
+ghost use Rattle.script_text.specs.Faults.{Spells, first_fault, HasScript, HasFault};
 
 use script_forms::TextWhy;
 use script_types::{Event, Item, Line};
@@ -16,7 +14,7 @@ pub fn one_script()
 
 /// Each text spells a script and has no fault, or has a fault and spells no script.
 pub fn script_or_fault()
-    ensures { (text : List ℕ) → ((s : Told) × Spells text s × (first_fault text ≡ None)) ⊎ ((fault : ℕ × Why) × (first_fault text ≡ Some fault) × ((s : Told) → Spells text s → ⊥)) }
+    ensures { (text : List ℕ) → HasScript text ⊎ HasFault text }
 {}
 
 /// A text of more than 1,048,576 bytes is too long before any of its lines is.
@@ -46,8 +44,6 @@ pub const TWICE: &[u8] = b"ehci 1\nmem 2048\nmem 4096\n";
 
 pub const LIMIT: &[u8] = b"ehci 1\norder d 1000001\n";
 
-pub const LATER: &[u8] = b"ehci 1\nhub 9 4\ndev 3 full 9 1\nep 3 1 in iso 8 8 1\n";
-
 /// A text for each cause but the first, each with its line.
 pub fn causes()
     ensures byte { first_fault BYTE.now ≡ Some (2, TextWhy.Byte) }
@@ -61,7 +57,6 @@ pub fn causes()
     ensures unknown { first_fault UNKNOWN.now ≡ Some (2, TextWhy.Unknown) }
     ensures twice { first_fault TWICE.now ≡ Some (3, TextWhy.Twice) }
     ensures limit { first_fault LIMIT.now ≡ Some (2, TextWhy.Limit) }
-    ensures later { first_fault LATER.now ≡ Some (4, TextWhy.Later) }
 {}
 
 /// A script of one device.

@@ -1,5 +1,5 @@
 -- The ranges of what lines say, beyond those of their numbers alone.
-use Rattle.std.specs.Prelude.{ℕ, ◌+◌, ◌*◌, ◌%◌, Bool, true, false, ◌==◌, ◌&&◌, ◌||◌, not, nat_le, nat_lt, if◌then◌else◌, List, [], ◌∷◌, length, Option, Some, None, is_some, slice_index}
+use Rattle.std.specs.Prelude.{ℕ, ◌+◌, ◌*◌, ◌%◌, Bool, true, false, ◌==◌, ◌&&◌, ◌||◌, not, nat_le, nat_lt, if◌then◌else◌, List, [], ◌∷◌, length, Option, is_some, slice_index}
 use Rattle.std.specs.List.{list_any}
 use Rattle.std.specs.Option.{option_map_or}
 use Rattle.usb_base.specs.declared.packets.Way.{Way}
@@ -9,8 +9,6 @@ use Rattle.usb_base.specs.declared.packets.Speed.TheVariants.{Full, Low, High}
 use Rattle.usb_base.specs.declared.packets.EpKind.{EpKind}
 use Rattle.usb_base.specs.declared.packets.EpKind.TheVariants.{Control, Iso, Bulk, Interrupt}
 use Rattle.script_forms.specs.declared.statements.Name.{Name}
-use Rattle.script_forms.specs.declared.statements.Content.{Content}
-use Rattle.script_forms.specs.declared.statements.Content.TheVariants as content
 use Rattle.script_forms.specs.declared.statements.Answer.{Answer}
 use Rattle.script_forms.specs.declared.statements.Answer.TheVariants as answer
 use Rattle.script_forms.specs.declared.statements.EpLine.{EpLine}

@@ -5,8 +5,6 @@ use Rattle.std.specs.Option.{option_map_or, option_flatten}
 use Rattle.usb_base.specs.declared.packets.Way.TheVariants as way
 use Rattle.usb_base.specs.declared.packets.Speed.{Speed}
 use Rattle.usb_base.specs.declared.packets.Speed.TheVariants as speed
-use Rattle.usb_base.specs.declared.packets.EpKind.{EpKind}
-use Rattle.usb_base.specs.declared.packets.EpKind.TheVariants.{Control, Iso, Bulk, Interrupt}
 use Rattle.usb_base.specs.declared.endpoints.EpName.{EpName}
 use Rattle.usb_base.specs.declared.endpoints.EpDesc.{EpDesc}
 use Rattle.usb_base.specs.declared.commands.Cmd.{Cmd}
@@ -35,7 +33,7 @@ use Rattle.script_forms.specs.declared.statements.Answer.{Answer}
 use Rattle.script_forms.specs.declared.statements.Answer.TheVariants as answer
 use Rattle.script_forms.specs.declared.statements.Statement.{Statement}
 use Rattle.script_forms.specs.declared.statements.Statement.TheVariants as says
-use Rattle.script_world.specs.Draft.{Draft, Placed, way_number, same_way, is_named, speed_of, device_of, hub_of, device_ep, known, change, filled, packets}
+use Rattle.script_world.specs.Draft.{Draft, Placed, same_way, is_named, speed_of, device_of, hub_of, device_ep, known, change, filled, packets}
 use Rattle.script_world.specs.Ranges.{in_range, is_endpoint, is_slots, within}
 
 -- the endpoint of a request to a device
@@ -123,15 +121,6 @@ has_room w (says.Iso l) = may_command w
 has_room w (says.Order event n) = nat_le n 1000000 && nat_le (w.steps + n) 4000000
 has_room w (says.Micro n) = nat_le (w.microframes + n) 16384
 
--- the lines that can be run; each other line without a fault is refused as a later one: isochronous endpoints behind hubs
-abbrev pub is_built_at : EpKind → Option Speed → Bool
-is_built_at Iso (Some speed.Full) = false
-is_built_at _ _ = true
-
-abbrev pub is_built : Draft → Statement → Bool
-is_built w (says.Ep l) = is_built_at l.kind (speed_of w l.name.addr)
-is_built w _ = true
-
 -- the first cause of a line whose words fit a form
 abbrev pub cause_of : Draft → Statement → Option TextWhy
 cause_of w s =
@@ -139,7 +128,6 @@ cause_of w s =
     else if not (is_known w s) then Some C.Unknown
     else if is_twice w s then Some C.Twice
     else if not (has_room w s) then Some C.Limit
-    else if not (is_built w s) then Some C.Later
     else None
 
 -- lines that tell of the world, all but the memory's

@@ -2,14 +2,14 @@
 ghost use Rattle.std.specs.Prelude.{◌≡◌, ℕ, ◌<◌, ◌==◌, not, length, Option, is_some, slice_get, ◌-◌};
 ghost use Rattle.std.specs.Option.{option_flatten};
 ghost use Rattle.script_world.specs.Draft.{known};
-ghost use Rattle.script_world.specs.Rows.{control_name, is_known, is_used, is_attached, same_bus, is_fated, is_twice, answer_len, content_len, bytes_len, may_command, may_script, has_room, is_built_at, is_built, cause_of, is_world, is_late};
+ghost use Rattle.script_world.specs.Rows.{control_name, is_known, is_used, is_attached, same_bus, is_fated, is_twice, answer_len, content_len, bytes_len, may_command, may_script, has_room, cause_of, is_world, is_late};
 
 use crate::draft::Draft;
 use crate::endpoints::same_way;
 use crate::ranges::within;
 use script_forms::{Answer, Below, Content, FateLine, FirstWord, Name, Statement, TextWhy};
 use script_types::FateText;
-use usb_base::{EpKind, ListOf, Speed, Way};
+use usb_base::{ListOf, Speed, Way};
 
 /// The endpoint of a request to a device.
 pub fn control_name(addr: u32) -> Name
@@ -74,13 +74,6 @@ pub fn bytes_len(bytes: &Option<ListOf<u8>>) -> u64
         Some(bytes) => bytes.as_slice().len() as u64,
         None => 0,
     }
-}
-
-/// Whether endpoints of this kind can be run on a device of this speed.
-fn is_built_at(kind: EpKind, speed: Option<Speed>) -> bool
-    ensures { result ≡ is_built_at kind speed }
-{
-    !matches!((kind, speed), (EpKind::Iso, Some(Speed::Full)))
 }
 
 /// Whether a line tells of the world, and not of its memory.
@@ -238,16 +231,6 @@ impl Draft {
         }
     }
 
-    /// Whether a line can be run.
-    fn is_built(&self, statement: &Statement) -> bool
-        ensures { result ≡ is_built self.now statement.now }
-    {
-        match statement {
-            Statement::Ep(line) => is_built_at(line.kind, self.speed_of(line.name.addr)),
-            _ => true,
-        }
-    }
-
     /// The first cause of a line whose words fit a form.
     pub(crate) fn cause_of(&self, statement: &Statement) -> Option<TextWhy>
         ensures { result ≡ cause_of self.now statement.now }
@@ -263,9 +246,6 @@ impl Draft {
         }
         if !self.has_room(statement) {
             return Some(TextWhy::Limit);
-        }
-        if !self.is_built(statement) {
-            return Some(TextWhy::Later);
         }
         None
     }

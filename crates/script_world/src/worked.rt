@@ -35,7 +35,7 @@ pub fn causes()
     ensures unknown { cause_of empty (Statement.Open (record { addr = 3; num = 1; way = Way.In })) ≡ Some TextWhy.Unknown }
     ensures twice { cause_of (after empty 2 (Statement.DevHigh 3)) (Statement.DevHigh 3) ≡ Some TextWhy.Twice }
     ensures limit { cause_of empty (Statement.Micro 16385) ≡ Some TextWhy.Limit }
-    ensures later { cause_of behind_a_hub (iso_line 3 1 Way.In) ≡ Some TextWhy.Later }
+    ensures translator { cause_of behind_a_hub (iso_line 3 1 Way.In) ≡ None }
     ensures fine { cause_of empty (Statement.DevHigh 3) ≡ None }
     ensures hub { cause_of empty (Statement.Hub 9 4) ≡ None }
 {}

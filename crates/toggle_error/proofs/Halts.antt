@@ -33,7 +33,7 @@ use Rattle.toggle_error.specs.Columns.{heard_data, heard_hand, heard_of, limit_o
 use Rattle.toggle_error.specs.Halts.{is_answered, RanOut, IsStalled, IsBabble}
 use Rattle.toggle_error.specs.PlainRows.{plain_row, error_outcome, plain_outcome, after_plain}
 use Rattle.toggle_error.specs.SplitRows.{start_outcome, after_start, answered, complete_row, complete_outcome, after_complete}
-use Rattle.toggle_error.specs.Settle.{row_at, outcome_of_row, after_row, outcome_of}
+use Rattle.toggle_error.specs.Settle.{row_at, outcome_of_row, after_settle_row, outcome_of}
 
 -- how an error halts, by the test of the counter
 by_count : (b : Bool) (before after : HostSide) → (b ≡ true → before.cerr ≡ 1) → (b ≡ false → before.cerr ≡ 1 → ⊥) → after.cerr ≡ before.cerr - 1 → ((if b then Halt Ends.Error else Error) ≡ Halt Ends.Error) ↔ RanOut before after
@@ -68,7 +68,7 @@ complete_error (Answered row) host = answered_error row host
 complete_error BrokeBelow host = error_halts host _ refl
 complete_error Unanswered host = error_halts host _ refl
 
-pub row_error : (row : SettleRow) (host : HostSide) → (outcome_of_row row host ≡ Halt Ends.Error) ↔ RanOut host (after_row row host)
+pub row_error : (row : SettleRow) (host : HostSide) → (outcome_of_row row host ≡ Halt Ends.Error) ↔ RanOut host (after_settle_row row host)
 row_error (Rows.Plain row) host = plain_error row host
 row_error (Rows.Start row) host = start_error row host
 row_error (Rows.Complete row) host = complete_error row host

@@ -30,10 +30,10 @@ outcome_of_row (Plain row) host = plain_outcome row host
 outcome_of_row (Start row) host = start_outcome row host
 outcome_of_row (Complete row) host = complete_outcome row host
 
-abbrev pub after_row : SettleRow → HostSide → HostSide
-after_row (Plain row) host = after_plain row host
-after_row (Start row) host = after_start row host
-after_row (Complete row) host = after_complete row host
+abbrev pub after_settle_row : SettleRow → HostSide → HostSide
+after_settle_row (Plain row) host = after_plain row host
+after_settle_row (Start row) host = after_start row host
+after_settle_row (Complete row) host = after_complete row host
 
 -- what a transaction comes to
 abbrev pub outcome_of : Ask → ℕ → Bool → Reply → HostSide → Outcome
@@ -41,4 +41,4 @@ outcome_of ask sent last reply host = outcome_of_row (settle_row ask sent last r
 
 -- the host's side after it
 abbrev pub settled : Ask → ℕ → Bool → Reply → HostSide → HostSide
-settled ask sent last reply host = after_row (settle_row ask sent last reply host) host
+settled ask sent last reply host = after_settle_row (settle_row ask sent last reply host) host

@@ -14,7 +14,7 @@ use Rattle.toggle_error.specs.declared.rows.SettleRow.{SettleRow}
 use Rattle.toggle_error.specs.declared.rows.SettleRow.TheVariants.{Plain, Start, Complete}
 use Rattle.toggle_error.specs.PlainRows.{after_plain}
 use Rattle.toggle_error.specs.SplitRows.{after_start, after_complete}
-use Rattle.toggle_error.specs.Settle.{settle_row, after_row, settled}
+use Rattle.toggle_error.specs.Settle.{settle_row, after_settle_row, settled}
 use Rattle.transactions.specs.Calls.{Call, Exchanges}
 
 plain_keeps : (row : PlainRow) (host : HostSide) → (after_plain row host).cerr ≤ host.cerr
@@ -44,7 +44,7 @@ complete_keeps (Answered row) host = plain_keeps row host
 complete_keeps BrokeBelow host = omega arith
 complete_keeps Unanswered host = omega arith
 
-row_keeps : (row : SettleRow) (host : HostSide) → (after_row row host).cerr ≤ host.cerr
+row_keeps : (row : SettleRow) (host : HostSide) → (after_settle_row row host).cerr ≤ host.cerr
 row_keeps (Plain row) host = plain_keeps row host
 row_keeps (Start row) host = start_keeps row host
 row_keeps (Complete row) host = complete_keeps row host

@@ -5,3 +5,4 @@ pub mod Driving
 pub mod Offering
 pub mod Ringing
 pub mod Answering
+pub mod Descriptions

@@ -4,7 +4,13 @@
 --     LeadsOn d rings link       the link leads to one
 --     IsWalkIn d r w             the cursor and the copy in hand name such queue heads, and the copy leads to one
 --     AreNoHeads d               no endpoint's queue head has the bit H of the head of the reclamation list
-use Rattle.std.specs.Prelude.{◌≡◌, ℕ, ◌*◌, Bool, true, false, slice_get, Some}
+--     KeepsWalk d p new          the walk is among them in its place `new`, if it was in its place p, whose words stand for the ring
+--     AreNumbered d              the address and the number of each endpoint fit their fields (USB 2.0, 8.3.2): 7 and 4 bits
+--     OpensNumbered cmd          and so do those of an endpoint that is to be opened
+use Rattle.std.specs.Prelude.{◌≡◌, ℕ, ◌*◌, ◌<◌, Bool, true, false, slice_get, Some}
+use Rattle.usb_base.specs.declared.endpoints.EpDesc.{EpDesc}
+use Rattle.usb_base.specs.declared.commands.Cmd.{Cmd}
+use Rattle.usb_base.specs.declared.commands.Cmd.TheVariants as commands
 use Rattle.link_words.specs.Layout.{is_set}
 use Rattle.link_words.specs.declared.kinds.Link.{Link}
 use Rattle.link_words.specs.declared.kinds.Link.TheVariants as links
@@ -12,12 +18,13 @@ use Rattle.link_words.specs.Links.{link_of}
 use Rattle.op_registers.specs.RegisterFile.{RegisterFile}
 use Rattle.walk_copy.specs.declared.held.Held.{Held}
 use Rattle.async_walk.specs.Walk.{Walk}
-use Rattle.async_walk.specs.Rows.{cursor_link}
+use Rattle.async_walk.specs.Rows.{Place, cursor_link}
 use Rattle.driver_rows.specs.declared.content.Endpoint.{Endpoint}
 use Rattle.driver_rows.specs.DriverContent.{DriverContent}
 use Rattle.driver_rows.specs.Words.{head_block}
-use Rattle.ring_members.specs.Ring.{IsQueueOf, IsAmong}
-use Rattle.queue_head_words.specs.Fixed.{characteristics}
+use Rattle.ring_members.specs.Links.{link_in}
+use Rattle.ring_members.specs.Ring.{IsQueueOf, IsAmong, IsRing}
+use Rattle.queue_head_words.specs.Fixed.{characteristics, AreFixed}
 
 pub data IsReached (d : DriverContent) (rings : Bool) (b : ℕ) : Type 0 where
   at_head : b ≡ head_block → IsReached d rings b
@@ -44,3 +51,21 @@ pub record IsWalkIn (d : DriverContent) (r : RegisterFile) (w : Walk) : Type 0 w
 
 abbrev pub AreNoHeads : DriverContent → Type 0
 AreNoHeads d = (e : ℕ) (x : Endpoint) → slice_get d.endpoints e ≡ Some x → is_set 15 (characteristics x.desc) ≡ false
+
+abbrev pub KeepsWalk : DriverContent → Place → Place → Type 0
+KeepsWalk d p new =
+    IsRing (link_in p.memory) d → AreFixed p.memory d → AreNoHeads d → IsWalkIn d p.registers p.walk → IsWalkIn d new.registers new.walk
+
+abbrev pub IsNumbered : EpDesc → Type 0
+IsNumbered x = (x.name.addr < 128) × (x.name.num < 16)
+
+abbrev pub AreNumbered : DriverContent → Type 0
+AreNumbered d = (e : ℕ) (x : Endpoint) → slice_get d.endpoints e ≡ Some x → IsNumbered x.desc
+
+abbrev pub OpensNumbered : Cmd → Type 0
+OpensNumbered (commands.OpenEp x) = IsNumbered x
+OpensNumbered (commands.Get name len by) = Unit {0}
+OpensNumbered (commands.Put name bytes by) = Unit {0}
+OpensNumbered (commands.Control name setup bytes) = Unit {0}
+OpensNumbered (commands.Iso name count len seed) = Unit {0}
+OpensNumbered (commands.Cancel name) = Unit {0}

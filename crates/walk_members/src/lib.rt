@@ -5,6 +5,9 @@
 //! `the_walk_meets_members` says it of each event of the walk; `ring_members` and `queue_head_words` stand below it.
 #![tactic(auto)]
 
+pub mod numbers;
+pub mod worked;
+
 ghost use Rattle.std.specs.Prelude.{◌≡◌, ℕ, Ok};
 ghost use Rattle.usb_base.specs.declared.commands.Cmd.{Cmd};
 ghost use Rattle.word_mem.specs.Memory.{Mem};
@@ -15,12 +18,9 @@ ghost use Rattle.async_walk.specs.Rows.{Place, at_event, event_row, Leads};
 ghost use Rattle.driver_rows.specs.declared.content.Reserve.{Reserve};
 ghost use Rattle.driver_rows.specs.DriverContent.{DriverContent};
 ghost use Rattle.driver_rows.specs.Opening.{opening};
-ghost use Rattle.ring_members.specs.Links.{link_in};
-ghost use Rattle.ring_members.specs.Ring.{IsRing};
-ghost use Rattle.queue_head_words.specs.Fixed.{AreFixed};
 ghost use Rattle.driver_rows.specs.Rows.{Parts, row_of, after_row};
-ghost use Rattle.walk_members.specs.Reached.{IsWalkIn, AreNoHeads};
-ghost use Rattle.walk_members.specs.Bell.{IsBellIn};
+ghost use Rattle.walk_members.specs.Reached.{IsWalkIn, KeepsWalk};
+ghost use Rattle.walk_members.specs.Bell.{IsBellIn, KeepsBell};
 
 use usb_base::Wire;
 
@@ -32,8 +32,7 @@ pub fn a_new_walk_begins_at_the_head()
 /// Each event of the walk goes on to a queue head that it may meet: where the head is read and the doorbell answered, those of the rung batch
 /// are met no more.
 pub fn the_walk_meets_members<W: Wire>()
-    ensures { (d : DriverContent) (p : Place) (before : W) (new : Place) (after : W) → IsRing (link_in p.memory) d → AreFixed p.memory d → AreNoHeads d → IsWalkIn d p.registers p.walk
-        → Leads W.transacts (event_row p) (at_event p) before new after → IsWalkIn d new.registers new.walk }
+    ensures { (d : DriverContent) (p : Place) (before : W) (new : Place) (after : W) → Leads W.transacts (event_row p) (at_event p) before new after → KeepsWalk d p new }
 {}
 
 /// The end of a microframe and the begin of the next leave the walk where it was.
@@ -60,5 +59,5 @@ pub fn the_driver_keeps_the_bell()
 
 /// And so does each event of the walk, which answers the doorbell where the head is read.
 pub fn the_walk_keeps_the_bell<W: Wire>()
-    ensures { (d : DriverContent) (p : Place) (before : W) (new : Place) (after : W) → IsBellIn d p.registers → Leads W.transacts (event_row p) (at_event p) before new after → IsBellIn d new.registers }
+    ensures { (d : DriverContent) (p : Place) (before : W) (new : Place) (after : W) → Leads W.transacts (event_row p) (at_event p) before new after → KeepsBell d p new }
 {}

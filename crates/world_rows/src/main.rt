@@ -1,8 +1,10 @@
 //! Scripts with their reports: NYET and PING, a lost status stage and a stall between two requests, errors that are counted for each qTD, a
 //! bus that may not be used, a lost acknowledgement, a put that finds no blocks, and endpoints of two devices whose lines are mixed; behind a
 //! hub a token and then the data that are lost below it, three tokens that are lost there, a port that a request disables, a request to a
-//! low-speed device, and a bulk OUT with losses on both buses. The stored reports of the first six come from an independent model, those of
-//! the others from the lines themselves.
+//! low-speed device, and a bulk OUT with losses on both buses; and isochronous descriptors there, an IN that comes in two parts, an OUT that
+//! is sent in three, a complete-split that is lost, a token that is lost below the hub, and a complete-split that is missed because the bus
+//! may not be used: what came before it is told. The stored reports of the first six come from an independent model, those of the others
+//! from the lines themselves.
 //!
 //! It calls `script_fits` and `bus_world`, and nothing calls it.
 #![tactic(auto)]

@@ -3,4 +3,4 @@ use Rattle.queue_head_words.proofs.Accepted.{accepted_fixed}
 use Rattle.queue_head_words.proofs.commands_keep_the_fixed_words.Goals as goal
 
 pub returns : goal.returns
-returns c = λ d m cmd o stands shape has old is. accepted_fixed d m o (accepted_for_a_reason d m cmd o is) stands shape has old
+returns c = λ d m cmd o is stands shape has old. accepted_fixed d m o (accepted_for_a_reason d m cmd o is) stands shape has old

@@ -1,5 +1,5 @@
 use Rattle.std.proofs.Common.{◌≡◌, ◌≤◌, ◌++◌, length, map, drop, filter}
-use Rattle.periodic_rows.specs.Periodic.{itd_member}
+use Rattle.periodic_rows.specs.Periodic.{descriptor_member}
 use Rattle.periodic_part.specs.Part.{with_queued}
 use Rattle.driver_rows.specs.declared.content.Transfer.{Transfer}
 use Rattle.driver_rows.specs.DriverContent.{waits_for}
@@ -7,7 +7,7 @@ use Rattle.driver_frames.proofs.linking.queue_waiting.Given as goal
 
 abbrev pub invariant-loop-transfer : goal.invariant-loop-transfer
 invariant-loop-transfer l = record {
-  leads : l.periodic.periodic.queued ++ map (λ (t : Transfer). itd_member l.fn.periodic.periodic.notes t.first) (filter (waits_for l.e) (drop l.transfer-index l.transfers)) ≡ map (λ (t : Transfer). itd_member l.fn.periodic.periodic.notes t.first) (filter (waits_for l.e) l.transfers);
+  leads : l.periodic.periodic.queued ++ map (λ (t : Transfer). descriptor_member l.fn.periodic.periodic.notes t.first) (filter (waits_for l.e) (drop l.transfer-index l.transfers)) ≡ map (λ (t : Transfer). descriptor_member l.fn.periodic.periodic.notes t.first) (filter (waits_for l.e) l.transfers);
   rest : l.periodic ≡ with_queued l.fn.periodic l.periodic.periodic.queued;
   short : length l.periodic.periodic.queued ≤ l.transfer-index;
 }

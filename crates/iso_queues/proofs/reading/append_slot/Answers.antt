@@ -1,4 +1,4 @@
-use Rattle.std.proofs.Common.{◌≡◌, ℕ, ◌∙◌, ap, sym, true, min, arith}
+use Rattle.std.proofs.Common.{◌≡◌, ℕ, ◌∙◌, ap, true, min, arith}
 use Rattle.bandwidth.specs.Placements.{has}
 use Rattle.itd_sitd.specs.declared.slot.ItdSlot.{ItdSlot}
 use Rattle.periodic_rows.specs.Descriptors.{moved_in}

@@ -1,8 +1,8 @@
-use Rattle.std.proofs.Common.{◌≡◌, ℕ, ap, sym, ◌∙◌, ◌∷◌}
+use Rattle.std.proofs.Common.{ℕ, ap, sym, ◌∙◌, ◌∷◌}
 use Rattle.std.proofs.lemmas.Result.{err_from_is_err_and}
 use Rattle.run_book.specs.Book.{holding}
 use Rattle.driver_rows.specs.Words.{buffer_needs}
-use Rattle.driver_rows.specs.Offers.{take_runs}
+use Rattle.driver_rows.specs.Offers.{take_runs, descriptor_blocks}
 use Rattle.iso_queues.proofs.Taken.{one_missing}
 use Rattle.iso_queues.proofs.runs.take_all.Goals as goal
 
@@ -13,4 +13,4 @@ returns-in_err-take_one_descriptor-clause-refused c =
     rw (p.1, p.2)
     (sym c.loop-descriptor.invariant.leads
     ∙ one_missing h c.in_err-take_one_descriptor.field-0.0 c.args.slots.now c.args.count c.loop-descriptor._descriptor c.loop-descriptor-test.true
-    (ap (λ (n : ℕ). take_runs h (2 ∷ buffer_needs n)) (sym c.total_bytes-total.ensures.total) ∙ c.in_err-take_one_descriptor.ensures.refused))
+    (ap (λ (n : ℕ). take_runs h (descriptor_blocks c.args.slots.now ∷ buffer_needs n)) (sym c.total_bytes-total.ensures.total) ∙ ap (λ (b : ℕ). take_runs h (b ∷ buffer_needs c.total_bytes-total.result)) (sym c.blocks_of-blocks.ensures.blocks) ∙ c.in_err-take_one_descriptor.ensures.refused))

@@ -1,4 +1,4 @@
-use Rattle.std.proofs.Common.{arith, ◌≡◌, ◌∙◌}
+use Rattle.std.proofs.Common.{arith, ◌∙◌}
 use Rattle.periodic_rows.specs.Periodic.{read_once}
 use Rattle.periodic_part.proofs.Readings.{step}
 use Rattle.periodic_part.proofs.leaving.read_each.Goals as goal

@@ -49,7 +49,3 @@ returns-clause-twice c = refl
 pub returns-clause-limit : goal.returns-clause-limit
 unfolding script_read form_of number_of hex_of statement_of digits
 returns-clause-limit c = refl
-
-pub returns-clause-later : goal.returns-clause-later
-unfolding script_read form_of number_of hex_of statement_of digits
-returns-clause-later c = refl

@@ -1,4 +1,4 @@
-use Rattle.std.proofs.Common.{◌≡◌, ℕ, ◌+◌, ◌-◌, [], ◌∷◌, ◌++◌, map, arith, ap, sym, ◌∙◌}
+use Rattle.std.proofs.Common.{◌+◌, ◌-◌, ◌++◌, map, arith, ap, ◌∙◌}
 use Rattle.std.specs.Simd.{first_chunks}
 use Rattle.script_types.specs.declared.devices.Item.TheVariants as item
 use Rattle.script_world.specs.Draft.{packets}

@@ -1,4 +1,4 @@
-use Rattle.std.proofs.Common.{◌≡◌, ◌+◌, ◌-◌, replicate, None, arith}
+use Rattle.std.proofs.Common.{◌+◌, ◌-◌, replicate, None, arith}
 use Rattle.script_world.proofs.Fills.{replicate_more, put_one}
 use Rattle.script_world.proofs.changes.no_devices.Goals as goal
 

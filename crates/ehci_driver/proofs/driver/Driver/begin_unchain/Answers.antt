@@ -1,4 +1,4 @@
-use Rattle.std.proofs.Common.{◌≡◌, List, length, true, set, slice_get, ap, subst, sym, ◌∙◌, arith, refl}
+use Rattle.std.proofs.Common.{length, true, set, slice_get, ap, subst, sym, ◌∙◌, arith, refl}
 use Rattle.driver_rows.specs.declared.content.Transfer.{Transfer}
 use Rattle.driver_rows.specs.DriverContent.{DriverContent}
 use Rattle.periodic_part.specs.Part.{Held}

@@ -1,4 +1,4 @@
-use Rattle.std.proofs.Common.{◌≡◌, ◌≤◌, false, List, length, ap, arith, refl}
+use Rattle.std.proofs.Common.{◌≡◌, ◌≤◌, false, length, ap, arith}
 use Rattle.driver_rows.specs.declared.content.Endpoint.{Endpoint}
 use Rattle.driver_rows.specs.DriverContent.{DriverContent}
 use Rattle.ehci_driver.proofs.Entered.{placed_rooms}

@@ -1,11 +1,10 @@
-use Rattle.std.proofs.Common.{false, slice_get, ap, ◌∙◌, arith, vec_capacity, ◌≡◌, Bool, List, map, subst, sym, refl}
+use Rattle.std.proofs.Common.{false, slice_get, ap, ◌∙◌, arith, vec_capacity, ◌≡◌, Bool, map, subst, sym, refl}
 use Rattle.std.specs.VecDeque.{deque_len, deque_capacity}
 use Rattle.std.proofs.lemmas.Option.{slice_get_within}
 use Rattle.driver_rows.specs.DriverContent.{DriverContent}
 use Rattle.ehci_driver.proofs.Gone.{gone_rooms}
 use Rattle.ehci_driver.proofs.Rosters.{written_rooms}
 use Rattle.periodic_part.specs.Part.{Held}
-use Rattle.driver_rows.specs.declared.content.Transfer.{Transfer}
 use Rattle.driver_rows.specs.Rows.{is_iso, let_go, let_go_placed}
 use Rattle.ehci_driver.specs.Rooms.{HasFrameRooms}
 use Rattle.ehci_driver.proofs.Released.{placed_as, owed_by, owed_as, frames_owed}

@@ -2,7 +2,6 @@ use Rattle.std.proofs.Common.{subst, sym}
 use Rattle.word_mem.specs.Memory.{Mem}
 use Rattle.driver_rows.specs.declared.rows.Row.{Row}
 use Rattle.driver_rows.specs.Rows.{Parts}
-use Rattle.driver_rows.specs.DriverContent.{DriverContent}
 use Rattle.ehci_driver.specs.Makes.{CanMake}
 use Rattle.ehci_driver.proofs.Makes.{row_can}
 use Rattle.ehci_driver.specs.Written.{OnlyStores}

@@ -1,4 +1,4 @@
-use Rattle.std.proofs.Common.{◌≡◌, List, [], ◌∷◌, ◌++◌, take, set, slice_get, vec_len, vec_capacity, ap, subst, sym, ◌∙◌, arith, refl, length, true}
+use Rattle.std.proofs.Common.{List, [], ◌∷◌, ◌++◌, take, set, slice_get, vec_len, vec_capacity, ap, subst, sym, ◌∙◌, arith, refl, length, true}
 use Rattle.std.specs.VecDeque.{deque_len, deque_capacity}
 use Rattle.std.proofs.lemmas.Option.{slice_get_within}
 use Rattle.driver_rows.specs.DriverContent.{DriverContent, next_after}

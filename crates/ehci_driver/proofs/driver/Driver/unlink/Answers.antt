@@ -1,4 +1,4 @@
-use Rattle.std.proofs.Common.{◌≡◌, ◌+◌, ◌≤◌, ℕ, List, [], ◌∷◌, length, drop, ap, subst, sym, ◌∙◌, arith, refl}
+use Rattle.std.proofs.Common.{length, ap, ◌∙◌, arith}
 use Rattle.std.proofs.lemmas.List.{length_push}
 use Rattle.frame_chains.specs.declared.boundary.Boundary.TheVariants.{Unread}
 use Rattle.periodic_rows.specs.declared.content.Removal.{Removal}

@@ -1,5 +1,5 @@
 use Rattle.std.proofs.Common.{◌≢◌, sym, ap, ◌∙◌}
-use Rattle.control_stages.specs.declared.rows.Token.TheVariants as Tokens
+use Rattle.control_stages.specs.declared.rows.StageToken.TheVariants as Tokens
 use Rattle.control_stages.specs.Stages.{token_of}
 use Rattle.control_stages.proofs.Kept.{setup_stays}
 use Rattle.endpoint_script.specs.Controlling.{place_at}

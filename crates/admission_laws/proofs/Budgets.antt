@@ -1,0 +1,90 @@
+-- The budgets hold at the opening, and each command and each event keeps them.
+use Rattle.std.proofs.Common.{◌≡◌, ℕ, ◌+◌, ◌≤◌, Bool, true, false, List, [], ◌∷◌, ◌++◌, length, slice_get, Option, Some, None, Ok, subst, sym, refl, arith}
+use Rattle.std.specs.Prelude.{filter, not, nat_eq}
+use Rattle.std.proofs.lemmas.List.{length-append}
+use Rattle.std.proofs.lemmas.List.Filters.{length-filter_both}
+use Rattle.usb_base.specs.declared.endpoints.EpDesc.{EpDesc}
+use Rattle.usb_base.specs.declared.commands.Cmd.{Cmd}
+use Rattle.usb_base.specs.declared.commands.Cmd.TheVariants as commands
+use Rattle.word_mem.specs.Memory.{Mem}
+use Rattle.bandwidth.specs.declared.placements.Placed.{Placed}
+use Rattle.bandwidth.proofs.Budgets.{fits_fewer, fits_none}
+use Rattle.periodic_rows.specs.declared.content.Removed.TheVariants as removed
+use Rattle.periodic_rows.specs.Periodic.{is_periodic}
+use Rattle.driver_rows.specs.declared.content.Endpoint.{Endpoint}
+use Rattle.driver_rows.specs.declared.content.Reserve.{Reserve}
+use Rattle.driver_rows.specs.declared.rows.Row.{Row}
+use Rattle.driver_rows.specs.declared.rows.Row.TheVariants as rows
+use Rattle.driver_rows.specs.DriverContent.{DriverContent}
+use Rattle.driver_rows.specs.Opening.{opening}
+use Rattle.driver_rows.specs.Offers.{Offered, IsOffered, offered}
+use Rattle.driver_rows.specs.Rows.{Parts, row_of, after_row}
+use Rattle.admission_laws.specs.Budgets.{Account, account_of, KeepsBudgets, taken_out, account_after}
+use Rattle.admission_laws.specs.Opens.{asked, OpenAfter}
+use Rattle.admission_laws.proofs.Events.{account_of_event}
+use Rattle.admission_laws.proofs.Commands.{account_of_command}
+
+pub opening_kept : (n : ℕ) (room : Reserve) → KeepsBudgets (account_of (opening n room).driver)
+opening_kept n room = record { fits = fits_none; room = omega arith }
+
+-- ---- a command
+
+one_more : (placed : List Placed) (x : Placed) → length (placed ++ x ∷ []) ≡ length placed + 1
+one_more placed x = length-append placed (x ∷ [])
+
+open_kept : (d : DriverContent) (x : EpDesc) (o : Offered) (b : Bool) → 1 ≤ d.room.endpoints → KeepsBudgets (account_of d) → OpenAfter d x o b → KeepsBudgets (account_of o.driver)
+open_kept d x o true some old why =
+    subst KeepsBudgets (sym why.account)
+    (record {
+      fits = why.best.fits;
+      room = omega (arith, one_more d.periodic.plan.placed (record { want = asked d x; placement = why.placement }), old.room, some);
+    })
+open_kept d x o false some old why =
+    subst KeepsBudgets (sym why) (record { fits = old.fits; room = omega (arith, old.room, some) })
+
+pub command_kept : (d : DriverContent) (m : Mem) (cmd : Cmd) (o : Offered) → IsOffered d.room cmd → KeepsBudgets (account_of d) → offered d m cmd ≡ Ok o → KeepsBudgets (account_of o.driver)
+command_kept d m (commands.OpenEp x) o ok old is =
+    open_kept d x o (is_periodic x.kind) ok.0 old (account_of_command d m (commands.OpenEp x) o is)
+command_kept d m (commands.Get name len by) o ok old is =
+    subst KeepsBudgets (sym (account_of_command d m (commands.Get name len by) o is)) old
+command_kept d m (commands.Put name bytes by) o ok old is =
+    subst KeepsBudgets (sym (account_of_command d m (commands.Put name bytes by) o is)) old
+command_kept d m (commands.Control name setup bytes) o ok old is =
+    subst KeepsBudgets (sym (account_of_command d m (commands.Control name setup bytes) o is)) old
+command_kept d m (commands.Iso name count len seed) o ok old is =
+    subst KeepsBudgets (sym (account_of_command d m (commands.Iso name count len seed) o is)) old
+command_kept d m (commands.Cancel name) o ok old is =
+    subst KeepsBudgets (sym (account_of_command d m (commands.Cancel name) o is)) old
+
+-- ---- an event
+
+no_more : (test : Placed → Bool) (placed : List Placed) → length (filter test placed) ≤ length placed
+no_more test placed = omega (arith, length-filter_both test (λ x. not (test x)) (λ x. refl) placed)
+
+out_kept : (a : Account) (e : ℕ) (o : Option Endpoint) → KeepsBudgets a → KeepsBudgets (taken_out a e o)
+out_kept a e None old = old
+out_kept a e (Some x) old = record {
+  fits = fits_fewer (λ y. not (nat_eq y.want.id e)) a.plan.placed old.fits;
+  room = omega (arith, no_more (λ y. not (nat_eq y.want.id e)) a.plan.placed, old.room);
+}
+
+after_kept : (row : Row) (d : DriverContent) → KeepsBudgets (account_of d) → KeepsBudgets (account_after row d)
+after_kept rows.Lend d old = old
+after_kept (rows.Store b at v) d old = old
+after_kept (rows.Mend w) d old = old
+after_kept (rows.ReleaseTransfer t) d old = old
+after_kept (rows.ReleaseEndpoint e) d old = old
+after_kept rows.ClearAdvance d old = old
+after_kept rows.RingBell d old = old
+after_kept (rows.ReadStatus heard) d old = old
+after_kept (rows.ReadFrame n) d old = old
+after_kept rows.Frames d old = old
+after_kept rows.LendDescriptors d old = old
+after_kept (rows.Unlink t) d old = old
+after_kept (rows.ReleaseRemoved (removed.Descriptor t)) d old = old
+after_kept (rows.ReleaseRemoved (removed.Endpoint e)) d old = out_kept (account_of d) e (slice_get d.endpoints e) old
+after_kept (rows.Harvest e t found) d old = old
+after_kept rows.Rest d old = old
+
+pub event_kept : (p : Parts) → KeepsBudgets (account_of p.driver) → KeepsBudgets (account_of (after_row (row_of p) p).driver)
+event_kept p old = subst KeepsBudgets (sym (account_of_event (row_of p) p)) (after_kept (row_of p) p.driver old)

@@ -1,0 +1,5 @@
+pub mod Events
+pub mod Commands
+pub mod Budgets
+pub mod Refusals
+pub mod Cameras

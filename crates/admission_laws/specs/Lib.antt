@@ -1,0 +1,3 @@
+pub mod Budgets
+pub mod Opens
+pub mod Worked

@@ -1,0 +1,5 @@
+pub mod Taken
+pub mod Opens
+pub mod Transfers
+pub mod Noted
+pub mod Commanding

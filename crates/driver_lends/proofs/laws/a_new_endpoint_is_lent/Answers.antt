@@ -1,0 +1,5 @@
+use Rattle.driver_lends.proofs.Opening.{lend_opens_drives}
+use Rattle.driver_lends.proofs.laws.a_new_endpoint_is_lent.Goals as goal
+
+pub returns : goal.returns
+returns c = record { opens = lend_opens_drives }

@@ -1,0 +1,4 @@
+pub mod Inventory
+pub mod Driven
+pub mod Opened
+pub mod Laws

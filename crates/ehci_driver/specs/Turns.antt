@@ -1,0 +1,36 @@
+-- One event of the driver, and parts of it (EHCI 1.0, 4.8 to 4.10).
+--     parts d r m            what an event reads and changes: driver, registers and memory
+--     after_event p          what stands after the next event
+--     later_row d r          the leaving work behind the stores that are owed and the harvested transfers
+--     told_now d m t y what x       transfer y of endpoint x, of number t, is reported
+--     told_cancel d m e x           the cancelled endpoint x, of number e, is reported
+use Rattle.std.specs.Prelude.{ℕ, slice_get, Option, option_map}
+use Rattle.usb_base.specs.declared.reports.What.{What}
+use Rattle.usb_base.specs.declared.reports.What.TheVariants.{Cancel}
+use Rattle.op_registers.specs.RegisterFile.{RegisterFile}
+use Rattle.word_mem.specs.Memory.{Mem}
+use Rattle.driver_rows.specs.declared.content.Endpoint.{Endpoint}
+use Rattle.driver_rows.specs.declared.content.Transfer.{Transfer}
+use Rattle.driver_rows.specs.declared.rows.Row.{Row}
+use Rattle.driver_rows.specs.declared.rows.Row.TheVariants as rows
+use Rattle.driver_rows.specs.DriverContent.{DriverContent}
+use Rattle.driver_rows.specs.Harvests.{reported}
+use Rattle.driver_rows.specs.Rows.{Parts, row_of, after_row, first_row, removal_row, bell_row, told_with, cancelled_bytes}
+
+abbrev pub parts : DriverContent → RegisterFile → Mem → Parts
+parts d r m = record { driver = d; registers = r; memory = m }
+
+abbrev pub after_event : Parts → Parts
+after_event p = after_row (row_of p) p
+
+abbrev pub later_row : DriverContent → RegisterFile → Option Row
+later_row d r =
+    first_row (option_map rows.Unlink (slice_get d.periodic.unlinks 0))
+    (first_row (option_map rows.ReleaseEndpoint (slice_get d.cleared 0))
+    (first_row (removal_row (slice_get d.periodic.removals 0)) (bell_row d r d.bell)))
+
+abbrev pub told_now : DriverContent → Mem → ℕ → Transfer → What → Endpoint → DriverContent
+told_now d m t y what x = told_with d m t y what x.desc.name d.notes
+
+abbrev pub told_cancel : DriverContent → Mem → ℕ → Endpoint → DriverContent
+told_cancel d m e x = reported d Cancel x.desc.name (cancelled_bytes d.notes m e x.queue d.transfers)

@@ -1,0 +1,53 @@
+use crate::shot::Shot;
+use std::alloc::{AllocError, Global};
+
+/// How many of these words there are before another one than `word`.
+fn length_of_run(words: &[u32], word: u32) -> usize {
+    match words.iter().position(|other| *other != word) {
+        Some(long) => long,
+        None => words.len(),
+    }
+}
+
+/// The words from a byte address on, at most so many, that aren't 0, each with its address; several equal ones in a row as one, with
+/// their number.
+pub(crate) fn words_from(
+    alloc: Global,
+    shot: &Shot,
+    at: u32,
+    most: u32,
+) -> Result<String, AllocError> {
+    let end = shot.words.len().min((at / 4) as usize + most as usize);
+    let words = &shot.words.as_slice()[..end];
+    let mut text = String::new(alloc);
+    let mut after = (at / 4) as usize;
+    for number in 0..words.len() {
+        let word = words[number];
+        if number < after || word == 0 {
+            continue;
+        }
+        let long = length_of_run(&words[number..], word);
+        after = number.saturating_add(long);
+        let one = format!(in alloc; " {:x}={word:x}", number.saturating_mul(4))?;
+        text.push_str(one.as_str())?;
+        if long > 1 {
+            let times = format!(in alloc; "*{long}")?;
+            text.push_str(times.as_str())?;
+        }
+    }
+    Ok(text)
+}
+
+/// The words that differ, except those that are 0 in a Free block now.
+pub(crate) fn changes(alloc: Global, before: &Shot, now: &Shot) -> Result<String, AllocError> {
+    let mut text = String::new(alloc);
+    let mut number = 0;
+    for (old, new) in before.words.iter().zip(now.words.iter()) {
+        if *old != *new && !(*new == 0 && now.is_free(number)) {
+            let one = format!(in alloc; " {:x}={:x}", number.saturating_mul(4), *new)?;
+            text.push_str(one.as_str())?;
+        }
+        number = number.saturating_add(1);
+    }
+    Ok(text)
+}

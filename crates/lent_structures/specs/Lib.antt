@@ -1,0 +1,4 @@
+pub mod Structures
+pub mod Changes
+pub mod Laws
+pub mod Samples

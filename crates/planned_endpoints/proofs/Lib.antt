@@ -1,0 +1,4 @@
+pub mod Lists
+pub mod Events
+pub mod Commands
+pub mod Laws

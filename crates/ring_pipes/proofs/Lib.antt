@@ -1,0 +1,3 @@
+pub mod Direction
+pub mod Settling
+pub mod Agreeing

@@ -1,0 +1,4 @@
+pub mod Parting
+pub mod Driving
+pub mod Answering
+pub mod Sampled

@@ -1,0 +1,4 @@
+pub mod Stores
+pub mod Doorbell
+pub mod Samples
+pub mod Laws

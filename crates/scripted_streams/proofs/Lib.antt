@@ -1,0 +1,5 @@
+pub mod Places
+pub mod Devices
+pub mod Sending
+pub mod Asking
+pub mod Beginning

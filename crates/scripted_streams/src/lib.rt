@@ -1,0 +1,22 @@
+//! The bus of a script is one whose devices send their streams by the toggle (USB 2.0, 8.5 and 8.6): a bulk or interrupt IN endpoint on the
+//! high-speed bus answers with the packet that it has left, until it hears the acknowledgement, and no other transaction changes it.
+//!
+//! The crate has no code of its own: each function is a law over the definitions of `usb_bus` and `ring_pipes`, and its body is empty.
+#![tactic(auto)]
+
+ghost use Rattle.std.specs.Prelude.{◌≡◌, ℕ, Bool, List};
+ghost use Rattle.usb_base.specs.declared.packets.Ask.{Ask};
+ghost use Rattle.usb_base.specs.declared.packets.Reply.{Reply};
+ghost use Rattle.usb_bus.specs.Bus.{Wired, reply_of, transact_after, is_allowed, begin_after};
+ghost use Rattle.ring_pipes.specs.Bus.{IsBus, KeepsSenders};
+ghost use Rattle.scripted_streams.specs.Senders.{sender_of};
+
+/// Whichever of its endpoints are asked about, the bus is such a bus.
+pub fn a_scripted_bus_sends_its_streams()
+    ensures { (stream : ℕ → ℕ → Bool) → IsBus (λ (w : Wired) (ask : Ask) (out : List ℕ) (reply : Reply) (v : Wired). (reply ≡ reply_of w.fixed w.bus ask out) × (v ≡ record w { bus = transact_after w.fixed w.bus ask out })) stream sender_of }
+{}
+
+/// And where a microframe begins, whatever its hubs then do on the bus below them, none of them goes on.
+pub fn a_microframe_keeps_its_senders()
+    ensures { (stream : ℕ → ℕ → Bool) → KeepsSenders (λ (w : Wired) (frindex : ℕ) (allowed : Bool) (v : Wired). (allowed ≡ is_allowed w.fixed w.bus) × (v ≡ record w { bus = begin_after w.fixed frindex w.bus })) stream sender_of }
+{}

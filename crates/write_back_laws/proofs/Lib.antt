@@ -1,0 +1,3 @@
+pub mod WrittenBack
+pub mod Found
+pub mod Sampled

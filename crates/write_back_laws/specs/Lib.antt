@@ -1,0 +1,3 @@
+pub mod WriteBack
+pub mod Laws
+pub mod Samples
