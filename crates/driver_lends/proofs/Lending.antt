@@ -53,7 +53,7 @@ pub record AreBothLent (m : Mem) (r s : Run) : Type 0 where
   pub first : AreAll m Lent r
   pub second : AreAll m Lent s
 
-kept_within : (h : Holding) (b : ℕ) (r : Run) → Stands h → slot_of h.book.slots b ≡ Keeps r → r.first + r.blocks ≤ length h.memory.states
+pub kept_within : (h : Holding) (b : ℕ) (r : Run) → Stands h → slot_of h.book.slots b ≡ Keeps r → r.first + r.blocks ≤ length h.memory.states
 kept_within h b r stands is = run_within h.memory Kept r (keeps_all h b r stands is) (keeps_at h b r stands is).1
 
 two_states : (m : Mem) (r s : Run) → IsShaped m → r.first + r.blocks ≤ length m.states → s.first + s.blocks ≤ length m.states → AreApart s r → AreBothLent (with_states (with_states m s Lent) r Lent) r s

@@ -36,13 +36,13 @@ use Rattle.driver_lends.proofs.Owning.{TwoLent, queue_no_dummy, none_there, driv
 
 -- ---- the driver's content
 
-lent_content : DriverContent → Mem → DriverContent
+pub lent_content : DriverContent → Mem → DriverContent
 lent_content d m = record d { book = (lend_taken (holding d.book m)).book }
 
 differ : (d : DriverContent) (m : Mem) (e : ℕ) (x : EndpointRuns) (q : Qh) → IsOpened d m e x q → HasOwners d → x.queue ≢ x.dummy
 differ d m e x q opened has = queue_no_dummy (views_of d) has.owner e e x x has.owned.each opened.here opened.here
 
-two_lent : (d : DriverContent) (m : Mem) (e : ℕ) (x : EndpointRuns) (q : Qh) → IsOpened d m e x q → (has : HasOwners d) → TwoLent (views_of d) (views_of (lent_content d m)) has.owner e x
+pub two_lent : (d : DriverContent) (m : Mem) (e : ℕ) (x : EndpointRuns) (q : Qh) → IsOpened d m e x q → (has : HasOwners d) → TwoLent (views_of d) (views_of (lent_content d m)) has.owner e x
 unfolding lent_content
 two_lent d m e x q opened has =
     let h = holding d.book m in
@@ -72,7 +72,7 @@ pub record TwoRuns (m : Mem) (x : EndpointRuns) (r s : Run) : Type 0 where
   pub dummy_kept : AreAll m Kept s
   pub apart : AreApart s r
 
-two_runs : (d : DriverContent) (m : Mem) (e : ℕ) (x : EndpointRuns) (q : Qh) → (opened : IsOpened d m e x q) → HasOwners d → Stands (holding d.book m) → TwoRuns m x opened.queue_kept.run opened.dummy_kept.run
+pub two_runs : (d : DriverContent) (m : Mem) (e : ℕ) (x : EndpointRuns) (q : Qh) → (opened : IsOpened d m e x q) → HasOwners d → Stands (holding d.book m) → TwoRuns m x opened.queue_kept.run opened.dummy_kept.run
 two_runs d m e x q opened has stands =
     let h = holding d.book m in
     let r = opened.queue_kept.run in
@@ -92,7 +92,7 @@ kept_no_lent o kept lent = cc
 
 -- ---- both stand in memory
 
-dummy_range : IsQtdInRange dummy_qtd
+pub dummy_range : IsQtdInRange dummy_qtd
 dummy_range =
     ((refl, tt), ((refl, tt), ((omega arith, (omega arith, (omega arith, (omega arith, tt)))), ((omega arith, (omega arith, tt)), ((omega arith, tt), ((omega arith, tt), ((omega arith, tt), ((omega arith, tt), tt))))))))
 
@@ -168,7 +168,7 @@ never_both m x q r s b runs at has =
 
 -- ---- the ring
 
-no_member : {X : Type 0} (member : ℕ → Bool) (n : ℕ) (parts : Parts) → parts n n ≡ None → IsMember member n (parts n) → X
+pub no_member : {X : Type 0} (member : ℕ → Bool) (n : ℕ) (parts : Parts) → parts n n ≡ None → IsMember member n (parts n) → X
 no_member member n parts none is = absurd (some_none (parts n n) (QueueHead is.queue) none is.here)
   where
     some_none : (o : Option Structure) (s : Structure) → o ≡ None → o ≡ Some s → ⊥

@@ -1,1 +1,4 @@
 pub mod Opened
+pub mod Linked
+pub mod Beside
+pub mod Published

@@ -3,10 +3,12 @@
 --     IsKept slot          the slot's run is kept
 --     IsOpened d m e x q   endpoint e is new: its two runs are all that is to be lent, and the queue head q and an inactive qTD stand in them
 --     opened_parts ..      the parts with both
---     LendOpensDrives      the law
-use Rattle.std.specs.Prelude.{◌≡◌, ◌≢◌, ℕ, ◌*◌, Bool, [], ◌∷◌, Some}
+--     opened_runs, opened_head   the runs and the queue head of an open that was accepted
+--     LendOpensDrives, OpenIsReady   the laws
+use Rattle.std.specs.Prelude.{◌≡◌, ◌≢◌, ℕ, ◌*◌, Bool, [], ◌∷◌, length, slice_index, Some}
+use Rattle.usb_base.specs.declared.endpoints.EpDesc.{EpDesc}
 use Rattle.word_mem.specs.Runs.{Run}
-use Rattle.word_mem.specs.Memory.{Mem}
+use Rattle.word_mem.specs.Memory.{Mem, IsShaped}
 use Rattle.word_mem.specs.Views.{words_at}
 use Rattle.op_registers.specs.RegisterFile.{RegisterFile}
 use Rattle.qh_qtd.specs.declared.queue_head.Qh.{Qh}
@@ -16,12 +18,15 @@ use Rattle.async_walk.specs.Walk.{Walk}
 use Rattle.async_walk.specs.Rows.{place}
 use Rattle.run_book.specs.declared.slots.Slot.{Slot}
 use Rattle.run_book.specs.declared.slots.Slot.TheVariants.{Keeps}
-use Rattle.run_book.specs.Book.{holding, slot_of, lend_taken, Stands}
+use Rattle.run_book.specs.Book.{Holding, holding, slot_of, lend_taken, Stands}
 use Rattle.driver_rows.specs.DriverContent.{DriverContent}
-use Rattle.driver_rows.specs.Words.{dummy_qtd}
+use Rattle.driver_rows.specs.Words.{queue_head, dummy_qtd}
 use Rattle.driver_rows.specs.Rows.{advance}
-use Rattle.run_owners.specs.Owners.{EndpointRuns, TransferRuns, views_of}
+use Rattle.driver_rows.specs.Offers.{Offered, new_endpoint, new_runs, newest_of}
+use Rattle.run_owners.specs.Owners.{EndpointRuns, TransferRuns, runs_of_endpoint, views_of}
 use Rattle.run_owners.specs.Kept.{HasOwners}
+use Rattle.run_owners.specs.Accepts.{Opens}
+use Rattle.lent_runs.specs.Lent.{AreLent}
 use Rattle.lent_structures.specs.Structures.{QueueHead, Element, Parts, put}
 use Rattle.ring_walk.specs.Hand.{Hand}
 use Rattle.ring_walk.specs.Ring.{Base}
@@ -49,3 +54,16 @@ abbrev pub LendOpensDrives : Type 0
 LendOpensDrives = (base : Base) (member : ℕ → Bool) (parts : Parts) (hand : Hand) (w : Walk) (r : RegisterFile) (m : Mem) (d : DriverContent) (e : ℕ) (x : EndpointRuns) (q : Qh)
     → IsOpened d m e x q → HasOwners d → Stands (holding d.book m) → DrivesRing base member parts hand (place w r m) d
     → DrivesRing base member (opened_parts parts x q) hand (place w r (lend_taken (holding d.book m)).memory) (advance (record d { book = (lend_taken (holding d.book m)).book }))
+
+-- ---- an accepted open
+
+abbrev pub opened_runs : DriverContent → EpDesc → Holding → EndpointRuns
+opened_runs d x g = runs_of_endpoint (new_endpoint x (slice_index (new_runs d g) 0) (slice_index (new_runs d g) 1))
+
+abbrev pub opened_head : DriverContent → EpDesc → Holding → Qh
+opened_head d x g = queue_head x (newest_of d.endpoints) (slice_index (new_runs d g) 1)
+
+abbrev pub OpenIsReady : Type 0
+OpenIsReady = (m : Mem) (d : DriverContent) (o : Offered) → (why : Opens d m o) → HasOwners d → AreLent d → Stands (holding d.book m) → IsShaped m
+    → IsQhInRange (opened_head d why.desc why.holding_after)
+    → IsOpened o.driver o.memory (length d.endpoints) (opened_runs d why.desc why.holding_after) (opened_head d why.desc why.holding_after)

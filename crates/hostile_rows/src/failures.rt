@@ -64,18 +64,25 @@ fn is_sound(
     )
 }
 
-/// What the program does on a word with calls of any size, and with calls of one byte.
+/// What the program does on a word with calls of any size, with calls of at most so many bytes, and with calls of one.
 pub fn of(
     alloc: Global,
     word: &str,
     input: &[u8],
     output: &[u8],
-) -> Result<&'static str, AllocError> {
+    most: usize,
+) -> Result<String, AllocError> {
     if !is_sound(alloc, word, input, output, ALL)? {
-        Ok("wrong")
-    } else if !is_sound(alloc, word, input, output, 1)? {
-        Ok("wrong with calls of one byte")
-    } else {
-        Ok("as it must be, and where each read and each write fails, also with calls of one byte")
+        return format!(in alloc; "wrong");
     }
+    if !is_sound(alloc, word, input, output, most)? {
+        return format!(in alloc; "wrong with calls of {most}");
+    }
+    let slow = run(alloc, word, input, moving(1))?;
+    if slow.written.as_slice() != output {
+        return format!(in alloc; "wrong with calls of 1");
+    }
+    format!(in alloc;
+        "as it must be, and where each read and each write fails, also with calls of {most}"
+    )
 }

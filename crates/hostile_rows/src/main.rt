@@ -39,9 +39,9 @@ fn print_script(rt: &(impl Print + Files + AllocGlobal), name: &str) -> io::Resu
     let report = fs::read(rt, format!(in alloc; "{name}.report")?)?;
     let cut = cuts::of_script(alloc, &script, table.as_str())?;
     println!(rt; "{name}, cut: {cut}")?;
-    let run = failures::of(alloc, "run", &script, &report)?;
+    let run = failures::of(alloc, "run", &script, &report, 1)?;
     println!(rt; "{name}, run: {run}")?;
-    let check = failures::of(alloc, "check", &script, b"script ok\n")?;
+    let check = failures::of(alloc, "check", &script, b"script ok\n", 1)?;
     println!(rt; "{name}, check: {check}")
 }
 
@@ -50,26 +50,26 @@ fn print_image(rt: &(impl Print + AllocGlobal)) -> io::Result<()> {
     let alloc = rt.alloc();
     let image = images::opening(alloc)?;
     println!(rt; "image, cut: {}", cuts::of_image(alloc, &image)?)?;
-    let check = failures::of(alloc, "check", &image, b"image ok\n")?;
+    let check = failures::of(alloc, "check", &image, b"image ok\n", 64)?;
     println!(rt; "image, check: {check}")?;
-    let dump = failures::of(alloc, "dump", &image, images::SHOWN)?;
+    let dump = failures::of(alloc, "dump", &image, images::SHOWN, 64)?;
     println!(rt; "image, dump: {dump}")?;
-    let written = failures::of(alloc, "image", images::SCRIPT, &image)?;
+    let written = failures::of(alloc, "image", images::SCRIPT, &image, 64)?;
     println!(rt; "image, image: {written}")
 }
 
 /// Prints the rows of inputs that are neither.
 fn print_refusals(rt: &(impl Print + AllocGlobal)) -> io::Result<()> {
     let alloc = rt.alloc();
-    let dump = failures::of(alloc, "dump", b"EHCI", b"offset 4: length\n")?;
+    let dump = failures::of(alloc, "dump", b"EHCI", b"offset 4: length\n", 1)?;
     println!(rt; "no image, dump: {dump}")?;
-    let image_check = failures::of(alloc, "check", b"EHCI", b"offset 4: length\n")?;
+    let image_check = failures::of(alloc, "check", b"EHCI", b"offset 4: length\n", 1)?;
     println!(rt; "no image, check: {image_check}")?;
-    let run = failures::of(alloc, "run", b"ehci 3\n", b"line 1: version\n")?;
+    let run = failures::of(alloc, "run", b"ehci 3\n", b"line 1: version\n", 1)?;
     println!(rt; "no script, run: {run}")?;
-    let image = failures::of(alloc, "image", b"ehci 3\n", b"line 1: version\n")?;
+    let image = failures::of(alloc, "image", b"ehci 3\n", b"line 1: version\n", 1)?;
     println!(rt; "no script, image: {image}")?;
-    let check = failures::of(alloc, "check", b"ehci 3\n", b"line 1: version\n")?;
+    let check = failures::of(alloc, "check", b"ehci 3\n", b"line 1: version\n", 1)?;
     println!(rt; "no script, check: {check}")
 }
 

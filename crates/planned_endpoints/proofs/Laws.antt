@@ -69,7 +69,7 @@ none_of : (o : Option Placement) → is_some o ≡ false → o ≡ None
 none_of None e = refl
 none_of (Some p) e = absurd (cc)
 
-some_is : (x y : Endpoint) → ◌≡◌ {A = Option Endpoint} (Some x) (Some y) → x ≡ y
+pub some_is : (x y : Endpoint) → ◌≡◌ {A = Option Endpoint} (Some x) (Some y) → x ≡ y
 some_is x y e = cc
 
 ring_due : (p : Parts) (row : Row) → IsDue p row → HasOwners p.driver → IfRing row p.driver

@@ -1,2 +1,4 @@
 pub mod Planned
 pub mod Worked
+pub mod Queues
+pub mod Due

@@ -1,9 +1,10 @@
--- Endpoints of worked rows: a bulk one, an isochronous one that was opened, and one that was given back.
+-- Endpoints of worked rows: a bulk one, an isochronous one that was opened, and one that was given back; and queue heads.
 use Rattle.std.specs.Prelude.{ℕ, true}
 use Rattle.usb_base.specs.declared.packets.EpKind.TheVariants.{Bulk}
 use Rattle.bandwidth.specs.declared.placements.Placed.{Placed}
 use Rattle.periodic_rows.specs.Periodic.{want_of}
 use Rattle.admission_laws.specs.Worked.{camera, each_microframe}
+use Rattle.frame_chains.specs.declared.members.QueueHead.{QueueHead}
 use Rattle.driver_rows.specs.declared.content.Endpoint.{Endpoint}
 use Rattle.driver_rows.specs.Offers.{new_endpoint, placed_endpoint}
 
@@ -19,3 +20,7 @@ given_back num = record (opened num) { gone = true }
 -- what counts of the one with this number
 abbrev pub counted : ℕ → Placed
 counted num = record { want = want_of num (camera num); placement = each_microframe }
+
+-- a queue head of this period and phase
+abbrev pub polled : ℕ → ℕ → ℕ → QueueHead
+polled id period phase = record { id = id; period = period; phase = phase }

@@ -20,6 +20,13 @@ ghost use Rattle.driver_rows.specs.Offers.{Offered, offered};
 ghost use Rattle.driver_rows.specs.Opening.{opening};
 ghost use Rattle.driver_rows.specs.Rows.{Parts, row_of, after_row};
 ghost use Rattle.run_owners.specs.Kept.{HasOwners};
+ghost use Rattle.std.specs.List.{AllByRecursion};
+ghost use Rattle.frame_chains.specs.declared.members.QueueHead.{QueueHead};
+ghost use Rattle.listed_members.specs.Listed.{IsListed};
+ghost use Rattle.listed_queues.specs.Queues.{HasQueues};
+ghost use Rattle.frame_members.specs.Members.{IsKept};
+ghost use Rattle.planned_endpoints.specs.Due.{AreDue, HasAllDue};
+ghost use Rattle.planned_endpoints.specs.Queues.{IsPlacedQueue};
 ghost use Rattle.planned_endpoints.specs.Planned.{IsPlanned, IsPlannedAt, IsEndpointOf};
 
 /// A driver that was just built has no endpoints, and nothing placed.
@@ -50,4 +57,26 @@ pub fn endpoints_count_until_given_back()
 #[tactic(auto, using(crate::proofs::Laws::planned_endpoint))]
 pub fn what_counts_is_an_endpoint()
     ensures { (d : DriverContent) (i : ℕ) (y : Placed) → IsPlanned d → slice_get d.periodic.plan.placed i ≡ Some y → IsEndpointOf d y }
+{}
+
+/// Each queue head of the frame list is that of an endpoint whose placement counts in the plan, and stands in the frames of that placement.
+#[tactic(auto, using(crate::proofs::Queues::queues_placed))]
+pub fn queue_heads_are_of_placed_endpoints()
+    ensures { (d : DriverContent) → HasOwners d → IsListed d → IsPlanned d → AllByRecursion (IsPlacedQueue d) d.periodic.list.members.schedule.queues }
+{}
+
+/// Two queue heads of one endpoint are the same, so no endpoint has two in a frame's chain.
+#[tactic(auto, using(crate::proofs::Queues::one_queue))]
+pub fn an_endpoint_has_one_queue_head()
+    ensures { (d : DriverContent) (q r : QueueHead) (h : IsPlacedQueue d q) (k : IsPlacedQueue d r) → h.number ≡ k.number → q ≡ r }
+{}
+
+/// So the chain of each frame has queue heads of placed endpoints alone that are active in it, and none twice.
+pub fn queue_heads_of_a_frame_are_due()
+    ensures { (d : DriverContent) (f : ℕ) → HasOwners d → IsListed d → IsPlanned d → IsKept d.periodic.list.members.schedule → AreDue d f }
+{}
+
+/// And it has each that is due: of each interrupt endpoint in its frames, in the frames in which its placement is active.
+pub fn a_frame_has_all_queue_heads_that_are_due()
+    ensures { (d : DriverContent) (f : ℕ) → HasOwners d → HasQueues d → IsKept d.periodic.list.members.schedule → HasAllDue d f }
 {}

@@ -15,7 +15,8 @@ use usb_base::Wire;
 
 /// Each event of the walk adds the bytes that it moved to the end of those of all published qTDs of their queue head.
 pub fn each_event_adds_to_the_end<W: Wire>()
-    ensures { (member : ℕ → Bool) (parts : Parts) (hand : Hand) (reply : Reply) (wire after : W) (now : Parts) (later : Hand) (kind : WalkStep) (order : ℕ → ℕ) (place : ℕ) (out : List ℕ) (n : ℕ) (xs : List ℕ)
+    ensures { (member : ℕ → Bool) (parts : Parts) (hand : Hand) (reply : Reply) (wire after : W) (now : Parts) (later : Hand) (kind : WalkStep)
+        (order : ℕ → ℕ) (place : ℕ) (out : List ℕ) (n : ℕ) (xs : List ℕ)
         → AreMembers member parts → IsInHand member parts reply hand → Effect W.transacts parts hand wire after now later kind
         → (z : StreamEffect W.transacts parts hand wire after now later) → Accounts order place out hand parts n xs
         → GoesOnInOrder order out later now n xs (bytes_of_effect n z) }

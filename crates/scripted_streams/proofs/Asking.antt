@@ -116,9 +116,9 @@ device_sender d addr ep k e address named here =
 
 -- ---- who is asked
 
-record IsWho (b : Bus) (split : Split) (e : Asked) : Type 0 where
-  owner : Owner
-  is : e.who ≡ hears b split owner
+pub record IsWho (b : Bus) (split : Split) (e : Asked) : Type 0 where
+  pub owner : Owner
+  pub is : e.who ≡ hears b split owner
 
 who_packet : (b : Bus) (split : Split) (place : ℕ) (seat : Seat) (o : Option ℕ) (e : Asked) → option_map (λ (packet : ℕ). record { place = place; name = seat.name; packet = packet; who = hears b split seat.owner }) o ≡ Some e → IsWho b split e
 who_packet b split place seat None e is = absurd cc
@@ -128,7 +128,7 @@ who_seat : (b : Bus) (split : Split) (place : ℕ) (o : Option Seat) (e : Asked)
 who_seat b split place None e is = absurd cc
 who_seat b split place (Some seat) e is = who_packet b split place seat (slice_get b.high place) e is
 
-who_place : (fixed : Fixed) (b : Bus) (split : Split) (o : Option ℕ) (e : Asked) → option_and_then (asked_at fixed b split) o ≡ Some e → IsWho b split e
+pub who_place : (fixed : Fixed) (b : Bus) (split : Split) (o : Option ℕ) (e : Asked) → option_and_then (asked_at fixed b split) o ≡ Some e → IsWho b split e
 who_place fixed b split None e is = absurd cc
 who_place fixed b split (Some place) e is = who_seat b split place (slice_get fixed.seats place) e is
 
@@ -137,7 +137,7 @@ no_translator None n e = cc
 no_translator (Some k) n e = cc
 
 -- a device is asked by a plain ask alone
-plain_only : (b : Bus) (split : Split) (owner : Owner) (n : ℕ) → hears b split owner ≡ Answerers.Device n → split ≡ Plain
+pub plain_only : (b : Bus) (split : Split) (owner : Owner) (n : ℕ) → hears b split owner ≡ Answerers.Device n → split ≡ Plain
 plain_only b Plain owner n e = refl
 plain_only b (Start hub port part) owner n e = absurd (no_translator (position (λ h. h.address == hub) b.hubs) n e)
 plain_only b (Complete hub port) owner n e = absurd (no_translator (position (λ h. h.address == hub) b.hubs) n e)

@@ -61,12 +61,12 @@ module _ (devices : List Device) (place : ℕ) (addr ep : ℕ) (s : Sender) (at 
 
 -- ---- who is asked below a hub
 
-record IsWhoBelow (w : Below) (ask : Ask) (who : Answerer) : Type 0 where
-  place : ℕ
-  found : place_for w.fixed.seats ask.addr ask.ep (token_kind ask.pid) ≡ Some place
-  seat : Seat
-  there : slice_get w.fixed.seats place ≡ Some seat
-  is : who ≡ hears_at w seat.owner
+pub record IsWhoBelow (w : Below) (ask : Ask) (who : Answerer) : Type 0 where
+  pub place : ℕ
+  pub found : place_for w.fixed.seats ask.addr ask.ep (token_kind ask.pid) ≡ Some place
+  pub seat : Seat
+  pub there : slice_get w.fixed.seats place ≡ Some seat
+  pub is : who ≡ hears_at w seat.owner
 
 below_packet : (w : Below) (ask : Ask) (place : ℕ) (seat : Seat) (o : Option ℕ) (e : Asked) → place_for w.fixed.seats ask.addr ask.ep (token_kind ask.pid) ≡ Some place → slice_get w.fixed.seats place ≡ Some seat
     → option_map (λ (packet : ℕ). record { place = place; name = seat.name; packet = packet; who = hears_at w seat.owner }) o ≡ Some e → IsWhoBelow w ask e.who
@@ -84,11 +84,11 @@ below_seat : (w : Below) (ask : Ask) (place : ℕ) (o : Option Seat) (e : Asked)
 below_seat w ask place None e found there is = absurd cc
 below_seat w ask place (Some seat) e found there is = below_packet w ask place seat (slice_get w.floor.numbers place) e found there is
 
-below_place : (w : Below) (ask : Ask) (o : Option ℕ) (e : Asked) → place_for w.fixed.seats ask.addr ask.ep (token_kind ask.pid) ≡ o → option_and_then (asked_below_at w) o ≡ Some e → IsWhoBelow w ask e.who
+pub below_place : (w : Below) (ask : Ask) (o : Option ℕ) (e : Asked) → place_for w.fixed.seats ask.addr ask.ep (token_kind ask.pid) ≡ o → option_and_then (asked_below_at w) o ≡ Some e → IsWhoBelow w ask e.who
 below_place w ask None e found is = absurd cc
 below_place w ask (Some place) e found is = below_seat w ask place (slice_get w.fixed.seats place) e found refl is
 
-not_high : (w : Below) (owner : Owner) (n m : ℕ) → hears_at w owner ≡ Answerers.Device n → owner ≡ Owners.High m → ⊥
+pub not_high : (w : Below) (owner : Owner) (n m : ℕ) → hears_at w owner ≡ Answerers.Device n → owner ≡ Owners.High m → ⊥
 not_high w owner n m hears is = nobody (sym (ap (hears_at w) is) ∙ hears)
   where
     nobody : Answerers.Nobody ≡ Answerers.Device n → ⊥
@@ -160,7 +160,7 @@ first_begun : (num : ℕ) (way : Way) (es : List Endpoint) → position_or_len (
 first_begun num way [] = refl
 first_begun num way (e ∷ es) = rw (first_begun num way es) refl
 
-named_begun : (num : ℕ) (way : Way) (es : List Endpoint) → place_named (map endpoint_begun es) num way ≡ place_named es num way
+pub named_begun : (num : ℕ) (way : Way) (es : List Endpoint) → place_named (map endpoint_begun es) num way ≡ place_named es num way
 named_begun num way es = rw (first_begun num way es, length-map es endpoint_begun) refl
 
 begun_by : (b : Bool) (d : Device) (addr ep : ℕ) (s : Sender) → IsAtDevice addr ep (Some d) s → sender_of_device addr ep (Some (if b then begun d else d)) ≡ Some s

@@ -97,11 +97,11 @@ and_both true b e = (refl, e)
 and_both false b e = absurd (false≢true e)
 
 -- two names of one endpoint
-record AreOne (e : Endpoint) (num : ℕ) (way : Way) : Type 0 where
-  number : e.desc.name.num ≡ num
-  way_is : is_way e.desc.name.way way ≡ true
+pub record AreOne (e : Endpoint) (num : ℕ) (way : Way) : Type 0 where
+  pub number : e.desc.name.num ≡ num
+  pub way_is : is_way e.desc.name.way way ≡ true
 
-named_is : (es : List Endpoint) (num : ℕ) (way : Way) (k : ℕ) (e : Endpoint) → place_named es num way ≡ Some k → slice_get es k ≡ Some e → AreOne e num way
+pub named_is : (es : List Endpoint) (num : ℕ) (way : Way) (k : ℕ) (e : Endpoint) → place_named es num way ≡ Some k → slice_get es k ≡ Some e → AreOne e num way
 named_is es num way k e found here =
     let both = and_both (e.desc.name.num == num) (is_way e.desc.name.way way) (position_passes (is_named num way) es k e found here) in
     record { number = eqb-true e.desc.name.num num both.0; way_is = both.1 }
@@ -112,7 +112,7 @@ one_way Ways.In e = (refl, refl)
 one_way Ways.Out e = absurd (false≢true e)
 one_way Ways.Ctl e = absurd (false≢true e)
 
-either_found : (o other : Option ℕ) (k : ℕ) → or_else o other ≡ Some k → (o ≡ Some k) ⊎ (other ≡ Some k)
+pub either_found : (o other : Option ℕ) (k : ℕ) → or_else o other ≡ Some k → (o ≡ Some k) ⊎ (other ≡ Some k)
 either_found None other k e = inr e
 either_found (Some i) other k e = inl e
 
@@ -143,7 +143,7 @@ pub in_only : (pid : Pid) → token_of pid ≡ Tokens.In → pid ≡ Pids.In
 in_only Pids.In e = refl
 in_only _ e = absurd cc
 
-if_found : (b : Bool) (o : Option ℕ) (k : ℕ) → (if b then o else None) ≡ Some k → (b ≡ true) × (o ≡ Some k)
+pub if_found : (b : Bool) (o : Option ℕ) (k : ℕ) → (if b then o else None) ≡ Some k → (b ≡ true) × (o ≡ Some k)
 if_found true o k e = (refl, e)
 if_found false o k e = absurd cc
 

@@ -13,10 +13,12 @@ ghost use Rattle.scripted_streams.specs.Senders.{sender_of};
 
 /// Whichever of its endpoints are asked about, the bus is such a bus.
 pub fn a_scripted_bus_sends_its_streams()
-    ensures { (stream : ℕ → ℕ → Bool) → IsBus (λ (w : Wired) (ask : Ask) (out : List ℕ) (reply : Reply) (v : Wired). (reply ≡ reply_of w.fixed w.bus ask out) × (v ≡ record w { bus = transact_after w.fixed w.bus ask out })) stream sender_of }
+    ensures { (stream : ℕ → ℕ → Bool) → IsBus (λ (w : Wired) (ask : Ask) (out : List ℕ) (reply : Reply) (v : Wired). (reply ≡ reply_of w.fixed w.bus ask out) ×
+        (v ≡ record w { bus = transact_after w.fixed w.bus ask out })) stream sender_of }
 {}
 
 /// And where a microframe begins, whatever its hubs then do on the bus below them, none of them goes on.
 pub fn a_microframe_keeps_its_senders()
-    ensures { (stream : ℕ → ℕ → Bool) → KeepsSenders (λ (w : Wired) (frindex : ℕ) (allowed : Bool) (v : Wired). (allowed ≡ is_allowed w.fixed w.bus) × (v ≡ record w { bus = begin_after w.fixed frindex w.bus })) stream sender_of }
+    ensures { (stream : ℕ → ℕ → Bool) → KeepsSenders (λ (w : Wired) (frindex : ℕ) (allowed : Bool) (v : Wired). (allowed ≡ is_allowed w.fixed w.bus) ×
+        (v ≡ record w { bus = begin_after w.fixed frindex w.bus })) stream sender_of }
 {}

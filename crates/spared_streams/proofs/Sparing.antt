@@ -87,7 +87,7 @@ spared_toggle hand later parts now n b hands head has =
       is = has.is ∙ sym (hands.toggle n has.queue) ∙ sym (overlay_toggle later n has.queue h.queue h.overlay);
     }
 
-spared_endpoint : (parts now : Parts) (n : ℕ) (x : Endpoint) → SparesHead parts now n → HasEndpoint parts n x → HasEndpoint now n x
+pub spared_endpoint : (parts now : Parts) (n : ℕ) (x : Endpoint) → SparesHead parts now n → HasEndpoint parts n x → HasEndpoint now n x
 spared_endpoint parts now n x head has =
     let h : HasOverlay now n has.queue = head has.queue has.head in
     record { queue = h.queue; head = h.here; is = has.is ∙ sym h.overlay.endpoint }

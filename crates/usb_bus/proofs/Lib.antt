@@ -2,3 +2,4 @@ pub mod Search
 pub mod Table
 pub mod Unheard
 pub mod Hubs
+pub mod Sent

@@ -2,7 +2,7 @@
 --     Below               the bus below one hub, while that hub works
 --     below_reply         what the translator hears in a transaction; `below_after` is what that leaves
 --     hubs_worked         the hubs after each has worked, in their order; `floor_worked` is what they leave of the devices
-use Rattle.std.specs.Prelude.{◌≡◌, ℕ, ◌==◌, ◌&&◌, Bool, true, false, List, [], ◌∷◌, map, Option, Some, None, slice_get, slice_set, unwrap_or, if◌then◌else◌}
+use Rattle.std.specs.Prelude.{ℕ, ◌==◌, ◌&&◌, Bool, true, false, List, [], ◌∷◌, map, Option, Some, None, slice_get, slice_set, unwrap_or, if◌then◌else◌}
 use Rattle.std.specs.List.{range_with_len}
 use Rattle.std.specs.Option.{option_and_then, option_map}
 use Rattle.usb_base.specs.declared.packets.Ask.{Ask}

@@ -3,7 +3,7 @@
 --     Bus                        what changes: devices, hubs, the numbers of the next packets on both buses, the number of the microframe
 --     begin_after, is_allowed    what the beginning of a microframe leaves, and whether the bus may be used in it
 --     reply_of, transact_after   what the host hears in a transaction, and what that leaves
-use Rattle.std.specs.Prelude.{◌≡◌, ℕ, ◌+◌, ◌-◌, ◌%◌, ◌==◌, not, Bool, true, false, List, map, position, length, replicate, Option, Some, None, slice_get, slice_set, if◌then◌else◌}
+use Rattle.std.specs.Prelude.{ℕ, ◌%◌, ◌==◌, not, Bool, true, false, List, map, position, length, replicate, Option, Some, None, slice_get, slice_set, if◌then◌else◌}
 use Rattle.std.specs.Option.{option_and_then, option_map, option_map_or}
 use Rattle.usb_base.specs.declared.packets.Ask.{Ask}
 use Rattle.usb_base.specs.declared.packets.Reply.{Reply}

@@ -6,3 +6,4 @@ pub mod Fates
 pub mod Samples
 pub mod Seats
 pub mod WhoHeard
+pub mod Told

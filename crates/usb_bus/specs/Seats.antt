@@ -1,6 +1,5 @@
 -- The endpoints of a bus, whose each is, and which of them an ask is for.
 use Rattle.std.specs.Prelude.{ℕ, ◌+◌, ◌/◌, ◌%◌, ◌==◌, ◌&&◌, ◌≡◌, ◌<◌, length, slice_get, Some, None, Bool, true, false, List, [], ◌++◌, ◌∷◌, map, Option, position, find, filter_map, if◌then◌else◌}
-use Rattle.usb_base.specs.declared.endpoints.EpDesc.{EpDesc}
 use Rattle.usb_base.specs.declared.endpoints.EpName.{EpName}
 use Rattle.usb_base.specs.declared.packets.EpKind.TheVariants.{Control}
 use Rattle.usb_base.specs.declared.packets.Pid.{Pid}

@@ -59,6 +59,15 @@ asker_hears AnswerHeard answer = answer
 asker_hears AckUnheard answer = answer
 asker_hears AckHeard answer = answer
 
+-- the answer that was sent, heard or not: none to what was unheard
+abbrev pub answer_sent : WhoHeard → Reply → Reply
+answer_sent SentUnheard answer = Silent
+answer_sent NoAnswer answer = answer
+answer_sent AnswerUnheard answer = answer
+answer_sent AnswerHeard answer = answer
+answer_sent AckUnheard answer = answer
+answer_sent AckHeard answer = answer
+
 -- a packet came in answer
 abbrev pub is_answer : Reply → Bool
 is_answer Silent = false

@@ -5,7 +5,7 @@ ghost use Rattle.usb_base.specs.declared.packets.Reply.TheVariants.{Silent};
 ghost use Rattle.endpoint_script.specs.Device.{answer_of, acked_by};
 ghost use Rattle.hub_class.specs.EndpointZero.{hub_reply, hub_acked};
 ghost use Rattle.hub_class.specs.Translating.{transact_reply};
-ghost use Rattle.usb_bus.specs.WhoHeard.{who_heard, is_answer, asker_hears, left_by};
+ghost use Rattle.usb_bus.specs.WhoHeard.{who_heard, is_answer, answer_sent, left_by};
 ghost use Rattle.usb_bus.specs.Asking.{row_for, device_after, hub_after, translator_after, device_answer, hub_answer, translator_answer, changed_at};
 
 use crate::asked::Losses;
@@ -15,8 +15,10 @@ use hub_class::Hub;
 use usb_base::{Ask, Reply};
 
 /// Who heard what, where what was sent was heard and this is the answer.
+#[tactic(auto, using(crate::proofs::Sent::was_sent))]
 fn heard(losses: &Losses, ask: &Ask, answer: &Reply) -> WhoHeard
-    ensures { result ≡ who_heard false (is_answer answer.now) losses.now.answer (acknowledges ask.now answer.now) losses.now.acknowledgement }
+    ensures row { result ≡ who_heard false (is_answer answer.now) losses.now.answer (acknowledges ask.now answer.now) losses.now.acknowledgement }
+    ensures sent { answer.now ≡ answer_sent result answer.now }
 {
     WhoHeard::of_heard(
         answers(answer),
@@ -29,7 +31,7 @@ fn heard(losses: &Losses, ask: &Ask, answer: &Reply) -> WhoHeard
 /// Asks nobody.
 pub fn ask_nobody(ask: &Ask, losses: &Losses, reply: &mut Reply) -> WhoHeard
     ensures row { result ≡ row_for losses.now ask.now Silent }
-    ensures reply { reply.new ≡ asker_hears result Silent }
+    ensures reply { reply.new ≡ answer_sent result Silent }
 {
     *reply = Reply::Silent;
     if losses.sent {
@@ -57,7 +59,7 @@ fn acknowledge_hub(row: WhoHeard, hub: &mut Hub, ask: &Ask)
     }
 }
 
-/// Asks a device.
+/// Asks a device; `reply` becomes the answer that it sent, heard or not.
 fn ask_device(
     device: &mut Device,
     ask: &Ask,
@@ -67,7 +69,7 @@ fn ask_device(
 ) -> WhoHeard
     requires { length out.now ≤ 1024 }
     ensures row { result ≡ row_for losses.now ask.now (answer_of device.old ask.now out.now) }
-    ensures reply { reply.new ≡ asker_hears result (answer_of device.old ask.now out.now) }
+    ensures reply { reply.new ≡ answer_sent result (answer_of device.old ask.now out.now) }
     ensures device { device.new ≡ device_after result ask.now out.now device.old }
 {
     if losses.sent {
@@ -77,15 +79,14 @@ fn ask_device(
     *reply = device.answer(ask, out);
     let row = heard(losses, ask, reply);
     acknowledge_device(row, device, ask);
-    row.let_hear(reply);
     row
 }
 
-/// Asks endpoint 0 of a hub.
+/// Asks endpoint 0 of a hub; `reply` becomes the answer that it sent, heard or not.
 fn ask_hub(hub: &mut Hub, ask: &Ask, out: &[u8], losses: &Losses, reply: &mut Reply) -> WhoHeard
     requires { length out.now ≤ 1024 }
     ensures row { result ≡ row_for losses.now ask.now (hub_reply ask.now out.now hub.old) }
-    ensures reply { reply.new ≡ asker_hears result (hub_reply ask.now out.now hub.old) }
+    ensures reply { reply.new ≡ answer_sent result (hub_reply ask.now out.now hub.old) }
     ensures hub { hub.new ≡ hub_after result ask.now out.now hub.old }
 {
     if losses.sent {
@@ -95,11 +96,10 @@ fn ask_hub(hub: &mut Hub, ask: &Ask, out: &[u8], losses: &Losses, reply: &mut Re
     *reply = hub.answer(ask, out);
     let row = heard(losses, ask, reply);
     acknowledge_hub(row, hub, ask);
-    row.let_hear(reply);
     row
 }
 
-/// Asks the translator of a hub.
+/// Asks the translator of a hub; `reply` becomes the answer that it sent, heard or not.
 fn ask_translator(
     hub: &mut Hub,
     ask: &Ask,
@@ -109,7 +109,7 @@ fn ask_translator(
 ) -> WhoHeard
     requires { length out.now ≤ 1024 }
     ensures row { result ≡ row_for losses.now ask.now (transact_reply ask.now hub.old) }
-    ensures reply { reply.new ≡ asker_hears result (transact_reply ask.now hub.old) }
+    ensures reply { reply.new ≡ answer_sent result (transact_reply ask.now hub.old) }
     ensures hub { hub.new ≡ translator_after result ask.now out.now hub.old }
 {
     if losses.sent {
@@ -117,9 +117,7 @@ fn ask_translator(
         return WhoHeard::SentUnheard;
     }
     *reply = hub.transact(ask, out);
-    let row = heard(losses, ask, reply);
-    row.let_hear(reply);
-    row
+    heard(losses, ask, reply)
 }
 
 /// Asks the device at a place.
@@ -133,7 +131,7 @@ pub fn ask_device_at(
 ) -> WhoHeard
     requires { length out.now ≤ 1024 }
     ensures row { result ≡ row_for losses.now ask.now (device_answer (slice_get devices.old place) ask.now out.now) }
-    ensures reply { reply.new ≡ asker_hears result (device_answer (slice_get devices.old place) ask.now out.now) }
+    ensures reply { reply.new ≡ answer_sent result (device_answer (slice_get devices.old place) ask.now out.now) }
     ensures devices { devices.new ≡ changed_at place (device_after result ask.now out.now) devices.old }
 {
     if place >= devices.len() {
@@ -153,7 +151,7 @@ pub fn ask_hub_at(
 ) -> WhoHeard
     requires { length out.now ≤ 1024 }
     ensures row { result ≡ row_for losses.now ask.now (hub_answer (slice_get hubs.old place) ask.now out.now) }
-    ensures reply { reply.new ≡ asker_hears result (hub_answer (slice_get hubs.old place) ask.now out.now) }
+    ensures reply { reply.new ≡ answer_sent result (hub_answer (slice_get hubs.old place) ask.now out.now) }
     ensures hubs { hubs.new ≡ changed_at place (hub_after result ask.now out.now) hubs.old }
 {
     if place >= hubs.len() {
@@ -173,7 +171,7 @@ pub fn ask_translator_at(
 ) -> WhoHeard
     requires { length out.now ≤ 1024 }
     ensures row { result ≡ row_for losses.now ask.now (translator_answer (slice_get hubs.old place) ask.now) }
-    ensures reply { reply.new ≡ asker_hears result (translator_answer (slice_get hubs.old place) ask.now) }
+    ensures reply { reply.new ≡ answer_sent result (translator_answer (slice_get hubs.old place) ask.now) }
     ensures hubs { hubs.new ≡ changed_at place (translator_after result ask.now out.now) hubs.old }
 {
     if place >= hubs.len() {

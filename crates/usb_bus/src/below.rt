@@ -6,7 +6,7 @@ ghost use Rattle.usb_bus.specs.Asking.{row_for, device_after, device_answer, cha
 ghost use Rattle.usb_bus.specs.Below.{below_at, enabled_ports, hears_at, asked_below_at, asked_below, floor_answer, devices_after, below_reply_at, below_after_at, below_reply, below_after};
 ghost use Rattle.usb_bus.specs.Bus.{begins_anew, begun_at};
 ghost use Rattle.usb_bus.specs.Fixed.{IsSeated};
-ghost use Rattle.usb_bus.specs.WhoHeard.{asker_hears};
+ghost use Rattle.usb_bus.specs.WhoHeard.{answer_sent};
 
 use crate::asked::{Answerer, Asked, Losses};
 use crate::asking::{ask_device_at, ask_nobody};
@@ -118,6 +118,13 @@ impl BelowHub {
         &self.fixed
     }
 
+    /// The number of the next packet of the endpoint at a place; None exactly where there is no such place.
+    pub fn next(&self, place: usize) -> Option<u64>
+        ensures { result ≡ slice_get self.now.floor.numbers place }
+    {
+        self.numbers.get(place).copied()
+    }
+
     /// The devices.
     pub fn devices(&self) -> &[Device]
         ensures { result.now ≡ self.now.floor.devices }
@@ -140,7 +147,7 @@ impl BelowHub {
         begin_devices(self.devices.as_mut_slice(), frindex);
     }
 
-    /// Asks the device at a place.
+    /// Asks the device at a place; `reply` becomes the answer that it sent, heard or not.
     pub fn ask_device(
         &mut self,
         place: usize,
@@ -151,7 +158,7 @@ impl BelowHub {
     ) -> WhoHeard
         requires { length out.now ≤ 1024 }
         ensures row { result ≡ row_for losses.now ask.now (device_answer (slice_get self.old.floor.devices place) ask.now out.now) }
-        ensures reply { reply.new ≡ asker_hears result (device_answer (slice_get self.old.floor.devices place) ask.now out.now) }
+        ensures reply { reply.new ≡ answer_sent result (device_answer (slice_get self.old.floor.devices place) ask.now out.now) }
         ensures after { self.new ≡ record self.old { floor = record self.old.floor { devices = changed_at place (device_after result ask.now out.now) self.old.floor.devices } } }
     {
         ask_device_at(self.devices.as_mut_slice(), place, ask, out, losses, reply)
@@ -212,7 +219,7 @@ impl BelowHub {
         }
     }
 
-    /// Asks whoever hears it.
+    /// Asks whoever hears it; `reply` becomes the answer that was sent, heard or not.
     fn ask(
         &mut self,
         who: Answerer,
@@ -223,7 +230,7 @@ impl BelowHub {
     ) -> WhoHeard
         requires { length out.now ≤ 1024 }
         ensures row { result ≡ row_for losses.now ask.now (floor_answer self.old.floor who ask.now out.now) }
-        ensures reply { reply.new ≡ asker_hears result (floor_answer self.old.floor who ask.now out.now) }
+        ensures reply { reply.new ≡ answer_sent result (floor_answer self.old.floor who ask.now out.now) }
         ensures after { self.new ≡ record self.old { floor = record self.old.floor { devices = devices_after result who ask.now out.now self.old.floor.devices } } }
     {
         match who {
@@ -244,6 +251,7 @@ impl BelowHub {
     }
 
     /// Asks an endpoint.
+    #[tactic(auto, using(crate::proofs::Sent::hears_sent))]
     fn transact_at(&mut self, asked: &Asked, ask: &Ask, out: &[u8], reply: &mut Reply)
         requires sent { length out.now ≤ 1024 }
         requires seated { IsSeated self.old.fixed.seats asked.now }
@@ -254,6 +262,7 @@ impl BelowHub {
         let losses = self.fixed.losses(true, asked, sent);
         let row = self.ask(asked.who, ask, out, &losses, reply);
         self.count(asked.place, steps_later(asked.packet, row.packets(sent)));
+        row.let_hear(reply);
     }
 }
 

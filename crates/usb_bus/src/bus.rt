@@ -7,7 +7,8 @@ ghost use Rattle.usb_bus.specs.Asking.{row_for};
 ghost use Rattle.usb_bus.specs.Below.{below_at, hub_worked_at, floor_left, hubs_worked, floor_worked};
 ghost use Rattle.usb_bus.specs.Bus.{hears_split, hears, asked_at, asked_of, answer_by, changed_by, begin_after, is_allowed, reply_at, after_at, reply_of, transact_after, opening_wired};
 ghost use Rattle.usb_bus.specs.Fixed.{IsSeated};
-ghost use Rattle.usb_bus.specs.WhoHeard.{asker_hears};
+ghost use Rattle.usb_bus.specs.WhoHeard.{answer_sent};
+ghost use Rattle.usb_bus.specs.Told.{told_at, told_of, answer_told};
 
 use crate::asked::{Answerer, Asked, Losses};
 use crate::asking::{ask_hub_at, ask_nobody, ask_translator_at};
@@ -15,6 +16,7 @@ use crate::below::BelowHub;
 use crate::build::{devices_of, hubs_of};
 use crate::fixed::FixedBus;
 use crate::seats::{Owner, Seat};
+use crate::told::Told;
 use crate::who_heard::{WhoHeard, sent_before_answer, steps_later};
 use endpoint_script::Device;
 use hub_class::Hub;
@@ -125,6 +127,13 @@ impl UsbBus {
             .find(|hub| hub.address().get() == addr.get())
     }
 
+    /// The number of the next packet below a translator of the endpoint at a place, from 0; None exactly where there is no such place.
+    pub fn next_below(&self, place: usize) -> Option<u64>
+        ensures { result ≡ slice_get self.now.bus.below place }
+    {
+        self.below.next(place)
+    }
+
     /// The translator of the hub with this address.
     fn translator(&self, addr: DevAddr) -> Answerer
         ensures { result ≡ hears_split self.now.bus.hubs addr }
@@ -184,7 +193,7 @@ impl UsbBus {
 }
 
 impl UsbBus {
-    /// Asks whoever hears it.
+    /// Asks whoever hears it; `reply` becomes the answer that was sent, heard or not.
     fn ask(
         &mut self,
         who: Answerer,
@@ -195,7 +204,7 @@ impl UsbBus {
     ) -> WhoHeard
         requires { length out.now ≤ 1024 }
         ensures row { result ≡ row_for losses.now ask.now (answer_by self.old.bus who ask.now out.now) }
-        ensures reply { reply.new ≡ asker_hears result (answer_by self.old.bus who ask.now out.now) }
+        ensures reply { reply.new ≡ answer_sent result (answer_by self.old.bus who ask.now out.now) }
         ensures after { self.new ≡ record self.old { bus = changed_by result who ask.now out.now self.old.bus } }
     {
         match who {
@@ -220,16 +229,39 @@ impl UsbBus {
     }
 
     /// Asks an endpoint.
-    fn transact_at(&mut self, asked: &Asked, ask: &Ask, out: &[u8], reply: &mut Reply)
+    fn transact_at(&mut self, asked: &Asked, ask: &Ask, out: &[u8], reply: &mut Reply) -> Told
         requires sent { length out.now ≤ 1024 }
         requires seated { IsSeated self.old.fixed.seats asked.now }
-        ensures reply { reply.new ≡ reply_at self.old.fixed self.old.bus ask.now out.now (Some asked.now) }
+        ensures told { result ≡ told_at self.old.fixed self.old.bus ask.now out.now asked.now }
+        ensures reply { reply.new ≡ answer_sent result.row (answer_by self.old.bus asked.now.who ask.now out.now) }
         ensures after { self.new ≡ record self.old { bus = after_at self.old.fixed self.old.bus ask.now out.now (Some asked.now) } }
     {
         let sent = sent_before_answer(ask);
         let losses = self.below.fixed().losses(false, asked, sent);
         let row = self.ask(asked.who, ask, out, &losses, reply);
         self.count(asked.place, steps_later(asked.packet, row.packets(sent)));
+        Told {
+            asked: *asked,
+            losses,
+            row,
+        }
+    }
+
+    /// Makes one transaction that sends `out`, at most 1,024 bytes, as the wire does, and tells what went over the high-speed bus. `answer`
+    /// becomes what was answered, whether the asker heard it or not: nothing where what it sent was unheard. None: it asked for no endpoint.
+    pub fn transact_told(&mut self, ask: &Ask, out: &[u8], answer: &mut Reply) -> Option<Told>
+        requires { length out.now ≤ 1024 }
+        ensures told { result ≡ told_of self.old.fixed self.old.bus ask.now out.now }
+        ensures answer { answer.new ≡ answer_told self.old.fixed self.old.bus ask.now out.now }
+        ensures after { self.new ≡ record self.old { bus = transact_after self.old.fixed self.old.bus ask.now out.now } }
+    {
+        match self.asked(ask) {
+            Some(asked) => Some(self.transact_at(&asked, ask, out, answer)),
+            None => {
+                *answer = Reply::Silent;
+                None
+            }
+        }
     }
 }
 
@@ -245,9 +277,13 @@ impl Wire for UsbBus {
         !self.below.fixed().holds_back(self.microframe)
     }
 
+    #[tactic(auto, using(crate::proofs::Sent::hears_sent))]
     fn transact(&mut self, ask: &Ask, out: &[u8], reply: &mut Reply) {
         match self.asked(ask) {
-            Some(asked) => self.transact_at(&asked, ask, out, reply),
+            Some(asked) => {
+                let told = self.transact_at(&asked, ask, out, reply);
+                told.row.let_hear(reply);
+            }
             None => *reply = Reply::Silent,
         }
     }

@@ -15,10 +15,12 @@ mod fixed;
 mod numbers;
 mod places;
 mod seats;
+mod told;
 mod who_heard;
 pub mod worked;
 
 pub use asked::{Answerer, Asked, Losses};
 pub use bus::UsbBus;
 pub use seats::{Owner, Seat, TokenKind};
+pub use told::Told;
 pub use who_heard::WhoHeard;

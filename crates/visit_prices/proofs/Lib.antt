@@ -5,3 +5,4 @@ pub mod Itds
 pub mod Joined
 pub mod Times
 pub mod Written
+pub mod Fetched

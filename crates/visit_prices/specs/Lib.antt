@@ -1,3 +1,4 @@
 pub mod Prices
 pub mod Spent
 pub mod Time
+pub mod Fetched

@@ -24,7 +24,10 @@ ghost use Rattle.periodic_rows.specs.Descriptors.{new_itd};
 ghost use Rattle.driver_rows.specs.Words.{interrupt_head};
 ghost use Rattle.visit_prices.specs.Spent.{IsHeadOf, IsItdOf, placed_as};
 ghost use Rattle.visit_prices.specs.Spent.{MeetsHead, MeetsDescriptor, ComesAfter, visit_from, Visit, IsVisit, AreOfPlaced, total, spent};
-ghost use Rattle.visit_prices.specs.Prices.{prices};
+ghost use Rattle.visit_prices.specs.Prices.{after, prices};
+ghost use Rattle.qh_qtd.specs.declared.queue_head.Qh.{Qh as Head};
+ghost use Rattle.itd_sitd.specs.declared.itd.Itd.{Itd as Descriptor};
+ghost use Rattle.visit_prices.specs.Fetched.{queue_copy, itd_copy, FetchesHead, FetchesDescriptor};
 ghost use Rattle.visit_prices.specs.Time.{late_in, ending};
 
 /// A visit to the queue head of a placed high-speed interrupt endpoint, from its fetch on, in a frame of the placement.
@@ -82,4 +85,14 @@ pub fn written_heads_are_of_their_placement()
 #[tactic(auto, using(crate::proofs::Written::written_itd))]
 pub fn written_descriptors_are_of_their_placement()
     ensures { (e slot : ℕ) (runs : List ℕ) (x : EpDesc) (p : Placement) → x.speed ≡ High → x.kind ≡ Iso → IsItdOf (placed_as e x p) (new_itd x p.smask slot runs) }
+{}
+
+/// A fetch of its queue head begins such a visit.
+pub fn fetches_of_queue_heads_begin_visits()
+    ensures { (x : Placed) (p : Place) (a : ℕ) (q : Head) (r : Reply) → FetchesHead x p a q → MeetsHead x (after p r) (queue_copy a q) }
+{}
+
+/// So does one of its descriptor.
+pub fn fetches_of_descriptors_begin_visits()
+    ensures { (x : Placed) (p : Place) (a : ℕ) (v : Descriptor) (r : Reply) → FetchesDescriptor x p a v → MeetsDescriptor x (after p r) (itd_copy p a v) }
 {}

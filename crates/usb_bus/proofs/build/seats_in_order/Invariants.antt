@@ -1,4 +1,4 @@
-use Rattle.std.proofs.Common.{◌≡◌, ◌+◌, ◌≤◌, ◌++◌, length, drop}
+use Rattle.std.proofs.Common.{◌≡◌, ◌++◌, drop}
 use Rattle.std.specs.Prelude.{filter_map}
 use Rattle.usb_bus.specs.Seats.{seat_named}
 use Rattle.usb_bus.proofs.build.seats_in_order.Given as goal

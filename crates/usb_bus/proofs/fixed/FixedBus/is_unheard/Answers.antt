@@ -1,4 +1,4 @@
-use Rattle.std.proofs.Common.{◌==◌, ◌∙◌, ap, rules, refl, length}
+use Rattle.std.proofs.Common.{◌==◌, ◌∙◌, ap, rules, length}
 use Rattle.std.specs.List.{list_any}
 use Rattle.std.proofs.lemmas.Option.{slice_get_read, slice_get_past}
 use Rattle.usb_bus.proofs.Unheard.{numbers_tell, numbers_there}

@@ -1,0 +1,72 @@
+-- Which lines are left out.
+use Rattle.std.specs.Prelude.{ℕ, Bool, true, false, not, ◌&&◌, nat_le, List, [], Option, Some, None, if◌then◌else◌}
+use Rattle.std.specs.List.{list_any}
+use Rattle.usb_base.specs.declared.endpoints.EpName.{EpName}
+use Rattle.usb_bus.specs.Fates.{is_same_name}
+use Rattle.hc_core.specs.declared.controller.HcStep.{HcStep}
+use Rattle.hc_core.specs.declared.controller.HcStep.TheVariants as steps
+use Rattle.driver_rows.specs.declared.rows.DriverStep.{DriverStep}
+use Rattle.driver_rows.specs.declared.rows.DriverStep.TheVariants as turns
+use Rattle.trace_lines.specs.declared.exchanges.Exchange.{Exchange}
+use Rattle.trace_lines.specs.declared.entries.Work.{Work}
+use Rattle.trace_lines.specs.declared.entries.Happening.{Happening}
+use Rattle.trace_lines.specs.declared.entries.Happening.TheVariants.{Began, Controller, Driver, Offered}
+use Rattle.trace_lines.specs.Lines.{entry_line}
+use Rattle.event_trace.specs.declared.choice.Choice.{Choice}
+use Rattle.event_trace.specs.Watched.{Told}
+
+-- an event of the controller that moves nothing
+abbrev pub is_idle : HcStep → Bool
+is_idle steps.Begin = true
+is_idle steps.Fetch = true
+is_idle steps.Advance = false
+is_idle steps.Transact = false
+is_idle steps.WriteBack = false
+is_idle steps.Skip = true
+is_idle steps.End = true
+is_idle steps.Idle = true
+
+-- an event of the driver that moves nothing
+abbrev pub is_rest : DriverStep → Bool
+is_rest turns.Lend = false
+is_rest turns.Store = false
+is_rest turns.Register = true
+is_rest turns.Harvest = false
+is_rest turns.Release = false
+is_rest turns.Rest = true
+
+-- it is left out where only what moves something is wanted
+abbrev pub is_quiet : Happening → List Work → Bool
+is_quiet (Began allowed) [] = allowed
+is_quiet (Began allowed) works = false
+is_quiet (Controller step at exchange price left) works = is_idle step
+is_quiet (Driver step stored) works = is_rest step
+is_quiet (Offered line refused) works = false
+
+abbrev pub is_exchange_of : EpName → Option Exchange → Bool
+is_exchange_of name None = false
+is_exchange_of name (Some x) = is_same_name x.told.asked.name name
+
+-- work of this endpoint
+unfoldable pub is_work_of : EpName → Work → Bool
+is_work_of name w = is_same_name w.name name
+
+-- a transaction of this endpoint, or a Begin after which there is work of it below
+abbrev pub is_about : EpName → Happening → List Work → Bool
+is_about name (Began allowed) works = list_any (is_work_of name) works
+is_about name (Controller step at exchange price left) works = is_exchange_of name exchange
+is_about name (Driver step stored) works = false
+is_about name (Offered line refused) works = false
+
+abbrev pub is_wanted : Option EpName → Happening → List Work → Bool
+is_wanted None h works = true
+is_wanted (Some name) h works = is_about name h works
+
+abbrev pub is_chosen : Choice → Told → Bool
+is_chosen c t =
+    nat_le c.from t.entry.microframe && (nat_le t.entry.microframe c.to
+    && (is_wanted c.endpoint t.entry.happening t.works && not (c.quiet && is_quiet t.entry.happening t.works)))
+
+-- its line, if it isn't left out
+abbrev pub chosen_line : Choice → Told → List ℕ
+chosen_line c t = if is_chosen c t then entry_line t.entry t.works else []

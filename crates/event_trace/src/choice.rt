@@ -1,0 +1,144 @@
+//! Which lines are left out.
+ghost use Rattle.std.specs.Prelude.{◌≡◌, ◌++◌, IfOk};
+ghost use Rattle.std.specs.List.{list_any};
+ghost use Rattle.trace_lines.specs.declared.entries.Happening.TheVariants.{Began};
+ghost use Rattle.usb_bus.specs.Fates.{is_same_way, is_same_name};
+ghost use Rattle.event_trace.specs.Chosen.{is_idle, is_rest, is_quiet, is_exchange_of, is_work_of, is_about, is_wanted, is_chosen, chosen_line};
+
+use driver_rows::DriverStep;
+use hc_core::HcStep;
+use trace_lines::{Entry, Exchange, Happening, Work, put_entry};
+use usb_base::{EpName, Memory, Way};
+
+/// Which lines are wanted.
+#[derive(Clone, Copy, Debug, PartialEq, Eq)]
+pub struct Choice {
+    /// Those of this endpoint alone: its transactions, and each Begin after which packets of it were below. None: all.
+    pub endpoint: Option<EpName>,
+    /// From this microframe on.
+    pub from: u32,
+    /// Up to this microframe.
+    pub to: u32,
+    /// Only events that move something.
+    pub quiet: bool,
+}
+
+fn are_same_ways(a: Way, b: Way) -> bool
+    ensures { result ≡ is_same_way a b }
+{
+    match (a, b) {
+        (Way::In, Way::In) | (Way::Out, Way::Out) | (Way::Ctl, Way::Ctl) => true,
+        _ => false,
+    }
+}
+
+fn are_same_names(a: &EpName, b: &EpName) -> bool
+    ensures { result ≡ is_same_name a.now b.now }
+{
+    a.addr.get() == b.addr.get() && a.num.get() == b.num.get() && are_same_ways(a.way, b.way)
+}
+
+fn is_idle(step: HcStep) -> bool
+    ensures { result ≡ is_idle step }
+{
+    match step {
+        HcStep::Begin | HcStep::Fetch | HcStep::Skip | HcStep::End | HcStep::Idle => true,
+        HcStep::Advance | HcStep::Transact | HcStep::WriteBack => false,
+    }
+}
+
+fn is_rest(step: DriverStep) -> bool
+    ensures { result ≡ is_rest step }
+{
+    match step {
+        DriverStep::Register | DriverStep::Rest => true,
+        DriverStep::Lend | DriverStep::Store | DriverStep::Harvest | DriverStep::Release => false,
+    }
+}
+
+fn is_quiet_begin(allowed: bool, works: &[Work]) -> bool
+    ensures { result ≡ is_quiet (Began allowed) works.now }
+{
+    match works {
+        [] => allowed,
+        _ => false,
+    }
+}
+
+/// Whether the event moves nothing.
+fn is_quiet(happening: &Happening, works: &[Work]) -> bool
+    ensures { result ≡ is_quiet happening.now works.now }
+{
+    match happening {
+        Happening::Began(allowed) => is_quiet_begin(*allowed, works),
+        Happening::Controller { step, .. } => is_idle(*step),
+        Happening::Driver { step, .. } => is_rest(*step),
+        Happening::Offered(_, _) => false,
+    }
+}
+
+fn is_exchange_of(name: &EpName, exchange: &Option<Exchange>) -> bool
+    ensures { result ≡ is_exchange_of name.now exchange.now }
+{
+    match exchange {
+        Some(x) => are_same_names(&x.told.asked.name, name),
+        None => false,
+    }
+}
+
+#[tactic(auto, unfolding(crate::specs::Chosen::is_work_of))]
+fn is_work_of(name: &EpName, work: &Work) -> bool
+    ensures { result ≡ is_work_of name.now work.now }
+{
+    are_same_names(&work.name, name)
+}
+
+fn has_work_of(name: &EpName, works: &[Work]) -> bool
+    ensures { result ≡ list_any (is_work_of name.now) works.now }
+{
+    works.iter().any(|work| is_work_of(name, work))
+}
+
+/// Whether the event is about this endpoint.
+fn is_about(name: &EpName, happening: &Happening, works: &[Work]) -> bool
+    ensures { result ≡ is_about name.now happening.now works.now }
+{
+    match happening {
+        Happening::Began(_) => has_work_of(name, works),
+        Happening::Controller { exchange, .. } => is_exchange_of(name, exchange),
+        Happening::Driver { .. } | Happening::Offered(_, _) => false,
+    }
+}
+
+fn is_wanted(endpoint: &Option<EpName>, happening: &Happening, works: &[Work]) -> bool
+    ensures { result ≡ is_wanted endpoint.now happening.now works.now }
+{
+    match endpoint {
+        Some(name) => is_about(name, happening, works),
+        None => true,
+    }
+}
+
+impl Choice {
+    ghost use Rattle.event_trace.specs.Watched.{Told};
+
+    /// Whether the line of an event or command is wanted.
+    fn is_chosen(&self, entry: &Entry, works: &[Work]) -> bool
+        ensures { result ≡ is_chosen self.now (record { entry = entry.now; works = works.now }) }
+    {
+        self.from <= entry.microframe
+            && entry.microframe <= self.to
+            && is_wanted(&self.endpoint, &entry.happening, works)
+            && !(self.quiet && is_quiet(&entry.happening, works))
+    }
+
+    /// Appends the line of an event or command, if it is wanted.
+    pub fn put(&self, text: &mut Vec<u8>, entry: &Entry, works: &[Work]) -> Result<(), Memory>
+        ensures { IfOk result (λ _. text.new.items ≡ text.old.items ++ chosen_line self.now (record { entry = entry.now; works = works.now })) }
+    {
+        if self.is_chosen(entry, works) {
+            return put_entry(text, entry, works);
+        }
+        Ok(())
+    }
+}

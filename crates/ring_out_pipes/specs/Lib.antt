@@ -1,0 +1,3 @@
+pub mod OutBus
+pub mod OutPipes
+pub mod Laws

@@ -1,0 +1,9 @@
+pub mod Outcomes
+pub mod Stages
+pub mod Given
+pub mod Moving
+pub mod Taking
+pub mod Writing
+pub mod Windows
+pub mod Telling
+pub mod Asking

@@ -1,0 +1,111 @@
+-- The qTD of the stage that waits is taken.
+use Rattle.std.proofs.Common.{◌≡◌, ℕ, ◌==◌, Bool, true, false, if◌then◌else◌, List, Some, ap, refl, sym, ◌∙◌}
+use Rattle.std.proofs.lemmas.Bool.{false≢true}
+use Rattle.link_words.specs.declared.kinds.QtdLink.TheVariants.{To}
+use Rattle.link_words.specs.Links.{qtd_link_of}
+use Rattle.qh_qtd.specs.declared.qtd.Qtd.{Qtd}
+use Rattle.qh_qtd.specs.declared.queue_head.Qh.{Qh}
+use Rattle.host_token.specs.HostToken.{host_at}
+use Rattle.lent_structures.specs.Structures.{QueueHead, Element, Buffer, Part, with_structure}
+use Rattle.lent_structures.proofs.Names.{with_there}
+use Rattle.queue_parts.specs.Alters.{Alters}
+use Rattle.queue_parts.specs.Sound.{buffer_name}
+use Rattle.queue_parts.proofs.Altering.{found_element, no_two, head_put}
+use Rattle.walk_copy.specs.Overlay.{advanced}
+use Rattle.walk_copy.specs.Planning.{host_in}
+use Rattle.walk_copy.specs.Visits.{next_pointer}
+use Rattle.report_streams.specs.Requests.{Request}
+use Rattle.request_windows.specs.Host.{Endpoint, Host, Stage, Setup, Data, Status, Done, Halted}
+use Rattle.request_calls.specs.Stages.{IsEndpoint}
+use Rattle.ring_requests.specs.Laid.{Places, place_at, HasBytes, IsStage, IsFresh}
+use Rattle.ring_requests.specs.Shown.{Works, Waits, Shows}
+use Rattle.ring_requests.specs.Shown.Shows.{works, waits, ends, halts}
+use Rattle.ring_requests.proofs.Stages.{comes_self, comes_later, to_same, stage_still, fresh_still}
+
+-- what an advance leaves of a queue head
+record IsTaken (q : Qh) (a : ℕ) (t : Qtd) (new : Qh) : Type 0 where
+  active : new.token.active ≡ t.token.active
+  current : new.current ≡ a
+  pid : new.token.pid ≡ t.token.pid
+  next : new.next ≡ t.next
+  alternate : new.alternate ≡ t.alternate
+  host : host_in new ≡ host_at (record t.token { toggle = if q.dtc then t.token.toggle else q.token.toggle; ping = if q.eps == 2 then q.token.ping else t.token.ping }) q.max
+
+is_taken : (q : Qh) (a : ℕ) (t : Qtd) → IsTaken q a t (advanced q a t)
+unfolding advanced
+is_taken q a t = record { active = refl; current = refl; pid = refl; next = refl; alternate = refl; host = refl }
+
+pub endpoint_taken : (e : Endpoint) (q : Qh) (a : ℕ) (t : Qtd) → IsEndpoint e q → IsEndpoint e (advanced q a t)
+unfolding advanced
+endpoint_taken e q a t is = record { toggles = is.toggles; high = is.high; address = is.address; number = is.number; packets = is.packets }
+
+-- the host's side that the qTD brings
+host_taken : (e : Endpoint) (q : Qh) (a : ℕ) (t : Qtd) → IsEndpoint e q → host_in (advanced q a t) ≡ host_at (record t.token { ping = q.token.ping }) e.max
+host_taken e q a t is =
+    (is_taken q a t).host
+    ∙ ap (λ (b : Bool). host_at (record t.token { toggle = if b then t.token.toggle else q.token.toggle; ping = if q.eps == 2 then q.token.ping else t.token.ping }) q.max) is.toggles
+    ∙ ap (λ (n : ℕ). host_at (record t.token { ping = if n == 2 then q.token.ping else t.token.ping }) q.max) is.high
+    ∙ ap (λ (m : ℕ). host_at (record t.token { ping = q.token.ping }) m) is.packets
+
+-- ---- where only the queue head changes
+
+module _ (part : Part) (n : ℕ) (old new : Qh) (here : part n ≡ Some (QueueHead old)) where
+  abbrev pub now : Part
+  now = with_structure part n (QueueHead new)
+
+  pub put_alters : Alters part now
+  put_alters = head_put part n old new here
+
+  pub element_there : (a : ℕ) (t : Qtd) → part a ≡ Some (Element t) → now a ≡ Some (Element t)
+  element_there a t there = with_there part n (QueueHead new) a (no_two part a n (Element t) (QueueHead old) there here (λ z. cc)) ∙ there
+
+  pub buffer_there : (a : ℕ) (pages : List ℕ) (k : ℕ) (bs : List ℕ) → part a ≡ Some (Buffer pages k bs) → now a ≡ Some (Buffer pages k bs)
+  buffer_there a pages k bs there = with_there part n (QueueHead new) a (no_two part a n (Buffer pages k bs) (QueueHead old) there here (λ z. cc)) ∙ there
+
+  pub bytes_there : (r : Request) (s : Stage) (t : Qtd) → HasBytes r part s t → HasBytes r now s t
+  bytes_there r Setup t has = buffer_there (buffer_name t) _ t.offset r.setup has
+  bytes_there r Data t has = λ off. buffer_there (buffer_name t) _ t.offset r.bytes (has off)
+  bytes_there r Status t has = tt
+  bytes_there r Done t has = tt
+  bytes_there r (Halted cause) t has = tt
+
+  pub fresh_there : (e : Endpoint) (r : Request) (x : Places) (s : Stage) → IsFresh e r x part s → IsFresh e r x now s
+  fresh_there e r x s k = fresh_still e r x part now s k put_alters (element_there (place_at x s) k.stage.qtd k.stage.here) (bytes_there r s k.stage.qtd)
+
+  abbrev pub stage_there : (e : Endpoint) (r : Request) (x : Places) (s : Stage) (k : IsStage e r x part s) → IsStage e r x now s
+  stage_there e r x s k = stage_still e r x part now s k put_alters (element_there (place_at x s) k.qtd k.here) (bytes_there r s k.qtd)
+
+  pub stage_there_qtd : (e : Endpoint) (r : Request) (x : Places) (s : Stage) (k : IsStage e r x part s) → (stage_there e r x s k).qtd ≡ k.qtd
+  stage_there_qtd e r x s k = refl
+
+-- ---- the qTD is taken
+
+module _ (e : Endpoint) (r : Request) (x : Places) (part : Part) (n : ℕ) (q : Qh) (h : Host) (here : part n ≡ Some (QueueHead q)) (is : IsEndpoint e q) (a : ℕ) (t : Qtd) (idle : q.token.active ≡ false) (goes_on : q.token.halted ≡ false) (leads : qtd_link_of (next_pointer q) ≡ To a) (there : part a ≡ Some (Element t)) (published : t.token.active ≡ true) where
+  abbrev new : Qh
+  new = advanced q a t
+
+  taken_works : (w : Waits e r x part (host_in q) q h) → Works e r x (with_structure part n (QueueHead (advanced q a t))) (host_in (advanced q a t)) (advanced q a t) h
+  taken_works w =
+      let f : IsFresh e r x part h.stage = w.fresh h.stage (comes_self r h.stage w.goes_on) in
+      let place : a ≡ place_at x h.stage = to_same a (place_at x h.stage) (sym leads ∙ w.leads) in
+      let same : t ≡ f.stage.qtd = found_element (part a) t f.stage.qtd there (ap part place ∙ f.stage.here) in
+      let v = is_taken q a t in
+      let k : IsStage e r x (with_structure part n (QueueHead new)) h.stage = stage_there part n q new here e r x h.stage f.stage in
+      let qtd : t ≡ k.qtd = same ∙ sym (stage_there_qtd part n q new here e r x h.stage f.stage) in
+      record {
+        goes_on = w.goes_on;
+        active = v.active ∙ published;
+        side_is = host_taken e q a t is ∙ ap (λ (u : Qtd). host_at (record u.token { ping = q.token.ping }) e.max) same ∙ f.begins q.token.ping ∙ sym w.side_is;
+        current = v.current ∙ place;
+        stage = k;
+        pid = v.pid ∙ ap (λ (u : Qtd). u.token.pid) qtd;
+        next = v.next ∙ ap (λ (u : Qtd). u.next) qtd;
+        alternate = v.alternate ∙ ap (λ (u : Qtd). u.alternate) qtd;
+        later = λ s on. fresh_there part n q new here e r x s (w.fresh s (comes_later r h.stage s w.goes_on on));
+      }
+
+  pub taken_shows : Shows e r x part (host_in q) q h → Shows e r x (with_structure part n (QueueHead (advanced q a t))) (host_in (advanced q a t)) (advanced q a t) h
+  taken_shows (works w) = absurd (false≢true (sym idle ∙ w.active))
+  taken_shows (waits w) = works (taken_works w)
+  taken_shows (ends w) = absurd (false≢true (sym (w.nowhere a t leads there) ∙ published))
+  taken_shows (halts w) = absurd (false≢true (sym goes_on ∙ w.halted))

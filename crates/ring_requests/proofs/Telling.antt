@@ -1,0 +1,106 @@
+-- A request that is laid out opens its window, and one whose status memory shows to be done was acted on exactly once.
+use Rattle.std.proofs.Common.{◌≡◌, ◌≢◌, ℕ, ◌==◌, Bool, true, false, if◌then◌else◌, List, Option, Some, ap, refl, sym, subst, ◌∙◌, ⊎_elim}
+use Rattle.std.proofs.lemmas.Bool.{cases_eq, false≢true}
+use Rattle.usb_base.specs.declared.packets.Reply.{Reply}
+use Rattle.qh_qtd.specs.declared.qtd.Qtd.{Qtd}
+use Rattle.qh_qtd.specs.declared.queue_head.Qh.{Qh}
+use Rattle.toggle_error.specs.declared.host.HostSide.{HostSide}
+use Rattle.walk_copy.specs.Planning.{host_in}
+use Rattle.lent_structures.specs.Structures.{QueueHead, Element, Part, Parts}
+use Rattle.lent_structures.proofs.Names.{not_same}
+use Rattle.queue_parts.specs.Sound.{IsWorking, IsSoundQueue, IsMember}
+use Rattle.queue_parts.proofs.Altering.{found_queue, found_element}
+use Rattle.ring_walk.specs.Hand.{Hand, Empty, Copied, Settled, Stale}
+use Rattle.ring_walk.specs.Ring.{IsInHand}
+use Rattle.ring_streams.specs.Told.{Told}
+use Rattle.control_stages.specs.Stages.{Stages}
+use Rattle.report_streams.specs.Requests.{Request}
+use Rattle.request_windows.specs.Host.{Host, Stage, Setup, Data, Status, Done, Halted, has_data, is_over, next_stage}
+use Rattle.request_windows.specs.Line.{Line, line_at}
+use Rattle.request_windows.specs.Windows.{IsRight}
+use Rattle.request_windows.proofs.Steps.{right, opens}
+use Rattle.request_calls.specs.Bus.{Device, device_of}
+use Rattle.ring_requests.specs.Laid.{place_at, comes}
+use Rattle.ring_requests.specs.Shown.{hand_side, IsPending, Works, Shows}
+use Rattle.ring_requests.specs.Shown.Shows.{works, waits, ends, halts}
+use Rattle.ring_requests.specs.Windows.{Sent, IsWindow, IsLaid, HasEnded, IsActedOnce}
+use Rattle.ring_requests.proofs.Moving.{fresh_pending}
+
+-- ---- a window opens
+
+pub laid_opens : (v : Sent) (hand : Hand) (parts : Parts) (n : ℕ) (q : Qh) (c : Stages) (o : Option Device) → IsLaid v hand parts n q → c.max ≡ v.endpoint.max → o ≡ Some (device_of v.endpoint c) → IsWindow v (line_at v.endpoint v.request q.token.ping c) hand parts n o
+laid_opens v hand parts n q c o k max device = record {
+  queue = q;
+  head = k.head;
+  control = k.control;
+  shown = subst (λ (s : HostSide). Shows v.endpoint v.request v.places (parts n) s q (line_at v.endpoint v.request q.token.ping c).host) (sym k.nothing_made)
+      (waits (record { goes_on = refl; idle = k.idle; side_is = refl; leads = k.leads; fresh = k.fresh; beside = λ on. absurd (false≢true (sym k.idle ∙ on)) }));
+  moved = k.none_told;
+  device = device;
+  stands = opens v.endpoint v.request q.token.ping c max;
+}
+
+-- ---- what memory tells
+
+-- the hand has the transaction of a queue head that is active in memory, or none of it
+either_side : (P : HostSide → Type 0) (member : ℕ → Bool) (hand : Hand) (parts : Parts) (reply : Reply) (n : ℕ) (q : Qh) → IsInHand member parts reply hand → parts n n ≡ Some (QueueHead q) → P (host_in q) → ((s : HostSide) → q.token.active ≡ true → P s) → P (hand_side hand n q)
+either_side P member Empty parts reply n q in_hand here as_told settled = as_told
+either_side P member (Copied c) parts reply n q in_hand here as_told settled = as_told
+either_side P member (Stale at old) parts reply n q in_hand here as_told settled = as_told
+either_side P member (Settled c z) parts reply n q in_hand here as_told settled =
+    ⊎_elim {C = P (if c.at == n then z.host else host_in q)}
+    (λ (same : c.at ≡ n).
+    let is : c.queue ≡ q = found_queue (parts n n) c.queue q (ap (λ (i : ℕ). parts i i) (sym same) ∙ in_hand.0.here) here in
+    settled (if c.at == n then z.host else host_in q) (ap (λ (x : Qh). x.token.active) (sym is) ∙ in_hand.1.works))
+    (λ (differs : c.at ≢ n). subst (λ (b : Bool). P (if b then z.host else host_in q)) (sym (not_same c.at n differs)) as_told) (cases_eq c.at n)
+
+not_pending : (part : Part) (a : ℕ) (t : Qtd) → part a ≡ Some (Element t) → t.token.active ≡ false → IsPending part a → ⊥
+not_pending part a t here off k = false≢true (sym off ∙ ap (λ (u : Qtd). u.token.active) (found_element (part a) t k.qtd here k.here) ∙ k.published)
+
+status_last : (r : Request) (s : Stage) → is_over s ≡ false → comes r s Status ≡ true
+status_last r Setup going = refl
+status_last r Data going = refl
+status_last r Status going = refl
+status_last r Done going = absurd (false≢true (sym going))
+status_last r (Halted cause) going = absurd (false≢true (sym going))
+
+status_after : (r : Request) (b : Bool) → comes r (if b then Data else Status) Status ≡ true
+status_after r true = refl
+status_after r false = refl
+
+module _ (member : ℕ → Bool) (parts : Parts) (hand : Hand) (reply : Reply) (n : ℕ) (m : IsMember member n (parts n)) (in_hand : IsInHand member parts reply hand) (v : Sent) (k : HasEnded v parts n) (h : Host) where
+  working : (q : Qh) → q ≡ k.queue → q.token.active ≡ true → IsPending (parts n) q.current
+  working q same on =
+      let is : m.queue ≡ q = found_queue (parts n n) m.queue k.queue m.here k.head ∙ sym same in
+      let w : IsWorking (parts n) q = (subst (IsSoundQueue (parts n)) is m.sound).work on in
+      record { qtd = w.element; here = w.here; published = w.published }
+
+  active_side : (hand_side hand n k.queue).active ≡ true → k.queue.token.active ≡ true
+  active_side = either_side (λ (s : HostSide). s.active ≡ true → k.queue.token.active ≡ true) member hand parts reply n k.queue in_hand k.head (λ on. on) (λ s on other. on)
+
+  none_pending : IsPending (parts n) v.places.status → ⊥
+  none_pending pending = not_pending (parts n) v.places.status k.qtd k.here k.ended pending
+
+  by_stage : (s : Stage) → h.stage ≡ s → is_over s ≡ false → Works v.endpoint v.request v.places (parts n) (hand_side hand n k.queue) k.queue h → ⊥
+  by_stage Status is going w = none_pending (subst (IsPending (parts n)) (w.current ∙ ap (place_at v.places) is) (working k.queue refl (active_side w.active)))
+  by_stage Setup is going w =
+      none_pending (fresh_pending v.endpoint v.request v.places (parts n) Status (w.later Status (ap (λ (s : Stage). comes v.request (next_stage v.request s) Status) is ∙ status_after v.request (has_data v.request))))
+  by_stage Data is going w = none_pending (fresh_pending v.endpoint v.request v.places (parts n) Status (w.later Status (ap (λ (s : Stage). comes v.request (next_stage v.request s) Status) is)))
+  by_stage Done is going w = false≢true (sym going)
+  by_stage (Halted cause) is going w = false≢true (sym going)
+
+  halted_side : (hand_side hand n k.queue).halted ≡ true → k.queue.token.active ≡ true
+  halted_side = either_side (λ (s : HostSide). s.halted ≡ true → k.queue.token.active ≡ true) member hand parts reply n k.queue in_hand k.head (λ on. absurd (false≢true (sym k.goes_on ∙ on))) (λ s on other. on)
+
+  stage_done : Shows v.endpoint v.request v.places (parts n) (hand_side hand n k.queue) k.queue h → h.stage ≡ Done
+  stage_done (works w) = absurd (by_stage h.stage refl w.goes_on w)
+  stage_done (waits w) = absurd (none_pending (fresh_pending v.endpoint v.request v.places (parts n) Status (w.fresh Status (status_last v.request h.stage w.goes_on))))
+  stage_done (ends w) = w.done
+  stage_done (halts w) = absurd (none_pending (w.pending (halted_side w.halted)))
+
+pub ended_once : (member : ℕ → Bool) (parts : Parts) (hand : Hand) (reply : Reply) (n : ℕ) (v : Sent) (l : Line) (o : Option Device) → IsMember member n (parts n) → IsInHand member parts reply hand → IsWindow v l hand parts n o → HasEnded v parts n → IsActedOnce v l hand parts n
+ended_once member parts hand reply n v l o m in_hand w k =
+    let same : w.queue ≡ k.queue = found_queue (parts n n) w.queue k.queue w.head k.head in
+    let done : l.host.stage ≡ Done = stage_done member parts hand reply n m in_hand v k l.host (subst (λ (q : Qh). Shows v.endpoint v.request v.places (parts n) (hand_side hand n q) q l.host) same w.shown) in
+    let is : IsRight v.endpoint v.request l = right v.endpoint v.request l w.stands in
+    record { acts = is.done_once done; told = λ some. subst (λ (xs : List ℕ). Told hand parts n v.places.data_at xs) (is.done_whole done) (w.moved some) }

@@ -1,0 +1,4 @@
+pub mod Laid
+pub mod Shown
+pub mod Windows
+pub mod Samples

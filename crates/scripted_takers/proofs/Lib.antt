@@ -1,0 +1,4 @@
+pub mod Taking
+pub mod Outs
+pub mod Asking
+pub mod Beginning

@@ -1,0 +1,35 @@
+-- The control requests of a world (EHCI 1.0, 4.6, 4.8 and 4.10; USB 2.0, 8.5.3): the controller runs over a ring, and the windows of these requests
+-- stand as they must to the devices of the bus.
+--     wired fixed w             the bus of a world, with what is fixed of it
+--     IsRequesting ..           the world is so
+--     HearsBytesNow fixed w     whatever is asked now, each byte that is heard is below 256
+--     StaysRequesting ..        an event leaves it so, with at most one transaction of one of the requests
+use Rattle.std.specs.Prelude.{ℕ, Bool, Option}
+use Rattle.usb_bus.specs.Bus.{Wired, Fixed}
+use Rattle.lent_structures.specs.Structures.{Parts}
+use Rattle.request_windows.specs.Line.{Line}
+use Rattle.ring_walk.specs.Hand.{Hand}
+use Rattle.ring_walk.specs.Ring.{Base}
+use Rattle.ring_walk.specs.Effects.{AreBytesHeard}
+use Rattle.ring_control.specs.Control.{IsOn, IsControlled}
+use Rattle.ring_requests.specs.Windows.{Sent, AreSent, AreWindows, Step, stepped}
+use Rattle.scripted_requests.specs.Controls.{control_of, transacts_by}
+use Rattle.bus_world.specs.World.{World, controller_parts}
+
+abbrev pub wired : Fixed → World → Wired
+wired fixed w = record { fixed = fixed; bus = w.bus }
+
+pub record IsRequesting (fixed : Fixed) (base : Base) (member windows : ℕ → Bool) (sent : ℕ → Sent) (parts : Parts) (hand : Hand) (lines : ℕ → Line) (w : World) : Type 0 where
+  pub on : IsOn base
+  pub are : AreSent member windows sent
+  pub controlled : IsControlled base member parts hand (controller_parts w)
+  pub all : AreWindows control_of member windows sent lines parts hand (wired fixed w)
+
+abbrev pub HearsBytesNow : Fixed → World → Type 0
+HearsBytesNow fixed w = (after : Wired) → AreBytesHeard transacts_by (wired fixed w) after
+
+pub record StaysRequesting (fixed : Fixed) (base : Base) (member windows : ℕ → Bool) (sent : ℕ → Sent) (lines : ℕ → Line) (new : World) : Type 0 where
+  pub parts : Parts
+  pub hand : Hand
+  pub step : Option Step
+  pub requesting : IsRequesting fixed base member windows sent parts hand (stepped sent step lines) new
