@@ -13,12 +13,12 @@ use Rattle.periodic_rows.specs.declared.content.Removed.TheVariants as removed
 use Rattle.periodic_rows.specs.Periodic.{is_periodic}
 use Rattle.driver_rows.specs.declared.content.Endpoint.{Endpoint}
 use Rattle.driver_rows.specs.declared.content.Reserve.{Reserve}
-use Rattle.driver_rows.specs.declared.rows.Row.{Row}
-use Rattle.driver_rows.specs.declared.rows.Row.TheVariants as rows
+use Rattle.driver_rows.specs.declared.rows.DriverRow.{DriverRow}
+use Rattle.driver_rows.specs.declared.rows.DriverRow.TheVariants as rows
 use Rattle.driver_rows.specs.DriverContent.{DriverContent}
 use Rattle.driver_rows.specs.Opening.{opening}
 use Rattle.driver_rows.specs.Offers.{Offered, IsOffered, offered}
-use Rattle.driver_rows.specs.Rows.{Parts, row_of, after_row}
+use Rattle.driver_rows.specs.Rows.{Parts, driver_row, after_driver_row}
 use Rattle.admission_laws.specs.Budgets.{Account, account_of, KeepsBudgets, taken_out, account_after}
 use Rattle.admission_laws.specs.Opens.{asked, OpenAfter}
 use Rattle.admission_laws.proofs.Events.{account_of_event}
@@ -68,7 +68,7 @@ out_kept a e (Some x) old = record {
   room = omega (arith, no_more (λ y. not (nat_eq y.want.id e)) a.plan.placed, old.room);
 }
 
-after_kept : (row : Row) (d : DriverContent) → KeepsBudgets (account_of d) → KeepsBudgets (account_after row d)
+after_kept : (row : DriverRow) (d : DriverContent) → KeepsBudgets (account_of d) → KeepsBudgets (account_after row d)
 after_kept rows.Lend d old = old
 after_kept (rows.Store b at v) d old = old
 after_kept (rows.Mend w) d old = old
@@ -86,5 +86,5 @@ after_kept (rows.ReleaseRemoved (removed.Endpoint e)) d old = out_kept (account_
 after_kept (rows.Harvest e t found) d old = old
 after_kept rows.Rest d old = old
 
-pub event_kept : (p : Parts) → KeepsBudgets (account_of p.driver) → KeepsBudgets (account_of (after_row (row_of p) p).driver)
-event_kept p old = subst KeepsBudgets (sym (account_of_event (row_of p) p)) (after_kept (row_of p) p.driver old)
+pub event_kept : (p : Parts) → KeepsBudgets (account_of p.driver) → KeepsBudgets (account_of (after_driver_row (driver_row p) p).driver)
+event_kept p old = subst KeepsBudgets (sym (account_of_event (driver_row p) p)) (after_kept (driver_row p) p.driver old)

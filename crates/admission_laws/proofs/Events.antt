@@ -15,13 +15,13 @@ use Rattle.driver_rows.specs.declared.content.Endpoint.{Endpoint}
 use Rattle.driver_rows.specs.declared.content.Transfer.{Transfer}
 use Rattle.driver_rows.specs.declared.content.Command.{Command}
 use Rattle.driver_rows.specs.declared.content.Command.TheVariants as unfinished
-use Rattle.driver_rows.specs.declared.rows.Row.{Row}
-use Rattle.driver_rows.specs.declared.rows.Row.TheVariants as rows
+use Rattle.driver_rows.specs.declared.rows.DriverRow.{DriverRow}
+use Rattle.driver_rows.specs.declared.rows.DriverRow.TheVariants as rows
 use Rattle.driver_rows.specs.declared.rows.Found.{Found}
 use Rattle.driver_rows.specs.declared.rows.Found.TheVariants as founds
 use Rattle.driver_rows.specs.DriverContent.{DriverContent, waits_for}
 use Rattle.driver_rows.specs.Harvests.{is_stall, noted, end_of}
-use Rattle.driver_rows.specs.Rows.{Parts, events_of, links, removes_members, no_command, leave_ring, leave_frames, finished, list_after, or_finished, linked_on, advanced_by, advance, framed_by, with_notes, framed_notes, placement_at, linked_by, after_row}
+use Rattle.driver_rows.specs.Rows.{Parts, events_of, links, removes_members, no_command, leave_ring, leave_frames, finished, list_after, or_finished, linked_on, advanced_by, advance, framed_by, with_notes, framed_notes, placement_at, linked_by, after_driver_row}
 use Rattle.driver_rows.specs.Rows.{after_transfer, is_told, cancel_told, after_endpoint, after_unlink, after_descriptor, after_placed, after_removed}
 use Rattle.driver_rows.specs.Rows.{told_with, behind_one, behind, stalled, after_end, harvested_as, served, after_harvest}
 use Rattle.admission_laws.specs.Budgets.{Account, account_of, taken_out, account_after}
@@ -150,7 +150,7 @@ harvested d m e t found (Some x) (Some y) =
 
 -- ---- any event
 
-pub account_of_event : (row : Row) (p : Parts) → account_of (after_row row p).driver ≡ account_after row p.driver
+pub account_of_event : (row : DriverRow) (p : Parts) → account_of (after_driver_row row p).driver ≡ account_after row p.driver
 account_of_event rows.Lend p = advanced (record p.driver { book = (lend_taken (holding p.driver.book p.memory)).book })
 account_of_event (rows.Store b at v) p = advanced p.driver
 account_of_event (rows.Mend w) p = refl

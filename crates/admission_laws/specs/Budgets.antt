@@ -9,8 +9,8 @@ use Rattle.bandwidth.specs.Sums.{Fits}
 use Rattle.bandwidth.specs.Admission.{Admissions, without}
 use Rattle.periodic_rows.specs.declared.content.Removed.TheVariants as removed
 use Rattle.driver_rows.specs.declared.content.Endpoint.{Endpoint}
-use Rattle.driver_rows.specs.declared.rows.Row.{Row}
-use Rattle.driver_rows.specs.declared.rows.Row.TheVariants as rows
+use Rattle.driver_rows.specs.declared.rows.DriverRow.{DriverRow}
+use Rattle.driver_rows.specs.declared.rows.DriverRow.TheVariants as rows
 use Rattle.driver_rows.specs.DriverContent.{DriverContent}
 
 pub record Account : Type 0 where
@@ -29,6 +29,6 @@ abbrev pub taken_out : Account → ℕ → Option Endpoint → Account
 taken_out a e None = a
 taken_out a e (Some x) = record a { plan = without a.plan e }
 
-abbrev pub account_after : Row → DriverContent → Account
+abbrev pub account_after : DriverRow → DriverContent → Account
 account_after (rows.ReleaseRemoved (removed.Endpoint e)) d = taken_out (account_of d) e (slice_get d.endpoints e)
 account_after _ d = account_of d

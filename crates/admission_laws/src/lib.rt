@@ -15,11 +15,11 @@ ghost use Rattle.usb_base.specs.declared.reports.OfferError.TheVariants.{NoPlace
 ghost use Rattle.word_mem.specs.Memory.{Mem};
 ghost use Rattle.periodic_rows.specs.Periodic.{is_periodic};
 ghost use Rattle.driver_rows.specs.declared.content.Reserve.{Reserve};
-ghost use Rattle.driver_rows.specs.declared.rows.Row.{Row};
+ghost use Rattle.driver_rows.specs.declared.rows.DriverRow.{DriverRow};
 ghost use Rattle.driver_rows.specs.DriverContent.{DriverContent};
 ghost use Rattle.driver_rows.specs.Offers.{Offered, IsOffered, offered};
 ghost use Rattle.driver_rows.specs.Opening.{opening};
-ghost use Rattle.driver_rows.specs.Rows.{Parts, row_of, after_row};
+ghost use Rattle.driver_rows.specs.Rows.{Parts, driver_row, after_driver_row};
 ghost use Rattle.admission_laws.specs.Budgets.{KeepsBudgets, account_of, account_after};
 ghost use Rattle.admission_laws.specs.Opens.{PassesBefore, IsPlaced, BreaksBudgets, AccountAfter};
 
@@ -38,7 +38,7 @@ pub fn commands_place_the_best()
 /// Each event leaves the plan as it was, but for the release of what a cancelled periodic endpoint had: that takes its placement out.
 #[tactic(auto, using(crate::proofs::Events::account_of_event))]
 pub fn events_take_out_what_left()
-    ensures { (row : Row) (p : Parts) → account_of (after_row row p).driver ≡ account_after row p.driver }
+    ensures { (row : DriverRow) (p : Parts) → account_of (after_driver_row row p).driver ≡ account_after row p.driver }
 {}
 
 /// A command that is accepted keeps the budgets.
@@ -49,7 +49,7 @@ pub fn commands_keep_budgets()
 
 /// Each event of the driver keeps the budgets.
 pub fn events_keep_budgets()
-    ensures { (p : Parts) → KeepsBudgets (account_of p.driver) → KeepsBudgets (account_of (after_row (row_of p) p).driver) }
+    ensures { (p : Parts) → KeepsBudgets (account_of p.driver) → KeepsBudgets (account_of (after_driver_row (driver_row p) p).driver) }
 {}
 
 /// A periodic endpoint that passes the checks before, and for which there is room, is refused for want of a placement exactly where each

@@ -14,15 +14,15 @@ use Rattle.walk_copy.specs.declared.held.Held.{Held}
 use Rattle.walk_copy.specs.declared.held.Visit.{Visit}
 use Rattle.walk_copy.specs.declared.held.Visit.TheVariants as visits
 use Rattle.walk_copy.specs.Visits.{visit_of}
-use Rattle.async_walk.specs.declared.rows.Row.TheVariants as rows
+use Rattle.async_walk.specs.declared.rows.WalkRow.TheVariants as rows
 use Rattle.async_walk.specs.Naks.{may_work, planned}
-use Rattle.async_walk.specs.Rows.{Place, fetch_row, ring_row, work_row, taken_row, take_row, visit_row, held_row, cursor_link, row_at, row_of}
+use Rattle.async_walk.specs.Rows.{WalkPlace, fetch_row, ring_row, work_row, taken_row, take_row, visit_row, held_row, cursor_link, row_at, walk_row}
 use Rattle.async_walk.specs.Causes.{LeadsTo, HeadIsQuiet, IsVisited, IsOutOfTime, HasTime, QueueIsBroken, Comes, QtdIsDone, IsSettled, Cause}
 use Rattle.async_walk.specs.Causes.Cause.{ring_is_broken, head_is_quiet, leads_to, is_resting, queue_ends, qtd_is_done, queue_is_broken, takes_qtd, is_out_of_time, has_time, is_settled}
 
 -- ---- each row has its cause
 
-module _ (p : Place) where
+module _ (p : WalkPlace) where
   fetch_cause : (at : ℕ) (q : Qh) (head reclamation : Bool) → LeadsTo p at q → q.head ≡ head → p.registers.reclamation ≡ reclamation → Cause p (if head && not reclamation then rows.HeadEnds else rows.Fetch at q)
   fetch_cause at q true false leads head_is quiet = head_is_quiet (record { at = at; queue_head = q; leads = leads; is_head = head_is; quiet = quiet })
   fetch_cause at q true true leads head_is quiet = leads_to at q leads
@@ -69,55 +69,55 @@ module _ (p : Place) where
   row_cause None held = ring_cause (cursor_link p.registers p.walk.cursor) held refl
   row_cause (Some h) held = copy_cause h h.settled held refl
 
-pub each_row_has_its_cause : (p : Place) → Cause p (row_of p)
+pub each_row_has_its_cause : (p : WalkPlace) → Cause p (walk_row p)
 each_row_has_its_cause p = row_cause p p.walk.held refl
 
 -- ---- each cause makes its row
 
-module _ (p : Place) where
-  ring_is : (link : Link) → p.walk.held ≡ None → cursor_link p.registers p.walk.cursor ≡ link → row_of p ≡ ring_row p.memory p.registers.reclamation link
+module _ (p : WalkPlace) where
+  ring_is : (link : Link) → p.walk.held ≡ None → cursor_link p.registers p.walk.cursor ≡ link → walk_row p ≡ ring_row p.memory p.registers.reclamation link
   ring_is link none leads = ap (row_at p) none ∙ ap (ring_row p.memory p.registers.reclamation) leads
 
-  pub broken_ring_row : (link : Link) → p.walk.held ≡ None → ((at : ℕ) → link ≡ links.Qh at → queue_head_at_address p.memory at ≡ None) → cursor_link p.registers p.walk.cursor ≡ link → row_of p ≡ rows.Fault
+  pub broken_ring_row : (link : Link) → p.walk.held ≡ None → ((at : ℕ) → link ≡ links.Qh at → queue_head_at_address p.memory at ≡ None) → cursor_link p.registers p.walk.cursor ≡ link → walk_row p ≡ rows.Fault
   broken_ring_row links.End none nothing leads = ring_is links.End none leads
   broken_ring_row (links.Itd b) none nothing leads = ring_is (links.Itd b) none leads
   broken_ring_row (links.Qh at) none nothing leads = ring_is (links.Qh at) none leads ∙ ap (fetch_row p.registers.reclamation at) (nothing at refl)
   broken_ring_row (links.Sitd b) none nothing leads = ring_is (links.Sitd b) none leads
   broken_ring_row (links.Fstn b) none nothing leads = ring_is (links.Fstn b) none leads
 
-  pub quiet_head_row : HeadIsQuiet p → row_of p ≡ rows.HeadEnds
+  pub quiet_head_row : HeadIsQuiet p → walk_row p ≡ rows.HeadEnds
   quiet_head_row h =
       ring_is (links.Qh h.at) h.leads.no_copy h.leads.leads_there
       ∙ ap (fetch_row p.registers.reclamation h.at) h.leads.stands_there
       ∙ ap (λ (b : Bool). if b && not p.registers.reclamation then rows.HeadEnds else rows.Fetch h.at h.queue_head) h.is_head
       ∙ ap (λ (b : Bool). if true && not b then rows.HeadEnds else rows.Fetch h.at h.queue_head) h.quiet
 
-  pub visited_row : (copy : Held) (visit : Visit) → IsVisited p copy visit → row_of p ≡ visit_row p.memory p.walk.left copy.queue_head visit
+  pub visited_row : (copy : Held) (visit : Visit) → IsVisited p copy visit → walk_row p ≡ visit_row p.memory p.walk.left copy.queue_head visit
   visited_row copy visit v =
       ap (row_at p) v.in_hand ∙ ap (held_row p.memory p.walk.left copy.queue_head) v.not_settled
       ∙ ap (visit_row p.memory p.walk.left copy.queue_head) v.visits
 
-  pub late_row : IsOutOfTime p → row_of p ≡ rows.OutOfTime
+  pub late_row : IsOutOfTime p → walk_row p ≡ rows.OutOfTime
   late_row h =
       visited_row h.copy visits.Work h.visited
       ∙ ap (λ (b : Bool). work_row b (planned h.copy.queue_head)) (lt-ltb p.walk.left (planned h.copy.queue_head).price.0 h.late)
 
-  pub timely_row : (copy : Held) → HasTime p copy → row_of p ≡ rows.Transact (planned copy.queue_head)
+  pub timely_row : (copy : Held) → HasTime p copy → walk_row p ≡ rows.Transact (planned copy.queue_head)
   timely_row copy h =
       visited_row copy visits.Work h.visited
       ∙ ap (λ (b : Bool). work_row b (planned copy.queue_head)) (le-ltb p.walk.left (planned copy.queue_head).price.0 h.in_time)
 
-  pub comes_row : (copy : Held) (at : ℕ) (qtd : Qtd) → Comes p copy at qtd → row_of p ≡ (if qtd.token.active then rows.Advance at qtd else rows.Skip)
+  pub comes_row : (copy : Held) (at : ℕ) (qtd : Qtd) → Comes p copy at qtd → walk_row p ≡ (if qtd.token.active then rows.Advance at qtd else rows.Skip)
   comes_row copy at qtd c = visited_row copy (visits.Take (qtd_links.To at)) c.visited ∙ ap (taken_row at) c.stands_there
 
-  pub broken_queue_row : QueueIsBroken p → row_of p ≡ rows.Fault
+  pub broken_queue_row : QueueIsBroken p → walk_row p ≡ rows.Fault
   broken_queue_row b = visited_row b.copy (visits.Take (qtd_links.To b.at)) b.visited ∙ ap (taken_row b.at) b.nothing_there
 
-  pub done_row : QtdIsDone p → row_of p ≡ rows.Skip
+  pub done_row : QtdIsDone p → walk_row p ≡ rows.Skip
   done_row d = comes_row d.copy d.at d.qtd d.comes ∙ ap (λ (b : Bool). if b then rows.Advance d.at d.qtd else rows.Skip) d.inactive
 
-  pub taking_row : (copy : Held) (at : ℕ) (qtd : Qtd) → Comes p copy at qtd → qtd.token.active ≡ true → row_of p ≡ rows.Advance at qtd
+  pub taking_row : (copy : Held) (at : ℕ) (qtd : Qtd) → Comes p copy at qtd → qtd.token.active ≡ true → walk_row p ≡ rows.Advance at qtd
   taking_row copy at qtd comes active = comes_row copy at qtd comes ∙ ap (λ (b : Bool). if b then rows.Advance at qtd else rows.Skip) active
 
-  pub settled_row : (copy : Held) (outcome : Outcome) → IsSettled p copy outcome → row_of p ≡ rows.WriteBack
+  pub settled_row : (copy : Held) (outcome : Outcome) → IsSettled p copy outcome → walk_row p ≡ rows.WriteBack
   settled_row copy outcome s = ap (row_at p) s.in_hand ∙ ap (held_row p.memory p.walk.left copy.queue_head) s.settled

@@ -12,13 +12,13 @@ use Rattle.toggle_error.specs.declared.host.Outcome.{Outcome}
 use Rattle.queue_words.specs.Structures.{reaches_queue_head, overlay_words}
 use Rattle.walk_copy.specs.declared.held.Held.{Held}
 use Rattle.walk_copy.specs.declared.held.Transaction.{Transaction}
-use Rattle.walk_copy.specs.Overlay.{pages_of, place_of, advanced, moved}
+use Rattle.walk_copy.specs.Overlay.{pages_of, buffer_place, advanced, moved}
 use Rattle.walk_copy.specs.Buffer.{Reading, Writing, size_of, placed, bytes_written, sending}
 use Rattle.walk_copy.specs.WriteBack.{moved_by, then_write, overlay_after, overlay_back, token_back, written_back}
-use Rattle.async_walk.specs.declared.rows.Row.{Row}
-use Rattle.async_walk.specs.declared.rows.Row.TheVariants as rows
+use Rattle.async_walk.specs.declared.rows.WalkRow.{WalkRow}
+use Rattle.async_walk.specs.declared.rows.WalkRow.TheVariants as rows
 use Rattle.async_walk.specs.Naks.{planned}
-use Rattle.async_walk.specs.Rows.{Place, faulted, took, wrote, wrote_place, wrote_settled, writing, SentAt, Sends, Leads, row_of, was_read, started, at_event, event_row}
+use Rattle.async_walk.specs.Rows.{WalkPlace, faulted, took, wrote, wrote_place, wrote_settled, writing, SentAt, Sends, Leads, walk_row, was_read, started, at_event, event_row}
 use Rattle.async_walk.specs.Causes.{Cause, AreRefusalsFaults}
 use Rattle.async_walk.specs.Causes.Cause.{ring_is_broken, head_is_quiet, leads_to, is_resting, queue_ends, qtd_is_done, queue_is_broken, takes_qtd, is_out_of_time, has_time, is_settled}
 use Rattle.async_walk.proofs.Causes.{each_row_has_its_cause}
@@ -66,12 +66,12 @@ pub written_counts : (a : ℕ) (q : Qh) (outcome : Outcome) (got : List ℕ) (m 
 unfolding written_back
 written_counts a q outcome got m all =
     let new : Qh = moved q (moved_by outcome) in
-    let bytes : Writing = bytes_written (pages_of q) (place_of q) got m in
+    let bytes : Writing = bytes_written (pages_of q) (buffer_place q) got m in
     let both : Writing = then_write bytes (overlay_back a new) in
     then_counts both.memory both.all (token_back new) m.foreign
     (λ made. then_counts bytes.memory bytes.all (overlay_back a new) m.foreign
-    (λ placed_all. stored_counts m (pages_of q) (place_of q) (placed (pages_of q) (place_of q) got)
-    (both_true (all_reached m (pages_of q) (place_of q) (length (placed (pages_of q) (place_of q) got))) (nat_le (place_of q + length got) (size_of (pages_of q))) placed_all).0)
+    (λ placed_all. stored_counts m (pages_of q) (buffer_place q) (placed (pages_of q) (buffer_place q) got)
+    (both_true (all_reached m (pages_of q) (buffer_place q) (length (placed (pages_of q) (buffer_place q) got))) (nat_le (buffer_place q + length got) (size_of (pages_of q))) placed_all).0)
     (λ w reach. overlay_counts w a new reach) made)
     (λ w reach. token_counts new w reach) all
 
@@ -86,46 +86,46 @@ reading_counts false reach m all = absurd cc
 
 pub sending_counts : (t : Transaction) (q : Qh) (m : Mem) → (sending t q m).all ≡ true → (sending t q m).memory.foreign ≡ m.foreign
 sending_counts t q m all =
-    reading_counts (nat_le (place_of q + t.bytes) (size_of (pages_of q))) (all_reached m (pages_of q) (place_of q) t.bytes) m all
+    reading_counts (nat_le (buffer_place q + t.bytes) (size_of (pages_of q))) (all_reached m (pages_of q) (buffer_place q) t.bytes) m all
 
 -- ---- each row
 
 -- the registers don't run, or no refusal was counted
-abbrev Halts : Place → ℕ → Type 0
+abbrev Halts : WalkPlace → ℕ → Type 0
 Halts new foreign = new.memory.foreign ≢ foreign → new.registers.run ≡ false
 
-same_halts : (new : Place) (foreign : ℕ) → new.memory.foreign ≡ foreign → Halts new foreign
+same_halts : (new : WalkPlace) (foreign : ℕ) → new.memory.foreign ≡ foreign → Halts new foreign
 same_halts new foreign same = λ other. absurd (other same)
 
-halts_if : (new expected : Place) (foreign : ℕ) → new ≡ expected → Halts expected foreign → Halts new foreign
-halts_if new expected foreign is halts = subst (λ (p : Place). Halts p foreign) (sym is) halts
+halts_if : (new expected : WalkPlace) (foreign : ℕ) → new ≡ expected → Halts expected foreign → Halts new foreign
+halts_if new expected foreign is halts = subst (λ (p : WalkPlace). Halts p foreign) (sym is) halts
 
 -- by whether all of it was done: else it is the fault
-took_halts : (b : Bool) (done stuck : Place) (foreign : ℕ) → (b ≡ true → done.memory.foreign ≡ foreign) → stuck.registers.run ≡ false → Halts (if b then done else stuck) foreign
+took_halts : (b : Bool) (done stuck : WalkPlace) (foreign : ℕ) → (b ≡ true → done.memory.foreign ≡ foreign) → stuck.registers.run ≡ false → Halts (if b then done else stuck) foreign
 took_halts true done stuck foreign same off = same_halts done foreign (same refl)
 took_halts false done stuck foreign same off = λ other. off
 
-wrote_halts : (b : Bool) (q : Qh) (outcome : Outcome) (p : Place) (foreign : ℕ) → (b ≡ true → p.memory.foreign ≡ foreign) → Halts (wrote_place b q outcome p) foreign
+wrote_halts : (b : Bool) (q : Qh) (outcome : Outcome) (p : WalkPlace) (foreign : ℕ) → (b ≡ true → p.memory.foreign ≡ foreign) → Halts (wrote_place b q outcome p) foreign
 wrote_halts true q outcome p foreign same = same_halts (wrote_place true q outcome p) foreign (same refl)
 wrote_halts false q outcome p foreign same = λ other. refl
 
-module _ {W : Type 0} (transacts : W → Ask → List ℕ → Reply → W → Type 0) (p new : Place) (before after : W) where
+module _ {W : Type 0} (transacts : W → Ask → List ℕ → Reply → W → Type 0) (p new : WalkPlace) (before after : W) where
   sent_halts : (b : Bool) (t : Transaction) (h : Held) (read : Reading) → (b ≡ true → read.memory.foreign ≡ p.memory.foreign) → SentAt transacts b t h read p before new after → Halts new p.memory.foreign
-  sent_halts true t h read same sent = same_halts new p.memory.foreign (ap (λ (x : Place). x.memory.foreign) sent.place ∙ same refl)
+  sent_halts true t h read same sent = same_halts new p.memory.foreign (ap (λ (x : WalkPlace). x.memory.foreign) sent.place ∙ same refl)
   sent_halts false t h read same sent = halts_if new (faulted (record p { memory = read.memory })) p.memory.foreign sent.0 (λ other. refl)
 
-  row_halts : (row : Row) → Cause p row → Leads transacts row p before new after → Halts new p.memory.foreign
+  row_halts : (row : WalkRow) → Cause p row → Leads transacts row p before new after → Halts new p.memory.foreign
   row_halts _ (ring_is_broken c) leads = halts_if new (faulted p) p.memory.foreign leads.0 (λ other. refl)
-  row_halts _ (head_is_quiet c) leads = same_halts new p.memory.foreign (ap (λ (x : Place). x.memory.foreign) leads.0)
-  row_halts _ (leads_to at q c) leads = same_halts new p.memory.foreign (ap (λ (x : Place). x.memory.foreign) leads.0)
-  row_halts _ (is_resting c) leads = same_halts new p.memory.foreign (ap (λ (x : Place). x.memory.foreign) leads.0)
-  row_halts _ (queue_ends c) leads = same_halts new p.memory.foreign (ap (λ (x : Place). x.memory.foreign) leads.0)
-  row_halts _ (qtd_is_done c) leads = same_halts new p.memory.foreign (ap (λ (x : Place). x.memory.foreign) leads.0)
+  row_halts _ (head_is_quiet c) leads = same_halts new p.memory.foreign (ap (λ (x : WalkPlace). x.memory.foreign) leads.0)
+  row_halts _ (leads_to at q c) leads = same_halts new p.memory.foreign (ap (λ (x : WalkPlace). x.memory.foreign) leads.0)
+  row_halts _ (is_resting c) leads = same_halts new p.memory.foreign (ap (λ (x : WalkPlace). x.memory.foreign) leads.0)
+  row_halts _ (queue_ends c) leads = same_halts new p.memory.foreign (ap (λ (x : WalkPlace). x.memory.foreign) leads.0)
+  row_halts _ (qtd_is_done c) leads = same_halts new p.memory.foreign (ap (λ (x : WalkPlace). x.memory.foreign) leads.0)
   row_halts _ (queue_is_broken c) leads = halts_if new (faulted p) p.memory.foreign leads.0 (λ other. refl)
   row_halts _ (takes_qtd at qtd c) leads =
       halts_if new (took at qtd p (Some c.copy)) p.memory.foreign (leads.0 ∙ ap (took at qtd p) c.comes.visited.in_hand)
       (took_halts (reaches_queue_head p.memory c.copy.at) _ _ p.memory.foreign (λ reach. overlay_counts p.memory c.copy.at (advanced c.copy.queue_head at qtd) reach) refl)
-  row_halts _ (is_out_of_time c) leads = same_halts new p.memory.foreign (ap (λ (x : Place). x.memory.foreign) leads.0)
+  row_halts _ (is_out_of_time c) leads = same_halts new p.memory.foreign (ap (λ (x : WalkPlace). x.memory.foreign) leads.0)
   row_halts _ (has_time copy c) leads =
       let t : Transaction = planned copy.queue_head in
       sent_halts (sending t copy.queue_head p.memory).all t copy (sending t copy.queue_head p.memory) (λ all. sending_counts t copy.queue_head p.memory all)
@@ -136,17 +136,17 @@ module _ {W : Type 0} (transacts : W → Ask → List ℕ → Reply → W → Ty
       (λ all. written_counts copy.at copy.queue_head outcome _ p.memory all))
 
 -- what was read is read before, and only the fault is refused then
-read_halts : {W : Type 0} (transacts : W → Ask → List ℕ → Reply → W → Type 0) (p new : Place) (before after : W) → Leads transacts (row_of p) (was_read p) before new after → Halts new p.memory.foreign
+read_halts : {W : Type 0} (transacts : W → Ask → List ℕ → Reply → W → Type 0) (p new : WalkPlace) (before after : W) → Leads transacts (walk_row p) (was_read p) before new after → Halts new p.memory.foreign
 read_halts transacts p new before after leads =
-    ⊎_elim (λ (fault : row_of p ≡ rows.Fault).
-    let stays : Leads transacts rows.Fault (was_read p) before new after = subst (λ (row : Row). Leads transacts row (was_read p) before new after) fault leads in
+    ⊎_elim (λ (fault : walk_row p ≡ rows.Fault).
+    let stays : Leads transacts rows.Fault (was_read p) before new after = subst (λ (row : WalkRow). Leads transacts row (was_read p) before new after) fault leads in
     halts_if new (faulted (was_read p)) p.memory.foreign stays.0 (λ other. refl))
     (λ (same : was_read p ≡ p).
-    row_halts transacts p new before after (row_of p) (each_row_has_its_cause p)
-    (subst (λ (x : Place). Leads transacts (row_of p) x before new after) same leads))
-    (reads_here p (row_of p) (each_row_has_its_cause p))
+    row_halts transacts p new before after (walk_row p) (each_row_has_its_cause p)
+    (subst (λ (x : WalkPlace). Leads transacts (walk_row p) x before new after) same leads))
+    (reads_here p (walk_row p) (each_row_has_its_cause p))
 
 -- ---- of an event
 
-pub refusals_are_faults : {W : Type 0} (transacts : W → Ask → List ℕ → Reply → W → Type 0) (p new : Place) (before after : W) → Leads transacts (event_row p) (at_event p) before new after → AreRefusalsFaults p.memory new.memory new.registers
+pub refusals_are_faults : {W : Type 0} (transacts : W → Ask → List ℕ → Reply → W → Type 0) (p new : WalkPlace) (before after : W) → Leads transacts (event_row p) (at_event p) before new after → AreRefusalsFaults p.memory new.memory new.registers
 refusals_are_faults transacts p new before after leads = read_halts transacts (started p) new before after leads

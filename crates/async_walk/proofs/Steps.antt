@@ -10,12 +10,12 @@ use Rattle.walk_copy.specs.declared.held.Held.{Held}
 use Rattle.walk_copy.specs.declared.held.Visit.{Visit}
 use Rattle.walk_copy.specs.declared.held.Visit.TheVariants as visits
 use Rattle.walk_copy.specs.Buffer.{sending}
-use Rattle.async_walk.specs.declared.rows.Row.{Row}
-use Rattle.async_walk.specs.declared.rows.Row.TheVariants as rows
+use Rattle.async_walk.specs.declared.rows.WalkRow.{WalkRow}
+use Rattle.async_walk.specs.declared.rows.WalkRow.TheVariants as rows
 use Rattle.async_walk.specs.declared.state.WalkStep.{WalkStep}
 use Rattle.async_walk.specs.declared.state.WalkStep.TheVariants as steps
 use Rattle.async_walk.specs.Naks.{planned}
-use Rattle.async_walk.specs.Rows.{Place, cursor_link, writing, ring_read, visit_read, held_read, read_at, row_of, was_read, started, at_event, event_row, step_of, took_step, sent_step, wrote_step, wrote_step_settled}
+use Rattle.async_walk.specs.Rows.{WalkPlace, cursor_link, writing, ring_read, visit_read, held_read, read_at, walk_row, was_read, started, at_event, event_row, step_of, took_step, sent_step, wrote_step, wrote_step_settled}
 use Rattle.async_walk.specs.Causes.{LeadsTo, IsVisited, HasTime, Comes, IsSettled, HasReason, HasNothing, IsStuck, Cause}
 use Rattle.async_walk.specs.Causes.Cause.{ring_is_broken, head_is_quiet, leads_to, is_resting, queue_ends, qtd_is_done, queue_is_broken, takes_qtd, is_out_of_time, has_time, is_settled}
 use Rattle.async_walk.proofs.Causes.{each_row_has_its_cause, broken_ring_row, quiet_head_row, visited_row, late_row, timely_row, broken_queue_row, done_row, taking_row, settled_row}
@@ -30,7 +30,7 @@ unrefused : (m : Mem) (b : Bool) → b ≡ true → (if b then m else refused m)
 unrefused m true is = refl
 unrefused m false is = absurd cc
 
-module _ (p : Place) where
+module _ (p : WalkPlace) where
   with_memory : (m : Mem) → m ≡ p.memory → record p { memory = m } ≡ p
   with_memory m same = ap (λ (x : Mem). record p { memory = x }) same
 
@@ -54,7 +54,7 @@ module _ (p : Place) where
       with_memory (read_at p p.walk.held) (ap (read_at p) s.in_hand ∙ ap (held_read p.memory copy.queue_head) s.settled)
 
   -- nothing was refused in the reading, or it is the fault
-  pub reads_here : (row : Row) → Cause p row → (row ≡ rows.Fault) ⊎ (was_read p ≡ p)
+  pub reads_here : (row : WalkRow) → Cause p row → (row ≡ rows.Fault) ⊎ (was_read p ≡ p)
   reads_here _ (ring_is_broken c) = inl refl
   reads_here _ (head_is_quiet c) = inr (led_here c.at c.queue_head c.leads)
   reads_here _ (leads_to at q c) = inr (led_here at q c)
@@ -68,10 +68,10 @@ module _ (p : Place) where
   reads_here _ (is_settled copy outcome c) = inr (settled_here copy outcome c)
 
   -- the kind of an event, told by what stands before it
-  pub step_here : step_of (row_of p) (was_read p) ≡ step_of (row_of p) p
+  pub step_here : step_of (walk_row p) (was_read p) ≡ step_of (walk_row p) p
   step_here =
-      ⊎_elim (λ (e : row_of p ≡ rows.Fault). ap (λ (row : Row). step_of row (was_read p)) e ∙ sym (ap (λ (row : Row). step_of row p) e))
-      (λ (same : was_read p ≡ p). ap (step_of (row_of p)) same) (reads_here (row_of p) (each_row_has_its_cause p))
+      ⊎_elim (λ (e : walk_row p ≡ rows.Fault). ap (λ (row : WalkRow). step_of row (was_read p)) e ∙ sym (ap (λ (row : WalkRow). step_of row p) e))
+      (λ (same : was_read p ≡ p). ap (step_of (walk_row p)) same) (reads_here (walk_row p) (each_row_has_its_cause p))
 
 -- ---- the events that read or write
 
@@ -83,7 +83,7 @@ is_refused : (goes : WalkStep) (b : Bool) → (if b then goes else steps.Fault) 
 is_refused goes true is other = absurd (other is)
 is_refused goes false is other = refl
 
-module _ (p : Place) where
+module _ (p : WalkPlace) where
   took_in : (copy : Held) (at : ℕ) (qtd : Qtd) → Comes p copy at qtd → took_step p.memory p.walk.held ≡ (if reaches_queue_head p.memory copy.at then steps.Advance else steps.Fault)
   took_in copy at qtd c = ap (took_step p.memory) c.visited.in_hand
 
@@ -95,7 +95,7 @@ module _ (p : Place) where
 
   -- ---- for a reason
 
-  ends_of : (row : Row) → Cause p row → step_of row p ≡ steps.Ended → HasReason p
+  ends_of : (row : WalkRow) → Cause p row → step_of row p ≡ steps.Ended → HasReason p
   ends_of _ (ring_is_broken c) is = absurd cc
   ends_of _ (head_is_quiet c) is = inl c
   ends_of _ (leads_to at q c) is = absurd cc
@@ -108,7 +108,7 @@ module _ (p : Place) where
   ends_of _ (has_time copy c) is = absurd (either_step steps.Transact (sending (planned copy.queue_head) copy.queue_head p.memory).all steps.Ended (sym (sent_in copy c) ∙ is) (λ e. cc) (λ e. cc))
   ends_of _ (is_settled copy outcome c) is = absurd (either_step steps.WriteBack (writing copy outcome p.walk.reply p.memory).all steps.Ended (sym (wrote_in copy outcome c) ∙ is) (λ e. cc) (λ e. cc))
 
-  skips_of : (row : Row) → Cause p row → step_of row p ≡ steps.Skip → HasNothing p
+  skips_of : (row : WalkRow) → Cause p row → step_of row p ≡ steps.Skip → HasNothing p
   skips_of _ (ring_is_broken c) is = absurd cc
   skips_of _ (head_is_quiet c) is = absurd cc
   skips_of _ (leads_to at q c) is = absurd cc
@@ -121,7 +121,7 @@ module _ (p : Place) where
   skips_of _ (has_time copy c) is = absurd (either_step steps.Transact (sending (planned copy.queue_head) copy.queue_head p.memory).all steps.Skip (sym (sent_in copy c) ∙ is) (λ e. cc) (λ e. cc))
   skips_of _ (is_settled copy outcome c) is = absurd (either_step steps.WriteBack (writing copy outcome p.walk.reply p.memory).all steps.Skip (sym (wrote_in copy outcome c) ∙ is) (λ e. cc) (λ e. cc))
 
-  faults_of : (row : Row) → Cause p row → step_of row p ≡ steps.Fault → IsStuck p
+  faults_of : (row : WalkRow) → Cause p row → step_of row p ≡ steps.Fault → IsStuck p
   faults_of _ (ring_is_broken c) is = inl (inl c)
   faults_of _ (head_is_quiet c) is = absurd cc
   faults_of _ (leads_to at q c) is = absurd cc
@@ -139,19 +139,19 @@ module _ (p : Place) where
 
   -- ---- and for each reason
 
-  kind_is : (row : Row) → row_of p ≡ row → step_of (row_of p) p ≡ step_of row p
-  kind_is row is = ap (λ (r : Row). step_of r p) is
+  kind_is : (row : WalkRow) → walk_row p ≡ row → step_of (walk_row p) p ≡ step_of row p
+  kind_is row is = ap (λ (r : WalkRow). step_of r p) is
 
-  reason_ends : HasReason p → step_of (row_of p) p ≡ steps.Ended
+  reason_ends : HasReason p → step_of (walk_row p) p ≡ steps.Ended
   reason_ends (inl quiet) = kind_is rows.HeadEnds (quiet_head_row p quiet)
   reason_ends (inr late) = kind_is rows.OutOfTime (late_row p late)
 
-  nothing_skips : HasNothing p → step_of (row_of p) p ≡ steps.Skip
+  nothing_skips : HasNothing p → step_of (walk_row p) p ≡ steps.Skip
   nothing_skips (inl c) = kind_is rows.Skip (visited_row p c.copy visits.Rest c.visited)
   nothing_skips (inr (inl c)) = kind_is rows.Skip (visited_row p c.copy (visits.Take qtd_links.End) c.visited)
   nothing_skips (inr (inr c)) = kind_is rows.Skip (done_row p c)
 
-  stuck_faults : IsStuck p → step_of (row_of p) p ≡ steps.Fault
+  stuck_faults : IsStuck p → step_of (walk_row p) p ≡ steps.Fault
   stuck_faults (inl (inl c)) =
       kind_is rows.Fault (broken_ring_row p (cursor_link p.registers p.walk.cursor) c.no_copy c.nothing_there refl)
   stuck_faults (inl (inr c)) = kind_is rows.Fault (broken_queue_row p c)
@@ -167,20 +167,20 @@ module _ (p : Place) where
 
 -- ---- of an event
 
-pub ends_for_a_reason : (p : Place) → step_of (event_row p) (at_event p) ≡ steps.Ended → HasReason (started p)
+pub ends_for_a_reason : (p : WalkPlace) → step_of (event_row p) (at_event p) ≡ steps.Ended → HasReason (started p)
 ends_for_a_reason p is = ends_of (started p) (event_row p) (each_row_has_its_cause (started p)) (sym (step_here (started p)) ∙ is)
 
-pub ends_for_each_reason : (p : Place) → HasReason (started p) → step_of (event_row p) (at_event p) ≡ steps.Ended
+pub ends_for_each_reason : (p : WalkPlace) → HasReason (started p) → step_of (event_row p) (at_event p) ≡ steps.Ended
 ends_for_each_reason p reason = step_here (started p) ∙ reason_ends (started p) reason
 
-pub skips_for_a_reason : (p : Place) → step_of (event_row p) (at_event p) ≡ steps.Skip → HasNothing (started p)
+pub skips_for_a_reason : (p : WalkPlace) → step_of (event_row p) (at_event p) ≡ steps.Skip → HasNothing (started p)
 skips_for_a_reason p is = skips_of (started p) (event_row p) (each_row_has_its_cause (started p)) (sym (step_here (started p)) ∙ is)
 
-pub skips_for_each_reason : (p : Place) → HasNothing (started p) → step_of (event_row p) (at_event p) ≡ steps.Skip
+pub skips_for_each_reason : (p : WalkPlace) → HasNothing (started p) → step_of (event_row p) (at_event p) ≡ steps.Skip
 skips_for_each_reason p nothing = step_here (started p) ∙ nothing_skips (started p) nothing
 
-pub faults_for_a_reason : (p : Place) → step_of (event_row p) (at_event p) ≡ steps.Fault → IsStuck (started p)
+pub faults_for_a_reason : (p : WalkPlace) → step_of (event_row p) (at_event p) ≡ steps.Fault → IsStuck (started p)
 faults_for_a_reason p is = faults_of (started p) (event_row p) (each_row_has_its_cause (started p)) (sym (step_here (started p)) ∙ is)
 
-pub faults_for_each_reason : (p : Place) → IsStuck (started p) → step_of (event_row p) (at_event p) ≡ steps.Fault
+pub faults_for_each_reason : (p : WalkPlace) → IsStuck (started p) → step_of (event_row p) (at_event p) ≡ steps.Fault
 faults_for_each_reason p stuck = step_here (started p) ∙ stuck_faults (started p) stuck

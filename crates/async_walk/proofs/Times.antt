@@ -15,11 +15,11 @@ use Rattle.word_mem.specs.Memory.{Mem}
 use Rattle.op_registers.specs.RegisterFile.{RegisterFile}
 use Rattle.qh_qtd.specs.declared.queue_head.Qh.{Qh}
 use Rattle.walk_copy.specs.declared.held.Transaction.{Transaction}
-use Rattle.async_walk.specs.declared.rows.Row.{Row}
-use Rattle.async_walk.specs.declared.rows.Row.TheVariants as rows
+use Rattle.async_walk.specs.declared.rows.WalkRow.{WalkRow}
+use Rattle.async_walk.specs.declared.rows.WalkRow.TheVariants as rows
 use Rattle.async_walk.specs.Walk.{begun}
 use Rattle.async_walk.specs.Naks.{planned}
-use Rattle.async_walk.specs.Rows.{Place, place, ring_row, cursor_link, started, at_event, event_row, after_row}
+use Rattle.async_walk.specs.Rows.{WalkPlace, place, ring_row, cursor_link, started, at_event, event_row, after_walk_row}
 use Rattle.async_walk.specs.Causes.{Cause}
 use Rattle.async_walk.specs.Causes.Cause.{ring_is_broken, head_is_quiet, leads_to, is_resting, queue_ends, qtd_is_done, queue_is_broken, takes_qtd, is_out_of_time, has_time, is_settled}
 use Rattle.async_walk.proofs.Causes.{each_row_has_its_cause}
@@ -50,7 +50,7 @@ planned_costs q = costs_something (planned q).split (planned q).pipe (planned q)
 
 -- ---- what is made fits
 
-fits_of : (p : Place) (row : Row) (t : Transaction) → Cause p row → row ≡ rows.Transact t → (0 < t.price.0) × (t.price.0 ≤ p.walk.left)
+fits_of : (p : WalkPlace) (row : WalkRow) (t : Transaction) → Cause p row → row ≡ rows.Transact t → (0 < t.price.0) × (t.price.0 ≤ p.walk.left)
 fits_of p _ t (ring_is_broken c) is = absurd cc
 fits_of p _ t (head_is_quiet c) is = absurd cc
 fits_of p _ t (leads_to at q c) is = absurd cc
@@ -66,22 +66,22 @@ fits_of p _ t (has_time copy c) is =
     (omega (arith, price, planned_costs copy.queue_head), omega (arith, price, c.in_time))
 fits_of p _ t (is_settled copy outcome c) is = absurd cc
 
-both_of : (p : Place) (t : Transaction) → event_row p ≡ rows.Transact t → (0 < t.price.0) × (t.price.0 ≤ p.walk.left)
+both_of : (p : WalkPlace) (t : Transaction) → event_row p ≡ rows.Transact t → (0 < t.price.0) × (t.price.0 ≤ p.walk.left)
 both_of p t is = fits_of (started p) (event_row p) t (each_row_has_its_cause (started p)) is
 
-pub transactions_cost : (p : Place) (t : Transaction) → event_row p ≡ rows.Transact t → 0 < t.price.0
+pub transactions_cost : (p : WalkPlace) (t : Transaction) → event_row p ≡ rows.Transact t → 0 < t.price.0
 transactions_cost p t is = (both_of p t is).0
 
-pub transactions_fit : (p : Place) (t : Transaction) → event_row p ≡ rows.Transact t → t.price.0 ≤ p.walk.left
+pub transactions_fit : (p : WalkPlace) (t : Transaction) → event_row p ≡ rows.Transact t → t.price.0 ≤ p.walk.left
 transactions_fit p t is = (both_of p t is).1
 
-pub none_without_time : (p : Place) (t : Transaction) → p.walk.left ≡ 0 → event_row p ≡ rows.Transact t → ⊥
+pub none_without_time : (p : WalkPlace) (t : Transaction) → p.walk.left ≡ 0 → event_row p ≡ rows.Transact t → ⊥
 none_without_time p t none is = omega (arith, transactions_fit p t is, transactions_cost p t is)
 
 -- ---- after the time is over
 
-pub cursor_stays : (p : Place) → event_row p ≡ rows.OutOfTime → (after_row (event_row p) (at_event p)).walk.cursor ≡ p.walk.cursor
-cursor_stays p is = ap (λ (row : Row). (after_row row (at_event p)).walk.cursor) is
+pub cursor_stays : (p : WalkPlace) → event_row p ≡ rows.OutOfTime → (after_walk_row (event_row p) (at_event p)).walk.cursor ≡ p.walk.cursor
+cursor_stays p is = ap (λ (row : WalkRow). (after_walk_row row (at_event p)).walk.cursor) is
 
-pub reads_there : (p : Place) (left : ℕ) (r : RegisterFile) (m : Mem) → event_row p ≡ rows.OutOfTime → event_row (place (begun (after_row (event_row p) (at_event p)).walk left) r m) ≡ ring_row m true (cursor_link r p.walk.cursor)
-reads_there p left r m is = ap (λ (row : Row). event_row (place (begun (after_row row (at_event p)).walk left) r m)) is
+pub reads_there : (p : WalkPlace) (left : ℕ) (r : RegisterFile) (m : Mem) → event_row p ≡ rows.OutOfTime → event_row (place (begun (after_walk_row (event_row p) (at_event p)).walk left) r m) ≡ ring_row m true (cursor_link r p.walk.cursor)
+reads_there p left r m is = ap (λ (row : WalkRow). event_row (place (begun (after_walk_row row (at_event p)).walk left) r m)) is

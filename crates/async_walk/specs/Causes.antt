@@ -14,29 +14,29 @@ use Rattle.walk_copy.specs.declared.held.Visit.{Visit}
 use Rattle.walk_copy.specs.declared.held.Visit.TheVariants.{Rest, Work, Take}
 use Rattle.walk_copy.specs.Visits.{visit_of}
 use Rattle.walk_copy.specs.Buffer.{sending}
-use Rattle.async_walk.specs.declared.rows.Row.{Row}
-use Rattle.async_walk.specs.declared.rows.Row.TheVariants as rows
+use Rattle.async_walk.specs.declared.rows.WalkRow.{WalkRow}
+use Rattle.async_walk.specs.declared.rows.WalkRow.TheVariants as rows
 use Rattle.async_walk.specs.declared.state.WalkStep.{WalkStep}
 use Rattle.async_walk.specs.declared.state.WalkStep.TheVariants as steps
 use Rattle.async_walk.specs.Naks.{may_work, planned}
-use Rattle.async_walk.specs.Rows.{Place, cursor_link, writing}
+use Rattle.async_walk.specs.Rows.{WalkPlace, cursor_link, writing}
 
 -- ---- the cursor leads on
 
 -- no copy is in hand, and the cursor's link leads to what can't be read as a queue head: it is of another type, or a block isn't Lent, or
 -- a bit or value is reserved
-pub record RingIsBroken (p : Place) : Type 0 where
+pub record RingIsBroken (p : WalkPlace) : Type 0 where
   pub no_copy : p.walk.held ≡ None
   pub nothing_there : (at : ℕ) → cursor_link p.registers p.walk.cursor ≡ links.Qh at → queue_head_at_address p.memory at ≡ None
 
 -- no copy is in hand, and this queue head stands where the cursor's link leads
-pub record LeadsTo (p : Place) (at : ℕ) (q : Qh) : Type 0 where
+pub record LeadsTo (p : WalkPlace) (at : ℕ) (q : Qh) : Type 0 where
   pub no_copy : p.walk.held ≡ None
   pub leads_there : cursor_link p.registers p.walk.cursor ≡ links.Qh at
   pub stands_there : queue_head_at_address p.memory at ≡ Some q
 
 -- the walk has come round to the head of the ring, and Reclamation is 0: nothing was done since the head was read before (4.8.3)
-pub record HeadIsQuiet (p : Place) : Type 0 where
+pub record HeadIsQuiet (p : WalkPlace) : Type 0 where
   pub at : ℕ
   pub queue_head : Qh
   pub leads : LeadsTo p at queue_head
@@ -46,52 +46,52 @@ pub record HeadIsQuiet (p : Place) : Type 0 where
 -- ---- a copy is in hand that had no transaction yet
 
 -- there is this to do at it (4.10)
-pub record IsVisited (p : Place) (copy : Held) (visit : Visit) : Type 0 where
+pub record IsVisited (p : WalkPlace) (copy : Held) (visit : Visit) : Type 0 where
   pub in_hand : p.walk.held ≡ Some copy
   pub not_settled : copy.settled ≡ None
   pub visits : visit_of (may_work copy.queue_head) copy.queue_head ≡ visit
 
 -- it is halted, or its NAKs are used up
-pub record IsResting (p : Place) : Type 0 where
+pub record IsResting (p : WalkPlace) : Type 0 where
   pub copy : Held
   pub visited : IsVisited p copy Rest
 
 -- its transaction comes next, and its price passes the time left (4.10.3)
-pub record IsOutOfTime (p : Place) : Type 0 where
+pub record IsOutOfTime (p : WalkPlace) : Type 0 where
   pub copy : Held
   pub visited : IsVisited p copy Work
   pub late : p.walk.left < (planned copy.queue_head).price.0
 
 -- its transaction comes next, and there is time for it
-pub record HasTime (p : Place) (copy : Held) : Type 0 where
+pub record HasTime (p : WalkPlace) (copy : Held) : Type 0 where
   pub visited : IsVisited p copy Work
   pub in_time : (planned copy.queue_head).price.0 ≤ p.walk.left
 
 -- a byte that it sends lies past the last page, or in no Lent block
-pub record BytesAreForeign (p : Place) : Type 0 where
+pub record BytesAreForeign (p : WalkPlace) : Type 0 where
   pub copy : Held
   pub works : HasTime p copy
   pub refused : (sending (planned copy.queue_head) copy.queue_head p.memory).all ≡ false
 
 -- its overlay is done, and no qTD comes after it
-pub record QueueEnds (p : Place) : Type 0 where
+pub record QueueEnds (p : WalkPlace) : Type 0 where
   pub copy : Held
   pub visited : IsVisited p copy (Take qtd_links.End)
 
 -- the link of its overlay leads to what can't be read as a qTD
-pub record QueueIsBroken (p : Place) : Type 0 where
+pub record QueueIsBroken (p : WalkPlace) : Type 0 where
   pub copy : Held
   pub at : ℕ
   pub visited : IsVisited p copy (Take (qtd_links.To at))
   pub nothing_there : qtd_at_address p.memory at ≡ None
 
 -- this qTD comes next
-pub record Comes (p : Place) (copy : Held) (at : ℕ) (qtd : Qtd) : Type 0 where
+pub record Comes (p : WalkPlace) (copy : Held) (at : ℕ) (qtd : Qtd) : Type 0 where
   pub visited : IsVisited p copy (Take (qtd_links.To at))
   pub stands_there : qtd_at_address p.memory at ≡ Some qtd
 
 -- the qTD that comes next isn't active
-pub record QtdIsDone (p : Place) : Type 0 where
+pub record QtdIsDone (p : WalkPlace) : Type 0 where
   pub copy : Held
   pub at : ℕ
   pub qtd : Qtd
@@ -99,13 +99,13 @@ pub record QtdIsDone (p : Place) : Type 0 where
   pub inactive : qtd.token.active ≡ false
 
 -- the qTD that comes next is active
-pub record TakesQtd (p : Place) (at : ℕ) (qtd : Qtd) : Type 0 where
+pub record TakesQtd (p : WalkPlace) (at : ℕ) (qtd : Qtd) : Type 0 where
   pub copy : Held
   pub comes : Comes p copy at qtd
   pub active : qtd.token.active ≡ true
 
 -- and the words of the overlay lie in a block that isn't Lent
-pub record OverlayIsForeign (p : Place) : Type 0 where
+pub record OverlayIsForeign (p : WalkPlace) : Type 0 where
   pub copy : Held
   pub at : ℕ
   pub qtd : Qtd
@@ -115,12 +115,12 @@ pub record OverlayIsForeign (p : Place) : Type 0 where
 
 -- ---- a copy is in hand whose transaction was made
 
-pub record IsSettled (p : Place) (copy : Held) (outcome : Outcome) : Type 0 where
+pub record IsSettled (p : WalkPlace) (copy : Held) (outcome : Outcome) : Type 0 where
   pub in_hand : p.walk.held ≡ Some copy
   pub settled : copy.settled ≡ Some outcome
 
 -- a received byte lies past the last page, or a word that is written lies in no Lent block
-pub record WordsAreForeign (p : Place) : Type 0 where
+pub record WordsAreForeign (p : WalkPlace) : Type 0 where
   pub copy : Held
   pub outcome : Outcome
   pub settled : IsSettled p copy outcome
@@ -129,19 +129,19 @@ pub record WordsAreForeign (p : Place) : Type 0 where
 -- ---- the causes of each event
 
 -- the part ends (4.8)
-abbrev pub HasReason : Place → Type 0
+abbrev pub HasReason : WalkPlace → Type 0
 HasReason p = HeadIsQuiet p ⊎ IsOutOfTime p
 
 -- there is nothing to do at the queue head in hand
-abbrev pub HasNothing : Place → Type 0
+abbrev pub HasNothing : WalkPlace → Type 0
 HasNothing p = IsResting p ⊎ (QueueEnds p ⊎ QtdIsDone p)
 
 -- the walk can't go on: a structure that can't be read, or a word or byte that may not be touched
-abbrev pub IsStuck : Place → Type 0
+abbrev pub IsStuck : WalkPlace → Type 0
 IsStuck p = (RingIsBroken p ⊎ QueueIsBroken p) ⊎ (OverlayIsForeign p ⊎ (BytesAreForeign p ⊎ WordsAreForeign p))
 
 -- the cause of each row
-pub data Cause (p : Place) : Row → Type 0 where
+pub data Cause (p : WalkPlace) : WalkRow → Type 0 where
   ring_is_broken : RingIsBroken p → Cause p rows.Fault
   head_is_quiet : HeadIsQuiet p → Cause p rows.HeadEnds
   leads_to : (at : ℕ) (q : Qh) → LeadsTo p at q → Cause p (rows.Fetch at q)
@@ -170,7 +170,7 @@ pub data Worked (left : ℕ) (m : Mem) (q : Qh) : WalkStep → Type 0 where
   bytes_foreign : (sending (planned q) q m).all ≡ false → Worked left m q steps.Fault
 
 -- where the copy in hand is active and had no transaction yet, this event is its transaction, or there is a reason
-abbrev pub IsWorked : Place → WalkStep → Type 0
+abbrev pub IsWorked : WalkPlace → WalkStep → Type 0
 IsWorked p step = (h : Held) → p.walk.held ≡ Some h → h.settled ≡ None → h.queue_head.token.active ≡ true → Worked p.walk.left p.memory h.queue_head step
 
 -- ---- refusals

@@ -10,9 +10,9 @@ use Rattle.qh_qtd.specs.declared.queue_head.Qh.{Qh}
 use Rattle.toggle_error.specs.declared.host.Outcome.{Outcome}
 use Rattle.async_walk.specs.declared.state.Cursor.TheVariants as cursors
 use Rattle.async_walk.specs.declared.state.ReloadMode.TheVariants.{Reload}
-use Rattle.async_walk.specs.Rows.{Place}
+use Rattle.async_walk.specs.Rows.{WalkPlace}
 
-abbrev pub at_copy : Qh → Option Outcome → ℕ → Place
+abbrev pub at_copy : Qh → Option Outcome → ℕ → WalkPlace
 at_copy q settled left = record {
   walk = record {
     cursor = cursors.At (links.Qh 0x1040);
@@ -26,8 +26,8 @@ at_copy q settled left = record {
   memory = record { words = []; states = []; foreign = 0 };
 }
 
-abbrev pub in_hand : Qh → ℕ → Place
+abbrev pub in_hand : Qh → ℕ → WalkPlace
 in_hand q left = at_copy q None left
 
-abbrev pub was_settled : Qh → Outcome → Place
+abbrev pub was_settled : Qh → Outcome → WalkPlace
 was_settled q outcome = at_copy q (Some outcome) 0

@@ -2,7 +2,6 @@
 use Rattle.std.specs.Prelude.{ℕ, Bool, true, false, Option, None, Some, IfSome}
 use Rattle.usb_base.specs.declared.packets.Reply.{Reply}
 use Rattle.usb_base.specs.declared.packets.Reply.TheVariants.{Silent}
-use Rattle.link_words.specs.declared.kinds.Link.{Link}
 use Rattle.link_words.specs.Links.{IsAligned, address_of}
 use Rattle.walk_copy.specs.declared.held.Held.{Held}
 use Rattle.walk_copy.specs.Visits.{IsHeld}

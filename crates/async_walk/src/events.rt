@@ -7,11 +7,11 @@ ghost use Rattle.qh_qtd.specs.Qtd.{IsQtdInRange};
 ghost use Rattle.qh_qtd.specs.QueueHead.{IsQhInRange};
 ghost use Rattle.walk_copy.specs.Planning.{CanBeMade};
 ghost use Rattle.async_walk.specs.Walk.{stopped};
-ghost use Rattle.async_walk.specs.Rows.{Place, place, cursor_link, IsSound, started_walk, started_registers, head_read, restarted, fetched_registers, fetched_walk, passed_walk, took, took_step, wrote, wrote_step, sent_step, Sends, Leads, step_of, started, at_event, event_row};
+ghost use Rattle.async_walk.specs.Rows.{WalkPlace, place, cursor_link, IsSound, started_walk, started_registers, head_read, restarted, fetched_registers, fetched_walk, passed_walk, took, took_step, wrote, wrote_step, sent_step, Sends, Leads, step_of, started, at_event, event_row};
 ghost use Rattle.async_walk.specs.Causes.{HasReason, HasNothing, IsStuck, IsWorked, AreRefusalsFaults};
 
 use crate::naks::{count, mode_of, reloaded};
-use crate::rows::{Row, fetched, visited};
+use crate::rows::{WalkRow, fetched, visited};
 use crate::state::{AsyncState, Cursor, ReloadMode, WalkStep};
 use link_words::Link;
 use op_registers::Registers;
@@ -181,7 +181,7 @@ impl AsyncState {
     #[inline(always)]
     fn make<W: Wire>(
         &mut self,
-        row: Row,
+        row: WalkRow,
         regs: &mut Registers,
         mem: &mut WordMem,
         wire: &mut W,
@@ -192,29 +192,29 @@ impl AsyncState {
         ensures only_lent { IsByController mem.old mem.new }
     {
         match row {
-            Row::Fault => {
+            WalkRow::Fault => {
                 self.fault(regs);
                 WalkStep::Fault
             }
-            Row::HeadEnds => {
+            WalkRow::HeadEnds => {
                 self.end_at_head(regs);
                 WalkStep::Ended
             }
-            Row::Fetch(at, queue_head) => {
+            WalkRow::Fetch(at, queue_head) => {
                 self.fetch(at, queue_head, regs);
                 WalkStep::Fetch
             }
-            Row::Skip => {
+            WalkRow::Skip => {
                 self.pass();
                 WalkStep::Skip
             }
-            Row::OutOfTime => {
+            WalkRow::OutOfTime => {
                 self.end_for_time();
                 WalkStep::Ended
             }
-            Row::Advance(at, qtd) => self.take(at, &qtd, regs, mem),
-            Row::Transact(transaction) => self.transact(&transaction, regs, mem, wire),
-            Row::WriteBack => self.write(regs, mem),
+            WalkRow::Advance(at, qtd) => self.take(at, &qtd, regs, mem),
+            WalkRow::Transact(transaction) => self.transact(&transaction, regs, mem, wire),
+            WalkRow::WriteBack => self.write(regs, mem),
         }
     }
 }
@@ -242,7 +242,7 @@ fn turn<W: Wire>(
                 let row = visited(&held.queue_head, st.left, mem);
                 st.make(row, regs, mem, wire)
             }
-            Some(_) => st.make(Row::WriteBack, regs, mem, wire),
+            Some(_) => st.make(WalkRow::WriteBack, regs, mem, wire),
         },
     }
 }

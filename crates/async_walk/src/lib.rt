@@ -12,5 +12,5 @@ mod state;
 pub mod worked;
 
 pub use events::step;
-pub use rows::Row;
+pub use rows::WalkRow;
 pub use state::{AsyncState, Cursor, ReloadMode, WalkStep};

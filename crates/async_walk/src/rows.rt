@@ -16,7 +16,7 @@ use word_mem::WordMem;
 
 /// The kind of an event, with what it read.
 #[derive(Clone, Copy, Debug, PartialEq, Eq)]
-pub enum Row {
+pub enum WalkRow {
     /// The walk can't go on.
     Fault,
     /// The head of the ring was read, and nothing was done since it was read before: the part is over.
@@ -36,20 +36,20 @@ pub enum Row {
 }
 
 /// The row of a queue head that works.
-fn work(queue_head: &Qh, left: Ps) -> Row
+fn work(queue_head: &Qh, left: Ps) -> WalkRow
     requires { IsQhInRange queue_head.now }
     ensures sound { IsSound result }
     ensures row { result ≡ work_row (nat_lt left.0 (planned queue_head.now).price.0) (planned queue_head.now) }
 {
     let transaction = next_transaction(queue_head, kind(queue_head));
     if transaction.price > left {
-        return Row::OutOfTime;
+        return WalkRow::OutOfTime;
     }
-    Row::Transact(transaction)
+    WalkRow::Transact(transaction)
 }
 
 /// The row of a queue head that takes a qTD.
-fn take_row_of(link: QtdLink, mem: &mut WordMem) -> Row
+fn take_row_of(link: QtdLink, mem: &mut WordMem) -> WalkRow
     requires { IsQtdAligned link }
     ensures sound { IsSound result }
     ensures row { result ≡ take_row mem.old link }
@@ -57,17 +57,17 @@ fn take_row_of(link: QtdLink, mem: &mut WordMem) -> Row
     ensures only_lent { IsByController mem.old mem.new }
 {
     match link {
-        QtdLink::End => Row::Skip,
+        QtdLink::End => WalkRow::Skip,
         QtdLink::To(at) => match read_qtd(mem, at) {
-            None => Row::Fault,
-            Some(qtd) if qtd.token.active => Row::Advance(at, qtd),
-            Some(_) => Row::Skip,
+            None => WalkRow::Fault,
+            Some(qtd) if qtd.token.active => WalkRow::Advance(at, qtd),
+            Some(_) => WalkRow::Skip,
         },
     }
 }
 
 /// The row of a copy whose transaction wasn't made yet.
-pub(crate) fn visited(queue_head: &Qh, left: Ps, mem: &mut WordMem) -> Row
+pub(crate) fn visited(queue_head: &Qh, left: Ps, mem: &mut WordMem) -> WalkRow
     requires { IsQhInRange queue_head.now }
     ensures sound { IsSound result }
     ensures row { result ≡ visit_row mem.old left.0 queue_head.now (visit_of (may_work queue_head.now) queue_head.now) }
@@ -75,14 +75,14 @@ pub(crate) fn visited(queue_head: &Qh, left: Ps, mem: &mut WordMem) -> Row
     ensures only_lent { IsByController mem.old mem.new }
 {
     match visit(queue_head, may(queue_head)) {
-        Visit::Rest => Row::Skip,
+        Visit::Rest => WalkRow::Skip,
         Visit::Work => work(queue_head, left),
         Visit::Take(link) => take_row_of(link, mem),
     }
 }
 
 /// The row of a cursor at this link, where no copy is in hand.
-pub(crate) fn fetched(link: Link, reclamation: bool, mem: &mut WordMem) -> Row
+pub(crate) fn fetched(link: Link, reclamation: bool, mem: &mut WordMem) -> WalkRow
     requires { IsAligned link }
     ensures sound { IsSound result }
     ensures row { result ≡ ring_row mem.old reclamation link }
@@ -91,10 +91,10 @@ pub(crate) fn fetched(link: Link, reclamation: bool, mem: &mut WordMem) -> Row
 {
     match link {
         Link::Qh(at) => match read_queue_head(mem, at) {
-            None => Row::Fault,
-            Some(queue_head) if queue_head.head && !reclamation => Row::HeadEnds,
-            Some(queue_head) => Row::Fetch(at, queue_head),
+            None => WalkRow::Fault,
+            Some(queue_head) if queue_head.head && !reclamation => WalkRow::HeadEnds,
+            Some(queue_head) => WalkRow::Fetch(at, queue_head),
         },
-        _ => Row::Fault,
+        _ => WalkRow::Fault,
     }
 }

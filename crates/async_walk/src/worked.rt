@@ -9,8 +9,8 @@ ghost use Rattle.walk_copy.specs.Samples.{moving, bulk_in, bulk_out, setup, full
 ghost use Rattle.async_walk.specs.declared.state.ReloadMode.TheVariants.{WaitHead, Reload, WaitStart};
 ghost use Rattle.async_walk.specs.Naks.{planned, may_work, next_mode, mode_after, reloaded, counts, naks_after, counted_queue};
 ghost use Rattle.async_walk.specs.Samples.{in_hand, was_settled};
-ghost use Rattle.async_walk.specs.Rows.{row_of};
-ghost use Rattle.async_walk.specs.declared.rows.Row.TheVariants as rows;
+ghost use Rattle.async_walk.specs.Rows.{walk_row};
+ghost use Rattle.async_walk.specs.declared.rows.WalkRow.TheVariants as rows;
 
 /// A NAK counts one down, and so does a NYET to data that were taken; a NYET to a complete-split counts nothing, nor does any answer
 /// where RL is 0 (EHCI 1.0, 4.9).
@@ -61,13 +61,13 @@ pub fn kinds()
 
 /// The row of a copy in hand: its transaction, or the end of the part where that costs more than is left, or its write-back.
 pub fn rows_of_a_copy()
-    ensures in_time { row_of (in_hand bulk_in 10880343) ≡ rows.Transact (planned bulk_in) }
-    ensures late { row_of (in_hand bulk_in 10880342) ≡ rows.OutOfTime }
-    ensures ping_in_time { row_of (in_hand (bulk_out true) 927769) ≡ rows.Transact (planned (bulk_out true)) }
-    ensures out_late { row_of (in_hand (bulk_out false) 10880342) ≡ rows.OutOfTime }
-    ensures start_in_time { row_of (in_hand (full_in false) 927769) ≡ rows.Transact (planned (full_in false)) }
-    ensures complete_late { row_of (in_hand (full_in true) 927769) ≡ rows.OutOfTime }
-    ensures halted { row_of (in_hand ring_head 125000000) ≡ rows.Skip }
-    ensures used_up { row_of (in_hand (counted 4 0) 125000000) ≡ rows.Skip }
-    ensures settled { row_of (was_settled bulk_in (Moved 3)) ≡ rows.WriteBack }
+    ensures in_time { walk_row (in_hand bulk_in 10880343) ≡ rows.Transact (planned bulk_in) }
+    ensures late { walk_row (in_hand bulk_in 10880342) ≡ rows.OutOfTime }
+    ensures ping_in_time { walk_row (in_hand (bulk_out true) 927769) ≡ rows.Transact (planned (bulk_out true)) }
+    ensures out_late { walk_row (in_hand (bulk_out false) 10880342) ≡ rows.OutOfTime }
+    ensures start_in_time { walk_row (in_hand (full_in false) 927769) ≡ rows.Transact (planned (full_in false)) }
+    ensures complete_late { walk_row (in_hand (full_in true) 927769) ≡ rows.OutOfTime }
+    ensures halted { walk_row (in_hand ring_head 125000000) ≡ rows.Skip }
+    ensures used_up { walk_row (in_hand (counted 4 0) 125000000) ≡ rows.Skip }
+    ensures settled { walk_row (was_settled bulk_in (Moved 3)) ≡ rows.WriteBack }
 {}

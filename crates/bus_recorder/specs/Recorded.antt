@@ -1,7 +1,7 @@
 -- A bus with what was recorded of it.
 --     Recorded                 the bus, and its record
 --     exchange_of w ask out    the transaction that an ask makes: who heard what by the bus's own table, and what became of each packet
-use Rattle.std.specs.Prelude.{◌≡◌, ℕ, ◌+◌, ◌-◌, ◌==◌, ◌&&◌, Bool, false, List, length, find, Option, Some, None}
+use Rattle.std.specs.Prelude.{◌≡◌, ℕ, ◌+◌, ◌-◌, ◌==◌, ◌&&◌, Bool, false, List, [], length, find, Option, Some, None}
 use Rattle.std.specs.Option.{option_map}
 use Rattle.usb_base.specs.declared.packets.Ask.{Ask}
 use Rattle.usb_base.specs.declared.packets.Fate.{Fate}
@@ -15,20 +15,27 @@ use Rattle.usb_bus.specs.Bus.{Wired, begin_after, is_allowed, reply_of, transact
 use Rattle.usb_bus.specs.Fates.{is_against}
 use Rattle.usb_bus.specs.Told.{told_of, answer_told}
 use Rattle.usb_bus.specs.WhoHeard.{packets_before, later}
-use Rattle.trace_lines.specs.declared.exchanges.Answer.{Answer}
-use Rattle.trace_lines.specs.declared.exchanges.Answer.TheVariants as answers
-use Rattle.trace_lines.specs.declared.exchanges.Exchange.{Exchange}
-use Rattle.trace_lines.specs.declared.exchanges.Fates.{Fates}
+use Rattle.bus_exchanges.specs.declared.exchanges.Answer.{Answer}
+use Rattle.bus_exchanges.specs.declared.exchanges.Answer.TheVariants as answers
+use Rattle.bus_exchanges.specs.declared.exchanges.Exchange.{Exchange}
+use Rattle.bus_exchanges.specs.declared.exchanges.Fates.{Fates}
 
 pub record Recorded : Type 0 where
   pub wired : Wired
   pub exchange : Option Exchange  -- of the last transaction
+  pub sent : List ℕ  -- the bytes that the host sent in it
+  pub got : List ℕ  -- the bytes of the data that came in answer, heard or not
   pub allowed : Bool  -- the bus may be used in the microframe that began last
 
 abbrev pub answer_in : Reply → Answer
 answer_in replies.Silent = answers.Nothing
 answer_in (replies.Bytes pid bytes) = answers.Data pid (length bytes)
 answer_in (replies.Hand pid) = answers.Handshake pid
+
+abbrev pub bytes_in : Reply → List ℕ
+bytes_in replies.Silent = []
+bytes_in (replies.Bytes pid bytes) = bytes
+bytes_in (replies.Hand pid) = []
 
 -- what the script says of packet k of an endpoint on the high-speed bus; an endpoint has at most one line a packet
 unfoldable pub speaks_of : EpName → ℕ → FateText → Bool
@@ -77,6 +84,8 @@ abbrev pub transacted : Ask → List ℕ → Recorded → Recorded
 transacted ask out w = record w {
   wired = record w.wired { bus = transact_after w.wired.fixed w.wired.bus ask out };
   exchange = exchange_of w.wired ask out;
+  sent = out;
+  got = bytes_in (answer_told w.wired.fixed w.wired.bus ask out);
 }
 
 abbrev pub TransactsIn : Recorded → Ask → List ℕ → Reply → Recorded → Type 0

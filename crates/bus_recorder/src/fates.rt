@@ -4,8 +4,8 @@ ghost use Rattle.usb_bus.specs.Fates.{is_bad, is_same_way, is_same_name, is_agai
 ghost use Rattle.usb_bus.specs.WhoHeard.{packets_sent, later};
 ghost use Rattle.bus_recorder.specs.Recorded.{speaks_of, fate_by, fate_of, fates_of};
 
+use bus_exchanges::Fates;
 use script_types::FateText;
-use trace_lines::Fates;
 use usb_base::{Ask, EpName, Fate, Pid, Split, Way};
 
 fn are_same_ways(a: Way, b: Way) -> bool

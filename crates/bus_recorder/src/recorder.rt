@@ -1,16 +1,16 @@
-ghost use Rattle.std.specs.Prelude.{◌≡◌, ◌≤◌, length, slice_get, Option, None, true, IfOk, IsTrue};
+ghost use Rattle.std.specs.Prelude.{◌≡◌, ◌≤◌, length, slice_get, Option, None, [], true, IfOk, IsTrue};
 ghost use Rattle.std.specs.List.{list_all};
 ghost use Rattle.endpoint_script.specs.Device.{is_scripted};
 ghost use Rattle.hub_class.specs.HubContent.{has_few_ports};
 ghost use Rattle.usb_bus.specs.Bus.{opening_wired};
-ghost use Rattle.bus_recorder.specs.Recorded.{answer_in, exchange_in, BeginsIn, TransactsIn, forgotten};
+ghost use Rattle.bus_recorder.specs.Recorded.{answer_in, bytes_in, exchange_in, BeginsIn, TransactsIn, forgotten};
 
 use crate::fates::{fates_of, packets_sent};
+use bus_exchanges::{Answer, Exchange};
 use script_types::{FateText, Script};
 use std::alloc::Global;
 use std::marker::Model;
-use trace_lines::{Answer, Exchange};
-use usb_base::{Ask, Memory, Reply, Wire};
+use usb_base::{Ask, Memory, Packet, Reply, Wire};
 use usb_bus::{Seat, Told, UsbBus};
 
 /// A bus with a record of what went over it last.
@@ -19,6 +19,8 @@ pub struct Recorder {
     bus: UsbBus,
     fates: Vec<FateText>,
     exchange: Option<Exchange>,
+    sent: Packet,
+    got: Packet,
     allowed: bool,
 }
 
@@ -28,7 +30,7 @@ impl Model for Recorder {
 
     ghost Value = { Recorded };
 
-    ghost view = { λ r. record { wired = r.bus; exchange = r.exchange; allowed = r.allowed } };
+    ghost view = { λ r. record { wired = r.bus; exchange = r.exchange; sent = r.sent; got = r.got; allowed = r.allowed } };
 
     ghost invariant = { λ r. r.fates.items ≡ r.bus.fixed.fates };
 }
@@ -40,6 +42,17 @@ fn answer_in(reply: &Reply) -> Answer
         Reply::Silent => Answer::Nothing,
         Reply::Bytes(pid, bytes) => Answer::Data(*pid, bytes.as_slice().len() as u16),
         Reply::Hand(pid) => Answer::Handshake(*pid),
+    }
+}
+
+/// The bytes of an answer's data.
+fn bytes_in(reply: &Reply) -> &[u8]
+    ensures bytes { result.now ≡ bytes_in reply.now }
+    ensures few { length result.now ≤ 1024 }
+{
+    match reply {
+        Reply::Bytes(_, bytes) => bytes.as_slice(),
+        Reply::Silent | Reply::Hand(_) => &[],
     }
 }
 
@@ -72,7 +85,7 @@ impl Recorder {
     pub fn build(alloc: Global, script: &Script) -> Result<Recorder, Memory>
         requires devices { IsTrue (list_all is_scripted script.now.devices) }
         requires hubs { IsTrue (list_all has_few_ports script.now.hubs) }
-        ensures { IfOk result (λ r. r ≡ record { wired = opening_wired script.now; exchange = None; allowed = true }) }
+        ensures { IfOk result (λ r. r ≡ record { wired = opening_wired script.now; exchange = None; sent = []; got = []; allowed = true }) }
     {
         let bus = UsbBus::build(alloc, script)?;
         let fates = Vec::from_slice(alloc, script.fates.as_slice())?;
@@ -80,6 +93,8 @@ impl Recorder {
             bus,
             fates,
             exchange: None,
+            sent: Packet::empty(),
+            got: Packet::empty(),
             allowed: true,
         })
     }
@@ -96,6 +111,22 @@ impl Recorder {
         ensures { result ≡ self.now.exchange }
     {
         self.exchange
+    }
+
+    /// The bytes that the host sent in the transaction that was made last.
+    pub fn sent(&self) -> &[u8]
+        ensures bytes { result.now ≡ self.now.sent }
+        ensures few { length self.now.sent ≤ 1024 }
+    {
+        self.sent.as_slice()
+    }
+
+    /// The bytes of the data that came in answer in the transaction that was made last.
+    pub fn got(&self) -> &[u8]
+        ensures bytes { result.now ≡ self.now.got }
+        ensures few { length self.now.got ≤ 1024 }
+    {
+        self.got.as_slice()
     }
 
     /// Whether the bus may be used in the microframe that began last.
@@ -139,7 +170,10 @@ impl Wire for Recorder {
     }
 
     fn transact(&mut self, ask: &Ask, out: &[u8], reply: &mut Reply) {
-        match self.bus.transact_told(ask, out, reply) {
+        let told = self.bus.transact_told(ask, out, reply);
+        self.sent.set(out);
+        self.got.set(bytes_in(reply));
+        match told {
             Some(told) => {
                 self.exchange = Some(exchange(self.fates.as_slice(), ask, out, reply, &told));
                 told.row.let_hear(reply);

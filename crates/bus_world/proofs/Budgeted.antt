@@ -20,7 +20,7 @@ use Rattle.admission_laws.proofs.Budgets.{opening_kept, command_kept, event_kept
 use Rattle.admission_laws.proofs.Refusals.{refused_exactly}
 use Rattle.bus_world.specs.World.{World, next, driver_parts, commanded, commanded_by, name_in}
 use Rattle.bus_world.specs.Opening.{opening_world}
-use Rattle.bus_world.specs.Orders.{Left, Events, Microframes, Answer, Command, Place, at_place, left_of, orders_of, fewer, tick, tick_by, tick_at, ticks}
+use Rattle.bus_world.specs.Orders.{Left, Events, Microframes, Answer, Command, OrderedWorld, at_place, left_of, orders_of, fewer, tick, tick_by, tick_at, ticks}
 use Rattle.bus_world.specs.Rooms.{needs, needs_line, no_room, with_room, reserve_of, HasRoomFor}
 use Rattle.bus_world.specs.Budgets.{AdmitsExactly, AdmitsThroughout}
 use Rattle.bus_world.proofs.Ways.{next_room}
@@ -90,7 +90,7 @@ command_ready w n cmd rest h = record {
   fits = h.fits.1;
 }
 
-abbrev IsReadyAt : Place → Type 0
+abbrev IsReadyAt : OrderedWorld → Type 0
 IsReadyAt p = IsReady p.world p.orders
 
 by_ready : (fixed : Fixed) (w : World) (x : Left) (rest : List Left) → IsReady w (x ∷ rest) → IsReadyAt (tick_by fixed w x rest)
@@ -105,7 +105,7 @@ at_ready : (fixed : Fixed) (w : World) (orders : List Left) → IsReady w orders
 at_ready fixed w [] h = h
 at_ready fixed w (x ∷ rest) h = by_ready fixed w x rest h
 
-all_ready : (fixed : Fixed) (p : Place) (k : ℕ) → IsReadyAt p → IsReadyAt (ticks fixed p k)
+all_ready : (fixed : Fixed) (p : OrderedWorld) (k : ℕ) → IsReadyAt p → IsReadyAt (ticks fixed p k)
 unfolding ticks
 all_ready fixed p zero h = h
 all_ready fixed p (suc k) h = all_ready fixed (tick fixed p) k (at_ready fixed p.world p.orders h)
@@ -150,7 +150,7 @@ lines_fit (x ∷ xs) h = (line_fits x.1 x.0 h.0, lines_fit xs h.1)
 pub run_admits : (fixed : Fixed) (w : World) (xs : List (ℕ × Line)) → KeepsBudgets (account_of w.driver) → HasRoomFor w.driver.room (reserve_of xs) → AllByRecursion (λ x. IsFitLine x.1) xs
     → (k : ℕ) → AdmitsExactly (ticks fixed (at_place w (orders_of xs)) k)
 run_admits fixed w xs budgets room fits k =
-    let p : Place = ticks fixed (at_place w (orders_of xs)) k in
+    let p : OrderedWorld = ticks fixed (at_place w (orders_of xs)) k in
     admits p.world p.orders (all_ready fixed (at_place w (orders_of xs)) k (record {
       budgets = budgets;
       room = subst (HasRoomFor w.driver.room) (sym (lines_need xs)) room;

@@ -18,13 +18,13 @@ use Rattle.driver_rows.specs.declared.content.Transfer.{Transfer}
 use Rattle.driver_rows.specs.declared.content.QtdNote.{QtdNote}
 use Rattle.driver_rows.specs.declared.content.Command.{Command}
 use Rattle.driver_rows.specs.declared.content.Command.TheVariants as unfinished
-use Rattle.driver_rows.specs.declared.rows.Row.{Row}
-use Rattle.driver_rows.specs.declared.rows.Row.TheVariants as rows
+use Rattle.driver_rows.specs.declared.rows.DriverRow.{DriverRow}
+use Rattle.driver_rows.specs.declared.rows.DriverRow.TheVariants as rows
 use Rattle.driver_rows.specs.declared.rows.Found.{Found}
 use Rattle.driver_rows.specs.declared.rows.Found.TheVariants as founds
 use Rattle.driver_rows.specs.DriverContent.{DriverContent, waits_for}
 use Rattle.driver_rows.specs.Harvests.{reported, noted, end_of, is_stall}
-use Rattle.driver_rows.specs.Rows.{Parts, after_row, advance, advanced_by, finished, no_command, leave_ring, leave_frames, events_of, links, removes_members, list_after, linked_on}
+use Rattle.driver_rows.specs.Rows.{Parts, after_driver_row, advance, advanced_by, finished, no_command, leave_ring, leave_frames, events_of, links, removes_members, list_after, linked_on}
 use Rattle.driver_rows.specs.Rows.{framed_by, with_notes, framed_notes, placement_at, linked_by, after_transfer, freed_by, after_endpoint, cancel_told}
 use Rattle.driver_rows.specs.Rows.{after_unlink, after_descriptor, after_placed, after_removed, removed_with}
 use Rattle.driver_rows.specs.Rows.{is_told, gone_with, after_harvest, harvested_as, after_end, told_with, stalled, goes_on, behind, behind_one, mends_of, served}
@@ -203,7 +203,7 @@ harvest_keeps d m e t found (Some x) None = keeps_all d
 
 -- ---- any event
 
-pub row_keeps : (row : Row) (p : Parts) → Keeps p.driver (after_row row p).driver
+pub row_keeps : (row : DriverRow) (p : Parts) → Keeps p.driver (after_driver_row row p).driver
 row_keeps rows.Lend p =
     let lent : DriverContent = record p.driver { book = (lend_taken (holding p.driver.book p.memory)).book } in
     keeps_join p.driver lent _ (record { room = refl; stored = λ s. s }) (advance_keeps lent)

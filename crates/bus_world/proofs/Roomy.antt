@@ -16,13 +16,13 @@ use Rattle.control_stages.specs.declared.rows.Sequence.{Sequence}
 use Rattle.control_stages.specs.declared.rows.Sequence.TheVariants as sequences
 use Rattle.control_stages.specs.Stages.{sequence_of}
 use Rattle.endpoint_script.specs.declared.endpoint.Endpoint.{Endpoint}
-use Rattle.endpoint_script.specs.declared.endpoint.Part.{Part}
-use Rattle.endpoint_script.specs.declared.endpoint.Part.TheVariants.{Sends, Takes, Controls, Streams, Hears}
+use Rattle.endpoint_script.specs.declared.endpoint.Role.{Role}
+use Rattle.endpoint_script.specs.declared.endpoint.Role.TheVariants.{Sends, Takes, Controls, Streams, Hears}
 use Rattle.endpoint_script.specs.declared.rows.TakeRow.{TakeRow}
 use Rattle.endpoint_script.specs.declared.rows.TakeRow.TheVariants as takes
-use Rattle.endpoint_script.specs.Taking.{Taking, next_row, out_row, ping_row, has_room, is_ping, take_row, row_of, after_row as after_taking}
+use Rattle.endpoint_script.specs.Taking.{Taking, next_row, out_row, ping_row, has_room, is_ping, take_row, taking_row, after_taking_row as after_taking}
 use Rattle.endpoint_script.specs.Device.{Device, opened_part, opened_endpoint, opening, part_begun, endpoint_begun, begun, part_answered, endpoint_answered, part_acked}
-use Rattle.endpoint_script.specs.Device.{endpoint_acked, answered, answered_in, answered_at, acked_by, acked_in, acked_at, place_of, taken_of, taken_from, part_taken, endpoint_at}
+use Rattle.endpoint_script.specs.Device.{endpoint_acked, answered, answered_in, answered_at, acked_by, acked_in, acked_at, endpoint_asked, taken_of, taken_from, part_taken, endpoint_at}
 use Rattle.endpoint_script.specs.Device.{place_of_name}
 use Rattle.usb_bus.specs.declared.asked.Asked.{Asked}
 use Rattle.usb_bus.specs.declared.who_heard.WhoHeard.{WhoHeard}
@@ -33,7 +33,7 @@ use Rattle.usb_bus.specs.declared.asked.Answerer.{Answerer}
 use Rattle.usb_bus.specs.declared.asked.Answerer.TheVariants as answerers
 use Rattle.usb_bus.specs.Asking.{device_after, put_at, changed_at}
 use Rattle.usb_bus.specs.Below.{Below, Floor, below_at, asked_below, below_row, devices_after, below_reply, below_after_at, below_after, floor_left, floor_worked}
-use Rattle.usb_bus.specs.Bus.{Fixed, Bus, floor_of, begins_anew, begun_at, begin_after, asked_of, changed_by, after_at, row_of as heard_row, transact_after}
+use Rattle.usb_bus.specs.Bus.{Fixed, Bus, floor_of, begins_anew, begun_at, begin_after, asked_of, changed_by, after_at, bus_row as heard_row, transact_after}
 use Rattle.script_fits.specs.Fits.{IsFitRoom}
 use Rattle.bus_world.specs.Sound.{IsRoomy, IsRoomyEndpoint, IsRoomyDevice}
 
@@ -113,21 +113,21 @@ taken_roomy takes.Takes t out fits h = (omega (arith, leb-true (length t.taken +
 taken_roomy takes.TakesLast t out fits h = (omega (arith, leb-true (length t.taken + length out) t.room fits, length-append t.taken out), h.1)
 taken_roomy takes.HasRoom t out fits h = h
 
-part_roomy : (part : Part) (ask : Ask) (out : List ℕ) → IsRoomy part → IsRoomy (part_answered part ask out)
+part_roomy : (part : Role) (ask : Ask) (out : List ℕ) → IsRoomy part → IsRoomy (part_answered part ask out)
 part_roomy (Sends s) ask out h = tt
-part_roomy (Takes t) ask out h = taken_roomy (row_of t ask out) t out (row_fits (is_ping ask.pid) t (sequence_of t.toggle ask.toggle) (length out)) h
+part_roomy (Takes t) ask out h = taken_roomy (taking_row t ask out) t out (row_fits (is_ping ask.pid) t (sequence_of t.toggle ask.toggle) (length out)) h
 part_roomy (Controls c) ask out h = tt
 part_roomy (Streams s) ask out h = tt
 part_roomy Hears ask out h = tt
 
-acked_roomy : (part : Part) → IsRoomy part → IsRoomy (part_acked part)
+acked_roomy : (part : Role) → IsRoomy part → IsRoomy (part_acked part)
 acked_roomy (Sends s) h = tt
 acked_roomy (Takes t) h = h
 acked_roomy (Controls c) h = tt
 acked_roomy (Streams s) h = tt
 acked_roomy Hears h = tt
 
-begun_roomy : (part : Part) → IsRoomy part → IsRoomy (part_begun part)
+begun_roomy : (part : Role) → IsRoomy part → IsRoomy (part_begun part)
 begun_roomy (Sends s) h = tt
 begun_roomy (Takes t) h = h
 begun_roomy (Controls c) h = tt
@@ -146,7 +146,7 @@ answered_in_roomy es None ask out h = h
 answered_in_roomy es (Some place) ask out h = answered_at_roomy es place (slice_get es place) ask out h (all_get IsRoomyEndpoint es place h)
 
 answered_roomy : (d : Device) (ask : Ask) (out : List ℕ) → IsRoomyDevice d → IsRoomyDevice (answered d ask out)
-answered_roomy d ask out h = record { each = answered_in_roomy d.endpoints (place_of d ask) ask out h.each }
+answered_roomy d ask out h = record { each = answered_in_roomy d.endpoints (endpoint_asked d ask) ask out h.each }
 
 acked_at_roomy : (es : List Endpoint) (place : ℕ) (e : Option Endpoint) → AllByRecursion IsRoomyEndpoint es → Holds IsRoomyEndpoint e → AllByRecursion IsRoomyEndpoint (acked_at es place e)
 acked_at_roomy es place None h k = h
@@ -157,7 +157,7 @@ acked_in_roomy es None h = h
 acked_in_roomy es (Some place) h = acked_at_roomy es place (slice_get es place) h (all_get IsRoomyEndpoint es place h)
 
 acked_by_roomy : (d : Device) (ask : Ask) → IsRoomyDevice d → IsRoomyDevice (acked_by d ask)
-acked_by_roomy d ask h = record { each = acked_in_roomy d.endpoints (place_of d ask) h.each }
+acked_by_roomy d ask h = record { each = acked_in_roomy d.endpoints (endpoint_asked d ask) h.each }
 
 device_begun_roomy : (d : Device) → IsRoomyDevice d → IsRoomyDevice (begun d)
 device_begun_roomy d h = record { each = all_map IsRoomyEndpoint IsRoomyEndpoint endpoint_begun d.endpoints (λ e k. begun_roomy e.part k) h.each }
@@ -246,7 +246,7 @@ opening_roomy ds h =
 abbrev IsShort : List ℕ → Type 0
 IsShort bytes = length bytes < 4294967296
 
-part_short : (part : Part) → IsRoomy part → IsShort (part_taken part)
+part_short : (part : Role) → IsRoomy part → IsShort (part_taken part)
 part_short (Sends s) h = omega arith
 part_short (Takes t) h = omega (arith, h.0, h.1)
 part_short (Controls c) h = omega arith

@@ -13,18 +13,18 @@ use Rattle.walk_copy.specs.declared.held.Transaction.{Transaction}
 use Rattle.walk_copy.specs.Buffer.{sending}
 use Rattle.walk_copy.specs.Transacting.{call_in}
 use Rattle.op_registers.specs.Events.{next_index}
-use Rattle.async_walk.specs.declared.rows.Row.{Row as WalkRow}
-use Rattle.async_walk.specs.declared.rows.Row.TheVariants as walks
-use Rattle.async_walk.specs.Rows.{Place, at_event, event_row}
-use Rattle.hc_core.specs.declared.controller.Row.{Row}
-use Rattle.hc_core.specs.declared.controller.Row.TheVariants as rows
+use Rattle.async_walk.specs.declared.rows.WalkRow.{WalkRow}
+use Rattle.async_walk.specs.declared.rows.WalkRow.TheVariants as walks
+use Rattle.async_walk.specs.Rows.{WalkPlace, at_event, event_row}
+use Rattle.hc_core.specs.declared.controller.ControllerRow.{ControllerRow}
+use Rattle.hc_core.specs.declared.controller.ControllerRow.TheVariants as rows
 use Rattle.periodic_walk.specs.Place.{Effect}
 use Rattle.periodic_walk.specs.Place.Effect.{Leaves, Asks}
 use Rattle.periodic_walk.specs.Rows.{effect_of}
 use Rattle.hc_core.specs.Controller.{Content, entered, frame_place, walk_place}
 use Rattle.driver_rows.specs.DriverContent.{DriverContent, new_driver}
 use Rattle.driver_rows.specs.declared.content.Reserve.{Reserve}
-use Rattle.driver_rows.specs.Rows.{Parts, row_of, after_row}
+use Rattle.driver_rows.specs.Rows.{Parts, driver_row, after_driver_row}
 use Rattle.driver_rows.specs.Offers.{IsOffered, offered}
 use Rattle.bandwidth.proofs.Budgets.{fits_none}
 use Rattle.admission_laws.specs.Budgets.{account_of, KeepsBudgets}
@@ -39,10 +39,10 @@ use Rattle.bus_world.proofs.Offering.{Lines, SameLines, offer_lines}
 
 -- ---- the driver
 
-pub driver_sound : (p : Parts) (new : DriverContent) (m : Mem) (b : Bus) → IsSound p.driver p.memory b → Stands (holding new.book m) → new ≡ (after_row (row_of p) p).driver → IsSound new m b
+pub driver_sound : (p : Parts) (new : DriverContent) (m : Mem) (b : Bus) → IsSound p.driver p.memory b → Stands (holding new.book m) → new ≡ (after_driver_row (driver_row p) p).driver → IsSound new m b
 driver_sound p new m b h stands e = record {
   stands = stands;
-  stored = subst (λ (d : DriverContent). AreStored d.reports (length d.store)) (sym e) ((row_keeps (row_of p) p).stored h.stored);
+  stored = subst (λ (d : DriverContent). AreStored d.reports (length d.store)) (sym e) ((row_keeps (driver_row p) p).stored h.stored);
   roomy = h.roomy;
   budgets = subst (λ (d : DriverContent). KeepsBudgets (account_of d)) (sym e) (event_kept p h.budgets);
 }
@@ -52,16 +52,16 @@ driver_sound p new m b h stands e = record {
 abbrev AreRoomy : Bus → Type 0
 AreRoomy b = AllByRecursion IsRoomyDevice b.devices
 
-sent_roomy : (fixed : Fixed) (all : Bool) (t : Transaction) (h : Held) (bytes : List ℕ) (p : Place) (b : Bus) → AreRoomy b → AreRoomy (sent_by fixed all t h bytes p b).bus
+sent_roomy : (fixed : Fixed) (all : Bool) (t : Transaction) (h : Held) (bytes : List ℕ) (p : WalkPlace) (b : Bus) → AreRoomy b → AreRoomy (sent_by fixed all t h bytes p b).bus
 sent_roomy fixed true t h bytes p b r = transact_roomy fixed b (call_in t bytes false).ask (call_in t bytes false).out r
 sent_roomy fixed false t h bytes p b r = r
 
-sends_roomy : (fixed : Fixed) (t : Transaction) (p : Place) (held : Option Held) (b : Bus) → AreRoomy b → AreRoomy (sends_by fixed t p held b).bus
+sends_roomy : (fixed : Fixed) (t : Transaction) (p : WalkPlace) (held : Option Held) (b : Bus) → AreRoomy b → AreRoomy (sends_by fixed t p held b).bus
 sends_roomy fixed t p None b r = r
 sends_roomy fixed t p (Some h) b r =
     sent_roomy fixed (sending t h.queue_head p.memory).all t h (sending t h.queue_head p.memory).bytes (record p { memory = (sending t h.queue_head p.memory).memory }) b r
 
-walk_roomy : (fixed : Fixed) (row : WalkRow) (p : Place) (b : Bus) → AreRoomy b → AreRoomy (walk_by fixed row p b).bus
+walk_roomy : (fixed : Fixed) (row : WalkRow) (p : WalkPlace) (b : Bus) → AreRoomy b → AreRoomy (walk_by fixed row p b).bus
 walk_roomy fixed (walks.Transact t) p b r = sends_roomy fixed t p p.walk.held b r
 walk_roomy fixed walks.Fault p b r = r
 walk_roomy fixed walks.HeadEnds p b r = r
@@ -75,7 +75,7 @@ frame_roomy : (fixed : Fixed) (e : Effect) (b : Bus) → AreRoomy b → AreRoomy
 frame_roomy fixed (Leaves p) b r = r
 frame_roomy fixed (Asks ask out left_by) b r = transact_roomy fixed b ask out r
 
-turned_roomy : (fixed : Fixed) (row : Row) (c : Content) (b : Bus) → AreRoomy b → AreRoomy (turned_by fixed row c b).bus
+turned_roomy : (fixed : Fixed) (row : ControllerRow) (c : Content) (b : Bus) → AreRoomy b → AreRoomy (turned_by fixed row c b).bus
 turned_roomy fixed rows.Idle c b r = r
 turned_roomy fixed rows.Begin c b r = begin_roomy fixed (next_index c.registers.frame_index) b r
 turned_roomy fixed rows.Frame c b r = frame_roomy fixed (effect_of (frame_place c)) b r

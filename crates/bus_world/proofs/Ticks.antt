@@ -4,26 +4,26 @@ use Rattle.script_types.specs.declared.scripts.Event.{Event}
 use Rattle.script_types.specs.declared.scripts.Event.TheVariants as events
 use Rattle.usb_bus.specs.Bus.{Fixed}
 use Rattle.bus_world.specs.World.{World, Standing, next, kind_next}
-use Rattle.bus_world.specs.Orders.{Left, Events, Microframes, Place, tick, ticks, Leads, at_place, is_end, fewer, IsUnended, IsOverlong, most_turns}
+use Rattle.bus_world.specs.Orders.{Left, Events, Microframes, OrderedWorld, tick, ticks, Leads, at_place, is_end, fewer, IsUnended, IsOverlong, most_turns}
 
-pub ticks_more : (fixed : Fixed) (p : Place) (a b : ℕ) → ticks fixed p (a + b) ≡ ticks fixed (ticks fixed p a) b
+pub ticks_more : (fixed : Fixed) (p : OrderedWorld) (a b : ℕ) → ticks fixed p (a + b) ≡ ticks fixed (ticks fixed p a) b
 unfolding ticks
 ticks_more fixed p zero b = ap (λ n. ticks fixed p n) (zero-add b)
 ticks_more fixed p (suc a) b =
     let e : suc a + b ≡ suc (a + b) = omega arith in
     ap (λ n. ticks fixed p n) e ∙ ticks_more fixed (tick fixed p) a b
 
-pub joined : (fixed : Fixed) (p q r : Place) → Leads fixed p q → Leads fixed q r → Leads fixed p r
+pub joined : (fixed : Fixed) (p q r : OrderedWorld) → Leads fixed p q → Leads fixed q r → Leads fixed p r
 joined fixed p q r a b = record {
   count = a.count + b.count;
   there = ticks_more fixed p a.count b.count ∙ ap (λ x. ticks fixed x b.count) a.there ∙ b.there;
 }
 
-pub nothing : (fixed : Fixed) (p : Place) → Leads fixed p p
+pub nothing : (fixed : Fixed) (p : OrderedWorld) → Leads fixed p p
 unfolding ticks
 nothing fixed p = record { count = 0; there = refl }
 
-pub one_tick : (fixed : Fixed) (p : Place) → Leads fixed p (tick fixed p)
+pub one_tick : (fixed : Fixed) (p : OrderedWorld) → Leads fixed p (tick fixed p)
 unfolding ticks
 one_tick fixed p = record { count = 1; there = refl }
 
@@ -80,19 +80,19 @@ is_unended begun now k many still n rest = record { turns = k; many = many; stil
 
 -- ---- orders that go on
 
-pub orders_end : (fixed : Fixed) (p : Place) (w : World) (n : ℕ) (rest : List Left) → n ≡ 0 → Leads fixed p (at_place w (Microframes n ∷ rest)) → Leads fixed p (at_place w rest)
+pub orders_end : (fixed : Fixed) (p : OrderedWorld) (w : World) (n : ℕ) (rest : List Left) → n ≡ 0 → Leads fixed p (at_place w (Microframes n ∷ rest)) → Leads fixed p (at_place w rest)
 orders_end fixed p w n rest z h =
     joined fixed p (at_place w (Microframes 0 ∷ rest)) (at_place w rest)
     (subst (λ m. Leads fixed p (at_place w (Microframes m ∷ rest))) z h)
     (one_tick fixed (at_place w (Microframes 0 ∷ rest)))
 
-pub events_end : (fixed : Fixed) (p : Place) (w : World) (event : Event) (n : ℕ) (rest : List Left) → n ≡ 0 → Leads fixed p (at_place w (Events event n ∷ rest)) → Leads fixed p (at_place w rest)
+pub events_end : (fixed : Fixed) (p : OrderedWorld) (w : World) (event : Event) (n : ℕ) (rest : List Left) → n ≡ 0 → Leads fixed p (at_place w (Events event n ∷ rest)) → Leads fixed p (at_place w rest)
 events_end fixed p w event n rest z h =
     joined fixed p (at_place w (Events event 0 ∷ rest)) (at_place w rest)
     (subst (λ m. Leads fixed p (at_place w (Events event m ∷ rest))) z h)
     (one_tick fixed (at_place w (Events event 0 ∷ rest)))
 
-pub one_event : (fixed : Fixed) (p : Place) (w : World) (event : Event) (n m : ℕ) (rest : List Left) → n ≡ suc m → Leads fixed p (at_place w (Events event n ∷ rest))
+pub one_event : (fixed : Fixed) (p : OrderedWorld) (w : World) (event : Event) (n m : ℕ) (rest : List Left) → n ≡ suc m → Leads fixed p (at_place w (Events event n ∷ rest))
     → Leads fixed p (at_place (next fixed w event) (Events event m ∷ rest))
 one_event fixed p w event n m rest e h =
     joined fixed p (at_place w (Events event (suc m) ∷ rest)) (at_place (next fixed w event) (Events event m ∷ rest))

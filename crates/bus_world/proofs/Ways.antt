@@ -8,10 +8,10 @@ use Rattle.script_types.specs.declared.scripts.Line.TheVariants as lines
 use Rattle.usb_base.specs.declared.commands.Cmd.{Cmd}
 use Rattle.usb_bus.specs.Bus.{Fixed}
 use Rattle.driver_rows.specs.declared.content.Reserve.{Reserve}
-use Rattle.driver_rows.specs.Rows.{row_of}
+use Rattle.driver_rows.specs.Rows.{driver_row}
 use Rattle.script_fits.specs.Fits.{IsFitLine}
 use Rattle.bus_world.specs.World.{World, Standing, next, driver_parts, commanded}
-use Rattle.bus_world.specs.Orders.{Left, Command, Place, Leads, at_place, left_of, orders_of, IsOverlong, IsRun}
+use Rattle.bus_world.specs.Orders.{Left, Command, OrderedWorld, Leads, at_place, left_of, orders_of, IsOverlong, IsRun}
 use Rattle.bus_world.specs.Rooms.{HasRoomFor, needs_line, with_room, reserve_of}
 use Rattle.bus_world.proofs.Kept.{row_keeps}
 use Rattle.bus_world.proofs.Ticks.{joined, nothing, one_tick}
@@ -20,7 +20,7 @@ use Rattle.bus_world.proofs.Rooming.{less_room, drop_next, can_offer, command_le
 
 -- an event leaves the driver's reserve as it was
 pub next_room : (fixed : Fixed) (w : World) (event : Event) → (next fixed w event).driver.room ≡ w.driver.room
-next_room fixed w events.D = (row_keeps (row_of (driver_parts w)) (driver_parts w)).room
+next_room fixed w events.D = (row_keeps (driver_row (driver_parts w)) (driver_parts w)).room
 next_room fixed w events.C = refl
 
 pub event_room : (now later : Standing) (event : Event) → later ≡ record now { world = next now.fixed now.world event } → later.world.driver.room ≡ now.world.driver.room
@@ -85,7 +85,7 @@ way_more begun now later all rest x way fixed done room = record {
   fits = way.fits.1;
 }
 
-overlong_after : (fixed : Fixed) (p q : Place) (w : World) → Leads fixed p q → IsOverlong fixed q w → IsOverlong fixed p w
+overlong_after : (fixed : Fixed) (p q : OrderedWorld) (w : World) → Leads fixed p q → IsOverlong fixed q w → IsOverlong fixed p w
 overlong_after fixed p q w h o = record {
   begun = o.begun;
   n = o.n;

@@ -7,18 +7,18 @@ use Rattle.walk_copy.specs.declared.held.Transaction.{Transaction}
 use Rattle.walk_copy.specs.Buffer.{Reading, sending}
 use Rattle.walk_copy.specs.Transacting.{call_in}
 use Rattle.op_registers.specs.Events.{next_index}
-use Rattle.async_walk.specs.declared.rows.Row.{Row as WalkRow}
-use Rattle.async_walk.specs.declared.rows.Row.TheVariants as walks
-use Rattle.async_walk.specs.Rows.{Place, at_event, event_row, after_row, transacted, faulted as walk_faulted, Stays as Still, SentAt, Sends, Leads}
+use Rattle.async_walk.specs.declared.rows.WalkRow.{WalkRow}
+use Rattle.async_walk.specs.declared.rows.WalkRow.TheVariants as walks
+use Rattle.async_walk.specs.Rows.{WalkPlace, at_event, event_row, after_walk_row, transacted, faulted as walk_faulted, Stays as Still, SentAt, Sends, Leads}
 use Rattle.periodic_walk.specs.Walk.{Walk as FrameWalk}
-use Rattle.periodic_walk.specs.Place.{Place as FramePlace, Effect, HasEffect}
+use Rattle.periodic_walk.specs.Place.{FramePlace, Effect, HasEffect}
 use Rattle.periodic_walk.specs.Place.Effect.{Leaves, Asks}
 use Rattle.periodic_walk.specs.Rows.{effect_of}
 use Rattle.async_walk.specs.Walk.{Walk}
-use Rattle.hc_core.specs.declared.controller.Part.{Part}
-use Rattle.hc_core.specs.declared.controller.Part.TheVariants.{Periodic, Asynchronous}
-use Rattle.hc_core.specs.declared.controller.Row.{Row}
-use Rattle.hc_core.specs.declared.controller.Row.TheVariants as rows
+use Rattle.hc_core.specs.declared.controller.MicroframePart.{MicroframePart}
+use Rattle.hc_core.specs.declared.controller.MicroframePart.TheVariants.{Periodic, Asynchronous}
+use Rattle.hc_core.specs.declared.controller.ControllerRow.{ControllerRow}
+use Rattle.hc_core.specs.declared.controller.ControllerRow.TheVariants as rows
 use Rattle.word_mem.specs.Memory.{Mem}
 use Rattle.op_registers.specs.RegisterFile.{RegisterFile}
 use Rattle.hc_core.specs.Controller.{Control, Content, content, began, ended, entered, part_after, frame_place, frame_step, walk_place, walk_step, WalksFrame, Walks, HasRow}
@@ -34,18 +34,18 @@ abbrev pub transacts_in : Wired → Ask → List ℕ → Reply → Wired → Typ
 transacts_in w ask out reply v = (reply ≡ reply_of w.fixed w.bus ask out) × (v ≡ record w { bus = transact_after w.fixed w.bus ask out })
 
 -- the wire afterwards: what is fixed stays
-record IsWalked (w : Wired) (expected : Walked) (new : Place) (v : Wired) : Type 0 where
+record IsWalked (w : Wired) (expected : Walked) (new : WalkPlace) (v : Wired) : Type 0 where
   pub is : record { place = new; bus = v.bus } ≡ expected
   pub fixed : v.fixed ≡ w.fixed
 
-walked_pair : (new : Place) (v : Wired) (place : Place) (u : Wired) → new ≡ place → v ≡ u → ◌≡◌ {A = Walked} (record { place = new; bus = v.bus }) (record { place = place; bus = u.bus })
+walked_pair : (new : WalkPlace) (v : Wired) (place : WalkPlace) (u : Wired) → new ≡ place → v ≡ u → ◌≡◌ {A = Walked} (record { place = new; bus = v.bus }) (record { place = place; bus = u.bus })
 walked_pair new v place u a b =
-    ap (λ (n : Place). let r : Walked = record { place = n; bus = v.bus } in r) a ∙ ap (λ (x : Wired). let r : Walked = record { place = place; bus = x.bus } in r) b
+    ap (λ (n : WalkPlace). let r : Walked = record { place = n; bus = v.bus } in r) a ∙ ap (λ (x : Wired). let r : Walked = record { place = place; bus = x.bus } in r) b
 
-still_is : (w : Wired) (place new : Place) (v : Wired) → Still place w new v → IsWalked w (record { place = place; bus = w.bus }) new v
+still_is : (w : Wired) (place new : WalkPlace) (v : Wired) → Still place w new v → IsWalked w (record { place = place; bus = w.bus }) new v
 still_is w place new v h = record { is = walked_pair new v place w h.0 h.1; fixed = ap (λ (x : Wired). x.fixed) h.1 }
 
-sent_is : (b : Bool) (t : Transaction) (h : Held) (read : Reading) (p : Place) (w : Wired) (new : Place) (v : Wired) → SentAt transacts_in b t h read p w new v
+sent_is : (b : Bool) (t : Transaction) (h : Held) (read : Reading) (p : WalkPlace) (w : Wired) (new : WalkPlace) (v : Wired) → SentAt transacts_in b t h read p w new v
     → IsWalked w (sent_by w.fixed b t h read.bytes (record p { memory = read.memory }) w.bus) new v
 sent_is true t h read p w new v s = record {
   is =
@@ -56,19 +56,19 @@ sent_is true t h read p w new v s = record {
 }
 sent_is false t h read p w new v s = still_is w (walk_faulted (record p { memory = read.memory })) new v s
 
-sends_is : (t : Transaction) (p : Place) (held : Option Held) (w : Wired) (new : Place) (v : Wired) → Sends transacts_in t p held w new v → IsWalked w (sends_by w.fixed t p held w.bus) new v
+sends_is : (t : Transaction) (p : WalkPlace) (held : Option Held) (w : Wired) (new : WalkPlace) (v : Wired) → Sends transacts_in t p held w new v → IsWalked w (sends_by w.fixed t p held w.bus) new v
 sends_is t p None w new v s = still_is w p new v s
 sends_is t p (Some h) w new v s = sent_is (sending t h.queue_head p.memory).all t h (sending t h.queue_head p.memory) p w new v s
 
-walk_is : (row : WalkRow) (p : Place) (w : Wired) (new : Place) (v : Wired) → Leads transacts_in row p w new v → IsWalked w (walk_by w.fixed row p w.bus) new v
+walk_is : (row : WalkRow) (p : WalkPlace) (w : Wired) (new : WalkPlace) (v : Wired) → Leads transacts_in row p w new v → IsWalked w (walk_by w.fixed row p w.bus) new v
 walk_is (walks.Transact t) p w new v s = sends_is t p p.walk.held w new v s
-walk_is walks.Fault p w new v s = still_is w (after_row walks.Fault p) new v s
-walk_is walks.HeadEnds p w new v s = still_is w (after_row walks.HeadEnds p) new v s
-walk_is (walks.Fetch a q) p w new v s = still_is w (after_row (walks.Fetch a q) p) new v s
-walk_is walks.Skip p w new v s = still_is w (after_row walks.Skip p) new v s
-walk_is walks.OutOfTime p w new v s = still_is w (after_row walks.OutOfTime p) new v s
-walk_is (walks.Advance a t) p w new v s = still_is w (after_row (walks.Advance a t) p) new v s
-walk_is walks.WriteBack p w new v s = still_is w (after_row walks.WriteBack p) new v s
+walk_is walks.Fault p w new v s = still_is w (after_walk_row walks.Fault p) new v s
+walk_is walks.HeadEnds p w new v s = still_is w (after_walk_row walks.HeadEnds p) new v s
+walk_is (walks.Fetch a q) p w new v s = still_is w (after_walk_row (walks.Fetch a q) p) new v s
+walk_is walks.Skip p w new v s = still_is w (after_walk_row walks.Skip p) new v s
+walk_is walks.OutOfTime p w new v s = still_is w (after_walk_row walks.OutOfTime p) new v s
+walk_is (walks.Advance a t) p w new v s = still_is w (after_walk_row (walks.Advance a t) p) new v s
+walk_is walks.WriteBack p w new v s = still_is w (after_walk_row walks.WriteBack p) new v s
 
 -- ---- the walk of the frame's chain
 
@@ -105,7 +105,7 @@ stays_is : (w : Wired) (content new : Content) (v : Wired) → (new ≡ content)
 stays_is w content new v h = record { is = turned_pair new v content w h.0 h.1; fixed = ap (λ (x : Wired). x.fixed) h.1 }
 
 -- these contents, with this control
-abbrev turned_at : Content → Wired → Part → FrameWalk → Walk → Turned
+abbrev turned_at : Content → Wired → MicroframePart → FrameWalk → Walk → Turned
 turned_at new v part frame walk = record {
   content = record { control = record { part = part; frame = frame; walk = walk }; registers = new.registers; memory = new.memory };
   bus = v.bus;
@@ -116,7 +116,7 @@ frames_is old w new v s =
     let e = frame_is (effect_of (frame_place old)) w (frame_place new) v s.walked in
     record {
       is =
-          ap (λ (part : Part). turned_at new v part new.control.frame new.control.walk) s.part
+          ap (λ (part : MicroframePart). turned_at new v part new.control.frame new.control.walk) s.part
           ∙ ap (λ (ring : Walk). turned_at new v (part_after Periodic (frame_step old)) new.control.frame ring) s.ring
           ∙ ap (framed old) e.is;
       fixed = e.fixed;
@@ -127,13 +127,13 @@ walks_is old w new v s =
     let e = walk_is (event_row (walk_place old)) (at_event (walk_place old)) w (walk_place new) v s.walked in
     record {
       is =
-          ap (λ (part : Part). turned_at new v part new.control.frame new.control.walk) s.part
+          ap (λ (part : MicroframePart). turned_at new v part new.control.frame new.control.walk) s.part
           ∙ ap (λ (frame : FrameWalk). turned_at new v (part_after Asynchronous (walk_step old)) frame new.control.walk) s.frame
           ∙ ap (walked old) e.is;
       fixed = e.fixed;
     }
 
-pub turned_is : (row : Row) (c : Content) (w : Wired) (new : Content) (v : Wired) → HasRow begins_in transacts_in row c w new v → IsTurned w (turned_by w.fixed row c w.bus) new v
+pub turned_is : (row : ControllerRow) (c : Content) (w : Wired) (new : Content) (v : Wired) → HasRow begins_in transacts_in row c w new v → IsTurned w (turned_by w.fixed row c w.bus) new v
 turned_is rows.Idle c w new v s = stays_is w c new v s
 turned_is rows.Begin c w new v s = record {
   is =

@@ -15,17 +15,17 @@ use Rattle.usb_bus.specs.Bus.{fixed_of}
 use Rattle.admission_laws.specs.Opens.{PassesBefore, BreaksBudgets}
 use Rattle.bus_world.specs.World.{World}
 use Rattle.bus_world.specs.Opening.{opening_world}
-use Rattle.bus_world.specs.Orders.{Left, Command, Place, at_place, orders_of, ticks}
+use Rattle.bus_world.specs.Orders.{Left, Command, OrderedWorld, at_place, orders_of, ticks}
 
 -- the open of this endpoint is refused for want of a placement exactly where each allowed one breaks a budget
 abbrev pub IsRefusedExactly : World → EpDesc → Type 0
 IsRefusedExactly w x = (offered w.driver w.memory (OpenEp x) ≡ Err NoPlacement) ↔ BreaksBudgets w.driver x
 
-pub record AdmitsExactly (p : Place) : Type 0 where
+pub record AdmitsExactly (p : OrderedWorld) : Type 0 where
   pub fits : Fits p.world.driver.periodic.plan.placed
   pub refused : (n : ℕ) (x : EpDesc) (rest : List Left) → p.orders ≡ Command n (OpenEp x) ∷ rest → PassesBefore p.world.driver x → IsRefusedExactly p.world x
 
-abbrev pub moment : Script → ℕ → Place
+abbrev pub moment : Script → ℕ → OrderedWorld
 moment s k = ticks (fixed_of s) (at_place (opening_world s) (orders_of s.lines)) k
 
 abbrev pub AdmitsThroughout : Script → Type 0

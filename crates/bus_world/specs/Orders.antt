@@ -1,5 +1,5 @@
 -- A run: the action lines of a script, one event or command at a time.
---     Left, Place                what is left of the orders; the world with what is left
+--     Left, OrderedWorld                what is left of the orders; the world with what is left
 --     tick                       one event or command
 --     ticks fixed p n            n of them
 --     Leads fixed p q            some number of them leads from p to q
@@ -29,7 +29,7 @@ left_of (lines.Command cmd) line = Command line cmd
 abbrev pub orders_of : List (ℕ × Line) → List Left
 orders_of xs = map (λ x. left_of x.1 x.0) xs
 
-pub record Place : Type 0 where
+pub record OrderedWorld : Type 0 where
   pub world : World
   pub orders : List Left
 
@@ -43,7 +43,7 @@ fewer true (suc n) = n
 fewer true zero = zero
 fewer false n = n
 
-abbrev pub tick_by : Fixed → World → Left → List Left → Place
+abbrev pub tick_by : Fixed → World → Left → List Left → OrderedWorld
 tick_by fixed w (Events event zero) rest = record { world = w; orders = rest }
 tick_by fixed w (Events event (suc n)) rest = record { world = next fixed w event; orders = Events event n ∷ rest }
 tick_by fixed w (Microframes zero) rest = record { world = w; orders = rest }
@@ -51,22 +51,22 @@ tick_by fixed w (Microframes (suc n)) rest = record { world = next fixed w event
 tick_by fixed w (Answer ended n) rest = record { world = next fixed w events.D; orders = Microframes (fewer ended n) ∷ rest }
 tick_by fixed w (Command n cmd) rest = record { world = commanded w n cmd; orders = rest }
 
-abbrev pub tick_at : Fixed → World → List Left → Place
+abbrev pub tick_at : Fixed → World → List Left → OrderedWorld
 tick_at fixed w [] = record { world = w; orders = [] }
 tick_at fixed w (x ∷ rest) = tick_by fixed w x rest
 
-abbrev pub tick : Fixed → Place → Place
+abbrev pub tick : Fixed → OrderedWorld → OrderedWorld
 tick fixed p = tick_at fixed p.world p.orders
 
-unfoldable pub ticks : Fixed → Place → ℕ → Place
+unfoldable pub ticks : Fixed → OrderedWorld → ℕ → OrderedWorld
 ticks fixed p zero = p
 ticks fixed p (suc n) = ticks fixed (tick fixed p) n
 
-pub record Leads (fixed : Fixed) (p q : Place) : Type 0 where
+pub record Leads (fixed : Fixed) (p q : OrderedWorld) : Type 0 where
   pub count : ℕ
   pub there : ticks fixed p count ≡ q
 
-abbrev pub at_place : World → List Left → Place
+abbrev pub at_place : World → List Left → OrderedWorld
 at_place w orders = record { world = w; orders = orders }
 
 -- Whatever is ordered after it, carrying out this order leads from the world w to v.
@@ -84,7 +84,7 @@ abbrev pub most_turns : ℕ
 most_turns = 1048576
 
 -- From p on, the most turns were made, and the microframe hasn't ended.
-pub record IsUnended (fixed : Fixed) (p q : Place) : Type 0 where
+pub record IsUnended (fixed : Fixed) (p q : OrderedWorld) : Type 0 where
   pub turns : ℕ
   pub many : turns ≡ most_turns
   pub still : ticks fixed p (2 * turns) ≡ q
@@ -94,7 +94,7 @@ abbrev pub IsMicroframeUnended : Fixed → World → World → Type 0
 IsMicroframeUnended fixed w v = (n : ℕ) (rest : List Left) → IsUnended fixed (at_place w (Microframes (suc n) ∷ rest)) (at_place v (Microframes (suc n) ∷ rest))
 
 -- The run from p on came to a microframe that hasn't ended after the most turns, and stopped there with the world w.
-pub record IsOverlong (fixed : Fixed) (p : Place) (w : World) : Type 0 where
+pub record IsOverlong (fixed : Fixed) (p : OrderedWorld) (w : World) : Type 0 where
   pub begun : World  -- where the microframe began, or the orders of microframes did
   pub n : ℕ
   pub rest : List Left

@@ -4,8 +4,8 @@ use Rattle.std.specs.Prelude.{◌≤◌, length}
 use Rattle.std.specs.List.{AllByRecursion}
 use Rattle.report_text.specs.ReportText.{AreStored}
 use Rattle.endpoint_script.specs.declared.endpoint.Endpoint.{Endpoint}
-use Rattle.endpoint_script.specs.declared.endpoint.Part.{Part}
-use Rattle.endpoint_script.specs.declared.endpoint.Part.TheVariants.{Sends, Takes, Controls, Streams, Hears}
+use Rattle.endpoint_script.specs.declared.endpoint.Role.{Role}
+use Rattle.endpoint_script.specs.declared.endpoint.Role.TheVariants.{Sends, Takes, Controls, Streams, Hears}
 use Rattle.endpoint_script.specs.Device.{Device}
 use Rattle.word_mem.specs.Memory.{Mem}
 use Rattle.run_book.specs.Book.{holding, Stands}
@@ -13,7 +13,7 @@ use Rattle.driver_rows.specs.DriverContent.{DriverContent}
 use Rattle.usb_bus.specs.Bus.{Bus}
 use Rattle.admission_laws.specs.Budgets.{account_of, KeepsBudgets}
 
-abbrev pub IsRoomy : Part → Type 0
+abbrev pub IsRoomy : Role → Type 0
 IsRoomy (Sends s) = Unit {0}
 IsRoomy (Takes t) = (length t.taken ≤ t.room) × (t.room ≤ 4294967295)
 IsRoomy (Controls c) = Unit {0}

@@ -20,19 +20,19 @@ use Rattle.walk_copy.specs.declared.held.Held.{Held}
 use Rattle.walk_copy.specs.declared.held.Transaction.{Transaction}
 use Rattle.walk_copy.specs.Buffer.{Reading, sending}
 use Rattle.walk_copy.specs.Transacting.{call_in}
-use Rattle.async_walk.specs.declared.rows.Row.{Row as WalkRow}
-use Rattle.async_walk.specs.declared.rows.Row.TheVariants as walks
-use Rattle.async_walk.specs.Rows.{Place as WalkPlace, at_event, event_row, after_row as after_walk, transacted, faulted as walk_faulted}
+use Rattle.async_walk.specs.declared.rows.WalkRow.{WalkRow}
+use Rattle.async_walk.specs.declared.rows.WalkRow.TheVariants as walks
+use Rattle.async_walk.specs.Rows.{WalkPlace, at_event, event_row, after_walk_row as after_walk, transacted, faulted as walk_faulted}
 use Rattle.hc_core.specs.declared.controller.HcStep.{HcStep}
-use Rattle.periodic_walk.specs.Place.{Place as FramePlace, Effect}
+use Rattle.periodic_walk.specs.Place.{FramePlace, Effect}
 use Rattle.periodic_walk.specs.Place.Effect.{Leaves, Asks}
 use Rattle.periodic_walk.specs.Rows.{effect_of}
-use Rattle.hc_core.specs.declared.controller.Part.TheVariants.{Periodic, Asynchronous}
-use Rattle.hc_core.specs.declared.controller.Row.{Row}
-use Rattle.hc_core.specs.declared.controller.Row.TheVariants as rows
-use Rattle.hc_core.specs.Controller.{Control, Content, content, row_of, kind_of, began, ended, entered, frame_place, frame_step, walk_place, walk_step, part_after}
+use Rattle.hc_core.specs.declared.controller.MicroframePart.TheVariants.{Periodic, Asynchronous}
+use Rattle.hc_core.specs.declared.controller.ControllerRow.{ControllerRow}
+use Rattle.hc_core.specs.declared.controller.ControllerRow.TheVariants as rows
+use Rattle.hc_core.specs.Controller.{Control, Content, content, microframe_row, kind_of, began, ended, entered, frame_place, frame_step, walk_place, walk_step, part_after}
 use Rattle.driver_rows.specs.DriverContent.{DriverContent}
-use Rattle.driver_rows.specs.Rows.{Parts, row_of as driver_row, after_row as after_driver}
+use Rattle.driver_rows.specs.Rows.{Parts, driver_row, after_driver_row as after_driver}
 use Rattle.driver_rows.specs.Offers.{Offered, offered}
 use Rattle.usb_bus.specs.Bus.{Bus, Fixed, begin_after, is_allowed, reply_of, transact_after}
 
@@ -126,7 +126,7 @@ walked_content c p = record {
 abbrev pub walked : Content → Walked → Turned
 walked c v = record { content = walked_content c v.place; bus = v.bus }
 
-abbrev pub turned_by : Fixed → Row → Content → Bus → Turned
+abbrev pub turned_by : Fixed → ControllerRow → Content → Bus → Turned
 turned_by fixed rows.Idle c b = record { content = c; bus = b }
 turned_by fixed rows.Begin c b = record { content = began (is_allowed fixed b) c; bus = begin_after fixed (next_index c.registers.frame_index) b }
 turned_by fixed rows.Frame c b = framed c (frame_next fixed (frame_place c) b)
@@ -140,8 +140,8 @@ controller_parts w = content w.control w.registers w.memory
 abbrev pub with_turned : World → Turned → World
 with_turned w t = record w { control = t.content.control; registers = t.content.registers; memory = t.content.memory; bus = t.bus }
 
-abbrev pub controller_row : World → Row
-controller_row w = row_of w.registers w.control
+abbrev pub controller_row : World → ControllerRow
+controller_row w = microframe_row w.registers w.control
 
 abbrev pub controller_next : Fixed → World → World
 controller_next fixed w = with_turned w (turned_by fixed (controller_row w) (controller_parts w) w.bus)

@@ -7,9 +7,9 @@ use Rattle.usb_base.specs.declared.packets.Reply.{Reply}
 use Rattle.qh_qtd.specs.declared.token.Token.{Token}
 use Rattle.qh_qtd.specs.declared.qtd.Qtd.{Qtd}
 use Rattle.qh_qtd.specs.declared.queue_head.Qh.{Qh}
-use Rattle.walk_copy.specs.Overlay.{place_of}
-use Rattle.hc_core.specs.Controller.{Content, row_of, HasRow, walk_place}
-use Rattle.lent_structures.specs.Structures.{Element, Part, Parts}
+use Rattle.walk_copy.specs.Overlay.{buffer_place}
+use Rattle.hc_core.specs.Controller.{Content, microframe_row, HasRow, walk_place}
+use Rattle.lent_structures.specs.Structures.{Element, Structures, StructureSets}
 use Rattle.queue_parts.specs.Sound.{IsMember}
 use Rattle.queue_parts.specs.Alters.{HadElement, Alters}
 use Rattle.queue_parts.proofs.Altering.{found_queue}
@@ -37,23 +37,23 @@ use Rattle.control_out_pipes.specs.Outs.{IsOutStream, OutGoesOn, LinkedIsUnmoved
 
 -- ---- no other queue head asks the endpoint
 
-none_still : (part now : Part) → Alters part now → SendsNone part → SendsNone now
+none_still : (part now : Structures) → Alters part now → SendsNone part → SendsNone now
 none_still part now alters none a u here on =
     let had : HadElement part a u = alters.element_before a u here in
     let kept : u ≡ had.qtd = still_active had.qtd u had.after on in
     subst (λ (t : Qtd). t.token.pid ≢ 0) (sym kept) (none a had.qtd had.here (ap (λ (t : Qtd). t.token.active) (sym kept) ∙ on))
 
-named_still : {W : Type 0} {transacts : W → Ask → List ℕ → Reply → W → Type 0} {parts : Parts} {hand : Hand} {wire after : W} {now : Parts} {later : Hand} (n : ℕ) (x : Endpoint) → StreamEffect transacts parts hand wire after now later → HasEndpoint parts n x → HasEndpoint now n x
+named_still : {W : Type 0} {transacts : W → Ask → List ℕ → Reply → W → Type 0} {parts : StructureSets} {hand : Hand} {wire after : W} {now : StructureSets} {later : Hand} (n : ℕ) (x : Endpoint) → StreamEffect transacts parts hand wire after now later → HasEndpoint parts n x → HasEndpoint now n x
 named_still n x (same told quiet) has = told.endpoint n x has
-named_still n x (grows m all g) has = subst (λ (ps : Parts). HasEndpoint ps n x) (sym all) has
+named_still n x (grows m all g) has = subst (λ (ps : StructureSets). HasEndpoint ps n x) (sym all) has
 
-apart_still : (part now : Part) (x y : Endpoint) → Alters part now → ((x.addr ≡ y.addr → x.ep ≡ y.ep → ⊥)) ⊎ SendsNone part → ((x.addr ≡ y.addr → x.ep ≡ y.ep → ⊥)) ⊎ SendsNone now
+apart_still : (part now : Structures) (x y : Endpoint) → Alters part now → ((x.addr ≡ y.addr → x.ep ≡ y.ep → ⊥)) ⊎ SendsNone part → ((x.addr ≡ y.addr → x.ep ≡ y.ep → ⊥)) ⊎ SendsNone now
 apart_still part now x y alters (inl apart) = inl apart
 apart_still part now x y alters (inr none) = inr (none_still part now alters none)
 
 -- ---- an event of the walk
 
-module _ {W : Type 0} (begins : W → ℕ → Bool → W → Type 0) (transacts : W → Ask → List ℕ → Reply → W → Type 0) (stream : ℕ → ℕ → Bool) (taker : W → ℕ → ℕ → Option Taker) (base : Base) (member : ℕ → Bool) (order : ℕ → ℕ) (out : List ℕ) (parts : Parts) (hand : Hand) (c : Content) (wire after : W) (n : ℕ) (x : Endpoint) (harvested : List ℕ) (bus : IsOutBus transacts stream taker) (keeps : KeepsTakers begins stream taker) (controlled : IsControlled base member parts hand c) (k : IsOutStream stream (taker wire x.addr x.ep) member order out parts hand n x harvested) (now : Parts) (later : Hand) (new : Content) (controlled_now : IsControlled base member now later new) where
+module _ {W : Type 0} (begins : W → ℕ → Bool → W → Type 0) (transacts : W → Ask → List ℕ → Reply → W → Type 0) (stream : ℕ → ℕ → Bool) (taker : W → ℕ → ℕ → Option Taker) (base : Base) (member : ℕ → Bool) (order : ℕ → ℕ) (out : List ℕ) (parts : StructureSets) (hand : Hand) (c : Content) (wire after : W) (n : ℕ) (x : Endpoint) (harvested : List ℕ) (bus : IsOutBus transacts stream taker) (keeps : KeepsTakers begins stream taker) (controlled : IsControlled base member parts hand c) (k : IsOutStream stream (taker wire x.addr x.ep) member order out parts hand n x harvested) (now : StructureSets) (later : Hand) (new : Content) (controlled_now : IsControlled base member now later new) where
   abbrev ring : IsRing base member parts hand (walk_place c)
   ring = controlled.ring
 
@@ -103,11 +103,11 @@ module _ {W : Type 0} (begins : W → ℕ → Bool → W → Type 0) (transacts 
   pub event_keeps_stream : ControlEffect begins transacts parts hand wire after now later → IsOutStream stream (taker after x.addr x.ep) member order out now later n x harvested
   event_keeps_stream (a_microframe b) =
       subst (λ (h : Hand). IsOutStream stream (taker after x.addr x.ep) member order out now h n x harvested) (sym b.hand_stays)
-      (subst (λ (ps : Parts). IsOutStream stream (taker after x.addr x.ep) member order out ps hand n x harvested) (sym b.parts_stay) (begun_keeps b))
+      (subst (λ (ps : StructureSets). IsOutStream stream (taker after x.addr x.ep) member order out ps hand n x harvested) (sym b.parts_stay) (begun_keeps b))
   event_keeps_stream (a_step w) = step_keeps w
 
-pub event_keeps_out : {W : Type 0} (begins : W → ℕ → Bool → W → Type 0) (transacts : W → Ask → List ℕ → Reply → W → Type 0) (stream : ℕ → ℕ → Bool) (taker : W → ℕ → ℕ → Option Taker) (base : Base) (member : ℕ → Bool) (order : ℕ → ℕ) (out : List ℕ) (parts : Parts) (hand : Hand) (c : Content) (wire : W) (new : Content) (after : W) (n : ℕ) (x : Endpoint) (harvested : List ℕ)
-    → IsOutBus transacts stream taker → KeepsTakers begins stream taker → IsControlled base member parts hand c → IsOn base → AreBytesHeard transacts wire after → HasRow begins transacts (row_of c.registers c.control) c wire new after
+pub event_keeps_out : {W : Type 0} (begins : W → ℕ → Bool → W → Type 0) (transacts : W → Ask → List ℕ → Reply → W → Type 0) (stream : ℕ → ℕ → Bool) (taker : W → ℕ → ℕ → Option Taker) (base : Base) (member : ℕ → Bool) (order : ℕ → ℕ) (out : List ℕ) (parts : StructureSets) (hand : Hand) (c : Content) (wire : W) (new : Content) (after : W) (n : ℕ) (x : Endpoint) (harvested : List ℕ)
+    → IsOutBus transacts stream taker → KeepsTakers begins stream taker → IsControlled base member parts hand c → IsOn base → AreBytesHeard transacts wire after → HasRow begins transacts (microframe_row c.registers c.control) c wire new after
     → IsOutStream stream (taker wire x.addr x.ep) member order out parts hand n x harvested → OutGoesOn begins transacts stream taker base member order out parts hand wire after new n x harvested
 event_keeps_out begins transacts stream taker base member order out parts hand c wire new after n x harvested bus keeps controlled on heard row k =
     let e : Controls begins transacts base member parts hand wire after new = event_controls begins transacts base member parts hand c wire new after controlled on heard row in
@@ -131,20 +131,20 @@ stale_unmoved at (Copied c) n un = stale_by at c n (c.at == at)
 stale_unmoved at (Settled c z) n un = un
 stale_unmoved at (Stale m q) n un = un
 
-next_spared : (parts now : Parts) (n : ℕ) (q r : Qh) (y : List ℕ) → SameOverlay q r → SparesElement parts now n q.current → IsNext (parts n) q y → IsNext (now n) r y
+next_spared : (parts now : StructureSets) (n : ℕ) (q r : Qh) (y : List ℕ) → SameOverlay q r → SparesElement parts now n q.current → IsNext (parts n) q y → IsNext (now n) r y
 next_spared parts now n q r y over spares next =
     let t : Qtd = next.element in
-    let place : place_of r ≡ place_of q = ap (λ (z : Token). z.c_page * 4096 + r.offset) over.token ∙ ap (λ (i : ℕ). q.token.c_page * 4096 + i) over.offset in
+    let place : buffer_place r ≡ buffer_place q = ap (λ (z : Token). z.c_page * 4096 + r.offset) over.token ∙ ap (λ (i : ℕ). q.token.c_page * 4096 + i) over.offset in
     record {
       element = t;
       here = ap (now n) over.current ∙ spares.element t next.here;
-      is = next.is ∙ ap (λ (i : ℕ). take (min i q.token.total) (drop (place_of q - t.offset) (buffer_of (parts n) t))) (sym (ap (λ (e : Endpoint). e.max) over.endpoint))
-          ∙ ap (λ (z : Token). take (min r.max z.total) (drop (place_of q - t.offset) (buffer_of (parts n) t))) (sym over.token)
+      is = next.is ∙ ap (λ (i : ℕ). take (min i q.token.total) (drop (buffer_place q - t.offset) (buffer_of (parts n) t))) (sym (ap (λ (e : Endpoint). e.max) over.endpoint))
+          ∙ ap (λ (z : Token). take (min r.max z.total) (drop (buffer_place q - t.offset) (buffer_of (parts n) t))) (sym over.token)
           ∙ ap (λ (i : ℕ). take (min r.max r.token.total) (drop (i - t.offset) (buffer_of (parts n) t))) (sym place)
-          ∙ ap (λ (xs : List ℕ). take (min r.max r.token.total) (drop (place_of r - t.offset) xs)) (sym (spares.bytes t next.here));
+          ∙ ap (λ (xs : List ℕ). take (min r.max r.token.total) (drop (buffer_place r - t.offset) xs)) (sym (spares.bytes t next.here));
     }
 
-agrees_spared : (hand later : Hand) (parts now : Parts) (n : ℕ) (q r : Qh) (h : Bool) (known : List ℕ) (s : Taker) → (IsUnmoved hand n → IsUnmoved later n) → SameOverlay q r → (q.token.active ≡ true → SparesElement parts now n q.current)
+agrees_spared : (hand later : Hand) (parts now : StructureSets) (n : ℕ) (q r : Qh) (h : Bool) (known : List ℕ) (s : Taker) → (IsUnmoved hand n → IsUnmoved later n) → SameOverlay q r → (q.token.active ≡ true → SparesElement parts now n q.current)
     → OutAgrees (parts n) hand n q h known s → OutAgrees (now n) later n r h known s
 agrees_spared hand later parts now n q r h known s un over spares (level e t) = level e t
 agrees_spared hand later parts now n q r h known s un over spares (ahead y e t own on next old) =
@@ -169,7 +169,7 @@ out_spared hand later parts now n x o known hands un head elements outs k =
 
 -- ---- a harvest
 
-pub harvest_keeps_out : (stream : ℕ → ℕ → Bool) (o : Option Taker) (member : ℕ → Bool) (order : ℕ → ℕ) (e : ℕ) (out : List ℕ) (parts : Parts) (hand : Hand) (n : ℕ) (x : Endpoint) (harvested : List ℕ) (t : Qtd)
+pub harvest_keeps_out : (stream : ℕ → ℕ → Bool) (o : Option Taker) (member : ℕ → Bool) (order : ℕ → ℕ) (e : ℕ) (out : List ℕ) (parts : StructureSets) (hand : Hand) (n : ℕ) (x : Endpoint) (harvested : List ℕ) (t : Qtd)
     → IsMember member n (parts n) → parts n e ≡ Some (Element t) → t.token.active ≡ false → IsOutStream stream o member order (e ∷ out) parts hand n x harvested
     → IsOutStream stream o member order out parts hand n x (harvested ++ take (length (buffer_of (parts n) t) - t.token.total) (buffer_of (parts n) t))
 harvest_keeps_out stream o member order e out parts hand n x harvested t m here off k =
@@ -186,7 +186,7 @@ harvest_keeps_out stream o member order e out parts hand n x harvested t m here 
 
 -- ---- what was taken
 
-begins_by : (part : Part) (hand : Hand) (n : ℕ) (q : Qh) (h : Bool) (known : List ℕ) (s : Taker) (o : Option Taker) → o ≡ Some s → OutAgrees part hand n q h known s → Begins o known
+begins_by : (part : Structures) (hand : Hand) (n : ℕ) (q : Qh) (h : Bool) (known : List ℕ) (s : Taker) (o : Option Taker) → o ≡ Some s → OutAgrees part hand n q h known s → Begins o known
 begins_by part hand n q h known s o is (level e t) = record { taker = s; is = is; unheard = []; taken = t ∙ sym (append-nil known) }
 begins_by part hand n q h known s o is (ahead y e t own on next un) = record { taker = s; is = is; unheard = y; taken = t }
 begins_by part hand n q h known s o is (ended y e t off halted) = record { taker = s; is = is; unheard = y; taken = t }

@@ -7,8 +7,8 @@
 
 ghost use Rattle.std.specs.Prelude.{◌≡◌, ℕ, ◌-◌, Bool, false, List, ◌∷◌, ◌++◌, length, take, Option, Some};
 ghost use Rattle.qh_qtd.specs.declared.qtd.Qtd.{Qtd};
-ghost use Rattle.hc_core.specs.Controller.{Content, HasRow, row_of};
-ghost use Rattle.lent_structures.specs.Structures.{Element, Parts};
+ghost use Rattle.hc_core.specs.Controller.{Content, HasRow, microframe_row};
+ghost use Rattle.lent_structures.specs.Structures.{Element, StructureSets};
 ghost use Rattle.queue_parts.specs.Sound.{IsMember};
 ghost use Rattle.ring_walk.specs.Hand.{Hand};
 ghost use Rattle.ring_walk.specs.Ring.{Base};
@@ -23,9 +23,9 @@ use usb_base::Wire;
 /// Each event of the controller keeps the stream of an OUT endpoint.
 pub fn an_event_keeps_an_out_stream<W: Wire>()
     ensures { (stream : ℕ → ℕ → Bool) (taker : W → ℕ → ℕ → Option Taker) (base : Base) (member : ℕ → Bool)
-        (order : ℕ → ℕ) (out : List ℕ) (parts : Parts) (hand : Hand) (c : Content) (wire : W) (new : Content) (after : W) (n : ℕ) (x : Endpoint) (harvested : List ℕ)
+        (order : ℕ → ℕ) (out : List ℕ) (parts : StructureSets) (hand : Hand) (c : Content) (wire : W) (new : Content) (after : W) (n : ℕ) (x : Endpoint) (harvested : List ℕ)
         → IsOutBus W.transacts stream taker → KeepsTakers W.begins stream taker → IsControlled base member parts hand c → IsOn base
-        → AreBytesHeard W.transacts wire after → HasRow W.begins W.transacts (row_of c.registers c.control) c wire new after
+        → AreBytesHeard W.transacts wire after → HasRow W.begins W.transacts (microframe_row c.registers c.control) c wire new after
         → IsOutStream stream (taker wire x.addr x.ep) member order out parts hand n x harvested
         → OutGoesOn W.begins W.transacts stream taker base member order out parts hand wire after new n x harvested }
 {}
@@ -39,7 +39,7 @@ pub fn a_spared_out_pipe_agrees()
 
 /// The first published qTD, once it is done, adds the bytes of its buffer to those harvested, all but those that its token tells to be left.
 pub fn a_harvest_keeps_an_out_stream()
-    ensures { (stream : ℕ → ℕ → Bool) (o : Option Taker) (member : ℕ → Bool) (order : ℕ → ℕ) (e : ℕ) (out : List ℕ) (parts : Parts) (hand : Hand) (n : ℕ) (x : Endpoint) (harvested : List ℕ) (t : Qtd)
+    ensures { (stream : ℕ → ℕ → Bool) (o : Option Taker) (member : ℕ → Bool) (order : ℕ → ℕ) (e : ℕ) (out : List ℕ) (parts : StructureSets) (hand : Hand) (n : ℕ) (x : Endpoint) (harvested : List ℕ) (t : Qtd)
         → IsMember member n (parts n) → parts n e ≡ Some (Element t) → t.token.active ≡ false → IsOutStream stream o member order (e ∷ out) parts hand n x harvested
         → IsOutStream stream o member order out parts hand n x (harvested ++ take (length (buffer_of (parts n) t) - t.token.total) (buffer_of (parts n) t)) }
 {}

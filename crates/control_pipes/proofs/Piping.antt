@@ -2,8 +2,8 @@
 use Rattle.std.proofs.Common.{ℕ, ◌≤◌, Bool, List, [], length, Option, refl, sym, subst, arith}
 use Rattle.usb_base.specs.declared.packets.Ask.{Ask}
 use Rattle.usb_base.specs.declared.packets.Reply.{Reply}
-use Rattle.hc_core.specs.Controller.{Content, row_of, HasRow, walk_place}
-use Rattle.lent_structures.specs.Structures.{Parts}
+use Rattle.hc_core.specs.Controller.{Content, microframe_row, HasRow, walk_place}
+use Rattle.lent_structures.specs.Structures.{StructureSets}
 use Rattle.ring_walk.specs.Hand.{Hand}
 use Rattle.ring_walk.specs.Ring.{Base, IsRing}
 use Rattle.ring_walk.specs.Effects.{AreBytesHeard}
@@ -15,7 +15,7 @@ use Rattle.ring_pipes.specs.Pipes.{IsHalf, AreEndpoints, ArePiped, grown}
 use Rattle.ring_pipes.proofs.Agreeing.{grown_none, rest_by}
 use Rattle.control_pipes.specs.Events.{IsControlToldBy, ControlGoesOn}
 
-module _ {W : Type 0} (begins : W → ℕ → Bool → W → Type 0) (transacts : W → Ask → List ℕ → Reply → W → Type 0) (stream : ℕ → ℕ → Bool) (packets : ℕ → ℕ → List (List ℕ)) (sender : W → ℕ → ℕ → Option Sender) (base : Base) (member streams : ℕ → Bool) (endpoint : ℕ → Endpoint) (ends : AreEndpoints stream member streams endpoint) (bus : IsBus transacts stream sender) (keeps : KeepsSenders begins stream sender) (acc : ℕ → List (List ℕ)) (parts : Parts) (hand : Hand) (c : Content) (wire : W) (controlled : IsControlled base member parts hand c) (piped : ArePiped stream packets sender member streams endpoint acc parts hand wire) (after : W) (now : Parts) (later : Hand) where
+module _ {W : Type 0} (begins : W → ℕ → Bool → W → Type 0) (transacts : W → Ask → List ℕ → Reply → W → Type 0) (stream : ℕ → ℕ → Bool) (packets : ℕ → ℕ → List (List ℕ)) (sender : W → ℕ → ℕ → Option Sender) (base : Base) (member streams : ℕ → Bool) (endpoint : ℕ → Endpoint) (ends : AreEndpoints stream member streams endpoint) (bus : IsBus transacts stream sender) (keeps : KeepsSenders begins stream sender) (acc : ℕ → List (List ℕ)) (parts : StructureSets) (hand : Hand) (c : Content) (wire : W) (controlled : IsControlled base member parts hand c) (piped : ArePiped stream packets sender member streams endpoint acc parts hand wire) (after : W) (now : StructureSets) (later : Hand) where
   record Rest (z : ControlEffect begins transacts parts hand wire after now later) : Type 0 where
     at : ℕ
     more : List (List ℕ)
@@ -45,7 +45,7 @@ module _ {W : Type 0} (begins : W → ℕ → Bool → W → Type 0) (transacts 
     more = [];
     few = omega arith;
     all = subst (λ (h : Hand). ArePiped stream packets sender member streams endpoint (grown acc 0 []) now h after) (sym b.hand_stays)
-        (subst (λ (ps : Parts). ArePiped stream packets sender member streams endpoint (grown acc 0 []) ps hand after) (sym b.parts_stay) (begun_pipes b));
+        (subst (λ (ps : StructureSets). ArePiped stream packets sender member streams endpoint (grown acc 0 []) ps hand after) (sym b.parts_stay) (begun_pipes b));
     told = refl;
   }
   rest_of (a_step k) =
@@ -53,9 +53,9 @@ module _ {W : Type 0} (begins : W → ℕ → Bool → W → Type 0) (transacts 
       let r = rest_by transacts stream packets sender member streams endpoint ends bus acc parts hand (walk_place c).walk.reply wire ring.members ring.in_hand piped after now later k.kind k.effect k.streams in
       record { at = r.at; more = r.more; few = r.few; all = r.all; told = r.told }
 
-pub control_pipes : {W : Type 0} (begins : W → ℕ → Bool → W → Type 0) (transacts : W → Ask → List ℕ → Reply → W → Type 0) (stream : ℕ → ℕ → Bool) (packets : ℕ → ℕ → List (List ℕ)) (sender : W → ℕ → ℕ → Option Sender) (base : Base) (member streams : ℕ → Bool) (endpoint : ℕ → Endpoint) (acc : ℕ → List (List ℕ)) (parts : Parts) (hand : Hand) (c : Content) (wire : W) (new : Content) (after : W)
+pub control_pipes : {W : Type 0} (begins : W → ℕ → Bool → W → Type 0) (transacts : W → Ask → List ℕ → Reply → W → Type 0) (stream : ℕ → ℕ → Bool) (packets : ℕ → ℕ → List (List ℕ)) (sender : W → ℕ → ℕ → Option Sender) (base : Base) (member streams : ℕ → Bool) (endpoint : ℕ → Endpoint) (acc : ℕ → List (List ℕ)) (parts : StructureSets) (hand : Hand) (c : Content) (wire : W) (new : Content) (after : W)
     → AreEndpoints stream member streams endpoint → IsBus transacts stream sender → KeepsSenders begins stream sender → IsControlled base member parts hand c → IsOn base
-    → ArePiped stream packets sender member streams endpoint acc parts hand wire → AreBytesHeard transacts wire after → HasRow begins transacts (row_of c.registers c.control) c wire new after
+    → ArePiped stream packets sender member streams endpoint acc parts hand wire → AreBytesHeard transacts wire after → HasRow begins transacts (microframe_row c.registers c.control) c wire new after
     → ControlGoesOn begins transacts stream packets sender base member streams endpoint acc parts hand wire after new
 control_pipes begins transacts stream packets sender base member streams endpoint acc parts hand c wire new after ends bus keeps controlled on piped heard row =
     let e : Controls begins transacts base member parts hand wire after new = event_controls begins transacts base member parts hand c wire new after controlled on heard row in

@@ -5,8 +5,8 @@
 #![tactic(auto)]
 
 ghost use Rattle.std.specs.Prelude.{ℕ, Bool, List, Option};
-ghost use Rattle.hc_core.specs.Controller.{Content, HasRow, row_of};
-ghost use Rattle.lent_structures.specs.Structures.{Parts};
+ghost use Rattle.hc_core.specs.Controller.{Content, HasRow, microframe_row};
+ghost use Rattle.lent_structures.specs.Structures.{StructureSets};
 ghost use Rattle.ring_walk.specs.Hand.{Hand};
 ghost use Rattle.ring_walk.specs.Ring.{Base};
 ghost use Rattle.ring_walk.specs.Effects.{AreBytesHeard};
@@ -21,9 +21,9 @@ use usb_base::Wire;
 /// Each event of the controller takes at most one packet more of one stream, and all pipes agree afterwards.
 pub fn an_event_keeps_the_pipes<W: Wire>()
     ensures { (stream : ℕ → ℕ → Bool) (packets : ℕ → ℕ → List (List ℕ)) (sender : W → ℕ → ℕ → Option Sender) (base : Base) (member streams : ℕ → Bool) (endpoint : ℕ → Endpoint)
-        (acc : ℕ → List (List ℕ)) (parts : Parts) (hand : Hand) (c : Content) (wire : W) (new : Content) (after : W)
+        (acc : ℕ → List (List ℕ)) (parts : StructureSets) (hand : Hand) (c : Content) (wire : W) (new : Content) (after : W)
         → AreEndpoints stream member streams endpoint → IsBus W.transacts stream sender → KeepsSenders W.begins stream sender
         → IsControlled base member parts hand c → IsOn base → ArePiped stream packets sender member streams endpoint acc parts hand wire
-        → AreBytesHeard W.transacts wire after → HasRow W.begins W.transacts (row_of c.registers c.control) c wire new after
+        → AreBytesHeard W.transacts wire after → HasRow W.begins W.transacts (microframe_row c.registers c.control) c wire new after
         → ControlGoesOn W.begins W.transacts stream packets sender base member streams endpoint acc parts hand wire after new }
 {}

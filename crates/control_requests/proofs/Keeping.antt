@@ -2,8 +2,8 @@
 use Rattle.std.proofs.Common.{ℕ, Bool, List, Option, None, refl, sym, subst, ◌∙◌}
 use Rattle.usb_base.specs.declared.packets.Ask.{Ask}
 use Rattle.usb_base.specs.declared.packets.Reply.{Reply}
-use Rattle.hc_core.specs.Controller.{Content, row_of, HasRow, walk_place}
-use Rattle.lent_structures.specs.Structures.{Parts}
+use Rattle.hc_core.specs.Controller.{Content, microframe_row, HasRow, walk_place}
+use Rattle.lent_structures.specs.Structures.{StructureSets}
 use Rattle.request_windows.specs.Line.{Line}
 use Rattle.request_calls.specs.Bus.{Device, device_of, IsControlBus, KeepsDevices}
 use Rattle.ring_walk.specs.Hand.{Hand}
@@ -15,7 +15,7 @@ use Rattle.ring_requests.specs.Windows.{Sent, IsWindow, AreSent, AreWindows, Ste
 use Rattle.ring_requests.proofs.Windows.{rest_by}
 use Rattle.control_requests.specs.Events.{IsControlStepOf, ControlWindowsGoOn}
 
-module _ {W : Type 0} (begins : W → ℕ → Bool → W → Type 0) (transacts : W → Ask → List ℕ → Reply → W → Type 0) (device : W → ℕ → ℕ → Option Device) (base : Base) (member windows : ℕ → Bool) (sent : ℕ → Sent) (fixed : AreSent member windows sent) (bus : IsControlBus transacts device) (keeps : KeepsDevices begins device) (lines : ℕ → Line) (parts : Parts) (hand : Hand) (c : Content) (wire : W) (controlled : IsControlled base member parts hand c) (all : AreWindows device member windows sent lines parts hand wire) (after : W) (now : Parts) (later : Hand) where
+module _ {W : Type 0} (begins : W → ℕ → Bool → W → Type 0) (transacts : W → Ask → List ℕ → Reply → W → Type 0) (device : W → ℕ → ℕ → Option Device) (base : Base) (member windows : ℕ → Bool) (sent : ℕ → Sent) (fixed : AreSent member windows sent) (bus : IsControlBus transacts device) (keeps : KeepsDevices begins device) (lines : ℕ → Line) (parts : StructureSets) (hand : Hand) (c : Content) (wire : W) (controlled : IsControlled base member parts hand c) (all : AreWindows device member windows sent lines parts hand wire) (after : W) (now : StructureSets) (later : Hand) where
   record Rest (z : ControlEffect begins transacts parts hand wire after now later) : Type 0 where
     step : Option Step
     windows_are : AreWindows device member windows sent (stepped sent step lines) now later after
@@ -34,7 +34,7 @@ module _ {W : Type 0} (begins : W → ℕ → Bool → W → Type 0) (transacts 
   rest_of (a_microframe b) = record {
     step = None;
     windows_are = subst (λ (h : Hand). AreWindows device member windows sent (stepped sent None lines) now h after) (sym b.hand_stays)
-        (subst (λ (ps : Parts). AreWindows device member windows sent (stepped sent None lines) ps hand after) (sym b.parts_stay) (begun b));
+        (subst (λ (ps : StructureSets). AreWindows device member windows sent (stepped sent None lines) ps hand after) (sym b.parts_stay) (begun b));
     is = refl;
   }
   rest_of (a_step k) =
@@ -42,9 +42,9 @@ module _ {W : Type 0} (begins : W → ℕ → Bool → W → Type 0) (transacts 
       let r = rest_by transacts device bus member windows sent fixed lines parts hand (walk_place c).walk.reply wire ring.members ring.in_hand all after now later k.kind k.effect in
       record { step = r.step; windows_are = r.windows_are; is = r.is }
 
-pub control_windows : {W : Type 0} (begins : W → ℕ → Bool → W → Type 0) (transacts : W → Ask → List ℕ → Reply → W → Type 0) (device : W → ℕ → ℕ → Option Device) (base : Base) (member windows : ℕ → Bool) (sent : ℕ → Sent) (lines : ℕ → Line) (parts : Parts) (hand : Hand) (c : Content) (wire : W) (new : Content) (after : W)
+pub control_windows : {W : Type 0} (begins : W → ℕ → Bool → W → Type 0) (transacts : W → Ask → List ℕ → Reply → W → Type 0) (device : W → ℕ → ℕ → Option Device) (base : Base) (member windows : ℕ → Bool) (sent : ℕ → Sent) (lines : ℕ → Line) (parts : StructureSets) (hand : Hand) (c : Content) (wire : W) (new : Content) (after : W)
     → AreSent member windows sent → IsControlBus transacts device → KeepsDevices begins device → IsControlled base member parts hand c → IsOn base
-    → AreWindows device member windows sent lines parts hand wire → AreBytesHeard transacts wire after → HasRow begins transacts (row_of c.registers c.control) c wire new after
+    → AreWindows device member windows sent lines parts hand wire → AreBytesHeard transacts wire after → HasRow begins transacts (microframe_row c.registers c.control) c wire new after
     → ControlWindowsGoOn begins transacts device base member windows sent lines parts hand wire after new
 control_windows begins transacts device base member windows sent lines parts hand c wire new after fixed bus keeps controlled on all heard row =
     let e : Controls begins transacts base member parts hand wire after new = event_controls begins transacts base member parts hand c wire new after controlled on heard row in

@@ -5,7 +5,7 @@ use Rattle.std.specs.Prelude.{◌≡◌, ℕ, Bool, List, Option, None}
 use Rattle.usb_base.specs.declared.packets.Ask.{Ask}
 use Rattle.usb_base.specs.declared.packets.Reply.{Reply}
 use Rattle.hc_core.specs.Controller.{Content}
-use Rattle.lent_structures.specs.Structures.{Parts}
+use Rattle.lent_structures.specs.Structures.{StructureSets}
 use Rattle.request_windows.specs.Line.{Line}
 use Rattle.request_calls.specs.Bus.{Device}
 use Rattle.ring_walk.specs.Hand.{Hand}
@@ -13,11 +13,11 @@ use Rattle.ring_walk.specs.Ring.{Base}
 use Rattle.ring_control.specs.Control.{ControlEffect, a_microframe, a_step, Controls}
 use Rattle.ring_requests.specs.Windows.{Sent, AreWindows, Step, stepped, IsStepOf}
 
-abbrev pub IsControlStepOf : {W : Type 0} {begins : W → ℕ → Bool → W → Type 0} {transacts : W → Ask → List ℕ → Reply → W → Type 0} {parts : Parts} {hand : Hand} {wire after : W} {now : Parts} {later : Hand} → (ℕ → Bool) → Option Step → ControlEffect begins transacts parts hand wire after now later → Type 0
+abbrev pub IsControlStepOf : {W : Type 0} {begins : W → ℕ → Bool → W → Type 0} {transacts : W → Ask → List ℕ → Reply → W → Type 0} {parts : StructureSets} {hand : Hand} {wire after : W} {now : StructureSets} {later : Hand} → (ℕ → Bool) → Option Step → ControlEffect begins transacts parts hand wire after now later → Type 0
 IsControlStepOf windows o (a_microframe b) = o ≡ None
 IsControlStepOf windows o (a_step k) = IsStepOf windows o k.effect
 
-pub record ControlWindowsGoOn {W : Type 0} (begins : W → ℕ → Bool → W → Type 0) (transacts : W → Ask → List ℕ → Reply → W → Type 0) (device : W → ℕ → ℕ → Option Device) (base : Base) (member windows : ℕ → Bool) (sent : ℕ → Sent) (lines : ℕ → Line) (parts : Parts) (hand : Hand) (wire after : W) (new : Content) : Type 0 where
+pub record ControlWindowsGoOn {W : Type 0} (begins : W → ℕ → Bool → W → Type 0) (transacts : W → Ask → List ℕ → Reply → W → Type 0) (device : W → ℕ → ℕ → Option Device) (base : Base) (member windows : ℕ → Bool) (sent : ℕ → Sent) (lines : ℕ → Line) (parts : StructureSets) (hand : Hand) (wire after : W) (new : Content) : Type 0 where
   pub event : Controls begins transacts base member parts hand wire after new
   pub step : Option Step
   pub all : AreWindows device member windows sent (stepped sent step lines) event.now event.later after

@@ -5,8 +5,8 @@
 #![tactic(auto)]
 
 ghost use Rattle.std.specs.Prelude.{ℕ, Bool, Option};
-ghost use Rattle.hc_core.specs.Controller.{Content, HasRow, row_of};
-ghost use Rattle.lent_structures.specs.Structures.{Parts};
+ghost use Rattle.hc_core.specs.Controller.{Content, HasRow, microframe_row};
+ghost use Rattle.lent_structures.specs.Structures.{StructureSets};
 ghost use Rattle.request_windows.specs.Line.{Line};
 ghost use Rattle.request_calls.specs.Bus.{Device, IsControlBus, KeepsDevices};
 ghost use Rattle.ring_walk.specs.Hand.{Hand};
@@ -20,9 +20,9 @@ use usb_base::Wire;
 
 /// Each event of the controller makes at most one transaction of one request, and all windows stand as they must afterwards.
 pub fn an_event_keeps_the_windows<W: Wire>()
-    ensures { (device : W → ℕ → ℕ → Option Device) (base : Base) (member windows : ℕ → Bool) (sent : ℕ → Sent) (lines : ℕ → Line) (parts : Parts) (hand : Hand)
+    ensures { (device : W → ℕ → ℕ → Option Device) (base : Base) (member windows : ℕ → Bool) (sent : ℕ → Sent) (lines : ℕ → Line) (parts : StructureSets) (hand : Hand)
         (c : Content) (wire : W) (new : Content) (after : W) → AreSent member windows sent → IsControlBus W.transacts device → KeepsDevices W.begins device
         → IsControlled base member parts hand c → IsOn base → AreWindows device member windows sent lines parts hand wire
-        → AreBytesHeard W.transacts wire after → HasRow W.begins W.transacts (row_of c.registers c.control) c wire new after
+        → AreBytesHeard W.transacts wire after → HasRow W.begins W.transacts (microframe_row c.registers c.control) c wire new after
         → ControlWindowsGoOn W.begins W.transacts device base member windows sent lines parts hand wire after new }
 {}

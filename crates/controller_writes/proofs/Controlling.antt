@@ -10,14 +10,14 @@ use Rattle.qh_qtd.specs.QueueHead.{IsQhInRange}
 use Rattle.toggle_error.specs.declared.host.Outcome.{Outcome}
 use Rattle.walk_copy.specs.declared.held.Held.{Held}
 use Rattle.walk_copy.specs.Overlay.{settled_queue}
-use Rattle.async_walk.specs.Rows.{Place}
+use Rattle.async_walk.specs.Rows.{WalkPlace}
 use Rattle.periodic_walk.specs.Walk.{is_over}
-use Rattle.hc_core.specs.declared.controller.Part.{Part}
-use Rattle.hc_core.specs.declared.controller.Part.TheVariants.{Over, Periodic, Asynchronous}
-use Rattle.hc_core.specs.declared.controller.Row.{Row}
-use Rattle.hc_core.specs.declared.controller.Row.TheVariants as rows
-use Rattle.hc_core.specs.Controller.{Content, row_of, part_row, enter_row, ring_row, element_address, begun_at, began, entered, walk_place, HasRow}
-use Rattle.lent_structures.specs.Structures.{QueueHead, HoldsQueueHead, Parts}
+use Rattle.hc_core.specs.declared.controller.MicroframePart.{MicroframePart}
+use Rattle.hc_core.specs.declared.controller.MicroframePart.TheVariants.{Over, Periodic, Asynchronous}
+use Rattle.hc_core.specs.declared.controller.ControllerRow.{ControllerRow}
+use Rattle.hc_core.specs.declared.controller.ControllerRow.TheVariants as rows
+use Rattle.hc_core.specs.Controller.{Content, microframe_row, part_row, enter_row, ring_row, element_address, begun_at, began, entered, walk_place, HasRow}
+use Rattle.lent_structures.specs.Structures.{QueueHead, HoldsQueueHead, StructureSets}
 use Rattle.queue_parts.specs.Sound.{IsMember}
 use Rattle.ring_walk.specs.Hand.{Copy, copied_queue, Settlement, settled_queue_of, Hand, Empty, Copied, Settled, Stale, held_of}
 use Rattle.ring_walk.specs.Ring.{Base, base_of, IsCopied, IsRing}
@@ -42,13 +42,13 @@ settled_current c s = refl
 not_settled : (outcome : Outcome) → ◌≡◌ {A = Option Outcome} None (Some outcome) → ⊥
 not_settled outcome is = cc
 
-head_aligned : (base : Base) (member : ℕ → Bool) (parts : Parts) (hand : Hand) (p : Place) (n : ℕ) → IsRing base member parts hand p → member n ≡ true → n % 32 ≡ 0
+head_aligned : (base : Base) (member : ℕ → Bool) (parts : StructureSets) (hand : Hand) (p : WalkPlace) (n : ℕ) → IsRing base member parts hand p → member n ≡ true → n % 32 ≡ 0
 head_aligned base member parts hand p n k on =
     let m : IsMember member n (parts n) = k.members n on in
     let h : HoldsQueueHead p.memory n m.queue = k.tells.each n n (QueueHead m.queue) m.here in
     h.aligned
 
-hand_placed : (base : Base) (member : ℕ → Bool) (parts : Parts) (hand : Hand) (p : Place) → IsRing base member parts hand p → IfSome (held_of hand) IsPlaced
+hand_placed : (base : Base) (member : ℕ → Bool) (parts : StructureSets) (hand : Hand) (p : WalkPlace) → IsRing base member parts hand p → IfSome (held_of hand) IsPlaced
 hand_placed base member parts Empty p k = tt
 hand_placed base member parts (Copied c) p k = record { at = head_aligned base member parts (Copied c) p c.at k k.in_hand.on; current = λ outcome is. absurd (not_settled outcome is) }
 hand_placed base member parts (Settled c s) p k =
@@ -59,7 +59,7 @@ hand_placed base member parts (Settled c s) p k =
     }
 hand_placed base member parts (Stale n q) p k = record { at = head_aligned base member parts (Stale n q) p n k k.in_hand.on; current = λ outcome is. absurd (not_settled outcome is) }
 
-held_placed : (base : Base) (member : ℕ → Bool) (parts : Parts) (hand : Hand) (p : Place) → IsRing base member parts hand p → IfSome p.walk.held IsPlaced
+held_placed : (base : Base) (member : ℕ → Bool) (parts : StructureSets) (hand : Hand) (p : WalkPlace) → IsRing base member parts hand p → IfSome p.walk.held IsPlaced
 held_placed base member parts hand p k = subst (λ (o : Option Held). IfSome o IsPlaced) (sym k.held) (hand_placed base member parts hand p k)
 
 -- ---- no event is one of a frame's chain
@@ -81,7 +81,7 @@ periodic_not_frame : (b more : Bool) → more ≡ false → (if more then rows.F
 periodic_not_frame b true none is = cc
 periodic_not_frame b false none is = enter_not_frame b is
 
-part_not_frame : (base : Base) (words : List ℕ) (c : Content) (part : Part) → base_of c.registers ≡ base → IsFrameless base words c → c.control.part ≡ part → part_row c.registers c.control.frame part ≡ rows.Frame → ⊥
+part_not_frame : (base : Base) (words : List ℕ) (c : Content) (part : MicroframePart) → base_of c.registers ≡ base → IsFrameless base words c → c.control.part ≡ part → part_row c.registers c.control.frame part ≡ rows.Frame → ⊥
 part_not_frame base words c Over same frameless part is = cc
 part_not_frame base words c Periodic same frameless part is =
     periodic_not_frame c.registers.async_enable (c.registers.periodic_enable && not (is_over c.control.frame))
@@ -101,7 +101,7 @@ begun_writes : (c : Content) (b allowed : Bool) → WritesLent c.memory (begun_a
 begun_writes c true allowed = same_writes c.memory c.memory refl refl
 begun_writes c false allowed = refused_writes c.memory
 
-row_writes : {W : Type 0} (begins : W → ℕ → Bool → W → Type 0) (transacts : W → Ask → List ℕ → Reply → W → Type 0) (base : Base) (member : ℕ → Bool) (parts : Parts) (hand : Hand) (c : Content) (wire : W) (new : Content) (after : W) (row : Row) → row_of c.registers c.control ≡ row → IsControlled base member parts hand c → HasRow begins transacts row c wire new after → WritesLent c.memory new.memory
+row_writes : {W : Type 0} (begins : W → ℕ → Bool → W → Type 0) (transacts : W → Ask → List ℕ → Reply → W → Type 0) (base : Base) (member : ℕ → Bool) (parts : StructureSets) (hand : Hand) (c : Content) (wire : W) (new : Content) (after : W) (row : ControllerRow) → microframe_row c.registers c.control ≡ row → IsControlled base member parts hand c → HasRow begins transacts row c wire new after → WritesLent c.memory new.memory
 row_writes begins transacts base member parts hand c wire new after rows.Idle is k row = goes_to c.memory new c row.0 (same_writes c.memory c.memory refl refl)
 row_writes begins transacts base member parts hand c wire new after rows.Begin is k row =
     let stepped : Content = record c { registers = after_begin c.registers } in
@@ -114,15 +114,15 @@ row_writes begins transacts base member parts hand c wire new after rows.End is 
 
 -- ---- an event
 
-control_fronts : {W : Type 0} (begins : W → ℕ → Bool → W → Type 0) (transacts : W → Ask → List ℕ → Reply → W → Type 0) (base : Base) (member : ℕ → Bool) (parts : Parts) (hand : Hand) (c : Content) (wire after : W) (now : Parts) (later : Hand) → IsControlled base member parts hand c → ControlEffect begins transacts parts hand wire after now later → KeepsFronts parts now
+control_fronts : {W : Type 0} (begins : W → ℕ → Bool → W → Type 0) (transacts : W → Ask → List ℕ → Reply → W → Type 0) (base : Base) (member : ℕ → Bool) (parts : StructureSets) (hand : Hand) (c : Content) (wire after : W) (now : StructureSets) (later : Hand) → IsControlled base member parts hand c → ControlEffect begins transacts parts hand wire after now later → KeepsFronts parts now
 control_fronts begins transacts base member parts hand c wire after now later k (a_microframe b) = same_fronts parts now b.parts_stay
 control_fronts begins transacts base member parts hand c wire after now later k (a_step w) = effect_fronts transacts base member parts hand (walk_place c) wire after now later w.kind k.ring w.effect
 
-pub event_leaves : {W : Type 0} (begins : W → ℕ → Bool → W → Type 0) (transacts : W → Ask → List ℕ → Reply → W → Type 0) (base : Base) (member : ℕ → Bool) (parts : Parts) (hand : Hand) (c : Content) (wire : W) (new : Content) (after : W) → IsControlled base member parts hand c → IsOn base → AreBytesHeard transacts wire after → HasRow begins transacts (row_of c.registers c.control) c wire new after → LeavesRest parts c.memory new.memory
+pub event_leaves : {W : Type 0} (begins : W → ℕ → Bool → W → Type 0) (transacts : W → Ask → List ℕ → Reply → W → Type 0) (base : Base) (member : ℕ → Bool) (parts : StructureSets) (hand : Hand) (c : Content) (wire : W) (new : Content) (after : W) → IsControlled base member parts hand c → IsOn base → AreBytesHeard transacts wire after → HasRow begins transacts (microframe_row c.registers c.control) c wire new after → LeavesRest parts c.memory new.memory
 event_leaves begins transacts base member parts hand c wire new after k on heard row =
     let e : Controls begins transacts base member parts hand wire after new = event_controls begins transacts base member parts hand c wire new after k on heard row in
     let keeps = control_fronts begins transacts base member parts hand c wire after e.now e.later k e.effect in
     record {
-      lent = row_writes begins transacts base member parts hand c wire new after (row_of c.registers c.control) refl k row;
+      lent = row_writes begins transacts base member parts hand c wire new after (microframe_row c.registers c.control) refl k row;
       heads = λ n a q i here below. fronts_stay c.memory new.memory parts e.now n a q i k.ring.tells e.controlled.ring.tells keeps here below;
     }

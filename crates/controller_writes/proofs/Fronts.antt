@@ -13,8 +13,8 @@ use Rattle.qh_qtd.specs.QueueHead.{qh_words}
 use Rattle.walk_copy.specs.Overlay.{advanced, settled_queue, moved}
 use Rattle.walk_copy.specs.WriteBack.{moved_by}
 use Rattle.async_walk.specs.declared.state.WalkStep.{WalkStep}
-use Rattle.async_walk.specs.Rows.{Place}
-use Rattle.lent_structures.specs.Structures.{Structure, QueueHead, Element, Buffer, HoldsQueueHead, Part, Parts, put, Tells}
+use Rattle.async_walk.specs.Rows.{WalkPlace}
+use Rattle.lent_structures.specs.Structures.{Structure, QueueHead, Element, Buffer, HoldsQueueHead, Structures, StructureSets, put, Tells}
 use Rattle.lent_structures.specs.Changes.{relinked, overwritten}
 use Rattle.lent_structures.proofs.Names.{names_differ, put_same, put_else, put_beside}
 use Rattle.write_back_laws.specs.WriteBack.{Received, Nothing, Into, IsReceived, received_parts, qtd_after, parts_back}
@@ -31,20 +31,20 @@ pub record HasFront (o : Option Structure) (q : Qh) : Type 0 where
   pub here : o ≡ Some (QueueHead queue)
   pub front : take 3 (qh_words queue) ≡ take 3 (qh_words q)
 
-abbrev pub KeepsFronts : Parts → Parts → Type 0
+abbrev pub KeepsFronts : StructureSets → StructureSets → Type 0
 KeepsFronts parts now = (n a : ℕ) (q : Qh) → parts n a ≡ Some (QueueHead q) → HasFront (now n a) q
 
-pub same_fronts : (parts now : Parts) → now ≡ parts → KeepsFronts parts now
-same_fronts parts now same n a q here = record { queue = q; here = ap (λ (x : Parts). x n a) same ∙ here; front = refl }
+pub same_fronts : (parts now : StructureSets) → now ≡ parts → KeepsFronts parts now
+same_fronts parts now same n a q here = record { queue = q; here = ap (λ (x : StructureSets). x n a) same ∙ here; front = refl }
 
-pub both_fronts : (parts mid now : Parts) → KeepsFronts parts mid → KeepsFronts mid now → KeepsFronts parts now
+pub both_fronts : (parts mid now : StructureSets) → KeepsFronts parts mid → KeepsFronts mid now → KeepsFronts parts now
 both_fronts parts mid now one two n a q here =
     let first : HasFront (mid n a) q = one n a q here in
     let second : HasFront (now n a) first.queue = two n a first.queue first.here in
     record { queue = second.queue; here = second.here; front = second.front ∙ first.front }
 
 -- a structure is put where another stood
-pub put_fronts : (parts : Parts) (n a : ℕ) (new : Structure) → ((q : Qh) → parts n a ≡ Some (QueueHead q) → HasFront (Some new) q) → KeepsFronts parts (put parts n a new)
+pub put_fronts : (parts : StructureSets) (n a : ℕ) (new : Structure) → ((q : Qh) → parts n a ≡ Some (QueueHead q) → HasFront (Some new) q) → KeepsFronts parts (put parts n a new)
 put_fronts parts n a new at k b q here =
     ⊎_elim (λ (owner : k ≡ n).
     ⊎_elim (λ (name : b ≡ a).
@@ -52,10 +52,10 @@ put_fronts parts n a new at k b q here =
     record { queue = f.queue; here = ap (λ (i : ℕ). put parts n a new i b) owner ∙ ap (put parts n a new n) name ∙ put_same parts n a new ∙ f.here; front = f.front })
     (λ (differs : b ≢ a). record { queue = q; here = ap (λ (i : ℕ). put parts n a new i b) owner ∙ put_else parts n a new b differs ∙ sym (ap (λ (i : ℕ). parts i b) owner) ∙ here; front = refl })
     (cases_eq b a))
-    (λ (differs : k ≢ n). record { queue = q; here = ap (λ (part : Part). part b) (put_beside parts n a new k differs) ∙ here; front = refl }) (cases_eq k n)
+    (λ (differs : k ≢ n). record { queue = q; here = ap (λ (part : Structures). part b) (put_beside parts n a new k differs) ∙ here; front = refl }) (cases_eq k n)
 
 -- a queue head with the same front, or another kind of structure
-head_fronts : (parts : Parts) (n a : ℕ) (q new : Qh) → parts n a ≡ Some (QueueHead q) → take 3 (qh_words new) ≡ take 3 (qh_words q) → KeepsFronts parts (put parts n a (QueueHead new))
+head_fronts : (parts : StructureSets) (n a : ℕ) (q new : Qh) → parts n a ≡ Some (QueueHead q) → take 3 (qh_words new) ≡ take 3 (qh_words q) → KeepsFronts parts (put parts n a (QueueHead new))
 head_fronts parts n a q new here front =
     put_fronts parts n a (QueueHead new)
     (λ r found. record { queue = new; here = refl; front = front ∙ ap (λ (x : Qh). take 3 (qh_words x)) (found_queue (parts n a) q r here found) })
@@ -66,17 +66,17 @@ element_no_head o t q one other = cc
 buffer_no_head : (o : Option Structure) (pages : List ℕ) (k : ℕ) (bs : List ℕ) (q : Qh) → o ≡ Some (Buffer pages k bs) → o ≡ Some (QueueHead q) → ⊥
 buffer_no_head o pages k bs q one other = cc
 
-element_fronts : (parts : Parts) (n a : ℕ) (t new : Qtd) → parts n a ≡ Some (Element t) → KeepsFronts parts (put parts n a (Element new))
+element_fronts : (parts : StructureSets) (n a : ℕ) (t new : Qtd) → parts n a ≡ Some (Element t) → KeepsFronts parts (put parts n a (Element new))
 element_fronts parts n a t new here = put_fronts parts n a (Element new) (λ q found. absurd (element_no_head (parts n a) t q here found))
 
 -- ---- a write-back
 
-received_fronts : (parts : Parts) (n : ℕ) (c : Qh) (got : List ℕ) (r : Received) → IsReceived (parts n) c got r → KeepsFronts parts (received_parts parts n got r)
+received_fronts : (parts : StructureSets) (n : ℕ) (c : Qh) (got : List ℕ) (r : Received) → IsReceived (parts n) c got r → KeepsFronts parts (received_parts parts n got r)
 received_fronts parts n c got Nothing none = same_fronts parts parts refl
 received_fronts parts n c got (Into pages k bs j) into =
     put_fronts parts n (place pages k) (Buffer pages k (overwritten bs j got)) (λ q found. absurd (buffer_no_head (parts n (place pages k)) pages k bs q into.buffer found))
 
-back_fronts : (parts : Parts) (n a : ℕ) (q c : Qh) (count : ℕ) (got : List ℕ) (r : Received) (t : Qtd) → parts n a ≡ Some (QueueHead q) → parts n c.current ≡ Some (Element t) → IsReceived (parts n) c got r
+back_fronts : (parts : StructureSets) (n a : ℕ) (q c : Qh) (count : ℕ) (got : List ℕ) (r : Received) (t : Qtd) → parts n a ≡ Some (QueueHead q) → parts n c.current ≡ Some (Element t) → IsReceived (parts n) c got r
     → take 3 (qh_words (relinked q (moved c count))) ≡ take 3 (qh_words q) → KeepsFronts parts (parts_back parts n a q c count got r t)
 back_fronts parts n a q c count got r t head element received front =
     let one = received_parts parts n got r in
@@ -90,10 +90,10 @@ back_fronts parts n a q c count got r t head element received front =
 
 -- ---- an event of the walk
 
-copied_there : (base : Base) (member : ℕ → Bool) (parts : Parts) (hand : Hand) (p : Place) (c : Copy) → IsRing base member parts hand p → hand ≡ Copied c → IsCopied member parts c
+copied_there : (base : Base) (member : ℕ → Bool) (parts : StructureSets) (hand : Hand) (p : WalkPlace) (c : Copy) → IsRing base member parts hand p → hand ≡ Copied c → IsCopied member parts c
 copied_there base member parts hand p c k is = subst (IsInHand member parts p.walk.reply) is k.in_hand
 
-settled_there : (base : Base) (member : ℕ → Bool) (parts : Parts) (hand : Hand) (p : Place) (c : Copy) (s : Settlement) → IsRing base member parts hand p → hand ≡ Settled c s → IsCopied member parts c
+settled_there : (base : Base) (member : ℕ → Bool) (parts : StructureSets) (hand : Hand) (p : WalkPlace) (c : Copy) (s : Settlement) → IsRing base member parts hand p → hand ≡ Settled c s → IsCopied member parts c
 settled_there base member parts hand p c s k is = let both : IsCopied member parts c × IsSettled c.queue p.walk.reply s = subst (IsInHand member parts p.walk.reply) is k.in_hand in both.0
 
 settled_current : (c : Copy) (s : Settlement) → (settled_queue_of c s).current ≡ c.queue.current
@@ -108,7 +108,7 @@ front_moved : (c : Copy) (s : Settlement) (n : ℕ) → take 3 (qh_words (relink
 unfolding moved settled_queue qh_words
 front_moved c s n = refl
 
-pub effect_fronts : {W : Type 0} (transacts : W → Ask → List ℕ → Reply → W → Type 0) (base : Base) (member : ℕ → Bool) (parts : Parts) (hand : Hand) (p : Place) (wire after : W) (now : Parts) (later : Hand) (kind : WalkStep) → IsRing base member parts hand p → Effect transacts parts hand wire after now later kind → KeepsFronts parts now
+pub effect_fronts : {W : Type 0} (transacts : W → Ask → List ℕ → Reply → W → Type 0) (base : Base) (member : ℕ → Bool) (parts : StructureSets) (hand : Hand) (p : WalkPlace) (wire after : W) (now : StructureSets) (later : Hand) (kind : WalkStep) → IsRing base member parts hand p → Effect transacts parts hand wire after now later kind → KeepsFronts parts now
 effect_fronts transacts base member parts hand p wire after now later _ k (reads r same quiet) = same_fronts parts now same
 effect_fronts transacts base member parts hand p wire after now later _ k (passes r same quiet) = same_fronts parts now same
 effect_fronts transacts base member parts hand p wire after now later _ k (ends r same quiet) = same_fronts parts now same
@@ -124,12 +124,12 @@ effect_fronts transacts base member parts hand p wire after now later _ k (write
 
 -- ---- in memory
 
-head_word : (m : Mem) (parts : Parts) (n a : ℕ) (q : Qh) (i : ℕ) → Tells m parts → parts n a ≡ Some (QueueHead q) → i < 3 → word_at m (a + 4 * i) ≡ get_or (take 3 (qh_words q)) i 0
+head_word : (m : Mem) (parts : StructureSets) (n a : ℕ) (q : Qh) (i : ℕ) → Tells m parts → parts n a ≡ Some (QueueHead q) → i < 3 → word_at m (a + 4 * i) ≡ get_or (take 3 (qh_words q)) i 0
 head_word m parts n a q i tells here below =
     let h : HoldsQueueHead m a q = tells.each n a (QueueHead q) here in
     sym (get_or-words_in m.words a 12 i (omega (arith, below))) ∙ ap (λ ws. get_or ws i 0) h.words ∙ sym (get_or-take 3 (qh_words q) i 0 below)
 
-pub fronts_stay : (m new : Mem) (parts now : Parts) (n a : ℕ) (q : Qh) (i : ℕ) → Tells m parts → Tells new now → KeepsFronts parts now → parts n a ≡ Some (QueueHead q) → i < 3 → word_at new (a + 4 * i) ≡ word_at m (a + 4 * i)
+pub fronts_stay : (m new : Mem) (parts now : StructureSets) (n a : ℕ) (q : Qh) (i : ℕ) → Tells m parts → Tells new now → KeepsFronts parts now → parts n a ≡ Some (QueueHead q) → i < 3 → word_at new (a + 4 * i) ≡ word_at m (a + 4 * i)
 fronts_stay m new parts now n a q i before after keeps here below =
     let f : HasFront (now n a) q = keeps n a q here in
     head_word new now n a f.queue i after f.here below ∙ ap (λ ws. get_or ws i 0) f.front ∙ sym (head_word m parts n a q i before here below)

@@ -4,9 +4,9 @@
 use Rattle.std.specs.Prelude.{◌≡◌, ℕ, ◌+◌, ◌*◌, ◌<◌, Some}
 use Rattle.word_mem.specs.Memory.{Mem, word_at}
 use Rattle.qh_qtd.specs.declared.queue_head.Qh.{Qh}
-use Rattle.lent_structures.specs.Structures.{QueueHead, Parts}
+use Rattle.lent_structures.specs.Structures.{QueueHead, StructureSets}
 use Rattle.walk_writes.specs.Writes.{WritesLent}
 
-pub record LeavesRest (parts : Parts) (m new : Mem) : Type 0 where
+pub record LeavesRest (parts : StructureSets) (m new : Mem) : Type 0 where
   pub lent : WritesLent m new
   pub heads : (n a : ℕ) (q : Qh) (i : ℕ) → parts n a ≡ Some (QueueHead q) → i < 3 → word_at new (a + 4 * i) ≡ word_at m (a + 4 * i)

@@ -1,6 +1,6 @@
 ghost use Rattle.std.specs.Prelude.{ℕ, Bool};
-ghost use Rattle.hc_core.specs.Controller.{Content, row_of, HasRow};
-ghost use Rattle.lent_structures.specs.Structures.{Parts};
+ghost use Rattle.hc_core.specs.Controller.{Content, microframe_row, HasRow};
+ghost use Rattle.lent_structures.specs.Structures.{StructureSets};
 ghost use Rattle.ring_walk.specs.Hand.{Hand};
 ghost use Rattle.ring_walk.specs.Ring.{Base};
 ghost use Rattle.ring_walk.specs.Effects.{AreBytesHeard};
@@ -11,7 +11,7 @@ use usb_base::Wire;
 
 /// Each event of the controller leaves what isn't Lent, and the first three words of each queue head.
 pub fn each_event_leaves_the_rest<W: Wire>()
-    ensures { (base : Base) (member : ℕ → Bool) (parts : Parts) (hand : Hand) (c : Content) (wire : W) (new : Content) (after : W)
+    ensures { (base : Base) (member : ℕ → Bool) (parts : StructureSets) (hand : Hand) (c : Content) (wire : W) (new : Content) (after : W)
         → IsControlled base member parts hand c → IsOn base → AreBytesHeard W.transacts wire after
-        → HasRow W.begins W.transacts (row_of c.registers c.control) c wire new after → LeavesRest parts c.memory new.memory }
+        → HasRow W.begins W.transacts (microframe_row c.registers c.control) c wire new after → LeavesRest parts c.memory new.memory }
 {}

@@ -15,7 +15,7 @@ use Rattle.run_owners.proofs.Taking.{runs_taken}
 use Rattle.run_owners.proofs.Accepted.{drop_first}
 use Rattle.run_owners.proofs.Transferred.{goes_on_alive}
 use Rattle.ring_members.proofs.Placed.{has_queue}
-use Rattle.lent_structures.specs.Structures.{Parts}
+use Rattle.lent_structures.specs.Structures.{StructureSets}
 use Rattle.lent_structures.specs.Changes.{Leaves}
 use Rattle.lent_structures.proofs.Telling.{told_still}
 use Rattle.ring_walk.specs.Hand.{Hand}
@@ -31,11 +31,11 @@ use Rattle.driver_accepts.proofs.Transfers.{driven_transfer}
 use Rattle.driver_accepts.proofs.Noted.{transfer_one}
 
 -- a ring stays one where what was Lent stays
-pub ring_leaves : (base : Base) (member : ℕ → Bool) (parts : Parts) (hand : Hand) (w : Walk) (r : RegisterFile) (m after : Mem) → IsRing base member parts hand (place w r m) → Leaves m after → IsRing base member parts hand (place w r after)
+pub ring_leaves : (base : Base) (member : ℕ → Bool) (parts : StructureSets) (hand : Hand) (w : Walk) (r : RegisterFile) (m after : Mem) → IsRing base member parts hand (place w r m) → Leaves m after → IsRing base member parts hand (place w r after)
 ring_leaves base member parts hand w r m after ring left =
     ring_retold base member parts parts hand (place w r m) after ring (told_still m after parts left ring.tells) ring.members (λ n q here. here)
 
-pub open_drives : (base : Base) (member : ℕ → Bool) (parts : Parts) (hand : Hand) (w : Walk) (r : RegisterFile) (m : Mem) (d : DriverContent) (o : Offered) → Opens d m o → HasOwners d → Stands (holding d.book m) → DrivesRing base member parts hand (place w r m) d → DrivesRing base member parts hand (place w r o.memory) o.driver
+pub open_drives : (base : Base) (member : ℕ → Bool) (parts : StructureSets) (hand : Hand) (w : Walk) (r : RegisterFile) (m : Mem) (d : DriverContent) (o : Offered) → Opens d m o → HasOwners d → Stands (holding d.book m) → DrivesRing base member parts hand (place w r m) d → DrivesRing base member parts hand (place w r o.memory) o.driver
 open_drives base member parts hand w r m d o why has stands k =
     let g = why.holding_after in
     let all = runs_taken (holding d.book m) g (2 ∷ 1 ∷ []) stands why.runs in
@@ -49,7 +49,7 @@ open_drives base member parts hand w r m d o why has stands k =
           (open_one_more d m why.desc g bs has why.runs all.are) k.driven);
     }
 
-pub receiving_drives : (base : Base) (member : ℕ → Bool) (parts : Parts) (hand : Hand) (w : Walk) (r : RegisterFile) (m : Mem) (d : DriverContent) (o : Offered) → (t : Transfers d m o) → AreIn t.asked.stages → HasOwners d → Stands (holding d.book m) → DrivesRing base member parts hand (place w r m) d → DrivesRing base member parts hand (place w r o.memory) o.driver
+pub receiving_drives : (base : Base) (member : ℕ → Bool) (parts : StructureSets) (hand : Hand) (w : Walk) (r : RegisterFile) (m : Mem) (d : DriverContent) (o : Offered) → (t : Transfers d m o) → AreIn t.asked.stages → HasOwners d → Stands (holding d.book m) → DrivesRing base member parts hand (place w r m) d → DrivesRing base member parts hand (place w r o.memory) o.driver
 receiving_drives base member parts hand w r m d o why all_in has stands k =
     let g = why.holding_after in
     let n = length why.asked.stages in
@@ -69,7 +69,7 @@ receiving_drives base member parts hand w r m d o why all_in has stands k =
           (transfer_one d m why.number x why.asked g bs has why.runs all.are why.some why.here alive why.sort) k.driven);
     }
 
-pub cancel_drives : (base : Base) (member : ℕ → Bool) (parts : Parts) (hand : Hand) (w : Walk) (r : RegisterFile) (m : Mem) (d : DriverContent) (o : Offered) → Cancels d m o → DrivesRing base member parts hand (place w r m) d → DrivesRing base member parts hand (place w r o.memory) o.driver
+pub cancel_drives : (base : Base) (member : ℕ → Bool) (parts : StructureSets) (hand : Hand) (w : Walk) (r : RegisterFile) (m : Mem) (d : DriverContent) (o : Offered) → Cancels d m o → DrivesRing base member parts hand (place w r m) d → DrivesRing base member parts hand (place w r o.memory) o.driver
 cancel_drives base member parts hand w r m d o why k =
     subst (λ (f : Offered). DrivesRing base member parts hand (place w r f.memory) f.driver) (sym why.is)
     (record {

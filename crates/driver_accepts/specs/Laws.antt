@@ -10,7 +10,7 @@ use Rattle.driver_rows.specs.DriverContent.{DriverContent}
 use Rattle.driver_rows.specs.Offers.{Offered}
 use Rattle.run_owners.specs.Accepts.{Opens, Transfers, Cancels}
 use Rattle.run_owners.specs.Kept.{HasOwners}
-use Rattle.lent_structures.specs.Structures.{Parts}
+use Rattle.lent_structures.specs.Structures.{StructureSets}
 use Rattle.ring_walk.specs.Hand.{Hand}
 use Rattle.ring_walk.specs.Ring.{Base}
 use Rattle.driver_parts.specs.Laws.{AreIn}
@@ -18,17 +18,17 @@ use Rattle.driver_parts.specs.Driven.{DrivesRing}
 
 -- an endpoint of the ring is opened
 abbrev pub OpenDrives : Type 0
-OpenDrives = (base : Base) (member : ℕ → Bool) (parts : Parts) (hand : Hand) (w : Walk) (r : RegisterFile) (m : Mem) (d : DriverContent) (o : Offered)
+OpenDrives = (base : Base) (member : ℕ → Bool) (parts : StructureSets) (hand : Hand) (w : Walk) (r : RegisterFile) (m : Mem) (d : DriverContent) (o : Offered)
     → Opens d m o → HasOwners d → Stands (holding d.book m) → DrivesRing base member parts hand (place w r m) d
     → DrivesRing base member parts hand (place w r o.memory) o.driver
 
 -- a transfer comes of which each qTD is an IN
 abbrev pub ReceivingDrives : Type 0
-ReceivingDrives = (base : Base) (member : ℕ → Bool) (parts : Parts) (hand : Hand) (w : Walk) (r : RegisterFile) (m : Mem) (d : DriverContent) (o : Offered)
+ReceivingDrives = (base : Base) (member : ℕ → Bool) (parts : StructureSets) (hand : Hand) (w : Walk) (r : RegisterFile) (m : Mem) (d : DriverContent) (o : Offered)
     → (t : Transfers d m o) → AreIn t.asked.stages → HasOwners d → Stands (holding d.book m) → DrivesRing base member parts hand (place w r m) d
     → DrivesRing base member parts hand (place w r o.memory) o.driver
 
 -- an endpoint of the ring is cancelled
 abbrev pub CancelDrives : Type 0
-CancelDrives = (base : Base) (member : ℕ → Bool) (parts : Parts) (hand : Hand) (w : Walk) (r : RegisterFile) (m : Mem) (d : DriverContent) (o : Offered)
+CancelDrives = (base : Base) (member : ℕ → Bool) (parts : StructureSets) (hand : Hand) (w : Walk) (r : RegisterFile) (m : Mem) (d : DriverContent) (o : Offered)
     → Cancels d m o → DrivesRing base member parts hand (place w r m) d → DrivesRing base member parts hand (place w r o.memory) o.driver

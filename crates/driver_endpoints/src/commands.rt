@@ -3,43 +3,43 @@ ghost use Rattle.std.specs.Prelude.{◌≡◌, ◌≤◌, ◌<◌, ◌+◌, ◌*
 ghost use Rattle.driver_rows.specs.Rows.{command_row, events_of, links, removes_members};
 ghost use Rattle.driver_rows.specs.Offers.{first_waiting, with_transfer};
 
-use driver_rows::{Command, Reserve, Row};
+use driver_rows::{Command, DriverRow, Reserve};
 use driver_words::HEAD_BLOCK;
 
 /// The next event of a command, of those that aren't stores of the frame list.
-pub fn row_of_command(command: &Command, made: u8) -> Row
+pub fn row_of_command(command: &Command, made: u8) -> DriverRow
     ensures { result ≡ command_row command.now made }
 {
     match command {
         Command::Open(queue) => match made {
-            0 => Row::Lend,
-            1 => Row::Store(HEAD_BLOCK, 32 * HEAD_BLOCK as u32, 32 * *queue as u32 + 2),
-            _ => Row::Rest,
+            0 => DriverRow::Lend,
+            1 => DriverRow::Store(HEAD_BLOCK, 32 * HEAD_BLOCK as u32, 32 * *queue as u32 + 2),
+            _ => DriverRow::Rest,
         },
         Command::Publish(block, words) => publish_row(*block, words, made),
         Command::Unlink(_, block, link) => match made {
-            0 => Row::Store(*block, 32 * *block as u32, *link),
-            _ => Row::Rest,
+            0 => DriverRow::Store(*block, 32 * *block as u32, *link),
+            _ => DriverRow::Rest,
         },
         Command::Chain => match made {
-            0 => Row::Lend,
-            _ => Row::Rest,
+            0 => DriverRow::Lend,
+            _ => DriverRow::Rest,
         },
         Command::Iso(_, _, _) => match made {
-            0 => Row::Frames,
-            1 => Row::LendDescriptors,
-            _ => Row::Rest,
+            0 => DriverRow::Frames,
+            1 => DriverRow::LendDescriptors,
+            _ => DriverRow::Rest,
         },
-        Command::Unchain(_) => Row::Rest,
+        Command::Unchain(_) => DriverRow::Rest,
     }
 }
 
 /// The next event of a command that publishes a transfer.
-fn publish_row(block: u16, words: &[u32; 8], made: u8) -> Row
+fn publish_row(block: u16, words: &[u32; 8], made: u8) -> DriverRow
     ensures { result ≡ command_row (Command.Publish block words.now) made }
 {
     match made {
-        0 => Row::Lend,
+        0 => DriverRow::Lend,
         1 => store_row(block, words, 0),
         2 => store_row(block, words, 1),
         3 => store_row(block, words, 3),
@@ -48,16 +48,16 @@ fn publish_row(block: u16, words: &[u32; 8], made: u8) -> Row
         6 => store_row(block, words, 6),
         7 => store_row(block, words, 7),
         8 => store_row(block, words, 2),
-        _ => Row::Rest,
+        _ => DriverRow::Rest,
     }
 }
 
 /// The store of one word of a qTD.
-fn store_row(block: u16, words: &[u32; 8], i: u8) -> Row
+fn store_row(block: u16, words: &[u32; 8], i: u8) -> DriverRow
     requires { i < 8 }
-    ensures { result ≡ Row.Store block (32 * block + 4 * i) (slice_index words.now i) }
+    ensures { result ≡ DriverRow.Store block (32 * block + 4 * i) (slice_index words.now i) }
 {
-    Row::Store(block, 32 * block as u32 + 4 * i as u32, words[i as usize])
+    DriverRow::Store(block, 32 * block as u32 + 4 * i as u32, words[i as usize])
 }
 
 /// How many events a command has that aren't stores of the frame list.

@@ -11,7 +11,7 @@ use Rattle.bandwidth.specs.Admission.{is_placed, joined}
 use Rattle.bandwidth.proofs.Ids.{without_none}
 use Rattle.periodic_rows.specs.Periodic.{want_of}
 use Rattle.periodic_part.specs.Part.{Held, with_place}
-use Rattle.driver_frames.specs.declared.placing.Place.{Place}
+use Rattle.driver_frames.specs.declared.placing.NewPlace.{NewPlace}
 use Rattle.driver_frames.specs.Places.{withdrawn}
 
 pub withdrawn_same : (h : Held) (e : ℕ) (x : EpDesc) (p : Placement) → is_placed h.periodic.plan e ≡ false → withdrawn (with_place h e x p) e ≡ h
@@ -27,7 +27,7 @@ withdrawn_same h e x p fresh =
     ap (λ (ps : List Placed). record h { periodic = record h.periodic { plan = record h.periodic.plan { placed = ps } } }) all
 
 -- a refusal leaves what stood before the placement was asked
-pub refused_same : (r : Result Place OfferError) (k l : Book) (m n : Mem) (h g q : Held) (e : ℕ) (x : EpDesc) (p : Placement) → IfErr r (λ _. holding l n ≡ holding k m) → IfErr r (λ _. q ≡ withdrawn g e) → g ≡ with_place h e x p → is_placed h.periodic.plan e ≡ false → IfErr r (λ _. (l ≡ k) × (q ≡ h) × (n ≡ m))
+pub refused_same : (r : Result NewPlace OfferError) (k l : Book) (m n : Mem) (h g q : Held) (e : ℕ) (x : EpDesc) (p : Placement) → IfErr r (λ _. holding l n ≡ holding k m) → IfErr r (λ _. q ≡ withdrawn g e) → g ≡ with_place h e x p → is_placed h.periodic.plan e ≡ false → IfErr r (λ _. (l ≡ k) × (q ≡ h) × (n ≡ m))
 refused_same (Ok place) k l m n h g q e x p same gone one fresh = tt
 refused_same (Err why) k l m n h g q e x p same gone one fresh =
     (ap (λ (o : Holding). o.book) same, gone ∙ ap (λ (i : Held). withdrawn i e) one ∙ withdrawn_same h e x p fresh, ap (λ (o : Holding). o.memory) same)

@@ -20,7 +20,7 @@ use Rattle.driver_rows.specs.DriverContent.{DriverContent}
 use Rattle.driver_rows.specs.Rows.{is_iso}
 use Rattle.usb_base.specs.declared.reports.OfferError.{OfferError}
 use Rattle.driver_rows.specs.Offers.{Offered, placed_endpoint, written_chain, take_runs, planned_open}
-use Rattle.driver_frames.specs.declared.placing.Place.{Place}
+use Rattle.driver_frames.specs.declared.placing.NewPlace.{NewPlace}
 
 abbrev pub chained_part : Held → Placement → ℕ → Held
 chained_part h p queue = with_list h (linking h.periodic.list (queue_member queue p))
@@ -28,12 +28,12 @@ chained_part h p queue = with_list h (linking h.periodic.list (queue_member queu
 abbrev pub withdrawn : Held → ℕ → Held
 withdrawn h e = with_periodic h (record h.periodic { plan = without h.periodic.plan e })
 
-abbrev pub placed_part : Held → ℕ → EpDesc → Place → Held
+abbrev pub placed_part : Held → ℕ → EpDesc → NewPlace → Held
 placed_part h e x place =
     if is_iso x.kind then with_place h e x place.placement
     else chained_part (with_place h e x place.placement) place.placement place.queue
 
-pub record IsChained (old : Book) (m : Mem) (x : EpDesc) (p : Placement) (place : Place) (link : ℕ) (new : Book) (n : Mem) : Type 0 where
+pub record IsChained (old : Book) (m : Mem) (x : EpDesc) (p : Placement) (place : NewPlace) (link : ℕ) (new : Book) (n : Mem) : Type 0 where
   pub taken : Mem
   pub runs : take_runs (holding old m) (2 ∷ 1 ∷ []) ≡ Ok (holding new taken)
   pub queue : slice_index (drop (length old.taken) new.taken) 0 ≡ place.queue
@@ -45,7 +45,7 @@ pub record IsChained (old : Book) (m : Mem) (x : EpDesc) (p : Placement) (place 
 abbrev pub started : Bool → DriverContent → DriverContent
 started iso d = if iso then d else record d { command = Some unfinished.Chain; made = 0 }
 
-abbrev pub opened_placed : DriverContent → EpDesc → Place → Book → PeriodicContent → DriverContent
+abbrev pub opened_placed : DriverContent → EpDesc → NewPlace → Book → PeriodicContent → DriverContent
 opened_placed d x place k q =
     started (is_iso x.kind)
     (record d {
@@ -55,7 +55,7 @@ opened_placed d x place k q =
       periodic = q;
     })
 
-abbrev pub opened_with : EpDesc → Place → Book → Held → Mem → DriverContent → Result Offered OfferError
+abbrev pub opened_with : EpDesc → NewPlace → Book → Held → Mem → DriverContent → Result Offered OfferError
 opened_with x place k h m d = Ok (record { driver = opened_placed d x place k h.periodic; memory = m })
 
 abbrev pub AnswersOpen : Book → Held → Mem → ℕ → EpDesc → (DriverContent → Result Offered OfferError) → Type 0

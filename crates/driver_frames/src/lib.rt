@@ -20,7 +20,7 @@ pub use descriptors::write_descriptors;
 pub use framing::{give_frames, write_links};
 pub use kinds::spans_too_long;
 pub use linking::{go_on, queue_descriptors, queue_leaving, unlink_descriptor};
-pub use placing::{Place, new_placed, place_endpoint};
+pub use placing::{NewPlace, new_placed, place_endpoint};
 pub use releases::{free_descriptor, free_placed, let_placed_go};
 pub use reports::report_descriptor;
 pub use rooms::room_for_descriptors;

@@ -19,7 +19,7 @@ use word_mem::WordMem;
 
 /// Where a new endpoint stands: its placement, and the blocks of its queue head and its dummy; 0 where it has no queue.
 #[derive(Clone, Copy, Debug, PartialEq, Eq)]
-pub struct Place {
+pub struct NewPlace {
     /// Its place in the frame list.
     pub placement: Placement,
     /// The block in which its queue head begins.
@@ -29,7 +29,7 @@ pub struct Place {
 }
 
 /// The endpoint that is placed so.
-pub fn new_placed(desc: &EpDesc, place: &Place) -> Endpoint
+pub fn new_placed(desc: &EpDesc, place: &NewPlace) -> Endpoint
     ensures { result ≡ placed_endpoint desc.now place.now.placement place.now.queue place.now.dummy }
 {
     Endpoint {
@@ -55,7 +55,7 @@ fn chain_endpoint(
     e: u32,
     desc: &EpDesc,
     placement: &Placement,
-) -> Result<Place, OfferError>
+) -> Result<NewPlace, OfferError>
     requires stands { Stands (holding book.old mem.old) }
     requires max { desc.now.max ≤ 1024 }
     requires port { desc.now.port ≤ 127 }
@@ -72,7 +72,7 @@ fn chain_endpoint(
             let link = periodic.queue_link(queue, placement);
             write_interrupt_endpoint(book, mem, desc, placement, link, queue, dummy);
             periodic.link_queue(queue, placement);
-            Ok(Place {
+            Ok(NewPlace {
                 placement: *placement,
                 queue,
                 dummy,
@@ -96,7 +96,7 @@ pub fn place_endpoint(
     periodic: &mut PeriodicPart,
     e: u32,
     desc: &EpDesc,
-) -> Result<Place, OfferError>
+) -> Result<NewPlace, OfferError>
     requires stands { Stands (holding book.old mem.old) }
     requires max { desc.now.max ≤ 1024 }
     requires port { desc.now.port ≤ 127 }
@@ -113,7 +113,7 @@ pub fn place_endpoint(
         None => Err(OfferError::NoPlacement),
         Some(placement) => {
             if is_isochronous(desc.kind) {
-                return Ok(Place {
+                return Ok(NewPlace {
                     placement,
                     queue: 0,
                     dummy: 0,

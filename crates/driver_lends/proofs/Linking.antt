@@ -12,7 +12,7 @@ use Rattle.run_book.specs.Book.{store}
 use Rattle.driver_rows.specs.Words.{head_block, to_queue_head, queue_head_link, queue_head, dummy_qtd}
 use Rattle.driver_rows.specs.Rows.{advance}
 use Rattle.run_owners.specs.Owners.{EndpointRuns}
-use Rattle.lent_structures.specs.Structures.{Structure, QueueHead, Element, Buffer, Part, with_structure, put}
+use Rattle.lent_structures.specs.Structures.{Structure, QueueHead, Element, Buffer, Structures, with_structure, put}
 use Rattle.lent_structures.proofs.Names.{with_here, with_there}
 use Rattle.queue_parts.specs.Sound.{LeadsAmong, IsSoundElement, IsMember}
 use Rattle.queue_parts.proofs.Altering.{found_queue}
@@ -59,7 +59,7 @@ no_buffer x q a pages k bs found =
 
 -- ---- a member
 
-opened_member : (wider : ℕ → Bool) (x : EndpointRuns) (e : EpDesc) (link : ℕ) (part : Part) → x.queue ≢ x.dummy → ((b : ℕ) → part b ≡ opened_part x (queue_head e link x.dummy) b) → LeadsAmong wider (to_queue_head link) → IsMember wider (32 * x.queue) part
+opened_member : (wider : ℕ → Bool) (x : EndpointRuns) (e : EpDesc) (link : ℕ) (part : Structures) → x.queue ≢ x.dummy → ((b : ℕ) → part b ≡ opened_part x (queue_head e link x.dummy) b) → LeadsAmong wider (to_queue_head link) → IsMember wider (32 * x.queue) part
 opened_member wider x e link part differs same leads =
     let q = queue_head e link x.dummy in
     let one = with_structure no_part (32 * x.queue) (QueueHead q) in
@@ -68,8 +68,7 @@ opened_member wider x e link part differs same leads =
       here = same (32 * x.queue) ∙ with_there one (32 * x.dummy) (Element dummy_qtd) (32 * x.queue) (λ s. differs (omega (arith, s))) ∙ with_here no_part (32 * x.queue) (QueueHead q);
       link = leads;
       sound = record {
-        next = record { qtd = dummy_qtd; here = same (32 * x.dummy) ∙ with_here one (32 * x.dummy) (Element dummy_qtd) };
-        alternate = tt;
+        rest = λ off idle. record { qtd = dummy_qtd; here = same (32 * x.dummy) ∙ with_here one (32 * x.dummy) (Element dummy_qtd) };
         work = λ on. absurd (true≢false (sym on));
       };
       elements = λ a t found. subst (IsSoundElement part) (one_element x q a t (sym (same a) ∙ found)) (record { next = tt; alternate = tt; work = λ on. absurd (true≢false (sym on)) });

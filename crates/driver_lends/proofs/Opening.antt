@@ -18,7 +18,7 @@ use Rattle.driver_rows.specs.Rows.{advance}
 use Rattle.run_owners.specs.Owners.{EndpointRuns, HasBlocks, views_of}
 use Rattle.run_owners.specs.Kept.{HasOwners}
 use Rattle.ring_members.proofs.Freed.{lent_words}
-use Rattle.lent_structures.specs.Structures.{Structure, QueueHead, Element, HoldsQueueHead, HoldsElement, Parts, put, Has}
+use Rattle.lent_structures.specs.Structures.{Structure, QueueHead, Element, HoldsQueueHead, HoldsElement, StructureSets, put, Has}
 use Rattle.lent_structures.proofs.Names.{put_else, put_found}
 use Rattle.lent_structures.proofs.Standing.{both_true, reaches_if}
 use Rattle.lent_structures.proofs.Telling.{told_lent}
@@ -168,13 +168,13 @@ never_both m x q r s b runs at has =
 
 -- ---- the ring
 
-pub no_member : {X : Type 0} (member : ℕ → Bool) (n : ℕ) (parts : Parts) → parts n n ≡ None → IsMember member n (parts n) → X
+pub no_member : {X : Type 0} (member : ℕ → Bool) (n : ℕ) (parts : StructureSets) → parts n n ≡ None → IsMember member n (parts n) → X
 no_member member n parts none is = absurd (some_none (parts n n) (QueueHead is.queue) none is.here)
   where
     some_none : (o : Option Structure) (s : Structure) → o ≡ None → o ≡ Some s → ⊥
     some_none o s none some = cc
 
-ring_opened : (base : Base) (member : ℕ → Bool) (parts : Parts) (hand : Hand) (w : Walk) (r : RegisterFile) (m : Mem) (d : DriverContent) (e : ℕ) (x : EndpointRuns) (q : Qh)
+ring_opened : (base : Base) (member : ℕ → Bool) (parts : StructureSets) (hand : Hand) (w : Walk) (r : RegisterFile) (m : Mem) (d : DriverContent) (e : ℕ) (x : EndpointRuns) (q : Qh)
     → IsOpened d m e x q → HasOwners d → Stands (holding d.book m) → DrivesRing base member parts hand (place w r m) d → IsRing base member (opened_parts parts x q) hand (place w r (lent_memory d m))
 unfolding lent_memory
 ring_opened base member parts hand w r m d e x q opened has stands k =

@@ -7,7 +7,7 @@ use Rattle.run_book.specs.declared.slots.Slot.{Slot}
 use Rattle.qh_qtd.specs.declared.queue_head.Qh.{Qh}
 use Rattle.driver_rows.specs.Words.{head_block, dummy_qtd}
 use Rattle.run_owners.specs.Owners.{Owner, FrameList, Head, QueueHead, Dummy, Element, Buffer, Described, IsPlaced, ArePieces, EndpointRuns, TransferRuns, NoteRuns, Views, AreOwned}
-use Rattle.lent_structures.specs.Structures.{Structure, QueueHead as QueueHeadOf, Element as ElementOf, Parts, put}
+use Rattle.lent_structures.specs.Structures.{Structure, QueueHead as QueueHeadOf, Element as ElementOf, StructureSets, put}
 use Rattle.lent_structures.proofs.Names.{put_same, put_else, put_beside, put_found}
 use Rattle.driver_parts.specs.Inventory.{Sort, sort_of, sorts_of, OfQueueHead, OfElement, IsLent, IsPieceOf, IsBufferTold, AreTold, IsQueueIn, IsTransferIn, IsDriverOwned, the_list, the_head, a_queue, a_dummy, a_piece, a_buffer, IsDriven}
 use Rattle.driver_lends.specs.Opened.{opened_parts}
@@ -93,7 +93,7 @@ no_owned v w owner e x _ _ _ two at (a_buffer t b c cs y z is piece first lent) 
     let same : z.queue ≡ x.queue = omega (arith, at) in
     two.no_transfer t y is.here (one_queue v owner e y.endpoint x z two.owned two.here is.queue same)
 
-pub none_there : (v w : Views) (owner : ℕ → Owner) (e : ℕ) (x : EndpointRuns) (parts : Parts) (b : ℕ) → TwoLent v w owner e x → IsDriven v (sorts_of parts) → parts (32 * x.queue) b ≡ None
+pub none_there : (v w : Views) (owner : ℕ → Owner) (e : ℕ) (x : EndpointRuns) (parts : StructureSets) (b : ℕ) → TwoLent v w owner e x → IsDriven v (sorts_of parts) → parts (32 * x.queue) b ≡ None
 none_there v w owner e x parts b two k = by_case (parts (32 * x.queue) b) refl
   where
     by_case : (o : Option Structure) → parts (32 * x.queue) b ≡ o → o ≡ None
@@ -102,17 +102,17 @@ none_there v w owner e x parts b two k = by_case (parts (32 * x.queue) b) refl
 
 -- ---- kinds by name
 
-queue_sort : (parts : Parts) (x : EndpointRuns) (q : Qh) → x.queue ≢ x.dummy → sorts_of (opened_parts parts x q) (32 * x.queue) (32 * x.queue) ≡ Some OfQueueHead
+queue_sort : (parts : StructureSets) (x : EndpointRuns) (q : Qh) → x.queue ≢ x.dummy → sorts_of (opened_parts parts x q) (32 * x.queue) (32 * x.queue) ≡ Some OfQueueHead
 queue_sort parts x q differs =
     let one = put parts (32 * x.queue) (32 * x.queue) (QueueHeadOf q) in
     ap (option_map sort_of) (put_else one (32 * x.queue) (32 * x.dummy) (ElementOf dummy_qtd) (32 * x.queue) (λ s. differs (omega (arith, s))) ∙ put_same parts (32 * x.queue) (32 * x.queue) (QueueHeadOf q))
 
-dummy_sort : (parts : Parts) (x : EndpointRuns) (q : Qh) → sorts_of (opened_parts parts x q) (32 * x.queue) (32 * x.dummy) ≡ Some OfElement
+dummy_sort : (parts : StructureSets) (x : EndpointRuns) (q : Qh) → sorts_of (opened_parts parts x q) (32 * x.queue) (32 * x.dummy) ≡ Some OfElement
 dummy_sort parts x q =
     let one = put parts (32 * x.queue) (32 * x.queue) (QueueHeadOf q) in
     ap (option_map sort_of) (put_same one (32 * x.queue) (32 * x.dummy) (ElementOf dummy_qtd))
 
-other_sort : (parts : Parts) (x : EndpointRuns) (q : Qh) (k b : ℕ) → b ≢ x.queue → b ≢ x.dummy → sorts_of (opened_parts parts x q) k (32 * b) ≡ sorts_of parts k (32 * b)
+other_sort : (parts : StructureSets) (x : EndpointRuns) (q : Qh) (k b : ℕ) → b ≢ x.queue → b ≢ x.dummy → sorts_of (opened_parts parts x q) k (32 * b) ≡ sorts_of parts k (32 * b)
 other_sort parts x q k b first second =
     let n = 32 * x.queue in
     let one = put parts n n (QueueHeadOf q) in
@@ -152,14 +152,14 @@ piece_on note other b (suc n) c same (inl is) = inl is
 piece_on note other b (suc n) c same (inr is) = inr (subst (λ (k : ℕ). IsPieceOf other k n c) (ap (λ (r : NoteRuns). r.next) (sym (same b))) (piece_on note other (note b).next n c same is))
 
 -- qTDs and buffers of transfers stand elsewhere
-buffer_on : (v w : Views) (owner : ℕ → Owner) (e : ℕ) (x : EndpointRuns) (parts : Parts) (q : Qh) (k t : ℕ) (cs : List ℕ) → TwoLent v w owner e x → AllByRecursion (λ c. IsPlaced v.slot owner c (Buffer t)) cs → IsBufferTold v.slot (sorts_of parts k) cs → IsBufferTold w.slot (sorts_of (opened_parts parts x q) k) cs
+buffer_on : (v w : Views) (owner : ℕ → Owner) (e : ℕ) (x : EndpointRuns) (parts : StructureSets) (q : Qh) (k t : ℕ) (cs : List ℕ) → TwoLent v w owner e x → AllByRecursion (λ c. IsPlaced v.slot owner c (Buffer t)) cs → IsBufferTold v.slot (sorts_of parts k) cs → IsBufferTold w.slot (sorts_of (opened_parts parts x q) k) cs
 buffer_on v w owner e x parts q k t [] two placed told = tt
 buffer_on v w owner e x parts q k t (c ∷ cs) two placed told = λ lent.
     let first = apart_from v.slot owner c x.queue (Buffer t) (QueueHead e) placed.0 (queue_at v owner e x two.owned two.here) (λ s. omega (arith, s)) in
     let second = apart_from v.slot owner c x.dummy (Buffer t) (Dummy e) placed.0 (dummy_at v owner e x two.owned two.here) (λ s. omega (arith, s)) in
     other_sort parts x q k c first second ∙ told (lent_back v w owner e x c two first second lent)
 
-told_on : (v w : Views) (owner : ℕ → Owner) (e : ℕ) (x : EndpointRuns) (parts : Parts) (q : Qh) (k t b n : ℕ) → TwoLent v w owner e x → ArePieces v.slot owner v.note t b n → AreTold v (sorts_of parts k) b n → AreTold w (sorts_of (opened_parts parts x q) k) b n
+told_on : (v w : Views) (owner : ℕ → Owner) (e : ℕ) (x : EndpointRuns) (parts : StructureSets) (q : Qh) (k t b n : ℕ) → TwoLent v w owner e x → ArePieces v.slot owner v.note t b n → AreTold v (sorts_of parts k) b n → AreTold w (sorts_of (opened_parts parts x q) k) b n
 told_on v w owner e x parts q k t b zero two pieces told = tt
 told_on v w owner e x parts q k t b (suc n) two pieces told =
     let first = apart_from v.slot owner b x.queue (Element t) (QueueHead e) pieces.0.element (queue_at v owner e x two.owned two.here) (λ s. omega (arith, s)) in
@@ -184,7 +184,7 @@ owned_on v w owner e x _ _ _ two (a_buffer t b c cs y z is piece first lent) =
     a_buffer t b c cs y z (transfer_on v w owner e x t y z two is) (piece_on v.note w.note y.first y.qtds b two.notes piece) (ap (λ (r : NoteRuns). r.buffer) (two.notes b) ∙ first) (lent_on v w owner e x c two lent)
 
 -- one of the two, or one that was there
-only_on : (v w : Views) (owner : ℕ → Owner) (e : ℕ) (x : EndpointRuns) (parts : Parts) (q : Qh) (n a : ℕ) (u : Structure) → TwoLent v w owner e x → IsDriven v (sorts_of parts) → opened_parts parts x q n a ≡ Some u → IsDriverOwned w n a (sort_of u)
+only_on : (v w : Views) (owner : ℕ → Owner) (e : ℕ) (x : EndpointRuns) (parts : StructureSets) (q : Qh) (n a : ℕ) (u : Structure) → TwoLent v w owner e x → IsDriven v (sorts_of parts) → opened_parts parts x q n a ≡ Some u → IsDriverOwned w n a (sort_of u)
 only_on v w owner e x parts q n a u two k found =
     let at = 32 * x.queue in
     let one = put parts at at (QueueHeadOf q) in
@@ -200,7 +200,7 @@ only_on v w owner e x parts q n a u two k found =
     (put_found parts at at (QueueHeadOf q) n a u before))
     (put_found one at (32 * x.dummy) (ElementOf dummy_qtd) n a u found)
 
-pub driven_two : (v w : Views) (owner : ℕ → Owner) (e : ℕ) (x : EndpointRuns) (parts : Parts) (q : Qh) → TwoLent v w owner e x → IsDriven v (sorts_of parts) → IsDriven w (sorts_of (opened_parts parts x q))
+pub driven_two : (v w : Views) (owner : ℕ → Owner) (e : ℕ) (x : EndpointRuns) (parts : StructureSets) (q : Qh) → TwoLent v w owner e x → IsDriven v (sorts_of parts) → IsDriven w (sorts_of (opened_parts parts x q))
 driven_two v w owner e x parts q two k =
     let mine = queue_at v owner e x two.owned two.here in
     let end = dummy_at v owner e x two.owned two.here in

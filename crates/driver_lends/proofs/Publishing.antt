@@ -5,7 +5,7 @@ use Rattle.qh_qtd.specs.declared.qtd.Qtd.{Qtd}
 use Rattle.qh_qtd.specs.Qtd.{qtd_words, IsQtdInRange}
 use Rattle.driver_rows.specs.Words.{dummy_qtd}
 use Rattle.driver_rows.specs.Rows.{advance}
-use Rattle.lent_structures.specs.Structures.{Part}
+use Rattle.lent_structures.specs.Structures.{Structures}
 use Rattle.queue_parts.specs.Sound.{element_pages, buffer_name, IsSoundElement}
 use Rattle.ring_stores.specs.Stores.{IsBuffer, IsUnnamed}
 use Rattle.driver_parts.proofs.Storing.{element_store_drives}
@@ -27,7 +27,7 @@ stored t (suc (suc (suc (suc (suc (suc zero)))))) below = refl
 stored t (suc (suc (suc (suc (suc (suc (suc zero))))))) below = refl
 stored t (suc (suc (suc (suc (suc (suc (suc (suc k)))))))) below = absurd (omega (arith, below))
 
-places_below : (k : ℕ) → k < 8 → place_in k < 8
+pub places_below : (k : ℕ) → k < 8 → place_in k < 8
 places_below zero below = omega arith
 places_below (suc zero) below = omega arith
 places_below (suc (suc zero)) below = omega arith
@@ -38,7 +38,7 @@ places_below (suc (suc (suc (suc (suc (suc zero)))))) below = omega arith
 places_below (suc (suc (suc (suc (suc (suc (suc zero))))))) below = omega arith
 places_below (suc (suc (suc (suc (suc (suc (suc (suc k)))))))) below = absurd (omega (arith, below))
 
-idle : (t : Qtd) (k : ℕ) → k < 8 → (partly t k).token.active ≡ false
+pub idle : (t : Qtd) (k : ℕ) → k < 8 → (partly t k).token.active ≡ false
 idle t zero below = refl
 idle t (suc zero) below = refl
 idle t (suc (suc zero)) below = refl
@@ -62,7 +62,7 @@ ranged t (suc (suc (suc (suc (suc (suc (suc (suc k)))))))) r = r
 
 -- ---- it stays sound
 
-sound_at : (part : Part) (t : Qtd) (k : ℕ) → IsSoundElement part t → IsSoundElement part (partly t k)
+sound_at : (part : Structures) (t : Qtd) (k : ℕ) → IsSoundElement part t → IsSoundElement part (partly t k)
 sound_at part t zero s = record { next = tt; alternate = tt; work = λ on. absurd (true≢false (sym on)) }
 sound_at part t (suc zero) s = record { next = s.next; alternate = tt; work = λ on. absurd (true≢false (sym on)) }
 sound_at part t (suc (suc zero)) s = record { next = s.next; alternate = s.alternate; work = λ on. absurd (true≢false (sym on)) }
@@ -81,14 +81,14 @@ name_is t low =
     let rest : t.offset % 4096 ≡ t.offset = omega (arith, low) in
     ap (λ (j : ℕ). get_or (element_pages t) j 0 * 4096 + t.offset % 4096) first ∙ ap (λ (j : ℕ). t.page0 * 4096 + j) rest
 
-same_name : (part : Part) (a : ℕ) (t u : Qtd) → buffer_name u ≡ buffer_name t → IsUnnamed part a t → IsUnnamed part a u
+same_name : (part : Structures) (a : ℕ) (t u : Qtd) → buffer_name u ≡ buffer_name t → IsUnnamed part a t → IsUnnamed part a u
 same_name part a t u same free b v differs there name has = free b v differs there (name ∙ same) (subst (IsBuffer part) same has)
 
-same_place : (part : Part) (a : ℕ) (t u : Qtd) → t.offset < 4096 → u.offset ≡ t.offset → u.page0 ≡ t.page0 → IsUnnamed part a t → IsUnnamed part a u
+same_place : (part : Structures) (a : ℕ) (t u : Qtd) → t.offset < 4096 → u.offset ≡ t.offset → u.page0 ≡ t.page0 → IsUnnamed part a t → IsUnnamed part a u
 same_place part a t u low offset page free =
     same_name part a t u (name_is u (omega (arith, low, offset)) ∙ (let e : u.page0 * 4096 + u.offset ≡ t.page0 * 4096 + t.offset = omega (arith, offset, page) in e) ∙ sym (name_is t low)) free
 
-unnamed_at : (part : Part) (a : ℕ) (t : Qtd) (k : ℕ) → t.offset < 4096 → IsUnnamed part a t → IsUnnamed part a dummy_qtd → IsUnnamed part a (partly t k)
+unnamed_at : (part : Structures) (a : ℕ) (t : Qtd) (k : ℕ) → t.offset < 4096 → IsUnnamed part a t → IsUnnamed part a dummy_qtd → IsUnnamed part a (partly t k)
 unnamed_at part a t zero low own blank = blank
 unnamed_at part a t (suc zero) low own blank = blank
 unnamed_at part a t (suc (suc zero)) low own blank = blank

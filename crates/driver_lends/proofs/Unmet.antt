@@ -2,7 +2,7 @@
 use Rattle.std.proofs.Common.{◌≡◌, ℕ, ◌*◌, Bool, true, false, ◌==◌, Option, Some, None, ap, refl, ◌∙◌, if◌then◌else◌}
 use Rattle.driver_rows.specs.Words.{dummy_qtd}
 use Rattle.run_owners.specs.Owners.{views_of}
-use Rattle.lent_structures.specs.Structures.{Structure, QueueHead, Element, Part, with_structure, put}
+use Rattle.lent_structures.specs.Structures.{Structure, QueueHead, Element, Structures, with_structure, put}
 use Rattle.lent_structures.proofs.Names.{put_here}
 use Rattle.driver_lends.specs.Opened.{opened_parts}
 use Rattle.driver_lends.specs.Linked.{opened_part, OpenIsUnmet}
@@ -22,6 +22,6 @@ open_is_unmet base member parts hand p d m e x q opened has k = (by_test (member
     part_at : (b : ℕ) → opened_parts parts x q (32 * x.queue) b ≡ opened_part x q b
     part_at b =
         let one = put parts (32 * x.queue) (32 * x.queue) (QueueHead q) in
-        ap (λ (part : Part). part b) (put_here one (32 * x.queue) (32 * x.dummy) (Element dummy_qtd))
-        ∙ ap (λ (part : Part). with_structure part (32 * x.dummy) (Element dummy_qtd) b) (put_here parts (32 * x.queue) (32 * x.queue) (QueueHead q))
+        ap (λ (part : Structures). part b) (put_here one (32 * x.queue) (32 * x.dummy) (Element dummy_qtd))
+        ∙ ap (λ (part : Structures). with_structure part (32 * x.dummy) (Element dummy_qtd) b) (put_here parts (32 * x.queue) (32 * x.queue) (QueueHead q))
         ∙ ap (λ (o : Option Structure). if b == 32 * x.dummy then Some (Element dummy_qtd) else (if b == 32 * x.queue then Some (QueueHead q) else o)) (none b)

@@ -27,7 +27,7 @@ use Rattle.run_owners.specs.Owners.{EndpointRuns, TransferRuns, runs_of_endpoint
 use Rattle.run_owners.specs.Kept.{HasOwners}
 use Rattle.run_owners.specs.Accepts.{Opens}
 use Rattle.lent_runs.specs.Lent.{AreLent}
-use Rattle.lent_structures.specs.Structures.{QueueHead, Element, Parts, put}
+use Rattle.lent_structures.specs.Structures.{QueueHead, Element, StructureSets, put}
 use Rattle.ring_walk.specs.Hand.{Hand}
 use Rattle.ring_walk.specs.Ring.{Base}
 use Rattle.driver_parts.specs.Inventory.{IsQueueIn}
@@ -47,11 +47,11 @@ pub record IsOpened (d : DriverContent) (m : Mem) (e : ℕ) (x : EndpointRuns) (
   pub dummy_words : words_at m (32 * x.dummy) 8 ≡ qtd_words dummy_qtd
   pub range : IsQhInRange q
 
-abbrev pub opened_parts : Parts → EndpointRuns → Qh → Parts
+abbrev pub opened_parts : StructureSets → EndpointRuns → Qh → StructureSets
 opened_parts parts x q = put (put parts (32 * x.queue) (32 * x.queue) (QueueHead q)) (32 * x.queue) (32 * x.dummy) (Element dummy_qtd)
 
 abbrev pub LendOpensDrives : Type 0
-LendOpensDrives = (base : Base) (member : ℕ → Bool) (parts : Parts) (hand : Hand) (w : Walk) (r : RegisterFile) (m : Mem) (d : DriverContent) (e : ℕ) (x : EndpointRuns) (q : Qh)
+LendOpensDrives = (base : Base) (member : ℕ → Bool) (parts : StructureSets) (hand : Hand) (w : Walk) (r : RegisterFile) (m : Mem) (d : DriverContent) (e : ℕ) (x : EndpointRuns) (q : Qh)
     → IsOpened d m e x q → HasOwners d → Stands (holding d.book m) → DrivesRing base member parts hand (place w r m) d
     → DrivesRing base member (opened_parts parts x q) hand (place w r (lend_taken (holding d.book m)).memory) (advance (record d { book = (lend_taken (holding d.book m)).book }))
 

@@ -10,11 +10,11 @@ use Rattle.qh_qtd.specs.Qtd.{qtd_words, IsQtdInRange}
 use Rattle.async_walk.specs.Walk.{Walk}
 use Rattle.async_walk.specs.Rows.{place}
 use Rattle.run_book.specs.Book.{slot_of, can_store}
-use Rattle.driver_rows.specs.declared.rows.Row.{Row}
-use Rattle.driver_rows.specs.declared.rows.Row.TheVariants as rows
+use Rattle.driver_rows.specs.declared.rows.DriverRow.{DriverRow}
+use Rattle.driver_rows.specs.declared.rows.DriverRow.TheVariants as rows
 use Rattle.driver_rows.specs.Words.{dummy_qtd}
-use Rattle.driver_rows.specs.Rows.{Parts as DriverParts, store_order, after_row}
-use Rattle.lent_structures.specs.Structures.{Element, Part, Parts, put}
+use Rattle.driver_rows.specs.Rows.{Parts as DriverParts, store_order, after_driver_row}
+use Rattle.lent_structures.specs.Structures.{Element, Structures, StructureSets, put}
 use Rattle.queue_parts.specs.Sound.{IsSoundElement}
 use Rattle.ring_walk.specs.Hand.{Hand}
 use Rattle.ring_walk.specs.Ring.{Base}
@@ -37,18 +37,18 @@ partly t (suc (suc (suc (suc (suc (suc (suc (suc k)))))))) = t
 abbrev pub place_in : ℕ → ℕ
 place_in k = slice_index store_order k
 
-abbrev pub publish_row : ℕ → Qtd → ℕ → Row
+abbrev pub publish_row : ℕ → Qtd → ℕ → DriverRow
 publish_row b t k = rows.Store b (32 * b + 4 * place_in k) (slice_index (qtd_words t) (place_in k))
 
 -- a buffer that begins at 0 is no other qTD's, as the fields of an inactive qTD are 0
-pub record IsPublishable (part : Part) (a : ℕ) (t : Qtd) : Type 0 where
+pub record IsPublishable (part : Structures) (a : ℕ) (t : Qtd) : Type 0 where
   pub sound : IsSoundElement part t
   pub own : IsUnnamed part a t
   pub blank : IsUnnamed part a dummy_qtd
 
 abbrev pub PublishStoreDrives : Type 0
-PublishStoreDrives = (base : Base) (member : ℕ → Bool) (parts : Parts) (hand : Hand) (w : Walk) (p : DriverParts) (n b : ℕ) (t : Qtd) (k : ℕ) → k < 8
+PublishStoreDrives = (base : Base) (member : ℕ → Bool) (parts : StructureSets) (hand : Hand) (w : Walk) (p : DriverParts) (n b : ℕ) (t : Qtd) (k : ℕ) → k < 8
     → DrivesRing base member parts hand (place w p.registers p.memory) p.driver → can_store (slot_of p.driver.book.slots b) (32 * b + 4 * place_in k) ≡ true
     → parts n (32 * b) ≡ Some (Element (partly t k)) → IsQtdInRange t → (member n ≡ true → IsPublishable (parts n) (32 * b) t)
     → DrivesRing base member (put parts n (32 * b) (Element (partly t (suc k)))) hand
-    (place w (after_row (publish_row b t k) p).registers (after_row (publish_row b t k) p).memory) (after_row (publish_row b t k) p).driver
+    (place w (after_driver_row (publish_row b t k) p).registers (after_driver_row (publish_row b t k) p).memory) (after_driver_row (publish_row b t k) p).driver

@@ -1,8 +1,8 @@
 //! The laws.
 ghost use Rattle.std.specs.Prelude.{◌≡◌, ℕ, Bool, false};
 ghost use Rattle.async_walk.specs.declared.state.WalkStep.{WalkStep};
-ghost use Rattle.async_walk.specs.Rows.{Place};
-ghost use Rattle.lent_structures.specs.Structures.{Parts};
+ghost use Rattle.async_walk.specs.Rows.{WalkPlace};
+ghost use Rattle.lent_structures.specs.Structures.{StructureSets};
 ghost use Rattle.ring_walk.specs.Hand.{Hand};
 ghost use Rattle.ring_walk.specs.Ring.{Base, IsRing};
 ghost use Rattle.ring_walk.specs.Effects.{Happens};
@@ -34,7 +34,7 @@ pub fn a_new_endpoint_is_met()
 /// doesn't meet.
 pub fn a_new_endpoint_stays<W: Wire>()
     ensures kept { OpenedStays }
-    ensures unmet { (base : Base) (member : ℕ → Bool) (parts : Parts) (hand : Hand) (p : Place) (wire after : W) (new : Place) (kind : WalkStep) (n : ℕ)
+    ensures unmet { (base : Base) (member : ℕ → Bool) (parts : StructureSets) (hand : Hand) (p : WalkPlace) (wire after : W) (new : WalkPlace) (kind : WalkStep) (n : ℕ)
         → IsRing base member parts hand p → (h : Happens W.transacts base member parts hand wire after new kind) → member n ≡ false → h.now n ≡ parts n }
 {}
 

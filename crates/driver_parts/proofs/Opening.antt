@@ -17,7 +17,7 @@ use Rattle.driver_rows.specs.declared.content.Reserve.{Reserve}
 use Rattle.driver_rows.specs.Words.{opening_head}
 use Rattle.driver_rows.specs.Opening.{list_run, head_run, opening_memory, opening_registers, opening}
 use Rattle.run_owners.specs.Owners.{EndpointRuns, Views, views_of}
-use Rattle.lent_structures.specs.Structures.{Structure, QueueHead, Element, Table, HoldsQueueHead, HoldsTable, Part, with_structure, Has, Tells}
+use Rattle.lent_structures.specs.Structures.{Structure, QueueHead, Element, Table, HoldsQueueHead, HoldsTable, Structures, with_structure, Has, Tells}
 use Rattle.lent_structures.proofs.Names.{put_found}
 use Rattle.lent_structures.proofs.Telling.{joined}
 use Rattle.lent_structures.proofs.Standing.{both_true}
@@ -176,7 +176,7 @@ opening_told n low high whole =
 
 -- ---- the member
 
-abbrev head_part : Part
+abbrev head_part : Structures
 head_part = with_structure (λ (a : ℕ). None) 4096 (QueueHead opening_head)
 
 only_head : (a : ℕ) (t : Qtd) → head_part a ≡ Some (Element t) → ⊥
@@ -192,7 +192,7 @@ head_member = record {
   queue = opening_head;
   here = refl;
   link = record { to = 4096; leads = refl; on = refl };
-  sound = record { next = tt; alternate = tt; work = λ on. absurd (true≢false (sym on)) };
+  sound = record { rest = λ off idle. tt; work = λ on. absurd (true≢false (sym on)) };
   elements = λ a t found. absurd (only_head a t found);
   own = λ a b t u ps k bs one other same there. absurd (only_head a t one);
 }

@@ -7,13 +7,13 @@ use Rattle.op_registers.specs.RegisterFile.{RegisterFile}
 use Rattle.op_registers.specs.Table.{after_write}
 use Rattle.async_walk.specs.declared.state.WalkStep.{WalkStep}
 use Rattle.async_walk.specs.Walk.{Walk}
-use Rattle.async_walk.specs.Rows.{Place, place}
-use Rattle.driver_rows.specs.declared.rows.Row.{Row}
-use Rattle.driver_rows.specs.declared.rows.Row.TheVariants as rows
+use Rattle.async_walk.specs.Rows.{WalkPlace, place}
+use Rattle.driver_rows.specs.declared.rows.DriverRow.{DriverRow}
+use Rattle.driver_rows.specs.declared.rows.DriverRow.TheVariants as rows
 use Rattle.driver_rows.specs.DriverContent.{DriverContent}
-use Rattle.driver_rows.specs.Rows.{Parts as DriverParts, doorbell_command, after_row}
+use Rattle.driver_rows.specs.Rows.{Parts as DriverParts, doorbell_command, after_driver_row}
 use Rattle.run_owners.specs.Owners.{views_of}
-use Rattle.lent_structures.specs.Structures.{Parts}
+use Rattle.lent_structures.specs.Structures.{StructureSets}
 use Rattle.ring_walk.specs.Hand.{Hand}
 use Rattle.ring_walk.specs.Ring.{Base, base_of}
 use Rattle.ring_walk.specs.Effects.{Happens}
@@ -25,7 +25,7 @@ use Rattle.driver_parts.proofs.Viewing.{SameViews, same_views, harvest_views, dr
 
 -- ---- an event of the walk
 
-pub walk_drives : {W : Type 0} (transacts : W → Ask → List ℕ → Reply → W → Type 0) (base : Base) (member : ℕ → Bool) (parts : Parts) (hand : Hand) (p : Place) (d : DriverContent) (wire after : W) (new : Place) (kind : WalkStep) → DrivesRing base member parts hand p d → (h : Happens transacts base member parts hand wire after new kind) → DrivesRing base member h.now h.later new d
+pub walk_drives : {W : Type 0} (transacts : W → Ask → List ℕ → Reply → W → Type 0) (base : Base) (member : ℕ → Bool) (parts : StructureSets) (hand : Hand) (p : WalkPlace) (d : DriverContent) (wire after : W) (new : WalkPlace) (kind : WalkStep) → DrivesRing base member parts hand p d → (h : Happens transacts base member parts hand wire after new kind) → DrivesRing base member h.now h.later new d
 walk_drives transacts base member parts hand p d wire after new kind k h = record {
   ring = h.ring;
   driven = driven_same (views_of d) parts h.now (effect_same transacts base member parts hand p wire after h.now h.later kind k.ring h.effect) k.driven;
@@ -58,7 +58,7 @@ pub record StaysQuiet (p new : DriverParts) : Type 0 where
   pub registers : base_of new.registers ≡ base_of p.registers
   pub views : SameViews (views_of p.driver) (views_of new.driver)
 
-quiet_row : (base : Base) (row : Row) (p : DriverParts) → IsOperating base → base_of p.registers ≡ base → is_quiet row ≡ true → StaysQuiet p (after_row row p)
+quiet_row : (base : Base) (row : DriverRow) (p : DriverParts) → IsOperating base → base_of p.registers ≡ base → is_quiet row ≡ true → StaysQuiet p (after_driver_row row p)
 quiet_row base rows.ClearAdvance p on same quiet = record { memory = refl; registers = cleared_base p.registers; views = same_views (views_of p.driver) }
 quiet_row base rows.RingBell p on same quiet = record { memory = refl; registers = rung_same base p.registers on same; views = same_views (views_of p.driver) }
 quiet_row base (rows.ReadStatus heard) p on same quiet = record { memory = refl; registers = refl; views = same_views (views_of p.driver) }
@@ -75,9 +75,9 @@ quiet_row base rows.LendDescriptors p on same quiet = absurd (true≢false (sym 
 quiet_row base (rows.Unlink t) p on same quiet = absurd (true≢false (sym quiet))
 quiet_row base (rows.ReleaseRemoved what) p on same quiet = absurd (true≢false (sym quiet))
 
-pub quiet_drives : (base : Base) (member : ℕ → Bool) (parts : Parts) (hand : Hand) (w : Walk) (p : DriverParts) (row : Row) → IsOperating base → DrivesRing base member parts hand (place w p.registers p.memory) p.driver → is_quiet row ≡ true → DrivesRing base member parts hand (place w (after_row row p).registers (after_row row p).memory) (after_row row p).driver
+pub quiet_drives : (base : Base) (member : ℕ → Bool) (parts : StructureSets) (hand : Hand) (w : Walk) (p : DriverParts) (row : DriverRow) → IsOperating base → DrivesRing base member parts hand (place w p.registers p.memory) p.driver → is_quiet row ≡ true → DrivesRing base member parts hand (place w (after_driver_row row p).registers (after_driver_row row p).memory) (after_driver_row row p).driver
 quiet_drives base member parts hand w p row on k quiet =
-    let new = after_row row p in
+    let new = after_driver_row row p in
     let s = quiet_row base row p on k.ring.registers quiet in
     let old = place w p.registers p.memory in
     let now = place w new.registers new.memory in

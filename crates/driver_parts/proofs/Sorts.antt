@@ -12,8 +12,8 @@ use Rattle.qh_qtd.specs.declared.queue_head.Qh.{Qh}
 use Rattle.walk_copy.specs.Overlay.{advanced, settled_queue, moved}
 use Rattle.walk_copy.specs.WriteBack.{moved_by}
 use Rattle.async_walk.specs.declared.state.WalkStep.{WalkStep}
-use Rattle.async_walk.specs.Rows.{Place}
-use Rattle.lent_structures.specs.Structures.{Structure, QueueHead, Element, Buffer, Part, Parts, put}
+use Rattle.async_walk.specs.Rows.{WalkPlace}
+use Rattle.lent_structures.specs.Structures.{Structure, QueueHead, Element, Buffer, Structures, StructureSets, put}
 use Rattle.lent_structures.specs.Changes.{relinked, overwritten}
 use Rattle.lent_structures.proofs.Names.{names_differ, put_same, put_else, put_beside}
 use Rattle.write_back_laws.specs.WriteBack.{Received, Nothing, Into, IsReceived, received_parts, qtd_after, parts_back}
@@ -25,7 +25,7 @@ use Rattle.driver_parts.specs.Inventory.{Sort, sort_of, sorts_of, SameSorts, IsB
 
 -- ---- one structure in the place of another of its kind
 
-pub same_put : (parts : Parts) (n a : ℕ) (s new : Structure) → parts n a ≡ Some s → sort_of new ≡ sort_of s → SameSorts parts (put parts n a new)
+pub same_put : (parts : StructureSets) (n a : ℕ) (s new : Structure) → parts n a ≡ Some s → sort_of new ≡ sort_of s → SameSorts parts (put parts n a new)
 same_put parts n a s new here same k b =
     ⊎_elim (λ (owner : k ≡ n).
     ⊎_elim (λ (name : b ≡ a).
@@ -33,21 +33,21 @@ same_put parts n a s new here same k b =
     ∙ sym (ap (λ (i : ℕ). sorts_of parts i b) owner ∙ ap (sorts_of parts n) name ∙ ap (option_map sort_of) here))
     (λ (differs : b ≢ a). ap (λ (i : ℕ). sorts_of (put parts n a new) i b) owner ∙ ap (option_map sort_of) (put_else parts n a new b differs) ∙ sym (ap (λ (i : ℕ). sorts_of parts i b) owner))
     (cases_eq b a))
-    (λ (differs : k ≢ n). ap (λ (part : Part). option_map sort_of (part b)) (put_beside parts n a new k differs)) (cases_eq k n)
+    (λ (differs : k ≢ n). ap (λ (part : Structures). option_map sort_of (part b)) (put_beside parts n a new k differs)) (cases_eq k n)
 
-pub same_both : (parts mid now : Parts) → SameSorts parts mid → SameSorts mid now → SameSorts parts now
+pub same_both : (parts mid now : StructureSets) → SameSorts parts mid → SameSorts mid now → SameSorts parts now
 same_both parts mid now one two n a = two n a ∙ one n a
 
-pub same_parts : (parts now : Parts) → now ≡ parts → SameSorts parts now
-same_parts parts now same n a = ap (λ (x : Parts). sorts_of x n a) same
+pub same_parts : (parts now : StructureSets) → now ≡ parts → SameSorts parts now
+same_parts parts now same n a = ap (λ (x : StructureSets). sorts_of x n a) same
 
 -- ---- a write-back
 
-received_same : (parts : Parts) (n : ℕ) (c : Qh) (got : List ℕ) (r : Received) → IsReceived (parts n) c got r → SameSorts parts (received_parts parts n got r)
+received_same : (parts : StructureSets) (n : ℕ) (c : Qh) (got : List ℕ) (r : Received) → IsReceived (parts n) c got r → SameSorts parts (received_parts parts n got r)
 received_same parts n c got Nothing none = λ k b. refl
 received_same parts n c got (Into pages k bs j) into = same_put parts n (place pages k) (Buffer pages k bs) (Buffer pages k (overwritten bs j got)) into.buffer refl
 
-pub back_same : (parts : Parts) (n a : ℕ) (q c : Qh) (count : ℕ) (got : List ℕ) (r : Received) (t : Qtd) → parts n a ≡ Some (QueueHead q) → parts n c.current ≡ Some (Element t) → IsReceived (parts n) c got r → SameSorts parts (parts_back parts n a q c count got r t)
+pub back_same : (parts : StructureSets) (n a : ℕ) (q c : Qh) (count : ℕ) (got : List ℕ) (r : Received) (t : Qtd) → parts n a ≡ Some (QueueHead q) → parts n c.current ≡ Some (Element t) → IsReceived (parts n) c got r → SameSorts parts (parts_back parts n a q c count got r t)
 back_same parts n a q c count got r t head element received =
     let one = received_parts parts n got r in
     let two = put one n a (QueueHead (relinked q (moved c count))) in
@@ -60,17 +60,17 @@ back_same parts n a q c count got r t head element received =
 
 -- ---- an event of the ring's walk
 
-copied_there : (base : Base) (member : ℕ → Bool) (parts : Parts) (hand : Hand) (p : Place) (c : Copy) → IsRing base member parts hand p → hand ≡ Copied c → IsCopied member parts c
+copied_there : (base : Base) (member : ℕ → Bool) (parts : StructureSets) (hand : Hand) (p : WalkPlace) (c : Copy) → IsRing base member parts hand p → hand ≡ Copied c → IsCopied member parts c
 copied_there base member parts hand p c k is = subst (IsInHand member parts p.walk.reply) is k.in_hand
 
-settled_there : (base : Base) (member : ℕ → Bool) (parts : Parts) (hand : Hand) (p : Place) (c : Copy) (s : Settlement) → IsRing base member parts hand p → hand ≡ Settled c s → IsCopied member parts c
+settled_there : (base : Base) (member : ℕ → Bool) (parts : StructureSets) (hand : Hand) (p : WalkPlace) (c : Copy) (s : Settlement) → IsRing base member parts hand p → hand ≡ Settled c s → IsCopied member parts c
 settled_there base member parts hand p c s k is = let both : IsCopied member parts c × IsSettled c.queue p.walk.reply s = subst (IsInHand member parts p.walk.reply) is k.in_hand in both.0
 
 settled_current : (c : Copy) (s : Settlement) → (settled_queue_of c s).current ≡ c.queue.current
 unfolding settled_queue
 settled_current c s = refl
 
-pub effect_same : {W : Type 0} (transacts : W → Ask → List ℕ → Reply → W → Type 0) (base : Base) (member : ℕ → Bool) (parts : Parts) (hand : Hand) (p : Place) (wire after : W) (now : Parts) (later : Hand) (kind : WalkStep) → IsRing base member parts hand p → Effect transacts parts hand wire after now later kind → SameSorts parts now
+pub effect_same : {W : Type 0} (transacts : W → Ask → List ℕ → Reply → W → Type 0) (base : Base) (member : ℕ → Bool) (parts : StructureSets) (hand : Hand) (p : WalkPlace) (wire after : W) (now : StructureSets) (later : Hand) (kind : WalkStep) → IsRing base member parts hand p → Effect transacts parts hand wire after now later kind → SameSorts parts now
 effect_same transacts base member parts hand p wire after now later _ k (reads r same quiet) = same_parts parts now same
 effect_same transacts base member parts hand p wire after now later _ k (passes r same quiet) = same_parts parts now same
 effect_same transacts base member parts hand p wire after now later _ k (ends r same quiet) = same_parts parts now same
@@ -95,7 +95,7 @@ pieces_told v sorts now b zero same told = tt
 pieces_told v sorts now b (suc n) same told =
     (record { element = λ lent. same (32 * b) ∙ told.0.element lent; buffer = buffer_told v.slot sorts now (v.note b).buffer same told.0.buffer }, pieces_told v sorts now (v.note b).next n same told.1)
 
-pub driven_same : (v : Views) (parts now : Parts) → SameSorts parts now → IsDriven v (sorts_of parts) → IsDriven v (sorts_of now)
+pub driven_same : (v : Views) (parts now : StructureSets) → SameSorts parts now → IsDriven v (sorts_of parts) → IsDriven v (sorts_of now)
 driven_same v parts now same k = record {
   list = same 0 0 ∙ k.list;
   head = same (32 * head_block) (32 * head_block) ∙ k.head;

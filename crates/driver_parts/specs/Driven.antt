@@ -4,12 +4,12 @@
 --                                 the place p of the walk is over a ring, and the driver's content d tells which structures it has
 --     IsQuiet row                 a row of the driver that stores no word
 use Rattle.std.specs.Prelude.{◌≡◌, ℕ, Bool, true, false}
-use Rattle.async_walk.specs.Rows.{Place}
-use Rattle.driver_rows.specs.declared.rows.Row.{Row}
-use Rattle.driver_rows.specs.declared.rows.Row.TheVariants as rows
+use Rattle.async_walk.specs.Rows.{WalkPlace}
+use Rattle.driver_rows.specs.declared.rows.DriverRow.{DriverRow}
+use Rattle.driver_rows.specs.declared.rows.DriverRow.TheVariants as rows
 use Rattle.driver_rows.specs.DriverContent.{DriverContent}
 use Rattle.run_owners.specs.Owners.{views_of}
-use Rattle.lent_structures.specs.Structures.{Parts}
+use Rattle.lent_structures.specs.Structures.{StructureSets}
 use Rattle.ring_walk.specs.Hand.{Hand}
 use Rattle.ring_walk.specs.Ring.{Base, IsRing}
 use Rattle.driver_parts.specs.Inventory.{sorts_of, IsDriven}
@@ -19,11 +19,11 @@ pub record IsOperating (base : Base) : Type 0 where
   pub async_enable : base.async_enable ≡ true
   pub periodic_enable : base.periodic_enable ≡ true
 
-pub record DrivesRing (base : Base) (member : ℕ → Bool) (parts : Parts) (hand : Hand) (p : Place) (d : DriverContent) : Type 0 where
+pub record DrivesRing (base : Base) (member : ℕ → Bool) (parts : StructureSets) (hand : Hand) (p : WalkPlace) (d : DriverContent) : Type 0 where
   pub ring : IsRing base member parts hand p
   pub driven : IsDriven (views_of d) (sorts_of parts)
 
-abbrev pub is_quiet : Row → Bool
+abbrev pub is_quiet : DriverRow → Bool
 is_quiet rows.ClearAdvance = true
 is_quiet rows.RingBell = true
 is_quiet (rows.ReadStatus heard) = true

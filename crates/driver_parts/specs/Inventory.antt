@@ -13,7 +13,7 @@ use Rattle.run_book.specs.declared.slots.Slot.{Slot}
 use Rattle.run_book.specs.declared.slots.Slot.TheVariants.{Empty, Keeps, Lends}
 use Rattle.driver_rows.specs.Words.{head_block}
 use Rattle.run_owners.specs.Owners.{EndpointRuns, TransferRuns, NoteRuns, Views}
-use Rattle.lent_structures.specs.Structures.{Structure, QueueHead, Element, Buffer, Table, Isochronous, SplitIsochronous, Parts}
+use Rattle.lent_structures.specs.Structures.{Structure, QueueHead, Element, Buffer, Table, Isochronous, SplitIsochronous, StructureSets}
 
 pub data Sort : Type 0 where
   OfQueueHead : Sort
@@ -34,10 +34,10 @@ sort_of (SplitIsochronous v) = OfSplitIsochronous
 abbrev pub Inventory : Type 0
 Inventory = ℕ → ℕ → Option Sort
 
-abbrev pub sorts_of : Parts → Inventory
+abbrev pub sorts_of : StructureSets → Inventory
 sorts_of parts n a = option_map sort_of (parts n a)
 
-abbrev pub SameSorts : Parts → Parts → Type 0
+abbrev pub SameSorts : StructureSets → StructureSets → Type 0
 SameSorts parts now = (n a : ℕ) → sorts_of now n a ≡ sorts_of parts n a
 
 -- ---- runs

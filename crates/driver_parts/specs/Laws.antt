@@ -15,14 +15,14 @@ use Rattle.async_walk.specs.Rows.{place}
 use Rattle.run_book.specs.Book.{Holding, holding, slot_of, can_store, store, lend_taken, Stands}
 use Rattle.driver_rows.specs.declared.content.Reserve.{Reserve}
 use Rattle.driver_rows.specs.declared.content.Stage.{Stage}
-use Rattle.driver_rows.specs.declared.rows.Row.{Row}
+use Rattle.driver_rows.specs.declared.rows.DriverRow.{DriverRow}
 use Rattle.driver_rows.specs.DriverContent.{DriverContent}
-use Rattle.driver_rows.specs.Rows.{Parts as DriverParts, advance, after_row}
+use Rattle.driver_rows.specs.Rows.{Parts as DriverParts, advance, after_driver_row}
 use Rattle.driver_rows.specs.Opening.{opening, opening_registers, opening_memory}
 use Rattle.driver_rows.specs.Offers.{Offered}
 use Rattle.run_owners.specs.Accepts.{Opens, Transfers}
 use Rattle.run_owners.specs.Kept.{HasOwners}
-use Rattle.lent_structures.specs.Structures.{QueueHead, Element, Parts, put}
+use Rattle.lent_structures.specs.Structures.{QueueHead, Element, StructureSets, put}
 use Rattle.lent_structures.specs.Changes.{Leaves}
 use Rattle.queue_parts.specs.Sound.{LeadsAmong, IsSoundElement, IsMember}
 use Rattle.ring_walk.specs.Hand.{Hand, Empty}
@@ -41,13 +41,13 @@ OpeningDrives = (n : ℕ) (room : Reserve) → 2048 ≤ n → n ≤ 262144 → n
 
 -- registers are read and written, tokens are read
 abbrev pub QuietRowDrives : Type 0
-QuietRowDrives = (base : Base) (member : ℕ → Bool) (parts : Parts) (hand : Hand) (w : Walk) (p : DriverParts) (row : Row) → IsOperating base
+QuietRowDrives = (base : Base) (member : ℕ → Bool) (parts : StructureSets) (hand : Hand) (w : Walk) (p : DriverParts) (row : DriverRow) → IsOperating base
     → DrivesRing base member parts hand (place w p.registers p.memory) p.driver → is_quiet row ≡ true
-    → DrivesRing base member parts hand (place w (after_row row p).registers (after_row row p).memory) (after_row row p).driver
+    → DrivesRing base member parts hand (place w (after_driver_row row p).registers (after_driver_row row p).memory) (after_driver_row row p).driver
 
 -- a word of a qTD that isn't active is stored
 abbrev pub ElementStoreDrives : Type 0
-ElementStoreDrives = (base : Base) (member : ℕ → Bool) (parts : Parts) (hand : Hand) (w : Walk) (r : RegisterFile) (m : Mem) (d : DriverContent) (b n a : ℕ) (t new : Qtd) (k v : ℕ)
+ElementStoreDrives = (base : Base) (member : ℕ → Bool) (parts : StructureSets) (hand : Hand) (w : Walk) (r : RegisterFile) (m : Mem) (d : DriverContent) (b n a : ℕ) (t new : Qtd) (k v : ℕ)
     → DrivesRing base member parts hand (place w r m) d → can_store (slot_of d.book.slots b) (a + 4 * k) ≡ true
     → parts n a ≡ Some (Element t) → t.token.active ≡ false → k < 8 → qtd_words new ≡ slice_set (qtd_words t) k v → IsQtdInRange new
     → (member n ≡ true → IsSoundElement (parts n) new × IsUnnamed (parts n) a new)
@@ -55,7 +55,7 @@ ElementStoreDrives = (base : Base) (member : ℕ → Bool) (parts : Parts) (hand
 
 -- the link of a queue head is stored
 abbrev pub LinkStoreDrives : Type 0
-LinkStoreDrives = (base : Base) (member wider : ℕ → Bool) (parts : Parts) (hand : Hand) (w : Walk) (r : RegisterFile) (m : Mem) (d : DriverContent) (b n : ℕ) (q : Qh) (l : LinkBits)
+LinkStoreDrives = (base : Base) (member wider : ℕ → Bool) (parts : StructureSets) (hand : Hand) (w : Walk) (r : RegisterFile) (m : Mem) (d : DriverContent) (b n : ℕ) (q : Qh) (l : LinkBits)
     → DrivesRing base member parts hand (place w r m) d → can_store (slot_of d.book.slots b) n ≡ true
     → IsWider member wider → parts n n ≡ Some (QueueHead q) → IsQhInRange (record q { link = l }) → (wider n ≡ true → LeadsAmong wider l)
     → ((i : ℕ) → wider i ≡ true → member i ≡ false → IsMember wider i (parts i))

@@ -6,19 +6,19 @@
 --     opening_base        the registers that no event of the walk changes
 use Rattle.std.specs.Prelude.{ℕ, Bool, true, ◌==◌, List, replicate, None}
 use Rattle.driver_rows.specs.Words.{opening_head}
-use Rattle.lent_structures.specs.Structures.{QueueHead, Table, Parts, put}
+use Rattle.lent_structures.specs.Structures.{QueueHead, Table, StructureSets, put}
 use Rattle.ring_walk.specs.Ring.{Base}
 
 abbrev pub empty_list : List ℕ
 empty_list = replicate 1024 1
 
-abbrev pub no_parts : Parts
+abbrev pub no_parts : StructureSets
 no_parts n a = None
 
-abbrev pub list_parts : Parts
+abbrev pub list_parts : StructureSets
 list_parts = put no_parts 0 0 (Table empty_list)
 
-abbrev pub opening_parts : Parts
+abbrev pub opening_parts : StructureSets
 opening_parts = put list_parts 4096 4096 (QueueHead opening_head)
 
 abbrev pub is_head : ℕ → Bool

@@ -2,9 +2,9 @@
 ghost use Rattle.driver_parts.specs.Laws.{OpeningDrives, QuietRowDrives, ElementStoreDrives, LinkStoreDrives, LendLeaves, OpenLeaves, ReceivingLeaves};
 ghost use Rattle.std.specs.Prelude.{ℕ, Bool};
 ghost use Rattle.async_walk.specs.declared.state.WalkStep.{WalkStep};
-ghost use Rattle.async_walk.specs.Rows.{Place};
+ghost use Rattle.async_walk.specs.Rows.{WalkPlace};
 ghost use Rattle.driver_rows.specs.DriverContent.{DriverContent};
-ghost use Rattle.lent_structures.specs.Structures.{Parts};
+ghost use Rattle.lent_structures.specs.Structures.{StructureSets};
 ghost use Rattle.ring_walk.specs.Hand.{Hand};
 ghost use Rattle.ring_walk.specs.Ring.{Base};
 ghost use Rattle.ring_walk.specs.Effects.{Happens};
@@ -19,7 +19,7 @@ pub fn the_opening_is_driven()
 
 /// Each event of the ring's walk leaves the structures that the driver has lent, and no others.
 pub fn the_walk_leaves_it_driven<W: Wire>()
-    ensures { (base : Base) (member : ℕ → Bool) (parts : Parts) (hand : Hand) (p : Place) (d : DriverContent) (wire after : W) (new : Place) (kind : WalkStep)
+    ensures { (base : Base) (member : ℕ → Bool) (parts : StructureSets) (hand : Hand) (p : WalkPlace) (d : DriverContent) (wire after : W) (new : WalkPlace) (kind : WalkStep)
         → DrivesRing base member parts hand p d → (h : Happens W.transacts base member parts hand wire after new kind)
         → DrivesRing base member h.now h.later new d }
 {}

@@ -1,8 +1,8 @@
--- One event of the driver (EHCI 1.0, 4.8 to 4.10). Which row an event is, `row_of` tells, and what stands after it, `after_row`.
+-- One event of the driver (EHCI 1.0, 4.8 to 4.10). Which row an event is, `driver_row` tells, and what stands after it, `after_driver_row`.
 --     Parts                 what an event reads and changes
 --     events_of c           the events of a command
---     row_of p              the row: the next event of the unfinished command; else leaving work and harvest by turns
---     after_row row p       what stands after it
+--     driver_row p              the row: the next event of the unfinished command; else leaving work and harvest by turns
+--     after_driver_row row p       what stands after it
 --     step_of row           what kind of event it is
 use Rattle.std.specs.Prelude.{ℕ, zero, suc, ◌+◌, ◌-◌, ◌*◌, ◌==◌, Bool, true, false, not, ◌&&◌, ◌||◌, nat_le, nat_lt, List, [], ◌∷◌, ◌++◌, length, map, fold, take, drop, position, slice_get, slice_index, slice_set, Option, Some, None, is_none, unwrap_or, option_map, option_and_then, if◌then◌else◌}
 use Rattle.usb_base.specs.declared.endpoints.EpName.{EpName}
@@ -44,8 +44,8 @@ use Rattle.driver_rows.specs.declared.content.Turn.{Turn}
 use Rattle.driver_rows.specs.declared.content.Turn.TheVariants as turns
 use Rattle.driver_rows.specs.declared.content.Bell.{Bell}
 use Rattle.driver_rows.specs.declared.content.Bell.TheVariants as bells
-use Rattle.driver_rows.specs.declared.rows.Row.{Row}
-use Rattle.driver_rows.specs.declared.rows.Row.TheVariants as rows
+use Rattle.driver_rows.specs.declared.rows.DriverRow.{DriverRow}
+use Rattle.driver_rows.specs.declared.rows.DriverRow.TheVariants as rows
 use Rattle.driver_rows.specs.declared.rows.Found.{Found}
 use Rattle.driver_rows.specs.declared.rows.Found.TheVariants as founds
 use Rattle.driver_rows.specs.declared.rows.DriverStep.{DriverStep}
@@ -67,7 +67,7 @@ abbrev pub store_order : List ℕ
 store_order = 0 ∷ 1 ∷ 3 ∷ 4 ∷ 5 ∷ 6 ∷ 7 ∷ 2 ∷ []
 
 -- The link of a queue head is its word 0. The stores that link or unlink members of the frame list come behind these.
-abbrev pub events_of : Command → List Row
+abbrev pub events_of : Command → List DriverRow
 events_of (unfinished.Open queue) = rows.Lend ∷ rows.Store head_block (32 * head_block) (queue_head_link queue) ∷ []
 events_of (unfinished.Publish b words) = rows.Lend ∷ map (λ i. rows.Store b (32 * b + 4 * i) (slice_index words i)) store_order
 events_of (unfinished.Unlink e b link) = rows.Store b (32 * b) link ∷ []
@@ -88,15 +88,15 @@ abbrev pub removes_members : Command → Bool
 removes_members (unfinished.Unchain e) = true
 removes_members _ = false
 
-abbrev pub command_row : Command → ℕ → Row
+abbrev pub command_row : Command → ℕ → DriverRow
 command_row c made = unwrap_or (slice_get (events_of c) made) rows.Rest
 
-abbrev pub link_row : Option Store → Row
+abbrev pub link_row : Option Store → DriverRow
 link_row None = rows.Rest
 link_row (Some s) = rows.Store s.block s.at s.value
 
 -- the events of the command, and then the stores of the frame list
-abbrev pub next_row : DriverContent → Command → Row
+abbrev pub next_row : DriverContent → Command → DriverRow
 next_row d c =
     if links c && nat_le (length (events_of c)) d.made then link_row (next_store d.periodic.list) else command_row c d.made
 
@@ -115,7 +115,7 @@ tells_advance r = has (word_of r Status) 0x20
 
 -- the reading for which leaving work waits: of USBSTS while the doorbell is rung, of FRINDEX while something that was unlinked isn't
 -- given back, and by turns of both
-abbrev pub reading_for : DriverContent → RegisterFile → Bool → Bool → Option Row
+abbrev pub reading_for : DriverContent → RegisterFile → Bool → Bool → Option DriverRow
 reading_for d r false false = None
 reading_for d r true false = Some (rows.ReadStatus (tells_advance r))
 reading_for d r false true = Some (rows.ReadFrame r.frame_index)
@@ -124,21 +124,21 @@ reading_for d r true true = Some (if d.periodic.status_next then rows.ReadStatus
 abbrev pub removes : DriverContent → Bool
 removes d = nat_lt 0 (length d.periodic.removals)
 
-abbrev pub bell_row : DriverContent → RegisterFile → Bell → Option Row
+abbrev pub bell_row : DriverContent → RegisterFile → Bell → Option DriverRow
 bell_row d r bells.Heard = Some rows.ClearAdvance
 bell_row d r bells.Quiet = if nat_lt 0 (length d.waiting) then Some rows.RingBell else reading_for d r false (removes d)
 bell_row d r bells.Rung = reading_for d r true (removes d)
 
 -- What was unlinked first has seen each reading that a later one has, so its boundary is seen first.
-abbrev pub removal_row : Option Removal → Option Row
+abbrev pub removal_row : Option Removal → Option DriverRow
 removal_row None = None
 removal_row (Some r) = if is_seen r.boundary then Some (rows.ReleaseRemoved r.what) else None
 
-abbrev pub first_row : Option Row → Option Row → Option Row
+abbrev pub first_row : Option DriverRow → Option DriverRow → Option DriverRow
 first_row (Some row) later = Some row
 first_row None later = later
 
-abbrev pub leaving_row : DriverContent → RegisterFile → Option Row
+abbrev pub leaving_row : DriverContent → RegisterFile → Option DriverRow
 leaving_row d r =
     first_row (option_map rows.Mend (slice_get d.mends 0))
     (first_row (option_map rows.ReleaseTransfer (slice_get d.harvested 0))
@@ -168,34 +168,34 @@ abbrev pub found_of : DriverContent → Mem → Transfer → Sort → Found
 found_of d m x sorts.Descriptor = descriptor_found (periodic_note d.periodic.notes x.first) m x.first
 found_of d m x sort = found_in sort (nat_le x.left 1) (note_at d.notes x.place) (token_in m x.place)
 
-abbrev pub reading_row : DriverContent → Mem → ℕ → ℕ → Option Transfer → Option Row
+abbrev pub reading_row : DriverContent → Mem → ℕ → ℕ → Option Transfer → Option DriverRow
 reading_row d m e t None = None
 reading_row d m e t (Some x) =
     if waits_for e x then Some (rows.Harvest e t (found_of d m x x.sort)) else None
 
-abbrev pub transfer_row : DriverContent → Mem → ℕ → Option ℕ → Option Row
+abbrev pub transfer_row : DriverContent → Mem → ℕ → Option ℕ → Option DriverRow
 transfer_row d m e None = None
 transfer_row d m e (Some t) = reading_row d m e t (slice_get d.transfers t)
 
-abbrev pub worker_row : DriverContent → Mem → Option ℕ → Option Row
+abbrev pub worker_row : DriverContent → Mem → Option ℕ → Option DriverRow
 worker_row d m None = None
 worker_row d m (Some e) = transfer_row d m e (option_and_then (λ x. x.next) (slice_get d.endpoints e))
 
-abbrev pub harvest_row : DriverContent → Mem → Option Row
+abbrev pub harvest_row : DriverContent → Mem → Option DriverRow
 harvest_row d m = worker_row d m (next_worker d)
 
 -- ---- which row it is
 
-abbrev pub turn_row : Turn → Option Row → Option Row → Row
+abbrev pub turn_row : Turn → Option DriverRow → Option DriverRow → DriverRow
 turn_row turns.Leaving leaving harvest = unwrap_or (first_row leaving harvest) rows.Rest
 turn_row turns.Harvest leaving harvest = unwrap_or (first_row harvest leaving) rows.Rest
 
-abbrev pub row_for : Parts → Option Command → Row
+abbrev pub row_for : Parts → Option Command → DriverRow
 row_for p (Some c) = next_row p.driver c
 row_for p None = turn_row p.driver.turn (leaving_row p.driver p.registers) (harvest_row p.driver p.memory)
 
-abbrev pub row_of : Parts → Row
-row_of p = row_for p p.driver.command
+abbrev pub driver_row : Parts → DriverRow
+driver_row p = row_for p p.driver.command
 
 -- ---- what stands after a command's event
 
@@ -569,29 +569,29 @@ after_harvest d m e t found _ _ = d
 
 -- ---- any event
 
-abbrev pub after_row : Row → Parts → Parts
-after_row rows.Lend p = after_lend p (lend_taken (holding p.driver.book p.memory))
-after_row (rows.Store b at v) p = record p { driver = advance p.driver; memory = store p.driver.book p.memory b at v }
-after_row (rows.Mend w) p =
+abbrev pub after_driver_row : DriverRow → Parts → Parts
+after_driver_row rows.Lend p = after_lend p (lend_taken (holding p.driver.book p.memory))
+after_driver_row (rows.Store b at v) p = record p { driver = advance p.driver; memory = store p.driver.book p.memory b at v }
+after_driver_row (rows.Mend w) p =
     record p {
       driver = record p.driver { mends = drop 1 p.driver.mends; turn = turns.Harvest };
       memory = store p.driver.book p.memory w.queue w.at w.value;
     }
-after_row (rows.ReleaseTransfer t) p =
+after_driver_row (rows.ReleaseTransfer t) p =
     after_transfer p t (slice_get p.driver.transfers t)
     (freed_by p.driver (holding p.driver.book p.memory) (slice_get p.driver.transfers t))
-after_row (rows.ReleaseEndpoint e) p = after_endpoint p e (slice_get p.driver.endpoints e)
-after_row rows.ClearAdvance p =
+after_driver_row (rows.ReleaseEndpoint e) p = after_endpoint p e (slice_get p.driver.endpoints e)
+after_driver_row rows.ClearAdvance p =
     record p {
       driver = record p.driver { cleared = p.driver.cleared ++ p.driver.rung; rung = []; bell = bells.Quiet; turn = turns.Harvest };
       registers = after_write p.registers 0x04 0x20;
     }
-after_row rows.RingBell p =
+after_driver_row rows.RingBell p =
     record p {
       driver = record p.driver { rung = p.driver.rung ++ p.driver.waiting; waiting = []; bell = bells.Rung; turn = turns.Harvest };
       registers = after_write p.registers 0x00 doorbell_command;
     }
-after_row (rows.ReadStatus heard) p =
+after_driver_row (rows.ReadStatus heard) p =
     record p {
       driver = record p.driver {
         bell = bell_after heard;
@@ -599,22 +599,22 @@ after_row (rows.ReadStatus heard) p =
         periodic = record p.driver.periodic { status_next = false };
       };
     }
-after_row (rows.ReadFrame n) p =
+after_driver_row (rows.ReadFrame n) p =
     record p {
       driver = record p.driver {
         turn = turns.Harvest;
         periodic = record p.driver.periodic { status_next = true; removals = read_again n p.driver.periodic.removals };
       };
     }
-after_row rows.Frames p = record p { driver = framed_by p.driver p.registers.frame_index p.driver.command }
-after_row rows.LendDescriptors p = after_lend p (lend_taken (holding p.driver.book (linked_by p.driver p.memory p.driver.command)))
-after_row (rows.Unlink t) p = after_unlink p t (slice_get p.driver.transfers t)
-after_row (rows.ReleaseRemoved what) p = after_removed p what
-after_row (rows.Harvest e t found) p =
+after_driver_row rows.Frames p = record p { driver = framed_by p.driver p.registers.frame_index p.driver.command }
+after_driver_row rows.LendDescriptors p = after_lend p (lend_taken (holding p.driver.book (linked_by p.driver p.memory p.driver.command)))
+after_driver_row (rows.Unlink t) p = after_unlink p t (slice_get p.driver.transfers t)
+after_driver_row (rows.ReleaseRemoved what) p = after_removed p what
+after_driver_row (rows.Harvest e t found) p =
     record p { driver = after_harvest p.driver p.memory e t found (slice_get p.driver.endpoints e) (slice_get p.driver.transfers t) }
-after_row rows.Rest p = p
+after_driver_row rows.Rest p = p
 
-abbrev pub step_of : Row → DriverStep
+abbrev pub step_of : DriverRow → DriverStep
 step_of rows.Lend = steps.Lend
 step_of (rows.Store b at v) = steps.Store
 step_of (rows.Mend w) = steps.Store

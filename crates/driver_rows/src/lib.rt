@@ -1,7 +1,7 @@
 //! What the driver of the host controller has, and its events one by one, as definitions (EHCI 1.0, 4.8 to 4.10).
 //!
 //! specs/DriverContent.antt has the content, specs/Offers.antt what becomes of a command (`offered`), specs/Rows.antt which event comes next
-//! (`row_of`) and what stands after it (`after_row`), specs/Opening.antt the host when its driver was built. `worked` has rows of these,
+//! (`driver_row`) and what stands after it (`after_driver_row`), specs/Opening.antt the host when its driver was built. `worked` has rows of these,
 //! computed. The code of a driver whose calls meet these definitions comes above it; beside it stands `run_book`, which has the runs of blocks.
 #![tactic(auto)]
 
@@ -12,4 +12,4 @@ pub mod worked;
 pub use content::{
     Alternate, Bell, Command, Endpoint, Mend, QtdNote, Reserve, Slots, Sort, Stage, Transfer, Turn,
 };
-pub use rows::{DriverStep, Found, Row};
+pub use rows::{DriverRow, DriverStep, Found};

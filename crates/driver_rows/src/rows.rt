@@ -36,7 +36,7 @@ pub enum Found {
 
 /// One event of the driver, with its data.
 #[derive(Clone, Copy, Debug, PartialEq, Eq)]
-pub enum Row {
+pub enum DriverRow {
     /// The runs taken by the command are lent.
     Lend,
     /// The command stores a word into the structure that begins in the block: block, byte address, word.
@@ -69,7 +69,7 @@ pub enum Row {
     Rest,
 }
 
-impl Row {
+impl DriverRow {
     ghost use Rattle.driver_rows.specs.Rows.{step_of};
 
     /// What kind of event it is.
@@ -77,15 +77,17 @@ impl Row {
         ensures { result ≡ step_of self }
     {
         match self {
-            Row::Lend | Row::LendDescriptors => DriverStep::Lend,
-            Row::Store(_, _, _) | Row::Mend(_) | Row::Unlink(_) => DriverStep::Store,
-            Row::ReleaseTransfer(_) | Row::ReleaseEndpoint(_) | Row::ReleaseRemoved(_) => {
-                DriverStep::Release
-            }
-            Row::ClearAdvance | Row::RingBell | Row::ReadStatus(_) => DriverStep::Register,
-            Row::Frames | Row::ReadFrame(_) => DriverStep::Register,
-            Row::Harvest(_, _, _) => DriverStep::Harvest,
-            Row::Rest => DriverStep::Rest,
+            DriverRow::Lend | DriverRow::LendDescriptors => DriverStep::Lend,
+            DriverRow::Store(_, _, _) | DriverRow::Mend(_) | DriverRow::Unlink(_) =>
+                DriverStep::Store,
+            DriverRow::ReleaseTransfer(_)
+            | DriverRow::ReleaseEndpoint(_)
+            | DriverRow::ReleaseRemoved(_) => { DriverStep::Release }
+            DriverRow::ClearAdvance | DriverRow::RingBell | DriverRow::ReadStatus(_) =>
+                DriverStep::Register,
+            DriverRow::Frames | DriverRow::ReadFrame(_) => DriverStep::Register,
+            DriverRow::Harvest(_, _, _) => DriverStep::Harvest,
+            DriverRow::Rest => DriverStep::Rest,
         }
     }
 }

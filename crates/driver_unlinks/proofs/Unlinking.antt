@@ -4,12 +4,12 @@ use Rattle.std.proofs.lemmas.Bool.{true≢false}
 use Rattle.link_words.specs.declared.kinds.Link.TheVariants as links
 use Rattle.link_words.specs.declared.fields.LinkBits.{LinkBits}
 use Rattle.qh_qtd.specs.declared.queue_head.Qh.{Qh}
-use Rattle.async_walk.specs.Rows.{Place, place}
+use Rattle.async_walk.specs.Rows.{WalkPlace, place}
 use Rattle.run_book.specs.Book.{store}
 use Rattle.driver_rows.specs.DriverContent.{DriverContent}
 use Rattle.driver_rows.specs.Words.{to_queue_head}
 use Rattle.driver_rows.specs.Rows.{advance}
-use Rattle.lent_structures.specs.Structures.{QueueHead, Parts, put}
+use Rattle.lent_structures.specs.Structures.{QueueHead, StructureSets, put}
 use Rattle.queue_parts.specs.Sound.{LeadsAmong}
 use Rattle.queue_parts.proofs.Altering.{found_queue}
 use Rattle.ring_walk.specs.Hand.{Hand}
@@ -23,7 +23,7 @@ use Rattle.driver_lends.proofs.Linking.{link_is, link_range}
 use Rattle.driver_unlinks.specs.Leaving.{UnlinkDrives, AnswerDrives}
 
 -- a member leads to where the fields of its link say
-member_leads : (base : Base) (member : ℕ → Bool) (parts : Parts) (hand : Hand) (p : Place) (d : DriverContent) (n : ℕ) (q : Qh) (l : LinkBits) → DrivesRing base member parts hand p d → member n ≡ true → parts n n ≡ Some (QueueHead q) → q.link ≡ l → LeadsAmong member l
+member_leads : (base : Base) (member : ℕ → Bool) (parts : StructureSets) (hand : Hand) (p : WalkPlace) (d : DriverContent) (n : ℕ) (q : Qh) (l : LinkBits) → DrivesRing base member parts hand p d → member n ≡ true → parts n n ≡ Some (QueueHead q) → q.link ≡ l → LeadsAmong member l
 member_leads base member parts hand p d n q l k on here is =
     let m = k.ring.members n on in
     let same : m.queue ≡ q = found_queue (parts n n) m.queue q m.here here in

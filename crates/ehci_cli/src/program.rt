@@ -2,6 +2,8 @@ ghost use Rattle.std.specs.Prelude.{◌≡◌, ◌≢◌, ℕ, ◌≤◌, ◌↔
 ghost use Rattle.script_types.specs.declared.scripts.Script.{Script};
 ghost use Rattle.script_text.specs.Faults.{Spells};
 ghost use Rattle.bus_world.specs.Budgets.{AdmitsThroughout};
+ghost use Rattle.world_frames.specs.Scheduled.{KeepsScheduleThroughout};
+ghost use Rattle.worlds_keep_to_lent.specs.Written.{KeepsToLentThroughout};
 ghost use Rattle.program_ends.specs.Ends.{IsFault, IsWriteFault, WritesNothing};
 ghost use Rattle.program_ends.specs.Input.{input_of};
 ghost use Rattle.ehci_cli.specs.Form.{AreWordsOf, AreNoForm};
@@ -30,8 +32,10 @@ use usb_base::{Sink, Source};
 /// - `Memory` only before the first write.
 ///
 /// Where the input spells a script, at each moment of its run all placed endpoints keep the budgets of bus time, and the open of a periodic
-/// endpoint is refused for want of a placement exactly where no allowed one fits beside them.
-#[tactic(auto, using(crate::proofs::Admitted::source_admits))]
+/// endpoint is refused for want of a placement exactly where no allowed one fits beside them. And at each moment the controller's next event
+/// reads and writes words of Lent blocks alone, and what the driver's next event gives back is Free afterwards; and each frame of the list has what is
+/// due in it: the queue heads of placed interrupt endpoints, each once, and of each isochronous endpoint at most one descriptor that waits.
+#[tactic(auto, using(crate::proofs::Admitted::source_admits, crate::proofs::Admitted::source_keeps_to_lent, crate::proofs::Admitted::source_keeps_schedule))]
 pub fn ehci<S: Source, K: Sink>(
     alloc: Global,
     words: &[String],
@@ -44,6 +48,8 @@ pub fn ehci<S: Source, K: Sink>(
     ensures load { IsLoad (map string_bytes words.now) result (K.written sink.old) (K.written sink.new) }
     ensures output { IfSome (S.left source.old) (λ xs. IsProgram (map string_bytes words.now) result (input_of xs) (K.written sink.old) (K.written sink.new)) }
     ensures budgets { IfSome (S.left source.old) (λ xs. (s : Script) → Spells (input_of xs) s → AdmitsThroughout s) }
+    ensures lent { IfSome (S.left source.old) (λ xs. (s : Script) → Spells (input_of xs) s → KeepsToLentThroughout s) }
+    ensures schedule { IfSome (S.left source.old) (λ xs. (s : Script) → Spells (input_of xs) s → KeepsScheduleThroughout s) }
     ensures left { IfSome (S.left source.old) (λ xs. Leaves (map string_bytes words.now) result xs (S.left source.new)) }
     ensures nothing { WritesNothing result → sink.new ≡ sink.old }
     ensures read { IsFault result (S.faults source.old) (S.faults source.new) }

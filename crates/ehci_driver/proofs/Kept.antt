@@ -11,12 +11,12 @@ use Rattle.driver_rows.specs.declared.content.Transfer.{Transfer}
 use Rattle.driver_rows.specs.declared.content.Reserve.{Reserve}
 use Rattle.driver_rows.specs.declared.content.Command.{Command}
 use Rattle.driver_rows.specs.declared.content.Command.TheVariants as unfinished
-use Rattle.driver_rows.specs.declared.rows.Row.{Row}
-use Rattle.driver_rows.specs.declared.rows.Row.TheVariants as rows
+use Rattle.driver_rows.specs.declared.rows.DriverRow.{DriverRow}
+use Rattle.driver_rows.specs.declared.rows.DriverRow.TheVariants as rows
 use Rattle.driver_rows.specs.declared.rows.Found.{Found}
 use Rattle.driver_rows.specs.declared.rows.Found.TheVariants as founds
 use Rattle.driver_rows.specs.DriverContent.{DriverContent, waits_for}
-use Rattle.driver_rows.specs.Rows.{Parts, after_row, after_transfer, after_endpoint, advanced_by, finished, no_command, leave_ring, events_of, cancel_told, is_told, behind, behind_one, stalled, goes_on, after_end, harvested_as, after_harvest, freed_by, told_with, links, linked_on, or_finished, leave_frames, framed_by, with_notes, framed_notes, placement_at, after_unlink, after_removed, after_descriptor, after_placed}
+use Rattle.driver_rows.specs.Rows.{Parts, after_driver_row, after_transfer, after_endpoint, advanced_by, finished, no_command, leave_ring, events_of, cancel_told, is_told, behind, behind_one, stalled, goes_on, after_end, harvested_as, after_harvest, freed_by, told_with, links, linked_on, or_finished, leave_frames, framed_by, with_notes, framed_notes, placement_at, after_unlink, after_removed, after_descriptor, after_placed}
 use Rattle.driver_rows.specs.Harvests.{noted, is_stall, end_of}
 
 pub transfer_registers : (p : Parts) (t : ℕ) (o : Option Transfer) (h : Holding) → (after_transfer p t o h).registers ≡ p.registers
@@ -139,7 +139,7 @@ harvest_room d m e t found None q = refl
 harvest_room d m e t found (Some x) None = refl
 harvest_room d m e t found (Some x) (Some y) = either (waits_for e y) _ d d.room (read_room d m e t x y found) refl
 
-pub row_room : (row : Row) (p : Parts) → (after_row row p).driver.room ≡ p.driver.room
+pub row_room : (row : DriverRow) (p : Parts) → (after_driver_row row p).driver.room ≡ p.driver.room
 row_room rows.Lend p = advanced_room _ p.driver.command
 row_room (rows.Store b at v) p = advanced_room p.driver p.driver.command
 row_room (rows.Mend w) p = refl

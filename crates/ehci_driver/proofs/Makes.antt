@@ -16,19 +16,19 @@ use Rattle.driver_rows.specs.declared.content.Turn.{Turn}
 use Rattle.driver_rows.specs.declared.content.Turn.TheVariants as turns
 use Rattle.driver_rows.specs.declared.content.Bell.{Bell}
 use Rattle.driver_rows.specs.declared.content.Bell.TheVariants as bells
-use Rattle.driver_rows.specs.declared.rows.Row.{Row}
-use Rattle.driver_rows.specs.declared.rows.Row.TheVariants as rows
+use Rattle.driver_rows.specs.declared.rows.DriverRow.{DriverRow}
+use Rattle.driver_rows.specs.declared.rows.DriverRow.TheVariants as rows
 use Rattle.driver_rows.specs.DriverContent.{DriverContent, waits_for}
-use Rattle.driver_rows.specs.Rows.{Parts, events_of, links, link_row, command_row, next_row, tells_advance, reading_for, removes, bell_row, removal_row, first_row, leaving_row, found_of, reading_row, transfer_row, worker_row, harvest_row, next_worker, turn_row, row_for, row_of}
+use Rattle.driver_rows.specs.Rows.{Parts, events_of, links, link_row, command_row, next_row, tells_advance, reading_for, removes, bell_row, removal_row, first_row, leaving_row, found_of, reading_row, transfer_row, worker_row, harvest_row, next_worker, turn_row, row_for, driver_row}
 use Rattle.ehci_driver.specs.Makes.{CanMake}
 
-either_can : (d : DriverContent) (b : Bool) (x y : Row) → CanMake d x → CanMake d y → CanMake d (cond b x y)
+either_can : (d : DriverContent) (b : Bool) (x y : DriverRow) → CanMake d x → CanMake d y → CanMake d (cond b x y)
 either_can d true x y one other = one
 either_can d false x y one other = other
 
 -- ---- the unfinished command
 
-get_can : (d : DriverContent) (rs : List Row) (k : ℕ) → AllByRecursion (CanMake d) rs → CanMake d (unwrap_or (slice_get rs k) rows.Rest)
+get_can : (d : DriverContent) (rs : List DriverRow) (k : ℕ) → AllByRecursion (CanMake d) rs → CanMake d (unwrap_or (slice_get rs k) rows.Rest)
 get_can d [] zero all = tt
 get_can d [] (suc k) all = tt
 get_can d (r ∷ rs) zero all = all.0
@@ -53,11 +53,11 @@ next_can d c =
 
 -- ---- leaving work and harvest
 
-abbrev CanOption : DriverContent → Option Row → Type 0
+abbrev CanOption : DriverContent → Option DriverRow → Type 0
 CanOption d None = Unit {0}
 CanOption d (Some row) = CanMake d row
 
-first_can : (d : DriverContent) (a b : Option Row) → CanOption d a → CanOption d b → CanOption d (first_row a b)
+first_can : (d : DriverContent) (a b : Option DriverRow) → CanOption d a → CanOption d b → CanOption d (first_row a b)
 first_can d None b one other = other
 first_can d (Some row) b one other = one
 
@@ -124,11 +124,11 @@ worker_can : (d : DriverContent) (m : Mem) (o : Option ℕ) → CanOption d (wor
 worker_can d m None = tt
 worker_can d m (Some e) = next_transfer_can d m e (option_and_then (λ (x : Endpoint). x.next) (slice_get d.endpoints e))
 
-or_rest : (d : DriverContent) (o : Option Row) → CanOption d o → CanMake d (unwrap_or o rows.Rest)
+or_rest : (d : DriverContent) (o : Option DriverRow) → CanOption d o → CanMake d (unwrap_or o rows.Rest)
 or_rest d None can = tt
 or_rest d (Some row) can = can
 
-turn_can : (d : DriverContent) (t : Turn) (a b : Option Row) → CanOption d a → CanOption d b → CanMake d (turn_row t a b)
+turn_can : (d : DriverContent) (t : Turn) (a b : Option DriverRow) → CanOption d a → CanOption d b → CanMake d (turn_row t a b)
 turn_can d turns.Leaving a b one other = or_rest d (first_row a b) (first_can d a b one other)
 turn_can d turns.Harvest a b one other = or_rest d (first_row b a) (first_can d b a other one)
 
@@ -138,5 +138,5 @@ command_can p None =
     turn_can p.driver p.driver.turn (leaving_row p.driver p.registers) (harvest_row p.driver p.memory)
     (leaving_can p.driver p.registers) (worker_can p.driver p.memory (next_worker p.driver))
 
-pub row_can : (p : Parts) → CanMake p.driver (row_of p)
+pub row_can : (p : Parts) → CanMake p.driver (driver_row p)
 row_can p = command_can p p.driver.command

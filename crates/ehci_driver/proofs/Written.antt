@@ -22,11 +22,11 @@ use Rattle.driver_rows.specs.declared.content.Transfer.{Transfer}
 use Rattle.driver_rows.specs.declared.content.QtdNote.{QtdNote}
 use Rattle.driver_rows.specs.declared.content.Command.{Command}
 use Rattle.driver_rows.specs.declared.content.Command.TheVariants as unfinished
-use Rattle.driver_rows.specs.declared.rows.Row.{Row}
-use Rattle.driver_rows.specs.declared.rows.Row.TheVariants as rows
+use Rattle.driver_rows.specs.declared.rows.DriverRow.{DriverRow}
+use Rattle.driver_rows.specs.declared.rows.DriverRow.TheVariants as rows
 use Rattle.driver_rows.specs.Harvests.{note_at}
 use Rattle.driver_rows.specs.DriverContent.{DriverContent, waits_for}
-use Rattle.driver_rows.specs.Rows.{Parts, after_row, after_transfer, after_endpoint, freed_by, free_runs, free_qtd, free_qtds, free_transfers, free_endpoint, is_held_of, is_iso, linked_descriptors, linked_by, stored_link, descriptor_leaving, after_unlink, free_descriptor, free_descriptors, free_placed, after_descriptor, after_placed, after_removed}
+use Rattle.driver_rows.specs.Rows.{Parts, after_driver_row, after_transfer, after_endpoint, freed_by, free_runs, free_qtd, free_qtds, free_transfers, free_endpoint, is_held_of, is_iso, linked_descriptors, linked_by, stored_link, descriptor_leaving, after_unlink, free_descriptor, free_descriptors, free_placed, after_descriptor, after_placed, after_removed}
 use Rattle.ehci_driver.specs.Written.{OnlyStores, is_word, links_at, command_links_at, link_at, unlinks_at}
 
 -- ---- lending
@@ -222,7 +222,7 @@ removed_words p (removed.Endpoint e) stands shape at busy = placed_words p e (sl
 
 -- ---- each row
 
-pub row_words : (row : Row) (p : Parts) → Stands (holding p.driver.book p.memory) → IsShaped p.memory → OnlyStores p.driver row p.memory (after_row row p).memory
+pub row_words : (row : DriverRow) (p : Parts) → Stands (holding p.driver.book p.memory) → IsShaped p.memory → OnlyStores p.driver row p.memory (after_driver_row row p).memory
 row_words rows.Lend p stands shape at apart busy =
     let h = holding p.driver.book p.memory in
     ap (λ ws. slice_index ws (at / 4)) (lent_runs (none_taken h) (reverse h.book.taken))

@@ -1,10 +1,10 @@
 -- Which events can be made.
 --     CanMake d row       a descriptor that is unlinked is one that waits for it
 use Rattle.std.specs.Prelude.{◌≤◌, length}
-use Rattle.driver_rows.specs.declared.rows.Row.{Row}
-use Rattle.driver_rows.specs.declared.rows.Row.TheVariants as rows
+use Rattle.driver_rows.specs.declared.rows.DriverRow.{DriverRow}
+use Rattle.driver_rows.specs.declared.rows.DriverRow.TheVariants as rows
 use Rattle.driver_rows.specs.DriverContent.{DriverContent}
 
-abbrev pub CanMake : DriverContent → Row → Type 0
+abbrev pub CanMake : DriverContent → DriverRow → Type 0
 CanMake d (rows.Unlink t) = 1 ≤ length d.periodic.unlinks
 CanMake d row = Unit {0}

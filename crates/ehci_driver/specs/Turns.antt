@@ -11,19 +11,19 @@ use Rattle.op_registers.specs.RegisterFile.{RegisterFile}
 use Rattle.word_mem.specs.Memory.{Mem}
 use Rattle.driver_rows.specs.declared.content.Endpoint.{Endpoint}
 use Rattle.driver_rows.specs.declared.content.Transfer.{Transfer}
-use Rattle.driver_rows.specs.declared.rows.Row.{Row}
-use Rattle.driver_rows.specs.declared.rows.Row.TheVariants as rows
+use Rattle.driver_rows.specs.declared.rows.DriverRow.{DriverRow}
+use Rattle.driver_rows.specs.declared.rows.DriverRow.TheVariants as rows
 use Rattle.driver_rows.specs.DriverContent.{DriverContent}
 use Rattle.driver_rows.specs.Harvests.{reported}
-use Rattle.driver_rows.specs.Rows.{Parts, row_of, after_row, first_row, removal_row, bell_row, told_with, cancelled_bytes}
+use Rattle.driver_rows.specs.Rows.{Parts, driver_row, after_driver_row, first_row, removal_row, bell_row, told_with, cancelled_bytes}
 
 abbrev pub parts : DriverContent → RegisterFile → Mem → Parts
 parts d r m = record { driver = d; registers = r; memory = m }
 
 abbrev pub after_event : Parts → Parts
-after_event p = after_row (row_of p) p
+after_event p = after_driver_row (driver_row p) p
 
-abbrev pub later_row : DriverContent → RegisterFile → Option Row
+abbrev pub later_row : DriverContent → RegisterFile → Option DriverRow
 later_row d r =
     first_row (option_map rows.Unlink (slice_get d.periodic.unlinks 0))
     (first_row (option_map rows.ReleaseEndpoint (slice_get d.cleared 0))

@@ -10,8 +10,8 @@ use Rattle.periodic_list.specs.Periodic.{next_store}
 use Rattle.driver_rows.specs.declared.content.Transfer.{Transfer}
 use Rattle.driver_rows.specs.declared.content.Command.{Command}
 use Rattle.driver_rows.specs.declared.content.Command.TheVariants as unfinished
-use Rattle.driver_rows.specs.declared.rows.Row.{Row}
-use Rattle.driver_rows.specs.declared.rows.Row.TheVariants as rows
+use Rattle.driver_rows.specs.declared.rows.DriverRow.{DriverRow}
+use Rattle.driver_rows.specs.declared.rows.DriverRow.TheVariants as rows
 use Rattle.driver_rows.specs.DriverContent.{DriverContent}
 use Rattle.driver_rows.specs.Rows.{descriptor_leaving}
 
@@ -35,12 +35,12 @@ abbrev pub unlinks_at : DriverContent → Option Transfer → ℕ → Bool
 unlinks_at d None at = false
 unlinks_at d (Some x) at = link_at (next_store (descriptor_leaving d x)) at
 
-abbrev pub stores_at : DriverContent → Row → ℕ → Bool
+abbrev pub stores_at : DriverContent → DriverRow → ℕ → Bool
 stores_at d (rows.Store b to v) at = is_word to at
 stores_at d (rows.Mend w) at = is_word w.at at
 stores_at d rows.LendDescriptors at = command_links_at d d.command at
 stores_at d (rows.Unlink t) at = unlinks_at d (slice_get d.transfers t) at
 stores_at d _ at = false
 
-abbrev pub OnlyStores : DriverContent → Row → Mem → Mem → Type 0
+abbrev pub OnlyStores : DriverContent → DriverRow → Mem → Mem → Type 0
 OnlyStores d row m n = (at : ℕ) → stores_at d row at ≡ false → state_at n (at / 32) ≢ Some Free → word_at n at ≡ word_at m at

@@ -2,14 +2,14 @@ ghost use Rattle.std.specs.Prelude.{◌≡◌, ◌≤◌, ◌+◌, false, slice_
 ghost use Rattle.std.specs.VecDeque.{deque_len, deque_capacity};
 ghost use Rattle.run_book.specs.Book.{holding, Stands, lend_taken, store};
 ghost use Rattle.op_registers.specs.Table.{after_write};
-ghost use Rattle.driver_rows.specs.Rows.{row_of, after_row, step_of, advance, doorbell_command, bell_after, finished, leave_ring};
+ghost use Rattle.driver_rows.specs.Rows.{driver_row, after_driver_row, step_of, advance, doorbell_command, bell_after, finished, leave_ring};
 ghost use Rattle.ehci_driver.specs.Makes.{CanMake};
 ghost use Rattle.ehci_driver.specs.Turns.{parts, after_event};
 ghost use Rattle.ehci_driver.specs.Written.{OnlyStores};
 
 use crate::driver::Driver;
 use driver_endpoints::{event_count, links};
-use driver_rows::{Bell, Command, DriverStep, Endpoint, Found, Mend, Row, Transfer, Turn};
+use driver_rows::{Bell, Command, DriverRow, DriverStep, Endpoint, Found, Mend, Transfer, Turn};
 use op_registers::Registers;
 use std::collections::VecDeque;
 use word_mem::WordMem;
@@ -31,13 +31,13 @@ impl Driver {
     #[tactic(auto, using(std::proofs::lemmas::Grind::common_steps, crate::proofs::Kept::row_room))]
     pub fn step(&mut self, regs: &mut Registers, mem: &mut WordMem) -> DriverStep
         requires { Stands (holding self.old.book mem.old) }
-        ensures kind { result ≡ step_of (row_of (parts self.old regs.old mem.old)) }
+        ensures kind { result ≡ step_of (driver_row (parts self.old regs.old mem.old)) }
         ensures driver { self.new ≡ (after_event (parts self.old regs.old mem.old)).driver }
         ensures registers { regs.new ≡ (after_event (parts self.old regs.old mem.old)).registers }
         ensures memory { mem.new ≡ (after_event (parts self.old regs.old mem.old)).memory }
         ensures stands { Stands (holding self.new.book mem.new) }
         ensures room { self.new.room ≡ self.old.room }
-        ensures words { OnlyStores self.old (row_of (parts self.old regs.old mem.old)) mem.old mem.new }
+        ensures words { OnlyStores self.old (driver_row (parts self.old regs.old mem.old)) mem.old mem.new }
     {
         let _words = mem.words();
         let row = self.row(regs, mem);
@@ -47,30 +47,30 @@ impl Driver {
 
     /// Makes the event that this row tells.
     #[tactic(auto, using(std::proofs::lemmas::Grind::common_steps, crate::proofs::Kept::transfer_registers, crate::proofs::Kept::endpoint_registers, crate::proofs::Kept::unlink_registers, crate::proofs::Kept::removed_registers))]
-    fn make(&mut self, regs: &mut Registers, mem: &mut WordMem, row: Row)
+    fn make(&mut self, regs: &mut Registers, mem: &mut WordMem, row: DriverRow)
         requires stands { Stands (holding self.old.book mem.old) }
         requires can { CanMake self.old row }
-        ensures driver { self.new ≡ (after_row row (parts self.old regs.old mem.old)).driver }
-        ensures registers { regs.new ≡ (after_row row (parts self.old regs.old mem.old)).registers }
-        ensures memory { mem.new ≡ (after_row row (parts self.old regs.old mem.old)).memory }
+        ensures driver { self.new ≡ (after_driver_row row (parts self.old regs.old mem.old)).driver }
+        ensures registers { regs.new ≡ (after_driver_row row (parts self.old regs.old mem.old)).registers }
+        ensures memory { mem.new ≡ (after_driver_row row (parts self.old regs.old mem.old)).memory }
         ensures stands { Stands (holding self.new.book mem.new) }
     {
         match row {
-            Row::Lend => self.lend(mem),
-            Row::Store(block, at, value) => self.store_word(mem, block, at, value),
-            Row::Mend(mend) => self.mend(mem, mend),
-            Row::ReleaseTransfer(t) => self.release_transfer(mem, t),
-            Row::ReleaseEndpoint(e) => self.release_endpoint(mem, e),
-            Row::ClearAdvance => self.clear_advance(regs),
-            Row::RingBell => self.ring_bell(regs),
-            Row::ReadStatus(heard) => self.read_status(heard),
-            Row::Harvest(e, t, found) => self.harvest(mem, e, t, found),
-            Row::Frames => self.give_frames(regs.frame_index()),
-            Row::LendDescriptors => self.lend_descriptors(mem),
-            Row::Unlink(t) => self.unlink(mem, t),
-            Row::ReleaseRemoved(what) => self.release_removed(mem, what),
-            Row::ReadFrame(frindex) => self.read_frame(frindex),
-            Row::Rest => {}
+            DriverRow::Lend => self.lend(mem),
+            DriverRow::Store(block, at, value) => self.store_word(mem, block, at, value),
+            DriverRow::Mend(mend) => self.mend(mem, mend),
+            DriverRow::ReleaseTransfer(t) => self.release_transfer(mem, t),
+            DriverRow::ReleaseEndpoint(e) => self.release_endpoint(mem, e),
+            DriverRow::ClearAdvance => self.clear_advance(regs),
+            DriverRow::RingBell => self.ring_bell(regs),
+            DriverRow::ReadStatus(heard) => self.read_status(heard),
+            DriverRow::Harvest(e, t, found) => self.harvest(mem, e, t, found),
+            DriverRow::Frames => self.give_frames(regs.frame_index()),
+            DriverRow::LendDescriptors => self.lend_descriptors(mem),
+            DriverRow::Unlink(t) => self.unlink(mem, t),
+            DriverRow::ReleaseRemoved(what) => self.release_removed(mem, what),
+            DriverRow::ReadFrame(frindex) => self.read_frame(frindex),
+            DriverRow::Rest => {}
         }
     }
 

@@ -1,8 +1,8 @@
 ghost use Rattle.std.specs.Prelude.{◌≡◌, slice_get, true, false, Some};
 ghost use Rattle.run_book.specs.Book.{holding, Stands};
-ghost use Rattle.driver_rows.specs.Rows.{after_row, is_told, gone_with, free_endpoint};
+ghost use Rattle.driver_rows.specs.Rows.{after_driver_row, is_told, gone_with, free_endpoint};
 ghost use Rattle.op_registers.specs.RegisterFile.{RegisterFile};
-ghost use Rattle.driver_rows.specs.declared.rows.Row.TheVariants.{ReleaseTransfer, ReleaseEndpoint};
+ghost use Rattle.driver_rows.specs.declared.rows.DriverRow.TheVariants.{ReleaseTransfer, ReleaseEndpoint};
 ghost use Rattle.ehci_driver.specs.Turns.{parts, told_cancel};
 
 use crate::driver::Driver;
@@ -16,8 +16,8 @@ impl Driver {
     /// The blocks of a harvested transfer are given back.
     pub(crate) fn release_transfer(&mut self, mem: &mut WordMem, t: usize)
         requires { Stands (holding self.old.book mem.old) }
-        ensures driver { (r : RegisterFile) → self.new ≡ (after_row (ReleaseTransfer t) (parts self.old r mem.old)).driver }
-        ensures memory { (r : RegisterFile) → mem.new ≡ (after_row (ReleaseTransfer t) (parts self.old r mem.old)).memory }
+        ensures driver { (r : RegisterFile) → self.new ≡ (after_driver_row (ReleaseTransfer t) (parts self.old r mem.old)).driver }
+        ensures memory { (r : RegisterFile) → mem.new ≡ (after_driver_row (ReleaseTransfer t) (parts self.old r mem.old)).memory }
         ensures stands { Stands (holding self.new.book mem.new) }
     {
         if t >= self.transfers.len() {
@@ -44,8 +44,8 @@ impl Driver {
     /// The blocks of a cancelled endpoint are given back.
     pub(crate) fn release_endpoint(&mut self, mem: &mut WordMem, e: usize)
         requires { Stands (holding self.old.book mem.old) }
-        ensures driver { (r : RegisterFile) → self.new ≡ (after_row (ReleaseEndpoint e) (parts self.old r mem.old)).driver }
-        ensures memory { (r : RegisterFile) → mem.new ≡ (after_row (ReleaseEndpoint e) (parts self.old r mem.old)).memory }
+        ensures driver { (r : RegisterFile) → self.new ≡ (after_driver_row (ReleaseEndpoint e) (parts self.old r mem.old)).driver }
+        ensures memory { (r : RegisterFile) → mem.new ≡ (after_driver_row (ReleaseEndpoint e) (parts self.old r mem.old)).memory }
         ensures stands { Stands (holding self.new.book mem.new) }
     {
         let Some(endpoint) = self.endpoints.get(e) else {

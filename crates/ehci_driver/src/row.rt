@@ -1,5 +1,5 @@
 ghost use Rattle.std.specs.Prelude.{◌≡◌, slice_get, Some};
-ghost use Rattle.driver_rows.specs.Rows.{row_of, next_row, link_row, leaving_row, removal_row, reading_for, removes, bell_row, harvest_row, worker_row, reading_row, next_worker, found_of, tells_advance, turn_row};
+ghost use Rattle.driver_rows.specs.Rows.{driver_row, next_row, link_row, leaving_row, removal_row, reading_for, removes, bell_row, harvest_row, worker_row, reading_row, next_worker, found_of, tells_advance, turn_row};
 ghost use Rattle.periodic_list.specs.Periodic.{next_store};
 ghost use Rattle.driver_rows.specs.Harvests.{note_at};
 ghost use Rattle.ehci_driver.specs.Turns.{parts, later_row};
@@ -7,7 +7,7 @@ ghost use Rattle.ehci_driver.specs.Turns.{parts, later_row};
 use crate::driver::Driver;
 use driver_endpoints::{event_count, links, row_of_command};
 use driver_harvests::{found, note_of, token_at};
-use driver_rows::{Bell, Command, Found, QtdNote, Row, Sort, Transfer, Turn};
+use driver_rows::{Bell, Command, DriverRow, Found, QtdNote, Sort, Transfer, Turn};
 use iso_queues::descriptor_found;
 use op_registers::Registers;
 use word_mem::WordMem;
@@ -20,8 +20,8 @@ const ADVANCE: u32 = 0x20;
 
 impl Driver {
     /// Which row the next event is.
-    pub(crate) fn row(&self, regs: &Registers, mem: &WordMem) -> Row
-        ensures { result ≡ row_of (parts self.now regs.now mem.now) }
+    pub fn row(&self, regs: &Registers, mem: &WordMem) -> DriverRow
+        ensures { result ≡ driver_row (parts self.now regs.now mem.now) }
     {
         match &self.command {
             Some(command) => self.next_row(command),
@@ -33,7 +33,7 @@ impl Driver {
     }
 
     /// The next event of the unfinished command: one of its own, or else the next store of the frame list.
-    fn next_row(&self, command: &Command) -> Row
+    fn next_row(&self, command: &Command) -> DriverRow
         ensures { result ≡ next_row self.now command.now }
     {
         if links(command) && self.made >= event_count(command) {
@@ -43,16 +43,16 @@ impl Driver {
     }
 
     /// The next store of the frame list.
-    fn link_row(&self) -> Row
+    fn link_row(&self) -> DriverRow
         ensures { result ≡ link_row (next_store self.now.periodic.list) }
     {
         match self.periodic.next_store() {
-            Some(store) => Row::Store(store.block, store.at, store.value),
-            None => Row::Rest,
+            Some(store) => DriverRow::Store(store.block, store.at, store.value),
+            None => DriverRow::Rest,
         }
     }
 
-    fn leaving_first(&self, regs: &Registers, mem: &WordMem) -> Row
+    fn leaving_first(&self, regs: &Registers, mem: &WordMem) -> DriverRow
         ensures { result ≡ turn_row Turn.Leaving (leaving_row self.now regs.now) (harvest_row self.now mem.now) }
     {
         if let Some(row) = self.leaving_row(regs) {
@@ -60,11 +60,11 @@ impl Driver {
         }
         match self.harvest_row(mem) {
             Some(row) => row,
-            None => Row::Rest,
+            None => DriverRow::Rest,
         }
     }
 
-    fn harvest_first(&self, regs: &Registers, mem: &WordMem) -> Row
+    fn harvest_first(&self, regs: &Registers, mem: &WordMem) -> DriverRow
         ensures { result ≡ turn_row Turn.Harvest (leaving_row self.now regs.now) (harvest_row self.now mem.now) }
     {
         if let Some(row) = self.harvest_row(mem) {
@@ -72,32 +72,32 @@ impl Driver {
         }
         match self.leaving_row(regs) {
             Some(row) => row,
-            None => Row::Rest,
+            None => DriverRow::Rest,
         }
     }
 
     /// The first of the leaving work that there is.
-    fn leaving_row(&self, regs: &Registers) -> Option<Row>
+    fn leaving_row(&self, regs: &Registers) -> Option<DriverRow>
         ensures { result ≡ leaving_row self.now regs.now }
     {
         if let Some(mend) = self.mends.front() {
-            return Some(Row::Mend(*mend));
+            return Some(DriverRow::Mend(*mend));
         }
         if let Some(t) = self.harvested.front() {
-            return Some(Row::ReleaseTransfer(*t));
+            return Some(DriverRow::ReleaseTransfer(*t));
         }
         self.leaving_frames(regs)
     }
 
     /// The first of what leaves the frame list, of the batch that was cleared, or of what the registers are waited for.
-    fn leaving_frames(&self, regs: &Registers) -> Option<Row>
+    fn leaving_frames(&self, regs: &Registers) -> Option<DriverRow>
         ensures { result ≡ later_row self.now regs.now }
     {
         if let Some(t) = self.periodic.first_unlink() {
-            return Some(Row::Unlink(t));
+            return Some(DriverRow::Unlink(t));
         }
         if let Some(e) = self.cleared.front() {
-            return Some(Row::ReleaseEndpoint(*e));
+            return Some(DriverRow::ReleaseEndpoint(*e));
         }
         if let Some(row) = self.removal_row() {
             return Some(row);
@@ -106,13 +106,13 @@ impl Driver {
     }
 
     /// The release of what left the frame list first, once its boundary was seen.
-    fn removal_row(&self) -> Option<Row>
+    fn removal_row(&self) -> Option<DriverRow>
         ensures { result ≡ removal_row (slice_get self.now.periodic.removals 0) }
     {
         match self.periodic.first_removal() {
             Some(removal) => {
                 if removal.boundary.is_seen() {
-                    Some(Row::ReleaseRemoved(removal.what))
+                    Some(DriverRow::ReleaseRemoved(removal.what))
                 } else {
                     None
                 }
@@ -122,42 +122,42 @@ impl Driver {
     }
 
     /// The reading of a register for which leaving work waits.
-    fn reading_for(&self, regs: &Registers, rung: bool) -> Option<Row>
+    fn reading_for(&self, regs: &Registers, rung: bool) -> Option<DriverRow>
         ensures { result ≡ reading_for self.now regs.now rung (removes self.now) }
     {
         match (rung, self.periodic.removes()) {
             (false, false) => None,
-            (true, false) => Some(Row::ReadStatus(reads_advance(regs))),
-            (false, true) => Some(Row::ReadFrame(regs.frame_index())),
+            (true, false) => Some(DriverRow::ReadStatus(reads_advance(regs))),
+            (false, true) => Some(DriverRow::ReadFrame(regs.frame_index())),
             (true, true) => {
                 if self.periodic.reads_status() {
-                    Some(Row::ReadStatus(reads_advance(regs)))
+                    Some(DriverRow::ReadStatus(reads_advance(regs)))
                 } else {
-                    Some(Row::ReadFrame(regs.frame_index()))
+                    Some(DriverRow::ReadFrame(regs.frame_index()))
                 }
             }
         }
     }
 
     /// What the doorbell wants.
-    fn bell_row(&self, regs: &Registers) -> Option<Row>
+    fn bell_row(&self, regs: &Registers) -> Option<DriverRow>
         ensures { result ≡ bell_row self.now regs.now self.now.bell }
     {
         match self.bell {
-            Bell::Heard => Some(Row::ClearAdvance),
+            Bell::Heard => Some(DriverRow::ClearAdvance),
             Bell::Rung => self.reading_for(regs, true),
             Bell::Quiet => {
                 if self.waiting.is_empty() {
                     self.reading_for(regs, false)
                 } else {
-                    Some(Row::RingBell)
+                    Some(DriverRow::RingBell)
                 }
             }
         }
     }
 
     /// The next reading of a token.
-    fn harvest_row(&self, mem: &WordMem) -> Option<Row>
+    fn harvest_row(&self, mem: &WordMem) -> Option<DriverRow>
         ensures { result ≡ harvest_row self.now mem.now }
     {
         match self.next_worker() {
@@ -166,7 +166,7 @@ impl Driver {
         }
     }
 
-    fn worker_row(&self, mem: &WordMem, e: usize) -> Option<Row>
+    fn worker_row(&self, mem: &WordMem, e: usize) -> Option<DriverRow>
         ensures { result ≡ worker_row self.now mem.now (Some e) }
     {
         match self.endpoints.get(e) {
@@ -178,14 +178,14 @@ impl Driver {
         }
     }
 
-    fn reading_row(&self, mem: &WordMem, e: usize, t: usize) -> Option<Row>
+    fn reading_row(&self, mem: &WordMem, e: usize, t: usize) -> Option<DriverRow>
         ensures { result ≡ reading_row self.now mem.now e t (slice_get self.now.transfers t) }
     {
         match self.transfers.get(t) {
             None => None,
             Some(transfer) => {
                 if transfer.endpoint == e && !transfer.reported {
-                    Some(Row::Harvest(e, t, self.found_of(mem, transfer)))
+                    Some(DriverRow::Harvest(e, t, self.found_of(mem, transfer)))
                 } else {
                     None
                 }

@@ -3,7 +3,7 @@ ghost use Rattle.driver_rows.specs.DriverContent.{busy, pending, opened, ended, 
 ghost use Rattle.ehci_driver.specs.Standing.{with_refusal};
 
 use crate::driver::Driver;
-use driver_rows::{Reserve, Transfer};
+use driver_rows::{Endpoint, Reserve, Transfer};
 use usb_base::{EndCause, EpName, OfferError, Report, What};
 
 impl Driver {
@@ -12,6 +12,13 @@ impl Driver {
         ensures { result ≡ busy self.now }
     {
         self.command.is_some()
+    }
+
+    /// The endpoints that were opened, in their order, with the placement of each that has one.
+    pub fn endpoints(&self) -> &[Endpoint]
+        ensures { result.now ≡ self.now.endpoints }
+    {
+        self.endpoints.as_slice()
     }
 
     /// The lines of the report, in the order in which they came.

@@ -14,7 +14,8 @@ use std::{env, io};
 use trace_cli::ehci_trace;
 use usb_base::{Sink, Source};
 
-const USAGE: &str = "usage: ehci-trace [--endpoint EP] [--from N] [--to N] [--quiet] < SCRIPT";
+const USAGE: &str =
+    "usage: ehci-trace [--endpoint EP] [--from N] [--to N] [--quiet] [--pcap] < SCRIPT";
 
 const HELP: &str = "\
 ehci-trace: what happens in the run of a script, a line an event
@@ -24,6 +25,7 @@ ehci-trace: what happens in the run of a script, a line an event
     --from N           only from microframe N on
     --to N             only up to microframe N
     --quiet            only events that move something
+    --pcap             the packets on the high-speed bus as a capture, in the place of lines
   ehci-trace --help    prints this text
   ehci-trace --version prints the version
 

@@ -16,7 +16,7 @@ use Rattle.pipe_agreement.specs.Pipe.{Pipe, PipeAgrees, opening, after, sent, re
 use Rattle.control_stages.specs.Stages.{data_pid, sequence_of}
 use Rattle.endpoint_script.specs.declared.rows.TakeRow.{TakeRow}
 use Rattle.endpoint_script.specs.declared.rows.TakeRow.TheVariants.{Drops, Naks, IsFull, Stalls, Takes, TakesLast, HasRoom}
-use Rattle.endpoint_script.specs.Taking.{Taking, taking_at, next_row, out_row, ping_row, has_room, take_row, row_of, is_ping, row_reply, after_row, taking_reply, taking_answered}
+use Rattle.endpoint_script.specs.Taking.{Taking, taking_at, next_row, out_row, ping_row, has_room, take_row, taking_row, is_ping, row_reply, after_taking_row, taking_reply, taking_answered}
 use Rattle.endpoint_laws.specs.Halves.{TakesFor, is_acknowledged}
 
 pub out_opens : (items : List Item) (room : ℕ) → TakesFor opening (taking_at items room)
@@ -32,7 +32,7 @@ record IsKept (before after : Taking) : Type 0 where
   bytes : after.taken ≡ before.taken
 
 -- expected data that are acknowledged were taken
-next_takes : (speed : Speed) (items : List Item) (fits : Bool) (out : List ℕ) (t : Taking) → is_acknowledged (row_reply speed (next_row items fits)) ≡ true → IsTaken out t (after_row (next_row items fits) out t)
+next_takes : (speed : Speed) (items : List Item) (fits : Bool) (out : List ℕ) (t : Taking) → is_acknowledged (row_reply speed (next_row items fits)) ≡ true → IsTaken out t (after_taking_row (next_row items fits) out t)
 next_takes speed [] true out t h = record { toggle = refl; bytes = refl }
 next_takes speed [] false out t h = absurd (false≢true h)
 next_takes speed (Bytes bytes ∷ items) true out t h = record { toggle = refl; bytes = refl }
@@ -59,13 +59,13 @@ dropped_for w t false h = h
 
 settles : (packets : List (List ℕ)) (w : Pipe (List ℕ)) (t : Taking) (speed : Speed) (out : List ℕ) (fits heard : Bool) (sends expects : Bool) → TakesFor w t
     → is_acknowledged (row_reply speed (out_row (sequence_of expects (data_pid sends)) t.items fits)) ≡ true
-    → TakesFor (acknowledged heard (if alike sends expects then record w { accepted = w.accepted ++ out ∷ []; expects = not w.expects } else w)) (after_row (out_row (sequence_of expects (data_pid sends)) t.items fits) out t)
-settles packets w t speed out fits heard true true h k = taken_for w t (after_row (next_row t.items fits) out t) out heard h (next_takes speed t.items fits out t k)
-settles packets w t speed out fits heard false false h k = taken_for w t (after_row (next_row t.items fits) out t) out heard h (next_takes speed t.items fits out t k)
+    → TakesFor (acknowledged heard (if alike sends expects then record w { accepted = w.accepted ++ out ∷ []; expects = not w.expects } else w)) (after_taking_row (out_row (sequence_of expects (data_pid sends)) t.items fits) out t)
+settles packets w t speed out fits heard true true h k = taken_for w t (after_taking_row (next_row t.items fits) out t) out heard h (next_takes speed t.items fits out t k)
+settles packets w t speed out fits heard false false h k = taken_for w t (after_taking_row (next_row t.items fits) out t) out heard h (next_takes speed t.items fits out t k)
 settles packets w t speed out fits heard true false h k = dropped_for w t heard h
 settles packets w t speed out fits heard false true h k = dropped_for w t heard h
 
-row_is : (w : Pipe (List ℕ)) (t : Taking) (ask : Ask) (out : List ℕ) → t.toggle ≡ w.expects → ask.toggle ≡ data_pid w.sends → is_ping ask.pid ≡ false → out_row (sequence_of w.expects (data_pid w.sends)) t.items (has_room t (length out)) ≡ row_of t ask out
+row_is : (w : Pipe (List ℕ)) (t : Taking) (ask : Ask) (out : List ℕ) → t.toggle ≡ w.expects → ask.toggle ≡ data_pid w.sends → is_ping ask.pid ≡ false → out_row (sequence_of w.expects (data_pid w.sends)) t.items (has_room t (length out)) ≡ taking_row t ask out
 row_is w t ask out h e b = sym (ap (λ ping. take_row ping t (sequence_of t.toggle ask.toggle) (length out)) b ∙ ap (λ toggle. out_row (sequence_of toggle ask.toggle) t.items (has_room t (length out))) h ∙ ap (λ pid. out_row (sequence_of w.expects pid) t.items (has_room t (length out))) e)
 
 pub out_takes : (packets : List (List ℕ)) (w : Pipe (List ℕ)) (t : Taking) (speed : Speed) (ask : Ask) (out : List ℕ) (heard : Bool) → TakesFor w t
@@ -73,7 +73,7 @@ pub out_takes : (packets : List (List ℕ)) (w : Pipe (List ℕ)) (t : Taking) (
     → is_acknowledged (taking_reply speed t ask out) ≡ true → TakesFor (after packets w (Heard heard)) (taking_answered t ask out)
 out_takes packets w t speed ask out heard h o e b k =
     subst (λ x. TakesFor (sent heard x w) (taking_answered t ask out)) (sym o)
-    (subst (λ row. TakesFor (acknowledged heard (received out w)) (after_row row out t)) (row_is w t ask out h.toggle e b)
+    (subst (λ row. TakesFor (acknowledged heard (received out w)) (after_taking_row row out t)) (row_is w t ask out h.toggle e b)
     (settles packets w t speed out (has_room t (length out)) heard w.sends w.expects h
     (subst (λ row. is_acknowledged (row_reply speed row) ≡ true) (sym (row_is w t ask out h.toggle e b)) k)))
 
@@ -82,7 +82,7 @@ out_takes packets w t speed ask out heard h o e b k =
 true_not_false : {A : Type 0} → true ≡ false → A
 true_not_false h = absurd (false≢true (sym h))
 
-refused_keeps : (speed : Speed) (row : TakeRow) (out : List ℕ) (t : Taking) → is_acknowledged (row_reply speed row) ≡ false → IsKept t (after_row row out t)
+refused_keeps : (speed : Speed) (row : TakeRow) (out : List ℕ) (t : Taking) → is_acknowledged (row_reply speed row) ≡ false → IsKept t (after_taking_row row out t)
 refused_keeps speed Drops out t h = true_not_false h
 refused_keeps speed Naks out t h = record { toggle = refl; bytes = refl }
 refused_keeps speed IsFull out t h = record { toggle = refl; bytes = refl }
@@ -97,11 +97,11 @@ kept_for : (w : Pipe (List ℕ)) (t u : Taking) → TakesFor w t → IsKept t u 
 kept_for w t u h k = record { toggle = k.toggle ∙ h.toggle; bytes = k.bytes ∙ h.bytes }
 
 pub out_refuses : (w : Pipe (List ℕ)) (t : Taking) (speed : Speed) (ask : Ask) (out : List ℕ) → TakesFor w t → is_acknowledged (taking_reply speed t ask out) ≡ false → TakesFor w (taking_answered t ask out)
-out_refuses w t speed ask out h k = kept_for w t (taking_answered t ask out) h (refused_keeps speed (row_of t ask out) out t k)
+out_refuses w t speed ask out h k = kept_for w t (taking_answered t ask out) h (refused_keeps speed (taking_row t ask out) out t k)
 
 -- ---- a PING
 
-ping_keeps : (items : List Item) (out : List ℕ) (t : Taking) → IsKept t (after_row (ping_row items) out t)
+ping_keeps : (items : List Item) (out : List ℕ) (t : Taking) → IsKept t (after_taking_row (ping_row items) out t)
 ping_keeps [] out t = record { toggle = refl; bytes = refl }
 ping_keeps (Nak n ∷ items) out t = record { toggle = refl; bytes = refl }
 ping_keeps (Stall ∷ items) out t = record { toggle = refl; bytes = refl }
@@ -111,8 +111,8 @@ ping_keeps (Request setup bytes ∷ items) out t = record { toggle = refl; bytes
 
 pub out_pinged : (w : Pipe (List ℕ)) (t : Taking) (ask : Ask) (out : List ℕ) → TakesFor w t → is_ping ask.pid ≡ true → TakesFor w (taking_answered t ask out)
 out_pinged w t ask out h b =
-    subst (λ ping. TakesFor w (after_row (take_row ping t (sequence_of t.toggle ask.toggle) (length out)) out t)) (sym b)
-    (kept_for w t (after_row (ping_row t.items) out t) h (ping_keeps t.items out t))
+    subst (λ ping. TakesFor w (after_taking_row (take_row ping t (sequence_of t.toggle ask.toggle) (length out)) out t)) (sym b)
+    (kept_for w t (after_taking_row (ping_row t.items) out t) h (ping_keeps t.items out t))
 
 pub taken_begins : (packets : List (List ℕ)) (w : Pipe (List ℕ)) (t : Taking) → TakesFor w t → PipeAgrees packets w → IsPrefix t.taken (concat packets)
 taken_begins packets w t h a = subst (λ bytes. IsPrefix bytes (concat packets)) (sym h.bytes) (accepted_begins packets w a)

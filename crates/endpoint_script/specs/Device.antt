@@ -23,8 +23,8 @@ use Rattle.control_stages.specs.Stages.{token_of}
 use Rattle.script_types.specs.declared.devices.DeviceText.{DeviceText}
 use Rattle.script_types.specs.declared.devices.EpText.{EpText}
 use Rattle.endpoint_script.specs.declared.endpoint.Endpoint.{Endpoint}
-use Rattle.endpoint_script.specs.declared.endpoint.Part.{Part}
-use Rattle.endpoint_script.specs.declared.endpoint.Part.TheVariants.{Sends, Takes, Controls, Streams, Hears}
+use Rattle.endpoint_script.specs.declared.endpoint.Role.{Role}
+use Rattle.endpoint_script.specs.declared.endpoint.Role.TheVariants.{Sends, Takes, Controls, Streams, Hears}
 use Rattle.endpoint_script.specs.Items.{is_short}
 use Rattle.endpoint_script.specs.Sending.{sending_at, sending_reply, sending_answered, sending_acked}
 use Rattle.endpoint_script.specs.Taking.{taking_at, taking_reply, taking_answered}
@@ -38,7 +38,7 @@ pub record Device : Type 0 where
 
 -- ---- one endpoint, by its part
 
-abbrev pub opened_part : Way → EpKind → EpText → Part
+abbrev pub opened_part : Way → EpKind → EpText → Role
 opened_part Ways.Ctl _ text = Controls (controlling_at text.desc.max text.items)
 opened_part Ways.In Kinds.Iso text = Streams (streaming_at text.desc.multi text.items)
 opened_part Ways.In _ text = Sends (sending_at text.items)
@@ -48,28 +48,28 @@ opened_part Ways.Out _ text = Takes (taking_at text.items text.room)
 abbrev pub opened_endpoint : EpText → Endpoint
 opened_endpoint text = record { desc = text.desc; part = opened_part text.desc.name.way text.desc.kind text }
 
-abbrev pub part_begun : Part → Part
+abbrev pub part_begun : Role → Role
 part_begun (Streams s) = Streams (streaming_begun s)
 part_begun part = part
 
 abbrev pub endpoint_begun : Endpoint → Endpoint
 endpoint_begun e = record e { part = part_begun e.part }
 
-abbrev pub part_reply : Speed → Part → Ask → List ℕ → Reply
+abbrev pub part_reply : Speed → Role → Ask → List ℕ → Reply
 part_reply speed (Sends s) ask out = sending_reply s
 part_reply speed (Takes t) ask out = taking_reply speed t ask out
 part_reply speed (Controls c) ask out = controlling_reply c ask out
 part_reply speed (Streams s) ask out = streaming_reply s
 part_reply speed Hears ask out = Silent
 
-abbrev pub part_answered : Part → Ask → List ℕ → Part
+abbrev pub part_answered : Role → Ask → List ℕ → Role
 part_answered (Sends s) ask out = Sends (sending_answered s)
 part_answered (Takes t) ask out = Takes (taking_answered t ask out)
 part_answered (Controls c) ask out = Controls (controlling_answered c ask out)
 part_answered (Streams s) ask out = Streams (streaming_answered s)
 part_answered Hears ask out = Hears
 
-abbrev pub part_acked : Part → Part
+abbrev pub part_acked : Role → Role
 part_acked (Sends s) = Sends (sending_acked s)
 part_acked (Controls c) = Controls (controlling_acked c)
 part_acked part = part
@@ -80,11 +80,11 @@ endpoint_answered e ask out = record e { part = part_answered e.part ask out }
 abbrev pub endpoint_acked : Endpoint → Endpoint
 endpoint_acked e = record e { part = part_acked e.part }
 
-abbrev pub part_taken : Part → List ℕ
+abbrev pub part_taken : Role → List ℕ
 part_taken (Takes t) = t.taken
 part_taken _ = []
 
-abbrev pub part_acted : Part → ℕ
+abbrev pub part_acted : Role → ℕ
 part_acted (Controls c) = c.stages.acted
 part_acted _ = 0
 
@@ -117,8 +117,8 @@ place_for Tokens.Ping es num = or_else (place_named es num Ways.Out) (place_name
 place_for Tokens.Other es num = None
 
 -- where the endpoint stands that an ask is for
-abbrev pub place_of : Device → Ask → Option ℕ
-place_of d ask = if ask.addr == d.address then place_for (token_of ask.pid) d.endpoints ask.ep else None
+abbrev pub endpoint_asked : Device → Ask → Option ℕ
+endpoint_asked d ask = if ask.addr == d.address then place_for (token_of ask.pid) d.endpoints ask.ep else None
 
 abbrev pub place_of_name : Device → EpName → Option ℕ
 place_of_name d name = if name.addr == d.address then place_named d.endpoints name.num name.way else None
@@ -148,7 +148,7 @@ reply_from speed None ask out = Silent
 reply_from speed (Some e) ask out = part_reply speed e.part ask out
 
 abbrev pub answer_of : Device → Ask → List ℕ → Reply
-answer_of d ask out = reply_from d.speed (endpoint_at d.endpoints (place_of d ask)) ask out
+answer_of d ask out = reply_from d.speed (endpoint_at d.endpoints (endpoint_asked d ask)) ask out
 
 abbrev pub answered_at : List Endpoint → ℕ → Option Endpoint → Ask → List ℕ → List Endpoint
 answered_at es place None ask out = es
@@ -159,7 +159,7 @@ answered_in es None ask out = es
 answered_in es (Some place) ask out = answered_at es place (slice_get es place) ask out
 
 abbrev pub answered : Device → Ask → List ℕ → Device
-answered d ask out = record d { endpoints = answered_in d.endpoints (place_of d ask) ask out }
+answered d ask out = record d { endpoints = answered_in d.endpoints (endpoint_asked d ask) ask out }
 
 abbrev pub acked_at : List Endpoint → ℕ → Option Endpoint → List Endpoint
 acked_at es place None = es
@@ -170,7 +170,7 @@ acked_in es None = es
 acked_in es (Some place) = acked_at es place (slice_get es place)
 
 abbrev pub acked_by : Device → Ask → Device
-acked_by d ask = record d { endpoints = acked_in d.endpoints (place_of d ask) }
+acked_by d ask = record d { endpoints = acked_in d.endpoints (endpoint_asked d ask) }
 
 abbrev pub taken_from : Option Endpoint → List ℕ
 taken_from None = []

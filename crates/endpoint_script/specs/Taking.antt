@@ -60,8 +60,8 @@ take_row true t sequence n = ping_row t.items
 take_row false t sequence n = out_row sequence t.items (has_room t n)
 
 -- what it does at an ask that sends these bytes
-abbrev pub row_of : Taking → Ask → List ℕ → TakeRow
-row_of t ask out = take_row (is_ping ask.pid) t (sequence_of t.toggle ask.toggle) (length out)
+abbrev pub taking_row : Taking → Ask → List ℕ → TakeRow
+taking_row t ask out = take_row (is_ping ask.pid) t (sequence_of t.toggle ask.toggle) (length out)
 
 -- the handshake of data that are the last for now: NYET stands at high speed alone
 abbrev pub last_hand : Speed → Reply
@@ -80,14 +80,14 @@ row_reply speed HasRoom = Hand Pids.Ack
 abbrev pub took : List ℕ → Taking → Taking
 took out t = record t { taken = t.taken ++ out; toggle = not t.toggle }
 
-abbrev pub after_row : TakeRow → List ℕ → Taking → Taking
-after_row Drops out t = t
-after_row Naks out t = record t { items = nak_given t.items }
-after_row IsFull out t = t
-after_row Stalls out t = t
-after_row Takes out t = took out t
-after_row TakesLast out t = record (took out t) { items = rest_of t.items }
-after_row HasRoom out t = t
+abbrev pub after_taking_row : TakeRow → List ℕ → Taking → Taking
+after_taking_row Drops out t = t
+after_taking_row Naks out t = record t { items = nak_given t.items }
+after_taking_row IsFull out t = t
+after_taking_row Stalls out t = t
+after_taking_row Takes out t = took out t
+after_taking_row TakesLast out t = record (took out t) { items = rest_of t.items }
+after_taking_row HasRoom out t = t
 
 -- data are taken only where there is room for them
 abbrev pub HasRoomIfTaken : TakeRow → Bool → Type 0
@@ -96,7 +96,7 @@ HasRoomIfTaken TakesLast fits = IsTrue fits
 HasRoomIfTaken _ fits = ⊤
 
 abbrev pub taking_reply : Speed → Taking → Ask → List ℕ → Reply
-taking_reply speed t ask out = row_reply speed (row_of t ask out)
+taking_reply speed t ask out = row_reply speed (taking_row t ask out)
 
 abbrev pub taking_answered : Taking → Ask → List ℕ → Taking
-taking_answered t ask out = after_row (row_of t ask out) out t
+taking_answered t ask out = after_taking_row (taking_row t ask out) out t

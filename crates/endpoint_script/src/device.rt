@@ -1,7 +1,7 @@
 ghost use Rattle.std.specs.Prelude.{◌≡◌, ◌≤◌, ◌<◌, length, map, IfOk, IfSome, IsTrue};
 ghost use Rattle.std.specs.List.{list_all};
 ghost use Rattle.endpoint_script.specs.Items.{is_short};
-ghost use Rattle.endpoint_script.specs.Device.{is_scripted, is_scripted_endpoint, opened_endpoint, opening, begun, endpoint_begun, place_of, place_of_name, answer_of, answered, acked_by, taken_of, acted_of};
+ghost use Rattle.endpoint_script.specs.Device.{is_scripted, is_scripted_endpoint, opened_endpoint, opening, begun, endpoint_begun, endpoint_asked, place_of_name, answer_of, answered, acked_by, taken_of, acted_of};
 
 use crate::endpoint::Endpoint;
 use crate::places::Places;
@@ -168,7 +168,7 @@ impl Device {
     }
 
     fn place(&self, ask: &Ask) -> Option<usize>
-        ensures place { result ≡ place_of self.now ask.now }
+        ensures place { result ≡ endpoint_asked self.now ask.now }
         ensures within { IfSome result (λ place. place < length self.now.endpoints) }
     {
         if ask.addr.get() != self.address.get() {

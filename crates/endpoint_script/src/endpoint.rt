@@ -11,7 +11,7 @@ use usb_base::{Ask, EpDesc, EpKind, EpNum, Reply, Speed, Way};
 
 /// What an endpoint does, by its transfer type and way (USB 2.0, 5.4 to 5.8).
 #[derive(Drop)]
-pub enum Part {
+pub enum Role {
     /// A bulk or interrupt IN endpoint.
     Sends(Sender),
     /// A bulk or interrupt OUT endpoint.
@@ -39,7 +39,7 @@ pub struct Endpoint {
     /// What the host knows of it.
     pub desc: EpDesc,
     /// What it does.
-    pub part: Part,
+    pub part: Role,
 }
 
 impl Endpoint {
@@ -51,11 +51,11 @@ impl Endpoint {
         let desc = text.desc;
         let items = text.items.as_slice();
         let part = match (desc.name.way, desc.kind) {
-            (Way::Ctl, _) => Part::Controls(ControlEndpoint::open(alloc, desc.max, items)?),
-            (Way::In, EpKind::Iso) => Part::Streams(IsoSender::open(alloc, desc.multi, items)?),
-            (Way::In, _) => Part::Sends(Sender::open(alloc, items)?),
-            (Way::Out, EpKind::Iso) => Part::Hears,
-            (Way::Out, _) => Part::Takes(Receiver::open(alloc, items, text.room)?),
+            (Way::Ctl, _) => Role::Controls(ControlEndpoint::open(alloc, desc.max, items)?),
+            (Way::In, EpKind::Iso) => Role::Streams(IsoSender::open(alloc, desc.multi, items)?),
+            (Way::In, _) => Role::Sends(Sender::open(alloc, items)?),
+            (Way::Out, EpKind::Iso) => Role::Hears,
+            (Way::Out, _) => Role::Takes(Receiver::open(alloc, items, text.room)?),
         };
         Ok(Endpoint { desc, part })
     }
@@ -71,7 +71,7 @@ impl Endpoint {
     pub fn begin(&mut self)
         ensures { self.new ≡ endpoint_begun self.old }
     {
-        if let Part::Streams(sender) = &mut self.part {
+        if let Role::Streams(sender) = &mut self.part {
             sender.begin();
         }
     }
@@ -83,11 +83,11 @@ impl Endpoint {
         ensures after { self.new ≡ endpoint_answered self.old ask.now out.now }
     {
         match &mut self.part {
-            Part::Sends(sender) => sender.answer(),
-            Part::Takes(receiver) => receiver.answer(speed, ask, out),
-            Part::Controls(control) => control.answer(ask, out),
-            Part::Streams(sender) => sender.answer(),
-            Part::Hears => Reply::Silent,
+            Role::Sends(sender) => sender.answer(),
+            Role::Takes(receiver) => receiver.answer(speed, ask, out),
+            Role::Controls(control) => control.answer(ask, out),
+            Role::Streams(sender) => sender.answer(),
+            Role::Hears => Reply::Silent,
         }
     }
 
@@ -96,8 +96,8 @@ impl Endpoint {
         ensures { self.new ≡ endpoint_acked self.old }
     {
         match &mut self.part {
-            Part::Sends(sender) => sender.acked(),
-            Part::Controls(control) => control.acked(),
+            Role::Sends(sender) => sender.acked(),
+            Role::Controls(control) => control.acked(),
             _ => {}
         }
     }
@@ -107,7 +107,7 @@ impl Endpoint {
         ensures { result.now ≡ part_taken self.now.part }
     {
         match &self.part {
-            Part::Takes(receiver) => receiver.taken(),
+            Role::Takes(receiver) => receiver.taken(),
             _ => &[],
         }
     }
@@ -117,7 +117,7 @@ impl Endpoint {
         ensures { result ≡ part_acted self.now.part }
     {
         match &self.part {
-            Part::Controls(control) => control.acted(),
+            Role::Controls(control) => control.acted(),
             _ => 0,
         }
     }

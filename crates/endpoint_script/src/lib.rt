@@ -18,7 +18,7 @@ mod sender;
 pub mod worked;
 
 pub use device::{Device, is_scripted};
-pub use endpoint::{Endpoint, Part};
+pub use endpoint::{Endpoint, Role};
 pub use rows::TakeRow;
 
 #[cfg(test)]

@@ -1,7 +1,7 @@
 ghost use Rattle.std.specs.Prelude.{◌≡◌, ◌+◌, ◌≤◌, nat_le, length, IfOk, IsTrue};
 ghost use Rattle.std.specs.List.{list_all};
 ghost use Rattle.endpoint_script.specs.Items.{is_short, rest_of, nak_given};
-ghost use Rattle.endpoint_script.specs.Taking.{taking_at, next_row, out_row, ping_row, has_room, is_ping, row_of, last_hand, took, after_row, HasRoomIfTaken, taking_reply, taking_answered};
+ghost use Rattle.endpoint_script.specs.Taking.{taking_at, next_row, out_row, ping_row, has_room, is_ping, taking_row, last_hand, took, after_taking_row, HasRoomIfTaken, taking_reply, taking_answered};
 
 use crate::item_list::ItemList;
 use crate::rows::TakeRow;
@@ -79,7 +79,7 @@ impl Receiver {
 
     fn row(&self, ask: &Ask, out: &[u8]) -> TakeRow
         requires { length out.now ≤ 1024 }
-        ensures row { result ≡ row_of self.now ask.now out.now }
+        ensures row { result ≡ taking_row self.now ask.now out.now }
         ensures room { HasRoomIfTaken result (has_room self.now (length out.now)) }
     {
         if is_ping(ask.pid) {
@@ -152,7 +152,7 @@ impl Receiver {
     fn take_last(&mut self, speed: Speed, out: &[u8]) -> Reply
         requires { IsTrue (has_room self.old (length out.now)) }
         ensures reply { result ≡ last_hand speed }
-        ensures after { self.new ≡ after_row TakeRow.TakesLast out.now self.old }
+        ensures after { self.new ≡ after_taking_row TakeRow.TakesLast out.now self.old }
     {
         self.take(out);
         self.items.advance();

@@ -1,4 +1,4 @@
--- Which lines are left out.
+-- Which events are left out, and what is told of the others.
 use Rattle.std.specs.Prelude.{ℕ, Bool, true, false, not, ◌&&◌, nat_le, List, [], Option, Some, None, if◌then◌else◌}
 use Rattle.std.specs.List.{list_any}
 use Rattle.usb_base.specs.declared.endpoints.EpName.{EpName}
@@ -7,12 +7,17 @@ use Rattle.hc_core.specs.declared.controller.HcStep.{HcStep}
 use Rattle.hc_core.specs.declared.controller.HcStep.TheVariants as steps
 use Rattle.driver_rows.specs.declared.rows.DriverStep.{DriverStep}
 use Rattle.driver_rows.specs.declared.rows.DriverStep.TheVariants as turns
-use Rattle.trace_lines.specs.declared.exchanges.Exchange.{Exchange}
+use Rattle.bus_exchanges.specs.declared.exchanges.Exchange.{Exchange}
+use Rattle.trace_lines.specs.declared.entries.Entry.{Entry}
 use Rattle.trace_lines.specs.declared.entries.Work.{Work}
 use Rattle.trace_lines.specs.declared.entries.Happening.{Happening}
 use Rattle.trace_lines.specs.declared.entries.Happening.TheVariants.{Began, Controller, Driver, Offered}
 use Rattle.trace_lines.specs.Lines.{entry_line}
+use Rattle.usb_capture.specs.Capture.{file_header}
 use Rattle.event_trace.specs.declared.choice.Choice.{Choice}
+use Rattle.event_trace.specs.declared.choice.Form.{Form}
+use Rattle.event_trace.specs.declared.choice.Form.TheVariants.{Lines, Capture}
+use Rattle.event_trace.specs.Captured.{entry_packets}
 use Rattle.event_trace.specs.Watched.{Told}
 
 -- an event of the controller that moves nothing
@@ -62,11 +67,21 @@ abbrev pub is_wanted : Option EpName → Happening → List Work → Bool
 is_wanted None h works = true
 is_wanted (Some name) h works = is_about name h works
 
-abbrev pub is_chosen : Choice → Told → Bool
-is_chosen c t =
-    nat_le c.from t.entry.microframe && (nat_le t.entry.microframe c.to
-    && (is_wanted c.endpoint t.entry.happening t.works && not (c.quiet && is_quiet t.entry.happening t.works)))
+abbrev pub is_chosen : Choice → Entry → List Work → Bool
+is_chosen c e works =
+    nat_le c.from e.microframe && (nat_le e.microframe c.to
+    && (is_wanted c.endpoint e.happening works && not (c.quiet && is_quiet e.happening works)))
 
--- its line, if it isn't left out
+-- what is told of it: a line, or its packets
+abbrev pub told_as : Form → Told → List ℕ
+told_as Lines t = entry_line t.entry t.works
+told_as Capture t = entry_packets t.entry t.sent t.got
+
+-- the same, if it isn't left out
 abbrev pub chosen_line : Choice → Told → List ℕ
-chosen_line c t = if is_chosen c t then entry_line t.entry t.works else []
+chosen_line c t = if is_chosen c t.entry t.works then told_as c.form t else []
+
+-- what stands before it all
+abbrev pub head_of : Form → List ℕ
+head_of Lines = []
+head_of Capture = file_header

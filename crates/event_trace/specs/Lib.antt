@@ -1,3 +1,4 @@
 pub mod Watched
+pub mod Captured
 pub mod Chosen
 pub mod Traced

@@ -5,13 +5,13 @@ use Rattle.trace_lines.specs.declared.entries.Entry.{Entry}
 use Rattle.trace_lines.specs.declared.entries.Work.{Work}
 use Rattle.event_trace.specs.declared.choice.Choice.{Choice}
 use Rattle.script_types.specs.declared.scripts.Script.{Script}
-use Rattle.event_trace.specs.Watched.{Watched, Told, IsEvent, IsOpening}
-use Rattle.event_trace.specs.Chosen.{chosen_line}
+use Rattle.event_trace.specs.Watched.{Watched, Told, HasBytes, IsEvent, IsOpening}
+use Rattle.event_trace.specs.Chosen.{chosen_line, head_of}
 
 -- these are told of the events that lead from one host to another, one of each
 abbrev pub Runs : Watched → List Told → Watched → Type 0
 Runs m [] n = m ≡ n
-Runs m (t ∷ ts) n = (between : Watched) × IsEvent m t.entry between × Runs between ts n
+Runs m (t ∷ ts) n = (between : Watched) × IsEvent m t.entry between × HasBytes t between × Runs between ts n
 
 -- The text grew by the lines of the events that lead from one host to another, one of each, in their order; but for those left out.
 pub record Traces (choice : Choice) (m n : Watched) (old new : List ℕ) : Type 0 where
@@ -24,16 +24,22 @@ pub record Puts (choice : Choice) (m : Watched) (old : List ℕ) (e : Entry) (la
   pub same : later ≡ choice
   pub host : n ≡ m
   pub works : List Work
-  pub text : new ≡ old ++ chosen_line choice (record { entry = e; works = works })
+  pub text : new ≡ old ++ chosen_line choice (record { entry = e; works = works; sent = m.recorded.sent; got = m.recorded.got })
 
 -- the text traces events, and the choice stays
 pub record Goes (choice : Choice) (m : Watched) (old : List ℕ) (later : Choice) (n : Watched) (new : List ℕ) : Type 0 where
   pub same : later ≡ choice
   pub traces : Traces choice m n old new
 
--- The text is that of the events that lead on from a host of this script before its first line.
-pub record IsTraceOf (s : Script) (choice : Choice) (text : List ℕ) : Type 0 where
+-- The lines are those of the events that lead on from a host of this script before its first line.
+pub record IsRunOf (s : Script) (choice : Choice) (lines : List ℕ) : Type 0 where
   pub opening : Watched
   pub end : Watched
   pub opened : IsOpening s opening
-  pub traces : Traces choice opening end [] text
+  pub traces : Traces choice opening end [] lines
+
+-- The text is what is told of such a run, behind what stands before it all.
+pub record IsTraceOf (s : Script) (choice : Choice) (text : List ℕ) : Type 0 where
+  pub lines : List ℕ
+  pub run : IsRunOf s choice lines
+  pub whole : text ≡ head_of choice.form ++ lines

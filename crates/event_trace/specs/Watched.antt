@@ -1,23 +1,26 @@
 -- A host whose wire is recorded, and its events with what is told of them.
 --     Watched               the host
 --     IsEvent m t n         one event or command leads from m to n, and t is told of it
-use Rattle.std.specs.Prelude.{◌≡◌, ℕ, ◌⊎◌, Bool, true, false, List, Option, Some, None, Result, Ok, Err, IfSome}
+use Rattle.std.specs.Prelude.{◌≡◌, ℕ, ◌-◌, ◌⊎◌, Bool, true, false, List, [], Option, Some, None, Result, Ok, Err, IfSome}
 use Rattle.usb_base.specs.declared.commands.Cmd.{Cmd}
 use Rattle.usb_base.specs.declared.reports.OfferError.{OfferError}
 use Rattle.word_mem.specs.Memory.{Mem, word_at}
 use Rattle.op_registers.specs.RegisterFile.{RegisterFile}
 use Rattle.hc_core.specs.declared.controller.HcStep.{HcStep}
 use Rattle.hc_core.specs.declared.controller.HcStep.TheVariants as steps
-use Rattle.hc_core.specs.Controller.{Control, Content, content, row_of, kind_of, HasRow, address_in_hand, either_address, new_control}
+use Rattle.hc_core.specs.Controller.{Control, Content, content, microframe_row, kind_of, HasRow, address_in_hand, either_address, time_left, new_control}
 use Rattle.driver_rows.specs.declared.rows.DriverStep.{DriverStep}
+use Rattle.driver_rows.specs.declared.rows.DriverRow.{DriverRow}
+use Rattle.driver_rows.specs.declared.rows.DriverRow.TheVariants as rows
 use Rattle.driver_rows.specs.DriverContent.{DriverContent}
 use Rattle.driver_rows.specs.declared.content.Reserve.{Reserve}
 use Rattle.driver_rows.specs.Opening.{opening}
 use Rattle.script_types.specs.declared.scripts.Script.{Script}
 use Rattle.usb_bus.specs.Bus.{opening_wired}
 use Rattle.driver_rows.specs.Offers.{Offered, offered}
-use Rattle.driver_rows.specs.Rows.{Parts, step_of, row_of as driver_row, after_row as after_driver}
+use Rattle.driver_rows.specs.Rows.{Parts, step_of, driver_row, after_driver_row as after_driver}
 use Rattle.bus_recorder.specs.Recorded.{Recorded, BeginsIn, TransactsIn, forgotten}
+use Rattle.bus_exchanges.specs.declared.exchanges.Exchange.{Exchange}
 use Rattle.trace_lines.specs.declared.entries.Entry.{Entry}
 use Rattle.trace_lines.specs.declared.entries.Work.{Work}
 use Rattle.trace_lines.specs.declared.entries.Happening.{Happening}
@@ -30,10 +33,17 @@ pub record Watched : Type 0 where
   pub driver : DriverContent
   pub recorded : Recorded
 
--- what is told of an event or command: its entry, and what translators did below
+-- what is told of an event or command: its entry, what translators did below, and the bytes of the data that went in a transaction
 pub record Told : Type 0 where
   pub entry : Entry
   pub works : List Work
+  pub sent : List ℕ
+  pub got : List ℕ
+
+-- the bytes are those that were recorded
+pub record HasBytes (t : Told) (n : Watched) : Type 0 where
+  pub sent : t.sent ≡ n.recorded.sent
+  pub got : t.got ≡ n.recorded.got
 
 -- ---- the controller
 
@@ -51,11 +61,16 @@ told_address steps.Skip before after = either_address before after
 told_address steps.End before after = None
 told_address steps.Idle before after = None
 
--- of its time the price and what is left are told
-pub record IsToldWith (step : HcStep) (before : Option ℕ) (n : Watched) (h : Happening) : Type 0 where
-  pub price : ℕ
-  pub left : ℕ
-  pub is : h ≡ Controller step (told_address step before (address_in_hand n.control)) n.recorded.exchange price left
+-- a transaction has cost what is gone of the time since
+abbrev pub price_in : Option Exchange → ℕ → ℕ → ℕ
+price_in None left later = 0
+price_in (Some x) left later = left - later
+
+-- what an event is told with that isn't a Begin, by the structure in hand and the time left before it
+abbrev pub told_with : HcStep → Option ℕ → ℕ → Watched → Happening
+told_with step before left n =
+    Controller step (told_address step before (address_in_hand n.control)) n.recorded.exchange
+    (price_in n.recorded.exchange left (time_left n.control)) (time_left n.control)
 
 abbrev pub is_begin : HcStep → Bool
 is_begin steps.Begin = true
@@ -67,23 +82,23 @@ is_begin steps.Skip = false
 is_begin steps.End = false
 is_begin steps.Idle = false
 
--- A Begin is told with whether the bus may be used, any other event with the structure that it is about and its transaction.
-pub record Tells (step : HcStep) (before : Option ℕ) (n : Watched) (h : Happening) : Type 0 where
+-- A Begin is told with whether the bus may be used, any other event with the structure that it is about, its transaction and the time.
+pub record Tells (step : HcStep) (before : Option ℕ) (left : ℕ) (n : Watched) (h : Happening) : Type 0 where
   pub begin : is_begin step ≡ true → h ≡ Began n.recorded.allowed
-  pub other : is_begin step ≡ false → IsToldWith step before n h
+  pub other : is_begin step ≡ false → h ≡ told_with step before left n
 
 -- the row of the controller's next event, over the recorded wire
 abbrev pub Steps : Watched → Watched → Type 0
-Steps m n = HasRow BeginsIn TransactsIn (row_of m.registers m.control) (content_of m) (forgotten m.recorded) (content_of n) n.recorded
+Steps m n = HasRow BeginsIn TransactsIn (microframe_row m.registers m.control) (content_of m) (forgotten m.recorded) (content_of n) n.recorded
 
 abbrev pub step_next : Watched → HcStep
-step_next m = kind_of (row_of m.registers m.control) (content_of m)
+step_next m = kind_of (microframe_row m.registers m.control) (content_of m)
 
 -- an event of the controller, by its row, over the recorded wire
 pub record IsControlled (m : Watched) (e : Entry) (n : Watched) : Type 0 where
   pub row : Steps m n
   pub driver : n.driver ≡ m.driver
-  pub tells : Tells (step_next m) (address_in_hand m.control) n e.happening
+  pub tells : Tells (step_next m) (address_in_hand m.control) (time_left m.control) n e.happening
   pub index : e.frame_index ≡ n.registers.frame_index
 
 -- ---- the driver
@@ -100,12 +115,19 @@ driven m =
 unfoldable pub driven_step : Watched → DriverStep
 driven_step m = step_of (driver_row (parts_of m))
 
--- an event of the driver, by its row; a word that is told of a store stands in memory
+-- The word that a store writes, with its address. That of an unlinking is the first that changed.
+abbrev pub IsStored : DriverRow → Option (ℕ × ℕ) → Watched → Type 0
+IsStored (rows.Store b at v) stored n = stored ≡ Some (at, v)
+IsStored (rows.Mend w) stored n = stored ≡ Some (w.at, w.value)
+IsStored (rows.Unlink t) stored n = IfSome stored (λ s. s.1 ≡ word_at n.memory s.0)
+IsStored _ stored n = stored ≡ None
+
+-- an event of the driver, by its row
 pub record IsDriven (m : Watched) (e : Entry) (n : Watched) : Type 0 where
   pub next : n ≡ driven m
   pub stored : Option (ℕ × ℕ)
   pub is : e.happening ≡ Driver (driven_step m) stored
-  pub word : IfSome stored (λ s. s.1 ≡ word_at n.memory s.0)
+  pub word : IsStored (driver_row (parts_of m)) stored n
   pub index : e.frame_index ≡ n.registers.frame_index
 
 -- ---- a command
@@ -136,7 +158,7 @@ pub record IsOpening (s : Script) (m : Watched) : Type 0 where
   pub reserve : Reserve
   pub parts : parts_of m ≡ opening s.words reserve
   pub control : m.control ≡ new_control
-  pub recorded : m.recorded ≡ record { wired = opening_wired s; exchange = None; allowed = true }
+  pub recorded : m.recorded ≡ record { wired = opening_wired s; exchange = None; sent = []; got = []; allowed = true }
 
 abbrev pub IsEvent : Watched → Entry → Watched → Type 0
 IsEvent m e n = IsControlled m e n ⊎ (IsDriven m e n ⊎ IsCommanded m e n)

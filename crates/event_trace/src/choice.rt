@@ -1,18 +1,33 @@
-//! Which lines are left out.
-ghost use Rattle.std.specs.Prelude.{◌≡◌, ◌++◌, IfOk};
+//! Which events are left out, and what is told of the others.
+ghost use Rattle.std.specs.Prelude.{◌≡◌, ◌≤◌, ◌++◌, IfOk, length};
 ghost use Rattle.std.specs.List.{list_any};
 ghost use Rattle.trace_lines.specs.declared.entries.Happening.TheVariants.{Began};
 ghost use Rattle.usb_bus.specs.Fates.{is_same_way, is_same_name};
-ghost use Rattle.event_trace.specs.Chosen.{is_idle, is_rest, is_quiet, is_exchange_of, is_work_of, is_about, is_wanted, is_chosen, chosen_line};
+ghost use Rattle.event_trace.specs.Chosen.{is_idle, is_rest, is_quiet, is_exchange_of, is_work_of, is_about, is_wanted, is_chosen, told_as, chosen_line, head_of};
 
+use crate::captured::put_entry_packets;
+use bus_exchanges::Exchange;
 use driver_rows::DriverStep;
 use hc_core::HcStep;
-use trace_lines::{Entry, Exchange, Happening, Work, put_entry};
+use std::alloc::Global;
+use trace_lines::{Entry, Happening, Work, put_entry};
 use usb_base::{EpName, Memory, Way};
+use usb_capture::file_header;
 
-/// Which lines are wanted.
+/// What is told of an event.
+#[derive(Clone, Copy, Debug, PartialEq, Eq)]
+pub enum Form {
+    /// A line.
+    Lines,
+    /// Its packets, behind their headers.
+    Capture,
+}
+
+/// Which events are told, and how.
 #[derive(Clone, Copy, Debug, PartialEq, Eq)]
 pub struct Choice {
+    /// What is told of them.
+    pub form: Form,
     /// Those of this endpoint alone: its transactions, and each Begin after which packets of it were below. None: all.
     pub endpoint: Option<EpName>,
     /// From this microframe on.
@@ -122,9 +137,9 @@ fn is_wanted(endpoint: &Option<EpName>, happening: &Happening, works: &[Work]) -
 impl Choice {
     ghost use Rattle.event_trace.specs.Watched.{Told};
 
-    /// Whether the line of an event or command is wanted.
+    /// Whether an event or command is told.
     fn is_chosen(&self, entry: &Entry, works: &[Work]) -> bool
-        ensures { result ≡ is_chosen self.now (record { entry = entry.now; works = works.now }) }
+        ensures { result ≡ is_chosen self.now entry.now works.now }
     {
         self.from <= entry.microframe
             && entry.microframe <= self.to
@@ -132,13 +147,51 @@ impl Choice {
             && !(self.quiet && is_quiet(&entry.happening, works))
     }
 
-    /// Appends the line of an event or command, if it is wanted.
-    pub fn put(&self, text: &mut Vec<u8>, entry: &Entry, works: &[Work]) -> Result<(), Memory>
-        ensures { IfOk result (λ _. text.new.items ≡ text.old.items ++ chosen_line self.now (record { entry = entry.now; works = works.now })) }
+    /// Appends what is told of an event or command.
+    fn put_told(
+        &self,
+        text: &mut Vec<u8>,
+        entry: &Entry,
+        works: &[Work],
+        sent: &[u8],
+        got: &[u8],
+    ) -> Result<(), Memory>
+        requires sent { length sent.now ≤ 1024 }
+        requires got { length got.now ≤ 1024 }
+        ensures { IfOk result (λ _. text.new.items ≡ text.old.items ++ told_as self.now.form (record { entry = entry.now; works = works.now; sent = sent.now; got = got.now })) }
+    {
+        match self.form {
+            Form::Lines => put_entry(text, entry, works),
+            Form::Capture => put_entry_packets(text, entry, sent, got),
+        }
+    }
+
+    /// Appends what is told of an event or command, if it is wanted. The bytes are those of the data that went in its transaction.
+    pub fn put(
+        &self,
+        text: &mut Vec<u8>,
+        entry: &Entry,
+        works: &[Work],
+        sent: &[u8],
+        got: &[u8],
+    ) -> Result<(), Memory>
+        requires sent { length sent.now ≤ 1024 }
+        requires got { length got.now ≤ 1024 }
+        ensures { IfOk result (λ _. text.new.items ≡ text.old.items ++ chosen_line self.now (record { entry = entry.now; works = works.now; sent = sent.now; got = got.now })) }
     {
         if self.is_chosen(entry, works) {
-            return put_entry(text, entry, works);
+            return self.put_told(text, entry, works, sent, got);
         }
         Ok(())
+    }
+
+    /// What stands before all that is told.
+    pub fn head(&self, alloc: Global) -> Result<Vec<u8>, Memory>
+        ensures { IfOk result (λ text. text.items ≡ head_of self.now.form) }
+    {
+        match self.form {
+            Form::Lines => Ok(Vec::new(alloc)),
+            Form::Capture => Ok(Vec::from_slice(alloc, &file_header())?),
+        }
     }
 }

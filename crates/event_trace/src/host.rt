@@ -1,28 +1,25 @@
 //! The host of a script, event by event, with what is told of each.
-ghost use Rattle.std.specs.Prelude.{◌≡◌, IfOk, IfSome, IfNone};
+ghost use Rattle.std.specs.Prelude.{◌≡◌, ◌≤◌, IfOk, IfSome, IfNone, length};
 ghost use Rattle.hc_core.specs.Controller.{either_address};
 ghost use Rattle.script_fits.specs.Fits.{IsFit, IsFitCommand};
-ghost use Rattle.event_trace.specs.Watched.{told_address, is_begin, IsToldWith, Tells, Steps, step_next, IsControlled, driven, driven_step, IsDriven, answer_to, refusal_of, with_offered, IsCommanded, IsOpening};
-ghost use Rattle.word_mem.specs.Memory.{word_at};
+ghost use Rattle.event_trace.specs.Watched.{told_address, is_begin, price_in, told_with, Tells, Steps, step_next, IsControlled, parts_of, driven, driven_step, IsStored, IsDriven, answer_to, refusal_of, with_offered, IsCommanded, IsOpening};
 ghost use Rattle.driver_rows.specs.Offers.{IsOffered};
+ghost use Rattle.driver_rows.specs.Rows.{driver_row};
 
-use crate::prices::price;
 use crate::reserve::{can_offer, reserve_of};
 use crate::shadow::Shadow;
+use bus_exchanges::Exchange;
 use bus_recorder::Recorder;
-use driver_rows::DriverStep;
+use driver_rows::{DriverRow, DriverStep};
 use ehci_driver::Driver;
 use hc_core::{Controller, HcStep};
 use op_registers::Registers;
 use script_types::Script;
 use std::alloc::Global;
 use std::marker::Model;
-use trace_lines::{Entry, Exchange, Happening, Work};
+use trace_lines::{Entry, Happening, Work};
 use usb_base::{Cmd, EpName, Fate, Memory, OfferError};
 use word_mem::WordMem;
-
-/// The time of a microframe, in picoseconds (USB 2.0, 8.4.3.1).
-const MICROFRAME: u64 = 125_000_000;
 
 /// A host with its recorded bus, at the end of some event.
 #[derive(Drop)]
@@ -36,7 +33,6 @@ pub struct Host {
     below: Vec<u64>,
     works: Vec<Work>,
     microframe: u32,
-    left: u64,
 }
 
 impl Model for Host {
@@ -70,6 +66,16 @@ fn told_address(step: HcStep, before: Option<u32>, after: Option<u32>) -> Option
         HcStep::Advance | HcStep::Transact | HcStep::WriteBack | HcStep::Skip => {
             either(before, after)
         }
+    }
+}
+
+/// What a transaction has cost, by the time left before it and behind it.
+fn price_in(exchange: &Option<Exchange>, time: u64, left: u64) -> u64
+    ensures { result ≡ price_in exchange.now time left }
+{
+    match exchange {
+        Some(_) => time.saturating_sub(left),
+        None => 0,
     }
 }
 
@@ -132,7 +138,6 @@ impl Host {
             below,
             works: Vec::new(alloc),
             microframe: 0,
-            left: 0,
         })
     }
 
@@ -153,14 +158,6 @@ impl Host {
         }
     }
 
-    /// The price of the transaction that was made for a structure; 0 where there was none.
-    fn price(&self, at: Option<u32>, exchange: &Option<Exchange>) -> u64 {
-        match exchange {
-            Some(x) => price(&self.mem, at.unwrap_or(0), &x.ask, x.sent),
-            None => 0,
-        }
-    }
-
     /// What a Begin is told with.
     fn began(&mut self) -> Happening
         ensures told { result ≡ Happening.Began self.old.recorded.allowed }
@@ -168,37 +165,33 @@ impl Host {
     {
         let allowed = self.wire.allowed();
         self.microframe = self.microframe.saturating_add(1);
-        self.left = if allowed { MICROFRAME } else { 0 };
         Happening::Began(allowed)
     }
 
-    /// What any other event of the controller is told with, by the structure in hand before it.
-    fn told(&mut self, step: HcStep, before: Option<u32>) -> Happening
-        ensures told { IsToldWith step before self.old result }
-        ensures same { self.new ≡ self.old }
+    /// What any other event of the controller is told with, by the structure in hand and the time left before it.
+    fn told(&self, step: HcStep, before: Option<u32>, time: u64) -> Happening
+        ensures { result ≡ told_with step before time self.now }
     {
-        let at = told_address(step, before, self.controller.held());
         let exchange = self.wire.exchange();
-        let price = self.price(at, &exchange);
-        self.left = self.left.saturating_sub(price);
+        let left = self.controller.left().0;
         Happening::Controller {
             step,
-            at,
+            at: told_address(step, before, self.controller.held()),
             exchange,
-            price,
-            left: self.left,
+            price: price_in(&exchange, time, left),
+            left,
         }
     }
 
-    /// What an event of the controller is told with, by the structure in hand before it.
-    fn happening(&mut self, step: HcStep, before: Option<u32>) -> Happening
-        ensures told { Tells step before self.old result }
+    /// What an event of the controller is told with, by the structure in hand and the time left before it.
+    fn happening(&mut self, step: HcStep, before: Option<u32>, time: u64) -> Happening
+        ensures told { Tells step before time self.old result }
         ensures same { self.new ≡ self.old }
     {
         if is_begin(step) {
             return self.began();
         }
-        self.told(step, before)
+        self.told(step, before, time)
     }
 
     /// The next event of the controller, over the recorded wire.
@@ -217,9 +210,10 @@ impl Host {
         ensures { IsControlled self.old result self.new }
     {
         let before = self.controller.held();
+        let time = self.controller.left().0;
         let step = self.step();
         self.works.clear();
-        let happening = self.happening(step, before);
+        let happening = self.happening(step, before, time);
         self.entry(happening)
     }
 
@@ -268,11 +262,20 @@ impl Host {
         Ok(())
     }
 
-    /// Keeps the words as they are, so that the next store of the driver is found.
-    pub fn look(&mut self)
+    /// Which row the next event of the driver is.
+    fn next_row(&self) -> DriverRow
+        ensures { result ≡ driver_row (parts_of self.now) }
+    {
+        self.driver.row(&self.registers, &self.mem)
+    }
+
+    /// Keeps the words as they are before a descriptor is unlinked, so that its store is found.
+    fn keep_words(&mut self, row: DriverRow)
         ensures { self.new ≡ self.old }
     {
-        self.shadow.copy(&self.mem);
+        if let DriverRow::Unlink(_) = row {
+            self.shadow.copy(&self.mem);
+        }
     }
 
     /// The next event of the driver.
@@ -284,12 +287,14 @@ impl Host {
         self.driver.step(&mut self.registers, &mut self.mem)
     }
 
-    /// The word that an event of the driver stored, where it isn't the one that stood there.
-    fn stored(&self, step: DriverStep) -> Option<(u32, u32)>
-        ensures { IfSome result (λ s. s.1 ≡ word_at self.now.memory s.0) }
+    /// The word that an event of the driver stored, by its row.
+    fn stored(&self, row: DriverRow) -> Option<(u32, u32)>
+        ensures { IsStored row result self.now }
     {
-        match step {
-            DriverStep::Store => self.shadow.changed(&self.mem),
+        match row {
+            DriverRow::Store(_, at, value) => Some((at, value)),
+            DriverRow::Mend(mend) => Some((mend.at, mend.value)),
+            DriverRow::Unlink(_) => self.shadow.changed(&self.mem),
             _ => None,
         }
     }
@@ -301,14 +306,32 @@ impl Host {
         self.works.clear();
     }
 
-    /// One event of the driver. The word that it stores is told where it isn't the one that stood there.
+    /// One event of the driver, with the word that it stores.
     pub fn driver_event(&mut self) -> Entry
         ensures { IsDriven self.old result self.new }
     {
         self.clear();
+        let row = self.next_row();
+        self.keep_words(row);
         let step = self.drive();
-        let stored = self.stored(step);
+        let stored = self.stored(row);
         self.entry(Happening::Driver { step, stored })
+    }
+
+    /// The bytes that the host sent in the transaction that was made last.
+    pub fn sent(&self) -> &[u8]
+        ensures bytes { result.now ≡ self.now.recorded.sent }
+        ensures few { length self.now.recorded.sent ≤ 1024 }
+    {
+        self.wire.sent()
+    }
+
+    /// The bytes of the data that came in answer in the transaction that was made last.
+    pub fn got(&self) -> &[u8]
+        ensures bytes { result.now ≡ self.now.recorded.got }
+        ensures few { length self.now.recorded.got ≤ 1024 }
+    {
+        self.wire.got()
     }
 
     /// Offers a command: why it was refused, if it was.

@@ -2,7 +2,7 @@
 ghost use Rattle.std.specs.Prelude.{◌≡◌, IfOk};
 ghost use Rattle.std.specs.List.{AllByRecursion};
 ghost use Rattle.script_fits.specs.Fits.{IsFit, IsFitLine, IsFitCommand};
-ghost use Rattle.event_trace.specs.Traced.{Puts, Goes, IsTraceOf};
+ghost use Rattle.event_trace.specs.Traced.{Puts, Goes, IsRunOf, IsTraceOf};
 
 use crate::choice::Choice;
 use crate::host::Host;
@@ -15,7 +15,7 @@ use usb_base::{Cmd, Memory};
 /// The most turns of one microframe.
 const MOST_TURNS: u32 = 1_048_576;
 
-/// A run under way: the host, the lines that are wanted, and their text so far.
+/// A run under way: the host, the events that are wanted, and their text so far.
 #[derive(Drop)]
 struct Run {
     host: Host,
@@ -42,7 +42,13 @@ impl Run {
     fn put(&mut self, entry: &Entry) -> Result<(), Memory>
         ensures { IfOk result (λ _. Puts self.old.choice self.old.host self.old.text.items entry.now self.new.choice self.new.host self.new.text.items) }
     {
-        self.choice.put(&mut self.text, entry, self.host.works())
+        self.choice.put(
+            &mut self.text,
+            entry,
+            self.host.works(),
+            self.host.sent(),
+            self.host.got(),
+        )
     }
 
     /// Notes what translators did below, where a microframe began.
@@ -73,7 +79,6 @@ impl Run {
     fn driver(&mut self) -> Result<(), Memory>
         ensures { IfOk result (λ _. Goes self.old.choice self.old.host self.old.text.items self.new.choice self.new.host self.new.text.items) }
     {
-        self.host.look();
         let entry = self.host.driver_event();
         self.put(&entry)
     }
@@ -184,14 +189,10 @@ impl Run {
     }
 }
 
-/// Runs a script, and gives the text of the lines that are wanted. A microframe that doesn't end within 1,048,576 turns ends the run.
-///
-/// # Errors
-///
-/// `Memory` where the host or the text finds no room.
-pub fn trace(alloc: Global, script: &Script, choice: &Choice) -> Result<Vec<u8>, Memory>
+/// What is told of the run of a script.
+fn run_of(alloc: Global, script: &Script, choice: &Choice) -> Result<Vec<u8>, Memory>
     requires { IsFit script.now }
-    ensures { IfOk result (λ text. IsTraceOf script.now choice.now text.items) }
+    ensures { IfOk result (λ lines. IsRunOf script.now choice.now lines.items) }
 {
     let mut run = Run {
         host: Host::build(alloc, script)?,
@@ -200,4 +201,19 @@ pub fn trace(alloc: Global, script: &Script, choice: &Choice) -> Result<Vec<u8>,
     };
     run.lines(script.lines.as_slice())?;
     Ok(run.text)
+}
+
+/// Runs a script, and gives what is told of the events that are wanted. A microframe that doesn't end within 1,048,576 turns ends the run.
+///
+/// # Errors
+///
+/// `Memory` where the host or the text finds no room.
+pub fn trace(alloc: Global, script: &Script, choice: &Choice) -> Result<Vec<u8>, Memory>
+    requires { IsFit script.now }
+    ensures { IfOk result (λ text. IsTraceOf script.now choice.now text.items) }
+{
+    let mut text = choice.head(alloc)?;
+    let lines = run_of(alloc, script, choice)?;
+    text.extend_from_slice(lines.as_slice())?;
+    Ok(text)
 }

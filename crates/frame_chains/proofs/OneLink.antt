@@ -1,14 +1,13 @@
 -- A queue head has one successor in all its frames.
 use Rattle.std.proofs.Common.{◌≡◌, ℕ, ◌%◌, ◌+◌, Bool, true, false, List, [], ◌∷◌, ◌++◌, map, nat_eq, if◌then◌else◌, refl, ap, sym, ◌∙◌, subst}
 use Rattle.std.specs.Prelude.{filter}
-use Rattle.std.specs.List.{list_any}
-use Rattle.std.proofs.lemmas.Bool.{eqb-true, false≢true}
+use Rattle.std.proofs.lemmas.Bool.{eqb-true}
 use Rattle.frame_chains.specs.declared.members.Descriptor.{Descriptor}
 use Rattle.frame_chains.specs.declared.members.QueueHead.{QueueHead}
 use Rattle.frame_chains.specs.declared.members.Member.TheVariants.{Each}
 use Rattle.frame_chains.specs.Chains.{of_lists, periods, is_period, frame_period, is_active, at_place, has_name, first_of, successor}
-use Rattle.frame_chains.proofs.Words.{Falls, queues_at, behind_in, all_in, later, periods_fall}
-use Rattle.frame_chains.proofs.Beside.{behind, next_is}
+use Rattle.frame_chains.proofs.Words.{Falls, queues_at, behind_in, all_in, periods_fall}
+use Rattle.frame_chains.proofs.Beside.{next_is}
 
 same_queues : (qs : List QueueHead) (p f g : ℕ) → f % frame_period p ≡ g % frame_period p → queues_at qs p f ≡ queues_at qs p g
 same_queues qs p f g e = ap (λ x. map Each (filter (at_place p x) qs)) e

@@ -15,7 +15,7 @@ use Rattle.frame_chains.specs.declared.members.Member.TheVariants.{Once, Each}
 use Rattle.frame_chains.specs.declared.members.Predecessor.{Predecessor}
 use Rattle.frame_chains.specs.declared.members.Predecessor.TheVariants.{Element, After}
 use Rattle.frame_chains.specs.Order.{frames}
-use Rattle.frame_chains.specs.Chains.{Schedule, of_lists, is_period, is_active, has_name, has_word, chain, predecessor, predecessors, successor}
+use Rattle.frame_chains.specs.Chains.{of_lists, is_period, is_active, has_name, has_word, chain, predecessor, predecessors, successor}
 use Rattle.frame_chains.specs.Classes.{class_words, periods_of}
 use Rattle.frame_chains.specs.Stores.{IsChain, stored, is_made, half_linked, half_unlinked}
 

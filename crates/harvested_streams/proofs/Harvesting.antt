@@ -16,7 +16,7 @@ use Rattle.qh_qtd.specs.declared.token.Token.{Token}
 use Rattle.qh_qtd.specs.declared.qtd.Qtd.{Qtd}
 use Rattle.qh_qtd.specs.Token.{token_at}
 use Rattle.qh_qtd.specs.Qtd.{qtd_read, qtd_at, qtd_bad}
-use Rattle.lent_structures.specs.Structures.{Element, Buffer, Parts, Tells}
+use Rattle.lent_structures.specs.Structures.{Element, Buffer, StructureSets, Tells}
 use Rattle.lent_structures.proofs.Reading.{element_read, bytes_part}
 use Rattle.queue_parts.specs.Sound.{element_pages, buffer_name, IsMember}
 use Rattle.ring_walk.specs.Hand.{Hand}
@@ -45,7 +45,7 @@ token_in_words : (ws : List ℕ) → (qtd_at ws).token ≡ token_at (get_or ws 2
 unfolding qtd_at
 token_in_words ws = refl
 
-pub token_read : (m : Mem) (parts : Parts) (n b : ℕ) (t : Qtd) → Tells m parts → parts n (32 * b) ≡ Some (Element t) → token_in m b ≡ t.token
+pub token_read : (m : Mem) (parts : StructureSets) (n b : ℕ) (t : Qtd) → Tells m parts → parts n (32 * b) ≡ Some (Element t) → token_in m b ≡ t.token
 token_read m parts n b t tells here =
     let same = there_is (reaches m (32 * b)) (words_at m (32 * b) 8) t (element_read m parts n (32 * b) t tells here) in
     sym (ap token_at (get_or-words_in m.words (32 * b) 8 2 (omega arith))) ∙ sym (token_in_words (words_at m (32 * b) 8)) ∙ ap (λ (z : Qtd). z.token) same
@@ -60,7 +60,7 @@ bytes_noted m t bs note k noted within =
     let z : 0 + i ≡ i = omega arith in
     ap (byte_at m) (sym (noted.places i (omega (arith, below, within)))) ∙ sym (get_or-map-range_with_len (λ (j : ℕ). byte_at m (buffer_address note j)) 0 k i i 0 below z))
 
-pub bytes_read : (m : Mem) (parts : Parts) (n : ℕ) (t : Qtd) (bs : List ℕ) (note : QtdNote) (k : ℕ) → Tells m parts → parts n (buffer_name t) ≡ Some (Buffer (element_pages t) t.offset bs) → IsNoted note t bs → k ≤ length bs → buffer_bytes m note k ≡ take k bs
+pub bytes_read : (m : Mem) (parts : StructureSets) (n : ℕ) (t : Qtd) (bs : List ℕ) (note : QtdNote) (k : ℕ) → Tells m parts → parts n (buffer_name t) ≡ Some (Buffer (element_pages t) t.offset bs) → IsNoted note t bs → k ≤ length bs → buffer_bytes m note k ≡ take k bs
 bytes_read m parts n t bs note k tells here noted within =
     let z : t.offset + 0 ≡ t.offset = omega arith in
     sym (bytes_noted m t bs note k noted within) ∙ ap (λ (i : ℕ). bytes_at m (element_pages t) i k) (sym z)
@@ -75,7 +75,7 @@ moved_by told left false is = let more = leb-false left told is in omega (arith,
 moved_is : (told left : ℕ) → moved_of told left ≡ told - left
 moved_is told left = moved_by told left (nat_le left told) refl
 
-pub done_harvested : (member : ℕ → Bool) (m : Mem) (parts : Parts) (hand : Hand) (n b : ℕ) (t : Qtd) (bs : List ℕ) (note : QtdNote) (x : List ℕ) → Tells m parts → IsMember member n (parts n)
+pub done_harvested : (member : ℕ → Bool) (m : Mem) (parts : StructureSets) (hand : Hand) (n b : ℕ) (t : Qtd) (bs : List ℕ) (note : QtdNote) (x : List ℕ) → Tells m parts → IsMember member n (parts n)
     → parts n (32 * b) ≡ Some (Element t) → parts n (buffer_name t) ≡ Some (Buffer (element_pages t) t.offset bs) → IsNoted note t bs → (token_in m b).active ≡ false
     → Told hand parts n (32 * b) x → buffer_bytes m note (moved_of note.told (token_in m b).total) ≡ x
 done_harvested member m parts hand n b t bs note x tells k here buffer noted off told =

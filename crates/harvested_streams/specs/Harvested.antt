@@ -7,7 +7,7 @@ use Rattle.std.specs.Prelude.{◌≡◌, ℕ, ◌+◌, ◌*◌, ◌<◌, ◌≤�
 use Rattle.word_mem.specs.Memory.{Mem}
 use Rattle.buffers.specs.Bytes.{place}
 use Rattle.qh_qtd.specs.declared.qtd.Qtd.{Qtd}
-use Rattle.lent_structures.specs.Structures.{Element, Buffer, Parts, Tells}
+use Rattle.lent_structures.specs.Structures.{Element, Buffer, StructureSets, Tells}
 use Rattle.queue_parts.specs.Sound.{element_pages, buffer_name, IsMember}
 use Rattle.ring_walk.specs.Hand.{Hand}
 use Rattle.ring_streams.specs.Told.{Told}
@@ -19,13 +19,13 @@ pub record IsNoted (note : QtdNote) (t : Qtd) (bs : List ℕ) : Type 0 where
   pub places : (j : ℕ) → j < length bs → buffer_address note j ≡ place (element_pages t) (t.offset + j)
 
 abbrev pub TokenIsRead : Type 0
-TokenIsRead = (m : Mem) (parts : Parts) (n b : ℕ) (t : Qtd) → Tells m parts → parts n (32 * b) ≡ Some (Element t) → token_in m b ≡ t.token
+TokenIsRead = (m : Mem) (parts : StructureSets) (n b : ℕ) (t : Qtd) → Tells m parts → parts n (32 * b) ≡ Some (Element t) → token_in m b ≡ t.token
 
 abbrev pub BytesAreRead : Type 0
-BytesAreRead = (m : Mem) (parts : Parts) (n : ℕ) (t : Qtd) (bs : List ℕ) (note : QtdNote) (k : ℕ) → Tells m parts
+BytesAreRead = (m : Mem) (parts : StructureSets) (n : ℕ) (t : Qtd) (bs : List ℕ) (note : QtdNote) (k : ℕ) → Tells m parts
     → parts n (buffer_name t) ≡ Some (Buffer (element_pages t) t.offset bs) → IsNoted note t bs → k ≤ length bs → buffer_bytes m note k ≡ take k bs
 
 abbrev pub DoneIsHarvested : Type 0
-DoneIsHarvested = (member : ℕ → Bool) (m : Mem) (parts : Parts) (hand : Hand) (n b : ℕ) (t : Qtd) (bs : List ℕ) (note : QtdNote) (x : List ℕ) → Tells m parts → IsMember member n (parts n)
+DoneIsHarvested = (member : ℕ → Bool) (m : Mem) (parts : StructureSets) (hand : Hand) (n b : ℕ) (t : Qtd) (bs : List ℕ) (note : QtdNote) (x : List ℕ) → Tells m parts → IsMember member n (parts n)
     → parts n (32 * b) ≡ Some (Element t) → parts n (buffer_name t) ≡ Some (Buffer (element_pages t) t.offset bs) → IsNoted note t bs → (token_in m b).active ≡ false
     → Told hand parts n (32 * b) x → buffer_bytes m note (moved_of note.told (token_in m b).total) ≡ x

@@ -1,5 +1,5 @@
 -- One event of the controller (EHCI 1.0, 4.1, 4.4 and 4.6 to 4.12). A microframe has a Begin, then its periodic part, then its
--- asynchronous part, then its End. Which row an event is, `row_of` tells.
+-- asynchronous part, then its End. Which row an event is, `microframe_row` tells.
 use Rattle.std.specs.Prelude.{◌≡◌, ℕ, ◌+◌, ◌*◌, ◌/◌, ◌%◌, Bool, true, false, ◌&&◌, not, Option, None, Some, List, if◌then◌else◌}
 use Rattle.usb_base.specs.declared.packets.Ask.{Ask}
 use Rattle.usb_base.specs.declared.packets.Reply.{Reply}
@@ -10,20 +10,20 @@ use Rattle.op_registers.specs.Events.{after_begin, after_fault, next_index}
 use Rattle.async_walk.specs.declared.state.WalkStep.{WalkStep}
 use Rattle.async_walk.specs.declared.state.WalkStep.TheVariants as walks
 use Rattle.async_walk.specs.Walk.{Walk, new_walk, begun, stopped, held_address}
-use Rattle.async_walk.specs.Rows.{Place, place, at_event, event_row, step_of, Leads}
+use Rattle.async_walk.specs.Rows.{WalkPlace, place, at_event, event_row, step_of, Leads}
 use Rattle.periodic_walk.specs.Walk.{Walk as FrameWalk, new_walk as new_frame, begun as begun_frame, stopped as stopped_frame, is_over, held_address as frame_address}
-use Rattle.periodic_walk.specs.Place.{Place as FramePlace, place as place_of_frame}
+use Rattle.periodic_walk.specs.Place.{FramePlace, place as place_of_frame}
 use Rattle.periodic_walk.specs.Rows.{step_of as step_of_frame, Leads as FrameLeads}
 use Rattle.hc_core.specs.declared.controller.HcStep.{HcStep}
 use Rattle.hc_core.specs.declared.controller.HcStep.TheVariants as steps
-use Rattle.hc_core.specs.declared.controller.Part.{Part}
-use Rattle.hc_core.specs.declared.controller.Part.TheVariants.{Over, Periodic, Asynchronous}
-use Rattle.hc_core.specs.declared.controller.Row.{Row}
-use Rattle.hc_core.specs.declared.controller.Row.TheVariants as rows
+use Rattle.hc_core.specs.declared.controller.MicroframePart.{MicroframePart}
+use Rattle.hc_core.specs.declared.controller.MicroframePart.TheVariants.{Over, Periodic, Asynchronous}
+use Rattle.hc_core.specs.declared.controller.ControllerRow.{ControllerRow}
+use Rattle.hc_core.specs.declared.controller.ControllerRow.TheVariants as rows
 
 -- the controller's own content
 pub record Control : Type 0 where
-  pub part : Part  -- where in the microframe it is
+  pub part : MicroframePart  -- where in the microframe it is
   pub frame : FrameWalk  -- the walk of the frame's chain
   pub walk : Walk  -- the walk of the ring
 
@@ -48,25 +48,34 @@ either_address None other = other
 abbrev pub address_in_hand : Control → Option ℕ
 address_in_hand c = either_address (frame_address c.frame.hand) (held_address c.walk.held)
 
+-- the time left in the microframe, in picoseconds: that of the walk that is under way
+abbrev pub left_in : MicroframePart → ℕ → ℕ → ℕ
+left_in Over frame ring = 0
+left_in Periodic frame ring = frame
+left_in Asynchronous frame ring = ring
+
+abbrev pub time_left : Control → ℕ
+time_left c = left_in c.part c.frame.left c.walk.left
+
 -- ---- which row it is
 
 -- by whether the asynchronous part is enabled: a disabled part is over at once
-abbrev pub enter_row : Bool → Row
+abbrev pub enter_row : Bool → ControllerRow
 enter_row true = rows.Enter
 enter_row false = rows.End
 
-abbrev pub ring_row : Bool → Row
+abbrev pub ring_row : Bool → ControllerRow
 ring_row true = rows.Go
 ring_row false = rows.End
 
 -- the periodic part goes on while it is enabled and its chain hasn't ended
-abbrev pub part_row : RegisterFile → FrameWalk → Part → Row
+abbrev pub part_row : RegisterFile → FrameWalk → MicroframePart → ControllerRow
 part_row r frame Over = rows.Begin
 part_row r frame Periodic = if r.periodic_enable && not (is_over frame) then rows.Frame else enter_row r.async_enable
 part_row r frame Asynchronous = ring_row r.async_enable
 
-abbrev pub row_of : RegisterFile → Control → Row
-row_of r c = if r.run then part_row r c.frame c.part else rows.Idle
+abbrev pub microframe_row : RegisterFile → Control → ControllerRow
+microframe_row r c = if r.run then part_row r c.frame c.part else rows.Idle
 
 -- ---- Begin (4.6)
 
@@ -119,7 +128,7 @@ hc_step walks.Ended = steps.End
 hc_step walks.Fault = steps.End
 
 -- then the microframe is over, else the part goes on
-abbrev pub part_after : Part → WalkStep → Part
+abbrev pub part_after : MicroframePart → WalkStep → MicroframePart
 part_after part walks.Fetch = part
 part_after part walks.Advance = part
 part_after part walks.Transact = part
@@ -136,7 +145,7 @@ abbrev pub frame_step : Content → WalkStep
 frame_step c = step_of_frame (frame_place c)
 
 -- the kind of an event of the ring's walk over these contents
-abbrev pub walk_place : Content → Place
+abbrev pub walk_place : Content → WalkPlace
 walk_place c = place c.control.walk c.registers c.memory
 
 abbrev pub walk_step : Content → WalkStep
@@ -165,7 +174,7 @@ abbrev pub Stays : {W : Type 0} → Content → W → Content → W → Type 0
 Stays expected before new after = (new ≡ expected) × (after ≡ before)
 
 -- what stands after a row
-abbrev pub HasRow : {W : Type 0} → (W → ℕ → Bool → W → Type 0) → (W → Ask → List ℕ → Reply → W → Type 0) → Row → Content → W → Content → W → Type 0
+abbrev pub HasRow : {W : Type 0} → (W → ℕ → Bool → W → Type 0) → (W → Ask → List ℕ → Reply → W → Type 0) → ControllerRow → Content → W → Content → W → Type 0
 HasRow begins transacts rows.Idle c before new after = Stays c before new after
 HasRow begins transacts rows.Begin c before new after = Begins begins c before new after
 HasRow begins transacts rows.Frame c before new after = WalksFrame transacts c before new after
@@ -174,7 +183,7 @@ HasRow begins transacts rows.Go c before new after = Walks transacts c before ne
 HasRow begins transacts rows.End c before new after = Stays (record c { control = ended c.control }) before new after
 
 -- the kind of the event
-abbrev pub kind_of : Row → Content → HcStep
+abbrev pub kind_of : ControllerRow → Content → HcStep
 kind_of rows.Idle c = steps.Idle
 kind_of rows.Begin c = steps.Begin
 kind_of rows.Frame c = hc_step (frame_step c)

@@ -1,7 +1,7 @@
 ghost use Rattle.std.specs.Prelude.{◌≡◌, ◌↔◌, false};
 ghost use Rattle.word_mem.specs.Access.{IsByController};
 ghost use Rattle.async_walk.specs.Causes.{AreRefusalsFaults};
-ghost use Rattle.hc_core.specs.Controller.{content, new_control, either_address, address_in_hand, row_of, Begins, ended, entered_control, hc_step, part_after, frame_step, WalksFrame, walk_step, Walks, HasRow, kind_of};
+ghost use Rattle.hc_core.specs.Controller.{content, new_control, either_address, address_in_hand, time_left, microframe_row, Begins, ended, entered_control, hc_step, part_after, frame_step, WalksFrame, walk_step, Walks, HasRow, kind_of};
 
 use async_walk::{AsyncState, WalkStep, step as walk_ring};
 use link_words::read;
@@ -37,7 +37,7 @@ pub enum HcStep {
 
 /// The part of the microframe that the controller is in.
 #[derive(Clone, Copy, Debug, PartialEq, Eq)]
-pub enum Part {
+pub enum MicroframePart {
     /// The microframe is over.
     Over,
     /// The chain of the frame is walked.
@@ -48,7 +48,7 @@ pub enum Part {
 
 /// The kind of an event, before it is made.
 #[derive(Clone, Copy, Debug, PartialEq, Eq)]
-pub enum Row {
+pub enum ControllerRow {
     /// The controller doesn't run.
     Idle,
     /// A microframe begins.
@@ -66,7 +66,7 @@ pub enum Row {
 /// The host controller: where in the microframe it is, and its walks of the frame's chain and of the ring.
 #[derive(Debug, Drop)]
 pub struct Controller {
-    part: Part,
+    part: MicroframePart,
     frame: PeriodicState,
     walk: AsyncState,
 }
@@ -93,11 +93,11 @@ fn kind(step: WalkStep) -> HcStep
 }
 
 /// Where in the microframe an event of a walk leaves the controller.
-fn part_of(part: Part, step: WalkStep) -> Part
+fn part_of(part: MicroframePart, step: WalkStep) -> MicroframePart
     ensures { result ≡ part_after part step }
 {
     match step {
-        WalkStep::Ended | WalkStep::Fault => Part::Over,
+        WalkStep::Ended | WalkStep::Fault => MicroframePart::Over,
         _ => part,
     }
 }
@@ -118,7 +118,7 @@ impl Controller {
         ensures { result ≡ new_control }
     {
         Controller {
-            part: Part::Over,
+            part: MicroframePart::Over,
             frame: PeriodicState::new(),
             walk: AsyncState::new(),
         }
@@ -131,19 +131,31 @@ impl Controller {
         either(self.frame.held(), self.walk.held())
     }
 
+    /// The time left in the microframe; none where it is over.
+    pub fn left(&self) -> Ps
+        ensures { result.0 ≡ time_left self.now }
+    {
+        match self.part {
+            MicroframePart::Over => Ps(0),
+            MicroframePart::Periodic => self.frame.left(),
+            MicroframePart::Asynchronous => self.walk.left(),
+        }
+    }
+
     /// The kind of the next event.
-    fn row(&self, regs: &Registers) -> Row
-        ensures { result ≡ row_of regs.now self.now }
+    fn row(&self, regs: &Registers) -> ControllerRow
+        ensures { result ≡ microframe_row regs.now self.now }
     {
         if !regs.running() {
-            return Row::Idle;
+            return ControllerRow::Idle;
         }
         match self.part {
-            Part::Over => Row::Begin,
-            Part::Periodic if regs.periodic_on() && !self.frame.is_over() => Row::Frame,
-            Part::Periodic if regs.async_on() => Row::Enter,
-            Part::Asynchronous if regs.async_on() => Row::Go,
-            Part::Periodic | Part::Asynchronous => Row::End,
+            MicroframePart::Over => ControllerRow::Begin,
+            MicroframePart::Periodic if regs.periodic_on() && !self.frame.is_over() =>
+                ControllerRow::Frame,
+            MicroframePart::Periodic if regs.async_on() => ControllerRow::Enter,
+            MicroframePart::Asynchronous if regs.async_on() => ControllerRow::Go,
+            MicroframePart::Periodic | MicroframePart::Asynchronous => ControllerRow::End,
         }
     }
 
@@ -158,7 +170,7 @@ impl Controller {
         let at = regs.periodic_list_base() + 4 * (index as u32 / 8 % 1024);
         match mem.hc_read(at) {
             Some(word) => {
-                self.part = Part::Periodic;
+                self.part = MicroframePart::Periodic;
                 self.frame.begin(read(word), index, Ps(left));
             }
             None => regs.fault(),
@@ -168,7 +180,7 @@ impl Controller {
     fn end(&mut self)
         ensures { self.new ≡ ended self.old }
     {
-        self.part = Part::Over;
+        self.part = MicroframePart::Over;
         self.frame.stop();
         self.walk.stop();
     }
@@ -176,7 +188,7 @@ impl Controller {
     fn enter(&mut self)
         ensures { self.new ≡ entered_control self.old }
     {
-        self.part = Part::Asynchronous;
+        self.part = MicroframePart::Asynchronous;
         self.frame.stop();
         self.walk.begin(self.frame.left());
     }
@@ -189,7 +201,7 @@ impl Controller {
         ensures refused { AreRefusalsFaults mem.old mem.new regs.new }
     {
         let step = walk_frame(&mut self.frame, regs, mem, wire);
-        self.part = part_of(Part::Periodic, step);
+        self.part = part_of(MicroframePart::Periodic, step);
         kind(step)
     }
 
@@ -201,7 +213,7 @@ impl Controller {
         ensures refused { AreRefusalsFaults mem.old mem.new regs.new }
     {
         let step = walk_ring(&mut self.walk, regs, mem, wire);
-        self.part = part_of(Part::Asynchronous, step);
+        self.part = part_of(MicroframePart::Asynchronous, step);
         kind(step)
     }
 
@@ -214,25 +226,25 @@ impl Controller {
     ///   stands and Run is 0.
     /// - Else an event of the walk of the frame's chain, and when that has ended one of the walk of the ring.
     pub fn step<W: Wire>(&mut self, regs: &mut Registers, mem: &mut WordMem, wire: &mut W) -> HcStep
-        ensures kind { result ≡ kind_of (row_of regs.old self.old) (content self.old regs.old mem.old) }
-        ensures row { HasRow W.begins W.transacts (row_of regs.old self.old) (content self.old regs.old mem.old) wire.old (content self.new regs.new mem.new) wire.new }
+        ensures kind { result ≡ kind_of (microframe_row regs.old self.old) (content self.old regs.old mem.old) }
+        ensures row { HasRow W.begins W.transacts (microframe_row regs.old self.old) (content self.old regs.old mem.old) wire.old (content self.new regs.new mem.new) wire.new }
         ensures idle { (result ≡ HcStep.Idle) ↔ (regs.old.run ≡ false) }
         ensures only_lent { IsByController mem.old mem.new }
         ensures refused { AreRefusalsFaults mem.old mem.new regs.new }
     {
         match self.row(regs) {
-            Row::Idle => HcStep::Idle,
-            Row::Begin => {
+            ControllerRow::Idle => HcStep::Idle,
+            ControllerRow::Begin => {
                 self.begin(regs, mem, wire);
                 HcStep::Begin
             }
-            Row::Frame => self.go_frame(regs, mem, wire),
-            Row::Enter => {
+            ControllerRow::Frame => self.go_frame(regs, mem, wire),
+            ControllerRow::Enter => {
                 self.enter();
                 self.go(regs, mem, wire)
             }
-            Row::Go => self.go(regs, mem, wire),
-            Row::End => {
+            ControllerRow::Go => self.go(regs, mem, wire),
+            ControllerRow::End => {
                 self.end();
                 HcStep::End
             }

@@ -6,4 +6,4 @@
 
 mod controller;
 
-pub use controller::{Controller, HcStep, Part, Row};
+pub use controller::{Controller, ControllerRow, HcStep, MicroframePart};

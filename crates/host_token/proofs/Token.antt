@@ -1,5 +1,5 @@
 -- A token that is written as a word reads back, and keeps its ranges with another host's side.
-use Rattle.std.proofs.Common.{◌≡◌, ◌<◌, ◌≤◌, Option, Some, None, Result, Ok, Err, slice_index, refl, ap, sym, ◌∙◌, arith, false}
+use Rattle.std.proofs.Common.{◌≡◌, ◌<◌, ◌≤◌, Option, Some, None, Result, Ok, Err, slice_index, refl, ap, sym, ◌∙◌, arith}
 use Rattle.link_words.specs.declared.refusal.Bad.{Bad}
 use Rattle.link_words.specs.Layout.{IsWordInRange, unless_bad}
 use Rattle.qh_qtd.specs.Blank.{blank_qtd}

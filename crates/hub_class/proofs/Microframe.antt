@@ -3,7 +3,7 @@ use Rattle.std.proofs.Common.{◌≡◌, ℕ, ◌-◌, Bool, true, false, List, 
 use Rattle.usb_base.specs.declared.packets.Ask.{Ask}
 use Rattle.usb_base.specs.declared.packets.Reply.{Reply}
 use Rattle.tt_keys.specs.Asks.{classic_of}
-use Rattle.tt_bulk.specs.Contents.{BufferContent, TwoBuffers, place_of, with_place}
+use Rattle.tt_bulk.specs.Contents.{BufferContent, TwoBuffers, buffer_content, with_place}
 use Rattle.tt_bulk.specs.Work.{Turn, Tries, Rests, after_turn, earlier_turn, later_turn, other, worked, Works as BuffersWork}
 use Rattle.tt_bulk.specs.Work as Buffered
 use Rattle.tt_pipeline.specs.declared.entry.Entry.{Entry}
@@ -15,10 +15,10 @@ use Rattle.hub_class.specs.Translating.{HubWorks}
 use Rattle.hub_class.specs.Microframe.{turn_hears, wire_tried, wire_half, buffers_worked, wire_of_buffers, wire_between, room_left, hub_worked, wire_left}
 
 -- the buffers after their turns depend on what was heard by the turns alone
-joined : (room : ℕ) (b : TwoBuffers) (e e' l l' : Reply) → after_turn (earlier_turn room b) e (place_of (other b.latest) b) ≡ after_turn (earlier_turn room b) e' (place_of (other b.latest) b) → after_turn (later_turn room b) l (place_of b.latest b) ≡ after_turn (later_turn room b) l' (place_of b.latest b) → worked room e l b ≡ worked room e' l' b
+joined : (room : ℕ) (b : TwoBuffers) (e e' l l' : Reply) → after_turn (earlier_turn room b) e (buffer_content (other b.latest) b) ≡ after_turn (earlier_turn room b) e' (buffer_content (other b.latest) b) → after_turn (later_turn room b) l (buffer_content b.latest b) ≡ after_turn (later_turn room b) l' (buffer_content b.latest b) → worked room e l b ≡ worked room e' l' b
 joined room b e e' l l' a c =
-    ap (λ (x : BufferContent). with_place (other b.latest) x (with_place b.latest (after_turn (later_turn room b) l (place_of b.latest b)) b)) a
-    ∙ ap (λ (x : BufferContent). with_place (other b.latest) (after_turn (earlier_turn room b) e' (place_of (other b.latest) b)) (with_place b.latest x b)) c
+    ap (λ (x : BufferContent). with_place (other b.latest) x (with_place b.latest (after_turn (later_turn room b) l (buffer_content b.latest b)) b)) a
+    ∙ ap (λ (x : BufferContent). with_place (other b.latest) (after_turn (earlier_turn room b) e' (buffer_content (other b.latest) b)) (with_place b.latest x b)) c
 
 module _ {W : Type 0} (transacts : W → Ask → List ℕ → Reply → W → Type 0) (reply_of : W → Ask → List ℕ → Reply) (wire_after : W → Ask → List ℕ → W) (is_function : (w : W) (ask : Ask) (out : List ℕ) (reply : Reply) (v : W) → transacts w ask out reply v → (reply ≡ reply_of w ask out) × (v ≡ wire_after w ask out)) where
   -- ---- the pipeline
@@ -58,8 +58,8 @@ module _ {W : Type 0} (transacts : W → Ask → List ℕ → Reply → W → Ty
   buffers_told room b before new after s =
       let first : Turn = earlier_turn room b in
       let second : Turn = later_turn room b in
-      let a = turn_told first (place_of (other b.latest) b) before s.between s.earlier s.asks_earlier in
-      let c = turn_told second (place_of b.latest b) s.between after s.later s.asks_later in
+      let a = turn_told first (buffer_content (other b.latest) b) before s.between s.earlier s.asks_earlier in
+      let c = turn_told second (buffer_content b.latest b) s.between after s.later s.asks_later in
       let w : s.between ≡ wire_half reply_of wire_after room b before = tried_told first before s.between s.earlier s.asks_earlier in
       let v : after ≡ wire_tried reply_of wire_after second s.between = tried_told second s.between after s.later s.asks_later in (
         s.becomes

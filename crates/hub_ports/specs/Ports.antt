@@ -1,5 +1,5 @@
 -- The ports of a hub: what changes of their bits, and what a request reads of them (USB 2.0, 11.24.2).
-use Rattle.std.specs.Prelude.{ℕ, ◌+◌, ◌*◌, ◌-◌, ◌==◌, Bool, true, false, ◌&&◌, ◌||◌, List, [], ◌∷◌, slice_get, slice_set, Option, Some, None, is_some, if◌then◌else◌}
+use Rattle.std.specs.Prelude.{ℕ, ◌+◌, ◌-◌, ◌==◌, Bool, true, false, ◌&&◌, ◌||◌, List, [], ◌∷◌, slice_get, slice_set, Option, Some, None, is_some, if◌then◌else◌}
 use Rattle.usb_base.specs.declared.packets.Speed.{Speed}
 use Rattle.usb_base.specs.declared.packets.Speed.TheVariants.{Low}
 use Rattle.hub_ports.specs.declared.port.Port.{Port}

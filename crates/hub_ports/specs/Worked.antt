@@ -1,9 +1,8 @@
 -- Setup bytes and ports for worked rows: a hub of four ports, at the first of which a full-speed device is attached.
-use Rattle.std.specs.Prelude.{ℕ, true, false, List, [], ◌∷◌, Option, Some, None, map}
-use Rattle.usb_base.specs.declared.packets.Speed.{Speed}
+use Rattle.std.specs.Prelude.{ℕ, List, [], ◌∷◌, Some, None}
 use Rattle.usb_base.specs.declared.packets.Speed.TheVariants.{Full, Low}
 use Rattle.hub_ports.specs.declared.port.Port.{Port}
-use Rattle.hub_ports.specs.Ports.{opened_port, changed_port}
+use Rattle.hub_ports.specs.Ports.{opened_port}
 
 -- type, request, and the low and high bytes of wValue, wIndex and wLength
 abbrev pub setup : ℕ → ℕ → ℕ → ℕ → ℕ → ℕ → List ℕ

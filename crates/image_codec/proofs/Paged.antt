@@ -1,5 +1,5 @@
 -- Writers to a page in front of a sink, called one after the other.
-use Rattle.std.proofs.Common.{◌≡◌, ◌≤◌, ℕ, List, [], ◌++◌, Option, Result, Ok, Err, ap, subst, ◌∙◌, append-nil, arith}
+use Rattle.std.proofs.Common.{◌≡◌, ℕ, List, [], ◌++◌, Option, Result, Ok, Err, ap, subst, ◌∙◌, append-nil, arith}
 use Rattle.usb_base.specs.Outside.{Prints, one_more}
 use Rattle.image_codec.specs.Printing.{Passes, PrintsOn}
 use Rattle.image_codec.proofs.Passing.{appends_flushed, passes_all, passes_from_empty, prefix_all, prefix_flushed, prefix_within}

@@ -1,7 +1,6 @@
 -- Pieces that pass through a page one after the other, and what a failure on the way leaves.
 use Rattle.std.proofs.Common.{◌≡◌, ℕ, ◌+◌, ◌≤◌, ◌<◌, min, List, [], ◌++◌, length, take, drop, get_or, take-append-drop, Option, sym, ap, ◌∙◌, append_assoc, append-nil, subst, Result, Ok, Err, arith}
-use Rattle.std.specs.Prelude.{OnOk, OnErr}
-use Rattle.std.proofs.lemmas.Result.{on_ok_weaker, on_err_weaker}
+use Rattle.std.specs.Prelude.{OnOk}
 use Rattle.std.specs.List.{flat_map}
 use Rattle.std.proofs.lemmas.Grind.{flat_map-append}
 use Rattle.std.proofs.lemmas.List.{take-append-le, take_min, take_more, drop_more, flat_map_more}

@@ -1,7 +1,7 @@
 -- Images of worked values.
 --     head_words link      the words of a high-speed queue head that is halted, with this word as its link
 --     head_line            the line of the first at 0
-use Rattle.std.specs.Prelude.{ℕ, List, [], ◌∷◌, ◌++◌, codes, replicate}
+use Rattle.std.specs.Prelude.{ℕ, List, [], ◌∷◌, ◌++◌, codes}
 use Rattle.image_codec.specs.Image.{field_bytes}
 use Rattle.image_codec.specs.Text.{line}
 

@@ -4,11 +4,11 @@ use Rattle.async_walk.specs.declared.state.WalkStep.{WalkStep}
 use Rattle.async_walk.specs.declared.state.WalkStep.TheVariants as walks
 use Rattle.op_registers.specs.RegisterFile.{RegisterFile}
 use Rattle.periodic_walk.specs.Walk.{Walk as FrameWalk, is_over}
-use Rattle.hc_core.specs.declared.controller.Part.{Part}
-use Rattle.hc_core.specs.declared.controller.Part.TheVariants.{Over, Periodic, Asynchronous}
-use Rattle.hc_core.specs.declared.controller.Row.{Row}
-use Rattle.hc_core.specs.declared.controller.Row.TheVariants as rows
-use Rattle.hc_core.specs.Controller.{Content, row_of, part_row, enter_row, ring_row, hc_step, frame_step, walk_step, entered, kind_of, HasRow}
+use Rattle.hc_core.specs.declared.controller.MicroframePart.{MicroframePart}
+use Rattle.hc_core.specs.declared.controller.MicroframePart.TheVariants.{Over, Periodic, Asynchronous}
+use Rattle.hc_core.specs.declared.controller.ControllerRow.{ControllerRow}
+use Rattle.hc_core.specs.declared.controller.ControllerRow.TheVariants as rows
+use Rattle.hc_core.specs.Controller.{Content, microframe_row, part_row, enter_row, ring_row, hc_step, frame_step, walk_step, entered, kind_of, HasRow}
 use Rattle.image_codec.specs.declared.image.Image.{Image}
 use Rattle.image_probe.specs.declared.probing.Probed.{Probed}
 use Rattle.image_probe.specs.Silence.{may_be_used, is_silent}
@@ -28,7 +28,7 @@ walk_counted walks.Skip = refl
 walk_counted walks.Ended = refl
 walk_counted walks.Fault = refl
 
-row_counted : (row : Row) (c : Content) → (row ≡ rows.Idle → ⊥) → counted (kind_of row c) ≡ 1
+row_counted : (row : ControllerRow) (c : Content) → (row ≡ rows.Idle → ⊥) → counted (kind_of row c) ≡ 1
 row_counted rows.Idle c busy = absurd (busy refl)
 row_counted rows.Begin c busy = refl
 row_counted rows.Frame c busy = walk_counted (frame_step c)
@@ -48,22 +48,22 @@ going : (async : Bool) → ring_row async ≡ rows.Idle → ⊥
 going true is = cc
 going false is = cc
 
-part_busy : (r : RegisterFile) (frame : FrameWalk) (part : Part) → part_row r frame part ≡ rows.Idle → ⊥
+part_busy : (r : RegisterFile) (frame : FrameWalk) (part : MicroframePart) → part_row r frame part ≡ rows.Idle → ⊥
 part_busy r frame Over is = cc
 part_busy r frame Periodic is = framing (r.periodic_enable && not (is_over frame)) r.async_enable is
 part_busy r frame Asynchronous is = going r.async_enable is
 
-runs : (b : Bool) (row : Row) → b ≡ true → (if b then row else rows.Idle) ≡ row
+runs : (b : Bool) (row : ControllerRow) → b ≡ true → (if b then row else rows.Idle) ≡ row
 runs true row is = refl
 runs false row is = absurd cc
 
-idles : (b : Bool) (row : Row) → b ≡ false → (if b then row else rows.Idle) ≡ rows.Idle
+idles : (b : Bool) (row : ControllerRow) → b ≡ false → (if b then row else rows.Idle) ≡ rows.Idle
 idles true row is = absurd cc
 idles false row is = refl
 
-step_counted : (c : Content) → c.registers.run ≡ true → counted (kind_of (row_of c.registers c.control) c) ≡ 1
+step_counted : (c : Content) → c.registers.run ≡ true → counted (kind_of (microframe_row c.registers c.control) c) ≡ 1
 step_counted c run =
-    row_counted (row_of c.registers c.control) c
+    row_counted (microframe_row c.registers c.control) c
     (λ idle. part_busy c.registers c.control.frame c.control.part (sym (runs c.registers.run (part_row c.registers c.control.frame c.control.part) run) ∙ idle))
 
 -- ---- after n events
@@ -89,9 +89,9 @@ first_once : (before after : ℕ) → before ≡ 0 → IsOnce before after → a
 first_once before after zero_before once =
     ⊎_elim (λ (same : after ≡ 0). omega (arith, same)) (λ (more : after ≡ 1). omega (arith, more)) (subst (λ (n : ℕ). IsOnce n after) zero_before once)
 
-runs_on : (n steps : ℕ) (old new : Content) → Runs n steps old → IsSilentEvent old new → Stands (n + 1) (steps + counted (kind_of (row_of old.registers old.control) old)) new
+runs_on : (n steps : ℕ) (old new : Content) → Runs n steps old → IsSilentEvent old new → Stands (n + 1) (steps + counted (kind_of (microframe_row old.registers old.control) old)) new
 runs_on n steps old new s e =
-    let one : counted (kind_of (row_of old.registers old.control) old) ≡ 1 = step_counted old s.run in
+    let one : counted (kind_of (microframe_row old.registers old.control) old) ≡ 1 = step_counted old s.run in
     let each : steps ≡ n = s.each in
     ⊎_elim
     (λ (c : GoesOn old.registers old.memory new.registers new.memory).
@@ -100,11 +100,11 @@ runs_on n steps old new s e =
     inr (record { run = c.run; error = c.error; foreign = first_once old.memory.foreign new.memory.foreign s.foreign c.count; few = omega (arith, one, each); some = omega (arith, one) }))
     (each_counts_once may_be_used is_silent old new e.before e.after e.event)
 
-stays_halted : (n steps : ℕ) (old new : Content) → Halted n steps old → IsSilentEvent old new → Stands (n + 1) (steps + counted (kind_of (row_of old.registers old.control) old)) new
+stays_halted : (n steps : ℕ) (old new : Content) → Halted n steps old → IsSilentEvent old new → Stands (n + 1) (steps + counted (kind_of (microframe_row old.registers old.control) old)) new
 stays_halted n steps old new s e =
-    let idle : row_of old.registers old.control ≡ rows.Idle = idles old.registers.run (part_row old.registers old.control.frame old.control.part) s.run in
-    let none_more : counted (kind_of (row_of old.registers old.control) old) ≡ 0 = ap (λ (row : Row). counted (kind_of row old)) idle in
-    let same : new ≡ old = (subst (λ (row : Row). HasRow may_be_used is_silent row old e.before new e.after) idle e.event).0 in
+    let idle : microframe_row old.registers old.control ≡ rows.Idle = idles old.registers.run (part_row old.registers old.control.frame old.control.part) s.run in
+    let none_more : counted (kind_of (microframe_row old.registers old.control) old) ≡ 0 = ap (λ (row : ControllerRow). counted (kind_of row old)) idle in
+    let same : new ≡ old = (subst (λ (row : ControllerRow). HasRow may_be_used is_silent row old e.before new e.after) idle e.event).0 in
     let few : steps ≤ n = s.few in
     let some : 1 ≤ steps = s.some in
     inr (record {

@@ -10,7 +10,7 @@ use Rattle.op_registers.specs.RegisterFile.{RegisterFile, reset_file}
 use Rattle.op_registers.specs.Table.{after_writes}
 use Rattle.hc_core.specs.declared.controller.HcStep.{HcStep}
 use Rattle.hc_core.specs.declared.controller.HcStep.TheVariants as steps
-use Rattle.hc_core.specs.Controller.{Content, content, new_control, row_of, kind_of}
+use Rattle.hc_core.specs.Controller.{Content, content, new_control, microframe_row, kind_of}
 use Rattle.image_codec.specs.declared.image.Image.{Image}
 use Rattle.image_probe.specs.declared.probing.Probed.{Probed}
 use Rattle.image_probe.specs.declared.silence.Silence.{Silence}
@@ -44,7 +44,7 @@ pub record IsSilentEvent (old : Content) (new : Content) : Type 0 where
 
 pub data Events (start : Content) : ℕ → ℕ → Content → Type 0 where
   none : Events start 0 0 start
-  next : (n steps : ℕ) (old new : Content) → Events start n steps old → IsSilentEvent old new → Events start (n + 1) (steps + counted (kind_of (row_of old.registers old.control) old)) new
+  next : (n steps : ℕ) (old new : Content) → Events start n steps old → IsSilentEvent old new → Events start (n + 1) (steps + counted (kind_of (microframe_row old.registers old.control) old)) new
 
 -- ---- what is told of them
 

@@ -4,7 +4,7 @@ use Rattle.usb_base.specs.declared.commands.Cmd.{Cmd}
 use Rattle.word_mem.specs.Memory.{Mem}
 use Rattle.driver_rows.specs.DriverContent.{DriverContent}
 use Rattle.driver_rows.specs.Offers.{Offered, offered, IsOffered}
-use Rattle.driver_rows.specs.Rows.{Parts, row_of, after_row}
+use Rattle.driver_rows.specs.Rows.{Parts, driver_row, after_driver_row}
 use Rattle.run_owners.proofs.Commands.{accepted_for_a_reason}
 use Rattle.run_owners.proofs.Laws.{command_owned, event_owned}
 use Rattle.lent_runs.proofs.Offering.{accepted_lent}
@@ -39,7 +39,7 @@ command_in_place d m cmd o room old is =
       fixed = accepted_fixed d m o why s.stands s.shape s.owners old.fixed;
     }
 
-pub event_in_place : (p : Parts) → IsInPlace p.memory p.driver → IsInPlace (after_row (row_of p) p).memory (after_row (row_of p) p).driver
+pub event_in_place : (p : Parts) → IsInPlace p.memory p.driver → IsInPlace (after_driver_row (driver_row p) p).memory (after_driver_row (driver_row p) p).driver
 event_in_place p old =
     let s = old.sound in
     let good = event_good p (record { stands = s.stands; shape = s.shape }) in

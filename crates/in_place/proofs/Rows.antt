@@ -9,10 +9,10 @@ use Rattle.driver_rows.specs.declared.content.Endpoint.{Endpoint}
 use Rattle.driver_rows.specs.declared.content.Transfer.{Transfer}
 use Rattle.driver_rows.specs.declared.content.Command.{Command}
 use Rattle.driver_rows.specs.declared.content.Command.TheVariants as unfinished
-use Rattle.driver_rows.specs.declared.rows.Row.{Row}
-use Rattle.driver_rows.specs.declared.rows.Row.TheVariants as rows
+use Rattle.driver_rows.specs.declared.rows.DriverRow.{DriverRow}
+use Rattle.driver_rows.specs.declared.rows.DriverRow.TheVariants as rows
 use Rattle.driver_rows.specs.DriverContent.{DriverContent}
-use Rattle.driver_rows.specs.Rows.{Parts, advance, framed_notes, with_notes, placement_at, framed_by, linked_by, freed_by, descriptor_leaving, row_of, after_row, after_transfer, after_endpoint, after_unlink, after_descriptor, after_placed, after_removed}
+use Rattle.driver_rows.specs.Rows.{Parts, advance, framed_notes, with_notes, placement_at, framed_by, linked_by, freed_by, descriptor_leaving, driver_row, after_driver_row, after_transfer, after_endpoint, after_unlink, after_descriptor, after_placed, after_removed}
 use Rattle.std.specs.Prelude.{take, drop}
 use Rattle.lent_runs.proofs.Books.{advance_book, harvest_book}
 use Rattle.ring_members.proofs.Freed.{LeavesRest, rest_qtds, rest_endpoint, rest_descriptor, rest_placed}
@@ -72,7 +72,7 @@ unlink_good : (p : Parts) (t : ℕ) (o : Option Transfer) → GoodParts p → Go
 unlink_good p t None good = good
 unlink_good p t (Some x) good = link_good p.driver.book p.memory (next_store (descriptor_leaving p.driver x)) good
 
-row_good : (row : Row) (p : Parts) → GoodParts p → GoodParts (after_row row p)
+row_good : (row : DriverRow) (p : Parts) → GoodParts p → GoodParts (after_driver_row row p)
 row_good rows.Lend p good =
     let h = lend_taken (holding p.driver.book p.memory) in
     goes_good (record p.driver { book = h.book }) h.memory (lend_good (holding p.driver.book p.memory) good)
@@ -95,5 +95,5 @@ row_good (rows.Harvest e t found) p good =
     subst (λ (k : Book). IsGood k p.memory) (sym (harvest_book p.driver p.memory e t found (slice_get p.driver.endpoints e) (slice_get p.driver.transfers t)).book) good
 row_good rows.Rest p good = good
 
-pub event_good : (p : Parts) → IsGood p.driver.book p.memory → IsGood (after_row (row_of p) p).driver.book (after_row (row_of p) p).memory
-event_good p good = row_good (row_of p) p good
+pub event_good : (p : Parts) → IsGood p.driver.book p.memory → IsGood (after_driver_row (driver_row p) p).driver.book (after_driver_row (driver_row p) p).memory
+event_good p good = row_good (driver_row p) p good

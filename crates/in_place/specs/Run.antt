@@ -15,7 +15,7 @@ use Rattle.word_mem.specs.declared.blocks.BlockState.TheVariants.{Free}
 use Rattle.op_registers.specs.RegisterFile.{RegisterFile}
 use Rattle.driver_rows.specs.DriverContent.{DriverContent}
 use Rattle.driver_rows.specs.Offers.{Offered, offered, IsOffered}
-use Rattle.driver_rows.specs.Rows.{Parts, row_of, after_row}
+use Rattle.driver_rows.specs.Rows.{Parts, driver_row, after_driver_row}
 use Rattle.queue_head_words.specs.Overlay.{HasQueueHead}
 use Rattle.in_place.specs.InPlace.{IsInPlace}
 
@@ -36,7 +36,7 @@ accepted p (Err why) = p
 
 abbrev pub moved : Parts → Move → Parts
 moved p (Offer cmd) = accepted p (offered p.driver p.memory cmd)
-moved p Event = after_row (row_of p) p
+moved p Event = after_driver_row (driver_row p) p
 moved p (Controller registers memory) = record p { registers = registers; memory = memory }
 
 abbrev pub IsAllowed : Parts → Move → Type 0

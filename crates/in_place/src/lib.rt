@@ -14,7 +14,7 @@ ghost use Rattle.driver_rows.specs.declared.content.Reserve.{Reserve};
 ghost use Rattle.driver_rows.specs.DriverContent.{DriverContent};
 ghost use Rattle.driver_rows.specs.Offers.{Offered, offered, IsOffered};
 ghost use Rattle.driver_rows.specs.Opening.{opening};
-ghost use Rattle.driver_rows.specs.Rows.{Parts, row_of, after_row};
+ghost use Rattle.driver_rows.specs.Rows.{Parts, driver_row, after_driver_row};
 ghost use Rattle.in_place.specs.InPlace.{IsInPlace};
 ghost use Rattle.in_place.specs.Run.{IsElsewhere, Move, StaysInPlace};
 
@@ -30,7 +30,7 @@ pub fn commands_keep_all_in_place()
 
 /// Each event of the driver does.
 pub fn events_keep_all_in_place()
-    ensures { (p : Parts) → IsInPlace p.memory p.driver → IsInPlace (after_row (row_of p) p).memory (after_row (row_of p) p).driver }
+    ensures { (p : Parts) → IsInPlace p.memory p.driver → IsInPlace (after_driver_row (driver_row p) p).memory (after_driver_row (driver_row p) p).driver }
 {}
 
 /// And so does what the controller writes elsewhere.

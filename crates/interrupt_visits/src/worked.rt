@@ -1,7 +1,7 @@
 //! Worked rows of what a visit makes of an interrupt queue head, which the check computes.
 ghost use Rattle.std.specs.Prelude.{◌≡◌, [], true, false, Some};
 ghost use Rattle.usb_base.specs.declared.endpoints.EndCause.TheVariants as causes;
-ghost use Rattle.usb_base.specs.declared.packets.Part.TheVariants.{All};
+ghost use Rattle.usb_base.specs.declared.packets.DataPart.TheVariants.{All};
 ghost use Rattle.usb_base.specs.declared.packets.Pid.TheVariants as pids;
 ghost use Rattle.usb_base.specs.declared.packets.Reply.TheVariants.{Silent, Hand};
 ghost use Rattle.usb_base.specs.declared.packets.Split.TheVariants.{Plain, Start, Complete};

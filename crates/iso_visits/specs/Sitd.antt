@@ -11,8 +11,8 @@ use Rattle.usb_base.specs.declared.packets.Ask.{Ask}
 use Rattle.usb_base.specs.declared.packets.Dir.{Dir}
 use Rattle.usb_base.specs.declared.packets.Dir.TheVariants as Directions
 use Rattle.usb_base.specs.declared.packets.EpKind.TheVariants.{Iso}
-use Rattle.usb_base.specs.declared.packets.Part.{Part}
-use Rattle.usb_base.specs.declared.packets.Part.TheVariants.{All, Begin, Middle, End}
+use Rattle.usb_base.specs.declared.packets.DataPart.{DataPart}
+use Rattle.usb_base.specs.declared.packets.DataPart.TheVariants.{All, Begin, Middle, End}
 use Rattle.usb_base.specs.declared.packets.Pid.{Pid}
 use Rattle.usb_base.specs.declared.packets.Pid.TheVariants.{In, Out, Data0, Mdata, Nyet, Err}
 use Rattle.usb_base.specs.declared.packets.Reply.{Reply}
@@ -73,8 +73,8 @@ sitd_turn u v = turn_at v.active (sitd_missed u v) (comes u v)
 -- ---- the transaction
 
 -- the transaction position (3.4.4)
-abbrev pub part_of : ℕ → Part
-part_of tp = if tp == 0 then All else if tp == 1 then Begin else if tp == 2 then Middle else End
+abbrev pub sent_part : ℕ → DataPart
+sent_part tp = if tp == 0 then All else if tp == 1 then Begin else if tp == 2 then Middle else End
 
 -- a part has at most 188 bytes, as many as a full-speed bus moves in a microframe (USB 2.0, 11.18.4)
 abbrev pub part_bytes : Sitd → ℕ
@@ -102,7 +102,7 @@ sitd_in v =
     else sitd_with (sitd_ask v (Start v.hub v.port All) In) Directions.In 0 0
 
 abbrev pub sitd_out : Sitd → IsoTransaction
-sitd_out v = sitd_with (sitd_ask v (Start v.hub v.port (part_of v.tp)) Out) Directions.Out (part_bytes v) (part_bytes v)
+sitd_out v = sitd_with (sitd_ask v (Start v.hub v.port (sent_part v.tp)) Out) Directions.Out (part_bytes v) (part_bytes v)
 
 abbrev pub sitd_transaction : Sitd → IsoTransaction
 sitd_transaction v = if v.dir_in then sitd_in v else sitd_out v

@@ -1,11 +1,11 @@
 ghost use Rattle.std.specs.Prelude.{◌≡◌, ◌<◌, ◌≤◌};
 ghost use Rattle.itd_sitd.specs.Sitd.{IsSitdInRange};
-ghost use Rattle.iso_visits.specs.Sitd.{IsSitdHeld, marked_mask, is_begun, sitd_missed, in_comes, out_comes, comes, sitd_turn, part_of, part_bytes, sitd_ask, sitd_in, sitd_out, sitd_transaction, heard_data as data_heard, heard_nyet, split_heard, heard_outcome, after_split_heard, marked as with_mark, after_complete, after_start, next_position, after_part, heard_by, in_after, sitd_after, in_outcome, sitd_outcome, sitd_copy, missed_sitd, missed_copy};
+ghost use Rattle.iso_visits.specs.Sitd.{IsSitdHeld, marked_mask, is_begun, sitd_missed, in_comes, out_comes, comes, sitd_turn, sent_part, part_bytes, sitd_ask, sitd_in, sitd_out, sitd_transaction, heard_data as data_heard, heard_nyet, split_heard, heard_outcome, after_split_heard, marked as with_mark, after_complete, after_start, next_position, after_part, heard_by, in_after, sitd_after, in_outcome, sitd_outcome, sitd_copy, missed_sitd, missed_copy};
 
 use crate::held::{HeldSitd, IsoTransaction, SitdTurn, SplitHeard, SplitOutcome};
 use frame_masks::{has, is_first, is_last, lacks, with};
 use itd_sitd::Sitd;
-use usb_base::{Ask, DevAddr, Dir, EpKind, EpNum, Part, Pid, Reply, Speed, Split, cost};
+use usb_base::{Ask, DataPart, DevAddr, Dir, EpKind, EpNum, Pid, Reply, Speed, Split, cost};
 
 /// The mask whose microframes are marked as done.
 fn mask(sitd: &Sitd) -> u8
@@ -82,14 +82,14 @@ pub fn turn(number: u8, sitd: &Sitd) -> SitdTurn
 }
 
 /// The part that a transaction position names (3.4.4).
-fn part(tp: u8) -> Part
-    ensures { result ≡ part_of tp }
+fn part(tp: u8) -> DataPart
+    ensures { result ≡ sent_part tp }
 {
     match tp {
-        0 => Part::All,
-        1 => Part::Begin,
-        2 => Part::Middle,
-        _ => Part::End,
+        0 => DataPart::All,
+        1 => DataPart::Begin,
+        2 => DataPart::Middle,
+        _ => DataPart::End,
     }
 }
 
@@ -118,7 +118,7 @@ fn ask(sitd: &Sitd, split: Split, pid: Pid) -> Ask
     }
 }
 
-fn start(sitd: &Sitd, part: Part) -> Split
+fn start(sitd: &Sitd, part: DataPart) -> Split
     requires { IsSitdInRange sitd.now }
     ensures { result ≡ Split.Start sitd.now.hub sitd.now.port part }
 {
@@ -151,7 +151,7 @@ fn next_in(sitd: &Sitd) -> IsoTransaction
         };
     }
     IsoTransaction {
-        ask: ask(sitd, start(sitd, Part::All), Pid::In),
+        ask: ask(sitd, start(sitd, DataPart::All), Pid::In),
         bytes: 0,
         price: cost(Speed::High, EpKind::Iso, Dir::In, 0),
     }

@@ -1,6 +1,6 @@
 //! Worked rows of what a visit makes of an isochronous descriptor, which the check computes.
 ghost use Rattle.std.specs.Prelude.{◌≡◌, ◌∷◌, [], true, false, None, Some};
-ghost use Rattle.usb_base.specs.declared.packets.Part.TheVariants.{All, Begin, End};
+ghost use Rattle.usb_base.specs.declared.packets.DataPart.TheVariants.{All, Begin, End};
 ghost use Rattle.usb_base.specs.declared.packets.Pid.TheVariants as pids;
 ghost use Rattle.usb_base.specs.declared.packets.Reply.TheVariants.{Silent, Bytes, Hand};
 ghost use Rattle.usb_base.specs.declared.packets.Split.TheVariants.{Start, Complete};

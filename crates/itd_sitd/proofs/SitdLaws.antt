@@ -3,7 +3,7 @@ use Rattle.std.proofs.Common.{◌≡◌, ℕ, ◌^◌, ◌<◌, List, length, So
 use Rattle.std.specs.Prelude.{slice_index, slice_set, IfOk, IfErr}
 use Rattle.link_words.specs.declared.refusal.Bad.{Bad}
 use Rattle.link_words.specs.declared.fields.LinkBits.{LinkBits}
-use Rattle.link_words.specs.Layout.{word_of, places_of, first_bad_bit, unless_bad}
+use Rattle.link_words.specs.Layout.{word_of, ranges_of, first_bad_bit, unless_bad}
 use Rattle.link_words.specs.Fields.{link_rows}
 use Rattle.link_words.specs.Links.{link_of, link_read}
 use Rattle.link_words.proofs.Tables.{Says, words_of-says, says-words_of, unless_bad-ok, unless_bad-err}
@@ -12,7 +12,7 @@ use Rattle.itd_sitd.specs.declared.sitd.Sitd.{Sitd}
 use Rattle.itd_sitd.specs.Sitd.{offset_rows, sitd_layout, sitd_words, sitd_bad, sitd_at, sitd_read, IsSitdInRange}
 
 -- a word with no reserved bit
-pub offset_free : (w : ℕ) → first_bad_bit (places_of offset_rows) w ≡ None
+pub offset_free : (w : ℕ) → first_bad_bit (ranges_of offset_rows) w ≡ None
 unfolding first_bad_bit
 offset_free w = refl
 

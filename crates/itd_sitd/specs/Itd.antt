@@ -1,7 +1,7 @@
 -- The isochronous transfer descriptor (EHCI 1.0, 3.3), word by word.
 use Rattle.std.specs.Prelude.{◌≡◌, ℕ, List, [], ◌∷◌, length, Option, Result, slice_index, slice_index_or}
 use Rattle.link_words.specs.declared.refusal.Bad.{Bad}
-use Rattle.link_words.specs.Layout.{Row, Number, Flag, Gap, Free, Above, Zero, within, words_of, IsInRange, bits, is_set, first_bad, unless_bad}
+use Rattle.link_words.specs.Layout.{BitRow, Number, Flag, Gap, Free, Above, Zero, within, words_of, IsInRange, bits, is_set, first_bad, unless_bad}
 use Rattle.link_words.specs.Fields.{link_rows, link_at, page_rows}
 use Rattle.itd_sitd.specs.declared.itd.Itd.{Itd}
 use Rattle.itd_sitd.specs.declared.slot.ItdSlot.{ItdSlot}
@@ -12,26 +12,26 @@ abbrev pub slot_of : ℕ → Itd → ItdSlot
 slot_of k v = slice_index_or v.slots k no_slot
 
 -- the buffer page pointers that have other fields beside them (3.3.3)
-abbrev pub endpoint_rows : List (Row Itd)
+abbrev pub endpoint_rows : List (BitRow Itd)
 endpoint_rows =
     Number 31 12 Free (λ v. v.page0) ∷
     Number 11 8 Free (λ v. v.ep) ∷
     Gap 7 7 ∷
     Number 6 0 Free (λ v. v.addr) ∷ []
 
-abbrev pub packet_rows : List (Row Itd)
+abbrev pub packet_rows : List (BitRow Itd)
 packet_rows =
     Number 31 12 Free (λ v. v.page1) ∷
     Flag 11 (λ v. v.dir_in) ∷
     Number 10 0 (Above 0x400) (λ v. v.max) ∷ []
 
-abbrev pub multi_rows : List (Row Itd)
+abbrev pub multi_rows : List (BitRow Itd)
 multi_rows =
     Number 31 12 Free (λ v. v.page2) ∷
     Gap 11 2 ∷
     Number 1 0 Zero (λ v. v.multi) ∷ []
 
-abbrev pub itd_layout : List (List (Row Itd))
+abbrev pub itd_layout : List (List (BitRow Itd))
 itd_layout =
     within (λ v. v.link) link_rows ∷
     within (slot_of 0) slot_rows ∷

@@ -1,12 +1,12 @@
 -- The split-transaction isochronous transfer descriptor (EHCI 1.0, 3.4), word by word.
 use Rattle.std.specs.Prelude.{ℕ, List, [], ◌∷◌, Option, Result, slice_index}
 use Rattle.link_words.specs.declared.refusal.Bad.{Bad}
-use Rattle.link_words.specs.Layout.{Row, Number, Flag, Gap, Free, within, words_of, IsInRange, bits, is_set, first_bad, unless_bad}
+use Rattle.link_words.specs.Layout.{BitRow, Number, Flag, Gap, Free, within, words_of, IsInRange, bits, is_set, first_bad, unless_bad}
 use Rattle.link_words.specs.Fields.{link_rows, link_at, short_link_rows, short_link_at}
 use Rattle.itd_sitd.specs.declared.sitd.Sitd.{Sitd}
 
 -- endpoint capabilities and characteristics (3.4.2)
-abbrev pub endpoint_rows : List (Row Sitd)
+abbrev pub endpoint_rows : List (BitRow Sitd)
 endpoint_rows =
     Flag 31 (λ v. v.dir_in) ∷
     Number 30 24 Free (λ v. v.port) ∷
@@ -18,14 +18,14 @@ endpoint_rows =
     Number 6 0 Free (λ v. v.addr) ∷ []
 
 -- the microframe schedule (3.4.2)
-abbrev pub mask_rows : List (Row Sitd)
+abbrev pub mask_rows : List (BitRow Sitd)
 mask_rows =
     Gap 31 16 ∷
     Number 15 8 Free (λ v. v.cmask) ∷
     Number 7 0 Free (λ v. v.smask) ∷ []
 
 -- the transfer state (3.4.3)
-abbrev pub state_rows : List (Row Sitd)
+abbrev pub state_rows : List (BitRow Sitd)
 state_rows =
     Flag 31 (λ v. v.ioc) ∷
     Flag 30 (λ v. v.page_select) ∷
@@ -42,19 +42,19 @@ state_rows =
     Gap 0 0 ∷ []
 
 -- the buffer pointers (3.4.4): transaction position 0 is all, 1 begin, 2 mid, 3 end
-abbrev pub offset_rows : List (Row Sitd)
+abbrev pub offset_rows : List (BitRow Sitd)
 offset_rows =
     Number 31 12 Free (λ v. v.page0) ∷
     Number 11 0 Free (λ v. v.offset) ∷ []
 
-abbrev pub position_rows : List (Row Sitd)
+abbrev pub position_rows : List (BitRow Sitd)
 position_rows =
     Number 31 12 Free (λ v. v.page1) ∷
     Gap 11 5 ∷
     Number 4 3 Free (λ v. v.tp) ∷
     Number 2 0 Free (λ v. v.t_count) ∷ []
 
-abbrev pub sitd_layout : List (List (Row Sitd))
+abbrev pub sitd_layout : List (List (BitRow Sitd))
 sitd_layout =
     within (λ v. v.link) link_rows ∷
     endpoint_rows ∷

@@ -1,9 +1,9 @@
 -- The status and control of one microframe of an isochronous transfer descriptor (EHCI 1.0, 3.3.2).
 use Rattle.std.specs.Prelude.{ℕ, false, List, [], ◌∷◌}
-use Rattle.link_words.specs.Layout.{Row, Number, Flag, Free, Above, word_of, bits, is_set}
+use Rattle.link_words.specs.Layout.{BitRow, Number, Flag, Free, Above, word_of, bits, is_set}
 use Rattle.itd_sitd.specs.declared.slot.ItdSlot.{ItdSlot}
 
-abbrev pub slot_rows : List (Row ItdSlot)
+abbrev pub slot_rows : List (BitRow ItdSlot)
 slot_rows =
     Flag 31 (λ s. s.active) ∷
     Flag 30 (λ s. s.buffer_error) ∷

@@ -38,7 +38,7 @@ pub struct Itd {
 
 impl Itd {
     ghost use Rattle.std.specs.Prelude.{IfOk, IfErr};
-    ghost use Rattle.link_words.specs.Layout.{IsWordInRange, first_bad_bit, places_of, word_of};
+    ghost use Rattle.link_words.specs.Layout.{IsWordInRange, first_bad_bit, ranges_of, word_of};
     ghost use Rattle.itd_sitd.specs.Itd.{itd_read, itd_words, itd_bad, itd_at, IsItdInRange, endpoint_rows, packet_rows, multi_rows};
 
     /// The descriptor of sixteen words, or their first reserved bit that is set.
@@ -109,14 +109,14 @@ impl Itd {
 
     #[tactic(auto, unfolding(link_words::specs::Layout::first_bad_bit))]
     fn endpoint_bad_bit(word: u32) -> Option<u8>
-        ensures { result ≡ first_bad_bit (places_of endpoint_rows) word }
+        ensures { result ≡ first_bad_bit (ranges_of endpoint_rows) word }
     {
         first_set(word, 7, 7)
     }
 
     #[tactic(auto, unfolding(link_words::specs::Layout::first_bad_bit))]
     fn packet_bad_bit(word: u32) -> Option<u8>
-        ensures { result ≡ first_bad_bit (places_of packet_rows) word }
+        ensures { result ≡ first_bad_bit (ranges_of packet_rows) word }
     {
         if field(word, 10, 0) > 0x400 {
             return Some(0);
@@ -126,7 +126,7 @@ impl Itd {
 
     #[tactic(auto, unfolding(link_words::specs::Layout::first_bad_bit))]
     fn multi_bad_bit(word: u32) -> Option<u8>
-        ensures { result ≡ first_bad_bit (places_of multi_rows) word }
+        ensures { result ≡ first_bad_bit (ranges_of multi_rows) word }
     {
         if field(word, 1, 0) == 0 {
             return Some(0);

@@ -59,7 +59,7 @@ pub struct Sitd {
 
 impl Sitd {
     ghost use Rattle.std.specs.Prelude.{IfOk, IfErr};
-    ghost use Rattle.link_words.specs.Layout.{IsWordInRange, first_bad_bit, places_of, word_of};
+    ghost use Rattle.link_words.specs.Layout.{IsWordInRange, first_bad_bit, ranges_of, word_of};
     ghost use Rattle.itd_sitd.specs.Sitd.{sitd_read, sitd_words, sitd_bad, sitd_at, IsSitdInRange, endpoint_rows, mask_rows, state_rows, offset_rows, position_rows};
 
     /// The descriptor of seven words, or their first reserved bit that is set.
@@ -149,7 +149,7 @@ impl Sitd {
 
     #[tactic(auto, unfolding(link_words::specs::Layout::first_bad_bit))]
     fn endpoint_bad_bit(word: u32) -> Option<u8>
-        ensures { result ≡ first_bad_bit (places_of endpoint_rows) word }
+        ensures { result ≡ first_bad_bit (ranges_of endpoint_rows) word }
     {
         if let Some(bit) = first_set(word, 7, 7) {
             return Some(bit);
@@ -162,14 +162,14 @@ impl Sitd {
 
     #[tactic(auto, unfolding(link_words::specs::Layout::first_bad_bit))]
     fn mask_bad_bit(word: u32) -> Option<u8>
-        ensures { result ≡ first_bad_bit (places_of mask_rows) word }
+        ensures { result ≡ first_bad_bit (ranges_of mask_rows) word }
     {
         first_set(word, 31, 16)
     }
 
     #[tactic(auto, unfolding(link_words::specs::Layout::first_bad_bit))]
     fn state_bad_bit(word: u32) -> Option<u8>
-        ensures { result ≡ first_bad_bit (places_of state_rows) word }
+        ensures { result ≡ first_bad_bit (ranges_of state_rows) word }
     {
         if let Some(bit) = first_set(word, 0, 0) {
             return Some(bit);
@@ -179,7 +179,7 @@ impl Sitd {
 
     #[tactic(auto, unfolding(link_words::specs::Layout::first_bad_bit))]
     fn position_bad_bit(word: u32) -> Option<u8>
-        ensures { result ≡ first_bad_bit (places_of position_rows) word }
+        ensures { result ≡ first_bad_bit (ranges_of position_rows) word }
     {
         first_set(word, 11, 5)
     }

@@ -24,7 +24,7 @@ pub struct ItdSlot {
 }
 
 impl ItdSlot {
-    ghost use Rattle.link_words.specs.Layout.{IsWordInRange, first_bad_bit, places_of};
+    ghost use Rattle.link_words.specs.Layout.{IsWordInRange, first_bad_bit, ranges_of};
     ghost use Rattle.itd_sitd.specs.Slot.{slot_rows, slot_at, slot_word};
 
     /// The fields of a word, reserved values too.
@@ -47,7 +47,7 @@ impl ItdSlot {
     /// The lowest bit of the page of a word, where it is reserved.
     #[tactic(auto, unfolding(link_words::specs::Layout::first_bad_bit))]
     pub fn bad_bit(word: u32) -> Option<u8>
-        ensures { result ≡ first_bad_bit (places_of slot_rows) word }
+        ensures { result ≡ first_bad_bit (ranges_of slot_rows) word }
     {
         if field(word, 14, 12) > 6 {
             return Some(12);

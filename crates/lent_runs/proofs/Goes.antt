@@ -14,10 +14,10 @@ use Rattle.driver_rows.specs.declared.content.Endpoint.{Endpoint}
 use Rattle.driver_rows.specs.declared.content.Transfer.{Transfer}
 use Rattle.driver_rows.specs.declared.content.Command.{Command}
 use Rattle.driver_rows.specs.declared.content.Command.TheVariants as unfinished
-use Rattle.driver_rows.specs.declared.rows.Row.{Row}
-use Rattle.driver_rows.specs.declared.rows.Row.TheVariants as rows
+use Rattle.driver_rows.specs.declared.rows.DriverRow.{DriverRow}
+use Rattle.driver_rows.specs.declared.rows.DriverRow.TheVariants as rows
 use Rattle.driver_rows.specs.DriverContent.{DriverContent}
-use Rattle.driver_rows.specs.Rows.{Parts, store_order, events_of, links, command_row, link_row, next_row, finished, linked_on, advanced_by, advance, framed_notes, with_notes, placement_at, framed_by, linked_by, row_of, row_for, after_row, after_transfer, after_endpoint, after_descriptor, after_placed, after_removed, after_unlink, freed_by, free_qtds, free_endpoint, free_descriptor, free_placed}
+use Rattle.driver_rows.specs.Rows.{Parts, store_order, events_of, links, command_row, link_row, next_row, finished, linked_on, advanced_by, advance, framed_notes, with_notes, placement_at, framed_by, linked_by, driver_row, row_for, after_driver_row, after_transfer, after_endpoint, after_descriptor, after_placed, after_removed, after_unlink, freed_by, free_qtds, free_endpoint, free_descriptor, free_placed}
 use Rattle.run_owners.specs.Due.{IsDue}
 use Rattle.run_owners.proofs.Reasons.{each_is_due}
 use Rattle.lent_runs.specs.Lent.{begins_in, is_lending, still_lends, AreLent}
@@ -61,26 +61,26 @@ freed_lent d e h g was is frees none old = record {
 
 -- ---- the command's own events
 
-drop_get : (es : List Row) (i : ℕ) (row : Row) → slice_get es i ≡ Some row → drop i es ≡ row ∷ drop (suc i) es
+drop_get : (es : List DriverRow) (i : ℕ) (row : DriverRow) → slice_get es i ≡ Some row → drop i es ≡ row ∷ drop (suc i) es
 drop_get [] i row there = absurd (cc)
 drop_get (e ∷ es) zero row there = ap (λ r. r ∷ es) (same_Some e row there)
 drop_get (e ∷ es) (suc i) row there = drop_get es i row there
 
-drop_past : (es : List Row) (i : ℕ) → length es ≤ i → drop i es ≡ []
+drop_past : (es : List DriverRow) (i : ℕ) → length es ≤ i → drop i es ≡ []
 drop_past [] zero past = refl
 drop_past [] (suc i) past = refl
 drop_past (e ∷ es) zero past = absurd (omega (arith, past))
 drop_past (e ∷ es) (suc i) past = drop_past es i (omega (arith, past))
 
 -- what is still to be lent, once a row that lends nothing was made
-still_same : (c : Command) (made : ℕ) (row : Row) → slice_get (events_of c) made ≡ Some row → is_lending row ≡ false → still_lends (Some c) made ≡ still_lends (Some c) (suc made)
+still_same : (c : Command) (made : ℕ) (row : DriverRow) → slice_get (events_of c) made ≡ Some row → is_lending row ≡ false → still_lends (Some c) made ≡ still_lends (Some c) (suc made)
 still_same c made row there off =
     ap (list_any is_lending) (drop_get (events_of c) made row there) ∙ ap (λ b. b || list_any is_lending (drop (suc made) (events_of c))) off
 
 none_past : (c : Command) (made : ℕ) → length (events_of c) ≤ made → still_lends (Some c) made ≡ false
 none_past c made past = ap (list_any is_lending) (drop_past (events_of c) made past)
 
-went_lent : (d : DriverContent) (c : Command) (row : Row) → d.command ≡ Some c → slice_get (events_of c) d.made ≡ Some row → is_lending row ≡ false → AreLent d → AreLent (advance d)
+went_lent : (d : DriverContent) (c : Command) (row : DriverRow) → d.command ≡ Some c → slice_get (events_of c) d.made ≡ Some row → is_lending row ≡ false → AreLent d → AreLent (advance d)
 went_lent d c row is there off old = subst (λ (o : Option Command). AreLent (advanced_by d o)) (sym is) (at (nat_lt (suc d.made) (length (events_of c))) refl)
   where
     at : (b : Bool) → nat_lt (suc d.made) (length (events_of c)) ≡ b → AreLent (cond b (record d { made = suc d.made }) (cond (links c) (linked_on d c) (finished d c)))
@@ -94,7 +94,7 @@ went_lent d c row is there off old = subst (λ (o : Option Command). AreLent (ad
         (old.lent (ap (λ (o : Option Command). still_lends o d.made) is ∙ still_same c d.made row there off ∙ none_past c (suc d.made) past)) old
 
 -- a command has no other rows than these
-is_own : Row → Bool
+is_own : DriverRow → Bool
 is_own rows.Lend = true
 is_own (rows.Store b at v) = true
 is_own rows.Frames = true
@@ -111,12 +111,12 @@ is_own (rows.ReadFrame n) = false
 is_own (rows.Harvest e t found) = false
 is_own rows.Rest = false
 
-mapped_own : (f g : ℕ → ℕ) (b : ℕ) (o : Option ℕ) (row : Row) → option_map (λ i. rows.Store b (f i) (g i)) o ≡ Some row → is_own row ≡ true
+mapped_own : (f g : ℕ → ℕ) (b : ℕ) (o : Option ℕ) (row : DriverRow) → option_map (λ i. rows.Store b (f i) (g i)) o ≡ Some row → is_own row ≡ true
 unfolding is_own
 mapped_own f g b None row e = absurd (cc)
 mapped_own f g b (Some i) row e = ap is_own (sym (same_Some (rows.Store b (f i) (g i)) row e))
 
-are_own : (c : Command) (i : ℕ) (row : Row) → slice_get (events_of c) i ≡ Some row → is_own row ≡ true
+are_own : (c : Command) (i : ℕ) (row : DriverRow) → slice_get (events_of c) i ≡ Some row → is_own row ≡ true
 unfolding is_own
 are_own (unfinished.Open q) zero row e = ap is_own (sym (same_Some rows.Lend row e))
 are_own (unfinished.Open q) (suc zero) row e = ap is_own (sym (same_Some _ row e))
@@ -148,7 +148,7 @@ lends d m old =
     let e = record d { book = (lend_taken (holding d.book m)).book } in
     lent_now (advance e) (holding d.book m) old.kept (advance_book e)
 
-own_lent : (row : Row) (p : Parts) (c : Command) → p.driver.command ≡ Some c → slice_get (events_of c) p.driver.made ≡ Some row → is_own row ≡ true → AreLent p.driver → AreLent (after_row row p).driver
+own_lent : (row : DriverRow) (p : Parts) (c : Command) → p.driver.command ≡ Some c → slice_get (events_of c) p.driver.made ≡ Some row → is_own row ≡ true → AreLent p.driver → AreLent (after_driver_row row p).driver
 unfolding is_own
 own_lent rows.Lend p c is there own old = lends p.driver p.memory old
 own_lent (rows.Store b at v) p c is there own old = went_lent p.driver c (rows.Store b at v) is there refl old
@@ -172,19 +172,19 @@ both_true : (a b : Bool) → a && b ≡ true → b ≡ true
 both_true true b e = e
 both_true false b e = absurd (false≢true e)
 
-command_lent : (p : Parts) (c : Command) → p.driver.command ≡ Some c → AreLent p.driver → AreLent (after_row (next_row p.driver c) p).driver
+command_lent : (p : Parts) (c : Command) → p.driver.command ≡ Some c → AreLent p.driver → AreLent (after_driver_row (next_row p.driver c) p).driver
 command_lent p c is old = at (links c && nat_le (length (events_of c)) p.driver.made) refl
   where
-    stored : (o : Option Store) → length (events_of c) ≤ p.driver.made → AreLent (after_row (link_row o) p).driver
+    stored : (o : Option Store) → length (events_of c) ≤ p.driver.made → AreLent (after_driver_row (link_row o) p).driver
     stored None past = old
     stored (Some s) past =
         settled p.driver (advance p.driver) (advance_book p.driver) (old.lent (ap (λ (o : Option Command). still_lends o p.driver.made) is ∙ none_past c p.driver.made past)) old
 
-    own : (o : Option Row) → slice_get (events_of c) p.driver.made ≡ o → AreLent (after_row (unwrap_or o rows.Rest) p).driver
+    own : (o : Option DriverRow) → slice_get (events_of c) p.driver.made ≡ o → AreLent (after_driver_row (unwrap_or o rows.Rest) p).driver
     own None there = old
     own (Some row) there = own_lent row p c is there (are_own c p.driver.made row there) old
 
-    at : (b : Bool) → links c && nat_le (length (events_of c)) p.driver.made ≡ b → AreLent (after_row (cond b (link_row (next_store p.driver.periodic.list)) (command_row c p.driver.made)) p).driver
+    at : (b : Bool) → links c && nat_le (length (events_of c)) p.driver.made ≡ b → AreLent (after_driver_row (cond b (link_row (next_store p.driver.periodic.list)) (command_row c p.driver.made)) p).driver
     at true e =
         let le = both_true (links c) (nat_le (length (events_of c)) p.driver.made) e in
         stored (next_store p.driver.periodic.list) (grind (arith, nat_tests))
@@ -230,7 +230,7 @@ unlinked_lent p t (Some x) old = record { kept = old.kept; lent = old.lent }
 not_both : (p : Parts) (c : Command) → p.driver.command ≡ Some c → p.driver.command ≡ None → ⊥
 not_both p c is idle = let e : Some c ≡ None = sym is ∙ idle in cc
 
-idle_lent : (row : Row) (p : Parts) → IsDue p row → p.driver.command ≡ None → AreLent p.driver → AreLent (after_row row p).driver
+idle_lent : (row : DriverRow) (p : Parts) → IsDue p row → p.driver.command ≡ None → AreLent p.driver → AreLent (after_driver_row row p).driver
 idle_lent rows.Lend p due idle old = absurd (not_both p due.command due.unfinished idle)
 idle_lent (rows.Store b at v) p (inl due) idle old = absurd (not_both p due.command due.unfinished idle)
 idle_lent (rows.Store b at v) p (inr due) idle old = absurd (not_both p due.command due.unfinished idle)
@@ -246,12 +246,12 @@ idle_lent rows.RingBell p due idle old = record { kept = old.kept; lent = old.le
 idle_lent (rows.ReadStatus heard) p due idle old = record { kept = old.kept; lent = old.lent }
 idle_lent (rows.ReadFrame n) p due idle old = record { kept = old.kept; lent = old.lent }
 idle_lent (rows.Harvest e t found) p due idle old =
-    same_lent p.driver (after_row (rows.Harvest e t found) p).driver (harvest_book p.driver p.memory e t found (slice_get p.driver.endpoints e) (slice_get p.driver.transfers t)) old
+    same_lent p.driver (after_driver_row (rows.Harvest e t found) p).driver (harvest_book p.driver p.memory e t found (slice_get p.driver.endpoints e) (slice_get p.driver.transfers t)) old
 idle_lent rows.Rest p due idle old = old
 
-by_command : (p : Parts) (o : Option Command) → p.driver.command ≡ o → AreLent p.driver → AreLent (after_row (row_for p o) p).driver
+by_command : (p : Parts) (o : Option Command) → p.driver.command ≡ o → AreLent p.driver → AreLent (after_driver_row (row_for p o) p).driver
 by_command p (Some c) is old = command_lent p c is old
 by_command p None is old = idle_lent (row_for p None) p (subst (λ (o : Option Command). IsDue p (row_for p o)) is (each_is_due p)) is old
 
-pub event_lent : (p : Parts) → AreLent p.driver → AreLent (after_row (row_of p) p).driver
+pub event_lent : (p : Parts) → AreLent p.driver → AreLent (after_driver_row (driver_row p) p).driver
 event_lent p old = by_command p p.driver.command refl old

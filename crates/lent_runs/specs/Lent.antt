@@ -13,8 +13,8 @@ use Rattle.run_book.specs.Book.{slot_of}
 use Rattle.run_book.specs.declared.slots.Slot.{Slot}
 use Rattle.run_book.specs.declared.slots.Slot.TheVariants.{Empty, Keeps, Lends}
 use Rattle.driver_rows.specs.declared.content.Command.{Command}
-use Rattle.driver_rows.specs.declared.rows.Row.{Row}
-use Rattle.driver_rows.specs.declared.rows.Row.TheVariants as rows
+use Rattle.driver_rows.specs.declared.rows.DriverRow.{DriverRow}
+use Rattle.driver_rows.specs.declared.rows.DriverRow.TheVariants as rows
 use Rattle.driver_rows.specs.DriverContent.{DriverContent}
 use Rattle.driver_rows.specs.Rows.{events_of}
 use Rattle.run_owners.specs.Owners.{Owner, SlotHas, IsPlaced}
@@ -22,7 +22,7 @@ use Rattle.run_owners.specs.Owners.{Owner, SlotHas, IsPlaced}
 abbrev pub begins_in : ℕ → List ℕ → Bool
 begins_in b bs = list_any (λ c. c == b) bs
 
-abbrev pub is_lending : Row → Bool
+abbrev pub is_lending : DriverRow → Bool
 is_lending rows.Lend = true
 is_lending rows.LendDescriptors = true
 is_lending _ = false

@@ -13,7 +13,7 @@ ghost use Rattle.driver_rows.specs.declared.content.Reserve.{Reserve};
 ghost use Rattle.driver_rows.specs.DriverContent.{DriverContent};
 ghost use Rattle.driver_rows.specs.Offers.{Offered, offered};
 ghost use Rattle.driver_rows.specs.Opening.{opening};
-ghost use Rattle.driver_rows.specs.Rows.{Parts, row_of, after_row};
+ghost use Rattle.driver_rows.specs.Rows.{Parts, driver_row, after_driver_row};
 ghost use Rattle.run_owners.specs.Owners.{Owner, HasRun};
 ghost use Rattle.driver_rows.specs.declared.content.Command.TheVariants as unfinished;
 ghost use Rattle.lent_runs.specs.Lent.{still_lends, AreLent, IsLent, LendsBlocks};
@@ -30,7 +30,7 @@ pub fn commands_keep_them()
 
 /// Each event of the driver keeps it: one of each command that took runs lends them all, and only lent runs are given back.
 pub fn events_keep_them()
-    ensures { (p : Parts) → AreLent p.driver → AreLent (after_row (row_of p) p).driver }
+    ensures { (p : Parts) → AreLent p.driver → AreLent (after_driver_row (driver_row p) p).driver }
 {}
 
 /// Where no command is unfinished, all runs are lent.

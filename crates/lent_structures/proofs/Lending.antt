@@ -8,7 +8,7 @@ use Rattle.word_mem.specs.Memory.{Mem, IsShaped, word_at, state_at, is_lent, rea
 use Rattle.word_mem.specs.declared.blocks.BlockState.{BlockState}
 use Rattle.word_mem.specs.declared.blocks.BlockState.TheVariants.{Free, Kept, Lent}
 use Rattle.word_mem.proofs.Frames.{shaped_word, shaped_states, shaped_released, state_at-with_states_inside, state_at-with_states_before, state_at-with_states_after, word_at-released_before, word_at-released_after}
-use Rattle.lent_structures.specs.Structures.{Structure, Parts, put, Holds, Has, Tells}
+use Rattle.lent_structures.specs.Structures.{Structure, StructureSets, put, Holds, Has, Tells}
 use Rattle.lent_structures.specs.Changes.{Leaves, IsNew}
 use Rattle.lent_structures.proofs.Telling.{told_stays, told_still, told_lent, added}
 
@@ -49,13 +49,13 @@ lent_new m r a s kept inside holds = record {
   fresh = λ b has lent. let here : HasBlock r b = inside b has in kept_not_lent (state_at m b) (kept b here.from here.below) lent;
 }
 
-pub lent_put : (m : Mem) (parts : Parts) (n a : ℕ) (s : Structure) (r : Run) → Tells m parts → r.first + r.blocks ≤ length m.states → AreAll m Kept r → ((b : ℕ) → Has a s b → HasBlock r b) → Holds (with_states m r Lent) a s → Tells (with_states m r Lent) (put parts n a s)
+pub lent_put : (m : Mem) (parts : StructureSets) (n a : ℕ) (s : Structure) (r : Run) → Tells m parts → r.first + r.blocks ≤ length m.states → AreAll m Kept r → ((b : ℕ) → Has a s b → HasBlock r b) → Holds (with_states m r Lent) a s → Tells (with_states m r Lent) (put parts n a s)
 lent_put m parts n a s r t within kept inside holds =
     added m (with_states m r Lent) parts n a s t (lend_leaves m r within t.shape) (lent_new m r a s kept inside holds)
 
 -- ---- a run is got back, of which no structure that is told has a block
 
-pub got_back : (m : Mem) (parts : Parts) (r : Run) (s : BlockState) → Tells m parts → r.first + r.blocks ≤ length m.states → ((n a : ℕ) (u : Structure) (b : ℕ) → parts n a ≡ Some u → Has a u b → HasBlock r b → ⊥) → Tells (with_states m r s) parts
+pub got_back : (m : Mem) (parts : StructureSets) (r : Run) (s : BlockState) → Tells m parts → r.first + r.blocks ≤ length m.states → ((n a : ℕ) (u : Structure) (b : ℕ) → parts n a ≡ Some u → Has a u b → HasBlock r b → ⊥) → Tells (with_states m r s) parts
 got_back m parts r s t within apart =
     told_stays m (with_states m r s) parts (shaped_states m r s within t.shape)
     (λ n a u here. record {
@@ -66,7 +66,7 @@ got_back m parts r s t within apart =
     }) t
 
 -- no structure has a block of a run that isn't Lent
-pub none_has : (m : Mem) (parts : Parts) (r : Run) (s : BlockState) → Tells m parts → s ≢ Lent → AreAll m s r → (n a : ℕ) (u : Structure) (b : ℕ) → parts n a ≡ Some u → Has a u b → HasBlock r b → ⊥
+pub none_has : (m : Mem) (parts : StructureSets) (r : Run) (s : BlockState) → Tells m parts → s ≢ Lent → AreAll m s r → (n a : ℕ) (u : Structure) (b : ℕ) → parts n a ≡ Some u → Has a u b → HasBlock r b → ⊥
 none_has m parts r s t differs all n a u b here has inside =
     differs (same_Some s Lent (sym (all b inside.from inside.below) ∙ told_lent m parts n a u b t here has))
 
@@ -76,7 +76,7 @@ word_beside : (m : Mem) (r : Run) (other : ℕ) → r.first + r.blocks ≤ lengt
 word_beside m r other within shape (inl low) = word_at-released_before m r other (omega (arith, within, shape.eight_each)) (omega (arith, low))
 word_beside m r other within shape (inr past) = word_at-released_after m r other (omega (arith, within, shape.eight_each)) (omega (arith, past))
 
-pub told_released : (m : Mem) (parts : Parts) (r : Run) (s : BlockState) → Tells m parts → r.first + r.blocks ≤ length m.states → s ≢ Lent → AreAll m s r → Tells (released m r) parts
+pub told_released : (m : Mem) (parts : StructureSets) (r : Run) (s : BlockState) → Tells m parts → r.first + r.blocks ≤ length m.states → s ≢ Lent → AreAll m s r → Tells (released m r) parts
 told_released m parts r s t within differs all =
     told_stays m (released m r) parts (shaped_released m r within t.shape)
     (λ n a u here. record {
@@ -96,7 +96,7 @@ other_block m at other kept reached same =
     let both : reaches m at ≡ reaches m other = ap (λ (b : ℕ). is_lent (state_at m b)) block in
     true≢false (sym reached ∙ sym both ∙ kept)
 
-pub told_kept_word : (m : Mem) (parts : Parts) (at v : ℕ) → Tells m parts → reaches m at ≡ false → Tells (with_word m at v) parts
+pub told_kept_word : (m : Mem) (parts : StructureSets) (at v : ℕ) → Tells m parts → reaches m at ≡ false → Tells (with_word m at v) parts
 told_kept_word m parts at v t kept =
     told_still m (with_word m at v) parts
     (record {

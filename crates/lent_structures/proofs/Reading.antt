@@ -24,7 +24,7 @@ use Rattle.itd_sitd.proofs.ItdLaws.{itd_read-words}
 use Rattle.itd_sitd.proofs.SitdLaws.{sitd_read-words}
 use Rattle.queue_words.specs.Structures.{qtd_at_address, qtd_was_read, reaches_queue_head, queue_head_at_address, queue_head_was_read}
 use Rattle.descriptor_words.specs.Descriptors.{itd_at_address, itd_was_read, sitd_at_address, sitd_was_read}
-use Rattle.lent_structures.specs.Structures.{Parts, QueueHead, Element, Buffer, Isochronous, SplitIsochronous, HoldsQueueHead, HoldsElement, HoldsBuffer, HoldsIsochronous, HoldsSplitIsochronous, AreSeparate, Tells}
+use Rattle.lent_structures.specs.Structures.{StructureSets, QueueHead, Element, Buffer, Isochronous, SplitIsochronous, HoldsQueueHead, HoldsElement, HoldsBuffer, HoldsIsochronous, HoldsSplitIsochronous, AreSeparate, Tells}
 
 -- ---- structures of words
 
@@ -48,34 +48,34 @@ sitd_there m a v h =
     ap (λ (b : Bool). if b then result_ok (sitd_read (words_at m a 7)) else None) h.lent
     ∙ ap (λ ws. result_ok (sitd_read ws)) h.words ∙ ap result_ok (sitd_read-words v h.range)
 
-pub head_read : (m : Mem) (parts : Parts) (n a : ℕ) (q : Qh) → Tells m parts → parts n a ≡ Some (QueueHead q) → queue_head_at_address m a ≡ Some q
+pub head_read : (m : Mem) (parts : StructureSets) (n a : ℕ) (q : Qh) → Tells m parts → parts n a ≡ Some (QueueHead q) → queue_head_at_address m a ≡ Some q
 head_read m parts n a q t here = head_there m a q (t.each n a (QueueHead q) here)
 
-pub head_reached : (m : Mem) (parts : Parts) (n a : ℕ) (q : Qh) → Tells m parts → parts n a ≡ Some (QueueHead q) → reaches_queue_head m a ≡ true
+pub head_reached : (m : Mem) (parts : StructureSets) (n a : ℕ) (q : Qh) → Tells m parts → parts n a ≡ Some (QueueHead q) → reaches_queue_head m a ≡ true
 head_reached m parts n a q t here = let h : HoldsQueueHead m a q = t.each n a (QueueHead q) here in h.lent
 
-pub head_not_refused : (m : Mem) (parts : Parts) (n a : ℕ) (q : Qh) → Tells m parts → parts n a ≡ Some (QueueHead q) → queue_head_was_read m a ≡ m
+pub head_not_refused : (m : Mem) (parts : StructureSets) (n a : ℕ) (q : Qh) → Tells m parts → parts n a ≡ Some (QueueHead q) → queue_head_was_read m a ≡ m
 head_not_refused m parts n a q t here = ap (λ (b : Bool). if b then m else refused m) (head_reached m parts n a q t here)
 
-pub element_read : (m : Mem) (parts : Parts) (n a : ℕ) (d : Qtd) → Tells m parts → parts n a ≡ Some (Element d) → qtd_at_address m a ≡ Some d
+pub element_read : (m : Mem) (parts : StructureSets) (n a : ℕ) (d : Qtd) → Tells m parts → parts n a ≡ Some (Element d) → qtd_at_address m a ≡ Some d
 element_read m parts n a d t here = element_there m a d (t.each n a (Element d) here)
 
-pub element_reached : (m : Mem) (parts : Parts) (n a : ℕ) (d : Qtd) → Tells m parts → parts n a ≡ Some (Element d) → reaches m a ≡ true
+pub element_reached : (m : Mem) (parts : StructureSets) (n a : ℕ) (d : Qtd) → Tells m parts → parts n a ≡ Some (Element d) → reaches m a ≡ true
 element_reached m parts n a d t here = let h : HoldsElement m a d = t.each n a (Element d) here in h.lent
 
-pub element_not_refused : (m : Mem) (parts : Parts) (n a : ℕ) (d : Qtd) → Tells m parts → parts n a ≡ Some (Element d) → qtd_was_read m a ≡ m
+pub element_not_refused : (m : Mem) (parts : StructureSets) (n a : ℕ) (d : Qtd) → Tells m parts → parts n a ≡ Some (Element d) → qtd_was_read m a ≡ m
 element_not_refused m parts n a d t here = ap (λ (b : Bool). if b then m else refused m) (element_reached m parts n a d t here)
 
-pub itd_read_there : (m : Mem) (parts : Parts) (n a : ℕ) (v : Itd) → Tells m parts → parts n a ≡ Some (Isochronous v) → itd_at_address m a ≡ Some v
+pub itd_read_there : (m : Mem) (parts : StructureSets) (n a : ℕ) (v : Itd) → Tells m parts → parts n a ≡ Some (Isochronous v) → itd_at_address m a ≡ Some v
 itd_read_there m parts n a v t here = itd_there m a v (t.each n a (Isochronous v) here)
 
-pub itd_not_refused : (m : Mem) (parts : Parts) (n a : ℕ) (v : Itd) → Tells m parts → parts n a ≡ Some (Isochronous v) → itd_was_read m a ≡ m
+pub itd_not_refused : (m : Mem) (parts : StructureSets) (n a : ℕ) (v : Itd) → Tells m parts → parts n a ≡ Some (Isochronous v) → itd_was_read m a ≡ m
 itd_not_refused m parts n a v t here = let h : HoldsIsochronous m a v = t.each n a (Isochronous v) here in ap (λ (b : Bool). if b then m else refused m) h.lent
 
-pub sitd_read_there : (m : Mem) (parts : Parts) (n a : ℕ) (v : Sitd) → Tells m parts → parts n a ≡ Some (SplitIsochronous v) → sitd_at_address m a ≡ Some v
+pub sitd_read_there : (m : Mem) (parts : StructureSets) (n a : ℕ) (v : Sitd) → Tells m parts → parts n a ≡ Some (SplitIsochronous v) → sitd_at_address m a ≡ Some v
 sitd_read_there m parts n a v t here = sitd_there m a v (t.each n a (SplitIsochronous v) here)
 
-pub sitd_not_refused : (m : Mem) (parts : Parts) (n a : ℕ) (v : Sitd) → Tells m parts → parts n a ≡ Some (SplitIsochronous v) → sitd_was_read m a ≡ m
+pub sitd_not_refused : (m : Mem) (parts : StructureSets) (n a : ℕ) (v : Sitd) → Tells m parts → parts n a ≡ Some (SplitIsochronous v) → sitd_was_read m a ≡ m
 sitd_not_refused m parts n a v t here = let h : HoldsSplitIsochronous m a v = t.each n a (SplitIsochronous v) here in ap (λ (b : Bool). if b then m else refused m) h.lent
 
 -- ---- buffers
@@ -107,11 +107,11 @@ part_bytes m a pages k bs j n h within =
     let part : get_or (take n (drop j bs)) i 0 ≡ get_or bs (j + i) 0 = grind (arith, places) in
     ap (λ (x : ℕ). byte_at m (place pages x)) (sym e) ∙ sym (get_or-bytes_at m pages k (length bs) (j + i) 0 inside) ∙ ap (λ xs. get_or xs (j + i) 0) h.bytes ∙ sym part)
 
-pub bytes_there : (m : Mem) (parts : Parts) (n a : ℕ) (pages : List ℕ) (k : ℕ) (bs : List ℕ) → Tells m parts → parts n a ≡ Some (Buffer pages k bs) → bytes_at m pages k (length bs) ≡ bs
+pub bytes_there : (m : Mem) (parts : StructureSets) (n a : ℕ) (pages : List ℕ) (k : ℕ) (bs : List ℕ) → Tells m parts → parts n a ≡ Some (Buffer pages k bs) → bytes_at m pages k (length bs) ≡ bs
 bytes_there m parts n a pages k bs t here = let h : HoldsBuffer m a pages k bs = t.each n a (Buffer pages k bs) here in h.bytes
 
-pub bytes_part : (m : Mem) (parts : Parts) (n a : ℕ) (pages : List ℕ) (k : ℕ) (bs : List ℕ) (j c : ℕ) → Tells m parts → parts n a ≡ Some (Buffer pages k bs) → j + c ≤ length bs → bytes_at m pages (k + j) c ≡ take c (drop j bs)
+pub bytes_part : (m : Mem) (parts : StructureSets) (n a : ℕ) (pages : List ℕ) (k : ℕ) (bs : List ℕ) (j c : ℕ) → Tells m parts → parts n a ≡ Some (Buffer pages k bs) → j + c ≤ length bs → bytes_at m pages (k + j) c ≡ take c (drop j bs)
 bytes_part m parts n a pages k bs j c t here within = part_bytes m a pages k bs j c (t.each n a (Buffer pages k bs) here) within
 
-pub bytes_reached : (m : Mem) (parts : Parts) (n a : ℕ) (pages : List ℕ) (k : ℕ) (bs : List ℕ) (j c : ℕ) → Tells m parts → parts n a ≡ Some (Buffer pages k bs) → j + c ≤ length bs → all_reached m pages (k + j) c ≡ true
+pub bytes_reached : (m : Mem) (parts : StructureSets) (n a : ℕ) (pages : List ℕ) (k : ℕ) (bs : List ℕ) (j c : ℕ) → Tells m parts → parts n a ≡ Some (Buffer pages k bs) → j + c ≤ length bs → all_reached m pages (k + j) c ≡ true
 bytes_reached m parts n a pages k bs j c t here within = all_reached_if m pages (k + j) c (part_reached m a pages k bs j c (t.each n a (Buffer pages k bs) here) within)

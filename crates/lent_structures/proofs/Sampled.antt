@@ -5,7 +5,7 @@ use Rattle.word_mem.specs.Views.{words_in}
 use Rattle.buffers.specs.Bytes.{places, bytes_at, AreReached}
 use Rattle.qh_qtd.specs.Qtd.{qtd_words, IsQtdInRange}
 use Rattle.qh_qtd.specs.QueueHead.{qh_words, IsQhInRange}
-use Rattle.lent_structures.specs.Structures.{Structure, QueueHead, Element, Buffer, HoldsQueueHead, HoldsElement, HoldsBuffer, Parts, put, Has, AreSeparate, Tells}
+use Rattle.lent_structures.specs.Structures.{Structure, QueueHead, Element, Buffer, HoldsQueueHead, HoldsElement, HoldsBuffer, StructureSets, put, Has, AreSeparate, Tells}
 use Rattle.lent_structures.specs.Samples.{queue, element, bytes, pages, memory, nothing, parts}
 use Rattle.lent_structures.proofs.Names.{put_found}
 use Rattle.lent_structures.proofs.Telling.{joined}
@@ -85,7 +85,7 @@ buffer_there = record { name = refl; within = omega arith; separate = both_separ
 none_told : Tells memory nothing
 none_told = record { shape = shaped; each = λ n a s found. cc; alone = λ n a k c s t b found other has also. cc }
 
-abbrev head_parts : Parts
+abbrev head_parts : StructureSets
 head_parts = put nothing 0 0 (QueueHead queue)
 
 head_told : Tells memory head_parts
@@ -99,7 +99,7 @@ below_two k c u b found has =
     ⊎_elim (λ (first : b ≡ 0 / 32). omega (arith, first)) (λ (second : b ≡ 0 / 32 + 1). omega (arith, second)) at)
     (λ (there : nothing k c ≡ Some u). cc) (put_found nothing 0 0 (QueueHead queue) k c u found)
 
-abbrev two_parts : Parts
+abbrev two_parts : StructureSets
 two_parts = put head_parts 0 64 (Element element)
 
 two_told : Tells memory two_parts

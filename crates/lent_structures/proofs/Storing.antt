@@ -8,7 +8,7 @@ use Rattle.buffers.specs.Bytes.{place, put_byte, put_bytes, with_bytes, AreThere
 use Rattle.buffers.proofs.Stores.{length-put_byte, length-put_bytes}
 use Rattle.buffers.proofs.Loads.{bytes_at_is, get_or-bytes_at}
 use Rattle.buffers.proofs.Frames.{byte_put, word_at-with_bytes, byte_at-with_bytes}
-use Rattle.lent_structures.specs.Structures.{Parts, Buffer, HoldsBuffer, AreSeparate, put, Tells}
+use Rattle.lent_structures.specs.Structures.{StructureSets, Buffer, HoldsBuffer, AreSeparate, put, Tells}
 use Rattle.lent_structures.specs.Changes.{Changes, overwritten}
 use Rattle.lent_structures.proofs.Reading.{part_separate, part_there}
 use Rattle.lent_structures.proofs.Telling.{changed}
@@ -99,7 +99,7 @@ bytes_change m a pages k bs j got within = record {
       outside (j + i, omega (arith, within, below), sym (ap (λ x. place pages x / 32) e ∙ same_block (place pages (k + j + i)) other same)));
 }
 
-pub bytes_put : (m : Mem) (parts : Parts) (n a : ℕ) (pages : List ℕ) (k : ℕ) (bs : List ℕ) (j : ℕ) (got : List ℕ) → Tells m parts → parts n a ≡ Some (Buffer pages k bs) → j + length got ≤ length bs → ((h : ℕ) → get_or got h 0 < 256) → Tells (with_bytes m pages (k + j) got) (put parts n a (Buffer pages k (overwritten bs j got)))
+pub bytes_put : (m : Mem) (parts : StructureSets) (n a : ℕ) (pages : List ℕ) (k : ℕ) (bs : List ℕ) (j : ℕ) (got : List ℕ) → Tells m parts → parts n a ≡ Some (Buffer pages k bs) → j + length got ≤ length bs → ((h : ℕ) → get_or got h 0 < 256) → Tells (with_bytes m pages (k + j) got) (put parts n a (Buffer pages k (overwritten bs j got)))
 bytes_put m parts n a pages k bs j got t here within small =
     changed m (with_bytes m pages (k + j) got) parts n a (Buffer pages k bs) (Buffer pages k (overwritten bs j got)) t here
     (bytes_change m a pages k bs j got within)

@@ -6,13 +6,13 @@ use Rattle.word_mem.specs.Memory.{Mem, IsShaped, state_at}
 use Rattle.word_mem.specs.declared.blocks.BlockState.{BlockState}
 use Rattle.word_mem.specs.declared.blocks.BlockState.TheVariants.{Lent}
 use Rattle.word_mem.proofs.Frames.{shaped_same}
-use Rattle.lent_structures.specs.Structures.{Structure, Parts, put, without, Holds, Has, Tells}
+use Rattle.lent_structures.specs.Structures.{Structure, StructureSets, put, without, Holds, Has, Tells}
 use Rattle.lent_structures.specs.Changes.{Changes, Stays, Leaves, IsNew}
 use Rattle.lent_structures.proofs.Names.{put_found, put_same, without_found}
 use Rattle.lent_structures.proofs.Standing.{holds_lent, holds_still, reaches_if}
 
 -- a structure's blocks are Lent
-pub told_lent : (m : Mem) (parts : Parts) (n a : ℕ) (s : Structure) (b : ℕ) → Tells m parts → parts n a ≡ Some s → Has a s b → state_at m b ≡ Some Lent
+pub told_lent : (m : Mem) (parts : StructureSets) (n a : ℕ) (s : Structure) (b : ℕ) → Tells m parts → parts n a ≡ Some s → Has a s b → state_at m b ≡ Some Lent
 told_lent m parts n a s b t here has = holds_lent m a s b (t.each n a s here) has
 
 -- ---- everything stays
@@ -24,18 +24,18 @@ stays_left m after a s left h = record {
 }
 
 -- the blocks of every structure stay
-pub told_stays : (m after : Mem) (parts : Parts) → IsShaped after → ((n a : ℕ) (s : Structure) → parts n a ≡ Some s → Stays m after a s) → Tells m parts → Tells after parts
+pub told_stays : (m after : Mem) (parts : StructureSets) → IsShaped after → ((n a : ℕ) (s : Structure) → parts n a ≡ Some s → Stays m after a s) → Tells m parts → Tells after parts
 told_stays m after parts shape stays t = record {
   shape = shape;
   each = λ n a s here. holds_still m after a s (stays n a s here) (t.each n a s here);
   alone = t.alone;
 }
 
-pub told_still : (m after : Mem) (parts : Parts) → Leaves m after → Tells m parts → Tells after parts
+pub told_still : (m after : Mem) (parts : StructureSets) → Leaves m after → Tells m parts → Tells after parts
 told_still m after parts left t = told_stays m after parts left.shape (λ n a s here. stays_left m after a s left (t.each n a s here)) t
 
 -- where words and states are as before
-pub leaves_same : (m after : Mem) (parts : Parts) → after.words ≡ m.words → after.states ≡ m.states → Tells m parts → Leaves m after
+pub leaves_same : (m after : Mem) (parts : StructureSets) → after.words ≡ m.words → after.states ≡ m.states → Tells m parts → Leaves m after
 leaves_same m after parts words states t = record {
   shape = shaped_same m after (ap length words) states t.shape;
   lent = λ b lent. ap (λ (ss : List BlockState). slice_get ss b) states ∙ lent;
@@ -45,7 +45,7 @@ leaves_same m after parts words states t = record {
 -- ---- one structure changes in its place
 
 -- the blocks of the others stay
-beside : (m after : Mem) (parts : Parts) (n a : ℕ) (s : Structure) (k c : ℕ) (u : Structure) → Tells m parts → parts n a ≡ Some s → Changes m after a s → parts k c ≡ Some u → (((k ≡ n) × (c ≡ a)) → ⊥) → Stays m after c u
+beside : (m after : Mem) (parts : StructureSets) (n a : ℕ) (s : Structure) (k c : ℕ) (u : Structure) → Tells m parts → parts n a ≡ Some s → Changes m after a s → parts k c ≡ Some u → (((k ≡ n) × (c ≡ a)) → ⊥) → Stays m after c u
 beside m after parts n a s k c u t here change there other = record {
   lent = λ b has lent. ap (λ (ss : List BlockState). slice_get ss b) change.states ∙ lent;
   words = λ at has. change.outside at (λ inside. other (t.alone n a k c s u (at / 32) here there inside has));
@@ -58,7 +58,7 @@ same_place k c n a =
     ⊎_elim (λ (name : c ≡ a). inl (owner, name)) (λ (differs : c ≢ a). inr (λ (is : (k ≡ n) × (c ≡ a)). differs is.1)) (cases_eq c a))
     (λ (differs : k ≢ n). inr (λ (is : (k ≡ n) × (c ≡ a)). differs is.0)) (cases_eq k n)
 
-one_changed : (m after : Mem) (parts : Parts) (n a : ℕ) (s new : Structure) → Tells m parts → parts n a ≡ Some s → Changes m after a s → Holds after a new → (k c : ℕ) (u : Structure) → put parts n a new k c ≡ Some u → Holds after c u
+one_changed : (m after : Mem) (parts : StructureSets) (n a : ℕ) (s new : Structure) → Tells m parts → parts n a ≡ Some s → Changes m after a s → Holds after a new → (k c : ℕ) (u : Structure) → put parts n a new k c ≡ Some u → Holds after c u
 one_changed m after parts n a s new t here change holds k c u found =
     ⊎_elim (λ (is : (k ≡ n) × (c ≡ a)).
     let same : u ≡ new = same_Some u new (sym found ∙ ap (λ (i : ℕ). put parts n a new i c) is.0 ∙ ap (put parts n a new n) is.1 ∙ put_same parts n a new) in
@@ -69,13 +69,13 @@ one_changed m after parts n a s new t here change holds k c u found =
     (same_place k c n a)
 
 -- a block of what was put is one of what was there
-old_block : (parts : Parts) (n a : ℕ) (s new : Structure) (k c : ℕ) (u : Structure) (b : ℕ) → parts n a ≡ Some s → ((d : ℕ) → Has a new d → Has a s d) → put parts n a new k c ≡ Some u → Has c u b → (v : Structure) × (parts k c ≡ Some v) × Has c v b
+old_block : (parts : StructureSets) (n a : ℕ) (s new : Structure) (k c : ℕ) (u : Structure) (b : ℕ) → parts n a ≡ Some s → ((d : ℕ) → Has a new d → Has a s d) → put parts n a new k c ≡ Some u → Has c u b → (v : Structure) × (parts k c ≡ Some v) × Has c v b
 old_block parts n a s new k c u b here fewer found has =
     ⊎_elim (λ (is : (k ≡ n) × (c ≡ a) × (u ≡ new)).
     (s, ap (λ (i : ℕ). parts i c) is.0 ∙ ap (parts n) is.1 ∙ here, subst (λ (i : ℕ). Has i s b) (sym is.1) (fewer b (subst (λ (i : ℕ). Has i new b) is.1 (subst (λ (v : Structure). Has c v b) is.2 has)))))
     (λ (there : parts k c ≡ Some u). (u, there, has)) (put_found parts n a new k c u found)
 
-pub changed : (m after : Mem) (parts : Parts) (n a : ℕ) (s new : Structure) → Tells m parts → parts n a ≡ Some s → Changes m after a s → ((b : ℕ) → Has a new b → Has a s b) → Holds after a new → Tells after (put parts n a new)
+pub changed : (m after : Mem) (parts : StructureSets) (n a : ℕ) (s new : Structure) → Tells m parts → parts n a ≡ Some s → Changes m after a s → ((b : ℕ) → Has a new b → Has a s b) → Holds after a new → Tells after (put parts n a new)
 changed m after parts n a s new t here change fewer holds = record {
   shape = shaped_same m after change.size change.states t.shape;
   each = one_changed m after parts n a s new t here change holds;
@@ -88,7 +88,7 @@ changed m after parts n a s new t here change fewer holds = record {
 -- ---- structures are added and taken away
 
 -- Any other parts of which each structure was told, or is new, where no two new ones share a block.
-pub retold : (m after : Mem) (parts new : Parts) → Tells m parts → Leaves m after
+pub retold : (m after : Mem) (parts new : StructureSets) → Tells m parts → Leaves m after
     → ((n a : ℕ) (s : Structure) → new n a ≡ Some s → (parts n a ≡ Some s) ⊎ IsNew m after a s)
     → ((n a k c : ℕ) (s u : Structure) (b : ℕ) → new n a ≡ Some s → new k c ≡ Some u → IsNew m after a s → IsNew m after c u → Has a s b → Has c u b → (k ≡ n) × (c ≡ a))
     → Tells after new
@@ -108,12 +108,12 @@ retold m after parts new t left old_or_new apart = record {
 }
 
 -- what is new of a part with one structure more is that structure
-only_new : (m after : Mem) (parts : Parts) (n a : ℕ) (s : Structure) (k c : ℕ) (u : Structure) (b : ℕ) → Tells m parts → ((k ≡ n) × (c ≡ a) × (u ≡ s)) ⊎ (parts k c ≡ Some u) → IsNew m after c u → Has c u b → (k ≡ n) × (c ≡ a)
+only_new : (m after : Mem) (parts : StructureSets) (n a : ℕ) (s : Structure) (k c : ℕ) (u : Structure) (b : ℕ) → Tells m parts → ((k ≡ n) × (c ≡ a) × (u ≡ s)) ⊎ (parts k c ≡ Some u) → IsNew m after c u → Has c u b → (k ≡ n) × (c ≡ a)
 only_new m after parts n a s k c u b t (inl is) fresh has = (is.0, is.1)
 only_new m after parts n a s k c u b t (inr there) fresh has = absurd (fresh.fresh b has (told_lent m parts k c u b t there has))
 
 -- one structure is new, as after a lend of its blocks
-pub added : (m after : Mem) (parts : Parts) (n a : ℕ) (s : Structure) → Tells m parts → Leaves m after → IsNew m after a s → Tells after (put parts n a s)
+pub added : (m after : Mem) (parts : StructureSets) (n a : ℕ) (s : Structure) → Tells m parts → Leaves m after → IsNew m after a s → Tells after (put parts n a s)
 added m after parts n a s t left fresh =
     retold m after parts (put parts n a s) t left
     (λ k c u found. ⊎_elim (λ (is : (k ≡ n) × (c ≡ a) × (u ≡ s)). inr (subst (λ (v : Structure). IsNew m after c v) (sym is.2) (subst (λ (i : ℕ). IsNew m after i s) (sym is.1) fresh)))
@@ -124,7 +124,7 @@ added m after parts n a s t left fresh =
     (second.0 ∙ sym first.0, second.1 ∙ sym first.1))
 
 -- what an added structure shares no block with stays apart from it
-found_apart : (parts : Parts) (n a : ℕ) (s : Structure) (k c j d : ℕ) (u v : Structure) (b : ℕ) (m : Mem) → Tells m parts
+found_apart : (parts : StructureSets) (n a : ℕ) (s : Structure) (k c j d : ℕ) (u v : Structure) (b : ℕ) (m : Mem) → Tells m parts
     → ((b k c : ℕ) (u : Structure) → Has a s b → parts k c ≡ Some u → Has c u b → ⊥)
     → ((k ≡ n) × (c ≡ a) × (u ≡ s)) ⊎ (parts k c ≡ Some u) → ((j ≡ n) × (d ≡ a) × (v ≡ s)) ⊎ (parts j d ≡ Some v) → Has c u b → Has d v b → (j ≡ k) × (d ≡ c)
 found_apart parts n a s k c j d u v b m t apart (inl one) (inl other) has also = (other.0 ∙ sym one.0, other.1 ∙ sym one.1)
@@ -135,7 +135,7 @@ found_apart parts n a s k c j d u v b m t apart (inr there) (inl other) has also
 found_apart parts n a s k c j d u v b m t apart (inr there) (inr also_there) has also = t.alone k c j d u v b there also_there has also
 
 -- a structure that stands beside all that are told is told too
-pub joined : (m : Mem) (parts : Parts) (n a : ℕ) (s : Structure) → Tells m parts → Holds m a s → ((b k c : ℕ) (u : Structure) → Has a s b → parts k c ≡ Some u → Has c u b → ⊥) → Tells m (put parts n a s)
+pub joined : (m : Mem) (parts : StructureSets) (n a : ℕ) (s : Structure) → Tells m parts → Holds m a s → ((b k c : ℕ) (u : Structure) → Has a s b → parts k c ≡ Some u → Has c u b → ⊥) → Tells m (put parts n a s)
 joined m parts n a s t holds apart = record {
   shape = t.shape;
   each = λ k c u found.
@@ -146,7 +146,7 @@ joined m parts n a s t holds apart = record {
 }
 
 -- a structure is told no more: its blocks may be got back
-pub removed : (m : Mem) (parts : Parts) (n a : ℕ) → Tells m parts → Tells m (without parts n a)
+pub removed : (m : Mem) (parts : StructureSets) (n a : ℕ) → Tells m parts → Tells m (without parts n a)
 removed m parts n a t = record {
   shape = t.shape;
   each = λ k c u found. t.each k c u (without_found parts n a k c u found);

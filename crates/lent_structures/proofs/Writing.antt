@@ -24,7 +24,7 @@ use Rattle.itd_sitd.specs.Itd.{itd_words, IsItdInRange}
 use Rattle.itd_sitd.specs.Sitd.{sitd_words, IsSitdInRange}
 use Rattle.queue_words.specs.Structures.{reaches_queue_head, overlay_words, overlay_written, token_written}
 use Rattle.queue_words.proofs.WriteBack.{overlay_outside, overlay_states, overlay_size}
-use Rattle.lent_structures.specs.Structures.{Structure, Parts, QueueHead, Element, Table, Isochronous, SplitIsochronous, HoldsQueueHead, HoldsElement, HoldsTable, HoldsIsochronous, HoldsSplitIsochronous, IsOneOfTwo, put, Has, Tells}
+use Rattle.lent_structures.specs.Structures.{Structure, StructureSets, QueueHead, Element, Table, Isochronous, SplitIsochronous, HoldsQueueHead, HoldsElement, HoldsTable, HoldsIsochronous, HoldsSplitIsochronous, IsOneOfTwo, put, Has, Tells}
 use Rattle.lent_structures.specs.Changes.{Changes, relinked}
 use Rattle.lent_structures.proofs.Standing.{and_both, in_one, in_two}
 use Rattle.lent_structures.proofs.Telling.{changed}
@@ -60,7 +60,7 @@ row_written : (m : Mem) (a n k v : ℕ) (ws new : List ℕ) → a % 32 ≡ 0 →
 row_written m a n k v ws new aligned below room words is =
     words_in-set_inside m.words a n k v (omega (arith, aligned)) below room ∙ ap (λ xs. set xs k v) words ∙ sym is
 
-pub word_put_queue : (m : Mem) (parts : Parts) (n a : ℕ) (q new : Qh) (k v : ℕ) → Tells m parts → parts n a ≡ Some (QueueHead q) → k < 12 → qh_words new ≡ set (qh_words q) k v → IsQhInRange new → Tells (with_word m (a + 4 * k) v) (put parts n a (QueueHead new))
+pub word_put_queue : (m : Mem) (parts : StructureSets) (n a : ℕ) (q new : Qh) (k v : ℕ) → Tells m parts → parts n a ≡ Some (QueueHead q) → k < 12 → qh_words new ≡ set (qh_words q) k v → IsQhInRange new → Tells (with_word m (a + 4 * k) v) (put parts n a (QueueHead new))
 word_put_queue m parts n a q new k v t here below is range =
     let h : HoldsQueueHead m a q = t.each n a (QueueHead q) here in
     changed m (with_word m (a + 4 * k) v) parts n a (QueueHead q) (QueueHead new) t here
@@ -72,7 +72,7 @@ word_put_queue m parts n a q new k v t here below is range =
       range = range;
     })
 
-pub word_put_element : (m : Mem) (parts : Parts) (n a : ℕ) (d new : Qtd) (k v : ℕ) → Tells m parts → parts n a ≡ Some (Element d) → k < 8 → qtd_words new ≡ set (qtd_words d) k v → IsQtdInRange new → Tells (with_word m (a + 4 * k) v) (put parts n a (Element new))
+pub word_put_element : (m : Mem) (parts : StructureSets) (n a : ℕ) (d new : Qtd) (k v : ℕ) → Tells m parts → parts n a ≡ Some (Element d) → k < 8 → qtd_words new ≡ set (qtd_words d) k v → IsQtdInRange new → Tells (with_word m (a + 4 * k) v) (put parts n a (Element new))
 word_put_element m parts n a d new k v t here below is range =
     let h : HoldsElement m a d = t.each n a (Element d) here in
     changed m (with_word m (a + 4 * k) v) parts n a (Element d) (Element new) t here
@@ -84,7 +84,7 @@ word_put_element m parts n a d new k v t here below is range =
       range = range;
     })
 
-pub word_put_isochronous : (m : Mem) (parts : Parts) (n a : ℕ) (d new : Itd) (k v : ℕ) → Tells m parts → parts n a ≡ Some (Isochronous d) → k < 16 → itd_words new ≡ set (itd_words d) k v → IsItdInRange new → Tells (with_word m (a + 4 * k) v) (put parts n a (Isochronous new))
+pub word_put_isochronous : (m : Mem) (parts : StructureSets) (n a : ℕ) (d new : Itd) (k v : ℕ) → Tells m parts → parts n a ≡ Some (Isochronous d) → k < 16 → itd_words new ≡ set (itd_words d) k v → IsItdInRange new → Tells (with_word m (a + 4 * k) v) (put parts n a (Isochronous new))
 word_put_isochronous m parts n a d new k v t here below is range =
     let h : HoldsIsochronous m a d = t.each n a (Isochronous d) here in
     changed m (with_word m (a + 4 * k) v) parts n a (Isochronous d) (Isochronous new) t here
@@ -96,7 +96,7 @@ word_put_isochronous m parts n a d new k v t here below is range =
       range = range;
     })
 
-pub word_put_split : (m : Mem) (parts : Parts) (n a : ℕ) (d new : Sitd) (k v : ℕ) → Tells m parts → parts n a ≡ Some (SplitIsochronous d) → k < 7 → sitd_words new ≡ set (sitd_words d) k v → IsSitdInRange new → Tells (with_word m (a + 4 * k) v) (put parts n a (SplitIsochronous new))
+pub word_put_split : (m : Mem) (parts : StructureSets) (n a : ℕ) (d new : Sitd) (k v : ℕ) → Tells m parts → parts n a ≡ Some (SplitIsochronous d) → k < 7 → sitd_words new ≡ set (sitd_words d) k v → IsSitdInRange new → Tells (with_word m (a + 4 * k) v) (put parts n a (SplitIsochronous new))
 word_put_split m parts n a d new k v t here below is range =
     let h : HoldsSplitIsochronous m a d = t.each n a (SplitIsochronous d) here in
     changed m (with_word m (a + 4 * k) v) parts n a (SplitIsochronous d) (SplitIsochronous new) t here
@@ -116,7 +116,7 @@ table_inside m a ws k shape h below =
     let inside = slice_get_within m.states ((a + 4 * last) / 32) Lent (lent_if_reached m (a + 4 * last) reached) in
     omega (arith, inside, shape.eight_each, below, h.aligned)
 
-pub word_put_table : (m : Mem) (parts : Parts) (n a : ℕ) (ws : List ℕ) (k v : ℕ) → Tells m parts → parts n a ≡ Some (Table ws) → k < length ws → Tells (with_word m (a + 4 * k) v) (put parts n a (Table (set ws k v)))
+pub word_put_table : (m : Mem) (parts : StructureSets) (n a : ℕ) (ws : List ℕ) (k v : ℕ) → Tells m parts → parts n a ≡ Some (Table ws) → k < length ws → Tells (with_word m (a + 4 * k) v) (put parts n a (Table (set ws k v)))
 word_put_table m parts n a ws k v t here below =
     let h : HoldsTable m a ws = t.each n a (Table ws) here in
     let long : length (set ws k v) ≡ length ws = length-set ws k v in
@@ -136,7 +136,7 @@ word_put_table m parts n a ws k v t here below =
 with_token_in_range : (d : Qtd) (t : Token) → IsQtdInRange d → IsWordInRange token_rows t → IsQtdInRange (record d { token = t })
 with_token_in_range d t (next, (alternate, (token, later))) range = (next, (alternate, (range, later)))
 
-pub token_put : (m : Mem) (parts : Parts) (n a : ℕ) (d : Qtd) (new : Token) → Tells m parts → parts n a ≡ Some (Element d) → IsWordInRange token_rows new → Tells (token_written m a new) (put parts n a (Element (record d { token = new })))
+pub token_put : (m : Mem) (parts : StructureSets) (n a : ℕ) (d : Qtd) (new : Token) → Tells m parts → parts n a ≡ Some (Element d) → IsWordInRange token_rows new → Tells (token_written m a new) (put parts n a (Element (record d { token = new })))
 token_put m parts n a d new t here range =
     let h : HoldsElement m a d = t.each n a (Element d) here in
     let written : token_written m a new ≡ with_word m (a + 8) (token_word new) = ap (λ (b : Bool). if b then with_word m (a + 8) (token_word new) else refused m) h.lent in
@@ -209,7 +209,7 @@ overlay_changes m a q c aligned = record {
 }
 
 -- Words 3 to 11 of a copy are written; the link stays the one in memory.
-pub overlay_put : (m : Mem) (parts : Parts) (n a : ℕ) (q c : Qh) → Tells m parts → parts n a ≡ Some (QueueHead q) → IsQhInRange c → take 3 (qh_words (relinked q c)) ≡ take 3 (qh_words q) → Tells (overlay_written m a (overlay_words c)) (put parts n a (QueueHead (relinked q c)))
+pub overlay_put : (m : Mem) (parts : StructureSets) (n a : ℕ) (q c : Qh) → Tells m parts → parts n a ≡ Some (QueueHead q) → IsQhInRange c → take 3 (qh_words (relinked q c)) ≡ take 3 (qh_words q) → Tells (overlay_written m a (overlay_words c)) (put parts n a (QueueHead (relinked q c)))
 overlay_put m parts n a q c t here range front =
     let h : HoldsQueueHead m a q = t.each n a (QueueHead q) here in
     let after = overlay_written m a (overlay_words c) in

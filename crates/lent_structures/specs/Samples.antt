@@ -11,7 +11,7 @@ use Rattle.qh_qtd.specs.declared.qtd.Qtd.{Qtd}
 use Rattle.qh_qtd.specs.declared.queue_head.Qh.{Qh}
 use Rattle.qh_qtd.specs.Qtd.{qtd_words}
 use Rattle.qh_qtd.specs.QueueHead.{qh_words}
-use Rattle.lent_structures.specs.Structures.{QueueHead, Element, Buffer, Parts, put}
+use Rattle.lent_structures.specs.Structures.{QueueHead, Element, Buffer, StructureSets, put}
 
 abbrev pub token : Token
 token = record blank_token { active = true; pid = 1; cerr = 3; total = 2 }
@@ -41,8 +41,8 @@ pages = 0 ∷ 0 ∷ 0 ∷ 0 ∷ 0 ∷ []
 abbrev pub memory : Mem
 memory = all_lent (qh_words queue ++ replicate 4 0 ++ qtd_words element ++ (0 ∷ 0x907 ∷ replicate 998 0))
 
-abbrev pub nothing : Parts
+abbrev pub nothing : StructureSets
 nothing n a = None
 
-abbrev pub parts : Parts
+abbrev pub parts : StructureSets
 parts = put (put (put nothing 0 0 (QueueHead queue)) 0 64 (Element element)) 0 100 (Buffer pages 100 bytes)

@@ -2,7 +2,7 @@
 -- tables, iTDs and siTDs. Each has an owner and a name. The owner is a number, for what belongs to a queue head the queue head's address.
 -- The name is the structure's byte address, for a buffer that of its first byte.
 --     Structure                what stands in memory
---     Part, Parts              the structures of one owner by name, and those of each owner
+--     Structures, StructureSets              the structures of one owner by name, and those of each owner
 --     with_structure part a s  the part with s in the place of what had the name a
 --     put parts n a s          the same of the owner n
 --     without parts n a        nothing has that name of the owner n any more
@@ -34,22 +34,22 @@ pub data Structure : Type 0 where
 
 -- ---- parts
 
-abbrev pub Part : Type 0
-Part = ℕ → Option Structure
+abbrev pub Structures : Type 0
+Structures = ℕ → Option Structure
 
-abbrev pub Parts : Type 0
-Parts = ℕ → Part
+abbrev pub StructureSets : Type 0
+StructureSets = ℕ → Structures
 
-abbrev pub with_structure : Part → ℕ → Structure → Part
+abbrev pub with_structure : Structures → ℕ → Structure → Structures
 with_structure part a s b = if b == a then Some s else part b
 
-abbrev pub put : Parts → ℕ → ℕ → Structure → Parts
+abbrev pub put : StructureSets → ℕ → ℕ → Structure → StructureSets
 put parts n a s k = if k == n then with_structure (parts n) a s else parts k
 
-abbrev pub without_structure : Part → ℕ → Part
+abbrev pub without_structure : Structures → ℕ → Structures
 without_structure part a b = if b == a then None else part b
 
-abbrev pub without : Parts → ℕ → ℕ → Parts
+abbrev pub without : StructureSets → ℕ → ℕ → StructureSets
 without parts n a k = if k == n then without_structure (parts n) a else parts k
 
 -- ---- a structure stands in memory
@@ -122,7 +122,7 @@ Has a (SplitIsochronous v) b = b ≡ a / 32
 
 -- ---- memory is told
 
-pub record Tells (m : Mem) (parts : Parts) : Type 0 where
+pub record Tells (m : Mem) (parts : StructureSets) : Type 0 where
   pub shape : IsShaped m
   pub each : (n a : ℕ) (s : Structure) → parts n a ≡ Some s → Holds m a s
   pub alone : (n a k c : ℕ) (s t : Structure) (b : ℕ) → parts n a ≡ Some s → parts k c ≡ Some t → Has a s b → Has c t b → (k ≡ n) × (c ≡ a)

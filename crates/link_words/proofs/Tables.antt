@@ -8,24 +8,24 @@ use Rattle.std.proofs.lemmas.Bool.{eqb-true, eq-eqb}
 use Rattle.std.proofs.lemmas.Bool.Decides.{nat_tests}
 use Rattle.std.proofs.lemmas.Nat.{shr_split, mod-pow-add, mod_below, pow_pos, same_from_place, mod_low, pow-add, mul-add-lt}
 use Rattle.link_words.specs.declared.refusal.Bad.{Bad}
-use Rattle.link_words.specs.Layout.{Reserved, Free, Above, Zero, Each, Row, Number, Flag, Address, Gap, flag, word_of, words_of, IsAllowed, IsWordInRange, IsInRange, bits, is_set, high_bits, Place, places_of, breaks, is_bad, first_bad_bit, bad_or_later, first_bad_from, first_bad, unless_bad, fits, is_sound_below, is_sound}
+use Rattle.link_words.specs.Layout.{Reserved, Free, Above, Zero, Each, BitRow, Number, Flag, Address, Gap, flag, word_of, words_of, IsAllowed, IsWordInRange, IsInRange, bits, is_set, high_bits, BitRange, ranges_of, breaks, is_bad, first_bad_bit, bad_or_later, first_bad_from, first_bad, unless_bad, fits, is_sound_below, is_sound}
 use Rattle.link_words.proofs.Bits.{first_bit_none, first_bit_all, bits_zero, zero_bits, unset_zero, pow_le}
 use Rattle.link_words.proofs.Shifts.{flag_small}
 
 -- the fields of a word are those of the structure
-abbrev pub SaysWord : {A : Type 0} → List (Row A) → ℕ → A → Type 0
+abbrev pub SaysWord : {A : Type 0} → List (BitRow A) → ℕ → A → Type 0
 SaysWord [] w v = Unit {0}
 SaysWord (Number high low reserved value ∷ rows) w v = (value v ≡ bits high low w) × SaysWord rows w v
 SaysWord (Flag bit value ∷ rows) w v = (value v ≡ is_set bit w) × SaysWord rows w v
 SaysWord (Address low value ∷ rows) w v = (value v ≡ high_bits low w) × SaysWord rows w v
 SaysWord (Gap high low ∷ rows) w v = SaysWord rows w v
 
-abbrev pub SaysFrom : {A : Type 0} → ℕ → List (List (Row A)) → List ℕ → A → Type 0
+abbrev pub SaysFrom : {A : Type 0} → ℕ → List (List (BitRow A)) → List ℕ → A → Type 0
 SaysFrom number [] ws v = Unit {0}
 SaysFrom number (rows ∷ layout) ws v = SaysWord rows (slice_index ws number) v × SaysFrom (suc number) layout ws v
 
 -- the fields of the words are those of the structure
-abbrev pub Says : {A : Type 0} → List (List (Row A)) → List ℕ → A → Type 0
+abbrev pub Says : {A : Type 0} → List (List (BitRow A)) → List ℕ → A → Type 0
 Says layout ws v = SaysFrom 0 layout ws v
 
 -- ---- tests
@@ -146,13 +146,13 @@ sound_gap high low top rest e =
 whole_word : (w : ℕ) → w < 2 ^ 32 → w % 2 ^ 32 ≡ w
 whole_word w l = omega arith
 
-says_word : {A : Type 0} (top : ℕ) (rows : List (Row A)) (w : ℕ) (v : A) → is_sound_below top rows ≡ true → top ≤ 32 → w < 2 ^ 32 → SaysWord rows w v → ((k : ℕ) → k < 32 → is_bad (places_of rows) k w ≡ false) → (word_of rows v ≡ w % 2 ^ top) × IsWordInRange rows v
+says_word : {A : Type 0} (top : ℕ) (rows : List (BitRow A)) (w : ℕ) (v : A) → is_sound_below top rows ≡ true → top ≤ 32 → w < 2 ^ 32 → SaysWord rows w v → ((k : ℕ) → k < 32 → is_bad (ranges_of rows) k w ≡ false) → (word_of rows v ≡ w % 2 ^ top) × IsWordInRange rows v
 says_word top [] w v sound in_word small says free = (rw (eqb-true top 0 sound) (omega arith), tt)
 says_word top (Number high low reserved value ∷ rows) w v sound in_word small says free =
     let s = sound_row high low top reserved (is_sound_below low rows) sound in
     let low_in : low ≤ 32 = omega (arith, s.0.ends, s.0.ordered) in
-    let later : (word_of rows v ≡ w % 2 ^ low) × IsWordInRange rows v = says_word low rows w v s.1 low_in small says.1 (λ k l. (neither (breaks reserved high low k w) (is_bad (places_of rows) k w) (free k l)).1) in
-    let here = allowed reserved high low w s.0.ordered (omega (arith, s.0.ends)) (λ k l. (neither (breaks reserved high low k w) (is_bad (places_of rows) k w) (free k l)).0) in
+    let later : (word_of rows v ≡ w % 2 ^ low) × IsWordInRange rows v = says_word low rows w v s.1 low_in small says.1 (λ k l. (neither (breaks reserved high low k w) (is_bad (ranges_of rows) k w) (free k l)).1) in
+    let here = allowed reserved high low w s.0.ordered (omega (arith, s.0.ends)) (λ k l. (neither (breaks reserved high low k w) (is_bad (ranges_of rows) k w) (free k l)).0) in
     (rw (says.0, later.0, ← s.0.ends) (split_at w high low s.0.ordered), (subst (IsAllowed reserved (high + 1 - low)) (sym says.0) here, later.1))
 says_word top (Flag bit value ∷ rows) w v sound in_word small says free =
     let s = both (bit + 1 == top) (is_sound_below bit rows) sound in
@@ -168,8 +168,8 @@ says_word top (Address low value ∷ rows) w v sound in_word small says free =
 says_word top (Gap high low ∷ rows) w v sound in_word small says free =
     let s = sound_gap high low top (is_sound_below low rows) sound in
     let low_in : low ≤ 32 = omega (arith, s.0, s.1) in
-    let later : (word_of rows v ≡ w % 2 ^ low) × IsWordInRange rows v = says_word low rows w v s.2 low_in small says (λ k l. (neither (breaks Each high low k w) (is_bad (places_of rows) k w) (free k l)).1) in
-    let none : bits high low w ≡ 0 = allowed Each high low w s.1 (omega (arith, s.0)) (λ k l. (neither (breaks Each high low k w) (is_bad (places_of rows) k w) (free k l)).0) in
+    let later : (word_of rows v ≡ w % 2 ^ low) × IsWordInRange rows v = says_word low rows w v s.2 low_in small says (λ k l. (neither (breaks Each high low k w) (is_bad (ranges_of rows) k w) (free k l)).1) in
+    let none : bits high low w ≡ 0 = allowed Each high low w s.1 (omega (arith, s.0)) (λ k l. (neither (breaks Each high low k w) (is_bad (ranges_of rows) k w) (free k l)).0) in
     (rw later.0 (omega (arith, split_at w high low s.1, ap (λ x. x * 2 ^ low) none, ap (λ m. w % 2 ^ m) s.0)), later.1)
 
 -- ---- to what the words say
@@ -182,14 +182,14 @@ allowed_small Zero width n fit h = h.1
 allowed_small Each width n fit h = omega (arith, pow_pos width)
 
 -- the rows don't begin with an address, which may fill the word
-abbrev starts_low : {A : Type 0} → List (Row A) → Bool
+abbrev starts_low : {A : Type 0} → List (BitRow A) → Bool
 starts_low [] = true
 starts_low (Number high low reserved value ∷ rows) = true
 starts_low (Flag bit value ∷ rows) = true
 starts_low (Address low value ∷ rows) = false
 starts_low (Gap high low ∷ rows) = true
 
-below_top : {A : Type 0} (top : ℕ) (rows : List (Row A)) → is_sound_below top rows ≡ true → top < 32 → starts_low rows ≡ true
+below_top : {A : Type 0} (top : ℕ) (rows : List (BitRow A)) → is_sound_below top rows ≡ true → top < 32 → starts_low rows ≡ true
 below_top top [] sound below = refl
 below_top top (Number high low reserved value ∷ rows) sound below = refl
 below_top top (Flag bit value ∷ rows) sound below = refl
@@ -199,7 +199,7 @@ below_top top (Address low value ∷ rows) sound below =
 below_top top (Gap high low ∷ rows) sound below = refl
 
 -- such rows fit below their top
-word_small : {A : Type 0} (top : ℕ) (rows : List (Row A)) (v : A) → is_sound_below top rows ≡ true → top ≤ 32 → starts_low rows ≡ true → IsWordInRange rows v → word_of rows v < 2 ^ top
+word_small : {A : Type 0} (top : ℕ) (rows : List (BitRow A)) (v : A) → is_sound_below top rows ≡ true → top ≤ 32 → starts_low rows ≡ true → IsWordInRange rows v → word_of rows v < 2 ^ top
 word_small top [] v sound in_word low_rows fit = pow_pos top
 word_small top (Number high low reserved value ∷ rows) v sound in_word low_rows fit =
     let s = sound_row high low top reserved (is_sound_below low rows) sound in
@@ -234,7 +234,7 @@ not_broken Each high low w ordered h k = outside (nat_le low k) (nat_le k high) 
     outside true true ea eb = bits_zero w low high ordered h k (le_true low k ea) (le_true k high eb)
 
 -- What the structure's word says is the structure's, and no bit breaks a row. First for rows below an address.
-low_word_says : {A : Type 0} (top : ℕ) (rows : List (Row A)) (w : ℕ) (v : A) → is_sound_below top rows ≡ true → top ≤ 32 → starts_low rows ≡ true → IsWordInRange rows v → word_of rows v ≡ w % 2 ^ top → SaysWord rows w v × ((k : ℕ) → is_bad (places_of rows) k w ≡ false)
+low_word_says : {A : Type 0} (top : ℕ) (rows : List (BitRow A)) (w : ℕ) (v : A) → is_sound_below top rows ≡ true → top ≤ 32 → starts_low rows ≡ true → IsWordInRange rows v → word_of rows v ≡ w % 2 ^ top → SaysWord rows w v × ((k : ℕ) → is_bad (ranges_of rows) k w ≡ false)
 low_word_says top [] w v sound in_word low_rows fit same = (tt, λ k. refl)
 low_word_says top (Number high low reserved value ∷ rows) w v sound in_word low_rows fit same =
     let s = sound_row high low top reserved (is_sound_below low rows) sound in
@@ -267,12 +267,12 @@ low_word_says top (Gap high low ∷ rows) w v sound in_word low_rows fit same =
     let later = low_word_says low rows w v s.2 (omega arith) later_low fit parts.1 in
     (later.0, λ k. rw (not_broken Each high low w s.1 (sym parts.0) k) (later.1 k))
 
-whole_low : {A : Type 0} (rows : List (Row A)) (w : ℕ) (v : A) → is_sound_below 32 rows ≡ true → starts_low rows ≡ true → IsWordInRange rows v → word_of rows v ≡ w → SaysWord rows w v × ((k : ℕ) → is_bad (places_of rows) k w ≡ false)
+whole_low : {A : Type 0} (rows : List (BitRow A)) (w : ℕ) (v : A) → is_sound_below 32 rows ≡ true → starts_low rows ≡ true → IsWordInRange rows v → word_of rows v ≡ w → SaysWord rows w v × ((k : ℕ) → is_bad (ranges_of rows) k w ≡ false)
 whole_low rows w v sound low_rows fit same =
     let small : word_of rows v < 2 ^ 32 = word_small 32 rows v sound (omega arith) low_rows fit in
     low_word_says 32 rows w v sound (omega arith) low_rows fit (same ∙ sym (whole_word w (subst (λ x. x < 2 ^ 32) same small)))
 
-word_says : {A : Type 0} (rows : List (Row A)) (w : ℕ) (v : A) → is_sound_below 32 rows ≡ true → IsWordInRange rows v → word_of rows v ≡ w → SaysWord rows w v × ((k : ℕ) → is_bad (places_of rows) k w ≡ false)
+word_says : {A : Type 0} (rows : List (BitRow A)) (w : ℕ) (v : A) → is_sound_below 32 rows ≡ true → IsWordInRange rows v → word_of rows v ≡ w → SaysWord rows w v × ((k : ℕ) → is_bad (ranges_of rows) k w ≡ false)
 word_says [] w v sound fit same = whole_low [] w v sound refl fit same
 word_says (Number high low reserved value ∷ rows) w v sound fit same = whole_low (Number high low reserved value ∷ rows) w v sound refl fit same
 word_says (Flag bit value ∷ rows) w v sound fit same = whole_low (Flag bit value ∷ rows) w v sound refl fit same
@@ -290,11 +290,11 @@ word_says (Gap high low ∷ rows) w v sound fit same = whole_low (Gap high low �
 
 -- ---- whole structures
 
-no_bad : (places : List Place) (w : ℕ) → first_bad_bit places w ≡ None → (k : ℕ) → k < 32 → is_bad places k w ≡ false
+no_bad : (places : List BitRange) (w : ℕ) → first_bad_bit places w ≡ None → (k : ℕ) → k < 32 → is_bad places k w ≡ false
 unfolding first_bad_bit
 no_bad places w e k below = first_bit_all (λ k. is_bad places k w) 0 32 e k (omega arith) (omega arith)
 
-none_bad : (places : List Place) (w : ℕ) → ((k : ℕ) → is_bad places k w ≡ false) → first_bad_bit places w ≡ None
+none_bad : (places : List BitRange) (w : ℕ) → ((k : ℕ) → is_bad places k w ≡ false) → first_bad_bit places w ≡ None
 unfolding first_bad_bit
 none_bad places w h = first_bit_none (λ k. is_bad places k w) 0 32 (λ k from to. h k)
 
@@ -312,31 +312,31 @@ bad_then number (Some bit) later e = absurd cc
 word_split : (ws : List ℕ) (k : ℕ) → k < length ws → drop k ws ≡ slice_index ws k ∷ drop (suc k) ws
 word_split ws k within = drop-cons ws k 0 within
 
-says_from : {A : Type 0} (number : ℕ) (layout : List (List (Row A))) (ws : List ℕ) (v : A) → is_sound layout ≡ true → number + length layout ≡ length ws → ((k : ℕ) → slice_index ws k < 2 ^ 32) → SaysFrom number layout ws v → first_bad_from number layout ws ≡ None → (words_of layout v ≡ drop number ws) × IsInRange layout v
+says_from : {A : Type 0} (number : ℕ) (layout : List (List (BitRow A))) (ws : List ℕ) (v : A) → is_sound layout ≡ true → number + length layout ≡ length ws → ((k : ℕ) → slice_index ws k < 2 ^ 32) → SaysFrom number layout ws v → first_bad_from number layout ws ≡ None → (words_of layout v ≡ drop number ws) × IsInRange layout v
 says_from number [] ws v sound lengths small says free = (sym (drop_all number ws (omega arith)), tt)
 says_from number (rows ∷ layout) ws v sound lengths small says free =
     let s = both (is_sound_below 32 rows) (is_sound layout) sound in
-    let f = bad_then number (first_bad_bit (places_of rows) (slice_index ws number)) _ free in
+    let f = bad_then number (first_bad_bit (ranges_of rows) (slice_index ws number)) _ free in
     let later = says_from (suc number) layout ws v s.1 (omega arith) small says.1 f.1 in
-    let here = says_word 32 rows (slice_index ws number) v s.0 (omega arith) (small number) says.0 (no_bad (places_of rows) (slice_index ws number) f.0) in
+    let here = says_word 32 rows (slice_index ws number) v s.0 (omega arith) (small number) says.0 (no_bad (ranges_of rows) (slice_index ws number) f.0) in
     let word : word_of rows v ≡ slice_index ws number = here.0 ∙ whole_word (slice_index ws number) (small number) in
     (rw (word, later.0) (sym (word_split ws number (omega arith))), (here.1, later.1))
 
 -- what no bit breaks is the words of what they say, and it is in its range
-pub words_of-says : {A : Type 0} (layout : List (List (Row A))) (ws : List ℕ) (v : A) → is_sound layout ≡ true → length ws ≡ length layout → ((k : ℕ) → slice_index ws k < 2 ^ 32) → Says layout ws v → first_bad layout ws ≡ None → (words_of layout v ≡ ws) × IsInRange layout v
+pub words_of-says : {A : Type 0} (layout : List (List (BitRow A))) (ws : List ℕ) (v : A) → is_sound layout ≡ true → length ws ≡ length layout → ((k : ℕ) → slice_index ws k < 2 ^ 32) → Says layout ws v → first_bad layout ws ≡ None → (words_of layout v ≡ ws) × IsInRange layout v
 words_of-says layout ws v sound lengths small says free = says_from 0 layout ws v sound (omega arith) small says free
 
-from_says : {A : Type 0} (number : ℕ) (layout : List (List (Row A))) (ws : List ℕ) (v : A) → is_sound layout ≡ true → IsInRange layout v → words_of layout v ≡ drop number ws → SaysFrom number layout ws v × (first_bad_from number layout ws ≡ None)
+from_says : {A : Type 0} (number : ℕ) (layout : List (List (BitRow A))) (ws : List ℕ) (v : A) → is_sound layout ≡ true → IsInRange layout v → words_of layout v ≡ drop number ws → SaysFrom number layout ws v × (first_bad_from number layout ws ≡ None)
 from_says number [] ws v sound fit same = (tt, refl)
 from_says number (rows ∷ layout) ws v sound fit same =
     let s = both (is_sound_below 32 rows) (is_sound layout) sound in
     let word : word_of rows v ≡ slice_index ws number = head_of number ws (word_of rows v) (words_of layout v) same in
     let here = word_says rows (slice_index ws number) v s.0 fit.0 word in
     let later = from_says (suc number) layout ws v s.1 fit.1 (tail_of number ws (word_of rows v) (words_of layout v) same) in
-    ((here.0, later.0), rw (none_bad (places_of rows) (slice_index ws number) here.1) later.1)
+    ((here.0, later.0), rw (none_bad (ranges_of rows) (slice_index ws number) here.1) later.1)
 
 -- the words of a structure that is in its range say what it says, and no bit breaks a row
-pub says-words_of : {A : Type 0} (layout : List (List (Row A))) (ws : List ℕ) (v : A) → is_sound layout ≡ true → IsInRange layout v → words_of layout v ≡ ws → Says layout ws v × (first_bad layout ws ≡ None)
+pub says-words_of : {A : Type 0} (layout : List (List (BitRow A))) (ws : List ℕ) (v : A) → is_sound layout ≡ true → IsInRange layout v → words_of layout v ≡ ws → Says layout ws v × (first_bad layout ws ≡ None)
 says-words_of layout ws v sound fit same = from_says 0 layout ws v sound fit same
 
 -- reading answers a structure where no bit breaks a row

@@ -2,10 +2,10 @@
 use Rattle.std.specs.Prelude.{ℕ, List, [], ◌∷◌}
 use Rattle.link_words.specs.declared.fields.LinkBits.{LinkBits}
 use Rattle.link_words.specs.declared.fields.ShortLink.{ShortLink}
-use Rattle.link_words.specs.Layout.{Row, Number, Flag, Address, Gap, Free, bits, is_set, high_bits}
+use Rattle.link_words.specs.Layout.{BitRow, Number, Flag, Address, Gap, Free, bits, is_set, high_bits}
 
 -- a link to a structure of any type
-abbrev pub link_rows : List (Row LinkBits)
+abbrev pub link_rows : List (BitRow LinkBits)
 link_rows =
     Address 5 (λ l. l.address) ∷
     Gap 4 3 ∷
@@ -13,7 +13,7 @@ link_rows =
     Flag 0 (λ l. l.t) ∷ []
 
 -- a link to a structure of one type
-abbrev pub short_link_rows : List (Row ShortLink)
+abbrev pub short_link_rows : List (BitRow ShortLink)
 short_link_rows =
     Address 5 (λ l. l.address) ∷
     Gap 4 1 ∷
@@ -27,5 +27,5 @@ abbrev pub short_link_at : ℕ → ShortLink
 short_link_at w = record { t = is_set 0 w; address = high_bits 5 w }
 
 -- a page of a buffer, alone in its word
-abbrev pub page_rows : {A : Type 0} → (A → ℕ) → List (Row A)
+abbrev pub page_rows : {A : Type 0} → (A → ℕ) → List (BitRow A)
 page_rows page = Number 31 12 Free page ∷ Gap 11 0 ∷ []

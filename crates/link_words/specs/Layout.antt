@@ -14,20 +14,20 @@ pub data Reserved : Type 0 where
 -- One row of a word: its highest and its lowest bit, which of its values are reserved, and the field of the structure A
 -- that stands there. An address has the bits from its lowest one up to bit 31 and is kept as it stands in the word,
 -- so it is a multiple of 2 to that bit. A gap has no field: its bits are reserved and are 0.
-pub data Row (A : Type 0) : Type 0 where
-  Number : ℕ → ℕ → Reserved → (A → ℕ) → Row A
-  Flag : ℕ → (A → Bool) → Row A
-  Address : ℕ → (A → ℕ) → Row A
-  Gap : ℕ → ℕ → Row A
+pub data BitRow (A : Type 0) : Type 0 where
+  Number : ℕ → ℕ → Reserved → (A → ℕ) → BitRow A
+  Flag : ℕ → (A → Bool) → BitRow A
+  Address : ℕ → (A → ℕ) → BitRow A
+  Gap : ℕ → ℕ → BitRow A
 
 -- a field of a part is a field of the whole
-abbrev pub row_within : {A B : Type 0} → (B → A) → Row A → Row B
+abbrev pub row_within : {A B : Type 0} → (B → A) → BitRow A → BitRow B
 row_within of (Number high low reserved value) = Number high low reserved (λ v. value (of v))
 row_within of (Flag bit value) = Flag bit (λ v. value (of v))
 row_within of (Address low value) = Address low (λ v. value (of v))
 row_within of (Gap high low) = Gap high low
 
-abbrev pub within : {A B : Type 0} → (B → A) → List (Row A) → List (Row B)
+abbrev pub within : {A B : Type 0} → (B → A) → List (BitRow A) → List (BitRow B)
 within of [] = []
 within of (row ∷ rows) = row_within of row ∷ within of rows
 
@@ -38,19 +38,19 @@ abbrev pub flag : Bool → ℕ
 flag b = bool_byte b
 
 -- what a row adds to its word
-abbrev pub part : {A : Type 0} → Row A → A → ℕ
+abbrev pub part : {A : Type 0} → BitRow A → A → ℕ
 part (Number high low reserved value) v = value v * 2 ^ low
 part (Flag bit value) v = flag (value v) * 2 ^ bit
 part (Address low value) v = value v
 part (Gap high low) v = 0
 
 -- the word: the sum over its rows
-abbrev pub word_of : {A : Type 0} → List (Row A) → A → ℕ
+abbrev pub word_of : {A : Type 0} → List (BitRow A) → A → ℕ
 word_of [] v = 0
 word_of (row ∷ rows) v = part row v + word_of rows v
 
 -- the words of a structure
-abbrev pub words_of : {A : Type 0} → List (List (Row A)) → A → List ℕ
+abbrev pub words_of : {A : Type 0} → List (List (BitRow A)) → A → List ℕ
 words_of [] v = []
 words_of (rows ∷ layout) v = word_of rows v ∷ words_of layout v
 
@@ -63,7 +63,7 @@ IsAllowed (Above most) width n = n ≤ most
 IsAllowed Zero width n = (0 < n) × (n < 2 ^ width)
 IsAllowed Each width n = n ≡ 0
 
-abbrev pub IsWordInRange : {A : Type 0} → List (Row A) → A → Type 0
+abbrev pub IsWordInRange : {A : Type 0} → List (BitRow A) → A → Type 0
 IsWordInRange [] v = Unit {0}
 IsWordInRange (Number high low reserved value ∷ rows) v = IsAllowed reserved (high + 1 - low) (value v) × IsWordInRange rows v
 IsWordInRange (Flag bit value ∷ rows) v = IsWordInRange rows v
@@ -71,7 +71,7 @@ IsWordInRange (Address low value ∷ rows) v = (value v % 2 ^ low ≡ 0) × IsWo
 IsWordInRange (Gap high low ∷ rows) v = IsWordInRange rows v
 
 -- Each field is in its range: a number fits its bits and is not reserved, an address is a multiple of 2 to its lowest bit.
-abbrev pub IsInRange : {A : Type 0} → List (List (Row A)) → A → Type 0
+abbrev pub IsInRange : {A : Type 0} → List (List (BitRow A)) → A → Type 0
 IsInRange [] v = Unit {0}
 IsInRange (rows ∷ layout) v = IsWordInRange rows v × IsInRange layout v
 
@@ -92,20 +92,20 @@ high_bits low w = w / 2 ^ low * 2 ^ low
 -- ---- reserved bits
 
 -- a row without its field
-pub record Place : Type 0 where
+pub record BitRange : Type 0 where
   pub high : ℕ
   pub low : ℕ
   pub reserved : Reserved
 
-abbrev pub place_of : {A : Type 0} → Row A → Place
-place_of (Number high low reserved value) = record { high = high; low = low; reserved = reserved }
-place_of (Flag bit value) = record { high = bit; low = bit; reserved = Free }
-place_of (Address low value) = record { high = 31; low = low; reserved = Free }
-place_of (Gap high low) = record { high = high; low = low; reserved = Each }
+abbrev pub range_of : {A : Type 0} → BitRow A → BitRange
+range_of (Number high low reserved value) = record { high = high; low = low; reserved = reserved }
+range_of (Flag bit value) = record { high = bit; low = bit; reserved = Free }
+range_of (Address low value) = record { high = 31; low = low; reserved = Free }
+range_of (Gap high low) = record { high = high; low = low; reserved = Each }
 
-abbrev pub places_of : {A : Type 0} → List (Row A) → List Place
-places_of [] = []
-places_of (row ∷ rows) = place_of row ∷ places_of rows
+abbrev pub ranges_of : {A : Type 0} → List (BitRow A) → List BitRange
+ranges_of [] = []
+ranges_of (row ∷ rows) = range_of row ∷ ranges_of rows
 
 -- Bit k of word w breaks the row from `low` to `high`: it is the lowest bit of a reserved value, or, where each bit of
 -- the row is reserved, one of its bits that is 1.
@@ -115,7 +115,7 @@ breaks (Above most) high low k w = k == low && nat_lt most (bits high low w)
 breaks Zero high low k w = k == low && bits high low w == 0
 breaks Each high low k w = nat_le low k && nat_le k high && is_set k w
 
-abbrev pub is_bad : List Place → ℕ → ℕ → Bool
+abbrev pub is_bad : List BitRange → ℕ → ℕ → Bool
 is_bad [] k w = false
 is_bad (place ∷ places) k w = breaks place.reserved place.high place.low k w || is_bad places k w
 
@@ -125,19 +125,19 @@ first_bit test k zero = None
 first_bit test k (suc n) = if test k then Some k else first_bit test (suc k) n
 
 -- the first bit of a word that breaks a row
-unfoldable pub first_bad_bit : List Place → ℕ → Option ℕ
+unfoldable pub first_bad_bit : List BitRange → ℕ → Option ℕ
 first_bad_bit places w = first_bit (λ k. is_bad places k w) 0 32
 
 abbrev pub bad_or_later : ℕ → Option ℕ → Option Bad → Option Bad
 bad_or_later number (Some bit) later = Some (record { word = number; bit = bit })
 bad_or_later number None later = later
 
-abbrev pub first_bad_from : {A : Type 0} → ℕ → List (List (Row A)) → List ℕ → Option Bad
+abbrev pub first_bad_from : {A : Type 0} → ℕ → List (List (BitRow A)) → List ℕ → Option Bad
 first_bad_from number [] ws = None
-first_bad_from number (rows ∷ layout) ws = bad_or_later number (first_bad_bit (places_of rows) (slice_index ws number)) (first_bad_from (suc number) layout ws)
+first_bad_from number (rows ∷ layout) ws = bad_or_later number (first_bad_bit (ranges_of rows) (slice_index ws number)) (first_bad_from (suc number) layout ws)
 
 -- the first bit of the words that breaks a row: by word, and then by bit
-abbrev pub first_bad : {A : Type 0} → List (List (Row A)) → List ℕ → Option Bad
+abbrev pub first_bad : {A : Type 0} → List (List (BitRow A)) → List ℕ → Option Bad
 first_bad layout ws = first_bad_from 0 layout ws
 
 -- what reading answers: the structure, or the first bit that breaks a row
@@ -155,7 +155,7 @@ fits Zero width = true
 fits Each width = true
 
 -- each bit below `top` stands in exactly one row, and an address goes up to bit 31
-abbrev pub is_sound_below : {A : Type 0} → ℕ → List (Row A) → Bool
+abbrev pub is_sound_below : {A : Type 0} → ℕ → List (BitRow A) → Bool
 is_sound_below top [] = top == 0
 is_sound_below top (Number high low reserved value ∷ rows) = high + 1 == top && nat_le low high && fits reserved (high + 1 - low) && is_sound_below low rows
 is_sound_below top (Flag bit value ∷ rows) = bit + 1 == top && is_sound_below bit rows
@@ -163,6 +163,6 @@ is_sound_below top (Address low value ∷ rows) = top == 32 && nat_lt low 32 && 
 is_sound_below top (Gap high low ∷ rows) = high + 1 == top && nat_le low high && is_sound_below low rows
 
 -- each of the 32 bits of each word stands in exactly one row
-abbrev pub is_sound : {A : Type 0} → List (List (Row A)) → Bool
+abbrev pub is_sound : {A : Type 0} → List (List (BitRow A)) → Bool
 is_sound [] = true
 is_sound (rows ∷ layout) = is_sound_below 32 rows && is_sound layout

@@ -23,7 +23,7 @@ pub struct ShortLink {
 }
 
 impl LinkBits {
-    ghost use Rattle.link_words.specs.Layout.{word_of, IsWordInRange, first_bad_bit, places_of};
+    ghost use Rattle.link_words.specs.Layout.{word_of, IsWordInRange, first_bad_bit, ranges_of};
     ghost use Rattle.link_words.specs.Fields.{link_rows, link_at};
 
     /// The fields of a word, whatever its reserved bits hold.
@@ -42,7 +42,7 @@ impl LinkBits {
     #[tactic(auto, unfolding(crate::specs::Layout::first_bad_bit))]
     #[inline]
     pub fn bad_bit(word: u32) -> Option<u8>
-        ensures { result ≡ first_bad_bit (places_of link_rows) word }
+        ensures { result ≡ first_bad_bit (ranges_of link_rows) word }
     {
         first_set(word, 4, 3)
     }
@@ -59,7 +59,7 @@ impl LinkBits {
 }
 
 impl ShortLink {
-    ghost use Rattle.link_words.specs.Layout.{word_of, IsWordInRange, first_bad_bit, places_of};
+    ghost use Rattle.link_words.specs.Layout.{word_of, IsWordInRange, first_bad_bit, ranges_of};
     ghost use Rattle.link_words.specs.Fields.{short_link_rows, short_link_at};
 
     /// The fields of a word, whatever its reserved bits hold.
@@ -77,7 +77,7 @@ impl ShortLink {
     #[tactic(auto, unfolding(crate::specs::Layout::first_bad_bit))]
     #[inline]
     pub fn bad_bit(word: u32) -> Option<u8>
-        ensures { result ≡ first_bad_bit (places_of short_link_rows) word }
+        ensures { result ≡ first_bad_bit (ranges_of short_link_rows) word }
     {
         first_set(word, 4, 1)
     }

@@ -1,7 +1,7 @@
 ghost use Rattle.std.specs.Prelude.{◌≡◌, true, Some, None, ◌∷◌, []};
 ghost use Rattle.link_words.specs.declared.kinds.Link.{Link};
 ghost use Rattle.link_words.specs.declared.kinds.QtdLink.{QtdLink};
-ghost use Rattle.link_words.specs.Layout.{first_bad_bit, places_of, is_sound};
+ghost use Rattle.link_words.specs.Layout.{first_bad_bit, ranges_of, is_sound};
 ghost use Rattle.link_words.specs.Fields.{link_rows, short_link_rows};
 ghost use Rattle.link_words.specs.Links.{link_read, link_word, qtd_link_read, qtd_link_word};
 
@@ -22,8 +22,8 @@ pub fn worked_words()
     ensures read_end { link_read 0xFFFF_FFFF ≡ Link.End }
     ensures read_reserved { link_read 0x1018 ≡ Link.Itd 0x1000 }
     ensures read_qtd { qtd_link_read 0x2020 ≡ QtdLink.To 0x2020 }
-    ensures none { first_bad_bit (places_of link_rows) 0xFFFF_FFE7 ≡ None }
-    ensures both { first_bad_bit (places_of link_rows) 0x1018 ≡ Some 3 }
-    ensures upper { first_bad_bit (places_of link_rows) 0x1010 ≡ Some 4 }
-    ensures short { first_bad_bit (places_of short_link_rows) 0x1012 ≡ Some 1 }
+    ensures none { first_bad_bit (ranges_of link_rows) 0xFFFF_FFE7 ≡ None }
+    ensures both { first_bad_bit (ranges_of link_rows) 0x1018 ≡ Some 3 }
+    ensures upper { first_bad_bit (ranges_of link_rows) 0x1010 ≡ Some 4 }
+    ensures short { first_bad_bit (ranges_of short_link_rows) 0x1012 ≡ Some 1 }
 {}

@@ -1,5 +1,5 @@
 ghost use Rattle.std.specs.Prelude.{◌≡◌, ◌<◌, ◌^◌};
-ghost use Rattle.link_words.specs.Layout.{first_bad_bit, places_of, word_of};
+ghost use Rattle.link_words.specs.Layout.{first_bad_bit, ranges_of, word_of};
 ghost use Rattle.link_words.specs.Fields.{page_rows};
 
 use crate::word_bits::first_set;
@@ -8,7 +8,7 @@ use crate::word_bits::first_set;
 #[inline]
 #[tactic(auto, unfolding(crate::specs::Layout::first_bad_bit))]
 pub fn page_bad_bit(word: u32) -> Option<u8>
-    ensures { result ≡ first_bad_bit (places_of (page_rows (λ page. page))) word }
+    ensures { result ≡ first_bad_bit (ranges_of (page_rows (λ page. page))) word }
 {
     first_set(word, 11, 0)
 }

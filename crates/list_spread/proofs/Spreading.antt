@@ -55,10 +55,10 @@ that_one k y is =
     let b : y.frame ≡ k.frame = eqb-true y.frame k.frame one.1 in
     ap (λ (i : ℕ). let z : Descriptor = record y { id = i } in z) a ∙ ap (λ (i : ℕ). let z : Descriptor = record { id = k.id; frame = i } in z) b
 
-queue_there : (d : DriverContent) (q : Queue) → IsListed d → is_linked d.periodic.list.members.schedule (Each q) ≡ true → IsQueueOf d q
+pub queue_there : (d : DriverContent) (q : Queue) → IsListed d → is_linked d.periodic.list.members.schedule (Each q) ≡ true → IsQueueOf d q
 queue_there d q listed on = any_all (IsQueueOf d) is_this q d.periodic.list.members.schedule.queues (this_one q) listed.list.members.queues on
 
-standing_there : (d : DriverContent) (k : Descriptor) → IsListed d → is_linked d.periodic.list.members.schedule (Once k) ≡ true → IsStanding d (Once k)
+pub standing_there : (d : DriverContent) (k : Descriptor) → IsListed d → is_linked d.periodic.list.members.schedule (Once k) ≡ true → IsStanding d (Once k)
 standing_there d k listed on = any_all (λ (x : Descriptor). IsStanding d (Once x)) is_that k d.periodic.list.members.schedule.descriptors (that_one k) listed.list.members.descriptors on
 
 -- ---- whose its run is

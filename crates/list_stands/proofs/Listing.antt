@@ -16,14 +16,14 @@ use Rattle.frame_words.proofs.Order.{empty_in_order}
 use Rattle.driver_rows.specs.declared.content.Endpoint.{Endpoint}
 use Rattle.driver_rows.specs.declared.content.Transfer.{Transfer}
 use Rattle.driver_rows.specs.declared.content.Reserve.{Reserve}
-use Rattle.driver_rows.specs.declared.rows.Row.{Row}
-use Rattle.driver_rows.specs.declared.rows.Row.TheVariants as rows
+use Rattle.driver_rows.specs.declared.rows.DriverRow.{DriverRow}
+use Rattle.driver_rows.specs.declared.rows.DriverRow.TheVariants as rows
 use Rattle.driver_rows.specs.declared.rows.Found.{Found}
 use Rattle.driver_rows.specs.declared.rows.Found.TheVariants as founds
 use Rattle.driver_rows.specs.DriverContent.{DriverContent, waits_for}
 use Rattle.driver_rows.specs.Opening.{opening}
 use Rattle.driver_rows.specs.Harvests.{is_stall, end_of, noted}
-use Rattle.driver_rows.specs.Rows.{Parts, row_of, after_row, served, told_with, behind_one, behind, after_end, harvested_as, after_harvest}
+use Rattle.driver_rows.specs.Rows.{Parts, driver_row, after_driver_row, served, told_with, behind_one, behind, after_end, harvested_as, after_harvest}
 use Rattle.lent_structures.specs.Structures.{Table, HoldsTable}
 use Rattle.driver_parts.specs.Driven.{is_quiet}
 use Rattle.driver_parts.specs.Opened.{empty_list}
@@ -102,7 +102,7 @@ same_list m d e same old = record {
   words = subst (λ (p : Periodic). StandFor p (word_at m)) (sym same) old.words;
 }
 
-quiet_stands : (row : Row) (p : Parts) → is_quiet row ≡ true → ListStands p.memory p.driver → ListStands (after_row row p).memory (after_row row p).driver
+quiet_stands : (row : DriverRow) (p : Parts) → is_quiet row ≡ true → ListStands p.memory p.driver → ListStands (after_driver_row row p).memory (after_driver_row row p).driver
 quiet_stands rows.Lend p quiet old = absurd (false≢true quiet)
 quiet_stands (rows.Store b at v) p quiet old = absurd (false≢true quiet)
 quiet_stands (rows.Mend w) p quiet old = absurd (false≢true quiet)
@@ -112,14 +112,14 @@ quiet_stands (rows.Unlink t) p quiet old = absurd (false≢true quiet)
 quiet_stands (rows.ReleaseRemoved what) p quiet old = absurd (false≢true quiet)
 quiet_stands (rows.ReleaseTransfer t) p quiet old = absurd (false≢true quiet)
 quiet_stands (rows.ReleaseEndpoint e) p quiet old = absurd (false≢true quiet)
-quiet_stands (rows.ReadFrame n) p quiet old = same_list p.memory p.driver (after_row (rows.ReadFrame n) p).driver refl old
-quiet_stands rows.ClearAdvance p quiet old = same_list p.memory p.driver (after_row rows.ClearAdvance p).driver refl old
-quiet_stands rows.RingBell p quiet old = same_list p.memory p.driver (after_row rows.RingBell p).driver refl old
-quiet_stands (rows.ReadStatus true) p quiet old = same_list p.memory p.driver (after_row (rows.ReadStatus true) p).driver refl old
-quiet_stands (rows.ReadStatus false) p quiet old = same_list p.memory p.driver (after_row (rows.ReadStatus false) p).driver refl old
+quiet_stands (rows.ReadFrame n) p quiet old = same_list p.memory p.driver (after_driver_row (rows.ReadFrame n) p).driver refl old
+quiet_stands rows.ClearAdvance p quiet old = same_list p.memory p.driver (after_driver_row rows.ClearAdvance p).driver refl old
+quiet_stands rows.RingBell p quiet old = same_list p.memory p.driver (after_driver_row rows.RingBell p).driver refl old
+quiet_stands (rows.ReadStatus true) p quiet old = same_list p.memory p.driver (after_driver_row (rows.ReadStatus true) p).driver refl old
+quiet_stands (rows.ReadStatus false) p quiet old = same_list p.memory p.driver (after_driver_row (rows.ReadStatus false) p).driver refl old
 quiet_stands (rows.Harvest e t found) p quiet old =
-    same_list p.memory p.driver (after_row (rows.Harvest e t found) p).driver (harvest_list p.driver p.memory e t found (slice_get p.driver.endpoints e) (slice_get p.driver.transfers t)) old
-quiet_stands rows.Rest p quiet old = same_list p.memory p.driver (after_row rows.Rest p).driver refl old
+    same_list p.memory p.driver (after_driver_row (rows.Harvest e t found) p).driver (harvest_list p.driver p.memory e t found (slice_get p.driver.endpoints e) (slice_get p.driver.transfers t)) old
+quiet_stands rows.Rest p quiet old = same_list p.memory p.driver (after_driver_row rows.Rest p).driver refl old
 
-pub event_stands : (p : Parts) → is_quiet (row_of p) ≡ true → ListStands p.memory p.driver → ListStands (after_row (row_of p) p).memory (after_row (row_of p) p).driver
-event_stands p quiet old = quiet_stands (row_of p) p quiet old
+pub event_stands : (p : Parts) → is_quiet (driver_row p) ≡ true → ListStands p.memory p.driver → ListStands (after_driver_row (driver_row p) p).memory (after_driver_row (driver_row p) p).driver
+event_stands p quiet old = quiet_stands (driver_row p) p quiet old

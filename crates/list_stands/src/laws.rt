@@ -3,7 +3,7 @@ ghost use Rattle.word_mem.specs.Memory.{Mem, word_at};
 ghost use Rattle.driver_rows.specs.declared.content.Reserve.{Reserve};
 ghost use Rattle.driver_rows.specs.DriverContent.{DriverContent};
 ghost use Rattle.driver_rows.specs.Opening.{opening};
-ghost use Rattle.driver_rows.specs.Rows.{Parts, row_of, after_row};
+ghost use Rattle.driver_rows.specs.Rows.{Parts, driver_row, after_driver_row};
 ghost use Rattle.driver_parts.specs.Driven.{is_quiet};
 ghost use Rattle.list_words.specs.Spared.{LeavesList};
 ghost use Rattle.list_stands.specs.Standing.{ListStands};
@@ -20,5 +20,5 @@ pub fn it_stands_where_its_words_are_left()
 
 /// An event of the driver that stores no word keeps it so.
 pub fn quiet_events_keep_it_standing()
-    ensures { (p : Parts) → is_quiet (row_of p) ≡ true → ListStands p.memory p.driver → ListStands (after_row (row_of p) p).memory (after_row (row_of p) p).driver }
+    ensures { (p : Parts) → is_quiet (driver_row p) ≡ true → ListStands p.memory p.driver → ListStands (after_driver_row (driver_row p) p).memory (after_driver_row (driver_row p) p).driver }
 {}

@@ -9,12 +9,12 @@ use Rattle.driver_rows.specs.declared.content.Endpoint.{Endpoint}
 use Rattle.driver_rows.specs.declared.content.Transfer.{Transfer}
 use Rattle.driver_rows.specs.declared.content.Command.{Command}
 use Rattle.driver_rows.specs.declared.content.Command.TheVariants as unfinished
-use Rattle.driver_rows.specs.declared.rows.Row.{Row}
-use Rattle.driver_rows.specs.declared.rows.Row.TheVariants as rows
+use Rattle.driver_rows.specs.declared.rows.DriverRow.{DriverRow}
+use Rattle.driver_rows.specs.declared.rows.DriverRow.TheVariants as rows
 use Rattle.driver_rows.specs.declared.rows.Found.{Found}
 use Rattle.driver_rows.specs.declared.rows.Found.TheVariants as founds
 use Rattle.driver_rows.specs.DriverContent.{DriverContent}
-use Rattle.driver_rows.specs.Rows.{Parts, is_iso, events_of, advanced_by, advance, framed_by, linked_by, found_of, after_harvest, served, descriptor_told, row_of, after_row}
+use Rattle.driver_rows.specs.Rows.{Parts, is_iso, events_of, advanced_by, advance, framed_by, linked_by, found_of, after_harvest, served, descriptor_told, driver_row, after_driver_row}
 use Rattle.run_owners.specs.Owners.{is_descriptor}
 use Rattle.run_owners.specs.Leaving.{IsOrderly}
 use Rattle.run_owners.specs.Due.{IsHarvestDue, IsDue}
@@ -57,7 +57,7 @@ command_goes d (unfinished.Unchain e) is late own old = unchain_goes d e own is 
 goes_on : (d : DriverContent) (c : Command) → d.command ≡ Some c → IsLate c d.made → Owns d → IsListed d → IsListed (advance d)
 goes_on d c is late own old = subst (λ (o : Option Command). IsListed (advanced_by d o)) (sym is) (command_goes d c is late own old)
 
-no_frames : (c : Command) (made : ℕ) (row : Row) → slice_get (events_of c) made ≡ Some row → (rows.Frames ≡ row → ⊥) → IsLate c made
+no_frames : (c : Command) (made : ℕ) (row : DriverRow) → slice_get (events_of c) made ≡ Some row → (rows.Frames ≡ row → ⊥) → IsLate c made
 no_frames (unfinished.Open queue) made row next other = tt
 no_frames (unfinished.Publish b words) made row next other = tt
 no_frames (unfinished.Unlink e b link) made row next other = tt
@@ -183,7 +183,7 @@ harvest_listed p e t found due order old = by found due.tells
         subst (λ b. IsListed (cond b (served (descriptor_told d p.memory e t x y errors) e) d)) (sym due.waits)
         (told_listed d p.memory e t x y errors due.here due.there (in_frames d e x order due.here due.goes_on iso) waits.endpoint waits.reported sort calm old)
 
-pub row_listed : (row : Row) (p : Parts) → IsDue p row → HasOwners p.driver → IsListed p.driver → IsListed (after_row row p).driver
+pub row_listed : (row : DriverRow) (p : Parts) → IsDue p row → HasOwners p.driver → IsListed p.driver → IsListed (after_driver_row row p).driver
 row_listed rows.Lend p due has old =
     let k = (lend_taken (holding p.driver.book p.memory)).book in
     goes_on (record p.driver { book = k }) due.command due.unfinished (no_frames due.command p.driver.made rows.Lend due.next (λ same. absurd (cc))) (book_owns p.driver k (owns p.driver has)) (with_book p.driver k old)
@@ -213,5 +213,5 @@ row_listed (rows.Harvest e t found) p due has old =
     (subst (λ (o : Option Transfer). IsListed (after_harvest p.driver p.memory e t found (Some due.endpoint) o)) (sym due.there) (harvest_listed p e t found due has.orderly old))
 row_listed rows.Rest p due has old = old
 
-pub event_listed : (p : Parts) → HasOwners p.driver → IsListed p.driver → IsListed (after_row (row_of p) p).driver
-event_listed p has old = row_listed (row_of p) p (each_is_due p) has old
+pub event_listed : (p : Parts) → HasOwners p.driver → IsListed p.driver → IsListed (after_driver_row (driver_row p) p).driver
+event_listed p has old = row_listed (driver_row p) p (each_is_due p) has old

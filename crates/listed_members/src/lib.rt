@@ -16,7 +16,7 @@ ghost use Rattle.driver_rows.specs.declared.content.Reserve.{Reserve};
 ghost use Rattle.driver_rows.specs.DriverContent.{DriverContent};
 ghost use Rattle.driver_rows.specs.Offers.{Offered, offered, IsOffered};
 ghost use Rattle.driver_rows.specs.Opening.{opening};
-ghost use Rattle.driver_rows.specs.Rows.{Parts, row_of, after_row};
+ghost use Rattle.driver_rows.specs.Rows.{Parts, driver_row, after_driver_row};
 ghost use Rattle.run_owners.specs.Kept.{HasOwners};
 ghost use Rattle.listed_members.specs.Listed.{HaveRuns, IsListed, LinksWaiting};
 
@@ -33,7 +33,7 @@ pub fn commands_keep_the_list()
 /// Each event of the driver keeps the members: a store of the list links or unlinks one, what is to be unlinked is there, and what is given back
 /// isn't any more.
 pub fn events_keep_the_list()
-    ensures { (p : Parts) → HasOwners p.driver → IsListed p.driver → IsListed (after_row (row_of p) p).driver }
+    ensures { (p : Parts) → HasOwners p.driver → IsListed p.driver → IsListed (after_driver_row (driver_row p) p).driver }
 {}
 
 /// Each member begins a run of its own endpoint or transfer, which wasn't given back.

@@ -15,12 +15,12 @@ use Rattle.driver_rows.specs.declared.content.Endpoint.{Endpoint}
 use Rattle.driver_rows.specs.declared.content.Transfer.{Transfer}
 use Rattle.driver_rows.specs.declared.content.Command.{Command}
 use Rattle.driver_rows.specs.declared.content.Command.TheVariants as unfinished
-use Rattle.driver_rows.specs.declared.rows.Row.{Row}
-use Rattle.driver_rows.specs.declared.rows.Row.TheVariants as rows
+use Rattle.driver_rows.specs.declared.rows.DriverRow.{DriverRow}
+use Rattle.driver_rows.specs.declared.rows.DriverRow.TheVariants as rows
 use Rattle.driver_rows.specs.declared.rows.Found.{Found}
 use Rattle.driver_rows.specs.declared.rows.Found.TheVariants as founds
 use Rattle.driver_rows.specs.DriverContent.{DriverContent, next_after}
-use Rattle.driver_rows.specs.Rows.{Parts, events_of, advanced_by, advance, linked_on, framed_by, linked_by, framed_notes, with_notes, placement_at, found_of, after_harvest, served, descriptor_told, is_told, cancel_told, gone_with, removed_with, free_endpoint, free_placed, freed_by, after_transfer, after_endpoint, after_unlink, after_descriptor, after_placed, after_removed, row_of, after_row}
+use Rattle.driver_rows.specs.Rows.{Parts, events_of, advanced_by, advance, linked_on, framed_by, linked_by, framed_notes, with_notes, placement_at, found_of, after_harvest, served, descriptor_told, is_told, cancel_told, gone_with, removed_with, free_endpoint, free_placed, freed_by, after_transfer, after_endpoint, after_unlink, after_descriptor, after_placed, after_removed, driver_row, after_driver_row}
 use Rattle.run_owners.specs.Leaving.{IsOrderly}
 use Rattle.run_owners.specs.Due.{IsHarvestDue, IsDue}
 use Rattle.run_owners.specs.Kept.{HasOwners}
@@ -160,7 +160,7 @@ harvest_same p e t found due order = by found due.tells
 
 -- ---- any event
 
-row_queues : (row : Row) (p : Parts) → IsDue p row → HasOwners p.driver → IsListed p.driver → HasQueues p.driver → HasQueues (after_row row p).driver
+row_queues : (row : DriverRow) (p : Parts) → IsDue p row → HasOwners p.driver → IsListed p.driver → HasQueues p.driver → HasQueues (after_driver_row row p).driver
 row_queues rows.Lend p due has listed old =
     let k = (lend_taken (holding p.driver.book p.memory)).book in
     goes_on (record p.driver { book = k }) due.command due.unfinished (book_owns p.driver k (owns p.driver has)) (with_book p.driver k listed) (book_queues p.driver k old)
@@ -186,5 +186,5 @@ row_queues (rows.Harvest e t found) p due has listed old =
     (subst (λ (o : Option Transfer). SameQueues p.driver (after_harvest p.driver p.memory e t found (Some due.endpoint) o)) (sym due.there) (harvest_same p e t found due has.orderly))) old
 row_queues rows.Rest p due has listed old = old
 
-pub event_queues : (p : Parts) → HasOwners p.driver → IsListed p.driver → HasQueues p.driver → HasQueues (after_row (row_of p) p).driver
-event_queues p has listed old = row_queues (row_of p) p (each_is_due p) has listed old
+pub event_queues : (p : Parts) → HasOwners p.driver → IsListed p.driver → HasQueues p.driver → HasQueues (after_driver_row (driver_row p) p).driver
+event_queues p has listed old = row_queues (driver_row p) p (each_is_due p) has listed old

@@ -15,7 +15,7 @@ ghost use Rattle.driver_rows.specs.declared.content.Reserve.{Reserve};
 ghost use Rattle.driver_rows.specs.DriverContent.{DriverContent};
 ghost use Rattle.driver_rows.specs.Offers.{IsOffered};
 ghost use Rattle.driver_rows.specs.Opening.{opening};
-ghost use Rattle.driver_rows.specs.Rows.{Parts, row_of, after_row};
+ghost use Rattle.driver_rows.specs.Rows.{Parts, driver_row, after_driver_row};
 ghost use Rattle.run_owners.specs.Kept.{HasOwners};
 ghost use Rattle.listed_members.specs.Listed.{IsListed};
 ghost use Rattle.listed_queues.specs.Queues.{HasQueues, LinksQueues, KeepsQueues};
@@ -33,7 +33,7 @@ pub fn commands_keep_queue_heads()
 
 /// Each event of the driver keeps them: only the last store that unlinks one takes it out, and its endpoint leaves its frames with it.
 pub fn events_keep_queue_heads()
-    ensures { (p : Parts) → HasOwners p.driver → IsListed p.driver → HasQueues p.driver → HasQueues (after_row (row_of p) p).driver }
+    ensures { (p : Parts) → HasOwners p.driver → IsListed p.driver → HasQueues p.driver → HasQueues (after_driver_row (driver_row p) p).driver }
 {}
 
 /// So each endpoint with a queue that is in its frames has its queue head linked, by its placement.

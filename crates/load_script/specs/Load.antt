@@ -8,8 +8,8 @@ use Rattle.std.specs.Fmt.{decimal}
 use Rattle.std.specs.List.{flat_map, range_with_len}
 use Rattle.load_script.specs.declared.parts.Load.{Load}
 use Rattle.load_script.specs.declared.parts.Load.TheVariants.{Bulk512, Bulk64, Interrupt}
-use Rattle.load_script.specs.declared.parts.Part.{Part}
-use Rattle.load_script.specs.declared.parts.Part.TheVariants as parts
+use Rattle.load_script.specs.declared.parts.LoadPart.{LoadPart}
+use Rattle.load_script.specs.declared.parts.LoadPart.TheVariants as parts
 
 -- ---- draws
 
@@ -92,14 +92,14 @@ transfer_lines ds i = (if is_in i then get_line ds i else put_line ds i) ++ code
 
 -- ---- the text
 
-abbrev pub piece : Part → List ℕ → ℕ → List ℕ
+abbrev pub piece : LoadPart → List ℕ → ℕ → List ℕ
 piece parts.Devices ds i = device_line (i + 1)
 piece parts.Endpoints ds i = endpoint_line ds i
 piece parts.Replies ds i = reply_line ds i
 piece parts.Opens ds i = open_lines i
 piece parts.Transfers ds i = transfer_lines ds i
 
-unfoldable pub part_text : Part → List ℕ → ℕ → List ℕ
+unfoldable pub part_text : LoadPart → List ℕ → ℕ → List ℕ
 part_text s ds n = flat_map (piece s ds) (range_with_len 0 n)
 
 abbrev pub all_parts : List ℕ → List ℕ

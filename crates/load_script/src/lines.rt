@@ -2,7 +2,7 @@ ghost use Rattle.std.specs.Prelude.{◌≡◌, ◌≤◌, ◌+◌, ◌*◌, ◌^
 ghost use Rattle.load_script.specs.Load.{address, is_in, load_of, period, long, length_of, seed_of, end_words, ep_words, hub_words, device_line, kind_words, endpoint_line, fill_words, reply_line, open_lines, get_line, put_line, transfer_lines, piece};
 
 use crate::draws::draw_at;
-use crate::parts::{Load, Part};
+use crate::parts::{Load, LoadPart};
 use report_text::Text;
 
 /// The address of the device of endpoint i.
@@ -254,16 +254,16 @@ fn transfer_lines(draws: &[u16], i: u32) -> Text
 }
 
 /// What a part of the script says of endpoint i, or of device i + 1.
-pub(crate) fn piece(part: Part, draws: &[u16], i: u32) -> Text
+pub(crate) fn piece(part: LoadPart, draws: &[u16], i: u32) -> Text
     requires place { i ≤ 39 }
-    requires devices { part ≡ Part.Devices → i ≤ 19 }
+    requires devices { part ≡ LoadPart.Devices → i ≤ 19 }
     ensures { result ≡ piece part draws.now i }
 {
     match part {
-        Part::Devices => device_line(i + 1),
-        Part::Endpoints => endpoint_line(draws, i),
-        Part::Replies => reply_line(draws, i),
-        Part::Opens => open_lines(i),
-        Part::Transfers => transfer_lines(draws, i),
+        LoadPart::Devices => device_line(i + 1),
+        LoadPart::Endpoints => endpoint_line(draws, i),
+        LoadPart::Replies => reply_line(draws, i),
+        LoadPart::Opens => open_lines(i),
+        LoadPart::Transfers => transfer_lines(draws, i),
     }
 }

@@ -11,7 +11,7 @@ pub enum Load {
 
 /// The parts of the load script that have a piece for each device or endpoint.
 #[derive(Clone, Copy, Debug, PartialEq, Eq)]
-pub enum Part {
+pub enum LoadPart {
     /// The lines of the devices.
     Devices,
     /// The lines of the endpoints.

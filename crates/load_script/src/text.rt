@@ -3,7 +3,7 @@ ghost use Rattle.load_script.specs.Load.{part_text, all_parts, load_text};
 
 use crate::draws::draws;
 use crate::lines::piece;
-use crate::parts::Part;
+use crate::parts::LoadPart;
 use std::alloc::Global;
 use usb_base::Memory;
 
@@ -11,9 +11,9 @@ use usb_base::Memory;
 const HEAD: &[u8] = b"ehci 1\nmem 262144\nhub 101 5\nhub 102 5\n";
 
 /// Appends a part of the script, of so many devices or endpoints.
-fn put_part(text: &mut Vec<u8>, part: Part, draws: &[u16], count: u32) -> Result<(), Memory>
+fn put_part(text: &mut Vec<u8>, part: LoadPart, draws: &[u16], count: u32) -> Result<(), Memory>
     requires few { count ≤ 40 }
-    requires devices { part ≡ Part.Devices → count ≤ 20 }
+    requires devices { part ≡ LoadPart.Devices → count ≤ 20 }
     ensures { IfOk result (λ _. text.new.items ≡ text.old.items ++ part_text part draws.now count) }
 {
     for i in 0..count {
@@ -27,11 +27,11 @@ fn all_parts(alloc: Global, draws: &[u16]) -> Result<Vec<u8>, Memory>
     ensures { IfOk result (λ text. text.items ≡ all_parts draws.now) }
 {
     let mut text = Vec::from_slice(alloc, HEAD)?;
-    put_part(&mut text, Part::Devices, draws, 20)?;
-    put_part(&mut text, Part::Endpoints, draws, 40)?;
-    put_part(&mut text, Part::Replies, draws, 40)?;
-    put_part(&mut text, Part::Opens, draws, 40)?;
-    put_part(&mut text, Part::Transfers, draws, 40)?;
+    put_part(&mut text, LoadPart::Devices, draws, 20)?;
+    put_part(&mut text, LoadPart::Endpoints, draws, 40)?;
+    put_part(&mut text, LoadPart::Replies, draws, 40)?;
+    put_part(&mut text, LoadPart::Opens, draws, 40)?;
+    put_part(&mut text, LoadPart::Transfers, draws, 40)?;
     text.extend_from_slice(b"order m 4000\n")?;
     Ok(text)
 }

@@ -12,13 +12,13 @@ use Rattle.driver_rows.specs.declared.content.Endpoint.{Endpoint}
 use Rattle.driver_rows.specs.declared.content.Transfer.{Transfer}
 use Rattle.driver_rows.specs.declared.content.Command.{Command}
 use Rattle.driver_rows.specs.declared.content.Command.TheVariants as unfinished
-use Rattle.driver_rows.specs.declared.rows.Row.{Row}
-use Rattle.driver_rows.specs.declared.rows.Row.TheVariants as rows
+use Rattle.driver_rows.specs.declared.rows.DriverRow.{DriverRow}
+use Rattle.driver_rows.specs.declared.rows.DriverRow.TheVariants as rows
 use Rattle.driver_rows.specs.declared.rows.Found.{Found}
 use Rattle.driver_rows.specs.declared.rows.Found.TheVariants as founds
 use Rattle.driver_rows.specs.DriverContent.{DriverContent, waits_for}
 use Rattle.driver_rows.specs.Harvests.{is_stall, noted, end_of}
-use Rattle.driver_rows.specs.Rows.{Parts, events_of, links, removes_members, no_command, leave_ring, leave_frames, finished, list_after, or_finished, linked_on, advanced_by, advance, framed_by, with_notes, framed_notes, placement_at, linked_by, row_of, freed_by, after_row}
+use Rattle.driver_rows.specs.Rows.{Parts, events_of, links, removes_members, no_command, leave_ring, leave_frames, finished, list_after, or_finished, linked_on, advanced_by, advance, framed_by, with_notes, framed_notes, placement_at, linked_by, driver_row, freed_by, after_driver_row}
 use Rattle.driver_rows.specs.Rows.{after_transfer, is_told, cancel_told, after_endpoint, after_unlink, after_descriptor, after_placed, after_removed}
 use Rattle.driver_rows.specs.Rows.{told_with, behind_one, behind, after_end, harvested_as, served, after_harvest}
 use Rattle.driver_rows.specs.Rows.{descriptor_leaving}
@@ -142,12 +142,12 @@ harvested d m e t found (Some x) (Some y) = either (waits_for e y) (served (harv
 
 -- ---- any event
 
-row_ordered : (row : Row) (p : Parts) → IsOrdered p.driver → IsOrdered (after_row row p).driver
+row_ordered : (row : DriverRow) (p : Parts) → IsOrdered p.driver → IsOrdered (after_driver_row row p).driver
 row_ordered rows.Lend p h = advanced (record p.driver { book = (lend_taken (holding p.driver.book p.memory)).book }) h
 row_ordered (rows.Store b at v) p h = advanced p.driver h
 row_ordered (rows.Mend w) p h = h
-row_ordered (rows.ReleaseTransfer t) p h = kept_by (after_row (rows.ReleaseTransfer t) p).driver p.driver (transfer_let_go p t (slice_get p.driver.transfers t) (freed_by p.driver (holding p.driver.book p.memory) (slice_get p.driver.transfers t))) h
-row_ordered (rows.ReleaseEndpoint e) p h = kept_by (after_row (rows.ReleaseEndpoint e) p).driver p.driver (endpoint_let_go p e (slice_get p.driver.endpoints e)) h
+row_ordered (rows.ReleaseTransfer t) p h = kept_by (after_driver_row (rows.ReleaseTransfer t) p).driver p.driver (transfer_let_go p t (slice_get p.driver.transfers t) (freed_by p.driver (holding p.driver.book p.memory) (slice_get p.driver.transfers t))) h
+row_ordered (rows.ReleaseEndpoint e) p h = kept_by (after_driver_row (rows.ReleaseEndpoint e) p).driver p.driver (endpoint_let_go p e (slice_get p.driver.endpoints e)) h
 row_ordered rows.ClearAdvance p h = h
 row_ordered rows.RingBell p h = h
 row_ordered (rows.ReadStatus heard) p h = h
@@ -162,5 +162,5 @@ row_ordered (rows.Harvest e t found) p h =
     (harvested p.driver p.memory e t found (slice_get p.driver.endpoints e) (slice_get p.driver.transfers t)) h
 row_ordered rows.Rest p h = h
 
-pub event_ordered : (p : Parts) → IsOrdered p.driver → IsOrdered (after_row (row_of p) p).driver
-event_ordered p h = row_ordered (row_of p) p h
+pub event_ordered : (p : Parts) → IsOrdered p.driver → IsOrdered (after_driver_row (driver_row p) p).driver
+event_ordered p h = row_ordered (driver_row p) p h

@@ -11,7 +11,7 @@ ghost use Rattle.driver_rows.specs.declared.content.Reserve.{Reserve};
 ghost use Rattle.driver_rows.specs.DriverContent.{DriverContent};
 ghost use Rattle.driver_rows.specs.Offers.{Offered, offered};
 ghost use Rattle.driver_rows.specs.Opening.{opening};
-ghost use Rattle.driver_rows.specs.Rows.{Parts, row_of, after_row};
+ghost use Rattle.driver_rows.specs.Rows.{Parts, driver_row, after_driver_row};
 ghost use Rattle.ordered_list.specs.Ordered.{IsOrdered};
 
 /// When the driver was built the list is empty.
@@ -26,5 +26,5 @@ pub fn commands_keep_the_order()
 
 /// Each event of the driver does.
 pub fn events_keep_the_order()
-    ensures { (p : Parts) → IsOrdered p.driver → IsOrdered (after_row (row_of p) p).driver }
+    ensures { (p : Parts) → IsOrdered p.driver → IsOrdered (after_driver_row (driver_row p) p).driver }
 {}

@@ -38,7 +38,7 @@ use Rattle.periodic_walk.specs.declared.state.HeldQueue.{HeldQueue}
 use Rattle.periodic_walk.specs.declared.queue.QueueRow.TheVariants as queue_rows
 use Rattle.periodic_walk.specs.declared.itd.ItdRow.TheVariants as itd_rows
 use Rattle.periodic_walk.specs.declared.sitd.SitdRow.TheVariants as sitd_rows
-use Rattle.periodic_walk.specs.Place.{Place, reading}
+use Rattle.periodic_walk.specs.Place.{FramePlace, reading}
 use Rattle.periodic_walk.specs.Chain.{queue_fetch, itd_fetch, sitd_fetch, chain_row, chain_step}
 use Rattle.periodic_walk.specs.Queue.{taken_row, turn_row, turn_read, settled_row, settled_read, queue_step, writing, missed, miss_outcome}
 use Rattle.periodic_walk.specs.Itd.{timed_row as itd_timed}
@@ -53,16 +53,16 @@ use Rattle.periodic_walk.specs.Causes.Cause.{ends, fetches, advances, transacts,
 
 -- ---- what an event is at each step of its choice
 
-abbrev pub queue_turned : Place → HeldQueue → Turn → WalkStep
+abbrev pub queue_turned : FramePlace → HeldQueue → Turn → WalkStep
 queue_turned p h t = queue_step (turn_row p.memory p.walk.left h.copy.queue_head t) h (reading (turn_read p.memory t) p)
 
-abbrev pub queue_at : Place → HeldQueue → Option Outcome → WalkStep
+abbrev pub queue_at : FramePlace → HeldQueue → Option Outcome → WalkStep
 queue_at p h s = queue_step (settled_row p.memory p.walk.left p.walk.index h.copy.queue_head s) h (reading (settled_read p.memory p.walk.index h.copy.queue_head s) p)
 
-abbrev pub sitd_turned : Place → HeldSitd → SitdTurn → WalkStep
+abbrev pub sitd_turned : FramePlace → HeldSitd → SitdTurn → WalkStep
 sitd_turned p h t = sitd_step (sitd_turn_row p.walk.left h.sitd t) h p
 
-abbrev pub sitd_at : Place → HeldSitd → Option SplitOutcome → WalkStep
+abbrev pub sitd_at : FramePlace → HeldSitd → Option SplitOutcome → WalkStep
 sitd_at p h s = sitd_step (sitd_settled_row p.walk.left (microframe_of p.walk.index) h.sitd s) h p
 
 -- a qTD that was read leaves memory as it was
@@ -75,7 +75,7 @@ read_same m a t is = read_at m (reaches m a) (result_ok (qtd_read (words_at m a 
 
 -- ---- each event has its cause: no copy is in hand
 
-module _ (p : Place) (none : p.walk.hand ≡ None) where
+module _ (p : FramePlace) (none : p.walk.hand ≡ None) where
   queue_fetched : (a : ℕ) → p.walk.cursor ≡ links.Qh a → (o : Option Qh) → queue_head_at_address p.memory a ≡ o → Cause p (chain_step (queue_fetch a o))
   queue_fetched a link None is = faults (chain_is_broken (record { no_copy = none; unread = subst (IsUnread p.memory) (sym link) is }))
   queue_fetched a link (Some q) is = fetches
@@ -97,7 +97,7 @@ module _ (p : Place) (none : p.walk.hand ≡ None) where
 
 -- ---- a queue head is in hand
 
-module _ (p : Place) (h : HeldQueue) (in_hand : p.walk.hand ≡ Some (hands.Queue h)) where
+module _ (p : FramePlace) (h : HeldQueue) (in_hand : p.walk.hand ≡ Some (hands.Queue h)) where
   queue_wrote : (outcome : Outcome) → h.copy.settled ≡ Some outcome → (b : Bool) → (writing h.copy outcome p.walk.reply p.memory).all ≡ b → Cause p (if b then steps.WriteBack else steps.Fault)
   queue_wrote outcome settled true is = writes
   queue_wrote outcome settled false is = faults (queue_words_are_foreign (record { held = h; outcome = outcome; in_hand = in_hand; settled = settled; refused = is }))
@@ -146,7 +146,7 @@ module _ (p : Place) (h : HeldQueue) (in_hand : p.walk.hand ≡ Some (hands.Queu
 
 -- ---- an iTD is in hand
 
-module _ (p : Place) (h : HeldItd) (in_hand : p.walk.hand ≡ Some (hands.Itd h)) where
+module _ (p : FramePlace) (h : HeldItd) (in_hand : p.walk.hand ≡ Some (hands.Itd h)) where
   itd_wrote : (ended : IsoEnd) → h.ended ≡ Some ended → (b : Bool) → (itd_written h p.walk.got p.memory).all ≡ b → Cause p (if b then steps.WriteBack else steps.Fault)
   itd_wrote ended has true is = writes
   itd_wrote ended has false is = faults (itd_words_are_foreign (record { held = h; ended = ended; in_hand = in_hand; has_ended = has; refused = is }))
@@ -169,7 +169,7 @@ module _ (p : Place) (h : HeldItd) (in_hand : p.walk.hand ≡ Some (hands.Itd h)
 
 -- ---- a siTD is in hand
 
-module _ (p : Place) (h : HeldSitd) (in_hand : p.walk.hand ≡ Some (hands.Sitd h)) where
+module _ (p : FramePlace) (h : HeldSitd) (in_hand : p.walk.hand ≡ Some (hands.Sitd h)) where
   sitd_wrote : (outcome : SplitOutcome) → h.settled ≡ Some outcome → (b : Bool) → (sitd_writing h outcome p.walk.reply p.memory).all ≡ b → Cause p (if b then steps.WriteBack else steps.Fault)
   sitd_wrote outcome settled true is = writes
   sitd_wrote outcome settled false is = faults (sitd_words_are_foreign (record { held = h; outcome = outcome; in_hand = in_hand; settled = settled; refused = is }))
@@ -197,16 +197,16 @@ module _ (p : Place) (h : HeldSitd) (in_hand : p.walk.hand ≡ Some (hands.Sitd 
 
 -- ---- each event
 
-hand_cause : (p : Place) (hand : Option Hand) → p.walk.hand ≡ hand → Cause p (step_at p hand)
+hand_cause : (p : FramePlace) (hand : Option Hand) → p.walk.hand ≡ hand → Cause p (step_at p hand)
 hand_cause p None is = chain_cause p is p.walk.cursor refl
 hand_cause p (Some (hands.Queue h)) is = queue_cause p h is h.copy.settled refl
 hand_cause p (Some (hands.Itd h)) is = itd_cause p h is h.ended refl
 hand_cause p (Some (hands.Sitd h)) is = sitd_cause p h is h.settled refl
 
-pub each_event_has_its_cause : (p : Place) → Cause p (step_of p)
+pub each_event_has_its_cause : (p : FramePlace) → Cause p (step_of p)
 each_event_has_its_cause p = hand_cause p p.walk.hand refl
 
-ends_of : (p : Place) (step : WalkStep) → Cause p step → step ≡ steps.Ended → ChainEnds p
+ends_of : (p : FramePlace) (step : WalkStep) → Cause p step → step ≡ steps.Ended → ChainEnds p
 ends_of p _ (ends c) is = c
 ends_of p _ fetches is = absurd cc
 ends_of p _ advances is = absurd cc
@@ -215,7 +215,7 @@ ends_of p _ writes is = absurd cc
 ends_of p _ (skips c) is = absurd cc
 ends_of p _ (faults c) is = absurd cc
 
-skips_of : (p : Place) (step : WalkStep) → Cause p step → step ≡ steps.Skip → HasNothing p
+skips_of : (p : FramePlace) (step : WalkStep) → Cause p step → step ≡ steps.Skip → HasNothing p
 skips_of p _ (ends c) is = absurd cc
 skips_of p _ fetches is = absurd cc
 skips_of p _ advances is = absurd cc
@@ -224,7 +224,7 @@ skips_of p _ writes is = absurd cc
 skips_of p _ (skips c) is = c
 skips_of p _ (faults c) is = absurd cc
 
-faults_of : (p : Place) (step : WalkStep) → Cause p step → step ≡ steps.Fault → IsStuck p
+faults_of : (p : FramePlace) (step : WalkStep) → Cause p step → step ≡ steps.Fault → IsStuck p
 faults_of p _ (ends c) is = absurd cc
 faults_of p _ fetches is = absurd cc
 faults_of p _ advances is = absurd cc
@@ -233,11 +233,11 @@ faults_of p _ writes is = absurd cc
 faults_of p _ (skips c) is = absurd cc
 faults_of p _ (faults c) is = c
 
-pub ends_for_a_reason : (p : Place) → step_of p ≡ steps.Ended → ChainEnds p
+pub ends_for_a_reason : (p : FramePlace) → step_of p ≡ steps.Ended → ChainEnds p
 ends_for_a_reason p is = ends_of p (step_of p) (each_event_has_its_cause p) is
 
-pub skips_for_a_reason : (p : Place) → step_of p ≡ steps.Skip → HasNothing p
+pub skips_for_a_reason : (p : FramePlace) → step_of p ≡ steps.Skip → HasNothing p
 skips_for_a_reason p is = skips_of p (step_of p) (each_event_has_its_cause p) is
 
-pub faults_for_a_reason : (p : Place) → step_of p ≡ steps.Fault → IsStuck p
+pub faults_for_a_reason : (p : FramePlace) → step_of p ≡ steps.Fault → IsStuck p
 faults_for_a_reason p is = faults_of p (step_of p) (each_event_has_its_cause p) is

@@ -9,7 +9,6 @@ use Rattle.word_mem.specs.Views.{words_at, with_words}
 use Rattle.buffers.specs.Bytes.{all_reached}
 use Rattle.link_words.specs.declared.kinds.Link.{Link}
 use Rattle.link_words.specs.declared.kinds.Link.TheVariants as links
-use Rattle.link_words.specs.declared.kinds.QtdLink.{QtdLink}
 use Rattle.link_words.specs.declared.kinds.QtdLink.TheVariants as qtd_links
 use Rattle.qh_qtd.specs.declared.qtd.Qtd.{Qtd}
 use Rattle.qh_qtd.specs.declared.queue_head.Qh.{Qh}
@@ -18,11 +17,11 @@ use Rattle.itd_sitd.specs.declared.itd.Itd.{Itd}
 use Rattle.itd_sitd.specs.declared.sitd.Sitd.{Sitd}
 use Rattle.itd_sitd.specs.Slot.{slot_word}
 use Rattle.toggle_error.specs.declared.host.Outcome.{Outcome}
-use Rattle.queue_words.specs.Structures.{queue_head_at_address, reaches_queue_head}
-use Rattle.descriptor_words.specs.Descriptors.{reaches_itd, itd_at_address, sitd_at_address, slot_address, state_words}
+use Rattle.queue_words.specs.Structures.{reaches_queue_head}
+use Rattle.descriptor_words.specs.Descriptors.{reaches_itd, slot_address, state_words}
 use Rattle.walk_copy.specs.declared.held.Transaction.{Transaction}
 use Rattle.walk_copy.specs.Overlay.{advanced}
-use Rattle.walk_copy.specs.Buffer.{Reading, Writing, size_of, placed, bytes_read, bytes_written, sending}
+use Rattle.walk_copy.specs.Buffer.{Writing, size_of, placed, bytes_read, bytes_written, sending}
 use Rattle.walk_copy.specs.WriteBack.{received}
 use Rattle.interrupt_visits.specs.declared.turns.Turn.{Turn}
 use Rattle.interrupt_visits.specs.declared.turns.Turn.TheVariants as turns
@@ -48,11 +47,10 @@ use Rattle.periodic_walk.specs.declared.sitd.SitdRow.TheVariants as sitd_rows
 use Rattle.periodic_walk.specs.declared.state.Hand.{Hand}
 use Rattle.periodic_walk.specs.declared.state.Hand.TheVariants as hands
 use Rattle.periodic_walk.specs.declared.state.HeldQueue.{HeldQueue}
-use Rattle.periodic_walk.specs.Place.{Place, reading, faulted, passing, Effect, sent, HasEffect}
-use Rattle.periodic_walk.specs.Place.Effect.{Leaves}
+use Rattle.periodic_walk.specs.Place.{FramePlace, reading, faulted, passing, sent, HasEffect}
 use Rattle.periodic_walk.specs.Chain.{queue_fetch, itd_fetch, sitd_fetch, chain_row, chain_read, chain_after}
 use Rattle.periodic_walk.specs.Queue.{taken_row, turn_row, turn_read, settled_row, settled_read, took, writing, missed, miss_outcome, queue_effect, wrote_at as queue_wrote_at}
-use Rattle.periodic_walk.specs.Itd.{open_row, ended_row, wrote_at as itd_wrote_at, itd_effect}
+use Rattle.periodic_walk.specs.Itd.{ended_row, wrote_at as itd_wrote_at, itd_effect}
 use Rattle.periodic_walk.specs.Sitd.{turn_row as sitd_turn_row, settled_row as sitd_settled_row, writing as sitd_writing, wrote_at as sitd_wrote_at, sitd_effect}
 use Rattle.periodic_walk.specs.Rows.{effect_at, Leads}
 
@@ -90,41 +88,41 @@ sitd_counts a v outcome got m all =
 -- ---- a place
 
 -- the registers don't run, or no refusal was counted
-abbrev Halts : Place → ℕ → Type 0
+abbrev Halts : FramePlace → ℕ → Type 0
 Halts new foreign = new.memory.foreign ≢ foreign → new.registers.run ≡ false
 
-same_halts : (new : Place) (foreign : ℕ) → new.memory.foreign ≡ foreign → Halts new foreign
+same_halts : (new : FramePlace) (foreign : ℕ) → new.memory.foreign ≡ foreign → Halts new foreign
 same_halts new foreign same = λ other. absurd (other same)
 
-off_halts : (new : Place) (foreign : ℕ) → new.registers.run ≡ false → Halts new foreign
+off_halts : (new : FramePlace) (foreign : ℕ) → new.registers.run ≡ false → Halts new foreign
 off_halts new foreign off = λ other. off
 
-stays_halts : {W : Type 0} (expected new : Place) (before after : W) (foreign : ℕ) → (new ≡ expected) × (after ≡ before) → Halts expected foreign → Halts new foreign
-stays_halts expected new before after foreign stays halts = subst (λ (p : Place). Halts p foreign) (sym stays.0) halts
+stays_halts : {W : Type 0} (expected new : FramePlace) (before after : W) (foreign : ℕ) → (new ≡ expected) × (after ≡ before) → Halts expected foreign → Halts new foreign
+stays_halts expected new before after foreign stays halts = subst (λ (p : FramePlace). Halts p foreign) (sym stays.0) halts
 
 -- by whether all of it was done: else it is the fault
-took_halts : (b : Bool) (done stuck : Place) (foreign : ℕ) → (b ≡ true → done.memory.foreign ≡ foreign) → stuck.registers.run ≡ false → Halts (if b then done else stuck) foreign
+took_halts : (b : Bool) (done stuck : FramePlace) (foreign : ℕ) → (b ≡ true → done.memory.foreign ≡ foreign) → stuck.registers.run ≡ false → Halts (if b then done else stuck) foreign
 took_halts true done stuck foreign same off = same_halts done foreign (same refl)
 took_halts false done stuck foreign same off = λ other. off
 
-queue_wrote_halts : (b : Bool) (h : HeldQueue) (outcome : Outcome) (p : Place) (foreign : ℕ) → (b ≡ true → p.memory.foreign ≡ foreign) → Halts (queue_wrote_at b h outcome p) foreign
+queue_wrote_halts : (b : Bool) (h : HeldQueue) (outcome : Outcome) (p : FramePlace) (foreign : ℕ) → (b ≡ true → p.memory.foreign ≡ foreign) → Halts (queue_wrote_at b h outcome p) foreign
 queue_wrote_halts true h outcome p foreign same = same_halts (queue_wrote_at true h outcome p) foreign (same refl)
 queue_wrote_halts false h outcome p foreign same = λ other. refl
 
-itd_wrote_halts : (b : Bool) (h : HeldItd) (ended : IsoEnd) (p : Place) (foreign : ℕ) → (b ≡ true → p.memory.foreign ≡ foreign) → Halts (itd_wrote_at b h ended p) foreign
+itd_wrote_halts : (b : Bool) (h : HeldItd) (ended : IsoEnd) (p : FramePlace) (foreign : ℕ) → (b ≡ true → p.memory.foreign ≡ foreign) → Halts (itd_wrote_at b h ended p) foreign
 itd_wrote_halts true h ended p foreign same = same_halts (itd_wrote_at true h ended p) foreign (same refl)
 itd_wrote_halts false h ended p foreign same = λ other. refl
 
-sitd_wrote_halts : (b : Bool) (h : HeldSitd) (outcome : SplitOutcome) (p : Place) (foreign : ℕ) → (b ≡ true → p.memory.foreign ≡ foreign) → Halts (sitd_wrote_at b h outcome p) foreign
+sitd_wrote_halts : (b : Bool) (h : HeldSitd) (outcome : SplitOutcome) (p : FramePlace) (foreign : ℕ) → (b ≡ true → p.memory.foreign ≡ foreign) → Halts (sitd_wrote_at b h outcome p) foreign
 sitd_wrote_halts true h outcome p foreign same = same_halts (sitd_wrote_at true h outcome p) foreign (same refl)
 sitd_wrote_halts false h outcome p foreign same = λ other. refl
 
 -- what was read of a chain: else it is the fault
-fetch_halts : {A : Type 0} (b : Bool) (o : Option A) (row : Option A → ChainRow) (p : Place) → (chain_after (row None) (reading (refused p.memory) p)).registers.run ≡ false → Halts (chain_after (row (if b then o else None)) (reading (if b then p.memory else refused p.memory) p)) p.memory.foreign
+fetch_halts : {A : Type 0} (b : Bool) (o : Option A) (row : Option A → ChainRow) (p : FramePlace) → (chain_after (row None) (reading (refused p.memory) p)).registers.run ≡ false → Halts (chain_after (row (if b then o else None)) (reading (if b then p.memory else refused p.memory) p)) p.memory.foreign
 fetch_halts true o row p off = same_halts (chain_after (row o) (reading p.memory p)) p.memory.foreign refl
 fetch_halts false o row p off = λ other. off
 
-chain_halts : (p : Place) (link : Link) → Halts (chain_after (chain_row p.memory link) (reading (chain_read p.memory link) p)) p.memory.foreign
+chain_halts : (p : FramePlace) (link : Link) → Halts (chain_after (chain_row p.memory link) (reading (chain_read p.memory link) p)) p.memory.foreign
 chain_halts p links.End = same_halts (chain_after chain_rows.Ends (reading p.memory p)) p.memory.foreign refl
 chain_halts p (links.Itd a) = fetch_halts (reaches_itd p.memory a) _ (itd_fetch a) p refl
 chain_halts p (links.Qh a) = fetch_halts (reaches_queue_head p.memory a) _ (queue_fetch a) p refl
@@ -133,12 +131,12 @@ chain_halts p (links.Fstn a) = λ other. refl
 
 -- ---- an event
 
-module _ {W : Type 0} (transacts : W → Ask → List ℕ → Reply → W → Type 0) (p new : Place) (before after : W) where
-  sent_halts : (b : Bool) (ask : Ask) (out : List ℕ) (left_by : Reply → Place) (there : Place) → (b ≡ true → (r : Reply) → (left_by r).memory.foreign ≡ p.memory.foreign) → HasEffect transacts (sent b ask out left_by there) before new after → Halts new p.memory.foreign
-  sent_halts true ask out left_by there same asked = same_halts new p.memory.foreign (ap (λ (x : Place). x.memory.foreign) asked.place ∙ same refl asked.reply)
+module _ {W : Type 0} (transacts : W → Ask → List ℕ → Reply → W → Type 0) (p new : FramePlace) (before after : W) where
+  sent_halts : (b : Bool) (ask : Ask) (out : List ℕ) (left_by : Reply → FramePlace) (there : FramePlace) → (b ≡ true → (r : Reply) → (left_by r).memory.foreign ≡ p.memory.foreign) → HasEffect transacts (sent b ask out left_by there) before new after → Halts new p.memory.foreign
+  sent_halts true ask out left_by there same asked = same_halts new p.memory.foreign (ap (λ (x : FramePlace). x.memory.foreign) asked.place ∙ same refl asked.reply)
   sent_halts false ask out left_by there same stays = stays_halts (faulted there) new before after p.memory.foreign stays (λ other. refl)
 
-  skip_halts : (link : Place) → link.memory.foreign ≡ p.memory.foreign → (new ≡ link) × (after ≡ before) → Halts new p.memory.foreign
+  skip_halts : (link : FramePlace) → link.memory.foreign ≡ p.memory.foreign → (new ≡ link) × (after ≡ before) → Halts new p.memory.foreign
   skip_halts link same stays = stays_halts link new before after p.memory.foreign stays (same_halts link p.memory.foreign same)
 
   -- a queue head
@@ -231,5 +229,5 @@ module _ {W : Type 0} (transacts : W → Ask → List ℕ → Reply → W → Ty
   hand_halts (Some (hands.Itd h)) leads = itd_halts h h.ended leads
   hand_halts (Some (hands.Sitd h)) leads = sitd_halts h h.settled leads
 
-pub refusals_are_faults : {W : Type 0} (transacts : W → Ask → List ℕ → Reply → W → Type 0) (p new : Place) (before after : W) → Leads transacts p before new after → AreRefusalsFaults p.memory new.memory new.registers
+pub refusals_are_faults : {W : Type 0} (transacts : W → Ask → List ℕ → Reply → W → Type 0) (p new : FramePlace) (before after : W) → Leads transacts p before new after → AreRefusalsFaults p.memory new.memory new.registers
 refusals_are_faults transacts p new before after leads = hand_halts transacts p new before after p.walk.hand leads

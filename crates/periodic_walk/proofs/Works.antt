@@ -1,16 +1,14 @@
 -- A structure that is active has its transaction, or there is a reason.
-use Rattle.std.proofs.Common.{◌≡◌, ℕ, Bool, true, false, Option, Some, None, if◌then◌else◌, refl, ap, sym, subst, ◌∙◌}
+use Rattle.std.proofs.Common.{◌≡◌, Bool, true, false, Some, None, if◌then◌else◌, refl, ap, sym, subst, ◌∙◌}
 use Rattle.std.specs.Prelude.{nat_lt}
 use Rattle.std.proofs.lemmas.Bool.{ltb-true}
 use Rattle.link_words.specs.declared.kinds.QtdLink.{QtdLink}
 use Rattle.link_words.specs.Links.{qtd_link_of}
-use Rattle.qh_qtd.specs.declared.queue_head.Qh.{Qh}
 use Rattle.frame_masks.specs.Masks.{has}
 use Rattle.walk_copy.specs.Visits.{next_pointer, visit_at}
 use Rattle.walk_copy.specs.Buffer.{sending}
-use Rattle.interrupt_visits.specs.declared.turns.Turn.{Turn}
 use Rattle.interrupt_visits.specs.declared.turns.Turn.TheVariants as turns
-use Rattle.interrupt_visits.specs.Turns.{microframe_of, waits, is_missed, complete_turn, start_turn, turn_of, planned}
+use Rattle.interrupt_visits.specs.Turns.{microframe_of, waits, is_missed, complete_turn, start_turn, planned}
 use Rattle.iso_visits.specs.declared.held.HeldItd.{HeldItd}
 use Rattle.iso_visits.specs.declared.held.HeldSitd.{HeldSitd}
 use Rattle.iso_visits.specs.declared.held.SitdTurn.TheVariants as sitd_turns
@@ -25,7 +23,7 @@ use Rattle.periodic_walk.specs.declared.state.HeldQueue.{HeldQueue}
 use Rattle.periodic_walk.specs.declared.queue.QueueRow.TheVariants as queue_rows
 use Rattle.periodic_walk.specs.declared.itd.ItdRow.TheVariants as itd_rows
 use Rattle.periodic_walk.specs.declared.sitd.SitdRow.TheVariants as sitd_rows
-use Rattle.periodic_walk.specs.Place.{Place}
+use Rattle.periodic_walk.specs.Place.{FramePlace}
 use Rattle.periodic_walk.specs.Queue.{queue_step, writing, missed, miss_outcome}
 use Rattle.periodic_walk.specs.Itd.{itd_step}
 use Rattle.periodic_walk.specs.Sitd.{sitd_step, writing as sitd_writing}
@@ -37,7 +35,7 @@ use Rattle.periodic_walk.specs.Causes.SitdWorked.{transacts as sitd_transacts, c
 use Rattle.periodic_walk.proofs.Causing.{queue_turned, sitd_turned}
 use Rattle.periodic_walk.proofs.Caused.{queue_here, going_here, sitd_here}
 
-module _ (p : Place) (h : HeldQueue) where
+module _ (p : FramePlace) (h : HeldQueue) where
   queue_sent : (all : Bool) → (sending (planned h.copy.queue_head) h.copy.queue_head p.memory).all ≡ all → QueueWorked p h (if all then steps.Transact else steps.Fault)
   queue_sent true is = queue_transacts
   queue_sent false is = queue_bytes_foreign is
@@ -68,7 +66,7 @@ module _ (p : Place) (h : HeldQueue) where
       subst (λ (b : Bool). QueueWorked p h (queue_turned p h (start_turn (visit_at may h.copy.queue_head.token.halted b link)))) (sym active)
       (started may h.copy.queue_head.token.halted link waiting refl refl)
 
-module _ (p : Place) (h : HeldItd) where
+module _ (p : FramePlace) (h : HeldItd) where
   itd_sent : (all : Bool) → (itd_sending (itd_transaction h) h p.memory).all ≡ all → ItdWorked p h (if all then steps.Transact else steps.Fault)
   itd_sent true is = itd_transacts
   itd_sent false is = itd_bytes_foreign is
@@ -77,7 +75,7 @@ module _ (p : Place) (h : HeldItd) where
   itd_worked true late = itd_out_of_time (ltb-true _ _ late)
   itd_worked false late = itd_sent (itd_sending (itd_transaction h) h p.memory).all refl
 
-module _ (p : Place) (h : HeldSitd) where
+module _ (p : FramePlace) (h : HeldSitd) where
   sitd_sent : (all : Bool) → (sitd_sending (sitd_transaction h.sitd) h.sitd p.memory).all ≡ all → SitdWorked p h (if all then steps.Transact else steps.Fault)
   sitd_sent true is = sitd_transacts
   sitd_sent false is = sitd_bytes_foreign is
@@ -95,11 +93,11 @@ module _ (p : Place) (h : HeldSitd) where
   sitd_active false true lost comes_now = sitd_worked (nat_lt p.walk.left (sitd_transaction h.sitd).price.0) refl
   sitd_active false false lost comes_now = sitd_comes_in_others comes_now
 
-queue_works : (p : Place) (h : HeldQueue) → p.walk.hand ≡ Some (hands.Queue h) → h.copy.settled ≡ None → h.copy.queue_head.token.active ≡ true → QueueWorked p h (step_of p)
+queue_works : (p : FramePlace) (h : HeldQueue) → p.walk.hand ≡ Some (hands.Queue h) → h.copy.settled ≡ None → h.copy.queue_head.token.active ≡ true → QueueWorked p h (step_of p)
 queue_works p h in_hand fresh active =
     subst (λ (step : WalkStep). QueueWorked p h step) (sym (queue_here p h None in_hand fresh)) (turned p h (waits h.copy.queue_head) refl active)
 
-itd_works : (p : Place) (h : HeldItd) → p.walk.hand ≡ Some (hands.Itd h) → h.ended ≡ None → h.slot.active ≡ true → ItdWorked p h (step_of p)
+itd_works : (p : FramePlace) (h : HeldItd) → p.walk.hand ≡ Some (hands.Itd h) → h.ended ≡ None → h.slot.active ≡ true → ItdWorked p h (step_of p)
 itd_works p h in_hand going active =
     let late : Bool = nat_lt p.walk.left (itd_transaction h).price.0 in
     let goes : IsGoing p h = record { in_hand = in_hand; not_ended = going } in
@@ -107,7 +105,7 @@ itd_works p h in_hand going active =
     (sym (going_here p h goes ∙ ap (λ (x : Bool). itd_step (if x then (if late then itd_rows.Skip else itd_rows.Transact (itd_transaction h)) else itd_rows.Skip) h p) active))
     (itd_worked p h late refl)
 
-sitd_works : (p : Place) (h : HeldSitd) → p.walk.hand ≡ Some (hands.Sitd h) → h.settled ≡ None → h.sitd.active ≡ true → SitdWorked p h (step_of p)
+sitd_works : (p : FramePlace) (h : HeldSitd) → p.walk.hand ≡ Some (hands.Sitd h) → h.settled ≡ None → h.sitd.active ≡ true → SitdWorked p h (step_of p)
 sitd_works p h in_hand fresh active =
     let lost : Bool = sitd_missed (microframe_of p.walk.index) h.sitd in
     let now : Bool = comes (microframe_of p.walk.index) h.sitd in
@@ -115,5 +113,5 @@ sitd_works p h in_hand fresh active =
     (sym (sitd_here p h None in_hand fresh ∙ ap (λ (x : Bool). sitd_turned p h (turn_at x lost now)) active))
     (sitd_active p h lost now refl refl)
 
-pub works : (p : Place) → IsWorked p (step_of p)
+pub works : (p : FramePlace) → IsWorked p (step_of p)
 works p = record { queue = queue_works p; itd = itd_works p; sitd = sitd_works p }

@@ -28,13 +28,13 @@ use Rattle.async_walk.specs.declared.state.WalkStep.{WalkStep}
 use Rattle.async_walk.specs.declared.state.WalkStep.TheVariants as steps
 use Rattle.periodic_walk.specs.declared.state.Hand.TheVariants as hands
 use Rattle.periodic_walk.specs.declared.state.HeldQueue.{HeldQueue}
-use Rattle.periodic_walk.specs.Place.{Place}
+use Rattle.periodic_walk.specs.Place.{FramePlace}
 use Rattle.periodic_walk.specs.Queue.{writing, missed, miss_outcome}
 use Rattle.periodic_walk.specs.Sitd.{writing as sitd_writing}
 
 -- ---- no copy is in hand
 
-pub record ChainEnds (p : Place) : Type 0 where
+pub record ChainEnds (p : FramePlace) : Type 0 where
   pub no_copy : p.walk.hand ≡ None
   pub at_end : p.walk.cursor ≡ links.End
 
@@ -46,35 +46,35 @@ IsUnread m (links.Qh a) = queue_head_at_address m a ≡ None
 IsUnread m (links.Sitd a) = sitd_at_address m a ≡ None
 IsUnread m (links.Fstn a) = Unit {0}
 
-pub record ChainIsBroken (p : Place) : Type 0 where
+pub record ChainIsBroken (p : FramePlace) : Type 0 where
   pub no_copy : p.walk.hand ≡ None
   pub unread : IsUnread p.memory p.walk.cursor
 
 -- ---- a queue head is in hand, with no transaction that waits for its write-back
 
-pub record IsVisited (p : Place) (h : HeldQueue) (turn : Turn) : Type 0 where
+pub record IsVisited (p : FramePlace) (h : HeldQueue) (turn : Turn) : Type 0 where
   pub in_hand : p.walk.hand ≡ Some (hands.Queue h)
   pub not_settled : h.copy.settled ≡ None
   pub turns : turn_of p.walk.index h.copy.queue_head ≡ turn
 
 -- it is halted, or it doesn't work in this microframe
-pub record QueueRests (p : Place) : Type 0 where
+pub record QueueRests (p : FramePlace) : Type 0 where
   pub held : HeldQueue
   pub visited : IsVisited p held turns.Rest
 
 -- the price of its transaction passes the time left
-pub record QueueIsLate (p : Place) : Type 0 where
+pub record QueueIsLate (p : FramePlace) : Type 0 where
   pub held : HeldQueue
   pub visited : IsVisited p held turns.Work
   pub late : p.walk.left < (planned held.copy.queue_head).price.0
 
 -- its overlay is done, and no qTD comes after it
-pub record QueueEnds (p : Place) : Type 0 where
+pub record QueueEnds (p : FramePlace) : Type 0 where
   pub held : HeldQueue
   pub visited : IsVisited p held (turns.Take qtd_links.End)
 
 -- the qTD that comes next isn't active
-pub record QtdIsDone (p : Place) : Type 0 where
+pub record QtdIsDone (p : FramePlace) : Type 0 where
   pub held : HeldQueue
   pub at : ℕ
   pub qtd : Qtd
@@ -83,14 +83,14 @@ pub record QtdIsDone (p : Place) : Type 0 where
   pub inactive : qtd.token.active ≡ false
 
 -- the link of its overlay leads to what can't be read as a qTD
-pub record QueueIsBroken (p : Place) : Type 0 where
+pub record QueueIsBroken (p : FramePlace) : Type 0 where
   pub held : HeldQueue
   pub at : ℕ
   pub visited : IsVisited p held (turns.Take (qtd_links.To at))
   pub nothing_there : qtd_at_address p.memory at ≡ None
 
 -- a qTD comes next, and the words of the overlay don't all lie in Lent blocks
-pub record OverlayIsForeign (p : Place) : Type 0 where
+pub record OverlayIsForeign (p : FramePlace) : Type 0 where
   pub held : HeldQueue
   pub at : ℕ
   pub qtd : Qtd
@@ -100,20 +100,20 @@ pub record OverlayIsForeign (p : Place) : Type 0 where
   pub refused : reaches_queue_head p.memory held.copy.at ≡ false
 
 -- a byte that it sends lies past the last page, or in no Lent block
-pub record QueueBytesAreForeign (p : Place) : Type 0 where
+pub record QueueBytesAreForeign (p : FramePlace) : Type 0 where
   pub held : HeldQueue
   pub visited : IsVisited p held turns.Work
   pub in_time : (planned held.copy.queue_head).price.0 ≤ p.walk.left
   pub refused : (sending (planned held.copy.queue_head) held.copy.queue_head p.memory).all ≡ false
 
 -- a microframe was missed, and a word of the write-back lies in no Lent block
-pub record MissIsForeign (p : Place) : Type 0 where
+pub record MissIsForeign (p : FramePlace) : Type 0 where
   pub held : HeldQueue
   pub visited : IsVisited p held turns.Miss
   pub refused : (writing (missed held).copy miss_outcome p.walk.reply p.memory).all ≡ false
 
 -- its transaction was made, and a received byte lies past the last page, or a word of the write-back in no Lent block
-pub record QueueWordsAreForeign (p : Place) : Type 0 where
+pub record QueueWordsAreForeign (p : FramePlace) : Type 0 where
   pub held : HeldQueue
   pub outcome : Outcome
   pub in_hand : p.walk.hand ≡ Some (hands.Queue held)
@@ -122,30 +122,30 @@ pub record QueueWordsAreForeign (p : Place) : Type 0 where
 
 -- ---- an iTD is in hand
 
-pub record IsGoing (p : Place) (h : HeldItd) : Type 0 where
+pub record IsGoing (p : FramePlace) (h : HeldItd) : Type 0 where
   pub in_hand : p.walk.hand ≡ Some (hands.Itd h)
   pub not_ended : h.ended ≡ None
 
 -- its microframe isn't active
-pub record ItdRests (p : Place) : Type 0 where
+pub record ItdRests (p : FramePlace) : Type 0 where
   pub held : HeldItd
   pub going : IsGoing p held
   pub inactive : held.slot.active ≡ false
 
-pub record ItdIsLate (p : Place) : Type 0 where
+pub record ItdIsLate (p : FramePlace) : Type 0 where
   pub held : HeldItd
   pub going : IsGoing p held
   pub active : held.slot.active ≡ true
   pub late : p.walk.left < (itd_transaction held).price.0
 
-pub record ItdBytesAreForeign (p : Place) : Type 0 where
+pub record ItdBytesAreForeign (p : FramePlace) : Type 0 where
   pub held : HeldItd
   pub going : IsGoing p held
   pub active : held.slot.active ≡ true
   pub in_time : (itd_transaction held).price.0 ≤ p.walk.left
   pub refused : (itd_sending (itd_transaction held) held p.memory).all ≡ false
 
-pub record ItdWordsAreForeign (p : Place) : Type 0 where
+pub record ItdWordsAreForeign (p : FramePlace) : Type 0 where
   pub held : HeldItd
   pub ended : IsoEnd
   pub in_hand : p.walk.hand ≡ Some (hands.Itd held)
@@ -154,32 +154,32 @@ pub record ItdWordsAreForeign (p : Place) : Type 0 where
 
 -- ---- a siTD is in hand
 
-pub record IsTurned (p : Place) (h : HeldSitd) (turn : SitdTurn) : Type 0 where
+pub record IsTurned (p : FramePlace) (h : HeldSitd) (turn : SitdTurn) : Type 0 where
   pub in_hand : p.walk.hand ≡ Some (hands.Sitd h)
   pub not_settled : h.settled ≡ None
   pub turns : sitd_turn (microframe_of p.walk.index) h.sitd ≡ turn
 
-pub record SitdRests (p : Place) : Type 0 where
+pub record SitdRests (p : FramePlace) : Type 0 where
   pub held : HeldSitd
   pub turned : IsTurned p held sitd_turns.Rest
 
-pub record SitdIsLate (p : Place) : Type 0 where
+pub record SitdIsLate (p : FramePlace) : Type 0 where
   pub held : HeldSitd
   pub turned : IsTurned p held sitd_turns.Work
   pub late : p.walk.left < (sitd_transaction held.sitd).price.0
 
-pub record SitdBytesAreForeign (p : Place) : Type 0 where
+pub record SitdBytesAreForeign (p : FramePlace) : Type 0 where
   pub held : HeldSitd
   pub turned : IsTurned p held sitd_turns.Work
   pub in_time : (sitd_transaction held.sitd).price.0 ≤ p.walk.left
   pub refused : (sitd_sending (sitd_transaction held.sitd) held.sitd p.memory).all ≡ false
 
-pub record SitdMissIsForeign (p : Place) : Type 0 where
+pub record SitdMissIsForeign (p : FramePlace) : Type 0 where
   pub held : HeldSitd
   pub turned : IsTurned p held sitd_turns.Miss
   pub refused : (sitd_writing (missed_copy held) Failed p.walk.reply p.memory).all ≡ false
 
-pub record SitdWordsAreForeign (p : Place) : Type 0 where
+pub record SitdWordsAreForeign (p : FramePlace) : Type 0 where
   pub held : HeldSitd
   pub outcome : SplitOutcome
   pub in_hand : p.walk.hand ≡ Some (hands.Sitd held)
@@ -189,7 +189,7 @@ pub record SitdWordsAreForeign (p : Place) : Type 0 where
 -- ---- the causes of each event
 
 -- there is nothing to do at the structure in hand, or no time for it
-pub data HasNothing (p : Place) : Type 0 where
+pub data HasNothing (p : FramePlace) : Type 0 where
   queue_rests : QueueRests p → HasNothing p
   queue_is_late : QueueIsLate p → HasNothing p
   queue_ends : QueueEnds p → HasNothing p
@@ -200,7 +200,7 @@ pub data HasNothing (p : Place) : Type 0 where
   sitd_is_late : SitdIsLate p → HasNothing p
 
 -- the walk can't go on
-pub data IsStuck (p : Place) : Type 0 where
+pub data IsStuck (p : FramePlace) : Type 0 where
   chain_is_broken : ChainIsBroken p → IsStuck p
   queue_is_broken : QueueIsBroken p → IsStuck p
   overlay_is_foreign : OverlayIsForeign p → IsStuck p
@@ -216,7 +216,7 @@ pub data IsStuck (p : Place) : Type 0 where
 -- ---- why a structure that is active has no transaction
 
 -- what an event makes of a queue head whose overlay is active
-pub data QueueWorked (p : Place) (h : HeldQueue) : WalkStep → Type 0 where
+pub data QueueWorked (p : FramePlace) (h : HeldQueue) : WalkStep → Type 0 where
   transacts : QueueWorked p h steps.Transact
   halted : h.copy.queue_head.token.halted ≡ true → QueueWorked p h steps.Skip
   -- it starts in another microframe; its complete-splits come in others
@@ -229,13 +229,13 @@ pub data QueueWorked (p : Place) (h : HeldQueue) : WalkStep → Type 0 where
   miss_foreign : is_missed p.walk.index h.copy.queue_head ≡ true → (writing (missed h).copy miss_outcome p.walk.reply p.memory).all ≡ false → QueueWorked p h steps.Fault
 
 -- of an iTD whose microframe is active
-pub data ItdWorked (p : Place) (h : HeldItd) : WalkStep → Type 0 where
+pub data ItdWorked (p : FramePlace) (h : HeldItd) : WalkStep → Type 0 where
   transacts : ItdWorked p h steps.Transact
   out_of_time : p.walk.left < (itd_transaction h).price.0 → ItdWorked p h steps.Skip
   bytes_foreign : (itd_sending (itd_transaction h) h p.memory).all ≡ false → ItdWorked p h steps.Fault
 
 -- of a siTD that is active
-pub data SitdWorked (p : Place) (h : HeldSitd) : WalkStep → Type 0 where
+pub data SitdWorked (p : FramePlace) (h : HeldSitd) : WalkStep → Type 0 where
   transacts : SitdWorked p h steps.Transact
   -- no transaction of it comes in this microframe
   comes_in_others : comes (microframe_of p.walk.index) h.sitd ≡ false → SitdWorked p h steps.Skip
@@ -245,7 +245,7 @@ pub data SitdWorked (p : Place) (h : HeldSitd) : WalkStep → Type 0 where
   miss_foreign : sitd_missed (microframe_of p.walk.index) h.sitd ≡ true → (sitd_writing (missed_copy h) Failed p.walk.reply p.memory).all ≡ false → SitdWorked p h steps.Fault
 
 -- where the copy in hand is active and had no transaction that waits for its write-back, this event is its transaction, or there is a reason
-pub record IsWorked (p : Place) (step : WalkStep) : Type 0 where
+pub record IsWorked (p : FramePlace) (step : WalkStep) : Type 0 where
   pub queue : (h : HeldQueue) → p.walk.hand ≡ Some (hands.Queue h) → h.copy.settled ≡ None → h.copy.queue_head.token.active ≡ true → QueueWorked p h step
   pub itd : (h : HeldItd) → p.walk.hand ≡ Some (hands.Itd h) → h.ended ≡ None → h.slot.active ≡ true → ItdWorked p h step
   pub sitd : (h : HeldSitd) → p.walk.hand ≡ Some (hands.Sitd h) → h.settled ≡ None → h.sitd.active ≡ true → SitdWorked p h step
@@ -253,7 +253,7 @@ pub record IsWorked (p : Place) (step : WalkStep) : Type 0 where
 -- ---- each event
 
 -- what each event has as its cause
-pub data Cause (p : Place) : WalkStep → Type 0 where
+pub data Cause (p : FramePlace) : WalkStep → Type 0 where
   ends : ChainEnds p → Cause p steps.Ended
   fetches : Cause p steps.Fetch
   advances : Cause p steps.Advance

@@ -21,7 +21,7 @@ use Rattle.periodic_walk.specs.declared.chain.ChainRow.{ChainRow}
 use Rattle.periodic_walk.specs.declared.chain.ChainRow.TheVariants as rows
 use Rattle.periodic_walk.specs.declared.state.Hand.TheVariants as hands
 use Rattle.periodic_walk.specs.Walk.{Walk, stopped}
-use Rattle.periodic_walk.specs.Place.{Place}
+use Rattle.periodic_walk.specs.Place.{FramePlace}
 
 -- ---- which row it is
 
@@ -96,7 +96,7 @@ chain_registers (rows.Queue a q) r = r
 chain_registers (rows.Itd a v) r = r
 chain_registers (rows.Sitd a v) r = r
 
-abbrev pub chain_after : ChainRow → Place → Place
+abbrev pub chain_after : ChainRow → FramePlace → FramePlace
 chain_after row p = record p { walk = chain_walk row p.walk; registers = chain_registers row p.registers }
 
 abbrev pub chain_step : ChainRow → WalkStep

@@ -1,7 +1,6 @@
 -- An event at the queue head in hand (EHCI 1.0, 4.10 and 4.12.2).
 use Rattle.std.specs.Prelude.{◌≡◌, ℕ, ◌+◌, ◌-◌, ◌%◌, min, Bool, true, false, nat_lt, List, Option, None, Some, if◌then◌else◌}
 use Rattle.usb_base.specs.declared.endpoints.EndCause.TheVariants as causes
-use Rattle.usb_base.specs.declared.packets.Ask.{Ask}
 use Rattle.usb_base.specs.declared.packets.Reply.{Reply}
 use Rattle.word_mem.specs.Memory.{Mem}
 use Rattle.link_words.specs.declared.kinds.QtdLink.{QtdLink}
@@ -30,7 +29,7 @@ use Rattle.periodic_walk.specs.declared.queue.QueueRow.TheVariants as rows
 use Rattle.periodic_walk.specs.declared.state.HeldQueue.{HeldQueue}
 use Rattle.periodic_walk.specs.declared.state.Hand.TheVariants as hands
 use Rattle.periodic_walk.specs.Walk.{Walk}
-use Rattle.periodic_walk.specs.Place.{Place, faulted, holding, passed, passing, Effect, sent}
+use Rattle.periodic_walk.specs.Place.{FramePlace, faulted, holding, passed, passing, Effect, sent}
 use Rattle.periodic_walk.specs.Place.Effect.{Leaves}
 
 -- ---- which row it is
@@ -57,7 +56,7 @@ abbrev pub settled_row : Mem → ℕ → ℕ → Qh → Option Outcome → Queue
 settled_row m left f q None = turn_row m left q (turn_of f q)
 settled_row m left f q (Some outcome) = rows.WriteBack outcome
 
-abbrev pub queue_row : Place → HeldQueue → QueueRow
+abbrev pub queue_row : FramePlace → HeldQueue → QueueRow
 queue_row p h = settled_row p.memory p.walk.left p.walk.index h.copy.queue_head h.copy.settled
 
 -- what was read is in its range, and the transaction can be made
@@ -84,7 +83,7 @@ abbrev pub settled_read : Mem → ℕ → Qh → Option Outcome → Mem
 settled_read m f q None = turn_read m (turn_of f q)
 settled_read m f q (Some outcome) = m
 
-abbrev pub queue_read : Place → HeldQueue → Mem
+abbrev pub queue_read : FramePlace → HeldQueue → Mem
 queue_read p h = settled_read p.memory p.walk.index h.copy.queue_head h.copy.settled
 
 -- ---- what stands after it
@@ -93,10 +92,10 @@ queue_read p h = settled_read p.memory p.walk.index h.copy.queue_head h.copy.set
 abbrev pub with_queue : HeldQueue → Qh → HeldQueue
 with_queue h q = record h { copy = record h.copy { queue_head = q } }
 
-abbrev pub took : HeldQueue → ℕ → Qtd → Place → Place
+abbrev pub took : HeldQueue → ℕ → Qtd → FramePlace → FramePlace
 took h a t p =
     let new : Qh = advanced h.copy.queue_head a t in
-    let written : Place = record p { memory = overlay_after p.memory h.copy.at new } in
+    let written : FramePlace = record p { memory = overlay_after p.memory h.copy.at new } in
     if reaches_queue_head p.memory h.copy.at then record written { walk = holding (hands.Queue (with_queue h new)) p.walk } else faulted written
 
 abbrev pub took_step : HeldQueue → Mem → WalkStep
@@ -112,16 +111,16 @@ visit_after h outcome w =
     if goes_on h.made h.copy.queue_head outcome then holding (hands.Queue (record h { copy = again_copy outcome h.copy })) w
     else passed h.copy.queue_head.link w
 
-abbrev pub wrote_at : Bool → HeldQueue → Outcome → Place → Place
+abbrev pub wrote_at : Bool → HeldQueue → Outcome → FramePlace → FramePlace
 wrote_at true h outcome p = record p { walk = visit_after h outcome p.walk; registers = raised h.copy.queue_head outcome p.registers }
 wrote_at false h outcome p = faulted p
 
-abbrev pub wrote : HeldQueue → Outcome → Place → Place
+abbrev pub wrote : HeldQueue → Outcome → FramePlace → FramePlace
 wrote h outcome p =
     let w : Writing = writing h.copy outcome p.walk.reply p.memory in
     wrote_at w.all h outcome (record p { memory = w.memory })
 
-abbrev pub wrote_step : HeldQueue → Outcome → Place → WalkStep
+abbrev pub wrote_step : HeldQueue → Outcome → FramePlace → WalkStep
 wrote_step h outcome p = if (writing h.copy outcome p.walk.reply p.memory).all then steps.WriteBack else steps.Fault
 
 -- a miss is written back at once, with no transaction (4.12.2.4.1)
@@ -134,7 +133,7 @@ miss_outcome = outcomes.Halt causes.Miss
 abbrev pub sent_step : Transaction → HeldQueue → Mem → WalkStep
 sent_step t h m = if (sending t h.copy.queue_head m).all then steps.Transact else steps.Fault
 
-abbrev pub queue_step : QueueRow → HeldQueue → Place → WalkStep
+abbrev pub queue_step : QueueRow → HeldQueue → FramePlace → WalkStep
 queue_step rows.Fault h p = steps.Fault
 queue_step rows.Skip h p = steps.Skip
 queue_step (rows.Advance a t) h p = took_step h p.memory
@@ -148,7 +147,7 @@ queue_step (rows.WriteBack outcome) h p = wrote_step h outcome p
 abbrev pub transacted : ℕ → Transaction → List ℕ → Reply → HeldQueue → HeldQueue
 transacted f t out reply h = record { copy = interrupt_copy f t out reply h.copy; made = min (h.made + 1) 255 }
 
-abbrev pub queue_left_by : Transaction → List ℕ → HeldQueue → Place → Reply → Place
+abbrev pub queue_left_by : Transaction → List ℕ → HeldQueue → FramePlace → Reply → FramePlace
 queue_left_by t out h p reply = record p {
   walk = record p.walk {
     hand = Some (hands.Queue (transacted p.walk.index t out reply h));
@@ -157,16 +156,16 @@ queue_left_by t out h p reply = record p {
   };
 }
 
-abbrev pub queue_sent : Transaction → HeldQueue → Place → Effect
+abbrev pub queue_sent : Transaction → HeldQueue → FramePlace → Effect
 queue_sent t h p =
     let read : Reading = sending t h.copy.queue_head p.memory in
     let last : Bool = is_last_of p.walk.index h.copy.queue_head in
-    let there : Place = record p { memory = read.memory } in
+    let there : FramePlace = record p { memory = read.memory } in
     sent read.all (call_in t read.bytes last).ask (call_in t read.bytes last).out (queue_left_by t read.bytes h there) there
 
 -- ---- what an event does
 
-abbrev pub queue_effect : QueueRow → HeldQueue → Place → Effect
+abbrev pub queue_effect : QueueRow → HeldQueue → FramePlace → Effect
 queue_effect rows.Fault h p = Leaves (faulted p)
 queue_effect rows.Skip h p = Leaves (passing h.copy.queue_head.link p)
 queue_effect (rows.Advance a t) h p = Leaves (took h a t p)

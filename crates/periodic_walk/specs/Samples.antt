@@ -17,12 +17,12 @@ use Rattle.iso_visits.specs.declared.held.SplitOutcome.{SplitOutcome}
 use Rattle.iso_visits.specs.Samples.{split_in as sitd_in}
 use Rattle.periodic_walk.specs.declared.state.HeldQueue.{HeldQueue}
 use Rattle.periodic_walk.specs.declared.state.Hand.{Hand}
-use Rattle.periodic_walk.specs.Place.{Place}
+use Rattle.periodic_walk.specs.Place.{FramePlace}
 
 abbrev pub no_memory : Mem
 no_memory = record { words = []; states = []; foreign = 0 }
 
-abbrev pub at_hand : Hand → ℕ → ℕ → Place
+abbrev pub at_hand : Hand → ℕ → ℕ → FramePlace
 at_hand hand index left = record {
   walk = record { cursor = links.Qh 0x2000; index = index; hand = Some hand; reply = Silent; got = []; left = left };
   registers = reset_file;

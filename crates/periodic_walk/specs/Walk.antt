@@ -1,5 +1,5 @@
 -- The content of the walk of a frame's chain (EHCI 1.0, 4.6).
-use Rattle.std.specs.Prelude.{ℕ, ◌≤◌, Bool, true, false, Option, None, Some, List, [], length, IfSome}
+use Rattle.std.specs.Prelude.{ℕ, ◌≤◌, Bool, false, Option, None, Some, List, [], length, IfSome}
 use Rattle.usb_base.specs.declared.packets.Reply.{Reply}
 use Rattle.usb_base.specs.declared.packets.Reply.TheVariants.{Silent}
 use Rattle.link_words.specs.declared.kinds.Link.{Link}

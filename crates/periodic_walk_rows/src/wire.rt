@@ -1,6 +1,6 @@
 ghost use Rattle.std.specs.Prelude.{◌≡◌, ◌≤◌, true};
 
-use usb_base::{Ask, Packet, Part, Pid, Reply, Split, Wire};
+use usb_base::{Ask, DataPart, Packet, Pid, Reply, Split, Wire};
 
 /// An answer of the wire.
 #[derive(Clone, Copy)]
@@ -49,12 +49,12 @@ fn reply(answer: Answer, fill: u8) -> Reply {
 }
 
 /// The name of a part of an isochronous OUT.
-pub(crate) fn part_name(part: Part) -> &'static str {
+pub(crate) fn part_name(part: DataPart) -> &'static str {
     match part {
-        Part::All => "",
-        Part::Begin => "begin ",
-        Part::Middle => "middle ",
-        Part::End => "end ",
+        DataPart::All => "",
+        DataPart::Begin => "begin ",
+        DataPart::Middle => "middle ",
+        DataPart::End => "end ",
     }
 }
 

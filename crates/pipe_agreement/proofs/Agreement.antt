@@ -1,12 +1,12 @@
 -- Pipe agreement is kept by every transaction.
-use Rattle.std.proofs.Common.{◌≡◌, ℕ, ◌+◌, ◌%◌, ◌<◌, ◌≤◌, ◌==◌, Bool, true, false, not, List, [], ◌∷◌, ◌++◌, length, take, drop, subst, slice_get, ◌⊎◌, inl, inr, Option, Some, None, if◌then◌else◌, refl, ap, sym, ◌∙◌, arith, rules}
+use Rattle.std.proofs.Common.{◌≡◌, ℕ, ◌+◌, ◌%◌, ◌==◌, Bool, true, false, not, List, [], ◌∷◌, ◌++◌, length, take, drop, subst, slice_get, ◌⊎◌, inl, inr, Option, Some, None, if◌then◌else◌, refl, ap, sym, ◌∙◌, arith, rules}
 use Rattle.std.proofs.lemmas.Grind.{common_steps}
 use Rattle.std.specs.List.{concat}
 use Rattle.std.proofs.lemmas.List.{take_more, take-append-drop}
 use Rattle.std.proofs.lemmas.List.Folds.{concat-append}
 use Rattle.std.proofs.lemmas.Option.{slice_get_within, get_or_from_slice_get}
 use Rattle.pipe_agreement.specs.Prefix.{IsPrefix}
-use Rattle.pipe_agreement.specs.Pipe.{Pipe, Hearing, Unheard, Heard, PipeAgrees, IsNear, opening, after, after_all, sent, received, acknowledged, toggle_after, alike}
+use Rattle.pipe_agreement.specs.Pipe.{Pipe, Hearing, Unheard, Heard, PipeAgrees, opening, after, after_all, sent, received, acknowledged, toggle_after, alike}
 
 turned : (n r t : ℕ) → n % 2 ≡ r → (n + 1) % 2 ≡ t → (t == 1) ≡ not (r == 1) → toggle_after (n + 1) ≡ not (toggle_after n)
 turned n r t h k e = rw (h, k) e

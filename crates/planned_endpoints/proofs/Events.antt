@@ -12,13 +12,13 @@ use Rattle.driver_rows.specs.declared.content.Endpoint.{Endpoint}
 use Rattle.driver_rows.specs.declared.content.Transfer.{Transfer}
 use Rattle.driver_rows.specs.declared.content.Command.{Command}
 use Rattle.driver_rows.specs.declared.content.Command.TheVariants as unfinished
-use Rattle.driver_rows.specs.declared.rows.Row.{Row}
-use Rattle.driver_rows.specs.declared.rows.Row.TheVariants as rows
+use Rattle.driver_rows.specs.declared.rows.DriverRow.{DriverRow}
+use Rattle.driver_rows.specs.declared.rows.DriverRow.TheVariants as rows
 use Rattle.driver_rows.specs.declared.rows.Found.{Found}
 use Rattle.driver_rows.specs.declared.rows.Found.TheVariants as founds
 use Rattle.driver_rows.specs.DriverContent.{DriverContent, waits_for}
 use Rattle.driver_rows.specs.Harvests.{is_stall, noted, end_of}
-use Rattle.driver_rows.specs.Rows.{Parts, events_of, links, removes_members, no_command, leave_ring, leave_frames, finished, list_after, or_finished, linked_on, advanced_by, advance, framed_by, with_notes, framed_notes, placement_at, linked_by, after_row}
+use Rattle.driver_rows.specs.Rows.{Parts, events_of, links, removes_members, no_command, leave_ring, leave_frames, finished, list_after, or_finished, linked_on, advanced_by, advance, framed_by, with_notes, framed_notes, placement_at, linked_by, after_driver_row}
 use Rattle.driver_rows.specs.Rows.{after_transfer, is_told, cancel_told, after_endpoint, after_unlink, after_descriptor, after_placed, after_removed}
 use Rattle.driver_rows.specs.Rows.{told_with, behind_one, behind, after_end, harvested_as, served, after_harvest}
 use Rattle.bandwidth.specs.declared.placements.Placed.{Placed}
@@ -137,12 +137,12 @@ harvested d m e t found (Some x) (Some y) here =
 
 -- ---- any event
 
-abbrev pub placements_after : Row → DriverContent → List Placed
+abbrev pub placements_after : DriverRow → DriverContent → List Placed
 placements_after (rows.ReleaseRemoved (removed.Endpoint e)) d = without_one (placements d) e (slice_get d.endpoints e)
 placements_after _ d = placements d
 
 -- an endpoint of the ring, where it is given back
-abbrev pub IfRing : Row → DriverContent → Type 0
+abbrev pub IfRing : DriverRow → DriverContent → Type 0
 IfRing (rows.ReleaseEndpoint e) d = (x : Endpoint) → slice_get d.endpoints e ≡ Some x → x.placement ≡ None
 IfRing _ d = Unit {0}
 
@@ -150,7 +150,7 @@ removed_let_go : (p : Parts) (what : Removed) → placements (after_removed p wh
 removed_let_go p (removed.Descriptor t) = descriptor_let_go p t (slice_get p.driver.transfers t)
 removed_let_go p (removed.Endpoint e) = placed_let_go p e (slice_get p.driver.endpoints e) refl
 
-pub placements_of_event : (row : Row) (p : Parts) → IfRing row p.driver → placements (after_row row p).driver ≡ placements_after row p.driver
+pub placements_of_event : (row : DriverRow) (p : Parts) → IfRing row p.driver → placements (after_driver_row row p).driver ≡ placements_after row p.driver
 placements_of_event rows.Lend p ring = advanced (record p.driver { book = (lend_taken (holding p.driver.book p.memory)).book })
 placements_of_event (rows.Store b at v) p ring = advanced p.driver
 placements_of_event (rows.Mend w) p ring = refl

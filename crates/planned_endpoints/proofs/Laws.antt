@@ -11,12 +11,12 @@ use Rattle.periodic_rows.specs.declared.content.Removed.TheVariants as removed
 use Rattle.periodic_rows.specs.Periodic.{is_periodic, want_of}
 use Rattle.driver_rows.specs.declared.content.Endpoint.{Endpoint}
 use Rattle.driver_rows.specs.declared.content.Reserve.{Reserve}
-use Rattle.driver_rows.specs.declared.rows.Row.{Row}
-use Rattle.driver_rows.specs.declared.rows.Row.TheVariants as rows
+use Rattle.driver_rows.specs.declared.rows.DriverRow.{DriverRow}
+use Rattle.driver_rows.specs.declared.rows.DriverRow.TheVariants as rows
 use Rattle.driver_rows.specs.DriverContent.{DriverContent}
 use Rattle.driver_rows.specs.Opening.{opening}
 use Rattle.driver_rows.specs.Offers.{Offered, offered, placed_endpoint}
-use Rattle.driver_rows.specs.Rows.{Parts, row_of, after_row}
+use Rattle.driver_rows.specs.Rows.{Parts, driver_row, after_driver_row}
 use Rattle.run_owners.specs.Due.{IsDue}
 use Rattle.run_owners.specs.Kept.{HasOwners}
 use Rattle.run_owners.proofs.Reasons.{each_is_due}
@@ -72,7 +72,7 @@ none_of (Some p) e = absurd (cc)
 pub some_is : (x y : Endpoint) → ◌≡◌ {A = Option Endpoint} (Some x) (Some y) → x ≡ y
 some_is x y e = cc
 
-ring_due : (p : Parts) (row : Row) → IsDue p row → HasOwners p.driver → IfRing row p.driver
+ring_due : (p : Parts) (row : DriverRow) → IsDue p row → HasOwners p.driver → IfRing row p.driver
 ring_due p rows.Lend due has = tt
 ring_due p (rows.Store b at v) due has = tt
 ring_due p (rows.Mend w) due has = tt
@@ -96,7 +96,7 @@ out_of_plan : (a : Account) (ps : List Placed) (e : ℕ) (o : Option Endpoint) �
 out_of_plan a ps e None is = is
 out_of_plan a ps e (Some x) is = ap (filter (other e)) is
 
-after_planned : (row : Row) (d : DriverContent) → IsPlanned d → (account_after row d).plan.placed ≡ placements_after row d
+after_planned : (row : DriverRow) (d : DriverContent) → IsPlanned d → (account_after row d).plan.placed ≡ placements_after row d
 after_planned rows.Lend d old = old
 after_planned (rows.Store b at v) d old = old
 after_planned (rows.Mend w) d old = old
@@ -114,11 +114,11 @@ after_planned (rows.ReleaseRemoved (removed.Endpoint e)) d old = out_of_plan (ac
 after_planned (rows.Harvest e t found) d old = old
 after_planned rows.Rest d old = old
 
-pub event_planned : (p : Parts) → HasOwners p.driver → IsPlanned p.driver → IsPlanned (after_row (row_of p) p).driver
+pub event_planned : (p : Parts) → HasOwners p.driver → IsPlanned p.driver → IsPlanned (after_driver_row (driver_row p) p).driver
 event_planned p has old =
-    ap (λ (a : Account). a.plan.placed) (account_of_event (row_of p) p)
-    ∙ after_planned (row_of p) p.driver old
-    ∙ sym (placements_of_event (row_of p) p (ring_due p (row_of p) (each_is_due p) has))
+    ap (λ (a : Account). a.plan.placed) (account_of_event (driver_row p) p)
+    ∙ after_planned (driver_row p) p.driver old
+    ∙ sym (placements_of_event (driver_row p) p (ring_due p (driver_row p) (each_is_due p) has))
 
 -- ---- what that says
 

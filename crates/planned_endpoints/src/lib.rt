@@ -18,7 +18,7 @@ ghost use Rattle.driver_rows.specs.declared.content.Reserve.{Reserve};
 ghost use Rattle.driver_rows.specs.DriverContent.{DriverContent};
 ghost use Rattle.driver_rows.specs.Offers.{Offered, offered};
 ghost use Rattle.driver_rows.specs.Opening.{opening};
-ghost use Rattle.driver_rows.specs.Rows.{Parts, row_of, after_row};
+ghost use Rattle.driver_rows.specs.Rows.{Parts, driver_row, after_driver_row};
 ghost use Rattle.run_owners.specs.Kept.{HasOwners};
 ghost use Rattle.std.specs.List.{AllByRecursion};
 ghost use Rattle.frame_chains.specs.declared.members.QueueHead.{QueueHead};
@@ -44,7 +44,7 @@ pub fn commands_keep_the_plan()
 /// Each event of the driver does: what gives back a periodic endpoint takes its placement out.
 #[tactic(auto, using(crate::proofs::Laws::event_planned))]
 pub fn events_keep_the_plan()
-    ensures { (p : Parts) → HasOwners p.driver → IsPlanned p.driver → IsPlanned (after_row (row_of p) p).driver }
+    ensures { (p : Parts) → HasOwners p.driver → IsPlanned p.driver → IsPlanned (after_driver_row (driver_row p) p).driver }
 {}
 
 /// So the placement of a periodic endpoint that wasn't given back, also of one that is leaving, counts in the plan.

@@ -1,6 +1,5 @@
 -- How a program that read its input ends, by how its answer ends.
-use Rattle.std.proofs.Common.{◌≡◌, ◌≢◌, ◌≤◌, ℕ, List, Option, None, Some, IfSome, drop, refl, arith}
-use Rattle.usb_base.specs.Outside.{one_more}
+use Rattle.std.proofs.Common.{◌≡◌, ◌≢◌, ℕ, List, Option, None, Some, IfSome, refl, arith}
 use Rattle.program_ends.specs.Input.{input_limit, rest_of}
 use Rattle.program_ends.specs.Ends.{IsLeft, IsFault}
 use Rattle.program_ends.specs.declared.status.Status.{Status}

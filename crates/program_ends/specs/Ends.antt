@@ -5,7 +5,7 @@
 --     WritesNothing status           the ends with which nothing is written
 --     IsTold status ..               a text was written, or a front part of it where the sink failed
 --     ExitsBy code ..                an exit status is that of an end, and tells so whether a read or a write failed
-use Rattle.std.specs.Prelude.{◌≡◌, ℕ, ◌≤◌, ◌⊎◌, List, drop, Option, Some}
+use Rattle.std.specs.Prelude.{◌≡◌, ℕ, ◌≤◌, List, drop, Option, Some}
 use Rattle.std.specs.Io.KnownBytes.{Appends}
 use Rattle.usb_base.specs.Outside.{AppendsPrefix, one_more}
 use Rattle.program_ends.specs.Codes.{exit_code}

@@ -1,18 +1,18 @@
 -- The queue element transfer descriptor (EHCI 1.0, 3.5), word by word.
 use Rattle.std.specs.Prelude.{ℕ, List, [], ◌∷◌, Option, Result, slice_index}
 use Rattle.link_words.specs.declared.refusal.Bad.{Bad}
-use Rattle.link_words.specs.Layout.{Row, Number, Free, within, words_of, IsInRange, bits, first_bad, unless_bad}
+use Rattle.link_words.specs.Layout.{BitRow, Number, Free, within, words_of, IsInRange, bits, first_bad, unless_bad}
 use Rattle.link_words.specs.Fields.{short_link_rows, short_link_at, page_rows}
 use Rattle.qh_qtd.specs.declared.qtd.Qtd.{Qtd}
 use Rattle.qh_qtd.specs.Token.{token_rows, token_at}
 
 -- the place in the first page (3.5.4)
-abbrev pub buffer_rows : List (Row Qtd)
+abbrev pub buffer_rows : List (BitRow Qtd)
 buffer_rows =
     Number 31 12 Free (λ q. q.page0) ∷
     Number 11 0 Free (λ q. q.offset) ∷ []
 
-abbrev pub qtd_layout : List (List (Row Qtd))
+abbrev pub qtd_layout : List (List (BitRow Qtd))
 qtd_layout =
     within (λ q. q.next) short_link_rows ∷
     within (λ q. q.alternate) short_link_rows ∷

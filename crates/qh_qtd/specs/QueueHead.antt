@@ -1,13 +1,13 @@
 -- The queue head (EHCI 1.0, 3.6), word by word.
 use Rattle.std.specs.Prelude.{ℕ, List, [], ◌∷◌, Option, Result, slice_index}
 use Rattle.link_words.specs.declared.refusal.Bad.{Bad}
-use Rattle.link_words.specs.Layout.{Row, Number, Flag, Address, Gap, Free, Above, within, words_of, IsInRange, bits, is_set, high_bits, first_bad, unless_bad}
+use Rattle.link_words.specs.Layout.{BitRow, Number, Flag, Address, Gap, Free, Above, within, words_of, IsInRange, bits, is_set, high_bits, first_bad, unless_bad}
 use Rattle.link_words.specs.Fields.{link_rows, link_at, short_link_rows, short_link_at, page_rows}
 use Rattle.qh_qtd.specs.declared.queue_head.Qh.{Qh}
 use Rattle.qh_qtd.specs.Token.{token_rows, token_at}
 
 -- endpoint characteristics (3.6.2): speed 0 is full, 1 low, 2 high
-abbrev pub characteristics_rows : List (Row Qh)
+abbrev pub characteristics_rows : List (BitRow Qh)
 characteristics_rows =
     Number 31 28 Free (λ q. q.rl) ∷
     Flag 27 (λ q. q.control) ∷
@@ -20,7 +20,7 @@ characteristics_rows =
     Number 6 0 Free (λ q. q.addr) ∷ []
 
 -- endpoint capabilities (3.6.2)
-abbrev pub capabilities_rows : List (Row Qh)
+abbrev pub capabilities_rows : List (BitRow Qh)
 capabilities_rows =
     Number 31 30 Free (λ q. q.mult) ∷
     Number 29 23 Free (λ q. q.port) ∷
@@ -29,34 +29,34 @@ capabilities_rows =
     Number 7 0 Free (λ q. q.smask) ∷ []
 
 -- the current descriptor (3.6.3)
-abbrev pub current_rows : List (Row Qh)
+abbrev pub current_rows : List (BitRow Qh)
 current_rows = Address 5 (λ q. q.current) ∷ Gap 4 0 ∷ []
 
 -- the overlay (3.6.3)
-abbrev pub alternate_rows : List (Row Qh)
+abbrev pub alternate_rows : List (BitRow Qh)
 alternate_rows =
     Address 5 (λ q. q.alternate.address) ∷
     Number 4 1 Free (λ q. q.nak_cnt) ∷
     Flag 0 (λ q. q.alternate.t) ∷ []
 
-abbrev pub offset_rows : List (Row Qh)
+abbrev pub offset_rows : List (BitRow Qh)
 offset_rows =
     Number 31 12 Free (λ q. q.page0) ∷
     Number 11 0 Free (λ q. q.offset) ∷ []
 
-abbrev pub progress_rows : List (Row Qh)
+abbrev pub progress_rows : List (BitRow Qh)
 progress_rows =
     Number 31 12 Free (λ q. q.page1) ∷
     Gap 11 8 ∷
     Number 7 0 Free (λ q. q.c_prog) ∷ []
 
-abbrev pub frame_rows : List (Row Qh)
+abbrev pub frame_rows : List (BitRow Qh)
 frame_rows =
     Number 31 12 Free (λ q. q.page2) ∷
     Number 11 5 Free (λ q. q.s_bytes) ∷
     Number 4 0 Free (λ q. q.frame_tag) ∷ []
 
-abbrev pub qh_layout : List (List (Row Qh))
+abbrev pub qh_layout : List (List (BitRow Qh))
 qh_layout =
     within (λ q. q.link) link_rows ∷
     characteristics_rows ∷

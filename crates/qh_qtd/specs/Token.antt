@@ -1,9 +1,9 @@
 -- The token of a queue element transfer descriptor and of a queue head's overlay (EHCI 1.0, 3.5.3 and 3.6.3).
 use Rattle.std.specs.Prelude.{ℕ, List, [], ◌∷◌}
-use Rattle.link_words.specs.Layout.{Row, Number, Flag, Free, Above, word_of, bits, is_set}
+use Rattle.link_words.specs.Layout.{BitRow, Number, Flag, Free, Above, word_of, bits, is_set}
 use Rattle.qh_qtd.specs.declared.token.Token.{Token}
 
-abbrev pub token_rows : List (Row Token)
+abbrev pub token_rows : List (BitRow Token)
 token_rows =
     Flag 31 (λ t. t.toggle) ∷
     Number 30 16 (Above 0x5000) (λ t. t.total) ∷

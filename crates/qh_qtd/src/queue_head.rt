@@ -70,7 +70,7 @@ pub struct Qh {
 
 impl Qh {
     ghost use Rattle.std.specs.Prelude.{IfOk, IfErr};
-    ghost use Rattle.link_words.specs.Layout.{IsWordInRange, first_bad_bit, places_of, word_of};
+    ghost use Rattle.link_words.specs.Layout.{IsWordInRange, first_bad_bit, ranges_of, word_of};
     ghost use Rattle.qh_qtd.specs.QueueHead.{qh_read, qh_words, qh_bad, qh_at, IsQhInRange, characteristics_rows, capabilities_rows, current_rows, alternate_rows, offset_rows, progress_rows, frame_rows};
 
     /// The queue head of twelve words, or their first reserved bit that is set.
@@ -173,7 +173,7 @@ impl Qh {
 
     #[tactic(auto, unfolding(link_words::specs::Layout::first_bad_bit))]
     fn characteristics_bad_bit(word: u32) -> Option<u8>
-        ensures { result ≡ first_bad_bit (places_of characteristics_rows) word }
+        ensures { result ≡ first_bad_bit (ranges_of characteristics_rows) word }
     {
         if field(word, 13, 12) > 2 {
             return Some(12);
@@ -186,14 +186,14 @@ impl Qh {
 
     #[tactic(auto, unfolding(link_words::specs::Layout::first_bad_bit))]
     fn current_bad_bit(word: u32) -> Option<u8>
-        ensures { result ≡ first_bad_bit (places_of current_rows) word }
+        ensures { result ≡ first_bad_bit (ranges_of current_rows) word }
     {
         first_set(word, 4, 0)
     }
 
     #[tactic(auto, unfolding(link_words::specs::Layout::first_bad_bit))]
     fn progress_bad_bit(word: u32) -> Option<u8>
-        ensures { result ≡ first_bad_bit (places_of progress_rows) word }
+        ensures { result ≡ first_bad_bit (ranges_of progress_rows) word }
     {
         first_set(word, 11, 8)
     }

@@ -36,7 +36,7 @@ pub struct Token {
 }
 
 impl Token {
-    ghost use Rattle.link_words.specs.Layout.{IsWordInRange, first_bad_bit, places_of};
+    ghost use Rattle.link_words.specs.Layout.{IsWordInRange, first_bad_bit, ranges_of};
     ghost use Rattle.qh_qtd.specs.Token.{token_rows, token_at, token_word};
 
     /// The fields of a word, reserved values too.
@@ -65,7 +65,7 @@ impl Token {
     /// The lowest bit of the first field of a word that has a reserved value.
     #[tactic(auto, unfolding(link_words::specs::Layout::first_bad_bit))]
     pub fn bad_bit(word: u32) -> Option<u8>
-        ensures { result ≡ first_bad_bit (places_of token_rows) word }
+        ensures { result ≡ first_bad_bit (ranges_of token_rows) word }
     {
         if field(word, 9, 8) > 2 {
             return Some(8);

@@ -15,8 +15,8 @@ use Rattle.driver_rows.specs.declared.content.Transfer.{Transfer}
 use Rattle.driver_rows.specs.declared.content.Mend.{Mend}
 use Rattle.driver_rows.specs.declared.content.Command.{Command}
 use Rattle.driver_rows.specs.declared.content.Command.TheVariants as unfinished
-use Rattle.driver_rows.specs.declared.rows.Row.{Row}
-use Rattle.driver_rows.specs.declared.rows.Row.TheVariants as rows
+use Rattle.driver_rows.specs.declared.rows.DriverRow.{DriverRow}
+use Rattle.driver_rows.specs.declared.rows.DriverRow.TheVariants as rows
 use Rattle.frame_members.specs.Members.{Members}
 use Rattle.periodic_list.specs.declared.work.Store.{Store}
 use Rattle.periodic_list.specs.Periodic.{Periodic, next_store}
@@ -27,7 +27,7 @@ use Rattle.periodic_rows.specs.Periodic.{descriptor_member}
 use Rattle.periodic_rows.specs.Linking.{new_link, begun_next}
 use Rattle.driver_rows.specs.DriverContent.{DriverContent}
 use Rattle.driver_rows.specs.Words.{head_block}
-use Rattle.driver_rows.specs.Rows.{Parts, is_iso, events_of, links, removes_members, leave_ring, leave_frames, removal_of, no_command, finished, list_after, or_finished, linked_on, advanced_by, advance, framed_notes, with_notes, placement_at, framed_by, linked_descriptors, linked_by, row_of, after_row, after_transfer, after_endpoint, stored_link, descriptor_leaving, after_unlink, after_descriptor, after_placed, after_removed, freed_by, free_qtds, free_endpoint, free_descriptor, free_placed, cancel_told}
+use Rattle.driver_rows.specs.Rows.{Parts, is_iso, events_of, links, removes_members, leave_ring, leave_frames, removal_of, no_command, finished, list_after, or_finished, linked_on, advanced_by, advance, framed_notes, with_notes, placement_at, framed_by, linked_descriptors, linked_by, driver_row, after_driver_row, after_transfer, after_endpoint, stored_link, descriptor_leaving, after_unlink, after_descriptor, after_placed, after_removed, freed_by, free_qtds, free_endpoint, free_descriptor, free_placed, cancel_told}
 use Rattle.run_owners.specs.Owners.{Owner, FrameList, Head, QueueHead, Dummy, Element, Described, Buffer, HasBlocks, HasRun, SlotHas, IsPlaced}
 use Rattle.run_owners.specs.Due.{IsDue}
 use Rattle.run_owners.specs.Kept.{HasOwners}
@@ -424,11 +424,11 @@ among_later f [] fs a = a
 among_later f (e ∷ es) fs a = later e (es ++ fs) (among_later f es fs a)
 
 -- what a row stores, where it is a store of a command
-stored_by : Book → Mem → Row → Mem
+stored_by : Book → Mem → DriverRow → Mem
 stored_by k m (rows.Store b at v) = store k m b at v
 stored_by k m _ = m
 
-pub row_fixed : (row : Row) (p : Parts) → IsDue p row → Stands (holding p.driver.book p.memory) → IsShaped p.memory → HasOwners p.driver → HasOwners (after_row row p).driver → IsListApart p.driver → IsRing (link_in p.memory) p.driver → AreFixed p.memory p.driver → AreFixed (after_row row p).memory (after_row row p).driver
+pub row_fixed : (row : DriverRow) (p : Parts) → IsDue p row → Stands (holding p.driver.book p.memory) → IsShaped p.memory → HasOwners p.driver → HasOwners (after_driver_row row p).driver → IsListApart p.driver → IsRing (link_in p.memory) p.driver → AreFixed p.memory p.driver → AreFixed (after_driver_row row p).memory (after_driver_row row p).driver
 unfolding is_element is_list stored_by
 row_fixed rows.Lend p due stands shape has after apart ring old =
     let h = holding p.driver.book p.memory in
@@ -438,7 +438,7 @@ row_fixed (rows.Store b at v) p (inr due) stands shape has after apart ring old 
     let s = due.store in
     let is = store_is_apart d d.periodic.list s has apart.list apart.members due.next in
     let stays : (q : ℕ) (w : Owner) → IsPlaced (slot_of d.book.slots) has.owner q w → is_list w ≡ false → FixedStay p.memory (store d.book p.memory b at v) q = λ q w placed none.
-    subst (λ (row : Row). FixedStay p.memory (stored_by d.book p.memory row) q) (sym due.is) (stored_leaves p s is stands has q w placed (λ e. false≢true (sym none ∙ ap is_list e))) in
+    subst (λ (row : DriverRow). FixedStay p.memory (stored_by d.book p.memory row) q) (sym due.is) (stored_leaves p s is stands has q w placed (λ e. false≢true (sym none ∙ ap is_list e))) in
     fixed_by p.memory (store d.book p.memory b at v) d (advance d) (goes_on d)
     (λ f x here met. stays x.queue (QueueHead f) (queue_placed d f x has here (met_alive d f x has here met)) refl)
     (stays head_block Head has.owned.each.head refl) old
@@ -470,11 +470,11 @@ row_fixed rows.RingBell p due stands shape has after apart ring old =
 row_fixed (rows.ReadStatus heard) p due stands shape has after apart ring old = record { each = old.each; head = old.head }
 row_fixed (rows.Harvest e t found) p due stands shape has after apart ring old =
     let s = harvest_stays p.driver p.memory e t found (slice_get p.driver.endpoints e) (slice_get p.driver.transfers t) refl in
-    fixed_same p.memory p.memory p.driver (after_row (rows.Harvest e t found) p).driver s.endpoints
-    (λ f a. subst (λ (vs : List ℕ). IsAmong f (p.driver.rung ++ vs)) s.waiting (subst (λ (vs : List ℕ). IsAmong f (vs ++ (after_row (rows.Harvest e t found) p).driver.waiting)) s.rung a))
+    fixed_same p.memory p.memory p.driver (after_driver_row (rows.Harvest e t found) p).driver s.endpoints
+    (λ f a. subst (λ (vs : List ℕ). IsAmong f (p.driver.rung ++ vs)) s.waiting (subst (λ (vs : List ℕ). IsAmong f (vs ++ (after_driver_row (rows.Harvest e t found) p).driver.waiting)) s.rung a))
     (λ f x here met. words_same p.memory p.memory x.queue refl) (words_same p.memory p.memory head_block refl) old
 row_fixed rows.Rest p due stands shape has after apart ring old = old
 
-pub event_fixed : (p : Parts) → IsSound p.memory p.driver → AreFixed p.memory p.driver → AreFixed (after_row (row_of p) p).memory (after_row (row_of p) p).driver
+pub event_fixed : (p : Parts) → IsSound p.memory p.driver → AreFixed p.memory p.driver → AreFixed (after_driver_row (driver_row p) p).memory (after_driver_row (driver_row p) p).driver
 event_fixed p sound old =
-    row_fixed (row_of p) p (each_is_due p) sound.stands sound.shape sound.owners (event_owned p sound.owners) (list_apart p.driver p.memory sound.stands sound.shape sound.owners sound.listed) sound.ring old
+    row_fixed (driver_row p) p (each_is_due p) sound.stands sound.shape sound.owners (event_owned p sound.owners) (list_apart p.driver p.memory sound.stands sound.shape sound.owners sound.listed) sound.ring old

@@ -15,8 +15,8 @@ use Rattle.driver_rows.specs.declared.content.Transfer.{Transfer}
 use Rattle.driver_rows.specs.declared.content.Mend.{Mend}
 use Rattle.driver_rows.specs.declared.content.Command.{Command}
 use Rattle.driver_rows.specs.declared.content.Command.TheVariants as unfinished
-use Rattle.driver_rows.specs.declared.rows.Row.{Row}
-use Rattle.driver_rows.specs.declared.rows.Row.TheVariants as rows
+use Rattle.driver_rows.specs.declared.rows.DriverRow.{DriverRow}
+use Rattle.driver_rows.specs.declared.rows.DriverRow.TheVariants as rows
 use Rattle.frame_members.specs.Members.{Members}
 use Rattle.periodic_list.specs.declared.work.Store.{Store}
 use Rattle.periodic_list.specs.Periodic.{Periodic, next_store}
@@ -28,7 +28,7 @@ use Rattle.periodic_rows.specs.Linking.{new_link}
 use Rattle.driver_rows.specs.DriverContent.{DriverContent}
 use Rattle.driver_rows.specs.Words.{head_block}
 use Rattle.driver_rows.specs.Offers.{oldest_of}
-use Rattle.driver_rows.specs.Rows.{Parts, events_of, row_of, after_row, after_transfer, after_endpoint, stored_link, descriptor_leaving, after_unlink, after_descriptor, after_placed, after_removed, linked_descriptors, linked_by, freed_by, free_qtds, free_endpoint, free_descriptor, free_placed}
+use Rattle.driver_rows.specs.Rows.{Parts, events_of, driver_row, after_driver_row, after_transfer, after_endpoint, stored_link, descriptor_leaving, after_unlink, after_descriptor, after_placed, after_removed, linked_descriptors, linked_by, freed_by, free_qtds, free_endpoint, free_descriptor, free_placed}
 use Rattle.run_owners.specs.Owners.{Owner, FrameList, Head, QueueHead, Element, Described, HasBlocks, HasRun, SlotHas, IsPlaced, runs_of_transfer, descriptor_in}
 use Rattle.run_owners.specs.Due.{IsDue}
 use Rattle.run_owners.specs.Kept.{HasOwners}
@@ -163,7 +163,7 @@ mends p w b owed mending same = record {
   word = subst (λ q. (w.at ≡ 32 * q + 16) ⊎ ((w.at ≡ 32 * q + 20) ⊎ (w.at ≡ 32 * q + 24))) same mending;
 }
 
-row_stores : (row : Row) (p : Parts) (b at : ℕ) → IsDue p row → Stands (holding p.driver.book p.memory) → HasOwners p.driver → IsListApart p.driver → IsRing (link_in p.memory) p.driver → HasQueueHead p.driver b → 32 * b ≤ at → at < 32 * b + 48 → stored_address row ≡ Some at → (at ≡ 32 * b) ⊎ IsMendOf p row b at
+row_stores : (row : DriverRow) (p : Parts) (b at : ℕ) → IsDue p row → Stands (holding p.driver.book p.memory) → HasOwners p.driver → IsListApart p.driver → IsRing (link_in p.memory) p.driver → HasQueueHead p.driver b → 32 * b ≤ at → at < 32 * b + 48 → stored_address row ≡ Some at → (at ≡ 32 * b) ⊎ IsMendOf p row b at
 row_stores (rows.Store q to v) p b at (inl due) stands has apart ring there low high is =
     let same : to ≡ at = same_Some to at is in
     inl (command_stores p due.command b q at v due.unfinished (subst (λ a. slice_get (events_of due.command) p.driver.made ≡ Some (rows.Store q a v)) same due.next) stands has ring there low high)
@@ -191,9 +191,9 @@ row_stores (rows.ReadStatus heard) p b at due stands has apart ring there low hi
 row_stores (rows.Harvest e t found) p b at due stands has apart ring there low high is = absurd (cc)
 row_stores rows.Rest p b at due stands has apart ring there low high is = absurd (cc)
 
-pub event_stores : (p : Parts) (b at : ℕ) → IsSound p.memory p.driver → HasQueueHead p.driver b → 32 * b ≤ at → at < 32 * b + 48 → stored_address (row_of p) ≡ Some at → StoresAt p b at
+pub event_stores : (p : Parts) (b at : ℕ) → IsSound p.memory p.driver → HasQueueHead p.driver b → 32 * b ≤ at → at < 32 * b + 48 → stored_address (driver_row p) ≡ Some at → StoresAt p b at
 event_stores p b at sound there low high is =
-    row_stores (row_of p) p b at (each_is_due p) sound.stands sound.owners (list_apart p.driver p.memory sound.stands sound.shape sound.owners sound.listed) sound.ring there low high is
+    row_stores (driver_row p) p b at (each_is_due p) sound.stands sound.owners (list_apart p.driver p.memory sound.stands sound.shape sound.owners sound.listed) sound.ring there low high is
 
 -- ---- what any event leaves
 
@@ -205,8 +205,8 @@ store_apart : (k : Book) (m : Mem) (q at v other : ℕ) → at / 4 ≢ other / 4
 store_apart k m q at v other differs = maybe m at v other (can_store (slot_of k.slots q) at) differs
 
 -- the word i of the queue head in block b is as before, or a store after a stalled request writes it
-abbrev pub IsLeft : Row → Parts → ℕ → ℕ → Type 0
-IsLeft row p b i = (word_at (after_row row p).memory (32 * b + 4 * i) ≡ word_at p.memory (32 * b + 4 * i)) ⊎ IsMendOf p row b (32 * b + 4 * i)
+abbrev pub IsLeft : DriverRow → Parts → ℕ → ℕ → Type 0
+IsLeft row p b i = (word_at (after_driver_row row p).memory (32 * b + 4 * i) ≡ word_at p.memory (32 * b + 4 * i)) ⊎ IsMendOf p row b (32 * b + 4 * i)
 
 mend_leaves : (p : Parts) (w : Mend) (b i : ℕ) → slice_get p.driver.mends 0 ≡ Some w → IsMending w → i < 12 → IsLeft (rows.Mend w) p b i
 mend_leaves p w b i owed mending small =
@@ -309,7 +309,7 @@ unlinked_left p t b i (Some x) stands has apart there from small =
     let same = begun_members d.periodic.list (descriptor_member d.periodic.notes x.first) in
     maybe_left p list (next_store list) b i refl (same.0 ∙ apart.list) (subst (λ (k : Members). ListApart d k.schedule) (sym same.1) apart.members) stands has there from small
 
-row_leaves : (row : Row) (p : Parts) (b i : ℕ) → IsDue p row → Stands (holding p.driver.book p.memory) → IsShaped p.memory → HasOwners p.driver → HasOwners (after_row row p).driver → IsListApart p.driver → IsRing (link_in p.memory) p.driver → HasQueueHead p.driver b → HasQueueHead (after_row row p).driver b → 1 ≤ i → i < 12 → IsLeft row p b i
+row_leaves : (row : DriverRow) (p : Parts) (b i : ℕ) → IsDue p row → Stands (holding p.driver.book p.memory) → IsShaped p.memory → HasOwners p.driver → HasOwners (after_driver_row row p).driver → IsListApart p.driver → IsRing (link_in p.memory) p.driver → HasQueueHead p.driver b → HasQueueHead (after_driver_row row p).driver b → 1 ≤ i → i < 12 → IsLeft row p b i
 row_leaves rows.Lend p b i due stands shape has after apart ring there later from small =
     inl (ap (λ ws. slice_index ws ((32 * b + 4 * i) / 4)) (lent_words (holding p.driver.book p.memory)))
 row_leaves (rows.Store q to v) p b i (inl due) stands shape has after apart ring there later from small =
@@ -340,6 +340,6 @@ row_leaves (rows.ReadStatus heard) p b i due stands shape has after apart ring t
 row_leaves (rows.Harvest e t found) p b i due stands shape has after apart ring there later from small = inl refl
 row_leaves rows.Rest p b i due stands shape has after apart ring there later from small = inl refl
 
-pub event_leaves : (p : Parts) (b i : ℕ) → IsSound p.memory p.driver → HasQueueHead p.driver b → HasQueueHead (after_row (row_of p) p).driver b → 1 ≤ i → i < 12 → LeavesWord p b i
+pub event_leaves : (p : Parts) (b i : ℕ) → IsSound p.memory p.driver → HasQueueHead p.driver b → HasQueueHead (after_driver_row (driver_row p) p).driver b → 1 ≤ i → i < 12 → LeavesWord p b i
 event_leaves p b i sound there later from small =
-    row_leaves (row_of p) p b i (each_is_due p) sound.stands sound.shape sound.owners (event_owned p sound.owners) (list_apart p.driver p.memory sound.stands sound.shape sound.owners sound.listed) sound.ring there later from small
+    row_leaves (driver_row p) p b i (each_is_due p) sound.stands sound.shape sound.owners (event_owned p sound.owners) (list_apart p.driver p.memory sound.stands sound.shape sound.owners sound.listed) sound.ring there later from small

@@ -12,11 +12,11 @@ use Rattle.word_mem.specs.Memory.{Mem, word_at}
 use Rattle.run_book.specs.Book.{holding, Stands}
 use Rattle.driver_rows.specs.declared.content.Endpoint.{Endpoint}
 use Rattle.driver_rows.specs.declared.content.Mend.{Mend}
-use Rattle.driver_rows.specs.declared.rows.Row.{Row}
-use Rattle.driver_rows.specs.declared.rows.Row.TheVariants as rows
+use Rattle.driver_rows.specs.declared.rows.DriverRow.{DriverRow}
+use Rattle.driver_rows.specs.declared.rows.DriverRow.TheVariants as rows
 use Rattle.driver_rows.specs.DriverContent.{DriverContent}
 use Rattle.driver_rows.specs.Words.{head_block}
-use Rattle.driver_rows.specs.Rows.{Parts, is_iso, row_of, after_row}
+use Rattle.driver_rows.specs.Rows.{Parts, is_iso, driver_row, after_driver_row}
 use Rattle.driver_rows.specs.Offers.{Offered}
 use Rattle.run_owners.specs.Kept.{HasOwners}
 
@@ -24,13 +24,13 @@ pub data HasQueueHead (d : DriverContent) (b : ℕ) : Type 0 where
   of_ring : b ≡ head_block → HasQueueHead d b
   of_endpoint : (e : ℕ) (x : Endpoint) → slice_get d.endpoints e ≡ Some x → is_iso x.desc.kind ≡ false → x.gone ≡ false → x.queue ≡ b → HasQueueHead d b
 
-abbrev pub stored_address : Row → Option ℕ
+abbrev pub stored_address : DriverRow → Option ℕ
 stored_address (rows.Store b at v) = Some at
 stored_address (rows.Mend w) = Some w.at
 stored_address _ = None
 
 -- the driver owes this store; the word is the overlay's next pointer, its alternate or its token, words 4 to 6
-pub record IsMendOf (p : Parts) (row : Row) (b at : ℕ) : Type 0 where
+pub record IsMendOf (p : Parts) (row : DriverRow) (b at : ℕ) : Type 0 where
   pub mend : Mend
   pub is : row ≡ rows.Mend mend
   pub owed : slice_get p.driver.mends 0 ≡ Some mend
@@ -39,11 +39,11 @@ pub record IsMendOf (p : Parts) (row : Row) (b at : ℕ) : Type 0 where
   pub word : (at ≡ 32 * b + 16) ⊎ ((at ≡ 32 * b + 20) ⊎ (at ≡ 32 * b + 24))
 
 abbrev pub StoresAt : Parts → ℕ → ℕ → Type 0
-StoresAt p b at = (at ≡ 32 * b) ⊎ IsMendOf p (row_of p) b at
+StoresAt p b at = (at ≡ 32 * b) ⊎ IsMendOf p (driver_row p) b at
 
 abbrev pub LeavesWord : Parts → ℕ → ℕ → Type 0
 LeavesWord p b i =
-    (word_at (after_row (row_of p) p).memory (32 * b + 4 * i) ≡ word_at p.memory (32 * b + 4 * i)) ⊎ IsMendOf p (row_of p) b (32 * b + 4 * i)
+    (word_at (after_driver_row (driver_row p) p).memory (32 * b + 4 * i) ≡ word_at p.memory (32 * b + 4 * i)) ⊎ IsMendOf p (driver_row p) b (32 * b + 4 * i)
 
 abbrev pub LeaveQueueHeads : DriverContent → Mem → Offered → Type 0
 LeaveQueueHeads d m o =

@@ -16,7 +16,7 @@ ghost use Rattle.driver_rows.specs.declared.content.Reserve.{Reserve};
 ghost use Rattle.driver_rows.specs.DriverContent.{DriverContent};
 ghost use Rattle.driver_rows.specs.Offers.{Offered, offered};
 ghost use Rattle.driver_rows.specs.Opening.{opening};
-ghost use Rattle.driver_rows.specs.Rows.{Parts, row_of, after_row};
+ghost use Rattle.driver_rows.specs.Rows.{Parts, driver_row, after_driver_row};
 ghost use Rattle.ring_members.specs.Ring.{IsSound};
 ghost use Rattle.queue_head_words.specs.Fixed.{AreFixed, KeepsFixed};
 
@@ -32,5 +32,5 @@ pub fn commands_keep_the_fixed_words()
 
 /// No event of the driver writes them.
 pub fn events_keep_the_fixed_words()
-    ensures { (p : Parts) → IsSound p.memory p.driver → AreFixed p.memory p.driver → AreFixed (after_row (row_of p) p).memory (after_row (row_of p) p).driver }
+    ensures { (p : Parts) → IsSound p.memory p.driver → AreFixed p.memory p.driver → AreFixed (after_driver_row (driver_row p) p).memory (after_driver_row (driver_row p) p).driver }
 {}

@@ -5,23 +5,23 @@ ghost use Rattle.usb_base.specs.declared.commands.Cmd.{Cmd};
 ghost use Rattle.word_mem.specs.Memory.{Mem};
 ghost use Rattle.driver_rows.specs.declared.content.Command.TheVariants as unfinished;
 ghost use Rattle.driver_rows.specs.declared.content.Endpoint.{Endpoint};
-ghost use Rattle.driver_rows.specs.declared.rows.Row.TheVariants as rows;
+ghost use Rattle.driver_rows.specs.declared.rows.DriverRow.TheVariants as rows;
 ghost use Rattle.driver_rows.specs.DriverContent.{DriverContent};
 ghost use Rattle.driver_rows.specs.Offers.{Offered, offered};
-ghost use Rattle.driver_rows.specs.Rows.{Parts, events_of, mends_of, row_of, after_row};
+ghost use Rattle.driver_rows.specs.Rows.{Parts, events_of, mends_of, driver_row, after_driver_row};
 ghost use Rattle.ring_members.specs.Ring.{IsSound};
 ghost use Rattle.queue_head_words.specs.Overlay.{HasQueueHead, stored_address, StoresAt, LeavesWord, LeaveQueueHeads};
 
 /// A row of the driver that stores into a queue head that wasn't given back (its twelve words: 48 bytes) stores its link, word 0, or is one
 /// of the three stores after a stalled request (EHCI 1.0, 3.6.3 and 4.10: the overlay is the controller's).
 pub fn stores_are_links_and_mends()
-    ensures { (p : Parts) (b at : ℕ) → IsSound p.memory p.driver → HasQueueHead p.driver b → 32 * b ≤ at → at < 32 * b + 48 → stored_address (row_of p) ≡ Some at → StoresAt p b at }
+    ensures { (p : Parts) (b at : ℕ) → IsSound p.memory p.driver → HasQueueHead p.driver b → 32 * b ≤ at → at < 32 * b + 48 → stored_address (driver_row p) ≡ Some at → StoresAt p b at }
 {}
 
 /// Any event, also one that lends or gives back runs, leaves words 1 to 11 of a queue head that stands before and after it, but for the word
 /// of the overlay that a store after a stalled request mends.
 pub fn events_leave_the_overlay()
-    ensures { (p : Parts) (b i : ℕ) → IsSound p.memory p.driver → HasQueueHead p.driver b → HasQueueHead (after_row (row_of p) p).driver b → 1 ≤ i → i < 12 → LeavesWord p b i }
+    ensures { (p : Parts) (b i : ℕ) → IsSound p.memory p.driver → HasQueueHead p.driver b → HasQueueHead (after_driver_row (driver_row p) p).driver b → 1 ≤ i → i < 12 → LeavesWord p b i }
 {}
 
 /// A command that is accepted leaves all twelve words of each queue head that there is: it writes those of a new one, which is linked later.

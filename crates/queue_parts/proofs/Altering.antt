@@ -5,7 +5,7 @@ use Rattle.std.proofs.lemmas.Option.{same_Some}
 use Rattle.qh_qtd.specs.declared.qtd.Qtd.{Qtd}
 use Rattle.qh_qtd.specs.declared.queue_head.Qh.{Qh}
 use Rattle.qh_qtd.specs.declared.token.Token.{Token}
-use Rattle.lent_structures.specs.Structures.{Structure, QueueHead, Element, Buffer, Table, Isochronous, SplitIsochronous, Part, with_structure}
+use Rattle.lent_structures.specs.Structures.{Structure, QueueHead, Element, Buffer, Table, Isochronous, SplitIsochronous, Structures, with_structure}
 use Rattle.lent_structures.proofs.Names.{with_here, with_there}
 use Rattle.queue_parts.specs.Alters.{IsAfter, Alters}
 
@@ -40,7 +40,7 @@ pub found_queue : (o : Option Structure) (q r : Qh) → o ≡ Some (QueueHead q)
 found_queue o q r one other = same_queue q r (same_Some (QueueHead q) (QueueHead r) (sym one ∙ other))
 
 -- structures of two kinds don't have one name
-pub no_two : (part : Part) (a b : ℕ) (s t : Structure) → part a ≡ Some s → part b ≡ Some t → (kind_number s ≡ kind_number t → ⊥) → a ≢ b
+pub no_two : (part : Structures) (a b : ℕ) (s t : Structure) → part a ≡ Some s → part b ≡ Some t → (kind_number s ≡ kind_number t → ⊥) → a ≢ b
 no_two part a b s t one other differ same = differ (ap kind_number (same_Some s t (sym one ∙ ap part same ∙ other)))
 
 -- ---- nothing is altered
@@ -48,7 +48,7 @@ no_two part a b s t one other differ same = differ (ap kind_number (same_Some s 
 pub is_itself : (t : Qtd) → IsAfter t t
 is_itself t = record { token = t.token; is = refl; active = λ on. refl }
 
-pub unaltered : (part : Part) → Alters part part
+pub unaltered : (part : Structures) → Alters part part
 unaltered part = record {
   element = λ a t here. record { qtd = t; here = here; after = is_itself t };
   element_before = λ a u here. record { qtd = u; here = here; after = is_itself u };
@@ -67,7 +67,7 @@ is_after_both t u v one two = record {
       same ∙ one.active (ap (λ (k : Token). k.active) (sym same) ∙ on);
 }
 
-pub altered_both : (part mid now : Part) → Alters part mid → Alters mid now → Alters part now
+pub altered_both : (part mid now : Structures) → Alters part mid → Alters mid now → Alters part now
 altered_both part mid now one two = record {
   element = λ a t here.
       let first = one.element a t here in
@@ -90,21 +90,21 @@ altered_both part mid now one two = record {
 -- ---- a structure in the place of one of its kind
 
 -- what is found beside the place is what was there
-beside : (part : Part) (a b : ℕ) (s : Structure) (o : Option Structure) → b ≢ a → with_structure part a s b ≡ o → part b ≡ o
+beside : (part : Structures) (a b : ℕ) (s : Structure) (o : Option Structure) → b ≢ a → with_structure part a s b ≡ o → part b ≡ o
 beside part a b s o differs found = sym (with_there part a s b differs) ∙ found
 
-there : (part : Part) (a b : ℕ) (s t : Structure) → b ≢ a → part b ≡ Some t → with_structure part a s b ≡ Some t
+there : (part : Structures) (a b : ℕ) (s t : Structure) → b ≢ a → part b ≡ Some t → with_structure part a s b ≡ Some t
 there part a b s t differs here = with_there part a s b differs ∙ here
 
 -- what is found at the place is what was put
-found_here : (part : Part) (a b : ℕ) (s t : Structure) → b ≡ a → with_structure part a s b ≡ Some t → s ≡ t
+found_here : (part : Structures) (a b : ℕ) (s t : Structure) → b ≡ a → with_structure part a s b ≡ Some t → s ≡ t
 found_here part a b s t same found = same_Some s t (sym (with_here part a s) ∙ ap (with_structure part a s) (sym same) ∙ found)
 
 -- what another kind put there hides
-other_kind : (part : Part) (a b : ℕ) (s t : Structure) → (kind_number s ≡ kind_number t → ⊥) → with_structure part a s b ≡ Some t → b ≢ a
+other_kind : (part : Structures) (a b : ℕ) (s t : Structure) → (kind_number s ≡ kind_number t → ⊥) → with_structure part a s b ≡ Some t → b ≢ a
 other_kind part a b s t differ found same = differ (ap kind_number (found_here part a b s t same found))
 
-pub head_put : (part : Part) (a : ℕ) (q new : Qh) → part a ≡ Some (QueueHead q) → Alters part (with_structure part a (QueueHead new))
+pub head_put : (part : Structures) (a : ℕ) (q new : Qh) → part a ≡ Some (QueueHead q) → Alters part (with_structure part a (QueueHead new))
 head_put part a q new at = record {
   element = λ b t here. record { qtd = t; here = there part a b (QueueHead new) (Element t) (no_two part b a (Element t) (QueueHead q) here at (λ e. cc)) here; after = is_itself t };
   element_before = λ b u here. record { qtd = u; here = beside part a b (QueueHead new) (Some (Element u)) (other_kind part a b (QueueHead new) (Element u) (λ e. cc) here) here; after = is_itself u };
@@ -112,7 +112,7 @@ head_put part a q new at = record {
   buffer_before = λ b pages k bs here. record { bytes = bs; here = beside part a b (QueueHead new) (Some (Buffer pages k bs)) (other_kind part a b (QueueHead new) (Buffer pages k bs) (λ e. cc) here) here; size = refl };
 }
 
-pub element_put : (part : Part) (a : ℕ) (t u : Qtd) → part a ≡ Some (Element t) → IsAfter t u → Alters part (with_structure part a (Element u))
+pub element_put : (part : Structures) (a : ℕ) (t u : Qtd) → part a ≡ Some (Element t) → IsAfter t u → Alters part (with_structure part a (Element u))
 element_put part a t u at after = record {
   element = λ b v here.
       ⊎_elim (λ (same : b ≡ a). record {
@@ -162,7 +162,7 @@ same_buffer pages k bs pages_too k_too bs_too e = record {
 pub found_buffer : (o : Option Structure) (pages : List ℕ) (k : ℕ) (bs : List ℕ) (pages_too : List ℕ) (k_too : ℕ) (bs_too : List ℕ) → o ≡ Some (Buffer pages k bs) → o ≡ Some (Buffer pages_too k_too bs_too) → AreSameBuffer pages k bs pages_too k_too bs_too
 found_buffer o pages k bs pages_too k_too bs_too one other = same_buffer pages k bs pages_too k_too bs_too (same_Some (Buffer pages k bs) (Buffer pages_too k_too bs_too) (sym one ∙ other))
 
-pub buffer_put : (part : Part) (a : ℕ) (pages : List ℕ) (k : ℕ) (bs cs : List ℕ) → part a ≡ Some (Buffer pages k bs) → length cs ≡ length bs → Alters part (with_structure part a (Buffer pages k cs))
+pub buffer_put : (part : Structures) (a : ℕ) (pages : List ℕ) (k : ℕ) (bs cs : List ℕ) → part a ≡ Some (Buffer pages k bs) → length cs ≡ length bs → Alters part (with_structure part a (Buffer pages k cs))
 buffer_put part a pages k bs cs at size = record {
   element = λ b t here. record { qtd = t; here = there part a b (Buffer pages k cs) (Element t) (no_two part b a (Element t) (Buffer pages k bs) here at (λ e. cc)) here; after = is_itself t };
   element_before = λ b u here. record { qtd = u; here = beside part a b (Buffer pages k cs) (Some (Element u)) (other_kind part a b (Buffer pages k cs) (Element u) (λ e. cc) here) here; after = is_itself u };

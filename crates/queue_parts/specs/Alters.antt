@@ -5,30 +5,30 @@
 use Rattle.std.specs.Prelude.{◌≡◌, ℕ, true, List, length, Some}
 use Rattle.qh_qtd.specs.declared.qtd.Qtd.{Qtd}
 use Rattle.qh_qtd.specs.declared.token.Token.{Token}
-use Rattle.lent_structures.specs.Structures.{Element, Buffer, Part}
+use Rattle.lent_structures.specs.Structures.{Element, Buffer, Structures}
 
 pub record IsAfter (t u : Qtd) : Type 0 where
   pub token : Token
   pub is : u ≡ record t { token = token }
   pub active : token.active ≡ true → token ≡ t.token
 
-pub record HasElementAfter (part : Part) (a : ℕ) (t : Qtd) : Type 0 where
+pub record HasElementAfter (part : Structures) (a : ℕ) (t : Qtd) : Type 0 where
   pub qtd : Qtd
   pub here : part a ≡ Some (Element qtd)
   pub after : IsAfter t qtd
 
-pub record HadElement (part : Part) (a : ℕ) (u : Qtd) : Type 0 where
+pub record HadElement (part : Structures) (a : ℕ) (u : Qtd) : Type 0 where
   pub qtd : Qtd
   pub here : part a ≡ Some (Element qtd)
   pub after : IsAfter qtd u
 
 -- a buffer with these pages and this start, and as many bytes
-pub record HasBytes (part : Part) (a : ℕ) (pages : List ℕ) (k : ℕ) (n : ℕ) : Type 0 where
+pub record HasBytes (part : Structures) (a : ℕ) (pages : List ℕ) (k : ℕ) (n : ℕ) : Type 0 where
   pub bytes : List ℕ
   pub here : part a ≡ Some (Buffer pages k bytes)
   pub size : length bytes ≡ n
 
-pub record Alters (part now : Part) : Type 0 where
+pub record Alters (part now : Structures) : Type 0 where
   pub element : (a : ℕ) (t : Qtd) → part a ≡ Some (Element t) → HasElementAfter now a t
   pub element_before : (a : ℕ) (u : Qtd) → now a ≡ Some (Element u) → HadElement part a u
   pub buffer : (a : ℕ) (pages : List ℕ) (k : ℕ) (bs : List ℕ) → part a ≡ Some (Buffer pages k bs) → HasBytes now a pages k (length bs)

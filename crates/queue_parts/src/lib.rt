@@ -7,22 +7,22 @@
 ghost use Rattle.std.specs.Prelude.{◌≡◌, ℕ, Bool, Some};
 ghost use Rattle.qh_qtd.specs.declared.qtd.Qtd.{Qtd};
 ghost use Rattle.qh_qtd.specs.declared.queue_head.Qh.{Qh};
-ghost use Rattle.lent_structures.specs.Structures.{QueueHead, Element, Part, with_structure};
+ghost use Rattle.lent_structures.specs.Structures.{QueueHead, Element, Structures, with_structure};
 ghost use Rattle.queue_parts.specs.Sound.{LeadsAmong, IsSoundQueue, IsMember};
 ghost use Rattle.queue_parts.specs.Alters.{Alters, IsAfter};
 
 /// Where qTDs and buffers are altered at most, and the queue head that then stands there is sound, the part is that of a member again.
 pub fn an_altered_part_is_sound()
-    ensures { (member : ℕ → Bool) (n : ℕ) (part now : Part) (new : Qh) → IsMember member n part → Alters part now → now n ≡ Some (QueueHead new)
+    ensures { (member : ℕ → Bool) (n : ℕ) (part now : Structures) (new : Qh) → IsMember member n part → Alters part now → now n ≡ Some (QueueHead new)
         → LeadsAmong member new.link → IsSoundQueue now new → IsMember member n now }
 {}
 
 /// Another queue head in the place of one alters nothing.
 pub fn a_queue_head_alters_nothing()
-    ensures { (part : Part) (a : ℕ) (q new : Qh) → part a ≡ Some (QueueHead q) → Alters part (with_structure part a (QueueHead new)) }
+    ensures { (part : Structures) (a : ℕ) (q new : Qh) → part a ≡ Some (QueueHead q) → Alters part (with_structure part a (QueueHead new)) }
 {}
 
 /// A qTD whose token is written at its end alters the part no more than that.
 pub fn a_token_alters_its_qtd()
-    ensures { (part : Part) (a : ℕ) (t u : Qtd) → part a ≡ Some (Element t) → IsAfter t u → Alters part (with_structure part a (Element u)) }
+    ensures { (part : Structures) (a : ℕ) (t u : Qtd) → part a ≡ Some (Element t) → IsAfter t u → Alters part (with_structure part a (Element u)) }
 {}

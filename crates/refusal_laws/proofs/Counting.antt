@@ -9,7 +9,7 @@ use Rattle.qh_qtd.specs.Token.{token_word}
 use Rattle.op_registers.specs.RegisterFile.{RegisterFile}
 use Rattle.toggle_error.specs.declared.host.Outcome.{Outcome}
 use Rattle.queue_words.specs.Structures.{overlay_words}
-use Rattle.walk_copy.specs.Overlay.{pages_of, place_of, moved}
+use Rattle.walk_copy.specs.Overlay.{pages_of, buffer_place, moved}
 use Rattle.walk_copy.specs.Buffer.{Writing, size_of, placed, bytes_read, bytes_written}
 use Rattle.walk_copy.specs.WriteBack.{moved_by, then_write, overlay_after, overlay_back, token_back, written_back}
 use Rattle.async_walk.proofs.Refusals.{both_true, overlay_counts, stored_counts, reading_counts}
@@ -91,10 +91,10 @@ pub written_counted : (a : ℕ) (q : Qh) (outcome : Outcome) (got : List ℕ) (m
 unfolding written_back
 written_counted a q outcome got m =
     let new : Qh = moved q (moved_by outcome) in
-    let bytes : Writing = bytes_written (pages_of q) (place_of q) got m in
+    let bytes : Writing = bytes_written (pages_of q) (buffer_place q) got m in
     let both : Writing = then_write bytes (overlay_back a new) in
     then_counted m both.memory both.all (token_back new)
-    (then_counted m bytes.memory bytes.all (overlay_back a new) (bytes_counted (pages_of q) (place_of q) got m) (overlay_counted a new)) (token_counted new)
+    (then_counted m bytes.memory bytes.all (overlay_back a new) (bytes_counted (pages_of q) (buffer_place q) got m) (overlay_counted a new)) (token_counted new)
 
 -- ---- an event
 

@@ -4,9 +4,9 @@ use Rattle.usb_base.specs.declared.packets.Ask.{Ask}
 use Rattle.usb_base.specs.declared.packets.Reply.{Reply}
 use Rattle.word_mem.specs.Memory.{reaches}
 use Rattle.op_registers.specs.Events.{after_begin}
-use Rattle.hc_core.specs.declared.controller.Row.{Row}
-use Rattle.hc_core.specs.declared.controller.Row.TheVariants as rows
-use Rattle.hc_core.specs.Controller.{Content, row_of, element_address, began, begun_at, ended, entered, frame_place, walk_place, HasRow}
+use Rattle.hc_core.specs.declared.controller.ControllerRow.{ControllerRow}
+use Rattle.hc_core.specs.declared.controller.ControllerRow.TheVariants as rows
+use Rattle.hc_core.specs.Controller.{Content, microframe_row, element_address, began, begun_at, ended, entered, frame_place, walk_place, HasRow}
 use Rattle.refusal_laws.specs.Refusals.{IsEvent, GoesOnOrStops}
 use Rattle.refusal_laws.proofs.Counting.{goes_on, stops}
 use Rattle.refusal_laws.proofs.Ring.{ring_counts}
@@ -25,7 +25,7 @@ begun_counts true allowed c = goes_on c.registers _ c.memory _ refl refl refl
 begun_counts false allowed c = stops c.registers _ c.memory _ refl refl (inr refl)
 
 module _ {W : Type 0} (begins : W → ℕ → Bool → W → Type 0) (transacts : W → Ask → List ℕ → Reply → W → Type 0) (old new : Content) (before after : W) where
-  row_counts : (row : Row) → HasRow begins transacts row old before new after → Counts old new
+  row_counts : (row : ControllerRow) → HasRow begins transacts row old before new after → Counts old new
   row_counts rows.Idle has = counts_at old new old has.0 (goes_on old.registers old.registers old.memory old.memory refl refl refl)
   row_counts rows.Begin has =
       counts_at old new (began has.allowed old) has.contents (begun_counts (reaches old.memory (element_address (after_begin old.registers))) has.allowed old)
@@ -35,4 +35,4 @@ module _ {W : Type 0} (begins : W → ℕ → Bool → W → Type 0) (transacts 
   row_counts rows.End has = counts_at old new (record old { control = ended old.control }) has.0 (goes_on old.registers old.registers old.memory old.memory refl refl refl)
 
 pub each_counts_once : {W : Type 0} (begins : W → ℕ → Bool → W → Type 0) (transacts : W → Ask → List ℕ → Reply → W → Type 0) (old new : Content) (before after : W) → IsEvent begins transacts old before new after → GoesOnOrStops old.registers old.memory new.registers new.memory
-each_counts_once begins transacts old new before after event = row_counts begins transacts old new before after (row_of old.registers old.control) event
+each_counts_once begins transacts old new before after event = row_counts begins transacts old new before after (microframe_row old.registers old.control) event

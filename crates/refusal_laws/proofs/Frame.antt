@@ -19,7 +19,7 @@ use Rattle.toggle_error.specs.declared.host.Outcome.{Outcome}
 use Rattle.queue_words.specs.Structures.{reaches_queue_head}
 use Rattle.descriptor_words.specs.Descriptors.{reaches_itd, slot_address, state_words}
 use Rattle.walk_copy.specs.declared.held.Transaction.{Transaction}
-use Rattle.walk_copy.specs.Overlay.{pages_of, place_of, advanced}
+use Rattle.walk_copy.specs.Overlay.{pages_of, buffer_place, advanced}
 use Rattle.walk_copy.specs.Buffer.{Writing, bytes_written, sending}
 use Rattle.walk_copy.specs.WriteBack.{received, overlay_after}
 use Rattle.interrupt_visits.specs.declared.turns.Turn.{Turn}
@@ -45,7 +45,7 @@ use Rattle.periodic_walk.specs.declared.sitd.SitdRow.TheVariants as sitd_rows
 use Rattle.periodic_walk.specs.declared.state.Hand.{Hand}
 use Rattle.periodic_walk.specs.declared.state.Hand.TheVariants as hands
 use Rattle.periodic_walk.specs.declared.state.HeldQueue.{HeldQueue}
-use Rattle.periodic_walk.specs.Place.{Place, reading, faulted, passing, sent, HasEffect}
+use Rattle.periodic_walk.specs.Place.{FramePlace, reading, faulted, passing, sent, HasEffect}
 use Rattle.periodic_walk.specs.Chain.{queue_fetch, itd_fetch, sitd_fetch, chain_row, chain_read, chain_after}
 use Rattle.periodic_walk.specs.Queue.{taken_row, turn_row, turn_read, settled_row, settled_read, took, writing, missed, miss_outcome, queue_effect, wrote_at as queue_wrote_at}
 use Rattle.periodic_walk.specs.Itd.{ended_row, wrote_at as itd_wrote_at, itd_effect}
@@ -87,42 +87,42 @@ iso_error ended failed r = refl
 -- ---- a place
 
 -- what an event leaves of a place
-abbrev Counts : Place → Place → Type 0
+abbrev Counts : FramePlace → FramePlace → Type 0
 Counts p new = GoesOnOrStops p.registers p.memory new.registers new.memory
 
 -- it went on
-still : (p new : Place) → new.registers.run ≡ p.registers.run → new.registers.host_system_error ≡ p.registers.host_system_error → new.memory.foreign ≡ p.memory.foreign → Counts p new
+still : (p new : FramePlace) → new.registers.run ≡ p.registers.run → new.registers.host_system_error ≡ p.registers.host_system_error → new.memory.foreign ≡ p.memory.foreign → Counts p new
 still p new run error count = goes_on p.registers new.registers p.memory new.memory run error count
 
 -- it was the fault, over memory that some reads or writes left
-stuck : (p from : Place) → IsOnce p.memory.foreign from.memory.foreign → Counts p (faulted from)
+stuck : (p from : FramePlace) → IsOnce p.memory.foreign from.memory.foreign → Counts p (faulted from)
 stuck p from once = stops p.registers (faulted from).registers p.memory from.memory refl refl once
 
-stays : {W : Type 0} (p expected new : Place) (before after : W) → (new ≡ expected) × (after ≡ before) → Counts p expected → Counts p new
-stays p expected new before after is counts = subst (λ (x : Place). Counts p x) (sym is.0) counts
+stays : {W : Type 0} (p expected new : FramePlace) (before after : W) → (new ≡ expected) × (after ≡ before) → Counts p expected → Counts p new
+stays p expected new before after is counts = subst (λ (x : FramePlace). Counts p x) (sym is.0) counts
 
 -- by whether all of it was done: else it is the fault
-if_counts : (b : Bool) (p done failed : Place) → (b ≡ true → Counts p done) → Counts p failed → Counts p (if b then done else failed)
+if_counts : (b : Bool) (p done failed : FramePlace) → (b ≡ true → Counts p done) → Counts p failed → Counts p (if b then done else failed)
 if_counts true p done failed goes fails = goes refl
 if_counts false p done failed goes fails = fails
 
-queue_wrote : (b : Bool) (h : HeldQueue) (outcome : Outcome) (p : Place) (m : Mem) → IsCounted p.memory (record { memory = m; all = b }) → Counts p (queue_wrote_at b h outcome (record p { memory = m }))
+queue_wrote : (b : Bool) (h : HeldQueue) (outcome : Outcome) (p : FramePlace) (m : Mem) → IsCounted p.memory (record { memory = m; all = b }) → Counts p (queue_wrote_at b h outcome (record p { memory = m }))
 queue_wrote true h outcome p m counted =
     still p (queue_wrote_at true h outcome (record p { memory = m })) (raised_run h.copy.queue_head outcome p.registers) (raised_error h.copy.queue_head outcome p.registers) (counted.same refl)
 queue_wrote false h outcome p m counted = stuck p (record p { memory = m }) counted.once
 
-itd_wrote : (b : Bool) (h : HeldItd) (ended : IsoEnd) (p : Place) (m : Mem) → IsCounted p.memory (record { memory = m; all = b }) → Counts p (itd_wrote_at b h ended (record p { memory = m }))
+itd_wrote : (b : Bool) (h : HeldItd) (ended : IsoEnd) (p : FramePlace) (m : Mem) → IsCounted p.memory (record { memory = m; all = b }) → Counts p (itd_wrote_at b h ended (record p { memory = m }))
 itd_wrote true h ended p m counted = still p (itd_wrote_at true h ended (record p { memory = m })) (iso_run _ _ p.registers) (iso_error _ _ p.registers) (counted.same refl)
 itd_wrote false h ended p m counted = stuck p (record p { memory = m }) counted.once
 
-sitd_wrote : (b : Bool) (h : HeldSitd) (outcome : SplitOutcome) (p : Place) (m : Mem) → IsCounted p.memory (record { memory = m; all = b }) → Counts p (sitd_wrote_at b h outcome (record p { memory = m }))
+sitd_wrote : (b : Bool) (h : HeldSitd) (outcome : SplitOutcome) (p : FramePlace) (m : Mem) → IsCounted p.memory (record { memory = m; all = b }) → Counts p (sitd_wrote_at b h outcome (record p { memory = m }))
 sitd_wrote true h outcome p m counted = still p (sitd_wrote_at true h outcome (record p { memory = m })) (iso_run _ _ p.registers) (iso_error _ _ p.registers) (counted.same refl)
 sitd_wrote false h outcome p m counted = stuck p (record p { memory = m }) counted.once
 
 -- ---- the chain
 
 -- what was read of it
-chain_here : (row : ChainRow) (p : Place) (m : Mem) → m.foreign ≡ p.memory.foreign → Counts p (chain_after row (reading m p))
+chain_here : (row : ChainRow) (p : FramePlace) (m : Mem) → m.foreign ≡ p.memory.foreign → Counts p (chain_after row (reading m p))
 chain_here chain_rows.Fault p m same = stuck p (reading m p) (inl same)
 chain_here chain_rows.Ends p m same = still p (chain_after chain_rows.Ends (reading m p)) refl refl same
 chain_here (chain_rows.Queue a q) p m same = still p (chain_after (chain_rows.Queue a q) (reading m p)) refl refl same
@@ -130,12 +130,12 @@ chain_here (chain_rows.Itd a v) p m same = still p (chain_after (chain_rows.Itd 
 chain_here (chain_rows.Sitd a v) p m same = still p (chain_after (chain_rows.Sitd a v) (reading m p)) refl refl same
 
 -- a structure that isn't wholly Lent is the fault
-fetch_counts : {A : Type 0} (b : Bool) (o : Option A) (row : Option A → ChainRow) (p : Place) → row None ≡ chain_rows.Fault → Counts p (chain_after (row (if b then o else None)) (reading (if b then p.memory else refused p.memory) p))
+fetch_counts : {A : Type 0} (b : Bool) (o : Option A) (row : Option A → ChainRow) (p : FramePlace) → row None ≡ chain_rows.Fault → Counts p (chain_after (row (if b then o else None)) (reading (if b then p.memory else refused p.memory) p))
 fetch_counts true o row p fault = chain_here (row o) p p.memory refl
 fetch_counts false o row p fault =
     subst (λ (x : ChainRow). Counts p (chain_after x (reading (refused p.memory) p))) (sym fault) (stuck p (reading (refused p.memory) p) (inr refl))
 
-chain_counts : (p : Place) (link : Link) → Counts p (chain_after (chain_row p.memory link) (reading (chain_read p.memory link) p))
+chain_counts : (p : FramePlace) (link : Link) → Counts p (chain_after (chain_row p.memory link) (reading (chain_read p.memory link) p))
 chain_counts p links.End = chain_here chain_rows.Ends p p.memory refl
 chain_counts p (links.Itd a) = fetch_counts (reaches_itd p.memory a) _ (itd_fetch a) p refl
 chain_counts p (links.Qh a) = fetch_counts (reaches_queue_head p.memory a) _ (queue_fetch a) p refl
@@ -144,12 +144,12 @@ chain_counts p (links.Fstn a) = chain_here chain_rows.Fault p p.memory refl
 
 -- ---- an event
 
-module _ {W : Type 0} (transacts : W → Ask → List ℕ → Reply → W → Type 0) (p new : Place) (before after : W) where
-  sent_counts : (b : Bool) (ask : Ask) (out : List ℕ) (left_by : Reply → Place) (m : Mem) → (b ≡ true → (r : Reply) → Counts p (left_by r)) → IsOnce p.memory.foreign m.foreign → HasEffect transacts (sent b ask out left_by (record p { memory = m })) before new after → Counts p new
-  sent_counts true ask out left_by m goes once asked = subst (λ (x : Place). Counts p x) (sym asked.place) (goes refl asked.reply)
+module _ {W : Type 0} (transacts : W → Ask → List ℕ → Reply → W → Type 0) (p new : FramePlace) (before after : W) where
+  sent_counts : (b : Bool) (ask : Ask) (out : List ℕ) (left_by : Reply → FramePlace) (m : Mem) → (b ≡ true → (r : Reply) → Counts p (left_by r)) → IsOnce p.memory.foreign m.foreign → HasEffect transacts (sent b ask out left_by (record p { memory = m })) before new after → Counts p new
+  sent_counts true ask out left_by m goes once asked = subst (λ (x : FramePlace). Counts p x) (sym asked.place) (goes refl asked.reply)
   sent_counts false ask out left_by m goes once leads = stays p (faulted (record p { memory = m })) new before after leads (stuck p (record p { memory = m }) once)
 
-  skips : (there : Place) → there.registers ≡ p.registers → there.memory ≡ p.memory → (new ≡ there) × (after ≡ before) → Counts p new
+  skips : (there : FramePlace) → there.registers ≡ p.registers → there.memory ≡ p.memory → (new ≡ there) × (after ≡ before) → Counts p new
   skips there registers memory leads =
       stays p there new before after leads
       (still p there (ap (λ (r : RegisterFile). r.run) registers) (ap (λ (r : RegisterFile). r.host_system_error) registers) (ap (λ (m : Mem). m.foreign) memory))
@@ -161,7 +161,7 @@ module _ {W : Type 0} (transacts : W → Ask → List ℕ → Reply → W → Ty
       let t : Transaction = planned h.copy.queue_head in
       let q : Qh = h.copy.queue_head in
       sent_counts (sending t q p.memory).all _ _ _ (sending t q p.memory).memory
-      (λ all r. goes_on p.registers _ p.memory _ refl refl (sent_same (pages_of q) (place_of q) t.bytes p.memory all)) (sent_once (pages_of q) (place_of q) t.bytes p.memory) leads
+      (λ all r. goes_on p.registers _ p.memory _ refl refl (sent_same (pages_of q) (buffer_place q) t.bytes p.memory all)) (sent_once (pages_of q) (buffer_place q) t.bytes p.memory) leads
 
   queue_active : (h : HeldQueue) (a : ℕ) (t : Qtd) (active : Bool) → HasEffect transacts (queue_effect (if active then queue_rows.Advance a t else queue_rows.Skip) h (reading p.memory p)) before new after → Counts p new
   queue_active h a t true leads =
@@ -247,5 +247,5 @@ module _ {W : Type 0} (transacts : W → Ask → List ℕ → Reply → W → Ty
   hand_counts (Some (hands.Itd h)) leads = itd_counts h h.ended leads
   hand_counts (Some (hands.Sitd h)) leads = sitd_counts h h.settled leads
 
-pub frame_counts : {W : Type 0} (transacts : W → Ask → List ℕ → Reply → W → Type 0) (p new : Place) (before after : W) → Leads transacts p before new after → GoesOnOrStops p.registers p.memory new.registers new.memory
+pub frame_counts : {W : Type 0} (transacts : W → Ask → List ℕ → Reply → W → Type 0) (p new : FramePlace) (before after : W) → Leads transacts p before new after → GoesOnOrStops p.registers p.memory new.registers new.memory
 frame_counts transacts p new before after leads = hand_counts transacts p new before after p.walk.hand leads

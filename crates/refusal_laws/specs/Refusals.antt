@@ -8,7 +8,7 @@ use Rattle.usb_base.specs.declared.packets.Ask.{Ask}
 use Rattle.usb_base.specs.declared.packets.Reply.{Reply}
 use Rattle.word_mem.specs.Memory.{Mem}
 use Rattle.op_registers.specs.RegisterFile.{RegisterFile}
-use Rattle.hc_core.specs.Controller.{Content, row_of, HasRow}
+use Rattle.hc_core.specs.Controller.{Content, microframe_row, HasRow}
 
 abbrev pub IsOnce : ℕ → ℕ → Type 0
 IsOnce before after = (after ≡ before) ⊎ (after ≡ min (before + 1) (2 ^ 64 - 1))
@@ -28,4 +28,4 @@ abbrev pub GoesOnOrStops : RegisterFile → Mem → RegisterFile → Mem → Typ
 GoesOnOrStops r m s n = GoesOn r m s n ⊎ Stops m s n
 
 abbrev pub IsEvent : {W : Type 0} → (W → ℕ → Bool → W → Type 0) → (W → Ask → List ℕ → Reply → W → Type 0) → Content → W → Content → W → Type 0
-IsEvent begins transacts old before new after = HasRow begins transacts (row_of old.registers old.control) old before new after
+IsEvent begins transacts old before new after = HasRow begins transacts (microframe_row old.registers old.control) old before new after

@@ -8,7 +8,7 @@ use Rattle.usb_base.specs.declared.packets.Ask.{Ask}
 use Rattle.usb_base.specs.declared.packets.Reply.{Reply}
 use Rattle.qh_qtd.specs.declared.qtd.Qtd.{Qtd}
 use Rattle.hc_core.specs.Controller.{Content, walk_place}
-use Rattle.lent_structures.specs.Structures.{Element, Parts}
+use Rattle.lent_structures.specs.Structures.{Element, StructureSets}
 use Rattle.lent_structures.proofs.Names.{not_same}
 use Rattle.queue_parts.specs.Sound.{IsMember}
 use Rattle.queue_parts.proofs.Altering.{found_element}
@@ -41,7 +41,7 @@ grown_empty : (acc : ℕ → List (List ℕ)) (at : ℕ) (more : List (List ℕ)
 grown_empty acc at more n is = ap (λ (xs : List (List ℕ)). grown acc at xs n) is ∙ grown_none acc at n
 
 -- what an event moved of a queue head with a stream is what was taken of it
-sum_after : {W : Type 0} {transacts : W → Ask → List ℕ → Reply → W → Type 0} {parts : Parts} {hand : Hand} {wire after : W} {now : Parts} {later : Hand} (streams : ℕ → Bool) (acc : ℕ → List (List ℕ)) (at : ℕ) (more : List (List ℕ)) (n : ℕ) (reported told : List ℕ) (z : StreamEffect transacts parts hand wire after now later)
+sum_after : {W : Type 0} {transacts : W → Ask → List ℕ → Reply → W → Type 0} {parts : StructureSets} {hand : Hand} {wire after : W} {now : StructureSets} {later : Hand} (streams : ℕ → Bool) (acc : ℕ → List (List ℕ)) (at : ℕ) (more : List (List ℕ)) (n : ℕ) (reported told : List ℕ) (z : StreamEffect transacts parts hand wire after now later)
     → streams n ≡ true → IsToldBy streams at more z → reported ++ told ≡ concat (acc n) → reported ++ (told ++ bytes_of_effect n z) ≡ concat (grown acc at more n)
 sum_after streams acc at more n reported told (same s quiet) on is sum = none_more reported told (acc n) (grown acc at more n) (grown_empty acc at more n is) sum
 sum_after {parts = parts} streams acc at more n reported told (grows m all g) on is sum =
@@ -60,11 +60,11 @@ sum_after {parts = parts} streams acc at more n reported told (grows m all g) on
 
 -- ---- an event of the controller
 
-module _ {W : Type 0} (begins : W → ℕ → Bool → W → Type 0) (transacts : W → Ask → List ℕ → Reply → W → Type 0) (base : Base) (member streams : ℕ → Bool) (acc : ℕ → List (List ℕ)) (parts : Parts) (hand : Hand) (c : Content) (wire after : W) (controlled : IsControlled base member parts hand c) (now : Parts) (later : Hand) (at : ℕ) (more : List (List ℕ)) (n : ℕ) (on : streams n ≡ true) (order : ℕ → ℕ) (out reported : List ℕ) where
+module _ {W : Type 0} (begins : W → ℕ → Bool → W → Type 0) (transacts : W → Ask → List ℕ → Reply → W → Type 0) (base : Base) (member streams : ℕ → Bool) (acc : ℕ → List (List ℕ)) (parts : StructureSets) (hand : Hand) (c : Content) (wire after : W) (controlled : IsControlled base member parts hand c) (now : StructureSets) (later : Hand) (at : ℕ) (more : List (List ℕ)) (n : ℕ) (on : streams n ≡ true) (order : ℕ → ℕ) (out reported : List ℕ) where
   microframe_right : BeginsMicroframe begins parts hand wire after now later → more ≡ [] → IsReported order out hand parts n (acc n) reported → IsReported order out later now n (grown acc at more n) reported
   microframe_right b none k =
       subst (λ (h : Hand). IsReported order out h now n (grown acc at more n) reported) (sym b.hand_stays)
-      (subst (λ (ps : Parts). IsReported order out hand ps n (grown acc at more n) reported) (sym b.parts_stay)
+      (subst (λ (ps : StructureSets). IsReported order out hand ps n (grown acc at more n) reported) (sym b.parts_stay)
       (subst (λ (xs : List (List ℕ)). IsReported order out hand parts n xs reported) (sym (grown_empty acc at more n none)) k))
 
   step_right : (k : WalksRing transacts parts hand wire after now later) → IsToldBy streams at more k.streams → IsReported order out hand parts n (acc n) reported → IsReported order out later now n (grown acc at more n) reported
@@ -77,7 +77,7 @@ module _ {W : Type 0} (begins : W → ℕ → Bool → W → Type 0) (transacts 
   event_right (a_microframe b) told r = microframe_right b told r
   event_right (a_step k) told r = step_right k told r
 
-pub event_reported : {W : Type 0} (begins : W → ℕ → Bool → W → Type 0) (transacts : W → Ask → List ℕ → Reply → W → Type 0) (stream : ℕ → ℕ → Bool) (packets : ℕ → ℕ → List (List ℕ)) (sender : W → ℕ → ℕ → Option Sender) (base : Base) (member streams : ℕ → Bool) (endpoint : ℕ → Endpoint) (acc : ℕ → List (List ℕ)) (parts : Parts) (hand : Hand) (c : Content) (wire after : W) (new : Content) (order : ℕ → ℕ → ℕ) (out : ℕ → List ℕ) (reported : ℕ → List ℕ)
+pub event_reported : {W : Type 0} (begins : W → ℕ → Bool → W → Type 0) (transacts : W → Ask → List ℕ → Reply → W → Type 0) (stream : ℕ → ℕ → Bool) (packets : ℕ → ℕ → List (List ℕ)) (sender : W → ℕ → ℕ → Option Sender) (base : Base) (member streams : ℕ → Bool) (endpoint : ℕ → Endpoint) (acc : ℕ → List (List ℕ)) (parts : StructureSets) (hand : Hand) (c : Content) (wire after : W) (new : Content) (order : ℕ → ℕ → ℕ) (out : ℕ → List ℕ) (reported : ℕ → List ℕ)
     → IsControlled base member parts hand c → (g : ControlGoesOn begins transacts stream packets sender base member streams endpoint acc parts hand wire after new)
     → AreReported streams order out hand parts acc reported → AreReported streams order out g.event.later g.event.now (grown acc g.at g.more) reported
 event_reported begins transacts stream packets sender base member streams endpoint acc parts hand c wire after new order out reported controlled g right n on =
@@ -86,17 +86,17 @@ event_reported begins transacts stream packets sender base member streams endpoi
 -- ---- a harvest
 
 -- the first of them and the rest
-record FirstTold (hand : Hand) (parts : Parts) (n e : ℕ) (out xs : List ℕ) : Type 0 where
+record FirstTold (hand : Hand) (parts : StructureSets) (n e : ℕ) (out xs : List ℕ) : Type 0 where
   first : List ℕ
   rest : List ℕ
   told : Told hand parts n e first
   others : AllTold hand parts n out rest
   sum : xs ≡ first ++ rest
 
-first_told : (hand : Hand) (parts : Parts) (n e : ℕ) (out xs : List ℕ) → AllTold hand parts n (e ∷ out) xs → FirstTold hand parts n e out xs
+first_told : (hand : Hand) (parts : StructureSets) (n e : ℕ) (out xs : List ℕ) → AllTold hand parts n (e ∷ out) xs → FirstTold hand parts n e out xs
 first_told hand parts n e out xs (one_out b bs x ys told rest) = record { first = x; rest = ys; told = told; others = rest; sum = refl }
 
-harvest_by : (order : ℕ → ℕ) (e : ℕ) (out : List ℕ) (hand : Hand) (parts : Parts) (n : ℕ) (acc : List (List ℕ)) (reported bytes : List ℕ) (t : Qtd) → parts n e ≡ Some (Element t) → t.token.active ≡ false → (r : IsReported order (e ∷ out) hand parts n acc reported) → (f : FirstTold hand parts n e out r.told) → f.first ≡ bytes
+harvest_by : (order : ℕ → ℕ) (e : ℕ) (out : List ℕ) (hand : Hand) (parts : StructureSets) (n : ℕ) (acc : List (List ℕ)) (reported bytes : List ℕ) (t : Qtd) → parts n e ≡ Some (Element t) → t.token.active ≡ false → (r : IsReported order (e ∷ out) hand parts n acc reported) → (f : FirstTold hand parts n e out r.told) → f.first ≡ bytes
     → IsReported order out hand parts n acc (reported ++ bytes)
 harvest_by order e out hand parts n acc reported bytes t here off r f is = record {
   place = r.place;
@@ -113,7 +113,7 @@ harvest_by order e out hand parts n acc reported bytes t here off r f is = recor
   sum = append_assoc reported bytes f.rest ∙ ap (λ (xs : List ℕ). reported ++ (xs ++ f.rest)) (sym is) ∙ ap (λ (xs : List ℕ). reported ++ xs) (sym f.sum) ∙ r.sum;
 }
 
-pub harvest_reported : (member : ℕ → Bool) (order : ℕ → ℕ) (e : ℕ) (out : List ℕ) (hand : Hand) (parts : Parts) (n : ℕ) (acc : List (List ℕ)) (reported : List ℕ) (t : Qtd) → IsMember member n (parts n) → parts n e ≡ Some (Element t) → t.token.active ≡ false → IsReported order (e ∷ out) hand parts n acc reported
+pub harvest_reported : (member : ℕ → Bool) (order : ℕ → ℕ) (e : ℕ) (out : List ℕ) (hand : Hand) (parts : StructureSets) (n : ℕ) (acc : List (List ℕ)) (reported : List ℕ) (t : Qtd) → IsMember member n (parts n) → parts n e ≡ Some (Element t) → t.token.active ≡ false → IsReported order (e ∷ out) hand parts n acc reported
     → IsReported order out hand parts n acc (reported ++ take (length (buffer_of (parts n) t) - t.token.total) (buffer_of (parts n) t))
 harvest_reported member order e out hand parts n acc reported t m here off r =
     let f : FirstTold hand parts n e out r.told = first_told hand parts n e out r.told r.accounts.told in
@@ -121,7 +121,7 @@ harvest_reported member order e out hand parts n acc reported t m here off r =
 
 -- ---- it begins the stream
 
-pub reported_begins : {W : Type 0} (stream : ℕ → ℕ → Bool) (packets : ℕ → ℕ → List (List ℕ)) (sender : W → ℕ → ℕ → Option Sender) (member streams : ℕ → Bool) (endpoint : ℕ → Endpoint) (acc : ℕ → List (List ℕ)) (parts : Parts) (hand : Hand) (wire : W) (order : ℕ → ℕ → ℕ) (out : ℕ → List ℕ) (reported : ℕ → List ℕ) (n : ℕ)
+pub reported_begins : {W : Type 0} (stream : ℕ → ℕ → Bool) (packets : ℕ → ℕ → List (List ℕ)) (sender : W → ℕ → ℕ → Option Sender) (member streams : ℕ → Bool) (endpoint : ℕ → Endpoint) (acc : ℕ → List (List ℕ)) (parts : StructureSets) (hand : Hand) (wire : W) (order : ℕ → ℕ → ℕ) (out : ℕ → List ℕ) (reported : ℕ → List ℕ) (n : ℕ)
     → ArePiped stream packets sender member streams endpoint acc parts hand wire → AreReported streams order out hand parts acc reported → streams n ≡ true → IsPrefix (reported n) (concat (packets (endpoint n).addr (endpoint n).ep))
 reported_begins stream packets sender member streams endpoint acc parts hand wire order out reported n piped right on =
     let taken : IsPrefix (concat (acc n)) (concat (packets (endpoint n).addr (endpoint n).ep)) = taken_begins stream packets sender member streams endpoint acc parts hand wire n piped on in

@@ -5,15 +5,15 @@
 --     AreReported ..            the same of each of these queue heads
 use Rattle.std.specs.Prelude.{◌≡◌, ℕ, Bool, true, List, ◌++◌}
 use Rattle.std.specs.List.{concat}
-use Rattle.lent_structures.specs.Structures.{Parts}
+use Rattle.lent_structures.specs.Structures.{StructureSets}
 use Rattle.ring_walk.specs.Hand.{Hand}
 use Rattle.ring_order.specs.Order.{Accounts}
 
-pub record IsReported (order : ℕ → ℕ) (out : List ℕ) (hand : Hand) (parts : Parts) (n : ℕ) (acc : List (List ℕ)) (reported : List ℕ) : Type 0 where
+pub record IsReported (order : ℕ → ℕ) (out : List ℕ) (hand : Hand) (parts : StructureSets) (n : ℕ) (acc : List (List ℕ)) (reported : List ℕ) : Type 0 where
   pub place : ℕ
   pub told : List ℕ
   pub accounts : Accounts order place out hand parts n told
   pub sum : reported ++ told ≡ concat acc
 
-abbrev pub AreReported : (ℕ → Bool) → (ℕ → ℕ → ℕ) → (ℕ → List ℕ) → Hand → Parts → (ℕ → List (List ℕ)) → (ℕ → List ℕ) → Type 0
+abbrev pub AreReported : (ℕ → Bool) → (ℕ → ℕ → ℕ) → (ℕ → List ℕ) → Hand → StructureSets → (ℕ → List (List ℕ)) → (ℕ → List ℕ) → Type 0
 AreReported streams order out hand parts acc reported = (n : ℕ) → streams n ≡ true → IsReported (order n) (out n) hand parts n (acc n) (reported n)

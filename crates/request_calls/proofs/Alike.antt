@@ -2,7 +2,7 @@
 use Rattle.std.proofs.Common.{◌≡◌, ◌≢◌, ℕ, zero, suc, ◌==◌, Bool, true, false, if◌then◌else◌, List, [], ◌∷◌, take, length, ap, refl, sym, subst, ◌∙◌, ⊎_elim}
 use Rattle.std.proofs.lemmas.Bool.{cases_eq}
 use Rattle.usb_base.specs.declared.packets.EpKind.TheVariants.{Control}
-use Rattle.usb_base.specs.declared.packets.Part.TheVariants.{All}
+use Rattle.usb_base.specs.declared.packets.DataPart.TheVariants.{All}
 use Rattle.usb_base.specs.declared.packets.Pid.{Pid}
 use Rattle.usb_base.specs.declared.packets.Pid.TheVariants as Packets
 use Rattle.usb_base.specs.declared.packets.Reply.{Reply}
@@ -20,7 +20,7 @@ use Rattle.transactions.specs.declared.pipe.Pipe.{Pipe}
 use Rattle.transactions.specs.Calls.{Call, call_of, high_call, got_of}
 use Rattle.walk_copy.specs.Planning.{pid_at, bytes_out}
 use Rattle.walk_copy.specs.WriteBack.{moved_by}
-use Rattle.request_windows.specs.Host.{Endpoint, pipe_of, got_with}
+use Rattle.request_windows.specs.Host.{Endpoint, endpoint_pipe, got_with}
 use Rattle.request_calls.proofs.Moving.{sent_moves, ping_row, ping_moves}
 
 abbrev pub own_pipe : Endpoint → ℕ → ℕ → Pid → Pipe
@@ -54,18 +54,18 @@ out_bytes : (o : Outcome) (n k : ℕ) (reply : Reply) (source : List ℕ) → o 
 out_bytes o n k reply source e both = both.0 ∙ sym (ap (λ (i : ℕ). take i source) (ap moved_by e ∙ both.1) ∙ same_taken k source)
 
 module _ (e : Endpoint) (hub port : ℕ) (reply : Reply) (source : List ℕ) where
-  in_alike : (host : HostSide) → AreAlike reply host true Packets.In source (own_call e hub port Packets.In host source) (high_call (pipe_of e Packets.In) host [])
+  in_alike : (host : HostSide) → AreAlike reply host true Packets.In source (own_call e hub port Packets.In host source) (high_call (endpoint_pipe e Packets.In) host [])
   in_alike host = record {
     ask = refl;
     out = refl;
     outcome = refl;
     settles = refl;
-    bytes = λ n is. in_bytes (outcome_of (high_call (pipe_of e Packets.In) host []).ask 0 false reply host) n reply is;
+    bytes = λ n is. in_bytes (outcome_of (high_call (endpoint_pipe e Packets.In) host []).ask 0 false reply host) n reply is;
   }
 
-  setup_alike : (host : HostSide) → AreAlike reply host false Packets.Setup source (own_call e hub port Packets.Setup host source) (high_call (pipe_of e Packets.Setup) host (take (limit_of host) source))
+  setup_alike : (host : HostSide) → AreAlike reply host false Packets.Setup source (own_call e hub port Packets.Setup host source) (high_call (endpoint_pipe e Packets.Setup) host (take (limit_of host) source))
   setup_alike host =
-      let b : Call = high_call (pipe_of e Packets.Setup) host (take (limit_of host) source) in
+      let b : Call = high_call (endpoint_pipe e Packets.Setup) host (take (limit_of host) source) in
       record {
         ask = refl;
         out = refl;
@@ -75,10 +75,10 @@ module _ (e : Endpoint) (hub port : ℕ) (reply : Reply) (source : List ℕ) whe
       }
 
   out_alike : (host : HostSide) (ping : Bool)
-      → AreAlike reply (record host { ping = ping }) false Packets.Out source (own_call e hub port Packets.Out (record host { ping = ping }) source) (high_call (pipe_of e Packets.Out) (record host { ping = ping }) (take (limit_of host) source))
+      → AreAlike reply (record host { ping = ping }) false Packets.Out source (own_call e hub port Packets.Out (record host { ping = ping }) source) (high_call (endpoint_pipe e Packets.Out) (record host { ping = ping }) (take (limit_of host) source))
   out_alike host false =
       let h : HostSide = record host { ping = false } in
-      let b : Call = high_call (pipe_of e Packets.Out) h (take (limit_of host) source) in
+      let b : Call = high_call (endpoint_pipe e Packets.Out) h (take (limit_of host) source) in
       record {
         ask = refl;
         out = refl;
@@ -88,7 +88,7 @@ module _ (e : Endpoint) (hub port : ℕ) (reply : Reply) (source : List ℕ) whe
       }
   out_alike host true =
       let h : HostSide = record host { ping = true } in
-      let b : Call = high_call (pipe_of e Packets.Out) h (take (limit_of host) source) in
+      let b : Call = high_call (endpoint_pipe e Packets.Out) h (take (limit_of host) source) in
       record {
         ask = refl;
         out = refl;
@@ -102,9 +102,9 @@ module _ (e : Endpoint) (hub port : ℕ) (reply : Reply) (source : List ℕ) whe
   given_with in_token host = if in_token then [] else take (limit_of host) source
 
   abbrev Alike : HostSide → Bool → Pid → Type 0
-  Alike host in_token pid = AreAlike reply host in_token pid source (own_call e hub port pid host source) (high_call (pipe_of e pid) host (given_with in_token host))
+  Alike host in_token pid = AreAlike reply host in_token pid source (own_call e hub port pid host source) (high_call (endpoint_pipe e pid) host (given_with in_token host))
 
-  pub alike : (code : ℕ) (host : HostSide) → AreAlike reply host (code == 1) (pid_at code) source (own_call e hub port (pid_at code) host source) (high_call (pipe_of e (pid_at code)) host (given_with (code == 1) host))
+  pub alike : (code : ℕ) (host : HostSide) → AreAlike reply host (code == 1) (pid_at code) source (own_call e hub port (pid_at code) host source) (high_call (endpoint_pipe e (pid_at code)) host (given_with (code == 1) host))
   alike code host =
       ⊎_elim {C = Alike host (code == 1) (pid_at code)} (λ (is : code ≡ 0). subst (λ (c : ℕ). Alike host (c == 1) (pid_at c)) (sym is) (out_alike host host.ping))
       (λ (other : code ≢ 0). ⊎_elim {C = Alike host (code == 1) (pid_at code)} (λ (is : code ≡ 1). subst (λ (c : ℕ). Alike host (c == 1) (pid_at c)) (sym is) (in_alike host))

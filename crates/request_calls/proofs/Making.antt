@@ -2,7 +2,7 @@
 use Rattle.std.proofs.Common.{◌≡◌, ◌≢◌, ℕ, ◌==◌, Bool, true, false, if◌then◌else◌, List, [], take, Option, Some, ap, refl, sym, subst, ◌∙◌}
 use Rattle.usb_base.specs.declared.packets.Ask.{Ask}
 use Rattle.usb_base.specs.declared.packets.EpKind.{EpKind}
-use Rattle.usb_base.specs.declared.packets.Part.TheVariants.{All}
+use Rattle.usb_base.specs.declared.packets.DataPart.TheVariants.{All}
 use Rattle.usb_base.specs.declared.packets.EpKind.TheVariants.{Control}
 use Rattle.usb_base.specs.declared.packets.Pid.{Pid}
 use Rattle.usb_base.specs.declared.packets.Pid.TheVariants as Packets
@@ -25,7 +25,7 @@ use Rattle.walk_copy.specs.Transacting.{call_in, host_after, outcome_in}
 use Rattle.async_walk.specs.Naks.{kind_at, planned}
 use Rattle.usb_bus.specs.declared.asked.Losses.{Losses}
 use Rattle.report_streams.specs.Requests.{Request}
-use Rattle.request_windows.specs.Host.{Endpoint, Host, is_over, bytes_at, pipe_of, call_at, got_with, settled_by, heard_by}
+use Rattle.request_windows.specs.Host.{Endpoint, Host, is_over, bytes_at, endpoint_pipe, call_at, got_with, settled_by, heard_by}
 use Rattle.request_windows.specs.Line.{Line, made, transacted}
 use Rattle.request_calls.specs.Bus.{Device, device_of, IsAnswered, IsAskFor, IsControlBus}
 use Rattle.request_calls.specs.Stages.{IsEndpoint, WorksOn, AreGiven, moved_of, IsTransaction}
@@ -67,7 +67,7 @@ module _ {W : Type 0} (transacts : W → Ask → List ℕ → Reply → W → Ty
   own host = own_call e q.hub q.port (pid_at q.token.pid) host source
 
   abbrev stage_call : HostSide → Call
-  stage_call host = high_call (pipe_of e (pid_at q.token.pid)) host (if q.token.pid == 1 then [] else take (limit_of host) source)
+  stage_call host = high_call (endpoint_pipe e (pid_at q.token.pid)) host (if q.token.pid == 1 then [] else take (limit_of host) source)
 
   own_is : call_in (planned q) out false ≡ own (host_in q)
   own_is =
@@ -77,8 +77,8 @@ module _ {W : Type 0} (transacts : W → Ask → List ℕ → Reply → W → Ty
   stage_is : stage_call (host_in q) ≡ call_at e r l.host
   stage_is =
       ap stage_call works.side
-      ∙ ap (λ (bs : List ℕ). high_call (pipe_of e (pid_at q.token.pid)) l.host.side bs) (sym given.stage)
-      ∙ ap (λ (p : Pid). high_call (pipe_of e p) l.host.side (bytes_at r l.host.stage l.host)) works.pid
+      ∙ ap (λ (bs : List ℕ). high_call (endpoint_pipe e (pid_at q.token.pid)) l.host.side bs) (sym given.stage)
+      ∙ ap (λ (p : Pid). high_call (endpoint_pipe e p) l.host.side (bytes_at r l.host.stage l.host)) works.pid
 
   asked_for : IsAskFor e.addr e.num (call_in (planned q) out false).ask
   asked_for = subst (λ (c : Call). IsAskFor e.addr e.num c.ask) (sym own_is) (record { plain = refl; token = token_by (q.token.pid == 0) (q.token.pid == 1) q.token.ping; address = refl; number = refl })

@@ -11,7 +11,7 @@ use Rattle.toggle_error.specs.PlainRows.{moved_out}
 use Rattle.transactions.specs.Calls.{Call, high_call}
 use Rattle.usb_bus.specs.declared.asked.Losses.{Losses}
 use Rattle.report_streams.specs.Requests.{Request, read_with}
-use Rattle.request_windows.specs.Host.{Endpoint, Setup, Data, Status, Host, host_in, pipe_of, goes_on, next_stage}
+use Rattle.request_windows.specs.Host.{Endpoint, Setup, Data, Status, Host, host_in, endpoint_pipe, goes_on, next_stage}
 use Rattle.request_windows.specs.Line.{made}
 use Rattle.request_windows.specs.Windows.{IsRequest, data_of}
 use Rattle.request_windows.specs.Standing.{Sight, sight_of, Moves, Stands}
@@ -97,7 +97,7 @@ went_on e r false side h moved c a st b size q m k cm under =
     (begun e r side.ping (wanted_of r.setup == 0) moved c a q refl m k cm under))
 
 abbrev setup_call : Endpoint → Request → HostSide → Call
-setup_call e r side = high_call (pipe_of e Pids.Setup) side r.setup
+setup_call e r side = high_call (endpoint_pipe e Pids.Setup) side r.setup
 
 abbrev setup_host : HostSide → List ℕ → Host
 setup_host side moved = record { stage = Setup; side = side; moved = moved }

@@ -22,7 +22,7 @@ use Rattle.transactions.specs.Asks.{pinged}
 use Rattle.transactions.specs.Calls.{Call, high_call}
 use Rattle.usb_bus.specs.declared.asked.Losses.{Losses}
 use Rattle.report_streams.specs.Requests.{Request}
-use Rattle.request_windows.specs.Host.{Endpoint, Status, Host, has_data, pipe_of, goes_on, heard_by}
+use Rattle.request_windows.specs.Host.{Endpoint, Status, Host, has_data, endpoint_pipe, goes_on, heard_by}
 use Rattle.request_windows.specs.Line.{reply_under, acked, made}
 use Rattle.request_windows.specs.Standing.{sight_of, IsAtStatus, Stands, under_way}
 use Rattle.request_windows.proofs.Hearing.{line, IsKept, row_host, made_stands, quiet_row, stands_quiet, true_not_false}
@@ -148,7 +148,7 @@ status_out_keeps e r losses side moved c a false i w x s = out_keeps e r losses 
 -- ---- an IN as the status of a write, or of a request with no data
 
 abbrev status_in : Endpoint → HostSide → Call
-status_in e side = high_call (pipe_of e Pids.In) side []
+status_in e side = high_call (endpoint_pipe e Pids.In) side []
 
 fits_none : (n : ℕ) → fitting 0 n ≡ Heards.Fitting 0
 fits_none n = ap (λ b. if b then Heards.Fitting 0 else Heards.TooLong) (le-leb 0 n (omega arith))

@@ -24,7 +24,7 @@ use Rattle.toggle_error.specs.PlainRows.{plain_row, moved_in}
 use Rattle.transactions.specs.Calls.{Call, high_call}
 use Rattle.usb_bus.specs.declared.asked.Losses.{Losses}
 use Rattle.report_streams.specs.Requests.{Request, read_with}
-use Rattle.request_windows.specs.Host.{Endpoint, Data, Host, pipe_of, goes_on, heard_by}
+use Rattle.request_windows.specs.Host.{Endpoint, Data, Host, endpoint_pipe, goes_on, heard_by}
 use Rattle.request_windows.specs.Line.{reply_under, acked, made}
 use Rattle.request_windows.specs.Windows.{data_of}
 use Rattle.request_windows.specs.Standing.{sight_of, ComesIn, Moves, Stands, under_way}
@@ -32,7 +32,7 @@ use Rattle.request_windows.proofs.Hearing.{line, IsKept, row_host, made_stands, 
 use Rattle.request_windows.proofs.Rows.{IsStage, IsRefusing, IsNoData, IsReading, IsAllRead, IsWriting, IsAllWritten, device_stage, naks_kept, stalls_kept, unless_kept, acked_max}
 
 abbrev read_call : Endpoint → HostSide → Call
-read_call e side = high_call (pipe_of e Pids.In) side []
+read_call e side = high_call (endpoint_pipe e Pids.In) side []
 
 abbrev pub data_host : HostSide → List ℕ → Host
 data_host side moved = record { stage = Data; side = side; moved = moved }

@@ -6,7 +6,7 @@ use Rattle.toggle_error.specs.declared.host.HostSide.{HostSide}
 use Rattle.transactions.specs.Calls.{high_call}
 use Rattle.usb_bus.specs.declared.asked.Losses.{Losses}
 use Rattle.report_streams.specs.Requests.{Request}
-use Rattle.request_windows.specs.Host.{Endpoint, Stage, Setup, Data, Status, Done, Halted, has_data, data_token, status_token, data_bytes, pipe_of}
+use Rattle.request_windows.specs.Host.{Endpoint, Stage, Setup, Data, Status, Done, Halted, has_data, data_token, status_token, data_bytes, endpoint_pipe}
 use Rattle.request_windows.specs.Line.{Line, line_at, made, transacted}
 use Rattle.request_windows.specs.Windows.{Turn, IsRequest, IsRight, AreRight, AreRequests, after_all, window_of, data_of}
 use Rattle.request_windows.specs.Standing.{Sight, sight_of, Moves, IsEnded, IsAtStatus, StandsAt, Stands}
@@ -20,7 +20,7 @@ use Rattle.request_windows.proofs.Confirming.{status_host, status_out_keeps, sta
 
 data_keeps : (e : Endpoint) (r : Request) (losses : Losses) (side : HostSide) (moved : List ℕ) (c : Stages) (a : List (List ℕ)) (read : Bool) → is_read r.setup ≡ read → (wanted_of r.setup == 0) ≡ false
     → Moves read e r (sight_of (line (data_host side moved) c a)) → Stands e r (line (data_host side moved) c a)
-    → Stands e r (made e r losses (high_call (pipe_of e (data_token read)) side (data_bytes read r (data_host side moved))) (line (data_host side moved) c a))
+    → Stands e r (made e r losses (high_call (endpoint_pipe e (data_token read)) side (data_bytes read r (data_host side moved))) (line (data_host side moved) c a))
 data_keeps e r losses side moved c a true i w x s = read_keeps e r losses side moved c a i w x s
 data_keeps e r losses side moved c a false i w x s = write_keeps e r losses side moved c a side.ping i w x s
 
@@ -30,7 +30,7 @@ has_both false read h = (h, refl)
 
 status_keeps : (e : Endpoint) (r : Request) (losses : Losses) (side : HostSide) (moved : List ℕ) (c : Stages) (a : List (List ℕ)) (out : Bool) → (has_data r && is_read r.setup) ≡ out
     → IsAtStatus e r (sight_of (line (status_host side moved) c a)) → Stands e r (line (status_host side moved) c a)
-    → Stands e r (made e r losses (high_call (pipe_of e (status_token out)) side []) (line (status_host side moved) c a))
+    → Stands e r (made e r losses (high_call (endpoint_pipe e (status_token out)) side []) (line (status_host side moved) c a))
 status_keeps e r losses side moved c a true n x s =
     let b : (is_read r.setup ≡ true) × ((wanted_of r.setup == 0) ≡ false) = has_both (wanted_of r.setup == 0) (is_read r.setup) n in
     status_out_keeps e r losses side moved c a side.ping b.0 b.1 x s

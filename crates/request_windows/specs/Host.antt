@@ -6,7 +6,7 @@
 use Rattle.std.specs.Prelude.{ℕ, ◌==◌, Bool, true, false, ◌&&◌, not, List, [], ◌++◌, length, take, drop, Option, if◌then◌else◌}
 use Rattle.usb_base.specs.declared.endpoints.EndCause.{EndCause}
 use Rattle.usb_base.specs.declared.packets.EpKind.TheVariants.{Control}
-use Rattle.usb_base.specs.declared.packets.Part.TheVariants.{All}
+use Rattle.usb_base.specs.declared.packets.DataPart.TheVariants.{All}
 use Rattle.usb_base.specs.declared.packets.Pid.{Pid}
 use Rattle.usb_base.specs.declared.packets.Pid.TheVariants as Pids
 use Rattle.usb_base.specs.declared.packets.Reply.{Reply}
@@ -104,8 +104,8 @@ host_at r max ping = host_in r max ping Setup []
 
 -- ---- a transaction
 
-abbrev pub pipe_of : Endpoint → Pid → Pipe
-pipe_of e pid = record { addr = e.addr; ep = e.num; speed = High; kind = Control; pid = pid; hub = 0; port = 0; part = All }
+abbrev pub endpoint_pipe : Endpoint → Pid → Pipe
+endpoint_pipe e pid = record { addr = e.addr; ep = e.num; speed = High; kind = Control; pid = pid; hub = 0; port = 0; part = All }
 
 -- the bytes of the next data packet of a write
 abbrev pub next_bytes : Request → Host → List ℕ
@@ -121,7 +121,7 @@ bytes_at r Data h = data_bytes (is_read r.setup) r h
 bytes_at r _ h = []
 
 abbrev pub call_at : Endpoint → Request → Host → Call
-call_at e r h = high_call (pipe_of e (token_at r h.stage)) h.side (bytes_at r h.stage h)
+call_at e r h = high_call (endpoint_pipe e (token_at r h.stage)) h.side (bytes_at r h.stage h)
 
 -- ---- what a reply leaves
 

@@ -14,9 +14,9 @@ use Rattle.link_words.specs.declared.kinds.Link.TheVariants as links
 use Rattle.link_words.specs.Links.{link_read}
 use Rattle.async_walk.specs.declared.state.WalkStep.{WalkStep}
 use Rattle.periodic_walk.specs.Walk.{is_over}
-use Rattle.hc_core.specs.declared.controller.Part.TheVariants.{Periodic, Asynchronous}
+use Rattle.hc_core.specs.declared.controller.MicroframePart.TheVariants.{Periodic, Asynchronous}
 use Rattle.hc_core.specs.Controller.{Content, walk_place}
-use Rattle.lent_structures.specs.Structures.{Table, Parts}
+use Rattle.lent_structures.specs.Structures.{Table, StructureSets}
 use Rattle.ring_walk.specs.Hand.{Hand, Empty}
 use Rattle.ring_walk.specs.Ring.{Base, IsRing}
 use Rattle.ring_walk.specs.Effects.{Effect}
@@ -28,7 +28,7 @@ pub record IsOn (base : Base) : Type 0 where
 
 -- ---- the frame list
 
-pub record FrameList (parts : Parts) (base : Base) : Type 0 where
+pub record FrameList (parts : StructureSets) (base : Base) : Type 0 where
   pub words : List ℕ
   pub here : parts base.periodic_list_base base.periodic_list_base ≡ Some (Table words)
   pub size : length words ≡ 1024
@@ -43,7 +43,7 @@ pub data IsFrameless (base : Base) (words : List ℕ) (c : Content) : Type 0 whe
 
 -- ---- the controller over a ring
 
-pub record IsControlled (base : Base) (member : ℕ → Bool) (parts : Parts) (hand : Hand) (c : Content) : Type 0 where
+pub record IsControlled (base : Base) (member : ℕ → Bool) (parts : StructureSets) (hand : Hand) (c : Content) : Type 0 where
   pub ring : IsRing base member parts hand (walk_place c)
   pub between : c.control.part ≢ Asynchronous → hand ≡ Empty
   pub list : FrameList parts base
@@ -52,24 +52,24 @@ pub record IsControlled (base : Base) (member : ℕ → Bool) (parts : Parts) (h
 -- ---- an event
 
 -- the wire was told that a microframe began, and nothing else happened to the structures and to what is in hand
-pub record BeginsMicroframe {W : Type 0} (begins : W → ℕ → Bool → W → Type 0) (parts : Parts) (hand : Hand) (wire after : W) (now : Parts) (later : Hand) : Type 0 where
+pub record BeginsMicroframe {W : Type 0} (begins : W → ℕ → Bool → W → Type 0) (parts : StructureSets) (hand : Hand) (wire after : W) (now : StructureSets) (later : Hand) : Type 0 where
   pub index : ℕ
   pub allowed : Bool
   pub asked : begins wire index allowed after
   pub parts_stay : now ≡ parts
   pub hand_stays : later ≡ hand
 
-pub record WalksRing {W : Type 0} (transacts : W → Ask → List ℕ → Reply → W → Type 0) (parts : Parts) (hand : Hand) (wire after : W) (now : Parts) (later : Hand) : Type 0 where
+pub record WalksRing {W : Type 0} (transacts : W → Ask → List ℕ → Reply → W → Type 0) (parts : StructureSets) (hand : Hand) (wire after : W) (now : StructureSets) (later : Hand) : Type 0 where
   pub kind : WalkStep
   pub effect : Effect transacts parts hand wire after now later kind
   pub streams : StreamEffect transacts parts hand wire after now later
 
-pub data ControlEffect {W : Type 0} (begins : W → ℕ → Bool → W → Type 0) (transacts : W → Ask → List ℕ → Reply → W → Type 0) (parts : Parts) (hand : Hand) (wire after : W) (now : Parts) (later : Hand) : Type 0 where
+pub data ControlEffect {W : Type 0} (begins : W → ℕ → Bool → W → Type 0) (transacts : W → Ask → List ℕ → Reply → W → Type 0) (parts : StructureSets) (hand : Hand) (wire after : W) (now : StructureSets) (later : Hand) : Type 0 where
   a_microframe : BeginsMicroframe begins parts hand wire after now later → ControlEffect begins transacts parts hand wire after now later
   a_step : WalksRing transacts parts hand wire after now later → ControlEffect begins transacts parts hand wire after now later
 
-pub record Controls {W : Type 0} (begins : W → ℕ → Bool → W → Type 0) (transacts : W → Ask → List ℕ → Reply → W → Type 0) (base : Base) (member : ℕ → Bool) (parts : Parts) (hand : Hand) (wire after : W) (new : Content) : Type 0 where
-  pub now : Parts
+pub record Controls {W : Type 0} (begins : W → ℕ → Bool → W → Type 0) (transacts : W → Ask → List ℕ → Reply → W → Type 0) (base : Base) (member : ℕ → Bool) (parts : StructureSets) (hand : Hand) (wire after : W) (new : Content) : Type 0 where
+  pub now : StructureSets
   pub later : Hand
   pub controlled : IsControlled base member now later new
   pub effect : ControlEffect begins transacts parts hand wire after now later

@@ -7,8 +7,8 @@
 use Rattle.std.specs.Prelude.{◌≡◌, ◌≢◌, ℕ, Bool, true, List, [], ◌∷◌}
 use Rattle.std.specs.List.{AllByRecursion}
 use Rattle.word_mem.specs.Memory.{Mem}
-use Rattle.async_walk.specs.Rows.{Place}
-use Rattle.lent_structures.specs.Structures.{Structure, Parts, put, Has}
+use Rattle.async_walk.specs.Rows.{WalkPlace}
+use Rattle.lent_structures.specs.Structures.{Structure, StructureSets, put, Has}
 use Rattle.lent_structures.specs.Changes.{Leaves, IsNew}
 use Rattle.queue_parts.specs.Sound.{IsMember}
 use Rattle.ring_walk.specs.Hand.{Hand}
@@ -18,7 +18,7 @@ pub record Item : Type 0 where
   pub name : ℕ
   pub structure : Structure
 
-abbrev pub put_all : Parts → ℕ → List Item → Parts
+abbrev pub put_all : StructureSets → ℕ → List Item → StructureSets
 put_all parts n [] = parts
 put_all parts n (i ∷ is) = put (put_all parts n is) n i.name i.structure
 
@@ -33,6 +33,6 @@ abbrev pub AreBeside : ℕ → List Item → Type 0
 AreBeside n is = AllByRecursion (λ i. i.name ≢ n) is
 
 abbrev pub LendsLeaveRing : Type 0
-LendsLeaveRing = (base : Base) (member : ℕ → Bool) (parts : Parts) (hand : Hand) (p : Place) (n : ℕ) (is : List Item) (after : Mem)
+LendsLeaveRing = (base : Base) (member : ℕ → Bool) (parts : StructureSets) (hand : Hand) (p : WalkPlace) (n : ℕ) (is : List Item) (after : Mem)
     → IsRing base member parts hand p → Leaves p.memory after → AreNew p.memory after is → AreBeside n is
     → (member n ≡ true → IsMember member n (put_all parts n is n)) → IsRing base member (put_all parts n is) hand (record p { memory = after })

@@ -13,8 +13,8 @@ use Rattle.driver_rows.specs.declared.content.Transfer.{Transfer}
 use Rattle.driver_rows.specs.declared.content.Mend.{Mend}
 use Rattle.driver_rows.specs.declared.content.Command.{Command}
 use Rattle.driver_rows.specs.declared.content.Command.TheVariants as unfinished
-use Rattle.driver_rows.specs.declared.rows.Row.{Row}
-use Rattle.driver_rows.specs.declared.rows.Row.TheVariants as rows
+use Rattle.driver_rows.specs.declared.rows.DriverRow.{DriverRow}
+use Rattle.driver_rows.specs.declared.rows.DriverRow.TheVariants as rows
 use Rattle.frame_chains.specs.declared.members.Member.{Member}
 use Rattle.frame_members.specs.Members.{Members}
 use Rattle.periodic_list.specs.declared.work.Store.{Store}
@@ -27,7 +27,7 @@ use Rattle.periodic_rows.specs.Linking.{may_unlink, unlinking, new_link, begun_n
 use Rattle.driver_rows.specs.DriverContent.{DriverContent}
 use Rattle.driver_rows.specs.Words.{head_block, queue_head_link}
 use Rattle.driver_rows.specs.Offers.{oldest_of}
-use Rattle.driver_rows.specs.Rows.{Parts, is_iso, store_order, events_of, links, removes_members, leave_ring, leave_frames, no_command, removal_of, finished, list_after, or_finished, linked_on, advanced_by, advance, framed_notes, with_notes, placement_at, framed_by, linked_descriptors, linked_by, row_of, after_row, after_transfer, after_endpoint, stored_link, descriptor_leaving, after_unlink, after_descriptor, after_placed, after_removed, freed_by, free_qtds, free_endpoint, free_descriptor, free_placed, cancel_told}
+use Rattle.driver_rows.specs.Rows.{Parts, is_iso, store_order, events_of, links, removes_members, leave_ring, leave_frames, no_command, removal_of, finished, list_after, or_finished, linked_on, advanced_by, advance, framed_notes, with_notes, placement_at, framed_by, linked_descriptors, linked_by, driver_row, after_driver_row, after_transfer, after_endpoint, stored_link, descriptor_leaving, after_unlink, after_descriptor, after_placed, after_removed, freed_by, free_qtds, free_endpoint, free_descriptor, free_placed, cancel_told}
 use Rattle.run_owners.proofs.Runs.{placed_run}
 use Rattle.run_owners.specs.Owners.{Owner, FrameList, Head, QueueHead, Dummy, Element, Described, Buffer, HasRun, SlotHas, IsPlaced, NoteRuns, ArePieces, runs_of_transfer, note_in}
 use Rattle.run_owners.specs.Leaving.{IsOrderly}
@@ -696,7 +696,7 @@ unlinked_ring p t (Some x) idle stands has apart old =
 lent_words_ring : (h : Holding) (d : DriverContent) → IsRing (link_in h.memory) d → IsRing (link_in (lend_taken h).memory) d
 lent_words_ring h d old = subst (λ (ws : List ℕ). IsRing (λ b. slice_index ws (32 * b / 4)) d) (sym (lent_words h)) old
 
-lend_descriptors_ring : (p : Parts) → IsNextOf p rows.LendDescriptors → Stands (holding p.driver.book p.memory) → HasOwners p.driver → IsRing (link_in p.memory) p.driver → IsRing (link_in (after_row rows.LendDescriptors p).memory) (after_row rows.LendDescriptors p).driver
+lend_descriptors_ring : (p : Parts) → IsNextOf p rows.LendDescriptors → Stands (holding p.driver.book p.memory) → HasOwners p.driver → IsRing (link_in p.memory) p.driver → IsRing (link_in (after_driver_row rows.LendDescriptors p).memory) (after_driver_row rows.LendDescriptors p).driver
 lend_descriptors_ring p due stands has old =
     let d = p.driver in
     let c = due.command in
@@ -707,7 +707,7 @@ lend_descriptors_ring p due stands has old =
     let there = ring_apart (link_in p.memory) (link_in m) d c due.unfinished on has.orderly (linked_by_apart p d.command refl stands has old) old in
     lent_words_ring h (advance e) (links_on (link_in m) e c due.unfinished on (record { ring = there.ring; leaving = there.leaving; mends = there.mends; kept = there.kept }))
 
-pub row_ring : (row : Row) (p : Parts) → IsDue p row → Stands (holding p.driver.book p.memory) → IsShaped p.memory → HasOwners p.driver → HasOwners (after_row row p).driver → IsListApart p.driver → IsRing (link_in p.memory) p.driver → IsRing (link_in (after_row row p).memory) (after_row row p).driver
+pub row_ring : (row : DriverRow) (p : Parts) → IsDue p row → Stands (holding p.driver.book p.memory) → IsShaped p.memory → HasOwners p.driver → HasOwners (after_driver_row row p).driver → IsListApart p.driver → IsRing (link_in p.memory) p.driver → IsRing (link_in (after_driver_row row p).memory) (after_driver_row row p).driver
 row_ring rows.Lend p due stands shape has after apart old =
     let h = holding p.driver.book p.memory in
     let d = record p.driver { book = (lend_taken h).book } in
@@ -736,6 +736,6 @@ row_ring (rows.Harvest e t found) p due stands shape has after apart old =
     (same_leaving (link_in p.memory) p.driver.endpoints p.driver.rung _ p.driver.waiting _ s.rung s.waiting old.leaving) (s.mends old.mends) old
 row_ring rows.Rest p due stands shape has after apart old = old
 
-pub event_ring : (p : Parts) → IsSound p.memory p.driver → IsRing (link_in (after_row (row_of p) p).memory) (after_row (row_of p) p).driver
+pub event_ring : (p : Parts) → IsSound p.memory p.driver → IsRing (link_in (after_driver_row (driver_row p) p).memory) (after_driver_row (driver_row p) p).driver
 event_ring p sound =
-    row_ring (row_of p) p (each_is_due p) sound.stands sound.shape sound.owners (event_owned p sound.owners) (list_apart p.driver p.memory sound.stands sound.shape sound.owners sound.listed) sound.ring
+    row_ring (driver_row p) p (each_is_due p) sound.stands sound.shape sound.owners (event_owned p sound.owners) (list_apart p.driver p.memory sound.stands sound.shape sound.owners sound.listed) sound.ring

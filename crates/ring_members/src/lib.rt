@@ -16,7 +16,7 @@ ghost use Rattle.driver_rows.specs.declared.content.Reserve.{Reserve};
 ghost use Rattle.driver_rows.specs.DriverContent.{DriverContent};
 ghost use Rattle.driver_rows.specs.Offers.{Offered, offered};
 ghost use Rattle.driver_rows.specs.Opening.{opening};
-ghost use Rattle.driver_rows.specs.Rows.{Parts, row_of, after_row};
+ghost use Rattle.driver_rows.specs.Rows.{Parts, driver_row, after_driver_row};
 ghost use Rattle.driver_rows.specs.Words.{head_block};
 ghost use Rattle.run_owners.specs.Kept.{HasOwners};
 ghost use Rattle.ring_members.specs.Links.{link_in, members, IsChain};
@@ -38,7 +38,7 @@ pub fn commands_keep_the_ring()
 /// The stores of the frame list go to the list and its members, which begin runs of their own (`IsListed`).
 #[tactic(auto, using(crate::proofs::Events::event_ring))]
 pub fn events_keep_the_ring()
-    ensures { (p : Parts) → IsSound p.memory p.driver → IsRing (link_in (after_row (row_of p) p).memory) (after_row (row_of p) p).driver }
+    ensures { (p : Parts) → IsSound p.memory p.driver → IsRing (link_in (after_driver_row (driver_row p) p).memory) (after_driver_row (driver_row p) p).driver }
 {}
 
 /// Where no command is unfinished, the words lead from the head through each queue head in the ring, the newest first, and back to the

@@ -11,7 +11,7 @@ use Rattle.walk_copy.specs.Overlay.{advanced}
 use Rattle.async_walk.specs.declared.state.WalkStep.{WalkStep}
 use Rattle.buffers.specs.Bytes.{place as place_of_byte}
 use Rattle.lent_structures.specs.Changes.{overwritten}
-use Rattle.lent_structures.specs.Structures.{QueueHead, Element, Buffer, Part, Parts, put}
+use Rattle.lent_structures.specs.Structures.{QueueHead, Element, Buffer, Structures, StructureSets, put}
 use Rattle.lent_structures.proofs.Names.{not_same, put_same, put_beside, put_found}
 use Rattle.write_back_laws.specs.WriteBack.{CanBeWritten, Received, Nothing, Into, received_parts}
 use Rattle.queue_parts.specs.Sound.{IsWorking, IsSoundQueue, IsMember}
@@ -32,12 +32,12 @@ use Rattle.ring_order.proofs.Ordering.{ordered_still, pointer_placed, fresh_none
 
 -- ---- the bytes of all
 
-told_still : (hand later : Hand) (parts now : Parts) (n : ℕ) (out xs : List ℕ) → ((e : ℕ) (x : List ℕ) → IsAmong e out → Told hand parts n e x → Told later now n e x) → AllTold hand parts n out xs → AllTold later now n out xs
+told_still : (hand later : Hand) (parts now : StructureSets) (n : ℕ) (out xs : List ℕ) → ((e : ℕ) (x : List ℕ) → IsAmong e out → Told hand parts n e x → Told later now n e x) → AllTold hand parts n out xs → AllTold later now n out xs
 told_still hand later parts now n out xs still none_out = none_out
 told_still hand later parts now n out xs still (one_out e es x ys first rest) = one_out e es x ys (still e x (inl refl) first) (told_still hand later parts now n es ys (λ b y among. still b y (inr among)) rest)
 
 -- none of those from the place on has any
-none_told : (order : ℕ → ℕ) (place n : ℕ) (hand : Hand) (parts : Parts) (e : ℕ) (es xs : List ℕ) → IsOrdered order place n (parts n) → order e + 1 ≡ place → AreAfter order e es → ((b : ℕ) (t : Qtd) → IsAmong b es → parts n b ≡ Some (Element t) → place ≤ order b → t.token.active ≡ true) → AllTold hand parts n es xs → xs ≡ []
+none_told : (order : ℕ → ℕ) (place n : ℕ) (hand : Hand) (parts : StructureSets) (e : ℕ) (es xs : List ℕ) → IsOrdered order place n (parts n) → order e + 1 ≡ place → AreAfter order e es → ((b : ℕ) (t : Qtd) → IsAmong b es → parts n b ≡ Some (Element t) → place ≤ order b → t.token.active ≡ true) → AllTold hand parts n es xs → xs ≡ []
 none_told order place n hand parts e es xs k at after published none_out = refl
 none_told order place n hand parts e es xs k at after published (one_out b bs x ys first rest) =
     let from : place ≤ order b = let less = after.0 in omega (arith, at, less) in
@@ -45,7 +45,7 @@ none_told order place n hand parts e es xs k at after published (one_out b bs x 
     ap (λ (zs : List ℕ). zs ++ ys) none ∙ none_told order place n hand parts e bs ys k at after.1 (λ c t among. published c t (inr among)) rest
 
 -- the current one grows, and those after it have nothing
-grown_told : (order : ℕ → ℕ) (place n : ℕ) (hand later : Hand) (parts : Parts) (e : ℕ) (more : List ℕ) (out xs : List ℕ) → IsOrdered order place n (parts n) → order e + 1 ≡ place → IsSorted order out → IsAmong e out
+grown_told : (order : ℕ → ℕ) (place n : ℕ) (hand later : Hand) (parts : StructureSets) (e : ℕ) (more : List ℕ) (out xs : List ℕ) → IsOrdered order place n (parts n) → order e + 1 ≡ place → IsSorted order out → IsAmong e out
     → ((b : ℕ) (t : Qtd) → IsAmong b out → parts n b ≡ Some (Element t) → place ≤ order b → t.token.active ≡ true)
     → ((x : List ℕ) → Told hand parts n e x → Told later parts n e (x ++ more)) → ((b : ℕ) (x : List ℕ) → b ≢ e → Told hand parts n b x → Told later parts n b x)
     → AllTold hand parts n out xs → AllTold later parts n out (xs ++ more)
@@ -72,7 +72,7 @@ grown_told order place n hand later parts e more out xs k at sorted among publis
 
 -- ---- the queue head's place
 
-taken_placed : (order : ℕ → ℕ) (place n : ℕ) (part : Part) (q : Qh) (a : ℕ) (t : Qtd) → IsOrdered order place n part → part a ≡ Some (Element t) → IsPlaced order (order a + 1) (advanced q a t)
+taken_placed : (order : ℕ → ℕ) (place n : ℕ) (part : Structures) (q : Qh) (a : ℕ) (t : Qtd) → IsOrdered order place n part → part a ≡ Some (Element t) → IsPlaced order (order a + 1) (advanced q a t)
 unfolding advanced
 taken_placed order place n part q a t k here = record {
   next = λ b leads. let less = k.next a t b here leads in omega (arith, less);
@@ -89,7 +89,7 @@ written_placed order place c z on k =
       current = λ active. ap (λ (i : ℕ). order i + 1) v.current ∙ k.current on;
     }
 
-module _ {W : Type 0} (transacts : W → Ask → List ℕ → Reply → W → Type 0) (member : ℕ → Bool) (parts : Parts) (hand : Hand) (reply : Reply) (wire after : W) (now : Parts) (later : Hand) (order : ℕ → ℕ) (place : ℕ) (out : List ℕ) (n : ℕ) (members : AreMembers member parts) (in_hand : IsInHand member parts reply hand) where
+module _ {W : Type 0} (transacts : W → Ask → List ℕ → Reply → W → Type 0) (member : ℕ → Bool) (parts : StructureSets) (hand : Hand) (reply : Reply) (wire after : W) (now : StructureSets) (later : Hand) (order : ℕ → ℕ) (place : ℕ) (out : List ℕ) (n : ℕ) (members : AreMembers member parts) (in_hand : IsInHand member parts reply hand) where
   -- where the queue head is after an event
   record Placed : Type 0 where
     at : ℕ
@@ -97,7 +97,7 @@ module _ {W : Type 0} (transacts : W → Ask → List ℕ → Reply → W → Ty
     queue : (q : Qh) → now n n ≡ Some (QueueHead q) → IsPlaced order at q
 
   same_placed : IsOrdered order place n (parts n) → now n ≡ parts n → Placed
-  same_placed k is = record { at = place; goes_on = omega arith; queue = λ q here. k.queue q (ap (λ (part : Part). part n) (sym is) ∙ here) }
+  same_placed k is = record { at = place; goes_on = omega arith; queue = λ q here. k.queue q (ap (λ (part : Structures). part n) (sym is) ∙ here) }
 
   takes_placed : Takes parts hand now later → IsOrdered order place n (parts n) → Placed
   takes_placed t k =
@@ -110,10 +110,10 @@ module _ {W : Type 0} (transacts : W → Ask → List ℕ → Reply → W → Ty
         at = order t.element + 1;
         goes_on = omega (arith, from);
         queue = λ q here.
-            subst (IsPlaced order (order t.element + 1)) (found_queue (now n n) new q (ap (λ (ps : Parts). ps n n) t.now_is ∙ ap (λ (i : ℕ). put parts t.copy.at t.copy.at (QueueHead new) i i) is ∙ put_same parts t.copy.at t.copy.at (QueueHead new)) here)
+            subst (IsPlaced order (order t.element + 1)) (found_queue (now n n) new q (ap (λ (ps : StructureSets). ps n n) t.now_is ∙ ap (λ (i : ℕ). put parts t.copy.at t.copy.at (QueueHead new) i i) is ∙ put_same parts t.copy.at t.copy.at (QueueHead new)) here)
             (taken_placed order place n (parts n) t.copy.queue t.element t.qtd k (ap (λ (i : ℕ). parts i t.element) is ∙ t.here));
       })
-      (λ (differs : n ≢ t.copy.at). same_placed k (ap (λ (ps : Parts). ps n) t.now_is ∙ put_beside parts t.copy.at t.copy.at (QueueHead new) n differs)) (cases_eq n t.copy.at)
+      (λ (differs : n ≢ t.copy.at). same_placed k (ap (λ (ps : StructureSets). ps n) t.now_is ∙ put_beside parts t.copy.at t.copy.at (QueueHead new) n differs)) (cases_eq n t.copy.at)
 
   writes_placed : WritesBack parts hand now later → IsOrdered order place n (parts n) → Placed
   writes_placed w k =
@@ -123,23 +123,23 @@ module _ {W : Type 0} (transacts : W → Ask → List ℕ → Reply → W → Ty
         element = ap (parts w.copy.at) (settled_copy w.copy w.settled).current ∙ w.here;
         received = w.received_is;
       } in
-      let all : Parts = all_parts parts w.copy w.settled (received_into (parts w.copy.at) w.copy.queue w.element w.settled.got) w.element in
+      let all : StructureSets = all_parts parts w.copy w.settled (received_into (parts w.copy.at) w.copy.queue w.element w.settled.got) w.element in
       ⊎_elim (λ (is : n ≡ w.copy.at).
       record {
         at = place;
         goes_on = omega arith;
         queue = λ q here.
-            subst (IsPlaced order place) (found_queue (now n n) (queue_written w.copy w.settled) q (ap (λ (ps : Parts). ps n n) w.now_is ∙ ap (λ (i : ℕ). all i i) is ∙ head_there parts w.copy w.settled w.element (received_into (parts w.copy.at) w.copy.queue w.element w.settled.got) can) here)
+            subst (IsPlaced order place) (found_queue (now n n) (queue_written w.copy w.settled) q (ap (λ (ps : StructureSets). ps n n) w.now_is ∙ ap (λ (i : ℕ). all i i) is ∙ head_there parts w.copy w.settled w.element (received_into (parts w.copy.at) w.copy.queue w.element w.settled.got) can) here)
             (written_placed order place w.copy w.settled both.1.works (k.queue w.copy.queue (ap (λ (i : ℕ). parts i i) is ∙ both.0.here)));
       })
-      (λ (differs : n ≢ w.copy.at). same_placed k (ap (λ (ps : Parts). ps n) w.now_is ∙ all_beside parts w.copy w.settled w.element (received_into (parts w.copy.at) w.copy.queue w.element w.settled.got) n differs)) (cases_eq n w.copy.at)
+      (λ (differs : n ≢ w.copy.at). same_placed k (ap (λ (ps : StructureSets). ps n) w.now_is ∙ all_beside parts w.copy w.settled w.element (received_into (parts w.copy.at) w.copy.queue w.element w.settled.got) n differs)) (cases_eq n w.copy.at)
 
   placed_by : (kind : WalkStep) → Effect transacts parts hand wire after now later kind → IsOrdered order place n (parts n) → Placed
-  placed_by kind (reads r all quiet) k = same_placed k (ap (λ (ps : Parts). ps n) all)
-  placed_by kind (passes r all quiet) k = same_placed k (ap (λ (ps : Parts). ps n) all)
-  placed_by kind (ends r all quiet) k = same_placed k (ap (λ (ps : Parts). ps n) all)
+  placed_by kind (reads r all quiet) k = same_placed k (ap (λ (ps : StructureSets). ps n) all)
+  placed_by kind (passes r all quiet) k = same_placed k (ap (λ (ps : StructureSets). ps n) all)
+  placed_by kind (ends r all quiet) k = same_placed k (ap (λ (ps : StructureSets). ps n) all)
   placed_by kind (takes t quiet) k = takes_placed t k
-  placed_by kind (makes m all) k = same_placed k (ap (λ (ps : Parts). ps n) all)
+  placed_by kind (makes m all) k = same_placed k (ap (λ (ps : StructureSets). ps n) all)
   placed_by kind (writes_back w quiet) k = writes_placed w k
 
   -- ---- the published qTDs
@@ -159,11 +159,11 @@ module _ {W : Type 0} (transacts : W → Ask → List ℕ → Reply → W → Ty
   no_buffer pages k bs u e = cc
 
   -- a qTD that is found where a queue head or bytes were put was there before
-  through_head : (ps : Parts) (a : ℕ) (q : Qh) (i b : ℕ) (u : Qtd) → put ps a a (QueueHead q) i b ≡ Some (Element u) → ps i b ≡ Some (Element u)
+  through_head : (ps : StructureSets) (a : ℕ) (q : Qh) (i b : ℕ) (u : Qtd) → put ps a a (QueueHead q) i b ≡ Some (Element u) → ps i b ≡ Some (Element u)
   through_head ps a q i b u found =
       ⊎_elim (λ (is : (i ≡ a) × (b ≡ a) × (Element u ≡ QueueHead q)). absurd (no_head q u is.2)) (λ (before : ps i b ≡ Some (Element u)). before) (put_found ps a a (QueueHead q) i b (Element u) found)
 
-  through_bytes : (ps : Parts) (a : ℕ) (got : List ℕ) (r : Received) (i b : ℕ) (u : Qtd) → received_parts ps a got r i b ≡ Some (Element u) → ps i b ≡ Some (Element u)
+  through_bytes : (ps : StructureSets) (a : ℕ) (got : List ℕ) (r : Received) (i b : ℕ) (u : Qtd) → received_parts ps a got r i b ≡ Some (Element u) → ps i b ≡ Some (Element u)
   through_bytes ps a got Nothing i b u found = found
   through_bytes ps a got (Into pages k bs j) i b u found =
       ⊎_elim (λ (is : (i ≡ a) × (b ≡ place_of_byte pages k) × (Element u ≡ Buffer pages k (overwritten bs j got))). absurd (no_buffer pages k (overwritten bs j got) u is.2)) (λ (before : ps i b ≡ Some (Element u)). before)
@@ -173,8 +173,8 @@ module _ {W : Type 0} (transacts : W → Ask → List ℕ → Reply → W → Ty
   writes_same w k a u here from =
       let both : IsCopied member parts w.copy × IsSettled w.copy.queue reply w.settled = subst (IsInHand member parts reply) w.in_hand in_hand in
       let r : Received = received_into (parts w.copy.at) w.copy.queue w.element w.settled.got in
-      let first : Parts = received_parts parts w.copy.at w.settled.got r in
-      let mid : Parts = put first w.copy.at w.copy.at (QueueHead (queue_written w.copy w.settled)) in
+      let first : StructureSets = received_parts parts w.copy.at w.settled.got r in
+      let mid : StructureSets = put first w.copy.at w.copy.at (QueueHead (queue_written w.copy w.settled)) in
       let new : Qtd = element_written w.copy w.settled w.element in
       ⊎_elim (λ (is : (n ≡ w.copy.at) × (a ≡ (settled_queue_of w.copy w.settled).current) × (Element u ≡ Element new)).
       let placed : IsPlaced order place w.copy.queue = k.queue w.copy.queue (ap (λ (i : ℕ). parts i i) is.0 ∙ both.0.here) in
@@ -182,14 +182,14 @@ module _ {W : Type 0} (transacts : W → Ask → List ℕ → Reply → W → Ty
       let e = ap order (is.1 ∙ (settled_copy w.copy w.settled).current) in
       absurd (omega (arith, last, e, from)))
       (λ (before : mid n a ≡ Some (Element u)). through_bytes parts w.copy.at w.settled.got r n a u (through_head first w.copy.at (queue_written w.copy w.settled) n a u before))
-      (put_found mid w.copy.at (settled_queue_of w.copy w.settled).current (Element new) n a (Element u) (sym (ap (λ (ps : Parts). ps n a) w.now_is) ∙ here))
+      (put_found mid w.copy.at (settled_queue_of w.copy w.settled).current (Element new) n a (Element u) (sym (ap (λ (ps : StructureSets). ps n a) w.now_is) ∙ here))
 
   element_before : (kind : WalkStep) → Effect transacts parts hand wire after now later kind → IsOrdered order place n (parts n) → (a : ℕ) (u : Qtd) → now n a ≡ Some (Element u) → place ≤ order a → parts n a ≡ Some (Element u)
-  element_before kind (reads r all quiet) k a u here from = sym (ap (λ (ps : Parts). ps n a) all) ∙ here
-  element_before kind (passes r all quiet) k a u here from = sym (ap (λ (ps : Parts). ps n a) all) ∙ here
-  element_before kind (ends r all quiet) k a u here from = sym (ap (λ (ps : Parts). ps n a) all) ∙ here
-  element_before kind (takes t quiet) k a u here from = through_head parts t.copy.at (advanced t.copy.queue t.element t.qtd) n a u (sym (ap (λ (ps : Parts). ps n a) t.now_is) ∙ here)
-  element_before kind (makes m all) k a u here from = sym (ap (λ (ps : Parts). ps n a) all) ∙ here
+  element_before kind (reads r all quiet) k a u here from = sym (ap (λ (ps : StructureSets). ps n a) all) ∙ here
+  element_before kind (passes r all quiet) k a u here from = sym (ap (λ (ps : StructureSets). ps n a) all) ∙ here
+  element_before kind (ends r all quiet) k a u here from = sym (ap (λ (ps : StructureSets). ps n a) all) ∙ here
+  element_before kind (takes t quiet) k a u here from = through_head parts t.copy.at (advanced t.copy.queue t.element t.qtd) n a u (sym (ap (λ (ps : StructureSets). ps n a) t.now_is) ∙ here)
+  element_before kind (makes m all) k a u here from = sym (ap (λ (ps : StructureSets). ps n a) all) ∙ here
   element_before kind (writes_back w quiet) k a u here from = writes_same w k a u here from
 
   -- ---- the event
@@ -209,7 +209,7 @@ module _ {W : Type 0} (transacts : W → Ask → List ℕ → Reply → W → Ty
   told_by xs (same s quiet) acc = subst (AllTold later now n out) (sym (append-nil xs)) (told_still hand later parts now n out xs (λ e x among. s.bytes n e x) acc.told)
   told_by xs (grows m all g) acc =
       let moved : List ℕ = moved_bytes m.copy.queue m.sent.element (settlement m.copy.queue m.out m.reply) (buffer_of (parts m.copy.at) m.sent.element) in
-      subst (λ (ps : Parts). AllTold later ps n out (xs ++ (if m.copy.at == n then moved else []))) (sym all)
+      subst (λ (ps : StructureSets). AllTold later ps n out (xs ++ (if m.copy.at == n then moved else []))) (sym all)
       (⊎_elim (λ (is : n ≡ m.copy.at).
       subst (λ (b : Bool). AllTold later parts n out (xs ++ (if b then moved else []))) (sym (eq-eqb m.copy.at n (sym is)))
       (subst (λ (i : ℕ). AllTold later parts i out (xs ++ moved)) (sym is) (current_grows xs m g (subst (λ (i : ℕ). Accounts order place out hand parts i xs) is acc) is)))
@@ -234,7 +234,7 @@ module _ {W : Type 0} (transacts : W → Ask → List ℕ → Reply → W → Ty
         };
       }
 
-pub event_adds : {W : Type 0} (transacts : W → Ask → List ℕ → Reply → W → Type 0) (member : ℕ → Bool) (parts : Parts) (hand : Hand) (reply : Reply) (wire after : W) (now : Parts) (later : Hand) (kind : WalkStep) (order : ℕ → ℕ) (place : ℕ) (out : List ℕ) (n : ℕ) (xs : List ℕ)
+pub event_adds : {W : Type 0} (transacts : W → Ask → List ℕ → Reply → W → Type 0) (member : ℕ → Bool) (parts : StructureSets) (hand : Hand) (reply : Reply) (wire after : W) (now : StructureSets) (later : Hand) (kind : WalkStep) (order : ℕ → ℕ) (place : ℕ) (out : List ℕ) (n : ℕ) (xs : List ℕ)
     → AreMembers member parts → IsInHand member parts reply hand → Effect transacts parts hand wire after now later kind
     → (z : StreamEffect transacts parts hand wire after now later) → Accounts order place out hand parts n xs → GoesOnInOrder order out later now n xs (bytes_of_effect n z)
 event_adds transacts member parts hand reply wire after now later kind order place out n xs members in_hand effect z acc =

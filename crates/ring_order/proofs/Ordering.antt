@@ -5,7 +5,7 @@ use Rattle.link_words.specs.declared.kinds.QtdLink.TheVariants as qtd_links
 use Rattle.link_words.specs.Links.{qtd_link_of}
 use Rattle.qh_qtd.specs.declared.qtd.Qtd.{Qtd}
 use Rattle.qh_qtd.specs.declared.queue_head.Qh.{Qh}
-use Rattle.lent_structures.specs.Structures.{QueueHead, Element, Part, Parts}
+use Rattle.lent_structures.specs.Structures.{QueueHead, Element, Structures, StructureSets}
 use Rattle.queue_parts.specs.Sound.{buffer_name, IsWorking, IsSoundQueue, IsMember}
 use Rattle.queue_parts.specs.Alters.{HadElement, Alters}
 use Rattle.queue_parts.proofs.Altering.{found_queue, found_element}
@@ -19,7 +19,7 @@ use Rattle.ring_order.specs.Order.{IsPlaced, IsOrdered}
 
 -- ---- the order stays
 
-pub ordered_still : (order : ℕ → ℕ) (place later n : ℕ) (part now : Part) → IsOrdered order place n part → Alters part now → place ≤ later → ((q : Qh) → now n ≡ Some (QueueHead q) → IsPlaced order later q) → IsOrdered order later n now
+pub ordered_still : (order : ℕ → ℕ) (place later n : ℕ) (part now : Structures) → IsOrdered order place n part → Alters part now → place ≤ later → ((q : Qh) → now n ≡ Some (QueueHead q) → IsPlaced order later q) → IsOrdered order later n now
 ordered_still order place later n part now k alters grows queue = record {
   next = λ a u b here leads.
       let had : HadElement part a u = alters.element_before a u here in
@@ -55,12 +55,12 @@ not_worked (Settled c z) n q e t bs off =
     not_here true = refl
     not_here false = refl
 
-works_by : (q : Qh) (e : ℕ) (b : Bool) → q.token.active ≡ b → (b ≡ true → q.current ≢ e) → works_on q e ≡ false
+pub works_by : (q : Qh) (e : ℕ) (b : Bool) → q.token.active ≡ b → (b ≡ true → q.current ≢ e) → works_on q e ≡ false
 works_by q e true on differs = works_not q e (differs refl)
 works_by q e false off differs = ap (λ (b : Bool). b && q.current == e) off
 
 -- a fresh one has no bytes
-pub fresh_none : (order : ℕ → ℕ) (place n : ℕ) (hand : Hand) (parts : Parts) (b : ℕ) (x : List ℕ) (t : Qtd) → IsOrdered order place n (parts n) → parts n b ≡ Some (Element t) → t.token.active ≡ true → place ≤ order b → Told hand parts n b x → x ≡ []
+pub fresh_none : (order : ℕ → ℕ) (place n : ℕ) (hand : Hand) (parts : StructureSets) (b : ℕ) (x : List ℕ) (t : Qtd) → IsOrdered order place n (parts n) → parts n b ≡ Some (Element t) → t.token.active ≡ true → place ≤ order b → Told hand parts n b x → x ≡ []
 fresh_none order place n hand parts b x t k here on from told =
     let same : told.qtd ≡ t = found_element (parts n b) told.qtd t told.here here in
     let placed : IsPlaced order place told.queue = k.queue told.queue told.head in
@@ -72,14 +72,14 @@ fresh_none order place n hand parts b x t k here on from told =
 
 -- ---- a done qTD
 
-done_apart : (member : ℕ → Bool) (n : ℕ) (part : Part) (q : Qh) (e : ℕ) (t : Qtd) → IsMember member n part → part n ≡ Some (QueueHead q) → part e ≡ Some (Element t) → t.token.active ≡ false → q.token.active ≡ true → q.current ≢ e
+done_apart : (member : ℕ → Bool) (n : ℕ) (part : Structures) (q : Qh) (e : ℕ) (t : Qtd) → IsMember member n part → part n ≡ Some (QueueHead q) → part e ≡ Some (Element t) → t.token.active ≡ false → q.token.active ≡ true → q.current ≢ e
 done_apart member n part q e t m head here off on same =
     let is : m.queue ≡ q = found_queue (part n) m.queue q m.here head in
     let sound : IsSoundQueue part q = subst (IsSoundQueue part) is m.sound in
     let w : IsWorking part q = sound.work on in
     false≢true (sym off ∙ ap (λ (x : Qtd). x.token.active) (found_element (part e) t w.element here (ap part (sym same) ∙ w.here)) ∙ w.published)
 
-pub done_told : (member : ℕ → Bool) (parts : Parts) (hand : Hand) (n e : ℕ) (t : Qtd) (x : List ℕ) → IsMember member n (parts n) → parts n e ≡ Some (Element t) → t.token.active ≡ false → Told hand parts n e x → x ≡ take (length (buffer_of (parts n) t) - t.token.total) (buffer_of (parts n) t)
+pub done_told : (member : ℕ → Bool) (parts : StructureSets) (hand : Hand) (n e : ℕ) (t : Qtd) (x : List ℕ) → IsMember member n (parts n) → parts n e ≡ Some (Element t) → t.token.active ≡ false → Told hand parts n e x → x ≡ take (length (buffer_of (parts n) t) - t.token.total) (buffer_of (parts n) t)
 done_told member parts hand n e t x m here off told =
     let same : told.qtd ≡ t = found_element (parts n e) told.qtd t told.here here in
     told.are ∙ not_worked hand n told.queue e told.qtd (buffer_of (parts n) told.qtd) (works_by told.queue e told.queue.token.active refl (λ on. done_apart member n (parts n) told.queue e t m told.head here off on))

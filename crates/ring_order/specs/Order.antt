@@ -16,7 +16,7 @@ use Rattle.link_words.specs.declared.kinds.QtdLink.TheVariants as qtd_links
 use Rattle.link_words.specs.Links.{qtd_link_of}
 use Rattle.qh_qtd.specs.declared.qtd.Qtd.{Qtd}
 use Rattle.qh_qtd.specs.declared.queue_head.Qh.{Qh}
-use Rattle.lent_structures.specs.Structures.{QueueHead, Element, Part, Parts}
+use Rattle.lent_structures.specs.Structures.{QueueHead, Element, Structures, StructureSets}
 use Rattle.ring_walk.specs.Hand.{Hand}
 use Rattle.ring_walk.specs.Effects.{buffer_of, settlement}
 use Rattle.ring_streams.specs.Told.{Told}
@@ -30,10 +30,10 @@ pub record IsPlaced (order : ℕ → ℕ) (place : ℕ) (q : Qh) : Type 0 where
   pub alternate : (b : ℕ) → qtd_link_of q.alternate ≡ qtd_links.To b → place ≤ order b
   pub current : q.token.active ≡ true → order q.current + 1 ≡ place
 
-abbrev pub IsFresh : Part → Qtd → Type 0
+abbrev pub IsFresh : Structures → Qtd → Type 0
 IsFresh part t = t.token.total ≡ length (buffer_of part t)
 
-pub record IsOrdered (order : ℕ → ℕ) (place n : ℕ) (part : Part) : Type 0 where
+pub record IsOrdered (order : ℕ → ℕ) (place n : ℕ) (part : Structures) : Type 0 where
   pub next : (a : ℕ) (t : Qtd) (b : ℕ) → part a ≡ Some (Element t) → qtd_link_of t.next ≡ qtd_links.To b → order a < order b
   pub alternate : (a : ℕ) (t : Qtd) (b : ℕ) → part a ≡ Some (Element t) → qtd_link_of t.alternate ≡ qtd_links.To b → order a < order b
   pub queue : (q : Qh) → part n ≡ Some (QueueHead q) → IsPlaced order place q
@@ -53,11 +53,11 @@ abbrev pub IsAmong : ℕ → List ℕ → Type 0
 IsAmong e [] = ⊥
 IsAmong e (b ∷ bs) = (e ≡ b) ⊎ IsAmong e bs
 
-pub data AllTold (hand : Hand) (parts : Parts) (n : ℕ) : List ℕ → List ℕ → Type 0 where
+pub data AllTold (hand : Hand) (parts : StructureSets) (n : ℕ) : List ℕ → List ℕ → Type 0 where
   none_out : AllTold hand parts n [] []
   one_out : (e : ℕ) (es x xs : List ℕ) → Told hand parts n e x → AllTold hand parts n es xs → AllTold hand parts n (e ∷ es) (x ++ xs)
 
-pub record Accounts (order : ℕ → ℕ) (place : ℕ) (out : List ℕ) (hand : Hand) (parts : Parts) (n : ℕ) (xs : List ℕ) : Type 0 where
+pub record Accounts (order : ℕ → ℕ) (place : ℕ) (out : List ℕ) (hand : Hand) (parts : StructureSets) (n : ℕ) (xs : List ℕ) : Type 0 where
   pub ordered : IsOrdered order place n (parts n)
   pub sorted : IsSorted order out
   pub published : (a : ℕ) (t : Qtd) → IsAmong a out → parts n a ≡ Some (Element t) → place ≤ order a → t.token.active ≡ true
@@ -66,11 +66,11 @@ pub record Accounts (order : ℕ → ℕ) (place : ℕ) (out : List ℕ) (hand :
 
 -- ---- an event
 
-abbrev pub bytes_of_effect : {W : Type 0} {transacts : W → Ask → List ℕ → Reply → W → Type 0} {parts : Parts} {hand : Hand} {wire after : W} {now : Parts} {later : Hand} → ℕ → StreamEffect transacts parts hand wire after now later → List ℕ
+abbrev pub bytes_of_effect : {W : Type 0} {transacts : W → Ask → List ℕ → Reply → W → Type 0} {parts : StructureSets} {hand : Hand} {wire after : W} {now : StructureSets} {later : Hand} → ℕ → StreamEffect transacts parts hand wire after now later → List ℕ
 bytes_of_effect n (same s quiet) = []
 bytes_of_effect {parts = parts} n (grows m all g) =
     if m.copy.at == n then moved_bytes m.copy.queue m.sent.element (settlement m.copy.queue m.out m.reply) (buffer_of (parts m.copy.at) m.sent.element) else []
 
-pub record GoesOnInOrder (order : ℕ → ℕ) (out : List ℕ) (later : Hand) (now : Parts) (n : ℕ) (xs more : List ℕ) : Type 0 where
+pub record GoesOnInOrder (order : ℕ → ℕ) (out : List ℕ) (later : Hand) (now : StructureSets) (n : ℕ) (xs more : List ℕ) : Type 0 where
   pub place : ℕ
   pub accounts : Accounts order place out later now n (xs ++ more)

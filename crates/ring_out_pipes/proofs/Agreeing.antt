@@ -16,14 +16,14 @@ use Rattle.toggle_error.specs.declared.rows.AskToken.TheVariants as tokens
 use Rattle.toggle_error.specs.Columns.{expected_pid, limit_of, out_token}
 use Rattle.transactions.specs.declared.pipe.Pipe.{Pipe}
 use Rattle.transactions.specs.Asks.{pinged, token_pid}
-use Rattle.walk_copy.specs.Overlay.{place_of}
+use Rattle.walk_copy.specs.Overlay.{buffer_place}
 use Rattle.walk_copy.specs.Planning.{pid_at, speed_at, split_at, host_in, carries}
 use Rattle.walk_copy.specs.Transacting.{call_in}
 use Rattle.walk_copy.specs.WriteBack.{moved_by}
 use Rattle.async_walk.specs.Naks.{kind_at, planned}
 use Rattle.settle_laws.specs.Settles.{is_moved}
 use Rattle.settle_laws.proofs.Moving.{Moves}
-use Rattle.lent_structures.specs.Structures.{Part}
+use Rattle.lent_structures.specs.Structures.{Structures}
 use Rattle.queue_parts.proofs.Altering.{found_element}
 use Rattle.ring_walk.specs.Hand.{Hand}
 use Rattle.ring_walk.specs.Effects.{buffer_of}
@@ -49,17 +49,17 @@ the_other true true e = absurd (e refl)
 the_other false false e = absurd (e refl)
 
 -- two next packets are one
-next_same : (part : Part) (q : Qh) (x y : List ℕ) → IsNext part q x → IsNext part q y → x ≡ y
+next_same : (part : Structures) (q : Qh) (x y : List ℕ) → IsNext part q x → IsNext part q y → x ≡ y
 next_same part q x y one other =
-    one.is ∙ ap (λ (t : Qtd). take (min q.max q.token.total) (drop (place_of q - t.offset) (buffer_of part t))) (found_element (part q.current) one.element other.element one.here other.here) ∙ sym other.is
+    one.is ∙ ap (λ (t : Qtd). take (min q.max q.token.total) (drop (buffer_place q - t.offset) (buffer_of part t))) (found_element (part q.current) one.element other.element one.here other.here) ∙ sym other.is
 
 -- ---- a transaction, by what it did
 
 -- what it left: the bytes known now, the toggle, and the device
-record OutStep (part : Part) (later : Hand) (n : ℕ) (q : Qh) (h : Bool) (known : List ℕ) (s : Taker) : Type 0 where
+record OutStep (part : Structures) (later : Hand) (n : ℕ) (q : Qh) (h : Bool) (known : List ℕ) (s : Taker) : Type 0 where
   agrees : OutAgrees part later n q h known s
 
-module _ (part : Part) (hand later : Hand) (n : ℕ) (q : Qh) (h now : Bool) (known moved out : List ℕ) (s : Taker) (own : h ≡ q.token.toggle) (on : q.token.active ≡ true) (next : IsNext part q out) (un : (now ≡ h) → IsUnmoved later n) where
+module _ (part : Structures) (hand later : Hand) (n : ℕ) (q : Qh) (h now : Bool) (known moved out : List ℕ) (s : Taker) (own : h ≡ q.token.toggle) (on : q.token.active ≡ true) (next : IsNext part q out) (un : (now ≡ h) → IsUnmoved later n) where
   -- nothing reached it that it took, and the host knows of nothing more
   pub still_agrees : now ≡ h → moved ≡ [] → OutAgrees part hand n q h known s → OutAgrees part later n q now (known ++ moved) s
   still_agrees unturned none k =

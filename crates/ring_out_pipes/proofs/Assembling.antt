@@ -9,14 +9,14 @@ use Rattle.usb_base.specs.declared.packets.Reply.{Reply}
 use Rattle.qh_qtd.specs.declared.qtd.Qtd.{Qtd}
 use Rattle.qh_qtd.specs.declared.queue_head.Qh.{Qh}
 use Rattle.transactions.specs.Asks.{pinged}
-use Rattle.walk_copy.specs.Overlay.{settled_queue, place_of, moved, advanced}
+use Rattle.walk_copy.specs.Overlay.{settled_queue, buffer_place, moved, advanced}
 use Rattle.walk_copy.specs.Planning.{pid_at}
 use Rattle.walk_copy.specs.Transacting.{call_in}
 use Rattle.walk_copy.specs.WriteBack.{moved_by}
 use Rattle.async_walk.specs.declared.state.WalkStep.{WalkStep}
 use Rattle.async_walk.specs.Naks.{kind_at, planned}
 use Rattle.settle_laws.specs.Settles.{is_moved}
-use Rattle.lent_structures.specs.Structures.{QueueHead, Element, Part, Parts, put, with_structure}
+use Rattle.lent_structures.specs.Structures.{QueueHead, Element, Structures, StructureSets, put, with_structure}
 use Rattle.lent_structures.specs.Changes.{relinked}
 use Rattle.lent_structures.proofs.Names.{not_same, put_beside, put_here, with_here, with_there}
 use Rattle.write_back_laws.specs.WriteBack.{CanBeWritten, Nothing, qtd_after, parts_back}
@@ -51,19 +51,19 @@ endpoint_written : (c : Copy) (z : Settlement) → endpoint_of (queue_written c 
 unfolding moved settled_queue
 endpoint_written c z = refl
 
-bytes_beside_element : (part : Part) (a : ℕ) (t u : Qtd) (b : ℕ) → part a ≡ Some (Element t) → bytes_in (with_structure part a (Element u) b) ≡ bytes_in (part b)
+bytes_beside_element : (part : Structures) (a : ℕ) (t u : Qtd) (b : ℕ) → part a ≡ Some (Element t) → bytes_in (with_structure part a (Element u) b) ≡ bytes_in (part b)
 bytes_beside_element part a t u b here =
     ⊎_elim (λ (same_one : b ≡ a). ap bytes_in (ap (with_structure part a (Element u)) same_one ∙ with_here part a (Element u)) ∙ sym (ap bytes_in (ap part same_one ∙ here)))
     (λ (differs : b ≢ a). ap bytes_in (with_there part a (Element u) b differs)) (cases_eq b a)
 
-silent_bytes : (parts : Parts) (n : ℕ) (q c : Qh) (count : ℕ) (t : Qtd) (a : ℕ) → CanBeWritten parts n n q c [] Nothing t → bytes_in (parts_back parts n n q c count [] Nothing t n a) ≡ bytes_in (parts n a)
+silent_bytes : (parts : StructureSets) (n : ℕ) (q c : Qh) (count : ℕ) (t : Qtd) (a : ℕ) → CanBeWritten parts n n q c [] Nothing t → bytes_in (parts_back parts n n q c count [] Nothing t n a) ≡ bytes_in (parts n a)
 silent_bytes parts n q c count t a can =
-    let mid : Parts = put parts n n (QueueHead (relinked q (moved c count))) in
-    ap (λ (part : Part). bytes_in (part a)) (put_here mid n c.current (Element (qtd_after (moved c count) t)))
+    let mid : StructureSets = put parts n n (QueueHead (relinked q (moved c count))) in
+    ap (λ (part : Structures). bytes_in (part a)) (put_here mid n c.current (Element (qtd_after (moved c count) t)))
     ∙ bytes_beside_element (mid n) c.current t (qtd_after (moved c count) t) a (between_element parts n n q c (moved c count) [] Nothing t can)
-    ∙ ap (λ (part : Part). bytes_in (part a)) (put_here parts n n (QueueHead (relinked q (moved c count)))) ∙ bytes_beside_head (parts n) n q (relinked q (moved c count)) a can.copy.head
+    ∙ ap (λ (part : Structures). bytes_in (part a)) (put_here parts n n (QueueHead (relinked q (moved c count)))) ∙ bytes_beside_head (parts n) n q (relinked q (moved c count)) a can.copy.head
 
-module _ {W : Type 0} (transacts : W → Ask → List ℕ → Reply → W → Type 0) (stream : ℕ → ℕ → Bool) (taker : W → ℕ → ℕ → Option Taker) (bus : IsOutBus transacts stream taker) (member : ℕ → Bool) (parts : Parts) (hand : Hand) (reply : Reply) (wire after : W) (now : Parts) (later : Hand) (n : ℕ) (x : Endpoint) (known : List ℕ) (members : AreMembers member parts) (members_now : AreMembers member now) (in_hand : IsInHand member parts reply hand) (only : IsOnlyEndpoint stream member parts n x) (pipe : IsOutPipe (taker wire x.addr x.ep) known parts hand n x) where
+module _ {W : Type 0} (transacts : W → Ask → List ℕ → Reply → W → Type 0) (stream : ℕ → ℕ → Bool) (taker : W → ℕ → ℕ → Option Taker) (bus : IsOutBus transacts stream taker) (member : ℕ → Bool) (parts : StructureSets) (hand : Hand) (reply : Reply) (wire after : W) (now : StructureSets) (later : Hand) (n : ℕ) (x : Endpoint) (known : List ℕ) (members : AreMembers member parts) (members_now : AreMembers member now) (in_hand : IsInHand member parts reply hand) (only : IsOnlyEndpoint stream member parts n x) (pipe : IsOutPipe (taker wire x.addr x.ep) known parts hand n x) where
   -- ---- a write-back
 
   -- the qTD goes on: its next packet is the same
@@ -92,21 +92,21 @@ module _ {W : Type 0} (transacts : W → Ask → List ℕ → Reply → W → Ty
       let o1 = ap (λ (u : Qtd). u.offset) t1_is in
       let e0 = ap (λ (u : Qtd). u.token.total) t0_is in
       let e1 = ap (λ (u : Qtd). u.token.total) t1_is in
-      let place : place_of r ≡ place_of q = omega (arith, place0, place1, total, o0, o1, e0, e1) in
+      let place : buffer_place r ≡ buffer_place q = omega (arith, place0, place1, total, o0, o1, e0, e1) in
       let max : r.max ≡ q.max = ap (λ (e : Endpoint). e.max) (endpoint_written w.copy w.settled) in
-      let back : List ℕ → Parts = λ (got : List ℕ). parts_back parts w.copy.at w.copy.at q (settled_queue_of w.copy w.settled) (moved_by w.settled.outcome) got (received_into (parts w.copy.at) q w.element got) w.element in
+      let back : List ℕ → StructureSets = λ (got : List ℕ). parts_back parts w.copy.at w.copy.at q (settled_queue_of w.copy w.settled) (moved_by w.settled.outcome) got (received_into (parts w.copy.at) q w.element got) w.element in
       let quiet : CanBeWritten parts w.copy.at w.copy.at q (settled_queue_of w.copy w.settled) [] Nothing w.element = record { copy = can.copy; element = can.element; received = refl } in
       let bytes : bytes_in (now n (buffer_name next.element)) ≡ bytes_in (parts n (buffer_name next.element)) =
-      ap (λ (ps : Parts). bytes_in (ps n (buffer_name next.element))) w.now_is ∙ ap (λ (got : List ℕ). bytes_in (back got n (buffer_name next.element))) none
+      ap (λ (ps : StructureSets). bytes_in (ps n (buffer_name next.element))) w.now_is ∙ ap (λ (got : List ℕ). bytes_in (back got n (buffer_name next.element))) none
       ∙ ap (λ (i : ℕ). bytes_in (back [] i (buffer_name next.element))) is
       ∙ silent_bytes parts w.copy.at q (settled_queue_of w.copy w.settled) (moved_by w.settled.outcome) w.element (buffer_name next.element) quiet ∙ ap (λ (i : ℕ). bytes_in (parts i (buffer_name next.element))) (sym is) in
       record {
         element = next.element;
         here = w1.here ∙ ap (λ (u : Qtd). Some (Element u)) t1_is;
-        is = next.is ∙ ap (λ (i : ℕ). take (min i q.token.total) (drop (place_of q - next.element.offset) (buffer_of (parts n) next.element))) (sym max)
-            ∙ ap (λ (i : ℕ). take (min r.max i) (drop (place_of q - next.element.offset) (buffer_of (parts n) next.element))) (sym total)
+        is = next.is ∙ ap (λ (i : ℕ). take (min i q.token.total) (drop (buffer_place q - next.element.offset) (buffer_of (parts n) next.element))) (sym max)
+            ∙ ap (λ (i : ℕ). take (min r.max i) (drop (buffer_place q - next.element.offset) (buffer_of (parts n) next.element))) (sym total)
             ∙ ap (λ (i : ℕ). take (min r.max r.token.total) (drop (i - next.element.offset) (buffer_of (parts n) next.element))) (sym place)
-            ∙ ap (λ (ys : List ℕ). take (min r.max r.token.total) (drop (place_of r - next.element.offset) ys)) (sym bytes);
+            ∙ ap (λ (ys : List ℕ). take (min r.max r.token.total) (drop (buffer_place r - next.element.offset) ys)) (sym bytes);
       }
     where
       not_in : Packets.Out ≡ Packets.In → ⊥
@@ -121,7 +121,7 @@ module _ {W : Type 0} (transacts : W → Ask → List ℕ → Reply → W → Ty
   unmoved_at l is un = subst (λ (x : Hand). IsUnmoved x n) (sym is) un
 
   still : now n ≡ parts n → IsUnmoved later n → (t : HasToggle later now n pipe.toggle) → OutAgrees (now n) later n t.queue pipe.toggle known s
-  still is un t = carried (parts n) (now n) hand later n pipe.expects.queue t.queue pipe.toggle known s is (found_queue (parts n n) t.queue pipe.expects.queue (sym (ap (λ (part : Part). part n) is) ∙ t.head) pipe.expects.head) un pipe.agrees
+  still is un t = carried (parts n) (now n) hand later n pipe.expects.queue t.queue pipe.toggle known s is (found_queue (parts n n) t.queue pipe.expects.queue (sym (ap (λ (part : Structures). part n) is) ∙ t.head) pipe.expects.head) un pipe.agrees
 
   -- ---- a qTD is taken
 
@@ -135,7 +135,7 @@ module _ {W : Type 0} (transacts : W → Ask → List ℕ → Reply → W → Ty
       let copied : IsCopied member parts k.copy = subst (IsInHand member parts reply) k.in_hand in_hand in
       ⊎_elim (λ (is : n ≡ k.copy.at). let here : parts n n ≡ Some (QueueHead k.copy.queue) = ap (λ (i : ℕ). parts i i) is ∙ copied.here in
       leveled k.copy.queue t.queue k.idle k.goes_on (subst (λ (q : Qh). OutAgrees (parts n) hand n q pipe.toggle known s) (found_queue (parts n n) pipe.expects.queue k.copy.queue pipe.expects.head here) pipe.agrees))
-      (λ (differs : n ≢ k.copy.at). still (ap (λ (ps : Parts). ps n) k.now_is ∙ put_beside parts k.copy.at k.copy.at (QueueHead (advanced k.copy.queue k.element k.qtd)) n differs) (unmoved_at (Copied (taken k.copy k.element k.qtd)) k.later_is tt) t)
+      (λ (differs : n ≢ k.copy.at). still (ap (λ (ps : StructureSets). ps n) k.now_is ∙ put_beside parts k.copy.at k.copy.at (QueueHead (advanced k.copy.queue k.element k.qtd)) n differs) (unmoved_at (Copied (taken k.copy k.element k.qtd)) k.later_is tt) t)
       (cases_eq n k.copy.at)
 
   -- ---- a transaction that told nothing
@@ -149,12 +149,12 @@ module _ {W : Type 0} (transacts : W → Ask → List ℕ → Reply → W → Ty
       let before : pipe.toggle ≡ k.copy.queue.token.toggle = pipe.expects.is ∙ unsettled_toggle hand n pipe.expects.queue (copied_unsettled hand k.copy k.in_hand) ∙ ap (λ (q : Qh). q.token.toggle) (found_queue (parts n n) pipe.expects.queue k.copy.queue pipe.expects.head here) in
       let behind : pipe.toggle ≡ z.host.toggle = t.is ∙ ap (λ (l : Hand). hand_toggle l n t.queue) k.later_is ∙ ap (λ (b : Bool). if b then z.host.toggle else t.queue.token.toggle) (eq-eqb k.copy.at n is) in
       unmoved_made (counted k.copy k.out k.reply) k.copy.queue k.out k.reply n k.works k.sent.all (sym behind ∙ before) is in
-      still (ap (λ (ps : Parts). ps n) all) (unmoved_at (Settled (counted k.copy k.out k.reply) z) k.later_is un) t
+      still (ap (λ (ps : StructureSets). ps n) all) (unmoved_at (Settled (counted k.copy k.out k.reply) z) k.later_is un) t
 
   -- ---- a write-back
 
   agreed_writing : (w : WritesBack parts hand now later) → (alters : Alters (parts n) (now n)) → (t : HasToggle later now n pipe.toggle) → OutAgrees (now n) later n t.queue pipe.toggle known s
-  agreed_writing w alters t = ⊎_elim here (λ (differs : n ≢ w.copy.at). still (ap (λ (ps : Parts). ps n) w.now_is ∙ back_beside parts w.copy.at w.copy.at w.copy.queue (settled_queue_of w.copy w.settled) (moved_by w.settled.outcome) w.settled.got (received_into (parts w.copy.at) w.copy.queue w.element w.settled.got) w.element n differs) (unmoved_at Empty w.nothing tt) t) (cases_eq n w.copy.at)
+  agreed_writing w alters t = ⊎_elim here (λ (differs : n ≢ w.copy.at). still (ap (λ (ps : StructureSets). ps n) w.now_is ∙ back_beside parts w.copy.at w.copy.at w.copy.queue (settled_queue_of w.copy w.settled) (moved_by w.settled.outcome) w.settled.got (received_into (parts w.copy.at) w.copy.queue w.element w.settled.got) w.element n differs) (unmoved_at Empty w.nothing tt) t) (cases_eq n w.copy.at)
     where
       here : n ≡ w.copy.at → OutAgrees (now n) later n t.queue pipe.toggle known s
       here is =
@@ -167,7 +167,7 @@ module _ {W : Type 0} (transacts : W → Ask → List ℕ → Reply → W → Ty
           let q : Qh = w.copy.queue in
           let r : Qh = queue_written w.copy w.settled in
           let head : parts n n ≡ Some (QueueHead q) = ap (λ (i : ℕ). parts i i) is ∙ both.0.here in
-          let head_now : now n n ≡ Some (QueueHead r) = ap (λ (ps : Parts). ps n n) w.now_is ∙ ap (λ (i : ℕ). parts_back parts w.copy.at w.copy.at q (settled_queue_of w.copy w.settled) (moved_by w.settled.outcome) w.settled.got (received_into (parts w.copy.at) q w.element w.settled.got) w.element i i) is
+          let head_now : now n n ≡ Some (QueueHead r) = ap (λ (ps : StructureSets). ps n n) w.now_is ∙ ap (λ (i : ℕ). parts_back parts w.copy.at w.copy.at q (settled_queue_of w.copy w.settled) (moved_by w.settled.outcome) w.settled.got (received_into (parts w.copy.at) q w.element w.settled.got) w.element i i) is
           ∙ back_head parts w.copy.at w.copy.at q (settled_queue_of w.copy w.settled) (moved_by w.settled.outcome) w.settled.got (received_into (parts w.copy.at) q w.element w.settled.got) w.element can in
           let w0 : IsWorking (parts n) q = (subst (IsSoundQueue (parts n)) (found_queue (parts n n) (members n only.on).queue q (members n only.on).here head) (members n only.on).sound).work both.1.works in
           let pid : q.token.pid ≡ 0 = w0.pid ∙ pipe.outs q.current w0.element w0.here w0.published in
@@ -191,9 +191,9 @@ module _ {W : Type 0} (transacts : W → Ask → List ℕ → Reply → W → Ty
   -- ---- where nothing is told otherwise
 
   agreed : (kind : WalkStep) → Effect transacts parts hand wire after now later kind → (t : HasToggle later now n pipe.toggle) → OutAgrees (now n) later n t.queue pipe.toggle known s
-  agreed kind (reads k all quiet) t = still (ap (λ (ps : Parts). ps n) all) (unmoved_at (Copied k.copy) k.in_hand tt) t
-  agreed kind (passes k all quiet) t = still (ap (λ (ps : Parts). ps n) all) (unmoved_at Empty k.nothing tt) t
-  agreed kind (ends k all quiet) t = still (ap (λ (ps : Parts). ps n) all) (unmoved_at Empty k.nothing tt) t
+  agreed kind (reads k all quiet) t = still (ap (λ (ps : StructureSets). ps n) all) (unmoved_at (Copied k.copy) k.in_hand tt) t
+  agreed kind (passes k all quiet) t = still (ap (λ (ps : StructureSets). ps n) all) (unmoved_at Empty k.nothing tt) t
+  agreed kind (ends k all quiet) t = still (ap (λ (ps : StructureSets). ps n) all) (unmoved_at Empty k.nothing tt) t
   agreed kind (takes k quiet) t = agreed_taking k t
   agreed kind (makes k all) t = agreed_making k all t
   agreed kind (writes_back k quiet) t = agreed_writing k (effect_alters transacts member parts hand reply wire after now later kind in_hand (writes_back k quiet) n) t
@@ -214,10 +214,10 @@ module _ {W : Type 0} (transacts : W → Ask → List ℕ → Reply → W → Ty
   -- ---- a transaction
 
   named_now : now ≡ parts → HasEndpoint now n x
-  named_now all = subst (λ (ps : Parts). HasEndpoint ps n x) (sym all) pipe.named
+  named_now all = subst (λ (ps : StructureSets). HasEndpoint ps n x) (sym all) pipe.named
 
   outs_now : now ≡ parts → IsOut (now n)
-  outs_now all = subst (λ (ps : Parts). IsOut (ps n)) (sym all) pipe.outs
+  outs_now all = subst (λ (ps : StructureSets). IsOut (ps n)) (sym all) pipe.outs
 
   abbrev grown : Makes transacts parts hand wire after later → List ℕ
   grown m = moved_bytes m.copy.queue m.sent.element (settlement m.copy.queue m.out m.reply) (buffer_of (parts m.copy.at) m.sent.element)
@@ -229,14 +229,14 @@ module _ {W : Type 0} (transacts : W → Ask → List ℕ → Reply → W → Ty
       let z : Settlement = settlement q m.out m.reply in
       let head : parts n n ≡ Some (QueueHead q) = ap (λ (i : ℕ). parts i i) is ∙ copied.here in
       let before : (pipe.toggle ≡ q.token.toggle) × HasToggle later parts m.copy.at z.host.toggle = g.toggle pipe.toggle (subst (λ (i : ℕ). HasToggle hand parts i pipe.toggle) is pipe.expects) in
-      let has : HasToggle later now n z.host.toggle = subst (λ (ps : Parts). HasToggle later ps n z.host.toggle) (sym all) (subst (λ (i : ℕ). HasToggle later parts i z.host.toggle) (sym is) before.1) in
+      let has : HasToggle later now n z.host.toggle = subst (λ (ps : StructureSets). HasToggle later ps n z.host.toggle) (sym all) (subst (λ (i : ℕ). HasToggle later parts i z.host.toggle) (sym is) before.1) in
       let is_x : x ≡ endpoint_of q = pipe.named.is ∙ ap endpoint_of (found_queue (parts n n) pipe.named.queue q pipe.named.head head) in
       let w0 : IsWorking (parts n) q = (subst (IsSoundQueue (parts n)) (found_queue (parts n n) (members n only.on).queue q (members n only.on).here head) (members n only.on).sound).work m.works in
       let pid : q.token.pid ≡ 0 = w0.pid ∙ pipe.outs q.current w0.element w0.here w0.published in
       let sent : AreSent (parts n) q m.out = record {
         element = m.sent.element;
         here = ap (λ (i : ℕ). parts i q.current) is ∙ m.sent.here;
-        are = m.sent.are ∙ ap (λ (i : ℕ). take (planned q).bytes (drop (place_of q - m.sent.element.offset) (buffer_of (parts i) m.sent.element))) (sym is);
+        are = m.sent.are ∙ ap (λ (i : ℕ). take (planned q).bytes (drop (buffer_place q - m.sent.element.offset) (buffer_of (parts i) m.sent.element))) (sym is);
         all = m.sent.all;
       } in
       let made = made_by transacts stream taker bus wire after (parts n) hand later n (counted m.copy m.out m.reply) q x is_x pipe.toggle known s pipe.is (sym (ap (λ (e : Endpoint). e.speed) is_x) ∙ only.high) pid m.works before.0 only.streamed m.out sent m.reply m.made m.later_is q.token.ping refl
@@ -249,8 +249,8 @@ module _ {W : Type 0} (transacts : W → Ask → List ℕ → Reply → W → Ty
         taker = made.taker_now;
         is = made.is;
         agrees = subst (λ (xs : List ℕ). OutAgrees (now n) later n has.queue z.host.toggle (known ++ xs) made.taker_now) (ap (λ (i : ℕ). moved_bytes q m.sent.element z (buffer_of (parts i) m.sent.element)) is ∙ sym (ap (λ (b : Bool). if b then grown m else []) (eq-eqb m.copy.at n (sym is))))
-            (subst (λ (y : Qh). OutAgrees (now n) later n y z.host.toggle (known ++ moved_bytes q m.sent.element z (buffer_of (parts n) m.sent.element)) made.taker_now) (found_queue (parts n n) q has.queue head (sym (ap (λ (ps : Parts). ps n n) all) ∙ has.head))
-            (subst (λ (part : Part). OutAgrees part later n q z.host.toggle (known ++ moved_bytes q m.sent.element z (buffer_of (parts n) m.sent.element)) made.taker_now) (sym (ap (λ (ps : Parts). ps n) all)) made.agrees));
+            (subst (λ (y : Qh). OutAgrees (now n) later n y z.host.toggle (known ++ moved_bytes q m.sent.element z (buffer_of (parts n) m.sent.element)) made.taker_now) (found_queue (parts n n) q has.queue head (sym (ap (λ (ps : StructureSets). ps n n) all) ∙ has.head))
+            (subst (λ (part : Structures). OutAgrees part later n q z.host.toggle (known ++ moved_bytes q m.sent.element z (buffer_of (parts n) m.sent.element)) made.taker_now) (sym (ap (λ (ps : StructureSets). ps n) all)) made.agrees));
       }
 
   other_pipe : (m : Makes transacts parts hand wire after later) → now ≡ parts → Grows hand parts later m.copy (settlement m.copy.queue m.out m.reply) m.sent.element → n ≢ m.copy.at → IsOutPipe (taker after x.addr x.ep) (known ++ (if m.copy.at == n then grown m else [])) now later n x
@@ -258,7 +258,7 @@ module _ {W : Type 0} (transacts : W → Ask → List ℕ → Reply → W → Ty
       let copied : IsCopied member parts m.copy = subst (IsInHand member parts reply) m.in_hand in_hand in
       let q : Qh = m.copy.queue in
       let beside : IsBeside parts m.copy.at x = only.others m.copy.at copied.on (λ (e : m.copy.at ≡ n). differs (sym e)) in
-      let has : HasToggle later now n pipe.toggle = subst (λ (ps : Parts). HasToggle later ps n pipe.toggle) (sym all) (g.other_toggles n pipe.toggle differs pipe.expects) in
+      let has : HasToggle later now n pipe.toggle = subst (λ (ps : StructureSets). HasToggle later ps n pipe.toggle) (sym all) (g.other_toggles n pipe.toggle differs pipe.expects) in
       record {
         named = named_now all;
         outs = outs_now all;
@@ -267,7 +267,7 @@ module _ {W : Type 0} (transacts : W → Ask → List ℕ → Reply → W → Ty
         taker = s;
         is = bus.others wire (call_in (planned q) m.out false).ask (call_in (planned q) m.out false).out m.reply after x.addr x.ep s m.made only.streamed pipe.is (unasked copied beside beside.apart);
         agrees = subst (λ (xs : List ℕ). OutAgrees (now n) later n has.queue pipe.toggle xs s) (sym (append-nil known) ∙ ap (λ (xs : List ℕ). known ++ xs) (sym (ap (λ (b : Bool). if b then grown m else []) (not_same m.copy.at n (λ (e : m.copy.at ≡ n). differs (sym e))))))
-            (still (ap (λ (ps : Parts). ps n) all) (unmoved_at (Settled (counted m.copy m.out m.reply) (settlement q m.out m.reply)) m.later_is (λ (e : m.copy.at ≡ n). absurd (differs (sym e)))) has);
+            (still (ap (λ (ps : StructureSets). ps n) all) (unmoved_at (Settled (counted m.copy m.out m.reply) (settlement q m.out m.reply)) m.later_is (λ (e : m.copy.at ≡ n). absurd (differs (sym e)))) has);
       }
     where
       unasked : IsCopied member parts m.copy → (b : IsBeside parts m.copy.at x) → ((x.addr ≡ b.endpoint.addr → x.ep ≡ b.endpoint.ep → ⊥)) ⊎ SendsNone (parts m.copy.at) → IsOutAsk stream (call_in (planned m.copy.queue) m.out false).ask
@@ -284,7 +284,7 @@ module _ {W : Type 0} (transacts : W → Ask → List ℕ → Reply → W → Ty
   kept kind effect (same told quiet) = quiet_pipe kind effect told quiet
   kept kind effect (grows m all g) = ⊎_elim (λ (is : n ≡ m.copy.at). own_pipe m all g is) (λ (differs : n ≢ m.copy.at). other_pipe m all g differs) (cases_eq n m.copy.at)
 
-pub event_keeps : {W : Type 0} (transacts : W → Ask → List ℕ → Reply → W → Type 0) (stream : ℕ → ℕ → Bool) (taker : W → ℕ → ℕ → Option Taker) (member : ℕ → Bool) (parts : Parts) (hand : Hand) (reply : Reply) (wire after : W) (now : Parts) (later : Hand) (kind : WalkStep) (n : ℕ) (x : Endpoint) (known : List ℕ)
+pub event_keeps : {W : Type 0} (transacts : W → Ask → List ℕ → Reply → W → Type 0) (stream : ℕ → ℕ → Bool) (taker : W → ℕ → ℕ → Option Taker) (member : ℕ → Bool) (parts : StructureSets) (hand : Hand) (reply : Reply) (wire after : W) (now : StructureSets) (later : Hand) (kind : WalkStep) (n : ℕ) (x : Endpoint) (known : List ℕ)
     → IsOutBus transacts stream taker → AreMembers member parts → AreMembers member now → IsInHand member parts reply hand → Effect transacts parts hand wire after now later kind → (z : StreamEffect transacts parts hand wire after now later)
     → IsOnlyEndpoint stream member parts n x → IsOutPipe (taker wire x.addr x.ep) known parts hand n x → IsOutPipe (taker after x.addr x.ep) (known ++ bytes_of_effect n z) now later n x
 event_keeps transacts stream taker member parts hand reply wire after now later kind n x known bus members members_now in_hand effect z only pipe =

@@ -15,7 +15,7 @@ use Rattle.toggle_error.specs.Columns.{expected_pid, out_token, token_at, token_
 use Rattle.toggle_error.specs.Settle.{settle_row}
 use Rattle.transactions.specs.Asks.{sends}
 use Rattle.transactions.specs.Calls.{moving_of}
-use Rattle.walk_copy.specs.Overlay.{place_of}
+use Rattle.walk_copy.specs.Overlay.{buffer_place}
 use Rattle.walk_copy.specs.Planning.{host_in}
 use Rattle.walk_copy.specs.Transacting.{call_in}
 use Rattle.walk_copy.specs.WriteBack.{moved_by}
@@ -23,7 +23,7 @@ use Rattle.async_walk.specs.Naks.{kind_at, planned}
 use Rattle.settle_laws.specs.Settles.{is_moved, Settles}
 use Rattle.settle_laws.proofs.Moving.{Moves}
 use Rattle.settle_laws.proofs.Settling.{settles}
-use Rattle.lent_structures.specs.Structures.{Part}
+use Rattle.lent_structures.specs.Structures.{Structures}
 use Rattle.ring_walk.specs.Hand.{Copy, Settlement, Hand, Settled}
 use Rattle.ring_walk.specs.Effects.{buffer_of, AreSent, settlement}
 use Rattle.ring_streams.specs.Told.{Endpoint, endpoint_of}
@@ -38,8 +38,8 @@ settled_by o sent true m = (ap is_moved m, ap moved_by m)
 settled_by o sent false m = (m.1, m.0)
 
 -- of an OUT the bytes moved are those of the buffer
-moved_out : (q : Qh) (t : Qtd) (z : Settlement) (bs : List ℕ) → q.token.pid ≡ 0 → moved_bytes q t z bs ≡ take (moved_by z.outcome) (drop (place_of q - t.offset) bs)
-moved_out q t z bs is = ap (λ (c : ℕ). if c == 1 then z.got else take (moved_by z.outcome) (drop (place_of q - t.offset) bs)) is
+moved_out : (q : Qh) (t : Qtd) (z : Settlement) (bs : List ℕ) → q.token.pid ≡ 0 → moved_bytes q t z bs ≡ take (moved_by z.outcome) (drop (buffer_place q - t.offset) bs)
+moved_out q t z bs is = ap (λ (c : ℕ). if c == 1 then z.got else take (moved_by z.outcome) (drop (buffer_place q - t.offset) bs)) is
 
 -- a transaction whose toggle didn't turn moved nothing, and halts where it ends
 pub unmoved_made : (c : Copy) (q : Qh) (out : List ℕ) (reply : Reply) (n : ℕ) → q.token.active ≡ true → length out ≡ (planned q).bytes → (settlement q out reply).host.toggle ≡ q.token.toggle → IsUnmoved (Settled c (settlement q out reply)) n
@@ -54,7 +54,7 @@ unmoved_made c q out reply n on count same_toggle at =
 
 -- ---- the transaction of the endpoint itself
 
-module _ {W : Type 0} (transacts : W → Ask → List ℕ → Reply → W → Type 0) (stream : ℕ → ℕ → Bool) (taker : W → ℕ → ℕ → Option Taker) (bus : IsOutBus transacts stream taker) (wire after : W) (part : Part) (hand later : Hand) (n : ℕ) (c : Copy) (q : Qh) (x : Endpoint) (is_x : x ≡ endpoint_of q) (h : Bool) (known : List ℕ) (s : Taker) (sent_is : taker wire x.addr x.ep ≡ Some s)
+module _ {W : Type 0} (transacts : W → Ask → List ℕ → Reply → W → Type 0) (stream : ℕ → ℕ → Bool) (taker : W → ℕ → ℕ → Option Taker) (bus : IsOutBus transacts stream taker) (wire after : W) (part : Structures) (hand later : Hand) (n : ℕ) (c : Copy) (q : Qh) (x : Endpoint) (is_x : x ≡ endpoint_of q) (h : Bool) (known : List ℕ) (s : Taker) (sent_is : taker wire x.addr x.ep ≡ Some s)
     (high : q.eps ≡ 2) (pid : q.token.pid ≡ 0) (on : q.token.active ≡ true) (own : h ≡ q.token.toggle) (streamed : stream x.addr x.ep ≡ true) (out : List ℕ) (sent : AreSent part q out) (reply : Reply) (made : transacts wire (call_in (planned q) out false).ask (call_in (planned q) out false).out reply after) (later_is : later ≡ Settled c (settlement q out reply)) where
   abbrev z : Settlement
   z = settlement q out reply
@@ -88,8 +88,8 @@ module _ {W : Type 0} (transacts : W → Ask → List ℕ → Reply → W → Ty
       record {
         taker_now = s;
         is = bus.others wire asked (call_in (planned q) out false).out reply after x.addr x.ep s made streamed sent_is (λ a both. no_ping (sym token ∙ a.token));
-        agrees = still_agrees part hand later n q h z.host.toggle known (moved_bytes q sent.element z bs) (take (min q.max q.token.total) (drop (place_of q - sent.element.offset) bs)) s own on
-            (record { element = sent.element; here = sent.here; is = refl }) un (toggle_by false moves.1) (moved_out q sent.element z bs pid ∙ ap (λ (i : ℕ). take i (drop (place_of q - sent.element.offset) bs)) moves.0) k;
+        agrees = still_agrees part hand later n q h z.host.toggle known (moved_bytes q sent.element z bs) (take (min q.max q.token.total) (drop (buffer_place q - sent.element.offset) bs)) s own on
+            (record { element = sent.element; here = sent.here; is = refl }) un (toggle_by false moves.1) (moved_out q sent.element z bs pid ∙ ap (λ (i : ℕ). take i (drop (buffer_place q - sent.element.offset) bs)) moves.0) k;
       }
     where
       no_ping : Packets.Ping ≡ Packets.Out → ⊥
@@ -109,16 +109,16 @@ module _ {W : Type 0} (transacts : W → Ask → List ℕ → Reply → W → Ty
       let count : moving_of (planned q).split (planned q).pipe.pid (host_in q) (length out) ≡ length out = ap (λ (y : Split). moving_of y (planned q).pipe.pid (host_in q) (length out)) call.plain in
       let b : Bool = is_acknowledgement reply in
       let moves = settled_by z.outcome (moving_of (planned q).split (planned q).pipe.pid (host_in q) (length out)) b (out_moves asked (moving_of (planned q).split (planned q).pipe.pid (host_in q) (length out)) false reply (host_in q) call.plain sort) in
-      let next : IsNext part q out = record { element = sent.element; here = sent.here; is = sent.are ∙ ap (λ (i : ℕ). take i (drop (place_of q - sent.element.offset) bs)) (bytes_are q out high pid ping) } in
+      let next : IsNext part q out = record { element = sent.element; here = sent.here; is = sent.are ∙ ap (λ (i : ℕ). take i (drop (buffer_place q - sent.element.offset) bs)) (bytes_are q out high pid ping) } in
       record {
         taker_now = answer.taker;
         is = ap (λ (e : Endpoint). taker after e.addr e.ep) is_x ∙ answer.is;
         agrees = out_step part hand later n q h z.host.toggle known (moved_bytes q sent.element z bs) out s own on next un asked reply answer.taker b refl (ap expected_pid (sym own)) (toggle_by b moves.0)
-            (moved_out q sent.element z bs pid ∙ ap (λ (i : ℕ). take i (drop (place_of q - sent.element.offset) bs)) (moves.1 ∙ ap (λ (i : ℕ). if b then i else 0) count) ∙ by b) takes k;
+            (moved_out q sent.element z bs pid ∙ ap (λ (i : ℕ). take i (drop (buffer_place q - sent.element.offset) bs)) (moves.1 ∙ ap (λ (i : ℕ). if b then i else 0) count) ∙ by b) takes k;
       }
     where
-      by : (y : Bool) → take (if y then length out else 0) (drop (place_of q - sent.element.offset) (buffer_of part sent.element)) ≡ (if y then out else [])
-      by true = take_whole (planned q).bytes out (drop (place_of q - sent.element.offset) (buffer_of part sent.element)) sent.are sent.all
+      by : (y : Bool) → take (if y then length out else 0) (drop (buffer_place q - sent.element.offset) (buffer_of part sent.element)) ≡ (if y then out else [])
+      by true = take_whole (planned q).bytes out (drop (buffer_place q - sent.element.offset) (buffer_of part sent.element)) sent.are sent.all
       by false = refl
 
   pub made_by : (b : Bool) → q.token.ping ≡ b → OutAgrees part hand n q h known s → Made

@@ -8,7 +8,7 @@
 ghost use Rattle.std.specs.Prelude.{◌≡◌, ℕ, Bool, true, List, ◌++◌, Option};
 ghost use Rattle.usb_base.specs.declared.packets.Reply.{Reply as Heard};
 ghost use Rattle.async_walk.specs.declared.state.WalkStep.{WalkStep};
-ghost use Rattle.lent_structures.specs.Structures.{Parts};
+ghost use Rattle.lent_structures.specs.Structures.{StructureSets};
 ghost use Rattle.ring_walk.specs.Hand.{Hand};
 ghost use Rattle.ring_walk.specs.Ring.{IsInHand};
 ghost use Rattle.ring_walk.specs.Effects.{Effect};
@@ -24,7 +24,7 @@ use usb_base::Wire;
 /// Each event of the walk keeps both sides of the pipe of an OUT endpoint agreed, with the bytes that the host then knows to be taken.
 pub fn each_event_keeps_an_out_pipe<W: Wire>()
     ensures { (stream : ℕ → ℕ → Bool) (taker : W → ℕ → ℕ → Option Taker)
-        (member : ℕ → Bool) (parts : Parts) (hand : Hand) (reply : Heard) (wire after : W) (now : Parts) (later : Hand) (kind : WalkStep) (n : ℕ) (x : Endpoint) (known : List ℕ)
+        (member : ℕ → Bool) (parts : StructureSets) (hand : Hand) (reply : Heard) (wire after : W) (now : StructureSets) (later : Hand) (kind : WalkStep) (n : ℕ) (x : Endpoint) (known : List ℕ)
         → IsOutBus W.transacts stream taker → AreMembers member parts → AreMembers member now → IsInHand member parts reply hand
         → Effect W.transacts parts hand wire after now later kind → (z : StreamEffect W.transacts parts hand wire after now later)
         → IsOnlyEndpoint stream member parts n x → IsOutPipe (taker wire x.addr x.ep) known parts hand n x

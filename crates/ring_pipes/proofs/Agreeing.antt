@@ -11,16 +11,16 @@ use Rattle.usb_base.specs.declared.packets.Split.TheVariants as Splits
 use Rattle.qh_qtd.specs.declared.queue_head.Qh.{Qh}
 use Rattle.transactions.specs.Asks.{pinged}
 use Rattle.transactions.specs.Calls.{got_of, moving_of}
-use Rattle.walk_copy.specs.Overlay.{place_of}
+use Rattle.walk_copy.specs.Overlay.{buffer_place}
 use Rattle.walk_copy.specs.WriteBack.{moved_by}
 use Rattle.walk_copy.specs.Planning.{pid_at, host_in}
 use Rattle.walk_copy.specs.Transacting.{call_in}
 use Rattle.async_walk.specs.declared.state.WalkStep.{WalkStep}
 use Rattle.async_walk.specs.Naks.{kind_at, planned}
-use Rattle.async_walk.specs.Rows.{Place, at_event, event_row, step_of, Leads}
+use Rattle.async_walk.specs.Rows.{WalkPlace, at_event, event_row, step_of, Leads}
 use Rattle.settle_laws.specs.Settles.{Brings, Settles}
 use Rattle.settle_laws.proofs.Settling.{settles}
-use Rattle.lent_structures.specs.Structures.{Parts}
+use Rattle.lent_structures.specs.Structures.{StructureSets}
 use Rattle.lent_structures.proofs.Names.{not_same}
 use Rattle.queue_parts.specs.Sound.{IsSoundQueue, IsMember}
 use Rattle.queue_parts.specs.Alters.{Alters}
@@ -57,11 +57,11 @@ grown_none acc at n = none_grown (acc n) (n == at)
 
 -- ---- elsewhere
 
-elsewhere_still : (stream : ℕ → ℕ → Bool) (parts now : Parts) (n : ℕ) (x : Endpoint) → Alters (parts n) (now n) → (HasEndpoint parts n x → HasEndpoint now n x) → IsElsewhere stream parts n x → IsElsewhere stream now n x
+elsewhere_still : (stream : ℕ → ℕ → Bool) (parts now : StructureSets) (n : ℕ) (x : Endpoint) → Alters (parts n) (now n) → (HasEndpoint parts n x → HasEndpoint now n x) → IsElsewhere stream parts n x → IsElsewhere stream now n x
 elsewhere_still stream parts now n x alters named (has, inl off) = (named has, inl off)
 elsewhere_still stream parts now n x alters named (has, inr nots) = (named has, inr (not_in_still (parts n) (now n) alters nots))
 
-module _ {W : Type 0} (transacts : W → Ask → List ℕ → Reply → W → Type 0) (stream : ℕ → ℕ → Bool) (packets : ℕ → ℕ → List (List ℕ)) (sender : W → ℕ → ℕ → Option Sender) (member streams : ℕ → Bool) (endpoint : ℕ → Endpoint) (ends : AreEndpoints stream member streams endpoint) (bus : IsBus transacts stream sender) (acc : ℕ → List (List ℕ)) (parts : Parts) (hand : Hand) (reply : Reply) (wire : W) (members : AreMembers member parts) (in_hand : IsInHand member parts reply hand) (piped : ArePiped stream packets sender member streams endpoint acc parts hand wire) (after : W) (now : Parts) (later : Hand) (kind : WalkStep) (effect : Effect transacts parts hand wire after now later kind) where
+module _ {W : Type 0} (transacts : W → Ask → List ℕ → Reply → W → Type 0) (stream : ℕ → ℕ → Bool) (packets : ℕ → ℕ → List (List ℕ)) (sender : W → ℕ → ℕ → Option Sender) (member streams : ℕ → Bool) (endpoint : ℕ → Endpoint) (ends : AreEndpoints stream member streams endpoint) (bus : IsBus transacts stream sender) (acc : ℕ → List (List ℕ)) (parts : StructureSets) (hand : Hand) (reply : Reply) (wire : W) (members : AreMembers member parts) (in_hand : IsInHand member parts reply hand) (piped : ArePiped stream packets sender member streams endpoint acc parts hand wire) (after : W) (now : StructureSets) (later : Hand) (kind : WalkStep) (effect : Effect transacts parts hand wire after now later kind) where
   alters : (n : ℕ) → Alters (parts n) (now n)
   alters n = effect_alters transacts member parts hand reply wire after now later kind in_hand effect n
 
@@ -116,10 +116,10 @@ module _ {W : Type 0} (transacts : W → Ask → List ℕ → Reply → W → Ty
     copied = subst (IsInHand member parts reply) m.in_hand in_hand
 
     named_still : (n : ℕ) (x : Endpoint) → HasEndpoint parts n x → HasEndpoint now n x
-    named_still n x has = subst (λ (ps : Parts). HasEndpoint ps n x) (sym all) has
+    named_still n x has = subst (λ (ps : StructureSets). HasEndpoint ps n x) (sym all) has
 
     toggle_still : (n : ℕ) (b : Bool) → HasToggle later parts n b → HasToggle later now n b
-    toggle_still n b has = subst (λ (ps : Parts). HasToggle later ps n b) (sym all) has
+    toggle_still n b has = subst (λ (ps : StructureSets). HasToggle later ps n b) (sym all) has
 
     sound : IsSoundQueue (parts m.copy.at) m.copy.queue
     sound =
@@ -202,7 +202,7 @@ module _ {W : Type 0} (transacts : W → Ask → List ℕ → Reply → W → Ty
             others = λ n yes none. elsewhere_still stream parts now n (endpoint n) (alters n) (named_still n (endpoint n)) (piped.others n yes none);
           };
           told = (
-            λ yes. (refl, ap (λ (b : Bool). if b then made.got else take (moved_by made.outcome) (drop (place_of q - m.sent.element.offset) (buffer_of (parts m.copy.at) m.sent.element))) (eq-eqb q.token.pid 1 pid) ∙ step.bytes),
+            λ yes. (refl, ap (λ (b : Bool). if b then made.got else take (moved_by made.outcome) (drop (buffer_place q - m.sent.element.offset) (buffer_of (parts m.copy.at) m.sent.element))) (eq-eqb q.token.pid 1 pid) ∙ step.bytes),
             λ none. absurd (false≢true (sym none ∙ on)),
           );
         }
@@ -215,7 +215,7 @@ module _ {W : Type 0} (transacts : W → Ask → List ℕ → Reply → W → Ty
   rest_by (same s quiet) = quiet_rest s quiet
   rest_by (grows m all g) = grows_rest m all g (streams m.copy.at) refl
 
-pub event_agrees : {W : Type 0} (transacts : W → Ask → List ℕ → Reply → W → Type 0) (stream : ℕ → ℕ → Bool) (packets : ℕ → ℕ → List (List ℕ)) (sender : W → ℕ → ℕ → Option Sender) (base : Base) (member streams : ℕ → Bool) (endpoint : ℕ → Endpoint) (acc : ℕ → List (List ℕ)) (parts : Parts) (hand : Hand) (p : Place) (wire : W) (new : Place) (after : W)
+pub event_agrees : {W : Type 0} (transacts : W → Ask → List ℕ → Reply → W → Type 0) (stream : ℕ → ℕ → Bool) (packets : ℕ → ℕ → List (List ℕ)) (sender : W → ℕ → ℕ → Option Sender) (base : Base) (member streams : ℕ → Bool) (endpoint : ℕ → Endpoint) (acc : ℕ → List (List ℕ)) (parts : StructureSets) (hand : Hand) (p : WalkPlace) (wire : W) (new : WalkPlace) (after : W)
     → AreEndpoints stream member streams endpoint → IsBus transacts stream sender → IsRing base member parts hand p → ArePiped stream packets sender member streams endpoint acc parts hand wire
     → AreBytesHeard transacts wire after → Leads transacts (event_row p) (at_event p) wire new after
     → GoesOn transacts stream packets sender base member streams endpoint acc parts hand wire after new (step_of (event_row p) (at_event p))
@@ -224,7 +224,7 @@ event_agrees transacts stream packets sender base member streams endpoint acc pa
     let r = rest_by transacts stream packets sender member streams endpoint ends bus acc parts hand p.walk.reply wire ring.members ring.in_hand piped after e.happens.now e.happens.later (step_of (event_row p) (at_event p)) e.happens.effect e.streams in
     record { event = e; at = r.at; more = r.more; few = r.few; piped = r.all; told = r.told }
 
-pub taken_begins : {W : Type 0} (stream : ℕ → ℕ → Bool) (packets : ℕ → ℕ → List (List ℕ)) (sender : W → ℕ → ℕ → Option Sender) (member streams : ℕ → Bool) (endpoint : ℕ → Endpoint) (acc : ℕ → List (List ℕ)) (parts : Parts) (hand : Hand) (wire : W) (n : ℕ)
+pub taken_begins : {W : Type 0} (stream : ℕ → ℕ → Bool) (packets : ℕ → ℕ → List (List ℕ)) (sender : W → ℕ → ℕ → Option Sender) (member streams : ℕ → Bool) (endpoint : ℕ → Endpoint) (acc : ℕ → List (List ℕ)) (parts : StructureSets) (hand : Hand) (wire : W) (n : ℕ)
     → ArePiped stream packets sender member streams endpoint acc parts hand wire → streams n ≡ true → IsPrefix (concat (acc n)) (concat (packets (endpoint n).addr (endpoint n).ep))
 taken_begins stream packets sender member streams endpoint acc parts hand wire n piped on =
     let k = piped.pipes n on in

@@ -1,10 +1,8 @@
 -- The direction of a queue head's qTDs stays, and so does what it asks.
-use Rattle.std.proofs.Common.{◌≡◌, ◌≢◌, ℕ, Bool, true, false, ◌==◌, if◌then◌else◌, List, ap, refl, sym, subst, ◌∙◌, ⊎_elim}
-use Rattle.std.proofs.lemmas.Bool.{cases_eq, eq-eqb}
-use Rattle.usb_base.specs.declared.packets.Ask.{Ask}
+use Rattle.std.proofs.Common.{◌≡◌, ◌≢◌, ℕ, Bool, true, false, ◌==◌, if◌then◌else◌, ap, refl, sym, ◌∙◌}
+use Rattle.std.proofs.lemmas.Bool.{eq-eqb}
 use Rattle.usb_base.specs.declared.packets.Pid.{Pid}
 use Rattle.usb_base.specs.declared.packets.Pid.TheVariants as Packets
-use Rattle.usb_base.specs.declared.packets.Reply.{Reply}
 use Rattle.usb_base.specs.declared.packets.EpKind.{EpKind}
 use Rattle.usb_base.specs.declared.packets.EpKind.TheVariants as Kinds
 use Rattle.usb_base.specs.declared.packets.Split.{Split}
@@ -13,32 +11,23 @@ use Rattle.qh_qtd.specs.declared.qtd.Qtd.{Qtd}
 use Rattle.qh_qtd.specs.declared.queue_head.Qh.{Qh}
 use Rattle.transactions.specs.declared.pipe.Pipe.{Pipe}
 use Rattle.transactions.specs.Asks.{pinged, token_pid}
-use Rattle.walk_copy.specs.Overlay.{advanced}
 use Rattle.walk_copy.specs.Planning.{pid_at, split_at}
-use Rattle.async_walk.specs.declared.state.WalkStep.{WalkStep}
-use Rattle.lent_structures.specs.Structures.{Structure, QueueHead, Part, Parts, put}
-use Rattle.lent_structures.proofs.Names.{not_same, put_here, put_beside}
-use Rattle.write_back_laws.specs.WriteBack.{CanBeWritten}
+use Rattle.lent_structures.specs.Structures.{Structures}
+use Rattle.lent_structures.proofs.Names.{not_same}
 use Rattle.queue_parts.specs.Sound.{IsWorking, IsSoundQueue}
 use Rattle.queue_parts.specs.Alters.{HadElement, Alters}
-use Rattle.queue_parts.proofs.Altering.{unaltered, head_put}
 use Rattle.queue_parts.proofs.Members.{still_active}
-use Rattle.ring_walk.specs.Hand.{settled_queue_of, Hand}
-use Rattle.ring_walk.specs.Ring.{IsCopied, IsSettled, IsInHand}
-use Rattle.ring_walk.specs.Effects.{received_into, Effect}
-use Rattle.ring_walk.specs.Effects.Effect.{reads, passes, ends, takes, makes, writes_back}
-use Rattle.ring_walk.proofs.Writing.{settled_copy, settled_range, all_parts, all_alters, all_beside}
 use Rattle.ring_pipes.specs.Pipes.{IsIn, IsNotIn}
 
 -- ---- the direction stays
 
-pub in_still : (part now : Part) → Alters part now → IsIn part → IsIn now
+pub in_still : (part now : Structures) → Alters part now → IsIn part → IsIn now
 in_still part now alters ins a u here on =
     let had : HadElement part a u = alters.element_before a u here in
     let same : u ≡ had.qtd = still_active had.qtd u had.after on in
     ap (λ (x : Qtd). x.token.pid) same ∙ ins a had.qtd had.here (ap (λ (x : Qtd). x.token.active) (sym same) ∙ on)
 
-pub not_in_still : (part now : Part) → Alters part now → IsNotIn part → IsNotIn now
+pub not_in_still : (part now : Structures) → Alters part now → IsNotIn part → IsNotIn now
 not_in_still part now alters nots a u here on is =
     let had : HadElement part a u = alters.element_before a u here in
     let same : u ≡ had.qtd = still_active had.qtd u had.after on in
@@ -78,8 +67,8 @@ pub other_asked : (code : ℕ) (split : Split) (kind : EpKind) (ping : Bool) →
 other_asked code split kind ping other = not_asked split kind ping (code == 0) (code == 1) (not_same code 1 other)
 
 -- the overlay that works has the PID of its qTD
-pub works_in : (part : Part) (q : Qh) → IsSoundQueue part q → q.token.active ≡ true → IsIn part → q.token.pid ≡ 1
+pub works_in : (part : Structures) (q : Qh) → IsSoundQueue part q → q.token.active ≡ true → IsIn part → q.token.pid ≡ 1
 works_in part q sound on ins = let w : IsWorking part q = sound.work on in w.pid ∙ ins q.current w.element w.here w.published
 
-pub works_not_in : (part : Part) (q : Qh) → IsSoundQueue part q → q.token.active ≡ true → IsNotIn part → q.token.pid ≢ 1
+pub works_not_in : (part : Structures) (q : Qh) → IsSoundQueue part q → q.token.active ≡ true → IsNotIn part → q.token.pid ≢ 1
 works_not_in part q sound on nots is = let w : IsWorking part q = sound.work on in nots q.current w.element w.here w.published (sym w.pid ∙ is)

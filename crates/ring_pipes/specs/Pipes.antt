@@ -14,8 +14,8 @@ use Rattle.usb_base.specs.declared.packets.Ask.{Ask}
 use Rattle.usb_base.specs.declared.packets.Reply.{Reply}
 use Rattle.qh_qtd.specs.declared.qtd.Qtd.{Qtd}
 use Rattle.async_walk.specs.declared.state.WalkStep.{WalkStep}
-use Rattle.async_walk.specs.Rows.{Place}
-use Rattle.lent_structures.specs.Structures.{Element, Part, Parts}
+use Rattle.async_walk.specs.Rows.{WalkPlace}
+use Rattle.lent_structures.specs.Structures.{Element, Structures, StructureSets}
 use Rattle.ring_walk.specs.Hand.{Hand}
 use Rattle.ring_walk.specs.Ring.{Base}
 use Rattle.ring_walk.specs.Effects.{buffer_of, settlement}
@@ -27,10 +27,10 @@ use Rattle.ring_pipes.specs.Bus.{Sender}
 
 -- ---- which direction
 
-abbrev pub IsIn : Part → Type 0
+abbrev pub IsIn : Structures → Type 0
 IsIn part = (a : ℕ) (t : Qtd) → part a ≡ Some (Element t) → t.token.active ≡ true → t.token.pid ≡ 1
 
-abbrev pub IsNotIn : Part → Type 0
+abbrev pub IsNotIn : Structures → Type 0
 IsNotIn part = (a : ℕ) (t : Qtd) → part a ≡ Some (Element t) → t.token.active ≡ true → t.token.pid ≢ 1
 
 -- ---- one pipe
@@ -44,7 +44,7 @@ pub record IsHalf (packets : List (List ℕ)) (s : Sender) (acc : List (List ℕ
   pub left : s.left ≡ drop known packets
   pub agrees : PipeAgrees packets (pipe_at known s.sends acc toggle)
 
-pub record IsPipe (packets : List (List ℕ)) (o : Option Sender) (acc : List (List ℕ)) (parts : Parts) (hand : Hand) (n : ℕ) (x : Endpoint) : Type 0 where
+pub record IsPipe (packets : List (List ℕ)) (o : Option Sender) (acc : List (List ℕ)) (parts : StructureSets) (hand : Hand) (n : ℕ) (x : Endpoint) : Type 0 where
   pub named : HasEndpoint parts n x
   pub ins : IsIn (parts n)
   pub toggle : Bool
@@ -63,10 +63,10 @@ pub record AreEndpoints (stream : ℕ → ℕ → Bool) (member streams : ℕ �
   pub apart : (n k : ℕ) → streams n ≡ true → streams k ≡ true → (endpoint n).addr ≡ (endpoint k).addr → (endpoint n).ep ≡ (endpoint k).ep → n ≡ k
 
 -- a queue head of another endpoint asks none of the streams
-abbrev pub IsElsewhere : (ℕ → ℕ → Bool) → Parts → ℕ → Endpoint → Type 0
+abbrev pub IsElsewhere : (ℕ → ℕ → Bool) → StructureSets → ℕ → Endpoint → Type 0
 IsElsewhere stream parts n x = HasEndpoint parts n x × ((stream x.addr x.ep ≡ false) ⊎ IsNotIn (parts n))
 
-pub record ArePiped {W : Type 0} (stream : ℕ → ℕ → Bool) (packets : ℕ → ℕ → List (List ℕ)) (sender : W → ℕ → ℕ → Option Sender) (member streams : ℕ → Bool) (endpoint : ℕ → Endpoint) (acc : ℕ → List (List ℕ)) (parts : Parts) (hand : Hand) (wire : W) : Type 0 where
+pub record ArePiped {W : Type 0} (stream : ℕ → ℕ → Bool) (packets : ℕ → ℕ → List (List ℕ)) (sender : W → ℕ → ℕ → Option Sender) (member streams : ℕ → Bool) (endpoint : ℕ → Endpoint) (acc : ℕ → List (List ℕ)) (parts : StructureSets) (hand : Hand) (wire : W) : Type 0 where
   pub pipes : (n : ℕ) → streams n ≡ true → IsPipe (packets (endpoint n).addr (endpoint n).ep) (sender wire (endpoint n).addr (endpoint n).ep) (acc n) parts hand n (endpoint n)
   pub others : (n : ℕ) → member n ≡ true → streams n ≡ false → IsElsewhere stream parts n (endpoint n)
 
@@ -74,13 +74,13 @@ abbrev pub grown : (ℕ → List (List ℕ)) → ℕ → List (List ℕ) → ℕ
 grown acc at more k = if k == at then acc k ++ more else acc k
 
 -- what was told of the packets taken: of a queue head with a stream the current qTD grew by their bytes, and else there are none
-abbrev pub IsToldBy : {W : Type 0} {transacts : W → Ask → List ℕ → Reply → W → Type 0} {parts : Parts} {hand : Hand} {wire after : W} {now : Parts} {later : Hand} → (ℕ → Bool) → ℕ → List (List ℕ) → StreamEffect transacts parts hand wire after now later → Type 0
+abbrev pub IsToldBy : {W : Type 0} {transacts : W → Ask → List ℕ → Reply → W → Type 0} {parts : StructureSets} {hand : Hand} {wire after : W} {now : StructureSets} {later : Hand} → (ℕ → Bool) → ℕ → List (List ℕ) → StreamEffect transacts parts hand wire after now later → Type 0
 IsToldBy streams at more (same s quiet) = more ≡ []
 IsToldBy {parts = parts} streams at more (grows m all g) =
     (streams m.copy.at ≡ true → (at ≡ m.copy.at) × (moved_bytes m.copy.queue m.sent.element (settlement m.copy.queue m.out m.reply) (buffer_of (parts m.copy.at) m.sent.element) ≡ concat more))
     × (streams m.copy.at ≡ false → more ≡ [])
 
-pub record GoesOn {W : Type 0} (transacts : W → Ask → List ℕ → Reply → W → Type 0) (stream : ℕ → ℕ → Bool) (packets : ℕ → ℕ → List (List ℕ)) (sender : W → ℕ → ℕ → Option Sender) (base : Base) (member streams : ℕ → Bool) (endpoint : ℕ → Endpoint) (acc : ℕ → List (List ℕ)) (parts : Parts) (hand : Hand) (wire after : W) (new : Place) (kind : WalkStep) : Type 0 where
+pub record GoesOn {W : Type 0} (transacts : W → Ask → List ℕ → Reply → W → Type 0) (stream : ℕ → ℕ → Bool) (packets : ℕ → ℕ → List (List ℕ)) (sender : W → ℕ → ℕ → Option Sender) (base : Base) (member streams : ℕ → Bool) (endpoint : ℕ → Endpoint) (acc : ℕ → List (List ℕ)) (parts : StructureSets) (hand : Hand) (wire after : W) (new : WalkPlace) (kind : WalkStep) : Type 0 where
   pub event : Streams transacts base member parts hand wire after new kind
   pub at : ℕ
   pub more : List (List ℕ)

@@ -10,9 +10,9 @@ use Rattle.qh_qtd.specs.declared.queue_head.Qh.{Qh}
 use Rattle.control_stages.specs.Stages.{is_read}
 use Rattle.toggle_error.specs.declared.host.HostSide.{HostSide}
 use Rattle.toggle_error.specs.Columns.{limit_of}
-use Rattle.lent_structures.specs.Structures.{Part}
+use Rattle.lent_structures.specs.Structures.{Structures}
 use Rattle.lent_structures.proofs.Names.{not_same}
-use Rattle.walk_copy.specs.Overlay.{place_of}
+use Rattle.walk_copy.specs.Overlay.{buffer_place}
 use Rattle.walk_copy.specs.Planning.{pid_at}
 use Rattle.ring_walk.specs.Effects.{bytes_in, buffer_of}
 use Rattle.queue_parts.specs.Sound.{HasBuffer, IsReady, IsWorking}
@@ -56,9 +56,9 @@ nothing_out side xs false none = sym (none_left side xs none)
 
 -- it has what is left, from the place on, or nothing is left
 abbrev pub IsSized : Qh → Qtd → List ℕ → Type 0
-IsSized q t bs = ((q.token.total ≤ length bs) × (place_of q - t.offset ≡ length bs - q.token.total)) ⊎ (q.token.total ≡ 0)
+IsSized q t bs = ((q.token.total ≤ length bs) × (buffer_place q - t.offset ≡ length bs - q.token.total)) ⊎ (q.token.total ≡ 0)
 
-sized_by : (part : Part) (q : Qh) (w : IsWorking part q) → IsReady part w.element → ((0 < q.token.total) ⊎ (q.token.total ≤ 0)) → IsSized q w.element (buffer_of part w.element)
+sized_by : (part : Structures) (q : Qh) (w : IsWorking part q) → IsReady part w.element → ((0 < q.token.total) ⊎ (q.token.total ≤ 0)) → IsSized q w.element (buffer_of part w.element)
 sized_by part q w ready (inr none) = inr (omega (arith, none))
 sized_by part q w ready (inl some) =
     let has : HasBuffer part w.element w.element.token.total = ready.buffer (let fewer = w.fewer in omega (arith, some, fewer)) in
@@ -67,14 +67,14 @@ sized_by part q w ready (inl some) =
     let place = w.place in
     inl (omega (arith, size, fewer), omega (arith, size, fewer, place))
 
-pub sized : (part : Part) (q : Qh) (w : IsWorking part q) → IsReady part w.element → IsSized q w.element (buffer_of part w.element)
+pub sized : (part : Structures) (q : Qh) (w : IsWorking part q) → IsReady part w.element → IsSized q w.element (buffer_of part w.element)
 sized part q w ready = sized_by part q w ready (cases_lt 0 q.token.total)
 
 -- ---- the bytes of a stage
 
-module _ (e : Endpoint) (r : Request) (q : Qh) (part : Part) (t : Qtd) (side : HostSide) (moved : List ℕ) (v : Sight) (left : v.left ≡ side.left) (moved_is : v.moved ≡ moved) (total : q.token.total ≡ side.left) (request : IsRequest r) (whole : 8 ≤ e.max) (packets : side.max ≡ e.max) (size : IsSized q t (buffer_of part t)) where
+module _ (e : Endpoint) (r : Request) (q : Qh) (part : Structures) (t : Qtd) (side : HostSide) (moved : List ℕ) (v : Sight) (left : v.left ≡ side.left) (moved_is : v.moved ≡ moved) (total : q.token.total ≡ side.left) (request : IsRequest r) (whole : 8 ≤ e.max) (packets : side.max ≡ e.max) (size : IsSized q t (buffer_of part t)) where
   abbrev source : List ℕ
-  source = drop (place_of q - t.offset) (buffer_of part t)
+  source = drop (buffer_place q - t.offset) (buffer_of part t)
 
   -- the bytes that go out with a token
   abbrev given_by : Bool → List ℕ
@@ -88,7 +88,7 @@ module _ (e : Endpoint) (r : Request) (q : Qh) (part : Part) (t : Qtd) (side : H
       by (inl (few, place)) =
           let long = request.setup in
           let same = ap length bytes in
-          let start : place_of q - t.offset ≡ 0 = omega (arith, place, total, left, eight, long, same) in
+          let start : buffer_place q - t.offset ≡ 0 = omega (arith, place, total, left, eight, long, same) in
           let room : length r.setup ≤ limit_of side = omega (arith, long, left, eight, whole, packets) in
           ap (λ (n : ℕ). take (limit_of side) (drop n (buffer_of part t))) start ∙ ap (λ (xs : List ℕ). take (limit_of side) xs) bytes ∙ take_whole (limit_of side) r.setup room
 
@@ -102,8 +102,8 @@ module _ (e : Endpoint) (r : Request) (q : Qh) (part : Part) (t : Qtd) (side : H
           let all = ap length split in
           let same = ap length bytes in
           let here = ap length moved_is in
-          let start : length moved ≡ place_of q - t.offset = omega (arith, place, total, left, counts, both, all, same, here) in
-          ap (λ (n : ℕ). take (limit_of side) (drop n r.bytes)) start ∙ ap (λ (xs : List ℕ). take (limit_of side) (drop (place_of q - t.offset) xs)) (sym bytes)
+          let start : length moved ≡ buffer_place q - t.offset = omega (arith, place, total, left, counts, both, all, same, here) in
+          ap (λ (n : ℕ). take (limit_of side) (drop n r.bytes)) start ∙ ap (λ (xs : List ℕ). take (limit_of side) (drop (buffer_place q - t.offset) xs)) (sym bytes)
 
   data_given : (read : Bool) → is_read r.setup ≡ read → pid_at q.token.pid ≡ data_token read → Moves read e r v → (is_read r.setup ≡ false → buffer_of part t ≡ r.bytes)
       → data_bytes read r (record { stage = Data; side = side; moved = moved }) ≡ given_by (q.token.pid == 1)

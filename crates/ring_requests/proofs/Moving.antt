@@ -8,7 +8,7 @@ use Rattle.qh_qtd.specs.declared.queue_head.Qh.{Qh}
 use Rattle.toggle_error.specs.declared.host.HostSide.{HostSide}
 use Rattle.toggle_error.specs.declared.host.Outcome.{Outcome}
 use Rattle.toggle_error.specs.declared.host.Outcome.TheVariants as outcomes
-use Rattle.lent_structures.specs.Structures.{Part}
+use Rattle.lent_structures.specs.Structures.{Structures}
 use Rattle.walk_copy.specs.Planning.{host_in}
 use Rattle.settle_laws.specs.Settles.{is_moved}
 use Rattle.report_streams.specs.Requests.{Request}
@@ -23,7 +23,7 @@ status_comes : (r : Request) (b : Bool) → comes r (if b then Data else Status)
 status_comes r true = refl
 status_comes r false = refl
 
-pub fresh_pending : (e : Endpoint) (r : Request) (x : Places) (part : Part) (s : Stage) → IsFresh e r x part s → IsPending part (place_at x s)
+pub fresh_pending : (e : Endpoint) (r : Request) (x : Places) (part : Structures) (s : Stage) → IsFresh e r x part s → IsPending part (place_at x s)
 fresh_pending e r x part s f = record { qtd = f.stage.qtd; here = f.stage.here; published = ap (λ (h : HostSide). h.active) (f.begins true) ∙ begun_active s }
   where
     begun_active : (t : Stage) → (side_at r e.max true t).active ≡ true
@@ -35,7 +35,7 @@ going_next : (b : Bool) → is_over (if b then Data else Status) ≡ false
 going_next true = refl
 going_next false = refl
 
-module _ (e : Endpoint) (r : Request) (x : Places) (apart : AreApart x) (part : Part) (q : Qh) (h : Host) (w : Works e r x part (host_in q) q h) (after : HostSide) (packets : after.max ≡ e.max) (published : IsPending part q.current) where
+module _ (e : Endpoint) (r : Request) (x : Places) (apart : AreApart x) (part : Structures) (q : Qh) (h : Host) (w : Works e r x part (host_in q) q h) (after : HostSide) (packets : after.max ≡ e.max) (published : IsPending part q.current) where
   -- the qTD goes on
   stays : after.active ≡ true → (moved : List ℕ) → Shows e r x part after q (record { stage = h.stage; side = after; moved = moved })
   stays on moved = works (record {

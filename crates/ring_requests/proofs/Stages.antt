@@ -8,7 +8,7 @@ use Rattle.link_words.specs.declared.kinds.QtdLink.TheVariants.{End, To}
 use Rattle.link_words.specs.Links.{qtd_link_of}
 use Rattle.qh_qtd.specs.declared.qtd.Qtd.{Qtd}
 use Rattle.qh_qtd.specs.declared.queue_head.Qh.{Qh}
-use Rattle.lent_structures.specs.Structures.{Element, Part}
+use Rattle.lent_structures.specs.Structures.{Element, Structures}
 use Rattle.queue_parts.specs.Alters.{HadElement, Alters}
 use Rattle.queue_parts.proofs.Members.{still_active}
 use Rattle.report_streams.specs.Requests.{Request}
@@ -101,7 +101,7 @@ chosen P q t left next alternate first second =
 pub pointer_to : (q : Qh) (t : Qtd) (left a : ℕ) → q.next ≡ t.next → q.alternate ≡ t.alternate → LeadTo t a → qtd_link_of (pointer_at left q) ≡ To a
 pointer_to q t left a next alternate leads = chosen (λ (l : ShortLink). qtd_link_of l ≡ To a) q t left next alternate leads.next leads.alternate
 
-pub pointer_nowhere : (part : Part) (q : Qh) (t : Qtd) (left : ℕ) → q.next ≡ t.next → q.alternate ≡ t.alternate → LeadNowhere part t → IsUnpublished part (pointer_at left q)
+pub pointer_nowhere : (part : Structures) (q : Qh) (t : Qtd) (left : ℕ) → q.next ≡ t.next → q.alternate ≡ t.alternate → LeadNowhere part t → IsUnpublished part (pointer_at left q)
 pointer_nowhere part q t left next alternate leads = chosen (λ (l : ShortLink). IsUnpublished part l) q t left next alternate leads.next leads.alternate
 
 pub pointer_same : (left : ℕ) (q new : Qh) → new.next ≡ q.next → new.alternate ≡ q.alternate → pointer_at left new ≡ pointer_at left q
@@ -110,7 +110,7 @@ pointer_same left q new next alternate =
 
 -- ---- what stays
 
-pub unpublished_still : (part now : Part) (link : ShortLink) → Alters part now → IsUnpublished part link → IsUnpublished now link
+pub unpublished_still : (part now : Structures) (link : ShortLink) → Alters part now → IsUnpublished part link → IsUnpublished now link
 unpublished_still part now link alters nots a u leads here = by u.token.active refl
   where
     had : HadElement part a u
@@ -122,22 +122,22 @@ unpublished_still part now link alters nots a u leads here = by u.token.active r
         let same : u ≡ had.qtd = still_active had.qtd u had.after on in
         ap (λ (t : Qtd). t.token.active) same ∙ nots a had.qtd leads had.here
 
-alternate_still : (part now : Part) (t : Qtd) → Alters part now → (t.alternate.t ≡ true) ⊎ IsUnpublished part t.alternate → (t.alternate.t ≡ true) ⊎ IsUnpublished now t.alternate
+alternate_still : (part now : Structures) (t : Qtd) → Alters part now → (t.alternate.t ≡ true) ⊎ IsUnpublished part t.alternate → (t.alternate.t ≡ true) ⊎ IsUnpublished now t.alternate
 alternate_still part now t alters (inl none) = inl none
 alternate_still part now t alters (inr nots) = inr (unpublished_still part now t.alternate alters nots)
 
-pub nowhere_still : (part now : Part) (t : Qtd) → Alters part now → LeadNowhere part t → LeadNowhere now t
+pub nowhere_still : (part now : Structures) (t : Qtd) → Alters part now → LeadNowhere part t → LeadNowhere now t
 nowhere_still part now t alters leads = record { next = unpublished_still part now t.next alters leads.next; alternate = alternate_still part now t alters leads.alternate }
 
-pub leads_still : (r : Request) (x : Places) (part now : Part) (s : Stage) (t : Qtd) → Alters part now → Leads r x part s t → Leads r x now s t
+pub leads_still : (r : Request) (x : Places) (part now : Structures) (s : Stage) (t : Qtd) → Alters part now → Leads r x part s t → Leads r x now s t
 leads_still r x part now Setup t alters leads = leads
 leads_still r x part now Data t alters leads = leads
 leads_still r x part now Status t alters leads = nowhere_still part now t alters leads
 leads_still r x part now Done t alters leads = nowhere_still part now t alters leads
 leads_still r x part now (Halted cause) t alters leads = nowhere_still part now t alters leads
 
-abbrev pub stage_still : (e : Endpoint) (r : Request) (x : Places) (part now : Part) (s : Stage) (k : IsStage e r x part s) → Alters part now → now (place_at x s) ≡ Some (Element k.qtd) → (HasBytes r part s k.qtd → HasBytes r now s k.qtd) → IsStage e r x now s
+abbrev pub stage_still : (e : Endpoint) (r : Request) (x : Places) (part now : Structures) (s : Stage) (k : IsStage e r x part s) → Alters part now → now (place_at x s) ≡ Some (Element k.qtd) → (HasBytes r part s k.qtd → HasBytes r now s k.qtd) → IsStage e r x now s
 stage_still e r x part now s k alters here bytes = record { qtd = k.qtd; here = here; pid = k.pid; leads = leads_still r x part now s k.qtd alters k.leads; bytes = bytes k.bytes }
 
-pub fresh_still : (e : Endpoint) (r : Request) (x : Places) (part now : Part) (s : Stage) (k : IsFresh e r x part s) → Alters part now → now (place_at x s) ≡ Some (Element k.stage.qtd) → (HasBytes r part s k.stage.qtd → HasBytes r now s k.stage.qtd) → IsFresh e r x now s
+pub fresh_still : (e : Endpoint) (r : Request) (x : Places) (part now : Structures) (s : Stage) (k : IsFresh e r x part s) → Alters part now → now (place_at x s) ≡ Some (Element k.stage.qtd) → (HasBytes r part s k.stage.qtd → HasBytes r now s k.stage.qtd) → IsFresh e r x now s
 fresh_still e r x part now s k alters here bytes = record { stage = stage_still e r x part now s k.stage alters here bytes; begins = k.begins }

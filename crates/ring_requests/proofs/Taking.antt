@@ -6,7 +6,7 @@ use Rattle.link_words.specs.Links.{qtd_link_of}
 use Rattle.qh_qtd.specs.declared.qtd.Qtd.{Qtd}
 use Rattle.qh_qtd.specs.declared.queue_head.Qh.{Qh}
 use Rattle.host_token.specs.HostToken.{host_at}
-use Rattle.lent_structures.specs.Structures.{QueueHead, Element, Buffer, Part, with_structure}
+use Rattle.lent_structures.specs.Structures.{QueueHead, Element, Buffer, Structures, with_structure}
 use Rattle.lent_structures.proofs.Names.{with_there}
 use Rattle.queue_parts.specs.Alters.{Alters}
 use Rattle.queue_parts.specs.Sound.{buffer_name}
@@ -49,8 +49,8 @@ host_taken e q a t is =
 
 -- ---- where only the queue head changes
 
-module _ (part : Part) (n : ℕ) (old new : Qh) (here : part n ≡ Some (QueueHead old)) where
-  abbrev pub now : Part
+module _ (part : Structures) (n : ℕ) (old new : Qh) (here : part n ≡ Some (QueueHead old)) where
+  abbrev pub now : Structures
   now = with_structure part n (QueueHead new)
 
   pub put_alters : Alters part now
@@ -80,7 +80,7 @@ module _ (part : Part) (n : ℕ) (old new : Qh) (here : part n ≡ Some (QueueHe
 
 -- ---- the qTD is taken
 
-module _ (e : Endpoint) (r : Request) (x : Places) (part : Part) (n : ℕ) (q : Qh) (h : Host) (here : part n ≡ Some (QueueHead q)) (is : IsEndpoint e q) (a : ℕ) (t : Qtd) (idle : q.token.active ≡ false) (goes_on : q.token.halted ≡ false) (leads : qtd_link_of (next_pointer q) ≡ To a) (there : part a ≡ Some (Element t)) (published : t.token.active ≡ true) where
+module _ (e : Endpoint) (r : Request) (x : Places) (part : Structures) (n : ℕ) (q : Qh) (h : Host) (here : part n ≡ Some (QueueHead q)) (is : IsEndpoint e q) (a : ℕ) (t : Qtd) (idle : q.token.active ≡ false) (goes_on : q.token.halted ≡ false) (leads : qtd_link_of (next_pointer q) ≡ To a) (there : part a ≡ Some (Element t)) (published : t.token.active ≡ true) where
   abbrev new : Qh
   new = advanced q a t
 

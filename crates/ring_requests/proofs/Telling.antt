@@ -6,7 +6,7 @@ use Rattle.qh_qtd.specs.declared.qtd.Qtd.{Qtd}
 use Rattle.qh_qtd.specs.declared.queue_head.Qh.{Qh}
 use Rattle.toggle_error.specs.declared.host.HostSide.{HostSide}
 use Rattle.walk_copy.specs.Planning.{host_in}
-use Rattle.lent_structures.specs.Structures.{QueueHead, Element, Part, Parts}
+use Rattle.lent_structures.specs.Structures.{QueueHead, Element, Structures, StructureSets}
 use Rattle.lent_structures.proofs.Names.{not_same}
 use Rattle.queue_parts.specs.Sound.{IsWorking, IsSoundQueue, IsMember}
 use Rattle.queue_parts.proofs.Altering.{found_queue, found_element}
@@ -28,7 +28,7 @@ use Rattle.ring_requests.proofs.Moving.{fresh_pending}
 
 -- ---- a window opens
 
-pub laid_opens : (v : Sent) (hand : Hand) (parts : Parts) (n : ℕ) (q : Qh) (c : Stages) (o : Option Device) → IsLaid v hand parts n q → c.max ≡ v.endpoint.max → o ≡ Some (device_of v.endpoint c) → IsWindow v (line_at v.endpoint v.request q.token.ping c) hand parts n o
+pub laid_opens : (v : Sent) (hand : Hand) (parts : StructureSets) (n : ℕ) (q : Qh) (c : Stages) (o : Option Device) → IsLaid v hand parts n q → c.max ≡ v.endpoint.max → o ≡ Some (device_of v.endpoint c) → IsWindow v (line_at v.endpoint v.request q.token.ping c) hand parts n o
 laid_opens v hand parts n q c o k max device = record {
   queue = q;
   head = k.head;
@@ -43,7 +43,7 @@ laid_opens v hand parts n q c o k max device = record {
 -- ---- what memory tells
 
 -- the hand has the transaction of a queue head that is active in memory, or none of it
-either_side : (P : HostSide → Type 0) (member : ℕ → Bool) (hand : Hand) (parts : Parts) (reply : Reply) (n : ℕ) (q : Qh) → IsInHand member parts reply hand → parts n n ≡ Some (QueueHead q) → P (host_in q) → ((s : HostSide) → q.token.active ≡ true → P s) → P (hand_side hand n q)
+either_side : (P : HostSide → Type 0) (member : ℕ → Bool) (hand : Hand) (parts : StructureSets) (reply : Reply) (n : ℕ) (q : Qh) → IsInHand member parts reply hand → parts n n ≡ Some (QueueHead q) → P (host_in q) → ((s : HostSide) → q.token.active ≡ true → P s) → P (hand_side hand n q)
 either_side P member Empty parts reply n q in_hand here as_told settled = as_told
 either_side P member (Copied c) parts reply n q in_hand here as_told settled = as_told
 either_side P member (Stale at old) parts reply n q in_hand here as_told settled = as_told
@@ -54,7 +54,7 @@ either_side P member (Settled c z) parts reply n q in_hand here as_told settled 
     settled (if c.at == n then z.host else host_in q) (ap (λ (x : Qh). x.token.active) (sym is) ∙ in_hand.1.works))
     (λ (differs : c.at ≢ n). subst (λ (b : Bool). P (if b then z.host else host_in q)) (sym (not_same c.at n differs)) as_told) (cases_eq c.at n)
 
-not_pending : (part : Part) (a : ℕ) (t : Qtd) → part a ≡ Some (Element t) → t.token.active ≡ false → IsPending part a → ⊥
+not_pending : (part : Structures) (a : ℕ) (t : Qtd) → part a ≡ Some (Element t) → t.token.active ≡ false → IsPending part a → ⊥
 not_pending part a t here off k = false≢true (sym off ∙ ap (λ (u : Qtd). u.token.active) (found_element (part a) t k.qtd here k.here) ∙ k.published)
 
 status_last : (r : Request) (s : Stage) → is_over s ≡ false → comes r s Status ≡ true
@@ -68,7 +68,7 @@ status_after : (r : Request) (b : Bool) → comes r (if b then Data else Status)
 status_after r true = refl
 status_after r false = refl
 
-module _ (member : ℕ → Bool) (parts : Parts) (hand : Hand) (reply : Reply) (n : ℕ) (m : IsMember member n (parts n)) (in_hand : IsInHand member parts reply hand) (v : Sent) (k : HasEnded v parts n) (h : Host) where
+module _ (member : ℕ → Bool) (parts : StructureSets) (hand : Hand) (reply : Reply) (n : ℕ) (m : IsMember member n (parts n)) (in_hand : IsInHand member parts reply hand) (v : Sent) (k : HasEnded v parts n) (h : Host) where
   working : (q : Qh) → q ≡ k.queue → q.token.active ≡ true → IsPending (parts n) q.current
   working q same on =
       let is : m.queue ≡ q = found_queue (parts n n) m.queue k.queue m.here k.head ∙ sym same in
@@ -98,7 +98,7 @@ module _ (member : ℕ → Bool) (parts : Parts) (hand : Hand) (reply : Reply) (
   stage_done (ends w) = w.done
   stage_done (halts w) = absurd (none_pending (w.pending (halted_side w.halted)))
 
-pub ended_once : (member : ℕ → Bool) (parts : Parts) (hand : Hand) (reply : Reply) (n : ℕ) (v : Sent) (l : Line) (o : Option Device) → IsMember member n (parts n) → IsInHand member parts reply hand → IsWindow v l hand parts n o → HasEnded v parts n → IsActedOnce v l hand parts n
+pub ended_once : (member : ℕ → Bool) (parts : StructureSets) (hand : Hand) (reply : Reply) (n : ℕ) (v : Sent) (l : Line) (o : Option Device) → IsMember member n (parts n) → IsInHand member parts reply hand → IsWindow v l hand parts n o → HasEnded v parts n → IsActedOnce v l hand parts n
 ended_once member parts hand reply n v l o m in_hand w k =
     let same : w.queue ≡ k.queue = found_queue (parts n n) w.queue k.queue w.head k.head in
     let done : l.host.stage ≡ Done = stage_done member parts hand reply n m in_hand v k l.host (subst (λ (q : Qh). Shows v.endpoint v.request v.places (parts n) (hand_side hand n q) q l.host) same w.shown) in

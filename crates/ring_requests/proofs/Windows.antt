@@ -6,15 +6,15 @@ use Rattle.usb_base.specs.declared.packets.Reply.{Reply}
 use Rattle.qh_qtd.specs.declared.qtd.Qtd.{Qtd}
 use Rattle.qh_qtd.specs.declared.queue_head.Qh.{Qh}
 use Rattle.toggle_error.specs.declared.host.HostSide.{HostSide}
-use Rattle.walk_copy.specs.Overlay.{advanced, place_of}
+use Rattle.walk_copy.specs.Overlay.{advanced, buffer_place}
 use Rattle.walk_copy.specs.Planning.{pid_at, host_in}
 use Rattle.walk_copy.specs.Transacting.{call_in}
 use Rattle.async_walk.specs.declared.state.WalkStep.{WalkStep}
 use Rattle.async_walk.specs.Naks.{kind_at, planned}
-use Rattle.async_walk.specs.Rows.{Place, at_event, event_row, step_of, Leads}
+use Rattle.async_walk.specs.Rows.{WalkPlace, at_event, event_row, step_of, Leads}
 use Rattle.settle_laws.specs.Settles.{Settles}
 use Rattle.settle_laws.proofs.Settling.{settles}
-use Rattle.lent_structures.specs.Structures.{QueueHead, Element, Part, Parts, with_structure}
+use Rattle.lent_structures.specs.Structures.{QueueHead, Element, Structures, StructureSets, with_structure}
 use Rattle.lent_structures.proofs.Names.{not_same, put_here, put_beside, with_here}
 use Rattle.write_back_laws.proofs.Found.{back_beside}
 use Rattle.queue_parts.specs.Sound.{IsWorking, IsSoundQueue, IsMember}
@@ -68,13 +68,13 @@ side_beside hand c z n q is differs = ap (λ (h : Hand). hand_side h n q) is ∙
 
 -- ---- a window that goes on as it was
 
-window_same : (v : Sent) (l : Line) (hand later : Hand) (parts now : Parts) (n : ℕ) (o : Option Device) → now n ≡ parts n → ((q : Qh) → hand_side later n q ≡ hand_side hand n q)
+window_same : (v : Sent) (l : Line) (hand later : Hand) (parts now : StructureSets) (n : ℕ) (o : Option Device) → now n ≡ parts n → ((q : Qh) → hand_side later n q ≡ hand_side hand n q)
     → ((xs : List ℕ) → Told hand parts n v.places.data_at xs → Told later now n v.places.data_at xs) → IsWindow v l hand parts n o → IsWindow v l later now n o
 window_same v l hand later parts now n o same sides told w = record {
   queue = w.queue;
-  head = ap (λ (part : Part). part n) same ∙ w.head;
+  head = ap (λ (part : Structures). part n) same ∙ w.head;
   control = w.control;
-  shown = subst (λ (part : Part). Shows v.endpoint v.request v.places part (hand_side later n w.queue) w.queue l.host) (sym same)
+  shown = subst (λ (part : Structures). Shows v.endpoint v.request v.places part (hand_side later n w.queue) w.queue l.host) (sym same)
       (subst (λ (s : HostSide). Shows v.endpoint v.request v.places (parts n) s w.queue l.host) (sym (sides w.queue)) w.shown);
   moved = λ some. told l.host.moved (w.moved some);
   device = w.device;
@@ -82,7 +82,7 @@ window_same v l hand later parts now n o same sides told w = record {
 }
 
 -- a window whose queue head is written
-window_at : (v : Sent) (l : Line) (hand later : Hand) (parts now : Parts) (n : ℕ) (o : Option Device) (new : Qh) (side : HostSide) → now n n ≡ Some (QueueHead new) → IsEndpoint v.endpoint new → hand_side later n new ≡ side
+window_at : (v : Sent) (l : Line) (hand later : Hand) (parts now : StructureSets) (n : ℕ) (o : Option Device) (new : Qh) (side : HostSide) → now n n ≡ Some (QueueHead new) → IsEndpoint v.endpoint new → hand_side later n new ≡ side
     → Shows v.endpoint v.request v.places (now n) side new l.host → ((xs : List ℕ) → Told hand parts n v.places.data_at xs → Told later now n v.places.data_at xs) → IsWindow v l hand parts n o → IsWindow v l later now n o
 window_at v l hand later parts now n o new side head control sides shown told w = record {
   queue = new;
@@ -94,16 +94,16 @@ window_at v l hand later parts now n o new side head control sides shown told w 
   stands = w.stands;
 }
 
-elsewhere_still : (windows : ℕ → Bool) (sent : ℕ → Sent) (hand later : Hand) (parts now : Parts) (n : ℕ) → SameTold hand parts later now → IsElsewhere windows sent parts n → IsElsewhere windows sent now n
+elsewhere_still : (windows : ℕ → Bool) (sent : ℕ → Sent) (hand later : Hand) (parts now : StructureSets) (n : ℕ) → SameTold hand parts later now → IsElsewhere windows sent parts n → IsElsewhere windows sent now n
 elsewhere_still windows sent hand later parts now n same w = record { own = w.own; has = same.endpoint n w.own w.has; other = w.other }
 
-works_only : (e : Endpoint) (r : Request) (x : Places) (part : Part) (side : HostSide) (q : Qh) (h : Host) → side.active ≡ true → Shows e r x part side q h → Works e r x part side q h
+works_only : (e : Endpoint) (r : Request) (x : Places) (part : Structures) (side : HostSide) (q : Qh) (h : Host) → side.active ≡ true → Shows e r x part side q h → Works e r x part side q h
 works_only e r x part side q h on (works w) = w
 works_only e r x part side q h on (waits w) = absurd (false≢true (sym w.idle ∙ on))
 works_only e r x part side q h on (ends w) = absurd (false≢true (sym w.idle ∙ on))
 works_only e r x part side q h on (halts w) = absurd (false≢true (sym w.idle ∙ on))
 
-module _ {W : Type 0} (transacts : W → Ask → List ℕ → Reply → W → Type 0) (device : W → ℕ → ℕ → Option Device) (bus : IsControlBus transacts device) (member windows : ℕ → Bool) (sent : ℕ → Sent) (fixed : AreSent member windows sent) (lines : ℕ → Line) (parts : Parts) (hand : Hand) (reply : Reply) (wire : W) (members : AreMembers member parts) (in_hand : IsInHand member parts reply hand) (all : AreWindows device member windows sent lines parts hand wire) (after : W) (now : Parts) (later : Hand) (kind : WalkStep) where
+module _ {W : Type 0} (transacts : W → Ask → List ℕ → Reply → W → Type 0) (device : W → ℕ → ℕ → Option Device) (bus : IsControlBus transacts device) (member windows : ℕ → Bool) (sent : ℕ → Sent) (fixed : AreSent member windows sent) (lines : ℕ → Line) (parts : StructureSets) (hand : Hand) (reply : Reply) (wire : W) (members : AreMembers member parts) (in_hand : IsInHand member parts reply hand) (all : AreWindows device member windows sent lines parts hand wire) (after : W) (now : StructureSets) (later : Hand) (kind : WalkStep) where
   abbrev device_at : W → ℕ → Option Device
   device_at w n = device w (sent n).endpoint.addr (sent n).endpoint.num
 
@@ -124,7 +124,7 @@ module _ {W : Type 0} (transacts : W → Ask → List ℕ → Reply → W → Ty
   all_kept : now ≡ parts → IsUnsettled hand → IsUnsettled later → after ≡ wire → AreWindows device member windows sent (stepped sent None lines) now later after
   all_kept same before un quiet =
       let told : SameTold hand parts later now = same_kept hand later parts now same before un in
-      kept told quiet (λ n on. window_same (sent n) (lines n) hand later parts now n (device_at wire n) (ap (λ (ps : Parts). ps n) same) (λ q. side_unsettled later n q un ∙ sym (side_unsettled hand n q before)) (told.bytes n (sent n).places.data_at))
+      kept told quiet (λ n on. window_same (sent n) (lines n) hand later parts now n (device_at wire n) (ap (λ (ps : StructureSets). ps n) same) (λ q. side_unsettled later n q un ∙ sym (side_unsettled hand n q before)) (told.bytes n (sent n).places.data_at))
 
   -- ---- a qTD is taken
 
@@ -142,7 +142,7 @@ module _ {W : Type 0} (transacts : W → Ask → List ℕ → Reply → W → Ty
     told = taking_tells_the_same parts hand now later k copied.here
 
     at_is : now k.copy.at ≡ with_structure (parts k.copy.at) k.copy.at (QueueHead new)
-    at_is = ap (λ (ps : Parts). ps k.copy.at) k.now_is ∙ put_here parts k.copy.at k.copy.at (QueueHead new)
+    at_is = ap (λ (ps : StructureSets). ps k.copy.at) k.now_is ∙ put_here parts k.copy.at k.copy.at (QueueHead new)
 
     taken_window : (n : ℕ) → n ≡ k.copy.at → IsWindow (sent n) (lines n) hand parts n (device_at wire n) → IsWindow (sent n) (lines n) later now n (device_at wire n)
     taken_window n at w =
@@ -155,9 +155,9 @@ module _ {W : Type 0} (transacts : W → Ask → List ℕ → Reply → W → Ty
         (subst (λ (s : HostSide). Shows v.endpoint v.request v.places (parts n) s w.queue (lines n).host) (side_unsettled hand n w.queue before) w.shown) in
         let there : parts n k.element ≡ Some (Element k.qtd) = ap (λ (i : ℕ). parts i k.element) at ∙ k.here in
         let whole : now n ≡ with_structure (parts n) n (QueueHead new) = subst (λ (i : ℕ). now i ≡ with_structure (parts i) i (QueueHead new)) (sym at) at_is in
-        window_at v (lines n) hand later parts now n (device_at wire n) new (host_in new) (ap (λ (part : Part). part n) whole ∙ with_here (parts n) n (QueueHead new))
+        window_at v (lines n) hand later parts now n (device_at wire n) new (host_in new) (ap (λ (part : Structures). part n) whole ∙ with_here (parts n) n (QueueHead new))
         (endpoint_taken v.endpoint k.copy.queue k.element k.qtd control) (side_unsettled later n new un)
-        (subst (λ (part : Part). Shows v.endpoint v.request v.places part (host_in new) new (lines n).host) (sym whole)
+        (subst (λ (part : Structures). Shows v.endpoint v.request v.places part (host_in new) new (lines n).host) (sym whole)
         (taken_shows v.endpoint v.request v.places (parts n) n k.copy.queue (lines n).host here control k.element k.qtd k.idle k.goes_on k.leads there k.published shown))
         (told.bytes n v.places.data_at) w
 
@@ -166,7 +166,7 @@ module _ {W : Type 0} (transacts : W → Ask → List ℕ → Reply → W → Ty
         kept told quiet (λ n on w.
         ⊎_elim {C = IsWindow (sent n) (lines n) later now n (device_at wire n)} (λ (at : n ≡ k.copy.at). taken_window n at w)
         (λ (differs : n ≢ k.copy.at).
-        window_same (sent n) (lines n) hand later parts now n (device_at wire n) (ap (λ (ps : Parts). ps n) k.now_is ∙ put_beside parts k.copy.at k.copy.at (QueueHead new) n differs)
+        window_same (sent n) (lines n) hand later parts now n (device_at wire n) (ap (λ (ps : StructureSets). ps n) k.now_is ∙ put_beside parts k.copy.at k.copy.at (QueueHead new) n differs)
         (λ q. side_unsettled later n q un ∙ sym (side_unsettled hand n q before)) (told.bytes n (sent n).places.data_at) w) (cases_eq n k.copy.at))
 
   -- ---- a transaction is written back
@@ -205,7 +205,7 @@ module _ {W : Type 0} (transacts : W → Ask → List ℕ → Reply → W → Ty
         (λ (at : n ≡ k.copy.at). subst (λ (i : ℕ). windows i ≡ true → IsWindow (sent i) (lines i) hand parts i (device_at wire i) → IsWindow (sent i) (lines i) later now i (device_at wire i)) (sym at) back_window on w)
         (λ (differs : n ≢ k.copy.at).
         window_same (sent n) (lines n) hand later parts now n (device_at wire n)
-        (ap (λ (ps : Parts). ps n) k.now_is ∙ back_beside parts k.copy.at k.copy.at k.copy.queue (settled_queue_of k.copy k.settled) _ k.settled.got (received_into (parts k.copy.at) k.copy.queue k.element k.settled.got) k.element n differs)
+        (ap (λ (ps : StructureSets). ps n) k.now_is ∙ back_beside parts k.copy.at k.copy.at k.copy.queue (settled_queue_of k.copy k.settled) _ k.settled.got (received_into (parts k.copy.at) k.copy.queue k.element k.settled.got) k.element n differs)
         (λ q. side_unsettled later n q no_hand ∙ sym (side_beside hand k.copy k.settled n q k.in_hand (λ is. differs (sym is)))) (told_back.bytes n (sent n).places.data_at) w) (cases_eq n k.copy.at))
 
   -- ---- a transaction is made
@@ -232,12 +232,12 @@ module _ {W : Type 0} (transacts : W → Ask → List ℕ → Reply → W → Ty
         let kept_device : device_at after n ≡ Some (device_of (sent n).endpoint (lines n).device) =
         bus.others wire asked (call_in (planned m.copy.queue) m.out false).out m.reply after (sent n).endpoint.addr (sent n).endpoint.num (device_of (sent n).endpoint (lines n).device) m.made w.device not_asked in
         subst (λ (o : Option Device). IsWindow (sent n) (lines n) later now n o) (w.device ∙ sym kept_device)
-        (window_same (sent n) (lines n) hand later parts now n (device_at wire n) (ap (λ (ps : Parts). ps n) same)
+        (window_same (sent n) (lines n) hand later parts now n (device_at wire n) (ap (λ (ps : StructureSets). ps n) same)
         (λ q. side_beside later (counted m.copy m.out m.reply) made n q m.later_is (λ is. differs (sym is)) ∙ sym (side_unsettled hand n q unmade))
-        (λ xs told. subst (λ (ps : Parts). Told later ps n (sent n).places.data_at xs) (sym same) (grows.other_bytes n (sent n).places.data_at xs (λ both. differs both.0) told)) w)
+        (λ xs told. subst (λ (ps : StructureSets). Told later ps n (sent n).places.data_at xs) (sym same) (grows.other_bytes n (sent n).places.data_at xs (λ both. differs both.0) told)) w)
 
     elsewhere_made : (n : ℕ) → IsElsewhere windows sent parts n → IsElsewhere windows sent now n
-    elsewhere_made n w = subst (λ (ps : Parts). IsElsewhere windows sent ps n) (sym same) w
+    elsewhere_made n w = subst (λ (ps : StructureSets). IsElsewhere windows sent ps n) (sym same) w
 
     -- another endpoint was asked
     other_all : windows at ≡ false → AreWindows device member windows sent (stepped sent None lines) now later after
@@ -267,7 +267,7 @@ module _ {W : Type 0} (transacts : W → Ask → List ℕ → Reply → W → Ty
       line = lines m.copy.at
 
       abbrev source : List ℕ
-      source = drop (place_of m.copy.queue - m.sent.element.offset) (buffer_of (parts m.copy.at) m.sent.element)
+      source = drop (buffer_place m.copy.queue - m.sent.element.offset) (buffer_of (parts m.copy.at) m.sent.element)
 
       window : IsWindow (sent m.copy.at) (lines m.copy.at) hand parts m.copy.at (device_at wire m.copy.at)
       window = all.each m.copy.at on
@@ -345,13 +345,13 @@ module _ {W : Type 0} (transacts : W → Ask → List ℕ → Reply → W → Ty
       window_now : IsWindow (sent m.copy.at) (transacted (sent m.copy.at).endpoint (sent m.copy.at).request turn.losses (lines m.copy.at)) later now m.copy.at (device_at after m.copy.at)
       window_now = record {
         queue = q;
-        head = ap (λ (ps : Parts). ps at at) same ∙ copied.here;
+        head = ap (λ (ps : StructureSets). ps at at) same ∙ copied.here;
         control = control;
-        shown = subst (λ (part : Part). Shows v.endpoint v.request v.places part (hand_side later at q) q (transacted v.endpoint v.request turn.losses line).host) (sym (ap (λ (ps : Parts). ps at) same))
+        shown = subst (λ (part : Structures). Shows v.endpoint v.request v.places part (hand_side later at q) q (transacted v.endpoint v.request turn.losses line).host) (sym (ap (λ (ps : StructureSets). ps at) same))
             (subst (λ (s : HostSide). Shows v.endpoint v.request v.places (parts at) s q (transacted v.endpoint v.request turn.losses line).host) (sym (side_here later (counted m.copy m.out m.reply) made q m.later_is))
             (subst (λ (h : Host). Shows v.endpoint v.request v.places (parts at) made.host q h) (sym turn.host) shown_now));
         moved = λ some.
-            subst (λ (ps : Parts). Told later ps at v.places.data_at (transacted v.endpoint v.request turn.losses line).host.moved) (sym same)
+            subst (λ (ps : StructureSets). Told later ps at v.places.data_at (transacted v.endpoint v.request turn.losses line).host.moved) (sym same)
             (subst (λ (h : Host). Told later parts at v.places.data_at h.moved) (sym turn.host) (told_at line.host.stage refl (window.moved some)));
         device = turn.device;
         stands = keeps v.endpoint v.request turn.losses line (fixed.requests at on) window.stands;
@@ -393,7 +393,7 @@ module _ {W : Type 0} (transacts : W → Ask → List ℕ → Reply → W → Ty
 -- ---- an event
 
 module _ {W : Type 0} (transacts : W → Ask → List ℕ → Reply → W → Type 0) (device : W → ℕ → ℕ → Option Device) (bus : IsControlBus transacts device) (member windows : ℕ → Bool) (sent : ℕ → Sent) (fixed : AreSent member windows sent) (lines : ℕ → Line) where
-  pub rest_by : (parts : Parts) (hand : Hand) (reply : Reply) (wire : W) (members : AreMembers member parts) (in_hand : IsInHand member parts reply hand) (all : AreWindows device member windows sent lines parts hand wire) (after : W) (now : Parts) (later : Hand) (kind : WalkStep) (effect : Effect transacts parts hand wire after now later kind)
+  pub rest_by : (parts : StructureSets) (hand : Hand) (reply : Reply) (wire : W) (members : AreMembers member parts) (in_hand : IsInHand member parts reply hand) (all : AreWindows device member windows sent lines parts hand wire) (after : W) (now : StructureSets) (later : Hand) (kind : WalkStep) (effect : Effect transacts parts hand wire after now later kind)
       → Rest transacts device bus member windows sent fixed lines parts hand reply wire members in_hand all after now later kind effect
   rest_by parts hand reply wire members in_hand all after now later kind (reads k same quiet) = record {
     step = None;
@@ -431,7 +431,7 @@ module _ {W : Type 0} (transacts : W → Ask → List ℕ → Reply → W → Ty
         is = refl;
       }
 
-pub event_windows : {W : Type 0} (transacts : W → Ask → List ℕ → Reply → W → Type 0) (device : W → ℕ → ℕ → Option Device) (base : Base) (member windows : ℕ → Bool) (sent : ℕ → Sent) (lines : ℕ → Line) (parts : Parts) (hand : Hand) (p : Place) (wire : W) (new : Place) (after : W)
+pub event_windows : {W : Type 0} (transacts : W → Ask → List ℕ → Reply → W → Type 0) (device : W → ℕ → ℕ → Option Device) (base : Base) (member windows : ℕ → Bool) (sent : ℕ → Sent) (lines : ℕ → Line) (parts : StructureSets) (hand : Hand) (p : WalkPlace) (wire : W) (new : WalkPlace) (after : W)
     → AreSent member windows sent → IsControlBus transacts device → IsRing base member parts hand p → AreWindows device member windows sent lines parts hand wire
     → AreBytesHeard transacts wire after → Leads transacts (event_row p) (at_event p) wire new after
     → WindowsGoOn transacts device base member windows sent lines parts hand wire after new (step_of (event_row p) (at_event p))
@@ -440,10 +440,10 @@ event_windows transacts device base member windows sent lines parts hand p wire 
     let r = rest_by transacts device bus member windows sent fixed lines parts hand p.walk.reply wire ring.members ring.in_hand all after h.now h.later (step_of (event_row p) (at_event p)) h.effect in
     record { event = h; step = r.step; all = r.windows_are; is = r.is }
 
-pub window_right : {W : Type 0} (device : W → ℕ → ℕ → Option Device) (member windows : ℕ → Bool) (sent : ℕ → Sent) (lines : ℕ → Line) (parts : Parts) (hand : Hand) (wire : W) (n : ℕ) → AreWindows device member windows sent lines parts hand wire → windows n ≡ true → IsRight (sent n).endpoint (sent n).request (lines n)
+pub window_right : {W : Type 0} (device : W → ℕ → ℕ → Option Device) (member windows : ℕ → Bool) (sent : ℕ → Sent) (lines : ℕ → Line) (parts : StructureSets) (hand : Hand) (wire : W) (n : ℕ) → AreWindows device member windows sent lines parts hand wire → windows n ≡ true → IsRight (sent n).endpoint (sent n).request (lines n)
 window_right device member windows sent lines parts hand wire n all on = right (sent n).endpoint (sent n).request (lines n) (all.each n on).stands
 
-pub window_ended : {W : Type 0} (device : W → ℕ → ℕ → Option Device) (base : Base) (member windows : ℕ → Bool) (sent : ℕ → Sent) (lines : ℕ → Line) (parts : Parts) (hand : Hand) (p : Place) (wire : W) (n : ℕ) → AreSent member windows sent → IsRing base member parts hand p
+pub window_ended : {W : Type 0} (device : W → ℕ → ℕ → Option Device) (base : Base) (member windows : ℕ → Bool) (sent : ℕ → Sent) (lines : ℕ → Line) (parts : StructureSets) (hand : Hand) (p : WalkPlace) (wire : W) (n : ℕ) → AreSent member windows sent → IsRing base member parts hand p
     → AreWindows device member windows sent lines parts hand wire → windows n ≡ true → HasEnded (sent n) parts n → IsActedOnce (sent n) (lines n) hand parts n
 window_ended device base member windows sent lines parts hand p wire n fixed ring all on ended =
     ended_once member parts hand p.walk.reply n (sent n) (lines n) (device wire (sent n).endpoint.addr (sent n).endpoint.num) (ring.members n (fixed.members n on)) ring.in_hand (all.each n on) ended

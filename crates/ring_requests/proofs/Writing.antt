@@ -6,7 +6,7 @@ use Rattle.usb_base.specs.declared.packets.Reply.{Reply}
 use Rattle.link_words.specs.Links.{qtd_link_of}
 use Rattle.qh_qtd.specs.declared.qtd.Qtd.{Qtd}
 use Rattle.qh_qtd.specs.declared.queue_head.Qh.{Qh}
-use Rattle.lent_structures.specs.Structures.{QueueHead, Element, Buffer, Part, Parts}
+use Rattle.lent_structures.specs.Structures.{QueueHead, Element, Buffer, Structures, StructureSets}
 use Rattle.walk_copy.specs.Overlay.{settled_queue, moved}
 use Rattle.walk_copy.specs.Planning.{pid_at, host_in}
 use Rattle.walk_copy.specs.WriteBack.{moved_by}
@@ -41,26 +41,26 @@ active_back : (c : Copy) (z : Settlement) → (moved (settled_queue_of c z) (mov
 unfolding moved settled_queue
 active_back c z = refl
 
-not_into_none : (part : Part) (q : Qh) (t : Qtd) (got : List ℕ) (b : ℕ) → got ≡ [] → IsNotInto (received_into part q t got) b
+not_into_none : (part : Structures) (q : Qh) (t : Qtd) (got : List ℕ) (b : ℕ) → got ≡ [] → IsNotInto (received_into part q t got) b
 not_into_none part q t got b none = subst (λ (bs : List ℕ). IsNotInto (received_into part q t bs) b) (sym none) tt
 
 -- another qTD has another buffer
-not_into_other : (part : Part) (q c : Qh) (t : Qtd) (got : List ℕ) (a e : ℕ) (u : Qtd) → AreOwn part → IsReceived part c got (received_into part q t got) → part a ≡ Some (Element t) → part e ≡ Some (Element u) → e ≢ a → IsNotInto (received_into part q t got) (buffer_name u)
+not_into_other : (part : Structures) (q c : Qh) (t : Qtd) (got : List ℕ) (a e : ℕ) (u : Qtd) → AreOwn part → IsReceived part c got (received_into part q t got) → part a ≡ Some (Element t) → part e ≡ Some (Element u) → e ≢ a → IsNotInto (received_into part q t got) (buffer_name u)
 not_into_other part q c t [] a e u own is current other differs = tt
 not_into_other part q c t (b ∷ bs) a e u own is current other differs = λ same.
     differs (own e a u t (element_pages t) t.offset (buffer_of part t) other current same (ap part same ∙ is.buffer))
 
-module _ (e : Endpoint) (r : Request) (x : Places) (apart : AreApart x) (member : ℕ → Bool) (parts : Parts) (hand : Hand) (now : Parts) (later : Hand) (k : WritesBack parts hand now later) (reply : Reply) (copied : IsCopied member parts k.copy) (settled : IsSettled k.copy.queue reply k.settled) (own : AreOwn (parts k.copy.at)) (alters : Alters (parts k.copy.at) (now k.copy.at)) (h : Host) where
+module _ (e : Endpoint) (r : Request) (x : Places) (apart : AreApart x) (member : ℕ → Bool) (parts : StructureSets) (hand : Hand) (now : StructureSets) (later : Hand) (k : WritesBack parts hand now later) (reply : Reply) (copied : IsCopied member parts k.copy) (settled : IsSettled k.copy.queue reply k.settled) (own : AreOwn (parts k.copy.at)) (alters : Alters (parts k.copy.at) (now k.copy.at)) (h : Host) where
   abbrev owner : ℕ
   owner = k.copy.at
 
   abbrev q : Qh
   q = k.copy.queue
 
-  abbrev part : Part
+  abbrev part : Structures
   part = parts k.copy.at
 
-  abbrev later_part : Part
+  abbrev later_part : Structures
   later_part = now k.copy.at
 
   abbrev new : Qh
@@ -80,7 +80,7 @@ module _ (e : Endpoint) (r : Request) (x : Places) (apart : AreApart x) (member 
   }
 
   pub head_now : now k.copy.at k.copy.at ≡ Some (QueueHead (queue_written k.copy k.settled))
-  head_now = ap (λ (ps : Parts). ps owner owner) k.now_is ∙ back_head parts owner owner q copy_queue (moved_by k.settled.outcome) k.settled.got into k.element can
+  head_now = ap (λ (ps : StructureSets). ps owner owner) k.now_is ∙ back_head parts owner owner q copy_queue (moved_by k.settled.outcome) k.settled.got into k.element can
 
   pub host_now : host_in (queue_written k.copy k.settled) ≡ k.settled.host
   host_now = host_back k.copy k.settled settled.host.packets
@@ -88,12 +88,12 @@ module _ (e : Endpoint) (r : Request) (x : Places) (apart : AreApart x) (member 
   -- another qTD with its buffer
   other_there : (a : ℕ) (t : Qtd) → a ≢ q.current → part a ≡ Some (Element t) → later_part a ≡ Some (Element t)
   other_there a t differs there =
-      ap (λ (ps : Parts). ps owner a) k.now_is
+      ap (λ (ps : StructureSets). ps owner a) k.now_is
       ∙ back_other_element parts owner owner q copy_queue (moved_by k.settled.outcome) k.settled.got into k.element a t can there (λ is. differs (is ∙ (settled_copy k.copy k.settled).current))
 
   buffer_there : (b : ℕ) (pages : List ℕ) (i : ℕ) (bs : List ℕ) → IsNotInto into b → part b ≡ Some (Buffer pages i bs) → later_part b ≡ Some (Buffer pages i bs)
   buffer_there b pages i bs other there =
-      ap (λ (ps : Parts). ps owner b) k.now_is
+      ap (λ (ps : StructureSets). ps owner b) k.now_is
       ∙ back_other_buffer parts owner owner q copy_queue (moved_by k.settled.outcome) k.settled.got into k.element b pages i bs can there other
 
   bytes_there : (s : Stage) (t : Qtd) → IsNotInto into (buffer_name t) → HasBytes r part s t → HasBytes r later_part s t
@@ -111,7 +111,7 @@ module _ (e : Endpoint) (r : Request) (x : Places) (apart : AreApart x) (member 
   -- the qTD that goes on
   current_there : k.settled.host.active ≡ true → later_part q.current ≡ Some (Element k.element)
   current_there on =
-      ap (λ (ps : Parts). ps owner q.current) k.now_is
+      ap (λ (ps : StructureSets). ps owner q.current) k.now_is
       ∙ ap (parts_back parts owner owner q copy_queue (moved_by k.settled.outcome) k.settled.got into k.element owner) (sym (settled_copy k.copy k.settled).current)
       ∙ back_element parts owner owner q copy_queue (moved_by k.settled.outcome) k.settled.got into k.element
       ∙ ap (λ (b : Bool). Some (Element (if b then k.element else record k.element { token = (moved copy_queue (moved_by k.settled.outcome)).token }))) (active_back k.copy k.settled ∙ on)

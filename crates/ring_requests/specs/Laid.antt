@@ -13,7 +13,7 @@ use Rattle.link_words.specs.Links.{qtd_link_of}
 use Rattle.qh_qtd.specs.declared.qtd.Qtd.{Qtd}
 use Rattle.control_stages.specs.Stages.{is_read}
 use Rattle.host_token.specs.HostToken.{host_at}
-use Rattle.lent_structures.specs.Structures.{Element, Buffer, Part}
+use Rattle.lent_structures.specs.Structures.{Element, Buffer, Structures}
 use Rattle.queue_parts.specs.Sound.{element_pages, buffer_name}
 use Rattle.report_streams.specs.Requests.{Request}
 use Rattle.request_windows.specs.Host.{Endpoint, Stage, Setup, Data, Status, has_data, token_at, side_at, next_stage}
@@ -50,31 +50,31 @@ pub record LeadTo (t : Qtd) (a : ℕ) : Type 0 where
   pub next : qtd_link_of t.next ≡ To a
   pub alternate : (t.alternate.t ≡ true) ⊎ (qtd_link_of t.alternate ≡ To a)
 
-abbrev pub IsUnpublished : Part → ShortLink → Type 0
+abbrev pub IsUnpublished : Structures → ShortLink → Type 0
 IsUnpublished part link = (a : ℕ) (t : Qtd) → qtd_link_of link ≡ To a → part a ≡ Some (Element t) → t.token.active ≡ false
 
-pub record LeadNowhere (part : Part) (t : Qtd) : Type 0 where
+pub record LeadNowhere (part : Structures) (t : Qtd) : Type 0 where
   pub next : IsUnpublished part t.next
   pub alternate : (t.alternate.t ≡ true) ⊎ IsUnpublished part t.alternate
 
-abbrev pub Leads : Request → Places → Part → Stage → Qtd → Type 0
+abbrev pub Leads : Request → Places → Structures → Stage → Qtd → Type 0
 Leads r x part Setup t = LeadTo t (place_at x (next_stage r Setup))
 Leads r x part Data t = LeadTo t x.status
 Leads r x part _ t = LeadNowhere part t
 
 -- ---- bytes
 
-abbrev pub IsBuffer : Part → Qtd → List ℕ → Type 0
+abbrev pub IsBuffer : Structures → Qtd → List ℕ → Type 0
 IsBuffer part t bytes = part (buffer_name t) ≡ Some (Buffer (element_pages t) t.offset bytes)
 
-abbrev pub HasBytes : Request → Part → Stage → Qtd → Type 0
+abbrev pub HasBytes : Request → Structures → Stage → Qtd → Type 0
 HasBytes r part Setup t = IsBuffer part t r.setup
 HasBytes r part Data t = is_read r.setup ≡ false → IsBuffer part t r.bytes
 HasBytes r part _ t = Unit {0}
 
 -- ---- the qTD of a stage
 
-pub record IsStage (e : Endpoint) (r : Request) (x : Places) (part : Part) (s : Stage) : Type 0 where
+pub record IsStage (e : Endpoint) (r : Request) (x : Places) (part : Structures) (s : Stage) : Type 0 where
   pub qtd : Qtd
   pub here : part (place_at x s) ≡ Some (Element qtd)
   pub pid : pid_at qtd.token.pid ≡ token_at r s
@@ -82,6 +82,6 @@ pub record IsStage (e : Endpoint) (r : Request) (x : Places) (part : Part) (s : 
   pub bytes : HasBytes r part s qtd
 
 -- the ping state is that of the queue head
-pub record IsFresh (e : Endpoint) (r : Request) (x : Places) (part : Part) (s : Stage) : Type 0 where
+pub record IsFresh (e : Endpoint) (r : Request) (x : Places) (part : Structures) (s : Stage) : Type 0 where
   pub stage : IsStage e r x part s
   pub begins : (ping : Bool) → host_at (record stage.qtd.token { ping = ping }) e.max ≡ side_at r e.max ping s

@@ -9,7 +9,7 @@ use Rattle.link_words.specs.declared.fields.ShortLink.{ShortLink}
 use Rattle.qh_qtd.specs.Blank.{blank_token, blank_qtd, blank_head}
 use Rattle.qh_qtd.specs.declared.qtd.Qtd.{Qtd}
 use Rattle.qh_qtd.specs.declared.queue_head.Qh.{Qh}
-use Rattle.lent_structures.specs.Structures.{QueueHead, Element, Buffer, Parts, put}
+use Rattle.lent_structures.specs.Structures.{QueueHead, Element, Buffer, StructureSets, put}
 use Rattle.request_windows.specs.Samples.{described, get_device}
 use Rattle.ring_requests.specs.Windows.{Sent}
 
@@ -44,13 +44,13 @@ status = record blank_qtd { token = record blank_token { active = true; cerr = 3
 abbrev pub pages_at : ℕ → List ℕ
 pages_at page = page ∷ 0 ∷ 0 ∷ 0 ∷ 0 ∷ []
 
-abbrev pub nothing : Parts
+abbrev pub nothing : StructureSets
 nothing n a = None
 
-abbrev pub qtds : Parts
+abbrev pub qtds : StructureSets
 qtds = put (put (put (put nothing 32 32 (QueueHead queue)) 32 64 (Element setup)) 32 96 (Element read)) 32 128 (Element status)
 
-abbrev pub parts : Parts
+abbrev pub parts : StructureSets
 parts = put (put qtds 32 0 (Buffer (pages_at 0) 0 get_device.setup)) 32 4096 (Buffer (pages_at 4096) 0 (replicate 18 0))
 
 abbrev pub request : Sent

@@ -14,7 +14,7 @@ use Rattle.link_words.specs.Links.{qtd_link_of}
 use Rattle.qh_qtd.specs.declared.qtd.Qtd.{Qtd}
 use Rattle.qh_qtd.specs.declared.queue_head.Qh.{Qh}
 use Rattle.toggle_error.specs.declared.host.HostSide.{HostSide}
-use Rattle.lent_structures.specs.Structures.{Element, Part}
+use Rattle.lent_structures.specs.Structures.{Element, Structures}
 use Rattle.walk_copy.specs.Planning.{host_in}
 use Rattle.report_streams.specs.Requests.{Request}
 use Rattle.request_windows.specs.Host.{Endpoint, Host, Stage, Done, Halted, is_over, side_at, next_stage}
@@ -31,10 +31,10 @@ hand_side (Stale at old) n q = host_in q
 abbrev pub pointer_at : ℕ → Qh → ShortLink
 pointer_at left q = if not (left == 0) && not q.alternate.t then q.alternate else q.next
 
-abbrev pub AreFresh : Endpoint → Request → Places → Part → Stage → Type 0
+abbrev pub AreFresh : Endpoint → Request → Places → Structures → Stage → Type 0
 AreFresh e r x part from = (s : Stage) → comes r from s ≡ true → IsFresh e r x part s
 
-pub record Works (e : Endpoint) (r : Request) (x : Places) (part : Part) (side : HostSide) (q : Qh) (h : Host) : Type 0 where
+pub record Works (e : Endpoint) (r : Request) (x : Places) (part : Structures) (side : HostSide) (q : Qh) (h : Host) : Type 0 where
   pub goes_on : is_over h.stage ≡ false
   pub active : side.active ≡ true
   pub side_is : side ≡ h.side
@@ -45,7 +45,7 @@ pub record Works (e : Endpoint) (r : Request) (x : Places) (part : Part) (side :
   pub alternate : q.alternate ≡ stage.qtd.alternate
   pub later : AreFresh e r x part (next_stage r h.stage)
 
-pub record Waits (e : Endpoint) (r : Request) (x : Places) (part : Part) (side : HostSide) (q : Qh) (h : Host) : Type 0 where
+pub record Waits (e : Endpoint) (r : Request) (x : Places) (part : Structures) (side : HostSide) (q : Qh) (h : Host) : Type 0 where
   pub goes_on : is_over h.stage ≡ false
   pub idle : side.active ≡ false
   pub side_is : h.side ≡ side_at r e.max side.ping h.stage
@@ -53,25 +53,25 @@ pub record Waits (e : Endpoint) (r : Request) (x : Places) (part : Part) (side :
   pub fresh : AreFresh e r x part h.stage
   pub beside : q.token.active ≡ true → (s : Stage) → comes r h.stage s ≡ true → place_at x s ≢ q.current
 
-pub record Ends (part : Part) (side : HostSide) (q : Qh) (h : Host) : Type 0 where
+pub record Ends (part : Structures) (side : HostSide) (q : Qh) (h : Host) : Type 0 where
   pub done : h.stage ≡ Done
   pub idle : side.active ≡ false
   pub nowhere : IsUnpublished part (pointer_at side.left q)
 
-pub record IsPending (part : Part) (a : ℕ) : Type 0 where
+pub record IsPending (part : Structures) (a : ℕ) : Type 0 where
   pub qtd : Qtd
   pub here : part a ≡ Some (Element qtd)
   pub published : qtd.token.active ≡ true
 
 -- until the halt is written back the status is still to come
-pub record Halts (x : Places) (part : Part) (side : HostSide) (q : Qh) (h : Host) : Type 0 where
+pub record Halts (x : Places) (part : Structures) (side : HostSide) (q : Qh) (h : Host) : Type 0 where
   pub cause : EndCause
   pub ended : h.stage ≡ Halted cause
   pub idle : side.active ≡ false
   pub halted : side.halted ≡ true
   pub pending : q.token.active ≡ true → IsPending part x.status
 
-pub data Shows (e : Endpoint) (r : Request) (x : Places) (part : Part) (side : HostSide) (q : Qh) (h : Host) : Type 0 where
+pub data Shows (e : Endpoint) (r : Request) (x : Places) (part : Structures) (side : HostSide) (q : Qh) (h : Host) : Type 0 where
   works : Works e r x part side q h → Shows e r x part side q h
   waits : Waits e r x part side q h → Shows e r x part side q h
   ends : Ends part side q h → Shows e r x part side q h

@@ -18,8 +18,8 @@ use Rattle.qh_qtd.specs.declared.queue_head.Qh.{Qh}
 use Rattle.walk_copy.specs.Planning.{host_in}
 use Rattle.walk_copy.specs.Visits.{next_pointer}
 use Rattle.async_walk.specs.declared.state.WalkStep.{WalkStep}
-use Rattle.async_walk.specs.Rows.{Place}
-use Rattle.lent_structures.specs.Structures.{QueueHead, Element, Parts}
+use Rattle.async_walk.specs.Rows.{WalkPlace}
+use Rattle.lent_structures.specs.Structures.{QueueHead, Element, StructureSets}
 use Rattle.usb_bus.specs.declared.asked.Losses.{Losses}
 use Rattle.report_streams.specs.Requests.{Request}
 use Rattle.request_windows.specs.Host.{Endpoint, Setup, has_data}
@@ -41,7 +41,7 @@ pub record Sent : Type 0 where
   pub request : Request
   pub places : Places
 
-pub record IsWindow (v : Sent) (l : Line) (hand : Hand) (parts : Parts) (n : ℕ) (o : Option Device) : Type 0 where
+pub record IsWindow (v : Sent) (l : Line) (hand : Hand) (parts : StructureSets) (n : ℕ) (o : Option Device) : Type 0 where
   pub queue : Qh
   pub head : parts n n ≡ Some (QueueHead queue)
   pub control : IsEndpoint v.endpoint queue
@@ -51,7 +51,7 @@ pub record IsWindow (v : Sent) (l : Line) (hand : Hand) (parts : Parts) (n : ℕ
   pub stands : Stands v.endpoint v.request l
 
 -- a request that is laid out and not begun: the overlay has ended, and leads to its SETUP
-pub record IsLaid (v : Sent) (hand : Hand) (parts : Parts) (n : ℕ) (q : Qh) : Type 0 where
+pub record IsLaid (v : Sent) (hand : Hand) (parts : StructureSets) (n : ℕ) (q : Qh) : Type 0 where
   pub head : parts n n ≡ Some (QueueHead q)
   pub control : IsEndpoint v.endpoint q
   pub idle : q.token.active ≡ false
@@ -61,7 +61,7 @@ pub record IsLaid (v : Sent) (hand : Hand) (parts : Parts) (n : ℕ) (q : Qh) : 
   pub none_told : has_data v.request ≡ true → Told hand parts n v.places.data_at []
 
 -- what memory alone tells of a request that is done: the qTD of its status has ended, and the queue head isn't halted
-pub record HasEnded (v : Sent) (parts : Parts) (n : ℕ) : Type 0 where
+pub record HasEnded (v : Sent) (parts : StructureSets) (n : ℕ) : Type 0 where
   pub queue : Qh
   pub head : parts n n ≡ Some (QueueHead queue)
   pub goes_on : queue.token.halted ≡ false
@@ -70,7 +70,7 @@ pub record HasEnded (v : Sent) (parts : Parts) (n : ℕ) : Type 0 where
   pub ended : qtd.token.active ≡ false
 
 -- the device acted on it exactly once, and all its data are told
-pub record IsActedOnce (v : Sent) (l : Line) (hand : Hand) (parts : Parts) (n : ℕ) : Type 0 where
+pub record IsActedOnce (v : Sent) (l : Line) (hand : Hand) (parts : StructureSets) (n : ℕ) : Type 0 where
   pub acts : l.acts ≡ v.request.setup ∷ []
   pub told : has_data v.request ≡ true → Told hand parts n v.places.data_at (data_of v.endpoint v.request)
 
@@ -84,12 +84,12 @@ pub record AreSent (member windows : ℕ → Bool) (sent : ℕ → Sent) : Type 
   pub apart : (n k : ℕ) → windows n ≡ true → windows k ≡ true → (sent n).endpoint.addr ≡ (sent k).endpoint.addr → (sent n).endpoint.num ≡ (sent k).endpoint.num → n ≡ k
 
 -- a queue head of another endpoint
-pub record IsElsewhere (windows : ℕ → Bool) (sent : ℕ → Sent) (parts : Parts) (n : ℕ) : Type 0 where
+pub record IsElsewhere (windows : ℕ → Bool) (sent : ℕ → Sent) (parts : StructureSets) (n : ℕ) : Type 0 where
   pub own : Characteristics
   pub has : HasEndpoint parts n own
   pub other : (k : ℕ) → windows k ≡ true → (sent k).endpoint.addr ≡ own.addr → (sent k).endpoint.num ≡ own.ep → ⊥
 
-pub record AreWindows {W : Type 0} (device : W → ℕ → ℕ → Option Device) (member windows : ℕ → Bool) (sent : ℕ → Sent) (lines : ℕ → Line) (parts : Parts) (hand : Hand) (wire : W) : Type 0 where
+pub record AreWindows {W : Type 0} (device : W → ℕ → ℕ → Option Device) (member windows : ℕ → Bool) (sent : ℕ → Sent) (lines : ℕ → Line) (parts : StructureSets) (hand : Hand) (wire : W) : Type 0 where
   pub each : (n : ℕ) → windows n ≡ true → IsWindow (sent n) (lines n) hand parts n (device wire (sent n).endpoint.addr (sent n).endpoint.num)
   pub others : (n : ℕ) → member n ≡ true → windows n ≡ false → IsElsewhere windows sent parts n
 
@@ -108,11 +108,11 @@ pub record IsStepAt (at : ℕ) (o : Option Step) : Type 0 where
   pub is : o ≡ Some (record { at = at; losses = losses })
 
 -- each transaction of one of these queue heads is one of its request, and nothing else is
-abbrev pub IsStepOf : {W : Type 0} {transacts : W → Ask → List ℕ → Reply → W → Type 0} {parts : Parts} {hand : Hand} {wire after : W} {now : Parts} {later : Hand} {kind : WalkStep} → (ℕ → Bool) → Option Step → Effect transacts parts hand wire after now later kind → Type 0
+abbrev pub IsStepOf : {W : Type 0} {transacts : W → Ask → List ℕ → Reply → W → Type 0} {parts : StructureSets} {hand : Hand} {wire after : W} {now : StructureSets} {later : Hand} {kind : WalkStep} → (ℕ → Bool) → Option Step → Effect transacts parts hand wire after now later kind → Type 0
 IsStepOf windows o (makes m all) = (windows m.copy.at ≡ true → IsStepAt m.copy.at o) × (windows m.copy.at ≡ false → o ≡ None)
 IsStepOf windows o _ = o ≡ None
 
-pub record WindowsGoOn {W : Type 0} (transacts : W → Ask → List ℕ → Reply → W → Type 0) (device : W → ℕ → ℕ → Option Device) (base : Base) (member windows : ℕ → Bool) (sent : ℕ → Sent) (lines : ℕ → Line) (parts : Parts) (hand : Hand) (wire after : W) (new : Place) (kind : WalkStep) : Type 0 where
+pub record WindowsGoOn {W : Type 0} (transacts : W → Ask → List ℕ → Reply → W → Type 0) (device : W → ℕ → ℕ → Option Device) (base : Base) (member windows : ℕ → Bool) (sent : ℕ → Sent) (lines : ℕ → Line) (parts : StructureSets) (hand : Hand) (wire after : W) (new : WalkPlace) (kind : WalkStep) : Type 0 where
   pub event : Happens transacts base member parts hand wire after new kind
   pub step : Option Step
   pub all : AreWindows device member windows sent (stepped sent step lines) event.now event.later after

@@ -9,7 +9,7 @@ use Rattle.usb_base.specs.declared.packets.Reply.{Reply}
 use Rattle.hc_core.specs.declared.controller.HcStep.{HcStep}
 use Rattle.hc_core.specs.declared.controller.HcStep.TheVariants as steps
 use Rattle.hc_core.specs.Controller.{Content}
-use Rattle.lent_structures.specs.Structures.{Parts}
+use Rattle.lent_structures.specs.Structures.{StructureSets}
 use Rattle.ring_walk.specs.Hand.{Hand}
 use Rattle.ring_walk.specs.Ring.{Base}
 use Rattle.ring_walk.specs.Effects.{AreBytesHeard}
@@ -19,11 +19,11 @@ abbrev pub HearsBytes : {W : Type 0} → (W → Ask → List ℕ → Reply → W
 HearsBytes {W} transacts = (before after : W) → AreBytesHeard transacts before after
 
 abbrev pub EventIsTold : {W : Type 0} → (W → ℕ → Bool → W → Type 0) → (W → Ask → List ℕ → Reply → W → Type 0) → Content → W → Content → W → Type 0
-EventIsTold begins transacts old before new after = (base : Base) (member : ℕ → Bool) (parts : Parts) (hand : Hand) → IsOn base → AreBytesHeard transacts before after
+EventIsTold begins transacts old before new after = (base : Base) (member : ℕ → Bool) (parts : StructureSets) (hand : Hand) → IsOn base → AreBytesHeard transacts before after
     → IsControlled base member parts hand old → Controls begins transacts base member parts hand before after new
 
 pub record IsUnderWay (base : Base) (member : ℕ → Bool) (c : Content) : Type 0 where
-  pub parts : Parts
+  pub parts : StructureSets
   pub hand : Hand
   pub controlled : IsControlled base member parts hand c
 

@@ -7,7 +7,7 @@ use Rattle.buffers.specs.Bytes.{places, bytes_at, AreReached}
 use Rattle.qh_qtd.specs.declared.qtd.Qtd.{Qtd}
 use Rattle.qh_qtd.specs.Qtd.{qtd_words, IsQtdInRange}
 use Rattle.qh_qtd.specs.QueueHead.{qh_words, IsQhInRange}
-use Rattle.lent_structures.specs.Structures.{Structure, QueueHead, Element, Buffer, HoldsQueueHead, HoldsElement, HoldsBuffer, Holds, Part, Parts, with_structure, put, Has, AreSeparate, Tells}
+use Rattle.lent_structures.specs.Structures.{Structure, QueueHead, Element, Buffer, HoldsQueueHead, HoldsElement, HoldsBuffer, Holds, Structures, StructureSets, with_structure, put, Has, AreSeparate, Tells}
 use Rattle.lent_structures.proofs.Names.{put_found}
 use Rattle.lent_structures.proofs.Telling.{joined}
 use Rattle.queue_parts.specs.Sound.{IsSoundElement, IsMember}
@@ -130,11 +130,11 @@ buffer_there = record { name = refl; within = omega arith; separate = both_separ
 -- ---- one after the other
 
 -- told, and below a block
-pub record ToldBelow (m : Mem) (parts : Parts) (limit : ℕ) : Type 0 where
+pub record ToldBelow (m : Mem) (parts : StructureSets) (limit : ℕ) : Type 0 where
   pub told : Tells m parts
   pub below : (n a : ℕ) (s : Structure) (b : ℕ) → parts n a ≡ Some s → Has a s b → b < limit
 
-pub told_above : (m : Mem) (parts : Parts) (low high n a : ℕ) (s : Structure) → ToldBelow m parts low → Holds m a s → ((b : ℕ) → Has a s b → (low ≤ b) × (b < high)) → low ≤ high → ToldBelow m (put parts n a s) high
+pub told_above : (m : Mem) (parts : StructureSets) (low high n a : ℕ) (s : Structure) → ToldBelow m parts low → Holds m a s → ((b : ℕ) → Has a s b → (low ≤ b) × (b < high)) → low ≤ high → ToldBelow m (put parts n a s) high
 told_above m parts low high n a s t holds between order = record {
   told = joined m parts n a s t.told holds (λ b k c u has found also. let from = (between b has).0 in let below = t.below k c u b found also in omega (arith, from, below));
   below = λ k c u b found has.
@@ -170,16 +170,16 @@ all_told =
 
 -- ---- the members
 
-abbrev no_part : Part
+abbrev no_part : Structures
 no_part a = None
 
 none_there : (a : ℕ) (t : Qtd) → no_part a ≡ Some (Element t) → ⊥
 none_there a t there = cc
 
-abbrev head_part : Part
+abbrev head_part : Structures
 head_part = with_structure no_part 0 (QueueHead head)
 
-abbrev queue_part : Part
+abbrev queue_part : Structures
 queue_part = with_structure (with_structure (with_structure no_part 64 (QueueHead queue)) 128 (Element element)) 160 (Buffer pages 160 bytes)
 
 no_element : (a : ℕ) (t : Qtd) → head_part a ≡ Some (Element t) → ⊥
@@ -187,7 +187,7 @@ no_element a t found =
     ⊎_elim (λ (is : (a ≡ 0) × (QueueHead head ≡ Element t)). cc) (λ (there : (a ≢ 0) × (no_part a ≡ Some (Element t))). none_there a t there.1)
     (found_with no_part 0 a (QueueHead head) (Element t) found)
 
-one_element : (a : ℕ) (t : Qtd) → queue_part a ≡ Some (Element t) → (a ≡ 128) × (element ≡ t)
+pub one_element : (a : ℕ) (t : Qtd) → queue_part a ≡ Some (Element t) → (a ≡ 128) × (element ≡ t)
 one_element a t found =
     ⊎_elim (λ (is : (a ≡ 160) × (Buffer pages 160 bytes ≡ Element t)). cc)
     (λ (second : (a ≢ 160) × (with_structure (with_structure no_part 64 (QueueHead queue)) 128 (Element element) a ≡ Some (Element t))).
@@ -203,7 +203,7 @@ head_member = record {
   queue = head;
   here = refl;
   link = record { to = 64; leads = refl; on = refl };
-  sound = record { next = tt; alternate = tt; work = λ on. absurd (true≢false (sym on)) };
+  sound = record { rest = λ off idle. tt; work = λ on. absurd (true≢false (sym on)) };
   elements = λ a t found. absurd (no_element a t found);
   own = λ a b t u ps k bs one other same there. absurd (no_element a t one);
 }
@@ -221,9 +221,8 @@ queue_member = record {
   here = refl;
   link = record { to = 0; leads = refl; on = refl };
   sound = record {
-    next = tt;
-    alternate = tt;
-    work = λ on. record { element = element; here = refl; published = refl; goes_on = refl; pid = refl; pages = refl; fewer = omega arith; place = refl };
+    rest = λ off idle. tt;
+    work = λ on. record { element = element; here = refl; published = refl; goes_on = refl; pid = refl; pages = refl; next = refl; alternate = refl; fewer = omega arith; place = refl };
   };
   elements = λ a t found. subst (IsSoundElement queue_part) (one_element a t found).1 element_sound;
   own = λ a b t u ps k bs one other same there. (one_element a t one).0 ∙ sym (one_element b u other).0;

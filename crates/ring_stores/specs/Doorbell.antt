@@ -9,14 +9,14 @@ use Rattle.queue_words.specs.Structures.{queue_head_at_address}
 use Rattle.async_walk.specs.declared.state.Cursor.TheVariants as cursors
 use Rattle.async_walk.specs.declared.state.ReloadMode.{ReloadMode}
 use Rattle.async_walk.specs.Naks.{reloaded}
-use Rattle.async_walk.specs.Rows.{Place}
-use Rattle.lent_structures.specs.Structures.{QueueHead, Parts}
+use Rattle.async_walk.specs.Rows.{WalkPlace}
+use Rattle.lent_structures.specs.Structures.{QueueHead, StructureSets}
 
-pub record IsAtStart (new : Place) : Type 0 where
+pub record IsAtStart (new : WalkPlace) : Type 0 where
   pub cursor : new.walk.cursor ≡ cursors.Start
   pub nothing : new.walk.held ≡ None
 
-pub record HoldsHead (new : Place) : Type 0 where
+pub record HoldsHead (new : WalkPlace) : Type 0 where
   pub at : ℕ
   pub queue : Qh
   pub mode : ReloadMode
@@ -25,9 +25,9 @@ pub record HoldsHead (new : Place) : Type 0 where
   pub is_head : queue.head ≡ true
   pub stands : queue_head_at_address new.memory at ≡ Some queue
 
-pub data IsAtHead (new : Place) : Type 0 where
+pub data IsAtHead (new : WalkPlace) : Type 0 where
   at_start : IsAtStart new → IsAtHead new
   at_head : HoldsHead new → IsAtHead new
 
-abbrev pub HasHeads : (ℕ → Bool) → (ℕ → Bool) → Parts → Type 0
+abbrev pub HasHeads : (ℕ → Bool) → (ℕ → Bool) → StructureSets → Type 0
 HasHeads member narrow parts = (n : ℕ) (q : Qh) → member n ≡ true → parts n n ≡ Some (QueueHead q) → q.head ≡ true → narrow n ≡ true

@@ -14,8 +14,8 @@ use Rattle.qh_qtd.specs.declared.queue_head.Qh.{Qh}
 use Rattle.qh_qtd.specs.Qtd.{qtd_words}
 use Rattle.qh_qtd.specs.QueueHead.{qh_words}
 use Rattle.async_walk.specs.Walk.{new_walk}
-use Rattle.async_walk.specs.Rows.{Place}
-use Rattle.lent_structures.specs.Structures.{QueueHead, Element, Buffer, Parts, put}
+use Rattle.async_walk.specs.Rows.{WalkPlace}
+use Rattle.lent_structures.specs.Structures.{QueueHead, Element, Buffer, StructureSets, put}
 use Rattle.ring_walk.specs.Ring.{Base}
 
 abbrev pub head : Qh
@@ -56,10 +56,10 @@ pages = 0 ∷ 0 ∷ 0 ∷ 0 ∷ 0 ∷ []
 abbrev pub memory : Mem
 memory = all_lent (qh_words head ++ replicate 4 0 ++ qh_words queue ++ replicate 4 0 ++ qtd_words element ++ (0x907 ∷ replicate 983 0))
 
-abbrev pub nothing : Parts
+abbrev pub nothing : StructureSets
 nothing n a = None
 
-abbrev pub parts : Parts
+abbrev pub parts : StructureSets
 parts = put (put (put (put nothing 0 0 (QueueHead head)) 64 64 (QueueHead queue)) 64 128 (Element element)) 64 160 (Buffer pages 160 bytes)
 
 abbrev pub member : ℕ → Bool
@@ -71,5 +71,5 @@ base = record { run = true; async_enable = true; async_list_address = 0; periodi
 abbrev pub registers : RegisterFile
 registers = record reset_file { run = true; async_enable = true }
 
-abbrev pub ring : Place
+abbrev pub ring : WalkPlace
 ring = record { walk = new_walk; registers = registers; memory = memory }

@@ -3,48 +3,49 @@
 --     KeepsQueueHeads parts now   each queue head is as it was
 --     IsUnnamed part a t          no qTD of the part but the one at a has the buffer of t
 --     NamesOne part a             at most one qTD has the buffer at a
---     IsUnled part a              no link of the queue head or of another qTD leads to the qTD at a
+--     IsUnled part q a            the overlay of the queue head q doesn't work on the qTD at a and won't go on at it, and no link of another qTD leads to it
 --     IsUnused part a             no qTD that waits or is worked on has the buffer at a
 --     copy_linked, hand_linked    what is in hand once a link was stored in the queue head at n
 --     hand_stale                  and once a word was stored in the queue head at n, which is halted: a copy of it is stale
 --     IsWider member wider        whom the walk may meet is met further on, and maybe others
 --     IsClosed narrow parts       the links of these queue heads lead among them
 --     IsAmong narrow hand p       the walk and what it has in hand are among them
-use Rattle.std.specs.Prelude.{◌≡◌, ◌≢◌, ℕ, ◌<◌, Bool, true, ◌==◌, List, Some, if◌then◌else◌}
+use Rattle.std.specs.Prelude.{◌≡◌, ◌≢◌, ℕ, ◌<◌, Bool, true, false, ◌==◌, List, Some, if◌then◌else◌}
 use Rattle.link_words.specs.declared.kinds.QtdLink.TheVariants as qtd_links
 use Rattle.link_words.specs.declared.fields.LinkBits.{LinkBits}
 use Rattle.link_words.specs.Links.{qtd_link_of}
 use Rattle.qh_qtd.specs.declared.qtd.Qtd.{Qtd}
 use Rattle.qh_qtd.specs.declared.queue_head.Qh.{Qh}
-use Rattle.async_walk.specs.Rows.{Place}
-use Rattle.lent_structures.specs.Structures.{QueueHead, Element, Buffer, Part, Parts}
+use Rattle.walk_copy.specs.Visits.{next_pointer}
+use Rattle.async_walk.specs.Rows.{WalkPlace}
+use Rattle.lent_structures.specs.Structures.{QueueHead, Element, Buffer, Structures, StructureSets}
 use Rattle.queue_parts.specs.Sound.{buffer_name, LeadsAmong}
 use Rattle.ring_walk.specs.Hand.{Copy, copied_queue, Hand, Empty, Copied, Settled, Stale}
 use Rattle.ring_walk.specs.Ring.{IsCursorAmong}
 
-abbrev pub KeepsQueueHeads : Parts → Parts → Type 0
+abbrev pub KeepsQueueHeads : StructureSets → StructureSets → Type 0
 KeepsQueueHeads parts now = (n : ℕ) (q : Qh) → parts n n ≡ Some (QueueHead q) → now n n ≡ Some (QueueHead q)
 
 -- ---- qTDs and buffers
 
-pub record IsBuffer (part : Part) (a : ℕ) : Type 0 where
+pub record IsBuffer (part : Structures) (a : ℕ) : Type 0 where
   pub pages : List ℕ
   pub start : ℕ
   pub bytes : List ℕ
   pub here : part a ≡ Some (Buffer pages start bytes)
 
-abbrev pub IsUnnamed : Part → ℕ → Qtd → Type 0
+abbrev pub IsUnnamed : Structures → ℕ → Qtd → Type 0
 IsUnnamed part a t = (b : ℕ) (u : Qtd) → b ≢ a → part b ≡ Some (Element u) → buffer_name u ≡ buffer_name t → IsBuffer part (buffer_name t) → ⊥
 
-abbrev pub NamesOne : Part → ℕ → Type 0
+abbrev pub NamesOne : Structures → ℕ → Type 0
 NamesOne part a = (b c : ℕ) (t u : Qtd) → part b ≡ Some (Element t) → part c ≡ Some (Element u) → buffer_name t ≡ a → buffer_name u ≡ a → b ≡ c
 
-pub record IsUnled (part : Part) (q : Qh) (a : ℕ) : Type 0 where
-  pub next : qtd_link_of q.next ≢ qtd_links.To a
-  pub alternate : qtd_link_of q.alternate ≢ qtd_links.To a
+pub record IsUnled (part : Structures) (q : Qh) (a : ℕ) : Type 0 where
+  pub rest : q.token.halted ≡ false → q.token.active ≡ false → qtd_link_of (next_pointer q) ≢ qtd_links.To a
+  pub work : q.token.active ≡ true → q.current ≢ a
   pub elements : (b : ℕ) (t : Qtd) → b ≢ a → part b ≡ Some (Element t) → (qtd_link_of t.next ≢ qtd_links.To a) × (qtd_link_of t.alternate ≢ qtd_links.To a)
 
-abbrev pub IsUnused : Part → ℕ → Type 0
+abbrev pub IsUnused : Structures → ℕ → Type 0
 IsUnused part a = (b : ℕ) (t : Qtd) → part b ≡ Some (Element t) → t.token.active ≡ true → 0 < t.token.total → buffer_name t ≢ a
 
 -- ---- a link is stored
@@ -71,7 +72,7 @@ hand_stale n (Stale m q) = Stale m q
 abbrev pub IsWider : (ℕ → Bool) → (ℕ → Bool) → Type 0
 IsWider member wider = (n : ℕ) → member n ≡ true → wider n ≡ true
 
-abbrev pub IsClosed : (ℕ → Bool) → Parts → Type 0
+abbrev pub IsClosed : (ℕ → Bool) → StructureSets → Type 0
 IsClosed narrow parts = (n : ℕ) (q : Qh) → narrow n ≡ true → parts n n ≡ Some (QueueHead q) → LeadsAmong narrow q.link
 
 abbrev pub IsHandAmong : (ℕ → Bool) → Hand → Type 0
@@ -80,6 +81,6 @@ IsHandAmong narrow (Copied c) = (narrow c.at ≡ true) × LeadsAmong narrow c.li
 IsHandAmong narrow (Settled c s) = (narrow c.at ≡ true) × LeadsAmong narrow c.link
 IsHandAmong narrow (Stale n q) = (narrow n ≡ true) × LeadsAmong narrow q.link
 
-pub record IsAmong (narrow : ℕ → Bool) (hand : Hand) (p : Place) : Type 0 where
+pub record IsAmong (narrow : ℕ → Bool) (hand : Hand) (p : WalkPlace) : Type 0 where
   pub cursor : IsCursorAmong narrow p
   pub in_hand : IsHandAmong narrow hand

@@ -1,6 +1,6 @@
 //! The laws.
 ghost use Rattle.std.specs.Prelude.{◌≡◌, true, false};
-ghost use Rattle.async_walk.specs.Rows.{Place, at_event, event_row, Leads};
+ghost use Rattle.async_walk.specs.Rows.{WalkPlace, at_event, event_row, Leads};
 ghost use Rattle.ring_stores.specs.Doorbell.{IsAtHead};
 ghost use Rattle.ring_stores.specs.Laws.{ElementMayChange, ElementMayCome, BufferMayCome, ElementMayGo, BufferMayGo};
 ghost use Rattle.ring_stores.specs.Laws.{ElementStoreLeavesRing, LinkStoreLeavesRing, MendingLeavesRing};
@@ -36,7 +36,7 @@ pub fn lends_and_returns_leave_a_ring()
 
 /// The event that answers the doorbell leaves the walk at the head of the ring (4.8.2).
 pub fn the_doorbell_is_answered_at_the_head<W: Wire>()
-    ensures { (p new : Place) (wire after : W) → Leads W.transacts (event_row p) (at_event p) wire new after → p.registers.async_advance ≡ false
+    ensures { (p new : WalkPlace) (wire after : W) → Leads W.transacts (event_row p) (at_event p) wire new after → p.registers.async_advance ≡ false
         → new.registers.async_advance ≡ true → IsAtHead new }
 {}
 

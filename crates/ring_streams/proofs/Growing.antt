@@ -8,13 +8,13 @@ use Rattle.usb_base.specs.declared.packets.Pid.TheVariants as pids
 use Rattle.usb_base.specs.declared.packets.Reply.{Reply}
 use Rattle.qh_qtd.specs.declared.qtd.Qtd.{Qtd}
 use Rattle.qh_qtd.specs.declared.queue_head.Qh.{Qh}
-use Rattle.walk_copy.specs.Overlay.{place_of}
+use Rattle.walk_copy.specs.Overlay.{buffer_place}
 use Rattle.walk_copy.specs.Planning.{pid_at, host_in}
 use Rattle.walk_copy.specs.WriteBack.{moved_by}
 use Rattle.async_walk.specs.Naks.{kind_at}
 use Rattle.settle_laws.specs.Settles.{Leaves, Brings, Settles}
 use Rattle.settle_laws.proofs.Settling.{settles}
-use Rattle.lent_structures.specs.Structures.{QueueHead, Part, Parts}
+use Rattle.lent_structures.specs.Structures.{QueueHead, Structures, StructureSets}
 use Rattle.lent_structures.specs.Changes.{overwritten}
 use Rattle.lent_structures.proofs.Names.{not_same}
 use Rattle.queue_parts.specs.Sound.{HasBuffer, IsReady, IsWorking, IsSoundQueue, IsMember}
@@ -61,9 +61,9 @@ not_in code x zero one is = by x (sym (ap (λ (b : Bool). if b then pids.Out els
 
 -- the buffer has what is left, from the place on, or nothing is left
 pub IsSized : Qh → Qtd → List ℕ → Type 0
-IsSized q t bs = ((q.token.total ≤ length bs) × (place_of q - t.offset ≡ length bs - q.token.total)) ⊎ (q.token.total ≡ 0)
+IsSized q t bs = ((q.token.total ≤ length bs) × (buffer_place q - t.offset ≡ length bs - q.token.total)) ⊎ (q.token.total ≡ 0)
 
-sized_by : (part : Part) (q : Qh) (w : IsWorking part q) → IsReady part w.element → ((0 < q.token.total) ⊎ (q.token.total ≤ 0)) → IsSized q w.element (buffer_of part w.element)
+sized_by : (part : Structures) (q : Qh) (w : IsWorking part q) → IsReady part w.element → ((0 < q.token.total) ⊎ (q.token.total ≤ 0)) → IsSized q w.element (buffer_of part w.element)
 unfolding IsSized
 sized_by part q w ready (inr none) = inr (omega (arith, none))
 sized_by part q w ready (inl some) =
@@ -73,43 +73,43 @@ sized_by part q w ready (inl some) =
     let place = w.place in
     inl (omega (arith, size, fewer), omega (arith, size, fewer, place))
 
-pub sized : (part : Part) (q : Qh) (w : IsWorking part q) → IsReady part w.element → IsSized q w.element (buffer_of part w.element)
+pub sized : (part : Structures) (q : Qh) (w : IsWorking part q) → IsReady part w.element → IsSized q w.element (buffer_of part w.element)
 sized part q w ready = sized_by part q w ready (cases_lt 0 q.token.total)
 
 -- they grow by what was moved
 grown_by : (q : Qh) (t : Qtd) (z : Settlement) (bs : List ℕ) (b : Bool) → (q.token.pid == 1) ≡ b → IsSized q t bs → Leaves (host_in q) z.outcome z.host → Brings (pid_at q.token.pid) z.outcome z.got
-    → settled_bytes q t z bs ≡ take (length bs - q.token.total) bs ++ (if b then z.got else take (moved_by z.outcome) (drop (place_of q - t.offset) bs))
+    → settled_bytes q t z bs ≡ take (length bs - q.token.total) bs ++ (if b then z.got else take (moved_by z.outcome) (drop (buffer_place q - t.offset) bs))
 unfolding IsSized
 grown_by q t z bs true is (inl (few, place)) host bytes =
     let got = bytes.all (in_at q.token.pid is) in
     let left = host.left in
-    let end : length bs - z.host.left ≡ place_of q - t.offset + length z.got = omega (arith, few, place, got, left) in
-    ap (λ (i : ℕ). take i (overwritten bs (place_of q - t.offset) z.got)) end ∙ grown_in bs z.got (place_of q - t.offset) (omega (arith, place)) ∙ ap (λ (i : ℕ). take i bs ++ z.got) place
+    let end : length bs - z.host.left ≡ buffer_place q - t.offset + length z.got = omega (arith, few, place, got, left) in
+    ap (λ (i : ℕ). take i (overwritten bs (buffer_place q - t.offset) z.got)) end ∙ grown_in bs z.got (buffer_place q - t.offset) (omega (arith, place)) ∙ ap (λ (i : ℕ). take i bs ++ z.got) place
 grown_by q t z bs false is (inl (few, place)) host bytes =
     let none = bytes.none (not_in q.token.pid (q.token.pid == 0) refl is) in
     let left = host.left in
-    let end : length bs - z.host.left ≡ place_of q - t.offset + moved_by z.outcome = omega (arith, few, place, left) in
-    ap (λ (got : List ℕ). take (length bs - z.host.left) (overwritten bs (place_of q - t.offset) got)) none
-    ∙ ap (take (length bs - z.host.left)) (overwritten_by_none bs (place_of q - t.offset))
-    ∙ ap (λ (i : ℕ). take i bs) end ∙ grown_out bs (place_of q - t.offset) (moved_by z.outcome)
-    ∙ ap (λ (i : ℕ). take i bs ++ take (moved_by z.outcome) (drop (place_of q - t.offset) bs)) place
+    let end : length bs - z.host.left ≡ buffer_place q - t.offset + moved_by z.outcome = omega (arith, few, place, left) in
+    ap (λ (got : List ℕ). take (length bs - z.host.left) (overwritten bs (buffer_place q - t.offset) got)) none
+    ∙ ap (take (length bs - z.host.left)) (overwritten_by_none bs (buffer_place q - t.offset))
+    ∙ ap (λ (i : ℕ). take i bs) end ∙ grown_out bs (buffer_place q - t.offset) (moved_by z.outcome)
+    ∙ ap (λ (i : ℕ). take i bs ++ take (moved_by z.outcome) (drop (buffer_place q - t.offset) bs)) place
 grown_by q t z bs true is (inr zero) host bytes =
     let left = host.left in
     let got = bytes.all (in_at q.token.pid is) in
     let none : z.got ≡ [] = no_length z.got (omega (arith, got, left, zero)) in
     let same : length bs - z.host.left ≡ length bs - q.token.total = omega (arith, left, zero) in
-    ap (λ (got : List ℕ). take (length bs - z.host.left) (overwritten bs (place_of q - t.offset) got)) none
-    ∙ ap (take (length bs - z.host.left)) (overwritten_by_none bs (place_of q - t.offset)) ∙ ap (λ (i : ℕ). take i bs) same
+    ap (λ (got : List ℕ). take (length bs - z.host.left) (overwritten bs (buffer_place q - t.offset) got)) none
+    ∙ ap (take (length bs - z.host.left)) (overwritten_by_none bs (buffer_place q - t.offset)) ∙ ap (λ (i : ℕ). take i bs) same
     ∙ sym (append-nil (take (length bs - q.token.total) bs)) ∙ ap (λ (xs : List ℕ). take (length bs - q.token.total) bs ++ xs) (sym none)
 grown_by q t z bs false is (inr zero) host bytes =
     let left = host.left in
     let none = bytes.none (not_in q.token.pid (q.token.pid == 0) refl is) in
     let nothing : moved_by z.outcome ≡ 0 = omega (arith, left, zero) in
     let same : length bs - z.host.left ≡ length bs - q.token.total = omega (arith, left, zero) in
-    ap (λ (got : List ℕ). take (length bs - z.host.left) (overwritten bs (place_of q - t.offset) got)) none
-    ∙ ap (take (length bs - z.host.left)) (overwritten_by_none bs (place_of q - t.offset)) ∙ ap (λ (i : ℕ). take i bs) same
+    ap (λ (got : List ℕ). take (length bs - z.host.left) (overwritten bs (buffer_place q - t.offset) got)) none
+    ∙ ap (take (length bs - z.host.left)) (overwritten_by_none bs (buffer_place q - t.offset)) ∙ ap (λ (i : ℕ). take i bs) same
     ∙ sym (append-nil (take (length bs - q.token.total) bs))
-    ∙ ap (λ (i : ℕ). take (length bs - q.token.total) bs ++ take i (drop (place_of q - t.offset) bs)) (sym nothing)
+    ∙ ap (λ (i : ℕ). take (length bs - q.token.total) bs ++ take i (drop (buffer_place q - t.offset) bs)) (sym nothing)
 
 -- ---- the law
 
@@ -130,7 +130,7 @@ hand_here at n b same = ap (λ (x : Bool). x && b) (eq-eqb at n same)
 pub hand_not : (at n : ℕ) (b : Bool) → at ≢ n → (at == n && b) ≡ false
 hand_not at n b differs = ap (λ (x : Bool). x && b) (not_same at n differs)
 
-module _ {W : Type 0} (transacts : W → Ask → List ℕ → Reply → W → Type 0) (member : ℕ → Bool) (parts : Parts) (hand : Hand) (wire after : W) (later : Hand) (m : Makes transacts parts hand wire after later) where
+module _ {W : Type 0} (transacts : W → Ask → List ℕ → Reply → W → Type 0) (member : ℕ → Bool) (parts : StructureSets) (hand : Hand) (wire after : W) (later : Hand) (m : Makes transacts parts hand wire after later) where
   abbrev made : Settlement
   made = settlement m.copy.queue m.out m.reply
 
@@ -142,7 +142,7 @@ module _ {W : Type 0} (transacts : W → Ask → List ℕ → Reply → W → Ty
   told_here here xs told =
       let q : Qh = m.copy.queue in
       let e : ℕ = q.current in
-      let part : Part = parts m.copy.at in
+      let part : Structures = parts m.copy.at in
       let same : told.queue ≡ q = found_queue (part m.copy.at) told.queue q told.head here in
       let element : told.qtd ≡ m.sent.element = found_element (part e) told.qtd m.sent.element told.here m.sent.here in
       let bs : List ℕ = buffer_of part m.sent.element in
@@ -154,7 +154,7 @@ module _ {W : Type 0} (transacts : W → Ask → List ℕ → Reply → W → Ty
   made_bytes : IsMember member m.copy.at (parts m.copy.at) → (here : parts m.copy.at m.copy.at ≡ Some (QueueHead m.copy.queue)) → (xs : List ℕ) → Told hand parts m.copy.at m.copy.queue.current xs → Told later parts m.copy.at m.copy.queue.current (xs ++ moved_bytes m.copy.queue m.sent.element made (buffer_of (parts m.copy.at) m.sent.element))
   made_bytes k here xs told =
       let q : Qh = m.copy.queue in
-      let part : Part = parts m.copy.at in
+      let part : Structures = parts m.copy.at in
       let t : Qtd = m.sent.element in
       let bs : List ℕ = buffer_of part t in
       let s : Settles (kind_at q.dtc) q m.out false m.reply = settles (kind_at q.dtc) q m.out false m.reply m.sent.all in

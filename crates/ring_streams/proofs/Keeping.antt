@@ -4,7 +4,7 @@ use Rattle.std.proofs.lemmas.Bool.{cases_eq, eq-eqb}
 use Rattle.qh_qtd.specs.declared.qtd.Qtd.{Qtd}
 use Rattle.qh_qtd.specs.declared.queue_head.Qh.{Qh}
 use Rattle.walk_copy.specs.Overlay.{advanced}
-use Rattle.lent_structures.specs.Structures.{QueueHead, Element, Part, Parts, with_structure}
+use Rattle.lent_structures.specs.Structures.{QueueHead, Element, Structures, StructureSets, with_structure}
 use Rattle.lent_structures.proofs.Names.{not_same, put_here, put_beside, with_here, with_there}
 use Rattle.queue_parts.specs.Sound.{buffer_name}
 use Rattle.queue_parts.proofs.Altering.{found_queue, found_element, no_two}
@@ -43,38 +43,38 @@ copied_unsettled hand d is c z e = other (sym is ∙ e)
 
 -- ---- the structures of an owner stay
 
-pub bytes_kept : (hand later : Hand) (parts now : Parts) (n e : ℕ) (xs : List ℕ) → now n ≡ parts n → ((q : Qh) (t : Qtd) (bs : List ℕ) → hand_bytes later n q e t bs ≡ hand_bytes hand n q e t bs) → Told hand parts n e xs → Told later now n e xs
+pub bytes_kept : (hand later : Hand) (parts now : StructureSets) (n e : ℕ) (xs : List ℕ) → now n ≡ parts n → ((q : Qh) (t : Qtd) (bs : List ℕ) → hand_bytes later n q e t bs ≡ hand_bytes hand n q e t bs) → Told hand parts n e xs → Told later now n e xs
 bytes_kept hand later parts now n e xs same hands told = record {
   queue = told.queue;
-  head = ap (λ (part : Part). part n) same ∙ told.head;
+  head = ap (λ (part : Structures). part n) same ∙ told.head;
   qtd = told.qtd;
-  here = ap (λ (part : Part). part e) same ∙ told.here;
-  are = told.are ∙ sym (hands told.queue told.qtd (buffer_of (parts n) told.qtd)) ∙ ap (λ (part : Part). hand_bytes later n told.queue e told.qtd (buffer_of part told.qtd)) (sym same);
+  here = ap (λ (part : Structures). part e) same ∙ told.here;
+  are = told.are ∙ sym (hands told.queue told.qtd (buffer_of (parts n) told.qtd)) ∙ ap (λ (part : Structures). hand_bytes later n told.queue e told.qtd (buffer_of part told.qtd)) (sym same);
 }
 
-pub toggle_kept : (hand later : Hand) (parts now : Parts) (n : ℕ) (b : Bool) → now n ≡ parts n → ((q : Qh) → hand_toggle later n q ≡ hand_toggle hand n q) → HasToggle hand parts n b → HasToggle later now n b
+pub toggle_kept : (hand later : Hand) (parts now : StructureSets) (n : ℕ) (b : Bool) → now n ≡ parts n → ((q : Qh) → hand_toggle later n q ≡ hand_toggle hand n q) → HasToggle hand parts n b → HasToggle later now n b
 toggle_kept hand later parts now n b same hands has = record {
   queue = has.queue;
-  head = ap (λ (part : Part). part n) same ∙ has.head;
+  head = ap (λ (part : Structures). part n) same ∙ has.head;
   own = has.own;
   is = has.is ∙ sym (hands has.queue);
 }
 
-pub endpoint_kept : (parts now : Parts) (n : ℕ) (x : Endpoint) → now n ≡ parts n → HasEndpoint parts n x → HasEndpoint now n x
-endpoint_kept parts now n x same has = record { queue = has.queue; head = ap (λ (part : Part). part n) same ∙ has.head; is = has.is }
+pub endpoint_kept : (parts now : StructureSets) (n : ℕ) (x : Endpoint) → now n ≡ parts n → HasEndpoint parts n x → HasEndpoint now n x
+endpoint_kept parts now n x same has = record { queue = has.queue; head = ap (λ (part : Structures). part n) same ∙ has.head; is = has.is }
 
 -- neither hand has a transaction, and all structures stay
-pub same_kept : (hand later : Hand) (parts now : Parts) → now ≡ parts → IsUnsettled hand → IsUnsettled later → SameTold hand parts later now
+pub same_kept : (hand later : Hand) (parts now : StructureSets) → now ≡ parts → IsUnsettled hand → IsUnsettled later → SameTold hand parts later now
 same_kept hand later parts now same before after = record {
-  bytes = λ n e xs told. bytes_kept hand later parts now n e xs (ap (λ (ps : Parts). ps n) same) (λ q t bs. unsettled_bytes later n q e t bs after ∙ sym (unsettled_bytes hand n q e t bs before)) told;
-  toggle = λ n b has. toggle_kept hand later parts now n b (ap (λ (ps : Parts). ps n) same) (λ q. unsettled_toggle later n q after ∙ sym (unsettled_toggle hand n q before)) has;
-  endpoint = λ n x has. endpoint_kept parts now n x (ap (λ (ps : Parts). ps n) same) has;
+  bytes = λ n e xs told. bytes_kept hand later parts now n e xs (ap (λ (ps : StructureSets). ps n) same) (λ q t bs. unsettled_bytes later n q e t bs after ∙ sym (unsettled_bytes hand n q e t bs before)) told;
+  toggle = λ n b has. toggle_kept hand later parts now n b (ap (λ (ps : StructureSets). ps n) same) (λ q. unsettled_toggle later n q after ∙ sym (unsettled_toggle hand n q before)) has;
+  endpoint = λ n x has. endpoint_kept parts now n x (ap (λ (ps : StructureSets). ps n) same) has;
 }
 
 -- ---- a qTD is taken
 
 -- a part's bytes stay where a queue head is put in the place of one
-pub bytes_beside_head : (part : Part) (a : ℕ) (q new : Qh) (b : ℕ) → part a ≡ Some (QueueHead q) → bytes_in (with_structure part a (QueueHead new) b) ≡ bytes_in (part b)
+pub bytes_beside_head : (part : Structures) (a : ℕ) (q new : Qh) (b : ℕ) → part a ≡ Some (QueueHead q) → bytes_in (with_structure part a (QueueHead new) b) ≡ bytes_in (part b)
 bytes_beside_head part a q new b here =
     ⊎_elim (λ (same : b ≡ a). ap bytes_in (ap (with_structure part a (QueueHead new)) same ∙ with_here part a (QueueHead new)) ∙ sym (ap bytes_in (ap part same ∙ here)))
     (λ (differs : b ≢ a). ap bytes_in (with_there part a (QueueHead new) b differs)) (cases_eq b a)
@@ -98,7 +98,7 @@ pub left_on : (q : Qh) (e : ℕ) (t : Qtd) → q.token.active ≡ true → left_
 left_on q e t on = ap (λ (b : Bool). if b && q.current == e then q.token.total else t.token.total) on
 
 -- the qTD taken has as many left as the overlay, and another one as many as before
-left_taken : (part : Part) (q : Qh) (a : ℕ) (t : Qtd) (e : ℕ) (u : Qtd) → part a ≡ Some (Element t) → part e ≡ Some (Element u) → t.token.active ≡ true → left_of (advanced q a t) e u ≡ u.token.total
+left_taken : (part : Structures) (q : Qh) (a : ℕ) (t : Qtd) (e : ℕ) (u : Qtd) → part a ≡ Some (Element t) → part e ≡ Some (Element u) → t.token.active ≡ true → left_of (advanced q a t) e u ≡ u.token.total
 left_taken part q a t e u taken here on =
     let v = is_advanced q a t in
     left_on (advanced q a t) e u (v.active ∙ on)
@@ -107,15 +107,15 @@ left_taken part q a t e u taken here on =
     (λ (differs : a ≢ e). ap (λ (b : Bool). if b then (advanced q a t).token.total else u.token.total) (not_same a e differs)) (cases_eq a e)
 
 -- what a taking knows
-module _ (parts : Parts) (hand : Hand) (now : Parts) (later : Hand) (k : Takes parts hand now later) where
+module _ (parts : StructureSets) (hand : Hand) (now : StructureSets) (later : Hand) (k : Takes parts hand now later) where
   at_is : now k.copy.at ≡ with_structure (parts k.copy.at) k.copy.at (QueueHead (advanced k.copy.queue k.element k.qtd))
-  at_is = ap (λ (ps : Parts). ps k.copy.at) k.now_is ∙ put_here parts k.copy.at k.copy.at (QueueHead (advanced k.copy.queue k.element k.qtd))
+  at_is = ap (λ (ps : StructureSets). ps k.copy.at) k.now_is ∙ put_here parts k.copy.at k.copy.at (QueueHead (advanced k.copy.queue k.element k.qtd))
 
   beside : (n : ℕ) → n ≢ k.copy.at → now n ≡ parts n
-  beside n differs = ap (λ (ps : Parts). ps n) k.now_is ∙ put_beside parts k.copy.at k.copy.at (QueueHead (advanced k.copy.queue k.element k.qtd)) n differs
+  beside n differs = ap (λ (ps : StructureSets). ps n) k.now_is ∙ put_beside parts k.copy.at k.copy.at (QueueHead (advanced k.copy.queue k.element k.qtd)) n differs
 
   head_now : now k.copy.at k.copy.at ≡ Some (QueueHead (advanced k.copy.queue k.element k.qtd))
-  head_now = ap (λ (part : Part). part k.copy.at) at_is ∙ with_here (parts k.copy.at) k.copy.at (QueueHead (advanced k.copy.queue k.element k.qtd))
+  head_now = ap (λ (part : Structures). part k.copy.at) at_is ∙ with_here (parts k.copy.at) k.copy.at (QueueHead (advanced k.copy.queue k.element k.qtd))
 
   before : IsUnsettled hand
   before = copied_unsettled hand k.copy k.in_hand
@@ -128,7 +128,7 @@ module _ (parts : Parts) (hand : Hand) (now : Parts) (later : Hand) (k : Takes p
       let q : Qh = advanced k.copy.queue k.element k.qtd in
       let same : told.queue ≡ k.copy.queue = found_queue (parts k.copy.at k.copy.at) told.queue k.copy.queue told.head here in
       let buffer : buffer_of (now k.copy.at) told.qtd ≡ buffer_of (parts k.copy.at) told.qtd =
-      ap (λ (part : Part). buffer_of part told.qtd) at_is ∙ bytes_beside_head (parts k.copy.at) k.copy.at k.copy.queue q (buffer_name told.qtd) here in
+      ap (λ (part : Structures). buffer_of part told.qtd) at_is ∙ bytes_beside_head (parts k.copy.at) k.copy.at k.copy.queue q (buffer_name told.qtd) here in
       let bs : List ℕ = buffer_of (parts k.copy.at) told.qtd in
       let left : left_of q e told.qtd ≡ left_of told.queue e told.qtd =
       left_taken (parts k.copy.at) k.copy.queue k.element k.qtd e told.qtd k.here told.here k.published
@@ -137,7 +137,7 @@ module _ (parts : Parts) (hand : Hand) (now : Parts) (later : Hand) (k : Takes p
         queue = q;
         head = head_now;
         qtd = told.qtd;
-        here = ap (λ (part : Part). part e) at_is
+        here = ap (λ (part : Structures). part e) at_is
             ∙ with_there (parts k.copy.at) k.copy.at (QueueHead q) e (no_two (parts k.copy.at) e k.copy.at (Element told.qtd) (QueueHead k.copy.queue) told.here here (λ z. cc)) ∙ told.here;
         are = told.are ∙ unsettled_bytes hand k.copy.at told.queue e told.qtd bs before ∙ ap (λ (i : ℕ). take (length bs - i) bs) (sym left)
             ∙ ap (λ (ys : List ℕ). told_bytes q e told.qtd ys) (sym buffer) ∙ sym (unsettled_bytes later k.copy.at q e told.qtd (buffer_of (now k.copy.at) told.qtd) after);

@@ -4,9 +4,9 @@ use Rattle.std.proofs.lemmas.Bool.{cases_eq, eq-eqb}
 use Rattle.usb_base.specs.declared.packets.Reply.{Reply}
 use Rattle.qh_qtd.specs.declared.qtd.Qtd.{Qtd}
 use Rattle.qh_qtd.specs.declared.queue_head.Qh.{Qh}
-use Rattle.walk_copy.specs.Overlay.{settled_queue, place_of, moved}
+use Rattle.walk_copy.specs.Overlay.{settled_queue, buffer_place, moved}
 use Rattle.walk_copy.specs.WriteBack.{moved_by}
-use Rattle.lent_structures.specs.Structures.{QueueHead, Element, Buffer, Part, Parts, put, with_structure}
+use Rattle.lent_structures.specs.Structures.{QueueHead, Element, Buffer, Structures, StructureSets, put, with_structure}
 use Rattle.lent_structures.specs.Changes.{relinked, overwritten}
 use Rattle.lent_structures.proofs.Names.{not_same, put_here, put_same, put_else, with_here, with_there}
 use Rattle.lent_structures.proofs.Storing.{length-overwritten}
@@ -25,27 +25,27 @@ use Rattle.ring_streams.proofs.Growing.{overwritten_by_none, works_here, works_n
 
 -- ---- bytes of a part
 
-bytes_beside_element : (part : Part) (a : ℕ) (t u : Qtd) (b : ℕ) → part a ≡ Some (Element t) → bytes_in (with_structure part a (Element u) b) ≡ bytes_in (part b)
+bytes_beside_element : (part : Structures) (a : ℕ) (t u : Qtd) (b : ℕ) → part a ≡ Some (Element t) → bytes_in (with_structure part a (Element u) b) ≡ bytes_in (part b)
 bytes_beside_element part a t u b here =
     ⊎_elim (λ (same : b ≡ a). ap bytes_in (ap (with_structure part a (Element u)) same ∙ with_here part a (Element u)) ∙ sym (ap bytes_in (ap part same ∙ here)))
     (λ (differs : b ≢ a). ap bytes_in (with_there part a (Element u) b differs)) (cases_eq b a)
 
 -- the buffer that received them has them, and no other one does
-into_here : (parts : Parts) (n : ℕ) (q : Qh) (t : Qtd) (got : List ℕ) → bytes_in (received_parts parts n got (received_into (parts n) q t got) n (buffer_name t)) ≡ overwritten (buffer_of (parts n) t) (place_of q - t.offset) got
-into_here parts n q t [] = sym (overwritten_by_none (buffer_of (parts n) t) (place_of q - t.offset))
-into_here parts n q t (b ∷ bs) = ap bytes_in (put_same parts n (buffer_name t) (Buffer (element_pages t) t.offset (overwritten (buffer_of (parts n) t) (place_of q - t.offset) (b ∷ bs))))
+into_here : (parts : StructureSets) (n : ℕ) (q : Qh) (t : Qtd) (got : List ℕ) → bytes_in (received_parts parts n got (received_into (parts n) q t got) n (buffer_name t)) ≡ overwritten (buffer_of (parts n) t) (buffer_place q - t.offset) got
+into_here parts n q t [] = sym (overwritten_by_none (buffer_of (parts n) t) (buffer_place q - t.offset))
+into_here parts n q t (b ∷ bs) = ap bytes_in (put_same parts n (buffer_name t) (Buffer (element_pages t) t.offset (overwritten (buffer_of (parts n) t) (buffer_place q - t.offset) (b ∷ bs))))
 
-into_beside : (parts : Parts) (n : ℕ) (q : Qh) (t : Qtd) (got : List ℕ) (a : ℕ) → a ≢ buffer_name t → bytes_in (received_parts parts n got (received_into (parts n) q t got) n a) ≡ bytes_in (parts n a)
+into_beside : (parts : StructureSets) (n : ℕ) (q : Qh) (t : Qtd) (got : List ℕ) (a : ℕ) → a ≢ buffer_name t → bytes_in (received_parts parts n got (received_into (parts n) q t got) n a) ≡ bytes_in (parts n a)
 into_beside parts n q t [] a differs = refl
-into_beside parts n q t (b ∷ bs) a differs = ap bytes_in (put_else parts n (buffer_name t) (Buffer (element_pages t) t.offset (overwritten (buffer_of (parts n) t) (place_of q - t.offset) (b ∷ bs))) a differs)
+into_beside parts n q t (b ∷ bs) a differs = ap bytes_in (put_else parts n (buffer_name t) (Buffer (element_pages t) t.offset (overwritten (buffer_of (parts n) t) (buffer_place q - t.offset) (b ∷ bs))) a differs)
 
 -- as many as before
-into_length : (part : Part) (q x : Qh) (t : Qtd) (got : List ℕ) → IsReceived part x got (received_into part q t got) → length (overwritten (buffer_of part t) (place_of q - t.offset) got) ≡ length (buffer_of part t)
-into_length part q x t [] is = ap length (overwritten_by_none (buffer_of part t) (place_of q - t.offset))
-into_length part q x t (b ∷ bs) is = length-overwritten (buffer_of part t) (place_of q - t.offset) (b ∷ bs) is.fits
+into_length : (part : Structures) (q x : Qh) (t : Qtd) (got : List ℕ) → IsReceived part x got (received_into part q t got) → length (overwritten (buffer_of part t) (buffer_place q - t.offset) got) ≡ length (buffer_of part t)
+into_length part q x t [] is = ap length (overwritten_by_none (buffer_of part t) (buffer_place q - t.offset))
+into_length part q x t (b ∷ bs) is = length-overwritten (buffer_of part t) (buffer_place q - t.offset) (b ∷ bs) is.fits
 
 -- another qTD has another buffer
-into_other : (parts : Parts) (n : ℕ) (q x : Qh) (t : Qtd) (got : List ℕ) (a e : ℕ) (u : Qtd) → AreOwn (parts n) → IsReceived (parts n) x got (received_into (parts n) q t got) → parts n a ≡ Some (Element t) → parts n e ≡ Some (Element u) → e ≢ a → bytes_in (received_parts parts n got (received_into (parts n) q t got) n (buffer_name u)) ≡ bytes_in (parts n (buffer_name u))
+into_other : (parts : StructureSets) (n : ℕ) (q x : Qh) (t : Qtd) (got : List ℕ) (a e : ℕ) (u : Qtd) → AreOwn (parts n) → IsReceived (parts n) x got (received_into (parts n) q t got) → parts n a ≡ Some (Element t) → parts n e ≡ Some (Element u) → e ≢ a → bytes_in (received_parts parts n got (received_into (parts n) q t got) n (buffer_name u)) ≡ bytes_in (parts n (buffer_name u))
 into_other parts n q x t [] a e u own is current other differs = refl
 into_other parts n q x t (b ∷ bs) a e u own is current other differs =
     into_beside parts n q t (b ∷ bs) (buffer_name u) (λ same.
@@ -87,7 +87,7 @@ left_other c z e u differs =
     ap (λ (b : Bool). if b then (queue_written c z).token.total else u.token.total) (works_not (queue_written c z) e (λ same. differs (sym v.current ∙ same)))
     ∙ sym (ap (λ (b : Bool). if b then c.queue.token.total else u.token.total) (works_not c.queue e differs))
 
-module _ (member : ℕ → Bool) (parts : Parts) (hand : Hand) (now : Parts) (later : Hand) (k : WritesBack parts hand now later) where
+module _ (member : ℕ → Bool) (parts : StructureSets) (hand : Hand) (now : StructureSets) (later : Hand) (k : WritesBack parts hand now later) where
   abbrev owner : ℕ
   owner = k.copy.at
 
@@ -97,7 +97,7 @@ module _ (member : ℕ → Bool) (parts : Parts) (hand : Hand) (now : Parts) (la
   abbrev into : Received
   into = received_into (parts k.copy.at) k.copy.queue k.element k.settled.got
 
-  abbrev back : Parts
+  abbrev back : StructureSets
   back = parts_back parts k.copy.at k.copy.at k.copy.queue copy_queue (moved_by k.settled.outcome) k.settled.got into k.element
 
   abbrev element_now : Qtd
@@ -117,26 +117,26 @@ module _ (member : ℕ → Bool) (parts : Parts) (hand : Hand) (now : Parts) (la
   after = empty_unsettled later k.nothing
 
   beside : (n : ℕ) → n ≢ owner → now n ≡ parts n
-  beside n differs = ap (λ (ps : Parts). ps n) k.now_is ∙ back_beside parts owner owner k.copy.queue copy_queue (moved_by k.settled.outcome) k.settled.got into k.element n differs
+  beside n differs = ap (λ (ps : StructureSets). ps n) k.now_is ∙ back_beside parts owner owner k.copy.queue copy_queue (moved_by k.settled.outcome) k.settled.got into k.element n differs
 
   head_now : CanBe → now owner owner ≡ Some (QueueHead (queue_written k.copy k.settled))
-  head_now can = ap (λ (ps : Parts). ps owner owner) k.now_is ∙ back_head parts owner owner k.copy.queue copy_queue (moved_by k.settled.outcome) k.settled.got into k.element can
+  head_now can = ap (λ (ps : StructureSets). ps owner owner) k.now_is ∙ back_head parts owner owner k.copy.queue copy_queue (moved_by k.settled.outcome) k.settled.got into k.element can
 
   current_now : now owner k.copy.queue.current ≡ Some (Element element_now)
   current_now =
-      ap (λ (ps : Parts). ps owner k.copy.queue.current) k.now_is ∙ ap (back owner) (sym (settled_copy k.copy k.settled).current)
+      ap (λ (ps : StructureSets). ps owner k.copy.queue.current) k.now_is ∙ ap (back owner) (sym (settled_copy k.copy k.settled).current)
       ∙ back_element parts owner owner k.copy.queue copy_queue (moved_by k.settled.outcome) k.settled.got into k.element
 
   -- the bytes of any buffer are those once the received ones were put
   bytes_now : CanBe → (a : ℕ) → bytes_in (now owner a) ≡ bytes_in (received_parts parts owner k.settled.got into owner a)
   bytes_now can a =
       let x : Qh = moved copy_queue (moved_by k.settled.outcome) in
-      let first : Parts = received_parts parts owner k.settled.got into in
-      let mid : Parts = put first owner owner (QueueHead (relinked k.copy.queue x)) in
-      ap (λ (ps : Parts). bytes_in (ps owner a)) k.now_is
-      ∙ ap (λ (part : Part). bytes_in (part a)) (put_here mid owner copy_queue.current (Element element_now))
+      let first : StructureSets = received_parts parts owner k.settled.got into in
+      let mid : StructureSets = put first owner owner (QueueHead (relinked k.copy.queue x)) in
+      ap (λ (ps : StructureSets). bytes_in (ps owner a)) k.now_is
+      ∙ ap (λ (part : Structures). bytes_in (part a)) (put_here mid owner copy_queue.current (Element element_now))
       ∙ bytes_beside_element (mid owner) copy_queue.current k.element element_now a (between_element parts owner owner k.copy.queue copy_queue x k.settled.got into k.element can)
-      ∙ ap (λ (part : Part). bytes_in (part a)) (put_here first owner owner (QueueHead (relinked k.copy.queue x)))
+      ∙ ap (λ (part : Structures). bytes_in (part a)) (put_here first owner owner (QueueHead (relinked k.copy.queue x)))
       ∙ bytes_beside_head (first owner) owner k.copy.queue (relinked k.copy.queue x) a
       (received_else parts owner copy_queue k.settled.got into owner (QueueHead k.copy.queue) can.received can.copy.head (head_is_no_buffer k.copy.queue))
 
@@ -150,7 +150,7 @@ module _ (member : ℕ → Bool) (parts : Parts) (hand : Hand) (now : Parts) (la
       let element : told.qtd ≡ k.element = found_element (parts owner e) told.qtd k.element told.here k.here in
       let bs : List ℕ = buffer_of (parts owner) k.element in
       let new : Qh = queue_written k.copy k.settled in
-      let cs : List ℕ = overwritten bs (place_of q - k.element.offset) k.settled.got in
+      let cs : List ℕ = overwritten bs (buffer_place q - k.element.offset) k.settled.got in
       let buffer : buffer_of (now owner) element_now ≡ cs =
       ap (λ (a : ℕ). bytes_in (now owner a)) (name_written (moved copy_queue (moved_by k.settled.outcome)) k.element (moved copy_queue (moved_by k.settled.outcome)).token.active)
       ∙ bytes_now can (buffer_name k.element) ∙ into_here parts owner q k.element k.settled.got in
@@ -186,7 +186,7 @@ module _ (member : ℕ → Bool) (parts : Parts) (hand : Hand) (now : Parts) (la
         queue = new;
         head = head_now can;
         qtd = told.qtd;
-        here = ap (λ (ps : Parts). ps owner e) k.now_is
+        here = ap (λ (ps : StructureSets). ps owner e) k.now_is
             ∙ back_other_element parts owner owner q copy_queue (moved_by k.settled.outcome) k.settled.got into k.element e told.qtd can told.here (λ is. differs (sym current ∙ sym is));
         are = told.are
             ∙ ap (λ (h : Hand). hand_bytes h owner told.queue e told.qtd bs) k.in_hand

@@ -9,34 +9,34 @@ use Rattle.usb_base.specs.declared.packets.Ask.{Ask}
 use Rattle.usb_base.specs.declared.packets.Reply.{Reply}
 use Rattle.qh_qtd.specs.declared.qtd.Qtd.{Qtd}
 use Rattle.qh_qtd.specs.declared.queue_head.Qh.{Qh}
-use Rattle.walk_copy.specs.Overlay.{place_of}
+use Rattle.walk_copy.specs.Overlay.{buffer_place}
 use Rattle.walk_copy.specs.WriteBack.{moved_by}
 use Rattle.async_walk.specs.declared.state.WalkStep.{WalkStep}
-use Rattle.async_walk.specs.Rows.{Place}
-use Rattle.lent_structures.specs.Structures.{Parts}
+use Rattle.async_walk.specs.Rows.{WalkPlace}
+use Rattle.lent_structures.specs.Structures.{StructureSets}
 use Rattle.queue_parts.specs.Sound.{IsMember}
 use Rattle.ring_walk.specs.Hand.{Copy, Settlement, Hand}
 use Rattle.ring_walk.specs.Ring.{Base}
 use Rattle.ring_walk.specs.Effects.{buffer_of, settlement, Makes, Happens}
 use Rattle.ring_streams.specs.Told.{Told, HasToggle, SameTold}
 
-abbrev pub AreMembers : (ℕ → Bool) → Parts → Type 0
+abbrev pub AreMembers : (ℕ → Bool) → StructureSets → Type 0
 AreMembers member parts = (n : ℕ) → member n ≡ true → IsMember member n (parts n)
 
 abbrev pub moved_bytes : Qh → Qtd → Settlement → List ℕ → List ℕ
-moved_bytes q t z bs = if q.token.pid == 1 then z.got else take (moved_by z.outcome) (drop (place_of q - t.offset) bs)
+moved_bytes q t z bs = if q.token.pid == 1 then z.got else take (moved_by z.outcome) (drop (buffer_place q - t.offset) bs)
 
 -- the transaction of this copy came to z, and worked on the qTD t
-pub record Grows (hand : Hand) (parts : Parts) (later : Hand) (c : Copy) (z : Settlement) (t : Qtd) : Type 0 where
+pub record Grows (hand : Hand) (parts : StructureSets) (later : Hand) (c : Copy) (z : Settlement) (t : Qtd) : Type 0 where
   pub bytes : (xs : List ℕ) → Told hand parts c.at c.queue.current xs → Told later parts c.at c.queue.current (xs ++ moved_bytes c.queue t z (buffer_of (parts c.at) t))
   pub other_bytes : (n e : ℕ) (xs : List ℕ) → (((n ≡ c.at) × (e ≡ c.queue.current)) → ⊥) → Told hand parts n e xs → Told later parts n e xs
   pub toggle : (b : Bool) → HasToggle hand parts c.at b → (b ≡ c.queue.token.toggle) × HasToggle later parts c.at z.host.toggle
   pub other_toggles : (n : ℕ) (b : Bool) → n ≢ c.at → HasToggle hand parts n b → HasToggle later parts n b
 
-pub data StreamEffect {W : Type 0} (transacts : W → Ask → List ℕ → Reply → W → Type 0) (parts : Parts) (hand : Hand) (wire after : W) (now : Parts) (later : Hand) : Type 0 where
+pub data StreamEffect {W : Type 0} (transacts : W → Ask → List ℕ → Reply → W → Type 0) (parts : StructureSets) (hand : Hand) (wire after : W) (now : StructureSets) (later : Hand) : Type 0 where
   same : SameTold hand parts later now → after ≡ wire → StreamEffect transacts parts hand wire after now later
   grows : (m : Makes transacts parts hand wire after later) → now ≡ parts → Grows hand parts later m.copy (settlement m.copy.queue m.out m.reply) m.sent.element → StreamEffect transacts parts hand wire after now later
 
-pub record Streams {W : Type 0} (transacts : W → Ask → List ℕ → Reply → W → Type 0) (base : Base) (member : ℕ → Bool) (parts : Parts) (hand : Hand) (wire after : W) (new : Place) (kind : WalkStep) : Type 0 where
+pub record Streams {W : Type 0} (transacts : W → Ask → List ℕ → Reply → W → Type 0) (base : Base) (member : ℕ → Bool) (parts : StructureSets) (hand : Hand) (wire after : W) (new : WalkPlace) (kind : WalkStep) : Type 0 where
   pub happens : Happens transacts base member parts hand wire after new kind
   pub streams : StreamEffect transacts parts hand wire after happens.now happens.later

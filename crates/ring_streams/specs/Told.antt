@@ -14,8 +14,8 @@
 use Rattle.std.specs.Prelude.{◌≡◌, ℕ, ◌-◌, Bool, false, ◌&&◌, ◌==◌, List, length, take, Some, if◌then◌else◌}
 use Rattle.qh_qtd.specs.declared.qtd.Qtd.{Qtd}
 use Rattle.qh_qtd.specs.declared.queue_head.Qh.{Qh}
-use Rattle.walk_copy.specs.Overlay.{place_of}
-use Rattle.lent_structures.specs.Structures.{QueueHead, Element, Parts}
+use Rattle.walk_copy.specs.Overlay.{buffer_place}
+use Rattle.lent_structures.specs.Structures.{QueueHead, Element, StructureSets}
 use Rattle.lent_structures.specs.Changes.{overwritten}
 use Rattle.ring_walk.specs.Hand.{Settlement, Hand, Empty, Copied, Settled, Stale}
 use Rattle.ring_walk.specs.Effects.{buffer_of}
@@ -32,7 +32,7 @@ abbrev pub told_bytes : Qh → ℕ → Qtd → List ℕ → List ℕ
 told_bytes q e t bs = take (length bs - left_of q e t) bs
 
 abbrev pub settled_bytes : Qh → Qtd → Settlement → List ℕ → List ℕ
-settled_bytes q t z bs = take (length bs - z.host.left) (overwritten bs (place_of q - t.offset) z.got)
+settled_bytes q t z bs = take (length bs - z.host.left) (overwritten bs (buffer_place q - t.offset) z.got)
 
 abbrev pub hand_bytes : Hand → ℕ → Qh → ℕ → Qtd → List ℕ → List ℕ
 hand_bytes Empty n q e t bs = told_bytes q e t bs
@@ -40,7 +40,7 @@ hand_bytes (Copied c) n q e t bs = told_bytes q e t bs
 hand_bytes (Settled c z) n q e t bs = if c.at == n && works_on q e then settled_bytes q t z bs else told_bytes q e t bs
 hand_bytes (Stale at old) n q e t bs = told_bytes q e t bs
 
-pub record Told (hand : Hand) (parts : Parts) (n e : ℕ) (xs : List ℕ) : Type 0 where
+pub record Told (hand : Hand) (parts : StructureSets) (n e : ℕ) (xs : List ℕ) : Type 0 where
   pub queue : Qh
   pub head : parts n n ≡ Some (QueueHead queue)
   pub qtd : Qtd
@@ -55,7 +55,7 @@ hand_toggle (Copied c) n q = q.token.toggle
 hand_toggle (Settled c z) n q = if c.at == n then z.host.toggle else q.token.toggle
 hand_toggle (Stale at old) n q = q.token.toggle
 
-pub record HasToggle (hand : Hand) (parts : Parts) (n : ℕ) (b : Bool) : Type 0 where
+pub record HasToggle (hand : Hand) (parts : StructureSets) (n : ℕ) (b : Bool) : Type 0 where
   pub queue : Qh
   pub head : parts n n ≡ Some (QueueHead queue)
   pub own : queue.dtc ≡ false
@@ -75,14 +75,14 @@ pub record Endpoint : Type 0 where
 abbrev pub endpoint_of : Qh → Endpoint
 endpoint_of q = record { addr = q.addr; ep = q.ep; speed = q.eps; max = q.max; dtc = q.dtc; hub = q.hub; port = q.port }
 
-pub record HasEndpoint (parts : Parts) (n : ℕ) (x : Endpoint) : Type 0 where
+pub record HasEndpoint (parts : StructureSets) (n : ℕ) (x : Endpoint) : Type 0 where
   pub queue : Qh
   pub head : parts n n ≡ Some (QueueHead queue)
   pub is : x ≡ endpoint_of queue
 
 -- ---- nothing is told otherwise
 
-pub record SameTold (hand : Hand) (parts : Parts) (later : Hand) (now : Parts) : Type 0 where
+pub record SameTold (hand : Hand) (parts : StructureSets) (later : Hand) (now : StructureSets) : Type 0 where
   pub bytes : (n e : ℕ) (xs : List ℕ) → Told hand parts n e xs → Told later now n e xs
   pub toggle : (n : ℕ) (b : Bool) → HasToggle hand parts n b → HasToggle later now n b
   pub endpoint : (n : ℕ) (x : Endpoint) → HasEndpoint parts n x → HasEndpoint now n x

@@ -6,13 +6,13 @@ use Rattle.link_words.specs.declared.kinds.Link.TheVariants as links
 use Rattle.qh_qtd.specs.declared.queue_head.Qh.{Qh}
 use Rattle.qh_qtd.specs.QueueHead.{IsQhInRange}
 use Rattle.queue_words.specs.Structures.{queue_head_at_address}
-use Rattle.async_walk.specs.declared.rows.Row.TheVariants as rows
+use Rattle.async_walk.specs.declared.rows.WalkRow.TheVariants as rows
 use Rattle.async_walk.specs.declared.state.ReloadMode.{ReloadMode}
 use Rattle.async_walk.specs.declared.state.ReloadMode.TheVariants.{WaitHead, Reload, WaitStart}
 use Rattle.async_walk.specs.Naks.{mode_after, reloaded}
-use Rattle.async_walk.specs.Rows.{Place, row_at, row_of, ring_row, fetch_row, read_at, ring_read, was_read, step_of, Leads, head_ended, fetched}
+use Rattle.async_walk.specs.Rows.{WalkPlace, row_at, walk_row, ring_row, fetch_row, read_at, ring_read, was_read, step_of, Leads, head_ended, fetched}
 use Rattle.async_walk.proofs.Ranges.{reloaded_in_range}
-use Rattle.lent_structures.specs.Structures.{QueueHead, Parts, HoldsQueueHead}
+use Rattle.lent_structures.specs.Structures.{QueueHead, StructureSets, HoldsQueueHead}
 use Rattle.lent_structures.proofs.Reading.{head_read, head_not_refused}
 use Rattle.queue_parts.specs.Sound.{IsMember}
 use Rattle.ring_walk.specs.Hand.{Copy, copied_queue, Empty, Copied}
@@ -31,14 +31,14 @@ naks_only WaitHead a q = refl
 naks_only Reload a q = refl
 naks_only WaitStart a q = refl
 
-module _ {W : Type 0} (transacts : W → Ask → List ℕ → Reply → W → Type 0) (base : Base) (member : ℕ → Bool) (parts : Parts) (wire after : W) where
-  ended_ring : (s : Place) → IsRing base member parts Empty s → IsRing base member parts Empty (head_ended s)
+module _ {W : Type 0} (transacts : W → Ask → List ℕ → Reply → W → Type 0) (base : Base) (member : ℕ → Bool) (parts : StructureSets) (wire after : W) where
+  ended_ring : (s : WalkPlace) → IsRing base member parts Empty s → IsRing base member parts Empty (head_ended s)
   ended_ring s k =
       let registers = head_base s.registers s.registers.doorbell in
       ring_at base member parts Empty Empty s (head_ended s) k refl registers
       (record { to = base.async_list_address; leads = ap links.Qh (ap (λ (b : Base). b.async_list_address) (registers ∙ k.registers)); on = k.start }) k.held tt
 
-  fetched_ring : (s : Place) (a : ℕ) → member a ≡ true → (m : IsMember member a (parts a)) → IsRing base member parts Empty s → IsRing base member parts (Copied (read_copy (mode_after m.queue s.walk.mode) a m.queue)) (fetched a m.queue s)
+  fetched_ring : (s : WalkPlace) (a : ℕ) → member a ≡ true → (m : IsMember member a (parts a)) → IsRing base member parts Empty s → IsRing base member parts (Copied (read_copy (mode_after m.queue s.walk.mode) a m.queue)) (fetched a m.queue s)
   fetched_ring s a on m k =
       let mode : ReloadMode = mode_after m.queue s.walk.mode in
       let h : HoldsQueueHead s.memory a m.queue = k.tells.each a a (QueueHead m.queue) m.here in
@@ -47,7 +47,7 @@ module _ {W : Type 0} (transacts : W → Ask → List ℕ → Reply → W → Ty
       (ap (λ (x : Qh). Some (record { at = a; queue_head = x; settled = None })) (naks_only mode a m.queue))
       (record { on = on; here = m.here; link = m.link; range = subst IsQhInRange (naks_only mode a m.queue) (reloaded_in_range mode m.queue h.range) })
 
-  fetch_by : (s new : Place) (a : ℕ) → member a ≡ true → (m : IsMember member a (parts a)) → IsRing base member parts Empty s → (b : Bool) → Leads transacts (if b then rows.HeadEnds else rows.Fetch a m.queue) s wire new after → Happens transacts base member parts Empty wire after new (step_of (if b then rows.HeadEnds else rows.Fetch a m.queue) s)
+  fetch_by : (s new : WalkPlace) (a : ℕ) → member a ≡ true → (m : IsMember member a (parts a)) → IsRing base member parts Empty s → (b : Bool) → Leads transacts (if b then rows.HeadEnds else rows.Fetch a m.queue) s wire new after → Happens transacts base member parts Empty wire after new (step_of (if b then rows.HeadEnds else rows.Fetch a m.queue) s)
   fetch_by s new a on m k true lead = record {
     now = parts;
     later = Empty;
@@ -61,7 +61,7 @@ module _ {W : Type 0} (transacts : W → Ask → List ℕ → Reply → W → Ty
     effect = reads (record { nothing = refl; copy = read_copy (mode_after m.queue s.walk.mode) a m.queue; here = m.here; link = refl; in_hand = refl }) refl lead.1;
   }
 
-  pub empty_event : (s new : Place) → IsRing base member parts Empty s → Leads transacts (row_of s) (was_read s) wire new after → Happens transacts base member parts Empty wire after new (step_of (row_of s) (was_read s))
+  pub empty_event : (s new : WalkPlace) → IsRing base member parts Empty s → Leads transacts (walk_row s) (was_read s) wire new after → Happens transacts base member parts Empty wire after new (step_of (walk_row s) (was_read s))
   empty_event s new k lead =
       let a : ℕ = k.cursor.to in
       let m : IsMember member a (parts a) = k.members a k.cursor.on in

@@ -1,5 +1,5 @@
 -- Each event, by what is in hand.
-use Rattle.std.proofs.Common.{◌≡◌, ℕ, nat_lt, Bool, true, false, not, ◌&&◌, ◌==◌, if◌then◌else◌, List, Some, ap, refl, subst, ◌∙◌}
+use Rattle.std.proofs.Common.{◌≡◌, ℕ, nat_lt, Bool, true, false, if◌then◌else◌, List, Some, ap, refl, subst, ◌∙◌}
 use Rattle.usb_base.specs.declared.packets.Ask.{Ask}
 use Rattle.usb_base.specs.declared.packets.Reply.{Reply}
 use Rattle.link_words.specs.declared.kinds.QtdLink.{QtdLink}
@@ -10,10 +10,10 @@ use Rattle.qh_qtd.specs.declared.queue_head.Qh.{Qh}
 use Rattle.walk_copy.specs.declared.held.Visit.{Visit}
 use Rattle.walk_copy.specs.declared.held.Visit.TheVariants as visits
 use Rattle.walk_copy.specs.Visits.{next_pointer, visit_of}
-use Rattle.async_walk.specs.declared.rows.Row.TheVariants as rows
+use Rattle.async_walk.specs.declared.rows.WalkRow.TheVariants as rows
 use Rattle.async_walk.specs.Naks.{may_work, planned}
-use Rattle.async_walk.specs.Rows.{Place, started, row_at, row_of, work_row, taken_row, take_row, visit_row, read_at, take_read, visit_read, was_read, at_event, event_row, step_of, Leads}
-use Rattle.lent_structures.specs.Structures.{Element, Parts}
+use Rattle.async_walk.specs.Rows.{WalkPlace, started, row_at, walk_row, work_row, taken_row, take_row, visit_row, read_at, take_read, visit_read, was_read, at_event, event_row, step_of, Leads}
+use Rattle.lent_structures.specs.Structures.{Element, StructureSets}
 use Rattle.lent_structures.proofs.Reading.{element_read, element_not_refused}
 use Rattle.queue_parts.specs.Sound.{LeadsOn, IsWorking, IsSoundQueue, IsMember}
 use Rattle.queue_parts.proofs.Altering.{found_queue}
@@ -22,25 +22,25 @@ use Rattle.ring_walk.specs.Ring.{Base, IsRing}
 use Rattle.ring_walk.specs.Effects.{AreBytesHeard, Happens}
 use Rattle.ring_walk.proofs.Ringing.{ring_started, same_memory, happens_at}
 use Rattle.ring_walk.proofs.Fetching.{empty_event}
-use Rattle.ring_walk.proofs.Visiting.{VisitOf, rests, works, takes, visit_found, halted_rests, pointer_leads, skip_event, late_event, stale_event}
+use Rattle.ring_walk.proofs.Visiting.{VisitOf, rests, works, takes, visit_found, halted_rests, skip_event, late_event, stale_event}
 use Rattle.ring_walk.proofs.Taking.{take_event}
 use Rattle.ring_walk.proofs.Making.{make_event}
 use Rattle.ring_walk.proofs.Writing.{write_event}
 
-module _ {W : Type 0} (transacts : W → Ask → List ℕ → Reply → W → Type 0) (base : Base) (member : ℕ → Bool) (parts : Parts) (wire after : W) where
+module _ {W : Type 0} (transacts : W → Ask → List ℕ → Reply → W → Type 0) (base : Base) (member : ℕ → Bool) (parts : StructureSets) (wire after : W) where
   -- the queue head of the copy in hand is sound
-  copied_sound : (s : Place) (c : Copy) → IsRing base member parts (Copied c) s → IsSoundQueue (parts c.at) c.queue
+  copied_sound : (s : WalkPlace) (c : Copy) → IsRing base member parts (Copied c) s → IsSoundQueue (parts c.at) c.queue
   copied_sound s c k =
       let m : IsMember member c.at (parts c.at) = k.members c.at k.in_hand.on in
       subst (IsSoundQueue (parts c.at)) (found_queue (parts c.at c.at) m.queue c.queue m.here k.in_hand.here) m.sound
 
   -- the qTD that would be taken is active, or not
-  taken_by : (s new : Place) (c : Copy) (a : ℕ) (t : Qtd) (b : Bool) → t.token.active ≡ b → IsRing base member parts (Copied c) s → c.queue.token.halted ≡ false → c.queue.token.active ≡ false → qtd_link_of (next_pointer c.queue) ≡ qtd_links.To a → parts c.at a ≡ Some (Element t) → Leads transacts (if b then rows.Advance a t else rows.Skip) s wire new after → Happens transacts base member parts (Copied c) wire after new (step_of (if b then rows.Advance a t else rows.Skip) s)
+  taken_by : (s new : WalkPlace) (c : Copy) (a : ℕ) (t : Qtd) (b : Bool) → t.token.active ≡ b → IsRing base member parts (Copied c) s → c.queue.token.halted ≡ false → c.queue.token.active ≡ false → qtd_link_of (next_pointer c.queue) ≡ qtd_links.To a → parts c.at a ≡ Some (Element t) → Leads transacts (if b then rows.Advance a t else rows.Skip) s wire new after → Happens transacts base member parts (Copied c) wire after new (step_of (if b then rows.Advance a t else rows.Skip) s)
   taken_by s new c a t true on k off idle leads here lead = take_event transacts base member parts wire after s new c a t k off idle leads here on lead
   taken_by s new c a t false on k off idle leads here lead = skip_event transacts base member parts wire after s new c k lead
 
-  take_by : (s new : Place) (c : Copy) (l : QtdLink) → qtd_link_of (next_pointer c.queue) ≡ l → LeadsOn (parts c.at) l → IsRing base member parts (Copied c) s → c.queue.token.halted ≡ false → c.queue.token.active ≡ false → row_of s ≡ take_row s.memory l → read_at s s.walk.held ≡ take_read s.memory l
-      → Leads transacts (row_of s) (was_read s) wire new after → Happens transacts base member parts (Copied c) wire after new (step_of (row_of s) (was_read s))
+  take_by : (s new : WalkPlace) (c : Copy) (l : QtdLink) → qtd_link_of (next_pointer c.queue) ≡ l → LeadsOn (parts c.at) l → IsRing base member parts (Copied c) s → c.queue.token.halted ≡ false → c.queue.token.active ≡ false → walk_row s ≡ take_row s.memory l → read_at s s.walk.held ≡ take_read s.memory l
+      → Leads transacts (walk_row s) (was_read s) wire new after → Happens transacts base member parts (Copied c) wire after new (step_of (walk_row s) (was_read s))
   take_by s new c qtd_links.End leads on k off idle row read lead =
       happens_at transacts base member parts (Copied c) wire after s new rows.Skip row (same_memory s (read_at s s.walk.held) read) (skip_event transacts base member parts wire after s new c k) lead
   take_by s new c (qtd_links.To a) leads on k off idle row read lead =
@@ -49,15 +49,15 @@ module _ {W : Type 0} (transacts : W → Ask → List ℕ → Reply → W → Ty
       (same_memory s (read_at s s.walk.held) (read ∙ element_not_refused s.memory parts c.at a on.qtd k.tells on.here))
       (taken_by s new c a on.qtd on.qtd.token.active refl k off idle leads on.here) lead
 
-  work_by : (s new : Place) (c : Copy) (b : Bool) → IsRing base member parts (Copied c) s → AreBytesHeard transacts wire after → c.queue.token.active ≡ true → Leads transacts (work_row b (planned (copied_queue c))) s wire new after → Happens transacts base member parts (Copied c) wire after new (step_of (work_row b (planned (copied_queue c))) s)
+  work_by : (s new : WalkPlace) (c : Copy) (b : Bool) → IsRing base member parts (Copied c) s → AreBytesHeard transacts wire after → c.queue.token.active ≡ true → Leads transacts (work_row b (planned (copied_queue c))) s wire new after → Happens transacts base member parts (Copied c) wire after new (step_of (work_row b (planned (copied_queue c))) s)
   work_by s new c true k heard on lead = late_event transacts base member parts wire after s new c k lead
   work_by s new c false k heard on lead =
       let m : IsMember member c.at (parts c.at) = k.members c.at k.in_hand.on in
       let w : IsWorking (parts c.at) c.queue = (copied_sound s c k).work on in
       make_event transacts base member parts wire after s new c k heard on w ((m.elements c.queue.current w.element w.here).work w.published) lead
 
-  visit_by : (s new : Place) (c : Copy) (v : Visit) → VisitOf (copied_queue c) v → IsRing base member parts (Copied c) s → AreBytesHeard transacts wire after → row_of s ≡ visit_row s.memory s.walk.left (copied_queue c) v → read_at s s.walk.held ≡ visit_read s.memory v
-      → Leads transacts (row_of s) (was_read s) wire new after → Happens transacts base member parts (Copied c) wire after new (step_of (row_of s) (was_read s))
+  visit_by : (s new : WalkPlace) (c : Copy) (v : Visit) → VisitOf (copied_queue c) v → IsRing base member parts (Copied c) s → AreBytesHeard transacts wire after → walk_row s ≡ visit_row s.memory s.walk.left (copied_queue c) v → read_at s s.walk.held ≡ visit_read s.memory v
+      → Leads transacts (walk_row s) (was_read s) wire new after → Happens transacts base member parts (Copied c) wire after new (step_of (walk_row s) (was_read s))
   visit_by s new c v rests k heard row read lead =
       happens_at transacts base member parts (Copied c) wire after s new rows.Skip row (same_memory s (read_at s s.walk.held) read) (skip_event transacts base member parts wire after s new c k) lead
   visit_by s new c v (works off on) k heard row read lead =
@@ -65,9 +65,9 @@ module _ {W : Type 0} (transacts : W → Ask → List ℕ → Reply → W → Ty
       (work_by s new c (nat_lt s.walk.left (planned (copied_queue c)).price.0) k heard on) lead
   visit_by s new c v (takes off idle) k heard row read lead =
       take_by s new c (qtd_link_of (next_pointer (copied_queue c))) refl
-      (pointer_leads (parts c.at) c.queue (not (c.queue.token.total == 0) && not c.queue.alternate.t) (copied_sound s c k)) k off idle row read lead
+      ((copied_sound s c k).rest off idle) k off idle row read lead
 
-  one_event : (s new : Place) (hand : Hand) → IsRing base member parts hand s → AreBytesHeard transacts wire after → Leads transacts (row_of s) (was_read s) wire new after → Happens transacts base member parts hand wire after new (step_of (row_of s) (was_read s))
+  one_event : (s new : WalkPlace) (hand : Hand) → IsRing base member parts hand s → AreBytesHeard transacts wire after → Leads transacts (walk_row s) (was_read s) wire new after → Happens transacts base member parts hand wire after new (step_of (walk_row s) (was_read s))
   one_event s new Empty k heard lead = empty_event transacts base member parts wire after s new k lead
   one_event s new (Copied c) k heard lead =
       let x : Qh = copied_queue c in
@@ -80,6 +80,6 @@ module _ {W : Type 0} (transacts : W → Ask → List ℕ → Reply → W → Ty
       happens_at transacts base member parts (Stale n q) wire after s new rows.Skip (ap (row_at s) k.held ∙ ap (visit_row s.memory s.walk.left q) rest)
       (same_memory s (read_at s s.walk.held) (ap (read_at s) k.held ∙ ap (visit_read s.memory) rest)) (stale_event transacts base member parts wire after s new n q k) lead
 
-pub event_happens : {W : Type 0} (transacts : W → Ask → List ℕ → Reply → W → Type 0) (base : Base) (member : ℕ → Bool) (parts : Parts) (hand : Hand) (p : Place) (wire : W) (new : Place) (after : W) → IsRing base member parts hand p → AreBytesHeard transacts wire after
+pub event_happens : {W : Type 0} (transacts : W → Ask → List ℕ → Reply → W → Type 0) (base : Base) (member : ℕ → Bool) (parts : StructureSets) (hand : Hand) (p : WalkPlace) (wire : W) (new : WalkPlace) (after : W) → IsRing base member parts hand p → AreBytesHeard transacts wire after
     → Leads transacts (event_row p) (at_event p) wire new after → Happens transacts base member parts hand wire after new (step_of (event_row p) (at_event p))
 event_happens transacts base member parts hand p wire new after k heard lead = one_event transacts base member parts wire after (started p) new hand (ring_started base member parts hand p k) heard lead

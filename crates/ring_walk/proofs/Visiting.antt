@@ -1,5 +1,5 @@
 -- A copy that had no transaction yet is in hand: which visit it is, and the visits that do nothing.
-use Rattle.std.proofs.Common.{◌≡◌, ℕ, Bool, true, false, if◌then◌else◌, List, None, ap, refl, sym, subst, ◌∙◌}
+use Rattle.std.proofs.Common.{◌≡◌, ℕ, Bool, true, false, List, None, ap, refl, sym, subst, ◌∙◌}
 use Rattle.std.proofs.lemmas.Bool.{false≢true}
 use Rattle.usb_base.specs.declared.packets.Ask.{Ask}
 use Rattle.usb_base.specs.declared.packets.Reply.{Reply}
@@ -9,12 +9,11 @@ use Rattle.qh_qtd.specs.declared.queue_head.Qh.{Qh}
 use Rattle.walk_copy.specs.declared.held.Visit.{Visit}
 use Rattle.walk_copy.specs.declared.held.Visit.TheVariants as visits
 use Rattle.walk_copy.specs.Visits.{next_pointer, visit_at}
-use Rattle.async_walk.specs.declared.rows.Row.TheVariants as rows
+use Rattle.async_walk.specs.declared.rows.WalkRow.TheVariants as rows
 use Rattle.async_walk.specs.declared.state.Cursor.TheVariants as cursors
 use Rattle.async_walk.specs.Walk.{Walk}
-use Rattle.async_walk.specs.Rows.{Place, step_of, Leads, passed_walk, out_of_time}
-use Rattle.lent_structures.specs.Structures.{Parts, Part}
-use Rattle.queue_parts.specs.Sound.{LeadsOn, IsSoundQueue}
+use Rattle.async_walk.specs.Rows.{WalkPlace, step_of, Leads, passed_walk, out_of_time}
+use Rattle.lent_structures.specs.Structures.{StructureSets}
 use Rattle.ring_walk.specs.Hand.{Copy, Empty, Copied, Stale}
 use Rattle.ring_walk.specs.Ring.{Base, IsRing}
 use Rattle.ring_walk.specs.Effects.{Happens}
@@ -38,21 +37,16 @@ halted_rests x false halted active link is = refl
 halted_rests x true true active link is = refl
 halted_rests x true false active link is = absurd (false≢true is)
 
--- the link that is followed leads on
-pub pointer_leads : (part : Part) (q : Qh) (b : Bool) → IsSoundQueue part q → LeadsOn part (qtd_link_of (if b then q.alternate else q.next))
-pointer_leads part q true sound = sound.alternate
-pointer_leads part q false sound = sound.next
-
-module _ {W : Type 0} (transacts : W → Ask → List ℕ → Reply → W → Type 0) (base : Base) (member : ℕ → Bool) (parts : Parts) (wire after : W) where
+module _ {W : Type 0} (transacts : W → Ask → List ℕ → Reply → W → Type 0) (base : Base) (member : ℕ → Bool) (parts : StructureSets) (wire after : W) where
   -- the walk once the visit to the copy is over
-  abbrev gone_on : Place → Copy → Place
+  abbrev gone_on : WalkPlace → Copy → WalkPlace
   gone_on s c = record s { walk = record s.walk { cursor = cursors.At (link_of c.link); held = None } }
 
-  gone_on_ring : (s : Place) (c : Copy) → IsRing base member parts (Copied c) s → IsRing base member parts Empty (gone_on s c)
+  gone_on_ring : (s : WalkPlace) (c : Copy) → IsRing base member parts (Copied c) s → IsRing base member parts Empty (gone_on s c)
   gone_on_ring s c k =
       ring_at base member parts (Copied c) Empty s (gone_on s c) k refl refl (record { to = k.in_hand.link.to; leads = k.in_hand.link.leads; on = k.in_hand.link.on }) refl tt
 
-  pub skip_event : (s new : Place) (c : Copy) → IsRing base member parts (Copied c) s → Leads transacts rows.Skip s wire new after → Happens transacts base member parts (Copied c) wire after new (step_of rows.Skip s)
+  pub skip_event : (s new : WalkPlace) (c : Copy) → IsRing base member parts (Copied c) s → Leads transacts rows.Skip s wire new after → Happens transacts base member parts (Copied c) wire after new (step_of rows.Skip s)
   skip_event s new c k lead = record {
     now = parts;
     later = Empty;
@@ -60,7 +54,7 @@ module _ {W : Type 0} (transacts : W → Ask → List ℕ → Reply → W → Ty
     effect = passes (record { unsettled = λ d z e. cc; nothing = refl }) refl lead.1;
   }
 
-  pub late_event : (s new : Place) (c : Copy) → IsRing base member parts (Copied c) s → Leads transacts rows.OutOfTime s wire new after → Happens transacts base member parts (Copied c) wire after new (step_of rows.OutOfTime s)
+  pub late_event : (s new : WalkPlace) (c : Copy) → IsRing base member parts (Copied c) s → Leads transacts rows.OutOfTime s wire new after → Happens transacts base member parts (Copied c) wire after new (step_of rows.OutOfTime s)
   late_event s new c k lead = record {
     now = parts;
     later = Empty;
@@ -69,12 +63,12 @@ module _ {W : Type 0} (transacts : W → Ask → List ℕ → Reply → W → Ty
   }
 
   -- a stale copy is halted: nothing is done with it
-  stale_ring : (s : Place) (n : ℕ) (q : Qh) → IsRing base member parts (Stale n q) s → IsRing base member parts Empty (record s { walk = record s.walk { cursor = cursors.At (link_of q.link); held = None } })
+  stale_ring : (s : WalkPlace) (n : ℕ) (q : Qh) → IsRing base member parts (Stale n q) s → IsRing base member parts Empty (record s { walk = record s.walk { cursor = cursors.At (link_of q.link); held = None } })
   stale_ring s n q k =
       ring_at base member parts (Stale n q) Empty s (record s { walk = record s.walk { cursor = cursors.At (link_of q.link); held = None } }) k refl refl
       (record { to = k.in_hand.link.to; leads = k.in_hand.link.leads; on = k.in_hand.link.on }) refl tt
 
-  pub stale_event : (s new : Place) (n : ℕ) (q : Qh) → IsRing base member parts (Stale n q) s → Leads transacts rows.Skip s wire new after → Happens transacts base member parts (Stale n q) wire after new (step_of rows.Skip s)
+  pub stale_event : (s new : WalkPlace) (n : ℕ) (q : Qh) → IsRing base member parts (Stale n q) s → Leads transacts rows.Skip s wire new after → Happens transacts base member parts (Stale n q) wire after new (step_of rows.Skip s)
   stale_event s new n q k lead = record {
     now = parts;
     later = Empty;

@@ -1,5 +1,5 @@
 -- The transaction in hand is written back: the bytes received into the buffer, the overlay, and where the qTD ended its token.
-use Rattle.std.proofs.Common.{◌≡◌, ◌≢◌, ℕ, ◌+◌, ◌-◌, ◌<◌, ◌≤◌, Bool, true, false, if◌then◌else◌, List, [], ◌∷◌, length, take, Option, Some, None, ap, refl, sym, subst, ◌∙◌, ⊎_elim, arith}
+use Rattle.std.proofs.Common.{◌≡◌, ◌≢◌, ℕ, ◌+◌, ◌-◌, ◌<◌, ◌≤◌, Bool, true, false, not, ◌&&◌, ◌==◌, if◌then◌else◌, List, [], ◌∷◌, length, take, Option, Some, None, ap, refl, sym, subst, ◌∙◌, ⊎_elim, arith}
 use Rattle.std.specs.Prelude.{◌⊎◌}
 use Rattle.std.proofs.lemmas.Bool.{false≢true}
 use Rattle.usb_base.specs.declared.packets.Ask.{Ask}
@@ -17,27 +17,27 @@ use Rattle.qh_qtd.specs.QueueHead.{qh_words, IsQhInRange}
 use Rattle.op_registers.specs.RegisterFile.{RegisterFile}
 use Rattle.toggle_error.specs.declared.host.Outcome.{Outcome}
 use Rattle.walk_copy.specs.declared.held.Held.{Held}
-use Rattle.walk_copy.specs.Overlay.{settled_queue, pages_of, place_of, moved}
+use Rattle.walk_copy.specs.Overlay.{settled_queue, pages_of, buffer_place, moved}
 use Rattle.walk_copy.specs.Buffer.{Writing}
 use Rattle.walk_copy.specs.Planning.{pid_at}
 use Rattle.walk_copy.specs.WriteBack.{moved_by, received, written_back, raised}
 use Rattle.walk_copy.proofs.Ranges.{settled_in_range}
-use Rattle.async_walk.specs.declared.rows.Row.TheVariants as rows
+use Rattle.async_walk.specs.declared.rows.WalkRow.TheVariants as rows
 use Rattle.async_walk.specs.declared.state.Cursor.TheVariants as cursors
 use Rattle.async_walk.specs.declared.state.WalkStep.{WalkStep}
 use Rattle.async_walk.specs.declared.state.WalkStep.TheVariants as steps
-use Rattle.async_walk.specs.Rows.{Place, step_of, Leads, passed_walk, wrote, wrote_place, wrote_step}
+use Rattle.async_walk.specs.Rows.{WalkPlace, step_of, Leads, passed_walk, wrote, wrote_place, wrote_step}
 use Rattle.settle_laws.specs.Settles.{Brings}
-use Rattle.lent_structures.specs.Structures.{QueueHead, Element, Buffer, Part, Parts, put, HoldsBuffer, Tells}
+use Rattle.lent_structures.specs.Structures.{QueueHead, Element, Buffer, Structures, StructureSets, put, HoldsBuffer, Tells}
 use Rattle.lent_structures.specs.Changes.{relinked, overwritten}
 use Rattle.lent_structures.proofs.Names.{put_here, put_beside, put_same, put_else}
 use Rattle.lent_structures.proofs.Storing.{length-overwritten}
 use Rattle.write_back_laws.specs.WriteBack.{Received, Nothing, Into, IsReceived, received_parts, CanBeWritten, qtd_after, parts_back}
 use Rattle.write_back_laws.proofs.WrittenBack.{head_is_no_buffer, received_else, between_element, all_written, told_back}
-use Rattle.queue_parts.specs.Sound.{LeadsOn, element_pages, buffer_name, HasBuffer, IsReady, IsWorking, IsSoundQueue, LeadsAmong, IsMember}
+use Rattle.queue_parts.specs.Sound.{LeadsOn, element_pages, buffer_name, HasBuffer, IsReady, IsSoundElement, IsWorking, IsSoundQueue, LeadsAmong, IsMember}
 use Rattle.queue_parts.specs.Alters.{IsAfter, Alters}
 use Rattle.queue_parts.proofs.Altering.{found_queue, no_two, is_itself, unaltered, altered_both, head_put, element_put, buffer_put}
-use Rattle.queue_parts.proofs.Members.{leads_still, member_still}
+use Rattle.queue_parts.proofs.Members.{leads_still, pointer_leads, member_still}
 use Rattle.ring_walk.specs.Hand.{Copy, copied_queue, Settlement, settled_queue_of, Empty, Settled}
 use Rattle.ring_walk.specs.Ring.{Base, base_of, IsSettled, IsRing}
 use Rattle.ring_walk.specs.Effects.{bytes_in, buffer_of, received_into, Happens}
@@ -50,7 +50,7 @@ use Rattle.ring_walk.proofs.Making.{place_few}
 -- what a transaction left of the copy
 pub record IsSettledCopy (c : Copy) (z : Settlement) (x : Qh) : Type 0 where
   pub current : x.current ≡ c.queue.current
-  pub place : place_of x ≡ place_of c.queue
+  pub place : buffer_place x ≡ buffer_place c.queue
   pub pages : pages_of x ≡ pages_of c.queue
   pub link : x.link ≡ c.link
   pub pid : x.token.pid ≡ c.queue.token.pid
@@ -80,7 +80,7 @@ pub is_written : (c : Copy) (z : Settlement) → IsWritten c z (queue_written c 
 unfolding moved settled_queue
 is_written c z = record { link = refl; current = refl; next = refl; alternate = refl; pages = refl; active = refl; halted = refl; pid = refl; total = refl; toggle = refl }
 
-place_moved : (c : Copy) (z : Settlement) → place_of c.queue + moved_by z.outcome < 20480 → place_of (queue_written c z) ≡ place_of c.queue + moved_by z.outcome
+place_moved : (c : Copy) (z : Settlement) → buffer_place c.queue + moved_by z.outcome < 20480 → buffer_place (queue_written c z) ≡ buffer_place c.queue + moved_by z.outcome
 unfolding moved settled_queue
 place_moved c z within = omega (arith, within)
 
@@ -110,10 +110,10 @@ moved_few : (c : Copy) (z : Settlement) (reply : Reply) → IsSettled c.queue re
 moved_few c z reply is = let left = is.host.left in (omega (arith, left), got_few (pid_at c.queue.token.pid) z.outcome z.got is.bytes)
 
 -- where they go
-abbrev Goes : Part → Copy → Settlement → Qtd → List ℕ → Type 0
+abbrev Goes : Structures → Copy → Settlement → Qtd → List ℕ → Type 0
 Goes part c z t got = IsReceived part (settled_queue_of c z) z.got (received_into part c.queue t got)
 
-goes_into : (part : Part) (c : Copy) (z : Settlement) (reply : Reply) (w : IsWorking part c.queue) → HasBuffer part w.element w.element.token.total → IsSettled c.queue reply z → IsReceived part (settled_queue_of c z) z.got (Into (element_pages w.element) w.element.offset (buffer_of part w.element) (place_of c.queue - w.element.offset))
+goes_into : (part : Structures) (c : Copy) (z : Settlement) (reply : Reply) (w : IsWorking part c.queue) → HasBuffer part w.element w.element.token.total → IsSettled c.queue reply z → IsReceived part (settled_queue_of c z) z.got (Into (element_pages w.element) w.element.offset (buffer_of part w.element) (buffer_place c.queue - w.element.offset))
 goes_into part c z reply w has is =
     let f = settled_copy c z in
     let few = moved_few c z reply is in
@@ -132,7 +132,7 @@ goes_into part c z reply w has is =
       bytes = is.are_bytes;
     }
 
-goes : (part : Part) (c : Copy) (z : Settlement) (reply : Reply) (w : IsWorking part c.queue) → IsReady part w.element → IsSettled c.queue reply z → (got : List ℕ) → z.got ≡ got → Goes part c z w.element got
+goes : (part : Structures) (c : Copy) (z : Settlement) (reply : Reply) (w : IsWorking part c.queue) → IsReady part w.element → IsSettled c.queue reply z → (got : List ℕ) → z.got ≡ got → Goes part c z w.element got
 goes part c z reply w ready is [] e = e
 goes part c z reply w ready is (b ∷ bs) e =
     goes_into part c z reply w
@@ -140,7 +140,7 @@ goes part c z reply w ready is (b ∷ bs) e =
 
 -- ---- the place of what is left
 
-place_within : (m : Mem) (parts : Parts) (c : Copy) (z : Settlement) (reply : Reply) (w : IsWorking (parts c.at) c.queue) → Tells m parts → IsReady (parts c.at) w.element → IsQhInRange (copied_queue c) → IsSettled c.queue reply z → (moved_by z.outcome ≡ 0) ⊎ (0 < z.host.left) → place_of c.queue + moved_by z.outcome < 20480
+place_within : (m : Mem) (parts : StructureSets) (c : Copy) (z : Settlement) (reply : Reply) (w : IsWorking (parts c.at) c.queue) → Tells m parts → IsReady (parts c.at) w.element → IsQhInRange (copied_queue c) → IsSettled c.queue reply z → (moved_by z.outcome ≡ 0) ⊎ (0 < z.host.left) → buffer_place c.queue + moved_by z.outcome < 20480
 place_within m parts c z reply w tells ready range is some =
     ⊎_elim (λ (none : moved_by z.outcome ≡ 0). let few = place_few (copied_queue c) range in omega (arith, none, few))
     (λ (left : 0 < z.host.left).
@@ -159,62 +159,62 @@ ended_after : (new : Qh) (t : Qtd) (b : Bool) → new.token.active ≡ b → IsA
 ended_after new t true e = is_itself t
 ended_after new t false e = record { token = new.token; is = refl; active = λ on. absurd (false≢true (sym e ∙ on)) }
 
-received_alters : (parts : Parts) (n : ℕ) (x : Qh) (got : List ℕ) (r : Received) → IsReceived (parts n) x got r → Alters (parts n) (received_parts parts n got r n)
+received_alters : (parts : StructureSets) (n : ℕ) (x : Qh) (got : List ℕ) (r : Received) → IsReceived (parts n) x got r → Alters (parts n) (received_parts parts n got r n)
 received_alters parts n x got Nothing is = unaltered (parts n)
 received_alters parts n x got (Into pages k bs j) is =
     subst (Alters (parts n)) (sym (put_here parts n (place pages k) (Buffer pages k (overwritten bs j got))))
     (buffer_put (parts n) (place pages k) pages k bs (overwritten bs j got) is.buffer (length-overwritten bs j got is.fits))
 
-received_beside : (parts : Parts) (n : ℕ) (got : List ℕ) (r : Received) (k : ℕ) → k ≢ n → received_parts parts n got r k ≡ parts k
+received_beside : (parts : StructureSets) (n : ℕ) (got : List ℕ) (r : Received) (k : ℕ) → k ≢ n → received_parts parts n got r k ≡ parts k
 received_beside parts n got Nothing k differs = refl
 received_beside parts n got (Into pages i bs j) k differs = put_beside parts n (place pages i) (Buffer pages i (overwritten bs j got)) k differs
 
 -- ---- the parts after it
 
 -- the parts once the overlay is written, and the qTD's token isn't yet
-abbrev head_parts : Parts → Copy → Settlement → Received → Parts
+abbrev head_parts : StructureSets → Copy → Settlement → Received → StructureSets
 head_parts parts c z r = put (received_parts parts c.at z.got r) c.at c.at (QueueHead (queue_written c z))
 
-abbrev pub all_parts : Parts → Copy → Settlement → Received → Qtd → Parts
+abbrev pub all_parts : StructureSets → Copy → Settlement → Received → Qtd → StructureSets
 all_parts parts c z r t = parts_back parts c.at c.at c.queue (settled_queue_of c z) (moved_by z.outcome) z.got r t
 
 -- the qTD as it then stands
 abbrev pub element_written : Copy → Settlement → Qtd → Qtd
 element_written c z t = qtd_after (moved (settled_queue_of c z) (moved_by z.outcome)) t
 
-head_alters : (parts : Parts) (c : Copy) (z : Settlement) (t : Qtd) (r : Received) → CanBeWritten parts c.at c.at c.queue (settled_queue_of c z) z.got r t → Alters (parts c.at) (head_parts parts c z r c.at)
+head_alters : (parts : StructureSets) (c : Copy) (z : Settlement) (t : Qtd) (r : Received) → CanBeWritten parts c.at c.at c.queue (settled_queue_of c z) z.got r t → Alters (parts c.at) (head_parts parts c z r c.at)
 head_alters parts c z t r can =
-    let mid : Parts = received_parts parts c.at z.got r in
+    let mid : StructureSets = received_parts parts c.at z.got r in
     altered_both (parts c.at) (mid c.at) (head_parts parts c z r c.at) (received_alters parts c.at (settled_queue_of c z) z.got r can.received)
     (subst (Alters (mid c.at)) (sym (put_here mid c.at c.at (QueueHead (queue_written c z))))
     (head_put (mid c.at) c.at c.queue (queue_written c z)
     (received_else parts c.at (settled_queue_of c z) z.got r c.at (QueueHead c.queue) can.received can.copy.head (head_is_no_buffer c.queue))))
 
-pub all_alters : (parts : Parts) (c : Copy) (z : Settlement) (t : Qtd) (r : Received) → CanBeWritten parts c.at c.at c.queue (settled_queue_of c z) z.got r t → Alters (parts c.at) (all_parts parts c z r t c.at)
+pub all_alters : (parts : StructureSets) (c : Copy) (z : Settlement) (t : Qtd) (r : Received) → CanBeWritten parts c.at c.at c.queue (settled_queue_of c z) z.got r t → Alters (parts c.at) (all_parts parts c z r t c.at)
 all_alters parts c z t r can =
     let x : Qh = settled_queue_of c z in
-    let mid : Parts = head_parts parts c z r in
+    let mid : StructureSets = head_parts parts c z r in
     altered_both (parts c.at) (mid c.at) (all_parts parts c z r t c.at) (head_alters parts c z t r can)
     (subst (Alters (mid c.at)) (sym (put_here mid c.at x.current (Element (element_written c z t))))
     (element_put (mid c.at) x.current t (element_written c z t) (between_element parts c.at c.at c.queue x (moved x (moved_by z.outcome)) z.got r t can)
     (ended_after (moved x (moved_by z.outcome)) t (moved x (moved_by z.outcome)).token.active refl)))
 
-pub all_beside : (parts : Parts) (c : Copy) (z : Settlement) (t : Qtd) (r : Received) (n : ℕ) → n ≢ c.at → all_parts parts c z r t n ≡ parts n
+pub all_beside : (parts : StructureSets) (c : Copy) (z : Settlement) (t : Qtd) (r : Received) (n : ℕ) → n ≢ c.at → all_parts parts c z r t n ≡ parts n
 all_beside parts c z t r n differs =
     let x : Qh = settled_queue_of c z in
     put_beside (head_parts parts c z r) c.at x.current (Element (element_written c z t)) n differs
     ∙ put_beside (received_parts parts c.at z.got r) c.at c.at (QueueHead (queue_written c z)) n differs ∙ received_beside parts c.at z.got r n differs
 
 -- the current qTD doesn't stand where the queue head does
-current_apart : (parts : Parts) (c : Copy) (z : Settlement) (t : Qtd) (r : Received) → CanBeWritten parts c.at c.at c.queue (settled_queue_of c z) z.got r t → c.at ≢ (settled_queue_of c z).current
+current_apart : (parts : StructureSets) (c : Copy) (z : Settlement) (t : Qtd) (r : Received) → CanBeWritten parts c.at c.at c.queue (settled_queue_of c z) z.got r t → c.at ≢ (settled_queue_of c z).current
 current_apart parts c z t r can = no_two (parts c.at) c.at (settled_queue_of c z).current (QueueHead c.queue) (Element t) can.copy.head can.element (λ e. cc)
 
-pub head_there : (parts : Parts) (c : Copy) (z : Settlement) (t : Qtd) (r : Received) → CanBeWritten parts c.at c.at c.queue (settled_queue_of c z) z.got r t → all_parts parts c z r t c.at c.at ≡ Some (QueueHead (queue_written c z))
+pub head_there : (parts : StructureSets) (c : Copy) (z : Settlement) (t : Qtd) (r : Received) → CanBeWritten parts c.at c.at c.queue (settled_queue_of c z) z.got r t → all_parts parts c z r t c.at c.at ≡ Some (QueueHead (queue_written c z))
 head_there parts c z t r can =
     put_else (head_parts parts c z r) c.at (settled_queue_of c z).current (Element (element_written c z t)) c.at (current_apart parts c z t r can)
     ∙ put_same (received_parts parts c.at z.got r) c.at c.at (QueueHead (queue_written c z))
 
-element_there : (parts : Parts) (c : Copy) (z : Settlement) (t : Qtd) (r : Received) → z.host.active ≡ true → all_parts parts c z r t c.at c.queue.current ≡ Some (Element t)
+element_there : (parts : StructureSets) (c : Copy) (z : Settlement) (t : Qtd) (r : Received) → z.host.active ≡ true → all_parts parts c z r t c.at c.queue.current ≡ Some (Element t)
 element_there parts c z t r on =
     let x : Qh = settled_queue_of c z in
     let active : (moved x (moved_by z.outcome)).token.active ≡ true = (is_written c z).active ∙ on in
@@ -224,7 +224,7 @@ element_there parts c z t r on =
 
 -- ---- it works on, or rests
 
-works_on : (m : Mem) (parts : Parts) (c : Copy) (z : Settlement) (reply : Reply) (w : IsWorking (parts c.at) c.queue) (r : Received) → Tells m parts → IsReady (parts c.at) w.element → IsQhInRange (copied_queue c) → IsSettled c.queue reply z → z.host.active ≡ true → IsWorking (all_parts parts c z r w.element c.at) (queue_written c z)
+works_on : (m : Mem) (parts : StructureSets) (c : Copy) (z : Settlement) (reply : Reply) (w : IsWorking (parts c.at) c.queue) (r : Received) → Tells m parts → IsReady (parts c.at) w.element → IsQhInRange (copied_queue c) → IsSettled c.queue reply z → z.host.active ≡ true → IsWorking (all_parts parts c z r w.element c.at) (queue_written c z)
 works_on m parts c z reply w r tells ready range is on =
     let v = is_written c z in
     let moved_is = (moved_few c z reply is).0 in
@@ -239,42 +239,47 @@ works_on m parts c z reply w r tells ready range is on =
       goes_on = v.halted ∙ is.host.goes_on w.goes_on on;
       pid = v.pid ∙ w.pid;
       pages = v.pages ∙ w.pages;
+      next = v.next ∙ w.next;
+      alternate = v.alternate ∙ w.alternate;
       fewer = omega (arith, total, moved_is, fewer);
       place = omega (arith, there, total, moved_is, place);
     }
 
-sound_on : (m : Mem) (parts : Parts) (c : Copy) (z : Settlement) (reply : Reply) (w : IsWorking (parts c.at) c.queue) (r : Received) → Tells m parts → IsReady (parts c.at) w.element → IsQhInRange (copied_queue c) → IsSettled c.queue reply z → IsSoundQueue (parts c.at) c.queue → Alters (parts c.at) (all_parts parts c z r w.element c.at) → IsSoundQueue (all_parts parts c z r w.element c.at) (queue_written c z)
+sound_on : (m : Mem) (parts : StructureSets) (c : Copy) (z : Settlement) (reply : Reply) (w : IsWorking (parts c.at) c.queue) (r : Received) → Tells m parts → IsReady (parts c.at) w.element → IsQhInRange (copied_queue c) → IsSettled c.queue reply z → IsSoundElement (parts c.at) w.element → Alters (parts c.at) (all_parts parts c z r w.element c.at) → IsSoundQueue (all_parts parts c z r w.element c.at) (queue_written c z)
 sound_on m parts c z reply w r tells ready range is sound alters =
     let v = is_written c z in
-    let now : Part = all_parts parts c z r w.element c.at in
+    let now : Structures = all_parts parts c z r w.element c.at in
     record {
-      next = subst (λ (l : ShortLink). LeadsOn now (qtd_link_of l)) (sym v.next) (leads_still (parts c.at) now (qtd_link_of c.queue.next) alters sound.next);
-      alternate = subst (λ (l : ShortLink). LeadsOn now (qtd_link_of l)) (sym v.alternate) (leads_still (parts c.at) now (qtd_link_of c.queue.alternate) alters sound.alternate);
+      rest = λ off idle.
+          pointer_leads now (queue_written c z) (not ((queue_written c z).token.total == 0) && not (queue_written c z).alternate.t)
+          (subst (λ (l : ShortLink). LeadsOn now (qtd_link_of l)) (sym (v.next ∙ w.next)) (leads_still (parts c.at) now (qtd_link_of w.element.next) alters sound.next))
+          (subst (λ (l : ShortLink). LeadsOn now (qtd_link_of l)) (sym (v.alternate ∙ w.alternate)) (leads_still (parts c.at) now (qtd_link_of w.element.alternate) alters sound.alternate));
       work = λ on. works_on m parts c z reply w r tells ready range is (sym v.active ∙ on);
     }
 
-module _ {W : Type 0} (transacts : W → Ask → List ℕ → Reply → W → Type 0) (base : Base) (member : ℕ → Bool) (parts : Parts) (wire after : W) where
+module _ {W : Type 0} (transacts : W → Ask → List ℕ → Reply → W → Type 0) (base : Base) (member : ℕ → Bool) (parts : StructureSets) (wire after : W) where
   abbrev settled_held : Copy → Settlement → Held
   settled_held c z = record { at = c.at; queue_head = settled_queue_of c z; settled = Some z.outcome }
 
   -- what is known of the copy and its qTD
-  record IsReadyHere (s : Place) (c : Copy) (z : Settlement) : Type 0 where
-    queue_sound : IsSoundQueue (parts c.at) c.queue
+  record IsReadyHere (s : WalkPlace) (c : Copy) (z : Settlement) : Type 0 where
     works : IsWorking (parts c.at) c.queue
+    element_sound : IsSoundElement (parts c.at) works.element
     ready : IsReady (parts c.at) works.element
     can : CanBeWritten parts c.at c.at c.queue (settled_queue_of c z) z.got (received_into (parts c.at) c.queue works.element z.got) works.element
 
-  ready_here : (s : Place) (c : Copy) (z : Settlement) → IsRing base member parts (Settled c z) s → IsReadyHere s c z
+  ready_here : (s : WalkPlace) (c : Copy) (z : Settlement) → IsRing base member parts (Settled c z) s → IsReadyHere s c z
   ready_here s c z k =
       let m : IsMember member c.at (parts c.at) = k.members c.at k.in_hand.0.on in
       let same : m.queue ≡ c.queue = found_queue (parts c.at c.at) m.queue c.queue m.here k.in_hand.0.here in
       let sound : IsSoundQueue (parts c.at) c.queue = subst (IsSoundQueue (parts c.at)) same m.sound in
       let w : IsWorking (parts c.at) c.queue = sound.work k.in_hand.1.works in
-      let ready : IsReady (parts c.at) w.element = (m.elements c.queue.current w.element w.here).work w.published in
+      let element_sound : IsSoundElement (parts c.at) w.element = m.elements c.queue.current w.element w.here in
+      let ready : IsReady (parts c.at) w.element = element_sound.work w.published in
       let g : Goes (parts c.at) c z w.element z.got = goes (parts c.at) c z s.walk.reply w ready k.in_hand.1 z.got refl in
       record {
-        queue_sound = sound;
         works = w;
+        element_sound = element_sound;
         ready = ready;
         can = record {
           copy = record { head = k.in_hand.0.here; range = settled_range c z s.walk.reply k.in_hand.0.range k.in_hand.1; front = (settled_copy c z).front };
@@ -283,10 +288,10 @@ module _ {W : Type 0} (transacts : W → Ask → List ℕ → Reply → W → Ty
         };
       }
 
-  abbrev written_memory : Place → Copy → Settlement → Mem
+  abbrev written_memory : WalkPlace → Copy → Settlement → Mem
   written_memory s c z = (written_back c.at (settled_queue_of c z) z.outcome z.got s.memory).memory
 
-  abbrev written_place : Place → Copy → Settlement → Place
+  abbrev written_place : WalkPlace → Copy → Settlement → WalkPlace
   written_place s c z = record {
     walk = record s.walk { cursor = cursors.At (link_of c.link); held = None };
     registers = raised (settled_queue_of c z) z.outcome s.registers;
@@ -294,10 +299,10 @@ module _ {W : Type 0} (transacts : W → Ask → List ℕ → Reply → W → Ty
   }
 
   -- what is written is what was received
-  got_is : (s : Place) (c : Copy) (z : Settlement) → IsRing base member parts (Settled c z) s → received (settled_queue_of c z) z.outcome s.walk.reply ≡ z.got
+  got_is : (s : WalkPlace) (c : Copy) (z : Settlement) → IsRing base member parts (Settled c z) s → received (settled_queue_of c z) z.outcome s.walk.reply ≡ z.got
   got_is s c z k = received_same c z s.walk.reply ∙ sym k.in_hand.1.got
 
-  wrote_is : (s : Place) (c : Copy) (z : Settlement) → IsRing base member parts (Settled c z) s → IsReadyHere s c z → wrote s s.walk.held ≡ written_place s c z
+  wrote_is : (s : WalkPlace) (c : Copy) (z : Settlement) → IsRing base member parts (Settled c z) s → IsReadyHere s c z → wrote s s.walk.held ≡ written_place s c z
   wrote_is s c z k h =
       let x : Qh = settled_queue_of c z in
       ap (wrote s) k.held
@@ -306,7 +311,7 @@ module _ {W : Type 0} (transacts : W → Ask → List ℕ → Reply → W → Ty
       ∙ ap (λ (o : Option Held). record { walk = passed_walk s.walk o; registers = raised x z.outcome s.registers; memory = written_memory s c z }) k.held
       ∙ ap (λ (l : LinkBits). record { walk = record s.walk { cursor = cursors.At (link_of l); held = None }; registers = raised x z.outcome s.registers; memory = written_memory s c z }) (settled_copy c z).link
 
-  wrote_kind : (s : Place) (c : Copy) (z : Settlement) → IsRing base member parts (Settled c z) s → IsReadyHere s c z → wrote_step s s.walk.held ≡ steps.WriteBack
+  wrote_kind : (s : WalkPlace) (c : Copy) (z : Settlement) → IsRing base member parts (Settled c z) s → IsReadyHere s c z → wrote_step s s.walk.held ≡ steps.WriteBack
   wrote_kind s c z k h =
       let x : Qh = settled_queue_of c z in
       ap (wrote_step s) k.held
@@ -317,16 +322,16 @@ module _ {W : Type 0} (transacts : W → Ask → List ℕ → Reply → W → Ty
   unfolding raised
   raised_base q o r = refl
 
-  written_member : (s : Place) (c : Copy) (z : Settlement) → IsRing base member parts (Settled c z) s → (h : IsReadyHere s c z) → IsMember member c.at (all_parts parts c z (received_into (parts c.at) c.queue h.works.element z.got) h.works.element c.at)
+  written_member : (s : WalkPlace) (c : Copy) (z : Settlement) → IsRing base member parts (Settled c z) s → (h : IsReadyHere s c z) → IsMember member c.at (all_parts parts c z (received_into (parts c.at) c.queue h.works.element z.got) h.works.element c.at)
   written_member s c z k h =
       let m : IsMember member c.at (parts c.at) = k.members c.at k.in_hand.0.on in
       let same : m.queue ≡ c.queue = found_queue (parts c.at c.at) m.queue c.queue m.here k.in_hand.0.here in
       let alters : Alters (parts c.at) (all_parts parts c z (received_into (parts c.at) c.queue h.works.element z.got) h.works.element c.at) = all_alters parts c z h.works.element (received_into (parts c.at) c.queue h.works.element z.got) h.can in
       member_still member c.at (parts c.at) (all_parts parts c z (received_into (parts c.at) c.queue h.works.element z.got) h.works.element c.at) (queue_written c z) m alters (head_there parts c z h.works.element (received_into (parts c.at) c.queue h.works.element z.got) h.can)
       (subst (LeadsAmong member) (sym (is_written c z).link) (subst (λ (q : Qh). LeadsAmong member q.link) same m.link))
-      (sound_on s.memory parts c z s.walk.reply h.works (received_into (parts c.at) c.queue h.works.element z.got) k.tells h.ready k.in_hand.0.range k.in_hand.1 h.queue_sound alters)
+      (sound_on s.memory parts c z s.walk.reply h.works (received_into (parts c.at) c.queue h.works.element z.got) k.tells h.ready k.in_hand.0.range k.in_hand.1 h.element_sound alters)
 
-  written_ring : (s : Place) (c : Copy) (z : Settlement) → IsRing base member parts (Settled c z) s → (h : IsReadyHere s c z) → IsRing base member (all_parts parts c z (received_into (parts c.at) c.queue h.works.element z.got) h.works.element) Empty (written_place s c z)
+  written_ring : (s : WalkPlace) (c : Copy) (z : Settlement) → IsRing base member parts (Settled c z) s → (h : IsReadyHere s c z) → IsRing base member (all_parts parts c z (received_into (parts c.at) c.queue h.works.element z.got) h.works.element) Empty (written_place s c z)
   written_ring s c z k h = record {
     tells = told_back s.memory parts c.at c.at c.queue (settled_queue_of c z) z.outcome z.got (received_into (parts c.at) c.queue h.works.element z.got) h.works.element k.tells h.can;
     members = members_after member parts (all_parts parts c z (received_into (parts c.at) c.queue h.works.element z.got) h.works.element) c.at (λ n differs. all_beside parts c z h.works.element (received_into (parts c.at) c.queue h.works.element z.got) n differs) (written_member s c z k h) k.members;
@@ -337,7 +342,7 @@ module _ {W : Type 0} (transacts : W → Ask → List ℕ → Reply → W → Ty
     in_hand = tt;
   }
 
-  pub write_event : (s new : Place) (c : Copy) (z : Settlement) → IsRing base member parts (Settled c z) s → Leads transacts rows.WriteBack s wire new after → Happens transacts base member parts (Settled c z) wire after new (step_of rows.WriteBack s)
+  pub write_event : (s new : WalkPlace) (c : Copy) (z : Settlement) → IsRing base member parts (Settled c z) s → Leads transacts rows.WriteBack s wire new after → Happens transacts base member parts (Settled c z) wire after new (step_of rows.WriteBack s)
   write_event s new c z k lead =
       let h : IsReadyHere s c z = ready_here s c z k in
       subst (λ (step : WalkStep). Happens transacts base member parts (Settled c z) wire after new step) (sym (wrote_kind s c z k h))

@@ -14,14 +14,14 @@ use Rattle.link_words.specs.Links.{qtd_link_of}
 use Rattle.qh_qtd.specs.declared.qtd.Qtd.{Qtd}
 use Rattle.qh_qtd.specs.declared.queue_head.Qh.{Qh}
 use Rattle.walk_copy.specs.Visits.{next_pointer}
-use Rattle.walk_copy.specs.Overlay.{advanced, place_of}
+use Rattle.walk_copy.specs.Overlay.{advanced, buffer_place}
 use Rattle.walk_copy.specs.Transacting.{call_in, outcome_in, host_after}
 use Rattle.walk_copy.specs.WriteBack.{moved_by, received}
 use Rattle.async_walk.specs.declared.state.WalkStep.{WalkStep}
 use Rattle.async_walk.specs.declared.state.WalkStep.TheVariants as steps
 use Rattle.async_walk.specs.Naks.{planned, counts, naks_after}
-use Rattle.async_walk.specs.Rows.{Place}
-use Rattle.lent_structures.specs.Structures.{Structure, QueueHead, Element, Buffer, Part, Parts, put}
+use Rattle.async_walk.specs.Rows.{WalkPlace}
+use Rattle.lent_structures.specs.Structures.{Structure, QueueHead, Element, Buffer, Structures, StructureSets, put}
 use Rattle.queue_parts.specs.Sound.{element_pages, buffer_name}
 use Rattle.write_back_laws.specs.WriteBack.{Received, Nothing, Into, IsReceived, parts_back}
 use Rattle.ring_walk.specs.Hand.{Copy, copied_queue, Settlement, settled_queue_of, Hand, Empty, Copied, Settled}
@@ -32,12 +32,12 @@ abbrev pub bytes_in : Option Structure → List ℕ
 bytes_in (Some (Buffer pages k bs)) = bs
 bytes_in _ = []
 
-abbrev pub buffer_of : Part → Qtd → List ℕ
+abbrev pub buffer_of : Structures → Qtd → List ℕ
 buffer_of part t = bytes_in (part (buffer_name t))
 
 -- ---- a queue head is read, or the visit is over
 
-pub record Reads (parts : Parts) (hand later : Hand) : Type 0 where
+pub record Reads (parts : StructureSets) (hand later : Hand) : Type 0 where
   pub nothing : hand ≡ Empty
   pub copy : Copy
   pub here : parts copy.at copy.at ≡ Some (QueueHead copy.queue)
@@ -54,7 +54,7 @@ pub record Passes (hand later : Hand) : Type 0 where
 abbrev pub taken : Copy → ℕ → Qtd → Copy
 taken c a t = record c { queue = advanced c.queue a t; naks = c.queue.rl }
 
-pub record Takes (parts : Parts) (hand : Hand) (now : Parts) (later : Hand) : Type 0 where
+pub record Takes (parts : StructureSets) (hand : Hand) (now : StructureSets) (later : Hand) : Type 0 where
   pub copy : Copy
   pub in_hand : hand ≡ Copied copy
   pub idle : copy.queue.token.active ≡ false
@@ -70,10 +70,10 @@ pub record Takes (parts : Parts) (hand : Hand) (now : Parts) (later : Hand) : Ty
 -- ---- a transaction is made
 
 -- these are the bytes that go out with it: those of the current qTD's buffer from the place on
-pub record AreSent (part : Part) (q : Qh) (out : List ℕ) : Type 0 where
+pub record AreSent (part : Structures) (q : Qh) (out : List ℕ) : Type 0 where
   pub element : Qtd
   pub here : part q.current ≡ Some (Element element)
-  pub are : out ≡ take (planned q).bytes (drop (place_of q - element.offset) (buffer_of part element))
+  pub are : out ≡ take (planned q).bytes (drop (buffer_place q - element.offset) (buffer_of part element))
   pub all : length out ≡ (planned q).bytes
 
 -- what the transaction of a queue head came to
@@ -87,7 +87,7 @@ settlement q out reply = record {
 abbrev pub counted : Copy → List ℕ → Reply → Copy
 counted c out reply = record c { naks = naks_after (counts (outcome_in (planned c.queue) out false reply) reply) (copied_queue c) }
 
-pub record Makes {W : Type 0} (transacts : W → Ask → List ℕ → Reply → W → Type 0) (parts : Parts) (hand : Hand) (wire after : W) (later : Hand) : Type 0 where
+pub record Makes {W : Type 0} (transacts : W → Ask → List ℕ → Reply → W → Type 0) (parts : StructureSets) (hand : Hand) (wire after : W) (later : Hand) : Type 0 where
   pub copy : Copy
   pub in_hand : hand ≡ Copied copy
   pub works : copy.queue.token.active ≡ true
@@ -100,11 +100,11 @@ pub record Makes {W : Type 0} (transacts : W → Ask → List ℕ → Reply → 
 -- ---- a transaction is written back
 
 -- received bytes go into the buffer of the current qTD, from the place of the overlay on
-abbrev pub received_into : Part → Qh → Qtd → List ℕ → Received
+abbrev pub received_into : Structures → Qh → Qtd → List ℕ → Received
 received_into part q t [] = Nothing
-received_into part q t (b ∷ bs) = Into (element_pages t) t.offset (buffer_of part t) (place_of q - t.offset)
+received_into part q t (b ∷ bs) = Into (element_pages t) t.offset (buffer_of part t) (buffer_place q - t.offset)
 
-pub record WritesBack (parts : Parts) (hand : Hand) (now : Parts) (later : Hand) : Type 0 where
+pub record WritesBack (parts : StructureSets) (hand : Hand) (now : StructureSets) (later : Hand) : Type 0 where
   pub copy : Copy
   pub settled : Settlement
   pub in_hand : hand ≡ Settled copy settled
@@ -116,7 +116,7 @@ pub record WritesBack (parts : Parts) (hand : Hand) (now : Parts) (later : Hand)
 
 -- ---- an event
 
-pub data Effect {W : Type 0} (transacts : W → Ask → List ℕ → Reply → W → Type 0) (parts : Parts) (hand : Hand) (wire after : W) (now : Parts) (later : Hand) : WalkStep → Type 0 where
+pub data Effect {W : Type 0} (transacts : W → Ask → List ℕ → Reply → W → Type 0) (parts : StructureSets) (hand : Hand) (wire after : W) (now : StructureSets) (later : Hand) : WalkStep → Type 0 where
   reads : Reads parts hand later → now ≡ parts → after ≡ wire → Effect transacts parts hand wire after now later steps.Fetch
   passes : Passes hand later → now ≡ parts → after ≡ wire → Effect transacts parts hand wire after now later steps.Skip
   ends : Passes hand later → now ≡ parts → after ≡ wire → Effect transacts parts hand wire after now later steps.Ended
@@ -124,8 +124,8 @@ pub data Effect {W : Type 0} (transacts : W → Ask → List ℕ → Reply → W
   makes : Makes transacts parts hand wire after later → now ≡ parts → Effect transacts parts hand wire after now later steps.Transact
   writes_back : WritesBack parts hand now later → after ≡ wire → Effect transacts parts hand wire after now later steps.WriteBack
 
-pub record Happens {W : Type 0} (transacts : W → Ask → List ℕ → Reply → W → Type 0) (base : Base) (member : ℕ → Bool) (parts : Parts) (hand : Hand) (wire after : W) (new : Place) (kind : WalkStep) : Type 0 where
-  pub now : Parts
+pub record Happens {W : Type 0} (transacts : W → Ask → List ℕ → Reply → W → Type 0) (base : Base) (member : ℕ → Bool) (parts : StructureSets) (hand : Hand) (wire after : W) (new : WalkPlace) (kind : WalkStep) : Type 0 where
+  pub now : StructureSets
   pub later : Hand
   pub ring : IsRing base member now later new
   pub effect : Effect transacts parts hand wire after now later kind

@@ -17,8 +17,8 @@ use Rattle.op_registers.specs.RegisterFile.{RegisterFile}
 use Rattle.settle_laws.specs.Settles.{Leaves, Brings}
 use Rattle.walk_copy.specs.Planning.{pid_at, host_in}
 use Rattle.walk_copy.specs.WriteBack.{received}
-use Rattle.async_walk.specs.Rows.{Place, cursor_link}
-use Rattle.lent_structures.specs.Structures.{QueueHead, Parts, Tells}
+use Rattle.async_walk.specs.Rows.{WalkPlace, cursor_link}
+use Rattle.lent_structures.specs.Structures.{QueueHead, StructureSets, Tells}
 use Rattle.queue_parts.specs.Sound.{LeadsAmong, IsMember}
 use Rattle.ring_walk.specs.Hand.{Copy, copied_queue, Settlement, Hand, Empty, Copied, Settled, Stale, held_of}
 
@@ -41,12 +41,12 @@ base_of r = record {
 -- ---- the walk
 
 -- the walk goes on at a queue head that it may meet
-pub record IsCursorAmong (member : ℕ → Bool) (p : Place) : Type 0 where
+pub record IsCursorAmong (member : ℕ → Bool) (p : WalkPlace) : Type 0 where
   pub to : ℕ
   pub leads : cursor_link p.registers p.walk.cursor ≡ links.Qh to
   pub on : member to ≡ true
 
-pub record IsCopied (member : ℕ → Bool) (parts : Parts) (c : Copy) : Type 0 where
+pub record IsCopied (member : ℕ → Bool) (parts : StructureSets) (c : Copy) : Type 0 where
   pub on : member c.at ≡ true
   pub here : parts c.at c.at ≡ Some (QueueHead c.queue)
   pub link : LeadsAmong member c.link
@@ -64,7 +64,7 @@ pub record IsStale (member : ℕ → Bool) (n : ℕ) (q : Qh) : Type 0 where
   pub link : LeadsAmong member q.link
   pub halted : q.token.halted ≡ true
 
-abbrev pub IsInHand : (ℕ → Bool) → Parts → Reply → Hand → Type 0
+abbrev pub IsInHand : (ℕ → Bool) → StructureSets → Reply → Hand → Type 0
 IsInHand member parts reply Empty = Unit {0}
 IsInHand member parts reply (Copied c) = IsCopied member parts c
 IsInHand member parts reply (Settled c s) = IsCopied member parts c × IsSettled c.queue reply s
@@ -72,7 +72,7 @@ IsInHand member parts reply (Stale n q) = IsStale member n q
 
 -- ---- the whole
 
-pub record IsRing (base : Base) (member : ℕ → Bool) (parts : Parts) (hand : Hand) (p : Place) : Type 0 where
+pub record IsRing (base : Base) (member : ℕ → Bool) (parts : StructureSets) (hand : Hand) (p : WalkPlace) : Type 0 where
   pub tells : Tells p.memory parts
   pub members : (n : ℕ) → member n ≡ true → IsMember member n (parts n)
   pub registers : base_of p.registers ≡ base

@@ -5,7 +5,7 @@ use Rattle.word_mem.specs.Memory.{Mem}
 use Rattle.run_book.specs.Book.{Holding, holding, Stands}
 use Rattle.driver_rows.specs.DriverContent.{DriverContent}
 use Rattle.driver_rows.specs.Offers.{Offered, offered}
-use Rattle.driver_rows.specs.Rows.{Parts, row_of, after_row}
+use Rattle.driver_rows.specs.Rows.{Parts, driver_row, after_driver_row}
 use Rattle.run_owners.specs.Accepts.{Accepts, opens, chains, places, transfers, describes, cancels, unchains}
 use Rattle.run_owners.specs.Owners.{Owner, ShareNoBlock, IsOwned}
 use Rattle.run_owners.specs.Kept.{HasOwners}
@@ -32,7 +32,7 @@ command_owned d m cmd o stands old is =
     let now = accepted_owned d m o stands why old in
     record { owner = now.0; owned = now.1; orderly = accepted_orderly d m o why old.orderly }
 
-pub event_owned : (p : Parts) → HasOwners p.driver → HasOwners (after_row (row_of p) p).driver
+pub event_owned : (p : Parts) → HasOwners p.driver → HasOwners (after_driver_row (driver_row p) p).driver
 event_owned p old = record { owner = old.owner; owned = row_owned p old.owner old.orderly old.owned; orderly = row_orderly p old.orderly }
 
 -- structures of different owners share no block

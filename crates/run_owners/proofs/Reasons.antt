@@ -19,15 +19,15 @@ use Rattle.driver_rows.specs.declared.content.Turn.{Turn}
 use Rattle.driver_rows.specs.declared.content.Turn.TheVariants as turns
 use Rattle.driver_rows.specs.declared.content.Bell.{Bell}
 use Rattle.driver_rows.specs.declared.content.Bell.TheVariants as bells
-use Rattle.driver_rows.specs.declared.rows.Row.{Row}
-use Rattle.driver_rows.specs.declared.rows.Row.TheVariants as rows
+use Rattle.driver_rows.specs.declared.rows.DriverRow.{DriverRow}
+use Rattle.driver_rows.specs.declared.rows.DriverRow.TheVariants as rows
 use Rattle.driver_rows.specs.DriverContent.{DriverContent, works, waits_for}
-use Rattle.driver_rows.specs.Rows.{Parts, store_order, events_of, links, command_row, link_row, tells_advance, removes, reading_for, bell_row, removal_row, found_of, first_row, leaving_row, worker_from, first_of_two, next_worker, reading_row, transfer_row, worker_row, harvest_row, turn_row, row_for, row_of}
+use Rattle.driver_rows.specs.Rows.{Parts, store_order, events_of, links, command_row, link_row, tells_advance, removes, reading_for, bell_row, removal_row, found_of, first_row, leaving_row, worker_from, first_of_two, next_worker, reading_row, transfer_row, worker_row, harvest_row, turn_row, row_for, driver_row}
 use Rattle.run_owners.specs.Due.{IsDue}
 
 -- ---- the command
 
-abbrev IsCommandRow : Row → Type 0
+abbrev IsCommandRow : DriverRow → Type 0
 IsCommandRow rows.Lend = Unit {0}
 IsCommandRow (rows.Store b at v) = Unit {0}
 IsCommandRow (rows.Mend w) = ⊥
@@ -44,11 +44,11 @@ IsCommandRow (rows.ReadStatus heard) = ⊥
 IsCommandRow (rows.Harvest e t found) = ⊥
 IsCommandRow rows.Rest = ⊥
 
-stored_are : (f : ℕ → Row) (o : Option ℕ) (row : Row) → ((i : ℕ) → IsCommandRow (f i)) → option_map f o ≡ Some row → IsCommandRow row
+stored_are : (f : ℕ → DriverRow) (o : Option ℕ) (row : DriverRow) → ((i : ℕ) → IsCommandRow (f i)) → option_map f o ≡ Some row → IsCommandRow row
 stored_are f None row each e = absurd (cc)
 stored_are f (Some i) row each e = subst IsCommandRow (same_Some (f i) row e) (each i)
 
-events_are : (c : Command) (i : ℕ) (row : Row) → slice_get (events_of c) i ≡ Some row → IsCommandRow row
+events_are : (c : Command) (i : ℕ) (row : DriverRow) → slice_get (events_of c) i ≡ Some row → IsCommandRow row
 events_are (unfinished.Open queue) zero row e = subst IsCommandRow (same_Some _ row e) tt
 events_are (unfinished.Open queue) (suc zero) row e = subst IsCommandRow (same_Some _ row e) tt
 events_are (unfinished.Open queue) (suc (suc i)) row e = absurd (cc)
@@ -64,7 +64,7 @@ events_are (unfinished.Iso n t count) (suc zero) row e = subst IsCommandRow (sam
 events_are (unfinished.Iso n t count) (suc (suc i)) row e = absurd (cc)
 events_are (unfinished.Unchain n) i row e = absurd (cc)
 
-due_next : (p : Parts) (c : Command) (row : Row) → p.driver.command ≡ Some c → slice_get (events_of c) p.driver.made ≡ Some row → IsCommandRow row → IsDue p row
+due_next : (p : Parts) (c : Command) (row : DriverRow) → p.driver.command ≡ Some c → slice_get (events_of c) p.driver.made ≡ Some row → IsCommandRow row → IsDue p row
 due_next p c rows.Lend is next row = record { command = c; unfinished = is; next = next }
 due_next p c (rows.Store b at v) is next row = inl (record { command = c; unfinished = is; next = next })
 due_next p c (rows.Mend w) is next row = absurd row
@@ -81,7 +81,7 @@ due_next p c (rows.ReadStatus heard) is next row = absurd row
 due_next p c (rows.Harvest e t found) is next row = absurd row
 due_next p c rows.Rest is next row = absurd row
 
-due_command : (p : Parts) (c : Command) (o : Option Row) → p.driver.command ≡ Some c → slice_get (events_of c) p.driver.made ≡ o → IsDue p (unwrap_or o rows.Rest)
+due_command : (p : Parts) (c : Command) (o : Option DriverRow) → p.driver.command ≡ Some c → slice_get (events_of c) p.driver.made ≡ o → IsDue p (unwrap_or o rows.Rest)
 due_command p c None is next = tt
 due_command p c (Some row) is next = due_next p c row is next (events_are c p.driver.made row next)
 
@@ -104,20 +104,20 @@ due_after p c false is on = due_command p c (slice_get (events_of c) p.driver.ma
 -- ---- the leaving work
 
 -- what comes after another row, or is there itself
-due_first : (p : Parts) (a b : Option Row) (row : Row) → ((r : Row) → a ≡ Some r → IsDue p r) → (a ≡ None → b ≡ Some row → IsDue p row) → first_row a b ≡ Some row → IsDue p row
+due_first : (p : Parts) (a b : Option DriverRow) (row : DriverRow) → ((r : DriverRow) → a ≡ Some r → IsDue p r) → (a ≡ None → b ≡ Some row → IsDue p row) → first_row a b ≡ Some row → IsDue p row
 due_first p (Some r) b row one other e = subst (IsDue p) (same_Some r row e) (one r refl)
 due_first p None b row one other e = other refl e
 
 -- a list that has no first has no row
-no_first : (f : ℕ → Row) (o : Option ℕ) → option_map f o ≡ None → o ≡ None
+no_first : (f : ℕ → DriverRow) (o : Option ℕ) → option_map f o ≡ None → o ≡ None
 no_first f None e = refl
 no_first f (Some n) e = absurd (cc)
 
-first_is : (p : Parts) (f : ℕ → Row) (o : Option ℕ) (row : Row) → ((n : ℕ) → o ≡ Some n → IsDue p (f n)) → option_map f o ≡ Some row → IsDue p row
+first_is : (p : Parts) (f : ℕ → DriverRow) (o : Option ℕ) (row : DriverRow) → ((n : ℕ) → o ≡ Some n → IsDue p (f n)) → option_map f o ≡ Some row → IsDue p row
 first_is p f None row each e = absurd (cc)
 first_is p f (Some n) row each e = subst (IsDue p) (same_Some (f n) row e) (each n refl)
 
-due_reading : (p : Parts) (a b : Bool) (row : Row) → p.driver.command ≡ None → (a ≡ true → p.driver.bell ≡ bells.Rung) → reading_for p.driver p.registers a b ≡ Some row → IsDue p row
+due_reading : (p : Parts) (a b : Bool) (row : DriverRow) → p.driver.command ≡ None → (a ≡ true → p.driver.bell ≡ bells.Rung) → reading_for p.driver p.registers a b ≡ Some row → IsDue p row
 due_reading p false false row idle rung e = absurd (cc)
 due_reading p true false row idle rung e = subst (IsDue p) (same_Some (rows.ReadStatus (tells_advance p.registers)) row e) (idle, rung refl, refl)
 due_reading p false true row idle rung e = subst (IsDue p) (same_Some (rows.ReadFrame p.registers.frame_index) row e) (idle, refl)
@@ -127,7 +127,7 @@ due_reading p true true row idle rung e = at p.driver.periodic.status_next e
     at true f = subst (IsDue p) (same_Some (rows.ReadStatus (tells_advance p.registers)) row f) (idle, rung refl, refl)
     at false f = subst (IsDue p) (same_Some (rows.ReadFrame p.registers.frame_index) row f) (idle, refl)
 
-due_bell : (p : Parts) (b : Bell) (row : Row) → p.driver.command ≡ None → p.driver.bell ≡ b → bell_row p.driver p.registers b ≡ Some row → IsDue p row
+due_bell : (p : Parts) (b : Bell) (row : DriverRow) → p.driver.command ≡ None → p.driver.bell ≡ b → bell_row p.driver p.registers b ≡ Some row → IsDue p row
 due_bell p bells.Heard row idle is e = subst (IsDue p) (same_Some _ row e) (idle, is)
 due_bell p bells.Rung row idle is e = due_reading p true (removes p.driver) row idle (λ on. is) e
 due_bell p bells.Quiet row idle is e = quiet (nat_lt 0 (length p.driver.waiting)) e
@@ -136,7 +136,7 @@ due_bell p bells.Quiet row idle is e = quiet (nat_lt 0 (length p.driver.waiting)
     quiet true f = subst (IsDue p) (same_Some _ row f) (idle, is)
     quiet false f = due_reading p false (removes p.driver) row idle (λ off. absurd (false≢true off)) f
 
-due_removal : (p : Parts) (o : Option Removal) (row : Row) → p.driver.command ≡ None → slice_get p.driver.harvested 0 ≡ None → slice_get p.driver.periodic.unlinks 0 ≡ None → slice_get p.driver.periodic.removals 0 ≡ o → removal_row o ≡ Some row → IsDue p row
+due_removal : (p : Parts) (o : Option Removal) (row : DriverRow) → p.driver.command ≡ None → slice_get p.driver.harvested 0 ≡ None → slice_get p.driver.periodic.unlinks 0 ≡ None → slice_get p.driver.periodic.removals 0 ≡ o → removal_row o ≡ Some row → IsDue p row
 due_removal p None row idle none all is e = absurd (cc)
 due_removal p (Some r) row idle none all is e = at (is_seen r.boundary) e
   where
@@ -144,7 +144,7 @@ due_removal p (Some r) row idle none all is e = at (is_seen r.boundary) e
     at true f = subst (IsDue p) (same_Some (rows.ReleaseRemoved r.what) row f) (record { idle = idle; removal = r; first = is; is = refl; none_before = none; all_unlinked = all })
     at false f = absurd (cc)
 
-due_leaving : (p : Parts) (row : Row) → p.driver.command ≡ None → leaving_row p.driver p.registers ≡ Some row → IsDue p row
+due_leaving : (p : Parts) (row : DriverRow) → p.driver.command ≡ None → leaving_row p.driver p.registers ≡ Some row → IsDue p row
 due_leaving p row idle e =
     due_first p (option_map rows.Mend (slice_get p.driver.mends 0)) _ row (λ r f. mended (slice_get p.driver.mends 0) r refl f)
     (λ no_mend. due_first p (option_map rows.ReleaseTransfer (slice_get p.driver.harvested 0)) _ row
@@ -157,7 +157,7 @@ due_leaving p row idle e =
     (λ r f. due_removal p (slice_get p.driver.periodic.removals 0) r idle (no_first rows.ReleaseTransfer (slice_get p.driver.harvested 0) none) (no_first rows.Unlink (slice_get p.driver.periodic.unlinks 0) all) refl f)
     (λ no_removal. due_bell p p.driver.bell row idle refl))))) e
   where
-    mended : (o : Option Mend) (r : Row) → slice_get p.driver.mends 0 ≡ o → option_map rows.Mend o ≡ Some r → IsDue p r
+    mended : (o : Option Mend) (r : DriverRow) → slice_get p.driver.mends 0 ≡ o → option_map rows.Mend o ≡ Some r → IsDue p r
     mended None r is f = absurd (cc)
     mended (Some w) r is f = subst (IsDue p) (same_Some (rows.Mend w) r f) (idle, is)
 
@@ -204,7 +204,7 @@ none_is x e = at x.ended e
     at None f = refl
     at (Some c) f = absurd (false≢true f)
 
-due_read : (p : Parts) (e t : ℕ) (x : Endpoint) (o : Option Transfer) (row : Row) → p.driver.command ≡ None → slice_get p.driver.endpoints e ≡ Some x → x.ended ≡ None → x.next ≡ Some t → slice_get p.driver.transfers t ≡ o → reading_row p.driver p.memory e t o ≡ Some row → IsDue p row
+due_read : (p : Parts) (e t : ℕ) (x : Endpoint) (o : Option Transfer) (row : DriverRow) → p.driver.command ≡ None → slice_get p.driver.endpoints e ≡ Some x → x.ended ≡ None → x.next ≡ Some t → slice_get p.driver.transfers t ≡ o → reading_row p.driver p.memory e t o ≡ Some row → IsDue p row
 due_read p e t x None row idle here ended next there f = absurd (cc)
 due_read p e t x (Some y) row idle here ended next there f = at (waits_for e y) refl f
   where
@@ -214,23 +214,23 @@ due_read p e t x (Some y) row idle here ended next there f = at (waits_for e y) 
         (record { idle = idle; endpoint = x; transfer = y; here = here; goes_on = ended; next = next; there = there; waits = on; tells = refl })
     at false off g = absurd (cc)
 
-due_transfer : (p : Parts) (e : ℕ) (x : Endpoint) (o : Option ℕ) (row : Row) → p.driver.command ≡ None → slice_get p.driver.endpoints e ≡ Some x → x.ended ≡ None → x.next ≡ o → transfer_row p.driver p.memory e o ≡ Some row → IsDue p row
+due_transfer : (p : Parts) (e : ℕ) (x : Endpoint) (o : Option ℕ) (row : DriverRow) → p.driver.command ≡ None → slice_get p.driver.endpoints e ≡ Some x → x.ended ≡ None → x.next ≡ o → transfer_row p.driver p.memory e o ≡ Some row → IsDue p row
 due_transfer p e x None row idle here ended next f = absurd (cc)
 due_transfer p e x (Some t) row idle here ended next f = due_read p e t x (slice_get p.driver.transfers t) row idle here ended next refl f
 
-due_worker : (p : Parts) (o : Option ℕ) (row : Row) → p.driver.command ≡ None → next_worker p.driver ≡ o → worker_row p.driver p.memory o ≡ Some row → IsDue p row
+due_worker : (p : Parts) (o : Option ℕ) (row : DriverRow) → p.driver.command ≡ None → next_worker p.driver ≡ o → worker_row p.driver p.memory o ≡ Some row → IsDue p row
 due_worker p None row idle is f = absurd (cc)
 due_worker p (Some e) row idle is f =
     let w = next_is p.driver e (worker_from p.driver.endpoints p.driver.place) refl is in
     due_transfer p e w.endpoint w.endpoint.next row idle w.here (none_is w.endpoint (works_is w.endpoint w.endpoint.next (is_none w.endpoint.ended) w.works)) refl
     (sym (ap (λ (o : Option Endpoint). transfer_row p.driver p.memory e (option_and_then (λ (x : Endpoint). x.next) o)) w.here) ∙ f)
 
-due_harvest : (p : Parts) (row : Row) → p.driver.command ≡ None → harvest_row p.driver p.memory ≡ Some row → IsDue p row
+due_harvest : (p : Parts) (row : DriverRow) → p.driver.command ≡ None → harvest_row p.driver p.memory ≡ Some row → IsDue p row
 due_harvest p row idle f = due_worker p (next_worker p.driver) row idle refl f
 
 -- ---- which of them
 
-two : (p : Parts) (a b : Option Row) → ((row : Row) → a ≡ Some row → IsDue p row) → ((row : Row) → b ≡ Some row → IsDue p row) → IsDue p (unwrap_or (first_row a b) rows.Rest)
+two : (p : Parts) (a b : Option DriverRow) → ((row : DriverRow) → a ≡ Some row → IsDue p row) → ((row : DriverRow) → b ≡ Some row → IsDue p row) → IsDue p (unwrap_or (first_row a b) rows.Rest)
 two p None None one other = tt
 two p None (Some row) one other = other row refl
 two p (Some row) b one other = one row refl
@@ -243,5 +243,5 @@ due_for : (p : Parts) (o : Option Command) → p.driver.command ≡ o → IsDue 
 due_for p (Some c) is = due_after p c (links c && nat_le (length (events_of c)) p.driver.made) is (λ on. let b = both_true (links c) (nat_le (length (events_of c)) p.driver.made) on in (b.0, not_before (length (events_of c)) p.driver.made (nat_le (length (events_of c)) p.driver.made) refl b.1))
 due_for p None is = due_turn p p.driver.turn is
 
-pub each_is_due : (p : Parts) → IsDue p (row_of p)
+pub each_is_due : (p : Parts) → IsDue p (driver_row p)
 each_is_due p = due_for p p.driver.command refl

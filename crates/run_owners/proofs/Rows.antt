@@ -5,8 +5,8 @@ use Rattle.std.proofs.lemmas.Option.{same_Some}
 use Rattle.run_book.specs.Book.{holding, lend_taken}
 use Rattle.driver_rows.specs.declared.content.Endpoint.{Endpoint}
 use Rattle.driver_rows.specs.declared.content.Transfer.{Transfer}
-use Rattle.driver_rows.specs.declared.rows.Row.{Row}
-use Rattle.driver_rows.specs.declared.rows.Row.TheVariants as rows
+use Rattle.driver_rows.specs.declared.rows.DriverRow.{DriverRow}
+use Rattle.driver_rows.specs.declared.rows.DriverRow.TheVariants as rows
 use Rattle.qh_qtd.specs.declared.token.Token.{Token}
 use Rattle.usb_base.specs.declared.packets.EpKind.{EpKind}
 use Rattle.usb_base.specs.declared.packets.EpKind.TheVariants as kinds
@@ -19,7 +19,7 @@ use Rattle.driver_rows.specs.declared.content.Sort.{Sort}
 use Rattle.driver_rows.specs.declared.content.Sort.TheVariants as sorts
 use Rattle.driver_rows.specs.declared.rows.Found.TheVariants as founds
 use Rattle.driver_rows.specs.DriverContent.{DriverContent}
-use Rattle.driver_rows.specs.Rows.{Parts, row_of, after_row, after_transfer, after_endpoint, after_descriptor, after_placed, after_removed, after_unlink, removal_of, found_of, freed_by, linked_by, free_endpoint, free_placed, gone_with, removed_with, let_go, let_go_placed, is_iso, advance, cancelled_bytes, is_told}
+use Rattle.driver_rows.specs.Rows.{Parts, driver_row, after_driver_row, after_transfer, after_endpoint, after_descriptor, after_placed, after_removed, after_unlink, removal_of, found_of, freed_by, linked_by, free_endpoint, free_placed, gone_with, removed_with, let_go, let_go_placed, is_iso, advance, cancelled_bytes, is_told}
 use Rattle.driver_rows.specs.Harvests.{note_at, token_in, moved_of, halt_of, done_of, ends_by, found_in, reported}
 use Rattle.usb_base.specs.declared.reports.What.TheVariants as lines
 use Rattle.word_mem.specs.Memory.{Mem}
@@ -88,7 +88,7 @@ removed_row_owned p (removed.Descriptor t) owner due order old =
 removed_row_owned p (removed.Endpoint e) owner due order old =
     placed_row_owned p e owner (slice_get p.driver.endpoints e) refl (λ x is. removed_alive p.driver e x due.removal due.first due.is is order) order old
 
-pub due_owned : (row : Row) (p : Parts) (owner : ℕ → Owner) → IsDue p row → IsOrderly p.driver → IsOwned p.driver owner → IsOwned (after_row row p).driver owner
+pub due_owned : (row : DriverRow) (p : Parts) (owner : ℕ → Owner) → IsDue p row → IsOrderly p.driver → IsOwned p.driver owner → IsOwned (after_driver_row row p).driver owner
 due_owned rows.Lend p owner due order old =
     stays_owned p.driver (advance (record p.driver { book = (lend_taken (holding p.driver.book p.memory)).book })) owner (lent p.driver p.memory) old
 due_owned (rows.Store b at v) p owner due order old = stays_owned p.driver (advance p.driver) owner (advanced p.driver) old
@@ -111,8 +111,8 @@ due_owned (rows.Harvest e t found) p owner due order old =
     stays_owned p.driver _ owner (harvest_stays p.driver p.memory e t found (slice_get p.driver.endpoints e) (slice_get p.driver.transfers t) refl refl) old
 due_owned rows.Rest p owner due order old = old
 
-pub row_owned : (p : Parts) (owner : ℕ → Owner) → IsOrderly p.driver → IsOwned p.driver owner → IsOwned (after_row (row_of p) p).driver owner
-row_owned p owner order old = due_owned (row_of p) p owner (each_is_due p) order old
+pub row_owned : (p : Parts) (owner : ℕ → Owner) → IsOrderly p.driver → IsOwned p.driver owner → IsOwned (after_driver_row (driver_row p) p).driver owner
+row_owned p owner order old = due_owned (driver_row p) p owner (each_is_due p) order old
 
 -- ---- the order of what is given back
 
@@ -202,7 +202,7 @@ served_is d m y sorts.Get is = absurd (unserved sorts.Get (nat_le y.left 1) (not
 served_is d m y sorts.Put is = absurd (unserved sorts.Put (nat_le y.left 1) (note_at d.notes y.place) (token_in m y.place) is)
 served_is d m y sorts.Request is = absurd (unserved sorts.Request (nat_le y.left 1) (note_at d.notes y.place) (token_in m y.place) is)
 
-pub due_orderly : (row : Row) (p : Parts) → IsDue p row → IsOrderly p.driver → IsOrderly (after_row row p).driver
+pub due_orderly : (row : DriverRow) (p : Parts) → IsDue p row → IsOrderly p.driver → IsOrderly (after_driver_row row p).driver
 due_orderly rows.Lend p due old =
     let d = record p.driver { book = (lend_taken (holding p.driver.book p.memory)).book } in
     advance_orderly d old
@@ -228,5 +228,5 @@ due_orderly (rows.Harvest e t found) p due old =
     ∙ served_is p.driver p.memory due.transfer due.transfer.sort (sym (ap is_served_found due.tells) ∙ served)) old
 due_orderly rows.Rest p due old = old
 
-pub row_orderly : (p : Parts) → IsOrderly p.driver → IsOrderly (after_row (row_of p) p).driver
-row_orderly p old = due_orderly (row_of p) p (each_is_due p) old
+pub row_orderly : (p : Parts) → IsOrderly p.driver → IsOrderly (after_driver_row (driver_row p) p).driver
+row_orderly p old = due_orderly (driver_row p) p (each_is_due p) old

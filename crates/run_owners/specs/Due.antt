@@ -9,20 +9,20 @@ use Rattle.driver_rows.specs.declared.content.Endpoint.{Endpoint}
 use Rattle.driver_rows.specs.declared.content.Transfer.{Transfer}
 use Rattle.driver_rows.specs.declared.content.Command.{Command}
 use Rattle.driver_rows.specs.declared.content.Bell.TheVariants as bells
-use Rattle.driver_rows.specs.declared.rows.Row.{Row}
-use Rattle.driver_rows.specs.declared.rows.Row.TheVariants as rows
+use Rattle.driver_rows.specs.declared.rows.DriverRow.{DriverRow}
+use Rattle.driver_rows.specs.declared.rows.DriverRow.TheVariants as rows
 use Rattle.driver_rows.specs.declared.rows.Found.{Found}
 use Rattle.driver_rows.specs.DriverContent.{waits_for}
 use Rattle.driver_rows.specs.Rows.{Parts, events_of, links, tells_advance, found_of}
 
 -- the next of the unfinished command's own events
-pub record IsNextOf (p : Parts) (row : Row) : Type 0 where
+pub record IsNextOf (p : Parts) (row : DriverRow) : Type 0 where
   pub command : Command
   pub unfinished : p.driver.command ≡ Some command
   pub next : slice_get (events_of command) p.driver.made ≡ Some row
 
 -- the next store of the frame list, behind the command's own events
-pub record IsLinkOf (p : Parts) (row : Row) : Type 0 where
+pub record IsLinkOf (p : Parts) (row : DriverRow) : Type 0 where
   pub command : Command
   pub unfinished : p.driver.command ≡ Some command
   pub links : links command ≡ true
@@ -67,7 +67,7 @@ pub record IsHarvestDue (p : Parts) (e t : ℕ) (found : Found) : Type 0 where
   pub waits : waits_for e transfer ≡ true
   pub tells : found ≡ found_of p.driver p.memory transfer transfer.sort
 
-abbrev pub IsDue : Parts → Row → Type 0
+abbrev pub IsDue : Parts → DriverRow → Type 0
 IsDue p rows.Lend = IsNextOf p rows.Lend
 IsDue p (rows.Store b at v) = IsNextOf p (rows.Store b at v) ⊎ IsLinkOf p (rows.Store b at v)
 IsDue p (rows.Mend w) = (p.driver.command ≡ None) × (slice_get p.driver.mends 0 ≡ Some w)

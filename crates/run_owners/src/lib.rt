@@ -16,7 +16,7 @@ ghost use Rattle.driver_rows.specs.declared.content.Reserve.{Reserve};
 ghost use Rattle.driver_rows.specs.DriverContent.{DriverContent};
 ghost use Rattle.driver_rows.specs.Offers.{Offered, offered};
 ghost use Rattle.driver_rows.specs.Opening.{opening};
-ghost use Rattle.driver_rows.specs.Rows.{Parts, row_of, after_row};
+ghost use Rattle.driver_rows.specs.Rows.{Parts, driver_row, after_driver_row};
 ghost use Rattle.run_owners.specs.Owners.{Owner, ShareNoBlock};
 ghost use Rattle.run_owners.specs.Due.{IsDue};
 ghost use Rattle.run_owners.specs.Accepts.{Accepts};
@@ -37,7 +37,7 @@ pub fn commands_keep_owners()
 /// Each event of the driver keeps the runs of all that isn't given back, and gives back only what is owed.
 #[tactic(auto, using(crate::proofs::Laws::event_owned))]
 pub fn events_keep_owners()
-    ensures { (p : Parts) → HasOwners p.driver → HasOwners (after_row (row_of p) p).driver }
+    ensures { (p : Parts) → HasOwners p.driver → HasOwners (after_driver_row (driver_row p) p).driver }
 {}
 
 /// Structures of different owners share no block.
@@ -49,7 +49,7 @@ pub fn owners_share_no_block()
 /// Each event comes for its reason: the next event of the unfinished command, the first of the leaving work, or a token to read.
 #[tactic(auto, using(crate::proofs::Reasons::each_is_due))]
 pub fn each_event_is_due()
-    ensures { (p : Parts) → IsDue p (row_of p) }
+    ensures { (p : Parts) → IsDue p (driver_row p) }
 {}
 
 /// Each command is accepted for its reason: it opens an endpoint, brings a transfer or a request, or cancels an endpoint.

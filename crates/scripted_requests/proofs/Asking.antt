@@ -13,9 +13,9 @@ use Rattle.usb_base.specs.declared.packets.Way.TheVariants as Ways
 use Rattle.control_stages.specs.declared.rows.StageToken.TheVariants as Tokens
 use Rattle.control_stages.specs.Stages.{Stages, token_of}
 use Rattle.endpoint_script.specs.declared.endpoint.Endpoint.{Endpoint}
-use Rattle.endpoint_script.specs.declared.endpoint.Part.{Part}
+use Rattle.endpoint_script.specs.declared.endpoint.Role.{Role}
 use Rattle.endpoint_script.specs.Controlling.{Controlling, controlling_reply, controlling_answered, controlling_acked}
-use Rattle.endpoint_script.specs.Device.{Device, place_named, place_of, endpoint_at, reply_from, part_reply, part_answered, part_acked, endpoint_answered, endpoint_acked, answered_at, answered_in, answered, acked_at, acked_in, acked_by}
+use Rattle.endpoint_script.specs.Device.{Device, place_named, endpoint_asked, endpoint_at, reply_from, part_reply, part_answered, part_acked, endpoint_answered, endpoint_acked, answered_at, answered_in, answered, acked_at, acked_in, acked_by}
 use Rattle.usb_bus.specs.declared.asked.Answerer.{Answerer}
 use Rattle.usb_bus.specs.declared.asked.Answerer.TheVariants as Answerers
 use Rattle.usb_bus.specs.declared.asked.Asked.{Asked}
@@ -28,7 +28,7 @@ use Rattle.usb_bus.specs.declared.who_heard.WhoHeard.TheVariants.{SentUnheard, N
 use Rattle.usb_bus.specs.WhoHeard.{asker_hears, left_by, packets_before}
 use Rattle.usb_bus.specs.Seats.{token_kind, place_for}
 use Rattle.usb_bus.specs.Asking.{losses_of, row_for, device_after, device_answer, put_at, changed_at}
-use Rattle.usb_bus.specs.Bus.{Bus, Wired, Fixed, hears, asked_at, asked_of, row_of, changed_by, reply_at, reply_of, after_at, transact_after}
+use Rattle.usb_bus.specs.Bus.{Bus, Wired, Fixed, hears, asked_at, asked_of, bus_row, changed_by, reply_at, reply_of, after_at, transact_after}
 use Rattle.request_windows.specs.Host.{Endpoint as Own}
 use Rattle.request_windows.specs.Line.{answer_of, answered as own_answered, device_after as own_after}
 use Rattle.request_windows.proofs.Scripts.{same_answer, same_left, same_acked}
@@ -75,7 +75,7 @@ module _ (w : Wired) (ask : Ask) (out : List ℕ) (addr num : ℕ) (s : Side) (h
   device_kept row plain =
       let e = h.at.at in
       let k = device_changes row h.at.device ask out in
-      let not_here : place_of h.at.device ask ≡ Some e.place → ⊥ = λ is.
+      let not_here : endpoint_asked h.at.device ask ≡ Some e.place → ⊥ = λ is.
       let i = of_control h.at.device ask num e.place e.endpoint e.is e.here is in
       other (record { plain = plain; token = i.token; address = h.at.address ∙ sym i.address; number = i.number }) in
       device_control (device_after row ask out h.at.device) addr num e.place e.endpoint (h.at.address ∙ sym (address_after row h.at.device ask out)) (k.names num Ways.In ∙ h.at.no_in) (k.names num Ways.Out ∙ h.at.no_out) (k.names num Ways.Ctl ∙ e.is) (k.others e.place not_here ∙ e.here)
@@ -105,7 +105,7 @@ module _ (w : Wired) (ask : Ask) (out : List ℕ) (addr num : ℕ) (s : Side) (h
   asked_kept None is = was_here
   asked_kept (Some e) is =
       let k = who_place w.fixed w.bus ask.split (place_for w.fixed.seats ask.addr ask.ep (token_kind ask.pid)) e is in
-      who_kept (row_of w.fixed w.bus e ask out) e.who (λ n device. plain_only w.bus ask.split k.owner n (sym k.is ∙ device))
+      who_kept (bus_row w.fixed w.bus e ask out) e.who (λ n device. plain_only w.bus ask.split k.owner n (sym k.is ∙ device))
 
   other_kept : control_of (record w { bus = transact_after w.fixed w.bus ask out }) addr num ≡ Some s
   other_kept = control_through w addr num s h (transact_after w.fixed w.bus ask out) ∙ asked_kept (asked_of w.fixed w.bus ask) refl
@@ -156,7 +156,7 @@ module _ (w : Wired) (ask : Ask) (out : List ℕ) (e : Own) (c : Stages) (h : Ha
       ∙ ap (λ (split : Split). option_map (λ (packet : ℕ). record { place = h.place; name = h.seat.name; packet = packet; who = hears w.bus split h.seat.owner }) (slice_get w.bus.high h.place)) k.plain
       ∙ ap (λ (owner : Owner). option_map (λ (packet : ℕ). record { place = h.place; name = h.seat.name; packet = packet; who = hears w.bus Plain owner }) (slice_get w.bus.high h.place)) h.owner
 
-  place_here : place_of h.at.device ask ≡ Some h.at.at.place
+  place_here : endpoint_asked h.at.device ask ≡ Some h.at.at.place
   place_here =
       place_by h.at.device ask h.at.at.place (sym k.address ∙ h.at.address) k.token (ap (λ (n : ℕ). place_named h.at.device.endpoints n Ways.In) (sym k.number) ∙ h.at.no_in)
       (ap (λ (n : ℕ). place_named h.at.device.endpoints n Ways.Out) (sym k.number) ∙ h.at.no_out) (ap (λ (n : ℕ). place_named h.at.device.endpoints n Ways.Ctl) (sym k.number) ∙ h.at.at.is)
@@ -166,7 +166,7 @@ module _ (w : Wired) (ask : Ask) (out : List ℕ) (e : Own) (c : Stages) (h : Ha
       ap (λ (o : Option Device). device_answer o ask out) h.at.is
       ∙ ap (λ (o : Option ℕ). reply_from h.at.device.speed (endpoint_at h.at.device.endpoints o) ask out) place_here
       ∙ ap (λ (o : Option Endpoint). reply_from h.at.device.speed o ask out) h.at.at.here
-      ∙ ap (λ (p : Part). part_reply h.at.device.speed p ask out) h.at.at.part.is
+      ∙ ap (λ (p : Role). part_reply h.at.device.speed p ask out) h.at.at.part.is
 
   answered_there : slice_get (answered h.at.device ask out).endpoints h.at.at.place ≡ Some (endpoint_answered h.at.at.endpoint ask out)
   answered_there =
@@ -190,11 +190,11 @@ module _ (w : Wired) (ask : Ask) (out : List ℕ) (e : Own) (c : Stages) (h : Ha
 
   part_left : (row : WhoHeard) → control_of_part (left_by row h.at.at.endpoint (endpoint_answered h.at.at.endpoint ask out) (endpoint_acked (endpoint_answered h.at.at.endpoint ask out))).part ≡ Some (side_in (control_by row inside ask out))
   part_left SentUnheard = ap control_of_part h.at.at.part.is
-  part_left NoAnswer = ap (λ (p : Part). control_of_part (part_answered p ask out)) h.at.at.part.is
-  part_left AnswerUnheard = ap (λ (p : Part). control_of_part (part_answered p ask out)) h.at.at.part.is
-  part_left AnswerHeard = ap (λ (p : Part). control_of_part (part_answered p ask out)) h.at.at.part.is
-  part_left AckUnheard = ap (λ (p : Part). control_of_part (part_answered p ask out)) h.at.at.part.is
-  part_left AckHeard = ap (λ (p : Part). control_of_part (part_acked (part_answered p ask out))) h.at.at.part.is
+  part_left NoAnswer = ap (λ (p : Role). control_of_part (part_answered p ask out)) h.at.at.part.is
+  part_left AnswerUnheard = ap (λ (p : Role). control_of_part (part_answered p ask out)) h.at.at.part.is
+  part_left AnswerHeard = ap (λ (p : Role). control_of_part (part_answered p ask out)) h.at.at.part.is
+  part_left AckUnheard = ap (λ (p : Role). control_of_part (part_answered p ask out)) h.at.at.part.is
+  part_left AckHeard = ap (λ (p : Role). control_of_part (part_acked (part_answered p ask out))) h.at.at.part.is
 
   device_left : (row : WhoHeard) → control_of_device e.addr e.num (slice_get (changed_at h.device_place (device_after row ask out) w.bus.devices) h.device_place) ≡ Some (side_in (control_by row inside ask out))
   device_left row =

@@ -17,8 +17,8 @@ use Rattle.tt_pipeline.specs.Working.{budget, used_at, wire_at, wire_turned, wir
 use Rattle.hub_class.specs.HubContent.{HubContent}
 use Rattle.hub_class.specs.Microframe.{wire_tried, wire_half, wire_between, wire_left, room_left}
 use Rattle.endpoint_script.specs.declared.endpoint.Endpoint.{Endpoint}
-use Rattle.endpoint_script.specs.declared.endpoint.Part.{Part}
-use Rattle.endpoint_script.specs.Device.{Device, is_named, place_named, place_of, part_begun, endpoint_begun, begun}
+use Rattle.endpoint_script.specs.declared.endpoint.Role.{Role}
+use Rattle.endpoint_script.specs.Device.{Device, is_named, place_named, endpoint_asked, part_begun, endpoint_begun, begun}
 use Rattle.usb_bus.specs.declared.asked.Answerer.{Answerer}
 use Rattle.usb_bus.specs.declared.asked.Answerer.TheVariants as Answerers
 use Rattle.usb_bus.specs.declared.asked.Asked.{Asked}
@@ -45,13 +45,13 @@ module _ (devices : List Device) (place : ℕ) (addr ep : ℕ) (s : Side) (at : 
   was_here : control_of_device addr ep (slice_get devices place) ≡ Some s
   was_here = ap (control_of_device addr ep) at.is ∙ device_control at.device addr ep at.at.place at.at.endpoint at.address at.no_in at.no_out at.at.is at.at.here ∙ ap control_of_part at.at.part.is ∙ ap Some (sym at.at.part.side)
 
-  device_stays : (row : WhoHeard) (ask : Ask) (out : List ℕ) → (place_of at.device ask ≡ Some at.at.place → ⊥) → control_of_device addr ep (Some (device_after row ask out at.device)) ≡ Some s
+  device_stays : (row : WhoHeard) (ask : Ask) (out : List ℕ) → (endpoint_asked at.device ask ≡ Some at.at.place → ⊥) → control_of_device addr ep (Some (device_after row ask out at.device)) ≡ Some s
   device_stays row ask out not_here =
       let k = device_changes row at.device ask out in
       device_control (device_after row ask out at.device) addr ep at.at.place at.at.endpoint (at.address ∙ sym (address_after row at.device ask out)) (k.names ep Ways.In ∙ at.no_in) (k.names ep Ways.Out ∙ at.no_out) (k.names ep Ways.Ctl ∙ at.at.is) (k.others at.at.place not_here ∙ at.at.here)
       ∙ ap control_of_part at.at.part.is ∙ ap Some (sym at.at.part.side)
 
-  put_stays : (row : WhoHeard) (ask : Ask) (out : List ℕ) (n : ℕ) (o : Option Device) → slice_get devices n ≡ o → (n ≡ place → place_of at.device ask ≡ Some at.at.place → ⊥) → control_of_device addr ep (slice_get (put_at o n (device_after row ask out) devices) place) ≡ Some s
+  put_stays : (row : WhoHeard) (ask : Ask) (out : List ℕ) (n : ℕ) (o : Option Device) → slice_get devices n ≡ o → (n ≡ place → endpoint_asked at.device ask ≡ Some at.at.place → ⊥) → control_of_device addr ep (slice_get (put_at o n (device_after row ask out) devices) place) ≡ Some s
   put_stays row ask out n None there not_here = was_here
   put_stays row ask out n (Some x) there not_here =
       ⊎_elim (λ (same : place ≡ n).
@@ -104,7 +104,7 @@ module _ (fixed : Fixed) (addr ep : ℕ) (s : Side) (place : ℕ) (found : (pid 
     side : control_of_device addr ep (slice_get w.floor.devices n) ≡ Some s
 
   -- a device below a hub isn't asked about an endpoint of the high-speed bus
-  not_asked : (w : Below) (ask : Ask) (d : Device) (k : ℕ) (e : Endpoint) (m : ℕ) → w.fixed ≡ fixed → IsWhoBelow w ask (Answerers.Device m) → addr ≡ d.address → place_named d.endpoints ep Ways.Ctl ≡ Some k → slice_get d.endpoints k ≡ Some e → place_of d ask ≡ Some k → ⊥
+  not_asked : (w : Below) (ask : Ask) (d : Device) (k : ℕ) (e : Endpoint) (m : ℕ) → w.fixed ≡ fixed → IsWhoBelow w ask (Answerers.Device m) → addr ≡ d.address → place_named d.endpoints ep Ways.Ctl ≡ Some k → slice_get d.endpoints k ≡ Some e → endpoint_asked d ask ≡ Some k → ⊥
   not_asked w ask d k e m same who address named here is =
       let i = of_control d ask ep k e named here is in
       let place_same : who.place ≡ place =
@@ -170,7 +170,7 @@ begun_by true d addr ep s at =
     subst (λ (x : Device). control_of_device addr ep (Some (begun x)) ≡ Some s) same
     (device_control (begun at.device) addr ep at.at.place (endpoint_begun at.at.endpoint) at.address (named_begun ep Ways.In at.device.endpoints ∙ at.no_in) (named_begun ep Ways.Out at.device.endpoints ∙ at.no_out) (named_begun ep Ways.Ctl at.device.endpoints ∙ at.at.is)
     (slice_get-map endpoint_begun at.device.endpoints at.at.place ∙ ap (option_map endpoint_begun) at.at.here)
-    ∙ ap (λ (p : Part). control_of_part (part_begun p)) at.at.part.is ∙ ap Some (sym at.at.part.side))
+    ∙ ap (λ (p : Role). control_of_part (part_begun p)) at.at.part.is ∙ ap Some (sym at.at.part.side))
 begun_by false d addr ep s at =
     ap (control_of_device addr ep) at.is ∙ device_control at.device addr ep at.at.place at.at.endpoint at.address at.no_in at.no_out at.at.is at.at.here ∙ ap control_of_part at.at.part.is ∙ ap Some (sym at.at.part.side)
 

@@ -10,10 +10,10 @@ use Rattle.control_stages.specs.declared.rows.StageToken.{StageToken}
 use Rattle.control_stages.specs.declared.rows.StageToken.TheVariants as Tokens
 use Rattle.control_stages.specs.Stages.{token_of}
 use Rattle.endpoint_script.specs.declared.endpoint.Endpoint.{Endpoint}
-use Rattle.endpoint_script.specs.declared.endpoint.Part.{Part}
-use Rattle.endpoint_script.specs.declared.endpoint.Part.TheVariants.{Sends, Takes, Controls, Streams, Hears}
+use Rattle.endpoint_script.specs.declared.endpoint.Role.{Role}
+use Rattle.endpoint_script.specs.declared.endpoint.Role.TheVariants.{Sends, Takes, Controls, Streams, Hears}
 use Rattle.endpoint_script.specs.Controlling.{Controlling}
-use Rattle.endpoint_script.specs.Device.{Device, is_way, is_named, place_named, or_else, place_for as place_in_device, place_of, endpoint_at}
+use Rattle.endpoint_script.specs.Device.{Device, is_way, is_named, place_named, or_else, place_for as place_in_device, endpoint_asked, endpoint_at}
 use Rattle.usb_bus.specs.declared.seats.Owner.{Owner}
 use Rattle.usb_bus.specs.declared.seats.Owner.TheVariants as Owners
 use Rattle.usb_bus.specs.declared.seats.Seat.{Seat}
@@ -30,12 +30,12 @@ and_both false b e = absurd (false≢true e)
 
 -- ---- where it stands
 
-pub record IsPart (p : Part) (s : Side) : Type 0 where
+pub record IsPart (p : Role) (s : Side) : Type 0 where
   pub control : Controlling
   pub is : p ≡ Controls control
   pub side : s ≡ side_in control
 
-part_found : (p : Part) (s : Side) → control_of_part p ≡ Some s → IsPart p s
+part_found : (p : Role) (s : Side) → control_of_part p ≡ Some s → IsPart p s
 part_found (Controls z) s e = record { control = z; is = refl; side = sym (same_Some (side_in z) s e) }
 part_found (Takes t) s e = absurd cc
 part_found (Sends c) s e = absurd cc
@@ -210,7 +210,7 @@ pub record IsOfControl (d : Device) (ask : Ask) (num : ℕ) : Type 0 where
   pub address : ask.addr ≡ d.address
   pub number : num ≡ ask.ep
 
-pub of_control : (d : Device) (ask : Ask) (num : ℕ) (k : ℕ) (e : Endpoint) → place_named d.endpoints num Ways.Ctl ≡ Some k → slice_get d.endpoints k ≡ Some e → place_of d ask ≡ Some k → IsOfControl d ask num
+pub of_control : (d : Device) (ask : Ask) (num : ℕ) (k : ℕ) (e : Endpoint) → place_named d.endpoints num Ways.Ctl ≡ Some k → slice_get d.endpoints k ≡ Some e → endpoint_asked d ask ≡ Some k → IsOfControl d ask num
 of_control d ask num k e found here is =
     let f = if_found (ask.addr == d.address) (place_in_device (token_of ask.pid) d.endpoints ask.ep) k is in
     let t = number_by d.endpoints num k e found here (token_of ask.pid) ask.ep f.1 in
@@ -224,6 +224,6 @@ control_place Tokens.Out es num k known no_in no_out named = ap (λ (o : Option 
 control_place Tokens.Ping es num k known no_in no_out named = ap (λ (o : Option ℕ). or_else o (place_named es num Ways.Ctl)) no_out ∙ named
 control_place Tokens.Other es num k known no_in no_out named = absurd (known refl)
 
-pub place_by : (d : Device) (ask : Ask) (k : ℕ) → ask.addr ≡ d.address → token_of ask.pid ≢ Tokens.Other → place_named d.endpoints ask.ep Ways.In ≡ None → place_named d.endpoints ask.ep Ways.Out ≡ None → place_named d.endpoints ask.ep Ways.Ctl ≡ Some k → place_of d ask ≡ Some k
+pub place_by : (d : Device) (ask : Ask) (k : ℕ) → ask.addr ≡ d.address → token_of ask.pid ≢ Tokens.Other → place_named d.endpoints ask.ep Ways.In ≡ None → place_named d.endpoints ask.ep Ways.Out ≡ None → place_named d.endpoints ask.ep Ways.Ctl ≡ Some k → endpoint_asked d ask ≡ Some k
 place_by d ask k address known no_in no_out named =
     ap (λ (b : Bool). if b then place_in_device (token_of ask.pid) d.endpoints ask.ep else None) (eq-eqb ask.addr d.address address) ∙ control_place (token_of ask.pid) d.endpoints ask.ep k known no_in no_out named

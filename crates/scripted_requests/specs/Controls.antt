@@ -9,8 +9,8 @@ use Rattle.usb_base.specs.declared.packets.Ask.{Ask}
 use Rattle.usb_base.specs.declared.packets.Reply.{Reply}
 use Rattle.usb_base.specs.declared.packets.Way.TheVariants as Ways
 use Rattle.endpoint_script.specs.declared.endpoint.Endpoint.{Endpoint}
-use Rattle.endpoint_script.specs.declared.endpoint.Part.{Part}
-use Rattle.endpoint_script.specs.declared.endpoint.Part.TheVariants.{Sends, Takes, Controls, Streams, Hears}
+use Rattle.endpoint_script.specs.declared.endpoint.Role.{Role}
+use Rattle.endpoint_script.specs.declared.endpoint.Role.TheVariants.{Sends, Takes, Controls, Streams, Hears}
 use Rattle.endpoint_script.specs.Controlling.{Controlling, place_in, reply_at}
 use Rattle.endpoint_script.specs.Device.{Device, place_named, endpoint_at}
 use Rattle.usb_bus.specs.declared.seats.Owner.{Owner}
@@ -24,7 +24,7 @@ use Rattle.request_calls.specs.Bus.{Device as Side}
 abbrev pub side_in : Controlling → Side
 side_in c = record { known = λ setup. reply_at c.requests (place_in c.requests setup); stages = c.stages }
 
-abbrev pub control_of_part : Part → Option Side
+abbrev pub control_of_part : Role → Option Side
 control_of_part (Sends s) = None
 control_of_part (Takes t) = None
 control_of_part (Controls c) = Some (side_in c)

@@ -12,10 +12,10 @@ use Rattle.usb_base.specs.declared.packets.Split.TheVariants.{Plain, Start, Comp
 use Rattle.usb_base.specs.declared.packets.Way.TheVariants as Ways
 use Rattle.control_stages.specs.Stages.{token_of}
 use Rattle.endpoint_script.specs.declared.endpoint.Endpoint.{Endpoint}
-use Rattle.endpoint_script.specs.declared.endpoint.Part.{Part}
-use Rattle.endpoint_script.specs.declared.endpoint.Part.TheVariants.{Sends, Takes, Controls, Streams, Hears}
+use Rattle.endpoint_script.specs.declared.endpoint.Role.{Role}
+use Rattle.endpoint_script.specs.declared.endpoint.Role.TheVariants.{Sends, Takes, Controls, Streams, Hears}
 use Rattle.endpoint_script.specs.Sending.{Sending, sending_reply}
-use Rattle.endpoint_script.specs.Device.{Device, place_named, or_else, place_for as place_in_device, place_of, endpoint_at, reply_from, part_reply, part_answered, part_acked, endpoint_answered, endpoint_acked, answered_at, answered_in, answered, acked_at, acked_in, acked_by}
+use Rattle.endpoint_script.specs.Device.{Device, place_named, or_else, place_for as place_in_device, endpoint_asked, endpoint_at, reply_from, part_reply, part_answered, part_acked, endpoint_answered, endpoint_acked, answered_at, answered_in, answered, acked_at, acked_in, acked_by}
 use Rattle.usb_bus.specs.declared.asked.Answerer.{Answerer}
 use Rattle.usb_bus.specs.declared.asked.Answerer.TheVariants as Answerers
 use Rattle.usb_bus.specs.declared.asked.Asked.{Asked}
@@ -29,7 +29,7 @@ use Rattle.usb_bus.specs.declared.who_heard.WhoHeard.TheVariants.{SentUnheard, N
 use Rattle.usb_bus.specs.WhoHeard.{asker_hears, left_by, packets_before}
 use Rattle.usb_bus.specs.Seats.{token_kind, place_for}
 use Rattle.usb_bus.specs.Asking.{losses_of, row_for, device_after, device_answer, put_at, changed_at}
-use Rattle.usb_bus.specs.Bus.{Bus, Wired, Fixed, hears, asked_at, asked_of, row_of, changed_by, reply_at, reply_of, after_at, transact_after}
+use Rattle.usb_bus.specs.Bus.{Bus, Wired, Fixed, hears, asked_at, asked_of, bus_row, changed_by, reply_at, reply_of, after_at, transact_after}
 use Rattle.ring_pipes.specs.Bus.{Sender, IsStreamAsk, IsBus, HasAnswered, nothing_heard}
 use Rattle.scripted_streams.specs.Senders.{sender_of_part, sender_of_endpoint, sender_of_device, sender_of_owner, sender_of_seat, sender_of_place, sender_of}
 use Rattle.scripted_streams.proofs.Places.{set_here, set_beside}
@@ -38,12 +38,12 @@ use Rattle.scripted_streams.proofs.Sending.{sender_in, sender_by, sending_heard}
 
 -- ---- where a sender stands
 
-pub record IsPart (p : Part) (s : Sender) : Type 0 where
+pub record IsPart (p : Role) (s : Sender) : Type 0 where
   pub sending : Sending
   pub is : p ≡ Sends sending
   pub sender : s ≡ sender_in sending
 
-part_found : (p : Part) (s : Sender) → sender_of_part p ≡ Some s → IsPart p s
+part_found : (p : Role) (s : Sender) → sender_of_part p ≡ Some s → IsPart p s
 part_found (Sends z) s e = record { sending = z; is = refl; sender = sym (same_Some (sender_in z) s e) }
 part_found (Takes t) s e = absurd cc
 part_found (Controls c) s e = absurd cc
@@ -150,7 +150,7 @@ module _ (stream : ℕ → ℕ → Bool) (w : Wired) (ask : Ask) (out : List ℕ
   device_kept row plain =
       let e = h.at.at in
       let k = device_changes row h.at.device ask out in
-      let not_here : place_of h.at.device ask ≡ Some e.place → ⊥ = λ is.
+      let not_here : endpoint_asked h.at.device ask ≡ Some e.place → ⊥ = λ is.
       let i = of_in h.at.device ask ep e.place e.endpoint e.is e.here is in
       other (record { plain = plain; token = i.token; on = ap (λ (n : ℕ). stream n ask.ep) (i.address ∙ sym h.at.address) ∙ ap (stream addr) (sym i.number) ∙ on }) (h.at.address ∙ sym i.address, i.number) in
       device_sender (device_after row ask out h.at.device) addr ep e.place e.endpoint (h.at.address ∙ sym (address_after row h.at.device ask out)) (k.names ep Ways.In ∙ e.is) (k.others e.place not_here ∙ e.here)
@@ -180,7 +180,7 @@ module _ (stream : ℕ → ℕ → Bool) (w : Wired) (ask : Ask) (out : List ℕ
   asked_kept None is = was_here
   asked_kept (Some e) is =
       let k = who_place w.fixed w.bus ask.split (place_for w.fixed.seats ask.addr ask.ep (token_kind ask.pid)) e is in
-      who_kept (row_of w.fixed w.bus e ask out) e.who (λ n device. plain_only w.bus ask.split k.owner n (sym k.is ∙ device))
+      who_kept (bus_row w.fixed w.bus e ask out) e.who (λ n device. plain_only w.bus ask.split k.owner n (sym k.is ∙ device))
 
   other_kept : sender_of (record w { bus = transact_after w.fixed w.bus ask out }) addr ep ≡ Some s
   other_kept =
@@ -200,7 +200,7 @@ module _ (stream : ℕ → ℕ → Bool) (w : Wired) (ask : Ask) (out : List ℕ
       ∙ ap (λ (split : Split). option_map (λ (packet : ℕ). record { place = h.place; name = h.seat.name; packet = packet; who = hears w.bus split h.seat.owner }) (slice_get w.bus.high h.place)) k.plain
       ∙ ap (λ (owner : Owner). option_map (λ (packet : ℕ). record { place = h.place; name = h.seat.name; packet = packet; who = hears w.bus Plain owner }) (slice_get w.bus.high h.place)) h.owner
 
-  place_here : place_of h.at.device ask ≡ Some h.at.at.place
+  place_here : endpoint_asked h.at.device ask ≡ Some h.at.at.place
   place_here =
       ap (λ (b : Bool). if b then place_in_device (token_of ask.pid) h.at.device.endpoints ask.ep else None) (eq-eqb ask.addr h.at.device.address h.at.address)
       ∙ ap (λ (pid : Pid). place_in_device (token_of pid) h.at.device.endpoints ask.ep) k.token
@@ -211,7 +211,7 @@ module _ (stream : ℕ → ℕ → Bool) (w : Wired) (ask : Ask) (out : List ℕ
       ap (λ (o : Option Device). device_answer o ask out) h.at.is
       ∙ ap (λ (o : Option ℕ). reply_from h.at.device.speed (endpoint_at h.at.device.endpoints o) ask out) place_here
       ∙ ap (λ (o : Option Endpoint). reply_from h.at.device.speed o ask out) h.at.at.here
-      ∙ ap (λ (p : Part). part_reply h.at.device.speed p ask out) h.at.at.part.is
+      ∙ ap (λ (p : Role). part_reply h.at.device.speed p ask out) h.at.at.part.is
 
   answered_there : slice_get (answered h.at.device ask out).endpoints h.at.at.place ≡ Some (endpoint_answered h.at.at.endpoint ask out)
   answered_there =
@@ -235,11 +235,11 @@ module _ (stream : ℕ → ℕ → Bool) (w : Wired) (ask : Ask) (out : List ℕ
 
   part_left : (row : WhoHeard) → sender_of_part (left_by row h.at.at.endpoint (endpoint_answered h.at.at.endpoint ask out) (endpoint_acked (endpoint_answered h.at.at.endpoint ask out))).part ≡ sender_by row h.at.at.part.sending
   part_left SentUnheard = ap sender_of_part h.at.at.part.is
-  part_left NoAnswer = ap (λ (p : Part). sender_of_part (part_answered p ask out)) h.at.at.part.is
-  part_left AnswerUnheard = ap (λ (p : Part). sender_of_part (part_answered p ask out)) h.at.at.part.is
-  part_left AnswerHeard = ap (λ (p : Part). sender_of_part (part_answered p ask out)) h.at.at.part.is
-  part_left AckUnheard = ap (λ (p : Part). sender_of_part (part_answered p ask out)) h.at.at.part.is
-  part_left AckHeard = ap (λ (p : Part). sender_of_part (part_acked (part_answered p ask out))) h.at.at.part.is
+  part_left NoAnswer = ap (λ (p : Role). sender_of_part (part_answered p ask out)) h.at.at.part.is
+  part_left AnswerUnheard = ap (λ (p : Role). sender_of_part (part_answered p ask out)) h.at.at.part.is
+  part_left AnswerHeard = ap (λ (p : Role). sender_of_part (part_answered p ask out)) h.at.at.part.is
+  part_left AckUnheard = ap (λ (p : Role). sender_of_part (part_answered p ask out)) h.at.at.part.is
+  part_left AckHeard = ap (λ (p : Role). sender_of_part (part_acked (part_answered p ask out))) h.at.at.part.is
 
   device_left : (row : WhoHeard) → sender_of_device ask.addr ask.ep (slice_get (changed_at h.device_place (device_after row ask out) w.bus.devices) h.device_place) ≡ sender_by row h.at.at.part.sending
   device_left row =

@@ -11,7 +11,7 @@ use Rattle.control_stages.specs.declared.rows.StageToken.{StageToken}
 use Rattle.control_stages.specs.declared.rows.StageToken.TheVariants as Tokens
 use Rattle.control_stages.specs.Stages.{token_of}
 use Rattle.endpoint_script.specs.declared.endpoint.Endpoint.{Endpoint}
-use Rattle.endpoint_script.specs.Device.{Device, is_way, is_named, place_named, or_else, place_for, place_of, endpoint_answered, endpoint_acked, answered_at, answered_in, answered, acked_at, acked_in, acked_by}
+use Rattle.endpoint_script.specs.Device.{Device, is_way, is_named, place_named, or_else, place_for, endpoint_asked, endpoint_answered, endpoint_acked, answered_at, answered_in, answered, acked_at, acked_in, acked_by}
 use Rattle.usb_bus.specs.declared.who_heard.WhoHeard.{WhoHeard}
 use Rattle.usb_bus.specs.declared.who_heard.WhoHeard.TheVariants.{SentUnheard, NoAnswer, AnswerUnheard, AnswerHeard, AckUnheard, AckHeard}
 use Rattle.usb_bus.specs.Asking.{device_after}
@@ -62,20 +62,20 @@ place_same Tokens.Out es now num same = ap (λ (o : Option ℕ). or_else o (plac
 place_same Tokens.Ping es now num same = ap (λ (o : Option ℕ). or_else o (place_named now num Ways.Ctl)) (same num Ways.Out) ∙ ap (or_else (place_named es num Ways.Out)) (same num Ways.Ctl)
 place_same Tokens.Other es now num same = refl
 
-pub place_answered : (d : Device) (ask : Ask) (out : List ℕ) → place_of (answered d ask out) ask ≡ place_of d ask
+pub place_answered : (d : Device) (ask : Ask) (out : List ℕ) → endpoint_asked (answered d ask out) ask ≡ endpoint_asked d ask
 place_answered d ask out =
-    ap (λ (o : Option ℕ). if ask.addr == d.address then o else None) (place_same (token_of ask.pid) d.endpoints (answered d ask out).endpoints ask.ep (answered_changes d.endpoints (place_of d ask) ask out).names)
+    ap (λ (o : Option ℕ). if ask.addr == d.address then o else None) (place_same (token_of ask.pid) d.endpoints (answered d ask out).endpoints ask.ep (answered_changes d.endpoints (endpoint_asked d ask) ask out).names)
 
-answer_changes : (d : Device) (ask : Ask) (out : List ℕ) → ChangesAt d.endpoints (answered d ask out).endpoints (place_of d ask)
-answer_changes d ask out = answered_changes d.endpoints (place_of d ask) ask out
+answer_changes : (d : Device) (ask : Ask) (out : List ℕ) → ChangesAt d.endpoints (answered d ask out).endpoints (endpoint_asked d ask)
+answer_changes d ask out = answered_changes d.endpoints (endpoint_asked d ask) ask out
 
-ack_changes : (d : Device) (ask : Ask) (out : List ℕ) → ChangesAt d.endpoints (acked_by (answered d ask out) ask).endpoints (place_of d ask)
+ack_changes : (d : Device) (ask : Ask) (out : List ℕ) → ChangesAt d.endpoints (acked_by (answered d ask out) ask).endpoints (endpoint_asked d ask)
 ack_changes d ask out =
-    both_changed d.endpoints (answered d ask out).endpoints (acked_by (answered d ask out) ask).endpoints (place_of d ask) (answer_changes d ask out)
-    (subst (λ (o : Option ℕ). ChangesAt (answered d ask out).endpoints (acked_in (answered d ask out).endpoints (place_of (answered d ask out) ask)) o) (place_answered d ask out) (acked_changes (answered d ask out).endpoints (place_of (answered d ask out) ask)))
+    both_changed d.endpoints (answered d ask out).endpoints (acked_by (answered d ask out) ask).endpoints (endpoint_asked d ask) (answer_changes d ask out)
+    (subst (λ (o : Option ℕ). ChangesAt (answered d ask out).endpoints (acked_in (answered d ask out).endpoints (endpoint_asked (answered d ask out) ask)) o) (place_answered d ask out) (acked_changes (answered d ask out).endpoints (endpoint_asked (answered d ask out) ask)))
 
-pub device_changes : (row : WhoHeard) (d : Device) (ask : Ask) (out : List ℕ) → ChangesAt d.endpoints (device_after row ask out d).endpoints (place_of d ask)
-device_changes SentUnheard d ask out = none_changed d.endpoints (place_of d ask)
+pub device_changes : (row : WhoHeard) (d : Device) (ask : Ask) (out : List ℕ) → ChangesAt d.endpoints (device_after row ask out d).endpoints (endpoint_asked d ask)
+device_changes SentUnheard d ask out = none_changed d.endpoints (endpoint_asked d ask)
 device_changes NoAnswer d ask out = answer_changes d ask out
 device_changes AnswerUnheard d ask out = answer_changes d ask out
 device_changes AnswerHeard d ask out = answer_changes d ask out
@@ -152,7 +152,7 @@ pub record IsOfIn (d : Device) (ask : Ask) (num : ℕ) : Type 0 where
   pub address : ask.addr ≡ d.address
   pub number : num ≡ ask.ep
 
-pub of_in : (d : Device) (ask : Ask) (num : ℕ) (k : ℕ) (e : Endpoint) → place_named d.endpoints num Ways.In ≡ Some k → slice_get d.endpoints k ≡ Some e → place_of d ask ≡ Some k → IsOfIn d ask num
+pub of_in : (d : Device) (ask : Ask) (num : ℕ) (k : ℕ) (e : Endpoint) → place_named d.endpoints num Ways.In ≡ Some k → slice_get d.endpoints k ≡ Some e → endpoint_asked d ask ≡ Some k → IsOfIn d ask num
 of_in d ask num k e found here is =
     let f = if_found (ask.addr == d.address) (place_for (token_of ask.pid) d.endpoints ask.ep) k is in
     let t = for_in_by d.endpoints num k e found here (token_of ask.pid) ask.ep f.1 in

@@ -10,7 +10,7 @@ use Rattle.toggle_error.specs.Columns.{expected_pid}
 use Rattle.script_types.specs.declared.devices.Item.{Item}
 use Rattle.script_types.specs.declared.devices.Item.TheVariants.{Bytes, Nak, Stall}
 use Rattle.control_stages.specs.Stages.{data_pid}
-use Rattle.endpoint_script.specs.declared.endpoint.Part.TheVariants.{Sends}
+use Rattle.endpoint_script.specs.declared.endpoint.Role.TheVariants.{Sends}
 use Rattle.endpoint_script.specs.Items.{nak_given, packets_of}
 use Rattle.endpoint_script.specs.Sending.{Sending, sent_reply, sending_reply, sending_answered, sending_acked}
 use Rattle.usb_bus.specs.declared.who_heard.WhoHeard.{WhoHeard}

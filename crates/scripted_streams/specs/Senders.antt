@@ -6,8 +6,8 @@
 use Rattle.std.specs.Prelude.{ℕ, ◌==◌, Option, Some, None, slice_get, if◌then◌else◌}
 use Rattle.usb_base.specs.declared.packets.Way.TheVariants as Ways
 use Rattle.endpoint_script.specs.declared.endpoint.Endpoint.{Endpoint}
-use Rattle.endpoint_script.specs.declared.endpoint.Part.{Part}
-use Rattle.endpoint_script.specs.declared.endpoint.Part.TheVariants.{Sends, Takes, Controls, Streams, Hears}
+use Rattle.endpoint_script.specs.declared.endpoint.Role.{Role}
+use Rattle.endpoint_script.specs.declared.endpoint.Role.TheVariants.{Sends, Takes, Controls, Streams, Hears}
 use Rattle.endpoint_script.specs.Items.{packets_of}
 use Rattle.endpoint_script.specs.Device.{Device, place_named, endpoint_at}
 use Rattle.usb_bus.specs.declared.seats.Owner.{Owner}
@@ -18,7 +18,7 @@ use Rattle.usb_bus.specs.Seats.{place_for}
 use Rattle.usb_bus.specs.Bus.{Bus, Wired}
 use Rattle.ring_pipes.specs.Bus.{Sender}
 
-abbrev pub sender_of_part : Part → Option Sender
+abbrev pub sender_of_part : Role → Option Sender
 sender_of_part (Sends s) = Some (record { left = packets_of s.items; sends = s.toggle })
 sender_of_part (Takes t) = None
 sender_of_part (Controls c) = None

@@ -12,8 +12,8 @@ use Rattle.usb_base.specs.declared.packets.Split.TheVariants.{Plain}
 use Rattle.usb_base.specs.declared.packets.Way.TheVariants as Ways
 use Rattle.control_stages.specs.Stages.{token_of}
 use Rattle.endpoint_script.specs.declared.endpoint.Endpoint.{Endpoint}
-use Rattle.endpoint_script.specs.declared.endpoint.Part.{Part}
-use Rattle.endpoint_script.specs.Device.{Device, place_named, or_else, place_for as place_in_device, place_of, endpoint_at, reply_from, part_reply, part_answered, part_acked, endpoint_answered, endpoint_acked, answered_at, answered_in, answered, acked_at, acked_in, acked_by}
+use Rattle.endpoint_script.specs.declared.endpoint.Role.{Role}
+use Rattle.endpoint_script.specs.Device.{Device, place_named, or_else, place_for as place_in_device, endpoint_asked, endpoint_at, reply_from, part_reply, part_answered, part_acked, endpoint_answered, endpoint_acked, answered_at, answered_in, answered, acked_at, acked_in, acked_by}
 use Rattle.usb_bus.specs.declared.asked.Answerer.{Answerer}
 use Rattle.usb_bus.specs.declared.asked.Answerer.TheVariants as Answerers
 use Rattle.usb_bus.specs.declared.asked.Asked.{Asked}
@@ -27,9 +27,9 @@ use Rattle.usb_bus.specs.declared.who_heard.WhoHeard.TheVariants.{SentUnheard, N
 use Rattle.usb_bus.specs.WhoHeard.{asker_hears, left_by, packets_before}
 use Rattle.usb_bus.specs.Seats.{token_kind, place_for}
 use Rattle.usb_bus.specs.Asking.{losses_of, row_for, device_after, device_answer, put_at, changed_at}
-use Rattle.usb_bus.specs.Bus.{Bus, Wired, hears, asked_at, asked_of, row_of, changed_by, reply_at, reply_of, after_at, transact_after}
+use Rattle.usb_bus.specs.Bus.{Bus, Wired, hears, asked_at, asked_of, bus_row, changed_by, reply_at, reply_of, after_at, transact_after}
 use Rattle.usb_base.specs.declared.packets.Pid.TheVariants as Pids
-use Rattle.endpoint_script.specs.declared.endpoint.Part.TheVariants.{Sends, Takes, Controls, Streams, Hears}
+use Rattle.endpoint_script.specs.declared.endpoint.Role.TheVariants.{Sends, Takes, Controls, Streams, Hears}
 use Rattle.endpoint_script.specs.Taking.{Taking, taking_reply}
 use Rattle.scripted_streams.proofs.Places.{set_here, set_beside}
 use Rattle.scripted_streams.proofs.Devices.{device_changes, address_after, place_answered}
@@ -41,12 +41,12 @@ use Rattle.scripted_takers.proofs.Outs.{IsOutToken, IsOfOut, of_out}
 
 -- ---- where a taker stands
 
-pub record IsPart (p : Part) (s : Taker) : Type 0 where
+pub record IsPart (p : Role) (s : Taker) : Type 0 where
   pub taking : Taking
   pub is : p ≡ Takes taking
   pub taker : s ≡ taker_in taking
 
-part_found : (p : Part) (s : Taker) → taker_of_part p ≡ Some s → IsPart p s
+part_found : (p : Role) (s : Taker) → taker_of_part p ≡ Some s → IsPart p s
 part_found (Takes z) s e = record { taking = z; is = refl; taker = sym (same_Some (taker_in z) s e) }
 part_found (Sends t) s e = absurd cc
 part_found (Controls c) s e = absurd cc
@@ -125,7 +125,7 @@ module _ (ask : Ask) (out : List ℕ) (addr ep : ℕ) (o : Option Device) (s : T
   was_here = ap (taker_of_device addr ep) at.is ∙ device_taker at.device addr ep at.at.place at.at.endpoint at.address at.at.is at.at.here ∙ ap taker_of_part at.at.part.is ∙ ap Some (sym at.at.part.taker)
 
   -- about this endpoint
-  module _ (here : place_of at.device ask ≡ Some at.at.place) where
+  module _ (here : endpoint_asked at.device ask ≡ Some at.at.place) where
     answered_there : slice_get (answered at.device ask out).endpoints at.at.place ≡ Some (endpoint_answered at.at.endpoint ask out)
     answered_there =
         ap (λ (i : Option ℕ). slice_get (answered_in at.device.endpoints i ask out) at.at.place) here
@@ -148,11 +148,11 @@ module _ (ask : Ask) (out : List ℕ) (addr ep : ℕ) (o : Option Device) (s : T
 
     part_left : (row : WhoHeard) → taker_of_part (left_by row at.at.endpoint (endpoint_answered at.at.endpoint ask out) (endpoint_acked (endpoint_answered at.at.endpoint ask out))).part ≡ taker_by row ask out at.at.part.taking
     part_left SentUnheard = ap taker_of_part at.at.part.is
-    part_left NoAnswer = ap (λ (p : Part). taker_of_part (part_answered p ask out)) at.at.part.is
-    part_left AnswerUnheard = ap (λ (p : Part). taker_of_part (part_answered p ask out)) at.at.part.is
-    part_left AnswerHeard = ap (λ (p : Part). taker_of_part (part_answered p ask out)) at.at.part.is
-    part_left AckUnheard = ap (λ (p : Part). taker_of_part (part_answered p ask out)) at.at.part.is
-    part_left AckHeard = ap (λ (p : Part). taker_of_part (part_acked (part_answered p ask out))) at.at.part.is
+    part_left NoAnswer = ap (λ (p : Role). taker_of_part (part_answered p ask out)) at.at.part.is
+    part_left AnswerUnheard = ap (λ (p : Role). taker_of_part (part_answered p ask out)) at.at.part.is
+    part_left AnswerHeard = ap (λ (p : Role). taker_of_part (part_answered p ask out)) at.at.part.is
+    part_left AckUnheard = ap (λ (p : Role). taker_of_part (part_answered p ask out)) at.at.part.is
+    part_left AckHeard = ap (λ (p : Role). taker_of_part (part_acked (part_answered p ask out))) at.at.part.is
 
     pub device_left : (row : WhoHeard) → taker_of_device addr ep (Some (device_after row ask out at.device)) ≡ taker_by row ask out at.at.part.taking
     device_left row =
@@ -160,23 +160,23 @@ module _ (ask : Ask) (out : List ℕ) (addr ep : ℕ) (o : Option Device) (s : T
         (at.address ∙ sym (address_after row at.device ask out)) ((device_changes row at.device ask out).names ep Ways.Out ∙ at.at.is) (after_there row) ∙ part_left row
 
   -- about another one
-  device_kept : (row : WhoHeard) → (place_of at.device ask ≡ Some at.at.place → ⊥) → taker_of_device addr ep (Some (device_after row ask out at.device)) ≡ Some s
+  device_kept : (row : WhoHeard) → (endpoint_asked at.device ask ≡ Some at.at.place → ⊥) → taker_of_device addr ep (Some (device_after row ask out at.device)) ≡ Some s
   device_kept row not_here =
       let k = device_changes row at.device ask out in
       device_taker (device_after row ask out at.device) addr ep at.at.place at.at.endpoint (at.address ∙ sym (address_after row at.device ask out)) (k.names ep Ways.Out ∙ at.at.is) (k.others at.at.place not_here ∙ at.at.here)
       ∙ ap taker_of_part at.at.part.is ∙ ap Some (sym at.at.part.taker)
 
   -- either, where it isn't an OUT for this endpoint
-  device_stays : (row : WhoHeard) → (IsOfOut at.device ask ep → ask.pid ≡ Pids.Out → ⊥) → (i : Option ℕ) → place_of at.device ask ≡ i → taker_of_device addr ep (Some (device_after row ask out at.device)) ≡ Some s
-  device_stays row unasked None is = device_kept row (λ (e : place_of at.device ask ≡ Some at.at.place). absurd (nowhere (sym is ∙ e)))
+  device_stays : (row : WhoHeard) → (IsOfOut at.device ask ep → ask.pid ≡ Pids.Out → ⊥) → (i : Option ℕ) → endpoint_asked at.device ask ≡ i → taker_of_device addr ep (Some (device_after row ask out at.device)) ≡ Some s
+  device_stays row unasked None is = device_kept row (λ (e : endpoint_asked at.device ask ≡ Some at.at.place). absurd (nowhere (sym is ∙ e)))
     where
       nowhere : None ≡ Some at.at.place → ⊥
       nowhere e = cc
   device_stays row unasked (Some k) is =
       ⊎_elim (λ (same : k ≡ at.at.place). by_token (is ∙ ap Some same) (of_out at.device ask ep at.at.place at.at.endpoint at.at.is at.at.here (is ∙ ap Some same)) (of_out at.device ask ep at.at.place at.at.endpoint at.at.is at.at.here (is ∙ ap Some same)).token)
-      (λ (differs : k ≢ at.at.place). device_kept row (λ (e : place_of at.device ask ≡ Some at.at.place). differs (same_Some k at.at.place (sym is ∙ e)))) (cases_eq k at.at.place)
+      (λ (differs : k ≢ at.at.place). device_kept row (λ (e : endpoint_asked at.device ask ≡ Some at.at.place). differs (same_Some k at.at.place (sym is ∙ e)))) (cases_eq k at.at.place)
     where
-      by_token : place_of at.device ask ≡ Some at.at.place → IsOfOut at.device ask ep → IsOutToken ask.pid → taker_of_device addr ep (Some (device_after row ask out at.device)) ≡ Some s
+      by_token : endpoint_asked at.device ask ≡ Some at.at.place → IsOfOut at.device ask ep → IsOutToken ask.pid → taker_of_device addr ep (Some (device_after row ask out at.device)) ≡ Some s
       by_token here for_it (inl e) = absurd (unasked for_it e)
       by_token here for_it (inr e) = device_left here row ∙ pinged_stays ask out at.at.part.taking row e ∙ ap Some (sym at.at.part.taker)
 
@@ -189,7 +189,7 @@ put_stays devices place addr ep s at row ask out n (Some x) there unasked =
     let is : x ≡ at.device = same_Some x at.device (sym there ∙ ap (slice_get devices) (sym same) ∙ at.is) in
     ap (λ (i : ℕ). taker_of_device addr ep (slice_get (slice_set devices n (device_after row ask out x)) i)) same
     ∙ ap (taker_of_device addr ep) (set_here devices n x (device_after row ask out x) there)
-    ∙ ap (λ (z : Device). taker_of_device addr ep (Some (device_after row ask out z))) is ∙ device_stays ask out addr ep (slice_get devices place) s at row (unasked (sym same)) (place_of at.device ask) refl)
+    ∙ ap (λ (z : Device). taker_of_device addr ep (Some (device_after row ask out z))) is ∙ device_stays ask out addr ep (slice_get devices place) s at row (unasked (sym same)) (endpoint_asked at.device ask) refl)
     (λ (differs : place ≢ n). ap (taker_of_device addr ep) (set_beside devices n place (device_after row ask out x) differs) ∙ was_here ask out addr ep (slice_get devices place) s at) (cases_eq place n)
 
 -- ---- another one stays as it is
@@ -212,7 +212,7 @@ module _ (stream : ℕ → ℕ → Bool) (w : Wired) (ask : Ask) (out : List ℕ
   asked_kept None is = stays
   asked_kept (Some e) is =
       let k = who_place w.fixed w.bus ask.split (place_for w.fixed.seats ask.addr ask.ep (token_kind ask.pid)) e is in
-      who_kept (row_of w.fixed w.bus e ask out) e.who (λ n device. plain_only w.bus ask.split k.owner n (sym k.is ∙ device))
+      who_kept (bus_row w.fixed w.bus e ask out) e.who (λ n device. plain_only w.bus ask.split k.owner n (sym k.is ∙ device))
 
   other_kept : taker_of (record w { bus = transact_after w.fixed w.bus ask out }) addr ep ≡ Some s
   other_kept =
@@ -232,7 +232,7 @@ module _ (stream : ℕ → ℕ → Bool) (w : Wired) (ask : Ask) (out : List ℕ
       ∙ ap (λ (split : Split). option_map (λ (packet : ℕ). record { place = h.place; name = h.seat.name; packet = packet; who = hears w.bus split h.seat.owner }) (slice_get w.bus.high h.place)) k.plain
       ∙ ap (λ (owner : Owner). option_map (λ (packet : ℕ). record { place = h.place; name = h.seat.name; packet = packet; who = hears w.bus Plain owner }) (slice_get w.bus.high h.place)) h.owner
 
-  place_here : place_of h.at.device ask ≡ Some h.at.at.place
+  place_here : endpoint_asked h.at.device ask ≡ Some h.at.at.place
   place_here =
       ap (λ (b : Bool). if b then place_in_device (token_of ask.pid) h.at.device.endpoints ask.ep else None) (eq-eqb ask.addr h.at.device.address h.at.address)
       ∙ ap (λ (pid : Pid). place_in_device (token_of pid) h.at.device.endpoints ask.ep) k.token
@@ -243,7 +243,7 @@ module _ (stream : ℕ → ℕ → Bool) (w : Wired) (ask : Ask) (out : List ℕ
       ap (λ (o : Option Device). device_answer o ask out) h.at.is
       ∙ ap (λ (o : Option ℕ). reply_from h.at.device.speed (endpoint_at h.at.device.endpoints o) ask out) place_here
       ∙ ap (λ (o : Option Endpoint). reply_from h.at.device.speed o ask out) h.at.at.here
-      ∙ ap (λ (p : Part). part_reply h.at.device.speed p ask out) h.at.at.part.is
+      ∙ ap (λ (p : Role). part_reply h.at.device.speed p ask out) h.at.at.part.is
 
   left_there : (row : WhoHeard) → taker_of_device ask.addr ask.ep (slice_get (changed_at h.device_place (device_after row ask out) w.bus.devices) h.device_place) ≡ taker_by row ask out h.at.at.part.taking
   left_there row =

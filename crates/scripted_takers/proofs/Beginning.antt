@@ -12,7 +12,7 @@ use Rattle.tt_pipeline.specs.Work.{moved, is_due, sent_of}
 use Rattle.tt_pipeline.specs.Working.{budget, used_at, wire_at, wire_turned, wire_worked}
 use Rattle.hub_class.specs.HubContent.{HubContent}
 use Rattle.hub_class.specs.Microframe.{wire_tried, wire_half, wire_between, wire_left, room_left}
-use Rattle.endpoint_script.specs.declared.endpoint.Part.{Part}
+use Rattle.endpoint_script.specs.declared.endpoint.Role.{Role}
 use Rattle.endpoint_script.specs.Device.{Device, part_begun, endpoint_begun, begun}
 use Rattle.usb_bus.specs.declared.asked.Answerer.{Answerer}
 use Rattle.usb_bus.specs.declared.asked.Answerer.TheVariants as Answerers
@@ -98,7 +98,7 @@ begun_by true d addr ep s at =
     subst (λ (x : Device). taker_of_device addr ep (Some (begun x)) ≡ Some s) same
     (device_taker (begun at.device) addr ep at.at.place (endpoint_begun at.at.endpoint) at.address (named_begun ep Ways.Out at.device.endpoints ∙ at.at.is)
     (slice_get-map endpoint_begun at.device.endpoints at.at.place ∙ ap (option_map endpoint_begun) at.at.here)
-    ∙ ap (λ (p : Part). taker_of_part (part_begun p)) at.at.part.is ∙ ap Some (sym at.at.part.taker))
+    ∙ ap (λ (p : Role). taker_of_part (part_begun p)) at.at.part.is ∙ ap Some (sym at.at.part.taker))
 begun_by false d addr ep s at =
     ap (taker_of_device addr ep) at.is ∙ device_taker at.device addr ep at.at.place at.at.endpoint at.address at.at.is at.at.here ∙ ap taker_of_part at.at.part.is ∙ ap Some (sym at.at.part.taker)
 

@@ -11,7 +11,7 @@ use Rattle.control_stages.specs.declared.rows.StageToken.{StageToken}
 use Rattle.control_stages.specs.declared.rows.StageToken.TheVariants as Tokens
 use Rattle.control_stages.specs.Stages.{token_of}
 use Rattle.endpoint_script.specs.declared.endpoint.Endpoint.{Endpoint}
-use Rattle.endpoint_script.specs.Device.{Device, is_way, place_named, place_for, place_of}
+use Rattle.endpoint_script.specs.Device.{Device, is_way, place_named, place_for, endpoint_asked}
 use Rattle.scripted_streams.proofs.Devices.{named_is, either_found, if_found}
 
 one_way : (own : Way) → is_way own Ways.Out ≡ true → (is_way own Ways.Ctl ≡ false) × (is_way own Ways.In ≡ false)
@@ -58,7 +58,7 @@ pub record IsOfOut (d : Device) (ask : Ask) (num : ℕ) : Type 0 where
   pub address : ask.addr ≡ d.address
   pub number : num ≡ ask.ep
 
-pub of_out : (d : Device) (ask : Ask) (num : ℕ) (k : ℕ) (e : Endpoint) → place_named d.endpoints num Ways.Out ≡ Some k → slice_get d.endpoints k ≡ Some e → place_of d ask ≡ Some k → IsOfOut d ask num
+pub of_out : (d : Device) (ask : Ask) (num : ℕ) (k : ℕ) (e : Endpoint) → place_named d.endpoints num Ways.Out ≡ Some k → slice_get d.endpoints k ≡ Some e → endpoint_asked d ask ≡ Some k → IsOfOut d ask num
 of_out d ask num k e found here is =
     let f = if_found (ask.addr == d.address) (place_for (token_of ask.pid) d.endpoints ask.ep) k is in
     let t = for_out_by d.endpoints num k e found here (token_of ask.pid) ask.ep f.1 in

@@ -12,9 +12,9 @@ use Rattle.script_types.specs.declared.devices.Item.TheVariants.{Nak, Nyet, Stal
 use Rattle.control_stages.specs.declared.rows.Sequence.{Sequence}
 use Rattle.control_stages.specs.declared.rows.Sequence.TheVariants.{Next, Repeat, Neither}
 use Rattle.control_stages.specs.Stages.{sequence_of}
-use Rattle.endpoint_script.specs.declared.endpoint.Part.TheVariants.{Takes}
+use Rattle.endpoint_script.specs.declared.endpoint.Role.TheVariants.{Takes}
 use Rattle.endpoint_script.specs.declared.rows.TakeRow.{TakeRow}
-use Rattle.endpoint_script.specs.Taking.{Taking, is_ping, take_row, out_row, next_row, ping_row, row_of, row_reply, has_room, after_row, taking_reply, taking_answered}
+use Rattle.endpoint_script.specs.Taking.{Taking, is_ping, take_row, out_row, next_row, ping_row, taking_row, row_reply, has_room, after_taking_row, taking_reply, taking_answered}
 use Rattle.usb_bus.specs.declared.who_heard.WhoHeard.{WhoHeard}
 use Rattle.usb_bus.specs.declared.who_heard.WhoHeard.TheVariants.{SentUnheard, NoAnswer, AnswerUnheard, AnswerHeard, AckUnheard, AckHeard}
 use Rattle.usb_bus.specs.WhoHeard.{asker_hears, left_by}
@@ -52,7 +52,7 @@ module _ (speed : Speed) (ask : Ask) (out : List ℕ) (t : Taking) (heard : Repl
   abbrev IsHeardOf : TakeRow → Type 0
   IsHeardOf row = is_acknowledgement (row_reply speed row) ≡ false → is_acknowledgement heard ≡ false
 
-  next_takes : (items : List Item) (fits : Bool) → ask.toggle ≡ expected_pid t.toggle → IsHeardOf (next_row items fits) → Took ask out (taker_in t) heard (taker_in (after_row (next_row items fits) out t))
+  next_takes : (items : List Item) (fits : Bool) → ask.toggle ≡ expected_pid t.toggle → IsHeardOf (next_row items fits) → Took ask out (taker_in t) heard (taker_in (after_taking_row (next_row items fits) out t))
   next_takes (Nak n ∷ items) fits e none = nothing_taken heard (none refl)
   next_takes (Stall ∷ items) fits e none = nothing_taken heard (none refl)
   next_takes (Nyet ∷ items) true e none = all_taken heard e
@@ -60,7 +60,7 @@ module _ (speed : Speed) (ask : Ask) (out : List ℕ) (t : Taking) (heard : Repl
   next_takes _ true e none = all_taken heard e
   next_takes _ false e none = nothing_taken heard (none refl)
 
-  data_takes : (sequence : Sequence) → sequence_of t.toggle ask.toggle ≡ sequence → IsHeardOf (out_row sequence t.items (has_room t (length out))) → Took ask out (taker_in t) heard (taker_in (after_row (out_row sequence t.items (has_room t (length out))) out t))
+  data_takes : (sequence : Sequence) → sequence_of t.toggle ask.toggle ≡ sequence → IsHeardOf (out_row sequence t.items (has_room t (length out))) → Took ask out (taker_in t) heard (taker_in (after_taking_row (out_row sequence t.items (has_room t (length out))) out t))
   data_takes Next is none = next_takes t.items (has_room t (length out)) (next_is t.toggle ask.toggle is) none
   data_takes Repeat is none = all_dropped heard (not_expected t.toggle ask.toggle (λ e. repeats (sym is ∙ e)))
     where
@@ -71,8 +71,8 @@ module _ (speed : Speed) (ask : Ask) (out : List ℕ) (t : Taking) (heard : Repl
       neither : Neither ≡ Next → ⊥
       neither e = cc
 
-  out_takes : ask.pid ≡ Pids.Out → IsHeardOf (row_of t ask out) → Took ask out (taker_in t) heard (taker_in (taking_answered t ask out))
-  out_takes is = subst (λ (pid : Pid). IsHeardOf (take_row (is_ping pid) t (sequence_of t.toggle ask.toggle) (length out)) → Took ask out (taker_in t) heard (taker_in (after_row (take_row (is_ping pid) t (sequence_of t.toggle ask.toggle) (length out)) out t))) (sym is)
+  out_takes : ask.pid ≡ Pids.Out → IsHeardOf (taking_row t ask out) → Took ask out (taker_in t) heard (taker_in (taking_answered t ask out))
+  out_takes is = subst (λ (pid : Pid). IsHeardOf (take_row (is_ping pid) t (sequence_of t.toggle ask.toggle) (length out)) → Took ask out (taker_in t) heard (taker_in (after_taking_row (take_row (is_ping pid) t (sequence_of t.toggle ask.toggle) (length out)) out t))) (sym is)
       (data_takes (sequence_of t.toggle ask.toggle) refl)
 
 pub taking_heard : (speed : Speed) (ask : Ask) (out : List ℕ) (t : Taking) (row : WhoHeard) → ask.pid ≡ Pids.Out → HasTaken ask out (taker_in t) (asker_hears row (taking_reply speed t ask out)) (taker_by row ask out t)
@@ -85,13 +85,13 @@ taking_heard speed ask out t AckHeard is = record { taker = taker_in (taking_ans
 
 -- ---- a PING
 
-ping_none : (items : List Item) (out : List ℕ) (t : Taking) → taker_in (after_row (ping_row items) out t) ≡ taker_in t
+ping_none : (items : List Item) (out : List ℕ) (t : Taking) → taker_in (after_taking_row (ping_row items) out t) ≡ taker_in t
 ping_none (Nak n ∷ items) out t = refl
 ping_none (Stall ∷ items) out t = refl
 ping_none _ out t = refl
 
 pinged_none : (ask : Ask) (out : List ℕ) (t : Taking) → ask.pid ≡ Pids.Ping → taker_in (taking_answered t ask out) ≡ taker_in t
-pinged_none ask out t is = ap (λ (pid : Pid). taker_in (after_row (take_row (is_ping pid) t (sequence_of t.toggle ask.toggle) (length out)) out t)) is ∙ ping_none t.items out t
+pinged_none ask out t is = ap (λ (pid : Pid). taker_in (after_taking_row (take_row (is_ping pid) t (sequence_of t.toggle ask.toggle) (length out)) out t)) is ∙ ping_none t.items out t
 
 pub pinged_stays : (ask : Ask) (out : List ℕ) (t : Taking) (row : WhoHeard) → ask.pid ≡ Pids.Ping → taker_by row ask out t ≡ Some (taker_in t)
 pinged_stays ask out t SentUnheard is = refl

@@ -14,7 +14,7 @@ use Rattle.driver_rows.specs.Words.{head_block}
 use Rattle.driver_rows.specs.Rows.{is_iso}
 use Rattle.run_owners.specs.Owners.{QueueHead as QueueHeadOf, HasBlocks, runs_of_endpoint, IsPlaced, views_of}
 use Rattle.queue_head_words.specs.Overlay.{HasQueueHead, of_ring, of_endpoint}
-use Rattle.lent_structures.specs.Structures.{Structure, QueueHead, Element, Buffer, Table, Isochronous, SplitIsochronous, Parts}
+use Rattle.lent_structures.specs.Structures.{Structure, QueueHead, Element, Buffer, Table, Isochronous, SplitIsochronous, StructureSets}
 use Rattle.controller_writes.specs.Leaving.{LeavesRest}
 use Rattle.driver_parts.specs.Inventory.{OfQueueHead, sort_of, sorts_of, IsLent, IsQueueIn, IsDriven}
 use Rattle.in_place.specs.InPlace.{IsInPlace}
@@ -37,13 +37,13 @@ head_of (Some (SplitIsochronous v)) is = absurd cc
 
 -- ---- its words
 
-told_kept : (parts : Parts) (m new : Mem) (b i : ℕ) → LeavesRest parts m new → sorts_of parts (32 * b) (32 * b) ≡ Some OfQueueHead → i < 3 → word_at new (32 * b + 4 * i) ≡ word_at m (32 * b + 4 * i)
+told_kept : (parts : StructureSets) (m new : Mem) (b i : ℕ) → LeavesRest parts m new → sorts_of parts (32 * b) (32 * b) ≡ Some OfQueueHead → i < 3 → word_at new (32 * b + 4 * i) ≡ word_at m (32 * b + 4 * i)
 told_kept parts m new b i leaves told below =
     let h : IsHead (parts (32 * b) (32 * b)) = head_of (parts (32 * b) (32 * b)) told in
     leaves.heads (32 * b) (32 * b) h.queue i h.here below
 
 -- those of a run that isn't lent yet
-kept_kept : (parts : Parts) (m new : Mem) (d : DriverContent) (b i : ℕ) (r : Run) → LeavesRest parts m new → IsInPlace m d → slot_of d.book.slots b ≡ slots.Keeps r → i < 3 → word_at new (32 * b + 4 * i) ≡ word_at m (32 * b + 4 * i)
+kept_kept : (parts : StructureSets) (m new : Mem) (d : DriverContent) (b i : ℕ) (r : Run) → LeavesRest parts m new → IsInPlace m d → slot_of d.book.slots b ≡ slots.Keeps r → i < 3 → word_at new (32 * b + 4 * i) ≡ word_at m (32 * b + 4 * i)
 kept_kept parts m new d b i r leaves place is below =
     let stands = place.sound.stands in
     let at = keeps_at (holding d.book m) b r stands is in
@@ -57,7 +57,7 @@ either_false : (b c : Bool) → b ≡ false → c ≡ false → (b || c) ≡ fal
 either_false true c one other = absurd cc
 either_false false c one other = other
 
-endpoint_kept : (parts : Parts) (m new : Mem) (d : DriverContent) (e : ℕ) (x : Endpoint) (i : ℕ) (s : Slot) → LeavesRest parts m new → IsInPlace m d → IsDriven (views_of d) (sorts_of parts)
+endpoint_kept : (parts : StructureSets) (m new : Mem) (d : DriverContent) (e : ℕ) (x : Endpoint) (i : ℕ) (s : Slot) → LeavesRest parts m new → IsInPlace m d → IsDriven (views_of d) (sorts_of parts)
     → IsQueueIn (views_of d) e (runs_of_endpoint x) → slot_of d.book.slots x.queue ≡ s → i < 3 → word_at new (32 * x.queue + 4 * i) ≡ word_at m (32 * x.queue + 4 * i)
 endpoint_kept parts m new d e x i slots.Empty leaves place driven is slot below =
     let p : IsPlaced (slot_of d.book.slots) place.sound.owners.owner x.queue (QueueHeadOf e) = place.sound.owners.owned.each.queue e (runs_of_endpoint x) is.here is.queued in
@@ -69,7 +69,7 @@ endpoint_kept parts m new d e x i (slots.Keeps r) leaves place driven is slot be
 endpoint_kept parts m new d e x i (slots.Lends r) leaves place driven is slot below =
     told_kept parts m new x.queue i leaves (driven.queue e (runs_of_endpoint x) is (subst IsLent (sym slot) tt)) below
 
-head_kept : (parts : Parts) (m new : Mem) (d : DriverContent) (b i : ℕ) → LeavesRest parts m new → IsInPlace m d → IsDriven (views_of d) (sorts_of parts) → HasQueueHead d b → i < 3 → word_at new (32 * b + 4 * i) ≡ word_at m (32 * b + 4 * i)
+head_kept : (parts : StructureSets) (m new : Mem) (d : DriverContent) (b i : ℕ) → LeavesRest parts m new → IsInPlace m d → IsDriven (views_of d) (sorts_of parts) → HasQueueHead d b → i < 3 → word_at new (32 * b + 4 * i) ≡ word_at m (32 * b + 4 * i)
 head_kept parts m new d b i leaves place driven (of_ring is) below =
     subst (λ (k : ℕ). word_at new (32 * k + 4 * i) ≡ word_at m (32 * k + 4 * i)) (sym is) (told_kept parts m new head_block i leaves driven.head below)
 head_kept parts m new d b i leaves place driven (of_endpoint e x here queued alive is) below =
@@ -79,7 +79,7 @@ head_kept parts m new d b i leaves place driven (of_endpoint e x here queued ali
 
 -- ---- elsewhere
 
-free_kept : (parts : Parts) (m new : Mem) (b i : ℕ) → LeavesRest parts m new → slice_get m.states b ≡ Some Free → i < 8 → get_or new.words (8 * b + i) 0 ≡ get_or m.words (8 * b + i) 0
+free_kept : (parts : StructureSets) (m new : Mem) (b i : ℕ) → LeavesRest parts m new → slice_get m.states b ≡ Some Free → i < 8 → get_or new.words (8 * b + i) 0 ≡ get_or m.words (8 * b + i) 0
 free_kept parts m new b i leaves free below =
     let block : 4 * (8 * b + i) / 32 ≡ b = omega (arith, below) in
     let word : 8 * b + i ≡ 4 * (8 * b + i) / 4 = omega arith in
@@ -87,7 +87,7 @@ free_kept parts m new b i leaves free below =
     ∙ leaves.lent.words (4 * (8 * b + i)) (ap (λ (k : ℕ). is_lent (slice_get m.states k)) block ∙ ap is_lent free)
     ∙ sym (ap (λ (k : ℕ). get_or m.words k 0) word)
 
-pub leaves_elsewhere : (parts : Parts) (m new : Mem) (d : DriverContent) → LeavesRest parts m new → IsInPlace m d → IsDriven (views_of d) (sorts_of parts) → IsElsewhere d m new
+pub leaves_elsewhere : (parts : StructureSets) (m new : Mem) (d : DriverContent) → LeavesRest parts m new → IsInPlace m d → IsDriven (views_of d) (sorts_of parts) → IsElsewhere d m new
 leaves_elsewhere parts m new d leaves place driven = record {
   states = leaves.lent.states;
   size = leaves.lent.size;

@@ -5,14 +5,14 @@ use Rattle.usb_base.specs.declared.packets.Ask.{Ask}
 use Rattle.usb_base.specs.declared.packets.Reply.{Reply}
 use Rattle.link_words.specs.Links.{link_read}
 use Rattle.periodic_walk.specs.Walk.{is_over}
-use Rattle.hc_core.specs.declared.controller.Part.TheVariants.{Over, Periodic}
-use Rattle.hc_core.specs.Controller.{Control, Content, content, new_control, walk_place, row_of, HasRow}
+use Rattle.hc_core.specs.declared.controller.MicroframePart.TheVariants.{Over, Periodic}
+use Rattle.hc_core.specs.Controller.{Control, Content, content, new_control, walk_place, microframe_row, HasRow}
 use Rattle.driver_rows.specs.declared.content.Reserve.{Reserve}
 use Rattle.driver_rows.specs.DriverContent.{DriverContent}
 use Rattle.driver_rows.specs.Opening.{opening}
-use Rattle.driver_rows.specs.Rows.{row_of as driver_row}
+use Rattle.driver_rows.specs.Rows.{driver_row}
 use Rattle.run_owners.specs.Owners.{views_of}
-use Rattle.lent_structures.specs.Structures.{Parts}
+use Rattle.lent_structures.specs.Structures.{StructureSets}
 use Rattle.ring_walk.specs.Hand.{Hand, Empty}
 use Rattle.ring_walk.specs.Ring.{Base}
 use Rattle.ring_walk.specs.Effects.{AreBytesHeard}
@@ -61,15 +61,15 @@ opening_shared n room many few whole =
 
 -- ---- an event of the controller
 
-pub control_same : {W : Type 0} (begins : W → ℕ → Bool → W → Type 0) (transacts : W → Ask → List ℕ → Reply → W → Type 0) (base : Base) (member : ℕ → Bool) (parts : Parts) (hand : Hand) (c : Content) (wire after : W) (now : Parts) (later : Hand) → IsControlled base member parts hand c → ControlEffect begins transacts parts hand wire after now later → SameSorts parts now
+pub control_same : {W : Type 0} (begins : W → ℕ → Bool → W → Type 0) (transacts : W → Ask → List ℕ → Reply → W → Type 0) (base : Base) (member : ℕ → Bool) (parts : StructureSets) (hand : Hand) (c : Content) (wire after : W) (now : StructureSets) (later : Hand) → IsControlled base member parts hand c → ControlEffect begins transacts parts hand wire after now later → SameSorts parts now
 control_same begins transacts base member parts hand c wire after now later k (a_microframe b) = same_parts parts now b.parts_stay
 control_same begins transacts base member parts hand c wire after now later k (a_step w) = effect_same transacts base member parts hand (walk_place c) wire after now later w.kind k.ring w.effect
 
-pub event_elsewhere : {W : Type 0} (begins : W → ℕ → Bool → W → Type 0) (transacts : W → Ask → List ℕ → Reply → W → Type 0) (base : Base) (member : ℕ → Bool) (parts : Parts) (hand : Hand) (c : Content) (d : DriverContent) (wire : W) (new : Content) (after : W) → IsShared base member parts hand c d → AreBytesHeard transacts wire after → HasRow begins transacts (row_of c.registers c.control) c wire new after → IsElsewhere d c.memory new.memory
+pub event_elsewhere : {W : Type 0} (begins : W → ℕ → Bool → W → Type 0) (transacts : W → Ask → List ℕ → Reply → W → Type 0) (base : Base) (member : ℕ → Bool) (parts : StructureSets) (hand : Hand) (c : Content) (d : DriverContent) (wire : W) (new : Content) (after : W) → IsShared base member parts hand c d → AreBytesHeard transacts wire after → HasRow begins transacts (microframe_row c.registers c.control) c wire new after → IsElsewhere d c.memory new.memory
 event_elsewhere begins transacts base member parts hand c d wire new after k heard row =
     leaves_elsewhere parts c.memory new.memory d (event_leaves begins transacts base member parts hand c wire new after k.controlled (is_on base k.operating) heard row) k.place k.driven
 
-pub event_shared : {W : Type 0} (begins : W → ℕ → Bool → W → Type 0) (transacts : W → Ask → List ℕ → Reply → W → Type 0) (base : Base) (member : ℕ → Bool) (parts : Parts) (hand : Hand) (c : Content) (d : DriverContent) (wire : W) (new : Content) (after : W) → IsShared base member parts hand c d → AreBytesHeard transacts wire after → HasRow begins transacts (row_of c.registers c.control) c wire new after → StaysShared base member new d
+pub event_shared : {W : Type 0} (begins : W → ℕ → Bool → W → Type 0) (transacts : W → Ask → List ℕ → Reply → W → Type 0) (base : Base) (member : ℕ → Bool) (parts : StructureSets) (hand : Hand) (c : Content) (d : DriverContent) (wire : W) (new : Content) (after : W) → IsShared base member parts hand c d → AreBytesHeard transacts wire after → HasRow begins transacts (microframe_row c.registers c.control) c wire new after → StaysShared base member new d
 event_shared begins transacts base member parts hand c d wire new after k heard row =
     let e : Controls begins transacts base member parts hand wire after new = event_controls begins transacts base member parts hand c wire new after k.controlled (is_on base k.operating) heard row in
     record {
@@ -90,7 +90,7 @@ still_frameless base words c new same (off is) = off is
 still_frameless base words c new same (empty none over) =
     empty none (λ part. ap (λ (control : Control). is_over control.frame) same ∙ over (sym (ap (λ (control : Control). control.part) same) ∙ part))
 
-pub quiet_shared : (base : Base) (member : ℕ → Bool) (parts : Parts) (hand : Hand) (c : Content) (d : DriverContent) → IsShared base member parts hand c d → is_quiet (driver_row (parts_of c d)) ≡ true → IsShared base member parts hand (after_driver c d) (next_parts c d).driver
+pub quiet_shared : (base : Base) (member : ℕ → Bool) (parts : StructureSets) (hand : Hand) (c : Content) (d : DriverContent) → IsShared base member parts hand c d → is_quiet (driver_row (parts_of c d)) ≡ true → IsShared base member parts hand (after_driver c d) (next_parts c d).driver
 quiet_shared base member parts hand c d k quiet =
     let old : DrivesRing base member parts hand (walk_place c) d = record { ring = k.controlled.ring; driven = k.driven } in
     let new = quiet_drives base member parts hand c.control.walk (parts_of c d) (driver_row (parts_of c d)) k.operating old quiet in

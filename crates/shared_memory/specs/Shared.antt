@@ -8,9 +8,9 @@
 use Rattle.std.specs.Prelude.{ℕ, Bool}
 use Rattle.hc_core.specs.Controller.{Content}
 use Rattle.driver_rows.specs.DriverContent.{DriverContent}
-use Rattle.driver_rows.specs.Rows.{Parts as DriverParts, row_of, after_row}
+use Rattle.driver_rows.specs.Rows.{Parts as DriverParts, driver_row, after_driver_row}
 use Rattle.run_owners.specs.Owners.{views_of}
-use Rattle.lent_structures.specs.Structures.{Parts}
+use Rattle.lent_structures.specs.Structures.{StructureSets}
 use Rattle.ring_walk.specs.Hand.{Hand}
 use Rattle.ring_walk.specs.Ring.{Base}
 use Rattle.ring_control.specs.Control.{IsControlled}
@@ -18,14 +18,14 @@ use Rattle.driver_parts.specs.Inventory.{sorts_of, IsDriven}
 use Rattle.driver_parts.specs.Driven.{IsOperating}
 use Rattle.in_place.specs.InPlace.{IsInPlace}
 
-pub record IsShared (base : Base) (member : ℕ → Bool) (parts : Parts) (hand : Hand) (c : Content) (d : DriverContent) : Type 0 where
+pub record IsShared (base : Base) (member : ℕ → Bool) (parts : StructureSets) (hand : Hand) (c : Content) (d : DriverContent) : Type 0 where
   pub operating : IsOperating base
   pub place : IsInPlace c.memory d
   pub controlled : IsControlled base member parts hand c
   pub driven : IsDriven (views_of d) (sorts_of parts)
 
 pub record StaysShared (base : Base) (member : ℕ → Bool) (new : Content) (d : DriverContent) : Type 0 where
-  pub now : Parts
+  pub now : StructureSets
   pub later : Hand
   pub shared : IsShared base member now later new d
 
@@ -35,7 +35,7 @@ abbrev pub parts_of : Content → DriverContent → DriverParts
 parts_of c d = record { driver = d; registers = c.registers; memory = c.memory }
 
 abbrev pub next_parts : Content → DriverContent → DriverParts
-next_parts c d = after_row (row_of (parts_of c d)) (parts_of c d)
+next_parts c d = after_driver_row (driver_row (parts_of c d)) (parts_of c d)
 
 abbrev pub after_driver : Content → DriverContent → Content
 after_driver c d = record c { registers = (next_parts c d).registers; memory = (next_parts c d).memory }

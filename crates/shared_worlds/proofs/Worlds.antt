@@ -6,7 +6,7 @@ use Rattle.script_fits.specs.Fits.{IsFit}
 use Rattle.usb_bus.specs.Bus.{Fixed, fixed_of}
 use Rattle.hc_core.specs.Controller.{content, new_control}
 use Rattle.driver_rows.specs.Opening.{opening}
-use Rattle.driver_rows.specs.Rows.{row_of as driver_row}
+use Rattle.driver_rows.specs.Rows.{driver_row}
 use Rattle.driver_rows.specs.Words.{opening_head}
 use Rattle.run_owners.specs.Owners.{views_of}
 use Rattle.ring_walk.specs.Hand.{Empty}

@@ -6,7 +6,7 @@ use Rattle.std.specs.Prelude.{◌≡◌, true, List, [], ◌∷◌}
 use Rattle.script_types.specs.declared.scripts.Event.{Event}
 use Rattle.script_types.specs.declared.scripts.Event.TheVariants as events
 use Rattle.usb_bus.specs.Bus.{Fixed}
-use Rattle.driver_rows.specs.Rows.{row_of as driver_row}
+use Rattle.driver_rows.specs.Rows.{driver_row}
 use Rattle.driver_parts.specs.Driven.{is_quiet}
 use Rattle.bus_world.specs.World.{World, driver_parts, next}
 use Rattle.world_streams.specs.Streaming.{HearsBytesNow}

@@ -7,7 +7,7 @@ use Rattle.std.specs.Prelude.{ℕ, Bool, false, List, []}
 use Rattle.usb_bus.specs.Bus.{Fixed}
 use Rattle.driver_rows.specs.Words.{opening_head}
 use Rattle.run_owners.specs.Owners.{views_of}
-use Rattle.lent_structures.specs.Structures.{Parts}
+use Rattle.lent_structures.specs.Structures.{StructureSets}
 use Rattle.ring_walk.specs.Hand.{Hand, Empty}
 use Rattle.ring_walk.specs.Ring.{Base}
 use Rattle.ring_streams.specs.Told.{endpoint_of}
@@ -25,7 +25,7 @@ pub record IsWorking (fixed : Fixed) (base : Base) (member : ℕ → Bool) (x : 
   pub driven : IsDriven (views_of w.driver) (sorts_of s.parts)
 
 pub record StaysWorking (fixed : Fixed) (base : Base) (member : ℕ → Bool) (x : Streams) (s : Standing) (new : World) : Type 0 where
-  pub parts : Parts
+  pub parts : StructureSets
   pub hand : Hand
   pub acc : ℕ → List (List ℕ)
   pub working : IsWorking fixed base member x (record s { parts = parts; hand = hand; acc = acc }) new

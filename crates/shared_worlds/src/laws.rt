@@ -6,7 +6,7 @@ ghost use Rattle.script_types.specs.declared.scripts.Script.{Script};
 ghost use Rattle.script_fits.specs.Fits.{IsFit};
 ghost use Rattle.usb_bus.specs.Bus.{Fixed, fixed_of};
 ghost use Rattle.driver_rows.specs.Offers.{offered};
-ghost use Rattle.driver_rows.specs.Rows.{row_of as driver_row};
+ghost use Rattle.driver_rows.specs.Rows.{driver_row};
 ghost use Rattle.ring_walk.specs.Ring.{Base};
 ghost use Rattle.driver_parts.specs.Driven.{is_quiet};
 ghost use Rattle.driver_parts.specs.Opened.{opening_base, is_head};

@@ -5,7 +5,7 @@ use Rattle.link_words.specs.declared.fields.LinkBits.{LinkBits}
 use Rattle.qh_qtd.specs.declared.token.Token.{Token}
 use Rattle.qh_qtd.specs.declared.qtd.Qtd.{Qtd}
 use Rattle.qh_qtd.specs.declared.queue_head.Qh.{Qh}
-use Rattle.lent_structures.specs.Structures.{QueueHead, Element, Parts}
+use Rattle.lent_structures.specs.Structures.{QueueHead, Element, StructureSets}
 use Rattle.ring_walk.specs.Hand.{Copy, Hand, Empty, Copied, Settled, Stale, copied_queue}
 use Rattle.ring_walk.specs.Effects.{buffer_of}
 use Rattle.ring_stores.specs.Stores.{hand_linked, hand_stale}
@@ -64,7 +64,7 @@ overlay_toggle hand n q r k = toggle_by hand n q r ∙ ap (λ (z : Token). hand_
 
 -- ---- what is told
 
-pub spared_told : (hand later : Hand) (parts now : Parts) (n e : ℕ) (xs : List ℕ) → SameHand hand later → SparesHead parts now n → SparesElement parts now n e → Told hand parts n e xs → Told later now n e xs
+pub spared_told : (hand later : Hand) (parts now : StructureSets) (n e : ℕ) (xs : List ℕ) → SameHand hand later → SparesHead parts now n → SparesElement parts now n e → Told hand parts n e xs → Told later now n e xs
 spared_told hand later parts now n e xs hands head element told =
     let h : HasOverlay now n told.queue = head told.queue told.head in
     record {
@@ -77,7 +77,7 @@ spared_told hand later parts now n e xs hands head element told =
           ∙ ap (hand_bytes later n h.queue e told.qtd) (sym (element.bytes told.qtd told.here));
     }
 
-pub spared_toggle : (hand later : Hand) (parts now : Parts) (n : ℕ) (b : Bool) → SameHand hand later → SparesHead parts now n → HasToggle hand parts n b → HasToggle later now n b
+pub spared_toggle : (hand later : Hand) (parts now : StructureSets) (n : ℕ) (b : Bool) → SameHand hand later → SparesHead parts now n → HasToggle hand parts n b → HasToggle later now n b
 spared_toggle hand later parts now n b hands head has =
     let h : HasOverlay now n has.queue = head has.queue has.head in
     record {
@@ -87,7 +87,7 @@ spared_toggle hand later parts now n b hands head has =
       is = has.is ∙ sym (hands.toggle n has.queue) ∙ sym (overlay_toggle later n has.queue h.queue h.overlay);
     }
 
-pub spared_endpoint : (parts now : Parts) (n : ℕ) (x : Endpoint) → SparesHead parts now n → HasEndpoint parts n x → HasEndpoint now n x
+pub spared_endpoint : (parts now : StructureSets) (n : ℕ) (x : Endpoint) → SparesHead parts now n → HasEndpoint parts n x → HasEndpoint now n x
 spared_endpoint parts now n x head has =
     let h : HasOverlay now n has.queue = head has.queue has.head in
     record { queue = h.queue; head = h.here; is = has.is ∙ sym h.overlay.endpoint }
@@ -112,12 +112,12 @@ spared_pipes sender stream packets member wider streams endpoint acc hand later 
 
 -- ---- what is to be harvested
 
-all_spared : (hand later : Hand) (parts now : Parts) (n : ℕ) (out xs : List ℕ) → SameHand hand later → SparesHead parts now n → ((e : ℕ) → IsAmong e out → SparesElement parts now n e) → AllTold hand parts n out xs → AllTold later now n out xs
+pub all_spared : (hand later : Hand) (parts now : StructureSets) (n : ℕ) (out xs : List ℕ) → SameHand hand later → SparesHead parts now n → ((e : ℕ) → IsAmong e out → SparesElement parts now n e) → AllTold hand parts n out xs → AllTold later now n out xs
 all_spared hand later parts now n out xs hands head elements none_out = none_out
 all_spared hand later parts now n out xs hands head elements (one_out e es x ys first rest) =
     one_out e es x ys (spared_told hand later parts now n e x hands head (elements e (inl refl)) first) (all_spared hand later parts now n es ys hands head (λ b among. elements b (inr among)) rest)
 
-pub spared_accounts : (order order_now : ℕ → ℕ) (place place_now : ℕ) (out : List ℕ) (hand later : Hand) (parts now : Parts) (n : ℕ) (xs : List ℕ) → SameHand hand later
+pub spared_accounts : (order order_now : ℕ → ℕ) (place place_now : ℕ) (out : List ℕ) (hand later : Hand) (parts now : StructureSets) (n : ℕ) (xs : List ℕ) → SameHand hand later
     → SparesHead parts now n → ((e : ℕ) → IsAmong e out → SparesElement parts now n e) → IsOrdered order_now place_now n (now n) → IsSorted order_now out
     → ((a : ℕ) (t : Qtd) → IsAmong a out → now n a ≡ Some (Element t) → place_now ≤ order_now a → t.token.active ≡ true)
     → ((a : ℕ) (t : Qtd) → now n a ≡ Some (Element t) → t.token.active ≡ true → IsAmong a out)
@@ -130,12 +130,12 @@ spared_accounts order order_now place place_now out hand later parts now n xs ha
   told = all_spared hand later parts now n out xs hands head elements k.told;
 }
 
-at_end : (hand : Hand) (parts : Parts) (n e : ℕ) (y out xs : List ℕ) → Told hand parts n e y → AllTold hand parts n out xs → AllTold hand parts n (out ++ e ∷ []) (xs ++ y)
+at_end : (hand : Hand) (parts : StructureSets) (n e : ℕ) (y out xs : List ℕ) → Told hand parts n e y → AllTold hand parts n out xs → AllTold hand parts n (out ++ e ∷ []) (xs ++ y)
 at_end hand parts n e y out xs told none_out = subst (AllTold hand parts n (e ∷ [])) (append-nil y) (one_out e [] y [] told none_out)
 at_end hand parts n e y out xs told (one_out b bs x ys first rest) =
     subst (AllTold hand parts n (b ∷ (bs ++ e ∷ []))) (sym (append_assoc x ys y)) (one_out b (bs ++ e ∷ []) x (ys ++ y) first (at_end hand parts n e y bs ys told rest))
 
-pub published_adds : (order : ℕ → ℕ) (place : ℕ) (out : List ℕ) (hand : Hand) (parts : Parts) (n e : ℕ) (q : Qh) (t : Qtd) (xs : List ℕ) → IsOrdered order place n (parts n) → parts n n ≡ Some (QueueHead q) → parts n e ≡ Some (Element t) → t.token.active ≡ true → place ≤ order e
+pub published_adds : (order : ℕ → ℕ) (place : ℕ) (out : List ℕ) (hand : Hand) (parts : StructureSets) (n e : ℕ) (q : Qh) (t : Qtd) (xs : List ℕ) → IsOrdered order place n (parts n) → parts n n ≡ Some (QueueHead q) → parts n e ≡ Some (Element t) → t.token.active ≡ true → place ≤ order e
     → AllTold hand parts n out xs → AllTold hand parts n (out ++ e ∷ []) xs
 published_adds order place out hand parts n e q t xs ordered head here on from all =
     let y : List ℕ = hand_bytes hand n q e t (buffer_of (parts n) t) in

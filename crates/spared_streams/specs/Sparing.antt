@@ -7,7 +7,7 @@
 use Rattle.std.specs.Prelude.{◌≡◌, ℕ, List, Some}
 use Rattle.qh_qtd.specs.declared.qtd.Qtd.{Qtd}
 use Rattle.qh_qtd.specs.declared.queue_head.Qh.{Qh}
-use Rattle.lent_structures.specs.Structures.{QueueHead, Element, Parts}
+use Rattle.lent_structures.specs.Structures.{QueueHead, Element, StructureSets}
 use Rattle.ring_walk.specs.Hand.{Hand}
 use Rattle.ring_walk.specs.Effects.{buffer_of}
 use Rattle.ring_streams.specs.Told.{hand_bytes, hand_toggle, endpoint_of}
@@ -22,14 +22,14 @@ pub record SameOverlay (q r : Qh) : Type 0 where
   pub offset : r.offset ≡ q.offset
   pub endpoint : endpoint_of r ≡ endpoint_of q
 
-pub record HasOverlay (now : Parts) (n : ℕ) (q : Qh) : Type 0 where
+pub record HasOverlay (now : StructureSets) (n : ℕ) (q : Qh) : Type 0 where
   pub queue : Qh
   pub here : now n n ≡ Some (QueueHead queue)
   pub overlay : SameOverlay q queue
 
-abbrev pub SparesHead : Parts → Parts → ℕ → Type 0
+abbrev pub SparesHead : StructureSets → StructureSets → ℕ → Type 0
 SparesHead parts now n = (q : Qh) → parts n n ≡ Some (QueueHead q) → HasOverlay now n q
 
-pub record SparesElement (parts now : Parts) (n e : ℕ) : Type 0 where
+pub record SparesElement (parts now : StructureSets) (n e : ℕ) : Type 0 where
   pub element : (t : Qtd) → parts n e ≡ Some (Element t) → now n e ≡ Some (Element t)
   pub bytes : (t : Qtd) → parts n e ≡ Some (Element t) → buffer_of (now n) t ≡ buffer_of (parts n) t

@@ -1,10 +1,10 @@
 //! The words of a command line.
-use event_trace::Choice;
+use event_trace::{Choice, Form};
 use usb_base::{DevAddr, EpName, EpNum, Way};
 
 /// What a word is for, by the word before it.
 #[derive(Clone, Copy)]
-enum Place {
+enum WordPlace {
     /// An option.
     Option,
     /// The endpoint behind `--endpoint`.
@@ -61,26 +61,29 @@ fn endpoint(word: &[u8]) -> Option<EpName> {
 }
 
 /// The choice, and what the next word is for, behind this word.
-fn taken(choice: &mut Choice, place: Place, word: &[u8]) -> Option<Place> {
+fn taken(choice: &mut Choice, place: WordPlace, word: &[u8]) -> Option<WordPlace> {
     match place {
-        Place::Option => return option(choice, word),
-        Place::Endpoint => choice.endpoint = Some(endpoint(word)?),
-        Place::From => choice.from = number(word)?,
-        Place::To => choice.to = number(word)?,
+        WordPlace::Option => return option(choice, word),
+        WordPlace::Endpoint => choice.endpoint = Some(endpoint(word)?),
+        WordPlace::From => choice.from = number(word)?,
+        WordPlace::To => choice.to = number(word)?,
     }
-    Some(Place::Option)
+    Some(WordPlace::Option)
 }
 
-fn option(choice: &mut Choice, word: &[u8]) -> Option<Place> {
+fn option(choice: &mut Choice, word: &[u8]) -> Option<WordPlace> {
     if word == b"--endpoint".as_slice() {
-        Some(Place::Endpoint)
+        Some(WordPlace::Endpoint)
     } else if word == b"--from".as_slice() {
-        Some(Place::From)
+        Some(WordPlace::From)
     } else if word == b"--to".as_slice() {
-        Some(Place::To)
+        Some(WordPlace::To)
     } else if word == b"--quiet".as_slice() {
         choice.quiet = true;
-        Some(Place::Option)
+        Some(WordPlace::Option)
+    } else if word == b"--pcap".as_slice() {
+        choice.form = Form::Capture;
+        Some(WordPlace::Option)
     } else {
         None
     }
@@ -90,17 +93,18 @@ fn option(choice: &mut Choice, word: &[u8]) -> Option<Place> {
 /// its last value counts.
 pub fn choice_of(words: &[String]) -> Option<Choice> {
     let mut choice = Choice {
+        form: Form::Lines,
         endpoint: None,
         from: 0,
         to: u32::MAX,
         quiet: false,
     };
-    let mut place = Place::Option;
+    let mut place = WordPlace::Option;
     for word in words {
         place = taken(&mut choice, place, word.as_bytes())?;
     }
     match place {
-        Place::Option => Some(choice),
-        Place::Endpoint | Place::From | Place::To => None,
+        WordPlace::Option => Some(choice),
+        WordPlace::Endpoint | WordPlace::From | WordPlace::To => None,
     }
 }

@@ -4,20 +4,19 @@
 --     entry_line e works     the line, with its line feed
 use Rattle.std.specs.Prelude.{ℕ, ◌/◌, ◌%◌, Bool, true, false, List, [], ◌∷◌, ◌++◌, Option, Some, None, if◌then◌else◌, codes, decimal}
 use Rattle.std.specs.List.{flat_map, join_with_byte}
-use Rattle.usb_base.specs.declared.packets.Part.{Part}
+use Rattle.usb_base.specs.declared.packets.DataPart.{DataPart}
 use Rattle.usb_base.specs.declared.packets.Pid.{Pid}
 use Rattle.usb_base.specs.declared.packets.Pid.TheVariants as pids
 use Rattle.usb_base.specs.declared.packets.Split.{Split}
 use Rattle.usb_base.specs.declared.packets.Split.TheVariants as splits
 use Rattle.usb_base.specs.declared.reports.OfferError.{OfferError}
 use Rattle.report_text.specs.ReportText.{ep_word, why_words}
-use Rattle.usb_bus.specs.declared.who_heard.WhoHeard.{WhoHeard}
-use Rattle.usb_bus.specs.declared.who_heard.WhoHeard.TheVariants as rows
 use Rattle.hc_core.specs.declared.controller.HcStep.{HcStep}
 use Rattle.driver_rows.specs.declared.rows.DriverStep.{DriverStep}
-use Rattle.trace_lines.specs.declared.exchanges.Answer.{Answer}
-use Rattle.trace_lines.specs.declared.exchanges.Answer.TheVariants as answers
-use Rattle.trace_lines.specs.declared.exchanges.Exchange.{Exchange}
+use Rattle.bus_exchanges.specs.declared.exchanges.Answer.{Answer}
+use Rattle.bus_exchanges.specs.declared.exchanges.Answer.TheVariants as answers
+use Rattle.bus_exchanges.specs.declared.exchanges.Exchange.{Exchange}
+use Rattle.bus_exchanges.specs.Heard.{sends_data, has_answer, is_heard, is_acknowledged}
 use Rattle.trace_lines.specs.declared.entries.Work.{Work}
 use Rattle.trace_lines.specs.declared.entries.Happening.{Happening}
 use Rattle.trace_lines.specs.declared.entries.Happening.TheVariants as happenings
@@ -30,10 +29,10 @@ use Rattle.trace_lines.specs.Words.{hex, pid_word, fate_word, part_word, step_wo
 unfoldable pub port_text : ℕ → ℕ → List ℕ
 port_text hub port = decimal hub ++ codes "." ++ decimal port ++ codes " "
 
-unfoldable pub part_text : Part → Pid → List ℕ
+unfoldable pub part_text : DataPart → Pid → List ℕ
 part_text part pid = part_word part ++ pid_word pid
 
-unfoldable pub start_text : ℕ → ℕ → Part → Pid → List ℕ
+unfoldable pub start_text : ℕ → ℕ → DataPart → Pid → List ℕ
 start_text hub port part pid = codes "start-split " ++ port_text hub port ++ part_text part pid
 
 unfoldable pub complete_text : ℕ → ℕ → Pid → List ℕ
@@ -44,17 +43,6 @@ unfoldable pub token_text : Split → Pid → List ℕ
 token_text splits.Plain pid = pid_word pid
 token_text (splits.Start hub port part) pid = start_text hub port part pid
 token_text (splits.Complete hub port) pid = complete_text hub port pid
-
-abbrev pub is_sending : Pid → Bool
-is_sending pids.Out = true
-is_sending pids.Setup = true
-is_sending _ = false
-
--- the host sends data right behind the token: not behind that of a complete-split
-abbrev pub sends_data : Split → Pid → Bool
-sends_data splits.Plain pid = is_sending pid
-sends_data (splits.Start hub port part) pid = is_sending pid
-sends_data (splits.Complete hub port) pid = false
 
 -- a data packet
 unfoldable pub packet_text : Pid → ℕ → List ℕ
@@ -67,33 +55,6 @@ unfoldable pub answer_text : Answer → List ℕ
 answer_text answers.Nothing = codes "nothing"
 answer_text (answers.Data pid n) = packet_text pid n
 answer_text (answers.Handshake pid) = pid_word pid
-
--- a packet came in answer
-abbrev pub has_answer : WhoHeard → Bool
-has_answer rows.SentUnheard = false
-has_answer rows.NoAnswer = false
-has_answer rows.AnswerUnheard = true
-has_answer rows.AnswerHeard = true
-has_answer rows.AckUnheard = true
-has_answer rows.AckHeard = true
-
--- the host heard it
-abbrev pub is_heard : WhoHeard → Bool
-is_heard rows.SentUnheard = false
-is_heard rows.NoAnswer = false
-is_heard rows.AnswerUnheard = false
-is_heard rows.AnswerHeard = true
-is_heard rows.AckUnheard = true
-is_heard rows.AckHeard = true
-
--- the host sent an acknowledgement
-abbrev pub is_acknowledged : WhoHeard → Bool
-is_acknowledged rows.SentUnheard = false
-is_acknowledged rows.NoAnswer = false
-is_acknowledged rows.AnswerUnheard = false
-is_acknowledged rows.AnswerHeard = false
-is_acknowledged rows.AckUnheard = true
-is_acknowledged rows.AckHeard = true
 
 unfoldable pub reply_text : Exchange → List ℕ
 reply_text x = if has_answer x.told.row then codes ", " ++ answer_text x.answer ++ fate_word x.fates.answer else []

@@ -2,8 +2,8 @@
 use Rattle.std.specs.Prelude.{ℕ, zero, suc, ◌+◌, ◌/◌, ◌%◌, ◌^◌, nat_lt, if◌then◌else◌, List, [], ◌∷◌, codes}
 use Rattle.usb_base.specs.declared.packets.Fate.{Fate}
 use Rattle.usb_base.specs.declared.packets.Fate.TheVariants as fates
-use Rattle.usb_base.specs.declared.packets.Part.{Part}
-use Rattle.usb_base.specs.declared.packets.Part.TheVariants as parts
+use Rattle.usb_base.specs.declared.packets.DataPart.{DataPart}
+use Rattle.usb_base.specs.declared.packets.DataPart.TheVariants as parts
 use Rattle.usb_base.specs.declared.packets.Pid.{Pid}
 use Rattle.usb_base.specs.declared.packets.Pid.TheVariants as pids
 use Rattle.hc_core.specs.declared.controller.HcStep.{HcStep}
@@ -45,7 +45,7 @@ fate_word fates.Lost = codes " lost"
 fate_word fates.Damaged = codes " damaged"
 
 -- the part of its data that a start-split carries (8.4.2.2)
-abbrev pub part_word : Part → List ℕ
+abbrev pub part_word : DataPart → List ℕ
 part_word parts.All = []
 part_word parts.Begin = codes "begin "
 part_word parts.Middle = codes "middle "

@@ -1,4 +1,4 @@
-use crate::exchanges::Exchange;
+use bus_exchanges::Exchange;
 use driver_rows::DriverStep;
 use hc_core::HcStep;
 use usb_base::{EpName, OfferError};

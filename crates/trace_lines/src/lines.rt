@@ -1,18 +1,17 @@
 //! The line of an event.
 ghost use Rattle.std.specs.Prelude.{◌≡◌, ◌++◌, IfOk, codes};
 ghost use Rattle.std.specs.List.{flat_map};
-ghost use Rattle.trace_lines.specs.Lines.{port_text, part_text, start_text, complete_text, token_text, sends_data, packet_text, data_text, has_answer, is_heard, is_acknowledged, answer_text, reply_text, acknowledgement_text, heard_text, packets_text, exchange_text, made_text, address_text, at_text, time_text, word_stored_text, stored_text, driver_line, refusal_text, offered_text, began_text, subject_text, controller_text, happening_text, moment_text, unheard_text, end_text, span_text, work_text, entry_line};
+ghost use Rattle.trace_lines.specs.Lines.{port_text, part_text, start_text, complete_text, token_text, packet_text, data_text, answer_text, reply_text, acknowledgement_text, heard_text, packets_text, exchange_text, made_text, address_text, at_text, time_text, word_stored_text, stored_text, driver_line, refusal_text, offered_text, began_text, subject_text, controller_text, happening_text, moment_text, unheard_text, end_text, span_text, work_text, entry_line};
 
 use crate::entries::{Entry, Happening, Work};
-use crate::exchanges::{Answer, Exchange};
 use crate::pieces::{
     driver_text, fate_text, part_words, pid_text, put, put_endpoint, put_number, put_why, put_word,
     step_text,
 };
+use bus_exchanges::{Answer, Exchange, has_answer, is_acknowledged, is_heard, sends_data};
 use driver_rows::DriverStep;
 use hc_core::HcStep;
-use usb_base::{Ask, Memory, OfferError, Part, Pid, Split};
-use usb_bus::WhoHeard;
+use usb_base::{Ask, DataPart, Memory, OfferError, Pid, Split};
 
 #[tactic(auto, unfolding(crate::specs::Lines::port_text))]
 fn put_port(text: &mut Vec<u8>, hub: u8, port: u8) -> Result<(), Memory>
@@ -25,7 +24,7 @@ fn put_port(text: &mut Vec<u8>, hub: u8, port: u8) -> Result<(), Memory>
 }
 
 #[tactic(auto, unfolding(crate::specs::Lines::part_text))]
-fn put_part(text: &mut Vec<u8>, part: Part, pid: Pid) -> Result<(), Memory>
+fn put_part(text: &mut Vec<u8>, part: DataPart, pid: Pid) -> Result<(), Memory>
     ensures { IfOk result (λ _. text.new.items ≡ text.old.items ++ part_text part pid) }
 {
     put(text, part_words(part))?;
@@ -33,7 +32,7 @@ fn put_part(text: &mut Vec<u8>, part: Part, pid: Pid) -> Result<(), Memory>
 }
 
 #[tactic(auto, unfolding(crate::specs::Lines::start_text))]
-fn put_start(text: &mut Vec<u8>, hub: u8, port: u8, part: Part, pid: Pid) -> Result<(), Memory>
+fn put_start(text: &mut Vec<u8>, hub: u8, port: u8, part: DataPart, pid: Pid) -> Result<(), Memory>
     ensures { IfOk result (λ _. text.new.items ≡ text.old.items ++ start_text hub port part pid) }
 {
     put(text, "start-split ")?;
@@ -59,17 +58,6 @@ fn put_token(text: &mut Vec<u8>, ask: &Ask) -> Result<(), Memory>
         Split::Plain => put(text, pid_text(ask.pid)),
         Split::Start { hub, port, part } => put_start(text, hub.get(), port, part, ask.pid),
         Split::Complete { hub, port } => put_complete(text, hub.get(), port, ask.pid),
-    }
-}
-
-/// Whether the host sends data right behind the token.
-fn sends_data(ask: &Ask) -> bool
-    ensures { result ≡ sends_data ask.now.split ask.now.pid }
-{
-    match (ask.split, ask.pid) {
-        (Split::Complete { .. }, _) => false,
-        (Split::Plain | Split::Start { .. }, Pid::Out | Pid::Setup) => true,
-        (Split::Plain | Split::Start { .. }, _) => false,
     }
 }
 
@@ -103,39 +91,6 @@ fn put_answer(text: &mut Vec<u8>, answer: Answer) -> Result<(), Memory>
         Answer::Nothing => put(text, "nothing"),
         Answer::Data(pid, bytes) => put_packet(text, pid, bytes),
         Answer::Handshake(pid) => put(text, pid_text(pid)),
-    }
-}
-
-fn has_answer(row: WhoHeard) -> bool
-    ensures { result ≡ has_answer row }
-{
-    match row {
-        WhoHeard::SentUnheard | WhoHeard::NoAnswer => false,
-        WhoHeard::AnswerUnheard
-        | WhoHeard::AnswerHeard
-        | WhoHeard::AckUnheard
-        | WhoHeard::AckHeard => true,
-    }
-}
-
-fn is_heard(row: WhoHeard) -> bool
-    ensures { result ≡ is_heard row }
-{
-    match row {
-        WhoHeard::SentUnheard | WhoHeard::NoAnswer | WhoHeard::AnswerUnheard => false,
-        WhoHeard::AnswerHeard | WhoHeard::AckUnheard | WhoHeard::AckHeard => true,
-    }
-}
-
-fn is_acknowledged(row: WhoHeard) -> bool
-    ensures { result ≡ is_acknowledged row }
-{
-    match row {
-        WhoHeard::AckUnheard | WhoHeard::AckHeard => true,
-        WhoHeard::SentUnheard
-        | WhoHeard::NoAnswer
-        | WhoHeard::AnswerUnheard
-        | WhoHeard::AnswerHeard => false,
     }
 }
 

@@ -8,7 +8,7 @@ use driver_rows::DriverStep;
 use hc_core::HcStep;
 use itoa::Buffer;
 use report_text::Text;
-use usb_base::{EpName, Fate, Memory, OfferError, Part, Pid};
+use usb_base::{DataPart, EpName, Fate, Memory, OfferError, Pid};
 
 /// Appends a piece.
 pub fn put(text: &mut Vec<u8>, piece: &str) -> Result<(), Memory>
@@ -116,14 +116,14 @@ pub fn fate_text(fate: Fate) -> &'static str
 }
 
 /// What is said of the part of its data that a start-split carries.
-pub fn part_words(part: Part) -> &'static str
+pub fn part_words(part: DataPart) -> &'static str
     ensures { result.now ≡ part_word part }
 {
     match part {
-        Part::All => "",
-        Part::Begin => "begin ",
-        Part::Middle => "middle ",
-        Part::End => "end ",
+        DataPart::All => "",
+        DataPart::Begin => "begin ",
+        DataPart::Middle => "middle ",
+        DataPart::End => "end ",
     }
 }
 

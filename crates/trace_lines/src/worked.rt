@@ -2,19 +2,18 @@
 ghost use Rattle.std.specs.Prelude.{◌≡◌, codes, true, false, [], ◌∷◌, ◌++◌, None, Some};
 ghost use Rattle.usb_base.specs.declared.packets.Pid.TheVariants as pids;
 ghost use Rattle.usb_base.specs.declared.packets.Split.TheVariants as splits;
-ghost use Rattle.usb_base.specs.declared.packets.Part.TheVariants as parts;
+ghost use Rattle.usb_base.specs.declared.packets.DataPart.TheVariants as parts;
 ghost use Rattle.hc_core.specs.declared.controller.HcStep.TheVariants as steps;
 ghost use Rattle.driver_rows.specs.declared.rows.DriverStep.TheVariants as turns;
 ghost use Rattle.trace_lines.specs.declared.entries.Happening.TheVariants as happenings;
 ghost use Rattle.trace_lines.specs.Words.{hex};
-ghost use Rattle.trace_lines.specs.Lines.{token_text, sends_data, packet_text, moment_text, happening_text, entry_line};
+ghost use Rattle.trace_lines.specs.Lines.{token_text, packet_text, moment_text, happening_text, entry_line};
 
 /// Tokens, with the SPLIT before them.
 pub fn tokens()
     ensures plain { token_text splits.Plain pids.Ping ≡ codes "ping" }
     ensures start { token_text (splits.Start 9 1 parts.Begin) pids.Out ≡ codes "start-split 9.1 begin out" }
     ensures complete { token_text (splits.Complete 9 12) pids.In ≡ codes "complete-split 9.12 in" }
-    ensures no_data { sends_data (splits.Complete 9 1) pids.Out ≡ false }
 {}
 
 /// Whole lines.

@@ -1,5 +1,5 @@
 use toggle_error::Outcome;
-use usb_base::{DevAddr, EpKind, EpNum, Packet, Part, Pid, Ps, Reply, Speed};
+use usb_base::{DataPart, DevAddr, EpKind, EpNum, Packet, Pid, Ps, Reply, Speed};
 
 /// What a queue head or descriptor tells of the endpoint that a transaction goes to.
 #[derive(Clone, Copy, Debug, PartialEq, Eq)]
@@ -19,7 +19,7 @@ pub struct Pipe {
     /// The port of that hub.
     pub port: u8,
     /// Which part of its data a start-split of an isochronous OUT carries.
-    pub part: Part,
+    pub part: DataPart,
 }
 
 /// What one transaction came to.

@@ -6,7 +6,7 @@ use crate::{IsoResult, Pipe, Result3, run_high, run_iso, run_split_complete, run
 use std::test::Fail;
 use toggle_error::{HostSide, Outcome};
 use usb_base::{
-    Ask, DevAddr, EndCause, EpKind, EpNum, Packet, Part, Pid, Ps, Reply, Speed, Split, Wire,
+    Ask, DataPart, DevAddr, EndCause, EpKind, EpNum, Packet, Pid, Ps, Reply, Speed, Split, Wire,
 };
 
 /// A wire that never answers, and counts what it is asked.
@@ -86,7 +86,7 @@ fn pipe_of(pid: Pid, speed: Speed, kind: EpKind) -> Pipe
         pid,
         hub: DevAddr::new(9).unwrap(),
         port: 2,
-        part: Part::All,
+        part: DataPart::All,
     }
 }
 

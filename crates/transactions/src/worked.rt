@@ -6,7 +6,7 @@ ghost use Rattle.transactions.specs.Prices.{price_of};
 ghost use Rattle.transactions.specs.Worked.{host_of, high, full, eight, asked};
 
 use toggle_error::Outcome;
-use usb_base::{EpKind, Part, Pid, Reply, Speed, Split};
+use usb_base::{DataPart, EpKind, Pid, Reply, Speed, Split};
 
 /// Prices of plain transactions in picoseconds.
 pub fn plain_prices()
@@ -54,7 +54,7 @@ pub fn calls()
         } }
     ensures start_out { start_call (full Pid.Out EpKind.Bulk) (record (host_of 64) { ping = true }) eight
         ≡ record {
-          ask = asked (Split.Start 9 2 Part.All) Pid.Out Pid.Data0 Speed.Full EpKind.Bulk 64;
+          ask = asked (Split.Start 9 2 DataPart.All) Pid.Out Pid.Data0 Speed.Full EpKind.Bulk 64;
           out = eight;
           sent = 8;
           last = false;

@@ -1,9 +1,8 @@
 -- The law over all events.
-use Rattle.std.proofs.Common.{◌≡◌, ℕ, ◌+◌, ◌-◌, ◌*◌, ◌<◌, ◌≤◌, min, Bool, true, false, if◌then◌else◌, List, [], ◌∷◌, ◌++◌, length, refl, sym, ◌∙◌, ap, subst, inl, inr, arith}
+use Rattle.std.proofs.Common.{◌≡◌, ℕ, ◌+◌, ◌-◌, ◌*◌, ◌<◌, ◌≤◌, min, true, false, List, [], ◌∷◌, ◌++◌, length, refl, ◌∙◌, ap, arith}
 use Rattle.std.specs.Prelude.{nat_le, nat_lt, ◌&&◌}
 use Rattle.std.proofs.lemmas.Bool.{lt-ltb, le-leb}
 use Rattle.usb_base.specs.declared.packets.Ask.{Ask}
-use Rattle.usb_base.specs.declared.packets.EpKind.{EpKind}
 use Rattle.usb_base.specs.declared.packets.EpKind.TheVariants.{Interrupt}
 use Rattle.usb_base.specs.declared.packets.Pid.{Pid}
 use Rattle.usb_base.specs.declared.packets.Speed.{Speed}
@@ -16,14 +15,14 @@ use Rattle.tt_pipeline.specs.declared.entry.Brought.{Brought}
 use Rattle.tt_pipeline.specs.declared.entry.Entry.{Entry}
 use Rattle.tt_pipeline.specs.declared.entry.Exchange.{Exchange}
 use Rattle.tt_pipeline.specs.declared.entry.Exchange.TheVariants.{Ahead, Made}
-use Rattle.tt_pipeline.specs.declared.rows.AnswerRow.TheVariants.{NotYet, Result}
+use Rattle.tt_pipeline.specs.declared.rows.AnswerRow.TheVariants.{Result}
 use Rattle.tt_pipeline.specs.declared.rows.StartRow.{StartRow}
 use Rattle.tt_pipeline.specs.declared.rows.StartRow.TheVariants.{Enters, Joins, Forgotten}
-use Rattle.tt_pipeline.specs.Answers.{answer_row, row_at, made_row}
+use Rattle.tt_pipeline.specs.Answers.{row_at}
 use Rattle.tt_pipeline.specs.Starting.{start_row, without_first}
-use Rattle.tt_pipeline.specs.Work.{called, called_for, is_due, is_ahead, is_ripe, is_iso_out, fresh}
+use Rattle.tt_pipeline.specs.Work.{called, called_for, is_ahead, is_ripe, is_iso_out, fresh}
 use Rattle.translator_keeps_up.specs.Plans.{Plan, laid, Fits}
-use Rattle.translator_keeps_up.specs.Frames.{Event, Start, Complete, Work, Drop, Clear, Watched, Frame, entries_of, is_of, begun, worked_all, next, run, opening}
+use Rattle.translator_keeps_up.specs.Frames.{Event, Start, Complete, Work, Drop, Clear, Watched, Frame, entries_of, is_of, begun, next, run, opening}
 use Rattle.translator_keeps_up.specs.Premises.{FollowsRow, Fair, FairAll, KeepsUp, AllKeepUp}
 use Rattle.translator_keeps_up.proofs.Keys.{Distinct, AllIn, distinct_snoc, all_in_snoc}
 use Rattle.translator_keeps_up.proofs.Sums.{due_fits, Sorted, sorted_snoc}

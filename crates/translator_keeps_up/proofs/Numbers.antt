@@ -1,6 +1,6 @@
 -- One entry's work in numbers: a byte-times are placed from microframe s on, its starts call for c, d were worked, and g
 -- microframes brought no part; v is the present microframe.
-use Rattle.std.proofs.Common.{◌≡◌, ℕ, ◌+◌, ◌-◌, ◌*◌, ◌<◌, ◌≤◌, min, refl, inl, inr, ◌⊎◌, arith}
+use Rattle.std.proofs.Common.{◌≡◌, ℕ, ◌+◌, ◌-◌, ◌*◌, ◌<◌, ◌≤◌, min, inl, inr, arith}
 use Rattle.std.proofs.lemmas.Bool.{cases_lt}
 
 -- before its turn

@@ -1,20 +1,16 @@
 -- What is owed to an entry, and how it stands after its turn.
-use Rattle.std.proofs.Common.{◌≡◌, ℕ, ◌+◌, ◌-◌, ◌*◌, ◌<◌, ◌≤◌, min, Bool, true, false, if◌then◌else◌, refl, sym, ◌∙◌, ap, subst, inl, inr, ◌⊎◌, arith, eq-eqb}
-use Rattle.std.specs.Prelude.{not, ◌&&◌, ◌==◌, nat_lt}
+use Rattle.std.proofs.Common.{◌≡◌, ℕ, ◌+◌, ◌-◌, ◌*◌, ◌<◌, ◌≤◌, min, true, false, refl, sym, ◌∙◌, ap, subst, inl, inr, ◌⊎◌, arith, eq-eqb}
+use Rattle.std.specs.Prelude.{◌==◌, nat_lt}
 use Rattle.std.proofs.lemmas.Bool.{lt-ltb}
 use Rattle.usb_base.specs.declared.packets.Ask.{Ask}
-use Rattle.usb_base.specs.declared.packets.Reply.{Reply}
 use Rattle.usb_base.specs.declared.packets.Speed.TheVariants.{High}
 use Rattle.tt_keys.specs.Asks.{work_of}
 use Rattle.tt_keys.specs.declared.key.Key.{Key}
 use Rattle.tt_pipeline.specs.declared.entry.Brought.{Brought}
-use Rattle.tt_pipeline.specs.declared.entry.Entry.{Entry}
-use Rattle.tt_pipeline.specs.Work.{nothing_brought, called, called_for, is_due, moved, answered}
-use Rattle.tt_pipeline.specs.Working.{turned}
+use Rattle.tt_pipeline.specs.Work.{nothing_brought, called, called_for, is_due}
 use Rattle.translator_keeps_up.specs.Plans.{Plan, laid}
-use Rattle.translator_keeps_up.specs.Frames.{Watched, gap_between, gap_of, worked_one}
-use Rattle.translator_keeps_up.proofs.Sums.{due_at}
-use Rattle.translator_keeps_up.proofs.Numbers.{Ready, Done, ready_even, work_one, even_more, even_same}
+use Rattle.translator_keeps_up.specs.Frames.{Watched, gap_between, gap_of}
+use Rattle.translator_keeps_up.proofs.Numbers.{Ready, Done, ready_even, even_more, even_same}
 
 -- what had come before microframe u, with g microframes without a part
 pub data Came (p : Plan) (k : Key) (ask : Ask) (b : Brought) (g u : ℕ) : Type 0 where

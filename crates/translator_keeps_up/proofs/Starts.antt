@@ -1,16 +1,15 @@
 -- What starts and complete-splits make of what is owed.
-use Rattle.std.proofs.Common.{◌≡◌, ◌≢◌, ℕ, ◌+◌, ◌-◌, ◌*◌, ◌<◌, ◌≤◌, min, Bool, true, false, if◌then◌else◌, List, [], ◌∷◌, ◌++◌, length, Option, Some, None, map, refl, sym, ◌∙◌, ap, subst, inl, inr, ◌⊎◌, arith, zero-add}
-use Rattle.std.specs.Prelude.{not, ◌&&◌, ◌==◌, nat_lt}
+use Rattle.std.proofs.Common.{◌≡◌, ℕ, ◌+◌, ◌-◌, ◌*◌, ◌<◌, ◌≤◌, min, Bool, true, false, if◌then◌else◌, List, [], ◌∷◌, ◌++◌, length, refl, sym, ◌∙◌, ap, subst, inl, inr, arith, zero-add}
+use Rattle.std.specs.Prelude.{◌&&◌, ◌==◌}
 use Rattle.std.specs.List.{find}
 use Rattle.std.proofs.lemmas.Bool.{eqb-true}
 use Rattle.usb_base.specs.declared.packets.Ask.{Ask}
 use Rattle.usb_base.specs.declared.packets.EpKind.{EpKind}
-use Rattle.usb_base.specs.declared.packets.EpKind.TheVariants.{Control, Iso, Bulk, Interrupt}
-use Rattle.usb_base.specs.declared.packets.Part.{Part}
-use Rattle.usb_base.specs.declared.packets.Part.TheVariants.{All, Begin, Middle, End}
+use Rattle.usb_base.specs.declared.packets.EpKind.TheVariants.{Iso}
+use Rattle.usb_base.specs.declared.packets.DataPart.{DataPart}
+use Rattle.usb_base.specs.declared.packets.DataPart.TheVariants.{All, Begin, Middle, End}
 use Rattle.usb_base.specs.declared.packets.Pid.{Pid}
 use Rattle.usb_base.specs.declared.packets.Pid.TheVariants as Packets
-use Rattle.usb_base.specs.declared.packets.Speed.{Speed}
 use Rattle.usb_base.specs.declared.packets.Speed.TheVariants.{Full, High}
 use Rattle.usb_base.specs.declared.packets.Split.{Split}
 use Rattle.usb_base.specs.declared.packets.Split.TheVariants as Splits
@@ -26,13 +25,13 @@ use Rattle.tt_pipeline.specs.declared.rows.AnswerRow.{AnswerRow}
 use Rattle.tt_pipeline.specs.declared.rows.AnswerRow.TheVariants as Rows
 use Rattle.tt_pipeline.specs.Answers.{given, given_at, answer_row}
 use Rattle.tt_pipeline.specs.Starting.{has_key, with_first, without_first}
-use Rattle.tt_pipeline.specs.Work.{part_at, part_of, nothing_brought, brought_by, one_more_part, fresh, joined, appended, called, called_for, is_due, is_ripe, is_ahead, is_iso_out}
-use Rattle.translator_keeps_up.specs.Plans.{Plan, laid, Fits}
-use Rattle.translator_keeps_up.specs.Frames.{Watched, gap_between, gap_of, entries_of, is_of, changed}
+use Rattle.tt_pipeline.specs.Work.{part_at, asked_part, nothing_brought, brought_by, one_more_part, fresh, joined, appended, called, is_ripe, is_ahead, is_iso_out}
+use Rattle.translator_keeps_up.specs.Plans.{Plan}
+use Rattle.translator_keeps_up.specs.Frames.{Watched, gap_between, entries_of, is_of, changed}
 use Rattle.translator_keeps_up.specs.Premises.{In, FirstPart, IsFirst, LaterPart, IsLater, LaterOf}
 use Rattle.translator_keeps_up.proofs.Keys.{Distinct, AllIn, on_or_off, same_key, itself}
 use Rattle.translator_keeps_up.proofs.Sums.{AllLater, Sorted, AllBy}
-use Rattle.translator_keeps_up.proofs.Owing.{Came, unseen, partial, ended, Grew, same, more, Seen, Owing, before_gaps, came_gaps, called_partial, called_ended, not_both}
+use Rattle.translator_keeps_up.proofs.Owing.{Came, unseen, partial, ended, same, more, Seen, Owing, before_gaps, came_gaps, called_partial, not_both}
 use Rattle.translator_keeps_up.proofs.Work.{keys_of, AllOwe}
 
 -- ---- a first start
@@ -43,20 +42,20 @@ begins_plain Iso Packets.In split limit n h = absurd cc
 begins_plain Iso _ split limit n h = refl
 begins_plain _ pid split limit n h = absurd cc
 
-plain_of : (ask : Ask) → part_of ask ≡ Begin → ask.speed ≡ Full → (n : ℕ) → work_of ask n ≡ n + 9
+plain_of : (ask : Ask) → asked_part ask ≡ Begin → ask.speed ≡ Full → (n : ℕ) → work_of ask n ≡ n + 9
 plain_of ask h speed n = rw speed (begins_plain ask.kind ask.pid ask.split ask.limit n h)
 
 not_ripe : (b : Bool) (e : Entry) → e.heard.whole ≡ false → e.done ≡ 0 → is_ripe b e ≡ false
 not_ripe true e w d = rw w refl
 not_ripe false e w d = rw d refl
 
-abbrev fresh_with : Part → Ask → List ℕ → Watched
+abbrev fresh_with : DataPart → Ask → List ℕ → Watched
 fresh_with part ask bytes = record { entry = record (fresh ask bytes) { came = brought_by part (length bytes) nothing_brought }; gaps = 0 }
 
 nothing_laid : (a s u : ℕ) → u ≤ s → min (min a (188 * (u - s))) (188 * 0 + 188 * 0) ≤ 0 + 188 * 0
 nothing_laid a s u h = omega arith
 
-fresh_by : (p : Plan) (now : ℕ) (ask : Ask) (bytes : List ℕ) (part : Part) → part_of ask ≡ part → now ≡ p.first (key_of ask) → (ask.speed ≡ High → ⊥) → FirstPart part p (key_of ask) ask (length bytes) → Owing p now (fresh_with part ask bytes)
+fresh_by : (p : Plan) (now : ℕ) (ask : Ask) (bytes : List ℕ) (part : DataPart) → asked_part ask ≡ part → now ≡ p.first (key_of ask) → (ask.speed ≡ High → ⊥) → FirstPart part p (key_of ask) ask (length bytes) → Owing p now (fresh_with part ask bytes)
 fresh_by p now ask bytes All is time classic fits =
     let n : ℕ = length bytes in
     let z : work_of ask (0 + n) ≤ p.times (key_of ask) = rw (zero-add n) fits in
@@ -93,7 +92,7 @@ fresh_by p now ask bytes Middle is time classic fits = absurd fits
 fresh_by p now ask bytes End is time classic fits = absurd fits
 
 pub fresh_owes : (p : Plan) (now : ℕ) (ask : Ask) (bytes : List ℕ) → IsFirst p now ask (length bytes) → Owing p now (record { entry = fresh ask bytes; gaps = 0 })
-fresh_owes p now ask bytes h = fresh_by p now ask bytes (part_of ask) refl h.on_time h.classic h.part
+fresh_owes p now ask bytes h = fresh_by p now ask bytes (asked_part ask) refl h.on_time h.classic h.part
 
 -- ---- a later part
 
@@ -105,7 +104,7 @@ ripe_same : (parts : Bool) (e : Entry) (b : Brought) (x : Exchange) → is_ripe 
 ripe_same true e b x = refl
 ripe_same false e b x = refl
 
-abbrev joined_with : Part → List ℕ → Watched → Watched
+abbrev joined_with : DataPart → List ℕ → Watched → Watched
 joined_with part bytes w = record w {
   entry = record w.entry { came = brought_by part (length bytes) w.entry.came; exchange = appended bytes w.entry.exchange };
 }
@@ -226,7 +225,7 @@ join_end p now bytes w o h fits =
     end_rises : (b bb cb n : ℕ) → bb ≡ 188 * b → cb ≡ bb → 188 * b ≤ cb + n + 9
     end_rises b bb cb n h i = omega arith
 
-join_by : (p : Plan) (now : ℕ) (bytes : List ℕ) (w : Watched) (part : Part) → Owing p now w → w.entry.came.whole ≡ false → w.entry.came ≡ w.entry.before → now < 8 → LaterPart part p now w.entry.key (length bytes) → Owing p now (joined_with part bytes w)
+join_by : (p : Plan) (now : ℕ) (bytes : List ℕ) (w : Watched) (part : DataPart) → Owing p now w → w.entry.came.whole ≡ false → w.entry.came ≡ w.entry.before → now < 8 → LaterPart part p now w.entry.key (length bytes) → Owing p now (joined_with part bytes w)
 join_by p now bytes w All o lacks one within h = absurd h
 join_by p now bytes w Begin o lacks one within h = absurd h
 join_by p now bytes w Middle o lacks one within (size, fits) =
@@ -236,8 +235,8 @@ join_by p now bytes w End o lacks one within h = join_end p now bytes w o (part_
 pub join_owes : (p : Plan) (now : ℕ) (ask : Ask) (bytes : List ℕ) (w : Watched) → has_key (key_of ask) w.entry ≡ true → Owing p now w → IsLater p now ask (length bytes) w.entry → Owing p now (changed (joined ask bytes) w)
 join_owes p now ask bytes w is o h =
     let key : w.entry.key ≡ key_of ask = same_key w.entry.key (key_of ask) is in
-    let part = subst (λ (k : Key). LaterPart (part_of ask) p now k (length bytes)) (sym key) h.part in
-    join_by p now bytes w (part_of ask) o h.lacks h.one h.within part
+    let part = subst (λ (k : Key). LaterPart (asked_part ask) p now k (length bytes)) (sym key) h.part in
+    join_by p now bytes w (asked_part ask) o h.lacks h.one h.within part
 
 -- ---- a complete-split
 

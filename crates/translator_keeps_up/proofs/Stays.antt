@@ -1,5 +1,5 @@
 -- An interrupt's answer that is there stays there.
-use Rattle.std.proofs.Common.{◌≡◌, ℕ, ◌+◌, ◌-◌, ◌*◌, ◌<◌, ◌≤◌, min, Bool, true, false, if◌then◌else◌, List, [], ◌∷◌, refl, sym, ◌∙◌, ap, subst, inl, inr, arith}
+use Rattle.std.proofs.Common.{◌≡◌, ℕ, ◌-◌, ◌≤◌, Bool, true, false, if◌then◌else◌, List, [], ◌∷◌, refl, ap, arith}
 use Rattle.std.specs.Prelude.{nat_le, ◌&&◌}
 use Rattle.std.proofs.lemmas.Bool.{leb-true, le-leb}
 use Rattle.usb_base.specs.declared.packets.EpKind.TheVariants.{Interrupt}
@@ -9,11 +9,11 @@ use Rattle.tt_pipeline.specs.declared.entry.Entry.{Entry}
 use Rattle.tt_pipeline.specs.declared.entry.Exchange.{Exchange}
 use Rattle.tt_pipeline.specs.declared.entry.Exchange.TheVariants.{Ahead, Made}
 use Rattle.tt_pipeline.specs.declared.rows.AnswerRow.TheVariants.{NotYet, Result}
-use Rattle.tt_pipeline.specs.Answers.{answer_row, answer_of, answer_at, result_at, row_at}
-use Rattle.tt_pipeline.specs.Work.{called, called_for, is_due, is_ahead, is_ripe, moved, answered}
-use Rattle.tt_pipeline.specs.Working.{turned, used_at, first_reply, later_replies}
+use Rattle.tt_pipeline.specs.Answers.{answer_row, answer_of, result_at, row_at}
+use Rattle.tt_pipeline.specs.Work.{called, called_for, is_due, is_ahead, moved, answered}
+use Rattle.tt_pipeline.specs.Working.{used_at, first_reply, later_replies}
 use Rattle.translator_keeps_up.specs.Plans.{Plan, Fits}
-use Rattle.translator_keeps_up.specs.Frames.{Event, Frame, Watched, worked_one, worked_all, run, opening}
+use Rattle.translator_keeps_up.specs.Frames.{Event, Watched, worked_one, worked_all, run, opening}
 use Rattle.translator_keeps_up.specs.Premises.{FairAll, Stays, AllStay}
 use Rattle.translator_keeps_up.proofs.Owing.{Grew, same, more, Owing, not_both}
 use Rattle.translator_keeps_up.proofs.Work.{AllOwe}

@@ -1,19 +1,17 @@
 -- The work of a microframe keeps up with what is laid.
-use Rattle.std.proofs.Common.{◌≡◌, ℕ, ◌+◌, ◌-◌, ◌*◌, ◌<◌, ◌≤◌, min, Bool, true, false, if◌then◌else◌, List, [], ◌∷◌, refl, sym, ◌∙◌, ap, subst, inl, inr, ◌⊎◌, arith}
+use Rattle.std.proofs.Common.{◌≡◌, ℕ, ◌+◌, ◌-◌, ◌*◌, ◌<◌, ◌≤◌, min, Bool, true, false, List, [], ◌∷◌, refl, subst, inl, inr, arith}
 use Rattle.usb_base.specs.declared.packets.Reply.{Reply}
 use Rattle.usb_base.specs.declared.packets.Speed.TheVariants.{High}
 use Rattle.tt_keys.specs.Asks.{work_of}
 use Rattle.tt_keys.specs.declared.key.Key.{Key}
 use Rattle.tt_pipeline.specs.declared.entry.Entry.{Entry}
-use Rattle.tt_pipeline.specs.declared.entry.Exchange.TheVariants.{Made}
-use Rattle.tt_pipeline.specs.Work.{aged, called, called_for, is_due, moved, answered, used}
-use Rattle.tt_pipeline.specs.Working.{turned, used_at, first_reply, later_replies}
+use Rattle.tt_pipeline.specs.Work.{called, called_for, is_due, moved, answered}
+use Rattle.tt_pipeline.specs.Working.{used_at, first_reply, later_replies}
 use Rattle.translator_keeps_up.specs.Plans.{Plan, laid, Fits}
-use Rattle.translator_keeps_up.specs.Frames.{Watched, gap_between, gap_of, worked_one, worked_all}
-use Rattle.translator_keeps_up.specs.Premises.{In}
+use Rattle.translator_keeps_up.specs.Frames.{Watched, worked_one, worked_all}
 use Rattle.translator_keeps_up.proofs.Keys.{Distinct, AllIn}
-use Rattle.translator_keeps_up.proofs.Sums.{due_at, total, later, AllLater, Sorted}
-use Rattle.translator_keeps_up.proofs.Numbers.{Ready, Done, work_one, work_used}
+use Rattle.translator_keeps_up.proofs.Sums.{due_at, total, later, Sorted}
+use Rattle.translator_keeps_up.proofs.Numbers.{Ready, work_one, work_used}
 use Rattle.translator_keeps_up.proofs.Owing.{Came, Grew, same, Seen, Owing, before_gaps, came_gaps, once_more, ready, even_after}
 
 -- an entry before its turn

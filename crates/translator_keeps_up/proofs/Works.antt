@@ -1,11 +1,10 @@
 -- The work of a pipeline over a wire, as functions.
-use Rattle.std.proofs.Common.{◌≡◌, ℕ, ◌-◌, Bool, true, false, List, [], ◌∷◌, refl, sym, ◌∙◌, ap, subst}
+use Rattle.std.proofs.Common.{◌≡◌, ℕ, ◌-◌, Bool, true, false, List, [], ◌∷◌, refl, ◌∙◌, ap, subst}
 use Rattle.usb_base.specs.declared.packets.Ask.{Ask}
 use Rattle.usb_base.specs.declared.packets.Reply.{Reply}
-use Rattle.usb_base.specs.declared.packets.Reply.TheVariants.{Silent}
 use Rattle.tt_keys.specs.Asks.{classic_of}
 use Rattle.tt_pipeline.specs.declared.entry.Entry.{Entry}
-use Rattle.tt_pipeline.specs.Work.{moved, is_due, sent_of, answered, Asks, Turn}
+use Rattle.tt_pipeline.specs.Work.{moved, is_due, sent_of, answered, Asks}
 use Rattle.tt_pipeline.specs.Working.{used_at, Works, turned, turned_all, reply_at, wire_at, wire_turned, entries_after, wire_worked}
 
 module _ {W : Type 0} (transacts : W → Ask → List ℕ → Reply → W → Type 0) where

@@ -2,12 +2,12 @@
 --     Follows p now ask ..    a start is one that the plan calls for
 --     FairAll                 each start of a run is, and each plan fits
 --     KeepsUp, IsThere        the work that is laid is done; what is laid whole is answered
-use Rattle.std.specs.Prelude.{◌≡◌, ◌⊎◌, ℕ, ◌+◌, ◌-◌, ◌*◌, ◌≤◌, ◌<◌, min, Bool, true, false, List, [], ◌∷◌, length, Option, Some, None}
+use Rattle.std.specs.Prelude.{◌≡◌, ◌⊎◌, ℕ, ◌+◌, ◌-◌, ◌*◌, ◌≤◌, ◌<◌, min, true, false, List, [], ◌∷◌, length, Option, Some, None}
 use Rattle.std.specs.List.{find}
 use Rattle.usb_base.specs.declared.packets.Ask.{Ask}
 use Rattle.usb_base.specs.declared.packets.EpKind.TheVariants.{Interrupt}
-use Rattle.usb_base.specs.declared.packets.Part.{Part}
-use Rattle.usb_base.specs.declared.packets.Part.TheVariants.{All, Begin, Middle, End}
+use Rattle.usb_base.specs.declared.packets.DataPart.{DataPart}
+use Rattle.usb_base.specs.declared.packets.DataPart.TheVariants.{All, Begin, Middle, End}
 use Rattle.usb_base.specs.declared.packets.Speed.TheVariants.{Full, High}
 use Rattle.tt_keys.specs.Asks.{work_of}
 use Rattle.tt_keys.specs.Keys.{key_of}
@@ -18,7 +18,7 @@ use Rattle.tt_pipeline.specs.declared.rows.StartRow.{StartRow}
 use Rattle.tt_pipeline.specs.declared.rows.StartRow.TheVariants.{Enters, Joins, Forgotten}
 use Rattle.tt_pipeline.specs.Answers.{answer_row, answer_of}
 use Rattle.tt_pipeline.specs.Starting.{has_key, start_row}
-use Rattle.tt_pipeline.specs.Work.{part_of, called_for}
+use Rattle.tt_pipeline.specs.Work.{asked_part, called_for}
 use Rattle.translator_keeps_up.specs.Plans.{Plan, laid, Fits}
 use Rattle.translator_keeps_up.specs.Frames.{Event, Start, Complete, Work, Drop, Clear, Watched, Frame, entries_of, next}
 
@@ -28,7 +28,7 @@ In k [] = ⊥
 In k (x ∷ xs) = (k ≡ x) ⊎ In k xs
 
 -- the bytes of a part: 188, and no more than the rest of what is laid is called for with the last one
-abbrev pub FirstPart : Part → Plan → Key → Ask → ℕ → Type 0
+abbrev pub FirstPart : DataPart → Plan → Key → Ask → ℕ → Type 0
 FirstPart All p k ask n = work_of ask n ≤ p.times k
 FirstPart Begin p k ask n = (ask.speed ≡ Full) × (n ≡ 188) × (188 ≤ p.times k)
 FirstPart Middle p k ask n = ⊥
@@ -40,9 +40,9 @@ pub record IsFirst (p : Plan) (now : ℕ) (ask : Ask) (n : ℕ) : Type 0 where
   pub on_time : now ≡ p.first (key_of ask)
   pub within : now < 8
   pub classic : ask.speed ≡ High → ⊥
-  pub part : FirstPart (part_of ask) p (key_of ask) ask n
+  pub part : FirstPart (asked_part ask) p (key_of ask) ask n
 
-abbrev pub LaterPart : Part → Plan → ℕ → Key → ℕ → Type 0
+abbrev pub LaterPart : DataPart → Plan → ℕ → Key → ℕ → Type 0
 LaterPart All p now k n = ⊥
 LaterPart Begin p now k n = ⊥
 LaterPart Middle p now k n = (n ≡ 188) × (188 * (now - p.first k) + 188 ≤ p.times k)
@@ -53,7 +53,7 @@ pub record IsLater (p : Plan) (now : ℕ) (ask : Ask) (n : ℕ) (e : Entry) : Ty
   pub lacks : e.came.whole ≡ false
   pub one : e.came ≡ e.before
   pub within : now < 8
-  pub part : LaterPart (part_of ask) p now (key_of ask) n
+  pub part : LaterPart (asked_part ask) p now (key_of ask) n
 
 abbrev pub LaterOf : Plan → ℕ → Ask → ℕ → Option Entry → Type 0
 LaterOf p now ask n None = Unit {0}

@@ -1,12 +1,11 @@
 -- Two plans and their runs, for worked rows.
-use Rattle.std.specs.Prelude.{ℕ, ◌==◌, if◌then◌else◌, List, [], ◌∷◌, replicate}
-use Rattle.usb_base.specs.declared.packets.Part.TheVariants.{Begin, End}
+use Rattle.std.specs.Prelude.{◌==◌, if◌then◌else◌, List, [], ◌∷◌, replicate}
+use Rattle.usb_base.specs.declared.packets.DataPart.TheVariants.{Begin, End}
 use Rattle.usb_base.specs.declared.packets.Pid.TheVariants.{Data0}
-use Rattle.usb_base.specs.declared.packets.Reply.{Reply}
-use Rattle.usb_base.specs.declared.packets.Reply.TheVariants.{Silent, Bytes}
+use Rattle.usb_base.specs.declared.packets.Reply.TheVariants.{Bytes}
 use Rattle.tt_keys.specs.Keys.{key_of}
 use Rattle.tt_pipeline.specs.Worked.{interrupt_in, iso_out}
-use Rattle.translator_keeps_up.specs.Frames.{Event, Start, Complete, Work, Drop, Clear}
+use Rattle.translator_keeps_up.specs.Frames.{Event, Start, Work}
 use Rattle.translator_keeps_up.specs.Plans.{Plan}
 
 -- three interrupts in microframe 0, of 77, 77 and 34 byte-times: 188 in all

@@ -1,6 +1,6 @@
 //! Worked rows of the definitions, which the check computes: two runs that meet the premises.
 ghost use Rattle.std.specs.Prelude.{◌≡◌, ℕ, map, [], ◌∷◌};
-ghost use Rattle.usb_base.specs.declared.packets.Part.TheVariants.{Begin};
+ghost use Rattle.usb_base.specs.declared.packets.DataPart.TheVariants.{Begin};
 ghost use Rattle.usb_base.specs.declared.packets.Pid.TheVariants.{Data0};
 ghost use Rattle.usb_base.specs.declared.packets.Reply.TheVariants.{Silent, Bytes};
 ghost use Rattle.tt_keys.specs.Keys.{key_of};

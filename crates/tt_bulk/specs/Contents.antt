@@ -34,9 +34,9 @@ content_at Stages.Pending taken silences _ = Pending taken silences
 content_at Stages.Ready taken _ answer = Ready taken answer
 content_at Stages.Old taken _ answer = Old taken answer
 
-abbrev pub place_of : BufferIndex → TwoBuffers → BufferContent
-place_of First w = w.first
-place_of Second w = w.second
+abbrev pub buffer_content : BufferIndex → TwoBuffers → BufferContent
+buffer_content First w = w.first
+buffer_content Second w = w.second
 
 abbrev pub with_place : BufferIndex → BufferContent → TwoBuffers → TwoBuffers
 with_place First b w = record w { first = b }

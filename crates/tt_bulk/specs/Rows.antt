@@ -16,7 +16,7 @@ use Rattle.tt_bulk.specs.declared.rows.Stand.TheVariants as Stands
 use Rattle.tt_bulk.specs.declared.rows.StartRow.{StartRow}
 use Rattle.tt_bulk.specs.declared.rows.StartRow.TheVariants.{Repeated, Takes, Full}
 use Rattle.tt_bulk.specs.Answers.{reply_of}
-use Rattle.tt_bulk.specs.Contents.{Taken, BufferContent, Free, Pending, Ready, Old, TwoBuffers, place_of, with_place}
+use Rattle.tt_bulk.specs.Contents.{Taken, BufferContent, Free, Pending, Ready, Old, TwoBuffers, buffer_content, with_place}
 
 -- how a buffer stands to a key
 abbrev pub stand_of : Key → BufferContent → Stand
@@ -86,12 +86,12 @@ once_given b = b
 
 abbrev pub complete_reply : CompleteRow → TwoBuffers → Reply
 complete_reply Waits _ = Hand Packets.Nyet
-complete_reply (Gives place) w = given_by (place_of place w)
+complete_reply (Gives place) w = given_by (buffer_content place w)
 complete_reply Unknown _ = Silent
 
 abbrev pub after_complete : CompleteRow → TwoBuffers → TwoBuffers
 after_complete Waits w = w
-after_complete (Gives place) w = with_place place (once_given (place_of place w)) w
+after_complete (Gives place) w = with_place place (once_given (buffer_content place w)) w
 after_complete Unknown w = w
 
 abbrev pub complete_answer : Key → TwoBuffers → Reply

@@ -8,7 +8,7 @@ use Rattle.tt_bulk.specs.declared.answers.Answer.TheVariants.{Stall}
 use Rattle.tt_bulk.specs.declared.rows.BufferIndex.{BufferIndex}
 use Rattle.tt_bulk.specs.declared.rows.BufferIndex.TheVariants.{First, Second}
 use Rattle.tt_bulk.specs.Answers.{result_of}
-use Rattle.tt_bulk.specs.Contents.{Taken, BufferContent, Pending, Ready, TwoBuffers, place_of, with_place}
+use Rattle.tt_bulk.specs.Contents.{Taken, BufferContent, Pending, Ready, TwoBuffers, buffer_content, with_place}
 
 -- A buffer's turn.
 pub data Turn : Type 0 where
@@ -65,16 +65,16 @@ other Second = First
 
 -- the turn of the buffer that took its packet first, and then that of the other with the room that is left
 abbrev pub earlier_turn : ℕ → TwoBuffers → Turn
-earlier_turn room w = turn_of room (place_of (other w.latest) w)
+earlier_turn room w = turn_of room (buffer_content (other w.latest) w)
 
 abbrev pub later_turn : ℕ → TwoBuffers → Turn
-later_turn room w = turn_of (room_after room (earlier_turn room w)) (place_of w.latest w)
+later_turn room w = turn_of (room_after room (earlier_turn room w)) (buffer_content w.latest w)
 
 -- the buffers after their turns, in which these replies were heard
 abbrev pub worked : ℕ → Reply → Reply → TwoBuffers → TwoBuffers
 worked room earlier later w =
-    with_place (other w.latest) (after_turn (earlier_turn room w) earlier (place_of (other w.latest) w))
-    (with_place w.latest (after_turn (later_turn room w) later (place_of w.latest w)) w)
+    with_place (other w.latest) (after_turn (earlier_turn room w) earlier (buffer_content (other w.latest) w))
+    (with_place w.latest (after_turn (later_turn room w) later (buffer_content w.latest w)) w)
 
 -- the work of one microframe with this room
 pub record Works {W : Type 0} (transacts : W → Ask → List ℕ → Reply → W → Type 0) (room : ℕ) (old : TwoBuffers) (before : W) (new : TwoBuffers) (after : W) : Type 0 where

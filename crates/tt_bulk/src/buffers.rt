@@ -1,5 +1,5 @@
 ghost use Rattle.std.specs.Prelude.{◌≡◌, ◌≤◌, length};
-ghost use Rattle.tt_bulk.specs.Contents.{opening, place_of, with_place};
+ghost use Rattle.tt_bulk.specs.Contents.{opening, buffer_content, with_place};
 ghost use Rattle.tt_bulk.specs.Rows.{start_answer, started, after_start, complete_answer, completed, given_by, once_given, cleared};
 ghost use Rattle.tt_bulk.specs.Work.{Works};
 
@@ -110,8 +110,8 @@ impl Buffers {
     }
 
     fn give(&mut self, place: BufferIndex) -> Reply
-        ensures answer { result ≡ given_by (place_of place self.old) }
-        ensures after { self.new ≡ with_place place (once_given (place_of place self.old)) self.old }
+        ensures answer { result ≡ given_by (buffer_content place self.old) }
+        ensures after { self.new ≡ with_place place (once_given (buffer_content place self.old)) self.old }
     {
         match place {
             BufferIndex::First => self.first.give(),

@@ -2,7 +2,7 @@ use crate::bus::{Below, Gives};
 use std::alloc::{AllocError, Global};
 use tt_bulk::Buffers;
 use tt_keys::Key;
-use usb_base::{Ask, DevAddr, EpKind, EpNum, Part, Pid, Reply, Speed, Split};
+use usb_base::{Ask, DataPart, DevAddr, EpKind, EpNum, Pid, Reply, Speed, Split};
 
 /// One call; the number is that of a bulk IN endpoint of device 3.
 #[derive(Clone, Copy)]
@@ -25,7 +25,7 @@ fn start_of(number: u8) -> Option<Ask> {
         split: Split::Start {
             hub,
             port: 1,
-            part: Part::All,
+            part: DataPart::All,
         },
         pid: Pid::In,
         addr,

@@ -1,6 +1,6 @@
 -- The place of the first element that passes, and what is done there.
-use Rattle.std.proofs.Common.{◌≡◌, ℕ, ◌+◌, ◌<◌, ◌≤◌, Bool, true, false, cond, List, [], ◌∷◌, ◌++◌, length, take, drop, get_or, Option, Some, None, refl, ap, sym, ◌∙◌, arith, inl, inr, ◌⊎◌, slice_set}
-use Rattle.std.specs.Prelude.{zero, suc, not, nat_lt, nat_le, ◌||◌, if◌then◌else◌}
+use Rattle.std.proofs.Common.{◌≡◌, ℕ, ◌+◌, ◌<◌, ◌≤◌, Bool, true, false, cond, List, [], ◌∷◌, length, get_or, Option, Some, None, refl, ap, sym, arith, inl, inr, ◌⊎◌, slice_set}
+use Rattle.std.specs.Prelude.{suc, nat_lt, nat_le, ◌||◌, if◌then◌else◌}
 use Rattle.std.specs.List.{find, list_any, position, position_or_len, remove}
 use Rattle.std.proofs.lemmas.Bool.{ltb-true, ltb-false, leb-true}
 use Rattle.tt_pipeline.specs.declared.entry.Entry.{Entry}

@@ -1,12 +1,12 @@
 -- The turns of the entries, one more at a time.
-use Rattle.std.proofs.Common.{◌≡◌, ℕ, ◌+◌, ◌-◌, ◌<◌, List, [], ◌∷◌, ◌++◌, length, take, drop, get_or, refl, ap, sym, ◌∙◌, subst, arith, add-one, drop-cons, append_assoc, slice_set, length-drop, drop-set-lt}
+use Rattle.std.proofs.Common.{◌≡◌, ℕ, ◌+◌, ◌-◌, ◌<◌, List, ◌∷◌, ◌++◌, length, take, drop, get_or, refl, ap, sym, ◌∙◌, arith, add-one, drop-cons, append_assoc, slice_set, length-drop, drop-set-lt}
 use Rattle.std.specs.Prelude.{suc}
 use Rattle.std.proofs.Math.Seq.{take-suc-set}
 use Rattle.usb_base.specs.declared.packets.Ask.{Ask}
 use Rattle.usb_base.specs.declared.packets.Reply.{Reply}
 use Rattle.tt_pipeline.specs.declared.entry.Entry.{Entry}
 use Rattle.tt_pipeline.specs.Work.{Turn}
-use Rattle.tt_pipeline.specs.Working.{used_at, used_by, Works}
+use Rattle.tt_pipeline.specs.Working.{used_at, Works}
 
 tail_of : {x y : Entry} (xs ys : List Entry) → x ∷ xs ≡ y ∷ ys → xs ≡ ys
 tail_of xs ys h = cc

@@ -2,7 +2,7 @@
 --     answer_row e            the row of the entry
 --     complete_answer k es    the answer to a complete-split of the key
 --     completed k es          the entries after it
-use Rattle.std.specs.Prelude.{ℕ, ◌+◌, ◌-◌, Bool, true, false, nat_le, nat_lt, if◌then◌else◌, Option, Some, None, List, [], ◌∷◌, length, take, drop}
+use Rattle.std.specs.Prelude.{ℕ, ◌+◌, ◌-◌, true, nat_le, nat_lt, if◌then◌else◌, Option, Some, None, List, [], length, take, drop}
 use Rattle.std.specs.List.{find}
 use Rattle.usb_base.specs.declared.packets.EpKind.{EpKind}
 use Rattle.usb_base.specs.declared.packets.EpKind.TheVariants.{Iso}
@@ -10,7 +10,6 @@ use Rattle.usb_base.specs.declared.packets.Pid.{Pid}
 use Rattle.usb_base.specs.declared.packets.Pid.TheVariants as Packets
 use Rattle.usb_base.specs.declared.packets.Reply.{Reply}
 use Rattle.usb_base.specs.declared.packets.Reply.TheVariants.{Silent, Bytes, Hand}
-use Rattle.tt_keys.specs.Keys.{is_same_key}
 use Rattle.tt_keys.specs.declared.key.Key.{Key}
 use Rattle.tt_pipeline.specs.declared.entry.Entry.{Entry}
 use Rattle.tt_pipeline.specs.declared.entry.Exchange.{Exchange}

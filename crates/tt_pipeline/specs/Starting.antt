@@ -1,17 +1,17 @@
 -- What a start-split makes of the pipeline (USB 2.0, 11.18 and 11.21).
 --     start_row ask n es      the row of a start with n bytes
 --     started ask bytes es    the entries after it
-use Rattle.std.specs.Prelude.{ℕ, ◌+◌, Bool, true, false, ◌||◌, nat_le, nat_lt, if◌then◌else◌, Option, Some, None, List, [], ◌∷◌, ◌++◌, length}
+use Rattle.std.specs.Prelude.{ℕ, ◌+◌, Bool, ◌||◌, nat_le, nat_lt, if◌then◌else◌, Option, Some, None, List, [], ◌∷◌, ◌++◌, length}
 use Rattle.std.specs.List.{find, list_any}
 use Rattle.usb_base.specs.declared.packets.Ask.{Ask}
-use Rattle.usb_base.specs.declared.packets.Part.{Part}
-use Rattle.usb_base.specs.declared.packets.Part.TheVariants.{All, Begin, Middle, End}
+use Rattle.usb_base.specs.declared.packets.DataPart.{DataPart}
+use Rattle.usb_base.specs.declared.packets.DataPart.TheVariants.{All, Begin, Middle, End}
 use Rattle.tt_keys.specs.Keys.{key_of, is_same_key}
 use Rattle.tt_keys.specs.declared.key.Key.{Key}
 use Rattle.tt_pipeline.specs.declared.entry.Entry.{Entry}
 use Rattle.tt_pipeline.specs.declared.rows.StartRow.{StartRow}
 use Rattle.tt_pipeline.specs.declared.rows.StartRow.TheVariants.{Enters, Joins, Forgotten}
-use Rattle.tt_pipeline.specs.Work.{part_of, fresh, joined}
+use Rattle.tt_pipeline.specs.Work.{asked_part, fresh, joined}
 
 abbrev pub has_key : Key → Entry → Bool
 has_key k e = is_same_key e.key k
@@ -47,14 +47,14 @@ later_row n (Some e) = if nat_le (e.came.bytes + n) 1024 then Joins else Forgott
 abbrev pub first_row : Key → List Entry → StartRow
 first_row k es = if is_there k es || nat_lt (length es) 256 then Enters else Forgotten
 
-abbrev pub row_of_part : Part → Key → ℕ → List Entry → StartRow
+abbrev pub row_of_part : DataPart → Key → ℕ → List Entry → StartRow
 row_of_part All k n es = first_row k es
 row_of_part Begin k n es = first_row k es
 row_of_part Middle k n es = later_row n (find (has_key k) es)
 row_of_part End k n es = later_row n (find (has_key k) es)
 
 abbrev pub start_row : Ask → ℕ → List Entry → StartRow
-start_row ask n es = row_of_part (part_of ask) (key_of ask) n es
+start_row ask n es = row_of_part (asked_part ask) (key_of ask) n es
 
 -- a new entry stands last in the order of arrival
 abbrev pub after_start : StartRow → Ask → List ℕ → List Entry → List Entry

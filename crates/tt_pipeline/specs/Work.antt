@@ -3,12 +3,12 @@
 --     called_for e            the byte-times that the starts of e call for, those of the last two microframes apart
 --     used room e             the byte-times that e takes of this room
 --     is_due e                the classic transaction of e is made now
-use Rattle.std.specs.Prelude.{◌≡◌, ℕ, ◌+◌, ◌-◌, ◌*◌, min, Bool, true, false, ◌&&◌, nat_le, nat_lt, if◌then◌else◌, List, [], ◌∷◌, ◌++◌, length, take}
+use Rattle.std.specs.Prelude.{◌≡◌, ℕ, ◌+◌, ◌-◌, ◌*◌, min, Bool, true, false, ◌&&◌, nat_le, nat_lt, if◌then◌else◌, List, [], ◌++◌, length, take}
 use Rattle.usb_base.specs.declared.packets.Ask.{Ask}
 use Rattle.usb_base.specs.declared.packets.EpKind.{EpKind}
 use Rattle.usb_base.specs.declared.packets.EpKind.TheVariants.{Iso}
-use Rattle.usb_base.specs.declared.packets.Part.{Part}
-use Rattle.usb_base.specs.declared.packets.Part.TheVariants.{All, Begin, Middle, End}
+use Rattle.usb_base.specs.declared.packets.DataPart.{DataPart}
+use Rattle.usb_base.specs.declared.packets.DataPart.TheVariants.{All, Begin, Middle, End}
 use Rattle.usb_base.specs.declared.packets.Pid.{Pid}
 use Rattle.usb_base.specs.declared.packets.Pid.TheVariants.{In}
 use Rattle.usb_base.specs.declared.packets.Reply.{Reply}
@@ -24,14 +24,14 @@ use Rattle.tt_pipeline.specs.declared.entry.Exchange.TheVariants.{Ahead, Made}
 -- ---- what starts bring
 
 -- only an isochronous OUT comes in parts (USB 2.0, 8.4.2.2)
-abbrev pub part_at : EpKind → Pid → Split → Part
+abbrev pub part_at : EpKind → Pid → Split → DataPart
 part_at Iso In _ = All
 part_at Iso _ (Start _ _ part) = part
 part_at _ _ _ = All
 
 -- the part that a start carries
-abbrev pub part_of : Ask → Part
-part_of ask = part_at ask.kind ask.pid ask.split
+abbrev pub asked_part : Ask → DataPart
+asked_part ask = part_at ask.kind ask.pid ask.split
 
 -- an isochronous OUT
 abbrev pub is_iso_out : EpKind → Pid → Bool
@@ -53,7 +53,7 @@ abbrev pub with_last : ℕ → Brought → Brought
 with_last n b = record b { bytes = b.bytes + n; whole = true }
 
 -- after a part with n bytes
-abbrev pub brought_by : Part → ℕ → Brought → Brought
+abbrev pub brought_by : DataPart → ℕ → Brought → Brought
 brought_by All n b = with_last n b
 brought_by Begin n b = with_part n b
 brought_by Middle n b = with_part n b
@@ -64,7 +64,7 @@ abbrev pub fresh : Ask → List ℕ → Entry
 fresh ask bytes = record {
   key = key_of ask;
   ask = ask;
-  came = brought_by (part_of ask) (length bytes) nothing_brought;
+  came = brought_by (asked_part ask) (length bytes) nothing_brought;
   before = nothing_brought;
   heard = nothing_brought;
   done = 0;
@@ -81,7 +81,7 @@ appended bytes (Made reply) = Made reply
 -- the entry that a later part joins
 abbrev pub joined : Ask → List ℕ → Entry → Entry
 joined ask bytes e = record e {
-  came = brought_by (part_of ask) (length bytes) e.came;
+  came = brought_by (asked_part ask) (length bytes) e.came;
   exchange = appended bytes e.exchange;
 }
 

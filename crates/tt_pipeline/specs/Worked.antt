@@ -1,24 +1,21 @@
 -- Starts, keys and entries for worked rows: endpoint n of device 3, behind port 2 of hub 9.
-use Rattle.std.specs.Prelude.{ℕ, ◌+◌, ◌/◌, ◌%◌, zero, suc, List, [], ◌∷◌, ◌++◌, replicate}
+use Rattle.std.specs.Prelude.{ℕ, zero, suc, List, [], replicate}
 use Rattle.usb_base.specs.declared.packets.Ask.{Ask}
-use Rattle.usb_base.specs.declared.packets.Dir.{Dir}
 use Rattle.usb_base.specs.declared.packets.EpKind.{EpKind}
 use Rattle.usb_base.specs.declared.packets.EpKind.TheVariants.{Iso, Interrupt}
-use Rattle.usb_base.specs.declared.packets.Part.{Part}
-use Rattle.usb_base.specs.declared.packets.Part.TheVariants.{All, Begin, Middle, End}
+use Rattle.usb_base.specs.declared.packets.DataPart.{DataPart}
+use Rattle.usb_base.specs.declared.packets.DataPart.TheVariants.{All, Begin, Middle, End}
 use Rattle.usb_base.specs.declared.packets.Pid.{Pid}
 use Rattle.usb_base.specs.declared.packets.Pid.TheVariants.{In, Out, Data0}
 use Rattle.usb_base.specs.declared.packets.Reply.{Reply}
 use Rattle.usb_base.specs.declared.packets.Reply.TheVariants.{Silent}
 use Rattle.usb_base.specs.declared.packets.Speed.TheVariants.{Full}
 use Rattle.usb_base.specs.declared.packets.Split.TheVariants.{Start}
-use Rattle.tt_keys.specs.Keys.{key_of}
-use Rattle.tt_keys.specs.declared.key.Key.{Key}
 use Rattle.tt_pipeline.specs.declared.entry.Entry.{Entry}
 use Rattle.tt_pipeline.specs.Starting.{started}
-use Rattle.tt_pipeline.specs.Working.{budget, used_by, turned_all, worked_with}
+use Rattle.tt_pipeline.specs.Working.{worked_with}
 
-abbrev pub start_of : EpKind → Pid → Part → ℕ → ℕ → Ask
+abbrev pub start_of : EpKind → Pid → DataPart → ℕ → ℕ → Ask
 start_of kind pid part n limit = record {
   split = Start 9 2 part;
   pid = pid;
@@ -37,7 +34,7 @@ interrupt_in n limit = start_of Interrupt In All n limit
 abbrev pub iso_in : ℕ → ℕ → Ask
 iso_in n limit = start_of Iso In All n limit
 
-abbrev pub iso_out : Part → ℕ → Ask
+abbrev pub iso_out : DataPart → ℕ → Ask
 iso_out part n = start_of Iso Out part n 0
 
 -- two interrupts of 64 bytes and one of 8

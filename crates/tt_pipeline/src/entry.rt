@@ -1,13 +1,13 @@
 ghost use Rattle.std.specs.Prelude.{◌≡◌, ℕ, ◌+◌, ◌-◌, ◌<◌, ◌≤◌, List, [], length, take, drop};
 ghost use Rattle.usb_base.specs.declared.packets.Reply.{Reply as Answer};
-ghost use Rattle.tt_pipeline.specs.Work.{aged, called, called_for, part_of, brought_by, nothing_brought, fresh, joined, used, progressed, is_due, sent_of, Asks, answered, Turn};
+ghost use Rattle.tt_pipeline.specs.Work.{aged, called, called_for, asked_part, brought_by, nothing_brought, fresh, joined, used, progressed, is_due, sent_of, Asks, answered, Turn};
 ghost use Rattle.tt_pipeline.specs.Working.{used_at};
 ghost use Rattle.tt_pipeline.specs.Answers.{answer_row, bytes_row, result_of, result_at, answer_at, given_at, answer_of, given, bytes_of};
 
 use crate::out_data::OutData;
 use crate::rows::AnswerRow;
 use tt_keys::{Key, classic_ask, work};
-use usb_base::{Ask, EpKind, Packet, Part, Pid, Reply, Split, Wire, reply_to};
+use usb_base::{Ask, DataPart, EpKind, Packet, Pid, Reply, Split, Wire, reply_to};
 
 /// What start-splits brought to an entry.
 #[derive(Clone, Copy, Debug, PartialEq, Eq)]
@@ -53,13 +53,13 @@ pub struct Entry {
 }
 
 /// The part that a start carries: only an isochronous OUT comes in parts.
-pub(crate) fn part(ask: &Ask) -> Part
-    ensures { result ≡ part_of ask.now }
+pub(crate) fn part(ask: &Ask) -> DataPart
+    ensures { result ≡ asked_part ask.now }
 {
     match (ask.kind, ask.pid, ask.split) {
-        (EpKind::Iso, Pid::In, _) => Part::All,
+        (EpKind::Iso, Pid::In, _) => DataPart::All,
         (EpKind::Iso, _, Split::Start { part, .. }) => part,
-        _ => Part::All,
+        _ => DataPart::All,
     }
 }
 
@@ -105,14 +105,14 @@ impl Brought {
     }
 
     /// Adds a part with so many bytes.
-    pub(crate) fn add(&mut self, part: Part, bytes: u16)
+    pub(crate) fn add(&mut self, part: DataPart, bytes: u16)
         requires { self.old.bytes + bytes < 65536 }
         ensures { self.new ≡ brought_by part bytes self.old }
     {
         self.bytes += bytes;
         match part {
-            Part::All | Part::End => self.whole = true,
-            Part::Begin | Part::Middle => self.parts = self.parts.saturating_add(1),
+            DataPart::All | DataPart::End => self.whole = true,
+            DataPart::Begin | DataPart::Middle => self.parts = self.parts.saturating_add(1),
         }
     }
 

@@ -12,7 +12,7 @@ use crate::rows::StartRow;
 use std::alloc::Global;
 use std::marker::Model;
 use tt_keys::Key;
-use usb_base::{Ask, Memory, Part, Pid, Reply, Wire};
+use usb_base::{Ask, DataPart, Memory, Pid, Reply, Wire};
 
 /// The most entries that a pipeline has.
 const ROOM: usize = 256;
@@ -144,13 +144,13 @@ impl Pipeline {
         }
     }
 
-    fn start_row(&self, part: Part, key: &Key, bytes: usize) -> StartRow
+    fn start_row(&self, part: DataPart, key: &Key, bytes: usize) -> StartRow
         requires { bytes ≤ 1024 }
         ensures { result ≡ row_of_part part key.now bytes self.now }
     {
         match part {
-            Part::All | Part::Begin => self.first_row(key),
-            Part::Middle | Part::End => self.later_row(key, bytes),
+            DataPart::All | DataPart::Begin => self.first_row(key),
+            DataPart::Middle | DataPart::End => self.later_row(key, bytes),
         }
     }
 

@@ -6,7 +6,7 @@ use crate::Pipeline;
 use arrayvec::ArrayVec;
 use std::test::Fail;
 use tt_keys::Key;
-use usb_base::{Ask, DevAddr, EpKind, EpNum, Packet, Part, Pid, Reply, Speed, Split, Wire};
+use usb_base::{Ask, DataPart, DevAddr, EpKind, EpNum, Packet, Pid, Reply, Speed, Split, Wire};
 
 /// A port: the bytes that its device answers, how often it was asked, and how much was sent the last time.
 #[derive(Drop)]
@@ -51,7 +51,7 @@ fn port_of(bytes: &[u8]) -> Port
     }
 }
 
-fn start_of(kind: EpKind, pid: Pid, part: Part, ep: u8, limit: u16) -> Ask
+fn start_of(kind: EpKind, pid: Pid, part: DataPart, ep: u8, limit: u16) -> Ask
     requires { ep ≤ 15 }
 {
     Ask {
@@ -85,9 +85,9 @@ fn told(reply: Reply) -> Option<(Pid, usize)> {
 fn three_interrupts(rt: HostRuntime) -> Result<(), Fail> {
     let mut pipeline = Pipeline::build(rt.alloc())?;
     let mut port = port_of(&[7, 8]);
-    let first = start_of(EpKind::Interrupt, Pid::In, Part::All, 1, 64);
-    let second = start_of(EpKind::Interrupt, Pid::In, Part::All, 2, 64);
-    let third = start_of(EpKind::Interrupt, Pid::In, Part::All, 3, 8);
+    let first = start_of(EpKind::Interrupt, Pid::In, DataPart::All, 1, 64);
+    let second = start_of(EpKind::Interrupt, Pid::In, DataPart::All, 2, 64);
+    let third = start_of(EpKind::Interrupt, Pid::In, DataPart::All, 3, 8);
     pipeline.start(&first, &[]);
     pipeline.start(&second, &[]);
     pipeline.start(&third, &[]);
@@ -120,7 +120,7 @@ fn three_interrupts(rt: HostRuntime) -> Result<(), Fail> {
 fn isochronous_in(rt: HostRuntime) -> Result<(), Fail> {
     let mut pipeline = Pipeline::build(rt.alloc())?;
     let mut port = port_of(&[5; 300]);
-    let ask = start_of(EpKind::Iso, Pid::In, Part::All, 1, 300);
+    let ask = start_of(EpKind::Iso, Pid::In, DataPart::All, 1, 300);
     pipeline.start(&ask, &[]);
     assert_eq!(rt; pipeline.microframe(1, &mut port), 0);
     assert_eq!(rt; pipeline.microframe(2, &mut port), 188);
@@ -146,8 +146,8 @@ fn isochronous_in(rt: HostRuntime) -> Result<(), Fail> {
 fn isochronous_out(rt: HostRuntime) -> Result<(), Fail> {
     let mut pipeline = Pipeline::build(rt.alloc())?;
     let mut port = port_of(&[]);
-    let begin = start_of(EpKind::Iso, Pid::Out, Part::Begin, 1, 0);
-    let end = start_of(EpKind::Iso, Pid::Out, Part::End, 1, 0);
+    let begin = start_of(EpKind::Iso, Pid::Out, DataPart::Begin, 1, 0);
+    let end = start_of(EpKind::Iso, Pid::Out, DataPart::End, 1, 0);
     pipeline.start(&begin, &[1; 188]);
     assert_eq!(rt; pipeline.microframe(1, &mut port), 0);
     assert_eq!(rt; pipeline.microframe(2, &mut port), 188);

@@ -1,6 +1,6 @@
 //! Worked rows of the definitions, which the check computes.
 ghost use Rattle.std.specs.Prelude.{◌≡◌, ℕ, ◌++◌, [], ◌∷◌, map, length, replicate, true, false, take, drop};
-ghost use Rattle.usb_base.specs.declared.packets.Part.TheVariants as Parts;
+ghost use Rattle.usb_base.specs.declared.packets.DataPart.TheVariants as Parts;
 ghost use Rattle.usb_base.specs.declared.packets.Pid.TheVariants as Packets;
 ghost use Rattle.usb_base.specs.declared.packets.Reply.TheVariants.{Silent, Bytes, Hand};
 ghost use Rattle.tt_keys.specs.Keys.{key_of};

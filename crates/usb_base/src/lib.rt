@@ -30,7 +30,7 @@ pub use mem_source::MemSource;
 pub use memory::Memory;
 pub use numbers::{DevAddr, EpNum, Ps};
 pub use outside::{Failed, Sink, Source};
-pub use packets::{Ask, Dir, EpKind, Fate, Part, Pid, Reply, Speed, Split, Way};
+pub use packets::{Ask, DataPart, Dir, EpKind, Fate, Pid, Reply, Speed, Split, Way};
 pub use price::{cost, tt_bytes};
 pub use reports::{OfferError, Report, What};
 pub use wire::{Wire, reply_to};

@@ -67,7 +67,7 @@ pub enum Fate {
 
 /// Which part of its data a start-split of an isochronous OUT carries (USB 2.0, 8.4.2.2, the S and E bits).
 #[derive(Clone, Copy, Debug, PartialEq, Eq, PartialOrd, Ord, Hash)]
-pub enum Part {
+pub enum DataPart {
     All,
     Begin,
     Middle,
@@ -80,9 +80,16 @@ pub enum Split {
     /// No split: the ask is for the addressed device.
     Plain,
     /// A start-split to the translator of `hub` for its `port`.
-    Start { hub: DevAddr, port: u8, part: Part },
+    Start {
+        hub: DevAddr,
+        port: u8,
+        part: DataPart,
+    },
     /// A complete-split to the translator of `hub` for its `port`.
-    Complete { hub: DevAddr, port: u8 },
+    Complete {
+        hub: DevAddr,
+        port: u8,
+    },
 }
 
 /// What the host asks in one transaction.

@@ -5,7 +5,7 @@ ghost use Rattle.usb_base.specs.Outside.{one_more, Rose};
 ghost use Rattle.usb_base.specs.Acknowledgement.{acknowledges};
 ghost use Rattle.usb_base.specs.declared.packets.Ask.{Ask as Asked};
 
-use crate::packets::{Dir, EpKind, Part, Pid, Reply, Speed, Split};
+use crate::packets::{DataPart, Dir, EpKind, Pid, Reply, Speed, Split};
 
 /// Bus times in picoseconds.
 pub fn prices()
@@ -42,7 +42,7 @@ pub fn acknowledged()
         × (acknowledges ask Reply.Silent ≡ false)
         × (acknowledges (record ask { kind = EpKind.Iso }) (Reply.Bytes Pid.Data1 (7 ∷ [])) ≡ false)
         × (acknowledges (record ask { split = Split.Complete 9 1 }) (Reply.Bytes Pid.Data1 (7 ∷ [])) ≡ false)
-        × (acknowledges (record ask { split = Split.Start 9 1 Part.All }) (Reply.Bytes Pid.Data1 (7 ∷ [])) ≡ false)
+        × (acknowledges (record ask { split = Split.Start 9 1 DataPart.All }) (Reply.Bytes Pid.Data1 (7 ∷ [])) ≡ false)
         × (acknowledges (record ask { pid = Pid.Out }) (Reply.Bytes Pid.Data1 (7 ∷ [])) ≡ false) }
 {}
 

@@ -120,8 +120,8 @@ answer_by b (Answerers.Hub place) ask out = hub_answer (slice_get b.hubs place) 
 answer_by b (Answerers.Translator place) ask out = translator_answer (slice_get b.hubs place) ask
 answer_by b Answerers.Nobody ask out = Silent
 
-abbrev pub row_of : Fixed → Bus → Asked → Ask → List ℕ → WhoHeard
-row_of fixed b e ask out = row_for (losses_of fixed.fates false e (packets_before ask)) ask (answer_by b e.who ask out)
+abbrev pub bus_row : Fixed → Bus → Asked → Ask → List ℕ → WhoHeard
+bus_row fixed b e ask out = row_for (losses_of fixed.fates false e (packets_before ask)) ask (answer_by b e.who ask out)
 
 -- the bus once whoever was asked has changed
 abbrev pub changed_by : WhoHeard → Answerer → Ask → List ℕ → Bus → Bus
@@ -131,12 +131,12 @@ changed_by row (Answerers.Translator place) ask out b = record b { hubs = change
 changed_by row Answerers.Nobody ask out b = b
 
 -- the bus once the packets were sent as well
-abbrev pub after_row : WhoHeard → Asked → Ask → List ℕ → Bus → Bus
-after_row row e ask out b = record (changed_by row e.who ask out b) { high = slice_set b.high e.place (packet_after row e ask) }
+abbrev pub after_bus_row : WhoHeard → Asked → Ask → List ℕ → Bus → Bus
+after_bus_row row e ask out b = record (changed_by row e.who ask out b) { high = slice_set b.high e.place (packet_after row e ask) }
 
 abbrev pub reply_at : Fixed → Bus → Ask → List ℕ → Option Asked → Reply
 reply_at fixed b ask out None = Silent
-reply_at fixed b ask out (Some e) = asker_hears (row_of fixed b e ask out) (answer_by b e.who ask out)
+reply_at fixed b ask out (Some e) = asker_hears (bus_row fixed b e ask out) (answer_by b e.who ask out)
 
 -- what the host hears
 abbrev pub reply_of : Fixed → Bus → Ask → List ℕ → Reply
@@ -144,7 +144,7 @@ reply_of fixed b ask out = reply_at fixed b ask out (asked_of fixed b ask)
 
 abbrev pub after_at : Fixed → Bus → Ask → List ℕ → Option Asked → Bus
 after_at fixed b ask out None = b
-after_at fixed b ask out (Some e) = after_row (row_of fixed b e ask out) e ask out b
+after_at fixed b ask out (Some e) = after_bus_row (bus_row fixed b e ask out) e ask out b
 
 abbrev pub transact_after : Fixed → Bus → Ask → List ℕ → Bus
 transact_after fixed b ask out = after_at fixed b ask out (asked_of fixed b ask)

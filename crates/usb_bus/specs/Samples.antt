@@ -5,7 +5,7 @@ use Rattle.usb_base.specs.declared.endpoints.EpName.{EpName}
 use Rattle.usb_base.specs.declared.packets.Ask.{Ask}
 use Rattle.usb_base.specs.declared.packets.EpKind.TheVariants.{Bulk, Control}
 use Rattle.usb_base.specs.declared.packets.Fate.TheVariants.{Lost, Damaged}
-use Rattle.usb_base.specs.declared.packets.Part.TheVariants.{All}
+use Rattle.usb_base.specs.declared.packets.DataPart.TheVariants.{All}
 use Rattle.usb_base.specs.declared.packets.Pid.{Pid}
 use Rattle.usb_base.specs.declared.packets.Pid.TheVariants as Pids
 use Rattle.usb_base.specs.declared.packets.Reply.{Reply}

@@ -10,17 +10,17 @@ use Rattle.usb_bus.specs.declared.asked.Asked.{Asked}
 use Rattle.usb_bus.specs.declared.told.Told.{Told}
 use Rattle.usb_bus.specs.WhoHeard.{answer_sent, packets_before}
 use Rattle.usb_bus.specs.Asking.{losses_of}
-use Rattle.usb_bus.specs.Bus.{Fixed, Bus, asked_of, row_of, answer_by}
+use Rattle.usb_bus.specs.Bus.{Fixed, Bus, asked_of, bus_row, answer_by}
 
 abbrev pub told_at : Fixed → Bus → Ask → List ℕ → Asked → Told
-told_at fixed b ask out e = record { asked = e; losses = losses_of fixed.fates false e (packets_before ask); row = row_of fixed b e ask out }
+told_at fixed b ask out e = record { asked = e; losses = losses_of fixed.fates false e (packets_before ask); row = bus_row fixed b e ask out }
 
 abbrev pub told_of : Fixed → Bus → Ask → List ℕ → Option Told
 told_of fixed b ask out = option_map (told_at fixed b ask out) (asked_of fixed b ask)
 
 abbrev pub answer_at : Fixed → Bus → Ask → List ℕ → Option Asked → Reply
 answer_at fixed b ask out None = Silent
-answer_at fixed b ask out (Some e) = answer_sent (row_of fixed b e ask out) (answer_by b e.who ask out)
+answer_at fixed b ask out (Some e) = answer_sent (bus_row fixed b e ask out) (answer_by b e.who ask out)
 
 abbrev pub answer_told : Fixed → Bus → Ask → List ℕ → Reply
 answer_told fixed b ask out = answer_at fixed b ask out (asked_of fixed b ask)

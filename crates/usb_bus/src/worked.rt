@@ -2,7 +2,7 @@
 ghost use Rattle.std.specs.Prelude.{◌≡◌, ◌+◌, ◌*◌, true, false, [], ◌∷◌, map, Some, None};
 ghost use Rattle.usb_base.specs.declared.packets.Way.TheVariants as Ways;
 ghost use Rattle.usb_bus.specs.Fates.{bad_numbers, is_unheard};
-ghost use Rattle.usb_base.specs.declared.packets.Part.TheVariants as Parts;
+ghost use Rattle.usb_base.specs.declared.packets.DataPart.TheVariants as Parts;
 ghost use Rattle.usb_base.specs.declared.packets.Split.TheVariants as Splits;
 ghost use Rattle.usb_bus.specs.declared.seats.Owner.TheVariants as Owners;
 ghost use Rattle.usb_bus.specs.Seats.{place_for, place_at, seats_of};

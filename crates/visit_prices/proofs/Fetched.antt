@@ -12,20 +12,20 @@ use Rattle.periodic_walk.specs.declared.chain.ChainRow.{ChainRow}
 use Rattle.periodic_walk.specs.declared.chain.ChainRow.TheVariants as rows
 use Rattle.periodic_walk.specs.declared.state.Hand.{Hand}
 use Rattle.periodic_walk.specs.Chain.{chain_row, chain_read, chain_after}
-use Rattle.periodic_walk.specs.Place.{Place, reading}
+use Rattle.periodic_walk.specs.Place.{FramePlace, reading}
 use Rattle.periodic_walk.specs.Rows.{effect_at}
 use Rattle.visit_prices.specs.Prices.{left_by, after}
 use Rattle.visit_prices.specs.Spent.{MeetsHead, MeetsDescriptor}
 use Rattle.visit_prices.specs.Fetched.{queue_copy, itd_copy, FetchesHead, FetchesDescriptor}
 
-fetched : (p : Place) (r : Reply) (row : ChainRow) → p.walk.hand ≡ None → chain_row p.memory p.walk.cursor ≡ row → after p r ≡ chain_after row (reading (chain_read p.memory p.walk.cursor) p)
+fetched : (p : FramePlace) (r : Reply) (row : ChainRow) → p.walk.hand ≡ None → chain_row p.memory p.walk.cursor ≡ row → after p r ≡ chain_after row (reading (chain_read p.memory p.walk.cursor) p)
 fetched p r row free is =
     ap (λ (o : Option Hand). left_by (effect_at p o) r) free
     ∙ ap (λ (w : ChainRow). chain_after w (reading (chain_read p.memory p.walk.cursor) p)) is
 
-pub head_met : (x : Placed) (p : Place) (a : ℕ) (q : Qh) (r : Reply) → FetchesHead x p a q → MeetsHead x (after p r) (queue_copy a q)
+pub head_met : (x : Placed) (p : FramePlace) (a : ℕ) (q : Qh) (r : Reply) → FetchesHead x p a q → MeetsHead x (after p r) (queue_copy a q)
 head_met x p a q r f =
-    subst (λ (z : Place). MeetsHead x z (queue_copy a q)) (sym (fetched p r (rows.Queue a q) f.free f.row))
+    subst (λ (z : FramePlace). MeetsHead x z (queue_copy a q)) (sym (fetched p r (rows.Queue a q) f.free f.row))
     (record {
       hand = refl;
       head = f.head;
@@ -50,12 +50,12 @@ copy_itd : (a u : ℕ) (v : Itd) → (fetched_itd a u v).itd ≡ v
 unfolding fetched_itd
 copy_itd a u v = refl
 
-pub descriptor_met : (x : Placed) (p : Place) (a : ℕ) (v : Itd) (r : Reply) → FetchesDescriptor x p a v → MeetsDescriptor x (after p r) (itd_copy p a v)
+pub descriptor_met : (x : Placed) (p : FramePlace) (a : ℕ) (v : Itd) (r : Reply) → FetchesDescriptor x p a v → MeetsDescriptor x (after p r) (itd_copy p a v)
 descriptor_met x p a v r f =
     let u = microframe_of p.walk.index in
     let few = few_packets v.dir_in v.multi (packets_for (slot_of u v).length v.max) f.some in
     let rest = copy_packets a u v in
-    subst (λ (z : Place). MeetsDescriptor x z (itd_copy p a v)) (sym (fetched p r (rows.Itd a v) f.free f.row))
+    subst (λ (z : FramePlace). MeetsDescriptor x z (itd_copy p a v)) (sym (fetched p r (rows.Itd a v) f.free f.row))
     (record {
       hand = refl;
       descriptor = record { speed = f.descriptor.speed; kind = f.descriptor.kind; max = ap (λ (w : Itd). w.max) (copy_itd a u v) ∙ f.descriptor.max };

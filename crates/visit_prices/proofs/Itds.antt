@@ -21,7 +21,7 @@ use Rattle.periodic_walk.specs.declared.itd.ItdRow.TheVariants as rows
 use Rattle.periodic_walk.specs.declared.state.Hand.{Hand}
 use Rattle.periodic_walk.specs.declared.state.Hand.TheVariants as hands
 use Rattle.periodic_walk.specs.Walk.{Walk}
-use Rattle.periodic_walk.specs.Place.{Place, sent}
+use Rattle.periodic_walk.specs.Place.{FramePlace, sent}
 use Rattle.periodic_walk.specs.Rows.{effect_at, effect_of}
 use Rattle.periodic_walk.specs.Itd.{timed_row, ended_row, itd_effect, itd_left_by, wrote_at}
 use Rattle.visit_prices.specs.Prices.{prices, Costs}
@@ -94,7 +94,7 @@ InHand size n (Some (hands.Queue h)) = ⊥
 InHand size n (Some (hands.Itd h)) = IsUnderWay size n h
 InHand size n (Some (hands.Sitd h)) = ⊥
 
-pub record ItdVisit (size n : ℕ) (p : Place) : Type 0 where
+pub record ItdVisit (size n : ℕ) (p : FramePlace) : Type 0 where
   pub hand : InHand size n p.walk.hand
 
 -- ---- a transaction
@@ -123,7 +123,7 @@ way : (size n : ℕ) (b : Bool) (h : HeldItd) (reply : Reply) → h.itd.max ≡ 
 way size n true h reply e next = in_way size n h reply e next
 way size n false h reply e next = out_way size n h e next
 
-sent_goes : (size n : ℕ) (all : Bool) (ask : Ask) (out : List ℕ) (h : HeldItd) (p there : Place) → there.walk ≡ p.walk → h.itd.max ≡ size → Next n h.rest None
+sent_goes : (size n : ℕ) (all : Bool) (ask : Ask) (out : List ℕ) (h : HeldItd) (p there : FramePlace) → there.walk ≡ p.walk → h.itd.max ≡ size → Next n h.rest None
     → Goes (ItdVisit size) (bus_time High Iso directions.In size) n p (sent all ask out (itd_left_by (itd_transaction h) h there) there)
 sent_goes size n true ask out h p there same e next = (
   omega (arith, next.0, next.1),
@@ -131,28 +131,28 @@ sent_goes size n true ask out h p there same e next = (
 )
 sent_goes size n false ask out h p there same e next = record { hand = tt }
 
-timed_goes : (size n : ℕ) (late : Bool) (h : HeldItd) (p : Place) → h.itd.max ≡ size → Next n h.rest None
+timed_goes : (size n : ℕ) (late : Bool) (h : HeldItd) (p : FramePlace) → h.itd.max ≡ size → Next n h.rest None
     → Goes (ItdVisit size) (bus_time High Iso directions.In size) n p (itd_effect (if late then rows.Skip else rows.Transact (itd_transaction h)) h p)
 timed_goes size n true h p e next = record { hand = tt }
 timed_goes size n false h p e next =
     sent_goes size n (itd_sending (itd_transaction h) h p.memory).all (itd_transaction h).ask (itd_sending (itd_transaction h) h p.memory).bytes h p
     (record p { memory = (itd_sending (itd_transaction h) h p.memory).memory }) refl e next
 
-open_goes : (size n : ℕ) (works : Bool) (h : HeldItd) (p : Place) → h.itd.max ≡ size → Next n h.rest None
+open_goes : (size n : ℕ) (works : Bool) (h : HeldItd) (p : FramePlace) → h.itd.max ≡ size → Next n h.rest None
     → Goes (ItdVisit size) (bus_time High Iso directions.In size) n p (itd_effect (if works then timed_row p.walk.left (itd_transaction h) else rows.Skip) h p)
 open_goes size n true h p e next = timed_goes size n (nat_lt p.walk.left (itd_transaction h).price.0) h p e next
 open_goes size n false h p e next = record { hand = tt }
 
-wrote_visit : (size n : ℕ) (all : Bool) (h : HeldItd) (ended : IsoEnd) (p : Place) → ItdVisit size n (wrote_at all h ended p)
+wrote_visit : (size n : ℕ) (all : Bool) (h : HeldItd) (ended : IsoEnd) (p : FramePlace) → ItdVisit size n (wrote_at all h ended p)
 wrote_visit size n true h ended p = record { hand = tt }
 wrote_visit size n false h ended p = record { hand = tt }
 
-ended_goes : (size n : ℕ) (p : Place) (h : HeldItd) (o : Option IsoEnd) → h.itd.max ≡ size → Next n h.rest o
+ended_goes : (size n : ℕ) (p : FramePlace) (h : HeldItd) (o : Option IsoEnd) → h.itd.max ≡ size → Next n h.rest o
     → Goes (ItdVisit size) (bus_time High Iso directions.In size) n p (itd_effect (ended_row p.walk.left h o) h p)
 ended_goes size n p h (Some ended) e next = wrote_visit size n (itd_written h p.walk.got p.memory).all h ended (record p { memory = (itd_written h p.walk.got p.memory).memory })
 ended_goes size n p h None e next = open_goes size n h.slot.active h p e next
 
-hand_goes : (size n : ℕ) (p : Place) (hand : Hand) → p.walk.hand ≡ Some hand → ItdVisit size n p → Goes (ItdVisit size) (bus_time High Iso directions.In size) n p (effect_of p)
+hand_goes : (size n : ℕ) (p : FramePlace) (hand : Hand) → p.walk.hand ≡ Some hand → ItdVisit size n p → Goes (ItdVisit size) (bus_time High Iso directions.In size) n p (effect_of p)
 hand_goes size n p (hands.Itd h) e v =
     let under : IsUnderWay size n h = subst (InHand size n) e v.hand in
     subst (λ (o : Option Hand). Goes (ItdVisit size) (bus_time High Iso directions.In size) n p (effect_at p o)) (sym e) (ended_goes size n p h h.ended under.max under.next)
@@ -161,7 +161,7 @@ hand_goes size n p (hands.Sitd h) e v = absurd (subst (InHand size n) e v.hand)
 
 -- ---- a visit
 
-itd_high : (size n : ℕ) (p : Place) (hand : Hand) → p.walk.hand ≡ Some hand → ItdVisit size n p → IsHighHand hand
+itd_high : (size n : ℕ) (p : FramePlace) (hand : Hand) → p.walk.hand ≡ Some hand → ItdVisit size n p → IsHighHand hand
 itd_high size n p (hands.Itd h) e v = tt
 itd_high size n p (hands.Queue h) e v = absurd (subst (InHand size n) e v.hand)
 itd_high size n p (hands.Sitd h) e v = absurd (subst (InHand size n) e v.hand)
@@ -173,14 +173,14 @@ both_not : (b c : Bool) → c ≡ false → (b && c) ≡ false
 both_not true c e = e
 both_not false c e = refl
 
-ended_prompt : (size n : ℕ) (p : Place) (h : HeldItd) (o : Option IsoEnd) → h.itd.max ≡ size → Next n h.rest o → n * bus_time High Iso directions.In size ≤ p.walk.left → is_late_itd p.walk.left h o ≡ false
+ended_prompt : (size n : ℕ) (p : FramePlace) (h : HeldItd) (o : Option IsoEnd) → h.itd.max ≡ size → Next n h.rest o → n * bus_time High Iso directions.In size ≤ p.walk.left → is_late_itd p.walk.left h o ≡ false
 ended_prompt size n p h (Some ended) e next enough = refl
 ended_prompt size n p h None e next enough =
     both_not h.slot.active (nat_lt p.walk.left (itd_transaction h).price.0)
     (not_late p.walk.left (itd_transaction h).price.0
     (enough_one n (bus_time High Iso directions.In size) p.walk.left (itd_transaction h).price.0 (omega (arith, next.0, next.1)) enough (itd_price size h e)))
 
-hand_prompt : (size n : ℕ) (p : Place) (hand : Hand) → p.walk.hand ≡ Some hand → ItdVisit size n p → n * bus_time High Iso directions.In size ≤ p.walk.left → is_late p ≡ false
+hand_prompt : (size n : ℕ) (p : FramePlace) (hand : Hand) → p.walk.hand ≡ Some hand → ItdVisit size n p → n * bus_time High Iso directions.In size ≤ p.walk.left → is_late p ≡ false
 hand_prompt size n p (hands.Itd h) e v enough =
     let under : IsUnderWay size n h = subst (InHand size n) e v.hand in
     subst (λ (o : Option Hand). is_late_at p o ≡ false) (sym e) (ended_prompt size n p h h.ended under.max under.next enough)
@@ -191,10 +191,10 @@ pub itd_prompt : (size : ℕ) → Prompt (ItdVisit size) (bus_time High Iso dire
 itd_prompt size = record { keeps = itd_keeps size; prompt = λ n p hand e v enough. hand_prompt size n p hand e v enough }
 
 -- a visit begins
-pub itd_begins : (size n : ℕ) (p : Place) (h : HeldItd) → p.walk.hand ≡ Some (hands.Itd h) → h.itd.max ≡ size → h.ended ≡ None → 1 ≤ h.rest → h.rest ≤ n → ItdVisit size n p
+pub itd_begins : (size n : ℕ) (p : FramePlace) (h : HeldItd) → p.walk.hand ≡ Some (hands.Itd h) → h.itd.max ≡ size → h.ended ≡ None → 1 ≤ h.rest → h.rest ≤ n → ItdVisit size n p
 itd_begins size n p h e max going some few =
     record { hand = subst (InHand size n) (sym e) (record { max = max; next = subst (Next n h.rest) (sym going) (some, few) }) }
 
 -- it costs at most so many packets of the largest size
-pub itd_costs : (size n : ℕ) (p : Place) (rs : List Reply) → ItdVisit size n p → Costs n (bus_time High Iso directions.In size) (prices p rs)
+pub itd_costs : (size n : ℕ) (p : FramePlace) (rs : List Reply) → ItdVisit size n p → Costs n (bus_time High Iso directions.In size) (prices p rs)
 itd_costs size n p rs v = along (ItdVisit size) (bus_time High Iso directions.In size) (λ m q hand. hand_goes size m q hand) n p rs v

@@ -14,7 +14,7 @@ use Rattle.bandwidth.specs.Placements.{has}
 use Rattle.bandwidth.specs.Sums.{Fits, is_active, load}
 use Rattle.iso_visits.specs.declared.held.HeldItd.{HeldItd}
 use Rattle.periodic_walk.specs.declared.state.HeldQueue.{HeldQueue}
-use Rattle.periodic_walk.specs.Place.{Place}
+use Rattle.periodic_walk.specs.Place.{FramePlace}
 use Rattle.visit_prices.specs.Prices.{prices, Costs}
 use Rattle.visit_prices.specs.Spent.{MeetsHead, MeetsDescriptor, Visit, visit_from, IsVisit, AreOfPlaced, ComesAfter, most_in, largest, total, spent}
 use Rattle.visit_prices.specs.Time.{late_in, ending}
@@ -34,7 +34,7 @@ all_of_it x u on own = rw (on, own) refl
 
 -- ---- a visit that begins
 
-queue_met : (x : Placed) (p : Place) (h : HeldQueue) → MeetsHead x p h → QueueVisit p.walk.index x.want.max x.want.multi (most_in x p.walk.index) p
+queue_met : (x : Placed) (p : FramePlace) (h : HeldQueue) → MeetsHead x p h → QueueVisit p.walk.index x.want.max x.want.multi (most_in x p.walk.index) p
 queue_met x p h met =
     queue_begins x.want.max x.want.multi (most_in x p.walk.index) p h met.hand (record { high = met.head.high; max = met.head.max; multi = met.head.multi; pid = met.begun.pid })
     (omega (arith, met.begun.few, met.head.multi)) met.begun.unsettled met.begun.none met.begun.active
@@ -42,11 +42,11 @@ queue_met x p h met =
     let all = all_of_it x p.walk.index met.frame (subst (λ mask. has mask (p.walk.index % 8) ≡ true) met.head.smask own) in
     (omega (arith, all, met.head.multi), omega (arith, all)))
 
-itd_met : (x : Placed) (p : Place) (h : HeldItd) → MeetsDescriptor x p h → ItdVisit x.want.max (most_in x p.walk.index) p
+itd_met : (x : Placed) (p : FramePlace) (h : HeldItd) → MeetsDescriptor x p h → ItdVisit x.want.max (most_in x p.walk.index) p
 itd_met x p h met =
     itd_begins x.want.max (most_in x p.walk.index) p h met.hand met.descriptor.max met.begun.going met.begun.some (omega (arith, met.begun.few, all_of_it x p.walk.index met.frame met.own))
 
-pub queue_visit : (x : Placed) (p : Place) (h : HeldQueue) (rs : List Reply) → MeetsHead x p h → IsVisit p.walk.index (visit_from x p rs)
+pub queue_visit : (x : Placed) (p : FramePlace) (h : HeldQueue) (rs : List Reply) → MeetsHead x p h → IsVisit p.walk.index (visit_from x p rs)
 queue_visit x p h rs met = record {
   speed = met.head.speed;
   costs =
@@ -54,7 +54,7 @@ queue_visit x p h rs met = record {
       (queue_costs p.walk.index x.want.max x.want.multi (most_in x p.walk.index) p rs (queue_met x p h met));
 }
 
-pub itd_visit : (x : Placed) (p : Place) (h : HeldItd) (rs : List Reply) → MeetsDescriptor x p h → IsVisit p.walk.index (visit_from x p rs)
+pub itd_visit : (x : Placed) (p : FramePlace) (h : HeldItd) (rs : List Reply) → MeetsDescriptor x p h → IsVisit p.walk.index (visit_from x p rs)
 itd_visit x p h rs met = record {
   speed = met.descriptor.speed;
   costs =
@@ -92,7 +92,7 @@ same_total (suc n) c =
 whole : Placed → ℕ → Visit
 whole x u = record { of = x; prices = replicate (most_in x u) (largest x.want) }
 
-time_left : (placed : List Placed) (u : ℕ) (vs : List Visit) (x : Placed) (p : Place) (rs : List Reply) → x.want.speed ≡ High → ComesAfter placed vs x p rs → p.walk.index ≡ u → most_in x u * largest x.want ≤ p.walk.left
+time_left : (placed : List Placed) (u : ℕ) (vs : List Visit) (x : Placed) (p : FramePlace) (rs : List Reply) → x.want.speed ≡ High → ComesAfter placed vs x p rs → p.walk.index ≡ u → most_in x u * largest x.want ≤ p.walk.left
 unfolding whole
 time_left placed u vs x p rs speed after at =
     let n = most_in x u in
@@ -104,22 +104,22 @@ time_left placed u vs x p rs speed after at =
     let all : spent (w ∷ vs) ≤ 100000000 = visits_leave placed u (w ∷ vs) after.fits small (record { among = after.of.among; apart = after.of.apart }) (good, those) in
     omega (arith, all, sum_by-cons (λ (v : Visit). total v.prices) w vs, same_total n c, after.left)
 
-pub queue_in_time : (placed : List Placed) (vs : List Visit) (x : Placed) (p : Place) (h : HeldQueue) (rs : List Reply) → ComesAfter placed vs x p rs → MeetsHead x p h → late_in p rs ≡ false
+pub queue_in_time : (placed : List Placed) (vs : List Visit) (x : Placed) (p : FramePlace) (h : HeldQueue) (rs : List Reply) → ComesAfter placed vs x p rs → MeetsHead x p h → late_in p rs ≡ false
 queue_in_time placed vs x p h rs after met =
     never_late (QueueVisit p.walk.index x.want.max x.want.multi) (bus_time High Interrupt directions.In x.want.max) (queue_prompt p.walk.index x.want.max x.want.multi) (most_in x p.walk.index) p rs (queue_met x p h met)
     (subst (λ c. most_in x p.walk.index * c ≤ p.walk.left) (sym (queue_price x met.head.kind)) (time_left placed p.walk.index vs x p rs met.head.speed after refl))
 
-pub itd_in_time : (placed : List Placed) (vs : List Visit) (x : Placed) (p : Place) (h : HeldItd) (rs : List Reply) → ComesAfter placed vs x p rs → MeetsDescriptor x p h → late_in p rs ≡ false
+pub itd_in_time : (placed : List Placed) (vs : List Visit) (x : Placed) (p : FramePlace) (h : HeldItd) (rs : List Reply) → ComesAfter placed vs x p rs → MeetsDescriptor x p h → late_in p rs ≡ false
 itd_in_time placed vs x p h rs after met =
     never_late (ItdVisit x.want.max) (bus_time High Iso directions.In x.want.max) (itd_prompt x.want.max) (most_in x p.walk.index) p rs (itd_met x p h met)
     (subst (λ c. most_in x p.walk.index * c ≤ p.walk.left) (sym (itd_price x met.descriptor.kind)) (time_left placed p.walk.index vs x p rs met.descriptor.speed after refl))
 
 -- ---- the time that a visit takes
 
-pub queue_takes : (x : Placed) (p : Place) (h : HeldQueue) (rs : List Reply) → MeetsHead x p h → total (prices p rs) + (ending p rs).walk.left ≡ p.walk.left
+pub queue_takes : (x : Placed) (p : FramePlace) (h : HeldQueue) (rs : List Reply) → MeetsHead x p h → total (prices p rs) + (ending p rs).walk.left ≡ p.walk.left
 queue_takes x p h rs met =
     all_paid (QueueVisit p.walk.index x.want.max x.want.multi) (bus_time High Interrupt directions.In x.want.max) (queue_keeps p.walk.index x.want.max x.want.multi) (most_in x p.walk.index) p rs (queue_met x p h met)
 
-pub itd_takes : (x : Placed) (p : Place) (h : HeldItd) (rs : List Reply) → MeetsDescriptor x p h → total (prices p rs) + (ending p rs).walk.left ≡ p.walk.left
+pub itd_takes : (x : Placed) (p : FramePlace) (h : HeldItd) (rs : List Reply) → MeetsDescriptor x p h → total (prices p rs) + (ending p rs).walk.left ≡ p.walk.left
 itd_takes x p h rs met =
     all_paid (ItdVisit x.want.max) (bus_time High Iso directions.In x.want.max) (itd_keeps x.want.max) (most_in x p.walk.index) p rs (itd_met x p h met)

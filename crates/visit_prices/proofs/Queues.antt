@@ -38,7 +38,7 @@ use Rattle.periodic_walk.specs.declared.state.HeldQueue.{HeldQueue}
 use Rattle.periodic_walk.specs.declared.state.Hand.{Hand}
 use Rattle.periodic_walk.specs.declared.state.Hand.TheVariants as hands
 use Rattle.periodic_walk.specs.Walk.{Walk}
-use Rattle.periodic_walk.specs.Place.{Place, reading, holding, passed, sent}
+use Rattle.periodic_walk.specs.Place.{FramePlace, reading, holding, passed, sent}
 use Rattle.periodic_walk.specs.Rows.{effect_at, effect_of}
 use Rattle.periodic_walk.specs.Queue.{turn_row, turn_read, settled_row, settled_read, queue_effect, queue_left_by, wrote_at, writing}
 use Rattle.visit_prices.specs.Prices.{prices, Costs}
@@ -134,7 +134,7 @@ InHand f size most n (Some (hands.Queue h)) = IsUnderWay f size most n h
 InHand f size most n (Some (hands.Itd h)) = ⊥
 InHand f size most n (Some (hands.Sitd h)) = ⊥
 
-pub record QueueVisit (f size most n : ℕ) (p : Place) : Type 0 where
+pub record QueueVisit (f size most n : ℕ) (p : FramePlace) : Type 0 where
   pub index : p.walk.index ≡ f
   pub hand : InHand f size most n p.walk.hand
 
@@ -163,7 +163,7 @@ visit_index : (h : HeldQueue) (outcome : Outcome) (w : Walk) (b : Bool)
 visit_index h outcome w true = refl
 visit_index h outcome w false = refl
 
-wrote_visit : (f size most n : ℕ) (all : Bool) (h : HeldQueue) (outcome : Outcome) (p : Place) → p.walk.index ≡ f → IsHigh size most h.copy.queue_head → most ≤ 255 → most ≤ h.made + n
+wrote_visit : (f size most n : ℕ) (all : Bool) (h : HeldQueue) (outcome : Outcome) (p : FramePlace) → p.walk.index ≡ f → IsHigh size most h.copy.queue_head → most ≤ 255 → most ≤ h.made + n
     → QueueVisit f size most n (wrote_at all h outcome p)
 wrote_visit f size most n true h outcome p at high few left = record {
   index = visit_index h outcome p.walk (goes_on h.made h.copy.queue_head outcome) ∙ at;
@@ -173,7 +173,7 @@ wrote_visit f size most n false h outcome p at high few left = record { index = 
 
 -- ---- a transaction
 
-transact_visit : (f size most n : ℕ) (t : Transaction) (out : List ℕ) (h : HeldQueue) (p : Place) (reply : Reply) → t.split ≡ Plain → p.walk.index ≡ f → IsHigh size most h.copy.queue_head → most ≤ 255
+transact_visit : (f size most n : ℕ) (t : Transaction) (out : List ℕ) (h : HeldQueue) (p : FramePlace) (reply : Reply) → t.split ≡ Plain → p.walk.index ≡ f → IsHigh size most h.copy.queue_head → most ≤ 255
     → 1 ≤ n → most ≤ h.made + n → QueueVisit f size most (n - 1) (queue_left_by t out h p reply)
 transact_visit f size most n t out h p reply e at high few some left = record {
   index = at;
@@ -184,7 +184,7 @@ transact_visit f size most n t out h p reply e at high few some left = record {
   };
 }
 
-sent_goes : (f size most n : ℕ) (all : Bool) (t : Transaction) (out : List ℕ) (last : Bool) (h : HeldQueue) (p there : Place) → t.split ≡ Plain → t.price.0 ≤ bus_time High Interrupt directions.In size
+sent_goes : (f size most n : ℕ) (all : Bool) (t : Transaction) (out : List ℕ) (last : Bool) (h : HeldQueue) (p there : FramePlace) → t.split ≡ Plain → t.price.0 ≤ bus_time High Interrupt directions.In size
     → there.walk ≡ p.walk → p.walk.index ≡ f → IsHigh size most h.copy.queue_head → most ≤ 255 → 1 ≤ n → most ≤ h.made + n
     → Goes (QueueVisit f size most) (bus_time High Interrupt directions.In size) n p (sent all (call_in t out last).ask (call_in t out last).out (queue_left_by t out h there) there)
 sent_goes f size most n true t out last h p there e price same at high few some left = (
@@ -197,7 +197,7 @@ sent_goes f size most n true t out last h p there e price same at high few some 
 sent_goes f size most n false t out last h p there e price same at high few some left =
     record { index = ap (λ (w : Walk). w.index) same ∙ at; hand = tt }
 
-timed_goes : (f size most n : ℕ) (late : Bool) (h : HeldQueue) (p there : Place) → there.walk ≡ p.walk → p.walk.index ≡ f → IsHigh size most h.copy.queue_head → most ≤ 255 → 1 ≤ n → most ≤ h.made + n
+timed_goes : (f size most n : ℕ) (late : Bool) (h : HeldQueue) (p there : FramePlace) → there.walk ≡ p.walk → p.walk.index ≡ f → IsHigh size most h.copy.queue_head → most ≤ 255 → 1 ≤ n → most ≤ h.made + n
     → Goes (QueueVisit f size most) (bus_time High Interrupt directions.In size) n p (queue_effect (if late then rows.Skip else rows.Transact (planned h.copy.queue_head)) h there)
 timed_goes f size most n true h p there same at high few some left = record { index = ap (λ (w : Walk). w.index) same ∙ at; hand = tt }
 timed_goes f size most n false h p there same at high few some left =
@@ -223,7 +223,7 @@ high_turn f q high active =
 
 -- ---- any event
 
-settled_goes : (f size most n : ℕ) (p : Place) (h : HeldQueue) (o : Option Outcome) → p.walk.index ≡ f → IsHigh size most h.copy.queue_head → most ≤ 255 → Next f most n h.made h.copy.queue_head o
+settled_goes : (f size most n : ℕ) (p : FramePlace) (h : HeldQueue) (o : Option Outcome) → p.walk.index ≡ f → IsHigh size most h.copy.queue_head → most ≤ 255 → Next f most n h.made h.copy.queue_head o
     → Goes (QueueVisit f size most) (bus_time High Interrupt directions.In size) n p
     (queue_effect (settled_row p.memory p.walk.left p.walk.index h.copy.queue_head o) h (reading (settled_read p.memory p.walk.index h.copy.queue_head o) p))
 settled_goes f size most n p h (Some outcome) at high few next =
@@ -240,7 +240,7 @@ settled_goes f size most n p h None at high few next =
           (timed_goes f size most n (nat_lt p.walk.left (planned h.copy.queue_head).price.0) h p (reading p.memory p) refl at high few ready.0 ready.1)
     ]
 
-hand_goes : (f size most n : ℕ) (p : Place) (hand : Hand) → p.walk.hand ≡ Some hand → QueueVisit f size most n p → Goes (QueueVisit f size most) (bus_time High Interrupt directions.In size) n p (effect_of p)
+hand_goes : (f size most n : ℕ) (p : FramePlace) (hand : Hand) → p.walk.hand ≡ Some hand → QueueVisit f size most n p → Goes (QueueVisit f size most) (bus_time High Interrupt directions.In size) n p (effect_of p)
 hand_goes f size most n p (hands.Queue h) e v =
     let way : IsUnderWay f size most n h = subst (InHand f size most n) e v.hand in
     subst (λ (o : Option Hand). Goes (QueueVisit f size most) (bus_time High Interrupt directions.In size) n p (effect_at p o)) (sym e)
@@ -250,7 +250,7 @@ hand_goes f size most n p (hands.Sitd h) e v = absurd (subst (InHand f size most
 
 -- ---- a visit
 
-queue_high : (f size most n : ℕ) (p : Place) (hand : Hand) → p.walk.hand ≡ Some hand → QueueVisit f size most n p → IsHighHand hand
+queue_high : (f size most n : ℕ) (p : FramePlace) (hand : Hand) → p.walk.hand ≡ Some hand → QueueVisit f size most n p → IsHighHand hand
 queue_high f size most n p (hands.Queue h) e v = tt
 queue_high f size most n p (hands.Itd h) e v = absurd (subst (InHand f size most n) e v.hand)
 queue_high f size most n p (hands.Sitd h) e v = absurd (subst (InHand f size most n) e v.hand)
@@ -266,7 +266,7 @@ enough_one n c left price some enough small =
 pub not_late : (left price : ℕ) → price ≤ left → nat_lt left price ≡ false
 not_late left price h = grind (arith, nat_tests, h)
 
-settled_prompt : (f size most n : ℕ) (p : Place) (h : HeldQueue) (o : Option Outcome) → p.walk.index ≡ f → IsHigh size most h.copy.queue_head → Next f most n h.made h.copy.queue_head o
+settled_prompt : (f size most n : ℕ) (p : FramePlace) (h : HeldQueue) (o : Option Outcome) → p.walk.index ≡ f → IsHigh size most h.copy.queue_head → Next f most n h.made h.copy.queue_head o
     → n * bus_time High Interrupt directions.In size ≤ p.walk.left → is_late_queue p.walk.left p.walk.index h.copy.queue_head o ≡ false
 settled_prompt f size most n p h (Some outcome) at high next enough = refl
 settled_prompt f size most n p h None at high next enough =
@@ -279,7 +279,7 @@ settled_prompt f size most n p h None at high next enough =
           (enough_one n (bus_time High Interrupt directions.In size) p.walk.left (planned h.copy.queue_head).price.0 ready.0 enough (planned_price size most h.copy.queue_head high)))
     ]
 
-hand_prompt : (f size most n : ℕ) (p : Place) (hand : Hand) → p.walk.hand ≡ Some hand → QueueVisit f size most n p → n * bus_time High Interrupt directions.In size ≤ p.walk.left → is_late p ≡ false
+hand_prompt : (f size most n : ℕ) (p : FramePlace) (hand : Hand) → p.walk.hand ≡ Some hand → QueueVisit f size most n p → n * bus_time High Interrupt directions.In size ≤ p.walk.left → is_late p ≡ false
 hand_prompt f size most n p (hands.Queue h) e v enough =
     let way : IsUnderWay f size most n h = subst (InHand f size most n) e v.hand in
     subst (λ (o : Option Hand). is_late_at p o ≡ false) (sym e) (settled_prompt f size most n p h h.copy.settled v.index way.high way.next enough)
@@ -290,7 +290,7 @@ pub queue_prompt : (f size most : ℕ) → Prompt (QueueVisit f size most) (bus_
 queue_prompt f size most = record { keeps = queue_keeps f size most; prompt = λ n p hand e v enough. hand_prompt f size most n p hand e v enough }
 
 -- a visit begins
-pub queue_begins : (size most n : ℕ) (p : Place) (h : HeldQueue) → p.walk.hand ≡ Some (hands.Queue h) → IsHigh size most h.copy.queue_head → most ≤ 255 → h.copy.settled ≡ None
+pub queue_begins : (size most n : ℕ) (p : FramePlace) (h : HeldQueue) → p.walk.hand ≡ Some (hands.Queue h) → IsHigh size most h.copy.queue_head → most ≤ 255 → h.copy.settled ≡ None
     → h.made ≡ 0 → h.copy.queue_head.token.active ≡ true → (has h.copy.queue_head.smask (microframe_of p.walk.index) ≡ true → (1 ≤ n) × (most ≤ n)) → QueueVisit p.walk.index size most n p
 queue_begins size most n p h e high few unsettled none active own = record {
   index = refl;
@@ -306,5 +306,5 @@ queue_begins size most n p h e high few unsettled none active own = record {
 }
 
 -- it costs at most so many transactions of the largest packet
-pub queue_costs : (f size most n : ℕ) (p : Place) (rs : List Reply) → QueueVisit f size most n p → Costs n (bus_time High Interrupt directions.In size) (prices p rs)
+pub queue_costs : (f size most n : ℕ) (p : FramePlace) (rs : List Reply) → QueueVisit f size most n p → Costs n (bus_time High Interrupt directions.In size) (prices p rs)
 queue_costs f size most n p rs v = along (QueueVisit f size most) (bus_time High Interrupt directions.In size) (λ m q hand. hand_goes f size most m q hand) n p rs v

@@ -16,16 +16,16 @@ use Rattle.bandwidth.specs.Sums.{is_active}
 use Rattle.periodic_walk.specs.declared.chain.ChainRow.TheVariants as rows
 use Rattle.periodic_walk.specs.declared.state.HeldQueue.{HeldQueue}
 use Rattle.periodic_walk.specs.Chain.{chain_row}
-use Rattle.periodic_walk.specs.Place.{Place}
+use Rattle.periodic_walk.specs.Place.{FramePlace}
 use Rattle.visit_prices.specs.Spent.{IsHeadOf, IsItdOf}
 
 abbrev pub queue_copy : ℕ → Qh → HeldQueue
 queue_copy a q = record { copy = record { at = a; queue_head = q; settled = None }; made = 0 }
 
-abbrev pub itd_copy : Place → ℕ → Itd → HeldItd
+abbrev pub itd_copy : FramePlace → ℕ → Itd → HeldItd
 itd_copy p a v = fetched_itd a (microframe_of p.walk.index) v
 
-pub record FetchesHead (x : Placed) (p : Place) (a : ℕ) (q : Qh) : Type 0 where
+pub record FetchesHead (x : Placed) (p : FramePlace) (a : ℕ) (q : Qh) : Type 0 where
   pub free : p.walk.hand ≡ None
   pub row : chain_row p.memory p.walk.cursor ≡ rows.Queue a q
   pub head : IsHeadOf x q
@@ -34,7 +34,7 @@ pub record FetchesHead (x : Placed) (p : Place) (a : ℕ) (q : Qh) : Type 0 wher
   pub few : most_of q ≤ 3
   pub frame : is_active x.placement (p.walk.index / 8) ≡ true
 
-pub record FetchesDescriptor (x : Placed) (p : Place) (a : ℕ) (v : Itd) : Type 0 where
+pub record FetchesDescriptor (x : Placed) (p : FramePlace) (a : ℕ) (v : Itd) : Type 0 where
   pub free : p.walk.hand ≡ None
   pub row : chain_row p.memory p.walk.cursor ≡ rows.Itd a v
   pub descriptor : IsItdOf x v

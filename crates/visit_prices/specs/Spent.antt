@@ -27,7 +27,7 @@ use Rattle.bandwidth.specs.Placements.{has}
 use Rattle.bandwidth.specs.Sums.{Fits, is_active}
 use Rattle.usb_base.specs.declared.packets.Reply.{Reply}
 use Rattle.periodic_walk.specs.declared.state.Hand.TheVariants as hands
-use Rattle.periodic_walk.specs.Place.{Place}
+use Rattle.periodic_walk.specs.Place.{FramePlace}
 use Rattle.visit_prices.specs.Prices.{prices, Costs}
 
 pub record IsHeadOf (x : Placed) (q : Qh) : Type 0 where
@@ -74,18 +74,18 @@ pub record Visit : Type 0 where
   pub prices : List ℕ
 
 -- from this place on, over these replies
-abbrev pub visit_from : Placed → Place → List Reply → Visit
+abbrev pub visit_from : Placed → FramePlace → List Reply → Visit
 visit_from x p rs = record { of = x; prices = prices p rs }
 
 -- its queue head was just fetched, in a frame of its placement
-pub record MeetsHead (x : Placed) (p : Place) (h : HeldQueue) : Type 0 where
+pub record MeetsHead (x : Placed) (p : FramePlace) (h : HeldQueue) : Type 0 where
   pub hand : p.walk.hand ≡ Some (hands.Queue h)
   pub head : IsHeadOf x h.copy.queue_head
   pub begun : IsBegun h
   pub frame : is_active x.placement (p.walk.index / 8) ≡ true
 
 -- its descriptor was just fetched, in a microframe of its placement
-pub record MeetsDescriptor (x : Placed) (p : Place) (h : HeldItd) : Type 0 where
+pub record MeetsDescriptor (x : Placed) (p : FramePlace) (h : HeldItd) : Type 0 where
   pub hand : p.walk.hand ≡ Some (hands.Itd h)
   pub descriptor : IsItdOf x h.itd
   pub begun : IsItdBegun x h
@@ -115,7 +115,7 @@ abbrev pub spent : List Visit → ℕ
 spent vs = sum_by (λ v. total v.prices) vs
 
 -- a visit that begins at p comes after these visits of its microframe, of whose 125 microseconds they took what they cost
-pub record ComesAfter (placed : List Placed) (vs : List Visit) (x : Placed) (p : Place) (rs : List Reply) : Type 0 where
+pub record ComesAfter (placed : List Placed) (vs : List Visit) (x : Placed) (p : FramePlace) (rs : List Reply) : Type 0 where
   pub fits : Fits placed
   pub small : p.walk.index < 8192
   pub of : AreOfPlaced placed (visit_from x p rs ∷ vs)

@@ -15,7 +15,7 @@ use Rattle.iso_visits.specs.declared.held.IsoEnd.{IsoEnd}
 use Rattle.iso_visits.specs.Itd.{itd_transaction}
 use Rattle.periodic_walk.specs.declared.state.Hand.{Hand}
 use Rattle.periodic_walk.specs.declared.state.Hand.TheVariants as hands
-use Rattle.periodic_walk.specs.Place.{Place}
+use Rattle.periodic_walk.specs.Place.{FramePlace}
 use Rattle.visit_prices.specs.Prices.{after}
 
 abbrev pub is_late_turn : ℕ → Qh → Turn → Bool
@@ -34,19 +34,19 @@ is_late_itd left h None = h.slot.active && nat_lt left (itd_transaction h).price
 is_late_itd left h (Some ended) = false
 
 -- of queue heads and of descriptors of high-speed endpoints
-abbrev pub is_late_at : Place → Option Hand → Bool
+abbrev pub is_late_at : FramePlace → Option Hand → Bool
 is_late_at p None = false
 is_late_at p (Some (hands.Queue h)) = is_late_queue p.walk.left p.walk.index h.copy.queue_head h.copy.settled
 is_late_at p (Some (hands.Itd h)) = is_late_itd p.walk.left h h.ended
 is_late_at p (Some (hands.Sitd h)) = false
 
-abbrev pub is_late : Place → Bool
+abbrev pub is_late : FramePlace → Bool
 is_late p = is_late_at p p.walk.hand
 
-unfoldable pub late_in : Place → List Reply → Bool
+unfoldable pub late_in : FramePlace → List Reply → Bool
 late_in p [] = false
 late_in p (r ∷ rs) = is_some p.walk.hand && (is_late p || late_in (after p r) rs)
 
-unfoldable pub ending : Place → List Reply → Place
+unfoldable pub ending : FramePlace → List Reply → FramePlace
 ending p [] = p
 ending p (r ∷ rs) = if is_none p.walk.hand then p else ending (after p r) rs

@@ -15,7 +15,7 @@ ghost use Rattle.bandwidth.specs.declared.placements.Placed.{Placed};
 ghost use Rattle.bandwidth.specs.Sums.{Fits, load};
 ghost use Rattle.iso_visits.specs.declared.held.HeldItd.{HeldItd};
 ghost use Rattle.periodic_walk.specs.declared.state.HeldQueue.{HeldQueue};
-ghost use Rattle.periodic_walk.specs.Place.{Place};
+ghost use Rattle.periodic_walk.specs.Place.{FramePlace};
 ghost use Rattle.usb_base.specs.declared.endpoints.EpDesc.{EpDesc};
 ghost use Rattle.usb_base.specs.declared.packets.EpKind.TheVariants.{Interrupt, Iso};
 ghost use Rattle.usb_base.specs.declared.packets.Speed.TheVariants.{High};
@@ -32,12 +32,12 @@ ghost use Rattle.visit_prices.specs.Time.{late_in, ending};
 
 /// A visit to the queue head of a placed high-speed interrupt endpoint, from its fetch on, in a frame of the placement.
 pub fn queue_visits_cost_their_placement()
-    ensures { (x : Placed) (p : Place) (h : HeldQueue) (rs : List Reply) → MeetsHead x p h → IsVisit p.walk.index (visit_from x p rs) }
+    ensures { (x : Placed) (p : FramePlace) (h : HeldQueue) (rs : List Reply) → MeetsHead x p h → IsVisit p.walk.index (visit_from x p rs) }
 {}
 
 /// A visit to the descriptor of a placed high-speed isochronous endpoint, from its fetch on, in a frame of the placement.
 pub fn descriptor_visits_cost_their_placement()
-    ensures { (x : Placed) (p : Place) (h : HeldItd) (rs : List Reply) → MeetsDescriptor x p h → IsVisit p.walk.index (visit_from x p rs) }
+    ensures { (x : Placed) (p : FramePlace) (h : HeldItd) (rs : List Reply) → MeetsDescriptor x p h → IsVisit p.walk.index (visit_from x p rs) }
 {}
 
 /// Visits of one microframe to different placed endpoints cost together at most its load.
@@ -55,24 +55,24 @@ pub fn visits_leave_a_fifth()
 /// Such a visit takes of the time left what its transactions cost, and nothing else.
 #[tactic(auto, using(crate::proofs::Joined::queue_takes))]
 pub fn queue_visits_take_their_prices()
-    ensures { (x : Placed) (p : Place) (h : HeldQueue) (rs : List Reply) → MeetsHead x p h → total (prices p rs) + (ending p rs).walk.left ≡ p.walk.left }
+    ensures { (x : Placed) (p : FramePlace) (h : HeldQueue) (rs : List Reply) → MeetsHead x p h → total (prices p rs) + (ending p rs).walk.left ≡ p.walk.left }
 {}
 
 /// The same of a descriptor.
 #[tactic(auto, using(crate::proofs::Joined::itd_takes))]
 pub fn descriptor_visits_take_their_prices()
-    ensures { (x : Placed) (p : Place) (h : HeldItd) (rs : List Reply) → MeetsDescriptor x p h → total (prices p rs) + (ending p rs).walk.left ≡ p.walk.left }
+    ensures { (x : Placed) (p : FramePlace) (h : HeldItd) (rs : List Reply) → MeetsDescriptor x p h → total (prices p rs) + (ending p rs).walk.left ≡ p.walk.left }
 {}
 
 /// Where the plan fits, no transaction of a visit to an interrupt endpoint is skipped for want of time, whatever was visited before it in
 /// the microframe.
 pub fn queue_visits_are_in_time()
-    ensures { (placed : List Placed) (vs : List Visit) (x : Placed) (p : Place) (h : HeldQueue) (rs : List Reply) → ComesAfter placed vs x p rs → MeetsHead x p h → late_in p rs ≡ false }
+    ensures { (placed : List Placed) (vs : List Visit) (x : Placed) (p : FramePlace) (h : HeldQueue) (rs : List Reply) → ComesAfter placed vs x p rs → MeetsHead x p h → late_in p rs ≡ false }
 {}
 
 /// The same of a descriptor.
 pub fn descriptor_visits_are_in_time()
-    ensures { (placed : List Placed) (vs : List Visit) (x : Placed) (p : Place) (h : HeldItd) (rs : List Reply) → ComesAfter placed vs x p rs → MeetsDescriptor x p h → late_in p rs ≡ false }
+    ensures { (placed : List Placed) (vs : List Visit) (x : Placed) (p : FramePlace) (h : HeldItd) (rs : List Reply) → ComesAfter placed vs x p rs → MeetsDescriptor x p h → late_in p rs ≡ false }
 {}
 
 /// The queue head that the driver writes for a high-speed interrupt endpoint at its placement is that of the placed endpoint.
@@ -89,10 +89,10 @@ pub fn written_descriptors_are_of_their_placement()
 
 /// A fetch of its queue head begins such a visit.
 pub fn fetches_of_queue_heads_begin_visits()
-    ensures { (x : Placed) (p : Place) (a : ℕ) (q : Head) (r : Reply) → FetchesHead x p a q → MeetsHead x (after p r) (queue_copy a q) }
+    ensures { (x : Placed) (p : FramePlace) (a : ℕ) (q : Head) (r : Reply) → FetchesHead x p a q → MeetsHead x (after p r) (queue_copy a q) }
 {}
 
 /// So does one of its descriptor.
 pub fn fetches_of_descriptors_begin_visits()
-    ensures { (x : Placed) (p : Place) (a : ℕ) (v : Descriptor) (r : Reply) → FetchesDescriptor x p a v → MeetsDescriptor x (after p r) (itd_copy p a v) }
+    ensures { (x : Placed) (p : FramePlace) (a : ℕ) (v : Descriptor) (r : Reply) → FetchesDescriptor x p a v → MeetsDescriptor x (after p r) (itd_copy p a v) }
 {}

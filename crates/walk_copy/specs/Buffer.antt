@@ -5,7 +5,7 @@ use Rattle.word_mem.specs.Memory.{Mem, refused}
 use Rattle.buffers.specs.Bytes.{bytes_at, stored, all_reached}
 use Rattle.qh_qtd.specs.declared.queue_head.Qh.{Qh}
 use Rattle.walk_copy.specs.declared.held.Transaction.{Transaction}
-use Rattle.walk_copy.specs.Overlay.{pages_of, place_of}
+use Rattle.walk_copy.specs.Overlay.{pages_of, buffer_place}
 
 -- the bytes of these pages
 abbrev pub size_of : List ℕ → ℕ
@@ -30,7 +30,7 @@ bytes_read pages from n m = record {
 
 -- the bytes that a transaction sends
 abbrev pub sending : Transaction → Qh → Mem → Reading
-sending t q m = bytes_read (pages_of q) (place_of q) t.bytes m
+sending t q m = bytes_read (pages_of q) (buffer_place q) t.bytes m
 
 -- ---- writing
 

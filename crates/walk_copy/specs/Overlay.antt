@@ -52,8 +52,8 @@ abbrev pub pages_of : Qh → List ℕ
 pages_of q = q.page0 ∷ q.page1 ∷ q.page2 ∷ q.page3 ∷ q.page4 ∷ []
 
 -- the place of the next byte, counted from the start of the first page
-abbrev pub place_of : Qh → ℕ
-place_of q = q.token.c_page * 4096 + q.offset
+abbrev pub buffer_place : Qh → ℕ
+buffer_place q = q.token.c_page * 4096 + q.offset
 
 -- n bytes were moved: the page rises by one for each page end that was reached, up to the last page
 unfoldable pub moved : Qh → ℕ → Qh

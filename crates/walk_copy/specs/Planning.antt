@@ -2,7 +2,7 @@
 use Rattle.std.specs.Prelude.{◌≢◌, ℕ, ◌<◌, ◌≤◌, Bool, true, false, not, ◌==◌, if◌then◌else◌}
 use Rattle.usb_base.specs.declared.packets.EpKind.{EpKind}
 use Rattle.usb_base.specs.declared.packets.EpKind.TheVariants.{Iso}
-use Rattle.usb_base.specs.declared.packets.Part.TheVariants as parts
+use Rattle.usb_base.specs.declared.packets.DataPart.TheVariants as parts
 use Rattle.usb_base.specs.declared.packets.Pid.{Pid}
 use Rattle.usb_base.specs.declared.packets.Pid.TheVariants.{In, Out, Setup}
 use Rattle.usb_base.specs.declared.packets.Speed.{Speed}
@@ -29,8 +29,8 @@ abbrev pub speed_at : ℕ → Speed
 speed_at eps = if eps == 0 then Full else if eps == 1 then Low else High
 
 -- the endpoint of a queue head; of which kind it is, its schedule tells
-abbrev pub pipe_of : EpKind → Qh → Pipe
-pipe_of kind q = record {
+abbrev pub queue_pipe : EpKind → Qh → Pipe
+queue_pipe kind q = record {
   addr = q.addr;
   ep = q.ep;
   speed = speed_at q.eps;
@@ -76,7 +76,7 @@ transaction_at split pipe host = record {
 
 abbrev pub transaction_of : EpKind → Qh → Transaction
 transaction_of kind q =
-    let pipe : Pipe = pipe_of kind q in
+    let pipe : Pipe = queue_pipe kind q in
     transaction_at (split_at (q.eps == 2) q.token.split_state pipe) pipe (host_in q)
 
 -- it can be made: its numbers are in their ranges

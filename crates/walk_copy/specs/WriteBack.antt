@@ -10,7 +10,7 @@ use Rattle.toggle_error.specs.declared.host.Outcome.TheVariants as outcomes
 use Rattle.transactions.specs.Calls.{got_of}
 use Rattle.queue_words.specs.Structures.{reaches_queue_head, overlay_words, overlay_written, token_written}
 use Rattle.walk_copy.specs.Planning.{pid_at}
-use Rattle.walk_copy.specs.Overlay.{pages_of, place_of, moved}
+use Rattle.walk_copy.specs.Overlay.{pages_of, buffer_place, moved}
 use Rattle.walk_copy.specs.Buffer.{Writing, bytes_written}
 
 -- words 3 to 11 of the queue head are written to the address a
@@ -46,7 +46,7 @@ token_back q m =
 unfoldable pub written_back : ℕ → Qh → Outcome → List ℕ → Mem → Writing
 written_back a q outcome got m =
     let new : Qh = moved q (moved_by outcome) in
-    then_write (then_write (bytes_written (pages_of q) (place_of q) got m) (overlay_back a new)) (token_back new)
+    then_write (then_write (bytes_written (pages_of q) (buffer_place q) got m) (overlay_back a new)) (token_back new)
 
 -- ---- what is raised
 

@@ -2,7 +2,7 @@ ghost use Rattle.std.specs.Prelude.{◌≡◌, ◌+◌, ◌*◌, ◌≤◌, leng
 ghost use Rattle.word_mem.specs.Access.{IsByController};
 ghost use Rattle.qh_qtd.specs.QueueHead.{IsQhInRange};
 ghost use Rattle.buffers.specs.Bytes.{ArePages};
-ghost use Rattle.walk_copy.specs.Overlay.{pages_of, place_of};
+ghost use Rattle.walk_copy.specs.Overlay.{pages_of, buffer_place};
 ghost use Rattle.walk_copy.specs.Buffer.{size_of, bytes_read, sending, bytes_written};
 
 use crate::held::Transaction;

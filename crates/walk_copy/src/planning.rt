@@ -1,14 +1,14 @@
 ghost use Rattle.std.specs.Prelude.{◌≡◌, ◌≢◌, ◌≤◌, ◌==◌};
 ghost use Rattle.usb_base.specs.declared.packets.EpKind.TheVariants.{Iso};
 ghost use Rattle.qh_qtd.specs.QueueHead.{IsQhInRange};
-ghost use Rattle.walk_copy.specs.Planning.{pid_at, speed_at, pipe_of, split_at, carries, bytes_out, transaction_at, transaction_of, CanBeMade};
+ghost use Rattle.walk_copy.specs.Planning.{pid_at, speed_at, queue_pipe, split_at, carries, bytes_out, transaction_at, transaction_of, CanBeMade};
 
 use crate::held::Transaction;
 use host_token::host_of;
 use qh_qtd::Qh;
 use toggle_error::HostSide;
 use transactions::{Pipe, price_of_bytes};
-use usb_base::{DevAddr, EpKind, EpNum, Part, Pid, Speed, Split};
+use usb_base::{DataPart, DevAddr, EpKind, EpNum, Pid, Speed, Split};
 
 /// The token that a PID code names: 0 is OUT, 1 IN, 2 SETUP (EHCI 1.0, 3.5.3).
 pub fn pid_of(code: u8) -> Pid
@@ -34,7 +34,7 @@ fn speed(eps: u8) -> Speed
 /// The endpoint of a queue head (EHCI 1.0, 3.6.2); of which `kind` it is, its schedule tells.
 pub fn pipe(queue_head: &Qh, kind: EpKind) -> Pipe
     requires { IsQhInRange queue_head.now }
-    ensures { result ≡ pipe_of kind queue_head.now }
+    ensures { result ≡ queue_pipe kind queue_head.now }
 {
     Pipe {
         addr: DevAddr::new(queue_head.addr).unwrap(),
@@ -44,7 +44,7 @@ pub fn pipe(queue_head: &Qh, kind: EpKind) -> Pipe
         pid: pid_of(queue_head.token.pid),
         hub: DevAddr::new(queue_head.hub).unwrap(),
         port: queue_head.port,
-        part: Part::All,
+        part: DataPart::All,
     }
 }
 

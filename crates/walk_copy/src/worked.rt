@@ -2,7 +2,7 @@
 ghost use Rattle.std.specs.Prelude.{◌≡◌, ◌∷◌, [], true, false};
 ghost use Rattle.usb_base.specs.declared.endpoints.EndCause.TheVariants as causes;
 ghost use Rattle.usb_base.specs.declared.packets.EpKind.TheVariants.{Bulk, Control, Interrupt};
-ghost use Rattle.usb_base.specs.declared.packets.Part.TheVariants.{All};
+ghost use Rattle.usb_base.specs.declared.packets.DataPart.TheVariants.{All};
 ghost use Rattle.usb_base.specs.declared.packets.Pid.TheVariants as pids;
 ghost use Rattle.usb_base.specs.declared.packets.Reply.TheVariants.{Silent, Bytes, Hand};
 ghost use Rattle.usb_base.specs.declared.packets.Split.TheVariants.{Plain, Start, Complete};
@@ -12,7 +12,7 @@ ghost use Rattle.toggle_error.specs.declared.host.Outcome.TheVariants.{Moved, Na
 ghost use Rattle.walk_copy.specs.declared.held.Visit.TheVariants.{Rest, Work, Take};
 ghost use Rattle.walk_copy.specs.Visits.{visit_of};
 ghost use Rattle.walk_copy.specs.Planning.{pid_at, carries, transaction_of};
-ghost use Rattle.walk_copy.specs.Overlay.{advanced, pages_of, place_of, moved};
+ghost use Rattle.walk_copy.specs.Overlay.{advanced, pages_of, buffer_place, moved};
 ghost use Rattle.walk_copy.specs.Buffer.{placed};
 ghost use Rattle.walk_copy.specs.WriteBack.{moved_by, received, is_short, is_error, interrupts};
 ghost use Rattle.walk_copy.specs.Samples.{moving, bulk_in, bulk_out, setup, full_in, full_out, ring_head, counted, done, short_qtd};
@@ -83,7 +83,7 @@ pub fn transactions_planned()
 /// The place in the buffer: the page rises where its end is reached, and page 4 is the last (3.5.4).
 #[tactic(auto, unfolding(crate::specs::Overlay::moved))]
 pub fn places_moved()
-    ensures place { place_of bulk_in ≡ 4093 }
+    ensures place { buffer_place bulk_in ≡ 4093 }
     ensures within { moved bulk_in 2 ≡ record bulk_in { offset = 0xFFF } }
     ensures nothing { moved bulk_in 0 ≡ bulk_in }
     ensures to_the_end { moved bulk_in 3 ≡ record bulk_in { offset = 0; token = record moving { c_page = 1 } } }

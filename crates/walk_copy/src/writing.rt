@@ -4,7 +4,7 @@ ghost use Rattle.qh_qtd.specs.Qtd.{IsQtdInRange};
 ghost use Rattle.qh_qtd.specs.QueueHead.{IsQhInRange};
 ghost use Rattle.queue_words.specs.Structures.{reaches_queue_head};
 ghost use Rattle.walk_copy.specs.Visits.{IsHeld};
-ghost use Rattle.walk_copy.specs.Overlay.{place_of, pages_of, advanced as advanced_queue};
+ghost use Rattle.walk_copy.specs.Overlay.{buffer_place, pages_of, advanced as advanced_queue};
 ghost use Rattle.walk_copy.specs.Buffer.{Writing, bytes_written};
 ghost use Rattle.walk_copy.specs.WriteBack.{received as received_bytes, moved_by, token_back, written_back, is_short, is_error, interrupts, raised, overlay_after};
 
@@ -25,7 +25,7 @@ use word_mem::WordMem;
 fn write_bytes(mem: &mut WordMem, queue_head: &Qh, got: &[u8]) -> bool
     requires range { IsQhInRange queue_head.now }
     requires size { length got.now ≤ 1024 }
-    ensures written { record { memory = mem.new; all = result } ≡ bytes_written (pages_of queue_head.now) (place_of queue_head.now) got.now mem.old }
+    ensures written { record { memory = mem.new; all = result } ≡ bytes_written (pages_of queue_head.now) (buffer_place queue_head.now) got.now mem.old }
     ensures only_lent { IsByController mem.old mem.new }
 {
     let pages = [

@@ -13,9 +13,9 @@ use Rattle.walk_copy.specs.declared.held.Held.{Held}
 use Rattle.walk_copy.specs.declared.held.Transaction.{Transaction}
 use Rattle.walk_copy.specs.Buffer.{sending}
 use Rattle.walk_copy.specs.WriteBack.{raised}
-use Rattle.async_walk.specs.declared.rows.Row.{Row}
-use Rattle.async_walk.specs.declared.rows.Row.TheVariants as rows
-use Rattle.async_walk.specs.Rows.{Place, at_event, event_row, fetched_registers, took, wrote, wrote_settled, wrote_place, writing, Sends, SentAt, Leads}
+use Rattle.async_walk.specs.declared.rows.WalkRow.{WalkRow}
+use Rattle.async_walk.specs.declared.rows.WalkRow.TheVariants as rows
+use Rattle.async_walk.specs.Rows.{WalkPlace, at_event, event_row, fetched_registers, took, wrote, wrote_settled, wrote_place, writing, Sends, SentAt, Leads}
 use Rattle.driver_rows.specs.DriverContent.{DriverContent}
 use Rattle.walk_members.specs.Bell.{IsBellIn}
 
@@ -45,49 +45,49 @@ raised_bell : (q : Qh) (o : Outcome) (r : RegisterFile) → ((raised q o r).door
 unfolding raised
 raised_bell q o r = (refl, refl)
 
-cond_bell : (d : DriverContent) (b : Bool) (x y : Place) → IsBellIn d x.registers → IsBellIn d y.registers → IsBellIn d (cond b x y).registers
+cond_bell : (d : DriverContent) (b : Bool) (x y : WalkPlace) → IsBellIn d x.registers → IsBellIn d y.registers → IsBellIn d (cond b x y).registers
 cond_bell d true x y one two = one
 cond_bell d false x y one two = two
 
-took_bell : (d : DriverContent) (p : Place) (a : ℕ) (t : Qtd) (o : Option Held) → IsBellIn d p.registers → IsBellIn d (took a t p o).registers
+took_bell : (d : DriverContent) (p : WalkPlace) (a : ℕ) (t : Qtd) (o : Option Held) → IsBellIn d p.registers → IsBellIn d (took a t p o).registers
 took_bell d p a t None old = old
 took_bell d p a t (Some h) old = cond_bell d (reaches_queue_head p.memory h.at) _ _ old (kept d p.registers _ refl refl old)
 
-wrote_bell : (d : DriverContent) (p : Place) (b : Bool) (q : Qh) (o : Outcome) → IsBellIn d p.registers → IsBellIn d (wrote_place b q o p).registers
+wrote_bell : (d : DriverContent) (p : WalkPlace) (b : Bool) (q : Qh) (o : Outcome) → IsBellIn d p.registers → IsBellIn d (wrote_place b q o p).registers
 wrote_bell d p true q o old = let s = raised_bell q o p.registers in kept d p.registers (raised q o p.registers) s.0 s.1 old
 wrote_bell d p false q o old = kept d p.registers _ refl refl old
 
-settled_bell : (d : DriverContent) (p : Place) (h : Held) (s : Option Outcome) → IsBellIn d p.registers → IsBellIn d (wrote_settled p h s).registers
+settled_bell : (d : DriverContent) (p : WalkPlace) (h : Held) (s : Option Outcome) → IsBellIn d p.registers → IsBellIn d (wrote_settled p h s).registers
 settled_bell d p h None old = old
 settled_bell d p h (Some o) old =
     wrote_bell d (record p { memory = (writing h o p.walk.reply p.memory).memory }) (writing h o p.walk.reply p.memory).all h.queue_head o old
 
-written_bell : (d : DriverContent) (p : Place) (o : Option Held) → IsBellIn d p.registers → IsBellIn d (wrote p o).registers
+written_bell : (d : DriverContent) (p : WalkPlace) (o : Option Held) → IsBellIn d p.registers → IsBellIn d (wrote p o).registers
 written_bell d p None old = old
 written_bell d p (Some h) old = settled_bell d p h h.settled old
 
-sent_bell : {W : Type 0} (transacts : W → Ask → List ℕ → Reply → W → Type 0) (d : DriverContent) (p : Place) (t : Transaction) (o : Option Held) (before : W) (new : Place) (after : W) → IsBellIn d p.registers → Sends transacts t p o before new after → IsBellIn d new.registers
-sent_bell transacts d p t None before new after old leads = subst (λ (n : Place). IsBellIn d n.registers) (sym leads.0) old
+sent_bell : {W : Type 0} (transacts : W → Ask → List ℕ → Reply → W → Type 0) (d : DriverContent) (p : WalkPlace) (t : Transaction) (o : Option Held) (before : W) (new : WalkPlace) (after : W) → IsBellIn d p.registers → Sends transacts t p o before new after → IsBellIn d new.registers
+sent_bell transacts d p t None before new after old leads = subst (λ (n : WalkPlace). IsBellIn d n.registers) (sym leads.0) old
 sent_bell transacts d p t (Some h) before new after old leads = by (sending t h.queue_head p.memory).all leads
   where
     by : (b : Bool) → SentAt transacts b t h (sending t h.queue_head p.memory) p before new after → IsBellIn d new.registers
-    by true made = subst (λ (n : Place). IsBellIn d n.registers) (sym made.place) (kept d p.registers _ refl refl old)
-    by false made = subst (λ (n : Place). IsBellIn d n.registers) (sym made.0) (kept d p.registers _ refl refl old)
+    by true made = subst (λ (n : WalkPlace). IsBellIn d n.registers) (sym made.place) (kept d p.registers _ refl refl old)
+    by false made = subst (λ (n : WalkPlace). IsBellIn d n.registers) (sym made.0) (kept d p.registers _ refl refl old)
 
-leads_bell : {W : Type 0} (transacts : W → Ask → List ℕ → Reply → W → Type 0) (d : DriverContent) (row : Row) (p : Place) (before : W) (new : Place) (after : W) → IsBellIn d p.registers → Leads transacts row p before new after → IsBellIn d new.registers
-leads_bell transacts d rows.Fault p before new after old leads = subst (λ (n : Place). IsBellIn d n.registers) (sym leads.0) (kept d p.registers _ refl refl old)
-leads_bell transacts d rows.HeadEnds p before new after old leads = subst (λ (n : Place). IsBellIn d n.registers) (sym leads.0) (read_at d p.registers p.registers.doorbell refl old)
-leads_bell transacts d (rows.Fetch a q) p before new after old leads = subst (λ (n : Place). IsBellIn d n.registers) (sym leads.0) (fetch_at d p.registers q.head old)
-leads_bell transacts d rows.Skip p before new after old leads = subst (λ (n : Place). IsBellIn d n.registers) (sym leads.0) old
-leads_bell transacts d rows.OutOfTime p before new after old leads = subst (λ (n : Place). IsBellIn d n.registers) (sym leads.0) old
-leads_bell transacts d (rows.Advance a t) p before new after old leads = subst (λ (n : Place). IsBellIn d n.registers) (sym leads.0) (took_bell d p a t p.walk.held old)
+leads_bell : {W : Type 0} (transacts : W → Ask → List ℕ → Reply → W → Type 0) (d : DriverContent) (row : WalkRow) (p : WalkPlace) (before : W) (new : WalkPlace) (after : W) → IsBellIn d p.registers → Leads transacts row p before new after → IsBellIn d new.registers
+leads_bell transacts d rows.Fault p before new after old leads = subst (λ (n : WalkPlace). IsBellIn d n.registers) (sym leads.0) (kept d p.registers _ refl refl old)
+leads_bell transacts d rows.HeadEnds p before new after old leads = subst (λ (n : WalkPlace). IsBellIn d n.registers) (sym leads.0) (read_at d p.registers p.registers.doorbell refl old)
+leads_bell transacts d (rows.Fetch a q) p before new after old leads = subst (λ (n : WalkPlace). IsBellIn d n.registers) (sym leads.0) (fetch_at d p.registers q.head old)
+leads_bell transacts d rows.Skip p before new after old leads = subst (λ (n : WalkPlace). IsBellIn d n.registers) (sym leads.0) old
+leads_bell transacts d rows.OutOfTime p before new after old leads = subst (λ (n : WalkPlace). IsBellIn d n.registers) (sym leads.0) old
+leads_bell transacts d (rows.Advance a t) p before new after old leads = subst (λ (n : WalkPlace). IsBellIn d n.registers) (sym leads.0) (took_bell d p a t p.walk.held old)
 leads_bell transacts d (rows.Transact t) p before new after old leads = sent_bell transacts d p t p.walk.held before new after old leads
-leads_bell transacts d rows.WriteBack p before new after old leads = subst (λ (n : Place). IsBellIn d n.registers) (sym leads.0) (written_bell d p p.walk.held old)
+leads_bell transacts d rows.WriteBack p before new after old leads = subst (λ (n : WalkPlace). IsBellIn d n.registers) (sym leads.0) (written_bell d p p.walk.held old)
 
-started_bell : (d : DriverContent) (p : Place) (b : Bool) → IsBellIn d p.registers → IsBellIn d (cond b (after_reclamation p.registers true) p.registers)
+started_bell : (d : DriverContent) (p : WalkPlace) (b : Bool) → IsBellIn d p.registers → IsBellIn d (cond b (after_reclamation p.registers true) p.registers)
 started_bell d p true old = kept d p.registers (after_reclamation p.registers true) refl refl old
 started_bell d p false old = old
 
-pub walk_bell : {W : Type 0} (transacts : W → Ask → List ℕ → Reply → W → Type 0) (d : DriverContent) (p : Place) (before : W) (new : Place) (after : W) → IsBellIn d p.registers → Leads transacts (event_row p) (at_event p) before new after → IsBellIn d new.registers
+pub walk_bell : {W : Type 0} (transacts : W → Ask → List ℕ → Reply → W → Type 0) (d : DriverContent) (p : WalkPlace) (before : W) (new : WalkPlace) (after : W) → IsBellIn d p.registers → Leads transacts (event_row p) (at_event p) before new after → IsBellIn d new.registers
 walk_bell transacts d p before new after old leads =
     leads_bell transacts d (event_row p) (at_event p) before new after (started_bell d p p.walk.first old) leads

@@ -30,12 +30,12 @@ use Rattle.driver_rows.specs.declared.content.Slots.{Slots}
 use Rattle.driver_rows.specs.declared.content.Sort.TheVariants as sorts
 use Rattle.driver_rows.specs.declared.content.Command.{Command}
 use Rattle.driver_rows.specs.declared.content.Command.TheVariants as unfinished
-use Rattle.driver_rows.specs.declared.rows.Row.{Row}
-use Rattle.driver_rows.specs.declared.rows.Row.TheVariants as rows
+use Rattle.driver_rows.specs.declared.rows.DriverRow.{DriverRow}
+use Rattle.driver_rows.specs.declared.rows.DriverRow.TheVariants as rows
 use Rattle.driver_rows.specs.DriverContent.{DriverContent, waits_for, endpoint_of, endpoint_named}
 use Rattle.driver_rows.specs.Words.{speed_field, is_control, get_stages, put_stages, request_length, request_stages, needs}
 use Rattle.driver_rows.specs.Offers.{Offered, Asked, take_runs, taken_open, taken_chain, placed_open, planned_open, offered_open, taken_transfer, open_transfer, found_transfer, takes_get, takes_put, takes_control, slots_of, iso_needs, taken_iso, spans_too_long, has_slots, open_iso, offered_iso, endpoint_members, cancelled_by, with_cancel, offered_cancel, offered_next, offered}
-use Rattle.driver_rows.specs.Rows.{Parts, is_iso, events_of, links, removes_members, leave_ring, leave_frames, no_command, finished, list_after, or_finished, linked_on, advanced_by, framed_notes, with_notes, placement_at, framed_by, linked_by, row_of, after_row, after_transfer, after_endpoint, after_descriptor, after_placed, after_removed, after_unlink, freed_by, cancel_told}
+use Rattle.driver_rows.specs.Rows.{Parts, is_iso, events_of, links, removes_members, leave_ring, leave_frames, no_command, finished, list_after, or_finished, linked_on, advanced_by, framed_notes, with_notes, placement_at, framed_by, linked_by, driver_row, after_driver_row, after_transfer, after_endpoint, after_descriptor, after_placed, after_removed, after_unlink, freed_by, cancel_told}
 use Rattle.run_owners.proofs.Stays.{same_view}
 use Rattle.run_owners.proofs.Released.{cancel_same}
 use Rattle.run_owners.proofs.Ordered.{pushed}
@@ -67,10 +67,10 @@ no_heads d all e x here = no_head x.desc (all e x here)
 
 -- ---- descriptions stay
 
-abbrev desc_of : Endpoint → EpDesc
+abbrev pub desc_of : Endpoint → EpDesc
 desc_of x = x.desc
 
-abbrev SameDescs : List Endpoint → List Endpoint → Type 0
+abbrev pub SameDescs : List Endpoint → List Endpoint → Type 0
 SameDescs xs ys = (i : ℕ) → option_map desc_of (slice_get ys i) ≡ option_map desc_of (slice_get xs i)
 
 both : (xs ys zs : List Endpoint) → SameDescs xs ys → SameDescs ys zs → SameDescs xs zs
@@ -170,7 +170,7 @@ unlinked_left : (p : Parts) (t : ℕ) (o : Option Transfer) → SameDescs p.driv
 unlinked_left p t None = λ i. refl
 unlinked_left p t (Some x) = λ i. refl
 
-row_left : (row : Row) (p : Parts) → SameDescs p.driver.endpoints (after_row row p).driver.endpoints
+pub row_left : (row : DriverRow) (p : Parts) → SameDescs p.driver.endpoints (after_driver_row row p).driver.endpoints
 row_left rows.Lend p = went_on (record p.driver { book = (lend_taken (holding p.driver.book p.memory)).book }) p.driver.command
 row_left (rows.Store b at v) p = went_on p.driver p.driver.command
 row_left (rows.Mend w) p = λ i. refl
@@ -186,11 +186,11 @@ row_left (rows.ReadStatus heard) p = λ i. refl
 row_left (rows.ReadFrame n) p = λ i. refl
 row_left (rows.Harvest e t found) p =
     let s = harvest_stays p.driver p.memory e t found (slice_get p.driver.endpoints e) (slice_get p.driver.transfers t) refl in
-    by_ring p.driver.endpoints (after_row (rows.Harvest e t found) p).driver.endpoints s.endpoints
+    by_ring p.driver.endpoints (after_driver_row (rows.Harvest e t found) p).driver.endpoints s.endpoints
 row_left rows.Rest p = λ i. refl
 
-pub event_numbers : (p : Parts) → AreNumbered p.driver → AreNumbered (after_row (row_of p) p).driver
-event_numbers p all = numbered_by p.driver (after_row (row_of p) p).driver (row_left (row_of p) p) all
+pub event_numbers : (p : Parts) → AreNumbered p.driver → AreNumbered (after_driver_row (driver_row p) p).driver
+event_numbers p all = numbered_by p.driver (after_driver_row (driver_row p) p).driver (row_left (driver_row p) p) all
 
 -- ---- commands
 

@@ -12,13 +12,13 @@ use Rattle.link_words.specs.declared.kinds.Link.TheVariants as links
 use Rattle.driver_rows.specs.declared.content.Endpoint.{Endpoint}
 use Rattle.driver_rows.specs.declared.content.Command.{Command}
 use Rattle.driver_rows.specs.declared.content.Command.TheVariants as unfinished
-use Rattle.driver_rows.specs.declared.rows.Row.{Row}
-use Rattle.driver_rows.specs.declared.rows.Row.TheVariants as rows
+use Rattle.driver_rows.specs.declared.rows.DriverRow.{DriverRow}
+use Rattle.driver_rows.specs.declared.rows.DriverRow.TheVariants as rows
 use Rattle.periodic_rows.specs.declared.content.Removed.{Removed}
 use Rattle.periodic_rows.specs.declared.content.Removed.TheVariants as removed
 use Rattle.periodic_rows.specs.Linking.{begun_next}
 use Rattle.driver_rows.specs.DriverContent.{DriverContent}
-use Rattle.driver_rows.specs.Rows.{Parts, events_of, links, removes_members, leave_ring, leave_frames, removal_of, no_command, finished, list_after, or_finished, linked_on, advanced_by, advance, framed_notes, with_notes, placement_at, framed_by, linked_by, row_of, after_row, after_transfer, after_endpoint, after_descriptor, after_placed, after_removed, after_unlink, freed_by, cancel_told}
+use Rattle.driver_rows.specs.Rows.{Parts, events_of, links, removes_members, leave_ring, leave_frames, removal_of, no_command, finished, list_after, or_finished, linked_on, advanced_by, advance, framed_notes, with_notes, placement_at, framed_by, linked_by, driver_row, after_driver_row, after_transfer, after_endpoint, after_descriptor, after_placed, after_removed, after_unlink, freed_by, cancel_told}
 use Rattle.driver_rows.specs.declared.content.Transfer.{Transfer}
 use Rattle.run_owners.specs.Due.{IsDue}
 use Rattle.run_owners.proofs.Released.{cancel_same}
@@ -205,7 +205,7 @@ cleared_reach d e rings off xs ws = reach
     reach b (at_waiting f at a) = at_waiting f (queue f b at) (subst (λ (vs : List ℕ). IsAmong f vs) (sym ws) a)
     reach b (at_rung f at a r) = absurd (false≢true (sym off ∙ r))
 
-pub row_reach : (row : Row) (p : Parts) → IsDue p row → IsBellIn p.driver p.registers → Reaches p.driver p.registers.doorbell (after_row row p).driver (after_row row p).registers.doorbell
+pub row_reach : (row : DriverRow) (p : Parts) → IsDue p row → IsBellIn p.driver p.registers → Reaches p.driver p.registers.doorbell (after_driver_row row p).driver (after_driver_row row p).registers.doorbell
 row_reach rows.Lend p due bell =
     let d = record p.driver { book = (lend_taken (holding p.driver.book p.memory)).book } in
     through p.driver d (advance d) p.registers.doorbell (same_reach p.driver d p.registers.doorbell refl refl refl) (advance_reach d p.registers.doorbell)
@@ -254,7 +254,7 @@ unlinked_address : (p : Parts) (t : ℕ) (o : Option Transfer) → (after_unlink
 unlinked_address p t None = refl
 unlinked_address p t (Some x) = refl
 
-row_address : (row : Row) (p : Parts) → (after_row row p).registers.async_list_address ≡ p.registers.async_list_address
+row_address : (row : DriverRow) (p : Parts) → (after_driver_row row p).registers.async_list_address ≡ p.registers.async_list_address
 row_address rows.Lend p = refl
 row_address (rows.Store b at v) p = refl
 row_address (rows.Mend w) p = refl
@@ -271,6 +271,6 @@ row_address (rows.ReadStatus heard) p = refl
 row_address (rows.Harvest e t found) p = refl
 row_address rows.Rest p = refl
 
-pub driver_walk : (p : Parts) (w : Walk) → IsBellIn p.driver p.registers → IsWalkIn p.driver p.registers w → IsWalkIn (after_row (row_of p) p).driver (after_row (row_of p) p).registers w
+pub driver_walk : (p : Parts) (w : Walk) → IsBellIn p.driver p.registers → IsWalkIn p.driver p.registers w → IsWalkIn (after_driver_row (driver_row p) p).driver (after_driver_row (driver_row p) p).registers w
 driver_walk p w bell old =
-    walk_mapped p.driver (after_row (row_of p) p).driver p.registers (after_row (row_of p) p).registers w (row_address (row_of p) p) (row_reach (row_of p) p (each_is_due p) bell) old
+    walk_mapped p.driver (after_driver_row (driver_row p) p).driver p.registers (after_driver_row (driver_row p) p).registers w (row_address (driver_row p) p) (row_reach (driver_row p) p (each_is_due p) bell) old

@@ -14,8 +14,8 @@ use Rattle.driver_rows.specs.declared.content.Transfer.{Transfer}
 use Rattle.driver_rows.specs.declared.content.Command.{Command}
 use Rattle.driver_rows.specs.declared.content.Command.TheVariants as unfinished
 use Rattle.driver_rows.specs.declared.content.Bell.TheVariants as bells
-use Rattle.driver_rows.specs.declared.rows.Row.{Row}
-use Rattle.driver_rows.specs.declared.rows.Row.TheVariants as rows
+use Rattle.driver_rows.specs.declared.rows.DriverRow.{DriverRow}
+use Rattle.driver_rows.specs.declared.rows.DriverRow.TheVariants as rows
 use Rattle.driver_rows.specs.declared.rows.Found.{Found}
 use Rattle.driver_rows.specs.declared.rows.Found.TheVariants as founds
 use Rattle.periodic_rows.specs.declared.content.Removed.{Removed}
@@ -23,7 +23,7 @@ use Rattle.periodic_rows.specs.declared.content.Removed.TheVariants as removed
 use Rattle.periodic_rows.specs.Linking.{begun_next}
 use Rattle.driver_rows.specs.DriverContent.{DriverContent, waits_for}
 use Rattle.driver_rows.specs.Harvests.{noted, is_stall, end_of}
-use Rattle.driver_rows.specs.Rows.{Parts, events_of, links, removes_members, leave_ring, leave_frames, no_command, finished, list_after, or_finished, linked_on, advanced_by, advance, framed_notes, with_notes, placement_at, framed_by, linked_by, after_descriptor, after_placed, after_removed, after_unlink, row_of, after_row, after_transfer, after_endpoint, freed_by, is_told, mends_of, doorbell_command, served, told_with, goes_on, behind_one, behind, stalled, after_end, harvested_as, after_harvest}
+use Rattle.driver_rows.specs.Rows.{Parts, events_of, links, removes_members, leave_ring, leave_frames, no_command, finished, list_after, or_finished, linked_on, advanced_by, advance, framed_notes, with_notes, placement_at, framed_by, linked_by, after_descriptor, after_placed, after_removed, after_unlink, driver_row, after_driver_row, after_transfer, after_endpoint, freed_by, is_told, mends_of, doorbell_command, served, told_with, goes_on, behind_one, behind, stalled, after_end, harvested_as, after_harvest}
 use Rattle.run_owners.specs.Due.{IsDue}
 use Rattle.run_owners.proofs.Reasons.{each_is_due}
 use Rattle.walk_members.specs.Bell.{IsBellIn}
@@ -164,11 +164,11 @@ unlinked_bell p t (Some x) old = bell_kept p.driver _ p.registers (record { bell
 advance_stays : (r : RegisterFile) → r.async_advance ≡ (after_write r 0x00 doorbell_command).async_advance
 advance_stays r = refl
 
-read_by : (p : Parts) (heard : Bool) → (heard ≡ true → p.registers.doorbell ≡ false) → p.driver.bell ≡ bells.Rung → IsBellIn p.driver p.registers → IsBellIn (after_row (rows.ReadStatus heard) p).driver p.registers
+read_by : (p : Parts) (heard : Bool) → (heard ≡ true → p.registers.doorbell ≡ false) → p.driver.bell ≡ bells.Rung → IsBellIn p.driver p.registers → IsBellIn (after_driver_row (rows.ReadStatus heard) p).driver p.registers
 read_by p true off is old = record { quiet = λ e. absurd (cc); answered = old.answered; heard = λ e. off refl }
 read_by p false off is old = record { quiet = λ e. absurd (cc); answered = old.answered; heard = λ e. absurd (cc) }
 
-pub row_bell : (row : Row) (p : Parts) → IsDue p row → IsBellIn p.driver p.registers → IsBellIn (after_row row p).driver (after_row row p).registers
+pub row_bell : (row : DriverRow) (p : Parts) → IsDue p row → IsBellIn p.driver p.registers → IsBellIn (after_driver_row row p).driver (after_driver_row row p).registers
 row_bell rows.Lend p due old =
     let d = record p.driver { book = (lend_taken (holding p.driver.book p.memory)).book } in
     let s = advanced_bell d p.driver.command in
@@ -201,5 +201,5 @@ row_bell (rows.Harvest e t found) p due old =
     bell_kept p.driver _ p.registers (harvest_bell p.driver p.memory e t found (slice_get p.driver.endpoints e) (slice_get p.driver.transfers t)) old
 row_bell rows.Rest p due old = old
 
-pub driver_bell : (p : Parts) → IsBellIn p.driver p.registers → IsBellIn (after_row (row_of p) p).driver (after_row (row_of p) p).registers
-driver_bell p old = row_bell (row_of p) p (each_is_due p) old
+pub driver_bell : (p : Parts) → IsBellIn p.driver p.registers → IsBellIn (after_driver_row (driver_row p) p).driver (after_driver_row (driver_row p) p).registers
+driver_bell p old = row_bell (driver_row p) p (each_is_due p) old

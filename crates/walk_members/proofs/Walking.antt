@@ -26,8 +26,8 @@ use Rattle.walk_copy.specs.declared.held.Visit.TheVariants as visits
 use Rattle.walk_copy.specs.Visits.{visit_of}
 use Rattle.walk_copy.specs.Overlay.{advanced, settled_queue}
 use Rattle.walk_copy.specs.Buffer.{Reading, sending}
-use Rattle.async_walk.specs.declared.rows.Row.{Row}
-use Rattle.async_walk.specs.declared.rows.Row.TheVariants as rows
+use Rattle.async_walk.specs.declared.rows.WalkRow.{WalkRow}
+use Rattle.async_walk.specs.declared.rows.WalkRow.TheVariants as rows
 use Rattle.async_walk.specs.declared.state.Cursor.{Cursor}
 use Rattle.async_walk.specs.declared.state.Cursor.TheVariants as cursors
 use Rattle.async_walk.specs.declared.state.ReloadMode.{ReloadMode}
@@ -37,7 +37,7 @@ use Rattle.driver_rows.specs.declared.content.Reserve.{Reserve}
 use Rattle.driver_rows.specs.Opening.{opening}
 use Rattle.walk_copy.specs.WriteBack.{overlay_after, raised}
 use Rattle.async_walk.specs.Naks.{may_work, planned, mode_after, reloaded, counted_queue}
-use Rattle.async_walk.specs.Rows.{Place, started, at_event, event_row, fetch_row, ring_row, work_row, taken_row, visit_row, held_row, cursor_link, row_at, fetched_registers, passed_walk, faulted, took, wrote, wrote_settled, wrote_place, writing, Sends, SentAt, Leads, ring_copy}
+use Rattle.async_walk.specs.Rows.{WalkPlace, started, at_event, event_row, fetch_row, ring_row, work_row, taken_row, visit_row, held_row, cursor_link, row_at, fetched_registers, passed_walk, faulted, took, wrote, wrote_settled, wrote_place, writing, Sends, SentAt, Leads, ring_copy}
 use Rattle.driver_rows.specs.DriverContent.{DriverContent}
 use Rattle.driver_rows.specs.Words.{head_block}
 use Rattle.ring_members.specs.Links.{link_in}
@@ -76,7 +76,7 @@ record Finds (d : DriverContent) (r : RegisterFile) (a : ℕ) (q : Qh) : Type 0 
   reached : IsReached d (fetched_registers q.head r).doorbell block
   next : LeadsOn d (fetched_registers q.head r).doorbell (link_of q.link)
 
-abbrev IsRowIn : DriverContent → RegisterFile → Option Held → Row → Type 0
+abbrev IsRowIn : DriverContent → RegisterFile → Option Held → WalkRow → Type 0
 IsRowIn d r held (rows.Fetch a q) = Finds d r a q
 IsRowIn d r held rows.HeadEnds = held ≡ None
 IsRowIn d r held rows.Fault = Unit {0}
@@ -135,7 +135,7 @@ held_in : (d : DriverContent) (r : RegisterFile) (held : Option Held) (m : Mem) 
 held_in d r held m left q None = visit_in d r held m left q (visit_of (may_work q) q)
 held_in d r held m left q (Some s) = tt
 
-row_in : (p : Place) (d : DriverContent) (o : Option Held) → p.walk.held ≡ o → IsWalkIn d p.registers p.walk → IsRing (link_in p.memory) d → AreFixed p.memory d → AreNoHeads d → IsRowIn d p.registers p.walk.held (row_at p o)
+row_in : (p : WalkPlace) (d : DriverContent) (o : Option Held) → p.walk.held ≡ o → IsWalkIn d p.registers p.walk → IsRing (link_in p.memory) d → AreFixed p.memory d → AreNoHeads d → IsRowIn d p.registers p.walk.held (row_at p o)
 row_in p d None empty walk ring fixed none =
     subst (λ (l : Link). IsRowIn d p.registers p.walk.held (ring_row p.memory p.registers.reclamation l)) (sym walk.cursor.is)
     (fetched_in p.memory d p.registers p.walk.held p.registers.reclamation walk.cursor.block (queue_head_at_address p.memory (32 * walk.cursor.block)) empty refl walk.cursor.reached ring fixed none)
@@ -195,7 +195,7 @@ passed_in d r w (Some h) there old = record {
 none_in : (d : DriverContent) (rings : Bool) (h : Held) → None ≡ Some h → IsCopyIn d rings h
 none_in d rings h e = absurd (cc)
 
-fault_in : (d : DriverContent) (p : Place) → IsWalkIn d p.registers p.walk → IsWalkIn d (faulted p).registers (faulted p).walk
+fault_in : (d : DriverContent) (p : WalkPlace) → IsWalkIn d p.registers p.walk → IsWalkIn d (faulted p).registers (faulted p).walk
 fault_in d p old = with_copy d p.registers (after_fault p.registers) p.walk (stopped p.walk) refl refl refl (λ h there. none_in d p.registers.doorbell h there) old
 
 head_address : (r : RegisterFile) (b : Bool) → (cond b (after_advance r) r).async_list_address ≡ r.async_list_address
@@ -206,7 +206,7 @@ fetched_address : (h : Bool) (r : RegisterFile) → (fetched_registers h r).asyn
 fetched_address false r = refl
 fetched_address true r = head_address (after_reclamation r false) r.doorbell
 
-took_in : (d : DriverContent) (p : Place) (a : ℕ) (t : Qtd) (o : Option Held) → p.walk.held ≡ o → IsWalkIn d p.registers p.walk → IsWalkIn d (took a t p o).registers (took a t p o).walk
+took_in : (d : DriverContent) (p : WalkPlace) (a : ℕ) (t : Qtd) (o : Option Held) → p.walk.held ≡ o → IsWalkIn d p.registers p.walk → IsWalkIn d (took a t p o).registers (took a t p o).walk
 took_in d p a t None there old = old
 took_in d p a t (Some h) there old = at (reaches_queue_head p.memory h.at)
   where
@@ -222,13 +222,13 @@ took_in d p a t (Some h) there old = at (reaches_queue_head p.memory h.at)
     at true = copied
     at false = fault_in d (record p { memory = overlay_after p.memory h.at (advanced h.queue_head a t) }) old
 
-wrote_in_by : (d : DriverContent) (p : Place) (b : Bool) (q : Qh) (outcome : Outcome) → IsWalkIn d p.registers p.walk → IsWalkIn d (wrote_place b q outcome p).registers (wrote_place b q outcome p).walk
+wrote_in_by : (d : DriverContent) (p : WalkPlace) (b : Bool) (q : Qh) (outcome : Outcome) → IsWalkIn d p.registers p.walk → IsWalkIn d (wrote_place b q outcome p).registers (wrote_place b q outcome p).walk
 wrote_in_by d p true q outcome old =
     let s = raised_same q outcome p.registers in
     passed_in d (raised q outcome p.registers) p.walk p.walk.held refl (with_copy d p.registers (raised q outcome p.registers) p.walk p.walk s.0 s.1 refl old.copy old)
 wrote_in_by d p false q outcome old = fault_in d p old
 
-wrote_in : (d : DriverContent) (p : Place) (o : Option Held) → IsWalkIn d p.registers p.walk → IsWalkIn d (wrote p o).registers (wrote p o).walk
+wrote_in : (d : DriverContent) (p : WalkPlace) (o : Option Held) → IsWalkIn d p.registers p.walk → IsWalkIn d (wrote p o).registers (wrote p o).walk
 wrote_in d p None old = old
 wrote_in d p (Some h) old = by h.settled
   where
@@ -239,8 +239,8 @@ wrote_in d p (Some h) old = by h.settled
 
 -- ---- what stands after a row
 
-sends_in : {W : Type 0} (transacts : W → Ask → List ℕ → Reply → W → Type 0) (d : DriverContent) (p : Place) (t : Transaction) (o : Option Held) (before : W) (new : Place) (after : W) → p.walk.held ≡ o → IsWalkIn d p.registers p.walk → Sends transacts t p o before new after → IsWalkIn d new.registers new.walk
-sends_in transacts d p t None before new after there old leads = subst (λ (n : Place). IsWalkIn d n.registers n.walk) (sym leads.0) old
+sends_in : {W : Type 0} (transacts : W → Ask → List ℕ → Reply → W → Type 0) (d : DriverContent) (p : WalkPlace) (t : Transaction) (o : Option Held) (before : W) (new : WalkPlace) (after : W) → p.walk.held ≡ o → IsWalkIn d p.registers p.walk → Sends transacts t p o before new after → IsWalkIn d new.registers new.walk
+sends_in transacts d p t None before new after there old leads = subst (λ (n : WalkPlace). IsWalkIn d n.registers n.walk) (sym leads.0) old
 sends_in transacts d p t (Some h) before new after there old leads = by (sending t h.queue_head p.memory).all leads
   where
     read : Reading
@@ -248,16 +248,16 @@ sends_in transacts d p t (Some h) before new after there old leads = by (sending
 
     by : (b : Bool) → SentAt transacts b t h (sending t h.queue_head p.memory) p before new after → IsWalkIn d new.registers new.walk
     by true made =
-        subst (λ (n : Place). IsWalkIn d n.registers n.walk) (sym made.place)
+        subst (λ (n : WalkPlace). IsWalkIn d n.registers n.walk) (sym made.place)
         (with_copy d p.registers (after_reclamation p.registers true) p.walk _ refl refl refl
         (λ k now. subst (λ (z : Held). IsCopyIn d p.registers.doorbell z) (same_Some (ring_copy t (sending t h.queue_head p.memory).bytes made.reply h) k now)
         (same_copy d p.registers.doorbell h (ring_copy t (sending t h.queue_head p.memory).bytes made.reply h) refl (counted_link _ _ h.queue_head) (old.copy h there))) old)
-    by false made = subst (λ (n : Place). IsWalkIn d n.registers n.walk) (sym made.0) (fault_in d (record p { memory = (sending t h.queue_head p.memory).memory }) old)
+    by false made = subst (λ (n : WalkPlace). IsWalkIn d n.registers n.walk) (sym made.0) (fault_in d (record p { memory = (sending t h.queue_head p.memory).memory }) old)
 
-leads_in : {W : Type 0} (transacts : W → Ask → List ℕ → Reply → W → Type 0) (d : DriverContent) (row : Row) (p : Place) (before : W) (new : Place) (after : W) → IsRowIn d p.registers p.walk.held row → IsWalkIn d p.registers p.walk → Leads transacts row p before new after → IsWalkIn d new.registers new.walk
-leads_in transacts d rows.Fault p before new after is old leads = subst (λ (n : Place). IsWalkIn d n.registers n.walk) (sym leads.0) (fault_in d p old)
+leads_in : {W : Type 0} (transacts : W → Ask → List ℕ → Reply → W → Type 0) (d : DriverContent) (row : WalkRow) (p : WalkPlace) (before : W) (new : WalkPlace) (after : W) → IsRowIn d p.registers p.walk.held row → IsWalkIn d p.registers p.walk → Leads transacts row p before new after → IsWalkIn d new.registers new.walk
+leads_in transacts d rows.Fault p before new after is old leads = subst (λ (n : WalkPlace). IsWalkIn d n.registers n.walk) (sym leads.0) (fault_in d p old)
 leads_in transacts d rows.HeadEnds p before new after is old leads =
-    subst (λ (n : Place). IsWalkIn d n.registers n.walk) (sym leads.0)
+    subst (λ (n : WalkPlace). IsWalkIn d n.registers n.walk) (sym leads.0)
     (let same = head_address p.registers p.registers.doorbell in
     record {
       start = same ∙ old.start;
@@ -265,7 +265,7 @@ leads_in transacts d rows.HeadEnds p before new after is old leads =
       copy = λ h there. none_in d _ h (sym is ∙ there);
     })
 leads_in transacts d (rows.Fetch a q) p before new after is old leads =
-    subst (λ (n : Place). IsWalkIn d n.registers n.walk) (sym leads.0)
+    subst (λ (n : WalkPlace). IsWalkIn d n.registers n.walk) (sym leads.0)
     (record {
       start = fetched_address q.head p.registers ∙ old.start;
       cursor = record { block = is.block; is = ap links.Qh is.at; reached = is.reached };
@@ -278,23 +278,23 @@ leads_in transacts d (rows.Fetch a q) p before new after is old leads =
             next = record { block = is.next.block; is = ap link_of (reloaded_link (mode_after q p.walk.mode) q) ∙ is.next.is; reached = is.next.reached };
           });
     })
-leads_in transacts d rows.Skip p before new after is old leads = subst (λ (n : Place). IsWalkIn d n.registers n.walk) (sym leads.0) (passed_in d p.registers p.walk p.walk.held refl old)
+leads_in transacts d rows.Skip p before new after is old leads = subst (λ (n : WalkPlace). IsWalkIn d n.registers n.walk) (sym leads.0) (passed_in d p.registers p.walk p.walk.held refl old)
 leads_in transacts d rows.OutOfTime p before new after is old leads =
-    subst (λ (n : Place). IsWalkIn d n.registers n.walk) (sym leads.0)
+    subst (λ (n : WalkPlace). IsWalkIn d n.registers n.walk) (sym leads.0)
     (with_copy d p.registers p.registers p.walk (stopped p.walk) refl refl refl (λ h there. none_in d p.registers.doorbell h there) old)
-leads_in transacts d (rows.Advance a t) p before new after is old leads = subst (λ (n : Place). IsWalkIn d n.registers n.walk) (sym leads.0) (took_in d p a t p.walk.held refl old)
+leads_in transacts d (rows.Advance a t) p before new after is old leads = subst (λ (n : WalkPlace). IsWalkIn d n.registers n.walk) (sym leads.0) (took_in d p a t p.walk.held refl old)
 leads_in transacts d (rows.Transact t) p before new after is old leads = sends_in transacts d p t p.walk.held before new after refl old leads
-leads_in transacts d rows.WriteBack p before new after is old leads = subst (λ (n : Place). IsWalkIn d n.registers n.walk) (sym leads.0) (wrote_in d p p.walk.held old)
+leads_in transacts d rows.WriteBack p before new after is old leads = subst (λ (n : WalkPlace). IsWalkIn d n.registers n.walk) (sym leads.0) (wrote_in d p p.walk.held old)
 
 -- the first event of a microframe leaves the doorbell and the address
-started_in : (d : DriverContent) (p : Place) → IsWalkIn d p.registers p.walk → IsWalkIn d (started p).registers (started p).walk
+started_in : (d : DriverContent) (p : WalkPlace) → IsWalkIn d p.registers p.walk → IsWalkIn d (started p).registers (started p).walk
 started_in d p old = with_copy d p.registers (started p).registers p.walk (started p).walk (by p.walk.first).0 (by p.walk.first).1 refl old.copy old
   where
     by : (b : Bool) → ((cond b (after_reclamation p.registers true) p.registers).doorbell ≡ p.registers.doorbell) × ((cond b (after_reclamation p.registers true) p.registers).async_list_address ≡ p.registers.async_list_address)
     by true = (refl, refl)
     by false = (refl, refl)
 
-pub event_in : {W : Type 0} (transacts : W → Ask → List ℕ → Reply → W → Type 0) (d : DriverContent) (p : Place) (before : W) (new : Place) (after : W) → IsRing (link_in p.memory) d → AreFixed p.memory d → AreNoHeads d → IsWalkIn d p.registers p.walk → Leads transacts (event_row p) (at_event p) before new after → IsWalkIn d new.registers new.walk
+pub event_in : {W : Type 0} (transacts : W → Ask → List ℕ → Reply → W → Type 0) (d : DriverContent) (p : WalkPlace) (before : W) (new : WalkPlace) (after : W) → IsRing (link_in p.memory) d → AreFixed p.memory d → AreNoHeads d → IsWalkIn d p.registers p.walk → Leads transacts (event_row p) (at_event p) before new after → IsWalkIn d new.registers new.walk
 event_in transacts d p before new after ring fixed none old leads =
     let s = started_in d p old in
     leads_in transacts d (event_row p) (at_event p) before new after (row_in (started p) d p.walk.held refl s ring fixed none) s leads

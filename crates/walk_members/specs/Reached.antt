@@ -18,7 +18,7 @@ use Rattle.link_words.specs.Links.{link_of}
 use Rattle.op_registers.specs.RegisterFile.{RegisterFile}
 use Rattle.walk_copy.specs.declared.held.Held.{Held}
 use Rattle.async_walk.specs.Walk.{Walk}
-use Rattle.async_walk.specs.Rows.{Place, cursor_link}
+use Rattle.async_walk.specs.Rows.{WalkPlace, cursor_link}
 use Rattle.driver_rows.specs.declared.content.Endpoint.{Endpoint}
 use Rattle.driver_rows.specs.DriverContent.{DriverContent}
 use Rattle.driver_rows.specs.Words.{head_block}
@@ -52,7 +52,7 @@ pub record IsWalkIn (d : DriverContent) (r : RegisterFile) (w : Walk) : Type 0 w
 abbrev pub AreNoHeads : DriverContent → Type 0
 AreNoHeads d = (e : ℕ) (x : Endpoint) → slice_get d.endpoints e ≡ Some x → is_set 15 (characteristics x.desc) ≡ false
 
-abbrev pub KeepsWalk : DriverContent → Place → Place → Type 0
+abbrev pub KeepsWalk : DriverContent → WalkPlace → WalkPlace → Type 0
 KeepsWalk d p new =
     IsRing (link_in p.memory) d → AreFixed p.memory d → AreNoHeads d → IsWalkIn d p.registers p.walk → IsWalkIn d new.registers new.walk
 

@@ -14,11 +14,11 @@ ghost use Rattle.word_mem.specs.Memory.{Mem};
 ghost use Rattle.driver_rows.specs.Offers.{Offered, offered};
 ghost use Rattle.op_registers.specs.RegisterFile.{RegisterFile};
 ghost use Rattle.async_walk.specs.Walk.{Walk, new_walk, begun, stopped};
-ghost use Rattle.async_walk.specs.Rows.{Place, at_event, event_row, Leads};
+ghost use Rattle.async_walk.specs.Rows.{WalkPlace, at_event, event_row, Leads};
 ghost use Rattle.driver_rows.specs.declared.content.Reserve.{Reserve};
 ghost use Rattle.driver_rows.specs.DriverContent.{DriverContent};
 ghost use Rattle.driver_rows.specs.Opening.{opening};
-ghost use Rattle.driver_rows.specs.Rows.{Parts, row_of, after_row};
+ghost use Rattle.driver_rows.specs.Rows.{Parts, driver_row, after_driver_row};
 ghost use Rattle.walk_members.specs.Reached.{IsWalkIn, KeepsWalk};
 ghost use Rattle.walk_members.specs.Bell.{IsBellIn, KeepsBell};
 
@@ -32,7 +32,7 @@ pub fn a_new_walk_begins_at_the_head()
 /// Each event of the walk goes on to a queue head that it may meet: where the head is read and the doorbell answered, those of the rung batch
 /// are met no more.
 pub fn the_walk_meets_members<W: Wire>()
-    ensures { (d : DriverContent) (p : Place) (before : W) (new : Place) (after : W) → Leads W.transacts (event_row p) (at_event p) before new after → KeepsWalk d p new }
+    ensures { (d : DriverContent) (p : WalkPlace) (before : W) (new : WalkPlace) (after : W) → Leads W.transacts (event_row p) (at_event p) before new after → KeepsWalk d p new }
 {}
 
 /// The end of a microframe and the begin of the next leave the walk where it was.
@@ -44,7 +44,7 @@ pub fn microframes_leave_the_walk()
 /// Each event of the driver leaves the walk among the queue heads that it may meet: one that leaves the ring is still one of them, until the
 /// doorbell that was set after it is answered.
 pub fn the_driver_leaves_the_walk()
-    ensures { (p : Parts) (w : Walk) → IsBellIn p.driver p.registers → IsWalkIn p.driver p.registers w → IsWalkIn (after_row (row_of p) p).driver (after_row (row_of p) p).registers w }
+    ensures { (p : Parts) (w : Walk) → IsBellIn p.driver p.registers → IsWalkIn p.driver p.registers w → IsWalkIn (after_driver_row (driver_row p) p).driver (after_driver_row (driver_row p) p).registers w }
 {}
 
 /// And so does a command that is accepted.
@@ -54,10 +54,10 @@ pub fn commands_leave_the_walk()
 
 /// Content and registers agree on the doorbell: each event of the driver keeps it.
 pub fn the_driver_keeps_the_bell()
-    ensures { (p : Parts) → IsBellIn p.driver p.registers → IsBellIn (after_row (row_of p) p).driver (after_row (row_of p) p).registers }
+    ensures { (p : Parts) → IsBellIn p.driver p.registers → IsBellIn (after_driver_row (driver_row p) p).driver (after_driver_row (driver_row p) p).registers }
 {}
 
 /// And so does each event of the walk, which answers the doorbell where the head is read.
 pub fn the_walk_keeps_the_bell<W: Wire>()
-    ensures { (d : DriverContent) (p : Place) (before : W) (new : Place) (after : W) → Leads W.transacts (event_row p) (at_event p) before new after → KeepsBell d p new }
+    ensures { (d : DriverContent) (p : WalkPlace) (before : W) (new : WalkPlace) (after : W) → Leads W.transacts (event_row p) (at_event p) before new after → KeepsBell d p new }
 {}

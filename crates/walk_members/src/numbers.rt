@@ -7,7 +7,7 @@ ghost use Rattle.word_mem.specs.Memory.{Mem};
 ghost use Rattle.link_words.specs.Layout.{is_set};
 ghost use Rattle.driver_rows.specs.DriverContent.{DriverContent};
 ghost use Rattle.driver_rows.specs.Offers.{Offered, offered};
-ghost use Rattle.driver_rows.specs.Rows.{Parts, row_of, after_row};
+ghost use Rattle.driver_rows.specs.Rows.{Parts, driver_row, after_driver_row};
 ghost use Rattle.queue_head_words.specs.Fixed.{characteristics};
 ghost use Rattle.walk_members.specs.Reached.{AreNoHeads, IsNumbered, AreNumbered, OpensNumbered};
 
@@ -28,5 +28,5 @@ pub fn commands_keep_the_numbers()
 
 /// No event of the driver writes an endpoint's description.
 pub fn events_keep_the_numbers()
-    ensures { (p : Parts) → AreNumbered p.driver → AreNumbered (after_row (row_of p) p).driver }
+    ensures { (p : Parts) → AreNumbered p.driver → AreNumbered (after_driver_row (driver_row p) p).driver }
 {}

@@ -18,13 +18,13 @@ use Rattle.walk_copy.specs.declared.held.Transaction.{Transaction}
 use Rattle.walk_copy.specs.declared.held.Visit.{Visit}
 use Rattle.walk_copy.specs.declared.held.Visit.TheVariants as visits
 use Rattle.walk_copy.specs.Visits.{visit_of}
-use Rattle.walk_copy.specs.Overlay.{advanced, pages_of, place_of, moved}
+use Rattle.walk_copy.specs.Overlay.{advanced, pages_of, buffer_place, moved}
 use Rattle.walk_copy.specs.Buffer.{Reading, Writing, size_of, placed, bytes_written, sending}
 use Rattle.walk_copy.specs.WriteBack.{moved_by, received, then_write, overlay_after, overlay_back, token_back, written_back}
-use Rattle.async_walk.specs.declared.rows.Row.{Row}
-use Rattle.async_walk.specs.declared.rows.Row.TheVariants as rows
+use Rattle.async_walk.specs.declared.rows.WalkRow.{WalkRow}
+use Rattle.async_walk.specs.declared.rows.WalkRow.TheVariants as rows
 use Rattle.async_walk.specs.Naks.{may_work}
-use Rattle.async_walk.specs.Rows.{Place, cursor_link, ring_read, take_read, visit_read, held_read, read_at, started, faulted, took, wrote, wrote_place, wrote_settled, writing, SentAt, Sends, Leads, at_event, event_row}
+use Rattle.async_walk.specs.Rows.{WalkPlace, cursor_link, ring_read, take_read, visit_read, held_read, read_at, started, faulted, took, wrote, wrote_place, wrote_settled, writing, SentAt, Sends, Leads, at_event, event_row}
 use Rattle.walk_writes.specs.Writes.{WritesLent, IsPlaced}
 use Rattle.walk_writes.proofs.Lent.{same_writes, both_write, refused_writes, qtd_read_writes, head_read_writes, overlay_writes, token_writes, stored_writes}
 
@@ -53,7 +53,7 @@ held_reads : (m : Mem) (q : Qh) (o : Option Outcome) → WritesLent m (held_read
 held_reads m q None = visit_reads m (visit_of (may_work q) q)
 held_reads m q (Some s) = unchanged m
 
-event_reads : (p : Place) (o : Option Held) → WritesLent p.memory (read_at p o)
+event_reads : (p : WalkPlace) (o : Option Held) → WritesLent p.memory (read_at p o)
 event_reads p None = ring_reads p.memory (cursor_link p.registers p.walk.cursor)
 event_reads p (Some h) = held_reads p.memory h.queue_head h.settled
 
@@ -89,41 +89,41 @@ pub back_writes : (a : ℕ) (q : Qh) (outcome : Outcome) (got : List ℕ) (m : M
 unfolding written_back
 back_writes a q outcome got m aligned current =
     let new : Qh = moved q (moved_by outcome) in
-    let bytes : Writing = bytes_written (pages_of q) (place_of q) got m in
+    let bytes : Writing = bytes_written (pages_of q) (buffer_place q) got m in
     then_writes m (then_write bytes (overlay_back a new)) (token_back new)
-    (then_writes m bytes (overlay_back a new) (stored_writes m (pages_of q) (place_of q) (placed (pages_of q) (place_of q) got)) (λ x. overlay_after_writes x a new aligned))
+    (then_writes m bytes (overlay_back a new) (stored_writes m (pages_of q) (buffer_place q) (placed (pages_of q) (buffer_place q) got)) (λ x. overlay_after_writes x a new aligned))
     (λ x. token_back_writes new x (ap (λ (n : ℕ). n % 32) (current_moved q (moved_by outcome)) ∙ current))
 
 -- ---- what stands after a row
 
-abbrev Writes : Place → Place → Type 0
+abbrev Writes : WalkPlace → WalkPlace → Type 0
 Writes p new = WritesLent p.memory new.memory
 
-goes_to : (p new expected : Place) → new ≡ expected → Writes p expected → Writes p new
+goes_to : (p new expected : WalkPlace) → new ≡ expected → Writes p expected → Writes p new
 goes_to p new expected is writes = subst (Writes p) (sym is) writes
 
-took_by : (p done stuck : Place) (b : Bool) → Writes p done → Writes p stuck → Writes p (if b then done else stuck)
+took_by : (p done stuck : WalkPlace) (b : Bool) → Writes p done → Writes p stuck → Writes p (if b then done else stuck)
 took_by p done stuck true one two = one
 took_by p done stuck false one two = two
 
-took_writes : (a : ℕ) (t : Qtd) (p : Place) (o : Option Held) → IfSome o IsPlaced → Writes p (took a t p o)
+took_writes : (a : ℕ) (t : Qtd) (p : WalkPlace) (o : Option Held) → IfSome o IsPlaced → Writes p (took a t p o)
 took_writes a t p None is = unchanged p.memory
 took_writes a t p (Some h) is =
     let writes = overlay_after_writes p.memory h.at (advanced h.queue_head a t) is.at in
     took_by p _ _ (reaches_queue_head p.memory h.at) writes writes
 
-wrote_by : (p at : Place) (b : Bool) (q : Qh) (outcome : Outcome) → Writes p at → Writes p (wrote_place b q outcome at)
+wrote_by : (p at : WalkPlace) (b : Bool) (q : Qh) (outcome : Outcome) → Writes p at → Writes p (wrote_place b q outcome at)
 wrote_by p at true q outcome writes = writes
 wrote_by p at false q outcome writes = writes
 
-settled_writes : (p : Place) (h : Held) (o : Option Outcome) → h.settled ≡ o → IsPlaced h → Writes p (wrote_settled p h o)
+settled_writes : (p : WalkPlace) (h : Held) (o : Option Outcome) → h.settled ≡ o → IsPlaced h → Writes p (wrote_settled p h o)
 settled_writes p h None is placed = unchanged p.memory
 settled_writes p h (Some outcome) is placed =
     let w : Writing = writing h outcome p.walk.reply p.memory in
     wrote_by p (record p { memory = w.memory }) w.all h.queue_head outcome
     (back_writes h.at h.queue_head outcome (received h.queue_head outcome p.walk.reply) p.memory placed.at (placed.current outcome is))
 
-wrote_writes : (p : Place) (o : Option Held) → IfSome o IsPlaced → Writes p (wrote p o)
+wrote_writes : (p : WalkPlace) (o : Option Held) → IfSome o IsPlaced → Writes p (wrote p o)
 wrote_writes p None is = unchanged p.memory
 wrote_writes p (Some h) is = settled_writes p h h.settled refl is
 
@@ -133,9 +133,9 @@ reading_by m true false = refused_writes m
 reading_by m false all = unchanged m
 
 pub sending_writes : (t : Transaction) (q : Qh) (m : Mem) → WritesLent m (sending t q m).memory
-sending_writes t q m = reading_by m (nat_le (place_of q + t.bytes) (size_of (pages_of q))) (all_reached m (pages_of q) (place_of q) t.bytes)
+sending_writes t q m = reading_by m (nat_le (buffer_place q + t.bytes) (size_of (pages_of q))) (all_reached m (pages_of q) (buffer_place q) t.bytes)
 
-module _ {W : Type 0} (transacts : W → Ask → List ℕ → Reply → W → Type 0) (p new : Place) (before after : W) where
+module _ {W : Type 0} (transacts : W → Ask → List ℕ → Reply → W → Type 0) (p new : WalkPlace) (before after : W) where
   sent_writes : (b : Bool) (t : Transaction) (h : Held) (read : Reading) → WritesLent p.memory read.memory → SentAt transacts b t h read p before new after → Writes p new
   sent_writes true t h read writes sent = subst (Writes p) (sym sent.place) writes
   sent_writes false t h read writes sent = goes_to p new (faulted (record p { memory = read.memory })) sent.0 writes
@@ -144,7 +144,7 @@ module _ {W : Type 0} (transacts : W → Ask → List ℕ → Reply → W → Ty
   sends_write t None sends = goes_to p new p sends.0 (unchanged p.memory)
   sends_write t (Some h) sends = sent_writes (sending t h.queue_head p.memory).all t h (sending t h.queue_head p.memory) (sending_writes t h.queue_head p.memory) sends
 
-  row_writes : (row : Row) → IfSome p.walk.held IsPlaced → Leads transacts row p before new after → Writes p new
+  row_writes : (row : WalkRow) → IfSome p.walk.held IsPlaced → Leads transacts row p before new after → Writes p new
   row_writes rows.Fault is leads = goes_to p new _ leads.0 (unchanged p.memory)
   row_writes rows.HeadEnds is leads = goes_to p new _ leads.0 (unchanged p.memory)
   row_writes (rows.Fetch a q) is leads = goes_to p new _ leads.0 (unchanged p.memory)
@@ -156,6 +156,6 @@ module _ {W : Type 0} (transacts : W → Ask → List ℕ → Reply → W → Ty
 
 -- ---- an event
 
-pub event_writes : {W : Type 0} (transacts : W → Ask → List ℕ → Reply → W → Type 0) (p : Place) (before : W) (new : Place) (after : W) → IfSome p.walk.held IsPlaced → Leads transacts (event_row p) (at_event p) before new after → WritesLent p.memory new.memory
+pub event_writes : {W : Type 0} (transacts : W → Ask → List ℕ → Reply → W → Type 0) (p : WalkPlace) (before : W) (new : WalkPlace) (after : W) → IfSome p.walk.held IsPlaced → Leads transacts (event_row p) (at_event p) before new after → WritesLent p.memory new.memory
 event_writes transacts p before new after is leads =
     both_write p.memory (at_event p).memory new.memory (event_reads (started p) p.walk.held) (row_writes transacts (at_event p) new before after (event_row p) is leads)

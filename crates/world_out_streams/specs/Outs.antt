@@ -4,7 +4,7 @@
 --     StaysBothWays ..        an event leaves both so, with the same published qTDs
 use Rattle.std.specs.Prelude.{◌≡◌, ℕ, Bool, true, List}
 use Rattle.usb_bus.specs.Bus.{Fixed}
-use Rattle.lent_structures.specs.Structures.{Parts}
+use Rattle.lent_structures.specs.Structures.{StructureSets}
 use Rattle.ring_walk.specs.Hand.{Hand}
 use Rattle.ring_walk.specs.Ring.{Base}
 use Rattle.ring_streams.specs.Told.{Endpoint}
@@ -21,12 +21,12 @@ pub record OutStreams : Type 0 where
   pub out : ℕ → List ℕ
   pub harvested : ℕ → List ℕ
 
-abbrev pub AreOutStreams : Fixed → (ℕ → Bool) → OutStreams → Parts → Hand → World → Type 0
+abbrev pub AreOutStreams : Fixed → (ℕ → Bool) → OutStreams → StructureSets → Hand → World → Type 0
 AreOutStreams fixed member y parts hand w = (n : ℕ) → y.outs n ≡ true
     → IsOutStream y.stream (taker_of (wired fixed w) (y.endpoint n).addr (y.endpoint n).ep) member (y.order n) (y.out n) parts hand n (y.endpoint n) (y.harvested n)
 
 pub record StaysBothWays (fixed : Fixed) (base : Base) (member : ℕ → Bool) (x : Streams) (y : OutStreams) (s : Standing) (new : World) : Type 0 where
-  pub parts : Parts
+  pub parts : StructureSets
   pub hand : Hand
   pub acc : ℕ → List (List ℕ)
   pub streaming : IsStreaming fixed base member x (record s { parts = parts; hand = hand; acc = acc }) new

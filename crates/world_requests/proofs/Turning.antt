@@ -3,15 +3,15 @@ use Rattle.std.proofs.Common.{◌≡◌, ℕ, Bool, true, false, Option, Some, N
 use Rattle.walk_copy.specs.declared.held.Held.{Held}
 use Rattle.walk_copy.specs.declared.held.Transaction.{Transaction}
 use Rattle.walk_copy.specs.Buffer.{Reading, sending}
-use Rattle.async_walk.specs.declared.rows.Row.{Row as WalkRow}
-use Rattle.async_walk.specs.declared.rows.Row.TheVariants as walks
-use Rattle.async_walk.specs.Rows.{Place as WalkPlace, at_event, event_row, Sends, SentAt, Leads as WalkLeads}
+use Rattle.async_walk.specs.declared.rows.WalkRow.{WalkRow}
+use Rattle.async_walk.specs.declared.rows.WalkRow.TheVariants as walks
+use Rattle.async_walk.specs.Rows.{WalkPlace, at_event, event_row, Sends, SentAt, Leads as WalkLeads}
 use Rattle.periodic_walk.specs.Place.{Effect, HasEffect}
 use Rattle.periodic_walk.specs.Place.Effect.{Leaves, Asks}
 use Rattle.periodic_walk.specs.Rows.{effect_of}
-use Rattle.hc_core.specs.declared.controller.Row.{Row}
-use Rattle.hc_core.specs.declared.controller.Row.TheVariants as rows
-use Rattle.hc_core.specs.Controller.{Content, row_of, HasRow, entered, frame_place, walk_place}
+use Rattle.hc_core.specs.declared.controller.ControllerRow.{ControllerRow}
+use Rattle.hc_core.specs.declared.controller.ControllerRow.TheVariants as rows
+use Rattle.hc_core.specs.Controller.{Content, microframe_row, HasRow, entered, frame_place, walk_place}
 use Rattle.usb_bus.specs.Bus.{Bus, Wired, Fixed}
 use Rattle.ring_walk.specs.Ring.{Base}
 use Rattle.control_requests.specs.Events.{ControlWindowsGoOn}
@@ -19,7 +19,7 @@ use Rattle.control_requests.proofs.Keeping.{control_windows}
 use Rattle.scripted_requests.specs.Controls.{control_of, transacts_by, begins_by}
 use Rattle.scripted_requests.proofs.Asking.{scripted_control}
 use Rattle.scripted_requests.proofs.Beginning.{scripted_begins}
-use Rattle.lent_structures.specs.Structures.{Parts}
+use Rattle.lent_structures.specs.Structures.{StructureSets}
 use Rattle.request_windows.specs.Line.{Line}
 use Rattle.ring_walk.specs.Hand.{Hand}
 use Rattle.ring_requests.specs.Windows.{Sent, HasEnded, IsActedOnce}
@@ -57,7 +57,7 @@ walk_asks fixed walks.WriteBack p b = (refl, refl)
 
 -- ---- an event of the controller
 
-turned_has_row : (fixed : Fixed) (row : Row) (c : Content) (b : Bus) → HasRow begins_by transacts_by row c (at_bus fixed b) (turned_by fixed row c b).content (at_bus fixed (turned_by fixed row c b).bus)
+turned_has_row : (fixed : Fixed) (row : ControllerRow) (c : Content) (b : Bus) → HasRow begins_by transacts_by row c (at_bus fixed b) (turned_by fixed row c b).content (at_bus fixed (turned_by fixed row c b).bus)
 turned_has_row fixed rows.Idle c b = (refl, refl)
 turned_has_row fixed rows.Begin c b = record { allowed = _; asked = (refl, refl); contents = refl }
 turned_has_row fixed rows.Frame c b = record { part = refl; ring = refl; walked = frame_asks fixed (effect_of (frame_place c)) b }
@@ -65,12 +65,12 @@ turned_has_row fixed rows.Enter c b = record { part = refl; frame = refl; walked
 turned_has_row fixed rows.Go c b = record { part = refl; frame = refl; walked = walk_asks fixed (event_row (walk_place c)) (at_event (walk_place c)) b }
 turned_has_row fixed rows.End c b = (refl, refl)
 
-world_has_row : (fixed : Fixed) (w : World) → HasRow begins_by transacts_by (row_of w.registers w.control) (controller_parts w) (wired fixed w) (controller_parts (controller_next fixed w)) (wired fixed (controller_next fixed w))
+world_has_row : (fixed : Fixed) (w : World) → HasRow begins_by transacts_by (microframe_row w.registers w.control) (controller_parts w) (wired fixed w) (controller_parts (controller_next fixed w)) (wired fixed (controller_next fixed w))
 world_has_row fixed w = turned_has_row fixed (controller_row w) (controller_parts w) w.bus
 
 -- ---- the windows
 
-pub controller_windows : (fixed : Fixed) (base : Base) (member windows : ℕ → Bool) (sent : ℕ → Sent) (parts : Parts) (hand : Hand) (lines : ℕ → Line) (w : World) → HearsBytesNow fixed w → IsRequesting fixed base member windows sent parts hand lines w → StaysRequesting fixed base member windows sent lines (controller_next fixed w)
+pub controller_windows : (fixed : Fixed) (base : Base) (member windows : ℕ → Bool) (sent : ℕ → Sent) (parts : StructureSets) (hand : Hand) (lines : ℕ → Line) (w : World) → HearsBytesNow fixed w → IsRequesting fixed base member windows sent parts hand lines w → StaysRequesting fixed base member windows sent lines (controller_next fixed w)
 controller_windows fixed base member windows sent parts hand lines w heard k =
     let new : World = controller_next fixed w in
     let g : ControlWindowsGoOn begins_by transacts_by control_of base member windows sent lines parts hand (wired fixed w) (wired fixed new) (controller_parts new) =
@@ -78,5 +78,5 @@ controller_windows fixed base member windows sent parts hand lines w heard k =
     k.are scripted_control scripted_begins k.controlled k.on k.all (heard (wired fixed new)) (world_has_row fixed w) in
     record { parts = g.event.now; hand = g.event.later; step = g.step; requesting = record { on = k.on; are = k.are; controlled = g.event.controlled; all = g.all } }
 
-pub world_ended : (fixed : Fixed) (base : Base) (member windows : ℕ → Bool) (sent : ℕ → Sent) (parts : Parts) (hand : Hand) (lines : ℕ → Line) (w : World) (n : ℕ) → IsRequesting fixed base member windows sent parts hand lines w → windows n ≡ true → HasEnded (sent n) parts n → IsActedOnce (sent n) (lines n) hand parts n
+pub world_ended : (fixed : Fixed) (base : Base) (member windows : ℕ → Bool) (sent : ℕ → Sent) (parts : StructureSets) (hand : Hand) (lines : ℕ → Line) (w : World) (n : ℕ) → IsRequesting fixed base member windows sent parts hand lines w → windows n ≡ true → HasEnded (sent n) parts n → IsActedOnce (sent n) (lines n) hand parts n
 world_ended fixed base member windows sent parts hand lines w n k on ended = window_ended control_of base member windows sent lines parts hand (walk_place (controller_parts w)) (wired fixed w) n k.are k.controlled.ring k.all on ended

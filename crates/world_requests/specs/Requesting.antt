@@ -6,7 +6,7 @@
 --     StaysRequesting ..        an event leaves it so, with at most one transaction of one of the requests
 use Rattle.std.specs.Prelude.{ℕ, Bool, Option}
 use Rattle.usb_bus.specs.Bus.{Wired, Fixed}
-use Rattle.lent_structures.specs.Structures.{Parts}
+use Rattle.lent_structures.specs.Structures.{StructureSets}
 use Rattle.request_windows.specs.Line.{Line}
 use Rattle.ring_walk.specs.Hand.{Hand}
 use Rattle.ring_walk.specs.Ring.{Base}
@@ -19,7 +19,7 @@ use Rattle.bus_world.specs.World.{World, controller_parts}
 abbrev pub wired : Fixed → World → Wired
 wired fixed w = record { fixed = fixed; bus = w.bus }
 
-pub record IsRequesting (fixed : Fixed) (base : Base) (member windows : ℕ → Bool) (sent : ℕ → Sent) (parts : Parts) (hand : Hand) (lines : ℕ → Line) (w : World) : Type 0 where
+pub record IsRequesting (fixed : Fixed) (base : Base) (member windows : ℕ → Bool) (sent : ℕ → Sent) (parts : StructureSets) (hand : Hand) (lines : ℕ → Line) (w : World) : Type 0 where
   pub on : IsOn base
   pub are : AreSent member windows sent
   pub controlled : IsControlled base member parts hand (controller_parts w)
@@ -29,7 +29,7 @@ abbrev pub HearsBytesNow : Fixed → World → Type 0
 HearsBytesNow fixed w = (after : Wired) → AreBytesHeard transacts_by (wired fixed w) after
 
 pub record StaysRequesting (fixed : Fixed) (base : Base) (member windows : ℕ → Bool) (sent : ℕ → Sent) (lines : ℕ → Line) (new : World) : Type 0 where
-  pub parts : Parts
+  pub parts : StructureSets
   pub hand : Hand
   pub step : Option Step
   pub requesting : IsRequesting fixed base member windows sent parts hand (stepped sent step lines) new

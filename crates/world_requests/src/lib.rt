@@ -6,7 +6,7 @@
 #![tactic(auto)]
 
 ghost use Rattle.std.specs.Prelude.{◌≡◌, ℕ, Bool, true};
-ghost use Rattle.lent_structures.specs.Structures.{Parts};
+ghost use Rattle.lent_structures.specs.Structures.{StructureSets};
 ghost use Rattle.request_windows.specs.Line.{Line};
 ghost use Rattle.usb_bus.specs.Bus.{Fixed};
 ghost use Rattle.ring_walk.specs.Hand.{Hand};
@@ -17,12 +17,12 @@ ghost use Rattle.world_requests.specs.Requesting.{IsRequesting, HearsBytesNow, S
 
 /// Each event of the controller leaves the windows so.
 pub fn the_controller_leaves_the_windows()
-    ensures { (fixed : Fixed) (base : Base) (member windows : ℕ → Bool) (sent : ℕ → Sent) (parts : Parts) (hand : Hand) (lines : ℕ → Line) (w : World)
+    ensures { (fixed : Fixed) (base : Base) (member windows : ℕ → Bool) (sent : ℕ → Sent) (parts : StructureSets) (hand : Hand) (lines : ℕ → Line) (w : World)
         → HearsBytesNow fixed w → IsRequesting fixed base member windows sent parts hand lines w → StaysRequesting fixed base member windows sent lines (controller_next fixed w) }
 {}
 
 /// Where memory shows that the status of a request ended, and that its queue head isn't halted, its device acted on it exactly once.
 pub fn an_ended_request_was_acted_on_once()
-    ensures { (fixed : Fixed) (base : Base) (member windows : ℕ → Bool) (sent : ℕ → Sent) (parts : Parts) (hand : Hand) (lines : ℕ → Line) (w : World) (n : ℕ)
+    ensures { (fixed : Fixed) (base : Base) (member windows : ℕ → Bool) (sent : ℕ → Sent) (parts : StructureSets) (hand : Hand) (lines : ℕ → Line) (w : World) (n : ℕ)
         → IsRequesting fixed base member windows sent parts hand lines w → windows n ≡ true → HasEnded (sent n) parts n → IsActedOnce (sent n) (lines n) hand parts n }
 {}

@@ -4,15 +4,15 @@ use Rattle.std.specs.List.{concat}
 use Rattle.walk_copy.specs.declared.held.Held.{Held}
 use Rattle.walk_copy.specs.declared.held.Transaction.{Transaction}
 use Rattle.walk_copy.specs.Buffer.{Reading, sending}
-use Rattle.async_walk.specs.declared.rows.Row.{Row as WalkRow}
-use Rattle.async_walk.specs.declared.rows.Row.TheVariants as walks
-use Rattle.async_walk.specs.Rows.{Place as WalkPlace, at_event, event_row, Sends, SentAt, Leads as WalkLeads}
+use Rattle.async_walk.specs.declared.rows.WalkRow.{WalkRow}
+use Rattle.async_walk.specs.declared.rows.WalkRow.TheVariants as walks
+use Rattle.async_walk.specs.Rows.{WalkPlace, at_event, event_row, Sends, SentAt, Leads as WalkLeads}
 use Rattle.periodic_walk.specs.Place.{Effect, HasEffect}
 use Rattle.periodic_walk.specs.Place.Effect.{Leaves, Asks}
 use Rattle.periodic_walk.specs.Rows.{effect_of}
-use Rattle.hc_core.specs.declared.controller.Row.{Row}
-use Rattle.hc_core.specs.declared.controller.Row.TheVariants as rows
-use Rattle.hc_core.specs.Controller.{Content, row_of, HasRow, entered, frame_place, walk_place}
+use Rattle.hc_core.specs.declared.controller.ControllerRow.{ControllerRow}
+use Rattle.hc_core.specs.declared.controller.ControllerRow.TheVariants as rows
+use Rattle.hc_core.specs.Controller.{Content, microframe_row, HasRow, entered, frame_place, walk_place}
 use Rattle.pipe_agreement.specs.Prefix.{IsPrefix}
 use Rattle.usb_bus.specs.Bus.{Bus, Wired, Fixed}
 use Rattle.ring_walk.specs.Ring.{Base}
@@ -56,7 +56,7 @@ walk_asks fixed walks.WriteBack p b = (refl, refl)
 
 -- ---- an event of the controller
 
-turned_has_row : (fixed : Fixed) (row : Row) (c : Content) (b : Bus) → HasRow begins_by transacts_by row c (at_bus fixed b) (turned_by fixed row c b).content (at_bus fixed (turned_by fixed row c b).bus)
+turned_has_row : (fixed : Fixed) (row : ControllerRow) (c : Content) (b : Bus) → HasRow begins_by transacts_by row c (at_bus fixed b) (turned_by fixed row c b).content (at_bus fixed (turned_by fixed row c b).bus)
 turned_has_row fixed rows.Idle c b = (refl, refl)
 turned_has_row fixed rows.Begin c b = record { allowed = _; asked = (refl, refl); contents = refl }
 turned_has_row fixed rows.Frame c b = record { part = refl; ring = refl; walked = frame_asks fixed (effect_of (frame_place c)) b }
@@ -64,7 +64,7 @@ turned_has_row fixed rows.Enter c b = record { part = refl; frame = refl; walked
 turned_has_row fixed rows.Go c b = record { part = refl; frame = refl; walked = walk_asks fixed (event_row (walk_place c)) (at_event (walk_place c)) b }
 turned_has_row fixed rows.End c b = (refl, refl)
 
-pub world_has_row : (fixed : Fixed) (w : World) → HasRow begins_by transacts_by (row_of w.registers w.control) (controller_parts w) (wired fixed w) (controller_parts (controller_next fixed w)) (wired fixed (controller_next fixed w))
+pub world_has_row : (fixed : Fixed) (w : World) → HasRow begins_by transacts_by (microframe_row w.registers w.control) (controller_parts w) (wired fixed w) (controller_parts (controller_next fixed w)) (wired fixed (controller_next fixed w))
 world_has_row fixed w = turned_has_row fixed (controller_row w) (controller_parts w) w.bus
 
 -- ---- the streams

@@ -10,7 +10,7 @@ use Rattle.std.specs.Prelude.{◌≡◌, ℕ, Bool, List}
 use Rattle.usb_base.specs.declared.packets.Ask.{Ask}
 use Rattle.usb_base.specs.declared.packets.Reply.{Reply}
 use Rattle.usb_bus.specs.Bus.{Wired, Fixed, begin_after, is_allowed, reply_of, transact_after}
-use Rattle.lent_structures.specs.Structures.{Parts}
+use Rattle.lent_structures.specs.Structures.{StructureSets}
 use Rattle.ring_walk.specs.Hand.{Hand}
 use Rattle.ring_walk.specs.Ring.{Base}
 use Rattle.ring_walk.specs.Effects.{AreBytesHeard}
@@ -37,7 +37,7 @@ pub record Streams : Type 0 where
   pub endpoint : ℕ → Endpoint
 
 pub record Standing : Type 0 where
-  pub parts : Parts
+  pub parts : StructureSets
   pub hand : Hand
   pub acc : ℕ → List (List ℕ)
   pub order : ℕ → ℕ → ℕ
@@ -56,7 +56,7 @@ HearsBytesNow fixed w = (after : Wired) → AreBytesHeard transacts_by (wired fi
 
 -- an event leaves it so, with the same published qTDs and the same report
 pub record StaysStreaming (fixed : Fixed) (base : Base) (member : ℕ → Bool) (x : Streams) (s : Standing) (new : World) : Type 0 where
-  pub parts : Parts
+  pub parts : StructureSets
   pub hand : Hand
   pub acc : ℕ → List (List ℕ)
   pub streaming : IsStreaming fixed base member x (record s { parts = parts; hand = hand; acc = acc }) new

@@ -3,7 +3,7 @@
 --     written                the parts after its write-back
 use Rattle.std.specs.Prelude.{ℕ, true, false, List, [], ◌∷◌}
 use Rattle.qh_qtd.specs.declared.queue_head.Qh.{Qh}
-use Rattle.lent_structures.specs.Structures.{Parts}
+use Rattle.lent_structures.specs.Structures.{StructureSets}
 use Rattle.lent_structures.specs.Samples.{token, queue, element, bytes, pages, parts}
 use Rattle.write_back_laws.specs.WriteBack.{Received, Into, parts_back}
 
@@ -19,5 +19,5 @@ got = 1 ∷ 2 ∷ []
 abbrev pub into : Received
 into = Into pages 100 bytes 0
 
-abbrev pub written : Parts
+abbrev pub written : StructureSets
 written = parts_back parts 0 0 queue settled 2 got into element

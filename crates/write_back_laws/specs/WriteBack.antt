@@ -13,18 +13,18 @@ use Rattle.buffers.specs.Bytes.{place}
 use Rattle.qh_qtd.specs.declared.qtd.Qtd.{Qtd}
 use Rattle.qh_qtd.specs.declared.queue_head.Qh.{Qh}
 use Rattle.qh_qtd.specs.QueueHead.{qh_words, IsQhInRange}
-use Rattle.walk_copy.specs.Overlay.{advanced, pages_of, place_of, moved}
-use Rattle.lent_structures.specs.Structures.{QueueHead, Element, Buffer, Part, Parts, put}
+use Rattle.walk_copy.specs.Overlay.{advanced, pages_of, buffer_place, moved}
+use Rattle.lent_structures.specs.Structures.{QueueHead, Element, Buffer, Structures, StructureSets, put}
 use Rattle.lent_structures.specs.Changes.{relinked, overwritten}
 
 -- ---- the copy
 
-pub record IsCopy (parts : Parts) (n a : ℕ) (q c : Qh) : Type 0 where
+pub record IsCopy (parts : StructureSets) (n a : ℕ) (q c : Qh) : Type 0 where
   pub head : parts n a ≡ Some (QueueHead q)
   pub range : IsQhInRange c
   pub front : take 3 (qh_words (relinked q c)) ≡ take 3 (qh_words q)
 
-abbrev pub parts_advanced : Parts → ℕ → ℕ → Qh → Qh → ℕ → Qtd → Parts
+abbrev pub parts_advanced : StructureSets → ℕ → ℕ → Qh → Qh → ℕ → Qtd → StructureSets
 parts_advanced parts n a q c e t = put parts n a (QueueHead (relinked q (advanced c e t)))
 
 -- ---- received bytes
@@ -33,24 +33,24 @@ pub data Received : Type 0 where
   Nothing : Received
   Into : List ℕ → ℕ → List ℕ → ℕ → Received  -- the pages of the buffer, the place of its first byte in them, its bytes, and j
 
-pub record IsInto (part : Part) (c : Qh) (got : List ℕ) (pages : List ℕ) (k : ℕ) (bs : List ℕ) (j : ℕ) : Type 0 where
+pub record IsInto (part : Structures) (c : Qh) (got : List ℕ) (pages : List ℕ) (k : ℕ) (bs : List ℕ) (j : ℕ) : Type 0 where
   pub buffer : part (place pages k) ≡ Some (Buffer pages k bs)
   pub pages_are : pages_of c ≡ pages
-  pub place_is : place_of c ≡ k + j
+  pub place_is : buffer_place c ≡ k + j
   pub fits : j + length got ≤ length bs
   pub bytes : (i : ℕ) → slice_index got i < 256
 
-abbrev pub IsReceived : Part → Qh → List ℕ → Received → Type 0
+abbrev pub IsReceived : Structures → Qh → List ℕ → Received → Type 0
 IsReceived part c got Nothing = got ≡ []
 IsReceived part c got (Into pages k bs j) = IsInto part c got pages k bs j
 
-abbrev pub received_parts : Parts → ℕ → List ℕ → Received → Parts
+abbrev pub received_parts : StructureSets → ℕ → List ℕ → Received → StructureSets
 received_parts parts n got Nothing = parts
 received_parts parts n got (Into pages k bs j) = put parts n (place pages k) (Buffer pages k (overwritten bs j got))
 
 -- ---- the write-back
 
-pub record CanBeWritten (parts : Parts) (n a : ℕ) (q c : Qh) (got : List ℕ) (r : Received) (t : Qtd) : Type 0 where
+pub record CanBeWritten (parts : StructureSets) (n a : ℕ) (q c : Qh) (got : List ℕ) (r : Received) (t : Qtd) : Type 0 where
   pub copy : IsCopy parts n a q c
   pub element : parts n c.current ≡ Some (Element t)
   pub received : IsReceived (parts n) c got r
@@ -59,6 +59,6 @@ abbrev pub qtd_after : Qh → Qtd → Qtd
 qtd_after c t = if c.token.active then t else record t { token = c.token }
 
 -- `count` bytes were moved, which are received ones or were sent
-abbrev pub parts_back : Parts → ℕ → ℕ → Qh → Qh → ℕ → List ℕ → Received → Qtd → Parts
+abbrev pub parts_back : StructureSets → ℕ → ℕ → Qh → Qh → ℕ → List ℕ → Received → Qtd → StructureSets
 parts_back parts n a q c count got r t =
     put (put (received_parts parts n got r) n a (QueueHead (relinked q (moved c count)))) n c.current (Element (qtd_after (moved c count) t))

@@ -1,4 +1,4 @@
-use Rattle.std.proofs.Common.{◌≡◌, leb, sym, ap, ◌∙◌, subst}
+use Rattle.std.proofs.Common.{leb, sym, ap, ◌∙◌, subst}
 use Rattle.std.specs.Prelude.{filter}
 use Rattle.frame_members.specs.Ranks.{rank_of}
 use Rattle.frame_members.specs.Members.{IsRising, is_up_to}

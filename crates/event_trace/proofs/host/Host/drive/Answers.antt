@@ -1,5 +1,5 @@
 use Rattle.std.proofs.Common.{ap, ◌∙◌}
-use Rattle.driver_rows.specs.Rows.{step_of, row_of as driver_row}
+use Rattle.driver_rows.specs.Rows.{step_of, driver_row}
 use Rattle.event_trace.specs.Watched.{Watched, parts_of, driven_step}
 use Rattle.event_trace.proofs.host.Host.drive.Goals as goal
 

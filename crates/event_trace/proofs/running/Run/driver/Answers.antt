@@ -1,9 +1,7 @@
-use Rattle.std.proofs.Common.{subst}
-use Rattle.event_trace.specs.Watched.{Watched, IsDriven}
 use Rattle.event_trace.proofs.Going.{if_driven}
 use Rattle.event_trace.proofs.running.Run.driver.Goals as goal
 
 pub returns : goal.returns
 returns c =
     if_driven c.put.result c.args.self.now.choice c.put.new.self.choice c.args.self.now.host c.driver_event-entry.new.self c.put.new.self.host c.args.self.now.text.items c.put.new.self.text.items
-    c.driver_event-entry.result (subst (λ (m : Watched). IsDriven m c.driver_event-entry.result c.driver_event-entry.new.self) c.look.ensures c.driver_event-entry.ensures) c.put.ensures
+    c.driver_event-entry.result c.driver_event-entry.ensures c.put.ensures

@@ -1,4 +1,4 @@
-use Rattle.std.proofs.Common.{◌≡◌, sym, ◌∙◌, ap}
+use Rattle.std.proofs.Common.{sym, ◌∙◌, ap}
 use Rattle.tt_pipeline.specs.Starting.{has_key}
 use Rattle.tt_pipeline.specs.Answers.{given, answer_from}
 use Rattle.tt_pipeline.proofs.Places.{none_there, with_none, set_at, find_none, find_place}

@@ -1,8 +1,8 @@
-use Rattle.std.proofs.Common.{◌≡◌, sym, ◌∙◌, length}
+use Rattle.std.proofs.Common.{sym, ◌∙◌, length}
 use Rattle.std.specs.List.{find}
 use Rattle.tt_pipeline.specs.Starting.{has_key}
 use Rattle.tt_pipeline.specs.Work.{joined}
-use Rattle.tt_pipeline.proofs.Places.{none_there, with_none, set_at, find_none, find_place, joins_within, joins_some}
+use Rattle.tt_pipeline.proofs.Places.{none_there, with_none, set_at, find_place, joins_within}
 use Rattle.tt_pipeline.proofs.pipeline.Pipeline.join.Goals as goal
 
 pub join-requires : goal.join-requires

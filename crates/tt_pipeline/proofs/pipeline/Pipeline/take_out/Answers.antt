@@ -1,5 +1,5 @@
-use Rattle.std.proofs.Common.{◌≡◌, sym, ◌∙◌}
-use Rattle.tt_pipeline.specs.Starting.{has_key, is_there, without}
+use Rattle.std.proofs.Common.{sym, ◌∙◌}
+use Rattle.tt_pipeline.specs.Starting.{has_key}
 use Rattle.tt_pipeline.proofs.Places.{none_there, remove_at, without_none}
 use Rattle.tt_pipeline.proofs.pipeline.Pipeline.take_out.Goals as goal
 

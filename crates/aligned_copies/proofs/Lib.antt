@@ -1,0 +1,4 @@
+pub mod Reading
+pub mod Ringing
+pub mod Framing
+pub mod Controlling

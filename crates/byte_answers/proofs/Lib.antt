@@ -1,0 +1,4 @@
+pub mod Lists
+pub mod Devices
+pub mod Hubs
+pub mod Buses

@@ -1,0 +1,316 @@
+-- An accepted command leaves the transfers chained and in turn.
+use Rattle.std.proofs.Common.{◌≡◌, ◌≢◌, ℕ, zero, suc, ◌+◌, ◌-◌, ◌<◌, ◌≤◌, Bool, true, false, ◌||◌, ◌==◌, cond, List, [], ◌∷◌, ◌++◌, length, set, take, drop, get_or, slice_get, Option, Some, None, Ok, option_map, ap, sym, subst, ◌∙◌, ⊎_elim, inl, inr, refl, arith}
+use Rattle.std.specs.Prelude.{◌⊎◌}
+use Rattle.std.proofs.lemmas.Bool.{false≢true}
+use Rattle.std.proofs.lemmas.Option.{same_Some}
+use Rattle.usb_base.specs.declared.commands.Cmd.{Cmd}
+use Rattle.word_mem.specs.Memory.{Mem}
+use Rattle.run_book.specs.Book.{holding, Stands, slot_of}
+use Rattle.driver_rows.specs.declared.content.Endpoint.{Endpoint}
+use Rattle.driver_rows.specs.declared.content.Transfer.{Transfer}
+use Rattle.driver_rows.specs.declared.content.QtdNote.{QtdNote}
+use Rattle.driver_rows.specs.declared.content.Sort.TheVariants as sorts
+use Rattle.driver_rows.specs.DriverContent.{DriverContent}
+use Rattle.driver_rows.specs.Words.{needs}
+use Rattle.driver_rows.specs.Offers.{Offered, Asked, offered, new_runs, new_endpoint, note_stages, accepted_open, accepted_transfer, with_queued, new_transfer, first_waiting}
+use Rattle.run_owners.specs.Accepts.{Transfers}
+use Rattle.run_owners.specs.Leaving.{IsOrderly, times}
+use Rattle.run_owners.specs.Kept.{HasOwners}
+use Rattle.run_owners.specs.Owners.{Owner, Element, runs_of_endpoint, runs_of_transfer, runs_of_note, note_in, transfer_in, TransferRuns, views_of, IsOwned}
+use Rattle.run_owners.proofs.Runs.{placed_run}
+use Rattle.run_owners.proofs.Taking.{runs_taken}
+use Rattle.run_owners.proofs.Chains.{notes_apart}
+use Rattle.run_owners.proofs.Accepted.{drop_first, push_case}
+use Rattle.run_owners.proofs.Orders.{owed, one_same}
+use Rattle.run_owners.proofs.Transferred.{are_new, goes_on_alive}
+use Rattle.chained_transfers.specs.Receives.{OpensReceiving, IsStanding, Receives}
+use Rattle.chained_transfers.specs.Accepted.{IsOpened, IsAsked}
+use Rattle.chained_transfers.specs.Chains.{piece_at}
+use Rattle.chained_transfers.specs.Turns.{IsAtPlace, AreAtPlaces, Turn, turn_of, turn_in, AreReportedTo, AreTurns}
+use Rattle.chained_transfers.specs.InTurn.{TakesTurns}
+use Rattle.chained_transfers.proofs.Chained.{pieces_same, endpoint_chained, within_list, pushed_there, pushed_last}
+use Rattle.chained_transfers.proofs.Queued.{not_dummy, transfer_chained}
+use Rattle.chained_transfers.proofs.Turning.{IsChangedAt, which, changed_plain}
+use Rattle.chained_transfers.proofs.Accepting.{command_received}
+use Rattle.chained_transfers.proofs.Rows.{ends_set}
+
+push_which : {X : Type 0} (xs : List X) (x : X) (n : ℕ) (z : X) → slice_get (xs ++ x ∷ []) n ≡ Some z → (slice_get xs n ≡ Some z) ⊎ ((n ≡ length xs) × (z ≡ x))
+push_which [] x zero z here = inr (refl, sym (same_Some x z here))
+push_which [] x (suc n) z here = absurd (cc)
+push_which (y ∷ ys) x zero z here = inl here
+push_which (y ∷ ys) x (suc n) z here =
+    ⊎_elim (λ (was : slice_get ys n ≡ Some z). inl was) (λ (new : (n ≡ length ys) × (z ≡ x)). inr (ap suc new.0, new.1)) (push_which ys x n z here)
+
+push_there : {X : Type 0} (xs : List X) (x : X) (n : ℕ) (z : X) → slice_get xs n ≡ Some z → slice_get (xs ++ x ∷ []) n ≡ Some z
+push_there [] x n z here = absurd (cc)
+push_there (y ∷ ys) x zero z here = here
+push_there (y ∷ ys) x (suc n) z here = push_there ys x n z here
+
+low : {X : Type 0} (xs : List X) (n : ℕ) (z : X) → slice_get xs n ≡ Some z → n < length xs
+low [] n z here = absurd (cc)
+low (y ∷ ys) zero z here = omega arith
+low (y ∷ ys) (suc n) z here = let rest = low ys n z here in omega arith
+
+-- ---- an endpoint is opened
+
+opened_turns : (v : ℕ → Option Turn) (xs : List Endpoint) (x : Endpoint) (hs : List ℕ) → ((t : ℕ) (y : Turn) → v t ≡ Some y → y.endpoint < length xs) → x.next ≡ None → AreTurns v (slice_get xs) hs → AreTurns v (slice_get (xs ++ x ∷ [])) hs
+opened_turns v xs x hs within none old = record {
+  reported = old.reported;
+  released = old.released;
+  told = old.told;
+  next = λ e y here goes. ⊎_elim (λ (was : slice_get xs e ≡ Some y). old.next e y was goes)
+      (λ (new : (e ≡ length xs) × (y ≡ x)).
+      subst (λ (o : Option ℕ). AreReportedTo v e o) (sym (ap (λ (z : Endpoint). z.next) new.1 ∙ none))
+      (λ u z there of_e. let w = within u z there in absurd (omega (arith, w, of_e, new.0))))
+      (push_which xs x e y here);
+  owed = λ t y z there here goes. ⊎_elim (λ (was : slice_get xs y.endpoint ≡ Some z). old.owed t y z there was goes)
+      (λ (new : (y.endpoint ≡ length xs) × (z ≡ x)). let w = within t y there in absurd (omega (arith, w, new.0)))
+      (push_which xs x y.endpoint z here);
+  order = old.order;
+}
+
+pub open_turns : (d : DriverContent) (m : Mem) (o : Offered) → IsOrderly d → IsOpened d m o → TakesTurns d → TakesTurns o.driver
+open_turns d m o order why old =
+    let w = why.opens in
+    let q = get_or (new_runs d w.holding_after) 0 0 in
+    let f = get_or (new_runs d w.holding_after) 1 0 in
+    let x = new_endpoint w.desc q f in
+    let r = old.receives in
+    let now : TakesTurns (accepted_open d w.desc w.holding_after q f).driver = record {
+      receives = record {
+        endpoints = λ e z here. ⊎_elim (λ (was : slice_get d.endpoints e ≡ Some z). r.endpoints e z was)
+            (λ (new : (e ≡ length d.endpoints) × (z ≡ x)).
+            subst (λ (y : Endpoint). IsStanding y) (sym new.1) (record { receives = why.receives; placement = refl; cancelled = refl; linked = refl; chained = refl; gone = refl }))
+            (push_which d.endpoints x e z here);
+        gets = r.gets;
+        command = tt;
+        mends = r.mends;
+        unlinks = r.unlinks;
+        removals = r.removals;
+        waiting = r.waiting;
+        rung = r.rung;
+        cleared = r.cleared;
+      };
+      chained = endpoint_chained (views_of d) d.endpoints x (λ e. refl) (λ t y there. of_runs t y there (turn_at_runs t y there)) old.chained (slot_of w.holding_after.book.slots);
+      turns = record { places = old.turns.places; turns = opened_turns (turn_in d.transfers) d.endpoints x d.harvested of_turn refl old.turns.turns };
+    } in
+    subst (λ (g : Offered). TakesTurns g.driver) (sym w.is) now
+  where
+    turn_at_runs : (t : ℕ) (y : TransferRuns) → transfer_in d.transfers t ≡ Some y → (z : Transfer) × (slice_get d.transfers t ≡ Some z) × (y.endpoint ≡ z.endpoint)
+    turn_at_runs t y there = by (slice_get d.transfers t) refl there
+      where
+        by : (o : Option Transfer) → slice_get d.transfers t ≡ o → option_map runs_of_transfer o ≡ Some y → (z : Transfer) × (slice_get d.transfers t ≡ Some z) × (y.endpoint ≡ z.endpoint)
+        by None is f = absurd (cc)
+        by (Some z) is f = (z, is, sym (ap (λ (r : TransferRuns). r.endpoint) (same_Some (runs_of_transfer z) y f)))
+
+    of_runs : (t : ℕ) (y : TransferRuns) → transfer_in d.transfers t ≡ Some y → (z : Transfer) × (slice_get d.transfers t ≡ Some z) × (y.endpoint ≡ z.endpoint) → y.endpoint < length d.endpoints
+    of_runs t y there z = let w = order.within t z.0 z.1 in omega (arith, w, z.2)
+
+    of_turn : (t : ℕ) (y : Turn) → turn_in d.transfers t ≡ Some y → y.endpoint < length d.endpoints
+    of_turn t y there = by (slice_get d.transfers t) refl there
+      where
+        by : (o : Option Transfer) → slice_get d.transfers t ≡ o → option_map turn_of o ≡ Some y → y.endpoint < length d.endpoints
+        by None is f = absurd (cc)
+        by (Some z) is f = let w = order.within t z is in let e = ap (λ (r : Turn). r.endpoint) (same_Some (turn_of z) y f) in omega (arith, w, e)
+
+-- ---- a transfer is accepted
+
+module _ (v w : ℕ → Option Turn) (ends ends_now : ℕ → Option Endpoint) (hs : List ℕ) (e number : ℕ) (a b : Endpoint) (z : Turn) where
+  -- the new one has the next number, and its endpoint goes on with its first unreported one
+  record IsNewest : Type 0 where
+    turns : (k : ℕ) (y : Turn) → w k ≡ Some y → (v k ≡ Some y) ⊎ ((k ≡ number) × (y ≡ z))
+    there : (k : ℕ) (y : Turn) → v k ≡ Some y → (k < number) × (w k ≡ Some y)
+    last : w number ≡ Some z
+    fresh : (z.endpoint ≡ e) × (z.reported ≡ false) × (z.released ≡ false)
+    moved : IsChangedAt ends ends_now e a b
+    goes_on : (a.ended ≡ None) × (b.ended ≡ None) × (b.next ≡ first_waiting a.next number)
+    listed : (i u : ℕ) → slice_get hs i ≡ Some u → (y : Turn) × (v u ≡ Some y)
+
+  next_of : IsNewest → (k : ℕ) (o : Option ℕ) → AreReportedTo v k o → k ≢ e → AreReportedTo w k o
+  next_of n k None old differs = λ u y there of_k.
+      ⊎_elim (λ (was : v u ≡ Some y). old u y was of_k)
+      (λ (new : (u ≡ number) × (y ≡ z)). absurd (differs (sym of_k ∙ ap (λ (r : Turn). r.endpoint) new.1 ∙ n.fresh.0))) (n.turns u y there)
+  next_of n k (Some t) old differs = record {
+    transfer = old.transfer;
+    here = (n.there t old.transfer old.here).1;
+    endpoint = old.endpoint;
+    waits = old.waits;
+    before = λ u y less there of_k.
+        ⊎_elim (λ (was : v u ≡ Some y). old.before u y less was of_k)
+        (λ (new : (u ≡ number) × (y ≡ z)). absurd (differs (sym of_k ∙ ap (λ (r : Turn). r.endpoint) new.1 ∙ n.fresh.0))) (n.turns u y there);
+  }
+
+  next_here : IsNewest → (o : Option ℕ) → AreReportedTo v e o → AreReportedTo w e (first_waiting o number)
+  next_here n None old = record {
+    transfer = z;
+    here = n.last;
+    endpoint = n.fresh.0;
+    waits = n.fresh.1;
+    before = λ u y less there of_e.
+        ⊎_elim (λ (was : v u ≡ Some y). old u y was of_e) (λ (new : (u ≡ number) × (y ≡ z)). absurd (omega (arith, less, new.0))) (n.turns u y there);
+  }
+  next_here n (Some t) old = record {
+    transfer = old.transfer;
+    here = (n.there t old.transfer old.here).1;
+    endpoint = old.endpoint;
+    waits = old.waits;
+    before = λ u y less there of_e.
+        ⊎_elim (λ (was : v u ≡ Some y). old.before u y less was of_e)
+        (λ (new : (u ≡ number) × (y ≡ z)). let l = (n.there t old.transfer old.here).0 in absurd (omega (arith, less, new.0, l))) (n.turns u y there);
+  }
+
+  false_true : (c : Bool) → c ≡ false → c ≡ true → ⊥
+  false_true c off on = false≢true (sym off ∙ on)
+
+  newest_turns : IsNewest → AreTurns v ends hs → AreTurns w ends_now hs
+  newest_turns n old = record {
+    reported = λ t u y x less here there is told.
+        ⊎_elim
+        (λ (was : v u ≡ Some x).
+        ⊎_elim (λ (was_t : v t ≡ Some y). old.reported t u y x less was_t was is told)
+        (λ (new : (t ≡ number) × (y ≡ z)). let l = (n.there u x was).0 in absurd (omega (arith, l, new.0, less))) (n.turns t y here))
+        (λ (new : (u ≡ number) × (x ≡ z)). absurd (false_true z.reported n.fresh.1 (sym (ap (λ (r : Turn). r.reported) new.1) ∙ told))) (n.turns u x there);
+    released = λ t u y x less here there is gone.
+        ⊎_elim
+        (λ (was : v u ≡ Some x).
+        ⊎_elim (λ (was_t : v t ≡ Some y). old.released t u y x less was_t was is gone)
+        (λ (new : (t ≡ number) × (y ≡ z)). let l = (n.there u x was).0 in absurd (omega (arith, l, new.0, less))) (n.turns t y here))
+        (λ (new : (u ≡ number) × (x ≡ z)). absurd (false_true z.released n.fresh.2 (sym (ap (λ (r : Turn). r.released) new.1) ∙ gone))) (n.turns u x there);
+    told = λ t y here gone.
+        ⊎_elim (λ (was : v t ≡ Some y). old.told t y was gone)
+        (λ (new : (t ≡ number) × (y ≡ z)). absurd (false_true z.released n.fresh.2 (sym (ap (λ (r : Turn). r.released) new.1) ∙ gone))) (n.turns t y here);
+    next = λ k x here goes.
+        ⊎_elim
+        (λ (own : (k ≡ e) × (x ≡ b)).
+        subst (λ (i : ℕ). AreReportedTo w i x.next) (sym own.0)
+        (subst (λ (o : Option ℕ). AreReportedTo w e o) (sym (ap (λ (r : Endpoint). r.next) own.1 ∙ n.goes_on.2)) (next_here n a.next (old.next e a n.moved.was n.goes_on.0))))
+        (λ (other : (k ≢ e) × (ends k ≡ Some x)). next_of n k x.next (old.next k x other.1 goes) other.0) (which ends ends_now e a b k x n.moved here);
+    owed = λ t y x here at goes told held.
+        ⊎_elim
+        (λ (was : v t ≡ Some y).
+        ⊎_elim
+        (λ (own : (y.endpoint ≡ e) × (x ≡ b)). old.owed t y a was (ap ends own.0 ∙ n.moved.was) n.goes_on.0 told held)
+        (λ (other : (y.endpoint ≢ e) × (ends y.endpoint ≡ Some x)). old.owed t y x was other.1 goes told held) (which ends ends_now e a b y.endpoint x n.moved at))
+        (λ (new : (t ≡ number) × (y ≡ z)). absurd (false_true z.reported n.fresh.1 (sym (ap (λ (r : Turn). r.reported) new.1) ∙ told))) (n.turns t y here);
+    order = λ i t u y x at less here there is.
+        let l = n.listed i u at in
+        let below = (n.there u l.0 l.1).0 in
+        ⊎_elim
+        (λ (was : v u ≡ Some x).
+        ⊎_elim (λ (was_t : v t ≡ Some y). old.order i t u y x at less was_t was is)
+        (λ (new : (t ≡ number) × (y ≡ z)). absurd (omega (arith, below, new.0, less))) (n.turns t y here))
+        (λ (new : (u ≡ number) × (x ≡ z)). absurd (omega (arith, below, new.0))) (n.turns u x there);
+  }
+
+-- the new transfer's place is its first qTD
+new_place : (note : ℕ → _) (e : ℕ) (a : Asked) (b : ℕ) → 1 ≤ length a.stages → IsAtPlace note (new_transfer e a b)
+new_place note e a b some =
+    let zero_left : length a.stages - length a.stages ≡ 0 = omega arith in
+    record { some = some; most = omega arith; place = sym (ap (piece_at note b) zero_left) }
+
+asked_places : (d : DriverContent) (m : Mem) (o : Offered) (owner : ℕ → Owner) → Stands (holding d.book m) → Transfers d m o → IsOrderly d → IsOwned d owner → AreAtPlaces (note_in d.notes) d.transfers → AreAtPlaces (note_in o.driver.notes) o.driver.transfers
+asked_places d m o owner stands why order old places =
+    let all = runs_taken (holding d.book m) why.holding_after (needs why.asked.stages) stands why.runs in
+    let bs = all.blocks in
+    let ss = why.asked.stages in
+    let n = length ss in
+    let x = why.endpoint in
+    let e = why.number in
+    let qtds = take n bs in
+    let runs = drop n bs in
+    let new : new_runs d why.holding_after ≡ bs = ap (drop (length d.book.taken)) all.are.taken ∙ drop_first d.book.taken bs in
+    let alive = goes_on_alive x why.goes_on (order.steady e x why.here) in
+    let was = old.each.dummy e (runs_of_endpoint x) (ap (option_map runs_of_endpoint) why.here) (ap (λ k. k || x.gone) why.queued ∙ alive) in
+    let are = are_new ss owner x.dummy e (length d.transfers) why.some all.are was in
+    let notes = note_stages d.notes ss x.dummy qtds runs in
+    let dummy = get_or qtds (n - 1) 0 in
+    let y = new_transfer e why.asked x.dummy in
+    let f : ℕ → List QtdNote → Offered = λ c ns. accepted_transfer d e x why.asked why.holding_after c ns in
+    let now : AreAtPlaces (note_in notes) (d.transfers ++ y ∷ []) = λ t z here held.
+    ⊎_elim
+    (λ (was_t : slice_get d.transfers t ≡ Some z).
+    let p = places t z was_t held in
+    let some = p.some in
+    let most = p.most in
+    record {
+      some = p.some;
+      most = p.most;
+      place = p.place
+          ∙ sym (pieces_same (slot_of d.book.slots) owner (note_in d.notes) (note_in notes) t z.first z.qtds (old.each.pieces t (runs_of_transfer z) (ap (option_map runs_of_transfer) was_t) held)
+          (λ c q. ap runs_of_note (notes_apart d.notes ss x.dummy qtds runs c (are.apart c (placed_run c (Element t) q) (not_dummy x.dummy c e t was q)))) (z.qtds - z.left) (omega arith));
+    })
+    (λ (new_t : (t ≡ length d.transfers) × (z ≡ y)). subst (λ (r : Transfer). IsAtPlace (note_in notes) r) (sym new_t.1) (new_place (note_in notes) e why.asked x.dummy why.some))
+    (push_which d.transfers y t z here) in
+    subst (λ (g : Offered). AreAtPlaces (note_in g.driver.notes) g.driver.transfers) (sym why.is)
+    (subst (λ (rs : List ℕ). AreAtPlaces (note_in (f (get_or (take n rs) (n - 1) 0) (note_stages d.notes ss x.dummy (take n rs) (drop n rs))).driver.notes) (f (get_or (take n rs) (n - 1) 0) (note_stages d.notes ss x.dummy (take n rs) (drop n rs))).driver.transfers) (sym new) now)
+
+turn_which : (ts : List Transfer) (y : Transfer) (k : ℕ) (z : Turn) → turn_in (ts ++ y ∷ []) k ≡ Some z → (turn_in ts k ≡ Some z) ⊎ ((k ≡ length ts) × (z ≡ turn_of y))
+turn_which ts y k z here = push_case turn_of ts y k z here
+
+times_of : (hs : List ℕ) (i u : ℕ) → slice_get hs i ≡ Some u → 1 ≤ times u hs
+times_of [] i u here = absurd (cc)
+times_of (h ∷ hs) zero u here =
+    let is : h ≡ u = same_Some h u here in
+    let one : cond (h == u) 1 0 ≡ 1 = ap (λ (n : ℕ). cond (n == u) 1 0) is ∙ one_same u in omega (arith, one)
+times_of (h ∷ hs) (suc i) u here = let rest = times_of hs i u here in omega (arith, rest)
+
+asked_turns : (d : DriverContent) (m : Mem) (o : Offered) → Transfers d m o → IsOrderly d → AreTurns (turn_in d.transfers) (slice_get d.endpoints) d.harvested → AreTurns (turn_in o.driver.transfers) (slice_get o.driver.endpoints) o.driver.harvested
+asked_turns d m o why order old =
+    let e = why.number in
+    let x = why.endpoint in
+    let y = new_transfer e why.asked x.dummy in
+    subst (λ (g : Offered). AreTurns (turn_in g.driver.transfers) (slice_get g.driver.endpoints) g.driver.harvested) (sym why.is) (now _)
+  where
+    listed : (i u : ℕ) → slice_get d.harvested i ≡ Some u → (z : Turn) × (turn_in d.transfers u ≡ Some z)
+    listed i u here =
+        let o = owed d.transfers u (slice_get d.transfers u) refl (omega (arith, times_of d.harvested i u here, order.harvests u)) in
+        (turn_of o.transfer, ap (option_map turn_of) o.there)
+
+    now : (dummy : ℕ) → AreTurns (turn_in (d.transfers ++ new_transfer why.number why.asked why.endpoint.dummy ∷ [])) (slice_get (set d.endpoints why.number (with_queued why.endpoint dummy (length d.transfers)))) d.harvested
+    now dummy =
+        let e = why.number in
+        let x = why.endpoint in
+        let y = new_transfer e why.asked x.dummy in
+        let z = with_queued x dummy (length d.transfers) in
+        newest_turns (turn_in d.transfers) (turn_in (d.transfers ++ y ∷ [])) (slice_get d.endpoints) (slice_get (set d.endpoints e z)) d.harvested e (length d.transfers) x z (turn_of y)
+        (record {
+          turns = λ k r there. turn_which d.transfers y k r there;
+          there = λ k r there. (within_list turn_of d.transfers k r there, pushed_there turn_of d.transfers y k r there);
+          last = ap (option_map turn_of) (pushed_last d.transfers y);
+          fresh = (refl, refl, refl);
+          moved = changed_plain d.endpoints e x z why.here;
+          goes_on = (why.goes_on, why.goes_on, refl);
+          listed = listed;
+        }) old
+
+pub asked_in_turn : (d : DriverContent) (m : Mem) (o : Offered) → Stands (holding d.book m) → HasOwners d → IsAsked d m o → TakesTurns d → TakesTurns o.driver
+asked_in_turn d m o stands owners why old =
+    let w = why.transfers in
+    let x = w.endpoint in
+    let r = old.receives in
+    let places = asked_places d m o owners.owner stands w owners.orderly owners.owned old.turns.places in
+    let turns = asked_turns d m o w owners.orderly old.turns.turns in
+    let receives : (dummy : ℕ) (notes : List QtdNote) → Receives (accepted_transfer d w.number x w.asked w.holding_after dummy notes).driver = λ dummy notes. record {
+      endpoints = ends_set d.endpoints w.number x (with_queued x dummy (length d.transfers)) w.here
+          (λ s. record { receives = s.receives; placement = s.placement; cancelled = s.cancelled; linked = s.linked; chained = s.chained; gone = s.gone }) r.endpoints;
+      gets = λ t y here. ⊎_elim (λ (was : slice_get d.transfers t ≡ Some y). r.gets t y was)
+          (λ (new : (t ≡ length d.transfers) × (y ≡ new_transfer w.number w.asked x.dummy)). ap (λ (z : Transfer). z.sort) new.1 ∙ ap (λ (a : Asked). a.sort) why.asked)
+          (push_which d.transfers (new_transfer w.number w.asked x.dummy) t y here);
+      command = tt;
+      mends = r.mends;
+      unlinks = r.unlinks;
+      removals = r.removals;
+      waiting = r.waiting;
+      rung = r.rung;
+      cleared = r.cleared;
+    } in
+    record {
+      receives = subst (λ (g : Offered). Receives g.driver) (sym w.is) (receives _ _);
+      chained = transfer_chained d m o owners.owner stands w owners.orderly owners.owned old.chained;
+      turns = record { places = places; turns = turns };
+    }
+
+pub command_in_turn : (d : DriverContent) (m : Mem) (cmd : Cmd) (o : Offered) → Stands (holding d.book m) → HasOwners d → TakesTurns d → OpensReceiving cmd → offered d m cmd ≡ Ok o → TakesTurns o.driver
+command_in_turn d m cmd o stands owners old only is =
+    ⊎_elim (λ (why : IsOpened d m o). open_turns d m o owners.orderly why old) (λ (why : IsAsked d m o). asked_in_turn d m o stands owners why old)
+    (command_received d m cmd o old.receives only is)

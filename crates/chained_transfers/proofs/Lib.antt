@@ -1,0 +1,10 @@
+pub mod Chained
+pub mod Turning
+pub mod Reporting
+pub mod Queued
+pub mod Accepting
+pub mod Harvesting
+pub mod Harvested
+pub mod Rows
+pub mod Events
+pub mod Commands

@@ -1,0 +1,4 @@
+pub mod Writing
+pub mod Ringing
+pub mod Framing
+pub mod Controlling

@@ -1,0 +1,105 @@
+-- An event of the controller leaves the queues.
+use Rattle.std.proofs.Common.{◌≡◌, ℕ, ◌+◌, ◌-◌, ◌*◌, List, length, ap, refl, sym, subst, ◌∙◌, arith}
+use Rattle.buffers.specs.Bytes.{place}
+use Rattle.qh_qtd.specs.declared.qtd.Qtd.{Qtd}
+use Rattle.qh_qtd.specs.declared.token.Token.{Token}
+use Rattle.driver_rows.specs.declared.content.QtdNote.{QtdNote}
+use Rattle.driver_rows.specs.DriverContent.{DriverContent}
+use Rattle.driver_rows.specs.Harvests.{note_at}
+use Rattle.driver_rows.specs.Words.{dummy_qtd}
+use Rattle.lent_structures.specs.Structures.{Structures, StructureSets}
+use Rattle.queue_parts.specs.Alters.{Alters}
+use Rattle.queue_parts.specs.Sound.{element_pages, buffer_name, HasBuffer}
+use Rattle.queue_parts.proofs.Members.{buffer_still, still_active}
+use Rattle.ring_walk.specs.Effects.{buffer_of}
+use Rattle.ring_streams.proofs.Altered.{length_still}
+use Rattle.kept_structures.specs.Kept.{KeepsEach}
+use Rattle.driver_lends.specs.Published.{partly}
+use Rattle.driver_lends.proofs.Publishing.{idle}
+use Rattle.driver_publishes.proofs.Keeping.{publishable_still}
+use Rattle.run_owners.specs.Owners.{note_in}
+use Rattle.chained_transfers.specs.Chains.{piece_at}
+use Rattle.fed_queues.specs.Fed.{IsNotedQtd, IsPieceFed, IsPublished}
+use Rattle.fed_queues.specs.Places.{IsLast}
+use Rattle.fed_events.specs.Beside.{FedStaysBeside, LastStaysBeside}
+
+-- ---- one piece
+
+noted_still : (t u : Qtd) (note : QtdNote) (end : ℕ) → u ≡ record t { token = u.token } → IsNotedQtd t note end → IsNotedQtd u note end
+noted_still t u note end is k = record {
+  next = ap (λ (x : Qtd). x.next) is ∙ k.next;
+  alternate = ap (λ (x : Qtd). x.alternate) is ∙ k.alternate;
+  offset = ap (λ (x : Qtd). x.offset) is ∙ k.offset;
+  page0 = ap (λ (x : Qtd). x.page0) is ∙ k.page0;
+  page1 = ap (λ (x : Qtd). x.page1) is ∙ k.page1;
+  page2 = ap (λ (x : Qtd). x.page2) is ∙ k.page2;
+  page3 = ap (λ (x : Qtd). x.page3) is ∙ k.page3;
+  page4 = ap (λ (x : Qtd). x.page4) is ∙ k.page4;
+}
+
+other_token : (part : Structures) (t : Qtd) (z : Token) (n : ℕ) → HasBuffer part t n → HasBuffer part (record t { token = z }) n
+other_token part t z n has = record { bytes = has.bytes; here = has.here; size = has.size }
+
+pub piece_still : (part now : Structures) (note : QtdNote) (b end : ℕ) → Alters part now → IsPieceFed part note b end → IsPieceFed now note b end
+piece_still part now note b end alters k =
+    let had = alters.element (32 * b) k.qtd k.here in
+    let u : Qtd = had.qtd in
+    let token : u.token ≡ had.after.token = ap (λ (x : Qtd). x.token) had.after.is in
+    let is : u ≡ record k.qtd { token = u.token } = had.after.is ∙ ap (λ z. record k.qtd { token = z }) (sym token) in
+    record {
+      qtd = u;
+      here = had.here;
+      noted = noted_still k.qtd u note end is k.noted;
+      buffer = λ some. subst (λ (x : Qtd). HasBuffer now x note.told) (sym is) (other_token now k.qtd u.token note.told (buffer_still part now k.qtd note.told alters (k.buffer some)));
+      long = ap (λ (x : Qtd). length (buffer_of now x)) is ∙ length_still part now (buffer_name k.qtd) alters ∙ k.long;
+      places = λ j below. k.places j below ∙ ap (λ (x : Qtd). place (element_pages x) (x.offset + j)) (sym is);
+      fresh = λ on.
+          let same : u ≡ k.qtd = still_active k.qtd u had.after on in
+          ap (λ (x : Qtd). x.token.total) same ∙ k.fresh (ap (λ (x : Qtd). x.token.active) (sym same) ∙ on);
+    }
+
+-- ---- all of them
+
+published_still : (d : DriverContent) (parts now : StructureSets) (b : ℕ) (words : List ℕ) → KeepsEach parts now → IsPublished d parts b words → IsPublished d now b words
+published_still d parts now b words keeps k = record {
+  number = k.number;
+  transfer = k.transfer;
+  endpoint = k.endpoint;
+  newest = k.newest;
+  there = k.there;
+  fresh = k.fresh;
+  place = k.place;
+  here = k.here;
+  qtd = k.qtd;
+  are = k.are;
+  range = k.range;
+  noted = k.noted;
+  active = k.active;
+  pid = k.pid;
+  total = k.total;
+  stored = (keeps (32 * k.endpoint.queue)).idle (32 * b) (partly k.qtd (d.made - 1)) k.stored (idle k.qtd (d.made - 1) (let few = k.few in omega (arith, few)));
+  places = k.places;
+  few = k.few;
+  long = λ some. length_still (parts (32 * k.endpoint.queue)) (now (32 * k.endpoint.queue)) (buffer_name k.qtd) (keeps (32 * k.endpoint.queue)).alters ∙ k.long some;
+  may = λ some. publishable_still (parts (32 * k.endpoint.queue)) (now (32 * k.endpoint.queue)) (32 * b) k.qtd (keeps (32 * k.endpoint.queue)).alters (k.may some);
+}
+
+pub fed_still : FedStaysBeside
+fed_still d parts now keeps k = record {
+  dummies = λ e x here lent. (keeps (32 * x.queue)).idle (32 * x.dummy) dummy_qtd (k.dummies e x here lent) refl;
+  pieces = λ t i y x there held here from below.
+      let b : ℕ = piece_at (note_in d.notes) y.first i in
+      piece_still (parts (32 * x.queue)) (now (32 * x.queue)) (note_at d.notes b) b (piece_at (note_in d.notes) y.first y.qtds) (keeps (32 * x.queue)).alters (k.pieces t i y x there held here from below);
+  publishes = λ b words command. published_still d parts now b words keeps (k.publishes b words command);
+}
+
+is_last_still : (order : ℕ → ℕ) (part now : Structures) (a : ℕ) → Alters part now → IsLast order part a → IsLast order now a
+is_last_still order part now a alters k b t here differs = let had = alters.element_before b t here in k b had.qtd had.here differs
+
+pub last_still : LastStaysBeside
+last_still d parts now order keeps k = record {
+  dummies = λ e x here lent. is_last_still (order (32 * x.queue)) (parts (32 * x.queue)) (now (32 * x.queue)) (32 * x.dummy) (keeps (32 * x.queue)).alters (k.dummies e x here lent);
+  taken = λ b words t y x command made newest there first here.
+      is_last_still (order (32 * x.queue)) (parts (32 * x.queue)) (now (32 * x.queue)) (32 * b) (keeps (32 * x.queue)).alters (k.taken b words t y x command made newest there first here);
+  sorted = k.sorted;
+}

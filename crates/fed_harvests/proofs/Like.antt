@@ -1,0 +1,127 @@
+-- Contents that tell the same of queues have the same structures.
+use Rattle.std.proofs.Common.{◌≡◌, ℕ, ◌+◌, ◌*◌, ◌/◌, ◌%◌, ◌<◌, Bool, true, List, get_or, slice_get, Option, Some, None, ap, sym, subst, ◌∙◌, ⊎_elim, inl, inr, arith}
+use Rattle.std.specs.Prelude.{◌⊎◌}
+use Rattle.usb_base.specs.declared.endpoints.EpDesc.{EpDesc}
+use Rattle.run_book.specs.Book.{slot_of}
+use Rattle.run_book.specs.declared.slots.Slot.{Slot}
+use Rattle.driver_rows.specs.declared.content.Endpoint.{Endpoint}
+use Rattle.driver_rows.specs.declared.content.QtdNote.{QtdNote}
+use Rattle.driver_rows.specs.declared.content.Command.{Command}
+use Rattle.driver_rows.specs.declared.content.Command.TheVariants as unfinished
+use Rattle.driver_rows.specs.DriverContent.{DriverContent}
+use Rattle.driver_rows.specs.Words.{head_block, queue_head, to_qtd}
+use Rattle.driver_rows.specs.Harvests.{note_at}
+use Rattle.run_owners.specs.Owners.{note_in}
+use Rattle.lent_structures.specs.Structures.{Structures, StructureSets}
+use Rattle.queue_parts.specs.Sound.{HasBuffer}
+use Rattle.driver_parts.specs.Inventory.{IsLent}
+use Rattle.ring_streams.specs.Told.{Endpoint as Told, endpoint_of}
+use Rattle.chained_transfers.specs.Chains.{piece_at}
+use Rattle.chained_transfers.proofs.Chained.{piece_same}
+use Rattle.fed_queues.specs.Fed.{IsPieceFed}
+use Rattle.fed_queues.specs.Places.{IsMet, HasHead, IsLast, AreStillOut}
+use Rattle.fed_commands.specs.Commands.{QueuesStand}
+use Rattle.fed_commands.proofs.Asked.{same_unpublished}
+use Rattle.fed_harvests.specs.Harvests.{IsLike, LikeStand}
+
+-- a piece is fed by what its note tells of its qTD and its buffer
+fed_by_note : (part : Structures) (note other : QtdNote) (b end : ℕ) → other.next ≡ note.next → other.buffer ≡ note.buffer → other.told ≡ note.told → IsPieceFed part note b end → IsPieceFed part other b end
+fed_by_note part note other b end next buffer told k = record {
+  qtd = k.qtd;
+  here = k.here;
+  noted = record {
+    next = k.noted.next ∙ ap to_qtd (sym next);
+    alternate = k.noted.alternate;
+    offset = k.noted.offset ∙ ap (λ (bs : List ℕ). 32 * (get_or bs 0 0 % 128)) (sym buffer);
+    page0 = k.noted.page0 ∙ ap (λ (bs : List ℕ). get_or bs 0 0 / 128) (sym buffer);
+    page1 = k.noted.page1 ∙ ap (λ (bs : List ℕ). get_or bs 1 0 / 128) (sym buffer);
+    page2 = k.noted.page2 ∙ ap (λ (bs : List ℕ). get_or bs 2 0 / 128) (sym buffer);
+    page3 = k.noted.page3 ∙ ap (λ (bs : List ℕ). get_or bs 3 0 / 128) (sym buffer);
+    page4 = k.noted.page4 ∙ ap (λ (bs : List ℕ). get_or bs 4 0 / 128) (sym buffer);
+  };
+  buffer = λ some. subst (λ (n : ℕ). HasBuffer part k.qtd n) (sym told) (k.buffer (subst (λ (n : ℕ). 0 < n) told some));
+  long = k.long ∙ sym told;
+  places = λ j below. ap (λ (bs : List ℕ). 32 * get_or bs (j / 4096) 0 + j % 4096) buffer ∙ k.places j (subst (λ (n : ℕ). j < n) told below);
+  fresh = λ active. k.fresh active ∙ sym told;
+}
+
+module _ (d f : DriverContent) (k : IsLike d f) where
+  idle_met : (z : Endpoint) → IsMet d z
+  idle_met z is = let e : ◌≡◌ {A = Option Command} None (Some (unfinished.Open z.queue)) = sym k.idle ∙ is in cc
+
+  met_now : (z : Endpoint) → IsMet f z
+  met_now z is = let e : ◌≡◌ {A = Option Command} None (Some (unfinished.Open z.queue)) = sym k.idle_now ∙ is in cc
+
+  headed : (n : ℕ) → HasHead d n → HasHead f n
+  headed n one = let w = k.ends_now one.number one.endpoint one.here in record {
+    number = one.number;
+    endpoint = w.endpoint;
+    here = w.there;
+    met = met_now w.endpoint;
+    at = one.at ∙ ap (λ (q : ℕ). 32 * q) w.queue;
+  }
+
+  lent_before : (b c : ℕ) → b ≡ c → IsLent (slot_of f.book.slots b) → IsLent (slot_of d.book.slots c)
+  lent_before b c same lent = subst (λ (ss : List Slot). IsLent (slot_of ss c)) k.slots (subst (λ (i : ℕ). IsLent (slot_of f.book.slots i)) same lent)
+
+  no_publish : (b : ℕ) (words : List ℕ) → f.command ≡ Some (unfinished.Publish b words) → ⊥
+  no_publish b words is = let e : ◌≡◌ {A = Option Command} None (Some (unfinished.Publish b words)) = sym k.idle_now ∙ is in cc
+
+  same_piece : (b i : ℕ) → piece_at (note_in f.notes) b i ≡ piece_at (note_in d.notes) b i
+  same_piece b i = piece_same (note_in d.notes) (note_in f.notes) b i k.notes
+
+  moved : (part : Structures) (b i n : ℕ) → IsPieceFed part (note_at d.notes (piece_at (note_in d.notes) b i)) (piece_at (note_in d.notes) b i) (piece_at (note_in d.notes) b n)
+      → IsPieceFed part (note_at f.notes (piece_at (note_in f.notes) b i)) (piece_at (note_in f.notes) b i) (piece_at (note_in f.notes) b n)
+  moved part b i n fed =
+      let c = piece_at (note_in d.notes) b i in
+      let one = fed_by_note part (note_at d.notes c) (note_at f.notes c) c (piece_at (note_in d.notes) b n) (k.next c) (k.buffer c) (k.told c) fed in
+      let two = subst (λ (i : ℕ). IsPieceFed part (note_at f.notes i) i (piece_at (note_in d.notes) b n)) (sym (same_piece b i)) one in
+      subst (λ (end : ℕ). IsPieceFed part (note_at f.notes (piece_at (note_in f.notes) b i)) (piece_at (note_in f.notes) b i) end) (sym (same_piece b n)) two
+
+  stand : (member streams : ℕ → Bool) (ends : ℕ → Told) (parts : StructureSets) (order : ℕ → ℕ → ℕ) (out later : ℕ → List ℕ) → AreStillOut f later → QueuesStand d member streams ends parts order out → QueuesStand f member streams ends parts order later
+  stand member streams ends parts order out later still old = record {
+    met = record {
+      head = old.met.head;
+      each = λ i z here met. let w = k.ends i z here in subst (λ (q : ℕ). member (32 * q) ≡ true) (sym w.queue) (old.met.each i w.endpoint w.there (idle_met w.endpoint));
+      only = λ n on. ⊎_elim (λ (head : n ≡ 32 * head_block). inl head) (λ (one : HasHead d n). inr (headed n one)) (old.met.only n on);
+    };
+    streams_are = record {
+      each = λ i z here met.
+          let w = k.ends i z here in
+          let one = old.streams_are.each i w.endpoint w.there (idle_met w.endpoint) in (
+            subst (λ (q : ℕ). streams (32 * q) ≡ true) (sym w.queue) one.0,
+            ap (λ (q : ℕ). ends (32 * q)) w.queue ∙ one.1 ∙ ap (λ (desc : EpDesc). endpoint_of (queue_head desc 0 z.dummy)) (sym w.desc),
+          );
+      only = λ n on. headed n (old.streams_are.only n on);
+    };
+    fed = record {
+      dummies = λ i z here lent.
+          let w = k.ends i z here in
+          let one = old.fed.dummies i w.endpoint w.there (lent_before z.dummy w.endpoint.dummy w.dummy lent) in
+          ap (λ (q : ℕ). parts (32 * q) (32 * z.dummy)) w.queue ∙ ap (λ (c : ℕ). parts (32 * w.endpoint.queue) (32 * c)) w.dummy ∙ one;
+      pieces = λ t i y z there held here from below.
+          let u = k.transfers t y there in
+          let w = k.ends y.endpoint z here in
+          let none = same_unpublished d t u.transfer k.idle in
+          let many = u.qtds in
+          let fed = old.fed.pieces t i u.transfer w.endpoint u.there (sym u.released ∙ held) (ap (slice_get d.endpoints) (sym u.endpoint) ∙ w.there) (omega (arith, none)) (omega (arith, below, many)) in
+          subst (λ (q : ℕ). IsPieceFed (parts (32 * q)) (note_at f.notes (piece_at (note_in f.notes) y.first i)) (piece_at (note_in f.notes) y.first i) (piece_at (note_in f.notes) y.first y.qtds)) (sym w.queue)
+          (moved (parts (32 * w.endpoint.queue)) y.first i y.qtds
+          (subst (λ (n : ℕ). IsPieceFed (parts (32 * w.endpoint.queue)) (note_at d.notes (piece_at (note_in d.notes) y.first i)) (piece_at (note_in d.notes) y.first i) (piece_at (note_in d.notes) y.first n)) (sym u.qtds)
+          (subst (λ (b : ℕ). IsPieceFed (parts (32 * w.endpoint.queue)) (note_at d.notes (piece_at (note_in d.notes) b i)) (piece_at (note_in d.notes) b i) (piece_at (note_in d.notes) b u.transfer.qtds)) (sym u.first) fed)));
+      publishes = λ b words is. absurd (no_publish b words is);
+    };
+    last = record {
+      dummies = λ i z here lent.
+          let w = k.ends i z here in
+          let one = old.last.dummies i w.endpoint w.there (lent_before z.dummy w.endpoint.dummy w.dummy lent) in
+          subst (λ (q : ℕ). IsLast (order (32 * q)) (parts (32 * q)) (32 * z.dummy)) (sym w.queue)
+          (subst (λ (c : ℕ). IsLast (order (32 * w.endpoint.queue)) (parts (32 * w.endpoint.queue)) (32 * c)) (sym w.dummy) one);
+      taken = λ b words t y z is. absurd (no_publish b words is);
+      sorted = λ b words t y z is. absurd (no_publish b words is);
+    };
+    out_are = still;
+  }
+
+pub like_stands : LikeStand
+like_stands d f member streams ends parts order out later k still old = stand d f k member streams ends parts order out later still old

@@ -1,0 +1,11 @@
+pub mod Numbering
+pub mod Reporting
+pub mod Piping
+pub mod Feeding
+pub mod Outs
+pub mod Names
+pub mod Fed
+pub mod Order
+pub mod Reports
+pub mod Row
+pub mod Accepting

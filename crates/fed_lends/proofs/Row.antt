@@ -1,0 +1,98 @@
+-- The row that lends a get.
+use Rattle.std.proofs.Common.{◌≡◌, ℕ, suc, ◌*◌, ⊎_elim, inl, inr, Bool, List, length, nat_lt, if◌then◌else◌, Option, ap, sym, subst, ◌∙◌}
+use Rattle.word_mem.specs.Memory.{Mem}
+use Rattle.async_walk.specs.Rows.{place}
+use Rattle.run_book.specs.Book.{slot_of}
+use Rattle.driver_rows.specs.declared.content.Command.{Command}
+use Rattle.driver_rows.specs.declared.content.Command.TheVariants as unfinished
+use Rattle.driver_rows.specs.declared.rows.DriverRow.{DriverRow}
+use Rattle.driver_rows.specs.declared.rows.DriverRow.TheVariants as rows
+use Rattle.driver_rows.specs.DriverContent.{DriverContent}
+use Rattle.driver_rows.specs.Words.{head_block}
+use Rattle.driver_rows.specs.Rows.{Parts as DriverParts, events_of, links, finished, linked_on, row_for, command_row, driver_row, advanced_by, advance, after_driver_row}
+use Rattle.ring_lends.specs.Together.{put_all}
+use Rattle.ring_pipes.specs.Bus.{Sender}
+use Rattle.driver_parts.specs.Driven.{DrivesRing}
+use Rattle.fed_queues.specs.Places.{HasHead, AreMet, HaveStreams}
+use Rattle.ring_streams.specs.Told.{Endpoint as Told}
+use Rattle.transfer_lends.specs.Laws.{lent_memory, lent_driver, items_of}
+use Rattle.transfer_lends.proofs.Lends.{lend_receives_drives}
+use Rattle.fed_lends.specs.ToLend.{IsToBeLent, lent_now}
+use Rattle.fed_lends.specs.Laws.{GoesOnLent, LendRowGoesOn}
+use Rattle.fed_lends.proofs.Piping.{lend_leaves_pipes}
+use Rattle.fed_lends.proofs.Names.{names_lent}
+use Rattle.fed_lends.proofs.Fed.{y_of, x_of, IsLending, queues_fed}
+use Rattle.fed_lends.proofs.Reports.{IsOrdering, is_met, from_here, order_lent, out_lent, all_reported, all_out, all_last}
+
+-- ---- which row it is
+
+row_is : (p : DriverParts) (b : ℕ) (words : List ℕ) → IsToBeLent p.driver p.memory b words → driver_row p ≡ rows.Lend
+row_is p b words k = ap (row_for p) k.command ∙ ap (command_row (unfinished.Publish b words)) k.made
+
+pub advance_is : (d : DriverContent) (m : Mem) (b : ℕ) (words : List ℕ) → IsToBeLent d m b words → advance (lent_driver d m) ≡ lent_now d m
+advance_is d m b words k =
+    let e = lent_driver d m in
+    let c : Command = unfinished.Publish b words in
+    ap (advanced_by e) k.command
+    ∙ ap (λ (i : ℕ). if nat_lt (suc i) (length (events_of c)) then record e { made = suc i } else (if links c then linked_on e c else finished e c)) k.made
+
+abbrev pub lent_parts : DriverParts → DriverParts
+lent_parts p = record p { driver = lent_now p.driver p.memory; memory = lent_memory p.driver p.memory }
+
+pub after_is : (p : DriverParts) (b : ℕ) (words : List ℕ) → IsToBeLent p.driver p.memory b words → after_driver_row (driver_row p) p ≡ lent_parts p
+after_is p b words k =
+    ap (λ (row : DriverRow). after_driver_row row p) (row_is p b words k)
+    ∙ ap (λ (d : DriverContent). record p { driver = d; memory = lent_memory p.driver p.memory }) (advance_is p.driver p.memory b words k)
+
+-- ---- who is met
+
+pub met_on : (d : DriverContent) (m : Mem) (member : ℕ → Bool) → AreMet d member → AreMet (lent_now d m) member
+met_on d m member met = record {
+  head = met.head;
+  each = λ e x here on. met.each e x here on;
+  only = λ n on. ⊎_elim (λ (head : n ≡ 32 * head_block). inl head) (λ (h : HasHead d n). inr (record { number = h.number; endpoint = h.endpoint; here = h.here; met = h.met; at = h.at })) (met.only n on);
+}
+
+pub streams_on : (d : DriverContent) (m : Mem) (streams : ℕ → Bool) (ends : ℕ → Told) → HaveStreams d streams ends → HaveStreams (lent_now d m) streams ends
+streams_on d m streams ends have = record {
+  each = λ e x here on. have.each e x here on;
+  only = λ n on. let h = have.only n on in record { number = h.number; endpoint = h.endpoint; here = h.here; met = h.met; at = h.at };
+}
+
+-- ---- the whole
+
+pub lend_row_goes_on : {W : Type 0} (sender : W → ℕ → ℕ → Option Sender) → LendRowGoesOn sender
+lend_row_goes_on sender base stream packets member streams ends acc reported hand wire parts order out w p b words k has stands receives turns blank drives piped reports fed last still_out met have =
+    let d = p.driver in
+    let m = p.memory in
+    let y = y_of k in
+    let x = x_of k in
+    let n = 32 * k.endpoint.queue in
+    let now = put_all parts n (items_of d m y x k.stage k.further) in
+    let both = lend_receives_drives base member parts hand w p.registers m d k.number y x k.stage k.further k.receiving has stands drives (names_lent d m b words parts n k fed drives.driven blank) in
+    let l : IsLending d m b words parts now = record { get = k; has = has; stands = stands; shape = drives.ring.tells.shape; receives = receives; fed = fed; pieces = both.1 } in
+    let on = met.each k.transfer.endpoint k.endpoint k.here (is_met d m b words k.endpoint k) in
+    let o : IsOrdering d m b words parts now member streams ends order out hand acc reported = record {
+      lending = l;
+      turns = turns;
+      sound = drives.ring.members n on;
+      reports = reports;
+      last = last;
+      still_out = still_out;
+      have = have;
+    } in
+    subst (GoesOnLent sender base stream packets member streams ends acc reported hand wire w) (sym (after_is p b words k))
+    (record {
+      parts = now;
+      order = order_lent k (from_here o 0) order;
+      out = out_lent k out;
+      drives = subst (DrivesRing base member now hand (place w p.registers (lent_memory d m))) (advance_is d m b words k) both.0;
+      piped = lend_leaves_pipes sender d m k.number y x k.stage k.further (slot_of (lent_driver d m).book.slots) parts now stream packets member streams ends acc hand wire k.receiving both.1
+          (have.each k.transfer.endpoint k.endpoint k.here (is_met d m b words k.endpoint k)).0 piped;
+      reports = all_reported o 0;
+      fed = queues_fed d m b words parts now l;
+      last = all_last o 0;
+      still_out = all_out o;
+      met = met_on d m member met;
+      have = streams_on d m streams ends have;
+    })

@@ -1,0 +1,50 @@
+-- The get that is to be lent next, as the driver's content tells it (EHCI 1.0, 3.5 and 4.10): its command is unfinished, and none of its events is made.
+--     AreGets ss             the stages are those of a get
+--     IsToBeLent d m b words the newest transfer is a get whose first qTD is to stand in block b with these words, and all else of it is written
+--     AreBlank d             a qTD that asks for no bytes was noted without a buffer
+--     lent_now d m           the content once it is lent
+use Rattle.std.specs.Prelude.{◌≡◌, ℕ, suc, false, List, ◌∷◌, length, slice_get, slice_index, Some}
+use Rattle.std.specs.List.{AllByRecursion}
+use Rattle.word_mem.specs.Memory.{Mem}
+use Rattle.qh_qtd.specs.Qtd.{qtd_words}
+use Rattle.driver_rows.specs.declared.content.Endpoint.{Endpoint}
+use Rattle.driver_rows.specs.declared.content.Transfer.{Transfer}
+use Rattle.driver_rows.specs.declared.content.Stage.{Stage}
+use Rattle.driver_rows.specs.declared.content.Command.TheVariants as unfinished
+use Rattle.driver_rows.specs.DriverContent.{DriverContent}
+use Rattle.driver_rows.specs.Words.{in_stage}
+use Rattle.driver_rows.specs.Harvests.{note_at}
+use Rattle.driver_rows.specs.Offers.{is_last}
+use Rattle.run_owners.specs.Owners.{runs_of_endpoint, runs_of_transfer}
+use Rattle.transfer_lends.specs.Written.{IsReceiving}
+use Rattle.transfer_lends.specs.Pieces.{stage_qtd}
+use Rattle.transfer_lends.specs.Laws.{lent_driver}
+
+abbrev pub AreGets : List Stage → Type 0
+AreGets ss = AllByRecursion (λ s. s ≡ in_stage s.long) ss
+
+pub record IsToBeLent (d : DriverContent) (m : Mem) (b : ℕ) (words : List ℕ) : Type 0 where
+  pub number : ℕ
+  pub transfer : Transfer
+  pub endpoint : Endpoint
+  pub stage : Stage
+  pub further : List Stage
+  pub command : d.command ≡ Some (unfinished.Publish b words)
+  pub made : d.made ≡ 0
+  pub newest : suc number ≡ length d.transfers
+  pub there : slice_get d.transfers number ≡ Some transfer
+  pub here : slice_get d.endpoints transfer.endpoint ≡ Some endpoint
+  pub first : transfer.first ≡ b
+  pub place : transfer.place ≡ transfer.first
+  pub left : transfer.left ≡ transfer.qtds
+  pub fresh : transfer.reported ≡ false
+  pub receiving : IsReceiving d m number (runs_of_transfer transfer) (runs_of_endpoint endpoint) stage further
+  pub gets : AreGets (stage ∷ further)
+  pub are : words ≡ qtd_words (stage_qtd d.notes stage transfer.first endpoint.dummy (is_last further))
+
+abbrev pub AreBlank : DriverContent → Type 0
+AreBlank d = (b : ℕ) → (note_at d.notes b).told ≡ 0 → slice_index (note_at d.notes b).buffer 0 ≡ 0
+
+-- one event of the command is made
+abbrev pub lent_now : DriverContent → Mem → DriverContent
+lent_now d m = record (lent_driver d m) { made = 1 }

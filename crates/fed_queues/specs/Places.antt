@@ -1,0 +1,62 @@
+-- Which queue heads of a driver the walk may meet, which have streams, and the order of their qTDs (EHCI 1.0, 4.8 and 4.10).
+--     IsMet d x                     the endpoint's queue head is linked: it isn't the one of an open whose link is still to be stored
+--     AreMet d member               the walk may meet these, and the head of the ring
+--     HaveStreams d streams ends    each of them has a stream, as the endpoint that was opened
+--     IsLast order part a           the qTD at a is the last
+--     AreLast d parts order         so is the end of each queue
+--     AreStillOut d out                the qTDs that are out are those of the driver's content
+use Rattle.std.specs.Prelude.{◌≡◌, ◌≢◌, ℕ, suc, ◌*◌, ◌<◌, ◌≤◌, ◌⊎◌, Bool, true, List, length, slice_get, Some}
+use Rattle.qh_qtd.specs.declared.qtd.Qtd.{Qtd}
+use Rattle.run_book.specs.Book.{slot_of}
+use Rattle.driver_rows.specs.declared.content.Endpoint.{Endpoint}
+use Rattle.driver_rows.specs.declared.content.Transfer.{Transfer}
+use Rattle.driver_rows.specs.declared.content.Command.TheVariants as unfinished
+use Rattle.driver_rows.specs.DriverContent.{DriverContent}
+use Rattle.driver_rows.specs.Words.{head_block, queue_head}
+use Rattle.lent_structures.specs.Structures.{Element, Structures, StructureSets}
+use Rattle.ring_order.specs.Order.{IsSorted}
+use Rattle.ring_streams.specs.Told.{Endpoint as Told, endpoint_of}
+use Rattle.driver_parts.specs.Inventory.{IsLent}
+use Rattle.chained_transfers.specs.Out.{out_now, out_all}
+
+abbrev pub IsMet : DriverContent → Endpoint → Type 0
+IsMet d x = d.command ≢ Some (unfinished.Open x.queue)
+
+-- an endpoint with its queue head at n
+pub record HasHead (d : DriverContent) (n : ℕ) : Type 0 where
+  pub number : ℕ
+  pub endpoint : Endpoint
+  pub here : slice_get d.endpoints number ≡ Some endpoint
+  pub met : IsMet d endpoint
+  pub at : n ≡ 32 * endpoint.queue
+
+pub record AreMet (d : DriverContent) (member : ℕ → Bool) : Type 0 where
+  pub head : member (32 * head_block) ≡ true
+  pub each : (e : ℕ) (x : Endpoint) → slice_get d.endpoints e ≡ Some x → IsMet d x → member (32 * x.queue) ≡ true
+  pub only : (n : ℕ) → member n ≡ true → (n ≡ 32 * head_block) ⊎ HasHead d n
+
+pub record HaveStreams (d : DriverContent) (streams : ℕ → Bool) (ends : ℕ → Told) : Type 0 where
+  pub each : (e : ℕ) (x : Endpoint) → slice_get d.endpoints e ≡ Some x → IsMet d x
+      → (streams (32 * x.queue) ≡ true) × (ends (32 * x.queue) ≡ endpoint_of (queue_head x.desc 0 x.dummy))
+  pub only : (n : ℕ) → streams n ≡ true → HasHead d n
+
+-- ---- order
+
+abbrev pub IsLast : (ℕ → ℕ) → Structures → ℕ → Type 0
+IsLast order part a = (b : ℕ) (t : Qtd) → part b ≡ Some (Element t) → b ≢ a → order b < order a
+
+-- before its lend the first qTD of a transfer is still the end of the queue
+pub record AreLast (d : DriverContent) (parts : StructureSets) (order : ℕ → ℕ → ℕ) : Type 0 where
+  pub dummies : (e : ℕ) (x : Endpoint) → slice_get d.endpoints e ≡ Some x → IsLent (slot_of d.book.slots x.dummy) → IsLast (order (32 * x.queue)) (parts (32 * x.queue)) (32 * x.dummy)
+  pub taken : (b : ℕ) (words : List ℕ) (t : ℕ) (y : Transfer) (x : Endpoint) → d.command ≡ Some (unfinished.Publish b words) → d.made ≡ 0 → suc t ≡ length d.transfers
+      → slice_get d.transfers t ≡ Some y → y.first ≡ b
+      → slice_get d.endpoints y.endpoint ≡ Some x → IsLast (order (32 * x.queue)) (parts (32 * x.queue)) (32 * b)
+  -- .. and once it is lent, it has its place among those that are out
+  pub sorted : (b : ℕ) (words : List ℕ) (t : ℕ) (y : Transfer) (x : Endpoint) → d.command ≡ Some (unfinished.Publish b words) → 1 ≤ d.made → suc t ≡ length d.transfers
+      → slice_get d.transfers t ≡ Some y → y.first ≡ b
+      → slice_get d.endpoints y.endpoint ≡ Some x → IsSorted (order (32 * x.queue)) (out_all d y.endpoint)
+
+-- ---- what is out
+
+abbrev pub AreStillOut : DriverContent → (ℕ → List ℕ) → Type 0
+AreStillOut d out = (e : ℕ) (x : Endpoint) → slice_get d.endpoints e ≡ Some x → IsMet d x → out (32 * x.queue) ≡ out_now d e

@@ -1,0 +1,5 @@
+pub mod Outs
+pub mod Apart
+pub mod Linked
+pub mod Feeding
+pub mod Storing

@@ -1,0 +1,6 @@
+pub mod Opening
+pub mod Beside
+pub mod Commands
+pub mod Still
+pub mod Runs
+pub mod Storing

@@ -1,0 +1,12 @@
+ghost use Rattle.held_commands.specs.Laws.{OpenHolds, GetHolds, ReturnHolds};
+
+/// An accepted open, and an accepted get.
+pub fn accepted_commands_keep_what_is_held()
+    ensures open { OpenHolds }
+    ensures get { GetHolds }
+{}
+
+/// A reported transfer is given back.
+pub fn a_return_keeps_what_is_held()
+    ensures { ReturnHolds }
+{}

@@ -1,0 +1,10 @@
+pub mod Steps
+pub mod Waiting
+pub mod Kept
+pub mod Harvested
+pub mod Framing
+pub mod Rows
+pub mod Spans
+pub mod Places
+pub mod Accepted
+pub mod Due

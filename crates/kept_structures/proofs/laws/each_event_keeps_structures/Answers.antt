@@ -1,0 +1,10 @@
+use Rattle.kept_structures.proofs.Keeping.{kept_each_both}
+use Rattle.kept_structures.proofs.Events.{effect_keeps, control_keeps}
+use Rattle.kept_structures.proofs.laws.each_event_keeps_structures.Goals as goal
+
+pub returns : goal.returns
+returns g c = record {
+  walk = effect_keeps g.W.Wire.transacts;
+  controller = control_keeps g.W.Wire.begins g.W.Wire.transacts;
+  both = kept_each_both;
+}

@@ -1,0 +1,5 @@
+pub mod Same
+pub mod Structures
+pub mod Ringing
+pub mod Framing
+pub mod Controlling

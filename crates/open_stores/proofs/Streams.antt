@@ -1,0 +1,208 @@
+-- The stream of the new queue head begins.
+use Rattle.std.proofs.Common.{◌≡◌, ◌≢◌, ℕ, ◌*◌, Bool, true, false, if◌then◌else◌, List, slice_get, Option, Some, None, ap, refl, sym, ◌∙◌, ⊎_elim, inl, inr}
+use Rattle.std.proofs.lemmas.Bool.{cases_eq, false≢true}
+use Rattle.std.proofs.lemmas.Option.{same_Some}
+use Rattle.usb_base.specs.declared.packets.Reply.{Reply}
+use Rattle.link_words.specs.Links.{qtd_link_of}
+use Rattle.qh_qtd.specs.declared.qtd.Qtd.{Qtd}
+use Rattle.qh_qtd.specs.declared.queue_head.Qh.{Qh}
+use Rattle.driver_rows.specs.declared.content.Endpoint.{Endpoint}
+use Rattle.driver_rows.specs.declared.content.Command.TheVariants as unfinished
+use Rattle.driver_rows.specs.DriverContent.{DriverContent}
+use Rattle.driver_rows.specs.Rows.{Parts as DriverParts}
+use Rattle.driver_rows.specs.Words.{head_block, to_queue_head, queue_head, dummy_qtd, is_control, speed_field}
+use Rattle.run_owners.specs.Owners.{EndpointRuns, Head, QueueHead as QueueOf, runs_of_endpoint}
+use Rattle.async_walk.specs.Walk.{Walk}
+use Rattle.async_walk.specs.Rows.{place}
+use Rattle.lent_structures.specs.Structures.{Structure, QueueHead, Element, Structures, StructureSets, with_structure}
+use Rattle.lent_structures.proofs.Names.{not_same, put_beside, put_same}
+use Rattle.queue_parts.proofs.Altering.{found_queue, same_element}
+use Rattle.ring_walk.specs.Hand.{Hand, Empty, Copied, Settled, Stale}
+use Rattle.ring_walk.specs.Ring.{Base, IsInHand}
+use Rattle.ring_streams.specs.Told.{hand_toggle, HasToggle, Endpoint as Told, endpoint_of}
+use Rattle.ring_stores.proofs.Parting.{found_with}
+use Rattle.driver_parts.specs.Driven.{DrivesRing}
+use Rattle.driver_lends.specs.Linked.{no_part, opened_part, with_member, head_at}
+use Rattle.spared_streams.specs.Sparing.{SparesHead}
+use Rattle.spared_streams.proofs.Sparing.{linked_same, spared_endpoint}
+use Rattle.reported_streams.specs.Reported.{AreReported}
+use Rattle.ring_pipes.specs.Bus.{Sender}
+use Rattle.ring_pipes.specs.Pipes.{IsNotIn, AreEndpoints, IsElsewhere, ArePiped}
+use Rattle.opened_streams.specs.Unopened.{IsUnopened, AreUnopened}
+use Rattle.opened_streams.specs.Opened.{with_stream, with_end, with_none, IsBeginning, IsOneMore}
+use Rattle.opened_streams.proofs.Beginning.{ends_with_one, pipes_with_one, reports_with_one, unopened_less_one}
+use Rattle.fed_queues.specs.Places.{HasHead}
+use Rattle.fed_stores.proofs.Apart.{queue_placed, thirty_two}
+use Rattle.open_stores.specs.Opens.{AreNamesApart, IsAtOpen, head_then, hand_then, end_then, OpenPipes, OpenReports}
+use Rattle.open_stores.proofs.Linking.{here}
+use Rattle.open_stores.proofs.Standing.{member_here, member_old, member_beside, element_was}
+
+-- ---- its part
+
+one_element : (r : EndpointRuns) (q : Qh) (a : ℕ) (t : Qtd) → opened_part r q a ≡ Some (Element t) → dummy_qtd ≡ t
+one_element r q a t found =
+    let one : Structures = with_structure no_part (32 * r.queue) (QueueHead q) in
+    ⊎_elim (λ (new : (a ≡ 32 * r.dummy) × (Element dummy_qtd ≡ Element t)). same_element dummy_qtd t new.1)
+    (λ (old : (a ≢ 32 * r.dummy) × (one a ≡ Some (Element t))).
+    ⊎_elim (λ (head : (a ≡ 32 * r.queue) × (QueueHead q ≡ Element t)). absurd (never head.1))
+    (λ (none : (a ≢ 32 * r.queue) × (no_part a ≡ Some (Element t))). absurd (nothing none.1)) (found_with no_part (32 * r.queue) a (QueueHead q) (Element t) old.1))
+    (found_with one (32 * r.dummy) a (Element dummy_qtd) (Element t) found)
+  where
+    never : QueueHead q ≡ Element t → ⊥
+    never same = cc
+
+    nothing : ◌≡◌ {A = Option Structure} None (Some (Element t)) → ⊥
+    nothing none = cc
+
+-- no transaction in hand is its
+toggle_off : (member : ℕ → Bool) (parts : StructureSets) (reply : Reply) (n : ℕ) (q : Qh) (hand : Hand) → member n ≡ false → q.token.toggle ≡ false → IsInHand member parts reply hand → hand_toggle hand n q ≡ false
+toggle_off member parts reply n q Empty off none k = none
+toggle_off member parts reply n q (Copied c) off none k = none
+toggle_off member parts reply n q (Settled c z) off none k =
+    ap (λ (b : Bool). if b then z.host.toggle else q.token.toggle) (not_same c.at n (λ same. false≢true (sym off ∙ ap member (sym same) ∙ k.0.on))) ∙ none
+toggle_off member parts reply n q (Stale m r) off none k = none
+
+module _ (base : Base) (w : Walk) (hand : Hand) (p : DriverParts) (member streams : ℕ → Bool) (ends : ℕ → Told) (parts : StructureSets) (order : ℕ → ℕ → ℕ) (out : ℕ → List ℕ) (k : IsAtOpen p.driver p.memory member streams ends parts order out) (drives : DrivesRing base member parts hand (place w p.registers p.memory) p.driver) (members : (m : ℕ) → streams m ≡ true → member m ≡ true) where
+  abbrev d : DriverContent
+  d = p.driver
+
+  abbrev x : Endpoint
+  x = k.lent.endpoint
+
+  abbrev n : ℕ
+  n = 32 * x.queue
+
+  abbrev q : Qh
+  q = queue_head x.desc k.lent.link x.dummy
+
+  abbrev now : StructureSets
+  now = head_then parts k.queue x
+
+  abbrev later : Hand
+  later = hand_then hand x
+
+  -- a queue head of an endpoint isn't the head of the ring
+  not_head : (e : ℕ) (y : Endpoint) → slice_get d.endpoints e ≡ Some y → 32 * y.queue ≢ head_at
+  not_head e y there same =
+      never (sym (queue_placed d k.sound.owners e y there (k.turns.receives.endpoints e y there)).owned ∙ ap k.sound.owners.owner (thirty_two y.queue head_block same) ∙ k.sound.owners.owned.each.head.owned)
+    where
+      never : QueueOf e ≡ Head → ⊥
+      never z = cc
+
+  not_streamed : (m : ℕ) → streams m ≡ true → m ≢ head_at
+  not_streamed m on same = let h : HasHead d m = k.stand.streams_are.only m on in not_head h.number h.endpoint h.here (sym h.at ∙ same)
+
+  stay : (m : ℕ) → m ≢ head_at → now m ≡ parts m
+  stay m differs = put_beside parts head_at head_at (QueueHead (record k.queue { link = to_queue_head x.queue })) m differs
+
+  n_differs : n ≢ head_at
+  n_differs = not_head k.lent.number x k.lent.here
+
+  new : streams n ≡ false
+  new = by_test (streams n) refl
+    where
+      by_test : (b : Bool) → streams n ≡ b → streams n ≡ false
+      by_test true on = absurd (false≢true (sym k.lent.unmet ∙ members n on))
+      by_test false off = off
+
+  here_now : now n n ≡ Some (QueueHead q)
+  here_now = ap (λ (part : Structures). part n) (stay n n_differs) ∙ here p member streams ends parts order out k
+
+  its_dummy : (a : ℕ) (t : Qtd) → now n a ≡ Some (Element t) → dummy_qtd ≡ t
+  its_dummy a t is = one_element (runs_of_endpoint x) q a t (sym (k.lent.part a) ∙ sym (ap (λ (part : Structures). part a) (stay n n_differs)) ∙ is)
+
+  begins : IsBeginning (now n) n q
+  begins = record {
+    here = here_now;
+    idle = refl;
+    none = λ a t is. ap (λ (u : Qtd). u.token.active) (sym (its_dummy a t is));
+    ends = λ a t is. (ap (λ (u : Qtd). qtd_link_of u.next) (sym (its_dummy a t is)), ap (λ (u : Qtd). qtd_link_of u.alternate) (sym (its_dummy a t is)));
+  }
+
+  expects : HasToggle later now n false
+  expects = record {
+    queue = q;
+    head = here_now;
+    own = ap is_control (k.turns.receives.endpoints k.lent.number x k.lent.here).receives.kind;
+    is = sym ((linked_same head_at (to_queue_head x.queue) hand).toggle n q ∙ toggle_off member parts w.reply n q hand k.lent.unmet refl drives.ring.in_hand);
+  }
+
+  one_more : IsOneMore streams hand later parts now n (end_then x)
+  one_more = record {
+    hands = linked_same head_at (to_queue_head x.queue) hand;
+    stay = λ m on. stay m (not_streamed m on);
+    new = new;
+    queue = q;
+    begins = begins;
+    named = record { queue = q; head = here_now; is = refl };
+    expects = expects;
+  }
+
+  pub reports_by : (acc : ℕ → List (List ℕ)) (reported : ℕ → List ℕ) → AreReported streams order out hand parts acc reported
+      → AreReported (with_stream streams n) order (with_none out n) later now (with_none acc n) (with_none reported n)
+  reports_by acc reported right = reports_with_one streams order out hand later parts now acc reported n (end_then x) one_more right
+
+  -- ---- the pipes
+
+  spares : (m : ℕ) → SparesHead parts now m
+  spares m r is =
+      ⊎_elim (λ (same : m ≡ head_at).
+      let queue : r ≡ k.queue = found_queue (parts m m) r k.queue is (ap (λ (i : ℕ). parts i i) same ∙ k.head) in
+      record {
+        queue = record k.queue { link = to_queue_head x.queue };
+        here = ap (λ (i : ℕ). now i i) same ∙ put_same parts head_at head_at (QueueHead (record k.queue { link = to_queue_head x.queue }));
+        overlay = record {
+          token = ap (λ (z : Qh). z.token) (sym queue);
+          current = ap (λ (z : Qh). z.current) (sym queue);
+          offset = ap (λ (z : Qh). z.offset) (sym queue);
+          endpoint = ap endpoint_of (sym queue);
+        };
+      })
+      (λ (differs : m ≢ head_at). record {
+        queue = r;
+        here = ap (λ (part : Structures). part m) (stay m differs) ∙ is;
+        overlay = record { token = refl; current = refl; offset = refl; endpoint = refl };
+      }) (cases_eq m head_at)
+
+  module _ {W : Type 0} (sender : W → ℕ → ℕ → Option Sender) (stream : ℕ → ℕ → Bool) (packets : ℕ → ℕ → List (List ℕ)) (acc : ℕ → List (List ℕ)) (wire : W) (names : AreNamesApart d) (on : stream x.desc.name.addr x.desc.name.num ≡ true) where
+    met_not : (y : Endpoint) → y ≡ x → d.command ≢ Some (unfinished.Open y.queue) → ⊥
+    met_not y same met = met (k.lent.command ∙ ap (λ (z : Endpoint). Some (unfinished.Open z.queue)) (sym same))
+
+    unopened : IsUnopened streams ends x.desc.name.addr x.desc.name.num
+    unopened m streamed addr ep =
+        let h : HasHead d m = k.stand.streams_are.only m streamed in
+        let is : ends m ≡ endpoint_of (queue_head h.endpoint.desc 0 h.endpoint.dummy) = ap ends h.at ∙ (k.stand.streams_are.each h.number h.endpoint h.here h.met).1 in
+        let number : h.number ≡ k.lent.number =
+        names h.number k.lent.number h.endpoint x h.here k.lent.here (sym (ap (λ (z : Told). z.addr) is) ∙ addr) (sym (ap (λ (z : Told). z.ep) is) ∙ ep) in
+        met_not h.endpoint (same_Some h.endpoint x (sym h.here ∙ ap (slice_get d.endpoints) number ∙ k.lent.here)) h.met
+
+    elsewhere : (m : ℕ) → IsElsewhere stream parts m (ends m) → IsElsewhere stream now m (ends m)
+    elsewhere m was = (
+      spared_endpoint parts now m (ends m) (spares m) was.0,
+      ⊎_elim (λ (none : stream (ends m).addr (ends m).ep ≡ false). inl none)
+          (λ (nots : IsNotIn (parts m)). inr (λ a t is active. nots a t (element_was p member streams ends parts order out k m a t is) active)) was.1,
+    )
+
+    pub pipes_by : AreUnopened stream packets sender streams ends wire → ArePiped stream packets sender member streams ends acc parts hand wire
+        → ArePiped stream packets sender (with_member member n) (with_stream streams n) (with_end ends n (end_then x)) (with_none acc n) now later wire
+    pipes_by waits piped =
+        pipes_with_one sender stream packets member (with_member member n) streams ends acc hand later parts now wire n (end_then x) one_more (waits x.desc.name.addr x.desc.name.num on unopened)
+        (λ m met differs off. elsewhere m (piped.others m (member_beside member n m differs met) off)) piped
+
+    pub ends_by : AreEndpoints stream member streams ends → AreEndpoints stream (with_member member n) (with_stream streams n) (with_end ends n (end_then x))
+    ends_by k_ends =
+        ends_with_one stream member (with_member member n) streams ends n (end_then x) (member_old member n) (member_here member n) on
+        (ap speed_field (k.turns.receives.endpoints k.lent.number x k.lent.here).receives.speed) unopened k_ends
+
+    pub unopened_by : AreUnopened stream packets sender streams ends wire → AreUnopened stream packets sender (with_stream streams n) (with_end ends n (end_then x)) wire
+    unopened_by waits = unopened_less_one sender stream packets streams ends wire n (end_then x) new waits
+
+pub open_pipes : {W : Type 0} (sender : W → ℕ → ℕ → Option Sender) → OpenPipes sender
+open_pipes sender stream packets acc wire base w hand p member streams ends parts order out k drives names on k_ends waits piped = (
+  ends_by base w hand p member streams ends parts order out k drives k_ends.members sender stream packets acc wire names on k_ends,
+  pipes_by base w hand p member streams ends parts order out k drives k_ends.members sender stream packets acc wire names on waits piped,
+  unopened_by base w hand p member streams ends parts order out k drives k_ends.members sender stream packets acc wire names on waits,
+)
+
+pub open_reports : OpenReports
+open_reports acc reported base w hand p member streams ends parts order out k drives members right = reports_by base w hand p member streams ends parts order out k drives members acc reported right

@@ -1,0 +1,131 @@
+-- The streams of the report are right.
+use Rattle.std.proofs.Common.{◌≡◌, ℕ, Bool, true, false, not, ◌&&◌, if◌then◌else◌, List, [], ◌∷◌, ◌++◌, filter, filter_map, slice_get, Option, Some, None, ap, refl, sym, subst, ◌∙◌, ⊎_elim}
+use Rattle.std.specs.Prelude.{◌⊎◌, is_none}
+use Rattle.std.specs.Option.{option_map, option_and_then}
+use Rattle.std.specs.List.{AllByRecursion, concat, list_any, cons_option}
+use Rattle.std.proofs.lemmas.Option.{same_Some}
+use Rattle.std.proofs.lemmas.List.{append_assoc}
+use Rattle.usb_base.specs.declared.commands.Cmd.{Cmd}
+use Rattle.usb_base.specs.declared.commands.Cmd.TheVariants as commands
+use Rattle.usb_base.specs.declared.endpoints.EndCause.{EndCause}
+use Rattle.usb_base.specs.declared.endpoints.EpDesc.{EpDesc}
+use Rattle.usb_base.specs.declared.endpoints.EpName.{EpName}
+use Rattle.usb_base.specs.declared.packets.Way.{Way}
+use Rattle.usb_base.specs.declared.packets.Way.TheVariants as Ways
+use Rattle.script_types.specs.declared.scripts.Line.{Line}
+use Rattle.script_types.specs.declared.scripts.Line.TheVariants as lines
+use Rattle.script_types.specs.declared.scripts.Script.{Script}
+use Rattle.endpoint_script.specs.Items.{packets_of}
+use Rattle.pipe_agreement.specs.Prefix.{IsPrefix}
+use Rattle.usb_base.specs.declared.reports.Report.{Report}
+use Rattle.usb_bus.specs.Bus.{Fixed}
+use Rattle.report_streams.specs.Reports.{WholeReport, is_end, is_pending}
+use Rattle.report_streams.specs.Streams.{is_refused, command_in, accepted_in, open_in, has_stream, items_of, stream_by, told, told_in, ends_once, ends_whole, AreBytesRight, IsRightStream, AreRightStreams}
+use Rattle.driver_rows.specs.declared.content.Endpoint.{Endpoint}
+use Rattle.driver_rows.specs.DriverContent.{ended}
+use Rattle.told_endpoints.specs.Telling.{named_of, named_in, lines_in, IsToldTo, TellsEach}
+use Rattle.told_endpoints.proofs.Lines.{once_without}
+use Rattle.bus_world.specs.World.{World}
+use Rattle.right_reports.specs.WorldReport.{closings_of, report_of}
+use Rattle.right_reports.specs.Laws.{BeginsEach}
+use Rattle.right_reports.proofs.Named.{HasNamed, NoneNamed, search, named_is, none_pending}
+use Rattle.chained_transfers.specs.Receives.{IsReceiving, OpensReceiving, ReceivesLine, ReceivesOnly}
+
+-- ---- lists
+
+all_filtered : {X : Type 0} (P : X → Type 0) (p : X → Bool) (xs : List X) → AllByRecursion P xs → AllByRecursion P (filter p xs)
+all_filtered P p [] k = tt
+all_filtered P p (x ∷ xs) k = kept (p x) (all_filtered P p xs k.1)
+  where
+    kept : (b : Bool) → AllByRecursion P (filter p xs) → AllByRecursion P (if b then x ∷ filter p xs else filter p xs)
+    kept true rest = (k.0, rest)
+    kept false rest = rest
+
+all_mapped : {X Y : Type 0} (P : X → Type 0) (Q : Y → Type 0) (h : X → Option Y) (xs : List X) → ((x : X) (y : Y) → P x → h x ≡ Some y → Q y) → AllByRecursion P xs → AllByRecursion Q (filter_map h xs)
+all_mapped P Q h [] gives k = tt
+all_mapped P Q h (x ∷ xs) gives k = with_first (h x) refl (all_mapped P Q h xs gives k.1)
+  where
+    with_first : (o : Option _) → h x ≡ o → AllByRecursion Q (filter_map h xs) → AllByRecursion Q (cons_option o (filter_map h xs))
+    with_first None is rest = rest
+    with_first (Some y) is rest = (gives x y k.0 is, rest)
+
+-- ---- what is opened
+
+accepted_by : (b : Bool) (l : Line) (cmd : Cmd) → ReceivesLine l → (if b then None else command_in l) ≡ Some cmd → OpensReceiving cmd
+accepted_by true l cmd k is = absurd cc
+accepted_by false (lines.Command c) cmd k is = subst OpensReceiving (same_Some c cmd is) k
+accepted_by false (lines.Order event n) cmd k is = absurd cc
+accepted_by false (lines.Micro n) cmd k is = absurd cc
+
+opens_by : (cmd : Cmd) (desc : EpDesc) → OpensReceiving cmd → open_in cmd ≡ Some desc → IsReceiving desc
+opens_by (commands.OpenEp x) desc k is = subst IsReceiving (same_Some x desc is) k
+opens_by (commands.Get name len by) desc k is = absurd cc
+opens_by (commands.Put name bytes by) desc k is = absurd cc
+opens_by (commands.Control name setup bytes) desc k is = absurd cc
+opens_by (commands.Iso name count len seed) desc k is = absurd cc
+opens_by (commands.Cancel name) desc k is = absurd cc
+
+pub all_right : (s : Script) (r : WholeReport) → ReceivesOnly s → ((desc : EpDesc) → IsReceiving desc → IsRightStream s r desc.name) → AreRightStreams s r
+all_right s r k each =
+    all_filtered (λ desc. IsRightStream s r desc.name) (λ desc. has_stream desc.kind) (filter_map open_in (filter_map (accepted_in r) s.lines))
+    (all_mapped OpensReceiving (λ desc. IsRightStream s r desc.name) open_in (filter_map (accepted_in r) s.lines) (λ cmd desc opens is. each desc (opens_by cmd desc opens is))
+    (all_mapped (λ line. ReceivesLine line.1) OpensReceiving (accepted_in r) s.lines (λ line cmd receives is. accepted_by (is_refused r line.0) line.1 cmd receives is) k))
+
+-- ---- one endpoint
+
+bytes_right : (s : Script) (r : WholeReport) (name : EpName) → name.way ≡ Ways.In → IsPrefix (told r name) (concat (packets_of (items_of s name))) → AreBytesRight name.way s r name
+bytes_right s r name is k = subst (λ (way : Way). AreBytesRight way s r name) (sym is) (subst (λ (way : Way). IsPrefix (told r name) (stream_by way s r name)) (sym is) k)
+
+module _ (s : Script) (fixed : Fixed) (w : World) (held told_each : ℕ → List ℕ) (tells : TellsEach w.driver.reports w.driver.store (named_in w.driver.endpoints) held told_each) (begins : BeginsEach s w told_each) where
+  abbrev r : WholeReport
+  r = report_of fixed w
+
+  nothing_told : (name : EpName) → name.way ≡ Ways.In → lines_in name w.driver.reports ≡ [] → IsRightStream s r name
+  nothing_told name way none = record {
+    bytes = bytes_right s r name way (concat (packets_of (items_of s name)), ap (λ (ls : List Report). told_in w.driver.store ls ++ concat (packets_of (items_of s name))) none);
+    once = ap ends_once none;
+    whole = ap (λ (ls : List Report). not (list_any (λ line. is_end line.what) ls && list_any (is_pending name) (closings_of fixed w))) none;
+  }
+
+  not_both : (b : Bool) → not (b && false) ≡ true
+  not_both true = refl
+  not_both false = refl
+
+  is_told : (k : ℕ) (x : Endpoint) → slice_get w.driver.endpoints k ≡ Some x → x.desc.name.way ≡ Ways.In → (o : Option EndCause) → x.ended ≡ o → IsRightStream s r x.desc.name
+  is_told k x here way o is = record {
+    bytes = bytes_right s r x.desc.name way (held k ++ front.0, sym (append_assoc (told r x.desc.name) (held k) front.0) ∙ ap (λ (xs : List ℕ). xs ++ front.0) t.sum ∙ front.1);
+    once = once_by o is;
+    whole = whole_by o is;
+  }
+    where
+      t : IsToldTo w.driver.reports w.driver.store (named_of x) (held k) (told_each k)
+      t = tells.each k (named_of x) (ap (option_map named_of) here)
+
+      front : IsPrefix (told_each k) (concat (packets_of (items_of s x.desc.name)))
+      front = begins k x here
+
+      once_by : (end : Option EndCause) → x.ended ≡ end → ends_once (lines_in x.desc.name w.driver.reports) ≡ true
+      once_by None still = once_without (lines_in x.desc.name w.driver.reports) (t.going still)
+      once_by (Some cause) over = (t.over cause over).1
+
+      named : HasNamed w.driver.endpoints x.desc.name
+      named = record { number = k; endpoint = x; here = here; same = refl }
+
+      ended_is : (end : Option EndCause) → x.ended ≡ end → ended w.driver x.desc.name ≡ end
+      ended_is end same =
+          ap (λ (e : Option Endpoint). option_and_then (λ y. y.ended) e) (named_is w.driver x.desc.name named (λ i y at alike. tells.apart i k (named_of y) (named_of x) (ap (option_map named_of) at) (ap (option_map named_of) here) alike)) ∙ same
+
+      whole_by : (end : Option EndCause) → x.ended ≡ end → ends_whole r x.desc.name ≡ true
+      whole_by None still = ap (λ (b : Bool). not (b && list_any (is_pending x.desc.name) (closings_of fixed w))) (t.going still)
+      whole_by (Some cause) over =
+          ap (λ (b : Bool). not (list_any (λ line. is_end line.what) (lines_in x.desc.name w.driver.reports) && b)) (none_pending w x.desc.name (ap is_none (ended_is (Some cause) over)) fixed)
+          ∙ not_both (list_any (λ line. is_end line.what) (lines_in x.desc.name w.driver.reports))
+
+  one_right : (name : EpName) → name.way ≡ Ways.In → IsRightStream s r name
+  one_right name way =
+      ⊎_elim (λ (k : HasNamed w.driver.endpoints name).
+      subst (IsRightStream s r) k.same (is_told k.number k.endpoint k.here (ap (λ (n : EpName). n.way) k.same ∙ way) k.endpoint.ended refl))
+      (λ (none : NoneNamed w.driver.endpoints name). nothing_told name way (tells.only name none)) (search w.driver.endpoints name)
+
+pub report_right : (s : Script) (fixed : Fixed) (w : World) (held told : ℕ → List ℕ) → ReceivesOnly s → TellsEach w.driver.reports w.driver.store (named_in w.driver.endpoints) held told → BeginsEach s w told → AreRightStreams s (report_of fixed w)
+report_right s fixed w held told receives tells begins = all_right s (report_of fixed w) receives (λ desc receiving. one_right s fixed w held told tells begins desc.name receiving.way)

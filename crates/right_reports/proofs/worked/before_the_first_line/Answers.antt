@@ -1,0 +1,8 @@
+use Rattle.std.proofs.Common.{[], ◌∷◌, refl}
+use Rattle.right_reports.proofs.worked.before_the_first_line.Goals as goal
+
+pub returns-clause-receives : goal.returns-clause-receives
+returns-clause-receives c = (record { kind = refl; speed = refl; way = refl }, tt)
+
+pub returns-clause-right : goal.returns-clause-right
+returns-clause-right c = (record { bytes = (1 ∷ 2 ∷ [], refl); once = refl; whole = refl }, tt)

@@ -1,0 +1,2 @@
+pub mod WorldReport
+pub mod Laws

@@ -1,0 +1,11 @@
+//! The report of a world in which endpoints only send (USB 2.0, 8.6): where what is told of each endpoint begins the packets that the script has for it, its
+//! streams are right.
+//!
+//! The crate has no code of its own: each function is a law over the definitions of `bus_world` and `report_streams`, and its body is empty.
+#![tactic(auto)]
+
+mod laws;
+mod worked;
+
+pub use laws::{a_report_that_tells_each_is_right, the_report_is_printed};
+pub use worked::{before_the_first_line, closing_lines};

@@ -1,0 +1,23 @@
+//! Worked rows.
+ghost use Rattle.std.specs.Prelude.{◌≡◌, List, [], ◌∷◌};
+ghost use Rattle.script_types.specs.declared.devices.Item.TheVariants.{Bytes};
+ghost use Rattle.report_streams.specs.Reports.{Pending};
+ghost use Rattle.report_streams.specs.Samples.{script_of, sender, bulk};
+ghost use Rattle.report_streams.specs.Streams.{AreRightStreams};
+ghost use Rattle.usb_bus.specs.Bus.{fixed_of};
+ghost use Rattle.chained_transfers.specs.Receives.{ReceivesOnly};
+ghost use Rattle.bus_world.specs.Opening.{opening_world};
+ghost use Rattle.right_reports.specs.WorldReport.{waiting_closing, report_of};
+
+/// A line tells what is pending, and none tells nothing.
+pub fn closing_lines()
+    ensures some { waiting_closing sender 2 ≡ Pending sender 2 ∷ [] }
+    ensures none { waiting_closing sender 0 ≡ [] }
+{}
+
+/// A script whose one endpoint is a high-speed bulk IN one: before its first line nothing is told.
+pub fn before_the_first_line()
+    ensures receives { ReceivesOnly (script_of (bulk sender) (Bytes (1 ∷ 2 ∷ []) ∷ []) []) }
+    ensures right { AreRightStreams (script_of (bulk sender) (Bytes (1 ∷ 2 ∷ []) ∷ []) [])
+        (report_of (fixed_of (script_of (bulk sender) (Bytes (1 ∷ 2 ∷ []) ∷ []) [])) (opening_world (script_of (bulk sender) (Bytes (1 ∷ 2 ∷ []) ∷ []) []))) }
+{}

@@ -1,0 +1,3 @@
+pub mod Going
+pub mod Returning
+pub mod Sampled

@@ -1,0 +1,3 @@
+pub mod Statements
+pub mod Drafts
+pub mod Texts

@@ -1,0 +1,6 @@
+pub mod Walking
+pub mod Lists
+pub mod Harvested
+pub mod Rows
+pub mod Alike
+pub mod Reaching

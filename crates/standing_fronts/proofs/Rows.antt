@@ -1,0 +1,296 @@
+-- The row of a harvest, by what it found.
+use Rattle.std.proofs.Common.{◌≡◌, ◌≢◌, ℕ, zero, suc, ◌+◌, ◌-◌, ◌*◌, ◌==◌, ◌&&◌, not, option_map, ◌<◌, ◌≤◌, ◌⊎◌, Bool, true, false, cond, if◌then◌else◌, List, [], ◌∷◌, set, slice_get, length, Option, Some, None, ap, refl, sym, subst, ◌∙◌, ⊎_elim, inl, inr, arith}
+use Rattle.std.specs.Prelude.{nat_eq, nat_le}
+use Rattle.std.proofs.lemmas.Bool.{cases_eq, cases_lt, true≢false}
+use Rattle.std.proofs.lemmas.Bool.Decides.{nat_tests}
+use Rattle.std.proofs.lemmas.Option.{same_Some}
+use Rattle.usb_base.specs.declared.endpoints.EndCause.{EndCause}
+use Rattle.usb_base.specs.declared.endpoints.EndCause.TheVariants as causes
+use Rattle.usb_base.specs.declared.packets.EpKind.{EpKind}
+use Rattle.usb_base.specs.declared.packets.EpKind.TheVariants as kinds
+use Rattle.usb_base.specs.declared.reports.What.{What}
+use Rattle.usb_base.specs.declared.reports.What.TheVariants as lines
+use Rattle.link_words.specs.declared.fields.ShortLink.{ShortLink}
+use Rattle.link_words.specs.declared.kinds.QtdLink.TheVariants as qtd_links
+use Rattle.link_words.specs.Links.{qtd_link_of}
+use Rattle.qh_qtd.specs.declared.token.Token.{Token}
+use Rattle.driver_rows.specs.declared.content.Endpoint.{Endpoint}
+use Rattle.driver_rows.specs.declared.content.Transfer.{Transfer}
+use Rattle.driver_rows.specs.declared.content.QtdNote.{QtdNote}
+use Rattle.driver_rows.specs.declared.content.Sort.TheVariants as sorts
+use Rattle.driver_rows.specs.declared.rows.DriverRow.TheVariants as rows
+use Rattle.driver_rows.specs.declared.rows.Found.{Found}
+use Rattle.driver_rows.specs.declared.rows.Found.TheVariants as founds
+use Rattle.driver_rows.specs.DriverContent.{DriverContent}
+use Rattle.driver_rows.specs.Words.{to_qtd}
+use Rattle.driver_rows.specs.Harvests.{note_at, token_in, halt_of, moved_of, done_of, ends_by, found_in, end_of, is_stall, noted}
+use Rattle.driver_rows.specs.Rows.{Parts, found_of, served, moved_on, told_with, goes_on, after_end, harvested_as, after_harvest, after_driver_row}
+use Rattle.run_owners.specs.Due.{IsHarvestDue}
+use Rattle.run_owners.specs.Kept.{HasOwners}
+use Rattle.run_owners.specs.Leaving.{owes}
+use Rattle.run_owners.specs.Owners.{note_in}
+use Rattle.run_owners.proofs.Released.{set_here, set_there}
+use Rattle.chained_transfers.specs.Chains.{piece_at}
+use Rattle.chained_transfers.specs.InTurn.{TakesTurns}
+use Rattle.chained_transfers.specs.Turns.{IsAtPlace, turn_of}
+use Rattle.chained_transfers.specs.Out.{passed}
+use Rattle.chained_transfers.proofs.Harvested.{piece_next, note_same, not_served, no_stall}
+use Rattle.chained_transfers.proofs.Harvesting.{waits_is}
+use Rattle.harvested_streams.proofs.Harvesting.{token_read}
+use Rattle.lent_structures.specs.Structures.{Element, StructureSets, Tells}
+use Rattle.fed_queues.specs.Fed.{IsPieceFed, unpublished_of, AreFed}
+use Rattle.fed_queues.specs.Places.{AreStillOut}
+use Rattle.released_queues.specs.Fronts.{FrontsStand}
+use Rattle.released_queues.proofs.Queues.{none_yet}
+use Rattle.released_queues.proofs.Outs.{IsDropped}
+use Rattle.standing_fronts.specs.Along.{HarvestKeepsFronts}
+use Rattle.standing_fronts.proofs.Lists.{times_some, pushed_one}
+use Rattle.standing_fronts.proofs.Harvested.{EndsThere, HarvestChanges, fronts_follow}
+
+-- ---- what a token tells
+
+pub record Ended (last : Bool) (t : Token) (what : What) : Type 0 where
+  pub done : t.active ≡ false
+  pub why : ((t.halted ≡ true) × (what ≡ halt_of t)) ⊎ ((t.halted ≡ false) × (ends_by sorts.Get last t.total ≡ true))
+
+same_what : (n m : ℕ) (what other : What) → founds.Ended n what ≡ founds.Ended m other → what ≡ other
+same_what n m what other is = cc
+
+ended_by : (a h e : Bool) (k n : ℕ) (halt what : What) → cond a founds.Active (cond h (founds.Ended k halt) (done_of e k)) ≡ founds.Ended n what → (a ≡ false) × (((h ≡ true) × (what ≡ halt)) ⊎ ((h ≡ false) × (e ≡ true)))
+ended_by true h e k n halt what is = absurd (cc)
+ended_by false true e k n halt what is = (refl, inl (refl, sym (same_what k n halt what is)))
+ended_by false false true k n halt what is = (refl, inr (refl, refl))
+ended_by false false false k n halt what is = absurd (cc)
+
+found_ended : (last : Bool) (note : QtdNote) (t : Token) (n : ℕ) (what : What) → found_in sorts.Get last note t ≡ founds.Ended n what → Ended last t what
+found_ended last note t n what is =
+    let both = ended_by t.active t.halted (ends_by sorts.Get last t.total) (moved_of note.told t.total) n (halt_of t) what is in
+    record { done = both.0; why = both.1 }
+
+-- a halt ends a bulk endpoint
+halt_by : (missed babble none : Bool) → end_of kinds.Bulk (if missed then lines.Miss else if babble then lines.Halt causes.Babble else if none then lines.Halt causes.Error else lines.Halt causes.Stall) ≡ None → ⊥
+halt_by true babble none is = cc
+halt_by false true none is = cc
+halt_by false false true is = cc
+halt_by false false false is = cc
+
+halt_ends : (t : Token) → end_of kinds.Bulk (halt_of t) ≡ None → ⊥
+halt_ends t is = halt_by t.missed t.babble (nat_eq t.cerr 0) is
+
+-- ---- where the last one leads
+
+pointer_by : (short : Bool) (alternate next : ShortLink) (to : ℕ) → alternate ≡ to_qtd to → ((short ≡ false) → next ≡ to_qtd to) → qtd_link_of (if short && not alternate.t then alternate else next) ≡ qtd_links.To (32 * to)
+pointer_by true alternate next to is last =
+    ap (λ (l : ShortLink). qtd_link_of (if true && not l.t then l else next)) is
+pointer_by false alternate next to is last = ap qtd_link_of (last refl)
+
+short_or_last : (last : Bool) (n : ℕ) → ends_by sorts.Get last n ≡ true → not (n == 0) ≡ false → last ≡ true
+short_or_last true n ends off = refl
+short_or_last false n ends off = sym off ∙ ends
+
+-- ---- contents
+
+ends_set : (es : List Endpoint) (e i : ℕ) (x z c : Endpoint) → slice_get es e ≡ Some x → z.queue ≡ x.queue → slice_get (set es e z) i ≡ Some c → (b : Endpoint) × (slice_get es i ≡ Some b) × (c.queue ≡ b.queue)
+ends_set es e i x z c here queue there =
+    ⊎_elim (λ (same : i ≡ e).
+    let is : c ≡ z = same_Some c z (sym there ∙ ap (slice_get (set es e z)) same ∙ set_here es e x z here) in
+    (x, ap (slice_get es) same ∙ here, ap (λ (b : Endpoint). b.queue) is ∙ queue))
+    (λ (differs : i ≢ e). (c, sym (set_there es e i z differs) ∙ there, refl)) (cases_eq i e)
+
+set_self : {X : Type 0} (xs : List X) (e : ℕ) (x : X) → slice_get xs e ≡ Some x → set xs e x ≡ xs
+set_self [] e x here = absurd (cc)
+set_self (z ∷ xs) zero x here = ap (λ (y : _). y ∷ xs) (same_Some x z (sym here))
+set_self (z ∷ xs) (suc e) x here = ap (λ (ys : List _). z ∷ ys) (set_self xs e x here)
+
+module _ (p : Parts) (e t : ℕ) (found : Found) (parts : StructureSets) (order : ℕ → ℕ → ℕ) (out : ℕ → List ℕ) (due : IsHarvestDue p e t found) (owners : HasOwners p.driver) (turns : TakesTurns p.driver) (tells : Tells p.memory parts) (fed : AreFed p.driver parts) where
+  abbrev d : DriverContent
+  d = p.driver
+
+  abbrev x : Endpoint
+  x = due.endpoint
+
+  abbrev y : Transfer
+  y = due.transfer
+
+  y_is : (y.endpoint ≡ e) × (y.reported ≡ false)
+  y_is = waits_is e y due.waits
+
+  held : y.released ≡ false
+  held = by_test y.released refl
+    where
+      by_test : (b : Bool) → y.released ≡ b → b ≡ false
+      by_test false is = refl
+      by_test true is = absurd (true≢false (sym (turns.turns.turns.told t (turn_of y) (ap (λ (o : Option Transfer). option_map turn_of o) due.there) is) ∙ y_is.1))
+
+  -- it isn't to be given back yet
+  not_owed : (i u : ℕ) → slice_get d.harvested i ≡ Some u → u ≢ t
+  not_owed i u at same =
+      let some = times_some d.harvested i t (at ∙ ap Some same) in
+      let most = owners.orderly.harvests t in
+      let none : owes (slice_get d.transfers t) ≡ 0 = ap owes due.there ∙ ap (λ (b : Bool). if b && not y.released then 1 else 0) y_is.1 in
+      omega (arith, some, most, none)
+
+  kept : (i u : ℕ) → slice_get d.harvested i ≡ Some u → (u ≢ t) × (slice_get d.harvested i ≡ Some u)
+  kept i u at = (not_owed i u at, at)
+
+  same_ends : (i : ℕ) (c : Endpoint) → slice_get d.endpoints i ≡ Some c → (b : Endpoint) × (slice_get d.endpoints i ≡ Some b) × (c.queue ≡ b.queue)
+  same_ends i c there = (c, there, refl)
+
+  -- ---- by what was found
+
+  active_changes : HarvestChanges d (served d e) parts t y y
+  active_changes = record {
+    idle = due.idle;
+    idle_now = due.idle;
+    notes = λ b. refl;
+    ends = same_ends;
+    here = due.there;
+    held = held;
+    waits = y_is.1;
+    transfers = sym (set_self d.transfers t y due.there);
+    endpoint = refl;
+    first = refl;
+    qtds = refl;
+    released = refl;
+    fewer = λ a dropped. dropped;
+    harvested = λ i u at. inl (kept i u at);
+  }
+
+  abbrev moved_transfer : Transfer
+  moved_transfer = record y { place = (note_at d.notes y.place).next; left = y.left - 1 }
+
+  moved_changes : (n : ℕ) → HarvestChanges d (served (moved_on d t y n) e) parts t y moved_transfer
+  moved_changes n = record {
+    idle = due.idle;
+    idle_now = due.idle;
+    notes = λ b. note_same d.notes y.place n b;
+    ends = same_ends;
+    here = due.there;
+    held = held;
+    waits = y_is.1;
+    transfers = refl;
+    endpoint = refl;
+    first = refl;
+    qtds = refl;
+    released = refl;
+    fewer = λ a dropped.
+        let from = dropped.from in
+        let below = dropped.below in
+        record { number = suc dropped.number; from = omega (arith, from); below = omega (arith, below); at = dropped.at };
+    harvested = λ i u at. inl (kept i u at);
+  }
+
+  abbrev told_transfer : Transfer
+  told_transfer = record y { reported = true }
+
+  told_fewer : (a : ℕ) → IsDropped (note_in d.notes) y.place (0 + passed true) y.left a → IsDropped (note_in d.notes) y.place (0 + passed y.reported) y.left a
+  told_fewer a dropped =
+      let none : passed y.reported ≡ 0 = ap passed y_is.1 in
+      record { number = dropped.number; from = omega (arith, none); below = dropped.below; at = dropped.at }
+
+  ended_changes : (n : ℕ) (what : What) (cause : EndCause) → HarvestChanges d (served (after_end (told_with d p.memory t y what x.desc.name (noted d.notes y.place n)) e t x (is_stall what) (Some cause)) e) parts t y told_transfer
+  ended_changes n what cause = record {
+    idle = due.idle;
+    idle_now = due.idle;
+    notes = λ b. note_same d.notes y.place n b;
+    ends = λ i c there. ends_set d.endpoints e i x (record x { ended = Some cause }) c due.here refl there;
+    here = due.there;
+    held = held;
+    waits = y_is.1;
+    transfers = refl;
+    endpoint = refl;
+    first = refl;
+    qtds = refl;
+    released = refl;
+    fewer = told_fewer;
+    harvested = λ i u at. inl (kept i u at);
+  }
+
+  -- the qTD that was read leads to the end
+  abbrev token : Token
+  token = token_in p.memory y.place
+
+  at_place : IsAtPlace (note_in d.notes) y
+  at_place = turns.turns.places t y due.there held
+
+  ends_there : (what : What) → end_of x.desc.kind what ≡ None → Ended (nat_le y.left 1) token what → (c : Endpoint) → slice_get d.endpoints y.endpoint ≡ Some c → EndsThere d (parts (32 * c.queue)) y
+  ends_there what none ended c at =
+      let i : ℕ = y.qtds - y.left in
+      let some = at_place.some in
+      let most = at_place.most in
+      let yet : unpublished_of d t y ≡ 0 = none_yet d.command d.made y.qtds (nat_eq (suc t) (length d.transfers)) due.idle in
+      let f : IsPieceFed (parts (32 * c.queue)) (note_at d.notes (piece_at (note_in d.notes) y.first i)) (piece_at (note_in d.notes) y.first i) (piece_at (note_in d.notes) y.first y.qtds) = fed.pieces t i y c due.there held at (omega (arith, yet)) (omega (arith, some, most)) in
+      let place_is : y.place ≡ piece_at (note_in d.notes) y.first i = at_place.place in
+      let here : parts (32 * c.queue) (32 * y.place) ≡ Some (Element f.qtd) = ap (λ (b : ℕ). parts (32 * c.queue) (32 * b)) place_is ∙ f.here in
+      let read : token ≡ f.qtd.token = token_read p.memory parts (32 * c.queue) y.place f.qtd tells here in
+      let right : (token.halted ≡ false) × (ends_by sorts.Get (nat_le y.left 1) token.total ≡ true) =
+      ⊎_elim (λ (halt : (token.halted ≡ true) × (what ≡ halt_of token)).
+      absurd (halt_ends token (ap (end_of kinds.Bulk) (sym halt.1) ∙ ap (λ (kind : EpKind). end_of kind what) (sym (turns.receives.endpoints e x due.here).receives.kind) ∙ none)))
+      (λ (goes : (token.halted ≡ false) × (ends_by sorts.Get (nat_le y.left 1) token.total ≡ true)). goes) ended.why in
+      record {
+        qtd = f.qtd;
+        here = here;
+        done = ap (λ (k : Token). k.active) (sym read) ∙ ended.done;
+        goes_on = ap (λ (k : Token). k.halted) (sym read) ∙ right.0;
+        leads = pointer_by (not (f.qtd.token.total == 0)) f.qtd.alternate f.qtd.next (piece_at (note_in d.notes) y.first y.qtds) f.noted.alternate
+            (λ off.
+            let last : nat_le y.left 1 ≡ true = short_or_last (nat_le y.left 1) token.total right.1 (ap (λ (k : Token). not (k.total == 0)) read ∙ off) in
+            let one : y.left ≤ 1 = few_by last in
+            f.noted.next ∙ ap to_qtd (sym (piece_next (note_in d.notes) y.first i)) ∙ ap (λ (j : ℕ). to_qtd (piece_at (note_in d.notes) y.first j)) (let same : suc i ≡ y.qtds = omega (arith, one, some, most) in same));
+      }
+    where
+      few_by : nat_le y.left 1 ≡ true → y.left ≤ 1
+      few_by is = ⊎_elim (λ (more : 1 < y.left). absurd (true≢false (sym is ∙ grind (arith, nat_tests)))) (λ (few : y.left ≤ 1). few) (cases_lt 1 y.left)
+
+  done_changes : (n : ℕ) (what : What) → end_of x.desc.kind what ≡ None → Ended (nat_le y.left 1) token what → HarvestChanges d (served (goes_on (told_with d p.memory t y what x.desc.name (noted d.notes y.place n)) e t x) e) parts t y told_transfer
+  done_changes n what none ended = record {
+    idle = due.idle;
+    idle_now = due.idle;
+    notes = λ b. note_same d.notes y.place n b;
+    ends = λ i c there. ends_set d.endpoints e i x (record x { next = _ }) c due.here refl there;
+    here = due.there;
+    held = held;
+    waits = y_is.1;
+    transfers = refl;
+    endpoint = refl;
+    first = refl;
+    qtds = refl;
+    released = refl;
+    fewer = told_fewer;
+    harvested = λ i u at.
+        ⊎_elim (λ (old : slice_get d.harvested i ≡ Some u). inl (kept i u old)) (λ (new : u ≡ t). inr (new, refl, ends_there what none ended)) (pushed_one d.harvested t i u at);
+  }
+
+  -- ---- the row
+
+  row_is : after_driver_row (rows.Harvest e t found) p ≡ record p { driver = served (harvested_as d p.memory e t x y found) e }
+  row_is =
+      ap (λ (o : Option Endpoint). record p { driver = after_harvest d p.memory e t found o (slice_get d.transfers t) }) due.here
+      ∙ ap (λ (o : Option Transfer). record p { driver = after_harvest d p.memory e t found (Some x) o }) due.there
+      ∙ ap (λ (b : Bool). record p { driver = if b then served (harvested_as d p.memory e t x y found) e else d }) due.waits
+
+  found_is : found ≡ found_in sorts.Get (nat_le y.left 1) (note_at d.notes y.place) token
+  found_is = due.tells ∙ ap (found_of d p.memory y) (turns.receives.gets t y due.there)
+
+  -- what it leaves of any fact that a harvest leaves
+  by_found : (P : DriverContent → Type 0) → ((f : DriverContent) (z : Transfer) → HarvestChanges d f parts t y z → P f) → (g : Found) → found ≡ g → P (served (harvested_as d p.memory e t x y g) e)
+  by_found P each founds.Active is = each (served d e) y active_changes
+  by_found P each (founds.Moved n) is = each (served (moved_on d t y n) e) moved_transfer (moved_changes n)
+  by_found P each (founds.Served errors) is = absurd (not_served (nat_le y.left 1) (note_at d.notes y.place) token found found_is errors is)
+  by_found P each (founds.Ended n what) is = by_end (end_of x.desc.kind what) refl
+    where
+      by_end : (o : Option EndCause) → end_of x.desc.kind what ≡ o → P (served (after_end (told_with d p.memory t y what x.desc.name (noted d.notes y.place n)) e t x (is_stall what) o) e)
+      by_end (Some cause) end_is = each (served (after_end (told_with d p.memory t y what x.desc.name (noted d.notes y.place n)) e t x (is_stall what) (Some cause)) e) told_transfer (ended_changes n what cause)
+      by_end None end_is =
+          let bulk : x.desc.kind ≡ kinds.Bulk = (turns.receives.endpoints e x due.here).receives.kind in
+          let stall : is_stall what ≡ false = no_stall x.desc.kind what bulk end_is in
+          let f0 : DriverContent = told_with d p.memory t y what x.desc.name (noted d.notes y.place n) in
+          subst (λ (b : Bool). P (served (after_end f0 e t x b None) e)) (sym stall)
+          (each (served (goes_on f0 e t x) e) told_transfer (done_changes n what end_is (found_ended (nat_le y.left 1) (note_at d.notes y.place) token n what (sym found_is ∙ is))))
+
+pub harvest_keeps : HarvestKeepsFronts
+harvest_keeps p e t found parts order out later due owners turns tells fed rise still still_now stand =
+    subst (λ (q : Parts). AreStillOut q.driver later → FrontsStand q.driver parts order later) (sym (row_is p e t found parts order out due owners turns tells fed))
+    (by_found p e t found parts order out due owners turns tells fed (λ (f : DriverContent). AreStillOut f later → FrontsStand f parts order later)
+    (λ f z changes now. fronts_follow p.driver f parts order out later t due.transfer z changes turns fed rise still now stand) found refl)
+    still_now

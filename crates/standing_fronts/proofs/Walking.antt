@@ -1,0 +1,20 @@
+-- An event of the walk moves fronts on.
+use Rattle.std.proofs.Common.{ℕ, ◌*◌, List, arith}
+use Rattle.usb_base.specs.declared.packets.Ask.{Ask}
+use Rattle.usb_base.specs.declared.packets.Reply.{Reply}
+use Rattle.ring_fronts.proofs.Going.{front_moves}
+use Rattle.released_queues.specs.Fronts.{piece_address}
+use Rattle.standing_fronts.specs.Along.{WalkKeepsFronts}
+
+pub walk_keeps : {W : Type 0} (transacts : W → Ask → List ℕ → Reply → W → Type 0) → WalkKeepsFronts transacts
+walk_keeps transacts member parts hand reply wire after now later kind d order out members in_hand effect rise stand e x here met =
+    let n = 32 * x.queue in
+    let f = stand e x here met in
+    let g = front_moves transacts member parts hand reply wire after now later kind (order n) f.front (out n) n members in_hand effect (rise e x here met) f.has in
+    let grows = g.goes_on in
+    record {
+      front = g.front_now;
+      has = g.has;
+      ended = λ i t y at there held same. let most = f.ended i t y at there held same in omega (arith, most, grows);
+      passed = λ i t j y at there held same from below. g.passed (piece_address d y j) (f.passed i t j y at there held same from below);
+    }

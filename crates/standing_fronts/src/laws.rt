@@ -1,0 +1,30 @@
+//! The laws.
+ghost use Rattle.standing_fronts.specs.Along.{WalkKeepsFronts, HarvestKeepsFronts, AlikeKeepFronts, IdleStoreKeepsFronts, LastStoreKeepsFronts};
+ghost use Rattle.standing_fronts.specs.Reaching.{ReachesWalk, ReachesIdleStore, ReachesLastStore};
+
+use usb_base::Wire;
+
+/// Each event of the walk leaves the fronts of queues, or moves one on.
+pub fn each_event_leaves_fronts<W: Wire>()
+    ensures { WalkKeepsFronts W.transacts }
+{}
+
+/// So does a harvest: the transfer that it ends is behind its front.
+pub fn a_harvest_leaves_fronts()
+    ensures { HarvestKeepsFronts }
+{}
+
+/// So do rows and commands that leave met endpoints and transfers that are to be given back, stores of a qTD that isn't active, and the last one, which
+/// publishes a qTD past which the walk hasn't gone.
+pub fn other_rows_leave_fronts()
+    ensures alike { AlikeKeepFronts }
+    ensures store { IdleStoreKeepsFronts }
+    ensures last { LastStoreKeepsFronts }
+{}
+
+/// The walk goes no further than the tail of a queue: along its events, stores of a qTD that is being published, and the last store, which moves the tail.
+pub fn fronts_stay_before_tails<W: Wire>()
+    ensures walk { ReachesWalk W.transacts }
+    ensures idle { ReachesIdleStore }
+    ensures last { ReachesLastStore }
+{}

@@ -1,0 +1,4 @@
+pub mod Names
+pub mod Lines
+pub mod Tellings
+pub mod Sampled

@@ -1,0 +1,5 @@
+pub mod Holding
+pub mod Passing
+pub mod Reading
+pub mod Noting
+pub mod Keeping

@@ -1,0 +1,4 @@
+pub mod Held
+pub mod Passed
+pub mod Laws
+pub mod Samples

@@ -1,0 +1,3 @@
+pub mod Standing
+pub mod Commanding
+pub mod Harvesting

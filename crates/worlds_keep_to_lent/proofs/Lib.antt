@@ -1,0 +1,4 @@
+pub mod Turning
+pub mod Addresses
+pub mod Standing
+pub mod Moments
