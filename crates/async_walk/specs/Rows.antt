@@ -282,7 +282,8 @@ step_of rows.WriteBack p = wrote_step p p.walk.held
 -- ---- an event, over a wire of which only a relation is known
 
 -- it was made once on the wire, and the place is what its reply leaves
-pub record Transacted {W : Type 0} (transacts : W → Ask → List ℕ → Reply → W → Type 0) (t : Transaction) (h : Held) (out : List ℕ) (p : WalkPlace) (before : W) (new : WalkPlace) (after : W) : Type 0 where
+pub record Transacted {W : Type 0} (transacts : W → Ask → List ℕ → Reply → W → Type 0) (t : Transaction) (h : Held) (out : List ℕ) (p : WalkPlace) (before : W) (new : WalkPlace)
+    (after : W) : Type 0 where
   pub reply : Reply
   pub made : transacts before (call_in t out false).ask (call_in t out false).out reply after
   pub place : new ≡ transacted t h out reply p

@@ -23,14 +23,16 @@ use Rattle.ring_out_pipes.specs.OutBus.{Taker}
 use Rattle.ring_out_pipes.specs.OutPipes.{IsOut, IsUnmoved, IsOutPipe}
 use Rattle.ring_out_pipes.specs.Laws.{IsOnlyEndpoint}
 
-pub record IsOutStream (stream : ℕ → ℕ → Bool) (o : Option Taker) (member : ℕ → Bool) (order : ℕ → ℕ) (out : List ℕ) (parts : StructureSets) (hand : Hand) (n : ℕ) (x : Endpoint) (harvested : List ℕ) : Type 0 where
+pub record IsOutStream (stream : ℕ → ℕ → Bool) (o : Option Taker) (member : ℕ → Bool) (order : ℕ → ℕ) (out : List ℕ) (parts : StructureSets) (hand : Hand) (n : ℕ) (x : Endpoint)
+    (harvested : List ℕ) : Type 0 where
   pub only : IsOnlyEndpoint stream member parts n x
   pub place : ℕ
   pub told : List ℕ
   pub accounts : Accounts order place out hand parts n told
   pub pipe : IsOutPipe o (harvested ++ told) parts hand n x
 
-pub record OutGoesOn {W : Type 0} (begins : W → ℕ → Bool → W → Type 0) (transacts : W → Ask → List ℕ → Reply → W → Type 0) (stream : ℕ → ℕ → Bool) (taker : W → ℕ → ℕ → Option Taker) (base : Base) (member : ℕ → Bool) (order : ℕ → ℕ) (out : List ℕ) (parts : StructureSets) (hand : Hand) (wire after : W) (new : Content) (n : ℕ) (x : Endpoint) (harvested : List ℕ) : Type 0 where
+pub record OutGoesOn {W : Type 0} (begins : W → ℕ → Bool → W → Type 0) (transacts : W → Ask → List ℕ → Reply → W → Type 0) (stream : ℕ → ℕ → Bool) (taker : W → ℕ → ℕ → Option Taker) (base : Base)
+    (member : ℕ → Bool) (order : ℕ → ℕ) (out : List ℕ) (parts : StructureSets) (hand : Hand) (wire after : W) (new : Content) (n : ℕ) (x : Endpoint) (harvested : List ℕ) : Type 0 where
   pub event : Controls begins transacts base member parts hand wire after new
   pub stream_now : IsOutStream stream (taker after x.addr x.ep) member order out event.now event.later n x harvested
 
@@ -43,7 +45,8 @@ abbrev pub StaleIsUnmoved : Type 0
 StaleIsUnmoved = (at : ℕ) (hand : Hand) (n : ℕ) → IsUnmoved hand n → IsUnmoved (hand_stale at hand) n
 
 abbrev pub OutIsSpared : Type 0
-OutIsSpared = (hand later : Hand) (parts now : StructureSets) (n : ℕ) (x : Endpoint) (o : Option Taker) (known : List ℕ) → SameHand hand later → (IsUnmoved hand n → IsUnmoved later n) → SparesHead parts now n
+OutIsSpared = (hand later : Hand) (parts now : StructureSets) (n : ℕ) (x : Endpoint) (o : Option Taker) (known : List ℕ) → SameHand hand later → (IsUnmoved hand n → IsUnmoved later n)
+    → SparesHead parts now n
     → ((q : Qh) → parts n n ≡ Some (QueueHead q) → q.token.active ≡ true → SparesElement parts now n q.current) → IsOut (now n) → IsOutPipe o known parts hand n x → IsOutPipe o known now later n x
 
 -- ---- what was taken

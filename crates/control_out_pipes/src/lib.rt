@@ -39,7 +39,8 @@ pub fn a_spared_out_pipe_agrees()
 
 /// The first published qTD, once it is done, adds the bytes of its buffer to those harvested, all but those that its token tells to be left.
 pub fn a_harvest_keeps_an_out_stream()
-    ensures { (stream : ℕ → ℕ → Bool) (o : Option Taker) (member : ℕ → Bool) (order : ℕ → ℕ) (e : ℕ) (out : List ℕ) (parts : StructureSets) (hand : Hand) (n : ℕ) (x : Endpoint) (harvested : List ℕ) (t : Qtd)
+    ensures { (stream : ℕ → ℕ → Bool) (o : Option Taker) (member : ℕ → Bool) (order : ℕ → ℕ) (e : ℕ) (out : List ℕ) (parts : StructureSets) (hand : Hand)
+        (n : ℕ) (x : Endpoint) (harvested : List ℕ) (t : Qtd)
         → IsMember member n (parts n) → parts n e ≡ Some (Element t) → t.token.active ≡ false → IsOutStream stream o member order (e ∷ out) parts hand n x harvested
         → IsOutStream stream o member order out parts hand n x (harvested ++ take (length (buffer_of (parts n) t) - t.token.total) (buffer_of (parts n) t)) }
 {}

@@ -13,11 +13,14 @@ use Rattle.ring_control.specs.Control.{ControlEffect, a_microframe, a_step, Cont
 use Rattle.ring_pipes.specs.Bus.{Sender}
 use Rattle.ring_pipes.specs.Pipes.{ArePiped, grown, IsToldBy}
 
-abbrev pub IsControlToldBy : {W : Type 0} {begins : W → ℕ → Bool → W → Type 0} {transacts : W → Ask → List ℕ → Reply → W → Type 0} {parts : StructureSets} {hand : Hand} {wire after : W} {now : StructureSets} {later : Hand} → (ℕ → Bool) → ℕ → List (List ℕ) → ControlEffect begins transacts parts hand wire after now later → Type 0
+abbrev pub IsControlToldBy : {W : Type 0} {begins : W → ℕ → Bool → W → Type 0} {transacts : W → Ask → List ℕ → Reply → W → Type 0} {parts : StructureSets} {hand : Hand} {wire after : W}
+    {now : StructureSets} {later : Hand} → (ℕ → Bool) → ℕ → List (List ℕ) → ControlEffect begins transacts parts hand wire after now later → Type 0
 IsControlToldBy streams at more (a_microframe b) = more ≡ []
 IsControlToldBy streams at more (a_step k) = IsToldBy streams at more k.streams
 
-pub record ControlGoesOn {W : Type 0} (begins : W → ℕ → Bool → W → Type 0) (transacts : W → Ask → List ℕ → Reply → W → Type 0) (stream : ℕ → ℕ → Bool) (packets : ℕ → ℕ → List (List ℕ)) (sender : W → ℕ → ℕ → Option Sender) (base : Base) (member streams : ℕ → Bool) (endpoint : ℕ → Endpoint) (acc : ℕ → List (List ℕ)) (parts : StructureSets) (hand : Hand) (wire after : W) (new : Content) : Type 0 where
+pub record ControlGoesOn {W : Type 0} (begins : W → ℕ → Bool → W → Type 0) (transacts : W → Ask → List ℕ → Reply → W → Type 0) (stream : ℕ → ℕ → Bool) (packets : ℕ → ℕ → List (List ℕ))
+    (sender : W → ℕ → ℕ → Option Sender) (base : Base) (member streams : ℕ → Bool) (endpoint : ℕ → Endpoint) (acc : ℕ → List (List ℕ)) (parts : StructureSets) (hand : Hand) (wire after : W)
+    (new : Content) : Type 0 where
   pub event : Controls begins transacts base member parts hand wire after new
   pub at : ℕ
   pub more : List (List ℕ)

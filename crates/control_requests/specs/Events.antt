@@ -13,11 +13,13 @@ use Rattle.ring_walk.specs.Ring.{Base}
 use Rattle.ring_control.specs.Control.{ControlEffect, a_microframe, a_step, Controls}
 use Rattle.ring_requests.specs.Windows.{Sent, AreWindows, Step, stepped, IsStepOf}
 
-abbrev pub IsControlStepOf : {W : Type 0} {begins : W → ℕ → Bool → W → Type 0} {transacts : W → Ask → List ℕ → Reply → W → Type 0} {parts : StructureSets} {hand : Hand} {wire after : W} {now : StructureSets} {later : Hand} → (ℕ → Bool) → Option Step → ControlEffect begins transacts parts hand wire after now later → Type 0
+abbrev pub IsControlStepOf : {W : Type 0} {begins : W → ℕ → Bool → W → Type 0} {transacts : W → Ask → List ℕ → Reply → W → Type 0} {parts : StructureSets} {hand : Hand} {wire after : W}
+    {now : StructureSets} {later : Hand} → (ℕ → Bool) → Option Step → ControlEffect begins transacts parts hand wire after now later → Type 0
 IsControlStepOf windows o (a_microframe b) = o ≡ None
 IsControlStepOf windows o (a_step k) = IsStepOf windows o k.effect
 
-pub record ControlWindowsGoOn {W : Type 0} (begins : W → ℕ → Bool → W → Type 0) (transacts : W → Ask → List ℕ → Reply → W → Type 0) (device : W → ℕ → ℕ → Option Device) (base : Base) (member windows : ℕ → Bool) (sent : ℕ → Sent) (lines : ℕ → Line) (parts : StructureSets) (hand : Hand) (wire after : W) (new : Content) : Type 0 where
+pub record ControlWindowsGoOn {W : Type 0} (begins : W → ℕ → Bool → W → Type 0) (transacts : W → Ask → List ℕ → Reply → W → Type 0) (device : W → ℕ → ℕ → Option Device) (base : Base)
+    (member windows : ℕ → Bool) (sent : ℕ → Sent) (lines : ℕ → Line) (parts : StructureSets) (hand : Hand) (wire after : W) (new : Content) : Type 0 where
   pub event : Controls begins transacts base member parts hand wire after new
   pub step : Option Step
   pub all : AreWindows device member windows sent (stepped sent step lines) event.now event.later after

@@ -45,7 +45,8 @@ LinkOpensDrives = (base : Base) (member : ℕ → Bool) (parts : StructureSets) 
     → member head_at ≡ true → parts head_at head_at ≡ Some (QueueHead q) → q.link ≡ to_queue_head link
     → x.queue ≢ x.dummy → ((b : ℕ) → parts (32 * x.queue) b ≡ opened_part x (queue_head e link x.dummy) b)
     → DrivesRing base (with_member member (32 * x.queue)) (put parts head_at head_at (QueueHead (record q { link = to_queue_head x.queue })))
-    (hand_linked head_at (to_queue_head x.queue) hand) (place w (after_driver_row (link_row x.queue) p).registers (after_driver_row (link_row x.queue) p).memory) (after_driver_row (link_row x.queue) p).driver
+    (hand_linked head_at (to_queue_head x.queue) hand)
+    (place w (after_driver_row (link_row x.queue) p).registers (after_driver_row (link_row x.queue) p).memory) (after_driver_row (link_row x.queue) p).driver
 
 -- before that the walk doesn't meet it, and nothing else of it is told
 abbrev pub OpenIsUnmet : Type 0

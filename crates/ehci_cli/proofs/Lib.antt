@@ -3,3 +3,4 @@ pub mod Answered
 pub mod Checked
 pub mod Runs
 pub mod Words
+pub mod Streams

@@ -2,12 +2,14 @@ ghost use Rattle.std.specs.Prelude.{◌≡◌, ◌≢◌, ℕ, ◌≤◌, ◌↔
 ghost use Rattle.script_types.specs.declared.scripts.Script.{Script};
 ghost use Rattle.script_text.specs.Faults.{Spells};
 ghost use Rattle.bus_world.specs.Budgets.{AdmitsThroughout};
+ghost use Rattle.chained_transfers.specs.Receives.{ReceivesOnly};
 ghost use Rattle.world_frames.specs.Scheduled.{KeepsScheduleThroughout};
 ghost use Rattle.worlds_keep_to_lent.specs.Written.{KeepsToLentThroughout};
 ghost use Rattle.program_ends.specs.Ends.{IsFault, IsWriteFault, WritesNothing};
 ghost use Rattle.program_ends.specs.Input.{input_of};
 ghost use Rattle.ehci_cli.specs.Form.{AreWordsOf, AreNoForm};
 ghost use Rattle.ehci_cli.specs.Output.{IsAnswer, IsLoad, IsProgram, LeavesAs, Leaves};
+ghost use Rattle.ehci_cli.specs.Streams.{KeepsStreams, KeepsPlaces};
 
 use crate::checking::check;
 use crate::dumping::dump;
@@ -35,7 +37,11 @@ use usb_base::{Sink, Source};
 /// endpoint is refused for want of a placement exactly where no allowed one fits beside them. And at each moment the controller's next event
 /// reads and writes words of Lent blocks alone, and what the driver's next event gives back is Free afterwards; and each frame of the list has what is
 /// due in it: the queue heads of placed interrupt endpoints, each once, and of each isochronous endpoint at most one descriptor that waits.
-#[tactic(auto, using(crate::proofs::Admitted::source_admits, crate::proofs::Admitted::source_keeps_to_lent, crate::proofs::Admitted::source_keeps_schedule))]
+///
+/// Where the script only receives (each open is of a high-speed bulk IN endpoint, and nothing is cancelled), the bytes that the report tells of each endpoint
+/// begin its stream, each once and in order, and nothing follows its end: after the run, and at each moment of it, whatever is lost, damaged or held. And at
+/// each moment nothing of the driver is out of place in memory, and the controller runs, meets no fault and is refused no word.
+#[tactic(auto, using(crate::proofs::Admitted::source_admits, crate::proofs::Admitted::source_keeps_to_lent, crate::proofs::Admitted::source_keeps_schedule, crate::proofs::Streams::source_keeps_streams, crate::proofs::Streams::source_keeps_places))]
 pub fn ehci<S: Source, K: Sink>(
     alloc: Global,
     words: &[String],
@@ -50,6 +56,8 @@ pub fn ehci<S: Source, K: Sink>(
     ensures budgets { IfSome (S.left source.old) (λ xs. (s : Script) → Spells (input_of xs) s → AdmitsThroughout s) }
     ensures lent { IfSome (S.left source.old) (λ xs. (s : Script) → Spells (input_of xs) s → KeepsToLentThroughout s) }
     ensures schedule { IfSome (S.left source.old) (λ xs. (s : Script) → Spells (input_of xs) s → KeepsScheduleThroughout s) }
+    ensures streams { IfSome (S.left source.old) (λ xs. (s : Script) → Spells (input_of xs) s → ReceivesOnly s → KeepsStreams s) }
+    ensures placed { IfSome (S.left source.old) (λ xs. (s : Script) → Spells (input_of xs) s → ReceivesOnly s → KeepsPlaces s) }
     ensures left { IfSome (S.left source.old) (λ xs. Leaves (map string_bytes words.now) result xs (S.left source.new)) }
     ensures nothing { WritesNothing result → sink.new ≡ sink.old }
     ensures read { IsFault result (S.faults source.old) (S.faults source.new) }

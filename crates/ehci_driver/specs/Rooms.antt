@@ -25,7 +25,8 @@ owed_cancels xs = sum_by (λ x. if x.cancelled && not x.gone then 1 else 0) xs
 abbrev pub linked : List Endpoint → ℕ
 linked xs = sum_by (λ x. if x.linked then 1 else 0) xs
 
-pub record HasRooms (xs : List Endpoint) (ts : List Transfer) (room : Reserve) (endpoints transfers : ℕ) (reports report_room bytes byte_room harvested harvest_room mends mend_room waiting waiting_room rung rung_room cleared cleared_room : ℕ) : Type 0 where
+pub record HasRooms (xs : List Endpoint) (ts : List Transfer) (room : Reserve) (endpoints transfers : ℕ)
+    (reports report_room bytes byte_room harvested harvest_room mends mend_room waiting waiting_room rung rung_room cleared cleared_room : ℕ) : Type 0 where
   pub for_endpoints : length xs + room.endpoints ≤ endpoints
   pub for_transfers : length ts + room.transfers ≤ transfers
   pub few_transfers : length ts + room.transfers < 4294967296

@@ -3,6 +3,7 @@ ghost use Rattle.driver_rows.specs.DriverContent.{busy, pending, opened, ended, 
 ghost use Rattle.ehci_driver.specs.Standing.{with_refusal};
 
 use crate::driver::Driver;
+use bandwidth::Plan;
 use driver_rows::{Endpoint, Reserve, Transfer};
 use usb_base::{EndCause, EpName, OfferError, Report, What};
 
@@ -19,6 +20,13 @@ impl Driver {
         ensures { result.now ≡ self.now.endpoints }
     {
         self.endpoints.as_slice()
+    }
+
+    /// The plan of the periodic endpoints, each placed under its number.
+    pub fn plan(&self) -> &Plan
+        ensures { result.now ≡ self.now.periodic.plan }
+    {
+        self.periodic.plan()
     }
 
     /// The lines of the report, in the order in which they came.

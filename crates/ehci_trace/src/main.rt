@@ -15,7 +15,7 @@ use trace_cli::ehci_trace;
 use usb_base::{Sink, Source};
 
 const USAGE: &str =
-    "usage: ehci-trace [--endpoint EP] [--from N] [--to N] [--quiet] [--pcap] < SCRIPT";
+    "usage: ehci-trace [--endpoint EP] [--from N] [--to N] [--quiet] [--pcap] [--schedule] [--progress] < SCRIPT";
 
 const HELP: &str = "\
 ehci-trace: what happens in the run of a script, a line an event
@@ -26,6 +26,8 @@ ehci-trace: what happens in the run of a script, a line an event
     --to N             only up to microframe N
     --quiet            only events that move something
     --pcap             the packets on the high-speed bus as a capture, in the place of lines
+    --schedule         where periodic endpoints stand once the run has ended, and what they cost, in the place of lines
+    --progress         a line on standard error each 1,024 microframes
   ehci-trace --help    prints this text
   ehci-trace --version prints the version
 
@@ -62,6 +64,7 @@ fn about(words: &[String]) -> Option<&'static str> {
 
 /// The program on these words: what it says of itself, or its forms.
 fn program<S: Source, K: Sink>(
+    rt: &impl Eprint,
     alloc: Global,
     words: &[String],
     source: &mut S,
@@ -72,7 +75,7 @@ fn program<S: Source, K: Sink>(
 {
     match about(words) {
         Some(text) => tell(text, sink),
-        None => ehci_trace(alloc, words, source, sink),
+        None => ehci_trace(rt, alloc, words, source, sink),
     }
 }
 
@@ -86,7 +89,7 @@ fn run<S: Source, K: Sink>(
 ) -> ExitCode
     ensures { ExitsBy (exit_status result) (S.faults source.old) (S.faults source.new) (K.faults sink.old) (K.faults sink.new) }
 {
-    let status = program(alloc, words, source, sink);
+    let status = program(rt, alloc, words, source, sink);
     ended(rt, USAGE, status)
 }
 

@@ -69,10 +69,8 @@ pub if_driven : {T E : Type 0} (r : Result T E) (c d : Choice) (m n o : Watched)
 if_driven (Err x) c d m n o old new e event puts = tt
 if_driven (Ok x) c d m n o old new e event puts = goes_event c d m n o old new e (inr (inl event)) puts
 
-pub if_commanded : {T E : Type 0} (r : Result T E) (c d : Choice) (m n o : Watched) (old new : List ℕ) (e : Entry) → IsCommanded m e n → IfOk r (λ _. Puts c n old e d o new)
-    → IfOk r (λ _. Goes c m old d o new)
-if_commanded (Err x) c d m n o old new e event puts = tt
-if_commanded (Ok x) c d m n o old new e event puts = goes_event c d m n o old new e (inr (inr event)) puts
+pub goes_commanded : (c d : Choice) (m n o : Watched) (old new : List ℕ) (e : Entry) → IsCommanded m e n → Puts c n old e d o new → Goes c m old d o new
+goes_commanded c d m n o old new e event puts = goes_event c d m n o old new e (inr (inr event)) puts
 
 pub is_driven : (m n : Watched) (e : Entry) (step : DriverStep) (stored : Option (ℕ × ℕ)) → n ≡ driven m → step ≡ driven_step m → e.happening ≡ Driver step stored
     → IsStored (driver_row (parts_of m)) stored n → e.frame_index ≡ n.registers.frame_index → IsDriven m e n

@@ -16,7 +16,7 @@ use Rattle.trace_lines.specs.Lines.{entry_line}
 use Rattle.usb_capture.specs.Capture.{file_header}
 use Rattle.event_trace.specs.declared.choice.Choice.{Choice}
 use Rattle.event_trace.specs.declared.choice.Form.{Form}
-use Rattle.event_trace.specs.declared.choice.Form.TheVariants.{Lines, Capture}
+use Rattle.event_trace.specs.declared.choice.Form.TheVariants.{Lines, Capture, Schedule}
 use Rattle.event_trace.specs.Captured.{entry_packets}
 use Rattle.event_trace.specs.Watched.{Told}
 
@@ -72,10 +72,11 @@ is_chosen c e works =
     nat_le c.from e.microframe && (nat_le e.microframe c.to
     && (is_wanted c.endpoint e.happening works && not (c.quiet && is_quiet e.happening works)))
 
--- what is told of it: a line, or its packets
+-- what is told of it: a line, its packets, or nothing
 abbrev pub told_as : Form → Told → List ℕ
 told_as Lines t = entry_line t.entry t.works
 told_as Capture t = entry_packets t.entry t.sent t.got
+told_as Schedule t = []
 
 -- the same, if it isn't left out
 abbrev pub chosen_line : Choice → Told → List ℕ
@@ -85,3 +86,4 @@ chosen_line c t = if is_chosen c t.entry t.works then told_as c.form t else []
 abbrev pub head_of : Form → List ℕ
 head_of Lines = []
 head_of Capture = file_header
+head_of Schedule = []

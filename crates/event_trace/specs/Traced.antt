@@ -1,9 +1,10 @@
 -- A run with what is told of each event, and the text of it: one line an event.
-use Rattle.std.specs.Prelude.{◌≡◌, ℕ, List, [], ◌∷◌, ◌++◌}
+use Rattle.std.specs.Prelude.{◌≡◌, ◌≢◌, ℕ, List, [], ◌∷◌, ◌++◌}
 use Rattle.std.specs.List.{flat_map}
 use Rattle.trace_lines.specs.declared.entries.Entry.{Entry}
 use Rattle.trace_lines.specs.declared.entries.Work.{Work}
 use Rattle.event_trace.specs.declared.choice.Choice.{Choice}
+use Rattle.event_trace.specs.declared.choice.Form.TheVariants.{Schedule}
 use Rattle.script_types.specs.declared.scripts.Script.{Script}
 use Rattle.event_trace.specs.Watched.{Watched, Told, HasBytes, IsEvent, IsOpening}
 use Rattle.event_trace.specs.Chosen.{chosen_line, head_of}
@@ -38,8 +39,10 @@ pub record IsRunOf (s : Script) (choice : Choice) (lines : List ℕ) : Type 0 wh
   pub opened : IsOpening s opening
   pub traces : Traces choice opening end [] lines
 
--- The text is what is told of such a run, behind what stands before it all.
+-- The text is what is told of such a run, behind what stands before it all. A schedule comes last, where one is wanted.
 pub record IsTraceOf (s : Script) (choice : Choice) (text : List ℕ) : Type 0 where
   pub lines : List ℕ
   pub run : IsRunOf s choice lines
-  pub whole : text ≡ head_of choice.form ++ lines
+  pub schedule : List ℕ
+  pub unless : choice.form ≢ Schedule → schedule ≡ []
+  pub whole : text ≡ (head_of choice.form ++ lines) ++ schedule

@@ -21,6 +21,8 @@ pub enum Form {
     Lines,
     /// Its packets, behind their headers.
     Capture,
+    /// Nothing of an event: where periodic endpoints stand once the run has ended, and what they cost.
+    Schedule,
 }
 
 /// Which events are told, and how.
@@ -36,6 +38,8 @@ pub struct Choice {
     pub to: u32,
     /// Only events that move something.
     pub quiet: bool,
+    /// Whether a long run says on standard error that it goes on.
+    pub progress: bool,
 }
 
 fn are_same_ways(a: Way, b: Way) -> bool
@@ -163,6 +167,7 @@ impl Choice {
         match self.form {
             Form::Lines => put_entry(text, entry, works),
             Form::Capture => put_entry_packets(text, entry, sent, got),
+            Form::Schedule => Ok(()),
         }
     }
 
@@ -190,7 +195,7 @@ impl Choice {
         ensures { IfOk result (λ text. text.items ≡ head_of self.now.form) }
     {
         match self.form {
-            Form::Lines => Ok(Vec::new(alloc)),
+            Form::Lines | Form::Schedule => Ok(Vec::new(alloc)),
             Form::Capture => Ok(Vec::from_slice(alloc, &file_header())?),
         }
     }

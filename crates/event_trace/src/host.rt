@@ -8,9 +8,10 @@ ghost use Rattle.driver_rows.specs.Rows.{driver_row};
 
 use crate::reserve::{can_offer, reserve_of};
 use crate::shadow::Shadow;
+use bandwidth::Plan;
 use bus_exchanges::Exchange;
 use bus_recorder::Recorder;
-use driver_rows::{DriverRow, DriverStep};
+use driver_rows::{DriverRow, DriverStep, Endpoint};
 use ehci_driver::Driver;
 use hc_core::{Controller, HcStep};
 use op_registers::Registers;
@@ -144,6 +145,21 @@ impl Host {
     /// What translators did below for the microframe that ended last.
     pub fn works(&self) -> &[Work] {
         self.works.as_slice()
+    }
+
+    /// The microframe that began last, counted from 1; 0 before the first.
+    pub fn microframe(&self) -> u32 {
+        self.microframe
+    }
+
+    /// The endpoints that were opened.
+    pub fn endpoints(&self) -> &[Endpoint] {
+        self.driver.endpoints()
+    }
+
+    /// The plan of the periodic ones.
+    pub fn plan(&self) -> &Plan {
+        self.driver.plan()
     }
 
     /// The entry of what happened.

@@ -1,26 +1,31 @@
 //! The run of a script, with the lines of its events.
-ghost use Rattle.std.specs.Prelude.{◌≡◌, IfOk};
+ghost use Rattle.std.specs.Prelude.{◌≡◌, ◌≢◌, [], IfOk};
 ghost use Rattle.std.specs.List.{AllByRecursion};
 ghost use Rattle.script_fits.specs.Fits.{IsFit, IsFitLine, IsFitCommand};
 ghost use Rattle.event_trace.specs.Traced.{Puts, Goes, IsRunOf, IsTraceOf};
 
-use crate::choice::Choice;
+use crate::choice::{Choice, Form};
 use crate::host::Host;
 use hc_core::HcStep;
+use schedule_text::{put_refusal, schedule};
 use script_types::{Event, Line, Script};
 use std::alloc::Global;
 use trace_lines::{Entry, Happening};
-use usb_base::{Cmd, Memory};
+use usb_base::{Cmd, Memory, OfferError};
 
 /// The most turns of one microframe.
 const MOST_TURNS: u32 = 1_048_576;
 
-/// A run under way: the host, the events that are wanted, and their text so far.
+/// A long run says that it goes on each time that so many microframes have ended.
+const PROGRESS: u32 = 1024;
+
+/// A run under way: the host, the events that are wanted, and their text so far; and what is told behind a schedule of opens that found no placement.
 #[derive(Drop)]
 struct Run {
     host: Host,
     choice: Choice,
     text: Vec<u8>,
+    refusals: Vec<u8>,
 }
 
 fn is_begin(entry: &Entry) -> bool {
@@ -83,14 +88,42 @@ impl Run {
         self.put(&entry)
     }
 
+    /// Notes why an open found no placement, where a schedule is wanted.
+    fn note_refusal(&mut self, cmd: &Cmd, entry: &Entry) -> Result<(), Memory>
+        requires { IsFitCommand cmd.now }
+        ensures host { IfOk result (λ _. self.new.host ≡ self.old.host) }
+        ensures choice { IfOk result (λ _. self.new.choice ≡ self.old.choice) }
+        ensures text { IfOk result (λ _. self.new.text.items ≡ self.old.text.items) }
+    {
+        if self.choice.form != Form::Schedule {
+            return Ok(());
+        }
+        match (cmd, &entry.happening) {
+            (Cmd::OpenEp(desc), Happening::Offered(line, Some(OfferError::NoPlacement))) => {
+                put_refusal(
+                    &mut self.refusals,
+                    *line,
+                    desc,
+                    self.host.endpoints(),
+                    self.host.plan(),
+                )
+            }
+            (_, _) => Ok(()),
+        }
+    }
+
     /// A command.
-    #[tactic(auto, using(crate::proofs::Going::if_commanded))]
+    #[tactic(auto, using(crate::proofs::Going::goes_commanded))]
     fn command(&mut self, line: u32, cmd: &Cmd) -> Result<(), Memory>
         requires { IsFitCommand cmd.now }
         ensures { IfOk result (λ _. Goes self.old.choice self.old.host self.old.text.items self.new.choice self.new.host self.new.text.items) }
     {
         match self.host.offer(line, cmd) {
-            Some(entry) => self.put(&entry),
+            Some(answer) => {
+                self.note_refusal(cmd, &answer)?;
+                self.put(&answer)?;
+                Ok(())
+            }
             None => Err(Memory),
         }
     }
@@ -118,15 +151,24 @@ impl Run {
         Ok(false)
     }
 
+    /// Says on standard error that a long run goes on, where that is wanted. Where that fails, the run goes on all the same.
+    fn tell_progress(&self, rt: &impl Eprint) {
+        let microframe = self.host.microframe();
+        if self.choice.progress && microframe % PROGRESS == 0 {
+            let _told = eprintln!(rt; "microframe {microframe}");
+        }
+    }
+
     /// So many microframes; false where one of them doesn't end.
     #[tactic(auto, using(crate::proofs::Going::goes_on, crate::proofs::Going::goes_none))]
-    fn microframes(&mut self, count: u32) -> Result<bool, Memory>
+    fn microframes(&mut self, rt: &impl Eprint, count: u32) -> Result<bool, Memory>
         ensures { IfOk result (λ _. Goes self.old.choice self.old.host self.old.text.items self.new.choice self.new.host self.new.text.items) }
     {
         for _microframe in 0..count {
             if !self.microframe()? {
                 return Ok(false);
             }
+            self.tell_progress(rt);
         }
         Ok(true)
     }
@@ -157,7 +199,7 @@ impl Run {
 
     /// One action line; false where a microframe of it doesn't end.
     #[tactic(auto, using(crate::proofs::Going::goes_on, crate::proofs::Going::goes_none))]
-    fn line(&mut self, number: u32, line: &Line) -> Result<bool, Memory>
+    fn line(&mut self, rt: &impl Eprint, number: u32, line: &Line) -> Result<bool, Memory>
         requires { IsFitLine line.now }
         ensures { IfOk result (λ _. Goes self.old.choice self.old.host self.old.text.items self.new.choice self.new.host self.new.text.items) }
     {
@@ -166,7 +208,7 @@ impl Run {
                 self.events(*event, *count)?;
                 Ok(true)
             }
-            Line::Micro(count) => self.microframes(*count),
+            Line::Micro(count) => self.microframes(rt, *count),
             Line::Command(cmd) => {
                 self.command(number, cmd)?;
                 Ok(true)
@@ -176,12 +218,12 @@ impl Run {
 
     /// The action lines, in their order.
     #[tactic(auto, using(crate::proofs::Going::goes_on, crate::proofs::Going::goes_none))]
-    fn lines(&mut self, lines: &[(u32, Line)]) -> Result<(), Memory>
+    fn lines(&mut self, rt: &impl Eprint, lines: &[(u32, Line)]) -> Result<(), Memory>
         requires { AllByRecursion (λ x. IsFitLine x.1) lines.now }
         ensures { IfOk result (λ _. Goes self.old.choice self.old.host self.old.text.items self.new.choice self.new.host self.new.text.items) }
     {
         for entry in lines {
-            if !self.line(entry.0, &entry.1)? {
+            if !self.line(rt, entry.0, &entry.1)? {
                 return Ok(());
             }
         }
@@ -189,18 +231,33 @@ impl Run {
     }
 }
 
-/// What is told of the run of a script.
-fn run_of(alloc: Global, script: &Script, choice: &Choice) -> Result<Vec<u8>, Memory>
+/// The run of a script, up to its end.
+fn run_of(rt: &impl Eprint, alloc: Global, script: &Script, choice: &Choice) -> Result<Run, Memory>
     requires { IsFit script.now }
-    ensures { IfOk result (λ lines. IsRunOf script.now choice.now lines.items) }
+    ensures { IfOk result (λ run. IsRunOf script.now choice.now run.text.items) }
 {
     let mut run = Run {
         host: Host::build(alloc, script)?,
         choice: *choice,
         text: Vec::new(alloc),
+        refusals: Vec::new(alloc),
     };
-    run.lines(script.lines.as_slice())?;
-    Ok(run.text)
+    run.lines(rt, script.lines.as_slice())?;
+    Ok(run)
+}
+
+/// What comes last: the schedule with the opens that found no placement, where it is wanted.
+fn end_of(alloc: Global, run: &Run, form: Form) -> Result<Vec<u8>, Memory>
+    ensures { IfOk result (λ end. form ≢ Form.Schedule → end.items ≡ []) }
+{
+    match form {
+        Form::Schedule => {
+            let mut text = schedule(alloc, run.host.endpoints(), run.host.plan())?;
+            text.extend_from_slice(run.refusals.as_slice())?;
+            Ok(text)
+        }
+        Form::Lines | Form::Capture => Ok(Vec::new(alloc)),
+    }
 }
 
 /// Runs a script, and gives what is told of the events that are wanted. A microframe that doesn't end within 1,048,576 turns ends the run.
@@ -208,12 +265,19 @@ fn run_of(alloc: Global, script: &Script, choice: &Choice) -> Result<Vec<u8>, Me
 /// # Errors
 ///
 /// `Memory` where the host or the text finds no room.
-pub fn trace(alloc: Global, script: &Script, choice: &Choice) -> Result<Vec<u8>, Memory>
+pub fn trace(
+    rt: &impl Eprint,
+    alloc: Global,
+    script: &Script,
+    choice: &Choice,
+) -> Result<Vec<u8>, Memory>
     requires { IsFit script.now }
     ensures { IfOk result (λ text. IsTraceOf script.now choice.now text.items) }
 {
     let mut text = choice.head(alloc)?;
-    let lines = run_of(alloc, script, choice)?;
-    text.extend_from_slice(lines.as_slice())?;
+    let run = run_of(rt, alloc, script, choice)?;
+    let end = end_of(alloc, &run, choice.form)?;
+    text.extend_from_slice(run.text.as_slice())?;
+    text.extend_from_slice(end.as_slice())?;
     Ok(text)
 }

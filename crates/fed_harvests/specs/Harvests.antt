@@ -74,7 +74,8 @@ pub record Harvested (d f : DriverContent) (e t : ℕ) (y : Transfer) : Type 0 w
 abbrev pub with_out : (ℕ → List ℕ) → ℕ → List ℕ → ℕ → List ℕ
 with_out out n now k = if k == n then now else out k
 
-pub record HarvestLeaves (p : Parts) (e t : ℕ) (found : Found) (due : IsHarvestDue p e t found) (member streams : ℕ → Bool) (ends : ℕ → Told) (parts : StructureSets) (order : ℕ → ℕ → ℕ) (out : ℕ → List ℕ) : Type 0 where
+pub record HarvestLeaves (p : Parts) (e t : ℕ) (found : Found) (due : IsHarvestDue p e t found) (member streams : ℕ → Bool) (ends : ℕ → Told) (parts : StructureSets) (order : ℕ → ℕ → ℕ)
+    (out : ℕ → List ℕ) : Type 0 where
   pub harvested : Harvested p.driver (after_driver_row (rows.Harvest e t found) p).driver e t due.transfer
   pub stand : QueuesStand (after_driver_row (rows.Harvest e t found) p).driver member streams ends parts order (with_out out (32 * due.endpoint.queue) (harvested.before ++ harvested.behind))
 

@@ -21,7 +21,8 @@ use Rattle.fed_queues.specs.Fed.{AreFed}
 use Rattle.fed_queues.specs.Places.{AreMet, HaveStreams, AreLast, AreStillOut}
 use Rattle.fed_lends.specs.ToLend.{IsToBeLent, AreBlank}
 
-pub record GoesOnLent {W : Type 0} (sender : W → ℕ → ℕ → Option Sender) (base : Base) (stream : ℕ → ℕ → Bool) (packets : ℕ → ℕ → List (List ℕ)) (member streams : ℕ → Bool) (ends : ℕ → Endpoint) (acc : ℕ → List (List ℕ)) (reported : ℕ → List ℕ) (hand : Hand) (wire : W) (w : Walk) (p : DriverParts) : Type 0 where
+pub record GoesOnLent {W : Type 0} (sender : W → ℕ → ℕ → Option Sender) (base : Base) (stream : ℕ → ℕ → Bool) (packets : ℕ → ℕ → List (List ℕ)) (member streams : ℕ → Bool) (ends : ℕ → Endpoint)
+    (acc : ℕ → List (List ℕ)) (reported : ℕ → List ℕ) (hand : Hand) (wire : W) (w : Walk) (p : DriverParts) : Type 0 where
   pub parts : StructureSets
   pub order : ℕ → ℕ → ℕ
   pub out : ℕ → List ℕ
@@ -35,7 +36,8 @@ pub record GoesOnLent {W : Type 0} (sender : W → ℕ → ℕ → Option Sender
   pub have : HaveStreams p.driver streams ends
 
 abbrev pub LendRowGoesOn : {W : Type 0} → (W → ℕ → ℕ → Option Sender) → Type 0
-LendRowGoesOn {W} sender = (base : Base) (stream : ℕ → ℕ → Bool) (packets : ℕ → ℕ → List (List ℕ)) (member streams : ℕ → Bool) (ends : ℕ → Endpoint) (acc : ℕ → List (List ℕ)) (reported : ℕ → List ℕ) (hand : Hand) (wire : W)
+LendRowGoesOn {W} sender = (base : Base) (stream : ℕ → ℕ → Bool) (packets : ℕ → ℕ → List (List ℕ)) (member streams : ℕ → Bool) (ends : ℕ → Endpoint) (acc : ℕ → List (List ℕ))
+    (reported : ℕ → List ℕ) (hand : Hand) (wire : W)
     (parts : StructureSets) (order : ℕ → ℕ → ℕ) (out : ℕ → List ℕ) (w : Walk) (p : DriverParts) (b : ℕ) (words : List ℕ) → IsToBeLent p.driver p.memory b words
     → HasOwners p.driver → Stands (holding p.driver.book p.memory) → Receives p.driver → AreInTurn p.driver → AreBlank p.driver
     → DrivesRing base member parts hand (place w p.registers p.memory) p.driver → ArePiped stream packets sender member streams ends acc parts hand wire

@@ -41,7 +41,8 @@ pub record IsAtStore (d : DriverContent) (m : Mem) (member streams : ℕ → Boo
   pub last : AreLast d parts order
   pub out_are : AreStillOut d out
 
-abbrev pub published_by : {d : DriverContent} {m : Mem} {member streams : ℕ → Bool} {ends : ℕ → Told} {parts : StructureSets} {order : ℕ → ℕ → ℕ} {out : ℕ → List ℕ} {b : ℕ} {words : List ℕ} → IsAtStore d m member streams ends parts order out b words → IsPublished d parts b words
+abbrev pub published_by : {d : DriverContent} {m : Mem} {member streams : ℕ → Bool} {ends : ℕ → Told} {parts : StructureSets} {order : ℕ → ℕ → ℕ} {out : ℕ → List ℕ} {b : ℕ} {words : List ℕ}
+    → IsAtStore d m member streams ends parts order out b words → IsPublished d parts b words
 published_by {b = b} {words = words} k = k.fed.publishes b words k.command
 
 abbrev pub parts_then : {d : DriverContent} {parts : StructureSets} {b : ℕ} {words : List ℕ} → IsPublished d parts b words → StructureSets
@@ -62,7 +63,8 @@ abbrev pub next_of : DriverParts → DriverParts
 next_of p = after_driver_row (driver_row p) p
 
 abbrev pub StorePublishes : Type 0
-StorePublishes = (base : Base) (w : Walk) (hand : Hand) (p : DriverParts) (member streams : ℕ → Bool) (ends : ℕ → Told) (parts : StructureSets) (order : ℕ → ℕ → ℕ) (out : ℕ → List ℕ) (b : ℕ) (words : List ℕ)
+StorePublishes = (base : Base) (w : Walk) (hand : Hand) (p : DriverParts) (member streams : ℕ → Bool) (ends : ℕ → Told) (parts : StructureSets) (order : ℕ → ℕ → ℕ) (out : ℕ → List ℕ) (b : ℕ)
+    (words : List ℕ)
     → (k : IsAtStore p.driver p.memory member streams ends parts order out b words) → DrivesRing base member parts hand (place w p.registers p.memory) p.driver
     → DrivesRing base member (parts_then (published_by k)) hand (place w (next_of p).registers (next_of p).memory) (next_of p).driver
 
@@ -72,7 +74,8 @@ StorePipes {W} sender = (stream : ℕ → ℕ → Bool) (packets : ℕ → ℕ �
     → ArePiped stream packets sender member streams ends acc parts hand wire → ArePiped stream packets sender member streams ends acc (parts_then (published_by k)) hand wire
 
 abbrev pub StoreReports : Type 0
-StoreReports = (acc : ℕ → List (List ℕ)) (reported : ℕ → List ℕ) (hand : Hand) (p : DriverParts) (member streams : ℕ → Bool) (ends : ℕ → Told) (parts : StructureSets) (order : ℕ → ℕ → ℕ) (out : ℕ → List ℕ)
+StoreReports = (acc : ℕ → List (List ℕ)) (reported : ℕ → List ℕ) (hand : Hand) (p : DriverParts) (member streams : ℕ → Bool) (ends : ℕ → Told) (parts : StructureSets) (order : ℕ → ℕ → ℕ)
+    (out : ℕ → List ℕ)
     (b : ℕ) (words : List ℕ) → (k : IsAtStore p.driver p.memory member streams ends parts order out b words) → ((n : ℕ) → member n ≡ true → IsMember member n (parts n))
     → AreReported streams order out hand parts acc reported
     → AreReported streams order (out_then out (next_of p).driver (published_by k)) hand (parts_then (published_by k)) acc reported

@@ -2,5 +2,4 @@ pub mod Opening
 pub mod Beside
 pub mod Commands
 pub mod Still
-pub mod Runs
 pub mod Storing

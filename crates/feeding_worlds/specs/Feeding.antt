@@ -43,7 +43,8 @@ pub record IsFeeding (fixed : Fixed) (member : ℕ → Bool) (x : Streams) (s : 
 
 abbrev pub Goes : Fixed → (ℕ → Bool) → Streams → Standing → World → Type 0
 Goes fixed member x s w =
-    ControlGoesOn begins_by transacts_by x.stream x.packets sender_of opening_base member x.streams x.endpoint s.acc s.parts s.hand (wired fixed w) (wired fixed (controller_next fixed w)) (controller_parts (controller_next fixed w))
+    ControlGoesOn begins_by transacts_by x.stream x.packets sender_of opening_base member x.streams x.endpoint s.acc s.parts s.hand
+    (wired fixed w) (wired fixed (controller_next fixed w)) (controller_parts (controller_next fixed w))
 
 pub record GoesOnBeside (fixed : Fixed) (member : ℕ → Bool) (x : Streams) (s : Standing) (w : World) : Type 0 where
   pub event : Goes fixed member x s w

@@ -44,7 +44,8 @@ pub record CanBeRead (member : ℕ → Bool) (d : DriverContent) (m : Mem) (part
   pub off : (token_in m y.place).active ≡ false
   pub none : (p : ℕ) (z : List ℕ) → IsOutEarlier (note_in d.notes) e t d.transfers p → Told hand parts (32 * x.queue) p z → z ≡ []
 
-pub record HarvestGoesOn (order : ℕ → ℕ) (place : ℕ) (d new : DriverContent) (hand : Hand) (parts : StructureSets) (e t : ℕ) (x : Endpoint) (y : Transfer) (xs : List ℕ) (held told : ℕ → List ℕ) : Type 0 where
+pub record HarvestGoesOn (order : ℕ → ℕ) (place : ℕ) (d new : DriverContent) (hand : Hand) (parts : StructureSets) (e t : ℕ) (x : Endpoint) (y : Transfer) (xs : List ℕ)
+    (held told : ℕ → List ℕ) : Type 0 where
   pub bytes : List ℕ
   pub others : List ℕ
   pub sum : xs ≡ bytes ++ others
@@ -53,7 +54,8 @@ pub record HarvestGoesOn (order : ℕ → ℕ) (place : ℕ) (d new : DriverCont
   pub beside : (k : ℕ) → k ≢ e → out_now new k ≡ out_now d k
 
 abbrev pub HarvestIsTold : Type 0
-HarvestIsTold = (member : ℕ → Bool) (order : ℕ → ℕ) (place : ℕ) (d : DriverContent) (m : Mem) (parts : StructureSets) (hand : Hand) (e t : ℕ) (x : Endpoint) (y : Transfer) (xs : List ℕ) (held told : ℕ → List ℕ) (found : Found)
+HarvestIsTold = (member : ℕ → Bool) (order : ℕ → ℕ) (place : ℕ) (d : DriverContent) (m : Mem) (parts : StructureSets) (hand : Hand) (e t : ℕ) (x : Endpoint) (y : Transfer) (xs : List ℕ)
+    (held told : ℕ → List ℕ) (found : Found)
     → IsReadNext d e t x y → CanBeRead member d m parts hand e t x y → HoldsEach d hand parts held → TellsEach d.reports d.store (named_in d.endpoints) held told
     → Accounts order place (out_now d e) hand parts (32 * x.queue) xs → found ≡ found_of d m y y.sort
     → HarvestGoesOn order place d (after_harvest d m e t found (Some x) (Some y)) hand parts e t x y xs held told
@@ -74,5 +76,6 @@ HoldsTheSame = (d new : DriverContent) (hand : Hand) (parts : StructureSets) (he
 -- structures change, and of the next transfers what was harvested stays done
 abbrev pub HoldsStill : Type 0
 HoldsStill = (d : DriverContent) (hand later : Hand) (parts now : StructureSets) (held : ℕ → List ℕ)
-    → ((e t : ℕ) (x : Endpoint) (y : Transfer) (a k : ℕ) (z : List ℕ) → IsNextOf d e t x y → IsOneFrom (note_at d.notes) y.first (y.qtds - y.left) a → IsDone hand parts (32 * x.queue) a k z → IsDone later now (32 * x.queue) a k z)
+    → ((e t : ℕ) (x : Endpoint) (y : Transfer) (a k : ℕ) (z : List ℕ) → IsNextOf d e t x y → IsOneFrom (note_at d.notes) y.first (y.qtds - y.left) a
+    → IsDone hand parts (32 * x.queue) a k z → IsDone later now (32 * x.queue) a k z)
     → HoldsEach d hand parts held → HoldsEach d later now held

@@ -67,7 +67,9 @@ itd_bad ws = first_bad itd_layout ws
 unfoldable pub itd_at : List ℕ → Itd
 itd_at ws = record {
   link = link_at (slice_index ws 0);
-  slots = slot_at (slice_index ws 1) ∷ slot_at (slice_index ws 2) ∷ slot_at (slice_index ws 3) ∷ slot_at (slice_index ws 4) ∷ slot_at (slice_index ws 5) ∷ slot_at (slice_index ws 6) ∷ slot_at (slice_index ws 7) ∷ slot_at (slice_index ws 8) ∷ [];
+  slots =
+      slot_at (slice_index ws 1) ∷ slot_at (slice_index ws 2) ∷ slot_at (slice_index ws 3) ∷ slot_at (slice_index ws 4)
+      ∷ slot_at (slice_index ws 5) ∷ slot_at (slice_index ws 6) ∷ slot_at (slice_index ws 7) ∷ slot_at (slice_index ws 8) ∷ [];
   addr = bits 6 0 (slice_index ws 9);
   ep = bits 11 8 (slice_index ws 9);
   page0 = bits 31 12 (slice_index ws 9);

@@ -30,7 +30,9 @@ use Rattle.standing_fronts.specs.Reaching.{Reaches}
 use Rattle.released_queues.specs.Fronts.{FrontsStand}
 use Rattle.fed_lends.specs.ToLend.{IsToBeLent, AreBlank}
 
-pub record GoesOnWhole {W : Type 0} (sender : W → ℕ → ℕ → Option Sender) (base : Base) (stream : ℕ → ℕ → Bool) (packets : ℕ → ℕ → List (List ℕ)) (member streams : ℕ → Bool) (ends : ℕ → Endpoint) (acc : ℕ → List (List ℕ)) (reported : ℕ → List ℕ) (hand : Hand) (wire : W) (old : DriverContent) (before : StructureSets) (order_before : ℕ → ℕ → ℕ) (out_before : ℕ → List ℕ) (w : Walk) (p : DriverParts) : Type 0 where
+pub record GoesOnWhole {W : Type 0} (sender : W → ℕ → ℕ → Option Sender) (base : Base) (stream : ℕ → ℕ → Bool) (packets : ℕ → ℕ → List (List ℕ)) (member streams : ℕ → Bool) (ends : ℕ → Endpoint)
+    (acc : ℕ → List (List ℕ)) (reported : ℕ → List ℕ) (hand : Hand) (wire : W) (old : DriverContent) (before : StructureSets) (order_before : ℕ → ℕ → ℕ) (out_before : ℕ → List ℕ) (w : Walk)
+    (p : DriverParts) : Type 0 where
   pub parts : StructureSets
   pub order : ℕ → ℕ → ℕ
   pub out : ℕ → List ℕ
@@ -48,7 +50,8 @@ pub record GoesOnWhole {W : Type 0} (sender : W → ℕ → ℕ → Option Sende
   pub elements : (n a : ℕ) (u : Qtd) → before n a ≡ Some (Element u) → SparesElement before parts n a
 
 abbrev pub LendRowLeavesFronts : {W : Type 0} → (W → ℕ → ℕ → Option Sender) → Type 0
-LendRowLeavesFronts {W} sender = (base : Base) (stream : ℕ → ℕ → Bool) (packets : ℕ → ℕ → List (List ℕ)) (member streams : ℕ → Bool) (ends : ℕ → Endpoint) (acc : ℕ → List (List ℕ)) (reported : ℕ → List ℕ) (hand : Hand) (wire : W)
+LendRowLeavesFronts {W} sender = (base : Base) (stream : ℕ → ℕ → Bool) (packets : ℕ → ℕ → List (List ℕ)) (member streams : ℕ → Bool) (ends : ℕ → Endpoint) (acc : ℕ → List (List ℕ))
+    (reported : ℕ → List ℕ) (hand : Hand) (wire : W)
     (parts : StructureSets) (order : ℕ → ℕ → ℕ) (out : ℕ → List ℕ) (w : Walk) (p : DriverParts) (b : ℕ) (words : List ℕ) → IsToBeLent p.driver p.memory b words
     → HasOwners p.driver → Stands (holding p.driver.book p.memory) → Receives p.driver → AreInTurn p.driver → AreBlank p.driver
     → DrivesRing base member parts hand (place w p.registers p.memory) p.driver → ArePiped stream packets sender member streams ends acc parts hand wire

@@ -67,7 +67,8 @@ LendStands = (base : Base) (w : Walk) (hand : Hand) (p : DriverParts) (member st
     → QueuesThen (next_of p).driver member streams ends (parts_lent parts k.ready) order out × IsOpenLent (next_of p).driver member (parts_lent parts k.ready)
 
 abbrev pub LendPipes : {W : Type 0} → (W → ℕ → ℕ → Option Sender) → Type 0
-LendPipes {W} sender = (stream : ℕ → ℕ → Bool) (packets : ℕ → ℕ → List (List ℕ)) (acc : ℕ → List (List ℕ)) (wire : W) (base : Base) (w : Walk) (hand : Hand) (p : DriverParts) (member streams : ℕ → Bool)
+LendPipes {W} sender = (stream : ℕ → ℕ → Bool) (packets : ℕ → ℕ → List (List ℕ)) (acc : ℕ → List (List ℕ)) (wire : W) (base : Base) (w : Walk) (hand : Hand) (p : DriverParts)
+    (member streams : ℕ → Bool)
     (ends : ℕ → Told) (parts : StructureSets) (order : ℕ → ℕ → ℕ) (out : ℕ → List ℕ) → (k : IsAtLend p.driver p.memory member streams ends parts order out)
     → DrivesRing base member parts hand (place w p.registers p.memory) p.driver → ((n : ℕ) → streams n ≡ true → member n ≡ true)
     → ArePiped stream packets sender member streams ends acc parts hand wire → ArePiped stream packets sender member streams ends acc (parts_lent parts k.ready) hand wire

@@ -74,12 +74,14 @@ OpenIsLinked = (base : Base) (w : Walk) (hand : Hand) (p : DriverParts) (member 
 
 -- the bus of the script has a sender for the endpoint, which no other endpoint asks
 abbrev pub OpenPipes : {W : Type 0} → (W → ℕ → ℕ → Option Sender) → Type 0
-OpenPipes {W} sender = (stream : ℕ → ℕ → Bool) (packets : ℕ → ℕ → List (List ℕ)) (acc : ℕ → List (List ℕ)) (wire : W) (base : Base) (w : Walk) (hand : Hand) (p : DriverParts) (member streams : ℕ → Bool)
+OpenPipes {W} sender = (stream : ℕ → ℕ → Bool) (packets : ℕ → ℕ → List (List ℕ)) (acc : ℕ → List (List ℕ)) (wire : W) (base : Base) (w : Walk) (hand : Hand) (p : DriverParts)
+    (member streams : ℕ → Bool)
     (ends : ℕ → Told) (parts : StructureSets) (order : ℕ → ℕ → ℕ) (out : ℕ → List ℕ) → (k : IsAtOpen p.driver p.memory member streams ends parts order out)
     → DrivesRing base member parts hand (place w p.registers p.memory) p.driver → AreNamesApart p.driver → stream k.lent.endpoint.desc.name.addr k.lent.endpoint.desc.name.num ≡ true
     → AreEndpoints stream member streams ends → AreUnopened stream packets sender streams ends wire → ArePiped stream packets sender member streams ends acc parts hand wire
     → AreEndpoints stream (with_member member (32 * k.lent.endpoint.queue)) (with_stream streams (32 * k.lent.endpoint.queue)) (with_end ends (32 * k.lent.endpoint.queue) (end_then k.lent.endpoint))
-    × ArePiped stream packets sender (with_member member (32 * k.lent.endpoint.queue)) (with_stream streams (32 * k.lent.endpoint.queue)) (with_end ends (32 * k.lent.endpoint.queue) (end_then k.lent.endpoint))
+    × ArePiped stream packets sender (with_member member (32 * k.lent.endpoint.queue)) (with_stream streams (32 * k.lent.endpoint.queue))
+    (with_end ends (32 * k.lent.endpoint.queue) (end_then k.lent.endpoint))
     (with_none acc (32 * k.lent.endpoint.queue)) (head_then parts k.queue k.lent.endpoint) (hand_then hand k.lent.endpoint) wire
     × AreUnopened stream packets sender (with_stream streams (32 * k.lent.endpoint.queue)) (with_end ends (32 * k.lent.endpoint.queue) (end_then k.lent.endpoint)) wire
 
@@ -93,5 +95,6 @@ OpenReports = (acc : ℕ → List (List ℕ)) (reported : ℕ → List ℕ) (bas
 abbrev pub OpenStands : Type 0
 OpenStands = (p : DriverParts) (member streams : ℕ → Bool) (ends : ℕ → Told) (parts : StructureSets) (order : ℕ → ℕ → ℕ) (out : ℕ → List ℕ)
     → (k : IsAtOpen p.driver p.memory member streams ends parts order out)
-    → QueuesThen (next_of p).driver (with_member member (32 * k.lent.endpoint.queue)) (with_stream streams (32 * k.lent.endpoint.queue)) (with_end ends (32 * k.lent.endpoint.queue) (end_then k.lent.endpoint))
+    → QueuesThen (next_of p).driver (with_member member (32 * k.lent.endpoint.queue)) (with_stream streams (32 * k.lent.endpoint.queue))
+    (with_end ends (32 * k.lent.endpoint.queue) (end_then k.lent.endpoint))
     (head_then parts k.queue k.lent.endpoint) order (with_none out (32 * k.lent.endpoint.queue))

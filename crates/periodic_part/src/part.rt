@@ -128,6 +128,13 @@ impl PeriodicPart {
         })
     }
 
+    /// What is placed, with its loads.
+    pub fn plan(&self) -> &Plan
+        ensures { result.now ≡ self.now.periodic.plan }
+    {
+        &self.plan
+    }
+
     /// The placement that the plan gives to the endpoint of this number, so described; `None` where every allowed placement breaks a budget.
     pub fn admit(&mut self, e: u32, desc: &EpDesc) -> Option<Placement>
         requires fresh { is_placed self.old.periodic.plan e ≡ false }

@@ -57,7 +57,8 @@ pub record ReleaseStands (base : Base) (member : ℕ → Bool) (parts : Structur
   pub met : (e : ℕ) (x : Endpoint) → slice_get p.driver.endpoints e ≡ Some x → member (32 * x.queue) ≡ true
 
 -- what the row leaves; pipes and reports stay by `goes`, `buffers` and `untold`
-pub record IsReleased (base : Base) (member : ℕ → Bool) (parts : StructureSets) (hand : Hand) (w : Walk) (p : DriverParts) (order : ℕ → ℕ → ℕ) (out : ℕ → List ℕ) (t n : ℕ) (goes : ℕ → Bool) : Type 0 where
+pub record IsReleased (base : Base) (member : ℕ → Bool) (parts : StructureSets) (hand : Hand) (w : Walk) (p : DriverParts) (order : ℕ → ℕ → ℕ) (out : ℕ → List ℕ) (t n : ℕ)
+    (goes : ℕ → Bool) : Type 0 where
   pub drives : DrivesRing base member (without_those parts n goes) hand
       (place w (after_driver_row (release_row t) p).registers (after_driver_row (release_row t) p).memory) (after_driver_row (release_row t) p).driver
   pub in_runs : AreInRuns (views_of (after_driver_row (release_row t) p).driver) (without_those parts n goes)

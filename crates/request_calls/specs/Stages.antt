@@ -41,5 +41,6 @@ moved_of q outcome reply source = if q.token.pid == 1 then received q outcome re
 
 pub record IsTransaction (e : Endpoint) (r : Request) (q : Qh) (source out : List ℕ) (reply : Reply) (l : Line) (o : Option Device) : Type 0 where
   pub losses : Losses
-  pub host : (transacted e r losses l).host ≡ settled_by r (outcome_in (planned q) out false reply) (host_after (planned q) out false reply) (moved_of q (outcome_in (planned q) out false reply) reply source) l.host
+  pub host : (transacted e r losses l).host
+      ≡ settled_by r (outcome_in (planned q) out false reply) (host_after (planned q) out false reply) (moved_of q (outcome_in (planned q) out false reply) reply source) l.host
   pub device : o ≡ Some (device_of e (transacted e r losses l).device)

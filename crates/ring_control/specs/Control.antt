@@ -64,11 +64,13 @@ pub record WalksRing {W : Type 0} (transacts : W → Ask → List ℕ → Reply 
   pub effect : Effect transacts parts hand wire after now later kind
   pub streams : StreamEffect transacts parts hand wire after now later
 
-pub data ControlEffect {W : Type 0} (begins : W → ℕ → Bool → W → Type 0) (transacts : W → Ask → List ℕ → Reply → W → Type 0) (parts : StructureSets) (hand : Hand) (wire after : W) (now : StructureSets) (later : Hand) : Type 0 where
+pub data ControlEffect {W : Type 0} (begins : W → ℕ → Bool → W → Type 0) (transacts : W → Ask → List ℕ → Reply → W → Type 0) (parts : StructureSets) (hand : Hand) (wire after : W)
+    (now : StructureSets) (later : Hand) : Type 0 where
   a_microframe : BeginsMicroframe begins parts hand wire after now later → ControlEffect begins transacts parts hand wire after now later
   a_step : WalksRing transacts parts hand wire after now later → ControlEffect begins transacts parts hand wire after now later
 
-pub record Controls {W : Type 0} (begins : W → ℕ → Bool → W → Type 0) (transacts : W → Ask → List ℕ → Reply → W → Type 0) (base : Base) (member : ℕ → Bool) (parts : StructureSets) (hand : Hand) (wire after : W) (new : Content) : Type 0 where
+pub record Controls {W : Type 0} (begins : W → ℕ → Bool → W → Type 0) (transacts : W → Ask → List ℕ → Reply → W → Type 0) (base : Base) (member : ℕ → Bool) (parts : StructureSets) (hand : Hand)
+    (wire after : W) (new : Content) : Type 0 where
   pub now : StructureSets
   pub later : Hand
   pub controlled : IsControlled base member now later new

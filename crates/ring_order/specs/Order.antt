@@ -66,7 +66,8 @@ pub record Accounts (order : ℕ → ℕ) (place : ℕ) (out : List ℕ) (hand :
 
 -- ---- an event
 
-abbrev pub bytes_of_effect : {W : Type 0} {transacts : W → Ask → List ℕ → Reply → W → Type 0} {parts : StructureSets} {hand : Hand} {wire after : W} {now : StructureSets} {later : Hand} → ℕ → StreamEffect transacts parts hand wire after now later → List ℕ
+abbrev pub bytes_of_effect : {W : Type 0} {transacts : W → Ask → List ℕ → Reply → W → Type 0} {parts : StructureSets} {hand : Hand} {wire after : W} {now : StructureSets} {later : Hand} → ℕ
+    → StreamEffect transacts parts hand wire after now later → List ℕ
 bytes_of_effect n (same s quiet) = []
 bytes_of_effect {parts = parts} n (grows m all g) =
     if m.copy.at == n then moved_bytes m.copy.queue m.sent.element (settlement m.copy.queue m.out m.reply) (buffer_of (parts m.copy.at) m.sent.element) else []

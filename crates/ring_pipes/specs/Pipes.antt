@@ -66,7 +66,8 @@ pub record AreEndpoints (stream : ℕ → ℕ → Bool) (member streams : ℕ �
 abbrev pub IsElsewhere : (ℕ → ℕ → Bool) → StructureSets → ℕ → Endpoint → Type 0
 IsElsewhere stream parts n x = HasEndpoint parts n x × ((stream x.addr x.ep ≡ false) ⊎ IsNotIn (parts n))
 
-pub record ArePiped {W : Type 0} (stream : ℕ → ℕ → Bool) (packets : ℕ → ℕ → List (List ℕ)) (sender : W → ℕ → ℕ → Option Sender) (member streams : ℕ → Bool) (endpoint : ℕ → Endpoint) (acc : ℕ → List (List ℕ)) (parts : StructureSets) (hand : Hand) (wire : W) : Type 0 where
+pub record ArePiped {W : Type 0} (stream : ℕ → ℕ → Bool) (packets : ℕ → ℕ → List (List ℕ)) (sender : W → ℕ → ℕ → Option Sender) (member streams : ℕ → Bool) (endpoint : ℕ → Endpoint)
+    (acc : ℕ → List (List ℕ)) (parts : StructureSets) (hand : Hand) (wire : W) : Type 0 where
   pub pipes : (n : ℕ) → streams n ≡ true → IsPipe (packets (endpoint n).addr (endpoint n).ep) (sender wire (endpoint n).addr (endpoint n).ep) (acc n) parts hand n (endpoint n)
   pub others : (n : ℕ) → member n ≡ true → streams n ≡ false → IsElsewhere stream parts n (endpoint n)
 
@@ -74,13 +75,15 @@ abbrev pub grown : (ℕ → List (List ℕ)) → ℕ → List (List ℕ) → ℕ
 grown acc at more k = if k == at then acc k ++ more else acc k
 
 -- what was told of the packets taken: of a queue head with a stream the current qTD grew by their bytes, and else there are none
-abbrev pub IsToldBy : {W : Type 0} {transacts : W → Ask → List ℕ → Reply → W → Type 0} {parts : StructureSets} {hand : Hand} {wire after : W} {now : StructureSets} {later : Hand} → (ℕ → Bool) → ℕ → List (List ℕ) → StreamEffect transacts parts hand wire after now later → Type 0
+abbrev pub IsToldBy : {W : Type 0} {transacts : W → Ask → List ℕ → Reply → W → Type 0} {parts : StructureSets} {hand : Hand} {wire after : W} {now : StructureSets} {later : Hand} → (ℕ → Bool) → ℕ
+    → List (List ℕ) → StreamEffect transacts parts hand wire after now later → Type 0
 IsToldBy streams at more (same s quiet) = more ≡ []
 IsToldBy {parts = parts} streams at more (grows m all g) =
     (streams m.copy.at ≡ true → (at ≡ m.copy.at) × (moved_bytes m.copy.queue m.sent.element (settlement m.copy.queue m.out m.reply) (buffer_of (parts m.copy.at) m.sent.element) ≡ concat more))
     × (streams m.copy.at ≡ false → more ≡ [])
 
-pub record GoesOn {W : Type 0} (transacts : W → Ask → List ℕ → Reply → W → Type 0) (stream : ℕ → ℕ → Bool) (packets : ℕ → ℕ → List (List ℕ)) (sender : W → ℕ → ℕ → Option Sender) (base : Base) (member streams : ℕ → Bool) (endpoint : ℕ → Endpoint) (acc : ℕ → List (List ℕ)) (parts : StructureSets) (hand : Hand) (wire after : W) (new : WalkPlace) (kind : WalkStep) : Type 0 where
+pub record GoesOn {W : Type 0} (transacts : W → Ask → List ℕ → Reply → W → Type 0) (stream : ℕ → ℕ → Bool) (packets : ℕ → ℕ → List (List ℕ)) (sender : W → ℕ → ℕ → Option Sender) (base : Base)
+    (member streams : ℕ → Bool) (endpoint : ℕ → Endpoint) (acc : ℕ → List (List ℕ)) (parts : StructureSets) (hand : Hand) (wire after : W) (new : WalkPlace) (kind : WalkStep) : Type 0 where
   pub event : Streams transacts base member parts hand wire after new kind
   pub at : ℕ
   pub more : List (List ℕ)

@@ -108,11 +108,13 @@ pub record IsStepAt (at : ℕ) (o : Option Step) : Type 0 where
   pub is : o ≡ Some (record { at = at; losses = losses })
 
 -- each transaction of one of these queue heads is one of its request, and nothing else is
-abbrev pub IsStepOf : {W : Type 0} {transacts : W → Ask → List ℕ → Reply → W → Type 0} {parts : StructureSets} {hand : Hand} {wire after : W} {now : StructureSets} {later : Hand} {kind : WalkStep} → (ℕ → Bool) → Option Step → Effect transacts parts hand wire after now later kind → Type 0
+abbrev pub IsStepOf : {W : Type 0} {transacts : W → Ask → List ℕ → Reply → W → Type 0} {parts : StructureSets} {hand : Hand} {wire after : W} {now : StructureSets} {later : Hand} {kind : WalkStep}
+    → (ℕ → Bool) → Option Step → Effect transacts parts hand wire after now later kind → Type 0
 IsStepOf windows o (makes m all) = (windows m.copy.at ≡ true → IsStepAt m.copy.at o) × (windows m.copy.at ≡ false → o ≡ None)
 IsStepOf windows o _ = o ≡ None
 
-pub record WindowsGoOn {W : Type 0} (transacts : W → Ask → List ℕ → Reply → W → Type 0) (device : W → ℕ → ℕ → Option Device) (base : Base) (member windows : ℕ → Bool) (sent : ℕ → Sent) (lines : ℕ → Line) (parts : StructureSets) (hand : Hand) (wire after : W) (new : WalkPlace) (kind : WalkStep) : Type 0 where
+pub record WindowsGoOn {W : Type 0} (transacts : W → Ask → List ℕ → Reply → W → Type 0) (device : W → ℕ → ℕ → Option Device) (base : Base) (member windows : ℕ → Bool) (sent : ℕ → Sent)
+    (lines : ℕ → Line) (parts : StructureSets) (hand : Hand) (wire after : W) (new : WalkPlace) (kind : WalkStep) : Type 0 where
   pub event : Happens transacts base member parts hand wire after new kind
   pub step : Option Step
   pub all : AreWindows device member windows sent (stepped sent step lines) event.now event.later after

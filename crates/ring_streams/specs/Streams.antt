@@ -35,8 +35,10 @@ pub record Grows (hand : Hand) (parts : StructureSets) (later : Hand) (c : Copy)
 
 pub data StreamEffect {W : Type 0} (transacts : W → Ask → List ℕ → Reply → W → Type 0) (parts : StructureSets) (hand : Hand) (wire after : W) (now : StructureSets) (later : Hand) : Type 0 where
   same : SameTold hand parts later now → after ≡ wire → StreamEffect transacts parts hand wire after now later
-  grows : (m : Makes transacts parts hand wire after later) → now ≡ parts → Grows hand parts later m.copy (settlement m.copy.queue m.out m.reply) m.sent.element → StreamEffect transacts parts hand wire after now later
+  grows : (m : Makes transacts parts hand wire after later) → now ≡ parts → Grows hand parts later m.copy (settlement m.copy.queue m.out m.reply) m.sent.element
+      → StreamEffect transacts parts hand wire after now later
 
-pub record Streams {W : Type 0} (transacts : W → Ask → List ℕ → Reply → W → Type 0) (base : Base) (member : ℕ → Bool) (parts : StructureSets) (hand : Hand) (wire after : W) (new : WalkPlace) (kind : WalkStep) : Type 0 where
+pub record Streams {W : Type 0} (transacts : W → Ask → List ℕ → Reply → W → Type 0) (base : Base) (member : ℕ → Bool) (parts : StructureSets) (hand : Hand) (wire after : W) (new : WalkPlace)
+    (kind : WalkStep) : Type 0 where
   pub happens : Happens transacts base member parts hand wire after new kind
   pub streams : StreamEffect transacts parts hand wire after happens.now happens.later

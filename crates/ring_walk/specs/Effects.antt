@@ -111,7 +111,8 @@ pub record WritesBack (parts : StructureSets) (hand : Hand) (now : StructureSets
   pub element : Qtd
   pub here : parts copy.at copy.queue.current ≡ Some (Element element)
   pub received_is : IsReceived (parts copy.at) (settled_queue_of copy settled) settled.got (received_into (parts copy.at) copy.queue element settled.got)
-  pub now_is : now ≡ parts_back parts copy.at copy.at copy.queue (settled_queue_of copy settled) (moved_by settled.outcome) settled.got (received_into (parts copy.at) copy.queue element settled.got) element
+  pub now_is : now ≡ parts_back parts copy.at copy.at copy.queue (settled_queue_of copy settled) (moved_by settled.outcome) settled.got
+      (received_into (parts copy.at) copy.queue element settled.got) element
   pub nothing : later ≡ Empty
 
 -- ---- an event
@@ -124,7 +125,8 @@ pub data Effect {W : Type 0} (transacts : W → Ask → List ℕ → Reply → W
   makes : Makes transacts parts hand wire after later → now ≡ parts → Effect transacts parts hand wire after now later steps.Transact
   writes_back : WritesBack parts hand now later → after ≡ wire → Effect transacts parts hand wire after now later steps.WriteBack
 
-pub record Happens {W : Type 0} (transacts : W → Ask → List ℕ → Reply → W → Type 0) (base : Base) (member : ℕ → Bool) (parts : StructureSets) (hand : Hand) (wire after : W) (new : WalkPlace) (kind : WalkStep) : Type 0 where
+pub record Happens {W : Type 0} (transacts : W → Ask → List ℕ → Reply → W → Type 0) (base : Base) (member : ℕ → Bool) (parts : StructureSets) (hand : Hand) (wire after : W) (new : WalkPlace)
+    (kind : WalkStep) : Type 0 where
   pub now : StructureSets
   pub later : Hand
   pub ring : IsRing base member now later new

@@ -46,7 +46,22 @@ pub record Draft : Type 0 where
 
 -- nothing is read yet
 abbrev pub empty : Draft
-empty = record { words = None; declaring = false; acting = false; hubs = []; devices = []; endpoints = []; fates = []; holds = []; lines = []; commands = 0; steps = 0; microframes = 0; scripted = 0; asked = 0 }
+empty = record {
+  words = None;
+  declaring = false;
+  acting = false;
+  hubs = [];
+  devices = [];
+  endpoints = [];
+  fates = [];
+  holds = [];
+  lines = [];
+  commands = 0;
+  steps = 0;
+  microframes = 0;
+  scripted = 0;
+  asked = 0;
+}
 
 -- the number of a way, which tells it from the others
 abbrev pub way_number : Way → ℕ

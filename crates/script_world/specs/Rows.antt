@@ -180,7 +180,16 @@ abbrev pub device : ℕ → Speed → Option ℕ → ℕ → Placed
 device addr s hub port = record { addr = addr; speed = s; hub = hub; port = port; eps = [] }
 
 abbrev pub desc_of : EpLine → Placed → EpDesc
-desc_of l d = record { name = record { addr = d.addr; num = l.name.num; way = l.name.way }; speed = d.speed; kind = l.kind; max = l.max; period = l.period; multi = l.multi; hub = d.hub; port = d.port }
+desc_of l d = record {
+  name = record { addr = d.addr; num = l.name.num; way = l.name.way };
+  speed = d.speed;
+  kind = l.kind;
+  max = l.max;
+  period = l.period;
+  multi = l.multi;
+  hub = d.hub;
+  port = d.port;
+}
 
 abbrev pub with_ep : EpLine → Placed → Placed
 with_ep l d = record d { eps = d.eps ++ record { desc = desc_of l d; items = []; room = 0 } ∷ [] }
@@ -206,7 +215,10 @@ abbrev pub put_room : Name → ℕ → List Placed → List Placed
 put_room name n ds = if same_way name.way way.Out then at_ep name (roomier n) ds else ds
 
 abbrev pub after_hub : Draft → ℕ → ℕ → Draft
-after_hub w addr ports = if within 1 127 addr && within 1 15 ports then record w { declaring = true; hubs = w.hubs ++ record { addr = addr; ports = ports; attached = replicate ports None } ∷ [] } else w
+after_hub w addr ports =
+    if within 1 127 addr && within 1 15 ports then
+    record w { declaring = true; hubs = w.hubs ++ record { addr = addr; ports = ports; attached = replicate ports None } ∷ [] }
+    else w
 
 abbrev pub after_high : Draft → ℕ → Draft
 after_high w addr = if within 1 127 addr then record w { declaring = true; devices = w.devices ++ device addr speed.High None 0 ∷ [] } else w
@@ -223,7 +235,10 @@ abbrev pub after_below : Draft → Below → Draft
 after_below w b = if within 1 127 b.addr && nat_le b.hub 127 && is_known w (says.DevBelow b) then placed_below b.addr b.hub b w else w
 
 abbrev pub after_ep : Draft → EpLine → Draft
-after_ep w l = if is_endpoint l && is_some (device_of w.devices l.name.addr) then record w { declaring = true; devices = change (λ d. d.addr == l.name.addr) (with_ep l) w.devices; endpoints = w.endpoints ++ name_of l.name ∷ [] } else w
+after_ep w l =
+    if is_endpoint l && is_some (device_of w.devices l.name.addr) then
+    record w { declaring = true; devices = change (λ d. d.addr == l.name.addr) (with_ep l) w.devices; endpoints = w.endpoints ++ name_of l.name ∷ [] }
+    else w
 
 abbrev pub after_reply : Draft → Name → Answer → Draft
 after_reply w name a = record w { declaring = true; scripted = counted w.scripted (answer_len a); devices = at_ep name (answered a) w.devices }
@@ -241,10 +256,16 @@ abbrev pub after_get : Draft → ℕ → GetLine → Draft
 after_get w n l = where_known w l.name (commanded (record w { asked = counted w.asked l.len }) n (cmd.Get (name_of l.name) l.len (by_of l.by)))
 
 abbrev pub after_put : Draft → ℕ → PutLine → Draft
-after_put w n l = where_known w l.name (commanded (record w { scripted = counted w.scripted (content_len l.content); devices = put_room l.name (content_len l.content) w.devices }) n (cmd.Put (name_of l.name) (content_bytes l.content) (by_of l.by)))
+after_put w n l =
+    where_known w l.name
+    (commanded (record w { scripted = counted w.scripted (content_len l.content); devices = put_room l.name (content_len l.content) w.devices }) n
+    (cmd.Put (name_of l.name) (content_bytes l.content) (by_of l.by)))
 
 abbrev pub after_control : Draft → ℕ → ControlLine → Draft
-after_control w n c = where_known w (control_name c.addr) (commanded (record w { scripted = counted w.scripted (bytes_len c.bytes) }) n (cmd.Control (name_of (control_name c.addr)) c.setup (unwrap_or c.bytes [])))
+after_control w n c =
+    where_known w (control_name c.addr)
+    (commanded (record w { scripted = counted w.scripted (bytes_len c.bytes) }) n
+    (cmd.Control (name_of (control_name c.addr)) c.setup (unwrap_or c.bytes [])))
 
 abbrev pub after_iso : Draft → ℕ → IsoLine → Draft
 after_iso w n l = if is_slots l then where_known w l.name (commanded w n (cmd.Iso (name_of l.name) l.count l.len l.seed)) else w

@@ -62,7 +62,10 @@ is_at place (Some other) = place == other
 
 abbrev pub control_of_place : Wired → ℕ → ℕ → Option ℕ → Option Side
 control_of_place w addr num None = None
-control_of_place w addr num (Some place) = if is_at place (place_for w.fixed.seats addr num In) && is_at place (place_for w.fixed.seats addr num Out) then control_of_seat w.bus addr num (slice_get w.fixed.seats place) else None
+control_of_place w addr num (Some place) =
+    if is_at place (place_for w.fixed.seats addr num In) && is_at place (place_for w.fixed.seats addr num Out) then
+    control_of_seat w.bus addr num (slice_get w.fixed.seats place)
+    else None
 
 abbrev pub control_of : Wired → ℕ → ℕ → Option Side
 control_of w addr num = control_of_place w addr num (place_for w.fixed.seats addr num Setup)

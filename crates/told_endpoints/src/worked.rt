@@ -11,5 +11,6 @@ use usb_base::{EndCause, What};
 pub fn held_and_told()
     ensures none { TellsEach [] [] (only_sender None) (λ (e : ℕ). []) (λ (e : ℕ). []) }
     ensures held { TellsEach (line_of sender What.Done 0 2 ∷ []) (1 ∷ 2 ∷ []) (only_sender None) (λ (e : ℕ). 3 ∷ []) (λ (e : ℕ). 1 ∷ 2 ∷ 3 ∷ []) }
-    ensures ended { TellsEach (line_of sender What.Done 0 2 ∷ line_of sender (What.Halt EndCause.Error) 2 2 ∷ []) (1 ∷ 2 ∷ 3 ∷ 4 ∷ []) (only_sender (Some Error)) (λ (e : ℕ). []) (λ (e : ℕ). 1 ∷ 2 ∷ 3 ∷ 4 ∷ []) }
+    ensures ended { TellsEach (line_of sender What.Done 0 2 ∷ line_of sender (What.Halt EndCause.Error) 2 2 ∷ []) (1 ∷ 2 ∷ 3 ∷ 4 ∷ [])
+        (only_sender (Some Error)) (λ (e : ℕ). []) (λ (e : ℕ). 1 ∷ 2 ∷ 3 ∷ 4 ∷ []) }
 {}

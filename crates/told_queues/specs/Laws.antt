@@ -96,7 +96,8 @@ pub record HarvestReports (order : ℕ → ℕ) (d new : DriverContent) (hand : 
   pub beside : (k : ℕ) → k ≢ e → out_now new k ≡ out_now d k
 
 abbrev pub HarvestedIsTold : Type 0
-HarvestedIsTold = (member : ℕ → Bool) (order : ℕ → ℕ) (d : DriverContent) (m : Mem) (parts : StructureSets) (hand : Hand) (e t : ℕ) (x : Endpoint) (y : Transfer) (found : Found) (acc : List (List ℕ)) (reported : ℕ → List ℕ)
+HarvestedIsTold = (member : ℕ → Bool) (order : ℕ → ℕ) (d : DriverContent) (m : Mem) (parts : StructureSets) (hand : Hand) (e t : ℕ) (x : Endpoint) (y : Transfer) (found : Found)
+    (acc : List (List ℕ)) (reported : ℕ → List ℕ)
     → IsReadNext d e t x y → CanBeRead member d m parts hand e t x y → ((k : ℕ) (z : Endpoint) → slice_get d.endpoints k ≡ Some z → z.queue ≡ x.queue → k ≡ e)
     → found ≡ found_of d m y y.sort → ToldStands d hand parts reported → IsReported order (out_now d e) hand parts (32 * x.queue) acc (reported (32 * x.queue))
     → HarvestReports order d (after_harvest d m e t found (Some x) (Some y)) hand parts e x acc reported

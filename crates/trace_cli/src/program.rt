@@ -44,6 +44,7 @@ fn write<K: Sink>(choice: &Choice, input: &[u8], text: &[u8], sink: &mut K) -> S
 
 /// Runs a script and writes its trace.
 fn trace_script<K: Sink>(
+    rt: &impl Eprint,
     alloc: Global,
     choice: &Choice,
     input: &[u8],
@@ -57,21 +58,27 @@ fn trace_script<K: Sink>(
     ensures nothing { WritesNothing result → sink.new ≡ sink.old }
     ensures fault { IsWriteFault result (K.faults sink.old) (K.faults sink.new) }
 {
-    match trace(alloc, script, choice) {
+    match trace(rt, alloc, script, choice) {
         Ok(text) => write(choice, input, text.as_slice(), sink),
         Err(_) => Status::Memory,
     }
 }
 
 /// The trace of an input, or the line of its first fault. All memory is taken before the first write.
-fn answer<K: Sink>(alloc: Global, choice: &Choice, input: &[u8], sink: &mut K) -> Status
+fn answer<K: Sink>(
+    rt: &impl Eprint,
+    alloc: Global,
+    choice: &Choice,
+    input: &[u8],
+    sink: &mut K,
+) -> Status
     ensures answer { IsAnswer choice.now result input.now (K.written sink.old) (K.written sink.new) }
     ensures end { (result ≢ Status.Words) × (result ≢ Status.ReadFault) }
     ensures nothing { WritesNothing result → sink.new ≡ sink.old }
     ensures fault { IsWriteFault result (K.faults sink.old) (K.faults sink.new) }
 {
     match read(alloc, input) {
-        Ok(script) => trace_script(alloc, choice, input, &script, sink),
+        Ok(script) => trace_script(rt, alloc, choice, input, &script, sink),
         Err(TextError::Fault { line, why }) => refuse(choice, input, line, why, sink),
         Err(TextError::Memory(_)) => Status::Memory,
     }
@@ -79,7 +86,8 @@ fn answer<K: Sink>(alloc: Global, choice: &Choice, input: &[u8], sink: &mut K) -
 
 /// The trace on these words (without the program's own name), which reads a script from the source and writes to the sink.
 ///
-/// It reads all that the source has, or its first 1,048,601 bytes, and writes only once the run has ended.
+/// It reads all that the source has, or its first 1,048,601 bytes, and writes only once the run has ended. With `--progress` a long run says on standard error
+/// that it goes on, a line each 1,024 microframes; where that fails nothing else changes.
 ///
 /// - `Words` where `choice_of` finds no choice in the words; nothing is read or written.
 /// - `ReadFault` exactly where a read failed, which is the last one. Nothing is written.
@@ -87,6 +95,7 @@ fn answer<K: Sink>(alloc: Global, choice: &Choice, input: &[u8], sink: &mut K) -
 /// - `WriteFault` exactly where a write failed, which is the last one. A front part of the output is written.
 /// - `Memory` only before the first write.
 pub fn ehci_trace<S: Source, K: Sink>(
+    rt: &impl Eprint,
     alloc: Global,
     words: &[String],
     source: &mut S,
@@ -107,5 +116,5 @@ pub fn ehci_trace<S: Source, K: Sink>(
         Err(Unread::Fault) => return Status::ReadFault,
         Err(Unread::Memory) => return Status::Memory,
     };
-    answer(alloc, &choice, input.as_slice(), sink)
+    answer(rt, alloc, &choice, input.as_slice(), sink)
 }

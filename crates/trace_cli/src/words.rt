@@ -84,6 +84,12 @@ fn option(choice: &mut Choice, word: &[u8]) -> Option<WordPlace> {
     } else if word == b"--pcap".as_slice() {
         choice.form = Form::Capture;
         Some(WordPlace::Option)
+    } else if word == b"--schedule".as_slice() {
+        choice.form = Form::Schedule;
+        Some(WordPlace::Option)
+    } else if word == b"--progress".as_slice() {
+        choice.progress = true;
+        Some(WordPlace::Option)
     } else {
         None
     }
@@ -98,6 +104,7 @@ pub fn choice_of(words: &[String]) -> Option<Choice> {
         from: 0,
         to: u32::MAX,
         quiet: false,
+        progress: false,
     };
     let mut place = WordPlace::Option;
     for word in words {

@@ -11,3 +11,4 @@ pub mod worked;
 
 pub use entries::{Entry, Happening, Work};
 pub use lines::put_entry;
+pub use pieces::{put, put_endpoint, put_number};

@@ -16,10 +16,16 @@ use usb_base::{MemSink, MemSource};
 const ROOM: u32 = 1 << 16;
 
 /// Whether the program writes this for a script.
-fn writes(alloc: Global, words: &[String], script: &[u8], output: &[u8]) -> io::Result<bool> {
+fn writes(
+    rt: &impl Eprint,
+    alloc: Global,
+    words: &[String],
+    script: &[u8],
+    output: &[u8],
+) -> io::Result<bool> {
     let mut source = MemSource::build(alloc, script, &[]).map_err(|_| io::ErrorKind::OutOfMemory)?;
     let mut sink = MemSink::build(alloc, ROOM, &[]).map_err(|_| io::ErrorKind::OutOfMemory)?;
-    let status = ehci_trace(alloc, words, &mut source, &mut sink);
+    let status = ehci_trace(rt, alloc, words, &mut source, &mut sink);
     Ok(status == Status::Ok && sink.written() == output)
 }
 
@@ -43,6 +49,7 @@ fn main(rt: HostRuntime) -> io::Result<()> {
         let output = fs::read(&rt, format!(in rt.alloc(); "{name}.out")?)?;
         cases = cases.saturating_add(1);
         if writes(
+            &rt,
             rt.alloc(),
             words.as_slice(),
             script.as_slice(),

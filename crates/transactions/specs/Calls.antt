@@ -78,7 +78,8 @@ pub record Transacts {W : Type 0} (transacts : W → Ask → List ℕ → Reply 
   pub got : result.got ≡ got_of call.ask.pid result.outcome reply
 
 -- exactly this call was made on the wire, once; its reply is this one, and it was settled
-pub record Exchanges {W : Type 0} (transacts : W → Ask → List ℕ → Reply → W → Type 0) (call : Call) (host : HostSide) (before after : W) (reply : Reply) (outcome : Outcome) (new : HostSide) : Type 0 where
+pub record Exchanges {W : Type 0} (transacts : W → Ask → List ℕ → Reply → W → Type 0) (call : Call) (host : HostSide) (before after : W) (reply : Reply) (outcome : Outcome)
+    (new : HostSide) : Type 0 where
   pub made : transacts before call.ask call.out reply after
   pub comes_to : outcome ≡ outcome_of call.ask call.sent call.last reply host
   pub settles : new ≡ settled call.ask call.sent call.last reply host

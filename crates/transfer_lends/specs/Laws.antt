@@ -72,7 +72,8 @@ pub record HasPieces (d : DriverContent) (slot : ℕ → Slot) (parts now : Stru
   pub none_at_zero : (pages : List ℕ) (k : ℕ) (bs : List ℕ) → now (32 * x.queue) 0 ≡ Some (Buffer pages k bs) → ⊥
 
 abbrev pub LendReceivesDrives : Type 0
-LendReceivesDrives = (base : Base) (member : ℕ → Bool) (parts : StructureSets) (hand : Hand) (w : Walk) (r : RegisterFile) (m : Mem) (d : DriverContent) (t : ℕ) (y : TransferRuns) (x : EndpointRuns) (s : Stage) (ss : List Stage)
+LendReceivesDrives = (base : Base) (member : ℕ → Bool) (parts : StructureSets) (hand : Hand) (w : Walk) (r : RegisterFile) (m : Mem) (d : DriverContent) (t : ℕ) (y : TransferRuns)
+    (x : EndpointRuns) (s : Stage) (ss : List Stage)
     → IsReceiving d m t y x s ss → HasOwners d → Stands (holding d.book m) → DrivesRing base member parts hand (place w r m) d
     → NamesLent (slot_of d.book.slots) (parts (32 * x.queue))
     → DrivesRing base member (put_all parts (32 * x.queue) (items_of d m y x s ss)) hand (place w r (lent_memory d m)) (advance (lent_driver d m))

@@ -44,7 +44,8 @@ pub fn microframes_leave_the_walk()
 /// Each event of the driver leaves the walk among the queue heads that it may meet: one that leaves the ring is still one of them, until the
 /// doorbell that was set after it is answered.
 pub fn the_driver_leaves_the_walk()
-    ensures { (p : Parts) (w : Walk) → IsBellIn p.driver p.registers → IsWalkIn p.driver p.registers w → IsWalkIn (after_driver_row (driver_row p) p).driver (after_driver_row (driver_row p) p).registers w }
+    ensures { (p : Parts) (w : Walk) → IsBellIn p.driver p.registers → IsWalkIn p.driver p.registers w
+        → IsWalkIn (after_driver_row (driver_row p) p).driver (after_driver_row (driver_row p) p).registers w }
 {}
 
 /// And so does a command that is accepted.

@@ -1,7 +1,8 @@
 //! Runs the program on each worked case of `data/cases` and says whether it ends and writes as the case says.
 //!
 //! A line of `data/cases` has a name, the exit status and the words. The input stands in `NAME.in` and what must be written in
-//! `NAME.out`; both were worked out from the standards by hand, and not by this program.
+//! `NAME.out`; both were worked out from the standards by hand, and not by this program. The cases `example-..` are the scripts of
+//! `examples/`, whose heads say what must and must not happen; so were their reports worked out.
 #![tactic(auto)]
 
 use ehci_cli::ehci;

@@ -1,0 +1,4 @@
+pub mod Ranges
+pub mod Which
+pub mod Tails
+pub mod Extending

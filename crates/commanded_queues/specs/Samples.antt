@@ -1,0 +1,9 @@
+-- An endpoint for worked rows: bulk IN endpoint 15 of device 127 at high speed, the highest address and the highest number that there are.
+use Rattle.std.specs.Prelude.{None}
+use Rattle.usb_base.specs.declared.endpoints.EpDesc.{EpDesc}
+use Rattle.usb_base.specs.declared.packets.EpKind.TheVariants as kinds
+use Rattle.usb_base.specs.declared.packets.Speed.TheVariants as speeds
+use Rattle.usb_base.specs.declared.packets.Way.TheVariants as ways
+
+abbrev pub highest : EpDesc
+highest = record { name = record { addr = 127; num = 15; way = ways.In }; speed = speeds.High; kind = kinds.Bulk; max = 512; period = 0; multi = 1; hub = None; port = 0 }

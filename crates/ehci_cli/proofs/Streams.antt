@@ -1,0 +1,53 @@
+-- The report of a script's run is that of a moment of it, and at each moment everything is in place.
+use Rattle.std.proofs.Common.{◌≡◌, ℕ, ◌+◌, ◌*◌, List, Option, Some, None, inl, inr, ap, sym, subst, ◌∙◌, refl}
+use Rattle.std.specs.Prelude.{IfSome}
+use Rattle.script_types.specs.declared.scripts.Script.{Script}
+use Rattle.script_text.specs.Faults.{Spells}
+use Rattle.report_streams.specs.Streams.{AreRightStreams}
+use Rattle.right_reports.specs.WorldReport.{report_of}
+use Rattle.right_reports.proofs.Printed.{report_printed}
+use Rattle.usb_bus.specs.Bus.{fixed_of}
+use Rattle.bus_world.specs.World.{World, Standing}
+use Rattle.bus_world.specs.Opening.{opening_world}
+use Rattle.bus_world.specs.Orders.{OrderedWorld, Microframes, at_place, orders_of, ticks, IsRun}
+use Rattle.bus_world.specs.Budgets.{moment}
+use Rattle.bus_world.proofs.Ticks.{ticks_more}
+use Rattle.chained_transfers.specs.Receives.{ReceivesOnly}
+use Rattle.whole_worlds.specs.Moments.{StreamsAreRightThroughout}
+use Rattle.whole_worlds.proofs.Running.{texts_right}
+use Rattle.whole_worlds.proofs.PlacedRunning.{texts_run_in_place}
+use Rattle.whole_worlds.proofs.Counting.{never_refused}
+use Rattle.program_ends.specs.Input.{input_of}
+use Rattle.ehci_cli.specs.Output.{IsRunOf}
+use Rattle.ehci_cli.specs.Streams.{KeepsStreams, KeepsPlaces}
+
+record IsMoment (s : Script) (w : World) : Type 0 where
+  at : ℕ
+  is : (moment s at).world ≡ w
+
+ends_at : (s : Script) (w : World) → IsRun (fixed_of s) (opening_world s) (orders_of s.lines) w → IsMoment s w
+ends_at s w (inl leads) = record { at = leads.count; is = ap (λ (p : OrderedWorld). p.world) leads.there }
+ends_at s w (inr over) = record {
+  at = over.leads.count + 2 * over.unended.turns;
+  is =
+      ap (λ (p : OrderedWorld). p.world)
+      (ticks_more (fixed_of s) (at_place (opening_world s) (orders_of s.lines)) over.leads.count (2 * over.unended.turns)
+      ∙ ap (λ p. ticks (fixed_of s) p (2 * over.unended.turns)) over.leads.there
+      ∙ over.unended.still);
+}
+
+right_at : (s : Script) → StreamsAreRightThroughout s → (w : Standing) → IsRunOf s w → AreRightStreams s (report_of w.fixed w.world)
+right_at s right w ran =
+    let at = ends_at s w.world (subst (λ f. IsRun f (opening_world s) (orders_of s.lines) w.world) refl ran.ran) in
+    subst (λ f. AreRightStreams s (report_of f w.world)) (sym ran.fixed) (subst (λ v. AreRightStreams s (report_of (fixed_of s) v)) at.is (right at.at))
+
+keeps : (s : Script) → StreamsAreRightThroughout s → KeepsStreams s
+keeps s right = record { throughout = right; ended = right_at s right; printed = λ w. report_printed w.fixed w.world }
+
+pub source_keeps_streams : (left : Option (List ℕ)) → IfSome left (λ xs. (s : Script) → Spells (input_of xs) s → ReceivesOnly s → KeepsStreams s)
+source_keeps_streams None = tt
+source_keeps_streams (Some xs) = λ s spelled only. keeps s (texts_right (input_of xs) s spelled only)
+
+pub source_keeps_places : (left : Option (List ℕ)) → IfSome left (λ xs. (s : Script) → Spells (input_of xs) s → ReceivesOnly s → KeepsPlaces s)
+source_keeps_places None = tt
+source_keeps_places (Some xs) = λ s spelled only. record { placed = texts_run_in_place (input_of xs) s spelled only; unrefused = never_refused (input_of xs) s spelled only }

@@ -1,0 +1,20 @@
+-- Tails of queues while no command is unfinished (EHCI 1.0, 4.10.2): the walk goes no further than the inactive qTD at the end of a queue.
+--     IdleQueuesReach      the law
+use Rattle.std.specs.Prelude.{◌≡◌, ℕ, ◌*◌, Bool, List, slice_get, Some, None}
+use Rattle.driver_rows.specs.declared.content.Endpoint.{Endpoint}
+use Rattle.driver_rows.specs.DriverContent.{DriverContent}
+use Rattle.run_owners.specs.Kept.{HasOwners}
+use Rattle.chained_transfers.specs.InTurn.{TakesTurns}
+use Rattle.lent_runs.specs.Lent.{AreLent}
+use Rattle.lent_structures.specs.Structures.{StructureSets}
+use Rattle.queue_parts.specs.Sound.{IsMember}
+use Rattle.fed_queues.specs.Fed.{AreFed}
+use Rattle.fed_queues.specs.Places.{AreLast, AreStillOut}
+use Rattle.released_queues.specs.Fronts.{FrontsStand}
+use Rattle.standing_fronts.specs.Reaching.{Reaches}
+
+abbrev pub IdleQueuesReach : Type 0
+IdleQueuesReach = (member : ℕ → Bool) (d : DriverContent) (parts : StructureSets) (order : ℕ → ℕ → ℕ) (out : ℕ → List ℕ) → d.command ≡ None → HasOwners d → AreLent d → TakesTurns d
+    → AreFed d parts → AreLast d parts order → AreStillOut d out → FrontsStand d parts order out
+    → (e : ℕ) (x : Endpoint) → slice_get d.endpoints e ≡ Some x → IsMember member (32 * x.queue) (parts (32 * x.queue))
+    → Reaches d (parts (32 * x.queue)) (order (32 * x.queue)) (out (32 * x.queue)) e x (32 * x.dummy)

@@ -1,0 +1,4 @@
+pub mod Leading
+pub mod Apart
+pub mod Linked
+pub mod Lent

@@ -1,0 +1,4 @@
+pub mod Mending
+pub mod Owed
+pub mod Storing
+pub mod Unlinked

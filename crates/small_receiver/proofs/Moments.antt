@@ -1,0 +1,67 @@
+-- What the driver of the small script has to do at its moments.
+use Rattle.std.proofs.Common.{◌≡◌, [], ◌∷◌, ◌++◌, replicate, Some, None, refl}
+use Rattle.word_mem.specs.Memory.{filled}
+use Rattle.word_mem.specs.declared.blocks.BlockState.TheVariants.{Free, Lent}
+use Rattle.word_mem.specs.Views.{words_in, with_words_in}
+use Rattle.word_mem.specs.Free.{lowest_run}
+use Rattle.link_words.specs.Layout.{first_bad_bit}
+use Rattle.link_words.specs.Links.{link_read, qtd_link_read, link_word, qtd_link_word}
+use Rattle.buffers.specs.Bytes.{words_from, put_byte, places, bytes_at, put_bytes, reached, all_reached, stored, loaded}
+use Rattle.qh_qtd.specs.Token.{token_word, token_at}
+use Rattle.qh_qtd.specs.Qtd.{qtd_words, qtd_bad, qtd_at, qtd_read}
+use Rattle.qh_qtd.specs.QueueHead.{qh_words, qh_bad, qh_at, qh_read}
+use Rattle.usb_base.specs.declared.reports.What.TheVariants as kinds
+use Rattle.run_book.specs.Book.{lend_runs, store_words}
+use Rattle.walk_copy.specs.Overlay.{advanced, settled_queue, moved}
+use Rattle.walk_copy.specs.WriteBack.{overlay_after, written_back, raised}
+use Rattle.async_walk.specs.Naks.{reloaded, counted_queue}
+use Rattle.driver_rows.specs.declared.content.Command.TheVariants as unfinished
+use Rattle.driver_rows.specs.declared.rows.DriverRow.TheVariants as rows
+use Rattle.driver_rows.specs.declared.rows.Found.TheVariants as results
+use Rattle.driver_rows.specs.Harvests.{buffer_bytes, moved_bytes, bytes_now}
+use Rattle.driver_rows.specs.Rows.{driver_row, free_qtds, free_transfers}
+use Rattle.bus_world.specs.World.{driver_parts}
+use Rattle.bus_world.specs.Orders.{ticks}
+use Rattle.small_receiver.specs.Samples.{desc, words, world_at, row_at, over}
+
+pub an_open :
+    ((world_at 1).driver.command ≡ Some (unfinished.Open 130))
+    × ((world_at 1).driver.made ≡ 0)
+    × (row_at 1 ≡ rows.Lend)
+    × ((world_at 2).driver.command ≡ Some (unfinished.Open 130))
+    × ((world_at 2).driver.made ≡ 1)
+    × (row_at 2 ≡ rows.Store 128 4096 4162)
+    × ((world_at 3).driver.command ≡ None)
+unfolding ticks lowest_run filled with_words_in store_words lend_runs qh_words qtd_words
+an_open = (refl, refl, refl, refl, refl, refl, refl)
+
+pub a_get :
+    ((world_at 5).driver.command ≡ Some (unfinished.Publish 132 words))
+    × ((world_at 5).driver.made ≡ 0)
+    × ((world_at 5).driver.book.taken ≡ 133 ∷ 134 ∷ [])
+    × (row_at 5 ≡ rows.Lend)
+    × ((world_at 6).driver.command ≡ Some (unfinished.Publish 132 words))
+    × ((world_at 6).driver.made ≡ 1)
+    × (row_at 6 ≡ rows.Store 132 4224 4256)
+    × (row_at 13 ≡ rows.Store 132 4232 101760)
+    × ((world_at 14).driver.command ≡ None)
+unfolding ticks lowest_run filled with_words_in store_words lend_runs qh_words qtd_words
+a_get = (refl, refl, refl, refl, refl, refl, refl, refl, refl)
+
+pub its_end :
+    (row_at 28 ≡ rows.Harvest 0 0 (results.Ended 1 kinds.Done))
+    × ((world_at 29).driver.reports ≡ record { name = desc.name; what = kinds.Done; from = 0; len = 1 } ∷ [])
+    × ((world_at 29).driver.store ≡ 5 ∷ [])
+    × (row_at 30 ≡ rows.ReleaseTransfer 0)
+    × (row_at 31 ≡ rows.Rest)
+unfolding ticks lowest_run filled words_in with_words_in store_words lend_runs first_bad_bit link_read qtd_link_read link_word qtd_link_word token_word token_at qtd_words qtd_bad qtd_at qtd_read qh_words qh_bad qh_at qh_read words_from put_byte places bytes_at put_bytes reached all_reached stored loaded advanced settled_queue moved overlay_after written_back raised reloaded counted_queue buffer_bytes moved_bytes bytes_now free_qtds free_transfers
+its_end = (refl, refl, refl, refl, refl)
+
+pub two :
+    (over.orders ≡ [])
+    × (over.world.driver.reports ≡ record { name = desc.name; what = kinds.Done; from = 0; len = 1 } ∷ record { name = desc.name; what = kinds.Done; from = 1; len = 1 } ∷ [])
+    × (over.world.driver.store ≡ 5 ∷ 7 ∷ [])
+    × (over.world.memory.states ≡ replicate 133 Lent ++ replicate 123 Free)
+    × (driver_row (driver_parts over.world) ≡ rows.Rest)
+unfolding ticks lowest_run filled words_in with_words_in store_words lend_runs first_bad_bit link_read qtd_link_read link_word qtd_link_word token_word token_at qtd_words qtd_bad qtd_at qtd_read qh_words qh_bad qh_at qh_read words_from put_byte places bytes_at put_bytes reached all_reached stored loaded advanced settled_queue moved overlay_after written_back raised reloaded counted_queue buffer_bytes moved_bytes bytes_now free_qtds free_transfers
+two = (refl, refl, refl, refl, refl)

@@ -1,0 +1,72 @@
+-- A small script whose driver only receives (EHCI 1.0, 4.8.1 and 4.10; USB 2.0, 8.6), for worked rows: the endpoint 1 IN of device 3, which has a packet of
+-- one byte, is opened, and one byte is asked of it.
+--     desc             the endpoint
+--     receiver         the script: the driver has two events for the open, and nine for the get; then two microframes pass
+--     words            those of the get's one qTD: it leads to that in block 133, and asks for a byte of the buffer in block 134
+--     world_at k       the world after k events and commands
+--     row_at k         the row that its driver has next
+--     two_gets         another script: of two packets of one byte 600 are asked, in two qTDs, and then one
+--     over             what it is once all its lines were carried out
+use Rattle.std.specs.Prelude.{ℕ, List, [], ◌∷◌, None}
+use Rattle.usb_base.specs.declared.commands.Cmd.{Cmd}
+use Rattle.usb_base.specs.declared.commands.Cmd.TheVariants as commands
+use Rattle.usb_base.specs.declared.endpoints.EpDesc.{EpDesc}
+use Rattle.usb_base.specs.declared.packets.EpKind.TheVariants as kinds
+use Rattle.usb_base.specs.declared.packets.Speed.TheVariants as speeds
+use Rattle.usb_base.specs.declared.packets.Way.TheVariants as ways
+use Rattle.script_types.specs.declared.devices.Item.TheVariants as items
+use Rattle.script_types.specs.declared.scripts.Event.TheVariants as events
+use Rattle.script_types.specs.declared.scripts.Line.{Line}
+use Rattle.script_types.specs.declared.scripts.Line.TheVariants as lines
+use Rattle.script_types.specs.declared.scripts.Script.{Script}
+use Rattle.driver_rows.specs.declared.rows.DriverRow.{DriverRow}
+use Rattle.driver_rows.specs.Rows.{driver_row}
+use Rattle.bus_world.specs.World.{World, driver_parts}
+use Rattle.bus_world.specs.Orders.{OrderedWorld}
+use Rattle.bus_world.specs.Budgets.{moment}
+
+abbrev pub desc : EpDesc
+desc = record { name = record { addr = 3; num = 1; way = ways.In }; speed = speeds.High; kind = kinds.Bulk; max = 512; period = 0; multi = 1; hub = None; port = 0 }
+
+abbrev pub opens : Cmd
+opens = commands.OpenEp desc
+
+abbrev pub asks : Cmd
+asks = commands.Get desc.name 1 512
+
+abbrev pub actions : List (ℕ × Line)
+actions =
+    (5, lines.Command opens) ∷ (6, lines.Order events.D 2) ∷ (7, lines.Command asks) ∷ (8, lines.Order events.D 9) ∷ (9, lines.Micro 2) ∷ []
+
+abbrev pub receiver : Script
+receiver = record {
+  words = 2048;
+  hubs = [];
+  devices = record { addr = 3; speed = speeds.High; eps = record { desc = desc; items = items.Bytes (5 ∷ []) ∷ []; room = 0 } ∷ [] } ∷ [];
+  endpoints = desc.name ∷ [];
+  fates = [];
+  holds = [];
+  lines = actions;
+}
+
+abbrev pub words : List ℕ
+words = 4256 ∷ 4256 ∷ 101760 ∷ 4288 ∷ 0 ∷ 0 ∷ 0 ∷ 0 ∷ []
+
+abbrev pub world_at : ℕ → World
+world_at k = (moment receiver k).world
+
+abbrev pub row_at : ℕ → DriverRow
+row_at k = driver_row (driver_parts (world_at k))
+
+-- ---- two gets
+
+abbrev pub two_gets : Script
+two_gets = record receiver {
+  devices = record { addr = 3; speed = speeds.High; eps = record { desc = desc; items = items.Bytes (5 ∷ []) ∷ items.Bytes (7 ∷ []) ∷ []; room = 0 } ∷ [] } ∷ [];
+  lines = (6, lines.Command opens) ∷ (7, lines.Order events.D 2)
+      ∷ (8, lines.Command (commands.Get desc.name 600 512)) ∷ (9, lines.Order events.D 9) ∷ (10, lines.Micro 2)
+      ∷ (11, lines.Command asks) ∷ (12, lines.Order events.D 9) ∷ (13, lines.Micro 2) ∷ [];
+}
+
+abbrev pub over : OrderedWorld
+over = moment two_gets 200

@@ -1,0 +1,53 @@
+//! Worked moments, which the check computes.
+ghost use Rattle.std.specs.Prelude.{◌≡◌, [], ◌∷◌, ◌++◌, replicate, Some, None};
+ghost use Rattle.usb_base.specs.declared.reports.What.TheVariants as kinds;
+ghost use Rattle.word_mem.specs.declared.blocks.BlockState.TheVariants.{Free, Lent};
+ghost use Rattle.driver_rows.specs.declared.content.Command.TheVariants as unfinished;
+ghost use Rattle.driver_rows.specs.declared.rows.DriverRow.TheVariants as rows;
+ghost use Rattle.driver_rows.specs.declared.rows.Found.TheVariants as results;
+ghost use Rattle.driver_rows.specs.Rows.{driver_row};
+ghost use Rattle.bus_world.specs.World.{driver_parts};
+ghost use Rattle.small_receiver.specs.Samples.{desc, words, world_at, row_at, over};
+
+/// The structures of the open are lent: the queue head in block 130, its inactive qTD in block 132. Then the head of the ring, in block 128, gets its link.
+pub fn an_open()
+    ensures accepted { (world_at 1).driver.command ≡ Some (unfinished.Open 130) }
+    ensures none_made { (world_at 1).driver.made ≡ 0 }
+    ensures to_lend { row_at 1 ≡ rows.Lend }
+    ensures lent { (world_at 2).driver.command ≡ Some (unfinished.Open 130) }
+    ensures one_made { (world_at 2).driver.made ≡ 1 }
+    ensures to_link { row_at 2 ≡ rows.Store 128 4096 4162 }
+    ensures linked { (world_at 3).driver.command ≡ None }
+{}
+
+/// The first qTD of the get is to stand in block 132, the end of the queue; a qTD and a buffer were taken for it, which are lent. Its token is stored last.
+pub fn a_get()
+    ensures asked { (world_at 5).driver.command ≡ Some (unfinished.Publish 132 words) }
+    ensures none_made { (world_at 5).driver.made ≡ 0 }
+    ensures taken { (world_at 5).driver.book.taken ≡ 133 ∷ 134 ∷ [] }
+    ensures to_lend { row_at 5 ≡ rows.Lend }
+    ensures lent { (world_at 6).driver.command ≡ Some (unfinished.Publish 132 words) }
+    ensures one_made { (world_at 6).driver.made ≡ 1 }
+    ensures first_store { row_at 6 ≡ rows.Store 132 4224 4256 }
+    ensures last_store { row_at 13 ≡ rows.Store 132 4232 101760 }
+    ensures published { (world_at 14).driver.command ≡ None }
+{}
+
+/// Seven events of the controller later the qTD is done, with one byte moved, which is told; then the transfer is given back.
+pub fn its_end()
+    ensures to_harvest { row_at 28 ≡ rows.Harvest 0 0 (results.Ended 1 kinds.Done) }
+    ensures told { (world_at 29).driver.reports ≡ record { name = desc.name; what = kinds.Done; from = 0; len = 1 } ∷ [] }
+    ensures its_byte { (world_at 29).driver.store ≡ 5 ∷ [] }
+    ensures to_return { row_at 30 ≡ rows.ReleaseTransfer 0 }
+    ensures rests { row_at 31 ≡ rows.Rest }
+{}
+
+/// A short packet ends a get of two qTDs, of which the second is passed over; the next get goes on behind them. Each byte is told once, in order, and all
+/// else was given back: the frame list, the head of the ring, the queue head and the inactive qTD at its end have the 133 blocks that are Lent.
+pub fn two_gets()
+    ensures carried { over.orders ≡ [] }
+    ensures told { over.world.driver.reports ≡ record { name = desc.name; what = kinds.Done; from = 0; len = 1 } ∷ record { name = desc.name; what = kinds.Done; from = 1; len = 1 } ∷ [] }
+    ensures bytes { over.world.driver.store ≡ 5 ∷ 7 ∷ [] }
+    ensures blocks { over.world.memory.states ≡ replicate 133 Lent ++ replicate 123 Free }
+    ensures rests { driver_row (driver_parts over.world) ≡ rows.Rest }
+{}

@@ -1,0 +1,42 @@
+-- What a whole world has under way, by its command and how many events of it were made.
+use Rattle.std.proofs.Common.{◌≡◌, ℕ, ◌≤◌, Bool, List, Option, Some, subst, ⊎_elim, arith}
+use Rattle.word_mem.specs.Memory.{Mem}
+use Rattle.driver_rows.specs.declared.content.Command.{Command}
+use Rattle.driver_rows.specs.declared.content.Command.TheVariants as unfinished
+use Rattle.driver_rows.specs.DriverContent.{DriverContent}
+use Rattle.lent_structures.specs.Structures.{StructureSets}
+use Rattle.fed_lends.specs.ToLend.{IsToBeLent}
+use Rattle.open_lends.specs.Lends.{IsOpenReady}
+use Rattle.open_stores.specs.Opens.{IsOpenLent}
+use Rattle.whole_worlds.specs.Whole.{IsUnderWay}
+use Rattle.small_receiver.specs.Samples.{words, world_at}
+use Rattle.small_receiver.proofs.Moments.{an_open, a_get}
+use Rattle.whole_rows.specs.Due.{IsOpenLentAt}
+use Rattle.whole_rows.proofs.Sampling.{it_stays_whole}
+
+ready_of : (d : DriverContent) (m : Mem) (member : ℕ → Bool) (parts : StructureSets) (b : ℕ) → d.command ≡ Some (unfinished.Open b) → d.made ≡ 0 → IsUnderWay d m member parts d.command → IsOpenReady d m
+ready_of d m member parts b command none way =
+    ⊎_elim (λ (ready : IsOpenReady d m). ready) (λ (lent : IsOpenLent d member parts). let made = lent.made in absurd (omega (arith, made, none)))
+    (subst (λ (c : Option Command). IsUnderWay d m member parts c) command way)
+
+lent_of : (d : DriverContent) (m : Mem) (member : ℕ → Bool) (parts : StructureSets) (b : ℕ) → d.command ≡ Some (unfinished.Open b) → d.made ≡ 1 → IsUnderWay d m member parts d.command → IsOpenLent d member parts
+lent_of d m member parts b command one way =
+    ⊎_elim (λ (ready : IsOpenReady d m). let made = ready.made in absurd (omega (arith, made, one))) (λ (lent : IsOpenLent d member parts). lent)
+    (subst (λ (c : Option Command). IsUnderWay d m member parts c) command way)
+
+to_be_lent_of : (d : DriverContent) (m : Mem) (member : ℕ → Bool) (parts : StructureSets) (b : ℕ) (ws : List ℕ) → d.command ≡ Some (unfinished.Publish b ws) → d.made ≡ 0 → IsUnderWay d m member parts d.command
+    → IsToBeLent d m b ws
+to_be_lent_of d m member parts b ws command none way =
+    ⊎_elim (λ (get : IsToBeLent d m b ws). get) (λ (some : 1 ≤ d.made). absurd (omega (arith, some, none)))
+    (subst (λ (c : Option Command). IsUnderWay d m member parts c) command way)
+
+-- ---- the small script
+
+pub open_ready : IsOpenReady (world_at 1).driver (world_at 1).memory
+open_ready = let h = it_stays_whole 1 in ready_of (world_at 1).driver (world_at 1).memory h.member h.standing.parts 130 an_open.0 an_open.1 h.whole.under_way
+
+pub open_lent : IsOpenLentAt 2
+open_lent fixed member x s whole = lent_of (world_at 2).driver (world_at 2).memory member s.parts 130 an_open.3 an_open.4 whole.under_way
+
+pub to_be_lent : IsToBeLent (world_at 5).driver (world_at 5).memory 132 words
+to_be_lent = let h = it_stays_whole 5 in to_be_lent_of (world_at 5).driver (world_at 5).memory h.member h.standing.parts 132 words a_get.0 a_get.1 h.whole.under_way

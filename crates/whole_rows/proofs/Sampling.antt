@@ -1,0 +1,60 @@
+-- The small script meets the premises of the laws of runs.
+use Rattle.std.proofs.Common.{◌≡◌, ℕ, zero, suc, slice_get, Some, refl, subst, arith}
+use Rattle.std.specs.List.{AllByRecursion}
+use Rattle.std.proofs.lemmas.Option.{same_Some}
+use Rattle.script_types.specs.declared.devices.DeviceText.{DeviceText}
+use Rattle.script_fits.specs.Fits.{IsFit}
+use Rattle.byte_answers.specs.Bytes.{IsByteScript}
+use Rattle.opening_senders.specs.Own.{HasOwnDevices}
+use Rattle.declared_endpoints.specs.Declared.{OpensSenders}
+use Rattle.script_numbers.specs.Numbers.{NumbersOpens}
+use Rattle.chained_transfers.specs.Receives.{ReceivesOnly}
+use Rattle.whole_worlds.specs.Moments.{IsWholeThroughout, StreamsAreRightThroughout}
+use Rattle.whole_worlds.proofs.Running.{scripts_stay_whole, streams_are_right}
+use Rattle.small_receiver.specs.Samples.{receiver}
+
+pub it_fits : IsFit receiver
+it_fits = record {
+  least = omega arith;
+  most = omega arith;
+  whole_pages = refl;
+  devices = refl;
+  hubs = refl;
+  rooms = ((omega arith, tt), tt);
+  lines = ((omega arith, omega arith, record { size = refl; pace = refl; below = refl }), (tt, ((omega arith, omega arith), (tt, (tt, tt)))));
+}
+
+pub its_bytes : IsByteScript receiver
+its_bytes = record { devices = ((((omega arith, tt), tt), tt), tt); lines = (tt, (tt, (tt, (tt, (tt, tt))))) }
+
+pub it_sends : OpensSenders receiver
+it_sends = ((λ kind speed way. refl), (tt, (tt, (tt, (tt, tt)))))
+
+pub its_numbers : NumbersOpens receiver
+its_numbers = ((omega arith, omega arith), (tt, (tt, (tt, (tt, tt)))))
+
+pub it_receives : ReceivesOnly receiver
+it_receives = (record { kind = refl; speed = refl; way = refl }, (tt, (tt, (tt, (tt, tt)))))
+
+-- there is one device
+only_device : (i : ℕ) (d : DeviceText) → slice_get receiver.devices (suc i) ≡ Some d → ⊥
+only_device zero d here = cc
+only_device (suc i) d here = cc
+
+pub it_owns : HasOwnDevices receiver
+it_owns = record { own = its_own; apart = one_alone }
+  where
+    its_own : (place : ℕ) (d : DeviceText) → slice_get receiver.devices place ≡ Some d → AllByRecursion (λ text. text.desc.name.addr ≡ d.addr) d.eps
+    its_own zero d here = subst (λ (z : DeviceText). AllByRecursion (λ text. text.desc.name.addr ≡ z.addr) z.eps) (same_Some _ d here) (refl, tt)
+    its_own (suc i) d here = absurd (only_device i d here)
+
+    one_alone : (i j : ℕ) (d e : DeviceText) → slice_get receiver.devices i ≡ Some d → slice_get receiver.devices j ≡ Some e → d.addr ≡ e.addr → i ≡ j
+    one_alone zero zero d e one other same = refl
+    one_alone zero (suc j) d e one other same = absurd (only_device j e other)
+    one_alone (suc i) j d e one other same = absurd (only_device i d one)
+
+pub it_stays_whole : IsWholeThroughout receiver
+it_stays_whole = scripts_stay_whole receiver it_fits its_bytes it_sends its_numbers it_receives
+
+pub its_streams_are_right : StreamsAreRightThroughout receiver
+its_streams_are_right = streams_are_right receiver it_fits its_bytes it_sends its_numbers it_owns it_receives

@@ -1,0 +1,87 @@
+-- A get is asked: its first qTD is to be lent.
+use Rattle.std.proofs.Common.{◌≡◌, ◌≢◌, ℕ, ◌*◌, ◌==◌, Bool, nat_eq, if◌then◌else◌, List, length, slice_get, Option, Some, Ok, ap, sym, subst, ◌∙◌, ⊎_elim, inl, inr}
+use Rattle.usb_base.specs.declared.endpoints.EpName.{EpName}
+use Rattle.usb_bus.specs.Bus.{Fixed}
+use Rattle.driver_rows.specs.declared.content.Endpoint.{Endpoint}
+use Rattle.driver_rows.specs.declared.content.Transfer.{Transfer}
+use Rattle.driver_rows.specs.declared.content.QtdNote.{QtdNote}
+use Rattle.driver_rows.specs.declared.content.Command.{Command}
+use Rattle.driver_rows.specs.declared.content.Command.TheVariants as unfinished
+use Rattle.driver_rows.specs.DriverContent.{DriverContent}
+use Rattle.driver_rows.specs.Offers.{Offered, new_runs, first_of, stage_words, with_queued, new_transfer}
+use Rattle.run_owners.specs.Accepts.{Transfers}
+use Rattle.chained_transfers.specs.Accepted.{IsAsked}
+use Rattle.fed_lends.proofs.Accepting.{get_is_to_be_lent, get_is_blank}
+use Rattle.fed_commands.proofs.Asked.{set_which, dummy_in, notes_in}
+use Rattle.standing_fronts.specs.Reaching.{Reaches}
+use Rattle.told_queues.proofs.Commanding.{asked_told}
+use Rattle.open_names.proofs.Apart.{accepted_apart}
+use Rattle.commanded_queues.proofs.Tails.{get_reaches}
+use Rattle.commanded_queues.proofs.Extending.{get_extents}
+use Rattle.bus_world.specs.World.{World, commanded_by}
+use Rattle.world_streams.specs.Streaming.{Streams, Standing}
+use Rattle.feeding_worlds.specs.Feeding.{IsFeeding}
+use Rattle.whole_worlds.specs.Whole.{tail_block, tail_of, IsUnderWay, HaveSenders, IsWhole}
+use Rattle.whole_worlds.proofs.There.{there_now}
+use Rattle.whole_worlds.proofs.Tail.{newest_there, idle_ends}
+
+module _ (fixed : Fixed) (member : ℕ → Bool) (x : Streams) (s : Standing) (w : World) (o : Offered) (k : IsWhole fixed member x s w) (asked : IsAsked w.driver w.memory o) where
+  abbrev d : DriverContent
+  d = w.driver
+
+  abbrev why : Transfers w.driver w.memory o
+  why = asked.transfers
+
+  abbrev dummy : ℕ
+  dummy = dummy_in (length asked.transfers.asked.stages) (new_runs w.driver asked.transfers.holding_after)
+
+  abbrev notes : List QtdNote
+  notes = notes_in w.driver asked.transfers.asked asked.transfers.endpoint (new_runs w.driver asked.transfers.holding_after)
+
+  -- the words of the first qTD
+  abbrev words : List ℕ
+  words = stage_words notes (first_of asked.transfers.asked.stages) asked.transfers.endpoint.dummy dummy (nat_eq (length asked.transfers.asked.stages) 1)
+
+  abbrev new : Transfer
+  new = new_transfer asked.transfers.number asked.transfers.asked asked.transfers.endpoint.dummy
+
+  command_is : o.driver.command ≡ Some (unfinished.Publish asked.transfers.endpoint.dummy words)
+  command_is = ap (λ (p : Offered). p.driver.command) asked.transfers.is
+
+  tail_is : (e : ℕ) (z : Endpoint) → tail_of o.driver e z ≡ 32 * (if asked.transfers.number == e then asked.transfers.endpoint.dummy else z.dummy)
+  tail_is e z =
+      ap (λ (p : Offered). tail_of p.driver e z) asked.transfers.is
+      ∙ ap (λ (q : Option Transfer). 32 * tail_block (Some (unfinished.Publish asked.transfers.endpoint.dummy words)) q e z.dummy) (newest_there d.transfers new)
+
+  senders : HaveSenders o.driver x.stream
+  senders e z here =
+      ⊎_elim (λ (own : (e ≡ why.number) × (z ≡ with_queued why.endpoint dummy (length d.transfers))). ap (λ (y : Endpoint). x.stream y.desc.name.addr y.desc.name.num) own.1 ∙ k.senders why.number why.endpoint why.here)
+      (λ (other : (e ≢ why.number) × (slice_get d.endpoints e ≡ Some z)). k.senders e z other.1)
+      (set_which d.endpoints why.number e why.endpoint (with_queued why.endpoint dummy (length d.transfers)) z why.here (ap (λ (p : Offered). slice_get p.driver.endpoints e) (sym why.is) ∙ here))
+
+  to_be_lent : IsUnderWay o.driver o.memory member s.parts o.driver.command
+  to_be_lent =
+      let place = k.feeding.working.place in
+      let is = get_is_to_be_lent d w.memory o asked place.sound.owners place.lent place.sound.stands place.sound.shape asked.transfers.endpoint.dummy words command_is in
+      subst (λ (c : Option Command). IsUnderWay o.driver o.memory member s.parts c) (sym command_is) (inl is)
+
+pub asked_whole : (fixed : Fixed) (member : ℕ → Bool) (x : Streams) (s : Standing) (w : World) (line : ℕ) (name : EpName) (o : Offered) → IsAsked w.driver w.memory o → IsFeeding fixed member x s (commanded_by w line name (Ok o))
+    → IsWhole fixed member x s w → IsWhole fixed member x s (commanded_by w line name (Ok o))
+asked_whole fixed member x s w line name o asked feeding k =
+    let d = w.driver in
+    let place = k.feeding.working.place in
+    let sound = place.sound in
+    let turns = k.feeding.turns in
+    record {
+      feeding = feeding;
+      under_way = to_be_lent fixed member x s w o k asked;
+      blank = get_is_blank d w.memory o asked k.blank;
+      names = accepted_apart d w.memory o turns.receives (inr asked) k.names;
+      senders = senders fixed member x s w o k asked;
+      runs = get_extents d w.memory o s.parts asked sound.stands sound.owners feeding.working.driven k.runs;
+      tails = λ e z here met.
+          subst (λ (c : ℕ). Reaches o.driver (s.parts (32 * z.queue)) (s.order (32 * z.queue)) (s.out (32 * z.queue)) e z c) (sym (tail_is fixed member x s w o k asked e z))
+          (get_reaches d w.memory o s.parts s.order s.out asked sound.stands sound.owners place.lent turns.receives (idle_ends d s.parts s.order s.out asked.transfers.idle k.tails) e z here);
+      told = asked_told d w.memory o s.hand s.parts s.reported asked sound.stands sound.owners (there_now d turns) turns.turns.places k.told;
+      bytes = k.bytes;
+    }

@@ -1,0 +1,123 @@
+-- What a harvest leaves of all that a world carries.
+use Rattle.std.proofs.Common.{◌≡◌, ℕ, ◌-◌, ◌*◌, Bool, true, List, length, slice_get, Option, Some, None, option_map, ap, refl, sym, subst, ◌∙◌}
+use Rattle.std.proofs.lemmas.Option.{same_Some}
+use Rattle.usb_base.specs.declared.endpoints.EpDesc.{EpDesc}
+use Rattle.run_book.specs.declared.slots.Slot.{Slot}
+use Rattle.driver_rows.specs.declared.content.Endpoint.{Endpoint}
+use Rattle.driver_rows.specs.declared.content.Command.{Command}
+use Rattle.driver_rows.specs.declared.rows.DriverRow.{DriverRow}
+use Rattle.driver_rows.specs.declared.rows.DriverRow.TheVariants as rows
+use Rattle.driver_rows.specs.declared.rows.Found.{Found}
+use Rattle.driver_rows.specs.DriverContent.{DriverContent}
+use Rattle.driver_rows.specs.Rows.{Parts, driver_row, after_driver_row}
+use Rattle.run_owners.specs.Due.{IsDue, IsHarvestDue}
+use Rattle.run_owners.specs.Owners.{SlotHas, Views, views_of}
+use Rattle.run_owners.proofs.Reasons.{each_is_due}
+use Rattle.lent_runs.proofs.Books.{harvest_book}
+use Rattle.lent_structures.specs.Structures.{StructureSets}
+use Rattle.driver_parts.proofs.Viewing.{SameViews, harvest_views}
+use Rattle.driver_releases.specs.Extents.{AreInRuns}
+use Rattle.driver_releases.proofs.Extending.{extents_stay}
+use Rattle.walk_members.proofs.Descriptions.{desc_of, row_left}
+use Rattle.open_stores.specs.Opens.{AreNamesApart}
+use Rattle.open_names.proofs.Apart.{events_apart}
+use Rattle.fed_lends.specs.ToLend.{AreBlank}
+use Rattle.released_queues.specs.Fronts.{FrontsStand}
+use Rattle.standing_fronts.specs.Reaching.{Reaches}
+use Rattle.usb_bus.specs.Bus.{Fixed}
+use Rattle.bus_world.specs.World.{World, driver_parts, driver_next}
+use Rattle.world_streams.specs.Streaming.{Streams, Standing}
+use Rattle.harvest_feeds.specs.Laws.{HarvestLeaves}
+use Rattle.harvest_feeds.proofs.Feeding.{harvest_feeds}
+use Rattle.idle_tails.proofs.Reaching.{idle_queues_reach}
+use Rattle.whole_worlds.specs.Whole.{tail_block, TailsStand, IsUnderWay, HaveSenders, IsWhole, HasWhole}
+use Rattle.whole_worlds.specs.Laws.{HarvestKeepsWhole}
+use Rattle.whole_worlds.proofs.Noting.{harvest_blank}
+
+-- ---- what is the same
+
+sender_of : (stream : ℕ → ℕ → Bool) (xs : List Endpoint) (e : ℕ) (x : Endpoint) (o : Option Endpoint) → slice_get xs e ≡ o → Some x.desc ≡ option_map desc_of o
+    → ((i : ℕ) (z : Endpoint) → slice_get xs i ≡ Some z → stream z.desc.name.addr z.desc.name.num ≡ true) → stream x.desc.name.addr x.desc.name.num ≡ true
+sender_of stream xs e x None here is all = absurd (cc)
+sender_of stream xs e x (Some z) here is all = ap (λ (r : EpDesc). stream r.name.addr r.name.num) (same_Some x.desc z.desc is) ∙ all e z here
+
+runs_stay : (v w : Views) (parts : StructureSets) → SameViews v w → AreInRuns v parts → AreInRuns w parts
+runs_stay v w parts same k =
+    extents_stay v w parts parts
+    (record {
+      slots = λ c j has. subst (λ (s : Slot). SlotHas s j) (sym (same.slot c)) has;
+      endpoints = same.endpoint;
+      transfers = same.transfer;
+      notes = same.note;
+    })
+    (record { buffers = λ n a pages j bs here. record { bytes = bs; here = here; size = refl }; tables = λ n a ws here. record { words = ws; here = here; size = refl } }) k
+
+module _ (fixed : Fixed) (member : ℕ → Bool) (x : Streams) (s : Standing) (w : World) (e t : ℕ) (found : Found) (row : driver_row (driver_parts w) ≡ rows.Harvest e t found) (k : IsWhole fixed member x s w) where
+  abbrev p : Parts
+  p = driver_parts w
+
+  abbrev new : DriverContent
+  new = (after_driver_row (driver_row (driver_parts w)) (driver_parts w)).driver
+
+  due : IsHarvestDue (driver_parts w) e t found
+  due = subst (IsDue (driver_parts w)) row (each_is_due (driver_parts w))
+
+  command : new.command ≡ None
+  command =
+      ap (λ (r : DriverRow). (after_driver_row r (driver_parts w)).driver.command) row
+      ∙ (harvest_book w.driver w.memory e t found (slice_get w.driver.endpoints e) (slice_get w.driver.transfers t)).command ∙ due.idle
+
+  fronts : FrontsStand w.driver s.parts s.order s.out
+  fronts i z here meets = (k.tails i z here meets).stands
+
+  leaves : HarvestLeaves fixed member x s (driver_next w)
+  leaves = harvest_feeds fixed member x s w e t found row k.feeding fronts k.told
+
+  blank : AreBlank new
+  blank = subst (λ (r : DriverRow). AreBlank (after_driver_row r (driver_parts w)).driver) (sym row) (harvest_blank (driver_parts w) e t found k.blank)
+
+  names : AreNamesApart new
+  names = events_apart (driver_parts w) k.names
+
+  senders : HaveSenders new x.stream
+  senders i z here =
+      sender_of x.stream w.driver.endpoints i z (slice_get w.driver.endpoints i) refl (sym (ap (option_map desc_of) here) ∙ row_left (driver_row (driver_parts w)) (driver_parts w) i) k.senders
+
+  runs : AreInRuns (views_of new) s.parts
+  runs =
+      subst (λ (r : DriverRow). AreInRuns (views_of (after_driver_row r (driver_parts w)).driver) s.parts) (sym row)
+      (runs_stay (views_of w.driver) (views_of (after_driver_row (rows.Harvest e t found) (driver_parts w)).driver) s.parts (harvest_views w.driver w.memory e t found) k.runs)
+
+  -- no command is unfinished, so the tail is the inactive qTD at the end of the queue
+  tails : (l : HarvestLeaves fixed member x s (driver_next w)) → TailsStand new s.parts s.order l.out
+  tails l i z here meets =
+      let f = l.feeding in
+      subst (λ (c : ℕ). Reaches new (s.parts (32 * z.queue)) (s.order (32 * z.queue)) (l.out (32 * z.queue)) i z c)
+      (sym (ap (λ (c : Option Command). 32 * tail_block c (slice_get new.transfers (length new.transfers - 1)) i z.dummy) command))
+      (idle_queues_reach member new s.parts s.order l.out command f.working.place.sound.owners f.working.place.lent f.turns f.queues.fed f.queues.last f.queues.out_are l.fronts i z here
+      (f.working.streaming.controlled.ring.members (32 * z.queue) (f.queues.met.each i z here meets)))
+
+  whole : (l : HarvestLeaves fixed member x s (driver_next w)) → IsWhole fixed member x (record s { out = l.out; reported = l.reported }) (driver_next w)
+  whole l = record {
+    feeding = l.feeding;
+    under_way = subst (λ (c : Option Command). IsUnderWay new (driver_next w).memory member s.parts c) (sym command) tt;
+    blank = blank;
+    names = names;
+    senders = senders;
+    runs = runs;
+    tails = tails l;
+    told = l.told;
+    bytes = k.bytes;
+  }
+
+  pub harvest_leaves_whole : HasWhole fixed x.stream x.packets (driver_next w)
+  harvest_leaves_whole = record {
+    member = member;
+    streams = x.streams;
+    endpoint = x.endpoint;
+    standing = record s { out = leaves.out; reported = leaves.reported };
+    whole = whole leaves;
+  }
+
+pub harvest_whole : HarvestKeepsWhole
+harvest_whole fixed member x s w e t found row k = harvest_leaves_whole fixed member x s w e t found row k

@@ -1,0 +1,81 @@
+-- A world that is whole is so still, once its driver has lent a get.
+use Rattle.std.proofs.Common.{◌≡◌, ℕ, ◌-◌, ◌*◌, ◌≤◌, Bool, List, Option, Some, ap, refl, sym, subst, ◌∙◌, inl, inr, arith}
+use Rattle.word_mem.specs.Memory.{Mem}
+use Rattle.qh_qtd.specs.declared.qtd.Qtd.{Qtd}
+use Rattle.driver_rows.specs.declared.content.Command.{Command}
+use Rattle.driver_rows.specs.declared.content.QtdNote.{QtdNote}
+use Rattle.driver_rows.specs.DriverContent.{DriverContent}
+use Rattle.lent_structures.specs.Structures.{Element, StructureSets}
+use Rattle.queue_parts.specs.Sound.{IsElement}
+use Rattle.ring_walk.specs.Hand.{Hand}
+use Rattle.spared_streams.specs.Sparing.{SparesHead, SparesElement}
+use Rattle.told_harvests.specs.Held.{AreHeld, none_held, one_held, IsOneFrom}
+use Rattle.told_queues.specs.Told.{ToldStands}
+use Rattle.told_queues.specs.Laws.{SparesDone}
+use Rattle.told_queues.proofs.Standing.{spared_told, alike_told}
+use Rattle.released_queues.specs.Fronts.{FrontsStand}
+use Rattle.standing_fronts.specs.Reaching.{Reaches}
+use Rattle.open_stores.specs.Opens.{AreNamesApart}
+use Rattle.fed_lends.specs.ToLend.{IsToBeLent, lent_now}
+use Rattle.fed_lends.proofs.Reporting.{same_hand}
+use Rattle.bus_world.specs.World.{driver_next}
+use Rattle.lending_worlds.proofs.Lending.{lend_feeds}
+use Rattle.whole_worlds.specs.Whole.{tail_of, TailsStand, IsUnderWay, HaveSenders}
+use Rattle.whole_worlds.specs.Laws.{LendKeepsWhole}
+use Rattle.whole_worlds.proofs.LentTails.{tail_stands}
+
+-- ---- what is told
+
+-- each qTD that is held back stands
+held_stands : {hand : Hand} {parts : StructureSets} {n : ℕ} {note : ℕ → QtdNote} (b i c a : ℕ) (xs : List ℕ) → AreHeld hand parts n note b i c xs → IsOneFrom note b i a → IsElement (parts n) (32 * a)
+held_stands _ _ _ a _ (none_held b) one = absurd one
+held_stands {parts = parts} {n = n} _ _ _ a _ (one_held b i c x xs done rest) (inl is) = record { qtd = done.qtd; here = ap (λ (j : ℕ). parts n (32 * j)) is ∙ done.here }
+held_stands {note = note} _ _ _ a _ (one_held b i c x xs done rest) (inr there) = held_stands (note b).next i c a xs rest there
+
+lend_told : (d : DriverContent) (m : Mem) (hand : Hand) (parts now : StructureSets) (reported : ℕ → List ℕ) → ((n : ℕ) → SparesHead parts now n)
+    → ((n a : ℕ) (u : Qtd) → parts n a ≡ Some (Element u) → SparesElement parts now n a) → ToldStands d hand parts reported → ToldStands (lent_now d m) hand now reported
+lend_told d m hand parts now reported heads elements k =
+    let spares : SparesDone d parts now = record {
+      heads = λ e x here. heads (32 * x.queue);
+      done = λ e t x y a next one.
+          let stands = held_stands y.first (y.qtds - y.left) y.place a (k.held e) (k.holds.next e t x y next).done one in
+          elements (32 * x.queue) (32 * a) stands.qtd stands.here;
+    } in
+    alike_told d (lent_now d m) hand now reported (record { reports = refl; store = refl; endpoints = refl; transfers = refl; notes = refl }) (λ x met. met) (λ x opens. opens)
+    (spared_told d hand hand parts now reported (same_hand hand) spares k)
+
+-- ---- the command
+
+lend_under_way : (d : DriverContent) (m new : Mem) (member : ℕ → Bool) (parts : StructureSets) (b : ℕ) (words : List ℕ) → IsToBeLent d m b words → IsUnderWay (lent_now d m) new member parts d.command
+lend_under_way d m new member parts b words get =
+    let one : 1 ≤ 1 = omega arith in
+    subst (λ (c : Option Command). IsUnderWay (lent_now d m) new member parts c) (sym get.command) (inr one)
+
+-- ---- the whole
+
+pub lend_keeps_whole : LendKeepsWhole
+lend_keeps_whole fixed member x s w b words get k =
+    let f = k.feeding in
+    let place = f.working.place in
+    let fronts : FrontsStand w.driver s.parts s.order s.out = λ e z here met. (k.tails e z here met).stands in
+    let g = lend_feeds fixed member x s w b words get k.blank f.working f.turns f.queues f.unopened fronts k.runs in
+    record {
+      member = member;
+      streams = x.streams;
+      endpoint = x.endpoint;
+      standing = record s { parts = g.parts; order = g.order; out = g.out };
+      whole = record {
+        feeding = record { working = g.working; turns = g.turns; queues = g.queues; unopened = g.unopened };
+        under_way = subst (λ (d : DriverContent). IsUnderWay d (driver_next w).memory member g.parts d.command) (sym g.driver_is) (lend_under_way w.driver w.memory (driver_next w).memory member g.parts b words get);
+        blank = g.blank;
+        names = subst AreNamesApart (sym g.driver_is) k.names;
+        senders = subst (λ (d : DriverContent). HaveSenders d x.stream) (sym g.driver_is) k.senders;
+        runs = g.runs;
+        tails = subst (λ (d : DriverContent). TailsStand d g.parts g.order g.out) (sym g.driver_is)
+            (λ e z here met.
+            subst (λ (d : DriverContent). Reaches d (g.parts (32 * z.queue)) (g.order (32 * z.queue)) (g.out (32 * z.queue)) e z (tail_of w.driver e z)) g.driver_is
+            (g.reaches e z (tail_of w.driver e z) here (tail_stands w.driver w.memory b words s.parts e z get place.sound.owners place.lent f.turns.receives f.queues.fed here) (k.tails e z here met)));
+        told = subst (λ (d : DriverContent). ToldStands d s.hand g.parts s.reported) (sym g.driver_is) (lend_told w.driver w.memory s.hand s.parts g.parts s.reported g.heads g.elements k.told);
+        bytes = k.bytes;
+      };
+    }

@@ -1,0 +1,188 @@
+-- What the store by which an open is finished leaves of a driver's content and its queues: the new endpoint is met, and its queue has its inactive qTD alone.
+use Rattle.std.proofs.Common.{◌≡◌, ◌≢◌, ℕ, ◌*◌, ◌-◌, Bool, true, List, [], length, slice_get, Option, Some, None, ap, refl, sym, subst, ◌∙◌, ⊎_elim, arith}
+use Rattle.std.proofs.lemmas.Bool.{cases_eq, true≢false}
+use Rattle.std.proofs.lemmas.Option.{same_Some}
+use Rattle.link_words.specs.declared.kinds.QtdLink.TheVariants as qtd_links
+use Rattle.link_words.specs.Links.{qtd_link_of}
+use Rattle.walk_copy.specs.Visits.{next_pointer}
+use Rattle.qh_qtd.specs.declared.qtd.Qtd.{Qtd}
+use Rattle.qh_qtd.specs.declared.queue_head.Qh.{Qh}
+use Rattle.driver_rows.specs.declared.content.Endpoint.{Endpoint}
+use Rattle.driver_rows.specs.declared.content.Transfer.{Transfer}
+use Rattle.driver_rows.specs.declared.content.Command.{Command}
+use Rattle.driver_rows.specs.declared.content.Command.TheVariants as unfinished
+use Rattle.driver_rows.specs.DriverContent.{DriverContent}
+use Rattle.driver_rows.specs.Rows.{Parts as DriverParts}
+use Rattle.driver_rows.specs.Words.{head_block, to_queue_head, queue_head, dummy_qtd}
+use Rattle.run_owners.specs.Owners.{EndpointRuns, Head, QueueHead as QueueOf, runs_of_endpoint, views_of}
+use Rattle.lent_structures.specs.Structures.{Structure, QueueHead, Element, Structures, StructureSets, with_structure}
+use Rattle.lent_structures.proofs.Names.{put_beside}
+use Rattle.queue_parts.proofs.Altering.{found_queue, same_element}
+use Rattle.ring_walk.specs.Hand.{Hand}
+use Rattle.ring_stores.proofs.Parting.{found_with}
+use Rattle.ring_streams.specs.Told.{Endpoint as Told}
+use Rattle.driver_lends.specs.Linked.{no_part, opened_part, head_at}
+use Rattle.driver_releases.specs.Extents.{AreInRuns}
+use Rattle.driver_releases.proofs.Extending.{extents_stay, head_put}
+use Rattle.spared_streams.proofs.Sparing.{linked_same}
+use Rattle.opened_streams.specs.Opened.{with_none}
+use Rattle.opened_streams.proofs.Beginning.{list_here, list_beside}
+use Rattle.fed_queues.specs.Places.{IsMet}
+use Rattle.fed_stores.proofs.Apart.{queue_placed, queues_same, thirty_two}
+use Rattle.told_queues.specs.Told.{ToldStands}
+use Rattle.told_queues.proofs.Standing.{spared_told, met_told}
+use Rattle.standing_fronts.specs.Reaching.{Reaches}
+use Rattle.open_stores.specs.Opens.{IsAtOpen, head_then, hand_then}
+use Rattle.open_stores.proofs.Linking.{here}
+use Rattle.open_stores.proofs.Standing.{element_was}
+use Rattle.whole_worlds.specs.Whole.{tail_block, tail_of, TailsStand}
+use Rattle.whole_worlds.proofs.OpenBeside.{heads_stay, elements_stay, reaches_beside}
+
+-- ---- a new queue
+
+-- the one qTD of a new endpoint
+one_element : (r : EndpointRuns) (q : Qh) (a : ℕ) (t : Qtd) → opened_part r q a ≡ Some (Element t) → dummy_qtd ≡ t
+one_element r q a t found =
+    let one : Structures = with_structure no_part (32 * r.queue) (QueueHead q) in
+    ⊎_elim (λ (new : (a ≡ 32 * r.dummy) × (Element dummy_qtd ≡ Element t)). same_element dummy_qtd t new.1)
+    (λ (old : (a ≢ 32 * r.dummy) × (one a ≡ Some (Element t))).
+    ⊎_elim (λ (head : (a ≡ 32 * r.queue) × (QueueHead q ≡ Element t)). absurd (never head.1))
+    (λ (none : (a ≢ 32 * r.queue) × (no_part a ≡ Some (Element t))). absurd (nothing none.1)) (found_with no_part (32 * r.queue) a (QueueHead q) (Element t) old.1))
+    (found_with one (32 * r.dummy) a (Element dummy_qtd) (Element t) found)
+  where
+    never : QueueHead q ≡ Element t → ⊥
+    never same = cc
+
+    nothing : ◌≡◌ {A = Option Structure} None (Some (Element t)) → ⊥
+    nothing none = cc
+
+same_address : (a b : ℕ) → qtd_links.To a ≡ qtd_links.To b → a ≡ b
+same_address a b same = cc
+
+-- its front is before all, and its inactive qTD is its tail
+new_reaches : (d : DriverContent) (part : Structures) (order : ℕ → ℕ) (e : ℕ) (x : Endpoint) (link : ℕ) → part (32 * x.queue) ≡ Some (QueueHead (queue_head x.desc link x.dummy))
+    → ((a : ℕ) (t : Qtd) → part a ≡ Some (Element t) → dummy_qtd ≡ t) → ((t : ℕ) (y : Transfer) → slice_get d.transfers t ≡ Some y → y.endpoint ≢ e) → Reaches d part order [] e x (32 * x.dummy)
+new_reaches d part order e x link head idle none = record {
+  stands = record {
+    front = 0;
+    has = record {
+      queue = λ q found. record { work = λ on. absurd (true≢false (sym on ∙ ap (λ (z : Qh). z.token.active) (is q found))); rest = λ b going off leads. omega arith };
+      behind = λ a t among. absurd among;
+      fresh = λ a t among. absurd among;
+      passes = λ a b i t u among. absurd among;
+    };
+    ended = λ i t y at there held same. absurd (none t y there same);
+    passed = λ i t j y at there held same. absurd (none t y there same);
+  };
+  within = record {
+    below = λ a t found on. absurd (off_is a t found on);
+    next = λ a b t found on. absurd (off_is a t found on);
+    alternate = λ a b t found on. absurd (off_is a t found on);
+  };
+  tail = record {
+    most = omega arith;
+    rest = λ q b found going off leads.
+        let to : 32 * x.dummy ≡ b = same_address (32 * x.dummy) b (ap (λ (z : Qh). qtd_link_of (next_pointer z)) (sym (is q found)) ∙ leads) in
+        let same : order (32 * x.dummy) ≡ order b = ap order to in
+        omega (arith, same);
+  };
+}
+  where
+    is : (q : Qh) → part (32 * x.queue) ≡ Some (QueueHead q) → q ≡ queue_head x.desc link x.dummy
+    is q found = found_queue (part (32 * x.queue)) q (queue_head x.desc link x.dummy) found head
+
+    off_is : (a : ℕ) (t : Qtd) → part a ≡ Some (Element t) → t.token.active ≡ true → ⊥
+    off_is a t found on = true≢false (sym on ∙ ap (λ (u : Qtd). u.token.active) (sym (idle a t found)))
+
+-- ---- the store
+
+one_open : (b c : ℕ) → Some (unfinished.Open b) ≡ Some (unfinished.Open c) → b ≡ c
+one_open b c same = cc
+
+module _ (p : DriverParts) (member streams : ℕ → Bool) (ends : ℕ → Told) (parts : StructureSets) (order : ℕ → ℕ → ℕ) (out : ℕ → List ℕ) (k : IsAtOpen p.driver p.memory member streams ends parts order out) where
+  abbrev d : DriverContent
+  d = p.driver
+
+  abbrev x : Endpoint
+  x = k.lent.endpoint
+
+  abbrev n : ℕ
+  n = 32 * x.queue
+
+  abbrev q : Qh
+  q = queue_head x.desc k.lent.link x.dummy
+
+  abbrev head : Qh
+  head = record k.queue { link = to_queue_head x.queue }
+
+  abbrev now : StructureSets
+  now = head_then parts k.queue x
+
+  abbrev f : DriverContent
+  f = record d { command = None; made = 0 }
+
+  -- ---- the structures
+
+  not_head : (e : ℕ) (y : Endpoint) → slice_get d.endpoints e ≡ Some y → 32 * y.queue ≢ head_at
+  not_head e y there same =
+      never (sym (queue_placed d k.sound.owners e y there (k.turns.receives.endpoints e y there)).owned ∙ ap k.sound.owners.owner (thirty_two y.queue head_block same) ∙ k.sound.owners.owned.each.head.owned)
+    where
+      never : QueueOf e ≡ Head → ⊥
+      never z = cc
+
+  stay : (e : ℕ) (y : Endpoint) → slice_get d.endpoints e ≡ Some y → now (32 * y.queue) ≡ parts (32 * y.queue)
+  stay e y there = put_beside parts head_at head_at (QueueHead head) (32 * y.queue) (not_head e y there)
+
+  -- ---- the endpoints
+
+  same_number : (e : ℕ) (y : Endpoint) → slice_get d.endpoints e ≡ Some y → y.queue ≡ x.queue → e ≡ k.lent.number
+  same_number e y there same =
+      queues_same y.queue x.queue e k.lent.number same (queue_placed d k.sound.owners e y there (k.turns.receives.endpoints e y there))
+      (queue_placed d k.sound.owners k.lent.number x k.lent.here (k.turns.receives.endpoints k.lent.number x k.lent.here))
+
+  met_before : (e : ℕ) (y : Endpoint) → slice_get d.endpoints e ≡ Some y → e ≢ k.lent.number → IsMet d y
+  met_before e y there differs same = differs (same_number e y there (one_open y.queue x.queue (sym same ∙ k.lent.command)))
+
+  apart : (e : ℕ) (y : Endpoint) → slice_get d.endpoints e ≡ Some y → e ≢ k.lent.number → 32 * y.queue ≢ n
+  apart e y there differs same = differs (same_number e y there (thirty_two y.queue x.queue same))
+
+  -- ---- fronts and tails
+
+  new_front : (e : ℕ) → e ≡ k.lent.number → Reaches f (now n) (order n) (with_none out n n) e x (32 * x.dummy)
+  new_front e same =
+      subst (λ (xs : List ℕ). Reaches f (now n) (order n) xs e x (32 * x.dummy)) (sym (list_here out n))
+      (new_reaches f (now n) (order n) e x k.lent.link (ap (λ (part : Structures). part n) (stay k.lent.number x k.lent.here) ∙ here p member streams ends parts order out k)
+      (λ a t found. one_element (runs_of_endpoint x) q a t (sym (k.lent.part a) ∙ element_was p member streams ends parts order out k n a t found))
+      (λ t y there is. k.lent.none t y there (is ∙ same)))
+
+  old_front : (e : ℕ) (y : Endpoint) → slice_get d.endpoints e ≡ Some y → e ≢ k.lent.number → Reaches d (parts (32 * y.queue)) (order (32 * y.queue)) (out (32 * y.queue)) e y (tail_of d e y)
+      → Reaches f (now (32 * y.queue)) (order (32 * y.queue)) (with_none out n (32 * y.queue)) e y (32 * y.dummy)
+  old_front e y there differs was =
+      let m = 32 * y.queue in
+      reaches_beside d d.book None 0 (now m) (order m) (with_none out n m) e y (32 * y.dummy)
+      (subst (λ (xs : List ℕ). Reaches d (now m) (order m) xs e y (32 * y.dummy)) (sym (list_beside out n m (apart e y there differs)))
+      (subst (λ (part : Structures). Reaches d part (order m) (out m) e y (32 * y.dummy)) (sym (stay e y there))
+      (subst (λ (c : Option Command). Reaches d (parts m) (order m) (out m) e y (32 * tail_block c (slice_get d.transfers (length d.transfers - 1)) e y.dummy)) k.lent.command was)))
+
+  pub tails_then : TailsStand d parts order out → TailsStand f now order (with_none out n)
+  tails_then tails e y there met =
+      ⊎_elim (λ (same : e ≡ k.lent.number).
+      let is : y ≡ x = same_Some y x (sym there ∙ ap (slice_get d.endpoints) same ∙ k.lent.here) in
+      subst (λ (z : Endpoint). Reaches f (now (32 * z.queue)) (order (32 * z.queue)) (with_none out n (32 * z.queue)) e z (32 * z.dummy)) (sym is) (new_front e same))
+      (λ (differs : e ≢ k.lent.number). old_front e y there differs (tails e y there (met_before e y there differs))) (cases_eq e k.lent.number)
+
+  -- ---- runs, and what is told
+
+  pub runs_then : AreInRuns (views_of d) parts → AreInRuns (views_of f) now
+  runs_then lies =
+      extents_stay (views_of d) (views_of f) parts now (record { slots = λ c j has. has; endpoints = λ e. refl; transfers = λ t. refl; notes = λ b. refl }) (head_put parts head_at head_at head) lies
+
+  pub told_then : (hand : Hand) (reported : ℕ → List ℕ) → ToldStands d hand parts reported → ToldStands f (hand_then hand x) now (with_none reported n)
+  told_then hand reported told =
+      met_told d f (hand_then hand x) now reported (with_none reported n) x.queue (record { reports = refl; store = refl; endpoints = refl; transfers = refl; notes = refl }) k.lent.command refl
+      (list_here reported n) (λ m differs. list_beside reported n m differs)
+      (spared_told d hand (hand_then hand x) parts now reported (linked_same head_at (to_queue_head x.queue) hand)
+      (record {
+        heads = λ e y there. heads_stay parts now (32 * y.queue) (stay e y there);
+        done = λ e t y z a next among. elements_stay parts now (32 * y.queue) (32 * a) (stay e y next.endpoint);
+      }) told)

@@ -1,0 +1,48 @@
+-- What stays where an event of an unfinished command is made.
+use Rattle.std.proofs.Common.{◌≡◌, ℕ, Bool, List, Option, ap, refl, ◌∙◌}
+use Rattle.run_book.specs.Book.{Book}
+use Rattle.driver_rows.specs.declared.content.Endpoint.{Endpoint}
+use Rattle.driver_rows.specs.declared.content.Command.{Command}
+use Rattle.driver_rows.specs.DriverContent.{DriverContent}
+use Rattle.lent_structures.specs.Structures.{Structures, StructureSets}
+use Rattle.ring_walk.specs.Effects.{buffer_of}
+use Rattle.ring_control.specs.Control.{IsFrameless, off, empty}
+use Rattle.ring_streams.specs.Told.{Endpoint as Told}
+use Rattle.driver_parts.specs.Opened.{opening_base}
+use Rattle.spared_streams.specs.Sparing.{SparesHead, SparesElement}
+use Rattle.bus_world.specs.World.{World, controller_parts, driver_next}
+use Rattle.world_streams.specs.Streaming.{Streams}
+use Rattle.standing_fronts.specs.Reaching.{Reaches}
+
+-- the streams of the script, with these queue heads
+abbrev pub streams_at : Streams → (ℕ → Bool) → (ℕ → Told) → Streams
+streams_at x streams ends = record { stream = x.stream; packets = x.packets; streams = streams; endpoint = ends }
+
+pub still_frameless : (words : List ℕ) (w : World) → IsFrameless opening_base words (controller_parts w) → IsFrameless opening_base words (controller_parts (driver_next w))
+still_frameless words w (off is) = off is
+still_frameless words w (empty none over) = empty none over
+
+-- ---- an owner's structures that stay
+
+pub heads_stay : (parts now : StructureSets) (n : ℕ) → now n ≡ parts n → SparesHead parts now n
+heads_stay parts now n same q here = record {
+  queue = q;
+  here = ap (λ (part : Structures). part n) same ∙ here;
+  overlay = record { token = refl; current = refl; offset = refl; endpoint = refl };
+}
+
+pub elements_stay : (parts now : StructureSets) (n e : ℕ) → now n ≡ parts n → SparesElement parts now n e
+elements_stay parts now n e same = record {
+  element = λ t here. ap (λ (part : Structures). part e) same ∙ here;
+  bytes = λ t here. ap (λ (part : Structures). buffer_of part t) same;
+}
+
+-- ---- fronts
+
+pub reaches_beside : (d : DriverContent) (book : Book) (command : Option Command) (made : ℕ) (part : Structures) (order : ℕ → ℕ) (out : List ℕ) (e : ℕ) (x : Endpoint) (c : ℕ)
+    → Reaches d part order out e x c → Reaches (record d { book = book; command = command; made = made }) part order out e x c
+reaches_beside d book command made part order out e x c k = record {
+  stands = record { front = k.stands.front; has = k.stands.has; ended = k.stands.ended; passed = k.stands.passed };
+  within = k.within;
+  tail = k.tail;
+}

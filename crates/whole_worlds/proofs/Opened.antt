@@ -1,0 +1,110 @@
+-- An endpoint is opened: its structures are to be lent.
+use Rattle.std.proofs.Common.{◌≡◌, ◌≢◌, ℕ, ◌*◌, Bool, true, false, ◌||◌, List, [], ◌∷◌, length, drop, get_or, slice_get, Option, Some, Ok, option_map, ap, sym, subst, ◌∙◌, ⊎_elim, inl, arith}
+use Rattle.usb_base.specs.declared.commands.Cmd.{Cmd}
+use Rattle.usb_base.specs.declared.commands.Cmd.TheVariants as commands
+use Rattle.qh_qtd.specs.QueueHead.{IsQhInRange}
+use Rattle.usb_bus.specs.Bus.{Fixed}
+use Rattle.run_book.specs.Book.{holding}
+use Rattle.driver_rows.specs.declared.content.Endpoint.{Endpoint}
+use Rattle.driver_rows.specs.declared.content.Command.{Command}
+use Rattle.driver_rows.specs.declared.content.Command.TheVariants as unfinished
+use Rattle.driver_rows.specs.DriverContent.{DriverContent}
+use Rattle.driver_rows.specs.Rows.{is_iso}
+use Rattle.driver_rows.specs.Offers.{Offered, new_runs, new_endpoint, newest_of, offered, IsOffered}
+use Rattle.run_owners.specs.Owners.{QueueHead, runs_of_endpoint}
+use Rattle.run_owners.proofs.Runs.{placed_run}
+use Rattle.run_owners.proofs.Taking.{runs_taken}
+use Rattle.run_owners.proofs.Accepted.{drop_first, fresh_differs}
+use Rattle.walk_members.specs.Reached.{OpensNumbered}
+use Rattle.driver_lends.specs.Opened.{opened_head}
+use Rattle.chained_transfers.specs.Receives.{OpensReceiving}
+use Rattle.chained_transfers.specs.Accepted.{IsOpened}
+use Rattle.fed_lends.proofs.Accepting.{open_is_blank}
+use Rattle.fed_commands.proofs.Asked.{push_which}
+use Rattle.standing_fronts.specs.Reaching.{Reaches}
+use Rattle.told_queues.proofs.Commanding.{opened_told}
+use Rattle.open_names.proofs.Apart.{accepted_apart}
+use Rattle.open_lends.specs.Lends.{IsOpenReady}
+use Rattle.accepted_opens.proofs.Waiting.{open_waits}
+use Rattle.commanded_queues.proofs.Ranges.{new_head_range}
+use Rattle.commanded_queues.proofs.Which.{opens_its_own}
+use Rattle.commanded_queues.proofs.Tails.{open_reaches}
+use Rattle.commanded_queues.proofs.Extending.{open_extents}
+use Rattle.bus_world.specs.World.{World, name_in, commanded_by}
+use Rattle.world_streams.specs.Streaming.{Streams, Standing}
+use Rattle.feeding_worlds.specs.Feeding.{IsFeeding}
+use Rattle.whole_worlds.specs.Whole.{IsUnderWay, HaveSenders, IsWhole}
+use Rattle.whole_worlds.specs.Laws.{OpensTo}
+use Rattle.whole_worlds.proofs.Tail.{open_tail, idle_ends}
+
+queue_in : Option Command → ℕ
+queue_in (Some (unfinished.Open queue)) = queue
+queue_in _ = 0
+
+same_queue : (b c : ℕ) → ◌≡◌ {A = Option Command} (Some (unfinished.Open b)) (Some (unfinished.Open c)) → b ≡ c
+unfolding queue_in
+same_queue b c is = ap queue_in is
+
+module _ (fixed : Fixed) (member : ℕ → Bool) (x : Streams) (s : Standing) (w : World) (line : ℕ) (cmd : Cmd) (o : Offered) (k : IsWhole fixed member x s w) (opened : IsOpened w.driver w.memory o) where
+  abbrev d : DriverContent
+  d = w.driver
+
+  abbrev new : Endpoint
+  new = new_endpoint opened.opens.desc (get_or (new_runs d opened.opens.holding_after) 0 0) (get_or (new_runs d opened.opens.holding_after) 1 0)
+
+  command_is : o.driver.command ≡ Some (unfinished.Open new.queue)
+  command_is = ap (λ (p : Offered). p.driver.command) opened.opens.is
+
+  -- the new queue head has blocks of its own
+  apart : (e : ℕ) (z : Endpoint) → slice_get d.endpoints e ≡ Some z → o.driver.command ≢ Some (unfinished.Open z.queue)
+  apart e z there is =
+      let why = opened.opens in
+      let sound = k.feeding.working.place.sound in
+      let standing = k.feeding.turns.receives.endpoints e z there in
+      let all = runs_taken (holding d.book w.memory) why.holding_after (2 ∷ 1 ∷ []) sound.stands why.runs in
+      let bs = all.blocks in
+      let two : length bs ≡ 2 = all.are.long in
+      let runs : new_runs d why.holding_after ≡ bs = ap (drop (length d.book.taken)) all.are.taken ∙ drop_first d.book.taken bs in
+      let alive : is_iso z.desc.kind || z.gone ≡ false = ap (λ c. is_iso c || z.gone) standing.receives.kind ∙ standing.gone in
+      fresh_differs 0 z.queue all.are (omega (arith, two))
+      (placed_run z.queue (QueueHead e) (sound.owners.owned.each.queue e (runs_of_endpoint z) (ap (option_map runs_of_endpoint) there) alive))
+      (ap (λ (rs : List ℕ). get_or rs 0 0) (sym runs) ∙ same_queue new.queue z.queue (sym command_is ∙ is))
+
+  senders : x.stream opened.opens.desc.name.addr opened.opens.desc.name.num ≡ true → HaveSenders o.driver x.stream
+  senders to e z here =
+      ⊎_elim (λ (was : slice_get d.endpoints e ≡ Some z). k.senders e z was)
+      (λ (is : (e ≡ length d.endpoints) × (z ≡ new)). ap (λ (y : Endpoint). x.stream y.desc.name.addr y.desc.name.num) is.1 ∙ to)
+      (push_which d.endpoints new e z (ap (λ (p : Offered). slice_get p.driver.endpoints e) (sym opened.opens.is) ∙ here))
+
+  ready : IsQhInRange (opened_head d opened.opens.desc opened.opens.holding_after) → IsUnderWay o.driver o.memory member s.parts o.driver.command
+  ready range =
+      let place = k.feeding.working.place in
+      let is : IsOpenReady o.driver o.memory = open_waits w.memory d o opened.opens place.sound.owners place.lent place.sound.stands place.sound.shape range in
+      subst (λ (c : Option Command). IsUnderWay o.driver o.memory member s.parts c) (sym command_is) (inl is)
+
+pub opened_whole : (fixed : Fixed) (member : ℕ → Bool) (x : Streams) (s : Standing) (w : World) (line : ℕ) (cmd : Cmd) (o : Offered) → OpensReceiving cmd → OpensTo x.stream cmd → OpensNumbered cmd → IsOffered w.driver.room cmd
+    → offered w.driver w.memory cmd ≡ Ok o → IsOpened w.driver w.memory o → IsFeeding fixed member x s (commanded_by w line (name_in cmd) (Ok o)) → IsWhole fixed member x s w → IsWhole fixed member x s (commanded_by w line (name_in cmd) (Ok o))
+opened_whole fixed member x s w line cmd o only to fits room offer opened feeding k =
+    let d = w.driver in
+    let sound = k.feeding.working.place.sound in
+    let desc = opened.opens.desc in
+    let is : cmd ≡ commands.OpenEp desc = opens_its_own d w.memory cmd o only offer opened in
+    let small : IsOffered d.room (commands.OpenEp desc) = subst (λ (c : Cmd). IsOffered d.room c) is room in
+    let numbered : OpensNumbered (commands.OpenEp desc) = subst (λ (c : Cmd). OpensNumbered c) is fits in
+    let stream : OpensTo x.stream (commands.OpenEp desc) = subst (λ (c : Cmd). OpensTo x.stream c) is to in
+    let range : IsQhInRange (opened_head d desc opened.opens.holding_after) =
+    new_head_range desc (newest_of d.endpoints) (get_or (new_runs d opened.opens.holding_after) 1 0) opened.receives numbered small.1 in
+    record {
+      feeding = feeding;
+      under_way = ready fixed member x s w line cmd o k opened range;
+      blank = open_is_blank d w.memory o opened k.blank;
+      names = accepted_apart d w.memory o k.feeding.turns.receives (inl opened) k.names;
+      senders = senders fixed member x s w line cmd o k opened stream;
+      runs = open_extents d w.memory o s.parts opened sound.stands sound.owners feeding.working.driven k.runs;
+      tails = λ e z here met.
+          subst (λ (c : ℕ). Reaches o.driver (s.parts (32 * z.queue)) (s.order (32 * z.queue)) (s.out (32 * z.queue)) e z c)
+          (sym (open_tail o.driver e _ z (command_is fixed member x s w line cmd o k opened)))
+          (open_reaches d w.memory o s.parts s.order s.out opened (idle_ends d s.parts s.order s.out opened.opens.idle k.tails) e z here met);
+      told = opened_told d w.memory o s.hand s.parts s.reported opened (apart fixed member x s w line cmd o k opened) k.told;
+      bytes = k.bytes;
+    }

@@ -1,0 +1,67 @@
+-- A new world is whole: it has no endpoint and no transfer.
+use Rattle.std.proofs.Common.{◌≡◌, ℕ, zero, suc, ◌≤◌, List, [], length, slice_get, Option, Some, ap, subst, arith}
+use Rattle.std.proofs.lemmas.List.{length-replicate}
+use Rattle.driver_rows.specs.declared.content.Endpoint.{Endpoint}
+use Rattle.driver_rows.specs.declared.content.Reserve.{Reserve}
+use Rattle.driver_rows.specs.Opening.{opening}
+use Rattle.run_owners.specs.Owners.{TransferRuns, transfer_in, views_of}
+use Rattle.lent_structures.specs.Structures.{Structure, Table}
+use Rattle.driver_parts.specs.Opened.{empty_list, opening_parts, is_head}
+use Rattle.driver_releases.specs.Extents.{AreInRuns}
+use Rattle.fed_lends.proofs.Accepting.{opening_is_blank}
+use Rattle.told_queues.proofs.Standing.{new_told}
+use Rattle.open_names.proofs.Apart.{new_apart}
+use Rattle.world_bytes.proofs.Turning.{opened_bytes}
+use Rattle.bus_world.specs.Rooms.{reserve_of}
+use Rattle.shared_worlds.specs.Working.{at_opening}
+use Rattle.feeding_worlds.specs.Feeding.{streams_of}
+use Rattle.feeding_worlds.proofs.Opening.{new_world_feeds}
+use Rattle.whole_worlds.specs.Laws.{NewWorldIsWhole}
+
+no_endpoint : (e : ℕ) (x : Endpoint) → slice_get {X = Endpoint} [] e ≡ Some x → ⊥
+no_endpoint zero x here = cc
+no_endpoint (suc e) x here = cc
+
+no_transfer : (t : ℕ) (y : TransferRuns) → transfer_in [] t ≡ Some y → ⊥
+no_transfer zero y here = cc
+no_transfer (suc t) y here = cc
+
+-- ---- the frame list has 1,024 elements
+
+words_in : Option Structure → List ℕ
+words_in (Some (Table words)) = words
+words_in _ = []
+
+list_is : (words : List ℕ) → opening_parts 0 0 ≡ Some (Table words) → empty_list ≡ words
+unfolding words_in
+list_is words here = ap words_in here
+
+list_fits : (words : List ℕ) → opening_parts 0 0 ≡ Some (Table words) → length words ≤ 1024
+list_fits words here = subst (λ (ws : List ℕ). length ws ≤ 1024) (list_is words here) (omega (arith, length-replicate {A = ℕ} 1024 1))
+
+opening_runs : (n : ℕ) (room : Reserve) → AreInRuns (views_of (opening n room).driver) opening_parts
+opening_runs n room = record {
+  list = list_fits;
+  buffers = λ t b c cs y x pages k bs is piece first here j has. absurd (no_transfer t y is.here);
+}
+
+-- ---- the world
+
+pub new_world_is_whole : NewWorldIsWhole
+new_world_is_whole s fit bytes = record {
+  member = is_head;
+  streams = (streams_of s).streams;
+  endpoint = (streams_of s).endpoint;
+  standing = at_opening;
+  whole = record {
+    feeding = new_world_feeds s fit;
+    under_way = tt;
+    blank = opening_is_blank s.words (reserve_of s.lines);
+    names = new_apart s.words (reserve_of s.lines);
+    senders = λ e x here. absurd (no_endpoint e x here);
+    runs = opening_runs s.words (reserve_of s.lines);
+    tails = λ e x here met. absurd (no_endpoint e x here);
+    told = new_told s.words (reserve_of s.lines) at_opening.hand at_opening.parts at_opening.reported;
+    bytes = opened_bytes s bytes;
+  };
+}

@@ -1,0 +1,113 @@
+-- A command that is refused is one line more of the report.
+use Rattle.std.proofs.Common.{ℕ, Bool, List, length, Option, Some, None, Err, refl, inl, inr, ⊎_elim}
+use Rattle.std.specs.Prelude.{◌≤◌}
+use Rattle.usb_base.specs.declared.endpoints.EpName.{EpName}
+use Rattle.usb_base.specs.declared.reports.OfferError.{OfferError}
+use Rattle.usb_base.specs.declared.reports.Report.{Report}
+use Rattle.usb_base.specs.declared.reports.What.TheVariants.{Refused}
+use Rattle.word_mem.specs.Memory.{Mem}
+use Rattle.usb_bus.specs.Bus.{Fixed}
+use Rattle.driver_rows.specs.declared.content.Command.{Command}
+use Rattle.driver_rows.specs.declared.content.Command.TheVariants as unfinished
+use Rattle.driver_rows.specs.DriverContent.{DriverContent}
+use Rattle.lent_structures.specs.Structures.{StructureSets}
+use Rattle.fed_lends.specs.ToLend.{IsToBeLent}
+use Rattle.open_lends.specs.Lends.{IsOpenReady}
+use Rattle.open_stores.specs.Opens.{IsOpenLent}
+use Rattle.commanded_queues.proofs.Tails.{reaches_alike}
+use Rattle.told_queues.proofs.Standing.{refused_told}
+use Rattle.bus_world.specs.World.{World, refused_line, commanded_by}
+use Rattle.world_streams.specs.Streaming.{Streams, Standing}
+use Rattle.feeding_worlds.specs.Feeding.{IsFeeding}
+use Rattle.whole_worlds.specs.Whole.{tail_of, IsUnderWay, IsWhole}
+
+module _ (d : DriverContent) (line : ℕ) (name : EpName) (why : OfferError) (m : Mem) where
+  abbrev f : DriverContent
+  f = refused_line d line name why
+
+  ready : IsOpenReady d m → IsOpenReady f m
+  ready k = record {
+    number = k.number;
+    endpoint = k.endpoint;
+    here = k.here;
+    command = k.command;
+    made = k.made;
+    none = k.none;
+    link = k.link;
+    opened = record {
+      here = k.opened.here;
+      taken = k.opened.taken;
+      queue_kept = k.opened.queue_kept;
+      dummy_kept = k.opened.dummy_kept;
+      no_transfer = k.opened.no_transfer;
+      queue_words = k.opened.queue_words;
+      dummy_words = k.opened.dummy_words;
+      range = k.opened.range;
+    };
+  }
+
+  lent : (member : ℕ → Bool) (parts : StructureSets) → IsOpenLent d member parts → IsOpenLent f member parts
+  lent member parts k = record { number = k.number; endpoint = k.endpoint; here = k.here; command = k.command; made = k.made; unmet = k.unmet; none = k.none; link = k.link; part = k.part }
+
+  to_be_lent : (b : ℕ) (words : List ℕ) → IsToBeLent d m b words → IsToBeLent f m b words
+  to_be_lent b words k =
+      let r = k.receiving in
+      record {
+        number = k.number;
+        transfer = k.transfer;
+        endpoint = k.endpoint;
+        stage = k.stage;
+        further = k.further;
+        command = k.command;
+        made = k.made;
+        newest = k.newest;
+        there = k.there;
+        here = k.here;
+        first = k.first;
+        place = k.place;
+        left = k.left;
+        fresh = k.fresh;
+        receiving = record {
+          here = r.here;
+          qtds = r.qtds;
+          first = r.first;
+          taken = r.taken;
+          apart = r.apart;
+          ends = r.ends;
+          qtds_kept = r.qtds_kept;
+          noted = r.noted;
+          words = r.words;
+          short = r.short;
+          ins = r.ins;
+        };
+        gets = k.gets;
+        are = k.are;
+      }
+
+  under_way : (member : ℕ → Bool) (parts : StructureSets) (c : Option Command) → IsUnderWay d m member parts c → IsUnderWay f m member parts c
+  under_way member parts None k = tt
+  under_way member parts (Some (unfinished.Open queue)) k = ⊎_elim (λ (r : IsOpenReady d m). inl (ready r)) (λ (l : IsOpenLent d member parts). inr (lent member parts l)) k
+  under_way member parts (Some (unfinished.Publish b words)) k = ⊎_elim (λ (g : IsToBeLent d m b words). inl (to_be_lent b words g)) (λ (made : 1 ≤ d.made). inr made) k
+  under_way member parts (Some (unfinished.Unlink e b link)) k = tt
+  under_way member parts (Some unfinished.Chain) k = tt
+  under_way member parts (Some (unfinished.Iso e t count)) k = tt
+  under_way member parts (Some (unfinished.Unchain e)) k = tt
+
+pub refused_whole : (fixed : Fixed) (member : ℕ → Bool) (x : Streams) (s : Standing) (w : World) (line : ℕ) (name : EpName) (why : OfferError) → IsFeeding fixed member x s (commanded_by w line name (Err why)) → IsWhole fixed member x s w
+    → IsWhole fixed member x s (commanded_by w line name (Err why))
+refused_whole fixed member x s w line name why feeding k =
+    let d = w.driver in
+    let row : Report = record { name = name; what = Refused line why; from = length d.store; len = 0 } in
+    record {
+      feeding = feeding;
+      under_way = under_way d line name why w.memory member s.parts d.command k.under_way;
+      blank = k.blank;
+      names = k.names;
+      senders = k.senders;
+      runs = k.runs;
+      tails = λ e z here met.
+          reaches_alike d (refused_line d line name why) s.parts s.order s.out e (tail_of d e z) z z refl refl
+          (λ h u y at there held. record { transfer = y; here = there; endpoint = refl; released = refl; qtds = refl; left = refl; places = λ j most. refl }) (k.tails e z here met);
+      told = refused_told d (refused_line d line name why) s.hand s.parts s.reported row refl refl refl refl refl refl refl refl refl k.told;
+      bytes = k.bytes;
+    }

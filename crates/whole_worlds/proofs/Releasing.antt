@@ -1,0 +1,191 @@
+-- The row that gives a harvested transfer's blocks back leaves a world whole.
+use Rattle.std.proofs.Common.{◌≡◌, ◌≢◌, ℕ, ◌-◌, ◌*◌, Bool, List, length, slice_get, Option, Some, None, ap, sym, subst, ◌∙◌}
+use Rattle.usb_bus.specs.Bus.{Fixed}
+use Rattle.word_mem.specs.Memory.{Mem}
+use Rattle.run_book.specs.Book.{holding}
+use Rattle.driver_rows.specs.declared.content.Command.{Command}
+use Rattle.driver_rows.specs.declared.content.Endpoint.{Endpoint}
+use Rattle.driver_rows.specs.declared.content.Transfer.{Transfer}
+use Rattle.driver_rows.specs.declared.rows.DriverRow.{DriverRow}
+use Rattle.driver_rows.specs.declared.rows.DriverRow.TheVariants as rows
+use Rattle.driver_rows.specs.DriverContent.{DriverContent}
+use Rattle.driver_rows.specs.Rows.{Parts, driver_row, after_driver_row, after_transfer, freed_by, free_qtds}
+use Rattle.lent_structures.specs.Structures.{StructureSets}
+use Rattle.ring_control.specs.Control.{IsFrameless, off, empty}
+use Rattle.ring_releases.specs.Fewer.{without_those}
+use Rattle.ring_releases.proofs.Returning.{those_beside}
+use Rattle.returned_streams.specs.Returned.{staying_of}
+use Rattle.returned_streams.proofs.Returning.{pipes_returned, reported_stay}
+use Rattle.driver_parts.specs.Opened.{opening_base}
+use Rattle.driver_releases.specs.Released.{goes_of, release_row}
+use Rattle.in_place.specs.InPlace.{IsInPlace}
+use Rattle.in_place.proofs.Laws.{event_in_place}
+use Rattle.chained_transfers.specs.InTurn.{TakesTurns}
+use Rattle.chained_transfers.proofs.Events.{event_turns}
+use Rattle.fed_lends.specs.ToLend.{AreBlank}
+use Rattle.fed_queues.specs.Places.{AreMet, HaveStreams}
+use Rattle.open_stores.specs.Opens.{AreNamesApart}
+use Rattle.released_queues.specs.Released.{IsReleased}
+use Rattle.released_queues.proofs.Releasing.{release_feeds, release_keeps_met}
+use Rattle.standing_fronts.specs.Reaching.{Reaches}
+use Rattle.released_tails.proofs.Reaching.{release_reaches}
+use Rattle.scripted_streams.specs.Senders.{sender_of}
+use Rattle.bus_world.specs.World.{World, controller_parts, driver_parts, with_parts}
+use Rattle.world_streams.specs.Streaming.{Streams, Standing, wired}
+use Rattle.shared_worlds.specs.Working.{IsWorking}
+use Rattle.feeding_worlds.specs.Feeding.{IsFeeding}
+use Rattle.feeding_worlds.proofs.Storing.{queue_above}
+use Rattle.whole_worlds.specs.Whole.{tail_block, tail_of, TailsStand, IsUnderWay, HaveSenders, IsWhole, HasWhole}
+use Rattle.whole_worlds.specs.Laws.{ReleaseKeepsWhole}
+use Rattle.whole_worlds.proofs.Returning.{due, transfer, endpoint, returning, stand, met}
+use Rattle.whole_worlds.proofs.Telling.{release_told}
+
+none_under_way : (d : DriverContent) (m : Mem) (member : ℕ → Bool) (parts : StructureSets) (c : Option Command) → c ≡ None → IsUnderWay d m member parts c
+none_under_way d m member parts None free = tt
+none_under_way d m member parts (Some c) free = absurd (cc)
+
+-- with no unfinished command the tail of a queue is the inactive qTD at its end
+plain_tail : (c : Option Command) (o : Option Transfer) (e dummy : ℕ) → c ≡ None → tail_block c o e dummy ≡ dummy
+plain_tail c o e dummy free = ap (λ (i : Option Command). tail_block i o e dummy) free
+
+module _ (fixed : Fixed) (member : ℕ → Bool) (x : Streams) (s : Standing) (w : World) (t : ℕ) (row : driver_row (driver_parts w) ≡ rows.ReleaseTransfer t) (k : IsWhole fixed member x s w) where
+  abbrev p : Parts
+  p = driver_parts w
+
+  abbrev d : DriverContent
+  d = w.driver
+
+  abbrev f : IsFeeding fixed member x s w
+  f = k.feeding
+
+  abbrev y : Transfer
+  y = transfer fixed member x s w t row k
+
+  abbrev z : Endpoint
+  z = endpoint fixed member x s w t row k
+
+  abbrev n : ℕ
+  n = 32 * z.queue
+
+  abbrev goes : ℕ → Bool
+  goes = goes_of d y
+
+  abbrev now : StructureSets
+  now = without_those s.parts n goes
+
+  abbrev later : ℕ → List ℕ
+  later = staying_of n goes s.out
+
+  abbrev new : World
+  new = with_parts w (after_driver_row (rows.ReleaseTransfer t) (driver_parts w))
+
+  abbrev standing : Standing
+  standing = record s { parts = now; out = later }
+
+  g : IsReleased opening_base member s.parts s.hand w.control.walk p s.order s.out t n goes
+  g = release_feeds opening_base member s.parts s.hand w.control.walk p s.order s.out t y z (stand fixed member x s w t row k) (returning fixed member x s w t row k)
+
+  -- ---- what the row changes
+
+  abbrev after : Parts
+  after = after_transfer p t (Some y) (free_qtds d.notes (holding d.book w.memory) y.first y.qtds)
+
+  row_is : after_driver_row (release_row t) p ≡ after
+  row_is = ap (λ (o : Option Transfer). after_transfer p t o (freed_by d (holding d.book w.memory) o)) (returning fixed member x s w t row k).here
+
+  -- what the rest of the content has stays
+  stays : (P : DriverContent → Type 0) → P after.driver → P new.driver
+  stays P rest = subst (λ (q : Parts). P q.driver) (sym row_is) rest
+
+  -- ---- the world at work
+
+  frameless : (words : List ℕ) → IsFrameless opening_base words (controller_parts w) → IsFrameless opening_base words (controller_parts new)
+  frameless words (off is) = off is
+  frameless words (empty none over) = empty none over
+
+  above : 0 ≢ n
+  above = queue_above d y.endpoint z f.working.place.sound.owners f.turns.receives (returning fixed member x s w t row k).endpoint
+
+  in_place : IsInPlace new.memory new.driver
+  in_place = subst (λ (r : DriverRow). IsInPlace (after_driver_row r p).memory (after_driver_row r p).driver) row (event_in_place p f.working.place)
+
+  turns : TakesTurns new.driver
+  turns = subst (λ (r : DriverRow). TakesTurns (after_driver_row r p).driver) row (event_turns p f.working.place.sound.owners f.turns)
+
+  working : IsWorking fixed opening_base member x standing new
+  working = record {
+    operating = f.working.operating;
+    streaming = record {
+      on = f.working.streaming.on;
+      ends = f.working.streaming.ends;
+      controlled = record {
+        ring = g.drives.ring;
+        between = f.working.streaming.controlled.between;
+        list = record {
+          words = f.working.streaming.controlled.list.words;
+          here = ap (λ part. part 0) (those_beside s.parts n goes 0 above) ∙ f.working.streaming.controlled.list.here;
+          size = f.working.streaming.controlled.list.size;
+        };
+        frameless = frameless f.working.streaming.controlled.list.words f.working.streaming.controlled.frameless;
+      };
+      piped = pipes_returned sender_of x.stream x.packets member x.streams x.endpoint s.acc s.parts s.hand (wired fixed w) n goes g.head f.working.streaming.piped;
+      right = reported_stay x.streams s.order s.out s.hand s.parts s.acc s.reported n goes g.head g.buffers g.untold f.working.streaming.right;
+    };
+    place = in_place;
+    driven = g.drives.driven;
+  }
+
+  met_now : AreMet new.driver member × HaveStreams new.driver x.streams x.endpoint
+  met_now = release_keeps_met p t y member x.streams x.endpoint (returning fixed member x s w t row k).here f.queues.met f.queues.streams_are
+
+  feeding : IsFeeding fixed member x standing new
+  feeding = record {
+    working = working;
+    turns = turns;
+    queues = record { met = met_now.0; streams_are = met_now.1; fed = g.fed; last = g.last; out_are = g.still_out };
+    unopened = f.unopened;
+  }
+
+  -- ---- tails
+
+  tail_was : (e : ℕ) (c : Endpoint) → tail_of d e c ≡ 32 * c.dummy
+  tail_was e c = ap (λ (b : ℕ). 32 * b) (plain_tail d.command (slice_get d.transfers (length d.transfers - 1)) e c.dummy (due fixed member x s w t row k).idle)
+
+  tail_is : (e : ℕ) (c : Endpoint) → tail_of new.driver e c ≡ 32 * c.dummy
+  tail_is e c = stays (λ (q : DriverContent). tail_of q e c ≡ 32 * c.dummy)
+      (ap (λ (b : ℕ). 32 * b) (plain_tail d.command (slice_get after.driver.transfers (length after.driver.transfers - 1)) e c.dummy (due fixed member x s w t row k).idle))
+
+  tails : TailsStand new.driver now s.order later
+  tails e c here is =
+      let there : slice_get d.endpoints e ≡ Some c = ap (λ (q : Parts). slice_get q.driver.endpoints e) (sym row_is) ∙ here in
+      subst (Reaches new.driver (now (32 * c.queue)) (s.order (32 * c.queue)) (later (32 * c.queue)) e c) (tail_was e c ∙ sym (tail_is e c))
+      (release_reaches opening_base member s.parts s.hand w.control.walk p s.order s.out t y z (stand fixed member x s w t row k) (returning fixed member x s w t row k) e c (tail_of d e c)
+      (k.tails e c there (met fixed member x s w t row k c)))
+
+  -- ---- the whole
+
+  under_way : IsUnderWay new.driver new.memory member now new.driver.command
+  under_way = none_under_way new.driver new.memory member now new.driver.command (stays (λ (q : DriverContent). q.command ≡ None) (due fixed member x s w t row k).idle)
+
+  pub new_whole : HasWhole fixed x.stream x.packets new
+  new_whole = record {
+    member = member;
+    streams = x.streams;
+    endpoint = x.endpoint;
+    standing = standing;
+    whole = record {
+      feeding = feeding;
+      under_way = under_way;
+      blank = stays AreBlank k.blank;
+      names = stays AreNamesApart k.names;
+      senders = stays (λ (q : DriverContent). HaveSenders q x.stream) k.senders;
+      runs = g.in_runs;
+      tails = tails;
+      told = release_told opening_base member s.parts s.hand w.control.walk p s.order s.out t y z (stand fixed member x s w t row k) (returning fixed member x s w t row k) s.reported k.told;
+      bytes = k.bytes;
+    };
+  }
+
+pub release_keeps_whole : ReleaseKeepsWhole
+release_keeps_whole fixed member x s w t row k =
+    subst (λ (r : DriverRow). HasWhole fixed x.stream x.packets (with_parts w (after_driver_row r (driver_parts w)))) (sym row) (new_whole fixed member x s w t row k)

@@ -1,0 +1,92 @@
+-- The transfer that is given back, in a world whose driver only receives.
+use Rattle.std.proofs.Common.{◌≡◌, ℕ, zero, suc, ◌*◌, ◌<◌, ◌≤◌, ◌&&◌, not, Bool, true, false, if◌then◌else◌, List, [], ◌∷◌, length, slice_get, Option, Some, None, refl, sym, subst, ◌∙◌, arith}
+use Rattle.usb_bus.specs.Bus.{Fixed}
+use Rattle.driver_rows.specs.declared.content.Endpoint.{Endpoint}
+use Rattle.driver_rows.specs.declared.content.Transfer.{Transfer}
+use Rattle.driver_rows.specs.declared.content.Command.TheVariants as unfinished
+use Rattle.driver_rows.specs.declared.rows.DriverRow.TheVariants as rows
+use Rattle.driver_rows.specs.Rows.{driver_row}
+use Rattle.run_owners.specs.Due.{IsDue, IsTransferDue}
+use Rattle.run_owners.specs.Leaving.{owes}
+use Rattle.run_owners.proofs.Reasons.{each_is_due}
+use Rattle.driver_parts.specs.Opened.{opening_base}
+use Rattle.fed_queues.specs.Places.{IsMet}
+use Rattle.released_queues.specs.Released.{IsReturning, ReleaseStands}
+use Rattle.standing_fronts.proofs.Lists.{times_some}
+use Rattle.bus_world.specs.World.{World, driver_parts}
+use Rattle.world_streams.specs.Streaming.{Streams, Standing}
+use Rattle.whole_worlds.specs.Whole.{IsWhole}
+
+-- ---- what is owed
+
+pub record IsOwed (o : Option Transfer) : Type 0 where
+  pub transfer : Transfer
+  pub here : o ≡ Some transfer
+  pub reported : transfer.reported ≡ true
+  pub held : transfer.released ≡ false
+
+owed_by : (a b : Bool) → 1 ≤ (if a && not b then 1 else 0) → (a ≡ true) × (b ≡ false)
+owed_by true false some = (refl, refl)
+owed_by true true some = absurd (omega (arith, some))
+owed_by false b some = absurd (omega (arith, some))
+
+owed_one : (o : Option Transfer) → 1 ≤ owes o → IsOwed o
+owed_one None some = absurd (omega (arith, some))
+owed_one (Some y) some = let both = owed_by y.reported y.released some in record { transfer = y; here = refl; reported = both.0; held = both.1 }
+
+there_at : {X : Type 0} (xs : List X) (i : ℕ) → i < length xs → (x : X) × (slice_get xs i ≡ Some x)
+there_at [] i below = absurd (omega (arith, below))
+there_at (x ∷ xs) zero below = (x, refl)
+there_at (x ∷ xs) (suc i) below = there_at xs i (omega (arith, below))
+
+-- ---- in a world
+
+module _ (fixed : Fixed) (member : ℕ → Bool) (x : Streams) (s : Standing) (w : World) (t : ℕ) (row : driver_row (driver_parts w) ≡ rows.ReleaseTransfer t) (k : IsWhole fixed member x s w) where
+  pub due : IsTransferDue (driver_parts w) t
+  due = subst (IsDue (driver_parts w)) row (each_is_due (driver_parts w))
+
+  pub owed : IsOwed (slice_get w.driver.transfers t)
+  owed =
+      let some = times_some w.driver.harvested 0 t due.first in
+      let most = k.feeding.working.place.sound.owners.orderly.harvests t in
+      owed_one (slice_get w.driver.transfers t) (omega (arith, some, most))
+
+  abbrev pub transfer : Transfer
+  transfer = owed.transfer
+
+  pub its_endpoint : (z : Endpoint) × (slice_get w.driver.endpoints owed.transfer.endpoint ≡ Some z)
+  its_endpoint = there_at w.driver.endpoints owed.transfer.endpoint (k.feeding.working.place.sound.owners.orderly.within t owed.transfer owed.here)
+
+  abbrev pub endpoint : Endpoint
+  endpoint = its_endpoint.0
+
+  pub returning : IsReturning w.driver t transfer endpoint
+  returning = record { free = due.idle; first = due.first; here = owed.here; held = owed.held; reported = owed.reported; endpoint = its_endpoint.1 }
+
+  -- no command is unfinished, and so each endpoint is met
+  pub met : (z : Endpoint) → IsMet w.driver z
+  met z is = no_open z.queue (sym due.idle ∙ is)
+    where
+      no_open : (b : ℕ) → None ≡ Some (unfinished.Open b) → ⊥
+      no_open b bad = cc
+
+  pub stand : ReleaseStands opening_base member s.parts s.hand w.control.walk (driver_parts w) s.order s.out
+  stand =
+      let f = k.feeding in
+      record {
+        drives = record { ring = f.working.streaming.controlled.ring; driven = f.working.driven };
+        owners = f.working.place.sound.owners;
+        stands = f.working.place.sound.stands;
+        in_runs = k.runs;
+        receives = f.turns.receives;
+        chained = f.turns.chained;
+        turns = f.turns.turns;
+        fed = f.queues.fed;
+        last = f.queues.last;
+        still_out = f.queues.out_are;
+        fronts = λ e z here meets. (k.tails e z here meets).stands;
+        rise = λ e z here.
+            let r = f.working.streaming.right (32 * z.queue) (f.queues.streams_are.each e z here (met z)).0 in
+            record { next = r.accounts.ordered.next; alternate = r.accounts.ordered.alternate };
+        met = λ e z here. f.queues.met.each e z here (met z);
+      }

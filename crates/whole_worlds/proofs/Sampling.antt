@@ -1,0 +1,52 @@
+-- A script with one get meets the premises of the laws.
+use Rattle.std.proofs.Common.{◌≡◌, ℕ, zero, suc, slice_get, Some, refl, subst, arith}
+use Rattle.std.specs.List.{AllByRecursion}
+use Rattle.std.proofs.lemmas.Option.{same_Some}
+use Rattle.script_types.specs.declared.devices.DeviceText.{DeviceText}
+use Rattle.script_fits.specs.Fits.{IsFit}
+use Rattle.byte_answers.specs.Bytes.{IsByteScript}
+use Rattle.opening_senders.specs.Own.{HasOwnDevices}
+use Rattle.declared_endpoints.specs.Declared.{OpensSenders}
+use Rattle.script_numbers.specs.Numbers.{NumbersOpens}
+use Rattle.chained_transfers.specs.Receives.{ReceivesOnly}
+use Rattle.whole_worlds.specs.Samples.{one_get}
+
+pub get_fits : IsFit one_get
+get_fits = record {
+  least = omega arith;
+  most = omega arith;
+  whole_pages = refl;
+  devices = refl;
+  hubs = refl;
+  rooms = ((omega arith, (omega arith, tt)), tt);
+  lines = ((omega arith, omega arith, record { size = refl; pace = refl; below = refl }), ((omega arith, omega arith), (tt, tt)));
+}
+
+pub get_bytes : IsByteScript one_get
+get_bytes = record { devices = ((((omega arith, tt), tt), (((omega arith, (omega arith, tt)), tt), tt)), tt); lines = (tt, (tt, (tt, tt))) }
+
+pub get_sends : OpensSenders one_get
+get_sends = ((λ kind speed way. refl), (tt, (tt, tt)))
+
+pub get_numbers : NumbersOpens one_get
+get_numbers = ((omega arith, omega arith), (tt, (tt, tt)))
+
+pub get_only : ReceivesOnly one_get
+get_only = (record { kind = refl; speed = refl; way = refl }, (tt, (tt, tt)))
+
+-- there is one device
+only_device : (i : ℕ) (d : DeviceText) → slice_get one_get.devices (suc i) ≡ Some d → ⊥
+only_device zero d here = cc
+only_device (suc i) d here = cc
+
+pub get_owns : HasOwnDevices one_get
+get_owns = record { own = its_own; apart = one_alone }
+  where
+    its_own : (place : ℕ) (d : DeviceText) → slice_get one_get.devices place ≡ Some d → AllByRecursion (λ text. text.desc.name.addr ≡ d.addr) d.eps
+    its_own zero d here = subst (λ (z : DeviceText). AllByRecursion (λ text. text.desc.name.addr ≡ z.addr) z.eps) (same_Some _ d here) (refl, (refl, tt))
+    its_own (suc i) d here = absurd (only_device i d here)
+
+    one_alone : (i j : ℕ) (d e : DeviceText) → slice_get one_get.devices i ≡ Some d → slice_get one_get.devices j ≡ Some e → d.addr ≡ e.addr → i ≡ j
+    one_alone zero zero d e one other same = refl
+    one_alone zero (suc j) d e one other same = absurd (only_device j e other)
+    one_alone (suc i) j d e one other same = absurd (only_device i d one)

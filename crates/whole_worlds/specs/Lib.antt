@@ -1,0 +1,10 @@
+pub mod Whole
+pub mod Laws
+pub mod Linked
+pub mod Blank
+pub mod Harvested
+pub mod Moments
+pub mod Samples
+pub mod PlacedLaws
+pub mod Placed
+pub mod UnrefusedLaws

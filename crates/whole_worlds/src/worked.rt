@@ -1,0 +1,100 @@
+//! Worked rows, which the check computes.
+ghost use Rattle.std.specs.Prelude.{◌≡◌, [], Some, None, true, false, ◌∷◌, ℕ};
+ghost use Rattle.driver_rows.specs.declared.content.Command.TheVariants as unfinished;
+ghost use Rattle.chained_transfers.specs.Worked.{under_way};
+ghost use Rattle.whole_worlds.specs.Whole.{tail_block, tail_of};
+ghost use Rattle.driver_parts.specs.Opened.{is_head};
+ghost use Rattle.driver_lends.specs.Linked.{with_member};
+ghost use Rattle.open_stores.specs.Opens.{IsOpenLent};
+ghost use Rattle.whole_worlds.specs.Linked.{new_one, lent_driver, lent_parts};
+ghost use Rattle.usb_base.specs.declared.reports.What.TheVariants as lines;
+ghost use Rattle.driver_rows.specs.declared.rows.DriverRow.TheVariants as rows;
+ghost use Rattle.driver_rows.specs.declared.rows.Found.TheVariants as founds;
+ghost use Rattle.driver_rows.specs.Harvests.{note_at};
+ghost use Rattle.driver_rows.specs.Rows.{after_driver_row, leaving_row};
+ghost use Rattle.fed_lends.specs.ToLend.{AreBlank};
+ghost use Rattle.whole_worlds.specs.Harvested.{at_harvest};
+ghost use Rattle.op_registers.specs.RegisterFile.{RegisterFile};
+ghost use Rattle.driver_releases.specs.Released.{goes_of};
+ghost use Rattle.run_owners.specs.Leaving.{owes};
+ghost use Rattle.run_owners.specs.Worked.{busy_driver, get_out, bulk};
+ghost use Rattle.script_fits.specs.Fits.{IsFit};
+ghost use Rattle.byte_answers.specs.Bytes.{IsByteScript};
+ghost use Rattle.opening_senders.specs.Own.{HasOwnDevices};
+ghost use Rattle.declared_endpoints.specs.Declared.{OpensSenders};
+ghost use Rattle.script_numbers.specs.Numbers.{NumbersOpens};
+ghost use Rattle.chained_transfers.specs.Receives.{ReceivesOnly};
+ghost use Rattle.whole_worlds.specs.Moments.{IsWholeThroughout, StreamsAreRightThroughout};
+ghost use Rattle.whole_worlds.specs.Samples.{one_get};
+ghost use Rattle.driver_rows.specs.Offers.{new_endpoint};
+ghost use Rattle.ring_members.specs.Links.{members, IsChain};
+ghost use Rattle.ring_members.specs.Worked.{ring_word};
+ghost use Rattle.whole_worlds.specs.Samples.{one_get};
+ghost use Rattle.whole_worlds.specs.Placed.{linked_to, AreOnce, RunsInPlaceThroughout};
+ghost use Rattle.bus_world.specs.Budgets.{moment};
+
+/// While it is published its first qTD is the tail of its endpoint's queue, and after the last store the end of the queue is; of another endpoint that is so all along.
+pub fn tails()
+    ensures published { tail_block (Some (unfinished.Publish 141 [])) (Some under_way) 0 143 ≡ 141 }
+    ensures finished { tail_block None (Some under_way) 0 143 ≡ 143 }
+    ensures beside { tail_block (Some (unfinished.Publish 141 [])) (Some under_way) 1 163 ≡ 163 }
+{}
+
+/// All is there that the store of the head's link asks for; after it the walk may meet the queue head, and the inactive qTD is the tail still.
+pub fn an_open_to_link()
+    ensures lent { IsOpenLent lent_driver is_head lent_parts }
+    ensures met { with_member is_head 4160 4160 ≡ true }
+    ensures before { tail_of lent_driver 0 new_one ≡ 4256 }
+    ensures after { tail_of (record lent_driver { command = None; made = 0 }) 0 new_one ≡ 4256 }
+{}
+
+/// The get ends with 3 bytes: they are noted of its qTD, and notes without bytes are as blank as before.
+pub fn a_get_ends()
+    ensures before { AreBlank at_harvest.driver }
+    ensures moved { (note_at (after_driver_row (rows.Harvest 0 0 (founds.Ended 3 lines.Done)) at_harvest).driver.notes 132).moved ≡ 3 }
+    ensures after { AreBlank (after_driver_row (rows.Harvest 0 0 (founds.Ended 3 lines.Done)) at_harvest).driver }
+{}
+
+/// A get with its qTD in block 132 and its buffer in block 134 is reported, and given back: both go, and the tail in block 133 stays.
+pub fn a_get_is_given_back()
+    ensures owed { owes (Some (record get_out { reported = true })) ≡ 1 }
+    ensures row { (r : RegisterFile) → leaving_row (record busy_driver { harvested = 0 ∷ []; mends = [] }) r ≡ Some (rows.ReleaseTransfer 0) }
+    ensures qtd { goes_of busy_driver get_out 4224 ≡ true }
+    ensures buffer { goes_of busy_driver get_out 4288 ≡ true }
+    ensures stays { goes_of busy_driver get_out 4256 ≡ false }
+    ensures tail { tail_block busy_driver.command (Some get_out) 0 133 ≡ 133 }
+{}
+
+/// The script fits, says bytes, has a sender for the endpoint that it opens, whose numbers fit, and only receives.
+pub fn a_script_with_one_get()
+    ensures fits { IsFit one_get }
+    ensures bytes { IsByteScript one_get }
+    ensures sends { OpensSenders one_get }
+    ensures numbers { NumbersOpens one_get }
+    ensures own { HasOwnDevices one_get }
+    ensures only { ReceivesOnly one_get }
+{}
+
+/// So its world is whole at each moment, and its report is right.
+pub fn its_streams_are_right()
+    ensures whole { IsWholeThroughout one_get }
+    ensures right { StreamsAreRightThroughout one_get }
+{}
+
+/// The head leads to the newest endpoint and back through the older one, also while a third isn't linked yet.
+pub fn rings()
+    ensures two { members (linked_to None (new_endpoint bulk 130 133 ∷ new_endpoint bulk 140 142 ∷ [])) ≡ 140 ∷ 130 ∷ [] }
+    ensures opening { members (linked_to (Some (unfinished.Open 150)) (new_endpoint bulk 130 133 ∷ new_endpoint bulk 140 142 ∷ new_endpoint bulk 150 152 ∷ [])) ≡ 140 ∷ 130 ∷ [] }
+    ensures chain { IsChain ring_word 128 (140 ∷ 130 ∷ []) }
+    ensures once { AreOnce (128 ∷ 140 ∷ 130 ∷ []) }
+{}
+
+/// A script with one get runs in place.
+pub fn it_runs_in_place()
+    ensures { RunsInPlaceThroughout one_get }
+{}
+
+/// Each word that its controller reads or writes is lent to it.
+pub fn it_is_never_refused()
+    ensures { (k : ℕ) → (moment one_get k).world.memory.foreign ≡ 0 }
+{}
