@@ -9,7 +9,6 @@ use Rattle.run_book.specs.Book.{holding, Stands, slot_of}
 use Rattle.driver_rows.specs.declared.content.Endpoint.{Endpoint}
 use Rattle.driver_rows.specs.declared.content.Transfer.{Transfer}
 use Rattle.driver_rows.specs.declared.content.QtdNote.{QtdNote}
-use Rattle.driver_rows.specs.declared.content.Sort.TheVariants as sorts
 use Rattle.driver_rows.specs.DriverContent.{DriverContent}
 use Rattle.driver_rows.specs.Words.{needs}
 use Rattle.driver_rows.specs.Offers.{Offered, Asked, offered, new_runs, new_endpoint, note_stages, accepted_open, accepted_transfer, with_queued, new_transfer, first_waiting}
@@ -23,11 +22,13 @@ use Rattle.run_owners.proofs.Chains.{notes_apart}
 use Rattle.run_owners.proofs.Accepted.{drop_first, push_case}
 use Rattle.run_owners.proofs.Orders.{owed, one_same}
 use Rattle.run_owners.proofs.Transferred.{are_new, goes_on_alive}
-use Rattle.chained_transfers.specs.Receives.{OpensReceiving, IsStanding, Receives}
+use Rattle.run_owners.proofs.Released.{set_here}
+use Rattle.chained_transfers.specs.Bulk.{OpensBulk, IsStanding, MovesAs, OnlyBulk}
 use Rattle.chained_transfers.specs.Accepted.{IsOpened, IsAsked}
 use Rattle.chained_transfers.specs.Chains.{piece_at}
 use Rattle.chained_transfers.specs.Turns.{IsAtPlace, AreAtPlaces, Turn, turn_of, turn_in, AreReportedTo, AreTurns}
 use Rattle.chained_transfers.specs.InTurn.{TakesTurns}
+use Rattle.chained_transfers.proofs.Moves.{KeepDescs, descs_set, descs_push, moves_on, moves_same}
 use Rattle.chained_transfers.proofs.Chained.{pieces_same, endpoint_chained, within_list, pushed_there, pushed_last}
 use Rattle.chained_transfers.proofs.Queued.{not_dummy, transfer_chained}
 use Rattle.chained_transfers.proofs.Turning.{IsChangedAt, which, changed_plain}
@@ -75,14 +76,14 @@ open_turns d m o order why old =
     let q = get_or (new_runs d w.holding_after) 0 0 in
     let f = get_or (new_runs d w.holding_after) 1 0 in
     let x = new_endpoint w.desc q f in
-    let r = old.receives in
+    let r = old.bulk in
     let now : TakesTurns (accepted_open d w.desc w.holding_after q f).driver = record {
-      receives = record {
+      bulk = record {
         endpoints = λ e z here. ⊎_elim (λ (was : slice_get d.endpoints e ≡ Some z). r.endpoints e z was)
             (λ (new : (e ≡ length d.endpoints) × (z ≡ x)).
-            subst (λ (y : Endpoint). IsStanding y) (sym new.1) (record { receives = why.receives; placement = refl; cancelled = refl; linked = refl; chained = refl; gone = refl }))
+            subst (λ (y : Endpoint). IsStanding y) (sym new.1) (record { bulk = why.bulk; placement = refl; cancelled = refl; linked = refl; chained = refl; gone = refl }))
             (push_which d.endpoints x e z here);
-        gets = r.gets;
+        moves = moves_same d _ (descs_push d.endpoints x) r.moves;
         command = tt;
         mends = r.mends;
         unlinks = r.unlinks;
@@ -287,14 +288,20 @@ pub asked_in_turn : (d : DriverContent) (m : Mem) (o : Offered) → Stands (hold
 asked_in_turn d m o stands owners why old =
     let w = why.transfers in
     let x = w.endpoint in
-    let r = old.receives in
+    let r = old.bulk in
     let places = asked_places d m o owners.owner stands w owners.orderly owners.owned old.turns.places in
     let turns = asked_turns d m o w owners.orderly old.turns.turns in
-    let receives : (dummy : ℕ) (notes : List QtdNote) → Receives (accepted_transfer d w.number x w.asked w.holding_after dummy notes).driver = λ dummy notes. record {
+    let kept : (dummy : ℕ) → KeepDescs d.endpoints (set d.endpoints w.number (with_queued x dummy (length d.transfers))) = λ dummy. descs_set d.endpoints w.number x (with_queued x dummy (length d.transfers)) w.here refl in
+    let new_moves : (dummy : ℕ) (notes : List QtdNote) (y : Transfer) → y ≡ new_transfer w.number w.asked x.dummy → MovesAs (accepted_transfer d w.number x w.asked w.holding_after dummy notes).driver y = λ dummy notes y is. record {
+      endpoint = with_queued x dummy (length d.transfers);
+      here = ap (λ (z : Transfer). slice_get (set d.endpoints w.number (with_queued x dummy (length d.transfers))) z.endpoint) is ∙ set_here d.endpoints w.number x (with_queued x dummy (length d.transfers)) w.here;
+      sort = ap (λ (z : Transfer). z.sort) is ∙ ap (λ (a : Asked). a.sort) why.asked;
+    } in
+    let bulk : (dummy : ℕ) (notes : List QtdNote) → OnlyBulk (accepted_transfer d w.number x w.asked w.holding_after dummy notes).driver = λ dummy notes. record {
       endpoints = ends_set d.endpoints w.number x (with_queued x dummy (length d.transfers)) w.here
-          (λ s. record { receives = s.receives; placement = s.placement; cancelled = s.cancelled; linked = s.linked; chained = s.chained; gone = s.gone }) r.endpoints;
-      gets = λ t y here. ⊎_elim (λ (was : slice_get d.transfers t ≡ Some y). r.gets t y was)
-          (λ (new : (t ≡ length d.transfers) × (y ≡ new_transfer w.number w.asked x.dummy)). ap (λ (z : Transfer). z.sort) new.1 ∙ ap (λ (a : Asked). a.sort) why.asked)
+          (λ s. record { bulk = s.bulk; placement = s.placement; cancelled = s.cancelled; linked = s.linked; chained = s.chained; gone = s.gone }) r.endpoints;
+      moves = λ t y here. ⊎_elim (λ (was : slice_get d.transfers t ≡ Some y). moves_on d _ y y refl refl (kept dummy) (r.moves t y was))
+          (λ (new : (t ≡ length d.transfers) × (y ≡ new_transfer w.number w.asked x.dummy)). new_moves dummy notes y new.1)
           (push_which d.transfers (new_transfer w.number w.asked x.dummy) t y here);
       command = tt;
       mends = r.mends;
@@ -305,12 +312,12 @@ asked_in_turn d m o stands owners why old =
       cleared = r.cleared;
     } in
     record {
-      receives = subst (λ (g : Offered). Receives g.driver) (sym w.is) (receives _ _);
+      bulk = subst (λ (g : Offered). OnlyBulk g.driver) (sym w.is) (bulk _ _);
       chained = transfer_chained d m o owners.owner stands w owners.orderly owners.owned old.chained;
       turns = record { places = places; turns = turns };
     }
 
-pub command_in_turn : (d : DriverContent) (m : Mem) (cmd : Cmd) (o : Offered) → Stands (holding d.book m) → HasOwners d → TakesTurns d → OpensReceiving cmd → offered d m cmd ≡ Ok o → TakesTurns o.driver
+pub command_in_turn : (d : DriverContent) (m : Mem) (cmd : Cmd) (o : Offered) → Stands (holding d.book m) → HasOwners d → TakesTurns d → OpensBulk cmd → offered d m cmd ≡ Ok o → TakesTurns o.driver
 command_in_turn d m cmd o stands owners old only is =
     ⊎_elim (λ (why : IsOpened d m o). open_turns d m o owners.orderly why old) (λ (why : IsAsked d m o). asked_in_turn d m o stands owners why old)
-    (command_received d m cmd o old.receives only is)
+    (command_received d m cmd o old.bulk only is)

@@ -4,8 +4,6 @@ use Rattle.word_mem.specs.Memory.{Mem}
 use Rattle.run_book.specs.Book.{holding, lend_taken, slot_of}
 use Rattle.driver_rows.specs.declared.content.Endpoint.{Endpoint}
 use Rattle.driver_rows.specs.declared.content.Transfer.{Transfer}
-use Rattle.driver_rows.specs.declared.content.Sort.{Sort}
-use Rattle.driver_rows.specs.declared.content.Sort.TheVariants as sorts
 use Rattle.driver_rows.specs.declared.content.Command.{Command}
 use Rattle.driver_rows.specs.declared.content.Command.TheVariants as unfinished
 use Rattle.driver_rows.specs.declared.rows.DriverRow.{DriverRow}
@@ -16,8 +14,8 @@ use Rattle.driver_rows.specs.declared.content.Mend.{Mend}
 use Rattle.periodic_rows.specs.Periodic.{read_again}
 use Rattle.driver_rows.specs.DriverContent.{DriverContent}
 use Rattle.driver_rows.specs.Opening.{opening}
-use Rattle.driver_rows.specs.Harvests.{note_at, token_in, found_in}
-use Rattle.driver_rows.specs.Rows.{Parts, events_of, advance, found_of, after_transfer, freed_by, after_harvest, driver_row, after_driver_row}
+use Rattle.driver_rows.specs.Harvests.{note_at, token_in}
+use Rattle.driver_rows.specs.Rows.{Parts, events_of, advance, after_transfer, freed_by, after_harvest, driver_row, after_driver_row}
 use Rattle.run_owners.specs.Due.{IsDue, IsHarvestDue}
 use Rattle.run_owners.specs.Leaving.{IsOrderly}
 use Rattle.run_owners.specs.Owners.{views_of, note_in}
@@ -25,32 +23,28 @@ use Rattle.run_owners.specs.Kept.{HasOwners}
 use Rattle.run_owners.proofs.Orders.{IsOwed, owed, times_first, one_same}
 use Rattle.run_owners.proofs.Reasons.{each_is_due}
 use Rattle.run_owners.proofs.Stays.{StaysPlaced, advanced, lent, harvest_stays}
-use Rattle.chained_transfers.specs.Receives.{IsReceivingCommand, Receives}
+use Rattle.chained_transfers.specs.Bulk.{IsBulkCommand, OnlyBulk}
 use Rattle.chained_transfers.specs.Turns.{AreInTurn, turn_of, turn_in}
 use Rattle.chained_transfers.specs.InTurn.{TakesTurns}
+use Rattle.chained_transfers.proofs.Ways.{found_by, moves_queued}
+use Rattle.chained_transfers.proofs.Moves.{descs_same, moves_same, moves_set}
 use Rattle.chained_transfers.proofs.Chained.{same_chained, released_chained}
 use Rattle.chained_transfers.proofs.Turning.{changed, released_turns}
 use Rattle.chained_transfers.proofs.Harvested.{not_served, places_set, harvest_turns}
-use Rattle.chained_transfers.proofs.Rows.{advanced_turns, advanced_receives, gets_set, harvest_receives}
+use Rattle.chained_transfers.proofs.Rows.{advanced_turns, advanced_bulk, harvest_bulk}
 
 -- ---- a harvest
-
-found_get : (d : DriverContent) (m : Mem) (y : Transfer) (s : Sort) → s ≡ sorts.Get → found_of d m y s ≡ found_in sorts.Get (nat_le y.left 1) (note_at d.notes y.place) (token_in m y.place)
-found_get d m y sorts.Get is = refl
-found_get d m y sorts.Put is = absurd (cc)
-found_get d m y sorts.Request is = absurd (cc)
-found_get d m y sorts.Descriptor is = absurd (cc)
 
 harvest_row : (p : Parts) (e t : ℕ) (found : Found) → IsHarvestDue p e t found → TakesTurns p.driver → TakesTurns (after_driver_row (rows.Harvest e t found) p).driver
 harvest_row p e t found due old =
     let d = p.driver in
     let x = due.endpoint in
     let y = due.transfer in
-    let is = due.tells ∙ found_get d p.memory y y.sort (old.receives.gets t y due.there) in
+    let is = due.tells ∙ found_by d p.memory y y.sort (moves_queued d y (old.bulk.moves t y due.there)) in
     let now : TakesTurns (after_harvest d p.memory e t found (Some x) (Some y)) = record {
-      receives = harvest_receives d p.memory e t x y due.here due.there old.receives found (not_served (nat_le y.left 1) (note_at d.notes y.place) (token_in p.memory y.place) found is);
+      bulk = harvest_bulk d p.memory e t x y due.here due.there old.bulk found (not_served y.sort (nat_le y.left 1) (note_at d.notes y.place) (token_in p.memory y.place) found is);
       chained = same_chained (views_of d) (views_of (after_harvest d p.memory e t found (Some x) (Some y))) (harvest_stays d p.memory e t found (Some x) (Some y) due.here due.there).same old.chained;
-      turns = harvest_turns d p.memory e t x y due.here due.there due.goes_on due.next due.waits (old.receives.endpoints e x due.here).receives.kind old.turns found is;
+      turns = harvest_turns d p.memory e t x y due.here due.there due.goes_on due.next due.waits (old.bulk.endpoints e x due.here).bulk.kind old.turns found is;
     } in
     subst (λ (o : Option Endpoint). TakesTurns (after_harvest d p.memory e t found o (slice_get d.transfers t))) (sym due.here)
     (subst (λ (o : Option Transfer). TakesTurns (after_harvest d p.memory e t found (Some x) o)) (sym due.there) now)
@@ -67,11 +61,11 @@ release_row p t first order old =
     let y = o.transfer in
     let h = freed_by d (holding d.book p.memory) (Some y) in
     let z : Transfer = record y { released = true } in
-    let r = old.receives in
+    let r = old.bulk in
     let now : TakesTurns (after_transfer p t (Some y) h).driver = record {
-      receives = record {
+      bulk = record {
         endpoints = r.endpoints;
-        gets = gets_set d.transfers t y z o.there refl r.gets;
+        moves = moves_set d _ t y z o.there refl refl (descs_same d.endpoints) r.moves;
         command = r.command;
         mends = r.mends;
         unlinks = r.unlinks;
@@ -90,7 +84,7 @@ release_row p t first order old =
 
 -- ---- what never happens there
 
-no_frames : (c : Command) (i : ℕ) → IsReceivingCommand (Some c) → (slice_get (events_of c) i ≡ Some rows.Frames → ⊥) × (slice_get (events_of c) i ≡ Some rows.LendDescriptors → ⊥)
+no_frames : (c : Command) (i : ℕ) → IsBulkCommand (Some c) → (slice_get (events_of c) i ≡ Some rows.Frames → ⊥) × (slice_get (events_of c) i ≡ Some rows.LendDescriptors → ⊥)
 no_frames (unfinished.Open queue) zero is = (λ f. cc, λ f. cc)
 no_frames (unfinished.Open queue) (suc zero) is = (λ f. cc, λ f. cc)
 no_frames (unfinished.Open queue) (suc (suc i)) is = (λ f. cc, λ f. cc)
@@ -109,9 +103,9 @@ no_frames unfinished.Chain i is = absurd is
 no_frames (unfinished.Iso e t count) i is = absurd is
 no_frames (unfinished.Unchain e) i is = absurd is
 
--- a command that is unfinished is one of a driver that only receives
-pub its_command : (d : DriverContent) (c : Command) → d.command ≡ Some c → Receives d → IsReceivingCommand (Some c)
-its_command d c is r = subst (λ (o : Option Command). IsReceivingCommand o) is r.command
+-- a command that is unfinished is one of a driver of bulk endpoints
+pub its_command : (d : DriverContent) (c : Command) → d.command ≡ Some c → OnlyBulk d → IsBulkCommand (Some c)
+its_command d c is r = subst (λ (o : Option Command). IsBulkCommand o) is r.command
 
 none_there : {X : Type 0} (xs : List X) (x : X) → xs ≡ [] → slice_get xs 0 ≡ Some x → ⊥
 none_there xs x none here = let e : ◌≡◌ {A = Option _} None (Some x) = sym (ap (λ ys. slice_get ys 0) none) ∙ here in cc
@@ -121,49 +115,49 @@ both_empty xs ys one other = ap (λ (zs : List ℕ). zs ++ ys) one ∙ other
 
 -- ---- any event
 
-stays : (d e : DriverContent) → Receives e → StaysPlaced d e → AreInTurn e → TakesTurns d → TakesTurns e
-stays d e receives placed turns old = record { receives = receives; chained = same_chained (views_of d) (views_of e) placed.same old.chained; turns = turns }
+stays : (d e : DriverContent) → OnlyBulk e → StaysPlaced d e → AreInTurn e → TakesTurns d → TakesTurns e
+stays d e bulk placed turns old = record { bulk = bulk; chained = same_chained (views_of d) (views_of e) placed.same old.chained; turns = turns }
 
 due_turns : (row : DriverRow) (p : Parts) → IsDue p row → IsOrderly p.driver → TakesTurns p.driver → TakesTurns (after_driver_row row p).driver
 due_turns rows.Lend p due order old =
-    let r = old.receives in
+    let r = old.bulk in
     let d = record p.driver { book = (lend_taken (holding p.driver.book p.memory)).book } in
-    let lending : Receives d = record { endpoints = r.endpoints; gets = r.gets; command = r.command; mends = r.mends; unlinks = r.unlinks; removals = r.removals; waiting = r.waiting; rung = r.rung; cleared = r.cleared } in
-    stays p.driver (advance d) (advanced_receives d lending) (lent p.driver p.memory) (advanced_turns d lending (record { places = old.turns.places; turns = old.turns.turns })) old
+    let lending : OnlyBulk d = record { endpoints = r.endpoints; moves = moves_same p.driver d (descs_same d.endpoints) r.moves; command = r.command; mends = r.mends; unlinks = r.unlinks; removals = r.removals; waiting = r.waiting; rung = r.rung; cleared = r.cleared } in
+    stays p.driver (advance d) (advanced_bulk d lending) (lent p.driver p.memory) (advanced_turns d lending (record { places = old.turns.places; turns = old.turns.turns })) old
 due_turns (rows.Store b at v) p due order old =
-    stays p.driver (advance p.driver) (advanced_receives p.driver old.receives) (advanced p.driver) (advanced_turns p.driver old.receives old.turns) old
-due_turns (rows.Mend w) p due order old = absurd (none_there p.driver.mends w old.receives.mends due.1)
-due_turns rows.Frames p due order old = absurd ((no_frames due.command p.driver.made (its_command p.driver due.command due.unfinished old.receives)).0 due.next)
-due_turns rows.LendDescriptors p due order old = absurd ((no_frames due.command p.driver.made (its_command p.driver due.command due.unfinished old.receives)).1 due.next)
-due_turns (rows.Unlink t) p due order old = absurd (none_there p.driver.periodic.unlinks t old.receives.unlinks due.first)
-due_turns (rows.ReleaseRemoved what) p due order old = absurd (none_there p.driver.periodic.removals due.removal old.receives.removals due.first)
+    stays p.driver (advance p.driver) (advanced_bulk p.driver old.bulk) (advanced p.driver) (advanced_turns p.driver old.bulk old.turns) old
+due_turns (rows.Mend w) p due order old = absurd (none_there p.driver.mends w old.bulk.mends due.1)
+due_turns rows.Frames p due order old = absurd ((no_frames due.command p.driver.made (its_command p.driver due.command due.unfinished old.bulk)).0 due.next)
+due_turns rows.LendDescriptors p due order old = absurd ((no_frames due.command p.driver.made (its_command p.driver due.command due.unfinished old.bulk)).1 due.next)
+due_turns (rows.Unlink t) p due order old = absurd (none_there p.driver.periodic.unlinks t old.bulk.unlinks due.first)
+due_turns (rows.ReleaseRemoved what) p due order old = absurd (none_there p.driver.periodic.removals due.removal old.bulk.removals due.first)
 due_turns (rows.ReleaseTransfer t) p due order old = release_row p t due.first order old
-due_turns (rows.ReleaseEndpoint e) p due order old = absurd (none_there p.driver.cleared e old.receives.cleared due.first)
+due_turns (rows.ReleaseEndpoint e) p due order old = absurd (none_there p.driver.cleared e old.bulk.cleared due.first)
 due_turns rows.ClearAdvance p due order old =
-    let r = old.receives in
+    let r = old.bulk in
     record {
-      receives = record { endpoints = r.endpoints; gets = r.gets; command = r.command; mends = r.mends; unlinks = r.unlinks; removals = r.removals; waiting = r.waiting; rung = refl; cleared = both_empty p.driver.cleared p.driver.rung r.cleared r.rung };
+      bulk = record { endpoints = r.endpoints; moves = moves_same p.driver _ (descs_same p.driver.endpoints) r.moves; command = r.command; mends = r.mends; unlinks = r.unlinks; removals = r.removals; waiting = r.waiting; rung = refl; cleared = both_empty p.driver.cleared p.driver.rung r.cleared r.rung };
       chained = old.chained;
       turns = record { places = old.turns.places; turns = old.turns.turns };
     }
 due_turns rows.RingBell p due order old =
-    let r = old.receives in
+    let r = old.bulk in
     record {
-      receives = record { endpoints = r.endpoints; gets = r.gets; command = r.command; mends = r.mends; unlinks = r.unlinks; removals = r.removals; waiting = refl; rung = both_empty p.driver.rung p.driver.waiting r.rung r.waiting; cleared = r.cleared };
+      bulk = record { endpoints = r.endpoints; moves = moves_same p.driver _ (descs_same p.driver.endpoints) r.moves; command = r.command; mends = r.mends; unlinks = r.unlinks; removals = r.removals; waiting = refl; rung = both_empty p.driver.rung p.driver.waiting r.rung r.waiting; cleared = r.cleared };
       chained = old.chained;
       turns = record { places = old.turns.places; turns = old.turns.turns };
     }
 due_turns (rows.ReadStatus heard) p due order old =
-    let r = old.receives in
+    let r = old.bulk in
     record {
-      receives = record { endpoints = r.endpoints; gets = r.gets; command = r.command; mends = r.mends; unlinks = r.unlinks; removals = r.removals; waiting = r.waiting; rung = r.rung; cleared = r.cleared };
+      bulk = record { endpoints = r.endpoints; moves = moves_same p.driver _ (descs_same p.driver.endpoints) r.moves; command = r.command; mends = r.mends; unlinks = r.unlinks; removals = r.removals; waiting = r.waiting; rung = r.rung; cleared = r.cleared };
       chained = old.chained;
       turns = record { places = old.turns.places; turns = old.turns.turns };
     }
 due_turns (rows.ReadFrame n) p due order old =
-    let r = old.receives in
+    let r = old.bulk in
     record {
-      receives = record { endpoints = r.endpoints; gets = r.gets; command = r.command; mends = r.mends; unlinks = r.unlinks; removals = ap (read_again n) r.removals; waiting = r.waiting; rung = r.rung; cleared = r.cleared };
+      bulk = record { endpoints = r.endpoints; moves = moves_same p.driver _ (descs_same p.driver.endpoints) r.moves; command = r.command; mends = r.mends; unlinks = r.unlinks; removals = ap (read_again n) r.removals; waiting = r.waiting; rung = r.rung; cleared = r.cleared };
       chained = old.chained;
       turns = record { places = old.turns.places; turns = old.turns.turns };
     }
@@ -177,9 +171,9 @@ event_turns p owners old = due_turns (driver_row p) p (each_is_due p) owners.ord
 
 pub new_turns : (n : ℕ) (room : Reserve) → TakesTurns (opening n room).driver
 new_turns n room = record {
-  receives = record {
+  bulk = record {
     endpoints = λ e x here. absurd (cc);
-    gets = λ t y here. absurd (cc);
+    moves = λ t y here. absurd (cc);
     command = tt;
     mends = refl;
     unlinks = refl;

@@ -15,7 +15,7 @@ use Rattle.qh_qtd.specs.declared.token.Token.{Token}
 use Rattle.driver_rows.specs.declared.content.Endpoint.{Endpoint}
 use Rattle.driver_rows.specs.declared.content.Transfer.{Transfer}
 use Rattle.driver_rows.specs.declared.content.QtdNote.{QtdNote}
-use Rattle.driver_rows.specs.declared.content.Sort.TheVariants as sorts
+use Rattle.driver_rows.specs.declared.content.Sort.{Sort}
 use Rattle.driver_rows.specs.declared.rows.Found.{Found}
 use Rattle.driver_rows.specs.declared.rows.Found.TheVariants as founds
 use Rattle.driver_rows.specs.DriverContent.{DriverContent, waits_for, next_after}
@@ -40,7 +40,7 @@ piece_next note b (suc i) = piece_next note (note b).next i
 pub note_same : (notes : List QtdNote) (b n c : ℕ) → note_in (noted notes b n) c ≡ note_in notes c
 note_same notes b n c = same_item runs_of_note notes b (record (note_at notes b) { moved = n }) _ refl c
 
--- ---- what was found of a get
+-- ---- what was found of a get or a put
 
 moved_by : (a h e : Bool) (n k : ℕ) (what : What) → cond a founds.Active (cond h (founds.Ended n what) (done_of e n)) ≡ founds.Moved k → e ≡ false
 moved_by true h e n k what f = absurd (cc)
@@ -48,11 +48,11 @@ moved_by false true e n k what f = absurd (cc)
 moved_by false false true n k what f = absurd (cc)
 moved_by false false false n k what f = refl
 
-pub moved_more : (left : ℕ) (note : QtdNote) (t : Token) (k : ℕ) → found_in sorts.Get (nat_le left 1) note t ≡ founds.Moved k → 2 ≤ left
-moved_more left note t k f = by (nat_le left 1) refl (moved_by t.active t.halted (ends_by sorts.Get (nat_le left 1) t.total) (moved_of note.told t.total) k (halt_of t) f)
+pub moved_more : (sort : Sort) (left : ℕ) (note : QtdNote) (t : Token) (k : ℕ) → found_in sort (nat_le left 1) note t ≡ founds.Moved k → 2 ≤ left
+moved_more sort left note t k f = by (nat_le left 1) refl (moved_by t.active t.halted (ends_by sort (nat_le left 1) t.total) (moved_of note.told t.total) k (halt_of t) f)
   where
-    by : (b : Bool) → nat_le left 1 ≡ b → ends_by sorts.Get (nat_le left 1) t.total ≡ false → 2 ≤ left
-    by true is off = absurd (false≢true (sym off ∙ ap (λ (l : Bool). ends_by sorts.Get l t.total) is))
+    by : (b : Bool) → nat_le left 1 ≡ b → ends_by sort (nat_le left 1) t.total ≡ false → 2 ≤ left
+    by true is off = absurd (false≢true (sym off ∙ ap (λ (l : Bool). ends_by sort l t.total) is))
     by false is off = grind (arith, nat_tests)
 
 served_by : (a h e : Bool) (n k : ℕ) (what : What) → cond a founds.Active (cond h (founds.Ended n what) (done_of e n)) ≡ founds.Served k → ⊥
@@ -61,8 +61,8 @@ served_by false true e n k what f = cc
 served_by false false true n k what f = cc
 served_by false false false n k what f = cc
 
-pub not_served : (last : Bool) (note : QtdNote) (t : Token) (found : Found) → found ≡ found_in sorts.Get last note t → (n : ℕ) → found ≢ founds.Served n
-not_served last note t found is n served = served_by t.active t.halted (ends_by sorts.Get last t.total) (moved_of note.told t.total) n (halt_of t) (sym is ∙ served)
+pub not_served : (sort : Sort) (last : Bool) (note : QtdNote) (t : Token) (found : Found) → found ≡ found_in sort last note t → (n : ℕ) → found ≢ founds.Served n
+not_served sort last note t found is n served = served_by t.active t.halted (ends_by sort last t.total) (moved_of note.told t.total) n (halt_of t) (sym is ∙ served)
 
 -- an endpoint of this kind doesn't go on after a stall
 pub no_stall : (k : EpKind) (what : What) → k ≡ kinds.Bulk → end_of k what ≡ None → is_stall what ≡ false
@@ -177,11 +177,11 @@ module _ (d : DriverContent) (m : Mem) (e t : ℕ) (x : Endpoint) (y : Transfer)
       by true off = absurd (false≢true (sym off))
       by false off = record { places = told_places n; turns = done }
 
-  read_as : (found : Found) → found ≡ found_in sorts.Get (nat_le y.left 1) (note_at d.notes y.place) (token_in m y.place) → AreInTurn (served (harvested_as d m e t x y found) e)
+  read_as : (found : Found) → found ≡ found_in y.sort (nat_le y.left 1) (note_at d.notes y.place) (token_in m y.place) → AreInTurn (served (harvested_as d m e t x y found) e)
   read_as founds.Active is = record { places = old.places; turns = old.turns }
   read_as (founds.Moved n) is =
       let z : Transfer = record y { place = (note_at d.notes y.place).next; left = y.left - 1 } in
-      let more = moved_more y.left (note_at d.notes y.place) (token_in m y.place) n (sym is) in
+      let more = moved_more y.sort y.left (note_at d.notes y.place) (token_in m y.place) n (sym is) in
       record {
         places = places_same (note_in d.notes) (note_in (noted d.notes y.place n)) (set d.transfers t z) (note_same d.notes y.place n)
             (places_set (note_in d.notes) d.transfers t y z there (λ h. place_at (note_in d.notes) y (old.places t y there held) n (note_at d.notes y.place).next more refl) old.places);
@@ -190,8 +190,8 @@ module _ (d : DriverContent) (m : Mem) (e t : ℕ) (x : Endpoint) (y : Transfer)
     where
       same_turn : (z : Transfer) → turn_of z ≡ turn_of y → (i : ℕ) → turn_in (set d.transfers t z) i ≡ turn_in d.transfers i
       same_turn z is i = same_view turn_of d.transfers t y z there is i
-  read_as (founds.Served errors) is = absurd (served_by (token_in m y.place).active (token_in m y.place).halted (ends_by sorts.Get (nat_le y.left 1) (token_in m y.place).total) (moved_of (note_at d.notes y.place).told (token_in m y.place).total) errors (halt_of (token_in m y.place)) (sym is))
+  read_as (founds.Served errors) is = absurd (served_by (token_in m y.place).active (token_in m y.place).halted (ends_by y.sort (nat_le y.left 1) (token_in m y.place).total) (moved_of (note_at d.notes y.place).told (token_in m y.place).total) errors (halt_of (token_in m y.place)) (sym is))
   read_as (founds.Ended n what) is = let k = ends_as n what (end_of x.desc.kind what) refl in record { places = k.places; turns = k.turns }
 
-  pub harvest_turns : (found : Found) → found ≡ found_in sorts.Get (nat_le y.left 1) (note_at d.notes y.place) (token_in m y.place) → AreInTurn (after_harvest d m e t found (Some x) (Some y))
+  pub harvest_turns : (found : Found) → found ≡ found_in y.sort (nat_le y.left 1) (note_at d.notes y.place) (token_in m y.place) → AreInTurn (after_harvest d m e t found (Some x) (Some y))
   harvest_turns found is = subst (λ (b : Bool). AreInTurn (cond b (served (harvested_as d m e t x y found) e) d)) (sym waits) (read_as found is)

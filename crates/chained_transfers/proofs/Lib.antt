@@ -1,3 +1,5 @@
+pub mod Ways
+pub mod Moves
 pub mod Chained
 pub mod Turning
 pub mod Reporting

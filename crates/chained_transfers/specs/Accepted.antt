@@ -1,27 +1,31 @@
--- What a command of a script that only receives becomes where it is accepted (EHCI 1.0, 4.8 and 4.10): an endpoint more, or a get of an endpoint.
---     get_of len by          what a get asks for
---     IsOpened, IsAsked      the one and the other
-use Rattle.std.specs.Prelude.{◌≡◌, ℕ, ◌⊎◌, []}
+-- What a command of a script of bulk endpoints becomes where it is accepted (EHCI 1.0, 4.8 and 4.10): an endpoint more, or a get or put of an endpoint.
+--     move_of way most by bytes      what a get of so many bytes asks for, or a put of these bytes, in qTDs of `by` bytes
+--     IsOpened, IsAsked              the one and the other
+use Rattle.std.specs.Prelude.{◌≡◌, ℕ, ◌⊎◌, List, length, map}
+use Rattle.usb_base.specs.declared.packets.Way.{Way}
+use Rattle.usb_base.specs.declared.packets.Way.TheVariants as ways
 use Rattle.word_mem.specs.Memory.{Mem}
-use Rattle.driver_rows.specs.declared.content.Sort.TheVariants as sorts
 use Rattle.driver_rows.specs.DriverContent.{DriverContent}
-use Rattle.driver_rows.specs.Words.{get_stages}
+use Rattle.driver_rows.specs.Words.{cut}
 use Rattle.driver_rows.specs.Offers.{Offered, Asked}
 use Rattle.run_owners.specs.Accepts.{Opens, Transfers}
-use Rattle.chained_transfers.specs.Receives.{IsReceiving}
+use Rattle.chained_transfers.specs.Bulk.{IsBulk, sort_by, stage_by}
 
-abbrev pub get_of : ℕ → ℕ → Asked
-get_of len by = record { sort = sorts.Get; stages = get_stages len by; most = len; bytes = [] }
+abbrev pub move_of : Way → ℕ → ℕ → List ℕ → Asked
+move_of way most by bytes = record { sort = sort_by way; stages = map (stage_by way) (cut most by); most = most; bytes = bytes }
 
 pub record IsOpened (d : DriverContent) (m : Mem) (o : Offered) : Type 0 where
   pub opens : Opens d m o
-  pub receives : IsReceiving opens.desc
+  pub bulk : IsBulk opens.desc
 
 pub record IsAsked (d : DriverContent) (m : Mem) (o : Offered) : Type 0 where
-  pub length : ℕ
+  pub most : ℕ
   pub by : ℕ
+  pub bytes : List ℕ
   pub transfers : Transfers d m o
-  pub asked : transfers.asked ≡ get_of length by
+  pub asked : transfers.asked ≡ move_of transfers.endpoint.desc.name.way most by bytes
+  -- all bytes of a put are to be moved
+  pub whole : transfers.endpoint.desc.name.way ≡ ways.Out → length bytes ≡ most
 
-abbrev pub IsReceived : DriverContent → Mem → Offered → Type 0
-IsReceived d m o = IsOpened d m o ⊎ IsAsked d m o
+abbrev pub IsAccepted : DriverContent → Mem → Offered → Type 0
+IsAccepted d m o = IsOpened d m o ⊎ IsAsked d m o

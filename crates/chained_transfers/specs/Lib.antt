@@ -1,3 +1,4 @@
+pub mod Bulk
 pub mod Receives
 pub mod Chains
 pub mod Turns

@@ -1,6 +1,10 @@
 //! Worked rows of the definitions, which the check computes.
-ghost use Rattle.std.specs.Prelude.{◌≡◌, true, [], ◌∷◌, Some, None};
+ghost use Rattle.std.specs.Prelude.{◌≡◌, true, false, [], ◌∷◌, Some, None};
+ghost use Rattle.usb_base.specs.declared.packets.Way.TheVariants as ways;
 ghost use Rattle.driver_rows.specs.declared.content.Command.TheVariants as unfinished;
+ghost use Rattle.driver_rows.specs.Words.{get_stages, put_stages};
+ghost use Rattle.chained_transfers.specs.Bulk.{receives, pid_by};
+ghost use Rattle.chained_transfers.specs.Accepted.{move_of};
 ghost use Rattle.chained_transfers.specs.Chains.{piece_at};
 ghost use Rattle.chained_transfers.specs.Out.{pieces_from, unpublished, out_of};
 ghost use Rattle.chained_transfers.specs.Worked.{notes, ended_early, under_way};
@@ -19,4 +23,14 @@ pub fn published()
     ensures others { out_of notes 1 None 0 (ended_early ∷ under_way ∷ []) ≡ [] }
     ensures taken { out_of notes 0 (Some (unfinished.Publish 141 [])) 0 (record under_way { place = 141; left = 2 } ∷ []) ≡ [] }
     ensures lent { out_of notes 0 (Some (unfinished.Publish 141 [])) 1 (record under_way { place = 141; left = 2 } ∷ []) ≡ 4544 ∷ [] }
+{}
+
+/// A get of 1,500 bytes asks for what comes to the host, in two qTDs; a put of three bytes sends them in one.
+pub fn ways_of_data()
+    ensures get { (move_of ways.In 1500 1024 []).stages ≡ get_stages 1500 1024 }
+    ensures put { (move_of ways.Out 3 512 (7 ∷ 8 ∷ 9 ∷ [])).stages ≡ put_stages 3 512 }
+    ensures comes { receives ways.In ≡ true }
+    ensures goes { receives ways.Out ≡ false }
+    ensures pid_in { pid_by ways.In ≡ 1 }
+    ensures pid_out { pid_by ways.Out ≡ 0 }
 {}

@@ -18,7 +18,7 @@ use Rattle.driver_accepts.proofs.Opens.{open_one_more}
 use Rattle.driver_accepts.proofs.Transfers.{moved_end, one_transfer, OneTransfer}
 use Rattle.driver_accepts.proofs.Noted.{transfer_one}
 use Rattle.driver_releases.specs.Extents.{AreInRuns}
-use Rattle.commanded_queues.specs.Accepted.{ExtentsOpen, ExtentsGet}
+use Rattle.commanded_queues.specs.Accepted.{ExtentsOpen, ExtentsAsked}
 
 -- ---- where each lent buffer was one before
 
@@ -92,7 +92,7 @@ open_extents d m o parts opened stands owners driven lies =
       queue = refl;
     }) (subst (λ (f : Offered). IsDriven (views_of f.driver) (sorts_of parts)) is driven) lies)
 
--- ---- a get
+-- ---- a get or a put
 
 -- one of a transfer's qTDs was one before, and its note stays
 record WasPiece (note other : ℕ → NoteRuns) (b n c : ℕ) : Type 0 where
@@ -147,8 +147,8 @@ module _ (v w : Views) (owner : ℕ → Owner) (number : ℕ) (x : EndpointRuns)
       (λ (new : (t ≡ count) × (y ≡ one_transfer number x.dummy n)). absurd (new_not_lent b c cs (subst (λ (r : TransferRuns). IsPieceOf w.note r.first r.qtds b) new.1 piece) first lent))
       (one.transfers t y is.here)
 
-pub get_extents : ExtentsGet
-get_extents d m o parts asked stands owners driven lies =
+pub asked_extents : ExtentsAsked
+asked_extents d m o parts asked stands owners driven lies =
     let why = asked.transfers in
     let g = why.holding_after in
     let a = why.asked in

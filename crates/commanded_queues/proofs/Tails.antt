@@ -31,7 +31,7 @@ use Rattle.released_queues.specs.Fronts.{piece_address}
 use Rattle.standing_fronts.specs.Along.{WasOwed}
 use Rattle.standing_fronts.specs.Reaching.{Reaches}
 use Rattle.standing_fronts.proofs.Lists.{times_some}
-use Rattle.commanded_queues.specs.Accepted.{ReachEnds, ReachesOpen, ReachesGet}
+use Rattle.commanded_queues.specs.Accepted.{ReachEnds, ReachesOpen, ReachesAsked}
 
 -- ---- contents that tell alike what is to be given back
 
@@ -91,7 +91,7 @@ open_reaches d m o parts order out why ends e x here met =
     (λ (is : (e ≡ length d.endpoints) × (x ≡ new)). absurd (met (ap (λ (p : Offered). p.driver.command) w.is ∙ ap (λ (y : Endpoint). Some (unfinished.Open y.queue)) (sym is.1))))
     (push_which d.endpoints new e x (ap (λ (p : Offered). slice_get p.driver.endpoints e) (sym w.is) ∙ here))
 
--- ---- a get
+-- ---- a get or a put
 
 -- what is to be given back is a transfer that there was
 none_owed : (d : DriverContent) (h u : ℕ) → HasOwners d → slice_get d.harvested h ≡ Some u → u ≢ length d.transfers
@@ -121,9 +121,9 @@ module _ (d : DriverContent) (owners : HasOwners d) (e : ℕ) (x : Endpoint) (a 
       (λ (new : (u ≡ length d.transfers) × (z ≡ new_transfer e a x.dummy)). absurd (none_owed d i u owners at new.0))
       (push_which d.transfers (new_transfer e a x.dummy) u z there)
 
-  get_reaches_in : (parts : StructureSets) (order : ℕ → ℕ → ℕ) (out : ℕ → List ℕ) → ReachEnds d parts order out → (i : ℕ) (z : Endpoint) → slice_get f.endpoints i ≡ Some z
+  taken_reaches_in : (parts : StructureSets) (order : ℕ → ℕ → ℕ) (out : ℕ → List ℕ) → ReachEnds d parts order out → (i : ℕ) (z : Endpoint) → slice_get f.endpoints i ≡ Some z
       → Reaches f (parts (32 * z.queue)) (order (32 * z.queue)) (out (32 * z.queue)) i z (32 * (if e == i then x.dummy else z.dummy))
-  get_reaches_in parts order out ends i z here =
+  taken_reaches_in parts order out ends i z here =
       ⊎_elim
       (λ (own : (i ≡ e) × (z ≡ with_queued x dummy (length d.transfers))).
       let at : slice_get d.endpoints i ≡ Some x = ap (slice_get d.endpoints) own.0 ∙ k.here in
@@ -149,11 +149,11 @@ end_not_lent d m o why stands lent =
     let last : get_or (take n (new_runs d g)) (n - 1) 0 ≡ get_or bs (n - 1) 0 = ap (λ (rs : List ℕ). get_or (take n rs) (n - 1) 0) new ∙ get_or-take n bs (n - 1) 0 (omega (arith, some)) in
     new_not_lent (n - 1) why.runs all.are (omega (arith, long, some)) (subst (λ (c : ℕ). IsLent (slot_of g.book.slots c)) last lent)
 
-pub get_reaches : ReachesGet
-get_reaches d m o parts order out why stands owners lent receives ends e x here =
+pub asked_reaches : ReachesAsked
+asked_reaches d m o parts order out why stands owners lent bulk ends e x here =
     let w = why.transfers in
     let rs = new_runs d w.holding_after in
     let n = length w.asked.stages in
-    let k = taken_on d m o w stands owners lent receives (end_not_lent d m o w stands) in
+    let k = taken_on d m o w stands owners lent bulk (end_not_lent d m o w stands) in
     subst (λ (g : Offered). Reaches g.driver (parts (32 * x.queue)) (order (32 * x.queue)) (out (32 * x.queue)) e x (32 * (if w.number == e then w.endpoint.dummy else x.dummy))) (sym w.is)
-    (get_reaches_in d owners w.number w.endpoint w.asked w.holding_after (dummy_in n rs) (notes_in d w.asked w.endpoint rs) k parts order out ends e x (ap (λ (g : Offered). slice_get g.driver.endpoints e) (sym w.is) ∙ here))
+    (taken_reaches_in d owners w.number w.endpoint w.asked w.holding_after (dummy_in n rs) (notes_in d w.asked w.endpoint rs) k parts order out ends e x (ap (λ (g : Offered). slice_get g.driver.endpoints e) (sym w.is) ∙ here))

@@ -22,7 +22,7 @@ use Rattle.driver_rows.specs.DriverContent.{DriverContent, endpoint_of, endpoint
 use Rattle.driver_rows.specs.Rows.{is_iso}
 use Rattle.driver_rows.specs.Words.{needs, get_stages, put_stages, request_length, request_stages}
 use Rattle.driver_rows.specs.Offers.{Offered, Asked, take_runs, taken_open, planned_open, offered_open, taken_transfer, open_transfer, found_transfer, takes_get, takes_put, takes_control, slots_of, spans_too_long, has_slots, iso_needs, taken_iso, open_iso, offered_iso, offered_next}
-use Rattle.chained_transfers.specs.Receives.{OpensReceiving}
+use Rattle.chained_transfers.specs.Bulk.{OpensBulk}
 use Rattle.chained_transfers.specs.Accepted.{IsOpened}
 use Rattle.chained_transfers.proofs.Chained.{pushed_last}
 use Rattle.commanded_queues.specs.Accepted.{OpensItsOwn}
@@ -129,7 +129,7 @@ module _ (d : DriverContent) (m : Mem) (o : Offered) where
     described : newest o ≡ Some why.opens.desc
     described = ap newest why.opens.is ∙ ap (option_map desc_of) (pushed_last d.endpoints _)
 
-    next_is : (cmd : Cmd) → OpensReceiving cmd → offered_next d m cmd ≡ Ok o → cmd ≡ commands.OpenEp why.opens.desc
+    next_is : (cmd : Cmd) → OpensBulk cmd → offered_next d m cmd ≡ Ok o → cmd ≡ commands.OpenEp why.opens.desc
     next_is (commands.OpenEp x) is f = ap commands.OpenEp (same_Some x why.opens.desc (sym (open_found x (endpoint_named d x.name) (ap is_periodic is.kind) f) ∙ described))
     next_is (commands.Get name len by) is f =
         absurd (not_so (found takes_get (record { sort = sorts.Get; stages = get_stages len by; most = len; bytes = [] }) (unwrap_or (endpoint_of d name) 0) (endpoint_named d name) f))
@@ -140,7 +140,7 @@ module _ (d : DriverContent) (m : Mem) (o : Offered) where
     next_is (commands.Iso name count len seed) is f = absurd (not_so (iso_found (unwrap_or (endpoint_of d name) 0) count len seed (endpoint_named d name) f))
     next_is (commands.Cancel name) is f = absurd is
 
-    offered_is : (cmd : Cmd) (c : Option Command) → OpensReceiving cmd → cond (is_some c) (Err errors.Busy) (offered_next d m cmd) ≡ Ok o → cmd ≡ commands.OpenEp why.opens.desc
+    offered_is : (cmd : Cmd) (c : Option Command) → OpensBulk cmd → cond (is_some c) (Err errors.Busy) (offered_next d m cmd) ≡ Ok o → cmd ≡ commands.OpenEp why.opens.desc
     offered_is cmd (Some c) is f = absurd (cc)
     offered_is cmd None is f = next_is cmd is f
 

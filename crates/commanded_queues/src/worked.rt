@@ -2,12 +2,14 @@
 ghost use Rattle.qh_qtd.specs.QueueHead.{IsQhInRange};
 ghost use Rattle.driver_rows.specs.Words.{queue_head};
 ghost use Rattle.walk_members.specs.Reached.{IsNumbered};
-ghost use Rattle.chained_transfers.specs.Receives.{IsReceiving};
-ghost use Rattle.commanded_queues.specs.Samples.{highest};
+ghost use Rattle.chained_transfers.specs.Bulk.{IsBulk};
+ghost use Rattle.commanded_queues.specs.Samples.{highest, highest_out};
 
-/// An endpoint of the highest address and number, whose queue head leads to the head of the ring, in block 128, and to the inactive qTD in block 143.
+/// An endpoint of the highest address and number, of either way, whose queue head leads to the head of the ring, in block 128, and to the inactive qTD in block 143.
 pub fn a_new_head()
-    ensures receives { IsReceiving highest }
+    ensures bulk { IsBulk highest }
+    ensures out { IsBulk highest_out }
     ensures numbered { IsNumbered highest }
     ensures range { IsQhInRange (queue_head highest 128 143) }
+    ensures out_range { IsQhInRange (queue_head highest_out 128 143) }
 {}

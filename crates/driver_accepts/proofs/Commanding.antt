@@ -22,13 +22,13 @@ use Rattle.ring_walk.specs.Hand.{Hand}
 use Rattle.ring_walk.specs.Ring.{Base, IsRing}
 use Rattle.ring_stores.proofs.Driving.{ring_retold}
 use Rattle.driver_parts.specs.Inventory.{sorts_of, IsDriven}
-use Rattle.driver_parts.specs.Laws.{AreIn}
 use Rattle.driver_parts.specs.Driven.{DrivesRing}
-use Rattle.driver_parts.proofs.Offered.{opens_leave, gets_leave}
+use Rattle.driver_parts.proofs.Offered.{opens_leave}
 use Rattle.driver_parts.proofs.Viewing.{driven_views}
 use Rattle.driver_accepts.proofs.Opens.{open_one_more, driven_more, cancel_views}
 use Rattle.driver_accepts.proofs.Transfers.{driven_transfer}
 use Rattle.driver_accepts.proofs.Noted.{transfer_one}
+use Rattle.driver_accepts.proofs.Sending.{transfer_leaves}
 
 -- a ring stays one where what was Lent stays
 pub ring_leaves : (base : Base) (member : ℕ → Bool) (parts : StructureSets) (hand : Hand) (w : Walk) (r : RegisterFile) (m after : Mem) → IsRing base member parts hand (place w r m) → Leaves m after → IsRing base member parts hand (place w r after)
@@ -49,8 +49,8 @@ open_drives base member parts hand w r m d o why has stands k =
           (open_one_more d m why.desc g bs has why.runs all.are) k.driven);
     }
 
-pub receiving_drives : (base : Base) (member : ℕ → Bool) (parts : StructureSets) (hand : Hand) (w : Walk) (r : RegisterFile) (m : Mem) (d : DriverContent) (o : Offered) → (t : Transfers d m o) → AreIn t.asked.stages → HasOwners d → Stands (holding d.book m) → DrivesRing base member parts hand (place w r m) d → DrivesRing base member parts hand (place w r o.memory) o.driver
-receiving_drives base member parts hand w r m d o why all_in has stands k =
+pub transfer_drives : (base : Base) (member : ℕ → Bool) (parts : StructureSets) (hand : Hand) (w : Walk) (r : RegisterFile) (m : Mem) (d : DriverContent) (o : Offered) → Transfers d m o → HasOwners d → Stands (holding d.book m) → DrivesRing base member parts hand (place w r m) d → DrivesRing base member parts hand (place w r o.memory) o.driver
+transfer_drives base member parts hand w r m d o why has stands k =
     let g = why.holding_after in
     let n = length why.asked.stages in
     let x = why.endpoint in
@@ -63,7 +63,7 @@ receiving_drives base member parts hand w r m d o why all_in has stands k =
     let is : o ≡ accepted_transfer d why.number x why.asked g dummy notes =
     why.is ∙ ap (λ (rs : List ℕ). accepted_transfer d why.number x why.asked g (get_or (take n rs) (n - 1) 0) (note_stages d.notes why.asked.stages x.dummy (take n rs) (drop n rs))) new in
     record {
-      ring = ring_leaves base member parts hand w r m o.memory k.ring (gets_leave d m o why all_in has stands k.ring.tells.shape);
+      ring = ring_leaves base member parts hand w r m o.memory k.ring (transfer_leaves d m o why has stands k.ring.tells.shape);
       driven = subst (λ (f : Offered). IsDriven (views_of f.driver) (sorts_of parts)) (sym is)
           (driven_transfer (views_of d) (views_of (accepted_transfer d why.number x why.asked g dummy notes).driver) has.owner why.number (runs_of_endpoint x) dummy (length d.transfers) n (sorts_of parts)
           (transfer_one d m why.number x why.asked g bs has why.runs all.are why.some why.here alive why.sort) k.driven);

@@ -13,7 +13,6 @@ use Rattle.run_owners.specs.Kept.{HasOwners}
 use Rattle.lent_structures.specs.Structures.{StructureSets}
 use Rattle.ring_walk.specs.Hand.{Hand}
 use Rattle.ring_walk.specs.Ring.{Base}
-use Rattle.driver_parts.specs.Laws.{AreIn}
 use Rattle.driver_parts.specs.Driven.{DrivesRing}
 
 -- an endpoint of the ring is opened
@@ -22,10 +21,10 @@ OpenDrives = (base : Base) (member : ℕ → Bool) (parts : StructureSets) (hand
     → Opens d m o → HasOwners d → Stands (holding d.book m) → DrivesRing base member parts hand (place w r m) d
     → DrivesRing base member parts hand (place w r o.memory) o.driver
 
--- a transfer comes of which each qTD is an IN
-abbrev pub ReceivingDrives : Type 0
-ReceivingDrives = (base : Base) (member : ℕ → Bool) (parts : StructureSets) (hand : Hand) (w : Walk) (r : RegisterFile) (m : Mem) (d : DriverContent) (o : Offered)
-    → (t : Transfers d m o) → AreIn t.asked.stages → HasOwners d → Stands (holding d.book m) → DrivesRing base member parts hand (place w r m) d
+-- a transfer comes; what it sends is written in buffers of its own
+abbrev pub TransferDrives : Type 0
+TransferDrives = (base : Base) (member : ℕ → Bool) (parts : StructureSets) (hand : Hand) (w : Walk) (r : RegisterFile) (m : Mem) (d : DriverContent) (o : Offered)
+    → Transfers d m o → HasOwners d → Stands (holding d.book m) → DrivesRing base member parts hand (place w r m) d
     → DrivesRing base member parts hand (place w r o.memory) o.driver
 
 -- an endpoint of the ring is cancelled

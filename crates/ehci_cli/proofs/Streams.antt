@@ -3,18 +3,21 @@ use Rattle.std.proofs.Common.{◌≡◌, ℕ, ◌+◌, ◌*◌, List, Option, So
 use Rattle.std.specs.Prelude.{IfSome}
 use Rattle.script_types.specs.declared.scripts.Script.{Script}
 use Rattle.script_text.specs.Faults.{Spells}
-use Rattle.report_streams.specs.Streams.{AreRightStreams}
 use Rattle.right_reports.specs.WorldReport.{report_of}
+use Rattle.right_reports.specs.Ins.{AreRightInStreams}
+use Rattle.report_streams.specs.Reports.{WholeReport}
+use Rattle.taken_reports.specs.Taken.{AreTakenStreams}
 use Rattle.right_reports.proofs.Printed.{report_printed}
+use Rattle.right_reports.proofs.Ins.{ins_are_all}
 use Rattle.usb_bus.specs.Bus.{fixed_of}
 use Rattle.bus_world.specs.World.{World, Standing}
 use Rattle.bus_world.specs.Opening.{opening_world}
 use Rattle.bus_world.specs.Orders.{OrderedWorld, Microframes, at_place, orders_of, ticks, IsRun}
 use Rattle.bus_world.specs.Budgets.{moment}
 use Rattle.bus_world.proofs.Ticks.{ticks_more}
-use Rattle.chained_transfers.specs.Receives.{ReceivesOnly}
-use Rattle.whole_worlds.specs.Moments.{StreamsAreRightThroughout}
-use Rattle.whole_worlds.proofs.Running.{texts_right}
+use Rattle.chained_transfers.specs.Bulk.{BulkOnly}
+use Rattle.whole_worlds.specs.Moments.{InStreamsAreRightThroughout, OutStreamsAreTakenThroughout}
+use Rattle.whole_worlds.proofs.Running.{texts_right, texts_taken}
 use Rattle.whole_worlds.proofs.PlacedRunning.{texts_run_in_place}
 use Rattle.whole_worlds.proofs.Counting.{never_refused}
 use Rattle.program_ends.specs.Input.{input_of}
@@ -36,18 +39,27 @@ ends_at s w (inr over) = record {
       ∙ over.unended.still);
 }
 
-right_at : (s : Script) → StreamsAreRightThroughout s → (w : Standing) → IsRunOf s w → AreRightStreams s (report_of w.fixed w.world)
-right_at s right w ran =
-    let at = ends_at s w.world (subst (λ f. IsRun f (opening_world s) (orders_of s.lines) w.world) refl ran.ran) in
-    subst (λ f. AreRightStreams s (report_of f w.world)) (sym ran.fixed) (subst (λ v. AreRightStreams s (report_of (fixed_of s) v)) at.is (right at.at))
+-- what is so of the report of each moment is so of that of the run
+module _ (so : WholeReport → Type 0) where
+  at_end : (s : Script) → ((k : ℕ) → so (report_of (fixed_of s) (moment s k).world)) → (w : Standing) → IsRunOf s w → so (report_of w.fixed w.world)
+  at_end s each w ran =
+      let at = ends_at s w.world (subst (λ f. IsRun f (opening_world s) (orders_of s.lines) w.world) refl ran.ran) in
+      subst (λ f. so (report_of f w.world)) (sym ran.fixed) (subst (λ v. so (report_of (fixed_of s) v)) at.is (each at.at))
 
-keeps : (s : Script) → StreamsAreRightThroughout s → KeepsStreams s
-keeps s right = record { throughout = right; ended = right_at s right; printed = λ w. report_printed w.fixed w.world }
+keeps : (s : Script) → InStreamsAreRightThroughout s → OutStreamsAreTakenThroughout s → KeepsStreams s
+keeps s right taken = record {
+  throughout = right;
+  ended = at_end (AreRightInStreams s) s right;
+  taken = taken;
+  taken_ended = at_end (AreTakenStreams s) s taken;
+  all = λ only w ran. ins_are_all s (report_of w.fixed w.world) only (at_end (AreRightInStreams s) s right w ran);
+  printed = λ w. report_printed w.fixed w.world;
+}
 
-pub source_keeps_streams : (left : Option (List ℕ)) → IfSome left (λ xs. (s : Script) → Spells (input_of xs) s → ReceivesOnly s → KeepsStreams s)
+pub source_keeps_streams : (left : Option (List ℕ)) → IfSome left (λ xs. (s : Script) → Spells (input_of xs) s → BulkOnly s → KeepsStreams s)
 source_keeps_streams None = tt
-source_keeps_streams (Some xs) = λ s spelled only. keeps s (texts_right (input_of xs) s spelled only)
+source_keeps_streams (Some xs) = λ s spelled only. keeps s (texts_right (input_of xs) s spelled only) (texts_taken (input_of xs) s spelled only)
 
-pub source_keeps_places : (left : Option (List ℕ)) → IfSome left (λ xs. (s : Script) → Spells (input_of xs) s → ReceivesOnly s → KeepsPlaces s)
+pub source_keeps_places : (left : Option (List ℕ)) → IfSome left (λ xs. (s : Script) → Spells (input_of xs) s → BulkOnly s → KeepsPlaces s)
 source_keeps_places None = tt
 source_keeps_places (Some xs) = λ s spelled only. record { placed = texts_run_in_place (input_of xs) s spelled only; unrefused = never_refused (input_of xs) s spelled only }

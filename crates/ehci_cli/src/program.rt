@@ -2,7 +2,7 @@ ghost use Rattle.std.specs.Prelude.{◌≡◌, ◌≢◌, ℕ, ◌≤◌, ◌↔
 ghost use Rattle.script_types.specs.declared.scripts.Script.{Script};
 ghost use Rattle.script_text.specs.Faults.{Spells};
 ghost use Rattle.bus_world.specs.Budgets.{AdmitsThroughout};
-ghost use Rattle.chained_transfers.specs.Receives.{ReceivesOnly};
+ghost use Rattle.chained_transfers.specs.Bulk.{BulkOnly};
 ghost use Rattle.world_frames.specs.Scheduled.{KeepsScheduleThroughout};
 ghost use Rattle.worlds_keep_to_lent.specs.Written.{KeepsToLentThroughout};
 ghost use Rattle.program_ends.specs.Ends.{IsFault, IsWriteFault, WritesNothing};
@@ -38,9 +38,10 @@ use usb_base::{Sink, Source};
 /// reads and writes words of Lent blocks alone, and what the driver's next event gives back is Free afterwards; and each frame of the list has what is
 /// due in it: the queue heads of placed interrupt endpoints, each once, and of each isochronous endpoint at most one descriptor that waits.
 ///
-/// Where the script only receives (each open is of a high-speed bulk IN endpoint, and nothing is cancelled), the bytes that the report tells of each endpoint
-/// begin its stream, each once and in order, and nothing follows its end: after the run, and at each moment of it, whatever is lost, damaged or held. And at
-/// each moment nothing of the driver is out of place in memory, and the controller runs, meets no fault and is refused no word.
+/// Where the script opens high-speed bulk endpoints only and cancels nothing, the bytes that the report tells of each IN endpoint begin its stream, each once
+/// and in order, and nothing follows its end (where it opens no OUT endpoint these are all its streams), and those that it tells of each OUT endpoint begin what
+/// its device took: after the run, and at each moment of it, whatever is lost, damaged or held. And at each moment nothing of the driver is out of place in
+/// memory, and the controller runs, meets no fault and is refused no word.
 #[tactic(auto, using(crate::proofs::Admitted::source_admits, crate::proofs::Admitted::source_keeps_to_lent, crate::proofs::Admitted::source_keeps_schedule, crate::proofs::Streams::source_keeps_streams, crate::proofs::Streams::source_keeps_places))]
 pub fn ehci<S: Source, K: Sink>(
     alloc: Global,
@@ -56,8 +57,8 @@ pub fn ehci<S: Source, K: Sink>(
     ensures budgets { IfSome (S.left source.old) (λ xs. (s : Script) → Spells (input_of xs) s → AdmitsThroughout s) }
     ensures lent { IfSome (S.left source.old) (λ xs. (s : Script) → Spells (input_of xs) s → KeepsToLentThroughout s) }
     ensures schedule { IfSome (S.left source.old) (λ xs. (s : Script) → Spells (input_of xs) s → KeepsScheduleThroughout s) }
-    ensures streams { IfSome (S.left source.old) (λ xs. (s : Script) → Spells (input_of xs) s → ReceivesOnly s → KeepsStreams s) }
-    ensures placed { IfSome (S.left source.old) (λ xs. (s : Script) → Spells (input_of xs) s → ReceivesOnly s → KeepsPlaces s) }
+    ensures streams { IfSome (S.left source.old) (λ xs. (s : Script) → Spells (input_of xs) s → BulkOnly s → KeepsStreams s) }
+    ensures placed { IfSome (S.left source.old) (λ xs. (s : Script) → Spells (input_of xs) s → BulkOnly s → KeepsPlaces s) }
     ensures left { IfSome (S.left source.old) (λ xs. Leaves (map string_bytes words.now) result xs (S.left source.new)) }
     ensures nothing { WritesNothing result → sink.new ≡ sink.old }
     ensures read { IsFault result (S.faults source.old) (S.faults source.new) }

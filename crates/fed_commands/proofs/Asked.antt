@@ -1,4 +1,4 @@
--- An accepted get leaves what is fed, and its first qTD is the one that is to be published.
+-- An accepted get or put leaves what is fed, and its first qTD is the one that is to be published.
 use Rattle.std.proofs.Common.{◌≡◌, ◌≢◌, ℕ, zero, suc, ◌+◌, ◌-◌, ◌*◌, ◌<◌, ◌≤◌, Bool, true, false, not, ◌&&◌, ◌||◌, ◌==◌, cond, nat_eq, List, [], ◌∷◌, ◌++◌, length, set, take, drop, get_or, slice_get, Option, Some, None, option_map, ap, sym, subst, ◌∙◌, ⊎_elim, inl, inr, refl, arith}
 use Rattle.std.specs.Prelude.{◌⊎◌}
 use Rattle.std.proofs.lemmas.Bool.{cases_eq, false≢true}
@@ -30,7 +30,7 @@ use Rattle.lent_runs.specs.Lent.{begins_in, still_lends, AreLent}
 use Rattle.driver_rows.specs.Rows.{is_iso}
 use Rattle.lent_structures.specs.Structures.{Element as ElementAt, StructureSets}
 use Rattle.driver_parts.specs.Inventory.{IsLent}
-use Rattle.chained_transfers.specs.Receives.{Receives}
+use Rattle.chained_transfers.specs.Bulk.{receives, OnlyBulk}
 use Rattle.usb_base.specs.declared.endpoints.EpDesc.{EpDesc}
 use Rattle.driver_rows.specs.Words.{head_block, queue_head}
 use Rattle.ring_streams.specs.Told.{Endpoint as Told, endpoint_of}
@@ -95,10 +95,10 @@ dummy_in n rs = get_or (take n rs) (n - 1) 0
 abbrev pub notes_in : DriverContent → Asked → Endpoint → List ℕ → List QtdNote
 notes_in d a x rs = note_stages d.notes a.stages x.dummy (take (length a.stages) rs) (drop (length a.stages) rs)
 
-pub taken_on : (d : DriverContent) (m : Mem) (o : Offered) (why : Transfers d m o) → Stands (holding d.book m) → HasOwners d → AreLent d → Receives d
+pub taken_on : (d : DriverContent) (m : Mem) (o : Offered) (why : Transfers d m o) → Stands (holding d.book m) → HasOwners d → AreLent d → OnlyBulk d
     → (IsLent (slot_of why.holding_after.book.slots (dummy_in (length why.asked.stages) (new_runs d why.holding_after))) → ⊥)
     → IsTakenOn d (slot_of why.holding_after.book.slots) why.number why.endpoint why.asked (dummy_in (length why.asked.stages) (new_runs d why.holding_after)) (notes_in d why.asked why.endpoint (new_runs d why.holding_after))
-taken_on d m o why stands owners lent receives =
+taken_on d m o why stands owners lent bulk =
     let all = runs_taken (holding d.book m) why.holding_after (needs why.asked.stages) stands why.runs in
     let bs = all.blocks in
     let ss = why.asked.stages in
@@ -127,8 +127,8 @@ taken_on d m o why stands owners lent receives =
           (λ j less. ap runs_of_note (subst (λ (c : ℕ). note_at notes c ≡ note_at d.notes c) (sym (piece_more (note_in d.notes) y.first i j))
           (same _ t (piece_placed (slot_of d.book.slots) owners.owner (note_in d.notes) t y.first y.qtds (pieces t y there held) (i + j) (omega (arith, below, less))))));
       slots = λ i z there.
-          let s = receives.endpoints i z there in
-          all.are.old z.dummy (placed_run z.dummy (Dummy i) (owners.owned.each.dummy i (runs_of_endpoint z) (ap (option_map runs_of_endpoint) there) (ap (λ k. is_iso k || z.gone) s.receives.kind ∙ s.gone)));
+          let s = bulk.endpoints i z there in
+          all.are.old z.dummy (placed_run z.dummy (Dummy i) (owners.owned.each.dummy i (runs_of_endpoint z) (ap (option_map runs_of_endpoint) there) (ap (λ k. is_iso k || z.gone) s.bulk.kind ∙ s.gone)));
       first_lent = not_taken d x.dummy lent why.idle (placed_run x.dummy (Dummy e) was);
       kept = not;
     } in
@@ -232,13 +232,13 @@ record WasEnd (d : DriverContent) (i : ℕ) (z : Endpoint) : Type 0 where
   queue : z.queue ≡ endpoint.queue
   desc : z.desc ≡ endpoint.desc
 
-pub get_stands : (d : DriverContent) (e : ℕ) (x : Endpoint) (a : Asked) (h : Holding) (dummy : ℕ) (notes : List QtdNote) (member streams : ℕ → Bool) (ends : ℕ → Told) (parts : StructureSets) (order : ℕ → ℕ → ℕ) (out : ℕ → List ℕ)
+pub taken_stands : (d : DriverContent) (e : ℕ) (x : Endpoint) (a : Asked) (h : Holding) (dummy : ℕ) (notes : List QtdNote) (member streams : ℕ → Bool) (ends : ℕ → Told) (parts : StructureSets) (order : ℕ → ℕ → ℕ) (out : ℕ → List ℕ)
     → IsTakenOn d (slot_of h.book.slots) e x a dummy notes → AreAtPlaces (note_in d.notes) d.transfers
     → ((words : List ℕ) → (accepted_transfer d e x a h dummy notes).driver.command ≡ Some (unfinished.Publish x.dummy words) → parts (32 * x.queue) (32 * x.dummy) ≡ Some (ElementAt dummy_qtd) → IsPublished (accepted_transfer d e x a h dummy notes).driver parts x.dummy words)
     → QueuesStand d member streams ends parts order out
     → QueuesStand (accepted_transfer d e x a h dummy notes).driver member streams ends parts order out
 unfolding block_of
-get_stands d e x a h dummy notes member streams ends parts order out k places publishes old = record {
+taken_stands d e x a h dummy notes member streams ends parts order out k places publishes old = record {
   met = record {
     head = old.met.head;
     each = λ i z here met. let w = was i z here in subst (λ (q : ℕ). member (32 * q) ≡ true) (sym w.queue) (old.met.each i w.endpoint w.there (idle_met w.endpoint));
@@ -320,10 +320,10 @@ get_stands d e x a h dummy notes member streams ends parts order out k places pu
           at = one.at;
         }) (cases_eq one.number e)
 
-    stream_of : (i : ℕ) (z : Endpoint) → (w : WasEnd d i z) → (streams (32 * w.endpoint.queue) ≡ true) × (ends (32 * w.endpoint.queue) ≡ endpoint_of (queue_head w.endpoint.desc 0 w.endpoint.dummy))
-        → (streams (32 * z.queue) ≡ true) × (ends (32 * z.queue) ≡ endpoint_of (queue_head z.desc 0 z.dummy))
+    stream_of : (i : ℕ) (z : Endpoint) → (w : WasEnd d i z) → (streams (32 * w.endpoint.queue) ≡ receives w.endpoint.desc.name.way) × (ends (32 * w.endpoint.queue) ≡ endpoint_of (queue_head w.endpoint.desc 0 w.endpoint.dummy))
+        → (streams (32 * z.queue) ≡ receives z.desc.name.way) × (ends (32 * z.queue) ≡ endpoint_of (queue_head z.desc 0 z.dummy))
     stream_of i z w one = (
-      subst (λ (q : ℕ). streams (32 * q) ≡ true) (sym w.queue) one.0,
+      ap (λ (q : ℕ). streams (32 * q)) w.queue ∙ one.0 ∙ ap (λ (desc : EpDesc). receives desc.name.way) (sym w.desc),
       ap (λ (q : ℕ). ends (32 * q)) w.queue ∙ one.1 ∙ ap (λ (desc : EpDesc). endpoint_of (queue_head desc 0 z.dummy)) (sym w.desc),
     )
 
@@ -331,15 +331,15 @@ get_stands d e x a h dummy notes member streams ends parts order out k places pu
     zero_from c t y idle i = let none = same_unpublished c t y idle in omega (arith, none)
 
     moved : (t i : ℕ) (y : Transfer) (z : Endpoint) (w : WasEnd d y.endpoint z) → slice_get d.transfers t ≡ Some y → y.released ≡ false → i < y.qtds
-        → IsPieceFed (parts (32 * w.endpoint.queue)) (note_at d.notes (piece_at (note_in d.notes) y.first i)) (piece_at (note_in d.notes) y.first i) (piece_at (note_in d.notes) y.first y.qtds)
-        → IsPieceFed (parts (32 * z.queue)) (note_at notes (piece_at (note_in notes) y.first i)) (piece_at (note_in notes) y.first i) (piece_at (note_in notes) y.first y.qtds)
+        → IsPieceFed y.sort (parts (32 * w.endpoint.queue)) (note_at d.notes (piece_at (note_in d.notes) y.first i)) (piece_at (note_in d.notes) y.first i) (piece_at (note_in d.notes) y.first y.qtds)
+        → IsPieceFed y.sort (parts (32 * z.queue)) (note_at notes (piece_at (note_in notes) y.first i)) (piece_at (note_in notes) y.first i) (piece_at (note_in notes) y.first y.qtds)
     moved t i y z w older held below fed =
         let b = piece_at (note_in d.notes) y.first i in
         let last = piece_at (note_in d.notes) y.first y.qtds in
-        let one = subst (λ (n : QtdNote). IsPieceFed (parts (32 * w.endpoint.queue)) n b last) (sym (k.notes_same t i y older held below)) fed in
-        let two = subst (λ (c : ℕ). IsPieceFed (parts (32 * w.endpoint.queue)) (note_at notes c) c last) (sym (k.pieces_are t i y older held (omega (arith, below)))) one in
-        let three = subst (λ (c : ℕ). IsPieceFed (parts (32 * w.endpoint.queue)) (note_at notes (piece_at (note_in notes) y.first i)) (piece_at (note_in notes) y.first i) c) (sym (k.pieces_are t y.qtds y older held (omega arith))) two in
-        subst (λ (q : ℕ). IsPieceFed (parts (32 * q)) (note_at notes (piece_at (note_in notes) y.first i)) (piece_at (note_in notes) y.first i) (piece_at (note_in notes) y.first y.qtds)) (sym w.queue) three
+        let one = subst (λ (n : QtdNote). IsPieceFed y.sort (parts (32 * w.endpoint.queue)) n b last) (sym (k.notes_same t i y older held below)) fed in
+        let two = subst (λ (c : ℕ). IsPieceFed y.sort (parts (32 * w.endpoint.queue)) (note_at notes c) c last) (sym (k.pieces_are t i y older held (omega (arith, below)))) one in
+        let three = subst (λ (c : ℕ). IsPieceFed y.sort (parts (32 * w.endpoint.queue)) (note_at notes (piece_at (note_in notes) y.first i)) (piece_at (note_in notes) y.first i) c) (sym (k.pieces_are t y.qtds y older held (omega arith))) two in
+        subst (λ (q : ℕ). IsPieceFed y.sort (parts (32 * q)) (note_at notes (piece_at (note_in notes) y.first i)) (piece_at (note_in notes) y.first i) (piece_at (note_in notes) y.first y.qtds)) (sym w.queue) three
 
     newest : (t : ℕ) (y : Transfer) → t ≡ length d.transfers → unpublished_of f t y ≡ y.qtds
     newest t y at =

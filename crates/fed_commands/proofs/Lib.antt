@@ -1,3 +1,3 @@
 pub mod Asked
-pub mod Got
+pub mod Publishing
 pub mod Opened

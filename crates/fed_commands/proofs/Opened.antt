@@ -115,7 +115,7 @@ open_stands d m o member streams ends parts order out why stands shape owners ow
     let two : length rs ≡ 2 = all.are.long in
     let new : new_runs d g ≡ rs = ap (drop (length d.book.taken)) all.are.taken ∙ drop_first d.book.taken rs in
     let alive : (i : ℕ) (z : Endpoint) → slice_get d.endpoints i ≡ Some z → is_iso z.desc.kind || z.gone ≡ false =
-    λ i z there. let s = turns.receives.endpoints i z there in ap (λ k. is_iso k || z.gone) s.receives.kind ∙ s.gone in
+    λ i z there. let s = turns.bulk.endpoints i z there in ap (λ k. is_iso k || z.gone) s.bulk.kind ∙ s.gone in
     let now : QueuesStand (accepted_open d w.desc g (get_or rs 0 0) (get_or rs 1 0)).driver member streams ends parts order out =
     opened d w.desc g (get_or rs 0 0) (get_or rs 1 0) member streams ends parts order out
     (record {

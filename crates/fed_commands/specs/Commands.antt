@@ -1,7 +1,7 @@
 -- Accepted commands leave what is fed (EHCI 1.0, 4.8 and 4.10): memory is told by the same structures, and the driver's content has an endpoint more, or a
 -- transfer that is to be lent.
 --     QueuesStand ..              all that fed_queues says of a driver's queues
---     OpenStands, GetStands       the laws
+--     OpenStands, AskedStands       the laws
 use Rattle.std.specs.Prelude.{ℕ, Bool, List}
 use Rattle.word_mem.specs.Memory.{Mem, IsShaped}
 use Rattle.run_book.specs.Book.{holding, Stands}
@@ -28,8 +28,8 @@ OpenStands = (d : DriverContent) (m : Mem) (o : Offered) (member streams : ℕ �
     → IsOpened d m o → Stands (holding d.book m) → IsShaped m → HasOwners d → HasOwners o.driver → AreLent d → TakesTurns d → QueuesStand d member streams ends parts order out
     → QueuesStand o.driver member streams ends parts order out
 
-abbrev pub GetStands : Type 0
-GetStands = (d : DriverContent) (m : Mem) (o : Offered) (member streams : ℕ → Bool) (ends : ℕ → Told) (parts : StructureSets) (order : ℕ → ℕ → ℕ) (out : ℕ → List ℕ)
+abbrev pub AskedStands : Type 0
+AskedStands = (d : DriverContent) (m : Mem) (o : Offered) (member streams : ℕ → Bool) (ends : ℕ → Told) (parts : StructureSets) (order : ℕ → ℕ → ℕ) (out : ℕ → List ℕ)
     → IsAsked d m o → Stands (holding d.book m) → IsShaped m → Stands (holding o.driver.book o.memory) → IsShaped o.memory → HasOwners d → AreLent d → TakesTurns d
     → QueuesStand d member streams ends parts order out
     → QueuesStand o.driver member streams ends parts order out

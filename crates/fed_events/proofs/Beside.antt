@@ -4,6 +4,7 @@ use Rattle.buffers.specs.Bytes.{place}
 use Rattle.qh_qtd.specs.declared.qtd.Qtd.{Qtd}
 use Rattle.qh_qtd.specs.declared.token.Token.{Token}
 use Rattle.driver_rows.specs.declared.content.QtdNote.{QtdNote}
+use Rattle.driver_rows.specs.declared.content.Sort.{Sort}
 use Rattle.driver_rows.specs.DriverContent.{DriverContent}
 use Rattle.driver_rows.specs.Harvests.{note_at}
 use Rattle.driver_rows.specs.Words.{dummy_qtd}
@@ -25,8 +26,8 @@ use Rattle.fed_events.specs.Beside.{FedStaysBeside, LastStaysBeside}
 
 -- ---- one piece
 
-noted_still : (t u : Qtd) (note : QtdNote) (end : ℕ) → u ≡ record t { token = u.token } → IsNotedQtd t note end → IsNotedQtd u note end
-noted_still t u note end is k = record {
+noted_still : (sort : Sort) (t u : Qtd) (note : QtdNote) (end : ℕ) → u ≡ record t { token = u.token } → IsNotedQtd sort t note end → IsNotedQtd sort u note end
+noted_still sort t u note end is k = record {
   next = ap (λ (x : Qtd). x.next) is ∙ k.next;
   alternate = ap (λ (x : Qtd). x.alternate) is ∙ k.alternate;
   offset = ap (λ (x : Qtd). x.offset) is ∙ k.offset;
@@ -40,8 +41,8 @@ noted_still t u note end is k = record {
 other_token : (part : Structures) (t : Qtd) (z : Token) (n : ℕ) → HasBuffer part t n → HasBuffer part (record t { token = z }) n
 other_token part t z n has = record { bytes = has.bytes; here = has.here; size = has.size }
 
-pub piece_still : (part now : Structures) (note : QtdNote) (b end : ℕ) → Alters part now → IsPieceFed part note b end → IsPieceFed now note b end
-piece_still part now note b end alters k =
+pub piece_still : (sort : Sort) (part now : Structures) (note : QtdNote) (b end : ℕ) → Alters part now → IsPieceFed sort part note b end → IsPieceFed sort now note b end
+piece_still sort part now note b end alters k =
     let had = alters.element (32 * b) k.qtd k.here in
     let u : Qtd = had.qtd in
     let token : u.token ≡ had.after.token = ap (λ (x : Qtd). x.token) had.after.is in
@@ -49,7 +50,7 @@ piece_still part now note b end alters k =
     record {
       qtd = u;
       here = had.here;
-      noted = noted_still k.qtd u note end is k.noted;
+      noted = noted_still sort k.qtd u note end is k.noted;
       buffer = λ some. subst (λ (x : Qtd). HasBuffer now x note.told) (sym is) (other_token now k.qtd u.token note.told (buffer_still part now k.qtd note.told alters (k.buffer some)));
       long = ap (λ (x : Qtd). length (buffer_of now x)) is ∙ length_still part now (buffer_name k.qtd) alters ∙ k.long;
       places = λ j below. k.places j below ∙ ap (λ (x : Qtd). place (element_pages x) (x.offset + j)) (sym is);
@@ -89,7 +90,7 @@ fed_still d parts now keeps k = record {
   dummies = λ e x here lent. (keeps (32 * x.queue)).idle (32 * x.dummy) dummy_qtd (k.dummies e x here lent) refl;
   pieces = λ t i y x there held here from below.
       let b : ℕ = piece_at (note_in d.notes) y.first i in
-      piece_still (parts (32 * x.queue)) (now (32 * x.queue)) (note_at d.notes b) b (piece_at (note_in d.notes) y.first y.qtds) (keeps (32 * x.queue)).alters (k.pieces t i y x there held here from below);
+      piece_still y.sort (parts (32 * x.queue)) (now (32 * x.queue)) (note_at d.notes b) b (piece_at (note_in d.notes) y.first y.qtds) (keeps (32 * x.queue)).alters (k.pieces t i y x there held here from below);
   publishes = λ b words command. published_still d parts now b words keeps (k.publishes b words command);
 }
 

@@ -5,12 +5,9 @@ use Rattle.std.proofs.lemmas.Bool.{cases_eq, false≢true}
 use Rattle.std.proofs.lemmas.Option.{same_Some}
 use Rattle.usb_base.specs.declared.endpoints.EndCause.{EndCause}
 use Rattle.usb_base.specs.declared.reports.What.{What}
-use Rattle.word_mem.specs.Memory.{Mem}
 use Rattle.driver_rows.specs.declared.content.Endpoint.{Endpoint}
 use Rattle.driver_rows.specs.declared.content.Transfer.{Transfer}
 use Rattle.driver_rows.specs.declared.content.QtdNote.{QtdNote}
-use Rattle.driver_rows.specs.declared.content.Sort.{Sort}
-use Rattle.driver_rows.specs.declared.content.Sort.TheVariants as sorts
 use Rattle.driver_rows.specs.declared.content.Command.{Command}
 use Rattle.driver_rows.specs.declared.content.Command.TheVariants as unfinished
 use Rattle.driver_rows.specs.declared.rows.Found.{Found}
@@ -18,8 +15,8 @@ use Rattle.driver_rows.specs.declared.rows.Found.TheVariants as founds
 use Rattle.driver_rows.specs.declared.rows.DriverRow.TheVariants as rows
 use Rattle.driver_rows.specs.DriverContent.{DriverContent, no_note, waits_for, next_after}
 use Rattle.driver_rows.specs.Words.{head_block}
-use Rattle.driver_rows.specs.Harvests.{note_at, token_in, found_in, noted, end_of, is_stall}
-use Rattle.driver_rows.specs.Rows.{Parts, is_iso, found_of, after_driver_row, after_harvest, harvested_as, served, after_end, told_with, goes_on, stalled}
+use Rattle.driver_rows.specs.Harvests.{note_at, token_in, noted, end_of, is_stall}
+use Rattle.driver_rows.specs.Rows.{Parts, is_iso, after_driver_row, after_harvest, harvested_as, served, after_end, told_with, goes_on, stalled}
 use Rattle.run_owners.specs.Due.{IsHarvestDue}
 use Rattle.run_owners.specs.Kept.{HasOwners}
 use Rattle.run_owners.specs.Owners.{Owner, QueueHead, NoteRuns, runs_of_endpoint, note_in}
@@ -30,6 +27,7 @@ use Rattle.ring_streams.specs.Told.{Endpoint as Told}
 use Rattle.chained_transfers.specs.Turns.{turn_of}
 use Rattle.chained_transfers.specs.InTurn.{TakesTurns}
 use Rattle.chained_transfers.specs.Out.{pieces_from, passed, out_of_transfer, out_of, out_now}
+use Rattle.chained_transfers.proofs.Ways.{moves_queued, found_by}
 use Rattle.chained_transfers.proofs.Harvesting.{waits_is}
 use Rattle.chained_transfers.proofs.Harvested.{no_stall, not_served, note_same}
 use Rattle.fed_queues.specs.Places.{IsMet, HasHead, AreStillOut}
@@ -43,12 +41,6 @@ set_self : {X : Type 0} (xs : List X) (e : ℕ) (x : X) → slice_get xs e ≡ S
 set_self [] e x here = refl
 set_self (y ∷ ys) zero x here = ap (λ z. z ∷ ys) (sym (same_Some y x here))
 set_self (y ∷ ys) (suc e) x here = ap (λ zs. y ∷ zs) (set_self ys e x here)
-
-found_get : (d : DriverContent) (m : Mem) (y : Transfer) (s : Sort) → s ≡ sorts.Get → found_of d m y s ≡ found_in sorts.Get (nat_le y.left 1) (note_at d.notes y.place) (token_in m y.place)
-found_get d m y sorts.Get is = refl
-found_get d m y sorts.Put is = absurd (cc)
-found_get d m y sorts.Request is = absurd (cc)
-found_get d m y sorts.Descriptor is = absurd (cc)
 
 -- ---- a content after a harvest
 
@@ -64,7 +56,7 @@ module _ (d : DriverContent) (e t : ℕ) (x : Endpoint) (y : Transfer) (idle : d
     pub x_like : (x_now.queue ≡ x.queue) × (x_now.dummy ≡ x.dummy) × (x_now.desc ≡ x.desc)
     pub y_now : Transfer
     pub transfers : f.transfers ≡ set d.transfers t y_now
-    pub y_like : (y_now.endpoint ≡ y.endpoint) × (y_now.first ≡ y.first) × (y_now.qtds ≡ y.qtds) × (y_now.released ≡ y.released)
+    pub y_like : (y_now.endpoint ≡ y.endpoint) × (y_now.first ≡ y.first) × (y_now.qtds ≡ y.qtds) × (y_now.released ≡ y.released) × (y_now.sort ≡ y.sort)
 
   note_field : {A : Type 0} (f : QtdNote → A) (n : ℕ) → f (record (note_at d.notes y.place) { moved = n }) ≡ f (note_at d.notes y.place) → (b : ℕ) → f (note_at (noted d.notes y.place n) b) ≡ f (note_at d.notes b)
   note_field f n same b = same_item f d.notes y.place (record (note_at d.notes y.place) { moved = n }) no_note same b
@@ -109,8 +101,9 @@ module _ (d : DriverContent) (e t : ℕ) (x : Endpoint) (y : Transfer) (idle : d
           first = ap (λ (r : Transfer). r.first) own.1 ∙ k.y_like.1;
           qtds = ap (λ (r : Transfer). r.qtds) own.1 ∙ k.y_like.2;
           released = ap (λ (r : Transfer). r.released) own.1 ∙ k.y_like.3;
+          sort = ap (λ (r : Transfer). r.sort) own.1 ∙ k.y_like.4;
         })
-        (λ (other : (u ≢ t) × (slice_get d.transfers u ≡ Some z)). record { transfer = z; there = other.1; endpoint = refl; first = refl; qtds = refl; released = refl })
+        (λ (other : (u ≢ t) × (slice_get d.transfers u ≡ Some z)). record { transfer = z; there = other.1; endpoint = refl; first = refl; qtds = refl; released = refl; sort = refl })
         (set_which d.transfers t u y k.y_now z there (sym (ap (λ (xs : List Transfer). slice_get xs u) k.transfers) ∙ at));
   }
 
@@ -185,7 +178,7 @@ module _ (p : Parts) (e t : ℕ) (found : Found) (due : IsHarvestDue p e t found
   unfolding number_of
   apart i z at differs same =
       let alive : (j : ℕ) (w : Endpoint) → slice_get p.driver.endpoints j ≡ Some w → is_iso w.desc.kind || w.gone ≡ false =
-      λ j w there. let s = turns.receives.endpoints j w there in ap (λ k. is_iso k || w.gone) s.receives.kind ∙ s.gone in
+      λ j w there. let s = turns.bulk.endpoints j w there in ap (λ k. is_iso k || w.gone) s.bulk.kind ∙ s.gone in
       let one = owners.owned.each.queue i (runs_of_endpoint z) (ap (option_map runs_of_endpoint) at) (alive i z at) in
       let two = owners.owned.each.queue e (runs_of_endpoint due.endpoint) (ap (option_map runs_of_endpoint) due.here) (alive e due.endpoint due.here) in
       let block : z.queue ≡ due.endpoint.queue = omega (arith, same) in
@@ -241,11 +234,11 @@ module _ (p : Parts) (e t : ℕ) (found : Found) (due : IsHarvestDue p e t found
       x_like = (refl, refl, refl);
       y_now = record due.transfer { reported = true };
       transfers = refl;
-      y_like = (refl, refl, refl, refl);
+      y_like = (refl, refl, refl, refl, refl);
     },
     refl,
   )
-  ended_by n what None is = by (is_stall what) (no_stall due.endpoint.desc.kind what (turns.receives.endpoints e due.endpoint due.here).receives.kind is)
+  ended_by n what None is = by (is_stall what) (no_stall due.endpoint.desc.kind what (turns.bulk.endpoints e due.endpoint due.here).bulk.kind is)
     where
       by : (b : Bool) → b ≡ false
           → EndsAs (served (cond b (stalled (told_with p.driver p.memory t due.transfer what due.endpoint.desc.name (noted p.driver.notes due.transfer.place n)) e t due.endpoint) (goes_on (told_with p.driver p.memory t due.transfer what due.endpoint.desc.name (noted p.driver.notes due.transfer.place n)) e t due.endpoint)) e)
@@ -262,7 +255,7 @@ module _ (p : Parts) (e t : ℕ) (found : Found) (due : IsHarvestDue p e t found
           x_like = (refl, refl, refl);
           y_now = record due.transfer { reported = true };
           transfers = refl;
-          y_like = (refl, refl, refl, refl);
+          y_like = (refl, refl, refl, refl, refl);
         },
         refl,
       )
@@ -291,7 +284,7 @@ module _ (p : Parts) (e t : ℕ) (found : Found) (due : IsHarvestDue p e t found
         x_like = (refl, refl, refl);
         y_now = z;
         transfers = refl;
-        y_like = (refl, refl, refl, refl);
+        y_like = (refl, refl, refl, refl, refl);
       })
       (own_out (note_in p.driver.notes) e z (waits_is e due.transfer due.waits).0 held
       ∙ ap (λ (b : Bool). drop (0 + passed b) (pieces_from (note_in p.driver.notes) z.place z.left)) (waits_is e due.transfer due.waits).1)
@@ -305,8 +298,8 @@ module _ (p : Parts) (e t : ℕ) (found : Found) (due : IsHarvestDue p e t found
   pub leaves : found ≢ founds.Active → HarvestLeaves p e t found due member streams ends parts order out
   unfolding Leaves
   leaves not =
-      let is = due.tells ∙ found_get p.driver p.memory due.transfer due.transfer.sort (turns.receives.gets t due.transfer due.there) in
-      let none = not_served (nat_le due.transfer.left 1) (note_at p.driver.notes due.transfer.place) (token_in p.memory due.transfer.place) found is in
+      let is = due.tells ∙ found_by p.driver p.memory due.transfer due.transfer.sort (moves_queued p.driver due.transfer (turns.bulk.moves t due.transfer due.there)) in
+      let none = not_served due.transfer.sort (nat_le due.transfer.left 1) (note_at p.driver.notes due.transfer.place) (token_in p.memory due.transfer.place) found is in
       let k = row_leaves (subst (λ (b : Bool). Leaves (cond b (served (harvested_as p.driver p.memory e t due.endpoint due.transfer found) e) p.driver)) (sym due.waits) (read found not none)) in
       record { harvested = k.0; stand = k.1 }
 

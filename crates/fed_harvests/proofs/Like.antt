@@ -6,6 +6,7 @@ use Rattle.run_book.specs.Book.{slot_of}
 use Rattle.run_book.specs.declared.slots.Slot.{Slot}
 use Rattle.driver_rows.specs.declared.content.Endpoint.{Endpoint}
 use Rattle.driver_rows.specs.declared.content.QtdNote.{QtdNote}
+use Rattle.driver_rows.specs.declared.content.Sort.{Sort}
 use Rattle.driver_rows.specs.declared.content.Command.{Command}
 use Rattle.driver_rows.specs.declared.content.Command.TheVariants as unfinished
 use Rattle.driver_rows.specs.DriverContent.{DriverContent}
@@ -16,6 +17,7 @@ use Rattle.lent_structures.specs.Structures.{Structures, StructureSets}
 use Rattle.queue_parts.specs.Sound.{HasBuffer}
 use Rattle.driver_parts.specs.Inventory.{IsLent}
 use Rattle.ring_streams.specs.Told.{Endpoint as Told, endpoint_of}
+use Rattle.chained_transfers.specs.Bulk.{receives}
 use Rattle.chained_transfers.specs.Chains.{piece_at}
 use Rattle.chained_transfers.proofs.Chained.{piece_same}
 use Rattle.fed_queues.specs.Fed.{IsPieceFed}
@@ -25,8 +27,8 @@ use Rattle.fed_commands.proofs.Asked.{same_unpublished}
 use Rattle.fed_harvests.specs.Harvests.{IsLike, LikeStand}
 
 -- a piece is fed by what its note tells of its qTD and its buffer
-fed_by_note : (part : Structures) (note other : QtdNote) (b end : ℕ) → other.next ≡ note.next → other.buffer ≡ note.buffer → other.told ≡ note.told → IsPieceFed part note b end → IsPieceFed part other b end
-fed_by_note part note other b end next buffer told k = record {
+fed_by_note : (sort : Sort) (part : Structures) (note other : QtdNote) (b end : ℕ) → other.next ≡ note.next → other.buffer ≡ note.buffer → other.told ≡ note.told → IsPieceFed sort part note b end → IsPieceFed sort part other b end
+fed_by_note sort part note other b end next buffer told k = record {
   qtd = k.qtd;
   here = k.here;
   noted = record {
@@ -70,13 +72,13 @@ module _ (d f : DriverContent) (k : IsLike d f) where
   same_piece : (b i : ℕ) → piece_at (note_in f.notes) b i ≡ piece_at (note_in d.notes) b i
   same_piece b i = piece_same (note_in d.notes) (note_in f.notes) b i k.notes
 
-  moved : (part : Structures) (b i n : ℕ) → IsPieceFed part (note_at d.notes (piece_at (note_in d.notes) b i)) (piece_at (note_in d.notes) b i) (piece_at (note_in d.notes) b n)
-      → IsPieceFed part (note_at f.notes (piece_at (note_in f.notes) b i)) (piece_at (note_in f.notes) b i) (piece_at (note_in f.notes) b n)
-  moved part b i n fed =
+  moved : (sort : Sort) (part : Structures) (b i n : ℕ) → IsPieceFed sort part (note_at d.notes (piece_at (note_in d.notes) b i)) (piece_at (note_in d.notes) b i) (piece_at (note_in d.notes) b n)
+      → IsPieceFed sort part (note_at f.notes (piece_at (note_in f.notes) b i)) (piece_at (note_in f.notes) b i) (piece_at (note_in f.notes) b n)
+  moved sort part b i n fed =
       let c = piece_at (note_in d.notes) b i in
-      let one = fed_by_note part (note_at d.notes c) (note_at f.notes c) c (piece_at (note_in d.notes) b n) (k.next c) (k.buffer c) (k.told c) fed in
-      let two = subst (λ (i : ℕ). IsPieceFed part (note_at f.notes i) i (piece_at (note_in d.notes) b n)) (sym (same_piece b i)) one in
-      subst (λ (end : ℕ). IsPieceFed part (note_at f.notes (piece_at (note_in f.notes) b i)) (piece_at (note_in f.notes) b i) end) (sym (same_piece b n)) two
+      let one = fed_by_note sort part (note_at d.notes c) (note_at f.notes c) c (piece_at (note_in d.notes) b n) (k.next c) (k.buffer c) (k.told c) fed in
+      let two = subst (λ (i : ℕ). IsPieceFed sort part (note_at f.notes i) i (piece_at (note_in d.notes) b n)) (sym (same_piece b i)) one in
+      subst (λ (end : ℕ). IsPieceFed sort part (note_at f.notes (piece_at (note_in f.notes) b i)) (piece_at (note_in f.notes) b i) end) (sym (same_piece b n)) two
 
   stand : (member streams : ℕ → Bool) (ends : ℕ → Told) (parts : StructureSets) (order : ℕ → ℕ → ℕ) (out later : ℕ → List ℕ) → AreStillOut f later → QueuesStand d member streams ends parts order out → QueuesStand f member streams ends parts order later
   stand member streams ends parts order out later still old = record {
@@ -89,7 +91,7 @@ module _ (d f : DriverContent) (k : IsLike d f) where
       each = λ i z here met.
           let w = k.ends i z here in
           let one = old.streams_are.each i w.endpoint w.there (idle_met w.endpoint) in (
-            subst (λ (q : ℕ). streams (32 * q) ≡ true) (sym w.queue) one.0,
+            ap (λ (q : ℕ). streams (32 * q)) w.queue ∙ one.0 ∙ ap (λ (desc : EpDesc). receives desc.name.way) (sym w.desc),
             ap (λ (q : ℕ). ends (32 * q)) w.queue ∙ one.1 ∙ ap (λ (desc : EpDesc). endpoint_of (queue_head desc 0 z.dummy)) (sym w.desc),
           );
       only = λ n on. headed n (old.streams_are.only n on);
@@ -105,10 +107,11 @@ module _ (d f : DriverContent) (k : IsLike d f) where
           let none = same_unpublished d t u.transfer k.idle in
           let many = u.qtds in
           let fed = old.fed.pieces t i u.transfer w.endpoint u.there (sym u.released ∙ held) (ap (slice_get d.endpoints) (sym u.endpoint) ∙ w.there) (omega (arith, none)) (omega (arith, below, many)) in
-          subst (λ (q : ℕ). IsPieceFed (parts (32 * q)) (note_at f.notes (piece_at (note_in f.notes) y.first i)) (piece_at (note_in f.notes) y.first i) (piece_at (note_in f.notes) y.first y.qtds)) (sym w.queue)
-          (moved (parts (32 * w.endpoint.queue)) y.first i y.qtds
-          (subst (λ (n : ℕ). IsPieceFed (parts (32 * w.endpoint.queue)) (note_at d.notes (piece_at (note_in d.notes) y.first i)) (piece_at (note_in d.notes) y.first i) (piece_at (note_in d.notes) y.first n)) (sym u.qtds)
-          (subst (λ (b : ℕ). IsPieceFed (parts (32 * w.endpoint.queue)) (note_at d.notes (piece_at (note_in d.notes) b i)) (piece_at (note_in d.notes) b i) (piece_at (note_in d.notes) b u.transfer.qtds)) (sym u.first) fed)));
+          subst (λ (q : ℕ). IsPieceFed y.sort (parts (32 * q)) (note_at f.notes (piece_at (note_in f.notes) y.first i)) (piece_at (note_in f.notes) y.first i) (piece_at (note_in f.notes) y.first y.qtds)) (sym w.queue)
+          (moved y.sort (parts (32 * w.endpoint.queue)) y.first i y.qtds
+          (subst (λ (s : Sort). IsPieceFed s (parts (32 * w.endpoint.queue)) (note_at d.notes (piece_at (note_in d.notes) y.first i)) (piece_at (note_in d.notes) y.first i) (piece_at (note_in d.notes) y.first y.qtds)) (sym u.sort)
+          (subst (λ (n : ℕ). IsPieceFed u.transfer.sort (parts (32 * w.endpoint.queue)) (note_at d.notes (piece_at (note_in d.notes) y.first i)) (piece_at (note_in d.notes) y.first i) (piece_at (note_in d.notes) y.first n)) (sym u.qtds)
+          (subst (λ (b : ℕ). IsPieceFed u.transfer.sort (parts (32 * w.endpoint.queue)) (note_at d.notes (piece_at (note_in d.notes) b i)) (piece_at (note_in d.notes) b i) (piece_at (note_in d.notes) b u.transfer.qtds)) (sym u.first) fed))));
       publishes = λ b words is. absurd (no_publish b words is);
     };
     last = record {

@@ -36,6 +36,7 @@ pub record WasTransfer (d : DriverContent) (t : ℕ) (y : Transfer) : Type 0 whe
   pub endpoint : y.endpoint ≡ transfer.endpoint
   pub first : y.first ≡ transfer.first
   pub qtds : y.qtds ≡ transfer.qtds
+  pub sort : y.sort ≡ transfer.sort
   pub released : y.released ≡ transfer.released
 
 pub record IsLike (d f : DriverContent) : Type 0 where

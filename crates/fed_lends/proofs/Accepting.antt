@@ -1,7 +1,9 @@
--- A get that was accepted is to be lent.
-use Rattle.std.proofs.Common.{◌≡◌, ◌≢◌, ℕ, zero, suc, ◌-◌, ◌<◌, ◌≤◌, Bool, nat_eq, List, [], ◌∷◌, ◌++◌, length, map, take, drop, set, get_or, replicate, slice_get, Some, ap, refl, sym, subst, ◌∙◌, ⊎_elim, arith, length-append}
+-- A get or put that was accepted is to be lent.
+use Rattle.std.proofs.Common.{◌≡◌, ◌≢◌, ℕ, zero, suc, ◌-◌, ◌<◌, ◌≤◌, Bool, nat_eq, List, [], ◌∷◌, ◌++◌, length, take, drop, set, get_or, replicate, slice_get, Some, ap, refl, sym, subst, ◌∙◌, ⊎_elim, arith, length-append}
 use Rattle.std.proofs.lemmas.Bool.{cases_eq, cases_lt}
 use Rattle.std.proofs.lemmas.List.{get_or-set_same, get_or-set_other, set_past}
+use Rattle.std.specs.List.{AllByRecursion}
+use Rattle.usb_base.specs.declared.packets.Way.{Way}
 use Rattle.word_mem.specs.Memory.{Mem, IsShaped}
 use Rattle.run_book.specs.Book.{Holding, holding, Stands}
 use Rattle.driver_rows.specs.declared.content.Endpoint.{Endpoint}
@@ -10,32 +12,25 @@ use Rattle.driver_rows.specs.declared.content.QtdNote.{QtdNote}
 use Rattle.driver_rows.specs.declared.content.Stage.{Stage}
 use Rattle.driver_rows.specs.declared.content.Command.TheVariants as unfinished
 use Rattle.driver_rows.specs.DriverContent.{DriverContent, no_note}
-use Rattle.driver_rows.specs.Words.{in_stage, buffer_needs, cut, get_stages}
+use Rattle.driver_rows.specs.Words.{buffer_needs}
 use Rattle.driver_rows.specs.Harvests.{note_at}
 use Rattle.driver_rows.specs.Offers.{Offered, Asked, new_runs, note_for, runs_of, note_stages, first_of, is_last, stage_words, new_transfer, with_queued, accepted_transfer}
-use Rattle.driver_parts.specs.Laws.{AreIn}
 use Rattle.run_owners.specs.Owners.{runs_of_endpoint, runs_of_transfer}
 use Rattle.run_owners.specs.Accepts.{Transfers}
 use Rattle.run_owners.specs.Kept.{HasOwners}
 use Rattle.lent_runs.specs.Lent.{AreLent}
 use Rattle.run_owners.proofs.Released.{set_here}
 use Rattle.lent_structures.proofs.Names.{not_same}
-use Rattle.transfer_lends.specs.Written.{IsReceiving}
-use Rattle.transfer_lends.proofs.Accepting.{receiving_is_written}
+use Rattle.chained_transfers.specs.Bulk.{sort_by}
+use Rattle.chained_transfers.proofs.Ways.{IsBy, its_told, its_pid_few, all_of_all, asked_by}
+use Rattle.transfer_lends.specs.Written.{AwaitsLend}
+use Rattle.transfer_lends.proofs.Accepting.{accepted_awaits_lend}
 use Rattle.transfer_lends.proofs.Stays.{written_stays}
-use Rattle.fed_lends.specs.ToLend.{AreGets, IsToBeLent, AreBlank}
-use Rattle.fed_lends.specs.Accepted.{GetIsToBeLent, ToBeLentStays, OpeningIsBlank, GetIsBlank, OpenIsBlank}
+use Rattle.fed_lends.specs.ToLend.{AreStagesBy, IsToBeLent, AreBlank}
+use Rattle.fed_lends.specs.Accepted.{AskedIsToBeLent, ToBeLentStays, OpeningIsBlank, AskedIsBlank, OpenIsBlank}
 use Rattle.fed_lends.proofs.Fed.{one_command}
 
--- ---- the stages of a get
-
-gets_are : (ns : List ℕ) → AreGets (map in_stage ns)
-gets_are [] = tt
-gets_are (n ∷ ns) = (refl, gets_are ns)
-
-gets_in : (ss : List Stage) → AreGets ss → AreIn ss
-gets_in [] gets = tt
-gets_in (s ∷ ss) gets = (ap (λ (r : Stage). r.pid) gets.0, gets_in ss gets.1)
+-- ---- small facts
 
 last_is : (ss : List Stage) → nat_eq (suc (length ss)) 1 ≡ is_last ss
 last_is [] = refl
@@ -50,10 +45,10 @@ last_pushed (u ∷ ts) t = last_pushed ts t
 abbrev WillBeLent : Offered → Type 0
 WillBeLent f = (b : ℕ) (words : List ℕ) → f.driver.command ≡ Some (unfinished.Publish b words) → IsToBeLent f.driver f.memory b words
 
-asked_with : (d : DriverContent) (number : ℕ) (x : Endpoint) (a : Asked) (g : Holding) (dummy : ℕ) (notes : List QtdNote) (s : Stage) (ss : List Stage) → a.stages ≡ s ∷ ss → AreGets (s ∷ ss) → slice_get d.endpoints number ≡ Some x
-    → IsReceiving (accepted_transfer d number x a g dummy notes).driver (accepted_transfer d number x a g dummy notes).memory (length d.transfers) (runs_of_transfer (new_transfer number a x.dummy)) (runs_of_endpoint (with_queued x dummy (length d.transfers))) s ss
+asked_with : (d : DriverContent) (number : ℕ) (x : Endpoint) (a : Asked) (g : Holding) (dummy : ℕ) (notes : List QtdNote) (s : Stage) (ss : List Stage) → a.stages ≡ s ∷ ss → AreStagesBy x.desc.name.way (s ∷ ss) → a.sort ≡ sort_by x.desc.name.way → slice_get d.endpoints number ≡ Some x
+    → AwaitsLend (accepted_transfer d number x a g dummy notes).driver (accepted_transfer d number x a g dummy notes).memory (length d.transfers) (runs_of_transfer (new_transfer number a x.dummy)) (runs_of_endpoint (with_queued x dummy (length d.transfers))) s ss
     → WillBeLent (accepted_transfer d number x a g dummy notes)
-asked_with d number x a g dummy notes s ss stages gets here receiving b words command =
+asked_with d number x a g dummy notes s ss stages all sort here awaits b words command =
     let both = one_command x.dummy b (stage_words notes (first_of a.stages) x.dummy dummy (nat_eq (length a.stages) 1)) words command in
     record {
       number = length d.transfers;
@@ -70,16 +65,17 @@ asked_with d number x a g dummy notes s ss stages gets here receiving b words co
       place = refl;
       left = refl;
       fresh = refl;
-      receiving = receiving;
-      gets = gets;
+      awaits = awaits;
+      stages = all;
+      sort = sort;
       are = sym both.1
           ∙ ap (λ (rs : List Stage). stage_words notes (first_of rs) x.dummy dummy (nat_eq (length rs) 1)) stages
           ∙ ap (λ (t : Bool). stage_words notes s x.dummy dummy t) (last_is ss);
     }
 
-asked_stages : (d : DriverContent) (m : Mem) (o : Offered) (why : Transfers d m o) (rs : List Stage) → why.asked.stages ≡ rs → AreGets rs → 1 ≤ length rs → HasOwners d → AreLent d → Stands (holding d.book m) → IsShaped m → WillBeLent o
-asked_stages d m o why [] stages gets some has lent stands shape = absurd (omega (arith, some))
-asked_stages d m o why (s ∷ ss) stages gets some has lent stands shape =
+asked_stages : (d : DriverContent) (m : Mem) (o : Offered) (why : Transfers d m o) (rs : List Stage) → why.asked.stages ≡ rs → AreStagesBy why.endpoint.desc.name.way rs → why.asked.sort ≡ sort_by why.endpoint.desc.name.way → 1 ≤ length rs → HasOwners d → AreLent d → Stands (holding d.book m) → IsShaped m → WillBeLent o
+asked_stages d m o why [] stages all sort some has lent stands shape = absurd (omega (arith, some))
+asked_stages d m o why (s ∷ ss) stages all sort some has lent stands shape =
     let g = why.holding_after in
     let x = why.endpoint in
     let n = suc (length ss) in
@@ -90,19 +86,18 @@ asked_stages d m o why (s ∷ ss) stages gets some has lent stands shape =
     why.is
     ∙ ap (λ (ps : List Stage). accepted_transfer d why.number x why.asked g (get_or (take (length ps) rs) (length ps - 1) 0) (note_stages d.notes ps x.dummy (take (length ps) rs) (drop (length ps) rs))) stages
     ∙ ap (λ (i : ℕ). accepted_transfer d why.number x why.asked g (get_or (take n rs) i 0) notes) (let e : suc (length ss) - 1 ≡ length ss = omega arith in e) in
-    let ins = subst AreIn (sym stages) (gets_in (s ∷ ss) gets) in
+    let way = x.desc.name.way in
+    let pids = subst (AllByRecursion (λ r. r.pid ≤ 2)) (sym stages) (all_of_all (IsBy way) (λ r. r.pid ≤ 2) (s ∷ ss) (its_pid_few way) all) in
     let y = runs_of_transfer (new_transfer why.number why.asked x.dummy) in
     let z = runs_of_endpoint (with_queued x dummy (length d.transfers)) in
-    let receiving = receiving_is_written d m o why s ss stages ins has lent stands shape in
+    let awaits = accepted_awaits_lend d m o why s ss stages pids has lent stands shape in
     subst WillBeLent (sym is)
-    (asked_with d why.number x why.asked g dummy notes s ss stages gets why.here (subst (λ (f : Offered). IsReceiving f.driver f.memory (length d.transfers) y z s ss) is receiving))
+    (asked_with d why.number x why.asked g dummy notes s ss stages all sort why.here (subst (λ (f : Offered). AwaitsLend f.driver f.memory (length d.transfers) y z s ss) is awaits))
 
-pub get_is_to_be_lent : GetIsToBeLent
-get_is_to_be_lent d m o k has lent stands shape =
+pub asked_is_to_be_lent : AskedIsToBeLent
+asked_is_to_be_lent d m o k has lent stands shape =
     let why = k.transfers in
-    let rs = get_stages k.length k.by in
-    let stages : why.asked.stages ≡ rs = ap (λ (a : Asked). a.stages) k.asked in
-    asked_stages d m o why rs stages (gets_are (cut k.length k.by)) (subst (λ (ss : List Stage). 1 ≤ length ss) stages why.some) has lent stands shape
+    asked_stages d m o why why.asked.stages refl (asked_by d m o k) (ap (λ (a : Asked). a.sort) k.asked) why.some has lent stands shape
 
 pub to_be_lent_stays : ToBeLentStays
 to_be_lent_stays d m new b words k stands same = record {
@@ -120,8 +115,9 @@ to_be_lent_stays d m new b words k stands same = record {
   place = k.place;
   left = k.left;
   fresh = k.fresh;
-  receiving = written_stays d m new k.number (runs_of_transfer k.transfer) (runs_of_endpoint k.endpoint) k.stage k.further k.receiving stands same;
-  gets = k.gets;
+  awaits = written_stays d m new k.number (runs_of_transfer k.transfer) (runs_of_endpoint k.endpoint) k.stage k.further k.awaits stands same;
+  stages = k.stages;
+  sort = k.sort;
   are = k.are;
 }
 
@@ -130,9 +126,9 @@ to_be_lent_stays d m new b words k stands same = record {
 abbrev AllBlank : List QtdNote → Type 0
 AllBlank notes = (c : ℕ) → (note_at notes c).told ≡ 0 → get_or (note_at notes c).buffer 0 0 ≡ 0
 
-blank_note : (s : Stage) (next : ℕ) (runs : List ℕ) → s ≡ in_stage s.long → s.told ≡ 0 → get_or (note_for s next runs).buffer 0 0 ≡ 0
-blank_note s next runs is none =
-    let long : s.long ≡ 0 = sym (ap (λ (r : Stage). r.told) is) ∙ none in
+blank_note : (way : Way) (s : Stage) (next : ℕ) (runs : List ℕ) → IsBy way s → s.told ≡ 0 → get_or (note_for s next runs).buffer 0 0 ≡ 0
+blank_note way s next runs is none =
+    let long : s.long ≡ 0 = sym (its_told way s is) ∙ none in
     let few : runs_of s ≡ 0 = ap (λ (n : ℕ). length (buffer_needs n)) long in
     ap (λ (k : ℕ). get_or (take 5 (take k runs ++ replicate {A = ℕ} 5 0)) 0 0) few
 
@@ -153,11 +149,11 @@ set_blank notes b n mine old c none =
     ap (λ (r : QtdNote). get_or r.buffer 0 0) is ∙ old c (sym (ap (λ (r : QtdNote). r.told) is) ∙ none))
     (cases_eq c b)
 
-stages_blank : (notes : List QtdNote) (ss : List Stage) (b : ℕ) (qtds runs : List ℕ) → AreGets ss → AllBlank notes → AllBlank (note_stages notes ss b qtds runs)
-stages_blank notes [] b qtds runs gets old = old
-stages_blank notes (s ∷ ss) b qtds runs gets old =
+stages_blank : (way : Way) (notes : List QtdNote) (ss : List Stage) (b : ℕ) (qtds runs : List ℕ) → AreStagesBy way ss → AllBlank notes → AllBlank (note_stages notes ss b qtds runs)
+stages_blank way notes [] b qtds runs all old = old
+stages_blank way notes (s ∷ ss) b qtds runs all old =
     let q = get_or qtds 0 0 in
-    stages_blank (set notes b (note_for s q runs)) ss q (drop 1 qtds) (drop (runs_of s) runs) gets.1 (set_blank notes b (note_for s q runs) (blank_note s q runs gets.0) old)
+    stages_blank way (set notes b (note_for s q runs)) ss q (drop 1 qtds) (drop (runs_of s) runs) all.1 (set_blank notes b (note_for s q runs) (blank_note way s q runs all.0) old)
 
 none_blank : (n : ℕ) → AllBlank (replicate n no_note)
 none_blank zero c none = refl
@@ -167,13 +163,11 @@ none_blank (suc n) (suc c) none = none_blank n c none
 pub opening_is_blank : OpeningIsBlank
 opening_is_blank n room c none = none_blank _ c none
 
-pub get_is_blank : GetIsBlank
-get_is_blank d m o k old =
+pub asked_is_blank : AskedIsBlank
+asked_is_blank d m o k old =
     let why = k.transfers in
-    let stages : why.asked.stages ≡ get_stages k.length k.by = ap (λ (a : Asked). a.stages) k.asked in
     subst (λ (f : Offered). AreBlank f.driver) (sym why.is)
-    (stages_blank d.notes why.asked.stages why.endpoint.dummy (take (length why.asked.stages) (new_runs d why.holding_after)) (drop (length why.asked.stages) (new_runs d why.holding_after))
-    (subst AreGets (sym stages) (gets_are (cut k.length k.by))) old)
+    (stages_blank why.endpoint.desc.name.way d.notes why.asked.stages why.endpoint.dummy (take (length why.asked.stages) (new_runs d why.holding_after)) (drop (length why.asked.stages) (new_runs d why.holding_after)) (asked_by d m o k) old)
 
 pub open_is_blank : OpenIsBlank
 open_is_blank d m o k old = subst (λ (f : Offered). AreBlank f.driver) (sym k.opens.is) old

@@ -1,4 +1,4 @@
--- Queues are fed once a get is lent.
+-- Queues are fed once a transfer is lent.
 use Rattle.std.proofs.Common.{◌≡◌, ◌≢◌, ℕ, zero, suc, ◌-◌, ◌*◌, ◌<◌, ◌≤◌, ◌||◌, Bool, false, true, List, [], ◌∷◌, length, nat_eq, cond, slice_get, Option, Some, None, option_map, Ok, Result, ap, sym, subst, ◌∙◌, ⊎_elim, arith}
 use Rattle.std.proofs.lemmas.Bool.{cases_eq, eq-eqb}
 use Rattle.std.proofs.lemmas.Option.{same_Some}
@@ -14,6 +14,7 @@ use Rattle.run_book.specs.Book.{holding, slot_of, Stands}
 use Rattle.driver_rows.specs.declared.content.Endpoint.{Endpoint}
 use Rattle.driver_rows.specs.declared.content.Transfer.{Transfer}
 use Rattle.driver_rows.specs.declared.content.QtdNote.{QtdNote}
+use Rattle.driver_rows.specs.declared.content.Sort.{Sort}
 use Rattle.driver_rows.specs.declared.content.Stage.{Stage}
 use Rattle.driver_rows.specs.declared.content.Command.{Command}
 use Rattle.driver_rows.specs.declared.content.Command.TheVariants as unfinished
@@ -30,7 +31,7 @@ use Rattle.ring_walk.specs.Effects.{bytes_in, buffer_of}
 use Rattle.driver_parts.specs.Inventory.{IsLent}
 use Rattle.driver_lends.specs.Published.{partly, IsPublishable}
 use Rattle.chained_transfers.specs.Chains.{piece_at}
-use Rattle.chained_transfers.specs.Receives.{Receives}
+use Rattle.chained_transfers.specs.Bulk.{OnlyBulk}
 use Rattle.chained_transfers.specs.Out.{unpublished}
 use Rattle.fed_queues.specs.Fed.{IsPieceFed, unpublished_of, IsPublished, AreFed}
 use Rattle.transfer_lends.specs.Pieces.{stage_qtd}
@@ -45,7 +46,7 @@ use Rattle.fed_lends.proofs.Reporting.{long_new}
 use Rattle.fed_lends.proofs.Feeding.{new_fed, end_is, stage_told}
 use Rattle.fed_lends.proofs.Names.{older_published}
 
--- ---- what holds when a get is lent
+-- ---- what holds when a transfer is lent
 
 abbrev pub y_of : {d : DriverContent} {m : Mem} {b : ℕ} {words : List ℕ} → IsToBeLent d m b words → TransferRuns
 y_of k = runs_of_transfer k.transfer
@@ -54,13 +55,13 @@ abbrev pub x_of : {d : DriverContent} {m : Mem} {b : ℕ} {words : List ℕ} →
 x_of k = runs_of_endpoint k.endpoint
 
 pub record IsLending (d : DriverContent) (m : Mem) (b : ℕ) (words : List ℕ) (parts now : StructureSets) : Type 0 where
-  pub get : IsToBeLent d m b words
+  pub ready : IsToBeLent d m b words
   pub has : HasOwners d
   pub stands : Stands (holding d.book m)
   pub shape : IsShaped m
-  pub receives : Receives d
+  pub bulk : OnlyBulk d
   pub fed : AreFed d parts
-  pub pieces : HasPieces d (slot_of (lent_driver d m).book.slots) parts now (y_of get) (x_of get) get.stage get.further
+  pub pieces : HasPieces d (slot_of (lent_driver d m).book.slots) parts now (y_of ready) (x_of ready) ready.stage ready.further
 
 -- ---- old structures
 
@@ -71,8 +72,8 @@ buffers_same d slot parts now y x s ss n a u has there =
     ap (λ (i : ℕ). buffer_of (now i) u) same ∙ ap bytes_in (has.old_buffers a u (ap (λ (i : ℕ). parts i a) (sym same) ∙ there)) ∙ ap (λ (i : ℕ). buffer_of (parts i) u) (sym same))
     (λ (differs : n ≢ 32 * x.queue). ap (λ part. buffer_of part u) (has.beside n differs)) (cases_eq n (32 * x.queue))
 
-still_fed : (d : DriverContent) (slot : ℕ → Slot) (parts now : StructureSets) (y : TransferRuns) (x : EndpointRuns) (s : Stage) (ss : List Stage) (n b end : ℕ) (note : QtdNote) → HasPieces d slot parts now y x s ss → IsPieceFed (parts n) note b end → IsPieceFed (now n) note b end
-still_fed d slot parts now y x s ss n b end note has p = record {
+still_fed : (d : DriverContent) (slot : ℕ → Slot) (parts now : StructureSets) (y : TransferRuns) (x : EndpointRuns) (s : Stage) (ss : List Stage) (n b end : ℕ) (sort : Sort) (note : QtdNote) → HasPieces d slot parts now y x s ss → IsPieceFed sort (parts n) note b end → IsPieceFed sort (now n) note b end
+still_fed d slot parts now y x s ss n b end sort note has p = record {
   qtd = p.qtd;
   here = has.still n (32 * b) (Element p.qtd) p.here;
   noted = p.noted;
@@ -87,15 +88,15 @@ still_fed d slot parts now y x s ss n b end note has p = record {
 standing_bare : (k : EpKind) (gone : Bool) → k ≡ kinds.Bulk → gone ≡ false → (is_iso k || gone) ≡ false
 standing_bare k gone bulk stays = ap (λ j. is_iso j || gone) bulk ∙ stays
 
-pub bare_is : (d : DriverContent) (e : ℕ) (x : Endpoint) → Receives d → slice_get d.endpoints e ≡ Some x → (is_iso x.desc.kind || x.gone) ≡ false
-bare_is d e x receives here = let s = receives.endpoints e x here in standing_bare x.desc.kind x.gone s.receives.kind s.gone
+pub bare_is : (d : DriverContent) (e : ℕ) (x : Endpoint) → OnlyBulk d → slice_get d.endpoints e ≡ Some x → (is_iso x.desc.kind || x.gone) ≡ false
+bare_is d e x bulk here = let s = bulk.endpoints e x here in standing_bare x.desc.kind x.gone s.bulk.kind s.gone
 
 -- what another endpoint has at the end of its queue was lent before
-pub other_lent : (d : DriverContent) (m : Mem) (b : ℕ) (words : List ℕ) (parts now : StructureSets) (e : ℕ) (x : Endpoint) → (l : IsLending d m b words parts now) → slice_get d.endpoints e ≡ Some x → e ≢ l.get.transfer.endpoint → IsLent (slot_of (lent_driver d m).book.slots x.dummy) → IsLent (slot_of d.book.slots x.dummy)
+pub other_lent : (d : DriverContent) (m : Mem) (b : ℕ) (words : List ℕ) (parts now : StructureSets) (e : ℕ) (x : Endpoint) → (l : IsLending d m b words parts now) → slice_get d.endpoints e ≡ Some x → e ≢ l.ready.transfer.endpoint → IsLent (slot_of (lent_driver d m).book.slots x.dummy) → IsLent (slot_of d.book.slots x.dummy)
 other_lent d m b words parts now e x l here differs lent =
-    let k = l.get in
-    let on = lent_on_views d m k.number (y_of k) (x_of k) k.stage k.further k.receiving l.has l.stands l.shape in
-    let placed = l.has.owned.each.dummy e (runs_of_endpoint x) (ap (option_map runs_of_endpoint) here) (bare_is d e x l.receives here) in
+    let k = l.ready in
+    let on = lent_on_views d m k.number (y_of k) (x_of k) k.stage k.further k.awaits l.has l.stands l.shape in
+    let placed = l.has.owned.each.dummy e (runs_of_endpoint x) (ap (option_map runs_of_endpoint) here) (bare_is d e x l.bulk here) in
     let none : IsOneOf x.dummy d.book.taken → ⊥ =
     not_taken (views_of d) (views_of (lent_driver d m)) l.has.owner k.number (y_of k) (x_of k) d.book.taken x.dummy (Dummy e) on placed (λ same. no_element k.number same) (λ same. differs (one_dummy k.transfer.endpoint same)) (λ same. no_buffer k.number same) in
     subst IsLent (on.others x.dummy none) lent
@@ -111,15 +112,15 @@ other_lent d m b words parts now e x l here differs lent =
 
 -- ---- the dummies
 
-pub dummy_here : (d : DriverContent) (m : Mem) (b : ℕ) (words : List ℕ) (parts now : StructureSets) → (l : IsLending d m b words parts now) → now (32 * l.get.endpoint.queue) (32 * l.get.endpoint.dummy) ≡ Some (Element dummy_qtd)
+pub dummy_here : (d : DriverContent) (m : Mem) (b : ℕ) (words : List ℕ) (parts now : StructureSets) → (l : IsLending d m b words parts now) → now (32 * l.ready.endpoint.queue) (32 * l.ready.endpoint.dummy) ≡ Some (Element dummy_qtd)
 dummy_here d m b words parts now l =
-    let k = l.get in
-    ap (λ (c : ℕ). now (32 * k.endpoint.queue) (32 * c)) (sym k.receiving.ends)
+    let k = l.ready in
+    ap (λ (c : ℕ). now (32 * k.endpoint.queue) (32 * c)) (sym k.awaits.ends)
     ∙ last_stands (now (32 * k.endpoint.queue)) d.notes k.endpoint.dummy k.further (note_at d.notes k.transfer.first).next l.pieces.standing
 
 dummies_fed : (d : DriverContent) (m : Mem) (b : ℕ) (words : List ℕ) (parts now : StructureSets) → IsLending d m b words parts now → (e : ℕ) (x : Endpoint) → slice_get d.endpoints e ≡ Some x → IsLent (slot_of (lent_driver d m).book.slots x.dummy) → now (32 * x.queue) (32 * x.dummy) ≡ Some (Element dummy_qtd)
 dummies_fed d m b words parts now l e x here lent =
-    let k = l.get in
+    let k = l.ready in
     ⊎_elim
     (λ (same : e ≡ k.transfer.endpoint).
     let is : x ≡ k.endpoint = same_Some x k.endpoint (sym here ∙ ap (slice_get d.endpoints) same ∙ k.here) in
@@ -134,34 +135,36 @@ newest_unpublished d m b words y t k same =
     let last : nat_eq (suc t) (length d.transfers) ≡ true = eq-eqb (suc t) (length d.transfers) (ap suc same ∙ k.newest) in
     ap (λ c. cond c (unpublished d.command 1 y.qtds) 0) last ∙ ap (λ (c : Option Command). unpublished c 1 y.qtds) k.command
 
-new_piece : (d : DriverContent) (m : Mem) (b : ℕ) (words : List ℕ) (parts now : StructureSets) (i : ℕ) → (l : IsLending d m b words parts now) → 1 ≤ i → i < l.get.transfer.qtds
-    → IsPieceFed (now (32 * l.get.endpoint.queue)) (note_at d.notes (piece_at (note_in d.notes) l.get.transfer.first i)) (piece_at (note_in d.notes) l.get.transfer.first i) (piece_at (note_in d.notes) l.get.transfer.first l.get.transfer.qtds)
+new_piece : (d : DriverContent) (m : Mem) (b : ℕ) (words : List ℕ) (parts now : StructureSets) (i : ℕ) → (l : IsLending d m b words parts now) → 1 ≤ i → i < l.ready.transfer.qtds
+    → IsPieceFed l.ready.transfer.sort (now (32 * l.ready.endpoint.queue)) (note_at d.notes (piece_at (note_in d.notes) l.ready.transfer.first i)) (piece_at (note_in d.notes) l.ready.transfer.first i) (piece_at (note_in d.notes) l.ready.transfer.first l.ready.transfer.qtds)
 new_piece d m b words parts now zero l from below = absurd (omega (arith, from))
 new_piece d m b words parts now (suc i) l from below =
-    let k = l.get in
-    let r = k.receiving in
+    let k = l.ready in
+    let r = k.awaits in
     let first = k.transfer.first in
     let many = r.qtds in
     let end : piece_at (note_in d.notes) first k.transfer.qtds ≡ k.endpoint.dummy = ap (piece_at (note_in d.notes) first) many ∙ end_is d.notes (k.stage ∷ k.further) first ∙ r.ends in
-    new_fed (holding d.book m) (now (32 * k.endpoint.queue)) d.notes k.endpoint.dummy k.further (note_at d.notes first).next (piece_at (note_in d.notes) first k.transfer.qtds) i l.stands r.noted.1 k.gets.1 r.short.1 l.pieces.standing l.pieces.buffered.1 l.pieces.none_at_zero end
-    (omega (arith, below, many))
+    let block = piece_at (note_in d.notes) (note_at d.notes first).next i in
+    subst (λ (sort : Sort). IsPieceFed sort (now (32 * k.endpoint.queue)) (note_at d.notes block) block (piece_at (note_in d.notes) first k.transfer.qtds)) (sym k.sort)
+    (new_fed k.endpoint.desc.name.way (holding d.book m) (now (32 * k.endpoint.queue)) d.notes k.endpoint.dummy k.further (note_at d.notes first).next (piece_at (note_in d.notes) first k.transfer.qtds) i l.stands r.noted.1 k.stages.1 r.short.1 l.pieces.standing l.pieces.buffered.1 l.pieces.none_at_zero end
+    (omega (arith, below, many)))
 
 pieces_fed : (d : DriverContent) (m : Mem) (b : ℕ) (words : List ℕ) (parts now : StructureSets) → IsLending d m b words parts now → (t i : ℕ) (y : Transfer) (x : Endpoint) → slice_get d.transfers t ≡ Some y → y.released ≡ false → slice_get d.endpoints y.endpoint ≡ Some x → unpublished_of (lent_now d m) t y ≤ i → i < y.qtds
-    → IsPieceFed (now (32 * x.queue)) (note_at d.notes (piece_at (note_in d.notes) y.first i)) (piece_at (note_in d.notes) y.first i) (piece_at (note_in d.notes) y.first y.qtds)
+    → IsPieceFed y.sort (now (32 * x.queue)) (note_at d.notes (piece_at (note_in d.notes) y.first i)) (piece_at (note_in d.notes) y.first i) (piece_at (note_in d.notes) y.first y.qtds)
 pieces_fed d m b words parts now l t i y x there held here from below =
-    let k = l.get in
+    let k = l.ready in
     ⊎_elim
     (λ (same : t ≡ k.number).
     let is : y ≡ k.transfer = same_Some y k.transfer (sym there ∙ ap (slice_get d.transfers) same ∙ k.there) in
     let queue : x ≡ k.endpoint = same_Some x k.endpoint (sym here ∙ ap (λ (z : Transfer). slice_get d.endpoints z.endpoint) is ∙ k.here) in
     let one = newest_unpublished d m b words y t k same in
     let qtds = ap (λ (z : Transfer). z.qtds) is in
-    subst (λ (z : Endpoint). IsPieceFed (now (32 * z.queue)) (note_at d.notes (piece_at (note_in d.notes) y.first i)) (piece_at (note_in d.notes) y.first i) (piece_at (note_in d.notes) y.first y.qtds)) (sym queue)
-    (subst (λ (z : Transfer). IsPieceFed (now (32 * k.endpoint.queue)) (note_at d.notes (piece_at (note_in d.notes) z.first i)) (piece_at (note_in d.notes) z.first i) (piece_at (note_in d.notes) z.first z.qtds)) (sym is)
+    subst (λ (z : Endpoint). IsPieceFed y.sort (now (32 * z.queue)) (note_at d.notes (piece_at (note_in d.notes) y.first i)) (piece_at (note_in d.notes) y.first i) (piece_at (note_in d.notes) y.first y.qtds)) (sym queue)
+    (subst (λ (z : Transfer). IsPieceFed z.sort (now (32 * k.endpoint.queue)) (note_at d.notes (piece_at (note_in d.notes) z.first i)) (piece_at (note_in d.notes) z.first i) (piece_at (note_in d.notes) z.first z.qtds)) (sym is)
     (new_piece d m b words parts now i l (omega (arith, from, one)) (omega (arith, below, qtds)))))
     (λ (differs : t ≢ k.number).
     let none = older_published d m b t words y k differs in
-    still_fed d (slot_of (lent_driver d m).book.slots) parts now (y_of k) (x_of k) k.stage k.further (32 * x.queue) (piece_at (note_in d.notes) y.first i) (piece_at (note_in d.notes) y.first y.qtds) (note_at d.notes (piece_at (note_in d.notes) y.first i)) l.pieces
+    still_fed d (slot_of (lent_driver d m).book.slots) parts now (y_of k) (x_of k) k.stage k.further (32 * x.queue) (piece_at (note_in d.notes) y.first i) (piece_at (note_in d.notes) y.first y.qtds) y.sort (note_at d.notes (piece_at (note_in d.notes) y.first i)) l.pieces
     (l.fed.pieces t i y x there held here (omega (arith, none)) below))
     (cases_eq t k.number)
 
@@ -188,8 +191,8 @@ one_command b c ws vs same = (ap (λ o. block_of o) same, ap (λ o. words_of o) 
 
 first_fed : (d : DriverContent) (m : Mem) (b : ℕ) (words : List ℕ) (parts now : StructureSets) → IsLending d m b words parts now → (c : ℕ) (ws : List ℕ) → d.command ≡ Some (unfinished.Publish c ws) → IsPublished (lent_now d m) now c ws
 first_fed d m b words parts now l c ws command =
-    let k = l.get in
-    let r = k.receiving in
+    let k = l.ready in
+    let r = k.awaits in
     let first = k.transfer.first in
     let n = 32 * k.endpoint.queue in
     let q = stage_qtd d.notes k.stage first k.endpoint.dummy (is_last k.further) in
@@ -199,10 +202,10 @@ first_fed d m b words parts now l c ws command =
     let transfer : p.transfer ≡ k.transfer = same_Some p.transfer k.transfer (sym p.there ∙ ap (slice_get d.transfers) number ∙ k.there) in
     let endpoint : p.endpoint ≡ k.endpoint = same_Some p.endpoint k.endpoint (sym p.here ∙ ap (λ (y : Transfer). slice_get d.endpoints y.endpoint) transfer ∙ k.here) in
     let block : c ≡ first = both.0 ∙ sym k.first in
-    let range = qtd_range k.stage (note_at d.notes first).next k.endpoint.dummy (note_at d.notes first).buffer (is_last k.further) r.ins.0 r.short.0 (blocks_low (holding d.book m) (note_at d.notes first) k.stage l.stands l.shape r.noted.0) in
+    let range = qtd_range k.stage (note_at d.notes first).next k.endpoint.dummy (note_at d.notes first).buffer (is_last k.further) r.pids.0 r.short.0 (blocks_low (holding d.book m) (note_at d.notes first) k.stage l.stands l.shape r.noted.0) in
     let is : p.qtd ≡ q = one_qtd p.qtd q p.range range (sym p.are ∙ both.1 ∙ k.are) in
     let none : d.made - 1 ≡ 0 = let e = k.made in omega (arith, e) in
-    let told = stage_told (slot_of d.book.slots) (note_at d.notes first) k.stage r.noted.0 k.gets.0 in
+    let told = stage_told (slot_of d.book.slots) k.endpoint.desc.name.way (note_at d.notes first) k.stage r.noted.0 k.stages.0 in
     let long : length (buffer_of (now n) q) ≡ (note_at d.notes first).told =
     long_new (slot_of d.book.slots) (now n) d.notes k.stage first k.endpoint.dummy (is_last k.further) r.noted.0 l.pieces.buffered.0 l.pieces.none_at_zero ∙ sym told in
     record {

@@ -7,7 +7,9 @@ use Rattle.run_book.specs.Book.{Holding, slot_of, Stands}
 use Rattle.run_book.proofs.Standing.{keeps_at}
 use Rattle.driver_rows.specs.declared.content.QtdNote.{QtdNote}
 use Rattle.driver_rows.specs.declared.content.Stage.{Stage}
-use Rattle.driver_rows.specs.Words.{pieces, buffer_needs, to_qtd, alternate_link, in_stage}
+use Rattle.usb_base.specs.declared.packets.Way.{Way}
+use Rattle.usb_base.specs.declared.packets.Way.TheVariants as ways
+use Rattle.driver_rows.specs.Words.{pieces, buffer_needs, to_qtd, alternate_link}
 use Rattle.driver_rows.specs.Harvests.{note_at, buffer_address}
 use Rattle.driver_rows.specs.Offers.{is_last}
 use Rattle.run_owners.specs.Owners.{note_in}
@@ -15,12 +17,14 @@ use Rattle.run_owners.specs.Accepts.{AreShort}
 use Rattle.lent_structures.specs.Structures.{Element, Buffer, Structures}
 use Rattle.queue_parts.specs.Sound.{HasBuffer}
 use Rattle.chained_transfers.specs.Chains.{piece_at}
-use Rattle.fed_queues.specs.Fed.{IsNotedQtd, IsPieceFed}
+use Rattle.chained_transfers.specs.Bulk.{sort_by, stage_by}
+use Rattle.chained_transfers.proofs.Ways.{IsBy, its_told}
+use Rattle.fed_queues.specs.Fed.{alternate_by, IsNotedQtd, IsPieceFed}
 use Rattle.transfer_lends.specs.Written.{AreRuns, next_blocks, last_block, IsStageNoted, AreNoted}
 use Rattle.transfer_lends.specs.Pieces.{stage_qtd, AreStanding, AreBuffered}
 use Rattle.transfer_lends.proofs.Lists.{IsOneOf}
 use Rattle.transfer_lends.proofs.Buffers.{take_same, runs_at, needs_case, pages_from}
-use Rattle.fed_lends.specs.ToLend.{AreGets}
+use Rattle.fed_lends.specs.ToLend.{AreStagesBy}
 use Rattle.fed_lends.proofs.Reporting.{long_new}
 
 -- ---- where its bytes stand
@@ -102,13 +106,19 @@ later_block notes (s ∷ ss) b (suc i) below = inr (later_block notes ss (note_a
 
 -- ---- one qTD
 
-pub stage_told : (slot : ℕ → Slot) (note : QtdNote) (s : Stage) → IsStageNoted slot note s → s ≡ in_stage s.long → note.told ≡ s.long
-stage_told slot note s noted is = noted.told ∙ ap (λ (r : Stage). r.told) is
+pub stage_told : (slot : ℕ → Slot) (way : Way) (note : QtdNote) (s : Stage) → IsStageNoted slot note s → IsBy way s → note.told ≡ s.long
+stage_told slot way note s noted is = noted.told ∙ its_told way s is
 
-pub stage_noted : (notes : List QtdNote) (s : Stage) (b dummy end : ℕ) (last : Bool) → s ≡ in_stage s.long → end ≡ dummy → IsNotedQtd (stage_qtd notes s b dummy last) (note_at notes b) end
-stage_noted notes s b dummy end last is at = record {
+-- a short packet leads a get to the end, and a put has none
+stage_alternate : (way : Way) (n next dummy end : ℕ) → end ≡ dummy → alternate_link (stage_by way n).alternate next dummy ≡ alternate_by (sort_by way) end
+stage_alternate ways.In n next dummy end at = ap to_qtd (sym at)
+stage_alternate ways.Out n next dummy end at = refl
+stage_alternate ways.Ctl n next dummy end at = ap to_qtd (sym at)
+
+pub stage_noted : (way : Way) (notes : List QtdNote) (s : Stage) (b dummy end : ℕ) (last : Bool) → IsBy way s → end ≡ dummy → IsNotedQtd (sort_by way) (stage_qtd notes s b dummy last) (note_at notes b) end
+stage_noted way notes s b dummy end last is at = record {
   next = refl;
-  alternate = ap (λ (r : Stage). alternate_link r.alternate (note_at notes b).next dummy) is ∙ ap to_qtd (sym at);
+  alternate = ap (λ (r : Stage). alternate_link r.alternate (note_at notes b).next dummy) is ∙ stage_alternate way s.long (note_at notes b).next dummy end at;
   offset = refl;
   page0 = refl;
   page1 = refl;
@@ -120,15 +130,15 @@ stage_noted notes s b dummy end last is at = record {
 abbrev pub NoneAtZero : Structures → Type 0
 NoneAtZero part = (pages : List ℕ) (k : ℕ) (bs : List ℕ) → part 0 ≡ Some (Buffer pages k bs) → ⊥
 
-stage_fed : (h : Holding) (part : Structures) (notes : List QtdNote) (s : Stage) (b dummy end : ℕ) (last : Bool) → Stands h → IsStageNoted (slot_of h.book.slots) (note_at notes b) s → s ≡ in_stage s.long → s.long ≤ 20480 → part (32 * b) ≡ Some (Element (stage_qtd notes s b dummy last)) → (0 < s.long → HasBuffer part (stage_qtd notes s b dummy last) s.long) → NoneAtZero part → end ≡ dummy
-    → IsPieceFed part (note_at notes b) b end
-stage_fed h part notes s b dummy end last stands noted is short here has none at =
+stage_fed : (way : Way) (h : Holding) (part : Structures) (notes : List QtdNote) (s : Stage) (b dummy end : ℕ) (last : Bool) → Stands h → IsStageNoted (slot_of h.book.slots) (note_at notes b) s → IsBy way s → s.long ≤ 20480 → part (32 * b) ≡ Some (Element (stage_qtd notes s b dummy last)) → (0 < s.long → HasBuffer part (stage_qtd notes s b dummy last) s.long) → NoneAtZero part → end ≡ dummy
+    → IsPieceFed (sort_by way) part (note_at notes b) b end
+stage_fed way h part notes s b dummy end last stands noted is short here has none at =
     let slot = slot_of h.book.slots in
-    let told = stage_told slot (note_at notes b) s noted is in
+    let told = stage_told slot way (note_at notes b) s noted is in
     record {
       qtd = stage_qtd notes s b dummy last;
       here = here;
-      noted = stage_noted notes s b dummy end last is at;
+      noted = stage_noted way notes s b dummy end last is at;
       buffer = λ some. subst (HasBuffer part (stage_qtd notes s b dummy last)) (sym told) (has (omega (arith, some, told)));
       long = long_new slot part notes s b dummy last noted has none ∙ sym told;
       places = λ j below. places_new h (note_at notes b) s j stands noted short (omega (arith, below, told));
@@ -137,9 +147,9 @@ stage_fed h part notes s b dummy end last stands noted is short here has none at
 
 -- ---- all of them
 
-pub new_fed : (h : Holding) (part : Structures) (notes : List QtdNote) (dummy : ℕ) (ss : List Stage) (b end i : ℕ) → Stands h → AreNoted (slot_of h.book.slots) notes ss b → AreGets ss → AreShort ss → AreStanding part notes dummy ss b → AreBuffered part notes dummy ss b → NoneAtZero part → end ≡ dummy → i < length ss
-    → IsPieceFed part (note_at notes (piece_at (note_in notes) b i)) (piece_at (note_in notes) b i) end
-new_fed h part notes dummy [] b end i stands noted gets short stand buffered none at below = absurd (omega (arith, below))
-new_fed h part notes dummy (s ∷ ss) b end zero stands noted gets short stand buffered none at below = stage_fed h part notes s b dummy end (is_last ss) stands noted.0 gets.0 short.0 stand.0 buffered.0 none at
-new_fed h part notes dummy (s ∷ ss) b end (suc i) stands noted gets short stand buffered none at below =
-    new_fed h part notes dummy ss (note_at notes b).next end i stands noted.1 gets.1 short.1 stand.1 buffered.1 none at (omega (arith, below))
+pub new_fed : (way : Way) (h : Holding) (part : Structures) (notes : List QtdNote) (dummy : ℕ) (ss : List Stage) (b end i : ℕ) → Stands h → AreNoted (slot_of h.book.slots) notes ss b → AreStagesBy way ss → AreShort ss → AreStanding part notes dummy ss b → AreBuffered part notes dummy ss b → NoneAtZero part → end ≡ dummy → i < length ss
+    → IsPieceFed (sort_by way) part (note_at notes (piece_at (note_in notes) b i)) (piece_at (note_in notes) b i) end
+new_fed way h part notes dummy [] b end i stands noted by short stand buffered none at below = absurd (omega (arith, below))
+new_fed way h part notes dummy (s ∷ ss) b end zero stands noted by short stand buffered none at below = stage_fed way h part notes s b dummy end (is_last ss) stands noted.0 by.0 short.0 stand.0 buffered.0 none at
+new_fed way h part notes dummy (s ∷ ss) b end (suc i) stands noted by short stand buffered none at below =
+    new_fed way h part notes dummy ss (note_at notes b).next end i stands noted.1 by.1 short.1 stand.1 buffered.1 none at (omega (arith, below))

@@ -9,6 +9,7 @@ use Rattle.run_book.specs.Book.{slot_of}
 use Rattle.driver_rows.specs.declared.content.Endpoint.{Endpoint}
 use Rattle.driver_rows.specs.declared.content.Transfer.{Transfer}
 use Rattle.driver_rows.specs.declared.content.QtdNote.{QtdNote}
+use Rattle.driver_rows.specs.declared.content.Sort.{Sort as TransferSort}
 use Rattle.driver_rows.specs.DriverContent.{DriverContent}
 use Rattle.driver_rows.specs.Words.{dummy_qtd}
 use Rattle.driver_rows.specs.Harvests.{note_at}
@@ -43,8 +44,8 @@ mapped f (Some x) y is = record { value = x; here = refl; is = same_Some (f x) y
 
 -- ---- the name of a noted qTD's buffer
 
-noted_pages : (t : Qtd) (note : QtdNote) (end : ℕ) → IsNotedQtd t note end → element_pages t ≡ pages_from note.buffer
-noted_pages t note end is =
+noted_pages : (sort : TransferSort) (t : Qtd) (note : QtdNote) (end : ℕ) → IsNotedQtd sort t note end → element_pages t ≡ pages_from note.buffer
+noted_pages sort t note end is =
     let b = note.buffer in
     ap (λ (p : ℕ). p ∷ t.page1 ∷ t.page2 ∷ t.page3 ∷ t.page4 ∷ []) is.page0
     ∙ ap (λ (p : ℕ). get_or b 0 0 / 128 ∷ p ∷ t.page2 ∷ t.page3 ∷ t.page4 ∷ []) is.page1
@@ -52,8 +53,8 @@ noted_pages t note end is =
     ∙ ap (λ (p : ℕ). get_or b 0 0 / 128 ∷ get_or b 1 0 / 128 ∷ get_or b 2 0 / 128 ∷ p ∷ t.page4 ∷ []) is.page3
     ∙ ap (λ (p : ℕ). get_or b 0 0 / 128 ∷ get_or b 1 0 / 128 ∷ get_or b 2 0 / 128 ∷ get_or b 3 0 / 128 ∷ p ∷ []) is.page4
 
-pub noted_name : (t : Qtd) (note : QtdNote) (end : ℕ) → IsNotedQtd t note end → buffer_name t ≡ 32 * get_or note.buffer 0 0
-noted_name t note end is = ap (λ (ps : List ℕ). place ps t.offset) (noted_pages t note end is) ∙ ap (place (pages_from note.buffer)) is.offset ∙ name_at note.buffer
+pub noted_name : (sort : TransferSort) (t : Qtd) (note : QtdNote) (end : ℕ) → IsNotedQtd sort t note end → buffer_name t ≡ 32 * get_or note.buffer 0 0
+noted_name sort t note end is = ap (λ (ps : List ℕ). place ps t.offset) (noted_pages sort t note end is) ∙ ap (place (pages_from note.buffer)) is.offset ∙ name_at note.buffer
 
 -- a buffer that is told begins in a run that is lent
 buffer_run : (v : Views) (n a : ℕ) (k : Sort) → k ≡ OfBuffer → IsDriverOwned v n a k → NamesRun v.slot a
@@ -64,15 +65,15 @@ buffer_run v _ _ _ kind (a_dummy e x is lent) = absurd (cc)
 buffer_run v _ _ _ kind (a_piece t b y x is piece lent) = absurd (cc)
 buffer_run v _ _ _ kind (a_buffer t b c cs y x is piece first lent) = record { block = c; is = refl; lent = lent }
 
-fed_name : (d : DriverContent) (parts : StructureSets) (n b end : ℕ) → IsDriven (views_of d) (sorts_of parts) → AreBlank d → (p : IsPieceFed (parts n) (note_at d.notes b) b end) → (buffer_name p.qtd ≡ 0) ⊎ NamesRun (slot_of d.book.slots) (buffer_name p.qtd)
-fed_name d parts n b end driven blank p =
+fed_name : (d : DriverContent) (parts : StructureSets) (n b end : ℕ) (sort : TransferSort) → IsDriven (views_of d) (sorts_of parts) → AreBlank d → (p : IsPieceFed sort (parts n) (note_at d.notes b) b end) → (buffer_name p.qtd ≡ 0) ⊎ NamesRun (slot_of d.book.slots) (buffer_name p.qtd)
+fed_name d parts n b end sort driven blank p =
     ⊎_elim
     (λ (some : 0 < (note_at d.notes b).told).
     let h = p.buffer some in
     inr (buffer_run (views_of d) n (buffer_name p.qtd) OfBuffer refl (driven.only n (buffer_name p.qtd) OfBuffer (ap (option_map sort_of) h.here))))
     (λ (none : (note_at d.notes b).told ≤ 0).
     let zero : get_or (note_at d.notes b).buffer 0 0 ≡ 0 = blank b (omega (arith, none)) in
-    inl (noted_name p.qtd (note_at d.notes b) end p.noted ∙ ap (λ (i : ℕ). 32 * i) zero))
+    inl (noted_name sort p.qtd (note_at d.notes b) end p.noted ∙ ap (λ (i : ℕ). 32 * i) zero))
     (cases_lt 0 (note_at d.notes b).told)
 
 -- ---- each qTD
@@ -96,7 +97,7 @@ older_published d m b t words y k differs =
 -- a further qTD of the newest one isn't lent
 further_kept : (d : DriverContent) (m : Mem) (b i : ℕ) (words : List ℕ) → (k : IsToBeLent d m b words) → suc i < k.transfer.qtds → IsLent (slot_of d.book.slots (piece_at (note_in d.notes) k.transfer.first (suc i))) → ⊥
 further_kept d m b i words k below lent =
-    let r = k.receiving in
+    let r = k.awaits in
     let ss = k.stage ∷ k.further in
     let many = r.qtds in
     let block = later_block d.notes ss k.transfer.first i (omega (arith, below, many)) in
@@ -146,7 +147,7 @@ element_name d m b words parts _ _ _ u k fed driven blank kind (a_piece t c y x 
     (λ (differs : t ≢ k.number).
     let p = fed.pieces t i z w oy.here (ap (λ (r : TransferRuns). r.released) oy.is ∙ is.held) of_endpoint (let e = older_published d m b t words z k differs in omega (arith, e)) below in
     let same : p.qtd ≡ u = found_element (parts (32 * w.queue) (32 * piece_at note z.first i)) p.qtd u p.here here in
-    subst (λ (q : Qtd). (buffer_name q ≡ 0) ⊎ NamesRun (slot_of d.book.slots) (buffer_name q)) same (fed_name d parts (32 * w.queue) (piece_at note z.first i) (piece_at note z.first z.qtds) driven blank p))
+    subst (λ (q : Qtd). (buffer_name q ≡ 0) ⊎ NamesRun (slot_of d.book.slots) (buffer_name q)) same (fed_name d parts (32 * w.queue) (piece_at note z.first i) (piece_at note z.first z.qtds) z.sort driven blank p))
     (cases_eq t k.number)
   where
     newest : (z : Transfer) (w : Endpoint) (i : ℕ) → i < z.qtds → z ≡ k.transfer → slice_get d.endpoints z.endpoint ≡ Some w → parts (32 * w.queue) (32 * piece_at (note_in d.notes) z.first i) ≡ Some (Element u) → IsLent (slot_of d.book.slots (piece_at (note_in d.notes) z.first i)) → (buffer_name u ≡ 0) ⊎ NamesRun (slot_of d.book.slots) (buffer_name u)

@@ -1,4 +1,4 @@
--- The order of the queues' qTDs, and what is out of each, once a get is lent.
+-- The order of the queues' qTDs, and what is out of each, once a transfer is lent.
 use Rattle.std.proofs.Common.{◌≡◌, ◌≢◌, ℕ, zero, suc, ◌+◌, ◌*◌, ◌<◌, Bool, List, [], ◌∷◌, ◌++◌, length, take, drop, slice_get, Option, Some, None, option_map, if◌then◌else◌, ap, refl, sym, subst, ◌∙◌, arith}
 use Rattle.std.proofs.lemmas.Bool.{eq-eqb}
 use Rattle.std.proofs.lemmas.List.{append-nil, length-take-le}
@@ -31,11 +31,11 @@ at_else f n y i differs = ap (λ (t : Bool). if t then y else f i) (not_same i n
 
 -- ---- other queues
 
-pub queue_apart : (d : DriverContent) (m : Mem) (b : ℕ) (words : List ℕ) (parts now : StructureSets) (e : ℕ) (x : Endpoint) → (l : IsLending d m b words parts now) → slice_get d.endpoints e ≡ Some x → e ≢ l.get.transfer.endpoint → 32 * x.queue ≢ 32 * l.get.endpoint.queue
+pub queue_apart : (d : DriverContent) (m : Mem) (b : ℕ) (words : List ℕ) (parts now : StructureSets) (e : ℕ) (x : Endpoint) → (l : IsLending d m b words parts now) → slice_get d.endpoints e ≡ Some x → e ≢ l.ready.transfer.endpoint → 32 * x.queue ≢ 32 * l.ready.endpoint.queue
 queue_apart d m b words parts now e x l here differs same =
-    let k = l.get in
-    let one = (l.has.owned.each.queue e (runs_of_endpoint x) (ap (option_map runs_of_endpoint) here) (bare_is d e x l.receives here)).owned in
-    let two = (l.has.owned.each.queue k.transfer.endpoint (runs_of_endpoint k.endpoint) (ap (option_map runs_of_endpoint) k.here) (bare_is d k.transfer.endpoint k.endpoint l.receives k.here)).owned in
+    let k = l.ready in
+    let one = (l.has.owned.each.queue e (runs_of_endpoint x) (ap (option_map runs_of_endpoint) here) (bare_is d e x l.bulk here)).owned in
+    let two = (l.has.owned.each.queue k.transfer.endpoint (runs_of_endpoint k.endpoint) (ap (option_map runs_of_endpoint) k.here) (bare_is d k.transfer.endpoint k.endpoint l.bulk k.here)).owned in
     differs (one_queue (sym one ∙ ap l.has.owner (let f : x.queue ≡ k.endpoint.queue = omega (arith, same) in f) ∙ two))
   where
     one_queue : {f : ℕ} → QueueHead e ≡ QueueHead f → e ≡ f
@@ -54,7 +54,7 @@ transfers_are : (d : DriverContent) (m : Mem) (b : ℕ) (words : List ℕ) → (
 transfers_are d m b words k = last_apart d.transfers k.number k.transfer k.newest k.there
 
 chain_length : (d : DriverContent) (m : Mem) (b : ℕ) (words : List ℕ) → (k : IsToBeLent d m b words) → pieces_from (note_in d.notes) k.transfer.place k.transfer.left ≡ 32 * k.transfer.first ∷ new_out d (y_of k) k.further
-chain_length d m b words k = ap (λ (c : ℕ). pieces_from (note_in d.notes) c k.transfer.left) k.place ∙ ap (pieces_from (note_in d.notes) k.transfer.first) (k.left ∙ k.receiving.qtds)
+chain_length d m b words k = ap (λ (c : ℕ). pieces_from (note_in d.notes) c k.transfer.left) k.place ∙ ap (pieces_from (note_in d.notes) k.transfer.first) (k.left ∙ k.awaits.qtds)
 
 -- of its endpoint, by how many of its first qTDs aren't published
 out_is : (d : DriverContent) (m : Mem) (b : ℕ) (words : List ℕ) (c : Option Command) (made : ℕ) → (k : IsToBeLent d m b words) → out_of (note_in d.notes) k.transfer.endpoint c made d.transfers ≡ early d k.number k.transfer.endpoint ++ drop (unpublished c made k.transfer.qtds) (32 * k.transfer.first ∷ new_out d (y_of k) k.further)
@@ -63,7 +63,7 @@ out_is d m b words c made k =
     let note = note_in d.notes in
     let e = k.transfer.endpoint in
     ap (out_of note e c made) (transfers_are d m b words k) ∙ out_apart note e c made (older d k.number) k.transfer
-    ∙ ap (λ (es : List ℕ). out_of note e None 0 (older d k.number) ++ es) (its_out note e (unpublished c made k.transfer.qtds) k.transfer refl k.receiving.here.held k.fresh)
+    ∙ ap (λ (es : List ℕ). out_of note e None 0 (older d k.number) ++ es) (its_out note e (unpublished c made k.transfer.qtds) k.transfer refl k.awaits.here.held k.fresh)
     ∙ ap (λ (es : List ℕ). out_of note e None 0 (older d k.number) ++ drop (unpublished c made k.transfer.qtds) es) (chain_length d m b words k)
 
 -- of another endpoint
@@ -80,7 +80,7 @@ pub out_before : (d : DriverContent) (m : Mem) (b : ℕ) (words : List ℕ) → 
 out_before d m b words k =
     let note = note_in d.notes in
     let rest = 32 * k.transfer.first ∷ new_out d (y_of k) k.further in
-    let all : unpublished d.command d.made k.transfer.qtds ≡ suc (length k.further) = ap (λ (c : Option Command). unpublished c d.made k.transfer.qtds) k.command ∙ ap (λ (i : ℕ). unpublished (Some (unfinished.Publish b words)) i k.transfer.qtds) k.made ∙ k.receiving.qtds in
+    let all : unpublished d.command d.made k.transfer.qtds ≡ suc (length k.further) = ap (λ (c : Option Command). unpublished c d.made k.transfer.qtds) k.command ∙ ap (λ (i : ℕ). unpublished (Some (unfinished.Publish b words)) i k.transfer.qtds) k.made ∙ k.awaits.qtds in
     out_is d m b words d.command d.made k
     ∙ ap (λ (i : ℕ). early d k.number k.transfer.endpoint ++ drop i rest) all
     ∙ ap (λ (es : List ℕ). early d k.number k.transfer.endpoint ++ es) (drop_all note k.transfer.first (suc (length k.further)))
@@ -103,10 +103,10 @@ taken_older (z ∷ ts) zero i y there = absurd (cc)
 taken_older (z ∷ ts) (suc n) zero y there = (omega arith, there)
 taken_older (z ∷ ts) (suc n) (suc i) y there = let r = taken_older ts n i y there in let l = r.0 in (omega (arith, l), r.1)
 
-pub early_owner : (d : DriverContent) (m : Mem) (b : ℕ) (words : List ℕ) (parts now : StructureSets) → (l : IsLending d m b words parts now) → AreInTurn d → IsAmong (32 * l.get.transfer.first) (early d l.get.number l.get.transfer.endpoint) → ⊥
+pub early_owner : (d : DriverContent) (m : Mem) (b : ℕ) (words : List ℕ) (parts now : StructureSets) → (l : IsLending d m b words parts now) → AreInTurn d → IsAmong (32 * l.ready.transfer.first) (early d l.ready.number l.ready.transfer.endpoint) → ⊥
 unfolding early
 early_owner d m b words parts now l turns among =
-    let k = l.get in
+    let k = l.ready in
     let slot = slot_of d.book.slots in
     let note = note_in d.notes in
     let o = out_owner slot l.has.owner note k.transfer.endpoint (older d k.number) 0 (32 * k.transfer.first)
@@ -115,7 +115,7 @@ early_owner d m b words parts now l turns among =
     let at = turns.places i y was.1 held in
     subst (λ (j : ℕ). IsOwnedTransfer slot l.has.owner note j y) (let e : i ≡ 0 + i = omega arith in e)
     (record { pieces = l.has.owned.each.pieces i (runs_of_transfer y) (ap (option_map runs_of_transfer) was.1) held; most = at.most; place = at.place })) among in
-    let r = k.receiving in
+    let r = k.awaits in
     let mine = (subst (λ (n : ℕ). ArePieces slot l.has.owner note k.number k.transfer.first n) r.qtds (l.has.owned.each.pieces k.number (runs_of_transfer k.transfer) r.here.here r.here.held)).0.element.owned in
     let few : length (older d k.number) ≡ k.number = length-take-le k.number d.transfers (let e = k.newest in omega (arith, e)) in
     let block : o.block ≡ k.transfer.first = let e = o.at in omega (arith, e) in

@@ -27,7 +27,7 @@ use Rattle.spared_streams.specs.Sparing.{SameHand, SparesHead}
 use Rattle.spared_streams.proofs.Sparing.{spared_told, published_adds}
 use Rattle.chained_transfers.specs.Out.{pieces_from}
 use Rattle.fed_queues.specs.Places.{IsLast}
-use Rattle.transfer_lends.specs.Written.{AreAllApart, next_blocks, buffer_blocks, AreRuns, IsStageNoted, AreNoted, IsReceiving}
+use Rattle.transfer_lends.specs.Written.{AreAllApart, next_blocks, buffer_blocks, AreRuns, IsStageNoted, AreNoted, AwaitsLend}
 use Rattle.transfer_lends.specs.Pieces.{stage_qtd, IsNewQtd, AreStanding, AreBuffered}
 use Rattle.transfer_lends.specs.Laws.{HasPieces}
 use Rattle.transfer_lends.proofs.Lists.{IsOneOf, apart_left}
@@ -41,7 +41,7 @@ use Rattle.fed_lends.proofs.Numbering.{IsNumbered, numbered_case, AreNumbered, n
 pub some_none : (o : Option Structure) (s : Structure) → o ≡ None → o ≡ Some s → ⊥
 some_none o s none some = cc
 
-pub numbers : (d : DriverContent) (m : Mem) (t : ℕ) (y : TransferRuns) (x : EndpointRuns) (s : Stage) (ss : List Stage) (k : ℕ) (order : ℕ → ℕ) → IsReceiving d m t y x s ss → AreNumbered (new_order d y ss k order) d.notes ss (second d y) k
+pub numbers : (d : DriverContent) (m : Mem) (t : ℕ) (y : TransferRuns) (x : EndpointRuns) (s : Stage) (ss : List Stage) (k : ℕ) (order : ℕ → ℕ) → AwaitsLend d m t y x s ss → AreNumbered (new_order d y ss k order) d.notes ss (second d y) k
 numbers d m t y x s ss k order r =
     numbers_are d.notes ss (second d y) k order (apart_left (next_blocks d.notes (s ∷ ss) y.first) (buffer_blocks d.notes (s ∷ ss) y.first) (subst AreAllApart r.taken r.apart))
 
@@ -103,7 +103,7 @@ fresh_new slot part notes dummy (s ∷ ss) b a u noted buffered none (inl new) o
     subst (IsFresh part) (sym new.1) (sym (long_new slot part notes s b dummy (is_last ss) noted.0 buffered.0 none))
 fresh_new slot part notes dummy (s ∷ ss) b a u noted buffered none (inr new) on = fresh_new slot part notes dummy ss (note_at notes b).next a u noted.1 buffered.1 none new on
 
-ordered_on : (d : DriverContent) (m : Mem) (t : ℕ) (y : TransferRuns) (x : EndpointRuns) (s : Stage) (ss : List Stage) (slot : ℕ → Slot) (member : ℕ → Bool) (parts now : StructureSets) (order : ℕ → ℕ) (place k : ℕ) → IsReceiving d m t y x s ss → HasPieces d slot parts now y x s ss → IsMember member (32 * x.queue) (parts (32 * x.queue)) → place ≤ k
+ordered_on : (d : DriverContent) (m : Mem) (t : ℕ) (y : TransferRuns) (x : EndpointRuns) (s : Stage) (ss : List Stage) (slot : ℕ → Slot) (member : ℕ → Bool) (parts now : StructureSets) (order : ℕ → ℕ) (place k : ℕ) → AwaitsLend d m t y x s ss → HasPieces d slot parts now y x s ss → IsMember member (32 * x.queue) (parts (32 * x.queue)) → place ≤ k
     → IsOrdered order place (32 * x.queue) (parts (32 * x.queue)) → IsOrdered (new_order d y ss k order) place (32 * x.queue) (now (32 * x.queue))
 ordered_on d m t y x s ss slot member parts now order place k r has on most old =
     let n = 32 * x.queue in

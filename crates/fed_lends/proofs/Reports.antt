@@ -1,4 +1,4 @@
--- What is reported of each queue, once a get is lent.
+-- What is reported of each queue, once a transfer is lent.
 use Rattle.std.proofs.Common.{◌≡◌, ◌≢◌, ℕ, suc, ◌+◌, ◌*◌, ◌<◌, Bool, true, List, ◌∷◌, ◌++◌, slice_get, Some, None, ap, sym, subst, ◌∙◌, ⊎_elim, arith}
 use Rattle.std.proofs.lemmas.Bool.{cases_eq}
 use Rattle.std.proofs.lemmas.Option.{same_Some}
@@ -20,8 +20,7 @@ use Rattle.reported_streams.specs.Reported.{IsReported, AreReported}
 use Rattle.driver_parts.specs.Inventory.{IsLent}
 use Rattle.chained_transfers.specs.Turns.{AreInTurn}
 use Rattle.chained_transfers.specs.Out.{out_now, out_all}
-use Rattle.fed_queues.specs.Places.{IsMet, HaveStreams, IsLast, AreLast, AreStillOut}
-use Rattle.ring_streams.specs.Told.{Endpoint as Told}
+use Rattle.fed_queues.specs.Places.{IsMet, IsLast, AreLast, AreStillOut}
 use Rattle.transfer_lends.specs.Laws.{lent_driver, HasPieces}
 use Rattle.fed_lends.specs.Numbers.{at_queue}
 use Rattle.fed_lends.specs.Streams.{second, new_order, new_out}
@@ -52,14 +51,14 @@ other_reports d slot parts now y x s ss order out hand n acc reported has differ
 -- ---- its own
 
 -- what is known beside the lend
-pub record IsOrdering (d : DriverContent) (m : Mem) (b : ℕ) (words : List ℕ) (parts now : StructureSets) (member streams : ℕ → Bool) (ends : ℕ → Told) (order : ℕ → ℕ → ℕ) (out : ℕ → List ℕ) (hand : Hand) (acc : ℕ → List (List ℕ)) (reported : ℕ → List ℕ) : Type 0 where
+pub record IsOrdering (d : DriverContent) (m : Mem) (b : ℕ) (words : List ℕ) (parts now : StructureSets) (member heads : ℕ → Bool) (order : ℕ → ℕ → ℕ) (out : ℕ → List ℕ) (hand : Hand) (acc : ℕ → List (List ℕ)) (reported : ℕ → List ℕ) : Type 0 where
   pub lending : IsLending d m b words parts now
   pub turns : AreInTurn d
-  pub sound : IsMember member (32 * lending.get.endpoint.queue) (parts (32 * lending.get.endpoint.queue))
-  pub reports : AreReported streams order out hand parts acc reported
+  pub sound : IsMember member (32 * lending.ready.endpoint.queue) (parts (32 * lending.ready.endpoint.queue))
+  pub reports : AreReported heads order out hand parts acc reported
   pub last : AreLast d parts order
   pub still_out : AreStillOut d out
-  pub have : HaveStreams d streams ends
+  pub counted : (e : ℕ) (x : Endpoint) → slice_get d.endpoints e ≡ Some x → IsMet d x → heads (32 * x.queue) ≡ true
 
 pub is_met : (d : DriverContent) (m : Mem) (b : ℕ) (words : List ℕ) (x : Endpoint) → IsToBeLent d m b words → IsMet d x
 is_met d m b words x k opens = never (sym k.command ∙ opens)
@@ -70,18 +69,18 @@ is_met d m b words x k opens = never (sym k.command ∙ opens)
 pub queue_of : {d : DriverContent} {m : Mem} {b : ℕ} {words : List ℕ} → IsToBeLent d m b words → ℕ
 queue_of k = 32 * k.endpoint.queue
 
-pub its_stream : {d : DriverContent} {m : Mem} {b : ℕ} {words : List ℕ} {parts now : StructureSets} {member streams : ℕ → Bool} {ends : ℕ → Told} {order : ℕ → ℕ → ℕ} {out : ℕ → List ℕ} {hand : Hand} {acc : ℕ → List (List ℕ)} {reported : ℕ → List ℕ} → (o : IsOrdering d m b words parts now member streams ends order out hand acc reported) → streams (32 * o.lending.get.endpoint.queue) ≡ true
-its_stream {d = d} {m = m} {b = b} {words = words} o = let k = o.lending.get in (o.have.each k.transfer.endpoint k.endpoint k.here (is_met d m b words k.endpoint k)).0
+pub is_counted : {d : DriverContent} {m : Mem} {b : ℕ} {words : List ℕ} {parts now : StructureSets} {member heads : ℕ → Bool} {order : ℕ → ℕ → ℕ} {out : ℕ → List ℕ} {hand : Hand} {acc : ℕ → List (List ℕ)} {reported : ℕ → List ℕ} → (o : IsOrdering d m b words parts now member heads order out hand acc reported) → heads (32 * o.lending.ready.endpoint.queue) ≡ true
+is_counted {d = d} {m = m} {b = b} {words = words} o = let k = o.lending.ready in o.counted k.transfer.endpoint k.endpoint k.here (is_met d m b words k.endpoint k)
 
 -- numbers from here on are above all that stand
-pub from_here : {d : DriverContent} {m : Mem} {b : ℕ} {words : List ℕ} {parts now : StructureSets} {member streams : ℕ → Bool} {ends : ℕ → Told} {order : ℕ → ℕ → ℕ} {out : ℕ → List ℕ} {hand : Hand} {acc : ℕ → List (List ℕ)} {reported : ℕ → List ℕ} → IsOrdering d m b words parts now member streams ends order out hand acc reported → ℕ → ℕ
-from_here {order = order} o least = let k = o.lending.get in suc (least + order (32 * k.endpoint.queue) (32 * k.transfer.first) + (o.reports (32 * k.endpoint.queue) (its_stream o)).place)
+pub from_here : {d : DriverContent} {m : Mem} {b : ℕ} {words : List ℕ} {parts now : StructureSets} {member heads : ℕ → Bool} {order : ℕ → ℕ → ℕ} {out : ℕ → List ℕ} {hand : Hand} {acc : ℕ → List (List ℕ)} {reported : ℕ → List ℕ} → IsOrdering d m b words parts now member heads order out hand acc reported → ℕ → ℕ
+from_here {order = order} o least = let k = o.lending.ready in suc (least + order (32 * k.endpoint.queue) (32 * k.transfer.first) + (o.reports (32 * k.endpoint.queue) (is_counted o)).place)
 
-pub least_below : {d : DriverContent} {m : Mem} {b : ℕ} {words : List ℕ} {parts now : StructureSets} {member streams : ℕ → Bool} {ends : ℕ → Told} {order : ℕ → ℕ → ℕ} {out : ℕ → List ℕ} {hand : Hand} {acc : ℕ → List (List ℕ)} {reported : ℕ → List ℕ} → (o : IsOrdering d m b words parts now member streams ends order out hand acc reported) (least : ℕ) → least < from_here o least
+pub least_below : {d : DriverContent} {m : Mem} {b : ℕ} {words : List ℕ} {parts now : StructureSets} {member heads : ℕ → Bool} {order : ℕ → ℕ → ℕ} {out : ℕ → List ℕ} {hand : Hand} {acc : ℕ → List (List ℕ)} {reported : ℕ → List ℕ} → (o : IsOrdering d m b words parts now member heads order out hand acc reported) (least : ℕ) → least < from_here o least
 unfolding from_here
 least_below o least = omega arith
 
-pub first_below : {d : DriverContent} {m : Mem} {b : ℕ} {words : List ℕ} {parts now : StructureSets} {member streams : ℕ → Bool} {ends : ℕ → Told} {order : ℕ → ℕ → ℕ} {out : ℕ → List ℕ} {hand : Hand} {acc : ℕ → List (List ℕ)} {reported : ℕ → List ℕ} → (o : IsOrdering d m b words parts now member streams ends order out hand acc reported) (least : ℕ) → order (32 * o.lending.get.endpoint.queue) (32 * o.lending.get.transfer.first) < from_here o least
+pub first_below : {d : DriverContent} {m : Mem} {b : ℕ} {words : List ℕ} {parts now : StructureSets} {member heads : ℕ → Bool} {order : ℕ → ℕ → ℕ} {out : ℕ → List ℕ} {hand : Hand} {acc : ℕ → List (List ℕ)} {reported : ℕ → List ℕ} → (o : IsOrdering d m b words parts now member heads order out hand acc reported) (least : ℕ) → order (32 * o.lending.ready.endpoint.queue) (32 * o.lending.ready.transfer.first) < from_here o least
 unfolding from_here
 first_below o least = omega arith
 
@@ -94,29 +93,29 @@ order_lent k from order = at_queue order (32 * k.endpoint.queue) (queue_order k 
 abbrev pub out_lent : {d : DriverContent} {m : Mem} {b : ℕ} {words : List ℕ} → IsToBeLent d m b words → (ℕ → List ℕ) → ℕ → List ℕ
 out_lent {d = d} k out = at_queue out (32 * k.endpoint.queue) (out (32 * k.endpoint.queue) ++ new_out d (y_of k) k.further)
 
-pub first_last : {d : DriverContent} {m : Mem} {b : ℕ} {words : List ℕ} {parts now : StructureSets} {member streams : ℕ → Bool} {ends : ℕ → Told} {order : ℕ → ℕ → ℕ} {out : ℕ → List ℕ} {hand : Hand} {acc : ℕ → List (List ℕ)} {reported : ℕ → List ℕ} → (o : IsOrdering d m b words parts now member streams ends order out hand acc reported) → IsLast (order (32 * o.lending.get.endpoint.queue)) (parts (32 * o.lending.get.endpoint.queue)) (32 * o.lending.get.transfer.first)
+pub first_last : {d : DriverContent} {m : Mem} {b : ℕ} {words : List ℕ} {parts now : StructureSets} {member heads : ℕ → Bool} {order : ℕ → ℕ → ℕ} {out : ℕ → List ℕ} {hand : Hand} {acc : ℕ → List (List ℕ)} {reported : ℕ → List ℕ} → (o : IsOrdering d m b words parts now member heads order out hand acc reported) → IsLast (order (32 * o.lending.ready.endpoint.queue)) (parts (32 * o.lending.ready.endpoint.queue)) (32 * o.lending.ready.transfer.first)
 first_last {b = b} {words = words} {parts = parts} {order = order} o =
-    let k = o.lending.get in
+    let k = o.lending.ready in
     subst (λ (c : ℕ). IsLast (order (32 * k.endpoint.queue)) (parts (32 * k.endpoint.queue)) (32 * c)) (sym k.first) (o.last.taken b words k.number k.transfer k.endpoint k.command k.made k.newest k.there k.first k.here)
 
-pub all_reported : {d : DriverContent} {m : Mem} {b : ℕ} {words : List ℕ} {parts now : StructureSets} {member streams : ℕ → Bool} {ends : ℕ → Told} {order : ℕ → ℕ → ℕ} {out : ℕ → List ℕ} {hand : Hand} {acc : ℕ → List (List ℕ)} {reported : ℕ → List ℕ} → (o : IsOrdering d m b words parts now member streams ends order out hand acc reported) (least : ℕ)
-    → AreReported streams (order_lent o.lending.get (from_here o least) order) (out_lent o.lending.get out) hand now acc reported
+pub all_reported : {d : DriverContent} {m : Mem} {b : ℕ} {words : List ℕ} {parts now : StructureSets} {member heads : ℕ → Bool} {order : ℕ → ℕ → ℕ} {out : ℕ → List ℕ} {hand : Hand} {acc : ℕ → List (List ℕ)} {reported : ℕ → List ℕ} → (o : IsOrdering d m b words parts now member heads order out hand acc reported) (least : ℕ)
+    → AreReported heads (order_lent o.lending.ready (from_here o least) order) (out_lent o.lending.ready out) hand now acc reported
 unfolding from_here
-all_reported {d = d} {m = m} {b = b} {words = words} {parts = parts} {now = now} {member = member} {streams = streams} {order = order} {out = out} {hand = hand} {acc = acc} {reported = reported} o least i on =
+all_reported {d = d} {m = m} {b = b} {words = words} {parts = parts} {now = now} {member = member} {order = order} {out = out} {hand = hand} {acc = acc} {reported = reported} o least i on =
     let l = o.lending in
-    let k = l.get in
+    let k = l.ready in
     let n = 32 * k.endpoint.queue in
     let slot = slot_of (lent_driver d m).book.slots in
     let from = from_here o least in
     let f = queue_order k from order in
     let more = out n ++ new_out d (y_of k) k.further in
-    let r = o.reports n (its_stream o) in
+    let r = o.reports n (is_counted o) in
     ⊎_elim
     (λ (same : i ≡ n).
     subst (λ (j : ℕ). IsReported (order_lent k from order j) (out_lent k out j) hand now j (acc j) (reported j)) (sym same)
     (subst (λ (g : ℕ → ℕ). IsReported g (out_lent k out n) hand now n (acc n) (reported n)) (sym (at_here order n f))
     (subst (λ (es : List ℕ). IsReported f es hand now n (acc n) (reported n)) (sym (at_here out n more))
-    (lend_leaves_reports d m k.number (y_of k) (x_of k) k.stage k.further slot member parts now (order n) (out n) hand (acc n) (reported n) from k.receiving l.pieces o.sound (first_last o) (omega arith) r (omega arith)))))
+    (lend_leaves_reports d m k.number (y_of k) (x_of k) k.stage k.further slot member parts now (order n) (out n) hand (acc n) (reported n) from k.awaits l.pieces o.sound (first_last o) (omega arith) r (omega arith)))))
     (λ (differs : i ≢ n).
     subst (λ (g : ℕ → ℕ). IsReported g (out_lent k out i) hand now i (acc i) (reported i)) (sym (at_else order n f i differs))
     (subst (λ (es : List ℕ). IsReported (order i) es hand now i (acc i) (reported i)) (sym (at_else out n more i differs))
@@ -125,12 +124,12 @@ all_reported {d = d} {m = m} {b = b} {words = words} {parts = parts} {now = now}
 
 -- ---- the ends of the queues
 
-dummies_last : {d : DriverContent} {m : Mem} {b : ℕ} {words : List ℕ} {parts now : StructureSets} {member streams : ℕ → Bool} {ends : ℕ → Told} {order : ℕ → ℕ → ℕ} {out : ℕ → List ℕ} {hand : Hand} {acc : ℕ → List (List ℕ)} {reported : ℕ → List ℕ} → (o : IsOrdering d m b words parts now member streams ends order out hand acc reported) (least : ℕ)
-    → (e : ℕ) (x : Endpoint) → slice_get d.endpoints e ≡ Some x → IsLent (slot_of (lent_driver d m).book.slots x.dummy) → IsLast (order_lent o.lending.get (from_here o least) order (32 * x.queue)) (now (32 * x.queue)) (32 * x.dummy)
+dummies_last : {d : DriverContent} {m : Mem} {b : ℕ} {words : List ℕ} {parts now : StructureSets} {member heads : ℕ → Bool} {order : ℕ → ℕ → ℕ} {out : ℕ → List ℕ} {hand : Hand} {acc : ℕ → List (List ℕ)} {reported : ℕ → List ℕ} → (o : IsOrdering d m b words parts now member heads order out hand acc reported) (least : ℕ)
+    → (e : ℕ) (x : Endpoint) → slice_get d.endpoints e ≡ Some x → IsLent (slot_of (lent_driver d m).book.slots x.dummy) → IsLast (order_lent o.lending.ready (from_here o least) order (32 * x.queue)) (now (32 * x.queue)) (32 * x.dummy)
 unfolding from_here
 dummies_last {d = d} {m = m} {b = b} {words = words} {parts = parts} {now = now} {order = order} o least e x here lent =
     let l = o.lending in
-    let k = l.get in
+    let k = l.ready in
     let n = 32 * k.endpoint.queue in
     let from = from_here o least in
     let f = queue_order k from order in
@@ -139,7 +138,7 @@ dummies_last {d = d} {m = m} {b = b} {words = words} {parts = parts} {now = now}
     let is : x ≡ k.endpoint = same_Some x k.endpoint (sym here ∙ ap (slice_get d.endpoints) same ∙ k.here) in
     subst (λ (z : Endpoint). IsLast (order_lent k from order (32 * z.queue)) (now (32 * z.queue)) (32 * z.dummy)) (sym is)
     (subst (λ (g : ℕ → ℕ). IsLast g (now n) (32 * k.endpoint.dummy)) (sym (at_here order n f))
-    (lend_ends_queue d m k.number (y_of k) (x_of k) k.stage k.further (slot_of (lent_driver d m).book.slots) parts now (order n) from k.receiving l.pieces (first_last o) (omega arith))))
+    (lend_ends_queue d m k.number (y_of k) (x_of k) k.stage k.further (slot_of (lent_driver d m).book.slots) parts now (order n) from k.awaits l.pieces (first_last o) (omega arith))))
     (λ (differs : e ≢ k.transfer.endpoint).
     let apart = queue_apart d m b words parts now e x l here differs in
     subst (λ (g : ℕ → ℕ). IsLast g (now (32 * x.queue)) (32 * x.dummy)) (sym (at_else order n f (32 * x.queue) apart))
@@ -149,15 +148,15 @@ dummies_last {d = d} {m = m} {b = b} {words = words} {parts = parts} {now = now}
 
 -- ---- what is out
 
-pub out_stays : {d : DriverContent} {m : Mem} {b : ℕ} {words : List ℕ} {parts now : StructureSets} {member streams : ℕ → Bool} {ends : ℕ → Told} {order : ℕ → ℕ → ℕ} {out : ℕ → List ℕ} {hand : Hand} {acc : ℕ → List (List ℕ)} {reported : ℕ → List ℕ} → (o : IsOrdering d m b words parts now member streams ends order out hand acc reported)
-    → out (32 * o.lending.get.endpoint.queue) ≡ early d o.lending.get.number o.lending.get.transfer.endpoint
-out_stays {d = d} {m = m} {b = b} {words = words} o = let k = o.lending.get in o.still_out k.transfer.endpoint k.endpoint k.here (is_met d m b words k.endpoint k) ∙ out_before d m b words k
+pub out_stays : {d : DriverContent} {m : Mem} {b : ℕ} {words : List ℕ} {parts now : StructureSets} {member heads : ℕ → Bool} {order : ℕ → ℕ → ℕ} {out : ℕ → List ℕ} {hand : Hand} {acc : ℕ → List (List ℕ)} {reported : ℕ → List ℕ} → (o : IsOrdering d m b words parts now member heads order out hand acc reported)
+    → out (32 * o.lending.ready.endpoint.queue) ≡ early d o.lending.ready.number o.lending.ready.transfer.endpoint
+out_stays {d = d} {m = m} {b = b} {words = words} o = let k = o.lending.ready in o.still_out k.transfer.endpoint k.endpoint k.here (is_met d m b words k.endpoint k) ∙ out_before d m b words k
 
-pub all_out : {d : DriverContent} {m : Mem} {b : ℕ} {words : List ℕ} {parts now : StructureSets} {member streams : ℕ → Bool} {ends : ℕ → Told} {order : ℕ → ℕ → ℕ} {out : ℕ → List ℕ} {hand : Hand} {acc : ℕ → List (List ℕ)} {reported : ℕ → List ℕ} → (o : IsOrdering d m b words parts now member streams ends order out hand acc reported)
-    → AreStillOut (lent_now d m) (out_lent o.lending.get out)
+pub all_out : {d : DriverContent} {m : Mem} {b : ℕ} {words : List ℕ} {parts now : StructureSets} {member heads : ℕ → Bool} {order : ℕ → ℕ → ℕ} {out : ℕ → List ℕ} {hand : Hand} {acc : ℕ → List (List ℕ)} {reported : ℕ → List ℕ} → (o : IsOrdering d m b words parts now member heads order out hand acc reported)
+    → AreStillOut (lent_now d m) (out_lent o.lending.ready out)
 all_out {d = d} {m = m} {b = b} {words = words} {parts = parts} {now = now} {out = out} o e x here met =
     let l = o.lending in
-    let k = l.get in
+    let k = l.ready in
     let n = 32 * k.endpoint.queue in
     let more = out n ++ new_out d (y_of k) k.further in
     ⊎_elim
@@ -170,19 +169,19 @@ all_out {d = d} {m = m} {b = b} {words = words} {parts = parts} {now = now} {out
     (cases_eq e k.transfer.endpoint)
 
 -- the first of the transfer has its place among them
-first_sorted : {d : DriverContent} {m : Mem} {b : ℕ} {words : List ℕ} {parts now : StructureSets} {member streams : ℕ → Bool} {ends : ℕ → Told} {order : ℕ → ℕ → ℕ} {out : ℕ → List ℕ} {hand : Hand} {acc : ℕ → List (List ℕ)} {reported : ℕ → List ℕ} → (o : IsOrdering d m b words parts now member streams ends order out hand acc reported) (least : ℕ)
-    → IsSorted (queue_order o.lending.get (from_here o least) order) (out (32 * o.lending.get.endpoint.queue) ++ (32 * o.lending.get.transfer.first ∷ new_out d (y_of o.lending.get) o.lending.get.further))
+first_sorted : {d : DriverContent} {m : Mem} {b : ℕ} {words : List ℕ} {parts now : StructureSets} {member heads : ℕ → Bool} {order : ℕ → ℕ → ℕ} {out : ℕ → List ℕ} {hand : Hand} {acc : ℕ → List (List ℕ)} {reported : ℕ → List ℕ} → (o : IsOrdering d m b words parts now member heads order out hand acc reported) (least : ℕ)
+    → IsSorted (queue_order o.lending.ready (from_here o least) order) (out (32 * o.lending.ready.endpoint.queue) ++ (32 * o.lending.ready.transfer.first ∷ new_out d (y_of o.lending.ready) o.lending.ready.further))
 unfolding from_here
 first_sorted {d = d} {m = m} {b = b} {words = words} {parts = parts} {now = now} {order = order} {out = out} {hand = hand} o least =
     let l = o.lending in
-    let k = l.get in
+    let k = l.ready in
     let n = 32 * k.endpoint.queue in
     let first = 32 * k.transfer.first in
     let slot = slot_of (lent_driver d m).book.slots in
     let from = from_here o least in
     let f = queue_order k from order in
-    let r = o.reports n (its_stream o) in
-    let are = numbers d m k.number (y_of k) (x_of k) k.stage k.further from (order n) k.receiving in
+    let r = o.reports n (is_counted o) in
+    let are = numbers d m k.number (y_of k) (x_of k) k.stage k.further from (order n) k.awaits in
     let last = first_last o in
     let dummy = first_stands d m b words parts k l.fed in
     let mine = old_number d (y_of k) (x_of k) k.stage k.further slot parts now from (order n) first (Element dummy_qtd) l.pieces dummy in
@@ -197,11 +196,11 @@ first_sorted {d = d} {m = m} {b = b} {words = words} {parts = parts} {now = now}
     let less = last e z.qtd z.here differs in
     (omega (arith, number, less, mine), all_after f d.notes k.further (second d (y_of k)) from e are (omega (arith, number, less))))
 
-pub all_sorted_out : {d : DriverContent} {m : Mem} {b : ℕ} {words : List ℕ} {parts now : StructureSets} {member streams : ℕ → Bool} {ends : ℕ → Told} {order : ℕ → ℕ → ℕ} {out : ℕ → List ℕ} {hand : Hand} {acc : ℕ → List (List ℕ)} {reported : ℕ → List ℕ} → (o : IsOrdering d m b words parts now member streams ends order out hand acc reported) (least : ℕ)
-    → (e : ℕ) (x : Endpoint) → slice_get d.endpoints e ≡ Some x → IsSorted (order_lent o.lending.get (from_here o least) order (32 * x.queue)) (out_all (lent_now d m) e)
+pub all_sorted_out : {d : DriverContent} {m : Mem} {b : ℕ} {words : List ℕ} {parts now : StructureSets} {member heads : ℕ → Bool} {order : ℕ → ℕ → ℕ} {out : ℕ → List ℕ} {hand : Hand} {acc : ℕ → List (List ℕ)} {reported : ℕ → List ℕ} → (o : IsOrdering d m b words parts now member heads order out hand acc reported) (least : ℕ)
+    → (e : ℕ) (x : Endpoint) → slice_get d.endpoints e ≡ Some x → IsSorted (order_lent o.lending.ready (from_here o least) order (32 * x.queue)) (out_all (lent_now d m) e)
 all_sorted_out {d = d} {m = m} {b = b} {words = words} {parts = parts} {now = now} {order = order} {out = out} o least e x here =
     let l = o.lending in
-    let k = l.get in
+    let k = l.ready in
     let n = 32 * k.endpoint.queue in
     let from = from_here o least in
     let f = queue_order k from order in
@@ -217,11 +216,11 @@ all_sorted_out {d = d} {m = m} {b = b} {words = words} {parts = parts} {now = no
     let met = is_met d m b words x k in
     let list : out_all (lent_now d m) e ≡ out (32 * x.queue) = out_other d m b words None 0 e k differs ∙ sym (o.still_out e x here met ∙ out_other d m b words d.command d.made e k differs) in
     subst (λ (g : ℕ → ℕ). IsSorted g (out_all (lent_now d m) e)) (sym (at_else order n f (32 * x.queue) apart))
-    (subst (IsSorted (order (32 * x.queue))) (sym list) (o.reports (32 * x.queue) (o.have.each e x here met).0).accounts.sorted))
+    (subst (IsSorted (order (32 * x.queue))) (sym list) (o.reports (32 * x.queue) (o.counted e x here met)).accounts.sorted))
     (cases_eq e k.transfer.endpoint)
 
-pub all_last : {d : DriverContent} {m : Mem} {b : ℕ} {words : List ℕ} {parts now : StructureSets} {member streams : ℕ → Bool} {ends : ℕ → Told} {order : ℕ → ℕ → ℕ} {out : ℕ → List ℕ} {hand : Hand} {acc : ℕ → List (List ℕ)} {reported : ℕ → List ℕ} → (o : IsOrdering d m b words parts now member streams ends order out hand acc reported) (least : ℕ)
-    → AreLast (lent_now d m) now (order_lent o.lending.get (from_here o least) order)
+pub all_last : {d : DriverContent} {m : Mem} {b : ℕ} {words : List ℕ} {parts now : StructureSets} {member heads : ℕ → Bool} {order : ℕ → ℕ → ℕ} {out : ℕ → List ℕ} {hand : Hand} {acc : ℕ → List (List ℕ)} {reported : ℕ → List ℕ} → (o : IsOrdering d m b words parts now member heads order out hand acc reported) (least : ℕ)
+    → AreLast (lent_now d m) now (order_lent o.lending.ready (from_here o least) order)
 all_last o least = record {
   dummies = dummies_last o least;
   taken = λ c ws t y x command made newest there first here. absurd (omega (arith, made));

@@ -1,5 +1,7 @@
--- The row that lends a get.
-use Rattle.std.proofs.Common.{◌≡◌, ℕ, suc, ◌*◌, ⊎_elim, inl, inr, Bool, List, length, nat_lt, if◌then◌else◌, Option, ap, sym, subst, ◌∙◌}
+-- The row that lends a transfer.
+use Rattle.std.proofs.Common.{◌≡◌, ◌≢◌, ℕ, suc, ◌*◌, ◌⊎◌, ⊎_elim, inl, inr, Bool, true, false, List, ◌∷◌, length, nat_lt, if◌then◌else◌, Option, ap, sym, subst, ◌∙◌, arith}
+use Rattle.std.specs.List.{AllByRecursion}
+use Rattle.std.proofs.lemmas.Bool.{cases_Bool}
 use Rattle.word_mem.specs.Memory.{Mem}
 use Rattle.async_walk.specs.Rows.{place}
 use Rattle.run_book.specs.Book.{slot_of}
@@ -7,16 +9,19 @@ use Rattle.driver_rows.specs.declared.content.Command.{Command}
 use Rattle.driver_rows.specs.declared.content.Command.TheVariants as unfinished
 use Rattle.driver_rows.specs.declared.rows.DriverRow.{DriverRow}
 use Rattle.driver_rows.specs.declared.rows.DriverRow.TheVariants as rows
+use Rattle.driver_rows.specs.declared.content.Stage.{Stage}
 use Rattle.driver_rows.specs.DriverContent.{DriverContent}
 use Rattle.driver_rows.specs.Words.{head_block}
 use Rattle.driver_rows.specs.Rows.{Parts as DriverParts, events_of, links, finished, linked_on, row_for, command_row, driver_row, advanced_by, advance, after_driver_row}
 use Rattle.ring_lends.specs.Together.{put_all}
 use Rattle.ring_pipes.specs.Bus.{Sender}
 use Rattle.driver_parts.specs.Driven.{DrivesRing}
+use Rattle.chained_transfers.specs.Bulk.{receives}
+use Rattle.chained_transfers.proofs.Ways.{IsBy, its_pid, all_of_all, receives_pid, sends_pid}
 use Rattle.fed_queues.specs.Places.{HasHead, AreMet, HaveStreams}
 use Rattle.ring_streams.specs.Told.{Endpoint as Told}
 use Rattle.transfer_lends.specs.Laws.{lent_memory, lent_driver, items_of}
-use Rattle.transfer_lends.proofs.Lends.{lend_receives_drives}
+use Rattle.transfer_lends.proofs.Lends.{lend_drives}
 use Rattle.fed_lends.specs.ToLend.{IsToBeLent, lent_now}
 use Rattle.fed_lends.specs.Laws.{GoesOnLent, LendRowGoesOn}
 use Rattle.fed_lends.proofs.Piping.{lend_leaves_pipes}
@@ -59,36 +64,49 @@ streams_on d m streams ends have = record {
   only = λ n on. let h = have.only n on in record { number = h.number; endpoint = h.endpoint; here = h.here; met = h.met; at = h.at };
 }
 
+-- ---- what the qTDs ask for
+
+-- INs where the queue head has a stream, and else none is one
+pub its_asks : {d : DriverContent} {m : Mem} {b : ℕ} {words : List ℕ} {streams : ℕ → Bool} {ends : ℕ → Told} → (k : IsToBeLent d m b words) → HaveStreams d streams ends
+    → ((streams (32 * k.endpoint.queue) ≡ true) × AllByRecursion (λ r. r.pid ≡ 1) (k.stage ∷ k.further)) ⊎ ((streams (32 * k.endpoint.queue) ≡ false) × AllByRecursion (λ r. r.pid ≢ 1) (k.stage ∷ k.further))
+its_asks {d = d} {m = m} {b = b} {words = words} k have =
+    let way = k.endpoint.desc.name.way in
+    let stream = (have.each k.transfer.endpoint k.endpoint k.here (is_met d m b words k.endpoint k)).0 in
+    let ss = k.stage ∷ k.further in
+    ⊎_elim (λ (on : receives way ≡ true). inl (stream ∙ on, all_of_all (IsBy way) (λ (r : Stage). r.pid ≡ 1) ss (λ r is. its_pid way r is ∙ receives_pid way on) k.stages))
+    (λ (off : receives way ≡ false).
+    inr (stream ∙ off, all_of_all (IsBy way) (λ (r : Stage). r.pid ≢ 1) ss (λ r is one. let p = its_pid way r is in let none = sends_pid way off in omega (arith, p, none, one)) k.stages))
+    (cases_Bool (receives way))
+
 -- ---- the whole
 
 pub lend_row_goes_on : {W : Type 0} (sender : W → ℕ → ℕ → Option Sender) → LendRowGoesOn sender
-lend_row_goes_on sender base stream packets member streams ends acc reported hand wire parts order out w p b words k has stands receives turns blank drives piped reports fed last still_out met have =
+lend_row_goes_on sender base stream packets member streams heads ends acc reported hand wire parts order out w p b words k has stands bulk turns blank drives piped reports fed last still_out met have counted =
     let d = p.driver in
     let m = p.memory in
     let y = y_of k in
     let x = x_of k in
     let n = 32 * k.endpoint.queue in
     let now = put_all parts n (items_of d m y x k.stage k.further) in
-    let both = lend_receives_drives base member parts hand w p.registers m d k.number y x k.stage k.further k.receiving has stands drives (names_lent d m b words parts n k fed drives.driven blank) in
-    let l : IsLending d m b words parts now = record { get = k; has = has; stands = stands; shape = drives.ring.tells.shape; receives = receives; fed = fed; pieces = both.1 } in
+    let both = lend_drives base member parts hand w p.registers m d k.number y x k.stage k.further k.awaits has stands drives (names_lent d m b words parts n k fed drives.driven blank) in
+    let l : IsLending d m b words parts now = record { ready = k; has = has; stands = stands; shape = drives.ring.tells.shape; bulk = bulk; fed = fed; pieces = both.1 } in
     let on = met.each k.transfer.endpoint k.endpoint k.here (is_met d m b words k.endpoint k) in
-    let o : IsOrdering d m b words parts now member streams ends order out hand acc reported = record {
+    let o : IsOrdering d m b words parts now member heads order out hand acc reported = record {
       lending = l;
       turns = turns;
       sound = drives.ring.members n on;
       reports = reports;
       last = last;
       still_out = still_out;
-      have = have;
+      counted = counted;
     } in
-    subst (GoesOnLent sender base stream packets member streams ends acc reported hand wire w) (sym (after_is p b words k))
+    subst (GoesOnLent sender base stream packets member streams heads ends acc reported hand wire w) (sym (after_is p b words k))
     (record {
       parts = now;
       order = order_lent k (from_here o 0) order;
       out = out_lent k out;
       drives = subst (DrivesRing base member now hand (place w p.registers (lent_memory d m))) (advance_is d m b words k) both.0;
-      piped = lend_leaves_pipes sender d m k.number y x k.stage k.further (slot_of (lent_driver d m).book.slots) parts now stream packets member streams ends acc hand wire k.receiving both.1
-          (have.each k.transfer.endpoint k.endpoint k.here (is_met d m b words k.endpoint k)).0 piped;
+      piped = lend_leaves_pipes sender d m k.number y x k.stage k.further (slot_of (lent_driver d m).book.slots) parts now stream packets member streams ends acc hand wire k.awaits both.1 (its_asks k have) piped;
       reports = all_reported o 0;
       fed = queues_fed d m b words parts now l;
       last = all_last o 0;

@@ -1,6 +1,6 @@
--- A get that was accepted is to be lent, and stays so until it is (EHCI 1.0, 3.5 and 4.10).
---     GetIsToBeLent, ToBeLentStays           the laws
---     OpeningIsBlank, GetIsBlank, OpenIsBlank    a qTD that asks for no bytes is noted without a buffer
+-- A get or put that was accepted is to be lent, and stays so until it is (EHCI 1.0, 3.5 and 4.10).
+--     AskedIsToBeLent, ToBeLentStays               the laws
+--     OpeningIsBlank, AskedIsBlank, OpenIsBlank    a qTD that asks for no bytes is noted without a buffer
 use Rattle.std.specs.Prelude.{◌≡◌, ℕ, false, List, Some}
 use Rattle.word_mem.specs.Memory.{Mem, IsShaped, word_at, reaches}
 use Rattle.run_book.specs.Book.{holding, Stands}
@@ -14,8 +14,8 @@ use Rattle.lent_runs.specs.Lent.{AreLent}
 use Rattle.chained_transfers.specs.Accepted.{IsOpened, IsAsked}
 use Rattle.fed_lends.specs.ToLend.{IsToBeLent, AreBlank}
 
-abbrev pub GetIsToBeLent : Type 0
-GetIsToBeLent = (d : DriverContent) (m : Mem) (o : Offered) → IsAsked d m o → HasOwners d → AreLent d → Stands (holding d.book m) → IsShaped m
+abbrev pub AskedIsToBeLent : Type 0
+AskedIsToBeLent = (d : DriverContent) (m : Mem) (o : Offered) → IsAsked d m o → HasOwners d → AreLent d → Stands (holding d.book m) → IsShaped m
     → (b : ℕ) (words : List ℕ) → o.driver.command ≡ Some (unfinished.Publish b words) → IsToBeLent o.driver o.memory b words
 
 abbrev pub ToBeLentStays : Type 0
@@ -25,8 +25,8 @@ ToBeLentStays = (d : DriverContent) (m new : Mem) (b : ℕ) (words : List ℕ) �
 abbrev pub OpeningIsBlank : Type 0
 OpeningIsBlank = (n : ℕ) (room : Reserve) → AreBlank (opening n room).driver
 
-abbrev pub GetIsBlank : Type 0
-GetIsBlank = (d : DriverContent) (m : Mem) (o : Offered) → IsAsked d m o → AreBlank d → AreBlank o.driver
+abbrev pub AskedIsBlank : Type 0
+AskedIsBlank = (d : DriverContent) (m : Mem) (o : Offered) → IsAsked d m o → AreBlank d → AreBlank o.driver
 
 abbrev pub OpenIsBlank : Type 0
 OpenIsBlank = (d : DriverContent) (m : Mem) (o : Offered) → IsOpened d m o → AreBlank d → AreBlank o.driver

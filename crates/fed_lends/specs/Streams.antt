@@ -1,7 +1,8 @@
--- Laws of the lend of a transfer that receives, beside the streams of a ring's IN endpoints (EHCI 1.0, 4.10; USB 2.0, 8.6).
+-- Laws of the lend of a transfer, beside the streams of a ring's IN endpoints (EHCI 1.0, 4.10; USB 2.0, 8.6).
 --     LendLeavesReports   its qTDs but the first are out too, and are told no bytes
 --     LendLeavesPipes     both sides of each pipe agree as before
-use Rattle.std.specs.Prelude.{◌≡◌, ℕ, ◌*◌, ◌<◌, ◌≤◌, Bool, true, List, ◌++◌, length, Option}
+use Rattle.std.specs.Prelude.{◌≡◌, ◌≢◌, ℕ, ◌*◌, ◌<◌, ◌≤◌, ◌⊎◌, Bool, true, false, List, ◌∷◌, ◌++◌, length, Option}
+use Rattle.std.specs.List.{AllByRecursion}
 use Rattle.word_mem.specs.Memory.{Mem}
 use Rattle.run_book.specs.declared.slots.Slot.{Slot}
 use Rattle.driver_rows.specs.declared.content.Stage.{Stage}
@@ -17,7 +18,7 @@ use Rattle.ring_pipes.specs.Pipes.{ArePiped}
 use Rattle.reported_streams.specs.Reported.{IsReported}
 use Rattle.chained_transfers.specs.Out.{pieces_from}
 use Rattle.fed_queues.specs.Places.{IsLast}
-use Rattle.transfer_lends.specs.Written.{IsReceiving}
+use Rattle.transfer_lends.specs.Written.{AwaitsLend}
 use Rattle.transfer_lends.specs.Laws.{HasPieces}
 use Rattle.fed_lends.specs.Numbers.{numbered}
 
@@ -33,7 +34,7 @@ new_out d y ss = pieces_from (note_in d.notes) (second d y) (length ss)
 
 abbrev pub LendLeavesReports : Type 0
 LendLeavesReports = (d : DriverContent) (m : Mem) (t : ℕ) (y : TransferRuns) (x : EndpointRuns) (s : Stage) (ss : List Stage) (slot : ℕ → Slot) (member : ℕ → Bool) (parts now : StructureSets)
-    (order : ℕ → ℕ) (out : List ℕ) (hand : Hand) (acc : List (List ℕ)) (reported : List ℕ) (k : ℕ) → IsReceiving d m t y x s ss → HasPieces d slot parts now y x s ss
+    (order : ℕ → ℕ) (out : List ℕ) (hand : Hand) (acc : List (List ℕ)) (reported : List ℕ) (k : ℕ) → AwaitsLend d m t y x s ss → HasPieces d slot parts now y x s ss
     → IsMember member (32 * x.queue) (parts (32 * x.queue)) → IsLast order (parts (32 * x.queue)) (32 * y.first) → order (32 * y.first) < k
     → (old : IsReported order out hand parts (32 * x.queue) acc reported) → old.place ≤ k
     → IsReported (new_order d y ss k order) (out ++ new_out d y ss) hand now (32 * x.queue) acc reported
@@ -41,11 +42,12 @@ LendLeavesReports = (d : DriverContent) (m : Mem) (t : ℕ) (y : TransferRuns) (
 -- the new end of the queue is its last qTD
 abbrev pub LendEndsQueue : Type 0
 LendEndsQueue = (d : DriverContent) (m : Mem) (t : ℕ) (y : TransferRuns) (x : EndpointRuns) (s : Stage) (ss : List Stage) (slot : ℕ → Slot) (parts now : StructureSets) (order : ℕ → ℕ) (k : ℕ)
-    → IsReceiving d m t y x s ss → HasPieces d slot parts now y x s ss → IsLast order (parts (32 * x.queue)) (32 * y.first) → order (32 * y.first) < k
+    → AwaitsLend d m t y x s ss → HasPieces d slot parts now y x s ss → IsLast order (parts (32 * x.queue)) (32 * y.first) → order (32 * y.first) < k
     → IsLast (new_order d y ss k order) (now (32 * x.queue)) (32 * x.dummy)
 
 abbrev pub LendLeavesPipes : {W : Type 0} → (W → ℕ → ℕ → Option Sender) → Type 0
 LendLeavesPipes {W} sender = (d : DriverContent) (m : Mem) (t : ℕ) (y : TransferRuns) (x : EndpointRuns) (s : Stage) (ss : List Stage) (slot : ℕ → Slot) (parts now : StructureSets)
     (stream : ℕ → ℕ → Bool) (packets : ℕ → ℕ → List (List ℕ)) (member streams : ℕ → Bool) (ends : ℕ → Endpoint) (acc : ℕ → List (List ℕ)) (hand : Hand) (wire : W)
-    → IsReceiving d m t y x s ss → HasPieces d slot parts now y x s ss → streams (32 * x.queue) ≡ true
+    → AwaitsLend d m t y x s ss → HasPieces d slot parts now y x s ss
+    → ((streams (32 * x.queue) ≡ true) × AllByRecursion (λ r. r.pid ≡ 1) (s ∷ ss)) ⊎ ((streams (32 * x.queue) ≡ false) × AllByRecursion (λ r. r.pid ≢ 1) (s ∷ ss))
     → ArePiped stream packets sender member streams ends acc parts hand wire → ArePiped stream packets sender member streams ends acc now hand wire

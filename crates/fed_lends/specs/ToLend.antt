@@ -1,10 +1,11 @@
--- The get that is to be lent next, as the driver's content tells it (EHCI 1.0, 3.5 and 4.10): its command is unfinished, and none of its events is made.
---     AreGets ss             the stages are those of a get
---     IsToBeLent d m b words the newest transfer is a get whose first qTD is to stand in block b with these words, and all else of it is written
+-- The get or put that is to be lent next, as the driver's content tells it (EHCI 1.0, 3.5 and 4.10): its command is unfinished, and none of its events is made.
+--     AreStagesBy way ss     the stages are those of a get or a put
+--     IsToBeLent d m b words the newest transfer is such a one, whose first qTD is to stand in block b with these words, and all else of it is written
 --     AreBlank d             a qTD that asks for no bytes was noted without a buffer
 --     lent_now d m           the content once it is lent
 use Rattle.std.specs.Prelude.{◌≡◌, ℕ, suc, false, List, ◌∷◌, length, slice_get, slice_index, Some}
 use Rattle.std.specs.List.{AllByRecursion}
+use Rattle.usb_base.specs.declared.packets.Way.{Way}
 use Rattle.word_mem.specs.Memory.{Mem}
 use Rattle.qh_qtd.specs.Qtd.{qtd_words}
 use Rattle.driver_rows.specs.declared.content.Endpoint.{Endpoint}
@@ -12,16 +13,16 @@ use Rattle.driver_rows.specs.declared.content.Transfer.{Transfer}
 use Rattle.driver_rows.specs.declared.content.Stage.{Stage}
 use Rattle.driver_rows.specs.declared.content.Command.TheVariants as unfinished
 use Rattle.driver_rows.specs.DriverContent.{DriverContent}
-use Rattle.driver_rows.specs.Words.{in_stage}
 use Rattle.driver_rows.specs.Harvests.{note_at}
 use Rattle.driver_rows.specs.Offers.{is_last}
 use Rattle.run_owners.specs.Owners.{runs_of_endpoint, runs_of_transfer}
-use Rattle.transfer_lends.specs.Written.{IsReceiving}
+use Rattle.transfer_lends.specs.Written.{AwaitsLend}
 use Rattle.transfer_lends.specs.Pieces.{stage_qtd}
 use Rattle.transfer_lends.specs.Laws.{lent_driver}
+use Rattle.chained_transfers.specs.Bulk.{sort_by, stage_by}
 
-abbrev pub AreGets : List Stage → Type 0
-AreGets ss = AllByRecursion (λ s. s ≡ in_stage s.long) ss
+abbrev pub AreStagesBy : Way → List Stage → Type 0
+AreStagesBy way ss = AllByRecursion (λ s. s ≡ stage_by way s.long) ss
 
 pub record IsToBeLent (d : DriverContent) (m : Mem) (b : ℕ) (words : List ℕ) : Type 0 where
   pub number : ℕ
@@ -38,8 +39,9 @@ pub record IsToBeLent (d : DriverContent) (m : Mem) (b : ℕ) (words : List ℕ)
   pub place : transfer.place ≡ transfer.first
   pub left : transfer.left ≡ transfer.qtds
   pub fresh : transfer.reported ≡ false
-  pub receiving : IsReceiving d m number (runs_of_transfer transfer) (runs_of_endpoint endpoint) stage further
-  pub gets : AreGets (stage ∷ further)
+  pub awaits : AwaitsLend d m number (runs_of_transfer transfer) (runs_of_endpoint endpoint) stage further
+  pub stages : AreStagesBy endpoint.desc.name.way (stage ∷ further)
+  pub sort : transfer.sort ≡ sort_by endpoint.desc.name.way
   pub are : words ≡ qtd_words (stage_qtd d.notes stage transfer.first endpoint.dummy (is_last further))
 
 abbrev pub AreBlank : DriverContent → Type 0

@@ -1,11 +1,14 @@
 -- What the structures of each endpoint's queue are by the driver's content (EHCI 1.0, 3.5, 3.6 and 4.10): the qTD and the buffer of each piece of its
 -- transfers, and the inactive qTD at its end. The walk changes only the token of an active qTD, and bytes of its buffer.
---     IsNotedQtd t note end          the qTD t is the one that was noted so, of a transfer whose last one leads to the block `end`
---     IsPieceFed part note b end     .. and stands in block b, with its buffer
+--     alternate_by sort end          where a short packet leads: of a get to the block `end`, else nowhere
+--     IsNotedQtd sort t note end     the qTD t is the one that was noted so, of a transfer of this sort whose last one leads to the block `end`
+--     IsPieceFed sort part note b end     .. and stands in block b, with its buffer
 --     unpublished_of d t y           how many of the first qTDs of transfer t aren't published
 --     IsPublished d parts b words    the qTD in block b is being published with these words: so many of them are stored
 --     AreFed d parts                 each published piece is fed, and so is the end of each queue
 use Rattle.std.specs.Prelude.{◌≡◌, ℕ, suc, ◌+◌, ◌-◌, ◌*◌, ◌%◌, ◌/◌, ◌<◌, ◌≤◌, true, false, nat_eq, List, slice_get, slice_index, length, Some, if◌then◌else◌}
+use Rattle.link_words.specs.declared.fields.ShortLink.{ShortLink}
+use Rattle.link_words.specs.Links.{no_qtd}
 use Rattle.qh_qtd.specs.declared.qtd.Qtd.{Qtd}
 use Rattle.qh_qtd.specs.Qtd.{qtd_words, IsQtdInRange}
 use Rattle.buffers.specs.Bytes.{place as byte_address}
@@ -13,6 +16,8 @@ use Rattle.run_book.specs.Book.{slot_of}
 use Rattle.driver_rows.specs.declared.content.Endpoint.{Endpoint}
 use Rattle.driver_rows.specs.declared.content.Transfer.{Transfer}
 use Rattle.driver_rows.specs.declared.content.QtdNote.{QtdNote}
+use Rattle.driver_rows.specs.declared.content.Sort.{Sort}
+use Rattle.driver_rows.specs.declared.content.Sort.TheVariants as sorts
 use Rattle.driver_rows.specs.declared.content.Command.TheVariants as unfinished
 use Rattle.driver_rows.specs.DriverContent.{DriverContent}
 use Rattle.driver_rows.specs.Words.{to_qtd, dummy_qtd}
@@ -23,15 +28,20 @@ use Rattle.queue_parts.specs.Sound.{element_pages, HasBuffer}
 use Rattle.ring_walk.specs.Effects.{buffer_of}
 use Rattle.driver_parts.specs.Inventory.{IsLent}
 use Rattle.driver_lends.specs.Published.{partly, IsPublishable}
+use Rattle.chained_transfers.specs.Bulk.{pid_by}
 use Rattle.chained_transfers.specs.Chains.{piece_at}
 use Rattle.chained_transfers.specs.Out.{unpublished}
 
 -- ---- one qTD
 
+abbrev pub alternate_by : Sort → ℕ → ShortLink
+alternate_by sorts.Get end = to_qtd end
+alternate_by _ end = no_qtd
+
 -- its links and the place of its buffer, which the walk never changes
-pub record IsNotedQtd (t : Qtd) (note : QtdNote) (end : ℕ) : Type 0 where
+pub record IsNotedQtd (sort : Sort) (t : Qtd) (note : QtdNote) (end : ℕ) : Type 0 where
   pub next : t.next ≡ to_qtd note.next
-  pub alternate : t.alternate ≡ to_qtd end
+  pub alternate : t.alternate ≡ alternate_by sort end
   pub offset : t.offset ≡ 32 * (slice_index note.buffer 0 % 128)
   pub page0 : t.page0 ≡ slice_index note.buffer 0 / 128
   pub page1 : t.page1 ≡ slice_index note.buffer 1 / 128
@@ -40,10 +50,10 @@ pub record IsNotedQtd (t : Qtd) (note : QtdNote) (end : ℕ) : Type 0 where
   pub page4 : t.page4 ≡ slice_index note.buffer 4 / 128
 
 -- until it is done, its token counts all bytes
-pub record IsPieceFed (part : Structures) (note : QtdNote) (b end : ℕ) : Type 0 where
+pub record IsPieceFed (sort : Sort) (part : Structures) (note : QtdNote) (b end : ℕ) : Type 0 where
   pub qtd : Qtd
   pub here : part (32 * b) ≡ Some (Element qtd)
-  pub noted : IsNotedQtd qtd note end
+  pub noted : IsNotedQtd sort qtd note end
   pub buffer : 0 < note.told → HasBuffer part qtd note.told
   pub long : length (buffer_of part qtd) ≡ note.told
   pub places : (j : ℕ) → j < note.told → buffer_address note j ≡ byte_address (element_pages qtd) (qtd.offset + j)
@@ -54,7 +64,7 @@ pub record IsPieceFed (part : Structures) (note : QtdNote) (b end : ℕ) : Type 
 abbrev pub unpublished_of : DriverContent → ℕ → Transfer → ℕ
 unpublished_of d t y = if nat_eq (suc t) (length d.transfers) then unpublished d.command d.made y.qtds else 0
 
--- its first qTD is an IN of all its bytes, and its buffer is there once it was lent
+-- its first qTD asks for all its bytes the way of its endpoint, and its buffer is there once it was lent
 pub record IsPublished (d : DriverContent) (parts : StructureSets) (b : ℕ) (words : List ℕ) : Type 0 where
   pub number : ℕ
   pub transfer : Transfer
@@ -67,9 +77,9 @@ pub record IsPublished (d : DriverContent) (parts : StructureSets) (b : ℕ) (wo
   pub qtd : Qtd
   pub are : words ≡ qtd_words qtd
   pub range : IsQtdInRange qtd
-  pub noted : IsNotedQtd qtd (note_at d.notes b) (piece_at (note_in d.notes) b transfer.qtds)
+  pub noted : IsNotedQtd transfer.sort qtd (note_at d.notes b) (piece_at (note_in d.notes) b transfer.qtds)
   pub active : qtd.token.active ≡ true
-  pub pid : qtd.token.pid ≡ 1
+  pub pid : qtd.token.pid ≡ pid_by endpoint.desc.name.way
   pub total : qtd.token.total ≡ (note_at d.notes b).told
   pub stored : parts (32 * endpoint.queue) (32 * b) ≡ Some (Element (partly qtd (d.made - 1)))
   pub places : (j : ℕ) → j < (note_at d.notes b).told → buffer_address (note_at d.notes b) j ≡ byte_address (element_pages qtd) (qtd.offset + j)
@@ -83,5 +93,5 @@ pub record AreFed (d : DriverContent) (parts : StructureSets) : Type 0 where
   pub dummies : (e : ℕ) (x : Endpoint) → slice_get d.endpoints e ≡ Some x → IsLent (slot_of d.book.slots x.dummy) → parts (32 * x.queue) (32 * x.dummy) ≡ Some (Element dummy_qtd)
   pub pieces : (t i : ℕ) (y : Transfer) (x : Endpoint) → slice_get d.transfers t ≡ Some y → y.released ≡ false → slice_get d.endpoints y.endpoint ≡ Some x
       → unpublished_of d t y ≤ i → i < y.qtds
-      → IsPieceFed (parts (32 * x.queue)) (note_at d.notes (piece_at (note_in d.notes) y.first i)) (piece_at (note_in d.notes) y.first i) (piece_at (note_in d.notes) y.first y.qtds)
+      → IsPieceFed y.sort (parts (32 * x.queue)) (note_at d.notes (piece_at (note_in d.notes) y.first i)) (piece_at (note_in d.notes) y.first i) (piece_at (note_in d.notes) y.first y.qtds)
   pub publishes : (b : ℕ) (words : List ℕ) → d.command ≡ Some (unfinished.Publish b words) → IsPublished d parts b words

@@ -1,7 +1,7 @@
 -- Which queue heads of a driver the walk may meet, which have streams, and the order of their qTDs (EHCI 1.0, 4.8 and 4.10).
 --     IsMet d x                     the endpoint's queue head is linked: it isn't the one of an open whose link is still to be stored
 --     AreMet d member               the walk may meet these, and the head of the ring
---     HaveStreams d streams ends    each of them has a stream, as the endpoint that was opened
+--     HaveStreams d streams ends    each of them is that of the endpoint that was opened, and has a stream where data come to the host
 --     IsLast order part a           the qTD at a is the last
 --     AreLast d parts order         so is the end of each queue
 --     AreStillOut d out                the qTDs that are out are those of the driver's content
@@ -17,6 +17,7 @@ use Rattle.lent_structures.specs.Structures.{Element, Structures, StructureSets}
 use Rattle.ring_order.specs.Order.{IsSorted}
 use Rattle.ring_streams.specs.Told.{Endpoint as Told, endpoint_of}
 use Rattle.driver_parts.specs.Inventory.{IsLent}
+use Rattle.chained_transfers.specs.Bulk.{receives}
 use Rattle.chained_transfers.specs.Out.{out_now, out_all}
 
 abbrev pub IsMet : DriverContent → Endpoint → Type 0
@@ -37,7 +38,7 @@ pub record AreMet (d : DriverContent) (member : ℕ → Bool) : Type 0 where
 
 pub record HaveStreams (d : DriverContent) (streams : ℕ → Bool) (ends : ℕ → Told) : Type 0 where
   pub each : (e : ℕ) (x : Endpoint) → slice_get d.endpoints e ≡ Some x → IsMet d x
-      → (streams (32 * x.queue) ≡ true) × (ends (32 * x.queue) ≡ endpoint_of (queue_head x.desc 0 x.dummy))
+      → (streams (32 * x.queue) ≡ receives x.desc.name.way) × (ends (32 * x.queue) ≡ endpoint_of (queue_head x.desc 0 x.dummy))
   pub only : (n : ℕ) → streams n ≡ true → HasHead d n
 
 -- ---- order

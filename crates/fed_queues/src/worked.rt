@@ -1,12 +1,20 @@
 //! Worked rows of the definitions, which the check computes.
 ghost use Rattle.std.specs.Prelude.{◌≡◌};
-ghost use Rattle.driver_rows.specs.Words.{to_qtd};
+ghost use Rattle.link_words.specs.Links.{no_qtd};
+ghost use Rattle.driver_rows.specs.declared.content.Sort.TheVariants as sorts;
 ghost use Rattle.queue_parts.specs.Sound.{buffer_name};
 ghost use Rattle.fed_queues.specs.Fed.{IsNotedQtd};
-ghost use Rattle.fed_queues.specs.Worked.{noted, written};
+ghost use Rattle.fed_queues.specs.Worked.{noted, written, sent};
 
 /// A qTD as it is written is the one that was noted; its buffer begins in the first of its runs.
 pub fn written_as_noted()
-    ensures noted { IsNotedQtd written noted 143 }
+    ensures noted { IsNotedQtd sorts.Get written noted 143 }
     ensures buffer { buffer_name written ≡ 8352 }
+{}
+
+/// So is one of a put, after which a short packet leads nowhere.
+pub fn sent_as_noted()
+    ensures noted { IsNotedQtd sorts.Put sent noted 143 }
+    ensures alternate { sent.alternate ≡ no_qtd }
+    ensures buffer { buffer_name sent ≡ 8352 }
 {}

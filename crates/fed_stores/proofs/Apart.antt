@@ -17,13 +17,13 @@ use Rattle.run_owners.specs.Kept.{HasOwners}
 use Rattle.lent_runs.specs.Lent.{AreLent, begins_in, still_lends}
 use Rattle.driver_parts.specs.Inventory.{IsLent}
 use Rattle.chained_transfers.specs.Chains.{piece_at}
-use Rattle.chained_transfers.specs.Receives.{IsStanding}
+use Rattle.chained_transfers.specs.Bulk.{IsStanding}
 
 -- ---- whose the blocks are
 
--- an endpoint that receives has a queue
+-- an endpoint of the ring has a queue
 pub bare_not : (x : Endpoint) → IsStanding x → (runs_of_endpoint x).bare ≡ false
-bare_not x k = ap (λ (z : EpKind). is_iso z || x.gone) k.receives.kind ∙ k.gone
+bare_not x k = ap (λ (z : EpKind). is_iso z || x.gone) k.bulk.kind ∙ k.gone
 
 pub dummy_placed : (d : DriverContent) (h : HasOwners d) (e : ℕ) (x : Endpoint) → slice_get d.endpoints e ≡ Some x → IsStanding x → IsPlaced (slot_of d.book.slots) h.owner x.dummy (Dummy e)
 dummy_placed d h e x here stands = h.owned.each.dummy e (runs_of_endpoint x) (ap (option_map runs_of_endpoint) here) (bare_not x stands)

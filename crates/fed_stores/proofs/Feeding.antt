@@ -7,6 +7,7 @@ use Rattle.run_book.specs.Book.{slot_of}
 use Rattle.driver_rows.specs.declared.content.Endpoint.{Endpoint}
 use Rattle.driver_rows.specs.declared.content.Transfer.{Transfer}
 use Rattle.driver_rows.specs.declared.content.QtdNote.{QtdNote}
+use Rattle.driver_rows.specs.declared.content.Sort.{Sort}
 use Rattle.driver_rows.specs.declared.content.Command.{Command}
 use Rattle.driver_rows.specs.declared.content.Command.TheVariants as unfinished
 use Rattle.driver_rows.specs.DriverContent.{DriverContent}
@@ -49,8 +50,8 @@ module _ (parts : StructureSets) (n e : ℕ) (old new : Qtd) (at : parts n e ≡
   }
 
   -- another piece stays
-  pub fed_beside : (m : ℕ) (note : QtdNote) (c end : ℕ) → (32 * c ≡ e → m ≡ n → ⊥) → IsPieceFed (parts m) note c end → IsPieceFed (now m) note c end
-  fed_beside m note c end apart k = record {
+  pub fed_beside : (sort : Sort) (m : ℕ) (note : QtdNote) (c end : ℕ) → (32 * c ≡ e → m ≡ n → ⊥) → IsPieceFed sort (parts m) note c end → IsPieceFed sort (now m) note c end
+  fed_beside sort m note c end apart k = record {
     qtd = k.qtd;
     here = other_stays parts n e old new at m (32 * c) (Element k.qtd) apart k.here;
     noted = k.noted;
@@ -97,10 +98,10 @@ module _ (d : DriverContent) (parts : StructureSets) (b : ℕ) (words : List ℕ
   is_newest t same = ap one_if (eq-eqb (suc t) (length d.transfers) (ap suc same ∙ k.newest))
 
   piece_then : (t j : ℕ) (y : Transfer) (x : Endpoint) → slice_get d.transfers t ≡ Some y → y.released ≡ false → slice_get d.endpoints y.endpoint ≡ Some x → unpublished_of d t y ≤ j → j < y.qtds → (t ≡ k.number → 1 ≤ j)
-      → IsPieceFed (then_parts (32 * x.queue)) (note_at d.notes (piece_at (note_in d.notes) y.first j)) (piece_at (note_in d.notes) y.first j) (piece_at (note_in d.notes) y.first y.qtds)
+      → IsPieceFed y.sort (then_parts (32 * x.queue)) (note_at d.notes (piece_at (note_in d.notes) y.first j)) (piece_at (note_in d.notes) y.first j) (piece_at (note_in d.notes) y.first y.qtds)
   piece_then t j y x there held here from below first =
       let c : ℕ = piece_at (note_in d.notes) y.first j in
-      fed_beside parts n (32 * b) (partly k.qtd i) (partly k.qtd (suc i)) h.at (32 * x.queue) (note_at d.notes c) c (piece_at (note_in d.notes) y.first y.qtds)
+      fed_beside parts n (32 * b) (partly k.qtd i) (partly k.qtd (suc i)) h.at y.sort (32 * x.queue) (note_at d.notes c) c (piece_at (note_in d.notes) y.first y.qtds)
       (λ name owner. thirty_two c b (h.pieces t j y there held below first) name) (fed.pieces t j y x there held here from below)
 
   not_first : (t j : ℕ) (y : Transfer) → unpublished_of d t y ≤ j → t ≡ k.number → 1 ≤ j
@@ -175,7 +176,7 @@ module _ (d : DriverContent) (parts : StructureSets) (b : ℕ) (words : List ℕ
   abbrev pub done : DriverContent
   done = record d { command = None; made = 0 }
 
-  first_piece : suc i ≡ 8 → IsPieceFed (then_parts n) (note_at d.notes b) b (piece_at (note_in d.notes) b k.transfer.qtds)
+  first_piece : suc i ≡ 8 → IsPieceFed k.transfer.sort (then_parts n) (note_at d.notes b) b (piece_at (note_in d.notes) b k.transfer.qtds)
   first_piece eighth =
       let ready = (may_then.sound.work k.active) in
       record {
@@ -197,7 +198,7 @@ module _ (d : DriverContent) (parts : StructureSets) (b : ℕ) (words : List ℕ
 
   -- the first piece of the newest, or another one
   piece_done : suc i ≡ 8 → (t j : ℕ) (y : Transfer) (x : Endpoint) → slice_get d.transfers t ≡ Some y → y.released ≡ false → slice_get d.endpoints y.endpoint ≡ Some x → j < y.qtds
-      → IsPieceFed (then_parts (32 * x.queue)) (note_at d.notes (piece_at (note_in d.notes) y.first j)) (piece_at (note_in d.notes) y.first j) (piece_at (note_in d.notes) y.first y.qtds)
+      → IsPieceFed y.sort (then_parts (32 * x.queue)) (note_at d.notes (piece_at (note_in d.notes) y.first j)) (piece_at (note_in d.notes) y.first j) (piece_at (note_in d.notes) y.first y.qtds)
   piece_done eighth t j y x there held here below =
       ⊎_elim (λ (newest : t ≡ k.number). by_piece newest j below) (λ (differs : t ≢ k.number). piece_then t j y x there held here (other_from differs) below (λ same. absurd (differs same))) (cases_eq t k.number)
     where
@@ -207,13 +208,13 @@ module _ (d : DriverContent) (parts : StructureSets) (b : ℕ) (words : List ℕ
           let e : unpublished_of d t y ≡ 0 = count_now t y ∙ none in omega (arith, e)
 
       by_piece : t ≡ k.number → (l : ℕ) → l < y.qtds
-          → IsPieceFed (then_parts (32 * x.queue)) (note_at d.notes (piece_at (note_in d.notes) y.first l)) (piece_at (note_in d.notes) y.first l) (piece_at (note_in d.notes) y.first y.qtds)
+          → IsPieceFed y.sort (then_parts (32 * x.queue)) (note_at d.notes (piece_at (note_in d.notes) y.first l)) (piece_at (note_in d.notes) y.first l) (piece_at (note_in d.notes) y.first y.qtds)
       by_piece newest zero low =
           let same : y ≡ k.transfer = same_Some y k.transfer (sym there ∙ ap (slice_get d.transfers) newest ∙ k.there) in
           let owner : x ≡ k.endpoint = same_Some x k.endpoint (sym here ∙ ap (λ (z : Transfer). slice_get d.endpoints z.endpoint) same ∙ k.here) in
-          subst (λ (z : Endpoint). IsPieceFed (then_parts (32 * z.queue)) (note_at d.notes y.first) y.first (piece_at (note_in d.notes) y.first y.qtds)) (sym owner)
-          (subst (λ (z : Transfer). IsPieceFed (then_parts n) (note_at d.notes z.first) z.first (piece_at (note_in d.notes) z.first z.qtds)) (sym same)
-          (subst (λ (c : ℕ). IsPieceFed (then_parts n) (note_at d.notes c) c (piece_at (note_in d.notes) c k.transfer.qtds)) (sym k.place.0) (first_piece eighth)))
+          subst (λ (z : Endpoint). IsPieceFed y.sort (then_parts (32 * z.queue)) (note_at d.notes y.first) y.first (piece_at (note_in d.notes) y.first y.qtds)) (sym owner)
+          (subst (λ (z : Transfer). IsPieceFed z.sort (then_parts n) (note_at d.notes z.first) z.first (piece_at (note_in d.notes) z.first z.qtds)) (sym same)
+          (subst (λ (c : ℕ). IsPieceFed k.transfer.sort (then_parts n) (note_at d.notes c) c (piece_at (note_in d.notes) c k.transfer.qtds)) (sym k.place.0) (first_piece eighth)))
       by_piece newest (suc l) low =
           let e : unpublished_of d t y ≡ 1 = count_now t y ∙ is_newest t newest in
           piece_then t (suc l) y x there held here (omega (arith, e)) low (λ is. omega arith)

@@ -3,9 +3,11 @@ use Rattle.std.proofs.Common.{◌≡◌, ◌≢◌, ℕ, zero, suc, ◌*◌, ◌
 use Rattle.std.proofs.lemmas.Bool.{cases_lt}
 use Rattle.link_words.specs.declared.kinds.QtdLink.TheVariants as qtd_links
 use Rattle.link_words.specs.declared.fields.ShortLink.{ShortLink}
-use Rattle.link_words.specs.Links.{qtd_link_of}
+use Rattle.link_words.specs.Links.{qtd_link_of, no_qtd}
 use Rattle.qh_qtd.specs.declared.qtd.Qtd.{Qtd}
 use Rattle.driver_rows.specs.declared.content.Endpoint.{Endpoint}
+use Rattle.driver_rows.specs.declared.content.Sort.{Sort}
+use Rattle.driver_rows.specs.declared.content.Sort.TheVariants as sorts
 use Rattle.driver_rows.specs.declared.content.Transfer.{Transfer}
 use Rattle.driver_rows.specs.DriverContent.{DriverContent}
 use Rattle.driver_rows.specs.Words.{to_qtd}
@@ -14,6 +16,7 @@ use Rattle.ring_order.specs.Order.{IsAmong, AreAfter, IsSorted}
 use Rattle.driver_lends.specs.Published.{partly}
 use Rattle.published_streams.specs.Storing.{LeadsLater}
 use Rattle.chained_transfers.specs.Chains.{piece_at, AreChained}
+use Rattle.fed_queues.specs.Fed.{alternate_by}
 use Rattle.fed_stores.proofs.Outs.{IsSplit}
 use Rattle.fed_stores.proofs.Apart.{newest_only}
 
@@ -71,5 +74,17 @@ led order e c l is later b leads = subst (λ (i : ℕ). order e < order i) (same
     same : qtd_links.To (32 * c) ≡ qtd_links.To b → 32 * c ≡ b
     same z = cc
 
-pub leads_later : (order : ℕ → ℕ) (e next end : ℕ) (t : Qtd) → t.next ≡ to_qtd next → t.alternate ≡ to_qtd end → order e < order (32 * next) → order e < order (32 * end) → LeadsLater order e t
-leads_later order e next end t first second one other = record { next = led order e next t.next first one; alternate = led order e end t.alternate second other }
+led_nowhere : (order : ℕ → ℕ) (e : ℕ) (l : ShortLink) → l ≡ no_qtd → (b : ℕ) → qtd_link_of l ≡ qtd_links.To b → order e < order b
+led_nowhere order e l is b leads = absurd (never (sym (ap qtd_link_of is) ∙ leads))
+  where
+    never : qtd_links.End ≡ qtd_links.To b → ⊥
+    never z = cc
+
+led_by : (order : ℕ → ℕ) (e c : ℕ) (sort : Sort) (l : ShortLink) → l ≡ alternate_by sort c → order e < order (32 * c) → (b : ℕ) → qtd_link_of l ≡ qtd_links.To b → order e < order b
+led_by order e c sorts.Get l is later = led order e c l is later
+led_by order e c sorts.Put l is later = led_nowhere order e l is
+led_by order e c sorts.Request l is later = led_nowhere order e l is
+led_by order e c sorts.Descriptor l is later = led_nowhere order e l is
+
+pub leads_later : (order : ℕ → ℕ) (e next end : ℕ) (sort : Sort) (t : Qtd) → t.next ≡ to_qtd next → t.alternate ≡ alternate_by sort end → order e < order (32 * next) → order e < order (32 * end) → LeadsLater order e t
+leads_later order e next end sort t first second one other = record { next = led order e next t.next first one; alternate = led_by order e end sort t.alternate second other }

@@ -1,7 +1,9 @@
 -- A store of a driver that publishes its newest transfer.
-use Rattle.std.proofs.Common.{◌≡◌, ◌≢◌, ℕ, suc, ◌-◌, ◌*◌, ◌<◌, ◌≤◌, Bool, true, false, if◌then◌else◌, List, ◌∷◌, ◌++◌, slice_get, Option, Some, None, option_map, ap, refl, sym, subst, ◌∙◌, ⊎_elim, inl, inr, arith}
+use Rattle.std.proofs.Common.{◌≡◌, ◌≢◌, ℕ, suc, ◌-◌, ◌*◌, ◌<◌, ◌≤◌, ◌⊎◌, Bool, true, false, if◌then◌else◌, List, ◌∷◌, ◌++◌, slice_get, Option, Some, None, option_map, ap, refl, sym, subst, ◌∙◌, ⊎_elim, inl, inr, arith}
 use Rattle.std.proofs.lemmas.Bool.{cases_eq, cases_lt, lt-ltb, false≢true}
 use Rattle.std.proofs.lemmas.Option.{same_Some}
+use Rattle.usb_base.specs.declared.packets.Way.{Way}
+use Rattle.usb_base.specs.declared.packets.Way.TheVariants as ways
 use Rattle.run_book.specs.Book.{slot_of}
 use Rattle.driver_rows.specs.declared.content.Endpoint.{Endpoint}
 use Rattle.driver_rows.specs.declared.content.Transfer.{Transfer}
@@ -31,6 +33,7 @@ use Rattle.driver_publishes.proofs.Rows.{counted, after_is, store_made}
 use Rattle.published_streams.specs.Storing.{LeadsLater, IsStore, with_out, stored_parts}
 use Rattle.published_streams.proofs.Storing.{element_found}
 use Rattle.published_streams.proofs.Streams.{idle_reports, last_reports, store_pipes, out_here, out_beside}
+use Rattle.chained_transfers.specs.Bulk.{receives, pid_by}
 use Rattle.chained_transfers.specs.Chains.{piece_at}
 use Rattle.chained_transfers.specs.Out.{out_of, out_now}
 use Rattle.fed_queues.specs.Fed.{IsPublished}
@@ -40,6 +43,12 @@ use Rattle.fed_stores.proofs.Outs.{IsNewest, IsSplit, split_out, other_out, same
 use Rattle.fed_stores.proofs.Apart.{dummy_placed, queue_placed, piece_placed, dummy_apart, pieces_apart, queues_same, thirty_two, all_lent}
 use Rattle.fed_stores.proofs.Linked.{partly_later, sorted_after, end_is, piece_later, leads_later}
 use Rattle.fed_stores.proofs.Feeding.{IsHere, more, done, fed_more, fed_done}
+
+-- an IN where the queue head has a stream, else none
+asks_by : (on : Bool) (pid : ℕ) (way : Way) → on ≡ receives way → pid ≡ pid_by way → ((on ≡ true) × (pid ≡ 1)) ⊎ ((on ≡ false) × (pid ≢ 1))
+asks_by on pid ways.In streamed is = inl (streamed, is)
+asks_by on pid ways.Out streamed is = inr (streamed, λ same. let none : pid ≡ 0 = is in omega (arith, none, same))
+asks_by on pid ways.Ctl streamed is = inl (streamed, is)
 
 module _ (p : DriverParts) (member streams : ℕ → Bool) (ends : ℕ → Told) (parts : StructureSets) (order : ℕ → ℕ → ℕ) (out : ℕ → List ℕ) (b : ℕ) (words : List ℕ) (k : IsAtStore p.driver p.memory member streams ends parts order out b words) where
   abbrev d : DriverContent
@@ -97,7 +106,7 @@ module _ (p : DriverParts) (member streams : ℕ → Bool) (ends : ℕ → Told)
   element = subst (λ (c : ℕ). IsPlaced (slot_of d.book.slots) k.sound.owners.owner c (PieceOf g.number)) g.place.0 (piece_placed d k.sound.owners g.number 0 y g.there g.fresh.1 some)
 
   dummy_is : (e : ℕ) (x : Endpoint) → slice_get d.endpoints e ≡ Some x → IsPlaced (slot_of d.book.slots) k.sound.owners.owner x.dummy (Dummy e)
-  dummy_is e x here = dummy_placed d k.sound.owners e x here (k.turns.receives.endpoints e x here)
+  dummy_is e x here = dummy_placed d k.sound.owners e x here (k.turns.bulk.endpoints e x here)
 
   dummies_apart : (e : ℕ) (x : Endpoint) → slice_get d.endpoints e ≡ Some x → x.dummy ≢ b
   dummies_apart e x here = dummy_apart x.dummy b e g.number (dummy_is e x here) element
@@ -137,7 +146,7 @@ module _ (p : DriverParts) (member streams : ℕ → Bool) (ends : ℕ → Told)
 
   links : LeadsLater (order n) (32 * b) g.qtd
   links =
-      leads_later (order n) (32 * b) (note b).next (piece_at note b y.qtds) g.qtd g.noted.next g.noted.alternate (later_at 1 (omega arith) (omega arith))
+      leads_later (order n) (32 * b) (note b).next (piece_at note b y.qtds) y.sort g.qtd g.noted.next g.noted.alternate (later_at 1 (omega arith) (omega arith))
       (subst (λ (j : ℕ). order n (32 * b) < order n (32 * piece_at note b j)) qtds_are (later_at (suc q) (omega arith) (omega arith)))
 
   -- ---- whom the walk meets
@@ -167,7 +176,7 @@ module _ (p : DriverParts) (member streams : ℕ → Bool) (ends : ℕ → Told)
     only = λ m on. head_then new same met m (k.streams_are.only m on);
   }
 
-  streamed : streams n ≡ true
+  streamed : streams n ≡ receives g.endpoint.desc.name.way
   streamed = (k.streams_are.each y.endpoint g.endpoint g.here (met_now g.endpoint)).0
 
   -- ---- the order
@@ -212,7 +221,7 @@ module _ (p : DriverParts) (member streams : ℕ → Bool) (ends : ℕ → Told)
   same_queue : (e : ℕ) (x : Endpoint) → slice_get d.endpoints e ≡ Some x → 32 * x.queue ≡ n → e ≡ y.endpoint
   same_queue e x there same =
       queues_same x.queue g.endpoint.queue e y.endpoint (thirty_two x.queue g.endpoint.queue same)
-      (queue_placed d k.sound.owners e x there (k.turns.receives.endpoints e x there)) (queue_placed d k.sound.owners y.endpoint g.endpoint g.here (k.turns.receives.endpoints y.endpoint g.endpoint g.here))
+      (queue_placed d k.sound.owners e x there (k.turns.bulk.endpoints e x there)) (queue_placed d k.sound.owners y.endpoint g.endpoint g.here (k.turns.bulk.endpoints y.endpoint g.endpoint g.here))
 
   other_end : (e : ℕ) (x : Endpoint) → slice_get d.endpoints e ≡ Some x → 32 * x.queue ≢ n → y.endpoint ≢ e
   other_end e x there differs same = differs (ap (λ (z : Endpoint). 32 * z.queue) (same_Some x g.endpoint (sym there ∙ ap (slice_get d.endpoints) (sym same) ∙ g.here)))
@@ -279,7 +288,7 @@ module _ (p : DriverParts) (member streams : ℕ → Bool) (ends : ℕ → Told)
 
   -- ---- the streams
 
-  active_pid : (partly g.qtd (suc i)).token.active ≡ true → (partly g.qtd (suc i)).token.pid ≡ 1
+  active_pid : (partly g.qtd (suc i)).token.active ≡ true → (partly g.qtd (suc i)).token.pid ≡ pid_by g.endpoint.desc.name.way
   active_pid on =
       ⊎_elim (λ (low : suc i < 8). absurd (false≢true (sym (idle g.qtd (suc i) low) ∙ on)))
       (λ (over : 8 ≤ suc i). ap (λ (j : ℕ). (partly g.qtd j).token.pid) (eighth_by over) ∙ g.pid) (cases_lt (suc i) 8)
@@ -288,7 +297,7 @@ module _ (p : DriverParts) (member streams : ℕ → Bool) (ends : ℕ → Told)
       → ArePiped stream packets sender member streams ends acc parts hand wire → ArePiped stream packets sender member streams ends acc (parts_then g) hand wire
   pipes_by sender stream packets acc wire hand piped =
       parts_are (λ (ps : StructureSets). ArePiped stream packets sender member streams ends acc ps hand wire)
-      (store_pipes sender stream packets member streams ends acc hand parts wire n (32 * b) (partly g.qtd i) (partly g.qtd (suc i)) g.stored (λ on. (streamed, active_pid on)) piped)
+      (store_pipes sender stream packets member streams ends acc hand parts wire n (32 * b) (partly g.qtd i) (partly g.qtd (suc i)) g.stored (λ on. asks_by (streams n) (partly g.qtd (suc i)).token.pid g.endpoint.desc.name.way streamed (active_pid on)) piped)
 
   store : IsStore (order n) (out n) parts n (32 * b) (partly g.qtd i) (partly g.qtd (suc i))
   store = record {
@@ -301,7 +310,7 @@ module _ (p : DriverParts) (member streams : ℕ → Bool) (ends : ℕ → Told)
     later = partly_later (order n) (32 * b) g.qtd (suc i) links;
   }
 
-  module _ (hand : Hand) (acc : ℕ → List (List ℕ)) (reported : ℕ → List ℕ) (members : (m : ℕ) → member m ≡ true → IsMember member m (parts m)) (right : AreReported streams order out hand parts acc reported) where
+  module _ (hand : Hand) (heads : ℕ → Bool) (acc : ℕ → List (List ℕ)) (reported : ℕ → List ℕ) (members : (m : ℕ) → member m ≡ true → IsMember member m (parts m)) (right : AreReported heads order out hand parts acc reported) where
     out_stays : (m : ℕ) → with_out out n (out_now (more d parts b words g i here k.fed) y.endpoint) m ≡ out m
     out_stays m =
         ⊎_elim (λ (same : m ≡ n).
@@ -309,26 +318,26 @@ module _ (p : DriverParts) (member streams : ℕ → Bool) (ends : ℕ → Told)
         ∙ out_more y.endpoint ∙ sym (k.out_are y.endpoint g.endpoint g.here (met_now g.endpoint)) ∙ ap out (sym same))
         (λ (differs : m ≢ n). out_beside out n (out_now (more d parts b words g i here k.fed) y.endpoint) m differs) (cases_eq m n)
 
-    reports_more : suc i < 8 → AreReported streams order (with_out out n (out_now (more d parts b words g i here k.fed) y.endpoint)) hand now acc reported
+    reports_more : suc i < 8 → AreReported heads order (with_out out n (out_now (more d parts b words g i here k.fed) y.endpoint)) hand now acc reported
     reports_more low m on =
         subst (λ (xs : List ℕ). IsReported (order m) xs hand now m (acc m) (reported m)) (sym (out_stays m))
-        (idle_reports streams order out hand parts acc reported n (32 * b) (partly g.qtd i) (partly g.qtd (suc i)) store (idle g.qtd (suc i) low) right m on)
+        (idle_reports heads order out hand parts acc reported n (32 * b) (partly g.qtd i) (partly g.qtd (suc i)) store (idle g.qtd (suc i) low) right m on)
 
     fresh_last : suc i ≡ 8 → IsFresh (parts n) (partly g.qtd (suc i))
     fresh_last eighth = subst (λ (j : ℕ). IsFresh (parts n) (partly g.qtd j)) (sym eighth) (let fresh : IsFresh (parts n) g.qtd = g.total ∙ sym (g.long k.made) in fresh)
 
-    reports_done : suc i ≡ 8 → AreReported streams order (with_out out n (out_now (done d parts b words g i here k.fed) y.endpoint)) hand now acc reported
+    reports_done : suc i ≡ 8 → AreReported heads order (with_out out n (out_now (done d parts b words g i here k.fed) y.endpoint)) hand now acc reported
     unfolding split store
     reports_done eighth =
-        subst (λ (xs : List ℕ). AreReported streams order (with_out out n xs) hand now acc reported) (sym split.all)
-        (last_reports member streams order out hand parts acc reported n (32 * b) (partly g.qtd i) (partly g.qtd (suc i)) store (ap (λ (j : ℕ). (partly g.qtd j).token.active) eighth ∙ g.active) (fresh_last eighth)
+        subst (λ (xs : List ℕ). AreReported heads order (with_out out n xs) hand now acc reported) (sym split.all)
+        (last_reports member heads order out hand parts acc reported n (32 * b) (partly g.qtd i) (partly g.qtd (suc i)) store (ap (λ (j : ℕ). (partly g.qtd j).token.active) eighth ∙ g.active) (fresh_last eighth)
         (members n (k.met.each y.endpoint g.endpoint g.here (met_now g.endpoint))) right)
 
-    pub reports_by : AreReported streams order (out_then out (next_of p).driver g) hand (parts_then g) acc reported
+    pub reports_by : AreReported heads order (out_then out (next_of p).driver g) hand (parts_then g) acc reported
     reports_by =
-        parts_are (λ (ps : StructureSets). AreReported streams order (out_then out (next_of p).driver g) hand ps acc reported)
-        (⊎_elim (λ (low : suc i < 8). subst (λ (x : DriverContent). AreReported streams order (out_then out x g) hand now acc reported) (sym (then_more low)) (reports_more low))
-        (λ (over : 8 ≤ suc i). subst (λ (x : DriverContent). AreReported streams order (out_then out x g) hand now acc reported) (sym (then_done (eighth_by over))) (reports_done (eighth_by over))) (cases_lt (suc i) 8))
+        parts_are (λ (ps : StructureSets). AreReported heads order (out_then out (next_of p).driver g) hand ps acc reported)
+        (⊎_elim (λ (low : suc i < 8). subst (λ (x : DriverContent). AreReported heads order (out_then out x g) hand now acc reported) (sym (then_more low)) (reports_more low))
+        (λ (over : 8 ≤ suc i). subst (λ (x : DriverContent). AreReported heads order (out_then out x g) hand now acc reported) (sym (then_done (eighth_by over))) (reports_done (eighth_by over))) (cases_lt (suc i) 8))
 
 pub store_publishes : StorePublishes
 store_publishes base w hand p member streams ends parts order out b words k drives = drives_by p member streams ends parts order out b words k base w hand drives
@@ -340,4 +349,4 @@ pub store_keeps_pipes : {W : Type 0} (sender : W → ℕ → ℕ → Option Send
 store_keeps_pipes sender stream packets acc wire hand p member streams ends parts order out b words k piped = pipes_by p member streams ends parts order out b words k sender stream packets acc wire hand piped
 
 pub store_reports : StoreReports
-store_reports acc reported hand p member streams ends parts order out b words k members right = reports_by p member streams ends parts order out b words k hand acc reported members right
+store_reports acc reported hand heads p member streams ends parts order out b words k members right = reports_by p member streams ends parts order out b words k hand heads acc reported members right

@@ -73,12 +73,12 @@ StorePipes {W} sender = (stream : ℕ → ℕ → Bool) (packets : ℕ → ℕ �
     (parts : StructureSets) (order : ℕ → ℕ → ℕ) (out : ℕ → List ℕ) (b : ℕ) (words : List ℕ) → (k : IsAtStore p.driver p.memory member streams ends parts order out b words)
     → ArePiped stream packets sender member streams ends acc parts hand wire → ArePiped stream packets sender member streams ends acc (parts_then (published_by k)) hand wire
 
+-- of any queue heads, whether they have streams or not
 abbrev pub StoreReports : Type 0
-StoreReports = (acc : ℕ → List (List ℕ)) (reported : ℕ → List ℕ) (hand : Hand) (p : DriverParts) (member streams : ℕ → Bool) (ends : ℕ → Told) (parts : StructureSets) (order : ℕ → ℕ → ℕ)
-    (out : ℕ → List ℕ)
-    (b : ℕ) (words : List ℕ) → (k : IsAtStore p.driver p.memory member streams ends parts order out b words) → ((n : ℕ) → member n ≡ true → IsMember member n (parts n))
-    → AreReported streams order out hand parts acc reported
-    → AreReported streams order (out_then out (next_of p).driver (published_by k)) hand (parts_then (published_by k)) acc reported
+StoreReports = (acc : ℕ → List (List ℕ)) (reported : ℕ → List ℕ) (hand : Hand) (heads : ℕ → Bool) (p : DriverParts) (member streams : ℕ → Bool) (ends : ℕ → Told) (parts : StructureSets)
+    (order : ℕ → ℕ → ℕ) (out : ℕ → List ℕ) (b : ℕ) (words : List ℕ) → (k : IsAtStore p.driver p.memory member streams ends parts order out b words)
+    → ((n : ℕ) → member n ≡ true → IsMember member n (parts n)) → AreReported heads order out hand parts acc reported
+    → AreReported heads order (out_then out (next_of p).driver (published_by k)) hand (parts_then (published_by k)) acc reported
 
 abbrev pub StoreStands : Type 0
 StoreStands = (p : DriverParts) (member streams : ℕ → Bool) (ends : ℕ → Told) (parts : StructureSets) (order : ℕ → ℕ → ℕ) (out : ℕ → List ℕ) (b : ℕ) (words : List ℕ)

@@ -10,15 +10,15 @@ use Rattle.harvested_streams.proofs.Harvesting.{token_read}
 use Rattle.driver_rows.specs.declared.content.Endpoint.{Endpoint}
 use Rattle.driver_rows.specs.declared.content.Transfer.{Transfer}
 use Rattle.driver_rows.specs.declared.content.Command.{Command}
-use Rattle.driver_rows.specs.declared.content.Sort.TheVariants as sorts
 use Rattle.driver_rows.specs.declared.rows.Found.{Found}
 use Rattle.driver_rows.specs.declared.rows.Found.TheVariants as founds
 use Rattle.driver_rows.specs.DriverContent.{DriverContent, waits_for}
 use Rattle.driver_rows.specs.Harvests.{note_at, token_in, moved_of, halt_of, done_of, ends_by}
 use Rattle.driver_rows.specs.Rows.{found_of, served, harvested_as, after_harvest}
-use Rattle.run_owners.specs.Owners.{NoteRuns, note_in}
+use Rattle.run_owners.specs.Owners.{NoteRuns, is_descriptor, note_in}
 use Rattle.chained_transfers.specs.Turns.{IsAtPlace}
 use Rattle.chained_transfers.specs.Out.{pieces_from, out_of_transfer, out_of, out_now}
+use Rattle.chained_transfers.proofs.Ways.{found_by}
 use Rattle.told_endpoints.specs.Telling.{named_in, TellsEach}
 use Rattle.told_harvests.specs.Held.{IsDone, IsOneFrom, IsRead}
 use Rattle.told_harvests.specs.Passed.{HarvestsFirst}
@@ -110,19 +110,19 @@ harvest_is_told member order place d m parts hand e t x y xs held told found n c
         (ap (λ (z : Token). z.active) (sym (token_read m parts (32 * x.queue) y.place reads.qtd c.tells reads.here)) ∙ c.off) (λ p z among of_it. c.none p z (s.earlier p among) of_it) split
 
     f : IsFoundDone member d m parts hand x y hf.bytes
-    f = record { bulk = c.bulk; get = c.get; kept = n.kept; tells = c.tells; on = c.on; read = c.read; off = c.off; told = hf.told }
+    f = record { bulk = c.bulk; queued = c.queued; kept = n.kept; tells = c.tells; on = c.on; read = c.read; off = c.off; told = hf.told }
 
     ht : HarvestTells d (after_harvest d m e t found (Some x) (Some y)) hand parts e t y hf.bytes held told
     ht = harvest_tells member d m parts hand e t x y h hf.bytes f held told holds tells found is
 
 -- ---- one that isn't done
 
-pub active_left : (d : DriverContent) (m : Mem) (e t : ℕ) (x : Endpoint) (y : Transfer) (found : Found) → IsReadNext d e t x y → y.sort ≡ sorts.Get → (token_in m y.place).active ≡ true → found ≡ found_of d m y y.sort
+pub active_left : (d : DriverContent) (m : Mem) (e t : ℕ) (x : Endpoint) (y : Transfer) (found : Found) → IsReadNext d e t x y → is_descriptor y.sort ≡ false → (token_in m y.place).active ≡ true → found ≡ found_of d m y y.sort
     → after_harvest d m e t found (Some x) (Some y) ≡ served d e
-active_left d m e t x y found n get on is =
+active_left d m e t x y found n queued on is =
     let own = n.waits e t x y n.next in
     let waits : waits_for e y ≡ true = ap (λ (b : Bool). b && not y.reported) (eq-eqb y.endpoint e own.0) ∙ ap (λ (b : Bool). true && not b) own.1 in
-    let active : found ≡ founds.Active = is ∙ ap (found_of d m y) get ∙ ap (λ (b : Bool). if b then founds.Active else if (token_in m y.place).halted then founds.Ended (moved_of (note_at d.notes y.place).told (token_in m y.place).total) (halt_of (token_in m y.place)) else done_of (ends_by sorts.Get (nat_le y.left 1) (token_in m y.place).total) (moved_of (note_at d.notes y.place).told (token_in m y.place).total)) on in
+    let active : found ≡ founds.Active = is ∙ found_by d m y y.sort queued ∙ ap (λ (b : Bool). if b then founds.Active else if (token_in m y.place).halted then founds.Ended (moved_of (note_at d.notes y.place).told (token_in m y.place).total) (halt_of (token_in m y.place)) else done_of (ends_by y.sort (nat_le y.left 1) (token_in m y.place).total) (moved_of (note_at d.notes y.place).told (token_in m y.place).total)) on in
     ap (λ (b : Bool). if b then served (harvested_as d m e t x y found) e else d) waits ∙ ap (λ (z : Found). served (harvested_as d m e t x y z) e) active
 
 -- ---- structures change

@@ -18,16 +18,16 @@ use Rattle.ring_walk.specs.Hand.{Hand}
 use Rattle.report_streams.specs.Reports.{is_refusal, is_end}
 use Rattle.driver_rows.specs.declared.content.Endpoint.{Endpoint}
 use Rattle.driver_rows.specs.declared.content.Transfer.{Transfer}
-use Rattle.driver_rows.specs.declared.content.Sort.TheVariants as sorts
 use Rattle.driver_rows.specs.declared.content.QtdNote.{QtdNote}
 use Rattle.driver_rows.specs.declared.rows.Found.{Found}
 use Rattle.driver_rows.specs.declared.rows.Found.TheVariants as founds
 use Rattle.driver_rows.specs.DriverContent.{DriverContent, waits_for, next_after}
-use Rattle.driver_rows.specs.Harvests.{note_at, noted, token_in, moved_of, moved_bytes, found_in, halt_of, done_of, ends_by, end_of, is_stall, reported}
+use Rattle.driver_rows.specs.Harvests.{note_at, noted, token_in, moved_of, moved_bytes, is_get, found_in, halt_of, done_of, ends_by, end_of, is_stall, reported}
 use Rattle.driver_rows.specs.Rows.{found_of, served, moved_on, told_with, goes_on as goes_on_with, after_end, harvested_as, after_harvest}
 use Rattle.run_owners.specs.Owners.{note_in, runs_of_note}
 use Rattle.run_owners.proofs.Released.{set_here, set_there}
 use Rattle.chained_transfers.specs.Turns.{IsAtPlace}
+use Rattle.chained_transfers.proofs.Ways.{found_by}
 use Rattle.told_endpoints.specs.Telling.{named_of, named_in, TellsEach}
 use Rattle.told_endpoints.specs.Steps.{Grows, Clears, NamesAt}
 use Rattle.told_endpoints.proofs.Tellings.{held_added, line_added}
@@ -227,20 +227,20 @@ module _ (member : ℕ → Bool) (d : DriverContent) (m : Mem) (parts : Structur
       by_missed false false true same = by_stop (lines.Halt causes.Error) causes.Error refl refl same
       by_missed false false false same = by_stop (lines.Halt causes.Stall) causes.Stall refl refl same
 
-  -- the others end a transfer where none is left, or some bytes are
+  -- the others end a transfer where none is left, or some bytes of a get are
   by_end : (last short : Bool) → nat_le y.left 1 ≡ last → HarvestTells d (row_of (done_of (last || short) count)) hand parts e t y bytes held told
   by_end true short is = done_row
   by_end false true is = done_row
   by_end false false is = moved_row (let more = leb-false y.left 1 is in omega (arith, more))
 
   by_halted : (halted : Bool) → (token_in m y.place).halted ≡ halted
-      → HarvestTells d (row_of (if halted then founds.Ended count (halt_of (token_in m y.place)) else done_of (nat_le y.left 1 || (true && not (nat_eq (token_in m y.place).total 0))) count)) hand parts e t y bytes held told
+      → HarvestTells d (row_of (if halted then founds.Ended count (halt_of (token_in m y.place)) else done_of (nat_le y.left 1 || (is_get y.sort && not (nat_eq (token_in m y.place).total 0))) count)) hand parts e t y bytes held told
   by_halted true is = halted_row (halt_of (token_in m y.place)) refl
-  by_halted false is = by_end (nat_le y.left 1) (true && not (nat_eq (token_in m y.place).total 0)) refl
+  by_halted false is = by_end (nat_le y.left 1) (is_get y.sort && not (nat_eq (token_in m y.place).total 0)) refl
 
-  found_row : HarvestTells d (row_of (found_in sorts.Get (nat_le y.left 1) (note_at d.notes y.place) (token_in m y.place))) hand parts e t y bytes held told
+  found_row : HarvestTells d (row_of (found_in y.sort (nat_le y.left 1) (note_at d.notes y.place) (token_in m y.place))) hand parts e t y bytes held told
   found_row =
-      subst (λ (b : Bool). HarvestTells d (row_of (if b then founds.Active else if (token_in m y.place).halted then founds.Ended count (halt_of (token_in m y.place)) else done_of (ends_by sorts.Get (nat_le y.left 1) (token_in m y.place).total) count)) hand parts e t y bytes held told)
+      subst (λ (b : Bool). HarvestTells d (row_of (if b then founds.Active else if (token_in m y.place).halted then founds.Ended count (halt_of (token_in m y.place)) else done_of (ends_by y.sort (nat_le y.left 1) (token_in m y.place).total) count)) hand parts e t y bytes held told)
       (sym f.off) (by_halted (token_in m y.place).halted refl)
 
   pub harvest_tells : (found : Found) → found ≡ found_of d m y y.sort → HarvestTells d (after_harvest d m e t found (Some x) (Some y)) hand parts e t y bytes held told
@@ -248,4 +248,4 @@ module _ (member : ℕ → Bool) (d : DriverContent) (m : Mem) (parts : Structur
       let own = h.waits e t x y h.next in
       let waits : waits_for e y ≡ true = ap (λ (b : Bool). b && not y.reported) (eq-eqb y.endpoint e own.0) ∙ ap (λ (b : Bool). true && not b) own.1 in
       subst (λ (b : Bool). HarvestTells d (if b then served (harvested_as d m e t x y found) e else d) hand parts e t y bytes held told) (sym waits)
-      (subst (λ (z : Found). HarvestTells d (row_of z) hand parts e t y bytes held told) (sym (is ∙ ap (found_of d m y) f.get)) found_row)
+      (subst (λ (z : Found). HarvestTells d (row_of z) hand parts e t y bytes held told) (sym (is ∙ found_by d m y y.sort f.queued)) found_row)

@@ -12,12 +12,11 @@ use Rattle.ring_streams.specs.Told.{Told}
 use Rattle.ring_order.specs.Order.{Accounts}
 use Rattle.driver_rows.specs.declared.content.Endpoint.{Endpoint}
 use Rattle.driver_rows.specs.declared.content.Transfer.{Transfer}
-use Rattle.driver_rows.specs.declared.content.Sort.TheVariants as sorts
 use Rattle.driver_rows.specs.declared.rows.Found.{Found}
 use Rattle.driver_rows.specs.DriverContent.{DriverContent}
 use Rattle.driver_rows.specs.Harvests.{note_at, token_in}
 use Rattle.driver_rows.specs.Rows.{found_of, served, after_harvest}
-use Rattle.run_owners.specs.Owners.{note_in}
+use Rattle.run_owners.specs.Owners.{is_descriptor, note_in}
 use Rattle.chained_transfers.specs.Turns.{IsAtPlace}
 use Rattle.chained_transfers.specs.Out.{out_now}
 use Rattle.told_endpoints.specs.Telling.{named_in, TellsEach}
@@ -37,7 +36,7 @@ pub record IsReadNext (d : DriverContent) (e t : ℕ) (x : Endpoint) (y : Transf
 -- nothing is told of those that were passed over
 pub record CanBeRead (member : ℕ → Bool) (d : DriverContent) (m : Mem) (parts : StructureSets) (hand : Hand) (e t : ℕ) (x : Endpoint) (y : Transfer) : Type 0 where
   pub bulk : x.desc.kind ≡ kinds.Bulk
-  pub get : y.sort ≡ sorts.Get
+  pub queued : is_descriptor y.sort ≡ false
   pub tells : Tells m parts
   pub on : IsMember member (32 * x.queue) (parts (32 * x.queue))
   pub read : AreRead (parts (32 * x.queue)) (note_at d.notes) y.first y.qtds
@@ -62,7 +61,7 @@ HarvestIsTold = (member : ℕ → Bool) (order : ℕ → ℕ) (place : ℕ) (d :
 
 -- one that isn't done is left, and the harvest looks elsewhere
 abbrev pub ActiveIsLeft : Type 0
-ActiveIsLeft = (d : DriverContent) (m : Mem) (e t : ℕ) (x : Endpoint) (y : Transfer) (found : Found) → IsReadNext d e t x y → y.sort ≡ sorts.Get → (token_in m y.place).active ≡ true
+ActiveIsLeft = (d : DriverContent) (m : Mem) (e t : ℕ) (x : Endpoint) (y : Transfer) (found : Found) → IsReadNext d e t x y → is_descriptor y.sort ≡ false → (token_in m y.place).active ≡ true
     → found ≡ found_of d m y y.sort
     → after_harvest d m e t found (Some x) (Some y) ≡ served d e
 

@@ -11,10 +11,9 @@ use Rattle.ring_walk.specs.Hand.{Hand}
 use Rattle.ring_streams.specs.Told.{Told}
 use Rattle.driver_rows.specs.declared.content.Endpoint.{Endpoint}
 use Rattle.driver_rows.specs.declared.content.Transfer.{Transfer}
-use Rattle.driver_rows.specs.declared.content.Sort.TheVariants as sorts
 use Rattle.driver_rows.specs.DriverContent.{DriverContent}
 use Rattle.driver_rows.specs.Harvests.{note_at, token_in}
-use Rattle.run_owners.specs.Owners.{note_in}
+use Rattle.run_owners.specs.Owners.{is_descriptor, note_in}
 use Rattle.told_endpoints.specs.Telling.{named_in, TellsEach}
 use Rattle.told_endpoints.specs.Steps.{Grows}
 use Rattle.told_harvests.specs.Held.{AreRead}
@@ -22,7 +21,7 @@ use Rattle.harvest_rows.specs.Holds.{HoldsEach}
 
 pub record IsFoundDone (member : ℕ → Bool) (d : DriverContent) (m : Mem) (parts : StructureSets) (hand : Hand) (x : Endpoint) (y : Transfer) (bytes : List ℕ) : Type 0 where
   pub bulk : x.desc.kind ≡ kinds.Bulk
-  pub get : y.sort ≡ sorts.Get
+  pub queued : is_descriptor y.sort ≡ false
   pub kept : y.released ≡ false
   pub tells : Tells m parts
   pub on : IsMember member (32 * x.queue) (parts (32 * x.queue))

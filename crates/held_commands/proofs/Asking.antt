@@ -1,5 +1,5 @@
--- What is held back where a get is accepted.
-use Rattle.std.proofs.Common.{◌≡◌, ◌≢◌, ℕ, zero, suc, ◌+◌, ◌-◌, ◌*◌, ◌≤◌, false, ◌||◌, List, [], ◌∷◌, ◌++◌, length, take, drop, get_or, slice_get, slice_set, Option, Some, None, option_map, ap, refl, sym, subst, ◌∙◌, ⊎_elim, inl, inr, arith}
+-- What is held back where a get or a put is accepted.
+use Rattle.std.proofs.Common.{◌≡◌, ◌≢◌, ℕ, zero, suc, ◌+◌, ◌-◌, ◌*◌, ◌≤◌, false, ◌||◌, List, [], ◌∷◌, ◌++◌, length, map, take, drop, get_or, slice_get, slice_set, Option, Some, None, option_map, ap, refl, sym, subst, ◌∙◌, ⊎_elim, inl, inr, arith}
 use Rattle.std.specs.Prelude.{◌⊎◌}
 use Rattle.std.proofs.lemmas.Bool.{cases_eq}
 use Rattle.std.proofs.lemmas.Option.{same_Some, slice_get_within}
@@ -12,7 +12,7 @@ use Rattle.driver_rows.specs.declared.content.Endpoint.{Endpoint}
 use Rattle.driver_rows.specs.declared.content.Transfer.{Transfer}
 use Rattle.driver_rows.specs.declared.content.QtdNote.{QtdNote}
 use Rattle.driver_rows.specs.DriverContent.{DriverContent}
-use Rattle.driver_rows.specs.Words.{needs}
+use Rattle.driver_rows.specs.Words.{cut, needs}
 use Rattle.driver_rows.specs.Harvests.{note_at}
 use Rattle.driver_rows.specs.Offers.{Offered, Asked, new_runs, note_stages, accepted_transfer, with_queued, new_transfer, first_waiting}
 use Rattle.run_owners.specs.Accepts.{Transfers}
@@ -25,14 +25,15 @@ use Rattle.run_owners.proofs.Chains.{notes_apart}
 use Rattle.run_owners.proofs.Accepted.{drop_first, within_slots}
 use Rattle.run_owners.proofs.Transferred.{are_new, goes_on_alive}
 use Rattle.chained_transfers.specs.Turns.{IsAtPlace, AreAtPlaces}
-use Rattle.chained_transfers.specs.Accepted.{IsAsked, get_of}
+use Rattle.chained_transfers.specs.Bulk.{stage_by}
+use Rattle.chained_transfers.specs.Accepted.{IsAsked}
 use Rattle.chained_transfers.proofs.Queued.{not_dummy}
 use Rattle.told_harvests.specs.Held.{AreHeld, none_held, AreUnmoved, told_of, IsOneFrom}
 use Rattle.told_harvests.proofs.Holding.{held_noted}
 use Rattle.harvest_rows.specs.Holds.{IsUnderWay, IsToCome, HoldsEach}
 use Rattle.harvest_rows.proofs.Places.{one_sooner, one_later, unmoved_noted}
 use Rattle.held_commands.specs.Laws.{AreThere}
-use Rattle.held_commands.proofs.Stages.{AreBlocks, told_in_all, stages_unmoved, stages_told, get_told}
+use Rattle.held_commands.proofs.Stages.{AreBlocks, told_in_all, stages_unmoved, stages_told, cut_told}
 use Rattle.held_commands.proofs.Opening.{push_which, set_which}
 
 -- ---- notes that stay
@@ -116,8 +117,8 @@ module _ (d : DriverContent) (e : ℕ) (x : Endpoint) (a : Asked) (h : Holding) 
       (next_kept x.next (length d.transfers) t (ap (λ (v : Endpoint). v.next) (same_Some x w (sym here ∙ ap (slice_get d.endpoints) (sym own) ∙ at)) ∙ is)))
       (λ (differs : y.endpoint ≢ e). other w (set_there d.endpoints e y.endpoint end differs ∙ at) is) (cases_eq y.endpoint e)
 
-  pub get_holds : HoldsEach (accepted_transfer d e x a h dummy notes).driver hand parts held
-  get_holds = record {
+  pub taken_holds : HoldsEach (accepted_transfer d e x a h dummy notes).driver hand parts held
+  taken_holds = record {
     next = λ f t w y is.
         ⊎_elim (λ (own : (f ≡ e) × (w ≡ end)).
         subst (λ (g : ℕ). IsUnderWay hand parts (32 * w.queue) (note_at notes) y (held g)) (sym own.0)
@@ -144,7 +145,7 @@ module _ (d : DriverContent) (e : ℕ) (x : Endpoint) (a : Asked) (h : Holding) 
         (λ (one : (t ≡ length d.transfers) × (y ≡ new)). subst (λ (v : Transfer). told_of (note_at notes) v.first v.qtds ≤ v.most) (sym one.1) less) (which t y at);
   }
 
--- ---- a get is accepted
+-- ---- a get or a put is accepted
 
 pub ask_holds : (d : DriverContent) (m : Mem) (o : Offered) (hand : Hand) (parts : StructureSets) (held : ℕ → List ℕ) → IsAsked d m o → Stands (holding d.book m) → HasOwners d → AreThere d → AreAtPlaces (note_in d.notes) d.transfers
     → HoldsEach d hand parts held → HoldsEach o.driver hand parts held
@@ -168,12 +169,13 @@ ask_holds d m o hand parts held k stands owners there places holds =
       distinct = are.distinct;
     } in
     let told = stages_told d.notes ss x.dummy qtds runs blocks in
-    let asked : ss ≡ (get_of k.length k.by).stages = ap (λ (a : Asked). a.stages) k.asked in
-    let long = get_told k.length k.by in
+    let way = x.desc.name.way in
+    let asked : ss ≡ map (stage_by way) (cut k.most k.by) = ap (λ (a : Asked). a.stages) k.asked in
+    let long = cut_told way k.most k.by in
     let all_told = ap told_in_all asked in
-    let most : why.asked.most ≡ k.length = ap (λ (a : Asked). a.most) k.asked in
+    let most : why.asked.most ≡ k.most = ap (λ (a : Asked). a.most) k.asked in
     let now : HoldsEach (accepted_transfer d e x why.asked why.holding_after (get_or qtds (n - 1) 0) notes).driver hand parts held =
-    get_holds d e x why.asked why.holding_after (get_or qtds (n - 1) 0) notes hand parts held why.here there places
+    taken_holds d e x why.asked why.holding_after (get_or qtds (n - 1) 0) notes hand parts held why.here there places
     (λ t y c at kept one.
     let p = one_placed (slot_of d.book.slots) owners.owner d.notes t y.first y.qtds c (owners.owned.each.pieces t (runs_of_transfer y) (ap (option_map runs_of_transfer) at) kept) one in
     notes_apart d.notes ss x.dummy qtds runs c (are.apart c (placed_run c (Element t) p) (not_dummy x.dummy c e t was p)))

@@ -1,15 +1,18 @@
--- Nothing is noted as moved of new qTDs, and no more is told of them than a get asks for.
+-- Nothing is noted as moved of new qTDs, and no more is told of them than a get or a put asks for.
 use Rattle.std.proofs.Common.{◌≡◌, ◌≢◌, ℕ, zero, suc, ◌+◌, ◌-◌, ◌*◌, ◌≤◌, ◌<◌, min, max, List, [], ◌∷◌, length, drop, map, get_or, set, ap, refl, sym, subst, ◌∙◌, arith}
 use Rattle.std.specs.List.{range_with_len}
 use Rattle.std.proofs.Math.Nat.{suc-mul}
 use Rattle.std.proofs.lemmas.List.{get_or-set_same, length-set}
+use Rattle.usb_base.specs.declared.packets.Way.{Way}
 use Rattle.driver_rows.specs.declared.content.QtdNote.{QtdNote}
 use Rattle.driver_rows.specs.declared.content.Stage.{Stage}
 use Rattle.driver_rows.specs.DriverContent.{no_note}
-use Rattle.driver_rows.specs.Words.{pieces, in_stage, get_stages}
+use Rattle.driver_rows.specs.Words.{pieces, cut}
 use Rattle.driver_rows.specs.Harvests.{note_at}
 use Rattle.driver_rows.specs.Offers.{runs_of, note_for, note_stages}
 use Rattle.run_owners.proofs.Chains.{notes_apart}
+use Rattle.chained_transfers.specs.Bulk.{stage_by}
+use Rattle.chained_transfers.proofs.Ways.{stage_told}
 use Rattle.told_harvests.specs.Held.{AreUnmoved, told_of}
 
 next_of : (qtds : List ℕ) (i : ℕ) → get_or (get_or qtds 0 0 ∷ drop 1 qtds) i 0 ≡ get_or qtds i 0
@@ -62,22 +65,16 @@ stages_told notes (s ∷ ss) b qtds runs k =
     ap (λ (a : ℕ). told_of (note_at rest) a (length ss)) (ap (λ (z : QtdNote). z.next) here) ∙ stages_told (set notes b n) ss q (drop 1 qtds) (drop (runs_of s) runs) (later_blocks notes s ss b qtds n k) in
     omega (arith, one, more)
 
--- ---- a get
-
-pub get_long : (len by a n : ℕ) → length (map in_stage (map (λ (k : ℕ). min by (len - k * by)) (range_with_len a n))) ≡ n
-get_long len by a zero = refl
-get_long len by a (suc n) = let rest = get_long len by (a + 1) n in omega (arith, rest)
-
-min_less : (a b : ℕ) → (min a b ≤ a) × (min a b ≤ b)
-min_less a b = (omega arith, omega arith)
+-- ---- a get or a put
 
 -- what is left is cut, piece by piece
-cut_less : (len by a n : ℕ) → told_in_all (map in_stage (map (λ (k : ℕ). min by (len - k * by)) (range_with_len a n))) ≤ len - a * by
-cut_less len by a zero = omega arith
-cut_less len by a (suc n) =
-    let rest = cut_less len by (a + 1) n in
+cut_less : (way : Way) (len by a n : ℕ) → told_in_all (map (stage_by way) (map (λ (k : ℕ). min by (len - k * by)) (range_with_len a n))) ≤ len - a * by
+cut_less way len by a zero = omega arith
+cut_less way len by a (suc n) =
+    let rest = cut_less way len by (a + 1) n in
     let next : (a + 1) * by ≡ a * by + by = ap (λ (i : ℕ). i * by) (let e : a + 1 ≡ suc a = omega arith in e) ∙ suc-mul a by in
-    omega (arith, rest, next)
+    let one = stage_told way (min by (len - a * by)) in
+    omega (arith, rest, next, one)
 
-pub get_told : (len by : ℕ) → told_in_all (get_stages len by) ≤ len
-get_told len by = let z = cut_less len by 0 (max 1 (pieces len by)) in omega (arith, z)
+pub cut_told : (way : Way) (len by : ℕ) → told_in_all (map (stage_by way) (cut len by)) ≤ len
+cut_told way len by = let z = cut_less way len by 0 (max 1 (pieces len by)) in omega (arith, z)

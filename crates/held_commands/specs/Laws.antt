@@ -27,8 +27,9 @@ abbrev pub AreThere : DriverContent → Type 0
 AreThere d = ((t : ℕ) (y : Transfer) → slice_get d.transfers t ≡ Some y → y.reported ≡ false → y.released ≡ false)
     × ((e t : ℕ) (x : Endpoint) → slice_get d.endpoints e ≡ Some x → x.ended ≡ None → x.next ≡ Some t → (y : Transfer) × (slice_get d.transfers t ≡ Some y) × (y.reported ≡ false))
 
-abbrev pub GetHolds : Type 0
-GetHolds = (d : DriverContent) (m : Mem) (o : Offered) (hand : Hand) (parts : StructureSets) (held : ℕ → List ℕ) → IsAsked d m o → Stands (holding d.book m) → HasOwners d → AreThere d
+-- a get or a put is accepted
+abbrev pub AskedHolds : Type 0
+AskedHolds = (d : DriverContent) (m : Mem) (o : Offered) (hand : Hand) (parts : StructureSets) (held : ℕ → List ℕ) → IsAsked d m o → Stands (holding d.book m) → HasOwners d → AreThere d
     → AreAtPlaces (note_in d.notes) d.transfers
     → HoldsEach d hand parts held → HoldsEach o.driver hand parts held
 

@@ -1,9 +1,9 @@
-ghost use Rattle.held_commands.specs.Laws.{OpenHolds, GetHolds, ReturnHolds};
+ghost use Rattle.held_commands.specs.Laws.{OpenHolds, AskedHolds, ReturnHolds};
 
-/// An accepted open, and an accepted get.
+/// An accepted open, and an accepted get or put.
 pub fn accepted_commands_keep_what_is_held()
     ensures open { OpenHolds }
-    ensures get { GetHolds }
+    ensures asked { AskedHolds }
 {}
 
 /// A reported transfer is given back.

@@ -79,10 +79,10 @@ module _ (member : ℕ → Bool) (d : DriverContent) (parts : StructureSets) (or
 
   dummy_lent : IsLent (slot_of d.book.slots x.dummy)
   dummy_lent =
-      let s = turns.receives.endpoints e x here in
+      let s = turns.bulk.endpoints e x here in
       lent_slot (slot_of d.book.slots x.dummy)
       (idle_lent d x.dummy idle lent
-      (placed_run x.dummy (Dummy e) (owners.owned.each.dummy e (runs_of_endpoint x) (ap (option_map runs_of_endpoint) here) (ap (λ (k : EpKind). is_iso k || x.gone) s.receives.kind ∙ s.gone))))
+      (placed_run x.dummy (Dummy e) (owners.owned.each.dummy e (runs_of_endpoint x) (ap (option_map runs_of_endpoint) here) (ap (λ (k : EpKind). is_iso k || x.gone) s.bulk.kind ∙ s.gone))))
 
   there : part c ≡ Some (Element dummy_qtd)
   there = fed.dummies e x here dummy_lent
@@ -106,7 +106,7 @@ module _ (member : ℕ → Bool) (d : DriverContent) (parts : StructureSets) (or
 
   -- ---- the pieces of its transfers
 
-  piece : (t i : ℕ) (y : Transfer) → slice_get d.transfers t ≡ Some y → y.released ≡ false → y.endpoint ≡ e → i < y.qtds → IsPieceFed part (note_at d.notes (piece_at note y.first i)) (piece_at note y.first i) (piece_at note y.first y.qtds)
+  piece : (t i : ℕ) (y : Transfer) → slice_get d.transfers t ≡ Some y → y.released ≡ false → y.endpoint ≡ e → i < y.qtds → IsPieceFed y.sort part (note_at d.notes (piece_at note y.first i)) (piece_at note y.first i) (piece_at note y.first y.qtds)
   piece t i y at held same less =
       let none : unpublished_of d t y ≡ 0 = none_yet d.command d.made y.qtds (nat_eq (suc t) (length d.transfers)) idle in
       fed.pieces t i y x at held (ap (slice_get d.endpoints) same ∙ here) (omega (arith, none)) less

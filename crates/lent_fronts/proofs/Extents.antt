@@ -1,4 +1,4 @@
--- Buffers stay in their runs, once a get is lent.
+-- Buffers stay in their runs, once a transfer is lent.
 use Rattle.std.proofs.Common.{◌≡◌, ◌≢◌, ℕ, zero, suc, ◌+◌, ◌*◌, ◌%◌, ◌<◌, ◌≤◌, ◌⊎◌, ◌||◌, ◌==◌, Bool, true, false, List, [], ◌∷◌, length, take, get_or, Option, Some, option_map, ap, refl, sym, subst, ◌∙◌, ⊎_elim, inl, inr, arith}
 use Rattle.std.specs.List.{AllByRecursion}
 use Rattle.std.proofs.lemmas.Bool.{cases_Bool, cases_eq, eqb-true, false≢true}
@@ -46,11 +46,11 @@ as_run c (b ∷ bs) (inr is) = inr (as_run c bs is)
 -- a run has its blocks still, lent or not
 slot_still : {d : DriverContent} {m : Mem} {b : ℕ} {words : List ℕ} {parts now : StructureSets} → IsLending d m b words parts now → (c j : ℕ) → SlotHas (slot_of d.book.slots c) j → SlotHas (slot_of (lent_driver d m).book.slots c) j
 slot_still {d = d} {m = m} l c j has =
-    let k = l.get in
+    let k = l.ready in
     let h = holding d.book m in
     ⊎_elim
     (λ (one : IsOneOf c d.book.taken).
-    let r = taken_keep d m k.number (y_of k) (x_of k) k.stage k.further c k.receiving one in
+    let r = taken_keep d m k.number (y_of k) (x_of k) k.stage k.further c k.awaits one in
     let kept : SlotHas (Keeps r.run) j = subst (λ (s : Slot). SlotHas s j) r.is has in
     subst (λ (s : Slot). SlotHas s j) (sym (taken_lent h c r.run l.stands l.shape one r.is).slot) kept)
     (λ (none : IsOneOf c d.book.taken → ⊥). subst (λ (s : Slot). SlotHas s j) (sym (others_stay h c none)) has)
@@ -123,12 +123,12 @@ lent_already lent c Empty is run none = run
 lent_already {d = d} lent c (Keeps r) is run none = absurd (none (begins_one c d.book.taken (lent.kept c r is)))
 lent_already lent c (Lends r) is run none = tt
 
-old_in_runs : {d : DriverContent} {m : Mem} {b : ℕ} {words : List ℕ} {parts now : StructureSets} → (l : IsLending d m b words parts now) → AreLent d → IsDriven (views_of d) (sorts_of parts) → AreInRuns (views_of d) parts → (t e c : ℕ) (cs : List ℕ) (y : TransferRuns) (x : EndpointRuns) (pages : List ℕ) (k : ℕ) (bs : List ℕ) → IsTransferIn (views_of d) t y x → t ≢ l.get.number → IsPieceOf (note_in d.notes) y.first y.qtds e
+old_in_runs : {d : DriverContent} {m : Mem} {b : ℕ} {words : List ℕ} {parts now : StructureSets} → (l : IsLending d m b words parts now) → AreLent d → IsDriven (views_of d) (sorts_of parts) → AreInRuns (views_of d) parts → (t e c : ℕ) (cs : List ℕ) (y : TransferRuns) (x : EndpointRuns) (pages : List ℕ) (k : ℕ) (bs : List ℕ) → IsTransferIn (views_of d) t y x → t ≢ l.ready.number → IsPieceOf (note_in d.notes) y.first y.qtds e
     → (note_in d.notes e).buffer ≡ c ∷ cs → now (32 * x.queue) (32 * c) ≡ Some (Buffer pages k bs) → (j : ℕ) → Has (32 * c) (Buffer pages k bs) j → InRuns (slot_of (lent_driver d m).book.slots) (c ∷ cs) j
 old_in_runs {d = d} {m = m} {b = b} {words = words} {parts = parts} {now = now} l lent driven old t e c cs y x pages k bs is differs piece runs here j inside =
-    let g = l.get in
+    let g = l.ready in
     let v = views_of d in
-    let on = lent_on_views d m g.number (y_of g) (x_of g) g.stage g.further g.receiving l.has l.stands l.shape in
+    let on = lent_on_views d m g.number (y_of g) (x_of g) g.stage g.further g.awaits l.has l.stands l.shape in
     let placed = piece_placed v.slot l.has.owner v.note t y.first y.qtds e c cs (l.has.owned.each.pieces t y is.here is.held) piece runs in
     let none : IsOneOf c d.book.taken → ⊥ =
     not_taken v (views_of (lent_driver d m)) l.has.owner g.number (y_of g) (x_of g) d.book.taken c (BufferOwner t) on placed (λ same. no_element t g.number same) (λ same. no_dummy t g.transfer.endpoint same) (λ same. differs (one_owner t g.number same)) in
@@ -151,12 +151,12 @@ old_in_runs {d = d} {m = m} {b = b} {words = words} {parts = parts} {now = now} 
 
 pub runs_lent : {d : DriverContent} {m : Mem} {b : ℕ} {words : List ℕ} {parts now : StructureSets} → IsLending d m b words parts now → AreLent d → IsDriven (views_of d) (sorts_of parts) → AreInRuns (views_of d) parts → AreInRuns (views_of (lent_now d m)) now
 runs_lent {d = d} {m = m} {b = b} {words = words} {parts = parts} {now = now} l lent driven old =
-    let g = l.get in
+    let g = l.ready in
     let n = 32 * g.endpoint.queue in
-    let r = g.receiving in
+    let r = g.awaits in
     record {
       list = λ ws here.
-          let queue = (l.has.owned.each.queue g.transfer.endpoint (runs_of_endpoint g.endpoint) (ap (option_map runs_of_endpoint) g.here) (bare_is d g.transfer.endpoint g.endpoint l.receives g.here)).owned in
+          let queue = (l.has.owned.each.queue g.transfer.endpoint (runs_of_endpoint g.endpoint) (ap (option_map runs_of_endpoint) g.here) (bare_is d g.transfer.endpoint g.endpoint l.bulk g.here)).owned in
           let differs : 0 ≢ n = λ same. no_list (sym l.has.owned.each.list.owned ∙ ap l.has.owner (let e : 0 ≡ g.endpoint.queue = omega (arith, same) in e) ∙ queue) in
           old.list ws (ap (λ (part : Structures). part 0) (sym (l.pieces.beside 0 differs)) ∙ here);
       buffers = λ t e c cs y x pages k bs is piece runs here j inside.

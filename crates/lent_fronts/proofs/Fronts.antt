@@ -1,4 +1,4 @@
--- The front of each queue, once a get is lent.
+-- The front of each queue, once a transfer is lent.
 use Rattle.std.proofs.Common.{◌<◌, ◌≡◌, ◌≢◌, ℕ, zero, suc, ◌+◌, ◌-◌, ◌*◌, ◌≤◌, ◌⊎◌, Bool, true, false, not, ◌&&◌, cond, List, [], ◌∷◌, ◌++◌, length, slice_get, Some, ap, refl, sym, subst, ◌∙◌, ⊎_elim, inl, inr, arith}
 use Rattle.std.proofs.lemmas.Bool.{cases_eq, eq-eqb, false≢true}
 use Rattle.std.proofs.lemmas.Option.{same_Some}
@@ -23,7 +23,6 @@ use Rattle.ring_walk.specs.Hand.{Hand}
 use Rattle.ring_order.specs.Order.{IsAmong}
 use Rattle.ring_fronts.specs.Front.{HasFront}
 use Rattle.ring_fronts.proofs.Going.{front_spared, front_renumbered}
-use Rattle.ring_streams.specs.Told.{Endpoint as Told}
 use Rattle.chained_transfers.specs.Chains.{piece_at}
 use Rattle.chained_transfers.specs.Out.{pieces_from}
 use Rattle.released_queues.specs.Fronts.{piece_address, end_at, StandsAt, FrontsStand}
@@ -37,7 +36,7 @@ use Rattle.fed_lends.proofs.Reporting.{numbers, old_number, all_there, fresh_new
 use Rattle.fed_lends.proofs.Names.{older_published}
 use Rattle.fed_lends.proofs.Fed.{y_of, x_of, IsLending, buffers_same}
 use Rattle.fed_lends.proofs.Order.{at_here, at_else, queue_apart}
-use Rattle.fed_lends.proofs.Reports.{IsOrdering, is_met, its_stream, first_last, from_here, least_below, first_below, queue_order, order_lent, out_lent}
+use Rattle.fed_lends.proofs.Reports.{IsOrdering, is_met, is_counted, first_last, from_here, least_below, first_below, queue_order, order_lent, out_lent}
 
 -- one of the new qTDs stands there
 pub record HasNew (notes : List QtdNote) (dummy : ℕ) (ss : List Stage) (b a : ℕ) : Type 0 where
@@ -59,9 +58,9 @@ owed_reported true g some = refl
 owed_reported false g some = absurd (omega (arith, some))
 
 -- so it isn't the newest transfer
-pub not_newest : {d : DriverContent} {m : Mem} {b : ℕ} {words : List ℕ} {parts now : StructureSets} → (l : IsLending d m b words parts now) → (i t : ℕ) (y : Transfer) → slice_get d.harvested i ≡ Some t → slice_get d.transfers t ≡ Some y → t ≢ l.get.number
+pub not_newest : {d : DriverContent} {m : Mem} {b : ℕ} {words : List ℕ} {parts now : StructureSets} → (l : IsLending d m b words parts now) → (i t : ℕ) (y : Transfer) → slice_get d.harvested i ≡ Some t → slice_get d.transfers t ≡ Some y → t ≢ l.ready.number
 not_newest {d = d} l i t y at there same =
-    let k = l.get in
+    let k = l.ready in
     let is : y ≡ k.transfer = same_Some y k.transfer (sym there ∙ ap (slice_get d.transfers) same ∙ k.there) in
     let some = times_some d.harvested i t at in
     let owed = l.has.orderly.harvests t in
@@ -85,33 +84,33 @@ new_named notes dummy [] b a among = absurd among
 new_named notes dummy (s ∷ ss) b a (inl is) = record { qtd = stage_qtd notes s b dummy (is_last ss); new = inl (is, refl) }
 new_named notes dummy (s ∷ ss) b a (inr is) = let r = new_named notes dummy ss (note_at notes b).next a is in record { qtd = r.qtd; new = inr r.new }
 
-not_there : (d : DriverContent) (m : Mem) (b : ℕ) (words : List ℕ) (parts now : StructureSets) → (l : IsLending d m b words parts now) → (a : ℕ) (t : Qtd) → IsAmong a (new_out d (y_of l.get) l.get.further) → parts (32 * l.get.endpoint.queue) a ≡ Some (Element t) → ⊥
+not_there : (d : DriverContent) (m : Mem) (b : ℕ) (words : List ℕ) (parts now : StructureSets) → (l : IsLending d m b words parts now) → (a : ℕ) (t : Qtd) → IsAmong a (new_out d (y_of l.ready) l.ready.further) → parts (32 * l.ready.endpoint.queue) a ≡ Some (Element t) → ⊥
 not_there d m b words parts now l a t among there =
-    let k = l.get in
+    let k = l.ready in
     let r = new_named d.notes k.endpoint.dummy k.further (second d (y_of k)) a among in
     some_none (parts (32 * k.endpoint.queue) a) (Element t) (l.pieces.none_before a r.qtd r.new) there
 
 -- a transfer that wasn't given back has a qTD
-o_some : {d : DriverContent} {m : Mem} {b : ℕ} {words : List ℕ} {parts now : StructureSets} {member streams : ℕ → Bool} {ends : ℕ → Told} {order : ℕ → ℕ → ℕ} {out : ℕ → List ℕ} {hand : Hand} {acc : ℕ → List (List ℕ)} {reported : ℕ → List ℕ} → IsOrdering d m b words parts now member streams ends order out hand acc reported → (t : ℕ) (y : Transfer) → slice_get d.transfers t ≡ Some y → y.released ≡ false → 1 ≤ y.qtds
+o_some : {d : DriverContent} {m : Mem} {b : ℕ} {words : List ℕ} {parts now : StructureSets} {member heads : ℕ → Bool} {order : ℕ → ℕ → ℕ} {out : ℕ → List ℕ} {hand : Hand} {acc : ℕ → List (List ℕ)} {reported : ℕ → List ℕ} → IsOrdering d m b words parts now member heads order out hand acc reported → (t : ℕ) (y : Transfer) → slice_get d.transfers t ≡ Some y → y.released ≡ false → 1 ≤ y.qtds
 o_some o t y there held = let at = o.turns.places t y there held in let some = at.some in let most = at.most in omega (arith, some, most)
 
 -- ---- its queue
 
 -- the front of the queue that gets the transfer
-its_front : {d : DriverContent} {m : Mem} {b : ℕ} {words : List ℕ} {parts now : StructureSets} {member streams : ℕ → Bool} {ends : ℕ → Told} {order : ℕ → ℕ → ℕ} {out : ℕ → List ℕ} {hand : Hand} {acc : ℕ → List (List ℕ)} {reported : ℕ → List ℕ} → (o : IsOrdering d m b words parts now member streams ends order out hand acc reported) (least : ℕ) → (front : ℕ) → front ≤ from_here o least
-    → HasFront (order (32 * o.lending.get.endpoint.queue)) front (out (32 * o.lending.get.endpoint.queue)) (32 * o.lending.get.endpoint.queue) (parts (32 * o.lending.get.endpoint.queue))
-    → HasFront (queue_order o.lending.get (from_here o least) order) front (out (32 * o.lending.get.endpoint.queue) ++ new_out d (y_of o.lending.get) o.lending.get.further) (32 * o.lending.get.endpoint.queue) (now (32 * o.lending.get.endpoint.queue))
+its_front : {d : DriverContent} {m : Mem} {b : ℕ} {words : List ℕ} {parts now : StructureSets} {member heads : ℕ → Bool} {order : ℕ → ℕ → ℕ} {out : ℕ → List ℕ} {hand : Hand} {acc : ℕ → List (List ℕ)} {reported : ℕ → List ℕ} → (o : IsOrdering d m b words parts now member heads order out hand acc reported) (least : ℕ) → (front : ℕ) → front ≤ from_here o least
+    → HasFront (order (32 * o.lending.ready.endpoint.queue)) front (out (32 * o.lending.ready.endpoint.queue)) (32 * o.lending.ready.endpoint.queue) (parts (32 * o.lending.ready.endpoint.queue))
+    → HasFront (queue_order o.lending.ready (from_here o least) order) front (out (32 * o.lending.ready.endpoint.queue) ++ new_out d (y_of o.lending.ready) o.lending.ready.further) (32 * o.lending.ready.endpoint.queue) (now (32 * o.lending.ready.endpoint.queue))
 its_front {d = d} {m = m} {b = b} {words = words} {parts = parts} {now = now} {member = member} {order = order} {out = out} {hand = hand} o least front most has =
     let l = o.lending in
-    let k = l.get in
+    let k = l.ready in
     let p = l.pieces in
     let n = 32 * k.endpoint.queue in
     let slot = slot_of (lent_driver d m).book.slots in
     let from = from_here o least in
     let f = queue_order k from order in
     let new = new_out d (y_of k) k.further in
-    let r = o.reports n (its_stream o) in
-    let are = numbers d m k.number (y_of k) (x_of k) k.stage k.further from (order n) k.receiving in
+    let r = o.reports n (is_counted o) in
+    let are = numbers d m k.number (y_of k) (x_of k) k.stage k.further from (order n) k.awaits in
     let first = front_renumbered member (order n) f front (out n) n (parts n) o.sound (λ a t there. old_number d (y_of k) (x_of k) k.stage k.further slot parts now from (order n) a (Element t) p there) has in
     front_spared f front (out n) (out n ++ new) n (parts n) (now n) first
     (λ q here. record {
@@ -132,18 +131,18 @@ its_front {d = d} {m = m} {b = b} {words = words} {parts = parts} {now = now} {m
     (λ (more : IsAmong a new).
     let on = new_active (now n) d.notes k.endpoint.dummy k.further (second d (y_of k)) a t p.standing more here in
     let low = new_from f d.notes k.endpoint.dummy k.further (second d (y_of k)) from a t are fresh in
-    inr (omega (arith, low, most), on, fresh_new (slot_of d.book.slots) (now n) d.notes k.endpoint.dummy k.further (second d (y_of k)) a t k.receiving.noted.1 p.buffered.1 p.none_at_zero fresh on))
+    inr (omega (arith, low, most), on, fresh_new (slot_of d.book.slots) (now n) d.notes k.endpoint.dummy k.further (second d (y_of k)) a t k.awaits.noted.1 p.buffered.1 p.none_at_zero fresh on))
     (among_either a (out n) new among))
     (p.elements a t here))
 
 -- ---- what was harvested
 
 -- the end of an older transfer stands
-end_stands : {d : DriverContent} {m : Mem} {b : ℕ} {words : List ℕ} {parts now : StructureSets} {member streams : ℕ → Bool} {ends : ℕ → Told} {order : ℕ → ℕ → ℕ} {out : ℕ → List ℕ} {hand : Hand} {acc : ℕ → List (List ℕ)} {reported : ℕ → List ℕ} → (o : IsOrdering d m b words parts now member streams ends order out hand acc reported) → (t : ℕ) (y : Transfer) → t ≢ o.lending.get.number → slice_get d.transfers t ≡ Some y → y.released ≡ false → y.endpoint ≡ o.lending.get.transfer.endpoint → 1 ≤ y.qtds
-    → IsElement (parts (32 * o.lending.get.endpoint.queue)) (end_at d y)
+end_stands : {d : DriverContent} {m : Mem} {b : ℕ} {words : List ℕ} {parts now : StructureSets} {member heads : ℕ → Bool} {order : ℕ → ℕ → ℕ} {out : ℕ → List ℕ} {hand : Hand} {acc : ℕ → List (List ℕ)} {reported : ℕ → List ℕ} → (o : IsOrdering d m b words parts now member heads order out hand acc reported) → (t : ℕ) (y : Transfer) → t ≢ o.lending.ready.number → slice_get d.transfers t ≡ Some y → y.released ≡ false → y.endpoint ≡ o.lending.ready.transfer.endpoint → 1 ≤ y.qtds
+    → IsElement (parts (32 * o.lending.ready.endpoint.queue)) (end_at d y)
 end_stands {d = d} {m = m} {b = b} {words = words} {parts = parts} {order = order} o t y differs there held at some =
     let l = o.lending in
-    let k = l.get in
+    let k = l.ready in
     let n = 32 * k.endpoint.queue in
     let note = note_in d.notes in
     let none = older_published d m b t words y k differs in
@@ -158,12 +157,12 @@ end_stands {d = d} {m = m} {b = b} {words = words} {parts = parts} {order = orde
 
 -- ---- all queues
 
-pub fronts_stand : {d : DriverContent} {m : Mem} {b : ℕ} {words : List ℕ} {parts now : StructureSets} {member streams : ℕ → Bool} {ends : ℕ → Told} {order : ℕ → ℕ → ℕ} {out : ℕ → List ℕ} {hand : Hand} {acc : ℕ → List (List ℕ)} {reported : ℕ → List ℕ} → (o : IsOrdering d m b words parts now member streams ends order out hand acc reported) (least : ℕ)
-    → (fronts : FrontsStand d parts order out) → (fronts o.lending.get.transfer.endpoint o.lending.get.endpoint o.lending.get.here (is_met d m b words o.lending.get.endpoint o.lending.get)).front ≤ least
-    → FrontsStand (lent_now d m) now (order_lent o.lending.get (from_here o least) order) (out_lent o.lending.get out)
+pub fronts_stand : {d : DriverContent} {m : Mem} {b : ℕ} {words : List ℕ} {parts now : StructureSets} {member heads : ℕ → Bool} {order : ℕ → ℕ → ℕ} {out : ℕ → List ℕ} {hand : Hand} {acc : ℕ → List (List ℕ)} {reported : ℕ → List ℕ} → (o : IsOrdering d m b words parts now member heads order out hand acc reported) (least : ℕ)
+    → (fronts : FrontsStand d parts order out) → (fronts o.lending.ready.transfer.endpoint o.lending.ready.endpoint o.lending.ready.here (is_met d m b words o.lending.ready.endpoint o.lending.ready)).front ≤ least
+    → FrontsStand (lent_now d m) now (order_lent o.lending.ready (from_here o least) order) (out_lent o.lending.ready out)
 fronts_stand {d = d} {m = m} {b = b} {words = words} {parts = parts} {now = now} {order = order} {out = out} o least fronts most e x here met =
     let l = o.lending in
-    let k = l.get in
+    let k = l.ready in
     let n = 32 * k.endpoint.queue in
     let slot = slot_of (lent_driver d m).book.slots in
     let from = from_here o least in
@@ -205,29 +204,29 @@ fronts_stand {d = d} {m = m} {b = b} {words = words} {parts = parts} {now = now}
 -- ---- the queue's tail
 
 -- nothing that stood comes after the first qTD, and all that is new does
-old_below : {d : DriverContent} {m : Mem} {b : ℕ} {words : List ℕ} {parts now : StructureSets} {member streams : ℕ → Bool} {ends : ℕ → Told} {order : ℕ → ℕ → ℕ} {out : ℕ → List ℕ} {hand : Hand} {acc : ℕ → List (List ℕ)} {reported : ℕ → List ℕ} → (o : IsOrdering d m b words parts now member streams ends order out hand acc reported) (least : ℕ)
-    → (c : ℕ) → IsElement (parts (32 * o.lending.get.endpoint.queue)) c → order (32 * o.lending.get.endpoint.queue) c < from_here o least
+old_below : {d : DriverContent} {m : Mem} {b : ℕ} {words : List ℕ} {parts now : StructureSets} {member heads : ℕ → Bool} {order : ℕ → ℕ → ℕ} {out : ℕ → List ℕ} {hand : Hand} {acc : ℕ → List (List ℕ)} {reported : ℕ → List ℕ} → (o : IsOrdering d m b words parts now member heads order out hand acc reported) (least : ℕ)
+    → (c : ℕ) → IsElement (parts (32 * o.lending.ready.endpoint.queue)) c → order (32 * o.lending.ready.endpoint.queue) c < from_here o least
 old_below {d = d} {m = m} {b = b} {words = words} {parts = parts} {order = order} o least c there =
-    let k = o.lending.get in
+    let k = o.lending.ready in
     let n = 32 * k.endpoint.queue in
     let first = 32 * k.transfer.first in
     let above = first_below o least in
     ⊎_elim (λ (same : c ≡ first). let e = ap (order n) same in omega (arith, e, above))
     (λ (differs : c ≢ first). let low = first_last o c there.qtd there.here differs in omega (arith, low, above)) (cases_eq c first)
 
-its_reach : {d : DriverContent} {m : Mem} {b : ℕ} {words : List ℕ} {parts now : StructureSets} {member streams : ℕ → Bool} {ends : ℕ → Told} {order : ℕ → ℕ → ℕ} {out : ℕ → List ℕ} {hand : Hand} {acc : ℕ → List (List ℕ)} {reported : ℕ → List ℕ} → (o : IsOrdering d m b words parts now member streams ends order out hand acc reported) (least : ℕ)
-    → (c : ℕ) → IsElement (parts (32 * o.lending.get.endpoint.queue)) c
-    → Reaches d (parts (32 * o.lending.get.endpoint.queue)) (order (32 * o.lending.get.endpoint.queue)) (out (32 * o.lending.get.endpoint.queue)) o.lending.get.transfer.endpoint o.lending.get.endpoint c
-    → Reaches (lent_now d m) (now (32 * o.lending.get.endpoint.queue)) (queue_order o.lending.get (from_here o least) order) (out (32 * o.lending.get.endpoint.queue) ++ new_out d (y_of o.lending.get) o.lending.get.further) o.lending.get.transfer.endpoint o.lending.get.endpoint c
+its_reach : {d : DriverContent} {m : Mem} {b : ℕ} {words : List ℕ} {parts now : StructureSets} {member heads : ℕ → Bool} {order : ℕ → ℕ → ℕ} {out : ℕ → List ℕ} {hand : Hand} {acc : ℕ → List (List ℕ)} {reported : ℕ → List ℕ} → (o : IsOrdering d m b words parts now member heads order out hand acc reported) (least : ℕ)
+    → (c : ℕ) → IsElement (parts (32 * o.lending.ready.endpoint.queue)) c
+    → Reaches d (parts (32 * o.lending.ready.endpoint.queue)) (order (32 * o.lending.ready.endpoint.queue)) (out (32 * o.lending.ready.endpoint.queue)) o.lending.ready.transfer.endpoint o.lending.ready.endpoint c
+    → Reaches (lent_now d m) (now (32 * o.lending.ready.endpoint.queue)) (queue_order o.lending.ready (from_here o least) order) (out (32 * o.lending.ready.endpoint.queue) ++ new_out d (y_of o.lending.ready) o.lending.ready.further) o.lending.ready.transfer.endpoint o.lending.ready.endpoint c
 its_reach {d = d} {m = m} {b = b} {words = words} {parts = parts} {now = now} {order = order} {out = out} o least c there r =
     let l = o.lending in
-    let k = l.get in
+    let k = l.ready in
     let n = 32 * k.endpoint.queue in
     let slot = slot_of (lent_driver d m).book.slots in
     let from = from_here o least in
     let f = queue_order k from order in
     let s = r.stands in
-    let are = numbers d m k.number (y_of k) (x_of k) k.stage k.further from (order n) k.receiving in
+    let are = numbers d m k.number (y_of k) (x_of k) k.stage k.further from (order n) k.awaits in
     let low = old_below o least c there in
     let most = r.tail.most in
     let at : f c ≡ order n c = old_number d (y_of k) (x_of k) k.stage k.further slot parts now from (order n) c (Element there.qtd) l.pieces there.here in
@@ -288,12 +287,12 @@ its_reach {d = d} {m = m} {b = b} {words = words} {parts = parts} {now = now} {o
 -- ---- tails
 
 -- a tail that stood is one still, as all new qTDs come after it
-pub reaches_on : {d : DriverContent} {m : Mem} {b : ℕ} {words : List ℕ} {parts now : StructureSets} {member streams : ℕ → Bool} {ends : ℕ → Told} {order : ℕ → ℕ → ℕ} {out : ℕ → List ℕ} {hand : Hand} {acc : ℕ → List (List ℕ)} {reported : ℕ → List ℕ} → (o : IsOrdering d m b words parts now member streams ends order out hand acc reported) (least : ℕ)
+pub reaches_on : {d : DriverContent} {m : Mem} {b : ℕ} {words : List ℕ} {parts now : StructureSets} {member heads : ℕ → Bool} {order : ℕ → ℕ → ℕ} {out : ℕ → List ℕ} {hand : Hand} {acc : ℕ → List (List ℕ)} {reported : ℕ → List ℕ} → (o : IsOrdering d m b words parts now member heads order out hand acc reported) (least : ℕ)
     → (e : ℕ) (x : Endpoint) (c : ℕ) → slice_get d.endpoints e ≡ Some x → IsElement (parts (32 * x.queue)) c → Reaches d (parts (32 * x.queue)) (order (32 * x.queue)) (out (32 * x.queue)) e x c
-    → Reaches (lent_now d m) (now (32 * x.queue)) (order_lent o.lending.get (from_here o least) order (32 * x.queue)) (out_lent o.lending.get out (32 * x.queue)) e x c
+    → Reaches (lent_now d m) (now (32 * x.queue)) (order_lent o.lending.ready (from_here o least) order (32 * x.queue)) (out_lent o.lending.ready out (32 * x.queue)) e x c
 reaches_on {d = d} {m = m} {b = b} {words = words} {parts = parts} {now = now} {order = order} {out = out} o least e x c here tail r =
     let l = o.lending in
-    let k = l.get in
+    let k = l.ready in
     let n = 32 * k.endpoint.queue in
     let slot = slot_of (lent_driver d m).book.slots in
     let from = from_here o least in

@@ -1,4 +1,4 @@
--- The row that lends a get, with the fronts.
+-- The row that lends a transfer, with the fronts.
 use Rattle.std.proofs.Common.{ℕ, ◌*◌, ◌≤◌, arith, Option, sym, subst}
 use Rattle.async_walk.specs.Rows.{place}
 use Rattle.run_book.specs.Book.{slot_of}
@@ -7,47 +7,47 @@ use Rattle.ring_lends.specs.Together.{put_all}
 use Rattle.ring_pipes.specs.Bus.{Sender}
 use Rattle.driver_parts.specs.Driven.{DrivesRing}
 use Rattle.transfer_lends.specs.Laws.{lent_memory, lent_driver, items_of}
-use Rattle.transfer_lends.proofs.Lends.{lend_receives_drives}
+use Rattle.transfer_lends.proofs.Lends.{lend_drives}
 use Rattle.fed_lends.proofs.Reporting.{spares_heads}
 use Rattle.fed_lends.proofs.Piping.{lend_leaves_pipes}
 use Rattle.fed_lends.proofs.Names.{names_lent}
 use Rattle.fed_lends.proofs.Fed.{y_of, x_of, IsLending, buffers_same, queues_fed}
 use Rattle.fed_lends.proofs.Reports.{IsOrdering, is_met, from_here, order_lent, out_lent, all_reported, all_out, all_last}
-use Rattle.fed_lends.proofs.Row.{advance_is, after_is, met_on, streams_on}
+use Rattle.fed_lends.proofs.Row.{advance_is, after_is, met_on, streams_on, its_asks}
 use Rattle.lent_fronts.specs.Whole.{GoesOnWhole, LendRowLeavesFronts}
 use Rattle.lent_fronts.proofs.Fronts.{fronts_stand, reaches_on}
 use Rattle.lent_fronts.proofs.Extents.{runs_lent}
 
 pub lend_row_leaves_fronts : {W : Type 0} (sender : W → ℕ → ℕ → Option Sender) → LendRowLeavesFronts sender
-lend_row_leaves_fronts sender base stream packets member streams ends acc reported hand wire parts order out w p b words k has stands receives turns blank drives piped reports queues fronts lent runs =
+lend_row_leaves_fronts sender base stream packets member streams heads ends acc reported hand wire parts order out w p b words k has stands bulk turns blank drives piped reports queues fronts lent runs counted =
     let d = p.driver in
     let m = p.memory in
     let y = y_of k in
     let x = x_of k in
     let n = 32 * k.endpoint.queue in
     let now = put_all parts n (items_of d m y x k.stage k.further) in
-    let both = lend_receives_drives base member parts hand w p.registers m d k.number y x k.stage k.further k.receiving has stands drives (names_lent d m b words parts n k queues.fed drives.driven blank) in
-    let l : IsLending d m b words parts now = record { get = k; has = has; stands = stands; shape = drives.ring.tells.shape; receives = receives; fed = queues.fed; pieces = both.1 } in
+    let both = lend_drives base member parts hand w p.registers m d k.number y x k.stage k.further k.awaits has stands drives (names_lent d m b words parts n k queues.fed drives.driven blank) in
+    let l : IsLending d m b words parts now = record { ready = k; has = has; stands = stands; shape = drives.ring.tells.shape; bulk = bulk; fed = queues.fed; pieces = both.1 } in
     let met = is_met d m b words k.endpoint k in
     let on = queues.met.each k.transfer.endpoint k.endpoint k.here met in
-    let o : IsOrdering d m b words parts now member streams ends order out hand acc reported = record {
+    let o : IsOrdering d m b words parts now member heads order out hand acc reported = record {
       lending = l;
       turns = turns;
       sound = drives.ring.members n on;
       reports = reports;
       last = queues.last;
       still_out = queues.out_are;
-      have = queues.streams_are;
+      counted = counted;
     } in
     let least = (fronts k.transfer.endpoint k.endpoint k.here met).front in
     let slot = slot_of (lent_driver d m).book.slots in
-    subst (GoesOnWhole sender base stream packets member streams ends acc reported hand wire p.driver parts order out w) (sym (after_is p b words k))
+    subst (GoesOnWhole sender base stream packets member streams heads ends acc reported hand wire p.driver parts order out w) (sym (after_is p b words k))
     (record {
       parts = now;
       order = order_lent k (from_here o least) order;
       out = out_lent k out;
       drives = subst (DrivesRing base member now hand (place w p.registers (lent_memory d m))) (advance_is d m b words k) both.0;
-      piped = lend_leaves_pipes sender d m k.number y x k.stage k.further slot parts now stream packets member streams ends acc hand wire k.receiving both.1 (queues.streams_are.each k.transfer.endpoint k.endpoint k.here met).0 piped;
+      piped = lend_leaves_pipes sender d m k.number y x k.stage k.further slot parts now stream packets member streams ends acc hand wire k.awaits both.1 (its_asks k queues.streams_are) piped;
       reports = all_reported o least;
       queues = record {
         met = met_on d m member queues.met;

@@ -1,7 +1,7 @@
--- The row of a driver that lends a get, with what it leaves of all structures that stood before (EHCI 1.0, 3.5, 4.10 and 4.10.2).
+-- The row of a driver that lends a get or a put, with what it leaves of all structures that stood before (EHCI 1.0, 3.5, 4.10 and 4.10.2).
 --     GoesOnWhole ..          what stands afterwards, by the structures, the order and what was out before
---     LendRowLeavesFronts     the law
-use Rattle.std.specs.Prelude.{◌≡◌, ℕ, ◌*◌, Bool, List, slice_get, Option, Some}
+--     LendRowLeavesFronts     the law; the reports of the queue heads `counted` are kept
+use Rattle.std.specs.Prelude.{◌≡◌, ℕ, ◌*◌, Bool, true, List, slice_get, Option, Some}
 use Rattle.async_walk.specs.Walk.{Walk}
 use Rattle.async_walk.specs.Rows.{place}
 use Rattle.qh_qtd.specs.declared.qtd.Qtd.{Qtd}
@@ -22,23 +22,24 @@ use Rattle.ring_pipes.specs.Pipes.{ArePiped}
 use Rattle.spared_streams.specs.Sparing.{SparesHead, SparesElement}
 use Rattle.reported_streams.specs.Reported.{AreReported}
 use Rattle.driver_parts.specs.Driven.{DrivesRing}
-use Rattle.chained_transfers.specs.Receives.{Receives}
+use Rattle.chained_transfers.specs.Bulk.{OnlyBulk}
 use Rattle.chained_transfers.specs.Turns.{AreInTurn}
+use Rattle.fed_queues.specs.Places.{IsMet}
 use Rattle.fed_commands.specs.Commands.{QueuesStand}
 use Rattle.driver_releases.specs.Extents.{AreInRuns}
 use Rattle.standing_fronts.specs.Reaching.{Reaches}
 use Rattle.released_queues.specs.Fronts.{FrontsStand}
 use Rattle.fed_lends.specs.ToLend.{IsToBeLent, AreBlank}
 
-pub record GoesOnWhole {W : Type 0} (sender : W → ℕ → ℕ → Option Sender) (base : Base) (stream : ℕ → ℕ → Bool) (packets : ℕ → ℕ → List (List ℕ)) (member streams : ℕ → Bool) (ends : ℕ → Endpoint)
-    (acc : ℕ → List (List ℕ)) (reported : ℕ → List ℕ) (hand : Hand) (wire : W) (old : DriverContent) (before : StructureSets) (order_before : ℕ → ℕ → ℕ) (out_before : ℕ → List ℕ) (w : Walk)
-    (p : DriverParts) : Type 0 where
+pub record GoesOnWhole {W : Type 0} (sender : W → ℕ → ℕ → Option Sender) (base : Base) (stream : ℕ → ℕ → Bool) (packets : ℕ → ℕ → List (List ℕ)) (member streams counted : ℕ → Bool)
+    (ends : ℕ → Endpoint) (acc : ℕ → List (List ℕ)) (reported : ℕ → List ℕ) (hand : Hand) (wire : W) (old : DriverContent) (before : StructureSets) (order_before : ℕ → ℕ → ℕ)
+    (out_before : ℕ → List ℕ) (w : Walk) (p : DriverParts) : Type 0 where
   pub parts : StructureSets
   pub order : ℕ → ℕ → ℕ
   pub out : ℕ → List ℕ
   pub drives : DrivesRing base member parts hand (place w p.registers p.memory) p.driver
   pub piped : ArePiped stream packets sender member streams ends acc parts hand wire
-  pub reports : AreReported streams order out hand parts acc reported
+  pub reports : AreReported counted order out hand parts acc reported
   pub queues : QueuesStand p.driver member streams ends parts order out
   pub fronts : FrontsStand p.driver parts order out
   pub runs : AreInRuns (views_of p.driver) parts
@@ -50,11 +51,12 @@ pub record GoesOnWhole {W : Type 0} (sender : W → ℕ → ℕ → Option Sende
   pub elements : (n a : ℕ) (u : Qtd) → before n a ≡ Some (Element u) → SparesElement before parts n a
 
 abbrev pub LendRowLeavesFronts : {W : Type 0} → (W → ℕ → ℕ → Option Sender) → Type 0
-LendRowLeavesFronts {W} sender = (base : Base) (stream : ℕ → ℕ → Bool) (packets : ℕ → ℕ → List (List ℕ)) (member streams : ℕ → Bool) (ends : ℕ → Endpoint) (acc : ℕ → List (List ℕ))
+LendRowLeavesFronts {W} sender = (base : Base) (stream : ℕ → ℕ → Bool) (packets : ℕ → ℕ → List (List ℕ)) (member streams counted : ℕ → Bool) (ends : ℕ → Endpoint) (acc : ℕ → List (List ℕ))
     (reported : ℕ → List ℕ) (hand : Hand) (wire : W)
     (parts : StructureSets) (order : ℕ → ℕ → ℕ) (out : ℕ → List ℕ) (w : Walk) (p : DriverParts) (b : ℕ) (words : List ℕ) → IsToBeLent p.driver p.memory b words
-    → HasOwners p.driver → Stands (holding p.driver.book p.memory) → Receives p.driver → AreInTurn p.driver → AreBlank p.driver
+    → HasOwners p.driver → Stands (holding p.driver.book p.memory) → OnlyBulk p.driver → AreInTurn p.driver → AreBlank p.driver
     → DrivesRing base member parts hand (place w p.registers p.memory) p.driver → ArePiped stream packets sender member streams ends acc parts hand wire
-    → AreReported streams order out hand parts acc reported → QueuesStand p.driver member streams ends parts order out → FrontsStand p.driver parts order out
+    → AreReported counted order out hand parts acc reported → QueuesStand p.driver member streams ends parts order out → FrontsStand p.driver parts order out
     → AreLent p.driver → AreInRuns (views_of p.driver) parts
-    → GoesOnWhole sender base stream packets member streams ends acc reported hand wire p.driver parts order out w (after_driver_row (driver_row p) p)
+    → ((e : ℕ) (x : EndpointOf) → slice_get p.driver.endpoints e ≡ Some x → IsMet p.driver x → counted (32 * x.queue) ≡ true)
+    → GoesOnWhole sender base stream packets member streams counted ends acc reported hand wire p.driver parts order out w (after_driver_row (driver_row p) p)

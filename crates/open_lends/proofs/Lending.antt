@@ -153,8 +153,8 @@ module _ (base : Base) (w : Walk) (hand : Hand) (p : DriverParts) (member stream
 
   same_number : (e : ℕ) (y : Endpoint) → slice_get d.endpoints e ≡ Some y → y.queue ≡ x.queue → e ≡ number
   same_number e y there same =
-      queues_same y.queue x.queue e number same (queue_placed d k.sound.owners e y there (k.turns.receives.endpoints e y there))
-      (queue_placed d k.sound.owners number x k.ready.here (k.turns.receives.endpoints number x k.ready.here))
+      queues_same y.queue x.queue e number same (queue_placed d k.sound.owners e y there (k.turns.bulk.endpoints e y there))
+      (queue_placed d k.sound.owners number x k.ready.here (k.turns.bulk.endpoints number x k.ready.here))
 
   is_new : (e : ℕ) (y : Endpoint) → slice_get d.endpoints e ≡ Some y → e ≡ number → y ≡ x
   is_new e y there same = same_Some y x (sym there ∙ ap (slice_get d.endpoints) same ∙ k.ready.here)
@@ -165,9 +165,9 @@ module _ (base : Base) (w : Walk) (hand : Hand) (p : DriverParts) (member stream
   -- the slot of another endpoint's inactive qTD stays
   slot_stays : (e : ℕ) (y : Endpoint) → slice_get d.endpoints e ≡ Some y → e ≢ number → slot_of lent_book.slots y.dummy ≡ slot_of d.book.slots y.dummy
   slot_stays e y there differs =
-      let mine = dummy_placed d k.sound.owners e y there (k.turns.receives.endpoints e y there) in
-      let queue = queue_placed d k.sound.owners number x k.ready.here (k.turns.receives.endpoints number x k.ready.here) in
-      let dummy = dummy_placed d k.sound.owners number x k.ready.here (k.turns.receives.endpoints number x k.ready.here) in
+      let mine = dummy_placed d k.sound.owners e y there (k.turns.bulk.endpoints e y there) in
+      let queue = queue_placed d k.sound.owners number x k.ready.here (k.turns.bulk.endpoints number x k.ready.here) in
+      let dummy = dummy_placed d k.sound.owners number x k.ready.here (k.turns.bulk.endpoints number x k.ready.here) in
       other_slot (holding d.book p.memory) x.queue x.dummy y.dummy k.ready.opened.taken
       (λ same. no_queue_dummy e number (sym mine.owned ∙ ap k.sound.owners.owner same ∙ queue.owned))
       (λ same. differs (ap dummy_number (sym mine.owned ∙ ap k.sound.owners.owner same ∙ dummy.owned)))
@@ -211,7 +211,7 @@ module _ (base : Base) (w : Walk) (hand : Hand) (p : DriverParts) (member stream
     pieces = λ t j y z there held here from below.
         let differs : 32 * z.queue ≢ n = apart y.endpoint z here (k.ready.none t y there) in
         let none : unpublished_of d t y ≡ 0 = none_of d.made t y in
-        subst (λ (part : Structures). IsPieceFed part (note_at d.notes (piece_at (note_in d.notes) y.first j)) (piece_at (note_in d.notes) y.first j) (piece_at (note_in d.notes) y.first y.qtds)) (sym (stay (32 * z.queue) differs))
+        subst (λ (part : Structures). IsPieceFed y.sort part (note_at d.notes (piece_at (note_in d.notes) y.first j)) (piece_at (note_in d.notes) y.first j) (piece_at (note_in d.notes) y.first y.qtds)) (sym (stay (32 * z.queue) differs))
         (k.stand.fed.pieces t j y z there held here (omega (arith, none)) below);
     publishes = λ b words command. absurd (open_of command);
   }
@@ -280,8 +280,8 @@ module _ (base : Base) (w : Walk) (hand : Hand) (p : DriverParts) (member stream
         );
   }
 
-  pub reports_by : (acc : ℕ → List (List ℕ)) (reported : ℕ → List ℕ) → ((m : ℕ) → streams m ≡ true → member m ≡ true) → AreReported streams order out hand parts acc reported → AreReported streams order out hand now acc reported
-  reports_by acc reported members right m on =
+  pub reports_by : (acc : ℕ → List (List ℕ)) (reported : ℕ → List ℕ) (heads : ℕ → Bool) → ((m : ℕ) → heads m ≡ true → member m ≡ true) → AreReported heads order out hand parts acc reported → AreReported heads order out hand now acc reported
+  reports_by acc reported heads members right m on =
       let g = right m on in
       let same : now m ≡ parts m = stay m (met_apart m (members m on)) in
       record {
@@ -304,4 +304,4 @@ pub lend_pipes : {W : Type 0} (sender : W → ℕ → ℕ → Option Sender) →
 lend_pipes sender stream packets acc wire base w hand p member streams ends parts order out k drives members piped = pipes_by base w hand p member streams ends parts order out k drives sender stream packets acc wire members piped
 
 pub lend_reports : LendReports
-lend_reports acc reported base w hand p member streams ends parts order out k drives members right = reports_by base w hand p member streams ends parts order out k drives acc reported members right
+lend_reports acc reported heads base w hand p member streams ends parts order out k drives members right = reports_by base w hand p member streams ends parts order out k drives acc reported heads members right

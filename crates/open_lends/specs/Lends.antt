@@ -73,10 +73,12 @@ LendPipes {W} sender = (stream : ℕ → ℕ → Bool) (packets : ℕ → ℕ �
     → DrivesRing base member parts hand (place w p.registers p.memory) p.driver → ((n : ℕ) → streams n ≡ true → member n ≡ true)
     → ArePiped stream packets sender member streams ends acc parts hand wire → ArePiped stream packets sender member streams ends acc (parts_lent parts k.ready) hand wire
 
+-- of each queue head of which it was right, IN or OUT
 abbrev pub LendReports : Type 0
-LendReports = (acc : ℕ → List (List ℕ)) (reported : ℕ → List ℕ) (base : Base) (w : Walk) (hand : Hand) (p : DriverParts) (member streams : ℕ → Bool) (ends : ℕ → Told) (parts : StructureSets)
-    (order : ℕ → ℕ → ℕ) (out : ℕ → List ℕ) → (k : IsAtLend p.driver p.memory member streams ends parts order out) → DrivesRing base member parts hand (place w p.registers p.memory) p.driver
-    → ((n : ℕ) → streams n ≡ true → member n ≡ true) → AreReported streams order out hand parts acc reported → AreReported streams order out hand (parts_lent parts k.ready) acc reported
+LendReports = (acc : ℕ → List (List ℕ)) (reported : ℕ → List ℕ) (heads : ℕ → Bool) (base : Base) (w : Walk) (hand : Hand) (p : DriverParts) (member streams : ℕ → Bool) (ends : ℕ → Told)
+    (parts : StructureSets) (order : ℕ → ℕ → ℕ) (out : ℕ → List ℕ) → (k : IsAtLend p.driver p.memory member streams ends parts order out)
+    → DrivesRing base member parts hand (place w p.registers p.memory) p.driver
+    → ((n : ℕ) → heads n ≡ true → member n ≡ true) → AreReported heads order out hand parts acc reported → AreReported heads order out hand (parts_lent parts k.ready) acc reported
 
 -- ---- between the lend and the store
 

@@ -14,7 +14,6 @@ use Rattle.driver_rows.specs.DriverContent.{DriverContent, is_same_way, is_same_
 use Rattle.driver_rows.specs.Offers.{Offered, new_runs, new_endpoint, note_stages, with_queued, accepted_transfer}
 use Rattle.driver_rows.specs.Rows.{driver_row, after_driver_row}
 use Rattle.run_owners.proofs.Stays.{same_view}
-use Rattle.chained_transfers.specs.Receives.{Receives}
 use Rattle.chained_transfers.specs.Accepted.{IsOpened, IsAsked}
 use Rattle.walk_members.proofs.Descriptions.{desc_of, SameDescs, row_left}
 use Rattle.open_stores.specs.Opens.{AreNamesApart}
@@ -35,11 +34,12 @@ desc_back : (xs ys : List Endpoint) (e : ℕ) (x : Endpoint) → SameDescs xs ys
 desc_back xs ys e x same here = desc_by xs e x (slice_get xs e) refl (sym (ap (option_map desc_of) here) ∙ same e)
 
 apart_by : (d f : DriverContent) → SameDescs d.endpoints f.endpoints → AreNamesApart d → AreNamesApart f
-apart_by d f same k e g x y one other addr num =
+apart_by d f same k e g x y one other addr num way =
     let a : HadDesc d.endpoints e x = desc_back d.endpoints f.endpoints e x same one in
     let b : HadDesc d.endpoints g y = desc_back d.endpoints f.endpoints g y same other in
     k e g a.endpoint b.endpoint a.here b.here (sym (ap (λ (z : EpDesc). z.name.addr) a.same) ∙ addr ∙ ap (λ (z : EpDesc). z.name.addr) b.same)
     (sym (ap (λ (z : EpDesc). z.name.num) a.same) ∙ num ∙ ap (λ (z : EpDesc). z.name.num) b.same)
+    (sym (ap (λ (z : EpDesc). z.name.way) a.same) ∙ way ∙ ap (λ (z : EpDesc). z.name.way) b.same)
 
 pub events_apart : NamesStayApart
 events_apart p k = apart_by p.driver (after_driver_row (driver_row p) p).driver (row_left (driver_row p) p) k
@@ -48,7 +48,7 @@ nothing_there : (e : ℕ) (x : Endpoint) → slice_get {X = Endpoint} [] e ≡ S
 nothing_there e x there = cc
 
 pub new_apart : NewNamesAreApart
-new_apart n room e f x y one other addr num = absurd (nothing_there e x one)
+new_apart n room e f x y one other addr num way = absurd (nothing_there e x one)
 
 -- ---- an endpoint that is opened
 
@@ -76,27 +76,32 @@ push_which (y ∷ ys) x zero z here = inl here
 push_which (y ∷ ys) x (suc n) z here =
     ⊎_elim (λ (was : slice_get ys n ≡ Some z). inl was) (λ (new : (n ≡ length ys) × (z ≡ x)). inr (ap suc new.0, new.1)) (push_which ys x n z here)
 
-same_name : (a b : EpName) → a.addr ≡ b.addr → a.num ≡ b.num → a.way ≡ ways.In → b.way ≡ ways.In → is_same_name a b ≡ true
-same_name a b addr num one other =
-    ap (λ (x : Bool). x && (a.num == b.num) && is_same_way a.way b.way) (eq-eqb a.addr b.addr addr)
-    ∙ ap (λ (x : Bool). x && is_same_way a.way b.way) (eq-eqb a.num b.num num) ∙ ap (λ (w : Way). is_same_way w b.way) one ∙ ap (is_same_way ways.In) other
+same_way : (w : Way) → is_same_way w w ≡ true
+same_way ways.In = refl
+same_way ways.Out = refl
+same_way ways.Ctl = refl
 
-module _ (d : DriverContent) (m : Mem) (o : Offered) (r : Receives d) (why : IsOpened d m o) (k : AreNamesApart d) where
-  never_old : (e : ℕ) (x : Endpoint) → slice_get d.endpoints e ≡ Some x → x.desc.name.addr ≡ why.opens.desc.name.addr → x.desc.name.num ≡ why.opens.desc.name.num → ⊥
-  never_old e x there addr num =
-      no_position (λ (z : Endpoint). is_same_name z.desc.name why.opens.desc.name) d.endpoints e x there
-      (same_name x.desc.name why.opens.desc.name addr num (r.endpoints e x there).receives.way why.receives.way) why.opens.new_name
+same_name : (a b : EpName) → a.addr ≡ b.addr → a.num ≡ b.num → a.way ≡ b.way → is_same_name a b ≡ true
+same_name a b addr num way =
+    ap (λ (x : Bool). x && (a.num == b.num) && is_same_way a.way b.way) (eq-eqb a.addr b.addr addr)
+    ∙ ap (λ (x : Bool). x && is_same_way a.way b.way) (eq-eqb a.num b.num num) ∙ ap (λ (w : Way). is_same_way w b.way) way ∙ same_way b.way
+
+module _ (d : DriverContent) (m : Mem) (o : Offered) (why : IsOpened d m o) (k : AreNamesApart d) where
+  never_old : (e : ℕ) (x : Endpoint) → slice_get d.endpoints e ≡ Some x → x.desc.name.addr ≡ why.opens.desc.name.addr → x.desc.name.num ≡ why.opens.desc.name.num → x.desc.name.way ≡ why.opens.desc.name.way → ⊥
+  never_old e x there addr num way =
+      no_position (λ (z : Endpoint). is_same_name z.desc.name why.opens.desc.name) d.endpoints e x there (same_name x.desc.name why.opens.desc.name addr num way) why.opens.new_name
 
   with_new : (new : Endpoint) → new.desc ≡ why.opens.desc → (e g : ℕ) (x y : Endpoint) → slice_get (d.endpoints ++ new ∷ []) e ≡ Some x → slice_get (d.endpoints ++ new ∷ []) g ≡ Some y
-      → x.desc.name.addr ≡ y.desc.name.addr → x.desc.name.num ≡ y.desc.name.num → e ≡ g
-  with_new new is e g x y one other addr num =
+      → x.desc.name.addr ≡ y.desc.name.addr → x.desc.name.num ≡ y.desc.name.num → x.desc.name.way ≡ y.desc.name.way → e ≡ g
+  with_new new is e g x y one other addr num way =
       let addr_is : (z : Endpoint) → z ≡ new → z.desc.name.addr ≡ why.opens.desc.name.addr = λ z same. ap (λ (w : Endpoint). w.desc.name.addr) same ∙ ap (λ (w : EpDesc). w.name.addr) is in
       let num_is : (z : Endpoint) → z ≡ new → z.desc.name.num ≡ why.opens.desc.name.num = λ z same. ap (λ (w : Endpoint). w.desc.name.num) same ∙ ap (λ (w : EpDesc). w.name.num) is in
+      let way_is : (z : Endpoint) → z ≡ new → z.desc.name.way ≡ why.opens.desc.name.way = λ z same. ap (λ (w : Endpoint). w.desc.name.way) same ∙ ap (λ (w : EpDesc). w.name.way) is in
       ⊎_elim (λ (was : slice_get d.endpoints e ≡ Some x).
-      ⊎_elim (λ (too : slice_get d.endpoints g ≡ Some y). k e g x y was too addr num)
-      (λ (fresh : (g ≡ length d.endpoints) × (y ≡ new)). absurd (never_old e x was (addr ∙ addr_is y fresh.1) (num ∙ num_is y fresh.1))) (push_which d.endpoints new g y other))
+      ⊎_elim (λ (too : slice_get d.endpoints g ≡ Some y). k e g x y was too addr num way)
+      (λ (fresh : (g ≡ length d.endpoints) × (y ≡ new)). absurd (never_old e x was (addr ∙ addr_is y fresh.1) (num ∙ num_is y fresh.1) (way ∙ way_is y fresh.1))) (push_which d.endpoints new g y other))
       (λ (fresh : (e ≡ length d.endpoints) × (x ≡ new)).
-      ⊎_elim (λ (too : slice_get d.endpoints g ≡ Some y). absurd (never_old g y too (sym addr ∙ addr_is x fresh.1) (sym num ∙ num_is x fresh.1)))
+      ⊎_elim (λ (too : slice_get d.endpoints g ≡ Some y). absurd (never_old g y too (sym addr ∙ addr_is x fresh.1) (sym num ∙ num_is x fresh.1) (sym way ∙ way_is x fresh.1)))
       (λ (also : (g ≡ length d.endpoints) × (y ≡ new)). fresh.0 ∙ sym also.0) (push_which d.endpoints new g y other)) (push_which d.endpoints new e x one)
 
   opened_apart : AreNamesApart o.driver
@@ -110,4 +115,4 @@ asked_apart d m o why k =
     (same_view desc_of d.endpoints t.number t.endpoint (with_queued t.endpoint (get_or (take (length t.asked.stages) (new_runs d t.holding_after)) (length t.asked.stages - 1) 0) (length d.transfers)) t.here refl) k)
 
 pub accepted_apart : AcceptedNamesAreApart
-accepted_apart d m o r why k = ⊎_elim (λ (opened : IsOpened d m o). opened_apart d m o r opened k) (λ (asked : IsAsked d m o). asked_apart d m o asked k) why
+accepted_apart d m o r why k = ⊎_elim (λ (opened : IsOpened d m o). opened_apart d m o opened k) (λ (asked : IsAsked d m o). asked_apart d m o asked k) why

@@ -103,7 +103,7 @@ module _ (p : DriverParts) (member streams : ℕ → Bool) (ends : ℕ → Told)
 
   pub differs : x.queue ≢ x.dummy
   differs same =
-      let stands = k.turns.receives.endpoints k.lent.number x k.lent.here in
+      let stands = k.turns.bulk.endpoints k.lent.number x k.lent.here in
       let one = (queue_placed d k.sound.owners k.lent.number x k.lent.here stands).owned in
       let other = (dummy_placed d k.sound.owners k.lent.number x k.lent.here stands).owned in
       never (sym one ∙ ap k.sound.owners.owner same ∙ other)

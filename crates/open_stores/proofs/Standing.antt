@@ -7,6 +7,7 @@ use Rattle.qh_qtd.specs.declared.queue_head.Qh.{Qh}
 use Rattle.driver_rows.specs.declared.content.Endpoint.{Endpoint}
 use Rattle.driver_rows.specs.declared.content.Transfer.{Transfer}
 use Rattle.driver_rows.specs.declared.content.QtdNote.{QtdNote}
+use Rattle.driver_rows.specs.declared.content.Sort.{Sort}
 use Rattle.driver_rows.specs.declared.content.Command.{Command}
 use Rattle.driver_rows.specs.declared.content.Command.TheVariants as unfinished
 use Rattle.driver_rows.specs.DriverContent.{DriverContent}
@@ -21,15 +22,16 @@ use Rattle.queue_parts.specs.Sound.{element_pages, buffer_name, HasBuffer}
 use Rattle.ring_walk.specs.Effects.{bytes_in}
 use Rattle.ring_streams.specs.Told.{Endpoint as Told, endpoint_of}
 use Rattle.driver_lends.specs.Linked.{with_member, head_at}
-use Rattle.opened_streams.specs.Opened.{with_stream, with_end, with_none}
-use Rattle.opened_streams.proofs.Beginning.{stream_here, stream_old, stream_beside, end_here, end_beside, list_here, list_beside}
+use Rattle.opened_streams.specs.Opened.{with_end, with_none}
+use Rattle.opened_streams.proofs.Beginning.{end_here, end_beside, list_here, list_beside}
+use Rattle.chained_transfers.specs.Bulk.{receives}
 use Rattle.chained_transfers.specs.Out.{unpublished, out_of_transfer, out_of, out_now}
 use Rattle.fed_queues.specs.Fed.{IsPieceFed, unpublished_of, AreFed}
 use Rattle.fed_queues.specs.Places.{IsMet, HasHead, AreMet, HaveStreams, AreLast, AreStillOut}
 use Rattle.fed_stores.specs.Stores.{QueuesThen}
 use Rattle.fed_stores.proofs.Outs.{other_part}
 use Rattle.fed_stores.proofs.Apart.{queue_placed, queues_same, thirty_two}
-use Rattle.open_stores.specs.Opens.{IsAtOpen, head_then, end_then, next_of, OpenStands}
+use Rattle.open_stores.specs.Opens.{IsAtOpen, head_then, end_then, streams_then, next_of, OpenStands}
 use Rattle.open_stores.proofs.Linking.{driver_is}
 
 -- ---- lists of what is out
@@ -51,6 +53,14 @@ none_if b = if b then 0 else 0
 none_either : (b : Bool) → none_if b ≡ 0
 none_either true = refl
 none_either false = refl
+
+-- ---- who has a stream then
+
+pub then_here : (streams : ℕ → Bool) (x : Endpoint) → streams_then streams x (32 * x.queue) ≡ receives x.desc.name.way
+then_here streams x = ap (λ (b : Bool). if b then receives x.desc.name.way else streams (32 * x.queue)) (eq-eqb (32 * x.queue) (32 * x.queue) refl)
+
+pub then_beside : (streams : ℕ → Bool) (x : Endpoint) (m : ℕ) → m ≢ 32 * x.queue → streams_then streams x m ≡ streams m
+then_beside streams x m differs = ap (λ (b : Bool). if b then receives x.desc.name.way else streams m) (not_same m (32 * x.queue) differs)
 
 -- ---- members
 
@@ -116,8 +126,8 @@ module _ (p : DriverParts) (member streams : ℕ → Bool) (ends : ℕ → Told)
       ⊎_elim (λ (put_there : (m ≡ head_at) × (a ≡ head_at) × (Element t ≡ QueueHead new_head)). absurd (no_element t new_head put_there.2))
       (λ (was : parts m a ≡ Some (Element t)). was) (put_found parts head_at head_at (QueueHead new_head) m a (Element t) is)
 
-  fed_now : (m : ℕ) (note : QtdNote) (b end : ℕ) → IsPieceFed (parts m) note b end → IsPieceFed (now m) note b end
-  fed_now m note b end g = record {
+  fed_now : (sort : Sort) (m : ℕ) (note : QtdNote) (b end : ℕ) → IsPieceFed sort (parts m) note b end → IsPieceFed sort (now m) note b end
+  fed_now sort m note b end g = record {
     qtd = g.qtd;
     here = stays m (32 * b) (Element g.qtd) (no_element g.qtd) g.here;
     noted = g.noted;
@@ -140,7 +150,7 @@ module _ (p : DriverParts) (member streams : ℕ → Bool) (ends : ℕ → Told)
     dummies = λ e y there lent. stays (32 * y.queue) (32 * y.dummy) (Element dummy_qtd) (no_element dummy_qtd) (k.stand.fed.dummies e y there lent);
     pieces = λ t j y z there held here from below.
         let none = none_before t y in
-        fed_now (32 * z.queue) (note_at d.notes (piece_at (note_in d.notes) y.first j)) (piece_at (note_in d.notes) y.first j) (piece_at (note_in d.notes) y.first y.qtds)
+        fed_now y.sort (32 * z.queue) (note_at d.notes (piece_at (note_in d.notes) y.first j)) (piece_at (note_in d.notes) y.first j) (piece_at (note_in d.notes) y.first y.qtds)
         (k.stand.fed.pieces t j y z there held here (omega (arith, none)) below);
     publishes = λ b words command. absurd (no_command command);
   }
@@ -163,8 +173,8 @@ module _ (p : DriverParts) (member streams : ℕ → Bool) (ends : ℕ → Told)
 
   same_number : (e : ℕ) (y : Endpoint) → slice_get d.endpoints e ≡ Some y → y.queue ≡ x.queue → e ≡ k.lent.number
   same_number e y there same =
-      queues_same y.queue x.queue e k.lent.number same (queue_placed d k.sound.owners e y there (k.turns.receives.endpoints e y there))
-      (queue_placed d k.sound.owners k.lent.number x k.lent.here (k.turns.receives.endpoints k.lent.number x k.lent.here))
+      queues_same y.queue x.queue e k.lent.number same (queue_placed d k.sound.owners e y there (k.turns.bulk.endpoints e y there))
+      (queue_placed d k.sound.owners k.lent.number x k.lent.here (k.turns.bulk.endpoints k.lent.number x k.lent.here))
 
   met_before : (e : ℕ) (y : Endpoint) → slice_get d.endpoints e ≡ Some y → e ≢ k.lent.number → IsMet d y
   unfolding queue_of
@@ -193,19 +203,22 @@ module _ (p : DriverParts) (member streams : ℕ → Bool) (ends : ℕ → Told)
         (λ (differs : m ≢ n). ⊎_elim (λ (head : m ≡ 32 * head_block). inl head) (λ (h : HasHead d m). inr (head_old m h)) (k.stand.met.only m (member_beside member n m differs on))) (cases_eq m n);
   }
 
-  streams_then : HaveStreams f (with_stream streams n) (with_end ends n (end_then x))
-  streams_then = record {
+  streams_are_then : HaveStreams f (streams_then streams x) (with_end ends n (end_then x))
+  streams_are_then = record {
     each = λ e y there met.
         ⊎_elim (λ (same : e ≡ k.lent.number).
         let is : y ≡ x = is_new e y there same in (
-          ap (λ (z : Endpoint). with_stream streams n (32 * z.queue)) is ∙ stream_here streams n,
+          ap (λ (z : Endpoint). streams_then streams x (32 * z.queue)) is ∙ then_here streams x ∙ ap (λ (z : Endpoint). receives z.desc.name.way) (sym is),
           ap (λ (z : Endpoint). with_end ends n (end_then x) (32 * z.queue)) is ∙ end_here ends n (end_then x) ∙ ap (λ (z : Endpoint). endpoint_of (queue_head z.desc 0 z.dummy)) (sym is),
         ))
         (λ (differs : e ≢ k.lent.number).
         let was = k.stand.streams_are.each e y there (met_before e y there differs) in
-        (stream_old streams n (32 * y.queue) was.0, end_beside ends n (end_then x) (32 * y.queue) (apart e y there differs) ∙ was.1)) (cases_eq e k.lent.number);
+        let other = apart e y there differs in (
+          then_beside streams x (32 * y.queue) other ∙ was.0,
+          end_beside ends n (end_then x) (32 * y.queue) other ∙ was.1,
+        )) (cases_eq e k.lent.number);
     only = λ m on.
-        ⊎_elim (λ (same : m ≡ n). head_new m same) (λ (differs : m ≢ n). head_old m (k.stand.streams_are.only m (stream_beside streams n m differs on))) (cases_eq m n);
+        ⊎_elim (λ (same : m ≡ n). head_new m same) (λ (differs : m ≢ n). head_old m (k.stand.streams_are.only m (sym (then_beside streams x m differs) ∙ on))) (cases_eq m n);
   }
 
   out_before : (e : ℕ) → out_now d e ≡ out_now f e
@@ -218,10 +231,10 @@ module _ (p : DriverParts) (member streams : ℕ → Bool) (ends : ℕ → Told)
       (λ (differs : e ≢ k.lent.number).
       list_beside out n (32 * y.queue) (apart e y there differs) ∙ k.stand.out_are e y there (met_before e y there differs) ∙ out_before e) (cases_eq e k.lent.number)
 
-  pub stands_by : QueuesThen (next_of p).driver (with_member member n) (with_stream streams n) (with_end ends n (end_then x)) now order (with_none out n)
+  pub stands_by : QueuesThen (next_of p).driver (with_member member n) (streams_then streams x) (with_end ends n (end_then x)) now order (with_none out n)
   stands_by =
-      subst (λ (g : DriverContent). QueuesThen g (with_member member n) (with_stream streams n) (with_end ends n (end_then x)) now order (with_none out n)) (sym (driver_is p member streams ends parts order out k))
-      (record { met = met_then; streams_are = streams_then; fed = fed_then; last = last_then; out_are = out_then })
+      subst (λ (g : DriverContent). QueuesThen g (with_member member n) (streams_then streams x) (with_end ends n (end_then x)) now order (with_none out n)) (sym (driver_is p member streams ends parts order out k))
+      (record { met = met_then; streams_are = streams_are_then; fed = fed_then; last = last_then; out_are = out_then })
 
 pub open_stands : OpenStands
 open_stands p member streams ends parts order out k = stands_by p member streams ends parts order out k

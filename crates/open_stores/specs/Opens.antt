@@ -1,10 +1,10 @@
--- The store of the head's link by which an open is finished (EHCI 1.0, 4.8.1): the walk may meet the new queue head, and its stream begins.
+-- The store of the head's link by which an open is finished (EHCI 1.0, 4.8.1): the walk may meet the new queue head, and the stream of an IN one begins.
 --     IsOpenLent d member parts    the newest endpoint's queue head and its inactive qTD were lent, and the walk doesn't meet them yet
---     AreNamesApart d              no two endpoints have one address and one number
+--     AreNamesApart d              no two endpoints of one way have one address and one number
 --     IsAtOpen ..                  the next event of the driver is that store
---     head_then, hand_then, end_then     the structures, what is in hand and the endpoint after it
+--     head_then, hand_then, end_then, streams_then     the structures, what is in hand, the endpoint and the queue heads with streams after it
 --     OpenIsLinked, OpenPipes, OpenReports, OpenStands     the laws
-use Rattle.std.specs.Prelude.{◌≡◌, ◌≢◌, ℕ, ◌*◌, Bool, true, false, List, slice_get, Option, Some}
+use Rattle.std.specs.Prelude.{◌≡◌, ◌≢◌, ℕ, ◌*◌, ◌==◌, Bool, true, false, List, slice_get, Option, Some, if◌then◌else◌}
 use Rattle.word_mem.specs.Memory.{Mem}
 use Rattle.qh_qtd.specs.declared.queue_head.Qh.{Qh}
 use Rattle.async_walk.specs.Walk.{Walk}
@@ -29,7 +29,9 @@ use Rattle.ring_pipes.specs.Pipes.{AreEndpoints, ArePiped}
 use Rattle.reported_streams.specs.Reported.{AreReported}
 use Rattle.opened_streams.specs.Unopened.{AreUnopened}
 use Rattle.opened_streams.specs.Opened.{with_stream, with_end, with_none}
+use Rattle.chained_transfers.specs.Bulk.{receives}
 use Rattle.chained_transfers.specs.InTurn.{TakesTurns}
+use Rattle.fed_queues.specs.Places.{HasHead}
 use Rattle.fed_stores.specs.Stores.{QueuesThen}
 
 pub record IsOpenLent (d : DriverContent) (member : ℕ → Bool) (parts : StructureSets) : Type 0 where
@@ -44,7 +46,8 @@ pub record IsOpenLent (d : DriverContent) (member : ℕ → Bool) (parts : Struc
   pub part : (b : ℕ) → parts (32 * endpoint.queue) b ≡ opened_part (runs_of_endpoint endpoint) (queue_head endpoint.desc link endpoint.dummy) b
 
 abbrev pub AreNamesApart : DriverContent → Type 0
-AreNamesApart d = (e f : ℕ) (x y : Endpoint) → slice_get d.endpoints e ≡ Some x → slice_get d.endpoints f ≡ Some y → x.desc.name.addr ≡ y.desc.name.addr → x.desc.name.num ≡ y.desc.name.num → e ≡ f
+AreNamesApart d = (e f : ℕ) (x y : Endpoint) → slice_get d.endpoints e ≡ Some x → slice_get d.endpoints f ≡ Some y → x.desc.name.addr ≡ y.desc.name.addr
+    → x.desc.name.num ≡ y.desc.name.num → x.desc.name.way ≡ y.desc.name.way → e ≡ f
 
 pub record IsAtOpen (d : DriverContent) (m : Mem) (member streams : ℕ → Bool) (ends : ℕ → Told) (parts : StructureSets) (order : ℕ → ℕ → ℕ) (out : ℕ → List ℕ) : Type 0 where
   pub lent : IsOpenLent d member parts
@@ -63,6 +66,10 @@ hand_then hand x = hand_linked head_at (to_queue_head x.queue) hand
 abbrev pub end_then : Endpoint → Told
 end_then x = endpoint_of (queue_head x.desc 0 x.dummy)
 
+-- an IN endpoint has a stream
+abbrev pub streams_then : (ℕ → Bool) → Endpoint → ℕ → Bool
+streams_then streams x k = if k == 32 * x.queue then receives x.desc.name.way else streams k
+
 abbrev pub next_of : DriverParts → DriverParts
 next_of p = after_driver_row (driver_row p) p
 
@@ -72,29 +79,32 @@ OpenIsLinked = (base : Base) (w : Walk) (hand : Hand) (p : DriverParts) (member 
     → DrivesRing base (with_member member (32 * k.lent.endpoint.queue)) (head_then parts k.queue k.lent.endpoint) (hand_then hand k.lent.endpoint)
     (place w (next_of p).registers (next_of p).memory) (next_of p).driver
 
--- the bus of the script has a sender for the endpoint, which no other endpoint asks
+-- the bus of the script has a sender for an IN endpoint, which no other endpoint asks
 abbrev pub OpenPipes : {W : Type 0} → (W → ℕ → ℕ → Option Sender) → Type 0
 OpenPipes {W} sender = (stream : ℕ → ℕ → Bool) (packets : ℕ → ℕ → List (List ℕ)) (acc : ℕ → List (List ℕ)) (wire : W) (base : Base) (w : Walk) (hand : Hand) (p : DriverParts)
     (member streams : ℕ → Bool)
     (ends : ℕ → Told) (parts : StructureSets) (order : ℕ → ℕ → ℕ) (out : ℕ → List ℕ) → (k : IsAtOpen p.driver p.memory member streams ends parts order out)
-    → DrivesRing base member parts hand (place w p.registers p.memory) p.driver → AreNamesApart p.driver → stream k.lent.endpoint.desc.name.addr k.lent.endpoint.desc.name.num ≡ true
+    → DrivesRing base member parts hand (place w p.registers p.memory) p.driver → AreNamesApart p.driver
+    → (receives k.lent.endpoint.desc.name.way ≡ true → stream k.lent.endpoint.desc.name.addr k.lent.endpoint.desc.name.num ≡ true)
     → AreEndpoints stream member streams ends → AreUnopened stream packets sender streams ends wire → ArePiped stream packets sender member streams ends acc parts hand wire
-    → AreEndpoints stream (with_member member (32 * k.lent.endpoint.queue)) (with_stream streams (32 * k.lent.endpoint.queue)) (with_end ends (32 * k.lent.endpoint.queue) (end_then k.lent.endpoint))
-    × ArePiped stream packets sender (with_member member (32 * k.lent.endpoint.queue)) (with_stream streams (32 * k.lent.endpoint.queue))
+    → AreEndpoints stream (with_member member (32 * k.lent.endpoint.queue)) (streams_then streams k.lent.endpoint) (with_end ends (32 * k.lent.endpoint.queue) (end_then k.lent.endpoint))
+    × ArePiped stream packets sender (with_member member (32 * k.lent.endpoint.queue)) (streams_then streams k.lent.endpoint)
     (with_end ends (32 * k.lent.endpoint.queue) (end_then k.lent.endpoint))
     (with_none acc (32 * k.lent.endpoint.queue)) (head_then parts k.queue k.lent.endpoint) (hand_then hand k.lent.endpoint) wire
-    × AreUnopened stream packets sender (with_stream streams (32 * k.lent.endpoint.queue)) (with_end ends (32 * k.lent.endpoint.queue) (end_then k.lent.endpoint)) wire
+    × AreUnopened stream packets sender (streams_then streams k.lent.endpoint) (with_end ends (32 * k.lent.endpoint.queue) (end_then k.lent.endpoint)) wire
 
+-- of each of these queue heads the report is right, IN or OUT, and so it is of the new one
 abbrev pub OpenReports : Type 0
-OpenReports = (acc : ℕ → List (List ℕ)) (reported : ℕ → List ℕ) (base : Base) (w : Walk) (hand : Hand) (p : DriverParts) (member streams : ℕ → Bool) (ends : ℕ → Told) (parts : StructureSets)
-    (order : ℕ → ℕ → ℕ) (out : ℕ → List ℕ) → (k : IsAtOpen p.driver p.memory member streams ends parts order out) → DrivesRing base member parts hand (place w p.registers p.memory) p.driver
-    → ((n : ℕ) → streams n ≡ true → member n ≡ true) → AreReported streams order out hand parts acc reported
-    → AreReported (with_stream streams (32 * k.lent.endpoint.queue)) order (with_none out (32 * k.lent.endpoint.queue)) (hand_then hand k.lent.endpoint) (head_then parts k.queue k.lent.endpoint)
+OpenReports = (acc : ℕ → List (List ℕ)) (reported : ℕ → List ℕ) (heads : ℕ → Bool) (base : Base) (w : Walk) (hand : Hand) (p : DriverParts) (member streams : ℕ → Bool) (ends : ℕ → Told)
+    (parts : StructureSets) (order : ℕ → ℕ → ℕ) (out : ℕ → List ℕ) → (k : IsAtOpen p.driver p.memory member streams ends parts order out)
+    → DrivesRing base member parts hand (place w p.registers p.memory) p.driver
+    → ((n : ℕ) → heads n ≡ true → HasHead p.driver n) → AreReported heads order out hand parts acc reported
+    → AreReported (with_stream heads (32 * k.lent.endpoint.queue)) order (with_none out (32 * k.lent.endpoint.queue)) (hand_then hand k.lent.endpoint) (head_then parts k.queue k.lent.endpoint)
     (with_none acc (32 * k.lent.endpoint.queue)) (with_none reported (32 * k.lent.endpoint.queue))
 
 abbrev pub OpenStands : Type 0
 OpenStands = (p : DriverParts) (member streams : ℕ → Bool) (ends : ℕ → Told) (parts : StructureSets) (order : ℕ → ℕ → ℕ) (out : ℕ → List ℕ)
     → (k : IsAtOpen p.driver p.memory member streams ends parts order out)
-    → QueuesThen (next_of p).driver (with_member member (32 * k.lent.endpoint.queue)) (with_stream streams (32 * k.lent.endpoint.queue))
+    → QueuesThen (next_of p).driver (with_member member (32 * k.lent.endpoint.queue)) (streams_then streams k.lent.endpoint)
     (with_end ends (32 * k.lent.endpoint.queue) (end_then k.lent.endpoint))
     (head_then parts k.queue k.lent.endpoint) order (with_none out (32 * k.lent.endpoint.queue))

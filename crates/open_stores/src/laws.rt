@@ -15,7 +15,7 @@ pub fn an_open_leaves_the_queues()
     ensures { OpenStands }
 {}
 
-/// The new endpoint's stream begins: both sides of its pipe agree, nothing was reported of it, and the other streams go on.
+/// A new IN endpoint's stream begins: both sides of its pipe agree. An OUT one asks none of the streams, and the others go on; nothing was reported of either.
 pub fn an_open_begins_a_stream<W: Wire>()
     ensures pipes { (sender : W → ℕ → ℕ → Option Sender) → OpenPipes sender }
     ensures reports { OpenReports }

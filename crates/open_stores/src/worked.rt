@@ -1,5 +1,6 @@
 //! Worked rows: a bulk endpoint with its queue head in block 130 and its inactive qTD in block 133 is opened.
-ghost use Rattle.std.specs.Prelude.{◌≡◌, ◌*◌, Some};
+ghost use Rattle.std.specs.Prelude.{◌≡◌, ◌*◌, true, false, Some};
+ghost use Rattle.usb_base.specs.declared.packets.Way.TheVariants as ways;
 ghost use Rattle.driver_rows.specs.Offers.{new_endpoint};
 ghost use Rattle.driver_rows.specs.Words.{opening_head, to_queue_head, queue_head};
 ghost use Rattle.run_owners.specs.Worked.{bulk};
@@ -7,10 +8,13 @@ ghost use Rattle.lent_structures.specs.Samples.{nothing};
 ghost use Rattle.lent_structures.specs.Structures.{QueueHead};
 ghost use Rattle.driver_lends.specs.Linked.{head_at};
 ghost use Rattle.ring_streams.specs.Told.{endpoint_of};
-ghost use Rattle.open_stores.specs.Opens.{head_then, end_then};
+ghost use Rattle.open_stores.specs.Opens.{head_then, end_then, streams_then};
 
-/// The head leads to it, and its endpoint is told whatever its queue head leads to.
+/// The head leads to it, its endpoint is told whatever its queue head leads to, and it has a stream if it is an IN one.
 pub fn open_rows()
     ensures head { head_then nothing opening_head (new_endpoint bulk 130 133) head_at head_at ≡ Some (QueueHead (record opening_head { link = to_queue_head 130 })) }
     ensures end { end_then (new_endpoint bulk 130 133) ≡ endpoint_of (queue_head bulk 128 133) }
+    ensures get { streams_then (λ k. false) (new_endpoint bulk 130 133) (32 * 130) ≡ true }
+    ensures put { streams_then (λ k. false) (new_endpoint (record bulk { name = record { addr = 1; num = 1; way = ways.Out } }) 130 133) (32 * 130) ≡ false }
+    ensures beside { streams_then (λ k. true) (new_endpoint bulk 130 133) 32 ≡ true }
 {}

@@ -1,5 +1,5 @@
 -- One stream more.
-use Rattle.std.proofs.Common.{◌≡◌, ◌≢◌, ℕ, ◌==◌, ◌||◌, Bool, true, false, if◌then◌else◌, List, [], Option, ap, refl, sym, subst, ◌∙◌, ⊎_elim, arith}
+use Rattle.std.proofs.Common.{◌≡◌, ◌≢◌, ℕ, ◌==◌, ◌||◌, Bool, true, false, if◌then◌else◌, List, [], Option, ap, refl, sym, subst, ◌∙◌, ⊎_elim, inr, arith}
 use Rattle.std.proofs.lemmas.Bool.{cases_eq, eq-eqb, false≢true}
 use Rattle.link_words.specs.declared.kinds.QtdLink.{QtdLink}
 use Rattle.link_words.specs.declared.kinds.QtdLink.TheVariants as qtd_links
@@ -12,7 +12,7 @@ use Rattle.ring_walk.specs.Hand.{Hand}
 use Rattle.ring_walk.specs.Effects.{buffer_of}
 use Rattle.ring_streams.specs.Told.{Endpoint, HasEndpoint, HasToggle}
 use Rattle.ring_order.specs.Order.{IsOrdered, none_out}
-use Rattle.spared_streams.specs.Sparing.{SparesHead, SparesElement}
+use Rattle.spared_streams.specs.Sparing.{SameHand, SparesHead, SparesElement}
 use Rattle.spared_streams.proofs.Sparing.{spared_toggle, spared_endpoint, spared_accounts}
 use Rattle.pipe_agreement.specs.Pipe.{PipeAgrees}
 use Rattle.pipe_agreement.proofs.Agreement.{opening_agrees}
@@ -20,7 +20,7 @@ use Rattle.ring_pipes.specs.Bus.{Sender}
 use Rattle.ring_pipes.specs.Pipes.{IsIn, IsPipe, IsElsewhere}
 use Rattle.reported_streams.specs.Reported.{IsReported}
 use Rattle.opened_streams.specs.Unopened.{IsUntouched}
-use Rattle.opened_streams.specs.Opened.{with_stream, with_end, with_none, IsBeginning, EndsWithOne, PipesWithOne, ReportsWithOne, UnopenedLessOne}
+use Rattle.opened_streams.specs.Opened.{with_stream, with_end, with_none, IsBeginning, EndsWithOne, PipesWithOne, ReportsWithOne, UnopenedLessOne, EndsWithOther, PipesWithOther, ReportsWithOther, UnopenedWithOther}
 
 -- ---- one more
 
@@ -43,6 +43,9 @@ none_beside streams n k off = (λ same. false≢true (sym off ∙ ap (with_strea
     by_test : (b : Bool) → streams k ≡ b → streams k ≡ false
     by_test true on = absurd (false≢true (sym off ∙ stream_old streams n k on))
     by_test false none = none
+
+streamed_apart : (streams : ℕ → Bool) (n i : ℕ) → streams n ≡ false → streams i ≡ true → i ≢ n
+streamed_apart streams n i off on same = false≢true (sym off ∙ ap streams (sym same) ∙ on)
 
 pub end_here : (endpoint : ℕ → Endpoint) (n : ℕ) (x : Endpoint) → with_end endpoint n x n ≡ x
 end_here endpoint n x = ap (λ (b : Bool). if b then x else endpoint n) (eq-eqb n n refl)
@@ -112,29 +115,37 @@ begin_pipe packets o later now n x q begins named expects u = record {
   };
 }
 
+-- the pipe of the queue head at i
+abbrev PipeOf : {W : Type 0} → (W → ℕ → ℕ → Option Sender) → (ℕ → ℕ → List (List ℕ)) → (ℕ → Endpoint) → (ℕ → List (List ℕ)) → StructureSets → Hand → W → ℕ → Type 0
+PipeOf {W} sender packets endpoint acc parts hand wire i = IsPipe (packets (endpoint i).addr (endpoint i).ep) (sender wire (endpoint i).addr (endpoint i).ep) (acc i) parts hand i (endpoint i)
+
+-- where its structures stay
+old_pipe : {W : Type 0} (sender : W → ℕ → ℕ → Option Sender) (packets : ℕ → ℕ → List (List ℕ)) (endpoint : ℕ → Endpoint) (acc : ℕ → List (List ℕ)) (hand later : Hand) (parts now : StructureSets) (wire : W) (n : ℕ) (x : Endpoint) (i : ℕ)
+    → SameHand hand later → now i ≡ parts i → i ≢ n → PipeOf sender packets endpoint acc parts hand wire i → PipeOf sender packets (with_end endpoint n x) (with_none acc n) now later wire i
+old_pipe sender packets endpoint acc hand later parts now wire n x i hands same differs p =
+    subst (λ (y : Endpoint). IsPipe (packets y.addr y.ep) (sender wire y.addr y.ep) (with_none acc n i) now later i y) (sym (end_beside endpoint n x i differs))
+    (subst (λ (xs : List (List ℕ)). IsPipe (packets (endpoint i).addr (endpoint i).ep) (sender wire (endpoint i).addr (endpoint i).ep) xs now later i (endpoint i)) (sym (list_beside acc n i differs))
+    (record {
+      named = spared_endpoint parts now i (endpoint i) (heads_stay parts now i same) p.named;
+      ins = subst IsIn (sym same) p.ins;
+      toggle = p.toggle;
+      expects = spared_toggle hand later parts now i p.toggle hands (heads_stay parts now i same) p.expects;
+      sender = p.sender;
+      is = p.is;
+      half = p.half;
+    }))
+
 pub pipes_with_one : {W : Type 0} (sender : W → ℕ → ℕ → Option Sender) → PipesWithOne sender
 pipes_with_one sender stream packets member wider streams endpoint acc hand later parts now wire n x more untouched others k = record {
   pipes = λ i on.
       ⊎_elim (λ (same : i ≡ n).
-      subst (λ (j : ℕ). IsPipe (packets (with_end endpoint n x j).addr (with_end endpoint n x j).ep) (sender wire (with_end endpoint n x j).addr (with_end endpoint n x j).ep) (with_none acc n j) now later j (with_end endpoint n x j)) (sym same)
+      subst (PipeOf sender packets (with_end endpoint n x) (with_none acc n) now later wire) (sym same)
       (subst (λ (y : Endpoint). IsPipe (packets y.addr y.ep) (sender wire y.addr y.ep) (with_none acc n n) now later n y) (sym (end_here endpoint n x))
       (subst (λ (xs : List (List ℕ)). IsPipe (packets x.addr x.ep) (sender wire x.addr x.ep) xs now later n x) (sym (list_here acc n))
       (begin_pipe (packets x.addr x.ep) (sender wire x.addr x.ep) later now n x more.queue more.begins more.named more.expects untouched))))
       (λ (differs : i ≢ n).
       let streamed : streams i ≡ true = stream_beside streams n i differs on in
-      let p = k.pipes i streamed in
-      let same : now i ≡ parts i = more.stay i streamed in
-      subst (λ (y : Endpoint). IsPipe (packets y.addr y.ep) (sender wire y.addr y.ep) (with_none acc n i) now later i y) (sym (end_beside endpoint n x i differs))
-      (subst (λ (xs : List (List ℕ)). IsPipe (packets (endpoint i).addr (endpoint i).ep) (sender wire (endpoint i).addr (endpoint i).ep) xs now later i (endpoint i)) (sym (list_beside acc n i differs))
-      (record {
-        named = spared_endpoint parts now i (endpoint i) (heads_stay parts now i same) p.named;
-        ins = subst IsIn (sym same) p.ins;
-        toggle = p.toggle;
-        expects = spared_toggle hand later parts now i p.toggle more.hands (heads_stay parts now i same) p.expects;
-        sender = p.sender;
-        is = p.is;
-        half = p.half;
-      }))) (cases_eq i n);
+      old_pipe sender packets endpoint acc hand later parts now wire n x i more.hands (more.stay i streamed) differs (k.pipes i streamed)) (cases_eq i n);
   others = λ i on off.
       let both : (i ≢ n) × (streams i ≡ false) = none_beside streams n i off in
       subst (IsElsewhere stream now i) (sym (end_beside endpoint n x i both.0)) (others i on both.0 both.1);
@@ -170,6 +181,22 @@ begin_reported order later now n q begins =
       sum = refl;
     }
 
+old_report : (order : ℕ → ℕ → ℕ) (out : ℕ → List ℕ) (hand later : Hand) (parts now : StructureSets) (acc : ℕ → List (List ℕ)) (reported : ℕ → List ℕ) (n i : ℕ) → SameHand hand later → now i ≡ parts i → i ≢ n
+    → IsReported (order i) (out i) hand parts i (acc i) (reported i) → IsReported (order i) (with_none out n i) later now i (with_none acc n i) (with_none reported n i)
+old_report order out hand later parts now acc reported n i hands same differs r =
+    subst (λ (xs : List ℕ). IsReported (order i) xs later now i (with_none acc n i) (with_none reported n i)) (sym (list_beside out n i differs))
+    (subst (λ (xs : List (List ℕ)). IsReported (order i) (out i) later now i xs (with_none reported n i)) (sym (list_beside acc n i differs))
+    (subst (λ (xs : List ℕ). IsReported (order i) (out i) later now i (acc i) xs) (sym (list_beside reported n i differs))
+    (record {
+      place = r.place;
+      told = r.told;
+      accounts = spared_accounts (order i) (order i) r.place r.place (out i) hand later parts now i r.told hands (heads_stay parts now i same) (λ e among. elements_stay parts now i e same)
+          (subst (IsOrdered (order i) r.place i) (sym same) r.accounts.ordered) r.accounts.sorted
+          (λ a t among here from. r.accounts.published a t among (ap (λ (part : Structures). part a) (sym same) ∙ here) from)
+          (λ a t here active. r.accounts.complete a t (ap (λ (part : Structures). part a) (sym same) ∙ here) active) r.accounts;
+      sum = r.sum;
+    })))
+
 pub reports_with_one : ReportsWithOne
 reports_with_one streams order out hand later parts now acc reported n x more k i on =
     ⊎_elim (λ (same : i ≡ n).
@@ -179,25 +206,46 @@ reports_with_one streams order out hand later parts now acc reported n x more k 
     (subst (λ (xs : List ℕ). IsReported (order n) [] later now n [] xs) (sym (list_here reported n)) (begin_reported (order n) later now n more.queue more.begins)))))
     (λ (differs : i ≢ n).
     let streamed : streams i ≡ true = stream_beside streams n i differs on in
-    let r = k i streamed in
-    let same : now i ≡ parts i = more.stay i streamed in
-    subst (λ (xs : List ℕ). IsReported (order i) xs later now i (with_none acc n i) (with_none reported n i)) (sym (list_beside out n i differs))
-    (subst (λ (xs : List (List ℕ)). IsReported (order i) (out i) later now i xs (with_none reported n i)) (sym (list_beside acc n i differs))
-    (subst (λ (xs : List ℕ). IsReported (order i) (out i) later now i (acc i) xs) (sym (list_beside reported n i differs))
-    (record {
-      place = r.place;
-      told = r.told;
-      accounts = spared_accounts (order i) (order i) r.place r.place (out i) hand later parts now i r.told more.hands (heads_stay parts now i same) (λ e among. elements_stay parts now i e same)
-          (subst (IsOrdered (order i) r.place i) (sym same) r.accounts.ordered) r.accounts.sorted
-          (λ a t among here from. r.accounts.published a t among (ap (λ (part : Structures). part a) (sym same) ∙ here) from)
-          (λ a t here active. r.accounts.complete a t (ap (λ (part : Structures). part a) (sym same) ∙ here) active) r.accounts;
-      sum = r.sum;
-    })))) (cases_eq i n)
+    old_report order out hand later parts now acc reported n i more.hands (more.stay i streamed) differs (k i streamed)) (cases_eq i n)
 
 -- ---- those that aren't opened yet
 
 pub unopened_less_one : {W : Type 0} (sender : W → ℕ → ℕ → Option Sender) → UnopenedLessOne sender
 unopened_less_one sender stream packets streams endpoint wire n x new k addr ep on unopened =
     k addr ep on (λ i streamed a e.
-    let differs : i ≢ n = (λ same. false≢true (sym new ∙ ap streams (sym same) ∙ streamed)) in
+    let differs : i ≢ n = streamed_apart streams n i new streamed in
     unopened i (stream_old streams n i streamed) (ap (λ (y : Endpoint). y.addr) (end_beside endpoint n x i differs) ∙ a) (ap (λ (y : Endpoint). y.ep) (end_beside endpoint n x i differs) ∙ e))
+
+-- ---- one more that has no stream
+
+pub ends_with_other : EndsWithOther
+ends_with_other stream member wider streams endpoint n x more off k =
+    let same : (i : ℕ) → streams i ≡ true → with_end endpoint n x i ≡ endpoint i = λ i on. end_beside endpoint n x i (streamed_apart streams n i off on) in
+    record {
+      members = λ i on. more i (k.members i on);
+      on = λ i on. ap (λ (y : Endpoint). stream y.addr y.ep) (same i on) ∙ k.on i on;
+      high = λ i on. ap (λ (y : Endpoint). y.speed) (same i on) ∙ k.high i on;
+      apart = λ i j first second addr ep.
+          k.apart i j first second (sym (ap (λ (y : Endpoint). y.addr) (same i first)) ∙ addr ∙ ap (λ (y : Endpoint). y.addr) (same j second))
+          (sym (ap (λ (y : Endpoint). y.ep) (same i first)) ∙ ep ∙ ap (λ (y : Endpoint). y.ep) (same j second));
+    }
+
+pub pipes_with_other : {W : Type 0} (sender : W → ℕ → ℕ → Option Sender) → PipesWithOther sender
+pipes_with_other sender stream packets member wider streams endpoint acc hand later parts now wire n x more others k = record {
+  pipes = λ i on. old_pipe sender packets endpoint acc hand later parts now wire n x i more.hands (more.stay i on) (streamed_apart streams n i more.new on) (k.pipes i on);
+  others = λ i on off.
+      ⊎_elim (λ (same : i ≡ n).
+      subst (λ (j : ℕ). IsElsewhere stream now j (with_end endpoint n x j)) (sym same)
+      (subst (IsElsewhere stream now n) (sym (end_here endpoint n x)) (more.named, inr (λ a t here active. absurd (false≢true (sym (more.begins.none a t here) ∙ active))))))
+      (λ (differs : i ≢ n). subst (IsElsewhere stream now i) (sym (end_beside endpoint n x i differs)) (others i on differs off)) (cases_eq i n);
+}
+
+pub reports_with_other : ReportsWithOther
+reports_with_other streams order out hand later parts now acc reported n x more k i on =
+    old_report order out hand later parts now acc reported n i more.hands (more.stay i on) (streamed_apart streams n i more.new on) (k i on)
+
+pub unopened_with_other : {W : Type 0} (sender : W → ℕ → ℕ → Option Sender) → UnopenedWithOther sender
+unopened_with_other sender stream packets streams endpoint wire n x new k addr ep on unopened =
+    k addr ep on (λ i streamed a e.
+    let same : with_end endpoint n x i ≡ endpoint i = end_beside endpoint n x i (streamed_apart streams n i new streamed) in
+    unopened i streamed (ap (λ (y : Endpoint). y.addr) same ∙ a) (ap (λ (y : Endpoint). y.ep) same ∙ e))

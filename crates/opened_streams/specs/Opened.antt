@@ -4,6 +4,7 @@
 --     IsBeginning part n q                 the queue head q at n is idle, and no qTD of its is active
 --     IsOneMore ..                         what the structures and the bus have for it
 --     EndsWithOne, PipesWithOne, ReportsWithOne, UnopenedLessOne     the laws
+--     EndsWithOther, PipesWithOther, ReportsWithOther, UnopenedWithOther     .. where the one more has no stream
 use Rattle.std.specs.Prelude.{◌≡◌, ◌≢◌, ℕ, ◌||◌, ◌==◌, Bool, true, false, List, [], Option, Some, if◌then◌else◌}
 use Rattle.link_words.specs.declared.kinds.QtdLink.TheVariants as qtd_links
 use Rattle.link_words.specs.Links.{qtd_link_of}
@@ -69,3 +70,26 @@ ReportsWithOne = (streams : ℕ → Bool) (order : ℕ → ℕ → ℕ) (out : �
 abbrev pub UnopenedLessOne : {W : Type 0} → (W → ℕ → ℕ → Option Sender) → Type 0
 UnopenedLessOne {W} sender = (stream : ℕ → ℕ → Bool) (packets : ℕ → ℕ → List (List ℕ)) (streams : ℕ → Bool) (endpoint : ℕ → Endpoint) (wire : W) (n : ℕ) (x : Endpoint) → streams n ≡ false
     → AreUnopened stream packets sender streams endpoint wire → AreUnopened stream packets sender (with_stream streams n) (with_end endpoint n x) wire
+
+-- ---- one more that has no stream, as that of an OUT endpoint
+
+abbrev pub EndsWithOther : Type 0
+EndsWithOther = (stream : ℕ → ℕ → Bool) (member wider streams : ℕ → Bool) (endpoint : ℕ → Endpoint) (n : ℕ) (x : Endpoint) → IsWider member wider → streams n ≡ false
+    → AreEndpoints stream member streams endpoint → AreEndpoints stream wider streams (with_end endpoint n x)
+
+-- it has no active qTD, so it asks none of the streams
+abbrev pub PipesWithOther : {W : Type 0} → (W → ℕ → ℕ → Option Sender) → Type 0
+PipesWithOther {W} sender = (stream : ℕ → ℕ → Bool) (packets : ℕ → ℕ → List (List ℕ)) (member wider streams : ℕ → Bool) (endpoint : ℕ → Endpoint) (acc : ℕ → List (List ℕ))
+    (hand later : Hand) (parts now : StructureSets) (wire : W) (n : ℕ) (x : Endpoint) → IsOneMore streams hand later parts now n x
+    → ((k : ℕ) → wider k ≡ true → k ≢ n → streams k ≡ false → IsElsewhere stream now k (endpoint k))
+    → ArePiped stream packets sender member streams endpoint acc parts hand wire
+    → ArePiped stream packets sender wider streams (with_end endpoint n x) (with_none acc n) now later wire
+
+abbrev pub ReportsWithOther : Type 0
+ReportsWithOther = (streams : ℕ → Bool) (order : ℕ → ℕ → ℕ) (out : ℕ → List ℕ) (hand later : Hand) (parts now : StructureSets) (acc : ℕ → List (List ℕ)) (reported : ℕ → List ℕ)
+    (n : ℕ) (x : Endpoint) → IsOneMore streams hand later parts now n x → AreReported streams order out hand parts acc reported
+    → AreReported streams order (with_none out n) later now (with_none acc n) (with_none reported n)
+
+abbrev pub UnopenedWithOther : {W : Type 0} → (W → ℕ → ℕ → Option Sender) → Type 0
+UnopenedWithOther {W} sender = (stream : ℕ → ℕ → Bool) (packets : ℕ → ℕ → List (List ℕ)) (streams : ℕ → Bool) (endpoint : ℕ → Endpoint) (wire : W) (n : ℕ) (x : Endpoint) → streams n ≡ false
+    → AreUnopened stream packets sender streams endpoint wire → AreUnopened stream packets sender streams (with_end endpoint n x) wire

@@ -3,6 +3,7 @@ ghost use Rattle.std.specs.Prelude.{ℕ, Option};
 ghost use Rattle.ring_pipes.specs.Bus.{Sender};
 ghost use Rattle.opened_streams.specs.Unopened.{UnopenedWait};
 ghost use Rattle.opened_streams.specs.Opened.{EndsWithOne, PipesWithOne, ReportsWithOne, UnopenedLessOne};
+ghost use Rattle.opened_streams.specs.Opened.{EndsWithOther, PipesWithOther, ReportsWithOther, UnopenedWithOther};
 
 use usb_base::Wire;
 
@@ -17,4 +18,12 @@ pub fn a_stream_begins<W: Wire>()
     ensures pipes { (sender : W → ℕ → ℕ → Option Sender) → PipesWithOne sender }
     ensures reports { ReportsWithOne }
     ensures unopened { (sender : W → ℕ → ℕ → Option Sender) → UnopenedLessOne sender }
+{}
+
+/// Where the walk may meet a queue head that has no stream, as that of an OUT endpoint, all streams go on: no active qTD of it asks one of them.
+pub fn another_begins<W: Wire>()
+    ensures ends { EndsWithOther }
+    ensures pipes { (sender : W → ℕ → ℕ → Option Sender) → PipesWithOther sender }
+    ensures reports { ReportsWithOther }
+    ensures unopened { (sender : W → ℕ → ℕ → Option Sender) → UnopenedWithOther sender }
 {}

@@ -155,24 +155,30 @@ last_reports member streams order out hand parts acc reported n e old new s on f
 
 -- ---- the pipes
 
-in_after : (parts : StructureSets) (n e : ℕ) (old new : Qtd) → parts n e ≡ Some (Element old) → (new.token.active ≡ true → new.token.pid ≡ 1) → (m : ℕ) → IsIn (parts m) → IsIn (stored_parts parts n e new m)
-in_after parts n e old new here pid m ins a u is on =
-    ⊎_elim (λ (put_there : (m ≡ n) × (a ≡ e) × (u ≡ new)). ap (λ (x : Qtd). x.token.pid) put_there.2 ∙ pid (ap (λ (x : Qtd). x.token.active) (sym put_there.2) ∙ on))
+in_after : (parts : StructureSets) (n e : ℕ) (old new : Qtd) → parts n e ≡ Some (Element old) → (m : ℕ) → (m ≡ n → new.token.active ≡ true → new.token.pid ≡ 1) → IsIn (parts m) → IsIn (stored_parts parts n e new m)
+in_after parts n e old new here m pid ins a u is on =
+    ⊎_elim (λ (put_there : (m ≡ n) × (a ≡ e) × (u ≡ new)). ap (λ (x : Qtd). x.token.pid) put_there.2 ∙ pid put_there.0 (ap (λ (x : Qtd). x.token.active) (sym put_there.2) ∙ on))
     (λ (was : parts m a ≡ Some (Element u)). ins a u was on) (element_found parts n e old new here m a u is)
 
-not_in_after : (parts : StructureSets) (n e : ℕ) (old new : Qtd) → parts n e ≡ Some (Element old) → (m : ℕ) → (m ≡ n → new.token.active ≡ true → ⊥) → IsNotIn (parts m) → IsNotIn (stored_parts parts n e new m)
-not_in_after parts n e old new here m never others a u is on =
-    ⊎_elim (λ (put_there : (m ≡ n) × (a ≡ e) × (u ≡ new)). absurd (never put_there.0 (ap (λ (x : Qtd). x.token.active) (sym put_there.2) ∙ on)))
+not_in_after : (parts : StructureSets) (n e : ℕ) (old new : Qtd) → parts n e ≡ Some (Element old) → (m : ℕ) → (m ≡ n → new.token.active ≡ true → new.token.pid ≢ 1) → IsNotIn (parts m) → IsNotIn (stored_parts parts n e new m)
+not_in_after parts n e old new here m pid others a u is on =
+    ⊎_elim (λ (put_there : (m ≡ n) × (a ≡ e) × (u ≡ new)). λ (asked : u.token.pid ≡ 1). pid put_there.0 (ap (λ (x : Qtd). x.token.active) (sym put_there.2) ∙ on) (ap (λ (x : Qtd). x.token.pid) (sym put_there.2) ∙ asked))
     (λ (was : parts m a ≡ Some (Element u)). others a u was on) (element_found parts n e old new here m a u is)
 
 pub store_pipes : {W : Type 0} (sender : W → ℕ → ℕ → Option Sender) → StoreLeavesPipes sender
 store_pipes sender stream packets member streams endpoint acc hand parts wire n e old new here may k =
     let now : StructureSets = stored_parts parts n e new in
+    let with_stream : (m : ℕ) → streams m ≡ true → m ≡ n → new.token.active ≡ true → new.token.pid ≡ 1 = λ m on same active.
+    ⊎_elim (λ (one : (streams n ≡ true) × (new.token.pid ≡ 1)). one.1)
+    (λ (other : (streams n ≡ false) × (new.token.pid ≢ 1)). absurd (false≢true (sym other.0 ∙ ap streams (sym same) ∙ on))) (may active) in
+    let without : (m : ℕ) → streams m ≡ false → m ≡ n → new.token.active ≡ true → new.token.pid ≢ 1 = λ m off same active.
+    ⊎_elim (λ (one : (streams n ≡ true) × (new.token.pid ≡ 1)). absurd (false≢true (sym off ∙ ap streams same ∙ one.0)))
+    (λ (other : (streams n ≡ false) × (new.token.pid ≢ 1)). other.1) (may active) in
     spared_pipes sender stream packets member member streams endpoint acc hand hand parts now wire (same_hand hand) (λ m on. spares_head parts n e old new here m)
-    (λ m on. in_after parts n e old new here (λ active. (may active).1) m (k.pipes m on).ins)
+    (λ m on. in_after parts n e old new here m (with_stream m on) (k.pipes m on).ins)
     (λ m on off.
     let was : IsElsewhere stream parts m (endpoint m) = k.others m on off in (
       spared_endpoint parts now m (endpoint m) (spares_head parts n e old new here m) was.0,
       ⊎_elim (λ (none : stream (endpoint m).addr (endpoint m).ep ≡ false). inl none)
-          (λ (others : IsNotIn (parts m)). inr (not_in_after parts n e old new here m (λ same active. false≢true (sym off ∙ ap streams same ∙ (may active).0)) others)) was.1,
+          (λ (others : IsNotIn (parts m)). inr (not_in_after parts n e old new here m (without m off) others)) was.1,
     )) k

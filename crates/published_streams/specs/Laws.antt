@@ -1,7 +1,7 @@
 -- Laws of the streams beside the stores of a qTD.
 --     IdleStoreLeavesReports, LastStoreLeavesReports     what is still to be harvested, and that it is right
 --     StoreLeavesPipes                                   the pipes of the endpoints
-use Rattle.std.specs.Prelude.{◌≡◌, ℕ, Bool, true, false, List, Option, Some}
+use Rattle.std.specs.Prelude.{◌≡◌, ◌≢◌, ℕ, ◌⊎◌, Bool, true, false, List, Option, Some}
 use Rattle.qh_qtd.specs.declared.qtd.Qtd.{Qtd}
 use Rattle.lent_structures.specs.Structures.{Element, StructureSets}
 use Rattle.queue_parts.specs.Sound.{IsMember}
@@ -25,9 +25,9 @@ LastStoreLeavesReports = (member streams : ℕ → Bool) (order : ℕ → ℕ �
     (n e : ℕ) (old new : Qtd) → (s : IsStore (order n) (out n) parts n e old new) → new.token.active ≡ true → IsFresh (parts n) new → IsMember member n (parts n)
     → AreReported streams order out hand parts acc reported → AreReported streams order (with_out out n (out_with s)) hand (stored_parts parts n e new) acc reported
 
--- where it becomes active its queue head has a stream, and it is an IN
+-- where it becomes active it is an IN, if its queue head has a stream, and else it is none
 abbrev pub StoreLeavesPipes : {W : Type 0} → (W → ℕ → ℕ → Option Sender) → Type 0
 StoreLeavesPipes {W} sender = (stream : ℕ → ℕ → Bool) (packets : ℕ → ℕ → List (List ℕ)) (member streams : ℕ → Bool) (endpoint : ℕ → Endpoint) (acc : ℕ → List (List ℕ))
     (hand : Hand) (parts : StructureSets) (wire : W) (n e : ℕ) (old new : Qtd) → parts n e ≡ Some (Element old)
-    → (new.token.active ≡ true → (streams n ≡ true) × (new.token.pid ≡ 1))
+    → (new.token.active ≡ true → ((streams n ≡ true) × (new.token.pid ≡ 1)) ⊎ ((streams n ≡ false) × (new.token.pid ≢ 1)))
     → ArePiped stream packets sender member streams endpoint acc parts hand wire → ArePiped stream packets sender member streams endpoint acc (stored_parts parts n e new) hand wire

@@ -12,21 +12,22 @@ use Rattle.driver_rows.specs.declared.content.Transfer.{Transfer}
 use Rattle.driver_rows.specs.declared.content.QtdNote.{QtdNote}
 use Rattle.driver_rows.specs.declared.content.Command.{Command}
 use Rattle.driver_rows.specs.declared.content.Command.TheVariants as unfinished
-use Rattle.driver_rows.specs.declared.content.Sort.TheVariants as sorts
+use Rattle.driver_rows.specs.declared.content.Sort.{Sort}
 use Rattle.driver_rows.specs.declared.rows.DriverRow.TheVariants as rows
 use Rattle.driver_rows.specs.declared.rows.Found.{Found}
 use Rattle.driver_rows.specs.declared.rows.Found.TheVariants as founds
 use Rattle.driver_rows.specs.DriverContent.{DriverContent, waits_for}
 use Rattle.driver_rows.specs.Harvests.{note_at, token_in, moved_of, halt_of, done_of, ends_by}
-use Rattle.driver_rows.specs.Rows.{Parts, found_of, served, after_harvest, after_driver_row, is_iso}
-use Rattle.run_owners.specs.Owners.{Element, QueueHead, IsPlaced, runs_of_endpoint, runs_of_transfer, note_in}
+use Rattle.driver_rows.specs.Rows.{Parts, served, after_harvest, after_driver_row, is_iso}
+use Rattle.run_owners.specs.Owners.{Element, QueueHead, IsPlaced, is_descriptor, runs_of_endpoint, runs_of_transfer, note_in}
 use Rattle.run_owners.specs.Kept.{HasOwners}
 use Rattle.run_owners.specs.Due.{IsHarvestDue}
 use Rattle.chained_transfers.specs.Chains.{piece_at}
-use Rattle.chained_transfers.specs.Receives.{IsStanding}
+use Rattle.chained_transfers.specs.Bulk.{IsStanding}
 use Rattle.chained_transfers.specs.Turns.{IsAtPlace, Turn, turn_of, turn_in, AreReportedTo}
 use Rattle.chained_transfers.specs.InTurn.{TakesTurns}
 use Rattle.chained_transfers.specs.Out.{out_now, unpublished}
+use Rattle.chained_transfers.proofs.Ways.{moves_queued, found_by}
 use Rattle.told_harvests.specs.Held.{IsOneFrom, IsRead, AreRead}
 use Rattle.harvest_rows.specs.Holds.{IsNextOf}
 use Rattle.harvest_rows.specs.Laws.{IsReadNext}
@@ -52,8 +53,8 @@ all_read : (part : Structures) (notes : List QtdNote) (b n : ℕ) → ((i : ℕ)
 all_read part notes b zero each = tt
 all_read part notes b (suc n) each = (each 0 (omega arith), all_read part notes (note_at notes b).next n (λ i below. each (suc i) (omega (arith, below))))
 
-fed_read : (part : Structures) (note : QtdNote) (b end : ℕ) → IsPieceFed part note b end → IsRead part note b
-fed_read part note b end k = record { qtd = k.qtd; here = k.here; long = k.long; buffer = k.buffer; places = k.places }
+fed_read : (sort : Sort) (part : Structures) (note : QtdNote) (b end : ℕ) → IsPieceFed sort part note b end → IsRead part note b
+fed_read sort part note b end k = record { qtd = k.qtd; here = k.here; long = k.long; buffer = k.buffer; places = k.places }
 
 none_unpublished : (d : DriverContent) (t : ℕ) (y : Transfer) → d.command ≡ None → unpublished_of d t y ≡ 0
 none_unpublished d t y idle = by_newest (nat_eq (suc t) (length d.transfers))
@@ -118,19 +119,19 @@ module _ (p : Parts) (e t : ℕ) (found : Found) (due : IsHarvestDue p e t found
     where
       placed : (i : ℕ) (w : Endpoint) → slice_get p.driver.endpoints i ≡ Some w → IsPlaced (slot_of p.driver.book.slots) owners.owner w.queue (QueueHead i)
       placed i w here =
-          let s : IsStanding w = turns.receives.endpoints i w here in
-          owners.owned.each.queue i (runs_of_endpoint w) (ap (option_map runs_of_endpoint) here) (ap (λ k. is_iso k || w.gone) s.receives.kind ∙ s.gone)
+          let s : IsStanding w = turns.bulk.endpoints i w here in
+          owners.owned.each.queue i (runs_of_endpoint w) (ap (option_map runs_of_endpoint) here) (ap (λ k. is_iso k || w.gone) s.bulk.kind ∙ s.gone)
 
   pub reads : (parts : StructureSets) → AreFed p.driver parts → AreRead (parts (32 * due.endpoint.queue)) (note_at p.driver.notes) due.transfer.first due.transfer.qtds
   reads parts fed =
       all_read (parts (32 * due.endpoint.queue)) p.driver.notes due.transfer.first due.transfer.qtds
       (λ i below.
       let none = none_unpublished p.driver t due.transfer due.idle in
-      fed_read (parts (32 * due.endpoint.queue)) (note_at p.driver.notes (piece_at (note_in p.driver.notes) due.transfer.first i)) (piece_at (note_in p.driver.notes) due.transfer.first i) (piece_at (note_in p.driver.notes) due.transfer.first due.transfer.qtds)
+      fed_read due.transfer.sort (parts (32 * due.endpoint.queue)) (note_at p.driver.notes (piece_at (note_in p.driver.notes) due.transfer.first i)) (piece_at (note_in p.driver.notes) due.transfer.first i) (piece_at (note_in p.driver.notes) due.transfer.first due.transfer.qtds)
       (fed.pieces t i due.transfer due.endpoint due.there (kept t due.transfer due.there own.1) (ap (slice_get p.driver.endpoints) own.0 ∙ due.here) (omega (arith, none)) below))
 
-  get : due.transfer.sort ≡ sorts.Get
-  get = turns.receives.gets t due.transfer due.there
+  its_sort : is_descriptor due.transfer.sort ≡ false
+  its_sort = moves_queued p.driver due.transfer (turns.bulk.moves t due.transfer due.there)
 
   pub not_active : found ≢ founds.Active → (token_in p.memory due.transfer.place).active ≡ false
   not_active differs = by_active (token_in p.memory due.transfer.place).active refl
@@ -138,8 +139,8 @@ module _ (p : Parts) (e t : ℕ) (found : Found) (due : IsHarvestDue p e t found
       by_active : (b : Bool) → (token_in p.memory due.transfer.place).active ≡ b → b ≡ false
       by_active false is = refl
       by_active true is =
-          absurd (differs (due.tells ∙ ap (found_of p.driver p.memory due.transfer) (turns.receives.gets t due.transfer due.there)
-          ∙ ap (λ (b : Bool). if b then founds.Active else if (token_in p.memory due.transfer.place).halted then founds.Ended (moved_of (note_at p.driver.notes due.transfer.place).told (token_in p.memory due.transfer.place).total) (halt_of (token_in p.memory due.transfer.place)) else done_of (ends_by sorts.Get (nat_le due.transfer.left 1) (token_in p.memory due.transfer.place).total) (moved_of (note_at p.driver.notes due.transfer.place).told (token_in p.memory due.transfer.place).total)) is))
+          absurd (differs (due.tells ∙ found_by p.driver p.memory due.transfer due.transfer.sort its_sort
+          ∙ ap (λ (b : Bool). if b then founds.Active else if (token_in p.memory due.transfer.place).halted then founds.Ended (moved_of (note_at p.driver.notes due.transfer.place).told (token_in p.memory due.transfer.place).total) (halt_of (token_in p.memory due.transfer.place)) else done_of (ends_by due.transfer.sort (nat_le due.transfer.left 1) (token_in p.memory due.transfer.place).total) (moved_of (note_at p.driver.notes due.transfer.place).told (token_in p.memory due.transfer.place).total)) is))
 
 after_is : (p : Parts) (e t : ℕ) (found : Found) (due : IsHarvestDue p e t found) → (after_driver_row (rows.Harvest e t found) p).driver ≡ after_harvest p.driver p.memory e t found (Some due.endpoint) (Some due.transfer)
 after_is p e t found due =
@@ -154,8 +155,8 @@ row_told member order p parts hand e t found acc reported due differs owners tur
     subst (λ (d : DriverContent). HarvestReports order p.driver d hand parts e due.endpoint acc reported) (sym (after_is p e t found due))
     (harvested_told member order p.driver p.memory parts hand e t due.endpoint due.transfer found acc reported (read_next p e t found due owners turns)
     (record {
-      bulk = (turns.receives.endpoints e due.endpoint due.here).receives.kind;
-      get = turns.receives.gets t due.transfer due.there;
+      bulk = (turns.bulk.endpoints e due.endpoint due.here).bulk.kind;
+      queued = its_sort p e t found due owners turns;
       tells = tells;
       on = on;
       read = reads p e t found due owners turns parts fed;

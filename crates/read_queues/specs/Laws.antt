@@ -1,4 +1,4 @@
--- The row of a harvest where a driver only receives, its transfers take turns and its queues are fed (EHCI 1.0, 4.10).
+-- The row of a harvest where a driver has bulk endpoints only, its transfers take turns and its queues are fed (EHCI 1.0, 4.10).
 --     HarvestRowIsTold     the bytes that were moved of the qTD that is read are told, and what is reported of its stream is right
 --     WaitIsTold           one that isn't done changes nothing
 use Rattle.std.specs.Prelude.{◌≡◌, ◌≢◌, ℕ, ◌*◌, Bool, List, []}

@@ -1,5 +1,5 @@
-//! The row of a harvest where a driver only receives, its transfers take turns and its queues are fed (EHCI 1.0, 4.10): what was moved of the qTD that is
-//! read is told, and what is reported of its stream stays right.
+//! The row of a harvest where a driver has bulk endpoints only, its transfers take turns and its queues are fed (EHCI 1.0, 4.10): what was moved of the
+//! qTD that is read is told, and what is reported of its stream stays right.
 //!
 //! The crate has no code of its own: each function is a law over the definitions of `told_queues` and `chained_transfers`, and its body is empty.
 #![tactic(auto)]

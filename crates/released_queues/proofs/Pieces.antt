@@ -3,6 +3,7 @@ use Rattle.std.proofs.Common.{◌≡◌, ◌≢◌, ℕ, zero, suc, ◌+◌, ◌
 use Rattle.std.proofs.lemmas.Bool.{cases_eq}
 use Rattle.qh_qtd.specs.declared.qtd.Qtd.{Qtd}
 use Rattle.driver_rows.specs.declared.content.QtdNote.{QtdNote}
+use Rattle.driver_rows.specs.declared.content.Sort.{Sort}
 use Rattle.run_owners.specs.Owners.{TransferRuns, NoteRuns, Views}
 use Rattle.queue_parts.specs.Sound.{element_pages, buffer_name}
 use Rattle.driver_parts.specs.Inventory.{IsPieceOf}
@@ -96,8 +97,8 @@ first_taken (suc k) c cs (x ∷ xs) is = heads x c (take k xs) cs is
     heads x c xs cs is = cc
 
 -- the buffer of a qTD that was noted so begins where its first run does
-pub name_noted : (t : Qtd) (note : QtdNote) (end : ℕ) → IsNotedQtd t note end → buffer_name t ≡ 32 * slice_index note.buffer 0
-name_noted t note end is =
+pub name_noted : (sort : Sort) (t : Qtd) (note : QtdNote) (end : ℕ) → IsNotedQtd sort t note end → buffer_name t ≡ 32 * slice_index note.buffer 0
+name_noted sort t note end is =
     let c = slice_index note.buffer 0 in
     let offset = is.offset in
     let page = is.page0 in

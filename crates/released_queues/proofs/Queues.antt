@@ -7,19 +7,23 @@ use Rattle.std.proofs.lemmas.Option.{same_Some}
 use Rattle.usb_base.specs.declared.packets.EpKind.{EpKind}
 use Rattle.link_words.specs.declared.kinds.QtdLink.{QtdLink}
 use Rattle.link_words.specs.declared.kinds.QtdLink.TheVariants as qtd_links
+use Rattle.link_words.specs.Links.{qtd_link_of}
 use Rattle.qh_qtd.specs.declared.qtd.Qtd.{Qtd}
 use Rattle.async_walk.specs.Walk.{Walk}
 use Rattle.driver_rows.specs.declared.content.Command.{Command}
 use Rattle.driver_rows.specs.declared.content.Endpoint.{Endpoint}
+use Rattle.driver_rows.specs.declared.content.Sort.{Sort as Sorted}
+use Rattle.driver_rows.specs.declared.content.Sort.TheVariants as sorts
 use Rattle.driver_rows.specs.declared.content.Transfer.{Transfer}
 use Rattle.driver_rows.specs.DriverContent.{DriverContent}
 use Rattle.driver_rows.specs.Rows.{Parts as DriverParts, is_iso}
 use Rattle.driver_rows.specs.Harvests.{note_at}
-use Rattle.run_owners.specs.Owners.{Owner, QueueHead as QueueHeadOf, Element, IsPlaced, ArePieces, EndpointRuns, TransferRuns, NoteRuns, is_descriptor, runs_of_endpoint, runs_of_transfer, note_in, Views, views_of}
+use Rattle.run_owners.specs.Owners.{Owner, QueueHead as QueueHeadOf, Element, IsPlaced, ArePieces, EndpointRuns, TransferRuns, NoteRuns, runs_of_endpoint, runs_of_transfer, note_in, Views, views_of}
 use Rattle.chained_transfers.specs.Chains.{piece_at, end_of, NoneFrom}
 use Rattle.chained_transfers.specs.Turns.{turn_of, StandsBefore}
 use Rattle.chained_transfers.specs.Out.{unpublished}
 use Rattle.chained_transfers.proofs.Chained.{within_list}
+use Rattle.chained_transfers.proofs.Ways.{moves_queued}
 use Rattle.lent_structures.specs.Structures.{Element as ElementOf, Structures, StructureSets}
 use Rattle.lent_structures.proofs.Names.{not_same}
 use Rattle.queue_parts.specs.Sound.{IsElement, LeadsOn}
@@ -29,7 +33,7 @@ use Rattle.driver_parts.specs.Inventory.{Sort, sort_of, OfElement, IsLent, IsQue
 use Rattle.driver_lends.proofs.Owning.{number_of as owner_number}
 use Rattle.driver_releases.specs.Released.{blocks_of, goes_of, IsToGo}
 use Rattle.driver_releases.proofs.Blocks.{mine, all_mine, none_mine, is_named, is_not_named, piece_among, placed_buffer}
-use Rattle.fed_queues.specs.Fed.{IsPieceFed, unpublished_of}
+use Rattle.fed_queues.specs.Fed.{alternate_by, IsPieceFed, unpublished_of}
 use Rattle.released_queues.specs.Fronts.{piece_address}
 use Rattle.released_queues.specs.Released.{IsReturning, ReleaseStands}
 use Rattle.released_queues.proofs.Pieces.{piece_is, number_of, HasNext, find_next}
@@ -54,9 +58,19 @@ target : QtdLink → ℕ → ℕ
 target qtd_links.End a = a
 target (qtd_links.To b) a = b
 
+leads_nowhere : (b : ℕ) → qtd_links.End ≡ qtd_links.To b → ⊥
+leads_nowhere b is = cc
+
 pub same_target : (b c : ℕ) → qtd_links.To b ≡ qtd_links.To c → b ≡ c
 unfolding target
 same_target b c is = ap (λ (l : QtdLink). target l b) is
+
+-- a qTD without an alternate has none that leads anywhere
+pub alternate_to : (sort : Sorted) (end b : ℕ) → qtd_link_of (alternate_by sort end) ≡ qtd_links.To b → 32 * end ≡ b
+alternate_to sorts.Get end b is = same_target (32 * end) b is
+alternate_to sorts.Put end b is = absurd (leads_nowhere b is)
+alternate_to sorts.Request end b is = absurd (leads_nowhere b is)
+alternate_to sorts.Descriptor end b is = absurd (leads_nowhere b is)
 
 module _ (base : Base) (member : ℕ → Bool) (parts : StructureSets) (hand : Hand) (w : Walk) (p : DriverParts) (order : ℕ → ℕ → ℕ) (out : ℕ → List ℕ) (t : ℕ) (y : Transfer) (x : Endpoint) (s : ReleaseStands base member parts hand w p order out) (k : IsReturning p.driver t y x) where
   abbrev d : DriverContent
@@ -82,19 +96,19 @@ module _ (base : Base) (member : ℕ → Bool) (parts : StructureSets) (hand : H
 
   pub queue_of : (e : ℕ) (z : Endpoint) → slice_get d.endpoints e ≡ Some z → IsQueueIn v e (runs_of_endpoint z)
   queue_of e z here =
-      let st = s.receives.endpoints e z here in
-      record { here = ap (option_map runs_of_endpoint) here; queued = ap (λ (i : EpKind). is_iso i || z.gone) st.receives.kind ∙ st.gone }
+      let st = s.bulk.endpoints e z here in
+      record { here = ap (option_map runs_of_endpoint) here; queued = ap (λ (i : EpKind). is_iso i || z.gone) st.bulk.kind ∙ st.gone }
 
   pub transfer_of : (u : ℕ) (z : Transfer) (e : Endpoint) → slice_get d.transfers u ≡ Some z → z.released ≡ false → slice_get d.endpoints z.endpoint ≡ Some e → IsTransferIn v u (runs_of_transfer z) (runs_of_endpoint e)
   transfer_of u z e here held at = record {
     here = ap (option_map runs_of_transfer) here;
     held = held;
-    qtds = ap is_descriptor (s.receives.gets u z here);
+    qtds = moves_queued d z (s.bulk.moves u z here);
     queue = queue_of z.endpoint e at;
   }
 
   pub to_go : IsToGo d t y (runs_of_endpoint x)
-  to_go = record { here = k.here; held = k.held; qtds = ap is_descriptor (s.receives.gets t y k.here); queue = queue_of y.endpoint x k.endpoint }
+  to_go = record { here = k.here; held = k.held; qtds = moves_queued d y (s.bulk.moves t y k.here); queue = queue_of y.endpoint x k.endpoint }
 
   pub pieces_of : (u : ℕ) (z : Transfer) → slice_get d.transfers u ≡ Some z → z.released ≡ false → ArePieces v.slot owner v.note u z.first z.qtds
   pieces_of u z here held = s.owners.owned.each.pieces u (runs_of_transfer z) (ap (option_map runs_of_transfer) here) held
@@ -155,7 +169,7 @@ module _ (base : Base) (member : ℕ → Bool) (parts : StructureSets) (hand : H
   same_endpoint z same = ap (slice_get d.endpoints) same ∙ k.endpoint
 
   pub fed_piece : (u i : ℕ) (z : Transfer) → slice_get d.transfers u ≡ Some z → z.released ≡ false → z.endpoint ≡ y.endpoint → i < z.qtds
-      → IsPieceFed (parts n) (note_at d.notes (piece_at note z.first i)) (piece_at note z.first i) (piece_at note z.first z.qtds)
+      → IsPieceFed z.sort (parts n) (note_at d.notes (piece_at note z.first i)) (piece_at note z.first i) (piece_at note z.first z.qtds)
   fed_piece u i z here held same below =
       let none : unpublished_of d u z ≡ 0 = none_yet d.command d.made z.qtds (nat_eq (suc u) (length d.transfers)) k.free in
       s.fed.pieces u i z x here held (same_endpoint z same) (omega (arith, none)) below

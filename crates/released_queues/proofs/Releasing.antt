@@ -11,6 +11,7 @@ use Rattle.driver_rows.specs.declared.content.Command.TheVariants as unfinished
 use Rattle.driver_rows.specs.declared.content.Endpoint.{Endpoint}
 use Rattle.driver_rows.specs.declared.content.Transfer.{Transfer}
 use Rattle.driver_rows.specs.declared.content.QtdNote.{QtdNote}
+use Rattle.driver_rows.specs.declared.content.Sort.{Sort}
 use Rattle.driver_rows.specs.DriverContent.{DriverContent}
 use Rattle.driver_rows.specs.Rows.{Parts as DriverParts, freed_by, free_runs, free_qtds, after_transfer, after_driver_row}
 use Rattle.driver_rows.specs.Words.{head_block}
@@ -118,8 +119,8 @@ module _ (base : Base) (member : ℕ → Bool) (parts : StructureSets) (hand : H
 
   -- ---- what is fed
 
-  piece_still : (m : ℕ) (a : ℕ) (note_of : QtdNote) (b end : ℕ) → a ≡ 32 * b → goes a ≡ false → IsPieceFed (parts m) note_of b end → IsPieceFed (now m) note_of b end
-  piece_still m a note_of b end is stay f =
+  piece_still : (sort : Sort) (m : ℕ) (a : ℕ) (note_of : QtdNote) (b end : ℕ) → a ≡ 32 * b → goes a ≡ false → IsPieceFed sort (parts m) note_of b end → IsPieceFed sort (now m) note_of b end
+  piece_still sort m a note_of b end is stay f =
       let there : parts m a ≡ Some (ElementOf f.qtd) = ap (parts m) is ∙ f.here in
       record {
         qtd = f.qtd;
@@ -152,7 +153,7 @@ module _ (base : Base) (member : ℕ → Bool) (parts : StructureSets) (hand : H
     pieces = λ u i z c here held at from below.
         let was = was_there u z here held in
         let none : unpublished_of d u z ≡ 0 = none_yet d.command d.made z.qtds (nat_eq (suc u) (length d.transfers)) k.free in
-        piece_still (32 * c.queue) (piece_address d z i) (note_at d.notes (piece_at note z.first i)) (piece_at note z.first i) (piece_at note z.first z.qtds) refl (off_piece u i z was.1 held below was.0)
+        piece_still z.sort (32 * c.queue) (piece_address d z i) (note_at d.notes (piece_at note z.first i)) (piece_at note z.first i) (piece_at note z.first z.qtds) refl (off_piece u i z was.1 held below was.0)
         (s.fed.pieces u i z c was.1 held at (omega (arith, none)) below);
     publishes = λ b words is. absurd (no_command (unfinished.Publish b words) is);
   }

@@ -1,5 +1,5 @@
 -- An endpoint by its name, and how the report of one that has ended is closed.
-use Rattle.std.proofs.Common.{◌≡◌, ◌≢◌, ℕ, zero, suc, ◌<◌, nat_lt, Bool, true, false, cond, ◌||◌, if◌then◌else◌, List, [], ◌∷◌, length, get_or, position, slice_get, find, ◌==◌, Option, Some, None, ap, refl, sym, ◌∙◌, inl, inr, arith}
+use Rattle.std.proofs.Common.{◌≡◌, ℕ, zero, suc, ◌<◌, nat_lt, Bool, true, false, cond, ◌||◌, if◌then◌else◌, List, [], ◌∷◌, length, get_or, position, slice_get, find, ◌==◌, Option, Some, None, ap, refl, sym, ◌∙◌, inl, inr, arith}
 use Rattle.std.specs.Prelude.{◌⊎◌, is_none}
 use Rattle.std.specs.Option.{option_and_then}
 use Rattle.std.specs.List.{flat_map, list_any, position_or_len}

@@ -1,6 +1,6 @@
--- The streams of the report are right.
+-- The IN streams of the report are right.
 use Rattle.std.proofs.Common.{◌≡◌, ℕ, Bool, true, false, not, ◌&&◌, if◌then◌else◌, List, [], ◌∷◌, ◌++◌, filter, filter_map, slice_get, Option, Some, None, ap, refl, sym, subst, ◌∙◌, ⊎_elim}
-use Rattle.std.specs.Prelude.{◌⊎◌, is_none}
+use Rattle.std.specs.Prelude.{is_none}
 use Rattle.std.specs.Option.{option_map, option_and_then}
 use Rattle.std.specs.List.{AllByRecursion, concat, list_any, cons_option}
 use Rattle.std.proofs.lemmas.Option.{same_Some}
@@ -20,28 +20,29 @@ use Rattle.pipe_agreement.specs.Prefix.{IsPrefix}
 use Rattle.usb_base.specs.declared.reports.Report.{Report}
 use Rattle.usb_bus.specs.Bus.{Fixed}
 use Rattle.report_streams.specs.Reports.{WholeReport, is_end, is_pending}
-use Rattle.report_streams.specs.Streams.{is_refused, command_in, accepted_in, open_in, has_stream, items_of, stream_by, told, told_in, ends_once, ends_whole, AreBytesRight, IsRightStream, AreRightStreams}
+use Rattle.report_streams.specs.Streams.{is_refused, command_in, accepted_in, open_in, opened, has_stream, items_of, stream_by, told, told_in, ends_once, ends_whole, AreBytesRight, IsRightStream}
 use Rattle.driver_rows.specs.declared.content.Endpoint.{Endpoint}
 use Rattle.driver_rows.specs.DriverContent.{ended}
 use Rattle.told_endpoints.specs.Telling.{named_of, named_in, lines_in, IsToldTo, TellsEach}
 use Rattle.told_endpoints.proofs.Lines.{once_without}
 use Rattle.bus_world.specs.World.{World}
 use Rattle.right_reports.specs.WorldReport.{closings_of, report_of}
+use Rattle.right_reports.specs.Ins.{AreRightInStreams}
 use Rattle.right_reports.specs.Laws.{BeginsEach}
 use Rattle.right_reports.proofs.Named.{HasNamed, NoneNamed, search, named_is, none_pending}
-use Rattle.chained_transfers.specs.Receives.{IsReceiving, OpensReceiving, ReceivesLine, ReceivesOnly}
+use Rattle.chained_transfers.specs.Bulk.{IsDataWay, IsBulk, OpensBulk, BulkLine, BulkOnly, receives}
 
 -- ---- lists
 
-all_filtered : {X : Type 0} (P : X → Type 0) (p : X → Bool) (xs : List X) → AllByRecursion P xs → AllByRecursion P (filter p xs)
-all_filtered P p [] k = tt
-all_filtered P p (x ∷ xs) k = kept (p x) (all_filtered P p xs k.1)
+all_kept : {X : Type 0} (Q P : X → Type 0) (p : X → Bool) (xs : List X) → ((x : X) → Q x → p x ≡ true → P x) → AllByRecursion Q xs → AllByRecursion P (filter p xs)
+all_kept Q P p [] gives k = tt
+all_kept Q P p (x ∷ xs) gives k = kept (p x) refl (all_kept Q P p xs gives k.1)
   where
-    kept : (b : Bool) → AllByRecursion P (filter p xs) → AllByRecursion P (if b then x ∷ filter p xs else filter p xs)
-    kept true rest = (k.0, rest)
-    kept false rest = rest
+    kept : (b : Bool) → p x ≡ b → AllByRecursion P (filter p xs) → AllByRecursion P (if b then x ∷ filter p xs else filter p xs)
+    kept true is rest = (gives x k.0 is, rest)
+    kept false is rest = rest
 
-all_mapped : {X Y : Type 0} (P : X → Type 0) (Q : Y → Type 0) (h : X → Option Y) (xs : List X) → ((x : X) (y : Y) → P x → h x ≡ Some y → Q y) → AllByRecursion P xs → AllByRecursion Q (filter_map h xs)
+pub all_mapped : {X Y : Type 0} (P : X → Type 0) (Q : Y → Type 0) (h : X → Option Y) (xs : List X) → ((x : X) (y : Y) → P x → h x ≡ Some y → Q y) → AllByRecursion P xs → AllByRecursion Q (filter_map h xs)
 all_mapped P Q h [] gives k = tt
 all_mapped P Q h (x ∷ xs) gives k = with_first (h x) refl (all_mapped P Q h xs gives k.1)
   where
@@ -51,27 +52,41 @@ all_mapped P Q h (x ∷ xs) gives k = with_first (h x) refl (all_mapped P Q h xs
 
 -- ---- what is opened
 
-accepted_by : (b : Bool) (l : Line) (cmd : Cmd) → ReceivesLine l → (if b then None else command_in l) ≡ Some cmd → OpensReceiving cmd
+accepted_by : (b : Bool) (l : Line) (cmd : Cmd) → BulkLine l → (if b then None else command_in l) ≡ Some cmd → OpensBulk cmd
 accepted_by true l cmd k is = absurd cc
-accepted_by false (lines.Command c) cmd k is = subst OpensReceiving (same_Some c cmd is) k
+accepted_by false (lines.Command c) cmd k is = subst OpensBulk (same_Some c cmd is) k
 accepted_by false (lines.Order event n) cmd k is = absurd cc
 accepted_by false (lines.Micro n) cmd k is = absurd cc
 
-opens_by : (cmd : Cmd) (desc : EpDesc) → OpensReceiving cmd → open_in cmd ≡ Some desc → IsReceiving desc
-opens_by (commands.OpenEp x) desc k is = subst IsReceiving (same_Some x desc is) k
+opens_by : (cmd : Cmd) (desc : EpDesc) → OpensBulk cmd → open_in cmd ≡ Some desc → IsBulk desc
+opens_by (commands.OpenEp x) desc k is = subst IsBulk (same_Some x desc is) k
 opens_by (commands.Get name len by) desc k is = absurd cc
 opens_by (commands.Put name bytes by) desc k is = absurd cc
 opens_by (commands.Control name setup bytes) desc k is = absurd cc
 opens_by (commands.Iso name count len seed) desc k is = absurd cc
 opens_by (commands.Cancel name) desc k is = absurd cc
 
-pub all_right : (s : Script) (r : WholeReport) → ReceivesOnly s → ((desc : EpDesc) → IsReceiving desc → IsRightStream s r desc.name) → AreRightStreams s r
+and_right : (a b : Bool) → (a && b) ≡ true → b ≡ true
+and_right true b is = is
+and_right false b is = absurd cc
+
+opened_bulk : (s : Script) (r : WholeReport) → BulkOnly s → AllByRecursion IsBulk (opened s r)
+opened_bulk s r k =
+    all_mapped OpensBulk IsBulk open_in (filter_map (accepted_in r) s.lines) opens_by
+    (all_mapped (λ line. BulkLine line.1) OpensBulk (accepted_in r) s.lines (λ line cmd bulk is. accepted_by (is_refused r line.0) line.1 cmd bulk is) k)
+
+all_right : (s : Script) (r : WholeReport) → BulkOnly s → ((desc : EpDesc) → IsBulk desc → receives desc.name.way ≡ true → IsRightStream s r desc.name) → AreRightInStreams s r
 all_right s r k each =
-    all_filtered (λ desc. IsRightStream s r desc.name) (λ desc. has_stream desc.kind) (filter_map open_in (filter_map (accepted_in r) s.lines))
-    (all_mapped OpensReceiving (λ desc. IsRightStream s r desc.name) open_in (filter_map (accepted_in r) s.lines) (λ cmd desc opens is. each desc (opens_by cmd desc opens is))
-    (all_mapped (λ line. ReceivesLine line.1) OpensReceiving (accepted_in r) s.lines (λ line cmd receives is. accepted_by (is_refused r line.0) line.1 cmd receives is) k))
+    all_kept IsBulk (λ desc. IsRightStream s r desc.name) (λ desc. has_stream desc.kind && receives desc.name.way) (opened s r)
+    (λ desc bulk is. each desc bulk (and_right (has_stream desc.kind) (receives desc.name.way) is)) (opened_bulk s r k)
 
 -- ---- one endpoint
+
+-- data of a bulk endpoint come to the host at an IN one alone
+pub in_way : (way : Way) → IsDataWay way → receives way ≡ true → way ≡ Ways.In
+in_way Ways.In moves is = refl
+in_way Ways.Out moves is = absurd cc
+in_way Ways.Ctl moves is = absurd moves
 
 bytes_right : (s : Script) (r : WholeReport) (name : EpName) → name.way ≡ Ways.In → IsPrefix (told r name) (concat (packets_of (items_of s name))) → AreBytesRight name.way s r name
 bytes_right s r name is k = subst (λ (way : Way). AreBytesRight way s r name) (sym is) (subst (λ (way : Way). IsPrefix (told r name) (stream_by way s r name)) (sym is) k)
@@ -102,7 +117,7 @@ module _ (s : Script) (fixed : Fixed) (w : World) (held told_each : ℕ → List
       t = tells.each k (named_of x) (ap (option_map named_of) here)
 
       front : IsPrefix (told_each k) (concat (packets_of (items_of s x.desc.name)))
-      front = begins k x here
+      front = begins k x here (ap receives way)
 
       once_by : (end : Option EndCause) → x.ended ≡ end → ends_once (lines_in x.desc.name w.driver.reports) ≡ true
       once_by None still = once_without (lines_in x.desc.name w.driver.reports) (t.going still)
@@ -127,5 +142,5 @@ module _ (s : Script) (fixed : Fixed) (w : World) (held told_each : ℕ → List
       subst (IsRightStream s r) k.same (is_told k.number k.endpoint k.here (ap (λ (n : EpName). n.way) k.same ∙ way) k.endpoint.ended refl))
       (λ (none : NoneNamed w.driver.endpoints name). nothing_told name way (tells.only name none)) (search w.driver.endpoints name)
 
-pub report_right : (s : Script) (fixed : Fixed) (w : World) (held told : ℕ → List ℕ) → ReceivesOnly s → TellsEach w.driver.reports w.driver.store (named_in w.driver.endpoints) held told → BeginsEach s w told → AreRightStreams s (report_of fixed w)
-report_right s fixed w held told receives tells begins = all_right s (report_of fixed w) receives (λ desc receiving. one_right s fixed w held told tells begins desc.name receiving.way)
+pub report_right : (s : Script) (fixed : Fixed) (w : World) (held told : ℕ → List ℕ) → BulkOnly s → TellsEach w.driver.reports w.driver.store (named_in w.driver.endpoints) held told → BeginsEach s w told → AreRightInStreams s (report_of fixed w)
+report_right s fixed w held told bulk tells begins = all_right s (report_of fixed w) bulk (λ desc is comes. one_right s fixed w held told tells begins desc.name (in_way desc.name.way is.way comes))

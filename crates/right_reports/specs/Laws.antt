@@ -1,27 +1,28 @@
 -- Laws of the report of a world (USB 2.0, 8.6).
-use Rattle.std.specs.Prelude.{◌≡◌, ℕ, List, slice_get, Some}
+use Rattle.std.specs.Prelude.{◌≡◌, ℕ, true, List, slice_get, Some}
 use Rattle.std.specs.List.{concat}
 use Rattle.script_types.specs.declared.scripts.Script.{Script}
 use Rattle.endpoint_script.specs.Items.{packets_of}
 use Rattle.pipe_agreement.specs.Prefix.{IsPrefix}
 use Rattle.usb_bus.specs.Bus.{Fixed}
 use Rattle.report_streams.specs.Reports.{whole_text}
-use Rattle.report_streams.specs.Streams.{items_of, AreRightStreams}
+use Rattle.report_streams.specs.Streams.{items_of}
 use Rattle.driver_rows.specs.declared.content.Endpoint.{Endpoint}
-use Rattle.chained_transfers.specs.Receives.{ReceivesOnly}
+use Rattle.chained_transfers.specs.Bulk.{receives, BulkOnly}
 use Rattle.told_endpoints.specs.Telling.{named_in, TellsEach}
 use Rattle.bus_world.specs.World.{World}
 use Rattle.bus_world.specs.Closing.{world_text}
 use Rattle.right_reports.specs.WorldReport.{report_of}
+use Rattle.right_reports.specs.Ins.{AreRightInStreams}
 
 -- the report is what is printed of it
 abbrev pub ReportIsPrinted : Type 0
 ReportIsPrinted = (fixed : Fixed) (w : World) → whole_text (report_of fixed w) ≡ world_text fixed w
 
--- what is told of each endpoint begins the packets that the script has for it
+-- what is told of each IN endpoint begins the packets that the script has for it
 abbrev pub BeginsEach : Script → World → (ℕ → List ℕ) → Type 0
-BeginsEach s w told = (e : ℕ) (x : Endpoint) → slice_get w.driver.endpoints e ≡ Some x → IsPrefix (told e) (concat (packets_of (items_of s x.desc.name)))
+BeginsEach s w told = (e : ℕ) (x : Endpoint) → slice_get w.driver.endpoints e ≡ Some x → receives x.desc.name.way ≡ true → IsPrefix (told e) (concat (packets_of (items_of s x.desc.name)))
 
 abbrev pub ReportIsRight : Type 0
-ReportIsRight = (s : Script) (fixed : Fixed) (w : World) (held told : ℕ → List ℕ) → ReceivesOnly s → TellsEach w.driver.reports w.driver.store (named_in w.driver.endpoints) held told
-    → BeginsEach s w told → AreRightStreams s (report_of fixed w)
+ReportIsRight = (s : Script) (fixed : Fixed) (w : World) (held told : ℕ → List ℕ) → BulkOnly s → TellsEach w.driver.reports w.driver.store (named_in w.driver.endpoints) held told
+    → BeginsEach s w told → AreRightInStreams s (report_of fixed w)

@@ -1,2 +1,4 @@
 pub mod WorldReport
+pub mod Ins
 pub mod Laws
+pub mod Samples

@@ -5,9 +5,12 @@ ghost use Rattle.report_streams.specs.Reports.{Pending};
 ghost use Rattle.report_streams.specs.Samples.{script_of, sender, bulk};
 ghost use Rattle.report_streams.specs.Streams.{AreRightStreams};
 ghost use Rattle.usb_bus.specs.Bus.{fixed_of};
+ghost use Rattle.chained_transfers.specs.Bulk.{BulkOnly};
 ghost use Rattle.chained_transfers.specs.Receives.{ReceivesOnly};
 ghost use Rattle.bus_world.specs.Opening.{opening_world};
 ghost use Rattle.right_reports.specs.WorldReport.{waiting_closing, report_of};
+ghost use Rattle.right_reports.specs.Ins.{AreRightInStreams};
+ghost use Rattle.right_reports.specs.Samples.{both_ways, told_by};
 
 /// A line tells what is pending, and none tells nothing.
 pub fn closing_lines()
@@ -17,7 +20,18 @@ pub fn closing_lines()
 
 /// A script whose one endpoint is a high-speed bulk IN one: before its first line nothing is told.
 pub fn before_the_first_line()
+    ensures bulk { BulkOnly (script_of (bulk sender) (Bytes (1 ∷ 2 ∷ []) ∷ []) []) }
     ensures receives { ReceivesOnly (script_of (bulk sender) (Bytes (1 ∷ 2 ∷ []) ∷ []) []) }
     ensures right { AreRightStreams (script_of (bulk sender) (Bytes (1 ∷ 2 ∷ []) ∷ []) [])
         (report_of (fixed_of (script_of (bulk sender) (Bytes (1 ∷ 2 ∷ []) ∷ []) [])) (opening_world (script_of (bulk sender) (Bytes (1 ∷ 2 ∷ []) ∷ []) []))) }
+{}
+
+/// A script of an IN endpoint and an OUT one: it is of bulk endpoints, and doesn't only receive.
+pub fn an_in_and_an_out()
+    ensures bulk { BulkOnly both_ways }
+    ensures not_receiving { ReceivesOnly both_ways → ⊥ }
+    ensures opening { AreRightInStreams both_ways (report_of (fixed_of both_ways) (opening_world both_ways)) }
+    ensures right { AreRightInStreams both_ways (told_by (1 ∷ 2 ∷ 9 ∷ [])) }
+    ensures out { AreRightStreams both_ways (told_by (1 ∷ 2 ∷ 9 ∷ [])) → ⊥ }
+    ensures wrong { AreRightInStreams both_ways (told_by (1 ∷ 3 ∷ 9 ∷ [])) → ⊥ }
 {}

@@ -1,4 +1,4 @@
--- What is told of each endpoint begins its packets.
+-- What is told of each IN endpoint begins its packets.
 use Rattle.std.proofs.Common.{◌≡◌, ◌≢◌, ℕ, ◌*◌, Bool, List, [], ◌∷◌, ◌++◌, Option, Some, None, ap, refl, sym, subst, ◌∙◌, ⊎_elim, inl, inr}
 use Rattle.std.specs.Prelude.{◌⊎◌}
 use Rattle.std.specs.List.{concat}
@@ -10,7 +10,7 @@ use Rattle.script_types.specs.declared.scripts.Script.{Script}
 use Rattle.endpoint_script.specs.Items.{packets_of}
 use Rattle.pipe_agreement.specs.Prefix.{IsPrefix}
 use Rattle.usb_bus.specs.Bus.{Fixed, opening_wired}
-use Rattle.report_streams.specs.Streams.{items_of, AreRightStreams}
+use Rattle.report_streams.specs.Streams.{items_of}
 use Rattle.ring_walk.specs.Ring.{Base}
 use Rattle.ring_streams.specs.Told.{Endpoint as Told}
 use Rattle.ring_pipes.specs.Bus.{Sender}
@@ -20,14 +20,15 @@ use Rattle.driver_rows.specs.declared.content.Command.{Command}
 use Rattle.driver_rows.specs.declared.content.Command.TheVariants as unfinished
 use Rattle.bus_world.specs.World.{World}
 use Rattle.world_streams.specs.Streaming.{Streams, Standing, IsStreaming, wired}
-use Rattle.chained_transfers.specs.Receives.{ReceivesOnly, Receives}
+use Rattle.chained_transfers.specs.Bulk.{BulkOnly, OnlyBulk}
 use Rattle.fed_queues.specs.Places.{IsMet, HaveStreams}
 use Rattle.told_queues.specs.Told.{ToldStands}
 use Rattle.opening_senders.specs.Own.{HasOwnDevices}
 use Rattle.opening_senders.proofs.Opening.{opening_sends}
 use Rattle.right_reports.specs.WorldReport.{report_of}
+use Rattle.right_reports.specs.Ins.{AreRightInStreams}
 use Rattle.right_reports.specs.Laws.{BeginsEach}
-use Rattle.right_reports.proofs.Right.{report_right}
+use Rattle.right_reports.proofs.Right.{in_way, report_right}
 use Rattle.right_worlds.specs.Right.{AreOfScript}
 
 -- ---- an endpoint is met, or is being opened
@@ -90,18 +91,18 @@ packets_begin script packets name xs own of_it way k = by_sender (sender_of (ope
 
 -- ---- the world
 
-pub world_right : (script : Script) (fixed : Fixed) (base : Base) (member : ℕ → Bool) (x : Streams) (s : Standing) (w : World) → ReceivesOnly script → HasOwnDevices script → AreOfScript script x.packets
-    → IsStreaming fixed base member x s w → Receives w.driver → HaveStreams w.driver x.streams x.endpoint → ToldStands w.driver s.hand s.parts s.reported → AreRightStreams script (report_of fixed w)
-world_right script fixed base member x s w only own of_it streaming receives streams told = report_right script fixed w told.held told.told only told.tells begins
+pub world_right : (script : Script) (fixed : Fixed) (base : Base) (member : ℕ → Bool) (x : Streams) (s : Standing) (w : World) → BulkOnly script → HasOwnDevices script → AreOfScript script x.packets
+    → IsStreaming fixed base member x s w → OnlyBulk w.driver → HaveStreams w.driver x.streams x.endpoint → ToldStands w.driver s.hand s.parts s.reported → AreRightInStreams script (report_of fixed w)
+world_right script fixed base member x s w only own of_it streaming bulk streams told = report_right script fixed w told.held told.told only told.tells begins
   where
     begins : BeginsEach script w told.told
-    begins e z here =
+    begins e z here comes =
         ⊎_elim (λ (opens : w.driver.command ≡ Some (unfinished.Open z.queue)).
         subst (λ (xs : List ℕ). IsPrefix xs (concat (packets_of (items_of script z.desc.name)))) (sym (told.opening e z here opens)) (concat (packets_of (items_of script z.desc.name)), refl))
         (λ (meets : IsMet w.driver z).
         let has = streams.each e z here meets in
         let front : IsPrefix (s.reported (32 * z.queue)) (concat (x.packets (x.endpoint (32 * z.queue)).addr (x.endpoint (32 * z.queue)).ep)) =
-        reported_begins x.stream x.packets sender_of member x.streams x.endpoint s.acc s.parts s.hand (wired fixed w) s.order s.out s.reported (32 * z.queue) streaming.piped streaming.right has.0 in
+        reported_begins x.stream x.packets sender_of member x.streams x.endpoint s.acc s.parts s.hand (wired fixed w) s.order s.out s.reported (32 * z.queue) streaming.piped streaming.right (has.0 ∙ comes) in
         subst (λ (xs : List ℕ). IsPrefix xs (concat (packets_of (items_of script z.desc.name)))) (sym (told.met e z here meets))
-        (packets_begin script x.packets z.desc.name (s.reported (32 * z.queue)) own of_it (receives.endpoints e z here).receives.way
+        (packets_begin script x.packets z.desc.name (s.reported (32 * z.queue)) own of_it (in_way z.desc.name.way (bulk.endpoints e z here).bulk.way comes)
         (subst (λ (t : Told). IsPrefix (s.reported (32 * z.queue)) (concat (x.packets t.addr t.ep))) has.1 front))) (met_or_not w.driver.command z.queue)

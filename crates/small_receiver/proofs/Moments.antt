@@ -1,6 +1,6 @@
--- What the driver of the small script has to do at its moments.
-use Rattle.std.proofs.Common.{◌≡◌, [], ◌∷◌, ◌++◌, replicate, Some, None, refl}
-use Rattle.word_mem.specs.Memory.{filled}
+-- What the drivers of the small scripts have to do at their moments.
+use Rattle.std.proofs.Common.{◌≡◌, [], ◌∷◌, ◌++◌, map, replicate, Some, None, refl}
+use Rattle.word_mem.specs.Memory.{filled, word_at}
 use Rattle.word_mem.specs.declared.blocks.BlockState.TheVariants.{Free, Lent}
 use Rattle.word_mem.specs.Views.{words_in, with_words_in}
 use Rattle.word_mem.specs.Free.{lowest_run}
@@ -22,7 +22,9 @@ use Rattle.driver_rows.specs.Harvests.{buffer_bytes, moved_bytes, bytes_now}
 use Rattle.driver_rows.specs.Rows.{driver_row, free_qtds, free_transfers}
 use Rattle.bus_world.specs.World.{driver_parts}
 use Rattle.bus_world.specs.Orders.{ticks}
-use Rattle.small_receiver.specs.Samples.{desc, words, world_at, row_at, over}
+use Rattle.bus_world.specs.Budgets.{moment}
+use Rattle.endpoint_script.specs.Device.{taken_of}
+use Rattle.small_receiver.specs.Samples.{desc, words, world_at, row_at, over, sink, one_put, put_words, put_at, put_row}
 
 pub an_open :
     ((world_at 1).driver.command ≡ Some (unfinished.Open 130))
@@ -65,3 +67,36 @@ pub two :
     × (driver_row (driver_parts over.world) ≡ rows.Rest)
 unfolding ticks lowest_run filled words_in with_words_in store_words lend_runs first_bad_bit link_read qtd_link_read link_word qtd_link_word token_word token_at qtd_words qtd_bad qtd_at qtd_read qh_words qh_bad qh_at qh_read words_from put_byte places bytes_at put_bytes reached all_reached stored loaded advanced settled_queue moved overlay_after written_back raised reloaded counted_queue buffer_bytes moved_bytes bytes_now free_qtds free_transfers
 two = (refl, refl, refl, refl, refl)
+
+pub put_open :
+    ((put_at 1).driver.command ≡ Some (unfinished.Open 130))
+    × ((put_at 1).driver.made ≡ 0)
+    × ((put_at 2).driver.command ≡ Some (unfinished.Open 130))
+    × ((put_at 2).driver.made ≡ 1)
+unfolding ticks lowest_run filled with_words_in store_words lend_runs qh_words qtd_words
+put_open = (refl, refl, refl, refl)
+
+pub a_put :
+    ((put_at 5).driver.command ≡ Some (unfinished.Publish 132 put_words))
+    × ((put_at 5).driver.made ≡ 0)
+    × ((put_at 5).driver.book.taken ≡ 133 ∷ 134 ∷ [])
+    × (word_at (put_at 5).memory 4288 ≡ 3339)
+    × (put_row 5 ≡ rows.Lend)
+    × ((put_at 6).driver.command ≡ Some (unfinished.Publish 132 put_words))
+    × ((put_at 6).driver.made ≡ 1)
+    × (put_row 13 ≡ rows.Store 132 4232 167040)
+    × ((put_at 14).driver.command ≡ None)
+unfolding ticks lowest_run filled words_in with_words_in store_words lend_runs first_bad_bit link_read qtd_link_read link_word qtd_link_word token_word token_at qtd_words qtd_bad qtd_at qtd_read qh_words qh_bad qh_at qh_read words_from put_byte places bytes_at put_bytes reached all_reached stored loaded advanced settled_queue moved overlay_after written_back raised reloaded counted_queue buffer_bytes moved_bytes bytes_now free_qtds free_transfers
+a_put = (refl, refl, refl, refl, refl, refl, refl, refl, refl)
+
+pub is_sent :
+    (put_row 28 ≡ rows.Harvest 0 0 (results.Ended 2 kinds.Done))
+    × ((put_at 29).driver.reports ≡ record { name = sink.name; what = kinds.Done; from = 0; len = 2 } ∷ [])
+    × ((put_at 29).driver.store ≡ 11 ∷ 13 ∷ [])
+    × (put_row 30 ≡ rows.ReleaseTransfer 0)
+    × (put_row 31 ≡ rows.Rest)
+    × ((moment one_put 200).orders ≡ [])
+    × (map (λ d. taken_of d sink.name) (put_at 200).bus.devices ≡ (11 ∷ 13 ∷ []) ∷ [])
+    × ((put_at 200).memory.states ≡ replicate 132 Lent ++ Free ∷ Lent ∷ replicate 122 Free)
+unfolding ticks lowest_run filled words_in with_words_in store_words lend_runs first_bad_bit link_read qtd_link_read link_word qtd_link_word token_word token_at qtd_words qtd_bad qtd_at qtd_read qh_words qh_bad qh_at qh_read words_from put_byte places bytes_at put_bytes reached all_reached stored loaded advanced settled_queue moved overlay_after written_back raised reloaded counted_queue buffer_bytes moved_bytes bytes_now free_qtds free_transfers
+is_sent = (refl, refl, refl, refl, refl, refl, refl, refl)

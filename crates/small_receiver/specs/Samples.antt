@@ -1,5 +1,5 @@
--- A small script whose driver only receives (EHCI 1.0, 4.8.1 and 4.10; USB 2.0, 8.6), for worked rows: the endpoint 1 IN of device 3, which has a packet of
--- one byte, is opened, and one byte is asked of it.
+-- Small scripts of bulk endpoints (EHCI 1.0, 4.8.1 and 4.10; USB 2.0, 8.6), for worked rows: the endpoint 1 IN of device 3, which has a packet of one byte, is
+-- opened, and one byte is asked of it.
 --     desc             the endpoint
 --     receiver         the script: the driver has two events for the open, and nine for the get; then two microframes pass
 --     words            those of the get's one qTD: it leads to that in block 133, and asks for a byte of the buffer in block 134
@@ -7,6 +7,9 @@
 --     row_at k         the row that its driver has next
 --     two_gets         another script: of two packets of one byte 600 are asked, in two qTDs, and then one
 --     over             what it is once all its lines were carried out
+--     one_put          a third script: two bytes are put to the endpoint 2 OUT
+--     put_words        those of the put's one qTD, which has no alternate link
+--     put_at k, put_row k     its world and its driver's row at its moments
 use Rattle.std.specs.Prelude.{ℕ, List, [], ◌∷◌, None}
 use Rattle.usb_base.specs.declared.commands.Cmd.{Cmd}
 use Rattle.usb_base.specs.declared.commands.Cmd.TheVariants as commands
@@ -70,3 +73,25 @@ two_gets = record receiver {
 
 abbrev pub over : OrderedWorld
 over = moment two_gets 200
+
+-- ---- a put
+
+abbrev pub sink : EpDesc
+sink = record desc { name = record { addr = 3; num = 2; way = ways.Out } }
+
+abbrev pub one_put : Script
+one_put = record receiver {
+  devices = record { addr = 3; speed = speeds.High; eps = record { desc = sink; items = []; room = 2 } ∷ [] } ∷ [];
+  endpoints = sink.name ∷ [];
+  lines = (5, lines.Command (commands.OpenEp sink)) ∷ (6, lines.Order events.D 2) ∷ (7, lines.Command (commands.Put sink.name (11 ∷ 13 ∷ []) 512)) ∷ (8, lines.Order events.D 9)
+      ∷ (9, lines.Micro 2) ∷ [];
+}
+
+abbrev pub put_words : List ℕ
+put_words = 4256 ∷ 1 ∷ 167040 ∷ 4288 ∷ 0 ∷ 0 ∷ 0 ∷ 0 ∷ []
+
+abbrev pub put_at : ℕ → World
+put_at k = (moment one_put k).world
+
+abbrev pub put_row : ℕ → DriverRow
+put_row k = driver_row (driver_parts (put_at k))

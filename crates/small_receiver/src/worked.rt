@@ -1,13 +1,16 @@
 //! Worked moments, which the check computes.
-ghost use Rattle.std.specs.Prelude.{◌≡◌, [], ◌∷◌, ◌++◌, replicate, Some, None};
+ghost use Rattle.std.specs.Prelude.{◌≡◌, [], ◌∷◌, ◌++◌, map, replicate, Some, None};
 ghost use Rattle.usb_base.specs.declared.reports.What.TheVariants as kinds;
 ghost use Rattle.word_mem.specs.declared.blocks.BlockState.TheVariants.{Free, Lent};
+ghost use Rattle.word_mem.specs.Memory.{word_at};
+ghost use Rattle.endpoint_script.specs.Device.{taken_of};
 ghost use Rattle.driver_rows.specs.declared.content.Command.TheVariants as unfinished;
 ghost use Rattle.driver_rows.specs.declared.rows.DriverRow.TheVariants as rows;
 ghost use Rattle.driver_rows.specs.declared.rows.Found.TheVariants as results;
 ghost use Rattle.driver_rows.specs.Rows.{driver_row};
 ghost use Rattle.bus_world.specs.World.{driver_parts};
-ghost use Rattle.small_receiver.specs.Samples.{desc, words, world_at, row_at, over};
+ghost use Rattle.bus_world.specs.Budgets.{moment};
+ghost use Rattle.small_receiver.specs.Samples.{desc, words, world_at, row_at, over, sink, one_put, put_words, put_at, put_row};
 
 /// The structures of the open are lent: the queue head in block 130, its inactive qTD in block 132. Then the head of the ring, in block 128, gets its link.
 pub fn an_open()
@@ -50,4 +53,30 @@ pub fn two_gets()
     ensures bytes { over.world.driver.store ≡ 5 ∷ 7 ∷ [] }
     ensures blocks { over.world.memory.states ≡ replicate 133 Lent ++ replicate 123 Free }
     ensures rests { driver_row (driver_parts over.world) ≡ rows.Rest }
+{}
+
+/// The first qTD of the put is to stand in block 132, as that of a get. Its bytes are written into a buffer, in block 134, before both are lent.
+pub fn a_put()
+    ensures asked { (put_at 5).driver.command ≡ Some (unfinished.Publish 132 put_words) }
+    ensures none_made { (put_at 5).driver.made ≡ 0 }
+    ensures taken { (put_at 5).driver.book.taken ≡ 133 ∷ 134 ∷ [] }
+    ensures written { word_at (put_at 5).memory 4288 ≡ 3339 }
+    ensures to_lend { put_row 5 ≡ rows.Lend }
+    ensures lent { (put_at 6).driver.command ≡ Some (unfinished.Publish 132 put_words) }
+    ensures one_made { (put_at 6).driver.made ≡ 1 }
+    ensures last_store { put_row 13 ≡ rows.Store 132 4232 167040 }
+    ensures published { (put_at 14).driver.command ≡ None }
+{}
+
+/// Seven events of the controller later the qTD is done: both bytes are told to be sent, and the transfer is given back. The device has them, once and in order, and
+/// of the blocks the first qTD's are Free: the inactive one at the end of the queue stands behind it.
+pub fn it_is_sent()
+    ensures to_harvest { put_row 28 ≡ rows.Harvest 0 0 (results.Ended 2 kinds.Done) }
+    ensures told { (put_at 29).driver.reports ≡ record { name = sink.name; what = kinds.Done; from = 0; len = 2 } ∷ [] }
+    ensures its_bytes { (put_at 29).driver.store ≡ 11 ∷ 13 ∷ [] }
+    ensures to_return { put_row 30 ≡ rows.ReleaseTransfer 0 }
+    ensures rests { put_row 31 ≡ rows.Rest }
+    ensures carried { (moment one_put 200).orders ≡ [] }
+    ensures sent { map (λ d. taken_of d sink.name) (put_at 200).bus.devices ≡ (11 ∷ 13 ∷ []) ∷ [] }
+    ensures blocks { (put_at 200).memory.states ≡ replicate 132 Lent ++ Free ∷ Lent ∷ replicate 122 Free }
 {}

@@ -127,7 +127,7 @@ module _ (d f : DriverContent) (parts : StructureSets) (order : ℕ → ℕ → 
     abbrev n : ℕ
     n = 32 * x.queue
 
-    here_fed : (i : ℕ) → i < y.qtds → IsPieceFed (parts n) (note_at d.notes (piece_at note y.first i)) (piece_at note y.first i) (piece_at note y.first y.qtds)
+    here_fed : (i : ℕ) → i < y.qtds → IsPieceFed y.sort (parts n) (note_at d.notes (piece_at note y.first i)) (piece_at note y.first i) (piece_at note y.first y.qtds)
     here_fed i below =
         let none : unpublished_of d t y ≡ 0 = none_yet d.command d.made y.qtds (nat_eq (suc t) (length d.transfers)) k.idle in
         fed.pieces t i y x k.here k.held at (omega (arith, none)) below

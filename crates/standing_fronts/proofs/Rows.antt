@@ -12,19 +12,20 @@ use Rattle.usb_base.specs.declared.reports.What.{What}
 use Rattle.usb_base.specs.declared.reports.What.TheVariants as lines
 use Rattle.link_words.specs.declared.fields.ShortLink.{ShortLink}
 use Rattle.link_words.specs.declared.kinds.QtdLink.TheVariants as qtd_links
-use Rattle.link_words.specs.Links.{qtd_link_of}
+use Rattle.link_words.specs.Links.{qtd_link_of, no_qtd}
 use Rattle.qh_qtd.specs.declared.token.Token.{Token}
 use Rattle.driver_rows.specs.declared.content.Endpoint.{Endpoint}
 use Rattle.driver_rows.specs.declared.content.Transfer.{Transfer}
 use Rattle.driver_rows.specs.declared.content.QtdNote.{QtdNote}
+use Rattle.driver_rows.specs.declared.content.Sort.{Sort}
 use Rattle.driver_rows.specs.declared.content.Sort.TheVariants as sorts
 use Rattle.driver_rows.specs.declared.rows.DriverRow.TheVariants as rows
 use Rattle.driver_rows.specs.declared.rows.Found.{Found}
 use Rattle.driver_rows.specs.declared.rows.Found.TheVariants as founds
 use Rattle.driver_rows.specs.DriverContent.{DriverContent}
 use Rattle.driver_rows.specs.Words.{to_qtd}
-use Rattle.driver_rows.specs.Harvests.{note_at, token_in, halt_of, moved_of, done_of, ends_by, found_in, end_of, is_stall, noted}
-use Rattle.driver_rows.specs.Rows.{Parts, found_of, served, moved_on, told_with, goes_on, after_end, harvested_as, after_harvest, after_driver_row}
+use Rattle.driver_rows.specs.Harvests.{note_at, token_in, is_get, halt_of, moved_of, done_of, ends_by, found_in, end_of, is_stall, noted}
+use Rattle.driver_rows.specs.Rows.{Parts, served, moved_on, told_with, goes_on, after_end, harvested_as, after_harvest, after_driver_row}
 use Rattle.run_owners.specs.Due.{IsHarvestDue}
 use Rattle.run_owners.specs.Kept.{HasOwners}
 use Rattle.run_owners.specs.Leaving.{owes}
@@ -36,9 +37,10 @@ use Rattle.chained_transfers.specs.Turns.{IsAtPlace, turn_of}
 use Rattle.chained_transfers.specs.Out.{passed}
 use Rattle.chained_transfers.proofs.Harvested.{piece_next, note_same, not_served, no_stall}
 use Rattle.chained_transfers.proofs.Harvesting.{waits_is}
+use Rattle.chained_transfers.proofs.Ways.{moves_queued, found_by}
 use Rattle.harvested_streams.proofs.Harvesting.{token_read}
 use Rattle.lent_structures.specs.Structures.{Element, StructureSets, Tells}
-use Rattle.fed_queues.specs.Fed.{IsPieceFed, unpublished_of, AreFed}
+use Rattle.fed_queues.specs.Fed.{alternate_by, IsPieceFed, unpublished_of, AreFed}
 use Rattle.fed_queues.specs.Places.{AreStillOut}
 use Rattle.released_queues.specs.Fronts.{FrontsStand}
 use Rattle.released_queues.proofs.Queues.{none_yet}
@@ -49,9 +51,9 @@ use Rattle.standing_fronts.proofs.Harvested.{EndsThere, HarvestChanges, fronts_f
 
 -- ---- what a token tells
 
-pub record Ended (last : Bool) (t : Token) (what : What) : Type 0 where
+pub record Ended (sort : Sort) (last : Bool) (t : Token) (what : What) : Type 0 where
   pub done : t.active ≡ false
-  pub why : ((t.halted ≡ true) × (what ≡ halt_of t)) ⊎ ((t.halted ≡ false) × (ends_by sorts.Get last t.total ≡ true))
+  pub why : ((t.halted ≡ true) × (what ≡ halt_of t)) ⊎ ((t.halted ≡ false) × (ends_by sort last t.total ≡ true))
 
 same_what : (n m : ℕ) (what other : What) → founds.Ended n what ≡ founds.Ended m other → what ≡ other
 same_what n m what other is = cc
@@ -62,9 +64,9 @@ ended_by false true e k n halt what is = (refl, inl (refl, sym (same_what k n ha
 ended_by false false true k n halt what is = (refl, inr (refl, refl))
 ended_by false false false k n halt what is = absurd (cc)
 
-found_ended : (last : Bool) (note : QtdNote) (t : Token) (n : ℕ) (what : What) → found_in sorts.Get last note t ≡ founds.Ended n what → Ended last t what
-found_ended last note t n what is =
-    let both = ended_by t.active t.halted (ends_by sorts.Get last t.total) (moved_of note.told t.total) n (halt_of t) what is in
+found_ended : (sort : Sort) (last : Bool) (note : QtdNote) (t : Token) (n : ℕ) (what : What) → found_in sort last note t ≡ founds.Ended n what → Ended sort last t what
+found_ended sort last note t n what is =
+    let both = ended_by t.active t.halted (ends_by sort last t.total) (moved_of note.told t.total) n (halt_of t) what is in
     record { done = both.0; why = both.1 }
 
 -- a halt ends a bulk endpoint
@@ -79,14 +81,22 @@ halt_ends t is = halt_by t.missed t.babble (nat_eq t.cerr 0) is
 
 -- ---- where the last one leads
 
-pointer_by : (short : Bool) (alternate next : ShortLink) (to : ℕ) → alternate ≡ to_qtd to → ((short ≡ false) → next ≡ to_qtd to) → qtd_link_of (if short && not alternate.t then alternate else next) ≡ qtd_links.To (32 * to)
-pointer_by true alternate next to is last =
-    ap (λ (l : ShortLink). qtd_link_of (if true && not l.t then l else next)) is
-pointer_by false alternate next to is last = ap qtd_link_of (last refl)
+no_alternate : (short : Bool) (alternate next : ShortLink) (to : ℕ) → alternate ≡ no_qtd → next ≡ to_qtd to → qtd_link_of (if short && not alternate.t then alternate else next) ≡ qtd_links.To (32 * to)
+no_alternate true alternate next to is last = ap (λ (l : ShortLink). qtd_link_of (if true && not l.t then l else next)) is ∙ ap qtd_link_of last
+no_alternate false alternate next to is last = ap qtd_link_of last
 
-short_or_last : (last : Bool) (n : ℕ) → ends_by sorts.Get last n ≡ true → not (n == 0) ≡ false → last ≡ true
-short_or_last true n ends off = refl
-short_or_last false n ends off = sym off ∙ ends
+pointer_by : (sort : Sort) (short : Bool) (alternate next : ShortLink) (to : ℕ) → alternate ≡ alternate_by sort to → ((is_get sort && short) ≡ false → next ≡ to_qtd to)
+    → qtd_link_of (if short && not alternate.t then alternate else next) ≡ qtd_links.To (32 * to)
+pointer_by sorts.Get true alternate next to is last =
+    ap (λ (l : ShortLink). qtd_link_of (if true && not l.t then l else next)) is
+pointer_by sorts.Get false alternate next to is last = ap qtd_link_of (last refl)
+pointer_by sorts.Put short alternate next to is last = no_alternate short alternate next to is (last refl)
+pointer_by sorts.Request short alternate next to is last = no_alternate short alternate next to is (last refl)
+pointer_by sorts.Descriptor short alternate next to is last = no_alternate short alternate next to is (last refl)
+
+short_or_last : (sort : Sort) (last : Bool) (n : ℕ) → ends_by sort last n ≡ true → (is_get sort && not (n == 0)) ≡ false → last ≡ true
+short_or_last sort true n ends off = refl
+short_or_last sort false n ends off = sym off ∙ ends
 
 -- ---- contents
 
@@ -206,35 +216,35 @@ module _ (p : Parts) (e t : ℕ) (found : Found) (parts : StructureSets) (order 
     harvested = λ i u at. inl (kept i u at);
   }
 
-  -- the qTD that was read leads to the end
+  -- the qTD that was read leads to the end: a short one of a get by its alternate
   abbrev token : Token
   token = token_in p.memory y.place
 
   at_place : IsAtPlace (note_in d.notes) y
   at_place = turns.turns.places t y due.there held
 
-  ends_there : (what : What) → end_of x.desc.kind what ≡ None → Ended (nat_le y.left 1) token what → (c : Endpoint) → slice_get d.endpoints y.endpoint ≡ Some c → EndsThere d (parts (32 * c.queue)) y
+  ends_there : (what : What) → end_of x.desc.kind what ≡ None → Ended y.sort (nat_le y.left 1) token what → (c : Endpoint) → slice_get d.endpoints y.endpoint ≡ Some c → EndsThere d (parts (32 * c.queue)) y
   ends_there what none ended c at =
       let i : ℕ = y.qtds - y.left in
       let some = at_place.some in
       let most = at_place.most in
       let yet : unpublished_of d t y ≡ 0 = none_yet d.command d.made y.qtds (nat_eq (suc t) (length d.transfers)) due.idle in
-      let f : IsPieceFed (parts (32 * c.queue)) (note_at d.notes (piece_at (note_in d.notes) y.first i)) (piece_at (note_in d.notes) y.first i) (piece_at (note_in d.notes) y.first y.qtds) = fed.pieces t i y c due.there held at (omega (arith, yet)) (omega (arith, some, most)) in
+      let f : IsPieceFed y.sort (parts (32 * c.queue)) (note_at d.notes (piece_at (note_in d.notes) y.first i)) (piece_at (note_in d.notes) y.first i) (piece_at (note_in d.notes) y.first y.qtds) = fed.pieces t i y c due.there held at (omega (arith, yet)) (omega (arith, some, most)) in
       let place_is : y.place ≡ piece_at (note_in d.notes) y.first i = at_place.place in
       let here : parts (32 * c.queue) (32 * y.place) ≡ Some (Element f.qtd) = ap (λ (b : ℕ). parts (32 * c.queue) (32 * b)) place_is ∙ f.here in
       let read : token ≡ f.qtd.token = token_read p.memory parts (32 * c.queue) y.place f.qtd tells here in
-      let right : (token.halted ≡ false) × (ends_by sorts.Get (nat_le y.left 1) token.total ≡ true) =
+      let right : (token.halted ≡ false) × (ends_by y.sort (nat_le y.left 1) token.total ≡ true) =
       ⊎_elim (λ (halt : (token.halted ≡ true) × (what ≡ halt_of token)).
-      absurd (halt_ends token (ap (end_of kinds.Bulk) (sym halt.1) ∙ ap (λ (kind : EpKind). end_of kind what) (sym (turns.receives.endpoints e x due.here).receives.kind) ∙ none)))
-      (λ (goes : (token.halted ≡ false) × (ends_by sorts.Get (nat_le y.left 1) token.total ≡ true)). goes) ended.why in
+      absurd (halt_ends token (ap (end_of kinds.Bulk) (sym halt.1) ∙ ap (λ (kind : EpKind). end_of kind what) (sym (turns.bulk.endpoints e x due.here).bulk.kind) ∙ none)))
+      (λ (goes : (token.halted ≡ false) × (ends_by y.sort (nat_le y.left 1) token.total ≡ true)). goes) ended.why in
       record {
         qtd = f.qtd;
         here = here;
         done = ap (λ (k : Token). k.active) (sym read) ∙ ended.done;
         goes_on = ap (λ (k : Token). k.halted) (sym read) ∙ right.0;
-        leads = pointer_by (not (f.qtd.token.total == 0)) f.qtd.alternate f.qtd.next (piece_at (note_in d.notes) y.first y.qtds) f.noted.alternate
+        leads = pointer_by y.sort (not (f.qtd.token.total == 0)) f.qtd.alternate f.qtd.next (piece_at (note_in d.notes) y.first y.qtds) f.noted.alternate
             (λ off.
-            let last : nat_le y.left 1 ≡ true = short_or_last (nat_le y.left 1) token.total right.1 (ap (λ (k : Token). not (k.total == 0)) read ∙ off) in
+            let last : nat_le y.left 1 ≡ true = short_or_last y.sort (nat_le y.left 1) token.total right.1 (ap (λ (k : Token). is_get y.sort && not (k.total == 0)) read ∙ off) in
             let one : y.left ≤ 1 = few_by last in
             f.noted.next ∙ ap to_qtd (sym (piece_next (note_in d.notes) y.first i)) ∙ ap (λ (j : ℕ). to_qtd (piece_at (note_in d.notes) y.first j)) (let same : suc i ≡ y.qtds = omega (arith, one, some, most) in same));
       }
@@ -242,7 +252,7 @@ module _ (p : Parts) (e t : ℕ) (found : Found) (parts : StructureSets) (order 
       few_by : nat_le y.left 1 ≡ true → y.left ≤ 1
       few_by is = ⊎_elim (λ (more : 1 < y.left). absurd (true≢false (sym is ∙ grind (arith, nat_tests)))) (λ (few : y.left ≤ 1). few) (cases_lt 1 y.left)
 
-  done_changes : (n : ℕ) (what : What) → end_of x.desc.kind what ≡ None → Ended (nat_le y.left 1) token what → HarvestChanges d (served (goes_on (told_with d p.memory t y what x.desc.name (noted d.notes y.place n)) e t x) e) parts t y told_transfer
+  done_changes : (n : ℕ) (what : What) → end_of x.desc.kind what ≡ None → Ended y.sort (nat_le y.left 1) token what → HarvestChanges d (served (goes_on (told_with d p.memory t y what x.desc.name (noted d.notes y.place n)) e t x) e) parts t y told_transfer
   done_changes n what none ended = record {
     idle = due.idle;
     idle_now = due.idle;
@@ -269,24 +279,24 @@ module _ (p : Parts) (e t : ℕ) (found : Found) (parts : StructureSets) (order 
       ∙ ap (λ (o : Option Transfer). record p { driver = after_harvest d p.memory e t found (Some x) o }) due.there
       ∙ ap (λ (b : Bool). record p { driver = if b then served (harvested_as d p.memory e t x y found) e else d }) due.waits
 
-  found_is : found ≡ found_in sorts.Get (nat_le y.left 1) (note_at d.notes y.place) token
-  found_is = due.tells ∙ ap (found_of d p.memory y) (turns.receives.gets t y due.there)
+  found_is : found ≡ found_in y.sort (nat_le y.left 1) (note_at d.notes y.place) token
+  found_is = due.tells ∙ found_by d p.memory y y.sort (moves_queued d y (turns.bulk.moves t y due.there))
 
   -- what it leaves of any fact that a harvest leaves
   by_found : (P : DriverContent → Type 0) → ((f : DriverContent) (z : Transfer) → HarvestChanges d f parts t y z → P f) → (g : Found) → found ≡ g → P (served (harvested_as d p.memory e t x y g) e)
   by_found P each founds.Active is = each (served d e) y active_changes
   by_found P each (founds.Moved n) is = each (served (moved_on d t y n) e) moved_transfer (moved_changes n)
-  by_found P each (founds.Served errors) is = absurd (not_served (nat_le y.left 1) (note_at d.notes y.place) token found found_is errors is)
+  by_found P each (founds.Served errors) is = absurd (not_served y.sort (nat_le y.left 1) (note_at d.notes y.place) token found found_is errors is)
   by_found P each (founds.Ended n what) is = by_end (end_of x.desc.kind what) refl
     where
       by_end : (o : Option EndCause) → end_of x.desc.kind what ≡ o → P (served (after_end (told_with d p.memory t y what x.desc.name (noted d.notes y.place n)) e t x (is_stall what) o) e)
       by_end (Some cause) end_is = each (served (after_end (told_with d p.memory t y what x.desc.name (noted d.notes y.place n)) e t x (is_stall what) (Some cause)) e) told_transfer (ended_changes n what cause)
       by_end None end_is =
-          let bulk : x.desc.kind ≡ kinds.Bulk = (turns.receives.endpoints e x due.here).receives.kind in
+          let bulk : x.desc.kind ≡ kinds.Bulk = (turns.bulk.endpoints e x due.here).bulk.kind in
           let stall : is_stall what ≡ false = no_stall x.desc.kind what bulk end_is in
           let f0 : DriverContent = told_with d p.memory t y what x.desc.name (noted d.notes y.place n) in
           subst (λ (b : Bool). P (served (after_end f0 e t x b None) e)) (sym stall)
-          (each (served (goes_on f0 e t x) e) told_transfer (done_changes n what end_is (found_ended (nat_le y.left 1) (note_at d.notes y.place) token n what (sym found_is ∙ is))))
+          (each (served (goes_on f0 e t x) e) told_transfer (done_changes n what end_is (found_ended y.sort (nat_le y.left 1) (note_at d.notes y.place) token n what (sym found_is ∙ is))))
 
 pub harvest_keeps : HarvestKeepsFronts
 harvest_keeps p e t found parts order out later due owners turns tells fed rise still still_now stand =

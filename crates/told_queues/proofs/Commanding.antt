@@ -141,7 +141,7 @@ opened_told d m o hand parts reported opened others k = record {
     which : (e : ℕ) (y : Endpoint) → slice_get o.driver.endpoints e ≡ Some y → (slice_get d.endpoints e ≡ Some y) ⊎ ((e ≡ length d.endpoints) × (y ≡ x))
     which e y here = push_which d.endpoints x e y (ap (λ (g : Offered). slice_get g.driver.endpoints e) (sym opened.opens.is) ∙ here)
 
--- ---- a get is asked
+-- ---- a get or a put is asked
 
 pub asked_told : (d : DriverContent) (m : Mem) (o : Offered) (hand : Hand) (parts : StructureSets) (reported : ℕ → List ℕ) → IsAsked d m o → Stands (holding d.book m) → HasOwners d → AreThere d → AreAtPlaces (note_in d.notes) d.transfers
     → ToldStands d hand parts reported → ToldStands o.driver hand parts reported

@@ -1,5 +1,5 @@
--- Once a transfer that receives was accepted, its qTDs are written.
-use Rattle.std.proofs.Common.{◌≡◌, ℕ, suc, ◌-◌, ◌*◌, false, ◌||◌, List, [], ◌∷◌, ◌++◌, length, take, drop, get_or, replicate, slice_get, nat_eq, if◌then◌else◌, Some, None, option_map, Ok, ap, refl, sym, subst, ◌∙◌, arith}
+-- Once a transfer was accepted, its qTDs are written.
+use Rattle.std.proofs.Common.{◌≡◌, ◌≢◌, ℕ, suc, ◌-◌, ◌*◌, ◌<◌, ◌≤◌, false, ◌||◌, List, [], ◌∷◌, ◌++◌, length, take, drop, get_or, replicate, slice_get, inl, inr, Some, None, option_map, Ok, ap, refl, sym, subst, ◌∙◌, arith}
 use Rattle.std.specs.List.{AllByRecursion}
 use Rattle.std.proofs.lemmas.List.{length-replicate, take-append-drop}
 use Rattle.word_mem.specs.Memory.{Mem, IsShaped}
@@ -8,23 +8,22 @@ use Rattle.word_mem.proofs.Frames.{run_within}
 use Rattle.qh_qtd.specs.Qtd.{qtd_words}
 use Rattle.run_book.specs.declared.slots.Slot.{Slot}
 use Rattle.run_book.specs.declared.slots.Slot.TheVariants.{Empty, Keeps, Lends}
-use Rattle.run_book.specs.Book.{Book, Holding, holding, slot_of, store_words, Stands}
+use Rattle.run_book.specs.Book.{Holding, holding, slot_of, store_words, Stands}
 use Rattle.run_book.proofs.Standing.{keeps_at, keeps_all}
 use Rattle.driver_rows.specs.declared.content.Endpoint.{Endpoint}
 use Rattle.driver_rows.specs.declared.content.Transfer.{Transfer}
-use Rattle.driver_rows.specs.declared.content.QtdNote.{QtdNote}
 use Rattle.driver_rows.specs.declared.content.Stage.{Stage}
 use Rattle.driver_rows.specs.DriverContent.{DriverContent}
-use Rattle.driver_rows.specs.Words.{dummy_qtd, pieces, needs}
+use Rattle.driver_rows.specs.Words.{dummy_qtd, needs}
 use Rattle.driver_rows.specs.Harvests.{note_at}
 use Rattle.driver_rows.specs.Rows.{is_iso}
-use Rattle.driver_rows.specs.Offers.{Offered, Asked, take_runs, new_runs, note_stages, write_stages, write_bytes, sends, send_stages, new_transfer, with_queued, accepted_transfer}
-use Rattle.run_owners.specs.Owners.{Dummy, Element, runs_of_endpoint, runs_of_transfer, is_descriptor}
+use Rattle.driver_rows.specs.Offers.{Offered, Asked, take_runs, new_runs, note_stages, write_stages, send_stages, new_transfer, with_queued, accepted_transfer}
+use Rattle.run_owners.specs.Owners.{FrameList, Dummy, Element, runs_of_endpoint, runs_of_transfer, is_descriptor}
 use Rattle.run_owners.specs.Kept.{HasOwners}
 use Rattle.run_owners.specs.Accepts.{AreShort}
 use Rattle.run_owners.proofs.Runs.{placed_run}
 use Rattle.run_owners.proofs.Taking.{AreTaken, runs_taken}
-use Rattle.run_owners.proofs.Accepted.{drop_first, within_slots}
+use Rattle.run_owners.proofs.Accepted.{drop_first, within_slots, fresh_differs}
 use Rattle.run_owners.proofs.Chains.{buffers_of}
 use Rattle.run_owners.proofs.Transferred.{are_new, goes_on_alive}
 use Rattle.run_owners.proofs.Released.{set_here}
@@ -32,30 +31,26 @@ use Rattle.lent_runs.specs.Lent.{AreLent, IsLent as IsLentRun, still_lends}
 use Rattle.lent_runs.proofs.Laws.{idle_lent}
 use Rattle.ring_members.proofs.Placed.{has_queue}
 use Rattle.ring_members.proofs.Accepted.{shaped_taken}
-use Rattle.ring_members.proofs.Stores.{slots_apart}
+use Rattle.ring_members.proofs.Stores.{AreBuffersNotAt, slots_apart}
 use Rattle.driver_parts.specs.Inventory.{IsLent}
-use Rattle.driver_parts.specs.Laws.{AreIn}
-use Rattle.transfer_lends.specs.Written.{IsPageRun, AreRuns, AreAllApart, next_blocks, buffer_blocks, last_block, AreWritten, IsReceiving}
-use Rattle.transfer_lends.specs.Laws.{ReceivingIsWritten}
-use Rattle.transfer_lends.proofs.Lists.{apart_by_place, apart_left}
+use Rattle.transfer_lends.specs.Written.{IsPageRun, AreRuns, AreAllApart, next_blocks, buffer_blocks, last_block, AreNoted, AreWritten, AwaitsLend}
+use Rattle.transfer_lends.specs.Laws.{AcceptedAwaitsLend}
+use Rattle.transfer_lends.proofs.Lists.{IsOneOf, one_left, all_of, apart_by_place, apart_left, apart_halves}
 use Rattle.transfer_lends.proofs.Paged.{runs_paged, runs_left, runs_right, ones, runs_many}
 use Rattle.transfer_lends.proofs.Noted.{AreChainBlocks, next_blocks_are, last_block_is, buffer_blocks_are, stages_noted}
 use Rattle.transfer_lends.proofs.Chained.{IsBlock, chain_stored}
+use Rattle.transfer_lends.proofs.Sent.{buffers_not, chain_sent}
 
 -- ---- small facts
-
-sends_none : (s : Stage) → s.pid ≡ 1 → sends s ≡ 0
-sends_none s in_pid = ap (λ (p : ℕ). if nat_eq p 1 then 0 else s.long) in_pid
-
-none_sent : (k : Book) (m : Mem) (notes : List QtdNote) (ss : List Stage) (b : ℕ) (bytes : List ℕ) → AreIn ss → send_stages k m notes ss b bytes ≡ m
-none_sent k m notes [] b bytes all = refl
-none_sent k m notes (s ∷ ss) b bytes all =
-    ap (λ (n : ℕ). send_stages k (write_bytes k m (note_at notes b) (take n bytes) 0 (pieces n 4)) notes ss (note_at notes b).next (drop n bytes)) (sends_none s all.0)
-    ∙ none_sent k m notes ss (note_at notes b).next bytes all.1
 
 last_pushed : (ts : List Transfer) (t : Transfer) → slice_get (ts ++ t ∷ []) (length ts) ≡ Some t
 last_pushed [] t = refl
 last_pushed (u ∷ ts) t = last_pushed ts t
+
+none_zero : (xs : List ℕ) → ((i : ℕ) → i < length xs → get_or xs i 0 ≢ 0) → (c : ℕ) → IsOneOf c xs → c ≢ 0
+none_zero [] each c one = absurd one
+none_zero (x ∷ xs) each c (inl is) = λ same. each 0 (omega arith) (sym is ∙ same)
+none_zero (x ∷ xs) each c (inr there) = none_zero xs (λ i below. each (suc i) (omega (arith, below))) c there
 
 is_lent : (s : Slot) → IsLentRun s → IsLent s
 is_lent Empty lent = lent
@@ -76,11 +71,11 @@ blocks_are g (c ∷ cs) stands shape all =
 
 -- ---- the accepted transfer
 
-pub written_with : (d : DriverContent) (m : Mem) (number : ℕ) (x : Endpoint) (a : Asked) (g : Holding) (bs : List ℕ) (s : Stage) (ss : List Stage) → a.stages ≡ s ∷ ss → (has : HasOwners d) → AreLent d → d.command ≡ None → Stands (holding d.book m) → IsShaped m → take_runs (holding d.book m) (needs (s ∷ ss)) ≡ Ok g → AreTaken (holding d.book m) g (needs (s ∷ ss)) bs → slice_get d.endpoints number ≡ Some x → is_iso x.desc.kind || x.gone ≡ false → is_descriptor a.sort ≡ false → AreShort (s ∷ ss) → AreIn (s ∷ ss)
-    → IsReceiving (accepted_transfer d number x a g (get_or (take (suc (length ss)) bs) (length ss) 0) (note_stages d.notes (s ∷ ss) x.dummy (take (suc (length ss)) bs) (drop (suc (length ss)) bs))).driver
+pub written_with : (d : DriverContent) (m : Mem) (number : ℕ) (x : Endpoint) (a : Asked) (g : Holding) (bs : List ℕ) (s : Stage) (ss : List Stage) → a.stages ≡ s ∷ ss → (has : HasOwners d) → AreLent d → d.command ≡ None → Stands (holding d.book m) → IsShaped m → take_runs (holding d.book m) (needs (s ∷ ss)) ≡ Ok g → AreTaken (holding d.book m) g (needs (s ∷ ss)) bs → slice_get d.endpoints number ≡ Some x → is_iso x.desc.kind || x.gone ≡ false → is_descriptor a.sort ≡ false → AreShort (s ∷ ss) → AllByRecursion (λ r. r.pid ≤ 2) (s ∷ ss)
+    → AwaitsLend (accepted_transfer d number x a g (get_or (take (suc (length ss)) bs) (length ss) 0) (note_stages d.notes (s ∷ ss) x.dummy (take (suc (length ss)) bs) (drop (suc (length ss)) bs))).driver
     (accepted_transfer d number x a g (get_or (take (suc (length ss)) bs) (length ss) 0) (note_stages d.notes (s ∷ ss) x.dummy (take (suc (length ss)) bs) (drop (suc (length ss)) bs))).memory (length d.transfers)
     (runs_of_transfer (new_transfer number a x.dummy)) (runs_of_endpoint (with_queued x (get_or (take (suc (length ss)) bs) (length ss) 0) (length d.transfers))) s ss
-written_with d m number x a g bs s ss stages has lent idle stands shape runs_are taken here alive sort short ins =
+written_with d m number x a g bs s ss stages has lent idle stands shape runs_are taken here alive sort short pids =
     let n = suc (length ss) in
     let b = x.dummy in
     let qtds = take n bs in
@@ -116,8 +111,18 @@ written_with d m number x a g bs s ss stages has lent idle stands shape runs_are
     let written : AreWritten stored notes dummy ss first =
     chain_stored k g.memory notes dummy ss first (slots_apart g taken.stands) (blocks_are g (first ∷ next_blocks notes ss first) taken.stands (shaped_taken taken stands shape) kept)
     (apart_left (next_blocks notes (s ∷ ss) b) (buffer_blocks notes (s ∷ ss) b) (subst AreAllApart taken_are apart)) ends in
-    let memory : (accepted_transfer d number x a g dummy notes).memory ≡ stored =
-    none_sent k _ notes a.stages b a.bytes (subst AreIn (sym stages) ins) ∙ ap (λ (rs : List Stage). store_words k (write_stages k g.memory notes dummy (drop 1 rs) first) dummy (32 * dummy) (qtd_words dummy_qtd)) stages in
+    let noted : AreNoted slot notes (s ∷ ss) b = stages_noted slot d.notes (s ∷ ss) b qtds runs chain short buffer_runs in
+    -- the block 0 belongs to the frame list
+    let some : (c : ℕ) → IsOneOf c (next_blocks notes (s ∷ ss) b) → c ≢ 0 = λ c one.
+    none_zero bs (λ i below. fresh_differs i 0 taken below (placed_run 0 FrameList has.owned.each.list)) c
+    (subst (IsOneOf c) (take-append-drop n bs) (one_left c qtds runs (subst (IsOneOf c) next_are one))) in
+    let not : AllByRecursion (λ c. AreBuffersNotAt notes c b (suc (length ss))) (next_blocks notes (s ∷ ss) b) =
+    all_of (λ c. AreBuffersNotAt notes c b (suc (length ss))) (next_blocks notes (s ∷ ss) b)
+    (λ c one. buffers_not slot notes c (s ∷ ss) b (some c one) noted (λ j other. apart_halves (next_blocks notes (s ∷ ss) b) (buffer_blocks notes (s ∷ ss) b) c j (subst AreAllApart taken_are apart) one other)) in
+    let sent : AreWritten (send_stages k stored notes (s ∷ ss) b a.bytes) notes dummy ss first =
+    chain_sent k stored notes (s ∷ ss) b a.bytes (length g.memory.words) dummy ss first (slots_apart g taken.stands) (blocks_are g (first ∷ next_blocks notes ss first) taken.stands (shaped_taken taken stands shape) kept) not written in
+    let memory : (accepted_transfer d number x a g dummy notes).memory ≡ send_stages k stored notes (s ∷ ss) b a.bytes =
+    ap (λ (rs : List Stage). send_stages k (store_words k (write_stages k g.memory notes dummy (drop 1 rs) first) dummy (32 * dummy) (qtd_words dummy_qtd)) notes rs b a.bytes) stages in
     record {
       here = record {
         here = ap (option_map runs_of_transfer) (last_pushed d.transfers (new_transfer number a b));
@@ -131,14 +136,14 @@ written_with d m number x a g bs s ss stages has lent idle stands shape runs_are
       apart = apart;
       ends = ends;
       qtds_kept = kept;
-      noted = stages_noted slot d.notes (s ∷ ss) b qtds runs chain short buffer_runs;
-      words = subst (λ (q : Mem). AreWritten q notes dummy ss first) (sym memory) written;
+      noted = noted;
+      words = subst (λ (q : Mem). AreWritten q notes dummy ss first) (sym memory) sent;
       short = short;
-      ins = ins;
+      pids = pids;
     }
 
-pub receiving_is_written : ReceivingIsWritten
-receiving_is_written d m o why s ss stages ins has lent stands shape =
+pub accepted_awaits_lend : AcceptedAwaitsLend
+accepted_awaits_lend d m o why s ss stages pids has lent stands shape =
     let g = why.holding_after in
     let x = why.endpoint in
     let n = suc (length ss) in
@@ -155,5 +160,5 @@ receiving_is_written d m o why s ss stages ins has lent stands shape =
     ∙ ap (λ (i : ℕ). accepted_transfer d why.number x why.asked g (get_or (take n rs) i 0) (note_stages d.notes (s ∷ ss) x.dummy (take n rs) (drop n rs))) (let e : suc (length ss) - 1 ≡ length ss = omega arith in e) in
     let y = runs_of_transfer (new_transfer why.number why.asked x.dummy) in
     let z = runs_of_endpoint (with_queued x (get_or (take n rs) (length ss) 0) (length d.transfers)) in
-    subst (λ (f : Offered). IsReceiving f.driver f.memory (length d.transfers) y z s ss) (sym is)
-    (written_with d m why.number x why.asked g rs s ss stages has lent why.idle stands shape runs_are taken why.here alive why.sort (subst AreShort stages why.short) (subst AreIn stages ins))
+    subst (λ (f : Offered). AwaitsLend f.driver f.memory (length d.transfers) y z s ss) (sym is)
+    (written_with d m why.number x why.asked g rs s ss stages has lent why.idle stands shape runs_are taken why.here alive why.sort (subst AreShort stages why.short) (subst (AllByRecursion (λ r. r.pid ≤ 2)) stages pids))

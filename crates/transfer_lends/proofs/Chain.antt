@@ -18,7 +18,6 @@ use Rattle.driver_rows.specs.Words.{buffer_needs, dummy_qtd}
 use Rattle.driver_rows.specs.Harvests.{note_at}
 use Rattle.driver_rows.specs.Offers.{is_last}
 use Rattle.run_owners.specs.Accepts.{AreShort}
-use Rattle.driver_parts.specs.Laws.{AreIn}
 use Rattle.driver_lends.proofs.Opening.{dummy_range}
 use Rattle.lent_structures.specs.Structures.{Element}
 use Rattle.queue_parts.specs.Sound.{element_pages}
@@ -128,13 +127,13 @@ qtd_lot_is h after b t cs k lends run words range = record {
   named = record { at = b; one = inl refl; is = refl };
 }
 
-qtd_lots_are : (h : Holding) (after : Mem) (notes : List QtdNote) (dummy : ℕ) (ss : List Stage) (b : ℕ) → IsLending h after → LendsRuns (slot_of h.book.slots) (b ∷ next_blocks notes ss b) after → AllByRecursion (λ c. IsPageRun (slot_of h.book.slots c) 1) (b ∷ next_blocks notes ss b) → AreNoted (slot_of h.book.slots) notes ss b → AreShort ss → AreIn ss → AreWritten h.memory notes dummy ss b → AllByRecursion (IsLot (slot_of h.book.slots) after) (qtd_lots notes dummy ss b)
-qtd_lots_are h after notes dummy [] b k lends kept noted short ins words = (qtd_lot_is h after b dummy_qtd [] k lends kept.0 words dummy_range, tt)
-qtd_lots_are h after notes dummy (s ∷ ss) b k lends kept noted short ins words =
+qtd_lots_are : (h : Holding) (after : Mem) (notes : List QtdNote) (dummy : ℕ) (ss : List Stage) (b : ℕ) → IsLending h after → LendsRuns (slot_of h.book.slots) (b ∷ next_blocks notes ss b) after → AllByRecursion (λ c. IsPageRun (slot_of h.book.slots c) 1) (b ∷ next_blocks notes ss b) → AreNoted (slot_of h.book.slots) notes ss b → AreShort ss → AllByRecursion (λ r. r.pid ≤ 2) ss → AreWritten h.memory notes dummy ss b → AllByRecursion (IsLot (slot_of h.book.slots) after) (qtd_lots notes dummy ss b)
+qtd_lots_are h after notes dummy [] b k lends kept noted short pids words = (qtd_lot_is h after b dummy_qtd [] k lends kept.0 words dummy_range, tt)
+qtd_lots_are h after notes dummy (s ∷ ss) b k lends kept noted short pids words =
     let note = note_at notes b in (
       qtd_lot_is h after b (stage_qtd notes s b dummy (is_last ss)) (next_blocks notes (s ∷ ss) b) k lends kept.0 words.0
-          (qtd_range s note.next dummy note.buffer (is_last ss) ins.0 short.0 (blocks_low h note s k.stands k.shape noted.0)),
-      qtd_lots_are h after notes dummy ss note.next k (lends_fewer (slot_of h.book.slots) (next_blocks notes (s ∷ ss) b) (b ∷ next_blocks notes (s ∷ ss) b) after (λ c one. inr one) lends) kept.1 noted.1 short.1 ins.1 words.1,
+          (qtd_range s note.next dummy note.buffer (is_last ss) pids.0 short.0 (blocks_low h note s k.stands k.shape noted.0)),
+      qtd_lots_are h after notes dummy ss note.next k (lends_fewer (slot_of h.book.slots) (next_blocks notes (s ∷ ss) b) (b ∷ next_blocks notes (s ∷ ss) b) after (λ c one. inr one) lends) kept.1 noted.1 short.1 pids.1 words.1,
     )
 
 with_lot_is : (h : Holding) (after : Mem) (note : QtdNote) (s : Stage) (t : Qtd) (n : ℕ) (ls : List Lot) → IsLending h after → LendsRuns (slot_of h.book.slots) (take note.runs note.buffer) after → AreAllApart (take note.runs note.buffer) → IsStageNoted (slot_of h.book.slots) note s → s.long ≤ 20480 → s.long ≡ n → element_pages t ≡ pages_from note.buffer → t.offset ≡ 32 * (get_or note.buffer 0 0 % 128) → AllByRecursion (IsLot (slot_of h.book.slots) after) ls → AllByRecursion (IsLot (slot_of h.book.slots) after) (with_lot after t n (take note.runs note.buffer) ls)
@@ -173,11 +172,11 @@ all_both P [] ys one two = two
 all_both P (x ∷ xs) ys one two = (one.0, all_both P xs ys one.1 two)
 
 pub lots_are : (h : Holding) (after : Mem) (notes : List QtdNote) (dummy : ℕ) (s : Stage) (ss : List Stage) (b : ℕ) → IsLending h after → LendsRuns (slot_of h.book.slots) (next_blocks notes (s ∷ ss) b ++ buffer_blocks notes (s ∷ ss) b) after → AreAllApart (next_blocks notes (s ∷ ss) b ++ buffer_blocks notes (s ∷ ss) b) → AllByRecursion (λ c. IsPageRun (slot_of h.book.slots c) 1) (next_blocks notes (s ∷ ss) b)
-    → AreNoted (slot_of h.book.slots) notes (s ∷ ss) b → AreShort (s ∷ ss) → AreIn (s ∷ ss) → AreWritten h.memory notes dummy ss (note_at notes b).next → AllByRecursion (IsLot (slot_of h.book.slots) after) (lent_lots after notes dummy s ss b)
-lots_are h after notes dummy s ss b k lends apart kept noted short ins words =
+    → AreNoted (slot_of h.book.slots) notes (s ∷ ss) b → AreShort (s ∷ ss) → AllByRecursion (λ r. r.pid ≤ 2) (s ∷ ss) → AreWritten h.memory notes dummy ss (note_at notes b).next → AllByRecursion (IsLot (slot_of h.book.slots) after) (lent_lots after notes dummy s ss b)
+lots_are h after notes dummy s ss b k lends apart kept noted short pids words =
     let slot = slot_of h.book.slots in
     let qtds = next_blocks notes (s ∷ ss) b in
     let rest = buffer_blocks notes (s ∷ ss) b in
     all_both (IsLot slot after) (qtd_lots notes dummy ss (note_at notes b).next) (buffer_lots after notes dummy (s ∷ ss) b)
-    (qtd_lots_are h after notes dummy ss (note_at notes b).next k (lends_fewer slot qtds (qtds ++ rest) after (λ c one. one_left c qtds rest one) lends) kept noted.1 short.1 ins.1 words)
+    (qtd_lots_are h after notes dummy ss (note_at notes b).next k (lends_fewer slot qtds (qtds ++ rest) after (λ c one. one_left c qtds rest one) lends) kept noted.1 short.1 pids.1 words)
     (buffer_lots_are h after notes dummy (s ∷ ss) b k (lends_fewer slot rest (qtds ++ rest) after (λ c one. one_right c qtds rest one) lends) (apart_right qtds rest apart) noted short)

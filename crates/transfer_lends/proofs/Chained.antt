@@ -47,7 +47,7 @@ pub record IsBlock (k : Book) (size c : ℕ) : Type 0 where
   pub one : run.blocks ≡ 1
   pub room : 8 * c + 8 ≤ size
 
-block_has : (k : Book) (size c i : ℕ) → IsBlock k size c → i < 8 → SlotHas (slot_of k.slots c) ((32 * c + 4 * i) / 32)
+pub block_has : (k : Book) (size c i : ℕ) → IsBlock k size c → i < 8 → SlotHas (slot_of k.slots c) ((32 * c + 4 * i) / 32)
 block_has k size c i b below =
     let first = b.first in
     let one = b.one in

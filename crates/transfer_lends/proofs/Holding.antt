@@ -1,4 +1,4 @@
--- Each structure of a transfer that receives stands in memory once it is lent, in runs that were kept before.
+-- Each structure of a transfer stands in memory once it is lent, in runs that were kept before.
 use Rattle.std.proofs.Common.{◌≡◌, ℕ, zero, suc, ◌+◌, ◌-◌, ◌*◌, ◌/◌, ◌%◌, ◌<◌, ◌≤◌, Bool, List, [], ◌∷◌, length, take, get_or, Option, Some, ap, refl, sym, subst, ⊎_elim, arith}
 use Rattle.std.proofs.lemmas.Bool.{cases_lt}
 use Rattle.word_mem.specs.Runs.{Run}
@@ -84,8 +84,8 @@ alternate_range alternates.Nowhere next dummy = refl
 alternate_range alternates.Dummy next dummy = omega arith
 alternate_range alternates.Next next dummy = omega arith
 
-pub qtd_range : (s : Stage) (next dummy : ℕ) (buffer : List ℕ) (last : Bool) → s.pid ≡ 1 → s.long ≤ 20480 → ((i : ℕ) → get_or buffer i 0 < 32768) → IsQtdInRange (new_qtd s next dummy buffer last)
-qtd_range s next dummy buffer last in_pid short low =
+pub qtd_range : (s : Stage) (next dummy : ℕ) (buffer : List ℕ) (last : Bool) → s.pid ≤ 2 → s.long ≤ 20480 → ((i : ℕ) → get_or buffer i 0 < 32768) → IsQtdInRange (new_qtd s next dummy buffer last)
+qtd_range s next dummy buffer last few short low =
     let a = low 0 in
     let b = low 1 in
     let c = low 2 in
@@ -95,14 +95,14 @@ qtd_range s next dummy buffer last in_pid short low =
       (
         (alternate_range s.alternate next dummy, tt),
         (
-          (omega (arith, short), (omega arith, (omega arith, (omega (arith, in_pid), tt)))),
+          (omega (arith, short), (omega arith, (omega arith, (omega (arith, few), tt)))),
           ((omega (arith, a), (omega arith, tt)), ((omega (arith, b), tt), ((omega (arith, c), tt), ((omega (arith, d), tt), ((omega (arith, e), tt), tt))))),
         ),
       ),
     )
 
 -- the blocks of a buffer's runs lie in memory, and else 0 stands there
-past_zero : (k : ℕ) (xs : List ℕ) (i : ℕ) → length (take k xs) ≤ i → ((j : ℕ) → k ≤ j → get_or xs j 0 ≡ 0) → get_or xs i 0 ≡ 0
+pub past_zero : (k : ℕ) (xs : List ℕ) (i : ℕ) → length (take k xs) ≤ i → ((j : ℕ) → k ≤ j → get_or xs j 0 ≡ 0) → get_or xs i 0 ≡ 0
 past_zero zero xs i past rest = rest i (omega arith)
 past_zero (suc k) [] i past rest = refl
 past_zero (suc k) (x ∷ xs) zero past rest = absurd (omega (arith, past))

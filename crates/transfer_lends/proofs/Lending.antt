@@ -1,4 +1,4 @@
--- All that was taken for a transfer that receives is lent.
+-- All that was taken for a transfer is lent.
 use Rattle.std.proofs.Common.{◌≡◌, ℕ, suc, ◌⊎◌, List, [], ◌∷◌, length, take, ap, refl, sym, subst, ◌∙◌, ⊎_elim, inl, inr}
 use Rattle.std.specs.List.{AllByRecursion}
 use Rattle.word_mem.specs.Memory.{Mem, IsShaped}
@@ -13,7 +13,7 @@ use Rattle.run_owners.specs.Owners.{Owner, Element, Buffer, IsPlaced, ArePieces,
 use Rattle.run_owners.specs.Kept.{HasOwners}
 use Rattle.ring_members.proofs.Freed.{lent_words}
 use Rattle.driver_parts.specs.Inventory.{IsLent}
-use Rattle.transfer_lends.specs.Written.{IsPageRun, AreAllApart, next_blocks, buffer_blocks, last_block, AreNoted, IsReceiving}
+use Rattle.transfer_lends.specs.Written.{IsPageRun, AreAllApart, next_blocks, buffer_blocks, last_block, AreNoted, AwaitsLend}
 use Rattle.transfer_lends.specs.Laws.{lent_memory, lent_driver, items_of}
 use Rattle.transfer_lends.proofs.Lists.{IsOneOf, one_either, each_of}
 use Rattle.transfer_lends.proofs.Buffers.{KeepsAt, runs_keep}
@@ -33,7 +33,7 @@ buffers_keep slot notes (s ∷ ss) b c noted one =
     ⊎_elim (λ (mine : IsOneOf c cs). runs_keep slot (buffer_needs s.long) cs c noted.0.runs mine) (λ (rest : IsOneOf c (buffer_blocks notes ss note.next)). buffers_keep slot notes ss note.next c noted.1 rest)
     (one_either c cs (buffer_blocks notes ss note.next) one)
 
-pub taken_keep : (d : DriverContent) (m : Mem) (t : ℕ) (y : TransferRuns) (x : EndpointRuns) (s : Stage) (ss : List Stage) (c : ℕ) → IsReceiving d m t y x s ss → IsOneOf c d.book.taken → KeepsAt (slot_of d.book.slots) c
+pub taken_keep : (d : DriverContent) (m : Mem) (t : ℕ) (y : TransferRuns) (x : EndpointRuns) (s : Stage) (ss : List Stage) (c : ℕ) → AwaitsLend d m t y x s ss → IsOneOf c d.book.taken → KeepsAt (slot_of d.book.slots) c
 taken_keep d m t y x s ss c k one =
     let slot = slot_of d.book.slots in
     let qtds = next_blocks d.notes (s ∷ ss) y.first in
@@ -63,7 +63,7 @@ buffer_owner slot owner notes t (s ∷ ss) b c pieces one =
     (λ (rest : IsOneOf c (buffer_blocks notes ss note.next)). buffer_owner slot owner notes t ss note.next c pieces.1 rest)
     (one_either c cs (buffer_blocks notes ss note.next) one)
 
-pub taken_owner : (d : DriverContent) (m : Mem) (t : ℕ) (y : TransferRuns) (x : EndpointRuns) (s : Stage) (ss : List Stage) (c : ℕ) → IsReceiving d m t y x s ss → (has : HasOwners d) → IsOneOf c d.book.taken → IsOwnedBy has.owner t y.endpoint c
+pub taken_owner : (d : DriverContent) (m : Mem) (t : ℕ) (y : TransferRuns) (x : EndpointRuns) (s : Stage) (ss : List Stage) (c : ℕ) → AwaitsLend d m t y x s ss → (has : HasOwners d) → IsOneOf c d.book.taken → IsOwnedBy has.owner t y.endpoint c
 taken_owner d m t y x s ss c k has one =
     let slot = slot_of d.book.slots in
     let qtds = next_blocks d.notes (s ∷ ss) y.first in
@@ -79,7 +79,7 @@ taken_owner d m t y x s ss c k has one =
 
 -- ---- views after the lend
 
-pub lent_on_views : (d : DriverContent) (m : Mem) (t : ℕ) (y : TransferRuns) (x : EndpointRuns) (s : Stage) (ss : List Stage) → IsReceiving d m t y x s ss → (has : HasOwners d) → Stands (holding d.book m) → IsShaped m → IsLentOn (views_of d) (views_of (lent_driver d m)) has.owner t y x d.book.taken
+pub lent_on_views : (d : DriverContent) (m : Mem) (t : ℕ) (y : TransferRuns) (x : EndpointRuns) (s : Stage) (ss : List Stage) → AwaitsLend d m t y x s ss → (has : HasOwners d) → Stands (holding d.book m) → IsShaped m → IsLentOn (views_of d) (views_of (lent_driver d m)) has.owner t y x d.book.taken
 lent_on_views d m t y x s ss k has stands shape =
     let h = holding d.book m in
     record {
@@ -104,7 +104,7 @@ pub record AreLots (d : DriverContent) (m : Mem) (y : TransferRuns) (x : Endpoin
   pub runs : all_runs ls ≡ d.book.taken
   pub each : AllByRecursion (IsLot (slot_of d.book.slots) (lent_memory d m)) ls
 
-pub lots_there : (d : DriverContent) (m : Mem) (t : ℕ) (y : TransferRuns) (x : EndpointRuns) (s : Stage) (ss : List Stage) → IsReceiving d m t y x s ss → Stands (holding d.book m) → IsShaped m → AreLots d m y x s ss (lots_of d m y x s ss)
+pub lots_there : (d : DriverContent) (m : Mem) (t : ℕ) (y : TransferRuns) (x : EndpointRuns) (s : Stage) (ss : List Stage) → AwaitsLend d m t y x s ss → Stands (holding d.book m) → IsShaped m → AreLots d m y x s ss (lots_of d m y x s ss)
 unfolding lots_of
 lots_there d m t y x s ss k stands shape =
     let h = holding d.book m in
@@ -115,5 +115,5 @@ lots_there d m t y x s ss k stands shape =
       items = items_are after d.notes x.dummy s ss y.first;
       runs = runs_are slot after d.notes x.dummy s ss y.first k.noted ∙ sym k.taken;
       each = lots_are h after d.notes x.dummy s ss y.first (record { stands = stands; shape = shape; words = lent_words h }) (subst (λ (cs : List ℕ). LendsRuns slot cs after) k.taken lends)
-          (subst AreAllApart k.taken k.apart) k.qtds_kept k.noted k.short k.ins k.words;
+          (subst AreAllApart k.taken k.apart) k.qtds_kept k.noted k.short k.pids k.words;
     }

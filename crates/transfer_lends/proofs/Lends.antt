@@ -1,4 +1,4 @@
--- A transfer that receives is lent: the ring goes on with all of its structures.
+-- A transfer is lent: the ring goes on with all of its structures.
 use Rattle.std.proofs.Common.{◌≡◌, ℕ, ◌*◌, Bool, List, ◌∷◌, Some, option_map, ap, refl, sym, subst, ◌∙◌, ⊎_elim, inl, inr}
 use Rattle.word_mem.specs.Memory.{Mem}
 use Rattle.op_registers.specs.RegisterFile.{RegisterFile}
@@ -20,9 +20,9 @@ use Rattle.driver_parts.specs.Inventory.{sort_of, sorts_of, OfElement, IsDriverO
 use Rattle.driver_parts.specs.Driven.{DrivesRing}
 use Rattle.driver_parts.proofs.Lent.{lend_taken_leaves}
 use Rattle.driver_parts.proofs.Viewing.{advance_views, driven_views}
-use Rattle.transfer_lends.specs.Written.{AreAllApart, IsReceiving}
+use Rattle.transfer_lends.specs.Written.{AreAllApart, AwaitsLend}
 use Rattle.transfer_lends.specs.Pieces.{qtd_items, buffer_items, NamesLent}
-use Rattle.transfer_lends.specs.Laws.{lent_memory, lent_driver, HasPieces, LendReceivesDrives}
+use Rattle.transfer_lends.specs.Laws.{lent_memory, lent_driver, HasPieces, LendDrives}
 use Rattle.transfer_lends.proofs.Lists.{IsOneOf}
 use Rattle.transfer_lends.proofs.Lots.{items, lots_new, IsItem, item_either, all_found}
 use Rattle.transfer_lends.proofs.Owning.{transfer_on, IsToldOn, driven_lent}
@@ -32,7 +32,7 @@ use Rattle.transfer_lends.proofs.Joining.{joined_parts, beside_head, still_there
 use Rattle.transfer_lends.proofs.Joined.{Joins, standing, buffered, dummy_stands, elements_sound, names_lent, joined_own, first_publishable, elements_known, none_there, buffers_stay, none_at_zero}
 use Rattle.transfer_lends.proofs.Told.{first_told, item_owned}
 
-joins : (base : Base) (member : ℕ → Bool) (parts : StructureSets) (hand : Hand) (w : Walk) (r : RegisterFile) (m : Mem) (d : DriverContent) (t : ℕ) (y : TransferRuns) (x : EndpointRuns) (s : Stage) (ss : List Stage) → IsReceiving d m t y x s ss → (has : HasOwners d) → Stands (holding d.book m) → DrivesRing base member parts hand (place w r m) d → NamesLent (slot_of d.book.slots) (parts (32 * x.queue))
+joins : (base : Base) (member : ℕ → Bool) (parts : StructureSets) (hand : Hand) (w : Walk) (r : RegisterFile) (m : Mem) (d : DriverContent) (t : ℕ) (y : TransferRuns) (x : EndpointRuns) (s : Stage) (ss : List Stage) → AwaitsLend d m t y x s ss → (has : HasOwners d) → Stands (holding d.book m) → DrivesRing base member parts hand (place w r m) d → NamesLent (slot_of d.book.slots) (parts (32 * x.queue))
     → Joins (views_of d) (views_of (lent_driver d m)) has.owner t y x d.book.taken (lent_memory d m) parts (lots_of d m y x s ss) d.notes s ss
 joins base member parts hand w r m d t y x s ss k has stands drives names =
     let lots = lots_there d m t y x s ss k stands drives.ring.tells.shape in
@@ -48,7 +48,7 @@ joins base member parts hand w r m d t y x s ss k has stands drives names =
       chain = record { noted = k.noted; ends = k.ends; taken_is = k.taken; items = lots.items };
     }
 
-ring_goes_on : (base : Base) (member : ℕ → Bool) (parts : StructureSets) (hand : Hand) (w : Walk) (r : RegisterFile) (m : Mem) (d : DriverContent) (t : ℕ) (y : TransferRuns) (x : EndpointRuns) (s : Stage) (ss : List Stage) → IsReceiving d m t y x s ss → HasOwners d → Stands (holding d.book m) → DrivesRing base member parts hand (place w r m) d → NamesLent (slot_of d.book.slots) (parts (32 * x.queue))
+ring_goes_on : (base : Base) (member : ℕ → Bool) (parts : StructureSets) (hand : Hand) (w : Walk) (r : RegisterFile) (m : Mem) (d : DriverContent) (t : ℕ) (y : TransferRuns) (x : EndpointRuns) (s : Stage) (ss : List Stage) → AwaitsLend d m t y x s ss → HasOwners d → Stands (holding d.book m) → DrivesRing base member parts hand (place w r m) d → NamesLent (slot_of d.book.slots) (parts (32 * x.queue))
     → IsRing base member (joined_parts parts x (lots_of d m y x s ss)) hand (place w r (lent_memory d m))
 ring_goes_on base member parts hand w r m d t y x s ss k has stands drives names =
     let n = 32 * x.queue in
@@ -66,7 +66,7 @@ ring_goes_on base member parts hand w r m d t y x s ss k has stands drives names
     (λ on. let was = drives.ring.members n on in
     member_grown member n (parts n) (joined_parts parts x ls n) (λ a z there. still_there v u has.owner t y x d.book.taken after parts ls n a z j.joining there) (λ a z there. elements_sound j a z there) (joined_own j was.own) was)
 
-told_after : (base : Base) (member : ℕ → Bool) (parts : StructureSets) (hand : Hand) (w : Walk) (r : RegisterFile) (m : Mem) (d : DriverContent) (t : ℕ) (y : TransferRuns) (x : EndpointRuns) (s : Stage) (ss : List Stage) → IsReceiving d m t y x s ss → HasOwners d → Stands (holding d.book m) → DrivesRing base member parts hand (place w r m) d → NamesLent (slot_of d.book.slots) (parts (32 * x.queue))
+told_after : (base : Base) (member : ℕ → Bool) (parts : StructureSets) (hand : Hand) (w : Walk) (r : RegisterFile) (m : Mem) (d : DriverContent) (t : ℕ) (y : TransferRuns) (x : EndpointRuns) (s : Stage) (ss : List Stage) → AwaitsLend d m t y x s ss → HasOwners d → Stands (holding d.book m) → DrivesRing base member parts hand (place w r m) d → NamesLent (slot_of d.book.slots) (parts (32 * x.queue))
     → IsToldOn (views_of (lent_driver d m)) parts (joined_parts parts x (lots_of d m y x s ss)) y x d.book.taken
 told_after base member parts hand w r m d t y x s ss k has stands drives names =
     let n = 32 * x.queue in
@@ -96,8 +96,8 @@ told_after base member parts hand w r m d t y x s ss k has stands drives names =
           (all_found parts n (items ls) i a z there);
     }
 
-pub lend_receives_drives : LendReceivesDrives
-lend_receives_drives base member parts hand w r m d t y x s ss k has stands drives names =
+pub lend_drives : LendDrives
+lend_drives base member parts hand w r m d t y x s ss k has stands drives names =
     let n = 32 * x.queue in
     let ls = lots_of d m y x s ss in
     let lent = lent_driver d m in

@@ -16,4 +16,5 @@ pub mod Stays
 pub mod Paged
 pub mod Noted
 pub mod Chained
+pub mod Sent
 pub mod Accepting

@@ -40,5 +40,5 @@ written_stays d m new t y x s ss k stands same = record {
   noted = k.noted;
   words = chain_stays (holding d.book m) new d.notes x.dummy ss (note_at d.notes y.first).next stands same k.qtds_kept k.words;
   short = k.short;
-  ins = k.ins;
+  pids = k.pids;
 }

@@ -1,9 +1,10 @@
--- Laws of a transfer that receives, from its acceptance to its lend (EHCI 1.0, 3.5 and 4.10).
---     ReceivingIsWritten   once it was accepted, its qTDs are written; `new_qtds` are their blocks
+-- Laws of a transfer, from its acceptance to its lend (EHCI 1.0, 3.5 and 4.10).
+--     AcceptedAwaitsLend   once it was accepted, its qTDs are written; `new_qtds` are their blocks
 --     WrittenStays         the controller leaves them
 --     HasPieces ..         what the parts have once they are lent
---     LendReceivesDrives   where they are lent, the ring goes on with them
-use Rattle.std.specs.Prelude.{◌≡◌, ◌≢◌, ℕ, suc, ◌*◌, Bool, false, List, ◌∷◌, length, take, slice_index, Some, None, ◌⊎◌}
+--     LendDrives           where they are lent, the ring goes on with them
+use Rattle.std.specs.Prelude.{◌≡◌, ◌≢◌, ℕ, suc, ◌*◌, ◌≤◌, Bool, false, List, ◌∷◌, length, take, slice_index, Some, None, ◌⊎◌}
+use Rattle.std.specs.List.{AllByRecursion}
 use Rattle.word_mem.specs.Memory.{Mem, IsShaped, word_at, reaches}
 use Rattle.op_registers.specs.RegisterFile.{RegisterFile}
 use Rattle.qh_qtd.specs.declared.qtd.Qtd.{Qtd}
@@ -25,25 +26,24 @@ use Rattle.queue_parts.specs.Sound.{buffer_name}
 use Rattle.ring_walk.specs.Hand.{Hand}
 use Rattle.ring_walk.specs.Ring.{Base}
 use Rattle.ring_lends.specs.Together.{Item, put_all}
-use Rattle.driver_parts.specs.Laws.{AreIn}
 use Rattle.driver_parts.specs.Driven.{DrivesRing}
 use Rattle.driver_lends.specs.Published.{IsPublishable}
-use Rattle.transfer_lends.specs.Written.{IsReceiving}
+use Rattle.transfer_lends.specs.Written.{AwaitsLend}
 use Rattle.transfer_lends.specs.Pieces.{stage_qtd, lent_items, IsNewQtd, AreStanding, AreBuffered, NamesLent}
 
 -- the runs that are taken for a transfer of n qTDs: theirs, and then those of their buffers
 abbrev pub new_qtds : DriverContent → Holding → ℕ → List ℕ
 new_qtds d g n = take n (new_runs d g)
 
-abbrev pub ReceivingIsWritten : Type 0
-ReceivingIsWritten = (d : DriverContent) (m : Mem) (o : Offered) (why : Transfers d m o) (s : Stage) (ss : List Stage) → why.asked.stages ≡ s ∷ ss → AreIn why.asked.stages
+abbrev pub AcceptedAwaitsLend : Type 0
+AcceptedAwaitsLend = (d : DriverContent) (m : Mem) (o : Offered) (why : Transfers d m o) (s : Stage) (ss : List Stage) → why.asked.stages ≡ s ∷ ss → AllByRecursion (λ r. r.pid ≤ 2) why.asked.stages
     → HasOwners d → AreLent d → Stands (holding d.book m) → IsShaped m
-    → IsReceiving o.driver o.memory (length d.transfers) (runs_of_transfer (new_transfer why.number why.asked why.endpoint.dummy))
+    → AwaitsLend o.driver o.memory (length d.transfers) (runs_of_transfer (new_transfer why.number why.asked why.endpoint.dummy))
     (runs_of_endpoint (with_queued why.endpoint (slice_index (new_qtds d why.holding_after (suc (length ss))) (length ss)) (length d.transfers))) s ss
 
 abbrev pub WrittenStays : Type 0
-WrittenStays = (d : DriverContent) (m new : Mem) (t : ℕ) (y : TransferRuns) (x : EndpointRuns) (s : Stage) (ss : List Stage) → IsReceiving d m t y x s ss
-    → Stands (holding d.book m) → ((at : ℕ) → reaches m at ≡ false → word_at new at ≡ word_at m at) → IsReceiving d new t y x s ss
+WrittenStays = (d : DriverContent) (m new : Mem) (t : ℕ) (y : TransferRuns) (x : EndpointRuns) (s : Stage) (ss : List Stage) → AwaitsLend d m t y x s ss
+    → Stands (holding d.book m) → ((at : ℕ) → reaches m at ≡ false → word_at new at ≡ word_at m at) → AwaitsLend d new t y x s ss
 
 abbrev pub lent_memory : DriverContent → Mem → Mem
 lent_memory d m = (lend_taken (holding d.book m)).memory
@@ -71,10 +71,10 @@ pub record HasPieces (d : DriverContent) (slot : ℕ → Slot) (parts now : Stru
       → now (32 * x.queue) (buffer_name u) ≡ parts (32 * x.queue) (buffer_name u)
   pub none_at_zero : (pages : List ℕ) (k : ℕ) (bs : List ℕ) → now (32 * x.queue) 0 ≡ Some (Buffer pages k bs) → ⊥
 
-abbrev pub LendReceivesDrives : Type 0
-LendReceivesDrives = (base : Base) (member : ℕ → Bool) (parts : StructureSets) (hand : Hand) (w : Walk) (r : RegisterFile) (m : Mem) (d : DriverContent) (t : ℕ) (y : TransferRuns)
+abbrev pub LendDrives : Type 0
+LendDrives = (base : Base) (member : ℕ → Bool) (parts : StructureSets) (hand : Hand) (w : Walk) (r : RegisterFile) (m : Mem) (d : DriverContent) (t : ℕ) (y : TransferRuns)
     (x : EndpointRuns) (s : Stage) (ss : List Stage)
-    → IsReceiving d m t y x s ss → HasOwners d → Stands (holding d.book m) → DrivesRing base member parts hand (place w r m) d
+    → AwaitsLend d m t y x s ss → HasOwners d → Stands (holding d.book m) → DrivesRing base member parts hand (place w r m) d
     → NamesLent (slot_of d.book.slots) (parts (32 * x.queue))
     → DrivesRing base member (put_all parts (32 * x.queue) (items_of d m y x s ss)) hand (place w r (lent_memory d m)) (advance (lent_driver d m))
     × HasPieces d (slot_of (lent_driver d m).book.slots) parts (put_all parts (32 * x.queue) (items_of d m y x s ss)) y x s ss

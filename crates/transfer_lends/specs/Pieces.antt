@@ -1,4 +1,4 @@
--- The structures of a transfer that receives, once they are lent (EHCI 1.0, 3.5, 3.5.3 and 3.5.4).
+-- The structures of a transfer, once they are lent (EHCI 1.0, 3.5, 3.5.3 and 3.5.4).
 --     stage_qtd ..               the qTD of a stage, in block b
 --     qtd_items, buffer_items    the qTDs from block b on with the inactive one, and the buffers of the qTDs from block b on, as structures
 --     lent_items ..              all that is lent of a transfer whose first qTD stands in block b

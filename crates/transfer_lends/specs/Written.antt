@@ -1,4 +1,4 @@
--- A transfer that receives was accepted and is to be lent (EHCI 1.0, 3.5 and 4.10): its qTDs but the first, the inactive qTD at the new end of the
+-- A transfer was accepted and is to be lent (EHCI 1.0, 3.5 and 4.10): its qTDs but the first, the inactive qTD at the new end of the
 -- queue, and its buffers have runs that the driver alone may touch, and the words of the qTDs stand there. The first qTD is still the inactive one
 -- that stood at the end of the queue.
 --     IsPageRun slot n           the slot's run is kept, has n blocks, and lies in one page
@@ -9,7 +9,7 @@
 --     last_block notes ss b      the block of the inactive qTD
 --     AreNoted slot notes ss b   the notes of the qTDs tell their stages and the runs of their buffers
 --     AreWritten m notes ..      the words of these qTDs stand in memory, and then those of the inactive one
---     IsReceiving d m t y x s ss the whole: the transfer t has the stages s and ss
+--     AwaitsLend d m t y x s ss the whole: the transfer t has the stages s and ss
 use Rattle.std.specs.Prelude.{◌≡◌, ◌≢◌, ℕ, ◌+◌, ◌*◌, ◌%◌, ◌≤◌, suc, List, [], ◌∷◌, ◌++◌, length, take, slice_index}
 use Rattle.std.specs.List.{AllByRecursion}
 use Rattle.word_mem.specs.Runs.{Run}
@@ -28,7 +28,6 @@ use Rattle.driver_rows.specs.Offers.{is_last, stage_words}
 use Rattle.run_owners.specs.Owners.{EndpointRuns, TransferRuns, views_of}
 use Rattle.run_owners.specs.Accepts.{AreShort}
 use Rattle.driver_parts.specs.Inventory.{IsLent, IsTransferIn}
-use Rattle.driver_parts.specs.Laws.{AreIn}
 
 -- ---- runs
 
@@ -81,7 +80,7 @@ AreWritten m notes dummy (s ∷ ss) b =
 
 -- ---- the whole
 
-pub record IsReceiving (d : DriverContent) (m : Mem) (t : ℕ) (y : TransferRuns) (x : EndpointRuns) (s : Stage) (ss : List Stage) : Type 0 where
+pub record AwaitsLend (d : DriverContent) (m : Mem) (t : ℕ) (y : TransferRuns) (x : EndpointRuns) (s : Stage) (ss : List Stage) : Type 0 where
   pub here : IsTransferIn (views_of d) t y x
   pub qtds : y.qtds ≡ suc (length ss)
   pub first : IsLent (slot_of d.book.slots y.first)
@@ -92,4 +91,5 @@ pub record IsReceiving (d : DriverContent) (m : Mem) (t : ℕ) (y : TransferRuns
   pub noted : AreNoted (slot_of d.book.slots) d.notes (s ∷ ss) y.first
   pub words : AreWritten m d.notes x.dummy ss (note_at d.notes y.first).next
   pub short : AreShort (s ∷ ss)
-  pub ins : AreIn (s ∷ ss)
+  -- each asks for data the one way or the other, or sends a SETUP (3.5.3)
+  pub pids : AllByRecursion (λ r. r.pid ≤ 2) (s ∷ ss)

@@ -1,4 +1,4 @@
-//! A transfer that receives is accepted and its structures are lent, over a ring that a driver drives (EHCI 1.0, 3.5 and 4.10).
+//! A transfer is accepted and its structures are lent, over a ring that a driver drives (EHCI 1.0, 3.5 and 4.10).
 //!
 //! The crate has no code of its own: each function is a law over the definitions of `driver_parts`, and its body is empty.
 #![tactic(auto)]

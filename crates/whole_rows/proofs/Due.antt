@@ -9,10 +9,11 @@ use Rattle.fed_lends.specs.ToLend.{IsToBeLent}
 use Rattle.open_lends.specs.Lends.{IsOpenReady}
 use Rattle.open_stores.specs.Opens.{IsOpenLent}
 use Rattle.whole_worlds.specs.Whole.{IsUnderWay}
-use Rattle.small_receiver.specs.Samples.{words, world_at}
-use Rattle.small_receiver.proofs.Moments.{an_open, a_get}
-use Rattle.whole_rows.specs.Due.{IsOpenLentAt}
+use Rattle.small_receiver.specs.Samples.{words, world_at, put_words, put_at}
+use Rattle.small_receiver.proofs.Moments.{an_open, a_get, put_open, a_put}
+use Rattle.whole_rows.specs.Due.{IsOpenLentIn}
 use Rattle.whole_rows.proofs.Sampling.{it_stays_whole}
+use Rattle.whole_rows.proofs.Putting.{put_stays_whole}
 
 ready_of : (d : DriverContent) (m : Mem) (member : ℕ → Bool) (parts : StructureSets) (b : ℕ) → d.command ≡ Some (unfinished.Open b) → d.made ≡ 0 → IsUnderWay d m member parts d.command → IsOpenReady d m
 ready_of d m member parts b command none way =
@@ -30,13 +31,24 @@ to_be_lent_of d m member parts b ws command none way =
     ⊎_elim (λ (get : IsToBeLent d m b ws). get) (λ (some : 1 ≤ d.made). absurd (omega (arith, some, none)))
     (subst (λ (c : Option Command). IsUnderWay d m member parts c) command way)
 
--- ---- the small script
+-- ---- the script with a get
 
 pub open_ready : IsOpenReady (world_at 1).driver (world_at 1).memory
 open_ready = let h = it_stays_whole 1 in ready_of (world_at 1).driver (world_at 1).memory h.member h.standing.parts 130 an_open.0 an_open.1 h.whole.under_way
 
-pub open_lent : IsOpenLentAt 2
-open_lent fixed member x s whole = lent_of (world_at 2).driver (world_at 2).memory member s.parts 130 an_open.3 an_open.4 whole.under_way
+pub open_lent : IsOpenLentIn (world_at 2)
+open_lent fixed takes member x s whole = lent_of (world_at 2).driver (world_at 2).memory member s.parts 130 an_open.3 an_open.4 whole.under_way
 
 pub to_be_lent : IsToBeLent (world_at 5).driver (world_at 5).memory 132 words
 to_be_lent = let h = it_stays_whole 5 in to_be_lent_of (world_at 5).driver (world_at 5).memory h.member h.standing.parts 132 words a_get.0 a_get.1 h.whole.under_way
+
+-- ---- the script with a put
+
+pub put_ready : IsOpenReady (put_at 1).driver (put_at 1).memory
+put_ready = let h = put_stays_whole 1 in ready_of (put_at 1).driver (put_at 1).memory h.member h.standing.parts 130 put_open.0 put_open.1 h.whole.under_way
+
+pub put_lent : IsOpenLentIn (put_at 2)
+put_lent fixed takes member x s whole = lent_of (put_at 2).driver (put_at 2).memory member s.parts 130 put_open.2 put_open.3 whole.under_way
+
+pub put_to_be_lent : IsToBeLent (put_at 5).driver (put_at 5).memory 132 put_words
+put_to_be_lent = let h = put_stays_whole 5 in to_be_lent_of (put_at 5).driver (put_at 5).memory h.member h.standing.parts 132 put_words a_put.0 a_put.1 h.whole.under_way

@@ -1,15 +1,17 @@
--- The small script meets the premises of the laws of runs.
+-- The script with a get meets the premises of the laws of runs.
 use Rattle.std.proofs.Common.{◌≡◌, ℕ, zero, suc, slice_get, Some, refl, subst, arith}
 use Rattle.std.specs.List.{AllByRecursion}
 use Rattle.std.proofs.lemmas.Option.{same_Some}
+use Rattle.usb_base.specs.declared.packets.Way.TheVariants as ways
 use Rattle.script_types.specs.declared.devices.DeviceText.{DeviceText}
 use Rattle.script_fits.specs.Fits.{IsFit}
 use Rattle.byte_answers.specs.Bytes.{IsByteScript}
 use Rattle.opening_senders.specs.Own.{HasOwnDevices}
 use Rattle.declared_endpoints.specs.Declared.{OpensSenders}
+use Rattle.declared_takers.specs.Declared.{OpensTakers}
 use Rattle.script_numbers.specs.Numbers.{NumbersOpens}
-use Rattle.chained_transfers.specs.Receives.{ReceivesOnly}
-use Rattle.whole_worlds.specs.Moments.{IsWholeThroughout, StreamsAreRightThroughout}
+use Rattle.chained_transfers.specs.Bulk.{BulkOnly}
+use Rattle.whole_worlds.specs.Moments.{IsWholeThroughout, InStreamsAreRightThroughout}
 use Rattle.whole_worlds.proofs.Running.{scripts_stay_whole, streams_are_right}
 use Rattle.small_receiver.specs.Samples.{receiver}
 
@@ -30,11 +32,17 @@ its_bytes = record { devices = ((((omega arith, tt), tt), tt), tt); lines = (tt,
 pub it_sends : OpensSenders receiver
 it_sends = ((λ kind speed way. refl), (tt, (tt, (tt, (tt, tt)))))
 
+in_no_out : ways.In ≡ ways.Out → ⊥
+in_no_out same = cc
+
+pub it_takes : OpensTakers receiver
+it_takes = ((λ kind speed way. absurd (in_no_out way)), (tt, (tt, (tt, (tt, tt)))))
+
 pub its_numbers : NumbersOpens receiver
 its_numbers = ((omega arith, omega arith), (tt, (tt, (tt, (tt, tt)))))
 
-pub it_receives : ReceivesOnly receiver
-it_receives = (record { kind = refl; speed = refl; way = refl }, (tt, (tt, (tt, (tt, tt)))))
+pub it_is_bulk : BulkOnly receiver
+it_is_bulk = (record { kind = refl; speed = refl; way = tt }, (tt, (tt, (tt, (tt, tt)))))
 
 -- there is one device
 only_device : (i : ℕ) (d : DeviceText) → slice_get receiver.devices (suc i) ≡ Some d → ⊥
@@ -54,7 +62,7 @@ it_owns = record { own = its_own; apart = one_alone }
     one_alone (suc i) j d e one other same = absurd (only_device i d one)
 
 pub it_stays_whole : IsWholeThroughout receiver
-it_stays_whole = scripts_stay_whole receiver it_fits its_bytes it_sends its_numbers it_receives
+it_stays_whole = scripts_stay_whole receiver it_fits its_bytes it_sends it_takes its_numbers it_is_bulk
 
-pub its_streams_are_right : StreamsAreRightThroughout receiver
-its_streams_are_right = streams_are_right receiver it_fits its_bytes it_sends its_numbers it_owns it_receives
+pub its_streams_are_right : InStreamsAreRightThroughout receiver
+its_streams_are_right = streams_are_right receiver it_fits its_bytes it_sends it_takes its_numbers it_owns it_is_bulk

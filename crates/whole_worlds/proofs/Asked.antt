@@ -1,4 +1,4 @@
--- A get is asked: its first qTD is to be lent.
+-- A transfer is asked: its first qTD is to be lent.
 use Rattle.std.proofs.Common.{◌≡◌, ◌≢◌, ℕ, ◌*◌, ◌==◌, Bool, nat_eq, if◌then◌else◌, List, length, slice_get, Option, Some, Ok, ap, sym, subst, ◌∙◌, ⊎_elim, inl, inr}
 use Rattle.usb_base.specs.declared.endpoints.EpName.{EpName}
 use Rattle.usb_bus.specs.Bus.{Fixed}
@@ -10,22 +10,24 @@ use Rattle.driver_rows.specs.declared.content.Command.TheVariants as unfinished
 use Rattle.driver_rows.specs.DriverContent.{DriverContent}
 use Rattle.driver_rows.specs.Offers.{Offered, new_runs, first_of, stage_words, with_queued, new_transfer}
 use Rattle.run_owners.specs.Accepts.{Transfers}
+use Rattle.chained_transfers.specs.Bulk.{receives}
 use Rattle.chained_transfers.specs.Accepted.{IsAsked}
-use Rattle.fed_lends.proofs.Accepting.{get_is_to_be_lent, get_is_blank}
+use Rattle.fed_lends.proofs.Accepting.{asked_is_to_be_lent, asked_is_blank}
 use Rattle.fed_commands.proofs.Asked.{set_which, dummy_in, notes_in}
 use Rattle.standing_fronts.specs.Reaching.{Reaches}
 use Rattle.told_queues.proofs.Commanding.{asked_told}
 use Rattle.open_names.proofs.Apart.{accepted_apart}
-use Rattle.commanded_queues.proofs.Tails.{get_reaches}
-use Rattle.commanded_queues.proofs.Extending.{get_extents}
+use Rattle.commanded_queues.proofs.Tails.{asked_reaches}
+use Rattle.commanded_queues.proofs.Extending.{asked_extents}
 use Rattle.bus_world.specs.World.{World, commanded_by}
 use Rattle.world_streams.specs.Streaming.{Streams, Standing}
-use Rattle.feeding_worlds.specs.Feeding.{IsFeeding}
+use Rattle.whole_worlds.specs.Feeding.{IsFeeding}
 use Rattle.whole_worlds.specs.Whole.{tail_block, tail_of, IsUnderWay, HaveSenders, IsWhole}
+use Rattle.whole_worlds.specs.Taking.{HaveTakers}
 use Rattle.whole_worlds.proofs.There.{there_now}
 use Rattle.whole_worlds.proofs.Tail.{newest_there, idle_ends}
 
-module _ (fixed : Fixed) (member : ℕ → Bool) (x : Streams) (s : Standing) (w : World) (o : Offered) (k : IsWhole fixed member x s w) (asked : IsAsked w.driver w.memory o) where
+module _ (fixed : Fixed) (takes : ℕ → ℕ → Bool) (member : ℕ → Bool) (x : Streams) (s : Standing) (w : World) (o : Offered) (k : IsWhole fixed takes member x s w) (asked : IsAsked w.driver w.memory o) where
   abbrev d : DriverContent
   d = w.driver
 
@@ -54,34 +56,46 @@ module _ (fixed : Fixed) (member : ℕ → Bool) (x : Streams) (s : Standing) (w
       ∙ ap (λ (q : Option Transfer). 32 * tail_block (Some (unfinished.Publish asked.transfers.endpoint.dummy words)) q e z.dummy) (newest_there d.transfers new)
 
   senders : HaveSenders o.driver x.stream
-  senders e z here =
-      ⊎_elim (λ (own : (e ≡ why.number) × (z ≡ with_queued why.endpoint dummy (length d.transfers))). ap (λ (y : Endpoint). x.stream y.desc.name.addr y.desc.name.num) own.1 ∙ k.senders why.number why.endpoint why.here)
-      (λ (other : (e ≢ why.number) × (slice_get d.endpoints e ≡ Some z)). k.senders e z other.1)
+  senders e z here comes =
+      ⊎_elim
+      (λ (own : (e ≡ why.number) × (z ≡ with_queued why.endpoint dummy (length d.transfers))).
+      ap (λ (y : Endpoint). x.stream y.desc.name.addr y.desc.name.num) own.1 ∙ k.senders why.number why.endpoint why.here (ap (λ (y : Endpoint). receives y.desc.name.way) (sym own.1) ∙ comes))
+      (λ (other : (e ≢ why.number) × (slice_get d.endpoints e ≡ Some z)). k.senders e z other.1 comes)
+      (set_which d.endpoints why.number e why.endpoint (with_queued why.endpoint dummy (length d.transfers)) z why.here (ap (λ (p : Offered). slice_get p.driver.endpoints e) (sym why.is) ∙ here))
+
+  takers : HaveTakers o.driver takes
+  takers e z here goes =
+      ⊎_elim
+      (λ (own : (e ≡ why.number) × (z ≡ with_queued why.endpoint dummy (length d.transfers))).
+      ap (λ (y : Endpoint). takes y.desc.name.addr y.desc.name.num) own.1 ∙ k.takers why.number why.endpoint why.here (ap (λ (y : Endpoint). receives y.desc.name.way) (sym own.1) ∙ goes))
+      (λ (other : (e ≢ why.number) × (slice_get d.endpoints e ≡ Some z)). k.takers e z other.1 goes)
       (set_which d.endpoints why.number e why.endpoint (with_queued why.endpoint dummy (length d.transfers)) z why.here (ap (λ (p : Offered). slice_get p.driver.endpoints e) (sym why.is) ∙ here))
 
   to_be_lent : IsUnderWay o.driver o.memory member s.parts o.driver.command
   to_be_lent =
       let place = k.feeding.working.place in
-      let is = get_is_to_be_lent d w.memory o asked place.sound.owners place.lent place.sound.stands place.sound.shape asked.transfers.endpoint.dummy words command_is in
+      let is = asked_is_to_be_lent d w.memory o asked place.sound.owners place.lent place.sound.stands place.sound.shape asked.transfers.endpoint.dummy words command_is in
       subst (λ (c : Option Command). IsUnderWay o.driver o.memory member s.parts c) (sym command_is) (inl is)
 
-pub asked_whole : (fixed : Fixed) (member : ℕ → Bool) (x : Streams) (s : Standing) (w : World) (line : ℕ) (name : EpName) (o : Offered) → IsAsked w.driver w.memory o → IsFeeding fixed member x s (commanded_by w line name (Ok o))
-    → IsWhole fixed member x s w → IsWhole fixed member x s (commanded_by w line name (Ok o))
-asked_whole fixed member x s w line name o asked feeding k =
+pub asked_whole : (fixed : Fixed) (takes : ℕ → ℕ → Bool) (member : ℕ → Bool) (x : Streams) (s : Standing) (w : World) (line : ℕ) (name : EpName) (o : Offered) → IsAsked w.driver w.memory o → IsFeeding fixed member x s (commanded_by w line name (Ok o))
+    → IsWhole fixed takes member x s w → IsWhole fixed takes member x s (commanded_by w line name (Ok o))
+asked_whole fixed takes member x s w line name o asked feeding k =
     let d = w.driver in
     let place = k.feeding.working.place in
     let sound = place.sound in
     let turns = k.feeding.turns in
     record {
       feeding = feeding;
-      under_way = to_be_lent fixed member x s w o k asked;
-      blank = get_is_blank d w.memory o asked k.blank;
-      names = accepted_apart d w.memory o turns.receives (inr asked) k.names;
-      senders = senders fixed member x s w o k asked;
-      runs = get_extents d w.memory o s.parts asked sound.stands sound.owners feeding.working.driven k.runs;
+      under_way = to_be_lent fixed takes member x s w o k asked;
+      blank = asked_is_blank d w.memory o asked k.blank;
+      names = accepted_apart d w.memory o turns.bulk (inr asked) k.names;
+      senders = senders fixed takes member x s w o k asked;
+      takers = takers fixed takes member x s w o k asked;
+      taking = record { ends = k.taking.ends; piped = k.taking.piped; untaken = k.taking.untaken };
+      runs = asked_extents d w.memory o s.parts asked sound.stands sound.owners feeding.working.driven k.runs;
       tails = λ e z here met.
-          subst (λ (c : ℕ). Reaches o.driver (s.parts (32 * z.queue)) (s.order (32 * z.queue)) (s.out (32 * z.queue)) e z c) (sym (tail_is fixed member x s w o k asked e z))
-          (get_reaches d w.memory o s.parts s.order s.out asked sound.stands sound.owners place.lent turns.receives (idle_ends d s.parts s.order s.out asked.transfers.idle k.tails) e z here);
+          subst (λ (c : ℕ). Reaches o.driver (s.parts (32 * z.queue)) (s.order (32 * z.queue)) (s.out (32 * z.queue)) e z c) (sym (tail_is fixed takes member x s w o k asked e z))
+          (asked_reaches d w.memory o s.parts s.order s.out asked sound.stands sound.owners place.lent turns.bulk (idle_ends d s.parts s.order s.out asked.transfers.idle k.tails) e z here);
       told = asked_told d w.memory o s.hand s.parts s.reported asked sound.stands sound.owners (there_now d turns) turns.turns.places k.told;
       bytes = k.bytes;
     }

@@ -1,34 +1,26 @@
 -- Each event of the controller leaves a world whole.
-use Rattle.std.proofs.Common.{ℕ, ◌*◌, Bool}
-use Rattle.usb_bus.specs.Bus.{Fixed}
 use Rattle.run_owners.specs.Owners.{views_of}
 use Rattle.ring_control.specs.Control.{IsControlled, ControlEffect}
-use Rattle.ring_pipes.specs.Pipes.{grown}
 use Rattle.driver_parts.specs.Opened.{opening_base}
 use Rattle.controller_writes.specs.Leaving.{LeavesRest}
 use Rattle.controller_writes.proofs.Controlling.{event_leaves}
 use Rattle.kept_structures.proofs.Events.{control_keeps}
 use Rattle.open_lends.proofs.Waiting.{lent_stays}
-use Rattle.standing_fronts.specs.Along.{LinksOfQueuesRise}
 use Rattle.told_queues.proofs.Standing.{beside_told}
 use Rattle.bus_world.specs.World.{World, controller_parts, controller_next}
-use Rattle.world_streams.specs.Streaming.{begins_by, transacts_by, wired, Streams, Standing, HearsBytesNow}
+use Rattle.world_streams.specs.Streaming.{begins_by, transacts_by, wired, Standing, HearsBytesNow}
 use Rattle.world_streams.proofs.Turning.{world_has_row}
 use Rattle.world_bytes.proofs.Turning.{controller_bytes}
 use Rattle.world_bytes.proofs.Hearing.{hears_bytes}
-use Rattle.feeding_worlds.specs.Feeding.{IsFeeding, GoesOnBeside}
-use Rattle.feeding_worlds.proofs.Beside.{controller_feeds}
+use Rattle.whole_worlds.specs.Feeding.{GoesOnBeside, bytes_of_event, acc_after}
+use Rattle.whole_worlds.proofs.FeedingBeside.{controller_feeds}
 use Rattle.whole_worlds.specs.Laws.{ControllerKeepsWhole}
+use Rattle.whole_worlds.proofs.Heads.{rising}
 use Rattle.whole_worlds.proofs.Keeping.{under_way_stays, runs_stay, tails_stay}
-
--- links of each queue lead to later qTDs
-rising : (fixed : Fixed) (member : ℕ → Bool) (x : Streams) (s : Standing) (w : World) → IsFeeding fixed member x s w → LinksOfQueuesRise w.driver s.parts s.order
-rising fixed member x s w f e z here met =
-    let r = f.working.streaming.right (32 * z.queue) (f.queues.streams_are.each e z here met).0 in
-    record { next = r.accounts.ordered.next; alternate = r.accounts.ordered.alternate }
+use Rattle.whole_worlds.proofs.TakingBeside.{controller_taking}
 
 pub controller_whole : ControllerKeepsWhole
-controller_whole fixed member x s w k =
+controller_whole fixed takes member x s w k =
     let f = k.feeding in
     let base = opening_base in
     let new : World = controller_next fixed w in
@@ -42,7 +34,7 @@ controller_whole fixed member x s w k =
     let leaves : LeavesRest s.parts w.memory new.memory =
     event_leaves begins_by transacts_by base member s.parts s.hand (controller_parts w) (wired fixed w) (controller_parts new) (wired fixed new) controlled f.working.streaming.on (heard (wired fixed new)) (world_has_row fixed w) in
     let keeps = control_keeps begins_by transacts_by base member s.parts s.hand (controller_parts w) (wired fixed w) (wired fixed new) now later controlled effect in
-    let standing : Standing = record s { parts = now; hand = later; acc = grown s.acc g.event.at g.event.more } in
+    let standing : Standing = record s { parts = now; hand = later; acc = acc_after x.streams s.acc g.event.at g.event.more (λ n. bytes_of_event n effect) } in
     record {
       member = member;
       streams = x.streams;
@@ -55,6 +47,8 @@ controller_whole fixed member x s w k =
         blank = k.blank;
         names = k.names;
         senders = k.senders;
+        takers = k.takers;
+        taking = controller_taking fixed takes member x s w heard f k.taking;
         runs = runs_stay begins_by transacts_by base member s.parts s.hand (controller_parts w) (wired fixed w) (wired fixed new) now later controlled (views_of w.driver) effect k.runs;
         tails = tails_stay begins_by transacts_by base member s.parts s.hand (controller_parts w) (wired fixed w) (wired fixed new) now later controlled w.driver s.order s.out effect
             (rising fixed member x s w f) k.tails;

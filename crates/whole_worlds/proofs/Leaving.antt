@@ -1,5 +1,5 @@
 -- What a harvest leaves of all that a world carries.
-use Rattle.std.proofs.Common.{◌≡◌, ℕ, ◌-◌, ◌*◌, Bool, true, List, length, slice_get, Option, Some, None, option_map, ap, refl, sym, subst, ◌∙◌}
+use Rattle.std.proofs.Common.{◌≡◌, ℕ, ◌-◌, ◌*◌, Bool, true, false, List, length, slice_get, Option, Some, None, option_map, ap, refl, sym, subst, ◌∙◌}
 use Rattle.std.proofs.lemmas.Option.{same_Some}
 use Rattle.usb_base.specs.declared.endpoints.EpDesc.{EpDesc}
 use Rattle.run_book.specs.declared.slots.Slot.{Slot}
@@ -21,25 +21,36 @@ use Rattle.driver_releases.proofs.Extending.{extents_stay}
 use Rattle.walk_members.proofs.Descriptions.{desc_of, row_left}
 use Rattle.open_stores.specs.Opens.{AreNamesApart}
 use Rattle.open_names.proofs.Apart.{events_apart}
+use Rattle.chained_transfers.specs.Bulk.{receives}
 use Rattle.fed_lends.specs.ToLend.{AreBlank}
 use Rattle.released_queues.specs.Fronts.{FrontsStand}
 use Rattle.standing_fronts.specs.Reaching.{Reaches}
 use Rattle.usb_bus.specs.Bus.{Fixed}
 use Rattle.bus_world.specs.World.{World, driver_parts, driver_next}
 use Rattle.world_streams.specs.Streaming.{Streams, Standing}
-use Rattle.harvest_feeds.specs.Laws.{HarvestLeaves}
-use Rattle.harvest_feeds.proofs.Feeding.{harvest_feeds}
+use Rattle.whole_worlds.specs.HarvestFeeds.{HarvestLeaves}
+use Rattle.whole_worlds.proofs.FeedingHarvests.{harvest_feeds}
 use Rattle.idle_tails.proofs.Reaching.{idle_queues_reach}
 use Rattle.whole_worlds.specs.Whole.{tail_block, TailsStand, IsUnderWay, HaveSenders, IsWhole, HasWhole}
 use Rattle.whole_worlds.specs.Laws.{HarvestKeepsWhole}
+use Rattle.whole_worlds.specs.Taking.{HaveTakers}
 use Rattle.whole_worlds.proofs.Noting.{harvest_blank}
 
 -- ---- what is the same
 
+taker_of : (takes : ℕ → ℕ → Bool) (xs : List Endpoint) (e : ℕ) (x : Endpoint) (o : Option Endpoint) → slice_get xs e ≡ o → Some x.desc ≡ option_map desc_of o
+    → ((i : ℕ) (z : Endpoint) → slice_get xs i ≡ Some z → receives z.desc.name.way ≡ false → takes z.desc.name.addr z.desc.name.num ≡ true) → receives x.desc.name.way ≡ false → takes x.desc.name.addr x.desc.name.num ≡ true
+taker_of takes xs e x None here is all goes = absurd (cc)
+taker_of takes xs e x (Some z) here is all goes =
+    let same : x.desc ≡ z.desc = same_Some x.desc z.desc is in
+    ap (λ (r : EpDesc). takes r.name.addr r.name.num) same ∙ all e z here (ap (λ (r : EpDesc). receives r.name.way) (sym same) ∙ goes)
+
 sender_of : (stream : ℕ → ℕ → Bool) (xs : List Endpoint) (e : ℕ) (x : Endpoint) (o : Option Endpoint) → slice_get xs e ≡ o → Some x.desc ≡ option_map desc_of o
-    → ((i : ℕ) (z : Endpoint) → slice_get xs i ≡ Some z → stream z.desc.name.addr z.desc.name.num ≡ true) → stream x.desc.name.addr x.desc.name.num ≡ true
-sender_of stream xs e x None here is all = absurd (cc)
-sender_of stream xs e x (Some z) here is all = ap (λ (r : EpDesc). stream r.name.addr r.name.num) (same_Some x.desc z.desc is) ∙ all e z here
+    → ((i : ℕ) (z : Endpoint) → slice_get xs i ≡ Some z → receives z.desc.name.way ≡ true → stream z.desc.name.addr z.desc.name.num ≡ true) → receives x.desc.name.way ≡ true → stream x.desc.name.addr x.desc.name.num ≡ true
+sender_of stream xs e x None here is all comes = absurd (cc)
+sender_of stream xs e x (Some z) here is all comes =
+    let same : x.desc ≡ z.desc = same_Some x.desc z.desc is in
+    ap (λ (r : EpDesc). stream r.name.addr r.name.num) same ∙ all e z here (ap (λ (r : EpDesc). receives r.name.way) (sym same) ∙ comes)
 
 runs_stay : (v w : Views) (parts : StructureSets) → SameViews v w → AreInRuns v parts → AreInRuns w parts
 runs_stay v w parts same k =
@@ -52,7 +63,7 @@ runs_stay v w parts same k =
     })
     (record { buffers = λ n a pages j bs here. record { bytes = bs; here = here; size = refl }; tables = λ n a ws here. record { words = ws; here = here; size = refl } }) k
 
-module _ (fixed : Fixed) (member : ℕ → Bool) (x : Streams) (s : Standing) (w : World) (e t : ℕ) (found : Found) (row : driver_row (driver_parts w) ≡ rows.Harvest e t found) (k : IsWhole fixed member x s w) where
+module _ (fixed : Fixed) (takes : ℕ → ℕ → Bool) (member : ℕ → Bool) (x : Streams) (s : Standing) (w : World) (e t : ℕ) (found : Found) (row : driver_row (driver_parts w) ≡ rows.Harvest e t found) (k : IsWhole fixed takes member x s w) where
   abbrev p : Parts
   p = driver_parts w
 
@@ -83,6 +94,10 @@ module _ (fixed : Fixed) (member : ℕ → Bool) (x : Streams) (s : Standing) (w
   senders i z here =
       sender_of x.stream w.driver.endpoints i z (slice_get w.driver.endpoints i) refl (sym (ap (option_map desc_of) here) ∙ row_left (driver_row (driver_parts w)) (driver_parts w) i) k.senders
 
+  takers : HaveTakers new takes
+  takers i z here =
+      taker_of takes w.driver.endpoints i z (slice_get w.driver.endpoints i) refl (sym (ap (option_map desc_of) here) ∙ row_left (driver_row (driver_parts w)) (driver_parts w) i) k.takers
+
   runs : AreInRuns (views_of new) s.parts
   runs =
       subst (λ (r : DriverRow). AreInRuns (views_of (after_driver_row r (driver_parts w)).driver) s.parts) (sym row)
@@ -97,20 +112,22 @@ module _ (fixed : Fixed) (member : ℕ → Bool) (x : Streams) (s : Standing) (w
       (idle_queues_reach member new s.parts s.order l.out command f.working.place.sound.owners f.working.place.lent f.turns f.queues.fed f.queues.last f.queues.out_are l.fronts i z here
       (f.working.streaming.controlled.ring.members (32 * z.queue) (f.queues.met.each i z here meets)))
 
-  whole : (l : HarvestLeaves fixed member x s (driver_next w)) → IsWhole fixed member x (record s { out = l.out; reported = l.reported }) (driver_next w)
+  whole : (l : HarvestLeaves fixed member x s (driver_next w)) → IsWhole fixed takes member x (record s { out = l.out; reported = l.reported }) (driver_next w)
   whole l = record {
     feeding = l.feeding;
     under_way = subst (λ (c : Option Command). IsUnderWay new (driver_next w).memory member s.parts c) (sym command) tt;
     blank = blank;
     names = names;
     senders = senders;
+    takers = takers;
+    taking = record { ends = k.taking.ends; piped = k.taking.piped; untaken = k.taking.untaken };
     runs = runs;
     tails = tails l;
     told = l.told;
     bytes = k.bytes;
   }
 
-  pub harvest_leaves_whole : HasWhole fixed x.stream x.packets (driver_next w)
+  pub harvest_leaves_whole : HasWhole fixed takes x.stream x.packets (driver_next w)
   harvest_leaves_whole = record {
     member = member;
     streams = x.streams;
@@ -120,4 +137,4 @@ module _ (fixed : Fixed) (member : ℕ → Bool) (x : Streams) (s : Standing) (w
   }
 
 pub harvest_whole : HarvestKeepsWhole
-harvest_whole fixed member x s w e t found row k = harvest_leaves_whole fixed member x s w e t found row k
+harvest_whole fixed takes member x s w e t found row k = harvest_leaves_whole fixed takes member x s w e t found row k

@@ -1,4 +1,4 @@
--- A world that is whole is so still, once its driver has lent a get.
+-- A world that is whole is so still, once its driver has lent a transfer.
 use Rattle.std.proofs.Common.{◌≡◌, ℕ, ◌-◌, ◌*◌, ◌≤◌, Bool, List, Option, Some, ap, refl, sym, subst, ◌∙◌, inl, inr, arith}
 use Rattle.word_mem.specs.Memory.{Mem}
 use Rattle.qh_qtd.specs.declared.qtd.Qtd.{Qtd}
@@ -19,10 +19,12 @@ use Rattle.open_stores.specs.Opens.{AreNamesApart}
 use Rattle.fed_lends.specs.ToLend.{IsToBeLent, lent_now}
 use Rattle.fed_lends.proofs.Reporting.{same_hand}
 use Rattle.bus_world.specs.World.{driver_next}
-use Rattle.lending_worlds.proofs.Lending.{lend_feeds}
+use Rattle.whole_worlds.proofs.FeedingLends.{lend_feeds}
 use Rattle.whole_worlds.specs.Whole.{tail_of, TailsStand, IsUnderWay, HaveSenders}
 use Rattle.whole_worlds.specs.Laws.{LendKeepsWhole}
+use Rattle.whole_worlds.specs.Taking.{HaveTakers}
 use Rattle.whole_worlds.proofs.LentTails.{tail_stands}
+use Rattle.whole_worlds.proofs.TakingLends.{lend_taking}
 
 -- ---- what is told
 
@@ -54,27 +56,29 @@ lend_under_way d m new member parts b words get =
 -- ---- the whole
 
 pub lend_keeps_whole : LendKeepsWhole
-lend_keeps_whole fixed member x s w b words get k =
+lend_keeps_whole fixed takes member x s w b words get k =
     let f = k.feeding in
     let place = f.working.place in
     let fronts : FrontsStand w.driver s.parts s.order s.out = λ e z here met. (k.tails e z here met).stands in
-    let g = lend_feeds fixed member x s w b words get k.blank f.working f.turns f.queues f.unopened fronts k.runs in
+    let g = lend_feeds fixed member x s w b words get k.blank f fronts k.runs in
     record {
       member = member;
       streams = x.streams;
       endpoint = x.endpoint;
       standing = record s { parts = g.parts; order = g.order; out = g.out };
       whole = record {
-        feeding = record { working = g.working; turns = g.turns; queues = g.queues; unopened = g.unopened };
+        feeding = g.feeding;
         under_way = subst (λ (d : DriverContent). IsUnderWay d (driver_next w).memory member g.parts d.command) (sym g.driver_is) (lend_under_way w.driver w.memory (driver_next w).memory member g.parts b words get);
         blank = g.blank;
         names = subst AreNamesApart (sym g.driver_is) k.names;
         senders = subst (λ (d : DriverContent). HaveSenders d x.stream) (sym g.driver_is) k.senders;
+        takers = subst (λ (d : DriverContent). HaveTakers d takes) (sym g.driver_is) k.takers;
+        taking = lend_taking fixed takes member x s w b words get k;
         runs = g.runs;
         tails = subst (λ (d : DriverContent). TailsStand d g.parts g.order g.out) (sym g.driver_is)
             (λ e z here met.
             subst (λ (d : DriverContent). Reaches d (g.parts (32 * z.queue)) (g.order (32 * z.queue)) (g.out (32 * z.queue)) e z (tail_of w.driver e z)) g.driver_is
-            (g.reaches e z (tail_of w.driver e z) here (tail_stands w.driver w.memory b words s.parts e z get place.sound.owners place.lent f.turns.receives f.queues.fed here) (k.tails e z here met)));
+            (g.reaches e z (tail_of w.driver e z) here (tail_stands w.driver w.memory b words s.parts e z get place.sound.owners place.lent f.turns.bulk f.queues.fed here) (k.tails e z here met)));
         told = subst (λ (d : DriverContent). ToldStands d s.hand g.parts s.reported) (sym g.driver_is) (lend_told w.driver w.memory s.hand s.parts g.parts s.reported g.heads g.elements k.told);
         bytes = k.bytes;
       };

@@ -1,4 +1,4 @@
--- The tail of each queue stands where a get is to be lent.
+-- The tail of each queue stands where a transfer is to be lent.
 use Rattle.std.proofs.Common.{◌≡◌, ◌≢◌, ℕ, ◌-◌, ◌*◌, ◌||◌, ◌==◌, Bool, true, false, cond, List, [], ◌∷◌, length, slice_get, Option, Some, option_map, ap, refl, sym, subst, ◌∙◌, ⊎_elim, inl, inr, arith}
 use Rattle.std.proofs.lemmas.Bool.{cases_Bool, cases_eq, eq-eqb, eqb-true, false≢true}
 use Rattle.std.proofs.lemmas.Option.{same_Some}
@@ -20,7 +20,7 @@ use Rattle.lent_structures.specs.Structures.{Element, StructureSets}
 use Rattle.lent_structures.proofs.Names.{not_same}
 use Rattle.queue_parts.specs.Sound.{IsElement}
 use Rattle.driver_parts.specs.Inventory.{IsLent}
-use Rattle.chained_transfers.specs.Receives.{Receives}
+use Rattle.chained_transfers.specs.Bulk.{OnlyBulk}
 use Rattle.fed_queues.specs.Fed.{AreFed}
 use Rattle.transfer_lends.proofs.Lists.{IsOneOf}
 use Rattle.transfer_lends.proofs.Owning.{IsOwnedBy, as_element, as_dummy, as_buffer}
@@ -59,19 +59,19 @@ no_other_dummy owner t e f c differs owned (as_element is) = no_element e t (sym
 no_other_dummy owner t e f c differs owned (as_dummy is) = differs (one_dummy e f (sym owned ∙ is))
 no_other_dummy owner t e f c differs owned (as_buffer is) = no_buffer e t (sym owned ∙ is)
 
-other_dummy_lent : (d : DriverContent) (m : Mem) (b : ℕ) (words : List ℕ) (e : ℕ) (x : Endpoint) → (k : IsToBeLent d m b words) → HasOwners d → AreLent d → Receives d
+other_dummy_lent : (d : DriverContent) (m : Mem) (b : ℕ) (words : List ℕ) (e : ℕ) (x : Endpoint) → (k : IsToBeLent d m b words) → HasOwners d → AreLent d → OnlyBulk d
     → slice_get d.endpoints e ≡ Some x → e ≢ k.transfer.endpoint → IsLent (slot_of d.book.slots x.dummy)
-other_dummy_lent d m b words e x k has lent receives here differs =
-    let placed = has.owned.each.dummy e (runs_of_endpoint x) (ap (option_map runs_of_endpoint) here) (bare_is d e x receives here) in
+other_dummy_lent d m b words e x k has lent bulk here differs =
+    let placed = has.owned.each.dummy e (runs_of_endpoint x) (ap (option_map runs_of_endpoint) here) (bare_is d e x bulk here) in
     let none : IsOneOf x.dummy d.book.taken → ⊥ = λ one. no_other_dummy has.owner k.number e k.transfer.endpoint x.dummy differs placed.owned
-    (taken_owner d m k.number (runs_of_transfer k.transfer) (runs_of_endpoint k.endpoint) k.stage k.further x.dummy k.receiving has one) in
+    (taken_owner d m k.number (runs_of_transfer k.transfer) (runs_of_endpoint k.endpoint) k.stage k.further x.dummy k.awaits has one) in
     lent_already {d = d} lent x.dummy (slot_of d.book.slots x.dummy) refl (placed_run x.dummy (Dummy e) placed) none
 
 -- ---- each tail
 
-pub tail_stands : (d : DriverContent) (m : Mem) (b : ℕ) (words : List ℕ) (parts : StructureSets) (e : ℕ) (x : Endpoint) → (k : IsToBeLent d m b words) → HasOwners d → AreLent d → Receives d
+pub tail_stands : (d : DriverContent) (m : Mem) (b : ℕ) (words : List ℕ) (parts : StructureSets) (e : ℕ) (x : Endpoint) → (k : IsToBeLent d m b words) → HasOwners d → AreLent d → OnlyBulk d
     → AreFed d parts → slice_get d.endpoints e ≡ Some x → IsElement (parts (32 * x.queue)) (tail_of d e x)
-tail_stands d m b words parts e x k has lent receives fed here =
+tail_stands d m b words parts e x k has lent bulk fed here =
     let newest = k.newest in
     let number : length d.transfers - 1 ≡ k.number = omega (arith, newest) in
     let last : slice_get d.transfers (length d.transfers - 1) ≡ Some k.transfer = ap (slice_get d.transfers) number ∙ k.there in
@@ -87,7 +87,7 @@ tail_stands d m b words parts e x k has lent receives fed here =
     let at : 32 * cond (k.transfer.endpoint == e) b x.dummy ≡ 32 * b = ap (λ (c : Bool). 32 * cond c b x.dummy) (eq-eqb k.transfer.endpoint e same) in
     record { qtd = dummy_qtd; here = ap (parts (32 * x.queue)) at ∙ first })
     (λ (differs : k.transfer.endpoint ≢ e).
-    let dummy = fed.dummies e x here (other_dummy_lent d m b words e x k has lent receives here (λ same. differs (sym same))) in
+    let dummy = fed.dummies e x here (other_dummy_lent d m b words e x k has lent bulk here (λ same. differs (sym same))) in
     let at : 32 * cond (k.transfer.endpoint == e) b x.dummy ≡ 32 * x.dummy = ap (λ (c : Bool). 32 * cond c b x.dummy) (not_same k.transfer.endpoint e differs) in
     record { qtd = dummy_qtd; here = ap (parts (32 * x.queue)) at ∙ dummy })
     (cases_eq k.transfer.endpoint e))

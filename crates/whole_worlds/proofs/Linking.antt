@@ -125,7 +125,7 @@ module _ (p : DriverParts) (member streams : ℕ → Bool) (ends : ℕ → Told)
 
   not_head : (e : ℕ) (y : Endpoint) → slice_get d.endpoints e ≡ Some y → 32 * y.queue ≢ head_at
   not_head e y there same =
-      never (sym (queue_placed d k.sound.owners e y there (k.turns.receives.endpoints e y there)).owned ∙ ap k.sound.owners.owner (thirty_two y.queue head_block same) ∙ k.sound.owners.owned.each.head.owned)
+      never (sym (queue_placed d k.sound.owners e y there (k.turns.bulk.endpoints e y there)).owned ∙ ap k.sound.owners.owner (thirty_two y.queue head_block same) ∙ k.sound.owners.owned.each.head.owned)
     where
       never : QueueOf e ≡ Head → ⊥
       never z = cc
@@ -137,8 +137,8 @@ module _ (p : DriverParts) (member streams : ℕ → Bool) (ends : ℕ → Told)
 
   same_number : (e : ℕ) (y : Endpoint) → slice_get d.endpoints e ≡ Some y → y.queue ≡ x.queue → e ≡ k.lent.number
   same_number e y there same =
-      queues_same y.queue x.queue e k.lent.number same (queue_placed d k.sound.owners e y there (k.turns.receives.endpoints e y there))
-      (queue_placed d k.sound.owners k.lent.number x k.lent.here (k.turns.receives.endpoints k.lent.number x k.lent.here))
+      queues_same y.queue x.queue e k.lent.number same (queue_placed d k.sound.owners e y there (k.turns.bulk.endpoints e y there))
+      (queue_placed d k.sound.owners k.lent.number x k.lent.here (k.turns.bulk.endpoints k.lent.number x k.lent.here))
 
   met_before : (e : ℕ) (y : Endpoint) → slice_get d.endpoints e ≡ Some y → e ≢ k.lent.number → IsMet d y
   met_before e y there differs same = differs (same_number e y there (one_open y.queue x.queue (sym same ∙ k.lent.command)))

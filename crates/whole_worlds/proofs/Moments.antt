@@ -1,9 +1,12 @@
 -- Where the opening, each event and each command leave the world whole, it is so at each moment, and its report is right.
-use Rattle.std.proofs.Common.{ℕ, Bool, List, [], ◌∷◌, ap}
+use Rattle.std.proofs.Common.{◌≡◌, ℕ, Bool, true, false, List, [], ◌∷◌, ap, refl, sym}
 use Rattle.std.specs.Prelude.{is_some}
 use Rattle.std.specs.List.{AllByRecursion}
+use Rattle.std.proofs.lemmas.Bool.{false≢true}
 use Rattle.usb_base.specs.declared.commands.Cmd.{Cmd}
 use Rattle.usb_base.specs.declared.commands.Cmd.TheVariants as commands
+use Rattle.usb_base.specs.declared.packets.Way.{Way}
+use Rattle.usb_base.specs.declared.packets.Way.TheVariants as ways
 use Rattle.script_types.specs.declared.scripts.Line.{Line}
 use Rattle.script_types.specs.declared.scripts.Line.TheVariants as lines
 use Rattle.script_types.specs.declared.scripts.Script.{Script}
@@ -11,6 +14,8 @@ use Rattle.script_fits.proofs.Texts.{spelled_fits}
 use Rattle.script_bytes.proofs.Texts.{spelled_bytes}
 use Rattle.usb_bus.specs.Bus.{fixed_of}
 use Rattle.declared_endpoints.specs.Declared.{OpensItsSender}
+use Rattle.declared_takers.specs.Declared.{OpensItsTaker}
+use Rattle.declared_takers.proofs.Takers.{spelled_takers}
 use Rattle.declared_endpoints.proofs.Senders.{spelled_senders}
 use Rattle.declared_endpoints.proofs.Owning.{spelled_owns}
 use Rattle.script_numbers.specs.Numbers.{NumbersLine}
@@ -20,15 +25,20 @@ use Rattle.driver_parts.specs.Opened.{opening_base}
 use Rattle.bus_world.specs.World.{World}
 use Rattle.bus_world.specs.Budgets.{moment}
 use Rattle.world_streams.specs.Streaming.{Streams}
-use Rattle.chained_transfers.specs.Receives.{OpensReceiving, ReceivesLine}
+use Rattle.chained_transfers.specs.Bulk.{IsDataWay, OpensBulk, BulkLine, receives}
 use Rattle.right_worlds.specs.Right.{AreOfScript}
 use Rattle.right_worlds.proofs.Beginning.{world_right}
 use Rattle.receiving_runs.specs.Runs.{KindOfLine, IsKeptBy}
 use Rattle.receiving_runs.proofs.Runs.{holds_throughout}
-use Rattle.feeding_worlds.specs.Feeding.{left_of, streams_of}
+use Rattle.taken_reports.proofs.Beginning.{world_taken}
+use Rattle.taken_reports.proofs.Seating.{moment_seated}
+use Rattle.whole_worlds.specs.Feeding.{left_of, streams_of, heads_of}
+use Rattle.whole_worlds.specs.Taking.{outs_of}
+use Rattle.whole_worlds.proofs.TakingHeads.{outs_are_heads, outs_stand}
 use Rattle.whole_worlds.specs.Whole.{HasWhole}
 use Rattle.whole_worlds.specs.Laws.{NewWorldIsWhole, ControllerKeepsWhole, OpensTo, CommandKeepsWhole, DriverKeepsWhole}
-use Rattle.whole_worlds.specs.Moments.{ScriptsStayWhole, StreamsAreRight, TextsAreRight}
+use Rattle.whole_worlds.specs.Moments.{ScriptsStayWhole, StreamsAreRight, TextsAreRight, TextsAreTaken}
+use Rattle.out_rows.specs.Takers.{takes_of}
 
 pub record StaysWhole : Type 0 where
   pub opening : NewWorldIsWhole
@@ -38,31 +48,44 @@ pub record StaysWhole : Type 0 where
 
 -- ---- the commands of such a script
 
-abbrev CanBe : (ℕ → ℕ → Bool) → Cmd → Type 0
-CanBe stream cmd = OpensReceiving cmd × OpensTo stream cmd × OpensNumbered cmd
+abbrev CanBe : (ℕ → ℕ → Bool) → (ℕ → ℕ → Bool) → Cmd → Type 0
+CanBe stream takes cmd = OpensBulk cmd × OpensTo stream takes cmd × OpensNumbered cmd
 
-opens_to : (s : Script) (cmd : Cmd) → OpensReceiving cmd → OpensItsSender s (lines.Command cmd) → OpensTo (streams_of s).stream cmd
-opens_to s (commands.OpenEp x) only sends = ap is_some (sends only.kind only.speed only.way)
-opens_to s (commands.Get name len by) only sends = tt
-opens_to s (commands.Put name bytes by) only sends = tt
-opens_to s (commands.Control name setup bytes) only sends = tt
-opens_to s (commands.Iso name count len seed) only sends = tt
-opens_to s (commands.Cancel name) only sends = tt
+-- data of a bulk endpoint come to the host where it is an IN
+in_way : (way : Way) → IsDataWay way → receives way ≡ true → way ≡ ways.In
+in_way ways.In one comes = refl
+in_way ways.Out one comes = absurd (false≢true comes)
+in_way ways.Ctl one comes = absurd one
 
-line_can : (s : Script) (l : Line) → ReceivesLine l → OpensItsSender s l → NumbersLine l → KindOfLine (CanBe (streams_of s).stream) l
-line_can s (lines.Order event count) only sends numbers = tt
-line_can s (lines.Micro count) only sends numbers = tt
-line_can s (lines.Command cmd) only sends numbers = (only, opens_to s cmd only sends, numbers)
+-- and leave it where it is an OUT
+out_way : (way : Way) → IsDataWay way → receives way ≡ false → way ≡ ways.Out
+out_way ways.In one goes = absurd (false≢true (sym goes))
+out_way ways.Out one goes = refl
+out_way ways.Ctl one goes = absurd one
 
-lines_can : (s : Script) (xs : List (ℕ × Line)) → AllByRecursion (λ x. ReceivesLine x.1) xs → AllByRecursion (λ x. OpensItsSender s x.1) xs → AllByRecursion (λ x. NumbersLine x.1) xs
-    → AllByRecursion (λ x. KindOfLine (CanBe (streams_of s).stream) x.1) xs
-lines_can s [] only sends numbers = tt
-lines_can s (x ∷ xs) only sends numbers = (line_can s x.1 only.0 sends.0 numbers.0, lines_can s xs only.1 sends.1 numbers.1)
+opens_to : (s : Script) (cmd : Cmd) → OpensBulk cmd → OpensItsSender s (lines.Command cmd) → OpensItsTaker s (lines.Command cmd) → OpensTo (streams_of s).stream (takes_of s) cmd
+opens_to s (commands.OpenEp x) only sends takes =
+    (λ comes. ap is_some (sends only.kind only.speed (in_way x.name.way only.way comes)), λ goes. ap is_some (takes only.kind only.speed (out_way x.name.way only.way goes)))
+opens_to s (commands.Get name len by) only sends takes = tt
+opens_to s (commands.Put name bytes by) only sends takes = tt
+opens_to s (commands.Control name setup bytes) only sends takes = tt
+opens_to s (commands.Iso name count len seed) only sends takes = tt
+opens_to s (commands.Cancel name) only sends takes = tt
+
+line_can : (s : Script) (l : Line) → BulkLine l → OpensItsSender s l → OpensItsTaker s l → NumbersLine l → KindOfLine (CanBe (streams_of s).stream (takes_of s)) l
+line_can s (lines.Order event count) only sends takes numbers = tt
+line_can s (lines.Micro count) only sends takes numbers = tt
+line_can s (lines.Command cmd) only sends takes numbers = (only, opens_to s cmd only sends takes, numbers)
+
+lines_can : (s : Script) (xs : List (ℕ × Line)) → AllByRecursion (λ x. BulkLine x.1) xs → AllByRecursion (λ x. OpensItsSender s x.1) xs → AllByRecursion (λ x. OpensItsTaker s x.1) xs → AllByRecursion (λ x. NumbersLine x.1) xs
+    → AllByRecursion (λ x. KindOfLine (CanBe (streams_of s).stream (takes_of s)) x.1) xs
+lines_can s [] only sends takes numbers = tt
+lines_can s (x ∷ xs) only sends takes numbers = (line_can s x.1 only.0 sends.0 takes.0 numbers.0, lines_can s xs only.1 sends.1 takes.1 numbers.1)
 
 -- ---- each moment
 
 abbrev Whole : Script → World → Type 0
-Whole s w = HasWhole (fixed_of s) (streams_of s).stream (streams_of s).packets w
+Whole s w = HasWhole (fixed_of s) (takes_of s) (streams_of s).stream (streams_of s).packets w
 
 abbrev with_streams : (s : Script) (w : World) → Whole s w → Streams
 with_streams s w h = record { stream = (streams_of s).stream; packets = (streams_of s).packets; streams = h.streams; endpoint = h.endpoint }
@@ -71,23 +94,35 @@ of_script : (s : Script) → AreOfScript s (streams_of s).packets
 of_script s = record { some = λ addr ep x is. ap left_of is; none = λ addr ep is. ap left_of is }
 
 module _ (stays : StaysWhole) where
-  is_kept : (s : Script) → IsKeptBy (fixed_of s) (CanBe (streams_of s).stream) (Whole s)
+  is_kept : (s : Script) → IsKeptBy (fixed_of s) (CanBe (streams_of s).stream (takes_of s)) (Whole s)
   is_kept s = record {
-    driver = λ w h. stays.driver (fixed_of s) h.member (with_streams s w h) h.standing w h.whole;
-    controller = λ w h. stays.controller (fixed_of s) h.member (with_streams s w h) h.standing w h.whole;
-    command = λ w line cmd can offered h. stays.command (fixed_of s) h.member (with_streams s w h) h.standing w line cmd can.0 can.1 can.2 offered h.whole;
+    driver = λ w h. stays.driver (fixed_of s) (takes_of s) h.member (with_streams s w h) h.standing w h.whole;
+    controller = λ w h. stays.controller (fixed_of s) (takes_of s) h.member (with_streams s w h) h.standing w h.whole;
+    command = λ w line cmd can offered h. stays.command (fixed_of s) (takes_of s) h.member (with_streams s w h) h.standing w line cmd can.0 can.1 can.2 offered h.whole;
   }
 
   pub stay_whole : ScriptsStayWhole
-  stay_whole s fit bytes sends numbers only k =
-      holds_throughout (CanBe (streams_of s).stream) (Whole s) s fit (lines_can s s.lines only sends numbers) (stays.opening s fit bytes) (is_kept s) k
+  stay_whole s fit bytes sends takes numbers only k =
+      holds_throughout (CanBe (streams_of s).stream (takes_of s)) (Whole s) s fit (lines_can s s.lines only sends takes numbers) (stays.opening s fit bytes) (is_kept s) k
 
   pub are_right : StreamsAreRight
-  are_right s fit bytes sends numbers own only k =
+  are_right s fit bytes sends takes numbers own only k =
       let w : World = (moment s k).world in
-      let h : Whole s w = stay_whole s fit bytes sends numbers only k in
+      let h : Whole s w = stay_whole s fit bytes sends takes numbers only k in
       let f = h.whole.feeding in
-      world_right s (fixed_of s) opening_base h.member (with_streams s w h) h.standing w only own (of_script s) f.working.streaming f.turns.receives f.queues.streams_are h.whole.told
+      world_right s (fixed_of s) opening_base h.member (with_streams s w h) h.standing w only own (of_script s) f.working.streaming f.turns.bulk f.queues.streams_are h.whole.told
 
   pub texts_are_right : TextsAreRight
-  texts_are_right text s spelled only = are_right s (spelled_fits text s spelled) (spelled_bytes text s spelled) (spelled_senders text s spelled) (spelled_numbers text s spelled) (spelled_owns text s spelled) only
+  texts_are_right text s spelled only = are_right s (spelled_fits text s spelled) (spelled_bytes text s spelled) (spelled_senders text s spelled) (spelled_takers text s spelled) (spelled_numbers text s spelled) (spelled_owns text s spelled) only
+
+  -- ---- OUT endpoints
+
+  pub texts_are_taken : TextsAreTaken
+  texts_are_taken text s spelled only k =
+      let w : World = (moment s k).world in
+      let h : Whole s w =
+      stay_whole s (spelled_fits text s spelled) (spelled_bytes text s spelled) (spelled_senders text s spelled) (spelled_takers text s spelled) (spelled_numbers text s spelled) only k in
+      let f = h.whole.feeding in
+      let t = h.whole.taking in
+      world_taken s (fixed_of s) (takes_of s) h.member (outs_of h.member h.streams) (heads_of h.member) h.endpoint h.standing.order h.standing.out h.standing.reported h.standing.acc h.standing.parts h.standing.hand w
+      only (moment_seated text s k spelled) t.piped f.counted (outs_are_heads h.member h.streams) (outs_stand (fixed_of s) h.member (with_streams s w h) h.standing w f) h.whole.told

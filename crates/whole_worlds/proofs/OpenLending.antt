@@ -43,12 +43,16 @@ use Rattle.told_queues.proofs.Standing.{spared_told, alike_told}
 use Rattle.open_stores.specs.Opens.{IsOpenLent, AreNamesApart, next_of}
 use Rattle.open_lends.specs.Lends.{IsOpenReady, IsAtLend, parts_lent}
 use Rattle.open_lends.proofs.Lending.{lend_drives, lend_stands, lend_pipes, lend_reports}
-use Rattle.feeding_worlds.specs.Feeding.{IsFeeding}
-use Rattle.feeding_worlds.proofs.Storing.{queue_above}
+use Rattle.reported_streams.specs.Reported.{AreReported}
+use Rattle.whole_worlds.specs.Feeding.{heads_of, IsFeeding}
+use Rattle.whole_worlds.proofs.FeedingStores.{queue_above}
+use Rattle.whole_worlds.proofs.Heads.{head_on, right_of}
 use Rattle.standing_fronts.specs.Reaching.{Reaches}
 use Rattle.whole_worlds.specs.Whole.{tail_of, TailsStand, IsUnderWay, HaveSenders}
 use Rattle.whole_worlds.specs.Laws.{OpenLendKeepsWhole}
+use Rattle.whole_worlds.specs.Taking.{HaveTakers}
 use Rattle.whole_worlds.proofs.OpenBeside.{streams_at, still_frameless, heads_stay, elements_stay, reaches_beside}
+use Rattle.whole_worlds.proofs.TakingOpens.{open_lend_taking}
 
 -- a run that was kept and is lent has its blocks still
 kept_has : (h g : Holding) (b c k : ℕ) (r : Run) → slot_at h b ≡ Keeps r → slot_at g b ≡ Lends r → c ≡ b → SlotHas (slot_at h c) k → SlotHas (slot_at g c) k
@@ -170,10 +174,11 @@ lend_feeding fixed member x s w ready f =
       turns = f.turns;
       stand = record { met = f.queues.met; streams_are = f.queues.streams_are; fed = f.queues.fed; last = f.queues.last; out_are = f.queues.out_are };
     } in
-    let members = k.streaming.ends.members in
     let drives = lend_drives opening_base w.control.walk s.hand p member x.streams x.endpoint s.parts s.order s.out at old in
     let stands = lend_stands opening_base w.control.walk s.hand p member x.streams x.endpoint s.parts s.order s.out at old in
-    let above = queue_above p.driver ready.number ready.endpoint sound.owners f.turns.receives ready.here in (
+    let above = queue_above p.driver ready.number ready.endpoint sound.owners f.turns.bulk ready.here in
+    let counted : AreReported (heads_of member) s.order s.out s.hand (parts_lent s.parts ready) s.acc s.reported =
+    lend_reports s.acc s.reported (heads_of member) opening_base w.control.walk s.hand p member x.streams x.endpoint s.parts s.order s.out at old (λ n on. (head_on member n on).1) f.counted in (
       record {
         working = record {
           operating = k.operating;
@@ -190,21 +195,22 @@ lend_feeding fixed member x s w ready f =
               };
               frameless = still_frameless k.streaming.controlled.list.words w k.streaming.controlled.frameless;
             };
-            piped = lend_pipes sender_of x.stream x.packets s.acc (wired fixed w) opening_base w.control.walk s.hand p member x.streams x.endpoint s.parts s.order s.out at old members k.streaming.piped;
-            right = lend_reports s.acc s.reported opening_base w.control.walk s.hand p member x.streams x.endpoint s.parts s.order s.out at old members k.streaming.right;
+            piped = lend_pipes sender_of x.stream x.packets s.acc (wired fixed w) opening_base w.control.walk s.hand p member x.streams x.endpoint s.parts s.order s.out at old k.streaming.ends.members k.streaming.piped;
+            right = right_of fixed member x s w f s.order s.out s.hand (parts_lent s.parts ready) s.acc s.reported counted;
           };
           place = event_in_place p k.place;
           driven = drives.driven;
         };
         turns = event_turns p sound.owners f.turns;
         queues = record { met = stands.0.met; streams_are = stands.0.streams_are; fed = stands.0.fed; last = stands.0.last; out_are = stands.0.out_are };
+        counted = counted;
         unopened = f.unopened;
       },
       stands.1,
     )
 
 pub open_lend_keeps : OpenLendKeepsWhole
-open_lend_keeps fixed member x s w ready k =
+open_lend_keeps fixed takes member x s w ready k =
     let p = driver_parts w in
     let owners = k.feeding.working.place.sound.owners in
     let driven = k.feeding.working.driven in
@@ -223,6 +229,8 @@ open_lend_keeps fixed member x s w ready k =
         blank = subst (λ (d : DriverContent). AreBlank d) is k.blank;
         names = subst (λ (d : DriverContent). AreNamesApart d) is k.names;
         senders = subst (λ (d : DriverContent). HaveSenders d x.stream) is k.senders;
+        takers = subst (λ (d : DriverContent). HaveTakers d takes) is k.takers;
+        taking = open_lend_taking fixed takes member x s w ready k;
         runs = subst (λ (d : DriverContent). AreInRuns (views_of d) now) is (runs_then p ready owners s.parts driven k.runs);
         tails = subst (λ (d : DriverContent). TailsStand d now s.order s.out) is (tails_then p ready owners s.parts driven s.order s.out k.tails);
         told = subst (λ (d : DriverContent). ToldStands d s.hand now s.reported) is (told_then p ready owners s.parts driven s.hand s.reported k.told);

@@ -17,7 +17,7 @@ use Rattle.run_owners.proofs.Taking.{runs_taken}
 use Rattle.run_owners.proofs.Accepted.{drop_first, fresh_differs}
 use Rattle.walk_members.specs.Reached.{OpensNumbered}
 use Rattle.driver_lends.specs.Opened.{opened_head}
-use Rattle.chained_transfers.specs.Receives.{OpensReceiving}
+use Rattle.chained_transfers.specs.Bulk.{OpensBulk, receives}
 use Rattle.chained_transfers.specs.Accepted.{IsOpened}
 use Rattle.fed_lends.proofs.Accepting.{open_is_blank}
 use Rattle.fed_commands.proofs.Asked.{push_which}
@@ -32,9 +32,10 @@ use Rattle.commanded_queues.proofs.Tails.{open_reaches}
 use Rattle.commanded_queues.proofs.Extending.{open_extents}
 use Rattle.bus_world.specs.World.{World, name_in, commanded_by}
 use Rattle.world_streams.specs.Streaming.{Streams, Standing}
-use Rattle.feeding_worlds.specs.Feeding.{IsFeeding}
+use Rattle.whole_worlds.specs.Feeding.{IsFeeding}
 use Rattle.whole_worlds.specs.Whole.{IsUnderWay, HaveSenders, IsWhole}
 use Rattle.whole_worlds.specs.Laws.{OpensTo}
+use Rattle.whole_worlds.specs.Taking.{HaveTakers}
 use Rattle.whole_worlds.proofs.Tail.{open_tail, idle_ends}
 
 queue_in : Option Command → ℕ
@@ -45,7 +46,7 @@ same_queue : (b c : ℕ) → ◌≡◌ {A = Option Command} (Some (unfinished.Op
 unfolding queue_in
 same_queue b c is = ap queue_in is
 
-module _ (fixed : Fixed) (member : ℕ → Bool) (x : Streams) (s : Standing) (w : World) (line : ℕ) (cmd : Cmd) (o : Offered) (k : IsWhole fixed member x s w) (opened : IsOpened w.driver w.memory o) where
+module _ (fixed : Fixed) (takes : ℕ → ℕ → Bool) (member : ℕ → Bool) (x : Streams) (s : Standing) (w : World) (line : ℕ) (cmd : Cmd) (o : Offered) (k : IsWhole fixed takes member x s w) (opened : IsOpened w.driver w.memory o) where
   abbrev d : DriverContent
   d = w.driver
 
@@ -60,20 +61,28 @@ module _ (fixed : Fixed) (member : ℕ → Bool) (x : Streams) (s : Standing) (w
   apart e z there is =
       let why = opened.opens in
       let sound = k.feeding.working.place.sound in
-      let standing = k.feeding.turns.receives.endpoints e z there in
+      let standing = k.feeding.turns.bulk.endpoints e z there in
       let all = runs_taken (holding d.book w.memory) why.holding_after (2 ∷ 1 ∷ []) sound.stands why.runs in
       let bs = all.blocks in
       let two : length bs ≡ 2 = all.are.long in
       let runs : new_runs d why.holding_after ≡ bs = ap (drop (length d.book.taken)) all.are.taken ∙ drop_first d.book.taken bs in
-      let alive : is_iso z.desc.kind || z.gone ≡ false = ap (λ c. is_iso c || z.gone) standing.receives.kind ∙ standing.gone in
+      let alive : is_iso z.desc.kind || z.gone ≡ false = ap (λ c. is_iso c || z.gone) standing.bulk.kind ∙ standing.gone in
       fresh_differs 0 z.queue all.are (omega (arith, two))
       (placed_run z.queue (QueueHead e) (sound.owners.owned.each.queue e (runs_of_endpoint z) (ap (option_map runs_of_endpoint) there) alive))
       (ap (λ (rs : List ℕ). get_or rs 0 0) (sym runs) ∙ same_queue new.queue z.queue (sym command_is ∙ is))
 
-  senders : x.stream opened.opens.desc.name.addr opened.opens.desc.name.num ≡ true → HaveSenders o.driver x.stream
-  senders to e z here =
-      ⊎_elim (λ (was : slice_get d.endpoints e ≡ Some z). k.senders e z was)
-      (λ (is : (e ≡ length d.endpoints) × (z ≡ new)). ap (λ (y : Endpoint). x.stream y.desc.name.addr y.desc.name.num) is.1 ∙ to)
+  senders : (receives opened.opens.desc.name.way ≡ true → x.stream opened.opens.desc.name.addr opened.opens.desc.name.num ≡ true) → HaveSenders o.driver x.stream
+  senders to e z here comes =
+      ⊎_elim (λ (was : slice_get d.endpoints e ≡ Some z). k.senders e z was comes)
+      (λ (is : (e ≡ length d.endpoints) × (z ≡ new)).
+      ap (λ (y : Endpoint). x.stream y.desc.name.addr y.desc.name.num) is.1 ∙ to (ap (λ (y : Endpoint). receives y.desc.name.way) (sym is.1) ∙ comes))
+      (push_which d.endpoints new e z (ap (λ (p : Offered). slice_get p.driver.endpoints e) (sym opened.opens.is) ∙ here))
+
+  takers : (receives opened.opens.desc.name.way ≡ false → takes opened.opens.desc.name.addr opened.opens.desc.name.num ≡ true) → HaveTakers o.driver takes
+  takers to e z here goes =
+      ⊎_elim (λ (was : slice_get d.endpoints e ≡ Some z). k.takers e z was goes)
+      (λ (is : (e ≡ length d.endpoints) × (z ≡ new)).
+      ap (λ (y : Endpoint). takes y.desc.name.addr y.desc.name.num) is.1 ∙ to (ap (λ (y : Endpoint). receives y.desc.name.way) (sym is.1) ∙ goes))
       (push_which d.endpoints new e z (ap (λ (p : Offered). slice_get p.driver.endpoints e) (sym opened.opens.is) ∙ here))
 
   ready : IsQhInRange (opened_head d opened.opens.desc opened.opens.holding_after) → IsUnderWay o.driver o.memory member s.parts o.driver.command
@@ -82,29 +91,31 @@ module _ (fixed : Fixed) (member : ℕ → Bool) (x : Streams) (s : Standing) (w
       let is : IsOpenReady o.driver o.memory = open_waits w.memory d o opened.opens place.sound.owners place.lent place.sound.stands place.sound.shape range in
       subst (λ (c : Option Command). IsUnderWay o.driver o.memory member s.parts c) (sym command_is) (inl is)
 
-pub opened_whole : (fixed : Fixed) (member : ℕ → Bool) (x : Streams) (s : Standing) (w : World) (line : ℕ) (cmd : Cmd) (o : Offered) → OpensReceiving cmd → OpensTo x.stream cmd → OpensNumbered cmd → IsOffered w.driver.room cmd
-    → offered w.driver w.memory cmd ≡ Ok o → IsOpened w.driver w.memory o → IsFeeding fixed member x s (commanded_by w line (name_in cmd) (Ok o)) → IsWhole fixed member x s w → IsWhole fixed member x s (commanded_by w line (name_in cmd) (Ok o))
-opened_whole fixed member x s w line cmd o only to fits room offer opened feeding k =
+pub opened_whole : (fixed : Fixed) (takes : ℕ → ℕ → Bool) (member : ℕ → Bool) (x : Streams) (s : Standing) (w : World) (line : ℕ) (cmd : Cmd) (o : Offered) → OpensBulk cmd → OpensTo x.stream takes cmd → OpensNumbered cmd → IsOffered w.driver.room cmd
+    → offered w.driver w.memory cmd ≡ Ok o → IsOpened w.driver w.memory o → IsFeeding fixed member x s (commanded_by w line (name_in cmd) (Ok o)) → IsWhole fixed takes member x s w → IsWhole fixed takes member x s (commanded_by w line (name_in cmd) (Ok o))
+opened_whole fixed takes member x s w line cmd o only to fits room offer opened feeding k =
     let d = w.driver in
     let sound = k.feeding.working.place.sound in
     let desc = opened.opens.desc in
     let is : cmd ≡ commands.OpenEp desc = opens_its_own d w.memory cmd o only offer opened in
     let small : IsOffered d.room (commands.OpenEp desc) = subst (λ (c : Cmd). IsOffered d.room c) is room in
     let numbered : OpensNumbered (commands.OpenEp desc) = subst (λ (c : Cmd). OpensNumbered c) is fits in
-    let stream : OpensTo x.stream (commands.OpenEp desc) = subst (λ (c : Cmd). OpensTo x.stream c) is to in
+    let stream : OpensTo x.stream takes (commands.OpenEp desc) = subst (λ (c : Cmd). OpensTo x.stream takes c) is to in
     let range : IsQhInRange (opened_head d desc opened.opens.holding_after) =
-    new_head_range desc (newest_of d.endpoints) (get_or (new_runs d opened.opens.holding_after) 1 0) opened.receives numbered small.1 in
+    new_head_range desc (newest_of d.endpoints) (get_or (new_runs d opened.opens.holding_after) 1 0) opened.bulk numbered small.1 in
     record {
       feeding = feeding;
-      under_way = ready fixed member x s w line cmd o k opened range;
+      under_way = ready fixed takes member x s w line cmd o k opened range;
       blank = open_is_blank d w.memory o opened k.blank;
-      names = accepted_apart d w.memory o k.feeding.turns.receives (inl opened) k.names;
-      senders = senders fixed member x s w line cmd o k opened stream;
+      names = accepted_apart d w.memory o k.feeding.turns.bulk (inl opened) k.names;
+      senders = senders fixed takes member x s w line cmd o k opened stream.0;
+      takers = takers fixed takes member x s w line cmd o k opened stream.1;
+      taking = record { ends = k.taking.ends; piped = k.taking.piped; untaken = k.taking.untaken };
       runs = open_extents d w.memory o s.parts opened sound.stands sound.owners feeding.working.driven k.runs;
       tails = λ e z here met.
           subst (λ (c : ℕ). Reaches o.driver (s.parts (32 * z.queue)) (s.order (32 * z.queue)) (s.out (32 * z.queue)) e z c)
-          (sym (open_tail o.driver e _ z (command_is fixed member x s w line cmd o k opened)))
+          (sym (open_tail o.driver e _ z (command_is fixed takes member x s w line cmd o k opened)))
           (open_reaches d w.memory o s.parts s.order s.out opened (idle_ends d s.parts s.order s.out opened.opens.idle k.tails) e z here met);
-      told = opened_told d w.memory o s.hand s.parts s.reported opened (apart fixed member x s w line cmd o k opened) k.told;
+      told = opened_told d w.memory o s.hand s.parts s.reported opened (apart fixed takes member x s w line cmd o k opened) k.told;
       bytes = k.bytes;
     }

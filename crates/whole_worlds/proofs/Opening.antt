@@ -14,9 +14,10 @@ use Rattle.open_names.proofs.Apart.{new_apart}
 use Rattle.world_bytes.proofs.Turning.{opened_bytes}
 use Rattle.bus_world.specs.Rooms.{reserve_of}
 use Rattle.shared_worlds.specs.Working.{at_opening}
-use Rattle.feeding_worlds.specs.Feeding.{streams_of}
-use Rattle.feeding_worlds.proofs.Opening.{new_world_feeds}
+use Rattle.whole_worlds.specs.Feeding.{streams_of}
+use Rattle.whole_worlds.proofs.FeedingOpening.{new_world_feeds}
 use Rattle.whole_worlds.specs.Laws.{NewWorldIsWhole}
+use Rattle.whole_worlds.proofs.TakingOpening.{new_world_taking}
 
 no_endpoint : (e : ℕ) (x : Endpoint) → slice_get {X = Endpoint} [] e ≡ Some x → ⊥
 no_endpoint zero x here = cc
@@ -59,6 +60,8 @@ new_world_is_whole s fit bytes = record {
     blank = opening_is_blank s.words (reserve_of s.lines);
     names = new_apart s.words (reserve_of s.lines);
     senders = λ e x here. absurd (no_endpoint e x here);
+    takers = λ e x here. absurd (no_endpoint e x here);
+    taking = new_world_taking s fit;
     runs = opening_runs s.words (reserve_of s.lines);
     tails = λ e x here met. absurd (no_endpoint e x here);
     told = new_told s.words (reserve_of s.lines) at_opening.hand at_opening.parts at_opening.reported;

@@ -18,7 +18,7 @@ use Rattle.commanded_queues.proofs.Tails.{reaches_alike}
 use Rattle.told_queues.proofs.Standing.{refused_told}
 use Rattle.bus_world.specs.World.{World, refused_line, commanded_by}
 use Rattle.world_streams.specs.Streaming.{Streams, Standing}
-use Rattle.feeding_worlds.specs.Feeding.{IsFeeding}
+use Rattle.whole_worlds.specs.Feeding.{IsFeeding}
 use Rattle.whole_worlds.specs.Whole.{tail_of, IsUnderWay, IsWhole}
 
 module _ (d : DriverContent) (line : ℕ) (name : EpName) (why : OfferError) (m : Mem) where
@@ -51,7 +51,7 @@ module _ (d : DriverContent) (line : ℕ) (name : EpName) (why : OfferError) (m 
 
   to_be_lent : (b : ℕ) (words : List ℕ) → IsToBeLent d m b words → IsToBeLent f m b words
   to_be_lent b words k =
-      let r = k.receiving in
+      let r = k.awaits in
       record {
         number = k.number;
         transfer = k.transfer;
@@ -67,7 +67,7 @@ module _ (d : DriverContent) (line : ℕ) (name : EpName) (why : OfferError) (m 
         place = k.place;
         left = k.left;
         fresh = k.fresh;
-        receiving = record {
+        awaits = record {
           here = r.here;
           qtds = r.qtds;
           first = r.first;
@@ -78,9 +78,10 @@ module _ (d : DriverContent) (line : ℕ) (name : EpName) (why : OfferError) (m 
           noted = r.noted;
           words = r.words;
           short = r.short;
-          ins = r.ins;
+          pids = r.pids;
         };
-        gets = k.gets;
+        stages = k.stages;
+        sort = k.sort;
         are = k.are;
       }
 
@@ -93,9 +94,9 @@ module _ (d : DriverContent) (line : ℕ) (name : EpName) (why : OfferError) (m 
   under_way member parts (Some (unfinished.Iso e t count)) k = tt
   under_way member parts (Some (unfinished.Unchain e)) k = tt
 
-pub refused_whole : (fixed : Fixed) (member : ℕ → Bool) (x : Streams) (s : Standing) (w : World) (line : ℕ) (name : EpName) (why : OfferError) → IsFeeding fixed member x s (commanded_by w line name (Err why)) → IsWhole fixed member x s w
-    → IsWhole fixed member x s (commanded_by w line name (Err why))
-refused_whole fixed member x s w line name why feeding k =
+pub refused_whole : (fixed : Fixed) (takes : ℕ → ℕ → Bool) (member : ℕ → Bool) (x : Streams) (s : Standing) (w : World) (line : ℕ) (name : EpName) (why : OfferError) → IsFeeding fixed member x s (commanded_by w line name (Err why)) → IsWhole fixed takes member x s w
+    → IsWhole fixed takes member x s (commanded_by w line name (Err why))
+refused_whole fixed takes member x s w line name why feeding k =
     let d = w.driver in
     let row : Report = record { name = name; what = Refused line why; from = length d.store; len = 0 } in
     record {
@@ -104,6 +105,8 @@ refused_whole fixed member x s w line name why feeding k =
       blank = k.blank;
       names = k.names;
       senders = k.senders;
+      takers = k.takers;
+      taking = record { ends = k.taking.ends; piped = k.taking.piped; untaken = k.taking.untaken };
       runs = k.runs;
       tails = λ e z here met.
           reaches_alike d (refused_line d line name why) s.parts s.order s.out e (tail_of d e z) z z refl refl

@@ -33,12 +33,16 @@ use Rattle.scripted_streams.specs.Senders.{sender_of}
 use Rattle.bus_world.specs.World.{World, controller_parts, driver_parts, with_parts}
 use Rattle.world_streams.specs.Streaming.{Streams, Standing, wired}
 use Rattle.shared_worlds.specs.Working.{IsWorking}
-use Rattle.feeding_worlds.specs.Feeding.{IsFeeding}
-use Rattle.feeding_worlds.proofs.Storing.{queue_above}
+use Rattle.reported_streams.specs.Reported.{AreReported}
+use Rattle.whole_worlds.specs.Feeding.{heads_of, IsFeeding}
+use Rattle.whole_worlds.proofs.FeedingStores.{queue_above}
+use Rattle.whole_worlds.proofs.Heads.{right_of}
 use Rattle.whole_worlds.specs.Whole.{tail_block, tail_of, TailsStand, IsUnderWay, HaveSenders, IsWhole, HasWhole}
 use Rattle.whole_worlds.specs.Laws.{ReleaseKeepsWhole}
+use Rattle.whole_worlds.specs.Taking.{HaveTakers}
 use Rattle.whole_worlds.proofs.Returning.{due, transfer, endpoint, returning, stand, met}
 use Rattle.whole_worlds.proofs.Telling.{release_told}
+use Rattle.whole_worlds.proofs.TakingReturns.{release_taking}
 
 none_under_way : (d : DriverContent) (m : Mem) (member : ℕ → Bool) (parts : StructureSets) (c : Option Command) → c ≡ None → IsUnderWay d m member parts c
 none_under_way d m member parts None free = tt
@@ -48,7 +52,7 @@ none_under_way d m member parts (Some c) free = absurd (cc)
 plain_tail : (c : Option Command) (o : Option Transfer) (e dummy : ℕ) → c ≡ None → tail_block c o e dummy ≡ dummy
 plain_tail c o e dummy free = ap (λ (i : Option Command). tail_block i o e dummy) free
 
-module _ (fixed : Fixed) (member : ℕ → Bool) (x : Streams) (s : Standing) (w : World) (t : ℕ) (row : driver_row (driver_parts w) ≡ rows.ReleaseTransfer t) (k : IsWhole fixed member x s w) where
+module _ (fixed : Fixed) (takes : ℕ → ℕ → Bool) (member : ℕ → Bool) (x : Streams) (s : Standing) (w : World) (t : ℕ) (row : driver_row (driver_parts w) ≡ rows.ReleaseTransfer t) (k : IsWhole fixed takes member x s w) where
   abbrev p : Parts
   p = driver_parts w
 
@@ -59,10 +63,10 @@ module _ (fixed : Fixed) (member : ℕ → Bool) (x : Streams) (s : Standing) (w
   f = k.feeding
 
   abbrev y : Transfer
-  y = transfer fixed member x s w t row k
+  y = transfer fixed takes member x s w t row k
 
   abbrev z : Endpoint
-  z = endpoint fixed member x s w t row k
+  z = endpoint fixed takes member x s w t row k
 
   abbrev n : ℕ
   n = 32 * z.queue
@@ -83,7 +87,7 @@ module _ (fixed : Fixed) (member : ℕ → Bool) (x : Streams) (s : Standing) (w
   standing = record s { parts = now; out = later }
 
   g : IsReleased opening_base member s.parts s.hand w.control.walk p s.order s.out t n goes
-  g = release_feeds opening_base member s.parts s.hand w.control.walk p s.order s.out t y z (stand fixed member x s w t row k) (returning fixed member x s w t row k)
+  g = release_feeds opening_base member s.parts s.hand w.control.walk p s.order s.out t y z (stand fixed takes member x s w t row k) (returning fixed takes member x s w t row k)
 
   -- ---- what the row changes
 
@@ -91,7 +95,7 @@ module _ (fixed : Fixed) (member : ℕ → Bool) (x : Streams) (s : Standing) (w
   after = after_transfer p t (Some y) (free_qtds d.notes (holding d.book w.memory) y.first y.qtds)
 
   row_is : after_driver_row (release_row t) p ≡ after
-  row_is = ap (λ (o : Option Transfer). after_transfer p t o (freed_by d (holding d.book w.memory) o)) (returning fixed member x s w t row k).here
+  row_is = ap (λ (o : Option Transfer). after_transfer p t o (freed_by d (holding d.book w.memory) o)) (returning fixed takes member x s w t row k).here
 
   -- what the rest of the content has stays
   stays : (P : DriverContent → Type 0) → P after.driver → P new.driver
@@ -104,13 +108,16 @@ module _ (fixed : Fixed) (member : ℕ → Bool) (x : Streams) (s : Standing) (w
   frameless words (empty none over) = empty none over
 
   above : 0 ≢ n
-  above = queue_above d y.endpoint z f.working.place.sound.owners f.turns.receives (returning fixed member x s w t row k).endpoint
+  above = queue_above d y.endpoint z f.working.place.sound.owners f.turns.bulk (returning fixed takes member x s w t row k).endpoint
 
   in_place : IsInPlace new.memory new.driver
   in_place = subst (λ (r : DriverRow). IsInPlace (after_driver_row r p).memory (after_driver_row r p).driver) row (event_in_place p f.working.place)
 
   turns : TakesTurns new.driver
   turns = subst (λ (r : DriverRow). TakesTurns (after_driver_row r p).driver) row (event_turns p f.working.place.sound.owners f.turns)
+
+  counted : AreReported (heads_of member) s.order later s.hand now s.acc s.reported
+  counted = reported_stay (heads_of member) s.order s.out s.hand s.parts s.acc s.reported n goes g.head g.buffers g.untold f.counted
 
   working : IsWorking fixed opening_base member x standing new
   working = record {
@@ -129,45 +136,46 @@ module _ (fixed : Fixed) (member : ℕ → Bool) (x : Streams) (s : Standing) (w
         frameless = frameless f.working.streaming.controlled.list.words f.working.streaming.controlled.frameless;
       };
       piped = pipes_returned sender_of x.stream x.packets member x.streams x.endpoint s.acc s.parts s.hand (wired fixed w) n goes g.head f.working.streaming.piped;
-      right = reported_stay x.streams s.order s.out s.hand s.parts s.acc s.reported n goes g.head g.buffers g.untold f.working.streaming.right;
+      right = right_of fixed member x s w f s.order later s.hand now s.acc s.reported counted;
     };
     place = in_place;
     driven = g.drives.driven;
   }
 
   met_now : AreMet new.driver member × HaveStreams new.driver x.streams x.endpoint
-  met_now = release_keeps_met p t y member x.streams x.endpoint (returning fixed member x s w t row k).here f.queues.met f.queues.streams_are
+  met_now = release_keeps_met p t y member x.streams x.endpoint (returning fixed takes member x s w t row k).here f.queues.met f.queues.streams_are
 
   feeding : IsFeeding fixed member x standing new
   feeding = record {
     working = working;
     turns = turns;
     queues = record { met = met_now.0; streams_are = met_now.1; fed = g.fed; last = g.last; out_are = g.still_out };
+    counted = counted;
     unopened = f.unopened;
   }
 
   -- ---- tails
 
   tail_was : (e : ℕ) (c : Endpoint) → tail_of d e c ≡ 32 * c.dummy
-  tail_was e c = ap (λ (b : ℕ). 32 * b) (plain_tail d.command (slice_get d.transfers (length d.transfers - 1)) e c.dummy (due fixed member x s w t row k).idle)
+  tail_was e c = ap (λ (b : ℕ). 32 * b) (plain_tail d.command (slice_get d.transfers (length d.transfers - 1)) e c.dummy (due fixed takes member x s w t row k).idle)
 
   tail_is : (e : ℕ) (c : Endpoint) → tail_of new.driver e c ≡ 32 * c.dummy
   tail_is e c = stays (λ (q : DriverContent). tail_of q e c ≡ 32 * c.dummy)
-      (ap (λ (b : ℕ). 32 * b) (plain_tail d.command (slice_get after.driver.transfers (length after.driver.transfers - 1)) e c.dummy (due fixed member x s w t row k).idle))
+      (ap (λ (b : ℕ). 32 * b) (plain_tail d.command (slice_get after.driver.transfers (length after.driver.transfers - 1)) e c.dummy (due fixed takes member x s w t row k).idle))
 
   tails : TailsStand new.driver now s.order later
   tails e c here is =
       let there : slice_get d.endpoints e ≡ Some c = ap (λ (q : Parts). slice_get q.driver.endpoints e) (sym row_is) ∙ here in
       subst (Reaches new.driver (now (32 * c.queue)) (s.order (32 * c.queue)) (later (32 * c.queue)) e c) (tail_was e c ∙ sym (tail_is e c))
-      (release_reaches opening_base member s.parts s.hand w.control.walk p s.order s.out t y z (stand fixed member x s w t row k) (returning fixed member x s w t row k) e c (tail_of d e c)
-      (k.tails e c there (met fixed member x s w t row k c)))
+      (release_reaches opening_base member s.parts s.hand w.control.walk p s.order s.out t y z (stand fixed takes member x s w t row k) (returning fixed takes member x s w t row k) e c (tail_of d e c)
+      (k.tails e c there (met fixed takes member x s w t row k c)))
 
   -- ---- the whole
 
   under_way : IsUnderWay new.driver new.memory member now new.driver.command
-  under_way = none_under_way new.driver new.memory member now new.driver.command (stays (λ (q : DriverContent). q.command ≡ None) (due fixed member x s w t row k).idle)
+  under_way = none_under_way new.driver new.memory member now new.driver.command (stays (λ (q : DriverContent). q.command ≡ None) (due fixed takes member x s w t row k).idle)
 
-  pub new_whole : HasWhole fixed x.stream x.packets new
+  pub new_whole : HasWhole fixed takes x.stream x.packets new
   new_whole = record {
     member = member;
     streams = x.streams;
@@ -179,13 +187,15 @@ module _ (fixed : Fixed) (member : ℕ → Bool) (x : Streams) (s : Standing) (w
       blank = stays AreBlank k.blank;
       names = stays AreNamesApart k.names;
       senders = stays (λ (q : DriverContent). HaveSenders q x.stream) k.senders;
+      takers = stays (λ (q : DriverContent). HaveTakers q takes) k.takers;
+      taking = release_taking fixed takes member x s w t row k;
       runs = g.in_runs;
       tails = tails;
-      told = release_told opening_base member s.parts s.hand w.control.walk p s.order s.out t y z (stand fixed member x s w t row k) (returning fixed member x s w t row k) s.reported k.told;
+      told = release_told opening_base member s.parts s.hand w.control.walk p s.order s.out t y z (stand fixed takes member x s w t row k) (returning fixed takes member x s w t row k) s.reported k.told;
       bytes = k.bytes;
     };
   }
 
 pub release_keeps_whole : ReleaseKeepsWhole
-release_keeps_whole fixed member x s w t row k =
-    subst (λ (r : DriverRow). HasWhole fixed x.stream x.packets (with_parts w (after_driver_row r (driver_parts w)))) (sym row) (new_whole fixed member x s w t row k)
+release_keeps_whole fixed takes member x s w t row k =
+    subst (λ (r : DriverRow). HasWhole fixed takes x.stream x.packets (with_parts w (after_driver_row r (driver_parts w)))) (sym row) (new_whole fixed takes member x s w t row k)

@@ -1,5 +1,5 @@
--- The transfer that is given back, in a world whose driver only receives.
-use Rattle.std.proofs.Common.{◌≡◌, ℕ, zero, suc, ◌*◌, ◌<◌, ◌≤◌, ◌&&◌, not, Bool, true, false, if◌then◌else◌, List, [], ◌∷◌, length, slice_get, Option, Some, None, refl, sym, subst, ◌∙◌, arith}
+-- The transfer that is given back, in a world whose endpoints are all bulk ones.
+use Rattle.std.proofs.Common.{◌≡◌, ℕ, zero, suc, ◌<◌, ◌≤◌, ◌&&◌, not, Bool, true, false, if◌then◌else◌, List, [], ◌∷◌, length, slice_get, Option, Some, None, refl, sym, subst, ◌∙◌, arith}
 use Rattle.usb_bus.specs.Bus.{Fixed}
 use Rattle.driver_rows.specs.declared.content.Endpoint.{Endpoint}
 use Rattle.driver_rows.specs.declared.content.Transfer.{Transfer}
@@ -16,6 +16,7 @@ use Rattle.standing_fronts.proofs.Lists.{times_some}
 use Rattle.bus_world.specs.World.{World, driver_parts}
 use Rattle.world_streams.specs.Streaming.{Streams, Standing}
 use Rattle.whole_worlds.specs.Whole.{IsWhole}
+use Rattle.whole_worlds.proofs.Heads.{rising}
 
 -- ---- what is owed
 
@@ -41,7 +42,7 @@ there_at (x ∷ xs) (suc i) below = there_at xs i (omega (arith, below))
 
 -- ---- in a world
 
-module _ (fixed : Fixed) (member : ℕ → Bool) (x : Streams) (s : Standing) (w : World) (t : ℕ) (row : driver_row (driver_parts w) ≡ rows.ReleaseTransfer t) (k : IsWhole fixed member x s w) where
+module _ (fixed : Fixed) (takes : ℕ → ℕ → Bool) (member : ℕ → Bool) (x : Streams) (s : Standing) (w : World) (t : ℕ) (row : driver_row (driver_parts w) ≡ rows.ReleaseTransfer t) (k : IsWhole fixed takes member x s w) where
   pub due : IsTransferDue (driver_parts w) t
   due = subst (IsDue (driver_parts w)) row (each_is_due (driver_parts w))
 
@@ -78,15 +79,13 @@ module _ (fixed : Fixed) (member : ℕ → Bool) (x : Streams) (s : Standing) (w
         owners = f.working.place.sound.owners;
         stands = f.working.place.sound.stands;
         in_runs = k.runs;
-        receives = f.turns.receives;
+        bulk = f.turns.bulk;
         chained = f.turns.chained;
         turns = f.turns.turns;
         fed = f.queues.fed;
         last = f.queues.last;
         still_out = f.queues.out_are;
         fronts = λ e z here meets. (k.tails e z here meets).stands;
-        rise = λ e z here.
-            let r = f.working.streaming.right (32 * z.queue) (f.queues.streams_are.each e z here (met z)).0 in
-            record { next = r.accounts.ordered.next; alternate = r.accounts.ordered.alternate };
+        rise = λ e z here. rising fixed member x s w f e z here (met z);
         met = λ e z here. f.queues.met.each e z here (met z);
       }

@@ -1,4 +1,4 @@
--- The ring of a driver that only receives, as the words of memory tell it.
+-- The ring of a driver of bulk endpoints, as the words of memory tell it.
 use Rattle.std.proofs.Common.{◌≡◌, ◌≢◌, ℕ, zero, suc, ◌+◌, ◌-◌, Bool, true, false, cond, List, [], ◌∷◌, ◌++◌, length, take, slice_get, Option, Some, None, ap, sym, subst, ◌∙◌, refl, arith}
 use Rattle.std.proofs.Math.Seq.{take-append_seam}
 use Rattle.std.proofs.lemmas.List.{length-append}
@@ -13,7 +13,7 @@ use Rattle.ring_members.specs.Links.{link_in, members_from, members, AreLinked}
 use Rattle.ring_members.specs.Ring.{StandsFor, IsSound}
 use Rattle.ring_members.proofs.Links.{AreDistinct, rest_distinct, ring_is_read}
 use Rattle.ring_members.proofs.Placed.{ring_distinct}
-use Rattle.chained_transfers.specs.Receives.{IsReceivingCommand, Receives}
+use Rattle.chained_transfers.specs.Bulk.{IsBulkCommand, OnlyBulk}
 use Rattle.whole_worlds.specs.Placed.{linked_to, IsNone, AreOnce, ReadsRing}
 
 -- ---- each once
@@ -68,7 +68,7 @@ without_last xs y =
 
 -- ---- the ring as it is read
 
-linked_now : (word : ℕ → ℕ) (xs : List Endpoint) (ts : List Transfer) (o : Option Command) → IsReceivingCommand o → StandsFor word xs ts o → AreLinked word head_block (linked_to o xs)
+linked_now : (word : ℕ → ℕ) (xs : List Endpoint) (ts : List Transfer) (o : Option Command) → IsBulkCommand o → StandsFor word xs ts o → AreLinked word head_block (linked_to o xs)
 linked_now word xs ts None only s = s
 linked_now word xs ts (Some (unfinished.Open queue)) only s =
     subst (λ (ys : List Endpoint). AreLinked word head_block (take (length ys - 1) ys)) (sym s.all) (subst (λ (ys : List Endpoint). AreLinked word head_block ys) (sym (without_last s.older s.new)) s.ring)
@@ -87,7 +87,7 @@ distinct_now xs (Some unfinished.Chain) distinct = distinct
 distinct_now xs (Some (unfinished.Iso e t count)) distinct = distinct
 distinct_now xs (Some (unfinished.Unchain e)) distinct = distinct
 
-pub reads_ring : (m : Mem) (d : DriverContent) → IsSound m d → Receives d → ReadsRing m d
+pub reads_ring : (m : Mem) (d : DriverContent) → IsSound m d → OnlyBulk d → ReadsRing m d
 reads_ring m d sound only = record {
   all = λ e x here. (only.endpoints e x here).linked;
   chain = ring_is_read (link_in m) (linked_to d.command d.endpoints) (linked_now (link_in m) d.endpoints d.transfers d.command only.command sound.ring.ring);

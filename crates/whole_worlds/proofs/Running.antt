@@ -1,10 +1,10 @@
--- Each moment of the run of a script that only receives.
+-- Each moment of the run of a script of bulk endpoints.
 use Rattle.whole_worlds.proofs.Opening.{new_world_is_whole}
 use Rattle.whole_worlds.proofs.Beside.{controller_whole}
 use Rattle.whole_worlds.proofs.Commanding.{command_keeps_whole}
 use Rattle.whole_worlds.proofs.Driving.{driver_keeps_whole}
-use Rattle.whole_worlds.specs.Moments.{ScriptsStayWhole, StreamsAreRight, TextsAreRight}
-use Rattle.whole_worlds.proofs.Moments.{StaysWhole, stay_whole, are_right, texts_are_right}
+use Rattle.whole_worlds.specs.Moments.{ScriptsStayWhole, StreamsAreRight, TextsAreRight, TextsAreTaken}
+use Rattle.whole_worlds.proofs.Moments.{StaysWhole, stay_whole, are_right, texts_are_right, texts_are_taken}
 
 each_stays : StaysWhole
 each_stays = record { opening = new_world_is_whole; controller = controller_whole; command = command_keeps_whole; driver = driver_keeps_whole }
@@ -14,6 +14,9 @@ scripts_stay_whole = stay_whole each_stays
 
 pub streams_are_right : StreamsAreRight
 streams_are_right = are_right each_stays
+
+pub texts_taken : TextsAreTaken
+texts_taken = texts_are_taken each_stays
 
 pub texts_right : TextsAreRight
 texts_right = texts_are_right each_stays

@@ -2,13 +2,15 @@
 use Rattle.std.proofs.Common.{◌≡◌, ℕ, zero, suc, slice_get, Some, refl, subst, arith}
 use Rattle.std.specs.List.{AllByRecursion}
 use Rattle.std.proofs.lemmas.Option.{same_Some}
+use Rattle.usb_base.specs.declared.packets.Way.TheVariants as ways
 use Rattle.script_types.specs.declared.devices.DeviceText.{DeviceText}
 use Rattle.script_fits.specs.Fits.{IsFit}
 use Rattle.byte_answers.specs.Bytes.{IsByteScript}
 use Rattle.opening_senders.specs.Own.{HasOwnDevices}
 use Rattle.declared_endpoints.specs.Declared.{OpensSenders}
+use Rattle.declared_takers.specs.Declared.{OpensTakers}
 use Rattle.script_numbers.specs.Numbers.{NumbersOpens}
-use Rattle.chained_transfers.specs.Receives.{ReceivesOnly}
+use Rattle.chained_transfers.specs.Bulk.{BulkOnly}
 use Rattle.whole_worlds.specs.Samples.{one_get}
 
 pub get_fits : IsFit one_get
@@ -28,11 +30,17 @@ get_bytes = record { devices = ((((omega arith, tt), tt), (((omega arith, (omega
 pub get_sends : OpensSenders one_get
 get_sends = ((λ kind speed way. refl), (tt, (tt, tt)))
 
+in_no_out : ways.In ≡ ways.Out → ⊥
+in_no_out same = cc
+
+pub get_takes : OpensTakers one_get
+get_takes = ((λ kind speed way. absurd (in_no_out way)), (tt, (tt, tt)))
+
 pub get_numbers : NumbersOpens one_get
 get_numbers = ((omega arith, omega arith), (tt, (tt, tt)))
 
-pub get_only : ReceivesOnly one_get
-get_only = (record { kind = refl; speed = refl; way = refl }, (tt, (tt, tt)))
+pub get_only : BulkOnly one_get
+get_only = (record { kind = refl; speed = refl; way = tt }, (tt, (tt, tt)))
 
 -- there is one device
 only_device : (i : ℕ) (d : DeviceText) → slice_get one_get.devices (suc i) ≡ Some d → ⊥

@@ -23,9 +23,9 @@ use Rattle.standing_fronts.specs.Reaching.{Reaches}
 use Rattle.told_queues.proofs.Standing.{alike_told}
 use Rattle.bus_world.specs.World.{World, driver_parts, with_parts}
 use Rattle.world_streams.specs.Streaming.{Streams, Standing}
-use Rattle.feeding_worlds.specs.Feeding.{IsFeeding}
-use Rattle.feeding_worlds.specs.Laws.{is_still}
-use Rattle.feeding_worlds.proofs.Still.{still_feeds}
+use Rattle.whole_worlds.specs.Feeding.{IsFeeding}
+use Rattle.whole_worlds.specs.FeedingLaws.{is_still}
+use Rattle.whole_worlds.proofs.FeedingStill.{still_feeds}
 use Rattle.whole_worlds.specs.Whole.{IsUnderWay, IsWhole}
 use Rattle.whole_worlds.specs.Laws.{StillKeepsWhole}
 
@@ -42,12 +42,12 @@ module _ (d : DriverContent) (cleared rung waiting : List ℕ) (bell : Bell) (tu
     tail = r.tail;
   }
 
-module _ (fixed : Fixed) (member : ℕ → Bool) (x : Streams) (s : Standing) (w : World) (k : IsWhole fixed member x s w) where
+module _ (fixed : Fixed) (takes : ℕ → ℕ → Bool) (member : ℕ → Bool) (x : Streams) (s : Standing) (w : World) (k : IsWhole fixed takes member x s w) where
   abbrev stilled_world : List ℕ → List ℕ → List ℕ → Bell → Turn → Bool → List Removal → RegisterFile → World
   stilled_world cleared rung waiting bell turn status_next removals registers = record w { driver = stilled w.driver cleared rung waiting bell turn status_next removals; registers = registers }
 
   stilled_whole : (cleared rung waiting : List ℕ) (bell : Bell) (turn : Turn) (status_next : Bool) (removals : List Removal) (registers : RegisterFile) → w.driver.command ≡ None
-      → IsFeeding fixed member x s (stilled_world cleared rung waiting bell turn status_next removals registers) → IsWhole fixed member x s (stilled_world cleared rung waiting bell turn status_next removals registers)
+      → IsFeeding fixed member x s (stilled_world cleared rung waiting bell turn status_next removals registers) → IsWhole fixed takes member x s (stilled_world cleared rung waiting bell turn status_next removals registers)
   stilled_whole cleared rung waiting bell turn status_next removals registers idle feeding =
       let f : DriverContent = stilled w.driver cleared rung waiting bell turn status_next removals in
       record {
@@ -56,6 +56,8 @@ module _ (fixed : Fixed) (member : ℕ → Bool) (x : Streams) (s : Standing) (w
         blank = k.blank;
         names = k.names;
         senders = k.senders;
+        takers = k.takers;
+        taking = record { ends = k.taking.ends; piped = k.taking.piped; untaken = k.taking.untaken };
         runs = k.runs;
         tails = λ e z here met. still_reaches w.driver cleared rung waiting bell turn status_next removals _ _ _ e z _ (k.tails e z here met);
         told = alike_told w.driver f s.hand s.parts s.reported (record { reports = refl; store = refl; endpoints = refl; transfers = refl; notes = refl }) (λ z meets. meets) (λ z opens. opens) k.told;
@@ -65,7 +67,7 @@ module _ (fixed : Fixed) (member : ℕ → Bool) (x : Streams) (s : Standing) (w
   abbrev after_row : DriverRow → World
   after_row row = with_parts w (after_driver_row row (driver_parts w))
 
-  still_row : (row : DriverRow) → IsDue (driver_parts w) row → is_still row ≡ true → IsFeeding fixed member x s (after_row row) → IsWhole fixed member x s (after_row row)
+  still_row : (row : DriverRow) → IsDue (driver_parts w) row → is_still row ≡ true → IsFeeding fixed member x s (after_row row) → IsWhole fixed takes member x s (after_row row)
   still_row rows.ClearAdvance due still f =
       stilled_whole (w.driver.cleared ++ w.driver.rung) [] w.driver.waiting bells.Quiet turns.Harvest w.driver.periodic.status_next w.driver.periodic.removals (after_write w.registers 0x04 0x20) due.0 f
   still_row rows.RingBell due still f =
@@ -85,10 +87,10 @@ module _ (fixed : Fixed) (member : ℕ → Bool) (x : Streams) (s : Standing) (w
   still_row (rows.Harvest e t found) due still f = absurd (false≢true still)
 
 pub still_keeps_whole : StillKeepsWhole
-still_keeps_whole fixed member x s w still k = record {
+still_keeps_whole fixed takes member x s w still k = record {
   member = member;
   streams = x.streams;
   endpoint = x.endpoint;
   standing = s;
-  whole = still_row fixed member x s w k (driver_row (driver_parts w)) (each_is_due (driver_parts w)) still (still_feeds fixed member x s w still k.feeding);
+  whole = still_row fixed takes member x s w k (driver_row (driver_parts w)) (each_is_due (driver_parts w)) still (still_feeds fixed member x s w still k.feeding);
 }

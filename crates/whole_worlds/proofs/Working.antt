@@ -17,8 +17,8 @@ use Rattle.bus_world.specs.World.{World, controller_parts, controller_row, contr
 use Rattle.bus_world.specs.Budgets.{moment}
 use Rattle.world_streams.specs.Streaming.{Streams, Standing, HearsBytesNow}
 use Rattle.world_bytes.proofs.Hearing.{hears_bytes}
-use Rattle.feeding_worlds.specs.Feeding.{GoesOnBeside}
-use Rattle.feeding_worlds.proofs.Beside.{controller_feeds}
+use Rattle.whole_worlds.specs.Feeding.{GoesOnBeside}
+use Rattle.whole_worlds.proofs.FeedingBeside.{controller_feeds}
 use Rattle.whole_worlds.specs.Whole.{IsWhole}
 use Rattle.whole_worlds.specs.Placed.{IsAtWork}
 use Rattle.whole_worlds.specs.PlacedLaws.{WholeIsAtWork, RunsInPlaceWhileWhole}
@@ -69,8 +69,8 @@ works w run =
 
 -- ---- a whole world
 
-at_work : (fixed : Fixed) (member : ℕ → Bool) (x : Streams) (s : Standing) (w : World) → IsWhole fixed member x s w → IsAtWork fixed w
-at_work fixed member x s w k =
+at_work : (fixed : Fixed) (takes : ℕ → ℕ → Bool) (member : ℕ → Bool) (x : Streams) (s : Standing) (w : World) → IsWhole fixed takes member x s w → IsAtWork fixed w
+at_work fixed takes member x s w k =
     let f = k.feeding in
     let heard : HearsBytesNow fixed w = hears_bytes fixed w k.bytes in
     let g : GoesOnBeside fixed member x s w = controller_feeds fixed member x s w heard f in
@@ -78,18 +78,18 @@ at_work fixed member x s w k =
     let after : base_of (controller_next fixed w).registers ≡ opening_base = g.event.event.controlled.ring.registers in
     record {
       place = f.working.place;
-      ring = reads_ring w.memory w.driver f.working.place.sound f.turns.receives;
+      ring = reads_ring w.memory w.driver f.working.place.sound f.turns.bulk;
       registers = before;
       works = works w (ap (λ (b : Base). b.run) before);
       goes_on = goes_on fixed w (ap (λ (b : Base). b.run) after);
     }
 
 pub whole_works : WholeIsAtWork
-whole_works fixed stream packets w h = at_work fixed h.member (record { stream = stream; packets = packets; streams = h.streams; endpoint = h.endpoint }) h.standing w h.whole
+whole_works fixed takes stream packets w h = at_work fixed takes h.member (record { stream = stream; packets = packets; streams = h.streams; endpoint = h.endpoint }) h.standing w h.whole
 
 pub runs_in_place : RunsInPlaceWhileWhole
-runs_in_place s stream packets whole k =
-    let works : (j : ℕ) → IsAtWork (fixed_of s) (moment s j).world = λ j. whole_works (fixed_of s) stream packets (moment s j).world (whole j) in
+runs_in_place s takes stream packets whole k =
+    let works : (j : ℕ) → IsAtWork (fixed_of s) (moment s j).world = λ j. whole_works (fixed_of s) takes stream packets (moment s j).world (whole j) in
     record {
       at_work = works k;
       no_error = no_error s (λ j. ap (λ (b : Base). b.run) (works j).registers) k;

@@ -1,5 +1,5 @@
--- Laws of worlds whose driver only receives: each event and each command leaves such a world whole.
-use Rattle.std.specs.Prelude.{◌≡◌, ℕ, ◌≤◌, ◌⊎◌, Bool, true, List, Some}
+-- Laws of worlds whose endpoints are all bulk ones: each event and each command leaves such a world whole.
+use Rattle.std.specs.Prelude.{◌≡◌, ℕ, ◌≤◌, Bool, true, false, List, Some}
 use Rattle.usb_base.specs.declared.commands.Cmd.{Cmd}
 use Rattle.usb_base.specs.declared.commands.Cmd.TheVariants as commands
 use Rattle.script_types.specs.declared.scripts.Script.{Script}
@@ -14,64 +14,66 @@ use Rattle.driver_rows.specs.Rows.{driver_row}
 use Rattle.bus_world.specs.World.{World, driver_parts, driver_next, controller_next, commanded}
 use Rattle.bus_world.specs.Opening.{opening_world}
 use Rattle.world_streams.specs.Streaming.{Streams, Standing}
-use Rattle.chained_transfers.specs.Receives.{OpensReceiving}
+use Rattle.chained_transfers.specs.Bulk.{OpensBulk, receives}
 use Rattle.fed_lends.specs.ToLend.{IsToBeLent}
 use Rattle.open_lends.specs.Lends.{IsOpenReady}
 use Rattle.open_stores.specs.Opens.{IsOpenLent}
 use Rattle.walk_members.specs.Reached.{OpensNumbered}
-use Rattle.feeding_worlds.specs.Feeding.{streams_of}
-use Rattle.feeding_worlds.specs.Laws.{is_still}
+use Rattle.out_rows.specs.Takers.{takes_of}
+use Rattle.whole_worlds.specs.Feeding.{streams_of}
+use Rattle.whole_worlds.specs.FeedingLaws.{is_still}
 use Rattle.whole_worlds.specs.Whole.{IsWhole, HasWhole}
 
 abbrev pub NewWorldIsWhole : Type 0
-NewWorldIsWhole = (s : Script) → IsFit s → IsByteScript s → HasWhole (fixed_of s) (streams_of s).stream (streams_of s).packets (opening_world s)
+NewWorldIsWhole = (s : Script) → IsFit s → IsByteScript s → HasWhole (fixed_of s) (takes_of s) (streams_of s).stream (streams_of s).packets (opening_world s)
 
 abbrev pub ControllerKeepsWhole : Type 0
-ControllerKeepsWhole = (fixed : Fixed) (member : ℕ → Bool) (x : Streams) (s : Standing) (w : World) → IsWhole fixed member x s w → HasWhole fixed x.stream x.packets (controller_next fixed w)
+ControllerKeepsWhole = (fixed : Fixed) (takes : ℕ → ℕ → Bool) (member : ℕ → Bool) (x : Streams) (s : Standing) (w : World) → IsWhole fixed takes member x s w → HasWhole fixed takes x.stream x.packets (controller_next fixed w)
 
 -- ---- commands
 
--- the endpoint that is opened, if any, has a stream, and its address and number fit their fields (EHCI 1.0, 3.6.2; USB 2.0, 8.3.2)
-abbrev pub OpensTo : (ℕ → ℕ → Bool) → Cmd → Type 0
-OpensTo stream (commands.OpenEp desc) = stream desc.name.addr desc.name.num ≡ true
-OpensTo stream _ = Unit {0}
+-- the endpoint that is opened, if any, has a stream or a taker, and its address and number fit their fields (EHCI 1.0, 3.6.2; USB 2.0, 8.3.2)
+abbrev pub OpensTo : (ℕ → ℕ → Bool) → (ℕ → ℕ → Bool) → Cmd → Type 0
+OpensTo stream takes (commands.OpenEp desc) =
+    (receives desc.name.way ≡ true → stream desc.name.addr desc.name.num ≡ true) × (receives desc.name.way ≡ false → takes desc.name.addr desc.name.num ≡ true)
+OpensTo stream takes _ = Unit {0}
 
 abbrev pub CommandKeepsWhole : Type 0
-CommandKeepsWhole = (fixed : Fixed) (member : ℕ → Bool) (x : Streams) (s : Standing) (w : World) (line : ℕ) (cmd : Cmd) → OpensReceiving cmd → OpensTo x.stream cmd
-    → OpensNumbered cmd → IsOffered w.driver.room cmd → IsWhole fixed member x s w → HasWhole fixed x.stream x.packets (commanded w line cmd)
+CommandKeepsWhole = (fixed : Fixed) (takes : ℕ → ℕ → Bool) (member : ℕ → Bool) (x : Streams) (s : Standing) (w : World) (line : ℕ) (cmd : Cmd) → OpensBulk cmd → OpensTo x.stream takes cmd
+    → OpensNumbered cmd → IsOffered w.driver.room cmd → IsWhole fixed takes member x s w → HasWhole fixed takes x.stream x.packets (commanded w line cmd)
 
 -- ---- the driver's rows
 
 abbrev pub StillKeepsWhole : Type 0
-StillKeepsWhole = (fixed : Fixed) (member : ℕ → Bool) (x : Streams) (s : Standing) (w : World) → is_still (driver_row (driver_parts w)) ≡ true → IsWhole fixed member x s w
-    → HasWhole fixed x.stream x.packets (driver_next w)
+StillKeepsWhole = (fixed : Fixed) (takes : ℕ → ℕ → Bool) (member : ℕ → Bool) (x : Streams) (s : Standing) (w : World) → is_still (driver_row (driver_parts w)) ≡ true → IsWhole fixed takes member x s w
+    → HasWhole fixed takes x.stream x.packets (driver_next w)
 
--- the first qTD of a get is lent, and then stored
+-- the first qTD of a transfer is lent, and then stored
 abbrev pub LendKeepsWhole : Type 0
-LendKeepsWhole = (fixed : Fixed) (member : ℕ → Bool) (x : Streams) (s : Standing) (w : World) (b : ℕ) (words : List ℕ) → IsToBeLent w.driver w.memory b words
-    → IsWhole fixed member x s w → HasWhole fixed x.stream x.packets (driver_next w)
+LendKeepsWhole = (fixed : Fixed) (takes : ℕ → ℕ → Bool) (member : ℕ → Bool) (x : Streams) (s : Standing) (w : World) (b : ℕ) (words : List ℕ) → IsToBeLent w.driver w.memory b words
+    → IsWhole fixed takes member x s w → HasWhole fixed takes x.stream x.packets (driver_next w)
 
 abbrev pub StoreKeepsWhole : Type 0
-StoreKeepsWhole = (fixed : Fixed) (member : ℕ → Bool) (x : Streams) (s : Standing) (w : World) (b : ℕ) (words : List ℕ) → w.driver.command ≡ Some (unfinished.Publish b words) → 1 ≤ w.driver.made
-    → IsWhole fixed member x s w → HasWhole fixed x.stream x.packets (driver_next w)
+StoreKeepsWhole = (fixed : Fixed) (takes : ℕ → ℕ → Bool) (member : ℕ → Bool) (x : Streams) (s : Standing) (w : World) (b : ℕ) (words : List ℕ) → w.driver.command ≡ Some (unfinished.Publish b words) → 1 ≤ w.driver.made
+    → IsWhole fixed takes member x s w → HasWhole fixed takes x.stream x.packets (driver_next w)
 
 -- an open's structures are lent, and then linked
 abbrev pub OpenLendKeepsWhole : Type 0
-OpenLendKeepsWhole = (fixed : Fixed) (member : ℕ → Bool) (x : Streams) (s : Standing) (w : World) → IsOpenReady w.driver w.memory
-    → IsWhole fixed member x s w → HasWhole fixed x.stream x.packets (driver_next w)
+OpenLendKeepsWhole = (fixed : Fixed) (takes : ℕ → ℕ → Bool) (member : ℕ → Bool) (x : Streams) (s : Standing) (w : World) → IsOpenReady w.driver w.memory
+    → IsWhole fixed takes member x s w → HasWhole fixed takes x.stream x.packets (driver_next w)
 
 abbrev pub OpenLinkKeepsWhole : Type 0
-OpenLinkKeepsWhole = (fixed : Fixed) (member : ℕ → Bool) (x : Streams) (s : Standing) (w : World) → IsOpenLent w.driver member s.parts
-    → IsWhole fixed member x s w → HasWhole fixed x.stream x.packets (driver_next w)
+OpenLinkKeepsWhole = (fixed : Fixed) (takes : ℕ → ℕ → Bool) (member : ℕ → Bool) (x : Streams) (s : Standing) (w : World) → IsOpenLent w.driver member s.parts
+    → IsWhole fixed takes member x s w → HasWhole fixed takes x.stream x.packets (driver_next w)
 
 abbrev pub HarvestKeepsWhole : Type 0
-HarvestKeepsWhole = (fixed : Fixed) (member : ℕ → Bool) (x : Streams) (s : Standing) (w : World) (e t : ℕ) (found : Found) → driver_row (driver_parts w) ≡ rows.Harvest e t found
-    → IsWhole fixed member x s w → HasWhole fixed x.stream x.packets (driver_next w)
+HarvestKeepsWhole = (fixed : Fixed) (takes : ℕ → ℕ → Bool) (member : ℕ → Bool) (x : Streams) (s : Standing) (w : World) (e t : ℕ) (found : Found) → driver_row (driver_parts w) ≡ rows.Harvest e t found
+    → IsWhole fixed takes member x s w → HasWhole fixed takes x.stream x.packets (driver_next w)
 
 abbrev pub ReleaseKeepsWhole : Type 0
-ReleaseKeepsWhole = (fixed : Fixed) (member : ℕ → Bool) (x : Streams) (s : Standing) (w : World) (t : ℕ) → driver_row (driver_parts w) ≡ rows.ReleaseTransfer t
-    → IsWhole fixed member x s w → HasWhole fixed x.stream x.packets (driver_next w)
+ReleaseKeepsWhole = (fixed : Fixed) (takes : ℕ → ℕ → Bool) (member : ℕ → Bool) (x : Streams) (s : Standing) (w : World) (t : ℕ) → driver_row (driver_parts w) ≡ rows.ReleaseTransfer t
+    → IsWhole fixed takes member x s w → HasWhole fixed takes x.stream x.packets (driver_next w)
 
--- a driver that only receives has no other row
+-- a driver of bulk endpoints has no other row
 abbrev pub DriverKeepsWhole : Type 0
-DriverKeepsWhole = (fixed : Fixed) (member : ℕ → Bool) (x : Streams) (s : Standing) (w : World) → IsWhole fixed member x s w → HasWhole fixed x.stream x.packets (driver_next w)
+DriverKeepsWhole = (fixed : Fixed) (takes : ℕ → ℕ → Bool) (member : ℕ → Bool) (x : Streams) (s : Standing) (w : World) → IsWhole fixed takes member x s w → HasWhole fixed takes x.stream x.packets (driver_next w)

@@ -1,3 +1,9 @@
+pub mod Feeding
+pub mod Taking
+pub mod FeedingLaws
+pub mod OpenFeeds
+pub mod LendFeeds
+pub mod HarvestFeeds
 pub mod Whole
 pub mod Laws
 pub mod Linked

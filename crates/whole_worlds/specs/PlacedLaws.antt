@@ -1,8 +1,8 @@
--- Laws of worlds whose driver only receives: everything is in place, and the controller meets no fault.
+-- Laws of worlds whose endpoints are all bulk ones: everything is in place, and the controller meets no fault.
 --     WholeIsAtWork              a whole world is at work
 --     HasNoErrorWhileItRuns      while the controller of a script runs, Host System Error is 0
 --     RunsInPlaceWhileWhole      while the world of a script is whole, it runs in place
---     ScriptsRunInPlace          so does each script of bytes that only receives, of which each endpoint that is opened has its sender, and numbers that fit
+--     ScriptsRunInPlace          so does each script of bytes and of bulk endpoints, of which each IN endpoint that is opened has its sender, and numbers fit
 --     TextsRunInPlace            .. which each script is that a text spells
 use Rattle.std.specs.Prelude.{◌≡◌, ℕ, Bool, true, false, List}
 use Rattle.script_types.specs.declared.scripts.Script.{Script}
@@ -11,15 +11,16 @@ use Rattle.script_fits.specs.Fits.{IsFit}
 use Rattle.byte_answers.specs.Bytes.{IsByteScript}
 use Rattle.usb_bus.specs.Bus.{Fixed, fixed_of}
 use Rattle.declared_endpoints.specs.Declared.{OpensSenders}
+use Rattle.declared_takers.specs.Declared.{OpensTakers}
 use Rattle.script_numbers.specs.Numbers.{NumbersOpens}
-use Rattle.chained_transfers.specs.Receives.{ReceivesOnly}
+use Rattle.chained_transfers.specs.Bulk.{BulkOnly}
 use Rattle.bus_world.specs.World.{World}
 use Rattle.bus_world.specs.Budgets.{moment}
 use Rattle.whole_worlds.specs.Whole.{HasWhole}
 use Rattle.whole_worlds.specs.Placed.{IsAtWork, RunsInPlaceThroughout}
 
 abbrev pub WholeIsAtWork : Type 0
-WholeIsAtWork = (fixed : Fixed) (stream : ℕ → ℕ → Bool) (packets : ℕ → ℕ → List (List ℕ)) (w : World) → HasWhole fixed stream packets w → IsAtWork fixed w
+WholeIsAtWork = (fixed : Fixed) (takes stream : ℕ → ℕ → Bool) (packets : ℕ → ℕ → List (List ℕ)) (w : World) → HasWhole fixed takes stream packets w → IsAtWork fixed w
 
 -- EHCI 1.0, 2.3.2 and 4.15.2.4: the fault clears Run and sets Host System Error, and nothing else sets that
 abbrev pub HasNoErrorWhileItRuns : Type 0
@@ -27,10 +28,10 @@ HasNoErrorWhileItRuns = (s : Script) → ((k : ℕ) → (moment s k).world.regis
 
 abbrev pub RunsInPlaceWhileWhole : Type 0
 RunsInPlaceWhileWhole =
-    (s : Script) (stream : ℕ → ℕ → Bool) (packets : ℕ → ℕ → List (List ℕ)) → ((k : ℕ) → HasWhole (fixed_of s) stream packets (moment s k).world) → RunsInPlaceThroughout s
+    (s : Script) (takes stream : ℕ → ℕ → Bool) (packets : ℕ → ℕ → List (List ℕ)) → ((k : ℕ) → HasWhole (fixed_of s) takes stream packets (moment s k).world) → RunsInPlaceThroughout s
 
 abbrev pub ScriptsRunInPlace : Type 0
-ScriptsRunInPlace = (s : Script) → IsFit s → IsByteScript s → OpensSenders s → NumbersOpens s → ReceivesOnly s → RunsInPlaceThroughout s
+ScriptsRunInPlace = (s : Script) → IsFit s → IsByteScript s → OpensSenders s → OpensTakers s → NumbersOpens s → BulkOnly s → RunsInPlaceThroughout s
 
 abbrev pub TextsRunInPlace : Type 0
-TextsRunInPlace = (text : List ℕ) (s : Script) → Spells text s → ReceivesOnly s → RunsInPlaceThroughout s
+TextsRunInPlace = (text : List ℕ) (s : Script) → Spells text s → BulkOnly s → RunsInPlaceThroughout s

@@ -1,4 +1,4 @@
--- A script for worked rows that only receives: the second endpoint of device 3 is opened, two bytes are asked of it, and four microframes pass.
+-- A script for worked rows of an IN endpoint: the second endpoint of device 3 is opened, two bytes are asked of it, and four microframes pass.
 --     one_get        the script
 use Rattle.std.specs.Prelude.{[], ◌∷◌}
 use Rattle.usb_base.specs.declared.commands.Cmd.TheVariants as commands

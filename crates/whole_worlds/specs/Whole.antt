@@ -1,11 +1,11 @@
--- A world whose driver only receives, with all that it carries from one event to the next (EHCI 1.0, 3.5, 4.6, 4.8 and 4.10; USB 2.0, 5.8 and 8.6).
+-- A world whose endpoints are all bulk ones, with all that it carries from one event to the next (EHCI 1.0, 3.5, 4.6, 4.8 and 4.10; USB 2.0, 5.8 and 8.6).
 --     tail_of d e x             the address of the qTD at the end of endpoint e's queue, which isn't published
 --     TailsStand ..             each queue that the walk may meet has its front, no further than its tail
 --     IsUnderWay ..             what is known of the unfinished command: what it has still to lend stands ready, or is lent
---     HaveSenders d stream      each endpoint that was opened has a stream
---     IsWhole fixed member x s w        the world is so
---     HasWhole fixed stream packets w   .. for some queue heads with streams, and some structures
-use Rattle.std.specs.Prelude.{◌≡◌, ℕ, ◌-◌, ◌*◌, ◌==◌, ◌≤◌, ◌⊎◌, Bool, true, List, length, slice_get, Option, Some, None, if◌then◌else◌}
+--     HaveSenders d stream      each IN endpoint that was opened has a stream
+--     IsWhole fixed takes member x s w        the world is so
+--     HasWhole fixed takes stream packets w   .. for some queue heads with streams, and some structures
+use Rattle.std.specs.Prelude.{◌≡◌, ℕ, ◌-◌, ◌*◌, ◌==◌, ◌≤◌, ◌⊎◌, Bool, true, List, length, slice_get, Option, Some, if◌then◌else◌}
 use Rattle.word_mem.specs.Memory.{Mem}
 use Rattle.driver_rows.specs.declared.content.Endpoint.{Endpoint}
 use Rattle.driver_rows.specs.declared.content.Transfer.{Transfer}
@@ -16,6 +16,7 @@ use Rattle.run_owners.specs.Owners.{views_of}
 use Rattle.lent_structures.specs.Structures.{StructureSets}
 use Rattle.ring_streams.specs.Told.{Endpoint as Told}
 use Rattle.driver_releases.specs.Extents.{AreInRuns}
+use Rattle.chained_transfers.specs.Bulk.{receives}
 use Rattle.fed_lends.specs.ToLend.{IsToBeLent, AreBlank}
 use Rattle.fed_queues.specs.Places.{IsMet}
 use Rattle.open_lends.specs.Lends.{IsOpenReady}
@@ -26,7 +27,8 @@ use Rattle.byte_answers.specs.Bytes.{IsByteBus}
 use Rattle.usb_bus.specs.Bus.{Fixed}
 use Rattle.bus_world.specs.World.{World}
 use Rattle.world_streams.specs.Streaming.{Streams, Standing}
-use Rattle.feeding_worlds.specs.Feeding.{IsFeeding}
+use Rattle.whole_worlds.specs.Feeding.{IsFeeding}
+use Rattle.whole_worlds.specs.Taking.{IsTaking, HaveTakers}
 
 -- ---- tails
 
@@ -53,22 +55,24 @@ IsUnderWay d m member parts _ = Unit {0}
 -- ---- the whole
 
 abbrev pub HaveSenders : DriverContent → (ℕ → ℕ → Bool) → Type 0
-HaveSenders d stream = (e : ℕ) (x : Endpoint) → slice_get d.endpoints e ≡ Some x → stream x.desc.name.addr x.desc.name.num ≡ true
+HaveSenders d stream = (e : ℕ) (x : Endpoint) → slice_get d.endpoints e ≡ Some x → receives x.desc.name.way ≡ true → stream x.desc.name.addr x.desc.name.num ≡ true
 
-pub record IsWhole (fixed : Fixed) (member : ℕ → Bool) (x : Streams) (s : Standing) (w : World) : Type 0 where
+pub record IsWhole (fixed : Fixed) (takes : ℕ → ℕ → Bool) (member : ℕ → Bool) (x : Streams) (s : Standing) (w : World) : Type 0 where
   pub feeding : IsFeeding fixed member x s w
+  pub taking : IsTaking fixed takes member x s w
   pub under_way : IsUnderWay w.driver w.memory member s.parts w.driver.command
   pub blank : AreBlank w.driver
   pub names : AreNamesApart w.driver
   pub senders : HaveSenders w.driver x.stream
+  pub takers : HaveTakers w.driver takes
   pub runs : AreInRuns (views_of w.driver) s.parts
   pub tails : TailsStand w.driver s.parts s.order s.out
   pub told : ToldStands w.driver s.hand s.parts s.reported
   pub bytes : IsByteBus w.bus
 
-pub record HasWhole (fixed : Fixed) (stream : ℕ → ℕ → Bool) (packets : ℕ → ℕ → List (List ℕ)) (w : World) : Type 0 where
+pub record HasWhole (fixed : Fixed) (takes : ℕ → ℕ → Bool) (stream : ℕ → ℕ → Bool) (packets : ℕ → ℕ → List (List ℕ)) (w : World) : Type 0 where
   pub member : ℕ → Bool
   pub streams : ℕ → Bool
   pub endpoint : ℕ → Told
   pub standing : Standing
-  pub whole : IsWhole fixed member (record { stream = stream; packets = packets; streams = streams; endpoint = endpoint }) standing w
+  pub whole : IsWhole fixed takes member (record { stream = stream; packets = packets; streams = streams; endpoint = endpoint }) standing w

@@ -1,8 +1,8 @@
-//! Commands of worlds whose driver only receives (EHCI 1.0, 3.5, 4.6, 4.8 and 4.10; USB 2.0, 5.8 and 8.6): all that a world carries from one event to the next stays
-//! at each command, whether it is accepted or refused.
+//! Commands in worlds of bulk endpoints (EHCI 1.0, 3.5, 4.6, 4.8 and 4.10; USB 2.0, 5.8 and 8.6): all that such a world carries from one event to the next stays at
+//! each command, whether it is accepted or refused.
 ghost use Rattle.whole_worlds.specs.Laws.{CommandKeepsWhole};
 
-/// Each command leaves a whole world whole: one that is refused is a line of the report, an endpoint that is opened is still to be lent, and so is a get.
+/// Each command leaves a whole world whole: one that is refused is a line of the report, and an endpoint that is opened, or a get or put, is still to be lent.
 pub fn each_command_keeps_a_whole_world()
     ensures { CommandKeepsWhole }
 {}

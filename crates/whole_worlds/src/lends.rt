@@ -1,8 +1,8 @@
-//! A world whose driver only receives, whole, where its driver lends a get (EHCI 1.0, 3.5 and 4.10; USB 2.0, 8.6).
+//! A whole world of bulk endpoints where its driver lends a get or a put (EHCI 1.0, 3.5 and 4.10; USB 2.0, 8.6).
 ghost use Rattle.whole_worlds.specs.Laws.{LendKeepsWhole};
 
-/// Where the driver lends a get, all that such a world carries goes on: the front of each queue is still no further than its tail, of its endpoint's the
-/// first qTD of the get, and what the report tells is still what was harvested.
-pub fn a_lent_get_leaves_the_world_whole()
+/// Where the driver lends a transfer, all that such a world carries goes on: the front of each queue is still no further than its tail, of its endpoint's
+/// the first qTD of the transfer, and what the report tells is still what was harvested.
+pub fn a_lent_transfer_leaves_the_world_whole()
     ensures { LendKeepsWhole }
 {}

@@ -1,4 +1,4 @@
-//! Worlds whose driver only receives (EHCI 1.0, 4.1, 4.8 and 4.10; USB 2.0, 5.8 and 8.6): whole from the opening on, and where the driver stores no word and reads no token.
+//! Worlds of bulk endpoints (EHCI 1.0, 4.1, 4.8 and 4.10; USB 2.0, 5.8 and 8.6): whole from the opening on, and where the driver stores no word and reads no token.
 ghost use Rattle.whole_worlds.specs.Laws.{NewWorldIsWhole, StillKeepsWhole};
 
 /// The world of each script of bytes is whole before its first line.

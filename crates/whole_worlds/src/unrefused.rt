@@ -6,7 +6,7 @@ pub fn no_refusal_is_counted_while_it_runs()
     ensures { CountsNothingWhileItRuns }
 {}
 
-/// So none is at any moment of a script that only receives: each word that the controller reads or writes is lent to it.
-pub fn receiving_scripts_are_never_refused()
+/// So none is at any moment of a script of bulk endpoints: each word that the controller reads or writes is lent to it.
+pub fn bulk_scripts_are_never_refused()
     ensures { TextsAreNeverRefused }
 {}

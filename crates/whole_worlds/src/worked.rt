@@ -1,7 +1,8 @@
 //! Worked rows, which the check computes.
-ghost use Rattle.std.specs.Prelude.{◌≡◌, [], Some, None, true, false, ◌∷◌, ℕ};
+ghost use Rattle.std.specs.Prelude.{◌≡◌, [], Some, None, true, false, ◌==◌, ◌∷◌, ℕ};
 ghost use Rattle.driver_rows.specs.declared.content.Command.TheVariants as unfinished;
 ghost use Rattle.chained_transfers.specs.Worked.{under_way};
+ghost use Rattle.whole_worlds.specs.Feeding.{heads_of, acc_after};
 ghost use Rattle.whole_worlds.specs.Whole.{tail_block, tail_of};
 ghost use Rattle.driver_parts.specs.Opened.{is_head};
 ghost use Rattle.driver_lends.specs.Linked.{with_member};
@@ -22,16 +23,29 @@ ghost use Rattle.script_fits.specs.Fits.{IsFit};
 ghost use Rattle.byte_answers.specs.Bytes.{IsByteScript};
 ghost use Rattle.opening_senders.specs.Own.{HasOwnDevices};
 ghost use Rattle.declared_endpoints.specs.Declared.{OpensSenders};
+ghost use Rattle.declared_takers.specs.Declared.{OpensTakers};
 ghost use Rattle.script_numbers.specs.Numbers.{NumbersOpens};
-ghost use Rattle.chained_transfers.specs.Receives.{ReceivesOnly};
-ghost use Rattle.whole_worlds.specs.Moments.{IsWholeThroughout, StreamsAreRightThroughout};
+ghost use Rattle.chained_transfers.specs.Bulk.{BulkOnly};
+ghost use Rattle.whole_worlds.specs.Moments.{IsWholeThroughout, InStreamsAreRightThroughout};
 ghost use Rattle.whole_worlds.specs.Samples.{one_get};
 ghost use Rattle.driver_rows.specs.Offers.{new_endpoint};
 ghost use Rattle.ring_members.specs.Links.{members, IsChain};
 ghost use Rattle.ring_members.specs.Worked.{ring_word};
-ghost use Rattle.whole_worlds.specs.Samples.{one_get};
 ghost use Rattle.whole_worlds.specs.Placed.{linked_to, AreOnce, RunsInPlaceThroughout};
 ghost use Rattle.bus_world.specs.Budgets.{moment};
+
+/// The walk meets the head of the ring and one queue head more, which is an endpoint's.
+pub fn queue_heads()
+    ensures ring { heads_of (with_member is_head 4160) 4096 ≡ false }
+    ensures endpoint { heads_of (with_member is_head 4160) 4160 ≡ true }
+    ensures other { heads_of (with_member is_head 4160) 4352 ≡ false }
+{}
+
+/// The queue head at 4160 has a stream, of which a packet of one byte was taken; of the one at 4352, which has none, a byte was moved.
+pub fn packets_taken()
+    ensures stream { acc_after (λ n. n == 4160) (λ n. []) 4160 ((5 ∷ []) ∷ []) (λ n. 7 ∷ []) 4160 ≡ (5 ∷ []) ∷ [] }
+    ensures other { acc_after (λ n. n == 4160) (λ n. []) 4160 ((5 ∷ []) ∷ []) (λ n. 7 ∷ []) 4352 ≡ (7 ∷ []) ∷ [] }
+{}
 
 /// While it is published its first qTD is the tail of its endpoint's queue, and after the last store the end of the queue is; of another endpoint that is so all along.
 pub fn tails()
@@ -65,20 +79,21 @@ pub fn a_get_is_given_back()
     ensures tail { tail_block busy_driver.command (Some get_out) 0 133 ≡ 133 }
 {}
 
-/// The script fits, says bytes, has a sender for the endpoint that it opens, whose numbers fit, and only receives.
+/// The script fits, says bytes, and has a sender for the endpoint that it opens, which is a bulk one and whose numbers fit.
 pub fn a_script_with_one_get()
     ensures fits { IsFit one_get }
     ensures bytes { IsByteScript one_get }
     ensures sends { OpensSenders one_get }
+    ensures takes { OpensTakers one_get }
     ensures numbers { NumbersOpens one_get }
     ensures own { HasOwnDevices one_get }
-    ensures only { ReceivesOnly one_get }
+    ensures only { BulkOnly one_get }
 {}
 
-/// So its world is whole at each moment, and its report is right.
+/// So its world is whole at each moment, and the streams of its report are right.
 pub fn its_streams_are_right()
     ensures whole { IsWholeThroughout one_get }
-    ensures right { StreamsAreRightThroughout one_get }
+    ensures right { InStreamsAreRightThroughout one_get }
 {}
 
 /// The head leads to the newest endpoint and back through the older one, also while a third isn't linked yet.

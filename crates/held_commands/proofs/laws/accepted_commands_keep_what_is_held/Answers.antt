@@ -5,5 +5,5 @@ use Rattle.held_commands.proofs.laws.accepted_commands_keep_what_is_held.Goals a
 pub returns-clause-open : goal.returns-clause-open
 returns-clause-open c = open_holds
 
-pub returns-clause-get : goal.returns-clause-get
-returns-clause-get c = ask_holds
+pub returns-clause-asked : goal.returns-clause-asked
+returns-clause-asked c = ask_holds

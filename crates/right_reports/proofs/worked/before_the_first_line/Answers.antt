@@ -1,6 +1,9 @@
 use Rattle.std.proofs.Common.{[], ◌∷◌, refl}
 use Rattle.right_reports.proofs.worked.before_the_first_line.Goals as goal
 
+pub returns-clause-bulk : goal.returns-clause-bulk
+returns-clause-bulk c = (record { kind = refl; speed = refl; way = tt }, tt)
+
 pub returns-clause-receives : goal.returns-clause-receives
 returns-clause-receives c = (record { kind = refl; speed = refl; way = refl }, tt)
 

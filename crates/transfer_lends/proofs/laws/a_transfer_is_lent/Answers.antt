@@ -1,5 +1,5 @@
-use Rattle.transfer_lends.proofs.Lends.{lend_receives_drives}
+use Rattle.transfer_lends.proofs.Lends.{lend_drives}
 use Rattle.transfer_lends.proofs.laws.a_transfer_is_lent.Goals as goal
 
 pub returns : goal.returns
-returns c = lend_receives_drives
+returns c = lend_drives

@@ -1,0 +1,107 @@
+-- Drivers whose endpoints are all high-speed bulk ones, IN or OUT (EHCI 1.0, 4.10; USB 2.0, 5.8).
+--     IsBulk x                 the endpoint is one
+--     OpensBulk cmd            the command opens such an endpoint, if any, and is no cancel; other commands may be refused
+--     BulkOnly s               so is each command of the script
+--     receives way             data of an endpoint of this way come to the host
+--     sort_by way, stage_by way n, pid_by way      the transfers of such an endpoint, their qTDs of n bytes, and the packets that these ask for
+--     OnlyBulk d               each endpoint of the driver is one, and each transfer a get or a put, as its endpoint takes; nothing leaves the ring or the
+--                              frame list
+use Rattle.std.specs.Prelude.{◌≡◌, ℕ, Bool, true, false, [], slice_get, Option, Some, None}
+use Rattle.std.specs.List.{AllByRecursion}
+use Rattle.usb_base.specs.declared.commands.Cmd.{Cmd}
+use Rattle.usb_base.specs.declared.commands.Cmd.TheVariants as commands
+use Rattle.usb_base.specs.declared.endpoints.EpDesc.{EpDesc}
+use Rattle.usb_base.specs.declared.packets.EpKind.TheVariants as kinds
+use Rattle.usb_base.specs.declared.packets.Speed.TheVariants as speeds
+use Rattle.usb_base.specs.declared.packets.Way.{Way}
+use Rattle.usb_base.specs.declared.packets.Way.TheVariants as ways
+use Rattle.script_types.specs.declared.scripts.Line.{Line}
+use Rattle.script_types.specs.declared.scripts.Line.TheVariants as lines
+use Rattle.script_types.specs.declared.scripts.Script.{Script}
+use Rattle.driver_rows.specs.declared.content.Endpoint.{Endpoint}
+use Rattle.driver_rows.specs.declared.content.Transfer.{Transfer}
+use Rattle.driver_rows.specs.declared.content.Sort.{Sort}
+use Rattle.driver_rows.specs.declared.content.Sort.TheVariants as sorts
+use Rattle.driver_rows.specs.declared.content.Stage.{Stage}
+use Rattle.driver_rows.specs.declared.content.Command.{Command}
+use Rattle.driver_rows.specs.declared.content.Command.TheVariants as unfinished
+use Rattle.driver_rows.specs.DriverContent.{DriverContent}
+use Rattle.driver_rows.specs.Words.{in_stage, out_stage}
+
+-- data go one way
+abbrev pub IsDataWay : Way → Type 0
+IsDataWay ways.In = Unit {0}
+IsDataWay ways.Out = Unit {0}
+IsDataWay ways.Ctl = ⊥
+
+pub record IsBulk (x : EpDesc) : Type 0 where
+  pub kind : x.kind ≡ kinds.Bulk
+  pub speed : x.speed ≡ speeds.High
+  pub way : IsDataWay x.name.way
+
+-- ---- scripts
+
+abbrev pub OpensBulk : Cmd → Type 0
+OpensBulk (commands.OpenEp x) = IsBulk x
+OpensBulk (commands.Cancel name) = ⊥
+OpensBulk _ = Unit {0}
+
+abbrev pub BulkLine : Line → Type 0
+BulkLine (lines.Command cmd) = OpensBulk cmd
+BulkLine _ = Unit {0}
+
+abbrev pub BulkOnly : Script → Type 0
+BulkOnly s = AllByRecursion (λ line. BulkLine line.1) s.lines
+
+-- ---- gets and puts
+
+abbrev pub receives : Way → Bool
+receives ways.Out = false
+receives _ = true
+
+abbrev pub sort_by : Way → Sort
+sort_by ways.Out = sorts.Put
+sort_by _ = sorts.Get
+
+abbrev pub stage_by : Way → ℕ → Stage
+stage_by ways.Out n = out_stage n
+stage_by _ n = in_stage n
+
+-- the PID code of a qTD's token (3.5.3): 0 for OUT, 1 for IN
+abbrev pub pid_by : Way → ℕ
+pid_by ways.Out = 0
+pid_by _ = 1
+
+-- ---- drivers
+
+-- it is in the ring, and nothing of it leaves
+pub record IsStanding (x : Endpoint) : Type 0 where
+  pub bulk : IsBulk x.desc
+  pub placement : x.placement ≡ None
+  pub cancelled : x.cancelled ≡ false
+  pub linked : x.linked ≡ true
+  pub chained : x.chained ≡ false
+  pub gone : x.gone ≡ false
+
+-- the transfer goes the way of its endpoint
+pub record MovesAs (d : DriverContent) (y : Transfer) : Type 0 where
+  pub endpoint : Endpoint
+  pub here : slice_get d.endpoints y.endpoint ≡ Some endpoint
+  pub sort : y.sort ≡ sort_by endpoint.desc.name.way
+
+abbrev pub IsBulkCommand : Option Command → Type 0
+IsBulkCommand None = Unit {0}
+IsBulkCommand (Some (unfinished.Open queue)) = Unit {0}
+IsBulkCommand (Some (unfinished.Publish b words)) = Unit {0}
+IsBulkCommand _ = ⊥
+
+pub record OnlyBulk (d : DriverContent) : Type 0 where
+  pub endpoints : (e : ℕ) (x : Endpoint) → slice_get d.endpoints e ≡ Some x → IsStanding x
+  pub moves : (t : ℕ) (y : Transfer) → slice_get d.transfers t ≡ Some y → MovesAs d y
+  pub command : IsBulkCommand d.command
+  pub mends : d.mends ≡ []
+  pub unlinks : d.periodic.unlinks ≡ []
+  pub removals : d.periodic.removals ≡ []
+  pub waiting : d.waiting ≡ []
+  pub rung : d.rung ≡ []
+  pub cleared : d.cleared ≡ []

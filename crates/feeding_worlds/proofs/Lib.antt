@@ -1,5 +1,0 @@
-pub mod Opening
-pub mod Beside
-pub mod Commands
-pub mod Still
-pub mod Storing

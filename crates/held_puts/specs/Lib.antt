@@ -1,0 +1,4 @@
+pub mod Puts
+pub mod Rings
+pub mod Laws
+pub mod Samples

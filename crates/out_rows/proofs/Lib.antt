@@ -1,0 +1,10 @@
+pub mod Joining
+pub mod Spared
+pub mod Storing
+pub mod Lending
+pub mod Opening
+pub mod Harvesting
+pub mod Returning
+pub mod Turning
+pub mod Beginning
+pub mod Sampling

@@ -1,0 +1,29 @@
+-- A script of a device with an IN endpoint and an OUT endpoint, and reports of it, for worked rows.
+use Rattle.std.specs.Prelude.{ℕ, List, [], ◌∷◌}
+use Rattle.usb_base.specs.declared.commands.Cmd.TheVariants.{OpenEp, Get, Put}
+use Rattle.usb_base.specs.declared.packets.Speed.TheVariants.{High}
+use Rattle.usb_base.specs.declared.reports.What.TheVariants.{Done}
+use Rattle.script_types.specs.declared.devices.Item.TheVariants.{Bytes}
+use Rattle.script_types.specs.declared.scripts.Script.{Script}
+use Rattle.report_streams.specs.Reports.{WholeReport}
+use Rattle.report_streams.specs.Samples.{commanded, line_of, report_of, sender, receiver, bulk}
+
+-- one packet is to come, and one is to go
+abbrev pub both_ways : Script
+both_ways = record {
+  words = 2048;
+  hubs = [];
+  devices = record {
+    addr = 3;
+    speed = High;
+    eps = record { desc = bulk sender; items = Bytes (1 ∷ 2 ∷ []) ∷ []; room = 0 } ∷ record { desc = bulk receiver; items = []; room = 0 } ∷ [];
+  } ∷ [];
+  endpoints = sender ∷ receiver ∷ [];
+  fates = [];
+  holds = [];
+  lines = commanded 5 (OpenEp (bulk sender)) ∷ commanded 6 (OpenEp (bulk receiver)) ∷ commanded 7 (Get sender 2 20480) ∷ commanded 8 (Put receiver (9 ∷ []) 20480) ∷ [];
+}
+
+-- both are told to be done: what came, and what went; none tells that it was taken
+abbrev pub told_by : List ℕ → WholeReport
+told_by store = report_of (line_of sender Done 0 2 ∷ line_of receiver Done 2 1 ∷ []) store []

@@ -1,0 +1,11 @@
+pub mod Mapped
+pub mod Stays
+pub mod Accepted
+pub mod Sums
+pub mod Agreeing
+pub mod Steps
+pub mod Moments
+pub mod Rising
+pub mod Ends
+pub mod Along
+pub mod Sampling

@@ -1,0 +1,4 @@
+pub mod Taken
+pub mod Puts
+pub mod Laws
+pub mod Samples

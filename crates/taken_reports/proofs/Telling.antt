@@ -1,0 +1,199 @@
+-- What is told of each OUT endpoint begins what the closing line tells.
+use Rattle.std.proofs.Common.{◌≡◌, ℕ, Bool, true, false, not, ◌&&◌, if◌then◌else◌, List, [], ◌∷◌, ◌++◌, filter, filter_map, slice_get, Option, Some, None, ap, refl, sym, subst, ◌∙◌, ⊎_elim}
+use Rattle.std.specs.Prelude.{is_none, is_some}
+use Rattle.std.specs.Option.{option_map, option_and_then}
+use Rattle.std.specs.List.{AllByRecursion, list_any}
+use Rattle.std.proofs.lemmas.Bool.{false≢true}
+use Rattle.std.proofs.lemmas.Option.{same_Some}
+use Rattle.std.proofs.lemmas.List.{append_assoc}
+use Rattle.usb_base.specs.declared.commands.Cmd.{Cmd}
+use Rattle.usb_base.specs.declared.commands.Cmd.TheVariants as commands
+use Rattle.usb_base.specs.declared.endpoints.EndCause.{EndCause}
+use Rattle.usb_base.specs.declared.endpoints.EpDesc.{EpDesc}
+use Rattle.usb_base.specs.declared.endpoints.EpName.{EpName}
+use Rattle.usb_base.specs.declared.packets.Way.{Way}
+use Rattle.usb_base.specs.declared.packets.Way.TheVariants as Ways
+use Rattle.usb_base.specs.declared.reports.Report.{Report}
+use Rattle.script_types.specs.declared.scripts.Line.{Line}
+use Rattle.script_types.specs.declared.scripts.Line.TheVariants as lines
+use Rattle.script_types.specs.declared.scripts.Script.{Script}
+use Rattle.pipe_agreement.specs.Prefix.{IsPrefix}
+use Rattle.usb_bus.specs.declared.seats.Seat.{Seat}
+use Rattle.usb_bus.specs.Fates.{is_same_name}
+use Rattle.usb_bus.specs.Bus.{Fixed}
+use Rattle.ring_out_pipes.specs.OutBus.{Taker}
+use Rattle.scripted_takers.specs.Takers.{taker_of}
+use Rattle.report_streams.specs.Reports.{WholeReport, is_end, is_pending, taken}
+use Rattle.report_streams.specs.Streams.{is_refused, command_in, accepted_in, open_in, opened as opened_by, has_stream, told, told_in, ends_once, ends_whole}
+use Rattle.driver_rows.specs.declared.content.Endpoint.{Endpoint}
+use Rattle.driver_rows.specs.DriverContent.{endpoint_of, endpoint_named, opened, ended}
+use Rattle.told_endpoints.specs.Telling.{named_of, named_in, lines_in, IsToldTo, TellsEach}
+use Rattle.told_endpoints.proofs.Lines.{once_without}
+use Rattle.bus_world.specs.World.{World}
+use Rattle.world_streams.specs.Streaming.{wired}
+use Rattle.chained_transfers.specs.Bulk.{IsDataWay, IsBulk, OpensBulk, BulkLine, BulkOnly, receives}
+use Rattle.right_reports.specs.WorldReport.{closings_of, report_of}
+use Rattle.right_reports.proofs.Named.{HasNamed, NoneNamed, search, named_is, none_pending}
+use Rattle.right_reports.proofs.Right.{all_mapped}
+use Rattle.taken_reports.specs.Seats.{HasSeat, OpensItsSeat, OpensSeats, IsSeatedBus}
+use Rattle.taken_reports.specs.Taken.{IsToldTaken, IsTakenStream, AreTakenStreams}
+use Rattle.taken_reports.specs.Laws.{bytes_taken, TakesEach}
+use Rattle.taken_reports.proofs.Closing.{closing_tells}
+
+-- ---- lists
+
+all_kept : {X : Type 0} (Q P : X → Type 0) (p : X → Bool) (xs : List X) → ((x : X) → Q x → p x ≡ true → P x) → AllByRecursion Q xs → AllByRecursion P (filter p xs)
+all_kept Q P p [] gives k = tt
+all_kept Q P p (x ∷ xs) gives k = kept (p x) refl (all_kept Q P p xs gives k.1)
+  where
+    kept : (b : Bool) → p x ≡ b → AllByRecursion P (filter p xs) → AllByRecursion P (if b then x ∷ filter p xs else filter p xs)
+    kept true is rest = (gives x k.0 is, rest)
+    kept false is rest = rest
+
+all_both : {X : Type 0} (P Q : X → Type 0) (xs : List X) → AllByRecursion P xs → AllByRecursion Q xs → AllByRecursion (λ x. P x × Q x) xs
+all_both P Q [] h k = tt
+all_both P Q (x ∷ xs) h k = ((h.0, k.0), all_both P Q xs h.1 k.1)
+
+-- ---- what is opened
+
+-- it is a bulk endpoint, and has its seat
+abbrev Opens : List Seat → Cmd → Type 0
+Opens seats cmd = OpensBulk cmd × OpensItsSeat seats (lines.Command cmd)
+
+abbrev IsSeated : List Seat → EpDesc → Type 0
+IsSeated seats x = IsBulk x × HasSeat seats x
+
+accepted_by : (seats : List Seat) (b : Bool) (l : Line) (cmd : Cmd) → BulkLine l × OpensItsSeat seats l → (if b then None else command_in l) ≡ Some cmd → Opens seats cmd
+accepted_by seats true l cmd k is = absurd cc
+accepted_by seats false (lines.Command c) cmd k is = subst (Opens seats) (same_Some c cmd is) k
+accepted_by seats false (lines.Order event n) cmd k is = absurd cc
+accepted_by seats false (lines.Micro n) cmd k is = absurd cc
+
+opens_by : (seats : List Seat) (cmd : Cmd) (desc : EpDesc) → Opens seats cmd → open_in cmd ≡ Some desc → IsSeated seats desc
+opens_by seats (commands.OpenEp x) desc k is = subst (IsSeated seats) (same_Some x desc is) (k.0, k.1 k.0.way)
+opens_by seats (commands.Get name len by) desc k is = absurd cc
+opens_by seats (commands.Put name bytes by) desc k is = absurd cc
+opens_by seats (commands.Control name setup bytes) desc k is = absurd cc
+opens_by seats (commands.Iso name count len seed) desc k is = absurd cc
+opens_by seats (commands.Cancel name) desc k is = absurd cc
+
+opened_seated : (s : Script) (seats : List Seat) (r : WholeReport) → BulkOnly s → OpensSeats s seats → AllByRecursion (IsSeated seats) (opened_by s r)
+opened_seated s seats r only has =
+    all_mapped (Opens seats) (IsSeated seats) open_in (filter_map (accepted_in r) s.lines) (opens_by seats)
+    (all_mapped (λ line. BulkLine line.1 × OpensItsSeat seats line.1) (Opens seats) (accepted_in r) s.lines (λ line cmd both is. accepted_by seats (is_refused r line.0) line.1 cmd both is)
+    (all_both (λ line. BulkLine line.1) (λ line. OpensItsSeat seats line.1) s.lines only has))
+
+and_right : (a b : Bool) → (a && b) ≡ true → b ≡ true
+and_right true b e = e
+and_right false b e = absurd (false≢true e)
+
+not_true : (b : Bool) → not b ≡ true → b ≡ false
+not_true true e = absurd (false≢true e)
+not_true false e = refl
+
+out_way : (way : Way) → IsDataWay way → receives way ≡ false → way ≡ Ways.Out
+out_way Ways.Out moves is = refl
+out_way Ways.In moves is = absurd (false≢true (sym is))
+out_way Ways.Ctl moves is = absurd moves
+
+all_taken : (s : Script) (seats : List Seat) (r : WholeReport) → BulkOnly s → OpensSeats s seats → ((x : EpDesc) → IsBulk x → HasSeat seats x → x.name.way ≡ Ways.Out → IsTakenStream r x.name) → AreTakenStreams s r
+all_taken s seats r only has each =
+    all_kept (IsSeated seats) (λ desc. IsTakenStream r desc.name) (λ desc. has_stream desc.kind && not (receives desc.name.way)) (opened_by s r)
+    (λ x k is. each x k.0 k.1 (out_way x.name.way k.0.way (not_true (receives x.name.way) (and_right (has_stream x.kind) (not (receives x.name.way)) is)))) (opened_seated s seats r only has)
+
+-- ---- bytes
+
+pub no_bytes : (o : Option (List ℕ)) → IsToldTaken [] o
+no_bytes None = refl
+no_bytes (Some taken) = (taken, refl)
+
+first_none : (xs ys : List ℕ) → xs ++ ys ≡ [] → xs ≡ []
+first_none [] ys is = refl
+first_none (x ∷ xs) ys is = absurd cc
+
+first_begins : (told held all taken : List ℕ) → told ++ held ≡ all → IsPrefix all taken → IsPrefix told taken
+first_begins told held all taken sum k = (held ++ k.0, sym (append_assoc told held k.0) ∙ ap (λ (xs : List ℕ). xs ++ k.0) sum ∙ k.1)
+
+-- ---- one endpoint
+
+module _ (fixed : Fixed) (w : World) (held told_each : ℕ → List ℕ) (tells : TellsEach w.driver.reports w.driver.store (named_in w.driver.endpoints) held told_each) where
+  abbrev r : WholeReport
+  r = report_of fixed w
+
+  -- nothing is told of an endpoint that the driver hasn't
+  nothing_told : (name : EpName) → lines_in name w.driver.reports ≡ [] → IsTakenStream r name
+  nothing_told name none = record {
+    bytes = subst (λ (xs : List ℕ). IsToldTaken xs (taken r name)) (sym (ap (told_in w.driver.store) none)) (no_bytes (taken r name));
+    once = ap ends_once none;
+    whole = ap (λ (ls : List Report). not (list_any (λ line. is_end line.what) ls && list_any (is_pending name) (closings_of fixed w))) none;
+  }
+
+  not_both : (b : Bool) → not (b && false) ≡ true
+  not_both true = refl
+  not_both false = refl
+
+  module _ (name : EpName) (k : HasNamed w.driver.endpoints name) where
+    to : IsToldTo w.driver.reports w.driver.store (named_of k.endpoint) (held k.number) (told_each k.number)
+    to = tells.each k.number (named_of k.endpoint) (ap (option_map named_of) k.here)
+
+    is_named : endpoint_named w.driver name ≡ Some k.endpoint
+    is_named =
+        named_is w.driver name k
+        (λ i y at alike.
+        tells.apart i k.number (named_of y) (named_of k.endpoint) (ap (option_map named_of) at) (ap (option_map named_of) k.here) (ap (λ (n : EpName). is_same_name y.desc.name n) k.same ∙ alike))
+
+    is_opened : opened w.driver name ≡ true
+    is_opened = by_place (endpoint_of w.driver name) is_named
+      where
+        by_place : (o : Option ℕ) → option_and_then (λ e. slice_get w.driver.endpoints e) o ≡ Some k.endpoint → is_some o ≡ true
+        by_place None none = absurd cc
+        by_place (Some e) some = refl
+
+    sum : told r name ++ held k.number ≡ told_each k.number
+    sum = ap (λ (n : EpName). told r n ++ held k.number) (sym k.same) ∙ to.sum
+
+    once_by : (end : Option EndCause) → k.endpoint.ended ≡ end → ends_once (lines_in k.endpoint.desc.name w.driver.reports) ≡ true
+    once_by None still = once_without (lines_in k.endpoint.desc.name w.driver.reports) (to.going still)
+    once_by (Some cause) over = (to.over cause over).1
+
+    ended_is : (end : Option EndCause) → k.endpoint.ended ≡ end → ended w.driver name ≡ end
+    ended_is end same = ap (λ (e : Option Endpoint). option_and_then (λ y. y.ended) e) is_named ∙ same
+
+    whole_by : (end : Option EndCause) → k.endpoint.ended ≡ end → ends_whole r name ≡ true
+    whole_by None still =
+        ap (λ (b : Bool). not (b && list_any (is_pending name) (closings_of fixed w)))
+        (ap (λ (n : EpName). list_any (λ line. is_end line.what) (lines_in n w.driver.reports)) (sym k.same) ∙ to.going still)
+    whole_by (Some cause) over =
+        ap (λ (b : Bool). not (list_any (λ line. is_end line.what) (lines_in name w.driver.reports) && b)) (none_pending w name (ap is_none (ended_is (Some cause) over)) fixed)
+        ∙ not_both (list_any (λ line. is_end line.what) (lines_in name w.driver.reports))
+
+    pub is_told : IsToldTaken (told r name) (taken r name) → IsTakenStream r name
+    is_told bytes = record {
+      bytes = bytes;
+      once = ap (λ (n : EpName). ends_once (lines_in n w.driver.reports)) (sym k.same) ∙ once_by k.endpoint.ended refl;
+      whole = whole_by k.endpoint.ended refl;
+    }
+
+  -- ---- and its taker
+
+  module _ (s : Script) (seated : IsSeatedBus s fixed w.bus) (takes : TakesEach fixed w told_each) (x : EpDesc) (bulk : IsBulk x) (has : HasSeat fixed.seats x) (way : x.name.way ≡ Ways.Out) where
+    bytes_by : (k : HasNamed w.driver.endpoints x.name) (o : Option Taker) → taker_of (wired fixed w) x.name.addr x.name.num ≡ o → IsToldTaken (told_each k.number) (bytes_taken o) → IsToldTaken (told r x.name) (taken r x.name)
+    bytes_by k None none nothing =
+        subst (λ (xs : List ℕ). IsToldTaken xs (taken r x.name)) (sym (first_none (told r x.name) (held k.number) (sum x.name k ∙ nothing))) (no_bytes (taken r x.name))
+    bytes_by k (Some t) is begins =
+        subst (IsToldTaken (told r x.name)) (sym (closing_tells fixed w x t way (ap has_stream bulk.kind) has seated.apart (is_opened x.name k) is))
+        (first_begins (told r x.name) (held k.number) (told_each k.number) t.taken (sum x.name k) begins)
+
+    named_taken : (k : HasNamed w.driver.endpoints x.name) → IsToldTaken (told_each k.number) (bytes_taken (taker_of (wired fixed w) x.name.addr x.name.num))
+    named_taken k =
+        subst (λ (n : EpName). IsToldTaken (told_each k.number) (bytes_taken (taker_of (wired fixed w) n.addr n.num))) k.same
+        (takes k.number k.endpoint k.here (ap (λ (n : EpName). receives n.way) k.same ∙ ap receives way))
+
+    pub one_taken : IsTakenStream r x.name
+    one_taken =
+        ⊎_elim (λ (k : HasNamed w.driver.endpoints x.name). is_told x.name k (bytes_by k (taker_of (wired fixed w) x.name.addr x.name.num) refl (named_taken k)))
+        (λ (none : NoneNamed w.driver.endpoints x.name). nothing_told x.name (tells.only x.name none)) (search w.driver.endpoints x.name)
+
+pub report_taken : (s : Script) (fixed : Fixed) (w : World) (held told : ℕ → List ℕ) → BulkOnly s → IsSeatedBus s fixed w.bus → TellsEach w.driver.reports w.driver.store (named_in w.driver.endpoints) held told → TakesEach fixed w told
+    → AreTakenStreams s (report_of fixed w)
+report_taken s fixed w held told only seated tells takes = all_taken s fixed.seats (report_of fixed w) only seated.seats (λ x bulk has way. one_taken fixed w held told tells s seated takes x bulk has way)

@@ -1,0 +1,6 @@
+pub mod Taken
+pub mod Seats
+pub mod Laws
+pub mod Worlds
+pub mod Turns
+pub mod Samples

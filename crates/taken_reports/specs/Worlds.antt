@@ -1,0 +1,35 @@
+-- A world of bulk endpoints, and what its report tells of OUT endpoints (EHCI 1.0, 4.10; USB 2.0, 8.5 and 8.6).
+--     HaveOuts d outs ends      each queue head of an OUT endpoint that the walk may meet is among these, and this is its endpoint
+--     WorldIsTaken              where both sides of their pipes agree, and what is told of each queue is what was harvested of it, what is told begins what
+--                               was taken
+use Rattle.std.specs.Prelude.{◌≡◌, ℕ, ◌*◌, Bool, true, false, List, slice_get, Some}
+use Rattle.std.specs.List.{concat}
+use Rattle.script_types.specs.declared.scripts.Script.{Script}
+use Rattle.usb_bus.specs.Bus.{Fixed}
+use Rattle.lent_structures.specs.Structures.{StructureSets}
+use Rattle.ring_walk.specs.Hand.{Hand}
+use Rattle.ring_streams.specs.Told.{Endpoint as Told, endpoint_of}
+use Rattle.scripted_takers.specs.Takers.{taker_of}
+use Rattle.reported_streams.specs.Reported.{AreReported}
+use Rattle.driver_rows.specs.declared.content.Endpoint.{Endpoint}
+use Rattle.driver_rows.specs.DriverContent.{DriverContent}
+use Rattle.driver_rows.specs.Words.{queue_head}
+use Rattle.bus_world.specs.World.{World}
+use Rattle.world_streams.specs.Streaming.{wired}
+use Rattle.out_rows.specs.Outs.{AreOutPiped}
+use Rattle.chained_transfers.specs.Bulk.{receives, BulkOnly}
+use Rattle.fed_queues.specs.Places.{IsMet}
+use Rattle.told_queues.specs.Told.{ToldStands}
+use Rattle.right_reports.specs.WorldReport.{report_of}
+use Rattle.taken_reports.specs.Seats.{IsSeatedBus}
+use Rattle.taken_reports.specs.Taken.{AreTakenStreams}
+
+abbrev pub HaveOuts : DriverContent → (ℕ → Bool) → (ℕ → Told) → Type 0
+HaveOuts d outs ends = (e : ℕ) (x : Endpoint) → slice_get d.endpoints e ≡ Some x → IsMet d x → receives x.desc.name.way ≡ false
+    → (outs (32 * x.queue) ≡ true) × (ends (32 * x.queue) ≡ endpoint_of (queue_head x.desc 0 x.dummy))
+
+abbrev pub WorldIsTaken : Type 0
+WorldIsTaken = (script : Script) (fixed : Fixed) (takes : ℕ → ℕ → Bool) (member outs heads : ℕ → Bool) (ends : ℕ → Told) (order : ℕ → ℕ → ℕ) (out reported : ℕ → List ℕ)
+    (acc : ℕ → List (List ℕ)) (parts : StructureSets) (hand : Hand) (w : World) → BulkOnly script → IsSeatedBus script fixed w.bus
+    → AreOutPiped takes taker_of member outs ends (λ n. concat (acc n)) parts hand (wired fixed w) → AreReported heads order out hand parts acc reported
+    → ((n : ℕ) → outs n ≡ true → heads n ≡ true) → HaveOuts w.driver outs ends → ToldStands w.driver hand parts reported → AreTakenStreams script (report_of fixed w)

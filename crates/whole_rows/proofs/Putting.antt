@@ -1,0 +1,65 @@
+-- The script with a put meets the premises of the laws of runs.
+use Rattle.std.proofs.Common.{◌≡◌, ℕ, zero, suc, slice_get, Some, refl, subst, arith}
+use Rattle.std.specs.List.{AllByRecursion}
+use Rattle.std.proofs.lemmas.Option.{same_Some}
+use Rattle.usb_base.specs.declared.packets.Way.TheVariants as ways
+use Rattle.script_types.specs.declared.devices.DeviceText.{DeviceText}
+use Rattle.script_fits.specs.Fits.{IsFit}
+use Rattle.byte_answers.specs.Bytes.{IsByteScript}
+use Rattle.opening_senders.specs.Own.{HasOwnDevices}
+use Rattle.declared_endpoints.specs.Declared.{OpensSenders}
+use Rattle.declared_takers.specs.Declared.{OpensTakers}
+use Rattle.script_numbers.specs.Numbers.{NumbersOpens}
+use Rattle.chained_transfers.specs.Bulk.{BulkOnly}
+use Rattle.whole_worlds.specs.Moments.{IsWholeThroughout}
+use Rattle.whole_worlds.proofs.Running.{scripts_stay_whole}
+use Rattle.small_receiver.specs.Samples.{one_put}
+
+pub put_fits : IsFit one_put
+put_fits = record {
+  least = omega arith;
+  most = omega arith;
+  whole_pages = refl;
+  devices = refl;
+  hubs = refl;
+  rooms = ((omega arith, tt), tt);
+  lines = ((omega arith, omega arith, record { size = refl; pace = refl; below = refl }), (tt, ((omega arith, omega arith), (tt, (tt, tt)))));
+}
+
+pub put_bytes : IsByteScript one_put
+put_bytes = record { devices = ((tt, tt), tt); lines = (tt, (tt, ((omega arith, (omega arith, tt)), (tt, (tt, tt))))) }
+
+no_in : ways.Out ≡ ways.In → ⊥
+no_in same = cc
+
+pub put_sends : OpensSenders one_put
+put_sends = ((λ kind speed way. absurd (no_in way)), (tt, (tt, (tt, (tt, tt)))))
+
+pub put_takes : OpensTakers one_put
+put_takes = ((λ kind speed way. refl), (tt, (tt, (tt, (tt, tt)))))
+
+pub put_numbers : NumbersOpens one_put
+put_numbers = ((omega arith, omega arith), (tt, (tt, (tt, (tt, tt)))))
+
+pub put_is_bulk : BulkOnly one_put
+put_is_bulk = (record { kind = refl; speed = refl; way = tt }, (tt, (tt, (tt, (tt, tt)))))
+
+-- there is one device
+only_device : (i : ℕ) (d : DeviceText) → slice_get one_put.devices (suc i) ≡ Some d → ⊥
+only_device zero d here = cc
+only_device (suc i) d here = cc
+
+pub put_owns : HasOwnDevices one_put
+put_owns = record { own = its_own; apart = one_alone }
+  where
+    its_own : (place : ℕ) (d : DeviceText) → slice_get one_put.devices place ≡ Some d → AllByRecursion (λ text. text.desc.name.addr ≡ d.addr) d.eps
+    its_own zero d here = subst (λ (z : DeviceText). AllByRecursion (λ text. text.desc.name.addr ≡ z.addr) z.eps) (same_Some _ d here) (refl, tt)
+    its_own (suc i) d here = absurd (only_device i d here)
+
+    one_alone : (i j : ℕ) (d e : DeviceText) → slice_get one_put.devices i ≡ Some d → slice_get one_put.devices j ≡ Some e → d.addr ≡ e.addr → i ≡ j
+    one_alone zero zero d e one other same = refl
+    one_alone zero (suc j) d e one other same = absurd (only_device j e other)
+    one_alone (suc i) j d e one other same = absurd (only_device i d one)
+
+pub put_stays_whole : IsWholeThroughout one_put
+put_stays_whole = scripts_stay_whole one_put put_fits put_bytes put_sends put_takes put_numbers put_is_bulk

@@ -1,0 +1,68 @@
+-- The driver of a world lends a transfer.
+use Rattle.std.proofs.Common.{ap, sym, subst}
+use Rattle.driver_rows.specs.Rows.{Parts as DriverParts}
+use Rattle.lent_structures.specs.Structures.{Table}
+use Rattle.driver_parts.specs.Opened.{opening_base}
+use Rattle.driver_parts.specs.Driven.{DrivesRing}
+use Rattle.in_place.proofs.Laws.{event_in_place}
+use Rattle.async_walk.specs.Rows.{place}
+use Rattle.scripted_streams.specs.Senders.{sender_of}
+use Rattle.bus_world.specs.World.{driver_parts}
+use Rattle.world_streams.specs.Streaming.{wired}
+use Rattle.chained_transfers.proofs.Events.{event_turns}
+use Rattle.fed_lends.specs.ToLend.{AreBlank}
+use Rattle.fed_lends.proofs.Row.{after_is}
+use Rattle.lent_fronts.proofs.Row.{lend_row_leaves_fronts}
+use Rattle.whole_worlds.specs.Feeding.{heads_of}
+use Rattle.whole_worlds.specs.LendFeeds.{LendFeeds}
+use Rattle.whole_worlds.proofs.Heads.{queue_on, right_of}
+use Rattle.whole_worlds.proofs.OpenBeside.{still_frameless}
+
+pub lend_feeds : LendFeeds
+lend_feeds fixed member x s w b words lent blank f fronts runs =
+    let k = f.working in
+    let p = driver_parts w in
+    let sound = k.place.sound in
+    let old : DrivesRing opening_base member s.parts s.hand (place w.control.walk p.registers p.memory) p.driver = record { ring = k.streaming.controlled.ring; driven = k.driven } in
+    let g = lend_row_leaves_fronts sender_of opening_base x.stream x.packets member x.streams (heads_of member) x.endpoint s.acc s.reported s.hand (wired fixed w) s.parts s.order s.out w.control.walk p b words lent
+    sound.owners sound.stands f.turns.bulk f.turns.turns blank old k.streaming.piped f.counted f.queues fronts k.place.lent runs (queue_on fixed member x s w f) in
+    record {
+      parts = g.parts;
+      order = g.order;
+      out = g.out;
+      feeding = record {
+        working = record {
+          operating = k.operating;
+          streaming = record {
+            on = k.streaming.on;
+            ends = k.streaming.ends;
+            controlled = record {
+              ring = g.drives.ring;
+              between = k.streaming.controlled.between;
+              list = record {
+                words = k.streaming.controlled.list.words;
+                here = g.still 0 0 (Table k.streaming.controlled.list.words) k.streaming.controlled.list.here;
+                size = k.streaming.controlled.list.size;
+              };
+              frameless = still_frameless k.streaming.controlled.list.words w k.streaming.controlled.frameless;
+            };
+            piped = g.piped;
+            right = right_of fixed member x s w f g.order g.out s.hand g.parts s.acc s.reported g.reports;
+          };
+          place = event_in_place p k.place;
+          driven = g.drives.driven;
+        };
+        turns = event_turns p sound.owners f.turns;
+        queues = g.queues;
+        counted = g.reports;
+        unopened = f.unopened;
+      };
+      fronts = g.fronts;
+      runs = g.runs;
+      reaches = g.reaches;
+      blank = subst (λ (q : DriverParts). AreBlank q.driver) (sym (after_is p b words lent)) blank;
+      driver_is = ap (λ (q : DriverParts). q.driver) (after_is p b words lent);
+      still = g.still;
+      heads = g.heads;
+      elements = g.elements;
+    }

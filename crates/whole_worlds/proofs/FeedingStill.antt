@@ -1,0 +1,96 @@
+-- Rows of the driver that store no word and read no token leave queues fed.
+use Rattle.std.proofs.Common.{◌≡◌, ℕ, Bool, true, List, slice_get, Option, Some, None, ap, sym, ◌∙◌, refl}
+use Rattle.std.proofs.lemmas.Bool.{false≢true}
+use Rattle.run_book.specs.Book.{Book}
+use Rattle.driver_rows.specs.declared.content.Endpoint.{Endpoint}
+use Rattle.driver_rows.specs.declared.content.Transfer.{Transfer}
+use Rattle.driver_rows.specs.declared.content.QtdNote.{QtdNote}
+use Rattle.driver_rows.specs.declared.content.Command.{Command}
+use Rattle.driver_rows.specs.declared.content.Command.TheVariants as unfinished
+use Rattle.chained_transfers.specs.Out.{out_of}
+use Rattle.driver_rows.specs.declared.rows.DriverRow.{DriverRow}
+use Rattle.driver_rows.specs.declared.rows.DriverRow.TheVariants as rows
+use Rattle.driver_rows.specs.DriverContent.{DriverContent}
+use Rattle.driver_rows.specs.Harvests.{note_at}
+use Rattle.driver_rows.specs.Rows.{Parts, driver_row, after_driver_row}
+use Rattle.run_owners.specs.Due.{IsDue}
+use Rattle.run_owners.specs.Owners.{note_in}
+use Rattle.run_owners.proofs.Reasons.{each_is_due}
+use Rattle.lent_structures.specs.Structures.{StructureSets}
+use Rattle.ring_streams.specs.Told.{Endpoint as Told}
+use Rattle.driver_parts.specs.Driven.{is_quiet}
+use Rattle.bus_world.specs.World.{driver_parts}
+use Rattle.shared_worlds.proofs.Worlds.{quiet_working}
+use Rattle.driver_parts.specs.Opened.{opening_base}
+use Rattle.chained_transfers.proofs.Events.{event_turns}
+use Rattle.fed_commands.specs.Commands.{QueuesStand}
+use Rattle.fed_harvests.proofs.Like.{like_stands}
+use Rattle.whole_worlds.specs.FeedingLaws.{is_still, StillFeeds}
+
+-- what tells of queues is the same
+same_stands : (d f : DriverContent) (member streams : ℕ → Bool) (ends : ℕ → Told) (parts : StructureSets) (order : ℕ → ℕ → ℕ) (out : ℕ → List ℕ) → d.command ≡ None → f.command ≡ None → f.book ≡ d.book
+    → f.endpoints ≡ d.endpoints → f.transfers ≡ d.transfers → f.notes ≡ d.notes → f.made ≡ d.made → QueuesStand d member streams ends parts order out → QueuesStand f member streams ends parts order out
+same_stands d f member streams ends parts order out idle idle_now book endpoints transfers notes made old =
+    like_stands d f member streams ends parts order out out
+    (record {
+      idle = idle;
+      idle_now = idle_now;
+      slots = ap (λ (k : Book). k.slots) book;
+      notes = λ b. ap (λ (ns : List QtdNote). note_in ns b) notes;
+      next = λ b. ap (λ (ns : List QtdNote). (note_at ns b).next) notes;
+      buffer = λ b. ap (λ (ns : List QtdNote). (note_at ns b).buffer) notes;
+      told = λ b. ap (λ (ns : List QtdNote). (note_at ns b).told) notes;
+      ends = λ i z here. record { endpoint = z; there = sym (ap (λ (xs : List Endpoint). slice_get xs i) endpoints) ∙ here; queue = refl; dummy = refl; desc = refl };
+      ends_now = λ i z here. record { endpoint = z; there = ap (λ (xs : List Endpoint). slice_get xs i) endpoints ∙ here; queue = refl; dummy = refl; desc = refl };
+      transfers = λ t y there. record { transfer = y; there = sym (ap (λ (ts : List Transfer). slice_get ts t) transfers) ∙ there; endpoint = refl; first = refl; qtds = refl; released = refl; sort = refl };
+    })
+    (λ e x here met.
+    old.out_are e x (sym (ap (λ (xs : List Endpoint). slice_get xs e) endpoints) ∙ here) (λ is. let a : ◌≡◌ {A = Option Command} None (Some (unfinished.Open x.queue)) = sym idle ∙ is in absurd (cc))
+    ∙ sym (ap (λ (ns : List QtdNote). out_of (note_in ns) e f.command f.made f.transfers) notes ∙ ap (λ (c : Option Command). out_of (note_in d.notes) e c f.made f.transfers) (idle_now ∙ sym idle)
+    ∙ ap (λ (n : ℕ). out_of (note_in d.notes) e d.command n f.transfers) made ∙ ap (λ (ts : List Transfer). out_of (note_in d.notes) e d.command d.made ts) transfers)) old
+
+still_queues : (row : DriverRow) (p : Parts) (member streams : ℕ → Bool) (ends : ℕ → Told) (parts : StructureSets) (order : ℕ → ℕ → ℕ) (out : ℕ → List ℕ) → IsDue p row → is_still row ≡ true
+    → QueuesStand p.driver member streams ends parts order out → QueuesStand (after_driver_row row p).driver member streams ends parts order out
+still_queues rows.ClearAdvance p member streams ends parts order out due still old = same_stands p.driver _ member streams ends parts order out due.0 due.0 refl refl refl refl refl old
+still_queues rows.RingBell p member streams ends parts order out due still old = same_stands p.driver _ member streams ends parts order out due.0 due.0 refl refl refl refl refl old
+still_queues (rows.ReadStatus heard) p member streams ends parts order out due still old = same_stands p.driver _ member streams ends parts order out due.0 due.0 refl refl refl refl refl old
+still_queues (rows.ReadFrame n) p member streams ends parts order out due still old = same_stands p.driver _ member streams ends parts order out due.0 due.0 refl refl refl refl refl old
+still_queues rows.Rest p member streams ends parts order out due still old = old
+still_queues rows.Lend p member streams ends parts order out due still old = absurd (false≢true still)
+still_queues (rows.Store b at v) p member streams ends parts order out due still old = absurd (false≢true still)
+still_queues (rows.Mend w) p member streams ends parts order out due still old = absurd (false≢true still)
+still_queues rows.Frames p member streams ends parts order out due still old = absurd (false≢true still)
+still_queues rows.LendDescriptors p member streams ends parts order out due still old = absurd (false≢true still)
+still_queues (rows.Unlink t) p member streams ends parts order out due still old = absurd (false≢true still)
+still_queues (rows.ReleaseRemoved what) p member streams ends parts order out due still old = absurd (false≢true still)
+still_queues (rows.ReleaseTransfer t) p member streams ends parts order out due still old = absurd (false≢true still)
+still_queues (rows.ReleaseEndpoint e) p member streams ends parts order out due still old = absurd (false≢true still)
+still_queues (rows.Harvest e t found) p member streams ends parts order out due still old = absurd (false≢true still)
+
+still_quiet : (row : DriverRow) → is_still row ≡ true → is_quiet row ≡ true
+still_quiet rows.ClearAdvance still = refl
+still_quiet rows.RingBell still = refl
+still_quiet (rows.ReadStatus heard) still = refl
+still_quiet (rows.ReadFrame n) still = refl
+still_quiet rows.Rest still = refl
+still_quiet rows.Lend still = absurd (false≢true still)
+still_quiet (rows.Store b at v) still = absurd (false≢true still)
+still_quiet (rows.Mend w) still = absurd (false≢true still)
+still_quiet rows.Frames still = absurd (false≢true still)
+still_quiet rows.LendDescriptors still = absurd (false≢true still)
+still_quiet (rows.Unlink t) still = absurd (false≢true still)
+still_quiet (rows.ReleaseRemoved what) still = absurd (false≢true still)
+still_quiet (rows.ReleaseTransfer t) still = absurd (false≢true still)
+still_quiet (rows.ReleaseEndpoint e) still = absurd (false≢true still)
+still_quiet (rows.Harvest e t found) still = refl
+
+pub still_feeds : StillFeeds
+still_feeds fixed member x s w still f =
+    let p = driver_parts w in
+    record {
+      working = quiet_working fixed opening_base member x s w f.working (still_quiet (driver_row p) still);
+      turns = event_turns p f.working.place.sound.owners f.turns;
+      queues = still_queues (driver_row p) p member x.streams x.endpoint s.parts s.order s.out (each_is_due p) still f.queues;
+      counted = f.counted;
+      unopened = f.unopened;
+    }

@@ -1,0 +1,165 @@
+-- A lend leaves the pipes of OUT endpoints agreed: each new qTD that is active asks the way of its endpoint.
+use Rattle.std.proofs.Common.{◌≡◌, ◌≢◌, ℕ, zero, suc, ◌*◌, ◌⊎◌, Bool, true, List, [], ◌∷◌, Option, Some, None, option_map, Ok, Result, ap, refl, sym, subst, ◌∙◌, ⊎_elim, inl, inr}
+use Rattle.std.specs.List.{concat}
+use Rattle.std.proofs.lemmas.Bool.{cases_eq, true≢false}
+use Rattle.usb_base.specs.declared.packets.Way.{Way}
+use Rattle.usb_bus.specs.Bus.{Fixed}
+use Rattle.word_mem.specs.Memory.{Mem}
+use Rattle.link_words.specs.declared.refusal.Bad.{Bad}
+use Rattle.qh_qtd.specs.declared.qtd.Qtd.{Qtd}
+use Rattle.qh_qtd.specs.Qtd.{qtd_words, qtd_read, IsQtdInRange}
+use Rattle.qh_qtd.proofs.QtdLaws.{qtd_read-words}
+use Rattle.run_book.specs.declared.slots.Slot.{Slot}
+use Rattle.run_book.specs.Book.{slot_of}
+use Rattle.driver_rows.specs.declared.content.QtdNote.{QtdNote}
+use Rattle.driver_rows.specs.declared.content.Stage.{Stage}
+use Rattle.driver_rows.specs.DriverContent.{DriverContent}
+use Rattle.driver_rows.specs.Rows.{Parts as DriverParts, advance}
+use Rattle.driver_rows.specs.Harvests.{note_at}
+use Rattle.run_owners.specs.Owners.{Views, views_of}
+use Rattle.chained_transfers.specs.Bulk.{pid_by}
+use Rattle.chained_transfers.proofs.Ways.{its_pid}
+use Rattle.lent_structures.specs.Structures.{Structure, QueueHead, Element, Buffer, Table, Isochronous, SplitIsochronous, StructureSets, Tells}
+use Rattle.async_walk.specs.Rows.{place}
+use Rattle.driver_parts.specs.Inventory.{Sort, OfElement, sort_of, sorts_of, Inventory, IsLent, IsPieceOf, AreTold, IsDriverOwned, the_list, the_head, a_queue, a_dummy, a_piece, a_buffer, IsDriven}
+use Rattle.driver_parts.specs.Driven.{DrivesRing}
+use Rattle.driver_parts.specs.Opened.{opening_base}
+use Rattle.transfer_lends.specs.Pieces.{IsNewQtd}
+use Rattle.transfer_lends.specs.Laws.{lent_memory, lent_driver, HasPieces}
+use Rattle.transfer_lends.proofs.Lends.{lend_drives}
+use Rattle.scripted_takers.specs.Takers.{taker_of}
+use Rattle.bus_world.specs.World.{World, driver_parts, driver_next}
+use Rattle.world_streams.specs.Streaming.{Streams, Standing, wired}
+use Rattle.fed_lends.specs.ToLend.{AreStagesBy, IsToBeLent, lent_now}
+use Rattle.fed_lends.proofs.Fed.{y_of, x_of}
+use Rattle.fed_lends.proofs.Names.{names_lent}
+use Rattle.fed_lends.proofs.Reports.{is_met}
+use Rattle.fed_lends.proofs.Row.{advance_is, after_is}
+use Rattle.released_queues.specs.Fronts.{FrontsStand}
+use Rattle.out_rows.specs.Outs.{GoesAs}
+use Rattle.out_rows.specs.Lends.{AreNewAs}
+use Rattle.out_rows.proofs.Lending.{lend_pipes}
+use Rattle.whole_worlds.specs.Feeding.{IsFeeding}
+use Rattle.whole_worlds.specs.LendFeeds.{LendsTransfer}
+use Rattle.whole_worlds.specs.Whole.{IsWhole}
+use Rattle.whole_worlds.specs.Taking.{outs_of, IsTaking}
+use Rattle.whole_worlds.proofs.Heads.{queue_on}
+use Rattle.whole_worlds.proofs.FeedingLends.{lend_feeds}
+use Rattle.whole_worlds.proofs.TakingStores.{goes_by}
+
+-- ---- one memory of one driver tells one qTD at a place
+
+ok_same : (t u : Qtd) → ◌≡◌ {A = Result Qtd Bad} (Ok t) (Ok u) → t ≡ u
+ok_same t u same = cc
+
+one_qtd : (t u : Qtd) → IsQtdInRange t → IsQtdInRange u → qtd_words t ≡ qtd_words u → t ≡ u
+one_qtd t u one two same = ok_same t u (sym (qtd_read-words t one) ∙ ap qtd_read same ∙ qtd_read-words u two)
+
+element_by : (o : Option Structure) → option_map sort_of o ≡ Some OfElement → (t : Qtd) × (o ≡ Some (Element t))
+element_by None is = absurd (cc)
+element_by (Some (QueueHead q)) is = absurd (cc)
+element_by (Some (Element t)) is = (t, refl)
+element_by (Some (Buffer pages i bs)) is = absurd (cc)
+element_by (Some (Table ws)) is = absurd (cc)
+element_by (Some (Isochronous v)) is = absurd (cc)
+element_by (Some (SplitIsochronous v)) is = absurd (cc)
+
+piece_sort : (v : Views) (sorts : ℕ → Option Sort) (first i c : ℕ) → AreTold v sorts first i → IsPieceOf v.note first i c → IsLent (v.slot c) → sorts (32 * c) ≡ Some OfElement
+piece_sort v sorts first zero c told piece lent = absurd piece
+piece_sort v sorts first (suc i) c told (inl is) lent = ap (λ (j : ℕ). sorts (32 * j)) is ∙ told.0.element (subst (λ (j : ℕ). IsLent (v.slot j)) is lent)
+piece_sort v sorts first (suc i) c told (inr piece) lent = piece_sort v sorts (v.note first).next i c told.1 piece lent
+
+owned_sort : (v : Views) (sorts : Inventory) (n a : ℕ) (i : Sort) → IsDriven v sorts → i ≡ OfElement → IsDriverOwned v n a i → sorts n a ≡ Some OfElement
+owned_sort v sorts _ _ _ driven is the_list = absurd (cc)
+owned_sort v sorts _ _ _ driven is the_head = absurd (cc)
+owned_sort v sorts _ _ _ driven is (a_queue e x queue lent) = absurd (cc)
+owned_sort v sorts _ _ _ driven is (a_dummy e x queue lent) = driven.dummy e x queue lent
+owned_sort v sorts _ _ _ driven is (a_piece t b y x transfer piece lent) = piece_sort v (sorts (32 * x.queue)) y.first y.qtds b (driven.pieces t y x transfer) piece lent
+owned_sort v sorts _ _ _ driven is (a_buffer t b c cs y x transfer piece first lent) = absurd (cc)
+
+same_element : (v : Views) (m : Mem) (parts now : StructureSets) → IsDriven v (sorts_of parts) → Tells m parts → IsDriven v (sorts_of now) → Tells m now → (n a : ℕ) (t : Qtd) → parts n a ≡ Some (Element t) → now n a ≡ Some (Element t)
+same_element v m parts now driven tells driven_now tells_now n a t here =
+    let owned = driven.only n a OfElement (ap (option_map sort_of) here) in
+    let there = element_by (now n a) (owned_sort v (sorts_of now) n a OfElement driven_now refl owned) in
+    let one = tells.each n a (Element t) here in
+    let two = tells_now.each n a (Element there.0) there.1 in
+    there.1 ∙ ap (λ (u : Qtd). Some (Element u)) (one_qtd there.0 t two.range one.range (sym two.words ∙ one.words))
+
+-- ---- what the new qTDs ask for
+
+new_pid : (notes : List QtdNote) (dummy : ℕ) (way : Way) (ss : List Stage) (b a : ℕ) (u : Qtd) → AreStagesBy way ss → IsNewQtd notes dummy ss b a u → u.token.active ≡ true → u.token.pid ≡ pid_by way
+new_pid notes dummy way [] b a u by new on = absurd (true≢false (sym on ∙ ap (λ (t : Qtd). t.token.active) new.1))
+new_pid notes dummy way (s ∷ ss) b a u by (inl new) on = ap (λ (t : Qtd). t.token.pid) new.1 ∙ its_pid way s by.0
+new_pid notes dummy way (s ∷ ss) b a u by (inr new) on = new_pid notes dummy way ss (note_at notes b).next a u by.1 new on
+
+pieces_ask : {d : DriverContent} {m : Mem} {b : ℕ} {words : List ℕ} (get : IsToBeLent d m b words) (slot : ℕ → Slot) (parts now : StructureSets) → HasPieces d slot parts now (y_of get) (x_of get) get.stage get.further → (n a : ℕ) (t : Qtd) → now n a ≡ Some (Element t) → t.token.active ≡ true
+    → (parts n a ≡ Some (Element t)) ⊎ ((n ≡ 32 * get.endpoint.queue) × (t.token.pid ≡ pid_by get.endpoint.desc.name.way))
+pieces_ask {d = d} get slot parts now has n a t here on =
+    ⊎_elim
+    (λ (same : n ≡ 32 * get.endpoint.queue).
+    ⊎_elim (λ (was : parts (32 * get.endpoint.queue) a ≡ Some (Element t)). inl (ap (λ (i : ℕ). parts i a) same ∙ was))
+    (λ (new : IsNewQtd d.notes get.endpoint.dummy get.further (note_at d.notes get.transfer.first).next a t).
+    inr (same, new_pid d.notes get.endpoint.dummy get.endpoint.desc.name.way get.further (note_at d.notes get.transfer.first).next a t get.stages.1 new on))
+    (has.elements a t (ap (λ (i : ℕ). now i a) (sym same) ∙ here)))
+    (λ (differs : n ≢ 32 * get.endpoint.queue). inl (ap (λ part. part a) (sym (has.beside n differs)) ∙ here)) (cases_eq n (32 * get.endpoint.queue))
+
+-- ---- the lend
+
+module _ (fixed : Fixed) (takes : ℕ → ℕ → Bool) (member : ℕ → Bool) (x : Streams) (s : Standing) (w : World) (b : ℕ) (words : List ℕ) (get : IsToBeLent w.driver w.memory b words) (k : IsWhole fixed takes member x s w) where
+  abbrev d : DriverContent
+  d = w.driver
+
+  abbrev m : Mem
+  m = w.memory
+
+  abbrev f : IsFeeding fixed member x s w
+  f = k.feeding
+
+  abbrev fronts : FrontsStand w.driver s.parts s.order s.out
+  fronts = λ e z here met. (k.tails e z here met).stands
+
+  abbrev g : LendsTransfer fixed member x s w
+  g = lend_feeds fixed member x s w b words get k.blank f fronts k.runs
+
+  abbrev n : ℕ
+  n = 32 * get.endpoint.queue
+
+  -- the structures that it leaves are those that memory tells then
+  driven_then : IsDriven (views_of (lent_now d m)) (sorts_of g.parts)
+  driven_then = subst (λ (q : DriverContent). IsDriven (views_of q) (sorts_of g.parts)) g.driver_is g.feeding.working.driven
+
+  tells_then : Tells (lent_memory d m) g.parts
+  tells_then = subst (λ (i : Mem). Tells i g.parts) (ap (λ (q : DriverParts). q.memory) (after_is (driver_parts w) b words get)) g.feeding.working.streaming.controlled.ring.tells
+
+  asks_by : {now : StructureSets} → DrivesRing opening_base member now s.hand (place w.control.walk w.registers (lent_memory d m)) (advance (lent_driver d m)) × HasPieces d (slot_of (lent_driver d m).book.slots) s.parts now (y_of get) (x_of get) get.stage get.further
+      → (i a : ℕ) (t : Qtd) → g.parts i a ≡ Some (Element t) → t.token.active ≡ true → (s.parts i a ≡ Some (Element t)) ⊎ ((i ≡ n) × (t.token.pid ≡ pid_by get.endpoint.desc.name.way))
+  asks_by {now = now} both i a t here on =
+      let driven : IsDriven (views_of (lent_now d m)) (sorts_of now) = subst (λ (q : DriverContent). IsDriven (views_of q) (sorts_of now)) (advance_is d m b words get) both.0.driven in
+      pieces_ask get (slot_of (lent_driver d m).book.slots) s.parts now both.1 i a t
+      (same_element (views_of (lent_now d m)) (lent_memory d m) g.parts now driven_then tells_then driven both.0.ring.tells i a t here) on
+
+  asks : (i a : ℕ) (t : Qtd) → g.parts i a ≡ Some (Element t) → t.token.active ≡ true → (s.parts i a ≡ Some (Element t)) ⊎ ((i ≡ n) × (t.token.pid ≡ pid_by get.endpoint.desc.name.way))
+  asks =
+      let owners = f.working.place.sound.owners in
+      let stands = f.working.place.sound.stands in
+      let old : DrivesRing opening_base member s.parts s.hand (place w.control.walk w.registers m) d = record { ring = f.working.streaming.controlled.ring; driven = f.working.driven } in
+      asks_by
+      (lend_drives opening_base member s.parts s.hand w.control.walk w.registers m d get.number (y_of get) (x_of get) get.stage get.further get.awaits owners stands old
+      (names_lent d m b words s.parts n get f.queues.fed old.driven k.blank))
+
+  new_as : AreNewAs (outs_of member x.streams) s.parts g.parts
+  new_as i a t here on =
+      let met = is_met d m b words get.endpoint get in
+      ⊎_elim (λ (was : s.parts i a ≡ Some (Element t)). inl was)
+      (λ (new : (i ≡ n) × (t.token.pid ≡ pid_by get.endpoint.desc.name.way)).
+      inr (subst (λ (j : ℕ). GoesAs (outs_of member x.streams) j t) (sym new.0)
+      (goes_by member x.streams n get.endpoint.desc.name.way t (f.queues.streams_are.each get.transfer.endpoint get.endpoint get.here met).0
+      (queue_on fixed member x s w f get.transfer.endpoint get.endpoint get.here met) new.1))) (asks i a t here on)
+
+  pub lend_taking : IsTaking fixed takes member x (record s { parts = g.parts; order = g.order; out = g.out }) (driver_next w)
+  lend_taking = record {
+    ends = k.taking.ends;
+    piped =
+        lend_pipes taker_of takes member (outs_of member x.streams) x.endpoint (λ i. concat (s.acc i)) s.parts g.parts s.hand (wired fixed w) (record { still = g.still; elements = g.elements }) new_as k.taking.piped;
+    untaken = k.taking.untaken;
+  }

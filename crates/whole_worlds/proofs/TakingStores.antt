@@ -1,0 +1,93 @@
+-- A store of the first qTD of a transfer leaves the pipes of OUT endpoints agreed.
+use Rattle.std.proofs.Common.{◌≡◌, ℕ, ◌-◌, ◌*◌, ◌<◌, ◌≤◌, Bool, true, false, if◌then◌else◌, List, Some, ap, sym, ◌∙◌, ⊎_elim, inl, inr, arith}
+use Rattle.std.specs.List.{concat}
+use Rattle.std.proofs.lemmas.Bool.{cases_Bool, cases_lt, false≢true}
+use Rattle.usb_base.specs.declared.packets.Way.{Way}
+use Rattle.usb_bus.specs.Bus.{Fixed}
+use Rattle.qh_qtd.specs.declared.qtd.Qtd.{Qtd}
+use Rattle.driver_rows.specs.declared.content.Command.TheVariants as unfinished
+use Rattle.driver_rows.specs.Rows.{Parts as DriverParts}
+use Rattle.chained_transfers.specs.Bulk.{receives, pid_by}
+use Rattle.chained_transfers.proofs.Ways.{receives_pid, sends_pid}
+use Rattle.driver_lends.specs.Published.{partly}
+use Rattle.driver_lends.proofs.Publishing.{idle}
+use Rattle.scripted_takers.specs.Takers.{taker_of}
+use Rattle.bus_world.specs.World.{World, driver_parts, driver_next}
+use Rattle.world_streams.specs.Streaming.{Streams, Standing, wired}
+use Rattle.fed_queues.specs.Fed.{IsPublished}
+use Rattle.fed_queues.specs.Places.{IsMet}
+use Rattle.fed_stores.specs.Stores.{IsAtStore, published_by}
+use Rattle.out_rows.specs.Outs.{GoesAs}
+use Rattle.out_rows.proofs.Storing.{store_pipes}
+use Rattle.whole_worlds.specs.Feeding.{heads_of, IsFeeding}
+use Rattle.whole_worlds.specs.Whole.{IsWhole}
+use Rattle.whole_worlds.specs.Taking.{outs_of, IsTaking}
+use Rattle.whole_worlds.proofs.Heads.{queue_on}
+use Rattle.whole_worlds.proofs.FeedingStores.{at, after_store}
+use Rattle.whole_worlds.proofs.Storing.{below, met_now}
+
+-- ---- the queue heads of OUT endpoints
+
+pub outs_off : (member streams : ℕ → Bool) (n : ℕ) → streams n ≡ true → outs_of member streams n ≡ false
+outs_off member streams n on = ap (λ (b : Bool). if b then false else heads_of member n) on
+
+pub outs_on : (member streams : ℕ → Bool) (n : ℕ) → streams n ≡ false → heads_of member n ≡ true → outs_of member streams n ≡ true
+outs_on member streams n off head = ap (λ (b : Bool). if b then false else heads_of member n) off ∙ head
+
+-- a qTD that asks the way of its endpoint
+pub goes_by : (member streams : ℕ → Bool) (n : ℕ) (way : Way) (t : Qtd) → streams n ≡ receives way → heads_of member n ≡ true → t.token.pid ≡ pid_by way → GoesAs (outs_of member streams) n t
+goes_by member streams n way t streamed head pid =
+    ⊎_elim (λ (on : receives way ≡ true). inr (outs_off member streams n (streamed ∙ on), λ zero. let one = receives_pid way on in omega (arith, pid, one, zero)))
+    (λ (off : receives way ≡ false). inl (outs_on member streams n (streamed ∙ off) head, pid ∙ sends_pid way off)) (cases_Bool (receives way))
+
+-- ---- the store
+
+module _ (fixed : Fixed) (takes : ℕ → ℕ → Bool) (member : ℕ → Bool) (x : Streams) (s : Standing) (w : World) (b : ℕ) (words : List ℕ) (command : w.driver.command ≡ Some (unfinished.Publish b words)) (made : 1 ≤ w.driver.made) (whole : IsWhole fixed takes member x s w) where
+  abbrev p : DriverParts
+  p = driver_parts w
+
+  abbrev f : IsFeeding fixed member x s w
+  f = whole.feeding
+
+  abbrev k : IsAtStore p.driver p.memory member x.streams x.endpoint s.parts s.order s.out b words
+  k = at fixed member x s w b words command made whole.feeding
+
+  abbrev g : IsPublished p.driver s.parts b words
+  g = published_by k
+
+  abbrev n : ℕ
+  n = 32 * g.endpoint.queue
+
+  abbrev way : Way
+  way = g.endpoint.desc.name.way
+
+  abbrev old : Qtd
+  old = partly g.qtd (w.driver.made - 1)
+
+  abbrev new : Qtd
+  new = partly g.qtd w.driver.made
+
+  met : IsMet w.driver g.endpoint
+  met = met_now p member x.streams x.endpoint s.parts s.order s.out b words k g.endpoint
+
+  -- it is active once all of its words are stored
+  asks : new.token.active ≡ true → new.token.pid ≡ pid_by way
+  asks on =
+      ⊎_elim (λ (low : w.driver.made < 8). absurd (false≢true (sym (idle g.qtd w.driver.made low) ∙ on)))
+      (λ (over : 8 ≤ w.driver.made).
+      let eighth : w.driver.made ≡ 8 = (let few = g.few in omega (arith, few, over)) in
+      ap (λ (j : ℕ). (partly g.qtd j).token.pid) eighth ∙ g.pid) (cases_lt w.driver.made 8)
+
+  goes : new.token.active ≡ true → GoesAs (outs_of member x.streams) n new
+  goes on =
+      goes_by member x.streams n way new (f.queues.streams_are.each g.transfer.endpoint g.endpoint g.here met).0
+      (queue_on fixed member x s w f g.transfer.endpoint g.endpoint g.here met) (asks on)
+
+  pub store_taking : IsTaking fixed takes member x (after_store fixed member x s w b words command made whole.feeding) (driver_next w)
+  store_taking = record {
+    ends = whole.taking.ends;
+    piped =
+        store_pipes taker_of takes member (outs_of member x.streams) x.endpoint (λ i. concat (s.acc i)) s.parts s.hand (wired fixed w) n (32 * b) old new
+        f.working.streaming.controlled.ring.members whole.taking.ends g.stored (idle g.qtd (w.driver.made - 1) (below p member x.streams x.endpoint s.parts s.order s.out b words k)) goes whole.taking.piped;
+    untaken = whole.taking.untaken;
+  }

@@ -1,5 +1,0 @@
-use Rattle.whole_worlds.proofs.Counting.{never_refused}
-use Rattle.whole_worlds.proofs.unrefused.receiving_scripts_are_never_refused.Goals as goal
-
-pub returns : goal.returns
-returns c = never_refused

@@ -1,0 +1,82 @@
+-- A world at work whose endpoints are all bulk ones (EHCI 1.0, 4.6, 4.8 and 4.10; USB 2.0, 5.8 and 8.6): each queue is fed as the driver's content tells, and
+-- the devices' endpoints that aren't opened have all their packets.
+--     streams_of s              the streams of the script, of which no queue head has one yet
+--     heads_of member           the queue heads of endpoints, IN or OUT: all that the walk may meet but the head of the ring
+--     IsFeeding fixed member x s w     the world is so
+--     bytes_of_event n e        the bytes that an event of the controller moved of the queue head at n
+--     acc_after ..              the packets taken of each stream after it; where data leave the host, the bytes of each event
+--     GoesOnBeside ..           and after an event of the controller, which is this
+use Rattle.std.specs.Prelude.{ℕ, ◌*◌, Bool, false, ◌==◌, List, [], ◌∷◌, ◌++◌, Option, Some, None, is_some, if◌then◌else◌}
+use Rattle.usb_base.specs.declared.packets.Ask.{Ask}
+use Rattle.usb_base.specs.declared.packets.Reply.{Reply}
+use Rattle.script_types.specs.declared.scripts.Script.{Script}
+use Rattle.usb_bus.specs.Bus.{Fixed, opening_wired}
+use Rattle.driver_rows.specs.Words.{head_block, opening_head}
+use Rattle.lent_structures.specs.Structures.{StructureSets}
+use Rattle.ring_walk.specs.Hand.{Hand}
+use Rattle.ring_streams.specs.Told.{endpoint_of}
+use Rattle.ring_order.specs.Order.{bytes_of_effect}
+use Rattle.ring_pipes.specs.Bus.{Sender}
+use Rattle.ring_pipes.specs.Pipes.{grown}
+use Rattle.ring_control.specs.Control.{ControlEffect, a_microframe, a_step}
+use Rattle.control_pipes.specs.Events.{ControlGoesOn}
+use Rattle.reported_streams.specs.Reported.{AreReported}
+use Rattle.scripted_streams.specs.Senders.{sender_of}
+use Rattle.driver_parts.specs.Opened.{opening_base}
+use Rattle.bus_world.specs.World.{World, controller_parts, controller_next}
+use Rattle.world_streams.specs.Streaming.{Streams, Standing, wired, begins_by, transacts_by}
+use Rattle.shared_worlds.specs.Working.{IsWorking}
+use Rattle.opened_streams.specs.Unopened.{AreUnopened}
+use Rattle.chained_transfers.specs.InTurn.{TakesTurns}
+use Rattle.fed_commands.specs.Commands.{QueuesStand}
+
+abbrev pub left_of : Option Sender → List (List ℕ)
+left_of None = []
+left_of (Some s) = s.left
+
+abbrev pub streams_of : Script → Streams
+streams_of s = record {
+  stream = λ addr ep. is_some (sender_of (opening_wired s) addr ep);
+  packets = λ addr ep. left_of (sender_of (opening_wired s) addr ep);
+  streams = λ n. false;
+  endpoint = λ n. endpoint_of opening_head;
+}
+
+abbrev pub heads_of : (ℕ → Bool) → ℕ → Bool
+heads_of member n = if n == 32 * head_block then false else member n
+
+pub record IsFeeding (fixed : Fixed) (member : ℕ → Bool) (x : Streams) (s : Standing) (w : World) : Type 0 where
+  pub working : IsWorking fixed opening_base member x s w
+  pub turns : TakesTurns w.driver
+  pub queues : QueuesStand w.driver member x.streams x.endpoint s.parts s.order s.out
+  -- .. and what was harvested of each queue, and what was moved of its qTDs that are out, are all the bytes that were moved of it, in their order
+  pub counted : AreReported (heads_of member) s.order s.out s.hand s.parts s.acc s.reported
+  pub unopened : AreUnopened x.stream x.packets sender_of x.streams x.endpoint (wired fixed w)
+
+-- ---- an event of the controller
+
+abbrev pub Goes : Fixed → (ℕ → Bool) → Streams → Standing → World → Type 0
+Goes fixed member x s w =
+    ControlGoesOn begins_by transacts_by x.stream x.packets sender_of opening_base member x.streams x.endpoint s.acc s.parts s.hand
+    (wired fixed w) (wired fixed (controller_next fixed w)) (controller_parts (controller_next fixed w))
+
+abbrev pub bytes_of_event : {W : Type 0} {begins : W → ℕ → Bool → W → Type 0} {transacts : W → Ask → List ℕ → Reply → W → Type 0} {parts : StructureSets} {hand : Hand} {wire after : W}
+    {now : StructureSets} {later : Hand} → ℕ → ControlEffect begins transacts parts hand wire after now later → List ℕ
+bytes_of_event n (a_microframe b) = []
+bytes_of_event n (a_step k) = bytes_of_effect n k.streams
+
+abbrev pub acc_after : (ℕ → Bool) → (ℕ → List (List ℕ)) → ℕ → List (List ℕ) → (ℕ → List ℕ) → ℕ → List (List ℕ)
+acc_after streams acc at more bytes n = if streams n then grown acc at more n else acc n ++ bytes n ∷ []
+
+pub record GoesOnBeside (fixed : Fixed) (member : ℕ → Bool) (x : Streams) (s : Standing) (w : World) : Type 0 where
+  pub event : Goes fixed member x s w
+  pub feeding : IsFeeding fixed member x
+      (record s { parts = event.event.now; hand = event.event.later; acc = acc_after x.streams s.acc event.at event.more (λ n. bytes_of_event n event.event.effect) }) (controller_next fixed w)
+
+-- ---- an event of the driver that leaves what is in hand, taken and reported
+
+pub record GoesOnAs (fixed : Fixed) (member : ℕ → Bool) (x : Streams) (s : Standing) (new : World) : Type 0 where
+  pub parts : StructureSets
+  pub order : ℕ → ℕ → ℕ
+  pub out : ℕ → List ℕ
+  pub feeding : IsFeeding fixed member x (record s { parts = parts; order = order; out = out }) new
