@@ -2,11 +2,11 @@
 use Rattle.std.proofs.Common.{◌≡◌, ◌≢◌, ℕ, List, Option, Some, None, IfSome, refl, subst, ◌∙◌}
 use Rattle.program_ends.specs.Ends.{IsLeft}
 use Rattle.program_ends.specs.Input.{input_of}
-use Rattle.ehci_cli.specs.Form.{AreWordsOf}
-use Rattle.ehci_cli.specs.Output.{IsAnswer, IsLoad, IsProgram, LeavesAs, Leaves}
-use Rattle.ehci_cli.proofs.Words.{loads_once}
-use Rattle.ehci_cli.specs.declared.form.Form.{Form}
-use Rattle.ehci_cli.specs.declared.form.Form.TheVariants.{Run, Image, Check, Dump, Load}
+use Rattle.program_forms.specs.Form.{AreWordsOf}
+use Rattle.program_forms.specs.Output.{IsAnswer, IsLoad, IsProgram, LeavesAs, Leaves}
+use Rattle.program_forms.proofs.Words.{loads_once}
+use Rattle.program_forms.specs.declared.form.Form.{Form}
+use Rattle.program_forms.specs.declared.form.Form.TheVariants.{Run, Image, Check, Dump, Load}
 use Rattle.program_ends.specs.declared.status.Status.{Status}
 use Rattle.program_ends.specs.declared.status.Status.TheVariants.{Ok, Words, Refused, ReadFault, WriteFault, Memory}
 

@@ -21,7 +21,7 @@ use Rattle.whole_worlds.proofs.Running.{texts_right, texts_taken}
 use Rattle.whole_worlds.proofs.PlacedRunning.{texts_run_in_place}
 use Rattle.whole_worlds.proofs.Counting.{never_refused}
 use Rattle.program_ends.specs.Input.{input_of}
-use Rattle.ehci_cli.specs.Output.{IsRunOf}
+use Rattle.program_forms.specs.Output.{IsRunOf}
 use Rattle.ehci_cli.specs.Streams.{KeepsStreams, KeepsPlaces}
 
 record IsMoment (s : Script) (w : World) : Type 0 where

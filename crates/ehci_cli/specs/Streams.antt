@@ -17,7 +17,7 @@ use Rattle.bus_world.specs.Closing.{world_text}
 use Rattle.chained_transfers.specs.Receives.{ReceivesOnly}
 use Rattle.whole_worlds.specs.Moments.{InStreamsAreRightThroughout, OutStreamsAreTakenThroughout}
 use Rattle.whole_worlds.specs.Placed.{RunsInPlaceThroughout}
-use Rattle.ehci_cli.specs.Output.{IsRunOf}
+use Rattle.program_forms.specs.Output.{IsRunOf}
 
 pub record KeepsStreams (s : Script) : Type 0 where
   pub throughout : InStreamsAreRightThroughout s

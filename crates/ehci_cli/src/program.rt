@@ -7,16 +7,12 @@ ghost use Rattle.world_frames.specs.Scheduled.{KeepsScheduleThroughout};
 ghost use Rattle.worlds_keep_to_lent.specs.Written.{KeepsToLentThroughout};
 ghost use Rattle.program_ends.specs.Ends.{IsFault, IsWriteFault, WritesNothing};
 ghost use Rattle.program_ends.specs.Input.{input_of};
-ghost use Rattle.ehci_cli.specs.Form.{AreWordsOf, AreNoForm};
-ghost use Rattle.ehci_cli.specs.Output.{IsAnswer, IsLoad, IsProgram, LeavesAs, Leaves};
+ghost use Rattle.program_forms.specs.Form.{AreWordsOf, AreNoForm};
+ghost use Rattle.program_forms.specs.Output.{IsAnswer, IsLoad, IsProgram, LeavesAs, Leaves};
 ghost use Rattle.ehci_cli.specs.Streams.{KeepsStreams, KeepsPlaces};
 
-use crate::checking::check;
-use crate::dumping::dump;
-use crate::form::{Form, form_of};
-use crate::loading::load;
-use crate::running::{image, run};
 use program_ends::{Status, Unread, read_input};
+use program_forms::{Form, check, dump, form_of, image, load, run};
 use std::alloc::Global;
 use usb_base::{Sink, Source};
 

@@ -1,0 +1,151 @@
+-- What the program writes: for each form and input, how it ends and which bytes it writes.
+--     Gives form input status bytes        the whole output: an end with its bytes
+--     IsAnswer form status input old new   how what is written follows from how the program ended
+--     IsProgram words status ..            the same by the words
+--     Leaves words status xs after         what is left of a source that had xs
+use Rattle.std.specs.Prelude.{◌≡◌, ℕ, Bool, true, false, List, [], ◌∷◌, Option, None, Some, is_none, codes}
+use Rattle.std.specs.Io.KnownBytes.{Appends, Keeps}
+use Rattle.usb_base.specs.Outside.{AppendsPrefix}
+use Rattle.report_text.specs.ReportText.{line_text}
+use Rattle.script_types.specs.declared.scripts.Script.{Script}
+use Rattle.script_forms.specs.declared.causes.TextWhy.{TextWhy}
+use Rattle.script_text.specs.Faults.{Spells, first_fault, fault_line, check_text, is_image}
+use Rattle.bus_world.specs.World.{Standing}
+use Rattle.bus_world.specs.Opening.{opening_standing}
+use Rattle.bus_world.specs.Orders.{IsRun, orders_of}
+use Rattle.bus_world.specs.Closing.{world_text, world_image}
+use Rattle.load_script.specs.Load.{load_text}
+use Rattle.load_summary.specs.Summary.{summary_of, summary_line}
+use Rattle.image_codec.specs.Image.{image_bytes, image_fault, image_of}
+use Rattle.image_codec.specs.Shown.{shown}
+use Rattle.image_codec.specs.Text.{refusal_line}
+use Rattle.image_codec.specs.declared.image.Refusal.{Refusal}
+use Rattle.program_forms.specs.Form.{AreWordsOf}
+use Rattle.program_forms.specs.declared.form.Form.{Form}
+use Rattle.program_forms.specs.declared.form.Form.TheVariants.{Run, Image, Check, Dump, Load}
+use Rattle.program_ends.specs.Ends.{IsLeft}
+use Rattle.program_ends.specs.declared.status.Status.{Status}
+use Rattle.program_ends.specs.declared.status.Status.TheVariants.{Ok, Words, Refused, ReadFault, WriteFault, Memory}
+
+-- ---- scripts
+
+-- a world after the run of a script: from its opening on, all action lines in their order
+pub record IsRunOf (s : Script) (w : Standing) : Type 0 where
+  pub fixed : w.fixed ≡ (opening_standing s).fixed
+  pub ran : IsRun (opening_standing s).fixed (opening_standing s).world (orders_of s.lines) w.world
+
+-- The input spells a script, and this is a world after its run.
+pub record RunOf (input : List ℕ) (w : Standing) : Type 0 where
+  pub script : Script
+  pub spelled : Spells input script
+  pub ran : IsRunOf script w
+
+-- The bytes are the report of a world after the run of the script that the input spells.
+pub record ReportsRun (input bytes : List ℕ) : Type 0 where
+  pub world : Standing
+  pub ran : RunOf input world
+  pub told : bytes ≡ world_text world.fixed world.world
+
+-- The bytes are the image of memory after that run.
+pub record GivesImage (input bytes : List ℕ) : Type 0 where
+  pub world : Standing
+  pub ran : RunOf input world
+  pub told : bytes ≡ image_bytes (world_image world.world)
+
+-- The bytes are the line of what the report counts after the run of the load script of n.
+pub record SummarizesLoad (n : ℕ) (bytes : List ℕ) : Type 0 where
+  pub world : Standing
+  pub ran : RunOf (load_text n) world
+  pub told : bytes ≡ summary_line n (summary_of world.fixed world.world)
+
+-- The input spells no script, and the line names its first fault.
+pub record RefusesScript (input bytes : List ℕ) : Type 0 where
+  pub number : ℕ
+  pub why : TextWhy
+  pub first : first_fault input ≡ Some (number, why)
+  pub line : bytes ≡ fault_line number why
+
+-- ---- images
+
+-- The input is an image, and the bytes are the text that shows it.
+pub record ShowsImage (input bytes : List ℕ) : Type 0 where
+  pub sound : image_fault input ≡ None
+  pub told : bytes ≡ shown (image_of input)
+
+-- The input is no image, and the line names the first thing that is wrong with it.
+pub record RefusesImage (input bytes : List ℕ) : Type 0 where
+  pub refusal : Refusal
+  pub refused : image_fault input ≡ Some refusal
+  pub line : bytes ≡ refusal_line refusal
+
+-- ---- what `check` says: of an image where the first four bytes are those of one, and else of a text
+
+abbrev pub image_line : Option Refusal → List ℕ
+image_line None = line_text (codes "image" ∷ codes "ok" ∷ [])
+image_line (Some refusal) = refusal_line refusal
+
+abbrev pub checked_as : Bool → List ℕ → List ℕ
+checked_as true input = image_line (image_fault input)
+checked_as false input = check_text input
+
+abbrev pub is_sound_as : Bool → List ℕ → Bool
+is_sound_as true input = is_none (image_fault input)
+is_sound_as false input = is_none (first_fault input)
+
+-- the input is a script or an image, or it isn't; the line says so, or names the first thing that is wrong with it
+pub record Checks (input : List ℕ) (sound : Bool) (bytes : List ℕ) : Type 0 where
+  pub is : is_sound_as (is_image input) input ≡ sound
+  pub line : bytes ≡ checked_as (is_image input) input
+
+-- ---- the program
+
+-- the whole output of a form on an input: an end with its bytes; `load` has the same on every input
+abbrev pub Gives : Form → List ℕ → Status → List ℕ → Type 0
+Gives Run input Ok bytes = ReportsRun input bytes
+Gives Run input Refused bytes = RefusesScript input bytes
+Gives Image input Ok bytes = GivesImage input bytes
+Gives Image input Refused bytes = RefusesScript input bytes
+Gives Check input Ok bytes = Checks input true bytes
+Gives Check input Refused bytes = Checks input false bytes
+Gives Dump input Ok bytes = ShowsImage input bytes
+Gives Dump input Refused bytes = RefusesImage input bytes
+Gives (Load n) input Ok bytes = SummarizesLoad n bytes
+Gives (Load n) input Refused bytes = RefusesScript (load_text n) bytes
+Gives form input Words bytes = ⊥
+Gives form input ReadFault bytes = ⊥
+Gives form input WriteFault bytes = ⊥
+Gives form input Memory bytes = ⊥
+
+-- all of an output was written
+abbrev pub WritesAll : Form → List ℕ → Status → Option (List ℕ) → Option (List ℕ) → Type 0
+WritesAll form input status old new = (bytes : List ℕ) × Gives form input status bytes × Appends old new bytes
+
+-- How what is written follows from how the program ended: the whole output where it is done or refuses the input, a front
+-- part of it where the sink failed, and nothing else.
+abbrev pub IsAnswer : Form → Status → List ℕ → Option (List ℕ) → Option (List ℕ) → Type 0
+IsAnswer form Ok input old new = WritesAll form input Ok old new
+IsAnswer form Refused input old new = WritesAll form input Refused old new
+IsAnswer form WriteFault input old new = (status : Status) × (bytes : List ℕ) × Gives form input status bytes × AppendsPrefix old new bytes
+IsAnswer form ReadFault input old new = Keeps old new
+IsAnswer form Memory input old new = Keeps old new
+IsAnswer form Words input old new = Keeps old new
+
+-- The answer of the program to these words: that of the form that they have.
+abbrev pub IsProgram : List (List ℕ) → Status → List ℕ → Option (List ℕ) → Option (List ℕ) → Type 0
+IsProgram words Words input old new = Keeps old new
+IsProgram words status input old new = (form : Form) × AreWordsOf words form × IsAnswer form status input old new
+
+-- The answer of the program to the words of `load`, whatever is known of what it could read.
+abbrev pub IsLoad : List (List ℕ) → Status → Option (List ℕ) → Option (List ℕ) → Type 0
+IsLoad words status old new = (n : ℕ) (input : List ℕ) → AreWordsOf words (Load n) → IsAnswer (Load n) status input old new
+
+-- ---- what is left of a source that had xs
+
+-- `load` reads nothing
+abbrev pub LeavesAs : Form → Status → List ℕ → Option (List ℕ) → Type 0
+LeavesAs (Load n) status xs after = after ≡ Some xs
+LeavesAs form status xs after = IsLeft status xs after
+
+abbrev pub Leaves : List (List ℕ) → Status → List ℕ → Option (List ℕ) → Type 0
+Leaves words Words xs after = after ≡ Some xs
+Leaves words status xs after = (form : Form) × AreWordsOf words form × LeavesAs form status xs after
