@@ -1,0 +1,15 @@
+pub mod Bytes
+pub mod Rests
+pub mod Same
+pub mod Commands
+pub mod Driver
+pub mod Reading
+pub mod Harvests
+pub mod Paying
+pub mod Reported
+pub mod BufferBytes
+pub mod TakenStopped
+pub mod TakenRows
+pub mod TakenFresh
+pub mod TakenBegins
+pub mod Sampled

@@ -1,0 +1,5 @@
+pub mod Owed
+pub mod Laws
+pub mod Buffers
+pub mod Taken
+pub mod Samples
