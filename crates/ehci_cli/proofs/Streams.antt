@@ -1,28 +1,29 @@
 -- The report of a script's run is that of a moment of it, and at each moment everything is in place.
-use Rattle.std.proofs.Common.{◌≡◌, ℕ, ◌+◌, ◌*◌, List, Option, Some, None, inl, inr, ap, sym, subst, ◌∙◌, refl}
+use Rattle.std.proofs.Common.{◌≡◌, ℕ, ◌+◌, ◌*◌, List, [], Option, Some, None, inl, inr, ap, sym, subst, ◌∙◌, refl}
 use Rattle.std.specs.Prelude.{IfSome}
 use Rattle.script_types.specs.declared.scripts.Script.{Script}
 use Rattle.script_text.specs.Faults.{Spells}
 use Rattle.right_reports.specs.WorldReport.{report_of}
 use Rattle.right_reports.specs.Ins.{AreRightInStreams}
 use Rattle.report_streams.specs.Reports.{WholeReport}
+use Rattle.report_streams.specs.Streams.{AreRightStreams}
 use Rattle.taken_reports.specs.Taken.{AreTakenStreams}
 use Rattle.right_reports.proofs.Printed.{report_printed}
 use Rattle.right_reports.proofs.Ins.{ins_are_all}
 use Rattle.usb_bus.specs.Bus.{fixed_of}
 use Rattle.bus_world.specs.World.{World, Standing}
 use Rattle.bus_world.specs.Opening.{opening_world}
-use Rattle.bus_world.specs.Orders.{OrderedWorld, Microframes, at_place, orders_of, ticks, IsRun}
+use Rattle.bus_world.specs.Orders.{OrderedWorld, Microframes, Leads, at_place, orders_of, ticks, IsRun}
 use Rattle.bus_world.specs.Budgets.{moment}
 use Rattle.bus_world.proofs.Ticks.{ticks_more}
 use Rattle.chained_transfers.specs.Bulk.{BulkOnly}
-use Rattle.whole_worlds.specs.Moments.{InStreamsAreRightThroughout, OutStreamsAreTakenThroughout}
-use Rattle.whole_worlds.proofs.Running.{texts_right, texts_taken}
-use Rattle.whole_worlds.proofs.PlacedRunning.{texts_run_in_place}
-use Rattle.whole_worlds.proofs.Counting.{never_refused}
+use Rattle.sent_reports.specs.Sent.{AreSentStreams}
+use Rattle.sending_worlds.specs.Moments.{StreamsAreRightAtTheEnd}
+use Rattle.sending_worlds.specs.Kept.{KeepsStreamsThroughout, KeepsPlaces}
+use Rattle.sending_worlds.proofs.Moments.{texts_keep_streams, texts_keep_places}
 use Rattle.program_ends.specs.Input.{input_of}
 use Rattle.program_forms.specs.Output.{IsRunOf}
-use Rattle.ehci_cli.specs.Streams.{KeepsStreams, KeepsPlaces}
+use Rattle.ehci_cli.specs.Streams.{IsWholeRunOf, KeepsStreams}
 
 record IsMoment (s : Script) (w : World) : Type 0 where
   at : ℕ
@@ -46,20 +47,28 @@ module _ (so : WholeReport → Type 0) where
       let at = ends_at s w.world (subst (λ f. IsRun f (opening_world s) (orders_of s.lines) w.world) refl ran.ran) in
       subst (λ f. so (report_of f w.world)) (sym ran.fixed) (subst (λ v. so (report_of (fixed_of s) v)) at.is (each at.at))
 
-keeps : (s : Script) → InStreamsAreRightThroughout s → OutStreamsAreTakenThroughout s → KeepsStreams s
-keeps s right taken = record {
-  throughout = right;
-  ended = at_end (AreRightInStreams s) s right;
-  taken = taken;
-  taken_ended = at_end (AreTakenStreams s) s taken;
-  all = λ only w ran. ins_are_all s (report_of w.fixed w.world) only (at_end (AreRightInStreams s) s right w ran);
+-- after a whole run no order is left
+whole_end : (s : Script) → StreamsAreRightAtTheEnd s → (w : Standing) → IsWholeRunOf s w → AreRightStreams s (report_of w.fixed w.world)
+whole_end s right w ran =
+    let led = subst (λ f. Leads f (at_place (opening_world s) (orders_of s.lines)) (at_place w.world [])) refl ran.led in
+    subst (λ f. AreRightStreams s (report_of f w.world)) (sym ran.fixed)
+    (subst (λ v. AreRightStreams s (report_of (fixed_of s) v)) (ap (λ (p : OrderedWorld). p.world) led.there) (right led.count (ap (λ (p : OrderedWorld). p.orders) led.there)))
+
+keeps : (s : Script) → KeepsStreamsThroughout s → KeepsStreams s
+keeps s k = record {
+  throughout = k;
+  ended = at_end (AreRightInStreams s) s k.ins;
+  taken = at_end (AreTakenStreams s) s k.taken;
+  sent = at_end (AreSentStreams s) s k.sent;
+  all = whole_end s k.at_the_end;
+  received = λ only w ran. ins_are_all s (report_of w.fixed w.world) only (at_end (AreRightInStreams s) s k.ins w ran);
   printed = λ w. report_printed w.fixed w.world;
 }
 
 pub source_keeps_streams : (left : Option (List ℕ)) → IfSome left (λ xs. (s : Script) → Spells (input_of xs) s → BulkOnly s → KeepsStreams s)
 source_keeps_streams None = tt
-source_keeps_streams (Some xs) = λ s spelled only. keeps s (texts_right (input_of xs) s spelled only) (texts_taken (input_of xs) s spelled only)
+source_keeps_streams (Some xs) = λ s spelled only. keeps s (texts_keep_streams (input_of xs) s spelled only)
 
 pub source_keeps_places : (left : Option (List ℕ)) → IfSome left (λ xs. (s : Script) → Spells (input_of xs) s → BulkOnly s → KeepsPlaces s)
 source_keeps_places None = tt
-source_keeps_places (Some xs) = λ s spelled only. record { placed = texts_run_in_place (input_of xs) s spelled only; unrefused = never_refused (input_of xs) s spelled only }
+source_keeps_places (Some xs) = λ s spelled only. texts_keep_places (input_of xs) s spelled only

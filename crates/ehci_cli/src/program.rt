@@ -9,7 +9,8 @@ ghost use Rattle.program_ends.specs.Ends.{IsFault, IsWriteFault, WritesNothing};
 ghost use Rattle.program_ends.specs.Input.{input_of};
 ghost use Rattle.program_forms.specs.Form.{AreWordsOf, AreNoForm};
 ghost use Rattle.program_forms.specs.Output.{IsAnswer, IsLoad, IsProgram, LeavesAs, Leaves};
-ghost use Rattle.ehci_cli.specs.Streams.{KeepsStreams, KeepsPlaces};
+ghost use Rattle.sending_worlds.specs.Kept.{KeepsPlaces};
+ghost use Rattle.ehci_cli.specs.Streams.{KeepsStreams};
 
 use program_ends::{Status, Unread, read_input};
 use program_forms::{Form, check, dump, form_of, image, load, run};

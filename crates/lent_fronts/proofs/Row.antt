@@ -1,5 +1,5 @@
 -- The row that lends a transfer, with the fronts.
-use Rattle.std.proofs.Common.{ℕ, ◌*◌, ◌≤◌, arith, Option, sym, subst}
+use Rattle.std.proofs.Common.{ℕ, ◌*◌, ◌≤◌, ◌++◌, arith, Option, sym, subst}
 use Rattle.async_walk.specs.Rows.{place}
 use Rattle.run_book.specs.Book.{slot_of}
 use Rattle.lent_structures.specs.Structures.{Element}
@@ -12,7 +12,9 @@ use Rattle.fed_lends.proofs.Reporting.{spares_heads}
 use Rattle.fed_lends.proofs.Piping.{lend_leaves_pipes}
 use Rattle.fed_lends.proofs.Names.{names_lent}
 use Rattle.fed_lends.proofs.Fed.{y_of, x_of, IsLending, buffers_same, queues_fed}
-use Rattle.fed_lends.proofs.Reports.{IsOrdering, is_met, from_here, order_lent, out_lent, all_reported, all_out, all_last}
+use Rattle.fed_lends.specs.Streams.{new_out}
+use Rattle.fed_lends.proofs.Order.{at_here, at_else}
+use Rattle.fed_lends.proofs.Reports.{IsOrdering, is_met, from_here, first_last, first_below, queue_order, order_lent, out_lent, all_reported, all_out, all_last}
 use Rattle.fed_lends.proofs.Row.{advance_is, after_is, met_on, streams_on, its_asks}
 use Rattle.lent_fronts.specs.Whole.{GoesOnWhole, LendRowLeavesFronts}
 use Rattle.lent_fronts.proofs.Fronts.{fronts_stand, reaches_on}
@@ -41,7 +43,10 @@ lend_row_leaves_fronts sender base stream packets member streams heads ends acc 
     } in
     let least = (fronts k.transfer.endpoint k.endpoint k.here met).front in
     let slot = slot_of (lent_driver d m).book.slots in
-    subst (GoesOnWhole sender base stream packets member streams heads ends acc reported hand wire p.driver parts order out w) (sym (after_is p b words k))
+    let from = from_here o least in
+    let f = queue_order k from order in
+    let more = out n ++ new_out d y k.further in
+    subst (GoesOnWhole sender base stream packets member streams heads ends acc reported hand wire p.driver p.memory parts order out w) (sym (after_is p b words k))
     (record {
       parts = now;
       order = order_lent k (from_here o least) order;
@@ -59,6 +64,22 @@ lend_row_leaves_fronts sender base stream packets member streams heads ends acc 
       fronts = fronts_stand o least fronts (let e : least ≤ least = omega arith in e);
       runs = runs_lent l lent drives.driven runs;
       reaches = λ e z c here tail r. reaches_on o least e z c here tail r;
+      behind = record {
+        number = k.number;
+        transfer = y;
+        endpoint = x;
+        stage = k.stage;
+        further = k.further;
+        awaits = k.awaits;
+        pieces = both.1;
+        last = first_last o;
+        place = from;
+        above = first_below o least;
+        order_is = at_here order n f;
+        out_is = at_here out n more;
+        order_beside = λ i differs. at_else order n f i differs;
+        out_beside = λ i differs. at_else out n more i differs;
+      };
       still = both.1.still;
       heads = λ i. spares_heads d y x k.stage k.further slot parts now i both.1;
       elements = λ i a u there. record {

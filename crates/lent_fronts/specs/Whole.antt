@@ -1,15 +1,18 @@
 -- The row of a driver that lends a get or a put, with what it leaves of all structures that stood before (EHCI 1.0, 3.5, 4.10 and 4.10.2).
+--     IsLentBehind ..         the qTDs of the transfer but its first stand behind all that stood in its queue, in their order, and are out
 --     GoesOnWhole ..          what stands afterwards, by the structures, the order and what was out before
 --     LendRowLeavesFronts     the law; the reports of the queue heads `counted` are kept
-use Rattle.std.specs.Prelude.{◌≡◌, ℕ, ◌*◌, Bool, true, List, slice_get, Option, Some}
+use Rattle.std.specs.Prelude.{◌≡◌, ◌≢◌, ℕ, ◌*◌, ◌<◌, ◌++◌, Bool, true, List, slice_get, Option, Some}
+use Rattle.word_mem.specs.Memory.{Mem}
 use Rattle.async_walk.specs.Walk.{Walk}
 use Rattle.async_walk.specs.Rows.{place}
 use Rattle.qh_qtd.specs.declared.qtd.Qtd.{Qtd}
-use Rattle.run_book.specs.Book.{holding, Stands}
+use Rattle.run_book.specs.Book.{holding, slot_of, Stands}
 use Rattle.driver_rows.specs.declared.content.Endpoint.{Endpoint as EndpointOf}
+use Rattle.driver_rows.specs.declared.content.Stage.{Stage}
 use Rattle.driver_rows.specs.DriverContent.{DriverContent}
 use Rattle.driver_rows.specs.Rows.{Parts as DriverParts, driver_row, after_driver_row}
-use Rattle.run_owners.specs.Owners.{views_of}
+use Rattle.run_owners.specs.Owners.{TransferRuns, EndpointRuns, views_of}
 use Rattle.run_owners.specs.Kept.{HasOwners}
 use Rattle.lent_runs.specs.Lent.{AreLent}
 use Rattle.lent_structures.specs.Structures.{Structure, Element, StructureSets}
@@ -24,16 +27,37 @@ use Rattle.reported_streams.specs.Reported.{AreReported}
 use Rattle.driver_parts.specs.Driven.{DrivesRing}
 use Rattle.chained_transfers.specs.Bulk.{OnlyBulk}
 use Rattle.chained_transfers.specs.Turns.{AreInTurn}
-use Rattle.fed_queues.specs.Places.{IsMet}
+use Rattle.fed_queues.specs.Places.{IsMet, IsLast}
+use Rattle.transfer_lends.specs.Written.{AwaitsLend}
+use Rattle.transfer_lends.specs.Laws.{HasPieces, lent_driver}
+use Rattle.fed_lends.specs.Streams.{new_order, new_out}
 use Rattle.fed_commands.specs.Commands.{QueuesStand}
 use Rattle.driver_releases.specs.Extents.{AreInRuns}
 use Rattle.standing_fronts.specs.Reaching.{Reaches}
 use Rattle.released_queues.specs.Fronts.{FrontsStand}
 use Rattle.fed_lends.specs.ToLend.{IsToBeLent, AreBlank}
 
+pub record IsLentBehind (d : DriverContent) (m : Mem) (before now : StructureSets) (order order_now : ℕ → ℕ → ℕ) (out out_now : ℕ → List ℕ) : Type 0 where
+  pub number : ℕ
+  pub transfer : TransferRuns
+  pub endpoint : EndpointRuns
+  pub stage : Stage
+  pub further : List Stage
+  pub awaits : AwaitsLend d m number transfer endpoint stage further
+  pub pieces : HasPieces d (slot_of (lent_driver d m).book.slots) before now transfer endpoint stage further
+  pub last : IsLast (order (32 * endpoint.queue)) (before (32 * endpoint.queue)) (32 * transfer.first)
+  -- their places, from this one on
+  pub place : ℕ
+  pub above : order (32 * endpoint.queue) (32 * transfer.first) < place
+  pub order_is : order_now (32 * endpoint.queue) ≡ new_order d transfer further place (order (32 * endpoint.queue))
+  pub out_is : out_now (32 * endpoint.queue) ≡ out (32 * endpoint.queue) ++ new_out d transfer further
+  -- of every other queue all is as it was
+  pub order_beside : (n : ℕ) → n ≢ 32 * endpoint.queue → order_now n ≡ order n
+  pub out_beside : (n : ℕ) → n ≢ 32 * endpoint.queue → out_now n ≡ out n
+
 pub record GoesOnWhole {W : Type 0} (sender : W → ℕ → ℕ → Option Sender) (base : Base) (stream : ℕ → ℕ → Bool) (packets : ℕ → ℕ → List (List ℕ)) (member streams counted : ℕ → Bool)
-    (ends : ℕ → Endpoint) (acc : ℕ → List (List ℕ)) (reported : ℕ → List ℕ) (hand : Hand) (wire : W) (old : DriverContent) (before : StructureSets) (order_before : ℕ → ℕ → ℕ)
-    (out_before : ℕ → List ℕ) (w : Walk) (p : DriverParts) : Type 0 where
+    (ends : ℕ → Endpoint) (acc : ℕ → List (List ℕ)) (reported : ℕ → List ℕ) (hand : Hand) (wire : W) (old : DriverContent) (memory : Mem) (before : StructureSets)
+    (order_before : ℕ → ℕ → ℕ) (out_before : ℕ → List ℕ) (w : Walk) (p : DriverParts) : Type 0 where
   pub parts : StructureSets
   pub order : ℕ → ℕ → ℕ
   pub out : ℕ → List ℕ
@@ -46,6 +70,7 @@ pub record GoesOnWhole {W : Type 0} (sender : W → ℕ → ℕ → Option Sende
   pub reaches : (e : ℕ) (x : EndpointOf) (c : ℕ) → slice_get old.endpoints e ≡ Some x → IsElement (before (32 * x.queue)) c
       → Reaches old (before (32 * x.queue)) (order_before (32 * x.queue)) (out_before (32 * x.queue)) e x c
       → Reaches p.driver (parts (32 * x.queue)) (order (32 * x.queue)) (out (32 * x.queue)) e x c
+  pub behind : IsLentBehind old memory before parts order_before order out_before out
   pub still : (n a : ℕ) (u : Structure) → before n a ≡ Some u → parts n a ≡ Some u
   pub heads : (n : ℕ) → SparesHead before parts n
   pub elements : (n a : ℕ) (u : Qtd) → before n a ≡ Some (Element u) → SparesElement before parts n a
@@ -59,4 +84,4 @@ LendRowLeavesFronts {W} sender = (base : Base) (stream : ℕ → ℕ → Bool) (
     → AreReported counted order out hand parts acc reported → QueuesStand p.driver member streams ends parts order out → FrontsStand p.driver parts order out
     → AreLent p.driver → AreInRuns (views_of p.driver) parts
     → ((e : ℕ) (x : EndpointOf) → slice_get p.driver.endpoints e ≡ Some x → IsMet p.driver x → counted (32 * x.queue) ≡ true)
-    → GoesOnWhole sender base stream packets member streams counted ends acc reported hand wire p.driver parts order out w (after_driver_row (driver_row p) p)
+    → GoesOnWhole sender base stream packets member streams counted ends acc reported hand wire p.driver p.memory parts order out w (after_driver_row (driver_row p) p)

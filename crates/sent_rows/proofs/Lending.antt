@@ -1,5 +1,5 @@
 -- A transfer is lent: its qTDs but the first come behind all others.
-use Rattle.std.proofs.Common.{◌≡◌, ◌≢◌, ℕ, suc, ◌*◌, ◌<◌, ◌≤◌, ◌⊎◌, true, false, Bool, List, [], ◌∷◌, ◌++◌, length, Option, Some, ap, refl, sym, subst, ◌∙◌, ⊎_elim, inl, inr, arith}
+use Rattle.std.proofs.Common.{◌≡◌, ◌≢◌, ℕ, suc, ◌*◌, ◌<◌, ◌≤◌, ◌⊎◌, true, false, Bool, List, [], ◌∷◌, ◌++◌, length, Some, ap, refl, sym, subst, ◌∙◌, ⊎_elim, inl, inr, arith}
 use Rattle.std.proofs.lemmas.Bool.{cases_eq, true≢false}
 use Rattle.word_mem.specs.Memory.{Mem}
 use Rattle.link_words.specs.declared.kinds.QtdLink.{QtdLink}
@@ -9,47 +9,31 @@ use Rattle.qh_qtd.specs.declared.qtd.Qtd.{Qtd}
 use Rattle.qh_qtd.specs.declared.queue_head.Qh.{Qh}
 use Rattle.run_book.specs.declared.slots.Slot.{Slot}
 use Rattle.run_book.specs.Book.{slot_of}
-use Rattle.async_walk.specs.Rows.{place}
 use Rattle.driver_rows.specs.declared.content.QtdNote.{QtdNote}
 use Rattle.driver_rows.specs.declared.content.Stage.{Stage}
 use Rattle.driver_rows.specs.DriverContent.{DriverContent}
 use Rattle.driver_rows.specs.Harvests.{note_at}
 use Rattle.driver_rows.specs.Offers.{is_last}
-use Rattle.driver_rows.specs.Rows.{Parts as DriverParts}
 use Rattle.run_owners.specs.Owners.{TransferRuns, EndpointRuns, note_in}
 use Rattle.lent_structures.specs.Structures.{QueueHead, Element, Structures, StructureSets}
 use Rattle.queue_parts.specs.Sound.{IsMember}
 use Rattle.queue_parts.proofs.Altering.{found_queue}
-use Rattle.ring_lends.specs.Together.{put_all}
 use Rattle.ring_walk.specs.Hand.{Hand}
 use Rattle.ring_order.specs.Order.{IsAmong}
 use Rattle.ring_fronts.specs.Front.{HadRest}
-use Rattle.ring_pipes.specs.Bus.{Sender}
 use Rattle.reported_streams.specs.Reported.{IsReported}
-use Rattle.driver_parts.specs.Driven.{DrivesRing}
 use Rattle.chained_transfers.specs.Out.{pieces_from}
-use Rattle.fed_queues.specs.Places.{IsLast}
+use Rattle.fed_queues.specs.Places.{IsMet, IsLast}
 use Rattle.transfer_lends.specs.Written.{AwaitsLend}
-use Rattle.transfer_lends.specs.Laws.{HasPieces, lent_memory, lent_driver, items_of}
+use Rattle.transfer_lends.specs.Laws.{HasPieces, lent_driver}
 use Rattle.transfer_lends.specs.Pieces.{stage_qtd, IsNewQtd}
-use Rattle.transfer_lends.proofs.Lends.{lend_drives}
 use Rattle.fed_lends.specs.Streams.{second, new_order, new_out}
-use Rattle.fed_lends.specs.ToLend.{lent_now}
 use Rattle.fed_lends.proofs.Numbering.{AreNumbered, first_number, new_from}
-use Rattle.fed_lends.proofs.Reporting.{some_none, numbers, old_number, all_there, spares_heads, new_active}
-use Rattle.fed_lends.proofs.Piping.{lend_leaves_pipes}
-use Rattle.fed_lends.proofs.Names.{names_lent}
-use Rattle.fed_lends.proofs.Fed.{y_of, x_of, IsLending, buffers_same, queues_fed}
-use Rattle.fed_lends.proofs.Order.{at_here, at_else}
-use Rattle.fed_lends.proofs.Reports.{IsOrdering, is_met, is_counted, first_last, from_here, first_below, queue_order, order_lent, out_lent, all_reported, all_out, all_last}
-use Rattle.fed_lends.proofs.Row.{advance_is, after_is, met_on, streams_on, its_asks}
-use Rattle.lent_fronts.specs.Whole.{GoesOnWhole}
-use Rattle.lent_fronts.proofs.Fronts.{fronts_stand, reaches_on}
-use Rattle.lent_fronts.proofs.Extents.{runs_lent}
+use Rattle.fed_lends.proofs.Reporting.{some_none, numbers, old_number, all_there, new_active}
+use Rattle.fed_lends.proofs.Reports.{is_met}
 use Rattle.whole_sends.specs.Whole.{AreSentWhole}
 use Rattle.whole_sends.specs.Laws.{IsNewBehind}
 use Rattle.whole_sends.proofs.Keeping.{renumbered_whole, added_whole}
-use Rattle.sent_rows.specs.Sent.{SentStand}
 use Rattle.sent_rows.specs.Lends.{LendSends, LendRowSends}
 
 -- ---- the new qTDs
@@ -164,81 +148,26 @@ lend_sends d m t y x s ss slot member parts now order out hand acc reported k wa
 
 -- ---- all queues
 
-sent_lent : {d : DriverContent} {m : Mem} {b : ℕ} {words : List ℕ} {parts now : StructureSets} {member heads : ℕ → Bool} {order : ℕ → ℕ → ℕ} {out : ℕ → List ℕ} {hand : Hand} {acc : ℕ → List (List ℕ)} {reported : ℕ → List ℕ} → (o : IsOrdering d m b words parts now member heads order out hand acc reported) (least : ℕ)
-    → SentStand d order out hand parts → SentStand (lent_now d m) (order_lent o.lending.ready (from_here o least) order) (out_lent o.lending.ready out) hand now
-sent_lent {d = d} {m = m} {b = b} {words = words} {parts = parts} {now = now} {member = member} {order = order} {out = out} {hand = hand} {acc = acc} {reported = reported} o least sent e x here met sends =
-    let l = o.lending in
-    let k = l.ready in
-    let n = 32 * k.endpoint.queue in
+pub lend_row_sends : LendRowSends
+lend_row_sends d m b words member heads parts now order order_now out out_now hand acc reported k l members met reports held sent e x here meets sends =
+    let n = 32 * l.endpoint.queue in
     let q = 32 * x.queue in
-    let from = from_here o least in
-    let f = queue_order k from order in
-    let more = out n ++ new_out d (y_of k) k.further in
-    let was : AreSentWhole (order q) (out q) hand q (parts q) = sent e x here (is_met d m b words x k) sends in
+    let slot = slot_of (lent_driver d m).book.slots in
+    let f = new_order d l.transfer l.further l.place (order n) in
+    let more = out n ++ new_out d l.transfer l.further in
+    let is : IsMet d x = is_met d m b words x k in
+    let was : AreSentWhole (order q) (out q) hand q (parts q) = sent e x here is sends in
     ⊎_elim
     (λ (same : q ≡ n).
-    subst (λ (i : ℕ). AreSentWhole (order_lent k from order i) (out_lent k out i) hand i (now i)) (sym same)
-    (subst (λ (g : ℕ → ℕ). AreSentWhole g (out_lent k out n) hand n (now n)) (sym (at_here order n f))
-    (subst (λ (es : List ℕ). AreSentWhole f es hand n (now n)) (sym (at_here out n more))
-    (lend_sends d m k.number (y_of k) (x_of k) k.stage k.further (slot_of (lent_driver d m).book.slots) member parts now (order n) (out n) hand (acc n) (reported n) from k.awaits l.pieces o.sound (first_last o) (first_below o least)
-    (o.reports n (is_counted o)) (subst (λ (i : ℕ). AreSentWhole (order i) (out i) hand i (parts i)) same was)))))
+    let on : IsMember member n (parts n) = subst (λ (i : ℕ). IsMember member i (parts i)) same (members q (met.each e x here is)) in
+    let r : IsReported (order n) (out n) hand parts n (acc n) (reported n) = subst (λ (i : ℕ). IsReported (order i) (out i) hand parts i (acc i) (reported i)) same (reports q (held e x here is)) in
+    subst (λ (i : ℕ). AreSentWhole (order_now i) (out_now i) hand i (now i)) (sym same)
+    (subst (λ (g : ℕ → ℕ). AreSentWhole g (out_now n) hand n (now n)) (sym l.order_is)
+    (subst (λ (es : List ℕ). AreSentWhole f es hand n (now n)) (sym l.out_is)
+    (lend_sends d m l.number l.transfer l.endpoint l.stage l.further slot member parts now (order n) (out n) hand (acc n) (reported n) l.place l.awaits l.pieces on l.last l.above r
+    (subst (λ (i : ℕ). AreSentWhole (order i) (out i) hand i (parts i)) same was)))))
     (λ (differs : q ≢ n).
-    subst (λ (g : ℕ → ℕ). AreSentWhole g (out_lent k out q) hand q (now q)) (sym (at_else order n f q differs))
-    (subst (λ (es : List ℕ). AreSentWhole (order q) es hand q (now q)) (sym (at_else out n more q differs))
+    subst (λ (g : ℕ → ℕ). AreSentWhole g (out_now q) hand q (now q)) (sym (l.order_beside q differs))
+    (subst (λ (es : List ℕ). AreSentWhole (order q) es hand q (now q)) (sym (l.out_beside q differs))
     (subst (λ (part : Structures). AreSentWhole (order q) (out q) hand q part) (sym (l.pieces.beside q differs)) was)))
     (cases_eq q n)
-
--- ---- the row
-
-pub lend_row_sends : {W : Type 0} (sender : W → ℕ → ℕ → Option Sender) → LendRowSends sender
-lend_row_sends sender base stream packets member streams heads ends acc reported hand wire parts order out w p b words k has stands bulk turns blank drives piped reports queues fronts lent runs counted sent =
-    let d = p.driver in
-    let m = p.memory in
-    let y = y_of k in
-    let x = x_of k in
-    let n = 32 * k.endpoint.queue in
-    let now = put_all parts n (items_of d m y x k.stage k.further) in
-    let both = lend_drives base member parts hand w p.registers m d k.number y x k.stage k.further k.awaits has stands drives (names_lent d m b words parts n k queues.fed drives.driven blank) in
-    let l : IsLending d m b words parts now = record { ready = k; has = has; stands = stands; shape = drives.ring.tells.shape; bulk = bulk; fed = queues.fed; pieces = both.1 } in
-    let met = is_met d m b words k.endpoint k in
-    let on = queues.met.each k.transfer.endpoint k.endpoint k.here met in
-    let o : IsOrdering d m b words parts now member heads order out hand acc reported = record {
-      lending = l;
-      turns = turns;
-      sound = drives.ring.members n on;
-      reports = reports;
-      last = queues.last;
-      still_out = queues.out_are;
-      counted = counted;
-    } in
-    let least = (fronts k.transfer.endpoint k.endpoint k.here met).front in
-    let slot = slot_of (lent_driver d m).book.slots in
-    subst
-    (λ (q : DriverParts). (g : GoesOnWhole sender base stream packets member streams heads ends acc reported hand wire p.driver parts order out w q) × SentStand q.driver g.order g.out hand g.parts)
-    (sym (after_is p b words k)) (
-      record {
-        parts = now;
-        order = order_lent k (from_here o least) order;
-        out = out_lent k out;
-        drives = subst (DrivesRing base member now hand (place w p.registers (lent_memory d m))) (advance_is d m b words k) both.0;
-        piped = lend_leaves_pipes sender d m k.number y x k.stage k.further slot parts now stream packets member streams ends acc hand wire k.awaits both.1 (its_asks k queues.streams_are) piped;
-        reports = all_reported o least;
-        queues = record {
-          met = met_on d m member queues.met;
-          streams_are = streams_on d m streams ends queues.streams_are;
-          fed = queues_fed d m b words parts now l;
-          last = all_last o least;
-          out_are = all_out o;
-        };
-        fronts = fronts_stand o least fronts (let e : least ≤ least = omega arith in e);
-        runs = runs_lent l lent drives.driven runs;
-        reaches = λ e z c here tail r. reaches_on o least e z c here tail r;
-        still = both.1.still;
-        heads = λ i. spares_heads d y x k.stage k.further slot parts now i both.1;
-        elements = λ i a u there. record {
-          element = λ z here. both.1.still i a (Element z) here;
-          bytes = λ z here. buffers_same d slot parts now y x k.stage k.further i a z both.1 here;
-        };
-      },
-      sent_lent o least sent,
-    )

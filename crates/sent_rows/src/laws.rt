@@ -1,6 +1,4 @@
 //! The laws.
-ghost use Rattle.std.specs.Prelude.{ℕ, Option};
-ghost use Rattle.ring_pipes.specs.Bus.{Sender};
 ghost use Rattle.sent_rows.specs.Events.{NewDriverSends, EventSends};
 ghost use Rattle.sent_rows.specs.Stores.{StoreSends};
 ghost use Rattle.sent_rows.specs.Lends.{LendSends, LendRowSends};
@@ -22,9 +20,9 @@ pub fn each_store_sends_whole()
 {}
 
 /// So does the lend of a transfer, whose qTDs but the first come behind all others.
-pub fn a_lend_sends_whole<W: Wire>()
+pub fn a_lend_sends_whole()
     ensures queue { LendSends }
-    ensures row { (sender : W → ℕ → ℕ → Option Sender) → LendRowSends sender }
+    ensures row { LendRowSends }
 {}
 
 /// So do the lend of an open, and the store of its link; of the new queue nothing is published.

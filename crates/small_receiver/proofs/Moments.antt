@@ -24,7 +24,11 @@ use Rattle.bus_world.specs.World.{driver_parts}
 use Rattle.bus_world.specs.Orders.{ticks}
 use Rattle.bus_world.specs.Budgets.{moment}
 use Rattle.endpoint_script.specs.Device.{taken_of}
-use Rattle.small_receiver.specs.Samples.{desc, words, world_at, row_at, over, sink, one_put, put_words, put_at, put_row}
+use Rattle.usb_bus.specs.Bus.{fixed_of}
+use Rattle.report_streams.specs.Reports.{taken}
+use Rattle.report_streams.specs.Streams.{told, stream}
+use Rattle.right_reports.specs.WorldReport.{report_of}
+use Rattle.small_receiver.specs.Samples.{desc, words, world_at, row_at, over, sink, one_put, put_words, put_at, put_row, lossy_put, lossy_at}
 
 pub an_open :
     ((world_at 1).driver.command ≡ Some (unfinished.Open 130))
@@ -100,3 +104,14 @@ pub is_sent :
     × ((put_at 200).memory.states ≡ replicate 132 Lent ++ Free ∷ Lent ∷ replicate 122 Free)
 unfolding ticks lowest_run filled words_in with_words_in store_words lend_runs first_bad_bit link_read qtd_link_read link_word qtd_link_word token_word token_at qtd_words qtd_bad qtd_at qtd_read qh_words qh_bad qh_at qh_read words_from put_byte places bytes_at put_bytes reached all_reached stored loaded advanced settled_queue moved overlay_after written_back raised reloaded counted_queue buffer_bytes moved_bytes bytes_now free_qtds free_transfers
 is_sent = (refl, refl, refl, refl, refl, refl, refl, refl)
+
+pub is_sent_again :
+    ((moment lossy_put 300).orders ≡ [])
+    × ((lossy_at 300).driver.reports ≡ record { name = sink.name; what = kinds.Done; from = 0; len = 3 } ∷ [])
+    × ((lossy_at 300).driver.store ≡ 11 ∷ 13 ∷ 17 ∷ [])
+    × (map (λ d. taken_of d sink.name) (lossy_at 300).bus.devices ≡ (11 ∷ 13 ∷ 17 ∷ []) ∷ [])
+    × (told (report_of (fixed_of lossy_put) (lossy_at 300)) sink.name ≡ 11 ∷ 13 ∷ 17 ∷ [])
+    × (taken (report_of (fixed_of lossy_put) (lossy_at 300)) sink.name ≡ Some (11 ∷ 13 ∷ 17 ∷ []))
+    × (stream lossy_put (report_of (fixed_of lossy_put) (lossy_at 300)) sink.name ≡ 11 ∷ 13 ∷ 17 ∷ [])
+unfolding ticks lowest_run filled words_in with_words_in store_words lend_runs first_bad_bit link_read qtd_link_read link_word qtd_link_word token_word token_at qtd_words qtd_bad qtd_at qtd_read qh_words qh_bad qh_at qh_read words_from put_byte places bytes_at put_bytes reached all_reached stored loaded advanced settled_queue moved overlay_after written_back raised reloaded counted_queue buffer_bytes moved_bytes bytes_now free_qtds free_transfers
+is_sent_again = (refl, refl, refl, refl, refl, refl, refl)

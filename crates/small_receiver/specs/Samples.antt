@@ -10,11 +10,14 @@
 --     one_put          a third script: two bytes are put to the endpoint 2 OUT
 --     put_words        those of the put's one qTD, which has no alternate link
 --     put_at k, put_row k     its world and its driver's row at its moments
-use Rattle.std.specs.Prelude.{ℕ, List, [], ◌∷◌, None}
+--     lossy_put        a fourth one: of a put of three qTDs, a byte each, the acknowledgement of the second is lost
+--     lossy_at k       its world at its moments
+use Rattle.std.specs.Prelude.{ℕ, false, List, [], ◌∷◌, None}
 use Rattle.usb_base.specs.declared.commands.Cmd.{Cmd}
 use Rattle.usb_base.specs.declared.commands.Cmd.TheVariants as commands
 use Rattle.usb_base.specs.declared.endpoints.EpDesc.{EpDesc}
 use Rattle.usb_base.specs.declared.packets.EpKind.TheVariants as kinds
+use Rattle.usb_base.specs.declared.packets.Fate.TheVariants as fates
 use Rattle.usb_base.specs.declared.packets.Speed.TheVariants as speeds
 use Rattle.usb_base.specs.declared.packets.Way.TheVariants as ways
 use Rattle.script_types.specs.declared.devices.Item.TheVariants as items
@@ -95,3 +98,16 @@ put_at k = (moment one_put k).world
 
 abbrev pub put_row : ℕ → DriverRow
 put_row k = driver_row (driver_parts (put_at k))
+
+-- ---- a put of three qTDs: each is a token, a data packet and its acknowledgement
+
+abbrev pub lossy_put : Script
+lossy_put = record one_put {
+  devices = record { addr = 3; speed = speeds.High; eps = record { desc = sink; items = []; room = 3 } ∷ [] } ∷ [];
+  fates = record { name = sink.name; down = false; k = 5; fate = fates.Lost } ∷ [];
+  lines = (5, lines.Command (commands.OpenEp sink)) ∷ (6, lines.Order events.D 2) ∷ (7, lines.Command (commands.Put sink.name (11 ∷ 13 ∷ 17 ∷ []) 1)) ∷ (8, lines.Order events.D 9)
+      ∷ (9, lines.Micro 4) ∷ [];
+}
+
+abbrev pub lossy_at : ℕ → World
+lossy_at k = (moment lossy_put k).world

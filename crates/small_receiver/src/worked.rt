@@ -10,7 +10,11 @@ ghost use Rattle.driver_rows.specs.declared.rows.Found.TheVariants as results;
 ghost use Rattle.driver_rows.specs.Rows.{driver_row};
 ghost use Rattle.bus_world.specs.World.{driver_parts};
 ghost use Rattle.bus_world.specs.Budgets.{moment};
-ghost use Rattle.small_receiver.specs.Samples.{desc, words, world_at, row_at, over, sink, one_put, put_words, put_at, put_row};
+ghost use Rattle.usb_bus.specs.Bus.{fixed_of};
+ghost use Rattle.report_streams.specs.Reports.{taken};
+ghost use Rattle.report_streams.specs.Streams.{told, stream};
+ghost use Rattle.right_reports.specs.WorldReport.{report_of};
+ghost use Rattle.small_receiver.specs.Samples.{desc, words, world_at, row_at, over, sink, one_put, put_words, put_at, put_row, lossy_put, lossy_at};
 
 /// The structures of the open are lent: the queue head in block 130, its inactive qTD in block 132. Then the head of the ring, in block 128, gets its link.
 pub fn an_open()
@@ -79,4 +83,16 @@ pub fn it_is_sent()
     ensures carried { (moment one_put 200).orders ≡ [] }
     ensures sent { map (λ d. taken_of d sink.name) (put_at 200).bus.devices ≡ (11 ∷ 13 ∷ []) ∷ [] }
     ensures blocks { (put_at 200).memory.states ≡ replicate 132 Lent ++ Free ∷ Lent ∷ replicate 122 Free }
+{}
+
+/// The acknowledgement of the second of three qTDs is lost: the device has its byte, and the host sends it again, which the device drops by its toggle. At the end each
+/// byte was taken once, in its place, and all are told to be sent: what the report tells, what its closing line says was taken, and the stream are the same bytes.
+pub fn a_lost_acknowledgement()
+    ensures carried { (moment lossy_put 300).orders ≡ [] }
+    ensures told { (lossy_at 300).driver.reports ≡ record { name = sink.name; what = kinds.Done; from = 0; len = 3 } ∷ [] }
+    ensures its_bytes { (lossy_at 300).driver.store ≡ 11 ∷ 13 ∷ 17 ∷ [] }
+    ensures sent { map (λ d. taken_of d sink.name) (lossy_at 300).bus.devices ≡ (11 ∷ 13 ∷ 17 ∷ []) ∷ [] }
+    ensures told_in_all { told (report_of (fixed_of lossy_put) (lossy_at 300)) sink.name ≡ 11 ∷ 13 ∷ 17 ∷ [] }
+    ensures taken { taken (report_of (fixed_of lossy_put) (lossy_at 300)) sink.name ≡ Some (11 ∷ 13 ∷ 17 ∷ []) }
+    ensures put { stream lossy_put (report_of (fixed_of lossy_put) (lossy_at 300)) sink.name ≡ 11 ∷ 13 ∷ 17 ∷ [] }
 {}

@@ -31,7 +31,7 @@ same_queue : (b c : ℕ) → Some (unfinished.Open b) ≡ Some (unfinished.Open 
 unfolding queue_in
 same_queue b c is = ap queue_in is
 
-met_or_not : (o : Option Command) (b : ℕ) → (o ≡ Some (unfinished.Open b)) ⊎ (o ≢ Some (unfinished.Open b))
+pub met_or_not : (o : Option Command) (b : ℕ) → (o ≡ Some (unfinished.Open b)) ⊎ (o ≢ Some (unfinished.Open b))
 met_or_not None b = inr (λ is. none is)
   where
     none : None ≡ Some (unfinished.Open b) → ⊥

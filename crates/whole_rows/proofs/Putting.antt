@@ -11,11 +11,11 @@ use Rattle.declared_endpoints.specs.Declared.{OpensSenders}
 use Rattle.declared_takers.specs.Declared.{OpensTakers}
 use Rattle.script_numbers.specs.Numbers.{NumbersOpens}
 use Rattle.chained_transfers.specs.Bulk.{BulkOnly}
-use Rattle.whole_worlds.specs.Moments.{IsWholeThroughout}
+use Rattle.whole_worlds.specs.Moments.{IsBulkScript, IsWholeThroughout}
 use Rattle.whole_worlds.proofs.Running.{scripts_stay_whole}
 use Rattle.small_receiver.specs.Samples.{one_put}
 
-pub put_fits : IsFit one_put
+put_fits : IsFit one_put
 put_fits = record {
   least = omega arith;
   most = omega arith;
@@ -26,22 +26,22 @@ put_fits = record {
   lines = ((omega arith, omega arith, record { size = refl; pace = refl; below = refl }), (tt, ((omega arith, omega arith), (tt, (tt, tt)))));
 }
 
-pub put_bytes : IsByteScript one_put
+put_bytes : IsByteScript one_put
 put_bytes = record { devices = ((tt, tt), tt); lines = (tt, (tt, ((omega arith, (omega arith, tt)), (tt, (tt, tt))))) }
 
 no_in : ways.Out ≡ ways.In → ⊥
 no_in same = cc
 
-pub put_sends : OpensSenders one_put
+put_sends : OpensSenders one_put
 put_sends = ((λ kind speed way. absurd (no_in way)), (tt, (tt, (tt, (tt, tt)))))
 
-pub put_takes : OpensTakers one_put
+put_takes : OpensTakers one_put
 put_takes = ((λ kind speed way. refl), (tt, (tt, (tt, (tt, tt)))))
 
-pub put_numbers : NumbersOpens one_put
+put_numbers : NumbersOpens one_put
 put_numbers = ((omega arith, omega arith), (tt, (tt, (tt, (tt, tt)))))
 
-pub put_is_bulk : BulkOnly one_put
+put_is_bulk : BulkOnly one_put
 put_is_bulk = (record { kind = refl; speed = refl; way = tt }, (tt, (tt, (tt, (tt, tt)))))
 
 -- there is one device
@@ -61,5 +61,8 @@ put_owns = record { own = its_own; apart = one_alone }
     one_alone zero (suc j) d e one other same = absurd (only_device j e other)
     one_alone (suc i) j d e one other same = absurd (only_device i d one)
 
+pub a_put_is_bulk : IsBulkScript one_put
+a_put_is_bulk = record { fits = put_fits; bytes = put_bytes; senders = put_sends; takers = put_takes; numbers = put_numbers; only = put_is_bulk }
+
 pub put_stays_whole : IsWholeThroughout one_put
-put_stays_whole = scripts_stay_whole one_put put_fits put_bytes put_sends put_takes put_numbers put_is_bulk
+put_stays_whole = scripts_stay_whole one_put a_put_is_bulk

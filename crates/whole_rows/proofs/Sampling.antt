@@ -11,11 +11,11 @@ use Rattle.declared_endpoints.specs.Declared.{OpensSenders}
 use Rattle.declared_takers.specs.Declared.{OpensTakers}
 use Rattle.script_numbers.specs.Numbers.{NumbersOpens}
 use Rattle.chained_transfers.specs.Bulk.{BulkOnly}
-use Rattle.whole_worlds.specs.Moments.{IsWholeThroughout, InStreamsAreRightThroughout}
+use Rattle.whole_worlds.specs.Moments.{IsBulkScript, IsWholeThroughout, InStreamsAreRightThroughout}
 use Rattle.whole_worlds.proofs.Running.{scripts_stay_whole, streams_are_right}
 use Rattle.small_receiver.specs.Samples.{receiver}
 
-pub it_fits : IsFit receiver
+it_fits : IsFit receiver
 it_fits = record {
   least = omega arith;
   most = omega arith;
@@ -26,22 +26,22 @@ it_fits = record {
   lines = ((omega arith, omega arith, record { size = refl; pace = refl; below = refl }), (tt, ((omega arith, omega arith), (tt, (tt, tt)))));
 }
 
-pub its_bytes : IsByteScript receiver
+its_bytes : IsByteScript receiver
 its_bytes = record { devices = ((((omega arith, tt), tt), tt), tt); lines = (tt, (tt, (tt, (tt, (tt, tt))))) }
 
-pub it_sends : OpensSenders receiver
+it_sends : OpensSenders receiver
 it_sends = ((λ kind speed way. refl), (tt, (tt, (tt, (tt, tt)))))
 
 in_no_out : ways.In ≡ ways.Out → ⊥
 in_no_out same = cc
 
-pub it_takes : OpensTakers receiver
+it_takes : OpensTakers receiver
 it_takes = ((λ kind speed way. absurd (in_no_out way)), (tt, (tt, (tt, (tt, tt)))))
 
-pub its_numbers : NumbersOpens receiver
+its_numbers : NumbersOpens receiver
 its_numbers = ((omega arith, omega arith), (tt, (tt, (tt, (tt, tt)))))
 
-pub it_is_bulk : BulkOnly receiver
+it_is_bulk : BulkOnly receiver
 it_is_bulk = (record { kind = refl; speed = refl; way = tt }, (tt, (tt, (tt, (tt, tt)))))
 
 -- there is one device
@@ -61,8 +61,11 @@ it_owns = record { own = its_own; apart = one_alone }
     one_alone zero (suc j) d e one other same = absurd (only_device j e other)
     one_alone (suc i) j d e one other same = absurd (only_device i d one)
 
+pub a_get_is_bulk : IsBulkScript receiver
+a_get_is_bulk = record { fits = it_fits; bytes = its_bytes; senders = it_sends; takers = it_takes; numbers = its_numbers; only = it_is_bulk }
+
 pub it_stays_whole : IsWholeThroughout receiver
-it_stays_whole = scripts_stay_whole receiver it_fits its_bytes it_sends it_takes its_numbers it_is_bulk
+it_stays_whole = scripts_stay_whole receiver a_get_is_bulk
 
 pub its_streams_are_right : InStreamsAreRightThroughout receiver
-its_streams_are_right = streams_are_right receiver it_fits its_bytes it_sends it_takes its_numbers it_owns it_is_bulk
+its_streams_are_right = streams_are_right receiver a_get_is_bulk it_owns

@@ -1,32 +1,21 @@
 //! The small scripts, whose moments `small_receiver` computes.
 ghost use Rattle.std.specs.Prelude.{◌≡◌, ◌≤◌, Some, true};
-ghost use Rattle.script_fits.specs.Fits.{IsFit};
-ghost use Rattle.byte_answers.specs.Bytes.{IsByteScript};
 ghost use Rattle.opening_senders.specs.Own.{HasOwnDevices};
-ghost use Rattle.declared_endpoints.specs.Declared.{OpensSenders};
-ghost use Rattle.declared_takers.specs.Declared.{OpensTakers};
-ghost use Rattle.script_numbers.specs.Numbers.{NumbersOpens};
 ghost use Rattle.usb_base.specs.declared.reports.What.TheVariants as kinds;
 ghost use Rattle.driver_rows.specs.declared.content.Command.TheVariants as unfinished;
 ghost use Rattle.driver_rows.specs.declared.rows.DriverRow.TheVariants as rows;
 ghost use Rattle.driver_rows.specs.declared.rows.Found.TheVariants as results;
-ghost use Rattle.chained_transfers.specs.Bulk.{BulkOnly};
 ghost use Rattle.fed_lends.specs.ToLend.{IsToBeLent};
 ghost use Rattle.open_lends.specs.Lends.{IsOpenReady};
 ghost use Rattle.whole_worlds.specs.FeedingLaws.{is_still};
-ghost use Rattle.whole_worlds.specs.Moments.{IsWholeThroughout, InStreamsAreRightThroughout};
+ghost use Rattle.whole_worlds.specs.Moments.{IsBulkScript, IsWholeThroughout, InStreamsAreRightThroughout};
 ghost use Rattle.small_receiver.specs.Samples.{receiver, words, world_at, row_at, one_put, put_words, put_at, put_row};
 ghost use Rattle.whole_rows.specs.Due.{IsOpenLentIn};
 
 /// The script with a get fits, says bytes, and has a sender for the endpoint that it opens, which is a bulk one and whose numbers fit; it opens no OUT that needs a taker.
 pub fn a_small_script()
-    ensures fits { IsFit receiver }
-    ensures bytes { IsByteScript receiver }
-    ensures sends { OpensSenders receiver }
-    ensures takes { OpensTakers receiver }
-    ensures numbers { NumbersOpens receiver }
+    ensures bulk { IsBulkScript receiver }
     ensures own { HasOwnDevices receiver }
-    ensures only { BulkOnly receiver }
 {}
 
 /// So its world is whole at each moment, and the streams of its report are right.
@@ -50,13 +39,8 @@ pub fn what_is_due()
 
 /// The script with a put meets the same premises: the endpoint that it opens is an OUT, so the bus needs no sender for it, and has its taker.
 pub fn a_small_put()
-    ensures fits { IsFit one_put }
-    ensures bytes { IsByteScript one_put }
-    ensures sends { OpensSenders one_put }
-    ensures takes { OpensTakers one_put }
-    ensures numbers { NumbersOpens one_put }
+    ensures bulk { IsBulkScript one_put }
     ensures own { HasOwnDevices one_put }
-    ensures only { BulkOnly one_put }
 {}
 
 /// So its world is whole at each moment too.

@@ -1,5 +1,5 @@
 -- A transfer is asked: its first qTD is to be lent.
-use Rattle.std.proofs.Common.{◌≡◌, ◌≢◌, ℕ, ◌*◌, ◌==◌, Bool, nat_eq, if◌then◌else◌, List, length, slice_get, Option, Some, Ok, ap, sym, subst, ◌∙◌, ⊎_elim, inl, inr}
+use Rattle.std.proofs.Common.{◌≡◌, ◌≢◌, ℕ, ◌*◌, ◌==◌, Bool, true, false, nat_eq, if◌then◌else◌, List, length, slice_get, Option, Some, Ok, ap, sym, subst, ◌∙◌, ⊎_elim, inl, inr}
 use Rattle.usb_base.specs.declared.endpoints.EpName.{EpName}
 use Rattle.usb_bus.specs.Bus.{Fixed}
 use Rattle.driver_rows.specs.declared.content.Endpoint.{Endpoint}
@@ -22,8 +22,8 @@ use Rattle.commanded_queues.proofs.Extending.{asked_extents}
 use Rattle.bus_world.specs.World.{World, commanded_by}
 use Rattle.world_streams.specs.Streaming.{Streams, Standing}
 use Rattle.whole_worlds.specs.Feeding.{IsFeeding}
-use Rattle.whole_worlds.specs.Whole.{tail_block, tail_of, IsUnderWay, HaveSenders, IsWhole}
-use Rattle.whole_worlds.specs.Taking.{HaveTakers}
+use Rattle.whole_worlds.specs.Whole.{tail_block, tail_of, IsUnderWay, IsWhole}
+use Rattle.whole_worlds.specs.Taking.{HaveSides}
 use Rattle.whole_worlds.proofs.There.{there_now}
 use Rattle.whole_worlds.proofs.Tail.{newest_there, idle_ends}
 
@@ -55,20 +55,13 @@ module _ (fixed : Fixed) (takes : ℕ → ℕ → Bool) (member : ℕ → Bool) 
       ap (λ (p : Offered). tail_of p.driver e z) asked.transfers.is
       ∙ ap (λ (q : Option Transfer). 32 * tail_block (Some (unfinished.Publish asked.transfers.endpoint.dummy words)) q e z.dummy) (newest_there d.transfers new)
 
-  senders : HaveSenders o.driver x.stream
-  senders e z here comes =
+  -- each endpoint has what its way needs: a stream where it receives, and else a taker
+  sides : (way : Bool) (has : ℕ → ℕ → Bool) → HaveSides way d has → HaveSides way o.driver has
+  sides way has old e z here goes =
       ⊎_elim
       (λ (own : (e ≡ why.number) × (z ≡ with_queued why.endpoint dummy (length d.transfers))).
-      ap (λ (y : Endpoint). x.stream y.desc.name.addr y.desc.name.num) own.1 ∙ k.senders why.number why.endpoint why.here (ap (λ (y : Endpoint). receives y.desc.name.way) (sym own.1) ∙ comes))
-      (λ (other : (e ≢ why.number) × (slice_get d.endpoints e ≡ Some z)). k.senders e z other.1 comes)
-      (set_which d.endpoints why.number e why.endpoint (with_queued why.endpoint dummy (length d.transfers)) z why.here (ap (λ (p : Offered). slice_get p.driver.endpoints e) (sym why.is) ∙ here))
-
-  takers : HaveTakers o.driver takes
-  takers e z here goes =
-      ⊎_elim
-      (λ (own : (e ≡ why.number) × (z ≡ with_queued why.endpoint dummy (length d.transfers))).
-      ap (λ (y : Endpoint). takes y.desc.name.addr y.desc.name.num) own.1 ∙ k.takers why.number why.endpoint why.here (ap (λ (y : Endpoint). receives y.desc.name.way) (sym own.1) ∙ goes))
-      (λ (other : (e ≢ why.number) × (slice_get d.endpoints e ≡ Some z)). k.takers e z other.1 goes)
+      ap (λ (y : Endpoint). has y.desc.name.addr y.desc.name.num) own.1 ∙ old why.number why.endpoint why.here (ap (λ (y : Endpoint). receives y.desc.name.way) (sym own.1) ∙ goes))
+      (λ (other : (e ≢ why.number) × (slice_get d.endpoints e ≡ Some z)). old e z other.1 goes)
       (set_which d.endpoints why.number e why.endpoint (with_queued why.endpoint dummy (length d.transfers)) z why.here (ap (λ (p : Offered). slice_get p.driver.endpoints e) (sym why.is) ∙ here))
 
   to_be_lent : IsUnderWay o.driver o.memory member s.parts o.driver.command
@@ -89,8 +82,8 @@ asked_whole fixed takes member x s w line name o asked feeding k =
       under_way = to_be_lent fixed takes member x s w o k asked;
       blank = asked_is_blank d w.memory o asked k.blank;
       names = accepted_apart d w.memory o turns.bulk (inr asked) k.names;
-      senders = senders fixed takes member x s w o k asked;
-      takers = takers fixed takes member x s w o k asked;
+      senders = sides fixed takes member x s w o k asked true x.stream k.senders;
+      takers = sides fixed takes member x s w o k asked false takes k.takers;
       taking = record { ends = k.taking.ends; piped = k.taking.piped; untaken = k.taking.untaken };
       runs = asked_extents d w.memory o s.parts asked sound.stands sound.owners feeding.working.driven k.runs;
       tails = λ e z here met.

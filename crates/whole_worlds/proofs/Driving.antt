@@ -1,5 +1,7 @@
 -- Each event of the driver leaves a world whole.
 use Rattle.whole_worlds.specs.Laws.{DriverKeepsWhole}
+use Rattle.whole_worlds.specs.Whole.{HasWhole}
+use Rattle.bus_world.specs.World.{driver_next}
 use Rattle.whole_worlds.proofs.Still.{still_keeps_whole}
 use Rattle.whole_worlds.proofs.Lending.{lend_keeps_whole}
 use Rattle.whole_worlds.proofs.Worlds.{store_keeps_whole}
@@ -7,15 +9,15 @@ use Rattle.whole_worlds.proofs.OpenLending.{open_lend_keeps}
 use Rattle.whole_worlds.proofs.Linked.{open_link_keeps}
 use Rattle.whole_worlds.proofs.Leaving.{harvest_whole}
 use Rattle.whole_worlds.proofs.Releasing.{release_keeps_whole}
-use Rattle.whole_worlds.proofs.Rows.{driver_keeps}
+use Rattle.whole_worlds.proofs.Rows.{after_each}
 
 pub driver_keeps_whole : DriverKeepsWhole
-driver_keeps_whole = driver_keeps (record {
-  still = still_keeps_whole;
-  lend = lend_keeps_whole;
-  store = store_keeps_whole;
-  open_lend = open_lend_keeps;
-  open_link = open_link_keeps;
-  harvest = harvest_whole;
-  release = release_keeps_whole;
+driver_keeps_whole fixed takes member x s w k = after_each fixed takes member x s w k (HasWhole fixed takes x.stream x.packets (driver_next w)) (record {
+  still = λ still. still_keeps_whole fixed takes member x s w still k;
+  lend = λ b words ready. lend_keeps_whole fixed takes member x s w b words ready k;
+  store = λ b words command made. store_keeps_whole fixed takes member x s w b words command made k;
+  open_lend = λ ready. open_lend_keeps fixed takes member x s w ready k;
+  open_link = λ lent. open_link_keeps fixed takes member x s w lent k;
+  harvest = λ e t found row. harvest_whole fixed takes member x s w e t found row k;
+  release = λ t row. release_keeps_whole fixed takes member x s w t row k;
 })

@@ -62,6 +62,7 @@ lend_feeds fixed member x s w b words lent blank f fronts runs =
       reaches = g.reaches;
       blank = subst (λ (q : DriverParts). AreBlank q.driver) (sym (after_is p b words lent)) blank;
       driver_is = ap (λ (q : DriverParts). q.driver) (after_is p b words lent);
+      behind = g.behind;
       still = g.still;
       heads = g.heads;
       elements = g.elements;

@@ -31,26 +31,19 @@ use Rattle.world_streams.specs.Streaming.{Streams, Standing}
 use Rattle.whole_worlds.specs.HarvestFeeds.{HarvestLeaves}
 use Rattle.whole_worlds.proofs.FeedingHarvests.{harvest_feeds}
 use Rattle.idle_tails.proofs.Reaching.{idle_queues_reach}
-use Rattle.whole_worlds.specs.Whole.{tail_block, TailsStand, IsUnderWay, HaveSenders, IsWhole, HasWhole}
+use Rattle.whole_worlds.specs.Whole.{tail_block, TailsStand, IsUnderWay, IsWhole, HasWhole}
 use Rattle.whole_worlds.specs.Laws.{HarvestKeepsWhole}
-use Rattle.whole_worlds.specs.Taking.{HaveTakers}
+use Rattle.whole_worlds.specs.Taking.{HaveSides}
 use Rattle.whole_worlds.proofs.Noting.{harvest_blank}
 
 -- ---- what is the same
 
-taker_of : (takes : ℕ → ℕ → Bool) (xs : List Endpoint) (e : ℕ) (x : Endpoint) (o : Option Endpoint) → slice_get xs e ≡ o → Some x.desc ≡ option_map desc_of o
-    → ((i : ℕ) (z : Endpoint) → slice_get xs i ≡ Some z → receives z.desc.name.way ≡ false → takes z.desc.name.addr z.desc.name.num ≡ true) → receives x.desc.name.way ≡ false → takes x.desc.name.addr x.desc.name.num ≡ true
-taker_of takes xs e x None here is all goes = absurd (cc)
-taker_of takes xs e x (Some z) here is all goes =
+side_of : (way : Bool) (has : ℕ → ℕ → Bool) (xs : List Endpoint) (e : ℕ) (x : Endpoint) (o : Option Endpoint) → slice_get xs e ≡ o → Some x.desc ≡ option_map desc_of o
+    → ((i : ℕ) (z : Endpoint) → slice_get xs i ≡ Some z → receives z.desc.name.way ≡ way → has z.desc.name.addr z.desc.name.num ≡ true) → receives x.desc.name.way ≡ way → has x.desc.name.addr x.desc.name.num ≡ true
+side_of way has xs e x None here is all goes = absurd (cc)
+side_of way has xs e x (Some z) here is all goes =
     let same : x.desc ≡ z.desc = same_Some x.desc z.desc is in
-    ap (λ (r : EpDesc). takes r.name.addr r.name.num) same ∙ all e z here (ap (λ (r : EpDesc). receives r.name.way) (sym same) ∙ goes)
-
-sender_of : (stream : ℕ → ℕ → Bool) (xs : List Endpoint) (e : ℕ) (x : Endpoint) (o : Option Endpoint) → slice_get xs e ≡ o → Some x.desc ≡ option_map desc_of o
-    → ((i : ℕ) (z : Endpoint) → slice_get xs i ≡ Some z → receives z.desc.name.way ≡ true → stream z.desc.name.addr z.desc.name.num ≡ true) → receives x.desc.name.way ≡ true → stream x.desc.name.addr x.desc.name.num ≡ true
-sender_of stream xs e x None here is all comes = absurd (cc)
-sender_of stream xs e x (Some z) here is all comes =
-    let same : x.desc ≡ z.desc = same_Some x.desc z.desc is in
-    ap (λ (r : EpDesc). stream r.name.addr r.name.num) same ∙ all e z here (ap (λ (r : EpDesc). receives r.name.way) (sym same) ∙ comes)
+    ap (λ (r : EpDesc). has r.name.addr r.name.num) same ∙ all e z here (ap (λ (r : EpDesc). receives r.name.way) (sym same) ∙ goes)
 
 runs_stay : (v w : Views) (parts : StructureSets) → SameViews v w → AreInRuns v parts → AreInRuns w parts
 runs_stay v w parts same k =
@@ -70,7 +63,7 @@ module _ (fixed : Fixed) (takes : ℕ → ℕ → Bool) (member : ℕ → Bool) 
   abbrev new : DriverContent
   new = (after_driver_row (driver_row (driver_parts w)) (driver_parts w)).driver
 
-  due : IsHarvestDue (driver_parts w) e t found
+  pub due : IsHarvestDue (driver_parts w) e t found
   due = subst (IsDue (driver_parts w)) row (each_is_due (driver_parts w))
 
   command : new.command ≡ None
@@ -78,10 +71,10 @@ module _ (fixed : Fixed) (takes : ℕ → ℕ → Bool) (member : ℕ → Bool) 
       ap (λ (r : DriverRow). (after_driver_row r (driver_parts w)).driver.command) row
       ∙ (harvest_book w.driver w.memory e t found (slice_get w.driver.endpoints e) (slice_get w.driver.transfers t)).command ∙ due.idle
 
-  fronts : FrontsStand w.driver s.parts s.order s.out
+  pub fronts : FrontsStand w.driver s.parts s.order s.out
   fronts i z here meets = (k.tails i z here meets).stands
 
-  leaves : HarvestLeaves fixed member x s (driver_next w)
+  pub leaves : HarvestLeaves fixed member x s (driver_next w)
   leaves = harvest_feeds fixed member x s w e t found row k.feeding fronts k.told
 
   blank : AreBlank new
@@ -90,13 +83,10 @@ module _ (fixed : Fixed) (takes : ℕ → ℕ → Bool) (member : ℕ → Bool) 
   names : AreNamesApart new
   names = events_apart (driver_parts w) k.names
 
-  senders : HaveSenders new x.stream
-  senders i z here =
-      sender_of x.stream w.driver.endpoints i z (slice_get w.driver.endpoints i) refl (sym (ap (option_map desc_of) here) ∙ row_left (driver_row (driver_parts w)) (driver_parts w) i) k.senders
-
-  takers : HaveTakers new takes
-  takers i z here =
-      taker_of takes w.driver.endpoints i z (slice_get w.driver.endpoints i) refl (sym (ap (option_map desc_of) here) ∙ row_left (driver_row (driver_parts w)) (driver_parts w) i) k.takers
+  -- each endpoint has what its way needs: a stream where it receives, and else a taker
+  sides : (way : Bool) (has : ℕ → ℕ → Bool) → HaveSides way w.driver has → HaveSides way new has
+  sides way has old i z here =
+      side_of way has w.driver.endpoints i z (slice_get w.driver.endpoints i) refl (sym (ap (option_map desc_of) here) ∙ row_left (driver_row (driver_parts w)) (driver_parts w) i) old
 
   runs : AreInRuns (views_of new) s.parts
   runs =
@@ -112,14 +102,14 @@ module _ (fixed : Fixed) (takes : ℕ → ℕ → Bool) (member : ℕ → Bool) 
       (idle_queues_reach member new s.parts s.order l.out command f.working.place.sound.owners f.working.place.lent f.turns f.queues.fed f.queues.last f.queues.out_are l.fronts i z here
       (f.working.streaming.controlled.ring.members (32 * z.queue) (f.queues.met.each i z here meets)))
 
-  whole : (l : HarvestLeaves fixed member x s (driver_next w)) → IsWhole fixed takes member x (record s { out = l.out; reported = l.reported }) (driver_next w)
-  whole l = record {
+  pub whole_harvested : (l : HarvestLeaves fixed member x s (driver_next w)) → IsWhole fixed takes member x (record s { out = l.out; reported = l.reported }) (driver_next w)
+  whole_harvested l = record {
     feeding = l.feeding;
     under_way = subst (λ (c : Option Command). IsUnderWay new (driver_next w).memory member s.parts c) (sym command) tt;
     blank = blank;
     names = names;
-    senders = senders;
-    takers = takers;
+    senders = sides true x.stream k.senders;
+    takers = sides false takes k.takers;
     taking = record { ends = k.taking.ends; piped = k.taking.piped; untaken = k.taking.untaken };
     runs = runs;
     tails = tails l;
@@ -133,7 +123,7 @@ module _ (fixed : Fixed) (takes : ℕ → ℕ → Bool) (member : ℕ → Bool) 
     streams = x.streams;
     endpoint = x.endpoint;
     standing = record s { out = leaves.out; reported = leaves.reported };
-    whole = whole leaves;
+    whole = whole_harvested leaves;
   }
 
 pub harvest_whole : HarvestKeepsWhole

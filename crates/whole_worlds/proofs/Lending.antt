@@ -18,9 +18,12 @@ use Rattle.standing_fronts.specs.Reaching.{Reaches}
 use Rattle.open_stores.specs.Opens.{AreNamesApart}
 use Rattle.fed_lends.specs.ToLend.{IsToBeLent, lent_now}
 use Rattle.fed_lends.proofs.Reporting.{same_hand}
-use Rattle.bus_world.specs.World.{driver_next}
+use Rattle.usb_bus.specs.Bus.{Fixed}
+use Rattle.bus_world.specs.World.{World, driver_next}
+use Rattle.world_streams.specs.Streaming.{Streams, Standing}
 use Rattle.whole_worlds.proofs.FeedingLends.{lend_feeds}
-use Rattle.whole_worlds.specs.Whole.{tail_of, TailsStand, IsUnderWay, HaveSenders}
+use Rattle.whole_worlds.specs.LendFeeds.{LendsTransfer}
+use Rattle.whole_worlds.specs.Whole.{tail_of, TailsStand, IsUnderWay, HaveSenders, IsWhole}
 use Rattle.whole_worlds.specs.Laws.{LendKeepsWhole}
 use Rattle.whole_worlds.specs.Taking.{HaveTakers}
 use Rattle.whole_worlds.proofs.LentTails.{tail_stands}
@@ -55,18 +58,23 @@ lend_under_way d m new member parts b words get =
 
 -- ---- the whole
 
-pub lend_keeps_whole : LendKeepsWhole
-lend_keeps_whole fixed takes member x s w b words get k =
-    let f = k.feeding in
-    let place = f.working.place in
-    let fronts : FrontsStand w.driver s.parts s.order s.out = λ e z here met. (k.tails e z here met).stands in
-    let g = lend_feeds fixed member x s w b words get k.blank f fronts k.runs in
-    record {
-      member = member;
-      streams = x.streams;
-      endpoint = x.endpoint;
-      standing = record s { parts = g.parts; order = g.order; out = g.out };
-      whole = record {
+module _ (fixed : Fixed) (takes : ℕ → ℕ → Bool) (member : ℕ → Bool) (x : Streams) (s : Standing) (w : World) (b : ℕ) (words : List ℕ) (get : IsToBeLent w.driver w.memory b words) (k : IsWhole fixed takes member x s w) where
+  abbrev fronts : FrontsStand w.driver s.parts s.order s.out
+  fronts = λ e z here met. (k.tails e z here met).stands
+
+  abbrev pub lends : LendsTransfer fixed member x s w
+  lends = lend_feeds fixed member x s w b words get k.blank k.feeding fronts k.runs
+
+  -- what stands after it
+  abbrev pub after_lend : Standing
+  after_lend = record s { parts = lends.parts; order = lends.order; out = lends.out }
+
+  pub whole_lent : IsWhole fixed takes member x after_lend (driver_next w)
+  whole_lent =
+      let f = k.feeding in
+      let place = f.working.place in
+      let g = lends in
+      record {
         feeding = g.feeding;
         under_way = subst (λ (d : DriverContent). IsUnderWay d (driver_next w).memory member g.parts d.command) (sym g.driver_is) (lend_under_way w.driver w.memory (driver_next w).memory member g.parts b words get);
         blank = g.blank;
@@ -81,5 +89,13 @@ lend_keeps_whole fixed takes member x s w b words get k =
             (g.reaches e z (tail_of w.driver e z) here (tail_stands w.driver w.memory b words s.parts e z get place.sound.owners place.lent f.turns.bulk f.queues.fed here) (k.tails e z here met)));
         told = subst (λ (d : DriverContent). ToldStands d s.hand g.parts s.reported) (sym g.driver_is) (lend_told w.driver w.memory s.hand s.parts g.parts s.reported g.heads g.elements k.told);
         bytes = k.bytes;
-      };
-    }
+      }
+
+pub lend_keeps_whole : LendKeepsWhole
+lend_keeps_whole fixed takes member x s w b words get k = record {
+  member = member;
+  streams = x.streams;
+  endpoint = x.endpoint;
+  standing = after_lend fixed takes member x s w b words get k;
+  whole = whole_lent fixed takes member x s w b words get k;
+}

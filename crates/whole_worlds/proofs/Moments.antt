@@ -10,6 +10,7 @@ use Rattle.usb_base.specs.declared.packets.Way.TheVariants as ways
 use Rattle.script_types.specs.declared.scripts.Line.{Line}
 use Rattle.script_types.specs.declared.scripts.Line.TheVariants as lines
 use Rattle.script_types.specs.declared.scripts.Script.{Script}
+use Rattle.script_text.specs.Faults.{Spells}
 use Rattle.script_fits.proofs.Texts.{spelled_fits}
 use Rattle.script_bytes.proofs.Texts.{spelled_bytes}
 use Rattle.usb_bus.specs.Bus.{fixed_of}
@@ -25,7 +26,7 @@ use Rattle.driver_parts.specs.Opened.{opening_base}
 use Rattle.bus_world.specs.World.{World}
 use Rattle.bus_world.specs.Budgets.{moment}
 use Rattle.world_streams.specs.Streaming.{Streams}
-use Rattle.chained_transfers.specs.Bulk.{IsDataWay, OpensBulk, BulkLine, receives}
+use Rattle.chained_transfers.specs.Bulk.{IsDataWay, OpensBulk, BulkLine, BulkOnly, receives}
 use Rattle.right_worlds.specs.Right.{AreOfScript}
 use Rattle.right_worlds.proofs.Beginning.{world_right}
 use Rattle.receiving_runs.specs.Runs.{KindOfLine, IsKeptBy}
@@ -37,7 +38,7 @@ use Rattle.whole_worlds.specs.Taking.{outs_of}
 use Rattle.whole_worlds.proofs.TakingHeads.{outs_are_heads, outs_stand}
 use Rattle.whole_worlds.specs.Whole.{HasWhole}
 use Rattle.whole_worlds.specs.Laws.{NewWorldIsWhole, ControllerKeepsWhole, OpensTo, CommandKeepsWhole, DriverKeepsWhole}
-use Rattle.whole_worlds.specs.Moments.{ScriptsStayWhole, StreamsAreRight, TextsAreRight, TextsAreTaken}
+use Rattle.whole_worlds.specs.Moments.{IsBulkScript, ScriptsStayWhole, StreamsAreRight, TextsAreRight, TextsAreTaken}
 use Rattle.out_rows.specs.Takers.{takes_of}
 
 pub record StaysWhole : Type 0 where
@@ -48,7 +49,7 @@ pub record StaysWhole : Type 0 where
 
 -- ---- the commands of such a script
 
-abbrev CanBe : (ℕ → ℕ → Bool) → (ℕ → ℕ → Bool) → Cmd → Type 0
+abbrev pub CanBe : (ℕ → ℕ → Bool) → (ℕ → ℕ → Bool) → Cmd → Type 0
 CanBe stream takes cmd = OpensBulk cmd × OpensTo stream takes cmd × OpensNumbered cmd
 
 -- data of a bulk endpoint come to the host where it is an IN
@@ -82,6 +83,19 @@ lines_can : (s : Script) (xs : List (ℕ × Line)) → AllByRecursion (λ x. Bul
 lines_can s [] only sends takes numbers = tt
 lines_can s (x ∷ xs) only sends takes numbers = (line_can s x.1 only.0 sends.0 takes.0 numbers.0, lines_can s xs only.1 sends.1 takes.1 numbers.1)
 
+pub script_can : (s : Script) → IsBulkScript s → AllByRecursion (λ x. KindOfLine (CanBe (streams_of s).stream (takes_of s)) x.1) s.lines
+script_can s is = lines_can s s.lines is.only is.senders is.takers is.numbers
+
+pub spelled_bulk : (text : List ℕ) (s : Script) → Spells text s → BulkOnly s → IsBulkScript s
+spelled_bulk text s spelled only = record {
+  fits = spelled_fits text s spelled;
+  bytes = spelled_bytes text s spelled;
+  senders = spelled_senders text s spelled;
+  takers = spelled_takers text s spelled;
+  numbers = spelled_numbers text s spelled;
+  only = only;
+}
+
 -- ---- each moment
 
 abbrev Whole : Script → World → Type 0
@@ -102,26 +116,25 @@ module _ (stays : StaysWhole) where
   }
 
   pub stay_whole : ScriptsStayWhole
-  stay_whole s fit bytes sends takes numbers only k =
-      holds_throughout (CanBe (streams_of s).stream (takes_of s)) (Whole s) s fit (lines_can s s.lines only sends takes numbers) (stays.opening s fit bytes) (is_kept s) k
+  stay_whole s is k =
+      holds_throughout (CanBe (streams_of s).stream (takes_of s)) (Whole s) s is.fits (script_can s is) (stays.opening s is.fits is.bytes) (is_kept s) k
 
   pub are_right : StreamsAreRight
-  are_right s fit bytes sends takes numbers own only k =
+  are_right s is own k =
       let w : World = (moment s k).world in
-      let h : Whole s w = stay_whole s fit bytes sends takes numbers only k in
+      let h : Whole s w = stay_whole s is k in
       let f = h.whole.feeding in
-      world_right s (fixed_of s) opening_base h.member (with_streams s w h) h.standing w only own (of_script s) f.working.streaming f.turns.bulk f.queues.streams_are h.whole.told
+      world_right s (fixed_of s) opening_base h.member (with_streams s w h) h.standing w is.only own (of_script s) f.working.streaming f.turns.bulk f.queues.streams_are h.whole.told
 
   pub texts_are_right : TextsAreRight
-  texts_are_right text s spelled only = are_right s (spelled_fits text s spelled) (spelled_bytes text s spelled) (spelled_senders text s spelled) (spelled_takers text s spelled) (spelled_numbers text s spelled) (spelled_owns text s spelled) only
+  texts_are_right text s spelled only = are_right s (spelled_bulk text s spelled only) (spelled_owns text s spelled)
 
   -- ---- OUT endpoints
 
   pub texts_are_taken : TextsAreTaken
   texts_are_taken text s spelled only k =
       let w : World = (moment s k).world in
-      let h : Whole s w =
-      stay_whole s (spelled_fits text s spelled) (spelled_bytes text s spelled) (spelled_senders text s spelled) (spelled_takers text s spelled) (spelled_numbers text s spelled) only k in
+      let h : Whole s w = stay_whole s (spelled_bulk text s spelled only) k in
       let f = h.whole.feeding in
       let t = h.whole.taking in
       world_taken s (fixed_of s) (takes_of s) h.member (outs_of h.member h.streams) (heads_of h.member) h.endpoint h.standing.order h.standing.out h.standing.reported h.standing.acc h.standing.parts h.standing.hand w

@@ -48,7 +48,7 @@ use Rattle.whole_worlds.specs.Feeding.{heads_of, IsFeeding}
 use Rattle.whole_worlds.proofs.FeedingStores.{queue_above}
 use Rattle.whole_worlds.proofs.Heads.{head_on, right_of}
 use Rattle.standing_fronts.specs.Reaching.{Reaches}
-use Rattle.whole_worlds.specs.Whole.{tail_of, TailsStand, IsUnderWay, HaveSenders}
+use Rattle.whole_worlds.specs.Whole.{tail_of, TailsStand, IsUnderWay, HaveSenders, IsWhole}
 use Rattle.whole_worlds.specs.Laws.{OpenLendKeepsWhole}
 use Rattle.whole_worlds.specs.Taking.{HaveTakers}
 use Rattle.whole_worlds.proofs.OpenBeside.{streams_at, still_frameless, heads_stay, elements_stay, reaches_beside}
@@ -114,7 +114,7 @@ module _ (p : DriverParts) (ready : IsOpenReady p.driver p.memory) (owners : Has
   never : (m a : ℕ) (s : Structure) → m ≡ n → parts m a ≡ Some s → ⊥
   never m a s same here = no_structure s (sym (none a) ∙ sym (ap (λ (i : ℕ). parts i a) same) ∙ here)
 
-  spares_head : (m : ℕ) → SparesHead parts now m
+  pub spares_head : (m : ℕ) → SparesHead parts now m
   spares_head m h here =
       ⊎_elim (λ (same : m ≡ n). absurd (never m m (QueueHead h) same here)) (λ (differs : m ≢ n). heads_stay parts now m (stay m differs) h here) (cases_eq m n)
 
@@ -209,21 +209,17 @@ lend_feeding fixed member x s w ready f =
       stands.1,
     )
 
-pub open_lend_keeps : OpenLendKeepsWhole
-open_lend_keeps fixed takes member x s w ready k =
-    let p = driver_parts w in
-    let owners = k.feeding.working.place.sound.owners in
-    let driven = k.feeding.working.driven in
-    let now = parts_lent s.parts ready in
-    let next = (driver_next w).driver in
-    let g = lend_feeding fixed member x s w ready k.feeding in
-    let is = driver_is p ready owners s.parts driven in
-    record {
-      member = member;
-      streams = x.streams;
-      endpoint = x.endpoint;
-      standing = record s { parts = now };
-      whole = record {
+module _ (fixed : Fixed) (takes : ℕ → ℕ → Bool) (member : ℕ → Bool) (x : Streams) (s : Standing) (w : World) (ready : IsOpenReady w.driver w.memory) (k : IsWhole fixed takes member x s w) where
+  pub open_lent : IsWhole fixed takes member x (record s { parts = parts_lent s.parts ready }) (driver_next w)
+  open_lent =
+      let p = driver_parts w in
+      let owners = k.feeding.working.place.sound.owners in
+      let driven = k.feeding.working.driven in
+      let now = parts_lent s.parts ready in
+      let next = (driver_next w).driver in
+      let g = lend_feeding fixed member x s w ready k.feeding in
+      let is = driver_is p ready owners s.parts driven in
+      record {
         feeding = g.0;
         under_way = subst (λ (c : Option Command). IsUnderWay next (driver_next w).memory member now c) (sym g.1.command) (inr g.1);
         blank = subst (λ (d : DriverContent). AreBlank d) is k.blank;
@@ -235,5 +231,13 @@ open_lend_keeps fixed takes member x s w ready k =
         tails = subst (λ (d : DriverContent). TailsStand d now s.order s.out) is (tails_then p ready owners s.parts driven s.order s.out k.tails);
         told = subst (λ (d : DriverContent). ToldStands d s.hand now s.reported) is (told_then p ready owners s.parts driven s.hand s.reported k.told);
         bytes = k.bytes;
-      };
-    }
+      }
+
+pub open_lend_keeps : OpenLendKeepsWhole
+open_lend_keeps fixed takes member x s w ready k = record {
+  member = member;
+  streams = x.streams;
+  endpoint = x.endpoint;
+  standing = record s { parts = parts_lent s.parts ready };
+  whole = open_lent fixed takes member x s w ready k;
+}

@@ -33,9 +33,9 @@ use Rattle.commanded_queues.proofs.Extending.{open_extents}
 use Rattle.bus_world.specs.World.{World, name_in, commanded_by}
 use Rattle.world_streams.specs.Streaming.{Streams, Standing}
 use Rattle.whole_worlds.specs.Feeding.{IsFeeding}
-use Rattle.whole_worlds.specs.Whole.{IsUnderWay, HaveSenders, IsWhole}
+use Rattle.whole_worlds.specs.Whole.{IsUnderWay, IsWhole}
 use Rattle.whole_worlds.specs.Laws.{OpensTo}
-use Rattle.whole_worlds.specs.Taking.{HaveTakers}
+use Rattle.whole_worlds.specs.Taking.{HaveSides}
 use Rattle.whole_worlds.proofs.Tail.{open_tail, idle_ends}
 
 queue_in : Option Command → ℕ
@@ -71,18 +71,13 @@ module _ (fixed : Fixed) (takes : ℕ → ℕ → Bool) (member : ℕ → Bool) 
       (placed_run z.queue (QueueHead e) (sound.owners.owned.each.queue e (runs_of_endpoint z) (ap (option_map runs_of_endpoint) there) alive))
       (ap (λ (rs : List ℕ). get_or rs 0 0) (sym runs) ∙ same_queue new.queue z.queue (sym command_is ∙ is))
 
-  senders : (receives opened.opens.desc.name.way ≡ true → x.stream opened.opens.desc.name.addr opened.opens.desc.name.num ≡ true) → HaveSenders o.driver x.stream
-  senders to e z here comes =
-      ⊎_elim (λ (was : slice_get d.endpoints e ≡ Some z). k.senders e z was comes)
+  -- each endpoint has what its way needs: a stream where it receives, and else a taker
+  sides : (way : Bool) (has : ℕ → ℕ → Bool) → (receives opened.opens.desc.name.way ≡ way → has opened.opens.desc.name.addr opened.opens.desc.name.num ≡ true) → HaveSides way d has
+      → HaveSides way o.driver has
+  sides way has to old e z here goes =
+      ⊎_elim (λ (was : slice_get d.endpoints e ≡ Some z). old e z was goes)
       (λ (is : (e ≡ length d.endpoints) × (z ≡ new)).
-      ap (λ (y : Endpoint). x.stream y.desc.name.addr y.desc.name.num) is.1 ∙ to (ap (λ (y : Endpoint). receives y.desc.name.way) (sym is.1) ∙ comes))
-      (push_which d.endpoints new e z (ap (λ (p : Offered). slice_get p.driver.endpoints e) (sym opened.opens.is) ∙ here))
-
-  takers : (receives opened.opens.desc.name.way ≡ false → takes opened.opens.desc.name.addr opened.opens.desc.name.num ≡ true) → HaveTakers o.driver takes
-  takers to e z here goes =
-      ⊎_elim (λ (was : slice_get d.endpoints e ≡ Some z). k.takers e z was goes)
-      (λ (is : (e ≡ length d.endpoints) × (z ≡ new)).
-      ap (λ (y : Endpoint). takes y.desc.name.addr y.desc.name.num) is.1 ∙ to (ap (λ (y : Endpoint). receives y.desc.name.way) (sym is.1) ∙ goes))
+      ap (λ (y : Endpoint). has y.desc.name.addr y.desc.name.num) is.1 ∙ to (ap (λ (y : Endpoint). receives y.desc.name.way) (sym is.1) ∙ goes))
       (push_which d.endpoints new e z (ap (λ (p : Offered). slice_get p.driver.endpoints e) (sym opened.opens.is) ∙ here))
 
   ready : IsQhInRange (opened_head d opened.opens.desc opened.opens.holding_after) → IsUnderWay o.driver o.memory member s.parts o.driver.command
@@ -108,8 +103,8 @@ opened_whole fixed takes member x s w line cmd o only to fits room offer opened 
       under_way = ready fixed takes member x s w line cmd o k opened range;
       blank = open_is_blank d w.memory o opened k.blank;
       names = accepted_apart d w.memory o k.feeding.turns.bulk (inl opened) k.names;
-      senders = senders fixed takes member x s w line cmd o k opened stream.0;
-      takers = takers fixed takes member x s w line cmd o k opened stream.1;
+      senders = sides fixed takes member x s w line cmd o k opened true x.stream stream.0 k.senders;
+      takers = sides fixed takes member x s w line cmd o k opened false takes stream.1 k.takers;
       taking = record { ends = k.taking.ends; piped = k.taking.piped; untaken = k.taking.untaken };
       runs = open_extents d w.memory o s.parts opened sound.stands sound.owners feeding.working.driven k.runs;
       tails = λ e z here met.

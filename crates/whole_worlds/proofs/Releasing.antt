@@ -62,31 +62,31 @@ module _ (fixed : Fixed) (takes : ℕ → ℕ → Bool) (member : ℕ → Bool) 
   abbrev f : IsFeeding fixed member x s w
   f = k.feeding
 
-  abbrev y : Transfer
+  abbrev pub y : Transfer
   y = transfer fixed takes member x s w t row k
 
-  abbrev z : Endpoint
+  abbrev pub z : Endpoint
   z = endpoint fixed takes member x s w t row k
 
-  abbrev n : ℕ
+  abbrev pub n : ℕ
   n = 32 * z.queue
 
-  abbrev goes : ℕ → Bool
+  abbrev pub goes : ℕ → Bool
   goes = goes_of d y
 
-  abbrev now : StructureSets
+  abbrev pub now : StructureSets
   now = without_those s.parts n goes
 
-  abbrev later : ℕ → List ℕ
+  abbrev pub later : ℕ → List ℕ
   later = staying_of n goes s.out
 
-  abbrev new : World
+  abbrev pub new : World
   new = with_parts w (after_driver_row (rows.ReleaseTransfer t) (driver_parts w))
 
-  abbrev standing : Standing
+  abbrev pub standing : Standing
   standing = record s { parts = now; out = later }
 
-  g : IsReleased opening_base member s.parts s.hand w.control.walk p s.order s.out t n goes
+  pub g : IsReleased opening_base member s.parts s.hand w.control.walk p s.order s.out t n goes
   g = release_feeds opening_base member s.parts s.hand w.control.walk p s.order s.out t y z (stand fixed takes member x s w t row k) (returning fixed takes member x s w t row k)
 
   -- ---- what the row changes
@@ -175,26 +175,23 @@ module _ (fixed : Fixed) (takes : ℕ → ℕ → Bool) (member : ℕ → Bool) 
   under_way : IsUnderWay new.driver new.memory member now new.driver.command
   under_way = none_under_way new.driver new.memory member now new.driver.command (stays (λ (q : DriverContent). q.command ≡ None) (due fixed takes member x s w t row k).idle)
 
-  pub new_whole : HasWhole fixed takes x.stream x.packets new
-  new_whole = record {
-    member = member;
-    streams = x.streams;
-    endpoint = x.endpoint;
-    standing = standing;
-    whole = record {
-      feeding = feeding;
-      under_way = under_way;
-      blank = stays AreBlank k.blank;
-      names = stays AreNamesApart k.names;
-      senders = stays (λ (q : DriverContent). HaveSenders q x.stream) k.senders;
-      takers = stays (λ (q : DriverContent). HaveTakers q takes) k.takers;
-      taking = release_taking fixed takes member x s w t row k;
-      runs = g.in_runs;
-      tails = tails;
-      told = release_told opening_base member s.parts s.hand w.control.walk p s.order s.out t y z (stand fixed takes member x s w t row k) (returning fixed takes member x s w t row k) s.reported k.told;
-      bytes = k.bytes;
-    };
+  pub whole_released : IsWhole fixed takes member x standing new
+  whole_released = record {
+    feeding = feeding;
+    under_way = under_way;
+    blank = stays AreBlank k.blank;
+    names = stays AreNamesApart k.names;
+    senders = stays (λ (q : DriverContent). HaveSenders q x.stream) k.senders;
+    takers = stays (λ (q : DriverContent). HaveTakers q takes) k.takers;
+    taking = release_taking fixed takes member x s w t row k;
+    runs = g.in_runs;
+    tails = tails;
+    told = release_told opening_base member s.parts s.hand w.control.walk p s.order s.out t y z (stand fixed takes member x s w t row k) (returning fixed takes member x s w t row k) s.reported k.told;
+    bytes = k.bytes;
   }
+
+  new_whole : HasWhole fixed takes x.stream x.packets new
+  new_whole = record { member = member; streams = x.streams; endpoint = x.endpoint; standing = standing; whole = whole_released }
 
 pub release_keeps_whole : ReleaseKeepsWhole
 release_keeps_whole fixed takes member x s w t row k =

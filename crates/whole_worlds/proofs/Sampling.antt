@@ -11,9 +11,10 @@ use Rattle.declared_endpoints.specs.Declared.{OpensSenders}
 use Rattle.declared_takers.specs.Declared.{OpensTakers}
 use Rattle.script_numbers.specs.Numbers.{NumbersOpens}
 use Rattle.chained_transfers.specs.Bulk.{BulkOnly}
+use Rattle.whole_worlds.specs.Moments.{IsBulkScript}
 use Rattle.whole_worlds.specs.Samples.{one_get}
 
-pub get_fits : IsFit one_get
+get_fits : IsFit one_get
 get_fits = record {
   least = omega arith;
   most = omega arith;
@@ -24,22 +25,22 @@ get_fits = record {
   lines = ((omega arith, omega arith, record { size = refl; pace = refl; below = refl }), ((omega arith, omega arith), (tt, tt)));
 }
 
-pub get_bytes : IsByteScript one_get
+get_bytes : IsByteScript one_get
 get_bytes = record { devices = ((((omega arith, tt), tt), (((omega arith, (omega arith, tt)), tt), tt)), tt); lines = (tt, (tt, (tt, tt))) }
 
-pub get_sends : OpensSenders one_get
+get_sends : OpensSenders one_get
 get_sends = ((λ kind speed way. refl), (tt, (tt, tt)))
 
 in_no_out : ways.In ≡ ways.Out → ⊥
 in_no_out same = cc
 
-pub get_takes : OpensTakers one_get
+get_takes : OpensTakers one_get
 get_takes = ((λ kind speed way. absurd (in_no_out way)), (tt, (tt, tt)))
 
-pub get_numbers : NumbersOpens one_get
+get_numbers : NumbersOpens one_get
 get_numbers = ((omega arith, omega arith), (tt, (tt, tt)))
 
-pub get_only : BulkOnly one_get
+get_only : BulkOnly one_get
 get_only = (record { kind = refl; speed = refl; way = tt }, (tt, (tt, tt)))
 
 -- there is one device
@@ -58,3 +59,6 @@ get_owns = record { own = its_own; apart = one_alone }
     one_alone zero zero d e one other same = refl
     one_alone zero (suc j) d e one other same = absurd (only_device j e other)
     one_alone (suc i) j d e one other same = absurd (only_device i d one)
+
+pub get_is_bulk : IsBulkScript one_get
+get_is_bulk = record { fits = get_fits; bytes = get_bytes; senders = get_sends; takers = get_takes; numbers = get_numbers; only = get_only }

@@ -21,7 +21,7 @@ use Rattle.usb_bus.specs.Bus.{Fixed}
 use Rattle.lent_structures.specs.Structures.{Structures}
 use Rattle.standing_fronts.specs.Reaching.{Reaches}
 use Rattle.told_queues.proofs.Standing.{alike_told}
-use Rattle.bus_world.specs.World.{World, driver_parts, with_parts}
+use Rattle.bus_world.specs.World.{World, driver_parts, with_parts, driver_next}
 use Rattle.world_streams.specs.Streaming.{Streams, Standing}
 use Rattle.whole_worlds.specs.Feeding.{IsFeeding}
 use Rattle.whole_worlds.specs.FeedingLaws.{is_still}
@@ -86,11 +86,8 @@ module _ (fixed : Fixed) (takes : ℕ → ℕ → Bool) (member : ℕ → Bool) 
   still_row (rows.ReleaseEndpoint e) due still f = absurd (false≢true still)
   still_row (rows.Harvest e t found) due still f = absurd (false≢true still)
 
+pub whole_still : (fixed : Fixed) (takes : ℕ → ℕ → Bool) (member : ℕ → Bool) (x : Streams) (s : Standing) (w : World) → is_still (driver_row (driver_parts w)) ≡ true → IsWhole fixed takes member x s w → IsWhole fixed takes member x s (driver_next w)
+whole_still fixed takes member x s w still k = still_row fixed takes member x s w k (driver_row (driver_parts w)) (each_is_due (driver_parts w)) still (still_feeds fixed member x s w still k.feeding)
+
 pub still_keeps_whole : StillKeepsWhole
-still_keeps_whole fixed takes member x s w still k = record {
-  member = member;
-  streams = x.streams;
-  endpoint = x.endpoint;
-  standing = s;
-  whole = still_row fixed takes member x s w k (driver_row (driver_parts w)) (each_is_due (driver_parts w)) still (still_feeds fixed member x s w still k.feeding);
-}
+still_keeps_whole fixed takes member x s w still k = record { member = member; streams = x.streams; endpoint = x.endpoint; standing = s; whole = whole_still fixed takes member x s w still k }

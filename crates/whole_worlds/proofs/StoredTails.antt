@@ -137,7 +137,7 @@ module _ (p : DriverParts) (member streams : ℕ → Bool) (ends : ℕ → Told)
       ap (λ (c : Option Command). 32 * tail_block c (slice_get d.transfers (length d.transfers - 1)) e x.dummy) k.command
       ∙ ap (λ (o : Option Transfer). 32 * tail_block (Some (unfinished.Publish b words)) o e x.dummy) newest_at
 
-  tail_here : tail_of d y.endpoint g.endpoint ≡ 32 * b
+  pub tail_here : tail_of d y.endpoint g.endpoint ≡ 32 * b
   tail_here = tail_is y.endpoint g.endpoint ∙ ap (λ (t : Bool). 32 * (if t then b else g.endpoint.dummy)) (eq-eqb y.endpoint y.endpoint refl)
 
   tail_beside : (e : ℕ) (x : Endpoint) → e ≢ y.endpoint → tail_of d e x ≡ 32 * x.dummy

@@ -15,6 +15,7 @@ use Rattle.world_streams.specs.Streaming.{Streams, Standing}
 use Rattle.released_queues.specs.Fronts.{FrontsStand}
 use Rattle.standing_fronts.specs.Reaching.{Reaches}
 use Rattle.fed_lends.specs.ToLend.{IsToBeLent, AreBlank, lent_now}
+use Rattle.lent_fronts.specs.Whole.{IsLentBehind}
 use Rattle.whole_worlds.specs.Feeding.{IsFeeding}
 
 pub record LendsTransfer (fixed : Fixed) (member : ℕ → Bool) (x : Streams) (s : Standing) (w : World) : Type 0 where
@@ -28,6 +29,7 @@ pub record LendsTransfer (fixed : Fixed) (member : ℕ → Bool) (x : Streams) (
       → Reaches w.driver (s.parts (32 * z.queue)) (s.order (32 * z.queue)) (s.out (32 * z.queue)) e z c
       → Reaches (driver_next w).driver (parts (32 * z.queue)) (order (32 * z.queue)) (out (32 * z.queue)) e z c
   pub blank : AreBlank (driver_next w).driver
+  pub behind : IsLentBehind w.driver w.memory s.parts parts s.order order s.out out
   pub driver_is : (driver_next w).driver ≡ lent_now w.driver w.memory
   pub still : (n a : ℕ) (u : Structure) → s.parts n a ≡ Some u → parts n a ≡ Some u
   pub heads : (n : ℕ) → SparesHead s.parts parts n

@@ -1,10 +1,12 @@
 -- Each moment of the run of a script of bulk endpoints (EHCI 1.0, 4.8 to 4.10; USB 2.0, 5.8 and 8.6).
+--     IsBulkScript s                   the script opens bulk endpoints alone and cancels nothing; it fits, says bytes, has on its bus a sender for each IN endpoint and a
+--                                      taker for each OUT endpoint that it opens, and no address or number that doesn't fit its field
 --     IsWholeThroughout s              the world is whole then
 --     InStreamsAreRightThroughout s    the IN streams of its report are right then: what is told of each IN endpoint begins its packets
 --     OutStreamsAreTakenThroughout s  what is told of each OUT endpoint, then, begins what its device took
---     ScriptsStayWhole                 the law of scripts of bytes, of which each IN endpoint that is opened has its sender, and numbers fit
+--     ScriptsStayWhole                 the law of such scripts
 --     StreamsAreRight                  .. and whose devices have endpoints of their own
---     TextsAreRight                    .. which each script is that a text spells
+--     TextsAreRight                    .. which each script is that a text spells and that opens bulk endpoints alone
 --     TextsAreTaken                .. and for the OUT endpoints
 use Rattle.std.specs.Prelude.{ℕ, List}
 use Rattle.script_types.specs.declared.scripts.Script.{Script}
@@ -25,6 +27,14 @@ use Rattle.out_rows.specs.Takers.{takes_of}
 use Rattle.whole_worlds.specs.Feeding.{streams_of}
 use Rattle.whole_worlds.specs.Whole.{HasWhole}
 
+pub record IsBulkScript (s : Script) : Type 0 where
+  pub fits : IsFit s
+  pub bytes : IsByteScript s
+  pub senders : OpensSenders s
+  pub takers : OpensTakers s
+  pub numbers : NumbersOpens s
+  pub only : BulkOnly s
+
 abbrev pub IsWholeThroughout : Script → Type 0
 IsWholeThroughout s = (k : ℕ) → HasWhole (fixed_of s) (takes_of s) (streams_of s).stream (streams_of s).packets (moment s k).world
 
@@ -35,10 +45,10 @@ abbrev pub OutStreamsAreTakenThroughout : Script → Type 0
 OutStreamsAreTakenThroughout s = (k : ℕ) → AreTakenStreams s (report_of (fixed_of s) (moment s k).world)
 
 abbrev pub ScriptsStayWhole : Type 0
-ScriptsStayWhole = (s : Script) → IsFit s → IsByteScript s → OpensSenders s → OpensTakers s → NumbersOpens s → BulkOnly s → IsWholeThroughout s
+ScriptsStayWhole = (s : Script) → IsBulkScript s → IsWholeThroughout s
 
 abbrev pub StreamsAreRight : Type 0
-StreamsAreRight = (s : Script) → IsFit s → IsByteScript s → OpensSenders s → OpensTakers s → NumbersOpens s → HasOwnDevices s → BulkOnly s → InStreamsAreRightThroughout s
+StreamsAreRight = (s : Script) → IsBulkScript s → HasOwnDevices s → InStreamsAreRightThroughout s
 
 abbrev pub TextsAreRight : Type 0
 TextsAreRight = (text : List ℕ) (s : Script) → Spells text s → BulkOnly s → InStreamsAreRightThroughout s

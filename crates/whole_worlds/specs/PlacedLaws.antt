@@ -2,21 +2,17 @@
 --     WholeIsAtWork              a whole world is at work
 --     HasNoErrorWhileItRuns      while the controller of a script runs, Host System Error is 0
 --     RunsInPlaceWhileWhole      while the world of a script is whole, it runs in place
---     ScriptsRunInPlace          so does each script of bytes and of bulk endpoints, of which each IN endpoint that is opened has its sender, and numbers fit
+--     ScriptsRunInPlace          so does each script of bulk endpoints that fits
 --     TextsRunInPlace            .. which each script is that a text spells
 use Rattle.std.specs.Prelude.{◌≡◌, ℕ, Bool, true, false, List}
 use Rattle.script_types.specs.declared.scripts.Script.{Script}
 use Rattle.script_text.specs.Faults.{Spells}
-use Rattle.script_fits.specs.Fits.{IsFit}
-use Rattle.byte_answers.specs.Bytes.{IsByteScript}
 use Rattle.usb_bus.specs.Bus.{Fixed, fixed_of}
-use Rattle.declared_endpoints.specs.Declared.{OpensSenders}
-use Rattle.declared_takers.specs.Declared.{OpensTakers}
-use Rattle.script_numbers.specs.Numbers.{NumbersOpens}
 use Rattle.chained_transfers.specs.Bulk.{BulkOnly}
 use Rattle.bus_world.specs.World.{World}
 use Rattle.bus_world.specs.Budgets.{moment}
 use Rattle.whole_worlds.specs.Whole.{HasWhole}
+use Rattle.whole_worlds.specs.Moments.{IsBulkScript}
 use Rattle.whole_worlds.specs.Placed.{IsAtWork, RunsInPlaceThroughout}
 
 abbrev pub WholeIsAtWork : Type 0
@@ -31,7 +27,7 @@ RunsInPlaceWhileWhole =
     (s : Script) (takes stream : ℕ → ℕ → Bool) (packets : ℕ → ℕ → List (List ℕ)) → ((k : ℕ) → HasWhole (fixed_of s) takes stream packets (moment s k).world) → RunsInPlaceThroughout s
 
 abbrev pub ScriptsRunInPlace : Type 0
-ScriptsRunInPlace = (s : Script) → IsFit s → IsByteScript s → OpensSenders s → OpensTakers s → NumbersOpens s → BulkOnly s → RunsInPlaceThroughout s
+ScriptsRunInPlace = (s : Script) → IsBulkScript s → RunsInPlaceThroughout s
 
 abbrev pub TextsRunInPlace : Type 0
 TextsRunInPlace = (text : List ℕ) (s : Script) → Spells text s → BulkOnly s → RunsInPlaceThroughout s

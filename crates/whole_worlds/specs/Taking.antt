@@ -3,6 +3,7 @@
 --     outs_of member streams        the queue heads of OUT endpoints: of all that the walk may meet those without a stream, but the head of the ring
 --     IsTaking fixed takes member x s w     both sides of the pipe of each OUT endpoint agree, where s.acc are the bytes that were moved of it; and devices'
 --                                   endpoints that aren't opened took nothing
+--     HaveSides way d has           each endpoint that was opened and receives, or sends, has one of these
 --     HaveTakers d takes            each OUT endpoint that was opened has a taker
 use Rattle.std.specs.Prelude.{◌≡◌, ℕ, Bool, true, false, slice_get, Some, if◌then◌else◌}
 use Rattle.std.specs.List.{concat}
@@ -25,5 +26,8 @@ pub record IsTaking (fixed : Fixed) (takes : ℕ → ℕ → Bool) (member : ℕ
   pub piped : AreOutPiped takes taker_of member (outs_of member x.streams) x.endpoint (λ n. concat (s.acc n)) s.parts s.hand (wired fixed w)
   pub untaken : AreUntaken takes taker_of (outs_of member x.streams) x.endpoint (wired fixed w)
 
+abbrev pub HaveSides : Bool → DriverContent → (ℕ → ℕ → Bool) → Type 0
+HaveSides way d has = (e : ℕ) (x : Endpoint) → slice_get d.endpoints e ≡ Some x → receives x.desc.name.way ≡ way → has x.desc.name.addr x.desc.name.num ≡ true
+
 abbrev pub HaveTakers : DriverContent → (ℕ → ℕ → Bool) → Type 0
-HaveTakers d takes = (e : ℕ) (x : Endpoint) → slice_get d.endpoints e ≡ Some x → receives x.desc.name.way ≡ false → takes x.desc.name.addr x.desc.name.num ≡ true
+HaveTakers d takes = HaveSides false d takes

@@ -16,7 +16,6 @@ use Rattle.run_owners.specs.Owners.{views_of}
 use Rattle.lent_structures.specs.Structures.{StructureSets}
 use Rattle.ring_streams.specs.Told.{Endpoint as Told}
 use Rattle.driver_releases.specs.Extents.{AreInRuns}
-use Rattle.chained_transfers.specs.Bulk.{receives}
 use Rattle.fed_lends.specs.ToLend.{IsToBeLent, AreBlank}
 use Rattle.fed_queues.specs.Places.{IsMet}
 use Rattle.open_lends.specs.Lends.{IsOpenReady}
@@ -28,7 +27,7 @@ use Rattle.usb_bus.specs.Bus.{Fixed}
 use Rattle.bus_world.specs.World.{World}
 use Rattle.world_streams.specs.Streaming.{Streams, Standing}
 use Rattle.whole_worlds.specs.Feeding.{IsFeeding}
-use Rattle.whole_worlds.specs.Taking.{IsTaking, HaveTakers}
+use Rattle.whole_worlds.specs.Taking.{IsTaking, HaveSides, HaveTakers}
 
 -- ---- tails
 
@@ -55,7 +54,7 @@ IsUnderWay d m member parts _ = Unit {0}
 -- ---- the whole
 
 abbrev pub HaveSenders : DriverContent → (ℕ → ℕ → Bool) → Type 0
-HaveSenders d stream = (e : ℕ) (x : Endpoint) → slice_get d.endpoints e ≡ Some x → receives x.desc.name.way ≡ true → stream x.desc.name.addr x.desc.name.num ≡ true
+HaveSenders d stream = HaveSides true d stream
 
 pub record IsWhole (fixed : Fixed) (takes : ℕ → ℕ → Bool) (member : ℕ → Bool) (x : Streams) (s : Standing) (w : World) : Type 0 where
   pub feeding : IsFeeding fixed member x s w

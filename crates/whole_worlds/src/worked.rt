@@ -19,14 +19,8 @@ ghost use Rattle.op_registers.specs.RegisterFile.{RegisterFile};
 ghost use Rattle.driver_releases.specs.Released.{goes_of};
 ghost use Rattle.run_owners.specs.Leaving.{owes};
 ghost use Rattle.run_owners.specs.Worked.{busy_driver, get_out, bulk};
-ghost use Rattle.script_fits.specs.Fits.{IsFit};
-ghost use Rattle.byte_answers.specs.Bytes.{IsByteScript};
 ghost use Rattle.opening_senders.specs.Own.{HasOwnDevices};
-ghost use Rattle.declared_endpoints.specs.Declared.{OpensSenders};
-ghost use Rattle.declared_takers.specs.Declared.{OpensTakers};
-ghost use Rattle.script_numbers.specs.Numbers.{NumbersOpens};
-ghost use Rattle.chained_transfers.specs.Bulk.{BulkOnly};
-ghost use Rattle.whole_worlds.specs.Moments.{IsWholeThroughout, InStreamsAreRightThroughout};
+ghost use Rattle.whole_worlds.specs.Moments.{IsBulkScript, IsWholeThroughout, InStreamsAreRightThroughout};
 ghost use Rattle.whole_worlds.specs.Samples.{one_get};
 ghost use Rattle.driver_rows.specs.Offers.{new_endpoint};
 ghost use Rattle.ring_members.specs.Links.{members, IsChain};
@@ -81,13 +75,8 @@ pub fn a_get_is_given_back()
 
 /// The script fits, says bytes, and has a sender for the endpoint that it opens, which is a bulk one and whose numbers fit.
 pub fn a_script_with_one_get()
-    ensures fits { IsFit one_get }
-    ensures bytes { IsByteScript one_get }
-    ensures sends { OpensSenders one_get }
-    ensures takes { OpensTakers one_get }
-    ensures numbers { NumbersOpens one_get }
+    ensures bulk { IsBulkScript one_get }
     ensures own { HasOwnDevices one_get }
-    ensures only { BulkOnly one_get }
 {}
 
 /// So its world is whole at each moment, and the streams of its report are right.

@@ -1,0 +1,113 @@
+-- The queue heads that a walk of the ring may reach, computed from the driver's content (EHCI 1.0, 4.8 and 4.8.2), and a ring whose members are
+-- exactly these.
+--     any_at f xs              one of the elements is so, told with its number
+--     is_one_of e es           the number is one of these
+--     may_reach d rings e x    endpoint e, which is x, is in the ring, or has left since the last answered doorbell; `rings`: it isn't answered yet
+--     reached d rings n        the queue head at byte address n is the head of the ring, or that of such an endpoint
+--     ReachedAt d rings n      a block begins there that the walk may reach
+--     ReachedIsReached, IsReachedReached
+--                              the law: it is so exactly of these blocks
+--     HasQueueHeadAt d n, ReachedHasQueueHead
+--                              the law: a queue head stands there of an endpoint that wasn't given back, or the head of the ring
+--     AnswerReachesFewer       the law: an answer of the doorbell only makes them fewer
+--     IsReachedIn narrow d r   these are exactly the members
+--     NarrowRing, NarrowDrives the law: the members of a ring may be taken to be these, wherever the walk stands and whatever it has in hand
+--     FollowsReached .., EventNarrows
+--                              the law: so may those of the ring after an event of the walk, whether it answers the doorbell or not
+--     AnswerNarrows            the law: where the doorbell is answered then, those that had left before it are members no more
+use Rattle.std.specs.Prelude.{◌≡◌, ℕ, zero, suc, ◌*◌, ◌==◌, Bool, true, false, ◌&&◌, ◌||◌, List, [], ◌∷◌}
+use Rattle.usb_base.specs.declared.packets.Ask.{Ask}
+use Rattle.usb_base.specs.declared.packets.Reply.{Reply}
+use Rattle.op_registers.specs.RegisterFile.{RegisterFile}
+use Rattle.async_walk.specs.declared.state.WalkStep.{WalkStep}
+use Rattle.async_walk.specs.Rows.{WalkPlace, at_event, event_row, step_of, Leads}
+use Rattle.driver_rows.specs.declared.content.Endpoint.{Endpoint}
+use Rattle.driver_rows.specs.DriverContent.{DriverContent}
+use Rattle.driver_rows.specs.Words.{head_block}
+use Rattle.run_owners.specs.Kept.{HasOwners}
+use Rattle.ring_members.specs.Links.{link_in}
+use Rattle.ring_members.specs.Ring.{IsRing as IsRingOf}
+use Rattle.queue_head_words.specs.Fixed.{AreFixed}
+use Rattle.queue_head_words.specs.Overlay.{HasQueueHead}
+use Rattle.lent_structures.specs.Structures.{StructureSets}
+use Rattle.ring_walk.specs.Hand.{Hand}
+use Rattle.ring_walk.specs.Ring.{Base, IsRing}
+use Rattle.ring_walk.specs.Effects.{Effect, AreBytesHeard}
+use Rattle.ring_stores.specs.Stores.{IsWider}
+use Rattle.driver_parts.specs.Driven.{DrivesRing}
+use Rattle.walk_members.specs.Reached.{IsReached, IsWalkIn, AreNoHeads}
+
+-- ---- computed
+
+abbrev pub any_at : (ℕ → Endpoint → Bool) → List Endpoint → Bool
+any_at f [] = false
+any_at f (x ∷ xs) = f zero x || any_at (λ e y. f (suc e) y) xs
+
+abbrev pub is_one_of : ℕ → List ℕ → Bool
+is_one_of e [] = false
+is_one_of e (f ∷ es) = (e == f) || is_one_of e es
+
+abbrev pub may_reach : DriverContent → Bool → ℕ → Endpoint → Bool
+may_reach d rings e x = x.linked || (is_one_of e d.waiting || (is_one_of e d.rung && rings))
+
+abbrev pub reached : DriverContent → Bool → ℕ → Bool
+reached d rings n = (n == 32 * head_block) || any_at (λ e x. (n == 32 * x.queue) && may_reach d rings e x) d.endpoints
+
+-- ---- the blocks that the walk may reach
+
+pub record ReachedAt (d : DriverContent) (rings : Bool) (n : ℕ) : Type 0 where
+  pub block : ℕ
+  pub at : n ≡ 32 * block
+  pub reached : IsReached d rings block
+
+abbrev pub ReachedIsReached : Type 0
+ReachedIsReached = (d : DriverContent) (rings : Bool) (n : ℕ) → reached d rings n ≡ true → ReachedAt d rings n
+
+abbrev pub IsReachedReached : Type 0
+IsReachedReached = (d : DriverContent) (rings : Bool) (b : ℕ) → IsReached d rings b → reached d rings (32 * b) ≡ true
+
+pub record HasQueueHeadAt (d : DriverContent) (n : ℕ) : Type 0 where
+  pub block : ℕ
+  pub at : n ≡ 32 * block
+  pub there : HasQueueHead d block
+
+abbrev pub ReachedHasQueueHead : Type 0
+ReachedHasQueueHead = (d : DriverContent) (rings : Bool) (n : ℕ) → HasOwners d → reached d rings n ≡ true → HasQueueHeadAt d n
+
+abbrev pub AnswerReachesFewer : Type 0
+AnswerReachesFewer = (d : DriverContent) (rings : Bool) → IsWider (reached d false) (reached d rings)
+
+-- ---- the members of a ring
+
+abbrev pub IsReachedIn : (ℕ → Bool) → DriverContent → RegisterFile → Type 0
+IsReachedIn narrow d r = (n : ℕ) → narrow n ≡ reached d r.doorbell n
+
+abbrev pub NarrowRing : Type 0
+NarrowRing = (base : Base) (member narrow : ℕ → Bool) (parts : StructureSets) (hand : Hand) (p : WalkPlace) (d : DriverContent) → IsRing base member parts hand p
+    → IsRingOf (link_in p.memory) d → IsWalkIn d p.registers p.walk → IsWider narrow member → IsReachedIn narrow d p.registers → IsRing base narrow parts hand p
+
+abbrev pub NarrowDrives : Type 0
+NarrowDrives = (base : Base) (member narrow : ℕ → Bool) (parts : StructureSets) (hand : Hand) (p : WalkPlace) (d : DriverContent) → DrivesRing base member parts hand p d
+    → IsRingOf (link_in p.memory) d → IsWalkIn d p.registers p.walk → IsWider narrow member → IsReachedIn narrow d p.registers → DrivesRing base narrow parts hand p d
+
+-- ---- an event of the walk
+
+pub record FollowsReached {W : Type 0} (transacts : W → Ask → List ℕ → Reply → W → Type 0) (base : Base) (narrow : ℕ → Bool) (parts : StructureSets) (hand : Hand) (d : DriverContent) (wire after : W)
+    (new : WalkPlace) (kind : WalkStep) : Type 0 where
+  pub now : StructureSets
+  pub later : Hand
+  pub drives : DrivesRing base narrow now later new d
+  pub walk : IsWalkIn d new.registers new.walk
+  pub effect : Effect transacts parts hand wire after now later kind
+
+abbrev pub EventNarrows : {W : Type 0} → (W → Ask → List ℕ → Reply → W → Type 0) → Type 0
+EventNarrows {W} transacts = (base : Base) (member narrow : ℕ → Bool) (parts : StructureSets) (hand : Hand) (p : WalkPlace) (d : DriverContent) (wire : W) (new : WalkPlace) (after : W)
+    → DrivesRing base member parts hand p d → IsRingOf (link_in p.memory) d → AreFixed p.memory d → AreNoHeads d → IsWalkIn d p.registers p.walk
+    → AreBytesHeard transacts wire after → Leads transacts (event_row p) (at_event p) wire new after → IsWider (reached d p.registers.doorbell) member → IsReachedIn narrow d new.registers
+    → FollowsReached transacts base narrow parts hand d wire after new (step_of (event_row p) (at_event p))
+
+abbrev pub AnswerNarrows : {W : Type 0} → (W → Ask → List ℕ → Reply → W → Type 0) → Type 0
+AnswerNarrows {W} transacts = (base : Base) (member : ℕ → Bool) (parts : StructureSets) (hand : Hand) (p : WalkPlace) (d : DriverContent) (wire : W) (new : WalkPlace) (after : W)
+    → DrivesRing base member parts hand p d → IsRingOf (link_in p.memory) d → AreFixed p.memory d → AreNoHeads d → IsWalkIn d p.registers p.walk
+    → AreBytesHeard transacts wire after → Leads transacts (event_row p) (at_event p) wire new after → IsWider (reached d p.registers.doorbell) member → new.registers.doorbell ≡ false
+    → FollowsReached transacts base (reached d false) parts hand d wire after new (step_of (event_row p) (at_event p))

@@ -1,0 +1,156 @@
+-- A command leaves a world with what its driver has still to send: one that is refused changes no endpoint, transfer or note, and an accepted put is one more.
+use Rattle.std.proofs.Common.{◌≡◌, ◌≢◌, ℕ, Bool, List, get_or, length, slice_get, Option, Some, None, Result, Ok, Err, ap, refl, sym, ◌∙◌, ⊎_elim, inl, inr}
+use Rattle.std.specs.List.{concat}
+use Rattle.std.proofs.lemmas.Option.{slice_get_within}
+use Rattle.usb_base.specs.declared.commands.Cmd.{Cmd}
+use Rattle.usb_base.specs.declared.endpoints.EpName.{EpName}
+use Rattle.usb_base.specs.declared.reports.OfferError.{OfferError}
+use Rattle.word_mem.specs.Memory.{Mem}
+use Rattle.usb_bus.specs.Bus.{Fixed}
+use Rattle.driver_rows.specs.declared.content.Endpoint.{Endpoint}
+use Rattle.driver_rows.specs.DriverContent.{DriverContent}
+use Rattle.driver_rows.specs.Offers.{Offered, new_runs, new_endpoint, offered, IsOffered}
+use Rattle.run_owners.specs.Accepts.{Opens, Transfers}
+use Rattle.lent_structures.specs.Structures.{StructureSets}
+use Rattle.chained_transfers.specs.Accepted.{IsAccepted}
+use Rattle.chained_transfers.specs.Bulk.{OpensBulk}
+use Rattle.chained_transfers.specs.InTurn.{TakesTurns}
+use Rattle.chained_transfers.proofs.Accepting.{command_received}
+use Rattle.fed_commands.proofs.Asked.{push_which, set_which}
+use Rattle.walk_members.specs.Reached.{OpensNumbered}
+use Rattle.byte_answers.specs.Bytes.{IsByteCommand}
+use Rattle.ring_out_pipes.specs.OutBus.{Taker}
+use Rattle.scripted_takers.specs.Takers.{taker_of}
+use Rattle.bus_world.specs.World.{World, name_in, refused_line, commanded_by, commanded}
+use Rattle.world_streams.specs.Streaming.{Streams, Standing, wired}
+use Rattle.held_puts.specs.Puts.{HoldsPuts, puts_then}
+use Rattle.held_puts.proofs.Commanding.{command_holds}
+use Rattle.sent_rows.specs.Sent.{SentStand}
+use Rattle.sent_rows.proofs.Alike.{accepted_sends}
+use Rattle.taken_puts.specs.Puts.{puts_of}
+use Rattle.taken_puts.proofs.Steps.{then_before}
+use Rattle.owed_puts.specs.Owed.{Owes}
+use Rattle.owed_puts.specs.Laws.{KeepsPuts}
+use Rattle.owed_puts.specs.Taken.{TakenBegin, EndedAreStopped}
+use Rattle.owed_puts.proofs.Commands.{command_owes}
+use Rattle.owed_puts.proofs.Rests.{prefix_to, puts_kept}
+use Rattle.owed_puts.proofs.Same.{alike_owes}
+use Rattle.owed_puts.proofs.TakenRows.{command_taken}
+use Rattle.whole_worlds.specs.Laws.{OpensTo}
+use Rattle.whole_worlds.specs.Whole.{IsWhole}
+use Rattle.whole_worlds.proofs.Commanding.{whole_commanded}
+use Rattle.sending_worlds.specs.Sending.{IsSending}
+use Rattle.sending_worlds.specs.Laws.{CommandKeepsSending}
+
+-- ---- a refusal
+
+module _ (d : DriverContent) (line : ℕ) (name : EpName) (why : OfferError) (m : Mem) (puts now reported : ℕ → List ℕ) (keeps : KeepsPuts d puts now) where
+  abbrev f : DriverContent
+  f = refused_line d line name why
+
+  refused_held : HoldsPuts d m puts → HoldsPuts f m now
+  refused_held held = record { each = λ t y there put kept. held.each t y there put kept ∙ sym (keeps t (slice_get_within d.transfers t y there)) }
+
+  refused_owes : TakesTurns d → HoldsPuts d m puts → Owes d m puts reported → Owes f m now reported
+  refused_owes turns held owes =
+      alike_owes d f m m puts now reported turns (record { endpoints = refl; transfers = refl; notes = refl }) (λ x meets. meets) (λ x is. is) keeps held (refused_held held) owes
+
+  refused_begin : {W : Type 0} (taker : W → ℕ → ℕ → Option Taker) (wire : W) → TakenBegin taker d puts wire → TakenBegin taker f now wire
+  refused_begin taker wire begin e z s here meets sends is =
+      prefix_to s.taken (concat (puts_of d puts e)) (concat (puts_of f now e)) (sym (ap concat (puts_kept puts now e d.transfers keeps))) (begin e z s here meets sends is)
+
+refused_sending : (fixed : Fixed) (takes : ℕ → ℕ → Bool) (member : ℕ → Bool) (x : Streams) (s : Standing) (puts now : ℕ → List ℕ) (w : World) (line : ℕ) (name : EpName) (why : OfferError) → KeepsPuts w.driver puts now
+    → IsWhole fixed takes member x s (commanded_by w line name (Err why)) → IsSending fixed takes member x s puts w → IsSending fixed takes member x s now (commanded_by w line name (Err why))
+refused_sending fixed takes member x s puts now w line name why keeps whole k =
+    let d = w.driver in
+    record {
+      whole = whole;
+      sent = k.sent;
+      ended = k.ended;
+      held = refused_held d line name why w.memory puts now s.reported keeps k.held;
+      owes = refused_owes d line name why w.memory puts now s.reported keeps k.whole.feeding.turns k.held k.owes;
+      begin = refused_begin d line name why w.memory puts now s.reported keeps taker_of (wired fixed w) k.begin;
+    }
+
+-- ---- an accepted command
+
+none_some : {X : Type 0} (x : X) → ◌≡◌ {A = Option X} None (Some x) → ⊥
+none_some x is = cc
+
+-- an endpoint that is opened or asked goes on
+accepted_ended : (d : DriverContent) (m : Mem) (o : Offered) (parts : StructureSets) → IsAccepted d m o → EndedAreStopped d parts → EndedAreStopped o.driver parts
+accepted_ended d m o parts (inl opened) ended e z cause here sends over =
+    let why : Opens d m o = opened.opens in
+    let new : Endpoint = new_endpoint why.desc (get_or (new_runs d why.holding_after) 0 0) (get_or (new_runs d why.holding_after) 1 0) in
+    ⊎_elim (λ (was : slice_get d.endpoints e ≡ Some z). ended e z cause was sends over)
+    (λ (own : (e ≡ length d.endpoints) × (z ≡ new)). absurd (none_some cause (ap (λ (y : Endpoint). y.ended) (sym own.1) ∙ over)))
+    (push_which d.endpoints new e z (ap (λ (g : Offered). slice_get g.driver.endpoints e) (sym why.is) ∙ here))
+accepted_ended d m o parts (inr asked) ended e z cause here sends over =
+    let why : Transfers d m o = asked.transfers in
+    ⊎_elim (λ (own : (e ≡ why.number) × (z ≡ _)). absurd (none_some cause (sym why.goes_on ∙ ap (λ (y : Endpoint). y.ended) (sym own.1) ∙ over)))
+    (λ (other : (e ≢ why.number) × (slice_get d.endpoints e ≡ Some z)). ended e z cause other.1 sends over)
+    (set_which d.endpoints why.number e why.endpoint _ z why.here (ap (λ (g : Offered). slice_get g.driver.endpoints e) (sym why.is) ∙ here))
+
+module _ (fixed : Fixed) (takes : ℕ → ℕ → Bool) (member : ℕ → Bool) (x : Streams) (s : Standing) (puts : ℕ → List ℕ) (w : World) (cmd : Cmd) (o : Offered) (k : IsSending fixed takes member x s puts w) (only : OpensBulk cmd) (offer : offered w.driver w.memory cmd ≡ Ok o) where
+  abbrev d : DriverContent
+  d = w.driver
+
+  abbrev now : ℕ → List ℕ
+  now = puts_then w.driver cmd puts
+
+  accepted : IsAccepted w.driver w.memory o
+  accepted = command_received d w.memory cmd o k.whole.feeding.turns.bulk only offer
+
+  sent_then : SentStand o.driver s.order s.out s.hand s.parts
+  sent_then = accepted_sends d w.memory o s.hand s.parts s.order s.out accepted k.sent
+
+  ended_then : EndedAreStopped o.driver s.parts
+  ended_then = accepted_ended d w.memory o s.parts accepted k.ended
+
+  held_then : IsOffered w.driver.room cmd → IsByteCommand cmd → HoldsPuts o.driver o.memory now
+  held_then room bytes =
+      let feeding = k.whole.feeding in
+      let place = feeding.working.place in
+      let tells = feeding.working.streaming.controlled.ring.tells in
+      command_holds d w.memory cmd o s.parts puts only room bytes offer place.sound.owners place.lent place.sound.stands feeding.turns tells feeding.queues.fed k.held
+
+  owes_then : HoldsPuts o.driver o.memory now → Owes o.driver o.memory now s.reported
+  owes_then still =
+      let feeding = k.whole.feeding in
+      let sound = feeding.working.place.sound in
+      command_owes d w.memory cmd o puts now s.reported only offer sound.owners sound.stands feeding.turns (then_before d cmd puts) k.held still k.owes
+
+  begin_then : TakenBegin taker_of o.driver now (wired fixed w)
+  begin_then = command_taken taker_of d w.memory cmd o puts now (wired fixed w) k.whole.feeding.turns only offer (then_before d cmd puts) k.begin
+
+accepted_sending : (fixed : Fixed) (takes : ℕ → ℕ → Bool) (member : ℕ → Bool) (x : Streams) (s : Standing) (puts : ℕ → List ℕ) (w : World) (line : ℕ) (name : EpName) (cmd : Cmd) (o : Offered) → OpensBulk cmd → IsByteCommand cmd → IsOffered w.driver.room cmd
+    → offered w.driver w.memory cmd ≡ Ok o → IsWhole fixed takes member x s (commanded_by w line name (Ok o)) → IsSending fixed takes member x s puts w
+    → IsSending fixed takes member x s (puts_then w.driver cmd puts) (commanded_by w line name (Ok o))
+accepted_sending fixed takes member x s puts w line name cmd o only bytes room offer whole k =
+    let held = held_then fixed takes member x s puts w cmd o k only offer room bytes in
+    record {
+      whole = whole;
+      sent = sent_then fixed takes member x s puts w cmd o k only offer;
+      ended = ended_then fixed takes member x s puts w cmd o k only offer;
+      held = held;
+      owes = owes_then fixed takes member x s puts w cmd o k only offer held;
+      begin = begin_then fixed takes member x s puts w cmd o k only offer;
+    }
+
+-- ---- either
+
+by_offer : (fixed : Fixed) (takes : ℕ → ℕ → Bool) (member : ℕ → Bool) (x : Streams) (s : Standing) (puts : ℕ → List ℕ) (w : World) (line : ℕ) (cmd : Cmd) (r : Result Offered OfferError) → OpensBulk cmd → IsByteCommand cmd → IsOffered w.driver.room cmd
+    → offered w.driver w.memory cmd ≡ r → IsWhole fixed takes member x s (commanded_by w line (name_in cmd) r) → IsSending fixed takes member x s puts w
+    → IsSending fixed takes member x s (puts_then w.driver cmd puts) (commanded_by w line (name_in cmd) r)
+by_offer fixed takes member x s puts w line cmd (Err why) only bytes room is whole k =
+    refused_sending fixed takes member x s puts (puts_then w.driver cmd puts) w line (name_in cmd) why (then_before w.driver cmd puts) whole k
+by_offer fixed takes member x s puts w line cmd (Ok o) only bytes room is whole k = accepted_sending fixed takes member x s puts w line (name_in cmd) cmd o only bytes room is whole k
+
+pub sending_commanded : (fixed : Fixed) (takes : ℕ → ℕ → Bool) (member : ℕ → Bool) (x : Streams) (s : Standing) (puts : ℕ → List ℕ) (w : World) (line : ℕ) (cmd : Cmd) → OpensBulk cmd → OpensTo x.stream takes cmd → OpensNumbered cmd → IsByteCommand cmd
+    → IsOffered w.driver.room cmd → IsSending fixed takes member x s puts w → IsSending fixed takes member x s (puts_then w.driver cmd puts) (commanded w line cmd)
+sending_commanded fixed takes member x s puts w line cmd only to fits bytes room k =
+    by_offer fixed takes member x s puts w line cmd (offered w.driver w.memory cmd) only bytes room refl (whole_commanded fixed takes member x s w line cmd only to fits room k.whole) k
+
+pub command_sending : CommandKeepsSending
+command_sending fixed takes member x s puts w line cmd only to fits bytes room k =
+    record { member = member; streams = x.streams; endpoint = x.endpoint; standing = s; sending = sending_commanded fixed takes member x s puts w line cmd only to fits bytes room k }

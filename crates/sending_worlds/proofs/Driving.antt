@@ -1,0 +1,25 @@
+-- Each event of the driver leaves a world sending.
+use Rattle.bus_world.specs.World.{driver_next}
+use Rattle.whole_worlds.proofs.Rows.{after_each}
+use Rattle.sending_worlds.specs.Sending.{HasSending}
+use Rattle.sending_worlds.specs.Laws.{DriverKeepsSending}
+use Rattle.sending_worlds.proofs.Still.{still_sending}
+use Rattle.sending_worlds.proofs.Lending.{lend_sending}
+use Rattle.sending_worlds.proofs.Storing.{store_sending}
+use Rattle.sending_worlds.proofs.OpenLending.{open_lend_sending}
+use Rattle.sending_worlds.proofs.Linking.{open_link_sending}
+use Rattle.sending_worlds.proofs.Harvesting.{harvest_sending}
+use Rattle.sending_worlds.proofs.Releasing.{release_sending}
+
+pub driver_sending : DriverKeepsSending
+driver_sending fixed takes member x s puts w k =
+    after_each fixed takes member x s w k.whole (HasSending fixed takes x.stream x.packets puts (driver_next w))
+    (record {
+      still = λ still. still_sending fixed takes member x s puts w still k;
+      lend = λ b words ready. lend_sending fixed takes member x s puts w b words ready k;
+      store = λ b words command made. store_sending fixed takes member x s puts w b words command made k;
+      open_lend = λ ready. open_lend_sending fixed takes member x s puts w ready k;
+      open_link = λ lent. open_link_sending fixed takes member x s puts w lent k;
+      harvest = λ e t found row. harvest_sending fixed takes member x s puts w e t found row k;
+      release = λ t row. release_sending fixed takes member x s puts w t row k;
+    })

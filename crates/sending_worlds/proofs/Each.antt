@@ -1,0 +1,114 @@
+-- What each event of the driver leaves of a world with what its driver has still to send: the buffers of puts hold their bytes, what the devices took begins their
+-- puts, the queue heads of endpoints that have ended are halted, and what is still to be sent stands behind what was reported.
+use Rattle.std.proofs.Common.{◌≡◌, ◌≢◌, ℕ, ◌*◌, Bool, false, List, [], slice_get, Option, Some, None, ap, refl, sym, subst, ◌∙◌}
+use Rattle.std.proofs.lemmas.Option.{same_Some}
+use Rattle.async_walk.specs.Rows.{place}
+use Rattle.driver_rows.specs.declared.content.Endpoint.{Endpoint}
+use Rattle.driver_rows.specs.declared.content.Command.{Command}
+use Rattle.driver_rows.specs.declared.content.Command.TheVariants as unfinished
+use Rattle.driver_rows.specs.declared.rows.DriverRow.TheVariants as rows
+use Rattle.driver_rows.specs.declared.rows.Found.{Found}
+use Rattle.driver_rows.specs.Rows.{driver_row}
+use Rattle.driver_rows.specs.Words.{queue_head}
+use Rattle.run_owners.specs.Due.{IsDue, IsHarvestDue}
+use Rattle.run_owners.specs.Kept.{HasOwners}
+use Rattle.run_owners.proofs.Reasons.{each_is_due}
+use Rattle.usb_bus.specs.Bus.{Fixed}
+use Rattle.ring_streams.specs.Told.{Endpoint as Told, endpoint_of}
+use Rattle.ring_out_pipes.specs.OutBus.{Taker}
+use Rattle.scripted_takers.specs.Takers.{taker_of}
+use Rattle.driver_parts.specs.Opened.{opening_base}
+use Rattle.driver_parts.specs.Driven.{DrivesRing}
+use Rattle.chained_transfers.specs.Bulk.{receives}
+use Rattle.chained_transfers.proofs.Ways.{way_sends}
+use Rattle.fed_queues.specs.Places.{IsMet, HasHead}
+use Rattle.opened_streams.specs.Unopened.{IsUnopened}
+use Rattle.out_rows.specs.Outs.{IsUntaken}
+use Rattle.bus_world.specs.World.{World, driver_parts, driver_next}
+use Rattle.world_streams.specs.Streaming.{Streams, Standing, wired}
+use Rattle.held_puts.specs.Puts.{HoldsPuts}
+use Rattle.held_puts.proofs.Rows.{driver_holds}
+use Rattle.owed_puts.specs.Owed.{Owes}
+use Rattle.owed_puts.specs.Taken.{TakenBegin, EndedAreStopped}
+use Rattle.owed_puts.proofs.Driver.{driver_owes}
+use Rattle.owed_puts.proofs.TakenRows.{driver_taken}
+use Rattle.owed_puts.proofs.TakenStopped.{alike_stopped}
+use Rattle.whole_worlds.specs.Taking.{outs_of}
+use Rattle.whole_worlds.proofs.Heads.{head_is}
+use Rattle.whole_worlds.proofs.TakingAlike.{out_on}
+use Rattle.whole_worlds.proofs.Returning.{stand}
+use Rattle.sending_worlds.specs.Sending.{IsSending}
+
+-- ---- rows that are no harvest
+
+abbrev pub HarvestsNone : World → Type 0
+HarvestsNone w = (e t : ℕ) (found : Found) → driver_row (driver_parts w) ≢ rows.Harvest e t found
+
+no_command : (o : Option Command) (c : Command) → o ≡ None → o ≡ Some c → ⊥
+no_command o c idle busy = let e : ◌≡◌ {A = Option Command} None (Some c) = sym idle ∙ busy in cc
+
+-- while a command is unfinished
+pub busy_harvests_none : (w : World) (c : Command) → w.driver.command ≡ Some c → HarvestsNone w
+busy_harvests_none w c busy e t found row =
+    let due : IsHarvestDue (driver_parts w) e t found = subst (IsDue (driver_parts w)) row (each_is_due (driver_parts w)) in
+    no_command w.driver.command c due.idle busy
+
+-- ---- each event
+
+module _ (fixed : Fixed) (takes : ℕ → ℕ → Bool) (member : ℕ → Bool) (x : Streams) (s : Standing) (puts : ℕ → List ℕ) (w : World) (k : IsSending fixed takes member x s puts w) where
+  abbrev pub owners : HasOwners w.driver
+  owners = k.whole.feeding.working.place.sound.owners
+
+  abbrev pub drives : DrivesRing opening_base member s.parts s.hand (place w.control.walk w.registers w.memory) w.driver
+  drives = record { ring = k.whole.feeding.working.streaming.controlled.ring; driven = k.whole.feeding.working.driven }
+
+  pub held_then : HoldsPuts (driver_next w).driver (driver_next w).memory puts
+  held_then =
+      driver_holds opening_base member s.parts s.hand w.control.walk (driver_parts w) s.order s.out puts owners k.whole.feeding.turns drives k.whole.feeding.queues.fed
+      (λ t row. stand fixed takes member x s w t row k.whole) k.held
+
+  -- ---- what devices took
+
+  -- no other endpoint has the name of the one that is being opened
+  pub unopened : (e : ℕ) (z : Endpoint) → slice_get w.driver.endpoints e ≡ Some z → w.driver.command ≡ Some (unfinished.Open z.queue) → receives z.desc.name.way ≡ false
+      → IsUnopened (outs_of member x.streams) x.endpoint z.desc.name.addr z.desc.name.num
+  unopened e z here opens sends n on addr num =
+      let queues = k.whole.feeding.queues in
+      let out = out_on member x.streams n on in
+      let h : HasHead w.driver n = head_is w.driver member n queues.met out.1 in
+      let told = queues.streams_are.each h.number h.endpoint h.here h.met in
+      let is : x.endpoint n ≡ endpoint_of (queue_head h.endpoint.desc 0 h.endpoint.dummy) = ap x.endpoint h.at ∙ told.1 in
+      let too : receives h.endpoint.desc.name.way ≡ false = sym told.0 ∙ ap x.streams (sym h.at) ∙ out.0 in
+      let number : h.number ≡ e =
+      k.whole.names h.number e h.endpoint z h.here here (sym (ap (λ (y : Told). y.addr) is) ∙ addr) (sym (ap (λ (y : Told). y.ep) is) ∙ num)
+      (way_sends h.endpoint.desc.name.way too ∙ sym (way_sends z.desc.name.way sends)) in
+      let same : h.endpoint ≡ z = same_Some h.endpoint z (sym h.here ∙ ap (slice_get w.driver.endpoints) number ∙ here) in
+      h.met (opens ∙ ap (λ (y : Endpoint). Some (unfinished.Open y.queue)) (sym same))
+
+  pub nothing_taken : (e : ℕ) (z : Endpoint) (t : Taker) → slice_get w.driver.endpoints e ≡ Some z → w.driver.command ≡ Some (unfinished.Open z.queue) → receives z.desc.name.way ≡ false
+      → taker_of (wired fixed w) z.desc.name.addr z.desc.name.num ≡ Some t → t.taken ≡ []
+  nothing_taken e z t here opens sends is =
+      let u : IsUntaken (taker_of (wired fixed w) z.desc.name.addr z.desc.name.num) =
+      k.whole.taking.untaken z.desc.name.addr z.desc.name.num (k.whole.takers e z here sends) (unopened e z here opens sends) in
+      ap (λ (v : Taker). v.taken) (same_Some t u.taker (sym is ∙ u.is)) ∙ u.none
+
+  pub begin_then : TakenBegin taker_of (driver_next w).driver puts (wired fixed (driver_next w))
+  begin_then = driver_taken taker_of (driver_parts w) puts (wired fixed w) nothing_taken k.begin
+
+  -- ---- rows that are no harvest
+
+  pub ended_alike : HarvestsNone w → EndedAreStopped (driver_next w).driver s.parts
+  ended_alike none = alike_stopped (driver_parts w) s.parts k.whole.feeding.turns none k.ended
+
+  -- `told` tells what was reported of queues that the walk may meet, and nothing of one whose open is finished
+  pub owes_then : (told : ℕ → List ℕ) → HarvestsNone w
+      → ((e : ℕ) (z : Endpoint) → slice_get w.driver.endpoints e ≡ Some z → IsMet w.driver z → told (32 * z.queue) ≡ s.reported (32 * z.queue))
+      → ((e : ℕ) (z : Endpoint) → slice_get w.driver.endpoints e ≡ Some z → w.driver.command ≡ Some (unfinished.Open z.queue) → IsMet (driver_next w).driver z → told (32 * z.queue) ≡ [])
+      → Owes (driver_next w).driver (driver_next w).memory puts told
+  owes_then told none met opened = driver_owes (driver_parts w) puts s.reported told owners k.whole.feeding.turns none met opened k.held held_then k.owes
+
+  -- no open is finished
+  pub owes_same : HarvestsNone w
+      → ((e : ℕ) (z : Endpoint) → slice_get w.driver.endpoints e ≡ Some z → w.driver.command ≡ Some (unfinished.Open z.queue) → IsMet (driver_next w).driver z → ⊥)
+      → Owes (driver_next w).driver (driver_next w).memory puts s.reported
+  owes_same none opens = owes_then s.reported none (λ e z here met. refl) (λ e z here is met. absurd (opens e z here is met))

@@ -1,0 +1,14 @@
+pub mod Opening
+pub mod Beside
+pub mod Commanding
+pub mod Each
+pub mod Still
+pub mod Lending
+pub mod Storing
+pub mod OpenLending
+pub mod Linking
+pub mod Harvesting
+pub mod Releasing
+pub mod Driving
+pub mod Reporting
+pub mod Moments

@@ -1,0 +1,105 @@
+-- Where the opening, each event and each command leave a world sending, it is so at each moment: what devices took begins the streams of its report.
+use Rattle.std.proofs.Common.{ℕ, Bool, List, [], ◌∷◌}
+use Rattle.std.specs.List.{AllByRecursion}
+use Rattle.usb_base.specs.declared.commands.Cmd.{Cmd}
+use Rattle.script_types.specs.declared.scripts.Line.{Line}
+use Rattle.script_types.specs.declared.scripts.Line.TheVariants as lines
+use Rattle.script_types.specs.declared.scripts.Script.{Script}
+use Rattle.script_text.specs.Faults.{Spells}
+use Rattle.byte_answers.specs.Bytes.{IsByteCommand, IsByteLine}
+use Rattle.usb_bus.specs.Bus.{fixed_of}
+use Rattle.bus_world.specs.World.{World}
+use Rattle.bus_world.specs.Budgets.{moment}
+use Rattle.world_streams.specs.Streaming.{Streams}
+use Rattle.taken_reports.proofs.Seating.{moment_seated}
+use Rattle.chained_transfers.specs.Bulk.{BulkOnly}
+use Rattle.receiving_runs.specs.Runs.{KindOfLine}
+use Rattle.out_rows.specs.Takers.{takes_of}
+use Rattle.taken_puts.specs.Puts.{puts_at}
+use Rattle.taken_puts.specs.Laws.{IsKeptWithPuts, StreamsArePuts}
+use Rattle.taken_puts.proofs.Along.{holds_with_puts}
+use Rattle.taken_puts.proofs.Ends.{moment_streams}
+use Rattle.taken_puts.proofs.Rising.{spelled_rise}
+use Rattle.sent_reports.proofs.Sending.{report_sent, report_right}
+use Rattle.whole_worlds.specs.Feeding.{streams_of}
+use Rattle.whole_worlds.proofs.Moments.{CanBe, script_can, spelled_bulk}
+use Rattle.whole_worlds.proofs.Running.{texts_right, texts_taken}
+use Rattle.whole_worlds.proofs.PlacedRunning.{texts_run_in_place}
+use Rattle.whole_worlds.proofs.Counting.{never_refused}
+use Rattle.sending_worlds.specs.Sending.{HasSending}
+use Rattle.sending_worlds.specs.Moments.{ScriptsStaySending, TextsAreSent, TextsEndRight}
+use Rattle.sending_worlds.specs.Kept.{TextsKeepStreams, TextsKeepPlaces}
+use Rattle.sending_worlds.proofs.Opening.{new_world_sends}
+use Rattle.sending_worlds.proofs.Beside.{controller_sending}
+use Rattle.sending_worlds.proofs.Commanding.{command_sending}
+use Rattle.sending_worlds.proofs.Driving.{driver_sending}
+use Rattle.sending_worlds.proofs.Reporting.{takes_puts, have_takers}
+
+-- ---- the commands of such a script
+
+abbrev CanBeSent : (ℕ → ℕ → Bool) → (ℕ → ℕ → Bool) → Cmd → Type 0
+CanBeSent stream takes cmd = CanBe stream takes cmd × IsByteCommand cmd
+
+line_sent : (s : Script) (l : Line) → KindOfLine (CanBe (streams_of s).stream (takes_of s)) l → IsByteLine l → KindOfLine (CanBeSent (streams_of s).stream (takes_of s)) l
+line_sent s (lines.Order event count) can bytes = tt
+line_sent s (lines.Micro count) can bytes = tt
+line_sent s (lines.Command cmd) can bytes = (can, bytes)
+
+lines_sent : (s : Script) (xs : List (ℕ × Line)) → AllByRecursion (λ x. KindOfLine (CanBe (streams_of s).stream (takes_of s)) x.1) xs → AllByRecursion (λ x. IsByteLine x.1) xs
+    → AllByRecursion (λ x. KindOfLine (CanBeSent (streams_of s).stream (takes_of s)) x.1) xs
+lines_sent s [] can bytes = tt
+lines_sent s (x ∷ xs) can bytes = (line_sent s x.1 can.0 bytes.0, lines_sent s xs can.1 bytes.1)
+
+-- ---- each moment
+
+abbrev Sends : Script → World → (ℕ → List ℕ) → Type 0
+Sends s w puts = HasSending (fixed_of s) (takes_of s) (streams_of s).stream (streams_of s).packets puts w
+
+abbrev with_streams : (s : Script) (w : World) (puts : ℕ → List ℕ) → Sends s w puts → Streams
+with_streams s w puts h = record { stream = (streams_of s).stream; packets = (streams_of s).packets; streams = h.streams; endpoint = h.endpoint }
+
+is_kept : (s : Script) → IsKeptWithPuts (fixed_of s) (CanBeSent (streams_of s).stream (takes_of s)) (Sends s)
+is_kept s = record {
+  driver = λ w puts h. driver_sending (fixed_of s) (takes_of s) h.member (with_streams s w puts h) h.standing puts w h.sending;
+  controller = λ w puts h. controller_sending (fixed_of s) (takes_of s) h.member (with_streams s w puts h) h.standing puts w h.sending;
+  command = λ w line cmd puts can offered h.
+      command_sending (fixed_of s) (takes_of s) h.member (with_streams s w puts h) h.standing puts w line cmd can.0.0 can.0.1 can.0.2 can.1 offered h.sending;
+}
+
+pub stay_sending : ScriptsStaySending
+stay_sending s is k =
+    holds_with_puts (CanBeSent (streams_of s).stream (takes_of s)) (Sends s) s is.fits (lines_sent s s.lines (script_can s is) is.bytes.lines) (new_world_sends s is.fits is.bytes) (is_kept s) k
+
+sends_at : (text : List ℕ) (s : Script) → Spells text s → BulkOnly s → (k : ℕ) → Sends s (moment s k).world (puts_at s k)
+sends_at text s spelled only k = stay_sending s (spelled_bulk text s spelled only) k
+
+puts_streams : (text : List ℕ) (s : Script) → Spells text s → (k : ℕ) → StreamsArePuts s (moment s k) (puts_at s k)
+puts_streams text s spelled k = moment_streams s (spelled_rise text s spelled) k
+
+pub texts_sent : TextsAreSent
+texts_sent text s spelled only k =
+    let h = sends_at text s spelled only k in
+    let w : World = (moment s k).world in
+    report_sent s (moment s k) (puts_at s k) only (moment_seated text s k spelled) (puts_streams text s spelled k) h.sending.whole.feeding.turns.bulk
+    (have_takers (fixed_of s) (takes_of s) h.member (with_streams s w (puts_at s k) h) h.standing (puts_at s k) w h.sending)
+    (takes_puts (fixed_of s) (takes_of s) h.member (with_streams s w (puts_at s k) h) h.standing (puts_at s k) w h.sending)
+
+pub texts_end_right : TextsEndRight
+texts_end_right text s spelled only k over =
+    let h = sends_at text s spelled only k in
+    let w : World = (moment s k).world in
+    report_right s (moment s k) (puts_at s k) only (moment_seated text s k spelled) (puts_streams text s spelled k)
+    (have_takers (fixed_of s) (takes_of s) h.member (with_streams s w (puts_at s k) h) h.standing (puts_at s k) w h.sending)
+    (takes_puts (fixed_of s) (takes_of s) h.member (with_streams s w (puts_at s k) h) h.standing (puts_at s k) w h.sending)
+    over (texts_right text s spelled only k) (texts_taken text s spelled only k)
+
+pub texts_keep_streams : TextsKeepStreams
+texts_keep_streams text s spelled only = record {
+  ins = texts_right text s spelled only;
+  taken = texts_taken text s spelled only;
+  sent = texts_sent text s spelled only;
+  at_the_end = texts_end_right text s spelled only;
+}
+
+pub texts_keep_places : TextsKeepPlaces
+texts_keep_places text s spelled only = record { placed = texts_run_in_place text s spelled only; unrefused = never_refused text s spelled only }

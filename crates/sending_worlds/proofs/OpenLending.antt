@@ -1,0 +1,60 @@
+-- The lend of an open's structures leaves a world so: the walk doesn't meet the new queue head yet, and nothing of it is out.
+use Rattle.std.proofs.Common.{◌≡◌, ℕ, ◌*◌, Bool, List, ap, sym, ◌∙◌}
+use Rattle.driver_rows.specs.declared.content.Command.TheVariants as unfinished
+use Rattle.driver_rows.specs.DriverContent.{DriverContent}
+use Rattle.lent_structures.specs.Structures.{StructureSets}
+use Rattle.usb_bus.specs.Bus.{Fixed}
+use Rattle.bus_world.specs.World.{World, driver_parts, driver_next}
+use Rattle.world_streams.specs.Streaming.{Streams, Standing}
+use Rattle.open_lends.specs.Lends.{IsOpenReady, parts_lent}
+use Rattle.sent_rows.specs.Sent.{SentStand}
+use Rattle.sent_rows.proofs.OpenLending.{open_lend_sends}
+use Rattle.owed_puts.specs.Owed.{Owes}
+use Rattle.owed_puts.specs.Taken.{EndedAreStopped}
+use Rattle.owed_puts.proofs.TakenStopped.{spared_stopped}
+use Rattle.whole_worlds.proofs.OpenLending.{driver_is, spares_head, open_lent}
+use Rattle.sending_worlds.specs.Sending.{IsSending}
+use Rattle.sending_worlds.specs.Laws.{OpenLendKeepsSending}
+use Rattle.sending_worlds.proofs.Each.{HarvestsNone, busy_harvests_none, owners, held_then, begin_then, ended_alike, owes_same}
+
+module _ (fixed : Fixed) (takes : ℕ → ℕ → Bool) (member : ℕ → Bool) (x : Streams) (s : Standing) (puts : ℕ → List ℕ) (w : World) (ready : IsOpenReady w.driver w.memory) (k : IsSending fixed takes member x s puts w) where
+  abbrev now : StructureSets
+  now = parts_lent s.parts ready
+
+  harvests_none : HarvestsNone w
+  harvests_none = busy_harvests_none w (unfinished.Open ready.endpoint.queue) ready.command
+
+  -- the open isn't finished
+  still_open : (driver_next w).driver.command ≡ w.driver.command
+  still_open = sym (ap (λ (d : DriverContent). d.command) (driver_is (driver_parts w) ready (owners fixed takes member x s puts w k) s.parts k.whole.feeding.working.driven))
+
+  sent_then : SentStand (driver_next w).driver s.order s.out s.hand now
+  sent_then = open_lend_sends s.hand (driver_parts w) s.parts s.order s.out ready k.sent
+
+  ended_then : EndedAreStopped (driver_next w).driver now
+  ended_then =
+      spared_stopped (driver_next w).driver s.parts now
+      (λ e z here. spares_head (driver_parts w) ready (owners fixed takes member x s puts w k) s.parts k.whole.feeding.working.driven (32 * z.queue))
+      (ended_alike fixed takes member x s puts w k harvests_none)
+
+  owes_then : Owes (driver_next w).driver (driver_next w).memory puts s.reported
+  owes_then = owes_same fixed takes member x s puts w k harvests_none (λ e z here opens met. met (still_open ∙ opens))
+
+  pub sending_open_lent : IsSending fixed takes member x (record s { parts = now }) puts (driver_next w)
+  sending_open_lent = record {
+    whole = open_lent fixed takes member x s w ready k.whole;
+    sent = sent_then;
+    ended = ended_then;
+    held = held_then fixed takes member x s puts w k;
+    owes = owes_then;
+    begin = begin_then fixed takes member x s puts w k;
+  }
+
+pub open_lend_sending : OpenLendKeepsSending
+open_lend_sending fixed takes member x s puts w ready k = record {
+  member = member;
+  streams = x.streams;
+  endpoint = x.endpoint;
+  standing = record s { parts = parts_lent s.parts ready };
+  sending = sending_open_lent fixed takes member x s puts w ready k;
+}

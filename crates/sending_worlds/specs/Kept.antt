@@ -1,0 +1,31 @@
+-- Scripts of high-speed bulk endpoints, at each moment of their runs (EHCI 1.0, 4.6, 4.8 and 4.10; USB 2.0, 5.8 and 8.6).
+--     KeepsStreamsThroughout s   what is told of each IN endpoint begins its stream, each byte once and in order, and nothing follows its end; what is told of each OUT
+--                                endpoint begins the bytes that its device took, as its closing line tells them, and these begin what was put to it; once no line
+--                                is left to do, these are all streams
+--     KeepsPlaces s              nothing of the driver is out of place, the ring in memory is the head and each opened queue head, and the controller runs, meets no
+--                                fault and is refused no word (4.15.2.4)
+--     TextsKeepStreams, TextsKeepPlaces     the laws, of each script that a text spells
+use Rattle.std.specs.Prelude.{◌≡◌, ℕ, List}
+use Rattle.script_types.specs.declared.scripts.Script.{Script}
+use Rattle.script_text.specs.Faults.{Spells}
+use Rattle.bus_world.specs.Budgets.{moment}
+use Rattle.chained_transfers.specs.Bulk.{BulkOnly}
+use Rattle.whole_worlds.specs.Moments.{InStreamsAreRightThroughout, OutStreamsAreTakenThroughout}
+use Rattle.whole_worlds.specs.Placed.{RunsInPlaceThroughout}
+use Rattle.sending_worlds.specs.Moments.{OutStreamsAreSentThroughout, StreamsAreRightAtTheEnd}
+
+pub record KeepsStreamsThroughout (s : Script) : Type 0 where
+  pub ins : InStreamsAreRightThroughout s
+  pub taken : OutStreamsAreTakenThroughout s
+  pub sent : OutStreamsAreSentThroughout s
+  pub at_the_end : StreamsAreRightAtTheEnd s
+
+pub record KeepsPlaces (s : Script) : Type 0 where
+  pub placed : RunsInPlaceThroughout s
+  pub unrefused : (k : ℕ) → (moment s k).world.memory.foreign ≡ 0
+
+abbrev pub TextsKeepStreams : Type 0
+TextsKeepStreams = (text : List ℕ) (s : Script) → Spells text s → BulkOnly s → KeepsStreamsThroughout s
+
+abbrev pub TextsKeepPlaces : Type 0
+TextsKeepPlaces = (text : List ℕ) (s : Script) → Spells text s → BulkOnly s → KeepsPlaces s

@@ -1,0 +1,4 @@
+pub mod Sending
+pub mod Laws
+pub mod Moments
+pub mod Kept

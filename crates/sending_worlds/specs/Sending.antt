@@ -1,0 +1,33 @@
+-- A world whose endpoints are all bulk ones, with what its driver has still to send (EHCI 1.0, 3.5.4 and 4.10; USB 2.0, 5.8 and 8.6).
+--     IsSending fixed takes member x s puts w     the world is whole, and so is what each OUT endpoint is sent; `puts` tells the bytes of each put by the number of
+--                                                 its transfer
+--     HasSending fixed takes stream packets puts w     .. for some queue heads with streams, and some structures
+use Rattle.std.specs.Prelude.{ℕ, Bool, List}
+use Rattle.ring_streams.specs.Told.{Endpoint as Told}
+use Rattle.scripted_takers.specs.Takers.{taker_of}
+use Rattle.usb_bus.specs.Bus.{Fixed}
+use Rattle.bus_world.specs.World.{World}
+use Rattle.world_streams.specs.Streaming.{Streams, Standing, wired}
+use Rattle.held_puts.specs.Puts.{HoldsPuts}
+use Rattle.sent_rows.specs.Sent.{SentStand}
+use Rattle.owed_puts.specs.Owed.{Owes}
+use Rattle.owed_puts.specs.Taken.{TakenBegin, EndedAreStopped}
+use Rattle.whole_worlds.specs.Whole.{IsWhole}
+
+pub record IsSending (fixed : Fixed) (takes : ℕ → ℕ → Bool) (member : ℕ → Bool) (x : Streams) (s : Standing) (puts : ℕ → List ℕ) (w : World) : Type 0 where
+  pub whole : IsWhole fixed takes member x s w
+  -- its qTDs are sent whole and in turn, and once it has ended its queue head is halted
+  pub sent : SentStand w.driver s.order s.out s.hand s.parts
+  pub ended : EndedAreStopped w.driver s.parts
+  -- the buffers of its puts hold their bytes; what was reported of it, and behind that what is still to be sent, are its puts
+  pub held : HoldsPuts w.driver w.memory puts
+  pub owes : Owes w.driver w.memory puts s.reported
+  -- what its device took begins them
+  pub begin : TakenBegin taker_of w.driver puts (wired fixed w)
+
+pub record HasSending (fixed : Fixed) (takes : ℕ → ℕ → Bool) (stream : ℕ → ℕ → Bool) (packets : ℕ → ℕ → List (List ℕ)) (puts : ℕ → List ℕ) (w : World) : Type 0 where
+  pub member : ℕ → Bool
+  pub streams : ℕ → Bool
+  pub endpoint : ℕ → Told
+  pub standing : Standing
+  pub sending : IsSending fixed takes member (record { stream = stream; packets = packets; streams = streams; endpoint = endpoint }) standing puts w

@@ -1,0 +1,4 @@
+pub mod Named
+pub mod Untold
+pub mod Sending
+pub mod Sampling
