@@ -1,4 +1,4 @@
--- Each command of a script of bulk endpoints, where it is accepted, opens an endpoint or is a get or a put.
+-- Each command of a script of bulk endpoints, where it is accepted, opens an endpoint, is a get or a put, or cancels an endpoint.
 use Rattle.std.proofs.Common.{◌≡◌, ℕ, ◌≤◌, Bool, true, false, ◌&&◌, cond, nat_lt, List, [], ◌∷◌, ◌++◌, length, get_or, slice_get, Option, Some, None, Result, Ok, Err, unwrap_or, ap, sym, subst, ◌∙◌, inl, inr, refl, arith}
 use Rattle.std.specs.Prelude.{option_and_then, is_some, position}
 use Rattle.std.proofs.lemmas.Bool.{false≢true}
@@ -12,12 +12,12 @@ use Rattle.usb_base.specs.declared.commands.Cmd.{Cmd}
 use Rattle.usb_base.specs.declared.commands.Cmd.TheVariants as commands
 use Rattle.usb_base.specs.declared.reports.OfferError.{OfferError}
 use Rattle.usb_base.specs.declared.reports.OfferError.TheVariants as errors
-use Rattle.usb_base.specs.declared.packets.EpKind.TheVariants as kinds
 use Rattle.usb_base.specs.declared.packets.Way.{Way}
 use Rattle.usb_base.specs.declared.packets.Way.TheVariants as ways
 use Rattle.word_mem.specs.Memory.{Mem}
 use Rattle.run_book.specs.Book.{Holding, holding}
 use Rattle.periodic_rows.specs.Periodic.{is_periodic, want_of}
+use Rattle.bandwidth.specs.declared.placements.Placement.{Placement}
 use Rattle.bandwidth.specs.Admission.{answer}
 use Rattle.driver_rows.specs.declared.content.Endpoint.{Endpoint}
 use Rattle.driver_rows.specs.declared.content.Command.{Command}
@@ -25,10 +25,11 @@ use Rattle.driver_rows.specs.declared.content.Sort.TheVariants as sorts
 use Rattle.driver_rows.specs.Rows.{is_iso}
 use Rattle.driver_rows.specs.DriverContent.{DriverContent, is_same_way, endpoint_of, endpoint_named}
 use Rattle.driver_rows.specs.Words.{request_length, request_stages, needs, is_control}
-use Rattle.driver_rows.specs.Offers.{Offered, Asked, take_runs, taken_open, planned_open, offered_open, taken_transfer, open_transfer, found_transfer, is_queued, takes_get, takes_put, takes_control, offered_iso, offered_next, offered}
+use Rattle.driver_rows.specs.Offers.{Offered, Asked, take_runs, taken_open, planned_open, offered_open, taken_transfer, open_transfer, found_transfer, is_queued, takes_get, takes_put, takes_control, offered_iso, cancelled_by, offered_cancel, offered_next, offered}
 use Rattle.run_owners.specs.Owners.{is_descriptor}
-use Rattle.run_owners.specs.Accepts.{AreShort}
-use Rattle.chained_transfers.specs.Bulk.{IsBulk, OpensBulk, IsStanding, OnlyBulk}
+use Rattle.run_owners.specs.Accepts.{AreShort, Cancels}
+use Rattle.chained_transfers.specs.Bulk.{IsBulk, OpensBulk, OnlyBulk}
+use Rattle.chained_transfers.specs.Leaving.{OpensOrCancelsBulk, IsAcceptedAs}
 use Rattle.chained_transfers.specs.Accepted.{move_of, IsOpened, IsAsked, IsAccepted}
 use Rattle.chained_transfers.proofs.Ways.{sort_queued, same_in, same_out, stages_short, stages_some}
 
@@ -46,7 +47,11 @@ get_move way len by is = record { is = ap (λ (w : Way). move_of w len by []) (s
 put_move : (way : Way) (bytes : List ℕ) (by : ℕ) → way ≡ ways.Out → IsMove way (move_of ways.Out (length bytes) by bytes) (length bytes) by bytes
 put_move way bytes by is = record { is = ap (λ (w : Way). move_of w (length bytes) by bytes) (sym is); whole = λ out. refl }
 
-module _ (d : DriverContent) (m : Mem) (o : Offered) (idle : d.command ≡ None) (bulk : OnlyBulk d) where
+-- each endpoint is a bulk one
+abbrev pub EachIsBulk : DriverContent → Type 0
+EachIsBulk d = (e : ℕ) (x : Endpoint) → slice_get d.endpoints e ≡ Some x → IsBulk x.desc × (x.placement ≡ None)
+
+module _ (d : DriverContent) (m : Mem) (o : Offered) (idle : d.command ≡ None) (bulk : EachIsBulk d) where
   -- ---- a get or a put
 
   taken_move : (e : ℕ) (x : Endpoint) (a : Asked) (most by : ℕ) (bytes : List ℕ) (r : Result Holding OfferError) → slice_get d.endpoints e ≡ Some x → x.ended ≡ None → is_iso x.desc.kind ≡ false → IsMove x.desc.name.way a most by bytes → most ≤ 20480
@@ -90,12 +95,12 @@ module _ (d : DriverContent) (m : Mem) (o : Offered) (idle : d.command ≡ None)
   ended_move e x a most by bytes None here ended queued moves f = long_move e x a most by bytes (nat_lt 20480 a.most) here ended queued moves refl f
 
   -- each endpoint that takes it moves these bytes
-  module _ (takes : Endpoint → Bool) (a : Asked) (most by : ℕ) (bytes : List ℕ) (fits : (x : Endpoint) → IsStanding x → takes x ≡ true → IsMove x.desc.name.way a most by bytes) where
+  module _ (takes : Endpoint → Bool) (a : Asked) (most by : ℕ) (bytes : List ℕ) (fits : (x : Endpoint) → IsBulk x.desc → takes x ≡ true → IsMove x.desc.name.way a most by bytes) where
     takes_one : (e : ℕ) (x : Endpoint) (b : Bool) → slice_get d.endpoints e ≡ Some x → takes x ≡ b → cond b (open_transfer d m e x a x.ended) (Err errors.NoEndpoint) ≡ Ok o → IsAsked d m o
     takes_one e x false here is f = absurd (cc)
     takes_one e x true here is f =
-        let s = bulk.endpoints e x here in
-        ended_move e x a most by bytes x.ended here refl (ap is_iso s.bulk.kind) (fits x s is) f
+        let s = (bulk e x here).0 in
+        ended_move e x a most by bytes x.ended here refl (ap is_iso s.kind) (fits x s is) f
 
     found_move : (e : ℕ) (q : Option Endpoint) → slice_get d.endpoints e ≡ q → found_transfer d m takes a e q ≡ Ok o → IsAsked d m o
     found_move e None here f = absurd (cc)
@@ -105,11 +110,11 @@ module _ (d : DriverContent) (m : Mem) (o : Offered) (idle : d.command ≡ None)
     named_move None f = absurd (cc)
     named_move (Some e) f = found_move e (slice_get d.endpoints e) refl f
 
-  gets_in : (x : Endpoint) → IsStanding x → takes_get x ≡ true → x.desc.name.way ≡ ways.In
-  gets_in x s is = same_in x.desc.name.way (sym (ap (λ k. is_queued k && is_same_way x.desc.name.way ways.In) s.bulk.kind) ∙ is)
+  gets_in : (x : Endpoint) → IsBulk x.desc → takes_get x ≡ true → x.desc.name.way ≡ ways.In
+  gets_in x s is = same_in x.desc.name.way (sym (ap (λ k. is_queued k && is_same_way x.desc.name.way ways.In) s.kind) ∙ is)
 
-  puts_out : (x : Endpoint) → IsStanding x → takes_put x ≡ true → x.desc.name.way ≡ ways.Out
-  puts_out x s is = same_out x.desc.name.way (sym (ap (λ k. is_queued k && is_same_way x.desc.name.way ways.Out) s.bulk.kind) ∙ is)
+  puts_out : (x : Endpoint) → IsBulk x.desc → takes_put x ≡ true → x.desc.name.way ≡ ways.Out
+  puts_out x s is = same_out x.desc.name.way (sym (ap (λ k. is_queued k && is_same_way x.desc.name.way ways.Out) s.kind) ∙ is)
 
   -- ---- what no endpoint takes
 
@@ -117,17 +122,17 @@ module _ (d : DriverContent) (m : Mem) (o : Offered) (idle : d.command ≡ None)
   takes_none e x a false off f = cc
   takes_none e x a true off f = cc
 
-  found_none : (takes : Endpoint → Bool) (a : Asked) (e : ℕ) (q : Option Endpoint) → ((x : Endpoint) → IsStanding x → takes x ≡ false) → slice_get d.endpoints e ≡ q → found_transfer d m takes a e q ≡ Ok o → ⊥
+  found_none : (takes : Endpoint → Bool) (a : Asked) (e : ℕ) (q : Option Endpoint) → ((x : Endpoint) → IsBulk x.desc → takes x ≡ false) → slice_get d.endpoints e ≡ q → found_transfer d m takes a e q ≡ Ok o → ⊥
   found_none takes a e None not here f = cc
-  found_none takes a e (Some x) not here f = takes_none e x a (takes x) (not x (bulk.endpoints e x here)) f
+  found_none takes a e (Some x) not here f = takes_none e x a (takes x) (not x (bulk e x here).0) f
 
-  named_none : (takes : Endpoint → Bool) (a : Asked) (q : Option ℕ) → ((x : Endpoint) → IsStanding x → takes x ≡ false)
+  named_none : (takes : Endpoint → Bool) (a : Asked) (q : Option ℕ) → ((x : Endpoint) → IsBulk x.desc → takes x ≡ false)
       → found_transfer d m takes a (unwrap_or q 0) (option_and_then (λ e. slice_get d.endpoints e) q) ≡ Ok o → ⊥
   named_none takes a None not f = cc
   named_none takes a (Some e) not f = found_none takes a e (slice_get d.endpoints e) not refl f
 
-  no_control : (x : Endpoint) → IsStanding x → takes_control x ≡ false
-  no_control x s = ap is_control s.bulk.kind
+  no_control : (x : Endpoint) → IsBulk x.desc → takes_control x ≡ false
+  no_control x s = ap is_control s.kind
 
   iso_at : (e : ℕ) (x : Endpoint) (b : Bool) (r : Result Offered OfferError) → b ≡ false → cond b r (Err errors.NoEndpoint) ≡ Ok o → ⊥
   iso_at e x false r off f = cc
@@ -135,7 +140,7 @@ module _ (d : DriverContent) (m : Mem) (o : Offered) (idle : d.command ≡ None)
 
   iso_found : (e n len seed : ℕ) (q : Option Endpoint) → slice_get d.endpoints e ≡ q → offered_iso d m e n len seed q ≡ Ok o → ⊥
   iso_found e n len seed None here f = cc
-  iso_found e n len seed (Some x) here f = iso_at e x (is_iso x.desc.kind) _ (ap is_iso (bulk.endpoints e x here).bulk.kind) f
+  iso_found e n len seed (Some x) here f = iso_at e x (is_iso x.desc.kind) _ (ap is_iso (bulk e x here).0.kind) f
 
   iso_named : (n len seed : ℕ) (q : Option ℕ) → offered_iso d m (unwrap_or q 0) n len seed (option_and_then (λ e. slice_get d.endpoints e) q) ≡ Ok o → ⊥
   iso_named n len seed None f = cc
@@ -178,7 +183,25 @@ module _ (d : DriverContent) (m : Mem) (o : Offered) (idle : d.command ≡ None)
   open_one x None None is named at some f = new_one x (is_periodic x.kind) is named refl f
   open_one x (Some e) None is named at some f = let y = some e refl in let w : Some y.0 ≡ None = sym y.1 ∙ at in absurd (cc)
 
-  next_accepted : (cmd : Cmd) → OpensBulk cmd → offered_next d m cmd ≡ Ok o → IsAccepted d m o
+  -- ---- a cancel
+
+  cancelled_ring : (e : ℕ) (x : Endpoint) (p : Option Placement) → slice_get d.endpoints e ≡ Some x → x.cancelled ≡ false → x.placement ≡ p → p ≡ None → ◌≡◌ {A = Result Offered OfferError} (Ok (record { driver = cancelled_by d e x p; memory = m })) (Ok o) → Cancels d m o
+  cancelled_ring e x None here fresh is none f = record { number = e; endpoint = x; idle = idle; here = here; fresh = fresh; ring = is; is = ok_is _ o f }
+  cancelled_ring e x (Some p) here fresh is none f = absurd (cc)
+
+  cancelled_one : (e : ℕ) (x : Endpoint) (b : Bool) → slice_get d.endpoints e ≡ Some x → x.cancelled ≡ b → cond b (Err (errors.Closed causes.Cancel)) (Ok (record { driver = cancelled_by d e x x.placement; memory = m })) ≡ Ok o → Cancels d m o
+  cancelled_one e x true here is f = absurd (cc)
+  cancelled_one e x false here is f = cancelled_ring e x x.placement here is refl (bulk e x here).1 f
+
+  cancelled_at : (e : ℕ) (q : Option Endpoint) → slice_get d.endpoints e ≡ q → offered_cancel d m e q ≡ Ok o → Cancels d m o
+  cancelled_at e None here f = absurd (cc)
+  cancelled_at e (Some x) here f = cancelled_one e x x.cancelled here refl f
+
+  cancelled_named : (q : Option ℕ) → offered_cancel d m (unwrap_or q 0) (option_and_then (λ e. slice_get d.endpoints e) q) ≡ Ok o → Cancels d m o
+  cancelled_named None f = absurd (cc)
+  cancelled_named (Some e) f = cancelled_at e (slice_get d.endpoints e) refl f
+
+  next_accepted : (cmd : Cmd) → OpensOrCancelsBulk cmd → offered_next d m cmd ≡ Ok o → IsAcceptedAs d m o cmd
   next_accepted (commands.OpenEp x) is f =
       inl (open_one x (endpoint_of d x.name) (endpoint_named d x.name) is refl refl (λ e at. found_there d.endpoints _ e at) f)
   next_accepted (commands.Get name len by) is f =
@@ -187,11 +210,33 @@ module _ (d : DriverContent) (m : Mem) (o : Offered) (idle : d.command ≡ None)
       inr (named_move takes_put (move_of ways.Out (length bytes) by bytes) (length bytes) by bytes (λ x s takes. put_move x.desc.name.way bytes by (puts_out x s takes)) (endpoint_of d name) f)
   next_accepted (commands.Control name setup bytes) is f = absurd (named_none takes_control (record { sort = sorts.Request; stages = request_stages setup; most = request_length setup; bytes = setup ++ bytes }) (endpoint_of d name) no_control f)
   next_accepted (commands.Iso name count len seed) is f = absurd (iso_named count len seed (endpoint_of d name) f)
-  next_accepted (commands.Cancel name) is f = absurd is
+  next_accepted (commands.Cancel name) is f = cancelled_named (endpoint_of d name) f
 
-busy_accepted : (d : DriverContent) (m : Mem) (cmd : Cmd) (o : Offered) (c : Option Command) → OnlyBulk d → OpensBulk cmd → d.command ≡ c → cond (is_some c) (Err errors.Busy) (offered_next d m cmd) ≡ Ok o → IsAccepted d m o
+busy_accepted : (d : DriverContent) (m : Mem) (cmd : Cmd) (o : Offered) (c : Option Command) → EachIsBulk d → OpensOrCancelsBulk cmd → d.command ≡ c → cond (is_some c) (Err errors.Busy) (offered_next d m cmd) ≡ Ok o → IsAcceptedAs d m o cmd
 busy_accepted d m cmd o (Some c) bulk only is f = absurd (cc)
 busy_accepted d m cmd o None bulk only is f = next_accepted d m o is bulk cmd only f
 
+pub command_accepted : (d : DriverContent) (m : Mem) (cmd : Cmd) (o : Offered) → EachIsBulk d → OpensOrCancelsBulk cmd → offered d m cmd ≡ Ok o → IsAcceptedAs d m o cmd
+command_accepted d m cmd o bulk only f = busy_accepted d m cmd o d.command bulk only refl f
+
+-- a command that may open a bulk endpoint, and is no cancel, is one that may
+pub opens_or_cancels : (cmd : Cmd) → OpensBulk cmd → OpensOrCancelsBulk cmd
+opens_or_cancels (commands.OpenEp x) is = is
+opens_or_cancels (commands.Get name len by) is = tt
+opens_or_cancels (commands.Put name bytes by) is = tt
+opens_or_cancels (commands.Control name setup bytes) is = tt
+opens_or_cancels (commands.Iso name count len seed) is = tt
+opens_or_cancels (commands.Cancel name) is = absurd is
+
+-- and does what it may
+pub accepted_as : (d : DriverContent) (m : Mem) (o : Offered) (cmd : Cmd) → OpensBulk cmd → IsAcceptedAs d m o cmd → IsAccepted d m o
+accepted_as d m o (commands.OpenEp x) is why = why
+accepted_as d m o (commands.Get name len by) is why = why
+accepted_as d m o (commands.Put name bytes by) is why = why
+accepted_as d m o (commands.Control name setup bytes) is why = why
+accepted_as d m o (commands.Iso name count len seed) is why = why
+accepted_as d m o (commands.Cancel name) is why = absurd is
+
 pub command_received : (d : DriverContent) (m : Mem) (cmd : Cmd) (o : Offered) → OnlyBulk d → OpensBulk cmd → offered d m cmd ≡ Ok o → IsAccepted d m o
-command_received d m cmd o bulk only f = busy_accepted d m cmd o d.command bulk only refl f
+command_received d m cmd o bulk only f =
+    accepted_as d m o cmd only (command_accepted d m cmd o (λ e x here. let s = bulk.endpoints e x here in (s.bulk, s.placement)) (opens_or_cancels cmd only) f)

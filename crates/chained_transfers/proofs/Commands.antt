@@ -1,9 +1,11 @@
--- An accepted command leaves the transfers chained and in turn.
-use Rattle.std.proofs.Common.{◌≡◌, ◌≢◌, ℕ, zero, suc, ◌+◌, ◌-◌, ◌<◌, ◌≤◌, Bool, true, false, ◌||◌, ◌==◌, cond, List, [], ◌∷◌, ◌++◌, length, set, take, drop, get_or, slice_get, Option, Some, None, Ok, option_map, ap, sym, subst, ◌∙◌, ⊎_elim, inl, inr, refl, arith}
+-- An accepted command leaves the transfers chained and in turn, where endpoints leave the ring, and where none does.
+use Rattle.std.proofs.Common.{◌≡◌, ◌≢◌, ℕ, zero, suc, ◌-◌, ◌<◌, ◌≤◌, Bool, true, false, ◌||◌, ◌==◌, cond, List, [], ◌∷◌, ◌++◌, length, set, take, drop, get_or, slice_get, Option, Some, None, Ok, option_map, ap, sym, subst, ◌∙◌, ⊎_elim, inl, inr, refl, arith}
 use Rattle.std.specs.Prelude.{◌⊎◌}
 use Rattle.std.proofs.lemmas.Bool.{false≢true}
 use Rattle.std.proofs.lemmas.Option.{same_Some}
+use Rattle.usb_base.specs.declared.endpoints.EndCause.{EndCause}
 use Rattle.usb_base.specs.declared.commands.Cmd.{Cmd}
+use Rattle.usb_base.specs.declared.commands.Cmd.TheVariants as commands
 use Rattle.word_mem.specs.Memory.{Mem}
 use Rattle.run_book.specs.Book.{holding, Stands, slot_of}
 use Rattle.driver_rows.specs.declared.content.Endpoint.{Endpoint}
@@ -11,8 +13,8 @@ use Rattle.driver_rows.specs.declared.content.Transfer.{Transfer}
 use Rattle.driver_rows.specs.declared.content.QtdNote.{QtdNote}
 use Rattle.driver_rows.specs.DriverContent.{DriverContent}
 use Rattle.driver_rows.specs.Words.{needs}
-use Rattle.driver_rows.specs.Offers.{Offered, Asked, offered, new_runs, new_endpoint, note_stages, accepted_open, accepted_transfer, with_queued, new_transfer, first_waiting}
-use Rattle.run_owners.specs.Accepts.{Transfers}
+use Rattle.driver_rows.specs.Offers.{Offered, Asked, offered, new_runs, new_endpoint, note_stages, accepted_open, accepted_transfer, with_queued, new_transfer, first_waiting, first_end, accepted_cancel}
+use Rattle.run_owners.specs.Accepts.{Transfers, Cancels}
 use Rattle.run_owners.specs.Leaving.{IsOrderly, times}
 use Rattle.run_owners.specs.Kept.{HasOwners}
 use Rattle.run_owners.specs.Owners.{Owner, Element, runs_of_endpoint, runs_of_transfer, runs_of_note, note_in, transfer_in, TransferRuns, views_of, IsOwned}
@@ -23,17 +25,21 @@ use Rattle.run_owners.proofs.Accepted.{drop_first, push_case}
 use Rattle.run_owners.proofs.Orders.{owed, one_same}
 use Rattle.run_owners.proofs.Transferred.{are_new, goes_on_alive}
 use Rattle.run_owners.proofs.Released.{set_here}
-use Rattle.chained_transfers.specs.Bulk.{OpensBulk, IsStanding, MovesAs, OnlyBulk}
-use Rattle.chained_transfers.specs.Accepted.{IsOpened, IsAsked}
+use Rattle.run_owners.proofs.Stays.{stays_same, endpoint_stays}
+use Rattle.chained_transfers.specs.Bulk.{OpensBulk, MovesAs}
+use Rattle.chained_transfers.specs.Accepted.{IsOpened, IsAsked, IsAccepted}
 use Rattle.chained_transfers.specs.Chains.{piece_at}
-use Rattle.chained_transfers.specs.Turns.{IsAtPlace, AreAtPlaces, Turn, turn_of, turn_in, AreReportedTo, AreTurns}
+use Rattle.chained_transfers.specs.Turns.{IsAtPlace, AreAtPlaces, Turn, turn_of, turn_in, AreReportedTo}
 use Rattle.chained_transfers.specs.InTurn.{TakesTurns}
+use Rattle.chained_transfers.specs.Leaving.{OpensOrCancelsBulk, IsAcceptedAs, IsInLife, AreBulk, IsNotGone, AreTurnsOf, AreReturned, TurnsAndLeaves, IsStaying, NothingLeaves}
 use Rattle.chained_transfers.proofs.Moves.{KeepDescs, descs_set, descs_push, moves_on, moves_same}
-use Rattle.chained_transfers.proofs.Chained.{pieces_same, endpoint_chained, within_list, pushed_there, pushed_last}
+use Rattle.chained_transfers.proofs.Chained.{pieces_same, same_chained, endpoint_chained, within_list, pushed_there, pushed_last}
 use Rattle.chained_transfers.proofs.Queued.{not_dummy, transfer_chained}
-use Rattle.chained_transfers.proofs.Turning.{IsChangedAt, which, changed_plain}
-use Rattle.chained_transfers.proofs.Accepting.{command_received}
+use Rattle.chained_transfers.proofs.Turning.{fewer_turns, IsChangedAt, which, changed_plain}
+use Rattle.chained_transfers.proofs.Ends.{ends_turns, changed_end, changed_stays, WasGone, returned_on, same_turn, same_gone, changed_gone}
+use Rattle.chained_transfers.proofs.Accepting.{command_accepted, command_received}
 use Rattle.chained_transfers.proofs.Rows.{ends_set}
+use Rattle.chained_transfers.proofs.Staying.{alive, turns_are_leaving, turns_leave_nothing, leaving_takes_turns}
 
 push_which : {X : Type 0} (xs : List X) (x : X) (n : ℕ) (z : X) → slice_get (xs ++ x ∷ []) n ≡ Some z → (slice_get xs n ≡ Some z) ⊎ ((n ≡ length xs) × (z ≡ x))
 push_which [] x zero z here = inr (refl, sym (same_Some x z here))
@@ -54,8 +60,8 @@ low (y ∷ ys) (suc n) z here = let rest = low ys n z here in omega arith
 
 -- ---- an endpoint is opened
 
-opened_turns : (v : ℕ → Option Turn) (xs : List Endpoint) (x : Endpoint) (hs : List ℕ) → ((t : ℕ) (y : Turn) → v t ≡ Some y → y.endpoint < length xs) → x.next ≡ None → AreTurns v (slice_get xs) hs → AreTurns v (slice_get (xs ++ x ∷ [])) hs
-opened_turns v xs x hs within none old = record {
+opened_turns : (S : ℕ → Type 0) (v : ℕ → Option Turn) (xs : List Endpoint) (x : Endpoint) (hs : List ℕ) → ((t : ℕ) (y : Turn) → v t ≡ Some y → y.endpoint < length xs) → x.next ≡ None → AreTurnsOf S v (slice_get xs) hs → AreTurnsOf S v (slice_get (xs ++ x ∷ [])) hs
+opened_turns S v xs x hs within none old = record {
   reported = old.reported;
   released = old.released;
   told = old.told;
@@ -70,32 +76,50 @@ opened_turns v xs x hs within none old = record {
   order = old.order;
 }
 
-pub open_turns : (d : DriverContent) (m : Mem) (o : Offered) → IsOrderly d → IsOpened d m o → TakesTurns d → TakesTurns o.driver
-open_turns d m o order why old =
+-- no transfer is the new endpoint's
+opened_stays : (v : ℕ → Option Turn) (xs : List Endpoint) (x : Endpoint) → ((t : ℕ) (y : Turn) → v t ≡ Some y → y.endpoint < length xs) → (t : ℕ) (y : Turn) → v t ≡ Some y → IsNotGone (slice_get (xs ++ x ∷ [])) y.endpoint → IsNotGone (slice_get xs) y.endpoint
+opened_stays v xs x within t y there stays =
+    ⊎_elim (λ (was : slice_get xs y.endpoint ≡ Some stays.endpoint). record { endpoint = stays.endpoint; here = was; gone = stays.gone })
+    (λ (new : (y.endpoint ≡ length xs) × (stays.endpoint ≡ x)). let w = within t y there in absurd (omega (arith, w, new.0)))
+    (push_which xs x y.endpoint stays.endpoint stays.here)
+
+opened_gone : (xs : List Endpoint) (x : Endpoint) → x.gone ≡ false → (k : ℕ) (z : Endpoint) → slice_get (xs ++ x ∷ []) k ≡ Some z → z.gone ≡ true → WasGone (slice_get xs) k z
+opened_gone xs x alive k z here gone =
+    ⊎_elim (λ (was : slice_get xs k ≡ Some z). same_gone (slice_get xs) k z was gone)
+    (λ (new : (k ≡ length xs) × (z ≡ x)). absurd (false≢true (sym alive ∙ ap (λ (r : Endpoint). r.gone) (sym new.1) ∙ gone)))
+    (push_which xs x k z here)
+
+pub open_leaves : (d : DriverContent) (m : Mem) (o : Offered) → IsOrderly d → IsOpened d m o → TurnsAndLeaves d → TurnsAndLeaves o.driver
+open_leaves d m o order why old =
     let w = why.opens in
     let q = get_or (new_runs d w.holding_after) 0 0 in
     let f = get_or (new_runs d w.holding_after) 1 0 in
     let x = new_endpoint w.desc q f in
     let r = old.bulk in
-    let now : TakesTurns (accepted_open d w.desc w.holding_after q f).driver = record {
+    let v = turn_in d.transfers in
+    let ends = slice_get d.endpoints in
+    let ends_now = slice_get (d.endpoints ++ x ∷ []) in
+    let now : TurnsAndLeaves (accepted_open d w.desc w.holding_after q f).driver = record {
       bulk = record {
         endpoints = λ e z here. ⊎_elim (λ (was : slice_get d.endpoints e ≡ Some z). r.endpoints e z was)
             (λ (new : (e ≡ length d.endpoints) × (z ≡ x)).
-            subst (λ (y : Endpoint). IsStanding y) (sym new.1) (record { bulk = why.bulk; placement = refl; cancelled = refl; linked = refl; chained = refl; gone = refl }))
+            subst (λ (y : Endpoint). IsInLife y) (sym new.1) (record { bulk = why.bulk; placement = refl; chained = refl; unlinked = λ off. absurd (false≢true (sym off)); ended = λ on. absurd (false≢true on); gone = λ gone. absurd (false≢true gone) }))
             (push_which d.endpoints x e z here);
         moves = moves_same d _ (descs_push d.endpoints x) r.moves;
         command = tt;
+        leaver = λ e z is here. absurd (cc);
         mends = r.mends;
         unlinks = r.unlinks;
         removals = r.removals;
-        waiting = r.waiting;
-        rung = r.rung;
-        cleared = r.cleared;
       };
       chained = endpoint_chained (views_of d) d.endpoints x (λ e. refl) (λ t y there. of_runs t y there (turn_at_runs t y there)) old.chained (slot_of w.holding_after.book.slots);
-      turns = record { places = old.turns.places; turns = opened_turns (turn_in d.transfers) d.endpoints x d.harvested of_turn refl old.turns.turns };
+      turns = record {
+        places = old.turns.places;
+        turns = fewer_turns (IsNotGone ends) (IsNotGone ends_now) v ends_now d.harvested (opened_stays v d.endpoints x of_turn) (opened_turns (IsNotGone ends) v d.endpoints x d.harvested of_turn refl old.turns.turns);
+        returned = returned_on v v ends ends_now (λ k z y there here gone. same_turn v k z there) (opened_gone d.endpoints x refl) old.turns.returned;
+      };
     } in
-    subst (λ (g : Offered). TakesTurns g.driver) (sym w.is) now
+    subst (λ (g : Offered). TurnsAndLeaves g.driver) (sym w.is) now
   where
     turn_at_runs : (t : ℕ) (y : TransferRuns) → transfer_in d.transfers t ≡ Some y → (z : Transfer) × (slice_get d.transfers t ≡ Some z) × (y.endpoint ≡ z.endpoint)
     turn_at_runs t y there = by (slice_get d.transfers t) refl there
@@ -114,9 +138,26 @@ open_turns d m o order why old =
         by None is f = absurd (cc)
         by (Some z) is f = let w = order.within t z is in let e = ap (λ (r : Turn). r.endpoint) (same_Some (turn_of z) y f) in omega (arith, w, e)
 
+open_nothing : (d : DriverContent) (m : Mem) (o : Offered) → IsOpened d m o → NothingLeaves d → NothingLeaves o.driver
+open_nothing d m o why old =
+    let w = why.opens in
+    let q = get_or (new_runs d w.holding_after) 0 0 in
+    let f = get_or (new_runs d w.holding_after) 1 0 in
+    let x = new_endpoint w.desc q f in
+    let now : NothingLeaves (accepted_open d w.desc w.holding_after q f).driver = record {
+      endpoints = λ e z here. ⊎_elim (λ (was : slice_get d.endpoints e ≡ Some z). old.endpoints e z was)
+          (λ (new : (e ≡ length d.endpoints) × (z ≡ x)). subst (λ (y : Endpoint). IsStaying y) (sym new.1) (record { cancelled = refl; linked = refl; gone = refl }))
+          (push_which d.endpoints x e z here);
+      command = refl;
+      waiting = old.waiting;
+      rung = old.rung;
+      cleared = old.cleared;
+    } in
+    subst (λ (g : Offered). NothingLeaves g.driver) (sym w.is) now
+
 -- ---- a transfer is accepted
 
-module _ (v w : ℕ → Option Turn) (ends ends_now : ℕ → Option Endpoint) (hs : List ℕ) (e number : ℕ) (a b : Endpoint) (z : Turn) where
+module _ (S : ℕ → Type 0) (v w : ℕ → Option Turn) (ends ends_now : ℕ → Option Endpoint) (hs : List ℕ) (e number : ℕ) (a b : Endpoint) (z : Turn) where
   -- the new one has the next number, and its endpoint goes on with its first unreported one
   record IsNewest : Type 0 where
     turns : (k : ℕ) (y : Turn) → w k ≡ Some y → (v k ≡ Some y) ⊎ ((k ≡ number) × (y ≡ z))
@@ -163,7 +204,7 @@ module _ (v w : ℕ → Option Turn) (ends ends_now : ℕ → Option Endpoint) (
   false_true : (c : Bool) → c ≡ false → c ≡ true → ⊥
   false_true c off on = false≢true (sym off ∙ on)
 
-  newest_turns : IsNewest → AreTurns v ends hs → AreTurns w ends_now hs
+  newest_turns : IsNewest → AreTurnsOf S v ends hs → AreTurnsOf S w ends_now hs
   newest_turns n old = record {
     reported = λ t u y x less here there is told.
         ⊎_elim
@@ -177,8 +218,8 @@ module _ (v w : ℕ → Option Turn) (ends ends_now : ℕ → Option Endpoint) (
         ⊎_elim (λ (was_t : v t ≡ Some y). old.released t u y x less was_t was is gone)
         (λ (new : (t ≡ number) × (y ≡ z)). let l = (n.there u x was).0 in absurd (omega (arith, l, new.0, less))) (n.turns t y here))
         (λ (new : (u ≡ number) × (x ≡ z)). absurd (false_true z.released n.fresh.2 (sym (ap (λ (r : Turn). r.released) new.1) ∙ gone))) (n.turns u x there);
-    told = λ t y here gone.
-        ⊎_elim (λ (was : v t ≡ Some y). old.told t y was gone)
+    told = λ t y here stays gone.
+        ⊎_elim (λ (was : v t ≡ Some y). old.told t y was stays gone)
         (λ (new : (t ≡ number) × (y ≡ z)). absurd (false_true z.released n.fresh.2 (sym (ap (λ (r : Turn). r.released) new.1) ∙ gone))) (n.turns t y here);
     next = λ k x here goes.
         ⊎_elim
@@ -255,69 +296,178 @@ times_of (h ∷ hs) zero u here =
     let one : cond (h == u) 1 0 ≡ 1 = ap (λ (n : ℕ). cond (n == u) 1 0) is ∙ one_same u in omega (arith, one)
 times_of (h ∷ hs) (suc i) u here = let rest = times_of hs i u here in omega (arith, rest)
 
-asked_turns : (d : DriverContent) (m : Mem) (o : Offered) → Transfers d m o → IsOrderly d → AreTurns (turn_in d.transfers) (slice_get d.endpoints) d.harvested → AreTurns (turn_in o.driver.transfers) (slice_get o.driver.endpoints) o.driver.harvested
-asked_turns d m o why order old =
-    let e = why.number in
-    let x = why.endpoint in
-    let y = new_transfer e why.asked x.dummy in
-    subst (λ (g : Offered). AreTurns (turn_in g.driver.transfers) (slice_get g.driver.endpoints) g.driver.harvested) (sym why.is) (now _)
+-- what tells of turns
+abbrev TakeTurns : List Transfer → List Endpoint → List ℕ → Type 0
+TakeTurns ts xs hs = AreTurnsOf (IsNotGone (slice_get xs)) (turn_in ts) (slice_get xs) hs × AreReturned (turn_in ts) (slice_get xs)
+
+asked_turns : (d : DriverContent) (m : Mem) (o : Offered) (why : Transfers d m o) → IsOrderly d → why.endpoint.gone ≡ false → TakeTurns d.transfers d.endpoints d.harvested → TakeTurns o.driver.transfers o.driver.endpoints o.driver.harvested
+asked_turns d m o why order here_still old = subst (λ (g : Offered). TakeTurns g.driver.transfers g.driver.endpoints g.driver.harvested) (sym why.is) (now _)
   where
     listed : (i u : ℕ) → slice_get d.harvested i ≡ Some u → (z : Turn) × (turn_in d.transfers u ≡ Some z)
     listed i u here =
         let o = owed d.transfers u (slice_get d.transfers u) refl (omega (arith, times_of d.harvested i u here, order.harvests u)) in
         (turn_of o.transfer, ap (option_map turn_of) o.there)
 
-    now : (dummy : ℕ) → AreTurns (turn_in (d.transfers ++ new_transfer why.number why.asked why.endpoint.dummy ∷ [])) (slice_get (set d.endpoints why.number (with_queued why.endpoint dummy (length d.transfers)))) d.harvested
+    now : (dummy : ℕ) → TakeTurns (d.transfers ++ new_transfer why.number why.asked why.endpoint.dummy ∷ []) (set d.endpoints why.number (with_queued why.endpoint dummy (length d.transfers))) d.harvested
     now dummy =
         let e = why.number in
         let x = why.endpoint in
         let y = new_transfer e why.asked x.dummy in
         let z = with_queued x dummy (length d.transfers) in
-        newest_turns (turn_in d.transfers) (turn_in (d.transfers ++ y ∷ [])) (slice_get d.endpoints) (slice_get (set d.endpoints e z)) d.harvested e (length d.transfers) x z (turn_of y)
+        let v = turn_in d.transfers in
+        let w = turn_in (d.transfers ++ y ∷ []) in
+        let ends = slice_get d.endpoints in
+        let ends_now = slice_get (set d.endpoints e z) in
+        let c = changed_plain d.endpoints e x z why.here in
+        let newest = newest_turns (IsNotGone ends) v w ends ends_now d.harvested e (length d.transfers) x z (turn_of y)
         (record {
           turns = λ k r there. turn_which d.transfers y k r there;
           there = λ k r there. (within_list turn_of d.transfers k r there, pushed_there turn_of d.transfers y k r there);
           last = ap (option_map turn_of) (pushed_last d.transfers y);
           fresh = (refl, refl, refl);
-          moved = changed_plain d.endpoints e x z why.here;
+          moved = c;
           goes_on = (why.goes_on, why.goes_on, refl);
           listed = listed;
-        }) old
+        }) old.0 in (
+          fewer_turns (IsNotGone ends) (IsNotGone ends_now) w ends_now d.harvested (λ t r there stays. changed_stays ends ends_now e x z c refl r.endpoint stays) newest,
+          returned_on v w ends ends_now
+              (λ k r i there at gone.
+              ⊎_elim (λ (was : v k ≡ Some r). same_turn v k r was)
+              (λ (new : (k ≡ length d.transfers) × (r ≡ turn_of y)).
+              let is : i ≡ z = same_Some i z (sym at ∙ ap (λ (q : Turn). ends_now q.endpoint) new.1 ∙ c.here) in
+              absurd (false≢true (sym here_still ∙ ap (λ (q : Endpoint). q.gone) (sym is) ∙ gone)))
+              (turn_which d.transfers y k r there))
+              (changed_gone ends ends_now e x z c (λ gone. absurd (false≢true (sym here_still ∙ gone)))) old.1,
+        )
 
-pub asked_in_turn : (d : DriverContent) (m : Mem) (o : Offered) → Stands (holding d.book m) → HasOwners d → IsAsked d m o → TakesTurns d → TakesTurns o.driver
-asked_in_turn d m o stands owners why old =
+pub asked_leaves : (d : DriverContent) (m : Mem) (o : Offered) → Stands (holding d.book m) → HasOwners d → IsAsked d m o → TurnsAndLeaves d → TurnsAndLeaves o.driver
+asked_leaves d m o stands owners why old =
     let w = why.transfers in
     let x = w.endpoint in
     let r = old.bulk in
     let places = asked_places d m o owners.owner stands w owners.orderly owners.owned old.turns.places in
-    let turns = asked_turns d m o w owners.orderly old.turns.turns in
+    let turns = asked_turns d m o w owners.orderly (alive x (r.endpoints w.number x w.here) w.goes_on) (old.turns.turns, old.turns.returned) in
     let kept : (dummy : ℕ) → KeepDescs d.endpoints (set d.endpoints w.number (with_queued x dummy (length d.transfers))) = λ dummy. descs_set d.endpoints w.number x (with_queued x dummy (length d.transfers)) w.here refl in
     let new_moves : (dummy : ℕ) (notes : List QtdNote) (y : Transfer) → y ≡ new_transfer w.number w.asked x.dummy → MovesAs (accepted_transfer d w.number x w.asked w.holding_after dummy notes).driver y = λ dummy notes y is. record {
       endpoint = with_queued x dummy (length d.transfers);
       here = ap (λ (z : Transfer). slice_get (set d.endpoints w.number (with_queued x dummy (length d.transfers))) z.endpoint) is ∙ set_here d.endpoints w.number x (with_queued x dummy (length d.transfers)) w.here;
       sort = ap (λ (z : Transfer). z.sort) is ∙ ap (λ (a : Asked). a.sort) why.asked;
     } in
-    let bulk : (dummy : ℕ) (notes : List QtdNote) → OnlyBulk (accepted_transfer d w.number x w.asked w.holding_after dummy notes).driver = λ dummy notes. record {
-      endpoints = ends_set d.endpoints w.number x (with_queued x dummy (length d.transfers)) w.here
-          (λ s. record { bulk = s.bulk; placement = s.placement; cancelled = s.cancelled; linked = s.linked; chained = s.chained; gone = s.gone }) r.endpoints;
+    let bulk : (dummy : ℕ) (notes : List QtdNote) → AreBulk (accepted_transfer d w.number x w.asked w.holding_after dummy notes).driver = λ dummy notes. record {
+      endpoints = ends_set IsInLife d.endpoints w.number x (with_queued x dummy (length d.transfers)) w.here
+          (λ s. record { bulk = s.bulk; placement = s.placement; chained = s.chained; unlinked = s.unlinked; ended = s.ended; gone = s.gone }) r.endpoints;
       moves = λ t y here. ⊎_elim (λ (was : slice_get d.transfers t ≡ Some y). moves_on d _ y y refl refl (kept dummy) (r.moves t y was))
           (λ (new : (t ≡ length d.transfers) × (y ≡ new_transfer w.number w.asked x.dummy)). new_moves dummy notes y new.1)
           (push_which d.transfers (new_transfer w.number w.asked x.dummy) t y here);
       command = tt;
+      leaver = λ e z is here. absurd (cc);
       mends = r.mends;
       unlinks = r.unlinks;
       removals = r.removals;
-      waiting = r.waiting;
-      rung = r.rung;
-      cleared = r.cleared;
     } in
     record {
-      bulk = subst (λ (g : Offered). OnlyBulk g.driver) (sym w.is) (bulk _ _);
+      bulk = subst (λ (g : Offered). AreBulk g.driver) (sym w.is) (bulk _ _);
       chained = transfer_chained d m o owners.owner stands w owners.orderly owners.owned old.chained;
-      turns = record { places = places; turns = turns };
+      turns = record { places = places; turns = turns.0; returned = turns.1 };
     }
 
+asked_nothing : (d : DriverContent) (m : Mem) (o : Offered) → IsAsked d m o → NothingLeaves d → NothingLeaves o.driver
+asked_nothing d m o why old =
+    let w = why.transfers in
+    let x = w.endpoint in
+    let now : (dummy : ℕ) (notes : List QtdNote) → NothingLeaves (accepted_transfer d w.number x w.asked w.holding_after dummy notes).driver = λ dummy notes. record {
+      endpoints = ends_set IsStaying d.endpoints w.number x (with_queued x dummy (length d.transfers)) w.here (λ s. record { cancelled = s.cancelled; linked = s.linked; gone = s.gone }) old.endpoints;
+      command = refl;
+      waiting = old.waiting;
+      rung = old.rung;
+      cleared = old.cleared;
+    } in
+    subst (λ (g : Offered). NothingLeaves g.driver) (sym w.is) (now _ _)
+
+-- ---- an endpoint is cancelled
+
+-- it has ended now, or had before
+first_some : (o : Option EndCause) → first_end o ≢ None
+first_some None f = cc
+first_some (Some cause) f = cc
+
+-- what isn't cancelled is in the ring, and wasn't given back
+fresh_is : (x : Endpoint) → IsInLife x → x.cancelled ≡ false → (x.linked ≡ true) × (x.gone ≡ false)
+fresh_is x s fresh =
+    let on = by x.linked refl in
+    (on, gone on x.gone refl)
+  where
+    by : (b : Bool) → x.linked ≡ b → x.linked ≡ true
+    by true is = is
+    by false is = absurd (false≢true (sym fresh ∙ s.unlinked is))
+
+    gone : x.linked ≡ true → (b : Bool) → x.gone ≡ b → x.gone ≡ false
+    gone on false is = is
+    gone on true is = absurd (false≢true (sym (s.gone is) ∙ on))
+
+pub cancel_leaves : (d : DriverContent) (m : Mem) (o : Offered) → Cancels d m o → TurnsAndLeaves d → TurnsAndLeaves o.driver
+cancel_leaves d m o why old =
+    let e = why.number in
+    let x = why.endpoint in
+    let z : Endpoint = record x { cancelled = true; ended = first_end x.ended } in
+    let r = old.bulk in
+    let fresh = fresh_is x (r.endpoints e x why.here) why.fresh in
+    let v = turn_in d.transfers in
+    let ends = slice_get d.endpoints in
+    let ends_now = slice_get (set d.endpoints e z) in
+    let c = changed_plain d.endpoints e x z why.here in
+    let now : TurnsAndLeaves (accepted_cancel d e x) = record {
+      bulk = record {
+        endpoints = ends_set IsInLife d.endpoints e x z why.here
+            (λ s. record { bulk = s.bulk; placement = s.placement; chained = s.chained; unlinked = λ off. refl; ended = λ on. first_some x.ended; gone = s.gone }) r.endpoints;
+        moves = moves_same d _ (descs_set d.endpoints e x z why.here refl) r.moves;
+        command = tt;
+        leaver = λ k w is here.
+            let own : k ≡ e = sym (same_Some e k is) in
+            let same : w ≡ z = same_Some w z (sym here ∙ ap ends_now own ∙ c.here) in
+            record { cancelled = ap (λ (i : Endpoint). i.cancelled) same; linked = ap (λ (i : Endpoint). i.linked) same ∙ fresh.0 };
+        mends = r.mends;
+        unlinks = r.unlinks;
+        removals = r.removals;
+      };
+      chained = same_chained (views_of d) (views_of (accepted_cancel d e x)) (stays_same d (accepted_cancel d e x) refl (endpoint_stays d e x z why.here refl) (λ i. refl) (λ i. refl) refl refl).same old.chained;
+      turns = record {
+        places = old.turns.places;
+        turns = fewer_turns (IsNotGone ends) (IsNotGone ends_now) v ends_now d.harvested (λ t y there stays. changed_stays ends ends_now e x z c refl y.endpoint stays)
+            (ends_turns (IsNotGone ends) v ends ends_now d.harvested (changed_end ends ends_now e x z c (λ goes. absurd (first_some x.ended goes))) old.turns.turns);
+        returned = returned_on v v ends ends_now (λ k i w there here gone. same_turn v k i there) (changed_gone ends ends_now e x z c (λ gone. absurd (false≢true (sym fresh.1 ∙ gone)))) old.turns.returned;
+      };
+    } in
+    subst (λ (g : Offered). TurnsAndLeaves g.driver) (sym why.is) now
+
+-- ---- any command
+
+-- an accepted open, get or put
+accepted_leaves : (d : DriverContent) (m : Mem) (o : Offered) → Stands (holding d.book m) → HasOwners d → IsAccepted d m o → TurnsAndLeaves d → TurnsAndLeaves o.driver
+accepted_leaves d m o stands owners why old =
+    ⊎_elim (λ (why : IsOpened d m o). open_leaves d m o owners.orderly why old) (λ (why : IsAsked d m o). asked_leaves d m o stands owners why old) why
+
+accepted_nothing : (d : DriverContent) (m : Mem) (o : Offered) → IsAccepted d m o → NothingLeaves d → NothingLeaves o.driver
+accepted_nothing d m o why old = ⊎_elim (λ (why : IsOpened d m o). open_nothing d m o why old) (λ (why : IsAsked d m o). asked_nothing d m o why old) why
+
+accepted_turns : (d : DriverContent) (m : Mem) (o : Offered) → Stands (holding d.book m) → HasOwners d → IsAccepted d m o → TakesTurns d → TakesTurns o.driver
+accepted_turns d m o stands owners why old =
+    leaving_takes_turns o.driver (accepted_leaves d m o stands owners why (turns_are_leaving d old)) (accepted_nothing d m o why (turns_leave_nothing d old))
+
+pub asked_in_turn : (d : DriverContent) (m : Mem) (o : Offered) → Stands (holding d.book m) → HasOwners d → IsAsked d m o → TakesTurns d → TakesTurns o.driver
+asked_in_turn d m o stands owners why old = accepted_turns d m o stands owners (inr why) old
+
+leaves_as : (d : DriverContent) (m : Mem) (o : Offered) (cmd : Cmd) → Stands (holding d.book m) → HasOwners d → IsAcceptedAs d m o cmd → TurnsAndLeaves d → TurnsAndLeaves o.driver
+leaves_as d m o (commands.OpenEp x) stands owners why old = accepted_leaves d m o stands owners why old
+leaves_as d m o (commands.Get name len by) stands owners why old = accepted_leaves d m o stands owners why old
+leaves_as d m o (commands.Put name bytes by) stands owners why old = accepted_leaves d m o stands owners why old
+leaves_as d m o (commands.Control name setup bytes) stands owners why old = accepted_leaves d m o stands owners why old
+leaves_as d m o (commands.Iso name count len seed) stands owners why old = accepted_leaves d m o stands owners why old
+leaves_as d m o (commands.Cancel name) stands owners why old = cancel_leaves d m o why old
+
+pub command_leaves : (d : DriverContent) (m : Mem) (cmd : Cmd) (o : Offered) → Stands (holding d.book m) → HasOwners d → TurnsAndLeaves d → OpensOrCancelsBulk cmd → offered d m cmd ≡ Ok o → TurnsAndLeaves o.driver
+command_leaves d m cmd o stands owners old only is =
+    leaves_as d m o cmd stands owners (command_accepted d m cmd o (λ e x here. let s = old.bulk.endpoints e x here in (s.bulk, s.placement)) only is) old
+
 pub command_in_turn : (d : DriverContent) (m : Mem) (cmd : Cmd) (o : Offered) → Stands (holding d.book m) → HasOwners d → TakesTurns d → OpensBulk cmd → offered d m cmd ≡ Ok o → TakesTurns o.driver
-command_in_turn d m cmd o stands owners old only is =
-    ⊎_elim (λ (why : IsOpened d m o). open_turns d m o owners.orderly why old) (λ (why : IsAsked d m o). asked_in_turn d m o stands owners why old)
-    (command_received d m cmd o old.bulk only is)
+command_in_turn d m cmd o stands owners old only is = accepted_turns d m o stands owners (command_received d m cmd o old.bulk only is) old

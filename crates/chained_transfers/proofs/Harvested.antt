@@ -1,6 +1,5 @@
 -- A harvest leaves the transfers in turn, each at its place.
-use Rattle.std.proofs.Common.{◌≡◌, ◌≢◌, ℕ, zero, suc, ◌+◌, ◌-◌, ◌≤◌, Bool, true, false, cond, nat_le, List, [], ◌∷◌, ◌++◌, set, slice_get, Option, Some, None, option_map, ap, sym, subst, ◌∙◌, ⊎_elim, refl, arith}
-use Rattle.std.specs.Prelude.{◌⊎◌}
+use Rattle.std.proofs.Common.{◌≡◌, ◌≢◌, ℕ, zero, suc, ◌-◌, ◌≤◌, Bool, true, false, cond, nat_le, List, [], ◌∷◌, ◌++◌, set, slice_get, Option, Some, None, option_map, ap, sym, subst, ◌∙◌, ⊎_elim, refl, arith}
 use Rattle.std.proofs.lemmas.Bool.{cases_eq, false≢true}
 use Rattle.std.proofs.lemmas.Bool.Decides.{nat_tests}
 use Rattle.std.proofs.lemmas.Option.{same_Some}
@@ -25,9 +24,10 @@ use Rattle.run_owners.specs.Owners.{NoteRuns, runs_of_note, note_in}
 use Rattle.run_owners.proofs.Released.{set_here, set_there}
 use Rattle.run_owners.proofs.Stays.{same_item, same_view}
 use Rattle.chained_transfers.specs.Chains.{piece_at}
-use Rattle.chained_transfers.specs.Turns.{IsAtPlace, AreAtPlaces, Turn, turn_of, turn_in, IsNext, AreReportedTo, AreTurns, AreInTurn}
+use Rattle.chained_transfers.specs.Turns.{IsAtPlace, AreAtPlaces, Turn, turn_of, turn_in, IsNext, AreReportedTo, AreInTurn}
+use Rattle.chained_transfers.specs.Leaving.{AreTurnsOf}
 use Rattle.chained_transfers.proofs.Chained.{piece_same}
-use Rattle.chained_transfers.proofs.Turning.{IsChangedAt, changed, changed_plain}
+use Rattle.chained_transfers.proofs.Turning.{AreInTurnOf, AnyOne, in_turn_of_all, all_in_turn, IsChangedAt, changed, changed_plain}
 use Rattle.chained_transfers.proofs.Reporting.{IsFirst, ended_turns, harvested_turns}
 use Rattle.chained_transfers.proofs.Harvesting.{waits_is, next_waits}
 
@@ -107,11 +107,11 @@ places_set note ts t y z here at old k w there held = ⊎_elim
 
 -- ---- turns
 
-pub turns_same : (v w : ℕ → Option Turn) (ends : ℕ → Option Endpoint) (hs : List ℕ) → ((i : ℕ) → w i ≡ v i) → AreTurns v ends hs → AreTurns w ends hs
-turns_same v w ends hs same old = record {
+pub turns_same : (S : ℕ → Type 0) (v w : ℕ → Option Turn) (ends : ℕ → Option Endpoint) (hs : List ℕ) → ((i : ℕ) → w i ≡ v i) → AreTurnsOf S v ends hs → AreTurnsOf S w ends hs
+turns_same S v w ends hs same old = record {
   reported = λ t u y z less here there is told. old.reported t u y z less (sym (same t) ∙ here) (sym (same u) ∙ there) is told;
   released = λ t u y z less here there is gone. old.released t u y z less (sym (same t) ∙ here) (sym (same u) ∙ there) is gone;
-  told = λ t y here gone. old.told t y (sym (same t) ∙ here) gone;
+  told = λ t y here stays gone. old.told t y (sym (same t) ∙ here) stays gone;
   next = λ e x here goes. next e x.next (old.next e x here goes);
   owed = λ t y x here. old.owed t y x (sym (same t) ∙ here);
   order = λ i t u y z at less here there is. old.order i t u y z at less (sym (same t) ∙ here) (sym (same u) ∙ there) is;
@@ -123,8 +123,8 @@ turns_same v w ends hs same old = record {
 
 -- ---- a harvest
 
-module _ (d : DriverContent) (m : Mem) (e t : ℕ) (x : Endpoint) (y : Transfer) (here : slice_get d.endpoints e ≡ Some x) (there : slice_get d.transfers t ≡ Some y) (goes : x.ended ≡ None) (next : x.next ≡ Some t)
-    (waits : waits_for e y ≡ true) (bulk : x.desc.kind ≡ kinds.Bulk) (old : AreInTurn d) where
+module _ (S : ℕ → Type 0) (d : DriverContent) (m : Mem) (e t : ℕ) (x : Endpoint) (y : Transfer) (here : slice_get d.endpoints e ≡ Some x) (there : slice_get d.transfers t ≡ Some y) (goes : x.ended ≡ None) (next : x.next ≡ Some t)
+    (waits : waits_for e y ≡ true) (bulk : x.desc.kind ≡ kinds.Bulk) (stays : S e) (old : AreInTurnOf S d) where
   is_next : IsNext (turn_in d.transfers) e t
   is_next = subst (λ (o : Option ℕ). AreReportedTo (turn_in d.transfers) e o) next (old.turns.next e x here goes)
 
@@ -133,34 +133,34 @@ module _ (d : DriverContent) (m : Mem) (e t : ℕ) (x : Endpoint) (y : Transfer)
     where
       by : (b : Bool) → y.released ≡ b → y.released ≡ false
       by false is = is
-      by true is = absurd (false≢true (sym (waits_is e y waits).1 ∙ old.turns.told t (turn_of y) (ap (option_map turn_of) there) is))
+      by true is = absurd (false≢true (sym (waits_is e y waits).1 ∙ old.turns.told t (turn_of y) (ap (option_map turn_of) there) (subst (λ (i : ℕ). S i) (sym (waits_is e y waits).0) stays) is))
 
   told : List Transfer
   told = set d.transfers t (record y { reported = true })
 
   first : (z : Endpoint) (c : IsChangedAt (turn_in d.transfers) (turn_in told) t (turn_of y) (record (turn_of y) { reported = true })) (f : IsChangedAt (slice_get d.endpoints) (slice_get (set d.endpoints e z)) e x z)
-      → IsFirst (turn_in d.transfers) (turn_in told) (slice_get d.endpoints) (slice_get (set d.endpoints e z)) d.harvested e t (turn_of y) x z c f
+      → IsFirst S (turn_in d.transfers) (turn_in told) (slice_get d.endpoints) (slice_get (set d.endpoints e z)) d.harvested e t (turn_of y) x z c f
   first z c f = record { endpoint = (waits_is e y waits).0; earlier = λ u w less at of_e. is_next.before u w less at of_e; unreleased = held }
 
   is_told : IsChangedAt (turn_in d.transfers) (turn_in told) t (turn_of y) (record (turn_of y) { reported = true })
   unfolding told
   is_told = changed turn_of d.transfers t y (record y { reported = true }) there
 
-  ended : (z : Endpoint) (cause : EndCause) → z.ended ≡ Some cause → AreTurns (turn_in told) (slice_get (set d.endpoints e z)) d.harvested
+  ended : (z : Endpoint) (cause : EndCause) → z.ended ≡ Some cause → AreTurnsOf S (turn_in told) (slice_get (set d.endpoints e z)) d.harvested
   ended z cause is =
       let f = changed_plain d.endpoints e x z here in
-      ended_turns (turn_in d.transfers) (turn_in told) (slice_get d.endpoints) (slice_get (set d.endpoints e z)) d.harvested e t (turn_of y) x z is_told f cause is (first z is_told f) old.turns
+      ended_turns S (turn_in d.transfers) (turn_in told) (slice_get d.endpoints) (slice_get (set d.endpoints e z)) d.harvested e t (turn_of y) x z is_told f cause is (first z is_told f) old.turns
 
   earlier : (u : ℕ) (z : Turn) → u ≤ t → turn_in told u ≡ Some z → z.endpoint ≡ e → z.reported ≡ true
   earlier u z low at of_e = ⊎_elim
       (λ (own : u ≡ t). ap (λ (r : Turn). r.reported) (sym (same_Some _ z (sym is_told.here ∙ ap (turn_in told) (sym own) ∙ at))))
       (λ (other : u ≢ t). is_next.before u z (omega (arith, low, other)) (sym (is_told.there u other) ∙ at) of_e) (cases_eq u t)
 
-  done : AreTurns (turn_in told) (slice_get (set d.endpoints e (record x { next = next_after told e t }))) (d.harvested ++ t ∷ [])
+  done : AreTurnsOf S (turn_in told) (slice_get (set d.endpoints e (record x { next = next_after told e t }))) (d.harvested ++ t ∷ [])
   done =
       let z : Endpoint = record x { next = next_after told e t } in
       let f = changed_plain d.endpoints e x z here in
-      harvested_turns (turn_in d.transfers) (turn_in told) (slice_get d.endpoints) (slice_get (set d.endpoints e z)) d.harvested e t (turn_of y) x z is_told f goes
+      harvested_turns S (turn_in d.transfers) (turn_in told) (slice_get d.endpoints) (slice_get (set d.endpoints e z)) d.harvested e t (turn_of y) x z is_told f goes
       (λ g. next_waits told e t earlier) (first z is_told f) old.turns
 
   told_places : (n : ℕ) → AreAtPlaces (note_in (noted d.notes y.place n)) told
@@ -168,16 +168,16 @@ module _ (d : DriverContent) (m : Mem) (e t : ℕ) (x : Endpoint) (y : Transfer)
   told_places n = places_same (note_in d.notes) (note_in (noted d.notes y.place n)) told (note_same d.notes y.place n)
       (places_set (note_in d.notes) d.transfers t y (record y { reported = true }) there (λ h. let p = old.places t y there held in record { some = p.some; most = p.most; place = p.place }) old.places)
 
-  ends_as : (n : ℕ) (what : What) (o : Option EndCause) → end_of x.desc.kind what ≡ o → AreInTurn (after_end (told_with d m t y what x.desc.name (noted d.notes y.place n)) e t x (is_stall what) o)
+  ends_as : (n : ℕ) (what : What) (o : Option EndCause) → end_of x.desc.kind what ≡ o → AreInTurnOf S (after_end (told_with d m t y what x.desc.name (noted d.notes y.place n)) e t x (is_stall what) o)
   unfolding told
   ends_as n what (Some cause) is = record { places = told_places n; turns = ended (record x { ended = Some cause }) cause refl }
   ends_as n what None is = by (is_stall what) (no_stall x.desc.kind what bulk is)
     where
-      by : (b : Bool) → b ≡ false → AreInTurn (cond b (stalled (told_with d m t y what x.desc.name (noted d.notes y.place n)) e t x) (goes_on (told_with d m t y what x.desc.name (noted d.notes y.place n)) e t x))
+      by : (b : Bool) → b ≡ false → AreInTurnOf S (cond b (stalled (told_with d m t y what x.desc.name (noted d.notes y.place n)) e t x) (goes_on (told_with d m t y what x.desc.name (noted d.notes y.place n)) e t x))
       by true off = absurd (false≢true (sym off))
       by false off = record { places = told_places n; turns = done }
 
-  read_as : (found : Found) → found ≡ found_in y.sort (nat_le y.left 1) (note_at d.notes y.place) (token_in m y.place) → AreInTurn (served (harvested_as d m e t x y found) e)
+  read_as : (found : Found) → found ≡ found_in y.sort (nat_le y.left 1) (note_at d.notes y.place) (token_in m y.place) → AreInTurnOf S (served (harvested_as d m e t x y found) e)
   read_as founds.Active is = record { places = old.places; turns = old.turns }
   read_as (founds.Moved n) is =
       let z : Transfer = record y { place = (note_at d.notes y.place).next; left = y.left - 1 } in
@@ -185,7 +185,7 @@ module _ (d : DriverContent) (m : Mem) (e t : ℕ) (x : Endpoint) (y : Transfer)
       record {
         places = places_same (note_in d.notes) (note_in (noted d.notes y.place n)) (set d.transfers t z) (note_same d.notes y.place n)
             (places_set (note_in d.notes) d.transfers t y z there (λ h. place_at (note_in d.notes) y (old.places t y there held) n (note_at d.notes y.place).next more refl) old.places);
-        turns = turns_same (turn_in d.transfers) (turn_in (set d.transfers t z)) (slice_get d.endpoints) d.harvested (same_turn z refl) old.turns;
+        turns = turns_same S (turn_in d.transfers) (turn_in (set d.transfers t z)) (slice_get d.endpoints) d.harvested (same_turn z refl) old.turns;
       }
     where
       same_turn : (z : Transfer) → turn_of z ≡ turn_of y → (i : ℕ) → turn_in (set d.transfers t z) i ≡ turn_in d.transfers i
@@ -193,5 +193,10 @@ module _ (d : DriverContent) (m : Mem) (e t : ℕ) (x : Endpoint) (y : Transfer)
   read_as (founds.Served errors) is = absurd (served_by (token_in m y.place).active (token_in m y.place).halted (ends_by y.sort (nat_le y.left 1) (token_in m y.place).total) (moved_of (note_at d.notes y.place).told (token_in m y.place).total) errors (halt_of (token_in m y.place)) (sym is))
   read_as (founds.Ended n what) is = let k = ends_as n what (end_of x.desc.kind what) refl in record { places = k.places; turns = k.turns }
 
-  pub harvest_turns : (found : Found) → found ≡ found_in y.sort (nat_le y.left 1) (note_at d.notes y.place) (token_in m y.place) → AreInTurn (after_harvest d m e t found (Some x) (Some y))
-  harvest_turns found is = subst (λ (b : Bool). AreInTurn (cond b (served (harvested_as d m e t x y found) e) d)) (sym waits) (read_as found is)
+  pub harvest_turns_of : (found : Found) → found ≡ found_in y.sort (nat_le y.left 1) (note_at d.notes y.place) (token_in m y.place) → AreInTurnOf S (after_harvest d m e t found (Some x) (Some y))
+  harvest_turns_of found is = subst (λ (b : Bool). AreInTurnOf S (cond b (served (harvested_as d m e t x y found) e) d)) (sym waits) (read_as found is)
+
+pub harvest_turns : (d : DriverContent) (m : Mem) (e t : ℕ) (x : Endpoint) (y : Transfer) → slice_get d.endpoints e ≡ Some x → slice_get d.transfers t ≡ Some y → x.ended ≡ None → x.next ≡ Some t → waits_for e y ≡ true → x.desc.kind ≡ kinds.Bulk → AreInTurn d
+    → (found : Found) → found ≡ found_in y.sort (nat_le y.left 1) (note_at d.notes y.place) (token_in m y.place) → AreInTurn (after_harvest d m e t found (Some x) (Some y))
+harvest_turns d m e t x y here there goes next waits bulk old found is =
+    all_in_turn (after_harvest d m e t found (Some x) (Some y)) (harvest_turns_of AnyOne d m e t x y here there goes next waits bulk tt (in_turn_of_all d old) found is)

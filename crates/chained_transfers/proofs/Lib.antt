@@ -2,11 +2,13 @@ pub mod Ways
 pub mod Moves
 pub mod Chained
 pub mod Turning
+pub mod Ends
 pub mod Reporting
 pub mod Queued
 pub mod Accepting
 pub mod Harvesting
 pub mod Harvested
 pub mod Rows
+pub mod Staying
 pub mod Events
 pub mod Commands

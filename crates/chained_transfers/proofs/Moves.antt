@@ -1,6 +1,5 @@
 -- Each transfer goes the way of its endpoint still where the endpoints keep what they were opened as.
 use Rattle.std.proofs.Common.{◌≡◌, ◌≢◌, ℕ, zero, suc, List, [], ◌∷◌, ◌++◌, set, slice_get, Some, ap, sym, ◌∙◌, ⊎_elim, refl}
-use Rattle.std.specs.Prelude.{◌⊎◌}
 use Rattle.std.proofs.lemmas.Bool.{cases_eq}
 use Rattle.std.proofs.lemmas.Option.{same_Some}
 use Rattle.usb_base.specs.declared.endpoints.EpDesc.{EpDesc}

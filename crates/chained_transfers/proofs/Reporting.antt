@@ -5,10 +5,11 @@ use Rattle.std.proofs.lemmas.Bool.{cases_eq, cases_Bool}
 use Rattle.std.proofs.lemmas.Option.{same_Some}
 use Rattle.usb_base.specs.declared.endpoints.EndCause.{EndCause}
 use Rattle.driver_rows.specs.declared.content.Endpoint.{Endpoint}
-use Rattle.chained_transfers.specs.Turns.{Turn, StandsBefore, AreReportedTo, AreTurns}
+use Rattle.chained_transfers.specs.Turns.{Turn, StandsBefore, AreReportedTo}
+use Rattle.chained_transfers.specs.Leaving.{AreTurnsOf}
 use Rattle.chained_transfers.proofs.Turning.{IsChangedAt, which}
 
-module _ (v w : ℕ → Option Turn) (ends ends_now : ℕ → Option Endpoint) (hs : List ℕ) (e t : ℕ) (x : Turn) (a b : Endpoint) (c : IsChangedAt v w t x (record x { reported = true })) (f : IsChangedAt ends ends_now e a b) where
+module _ (S : ℕ → Type 0) (v w : ℕ → Option Turn) (ends ends_now : ℕ → Option Endpoint) (hs : List ℕ) (e t : ℕ) (x : Turn) (a b : Endpoint) (c : IsChangedAt v w t x (record x { reported = true })) (f : IsChangedAt ends ends_now e a b) where
   done : Turn
   done = record x { reported = true }
 
@@ -61,7 +62,7 @@ module _ (v w : ℕ → Option Turn) (ends ends_now : ℕ → Option Endpoint) (
         before = λ u z less there is. let b = before u z there in told_now u b.turn z b.there there (old.before u b.turn less b.there (sym b.endpoint ∙ is));
       }
 
-  reported_order : IsFirst → AreTurns v ends hs → (k u : ℕ) (y z : Turn) → k < u → w k ≡ Some y → w u ≡ Some z → z.endpoint ≡ y.endpoint → z.reported ≡ true → y.reported ≡ true
+  reported_order : IsFirst → AreTurnsOf S v ends hs → (k u : ℕ) (y z : Turn) → k < u → w k ≡ Some y → w u ≡ Some z → z.endpoint ≡ y.endpoint → z.reported ≡ true → y.reported ≡ true
   reported_order first old k u y z less there there_u is reported =
       let p = before k y there in
       let q = before u z there_u in
@@ -71,16 +72,18 @@ module _ (v w : ℕ → Option Turn) (ends ends_now : ℕ → Option Endpoint) (
       (sym p.endpoint ∙ sym is ∙ q.endpoint ∙ ap (λ (r : Turn). r.endpoint) (same_Some q.turn x (sym q.there ∙ ap v own ∙ c.was)) ∙ first.endpoint))
       (λ (other : u ≢ t). old.reported k u p.turn q.turn less p.there q.there (sym q.endpoint ∙ is ∙ p.endpoint) (sym (q.reported other) ∙ reported)) (cases_eq u t))
 
-  released_order : AreTurns v ends hs → (k u : ℕ) (y z : Turn) → k < u → w k ≡ Some y → w u ≡ Some z → z.endpoint ≡ y.endpoint → z.released ≡ true → y.released ≡ true
+  released_order : AreTurnsOf S v ends hs → (k u : ℕ) (y z : Turn) → k < u → w k ≡ Some y → w u ≡ Some z → z.endpoint ≡ y.endpoint → z.released ≡ true → y.released ≡ true
   released_order old k u y z less there there_u is released =
       let p = before k y there in
       let q = before u z there_u in
       p.released ∙ old.released k u p.turn q.turn less p.there q.there (sym q.endpoint ∙ is ∙ p.endpoint) (sym q.released ∙ released)
 
-  told_order : AreTurns v ends hs → (k : ℕ) (y : Turn) → w k ≡ Some y → y.released ≡ true → y.reported ≡ true
-  told_order old k y there released = let p = before k y there in told_now k p.turn y p.there there (old.told k p.turn p.there (sym p.released ∙ released))
+  told_order : AreTurnsOf S v ends hs → (k : ℕ) (y : Turn) → w k ≡ Some y → S y.endpoint → y.released ≡ true → y.reported ≡ true
+  told_order old k y there stays released =
+      let p = before k y there in
+      told_now k p.turn y p.there there (old.told k p.turn p.there (subst (λ (i : ℕ). S i) p.endpoint stays) (sym p.released ∙ released))
 
-  next_order : IsFirst → (b.ended ≡ None → AreReportedTo w e b.next) → AreTurns v ends hs → (k : ℕ) (y : Endpoint) → ends_now k ≡ Some y → y.ended ≡ None → AreReportedTo w k y.next
+  next_order : IsFirst → (b.ended ≡ None → AreReportedTo w e b.next) → AreTurnsOf S v ends hs → (k : ℕ) (y : Endpoint) → ends_now k ≡ Some y → y.ended ≡ None → AreReportedTo w k y.next
   next_order first mine old k y here goes = ⊎_elim
       (λ (own : (k ≡ e) × (y ≡ b)).
       subst (λ (i : ℕ). AreReportedTo w i y.next) (sym own.0)
@@ -89,7 +92,7 @@ module _ (v w : ℕ → Option Turn) (ends ends_now : ℕ → Option Endpoint) (
       (which ends ends_now e a b k y f here)
 
   -- the endpoint has ended with it
-  pub ended_turns : (cause : EndCause) → b.ended ≡ Some cause → IsFirst → AreTurns v ends hs → AreTurns w ends_now hs
+  pub ended_turns : (cause : EndCause) → b.ended ≡ Some cause → IsFirst → AreTurnsOf S v ends hs → AreTurnsOf S w ends_now hs
   ended_turns cause ended first old = record {
     reported = reported_order first old;
     released = released_order old;
@@ -114,7 +117,7 @@ module _ (v w : ℕ → Option Turn) (ends ends_now : ℕ → Option Endpoint) (
       none goes = let is : ◌≡◌ {A = Option EndCause} (Some cause) None = sym ended ∙ goes in absurd (cc)
 
   -- it goes on with its next transfer
-  pub harvested_turns : a.ended ≡ None → (b.ended ≡ None → AreReportedTo w e b.next) → IsFirst → AreTurns v ends hs → AreTurns w ends_now (hs ++ t ∷ [])
+  pub harvested_turns : a.ended ≡ None → (b.ended ≡ None → AreReportedTo w e b.next) → IsFirst → AreTurnsOf S v ends hs → AreTurnsOf S w ends_now (hs ++ t ∷ [])
   harvested_turns goes_on mine first old = record {
     reported = reported_order first old;
     released = released_order old;

@@ -1,11 +1,47 @@
--- Turns along harvests, releases and commands.
-use Rattle.std.proofs.Common.{◌≡◌, ◌≢◌, ℕ, zero, suc, ◌<◌, true, false, List, [], ◌∷◌, set, drop, slice_get, Option, Some, None, option_map, ap, sym, ◌∙◌, ⊎_elim, inl, inr, refl, arith}
+-- Turns along harvests, releases and commands, where some endpoints stay: what is given back of them was reported.
+use Rattle.std.proofs.Common.{◌≡◌, ◌≢◌, ℕ, zero, suc, ◌<◌, true, List, [], ◌∷◌, set, drop, slice_get, Option, Some, None, option_map, ap, sym, ◌∙◌, ⊎_elim, inl, inr, refl, arith}
 use Rattle.std.specs.Prelude.{◌⊎◌}
 use Rattle.std.proofs.lemmas.Bool.{cases_eq, false≢true}
 use Rattle.std.proofs.lemmas.Option.{same_Some}
 use Rattle.driver_rows.specs.declared.content.Endpoint.{Endpoint}
 use Rattle.run_owners.proofs.Released.{set_here, set_there}
-use Rattle.chained_transfers.specs.Turns.{Turn, StandsBefore, IsInList, AreReportedTo, AreTurns}
+use Rattle.driver_rows.specs.DriverContent.{DriverContent}
+use Rattle.run_owners.specs.Owners.{note_in}
+use Rattle.chained_transfers.specs.Turns.{Turn, turn_in, AreAtPlaces, StandsBefore, IsInList, AreReportedTo, AreTurns, AreInTurn}
+use Rattle.chained_transfers.specs.Leaving.{AreTurnsOf}
+
+-- ---- turns of a driver
+
+pub record AreInTurnOf (S : ℕ → Type 0) (d : DriverContent) : Type 0 where
+  pub places : AreAtPlaces (note_in d.notes) d.transfers
+  pub turns : AreTurnsOf S (turn_in d.transfers) (slice_get d.endpoints) d.harvested
+
+-- fewer endpoints stay
+pub fewer_turns : (S R : ℕ → Type 0) (v : ℕ → Option Turn) (ends : ℕ → Option Endpoint) (hs : List ℕ) → ((t : ℕ) (y : Turn) → v t ≡ Some y → R y.endpoint → S y.endpoint) → AreTurnsOf S v ends hs → AreTurnsOf R v ends hs
+fewer_turns S R v ends hs fewer old = record {
+  reported = old.reported;
+  released = old.released;
+  told = λ t y here stays. old.told t y here (fewer t y here stays);
+  next = old.next;
+  owed = old.owed;
+  order = old.order;
+}
+
+-- where all stay
+abbrev pub AnyOne : ℕ → Type 0
+AnyOne e = Unit {0}
+
+pub turns_of_all : (v : ℕ → Option Turn) (ends : ℕ → Option Endpoint) (hs : List ℕ) → AreTurns v ends hs → AreTurnsOf AnyOne v ends hs
+turns_of_all v ends hs old = record { reported = old.reported; released = old.released; told = λ t y here stays. old.told t y here; next = old.next; owed = old.owed; order = old.order }
+
+pub all_turns : (v : ℕ → Option Turn) (ends : ℕ → Option Endpoint) (hs : List ℕ) → AreTurnsOf AnyOne v ends hs → AreTurns v ends hs
+all_turns v ends hs old = record { reported = old.reported; released = old.released; told = λ t y here. old.told t y here tt; next = old.next; owed = old.owed; order = old.order }
+
+pub in_turn_of_all : (d : DriverContent) → AreInTurn d → AreInTurnOf AnyOne d
+in_turn_of_all d old = record { places = old.places; turns = turns_of_all (turn_in d.transfers) (slice_get d.endpoints) d.harvested old.turns }
+
+pub all_in_turn : (d : DriverContent) → AreInTurnOf AnyOne d → AreInTurn d
+all_in_turn d old = record { places = old.places; turns = all_turns (turn_in d.transfers) (slice_get d.endpoints) d.harvested old.turns }
 
 -- ---- views in which one is changed
 
@@ -51,7 +87,7 @@ in_place v w t x y k z c there differs = sym (c.there k differs) ∙ there
 
 -- ---- a transfer is given back
 
-module _ (v w : ℕ → Option Turn) (ends : ℕ → Option Endpoint) (hs : List ℕ) (t : ℕ) (x : Turn) (c : IsChangedAt v w t x (record x { released = true })) where
+module _ (S : ℕ → Type 0) (v w : ℕ → Option Turn) (ends : ℕ → Option Endpoint) (hs : List ℕ) (t : ℕ) (x : Turn) (c : IsChangedAt v w t x (record x { released = true })) where
   gone : Turn
   gone = record x { released = true }
 
@@ -124,7 +160,7 @@ module _ (v w : ℕ → Option Turn) (ends : ℕ → Option Endpoint) (hs : List
       drop_get [] n = refl
       drop_get (y ∷ ys) n = refl
 
-  pub released_turns : slice_get hs 0 ≡ Some t → x.reported ≡ true → AreTurns v ends hs → AreTurns w ends (drop 1 hs)
+  pub released_turns : slice_get hs 0 ≡ Some t → x.reported ≡ true → AreTurnsOf S v ends hs → AreTurnsOf S w ends (drop 1 hs)
   unfolding gone
   released_turns first told old = record {
     reported = λ k u y z less there there_u is reported.
@@ -141,9 +177,9 @@ module _ (v w : ℕ → Option Turn) (ends : ℕ → Option Endpoint) (hs : List
         (old.order 0 k u a.turn x at_first less a.there (ap v own.0 ∙ c.was) (sym (ap (λ (r : Turn). r.endpoint) own.1) ∙ is ∙ a.endpoint)))
         (λ (other : (u ≢ t) × (v u ≡ Some z)). gone_now k a.turn y a.there there (old.released k u a.turn z less a.there other.1 (is ∙ a.endpoint) released))
         (cases u z there_u);
-    told = λ k z there released.
+    told = λ k z there stays released.
         ⊎_elim (λ (own : (k ≡ t) × (z ≡ gone)). ap (λ (r : Turn). r.reported) own.1 ∙ told)
-        (λ (other : (k ≢ t) × (v k ≡ Some z)). old.told k z other.1 released) (cases k z there);
+        (λ (other : (k ≢ t) × (v k ≡ Some z)). old.told k z other.1 stays released) (cases k z there);
     next = λ e y here goes. still_reported e y.next (old.next e y here goes);
     owed = λ k y z there here goes reported held.
         ⊎_elim (λ (own : (k ≡ t) × (y ≡ gone)). absurd (false≢true (sym held ∙ ap (λ (r : Turn). r.released) own.1)))

@@ -5,4 +5,5 @@ pub mod Turns
 pub mod Out
 pub mod Accepted
 pub mod InTurn
+pub mod Leaving
 pub mod Worked

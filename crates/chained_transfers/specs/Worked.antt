@@ -1,9 +1,15 @@
 -- Transfers for worked rows. The endpoint has its queue head in block 130; its first transfer has the qTDs in blocks 132 and 140, and a short packet
 -- ended it at the first of them; its second one has those in blocks 141 and 142, of which the first was read. The end of the queue is block 143.
-use Rattle.std.specs.Prelude.{ℕ, true, false, [], ◌∷◌, if◌then◌else◌, ◌==◌}
+-- In one driver the endpoint was cancelled, has left the ring and waits for the doorbell.
+use Rattle.std.specs.Prelude.{ℕ, true, false, [], ◌∷◌, Some, None, if◌then◌else◌, ◌==◌}
+use Rattle.usb_base.specs.declared.endpoints.EndCause.TheVariants as causes
+use Rattle.driver_rows.specs.declared.content.Endpoint.{Endpoint}
 use Rattle.driver_rows.specs.declared.content.Transfer.{Transfer}
 use Rattle.driver_rows.specs.declared.content.Sort.TheVariants as sorts
+use Rattle.driver_rows.specs.DriverContent.{DriverContent}
+use Rattle.driver_rows.specs.Opening.{opening}
 use Rattle.run_owners.specs.Owners.{NoteRuns}
+use Rattle.run_owners.specs.Worked.{bulk}
 
 abbrev pub notes : ℕ → NoteRuns
 notes b =
@@ -17,3 +23,16 @@ ended_early = record { endpoint = 0; sort = sorts.Get; first = 132; qtds = 2; pl
 
 abbrev pub under_way : Transfer
 under_way = record { endpoint = 0; sort = sorts.Get; first = 141; qtds = 2; place = 142; left = 1; most = 64; reported = false; released = false }
+
+abbrev pub in_ring : Endpoint
+in_ring = record { desc = bulk; placement = None; queue = 130; dummy = 143; next = Some 1; ended = None; cancelled = false; linked = true; chained = false; gone = false }
+
+abbrev pub out_of_ring : Endpoint
+out_of_ring = record in_ring { ended = Some causes.Cancel; cancelled = true; linked = false }
+
+abbrev pub ring_driver : DriverContent
+ring_driver =
+    record (opening 2048 (record { endpoints = 4; transfers = 8; reports = 8; report_bytes = 4096 })).driver { endpoints = in_ring ∷ []; transfers = ended_early ∷ under_way ∷ []; harvested = 0 ∷ [] }
+
+abbrev pub waiting_driver : DriverContent
+waiting_driver = record ring_driver { endpoints = out_of_ring ∷ []; waiting = 0 ∷ [] }

@@ -1,13 +1,18 @@
 //! Worked rows of the definitions, which the check computes.
-ghost use Rattle.std.specs.Prelude.{◌≡◌, true, false, [], ◌∷◌, Some, None};
+ghost use Rattle.std.specs.Prelude.{◌≡◌, true, false, [], ◌∷◌, map, drop, Some, None};
 ghost use Rattle.usb_base.specs.declared.packets.Way.TheVariants as ways;
 ghost use Rattle.driver_rows.specs.declared.content.Command.TheVariants as unfinished;
+ghost use Rattle.driver_rows.specs.declared.content.Bell.TheVariants as bells;
+ghost use Rattle.driver_rows.specs.declared.rows.DriverRow.TheVariants as rows;
 ghost use Rattle.driver_rows.specs.Words.{get_stages, put_stages};
+ghost use Rattle.driver_rows.specs.Opening.{opening_registers};
+ghost use Rattle.driver_rows.specs.Offers.{accepted_cancel};
+ghost use Rattle.driver_rows.specs.Rows.{advance, bell_row, is_told, let_go};
 ghost use Rattle.chained_transfers.specs.Bulk.{receives, pid_by};
 ghost use Rattle.chained_transfers.specs.Accepted.{move_of};
 ghost use Rattle.chained_transfers.specs.Chains.{piece_at};
 ghost use Rattle.chained_transfers.specs.Out.{pieces_from, unpublished, out_of};
-ghost use Rattle.chained_transfers.specs.Worked.{notes, ended_early, under_way};
+ghost use Rattle.chained_transfers.specs.Worked.{notes, ended_early, under_way, in_ring, out_of_ring, ring_driver, waiting_driver};
 
 /// The chain goes from a transfer to the next, and on to the inactive qTD at the end of the queue.
 pub fn chains()
@@ -33,4 +38,14 @@ pub fn ways_of_data()
     ensures goes { receives ways.Out ≡ false }
     ensures pid_in { pid_by ways.In ≡ 1 }
     ensures pid_out { pid_by ways.Out ≡ 0 }
+{}
+
+/// A cancel unlinks the endpoint with one store; it waits, and the doorbell comes next. It is given back with its transfers, and the unreported one is told.
+pub fn leaving()
+    ensures unlinks { (accepted_cancel ring_driver 0 in_ring).command ≡ Some (unfinished.Unlink 0 128 4098) }
+    ensures waits { (advance (accepted_cancel ring_driver 0 in_ring)).endpoints ≡ out_of_ring ∷ [] }
+    ensures waiting { (advance (accepted_cancel ring_driver 0 in_ring)).waiting ≡ 0 ∷ [] }
+    ensures rings { bell_row waiting_driver opening_registers bells.Quiet ≡ Some rows.RingBell }
+    ensures told { is_told out_of_ring ≡ true }
+    ensures gone { map (let_go 0 true) (drop 1 waiting_driver.transfers) ≡ record under_way { reported = true; released = true } ∷ [] }
 {}

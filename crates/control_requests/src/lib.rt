@@ -1,5 +1,6 @@
 //! The controller over a ring, and the requests of its control endpoints (EHCI 1.0, 4.6 and 4.10; USB 2.0, 8.5.3): each event of the controller is at
-//! most one transaction of one of the requests, and how host and device stand to each other is kept, whatever the bus loses.
+//! most one transaction of one of the requests, or the advance of one queue head to its next request, and how host and device stand to each other is
+//! kept, whatever the bus loses.
 //!
 //! The crate has no code of its own: its function is a law over the definitions of `ring_control` and `ring_requests`, and its body is empty.
 #![tactic(auto)]
@@ -7,20 +8,20 @@
 ghost use Rattle.std.specs.Prelude.{ℕ, Bool, Option};
 ghost use Rattle.hc_core.specs.Controller.{Content, HasRow, microframe_row};
 ghost use Rattle.lent_structures.specs.Structures.{StructureSets};
-ghost use Rattle.request_windows.specs.Line.{Line};
 ghost use Rattle.request_calls.specs.Bus.{Device, IsControlBus, KeepsDevices};
 ghost use Rattle.ring_walk.specs.Hand.{Hand};
 ghost use Rattle.ring_walk.specs.Ring.{Base};
 ghost use Rattle.ring_walk.specs.Effects.{AreBytesHeard};
 ghost use Rattle.ring_control.specs.Control.{IsOn, IsControlled};
-ghost use Rattle.ring_requests.specs.Windows.{Sent, AreSent, AreWindows};
+ghost use Rattle.ring_requests.specs.Windows.{Queue, Lines, AreSent, AreWindows};
 ghost use Rattle.control_requests.specs.Events.{ControlWindowsGoOn};
 
 use usb_base::Wire;
 
-/// Each event of the controller makes at most one transaction of one request, and all windows stand as they must afterwards.
+/// Each event of the controller makes at most one transaction of one request under way, or is the advance of one queue head from a request that is done
+/// to the next one; all windows stand as they must afterwards, and the requests behind a halted one are never begun.
 pub fn an_event_keeps_the_windows<W: Wire>()
-    ensures { (device : W → ℕ → ℕ → Option Device) (base : Base) (member windows : ℕ → Bool) (sent : ℕ → Sent) (lines : ℕ → Line) (parts : StructureSets) (hand : Hand)
+    ensures { (device : W → ℕ → ℕ → Option Device) (base : Base) (member windows : ℕ → Bool) (sent : ℕ → Queue) (lines : ℕ → Lines) (parts : StructureSets) (hand : Hand)
         (c : Content) (wire : W) (new : Content) (after : W) → AreSent member windows sent → IsControlBus W.transacts device → KeepsDevices W.begins device
         → IsControlled base member parts hand c → IsOn base → AreWindows device member windows sent lines parts hand wire
         → AreBytesHeard W.transacts wire after → HasRow W.begins W.transacts (microframe_row c.registers c.control) c wire new after

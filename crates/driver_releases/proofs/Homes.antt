@@ -20,14 +20,14 @@ use Rattle.driver_releases.proofs.Blocks.{all_one, mine, placed_buffer, is_named
 
 -- ---- the blocks of a slot's run
 
-slot_some : (n b k : ℕ) (s : Slot) → HasBlocks n s → IsAt b s → b ≤ k → k < b + n → SlotHas s k
+pub slot_some : (n b k : ℕ) (s : Slot) → HasBlocks n s → IsAt b s → b ≤ k → k < b + n → SlotHas s k
 slot_some n b k Empty run at from below = absurd run
 slot_some n b k (Keeps r) run at from below = let first = at.0 in has_block_from r k (omega (arith, first, from)) (omega (arith, run, first, below))
 slot_some n b k (Lends r) run at from below = let first = at.0 in has_block_from r k (omega (arith, first, from)) (omega (arith, run, first, below))
 
 -- ---- the blocks of a structure of its kind
 
-head_has : (b k : ℕ) (u : Structure) → sort_of u ≡ OfQueueHead → Has (32 * b) u k → (b ≤ k) × (k < b + 2)
+pub head_has : (b k : ℕ) (u : Structure) → sort_of u ≡ OfQueueHead → Has (32 * b) u k → (b ≤ k) × (k < b + 2)
 head_has b k (QueueHead q) is (inl has) = (omega (arith, has), omega (arith, has))
 head_has b k (QueueHead q) is (inr has) = (omega (arith, has), omega (arith, has))
 head_has b k (ElementOf t) is has = absurd (cc)
@@ -36,7 +36,7 @@ head_has b k (Table ws) is has = absurd (cc)
 head_has b k (Isochronous v) is has = absurd (cc)
 head_has b k (SplitIsochronous v) is has = absurd (cc)
 
-element_has : (b k : ℕ) (u : Structure) → sort_of u ≡ OfElement → Has (32 * b) u k → (b ≤ k) × (k < b + 1)
+pub element_has : (b k : ℕ) (u : Structure) → sort_of u ≡ OfElement → Has (32 * b) u k → (b ≤ k) × (k < b + 1)
 element_has b k (ElementOf t) is has = (omega (arith, has), omega (arith, has))
 element_has b k (QueueHead q) is has = absurd (cc)
 element_has b k (BufferOf pages j bs) is has = absurd (cc)
@@ -44,7 +44,7 @@ element_has b k (Table ws) is has = absurd (cc)
 element_has b k (Isochronous v) is has = absurd (cc)
 element_has b k (SplitIsochronous v) is has = absurd (cc)
 
-list_has : (parts : StructureSets) (v : Views) (k : ℕ) (u : Structure) → AreInRuns v parts → parts 0 0 ≡ Some u → sort_of u ≡ OfTable → Has 0 u k → (0 ≤ k) × (k < 0 + 128)
+pub list_has : (parts : StructureSets) (v : Views) (k : ℕ) (u : Structure) → AreInRuns v parts → parts 0 0 ≡ Some u → sort_of u ≡ OfTable → Has 0 u k → (0 ≤ k) × (k < 0 + 128)
 list_has parts v k (Table ws) lies here is (i, below, at) = let most = lies.list ws here in (omega arith, omega (arith, most, below, at))
 list_has parts v k (QueueHead q) lies here is has = absurd (cc)
 list_has parts v k (ElementOf t) lies here is has = absurd (cc)

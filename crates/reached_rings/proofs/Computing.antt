@@ -12,7 +12,7 @@ use Rattle.ring_members.proofs.Placed.{left_ring, linked_alive}
 use Rattle.queue_head_words.specs.Overlay.{HasQueueHead, of_ring, of_endpoint}
 use Rattle.walk_members.specs.Reached.{IsReached, at_head, at_member, at_waiting, at_rung}
 use Rattle.walk_members.proofs.Leading.{among_later, among_front}
-use Rattle.reached_rings.specs.Reaching.{any_at, is_one_of, may_reach, reached, ReachedIsReached, IsReachedReached, ReachedHasQueueHead, AnswerReachesFewer}
+use Rattle.reached_rings.specs.Reaching.{any_at, is_one_of, may_reach, is_reached, ReachedIsReached, IsReachedReached, ReachedHasQueueHead, AnswerReachesFewer}
 
 -- ---- one of a list
 
@@ -68,7 +68,7 @@ reached_is_reached d rings n on =
     (or_cases (n == 32 * head_block) (any_at (λ e x. (n == 32 * x.queue) && may_reach d rings e x) d.endpoints) on)
 
 -- the queue head of an endpoint
-at_queue : (d : DriverContent) (rings : Bool) (e b : ℕ) (at : IsQueueOf d.endpoints e b) → may_reach d rings e at.endpoint ≡ true → reached d rings (32 * b) ≡ true
+at_queue : (d : DriverContent) (rings : Bool) (e b : ℕ) (at : IsQueueOf d.endpoints e b) → may_reach d rings e at.endpoint ≡ true → is_reached d rings (32 * b) ≡ true
 at_queue d rings e b at on =
     or_right (32 * b == 32 * head_block) (any_at (λ f x. (32 * b == 32 * x.queue) && may_reach d rings f x) d.endpoints)
     (there_any (λ f x. (32 * b == 32 * x.queue) && may_reach d rings f x) d.endpoints e at.endpoint at.here
@@ -113,4 +113,4 @@ before_answer d rings b (at_rung e at among on) = absurd (false≢true on)
 
 pub reaches_fewer : AnswerReachesFewer
 reaches_fewer d rings n on =
-    let r = reached_is_reached d false n on in ap (reached d rings) r.at ∙ is_reached_reached d rings r.block (before_answer d rings r.block r.reached)
+    let r = reached_is_reached d false n on in ap (is_reached d rings) r.at ∙ is_reached_reached d rings r.block (before_answer d rings r.block r.reached)

@@ -32,14 +32,14 @@ use Rattle.walk_members.specs.Reached.{IsReached, at_head, LeadsOn, IsCopyIn, Is
 use Rattle.walk_members.proofs.Decoding.{read_link, link_decoded}
 use Rattle.walk_members.proofs.Leading.{WordLeads, reached_leads}
 use Rattle.walk_members.proofs.Walking.{event_in}
-use Rattle.reached_rings.specs.Reaching.{reached, ReachedAt, NarrowRing, NarrowDrives, EventNarrows, AnswerNarrows}
+use Rattle.reached_rings.specs.Reaching.{is_reached, ReachedAt, NarrowRing, NarrowDrives, EventNarrows, AnswerNarrows}
 use Rattle.reached_rings.proofs.Computing.{reached_is_reached, is_reached_reached, reaches_fewer}
 use Rattle.reached_rings.proofs.Falling.{event_falls}
 
 -- ---- the members, where they are these
 
 abbrev Are : (ℕ → Bool) → DriverContent → Bool → Type 0
-Are narrow d rings = (n : ℕ) → narrow n ≡ reached d rings n
+Are narrow d rings = (n : ℕ) → narrow n ≡ is_reached d rings n
 
 on_at : (narrow : ℕ → Bool) (d : DriverContent) (rings : Bool) (n b : ℕ) → Are narrow d rings → n ≡ 32 * b → IsReached d rings b → narrow n ≡ true
 on_at narrow d rings n b are at may = ap narrow at ∙ are (32 * b) ∙ is_reached_reached d rings b may
@@ -107,9 +107,9 @@ still_closed narrow parts now keeps closed n q on here =
     let h : HadHead (parts n) n q = (keeps n).head_before n q here in
     subst (LeadsAmong narrow) (sym (ap (λ (z : Qh). z.link) h.same)) (closed n h.queue on h.here)
 
-fewer_by : (d : DriverContent) (b rings : Bool) → (b ≡ true → rings ≡ true) → IsWider (reached d b) (reached d rings)
+fewer_by : (d : DriverContent) (b rings : Bool) → (b ≡ true → rings ≡ true) → IsWider (is_reached d b) (is_reached d rings)
 fewer_by d false rings falls n on = reaches_fewer d rings n on
-fewer_by d true rings falls n on = subst (λ (r : Bool). reached d r n ≡ true) (sym (falls refl)) on
+fewer_by d true rings falls n on = subst (λ (r : Bool). is_reached d r n ≡ true) (sym (falls refl)) on
 
 pub event_narrows : {W : Type 0} (transacts : W → Ask → List ℕ → Reply → W → Type 0) → EventNarrows transacts
 event_narrows transacts base member narrow parts hand p d wire new after k words fixed heads walk heard leads wide are =
@@ -132,4 +132,4 @@ event_narrows transacts base member narrow parts hand p d wire new after k words
 
 pub answer_narrows : {W : Type 0} (transacts : W → Ask → List ℕ → Reply → W → Type 0) → AnswerNarrows transacts
 answer_narrows transacts base member parts hand p d wire new after k words fixed heads walk heard leads wide answered =
-    event_narrows transacts base member (reached d false) parts hand p d wire new after k words fixed heads walk heard leads wide (λ n. ap (λ (b : Bool). reached d b n) (sym answered))
+    event_narrows transacts base member (is_reached d false) parts hand p d wire new after k words fixed heads walk heard leads wide (λ n. ap (λ (b : Bool). is_reached d b n) (sym answered))

@@ -3,7 +3,7 @@
 --     any_at f xs              one of the elements is so, told with its number
 --     is_one_of e es           the number is one of these
 --     may_reach d rings e x    endpoint e, which is x, is in the ring, or has left since the last answered doorbell; `rings`: it isn't answered yet
---     reached d rings n        the queue head at byte address n is the head of the ring, or that of such an endpoint
+--     is_reached d rings n        the queue head at byte address n is the head of the ring, or that of such an endpoint
 --     ReachedAt d rings n      a block begins there that the walk may reach
 --     ReachedIsReached, IsReachedReached
 --                              the law: it is so exactly of these blocks
@@ -50,8 +50,8 @@ is_one_of e (f ∷ es) = (e == f) || is_one_of e es
 abbrev pub may_reach : DriverContent → Bool → ℕ → Endpoint → Bool
 may_reach d rings e x = x.linked || (is_one_of e d.waiting || (is_one_of e d.rung && rings))
 
-abbrev pub reached : DriverContent → Bool → ℕ → Bool
-reached d rings n = (n == 32 * head_block) || any_at (λ e x. (n == 32 * x.queue) && may_reach d rings e x) d.endpoints
+abbrev pub is_reached : DriverContent → Bool → ℕ → Bool
+is_reached d rings n = (n == 32 * head_block) || any_at (λ e x. (n == 32 * x.queue) && may_reach d rings e x) d.endpoints
 
 -- ---- the blocks that the walk may reach
 
@@ -61,10 +61,10 @@ pub record ReachedAt (d : DriverContent) (rings : Bool) (n : ℕ) : Type 0 where
   pub reached : IsReached d rings block
 
 abbrev pub ReachedIsReached : Type 0
-ReachedIsReached = (d : DriverContent) (rings : Bool) (n : ℕ) → reached d rings n ≡ true → ReachedAt d rings n
+ReachedIsReached = (d : DriverContent) (rings : Bool) (n : ℕ) → is_reached d rings n ≡ true → ReachedAt d rings n
 
 abbrev pub IsReachedReached : Type 0
-IsReachedReached = (d : DriverContent) (rings : Bool) (b : ℕ) → IsReached d rings b → reached d rings (32 * b) ≡ true
+IsReachedReached = (d : DriverContent) (rings : Bool) (b : ℕ) → IsReached d rings b → is_reached d rings (32 * b) ≡ true
 
 pub record HasQueueHeadAt (d : DriverContent) (n : ℕ) : Type 0 where
   pub block : ℕ
@@ -72,15 +72,15 @@ pub record HasQueueHeadAt (d : DriverContent) (n : ℕ) : Type 0 where
   pub there : HasQueueHead d block
 
 abbrev pub ReachedHasQueueHead : Type 0
-ReachedHasQueueHead = (d : DriverContent) (rings : Bool) (n : ℕ) → HasOwners d → reached d rings n ≡ true → HasQueueHeadAt d n
+ReachedHasQueueHead = (d : DriverContent) (rings : Bool) (n : ℕ) → HasOwners d → is_reached d rings n ≡ true → HasQueueHeadAt d n
 
 abbrev pub AnswerReachesFewer : Type 0
-AnswerReachesFewer = (d : DriverContent) (rings : Bool) → IsWider (reached d false) (reached d rings)
+AnswerReachesFewer = (d : DriverContent) (rings : Bool) → IsWider (is_reached d false) (is_reached d rings)
 
 -- ---- the members of a ring
 
 abbrev pub IsReachedIn : (ℕ → Bool) → DriverContent → RegisterFile → Type 0
-IsReachedIn narrow d r = (n : ℕ) → narrow n ≡ reached d r.doorbell n
+IsReachedIn narrow d r = (n : ℕ) → narrow n ≡ is_reached d r.doorbell n
 
 abbrev pub NarrowRing : Type 0
 NarrowRing = (base : Base) (member narrow : ℕ → Bool) (parts : StructureSets) (hand : Hand) (p : WalkPlace) (d : DriverContent) → IsRing base member parts hand p
@@ -103,11 +103,11 @@ pub record FollowsReached {W : Type 0} (transacts : W → Ask → List ℕ → R
 abbrev pub EventNarrows : {W : Type 0} → (W → Ask → List ℕ → Reply → W → Type 0) → Type 0
 EventNarrows {W} transacts = (base : Base) (member narrow : ℕ → Bool) (parts : StructureSets) (hand : Hand) (p : WalkPlace) (d : DriverContent) (wire : W) (new : WalkPlace) (after : W)
     → DrivesRing base member parts hand p d → IsRingOf (link_in p.memory) d → AreFixed p.memory d → AreNoHeads d → IsWalkIn d p.registers p.walk
-    → AreBytesHeard transacts wire after → Leads transacts (event_row p) (at_event p) wire new after → IsWider (reached d p.registers.doorbell) member → IsReachedIn narrow d new.registers
+    → AreBytesHeard transacts wire after → Leads transacts (event_row p) (at_event p) wire new after → IsWider (is_reached d p.registers.doorbell) member → IsReachedIn narrow d new.registers
     → FollowsReached transacts base narrow parts hand d wire after new (step_of (event_row p) (at_event p))
 
 abbrev pub AnswerNarrows : {W : Type 0} → (W → Ask → List ℕ → Reply → W → Type 0) → Type 0
 AnswerNarrows {W} transacts = (base : Base) (member : ℕ → Bool) (parts : StructureSets) (hand : Hand) (p : WalkPlace) (d : DriverContent) (wire : W) (new : WalkPlace) (after : W)
     → DrivesRing base member parts hand p d → IsRingOf (link_in p.memory) d → AreFixed p.memory d → AreNoHeads d → IsWalkIn d p.registers p.walk
-    → AreBytesHeard transacts wire after → Leads transacts (event_row p) (at_event p) wire new after → IsWider (reached d p.registers.doorbell) member → new.registers.doorbell ≡ false
-    → FollowsReached transacts base (reached d false) parts hand d wire after new (step_of (event_row p) (at_event p))
+    → AreBytesHeard transacts wire after → Leads transacts (event_row p) (at_event p) wire new after → IsWider (is_reached d p.registers.doorbell) member → new.registers.doorbell ≡ false
+    → FollowsReached transacts base (is_reached d false) parts hand d wire after new (step_of (event_row p) (at_event p))

@@ -6,4 +6,5 @@ pub mod Taking
 pub mod Writing
 pub mod Windows
 pub mod Telling
+pub mod Runs
 pub mod Asking

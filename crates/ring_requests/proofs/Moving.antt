@@ -1,22 +1,24 @@
 -- What a transaction leaves of a request whose stage a queue head works on.
-use Rattle.std.proofs.Common.{◌≡◌, ◌≢◌, ℕ, Bool, true, false, if◌then◌else◌, List, [], ◌++◌, ap, refl, sym, subst, ◌∙◌}
+use Rattle.std.proofs.Common.{◌≡◌, ◌≢◌, ℕ, Bool, true, false, if◌then◌else◌, List, [], ◌++◌, Some, ap, refl, sym, subst, ◌∙◌}
 use Rattle.std.proofs.lemmas.Bool.{false≢true}
 use Rattle.std.proofs.lemmas.List.{append-nil}
 use Rattle.link_words.specs.declared.kinds.QtdLink.TheVariants.{To}
 use Rattle.link_words.specs.Links.{qtd_link_of}
+use Rattle.qh_qtd.specs.declared.qtd.Qtd.{Qtd}
 use Rattle.qh_qtd.specs.declared.queue_head.Qh.{Qh}
 use Rattle.toggle_error.specs.declared.host.HostSide.{HostSide}
 use Rattle.toggle_error.specs.declared.host.Outcome.{Outcome}
 use Rattle.toggle_error.specs.declared.host.Outcome.TheVariants as outcomes
-use Rattle.lent_structures.specs.Structures.{Structures}
+use Rattle.lent_structures.specs.Structures.{Element, Structures}
 use Rattle.walk_copy.specs.Planning.{host_in}
 use Rattle.settle_laws.specs.Settles.{is_moved}
+use Rattle.queue_parts.proofs.Altering.{found_element}
 use Rattle.report_streams.specs.Requests.{Request}
 use Rattle.request_windows.specs.Host.{Endpoint, Host, Stage, Setup, Data, Status, Done, Halted, has_data, is_over, side_at, next_stage, host_in as begun, moved_at, goes_on, settled_by}
 use Rattle.ring_requests.specs.Laid.{Places, place_at, AreApart, comes, IsStage, IsFresh}
 use Rattle.ring_requests.specs.Shown.{pointer_at, AreFresh, IsPending, Works, Shows}
 use Rattle.ring_requests.specs.Shown.Shows.{works, waits, ends, halts}
-use Rattle.ring_requests.proofs.Stages.{next_apart, pointer_to, pointer_nowhere}
+use Rattle.ring_requests.proofs.Stages.{next_apart, pointer_to, pointer_behind}
 use Rattle.ring_requests.proofs.Outcomes.{LeavesActive}
 
 status_comes : (r : Request) (b : Bool) → comes r (if b then Data else Status) Status ≡ true
@@ -69,7 +71,7 @@ module _ (e : Endpoint) (r : Request) (x : Places) (apart : AreApart x) (part : 
       next_waits (next_stage r Setup) (going_next (has_data r)) idle (pointer_to q k.qtd after.left (place_at x (next_stage r Setup)) next alternate k.leads) fresh (λ t on is. next_apart r x apart Setup t refl on (is ∙ sym same)) moved
   ended Data k going next alternate fresh same idle moved =
       next_waits Status refl idle (pointer_to q k.qtd after.left x.status next alternate k.leads) fresh (λ t on is. next_apart r x apart Data t refl on (is ∙ sym same)) moved
-  ended Status k going next alternate fresh same idle moved = ends (record { done = refl; idle = idle; nowhere = pointer_nowhere part q k.qtd after.left next alternate k.leads })
+  ended Status k going next alternate fresh same idle moved = ends (record { done = refl; idle = idle; ping = refl; behind = pointer_behind part x.behind q k.qtd after.left next alternate k.leads })
   ended Done k going next alternate fresh same idle moved = absurd (false≢true (sym going))
   ended (Halted cause) k going next alternate fresh same idle moved = absurd (false≢true (sym going))
 
@@ -85,9 +87,12 @@ module _ (e : Endpoint) (r : Request) (x : Places) (apart : AreApart x) (part : 
   still_pending Done is going = absurd (false≢true (sym going))
   still_pending (Halted cause) is going = absurd (false≢true (sym going))
 
+  not_ended : (o : Structures) → IsPending o x.status → (t : Qtd) → o x.status ≡ Some (Element t) → t.token.active ≡ false → t.token.halted ≡ true
+  not_ended o pending t here off = absurd (false≢true (sym off ∙ ap (λ (u : Qtd). u.token.active) (found_element (o x.status) t pending.qtd here pending.here) ∙ pending.published))
+
   pub shows_after : (o : Outcome) (got : List ℕ) → LeavesActive o (host_in q) after → Shows e r x part after q (settled_by r o after got h)
   shows_after (outcomes.Moved n) got leaves = moves_on after.active refl (moved_at h.stage h.moved got)
-  shows_after (outcomes.Halt cause) got leaves = halts (record { cause = cause; ended = refl; idle = leaves.0; halted = leaves.1; pending = λ on. still_pending h.stage refl w.goes_on })
+  shows_after (outcomes.Halt cause) got leaves = halts (record { cause = cause; ended = refl; idle = leaves.0; halted = leaves.1; pending = λ on. still_pending h.stage refl w.goes_on; status = not_ended part (still_pending h.stage refl w.goes_on) })
   shows_after _ got leaves = stays (leaves ∙ w.active) h.moved
 
 -- ---- what was moved

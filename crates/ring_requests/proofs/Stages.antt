@@ -1,5 +1,5 @@
 -- The stages of a request and their qTDs: which comes after which, where they stand, and what stays of them.
-use Rattle.std.proofs.Common.{◌≡◌, ◌≢◌, ℕ, ◌==◌, Bool, true, false, not, ◌&&◌, if◌then◌else◌, Some, refl, sym, ap, ◌∙◌, subst, inl, inr}
+use Rattle.std.proofs.Common.{◌≡◌, ◌≢◌, ℕ, ◌==◌, Bool, true, false, not, ◌&&◌, if◌then◌else◌, Option, Some, None, refl, sym, ap, ◌∙◌, subst, inl, inr}
 use Rattle.std.specs.Prelude.{◌⊎◌}
 use Rattle.std.proofs.lemmas.Bool.{false≢true}
 use Rattle.link_words.specs.declared.fields.ShortLink.{ShortLink}
@@ -13,7 +13,7 @@ use Rattle.queue_parts.specs.Alters.{HadElement, Alters}
 use Rattle.queue_parts.proofs.Members.{still_active}
 use Rattle.report_streams.specs.Requests.{Request}
 use Rattle.request_windows.specs.Host.{Endpoint, Stage, Setup, Data, Status, Done, Halted, has_data, is_over, next_stage}
-use Rattle.ring_requests.specs.Laid.{Places, place_at, AreApart, comes, LeadTo, LeadNowhere, IsUnpublished, Leads, HasBytes, IsStage, IsFresh}
+use Rattle.ring_requests.specs.Laid.{Places, place_at, AreApart, comes, LeadTo, IsLinkBehind, LeadBehind, IsUnpublished, Leads, HasBytes, IsStage, IsFresh}
 use Rattle.ring_requests.specs.Shown.{pointer_at}
 
 -- ---- which comes after which
@@ -101,8 +101,8 @@ chosen P q t left next alternate first second =
 pub pointer_to : (q : Qh) (t : Qtd) (left a : ℕ) → q.next ≡ t.next → q.alternate ≡ t.alternate → LeadTo t a → qtd_link_of (pointer_at left q) ≡ To a
 pointer_to q t left a next alternate leads = chosen (λ (l : ShortLink). qtd_link_of l ≡ To a) q t left next alternate leads.next leads.alternate
 
-pub pointer_nowhere : (part : Structures) (q : Qh) (t : Qtd) (left : ℕ) → q.next ≡ t.next → q.alternate ≡ t.alternate → LeadNowhere part t → IsUnpublished part (pointer_at left q)
-pointer_nowhere part q t left next alternate leads = chosen (λ (l : ShortLink). IsUnpublished part l) q t left next alternate leads.next leads.alternate
+pub pointer_behind : (part : Structures) (o : Option ℕ) (q : Qh) (t : Qtd) (left : ℕ) → q.next ≡ t.next → q.alternate ≡ t.alternate → LeadBehind part o t → IsLinkBehind part o (pointer_at left q)
+pointer_behind part o q t left next alternate leads = chosen (IsLinkBehind part o) q t left next alternate leads.next leads.alternate
 
 pub pointer_same : (left : ℕ) (q new : Qh) → new.next ≡ q.next → new.alternate ≡ q.alternate → pointer_at left new ≡ pointer_at left q
 pointer_same left q new next alternate =
@@ -122,19 +122,23 @@ unpublished_still part now link alters nots a u leads here = by u.token.active r
         let same : u ≡ had.qtd = still_active had.qtd u had.after on in
         ap (λ (t : Qtd). t.token.active) same ∙ nots a had.qtd leads had.here
 
-alternate_still : (part now : Structures) (t : Qtd) → Alters part now → (t.alternate.t ≡ true) ⊎ IsUnpublished part t.alternate → (t.alternate.t ≡ true) ⊎ IsUnpublished now t.alternate
-alternate_still part now t alters (inl none) = inl none
-alternate_still part now t alters (inr nots) = inr (unpublished_still part now t.alternate alters nots)
+pub link_still : (part now : Structures) (o : Option ℕ) (link : ShortLink) → Alters part now → IsLinkBehind part o link → IsLinkBehind now o link
+link_still part now None link alters nots = unpublished_still part now link alters nots
+link_still part now (Some a) link alters leads = leads
 
-pub nowhere_still : (part now : Structures) (t : Qtd) → Alters part now → LeadNowhere part t → LeadNowhere now t
-nowhere_still part now t alters leads = record { next = unpublished_still part now t.next alters leads.next; alternate = alternate_still part now t alters leads.alternate }
+alternate_still : (part now : Structures) (o : Option ℕ) (t : Qtd) → Alters part now → (t.alternate.t ≡ true) ⊎ IsLinkBehind part o t.alternate → (t.alternate.t ≡ true) ⊎ IsLinkBehind now o t.alternate
+alternate_still part now o t alters (inl none) = inl none
+alternate_still part now o t alters (inr leads) = inr (link_still part now o t.alternate alters leads)
+
+behind_still : (part now : Structures) (o : Option ℕ) (t : Qtd) → Alters part now → LeadBehind part o t → LeadBehind now o t
+behind_still part now o t alters leads = record { next = link_still part now o t.next alters leads.next; alternate = alternate_still part now o t alters leads.alternate }
 
 pub leads_still : (r : Request) (x : Places) (part now : Structures) (s : Stage) (t : Qtd) → Alters part now → Leads r x part s t → Leads r x now s t
 leads_still r x part now Setup t alters leads = leads
 leads_still r x part now Data t alters leads = leads
-leads_still r x part now Status t alters leads = nowhere_still part now t alters leads
-leads_still r x part now Done t alters leads = nowhere_still part now t alters leads
-leads_still r x part now (Halted cause) t alters leads = nowhere_still part now t alters leads
+leads_still r x part now Status t alters leads = behind_still part now x.behind t alters leads
+leads_still r x part now Done t alters leads = behind_still part now x.behind t alters leads
+leads_still r x part now (Halted cause) t alters leads = behind_still part now x.behind t alters leads
 
 abbrev pub stage_still : (e : Endpoint) (r : Request) (x : Places) (part now : Structures) (s : Stage) (k : IsStage e r x part s) → Alters part now → now (place_at x s) ≡ Some (Element k.qtd) → (HasBytes r part s k.qtd → HasBytes r now s k.qtd) → IsStage e r x now s
 stage_still e r x part now s k alters here bytes = record { qtd = k.qtd; here = here; pid = k.pid; leads = leads_still r x part now s k.qtd alters k.leads; bytes = bytes k.bytes }

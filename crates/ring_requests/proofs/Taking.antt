@@ -1,10 +1,11 @@
--- The qTD of the stage that waits is taken.
-use Rattle.std.proofs.Common.{◌≡◌, ℕ, ◌==◌, Bool, true, false, if◌then◌else◌, List, Some, ap, refl, sym, ◌∙◌}
+-- The qTD of the stage that waits is taken, or after a request the SETUP of the one behind it.
+use Rattle.std.proofs.Common.{◌≡◌, ℕ, ◌==◌, Bool, true, false, if◌then◌else◌, List, Option, Some, None, ap, refl, sym, subst, ◌∙◌}
 use Rattle.std.proofs.lemmas.Bool.{false≢true}
 use Rattle.link_words.specs.declared.kinds.QtdLink.TheVariants.{To}
 use Rattle.link_words.specs.Links.{qtd_link_of}
 use Rattle.qh_qtd.specs.declared.qtd.Qtd.{Qtd}
 use Rattle.qh_qtd.specs.declared.queue_head.Qh.{Qh}
+use Rattle.toggle_error.specs.declared.host.HostSide.{HostSide}
 use Rattle.host_token.specs.HostToken.{host_at}
 use Rattle.lent_structures.specs.Structures.{QueueHead, Element, Buffer, Structures, with_structure}
 use Rattle.lent_structures.proofs.Names.{with_there}
@@ -15,11 +16,12 @@ use Rattle.walk_copy.specs.Overlay.{advanced}
 use Rattle.walk_copy.specs.Planning.{host_in}
 use Rattle.walk_copy.specs.Visits.{next_pointer}
 use Rattle.report_streams.specs.Requests.{Request}
-use Rattle.request_windows.specs.Host.{Endpoint, Host, Stage, Setup, Data, Status, Done, Halted}
+use Rattle.request_windows.specs.Host.{Endpoint, Host, Stage, Setup, Data, Status, Done, Halted, is_over, side_at, host_at as begun_at}
 use Rattle.request_calls.specs.Stages.{IsEndpoint}
-use Rattle.ring_requests.specs.Laid.{Places, place_at, HasBytes, IsStage, IsFresh}
-use Rattle.ring_requests.specs.Shown.{Works, Waits, Shows}
+use Rattle.ring_requests.specs.Laid.{Places, place_at, IsUnpublished, IsLinkBehind, HasBytes, IsStage, IsFresh}
+use Rattle.ring_requests.specs.Shown.{pointer_at, AreFresh, Works, Waits, Ends, Shows}
 use Rattle.ring_requests.specs.Shown.Shows.{works, waits, ends, halts}
+use Rattle.ring_requests.specs.Windows.{is_done}
 use Rattle.ring_requests.proofs.Stages.{comes_self, comes_later, to_same, stage_still, fresh_still}
 
 -- what an advance leaves of a queue head
@@ -84,7 +86,7 @@ module _ (e : Endpoint) (r : Request) (x : Places) (part : Structures) (n : ℕ)
   abbrev new : Qh
   new = advanced q a t
 
-  taken_works : (w : Waits e r x part (host_in q) q h) → Works e r x (with_structure part n (QueueHead (advanced q a t))) (host_in (advanced q a t)) (advanced q a t) h
+  pub taken_works : (w : Waits e r x part (host_in q) q h) → Works e r x (with_structure part n (QueueHead (advanced q a t))) (host_in (advanced q a t)) (advanced q a t) h
   taken_works w =
       let f : IsFresh e r x part h.stage = w.fresh h.stage (comes_self r h.stage w.goes_on) in
       let place : a ≡ place_at x h.stage = to_same a (place_at x h.stage) (sym leads ∙ w.leads) in
@@ -104,8 +106,48 @@ module _ (e : Endpoint) (r : Request) (x : Places) (part : Structures) (n : ℕ)
         later = λ s on. fresh_there part n q new here e r x s (w.fresh s (comes_later r h.stage s w.goes_on on));
       }
 
-  pub taken_shows : Shows e r x part (host_in q) q h → Shows e r x (with_structure part n (QueueHead (advanced q a t))) (host_in (advanced q a t)) (advanced q a t) h
-  taken_shows (works w) = absurd (false≢true (sym idle ∙ w.active))
-  taken_shows (waits w) = works (taken_works w)
-  taken_shows (ends w) = absurd (false≢true (sym (w.nowhere a t leads there) ∙ published))
-  taken_shows (halts w) = absurd (false≢true (sym goes_on ∙ w.halted))
+  pub taken_shows : is_done h.stage ≡ false → Shows e r x part (host_in q) q h → Works e r x (with_structure part n (QueueHead (advanced q a t))) (host_in (advanced q a t)) (advanced q a t) h
+  taken_shows going (works w) = absurd (false≢true (sym idle ∙ w.active))
+  taken_shows going (waits w) = taken_works w
+  taken_shows going (ends w) = absurd (false≢true (sym going ∙ ap is_done w.done))
+  taken_shows going (halts w) = absurd (false≢true (sym goes_on ∙ w.halted))
+
+  -- nothing is behind the request
+  pub none_behind : Ends x part (host_in q) q h → x.behind ≡ None → ⊥
+  none_behind w none =
+      let nots : IsUnpublished part (next_pointer q) = subst (λ (o : Option ℕ). IsLinkBehind part o (next_pointer q)) none w.behind in
+      false≢true (sym (nots a t leads there) ∙ published)
+
+-- ---- a request is done
+
+done_going : (s : Stage) → is_done s ≡ true → is_over s ≡ false → ⊥
+done_going Done done going = false≢true (sym going)
+done_going Setup done going = false≢true done
+done_going Data done going = false≢true done
+done_going Status done going = false≢true done
+done_going (Halted cause) done going = false≢true done
+
+pub done_is : (s : Stage) → is_done s ≡ true → s ≡ Done
+done_is Done done = refl
+done_is Setup done = absurd (false≢true done)
+done_is Data done = absurd (false≢true done)
+done_is Status done = absurd (false≢true done)
+done_is (Halted cause) done = absurd (false≢true done)
+
+pub ends_only : (e : Endpoint) (r : Request) (x : Places) (part : Structures) (side : HostSide) (q : Qh) (h : Host) → is_done h.stage ≡ true → Shows e r x part side q h → Ends x part side q h
+ends_only e r x part side q h done (works w) = absurd (done_going h.stage done w.goes_on)
+ends_only e r x part side q h done (waits w) = absurd (done_going h.stage done w.goes_on)
+ends_only e r x part side q h done (ends w) = w
+ends_only e r x part side q h done (halts w) = absurd (false≢true (ap is_done (sym w.ended) ∙ done))
+
+-- the request behind it waits
+pub next_waits : (e : Endpoint) (x : Places) (part : Structures) (q : Qh) (h : Host) (next : Request) (y : Places) → q.token.active ≡ false → x.behind ≡ Some y.setup → Ends x part (host_in q) q h → AreFresh e next y part Setup
+    → Waits e next y part (host_in q) q (begun_at next e.max h.side.ping)
+next_waits e x part q h next y idle behind w fresh = record {
+  goes_on = refl;
+  idle = w.idle;
+  side_is = ap (λ (b : Bool). side_at next e.max b Setup) (sym w.ping);
+  leads = subst (λ (o : Option ℕ). IsLinkBehind part o (pointer_at q.token.total q)) behind w.behind;
+  fresh = fresh;
+  beside = λ on. absurd (false≢true (sym idle ∙ on));
+}

@@ -1,6 +1,7 @@
--- A request that is laid out opens its window, and one whose status memory shows to be done was acted on exactly once.
-use Rattle.std.proofs.Common.{◌≡◌, ◌≢◌, ℕ, ◌==◌, Bool, true, false, if◌then◌else◌, List, Option, Some, ap, refl, sym, subst, ◌∙◌, ⊎_elim}
-use Rattle.std.proofs.lemmas.Bool.{cases_eq, false≢true}
+-- A request that is laid out opens its window, and so does a queue of them; one whose status memory shows to be done was acted on exactly once.
+use Rattle.std.proofs.Common.{◌≡◌, ◌≢◌, ℕ, ◌<◌, ◌≤◌, ◌==◌, Bool, true, false, if◌then◌else◌, List, Option, Some, ap, refl, sym, subst, ◌∙◌, ⊎_elim, inl, inr, arith}
+use Rattle.std.specs.Prelude.{◌⊎◌}
+use Rattle.std.proofs.lemmas.Bool.{cases_eq, cases_lt, false≢true}
 use Rattle.usb_base.specs.declared.packets.Reply.{Reply}
 use Rattle.qh_qtd.specs.declared.qtd.Qtd.{Qtd}
 use Rattle.qh_qtd.specs.declared.queue_head.Qh.{Qh}
@@ -21,9 +22,9 @@ use Rattle.request_windows.specs.Windows.{IsRight}
 use Rattle.request_windows.proofs.Steps.{right, opens}
 use Rattle.request_calls.specs.Bus.{Device, device_of}
 use Rattle.ring_requests.specs.Laid.{place_at, comes}
-use Rattle.ring_requests.specs.Shown.{hand_side, IsPending, Works, Shows}
+use Rattle.ring_requests.specs.Shown.{hand_side, IsPending, Works, Halts, Shows}
 use Rattle.ring_requests.specs.Shown.Shows.{works, waits, ends, halts}
-use Rattle.ring_requests.specs.Windows.{Sent, IsWindow, IsLaid, HasEnded, IsActedOnce}
+use Rattle.ring_requests.specs.Windows.{Sent, Queue, sent_at, Lines, lines_at, IsWindow, IsFinished, IsBehind, IsLaid, IsGoing, HasEnded, IsActedOnce, IsQueue, AreLaid}
 use Rattle.ring_requests.proofs.Moving.{fresh_pending}
 
 -- ---- a window opens
@@ -35,10 +36,26 @@ laid_opens v hand parts n q c o k max device = record {
   control = k.control;
   shown = subst (λ (s : HostSide). Shows v.endpoint v.request v.places (parts n) s q (line_at v.endpoint v.request q.token.ping c).host) (sym k.nothing_made)
       (waits (record { goes_on = refl; idle = k.idle; side_is = refl; leads = k.leads; fresh = k.fresh; beside = λ on. absurd (false≢true (sym k.idle ∙ on)) }));
+  among = λ on. absurd (false≢true (sym k.idle ∙ on));
   moved = k.none_told;
   device = device;
   stands = opens v.endpoint v.request q.token.ping c max;
 }
+
+pub queue_opens : (v : Queue) (hand : Hand) (parts : StructureSets) (n : ℕ) (q : Qh) (c : Stages) (o : Option Device) → AreLaid v hand parts n q → c.max ≡ v.endpoint.max → o ≡ Some (device_of v.endpoint c) → IsQueue v (lines_at v q.token.ping c) hand parts n o
+queue_opens v hand parts n q c o k max device = record {
+  within = k.some;
+  window = laid_opens (sent_at v 0) hand parts n q c o k.first max device;
+  finished = λ i less. absurd (omega (arith, less));
+  behind = k.behind;
+}
+
+-- ---- requests that are done
+
+pub finished_once : (v : Sent) (l : Line) (hand : Hand) (parts : StructureSets) (n : ℕ) → IsFinished v l hand parts n → IsActedOnce v l hand parts n
+finished_once v l hand parts n k =
+    let is : IsRight v.endpoint v.request l = right v.endpoint v.request l k.stands in
+    record { acts = is.done_once k.done; told = λ some. subst (λ (xs : List ℕ). Told hand parts n v.places.data_at xs) (is.done_whole k.done) (k.moved some) }
 
 -- ---- what memory tells
 
@@ -68,39 +85,57 @@ status_after : (r : Request) (b : Bool) → comes r (if b then Data else Status)
 status_after r true = refl
 status_after r false = refl
 
-module _ (member : ℕ → Bool) (parts : StructureSets) (hand : Hand) (reply : Reply) (n : ℕ) (m : IsMember member n (parts n)) (in_hand : IsInHand member parts reply hand) (v : Sent) (k : HasEnded v parts n) (h : Host) where
-  working : (q : Qh) → q ≡ k.queue → q.token.active ≡ true → IsPending (parts n) q.current
-  working q same on =
-      let is : m.queue ≡ q = found_queue (parts n n) m.queue k.queue m.here k.head ∙ sym same in
+module _ (member : ℕ → Bool) (parts : StructureSets) (hand : Hand) (reply : Reply) (n : ℕ) (m : IsMember member n (parts n)) (in_hand : IsInHand member parts reply hand) (q : Qh) (head : parts n n ≡ Some (QueueHead q)) (v : Sent) (k : HasEnded v parts n) (h : Host) where
+  working : q.token.active ≡ true → IsPending (parts n) q.current
+  working on =
+      let is : m.queue ≡ q = found_queue (parts n n) m.queue q m.here head in
       let w : IsWorking (parts n) q = (subst (IsSoundQueue (parts n)) is m.sound).work on in
       record { qtd = w.element; here = w.here; published = w.published }
 
-  active_side : (hand_side hand n k.queue).active ≡ true → k.queue.token.active ≡ true
-  active_side = either_side (λ (s : HostSide). s.active ≡ true → k.queue.token.active ≡ true) member hand parts reply n k.queue in_hand k.head (λ on. on) (λ s on other. on)
+  active_side : (hand_side hand n q).active ≡ true → q.token.active ≡ true
+  active_side = either_side (λ (s : HostSide). s.active ≡ true → q.token.active ≡ true) member hand parts reply n q in_hand head (λ on. on) (λ s on other. on)
 
   none_pending : IsPending (parts n) v.places.status → ⊥
   none_pending pending = not_pending (parts n) v.places.status k.qtd k.here k.ended pending
 
-  by_stage : (s : Stage) → h.stage ≡ s → is_over s ≡ false → Works v.endpoint v.request v.places (parts n) (hand_side hand n k.queue) k.queue h → ⊥
-  by_stage Status is going w = none_pending (subst (IsPending (parts n)) (w.current ∙ ap (place_at v.places) is) (working k.queue refl (active_side w.active)))
+  by_stage : (s : Stage) → h.stage ≡ s → is_over s ≡ false → Works v.endpoint v.request v.places (parts n) (hand_side hand n q) q h → ⊥
+  by_stage Status is going w = none_pending (subst (IsPending (parts n)) (w.current ∙ ap (place_at v.places) is) (working (active_side w.active)))
   by_stage Setup is going w =
       none_pending (fresh_pending v.endpoint v.request v.places (parts n) Status (w.later Status (ap (λ (s : Stage). comes v.request (next_stage v.request s) Status) is ∙ status_after v.request (has_data v.request))))
   by_stage Data is going w = none_pending (fresh_pending v.endpoint v.request v.places (parts n) Status (w.later Status (ap (λ (s : Stage). comes v.request (next_stage v.request s) Status) is)))
   by_stage Done is going w = false≢true (sym going)
   by_stage (Halted cause) is going w = false≢true (sym going)
 
-  halted_side : (hand_side hand n k.queue).halted ≡ true → k.queue.token.active ≡ true
-  halted_side = either_side (λ (s : HostSide). s.halted ≡ true → k.queue.token.active ≡ true) member hand parts reply n k.queue in_hand k.head (λ on. absurd (false≢true (sym k.goes_on ∙ on))) (λ s on other. on)
+  halted_side : q.token.halted ≡ false → (hand_side hand n q).halted ≡ true → q.token.active ≡ true
+  halted_side goes_on = either_side (λ (s : HostSide). s.halted ≡ true → q.token.active ≡ true) member hand parts reply n q in_hand head (λ on. absurd (false≢true (sym goes_on ∙ on))) (λ s on other. on)
 
-  stage_done : Shows v.endpoint v.request v.places (parts n) (hand_side hand n k.queue) k.queue h → h.stage ≡ Done
+  not_halted : (k.qtd.token.halted ≡ false) ⊎ IsGoing parts n → Halts v.places (parts n) (hand_side hand n q) q h → ⊥
+  not_halted (inl whole) w = false≢true (sym whole ∙ w.status k.qtd k.here k.ended)
+  not_halted (inr going) w =
+      let same : going.queue ≡ q = found_queue (parts n n) going.queue q going.head head in
+      none_pending (w.pending (halted_side (ap (λ (z : Qh). z.token.halted) (sym same) ∙ going.goes_on) w.halted))
+
+  stage_done : Shows v.endpoint v.request v.places (parts n) (hand_side hand n q) q h → h.stage ≡ Done
   stage_done (works w) = absurd (by_stage h.stage refl w.goes_on w)
   stage_done (waits w) = absurd (none_pending (fresh_pending v.endpoint v.request v.places (parts n) Status (w.fresh Status (status_last v.request h.stage w.goes_on))))
   stage_done (ends w) = w.done
-  stage_done (halts w) = absurd (none_pending (w.pending (halted_side w.halted)))
+  stage_done (halts w) = absurd (not_halted k.goes_on w)
 
-pub ended_once : (member : ℕ → Bool) (parts : StructureSets) (hand : Hand) (reply : Reply) (n : ℕ) (v : Sent) (l : Line) (o : Option Device) → IsMember member n (parts n) → IsInHand member parts reply hand → IsWindow v l hand parts n o → HasEnded v parts n → IsActedOnce v l hand parts n
+ended_once : (member : ℕ → Bool) (parts : StructureSets) (hand : Hand) (reply : Reply) (n : ℕ) (v : Sent) (l : Line) (o : Option Device) → IsMember member n (parts n) → IsInHand member parts reply hand → IsWindow v l hand parts n o → HasEnded v parts n → IsActedOnce v l hand parts n
 ended_once member parts hand reply n v l o m in_hand w k =
-    let same : w.queue ≡ k.queue = found_queue (parts n n) w.queue k.queue w.head k.head in
-    let done : l.host.stage ≡ Done = stage_done member parts hand reply n m in_hand v k l.host (subst (λ (q : Qh). Shows v.endpoint v.request v.places (parts n) (hand_side hand n q) q l.host) same w.shown) in
-    let is : IsRight v.endpoint v.request l = right v.endpoint v.request l w.stands in
-    record { acts = is.done_once done; told = λ some. subst (λ (xs : List ℕ). Told hand parts n v.places.data_at xs) (is.done_whole done) (w.moved some) }
+    finished_once v l hand parts n (record { done = stage_done member parts hand reply n m in_hand w.queue w.head v k l.host w.shown; moved = w.moved; stands = w.stands })
+
+-- a request that isn't begun hasn't ended
+behind_pending : (v : Sent) (hand : Hand) (parts : StructureSets) (n : ℕ) → IsBehind v hand parts n → HasEnded v parts n → ⊥
+behind_pending v hand parts n w k = not_pending (parts n) v.places.status k.qtd k.here k.ended (fresh_pending v.endpoint v.request v.places (parts n) Status (w.fresh Status refl))
+
+pub queue_ended : (member : ℕ → Bool) (parts : StructureSets) (hand : Hand) (reply : Reply) (n i : ℕ) (v : Queue) (l : Lines) (o : Option Device) → IsMember member n (parts n) → IsInHand member parts reply hand → i < v.count → IsQueue v l hand parts n o → HasEnded (sent_at v i) parts n
+    → IsActedOnce (sent_at v i) (l.line i) hand parts n
+queue_ended member parts hand reply n i v l o m in_hand few w k =
+    ⊎_elim {C = IsActedOnce (sent_at v i) (l.line i) hand parts n} (λ (less : i < l.under). finished_once (sent_at v i) (l.line i) hand parts n (w.finished i less))
+    (λ (other : l.under ≤ i).
+    ⊎_elim {C = IsActedOnce (sent_at v i) (l.line i) hand parts n}
+    (λ (same : i ≡ l.under).
+    subst (λ (j : ℕ). HasEnded (sent_at v j) parts n → IsActedOnce (sent_at v j) (l.line j) hand parts n) (sym same)
+    (ended_once member parts hand reply n (sent_at v l.under) (l.line l.under) o m in_hand w.window) k)
+    (λ (differs : i ≢ l.under). absurd (behind_pending (sent_at v i) hand parts n (w.behind i (omega (arith, other, differs)) few) k)) (cases_eq i l.under)) (cases_lt i l.under)

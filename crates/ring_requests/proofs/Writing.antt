@@ -1,6 +1,6 @@
 -- A transaction is written back: memory shows what the copy in hand showed.
-use Rattle.std.proofs.Common.{◌≡◌, ◌≢◌, ℕ, Bool, true, if◌then◌else◌, List, [], ◌∷◌, Some, ap, refl, sym, subst, ◌∙◌}
-use Rattle.std.proofs.lemmas.Bool.{false≢true}
+use Rattle.std.proofs.Common.{◌≡◌, ◌≢◌, ℕ, Bool, true, false, if◌then◌else◌, List, [], ◌∷◌, Some, ap, refl, sym, subst, ◌∙◌, ⊎_elim}
+use Rattle.std.proofs.lemmas.Bool.{cases_eq, false≢true}
 use Rattle.usb_base.specs.declared.packets.Pid.TheVariants as pids
 use Rattle.usb_base.specs.declared.packets.Reply.{Reply}
 use Rattle.link_words.specs.Links.{qtd_link_of}
@@ -22,10 +22,10 @@ use Rattle.ring_walk.proofs.Writing.{settled_copy, settled_range, is_written, qu
 use Rattle.report_streams.specs.Requests.{Request}
 use Rattle.request_windows.specs.Host.{Endpoint, Host, Stage, Setup, Data, Status, Done, Halted, data_token, token_at}
 use Rattle.request_calls.specs.Stages.{IsEndpoint}
-use Rattle.ring_requests.specs.Laid.{Places, place_at, AreApart, HasBytes, IsUnpublished, IsFresh}
-use Rattle.ring_requests.specs.Shown.{pointer_at, Works, Shows}
+use Rattle.ring_requests.specs.Laid.{Places, place_at, IsPlace, AreApart, HasBytes, IsLinkBehind, IsFresh}
+use Rattle.ring_requests.specs.Shown.{pointer_at, IsPending, Works, Shows, IsAmong}
 use Rattle.ring_requests.specs.Shown.Shows.{works, waits, ends, halts}
-use Rattle.ring_requests.proofs.Stages.{next_apart, pointer_same, unpublished_still, stage_still, fresh_still}
+use Rattle.ring_requests.proofs.Stages.{next_apart, pointer_same, link_still, stage_still, fresh_still}
 
 -- ---- the queue head written
 
@@ -40,6 +40,10 @@ endpoint_back e c z is = record { toggles = is.toggles; high = is.high; address 
 active_back : (c : Copy) (z : Settlement) → (moved (settled_queue_of c z) (moved_by z.outcome)).token.active ≡ z.host.active
 unfolding moved settled_queue
 active_back c z = refl
+
+halted_back : (c : Copy) (z : Settlement) → (moved (settled_queue_of c z) (moved_by z.outcome)).token.halted ≡ z.host.halted
+unfolding moved settled_queue
+halted_back c z = refl
 
 not_into_none : (part : Structures) (q : Qh) (t : Qtd) (got : List ℕ) (b : ℕ) → got ≡ [] → IsNotInto (received_into part q t got) b
 not_into_none part q t got b none = subst (λ (bs : List ℕ). IsNotInto (received_into part q t bs) b) (sym none) tt
@@ -103,7 +107,7 @@ module _ (e : Endpoint) (r : Request) (x : Places) (apart : AreApart x) (member 
   bytes_there Done t other has = tt
   bytes_there (Halted cause) t other has = tt
 
-  fresh_there : (s : Stage) → place_at x s ≢ q.current → IsFresh e r x part s → IsFresh e r x later_part s
+  pub fresh_there : (s : Stage) → place_at x s ≢ q.current → IsFresh e r x part s → IsFresh e r x later_part s
   fresh_there s differs f =
       fresh_still e r x part later_part s f alters (other_there (place_at x s) f.stage.qtd differs f.stage.here)
       (bytes_there s f.stage.qtd (not_into_other part q copy_queue k.element k.settled.got q.current (place_at x s) f.stage.qtd own k.received_is k.here f.stage.here differs))
@@ -153,6 +157,24 @@ module _ (e : Endpoint) (r : Request) (x : Places) (apart : AreApart x) (member 
         later = λ s on. fresh_there s (λ is. next_apart r x apart h.stage s w.goes_on on (is ∙ w.current)) (w.later s on);
       })
 
+  -- where the transaction halted the endpoint, the qTD that it worked on is halted
+  ended_there : k.settled.host.active ≡ false → later_part q.current ≡ Some (Element (record k.element { token = (moved copy_queue (moved_by k.settled.outcome)).token }))
+  ended_there off =
+      ap (λ (ps : StructureSets). ps owner q.current) k.now_is
+      ∙ ap (parts_back parts owner owner q copy_queue (moved_by k.settled.outcome) k.settled.got into k.element owner) (sym (settled_copy k.copy k.settled).current)
+      ∙ back_element parts owner owner q copy_queue (moved_by k.settled.outcome) k.settled.got into k.element
+      ∙ ap (λ (b : Bool). Some (Element (if b then k.element else record k.element { token = (moved copy_queue (moved_by k.settled.outcome)).token }))) (active_back k.copy k.settled ∙ off)
+
+  status_halted : k.settled.host.active ≡ false → k.settled.host.halted ≡ true → IsPending part x.status → (t : Qtd) → later_part x.status ≡ Some (Element t) → t.token.active ≡ false → t.token.halted ≡ true
+  status_halted off halted pending t here ended =
+      ⊎_elim {C = t.token.halted ≡ true}
+      (λ (same : x.status ≡ q.current).
+      ap (λ (u : Qtd). u.token.halted) (found_element (later_part x.status) t (record k.element { token = (moved copy_queue (moved_by k.settled.outcome)).token }) here (ap later_part same ∙ ended_there off))
+      ∙ halted_back k.copy k.settled
+      ∙ halted)
+      (λ (differs : x.status ≢ q.current).
+      absurd (false≢true (sym ended ∙ ap (λ (u : Qtd). u.token.active) (found_element (later_part x.status) t pending.qtd here (other_there x.status pending.qtd differs pending.here)) ∙ pending.published))) (cases_eq x.status q.current)
+
   pub back_shows : Shows e r x part k.settled.host q h → Shows e r x later_part k.settled.host new h
   back_shows (works w) = back_works w
   back_shows (waits w) =
@@ -170,8 +192,19 @@ module _ (e : Endpoint) (r : Request) (x : Places) (apart : AreApart x) (member 
       ends (record {
         done = w.done;
         idle = w.idle;
-        nowhere = subst (IsUnpublished later_part) (sym (pointer_same k.settled.host.left q new v.next v.alternate)) (unpublished_still part later_part (pointer_at k.settled.host.left q) alters w.nowhere);
+        ping = w.ping;
+        behind = subst (IsLinkBehind later_part x.behind) (sym (pointer_same k.settled.host.left q new v.next v.alternate)) (link_still part later_part x.behind (pointer_at k.settled.host.left q) alters w.behind);
       })
   back_shows (halts w) =
       let v = is_written k.copy k.settled in
-      halts (record { cause = w.cause; ended = w.ended; idle = w.idle; halted = w.halted; pending = λ on. absurd (false≢true (sym w.idle ∙ sym v.active ∙ on)) })
+      halts (record {
+        cause = w.cause;
+        ended = w.ended;
+        idle = w.idle;
+        halted = w.halted;
+        pending = λ on. absurd (false≢true (sym w.idle ∙ sym v.active ∙ on));
+        status = status_halted w.idle w.halted (w.pending settled.works);
+      })
+
+  pub among_back : IsAmong x q → IsAmong x new
+  among_back among on = let place : IsPlace x q.current = among settled.works in record { stage = place.stage; is = (is_written k.copy k.settled).current ∙ place.is }

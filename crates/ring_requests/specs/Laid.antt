@@ -1,12 +1,13 @@
 -- The qTDs of a control request, as a driver lays them out (EHCI 1.0, 3.5 and 4.10; USB 2.0, 8.5.3): its SETUP, its data, its status.
---     Places, place_at x s       where they stand
+--     Places, place_at x s       where they stand, and where the SETUP of the request behind it stands
+--     IsPlace, AreOthers         one of these places; other places than those of another request
 --     comes r s t                the stage t is s, or comes after it
---     Leads r x part s t         the links of the qTD of a stage lead to the next stage, also after a short packet; those of the status to nothing
---                                that is published
+--     LeadBehind part o t        the links of the qTD after which a request is over: to the SETUP of the one behind it, or to nothing that is published
+--     Leads r x part s t         the links of the qTD of a stage lead to the next stage, also after a short packet; those of the status behind it
 --     HasBytes r part s t        the buffer of a SETUP holds the setup bytes, that of a write's data the bytes that are written
 --     IsStage e r x part s       the qTD of a stage, whatever its token counts
 --     IsFresh e r x part s       as it is published, with the host's side of that stage in its token
-use Rattle.std.specs.Prelude.{◌≡◌, ◌≢◌, ℕ, ◌⊎◌, Bool, true, false, List, Some}
+use Rattle.std.specs.Prelude.{◌≡◌, ◌≢◌, ℕ, ◌⊎◌, Bool, true, false, List, Option, Some, None}
 use Rattle.link_words.specs.declared.fields.ShortLink.{ShortLink}
 use Rattle.link_words.specs.declared.kinds.QtdLink.TheVariants.{To}
 use Rattle.link_words.specs.Links.{qtd_link_of}
@@ -23,16 +24,26 @@ pub record Places : Type 0 where
   pub setup : ℕ
   pub data_at : ℕ
   pub status : ℕ
+  pub behind : Option ℕ  -- the SETUP of the request behind it, if there is one
 
 abbrev pub place_at : Places → Stage → ℕ
 place_at x Setup = x.setup
 place_at x Data = x.data_at
 place_at x _ = x.status
 
+-- one of its qTDs
+pub record IsPlace (x : Places) (a : ℕ) : Type 0 where
+  pub stage : Stage
+  pub is : a ≡ place_at x stage
+
 pub record AreApart (x : Places) : Type 0 where
   pub setup_data : x.setup ≢ x.data_at
   pub setup_status : x.setup ≢ x.status
   pub data_status : x.data_at ≢ x.status
+
+-- another request has other qTDs
+abbrev pub AreOthers : Places → Places → Type 0
+AreOthers x y = (s t : Stage) → place_at x s ≢ place_at y t
 
 abbrev pub comes : Request → Stage → Stage → Bool
 comes r Setup Setup = true
@@ -53,14 +64,18 @@ pub record LeadTo (t : Qtd) (a : ℕ) : Type 0 where
 abbrev pub IsUnpublished : Structures → ShortLink → Type 0
 IsUnpublished part link = (a : ℕ) (t : Qtd) → qtd_link_of link ≡ To a → part a ≡ Some (Element t) → t.token.active ≡ false
 
-pub record LeadNowhere (part : Structures) (t : Qtd) : Type 0 where
-  pub next : IsUnpublished part t.next
-  pub alternate : (t.alternate.t ≡ true) ⊎ IsUnpublished part t.alternate
+abbrev pub IsLinkBehind : Structures → Option ℕ → ShortLink → Type 0
+IsLinkBehind part None link = IsUnpublished part link
+IsLinkBehind part (Some a) link = qtd_link_of link ≡ To a
+
+pub record LeadBehind (part : Structures) (o : Option ℕ) (t : Qtd) : Type 0 where
+  pub next : IsLinkBehind part o t.next
+  pub alternate : (t.alternate.t ≡ true) ⊎ IsLinkBehind part o t.alternate
 
 abbrev pub Leads : Request → Places → Structures → Stage → Qtd → Type 0
 Leads r x part Setup t = LeadTo t (place_at x (next_stage r Setup))
 Leads r x part Data t = LeadTo t x.status
-Leads r x part _ t = LeadNowhere part t
+Leads r x part _ t = LeadBehind part x.behind t
 
 -- ---- bytes
 

@@ -1,4 +1,5 @@
 pub mod Laid
 pub mod Shown
 pub mod Windows
+pub mod Runs
 pub mod Samples

@@ -2,10 +2,11 @@
 --     hand_side hand n q         the host's side of the queue head q at n: between a transaction and its write-back the copy in hand has it
 --     Works ..                   the overlay works on the qTD of the stage, and those after it are fresh
 --     Waits ..                   the overlay has ended, and leads to the qTD of the stage, which is fresh as those after it
---     Ends ..                    the request is done, and the overlay leads to nothing that is published
+--     Ends ..                    the request is done, and the overlay leads to the SETUP of the one behind it, or to nothing that is published
 --     IsPending part a           the qTD at a is published, and not done
 --     Halts ..                   the overlay is halted
 --     Shows ..                   one of these
+--     IsAmong x q                while the overlay is active, it works on a qTD of the request
 use Rattle.std.specs.Prelude.{◌≡◌, ◌≢◌, ℕ, true, false, not, ◌&&◌, ◌==◌, Some, if◌then◌else◌}
 use Rattle.usb_base.specs.declared.endpoints.EndCause.{EndCause}
 use Rattle.link_words.specs.declared.fields.ShortLink.{ShortLink}
@@ -19,7 +20,7 @@ use Rattle.walk_copy.specs.Planning.{host_in}
 use Rattle.report_streams.specs.Requests.{Request}
 use Rattle.request_windows.specs.Host.{Endpoint, Host, Stage, Done, Halted, is_over, side_at, next_stage}
 use Rattle.ring_walk.specs.Hand.{Hand, Empty, Copied, Settled, Stale}
-use Rattle.ring_requests.specs.Laid.{Places, place_at, comes, IsUnpublished, IsStage, IsFresh}
+use Rattle.ring_requests.specs.Laid.{Places, place_at, IsPlace, comes, IsLinkBehind, IsStage, IsFresh}
 
 abbrev pub hand_side : Hand → ℕ → Qh → HostSide
 hand_side Empty n q = host_in q
@@ -53,26 +54,31 @@ pub record Waits (e : Endpoint) (r : Request) (x : Places) (part : Structures) (
   pub fresh : AreFresh e r x part h.stage
   pub beside : q.token.active ≡ true → (s : Stage) → comes r h.stage s ≡ true → place_at x s ≢ q.current
 
-pub record Ends (part : Structures) (side : HostSide) (q : Qh) (h : Host) : Type 0 where
+pub record Ends (x : Places) (part : Structures) (side : HostSide) (q : Qh) (h : Host) : Type 0 where
   pub done : h.stage ≡ Done
   pub idle : side.active ≡ false
-  pub nowhere : IsUnpublished part (pointer_at side.left q)
+  pub ping : side.ping ≡ h.side.ping
+  pub behind : IsLinkBehind part x.behind (pointer_at side.left q)
 
 pub record IsPending (part : Structures) (a : ℕ) : Type 0 where
   pub qtd : Qtd
   pub here : part a ≡ Some (Element qtd)
   pub published : qtd.token.active ≡ true
 
--- until the halt is written back the status is still to come
+-- until the halt is written back the status is still to come, and where it is the status that halted its qTD shows so
 pub record Halts (x : Places) (part : Structures) (side : HostSide) (q : Qh) (h : Host) : Type 0 where
   pub cause : EndCause
   pub ended : h.stage ≡ Halted cause
   pub idle : side.active ≡ false
   pub halted : side.halted ≡ true
   pub pending : q.token.active ≡ true → IsPending part x.status
+  pub status : (t : Qtd) → part x.status ≡ Some (Element t) → t.token.active ≡ false → t.token.halted ≡ true
 
 pub data Shows (e : Endpoint) (r : Request) (x : Places) (part : Structures) (side : HostSide) (q : Qh) (h : Host) : Type 0 where
   works : Works e r x part side q h → Shows e r x part side q h
   waits : Waits e r x part side q h → Shows e r x part side q h
-  ends : Ends part side q h → Shows e r x part side q h
+  ends : Ends x part side q h → Shows e r x part side q h
   halts : Halts x part side q h → Shows e r x part side q h
+
+abbrev pub IsAmong : Places → Qh → Type 0
+IsAmong x q = q.token.active ≡ true → IsPlace x q.current

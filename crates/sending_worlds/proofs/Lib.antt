@@ -11,4 +11,5 @@ pub mod Harvesting
 pub mod Releasing
 pub mod Driving
 pub mod Reporting
+pub mod Walking
 pub mod Moments

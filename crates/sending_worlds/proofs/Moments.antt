@@ -33,6 +33,7 @@ use Rattle.sending_worlds.proofs.Opening.{new_world_sends}
 use Rattle.sending_worlds.proofs.Beside.{controller_sending}
 use Rattle.sending_worlds.proofs.Commanding.{command_sending}
 use Rattle.sending_worlds.proofs.Driving.{driver_sending}
+use Rattle.sending_worlds.proofs.Walking.{texts_walk}
 use Rattle.sending_worlds.proofs.Reporting.{takes_puts, have_takers}
 
 -- ---- the commands of such a script
@@ -102,4 +103,4 @@ texts_keep_streams text s spelled only = record {
 }
 
 pub texts_keep_places : TextsKeepPlaces
-texts_keep_places text s spelled only = record { placed = texts_run_in_place text s spelled only; unrefused = never_refused text s spelled only }
+texts_keep_places text s spelled only = record { placed = texts_run_in_place text s spelled only; walking = texts_walk text s spelled only; unrefused = never_refused text s spelled only }

@@ -2,8 +2,8 @@
 --     KeepsStreamsThroughout s   what is told of each IN endpoint begins its stream, each byte once and in order, and nothing follows its end; what is told of each OUT
 --                                endpoint begins the bytes that its device took, as its closing line tells them, and these begin what was put to it; once no line
 --                                is left to do, these are all streams
---     KeepsPlaces s              nothing of the driver is out of place, the ring in memory is the head and each opened queue head, and the controller runs, meets no
---                                fault and is refused no word (4.15.2.4)
+--     KeepsPlaces s              nothing of the driver is out of place, the ring in memory is the head and each opened queue head, the walk stands at these alone, and
+--                                the controller runs, meets no fault and is refused no word (4.15.2.4)
 --     TextsKeepStreams, TextsKeepPlaces     the laws, of each script that a text spells
 use Rattle.std.specs.Prelude.{◌≡◌, ℕ, List}
 use Rattle.script_types.specs.declared.scripts.Script.{Script}
@@ -12,6 +12,7 @@ use Rattle.bus_world.specs.Budgets.{moment}
 use Rattle.chained_transfers.specs.Bulk.{BulkOnly}
 use Rattle.whole_worlds.specs.Moments.{InStreamsAreRightThroughout, OutStreamsAreTakenThroughout}
 use Rattle.whole_worlds.specs.Placed.{RunsInPlaceThroughout}
+use Rattle.sending_worlds.specs.Walking.{WalksThroughout}
 use Rattle.sending_worlds.specs.Moments.{OutStreamsAreSentThroughout, StreamsAreRightAtTheEnd}
 
 pub record KeepsStreamsThroughout (s : Script) : Type 0 where
@@ -22,6 +23,7 @@ pub record KeepsStreamsThroughout (s : Script) : Type 0 where
 
 pub record KeepsPlaces (s : Script) : Type 0 where
   pub placed : RunsInPlaceThroughout s
+  pub walking : WalksThroughout s
   pub unrefused : (k : ℕ) → (moment s k).world.memory.foreign ≡ 0
 
 abbrev pub TextsKeepStreams : Type 0

@@ -34,7 +34,7 @@ use Rattle.taken_reports.proofs.Closing.{closing_tells}
 use Rattle.taken_puts.specs.Puts.{puts_of, IsOpen}
 use Rattle.taken_puts.specs.Laws.{StreamsArePuts}
 use Rattle.sent_reports.specs.Sent.{IsTakenSent, AreSentStreams}
-use Rattle.sent_reports.specs.Laws.{HasItsTaker, HaveTheirTakers, TakesPuts, ReportIsSent, ReportIsRight}
+use Rattle.sent_reports.specs.Laws.{HasNamedTaker, HaveTheirTakers, TakesPuts, ReportIsSent, ReportEndsRight}
 use Rattle.sent_reports.proofs.Named.{named_opened, named_or_not}
 use Rattle.sent_reports.proofs.Untold.{untold}
 
@@ -115,7 +115,7 @@ module _ (s : Script) (p : OrderedWorld) (puts : ℕ → List ℕ) (seated : IsS
     sends : receives k.endpoint.desc.name.way ≡ false
     sends = ap (λ (n : EpName). receives n.way) k.same ∙ ap receives way
 
-    its : HasItsTaker (fixed_of s) p.world k.endpoint.desc.name
+    its : HasNamedTaker (fixed_of s) p.world k.endpoint.desc.name
     its = takers k.number k.endpoint k.here sends
 
     closes : taken r x.name ≡ Some its.taker.taken
@@ -169,5 +169,5 @@ module _ (s : Script) (p : OrderedWorld) (puts : ℕ → List ℕ) (seated : IsS
 pub report_sent : ReportIsSent
 report_sent s p puts bulk seated are only takers takes = all_sent s p puts seated are takers takes bulk only
 
-pub report_right : ReportIsRight
+pub report_right : ReportEndsRight
 report_right s p puts bulk seated are takers takes none ins outs = all_right s p puts seated are takers takes bulk none ins outs

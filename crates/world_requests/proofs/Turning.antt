@@ -1,5 +1,5 @@
 -- An event of the controller in a world is one of the controller over the wire of the world.
-use Rattle.std.proofs.Common.{◌≡◌, ℕ, Bool, true, false, Option, Some, None, refl}
+use Rattle.std.proofs.Common.{◌≡◌, ℕ, ◌<◌, Bool, true, false, Option, Some, None, refl}
 use Rattle.walk_copy.specs.declared.held.Held.{Held}
 use Rattle.walk_copy.specs.declared.held.Transaction.{Transaction}
 use Rattle.walk_copy.specs.Buffer.{Reading, sending}
@@ -20,9 +20,8 @@ use Rattle.scripted_requests.specs.Controls.{control_of, transacts_by, begins_by
 use Rattle.scripted_requests.proofs.Asking.{scripted_control}
 use Rattle.scripted_requests.proofs.Beginning.{scripted_begins}
 use Rattle.lent_structures.specs.Structures.{StructureSets}
-use Rattle.request_windows.specs.Line.{Line}
 use Rattle.ring_walk.specs.Hand.{Hand}
-use Rattle.ring_requests.specs.Windows.{Sent, HasEnded, IsActedOnce}
+use Rattle.ring_requests.specs.Windows.{Queue, sent_at, Lines, HasEnded, IsActedOnce}
 use Rattle.ring_requests.proofs.Windows.{window_ended}
 use Rattle.bus_world.specs.World.{World, frame_by, sent_by, sends_by, walk_by, turned_by, controller_parts, controller_row, controller_next}
 use Rattle.world_requests.specs.Requesting.{wired, IsRequesting, HearsBytesNow, StaysRequesting}
@@ -70,13 +69,13 @@ world_has_row fixed w = turned_has_row fixed (controller_row w) (controller_part
 
 -- ---- the windows
 
-pub controller_windows : (fixed : Fixed) (base : Base) (member windows : ℕ → Bool) (sent : ℕ → Sent) (parts : StructureSets) (hand : Hand) (lines : ℕ → Line) (w : World) → HearsBytesNow fixed w → IsRequesting fixed base member windows sent parts hand lines w → StaysRequesting fixed base member windows sent lines (controller_next fixed w)
+pub controller_windows : (fixed : Fixed) (base : Base) (member windows : ℕ → Bool) (sent : ℕ → Queue) (parts : StructureSets) (hand : Hand) (lines : ℕ → Lines) (w : World) → HearsBytesNow fixed w → IsRequesting fixed base member windows sent parts hand lines w → StaysRequesting fixed base member windows sent lines (controller_next fixed w)
 controller_windows fixed base member windows sent parts hand lines w heard k =
     let new : World = controller_next fixed w in
     let g : ControlWindowsGoOn begins_by transacts_by control_of base member windows sent lines parts hand (wired fixed w) (wired fixed new) (controller_parts new) =
     control_windows begins_by transacts_by control_of base member windows sent lines parts hand (controller_parts w) (wired fixed w) (controller_parts new) (wired fixed new)
     k.are scripted_control scripted_begins k.controlled k.on k.all (heard (wired fixed new)) (world_has_row fixed w) in
-    record { parts = g.event.now; hand = g.event.later; step = g.step; requesting = record { on = k.on; are = k.are; controlled = g.event.controlled; all = g.all } }
+    record { parts = g.event.now; hand = g.event.later; step = g.step; requesting = record { on = k.on; are = k.are; controlled = g.event.controlled; all = g.all }; halted = g.halted }
 
-pub world_ended : (fixed : Fixed) (base : Base) (member windows : ℕ → Bool) (sent : ℕ → Sent) (parts : StructureSets) (hand : Hand) (lines : ℕ → Line) (w : World) (n : ℕ) → IsRequesting fixed base member windows sent parts hand lines w → windows n ≡ true → HasEnded (sent n) parts n → IsActedOnce (sent n) (lines n) hand parts n
-world_ended fixed base member windows sent parts hand lines w n k on ended = window_ended control_of base member windows sent lines parts hand (walk_place (controller_parts w)) (wired fixed w) n k.are k.controlled.ring k.all on ended
+pub world_ended : (fixed : Fixed) (base : Base) (member windows : ℕ → Bool) (sent : ℕ → Queue) (parts : StructureSets) (hand : Hand) (lines : ℕ → Lines) (w : World) (n i : ℕ) → IsRequesting fixed base member windows sent parts hand lines w → windows n ≡ true → i < (sent n).count → HasEnded (sent_at (sent n) i) parts n → IsActedOnce (sent_at (sent n) i) ((lines n).line i) hand parts n
+world_ended fixed base member windows sent parts hand lines w n i k on few ended = window_ended control_of base member windows sent lines parts hand (walk_place (controller_parts w)) (wired fixed w) n i k.are k.controlled.ring k.all on few ended

@@ -3,23 +3,23 @@
 --     wired fixed w             the bus of a world, with what is fixed of it
 --     IsRequesting ..           the world is so
 --     HearsBytesNow fixed w     whatever is asked now, each byte that is heard is below 256
---     StaysRequesting ..        an event leaves it so, with at most one transaction of one of the requests
+--     StaysRequesting ..        an event leaves it so, with at most one transaction of one of the requests, or the advance of one queue head to its next
+--                               request, and neither of an endpoint whose request halted
 use Rattle.std.specs.Prelude.{ℕ, Bool, Option}
 use Rattle.usb_bus.specs.Bus.{Wired, Fixed}
 use Rattle.lent_structures.specs.Structures.{StructureSets}
-use Rattle.request_windows.specs.Line.{Line}
 use Rattle.ring_walk.specs.Hand.{Hand}
 use Rattle.ring_walk.specs.Ring.{Base}
 use Rattle.ring_walk.specs.Effects.{AreBytesHeard}
 use Rattle.ring_control.specs.Control.{IsOn, IsControlled}
-use Rattle.ring_requests.specs.Windows.{Sent, AreSent, AreWindows, Step, stepped}
+use Rattle.ring_requests.specs.Windows.{Queue, Lines, AreSent, AreWindows, Step, stepped, HaltedStay}
 use Rattle.scripted_requests.specs.Controls.{control_of, transacts_by}
 use Rattle.bus_world.specs.World.{World, controller_parts}
 
 abbrev pub wired : Fixed → World → Wired
 wired fixed w = record { fixed = fixed; bus = w.bus }
 
-pub record IsRequesting (fixed : Fixed) (base : Base) (member windows : ℕ → Bool) (sent : ℕ → Sent) (parts : StructureSets) (hand : Hand) (lines : ℕ → Line) (w : World) : Type 0 where
+pub record IsRequesting (fixed : Fixed) (base : Base) (member windows : ℕ → Bool) (sent : ℕ → Queue) (parts : StructureSets) (hand : Hand) (lines : ℕ → Lines) (w : World) : Type 0 where
   pub on : IsOn base
   pub are : AreSent member windows sent
   pub controlled : IsControlled base member parts hand (controller_parts w)
@@ -28,8 +28,9 @@ pub record IsRequesting (fixed : Fixed) (base : Base) (member windows : ℕ → 
 abbrev pub HearsBytesNow : Fixed → World → Type 0
 HearsBytesNow fixed w = (after : Wired) → AreBytesHeard transacts_by (wired fixed w) after
 
-pub record StaysRequesting (fixed : Fixed) (base : Base) (member windows : ℕ → Bool) (sent : ℕ → Sent) (lines : ℕ → Line) (new : World) : Type 0 where
+pub record StaysRequesting (fixed : Fixed) (base : Base) (member windows : ℕ → Bool) (sent : ℕ → Queue) (lines : ℕ → Lines) (new : World) : Type 0 where
   pub parts : StructureSets
   pub hand : Hand
   pub step : Option Step
   pub requesting : IsRequesting fixed base member windows sent parts hand (stepped sent step lines) new
+  pub halted : HaltedStay windows lines step

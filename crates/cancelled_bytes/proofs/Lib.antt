@@ -1,0 +1,4 @@
+pub mod Counting
+pub mod Transfers
+pub mod Cancelling
+pub mod Line

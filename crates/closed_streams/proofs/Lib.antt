@@ -1,0 +1,4 @@
+pub mod Leaving
+pub mod Narrowing
+pub mod Closing
+pub mod Sampling

@@ -1,0 +1,42 @@
+-- A ring of worked rows: the queue head at 0 of a high-speed IN endpoint, number 1 of device 5, whose qTD is active; of two packets of its device one was taken.
+--     asking                 the queue head, which expects DATA1
+--     ring q t               a queue head at 0 with its qTD at 64
+--     at_zero                the queue head at 0 alone
+--     packets, sent          the packets of the device, and what it still has of them
+--     sender_of              the one sender of a bus
+--     Pipes stream member streams      both sides of the pipes of these queue heads agree
+--     Waits stream streams   the senders that no queue head is for wait
+use Rattle.std.specs.Prelude.{ℕ, ◌==◌, Bool, true, List, [], ◌∷◌, Option, Some}
+use Rattle.qh_qtd.specs.declared.qtd.Qtd.{Qtd}
+use Rattle.qh_qtd.specs.declared.queue_head.Qh.{Qh}
+use Rattle.lent_structures.specs.Structures.{QueueHead, Element, StructureSets, put}
+use Rattle.lent_structures.specs.Samples.{token, queue, element, nothing}
+use Rattle.ring_walk.specs.Hand.{Empty}
+use Rattle.ring_streams.specs.Told.{endpoint_of}
+use Rattle.ring_pipes.specs.Bus.{Sender}
+use Rattle.ring_pipes.specs.Pipes.{ArePiped}
+use Rattle.opened_streams.specs.Unopened.{AreUnopened}
+
+abbrev pub asking : Qh
+asking = record queue { token = record token { toggle = true } }
+
+abbrev pub ring : Qh → Qtd → StructureSets
+ring q t = put (put nothing 0 0 (QueueHead q)) 0 64 (Element t)
+
+abbrev pub at_zero : ℕ → Bool
+at_zero n = n == 0
+
+abbrev pub packets : ℕ → ℕ → List (List ℕ)
+packets addr ep = (7 ∷ []) ∷ (9 ∷ []) ∷ []
+
+abbrev pub sent : Sender
+sent = record { left = (9 ∷ []) ∷ []; sends = true }
+
+abbrev pub sender_of : Sender → ℕ → ℕ → Option Sender
+sender_of s addr ep = Some s
+
+abbrev pub Pipes : (ℕ → ℕ → Bool) → (ℕ → Bool) → (ℕ → Bool) → Type 0
+Pipes stream member streams = ArePiped stream packets sender_of member streams (λ n. endpoint_of asking) (λ n. (7 ∷ []) ∷ []) (ring asking element) Empty sent
+
+abbrev pub Waits : (ℕ → ℕ → Bool) → (ℕ → Bool) → Type 0
+Waits stream streams = AreUnopened stream packets sender_of streams (λ n. endpoint_of asking) sent

@@ -1,0 +1,4 @@
+pub mod Framing
+pub mod Controlling
+pub mod Offering
+pub mod Worlds

@@ -1,0 +1,3 @@
+pub mod Released
+pub mod Beside
+pub mod Samples
