@@ -1,8 +1,6 @@
 -- The report of a script's run is that of a moment of it, and at each moment everything is in place.
 use Rattle.std.proofs.Common.{◌≡◌, ℕ, ◌+◌, ◌*◌, List, [], Option, Some, None, inl, inr, ap, sym, subst, ◌∙◌, refl}
-use Rattle.std.specs.Prelude.{IfSome}
 use Rattle.script_types.specs.declared.scripts.Script.{Script}
-use Rattle.script_text.specs.Faults.{Spells}
 use Rattle.right_reports.specs.WorldReport.{report_of}
 use Rattle.right_reports.specs.Ins.{AreRightInStreams}
 use Rattle.report_streams.specs.Reports.{WholeReport}
@@ -13,16 +11,16 @@ use Rattle.right_reports.proofs.Ins.{ins_are_all}
 use Rattle.usb_bus.specs.Bus.{fixed_of}
 use Rattle.bus_world.specs.World.{World, Standing}
 use Rattle.bus_world.specs.Opening.{opening_world}
-use Rattle.bus_world.specs.Orders.{OrderedWorld, Microframes, Leads, at_place, orders_of, ticks, IsRun}
+use Rattle.bus_world.specs.Orders.{OrderedWorld, Leads, at_place, orders_of, ticks, IsRun}
 use Rattle.bus_world.specs.Budgets.{moment}
 use Rattle.bus_world.proofs.Ticks.{ticks_more}
-use Rattle.chained_transfers.specs.Bulk.{BulkOnly}
 use Rattle.sent_reports.specs.Sent.{AreSentStreams}
 use Rattle.sending_worlds.specs.Moments.{StreamsAreRightAtTheEnd}
 use Rattle.sending_worlds.specs.Kept.{KeepsStreamsThroughout, KeepsPlaces}
 use Rattle.sending_worlds.proofs.Moments.{texts_keep_streams, texts_keep_places}
 use Rattle.program_ends.specs.Input.{input_of}
 use Rattle.program_forms.specs.Output.{IsRunOf}
+use Rattle.ehci_cli.specs.Scripts.{OfEachBulkScript}
 use Rattle.ehci_cli.specs.Streams.{IsWholeRunOf, KeepsStreams}
 
 record IsMoment (s : Script) (w : World) : Type 0 where
@@ -65,10 +63,10 @@ keeps s k = record {
   printed = λ w. report_printed w.fixed w.world;
 }
 
-pub source_keeps_streams : (left : Option (List ℕ)) → IfSome left (λ xs. (s : Script) → Spells (input_of xs) s → BulkOnly s → KeepsStreams s)
+pub source_keeps_streams : (left : Option (List ℕ)) → OfEachBulkScript KeepsStreams left
 source_keeps_streams None = tt
 source_keeps_streams (Some xs) = λ s spelled only. keeps s (texts_keep_streams (input_of xs) s spelled only)
 
-pub source_keeps_places : (left : Option (List ℕ)) → IfSome left (λ xs. (s : Script) → Spells (input_of xs) s → BulkOnly s → KeepsPlaces s)
+pub source_keeps_places : (left : Option (List ℕ)) → OfEachBulkScript KeepsPlaces left
 source_keeps_places None = tt
 source_keeps_places (Some xs) = λ s spelled only. texts_keep_places (input_of xs) s spelled only

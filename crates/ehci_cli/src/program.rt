@@ -1,15 +1,14 @@
 ghost use Rattle.std.specs.Prelude.{◌≡◌, ◌≢◌, ℕ, ◌≤◌, ◌↔◌, map, string_bytes, IfSome};
-ghost use Rattle.script_types.specs.declared.scripts.Script.{Script};
-ghost use Rattle.script_text.specs.Faults.{Spells};
 ghost use Rattle.bus_world.specs.Budgets.{AdmitsThroughout};
-ghost use Rattle.chained_transfers.specs.Bulk.{BulkOnly};
 ghost use Rattle.world_frames.specs.Scheduled.{KeepsScheduleThroughout};
 ghost use Rattle.worlds_keep_to_lent.specs.Written.{KeepsToLentThroughout};
+ghost use Rattle.owned_blocks.specs.Worlds.{OwnsItsBlocksThroughout};
 ghost use Rattle.program_ends.specs.Ends.{IsFault, IsWriteFault, WritesNothing};
 ghost use Rattle.program_ends.specs.Input.{input_of};
 ghost use Rattle.program_forms.specs.Form.{AreWordsOf, AreNoForm};
 ghost use Rattle.program_forms.specs.Output.{IsAnswer, IsLoad, IsProgram, LeavesAs, Leaves};
 ghost use Rattle.sending_worlds.specs.Kept.{KeepsPlaces};
+ghost use Rattle.ehci_cli.specs.Scripts.{OfEachScript, OfEachBulkScript};
 ghost use Rattle.ehci_cli.specs.Streams.{KeepsStreams};
 
 use program_ends::{Status, Unread, read_input};
@@ -32,14 +31,16 @@ use usb_base::{Sink, Source};
 ///
 /// Where the input spells a script, at each moment of its run all placed endpoints keep the budgets of bus time, and the open of a periodic
 /// endpoint is refused for want of a placement exactly where no allowed one fits beside them. And at each moment the controller's next event
-/// reads and writes words of Lent blocks alone, and what the driver's next event gives back is Free afterwards; and each frame of the list has what is
-/// due in it: the queue heads of placed interrupt endpoints, each once, and of each isochronous endpoint at most one descriptor that waits.
+/// reads and writes words of Lent blocks alone, and what the driver's next event gives back is Free afterwards; just the blocks of what the driver still
+/// needs are Lent, each run of them with one owner, but for what its unfinished command has still to lend; and each frame of the list has what is due in
+/// it: the queue heads of placed interrupt endpoints, each once, and of each isochronous endpoint at most one descriptor that waits.
 ///
 /// Where the script opens high-speed bulk endpoints only and cancels nothing, the bytes that the report tells of each IN endpoint begin its stream, each once
-/// and in order, and nothing follows its end (where it opens no OUT endpoint these are all its streams), and those that it tells of each OUT endpoint begin what
-/// its device took: after the run, and at each moment of it, whatever is lost, damaged or held. And at each moment nothing of the driver is out of place in
-/// memory, and the controller runs, meets no fault and is refused no word.
-#[tactic(auto, using(crate::proofs::Admitted::source_admits, crate::proofs::Admitted::source_keeps_to_lent, crate::proofs::Admitted::source_keeps_schedule, crate::proofs::Streams::source_keeps_streams, crate::proofs::Streams::source_keeps_places))]
+/// and in order, and nothing follows its end; those that it tells of each OUT endpoint begin what its device took, and these begin what was put to it: after the
+/// run, and at each moment of it, whatever is lost, damaged or held. After a run of which each line was carried out these are all its streams. And at each moment
+/// nothing of the driver is out of place in memory, the walk of the ring stands at its queue heads alone, and the controller runs, meets no fault and is refused
+/// no word.
+#[tactic(auto, using(crate::proofs::Admitted::source_admits, crate::proofs::Admitted::source_keeps_to_lent, crate::proofs::Admitted::source_owns, crate::proofs::Admitted::source_keeps_schedule, crate::proofs::Streams::source_keeps_streams, crate::proofs::Streams::source_keeps_places))]
 pub fn ehci<S: Source, K: Sink>(
     alloc: Global,
     words: &[String],
@@ -51,11 +52,12 @@ pub fn ehci<S: Source, K: Sink>(
     ensures unread { (n : ℕ) → AreWordsOf (map string_bytes words.now) (Form.Load n) → source.new ≡ source.old }
     ensures load { IsLoad (map string_bytes words.now) result (K.written sink.old) (K.written sink.new) }
     ensures output { IfSome (S.left source.old) (λ xs. IsProgram (map string_bytes words.now) result (input_of xs) (K.written sink.old) (K.written sink.new)) }
-    ensures budgets { IfSome (S.left source.old) (λ xs. (s : Script) → Spells (input_of xs) s → AdmitsThroughout s) }
-    ensures lent { IfSome (S.left source.old) (λ xs. (s : Script) → Spells (input_of xs) s → KeepsToLentThroughout s) }
-    ensures schedule { IfSome (S.left source.old) (λ xs. (s : Script) → Spells (input_of xs) s → KeepsScheduleThroughout s) }
-    ensures streams { IfSome (S.left source.old) (λ xs. (s : Script) → Spells (input_of xs) s → BulkOnly s → KeepsStreams s) }
-    ensures placed { IfSome (S.left source.old) (λ xs. (s : Script) → Spells (input_of xs) s → BulkOnly s → KeepsPlaces s) }
+    ensures budgets { OfEachScript AdmitsThroughout (S.left source.old) }
+    ensures lent { OfEachScript KeepsToLentThroughout (S.left source.old) }
+    ensures owned { OfEachScript OwnsItsBlocksThroughout (S.left source.old) }
+    ensures schedule { OfEachScript KeepsScheduleThroughout (S.left source.old) }
+    ensures streams { OfEachBulkScript KeepsStreams (S.left source.old) }
+    ensures placed { OfEachBulkScript KeepsPlaces (S.left source.old) }
     ensures left { IfSome (S.left source.old) (λ xs. Leaves (map string_bytes words.now) result xs (S.left source.new)) }
     ensures nothing { WritesNothing result → sink.new ≡ sink.old }
     ensures read { IsFault result (S.faults source.old) (S.faults source.new) }

@@ -12,9 +12,9 @@ use Rattle.request_windows.specs.Windows.{IsRequest}
 use Rattle.request_windows.proofs.Steps.{opens}
 use Rattle.request_calls.specs.Stages.{IsEndpoint}
 use Rattle.ring_walk.specs.Hand.{Empty}
-use Rattle.ring_requests.specs.Laid.{place_at, AreApart, AreOthers, comes, IsUnpublished, LeadBehind, IsFresh}
+use Rattle.ring_requests.specs.Laid.{place_at, AreApart, AreOthers, comes, IsUnpublished, IsIdle, LeadBehind, IsFresh}
 use Rattle.ring_requests.specs.Shown.Shows.{works, ends}
-use Rattle.ring_requests.specs.Windows.{sent_at, IsFinished, IsBehind, IsLaid, IsQueue, AreLaid, AreChained, AreSent}
+use Rattle.ring_requests.specs.Windows.{sent_at, IsFinished, IsBehind, IsLaid, HasTail, IsQueue, AreLaid, AreChained, AreSent}
 use Rattle.ring_requests.specs.Samples.{queue, setup, read, status, pages_at, parts, request, first_status, second_setup, second_read, both_parts, asked, stand_at, requests, after, first_done, then_begun, done_queue, done_qtd, done_parts, next_queue, next_parts, device_in, is_only, is_both}
 
 none_leads : (part : Structures) → IsUnpublished part no_qtd
@@ -70,6 +70,13 @@ second_fresh part k (Halted cause) on = absurd (false≢true on)
 second_behind : IsBehind (sent_at requests 1) Empty both_parts 32
 second_behind = record { fresh = second_fresh (both_parts 32) (record { setup_there = refl; read_there = refl; status_there = refl; bytes_there = refl }); none_told = λ some. record { queue = queue; head = refl; qtd = second_read; here = refl; are = refl } }
 
+-- the last of them has no tail
+no_tail : (part : Structures) → HasTail requests part
+no_tail part i a one is = by (subst (λ (i : ℕ). (stand_at i).behind ≡ Some a) (let last : i ≡ 1 = omega (arith, one) in last) is)
+  where
+    by : None ≡ Some a → IsIdle part a
+    by e = absurd cc
+
 pub both_laid : AreLaid requests Empty both_parts 32 queue
 both_laid = record {
   some = omega (arith);
@@ -83,15 +90,13 @@ both_laid = record {
     none_told = λ some. record { queue = queue; head = refl; qtd = read; here = refl; are = refl };
   };
   behind = λ i more few. subst (λ (i : ℕ). IsBehind (sent_at requests i) Empty both_parts 32) (let one : 1 ≡ i = omega (arith, more, few) in one) second_behind;
+  tail = no_tail (both_parts 32);
 }
 
 -- ---- what is fixed of them
 
 both_chained : AreChained requests
-both_chained = record {
-  next = λ i few. subst (λ (i : ℕ). (stand_at i).behind ≡ Some (stand_at (suc i)).setup) (let none : 0 ≡ i = omega (arith, few) in none) refl;
-  last = λ i few. subst (λ (i : ℕ). (stand_at i).behind ≡ None) (let one : 1 ≡ i = omega (arith, few) in one) refl;
-}
+both_chained i few = subst (λ (i : ℕ). (stand_at i).behind ≡ Some (stand_at (suc i)).setup) (let none : 0 ≡ i = omega (arith, few) in none) refl
 
 below_two : (P : ℕ → Type 0) (i : ℕ) → P 0 → P 1 → i < 2 → P i
 below_two P zero first second few = first
@@ -166,6 +171,7 @@ first_shown = record {
     fresh = second_fresh (done_parts 32) (record { setup_there = refl; read_there = refl; status_there = refl; bytes_there = refl });
     none_told = λ some. record { queue = done_queue; head = refl; qtd = second_read; here = refl; are = refl };
   });
+  tail = no_tail (done_parts 32);
 }
 
 -- ---- and once the second is begun
@@ -211,4 +217,5 @@ second_shown = record {
       subst (λ (i : ℕ). IsFinished (sent_at requests i) ((after then_begun).line i) Empty next_parts 32) (let none : 0 ≡ i = omega (arith, less) in none)
       (record { done = refl; moved = λ some. record { queue = next_queue; head = refl; qtd = done_qtd read; here = refl; are = refl }; stands = first_stands });
   behind = λ i more few. absurd (omega (arith, more, few));
+  tail = no_tail (next_parts 32);
 }

@@ -15,7 +15,7 @@ use Rattle.ring_requests.specs.Runs.{first_of, IsRun, turns_of}
 
 -- ---- lists
 
-first_same : {A : Type 0} (f g : ℕ → A) (n : ℕ) → ((i : ℕ) → i < n → f i ≡ g i) → first_of f n ≡ first_of g n
+pub first_same : {A : Type 0} (f g : ℕ → A) (n : ℕ) → ((i : ℕ) → i < n → f i ≡ g i) → first_of f n ≡ first_of g n
 first_same f g zero same = refl
 first_same {A} f g (suc n) same =
     ap (λ (xs : List A). xs ++ f n ∷ []) (first_same f g n (λ i less. same i (omega (arith, less)))) ∙ ap (λ (x : A). first_of g n ++ x ∷ []) (same n (omega (arith)))

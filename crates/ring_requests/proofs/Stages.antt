@@ -9,11 +9,11 @@ use Rattle.link_words.specs.Links.{qtd_link_of}
 use Rattle.qh_qtd.specs.declared.qtd.Qtd.{Qtd}
 use Rattle.qh_qtd.specs.declared.queue_head.Qh.{Qh}
 use Rattle.lent_structures.specs.Structures.{Element, Structures}
-use Rattle.queue_parts.specs.Alters.{HadElement, Alters}
+use Rattle.queue_parts.specs.Alters.{HasElementAfter, HadElement, Alters}
 use Rattle.queue_parts.proofs.Members.{still_active}
 use Rattle.report_streams.specs.Requests.{Request}
 use Rattle.request_windows.specs.Host.{Endpoint, Stage, Setup, Data, Status, Done, Halted, has_data, is_over, next_stage}
-use Rattle.ring_requests.specs.Laid.{Places, place_at, AreApart, comes, LeadTo, IsLinkBehind, LeadBehind, IsUnpublished, Leads, HasBytes, IsStage, IsFresh}
+use Rattle.ring_requests.specs.Laid.{Places, place_at, AreApart, comes, LeadTo, IsLinkBehind, LeadBehind, IsUnpublished, IsIdle, Leads, HasBytes, IsStage, IsFresh}
 use Rattle.ring_requests.specs.Shown.{pointer_at}
 
 -- ---- which comes after which
@@ -121,6 +121,16 @@ unpublished_still part now link alters nots a u leads here = by u.token.active r
     by true on =
         let same : u ≡ had.qtd = still_active had.qtd u had.after on in
         ap (λ (t : Qtd). t.token.active) same ∙ nots a had.qtd leads had.here
+
+pub idle_still : (part now : Structures) (a : ℕ) → Alters part now → IsIdle part a → IsIdle now a
+idle_still part now a alters k = record { qtd = u.qtd; here = u.here; idle = by u.qtd.token.active refl }
+  where
+    u : HasElementAfter now a k.qtd
+    u = alters.element a k.qtd k.here
+
+    by : (b : Bool) → u.qtd.token.active ≡ b → u.qtd.token.active ≡ false
+    by false off = off
+    by true on = ap (λ (t : Qtd). t.token.active) (still_active k.qtd u.qtd u.after on) ∙ k.idle
 
 pub link_still : (part now : Structures) (o : Option ℕ) (link : ShortLink) → Alters part now → IsLinkBehind part o link → IsLinkBehind now o link
 link_still part now None link alters nots = unpublished_still part now link alters nots

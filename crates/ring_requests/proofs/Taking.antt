@@ -18,7 +18,7 @@ use Rattle.walk_copy.specs.Visits.{next_pointer}
 use Rattle.report_streams.specs.Requests.{Request}
 use Rattle.request_windows.specs.Host.{Endpoint, Host, Stage, Setup, Data, Status, Done, Halted, is_over, side_at, host_at as begun_at}
 use Rattle.request_calls.specs.Stages.{IsEndpoint}
-use Rattle.ring_requests.specs.Laid.{Places, place_at, IsUnpublished, IsLinkBehind, HasBytes, IsStage, IsFresh}
+use Rattle.ring_requests.specs.Laid.{Places, place_at, IsUnpublished, IsIdle, IsLinkBehind, HasBytes, IsStage, IsFresh}
 use Rattle.ring_requests.specs.Shown.{pointer_at, AreFresh, Works, Waits, Ends, Shows}
 use Rattle.ring_requests.specs.Shown.Shows.{works, waits, ends, halts}
 use Rattle.ring_requests.specs.Windows.{is_done}
@@ -112,11 +112,19 @@ module _ (e : Endpoint) (r : Request) (x : Places) (part : Structures) (n : ℕ)
   taken_shows going (ends w) = absurd (false≢true (sym going ∙ ap is_done w.done))
   taken_shows going (halts w) = absurd (false≢true (sym goes_on ∙ w.halted))
 
-  -- nothing is behind the request
-  pub none_behind : Ends x part (host_in q) q h → x.behind ≡ None → ⊥
-  none_behind w none =
-      let nots : IsUnpublished part (next_pointer q) = subst (λ (o : Option ℕ). IsLinkBehind part o (next_pointer q)) none w.behind in
-      false≢true (sym (nots a t leads there) ∙ published)
+  -- nothing is behind the request but the tail
+  pub none_behind : Ends x part (host_in q) q h → ((b : ℕ) → x.behind ≡ Some b → IsIdle part b) → ⊥
+  none_behind w tail = by x.behind refl
+    where
+      by : (o : Option ℕ) → x.behind ≡ o → ⊥
+      by None is =
+          let nots : IsUnpublished part (next_pointer q) = subst (λ (o : Option ℕ). IsLinkBehind part o (next_pointer q)) is w.behind in
+          false≢true (sym (nots a t leads there) ∙ published)
+      by (Some b) is =
+          let to : qtd_link_of (next_pointer q) ≡ To b = subst (λ (o : Option ℕ). IsLinkBehind part o (next_pointer q)) is w.behind in
+          let k : IsIdle part b = tail b is in
+          let same : t ≡ k.qtd = found_element (part a) t k.qtd there (ap part (to_same a b (sym leads ∙ to)) ∙ k.here) in
+          false≢true (sym k.idle ∙ ap (λ (u : Qtd). u.token.active) (sym same) ∙ published)
 
 -- ---- a request is done
 

@@ -48,6 +48,7 @@ queue_opens v hand parts n q c o k max device = record {
   window = laid_opens (sent_at v 0) hand parts n q c o k.first max device;
   finished = λ i less. absurd (omega (arith, less));
   behind = k.behind;
+  tail = k.tail;
 }
 
 -- ---- requests that are done

@@ -45,7 +45,8 @@ use Rattle.request_calls.proofs.Making.{makes_one}
 use Rattle.ring_requests.specs.Laid.{Places, place_at, IsPlace, AreApart, HasBytes}
 use Rattle.ring_requests.specs.Shown.{hand_side, AreFresh, IsPending, Works, Ends, Shows, IsAmong}
 use Rattle.ring_requests.specs.Shown.Shows.{works, waits, ends, halts}
-use Rattle.ring_requests.specs.Windows.{Sent, Queue, sent_at, Lines, IsWindow, IsFinished, IsBehind, HasEnded, IsActedOnce, IsQueue, AreSent, IsElsewhere, AreWindows, Transaction, Advance, Step, opened, progressed, stepped, stage_of, is_done, IsTransactionAt, advance_at, IsStepOf, HaltedStay, WindowsGoOn}
+use Rattle.ring_requests.specs.Windows.{Sent, Queue, sent_at, Lines, IsWindow, IsFinished, IsBehind, HasEnded, IsActedOnce, HasTail, IsQueue, AreSent, IsElsewhere, AreWindows, Transaction, Advance, Step, opened, progressed, stepped, stage_of, is_done, IsTransactionAt, advance_at, IsStepOf, HaltedStay, WindowsGoOn}
+use Rattle.ring_requests.proofs.Stages.{idle_still}
 use Rattle.ring_requests.proofs.Outcomes.{call_leaves, moved_none}
 use Rattle.ring_requests.proofs.Given.{sized, IsSized, stage_given}
 use Rattle.ring_requests.proofs.Moving.{shows_after, moved_in_data, moved_beside}
@@ -105,7 +106,7 @@ finished_same v l hand later parts now n told w = record { done = w.done; moved 
 abbrev Fresh : Queue → ℕ → Structures → Type 0
 Fresh v i part = AreFresh v.endpoint (v.requests i) (v.places i) part Setup
 
-module _ (v : Queue) (l : Lines) (hand later : Hand) (parts now : StructureSets) (n : ℕ) (o new : Option Device) (fresh : (i : ℕ) → l.under < i → i < v.count → Fresh v i (parts n) → Fresh v i (now n)) where
+module _ (v : Queue) (l : Lines) (hand later : Hand) (parts now : StructureSets) (n : ℕ) (o new : Option Device) (fresh : (i : ℕ) → l.under < i → i < v.count → Fresh v i (parts n) → Fresh v i (now n)) (tail : HasTail v (parts n) → HasTail v (now n)) where
   abbrev AreTold : (ℕ → Type 0) → Type 0
   AreTold is = (i : ℕ) → is i → (xs : List ℕ) → Told hand parts n (v.places i).data_at xs → Told later now n (v.places i).data_at xs
 
@@ -123,6 +124,7 @@ module _ (v : Queue) (l : Lines) (hand later : Hand) (parts now : StructureSets)
         subst (λ (x : Line). IsFinished (sent_at v i) x later now n) (sym (same i less))
         (finished_same (sent_at v i) (l.line i) hand later parts now n (told i (omega (arith, less, within)) (λ is. omega (arith, less, is))) (w.finished i less));
     behind = λ i more few. behind_after i (told i few (λ is. omega (arith, more, is))) more few (w.behind i more few);
+    tail = tail w.tail;
   }
 
   -- it is done
@@ -141,15 +143,16 @@ module _ (v : Queue) (l : Lines) (hand later : Hand) (parts now : StructureSets)
     finished = λ i less.
         subst (λ (x : Line). IsFinished (sent_at v i) x later now n) (sym (same i less)) (finished_same (sent_at v i) (l.line i) hand later parts now n (told i) (finished_until w done i less));
     behind = λ i more few. behind_after i (told i) (omega (arith, more)) few (w.behind i (omega (arith, more)) few);
+    tail = tail w.tail;
   }
 
 -- all of them go on as they were
-queue_same : (v : Queue) (l : Lines) (hand later : Hand) (parts now : StructureSets) (n : ℕ) (o : Option Device) → now n ≡ parts n → ((q : Qh) → hand_side later n q ≡ hand_side hand n q)
+pub queue_same : (v : Queue) (l : Lines) (hand later : Hand) (parts now : StructureSets) (n : ℕ) (o : Option Device) → now n ≡ parts n → ((q : Qh) → hand_side later n q ≡ hand_side hand n q)
     → ((a : ℕ) (xs : List ℕ) → Told hand parts n a xs → Told later now n a xs) → IsQueue v l hand parts n o → IsQueue v l later now n o
 queue_same v l hand later parts now n o same sides told w =
-    let k = queue_goes v l hand later parts now n o o (λ i more few. subst (Fresh v i) (sym same)) l.line (λ i less. refl)
+    let k = queue_goes v l hand later parts now n o o (λ i more few. subst (Fresh v i) (sym same)) (subst (HasTail v) (sym same)) l.line (λ i less. refl)
     (window_same (sent_at v l.under) (l.line l.under) hand later parts now n o same sides (told (v.places l.under).data_at) w.window) (λ i few differs. told (v.places i).data_at) w in
-    record { within = k.within; window = k.window; finished = k.finished; behind = k.behind }
+    record { within = k.within; window = k.window; finished = k.finished; behind = k.behind; tail = k.tail }
 
 elsewhere_still : (windows : ℕ → Bool) (sent : ℕ → Queue) (hand later : Hand) (parts now : StructureSets) (n : ℕ) → SameTold hand parts later now → IsElsewhere windows sent parts n → IsElsewhere windows sent now n
 elsewhere_still windows sent hand later parts now n same w = record { own = w.own; has = same.endpoint n w.own w.has; other = w.other }
@@ -199,6 +202,9 @@ module _ {W : Type 0} (transacts : W → Ask → List ℕ → Reply → W → Ty
     pub windows_are : AreWindows device member windows sent (stepped sent step lines) now later after
     pub is : IsStepOf windows lines step effect
     pub halted : HaltedStay windows lines step
+
+  tail_still : (n : ℕ) → Alters (parts n) (now n) → HasTail (sent n) (parts n) → HasTail (sent n) (now n)
+  tail_still n alters tail i a one is = idle_still (parts n) (now n) a alters (tail i a one is)
 
   -- nothing was asked
   kept : SameTold hand parts later now → after ≡ wire → ((n : ℕ) → windows n ≡ true → IsQueue (sent n) (lines n) hand parts n (device_at wire n) → IsQueue (sent n) (lines n) later now n (device_at wire n))
@@ -273,10 +279,10 @@ module _ {W : Type 0} (transacts : W → Ask → List ℕ → Reply → W → Ty
 
       taken_queue : is_done (stage_of (lines n)) ≡ false → IsQueue (sent n) (lines n) later now n (device_at wire n)
       taken_queue going =
-          let z = queue_goes mine (lines n) hand later parts now n (device_at wire n) (device_at wire n) (λ j more few. fresh_taken_there j) (lines n).line (λ j less. refl)
+          let z = queue_goes mine (lines n) hand later parts now n (device_at wire n) (device_at wire n) (λ j more few. fresh_taken_there j) (tail_still n (alters n)) (lines n).line (λ j less. refl)
           (window_works (mine.requests began) (mine.places began) line_began (taken_shows mine.endpoint (mine.requests began) (mine.places began) (parts n) n k.copy.queue line_began.host here control_taken k.element k.qtd k.idle k.goes_on k.leads there k.published going shown) w.window)
           (λ j few differs. told.bytes n (mine.places j).data_at) w in
-          record { within = z.within; window = z.window; finished = z.finished; behind = z.behind }
+          record { within = z.within; window = z.window; finished = z.finished; behind = z.behind; tail = z.tail }
 
       -- the next request is begun
       module _ (done : is_done (stage_of (lines n)) ≡ true) where
@@ -291,7 +297,7 @@ module _ {W : Type 0} (transacts : W → Ask → List ℕ → Reply → W → Ty
             ⊎_elim {C = suc began < mine.count} (λ (some : suc began < mine.count). some)
             (λ (none : mine.count ≤ suc began).
             let within = w.within in
-            absurd (none_behind mine.endpoint (mine.requests began) (mine.places began) (parts n) n k.copy.queue line_began.host here control_taken k.element k.qtd k.idle k.goes_on k.leads there k.published ended ((fixed.chained n on).last began (omega (arith, none, within))))) (cases_lt (suc began) mine.count)
+            absurd (none_behind mine.endpoint (mine.requests began) (mine.places began) (parts n) n k.copy.queue line_began.host here control_taken k.element k.qtd k.idle k.goes_on k.leads there k.published ended (λ b is. w.tail began b (omega (arith, none, within)) is))) (cases_lt (suc began) mine.count)
 
         next : IsBehind (sent_at (sent n) (suc (lines n).under)) hand parts n
         next = w.behind (suc began) (omega (arith)) more
@@ -300,7 +306,7 @@ module _ {W : Type 0} (transacts : W → Ask → List ℕ → Reply → W → Ty
         next_works : Works (sent n).endpoint ((sent n).requests (suc (lines n).under)) ((sent n).places (suc (lines n).under)) (with_structure (parts n) n (QueueHead (advanced k.copy.queue k.element k.qtd))) (host_in (advanced k.copy.queue k.element k.qtd)) (advanced k.copy.queue k.element k.qtd) next_line.host
         next_works =
             taken_works mine.endpoint (mine.requests (suc began)) (mine.places (suc began)) (parts n) n k.copy.queue next_line.host here control_taken k.element k.qtd k.idle k.goes_on k.leads there k.published
-            (next_waits mine.endpoint (mine.places began) (parts n) k.copy.queue line_began.host (mine.requests (suc began)) (mine.places (suc began)) k.idle ((fixed.chained n on).next began more) ended next.fresh)
+            (next_waits mine.endpoint (mine.places began) (parts n) k.copy.queue line_began.host (mine.requests (suc began)) (mine.places (suc began)) k.idle (fixed.chained n on began more) ended next.fresh)
 
         next_window : IsWindow (sent_at (sent n) (suc (lines n).under)) (opened (sent n) (suc (lines n).under) ((lines n).line (lines n).under)) later now n (device_at wire n)
         next_window = record {
@@ -320,7 +326,7 @@ module _ {W : Type 0} (transacts : W → Ask → List ℕ → Reply → W → Ty
 
         taken_next : IsQueue (sent n) (progressed (sent n) Advance (lines n)) later now n (device_at wire n)
         taken_next =
-            queue_next mine (lines n) hand later parts now n (device_at wire n) (device_at wire n) (λ j more few. fresh_taken_there j) next_lines more (done_is (stage_of (lines n)) done)
+            queue_next mine (lines n) hand later parts now n (device_at wire n) (device_at wire n) (λ j more few. fresh_taken_there j) (tail_still n (alters n)) next_lines more (done_is (stage_of (lines n)) done)
             (λ j less. ap (λ (b : Bool). if b then opened mine j line_began else (lines n).line j) (not_same j (suc began) (λ same. omega (arith, less, same))))
             (subst (λ (b : Bool). IsWindow (sent_at mine (suc began)) (if b then opened mine (suc began) line_began else (lines n).line (suc began)) later now n (device_at wire n)) (sym (eq-eqb (suc began) (suc began) refl)) next_window)
             (λ j. told.bytes n (mine.places j).data_at) w
@@ -431,8 +437,8 @@ module _ {W : Type 0} (transacts : W → Ask → List ℕ → Reply → W → Ty
 
       back_queue : IsQueue (sent k.copy.at) (lines k.copy.at) later now k.copy.at (device_at wire k.copy.at)
       back_queue =
-          let z = queue_goes theirs (lines writer) hand later parts now writer (device_at wire writer) (device_at wire writer) fresh_written (lines writer).line (λ j less. refl) back_window (λ j few differs. told_back.bytes writer (theirs.places j).data_at) w in
-          record { within = z.within; window = z.window; finished = z.finished; behind = z.behind }
+          let z = queue_goes theirs (lines writer) hand later parts now writer (device_at wire writer) (device_at wire writer) fresh_written (tail_still writer (alters writer)) (lines writer).line (λ j less. refl) back_window (λ j few differs. told_back.bytes writer (theirs.places j).data_at) w in
+          record { within = z.within; window = z.window; finished = z.finished; behind = z.behind; tail = z.tail }
 
     written_all : AreWindows device member windows sent (stepped sent None lines) now later after
     written_all =
@@ -616,7 +622,7 @@ module _ {W : Type 0} (transacts : W → Ask → List ℕ → Reply → W → Ty
 
       queue_now : IsQueue (sent m.copy.at) (progressed (sent m.copy.at) (Transaction turn.losses) (lines m.copy.at)) later now m.copy.at (device_at after m.copy.at)
       queue_now =
-          queue_goes queue (lines at) hand later parts now at (device_at wire at) (device_at after at) (λ j more few. subst (Fresh queue j) (sym (ap (λ (ps : StructureSets). ps at) same)))
+          queue_goes queue (lines at) hand later parts now at (device_at wire at) (device_at after at) (λ j more few. subst (Fresh queue j) (sym (ap (λ (ps : StructureSets). ps at) same))) (subst (HasTail queue) (sym (ap (λ (ps : StructureSets). ps at) same)))
           (λ j. if j == i then transacted queue.endpoint (queue.requests j) turn.losses ((lines at).line j) else (lines at).line j)
           (λ j less. ap (λ (b : Bool). if b then transacted queue.endpoint (queue.requests j) turn.losses ((lines at).line j) else (lines at).line j) (not_same j i (λ is. omega (arith, less, is))))
           (subst (λ (b : Bool). IsWindow v (if b then transacted v.endpoint v.request turn.losses line else line) later now at (device_at after at)) (sym (eq-eqb i i refl)) window_now)

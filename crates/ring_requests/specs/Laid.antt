@@ -1,8 +1,9 @@
 -- The qTDs of a control request, as a driver lays them out (EHCI 1.0, 3.5 and 4.10; USB 2.0, 8.5.3): its SETUP, its data, its status.
---     Places, place_at x s       where they stand, and where the SETUP of the request behind it stands
+--     Places, place_at x s       where they stand, and where its status leads
 --     IsPlace, AreOthers         one of these places; other places than those of another request
 --     comes r s t                the stage t is s, or comes after it
---     LeadBehind part o t        the links of the qTD after which a request is over: to the SETUP of the one behind it, or to nothing that is published
+--     LeadBehind part o t        the links of the qTD after which a request is over: to that place, or to nothing that is published
+--     IsIdle part a              the qTD at a isn't active
 --     Leads r x part s t         the links of the qTD of a stage lead to the next stage, also after a short packet; those of the status behind it
 --     HasBytes r part s t        the buffer of a SETUP holds the setup bytes, that of a write's data the bytes that are written
 --     IsStage e r x part s       the qTD of a stage, whatever its token counts
@@ -24,7 +25,7 @@ pub record Places : Type 0 where
   pub setup : ℕ
   pub data_at : ℕ
   pub status : ℕ
-  pub behind : Option ℕ  -- the SETUP of the request behind it, if there is one
+  pub behind : Option ℕ  -- where its status leads: the SETUP of the request behind it, or of the last one the tail, if it has one
 
 abbrev pub place_at : Places → Stage → ℕ
 place_at x Setup = x.setup
@@ -67,6 +68,12 @@ IsUnpublished part link = (a : ℕ) (t : Qtd) → qtd_link_of link ≡ To a → 
 abbrev pub IsLinkBehind : Structures → Option ℕ → ShortLink → Type 0
 IsLinkBehind part None link = IsUnpublished part link
 IsLinkBehind part (Some a) link = qtd_link_of link ≡ To a
+
+-- a queue's tail, until a request is published there
+pub record IsIdle (part : Structures) (a : ℕ) : Type 0 where
+  pub qtd : Qtd
+  pub here : part a ≡ Some (Element qtd)
+  pub idle : qtd.token.active ≡ false
 
 pub record LeadBehind (part : Structures) (o : Option ℕ) (t : Qtd) : Type 0 where
   pub next : IsLinkBehind part o t.next

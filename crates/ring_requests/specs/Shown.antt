@@ -2,7 +2,7 @@
 --     hand_side hand n q         the host's side of the queue head q at n: between a transaction and its write-back the copy in hand has it
 --     Works ..                   the overlay works on the qTD of the stage, and those after it are fresh
 --     Waits ..                   the overlay has ended, and leads to the qTD of the stage, which is fresh as those after it
---     Ends ..                    the request is done, and the overlay leads to the SETUP of the one behind it, or to nothing that is published
+--     Ends ..                    the request is done, and the overlay leads where its status did, or to nothing that is published
 --     IsPending part a           the qTD at a is published, and not done
 --     Halts ..                   the overlay is halted
 --     Shows ..                   one of these

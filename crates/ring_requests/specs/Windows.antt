@@ -5,6 +5,7 @@
 --     Lines                      which of them is under way, and the windows of those that were begun
 --     IsWindow ..                its host is shown by memory and the copy in hand, its device is that on the bus, and both stand as they must
 --     IsFinished, IsBehind ..    a request that is done, one that isn't begun
+--     HasTail v part             the last of an endpoint's requests leads to its tail, or to nothing that is published
 --     IsQueue ..                 the queue of an endpoint is so
 --     IsLaid, AreLaid ..         a request, a queue is laid out, and not begun
 --     HasEnded ..                what memory alone tells of a request that is done
@@ -25,7 +26,7 @@ use Rattle.walk_copy.specs.Planning.{host_in}
 use Rattle.walk_copy.specs.Visits.{next_pointer}
 use Rattle.async_walk.specs.declared.state.WalkStep.{WalkStep}
 use Rattle.async_walk.specs.Rows.{WalkPlace}
-use Rattle.lent_structures.specs.Structures.{QueueHead, Element, StructureSets}
+use Rattle.lent_structures.specs.Structures.{QueueHead, Element, Structures, StructureSets}
 use Rattle.control_stages.specs.Stages.{Stages}
 use Rattle.usb_bus.specs.declared.asked.Losses.{Losses}
 use Rattle.report_streams.specs.Requests.{Request}
@@ -40,7 +41,7 @@ use Rattle.ring_walk.specs.Ring.{Base}
 use Rattle.ring_walk.specs.Effects.{Effect, Happens}
 use Rattle.ring_walk.specs.Effects.Effect.{takes, makes}
 use Rattle.ring_streams.specs.Told.{Told, HasEndpoint, Endpoint as Characteristics}
-use Rattle.ring_requests.specs.Laid.{Places, AreApart, AreOthers}
+use Rattle.ring_requests.specs.Laid.{Places, AreApart, AreOthers, IsIdle}
 use Rattle.ring_requests.specs.Shown.{hand_side, AreFresh, Shows, IsAmong}
 
 pub record Sent : Type 0 where
@@ -112,16 +113,22 @@ pub record IsActedOnce (v : Sent) (l : Line) (hand : Hand) (parts : StructureSet
 
 -- ---- the requests of an endpoint
 
+-- where the status of the last one leads no qTD is active
+abbrev pub HasTail : Queue → Structures → Type 0
+HasTail v part = (i a : ℕ) → suc i ≡ v.count → (v.places i).behind ≡ Some a → IsIdle part a
+
 pub record IsQueue (v : Queue) (l : Lines) (hand : Hand) (parts : StructureSets) (n : ℕ) (o : Option Device) : Type 0 where
   pub within : l.under < v.count
   pub window : IsWindow (sent_at v l.under) (l.line l.under) hand parts n o
   pub finished : (i : ℕ) → i < l.under → IsFinished (sent_at v i) (l.line i) hand parts n
   pub behind : (i : ℕ) → l.under < i → i < v.count → IsBehind (sent_at v i) hand parts n
+  pub tail : HasTail v (parts n)
 
 pub record AreLaid (v : Queue) (hand : Hand) (parts : StructureSets) (n : ℕ) (q : Qh) : Type 0 where
   pub some : 0 < v.count
   pub first : IsLaid (sent_at v 0) hand parts n q
   pub behind : (i : ℕ) → 0 < i → i < v.count → IsBehind (sent_at v i) hand parts n
+  pub tail : HasTail v (parts n)
 
 -- none of them is begun; the first is before its first transaction, whatever the device was left as
 abbrev pub lines_at : Queue → Bool → Stages → Lines
@@ -130,9 +137,8 @@ lines_at v ping c = record { under = 0; line = λ i. line_at v.endpoint (v.reque
 -- ---- all of them
 
 -- the status of each leads to the SETUP of the next one
-pub record AreChained (v : Queue) : Type 0 where
-  pub next : (i : ℕ) → suc i < v.count → (v.places i).behind ≡ Some (v.places (suc i)).setup
-  pub last : (i : ℕ) → suc i ≡ v.count → (v.places i).behind ≡ None
+abbrev pub AreChained : Queue → Type 0
+AreChained v = (i : ℕ) → suc i < v.count → (v.places i).behind ≡ Some (v.places (suc i)).setup
 
 pub record AreSent (member windows : ℕ → Bool) (sent : ℕ → Queue) : Type 0 where
   pub members : (n : ℕ) → windows n ≡ true → member n ≡ true

@@ -1,0 +1,14 @@
+-- What is so of each script that the bytes of a source spell, where the source tells its bytes.
+--     OfEachScript so left         of each script
+--     OfEachBulkScript so left     of each that opens high-speed bulk endpoints alone and cancels nothing
+use Rattle.std.specs.Prelude.{ℕ, List, Option, IfSome}
+use Rattle.script_types.specs.declared.scripts.Script.{Script}
+use Rattle.script_text.specs.Faults.{Spells}
+use Rattle.chained_transfers.specs.Bulk.{BulkOnly}
+use Rattle.program_ends.specs.Input.{input_of}
+
+abbrev pub OfEachScript : (Script → Type 0) → Option (List ℕ) → Type 0
+OfEachScript so left = IfSome left (λ xs. (s : Script) → Spells (input_of xs) s → so s)
+
+abbrev pub OfEachBulkScript : (Script → Type 0) → Option (List ℕ) → Type 0
+OfEachBulkScript so left = IfSome left (λ xs. (s : Script) → Spells (input_of xs) s → BulkOnly s → so s)

@@ -1,0 +1,10 @@
+pub mod Whose
+pub mod Freed
+pub mod Queues
+pub mod Events
+pub mod Taken
+pub mod Commands
+pub mod Described
+pub mod Lent
+pub mod Worlds
+pub mod Busy

@@ -1,0 +1,30 @@
+//! A worked publication, which the check computes.
+ghost use Rattle.usb_base.specs.declared.endpoints.EndCause.TheVariants as Ends;
+ghost use Rattle.std.specs.Prelude.{◌≡◌, [], ◌∷◌};
+ghost use Rattle.request_windows.specs.Host.{Data, Done, Halted};
+ghost use Rattle.request_windows.specs.Samples.{told, tells, descriptor, get_device as GetDevice, get_configuration as GetConfiguration};
+ghost use Rattle.ring_walk.specs.Hand.{Empty};
+ghost use Rattle.ring_requests.specs.Samples.{queue, is_only as IsOnly};
+ghost use Rattle.ring_requests.specs.Windows.{AreLaid};
+ghost use Rattle.request_stores.specs.Published.{IsLend, IsNextRequest};
+ghost use Rattle.request_stores.specs.Samples.{first_only as FirstOnly, firsts, one_parts as OneParts, lent_parts as LentParts, both_now as BothNow};
+ghost use Rattle.request_stores.specs.Samples.{second_places as SecondPlaces, both, first_begun as FirstBegun, then_both as ThenBoth};
+
+/// A device descriptor's request stands in memory with a tail behind it.
+pub fn a_tail_stands_behind_a_request()
+    ensures { AreLaid FirstOnly Empty OneParts 32 queue }
+{}
+
+/// The data and the status qTD of a configuration descriptor's request are lent, with a new tail, and then its SETUP is stored into the old tail.
+pub fn another_is_published_there()
+    ensures lend { IsLend IsOnly firsts OneParts LentParts 32 }
+    ensures next { IsNextRequest FirstOnly GetConfiguration SecondPlaces (BothNow 32) }
+    ensures laid { AreLaid both Empty BothNow 32 queue }
+{}
+
+/// It is published while the first is at its data: the first is done nonetheless, and then the second is begun, which the device stalls.
+pub fn the_first_goes_on()
+    ensures under { told (FirstBegun.line 0) ≡ tells Data [] [] }
+    ensures done { told (ThenBoth.line 0) ≡ tells Done descriptor (GetDevice.setup ∷ []) }
+    ensures stalled { told (ThenBoth.line 1) ≡ tells (Halted Ends.Stall) [] [] }
+{}
