@@ -14,7 +14,7 @@ use Rattle.ring_pipes.specs.Bus.{Sender}
 use Rattle.ring_pipes.specs.Pipes.{IsPipe, IsElsewhere}
 use Rattle.out_rows.specs.Samples.{sending}
 use Rattle.closed_streams.specs.Closed.{only_name, without_name, without_head}
-use Rattle.closed_streams.specs.Samples.{asking, ring, at_zero, packets, sent, sender_of, Pipes, Waits}
+use Rattle.closed_streams.specs.Samples.{asking, ring, at_zero, packets, sent, sender_of, Pipes, Waits, Closes}
 use Rattle.closed_streams.proofs.Leaving.{only_is}
 use Rattle.closed_streams.proofs.Closing.{close_met_pipes, close_pipes, close_unopened}
 
@@ -96,3 +96,14 @@ still_row all =
 
     none : (n : ℕ) → without_head at_zero 0 n ≡ true → false ≡ true
     none n on = by_test (n == 0) on
+
+-- ---- several at once
+
+pub several_row : Closes (λ a e. a == 0) at_zero
+several_row = record { fewer = λ n on. refl; streamed = λ a e on. refl; were = λ n on. refl; met = λ n on. on; on = λ n on. on; off = λ n on off. off }
+
+pub kept_row : Closes (λ a e. true) at_zero → ⊥
+kept_row s = true≢false (s.off 1 refl refl)
+
+pub unmet_row : Closes (λ a e. a == 0) (λ n. false) → ⊥
+unmet_row s = false≢true (s.met 0 refl)

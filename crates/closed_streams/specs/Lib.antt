@@ -1,2 +1,4 @@
 pub mod Closed
+pub mod Several
+pub mod Aside
 pub mod Samples

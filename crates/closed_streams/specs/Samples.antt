@@ -6,16 +6,19 @@
 --     sender_of              the one sender of a bus
 --     Pipes stream member streams      both sides of the pipes of these queue heads agree
 --     Waits stream streams   the senders that no queue head is for wait
+--     each_own n             the queue head at n is that of endpoint 1 of device n
+--     Closes now narrow      of queue heads with streams everywhere that at 0 keeps its own, where these endpoints have streams then, and the walk meets these queue heads
 use Rattle.std.specs.Prelude.{ℕ, ◌==◌, Bool, true, List, [], ◌∷◌, Option, Some}
 use Rattle.qh_qtd.specs.declared.qtd.Qtd.{Qtd}
 use Rattle.qh_qtd.specs.declared.queue_head.Qh.{Qh}
 use Rattle.lent_structures.specs.Structures.{QueueHead, Element, StructureSets, put}
 use Rattle.lent_structures.specs.Samples.{token, queue, element, nothing}
 use Rattle.ring_walk.specs.Hand.{Empty}
-use Rattle.ring_streams.specs.Told.{endpoint_of}
+use Rattle.ring_streams.specs.Told.{Endpoint, endpoint_of}
 use Rattle.ring_pipes.specs.Bus.{Sender}
 use Rattle.ring_pipes.specs.Pipes.{ArePiped}
 use Rattle.opened_streams.specs.Unopened.{AreUnopened}
+use Rattle.closed_streams.specs.Several.{ClosesSome}
 
 abbrev pub asking : Qh
 asking = record queue { token = record token { toggle = true } }
@@ -40,3 +43,9 @@ Pipes stream member streams = ArePiped stream packets sender_of member streams (
 
 abbrev pub Waits : (ℕ → ℕ → Bool) → (ℕ → Bool) → Type 0
 Waits stream streams = AreUnopened stream packets sender_of streams (λ n. endpoint_of asking) sent
+
+abbrev pub each_own : ℕ → Endpoint
+each_own n = record (endpoint_of asking) { addr = n }
+
+abbrev pub Closes : (ℕ → ℕ → Bool) → (ℕ → Bool) → Type 0
+Closes now narrow = ClosesSome (λ a e. true) now (λ n. true) narrow (λ n. true) at_zero each_own

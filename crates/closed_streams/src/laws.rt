@@ -5,6 +5,8 @@ ghost use Rattle.ring_out_pipes.specs.OutBus.{Taker};
 ghost use Rattle.closed_streams.specs.Closed.{NameIsClosed, HeadIsClosed, NarrowsBeside, ClosesBeside, CloseEnds, CloseMetEnds, ClosePipes, CloseMetPipes};
 ghost use Rattle.closed_streams.specs.Closed.{CloseOutPipes, CloseMetOutPipes, CloseOuts, CloseMetOuts, CloseReports, IsUnopenedStill, CloseUnopened, CloseUntaken};
 ghost use Rattle.closed_streams.specs.Closed.{NoneAsksClosed, NoneSendsToClosed};
+ghost use Rattle.closed_streams.specs.Several.{CloseSomeEnds, CloseSomePipes, CloseSomeUnopened, CloseSomeOutPipes, CloseSomeUntaken};
+ghost use Rattle.closed_streams.specs.Aside.{AsideSendersWait, AsideTakersWait};
 
 use usb_base::Wire;
 
@@ -48,4 +50,21 @@ pub fn the_unopened_wait<W: Wire>()
 pub fn none_asks_the_closed<W: Wire>()
     ensures asks { (sender : W → ℕ → ℕ → Option Sender) → NoneAsksClosed sender }
     ensures sends { (taker : W → ℕ → ℕ → Option Taker) → NoneSendsToClosed taker }
+{}
+
+/// Several streams are closed at once, and the walk doesn't meet their queue heads any more: all other streams are as before, and the devices' endpoints that no queue
+/// head is for, but the closed ones, have all their packets still, or took nothing.
+pub fn several_streams_are_closed<W: Wire>()
+    ensures ends { CloseSomeEnds }
+    ensures pipes { (sender : W → ℕ → ℕ → Option Sender) → CloseSomePipes sender }
+    ensures unopened { (sender : W → ℕ → ℕ → Option Sender) → CloseSomeUnopened sender }
+    ensures outs { (taker : W → ℕ → ℕ → Option Taker) → CloseSomeOutPipes taker }
+    ensures untaken { (taker : W → ℕ → ℕ → Option Taker) → CloseSomeUntaken taker }
+{}
+
+/// Each event of the controller leaves the closed endpoints of the devices as they are, whatever they sent or took before: no queue head that the walk may meet asks
+/// one, or sends to it.
+pub fn the_closed_stay<W: Wire>()
+    ensures senders { AsideSendersWait W.begins W.transacts }
+    ensures takers { AsideTakersWait W.begins W.transacts }
 {}

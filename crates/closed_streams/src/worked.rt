@@ -1,11 +1,11 @@
 //! Worked rows.
-ghost use Rattle.std.specs.Prelude.{◌≡◌, true, false};
+ghost use Rattle.std.specs.Prelude.{◌≡◌, ◌==◌, true, false};
 ghost use Rattle.ring_streams.specs.Told.{endpoint_of};
 ghost use Rattle.ring_pipes.specs.Pipes.{IsElsewhere};
 ghost use Rattle.lent_structures.specs.Samples.{element};
 ghost use Rattle.out_rows.specs.Samples.{sending};
 ghost use Rattle.closed_streams.specs.Closed.{only_name, without_name, without_head};
-ghost use Rattle.closed_streams.specs.Samples.{asking, ring, at_zero, Pipes, Waits};
+ghost use Rattle.closed_streams.specs.Samples.{asking, ring, at_zero, Pipes, Waits, Closes};
 
 /// Endpoint 1 of device 5 is left out, and neither its endpoint 2 nor endpoint 1 of device 6; of two queue heads that at 64 is.
 pub fn what_is_left_out()
@@ -36,4 +36,11 @@ pub fn what_waits()
 pub fn who_asks()
     ensures itself { IsElsewhere (only_name 5 1) (ring asking element) 0 (endpoint_of asking) → ⊥ }
     ensures beside { IsElsewhere (only_name 5 1) (ring asking sending) 0 (endpoint_of asking) }
+{}
+
+/// Where the walk meets the queue head at 0 alone, all streams but its own are closed at once. None of the others' endpoints keeps one, and the walk can't pass over it.
+pub fn several_are_closed()
+    ensures closed { Closes (λ a e. a == 0) at_zero }
+    ensures kept { Closes (λ a e. true) at_zero → ⊥ }
+    ensures unmet { Closes (λ a e. a == 0) (λ n. false) → ⊥ }
 {}

@@ -1,0 +1,5 @@
+use Rattle.closed_streams.proofs.Several.{close_some_ends, close_some_pipes, close_some_unopened, close_some_out_pipes, close_some_untaken}
+use Rattle.closed_streams.proofs.laws.several_streams_are_closed.Goals as goal
+
+pub returns : goal.returns
+returns g c = record { ends = close_some_ends; pipes = close_some_pipes; unopened = close_some_unopened; outs = close_some_out_pipes; untaken = close_some_untaken }
