@@ -1,0 +1,4 @@
+pub mod Queues
+pub mod Hands
+pub mod Sampled
+pub mod Turning
