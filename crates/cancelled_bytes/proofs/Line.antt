@@ -24,6 +24,7 @@ use Rattle.told_endpoints.proofs.Lines.{stored_filtered, told_more, told_then, o
 use Rattle.reported_streams.specs.Reported.{IsReported}
 use Rattle.cancelled_bytes.specs.Cancelled.{CanBeTold, IsSaid}
 use Rattle.cancelled_bytes.proofs.Cancelling.{cancel_tells_all}
+use Rattle.endpoint_lives.proofs.Lives.{told_gone}
 
 -- an endpoint that goes on has no such line
 goes_untold : (o : Option EndCause) (cancelled gone : Bool) → o ≡ None → (ended_by_cancel o && cancelled && not gone) ≡ true → ⊥
@@ -51,13 +52,13 @@ module _ (d : DriverContent) (name : EpName) (bytes held reported : List ℕ) (s
 
 pub cancel_line_tells : (order : ℕ → ℕ) (d : DriverContent) (m : Mem) (parts : StructureSets) (hand : Hand) (e : ℕ) (x : Endpoint) (acc : List (List ℕ)) (held reported : List ℕ) → is_told x ≡ true
     → CanBeTold d m parts hand e x held → IsSaid d.reports d.store x.desc.name held reported → IsReported order (out_now d e) hand parts (32 * x.queue) acc reported
-    → IsToldTo (cancel_told d m e x).reports (cancel_told d m e x).store (named_of x) [] (concat acc)
+    → IsToldTo (cancel_told d m e x).reports (cancel_told d m e x).store (named_of (record x { gone = true })) [] (concat acc)
 cancel_line_tells order d m parts hand e x acc held reported tells k s r =
     let bytes : List ℕ = cancelled_bytes d.notes m e x.queue d.transfers in
-    subst (λ (b : Bool). IsToldTo (if b then with_line d lines.Cancel x.desc.name bytes else d).reports (if b then with_line d lines.Cancel x.desc.name bytes else d).store (named_of x) [] (concat acc)) (sym tells)
+    subst (λ (b : Bool). IsToldTo (if b then with_line d lines.Cancel x.desc.name bytes else d).reports (if b then with_line d lines.Cancel x.desc.name bytes else d).store (named_of (record x { gone = true })) [] (concat acc)) (sym tells)
     (record {
       sum = append-nil (told_in (d.store ++ bytes) (lines_in x.desc.name (with_line d lines.Cancel x.desc.name bytes).reports)) ∙ bytes_then d x.desc.name bytes held reported s
           ∙ cancel_tells_all order d m parts hand e x acc (told_in d.store (lines_in x.desc.name d.reports)) held reported k s.sum r;
-      going = λ goes. absurd (goes_untold x.ended x.cancelled x.gone goes tells);
+      going = λ goes. absurd (goes_untold x.ended x.cancelled x.gone (sym (told_gone (record x { gone = true }) refl) ∙ goes) tells);
       over = λ cause ended. (refl, ends_then d x.desc.name bytes held reported s);
     })

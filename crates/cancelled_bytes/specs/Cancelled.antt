@@ -98,4 +98,4 @@ abbrev pub CancelLineTells : Type 0
 CancelLineTells = (order : ℕ → ℕ) (d : DriverContent) (m : Mem) (parts : StructureSets) (hand : Hand) (e : ℕ) (x : Endpoint) (acc : List (List ℕ)) (held reported : List ℕ)
     → is_told x ≡ true → CanBeTold d m parts hand e x held → IsSaid d.reports d.store x.desc.name held reported
     → IsReported order (out_now d e) hand parts (32 * x.queue) acc reported
-    → IsToldTo (cancel_told d m e x).reports (cancel_told d m e x).store (named_of x) [] (concat acc)
+    → IsToldTo (cancel_told d m e x).reports (cancel_told d m e x).store (named_of (record x { gone = true })) [] (concat acc)

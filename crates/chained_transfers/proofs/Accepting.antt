@@ -28,8 +28,8 @@ use Rattle.driver_rows.specs.Words.{request_length, request_stages, needs, is_co
 use Rattle.driver_rows.specs.Offers.{Offered, Asked, take_runs, taken_open, planned_open, offered_open, taken_transfer, open_transfer, found_transfer, is_queued, takes_get, takes_put, takes_control, offered_iso, cancelled_by, offered_cancel, offered_next, offered}
 use Rattle.run_owners.specs.Owners.{is_descriptor}
 use Rattle.run_owners.specs.Accepts.{AreShort, Cancels}
-use Rattle.chained_transfers.specs.Bulk.{IsBulk, OpensBulk, OnlyBulk}
-use Rattle.chained_transfers.specs.Leaving.{OpensOrCancelsBulk, IsAcceptedAs}
+use Rattle.chained_transfers.specs.Bulk.{IsBulk, OpensBulk, OnlyBulk, OpensOrCancelsBulk}
+use Rattle.chained_transfers.specs.Leaving.{IsAcceptedAs}
 use Rattle.chained_transfers.specs.Accepted.{move_of, IsOpened, IsAsked, IsAccepted}
 use Rattle.chained_transfers.proofs.Ways.{sort_queued, same_in, same_out, stages_short, stages_some}
 

@@ -13,6 +13,9 @@ use Rattle.driver_rows.specs.declared.content.Transfer.{Transfer}
 use Rattle.driver_rows.specs.declared.content.QtdNote.{QtdNote}
 use Rattle.driver_rows.specs.DriverContent.{DriverContent}
 use Rattle.driver_rows.specs.Words.{needs}
+use Rattle.driver_rows.specs.Rows.{ended_by_cancel, is_told}
+use Rattle.endpoint_lives.specs.Lives.{told_end}
+use Rattle.endpoint_lives.proofs.Lives.{none_told, told_none, by_cancel}
 use Rattle.driver_rows.specs.Offers.{Offered, Asked, offered, new_runs, new_endpoint, note_stages, accepted_open, accepted_transfer, with_queued, new_transfer, first_waiting, first_end, accepted_cancel}
 use Rattle.run_owners.specs.Accepts.{Transfers, Cancels}
 use Rattle.run_owners.specs.Leaving.{IsOrderly, times}
@@ -26,12 +29,12 @@ use Rattle.run_owners.proofs.Orders.{owed, one_same}
 use Rattle.run_owners.proofs.Transferred.{are_new, goes_on_alive}
 use Rattle.run_owners.proofs.Released.{set_here}
 use Rattle.run_owners.proofs.Stays.{stays_same, endpoint_stays}
-use Rattle.chained_transfers.specs.Bulk.{OpensBulk, MovesAs}
+use Rattle.chained_transfers.specs.Bulk.{OpensBulk, OpensOrCancelsBulk, MovesAs, IsStanding, OnlyBulk}
 use Rattle.chained_transfers.specs.Accepted.{IsOpened, IsAsked, IsAccepted}
 use Rattle.chained_transfers.specs.Chains.{piece_at}
-use Rattle.chained_transfers.specs.Turns.{IsAtPlace, AreAtPlaces, Turn, turn_of, turn_in, AreReportedTo}
+use Rattle.chained_transfers.specs.Turns.{IsAtPlace, AreAtPlaces, Turn, turn_of, turn_in, AreReportedTo, IsNotGone, AreTurnsOf, AreReturned}
 use Rattle.chained_transfers.specs.InTurn.{TakesTurns}
-use Rattle.chained_transfers.specs.Leaving.{OpensOrCancelsBulk, IsAcceptedAs, IsInLife, AreBulk, IsNotGone, AreTurnsOf, AreReturned, TurnsAndLeaves, IsStaying, NothingLeaves}
+use Rattle.chained_transfers.specs.Leaving.{IsAcceptedAs, IsStaying, NothingLeaves}
 use Rattle.chained_transfers.proofs.Moves.{KeepDescs, descs_set, descs_push, moves_on, moves_same}
 use Rattle.chained_transfers.proofs.Chained.{pieces_same, same_chained, endpoint_chained, within_list, pushed_there, pushed_last}
 use Rattle.chained_transfers.proofs.Queued.{not_dummy, transfer_chained}
@@ -39,7 +42,7 @@ use Rattle.chained_transfers.proofs.Turning.{fewer_turns, IsChangedAt, which, ch
 use Rattle.chained_transfers.proofs.Ends.{ends_turns, changed_end, changed_stays, WasGone, returned_on, same_turn, same_gone, changed_gone}
 use Rattle.chained_transfers.proofs.Accepting.{command_accepted, command_received}
 use Rattle.chained_transfers.proofs.Rows.{ends_set}
-use Rattle.chained_transfers.proofs.Staying.{alive, turns_are_leaving, turns_leave_nothing, leaving_takes_turns}
+use Rattle.chained_transfers.proofs.Staying.{alive, fresh_linked, linked_alive}
 
 push_which : {X : Type 0} (xs : List X) (x : X) (n : ℕ) (z : X) → slice_get (xs ++ x ∷ []) n ≡ Some z → (slice_get xs n ≡ Some z) ⊎ ((n ≡ length xs) × (z ≡ x))
 push_which [] x zero z here = inr (refl, sym (same_Some x z here))
@@ -89,7 +92,7 @@ opened_gone xs x alive k z here gone =
     (λ (new : (k ≡ length xs) × (z ≡ x)). absurd (false≢true (sym alive ∙ ap (λ (r : Endpoint). r.gone) (sym new.1) ∙ gone)))
     (push_which xs x k z here)
 
-pub open_leaves : (d : DriverContent) (m : Mem) (o : Offered) → IsOrderly d → IsOpened d m o → TurnsAndLeaves d → TurnsAndLeaves o.driver
+pub open_leaves : (d : DriverContent) (m : Mem) (o : Offered) → IsOrderly d → IsOpened d m o → TakesTurns d → TakesTurns o.driver
 open_leaves d m o order why old =
     let w = why.opens in
     let q = get_or (new_runs d w.holding_after) 0 0 in
@@ -99,11 +102,11 @@ open_leaves d m o order why old =
     let v = turn_in d.transfers in
     let ends = slice_get d.endpoints in
     let ends_now = slice_get (d.endpoints ++ x ∷ []) in
-    let now : TurnsAndLeaves (accepted_open d w.desc w.holding_after q f).driver = record {
+    let now : TakesTurns (accepted_open d w.desc w.holding_after q f).driver = record {
       bulk = record {
         endpoints = λ e z here. ⊎_elim (λ (was : slice_get d.endpoints e ≡ Some z). r.endpoints e z was)
             (λ (new : (e ≡ length d.endpoints) × (z ≡ x)).
-            subst (λ (y : Endpoint). IsInLife y) (sym new.1) (record { bulk = why.bulk; placement = refl; chained = refl; unlinked = λ off. absurd (false≢true (sym off)); ended = λ on. absurd (false≢true on); gone = λ gone. absurd (false≢true gone) }))
+            subst (λ (y : Endpoint). IsStanding y) (sym new.1) (record { bulk = why.bulk; placement = refl; chained = refl; unlinked = λ off. absurd (false≢true (sym off)); ended = λ on. absurd (false≢true on); cancel = λ on. absurd (false≢true on); gone = λ gone. absurd (false≢true gone) }))
             (push_which d.endpoints x e z here);
         moves = moves_same d _ (descs_push d.endpoints x) r.moves;
         command = tt;
@@ -119,7 +122,7 @@ open_leaves d m o order why old =
         returned = returned_on v v ends ends_now (λ k z y there here gone. same_turn v k z there) (opened_gone d.endpoints x refl) old.turns.returned;
       };
     } in
-    subst (λ (g : Offered). TurnsAndLeaves g.driver) (sym w.is) now
+    subst (λ (g : Offered). TakesTurns g.driver) (sym w.is) now
   where
     turn_at_runs : (t : ℕ) (y : TransferRuns) → transfer_in d.transfers t ≡ Some y → (z : Transfer) × (slice_get d.transfers t ≡ Some z) × (y.endpoint ≡ z.endpoint)
     turn_at_runs t y there = by (slice_get d.transfers t) refl there
@@ -165,7 +168,7 @@ module _ (S : ℕ → Type 0) (v w : ℕ → Option Turn) (ends ends_now : ℕ �
     last : w number ≡ Some z
     fresh : (z.endpoint ≡ e) × (z.reported ≡ false) × (z.released ≡ false)
     moved : IsChangedAt ends ends_now e a b
-    goes_on : (a.ended ≡ None) × (b.ended ≡ None) × (b.next ≡ first_waiting a.next number)
+    goes_on : (told_end a ≡ None) × (told_end b ≡ None) × (b.next ≡ first_waiting a.next number)
     listed : (i u : ℕ) → slice_get hs i ≡ Some u → (y : Turn) × (v u ≡ Some y)
 
   next_of : IsNewest → (k : ℕ) (o : Option ℕ) → AreReportedTo v k o → k ≢ e → AreReportedTo w k o
@@ -326,7 +329,7 @@ asked_turns d m o why order here_still old = subst (λ (g : Offered). TakeTurns 
           last = ap (option_map turn_of) (pushed_last d.transfers y);
           fresh = (refl, refl, refl);
           moved = c;
-          goes_on = (why.goes_on, why.goes_on, refl);
+          goes_on = (none_told x why.goes_on, none_told z why.goes_on, refl);
           listed = listed;
         }) old.0 in (
           fewer_turns (IsNotGone ends) (IsNotGone ends_now) w ends_now d.harvested (λ t r there stays. changed_stays ends ends_now e x z c refl r.endpoint stays) newest,
@@ -340,8 +343,8 @@ asked_turns d m o why order here_still old = subst (λ (g : Offered). TakeTurns 
               (changed_gone ends ends_now e x z c (λ gone. absurd (false≢true (sym here_still ∙ gone)))) old.1,
         )
 
-pub asked_leaves : (d : DriverContent) (m : Mem) (o : Offered) → Stands (holding d.book m) → HasOwners d → IsAsked d m o → TurnsAndLeaves d → TurnsAndLeaves o.driver
-asked_leaves d m o stands owners why old =
+pub asked_in_turn : (d : DriverContent) (m : Mem) (o : Offered) → Stands (holding d.book m) → HasOwners d → IsAsked d m o → TakesTurns d → TakesTurns o.driver
+asked_in_turn d m o stands owners why old =
     let w = why.transfers in
     let x = w.endpoint in
     let r = old.bulk in
@@ -353,9 +356,9 @@ asked_leaves d m o stands owners why old =
       here = ap (λ (z : Transfer). slice_get (set d.endpoints w.number (with_queued x dummy (length d.transfers))) z.endpoint) is ∙ set_here d.endpoints w.number x (with_queued x dummy (length d.transfers)) w.here;
       sort = ap (λ (z : Transfer). z.sort) is ∙ ap (λ (a : Asked). a.sort) why.asked;
     } in
-    let bulk : (dummy : ℕ) (notes : List QtdNote) → AreBulk (accepted_transfer d w.number x w.asked w.holding_after dummy notes).driver = λ dummy notes. record {
-      endpoints = ends_set IsInLife d.endpoints w.number x (with_queued x dummy (length d.transfers)) w.here
-          (λ s. record { bulk = s.bulk; placement = s.placement; chained = s.chained; unlinked = s.unlinked; ended = s.ended; gone = s.gone }) r.endpoints;
+    let bulk : (dummy : ℕ) (notes : List QtdNote) → OnlyBulk (accepted_transfer d w.number x w.asked w.holding_after dummy notes).driver = λ dummy notes. record {
+      endpoints = ends_set IsStanding d.endpoints w.number x (with_queued x dummy (length d.transfers)) w.here
+          (λ s. record { bulk = s.bulk; placement = s.placement; chained = s.chained; unlinked = s.unlinked; ended = s.ended; cancel = s.cancel; gone = s.gone }) r.endpoints;
       moves = λ t y here. ⊎_elim (λ (was : slice_get d.transfers t ≡ Some y). moves_on d _ y y refl refl (kept dummy) (r.moves t y was))
           (λ (new : (t ≡ length d.transfers) × (y ≡ new_transfer w.number w.asked x.dummy)). new_moves dummy notes y new.1)
           (push_which d.transfers (new_transfer w.number w.asked x.dummy) t y here);
@@ -366,7 +369,7 @@ asked_leaves d m o stands owners why old =
       removals = r.removals;
     } in
     record {
-      bulk = subst (λ (g : Offered). AreBulk g.driver) (sym w.is) (bulk _ _);
+      bulk = subst (λ (g : Offered). OnlyBulk g.driver) (sym w.is) (bulk _ _);
       chained = transfer_chained d m o owners.owner stands w owners.orderly owners.owned old.chained;
       turns = record { places = places; turns = turns.0; returned = turns.1 };
     }
@@ -391,41 +394,42 @@ first_some : (o : Option EndCause) → first_end o ≢ None
 first_some None f = cc
 first_some (Some cause) f = cc
 
--- what isn't cancelled is in the ring, and wasn't given back
-fresh_is : (x : Endpoint) → IsInLife x → x.cancelled ≡ false → (x.linked ≡ true) × (x.gone ≡ false)
-fresh_is x s fresh =
-    let on = by x.linked refl in
-    (on, gone on x.gone refl)
+-- as far as its report has it, it goes on where it went on before
+cancel_goes : (x : Endpoint) → (ended_by_cancel x.ended ≡ true → ⊥) → told_end (record x { cancelled = true; ended = first_end x.ended }) ≡ None → told_end x ≡ None
+cancel_goes x never goes = by x.ended refl
   where
-    by : (b : Bool) → x.linked ≡ b → x.linked ≡ true
-    by true is = is
-    by false is = absurd (false≢true (sym fresh ∙ s.unlinked is))
+    by : (o : Option EndCause) → x.ended ≡ o → told_end x ≡ None
+    by None is = none_told x is
+    by (Some cause) is = ⊎_elim
+        (λ (none : first_end x.ended ≡ None). absurd (first_some x.ended none))
+        (λ (told : is_told (record x { cancelled = true; ended = first_end x.ended }) ≡ true).
+        let c : ended_by_cancel (first_end x.ended) ≡ true = (by_cancel (record x { cancelled = true; ended = first_end x.ended }) told).cancel in
+        absurd (never (ap ended_by_cancel is ∙ (sym (ap (λ (o : Option EndCause). ended_by_cancel (first_end o)) is) ∙ c))))
+        (told_none (record x { cancelled = true; ended = first_end x.ended }) goes)
 
-    gone : x.linked ≡ true → (b : Bool) → x.gone ≡ b → x.gone ≡ false
-    gone on false is = is
-    gone on true is = absurd (false≢true (sym (s.gone is) ∙ on))
-
-pub cancel_leaves : (d : DriverContent) (m : Mem) (o : Offered) → Cancels d m o → TurnsAndLeaves d → TurnsAndLeaves o.driver
+pub cancel_leaves : (d : DriverContent) (m : Mem) (o : Offered) → Cancels d m o → TakesTurns d → TakesTurns o.driver
 cancel_leaves d m o why old =
     let e = why.number in
     let x = why.endpoint in
     let z : Endpoint = record x { cancelled = true; ended = first_end x.ended } in
     let r = old.bulk in
-    let fresh = fresh_is x (r.endpoints e x why.here) why.fresh in
+    let s = r.endpoints e x why.here in
+    let on = fresh_linked x s why.fresh in
+    let kept = linked_alive x s on in
     let v = turn_in d.transfers in
     let ends = slice_get d.endpoints in
     let ends_now = slice_get (set d.endpoints e z) in
     let c = changed_plain d.endpoints e x z why.here in
-    let now : TurnsAndLeaves (accepted_cancel d e x) = record {
+    let now : TakesTurns (accepted_cancel d e x) = record {
       bulk = record {
-        endpoints = ends_set IsInLife d.endpoints e x z why.here
-            (λ s. record { bulk = s.bulk; placement = s.placement; chained = s.chained; unlinked = λ off. refl; ended = λ on. first_some x.ended; gone = s.gone }) r.endpoints;
+        endpoints = ends_set IsStanding d.endpoints e x z why.here
+            (λ s. record { bulk = s.bulk; placement = s.placement; chained = s.chained; unlinked = λ off. refl; ended = λ on. first_some x.ended; cancel = λ on. refl; gone = s.gone }) r.endpoints;
         moves = moves_same d _ (descs_set d.endpoints e x z why.here refl) r.moves;
         command = tt;
         leaver = λ k w is here.
             let own : k ≡ e = sym (same_Some e k is) in
             let same : w ≡ z = same_Some w z (sym here ∙ ap ends_now own ∙ c.here) in
-            record { cancelled = ap (λ (i : Endpoint). i.cancelled) same; linked = ap (λ (i : Endpoint). i.linked) same ∙ fresh.0 };
+            record { cancelled = ap (λ (i : Endpoint). i.cancelled) same; linked = ap (λ (i : Endpoint). i.linked) same ∙ on };
         mends = r.mends;
         unlinks = r.unlinks;
         removals = r.removals;
@@ -434,30 +438,23 @@ cancel_leaves d m o why old =
       turns = record {
         places = old.turns.places;
         turns = fewer_turns (IsNotGone ends) (IsNotGone ends_now) v ends_now d.harvested (λ t y there stays. changed_stays ends ends_now e x z c refl y.endpoint stays)
-            (ends_turns (IsNotGone ends) v ends ends_now d.harvested (changed_end ends ends_now e x z c (λ goes. absurd (first_some x.ended goes))) old.turns.turns);
-        returned = returned_on v v ends ends_now (λ k i w there here gone. same_turn v k i there) (changed_gone ends ends_now e x z c (λ gone. absurd (false≢true (sym fresh.1 ∙ gone)))) old.turns.returned;
+            (ends_turns (IsNotGone ends) v ends ends_now d.harvested (changed_end ends ends_now e x z c (λ goes. (cancel_goes x (λ by. absurd (false≢true (sym why.fresh ∙ s.cancel by))) goes, refl))) old.turns.turns);
+        returned = returned_on v v ends ends_now (λ k i w there here gone. same_turn v k i there) (changed_gone ends ends_now e x z c (λ gone. absurd (false≢true (sym kept ∙ gone)))) old.turns.returned;
       };
     } in
-    subst (λ (g : Offered). TurnsAndLeaves g.driver) (sym why.is) now
+    subst (λ (g : Offered). TakesTurns g.driver) (sym why.is) now
 
 -- ---- any command
 
 -- an accepted open, get or put
-accepted_leaves : (d : DriverContent) (m : Mem) (o : Offered) → Stands (holding d.book m) → HasOwners d → IsAccepted d m o → TurnsAndLeaves d → TurnsAndLeaves o.driver
+accepted_leaves : (d : DriverContent) (m : Mem) (o : Offered) → Stands (holding d.book m) → HasOwners d → IsAccepted d m o → TakesTurns d → TakesTurns o.driver
 accepted_leaves d m o stands owners why old =
-    ⊎_elim (λ (why : IsOpened d m o). open_leaves d m o owners.orderly why old) (λ (why : IsAsked d m o). asked_leaves d m o stands owners why old) why
+    ⊎_elim (λ (why : IsOpened d m o). open_leaves d m o owners.orderly why old) (λ (why : IsAsked d m o). asked_in_turn d m o stands owners why old) why
 
 accepted_nothing : (d : DriverContent) (m : Mem) (o : Offered) → IsAccepted d m o → NothingLeaves d → NothingLeaves o.driver
 accepted_nothing d m o why old = ⊎_elim (λ (why : IsOpened d m o). open_nothing d m o why old) (λ (why : IsAsked d m o). asked_nothing d m o why old) why
 
-accepted_turns : (d : DriverContent) (m : Mem) (o : Offered) → Stands (holding d.book m) → HasOwners d → IsAccepted d m o → TakesTurns d → TakesTurns o.driver
-accepted_turns d m o stands owners why old =
-    leaving_takes_turns o.driver (accepted_leaves d m o stands owners why (turns_are_leaving d old)) (accepted_nothing d m o why (turns_leave_nothing d old))
-
-pub asked_in_turn : (d : DriverContent) (m : Mem) (o : Offered) → Stands (holding d.book m) → HasOwners d → IsAsked d m o → TakesTurns d → TakesTurns o.driver
-asked_in_turn d m o stands owners why old = accepted_turns d m o stands owners (inr why) old
-
-leaves_as : (d : DriverContent) (m : Mem) (o : Offered) (cmd : Cmd) → Stands (holding d.book m) → HasOwners d → IsAcceptedAs d m o cmd → TurnsAndLeaves d → TurnsAndLeaves o.driver
+leaves_as : (d : DriverContent) (m : Mem) (o : Offered) (cmd : Cmd) → Stands (holding d.book m) → HasOwners d → IsAcceptedAs d m o cmd → TakesTurns d → TakesTurns o.driver
 leaves_as d m o (commands.OpenEp x) stands owners why old = accepted_leaves d m o stands owners why old
 leaves_as d m o (commands.Get name len by) stands owners why old = accepted_leaves d m o stands owners why old
 leaves_as d m o (commands.Put name bytes by) stands owners why old = accepted_leaves d m o stands owners why old
@@ -465,9 +462,11 @@ leaves_as d m o (commands.Control name setup bytes) stands owners why old = acce
 leaves_as d m o (commands.Iso name count len seed) stands owners why old = accepted_leaves d m o stands owners why old
 leaves_as d m o (commands.Cancel name) stands owners why old = cancel_leaves d m o why old
 
-pub command_leaves : (d : DriverContent) (m : Mem) (cmd : Cmd) (o : Offered) → Stands (holding d.book m) → HasOwners d → TurnsAndLeaves d → OpensOrCancelsBulk cmd → offered d m cmd ≡ Ok o → TurnsAndLeaves o.driver
-command_leaves d m cmd o stands owners old only is =
-    leaves_as d m o cmd stands owners (command_accepted d m cmd o (λ e x here. let s = old.bulk.endpoints e x here in (s.bulk, s.placement)) only is) old
+pub is_accepted : (d : DriverContent) (m : Mem) (cmd : Cmd) (o : Offered) → OnlyBulk d → OpensOrCancelsBulk cmd → offered d m cmd ≡ Ok o → IsAcceptedAs d m o cmd
+is_accepted d m cmd o bulk only is = command_accepted d m cmd o (λ e x here. let s = bulk.endpoints e x here in (s.bulk, s.placement)) only is
 
-pub command_in_turn : (d : DriverContent) (m : Mem) (cmd : Cmd) (o : Offered) → Stands (holding d.book m) → HasOwners d → TakesTurns d → OpensBulk cmd → offered d m cmd ≡ Ok o → TakesTurns o.driver
-command_in_turn d m cmd o stands owners old only is = accepted_turns d m o stands owners (command_received d m cmd o old.bulk only is) old
+pub command_in_turn : (d : DriverContent) (m : Mem) (cmd : Cmd) (o : Offered) → Stands (holding d.book m) → HasOwners d → TakesTurns d → OpensOrCancelsBulk cmd → offered d m cmd ≡ Ok o → TakesTurns o.driver
+command_in_turn d m cmd o stands owners old only is = leaves_as d m o cmd stands owners (is_accepted d m cmd o old.bulk only is) old
+
+pub command_nothing : (d : DriverContent) (m : Mem) (cmd : Cmd) (o : Offered) → OnlyBulk d → NothingLeaves d → OpensBulk cmd → offered d m cmd ≡ Ok o → NothingLeaves o.driver
+command_nothing d m cmd o bulk none only is = accepted_nothing d m o (command_received d m cmd o bulk only is) none

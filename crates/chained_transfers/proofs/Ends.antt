@@ -7,8 +7,9 @@ use Rattle.driver_rows.specs.declared.content.Endpoint.{Endpoint}
 use Rattle.driver_rows.specs.declared.content.Transfer.{Transfer}
 use Rattle.driver_rows.specs.Rows.{ended_by_cancel, let_go}
 use Rattle.run_owners.proofs.Released.{same_by_test, same_number, other_number}
-use Rattle.chained_transfers.specs.Turns.{Turn, turn_of, turn_in, AreReportedTo}
-use Rattle.chained_transfers.specs.Leaving.{IsNotGone, AreTurnsOf, AreReturned}
+use Rattle.endpoint_lives.specs.Lives.{told_end}
+use Rattle.endpoint_lives.proofs.Lives.{told_gone}
+use Rattle.chained_transfers.specs.Turns.{Turn, turn_of, turn_in, AreReportedTo, IsNotGone, AreTurnsOf, AreReturned}
 use Rattle.chained_transfers.proofs.Chained.{gone_from}
 use Rattle.chained_transfers.proofs.Turning.{IsChangedAt, which}
 
@@ -18,7 +19,7 @@ use Rattle.chained_transfers.proofs.Turning.{IsChangedAt, which}
 pub record WasEnd (ends : ℕ → Option Endpoint) (k : ℕ) (z : Endpoint) : Type 0 where
   pub was : Endpoint
   pub there : ends k ≡ Some was
-  pub goes : z.ended ≡ None → (was.ended ≡ None) × (z.next ≡ was.next)
+  pub goes : told_end z ≡ None → (told_end was ≡ None) × (z.next ≡ was.next)
 
 pub ends_turns : (S : ℕ → Type 0) (v : ℕ → Option Turn) (ends ends_now : ℕ → Option Endpoint) (hs : List ℕ) → ((k : ℕ) (z : Endpoint) → ends_now k ≡ Some z → WasEnd ends k z) → AreTurnsOf S v ends hs → AreTurnsOf S v ends_now hs
 ends_turns S v ends ends_now hs from old = record {
@@ -34,7 +35,7 @@ ends_turns S v ends ends_now hs from old = record {
 }
 
 -- one endpoint ends, or goes on with the same transfer
-pub changed_end : (ends ends_now : ℕ → Option Endpoint) (e : ℕ) (a b : Endpoint) → IsChangedAt ends ends_now e a b → (b.ended ≡ None → (a.ended ≡ None) × (b.next ≡ a.next)) → (k : ℕ) (z : Endpoint) → ends_now k ≡ Some z → WasEnd ends k z
+pub changed_end : (ends ends_now : ℕ → Option Endpoint) (e : ℕ) (a b : Endpoint) → IsChangedAt ends ends_now e a b → (told_end b ≡ None → (told_end a ≡ None) × (b.next ≡ a.next)) → (k : ℕ) (z : Endpoint) → ends_now k ≡ Some z → WasEnd ends k z
 changed_end ends ends_now e a b c same k z here = ⊎_elim
     (λ (own : (k ≡ e) × (z ≡ b)). subst (λ (r : Endpoint). WasEnd ends k r) (sym own.1) (record { was = a; there = ap ends own.0 ∙ c.was; goes = same }))
     (λ (other : (k ≢ e) × (ends k ≡ Some z)). record { was = z; there = other.1; goes = λ goes. (goes, refl) })
@@ -129,9 +130,9 @@ module _ (v w : ℕ → Option Turn) (ends ends_now : ℕ → Option Endpoint) (
       (which ends ends_now e a b k stays.endpoint g.moved stays.here)
 
   -- the endpoint goes on, so it is another one
-  other_goes : IsGoing → (k : ℕ) (x : Endpoint) → ends_now k ≡ Some x → x.ended ≡ None → (k ≢ e) × (ends k ≡ Some x)
+  other_goes : IsGoing → (k : ℕ) (x : Endpoint) → ends_now k ≡ Some x → told_end x ≡ None → (k ≢ e) × (ends k ≡ Some x)
   other_goes g k x here goes = ⊎_elim
-      (λ (own : (k ≡ e) × (x ≡ b)). absurd (g.ended (ap (λ (r : Endpoint). r.ended) (sym own.1) ∙ goes)))
+      (λ (own : (k ≡ e) × (x ≡ b)). absurd (g.ended (sym (told_gone b g.gone) ∙ ap told_end (sym own.1) ∙ goes)))
       (λ (other : (k ≢ e) × (ends k ≡ Some x)). other) (which ends ends_now e a b k x g.moved here)
 
   -- a transfer of another endpoint stays

@@ -28,22 +28,22 @@ use Rattle.run_owners.proofs.Orders.{IsOwed, owed, times_first, one_same, IsLeft
 use Rattle.run_owners.proofs.Leaves.{first_left}
 use Rattle.run_owners.proofs.Reasons.{each_is_due}
 use Rattle.run_owners.proofs.Stays.{advanced, lent, harvest_stays}
-use Rattle.chained_transfers.specs.Bulk.{IsBulkCommand, MovesAs, OnlyBulk}
-use Rattle.chained_transfers.specs.Turns.{IsAtPlace, AreAtPlaces, turn_of, turn_in}
+use Rattle.chained_transfers.specs.Bulk.{IsBulkCommand, MovesAs, IsStanding, OnlyBulk}
+use Rattle.chained_transfers.specs.Turns.{IsAtPlace, AreAtPlaces, turn_of, turn_in, IsNotGone, AreTurnsOf, AreReturned}
 use Rattle.chained_transfers.specs.InTurn.{TakesTurns}
-use Rattle.chained_transfers.specs.Leaving.{IsInLife, IsBulkOrUnlink, AreBulk, IsNotGone, AreTurnsOf, AreReturned, TurnsAndLeaves, NothingLeaves}
+use Rattle.chained_transfers.specs.Leaving.{NothingLeaves}
 use Rattle.chained_transfers.proofs.Ways.{found_by, moves_queued}
 use Rattle.chained_transfers.proofs.Moves.{KeepDescs, descs_same, descs_set, moves_on, moves_same, moves_set}
 use Rattle.chained_transfers.proofs.Chained.{same_chained, released_chained, gone_from, let_go_endpoint, endpoint_gone_chained}
 use Rattle.chained_transfers.proofs.Turning.{fewer_turns, changed, changed_plain, released_turns}
 use Rattle.chained_transfers.proofs.Ends.{returned_on, same_gone, changed_turn, IsGoing, gone_turns, gone_returned, gone_turn, other_turn}
-use Rattle.chained_transfers.proofs.Harvested.{not_served, places_set, harvest_turns_of}
+use Rattle.chained_transfers.proofs.Harvested.{not_served, ends_otherwise, places_set, harvest_turns_of}
 use Rattle.chained_transfers.proofs.Rows.{no_leaver, ends_set, bulk_on, nothing_on, kept_stays, kept_gone, IsHarvested, harvest_bulk, advanced_bulk, advanced_nothing, advanced_turns}
-use Rattle.chained_transfers.proofs.Staying.{alive, turns_are_leaving, turns_leave_nothing, leaving_takes_turns}
+use Rattle.chained_transfers.proofs.Staying.{alive, going_fresh}
 
 -- ---- a harvest
 
-module _ (p : Parts) (e t : ℕ) (found : Found) (due : IsHarvestDue p e t found) (bulk : AreBulk p.driver) where
+module _ (p : Parts) (e t : ℕ) (found : Found) (due : IsHarvestDue p e t found) (bulk : OnlyBulk p.driver) where
   is_found : found ≡ found_in due.transfer.sort (nat_le due.transfer.left 1) (note_at p.driver.notes due.transfer.place) (token_in p.memory due.transfer.place)
   is_found = due.tells ∙ found_by p.driver p.memory due.transfer due.transfer.sort (moves_queued p.driver due.transfer (bulk.moves t due.transfer due.there))
 
@@ -57,8 +57,9 @@ module _ (p : Parts) (e t : ℕ) (found : Found) (due : IsHarvestDue p e t found
       let s = bulk.endpoints e due.endpoint due.here in
       harvest_bulk p.driver p.memory e t due.endpoint due.transfer due.here due.there due.goes_on (alive due.endpoint s due.goes_on) s.bulk.kind found
       (not_served due.transfer.sort (nat_le due.transfer.left 1) (note_at p.driver.notes due.transfer.place) (token_in p.memory due.transfer.place) found is_found)
+      (λ n what cause. ends_otherwise due.transfer.sort (nat_le due.transfer.left 1) (note_at p.driver.notes due.transfer.place) (token_in p.memory due.transfer.place) found is_found n what due.endpoint.desc.kind cause)
 
-  harvest_leaves : TurnsAndLeaves p.driver → TurnsAndLeaves (after_driver_row (rows.Harvest e t found) p).driver
+  harvest_leaves : TakesTurns p.driver → TakesTurns (after_driver_row (rows.Harvest e t found) p).driver
   harvest_leaves old =
       let d = p.driver in
       let x = due.endpoint in
@@ -66,8 +67,8 @@ module _ (p : Parts) (e t : ℕ) (found : Found) (due : IsHarvestDue p e t found
       let f = after_harvest d p.memory e t found (Some x) (Some y) in
       let s = bulk.endpoints e x due.here in
       let stays : IsNotGone (slice_get d.endpoints) e = record { endpoint = x; here = due.here; gone = alive x s due.goes_on } in
-      let k = harvest_turns_of (IsNotGone (slice_get d.endpoints)) d p.memory e t x y due.here due.there due.goes_on due.next due.waits s.bulk.kind stays (record { places = old.turns.places; turns = old.turns.turns }) found is_found in
-      after TurnsAndLeaves (record {
+      let k = harvest_turns_of (IsNotGone (slice_get d.endpoints)) d p.memory e t x y due.here due.there due.goes_on (going_fresh x s due.goes_on) due.next due.waits s.bulk.kind stays (record { places = old.turns.places; turns = old.turns.turns }) found is_found in
+      after TakesTurns (record {
         bulk = bulk_on d f harvested.keeps old.bulk;
         chained = same_chained (views_of d) (views_of f) (harvest_stays d p.memory e t found (Some x) (Some y) due.here due.there).same old.chained;
         turns = record {
@@ -88,7 +89,7 @@ module _ (p : Parts) (e t : ℕ) (found : Found) (due : IsHarvestDue p e t found
 pub first_owed : (d : DriverContent) (t : ℕ) → slice_get d.harvested 0 ≡ Some t → IsOrderly d → IsOwed d.transfers t
 first_owed d t first order = owed d.transfers t (slice_get d.transfers t) refl (omega (arith, times_first t t d.harvested first, one_same t, order.harvests t))
 
-release_row : (p : Parts) (t : ℕ) → slice_get p.driver.harvested 0 ≡ Some t → IsOrderly p.driver → TurnsAndLeaves p.driver → TurnsAndLeaves (after_driver_row (rows.ReleaseTransfer t) p).driver
+release_row : (p : Parts) (t : ℕ) → slice_get p.driver.harvested 0 ≡ Some t → IsOrderly p.driver → TakesTurns p.driver → TakesTurns (after_driver_row (rows.ReleaseTransfer t) p).driver
 release_row p t first order old =
     let d = p.driver in
     let o = first_owed d t first order in
@@ -100,7 +101,7 @@ release_row p t first order old =
     let w = turn_in (set d.transfers t z) in
     let ends = slice_get d.endpoints in
     let c = changed turn_of d.transfers t y z o.there in
-    let now : TurnsAndLeaves (after_transfer p t (Some y) h).driver = record {
+    let now : TakesTurns (after_transfer p t (Some y) h).driver = record {
       bulk = record {
         endpoints = r.endpoints;
         moves = moves_set d _ t y z o.there refl refl (descs_same d.endpoints) r.moves;
@@ -117,7 +118,7 @@ release_row p t first order old =
         returned = returned_on v w ends ends (λ k i x here at gone. changed_turn v w t (turn_of y) (turn_of z) c refl (λ was. refl) (λ was. was) k i here) (same_gone ends) old.turns.returned;
       };
     } in
-    subst (λ (q : Option Transfer). TurnsAndLeaves (after_transfer p t q (freed_by d (holding d.book p.memory) q)).driver) (sym o.there) now
+    subst (λ (q : Option Transfer). TakesTurns (after_transfer p t q (freed_by d (holding d.book p.memory) q)).driver) (sym o.there) now
 
 release_nothing : (p : Parts) (t : ℕ) (o : Option Transfer) (h : Holding) → NothingLeaves p.driver → NothingLeaves (after_transfer p t o h).driver
 release_nothing p t None h old = old
@@ -138,9 +139,9 @@ gone_held : (told b : Bool) (y : Transfer) → (cond b (record y { reported = y.
 gone_held told true y held = absurd (false≢true (sym held))
 gone_held told false y held = refl
 
-release_endpoint : (p : Parts) (e : ℕ) → IsEndpointDue p e → IsOrderly p.driver → TurnsAndLeaves p.driver → TurnsAndLeaves (after_driver_row (rows.ReleaseEndpoint e) p).driver
+release_endpoint : (p : Parts) (e : ℕ) → IsEndpointDue p e → IsOrderly p.driver → TakesTurns p.driver → TakesTurns (after_driver_row (rows.ReleaseEndpoint e) p).driver
 release_endpoint p e due order old =
-    subst (λ (o : Option Endpoint). TurnsAndLeaves (after_endpoint p e o).driver) (sym l.here) (by (is_told x))
+    subst (λ (o : Option Endpoint). TakesTurns (after_endpoint p e o).driver) (sym l.here) (by (is_told x))
   where
     d : DriverContent
     d = p.driver
@@ -151,10 +152,10 @@ release_endpoint p e due order old =
     x : Endpoint
     x = l.endpoint
 
-    r : AreBulk p.driver
+    r : OnlyBulk p.driver
     r = old.bulk
 
-    s : IsInLife l.endpoint
+    s : IsStanding l.endpoint
     s = old.bulk.endpoints e l.endpoint l.here
 
     z : Endpoint
@@ -194,12 +195,12 @@ release_endpoint p e due order old =
       gone = refl;
     }
 
-    bulk : (c : DriverContent) → c.endpoints ≡ ends → c.transfers ≡ transfers → c.command ≡ d.command → c.mends ≡ d.mends → c.periodic ≡ d.periodic → AreBulk c
+    bulk : (c : DriverContent) → c.endpoints ≡ ends → c.transfers ≡ transfers → c.command ≡ d.command → c.mends ≡ d.mends → c.periodic ≡ d.periodic → OnlyBulk c
     bulk c at ts command mends periodic = record {
-      endpoints = λ k w here. ends_set IsInLife d.endpoints e x z l.here
-          (λ s. record { bulk = s.bulk; placement = s.placement; chained = s.chained; unlinked = s.unlinked; ended = s.ended; gone = λ gone. l.linked }) r.endpoints k w (ap (λ (xs : List Endpoint). slice_get xs k) (sym at) ∙ here);
+      endpoints = λ k w here. ends_set IsStanding d.endpoints e x z l.here
+          (λ s. record { bulk = s.bulk; placement = s.placement; chained = s.chained; unlinked = s.unlinked; ended = s.ended; cancel = s.cancel; gone = λ gone. l.linked }) r.endpoints k w (ap (λ (xs : List Endpoint). slice_get xs k) (sym at) ∙ here);
       moves = λ k w here. moves c (subst (λ (xs : List Endpoint). KeepDescs d.endpoints xs) (sym at) (descs_set d.endpoints e x z l.here refl)) k w (ap (λ (ys : List Transfer). slice_get ys k) (sym ts) ∙ here);
-      command = subst (λ (o : Option Command). IsBulkOrUnlink o) (sym command) r.command;
+      command = subst (λ (o : Option Command). IsBulkCommand o) (sym command) r.command;
       leaver = λ k w leaves here. absurd (no_leaver d.command k (ap leaver due.idle) (ap leaver (sym command) ∙ leaves));
       mends = mends ∙ r.mends;
       unlinks = ap (λ (q : PeriodicContent). q.unlinks) periodic ∙ r.unlinks;
@@ -213,7 +214,7 @@ release_endpoint p e due order old =
     returned = gone_returned (turn_in d.transfers) (turn_in transfers) (slice_get d.endpoints) (slice_get ends) d.harvested e x z told going
         (told_is x (s.unlinked l.linked) l.gone) old.turns.returned
 
-    by : (b : Bool) → TurnsAndLeaves (gone_with (cond b (reported d lines.Cancel x.desc.name (cancelled_bytes d.notes p.memory e x.queue d.transfers)) d) e x (is_told x) book)
+    by : (b : Bool) → TakesTurns (gone_with (cond b (reported d lines.Cancel x.desc.name (cancelled_bytes d.notes p.memory e x.queue d.transfers)) d) e x (is_told x) book)
     by true = record {
       bulk = bulk _ refl refl refl refl refl;
       chained = endpoint_gone_chained (views_of d) d.transfers d.endpoints e x told (slot_of book.slots) (λ k. refl) (λ k. refl) l.here old.chained;
@@ -227,7 +228,7 @@ release_endpoint p e due order old =
 
 -- ---- what never happens there
 
-no_frames : (c : Command) (i : ℕ) → IsBulkOrUnlink (Some c) → (slice_get (events_of c) i ≡ Some rows.Frames → ⊥) × (slice_get (events_of c) i ≡ Some rows.LendDescriptors → ⊥)
+no_frames : (c : Command) (i : ℕ) → IsBulkCommand (Some c) → (slice_get (events_of c) i ≡ Some rows.Frames → ⊥) × (slice_get (events_of c) i ≡ Some rows.LendDescriptors → ⊥)
 no_frames (unfinished.Open queue) zero is = (λ f. cc, λ f. cc)
 no_frames (unfinished.Open queue) (suc zero) is = (λ f. cc, λ f. cc)
 no_frames (unfinished.Open queue) (suc (suc i)) is = (λ f. cc, λ f. cc)
@@ -251,9 +252,6 @@ no_frames (unfinished.Unchain e) i is = absurd is
 pub its_command : (d : DriverContent) (c : Command) → d.command ≡ Some c → OnlyBulk d → IsBulkCommand (Some c)
 its_command d c is r = subst (λ (o : Option Command). IsBulkCommand o) is r.command
 
-commands_is : (d : DriverContent) (c : Command) → d.command ≡ Some c → AreBulk d → IsBulkOrUnlink (Some c)
-commands_is d c is r = subst (λ (o : Option Command). IsBulkOrUnlink o) is r.command
-
 none_there : {X : Type 0} (xs : List X) (x : X) → xs ≡ [] → slice_get xs 0 ≡ Some x → ⊥
 none_there xs x none here = let e : ◌≡◌ {A = Option _} None (Some x) = sym (ap (λ ys. slice_get ys 0) none) ∙ here in cc
 
@@ -262,8 +260,8 @@ both_empty xs ys one other = ap (λ (zs : List ℕ). zs ++ ys) one ∙ other
 
 -- ---- what changes neither endpoints nor transfers
 
-quiet : (d : DriverContent) (waiting rung cleared : List ℕ) (bell : Bell) (next : Bool) (rs : List Removal) → rs ≡ [] → TurnsAndLeaves d
-    → TurnsAndLeaves (record d { waiting = waiting; rung = rung; cleared = cleared; bell = bell; turn = turns.Harvest; periodic = record d.periodic { status_next = next; removals = rs } })
+quiet : (d : DriverContent) (waiting rung cleared : List ℕ) (bell : Bell) (next : Bool) (rs : List Removal) → rs ≡ [] → TakesTurns d
+    → TakesTurns (record d { waiting = waiting; rung = rung; cleared = cleared; bell = bell; turn = turns.Harvest; periodic = record d.periodic { status_next = next; removals = rs } })
 quiet d waiting rung cleared bell next rs none old =
     let r = old.bulk in
     record {
@@ -274,11 +272,11 @@ quiet d waiting rung cleared bell next rs none old =
 
 -- ---- any event
 
-due_leaves : (row : DriverRow) (p : Parts) → IsDue p row → IsOrderly p.driver → TurnsAndLeaves p.driver → TurnsAndLeaves (after_driver_row row p).driver
+due_leaves : (row : DriverRow) (p : Parts) → IsDue p row → IsOrderly p.driver → TakesTurns p.driver → TakesTurns (after_driver_row row p).driver
 due_leaves rows.Lend p due order old =
     let r = old.bulk in
     let d = record p.driver { book = (lend_taken (holding p.driver.book p.memory)).book } in
-    let lending : AreBulk d = record { endpoints = r.endpoints; moves = moves_same p.driver d (descs_same d.endpoints) r.moves; command = r.command; leaver = r.leaver; mends = r.mends; unlinks = r.unlinks; removals = r.removals } in
+    let lending : OnlyBulk d = record { endpoints = r.endpoints; moves = moves_same p.driver d (descs_same d.endpoints) r.moves; command = r.command; leaver = r.leaver; mends = r.mends; unlinks = r.unlinks; removals = r.removals } in
     record {
       bulk = advanced_bulk d lending;
       chained = same_chained (views_of p.driver) (views_of (advance d)) (lent p.driver p.memory).same old.chained;
@@ -290,8 +288,8 @@ due_leaves (rows.Store b at v) p due order old = record {
   turns = advanced_turns p.driver old.bulk.command old.turns;
 }
 due_leaves (rows.Mend w) p due order old = absurd (none_there p.driver.mends w old.bulk.mends due.1)
-due_leaves rows.Frames p due order old = absurd ((no_frames due.command p.driver.made (commands_is p.driver due.command due.unfinished old.bulk)).0 due.next)
-due_leaves rows.LendDescriptors p due order old = absurd ((no_frames due.command p.driver.made (commands_is p.driver due.command due.unfinished old.bulk)).1 due.next)
+due_leaves rows.Frames p due order old = absurd ((no_frames due.command p.driver.made (its_command p.driver due.command due.unfinished old.bulk)).0 due.next)
+due_leaves rows.LendDescriptors p due order old = absurd ((no_frames due.command p.driver.made (its_command p.driver due.command due.unfinished old.bulk)).1 due.next)
 due_leaves (rows.Unlink t) p due order old = absurd (none_there p.driver.periodic.unlinks t old.bulk.unlinks due.first)
 due_leaves (rows.ReleaseRemoved what) p due order old = absurd (none_there p.driver.periodic.removals due.removal old.bulk.removals due.first)
 due_leaves (rows.ReleaseTransfer t) p due order old = release_row p t due.first order old
@@ -308,14 +306,14 @@ due_leaves (rows.Harvest e t found) p due order old = harvest_leaves p e t found
 due_leaves rows.Rest p due order old = old
 
 -- and where nothing leaves, nothing does after it
-due_nothing : (row : DriverRow) (p : Parts) → IsDue p row → AreBulk p.driver → NothingLeaves p.driver → NothingLeaves (after_driver_row row p).driver
+due_nothing : (row : DriverRow) (p : Parts) → IsDue p row → OnlyBulk p.driver → NothingLeaves p.driver → NothingLeaves (after_driver_row row p).driver
 due_nothing rows.Lend p due bulk old =
     advanced_nothing (record p.driver { book = (lend_taken (holding p.driver.book p.memory)).book }) bulk.command
     (record { endpoints = old.endpoints; command = old.command; waiting = old.waiting; rung = old.rung; cleared = old.cleared })
 due_nothing (rows.Store b at v) p due bulk old = advanced_nothing p.driver bulk.command old
 due_nothing (rows.Mend w) p due bulk old = absurd (none_there p.driver.mends w bulk.mends due.1)
-due_nothing rows.Frames p due bulk old = absurd ((no_frames due.command p.driver.made (commands_is p.driver due.command due.unfinished bulk)).0 due.next)
-due_nothing rows.LendDescriptors p due bulk old = absurd ((no_frames due.command p.driver.made (commands_is p.driver due.command due.unfinished bulk)).1 due.next)
+due_nothing rows.Frames p due bulk old = absurd ((no_frames due.command p.driver.made (its_command p.driver due.command due.unfinished bulk)).0 due.next)
+due_nothing rows.LendDescriptors p due bulk old = absurd ((no_frames due.command p.driver.made (its_command p.driver due.command due.unfinished bulk)).1 due.next)
 due_nothing (rows.Unlink t) p due bulk old = absurd (none_there p.driver.periodic.unlinks t bulk.unlinks due.first)
 due_nothing (rows.ReleaseRemoved what) p due bulk old = absurd (none_there p.driver.periodic.removals due.removal bulk.removals due.first)
 due_nothing (rows.ReleaseTransfer t) p due bulk old = release_nothing p t (slice_get p.driver.transfers t) (freed_by p.driver (holding p.driver.book p.memory) (slice_get p.driver.transfers t)) old
@@ -329,14 +327,11 @@ due_nothing (rows.ReadFrame n) p due bulk old = record { endpoints = old.endpoin
 due_nothing (rows.Harvest e t found) p due bulk old = harvest_nothing p e t found due bulk old
 due_nothing rows.Rest p due bulk old = old
 
-pub event_leaves : (p : Parts) → HasOwners p.driver → TurnsAndLeaves p.driver → TurnsAndLeaves (after_driver_row (driver_row p) p).driver
-event_leaves p owners old = due_leaves (driver_row p) p (each_is_due p) owners.orderly old
-
 pub event_turns : (p : Parts) → HasOwners p.driver → TakesTurns p.driver → TakesTurns (after_driver_row (driver_row p) p).driver
-event_turns p owners old =
-    let leaving = turns_are_leaving p.driver old in
-    let none = turns_leave_nothing p.driver old in
-    leaving_takes_turns (after_driver_row (driver_row p) p).driver (event_leaves p owners leaving) (due_nothing (driver_row p) p (each_is_due p) leaving.bulk none)
+event_turns p owners old = due_leaves (driver_row p) p (each_is_due p) owners.orderly old
+
+pub event_nothing : (p : Parts) → HasOwners p.driver → TakesTurns p.driver → NothingLeaves p.driver → NothingLeaves (after_driver_row (driver_row p) p).driver
+event_nothing p owners old none = due_nothing (driver_row p) p (each_is_due p) old.bulk none
 
 -- ---- the opening
 
@@ -346,12 +341,10 @@ new_turns n room = record {
     endpoints = λ e x here. absurd (cc);
     moves = λ t y here. absurd (cc);
     command = tt;
+    leaver = λ e x is here. absurd (cc);
     mends = refl;
     unlinks = refl;
     removals = refl;
-    waiting = refl;
-    rung = refl;
-    cleared = refl;
   };
   chained = record { some = λ t y here. absurd (cc); next = λ t u y z here. absurd (cc); last = λ t y x here. absurd (cc) };
   turns = record {
@@ -364,8 +357,9 @@ new_turns n room = record {
       owed = λ t y x here. absurd (cc);
       order = λ i t u y z at. absurd (cc);
     };
+    returned = λ t y x there. absurd (cc);
   };
 }
 
-pub new_leaves : (n : ℕ) (room : Reserve) → TurnsAndLeaves (opening n room).driver
-new_leaves n room = turns_are_leaving (opening n room).driver (new_turns n room)
+pub new_nothing : (n : ℕ) (room : Reserve) → NothingLeaves (opening n room).driver
+new_nothing n room = record { endpoints = λ e x here. absurd (cc); command = refl; waiting = refl; rung = refl; cleared = refl }

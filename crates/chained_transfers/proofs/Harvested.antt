@@ -1,5 +1,5 @@
 -- A harvest leaves the transfers in turn, each at its place.
-use Rattle.std.proofs.Common.{◌≡◌, ◌≢◌, ℕ, zero, suc, ◌-◌, ◌≤◌, Bool, true, false, cond, nat_le, List, [], ◌∷◌, ◌++◌, set, slice_get, Option, Some, None, option_map, ap, sym, subst, ◌∙◌, ⊎_elim, refl, arith}
+use Rattle.std.proofs.Common.{◌≡◌, ◌≢◌, ℕ, zero, suc, ◌-◌, ◌≤◌, Bool, true, false, cond, nat_le, List, [], ◌∷◌, ◌++◌, set, slice_get, Option, Some, None, option_map, ap, sym, subst, ◌∙◌, ⊎_elim, refl, arith, inl, inr, nat_eq}
 use Rattle.std.proofs.lemmas.Bool.{cases_eq, false≢true}
 use Rattle.std.proofs.lemmas.Bool.Decides.{nat_tests}
 use Rattle.std.proofs.lemmas.Option.{same_Some}
@@ -19,17 +19,20 @@ use Rattle.driver_rows.specs.declared.rows.Found.{Found}
 use Rattle.driver_rows.specs.declared.rows.Found.TheVariants as founds
 use Rattle.driver_rows.specs.DriverContent.{DriverContent, waits_for, next_after}
 use Rattle.driver_rows.specs.Harvests.{note_at, token_in, found_in, done_of, ends_by, moved_of, halt_of, end_of, is_stall, noted}
-use Rattle.driver_rows.specs.Rows.{after_harvest, harvested_as, served, told_with, after_end, goes_on, stalled}
+use Rattle.driver_rows.specs.Rows.{after_harvest, harvested_as, served, told_with, after_end, goes_on, stalled, ended_by_cancel}
 use Rattle.run_owners.specs.Owners.{NoteRuns, runs_of_note, note_in}
 use Rattle.run_owners.proofs.Released.{set_here, set_there}
 use Rattle.run_owners.proofs.Stays.{same_item, same_view}
+use Rattle.endpoint_lives.specs.Lives.{told_end}
+use Rattle.endpoint_lives.proofs.Lives.{none_told, told_uncancelled}
 use Rattle.chained_transfers.specs.Chains.{piece_at}
-use Rattle.chained_transfers.specs.Turns.{IsAtPlace, AreAtPlaces, Turn, turn_of, turn_in, IsNext, AreReportedTo, AreInTurn}
-use Rattle.chained_transfers.specs.Leaving.{AreTurnsOf}
+use Rattle.chained_transfers.specs.Turns.{IsAtPlace, AreAtPlaces, Turn, turn_of, turn_in, IsNext, AreReportedTo, AreInTurn, AreTurnsOf}
 use Rattle.chained_transfers.proofs.Chained.{piece_same}
-use Rattle.chained_transfers.proofs.Turning.{AreInTurnOf, AnyOne, in_turn_of_all, all_in_turn, IsChangedAt, changed, changed_plain}
+use Rattle.chained_transfers.proofs.Turning.{AreInTurnOf, IsChangedAt, changed, changed_plain}
 use Rattle.chained_transfers.proofs.Reporting.{IsFirst, ended_turns, harvested_turns}
 use Rattle.chained_transfers.proofs.Harvesting.{waits_is, next_waits}
+use Rattle.std.specs.Prelude.{◌⊎◌}
+use Rattle.driver_rows.specs.Words.{is_control}
 
 -- ---- the next piece
 
@@ -63,6 +66,30 @@ served_by false false false n k what f = cc
 
 pub not_served : (sort : Sort) (last : Bool) (note : QtdNote) (t : Token) (found : Found) → found ≡ found_in sort last note t → (n : ℕ) → found ≢ founds.Served n
 not_served sort last note t found is n served = served_by t.active t.halted (ends_by sort last t.total) (moved_of note.told t.total) n (halt_of t) (sym is ∙ served)
+
+-- what halts an endpoint is no cancel
+halts_otherwise : (a b c : Bool) (k : EpKind) (cause : EndCause) → end_of k (cond a lines.Miss (cond b (lines.Halt causes.Babble) (cond c (lines.Halt causes.Error) (lines.Halt causes.Stall)))) ≡ Some cause → ended_by_cancel (Some cause) ≡ false
+halts_otherwise true b c k cause is = sym (ap ended_by_cancel is)
+halts_otherwise false true c k cause is = sym (ap ended_by_cancel is)
+halts_otherwise false false true k cause is = sym (ap ended_by_cancel is)
+halts_otherwise false false false k cause is = by (is_control k) is
+  where
+    by : (b : Bool) → cond b None (Some causes.Stall) ≡ Some cause → ended_by_cancel (Some cause) ≡ false
+    by true none = absurd (cc)
+    by false some = sym (ap ended_by_cancel some)
+
+ended_what : (a h e : Bool) (m n : ℕ) (halt what : What) → cond a founds.Active (cond h (founds.Ended m halt) (done_of e m)) ≡ founds.Ended n what → (what ≡ halt) ⊎ (what ≡ lines.Done)
+ended_what true h e m n halt what f = absurd (cc)
+ended_what false true e m n halt what f = inl (cc)
+ended_what false false true m n halt what f = inr (cc)
+ended_what false false false m n halt what f = absurd (cc)
+
+pub ends_otherwise : (sort : Sort) (last : Bool) (note : QtdNote) (t : Token) (found : Found) → found ≡ found_in sort last note t → (n : ℕ) (what : What) (k : EpKind) (cause : EndCause) → found ≡ founds.Ended n what → end_of k what ≡ Some cause
+    → ended_by_cancel (Some cause) ≡ false
+ends_otherwise sort last note t found is n what k cause ended by_it =
+    ⊎_elim (λ (halt : what ≡ halt_of t). halts_otherwise t.missed t.babble (nat_eq t.cerr 0) k cause (ap (end_of k) (sym halt) ∙ by_it))
+    (λ (done : what ≡ lines.Done). let none : ◌≡◌ {A = Option EndCause} None (Some cause) = ap (end_of k) (sym done) ∙ by_it in absurd (cc))
+    (ended_what t.active t.halted (ends_by sort last t.total) (moved_of note.told t.total) n (halt_of t) what (sym is ∙ ended))
 
 -- an endpoint of this kind doesn't go on after a stall
 pub no_stall : (k : EpKind) (what : What) → k ≡ kinds.Bulk → end_of k what ≡ None → is_stall what ≡ false
@@ -123,10 +150,10 @@ turns_same S v w ends hs same old = record {
 
 -- ---- a harvest
 
-module _ (S : ℕ → Type 0) (d : DriverContent) (m : Mem) (e t : ℕ) (x : Endpoint) (y : Transfer) (here : slice_get d.endpoints e ≡ Some x) (there : slice_get d.transfers t ≡ Some y) (goes : x.ended ≡ None) (next : x.next ≡ Some t)
+module _ (S : ℕ → Type 0) (d : DriverContent) (m : Mem) (e t : ℕ) (x : Endpoint) (y : Transfer) (here : slice_get d.endpoints e ≡ Some x) (there : slice_get d.transfers t ≡ Some y) (goes : x.ended ≡ None) (fresh : x.cancelled ≡ false) (next : x.next ≡ Some t)
     (waits : waits_for e y ≡ true) (bulk : x.desc.kind ≡ kinds.Bulk) (stays : S e) (old : AreInTurnOf S d) where
   is_next : IsNext (turn_in d.transfers) e t
-  is_next = subst (λ (o : Option ℕ). AreReportedTo (turn_in d.transfers) e o) next (old.turns.next e x here goes)
+  is_next = subst (λ (o : Option ℕ). AreReportedTo (turn_in d.transfers) e o) next (old.turns.next e x here (none_told x goes))
 
   held : y.released ≡ false
   held = by y.released refl
@@ -146,7 +173,7 @@ module _ (S : ℕ → Type 0) (d : DriverContent) (m : Mem) (e t : ℕ) (x : End
   unfolding told
   is_told = changed turn_of d.transfers t y (record y { reported = true }) there
 
-  ended : (z : Endpoint) (cause : EndCause) → z.ended ≡ Some cause → AreTurnsOf S (turn_in told) (slice_get (set d.endpoints e z)) d.harvested
+  ended : (z : Endpoint) (cause : EndCause) → told_end z ≡ Some cause → AreTurnsOf S (turn_in told) (slice_get (set d.endpoints e z)) d.harvested
   ended z cause is =
       let f = changed_plain d.endpoints e x z here in
       ended_turns S (turn_in d.transfers) (turn_in told) (slice_get d.endpoints) (slice_get (set d.endpoints e z)) d.harvested e t (turn_of y) x z is_told f cause is (first z is_told f) old.turns
@@ -160,7 +187,7 @@ module _ (S : ℕ → Type 0) (d : DriverContent) (m : Mem) (e t : ℕ) (x : End
   done =
       let z : Endpoint = record x { next = next_after told e t } in
       let f = changed_plain d.endpoints e x z here in
-      harvested_turns S (turn_in d.transfers) (turn_in told) (slice_get d.endpoints) (slice_get (set d.endpoints e z)) d.harvested e t (turn_of y) x z is_told f goes
+      harvested_turns S (turn_in d.transfers) (turn_in told) (slice_get d.endpoints) (slice_get (set d.endpoints e z)) d.harvested e t (turn_of y) x z is_told f (none_told x goes)
       (λ g. next_waits told e t earlier) (first z is_told f) old.turns
 
   told_places : (n : ℕ) → AreAtPlaces (note_in (noted d.notes y.place n)) told
@@ -170,7 +197,7 @@ module _ (S : ℕ → Type 0) (d : DriverContent) (m : Mem) (e t : ℕ) (x : End
 
   ends_as : (n : ℕ) (what : What) (o : Option EndCause) → end_of x.desc.kind what ≡ o → AreInTurnOf S (after_end (told_with d m t y what x.desc.name (noted d.notes y.place n)) e t x (is_stall what) o)
   unfolding told
-  ends_as n what (Some cause) is = record { places = told_places n; turns = ended (record x { ended = Some cause }) cause refl }
+  ends_as n what (Some cause) is = record { places = told_places n; turns = ended (record x { ended = Some cause }) cause (told_uncancelled (record x { ended = Some cause }) fresh) }
   ends_as n what None is = by (is_stall what) (no_stall x.desc.kind what bulk is)
     where
       by : (b : Bool) → b ≡ false → AreInTurnOf S (cond b (stalled (told_with d m t y what x.desc.name (noted d.notes y.place n)) e t x) (goes_on (told_with d m t y what x.desc.name (noted d.notes y.place n)) e t x))
@@ -195,8 +222,3 @@ module _ (S : ℕ → Type 0) (d : DriverContent) (m : Mem) (e t : ℕ) (x : End
 
   pub harvest_turns_of : (found : Found) → found ≡ found_in y.sort (nat_le y.left 1) (note_at d.notes y.place) (token_in m y.place) → AreInTurnOf S (after_harvest d m e t found (Some x) (Some y))
   harvest_turns_of found is = subst (λ (b : Bool). AreInTurnOf S (cond b (served (harvested_as d m e t x y found) e) d)) (sym waits) (read_as found is)
-
-pub harvest_turns : (d : DriverContent) (m : Mem) (e t : ℕ) (x : Endpoint) (y : Transfer) → slice_get d.endpoints e ≡ Some x → slice_get d.transfers t ≡ Some y → x.ended ≡ None → x.next ≡ Some t → waits_for e y ≡ true → x.desc.kind ≡ kinds.Bulk → AreInTurn d
-    → (found : Found) → found ≡ found_in y.sort (nat_le y.left 1) (note_at d.notes y.place) (token_in m y.place) → AreInTurn (after_harvest d m e t found (Some x) (Some y))
-harvest_turns d m e t x y here there goes next waits bulk old found is =
-    all_in_turn (after_harvest d m e t found (Some x) (Some y)) (harvest_turns_of AnyOne d m e t x y here there goes next waits bulk tt (in_turn_of_all d old) found is)

@@ -10,5 +10,6 @@ pub mod Harvesting
 pub mod Harvested
 pub mod Rows
 pub mod Staying
+pub mod Holding
 pub mod Events
 pub mod Commands

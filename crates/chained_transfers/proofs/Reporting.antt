@@ -5,8 +5,8 @@ use Rattle.std.proofs.lemmas.Bool.{cases_eq, cases_Bool}
 use Rattle.std.proofs.lemmas.Option.{same_Some}
 use Rattle.usb_base.specs.declared.endpoints.EndCause.{EndCause}
 use Rattle.driver_rows.specs.declared.content.Endpoint.{Endpoint}
-use Rattle.chained_transfers.specs.Turns.{Turn, StandsBefore, AreReportedTo}
-use Rattle.chained_transfers.specs.Leaving.{AreTurnsOf}
+use Rattle.endpoint_lives.specs.Lives.{told_end}
+use Rattle.chained_transfers.specs.Turns.{Turn, StandsBefore, AreReportedTo, AreTurnsOf}
 use Rattle.chained_transfers.proofs.Turning.{IsChangedAt, which}
 
 module _ (S : ℕ → Type 0) (v w : ℕ → Option Turn) (ends ends_now : ℕ → Option Endpoint) (hs : List ℕ) (e t : ℕ) (x : Turn) (a b : Endpoint) (c : IsChangedAt v w t x (record x { reported = true })) (f : IsChangedAt ends ends_now e a b) where
@@ -83,16 +83,16 @@ module _ (S : ℕ → Type 0) (v w : ℕ → Option Turn) (ends ends_now : ℕ �
       let p = before k y there in
       told_now k p.turn y p.there there (old.told k p.turn p.there (subst (λ (i : ℕ). S i) p.endpoint stays) (sym p.released ∙ released))
 
-  next_order : IsFirst → (b.ended ≡ None → AreReportedTo w e b.next) → AreTurnsOf S v ends hs → (k : ℕ) (y : Endpoint) → ends_now k ≡ Some y → y.ended ≡ None → AreReportedTo w k y.next
+  next_order : IsFirst → (told_end b ≡ None → AreReportedTo w e b.next) → AreTurnsOf S v ends hs → (k : ℕ) (y : Endpoint) → ends_now k ≡ Some y → told_end y ≡ None → AreReportedTo w k y.next
   next_order first mine old k y here goes = ⊎_elim
       (λ (own : (k ≡ e) × (y ≡ b)).
       subst (λ (i : ℕ). AreReportedTo w i y.next) (sym own.0)
-      (subst (λ (z : Endpoint). AreReportedTo w e z.next) (sym own.1) (mine (sym (ap (λ (z : Endpoint). z.ended) own.1) ∙ goes))))
+      (subst (λ (z : Endpoint). AreReportedTo w e z.next) (sym own.1) (mine (sym (ap told_end own.1) ∙ goes))))
       (λ (other : (k ≢ e) × (ends k ≡ Some y)). other_next k y.next (λ is. other.0 (sym is ∙ first.endpoint)) (old.next k y other.1 goes))
       (which ends ends_now e a b k y f here)
 
   -- the endpoint has ended with it
-  pub ended_turns : (cause : EndCause) → b.ended ≡ Some cause → IsFirst → AreTurnsOf S v ends hs → AreTurnsOf S w ends_now hs
+  pub ended_turns : (cause : EndCause) → told_end b ≡ Some cause → IsFirst → AreTurnsOf S v ends hs → AreTurnsOf S w ends_now hs
   ended_turns cause ended first old = record {
     reported = reported_order first old;
     released = released_order old;
@@ -101,7 +101,7 @@ module _ (S : ℕ → Type 0) (v w : ℕ → Option Turn) (ends ends_now : ℕ �
     owed = λ k y z there here goes reported held.
         let p = before k y there in
         ⊎_elim
-        (λ (own : (y.endpoint ≡ e) × (z ≡ b)). absurd (none (sym (ap (λ (i : Endpoint). i.ended) own.1) ∙ goes)))
+        (λ (own : (y.endpoint ≡ e) × (z ≡ b)). absurd (none (sym (ap told_end own.1) ∙ goes)))
         (λ (other : (y.endpoint ≢ e) × (ends y.endpoint ≡ Some z)).
         let apart : k ≢ t = λ same. other.0 (p.endpoint ∙ ap (λ (r : Turn). r.endpoint) (same_Some p.turn x (sym p.there ∙ ap v same ∙ c.was)) ∙ first.endpoint) in
         old.owed k p.turn z p.there (ap ends (sym p.endpoint) ∙ other.1) goes (sym (p.reported apart) ∙ reported) (sym p.released ∙ held))
@@ -113,11 +113,11 @@ module _ (S : ℕ → Type 0) (v w : ℕ → Option Turn) (ends ends_now : ℕ �
         (old.order i k u p.turn q.turn here less p.there q.there (sym q.endpoint ∙ is ∙ p.endpoint));
   }
     where
-      none : b.ended ≡ None → ⊥
+      none : told_end b ≡ None → ⊥
       none goes = let is : ◌≡◌ {A = Option EndCause} (Some cause) None = sym ended ∙ goes in absurd (cc)
 
   -- it goes on with its next transfer
-  pub harvested_turns : a.ended ≡ None → (b.ended ≡ None → AreReportedTo w e b.next) → IsFirst → AreTurnsOf S v ends hs → AreTurnsOf S w ends_now (hs ++ t ∷ [])
+  pub harvested_turns : told_end a ≡ None → (told_end b ≡ None → AreReportedTo w e b.next) → IsFirst → AreTurnsOf S v ends hs → AreTurnsOf S w ends_now (hs ++ t ∷ [])
   harvested_turns goes_on mine first old = record {
     reported = reported_order first old;
     released = released_order old;
@@ -149,7 +149,7 @@ module _ (S : ℕ → Type 0) (v w : ℕ → Option Turn) (ends ends_now : ℕ �
         (push_which hs t i u here);
   }
     where
-      was_end : (k : ℕ) (z : Endpoint) → ends_now k ≡ Some z → (y : Endpoint) × (ends k ≡ Some y) × (z.ended ≡ None → y.ended ≡ None)
+      was_end : (k : ℕ) (z : Endpoint) → ends_now k ≡ Some z → (y : Endpoint) × (ends k ≡ Some y) × (told_end z ≡ None → told_end y ≡ None)
       was_end k z here = ⊎_elim (λ (own : (k ≡ e) × (z ≡ b)). (a, ap ends own.0 ∙ f.was, λ goes. goes_on))
           (λ (other : (k ≢ e) × (ends k ≡ Some z)). (z, other.1, λ goes. goes)) (which ends ends_now e a b k z f here)
 

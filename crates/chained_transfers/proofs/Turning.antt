@@ -7,8 +7,7 @@ use Rattle.driver_rows.specs.declared.content.Endpoint.{Endpoint}
 use Rattle.run_owners.proofs.Released.{set_here, set_there}
 use Rattle.driver_rows.specs.DriverContent.{DriverContent}
 use Rattle.run_owners.specs.Owners.{note_in}
-use Rattle.chained_transfers.specs.Turns.{Turn, turn_in, AreAtPlaces, StandsBefore, IsInList, AreReportedTo, AreTurns, AreInTurn}
-use Rattle.chained_transfers.specs.Leaving.{AreTurnsOf}
+use Rattle.chained_transfers.specs.Turns.{Turn, turn_in, AreAtPlaces, StandsBefore, IsInList, AreReportedTo, AreTurnsOf}
 
 -- ---- turns of a driver
 
@@ -26,22 +25,6 @@ fewer_turns S R v ends hs fewer old = record {
   owed = old.owed;
   order = old.order;
 }
-
--- where all stay
-abbrev pub AnyOne : ℕ → Type 0
-AnyOne e = Unit {0}
-
-pub turns_of_all : (v : ℕ → Option Turn) (ends : ℕ → Option Endpoint) (hs : List ℕ) → AreTurns v ends hs → AreTurnsOf AnyOne v ends hs
-turns_of_all v ends hs old = record { reported = old.reported; released = old.released; told = λ t y here stays. old.told t y here; next = old.next; owed = old.owed; order = old.order }
-
-pub all_turns : (v : ℕ → Option Turn) (ends : ℕ → Option Endpoint) (hs : List ℕ) → AreTurnsOf AnyOne v ends hs → AreTurns v ends hs
-all_turns v ends hs old = record { reported = old.reported; released = old.released; told = λ t y here. old.told t y here tt; next = old.next; owed = old.owed; order = old.order }
-
-pub in_turn_of_all : (d : DriverContent) → AreInTurn d → AreInTurnOf AnyOne d
-in_turn_of_all d old = record { places = old.places; turns = turns_of_all (turn_in d.transfers) (slice_get d.endpoints) d.harvested old.turns }
-
-pub all_in_turn : (d : DriverContent) → AreInTurnOf AnyOne d → AreInTurn d
-all_in_turn d old = record { places = old.places; turns = all_turns (turn_in d.transfers) (slice_get d.endpoints) d.harvested old.turns }
 
 -- ---- views in which one is changed
 

@@ -1,12 +1,14 @@
 -- Drivers whose endpoints are all high-speed bulk ones, IN or OUT (EHCI 1.0, 4.10; USB 2.0, 5.8).
 --     IsBulk x                 the endpoint is one
 --     OpensBulk cmd            the command opens such an endpoint, if any, and is no cancel; other commands may be refused
+--     OpensOrCancelsBulk cmd   .. or it is a cancel
 --     BulkOnly s               so is each command of the script
 --     receives way             data of an endpoint of this way come to the host
 --     sort_by way, stage_by way n, pid_by way      the transfers of such an endpoint, their qTDs of n bytes, and the packets that these ask for
---     OnlyBulk d               each endpoint of the driver is one, and each transfer a get or a put, as its endpoint takes; nothing leaves the ring or the
---                              frame list
-use Rattle.std.specs.Prelude.{◌≡◌, ℕ, Bool, true, false, [], slice_get, Option, Some, None}
+--     IsStanding x             the endpoint is in the ring, or was cancelled; one that ended otherwise and one that was cancelled stay apart
+--     IsBulkCommand command    the unfinished command opens an endpoint, publishes a transfer or unlinks an endpoint
+--     OnlyBulk d               each endpoint of the driver is one, and each transfer a get or a put, as its endpoint takes; nothing is in the frame list
+use Rattle.std.specs.Prelude.{◌≡◌, ◌≢◌, ℕ, Bool, true, false, [], slice_get, Option, Some, None}
 use Rattle.std.specs.List.{AllByRecursion}
 use Rattle.usb_base.specs.declared.commands.Cmd.{Cmd}
 use Rattle.usb_base.specs.declared.commands.Cmd.TheVariants as commands
@@ -27,6 +29,8 @@ use Rattle.driver_rows.specs.declared.content.Command.{Command}
 use Rattle.driver_rows.specs.declared.content.Command.TheVariants as unfinished
 use Rattle.driver_rows.specs.DriverContent.{DriverContent}
 use Rattle.driver_rows.specs.Words.{in_stage, out_stage}
+use Rattle.driver_rows.specs.Rows.{ended_by_cancel}
+use Rattle.run_owners.specs.Leaving.{leaver}
 
 -- data go one way
 abbrev pub IsDataWay : Way → Type 0
@@ -45,6 +49,10 @@ abbrev pub OpensBulk : Cmd → Type 0
 OpensBulk (commands.OpenEp x) = IsBulk x
 OpensBulk (commands.Cancel name) = ⊥
 OpensBulk _ = Unit {0}
+
+abbrev pub OpensOrCancelsBulk : Cmd → Type 0
+OpensOrCancelsBulk (commands.OpenEp x) = IsBulk x
+OpensOrCancelsBulk _ = Unit {0}
 
 abbrev pub BulkLine : Line → Type 0
 BulkLine (lines.Command cmd) = OpensBulk cmd
@@ -74,14 +82,15 @@ pid_by _ = 1
 
 -- ---- drivers
 
--- it is in the ring, and nothing of it leaves
+-- one that was cancelled leaves the ring, and is then given back (EHCI 1.0, 4.8.2)
 pub record IsStanding (x : Endpoint) : Type 0 where
   pub bulk : IsBulk x.desc
   pub placement : x.placement ≡ None
-  pub cancelled : x.cancelled ≡ false
-  pub linked : x.linked ≡ true
   pub chained : x.chained ≡ false
-  pub gone : x.gone ≡ false
+  pub unlinked : x.linked ≡ false → x.cancelled ≡ true
+  pub ended : x.cancelled ≡ true → x.ended ≢ None
+  pub cancel : ended_by_cancel x.ended ≡ true → x.cancelled ≡ true
+  pub gone : x.gone ≡ true → x.linked ≡ false
 
 -- the transfer goes the way of its endpoint
 pub record MovesAs (d : DriverContent) (y : Transfer) : Type 0 where
@@ -93,15 +102,19 @@ abbrev pub IsBulkCommand : Option Command → Type 0
 IsBulkCommand None = Unit {0}
 IsBulkCommand (Some (unfinished.Open queue)) = Unit {0}
 IsBulkCommand (Some (unfinished.Publish b words)) = Unit {0}
+IsBulkCommand (Some (unfinished.Unlink e b link)) = Unit {0}
 IsBulkCommand _ = ⊥
+
+-- the command that is unfinished unlinks it
+pub record IsToUnlink (x : Endpoint) : Type 0 where
+  pub cancelled : x.cancelled ≡ true
+  pub linked : x.linked ≡ true
 
 pub record OnlyBulk (d : DriverContent) : Type 0 where
   pub endpoints : (e : ℕ) (x : Endpoint) → slice_get d.endpoints e ≡ Some x → IsStanding x
   pub moves : (t : ℕ) (y : Transfer) → slice_get d.transfers t ≡ Some y → MovesAs d y
   pub command : IsBulkCommand d.command
+  pub leaver : (e : ℕ) (x : Endpoint) → leaver d.command ≡ Some e → slice_get d.endpoints e ≡ Some x → IsToUnlink x
   pub mends : d.mends ≡ []
   pub unlinks : d.periodic.unlinks ≡ []
   pub removals : d.periodic.removals ≡ []
-  pub waiting : d.waiting ≡ []
-  pub rung : d.rung ≡ []
-  pub cleared : d.cleared ≡ []

@@ -1,4 +1,4 @@
--- A driver of bulk endpoints, whose transfers are chained and take turns (EHCI 1.0, 3.5 and 4.10), at each command and event.
+-- A driver of bulk endpoints, whose transfers are chained and take turns (EHCI 1.0, 3.5 and 4.10), at each command and event; endpoints may leave.
 --     TakesTurns d        all this of its content
 --     TurnsAreKept, TurnsAreTaken, NewDriverTakesTurns     the laws
 use Rattle.std.specs.Prelude.{◌≡◌, ℕ, Ok}
@@ -12,7 +12,7 @@ use Rattle.driver_rows.specs.Offers.{Offered, offered}
 use Rattle.driver_rows.specs.Rows.{Parts, driver_row, after_driver_row}
 use Rattle.run_owners.specs.Owners.{views_of}
 use Rattle.run_owners.specs.Kept.{HasOwners}
-use Rattle.chained_transfers.specs.Bulk.{OpensBulk, OnlyBulk}
+use Rattle.chained_transfers.specs.Bulk.{OpensOrCancelsBulk, OnlyBulk}
 use Rattle.chained_transfers.specs.Chains.{AreChained}
 use Rattle.chained_transfers.specs.Turns.{AreInTurn}
 
@@ -28,4 +28,4 @@ abbrev pub TurnsAreKept : Type 0
 TurnsAreKept = (p : Parts) → HasOwners p.driver → TakesTurns p.driver → TakesTurns (after_driver_row (driver_row p) p).driver
 
 abbrev pub TurnsAreTaken : Type 0
-TurnsAreTaken = (d : DriverContent) (m : Mem) (cmd : Cmd) (o : Offered) → Stands (holding d.book m) → HasOwners d → TakesTurns d → OpensBulk cmd → offered d m cmd ≡ Ok o → TakesTurns o.driver
+TurnsAreTaken = (d : DriverContent) (m : Mem) (cmd : Cmd) (o : Offered) → Stands (holding d.book m) → HasOwners d → TakesTurns d → OpensOrCancelsBulk cmd → offered d m cmd ≡ Ok o → TakesTurns o.driver

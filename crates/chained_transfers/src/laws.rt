@@ -11,7 +11,7 @@ pub fn events_keep_turns()
     ensures { TurnsAreKept }
 {}
 
-/// And so does each command that opens a high-speed bulk endpoint, or is no open and no cancel, where it is accepted.
+/// And so does each command that opens a high-speed bulk endpoint, or is no open, where it is accepted.
 pub fn commands_keep_turns()
     ensures { TurnsAreTaken }
 {}

@@ -1,28 +1,22 @@
-//! The laws of drivers some of whose endpoints are cancelled and leave the ring (EHCI 1.0, 4.8.2).
-ghost use Rattle.chained_transfers.specs.Leaving.{NewDriverLeaves, LeavingIsKept, LeavingIsTaken, TurnsAreLeaving, TurnsLeaveNothing, LeavingTakesTurns};
+//! The laws of drivers none of whose endpoints leaves the ring (EHCI 1.0, 4.8.2).
+ghost use Rattle.chained_transfers.specs.Leaving.{CommandIsAccepted, NewDriverStays, NothingStartsToLeave, NothingIsTakenAway};
 
-/// A driver that was just built takes turns, and no endpoint of it leaves.
-pub fn a_new_driver_leaves()
-    ensures { NewDriverLeaves }
+/// A command that opens a high-speed bulk endpoint, or is no open, becomes an endpoint more, a get or put, or an endpoint that is to leave, where it is accepted.
+pub fn a_command_is_accepted()
+    ensures { CommandIsAccepted }
 {}
 
-/// Each event of the driver leaves the transfers chained and in turn, where an endpoint leaves the ring, waits for the doorbell or is given back, too.
-pub fn events_keep_leaving()
-    ensures { LeavingIsKept }
+/// Of a driver that was just built nothing leaves.
+pub fn a_new_driver_stays()
+    ensures { NewDriverStays }
 {}
 
-/// And so does each command that opens a high-speed bulk endpoint, or is no open, where it is accepted.
-pub fn commands_keep_leaving()
-    ensures { LeavingIsTaken }
+/// Without a cancel no event of the driver lets an endpoint leave.
+pub fn nothing_starts_to_leave()
+    ensures { NothingStartsToLeave }
 {}
 
-/// A driver that takes turns is such a driver, and nothing of it leaves.
-pub fn turns_are_leaving()
-    ensures leaves { TurnsAreLeaving }
-    ensures nothing { TurnsLeaveNothing }
-{}
-
-/// And where nothing leaves, such a driver takes turns.
-pub fn leaving_takes_turns()
-    ensures { LeavingTakesTurns }
+/// And no command that isn't a cancel, where it is accepted.
+pub fn nothing_is_taken_away()
+    ensures { NothingIsTakenAway }
 {}

@@ -33,7 +33,7 @@ each_other member streams n P here others k met off =
 -- ---- the endpoints
 
 -- another queue head with a stream is that of another endpoint
-name_apart : (stream : ℕ → ℕ → Bool) (member streams : ℕ → Bool) (ends : ℕ → Endpoint) (n k : ℕ) → AreEndpoints stream member streams ends → streams n ≡ true → streams k ≡ true → k ≢ n
+pub name_apart : (stream : ℕ → ℕ → Bool) (member streams : ℕ → Bool) (ends : ℕ → Endpoint) (n k : ℕ) → AreEndpoints stream member streams ends → streams n ≡ true → streams k ≡ true → k ≢ n
     → ((ends k).addr ≡ (ends n).addr) × ((ends k).ep ≡ (ends n).ep) → ⊥
 name_apart stream member streams ends n k e on also differs both = differs (e.apart k n also on both.0 both.1)
 

@@ -11,7 +11,7 @@ use Rattle.queue_parts.proofs.Altering.{same_element}
 use Rattle.ring_walk.specs.Hand.{Empty}
 use Rattle.ring_streams.specs.Told.{endpoint_of}
 use Rattle.ring_pipes.specs.Bus.{Sender}
-use Rattle.ring_pipes.specs.Pipes.{IsPipe, IsElsewhere}
+use Rattle.ring_pipes.specs.Pipes.{IsHalf, IsPipe, IsElsewhere}
 use Rattle.out_rows.specs.Samples.{sending}
 use Rattle.closed_streams.specs.Closed.{only_name, without_name, without_head}
 use Rattle.closed_streams.specs.Samples.{asking, ring, at_zero, packets, sent, sender_of, Pipes, Waits, Closes}
@@ -34,7 +34,13 @@ element_is q t a u here =
     never : nothing 0 a ≡ Some (Element u) → ⊥
     never none = cc
 
+pub one_element : (a : ℕ) (u : Qtd) → ring asking element 0 a ≡ Some (Element u) → u ≡ element
+one_element a u here = element_is asking element a u here
+
 -- ---- pipes
+
+pub half : IsHalf (packets 5 1) sent ((7 ∷ []) ∷ []) true
+half = record { known = 1; left = refl; agrees = record { near = inl refl; sends_parity = refl; expects_parity = refl; in_order = refl } }
 
 pipe : IsPipe (packets 5 1) (Some sent) ((7 ∷ []) ∷ []) (ring asking element) Empty 0 (endpoint_of asking)
 pipe = record {
@@ -44,7 +50,7 @@ pipe = record {
   expects = record { queue = asking; head = refl; own = refl; is = refl };
   sender = sent;
   is = refl;
-  half = record { known = 1; left = refl; agrees = record { near = inl refl; sends_parity = refl; expects_parity = refl; in_order = refl } };
+  half = half;
 }
 
 pub open_row : Pipes (only_name 5 1) at_zero at_zero

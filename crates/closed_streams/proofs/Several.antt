@@ -1,15 +1,21 @@
 -- Several streams are closed at once.
-use Rattle.std.proofs.Common.{◌≡◌, ℕ, Bool, true, false, Option, ap, refl, sym, ◌∙◌, ⊎_elim, inl, inr}
-use Rattle.std.proofs.lemmas.Bool.{false≢true, false_from_ne_true}
+use Rattle.std.proofs.Common.{◌≡◌, ◌≢◌, ℕ, Bool, true, false, List, Option, ap, refl, sym, ◌∙◌, ⊎_elim, inl, inr}
+use Rattle.std.proofs.lemmas.Bool.{cases_eq, false≢true, false_from_ne_true}
 use Rattle.lent_structures.specs.Structures.{StructureSets}
+use Rattle.ring_walk.specs.Hand.{Hand}
 use Rattle.ring_streams.specs.Told.{Endpoint, HasEndpoint}
 use Rattle.ring_pipes.specs.Bus.{Sender}
-use Rattle.ring_pipes.specs.Pipes.{IsNotIn, IsElsewhere}
+use Rattle.ring_stores.specs.Stores.{IsWider}
+use Rattle.ring_pipes.specs.Pipes.{IsNotIn, AreEndpoints, IsElsewhere}
 use Rattle.ring_out_pipes.specs.OutBus.{Taker}
-use Rattle.ring_out_pipes.specs.Laws.{SendsNone}
+use Rattle.ring_out_pipes.specs.Laws.{SendsNone, IsOnlyEndpoint}
+use Rattle.control_out_pipes.specs.Outs.{IsOutStream}
 use Rattle.opened_streams.specs.Unopened.{IsUnopened}
 use Rattle.out_rows.specs.Outs.{IsAside}
-use Rattle.closed_streams.specs.Several.{ClosesSome, CloseSomeEnds, CloseSomePipes, CloseSomeUnopened, CloseSomeOutPipes, CloseSomeUntaken}
+use Rattle.closed_streams.specs.Closed.{without_name, without_head}
+use Rattle.closed_streams.specs.Several.{ClosesSome, OneCloses, CloseSomeEnds, CloseSomePipes, CloseSomeUnopened, CloseSomeOutPipes, CloseSomeUntaken, CloseSomeOuts, FewerReports}
+use Rattle.closed_streams.proofs.Leaving.{name_gone, name_beside, name_on, head_beside, head_on}
+use Rattle.closed_streams.proofs.Closing.{name_apart}
 
 module _ (stream now : ℕ → ℕ → Bool) (member narrow streams those : ℕ → Bool) (ends : ℕ → Endpoint) (s : ClosesSome stream now member narrow streams those ends) where
   -- an endpoint without a stream has none then
@@ -78,3 +84,55 @@ close_some_out_pipes taker stream now member narrow outs those ends known parts 
 pub close_some_untaken : {W : Type 0} (taker : W → ℕ → ℕ → Option Taker) → CloseSomeUntaken taker
 close_some_untaken taker stream now member narrow outs those ends wire s all addr ep on none =
     all addr ep (s.streamed addr ep on) (was_unopened stream now member narrow outs those ends s addr ep on none)
+
+module _ (stream now : ℕ → ℕ → Bool) (member narrow outs those : ℕ → Bool) (ends : ℕ → Endpoint) (s : ClosesSome stream now member narrow outs those ends) (n : ℕ) (kept : those n ≡ true) (parts : StructureSets) where
+  only_one : IsOnlyEndpoint stream member parts n (ends n) → IsOnlyEndpoint now narrow parts n (ends n)
+  only_one was = record { on = s.met n kept; streamed = s.on n kept; high = was.high; others = λ k met differs. was.others k (s.fewer k met) differs }
+
+  out_stream : (o : Option Taker) (order : ℕ → ℕ) (out : List ℕ) (hand : Hand) (harvested : List ℕ) → IsOutStream stream o member order out parts hand n (ends n) harvested
+      → IsOutStream now o narrow order out parts hand n (ends n) harvested
+  out_stream o order out hand harvested was = record { only = only_one was.only; place = was.place; told = was.told; accounts = was.accounts; pipe = was.pipe }
+
+pub close_some_outs : {W : Type 0} (taker : W → ℕ → ℕ → Option Taker) → CloseSomeOuts taker
+close_some_outs taker stream now member narrow outs those ends order out harvested parts hand wire s p = record {
+  streams = λ n kept.
+      out_stream stream now member narrow outs those ends s n kept parts (taker wire (ends n).addr (ends n).ep) (order n) (out n) hand (harvested n)
+      (p.streams n (s.were n kept));
+  others = λ n met none. aside stream now member narrow outs those ends s parts (λ k on. (p.streams k on).pipe.named) n met none p.others;
+}
+
+-- ---- what was reported
+
+pub fewer_reports : FewerReports
+fewer_reports streams those order out hand parts acc reported fewer all n on = all n (fewer n on)
+
+-- ---- one alone
+
+module _ (stream : ℕ → ℕ → Bool) (member streams : ℕ → Bool) (ends : ℕ → Endpoint) (n : ℕ) (on : streams n ≡ true) (e : AreEndpoints stream member streams ends) where
+  name_of : (k : ℕ) → without_head streams n k ≡ true → without_name stream (ends n).addr (ends n).ep (ends k).addr (ends k).ep ≡ true
+  name_of k kept =
+      let both : (k ≢ n) × (streams k ≡ true) = head_on streams n k kept in
+      name_beside stream (ends n).addr (ends n).ep (ends k).addr (ends k).ep (name_apart stream member streams ends n k e on both.1 both.0) ∙ e.on k both.1
+
+  no_name : (k : ℕ) → streams k ≡ true → without_head streams n k ≡ false → without_name stream (ends n).addr (ends n).ep (ends k).addr (ends k).ep ≡ false
+  no_name k streamed closed =
+      ⊎_elim (λ (same : k ≡ n). ap (λ (i : ℕ). without_name stream (ends n).addr (ends n).ep (ends i).addr (ends i).ep) same ∙ name_gone stream (ends n).addr (ends n).ep)
+      (λ (differs : k ≢ n). absurd (false≢true (sym closed ∙ head_beside streams n k differs ∙ streamed))) (cases_eq k n)
+
+  closes_to : (narrow : ℕ → Bool) → IsWider narrow member → IsWider (without_head streams n) narrow
+      → ClosesSome stream (without_name stream (ends n).addr (ends n).ep) member narrow streams (without_head streams n) ends
+  closes_to narrow fewer met = record {
+    fewer = fewer;
+    streamed = λ a p kept. (name_on stream (ends n).addr (ends n).ep a p kept).0;
+    were = λ k kept. (head_on streams n k kept).1;
+    met = met;
+    on = name_of;
+    off = no_name;
+  }
+
+pub one_closes : OneCloses
+one_closes stream member streams ends n on e = (
+  closes_to stream member streams ends n on e (without_head member n) (λ k met. (head_on member n k met).1)
+      (λ k kept. let both : (k ≢ n) × (streams k ≡ true) = head_on streams n k kept in head_beside member n k both.0 ∙ e.members k both.1),
+  closes_to stream member streams ends n on e member (λ k met. met) (λ k kept. e.members k (head_on streams n k kept).1),
+)

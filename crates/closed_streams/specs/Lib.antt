@@ -1,4 +1,5 @@
 pub mod Closed
 pub mod Several
 pub mod Aside
+pub mod Left
 pub mod Samples

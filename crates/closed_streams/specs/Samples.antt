@@ -7,8 +7,12 @@
 --     Pipes stream member streams      both sides of the pipes of these queue heads agree
 --     Waits stream streams   the senders that no queue head is for wait
 --     each_own n             the queue head at n is that of endpoint 1 of device n
+--     beside, two            a queue head at 128 of endpoint 1 of device 6, whose qTD at 192 is as the other; and the ring with both
+--     at_both, both_names, ends_of_two     the queue heads of this ring, and their endpoints
+--     PipesOfTwo stream member streams, AsksNone closed member     the same of it, and none of these queue heads asks one of these endpoints
+--     LeftOne narrow left    of its two queue heads the walk meets these, and the endpoints of the others have left
 --     Closes now narrow      of queue heads with streams everywhere that at 0 keeps its own, where these endpoints have streams then, and the walk meets these queue heads
-use Rattle.std.specs.Prelude.{ℕ, ◌==◌, Bool, true, List, [], ◌∷◌, Option, Some}
+use Rattle.std.specs.Prelude.{ℕ, ◌==◌, ◌&&◌, ◌||◌, Bool, true, List, [], ◌∷◌, Option, Some, if◌then◌else◌}
 use Rattle.qh_qtd.specs.declared.qtd.Qtd.{Qtd}
 use Rattle.qh_qtd.specs.declared.queue_head.Qh.{Qh}
 use Rattle.lent_structures.specs.Structures.{QueueHead, Element, StructureSets, put}
@@ -19,6 +23,8 @@ use Rattle.ring_pipes.specs.Bus.{Sender}
 use Rattle.ring_pipes.specs.Pipes.{ArePiped}
 use Rattle.opened_streams.specs.Unopened.{AreUnopened}
 use Rattle.closed_streams.specs.Several.{ClosesSome}
+use Rattle.closed_streams.specs.Aside.{AreElsewhere}
+use Rattle.closed_streams.specs.Left.{HaveLeft}
 
 abbrev pub asking : Qh
 asking = record queue { token = record token { toggle = true } }
@@ -49,3 +55,29 @@ each_own n = record (endpoint_of asking) { addr = n }
 
 abbrev pub Closes : (ℕ → ℕ → Bool) → (ℕ → Bool) → Type 0
 Closes now narrow = ClosesSome (λ a e. true) now (λ n. true) narrow (λ n. true) at_zero each_own
+
+-- ---- a ring of two
+
+abbrev pub beside : Qh
+beside = record asking { addr = 6; current = 192 }
+
+abbrev pub two : StructureSets
+two = put (put (ring asking element) 128 128 (QueueHead beside)) 128 192 (Element element)
+
+abbrev pub at_both : ℕ → Bool
+at_both n = n == 0 || n == 128
+
+abbrev pub both_names : ℕ → ℕ → Bool
+both_names a e = (a == 5 || a == 6) && e == 1
+
+abbrev pub ends_of_two : ℕ → Endpoint
+ends_of_two n = if n == 0 then endpoint_of asking else endpoint_of beside
+
+abbrev pub PipesOfTwo : (ℕ → ℕ → Bool) → (ℕ → Bool) → (ℕ → Bool) → Type 0
+PipesOfTwo stream member streams = ArePiped stream packets sender_of member streams ends_of_two (λ n. (7 ∷ []) ∷ []) two Empty sent
+
+abbrev pub AsksNone : (ℕ → ℕ → Bool) → (ℕ → Bool) → Type 0
+AsksNone closed member = AreElsewhere closed member ends_of_two two
+
+abbrev pub LeftOne : (ℕ → Bool) → (ℕ → ℕ → Bool) → Type 0
+LeftOne narrow left = HaveLeft at_both narrow ends_of_two left

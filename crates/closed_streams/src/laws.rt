@@ -5,8 +5,9 @@ ghost use Rattle.ring_out_pipes.specs.OutBus.{Taker};
 ghost use Rattle.closed_streams.specs.Closed.{NameIsClosed, HeadIsClosed, NarrowsBeside, ClosesBeside, CloseEnds, CloseMetEnds, ClosePipes, CloseMetPipes};
 ghost use Rattle.closed_streams.specs.Closed.{CloseOutPipes, CloseMetOutPipes, CloseOuts, CloseMetOuts, CloseReports, IsUnopenedStill, CloseUnopened, CloseUntaken};
 ghost use Rattle.closed_streams.specs.Closed.{NoneAsksClosed, NoneSendsToClosed};
-ghost use Rattle.closed_streams.specs.Several.{CloseSomeEnds, CloseSomePipes, CloseSomeUnopened, CloseSomeOutPipes, CloseSomeUntaken};
+ghost use Rattle.closed_streams.specs.Several.{OneCloses, CloseSomeEnds, CloseSomePipes, CloseSomeUnopened, CloseSomeOutPipes, CloseSomeUntaken, CloseSomeOuts, FewerReports};
 ghost use Rattle.closed_streams.specs.Aside.{AsideSendersWait, AsideTakersWait};
+ghost use Rattle.closed_streams.specs.Left.{LeftAreClosed, NoneAsksSome, NoneSendsToSome, NoneAsksAnyClosed, NoneSendsToAnyClosed};
 
 use usb_base::Wire;
 
@@ -60,6 +61,9 @@ pub fn several_streams_are_closed<W: Wire>()
     ensures unopened { (sender : W → ℕ → ℕ → Option Sender) → CloseSomeUnopened sender }
     ensures outs { (taker : W → ℕ → ℕ → Option Taker) → CloseSomeOutPipes taker }
     ensures untaken { (taker : W → ℕ → ℕ → Option Taker) → CloseSomeUntaken taker }
+    ensures streams { (taker : W → ℕ → ℕ → Option Taker) → CloseSomeOuts taker }
+    ensures reports { FewerReports }
+    ensures one { OneCloses }
 {}
 
 /// Each event of the controller leaves the closed endpoints of the devices as they are, whatever they sent or took before: no queue head that the walk may meet asks
@@ -67,4 +71,14 @@ pub fn several_streams_are_closed<W: Wire>()
 pub fn the_closed_stay<W: Wire>()
     ensures senders { AsideSendersWait W.begins W.transacts }
     ensures takers { AsideTakersWait W.begins W.transacts }
+{}
+
+/// The streams of the endpoints whose queue heads have left the ring are closed, and no others; no queue head that the walk may still meet asks one of the closed
+/// endpoints, or sends to it, then and so long as they have no stream.
+pub fn those_that_left_are_closed<W: Wire>()
+    ensures closed { LeftAreClosed }
+    ensures asks { (sender : W → ℕ → ℕ → Option Sender) → NoneAsksSome sender }
+    ensures sends { (taker : W → ℕ → ℕ → Option Taker) → NoneSendsToSome taker }
+    ensures asks_any { (sender : W → ℕ → ℕ → Option Sender) → (taker : W → ℕ → ℕ → Option Taker) → NoneAsksAnyClosed sender taker }
+    ensures sends_any { (sender : W → ℕ → ℕ → Option Sender) → (taker : W → ℕ → ℕ → Option Taker) → NoneSendsToAnyClosed sender taker }
 {}

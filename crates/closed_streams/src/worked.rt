@@ -5,7 +5,8 @@ ghost use Rattle.ring_pipes.specs.Pipes.{IsElsewhere};
 ghost use Rattle.lent_structures.specs.Samples.{element};
 ghost use Rattle.out_rows.specs.Samples.{sending};
 ghost use Rattle.closed_streams.specs.Closed.{only_name, without_name, without_head};
-ghost use Rattle.closed_streams.specs.Samples.{asking, ring, at_zero, Pipes, Waits, Closes};
+ghost use Rattle.closed_streams.specs.Left.{heads_met, names_kept, names_closed};
+ghost use Rattle.closed_streams.specs.Samples.{asking, ring, at_zero, Pipes, Waits, Closes, at_both, both_names, PipesOfTwo, AsksNone, LeftOne};
 
 /// Endpoint 1 of device 5 is left out, and neither its endpoint 2 nor endpoint 1 of device 6; of two queue heads that at 64 is.
 pub fn what_is_left_out()
@@ -43,4 +44,15 @@ pub fn several_are_closed()
     ensures closed { Closes (λ a e. a == 0) at_zero }
     ensures kept { Closes (λ a e. true) at_zero → ⊥ }
     ensures unmet { Closes (λ a e. a == 0) (λ n. false) → ⊥ }
+{}
+
+/// Of two queue heads with streams that at 128 leaves the ring, and the stream of its endpoint is closed: the pipe of the other one agrees, and it doesn't ask the closed
+/// endpoint. So long as the walk may meet that at 128 the endpoint hasn't left, and that queue head asks it.
+pub fn one_of_two_leaves()
+    ensures opened { PipesOfTwo both_names at_both at_both }
+    ensures left { LeftOne at_zero (only_name 6 1) }
+    ensures closed { PipesOfTwo (names_kept both_names (only_name 6 1)) at_zero (heads_met at_both at_zero) }
+    ensures aside { AsksNone (names_closed both_names (names_kept both_names (only_name 6 1))) at_zero }
+    ensures met { LeftOne at_both (only_name 6 1) → ⊥ }
+    ensures asks { AsksNone (only_name 6 1) at_both → ⊥ }
 {}

@@ -1,5 +1,5 @@
 -- Fronts and tails along accepted commands.
-use Rattle.std.proofs.Common.{◌≡◌, ◌≢◌, ℕ, ◌+◌, ◌-◌, ◌*◌, ◌==◌, ◌≤◌, Bool, false, cond, if◌then◌else◌, List, length, replicate, take, drop, get_or, slice_get, Some, ap, refl, sym, subst, ◌∙◌, ⊎_elim, arith}
+use Rattle.std.proofs.Common.{◌≡◌, ◌≢◌, ℕ, ◌+◌, ◌-◌, ◌*◌, ◌==◌, ◌≤◌, Bool, false, cond, if◌then◌else◌, List, length, replicate, take, drop, get_or, slice_get, Some, ap, refl, sym, subst, ◌∙◌, ⊎_elim, arith, Option, None}
 use Rattle.std.proofs.lemmas.Bool.{eq-eqb}
 use Rattle.std.proofs.lemmas.List.{get_or-take, length-append, length-replicate}
 use Rattle.std.proofs.lemmas.Option.{slice_get_past}
@@ -8,6 +8,7 @@ use Rattle.run_book.specs.Book.{holding, Stands, slot_of}
 use Rattle.driver_rows.specs.declared.content.Endpoint.{Endpoint}
 use Rattle.driver_rows.specs.declared.content.Transfer.{Transfer}
 use Rattle.driver_rows.specs.declared.content.QtdNote.{QtdNote}
+use Rattle.driver_rows.specs.declared.content.Command.{Command}
 use Rattle.driver_rows.specs.declared.content.Command.TheVariants as unfinished
 use Rattle.driver_rows.specs.DriverContent.{DriverContent}
 use Rattle.driver_rows.specs.Words.{needs}
@@ -32,6 +33,10 @@ use Rattle.standing_fronts.specs.Along.{WasOwed}
 use Rattle.standing_fronts.specs.Reaching.{Reaches}
 use Rattle.standing_fronts.proofs.Lists.{times_some}
 use Rattle.commanded_queues.specs.Accepted.{ReachEnds, ReachesOpen, ReachesAsked}
+use Rattle.fed_queues.specs.Places.{IsMet}
+use Rattle.fed_queues.proofs.Places.{SameLife, same_life, life_back, met_as}
+use Rattle.endpoint_lives.specs.Lives.{may_meet}
+use Rattle.endpoint_lives.proofs.Lives.{met_alike}
 
 -- ---- contents that tell alike what is to be given back
 
@@ -78,6 +83,9 @@ open_reaches_in d f x parts order out i harvested transfers notes k =
       places = λ j most. ap (λ (ns : List QtdNote). 32 * piece_at (note_in ns) z.first j) notes;
     }) k
 
+none_some : (q : ℕ) → ◌≡◌ {A = Option Command} None (Some (unfinished.Open q)) → ⊥
+none_some q bad = cc
+
 pub open_reaches : ReachesOpen
 open_reaches d m o parts order out why ends e x here met =
     let w = why.opens in
@@ -85,10 +93,11 @@ open_reaches d m o parts order out why ends e x here met =
     let queue : ℕ = get_or (new_runs d g) 0 0 in
     let dummy : ℕ = get_or (new_runs d g) 1 0 in
     let new : Endpoint = new_endpoint w.desc queue dummy in
+    let near : may_meet o.driver e x ≡ may_meet d e x = met_alike d o.driver e x x refl (ap (λ (p : Offered). p.driver.waiting) w.is) (ap (λ (p : Offered). p.driver.rung) w.is) in
     ⊎_elim
     (λ (was : slice_get d.endpoints e ≡ Some x).
-    open_reaches_in d o.driver x parts order out e (ap (λ (p : Offered). p.driver.harvested) w.is) (ap (λ (p : Offered). p.driver.transfers) w.is) (ap (λ (p : Offered). p.driver.notes) w.is) (ends e x was))
-    (λ (is : (e ≡ length d.endpoints) × (x ≡ new)). absurd (met (ap (λ (p : Offered). p.driver.command) w.is ∙ ap (λ (y : Endpoint). Some (unfinished.Open y.queue)) (sym is.1))))
+    open_reaches_in d o.driver x parts order out e (ap (λ (p : Offered). p.driver.harvested) w.is) (ap (λ (p : Offered). p.driver.transfers) w.is) (ap (λ (p : Offered). p.driver.notes) w.is) (ends e x was (record { there = record { linked = λ opens. none_some x.queue (sym w.idle ∙ opens); kept = met.there.kept }; near = sym near ∙ met.near })))
+    (λ (is : (e ≡ length d.endpoints) × (x ≡ new)). absurd (met.there.linked (ap (λ (p : Offered). p.driver.command) w.is ∙ ap (λ (y : Endpoint). Some (unfinished.Open y.queue)) (sym is.1))))
     (push_which d.endpoints new e x (ap (λ (p : Offered). slice_get p.driver.endpoints e) (sym w.is) ∙ here))
 
 -- ---- a get or a put
@@ -121,17 +130,20 @@ module _ (d : DriverContent) (owners : HasOwners d) (e : ℕ) (x : Endpoint) (a 
       (λ (new : (u ≡ length d.transfers) × (z ≡ new_transfer e a x.dummy)). absurd (none_owed d i u owners at new.0))
       (push_which d.transfers (new_transfer e a x.dummy) u z there)
 
-  taken_reaches_in : (parts : StructureSets) (order : ℕ → ℕ → ℕ) (out : ℕ → List ℕ) → ReachEnds d parts order out → (i : ℕ) (z : Endpoint) → slice_get f.endpoints i ≡ Some z
+  was_met : (i : ℕ) (y z : Endpoint) → SameLife y z → IsMet f i z → IsMet d i y
+  was_met i y z life met = met_as f d i z y (record { waiting = refl; rung = refl; opens = λ c is. absurd (none_some c (sym k.idle ∙ is)) }) (life_back y z life) met
+
+  taken_reaches_in : (parts : StructureSets) (order : ℕ → ℕ → ℕ) (out : ℕ → List ℕ) → ReachEnds d parts order out → (i : ℕ) (z : Endpoint) → slice_get f.endpoints i ≡ Some z → IsMet f i z
       → Reaches f (parts (32 * z.queue)) (order (32 * z.queue)) (out (32 * z.queue)) i z (32 * (if e == i then x.dummy else z.dummy))
-  taken_reaches_in parts order out ends i z here =
+  taken_reaches_in parts order out ends i z here met =
       ⊎_elim
       (λ (own : (i ≡ e) × (z ≡ with_queued x dummy (length d.transfers))).
       let at : slice_get d.endpoints i ≡ Some x = ap (slice_get d.endpoints) own.0 ∙ k.here in
       subst (λ (b : Bool). Reaches f (parts (32 * z.queue)) (order (32 * z.queue)) (out (32 * z.queue)) i z (32 * cond b x.dummy z.dummy)) (sym (eq-eqb e i (sym own.0)))
-      (reaches_alike d f parts order out i (32 * x.dummy) x z (ap (λ (y : Endpoint). y.queue) own.1) refl was_owed (ends i x at)))
+      (reaches_alike d f parts order out i (32 * x.dummy) x z (ap (λ (y : Endpoint). y.queue) own.1) refl was_owed (ends i x at (was_met i x z (record { desc = ap (λ (y : Endpoint). y.desc) own.1; queue = ap (λ (y : Endpoint). y.queue) own.1; linked = ap (λ (y : Endpoint). y.linked) own.1; gone = ap (λ (y : Endpoint). y.gone) own.1 }) met))))
       (λ (other : (i ≢ e) × (slice_get d.endpoints i ≡ Some z)).
       subst (λ (b : Bool). Reaches f (parts (32 * z.queue)) (order (32 * z.queue)) (out (32 * z.queue)) i z (32 * cond b x.dummy z.dummy)) (sym (not_same e i (λ is. other.0 (sym is))))
-      (reaches_alike d f parts order out i (32 * z.dummy) z z refl refl was_owed (ends i z other.1)))
+      (reaches_alike d f parts order out i (32 * z.dummy) z z refl refl was_owed (ends i z other.1 (was_met i z z (same_life z) met))))
       (set_which d.endpoints e i x (with_queued x dummy (length d.transfers)) z k.here here)
 
 -- the new end of the queue isn't lent yet
@@ -150,10 +162,10 @@ end_not_lent d m o why stands lent =
     new_not_lent (n - 1) why.runs all.are (omega (arith, long, some)) (subst (λ (c : ℕ). IsLent (slot_of g.book.slots c)) last lent)
 
 pub asked_reaches : ReachesAsked
-asked_reaches d m o parts order out why stands owners lent bulk ends e x here =
+asked_reaches d m o parts order out why stands owners lent bulk ends e x here met =
     let w = why.transfers in
     let rs = new_runs d w.holding_after in
     let n = length w.asked.stages in
     let k = taken_on d m o w stands owners lent bulk (end_not_lent d m o w stands) in
     subst (λ (g : Offered). Reaches g.driver (parts (32 * x.queue)) (order (32 * x.queue)) (out (32 * x.queue)) e x (32 * (if w.number == e then w.endpoint.dummy else x.dummy))) (sym w.is)
-    (taken_reaches_in d owners w.number w.endpoint w.asked w.holding_after (dummy_in n rs) (notes_in d w.asked w.endpoint rs) k parts order out ends e x (ap (λ (g : Offered). slice_get g.driver.endpoints e) (sym w.is) ∙ here))
+    (taken_reaches_in d owners w.number w.endpoint w.asked w.holding_after (dummy_in n rs) (notes_in d w.asked w.endpoint rs) k parts order out ends e x (ap (λ (g : Offered). slice_get g.driver.endpoints e) (sym w.is) ∙ here) (subst (λ (g : Offered). IsMet g.driver e x) w.is met))

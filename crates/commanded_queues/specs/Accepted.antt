@@ -37,16 +37,16 @@ OpensItsOwn = (d : DriverContent) (m : Mem) (cmd : Cmd) (o : Offered) → OpensB
 
 abbrev pub ReachEnds : DriverContent → StructureSets → (ℕ → ℕ → ℕ) → (ℕ → List ℕ) → Type 0
 ReachEnds d parts order out =
-    (e : ℕ) (x : Endpoint) → slice_get d.endpoints e ≡ Some x → Reaches d (parts (32 * x.queue)) (order (32 * x.queue)) (out (32 * x.queue)) e x (32 * x.dummy)
+    (e : ℕ) (x : Endpoint) → slice_get d.endpoints e ≡ Some x → IsMet d e x → Reaches d (parts (32 * x.queue)) (order (32 * x.queue)) (out (32 * x.queue)) e x (32 * x.dummy)
 
 abbrev pub ReachesOpen : Type 0
 ReachesOpen = (d : DriverContent) (m : Mem) (o : Offered) (parts : StructureSets) (order : ℕ → ℕ → ℕ) (out : ℕ → List ℕ) → IsOpened d m o → ReachEnds d parts order out
-    → (e : ℕ) (x : Endpoint) → slice_get o.driver.endpoints e ≡ Some x → IsMet o.driver x
+    → (e : ℕ) (x : Endpoint) → slice_get o.driver.endpoints e ≡ Some x → IsMet o.driver e x
     → Reaches o.driver (parts (32 * x.queue)) (order (32 * x.queue)) (out (32 * x.queue)) e x (32 * x.dummy)
 
 abbrev pub ReachesAsked : Type 0
 ReachesAsked = (d : DriverContent) (m : Mem) (o : Offered) (parts : StructureSets) (order : ℕ → ℕ → ℕ) (out : ℕ → List ℕ) → (why : IsAsked d m o) → Stands (holding d.book m) → HasOwners d
-    → AreLent d → OnlyBulk d → ReachEnds d parts order out → (e : ℕ) (x : Endpoint) → slice_get o.driver.endpoints e ≡ Some x
+    → AreLent d → OnlyBulk d → ReachEnds d parts order out → (e : ℕ) (x : Endpoint) → slice_get o.driver.endpoints e ≡ Some x → IsMet o.driver e x
     → Reaches o.driver (parts (32 * x.queue)) (order (32 * x.queue)) (out (32 * x.queue)) e x (32 * (if why.transfers.number == e then why.transfers.endpoint.dummy else x.dummy))
 
 -- ---- buffers

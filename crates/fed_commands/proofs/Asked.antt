@@ -30,18 +30,19 @@ use Rattle.lent_runs.specs.Lent.{begins_in, still_lends, AreLent}
 use Rattle.driver_rows.specs.Rows.{is_iso}
 use Rattle.lent_structures.specs.Structures.{Element as ElementAt, StructureSets}
 use Rattle.driver_parts.specs.Inventory.{IsLent}
-use Rattle.chained_transfers.specs.Bulk.{receives, OnlyBulk}
+use Rattle.chained_transfers.specs.Bulk.{OnlyBulk}
 use Rattle.usb_base.specs.declared.endpoints.EpDesc.{EpDesc}
 use Rattle.driver_rows.specs.Words.{head_block, queue_head}
-use Rattle.ring_streams.specs.Told.{Endpoint as Told, endpoint_of}
+use Rattle.ring_streams.specs.Told.{Endpoint as Told}
 use Rattle.chained_transfers.specs.Turns.{AreAtPlaces}
 use Rattle.chained_transfers.specs.Chains.{piece_at}
 use Rattle.chained_transfers.specs.Out.{pieces_from, unpublished, passed, out_of_transfer, out_of}
 use Rattle.chained_transfers.proofs.Chained.{pieces_same}
 use Rattle.chained_transfers.proofs.Queued.{not_dummy}
 use Rattle.fed_queues.specs.Fed.{IsPieceFed, unpublished_of, IsPublished}
-use Rattle.fed_queues.specs.Places.{IsMet, HasHead, IsLast}
+use Rattle.fed_queues.specs.Places.{IsLast}
 use Rattle.fed_commands.specs.Commands.{QueuesStand}
+use Rattle.fed_queues.proofs.Places.{SameLife, same_life, WasLike, SameQueues, met_stays, streams_stay}
 
 -- ---- a slot that isn't kept
 
@@ -68,12 +69,13 @@ piece_placed slot owner note t b (suc n) all (suc i) below = piece_placed slot o
 pub record IsTakenOn (d : DriverContent) (slot : ℕ → Slot) (e : ℕ) (x : Endpoint) (a : Asked) (dummy : ℕ) (notes : List QtdNote) : Type 0 where
   pub idle : d.command ≡ None
   pub here : slice_get d.endpoints e ≡ Some x
+  pub alive : x.gone ≡ false
   pub notes_same : (t i : ℕ) (y : Transfer) → slice_get d.transfers t ≡ Some y → y.released ≡ false → i < y.qtds
       → note_at notes (piece_at (note_in d.notes) y.first i) ≡ note_at d.notes (piece_at (note_in d.notes) y.first i)
   pub pieces_are : (t i : ℕ) (y : Transfer) → slice_get d.transfers t ≡ Some y → y.released ≡ false → i ≤ y.qtds → piece_at (note_in notes) y.first i ≡ piece_at (note_in d.notes) y.first i
   pub lists_are : (t i n : ℕ) (y : Transfer) → slice_get d.transfers t ≡ Some y → y.released ≡ false → i + n ≤ y.qtds
       → pieces_from (note_in notes) (piece_at (note_in d.notes) y.first i) n ≡ pieces_from (note_in d.notes) (piece_at (note_in d.notes) y.first i) n
-  pub slots : (i : ℕ) (z : Endpoint) → slice_get d.endpoints i ≡ Some z → slot z.dummy ≡ slot_of d.book.slots z.dummy
+  pub slots : (i : ℕ) (z : Endpoint) → slice_get d.endpoints i ≡ Some z → z.gone ≡ false → slot z.dummy ≡ slot_of d.book.slots z.dummy
   pub first_lent : IsLent (slot_of d.book.slots x.dummy)
   pub kept : IsLent (slot dummy) → ⊥
 
@@ -119,6 +121,7 @@ taken_on d m o why stands owners lent bulk =
     let now : (IsLent (slot_of why.holding_after.book.slots (dummy_in n bs)) → ⊥) → IsTakenOn d (slot_of why.holding_after.book.slots) e x why.asked (dummy_in n bs) (notes_in d why.asked x bs) = λ not. record {
       idle = why.idle;
       here = why.here;
+      alive = alive;
       notes_same = λ t i y there held below. same _ t (piece_placed (slot_of d.book.slots) owners.owner (note_in d.notes) t y.first y.qtds (pieces t y there held) i below);
       pieces_are = λ t i y there held below.
           pieces_same (slot_of d.book.slots) owners.owner (note_in d.notes) (note_in notes) t y.first y.qtds (pieces t y there held) (λ c p. ap runs_of_note (same c t p)) i below;
@@ -126,9 +129,9 @@ taken_on d m o why stands owners lent bulk =
           pieces_list (note_in d.notes) (note_in notes) (piece_at (note_in d.notes) y.first i) k
           (λ j less. ap runs_of_note (subst (λ (c : ℕ). note_at notes c ≡ note_at d.notes c) (sym (piece_more (note_in d.notes) y.first i j))
           (same _ t (piece_placed (slot_of d.book.slots) owners.owner (note_in d.notes) t y.first y.qtds (pieces t y there held) (i + j) (omega (arith, below, less))))));
-      slots = λ i z there.
+      slots = λ i z there still.
           let s = bulk.endpoints i z there in
-          all.are.old z.dummy (placed_run z.dummy (Dummy i) (owners.owned.each.dummy i (runs_of_endpoint z) (ap (option_map runs_of_endpoint) there) (ap (λ k. is_iso k || z.gone) s.bulk.kind ∙ s.gone)));
+          all.are.old z.dummy (placed_run z.dummy (Dummy i) (owners.owned.each.dummy i (runs_of_endpoint z) (ap (option_map runs_of_endpoint) there) (ap (λ k. is_iso k || z.gone) s.bulk.kind ∙ still)));
       first_lent = not_taken d x.dummy lent why.idle (placed_run x.dummy (Dummy e) was);
       kept = not;
     } in
@@ -231,6 +234,8 @@ record WasEnd (d : DriverContent) (i : ℕ) (z : Endpoint) : Type 0 where
   there : slice_get d.endpoints i ≡ Some endpoint
   queue : z.queue ≡ endpoint.queue
   desc : z.desc ≡ endpoint.desc
+  linked : z.linked ≡ endpoint.linked
+  gone : z.gone ≡ endpoint.gone
 
 pub taken_stands : (d : DriverContent) (e : ℕ) (x : Endpoint) (a : Asked) (h : Holding) (dummy : ℕ) (notes : List QtdNote) (member streams : ℕ → Bool) (ends : ℕ → Told) (parts : StructureSets) (order : ℕ → ℕ → ℕ) (out : ℕ → List ℕ)
     → IsTakenOn d (slot_of h.book.slots) e x a dummy notes → AreAtPlaces (note_in d.notes) d.transfers
@@ -239,20 +244,13 @@ pub taken_stands : (d : DriverContent) (e : ℕ) (x : Endpoint) (a : Asked) (h :
     → QueuesStand (accepted_transfer d e x a h dummy notes).driver member streams ends parts order out
 unfolding block_of
 taken_stands d e x a h dummy notes member streams ends parts order out k places publishes old = record {
-  met = record {
-    head = old.met.head;
-    each = λ i z here met. let w = was i z here in subst (λ (q : ℕ). member (32 * q) ≡ true) (sym w.queue) (old.met.each i w.endpoint w.there (idle_met w.endpoint));
-    only = λ n on. ⊎_elim (λ (head : n ≡ 32 * head_block). inl head) (λ (one : HasHead d n). inr (headed n one)) (old.met.only n on);
-  };
-  streams_are = record {
-    each = λ i z here met. let w = was i z here in stream_of i z w (old.streams_are.each i w.endpoint w.there (idle_met w.endpoint));
-    only = λ n on. headed n (old.streams_are.only n on);
-  };
+  met = met_stays d (accepted_transfer d e x a h dummy notes).driver member same old.met;
+  streams_are = streams_stay d (accepted_transfer d e x a h dummy notes).driver streams ends same old.streams_are;
   fed = record {
-    dummies = λ i z here lent.
+    dummies = λ i z here alive lent.
         ⊎_elim (λ (own : (i ≡ e) × (z ≡ with_queued x dummy (length d.transfers))).
         absurd (k.kept (subst (λ (r : Endpoint). IsLent (slot_of h.book.slots r.dummy)) own.1 lent)))
-        (λ (other : (i ≢ e) × (slice_get d.endpoints i ≡ Some z)). old.fed.dummies i z other.1 (subst (λ (s : Slot). IsLent s) (k.slots i z other.1) lent))
+        (λ (other : (i ≢ e) × (slice_get d.endpoints i ≡ Some z)). old.fed.dummies i z other.1 alive (subst (λ (s : Slot). IsLent s) (k.slots i z other.1 alive) lent))
         (set_which d.endpoints e i x (with_queued x dummy (length d.transfers)) z k.here here);
     pieces = λ t i y z there held here from below.
         ⊎_elim
@@ -267,20 +265,20 @@ taken_stands d e x a h dummy notes member streams ends parts order out k places 
     publishes = λ b words is.
         let at : b ≡ x.dummy = same_block b words is in
         subst (λ (c : ℕ). IsPublished f parts c words) (sym at)
-        (publishes words (is ∙ ap (λ (c : ℕ). Some (unfinished.Publish c words)) at) (old.fed.dummies e x k.here k.first_lent));
+        (publishes words (is ∙ ap (λ (c : ℕ). Some (unfinished.Publish c words)) at) (old.fed.dummies e x k.here k.alive k.first_lent));
   };
   last = record {
-    dummies = λ i z here lent.
+    dummies = λ i z here alive lent.
         ⊎_elim (λ (own : (i ≡ e) × (z ≡ with_queued x dummy (length d.transfers))).
         absurd (k.kept (subst (λ (r : Endpoint). IsLent (slot_of h.book.slots r.dummy)) own.1 lent)))
-        (λ (other : (i ≢ e) × (slice_get d.endpoints i ≡ Some z)). old.last.dummies i z other.1 (subst (λ (s : Slot). IsLent s) (k.slots i z other.1) lent))
+        (λ (other : (i ≢ e) × (slice_get d.endpoints i ≡ Some z)). old.last.dummies i z other.1 alive (subst (λ (s : Slot). IsLent s) (k.slots i z other.1 alive) lent))
         (set_which d.endpoints e i x (with_queued x dummy (length d.transfers)) z k.here here);
     taken = λ b words t y z is none newest_one there first here. first_last b words t y z is newest_one there here;
     sorted = λ b words t y z is some. absurd (omega (arith, some));
   };
   out_are = λ i z here met.
       let w = was i z here in
-      ap (λ (q : ℕ). out (32 * q)) w.queue ∙ old.out_are i w.endpoint w.there (idle_met w.endpoint)
+      ap (λ (q : ℕ). out (32 * q)) w.queue ∙ old.out_are i w.endpoint w.there (record { linked = never w.endpoint.queue; kept = sym w.gone ∙ met.kept })
       ∙ out_idle (note_in d.notes) i d.command d.made d.transfers (λ m n. ap (λ (c : Option Command). unpublished c m n) k.idle)
       ∙ sym (out_older (note_in d.notes) (note_in notes) i (accepted_transfer d e x a h dummy notes).driver.command 0 d.transfers (new_transfer e a x.dummy) (λ t y there held. listed t y there held)
       (none_of_new (note_in notes) i (e == i && true) x.dummy (length a.stages)));
@@ -292,40 +290,32 @@ taken_stands d e x a h dummy notes member streams ends parts order out k places 
     was : (i : ℕ) (z : Endpoint) → slice_get (set d.endpoints e (with_queued x dummy (length d.transfers))) i ≡ Some z → WasEnd d i z
     was i z here =
         ⊎_elim (λ (own : (i ≡ e) × (z ≡ with_queued x dummy (length d.transfers))).
-        record { endpoint = x; there = ap (slice_get d.endpoints) own.0 ∙ k.here; queue = ap (λ (r : Endpoint). r.queue) own.1; desc = ap (λ (r : Endpoint). r.desc) own.1 })
-        (λ (other : (i ≢ e) × (slice_get d.endpoints i ≡ Some z)). record { endpoint = z; there = other.1; queue = refl; desc = refl })
+        record { endpoint = x; there = ap (slice_get d.endpoints) own.0 ∙ k.here; queue = ap (λ (r : Endpoint). r.queue) own.1; desc = ap (λ (r : Endpoint). r.desc) own.1; linked = ap (λ (r : Endpoint). r.linked) own.1; gone = ap (λ (r : Endpoint). r.gone) own.1 })
+        (λ (other : (i ≢ e) × (slice_get d.endpoints i ≡ Some z)). record { endpoint = z; there = other.1; queue = refl; desc = refl; linked = refl; gone = refl })
         (set_which d.endpoints e i x (with_queued x dummy (length d.transfers)) z k.here here)
 
-    idle_met : (z : Endpoint) → IsMet d z
-    idle_met z is = let e : ◌≡◌ {A = Option Command} None (Some (unfinished.Open z.queue)) = sym k.idle ∙ is in cc
+    never : (c : ℕ) → d.command ≡ Some (unfinished.Open c) → ⊥
+    never c is = let none : ◌≡◌ {A = Option Command} None (Some (unfinished.Open c)) = sym k.idle ∙ is in cc
 
-    headed : (n : ℕ) → HasHead d n → HasHead f n
-    headed n one =
+    like : (i : ℕ) (z : Endpoint) → slice_get d.endpoints i ≡ Some z → WasLike f i z
+    like i z here =
         ⊎_elim
-        (λ (own : one.number ≡ e).
-        let same : one.endpoint ≡ x = same_Some one.endpoint x (sym one.here ∙ ap (slice_get d.endpoints) own ∙ k.here) in
+        (λ (own : i ≡ e).
+        let same_end : z ≡ x = same_Some z x (sym here ∙ ap (slice_get d.endpoints) own ∙ k.here) in
         record {
-          number = e;
           endpoint = with_queued x dummy (length d.transfers);
-          here = set_here d.endpoints e x (with_queued x dummy (length d.transfers)) k.here;
-          met = λ is. cc;
-          at = one.at ∙ ap (λ (r : Endpoint). 32 * r.queue) same;
+          here = ap (slice_get (set d.endpoints e (with_queued x dummy (length d.transfers)))) own ∙ set_here d.endpoints e x (with_queued x dummy (length d.transfers)) k.here;
+          life = subst (λ (r : Endpoint). SameLife (with_queued x dummy (length d.transfers)) r) (sym same_end) (record { desc = refl; queue = refl; linked = refl; gone = refl });
         })
-        (λ (other : one.number ≢ e).
-        record {
-          number = one.number;
-          endpoint = one.endpoint;
-          here = set_there d.endpoints e one.number (with_queued x dummy (length d.transfers)) other ∙ one.here;
-          met = λ is. cc;
-          at = one.at;
-        }) (cases_eq one.number e)
+        (λ (other : i ≢ e). record { endpoint = z; here = set_there d.endpoints e i (with_queued x dummy (length d.transfers)) other ∙ here; life = same_life z }) (cases_eq i e)
 
-    stream_of : (i : ℕ) (z : Endpoint) → (w : WasEnd d i z) → (streams (32 * w.endpoint.queue) ≡ receives w.endpoint.desc.name.way) × (ends (32 * w.endpoint.queue) ≡ endpoint_of (queue_head w.endpoint.desc 0 w.endpoint.dummy))
-        → (streams (32 * z.queue) ≡ receives z.desc.name.way) × (ends (32 * z.queue) ≡ endpoint_of (queue_head z.desc 0 z.dummy))
-    stream_of i z w one = (
-      ap (λ (q : ℕ). streams (32 * q)) w.queue ∙ one.0 ∙ ap (λ (desc : EpDesc). receives desc.name.way) (sym w.desc),
-      ap (λ (q : ℕ). ends (32 * q)) w.queue ∙ one.1 ∙ ap (λ (desc : EpDesc). endpoint_of (queue_head desc 0 z.dummy)) (sym w.desc),
-    )
+    same : SameQueues d (accepted_transfer d e x a h dummy notes).driver
+    same = record {
+      ring = record { waiting = refl; rung = refl; opens = λ c is. cc };
+      back = record { waiting = refl; rung = refl; opens = λ c is. absurd (never c is) };
+      was = λ i z here. let w = was i z here in record { endpoint = w.endpoint; here = w.there; life = record { desc = w.desc; queue = w.queue; linked = w.linked; gone = w.gone } };
+      is = like;
+    }
 
     zero_from : (c : DriverContent) (t : ℕ) (y : Transfer) → c.command ≡ None → (i : ℕ) → unpublished_of c t y ≤ i
     zero_from c t y idle i = let none = same_unpublished c t y idle in omega (arith, none)
@@ -361,7 +351,7 @@ taken_stands d e x a h dummy notes member streams ends parts order out k places 
         let w = was y.endpoint z here in
         let same : w.endpoint ≡ x = same_Some w.endpoint x (sym w.there ∙ ap (slice_get d.endpoints) at ∙ k.here) in
         subst (λ (q : ℕ). IsLast (order (32 * q)) (parts (32 * q)) (32 * b)) (sym (w.queue ∙ ap (λ (r : Endpoint). r.queue) same))
-        (subst (λ (c : ℕ). IsLast (order (32 * x.queue)) (parts (32 * x.queue)) (32 * c)) (sym (same_block b words is)) (old.last.dummies e x k.here k.first_lent)))
+        (subst (λ (c : ℕ). IsLast (order (32 * x.queue)) (parts (32 * x.queue)) (32 * c)) (sym (same_block b words is)) (old.last.dummies e x k.here k.alive k.first_lent)))
         (push_which d.transfers (new_transfer e a x.dummy) t y there)
 
     listed : (t : ℕ) (y : Transfer) → slice_get d.transfers t ≡ Some y → y.released ≡ false → pieces_from (note_in notes) y.place y.left ≡ pieces_from (note_in d.notes) y.place y.left

@@ -21,7 +21,7 @@ use Rattle.lent_structures.specs.Structures.{StructureSets}
 use Rattle.driver_parts.specs.Inventory.{IsLent}
 use Rattle.ring_streams.specs.Told.{Endpoint as Told}
 use Rattle.chained_transfers.specs.Out.{unpublished}
-use Rattle.fed_queues.specs.Places.{IsMet, HasHead}
+use Rattle.fed_queues.specs.Places.{IsMet, HasHead, IsThere}
 use Rattle.fed_commands.specs.Commands.{QueuesStand, OpenStands}
 use Rattle.fed_commands.proofs.Asked.{push_which, same_unpublished, out_idle}
 
@@ -34,8 +34,8 @@ push_there (y ∷ ys) x (suc n) z here = push_there ys x n z here
 record IsTakenIn (d : DriverContent) (slot : ℕ → Slot) (queue dummy : ℕ) : Type 0 where
   idle : d.command ≡ None
   within : (t : ℕ) (y : Transfer) → slice_get d.transfers t ≡ Some y → y.endpoint < length d.endpoints
-  slots : (i : ℕ) (z : Endpoint) → slice_get d.endpoints i ≡ Some z → slot z.dummy ≡ slot_of d.book.slots z.dummy
-  apart : (i : ℕ) (z : Endpoint) → slice_get d.endpoints i ≡ Some z → queue ≢ z.queue
+  slots : (i : ℕ) (z : Endpoint) → slice_get d.endpoints i ≡ Some z → z.gone ≡ false → slot z.dummy ≡ slot_of d.book.slots z.dummy
+  apart : (i : ℕ) (z : Endpoint) → slice_get d.endpoints i ≡ Some z → z.gone ≡ false → queue ≢ z.queue
   kept : IsLent (slot dummy) → ⊥
 
 queue_in : Option Command → ℕ
@@ -48,16 +48,16 @@ unfolding queue_in
 opened d desc g q dummy member streams ends parts order out k old = record {
   met = record {
     head = old.met.head;
-    each = λ i z here met. old.met.each i z (older i z here met) (idle_met z);
+    each = λ i z here met. old.met.each i z (older i z here met.there.linked) (idle_met i z met);
     only = λ n on. ⊎_elim (λ (head : n ≡ 32 * head_block). inl head) (λ (one : HasHead d n). inr (headed n one)) (old.met.only n on);
   };
   streams_are = record {
-    each = λ i z here met. old.streams_are.each i z (older i z here met) (idle_met z);
+    each = λ i z here met. old.streams_are.each i z (older i z here met.there.linked) (idle_met i z met);
     only = λ n on. headed n (old.streams_are.only n on);
   };
   fed = record {
-    dummies = λ i z here lent.
-        ⊎_elim (λ (was : slice_get d.endpoints i ≡ Some z). old.fed.dummies i z was (subst (λ (s : Slot). IsLent s) (k.slots i z was) lent))
+    dummies = λ i z here alive lent.
+        ⊎_elim (λ (was : slice_get d.endpoints i ≡ Some z). old.fed.dummies i z was alive (subst (λ (s : Slot). IsLent s) (k.slots i z was alive) lent))
         (λ (new : (i ≡ length d.endpoints) × (z ≡ new_endpoint desc q dummy)). absurd (k.kept (subst (λ (r : Endpoint). IsLent (slot_of g.book.slots r.dummy)) new.1 lent)))
         (push_which d.endpoints (new_endpoint desc q dummy) i z here);
     pieces = λ t i y z there held here from below.
@@ -66,26 +66,32 @@ opened d desc g q dummy member streams ends parts order out k old = record {
     publishes = λ b words is. cc;
   };
   last = record {
-    dummies = λ i z here lent.
-        ⊎_elim (λ (was : slice_get d.endpoints i ≡ Some z). old.last.dummies i z was (subst (λ (s : Slot). IsLent s) (k.slots i z was) lent))
+    dummies = λ i z here alive lent.
+        ⊎_elim (λ (was : slice_get d.endpoints i ≡ Some z). old.last.dummies i z was alive (subst (λ (s : Slot). IsLent s) (k.slots i z was alive) lent))
         (λ (new : (i ≡ length d.endpoints) × (z ≡ new_endpoint desc q dummy)). absurd (k.kept (subst (λ (r : Endpoint). IsLent (slot_of g.book.slots r.dummy)) new.1 lent)))
         (push_which d.endpoints (new_endpoint desc q dummy) i z here);
     taken = λ b words t y z is. absurd (publishes_none b words is);
     sorted = λ b words t y z is. absurd (publishes_none b words is);
   };
   out_are = λ i z here met.
-      old.out_are i z (older i z here met) (idle_met z)
+      old.out_are i z (older i z here met.linked) (idle_there z met.kept)
       ∙ out_idle (note_in d.notes) i d.command d.made d.transfers (λ m n. ap (λ (c : Option Command). unpublished c m n) k.idle)
       ∙ sym (out_idle (note_in d.notes) i (Some (unfinished.Open q)) 0 d.transfers (λ m n. refl));
 }
   where
-    idle_met : (z : Endpoint) → IsMet d z
-    idle_met z is = let e : ◌≡◌ {A = Option Command} None (Some (unfinished.Open z.queue)) = sym k.idle ∙ is in cc
+    never : (c : ℕ) → d.command ≡ Some (unfinished.Open c) → ⊥
+    never c is = let e : ◌≡◌ {A = Option Command} None (Some (unfinished.Open c)) = sym k.idle ∙ is in cc
+
+    idle_there : (z : Endpoint) → z.gone ≡ false → IsThere d z
+    idle_there z kept = record { linked = never z.queue; kept = kept }
+
+    idle_met : (i : ℕ) (z : Endpoint) → IsMet (accepted_open d desc g q dummy).driver i z → IsMet d i z
+    idle_met i z met = record { there = idle_there z met.there.kept; near = met.near }
 
     publishes_none : (b : ℕ) (words : List ℕ) → (accepted_open d desc g q dummy).driver.command ≡ Some (unfinished.Publish b words) → ⊥
     publishes_none b words is = cc
 
-    older : (i : ℕ) (z : Endpoint) → slice_get (d.endpoints ++ new_endpoint desc q dummy ∷ []) i ≡ Some z → IsMet (accepted_open d desc g q dummy).driver z → slice_get d.endpoints i ≡ Some z
+    older : (i : ℕ) (z : Endpoint) → slice_get (d.endpoints ++ new_endpoint desc q dummy ∷ []) i ≡ Some z → (accepted_open d desc g q dummy).driver.command ≢ Some (unfinished.Open z.queue) → slice_get d.endpoints i ≡ Some z
     older i z here met =
         ⊎_elim (λ (was : slice_get d.endpoints i ≡ Some z). was)
         (λ (new : (i ≡ length d.endpoints) × (z ≡ new_endpoint desc q dummy)). absurd (met (ap (λ (r : Endpoint). Some (unfinished.Open r.queue)) (sym new.1))))
@@ -96,7 +102,7 @@ opened d desc g q dummy member streams ends parts order out k old = record {
       number = one.number;
       endpoint = one.endpoint;
       here = push_there d.endpoints (new_endpoint desc q dummy) one.number one.endpoint one.here;
-      met = λ is. k.apart one.number one.endpoint one.here (ap queue_in is);
+      met = record { there = record { linked = λ is. k.apart one.number one.endpoint one.here one.met.there.kept (ap queue_in is); kept = one.met.there.kept }; near = one.met.near };
       at = one.at;
     }
 
@@ -114,15 +120,15 @@ open_stands d m o member streams ends parts order out why stands shape owners ow
     let rs = all.blocks in
     let two : length rs ≡ 2 = all.are.long in
     let new : new_runs d g ≡ rs = ap (drop (length d.book.taken)) all.are.taken ∙ drop_first d.book.taken rs in
-    let alive : (i : ℕ) (z : Endpoint) → slice_get d.endpoints i ≡ Some z → is_iso z.desc.kind || z.gone ≡ false =
-    λ i z there. let s = turns.bulk.endpoints i z there in ap (λ k. is_iso k || z.gone) s.bulk.kind ∙ s.gone in
+    let bare : (i : ℕ) (z : Endpoint) → slice_get d.endpoints i ≡ Some z → z.gone ≡ false → is_iso z.desc.kind || z.gone ≡ false =
+    λ i z there kept. let s = turns.bulk.endpoints i z there in ap (λ k. is_iso k || z.gone) s.bulk.kind ∙ kept in
     let now : QueuesStand (accepted_open d w.desc g (get_or rs 0 0) (get_or rs 1 0)).driver member streams ends parts order out =
     opened d w.desc g (get_or rs 0 0) (get_or rs 1 0) member streams ends parts order out
     (record {
       idle = w.idle;
       within = owners.orderly.within;
-      slots = λ i z there. all.are.old z.dummy (placed_run z.dummy (Dummy i) (owners.owned.each.dummy i (runs_of_endpoint z) (ap (option_map runs_of_endpoint) there) (alive i z there)));
-      apart = λ i z there. fresh_differs 0 z.queue all.are (omega (arith, two)) (placed_run z.queue (QueueHead i) (owners.owned.each.queue i (runs_of_endpoint z) (ap (option_map runs_of_endpoint) there) (alive i z there)));
+      slots = λ i z there kept. all.are.old z.dummy (placed_run z.dummy (Dummy i) (owners.owned.each.dummy i (runs_of_endpoint z) (ap (option_map runs_of_endpoint) there) (bare i z there kept)));
+      apart = λ i z there kept. fresh_differs 0 z.queue all.are (omega (arith, two)) (placed_run z.queue (QueueHead i) (owners.owned.each.queue i (runs_of_endpoint z) (ap (option_map runs_of_endpoint) there) (bare i z there kept)));
       kept = new_not_lent 1 w.runs all.are (omega (arith, two));
     }) old in
     subst (λ (f : Offered). QueuesStand f.driver member streams ends parts order out) (sym w.is)

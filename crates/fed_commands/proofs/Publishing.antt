@@ -1,5 +1,5 @@
 -- An accepted get or put, told by its stages.
-use Rattle.std.proofs.Common.{◌≡◌, ℕ, suc, ◌+◌, ◌-◌, ◌*◌, ◌≤◌, Bool, nat_eq, List, [], ◌∷◌, ◌++◌, length, take, get_or, slice_get, Option, Some, ap, sym, subst, ◌∙◌, refl, arith}
+use Rattle.std.proofs.Common.{◌≡◌, ℕ, suc, ◌+◌, ◌-◌, ◌*◌, ◌≤◌, Bool, nat_eq, List, [], ◌∷◌, ◌++◌, length, take, get_or, slice_get, Option, Some, ap, sym, subst, ◌∙◌, refl, arith, None}
 use Rattle.std.specs.List.{AllByRecursion}
 use Rattle.usb_base.specs.declared.packets.Way.{Way}
 use Rattle.word_mem.specs.Memory.{Mem, IsShaped}
@@ -71,13 +71,13 @@ not_kept (Lends r) run lent = let e : Lends r ≡ Keeps run.run = run.is in cc
 -- ---- what is to be published
 
 published : (d : DriverContent) (m : Mem) (e : ℕ) (x : Endpoint) (a : Asked) (h : Holding) (dummy : ℕ) (notes : List QtdNote) (parts : StructureSets) (k : HasStages x.desc.name.way a.stages) (words : List ℕ) → a.sort ≡ sort_by x.desc.name.way
-    → slice_get d.endpoints e ≡ Some x
+    → slice_get d.endpoints e ≡ Some x → x.ended ≡ None
     → Stands (holding (accepted_transfer d e x a h dummy notes).driver.book (accepted_transfer d e x a h dummy notes).memory) → IsShaped (accepted_transfer d e x a h dummy notes).memory
     → AwaitsLend (accepted_transfer d e x a h dummy notes).driver (accepted_transfer d e x a h dummy notes).memory (length d.transfers) (runs_of_transfer (new_transfer e a x.dummy))
     (runs_of_endpoint (with_queued x dummy (length d.transfers))) k.first k.rest
     → (accepted_transfer d e x a h dummy notes).driver.command ≡ Some (unfinished.Publish x.dummy words) → parts (32 * x.queue) (32 * x.dummy) ≡ Some (ElementAt dummy_qtd)
     → IsPublished (accepted_transfer d e x a h dummy notes).driver parts x.dummy words
-published d m e x a h dummy notes parts k words sort here stands shape r is stored =
+published d m e x a h dummy notes parts k words sort here going stands shape r is stored =
     let f = (accepted_transfer d e x a h dummy notes).driver in
     let b = x.dummy in
     let note = note_at notes b in
@@ -97,6 +97,7 @@ published d m e x a h dummy notes parts k words sort here stands shape r is stor
       fresh = (refl, refl);
       place = (refl, refl, refl);
       here = set_here d.endpoints e x (with_queued x dummy (length d.transfers)) here;
+      going = going;
       qtd = qtd;
       are = words_of is;
       range = qtd_range (first_of a.stages) note.next dummy note.buffer last (subst (λ (s : Stage). s.pid ≤ 2) (sym all) k.pids.0) (subst (λ (s : Stage). s.long ≤ 20480) (sym all) r.short.0)
@@ -157,7 +158,7 @@ by_stages d m o member streams ends parts order out why k sort stands shape stan
     let fm : IsShaped f.memory = subst (λ (g : Offered). IsShaped g.memory) why.is shape_now in
     subst (λ (g : Offered). QueuesStand g.driver member streams ends parts order out) (sym why.is)
     (taken_stands d e x a h dummy notes member streams ends parts order out (taken_on d m o why stands owners lent turns.bulk kept) turns.turns.places
-    (λ words is stored. published d m e x a h dummy notes parts k words sort why.here fs fm now is stored) old)
+    (λ words is stored. published d m e x a h dummy notes parts k words sort why.here why.goes_on fs fm now is stored) old)
 
 pub asked_stands : AskedStands
 asked_stands d m o member streams ends parts order out why stands shape stands_now shape_now owners lent turns old =

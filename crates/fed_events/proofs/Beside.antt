@@ -71,6 +71,7 @@ published_still d parts now b words keeps k = record {
   fresh = k.fresh;
   place = k.place;
   here = k.here;
+  going = k.going;
   qtd = k.qtd;
   are = k.are;
   range = k.range;
@@ -87,7 +88,7 @@ published_still d parts now b words keeps k = record {
 
 pub fed_still : FedStaysBeside
 fed_still d parts now keeps k = record {
-  dummies = λ e x here lent. (keeps (32 * x.queue)).idle (32 * x.dummy) dummy_qtd (k.dummies e x here lent) refl;
+  dummies = λ e x here kept lent. (keeps (32 * x.queue)).idle (32 * x.dummy) dummy_qtd (k.dummies e x here kept lent) refl;
   pieces = λ t i y x there held here from below.
       let b : ℕ = piece_at (note_in d.notes) y.first i in
       piece_still y.sort (parts (32 * x.queue)) (now (32 * x.queue)) (note_at d.notes b) b (piece_at (note_in d.notes) y.first y.qtds) (keeps (32 * x.queue)).alters (k.pieces t i y x there held here from below);
@@ -99,7 +100,7 @@ is_last_still order part now a alters k b t here differs = let had = alters.elem
 
 pub last_still : LastStaysBeside
 last_still d parts now order keeps k = record {
-  dummies = λ e x here lent. is_last_still (order (32 * x.queue)) (parts (32 * x.queue)) (now (32 * x.queue)) (32 * x.dummy) (keeps (32 * x.queue)).alters (k.dummies e x here lent);
+  dummies = λ e x here kept lent. is_last_still (order (32 * x.queue)) (parts (32 * x.queue)) (now (32 * x.queue)) (32 * x.dummy) (keeps (32 * x.queue)).alters (k.dummies e x here kept lent);
   taken = λ b words t y x command made newest there first here.
       is_last_still (order (32 * x.queue)) (parts (32 * x.queue)) (now (32 * x.queue)) (32 * b) (keeps (32 * x.queue)).alters (k.taken b words t y x command made newest there first here);
   sorted = k.sorted;

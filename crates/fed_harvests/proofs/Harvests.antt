@@ -30,12 +30,16 @@ use Rattle.chained_transfers.specs.Out.{pieces_from, passed, out_of_transfer, ou
 use Rattle.chained_transfers.proofs.Ways.{moves_queued, found_by}
 use Rattle.chained_transfers.proofs.Harvesting.{waits_is}
 use Rattle.chained_transfers.proofs.Harvested.{no_stall, not_served, note_same}
-use Rattle.fed_queues.specs.Places.{IsMet, HasHead, AreStillOut}
+use Rattle.fed_queues.specs.Places.{AreStillOut, IsThere}
 use Rattle.fed_commands.specs.Commands.{QueuesStand}
 use Rattle.fed_commands.proofs.Asked.{set_which}
 use Rattle.fed_harvests.specs.Harvests.{IsLike, Harvested, with_out, HarvestLeaves, HarvestStands, WaitStands}
 use Rattle.fed_harvests.proofs.Like.{like_stands}
 use Rattle.fed_harvests.proofs.Lists.{all_of, all_out, all_same, splits, all_set, others_none, own_out}
+use Rattle.fed_queues.proofs.Places.{SameQueues, same_ends, met_stays, streams_stay}
+use Rattle.chained_transfers.proofs.Holding.{unreleased}
+use Rattle.chained_transfers.proofs.Staying.{alive}
+use Rattle.endpoint_lives.proofs.Lives.{none_told}
 
 set_self : {X : Type 0} (xs : List X) (e : ℕ) (x : X) → slice_get xs e ≡ Some x → set xs e x ≡ xs
 set_self [] e x here = refl
@@ -49,11 +53,13 @@ module _ (d : DriverContent) (e t : ℕ) (x : Endpoint) (y : Transfer) (idle : d
     pub command : f.command ≡ d.command
     pub made : f.made ≡ d.made
     pub slots : f.book.slots ≡ d.book.slots
+    pub waiting : f.waiting ≡ d.waiting
+    pub rung : f.rung ≡ d.rung
     pub moved : ℕ
     pub notes : f.notes ≡ noted d.notes y.place moved
     pub x_now : Endpoint
     pub endpoints : f.endpoints ≡ set d.endpoints e x_now
-    pub x_like : (x_now.queue ≡ x.queue) × (x_now.dummy ≡ x.dummy) × (x_now.desc ≡ x.desc)
+    pub x_like : (x_now.queue ≡ x.queue) × (x_now.dummy ≡ x.dummy) × (x_now.desc ≡ x.desc) × (x_now.linked ≡ x.linked) × (x_now.gone ≡ x.gone)
     pub y_now : Transfer
     pub transfers : f.transfers ≡ set d.transfers t y_now
     pub y_like : (y_now.endpoint ≡ y.endpoint) × (y_now.first ≡ y.first) × (y_now.qtds ≡ y.qtds) × (y_now.released ≡ y.released) × (y_now.sort ≡ y.sort)
@@ -66,6 +72,8 @@ module _ (d : DriverContent) (e t : ℕ) (x : Endpoint) (y : Transfer) (idle : d
     idle = idle;
     idle_now = k.command ∙ idle;
     slots = k.slots;
+    waiting = k.waiting;
+    rung = k.rung;
     notes = λ b. ap (λ (ns : List QtdNote). note_in ns b) k.notes ∙ note_same d.notes y.place k.moved b;
     next = λ b. ap (λ (ns : List QtdNote). (note_at ns b).next) k.notes ∙ note_field (λ (q : QtdNote). q.next) k.moved refl b;
     buffer = λ b. ap (λ (ns : List QtdNote). (note_at ns b).buffer) k.notes ∙ note_field (λ (q : QtdNote). q.buffer) k.moved refl b;
@@ -78,8 +86,10 @@ module _ (d : DriverContent) (e t : ℕ) (x : Endpoint) (y : Transfer) (idle : d
           queue = ap (λ (r : Endpoint). r.queue) own.1 ∙ k.x_like.0;
           dummy = ap (λ (r : Endpoint). r.dummy) own.1 ∙ k.x_like.1;
           desc = ap (λ (r : Endpoint). r.desc) own.1 ∙ k.x_like.2;
+          linked = ap (λ (r : Endpoint). r.linked) own.1 ∙ k.x_like.3;
+          gone = ap (λ (r : Endpoint). r.gone) own.1 ∙ k.x_like.4;
         })
-        (λ (other : (i ≢ e) × (slice_get d.endpoints i ≡ Some z)). record { endpoint = z; there = other.1; queue = refl; dummy = refl; desc = refl })
+        (λ (other : (i ≢ e) × (slice_get d.endpoints i ≡ Some z)). record { endpoint = z; there = other.1; queue = refl; dummy = refl; desc = refl; linked = refl; gone = refl })
         (set_which d.endpoints e i x k.x_now z here (sym (ap (λ (xs : List Endpoint). slice_get xs i) k.endpoints) ∙ at));
     ends_now = λ i z at.
         ⊎_elim (λ (own : i ≡ e).
@@ -90,8 +100,10 @@ module _ (d : DriverContent) (e t : ℕ) (x : Endpoint) (y : Transfer) (idle : d
           queue = ap (λ (r : Endpoint). r.queue) same ∙ sym k.x_like.0;
           dummy = ap (λ (r : Endpoint). r.dummy) same ∙ sym k.x_like.1;
           desc = ap (λ (r : Endpoint). r.desc) same ∙ sym k.x_like.2;
+          linked = ap (λ (r : Endpoint). r.linked) same ∙ sym k.x_like.3;
+          gone = ap (λ (r : Endpoint). r.gone) same ∙ sym k.x_like.4;
         })
-        (λ (other : i ≢ e). record { endpoint = z; there = ap (λ (xs : List Endpoint). slice_get xs i) k.endpoints ∙ set_there d.endpoints e i k.x_now other ∙ at; queue = refl; dummy = refl; desc = refl }) (cases_eq i e);
+        (λ (other : i ≢ e). record { endpoint = z; there = ap (λ (xs : List Endpoint). slice_get xs i) k.endpoints ∙ set_there d.endpoints e i k.x_now other ∙ at; queue = refl; dummy = refl; desc = refl; linked = refl; gone = refl }) (cases_eq i e);
     transfers = λ u z at.
         ⊎_elim (λ (own : (u ≡ t) × (z ≡ k.y_now)).
         record {
@@ -156,11 +168,9 @@ module _ (p : Parts) (e t : ℕ) (found : Found) (due : IsHarvestDue p e t found
   y = due.transfer
 
   held : due.transfer.released ≡ false
-  held = by due.transfer.released refl
-    where
-      by : (b : Bool) → due.transfer.released ≡ b → due.transfer.released ≡ false
-      by false is = is
-      by true is = absurd (false≢true (sym (waits_is e due.transfer due.waits).1 ∙ turns.turns.turns.told t (turn_of due.transfer) (ap (option_map turn_of) due.there) is))
+  held =
+      let own = waits_is e due.transfer due.waits in
+      unreleased p.driver t due.transfer due.endpoint turns.bulk turns.turns due.there (ap (slice_get p.driver.endpoints) own.0 ∙ due.here) (none_told due.endpoint due.goes_on) own.1
 
   rest_of : List ℕ
   rest_of = pieces_from (note_in p.driver.notes) (note_in p.driver.notes due.transfer.place).next (due.transfer.left - 1)
@@ -174,13 +184,13 @@ module _ (p : Parts) (e t : ℕ) (found : Found) (due : IsHarvestDue p e t found
       own_out (note_in p.driver.notes) e due.transfer (waits_is e due.transfer due.waits).0 held
       ∙ ap (λ (b : Bool). drop (0 + passed b) (pieces_from (note_in p.driver.notes) due.transfer.place due.transfer.left)) (waits_is e due.transfer due.waits).1 ∙ all_pieces
 
-  apart : (i : ℕ) (z : Endpoint) → slice_get p.driver.endpoints i ≡ Some z → i ≢ e → 32 * z.queue ≢ 32 * due.endpoint.queue
+  apart : (i : ℕ) (z : Endpoint) → slice_get p.driver.endpoints i ≡ Some z → z.gone ≡ false → i ≢ e → 32 * z.queue ≢ 32 * due.endpoint.queue
   unfolding number_of
-  apart i z at differs same =
-      let alive : (j : ℕ) (w : Endpoint) → slice_get p.driver.endpoints j ≡ Some w → is_iso w.desc.kind || w.gone ≡ false =
-      λ j w there. let s = turns.bulk.endpoints j w there in ap (λ k. is_iso k || w.gone) s.bulk.kind ∙ s.gone in
-      let one = owners.owned.each.queue i (runs_of_endpoint z) (ap (option_map runs_of_endpoint) at) (alive i z at) in
-      let two = owners.owned.each.queue e (runs_of_endpoint due.endpoint) (ap (option_map runs_of_endpoint) due.here) (alive e due.endpoint due.here) in
+  apart i z at kept differs same =
+      let bare : (j : ℕ) (w : Endpoint) → slice_get p.driver.endpoints j ≡ Some w → w.gone ≡ false → is_iso w.desc.kind || w.gone ≡ false =
+      λ j w there still. let s = turns.bulk.endpoints j w there in ap (λ k. is_iso k || w.gone) s.bulk.kind ∙ still in
+      let one = owners.owned.each.queue i (runs_of_endpoint z) (ap (option_map runs_of_endpoint) at) (bare i z at kept) in
+      let two = owners.owned.each.queue e (runs_of_endpoint due.endpoint) (ap (option_map runs_of_endpoint) due.here) (bare e due.endpoint due.here (alive due.endpoint (turns.bulk.endpoints e due.endpoint due.here) due.goes_on)) in
       let block : z.queue ≡ due.endpoint.queue = omega (arith, same) in
       differs (ap number_of (sym one.owned ∙ ap owners.owner block ∙ two.owned))
 
@@ -199,15 +209,18 @@ module _ (p : Parts) (e t : ℕ) (found : Found) (due : IsHarvestDue p e t found
       ap (λ (n : ℕ). cond (n == at) (h.before ++ h.behind) (out n)) block ∙ ap (λ (b : Bool). cond b (h.before ++ h.behind) (out at)) (same_number at)
       ∙ sym h.now ∙ ap (out_now f) (sym own))
       (λ (other : i ≢ e).
-      let differs : 32 * z.queue ≢ at = λ same. apart i w.endpoint w.there other (ap (λ (q : ℕ). 32 * q) (sym w.queue) ∙ same) in
+      let differs : 32 * z.queue ≢ at = λ same. apart i w.endpoint w.there (sym w.gone ∙ met.kept) other (ap (λ (q : ℕ). 32 * q) (sym w.queue) ∙ same) in
       ap (λ (b : Bool). cond b (h.before ++ h.behind) (out (32 * z.queue))) (other_number (32 * z.queue) at differs)
-      ∙ ap (λ (q : ℕ). out (32 * q)) w.queue ∙ old.out_are i w.endpoint w.there (idle_met w.endpoint)
+      ∙ ap (λ (q : ℕ). out (32 * q)) w.queue ∙ old.out_are i w.endpoint w.there (idle_there w.endpoint (sym w.gone ∙ met.kept))
       ∙ sym (same_out p.driver e t due.endpoint due.transfer due.idle due.here due.there f k i (λ same. other (sym same ∙ (waits_is e due.transfer due.waits).0))))
       (cases_eq i e) in
       (h, like_stands p.driver f member streams ends parts order out (with_out out at (h.before ++ h.behind)) l still old)
     where
-      idle_met : (z : Endpoint) → IsMet p.driver z
-      idle_met z is = let e : ◌≡◌ {A = Option Command} None (Some (unfinished.Open z.queue)) = sym due.idle ∙ is in cc
+      no_open : (c : ℕ) → p.driver.command ≡ Some (unfinished.Open c) → ⊥
+      no_open c is = let none : ◌≡◌ {A = Option Command} None (Some (unfinished.Open c)) = sym due.idle ∙ is in cc
+
+      idle_there : (z : Endpoint) → z.gone ≡ false → IsThere p.driver z
+      idle_there z kept = record { linked = no_open z.queue; kept = kept }
 
   told_rest : (z : Transfer) → z ≡ record due.transfer { reported = true } → out_of_transfer (note_in p.driver.notes) e 0 z ≡ rest_of
   told_rest z is =
@@ -227,11 +240,13 @@ module _ (p : Parts) (e t : ℕ) (found : Found) (due : IsHarvestDue p e t found
       command = refl;
       made = refl;
       slots = refl;
+      waiting = refl;
+      rung = refl;
       moved = n;
       notes = refl;
       x_now = record due.endpoint { ended = Some cause };
       endpoints = refl;
-      x_like = (refl, refl, refl);
+      x_like = (refl, refl, refl, refl, refl);
       y_now = record due.transfer { reported = true };
       transfers = refl;
       y_like = (refl, refl, refl, refl, refl);
@@ -248,11 +263,13 @@ module _ (p : Parts) (e t : ℕ) (found : Found) (due : IsHarvestDue p e t found
           command = refl;
           made = refl;
           slots = refl;
+          waiting = refl;
+          rung = refl;
           moved = n;
           notes = refl;
           x_now = record due.endpoint { next = next_after (set p.driver.transfers t (record due.transfer { reported = true })) e t };
           endpoints = refl;
-          x_like = (refl, refl, refl);
+          x_like = (refl, refl, refl, refl, refl);
           y_now = record due.transfer { reported = true };
           transfers = refl;
           y_like = (refl, refl, refl, refl, refl);
@@ -277,11 +294,13 @@ module _ (p : Parts) (e t : ℕ) (found : Found) (due : IsHarvestDue p e t found
         command = refl;
         made = refl;
         slots = refl;
+        waiting = refl;
+        rung = refl;
         moved = n;
         notes = refl;
         x_now = due.endpoint;
         endpoints = sym (set_self p.driver.endpoints e due.endpoint due.here);
-        x_like = (refl, refl, refl);
+        x_like = (refl, refl, refl, refl, refl);
         y_now = z;
         transfers = refl;
         y_like = (refl, refl, refl, refl, refl);
@@ -318,13 +337,13 @@ wait_stands p e t member streams ends parts order out due old =
 
     by : (b : Bool) → Stand (cond b (served p.driver e) p.driver)
     by true = record {
-      met = record { head = old.met.head; each = old.met.each; only = λ n on. ⊎_elim (λ (head : n ≡ 32 * head_block). inl head) (λ (one : HasHead p.driver n). inr (headed n one)) (old.met.only n on) };
-      streams_are = record { each = old.streams_are.each; only = λ n on. headed n (old.streams_are.only n on) };
+      met = met_stays p.driver (served p.driver e) member same old.met;
+      streams_are = streams_stay p.driver (served p.driver e) streams ends same old.streams_are;
       fed = record { dummies = old.fed.dummies; pieces = old.fed.pieces; publishes = λ b words is. let e : ◌≡◌ {A = Option Command} None (Some (unfinished.Publish b words)) = sym due.idle ∙ is in absurd (cc) };
       last = record { dummies = old.last.dummies; taken = old.last.taken; sorted = old.last.sorted };
-      out_are = old.out_are;
+      out_are = λ i z here there. old.out_are i z here (record { linked = there.linked; kept = there.kept });
     }
       where
-        headed : (n : ℕ) → HasHead p.driver n → HasHead (served p.driver e) n
-        headed n one = record { number = one.number; endpoint = one.endpoint; here = one.here; met = one.met; at = one.at }
+        same : SameQueues p.driver (served p.driver e)
+        same = same_ends p.driver (served p.driver e) (record { waiting = refl; rung = refl; opens = λ c is. is }) (record { waiting = refl; rung = refl; opens = λ c is. is }) refl
     by false = old

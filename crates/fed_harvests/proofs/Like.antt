@@ -10,21 +10,21 @@ use Rattle.driver_rows.specs.declared.content.Sort.{Sort}
 use Rattle.driver_rows.specs.declared.content.Command.{Command}
 use Rattle.driver_rows.specs.declared.content.Command.TheVariants as unfinished
 use Rattle.driver_rows.specs.DriverContent.{DriverContent}
-use Rattle.driver_rows.specs.Words.{head_block, queue_head, to_qtd}
+use Rattle.driver_rows.specs.Words.{to_qtd}
 use Rattle.driver_rows.specs.Harvests.{note_at}
 use Rattle.run_owners.specs.Owners.{note_in}
 use Rattle.lent_structures.specs.Structures.{Structures, StructureSets}
 use Rattle.queue_parts.specs.Sound.{HasBuffer}
 use Rattle.driver_parts.specs.Inventory.{IsLent}
-use Rattle.ring_streams.specs.Told.{Endpoint as Told, endpoint_of}
-use Rattle.chained_transfers.specs.Bulk.{receives}
+use Rattle.ring_streams.specs.Told.{Endpoint as Told}
 use Rattle.chained_transfers.specs.Chains.{piece_at}
 use Rattle.chained_transfers.proofs.Chained.{piece_same}
 use Rattle.fed_queues.specs.Fed.{IsPieceFed}
-use Rattle.fed_queues.specs.Places.{IsMet, HasHead, IsLast, AreStillOut}
+use Rattle.fed_queues.specs.Places.{IsLast, AreStillOut}
 use Rattle.fed_commands.specs.Commands.{QueuesStand}
 use Rattle.fed_commands.proofs.Asked.{same_unpublished}
 use Rattle.fed_harvests.specs.Harvests.{IsLike, LikeStand}
+use Rattle.fed_queues.proofs.Places.{SameQueues, met_stays, streams_stay}
 
 -- a piece is fed by what its note tells of its qTD and its buffer
 fed_by_note : (sort : Sort) (part : Structures) (note other : QtdNote) (b end : ℕ) → other.next ≡ note.next → other.buffer ≡ note.buffer → other.told ≡ note.told → IsPieceFed sort part note b end → IsPieceFed sort part other b end
@@ -48,19 +48,18 @@ fed_by_note sort part note other b end next buffer told k = record {
 }
 
 module _ (d f : DriverContent) (k : IsLike d f) where
-  idle_met : (z : Endpoint) → IsMet d z
-  idle_met z is = let e : ◌≡◌ {A = Option Command} None (Some (unfinished.Open z.queue)) = sym k.idle ∙ is in cc
+  no_open : (c : ℕ) → d.command ≡ Some (unfinished.Open c) → ⊥
+  no_open c is = let e : ◌≡◌ {A = Option Command} None (Some (unfinished.Open c)) = sym k.idle ∙ is in cc
 
-  met_now : (z : Endpoint) → IsMet f z
-  met_now z is = let e : ◌≡◌ {A = Option Command} None (Some (unfinished.Open z.queue)) = sym k.idle_now ∙ is in cc
+  no_open_now : (c : ℕ) → f.command ≡ Some (unfinished.Open c) → ⊥
+  no_open_now c is = let e : ◌≡◌ {A = Option Command} None (Some (unfinished.Open c)) = sym k.idle_now ∙ is in cc
 
-  headed : (n : ℕ) → HasHead d n → HasHead f n
-  headed n one = let w = k.ends_now one.number one.endpoint one.here in record {
-    number = one.number;
-    endpoint = w.endpoint;
-    here = w.there;
-    met = met_now w.endpoint;
-    at = one.at ∙ ap (λ (q : ℕ). 32 * q) w.queue;
+  pub same_queues : SameQueues d f
+  same_queues = record {
+    ring = record { waiting = k.waiting; rung = k.rung; opens = λ c is. absurd (no_open_now c is) };
+    back = record { waiting = sym k.waiting; rung = sym k.rung; opens = λ c is. absurd (no_open c is) };
+    was = λ e z here. let w = k.ends e z here in record { endpoint = w.endpoint; here = w.there; life = record { desc = w.desc; queue = w.queue; linked = w.linked; gone = w.gone } };
+    is = λ e x here. let w = k.ends_now e x here in record { endpoint = w.endpoint; here = w.there; life = record { desc = w.desc; queue = w.queue; linked = w.linked; gone = w.gone } };
   }
 
   lent_before : (b c : ℕ) → b ≡ c → IsLent (slot_of f.book.slots b) → IsLent (slot_of d.book.slots c)
@@ -82,24 +81,12 @@ module _ (d f : DriverContent) (k : IsLike d f) where
 
   stand : (member streams : ℕ → Bool) (ends : ℕ → Told) (parts : StructureSets) (order : ℕ → ℕ → ℕ) (out later : ℕ → List ℕ) → AreStillOut f later → QueuesStand d member streams ends parts order out → QueuesStand f member streams ends parts order later
   stand member streams ends parts order out later still old = record {
-    met = record {
-      head = old.met.head;
-      each = λ i z here met. let w = k.ends i z here in subst (λ (q : ℕ). member (32 * q) ≡ true) (sym w.queue) (old.met.each i w.endpoint w.there (idle_met w.endpoint));
-      only = λ n on. ⊎_elim (λ (head : n ≡ 32 * head_block). inl head) (λ (one : HasHead d n). inr (headed n one)) (old.met.only n on);
-    };
-    streams_are = record {
-      each = λ i z here met.
-          let w = k.ends i z here in
-          let one = old.streams_are.each i w.endpoint w.there (idle_met w.endpoint) in (
-            ap (λ (q : ℕ). streams (32 * q)) w.queue ∙ one.0 ∙ ap (λ (desc : EpDesc). receives desc.name.way) (sym w.desc),
-            ap (λ (q : ℕ). ends (32 * q)) w.queue ∙ one.1 ∙ ap (λ (desc : EpDesc). endpoint_of (queue_head desc 0 z.dummy)) (sym w.desc),
-          );
-      only = λ n on. headed n (old.streams_are.only n on);
-    };
+    met = met_stays d f member same_queues old.met;
+    streams_are = streams_stay d f streams ends same_queues old.streams_are;
     fed = record {
-      dummies = λ i z here lent.
+      dummies = λ i z here kept lent.
           let w = k.ends i z here in
-          let one = old.fed.dummies i w.endpoint w.there (lent_before z.dummy w.endpoint.dummy w.dummy lent) in
+          let one = old.fed.dummies i w.endpoint w.there (sym w.gone ∙ kept) (lent_before z.dummy w.endpoint.dummy w.dummy lent) in
           ap (λ (q : ℕ). parts (32 * q) (32 * z.dummy)) w.queue ∙ ap (λ (c : ℕ). parts (32 * w.endpoint.queue) (32 * c)) w.dummy ∙ one;
       pieces = λ t i y z there held here from below.
           let u = k.transfers t y there in
@@ -115,9 +102,9 @@ module _ (d f : DriverContent) (k : IsLike d f) where
       publishes = λ b words is. absurd (no_publish b words is);
     };
     last = record {
-      dummies = λ i z here lent.
+      dummies = λ i z here kept lent.
           let w = k.ends i z here in
-          let one = old.last.dummies i w.endpoint w.there (lent_before z.dummy w.endpoint.dummy w.dummy lent) in
+          let one = old.last.dummies i w.endpoint w.there (sym w.gone ∙ kept) (lent_before z.dummy w.endpoint.dummy w.dummy lent) in
           subst (λ (q : ℕ). IsLast (order (32 * q)) (parts (32 * q)) (32 * z.dummy)) (sym w.queue)
           (subst (λ (c : ℕ). IsLast (order (32 * w.endpoint.queue)) (parts (32 * w.endpoint.queue)) (32 * c)) (sym w.dummy) one);
       taken = λ b words t y z is. absurd (no_publish b words is);

@@ -29,6 +29,8 @@ pub record WasEnd (d : DriverContent) (i : ℕ) (z : Endpoint) : Type 0 where
   pub queue : z.queue ≡ endpoint.queue
   pub dummy : z.dummy ≡ endpoint.dummy
   pub desc : z.desc ≡ endpoint.desc
+  pub linked : z.linked ≡ endpoint.linked
+  pub gone : z.gone ≡ endpoint.gone
 
 pub record WasTransfer (d : DriverContent) (t : ℕ) (y : Transfer) : Type 0 where
   pub transfer : Transfer
@@ -43,6 +45,8 @@ pub record IsLike (d f : DriverContent) : Type 0 where
   pub idle : d.command ≡ None
   pub idle_now : f.command ≡ None
   pub slots : f.book.slots ≡ d.book.slots
+  pub waiting : f.waiting ≡ d.waiting
+  pub rung : f.rung ≡ d.rung
   pub notes : (b : ℕ) → note_in f.notes b ≡ note_in d.notes b
   pub next : (b : ℕ) → (note_at f.notes b).next ≡ (note_at d.notes b).next
   pub buffer : (b : ℕ) → (note_at f.notes b).buffer ≡ (note_at d.notes b).buffer

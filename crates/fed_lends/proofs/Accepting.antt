@@ -1,5 +1,5 @@
 -- A get or put that was accepted is to be lent.
-use Rattle.std.proofs.Common.{◌≡◌, ◌≢◌, ℕ, zero, suc, ◌-◌, ◌<◌, ◌≤◌, Bool, nat_eq, List, [], ◌∷◌, ◌++◌, length, take, drop, set, get_or, replicate, slice_get, Some, ap, refl, sym, subst, ◌∙◌, ⊎_elim, arith, length-append}
+use Rattle.std.proofs.Common.{◌≡◌, ◌≢◌, ℕ, zero, suc, ◌-◌, ◌<◌, ◌≤◌, Bool, nat_eq, List, [], ◌∷◌, ◌++◌, length, take, drop, set, get_or, replicate, slice_get, Some, ap, refl, sym, subst, ◌∙◌, ⊎_elim, arith, length-append, None}
 use Rattle.std.proofs.lemmas.Bool.{cases_eq, cases_lt}
 use Rattle.std.proofs.lemmas.List.{get_or-set_same, get_or-set_other, set_past}
 use Rattle.std.specs.List.{AllByRecursion}
@@ -45,10 +45,10 @@ last_pushed (u ∷ ts) t = last_pushed ts t
 abbrev WillBeLent : Offered → Type 0
 WillBeLent f = (b : ℕ) (words : List ℕ) → f.driver.command ≡ Some (unfinished.Publish b words) → IsToBeLent f.driver f.memory b words
 
-asked_with : (d : DriverContent) (number : ℕ) (x : Endpoint) (a : Asked) (g : Holding) (dummy : ℕ) (notes : List QtdNote) (s : Stage) (ss : List Stage) → a.stages ≡ s ∷ ss → AreStagesBy x.desc.name.way (s ∷ ss) → a.sort ≡ sort_by x.desc.name.way → slice_get d.endpoints number ≡ Some x
+asked_with : (d : DriverContent) (number : ℕ) (x : Endpoint) (a : Asked) (g : Holding) (dummy : ℕ) (notes : List QtdNote) (s : Stage) (ss : List Stage) → a.stages ≡ s ∷ ss → AreStagesBy x.desc.name.way (s ∷ ss) → a.sort ≡ sort_by x.desc.name.way → slice_get d.endpoints number ≡ Some x → x.ended ≡ None
     → AwaitsLend (accepted_transfer d number x a g dummy notes).driver (accepted_transfer d number x a g dummy notes).memory (length d.transfers) (runs_of_transfer (new_transfer number a x.dummy)) (runs_of_endpoint (with_queued x dummy (length d.transfers))) s ss
     → WillBeLent (accepted_transfer d number x a g dummy notes)
-asked_with d number x a g dummy notes s ss stages all sort here awaits b words command =
+asked_with d number x a g dummy notes s ss stages all sort here going awaits b words command =
     let both = one_command x.dummy b (stage_words notes (first_of a.stages) x.dummy dummy (nat_eq (length a.stages) 1)) words command in
     record {
       number = length d.transfers;
@@ -61,6 +61,7 @@ asked_with d number x a g dummy notes s ss stages all sort here awaits b words c
       newest = let e = length-append d.transfers (new_transfer number a x.dummy ∷ []) in omega (arith, e);
       there = last_pushed d.transfers (new_transfer number a x.dummy);
       here = set_here d.endpoints number x (with_queued x dummy (length d.transfers)) here;
+      going = going;
       first = both.0;
       place = refl;
       left = refl;
@@ -92,7 +93,7 @@ asked_stages d m o why (s ∷ ss) stages all sort some has lent stands shape =
     let z = runs_of_endpoint (with_queued x dummy (length d.transfers)) in
     let awaits = accepted_awaits_lend d m o why s ss stages pids has lent stands shape in
     subst WillBeLent (sym is)
-    (asked_with d why.number x why.asked g dummy notes s ss stages all sort why.here (subst (λ (f : Offered). AwaitsLend f.driver f.memory (length d.transfers) y z s ss) is awaits))
+    (asked_with d why.number x why.asked g dummy notes s ss stages all sort why.here why.goes_on (subst (λ (f : Offered). AwaitsLend f.driver f.memory (length d.transfers) y z s ss) is awaits))
 
 pub asked_is_to_be_lent : AskedIsToBeLent
 asked_is_to_be_lent d m o k has lent stands shape =
@@ -111,6 +112,7 @@ to_be_lent_stays d m new b words k stands same = record {
   newest = k.newest;
   there = k.there;
   here = k.here;
+  going = k.going;
   first = k.first;
   place = k.place;
   left = k.left;

@@ -45,6 +45,7 @@ use Rattle.fed_lends.specs.ToLend.{IsToBeLent, lent_now}
 use Rattle.fed_lends.proofs.Reporting.{long_new}
 use Rattle.fed_lends.proofs.Feeding.{new_fed, end_is, stage_told}
 use Rattle.fed_lends.proofs.Names.{older_published}
+use Rattle.chained_transfers.proofs.Staying.{alive}
 
 -- ---- what holds when a transfer is lent
 
@@ -88,15 +89,19 @@ still_fed d slot parts now y x s ss n b end sort note has p = record {
 standing_bare : (k : EpKind) (gone : Bool) → k ≡ kinds.Bulk → gone ≡ false → (is_iso k || gone) ≡ false
 standing_bare k gone bulk stays = ap (λ j. is_iso j || gone) bulk ∙ stays
 
-pub bare_is : (d : DriverContent) (e : ℕ) (x : Endpoint) → OnlyBulk d → slice_get d.endpoints e ≡ Some x → (is_iso x.desc.kind || x.gone) ≡ false
-bare_is d e x bulk here = let s = bulk.endpoints e x here in standing_bare x.desc.kind x.gone s.bulk.kind s.gone
+pub bare_is : (d : DriverContent) (e : ℕ) (x : Endpoint) → OnlyBulk d → slice_get d.endpoints e ≡ Some x → x.gone ≡ false → (is_iso x.desc.kind || x.gone) ≡ false
+bare_is d e x bulk here kept = let s = bulk.endpoints e x here in standing_bare x.desc.kind x.gone s.bulk.kind kept
+
+-- its own endpoint goes on
+pub its_alive : (d : DriverContent) (m : Mem) (b : ℕ) (words : List ℕ) → OnlyBulk d → (k : IsToBeLent d m b words) → k.endpoint.gone ≡ false
+its_alive d m b words bulk k = alive k.endpoint (bulk.endpoints k.transfer.endpoint k.endpoint k.here) k.going
 
 -- what another endpoint has at the end of its queue was lent before
-pub other_lent : (d : DriverContent) (m : Mem) (b : ℕ) (words : List ℕ) (parts now : StructureSets) (e : ℕ) (x : Endpoint) → (l : IsLending d m b words parts now) → slice_get d.endpoints e ≡ Some x → e ≢ l.ready.transfer.endpoint → IsLent (slot_of (lent_driver d m).book.slots x.dummy) → IsLent (slot_of d.book.slots x.dummy)
-other_lent d m b words parts now e x l here differs lent =
+pub other_lent : (d : DriverContent) (m : Mem) (b : ℕ) (words : List ℕ) (parts now : StructureSets) (e : ℕ) (x : Endpoint) → (l : IsLending d m b words parts now) → slice_get d.endpoints e ≡ Some x → x.gone ≡ false → e ≢ l.ready.transfer.endpoint → IsLent (slot_of (lent_driver d m).book.slots x.dummy) → IsLent (slot_of d.book.slots x.dummy)
+other_lent d m b words parts now e x l here kept differs lent =
     let k = l.ready in
     let on = lent_on_views d m k.number (y_of k) (x_of k) k.stage k.further k.awaits l.has l.stands l.shape in
-    let placed = l.has.owned.each.dummy e (runs_of_endpoint x) (ap (option_map runs_of_endpoint) here) (bare_is d e x l.bulk here) in
+    let placed = l.has.owned.each.dummy e (runs_of_endpoint x) (ap (option_map runs_of_endpoint) here) (bare_is d e x l.bulk here kept) in
     let none : IsOneOf x.dummy d.book.taken → ⊥ =
     not_taken (views_of d) (views_of (lent_driver d m)) l.has.owner k.number (y_of k) (x_of k) d.book.taken x.dummy (Dummy e) on placed (λ same. no_element k.number same) (λ same. differs (one_dummy k.transfer.endpoint same)) (λ same. no_buffer k.number same) in
     subst IsLent (on.others x.dummy none) lent
@@ -118,14 +123,14 @@ dummy_here d m b words parts now l =
     ap (λ (c : ℕ). now (32 * k.endpoint.queue) (32 * c)) (sym k.awaits.ends)
     ∙ last_stands (now (32 * k.endpoint.queue)) d.notes k.endpoint.dummy k.further (note_at d.notes k.transfer.first).next l.pieces.standing
 
-dummies_fed : (d : DriverContent) (m : Mem) (b : ℕ) (words : List ℕ) (parts now : StructureSets) → IsLending d m b words parts now → (e : ℕ) (x : Endpoint) → slice_get d.endpoints e ≡ Some x → IsLent (slot_of (lent_driver d m).book.slots x.dummy) → now (32 * x.queue) (32 * x.dummy) ≡ Some (Element dummy_qtd)
-dummies_fed d m b words parts now l e x here lent =
+dummies_fed : (d : DriverContent) (m : Mem) (b : ℕ) (words : List ℕ) (parts now : StructureSets) → IsLending d m b words parts now → (e : ℕ) (x : Endpoint) → slice_get d.endpoints e ≡ Some x → x.gone ≡ false → IsLent (slot_of (lent_driver d m).book.slots x.dummy) → now (32 * x.queue) (32 * x.dummy) ≡ Some (Element dummy_qtd)
+dummies_fed d m b words parts now l e x here kept lent =
     let k = l.ready in
     ⊎_elim
     (λ (same : e ≡ k.transfer.endpoint).
     let is : x ≡ k.endpoint = same_Some x k.endpoint (sym here ∙ ap (slice_get d.endpoints) same ∙ k.here) in
     ap (λ (z : Endpoint). now (32 * z.queue) (32 * z.dummy)) is ∙ dummy_here d m b words parts now l)
-    (λ (differs : e ≢ k.transfer.endpoint). l.pieces.still (32 * x.queue) (32 * x.dummy) (Element dummy_qtd) (l.fed.dummies e x here (other_lent d m b words parts now e x l here differs lent)))
+    (λ (differs : e ≢ k.transfer.endpoint). l.pieces.still (32 * x.queue) (32 * x.dummy) (Element dummy_qtd) (l.fed.dummies e x here kept (other_lent d m b words parts now e x l here kept differs lent)))
     (cases_eq e k.transfer.endpoint)
 
 -- ---- the pieces
@@ -217,6 +222,7 @@ first_fed d m b words parts now l c ws command =
       fresh = p.fresh;
       place = p.place;
       here = p.here;
+      going = p.going;
       qtd = p.qtd;
       are = p.are;
       range = p.range;

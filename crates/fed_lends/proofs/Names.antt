@@ -1,6 +1,6 @@
 -- The buffer of each qTD that a driver has lent begins in a run that is lent, or the qTD has none.
-use Rattle.std.proofs.Common.{◌≡◌, ◌≢◌, ℕ, zero, suc, ◌-◌, ◌*◌, ◌/◌, ◌<◌, ◌≤◌, ◌⊎◌, false, List, [], ◌∷◌, length, get_or, nat_eq, cond, slice_get, Option, Some, None, option_map, ap, refl, sym, subst, ◌∙◌, ⊎_elim, inl, inr, arith}
-use Rattle.std.proofs.lemmas.Bool.{cases_eq, cases_lt}
+use Rattle.std.proofs.Common.{◌≡◌, ◌≢◌, ℕ, zero, suc, ◌-◌, ◌*◌, ◌/◌, ◌<◌, ◌≤◌, ◌⊎◌, false, List, [], ◌∷◌, length, get_or, nat_eq, cond, slice_get, Option, Some, None, option_map, ap, refl, sym, subst, ◌∙◌, ⊎_elim, inl, inr, arith, ◌||◌, Bool}
+use Rattle.std.proofs.lemmas.Bool.{cases_eq, cases_lt, or_parts}
 use Rattle.std.proofs.lemmas.Option.{same_Some}
 use Rattle.word_mem.specs.Memory.{Mem}
 use Rattle.buffers.specs.Bytes.{place}
@@ -30,6 +30,8 @@ use Rattle.transfer_lends.proofs.Buffers.{pages_from, name_at}
 use Rattle.transfer_lends.proofs.Lending.{taken_keep}
 use Rattle.fed_lends.specs.ToLend.{IsToBeLent, AreBlank}
 use Rattle.fed_lends.proofs.Feeding.{later_block}
+use Rattle.driver_rows.specs.Rows.{is_iso}
+use Rattle.usb_base.specs.declared.packets.EpKind.{EpKind}
 
 -- ---- what is told by a map
 
@@ -116,6 +118,10 @@ first_stands d m b words parts k fed =
     let none : d.made - 1 ≡ 0 = let e = k.made in omega (arith, e) in
     ap (λ (c : ℕ). parts (32 * k.endpoint.queue) (32 * c)) k.first ∙ ap (λ (x : Endpoint). parts (32 * x.queue) (32 * b)) (sym endpoint) ∙ p.stored ∙ ap (λ (i : ℕ). Some (Element (partly p.qtd i))) none
 
+-- what is bare no more wasn't given back
+pub bare_kept : (k : EpKind) (gone : Bool) → (is_iso k || gone) ≡ false → gone ≡ false
+bare_kept k gone is = (or_parts (is_iso k) gone is).1
+
 element_name : (d : DriverContent) (m : Mem) (b : ℕ) (words : List ℕ) (parts : StructureSets) (n a : ℕ) (sort : Sort) (u : Qtd) → IsToBeLent d m b words → AreFed d parts → IsDriven (views_of d) (sorts_of parts) → AreBlank d → sort ≡ OfElement → IsDriverOwned (views_of d) n a sort → parts n a ≡ Some (Element u) → (buffer_name u ≡ 0) ⊎ NamesRun (slot_of d.book.slots) (buffer_name u)
 element_name d m b words parts _ _ _ u k fed driven blank kind the_list there = absurd (cc)
 element_name d m b words parts _ _ _ u k fed driven blank kind the_head there = absurd (cc)
@@ -124,7 +130,7 @@ element_name d m b words parts _ _ _ u k fed driven blank kind (a_buffer t c i c
 element_name d m b words parts _ _ _ u k fed driven blank kind (a_dummy e x is lent) there =
     let o = mapped runs_of_endpoint (slice_get d.endpoints e) x is.here in
     let z = o.value in
-    let dummy = fed.dummies e z o.here (subst (λ (r : EndpointRuns). IsLent (slot_of d.book.slots r.dummy)) (sym o.is) lent) in
+    let dummy = fed.dummies e z o.here (bare_kept z.desc.kind z.gone (ap (λ (r : EndpointRuns). r.bare) o.is ∙ is.queued)) (subst (λ (r : EndpointRuns). IsLent (slot_of d.book.slots r.dummy)) (sym o.is) lent) in
     let here : parts (32 * z.queue) (32 * z.dummy) ≡ Some (Element u) = subst (λ (r : EndpointRuns). parts (32 * r.queue) (32 * r.dummy) ≡ Some (Element u)) (sym o.is) there in
     inl (ap buffer_name (found_element (parts (32 * z.queue) (32 * z.dummy)) u dummy_qtd here dummy))
 element_name d m b words parts _ _ _ u k fed driven blank kind (a_piece t c y x is piece lent) there =

@@ -1,5 +1,5 @@
 -- The order of the queues' qTDs, and what is out of each, once a transfer is lent.
-use Rattle.std.proofs.Common.{◌≡◌, ◌≢◌, ℕ, zero, suc, ◌+◌, ◌*◌, ◌<◌, Bool, List, [], ◌∷◌, ◌++◌, length, take, drop, slice_get, Option, Some, None, option_map, if◌then◌else◌, ap, refl, sym, subst, ◌∙◌, arith}
+use Rattle.std.proofs.Common.{◌≡◌, ◌≢◌, ℕ, zero, suc, ◌+◌, ◌*◌, ◌<◌, Bool, List, [], ◌∷◌, ◌++◌, length, take, drop, slice_get, Option, Some, None, option_map, if◌then◌else◌, ap, refl, sym, subst, ◌∙◌, arith, false}
 use Rattle.std.proofs.lemmas.Bool.{eq-eqb}
 use Rattle.std.proofs.lemmas.List.{append-nil, length-take-le}
 use Rattle.word_mem.specs.Memory.{Mem}
@@ -19,7 +19,7 @@ use Rattle.fed_lends.specs.Numbers.{at_queue}
 use Rattle.fed_lends.specs.Streams.{new_out}
 use Rattle.fed_lends.specs.ToLend.{IsToBeLent, lent_now}
 use Rattle.fed_lends.proofs.Outs.{last_apart, out_apart, drop_all, its_out, not_its_out, IsOwnedTransfer, out_owner}
-use Rattle.fed_lends.proofs.Fed.{y_of, IsLending, bare_is}
+use Rattle.fed_lends.proofs.Fed.{y_of, IsLending, bare_is, its_alive}
 
 -- ---- at one queue
 
@@ -31,11 +31,11 @@ at_else f n y i differs = ap (λ (t : Bool). if t then y else f i) (not_same i n
 
 -- ---- other queues
 
-pub queue_apart : (d : DriverContent) (m : Mem) (b : ℕ) (words : List ℕ) (parts now : StructureSets) (e : ℕ) (x : Endpoint) → (l : IsLending d m b words parts now) → slice_get d.endpoints e ≡ Some x → e ≢ l.ready.transfer.endpoint → 32 * x.queue ≢ 32 * l.ready.endpoint.queue
-queue_apart d m b words parts now e x l here differs same =
+pub queue_apart : (d : DriverContent) (m : Mem) (b : ℕ) (words : List ℕ) (parts now : StructureSets) (e : ℕ) (x : Endpoint) → (l : IsLending d m b words parts now) → slice_get d.endpoints e ≡ Some x → x.gone ≡ false → e ≢ l.ready.transfer.endpoint → 32 * x.queue ≢ 32 * l.ready.endpoint.queue
+queue_apart d m b words parts now e x l here kept differs same =
     let k = l.ready in
-    let one = (l.has.owned.each.queue e (runs_of_endpoint x) (ap (option_map runs_of_endpoint) here) (bare_is d e x l.bulk here)).owned in
-    let two = (l.has.owned.each.queue k.transfer.endpoint (runs_of_endpoint k.endpoint) (ap (option_map runs_of_endpoint) k.here) (bare_is d k.transfer.endpoint k.endpoint l.bulk k.here)).owned in
+    let one = (l.has.owned.each.queue e (runs_of_endpoint x) (ap (option_map runs_of_endpoint) here) (bare_is d e x l.bulk here kept)).owned in
+    let two = (l.has.owned.each.queue k.transfer.endpoint (runs_of_endpoint k.endpoint) (ap (option_map runs_of_endpoint) k.here) (bare_is d k.transfer.endpoint k.endpoint l.bulk k.here (its_alive d m b words l.bulk k))).owned in
     differs (one_queue (sym one ∙ ap l.has.owner (let f : x.queue ≡ k.endpoint.queue = omega (arith, same) in f) ∙ two))
   where
     one_queue : {f : ℕ} → QueueHead e ≡ QueueHead f → e ≡ f

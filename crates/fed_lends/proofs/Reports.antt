@@ -1,5 +1,5 @@
 -- What is reported of each queue, once a transfer is lent.
-use Rattle.std.proofs.Common.{◌≡◌, ◌≢◌, ℕ, suc, ◌+◌, ◌*◌, ◌<◌, Bool, true, List, ◌∷◌, ◌++◌, slice_get, Some, None, ap, sym, subst, ◌∙◌, ⊎_elim, arith}
+use Rattle.std.proofs.Common.{◌≡◌, ◌≢◌, ℕ, suc, ◌+◌, ◌*◌, ◌<◌, Bool, true, List, ◌∷◌, ◌++◌, slice_get, Some, None, ap, sym, subst, ◌∙◌, ⊎_elim, arith, false, length}
 use Rattle.std.proofs.lemmas.Bool.{cases_eq}
 use Rattle.std.proofs.lemmas.Option.{same_Some}
 use Rattle.word_mem.specs.Memory.{Mem}
@@ -10,7 +10,7 @@ use Rattle.driver_rows.specs.declared.content.Stage.{Stage}
 use Rattle.driver_rows.specs.declared.content.Command.TheVariants as unfinished
 use Rattle.driver_rows.specs.DriverContent.{DriverContent}
 use Rattle.driver_rows.specs.Words.{dummy_qtd}
-use Rattle.run_owners.specs.Owners.{EndpointRuns, TransferRuns}
+use Rattle.run_owners.specs.Owners.{EndpointRuns, TransferRuns, transfer_in}
 use Rattle.lent_structures.specs.Structures.{Element, Structures, StructureSets}
 use Rattle.queue_parts.specs.Sound.{IsMember}
 use Rattle.ring_walk.specs.Hand.{Hand}
@@ -20,7 +20,7 @@ use Rattle.reported_streams.specs.Reported.{IsReported, AreReported}
 use Rattle.driver_parts.specs.Inventory.{IsLent}
 use Rattle.chained_transfers.specs.Turns.{AreInTurn}
 use Rattle.chained_transfers.specs.Out.{out_now, out_all}
-use Rattle.fed_queues.specs.Places.{IsMet, IsLast, AreLast, AreStillOut}
+use Rattle.fed_queues.specs.Places.{IsMet, IsLast, AreLast, AreStillOut, IsThere}
 use Rattle.transfer_lends.specs.Laws.{lent_driver, HasPieces}
 use Rattle.fed_lends.specs.Numbers.{at_queue}
 use Rattle.fed_lends.specs.Streams.{second, new_order, new_out}
@@ -28,8 +28,11 @@ use Rattle.fed_lends.specs.ToLend.{IsToBeLent, lent_now}
 use Rattle.fed_lends.proofs.Numbering.{all_after, all_sorted}
 use Rattle.fed_lends.proofs.Reporting.{numbers, old_number, all_there, same_hand, spares_heads, sorted_both, sorted_same, lend_leaves_reports, lend_ends_queue}
 use Rattle.fed_lends.proofs.Names.{first_stands}
-use Rattle.fed_lends.proofs.Fed.{y_of, x_of, IsLending, buffers_same, other_lent}
+use Rattle.fed_lends.proofs.Fed.{y_of, x_of, IsLending, buffers_same, other_lent, its_alive}
 use Rattle.fed_lends.proofs.Order.{at_here, at_else, queue_apart, early, out_before, out_after, out_then, out_other, early_owner}
+use Rattle.chained_transfers.specs.Bulk.{OnlyBulk}
+use Rattle.fed_queues.proofs.Places.{going_met}
+use Rattle.driver_rows.specs.declared.content.Transfer.{Transfer}
 
 -- ---- another queue's reports
 
@@ -58,19 +61,26 @@ pub record IsOrdering (d : DriverContent) (m : Mem) (b : ℕ) (words : List ℕ)
   pub reports : AreReported heads order out hand parts acc reported
   pub last : AreLast d parts order
   pub still_out : AreStillOut d out
-  pub counted : (e : ℕ) (x : Endpoint) → slice_get d.endpoints e ≡ Some x → IsMet d x → heads (32 * x.queue) ≡ true
+  pub counted : (e : ℕ) (x : Endpoint) → slice_get d.endpoints e ≡ Some x → IsThere d x → heads (32 * x.queue) ≡ true
 
-pub is_met : (d : DriverContent) (m : Mem) (b : ℕ) (words : List ℕ) (x : Endpoint) → IsToBeLent d m b words → IsMet d x
-is_met d m b words x k opens = never (sym k.command ∙ opens)
+pub is_there : (d : DriverContent) (m : Mem) (b : ℕ) (words : List ℕ) (x : Endpoint) → IsToBeLent d m b words → x.gone ≡ false → IsThere d x
+is_there d m b words x k kept = record { linked = λ opens. never (sym k.command ∙ opens); kept = kept }
   where
     never : Some (unfinished.Publish b words) ≡ Some (unfinished.Open x.queue) → ⊥
     never same = cc
+
+pub it_is_there : (d : DriverContent) (m : Mem) (b : ℕ) (words : List ℕ) → OnlyBulk d → (k : IsToBeLent d m b words) → IsThere d k.endpoint
+it_is_there d m b words bulk k = is_there d m b words k.endpoint k (its_alive d m b words bulk k)
+
+-- what gets a transfer goes on, and so it is in the ring
+pub it_is_met : (d : DriverContent) (m : Mem) (b : ℕ) (words : List ℕ) → OnlyBulk d → (k : IsToBeLent d m b words) → IsMet d k.transfer.endpoint k.endpoint
+it_is_met d m b words bulk k = going_met d k.transfer.endpoint k.endpoint (bulk.endpoints k.transfer.endpoint k.endpoint k.here) k.going (it_is_there d m b words bulk k).linked
 
 pub queue_of : {d : DriverContent} {m : Mem} {b : ℕ} {words : List ℕ} → IsToBeLent d m b words → ℕ
 queue_of k = 32 * k.endpoint.queue
 
 pub is_counted : {d : DriverContent} {m : Mem} {b : ℕ} {words : List ℕ} {parts now : StructureSets} {member heads : ℕ → Bool} {order : ℕ → ℕ → ℕ} {out : ℕ → List ℕ} {hand : Hand} {acc : ℕ → List (List ℕ)} {reported : ℕ → List ℕ} → (o : IsOrdering d m b words parts now member heads order out hand acc reported) → heads (32 * o.lending.ready.endpoint.queue) ≡ true
-is_counted {d = d} {m = m} {b = b} {words = words} o = let k = o.lending.ready in o.counted k.transfer.endpoint k.endpoint k.here (is_met d m b words k.endpoint k)
+is_counted {d = d} {m = m} {b = b} {words = words} o = let k = o.lending.ready in o.counted k.transfer.endpoint k.endpoint k.here (it_is_there d m b words o.lending.bulk k)
 
 -- numbers from here on are above all that stand
 pub from_here : {d : DriverContent} {m : Mem} {b : ℕ} {words : List ℕ} {parts now : StructureSets} {member heads : ℕ → Bool} {order : ℕ → ℕ → ℕ} {out : ℕ → List ℕ} {hand : Hand} {acc : ℕ → List (List ℕ)} {reported : ℕ → List ℕ} → IsOrdering d m b words parts now member heads order out hand acc reported → ℕ → ℕ
@@ -125,9 +135,9 @@ all_reported {d = d} {m = m} {b = b} {words = words} {parts = parts} {now = now}
 -- ---- the ends of the queues
 
 dummies_last : {d : DriverContent} {m : Mem} {b : ℕ} {words : List ℕ} {parts now : StructureSets} {member heads : ℕ → Bool} {order : ℕ → ℕ → ℕ} {out : ℕ → List ℕ} {hand : Hand} {acc : ℕ → List (List ℕ)} {reported : ℕ → List ℕ} → (o : IsOrdering d m b words parts now member heads order out hand acc reported) (least : ℕ)
-    → (e : ℕ) (x : Endpoint) → slice_get d.endpoints e ≡ Some x → IsLent (slot_of (lent_driver d m).book.slots x.dummy) → IsLast (order_lent o.lending.ready (from_here o least) order (32 * x.queue)) (now (32 * x.queue)) (32 * x.dummy)
+    → (e : ℕ) (x : Endpoint) → slice_get d.endpoints e ≡ Some x → x.gone ≡ false → IsLent (slot_of (lent_driver d m).book.slots x.dummy) → IsLast (order_lent o.lending.ready (from_here o least) order (32 * x.queue)) (now (32 * x.queue)) (32 * x.dummy)
 unfolding from_here
-dummies_last {d = d} {m = m} {b = b} {words = words} {parts = parts} {now = now} {order = order} o least e x here lent =
+dummies_last {d = d} {m = m} {b = b} {words = words} {parts = parts} {now = now} {order = order} o least e x here kept lent =
     let l = o.lending in
     let k = l.ready in
     let n = 32 * k.endpoint.queue in
@@ -140,17 +150,17 @@ dummies_last {d = d} {m = m} {b = b} {words = words} {parts = parts} {now = now}
     (subst (λ (g : ℕ → ℕ). IsLast g (now n) (32 * k.endpoint.dummy)) (sym (at_here order n f))
     (lend_ends_queue d m k.number (y_of k) (x_of k) k.stage k.further (slot_of (lent_driver d m).book.slots) parts now (order n) from k.awaits l.pieces (first_last o) (omega arith))))
     (λ (differs : e ≢ k.transfer.endpoint).
-    let apart = queue_apart d m b words parts now e x l here differs in
+    let apart = queue_apart d m b words parts now e x l here kept differs in
     subst (λ (g : ℕ → ℕ). IsLast g (now (32 * x.queue)) (32 * x.dummy)) (sym (at_else order n f (32 * x.queue) apart))
     (subst (λ (part : Structures). IsLast (order (32 * x.queue)) part (32 * x.dummy)) (sym (l.pieces.beside (32 * x.queue) apart))
-    (o.last.dummies e x here (other_lent d m b words parts now e x l here differs lent))))
+    (o.last.dummies e x here kept (other_lent d m b words parts now e x l here kept differs lent))))
     (cases_eq e k.transfer.endpoint)
 
 -- ---- what is out
 
 pub out_stays : {d : DriverContent} {m : Mem} {b : ℕ} {words : List ℕ} {parts now : StructureSets} {member heads : ℕ → Bool} {order : ℕ → ℕ → ℕ} {out : ℕ → List ℕ} {hand : Hand} {acc : ℕ → List (List ℕ)} {reported : ℕ → List ℕ} → (o : IsOrdering d m b words parts now member heads order out hand acc reported)
     → out (32 * o.lending.ready.endpoint.queue) ≡ early d o.lending.ready.number o.lending.ready.transfer.endpoint
-out_stays {d = d} {m = m} {b = b} {words = words} o = let k = o.lending.ready in o.still_out k.transfer.endpoint k.endpoint k.here (is_met d m b words k.endpoint k) ∙ out_before d m b words k
+out_stays {d = d} {m = m} {b = b} {words = words} o = let k = o.lending.ready in o.still_out k.transfer.endpoint k.endpoint k.here (it_is_there d m b words o.lending.bulk k) ∙ out_before d m b words k
 
 pub all_out : {d : DriverContent} {m : Mem} {b : ℕ} {words : List ℕ} {parts now : StructureSets} {member heads : ℕ → Bool} {order : ℕ → ℕ → ℕ} {out : ℕ → List ℕ} {hand : Hand} {acc : ℕ → List (List ℕ)} {reported : ℕ → List ℕ} → (o : IsOrdering d m b words parts now member heads order out hand acc reported)
     → AreStillOut (lent_now d m) (out_lent o.lending.ready out)
@@ -164,8 +174,8 @@ all_out {d = d} {m = m} {b = b} {words = words} {parts = parts} {now = now} {out
     let is : x ≡ k.endpoint = same_Some x k.endpoint (sym here ∙ ap (slice_get d.endpoints) same ∙ k.here) in
     ap (λ (z : Endpoint). out_lent k out (32 * z.queue)) is ∙ at_here out n more ∙ ap (λ (es : List ℕ). es ++ new_out d (y_of k) k.further) (out_stays o) ∙ sym (out_after d m b words k) ∙ ap (out_now (lent_now d m)) (sym same))
     (λ (differs : e ≢ k.transfer.endpoint).
-    at_else out n more (32 * x.queue) (queue_apart d m b words parts now e x l here differs)
-    ∙ o.still_out e x here (is_met d m b words x k) ∙ out_other d m b words d.command d.made e k differs ∙ sym (out_other d m b words d.command 1 e k differs))
+    at_else out n more (32 * x.queue) (queue_apart d m b words parts now e x l here met.kept differs)
+    ∙ o.still_out e x here (is_there d m b words x k met.kept) ∙ out_other d m b words d.command d.made e k differs ∙ sym (out_other d m b words d.command 1 e k differs))
     (cases_eq e k.transfer.endpoint)
 
 -- the first of the transfer has its place among them
@@ -197,32 +207,31 @@ first_sorted {d = d} {m = m} {b = b} {words = words} {parts = parts} {now = now}
     (omega (arith, number, less, mine), all_after f d.notes k.further (second d (y_of k)) from e are (omega (arith, number, less))))
 
 pub all_sorted_out : {d : DriverContent} {m : Mem} {b : ℕ} {words : List ℕ} {parts now : StructureSets} {member heads : ℕ → Bool} {order : ℕ → ℕ → ℕ} {out : ℕ → List ℕ} {hand : Hand} {acc : ℕ → List (List ℕ)} {reported : ℕ → List ℕ} → (o : IsOrdering d m b words parts now member heads order out hand acc reported) (least : ℕ)
-    → (e : ℕ) (x : Endpoint) → slice_get d.endpoints e ≡ Some x → IsSorted (order_lent o.lending.ready (from_here o least) order (32 * x.queue)) (out_all (lent_now d m) e)
-all_sorted_out {d = d} {m = m} {b = b} {words = words} {parts = parts} {now = now} {order = order} {out = out} o least e x here =
+    → (e : ℕ) (x : Endpoint) → slice_get d.endpoints e ≡ Some x → e ≡ o.lending.ready.transfer.endpoint → IsSorted (order_lent o.lending.ready (from_here o least) order (32 * x.queue)) (out_all (lent_now d m) e)
+all_sorted_out {d = d} {m = m} {b = b} {words = words} {parts = parts} {now = now} {order = order} {out = out} o least e x here same =
     let l = o.lending in
     let k = l.ready in
     let n = 32 * k.endpoint.queue in
     let from = from_here o least in
     let f = queue_order k from order in
-    ⊎_elim
-    (λ (same : e ≡ k.transfer.endpoint).
     let is : x ≡ k.endpoint = same_Some x k.endpoint (sym here ∙ ap (slice_get d.endpoints) same ∙ k.here) in
     let list : out_all (lent_now d m) e ≡ out n ++ (32 * k.transfer.first ∷ new_out d (y_of k) k.further) =
     ap (out_all (lent_now d m)) same ∙ out_then d m b words k ∙ ap (λ (es : List ℕ). es ++ (32 * k.transfer.first ∷ new_out d (y_of k) k.further)) (sym (out_stays o)) in
     subst (λ (z : Endpoint). IsSorted (order_lent k from order (32 * z.queue)) (out_all (lent_now d m) e)) (sym is)
-    (subst (λ (g : ℕ → ℕ). IsSorted g (out_all (lent_now d m) e)) (sym (at_here order n f)) (subst (IsSorted f) (sym list) (first_sorted o least))))
-    (λ (differs : e ≢ k.transfer.endpoint).
-    let apart = queue_apart d m b words parts now e x l here differs in
-    let met = is_met d m b words x k in
-    let list : out_all (lent_now d m) e ≡ out (32 * x.queue) = out_other d m b words None 0 e k differs ∙ sym (o.still_out e x here met ∙ out_other d m b words d.command d.made e k differs) in
-    subst (λ (g : ℕ → ℕ). IsSorted g (out_all (lent_now d m) e)) (sym (at_else order n f (32 * x.queue) apart))
-    (subst (IsSorted (order (32 * x.queue))) (sym list) (o.reports (32 * x.queue) (o.counted e x here met)).accounts.sorted))
-    (cases_eq e k.transfer.endpoint)
+    (subst (λ (g : ℕ → ℕ). IsSorted g (out_all (lent_now d m) e)) (sym (at_here order n f)) (subst (IsSorted f) (sym list) (first_sorted o least)))
+
+-- the newest transfer is this one
+its_own : {d : DriverContent} {m : Mem} {b : ℕ} {words : List ℕ} {parts now : StructureSets} {member heads : ℕ → Bool} {order : ℕ → ℕ → ℕ} {out : ℕ → List ℕ} {hand : Hand} {acc : ℕ → List (List ℕ)} {reported : ℕ → List ℕ} → (o : IsOrdering d m b words parts now member heads order out hand acc reported)
+    (t : ℕ) (y : Transfer) → suc t ≡ length d.transfers → slice_get d.transfers t ≡ Some y → y.endpoint ≡ o.lending.ready.transfer.endpoint
+its_own {d = d} o t y newest there =
+    let k = o.lending.ready in
+    let same : t ≡ k.number = let last = k.newest in omega (arith, newest, last) in
+    ap (λ (z : Transfer). z.endpoint) (same_Some y k.transfer (sym there ∙ ap (slice_get d.transfers) same ∙ k.there))
 
 pub all_last : {d : DriverContent} {m : Mem} {b : ℕ} {words : List ℕ} {parts now : StructureSets} {member heads : ℕ → Bool} {order : ℕ → ℕ → ℕ} {out : ℕ → List ℕ} {hand : Hand} {acc : ℕ → List (List ℕ)} {reported : ℕ → List ℕ} → (o : IsOrdering d m b words parts now member heads order out hand acc reported) (least : ℕ)
     → AreLast (lent_now d m) now (order_lent o.lending.ready (from_here o least) order)
 all_last o least = record {
   dummies = dummies_last o least;
   taken = λ c ws t y x command made newest there first here. absurd (omega (arith, made));
-  sorted = λ c ws t y x command made newest there first here. all_sorted_out o least y.endpoint x here;
+  sorted = λ c ws t y x command made newest there first here. all_sorted_out o least y.endpoint x here (its_own o t y newest there);
 }

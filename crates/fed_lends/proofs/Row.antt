@@ -1,5 +1,5 @@
 -- The row that lends a transfer.
-use Rattle.std.proofs.Common.{◌≡◌, ◌≢◌, ℕ, suc, ◌*◌, ◌⊎◌, ⊎_elim, inl, inr, Bool, true, false, List, ◌∷◌, length, nat_lt, if◌then◌else◌, Option, ap, sym, subst, ◌∙◌, arith}
+use Rattle.std.proofs.Common.{◌≡◌, ◌≢◌, ℕ, suc, ◌*◌, ◌⊎◌, ⊎_elim, inl, inr, Bool, true, false, List, ◌∷◌, length, nat_lt, if◌then◌else◌, Option, ap, sym, subst, ◌∙◌, arith, refl}
 use Rattle.std.specs.List.{AllByRecursion}
 use Rattle.std.proofs.lemmas.Bool.{cases_Bool}
 use Rattle.word_mem.specs.Memory.{Mem}
@@ -16,7 +16,7 @@ use Rattle.driver_rows.specs.Rows.{Parts as DriverParts, events_of, links, finis
 use Rattle.ring_lends.specs.Together.{put_all}
 use Rattle.ring_pipes.specs.Bus.{Sender}
 use Rattle.driver_parts.specs.Driven.{DrivesRing}
-use Rattle.chained_transfers.specs.Bulk.{receives}
+use Rattle.chained_transfers.specs.Bulk.{receives, OnlyBulk}
 use Rattle.chained_transfers.proofs.Ways.{IsBy, its_pid, all_of_all, receives_pid, sends_pid}
 use Rattle.fed_queues.specs.Places.{HasHead, AreMet, HaveStreams}
 use Rattle.ring_streams.specs.Told.{Endpoint as Told}
@@ -27,7 +27,8 @@ use Rattle.fed_lends.specs.Laws.{GoesOnLent, LendRowGoesOn}
 use Rattle.fed_lends.proofs.Piping.{lend_leaves_pipes}
 use Rattle.fed_lends.proofs.Names.{names_lent}
 use Rattle.fed_lends.proofs.Fed.{y_of, x_of, IsLending, queues_fed}
-use Rattle.fed_lends.proofs.Reports.{IsOrdering, is_met, from_here, order_lent, out_lent, all_reported, all_out, all_last}
+use Rattle.fed_lends.proofs.Reports.{IsOrdering, it_is_met, from_here, order_lent, out_lent, all_reported, all_out, all_last}
+use Rattle.fed_queues.proofs.Places.{SameQueues, same_ends, met_stays, streams_stay}
 
 -- ---- which row it is
 
@@ -51,27 +52,23 @@ after_is p b words k =
 
 -- ---- who is met
 
+lent_queues : (d : DriverContent) (m : Mem) → SameQueues d (lent_now d m)
+lent_queues d m = same_ends d (lent_now d m) (record { waiting = refl; rung = refl; opens = λ c is. is }) (record { waiting = refl; rung = refl; opens = λ c is. is }) refl
+
 pub met_on : (d : DriverContent) (m : Mem) (member : ℕ → Bool) → AreMet d member → AreMet (lent_now d m) member
-met_on d m member met = record {
-  head = met.head;
-  each = λ e x here on. met.each e x here on;
-  only = λ n on. ⊎_elim (λ (head : n ≡ 32 * head_block). inl head) (λ (h : HasHead d n). inr (record { number = h.number; endpoint = h.endpoint; here = h.here; met = h.met; at = h.at })) (met.only n on);
-}
+met_on d m member met = met_stays d (lent_now d m) member (lent_queues d m) met
 
 pub streams_on : (d : DriverContent) (m : Mem) (streams : ℕ → Bool) (ends : ℕ → Told) → HaveStreams d streams ends → HaveStreams (lent_now d m) streams ends
-streams_on d m streams ends have = record {
-  each = λ e x here on. have.each e x here on;
-  only = λ n on. let h = have.only n on in record { number = h.number; endpoint = h.endpoint; here = h.here; met = h.met; at = h.at };
-}
+streams_on d m streams ends have = streams_stay d (lent_now d m) streams ends (lent_queues d m) have
 
 -- ---- what the qTDs ask for
 
 -- INs where the queue head has a stream, and else none is one
-pub its_asks : {d : DriverContent} {m : Mem} {b : ℕ} {words : List ℕ} {streams : ℕ → Bool} {ends : ℕ → Told} → (k : IsToBeLent d m b words) → HaveStreams d streams ends
+pub its_asks : {d : DriverContent} {m : Mem} {b : ℕ} {words : List ℕ} {streams : ℕ → Bool} {ends : ℕ → Told} → OnlyBulk d → (k : IsToBeLent d m b words) → HaveStreams d streams ends
     → ((streams (32 * k.endpoint.queue) ≡ true) × AllByRecursion (λ r. r.pid ≡ 1) (k.stage ∷ k.further)) ⊎ ((streams (32 * k.endpoint.queue) ≡ false) × AllByRecursion (λ r. r.pid ≢ 1) (k.stage ∷ k.further))
-its_asks {d = d} {m = m} {b = b} {words = words} k have =
+its_asks {d = d} {m = m} {b = b} {words = words} bulk k have =
     let way = k.endpoint.desc.name.way in
-    let stream = (have.each k.transfer.endpoint k.endpoint k.here (is_met d m b words k.endpoint k)).0 in
+    let stream = (have.each k.transfer.endpoint k.endpoint k.here (it_is_met d m b words bulk k)).0 in
     let ss = k.stage ∷ k.further in
     ⊎_elim (λ (on : receives way ≡ true). inl (stream ∙ on, all_of_all (IsBy way) (λ (r : Stage). r.pid ≡ 1) ss (λ r is. its_pid way r is ∙ receives_pid way on) k.stages))
     (λ (off : receives way ≡ false).
@@ -90,7 +87,7 @@ lend_row_goes_on sender base stream packets member streams heads ends acc report
     let now = put_all parts n (items_of d m y x k.stage k.further) in
     let both = lend_drives base member parts hand w p.registers m d k.number y x k.stage k.further k.awaits has stands drives (names_lent d m b words parts n k fed drives.driven blank) in
     let l : IsLending d m b words parts now = record { ready = k; has = has; stands = stands; shape = drives.ring.tells.shape; bulk = bulk; fed = fed; pieces = both.1 } in
-    let on = met.each k.transfer.endpoint k.endpoint k.here (is_met d m b words k.endpoint k) in
+    let on = met.each k.transfer.endpoint k.endpoint k.here (it_is_met d m b words bulk k) in
     let o : IsOrdering d m b words parts now member heads order out hand acc reported = record {
       lending = l;
       turns = turns;
@@ -106,7 +103,7 @@ lend_row_goes_on sender base stream packets member streams heads ends acc report
       order = order_lent k (from_here o 0) order;
       out = out_lent k out;
       drives = subst (DrivesRing base member now hand (place w p.registers (lent_memory d m))) (advance_is d m b words k) both.0;
-      piped = lend_leaves_pipes sender d m k.number y x k.stage k.further (slot_of (lent_driver d m).book.slots) parts now stream packets member streams ends acc hand wire k.awaits both.1 (its_asks k have) piped;
+      piped = lend_leaves_pipes sender d m k.number y x k.stage k.further (slot_of (lent_driver d m).book.slots) parts now stream packets member streams ends acc hand wire k.awaits both.1 (its_asks bulk k have) piped;
       reports = all_reported o 0;
       fed = queues_fed d m b words parts now l;
       last = all_last o 0;

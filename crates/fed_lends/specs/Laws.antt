@@ -19,7 +19,7 @@ use Rattle.driver_parts.specs.Driven.{DrivesRing}
 use Rattle.chained_transfers.specs.Bulk.{OnlyBulk}
 use Rattle.chained_transfers.specs.Turns.{AreInTurn}
 use Rattle.fed_queues.specs.Fed.{AreFed}
-use Rattle.fed_queues.specs.Places.{IsMet, AreMet, HaveStreams, AreLast, AreStillOut}
+use Rattle.fed_queues.specs.Places.{AreMet, HaveStreams, AreLast, AreStillOut, IsThere}
 use Rattle.fed_lends.specs.ToLend.{IsToBeLent, AreBlank}
 
 pub record GoesOnLent {W : Type 0} (sender : W → ℕ → ℕ → Option Sender) (base : Base) (stream : ℕ → ℕ → Bool) (packets : ℕ → ℕ → List (List ℕ)) (member streams heads : ℕ → Bool) (ends : ℕ → Endpoint)
@@ -44,5 +44,5 @@ LendRowGoesOn {W} sender = (base : Base) (stream : ℕ → ℕ → Bool) (packet
     → DrivesRing base member parts hand (place w p.registers p.memory) p.driver → ArePiped stream packets sender member streams ends acc parts hand wire
     → AreReported heads order out hand parts acc reported → AreFed p.driver parts → AreLast p.driver parts order → AreStillOut p.driver out
     → AreMet p.driver member → HaveStreams p.driver streams ends
-    → ((e : ℕ) (x : EndpointOf) → slice_get p.driver.endpoints e ≡ Some x → IsMet p.driver x → heads (32 * x.queue) ≡ true)
+    → ((e : ℕ) (x : EndpointOf) → slice_get p.driver.endpoints e ≡ Some x → IsThere p.driver x → heads (32 * x.queue) ≡ true)
     → GoesOnLent sender base stream packets member streams heads ends acc reported hand wire w (after_driver_row (driver_row p) p)

@@ -3,7 +3,7 @@
 --     IsToBeLent d m b words the newest transfer is such a one, whose first qTD is to stand in block b with these words, and all else of it is written
 --     AreBlank d             a qTD that asks for no bytes was noted without a buffer
 --     lent_now d m           the content once it is lent
-use Rattle.std.specs.Prelude.{◌≡◌, ℕ, suc, false, List, ◌∷◌, length, slice_get, slice_index, Some}
+use Rattle.std.specs.Prelude.{◌≡◌, ℕ, suc, false, List, ◌∷◌, length, slice_get, slice_index, Some, None}
 use Rattle.std.specs.List.{AllByRecursion}
 use Rattle.usb_base.specs.declared.packets.Way.{Way}
 use Rattle.word_mem.specs.Memory.{Mem}
@@ -35,6 +35,7 @@ pub record IsToBeLent (d : DriverContent) (m : Mem) (b : ℕ) (words : List ℕ)
   pub newest : suc number ≡ length d.transfers
   pub there : slice_get d.transfers number ≡ Some transfer
   pub here : slice_get d.endpoints transfer.endpoint ≡ Some endpoint
+  pub going : endpoint.ended ≡ None
   pub first : transfer.first ≡ b
   pub place : transfer.place ≡ transfer.first
   pub left : transfer.left ≡ transfer.qtds

@@ -6,7 +6,7 @@
 --     unpublished_of d t y           how many of the first qTDs of transfer t aren't published
 --     IsPublished d parts b words    the qTD in block b is being published with these words: so many of them are stored
 --     AreFed d parts                 each published piece is fed, and so is the end of each queue
-use Rattle.std.specs.Prelude.{◌≡◌, ℕ, suc, ◌+◌, ◌-◌, ◌*◌, ◌%◌, ◌/◌, ◌<◌, ◌≤◌, true, false, nat_eq, List, slice_get, slice_index, length, Some, if◌then◌else◌}
+use Rattle.std.specs.Prelude.{◌≡◌, ℕ, suc, ◌+◌, ◌-◌, ◌*◌, ◌%◌, ◌/◌, ◌<◌, ◌≤◌, true, false, nat_eq, List, slice_get, slice_index, length, Some, None, if◌then◌else◌}
 use Rattle.link_words.specs.declared.fields.ShortLink.{ShortLink}
 use Rattle.link_words.specs.Links.{no_qtd}
 use Rattle.qh_qtd.specs.declared.qtd.Qtd.{Qtd}
@@ -74,6 +74,7 @@ pub record IsPublished (d : DriverContent) (parts : StructureSets) (b : ℕ) (wo
   pub fresh : (transfer.reported ≡ false) × (transfer.released ≡ false)
   pub place : (transfer.first ≡ b) × (transfer.place ≡ b) × (transfer.left ≡ transfer.qtds)
   pub here : slice_get d.endpoints transfer.endpoint ≡ Some endpoint
+  pub going : endpoint.ended ≡ None
   pub qtd : Qtd
   pub are : words ≡ qtd_words qtd
   pub range : IsQtdInRange qtd
@@ -90,7 +91,7 @@ pub record IsPublished (d : DriverContent) (parts : StructureSets) (b : ℕ) (wo
 -- ---- all of them
 
 pub record AreFed (d : DriverContent) (parts : StructureSets) : Type 0 where
-  pub dummies : (e : ℕ) (x : Endpoint) → slice_get d.endpoints e ≡ Some x → IsLent (slot_of d.book.slots x.dummy) → parts (32 * x.queue) (32 * x.dummy) ≡ Some (Element dummy_qtd)
+  pub dummies : (e : ℕ) (x : Endpoint) → slice_get d.endpoints e ≡ Some x → x.gone ≡ false → IsLent (slot_of d.book.slots x.dummy) → parts (32 * x.queue) (32 * x.dummy) ≡ Some (Element dummy_qtd)
   pub pieces : (t i : ℕ) (y : Transfer) (x : Endpoint) → slice_get d.transfers t ≡ Some y → y.released ≡ false → slice_get d.endpoints y.endpoint ≡ Some x
       → unpublished_of d t y ≤ i → i < y.qtds
       → IsPieceFed y.sort (parts (32 * x.queue)) (note_at d.notes (piece_at (note_in d.notes) y.first i)) (piece_at (note_in d.notes) y.first i) (piece_at (note_in d.notes) y.first y.qtds)

@@ -22,14 +22,14 @@ use Rattle.chained_transfers.specs.Bulk.{IsStanding}
 -- ---- whose the blocks are
 
 -- an endpoint of the ring has a queue
-pub bare_not : (x : Endpoint) → IsStanding x → (runs_of_endpoint x).bare ≡ false
-bare_not x k = ap (λ (z : EpKind). is_iso z || x.gone) k.bulk.kind ∙ k.gone
+pub bare_not : (x : Endpoint) → IsStanding x → x.gone ≡ false → (runs_of_endpoint x).bare ≡ false
+bare_not x k kept = ap (λ (z : EpKind). is_iso z || x.gone) k.bulk.kind ∙ kept
 
-pub dummy_placed : (d : DriverContent) (h : HasOwners d) (e : ℕ) (x : Endpoint) → slice_get d.endpoints e ≡ Some x → IsStanding x → IsPlaced (slot_of d.book.slots) h.owner x.dummy (Dummy e)
-dummy_placed d h e x here stands = h.owned.each.dummy e (runs_of_endpoint x) (ap (option_map runs_of_endpoint) here) (bare_not x stands)
+pub dummy_placed : (d : DriverContent) (h : HasOwners d) (e : ℕ) (x : Endpoint) → slice_get d.endpoints e ≡ Some x → IsStanding x → x.gone ≡ false → IsPlaced (slot_of d.book.slots) h.owner x.dummy (Dummy e)
+dummy_placed d h e x here stands kept = h.owned.each.dummy e (runs_of_endpoint x) (ap (option_map runs_of_endpoint) here) (bare_not x stands kept)
 
-pub queue_placed : (d : DriverContent) (h : HasOwners d) (e : ℕ) (x : Endpoint) → slice_get d.endpoints e ≡ Some x → IsStanding x → IsPlaced (slot_of d.book.slots) h.owner x.queue (QueueHead e)
-queue_placed d h e x here stands = h.owned.each.queue e (runs_of_endpoint x) (ap (option_map runs_of_endpoint) here) (bare_not x stands)
+pub queue_placed : (d : DriverContent) (h : HasOwners d) (e : ℕ) (x : Endpoint) → slice_get d.endpoints e ≡ Some x → IsStanding x → x.gone ≡ false → IsPlaced (slot_of d.book.slots) h.owner x.queue (QueueHead e)
+queue_placed d h e x here stands kept = h.owned.each.queue e (runs_of_endpoint x) (ap (option_map runs_of_endpoint) here) (bare_not x stands kept)
 
 pieces_placed : (slot : ℕ → Slot) (owner : ℕ → Owner) (note : ℕ → NoteRuns) (t b n i : ℕ) → i < n → ArePieces slot owner note t b n → IsPlaced slot owner (piece_at note b i) (Element t)
 pieces_placed slot owner note t b zero i below k = absurd (omega (arith, below))

@@ -70,7 +70,7 @@ pub record IsHere (d : DriverContent) (parts : StructureSets) (b : ℕ) (words :
   pub below : i < 8
   pub at : parts (32 * k.endpoint.queue) (32 * b) ≡ Some (Element (partly k.qtd i))
   -- the ends of queues and all other pieces stand elsewhere
-  pub dummies : (e : ℕ) (x : Endpoint) → slice_get d.endpoints e ≡ Some x → x.dummy ≢ b
+  pub dummies : (e : ℕ) (x : Endpoint) → slice_get d.endpoints e ≡ Some x → x.gone ≡ false → x.dummy ≢ b
   pub pieces : (t j : ℕ) (y : Transfer) → slice_get d.transfers t ≡ Some y → y.released ≡ false → j < y.qtds → (t ≡ k.number → 1 ≤ j) → piece_at (note_in d.notes) y.first j ≢ b
 
 module _ (d : DriverContent) (parts : StructureSets) (b : ℕ) (words : List ℕ) (k : IsPublished d parts b words) (i : ℕ) (h : IsHere d parts b words k i) (fed : AreFed d parts) where
@@ -83,10 +83,10 @@ module _ (d : DriverContent) (parts : StructureSets) (b : ℕ) (words : List ℕ
   thirty_two : (x y : ℕ) → x ≢ y → 32 * x ≡ 32 * y → ⊥
   thirty_two x y differs same = differs (omega (arith, same))
 
-  dummies_then : (e : ℕ) (x : Endpoint) → slice_get d.endpoints e ≡ Some x → IsLent (slot_of d.book.slots x.dummy) → then_parts (32 * x.queue) (32 * x.dummy) ≡ Some (Element dummy_qtd)
-  dummies_then e x here lent =
+  dummies_then : (e : ℕ) (x : Endpoint) → slice_get d.endpoints e ≡ Some x → x.gone ≡ false → IsLent (slot_of d.book.slots x.dummy) → then_parts (32 * x.queue) (32 * x.dummy) ≡ Some (Element dummy_qtd)
+  dummies_then e x here kept lent =
       other_stays parts n (32 * b) (partly k.qtd i) (partly k.qtd (suc i)) h.at (32 * x.queue) (32 * x.dummy) (Element dummy_qtd)
-      (λ name owner. thirty_two x.dummy b (h.dummies e x here) name) (fed.dummies e x here lent)
+      (λ name owner. thirty_two x.dummy b (h.dummies e x here kept) name) (fed.dummies e x here kept lent)
 
   -- how many of a transfer's aren't published
   count_now : (t : ℕ) (y : Transfer) → unpublished_of d t y ≡ one_if (nat_eq (suc t) (length d.transfers))
@@ -130,6 +130,7 @@ module _ (d : DriverContent) (parts : StructureSets) (b : ℕ) (words : List ℕ
     fresh = k.fresh;
     place = k.place;
     here = k.here;
+    going = k.going;
     qtd = k.qtd;
     are = k.are;
     range = k.range;

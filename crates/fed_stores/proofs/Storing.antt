@@ -33,16 +33,18 @@ use Rattle.driver_publishes.proofs.Rows.{counted, after_is, store_made}
 use Rattle.published_streams.specs.Storing.{LeadsLater, IsStore, with_out, stored_parts}
 use Rattle.published_streams.proofs.Storing.{element_found}
 use Rattle.published_streams.proofs.Streams.{idle_reports, last_reports, store_pipes, out_here, out_beside}
-use Rattle.chained_transfers.specs.Bulk.{receives, pid_by}
+use Rattle.chained_transfers.specs.Bulk.{receives, pid_by, IsStanding}
 use Rattle.chained_transfers.specs.Chains.{piece_at}
 use Rattle.chained_transfers.specs.Out.{out_of, out_now}
 use Rattle.fed_queues.specs.Fed.{IsPublished}
-use Rattle.fed_queues.specs.Places.{IsMet, HasHead, AreMet, HaveStreams, IsLast, AreLast, AreStillOut}
+use Rattle.fed_queues.specs.Places.{IsMet, AreMet, HaveStreams, IsLast, AreLast, AreStillOut, IsThere}
 use Rattle.fed_stores.specs.Stores.{IsAtStore, published_by, parts_then, out_then, QueuesThen, next_of, StorePublishes, StorePipes, StoreReports, StoreStands}
 use Rattle.fed_stores.proofs.Outs.{IsNewest, IsSplit, split_out, other_out, same_out}
 use Rattle.fed_stores.proofs.Apart.{dummy_placed, queue_placed, piece_placed, dummy_apart, pieces_apart, queues_same, thirty_two, all_lent}
 use Rattle.fed_stores.proofs.Linked.{partly_later, sorted_after, end_is, piece_later, leads_later}
 use Rattle.fed_stores.proofs.Feeding.{IsHere, more, done, fed_more, fed_done}
+use Rattle.fed_queues.proofs.Places.{SameQueues, same_ends, going_met, met_stays, streams_stay}
+use Rattle.chained_transfers.proofs.Staying.{alive}
 
 -- an IN where the queue head has a stream, else none
 asks_by : (on : Bool) (pid : ℕ) (way : Way) → on ≡ receives way → pid ≡ pid_by way → ((on ≡ true) × (pid ≡ 1)) ⊎ ((on ≡ false) × (pid ≢ 1))
@@ -105,11 +107,11 @@ module _ (p : DriverParts) (member streams : ℕ → Bool) (ends : ℕ → Told)
   element : IsPlaced (slot_of d.book.slots) k.sound.owners.owner b (PieceOf g.number)
   element = subst (λ (c : ℕ). IsPlaced (slot_of d.book.slots) k.sound.owners.owner c (PieceOf g.number)) g.place.0 (piece_placed d k.sound.owners g.number 0 y g.there g.fresh.1 some)
 
-  dummy_is : (e : ℕ) (x : Endpoint) → slice_get d.endpoints e ≡ Some x → IsPlaced (slot_of d.book.slots) k.sound.owners.owner x.dummy (Dummy e)
-  dummy_is e x here = dummy_placed d k.sound.owners e x here (k.turns.bulk.endpoints e x here)
+  dummy_is : (e : ℕ) (x : Endpoint) → slice_get d.endpoints e ≡ Some x → x.gone ≡ false → IsPlaced (slot_of d.book.slots) k.sound.owners.owner x.dummy (Dummy e)
+  dummy_is e x here kept = dummy_placed d k.sound.owners e x here (k.turns.bulk.endpoints e x here) kept
 
-  dummies_apart : (e : ℕ) (x : Endpoint) → slice_get d.endpoints e ≡ Some x → x.dummy ≢ b
-  dummies_apart e x here = dummy_apart x.dummy b e g.number (dummy_is e x here) element
+  dummies_apart : (e : ℕ) (x : Endpoint) → slice_get d.endpoints e ≡ Some x → x.gone ≡ false → x.dummy ≢ b
+  dummies_apart e x here kept = dummy_apart x.dummy b e g.number (dummy_is e x here kept) element
 
   never_later : (c : ℕ) → order n (32 * b) < order n (32 * c) → c ≢ b
   never_later c later same = let e = ap (λ (x : ℕ). order n (32 * x)) same in omega (arith, later, e)
@@ -127,15 +129,22 @@ module _ (p : DriverParts) (member streams : ℕ → Bool) (ends : ℕ → Told)
   here : IsHere d parts b words g i
   here = record { command = k.command; made = made_is; below = below; at = g.stored; dummies = dummies_apart; pieces = others_apart }
 
+  -- its endpoint goes on, so the walk meets it
+  standing : IsStanding g.endpoint
+  standing = k.turns.bulk.endpoints y.endpoint g.endpoint g.here
+
+  its_alive : g.endpoint.gone ≡ false
+  its_alive = alive g.endpoint standing g.going
+
   -- ---- its links
 
   lent_dummy : IsLent (slot_of d.book.slots g.endpoint.dummy)
-  lent_dummy = all_lent d b words i g.endpoint.dummy k.command made_is below k.lent (dummy_is y.endpoint g.endpoint g.here).run
+  lent_dummy = all_lent d b words i g.endpoint.dummy k.command made_is below k.lent (dummy_is y.endpoint g.endpoint g.here its_alive).run
 
   before_dummy : order n (32 * b) < order n (32 * g.endpoint.dummy)
   before_dummy =
-      k.last.dummies y.endpoint g.endpoint g.here lent_dummy (32 * b) (partly g.qtd i) g.stored
-      (λ same. dummies_apart y.endpoint g.endpoint g.here (sym (thirty_two b g.endpoint.dummy same)))
+      k.last.dummies y.endpoint g.endpoint g.here its_alive lent_dummy (32 * b) (partly g.qtd i) g.stored
+      (λ same. dummies_apart y.endpoint g.endpoint g.here its_alive (sym (thirty_two b g.endpoint.dummy same)))
 
   ends_at : piece_at note b (suc q) ≡ g.endpoint.dummy
   ends_at =
@@ -157,27 +166,26 @@ module _ (p : DriverParts) (member streams : ℕ → Bool) (ends : ℕ → Told)
   none_not_open : (c : ℕ) → ◌≡◌ {A = Option Command} None (Some (unfinished.Open c)) → ⊥
   none_not_open c same = cc
 
-  met_now : (x : Endpoint) → IsMet d x
-  met_now x same = publish_not_open x.queue (sym k.command ∙ same)
+  never_opens : (c : ℕ) → d.command ≡ Some (unfinished.Open c) → ⊥
+  never_opens c same = publish_not_open c (sym k.command ∙ same)
 
-  head_then : (new : DriverContent) → new.endpoints ≡ d.endpoints → ((x : Endpoint) → IsMet new x) → (m : ℕ) → HasHead d m → HasHead new m
-  head_then new same met m h = record { number = h.number; endpoint = h.endpoint; here = ap (λ (xs : List Endpoint). slice_get xs h.number) same ∙ h.here; met = met h.endpoint; at = h.at }
+  met_now : IsMet d y.endpoint g.endpoint
+  met_now = going_met d y.endpoint g.endpoint standing g.going (never_opens g.endpoint.queue)
 
-  met_then : (new : DriverContent) → new.endpoints ≡ d.endpoints → ((x : Endpoint) → IsMet new x) → AreMet new member
-  met_then new same met = record {
-    head = k.met.head;
-    each = λ e x there is. k.met.each e x (ap (λ (xs : List Endpoint). slice_get xs e) (sym same) ∙ there) (met_now x);
-    only = λ m on. ⊎_elim (λ (head : m ≡ 32 * head_block). inl head) (λ (h : HasHead d m). inr (head_then new same met m h)) (k.met.only m on);
-  }
+  there_now : (x : Endpoint) → x.gone ≡ false → IsThere d x
+  there_now x kept = record { linked = never_opens x.queue; kept = kept }
 
-  streams_then : (new : DriverContent) → new.endpoints ≡ d.endpoints → ((x : Endpoint) → IsMet new x) → HaveStreams new streams ends
-  streams_then new same met = record {
-    each = λ e x there is. k.streams_are.each e x (ap (λ (xs : List Endpoint). slice_get xs e) (sym same) ∙ there) (met_now x);
-    only = λ m on. head_then new same met m (k.streams_are.only m on);
-  }
+  queues_more : SameQueues d (more d parts b words g i here k.fed)
+  queues_more =
+      same_ends d (more d parts b words g i here k.fed) (record { waiting = refl; rung = refl; opens = λ c is. is }) (record { waiting = refl; rung = refl; opens = λ c is. is }) refl
+
+  queues_done : SameQueues d (done d parts b words g i here k.fed)
+  queues_done =
+      same_ends d (done d parts b words g i here k.fed) (record { waiting = refl; rung = refl; opens = λ c is. absurd (none_not_open c is) })
+      (record { waiting = refl; rung = refl; opens = λ c is. absurd (never_opens c is) }) refl
 
   streamed : streams n ≡ receives g.endpoint.desc.name.way
-  streamed = (k.streams_are.each y.endpoint g.endpoint g.here (met_now g.endpoint)).0
+  streamed = (k.streams_are.each y.endpoint g.endpoint g.here met_now).0
 
   -- ---- the order
 
@@ -192,7 +200,7 @@ module _ (p : DriverParts) (member streams : ℕ → Bool) (ends : ℕ → Told)
 
   last_more : AreLast (more d parts b words g i here k.fed) now order
   last_more = record {
-    dummies = λ e x there lent. is_last (32 * x.queue) (32 * x.dummy) (k.last.dummies e x there lent);
+    dummies = λ e x there kept lent. is_last (32 * x.queue) (32 * x.dummy) (k.last.dummies e x there kept lent);
     taken = λ c ws t z x command made newest there first own. absurd (none_made made);
     sorted = λ c ws t z x command made newest there first own. k.last.sorted c ws t z x command k.made newest there first own;
   }
@@ -202,7 +210,7 @@ module _ (p : DriverParts) (member streams : ℕ → Bool) (ends : ℕ → Told)
 
   last_done : AreLast (done d parts b words g i here k.fed) now order
   last_done = record {
-    dummies = λ e x there lent. is_last (32 * x.queue) (32 * x.dummy) (k.last.dummies e x there lent);
+    dummies = λ e x there kept lent. is_last (32 * x.queue) (32 * x.dummy) (k.last.dummies e x there kept lent);
     taken = λ c ws t z x command made newest there first own. absurd (no_command command);
     sorted = λ c ws t z x command made newest there first own. absurd (no_command command);
   }
@@ -218,10 +226,10 @@ module _ (p : DriverParts) (member streams : ℕ → Bool) (ends : ℕ → Told)
   out_done : (e : ℕ) → y.endpoint ≢ e → out_now (done d parts b words g i here k.fed) e ≡ out_now d e
   out_done e differs = sym (other_out note e b words d.transfers g.number i y g.newest g.there differs) ∙ sym (out_is e)
 
-  same_queue : (e : ℕ) (x : Endpoint) → slice_get d.endpoints e ≡ Some x → 32 * x.queue ≡ n → e ≡ y.endpoint
-  same_queue e x there same =
+  same_queue : (e : ℕ) (x : Endpoint) → slice_get d.endpoints e ≡ Some x → x.gone ≡ false → 32 * x.queue ≡ n → e ≡ y.endpoint
+  same_queue e x there kept same =
       queues_same x.queue g.endpoint.queue e y.endpoint (thirty_two x.queue g.endpoint.queue same)
-      (queue_placed d k.sound.owners e x there (k.turns.bulk.endpoints e x there)) (queue_placed d k.sound.owners y.endpoint g.endpoint g.here (k.turns.bulk.endpoints y.endpoint g.endpoint g.here))
+      (queue_placed d k.sound.owners e x there (k.turns.bulk.endpoints e x there) kept) (queue_placed d k.sound.owners y.endpoint g.endpoint g.here standing its_alive)
 
   other_end : (e : ℕ) (x : Endpoint) → slice_get d.endpoints e ≡ Some x → 32 * x.queue ≢ n → y.endpoint ≢ e
   other_end e x there differs same = differs (ap (λ (z : Endpoint). 32 * z.queue) (same_Some x g.endpoint (sym there ∙ ap (slice_get d.endpoints) (sym same) ∙ g.here)))
@@ -230,9 +238,9 @@ module _ (p : DriverParts) (member streams : ℕ → Bool) (ends : ℕ → Told)
   still_out new ends_same beside e x there met =
       let was : slice_get d.endpoints e ≡ Some x = ap (λ (xs : List Endpoint). slice_get xs e) (sym ends_same) ∙ there in
       ⊎_elim (λ (same : 32 * x.queue ≡ n).
-      ap (with_out out n (out_now new y.endpoint)) same ∙ out_here out n (out_now new y.endpoint) ∙ ap (out_now new) (sym (same_queue e x was same)))
+      ap (with_out out n (out_now new y.endpoint)) same ∙ out_here out n (out_now new y.endpoint) ∙ ap (out_now new) (sym (same_queue e x was met.kept same)))
       (λ (differs : 32 * x.queue ≢ n).
-      out_beside out n (out_now new y.endpoint) (32 * x.queue) differs ∙ k.out_are e x was (met_now x) ∙ sym (beside e (other_end e x was differs))) (cases_eq (32 * x.queue) n)
+      out_beside out n (out_now new y.endpoint) (32 * x.queue) differs ∙ k.out_are e x was (there_now x met.kept) ∙ sym (beside e (other_end e x was differs))) (cases_eq (32 * x.queue) n)
 
   -- ---- the driver's content after it
 
@@ -260,8 +268,8 @@ module _ (p : DriverParts) (member streams : ℕ → Bool) (ends : ℕ → Told)
 
   stands_more : suc i < 8 → QueuesThen (more d parts b words g i here k.fed) member streams ends now order (with_out out n (out_now (more d parts b words g i here k.fed) y.endpoint))
   stands_more low = record {
-    met = met_then (more d parts b words g i here k.fed) refl met_now;
-    streams_are = streams_then (more d parts b words g i here k.fed) refl met_now;
+    met = met_stays d (more d parts b words g i here k.fed) member queues_more k.met;
+    streams_are = streams_stay d (more d parts b words g i here k.fed) streams ends queues_more k.streams_are;
     fed = fed_more d parts b words g i here k.fed low;
     last = last_more;
     out_are = still_out (more d parts b words g i here k.fed) refl (λ e differs. out_more e);
@@ -269,8 +277,8 @@ module _ (p : DriverParts) (member streams : ℕ → Bool) (ends : ℕ → Told)
 
   stands_done : suc i ≡ 8 → QueuesThen (done d parts b words g i here k.fed) member streams ends now order (with_out out n (out_now (done d parts b words g i here k.fed) y.endpoint))
   stands_done eighth = record {
-    met = met_then (done d parts b words g i here k.fed) refl (λ x. none_not_open x.queue);
-    streams_are = streams_then (done d parts b words g i here k.fed) refl (λ x. none_not_open x.queue);
+    met = met_stays d (done d parts b words g i here k.fed) member queues_done k.met;
+    streams_are = streams_stay d (done d parts b words g i here k.fed) streams ends queues_done k.streams_are;
     fed = fed_done d parts b words g i here k.fed eighth;
     last = last_done;
     out_are = still_out (done d parts b words g i here k.fed) refl out_done;
@@ -305,7 +313,7 @@ module _ (p : DriverParts) (member streams : ℕ → Bool) (ends : ℕ → Told)
     idle = idle g.qtd i below;
     before = split.before;
     after = split.after;
-    out_is = k.out_are y.endpoint g.endpoint g.here (met_now g.endpoint) ∙ out_is y.endpoint ∙ split.out i;
+    out_is = k.out_are y.endpoint g.endpoint g.here met_now.there ∙ out_is y.endpoint ∙ split.out i;
     sorted = sorted;
     later = partly_later (order n) (32 * b) g.qtd (suc i) links;
   }
@@ -315,7 +323,7 @@ module _ (p : DriverParts) (member streams : ℕ → Bool) (ends : ℕ → Told)
     out_stays m =
         ⊎_elim (λ (same : m ≡ n).
         ap (with_out out n (out_now (more d parts b words g i here k.fed) y.endpoint)) same ∙ out_here out n (out_now (more d parts b words g i here k.fed) y.endpoint)
-        ∙ out_more y.endpoint ∙ sym (k.out_are y.endpoint g.endpoint g.here (met_now g.endpoint)) ∙ ap out (sym same))
+        ∙ out_more y.endpoint ∙ sym (k.out_are y.endpoint g.endpoint g.here met_now.there) ∙ ap out (sym same))
         (λ (differs : m ≢ n). out_beside out n (out_now (more d parts b words g i here k.fed) y.endpoint) m differs) (cases_eq m n)
 
     reports_more : suc i < 8 → AreReported heads order (with_out out n (out_now (more d parts b words g i here k.fed) y.endpoint)) hand now acc reported
@@ -331,7 +339,7 @@ module _ (p : DriverParts) (member streams : ℕ → Bool) (ends : ℕ → Told)
     reports_done eighth =
         subst (λ (xs : List ℕ). AreReported heads order (with_out out n xs) hand now acc reported) (sym split.all)
         (last_reports member heads order out hand parts acc reported n (32 * b) (partly g.qtd i) (partly g.qtd (suc i)) store (ap (λ (j : ℕ). (partly g.qtd j).token.active) eighth ∙ g.active) (fresh_last eighth)
-        (members n (k.met.each y.endpoint g.endpoint g.here (met_now g.endpoint))) right)
+        (members n (k.met.each y.endpoint g.endpoint g.here met_now)) right)
 
     pub reports_by : AreReported heads order (out_then out (next_of p).driver g) hand (parts_then g) acc reported
     reports_by =

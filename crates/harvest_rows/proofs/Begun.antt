@@ -15,7 +15,7 @@ pub opening_holds : (n : ℕ) (room : Reserve) (hand : Hand) (parts : StructureS
 opening_holds n room hand parts = record {
   next = λ e t x y is. absurd (none_there e x is.endpoint);
   none = λ e x here last. refl;
-  to_come = λ t y here waits other. absurd (none_there t y here);
+  to_come = λ t y here waits kept other. absurd (none_there t y here);
   within = λ t y here kept. absurd (none_there t y here);
 }
 

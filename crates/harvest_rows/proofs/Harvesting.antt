@@ -76,10 +76,10 @@ harvest_is_told member order place d m parts hand e t x y xs held told found n c
     own = n.waits e t x y n.next
 
     at : IsAtPlace (note_in d.notes) y
-    at = n.places t y n.next.transfer (n.waits e t x y n.next).1
+    at = n.places t y n.next.transfer (n.waits e t x y n.next).1 n.kept
 
     left : y.left ≡ suc (y.left - 1)
-    left = let at_it : IsAtPlace (note_in d.notes) y = n.places t y n.next.transfer (n.waits e t x y n.next).1 in let some = at_it.some in omega (arith, some)
+    left = let at_it : IsAtPlace (note_in d.notes) y = n.places t y n.next.transfer (n.waits e t x y n.next).1 n.kept in let some = at_it.some in omega (arith, some)
 
     s : SplitsOut (note_in d.notes) e t 0 d.transfers y (y.left - 1)
     s = out_splits (note_in d.notes) e t 0 (y.left - 1) d.transfers y n.next.transfer own.0 n.kept own.1 left
@@ -93,6 +93,7 @@ harvest_is_told member order place d m parts hand e t x y xs held told found n c
       some = at.some;
       most = at.most;
       waits = n.waits;
+      unreleased = n.unreleased;
       places = n.places;
       others = n.others;
       once = not_again order s.passed s.rest d.notes y.place (note_at d.notes y.place).next (y.left - 1) split.sorted;

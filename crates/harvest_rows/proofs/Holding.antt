@@ -10,6 +10,7 @@ use Rattle.driver_rows.specs.declared.content.Transfer.{Transfer}
 use Rattle.driver_rows.specs.declared.content.QtdNote.{QtdNote}
 use Rattle.driver_rows.specs.DriverContent.{DriverContent}
 use Rattle.driver_rows.specs.Harvests.{note_at}
+use Rattle.endpoint_lives.specs.Lives.{told_end}
 use Rattle.run_owners.specs.Owners.{note_in}
 use Rattle.run_owners.proofs.Released.{set_here, set_there}
 use Rattle.chained_transfers.specs.Turns.{IsAtPlace}
@@ -28,9 +29,9 @@ holds_same d new hand parts held ends transfers notes k = record {
       subst (λ (ns : List QtdNote). IsUnderWay hand parts (32 * x.queue) (note_at ns) y (held e)) (sym notes)
       (k.next e t x y (record { endpoint = ap (λ (xs : List Endpoint). slice_get xs e) (sym ends) ∙ is.endpoint; going = is.going; next = is.next; transfer = ap (λ (ts : List Transfer). slice_get ts t) (sym transfers) ∙ is.transfer }));
   none = λ e x here last. k.none e x (ap (λ (xs : List Endpoint). slice_get xs e) (sym ends) ∙ here) last;
-  to_come = λ t y here waits other.
+  to_come = λ t y here waits kept other.
       subst (λ (ns : List QtdNote). IsToCome (note_at ns) y) (sym notes)
-      (k.to_come t y (ap (λ (ts : List Transfer). slice_get ts t) (sym transfers) ∙ here) waits (λ x there is. other x (ap (λ (xs : List Endpoint). slice_get xs y.endpoint) ends ∙ there) is));
+      (k.to_come t y (ap (λ (ts : List Transfer). slice_get ts t) (sym transfers) ∙ here) waits kept (λ x there is. other x (ap (λ (xs : List Endpoint). slice_get xs y.endpoint) ends ∙ there) is));
   within = λ t y here held_still.
       subst (λ (ns : List QtdNote). told_of (note_at ns) y.first y.qtds ≤ y.most) (sym notes) (k.within t y (ap (λ (ts : List Transfer). slice_get ts t) (sym transfers) ∙ here) held_still);
 }
@@ -45,25 +46,25 @@ set_which xs t k x y z was here =
 -- ---- the notes of one qTD change
 
 module _ (d : DriverContent) (e t : ℕ) (x : Endpoint) (y : Transfer) (h : Harvests d e t x y) (k : ℕ) (bytes : List ℕ) (hand : Hand) (parts : StructureSets) (held : ℕ → List ℕ) (holds : HoldsEach d hand parts held) (found : IsDone hand parts (32 * x.queue) y.place k bytes) (notes : List QtdNote) (moved : NotesMoved (note_at d.notes) (note_at notes) y.place k) where
-  other_same : (u : ℕ) (z : Transfer) → slice_get d.transfers u ≡ Some z → z.reported ≡ false → u ≢ t → (a : ℕ) → IsOneFrom (note_at d.notes) z.first z.qtds a → note_at notes a ≡ note_at d.notes a
-  other_same u z there waits differs a one = moved.beside a (λ is. h.others u z there waits differs (subst (IsOneFrom (note_at d.notes) z.first z.qtds) is one))
+  other_same : (u : ℕ) (z : Transfer) → slice_get d.transfers u ≡ Some z → z.reported ≡ false → z.released ≡ false → u ≢ t → (a : ℕ) → IsOneFrom (note_at d.notes) z.first z.qtds a → note_at notes a ≡ note_at d.notes a
+  other_same u z there waits kept differs a one = moved.beside a (λ is. h.others u z there waits kept differs (subst (IsOneFrom (note_at d.notes) z.first z.qtds) is one))
 
-  other_under_way : (u n : ℕ) (z : Transfer) (xs : List ℕ) → slice_get d.transfers u ≡ Some z → z.reported ≡ false → u ≢ t → IsUnderWay hand parts n (note_at d.notes) z xs → IsUnderWay hand parts n (note_at notes) z xs
-  other_under_way u n z xs there waits differs w =
-      let at : IsAtPlace (note_in d.notes) z = h.places u z there waits in
+  other_under_way : (u n : ℕ) (z : Transfer) (xs : List ℕ) → slice_get d.transfers u ≡ Some z → z.reported ≡ false → z.released ≡ false → u ≢ t → IsUnderWay hand parts n (note_at d.notes) z xs → IsUnderWay hand parts n (note_at notes) z xs
+  other_under_way u n z xs there waits kept differs w =
+      let at : IsAtPlace (note_in d.notes) z = h.places u z there waits kept in
       let most = at.most in
       record {
-        done = held_noted hand parts n (note_at d.notes) (note_at notes) z.first (z.qtds - z.left) z.place xs (λ a one. other_same u z there waits differs a (one_sooner (note_at d.notes) z.first (z.qtds - z.left) z.qtds a (omega arith) one)) w.done;
+        done = held_noted hand parts n (note_at d.notes) (note_at notes) z.first (z.qtds - z.left) z.place xs (λ a one. other_same u z there waits kept differs a (one_sooner (note_at d.notes) z.first (z.qtds - z.left) z.qtds a (omega arith) one)) w.done;
         rest = unmoved_noted (note_at d.notes) (note_at notes) z.place z.left
-            (λ a one. other_same u z there waits differs a
+            (λ a one. other_same u z there waits kept differs a
             (one_later d.notes z.first (z.qtds - z.left) z.left z.qtds a (omega (arith, most)) (subst (λ (b : ℕ). IsOneFrom (note_at d.notes) b z.left a) at.place one))) w.rest;
       }
 
-  other_to_come : (u : ℕ) (z : Transfer) → slice_get d.transfers u ≡ Some z → z.reported ≡ false → u ≢ t → IsToCome (note_at d.notes) z → IsToCome (note_at notes) z
-  other_to_come u z there waits differs w = record {
+  other_to_come : (u : ℕ) (z : Transfer) → slice_get d.transfers u ≡ Some z → z.reported ≡ false → z.released ≡ false → u ≢ t → IsToCome (note_at d.notes) z → IsToCome (note_at notes) z
+  other_to_come u z there waits kept differs w = record {
     place = w.place;
     left = w.left;
-    rest = unmoved_noted (note_at d.notes) (note_at notes) z.first z.qtds (λ a one. other_same u z there waits differs a one) w.rest;
+    rest = unmoved_noted (note_at d.notes) (note_at notes) z.first z.qtds (λ a one. other_same u z there waits kept differs a one) w.rest;
   }
 
   still_within : (u : ℕ) (z : Transfer) → slice_get d.transfers u ≡ Some z → z.released ≡ false → told_of (note_at notes) z.first z.qtds ≤ z.most
@@ -106,7 +107,8 @@ module _ (d : DriverContent) (e t : ℕ) (x : Endpoint) (y : Transfer) (h : Harv
   beside_next : (f u : ℕ) (w : Endpoint) (z : Transfer) → f ≢ e → IsNextOf d f u w z → IsUnderWay hand parts (32 * w.queue) (note_at notes) z (held f)
   beside_next f u w z differs is =
       let own_z = h.waits f u w z is in
-      other_under_way u (32 * w.queue) z (held f) is.transfer own_z.1 (λ same. differs (sym own_z.0 ∙ ap (λ (v : Transfer). v.endpoint) (same_Some z y (sym is.transfer ∙ ap (slice_get d.transfers) same ∙ h.next.transfer)) ∙ own.0)) (holds.next f u w z is)
+      let kept = h.unreleased u z w is.transfer (ap (slice_get d.endpoints) own_z.0 ∙ is.endpoint) is.going own_z.1 in
+      other_under_way u (32 * w.queue) z (held f) is.transfer own_z.1 kept (λ same. differs (sym own_z.0 ∙ ap (λ (v : Transfer). v.endpoint) (same_Some z y (sym is.transfer ∙ ap (slice_get d.transfers) same ∙ h.next.transfer)) ∙ own.0)) (holds.next f u w z is)
 
   none_next : (i : ℕ) → None ≡ Some i → ⊥
   none_next i is = cc
@@ -129,9 +131,9 @@ module _ (d : DriverContent) (e t : ℕ) (x : Endpoint) (y : Transfer) (h : Harv
     none = λ f w here last.
         ⊎_elim (λ (same : f ≡ e). absurd (none_next t (sym last ∙ ap (λ (v : Endpoint). v.next) (same_Some w x (sym here ∙ ap (slice_get d.endpoints) same ∙ h.next.endpoint)) ∙ h.next.next)))
         (λ (differs : f ≢ e). grows.beside f differs ∙ holds.none f w here last) (cases_eq f e);
-    to_come = λ u z here waits other.
+    to_come = λ u z here waits kept other.
         ⊎_elim (λ (one : (u ≡ t) × (z ≡ moved_y)). absurd (other x (ap (slice_get d.endpoints) (ap (λ (v : Transfer). v.endpoint) one.1 ∙ own.0) ∙ h.next.endpoint) (h.next.next ∙ ap Some (sym one.0))))
-        (λ (old : (u ≢ t) × (slice_get d.transfers u ≡ Some z)). other_to_come u z old.1 waits old.0 (holds.to_come u z old.1 waits other)) (set_which d.transfers t u y moved_y z h.next.transfer here);
+        (λ (old : (u ≢ t) × (slice_get d.transfers u ≡ Some z)). other_to_come u z old.1 waits kept old.0 (holds.to_come u z old.1 waits kept other)) (set_which d.transfers t u y moved_y z h.next.transfer here);
     within = λ u z here kept.
         ⊎_elim (λ (one : (u ≡ t) × (z ≡ moved_y)).
         subst (λ (v : Transfer). told_of (note_at notes) v.first v.qtds ≤ v.most) (sym one.1) (still_within t y h.next.transfer (ap (λ (v : Transfer). v.released) (sym one.1) ∙ kept)))
@@ -153,8 +155,9 @@ module _ (d : DriverContent) (e t : ℕ) (x : Endpoint) (y : Transfer) (h : Harv
   -- of what is next then nothing is harvested
   begins_next : (u n : ℕ) (z : Transfer) → u ≢ t → slice_get d.transfers u ≡ Some z → (z.endpoint ≡ e) × (z.reported ≡ false) → IsUnderWay hand parts n (note_at notes) z []
   begins_next u n z differs there waits =
+      let kept = h.unreleased u z x there (ap (slice_get d.endpoints) waits.0 ∙ h.next.endpoint) h.next.going waits.1 in
       let c : IsToCome (note_at notes) z =
-      other_to_come u z there waits.1 differs (holds.to_come u z there waits.1 (λ v at is.
+      other_to_come u z there waits.1 kept differs (holds.to_come u z there waits.1 kept (λ v at is.
       differs (same_Some u t (sym is ∙ ap (λ (a : Endpoint). a.next) (same_Some v x (sym at ∙ ap (slice_get d.endpoints) waits.0 ∙ h.next.endpoint)) ∙ h.next.next)))) in
       let none : z.qtds - z.left ≡ 0 = let same = c.left in omega (arith, same) in
       record {
@@ -163,14 +166,14 @@ module _ (d : DriverContent) (e t : ℕ) (x : Endpoint) (y : Transfer) (h : Harv
       }
 
   pub ended_holds : (w : Endpoint) (later : ℕ → List ℕ) → Clears e held later
-      → ((u : ℕ) (z : Transfer) → w.ended ≡ None → w.next ≡ Some u → slice_get (slice_set d.transfers t ended_y) u ≡ Some z → (z.endpoint ≡ e) × (z.reported ≡ false)) → HoldsEach (ended_d w) hand parts later
+      → ((u : ℕ) (z : Transfer) → told_end w ≡ None → w.next ≡ Some u → slice_get (slice_set d.transfers t ended_y) u ≡ Some z → (z.endpoint ≡ e) × (z.reported ≡ false)) → HoldsEach (ended_d w) hand parts later
   ended_holds w later clears waits_next = record {
     next = λ f u v z is.
         ⊎_elim (λ (end : (f ≡ e) × (v ≡ w)).
         subst (IsUnderWay hand parts (32 * v.queue) (note_at notes) z) (sym (ap later end.0 ∙ clears.here))
-        (⊎_elim (λ (one : (u ≡ t) × (z ≡ ended_y)). absurd (not_reported z one.1 (waits_next u z (ap (λ (a : Endpoint). a.ended) (sym end.1) ∙ is.going) (ap (λ (a : Endpoint). a.next) (sym end.1) ∙ is.next) is.transfer).1))
+        (⊎_elim (λ (one : (u ≡ t) × (z ≡ ended_y)). absurd (not_reported z one.1 (waits_next u z (ap told_end (sym end.1) ∙ is.going) (ap (λ (a : Endpoint). a.next) (sym end.1) ∙ is.next) is.transfer).1))
         (λ (old : (u ≢ t) × (slice_get d.transfers u ≡ Some z)).
-        begins_next u (32 * v.queue) z old.0 old.1 (waits_next u z (ap (λ (a : Endpoint). a.ended) (sym end.1) ∙ is.going) (ap (λ (a : Endpoint). a.next) (sym end.1) ∙ is.next) is.transfer))
+        begins_next u (32 * v.queue) z old.0 old.1 (waits_next u z (ap told_end (sym end.1) ∙ is.going) (ap (λ (a : Endpoint). a.next) (sym end.1) ∙ is.next) is.transfer))
         (set_which d.transfers t u y ended_y z h.next.transfer is.transfer)))
         (λ (other : (f ≢ e) × (slice_get d.endpoints f ≡ Some v)).
         subst (IsUnderWay hand parts (32 * v.queue) (note_at notes) z) (sym (clears.beside f other.0))
@@ -181,9 +184,9 @@ module _ (d : DriverContent) (e t : ℕ) (x : Endpoint) (y : Transfer) (h : Harv
     none = λ f v here last.
         ⊎_elim (λ (end : (f ≡ e) × (v ≡ w)). ap later end.0 ∙ clears.here) (λ (other : (f ≢ e) × (slice_get d.endpoints f ≡ Some v)). clears.beside f other.0 ∙ holds.none f v other.1 last)
         (set_which d.endpoints e f x w v h.next.endpoint here);
-    to_come = λ u z here waits other.
+    to_come = λ u z here waits kept other.
         ⊎_elim (λ (one : (u ≡ t) × (z ≡ ended_y)). absurd (not_reported z one.1 waits))
-        (λ (old : (u ≢ t) × (slice_get d.transfers u ≡ Some z)). other_to_come u z old.1 waits old.0 (holds.to_come u z old.1 waits (λ v at is. not_next u z old.0 other v at is)))
+        (λ (old : (u ≢ t) × (slice_get d.transfers u ≡ Some z)). other_to_come u z old.1 waits kept old.0 (holds.to_come u z old.1 waits kept (λ v at is. not_next u z old.0 other v at is)))
         (set_which d.transfers t u y ended_y z h.next.transfer here);
     within = λ u z here kept.
         ⊎_elim (λ (one : (u ≡ t) × (z ≡ ended_y)).

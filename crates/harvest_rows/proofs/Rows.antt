@@ -22,8 +22,10 @@ use Rattle.driver_rows.specs.declared.content.QtdNote.{QtdNote}
 use Rattle.driver_rows.specs.declared.rows.Found.{Found}
 use Rattle.driver_rows.specs.declared.rows.Found.TheVariants as founds
 use Rattle.driver_rows.specs.DriverContent.{DriverContent, waits_for, next_after}
+use Rattle.endpoint_lives.specs.Lives.{told_end}
+use Rattle.endpoint_lives.proofs.Lives.{told_other}
 use Rattle.driver_rows.specs.Harvests.{note_at, noted, token_in, moved_of, moved_bytes, is_get, found_in, halt_of, done_of, ends_by, end_of, is_stall, reported}
-use Rattle.driver_rows.specs.Rows.{found_of, served, moved_on, told_with, goes_on as goes_on_with, after_end, harvested_as, after_harvest}
+use Rattle.driver_rows.specs.Rows.{ended_by_cancel, found_of, served, moved_on, told_with, goes_on as goes_on_with, after_end, harvested_as, after_harvest}
 use Rattle.run_owners.specs.Owners.{note_in, runs_of_note}
 use Rattle.run_owners.proofs.Released.{set_here, set_there}
 use Rattle.chained_transfers.specs.Turns.{IsAtPlace}
@@ -100,7 +102,7 @@ module _ (member : ℕ → Bool) (d : DriverContent) (m : Mem) (parts : Structur
   notes_now = noted d.notes y.place count
 
   at : IsAtPlace (note_in d.notes) y
-  at = h.places t y h.next.transfer (h.waits e t x y h.next).1
+  at = h.places t y h.next.transfer (h.waits e t x y h.next).1 f.kept
 
   it_reads : IsRead (parts (32 * x.queue)) (note_at d.notes y.place) y.place
   it_reads =
@@ -132,7 +134,7 @@ module _ (member : ℕ → Bool) (d : DriverContent) (m : Mem) (parts : Structur
     reads = goes_on;
     transfers = refl;
     command = refl;
-    queues = λ g z there. record { endpoint = z; here = there; same = refl };
+    queues = λ g z there. record { endpoint = z; here = there; same = refl; gone = refl };
     notes = λ c. notes_same c;
   }
 
@@ -163,10 +165,10 @@ module _ (member : ℕ → Bool) (d : DriverContent) (m : Mem) (parts : Structur
     notes : new.notes ≡ notes_now
     command : new.command ≡ d.command
 
-  ended_row : (what : What) (w : Endpoint) (new : DriverContent) → Reports what w new → w.desc ≡ x.desc → w.queue ≡ x.queue → is_refusal what ≡ false → (w.ended ≡ None → is_end what ≡ false)
-      → ((u : ℕ) (z : Transfer) → w.ended ≡ None → w.next ≡ Some u → slice_get (slice_set d.transfers t (record y { reported = true })) u ≡ Some z → (z.endpoint ≡ e) × (z.reported ≡ false))
+  ended_row : (what : What) (w : Endpoint) (new : DriverContent) → Reports what w new → w.desc ≡ x.desc → w.queue ≡ x.queue → w.gone ≡ x.gone → is_refusal what ≡ false → (told_end w ≡ None → is_end what ≡ false)
+      → ((u : ℕ) (z : Transfer) → told_end w ≡ None → w.next ≡ Some u → slice_get (slice_set d.transfers t (record y { reported = true })) u ≡ Some z → (z.endpoint ≡ e) × (z.reported ≡ false))
       → HarvestTells d new hand parts e t y bytes held told
-  ended_row what w new r same queue tells_it goes waits_next = record {
+  ended_row what w new r same queue gone tells_it goes waits_next = record {
     later = λ g. if g == e then [] else held g;
     holds = holds_same _ new hand parts (λ g. if g == e then [] else held g) r.endpoints r.transfers r.notes
         (ended_holds d e t x y h count bytes hand parts held holds it_done notes_now it_noted w (λ g. if g == e then [] else held g) (cleared_at e held) waits_next);
@@ -189,43 +191,44 @@ module _ (member : ℕ → Bool) (d : DriverContent) (m : Mem) (parts : Structur
       had_queue g z there =
           ⊎_elim (λ (is : g ≡ e).
           let z_is : z ≡ w = same_Some z w (sym there ∙ ap (slice_get (slice_set d.endpoints e w)) is ∙ set_here d.endpoints e x w h.next.endpoint) in
-          record { endpoint = x; here = ap (slice_get d.endpoints) is ∙ h.next.endpoint; same = ap (λ (v : Endpoint). v.queue) z_is ∙ queue })
-          (λ (differs : g ≢ e). record { endpoint = z; here = sym (set_there d.endpoints e g w differs) ∙ there; same = refl }) (cases_eq g e)
+          record { endpoint = x; here = ap (slice_get d.endpoints) is ∙ h.next.endpoint; same = ap (λ (v : Endpoint). v.queue) z_is ∙ queue; gone = ap (λ (v : Endpoint). v.gone) z_is ∙ gone })
+          (λ (differs : g ≢ e). record { endpoint = z; here = sym (set_there d.endpoints e g w differs) ∙ there; same = refl; gone = refl }) (cases_eq g e)
 
   -- ---- by what is found
 
   abbrev row_of : Found → DriverContent
   row_of found = served (harvested_as d m e t x y found) e
 
-  no_cause : (cause : EndCause) → Some cause ≡ None → ⊥
-  no_cause cause is = cc
+  -- an endpoint that such a cause ended has ended as far as its report has it
+  no_cause : (cause : EndCause) → ended_by_cancel (Some cause) ≡ false → told_end (record x { ended = Some cause }) ≡ None → ⊥
+  no_cause cause other is = let none : ◌≡◌ {A = Option EndCause} (Some cause) None = sym (told_other (record x { ended = Some cause }) other) ∙ is in cc
 
-  with_cause : (what : What) (cause : EndCause) → is_refusal what ≡ false → end_of x.desc.kind what ≡ Some cause → HarvestTells d (row_of (founds.Ended count what)) hand parts e t y bytes held told
-  with_cause what cause tells_it end =
+  with_cause : (what : What) (cause : EndCause) → ended_by_cancel (Some cause) ≡ false → is_refusal what ≡ false → end_of x.desc.kind what ≡ Some cause → HarvestTells d (row_of (founds.Ended count what)) hand parts e t y bytes held told
+  with_cause what cause other tells_it end =
       let told_d : DriverContent = told_with d m t y what x.desc.name notes_now in
       subst (λ (o : Option EndCause). HarvestTells d (served (after_end told_d e t x (is_stall what) o) e) hand parts e t y bytes held told) (sym end)
-      (ended_row what (record x { ended = Some cause }) (served (after_end told_d e t x (is_stall what) (Some cause)) e) (record { reports = refl; store = refl; endpoints = refl; transfers = refl; notes = refl; command = refl }) refl refl tells_it
-      (λ goes. absurd (no_cause cause goes)) (λ u z goes next there. absurd (no_cause cause goes)))
+      (ended_row what (record x { ended = Some cause }) (served (after_end told_d e t x (is_stall what) (Some cause)) e) (record { reports = refl; store = refl; endpoints = refl; transfers = refl; notes = refl; command = refl }) refl refl refl tells_it
+      (λ goes. absurd (no_cause cause other goes)) (λ u z goes next there. absurd (no_cause cause other goes)))
 
   done_row : HarvestTells d (row_of (founds.Ended count lines.Done)) hand parts e t y bytes held told
   done_row =
       let told_d : DriverContent = told_with d m t y lines.Done x.desc.name notes_now in
-      ended_row lines.Done (record x { next = next_after told_d.transfers e t }) (served (goes_on_with told_d e t x) e) (record { reports = refl; store = refl; endpoints = refl; transfers = refl; notes = refl; command = refl }) refl refl refl
+      ended_row lines.Done (record x { next = next_after told_d.transfers e t }) (served (goes_on_with told_d e t x) e) (record { reports = refl; store = refl; endpoints = refl; transfers = refl; notes = refl; command = refl }) refl refl refl refl
       (λ goes. refl) (λ u z goes next there. next_waits_for told_d.transfers e t u z next there)
 
   -- a halt or a miss ends a bulk endpoint
   halted_row : (what : What) → what ≡ halt_of (token_in m y.place) → HarvestTells d (row_of (founds.Ended count what)) hand parts e t y bytes held told
   halted_row what is = by_missed (token_in m y.place).missed (token_in m y.place).babble (nat_eq (token_in m y.place).cerr 0) is
     where
-      by_stop : (o : What) (cause : EndCause) → is_refusal o ≡ false → end_of kinds.Bulk o ≡ Some cause → what ≡ o → HarvestTells d (row_of (founds.Ended count what)) hand parts e t y bytes held told
-      by_stop o cause tells_it end same = with_cause what cause (ap is_refusal same ∙ tells_it) (ap (λ (k : EpKind). end_of k what) f.bulk ∙ ap (end_of kinds.Bulk) same ∙ end)
+      by_stop : (o : What) (cause : EndCause) → ended_by_cancel (Some cause) ≡ false → is_refusal o ≡ false → end_of kinds.Bulk o ≡ Some cause → what ≡ o → HarvestTells d (row_of (founds.Ended count what)) hand parts e t y bytes held told
+      by_stop o cause other tells_it end same = with_cause what cause other (ap is_refusal same ∙ tells_it) (ap (λ (k : EpKind). end_of k what) f.bulk ∙ ap (end_of kinds.Bulk) same ∙ end)
 
       by_missed : (missed babble none : Bool) → what ≡ (if missed then lines.Miss else if babble then lines.Halt causes.Babble else if none then lines.Halt causes.Error else lines.Halt causes.Stall)
           → HarvestTells d (row_of (founds.Ended count what)) hand parts e t y bytes held told
-      by_missed true babble none same = by_stop lines.Miss causes.Miss refl refl same
-      by_missed false true none same = by_stop (lines.Halt causes.Babble) causes.Babble refl refl same
-      by_missed false false true same = by_stop (lines.Halt causes.Error) causes.Error refl refl same
-      by_missed false false false same = by_stop (lines.Halt causes.Stall) causes.Stall refl refl same
+      by_missed true babble none same = by_stop lines.Miss causes.Miss refl refl refl same
+      by_missed false true none same = by_stop (lines.Halt causes.Babble) causes.Babble refl refl refl same
+      by_missed false false true same = by_stop (lines.Halt causes.Error) causes.Error refl refl refl same
+      by_missed false false false same = by_stop (lines.Halt causes.Stall) causes.Stall refl refl refl same
 
   -- the others end a transfer where none is left, or some bytes of a get are
   by_end : (last short : Bool) → nat_le y.left 1 ≡ last → HarvestTells d (row_of (done_of (last || short) count)) hand parts e t y bytes held told

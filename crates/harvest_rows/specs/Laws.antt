@@ -14,6 +14,7 @@ use Rattle.driver_rows.specs.declared.content.Endpoint.{Endpoint}
 use Rattle.driver_rows.specs.declared.content.Transfer.{Transfer}
 use Rattle.driver_rows.specs.declared.rows.Found.{Found}
 use Rattle.driver_rows.specs.DriverContent.{DriverContent}
+use Rattle.endpoint_lives.specs.Lives.{told_end}
 use Rattle.driver_rows.specs.Harvests.{note_at, token_in}
 use Rattle.driver_rows.specs.Rows.{found_of, served, after_harvest}
 use Rattle.run_owners.specs.Owners.{is_descriptor, note_in}
@@ -30,8 +31,9 @@ pub record IsReadNext (d : DriverContent) (e t : ℕ) (x : Endpoint) (y : Transf
   pub command : d.command ≡ None
   pub kept : y.released ≡ false
   pub waits : (f u : ℕ) (w : Endpoint) (z : Transfer) → IsNextOf d f u w z → (z.endpoint ≡ f) × (z.reported ≡ false)
-  pub places : (u : ℕ) (z : Transfer) → slice_get d.transfers u ≡ Some z → z.reported ≡ false → IsAtPlace (note_in d.notes) z
-  pub others : (u : ℕ) (z : Transfer) → slice_get d.transfers u ≡ Some z → z.reported ≡ false → u ≢ t → IsOneFrom (note_at d.notes) z.first z.qtds y.place → ⊥
+  pub unreleased : (u : ℕ) (z : Transfer) (w : Endpoint) → slice_get d.transfers u ≡ Some z → slice_get d.endpoints z.endpoint ≡ Some w → told_end w ≡ None → z.reported ≡ false → z.released ≡ false
+  pub places : (u : ℕ) (z : Transfer) → slice_get d.transfers u ≡ Some z → z.reported ≡ false → z.released ≡ false → IsAtPlace (note_in d.notes) z
+  pub others : (u : ℕ) (z : Transfer) → slice_get d.transfers u ≡ Some z → z.reported ≡ false → z.released ≡ false → u ≢ t → IsOneFrom (note_at d.notes) z.first z.qtds y.place → ⊥
 
 -- nothing is told of those that were passed over
 pub record CanBeRead (member : ℕ → Bool) (d : DriverContent) (m : Mem) (parts : StructureSets) (hand : Hand) (e t : ℕ) (x : Endpoint) (y : Transfer) : Type 0 where

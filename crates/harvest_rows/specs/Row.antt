@@ -39,6 +39,7 @@ pub record HadQueue (d : DriverContent) (k : ℕ) (z : Endpoint) : Type 0 where
   pub endpoint : Endpoint
   pub here : slice_get d.endpoints k ≡ Some endpoint
   pub same : z.queue ≡ endpoint.queue
+  pub gone : z.gone ≡ endpoint.gone
 
 pub record HarvestTells (d new : DriverContent) (hand : Hand) (parts : StructureSets) (e t : ℕ) (y : Transfer) (bytes : List ℕ) (held told : ℕ → List ℕ) : Type 0 where
   pub later : ℕ → List ℕ

@@ -24,6 +24,7 @@ use Rattle.run_owners.proofs.Taking.{runs_taken}
 use Rattle.run_owners.proofs.Chains.{notes_apart}
 use Rattle.run_owners.proofs.Accepted.{drop_first, within_slots}
 use Rattle.run_owners.proofs.Transferred.{are_new, goes_on_alive}
+use Rattle.endpoint_lives.specs.Lives.{told_end}
 use Rattle.chained_transfers.specs.Turns.{IsAtPlace, AreAtPlaces}
 use Rattle.chained_transfers.specs.Bulk.{stage_by}
 use Rattle.chained_transfers.specs.Accepted.{IsAsked}
@@ -63,9 +64,8 @@ module _ (d : DriverContent) (e : ℕ) (x : Endpoint) (a : Asked) (h : Holding) 
   abbrev end : Endpoint
   end = with_queued x dummy (length d.transfers)
 
-  still_under_way : (t n : ℕ) (y : Transfer) (xs : List ℕ) → slice_get d.transfers t ≡ Some y → y.reported ≡ false → IsUnderWay hand parts n (note_at d.notes) y xs → IsUnderWay hand parts n (note_at notes) y xs
-  still_under_way t n y xs at waits w =
-      let kept : y.released ≡ false = there.0 t y at waits in
+  still_under_way : (t n : ℕ) (y : Transfer) (xs : List ℕ) → slice_get d.transfers t ≡ Some y → y.released ≡ false → IsUnderWay hand parts n (note_at d.notes) y xs → IsUnderWay hand parts n (note_at notes) y xs
+  still_under_way t n y xs at kept w =
       let p : IsAtPlace (note_in d.notes) y = places t y at kept in
       let most = p.most in
       record {
@@ -87,7 +87,7 @@ module _ (d : DriverContent) (e : ℕ) (x : Endpoint) (a : Asked) (h : Holding) 
   which t y at = push_which d.transfers new t y at
 
   -- the next one of the endpoint that was asked
-  own_next : (o : Option ℕ) (t : ℕ) (y : Transfer) → x.next ≡ o → x.ended ≡ None → first_waiting o (length d.transfers) ≡ Some t → slice_get (d.transfers ++ new ∷ []) t ≡ Some y → IsUnderWay hand parts (32 * x.queue) (note_at notes) y (held e)
+  own_next : (o : Option ℕ) (t : ℕ) (y : Transfer) → x.next ≡ o → told_end x ≡ None → first_waiting o (length d.transfers) ≡ Some t → slice_get (d.transfers ++ new ∷ []) t ≡ Some y → IsUnderWay hand parts (32 * x.queue) (note_at notes) y (held e)
   own_next None t y is going first at =
       let number : length d.transfers ≡ t = same_Some (length d.transfers) t first in
       ⊎_elim (λ (old : slice_get d.transfers t ≡ Some y). absurd (newer t y old (sym number)))
@@ -95,11 +95,11 @@ module _ (d : DriverContent) (e : ℕ) (x : Endpoint) (a : Asked) (h : Holding) 
       subst (λ (v : Transfer). IsUnderWay hand parts (32 * x.queue) (note_at notes) v (held e)) (sym one.1) (subst (IsUnderWay hand parts (32 * x.queue) (note_at notes) new) (sym (k.none e x here is)) (begins (32 * x.queue)))) (which t y at)
   own_next (Some u) t y is going first at =
       let number : u ≡ t = same_Some u t first in
-      let old = there.1 e u x here going is in
+      let old = there e u x here going is in
       let y_is : y ≡ old.0 = ⊎_elim (λ (was : slice_get d.transfers t ≡ Some y). same_Some y old.0 (sym was ∙ ap (slice_get d.transfers) (sym number) ∙ old.1))
       (λ (one : (t ≡ length d.transfers) × (y ≡ new)). absurd (newer u old.0 old.1 (number ∙ one.0))) (which t y at) in
       subst (λ (v : Transfer). IsUnderWay hand parts (32 * x.queue) (note_at notes) v (held e)) (sym y_is)
-      (still_under_way u (32 * x.queue) old.0 (held e) old.1 old.2 (k.next e u x old.0 (record { endpoint = here; going = going; next = is; transfer = old.1 })))
+      (still_under_way u (32 * x.queue) old.0 (held e) old.1 old.3 (k.next e u x old.0 (record { endpoint = here; going = going; next = is; transfer = old.1 })))
 
   not_none : (o : Option ℕ) (n : ℕ) → first_waiting o n ≡ None → ⊥
   not_none None n is = cc
@@ -123,19 +123,19 @@ module _ (d : DriverContent) (e : ℕ) (x : Endpoint) (a : Asked) (h : Holding) 
         ⊎_elim (λ (own : (f ≡ e) × (w ≡ end)).
         subst (λ (g : ℕ). IsUnderWay hand parts (32 * w.queue) (note_at notes) y (held g)) (sym own.0)
         (subst (λ (v : Endpoint). IsUnderWay hand parts (32 * v.queue) (note_at notes) y (held e)) (sym own.1)
-        (own_next x.next t y refl (ap (λ (v : Endpoint). v.ended) (sym own.1) ∙ is.going) (ap (λ (v : Endpoint). v.next) (sym own.1) ∙ is.next) is.transfer)))
+        (own_next x.next t y refl (ap told_end (sym own.1) ∙ is.going) (ap (λ (v : Endpoint). v.next) (sym own.1) ∙ is.next) is.transfer)))
         (λ (other : (f ≢ e) × (slice_get d.endpoints f ≡ Some w)).
-        let old = there.1 f t w other.1 is.going is.next in
+        let old = there f t w other.1 is.going is.next in
         ⊎_elim (λ (was : slice_get d.transfers t ≡ Some y).
-        still_under_way t (32 * w.queue) y (held f) was (ap (λ (v : Transfer). v.reported) (same_Some y old.0 (sym was ∙ old.1)) ∙ old.2) (k.next f t w y (record { endpoint = other.1; going = is.going; next = is.next; transfer = was })))
+        still_under_way t (32 * w.queue) y (held f) was (ap (λ (v : Transfer). v.released) (same_Some y old.0 (sym was ∙ old.1)) ∙ old.3) (k.next f t w y (record { endpoint = other.1; going = is.going; next = is.next; transfer = was })))
         (λ (one : (t ≡ length d.transfers) × (y ≡ new)). absurd (newer t old.0 old.1 one.0)) (which t y is.transfer)) (set_which d.endpoints e f x end w here is.endpoint);
     none = λ f w at last.
         ⊎_elim (λ (own : (f ≡ e) × (w ≡ end)). absurd (not_none x.next (length d.transfers) (ap (λ (v : Endpoint). v.next) (sym own.1) ∙ last)))
         (λ (other : (f ≢ e) × (slice_get d.endpoints f ≡ Some w)). k.none f w other.1 last) (set_which d.endpoints e f x end w here at);
-    to_come = λ t y at waits other.
+    to_come = λ t y at waits kept other.
         ⊎_elim (λ (was : slice_get d.transfers t ≡ Some y).
-        let c : IsToCome (note_at d.notes) y = k.to_come t y was waits (is_next_still t y other) in
-        record { place = c.place; left = c.left; rest = unmoved_noted (note_at d.notes) (note_at notes) y.first y.qtds (λ i one. same t y i was (there.0 t y was waits) one) c.rest })
+        let c : IsToCome (note_at d.notes) y = k.to_come t y was waits kept (is_next_still t y other) in
+        record { place = c.place; left = c.left; rest = unmoved_noted (note_at d.notes) (note_at notes) y.first y.qtds (λ i one. same t y i was kept one) c.rest })
         (λ (one : (t ≡ length d.transfers) × (y ≡ new)). subst (λ (v : Transfer). IsToCome (note_at notes) v) (sym one.1) (record { place = refl; left = refl; rest = unmoved })) (which t y at);
     within = λ t y at kept.
         ⊎_elim (λ (was : slice_get d.transfers t ≡ Some y).

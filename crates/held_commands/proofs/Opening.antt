@@ -66,9 +66,9 @@ module _ (d new : DriverContent) (x : Endpoint) (hand : Hand) (parts : Structure
         (λ (one : (e ≡ length d.endpoints) × (w ≡ x)). absurd (none_next t (sym fresh ∙ ap (λ (v : Endpoint). v.next) (sym one.1) ∙ is.next))) (end_which e w is.endpoint);
     none = λ e w here last.
         ⊎_elim (λ (old : slice_get d.endpoints e ≡ Some w). older e w old ∙ k.none e w old last) (λ (one : (e ≡ length d.endpoints) × (w ≡ x)). ap later one.0 ∙ clears.here) (end_which e w here);
-    to_come = λ t y here waits other.
+    to_come = λ t y here waits kept other.
         subst (λ (ns : List QtdNote). IsToCome (note_at ns) y) (sym notes)
-        (k.to_come t y (ap (λ (ts : List Transfer). slice_get ts t) (sym transfers) ∙ here) waits
+        (k.to_come t y (ap (λ (ts : List Transfer). slice_get ts t) (sym transfers) ∙ here) waits kept
         (λ w there is. other w (ap (λ (xs : List Endpoint). slice_get xs y.endpoint) ends ∙ push_stays d.endpoints x y.endpoint w there) is));
     within = λ t y here kept.
         subst (λ (ns : List QtdNote). told_of (note_at ns) y.first y.qtds ≤ y.most) (sym notes) (k.within t y (ap (λ (ts : List Transfer). slice_get ts t) (sym transfers) ∙ here) kept);
@@ -88,16 +88,16 @@ return_holds d new t y hand parts held here told there ends transfers notes k = 
   next = λ e u w z is.
       let end : slice_get d.endpoints e ≡ Some w = ap (λ (xs : List Endpoint). slice_get xs e) (sym ends) ∙ is.endpoint in
       ⊎_elim (λ (one : (u ≡ t) × (z ≡ record y { released = true })).
-      let next_one = there.1 e u w end is.going is.next in
+      let next_one = there e u w end is.going is.next in
       absurd (false≢true (sym next_one.2 ∙ ap (λ (v : Transfer). v.reported) (same_Some next_one.0 y (sym next_one.1 ∙ ap (slice_get d.transfers) one.0 ∙ here)) ∙ told)))
       (λ (old : (u ≢ t) × (slice_get d.transfers u ≡ Some z)).
       subst (λ (ns : List QtdNote). IsUnderWay hand parts (32 * w.queue) (note_at ns) z (held e)) (sym notes) (k.next e u w z (record { endpoint = end; going = is.going; next = is.next; transfer = old.1 })))
       (which u z is.transfer);
   none = λ e w at last. k.none e w (ap (λ (xs : List Endpoint). slice_get xs e) (sym ends) ∙ at) last;
-  to_come = λ u z at waits other.
+  to_come = λ u z at waits kept other.
       ⊎_elim (λ (one : (u ≡ t) × (z ≡ record y { released = true })). absurd (false≢true (sym waits ∙ ap (λ (v : Transfer). v.reported) one.1 ∙ told)))
       (λ (old : (u ≢ t) × (slice_get d.transfers u ≡ Some z)).
-      subst (λ (ns : List QtdNote). IsToCome (note_at ns) z) (sym notes) (k.to_come u z old.1 waits (λ w end is. other w (ap (λ (xs : List Endpoint). slice_get xs z.endpoint) ends ∙ end) is))) (which u z at);
+      subst (λ (ns : List QtdNote). IsToCome (note_at ns) z) (sym notes) (k.to_come u z old.1 waits kept (λ w end is. other w (ap (λ (xs : List Endpoint). slice_get xs z.endpoint) ends ∙ end) is))) (which u z at);
   within = λ u z at kept.
       ⊎_elim (λ (one : (u ≡ t) × (z ≡ record y { released = true })). absurd (false≢true (sym kept ∙ ap (λ (v : Transfer). v.released) one.1)))
       (λ (old : (u ≢ t) × (slice_get d.transfers u ≡ Some z)). subst (λ (ns : List QtdNote). told_of (note_at ns) z.first z.qtds ≤ z.most) (sym notes) (k.within u z old.1 kept)) (which u z at);
@@ -113,4 +113,4 @@ nothing_at zero z is = cc
 nothing_at (suc i) z is = cc
 
 pub opening_there : (n : ℕ) (room : Reserve) → AreThere (opening n room).driver
-opening_there n room = (λ t y here waits. absurd (nothing_at t y here), λ e t x here going next. absurd (nothing_at e x here))
+opening_there n room = λ e t x here going next. absurd (nothing_at e x here)

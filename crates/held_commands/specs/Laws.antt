@@ -15,6 +15,7 @@ use Rattle.chained_transfers.specs.Turns.{AreAtPlaces}
 use Rattle.chained_transfers.specs.Accepted.{IsOpened, IsAsked}
 use Rattle.told_endpoints.specs.Steps.{Clears}
 use Rattle.harvest_rows.specs.Holds.{HoldsEach}
+use Rattle.endpoint_lives.specs.Lives.{told_end}
 
 -- nothing is held back of an endpoint that is opened
 abbrev pub OpenHolds : Type 0
@@ -24,8 +25,8 @@ OpenHolds = (d : DriverContent) (m : Mem) (o : Offered) (hand : Hand) (parts : S
 
 -- each transfer that isn't reported is there still, and so is the next one of each endpoint
 abbrev pub AreThere : DriverContent → Type 0
-AreThere d = ((t : ℕ) (y : Transfer) → slice_get d.transfers t ≡ Some y → y.reported ≡ false → y.released ≡ false)
-    × ((e t : ℕ) (x : Endpoint) → slice_get d.endpoints e ≡ Some x → x.ended ≡ None → x.next ≡ Some t → (y : Transfer) × (slice_get d.transfers t ≡ Some y) × (y.reported ≡ false))
+AreThere d = (e t : ℕ) (x : Endpoint) → slice_get d.endpoints e ≡ Some x → told_end x ≡ None → x.next ≡ Some t
+    → (y : Transfer) × (slice_get d.transfers t ≡ Some y) × (y.reported ≡ false) × (y.released ≡ false)
 
 -- a get or a put is accepted
 abbrev pub AskedHolds : Type 0

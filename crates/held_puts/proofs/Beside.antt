@@ -27,6 +27,7 @@ use Rattle.chained_transfers.specs.Bulk.{receives, sort_by, MovesAs}
 use Rattle.chained_transfers.specs.Chains.{piece_at}
 use Rattle.chained_transfers.specs.InTurn.{TakesTurns}
 use Rattle.chained_transfers.proofs.Ways.{IsBy, its_told, all_of_all}
+use Rattle.chained_transfers.proofs.Holding.{held_alive}
 use Rattle.lent_structures.specs.Structures.{StructureSets}
 use Rattle.queue_parts.specs.Sound.{element_pages, buffer_name}
 use Rattle.ring_walk.specs.Hand.{Hand}
@@ -102,20 +103,29 @@ waiting_held d m new t y b words k number there stands same =
 head_no_queue : (e : ℕ) → ◌≡◌ {A = Owner} Head (QueueHead e) → ⊥
 head_no_queue e is = cc
 
+same_number : (e f : ℕ) → ◌≡◌ {A = Owner} (QueueHead e) (QueueHead f) → e ≡ f
+same_number e f is = cc
+
+queue_owned : (d : DriverContent) (e : ℕ) (x : Endpoint) (owners : HasOwners d) → TakesTurns d → slice_get d.endpoints e ≡ Some x → x.gone ≡ false → owners.owner x.queue ≡ QueueHead e
+queue_owned d e x owners turns here kept =
+    let s = turns.bulk.endpoints e x here in
+    let alive : is_iso x.desc.kind || x.gone ≡ false = ap (λ k. is_iso k || x.gone) s.bulk.kind ∙ kept in
+    (owners.owned.each.queue e (runs_of_endpoint x) (ap (option_map runs_of_endpoint) here) alive).owned
+
 -- a queue head that the walk may meet is that of a met endpoint
-its_met : (d : DriverContent) (member : ℕ → Bool) (e : ℕ) (x : Endpoint) → HasOwners d → TakesTurns d → AreMet d member → slice_get d.endpoints e ≡ Some x → member (32 * x.queue) ≡ true → IsMet d x
-its_met d member e x owners turns met here on =
+its_met : (d : DriverContent) (member : ℕ → Bool) (e : ℕ) (x : Endpoint) → HasOwners d → TakesTurns d → AreMet d member → slice_get d.endpoints e ≡ Some x → x.gone ≡ false → member (32 * x.queue) ≡ true → IsMet d e x
+its_met d member e x owners turns met here kept on =
+    let own : owners.owner x.queue ≡ QueueHead e = queue_owned d e x owners turns here kept in
     ⊎_elim
     (λ (head : 32 * x.queue ≡ 32 * head_block).
     let block : x.queue ≡ head_block = omega (arith, head) in
-    let s = turns.bulk.endpoints e x here in
-    let alive : is_iso x.desc.kind || x.gone ≡ false = ap (λ k. is_iso k || x.gone) s.bulk.kind ∙ s.gone in
-    let queue = owners.owned.each.queue e (runs_of_endpoint x) (ap (option_map runs_of_endpoint) here) alive in
-    absurd (head_no_queue e (sym owners.owned.each.head.owned ∙ ap owners.owner (sym block) ∙ queue.owned)))
+    absurd (head_no_queue e (sym owners.owned.each.head.owned ∙ ap owners.owner (sym block) ∙ own)))
     (λ (is : HasHead d (32 * x.queue)).
     let at = is.at in
     let block : x.queue ≡ is.endpoint.queue = omega (arith, at) in
-    λ opens. is.met (opens ∙ ap (λ (b : ℕ). Some (unfinished.Open b)) block))
+    let number : e ≡ is.number = same_number e is.number (sym own ∙ ap owners.owner block ∙ queue_owned d is.number is.endpoint owners turns is.here is.met.there.kept) in
+    let same : x ≡ is.endpoint = same_Some x is.endpoint (sym here ∙ ap (slice_get d.endpoints) number ∙ is.here) in
+    subst (λ (z : Endpoint). IsMet d e z) (sym same) (subst (λ (i : ℕ). IsMet d i is.endpoint) (sym number) is.met))
     (met.only (32 * x.queue) on)
 
 module _ {W : Type 0} (begins : W → ℕ → Bool → W → Type 0) (transacts : W → Ask → List ℕ → Reply → W → Type 0) (base : Base) (member : ℕ → Bool) (parts : StructureSets) (hand : Hand) (c new : Content) (wire after : W) (now : StructureSets) (later : Hand) (d : DriverContent) (controlled : IsControlled base member parts hand c) (controlled_now : IsControlled base member now later new) (effect : ControlEffect begins transacts parts hand wire after now later) (owners : HasOwners d) (turns : TakesTurns d) (met : AreMet d member) (fed : AreFed d parts) (outs : OutsAskNoData d parts) where
@@ -125,7 +135,7 @@ module _ {W : Type 0} (begins : W → ℕ → Bool → W → Type 0) (transacts 
       let x : Endpoint = moves.endpoint in
       let n = 32 * x.queue in
       let sends : receives x.desc.name.way ≡ false = put_sends x.desc.name.way (sym moves.sort ∙ put) in
-      let asks : member n ≡ true → IsNotIn (parts n) = λ on. outs y.endpoint x moves.here (its_met d member y.endpoint x owners turns met moves.here on) sends in
+      let asks : member n ≡ true → IsNotIn (parts n) = λ on. outs y.endpoint x moves.here (its_met d member y.endpoint x owners turns met moves.here (held_alive d t y x turns.turns there held moves.here) on) sends in
       held_alike c.memory new.memory d.notes d.notes y.first y.qtds (λ i below. note_itself (note_at d.notes (piece_at (note_in d.notes) y.first i)))
       (λ i below.
       let note = note_at d.notes (piece_at (note_in d.notes) y.first i) in

@@ -3,6 +3,7 @@ use Rattle.std.proofs.Common.{◌≡◌, ℕ, zero, suc, ◌-◌, ◌≤◌, Boo
 use Rattle.usb_base.specs.declared.endpoints.EpName.{EpName}
 use Rattle.usb_base.specs.declared.endpoints.EndCause.{EndCause}
 use Rattle.usb_base.specs.declared.reports.What.{What}
+use Rattle.usb_base.specs.declared.reports.What.TheVariants as lines
 use Rattle.word_mem.specs.Memory.{Mem}
 use Rattle.qh_qtd.specs.declared.token.Token.{Token}
 use Rattle.run_book.specs.Book.{holding, lend_taken}
@@ -16,9 +17,9 @@ use Rattle.driver_rows.specs.declared.rows.DriverRow.TheVariants as rows
 use Rattle.driver_rows.specs.declared.rows.Found.{Found}
 use Rattle.driver_rows.specs.declared.rows.Found.TheVariants as founds
 use Rattle.driver_rows.specs.DriverContent.{DriverContent, no_note, waits_for}
-use Rattle.driver_rows.specs.Harvests.{note_at, token_in, halt_of, moved_of, done_of, ends_by, found_in, end_of, is_stall, noted}
+use Rattle.driver_rows.specs.Harvests.{note_at, token_in, halt_of, moved_of, done_of, ends_by, found_in, end_of, is_stall, noted, reported}
 use Rattle.driver_rows.specs.Offers.{Offered, runs_of, note_for, note_stages, new_runs}
-use Rattle.driver_rows.specs.Rows.{Parts as DriverParts, advance, linked_by, served, told_with, behind_one, behind, mends_of, after_end, harvested_as, after_harvest, freed_by, after_transfer, driver_row, after_driver_row}
+use Rattle.driver_rows.specs.Rows.{Parts as DriverParts, advance, linked_by, served, told_with, behind_one, behind, mends_of, after_end, harvested_as, after_harvest, freed_by, after_transfer, is_told, cancelled_bytes, after_endpoint, driver_row, after_driver_row}
 use Rattle.run_owners.specs.Due.{IsDue, IsHarvestDue}
 use Rattle.run_owners.proofs.Reasons.{each_is_due}
 use Rattle.chained_transfers.specs.Bulk.{OnlyBulk}
@@ -129,6 +130,12 @@ harvest_few p e t found due bulk k =
     subst (λ (o : Option Endpoint). AreFew (after_harvest d p.memory e t found o (slice_get d.transfers t)).notes) (sym due.here)
     (subst (λ (o : Option Transfer). AreFew (after_harvest d p.memory e t found (Some x) o).notes) (sym due.there) now)
 
+-- ---- an endpoint is given back
+
+told_notes : (d : DriverContent) (m : Mem) (e : ℕ) (x : Endpoint) (b : Bool) → (cond b (reported d lines.Cancel x.desc.name (cancelled_bytes d.notes m e x.queue d.transfers)) d).notes ≡ d.notes
+told_notes d m e x true = refl
+told_notes d m e x false = refl
+
 -- ---- any row
 
 advanced_few : (d : DriverContent) → OnlyBulk d → AreFew d.notes → AreFew (advance d).notes
@@ -150,7 +157,11 @@ by_row p (rows.ReleaseTransfer t) bulk due k = given_back (slice_get p.driver.tr
     given_back : (o : Option Transfer) → AreFew (after_transfer p t o (freed_by p.driver (holding p.driver.book p.memory) o)).driver.notes
     given_back None = k
     given_back (Some y) = k
-by_row p (rows.ReleaseEndpoint e) bulk due k = absurd (none_there p.driver.cleared e bulk.cleared due.first)
+by_row p (rows.ReleaseEndpoint e) bulk due k = gone (slice_get p.driver.endpoints e)
+  where
+    gone : (o : Option Endpoint) → AreFew (after_endpoint p e o).driver.notes
+    gone None = k
+    gone (Some x) = subst AreFew (sym (told_notes p.driver p.memory e x (is_told x))) k
 by_row p rows.ClearAdvance bulk due k = k
 by_row p rows.RingBell bulk due k = k
 by_row p (rows.ReadStatus heard) bulk due k = k

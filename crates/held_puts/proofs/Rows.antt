@@ -1,15 +1,17 @@
 -- Each event of the driver leaves what each put holds.
-use Rattle.std.proofs.Common.{◌≡◌, ℕ, zero, suc, ◌+◌, ◌*◌, ◌/◌, ◌<◌, ◌≤◌, Bool, true, false, cond, nat_lt, List, [], ◌∷◌, reverse, map, get_or, slice_get, slice_index, Option, Some, None, option_map, ap, refl, sym, subst, ◌∙◌, ⊎_elim, inl, arith}
+use Rattle.std.proofs.Common.{◌≡◌, ℕ, zero, suc, ◌+◌, ◌*◌, ◌/◌, ◌<◌, ◌≤◌, Bool, true, false, cond, nat_lt, List, [], ◌∷◌, ◌++◌, reverse, map, set, get_or, slice_get, slice_index, Option, Some, None, option_map, ap, refl, sym, subst, ◌∙◌, ⊎_elim, inl, arith}
 use Rattle.std.specs.List.{AllByRecursion}
 use Rattle.std.proofs.lemmas.Bool.{false≢true}
 use Rattle.std.proofs.lemmas.Option.{same_Some}
 use Rattle.word_mem.specs.Memory.{Mem}
 use Rattle.qh_qtd.specs.declared.qtd.Qtd.{Qtd}
+use Rattle.qh_qtd.specs.declared.queue_head.Qh.{Qh}
 use Rattle.async_walk.specs.Walk.{Walk}
 use Rattle.async_walk.specs.Rows.{place}
 use Rattle.run_book.specs.declared.slots.Slot.{Slot}
 use Rattle.run_book.specs.declared.slots.Slot.TheVariants.{Empty, Keeps, Lends}
 use Rattle.run_book.specs.Book.{Holding, holding, slot_at, lend_slot, lend_runs, none_taken, lend_taken, store}
+use Rattle.driver_rows.specs.declared.content.Endpoint.{Endpoint}
 use Rattle.driver_rows.specs.declared.content.Command.{Command}
 use Rattle.driver_rows.specs.declared.content.Command.TheVariants as unfinished
 use Rattle.driver_rows.specs.declared.content.Transfer.{Transfer}
@@ -18,7 +20,7 @@ use Rattle.driver_rows.specs.declared.rows.DriverRow.{DriverRow}
 use Rattle.driver_rows.specs.declared.rows.DriverRow.TheVariants as rows
 use Rattle.driver_rows.specs.DriverContent.{DriverContent}
 use Rattle.driver_rows.specs.Harvests.{note_at, buffer_address}
-use Rattle.driver_rows.specs.Rows.{Parts as DriverParts, store_order, events_of, links, no_command, advanced_by, advance, framed_by, linked_by, driver_row, after_driver_row}
+use Rattle.driver_rows.specs.Rows.{Parts as DriverParts, store_order, events_of, links, leave_ring, no_command, advanced_by, advance, framed_by, linked_by, driver_row, after_driver_row}
 use Rattle.driver_rows.specs.Words.{head_block}
 use Rattle.run_owners.specs.Due.{IsDue, IsNextOf, IsLinkOf, IsTransferDue}
 use Rattle.run_owners.specs.Kept.{HasOwners}
@@ -37,8 +39,9 @@ use Rattle.driver_parts.specs.Driven.{DrivesRing}
 use Rattle.fed_queues.specs.Fed.{IsPublished, AreFed}
 use Rattle.released_queues.specs.Released.{ReleaseStands}
 use Rattle.put_bytes.proofs.Words.{store_other}
+use Rattle.unlinked_streams.specs.Unlinks.{IsAtUnlink}
 use Rattle.held_puts.specs.Puts.{HoldsPuts}
-use Rattle.held_puts.specs.Laws.{DriverHoldsPuts}
+use Rattle.held_puts.specs.Laws.{IsReleasedMet, DriverHoldsPuts}
 use Rattle.held_puts.proofs.Alike.{note_is, was_itself, puts_stay, alike_holds, same_holds}
 use Rattle.held_puts.proofs.Stored.{IsStored, pieces_stored, words_stored, either_way, IsInBuffer, stored_at}
 use Rattle.held_puts.proofs.Harvested.{Likes, harvest_like}
@@ -54,11 +57,22 @@ either : (d : DriverContent) (b : Bool) → IsToldSo d (cond b (record d { made 
 either d true = record { transfers = refl; notes = refl }
 either d false = record { transfers = refl; notes = refl }
 
+told_by : (d f g : DriverContent) (b : Bool) → IsToldSo d f → IsToldSo d g → IsToldSo d (cond b f g)
+told_by d f g true one other = one
+told_by d f g false one other = other
+
+left_so : (d : DriverContent) (e : ℕ) (o : Option Endpoint) → IsToldSo d (leave_ring (no_command d) e o)
+left_so d e None = record { transfers = refl; notes = refl }
+left_so d e (Some x) =
+    told_by d (record (no_command d) { waiting = d.waiting ++ e ∷ []; endpoints = set d.endpoints e (record x { linked = false }) }) (no_command d) x.linked (record { transfers = refl; notes = refl })
+    (record { transfers = refl; notes = refl })
+
 pub advanced_keeps : (d : DriverContent) (o : Option Command) → IsBulkCommand o → IsToldSo d (advanced_by d o)
 advanced_keeps d None is = record { transfers = refl; notes = refl }
 advanced_keeps d (Some (unfinished.Open queue)) is = either d (nat_lt (suc d.made) 2)
 advanced_keeps d (Some (unfinished.Publish b words)) is = either d (nat_lt (suc d.made) 9)
-advanced_keeps d (Some (unfinished.Unlink e b link)) is = absurd is
+advanced_keeps d (Some (unfinished.Unlink e b link)) is =
+    told_by d (record d { made = suc d.made }) (leave_ring (no_command d) e (slice_get d.endpoints e)) (nat_lt (suc d.made) 1) (record { transfers = refl; notes = refl }) (left_so d e (slice_get d.endpoints e))
 advanced_keeps d (Some unfinished.Chain) is = absurd is
 advanced_keeps d (Some (unfinished.Iso e t count)) is = absurd is
 advanced_keeps d (Some (unfinished.Unchain e)) is = absurd is
@@ -207,19 +221,50 @@ publish_at d parts c words (suc i) b at v is fed made next =
       made = λ b words publish. omega (arith, made);
     }
 
-command_store : (d : DriverContent) (parts : StructureSets) (c : Command) (b at v : ℕ) → d.command ≡ Some c → IsBulkCommand (Some c) → IsDriven (views_of d) (sorts_of parts) → AreFed d parts
-    → slice_get (events_of c) d.made ≡ Some (rows.Store b at v) → IsCommandStore d parts at
-command_store d parts (unfinished.Open queue) b at v is bulk driven fed next = open_store d parts queue d.made b at v is driven next
-command_store d parts (unfinished.Publish c words) b at v is bulk driven fed next = publish_at d parts c words d.made b at v is fed refl next
-command_store d parts (unfinished.Unlink e c link) b at v is bulk driven fed next = absurd bulk
-command_store d parts unfinished.Chain b at v is bulk driven fed next = absurd bulk
-command_store d parts (unfinished.Iso e t count) b at v is bulk driven fed next = absurd bulk
-command_store d parts (unfinished.Unchain e) b at v is bulk driven fed next = absurd bulk
+unlink_no_publish : (e b link c : ℕ) (words : List ℕ) → ◌≡◌ {A = Option Command} (Some (unfinished.Unlink e b link)) (Some (unfinished.Publish c words)) → ⊥
+unlink_no_publish e b link c words f = cc
+
+same_before : (e b link f c to : ℕ) → ◌≡◌ {A = Option Command} (Some (unfinished.Unlink e b link)) (Some (unfinished.Unlink f c to)) → b ≡ c
+same_before e b link f c to is = cc
+
+head_no_buffer : (q : Qh) (pages : List ℕ) (k : ℕ) (bs : List ℕ) → QueueHead q ≡ Buffer pages k bs → ⊥
+head_no_buffer q pages k bs e = cc
+
+-- it writes the link of the queue head before the one that leaves
+unlink_store : (d : DriverContent) (member : ℕ → Bool) (parts : StructureSets) (e c link i b at v : ℕ) → d.command ≡ Some (unfinished.Unlink e c link) → IsAtUnlink d member parts
+    → slice_get (events_of (unfinished.Unlink e c link)) i ≡ Some (rows.Store b at v) → IsCommandStore d parts at
+unlink_store d member parts e c link zero b at v is k next =
+    let same : c ≡ k.before = same_before e c link k.number k.before _ (sym is ∙ k.command) in
+    let place : at ≡ 32 * k.before = sym (same_at c (32 * c) link b at v next) ∙ ap (λ (i : ℕ). 32 * i) same in
+    record {
+      beside = record {
+        owner = 32 * k.before;
+        name = 32 * k.before;
+        structure = QueueHead k.queue;
+        here = k.head;
+        has = inl (ap (λ (a : ℕ). a / 32) place);
+        other = λ pages n bs same. head_no_buffer k.queue pages n bs same;
+      };
+      made = λ b words publish. absurd (unlink_no_publish e c link b words (sym is ∙ publish));
+    }
+unlink_store d member parts e c link (suc i) b at v is k next = absurd (none_no_store b at v next)
+
+abbrev FindsUnlink : DriverContent → (ℕ → Bool) → StructureSets → Type 0
+FindsUnlink d member parts = (e b link : ℕ) → d.command ≡ Some (unfinished.Unlink e b link) → IsAtUnlink d member parts
+
+command_store : (d : DriverContent) (member : ℕ → Bool) (parts : StructureSets) (c : Command) (b at v : ℕ) → d.command ≡ Some c → IsBulkCommand (Some c) → IsDriven (views_of d) (sorts_of parts) → AreFed d parts
+    → FindsUnlink d member parts → slice_get (events_of c) d.made ≡ Some (rows.Store b at v) → IsCommandStore d parts at
+command_store d member parts (unfinished.Open queue) b at v is bulk driven fed finds next = open_store d parts queue d.made b at v is driven next
+command_store d member parts (unfinished.Publish c words) b at v is bulk driven fed finds next = publish_at d parts c words d.made b at v is fed refl next
+command_store d member parts (unfinished.Unlink e c link) b at v is bulk driven fed finds next = unlink_store d member parts e c link d.made b at v is (finds e c link is) next
+command_store d member parts unfinished.Chain b at v is bulk driven fed finds next = absurd bulk
+command_store d member parts (unfinished.Iso e t count) b at v is bulk driven fed finds next = absurd bulk
+command_store d member parts (unfinished.Unchain e) b at v is bulk driven fed finds next = absurd bulk
 
 no_links : (c : Command) → IsBulkCommand (Some c) → links c ≡ true → ⊥
 no_links (unfinished.Open queue) bulk is = false≢true is
 no_links (unfinished.Publish b words) bulk is = false≢true is
-no_links (unfinished.Unlink e b link) bulk is = bulk
+no_links (unfinished.Unlink e b link) bulk is = false≢true is
 no_links unfinished.Chain bulk is = bulk
 no_links (unfinished.Iso e t count) bulk is = bulk
 no_links (unfinished.Unchain e) bulk is = bulk
@@ -230,7 +275,7 @@ pub framed_same : (d : DriverContent) (n : ℕ) (o : Option Command) → IsBulkC
 framed_same d n None is = refl
 framed_same d n (Some (unfinished.Open queue)) is = refl
 framed_same d n (Some (unfinished.Publish b words)) is = refl
-framed_same d n (Some (unfinished.Unlink e b link)) is = absurd is
+framed_same d n (Some (unfinished.Unlink e b link)) is = refl
 framed_same d n (Some unfinished.Chain) is = absurd is
 framed_same d n (Some (unfinished.Iso e t count)) is = absurd is
 framed_same d n (Some (unfinished.Unchain e)) is = absurd is
@@ -239,7 +284,7 @@ linked_same : (d : DriverContent) (m : Mem) (o : Option Command) → IsBulkComma
 linked_same d m None is = refl
 linked_same d m (Some (unfinished.Open queue)) is = refl
 linked_same d m (Some (unfinished.Publish b words)) is = refl
-linked_same d m (Some (unfinished.Unlink e b link)) is = absurd is
+linked_same d m (Some (unfinished.Unlink e b link)) is = refl
 linked_same d m (Some unfinished.Chain) is = absurd is
 linked_same d m (Some (unfinished.Iso e t count)) is = absurd is
 linked_same d m (Some (unfinished.Unchain e)) is = absurd is
@@ -249,7 +294,7 @@ linked_same d m (Some (unfinished.Unchain e)) is = absurd is
 pub none_there : {X : Type 0} (xs : List X) (x : X) → xs ≡ [] → slice_get xs 0 ≡ Some x → ⊥
 none_there xs x none here = let e : ◌≡◌ {A = Option _} None (Some x) = sym (ap (λ ys. slice_get ys 0) none) ∙ here in cc
 
-module _ (base : Base) (member : ℕ → Bool) (parts : StructureSets) (hand : Hand) (w : Walk) (p : DriverParts) (order : ℕ → ℕ → ℕ) (out : ℕ → List ℕ) (puts : ℕ → List ℕ) (owners : HasOwners p.driver) (turns : TakesTurns p.driver) (drives : DrivesRing base member parts hand (place w p.registers p.memory) p.driver) (fed : AreFed p.driver parts) (released : (t : ℕ) → driver_row p ≡ rows.ReleaseTransfer t → ReleaseStands base member parts hand w p order out) (held : HoldsPuts p.driver p.memory puts) where
+module _ (base : Base) (member : ℕ → Bool) (parts : StructureSets) (hand : Hand) (w : Walk) (p : DriverParts) (order : ℕ → ℕ → ℕ) (out : ℕ → List ℕ) (puts : ℕ → List ℕ) (owners : HasOwners p.driver) (turns : TakesTurns p.driver) (drives : DrivesRing base member parts hand (place w p.registers p.memory) p.driver) (fed : AreFed p.driver parts) (released : (t : ℕ) → driver_row p ≡ rows.ReleaseTransfer t → ReleaseStands base member parts hand w p order out) (near : IsReleasedMet p) (finds : FindsUnlink p.driver member parts) (gone : (e : ℕ) → driver_row p ≡ rows.ReleaseEndpoint e → HoldsPuts (after_driver_row (driver_row p) p).driver (after_driver_row (driver_row p) p).memory puts) (held : HoldsPuts p.driver p.memory puts) where
   abbrev Holds : DriverRow → Type 0
   Holds row = HoldsPuts (after_driver_row row p).driver (after_driver_row row p).memory puts
 
@@ -260,7 +305,7 @@ module _ (base : Base) (member : ℕ → Bool) (parts : StructureSets) (hand : H
   store_row b at v due =
       ⊎_elim
       (λ (own : IsNextOf p (rows.Store b at v)).
-      let k : IsCommandStore p.driver parts at = command_store p.driver parts own.command b at v own.unfinished (its_command p.driver own.command own.unfinished turns.bulk) drives.driven fed own.next in
+      let k : IsCommandStore p.driver parts at = command_store p.driver member parts own.command b at v own.unfinished (its_command p.driver own.command own.unfinished turns.bulk) drives.driven fed finds own.next in
       store_holds p.driver p.memory parts puts b at v turns tells fed k.beside k.made held)
       (λ (link : IsLinkOf p (rows.Store b at v)). absurd (no_links link.command (its_command p.driver link.command link.unfinished turns.bulk) link.links)) due
 
@@ -269,7 +314,7 @@ module _ (base : Base) (member : ℕ → Bool) (parts : StructureSets) (hand : H
       let o = first_owed p.driver t due.first owners.orderly in
       let moves : MovesAs p.driver o.transfer = turns.bulk.moves t o.transfer o.there in
       release_holds base member parts hand w p order out t o.transfer moves.endpoint (released t row)
-      (record { free = due.idle; first = due.first; here = o.there; held = o.released; reported = o.reported; endpoint = moves.here }) puts held
+      (record { free = due.idle; first = due.first; here = o.there; held = o.released; reported = o.reported; endpoint = moves.here; near = near t o.transfer moves.endpoint row o.there moves.here }) puts held
 
   by_row : (row : DriverRow) → driver_row p ≡ row → IsDue p row → Holds row
   by_row rows.Lend is due = lent_holds p.driver p.memory p.memory puts turns.bulk refl held
@@ -281,7 +326,7 @@ module _ (base : Base) (member : ℕ → Bool) (parts : StructureSets) (hand : H
   by_row (rows.Unlink t) is due = absurd (none_there p.driver.periodic.unlinks t turns.bulk.unlinks due.first)
   by_row (rows.ReleaseRemoved what) is due = absurd (none_there p.driver.periodic.removals due.removal turns.bulk.removals due.first)
   by_row (rows.ReleaseTransfer t) is due = release t is due
-  by_row (rows.ReleaseEndpoint e) is due = absurd (none_there p.driver.cleared e turns.bulk.cleared due.first)
+  by_row (rows.ReleaseEndpoint e) is due = subst Holds is (gone e is)
   by_row rows.ClearAdvance is due = record { each = held.each }
   by_row rows.RingBell is due = record { each = held.each }
   by_row (rows.ReadStatus heard) is due = record { each = held.each }
@@ -292,5 +337,5 @@ module _ (base : Base) (member : ℕ → Bool) (parts : StructureSets) (hand : H
   by_row rows.Rest is due = held
 
 pub driver_holds : DriverHoldsPuts
-driver_holds base member parts hand w p order out puts owners turns drives fed released held =
-    by_row base member parts hand w p order out puts owners turns drives fed released held (driver_row p) refl (each_is_due p)
+driver_holds base member parts hand w p order out puts owners turns drives fed released near finds gone held =
+    by_row base member parts hand w p order out puts owners turns drives fed released near finds gone held (driver_row p) refl (each_is_due p)

@@ -4,6 +4,7 @@
 --     NewDriverHoldsPuts         a driver that was just built has none
 --     EventHoldsPuts             each event of the controller leaves them
 --     OpenHoldsPuts, GetHoldsPuts, PutHoldsPuts, CommandHoldsPuts     an accepted command leaves them, and a put is one more
+--     IsReleasedMet p            the endpoint of a transfer that is given back may still be met
 --     DriverHoldsPuts            each event of the driver leaves them, until it gives a put's blocks back
 --     HarvestReadsPuts, ReportIsOfPuts     what a harvest reads of a put, and what is reported of it, is what the put asked to send
 --     AreMovedFew d              no more was noted as moved of a qTD than it asked for
@@ -26,6 +27,7 @@ use Rattle.driver_rows.specs.Harvests.{note_at, moved_of, buffer_bytes, moved_by
 use Rattle.driver_rows.specs.Offers.{Offered, offered, IsOffered}
 use Rattle.driver_rows.specs.Opening.{opening}
 use Rattle.driver_rows.specs.Rows.{Parts as DriverParts, driver_row, after_driver_row}
+use Rattle.endpoint_lives.specs.Lives.{may_meet}
 use Rattle.run_owners.specs.Kept.{HasOwners}
 use Rattle.run_owners.specs.Owners.{note_in}
 use Rattle.chained_transfers.specs.Accepted.{IsOpened, IsAsked, IsAccepted}
@@ -48,6 +50,7 @@ use Rattle.fed_queues.specs.Places.{IsMet, AreMet}
 use Rattle.fed_lends.specs.ToLend.{IsToBeLent}
 use Rattle.released_queues.specs.Released.{ReleaseStands}
 use Rattle.held_puts.specs.Puts.{HoldsPuts, with_put, puts_then, piece_of, first_moved}
+use Rattle.unlinked_streams.specs.Unlinks.{IsAtUnlink}
 
 abbrev pub NewDriverHoldsPuts : Type 0
 NewDriverHoldsPuts = (n : ℕ) (room : Reserve) (m : Mem) (puts : ℕ → List ℕ) → HoldsPuts (opening n room).driver m puts
@@ -58,7 +61,7 @@ abbrev pub IsPublishing : DriverContent → Mem → Type 0
 IsPublishing d m = (b : ℕ) (words : List ℕ) → d.command ≡ Some (unfinished.Publish b words) → IsToBeLent d m b words ⊎ (1 ≤ d.made)
 
 abbrev pub OutsAskNoData : DriverContent → StructureSets → Type 0
-OutsAskNoData d parts = (e : ℕ) (x : Endpoint) → slice_get d.endpoints e ≡ Some x → IsMet d x → receives x.desc.name.way ≡ false → IsNotIn (parts (32 * x.queue))
+OutsAskNoData d parts = (e : ℕ) (x : Endpoint) → slice_get d.endpoints e ≡ Some x → IsMet d e x → receives x.desc.name.way ≡ false → IsNotIn (parts (32 * x.queue))
 
 abbrev pub EventHoldsPuts : {W : Type 0} → (W → ℕ → Bool → W → Type 0) → (W → Ask → List ℕ → Reply → W → Type 0) → Type 0
 EventHoldsPuts {W} begins transacts = (base : Base) (member : ℕ → Bool) (parts : StructureSets) (hand : Hand) (c new : Content) (wire after : W) (now : StructureSets) (later : Hand)
@@ -90,11 +93,18 @@ CommandHoldsPuts = (d : DriverContent) (m : Mem) (cmd : Cmd) (o : Offered) (part
 
 -- ---- an event of the driver
 
+-- the endpoint of a transfer that is given back isn't one that has left
+abbrev pub IsReleasedMet : DriverParts → Type 0
+IsReleasedMet p = (t : ℕ) (y : Transfer) (x : Endpoint) → driver_row p ≡ rows.ReleaseTransfer t → slice_get p.driver.transfers t ≡ Some y → slice_get p.driver.endpoints y.endpoint ≡ Some x
+    → may_meet p.driver y.endpoint x ≡ true
+
 -- a transfer is given back where the walk has left it behind
 abbrev pub DriverHoldsPuts : Type 0
 DriverHoldsPuts = (base : Base) (member : ℕ → Bool) (parts : StructureSets) (hand : Hand) (w : Walk) (p : DriverParts) (order : ℕ → ℕ → ℕ) (out : ℕ → List ℕ) (puts : ℕ → List ℕ)
     → HasOwners p.driver → TakesTurns p.driver → DrivesRing base member parts hand (place w p.registers p.memory) p.driver → AreFed p.driver parts
-    → ((t : ℕ) → driver_row p ≡ rows.ReleaseTransfer t → ReleaseStands base member parts hand w p order out)
+    → ((t : ℕ) → driver_row p ≡ rows.ReleaseTransfer t → ReleaseStands base member parts hand w p order out) → IsReleasedMet p
+    → ((e b link : ℕ) → p.driver.command ≡ Some (unfinished.Unlink e b link) → IsAtUnlink p.driver member parts)
+    → ((e : ℕ) → driver_row p ≡ rows.ReleaseEndpoint e → HoldsPuts (after_driver_row (driver_row p) p).driver (after_driver_row (driver_row p) p).memory puts)
     → HoldsPuts p.driver p.memory puts → HoldsPuts (after_driver_row (driver_row p) p).driver (after_driver_row (driver_row p) p).memory puts
 
 -- ---- what is read of them

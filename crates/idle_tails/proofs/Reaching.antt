@@ -53,7 +53,7 @@ either_leads : (part : Structures) (b : Bool) (l r : ShortLink) → LeadsOn part
 either_leads part true l r one two = one
 either_leads part false l r one two = two
 
-module _ (member : ℕ → Bool) (d : DriverContent) (parts : StructureSets) (order : ℕ → ℕ → ℕ) (out : ℕ → List ℕ) (idle : d.command ≡ None) (owners : HasOwners d) (lent : AreLent d) (turns : TakesTurns d) (fed : AreFed d parts) (last : AreLast d parts order) (still : AreStillOut d out) (e : ℕ) (x : Endpoint) (here : slice_get d.endpoints e ≡ Some x) (on : IsMember member (32 * x.queue) (parts (32 * x.queue))) where
+module _ (member : ℕ → Bool) (d : DriverContent) (parts : StructureSets) (order : ℕ → ℕ → ℕ) (out : ℕ → List ℕ) (idle : d.command ≡ None) (owners : HasOwners d) (lent : AreLent d) (turns : TakesTurns d) (fed : AreFed d parts) (last : AreLast d parts order) (still : AreStillOut d out) (e : ℕ) (x : Endpoint) (here : slice_get d.endpoints e ≡ Some x) (meets : IsMet d e x) (on : IsMember member (32 * x.queue) (parts (32 * x.queue))) where
   abbrev n : ℕ
   n = 32 * x.queue
 
@@ -69,12 +69,6 @@ module _ (member : ℕ → Bool) (d : DriverContent) (parts : StructureSets) (or
   abbrev note : ℕ → NoteRuns
   note = note_in d.notes
 
-  met : IsMet d x
-  met is = none_some (sym idle ∙ is)
-    where
-      none_some : None ≡ Some (unfinished.Open x.queue) → ⊥
-      none_some bad = cc
-
   -- ---- the qTD at the end
 
   dummy_lent : IsLent (slot_of d.book.slots x.dummy)
@@ -82,13 +76,13 @@ module _ (member : ℕ → Bool) (d : DriverContent) (parts : StructureSets) (or
       let s = turns.bulk.endpoints e x here in
       lent_slot (slot_of d.book.slots x.dummy)
       (idle_lent d x.dummy idle lent
-      (placed_run x.dummy (Dummy e) (owners.owned.each.dummy e (runs_of_endpoint x) (ap (option_map runs_of_endpoint) here) (ap (λ (k : EpKind). is_iso k || x.gone) s.bulk.kind ∙ s.gone))))
+      (placed_run x.dummy (Dummy e) (owners.owned.each.dummy e (runs_of_endpoint x) (ap (option_map runs_of_endpoint) here) (ap (λ (k : EpKind). is_iso k || x.gone) s.bulk.kind ∙ meets.there.kept))))
 
   there : part c ≡ Some (Element dummy_qtd)
-  there = fed.dummies e x here dummy_lent
+  there = fed.dummies e x here meets.there.kept dummy_lent
 
   is_last : IsLast o part c
-  is_last = last.dummies e x here dummy_lent
+  is_last = last.dummies e x here meets.there.kept dummy_lent
 
   most : (b : ℕ) → IsElement part b → o b ≤ o c
   most b k =
@@ -125,7 +119,7 @@ module _ (member : ℕ → Bool) (d : DriverContent) (parts : StructureSets) (or
   -- it isn't one of them, since it leads nowhere
   not_out : IsAmong c (out n) → ⊥
   not_out among =
-      let k : IsOutIn note e d.transfers c = out_in note e d.transfers c (subst (IsAmong c) (still e x here met ∙ out_is d e idle) among) in
+      let k : IsOutIn note e d.transfers c = out_in note e d.transfers c (subst (IsAmong c) (still e x here meets.there ∙ out_is d e idle) among) in
       let place : IsAtPlace note k.transfer = turns.turns.places k.number k.transfer k.here k.is.held in
       let more = place.most in
       let less = k.is.dropped.below in
@@ -192,5 +186,5 @@ module _ (member : ℕ → Bool) (d : DriverContent) (parts : StructureSets) (or
       (λ (few : g.front ≤ o c). record { stands = g; within = within; tail = record { most = few; rest = rest } }) (cases_lt (o c) g.front)
 
 pub idle_queues_reach : IdleQueuesReach
-idle_queues_reach member d parts order out idle owners lent turns fed last still fronts e x here on =
-    reaches member d parts order out idle owners lent turns fed last still e x here on (fronts e x here (met member d parts order out idle owners lent turns fed last still e x here on))
+idle_queues_reach member d parts order out idle owners lent turns fed last still fronts e x here meets on =
+    reaches member d parts order out idle owners lent turns fed last still e x here meets on (fronts e x here meets)

@@ -9,12 +9,12 @@ use Rattle.lent_runs.specs.Lent.{AreLent}
 use Rattle.lent_structures.specs.Structures.{StructureSets}
 use Rattle.queue_parts.specs.Sound.{IsMember}
 use Rattle.fed_queues.specs.Fed.{AreFed}
-use Rattle.fed_queues.specs.Places.{AreLast, AreStillOut}
+use Rattle.fed_queues.specs.Places.{AreLast, AreStillOut, IsMet}
 use Rattle.released_queues.specs.Fronts.{FrontsStand}
 use Rattle.standing_fronts.specs.Reaching.{Reaches}
 
 abbrev pub IdleQueuesReach : Type 0
 IdleQueuesReach = (member : ℕ → Bool) (d : DriverContent) (parts : StructureSets) (order : ℕ → ℕ → ℕ) (out : ℕ → List ℕ) → d.command ≡ None → HasOwners d → AreLent d → TakesTurns d
     → AreFed d parts → AreLast d parts order → AreStillOut d out → FrontsStand d parts order out
-    → (e : ℕ) (x : Endpoint) → slice_get d.endpoints e ≡ Some x → IsMember member (32 * x.queue) (parts (32 * x.queue))
+    → (e : ℕ) (x : Endpoint) → slice_get d.endpoints e ≡ Some x → IsMet d e x → IsMember member (32 * x.queue) (parts (32 * x.queue))
     → Reaches d (parts (32 * x.queue)) (order (32 * x.queue)) (out (32 * x.queue)) e x (32 * x.dummy)

@@ -33,7 +33,7 @@ use Rattle.transfer_lends.proofs.Holding.{buffer_kept}
 use Rattle.transfer_lends.proofs.Owning.{not_taken}
 use Rattle.transfer_lends.proofs.Lending.{taken_keep, lent_on_views}
 use Rattle.fed_lends.specs.ToLend.{lent_now}
-use Rattle.fed_lends.proofs.Fed.{y_of, x_of, IsLending, bare_is}
+use Rattle.fed_lends.proofs.Fed.{y_of, x_of, IsLending, bare_is, its_alive}
 use Rattle.fed_lends.proofs.Names.{mapped}
 
 -- ---- the same runs
@@ -156,7 +156,7 @@ runs_lent {d = d} {m = m} {b = b} {words = words} {parts = parts} {now = now} l 
     let r = g.awaits in
     record {
       list = λ ws here.
-          let queue = (l.has.owned.each.queue g.transfer.endpoint (runs_of_endpoint g.endpoint) (ap (option_map runs_of_endpoint) g.here) (bare_is d g.transfer.endpoint g.endpoint l.bulk g.here)).owned in
+          let queue = (l.has.owned.each.queue g.transfer.endpoint (runs_of_endpoint g.endpoint) (ap (option_map runs_of_endpoint) g.here) (bare_is d g.transfer.endpoint g.endpoint l.bulk g.here (its_alive d m b words l.bulk g))).owned in
           let differs : 0 ≢ n = λ same. no_list (sym l.has.owned.each.list.owned ∙ ap l.has.owner (let e : 0 ≡ g.endpoint.queue = omega (arith, same) in e) ∙ queue) in
           old.list ws (ap (λ (part : Structures). part 0) (sym (l.pieces.beside 0 differs)) ∙ here);
       buffers = λ t e c cs y x pages k bs is piece runs here j inside.

@@ -36,7 +36,7 @@ use Rattle.fed_lends.proofs.Reporting.{numbers, old_number, all_there, fresh_new
 use Rattle.fed_lends.proofs.Names.{older_published}
 use Rattle.fed_lends.proofs.Fed.{y_of, x_of, IsLending, buffers_same}
 use Rattle.fed_lends.proofs.Order.{at_here, at_else, queue_apart}
-use Rattle.fed_lends.proofs.Reports.{IsOrdering, is_met, is_counted, first_last, from_here, least_below, first_below, queue_order, order_lent, out_lent}
+use Rattle.fed_lends.proofs.Reports.{IsOrdering, is_there, it_is_met, is_counted, first_last, from_here, least_below, first_below, queue_order, order_lent, out_lent}
 
 -- one of the new qTDs stands there
 pub record HasNew (notes : List QtdNote) (dummy : ℕ) (ss : List Stage) (b a : ℕ) : Type 0 where
@@ -158,7 +158,7 @@ end_stands {d = d} {m = m} {b = b} {words = words} {parts = parts} {order = orde
 -- ---- all queues
 
 pub fronts_stand : {d : DriverContent} {m : Mem} {b : ℕ} {words : List ℕ} {parts now : StructureSets} {member heads : ℕ → Bool} {order : ℕ → ℕ → ℕ} {out : ℕ → List ℕ} {hand : Hand} {acc : ℕ → List (List ℕ)} {reported : ℕ → List ℕ} → (o : IsOrdering d m b words parts now member heads order out hand acc reported) (least : ℕ)
-    → (fronts : FrontsStand d parts order out) → (fronts o.lending.ready.transfer.endpoint o.lending.ready.endpoint o.lending.ready.here (is_met d m b words o.lending.ready.endpoint o.lending.ready)).front ≤ least
+    → (fronts : FrontsStand d parts order out) → (fronts o.lending.ready.transfer.endpoint o.lending.ready.endpoint o.lending.ready.here (it_is_met d m b words o.lending.bulk o.lending.ready)).front ≤ least
     → FrontsStand (lent_now d m) now (order_lent o.lending.ready (from_here o least) order) (out_lent o.lending.ready out)
 fronts_stand {d = d} {m = m} {b = b} {words = words} {parts = parts} {now = now} {order = order} {out = out} o least fronts most e x here met =
     let l = o.lending in
@@ -171,7 +171,7 @@ fronts_stand {d = d} {m = m} {b = b} {words = words} {parts = parts} {now = now}
     ⊎_elim
     (λ (same : e ≡ k.transfer.endpoint).
     let is : x ≡ k.endpoint = same_Some x k.endpoint (sym here ∙ ap (slice_get d.endpoints) same ∙ k.here) in
-    let s = fronts k.transfer.endpoint k.endpoint k.here (is_met d m b words k.endpoint k) in
+    let s = fronts k.transfer.endpoint k.endpoint k.here (it_is_met d m b words l.bulk k) in
     let mine : StandsAt (lent_now d m) (now n) f more k.transfer.endpoint k.endpoint = record {
       front = s.front;
       has = its_front o least s.front (let above = least_below o least in omega (arith, most, above)) s.has;
@@ -193,8 +193,8 @@ fronts_stand {d = d} {m = m} {b = b} {words = words} {parts = parts} {now = now}
     (subst (λ (es : List ℕ). StandsAt (lent_now d m) (now n) f es k.transfer.endpoint k.endpoint) (sym (at_here out n more)) mine))))
     (λ (differs : e ≢ k.transfer.endpoint).
     let q = 32 * x.queue in
-    let apart = queue_apart d m b words parts now e x l here differs in
-    let s = fronts e x here (is_met d m b words x k) in
+    let apart = queue_apart d m b words parts now e x l here met.there.kept differs in
+    let s = fronts e x here (record { there = is_there d m b words x k met.there.kept; near = met.near }) in
     let other : StandsAt (lent_now d m) (parts q) (order q) (out q) e x = record { front = s.front; has = s.has; ended = s.ended; passed = s.passed } in
     subst (λ (part : Structures). StandsAt (lent_now d m) part (order_lent k from order q) (out_lent k out q) e x) (sym (l.pieces.beside q apart))
     (subst (λ (g : ℕ → ℕ). StandsAt (lent_now d m) (parts q) g (out_lent k out q) e x) (sym (at_else order n f q apart))
@@ -288,9 +288,9 @@ its_reach {d = d} {m = m} {b = b} {words = words} {parts = parts} {now = now} {o
 
 -- a tail that stood is one still, as all new qTDs come after it
 pub reaches_on : {d : DriverContent} {m : Mem} {b : ℕ} {words : List ℕ} {parts now : StructureSets} {member heads : ℕ → Bool} {order : ℕ → ℕ → ℕ} {out : ℕ → List ℕ} {hand : Hand} {acc : ℕ → List (List ℕ)} {reported : ℕ → List ℕ} → (o : IsOrdering d m b words parts now member heads order out hand acc reported) (least : ℕ)
-    → (e : ℕ) (x : Endpoint) (c : ℕ) → slice_get d.endpoints e ≡ Some x → IsElement (parts (32 * x.queue)) c → Reaches d (parts (32 * x.queue)) (order (32 * x.queue)) (out (32 * x.queue)) e x c
+    → (e : ℕ) (x : Endpoint) (c : ℕ) → slice_get d.endpoints e ≡ Some x → x.gone ≡ false → IsElement (parts (32 * x.queue)) c → Reaches d (parts (32 * x.queue)) (order (32 * x.queue)) (out (32 * x.queue)) e x c
     → Reaches (lent_now d m) (now (32 * x.queue)) (order_lent o.lending.ready (from_here o least) order (32 * x.queue)) (out_lent o.lending.ready out (32 * x.queue)) e x c
-reaches_on {d = d} {m = m} {b = b} {words = words} {parts = parts} {now = now} {order = order} {out = out} o least e x c here tail r =
+reaches_on {d = d} {m = m} {b = b} {words = words} {parts = parts} {now = now} {order = order} {out = out} o least e x c here kept tail r =
     let l = o.lending in
     let k = l.ready in
     let n = 32 * k.endpoint.queue in
@@ -311,7 +311,7 @@ reaches_on {d = d} {m = m} {b = b} {words = words} {parts = parts} {now = now} {
     (subst (λ (es : List ℕ). Reaches (lent_now d m) (now n) f es k.transfer.endpoint k.endpoint c) (sym (at_here out n more)) mine))))
     (λ (differs : e ≢ k.transfer.endpoint).
     let q = 32 * x.queue in
-    let apart = queue_apart d m b words parts now e x l here differs in
+    let apart = queue_apart d m b words parts now e x l here kept differs in
     let s = r.stands in
     let other : Reaches (lent_now d m) (parts q) (order q) (out q) e x c = record { stands = record { front = s.front; has = s.has; ended = s.ended; passed = s.passed }; within = r.within; tail = r.tail } in
     subst (λ (part : Structures). Reaches (lent_now d m) part (order_lent k from order q) (out_lent k out q) e x c) (sym (l.pieces.beside q apart))

@@ -14,7 +14,7 @@ use Rattle.fed_lends.proofs.Names.{names_lent}
 use Rattle.fed_lends.proofs.Fed.{y_of, x_of, IsLending, buffers_same, queues_fed}
 use Rattle.fed_lends.specs.Streams.{new_out}
 use Rattle.fed_lends.proofs.Order.{at_here, at_else}
-use Rattle.fed_lends.proofs.Reports.{IsOrdering, is_met, from_here, first_last, first_below, queue_order, order_lent, out_lent, all_reported, all_out, all_last}
+use Rattle.fed_lends.proofs.Reports.{IsOrdering, it_is_met, from_here, first_last, first_below, queue_order, order_lent, out_lent, all_reported, all_out, all_last}
 use Rattle.fed_lends.proofs.Row.{advance_is, after_is, met_on, streams_on, its_asks}
 use Rattle.lent_fronts.specs.Whole.{GoesOnWhole, LendRowLeavesFronts}
 use Rattle.lent_fronts.proofs.Fronts.{fronts_stand, reaches_on}
@@ -30,7 +30,7 @@ lend_row_leaves_fronts sender base stream packets member streams heads ends acc 
     let now = put_all parts n (items_of d m y x k.stage k.further) in
     let both = lend_drives base member parts hand w p.registers m d k.number y x k.stage k.further k.awaits has stands drives (names_lent d m b words parts n k queues.fed drives.driven blank) in
     let l : IsLending d m b words parts now = record { ready = k; has = has; stands = stands; shape = drives.ring.tells.shape; bulk = bulk; fed = queues.fed; pieces = both.1 } in
-    let met = is_met d m b words k.endpoint k in
+    let met = it_is_met d m b words bulk k in
     let on = queues.met.each k.transfer.endpoint k.endpoint k.here met in
     let o : IsOrdering d m b words parts now member heads order out hand acc reported = record {
       lending = l;
@@ -52,7 +52,7 @@ lend_row_leaves_fronts sender base stream packets member streams heads ends acc 
       order = order_lent k (from_here o least) order;
       out = out_lent k out;
       drives = subst (DrivesRing base member now hand (place w p.registers (lent_memory d m))) (advance_is d m b words k) both.0;
-      piped = lend_leaves_pipes sender d m k.number y x k.stage k.further slot parts now stream packets member streams ends acc hand wire k.awaits both.1 (its_asks k queues.streams_are) piped;
+      piped = lend_leaves_pipes sender d m k.number y x k.stage k.further slot parts now stream packets member streams ends acc hand wire k.awaits both.1 (its_asks bulk k queues.streams_are) piped;
       reports = all_reported o least;
       queues = record {
         met = met_on d m member queues.met;
@@ -63,7 +63,7 @@ lend_row_leaves_fronts sender base stream packets member streams heads ends acc 
       };
       fronts = fronts_stand o least fronts (let e : least ≤ least = omega arith in e);
       runs = runs_lent l lent drives.driven runs;
-      reaches = λ e z c here tail r. reaches_on o least e z c here tail r;
+      reaches = λ e z c here kept tail r. reaches_on o least e z c here kept tail r;
       behind = record {
         number = k.number;
         transfer = y;

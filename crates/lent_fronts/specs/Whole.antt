@@ -2,7 +2,7 @@
 --     IsLentBehind ..         the qTDs of the transfer but its first stand behind all that stood in its queue, in their order, and are out
 --     GoesOnWhole ..          what stands afterwards, by the structures, the order and what was out before
 --     LendRowLeavesFronts     the law; the reports of the queue heads `counted` are kept
-use Rattle.std.specs.Prelude.{◌≡◌, ◌≢◌, ℕ, ◌*◌, ◌<◌, ◌++◌, Bool, true, List, slice_get, Option, Some}
+use Rattle.std.specs.Prelude.{◌≡◌, ◌≢◌, ℕ, ◌*◌, ◌<◌, ◌++◌, Bool, true, List, slice_get, Option, Some, false}
 use Rattle.word_mem.specs.Memory.{Mem}
 use Rattle.async_walk.specs.Walk.{Walk}
 use Rattle.async_walk.specs.Rows.{place}
@@ -27,7 +27,7 @@ use Rattle.reported_streams.specs.Reported.{AreReported}
 use Rattle.driver_parts.specs.Driven.{DrivesRing}
 use Rattle.chained_transfers.specs.Bulk.{OnlyBulk}
 use Rattle.chained_transfers.specs.Turns.{AreInTurn}
-use Rattle.fed_queues.specs.Places.{IsMet, IsLast}
+use Rattle.fed_queues.specs.Places.{IsLast, IsThere}
 use Rattle.transfer_lends.specs.Written.{AwaitsLend}
 use Rattle.transfer_lends.specs.Laws.{HasPieces, lent_driver}
 use Rattle.fed_lends.specs.Streams.{new_order, new_out}
@@ -67,7 +67,7 @@ pub record GoesOnWhole {W : Type 0} (sender : W → ℕ → ℕ → Option Sende
   pub queues : QueuesStand p.driver member streams ends parts order out
   pub fronts : FrontsStand p.driver parts order out
   pub runs : AreInRuns (views_of p.driver) parts
-  pub reaches : (e : ℕ) (x : EndpointOf) (c : ℕ) → slice_get old.endpoints e ≡ Some x → IsElement (before (32 * x.queue)) c
+  pub reaches : (e : ℕ) (x : EndpointOf) (c : ℕ) → slice_get old.endpoints e ≡ Some x → x.gone ≡ false → IsElement (before (32 * x.queue)) c
       → Reaches old (before (32 * x.queue)) (order_before (32 * x.queue)) (out_before (32 * x.queue)) e x c
       → Reaches p.driver (parts (32 * x.queue)) (order (32 * x.queue)) (out (32 * x.queue)) e x c
   pub behind : IsLentBehind old memory before parts order_before order out_before out
@@ -83,5 +83,5 @@ LendRowLeavesFronts {W} sender = (base : Base) (stream : ℕ → ℕ → Bool) (
     → DrivesRing base member parts hand (place w p.registers p.memory) p.driver → ArePiped stream packets sender member streams ends acc parts hand wire
     → AreReported counted order out hand parts acc reported → QueuesStand p.driver member streams ends parts order out → FrontsStand p.driver parts order out
     → AreLent p.driver → AreInRuns (views_of p.driver) parts
-    → ((e : ℕ) (x : EndpointOf) → slice_get p.driver.endpoints e ≡ Some x → IsMet p.driver x → counted (32 * x.queue) ≡ true)
+    → ((e : ℕ) (x : EndpointOf) → slice_get p.driver.endpoints e ≡ Some x → IsThere p.driver x → counted (32 * x.queue) ≡ true)
     → GoesOnWhole sender base stream packets member streams counted ends acc reported hand wire p.driver p.memory parts order out w (after_driver_row (driver_row p) p)

@@ -42,11 +42,15 @@ use Rattle.reported_streams.specs.Reported.{AreReported}
 use Rattle.chained_transfers.specs.Chains.{piece_at}
 use Rattle.chained_transfers.specs.Out.{unpublished, out_of_transfer, out_of, out_now}
 use Rattle.fed_queues.specs.Fed.{IsPieceFed, unpublished_of, AreFed}
-use Rattle.fed_queues.specs.Places.{HasHead, AreMet, HaveStreams, IsLast, AreLast, AreStillOut}
+use Rattle.fed_queues.specs.Places.{AreMet, HaveStreams, IsLast, AreLast, AreStillOut, HasThere}
 use Rattle.fed_stores.specs.Stores.{QueuesThen}
 use Rattle.fed_stores.proofs.Apart.{queue_placed, dummy_placed, queues_same, thirty_two}
 use Rattle.open_stores.specs.Opens.{IsOpenLent, next_of}
 use Rattle.open_lends.specs.Lends.{IsAtLend, LendDrives, LendStands, LendPipes, LendReports}
+use Rattle.fed_queues.proofs.Places.{SameQueues, same_ends, met_stays, streams_stay}
+use Rattle.chained_transfers.specs.Bulk.{IsStanding}
+use Rattle.chained_transfers.proofs.Staying.{linked_alive}
+use Rattle.chained_transfers.proofs.Holding.{held_alive}
 
 open_out : (note : ℕ → NoteRuns) (e queue made more : ℕ) (ts : List Transfer) → out_of note e (Some (unfinished.Open queue)) made ts ≡ out_of note e (Some (unfinished.Open queue)) more ts
 open_out note e queue made more [] = refl
@@ -151,23 +155,29 @@ module _ (base : Base) (w : Walk) (hand : Hand) (p : DriverParts) (member stream
   met_apart : (m : ℕ) → member m ≡ true → m ≢ n
   met_apart m on same = false≢true (sym unmet.0 ∙ ap member (sym same) ∙ on)
 
-  same_number : (e : ℕ) (y : Endpoint) → slice_get d.endpoints e ≡ Some y → y.queue ≡ x.queue → e ≡ number
-  same_number e y there same =
-      queues_same y.queue x.queue e number same (queue_placed d k.sound.owners e y there (k.turns.bulk.endpoints e y there))
-      (queue_placed d k.sound.owners number x k.ready.here (k.turns.bulk.endpoints number x k.ready.here))
+  standing : IsStanding x
+  standing = k.turns.bulk.endpoints number x k.ready.here
+
+  its_alive : x.gone ≡ false
+  its_alive = linked_alive x standing k.ready.fresh
+
+  same_number : (e : ℕ) (y : Endpoint) → slice_get d.endpoints e ≡ Some y → y.gone ≡ false → y.queue ≡ x.queue → e ≡ number
+  same_number e y there kept same =
+      queues_same y.queue x.queue e number same (queue_placed d k.sound.owners e y there (k.turns.bulk.endpoints e y there) kept)
+      (queue_placed d k.sound.owners number x k.ready.here standing its_alive)
 
   is_new : (e : ℕ) (y : Endpoint) → slice_get d.endpoints e ≡ Some y → e ≡ number → y ≡ x
   is_new e y there same = same_Some y x (sym there ∙ ap (slice_get d.endpoints) same ∙ k.ready.here)
 
-  apart : (e : ℕ) (y : Endpoint) → slice_get d.endpoints e ≡ Some y → e ≢ number → 32 * y.queue ≢ n
-  apart e y there differs same = differs (same_number e y there (thirty_two y.queue x.queue same))
+  apart : (e : ℕ) (y : Endpoint) → slice_get d.endpoints e ≡ Some y → y.gone ≡ false → e ≢ number → 32 * y.queue ≢ n
+  apart e y there kept differs same = differs (same_number e y there kept (thirty_two y.queue x.queue same))
 
   -- the slot of another endpoint's inactive qTD stays
-  slot_stays : (e : ℕ) (y : Endpoint) → slice_get d.endpoints e ≡ Some y → e ≢ number → slot_of lent_book.slots y.dummy ≡ slot_of d.book.slots y.dummy
-  slot_stays e y there differs =
-      let mine = dummy_placed d k.sound.owners e y there (k.turns.bulk.endpoints e y there) in
-      let queue = queue_placed d k.sound.owners number x k.ready.here (k.turns.bulk.endpoints number x k.ready.here) in
-      let dummy = dummy_placed d k.sound.owners number x k.ready.here (k.turns.bulk.endpoints number x k.ready.here) in
+  slot_stays : (e : ℕ) (y : Endpoint) → slice_get d.endpoints e ≡ Some y → y.gone ≡ false → e ≢ number → slot_of lent_book.slots y.dummy ≡ slot_of d.book.slots y.dummy
+  slot_stays e y there kept differs =
+      let mine = dummy_placed d k.sound.owners e y there (k.turns.bulk.endpoints e y there) kept in
+      let queue = queue_placed d k.sound.owners number x k.ready.here standing its_alive in
+      let dummy = dummy_placed d k.sound.owners number x k.ready.here standing its_alive in
       other_slot (holding d.book p.memory) x.queue x.dummy y.dummy k.ready.opened.taken
       (λ same. no_queue_dummy e number (sym mine.owned ∙ ap k.sound.owners.owner same ∙ queue.owned))
       (λ same. differs (ap dummy_number (sym mine.owned ∙ ap k.sound.owners.owner same ∙ dummy.owned)))
@@ -180,21 +190,14 @@ module _ (base : Base) (w : Walk) (hand : Hand) (p : DriverParts) (member stream
       never : Some (unfinished.Open x.queue) ≡ Some (unfinished.Publish b words) → ⊥
       never same = cc
 
-  head_old : (m : ℕ) → HasHead d m → HasHead f m
-  head_old m h = record { number = h.number; endpoint = h.endpoint; here = h.here; met = h.met; at = h.at }
+  queues_stay : SameQueues d f
+  queues_stay = same_ends d f (record { waiting = refl; rung = refl; opens = λ c is. is }) (record { waiting = refl; rung = refl; opens = λ c is. is }) refl
 
   met_then : AreMet f member
-  met_then = record {
-    head = k.stand.met.head;
-    each = λ e y there met. k.stand.met.each e y there met;
-    only = λ m on. ⊎_elim (λ (head : m ≡ 32 * head_block). inl head) (λ (h : HasHead d m). inr (head_old m h)) (k.stand.met.only m on);
-  }
+  met_then = met_stays d f member queues_stay k.stand.met
 
   streams_then : HaveStreams f streams ends
-  streams_then = record {
-    each = λ e y there met. k.stand.streams_are.each e y there met;
-    only = λ m on. head_old m (k.stand.streams_are.only m on);
-  }
+  streams_then = streams_stay d f streams ends queues_stay k.stand.streams_are
 
   none_of : (made t : ℕ) (y : Transfer) → (if nat_eq (suc t) (length d.transfers) then unpublished d.command made y.qtds else 0) ≡ 0
   none_of made t y =
@@ -202,14 +205,14 @@ module _ (base : Base) (w : Walk) (hand : Hand) (p : DriverParts) (member stream
 
   fed_then : AreFed f now
   fed_then = record {
-    dummies = λ e y there lent.
+    dummies = λ e y there kept lent.
         ⊎_elim (λ (same : e ≡ number).
         ap (λ (z : Endpoint). now (32 * z.queue) (32 * z.dummy)) (is_new e y there same) ∙ unmet.1 (32 * x.dummy) ∙ with_here (with_structure no_part n (QueueHead q)) (32 * x.dummy) (Element dummy_qtd))
         (λ (differs : e ≢ number).
-        ap (λ (part : Structures). part (32 * y.dummy)) (stay (32 * y.queue) (apart e y there differs))
-        ∙ k.stand.fed.dummies e y there (subst IsLent (slot_stays e y there differs) lent)) (cases_eq e number);
+        ap (λ (part : Structures). part (32 * y.dummy)) (stay (32 * y.queue) (apart e y there kept differs))
+        ∙ k.stand.fed.dummies e y there kept (subst IsLent (slot_stays e y there kept differs) lent)) (cases_eq e number);
     pieces = λ t j y z there held here from below.
-        let differs : 32 * z.queue ≢ n = apart y.endpoint z here (k.ready.none t y there) in
+        let differs : 32 * z.queue ≢ n = apart y.endpoint z here (held_alive d t y z k.turns.turns there held here) (k.ready.none t y there) in
         let none : unpublished_of d t y ≡ 0 = none_of d.made t y in
         subst (λ (part : Structures). IsPieceFed y.sort part (note_at d.notes (piece_at (note_in d.notes) y.first j)) (piece_at (note_in d.notes) y.first j) (piece_at (note_in d.notes) y.first y.qtds)) (sym (stay (32 * z.queue) differs))
         (k.stand.fed.pieces t j y z there held here (omega (arith, none)) below);
@@ -218,13 +221,13 @@ module _ (base : Base) (w : Walk) (hand : Hand) (p : DriverParts) (member stream
 
   last_then : AreLast f now order
   last_then = record {
-    dummies = λ e y there lent.
+    dummies = λ e y there kept lent.
         ⊎_elim (λ (same : e ≡ number).
         subst (λ (z : Endpoint). IsLast (order (32 * z.queue)) (now (32 * z.queue)) (32 * z.dummy)) (sym (is_new e y there same))
         (λ a t is other. absurd (other (its_element r q a t (sym (unmet.1 a) ∙ is)))))
         (λ (differs : e ≢ number).
-        subst (λ (part : Structures). IsLast (order (32 * y.queue)) part (32 * y.dummy)) (sym (stay (32 * y.queue) (apart e y there differs)))
-        (k.stand.last.dummies e y there (subst IsLent (slot_stays e y there differs) lent))) (cases_eq e number);
+        subst (λ (part : Structures). IsLast (order (32 * y.queue)) part (32 * y.dummy)) (sym (stay (32 * y.queue) (apart e y there kept differs)))
+        (k.stand.last.dummies e y there kept (subst IsLent (slot_stays e y there kept differs) lent))) (cases_eq e number);
     taken = λ b words t y z command made newest there first here. absurd (open_of command);
     sorted = λ b words t y z command made newest there first here. absurd (open_of command);
   }
@@ -235,7 +238,7 @@ module _ (base : Base) (w : Walk) (hand : Hand) (p : DriverParts) (member stream
       ∙ sym (ap (λ (o : Option Command). out_of (note_in d.notes) e o 1 d.transfers) k.ready.command)
 
   out_then : AreStillOut f out
-  out_then e y there met = k.stand.out_are e y there met ∙ out_same e
+  out_then e y there is = k.stand.out_are e y there (record { linked = is.linked; kept = is.kept }) ∙ out_same e
 
   lent_then : IsOpenLent f member now
   lent_then = record {
@@ -244,6 +247,7 @@ module _ (base : Base) (w : Walk) (hand : Hand) (p : DriverParts) (member stream
     here = k.ready.here;
     command = k.ready.command;
     made = refl;
+    fresh = k.ready.fresh;
     unmet = unmet.0;
     none = k.ready.none;
     link = k.ready.link;
@@ -280,10 +284,16 @@ module _ (base : Base) (w : Walk) (hand : Hand) (p : DriverParts) (member stream
         );
   }
 
-  pub reports_by : (acc : ℕ → List (List ℕ)) (reported : ℕ → List ℕ) (heads : ℕ → Bool) → ((m : ℕ) → heads m ≡ true → member m ≡ true) → AreReported heads order out hand parts acc reported → AreReported heads order out hand now acc reported
+  -- no endpoint that is there has its queue head
+  there_apart : (m : ℕ) → HasThere d m → m ≢ n
+  there_apart m h same =
+      let number = same_number h.number h.endpoint h.here h.there.kept (thirty_two h.endpoint.queue x.queue (sym h.at ∙ same)) in
+      h.there.linked (k.ready.command ∙ ap (λ (z : Endpoint). Some (unfinished.Open z.queue)) (sym (is_new h.number h.endpoint h.here number)))
+
+  pub reports_by : (acc : ℕ → List (List ℕ)) (reported : ℕ → List ℕ) (heads : ℕ → Bool) → ((m : ℕ) → heads m ≡ true → HasThere d m) → AreReported heads order out hand parts acc reported → AreReported heads order out hand now acc reported
   reports_by acc reported heads members right m on =
       let g = right m on in
-      let same : now m ≡ parts m = stay m (met_apart m (members m on)) in
+      let same : now m ≡ parts m = stay m (there_apart m (members m on)) in
       record {
         place = g.place;
         told = g.told;

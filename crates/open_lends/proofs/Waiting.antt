@@ -23,6 +23,7 @@ lent_stays begins transacts base member parts hand c wire after now later d cont
   here = k.here;
   command = k.command;
   made = k.made;
+  fresh = k.fresh;
   unmet = k.unmet;
   none = k.none;
   link = k.link;

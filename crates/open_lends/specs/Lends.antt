@@ -36,6 +36,7 @@ use Rattle.reported_streams.specs.Reported.{AreReported}
 use Rattle.chained_transfers.specs.InTurn.{TakesTurns}
 use Rattle.fed_stores.specs.Stores.{QueuesThen}
 use Rattle.open_stores.specs.Opens.{IsOpenLent, next_of}
+use Rattle.fed_queues.specs.Places.{HasThere}
 
 pub record IsOpenReady (d : DriverContent) (m : Mem) : Type 0 where
   pub number : ℕ
@@ -43,6 +44,7 @@ pub record IsOpenReady (d : DriverContent) (m : Mem) : Type 0 where
   pub here : slice_get d.endpoints number ≡ Some endpoint
   pub command : d.command ≡ Some (unfinished.Open endpoint.queue)
   pub made : d.made ≡ 0
+  pub fresh : endpoint.linked ≡ true
   pub none : (t : ℕ) (y : Transfer) → slice_get d.transfers t ≡ Some y → y.endpoint ≢ number
   pub link : ℕ
   pub opened : IsOpened d m number (runs_of_endpoint endpoint) (queue_head endpoint.desc link endpoint.dummy)
@@ -78,7 +80,7 @@ abbrev pub LendReports : Type 0
 LendReports = (acc : ℕ → List (List ℕ)) (reported : ℕ → List ℕ) (heads : ℕ → Bool) (base : Base) (w : Walk) (hand : Hand) (p : DriverParts) (member streams : ℕ → Bool) (ends : ℕ → Told)
     (parts : StructureSets) (order : ℕ → ℕ → ℕ) (out : ℕ → List ℕ) → (k : IsAtLend p.driver p.memory member streams ends parts order out)
     → DrivesRing base member parts hand (place w p.registers p.memory) p.driver
-    → ((n : ℕ) → heads n ≡ true → member n ≡ true) → AreReported heads order out hand parts acc reported → AreReported heads order out hand (parts_lent parts k.ready) acc reported
+    → ((n : ℕ) → heads n ≡ true → HasThere p.driver n) → AreReported heads order out hand parts acc reported → AreReported heads order out hand (parts_lent parts k.ready) acc reported
 
 -- ---- between the lend and the store
 

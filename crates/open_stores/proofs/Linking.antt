@@ -36,6 +36,7 @@ use Rattle.driver_lends.proofs.Linking.{link_opens_drives}
 use Rattle.ring_streams.specs.Told.{Endpoint as Told}
 use Rattle.fed_stores.proofs.Apart.{queue_placed, dummy_placed}
 use Rattle.open_stores.specs.Opens.{IsAtOpen, head_then, hand_then, next_of, OpenIsLinked}
+use Rattle.chained_transfers.proofs.Staying.{linked_alive}
 
 -- ---- the link of a queue head by its word
 
@@ -104,8 +105,9 @@ module _ (p : DriverParts) (member streams : ℕ → Bool) (ends : ℕ → Told)
   pub differs : x.queue ≢ x.dummy
   differs same =
       let stands = k.turns.bulk.endpoints k.lent.number x k.lent.here in
-      let one = (queue_placed d k.sound.owners k.lent.number x k.lent.here stands).owned in
-      let other = (dummy_placed d k.sound.owners k.lent.number x k.lent.here stands).owned in
+      let alive = linked_alive x stands k.lent.fresh in
+      let one = (queue_placed d k.sound.owners k.lent.number x k.lent.here stands alive).owned in
+      let other = (dummy_placed d k.sound.owners k.lent.number x k.lent.here stands alive).owned in
       never (sym one ∙ ap k.sound.owners.owner same ∙ other)
     where
       never : QueueOf k.lent.number ≡ Dummy k.lent.number → ⊥

@@ -24,15 +24,17 @@ use Rattle.ring_streams.specs.Told.{Endpoint as Told, endpoint_of}
 use Rattle.driver_lends.specs.Linked.{with_member, head_at}
 use Rattle.opened_streams.specs.Opened.{with_end, with_none}
 use Rattle.opened_streams.proofs.Beginning.{end_here, end_beside, list_here, list_beside}
-use Rattle.chained_transfers.specs.Bulk.{receives}
+use Rattle.chained_transfers.specs.Bulk.{receives, IsStanding}
 use Rattle.chained_transfers.specs.Out.{unpublished, out_of_transfer, out_of, out_now}
 use Rattle.fed_queues.specs.Fed.{IsPieceFed, unpublished_of, AreFed}
-use Rattle.fed_queues.specs.Places.{IsMet, HasHead, AreMet, HaveStreams, AreLast, AreStillOut}
+use Rattle.fed_queues.specs.Places.{IsMet, HasHead, AreMet, HaveStreams, AreLast, AreStillOut, IsThere}
 use Rattle.fed_stores.specs.Stores.{QueuesThen}
 use Rattle.fed_stores.proofs.Outs.{other_part}
 use Rattle.fed_stores.proofs.Apart.{queue_placed, queues_same, thirty_two}
 use Rattle.open_stores.specs.Opens.{IsAtOpen, head_then, end_then, streams_then, next_of, OpenStands}
 use Rattle.open_stores.proofs.Linking.{driver_is}
+use Rattle.chained_transfers.proofs.Staying.{linked_alive}
+use Rattle.endpoint_lives.proofs.Lives.{linked_met}
 
 -- ---- lists of what is out
 
@@ -147,7 +149,7 @@ module _ (p : DriverParts) (member streams : ℕ → Bool) (ends : ℕ → Told)
 
   fed_then : AreFed f now
   fed_then = record {
-    dummies = λ e y there lent. stays (32 * y.queue) (32 * y.dummy) (Element dummy_qtd) (no_element dummy_qtd) (k.stand.fed.dummies e y there lent);
+    dummies = λ e y there kept lent. stays (32 * y.queue) (32 * y.dummy) (Element dummy_qtd) (no_element dummy_qtd) (k.stand.fed.dummies e y there kept lent);
     pieces = λ t j y z there held here from below.
         let none = none_before t y in
         fed_now y.sort (32 * z.queue) (note_at d.notes (piece_at (note_in d.notes) y.first j)) (piece_at (note_in d.notes) y.first j) (piece_at (note_in d.notes) y.first y.qtds)
@@ -157,7 +159,7 @@ module _ (p : DriverParts) (member streams : ℕ → Bool) (ends : ℕ → Told)
 
   last_then : AreLast f now order
   last_then = record {
-    dummies = λ e y there lent a t is differs. k.stand.last.dummies e y there lent a t (element_was (32 * y.queue) a t is) differs;
+    dummies = λ e y there kept lent a t is differs. k.stand.last.dummies e y there kept lent a t (element_was (32 * y.queue) a t is) differs;
     taken = λ b words t y z command made newest there first here. absurd (no_command command);
     sorted = λ b words t y z command made newest there first here. absurd (no_command command);
   }
@@ -171,33 +173,42 @@ module _ (p : DriverParts) (member streams : ℕ → Bool) (ends : ℕ → Told)
   queue_of (Some (unfinished.Open c)) = c
   queue_of o = 0
 
-  same_number : (e : ℕ) (y : Endpoint) → slice_get d.endpoints e ≡ Some y → y.queue ≡ x.queue → e ≡ k.lent.number
-  same_number e y there same =
-      queues_same y.queue x.queue e k.lent.number same (queue_placed d k.sound.owners e y there (k.turns.bulk.endpoints e y there))
-      (queue_placed d k.sound.owners k.lent.number x k.lent.here (k.turns.bulk.endpoints k.lent.number x k.lent.here))
+  standing : IsStanding x
+  standing = k.turns.bulk.endpoints k.lent.number x k.lent.here
 
-  met_before : (e : ℕ) (y : Endpoint) → slice_get d.endpoints e ≡ Some y → e ≢ k.lent.number → IsMet d y
+  pub its_alive : x.gone ≡ false
+  its_alive = linked_alive x standing k.lent.fresh
+
+  pub same_number : (e : ℕ) (y : Endpoint) → slice_get d.endpoints e ≡ Some y → y.gone ≡ false → y.queue ≡ x.queue → e ≡ k.lent.number
+  same_number e y there kept same =
+      queues_same y.queue x.queue e k.lent.number same (queue_placed d k.sound.owners e y there (k.turns.bulk.endpoints e y there) kept)
+      (queue_placed d k.sound.owners k.lent.number x k.lent.here standing its_alive)
+
+  there_before : (e : ℕ) (y : Endpoint) → slice_get d.endpoints e ≡ Some y → e ≢ k.lent.number → IsThere f y → IsThere d y
   unfolding queue_of
-  met_before e y there differs same = differs (same_number e y there (ap queue_of (sym same ∙ k.lent.command)))
+  there_before e y there differs is = record { linked = λ same. differs (same_number e y there is.kept (ap queue_of (sym same ∙ k.lent.command))); kept = is.kept }
+
+  met_before : (e : ℕ) (y : Endpoint) → slice_get d.endpoints e ≡ Some y → e ≢ k.lent.number → IsMet f e y → IsMet d e y
+  met_before e y there differs met = record { there = there_before e y there differs met.there; near = met.near }
 
   is_new : (e : ℕ) (y : Endpoint) → slice_get d.endpoints e ≡ Some y → e ≡ k.lent.number → y ≡ x
   is_new e y there same = same_Some y x (sym there ∙ ap (slice_get d.endpoints) same ∙ k.lent.here)
 
-  apart : (e : ℕ) (y : Endpoint) → slice_get d.endpoints e ≡ Some y → e ≢ k.lent.number → 32 * y.queue ≢ n
-  apart e y there differs same = differs (same_number e y there (thirty_two y.queue x.queue same))
+  apart : (e : ℕ) (y : Endpoint) → slice_get d.endpoints e ≡ Some y → y.gone ≡ false → e ≢ k.lent.number → 32 * y.queue ≢ n
+  apart e y there kept differs same = differs (same_number e y there kept (thirty_two y.queue x.queue same))
 
   head_new : (m : ℕ) → m ≡ n → HasHead f m
-  head_new m same = record { number = k.lent.number; endpoint = x; here = k.lent.here; met = none_open x.queue; at = same }
+  head_new m same = record { number = k.lent.number; endpoint = x; here = k.lent.here; met = record { there = record { linked = none_open x.queue; kept = its_alive }; near = linked_met f k.lent.number x k.lent.fresh }; at = same }
 
   head_old : (m : ℕ) → HasHead d m → HasHead f m
-  head_old m h = record { number = h.number; endpoint = h.endpoint; here = h.here; met = none_open h.endpoint.queue; at = h.at }
+  head_old m h = record { number = h.number; endpoint = h.endpoint; here = h.here; met = record { there = record { linked = none_open h.endpoint.queue; kept = h.met.there.kept }; near = h.met.near }; at = h.at }
 
   met_then : AreMet f (with_member member n)
   met_then = record {
     head = member_old member n head_at k.stand.met.head;
     each = λ e y there met.
         ⊎_elim (λ (same : e ≡ k.lent.number). ap (λ (z : Endpoint). with_member member n (32 * z.queue)) (is_new e y there same) ∙ member_here member n)
-        (λ (differs : e ≢ k.lent.number). member_old member n (32 * y.queue) (k.stand.met.each e y there (met_before e y there differs))) (cases_eq e k.lent.number);
+        (λ (differs : e ≢ k.lent.number). member_old member n (32 * y.queue) (k.stand.met.each e y there (met_before e y there differs met))) (cases_eq e k.lent.number);
     only = λ m on.
         ⊎_elim (λ (same : m ≡ n). inr (head_new m same))
         (λ (differs : m ≢ n). ⊎_elim (λ (head : m ≡ 32 * head_block). inl head) (λ (h : HasHead d m). inr (head_old m h)) (k.stand.met.only m (member_beside member n m differs on))) (cases_eq m n);
@@ -212,8 +223,8 @@ module _ (p : DriverParts) (member streams : ℕ → Bool) (ends : ℕ → Told)
           ap (λ (z : Endpoint). with_end ends n (end_then x) (32 * z.queue)) is ∙ end_here ends n (end_then x) ∙ ap (λ (z : Endpoint). endpoint_of (queue_head z.desc 0 z.dummy)) (sym is),
         ))
         (λ (differs : e ≢ k.lent.number).
-        let was = k.stand.streams_are.each e y there (met_before e y there differs) in
-        let other = apart e y there differs in (
+        let was = k.stand.streams_are.each e y there (met_before e y there differs met) in
+        let other = apart e y there met.there.kept differs in (
           then_beside streams x (32 * y.queue) other ∙ was.0,
           end_beside ends n (end_then x) (32 * y.queue) other ∙ was.1,
         )) (cases_eq e k.lent.number);
@@ -229,7 +240,7 @@ module _ (p : DriverParts) (member streams : ℕ → Bool) (ends : ℕ → Told)
       ⊎_elim (λ (same : e ≡ k.lent.number).
       ap (λ (z : Endpoint). with_none out n (32 * z.queue)) (is_new e y there same) ∙ list_here out n ∙ sym (none_out (note_in d.notes) k.lent.number d.transfers k.lent.none) ∙ ap (out_now f) (sym same))
       (λ (differs : e ≢ k.lent.number).
-      list_beside out n (32 * y.queue) (apart e y there differs) ∙ k.stand.out_are e y there (met_before e y there differs) ∙ out_before e) (cases_eq e k.lent.number)
+      list_beside out n (32 * y.queue) (apart e y there met.kept differs) ∙ k.stand.out_are e y there (there_before e y there differs met) ∙ out_before e) (cases_eq e k.lent.number)
 
   pub stands_by : QueuesThen (next_of p).driver (with_member member n) (streams_then streams x) (with_end ends n (end_then x)) now order (with_none out n)
   stands_by =

@@ -35,11 +35,11 @@ use Rattle.opened_streams.specs.Opened.{with_stream, with_end, with_none, IsBegi
 use Rattle.opened_streams.proofs.Beginning.{ends_with_one, pipes_with_one, reports_with_one, unopened_less_one, ends_with_other, pipes_with_other, unopened_with_other}
 use Rattle.opened_streams.proofs.Alike.{alike_ends, alike_pipes, alike_unopened}
 use Rattle.chained_transfers.specs.Bulk.{IsDataWay, receives}
-use Rattle.fed_queues.specs.Places.{HasHead}
+use Rattle.fed_queues.specs.Places.{HasHead, HasThere}
 use Rattle.fed_stores.proofs.Apart.{queue_placed, thirty_two}
 use Rattle.open_stores.specs.Opens.{AreNamesApart, IsAtOpen, head_then, hand_then, end_then, streams_then, OpenPipes, OpenReports}
 use Rattle.open_stores.proofs.Linking.{here}
-use Rattle.open_stores.proofs.Standing.{then_here, then_beside, member_here, member_old, member_beside, element_was}
+use Rattle.open_stores.proofs.Standing.{then_here, then_beside, member_here, member_old, member_beside, element_was, its_alive, same_number}
 
 -- ---- its part
 
@@ -99,9 +99,9 @@ module _ (base : Base) (w : Walk) (hand : Hand) (p : DriverParts) (member stream
   later = hand_then hand x
 
   -- a queue head of an endpoint isn't the head of the ring
-  not_head : (e : ℕ) (y : Endpoint) → slice_get d.endpoints e ≡ Some y → 32 * y.queue ≢ head_at
-  not_head e y there same =
-      never (sym (queue_placed d k.sound.owners e y there (k.turns.bulk.endpoints e y there)).owned ∙ ap k.sound.owners.owner (thirty_two y.queue head_block same) ∙ k.sound.owners.owned.each.head.owned)
+  not_head : (e : ℕ) (y : Endpoint) → slice_get d.endpoints e ≡ Some y → y.gone ≡ false → 32 * y.queue ≢ head_at
+  not_head e y there kept same =
+      never (sym (queue_placed d k.sound.owners e y there (k.turns.bulk.endpoints e y there) kept).owned ∙ ap k.sound.owners.owner (thirty_two y.queue head_block same) ∙ k.sound.owners.owned.each.head.owned)
     where
       never : QueueOf e ≡ Head → ⊥
       never z = cc
@@ -110,7 +110,7 @@ module _ (base : Base) (w : Walk) (hand : Hand) (p : DriverParts) (member stream
   stay m differs = put_beside parts head_at head_at (QueueHead (record k.queue { link = to_queue_head x.queue })) m differs
 
   n_differs : n ≢ head_at
-  n_differs = not_head k.lent.number x k.lent.here
+  n_differs = not_head k.lent.number x k.lent.here (its_alive p member streams ends parts order out k)
 
   here_now : now n n ≡ Some (QueueHead q)
   here_now = ap (λ (part : Structures). part n) (stay n n_differs) ∙ here p member streams ends parts order out k
@@ -136,17 +136,19 @@ module _ (base : Base) (w : Walk) (hand : Hand) (p : DriverParts) (member stream
 
   -- ---- beside queue heads that the walk may meet already
 
-  module _ (those : ℕ → Bool) (had : (m : ℕ) → those m ≡ true → HasHead d m) where
+  module _ (those : ℕ → Bool) (had : (m : ℕ) → those m ≡ true → HasThere d m) where
     apart_from_head : (m : ℕ) → those m ≡ true → m ≢ head_at
-    apart_from_head m on same = let h : HasHead d m = had m on in not_head h.number h.endpoint h.here (sym h.at ∙ same)
+    apart_from_head m on same = let h : HasThere d m = had m on in not_head h.number h.endpoint h.here h.there.kept (sym h.at ∙ same)
 
     pub not_yet : those n ≡ false
     not_yet = by_test (those n) refl
       where
         by_test : (b : Bool) → those n ≡ b → those n ≡ false
         by_test true on =
-            let h : HasHead d n = had n on in
-            absurd (false≢true (sym k.lent.unmet ∙ ap member h.at ∙ k.stand.met.each h.number h.endpoint h.here h.met))
+            let h : HasThere d n = had n on in
+            let number = same_number p member streams ends parts order out k h.number h.endpoint h.here h.there.kept (thirty_two h.endpoint.queue x.queue (sym h.at)) in
+            let same : h.endpoint ≡ x = same_Some h.endpoint x (sym h.here ∙ ap (slice_get d.endpoints) number ∙ k.lent.here) in
+            absurd (h.there.linked (k.lent.command ∙ ap (λ (z : Endpoint). Some (unfinished.Open z.queue)) (sym same)))
         by_test false off = off
 
     pub one_more : IsOneMore those hand later parts now n (end_then x)
@@ -164,11 +166,14 @@ module _ (base : Base) (w : Walk) (hand : Hand) (p : DriverParts) (member stream
         → AreReported (with_stream those n) order (with_none out n) later now (with_none acc n) (with_none reported n)
     reports_by acc reported right = reports_with_one those order out hand later parts now acc reported n (end_then x) one_more right
 
+  streams_there : (m : ℕ) → streams m ≡ true → HasThere d m
+  streams_there m on = let h = k.stand.streams_are.only m on in record { number = h.number; endpoint = h.endpoint; here = h.here; there = h.met.there; at = h.at }
+
   more : IsOneMore streams hand later parts now n (end_then x)
-  more = one_more streams k.stand.streams_are.only
+  more = one_more streams streams_there
 
   new : streams n ≡ false
-  new = not_yet streams k.stand.streams_are.only
+  new = not_yet streams streams_there
 
   -- as its endpoint receives or not
   with_one : receives x.desc.name.way ≡ true → (m : ℕ) → streams_then streams x m ≡ with_stream streams n m
@@ -219,7 +224,7 @@ module _ (base : Base) (w : Walk) (hand : Hand) (p : DriverParts) (member stream
         let number : h.number ≡ k.lent.number =
         names h.number k.lent.number h.endpoint x h.here k.lent.here (sym (ap (λ (z : Told). z.addr) is) ∙ addr) (sym (ap (λ (z : Told). z.ep) is) ∙ ep)
         (in_way h.number h.endpoint h.here too ∙ sym (in_way k.lent.number x k.lent.here gets)) in
-        met_not h.endpoint (same_Some h.endpoint x (sym h.here ∙ ap (slice_get d.endpoints) number ∙ k.lent.here)) h.met
+        met_not h.endpoint (same_Some h.endpoint x (sym h.here ∙ ap (slice_get d.endpoints) number ∙ k.lent.here)) h.met.there.linked
 
     elsewhere : (m : ℕ) → IsElsewhere stream parts m (ends m) → IsElsewhere stream now m (ends m)
     elsewhere m was = (

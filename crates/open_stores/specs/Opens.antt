@@ -31,7 +31,7 @@ use Rattle.opened_streams.specs.Unopened.{AreUnopened}
 use Rattle.opened_streams.specs.Opened.{with_stream, with_end, with_none}
 use Rattle.chained_transfers.specs.Bulk.{receives}
 use Rattle.chained_transfers.specs.InTurn.{TakesTurns}
-use Rattle.fed_queues.specs.Places.{HasHead}
+use Rattle.fed_queues.specs.Places.{HasThere}
 use Rattle.fed_stores.specs.Stores.{QueuesThen}
 
 pub record IsOpenLent (d : DriverContent) (member : ℕ → Bool) (parts : StructureSets) : Type 0 where
@@ -40,6 +40,7 @@ pub record IsOpenLent (d : DriverContent) (member : ℕ → Bool) (parts : Struc
   pub here : slice_get d.endpoints number ≡ Some endpoint
   pub command : d.command ≡ Some (unfinished.Open endpoint.queue)
   pub made : d.made ≡ 1
+  pub fresh : endpoint.linked ≡ true
   pub unmet : member (32 * endpoint.queue) ≡ false
   pub none : (t : ℕ) (y : Transfer) → slice_get d.transfers t ≡ Some y → y.endpoint ≢ number
   pub link : ℕ
@@ -98,7 +99,7 @@ abbrev pub OpenReports : Type 0
 OpenReports = (acc : ℕ → List (List ℕ)) (reported : ℕ → List ℕ) (heads : ℕ → Bool) (base : Base) (w : Walk) (hand : Hand) (p : DriverParts) (member streams : ℕ → Bool) (ends : ℕ → Told)
     (parts : StructureSets) (order : ℕ → ℕ → ℕ) (out : ℕ → List ℕ) → (k : IsAtOpen p.driver p.memory member streams ends parts order out)
     → DrivesRing base member parts hand (place w p.registers p.memory) p.driver
-    → ((n : ℕ) → heads n ≡ true → HasHead p.driver n) → AreReported heads order out hand parts acc reported
+    → ((n : ℕ) → heads n ≡ true → HasThere p.driver n) → AreReported heads order out hand parts acc reported
     → AreReported (with_stream heads (32 * k.lent.endpoint.queue)) order (with_none out (32 * k.lent.endpoint.queue)) (hand_then hand k.lent.endpoint) (head_then parts k.queue k.lent.endpoint)
     (with_none acc (32 * k.lent.endpoint.queue)) (with_none reported (32 * k.lent.endpoint.queue))
 

@@ -17,6 +17,8 @@ use Rattle.run_owners.specs.Owners.{NoteRuns, note_in}
 use Rattle.chained_transfers.specs.Bulk.{receives}
 use Rattle.chained_transfers.specs.Chains.{piece_at}
 use Rattle.chained_transfers.specs.InTurn.{TakesTurns}
+use Rattle.chained_transfers.proofs.Staying.{told_alive}
+use Rattle.endpoint_lives.specs.Lives.{told_end}
 use Rattle.chained_transfers.specs.Out.{pieces_from, unpublished, passed, out_of_transfer, if_last, out_of, out_now}
 use Rattle.lent_structures.specs.Structures.{Structures, StructureSets, Tells}
 use Rattle.ring_walk.specs.Effects.{bytes_in, buffer_of}
@@ -30,7 +32,7 @@ use Rattle.owed_puts.specs.Owed.{rest_from, rest_of, AreReadToEnd}
 use Rattle.owed_puts.specs.Buffers.{IsPublishingTo, BuffersAreRest, BuffersBeforeLend, IsRestAround, BuffersAround}
 use Rattle.owed_puts.proofs.Bytes.{no_bytes, held_first}
 use Rattle.owed_puts.proofs.Rests.{waits_on, waits_not, reported_not, one_rest, one_waits, one_none, rest_join}
-use Rattle.owed_puts.proofs.Same.{kept}
+use Rattle.owed_puts.proofs.Same.{not_gone, kept}
 
 -- ---- one qTD
 
@@ -120,7 +122,7 @@ publishes_none d e t y there own none newest = by d.command refl
 
 -- ---- all of them
 
-module _ (d : DriverContent) (m : Mem) (parts : StructureSets) (e : ℕ) (x : Endpoint) (turns : TakesTurns d) (tells : Tells m parts) (fed : AreFed d parts) (read : AreReadToEnd d) (here : slice_get d.endpoints e ≡ Some x) (sends : receives x.desc.name.way ≡ false) (goes : x.ended ≡ None) where
+module _ (d : DriverContent) (m : Mem) (parts : StructureSets) (e : ℕ) (x : Endpoint) (turns : TakesTurns d) (tells : Tells m parts) (fed : AreFed d parts) (read : AreReadToEnd d) (here : slice_get d.endpoints e ≡ Some x) (sends : receives x.desc.name.way ≡ false) (goes : told_end x ≡ None) where
   abbrev note : ℕ → NoteRuns
   note = note_in d.notes
 
@@ -144,7 +146,7 @@ module _ (d : DriverContent) (m : Mem) (parts : StructureSets) (e : ℕ) (x : En
   waiting_is : (t : ℕ) (y : Transfer) → slice_get d.transfers t ≡ Some y → y.endpoint ≡ e → y.reported ≡ false → unpublished_of d t y ≡ 0
       → one_rest m d.notes e y ≡ buffers_of (parts (32 * x.queue)) (out_of_transfer (note_in d.notes) e 0 y)
   waiting_is t y there own waits all =
-      let stays = kept d t y turns there waits in
+      let stays = kept d t y turns there (not_gone d e x y here (told_alive x (turns.bulk.endpoints e x here) goes) own) waits in
       let at = turns.turns.places t y there stays in
       let most = at.most in
       let late : unpublished_of d t y ≤ y.qtds - y.left = omega (arith, all) in

@@ -18,6 +18,7 @@ use Rattle.driver_rows.specs.Harvests.{note_at}
 use Rattle.driver_rows.specs.Offers.{Offered, Asked, new_runs, note_stages, new_endpoint, new_transfer}
 use Rattle.driver_rows.specs.Rows.{is_iso}
 use Rattle.driver_rows.specs.Words.{needs}
+use Rattle.endpoint_lives.specs.Lives.{told_end}
 use Rattle.run_owners.specs.Accepts.{Transfers}
 use Rattle.run_owners.specs.Kept.{HasOwners}
 use Rattle.run_owners.specs.Owners.{Element, QueueHead, IsPlaced, runs_of_endpoint, runs_of_transfer, note_in}
@@ -34,7 +35,7 @@ use Rattle.chained_transfers.proofs.Accepting.{command_received}
 use Rattle.chained_transfers.proofs.Commands.{asked_in_turn}
 use Rattle.chained_transfers.proofs.Queued.{not_dummy}
 use Rattle.chained_transfers.proofs.Ways.{sends_sort}
-use Rattle.fed_queues.specs.Places.{IsMet}
+use Rattle.fed_queues.specs.Places.{IsThere}
 use Rattle.fed_commands.proofs.Asked.{push_which, set_which, piece_placed}
 use Rattle.put_bytes.specs.Held.{held_bytes}
 use Rattle.held_puts.specs.Puts.{HoldsPuts, piece_of}
@@ -45,7 +46,7 @@ use Rattle.owed_puts.specs.Owed.{rest_from, rest_of, Owes}
 use Rattle.owed_puts.specs.Laws.{KeepsPuts, OpenOwes, AskedOwes, CommandOwes}
 use Rattle.owed_puts.proofs.Bytes.{held_left, told_same}
 use Rattle.owed_puts.proofs.Rests.{prefix_to, prefix_of, prefix_more, waits_is, waits_on, waits_not, one_rest, one_waits, one_none, rest_alike, rest_join, puts_kept, puts_push}
-use Rattle.owed_puts.proofs.Same.{kept, its_sort, its_bytes, same_open}
+use Rattle.owed_puts.proofs.Same.{not_gone, kept, its_sort, its_bytes, same_open, idle_there}
 
 none_open : (q : ℕ) → ◌≡◌ {A = Option Command} None (Some (unfinished.Open q)) → ⊥
 none_open q is = cc
@@ -55,12 +56,9 @@ publish_open b q words is = cc
 
 -- ---- an open
 
-module _ (d : DriverContent) (m : Mem) (o : Offered) (puts now reported : ℕ → List ℕ) (k : IsOpened d m o) (turns : TakesTurns d) (others : (e : ℕ) (x : Endpoint) → slice_get d.endpoints e ≡ Some x → o.driver.command ≢ Some (unfinished.Open x.queue)) (keeps : KeepsPuts d puts now) (held : HoldsPuts d m puts) (still : HoldsPuts o.driver o.memory now) (owes : Owes d m puts reported) where
+module _ (d : DriverContent) (m : Mem) (o : Offered) (puts now reported : ℕ → List ℕ) (k : IsOpened d m o) (turns : TakesTurns d) (others : (e : ℕ) (x : Endpoint) → slice_get d.endpoints e ≡ Some x → x.gone ≡ false → o.driver.command ≢ Some (unfinished.Open x.queue)) (keeps : KeepsPuts d puts now) (held : HoldsPuts d m puts) (still : HoldsPuts o.driver o.memory now) (owes : Owes d m puts reported) where
   abbrev new : Endpoint
   new = new_endpoint k.opens.desc (get_or (new_runs d k.opens.holding_after) 0 0) (get_or (new_runs d k.opens.holding_after) 1 0)
-
-  idle : (x : Endpoint) → IsMet d x
-  idle x is = none_open x.queue (sym k.opens.idle ∙ is)
 
   command_is : o.driver.command ≡ Some (unfinished.Open new.queue)
   command_is = ap (λ (p : Offered). p.driver.command) k.opens.is
@@ -80,23 +78,23 @@ module _ (d : DriverContent) (m : Mem) (o : Offered) (puts now reported : ℕ �
   its_number : (t : ℕ) (y : Transfer) → slice_get d.transfers t ≡ Some y → y.endpoint < length d.endpoints
   its_number t y there = let moves : MovesAs d y = turns.bulk.moves t y there in slice_get_within d.endpoints y.endpoint moves.endpoint moves.here
 
-  met_old : (e : ℕ) (x : Endpoint) → slice_get o.driver.endpoints e ≡ Some x → IsMet o.driver x → slice_get d.endpoints e ≡ Some x
+  met_old : (e : ℕ) (x : Endpoint) → slice_get o.driver.endpoints e ≡ Some x → IsThere o.driver x → slice_get d.endpoints e ≡ Some x
   met_old e x here meets =
       ⊎_elim (λ (was : slice_get d.endpoints e ≡ Some x). was)
-      (λ (is : (e ≡ length d.endpoints) × (x ≡ new)). absurd (meets (command_is ∙ ap (λ (z : Endpoint). Some (unfinished.Open z.queue)) (sym is.1)))) (which e x here)
+      (λ (is : (e ≡ length d.endpoints) × (x ≡ new)). absurd (meets.linked (command_is ∙ ap (λ (z : Endpoint). Some (unfinished.Open z.queue)) (sym is.1)))) (which e x here)
 
-  rest_same : (e : ℕ) (x : Endpoint) → slice_get d.endpoints e ≡ Some x → receives x.desc.name.way ≡ false → rest_of o.driver o.memory e ≡ rest_of d m e
-  rest_same e x here sends =
+  rest_same : (e : ℕ) (x : Endpoint) → slice_get d.endpoints e ≡ Some x → x.gone ≡ false → receives x.desc.name.way ≡ false → rest_of o.driver o.memory e ≡ rest_of d m e
+  rest_same e x here alive sends =
       ap (λ (ts : List Transfer). rest_from o.memory o.driver.notes e ts) transfers ∙ ap (λ (ns : List QtdNote). rest_from o.memory ns e d.transfers) notes
       ∙ rest_alike m o.memory d.notes d.notes e d.transfers
       (λ t y there waits.
       let own = waits_is e y waits in
-      let released = kept d t y turns there own.1 in
+      let released = kept d t y turns there (not_gone d e x y here alive own.0) own.1 in
       held_left o.memory d.notes y (now t) (turns.turns.places t y there released)
       (ap (λ (ns : List QtdNote). held_bytes o.memory ns y.first y.qtds) (sym notes)
       ∙ still.each t y (ap (λ (ts : List Transfer). slice_get ts t) transfers ∙ there) (its_sort d e t x y turns here sends there own.0) released)
       ∙ ap (piece_of d.notes y.first (y.qtds - y.left)) (keeps t (slice_get_within d.transfers t y there))
-      ∙ sym (its_bytes d m puts e t x y turns held here sends there waits))
+      ∙ sym (its_bytes d m puts e t x y turns held here alive sends there waits))
 
   puts_same : (e : ℕ) → concat (puts_of o.driver now e) ≡ concat (puts_of d puts e)
   puts_same e = ap (λ (ts : List Transfer). concat (puts_from now e 0 ts)) transfers ∙ ap concat (puts_kept puts now e d.transfers keeps)
@@ -105,12 +103,12 @@ module _ (d : DriverContent) (m : Mem) (o : Offered) (puts now reported : ℕ �
   opened_owes = record {
     going = λ e x here meets sends goes.
         let was = met_old e x here meets in
-        ap (λ (bs : List ℕ). reported (32 * x.queue) ++ bs) (rest_same e x was sends) ∙ owes.going e x was (idle x) sends goes ∙ sym (puts_same e);
+        ap (λ (bs : List ℕ). reported (32 * x.queue) ++ bs) (rest_same e x was meets.kept sends) ∙ owes.going e x was (idle_there d k.opens.idle x meets.kept) sends goes ∙ sym (puts_same e);
     over = λ e x cause here meets sends ends.
         let was = met_old e x here meets in
-        prefix_to (reported (32 * x.queue)) (concat (puts_of d puts e)) (concat (puts_of o.driver now e)) (sym (puts_same e)) (owes.over e x cause was (idle x) sends ends);
-    opening = λ e t x y here is there.
-        ⊎_elim (λ (was : slice_get d.endpoints e ≡ Some x). absurd (others e x was is))
+        prefix_to (reported (32 * x.queue)) (concat (puts_of d puts e)) (concat (puts_of o.driver now e)) (sym (puts_same e)) (owes.over e x cause was (idle_there d k.opens.idle x meets.kept) sends ends);
+    opening = λ e t x y here alive is there.
+        ⊎_elim (λ (was : slice_get d.endpoints e ≡ Some x). absurd (others e x was alive is))
         (λ (own : (e ≡ length d.endpoints) × (x ≡ new)). λ same. let below = its_number t y (had t y there) in let at = own.0 in omega (arith, below, at, same)) (which e x here);
     last = λ t y x there here sends goes is released.
         ⊎_elim (λ (was : slice_get d.endpoints y.endpoint ≡ Some x). owes.last t y x (had t y there) was sends goes is released)
@@ -135,8 +133,8 @@ module _ (d : DriverContent) (m : Mem) (o : Offered) (puts now reported : ℕ �
   turns_now : TakesTurns o.driver
   turns_now = asked_in_turn d m o stands owners k turns
 
-  met_before : (x : Endpoint) → IsMet d x
-  met_before x is = none_open x.queue (sym k.transfers.idle ∙ is)
+  there_before : (x : Endpoint) → x.gone ≡ false → IsThere d x
+  there_before x alive = idle_there d k.transfers.idle x alive
 
   transfers_are : o.driver.transfers ≡ d.transfers ++ added ∷ []
   transfers_are = ap (λ (f : Offered). f.driver.transfers) why.is
@@ -172,7 +170,8 @@ module _ (d : DriverContent) (m : Mem) (o : Offered) (puts now reported : ℕ �
     here : slice_get d.endpoints e ≡ Some endpoint
     queue : x.queue ≡ endpoint.queue
     desc : x.desc ≡ endpoint.desc
-    ended : x.ended ≡ endpoint.ended
+    gone : x.gone ≡ endpoint.gone
+    ended : told_end x ≡ told_end endpoint
     own : e ≡ k.transfers.number → endpoint ≡ k.transfers.endpoint
 
   was : (e : ℕ) (x : Endpoint) → slice_get o.driver.endpoints e ≡ Some x → WasEnd e x
@@ -184,7 +183,8 @@ module _ (d : DriverContent) (m : Mem) (o : Offered) (puts now reported : ℕ �
         here = ap (slice_get d.endpoints) own.0 ∙ why.here;
         queue = ap (λ (z : Endpoint). z.queue) own.1;
         desc = ap (λ (z : Endpoint). z.desc) own.1;
-        ended = ap (λ (z : Endpoint). z.ended) own.1;
+        gone = ap (λ (z : Endpoint). z.gone) own.1;
+        ended = ap (λ (z : Endpoint). told_end z) own.1;
         own = λ same. refl;
       })
       (λ (other : (e ≢ why.number) × (slice_get d.endpoints e ≡ Some x)). record {
@@ -192,6 +192,7 @@ module _ (d : DriverContent) (m : Mem) (o : Offered) (puts now reported : ℕ �
         here = other.1;
         queue = refl;
         desc = refl;
+        gone = refl;
         ended = refl;
         own = λ same. absurd (other.0 same);
       }) (set_which d.endpoints why.number e to _ x why.here at)
@@ -200,12 +201,12 @@ module _ (d : DriverContent) (m : Mem) (o : Offered) (puts now reported : ℕ �
   which_one t y here = push_which d.transfers added t y (sym (ap (λ (ts : List Transfer). slice_get ts t) transfers_are) ∙ here)
 
   -- what the older ones hold
-  older : (e : ℕ) (x : Endpoint) → slice_get d.endpoints e ≡ Some x → receives x.desc.name.way ≡ false → rest_from o.memory o.driver.notes e d.transfers ≡ rest_of d m e
-  older e x here sends =
+  older : (e : ℕ) (x : Endpoint) → slice_get d.endpoints e ≡ Some x → x.gone ≡ false → receives x.desc.name.way ≡ false → rest_from o.memory o.driver.notes e d.transfers ≡ rest_of d m e
+  older e x here still_there sends =
       rest_alike m o.memory d.notes o.driver.notes e d.transfers
       (λ t y there waits.
       let its = waits_is e y waits in
-      let released = kept d t y turns there its.1 in
+      let released = kept d t y turns there (not_gone d e x y here still_there its.0) its.1 in
       let i = y.qtds - y.left in
       let most = (turns.turns.places t y there released).most in
       let some = (turns.turns.places t y there released).some in
@@ -213,7 +214,7 @@ module _ (d : DriverContent) (m : Mem) (o : Offered) (puts now reported : ℕ �
       (still.each t y (old_there t y there) (its_sort d e t x y turns here sends there its.0) released)
       ∙ ap (λ (j : ℕ). drop j (now t)) (told_same d.notes o.driver.notes y.first i (λ j below. same_note t j y there released (omega (arith, below, some, most))))
       ∙ ap (piece_of d.notes y.first i) (keeps t (slice_get_within d.transfers t y there))
-      ∙ sym (its_bytes d m puts e t x y turns held here sends there waits))
+      ∙ sym (its_bytes d m puts e t x y turns held here still_there sends there waits))
 
   -- and the new one
   newest : (e : ℕ) (x : Endpoint) → slice_get d.endpoints e ≡ Some x → (e ≡ k.transfers.number → x ≡ k.transfers.endpoint) → receives x.desc.name.way ≡ false
@@ -229,11 +230,11 @@ module _ (d : DriverContent) (m : Mem) (o : Offered) (puts now reported : ℕ �
           ∙ still.each (length d.transfers) added (ap (λ (ts : List Transfer). slice_get ts (length d.transfers)) transfers_are ∙ push_last d.transfers added) put refl
       by false is = one_none o.memory o.driver.notes e added (waits_not e added (λ same. false≢true (sym is ∙ eq-eqb added.endpoint e same)))
 
-  rest_is : (e : ℕ) (x : Endpoint) → slice_get d.endpoints e ≡ Some x → (e ≡ k.transfers.number → x ≡ k.transfers.endpoint) → receives x.desc.name.way ≡ false
+  rest_is : (e : ℕ) (x : Endpoint) → slice_get d.endpoints e ≡ Some x → x.gone ≡ false → (e ≡ k.transfers.number → x ≡ k.transfers.endpoint) → receives x.desc.name.way ≡ false
       → rest_of o.driver o.memory e ≡ rest_of d m e ++ (if added.endpoint == e then now (length d.transfers) else [])
-  rest_is e x here own sends =
+  rest_is e x here alive own sends =
       ap (rest_from o.memory o.driver.notes e) transfers_are ∙ rest_join o.memory o.driver.notes e d.transfers (added ∷ [])
-      ∙ ap (λ (bs : List ℕ). bs ++ (one_rest o.memory o.driver.notes e added ++ [])) (older e x here sends)
+      ∙ ap (λ (bs : List ℕ). bs ++ (one_rest o.memory o.driver.notes e added ++ [])) (older e x here alive sends)
       ∙ ap (λ (bs : List ℕ). rest_of d m e ++ bs) (append-nil (one_rest o.memory o.driver.notes e added) ∙ newest e x here own sends)
 
   puts_are : (e : ℕ) → concat (puts_of o.driver now e) ≡ concat (puts_of d puts e) ++ (if added.endpoint == e then now (length d.transfers) else [])
@@ -250,9 +251,9 @@ module _ (d : DriverContent) (m : Mem) (o : Offered) (puts now reported : ℕ �
         let w = was e x here in
         let out = ap (λ (z : _). receives z.name.way) (sym w.desc) ∙ sends in
         let more = if added.endpoint == e then now (length d.transfers) else [] in
-        ap (λ (q : ℕ). reported (32 * q) ++ rest_of o.driver o.memory e) w.queue ∙ ap (λ (bs : List ℕ). reported (32 * w.endpoint.queue) ++ bs) (rest_is e w.endpoint w.here w.own out)
+        ap (λ (q : ℕ). reported (32 * q) ++ rest_of o.driver o.memory e) w.queue ∙ ap (λ (bs : List ℕ). reported (32 * w.endpoint.queue) ++ bs) (rest_is e w.endpoint w.here (sym w.gone ∙ meets.kept) w.own out)
         ∙ sym (append_assoc (reported (32 * w.endpoint.queue)) (rest_of d m e) more)
-        ∙ ap (λ (bs : List ℕ). bs ++ more) (owes.going e w.endpoint w.here (met_before w.endpoint) out (sym w.ended ∙ goes)) ∙ sym (puts_are e);
+        ∙ ap (λ (bs : List ℕ). bs ++ more) (owes.going e w.endpoint w.here (there_before w.endpoint (sym w.gone ∙ meets.kept)) out (sym w.ended ∙ goes)) ∙ sym (puts_are e);
     over = λ e x cause here meets sends ends.
         let w = was e x here in
         let out = ap (λ (z : _). receives z.name.way) (sym w.desc) ∙ sends in
@@ -260,8 +261,8 @@ module _ (d : DriverContent) (m : Mem) (o : Offered) (puts now reported : ℕ �
         prefix_to (reported (32 * x.queue)) (concat (puts_of d puts e) ++ more) (concat (puts_of o.driver now e)) (sym (puts_are e))
         (prefix_more (reported (32 * x.queue)) (concat (puts_of d puts e)) more
         (prefix_of (reported (32 * x.queue)) (reported (32 * w.endpoint.queue)) (concat (puts_of d puts e)) (ap (λ (q : ℕ). reported (32 * q)) w.queue)
-        (owes.over e w.endpoint cause w.here (met_before w.endpoint) out (sym w.ended ∙ ends))));
-    opening = λ e t x y here is there. absurd (no_open x.queue is);
+        (owes.over e w.endpoint cause w.here (there_before w.endpoint (sym w.gone ∙ meets.kept)) out (sym w.ended ∙ ends))));
+    opening = λ e t x y here alive is there. absurd (no_open x.queue is);
     last = λ t y x there here sends goes is released.
         ⊎_elim
         (λ (old : slice_get d.transfers t ≡ Some y).
@@ -276,15 +277,15 @@ asked_owes d m o puts now reported k owners stands turns keeps held still owes =
 -- ---- any command
 
 -- the new queue head has blocks of its own
-opens_apart : (d : DriverContent) (m : Mem) (o : Offered) → IsOpened d m o → HasOwners d → Stands (holding d.book m) → TakesTurns d → (e : ℕ) (x : Endpoint) → slice_get d.endpoints e ≡ Some x → o.driver.command ≢ Some (unfinished.Open x.queue)
-opens_apart d m o k owners stands turns e x there is =
+opens_apart : (d : DriverContent) (m : Mem) (o : Offered) → IsOpened d m o → HasOwners d → Stands (holding d.book m) → TakesTurns d → (e : ℕ) (x : Endpoint) → slice_get d.endpoints e ≡ Some x → x.gone ≡ false → o.driver.command ≢ Some (unfinished.Open x.queue)
+opens_apart d m o k owners stands turns e x there still is =
     let why = k.opens in
     let standing = turns.bulk.endpoints e x there in
     let all = runs_taken (holding d.book m) why.holding_after (2 ∷ 1 ∷ []) stands why.runs in
     let bs = all.blocks in
     let two : length bs ≡ 2 = all.are.long in
     let runs : new_runs d why.holding_after ≡ bs = ap (drop (length d.book.taken)) all.are.taken ∙ drop_first d.book.taken bs in
-    let alive : is_iso x.desc.kind || x.gone ≡ false = ap (λ c. is_iso c || x.gone) standing.bulk.kind ∙ standing.gone in
+    let alive : is_iso x.desc.kind || x.gone ≡ false = ap (λ c. is_iso c || x.gone) standing.bulk.kind ∙ still in
     fresh_differs 0 x.queue all.are (omega (arith, two))
     (placed_run x.queue (QueueHead e) (owners.owned.each.queue e (runs_of_endpoint x) (ap (option_map runs_of_endpoint) there) alive))
     (ap (λ (rs : List ℕ). get_or rs 0 0) (sym runs) ∙ same_open (get_or (new_runs d why.holding_after) 0 0) x.queue (sym (ap (λ (p : Offered). p.driver.command) why.is) ∙ is))

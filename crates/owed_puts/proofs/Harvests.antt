@@ -40,6 +40,8 @@ pub record ReadsTo (d new : DriverContent) (m : Mem) (e t : ℕ) (x : Endpoint) 
   pub ends : (f : ℕ) (v : Endpoint) → slice_get new.endpoints f ≡ Some v → ((f ≡ e) × (v ≡ endpoint)) ⊎ ((f ≢ e) × (slice_get d.endpoints f ≡ Some v))
   pub queue : endpoint.queue ≡ x.queue
   pub desc : endpoint.desc ≡ x.desc
+  pub gone : endpoint.gone ≡ x.gone
+  pub cancelled : endpoint.cancelled ≡ x.cancelled
   pub here : slice_get new.endpoints e ≡ Some endpoint
   pub beside : (f : ℕ) (v : Endpoint) → f ≢ e → slice_get d.endpoints f ≡ Some v → slice_get new.endpoints f ≡ Some v
   pub notes : SameNotes d.notes new.notes
@@ -74,6 +76,8 @@ module _ (d : DriverContent) (m : Mem) (e t : ℕ) (x : Endpoint) (y : Transfer)
     beside = λ f v differs at. at;
     queue = refl;
     desc = refl;
+    gone = refl;
+    cancelled = refl;
     notes = noted_same d.notes y.place count;
     views = note_same d.notes y.place count;
     command = refl;
@@ -92,6 +96,8 @@ module _ (d : DriverContent) (m : Mem) (e t : ℕ) (x : Endpoint) (y : Transfer)
     beside = λ f v differs at. set_there d.endpoints e f (record x { next = next_after (told_with d m t y lines.Done x.desc.name (noted d.notes y.place count)).transfers e t }) differs ∙ at;
     queue = refl;
     desc = refl;
+    gone = refl;
+    cancelled = refl;
     notes = noted_same d.notes y.place count;
     views = note_same d.notes y.place count;
     command = refl;
@@ -113,6 +119,8 @@ module _ (d : DriverContent) (m : Mem) (e t : ℕ) (x : Endpoint) (y : Transfer)
         beside = λ f v differs at. set_there d.endpoints e f (record x { ended = Some cause }) differs ∙ at;
         queue = refl;
         desc = refl;
+        gone = refl;
+        cancelled = refl;
         notes = noted_same d.notes y.place count;
         views = note_same d.notes y.place count;
         command = refl;

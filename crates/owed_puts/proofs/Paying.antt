@@ -13,13 +13,16 @@ use Rattle.driver_rows.specs.declared.content.Transfer.{Transfer}
 use Rattle.driver_rows.specs.declared.content.QtdNote.{QtdNote}
 use Rattle.driver_rows.specs.DriverContent.{DriverContent, waits_for}
 use Rattle.driver_rows.specs.Harvests.{note_at, token_in, moved_of, is_get, buffer_bytes}
+use Rattle.endpoint_lives.specs.Lives.{told_end}
+use Rattle.endpoint_lives.proofs.Lives.{none_told, told_uncancelled}
 use Rattle.run_owners.specs.Owners.{note_in}
 use Rattle.run_owners.proofs.Released.{set_here, set_there}
-use Rattle.chained_transfers.specs.Bulk.{receives}
+use Rattle.chained_transfers.specs.Bulk.{receives, IsStanding}
 use Rattle.chained_transfers.specs.InTurn.{TakesTurns}
 use Rattle.chained_transfers.specs.Turns.{IsAtPlace, turn_of, turn_in, AreReportedTo}
 use Rattle.chained_transfers.proofs.Rows.{set_which}
-use Rattle.fed_queues.specs.Places.{IsMet}
+use Rattle.chained_transfers.proofs.Staying.{alive, going_fresh}
+use Rattle.fed_queues.specs.Places.{IsThere}
 use Rattle.put_bytes.specs.Held.{held_bytes}
 use Rattle.held_puts.proofs.Alike.{held_alike}
 use Rattle.taken_puts.specs.Puts.{puts_from, puts_of}
@@ -27,7 +30,7 @@ use Rattle.owed_puts.specs.Owed.{rest_from, rest_of, Owes}
 use Rattle.owed_puts.specs.Laws.{IsMovedWhole}
 use Rattle.owed_puts.proofs.Bytes.{begins_buffer, moved_few, held_first, held_none}
 use Rattle.owed_puts.proofs.Rests.{prefix_to, prefix_of, prefix_more, prefix_both, waits_is, waits_on, waits_not, reported_not, one_rest, one_waits, one_none, rest_alike, rest_set, rest_first, dropped_set, puts_set}
-use Rattle.owed_puts.proofs.Same.{kept, its_sort}
+use Rattle.owed_puts.proofs.Same.{not_gone, kept, its_sort, idle_there}
 use Rattle.owed_puts.proofs.Harvests.{HowRead, on, done, halts, ReadsTo}
 
 none_some : (o : Option EndCause) (cause : EndCause) → o ≡ None → o ≡ Some cause → ⊥
@@ -36,7 +39,7 @@ none_some o cause none some = let e : ◌≡◌ {A = Option EndCause} None (Some
 none_open : (q : ℕ) → ◌≡◌ {A = Option Command} None (Some (unfinished.Open q)) → ⊥
 none_open q is = cc
 
-module _ (d new : DriverContent) (m : Mem) (e t : ℕ) (x : Endpoint) (y : Transfer) (turns : TakesTurns d) (idle : d.command ≡ None) (here : slice_get d.endpoints e ≡ Some x) (goes : x.ended ≡ None) (next : x.next ≡ Some t) (there : slice_get d.transfers t ≡ Some y) (waits : waits_for e y ≡ true) (k : ReadsTo d new m e t x y) (puts reported told : ℕ → List ℕ) (bytes : List ℕ) (bytes_is : receives x.desc.name.way ≡ false → bytes ≡ buffer_bytes m (note_at d.notes y.place) (moved_of (note_at d.notes y.place).told (token_in m y.place).total)) (whole : receives x.desc.name.way ≡ false → IsMovedWhole d m y) (told_here : told (32 * x.queue) ≡ reported (32 * x.queue) ++ bytes) (told_beside : (f : ℕ) (v : Endpoint) → f ≢ e → slice_get d.endpoints f ≡ Some v → told (32 * v.queue) ≡ reported (32 * v.queue)) (owes : Owes d m puts reported) where
+module _ (d new : DriverContent) (m : Mem) (e t : ℕ) (x : Endpoint) (y : Transfer) (turns : TakesTurns d) (idle : d.command ≡ None) (here : slice_get d.endpoints e ≡ Some x) (goes : x.ended ≡ None) (next : x.next ≡ Some t) (there : slice_get d.transfers t ≡ Some y) (waits : waits_for e y ≡ true) (k : ReadsTo d new m e t x y) (puts reported told : ℕ → List ℕ) (bytes : List ℕ) (bytes_is : receives x.desc.name.way ≡ false → bytes ≡ buffer_bytes m (note_at d.notes y.place) (moved_of (note_at d.notes y.place).told (token_in m y.place).total)) (whole : receives x.desc.name.way ≡ false → IsMovedWhole d m y) (told_here : told (32 * x.queue) ≡ reported (32 * x.queue) ++ bytes) (told_beside : (f : ℕ) (v : Endpoint) → f ≢ e → slice_get d.endpoints f ≡ Some v → v.gone ≡ false → told (32 * v.queue) ≡ reported (32 * v.queue)) (owes : Owes d m puts reported) where
   abbrev note : QtdNote
   note = note_at d.notes y.place
 
@@ -50,18 +53,31 @@ module _ (d new : DriverContent) (m : Mem) (e t : ℕ) (x : Endpoint) (y : Trans
   own : (y.endpoint ≡ e) × (y.reported ≡ false)
   own = waits_is e y waits
 
+  standing : IsStanding x
+  standing = turns.bulk.endpoints e x here
+
+  its_alive : x.gone ≡ false
+  its_alive = alive x standing goes
+
+  -- it goes on as far as its report has it, and so where it ends now
+  goes_told : told_end x ≡ None
+  goes_told = none_told x goes
+
+  going_now : told_end k.endpoint ≡ None → k.endpoint.ended ≡ None
+  going_now none = sym (told_uncancelled k.endpoint (k.cancelled ∙ going_fresh x standing goes)) ∙ none
+
   at : IsAtPlace (note_in d.notes) y
-  at = turns.turns.places t y there (kept d t y turns there own.1)
+  at = turns.turns.places t y there (kept d t y turns there (not_gone d e x y here its_alive own.0) own.1)
 
   left_is : y.left ≡ suc (y.left - 1)
   left_is = let some = at.some in omega (arith, some)
 
-  met : (v : Endpoint) → IsMet d v
-  met v is = none_open v.queue (sym idle ∙ is)
+  was_there : (v : Endpoint) → v.gone ≡ false → IsThere d v
+  was_there v still = idle_there d idle v still
 
   before : (u : ℕ) (z : Transfer) → u < t → slice_get d.transfers u ≡ Some z → waits_for e z ≡ false
   before u z less there_z =
-      let first = subst (AreReportedTo (turn_in d.transfers) e) next (turns.turns.turns.next e x here goes) in
+      let first = subst (AreReportedTo (turn_in d.transfers) e) next (turns.turns.turns.next e x here goes_told) in
       ⊎_elim (λ (same : z.endpoint ≡ e). reported_not e z (first.before u (turn_of z) less (ap (option_map turn_of) there_z) same)) (λ (differs : z.endpoint ≢ e). waits_not e z differs) (cases_eq z.endpoint e)
 
   -- ---- what is still to be sent
@@ -115,7 +131,7 @@ module _ (d new : DriverContent) (m : Mem) (e t : ℕ) (x : Endpoint) (y : Trans
       ap (λ (us : List ℕ). us ++ rest_of new m e) told_here ∙ ap (λ (us : List ℕ). (reported (32 * x.queue) ++ bytes) ++ us) rest_now ∙ append_assoc (reported (32 * x.queue)) bytes (rest ++ others)
       ∙ ap (λ (us : List ℕ). reported (32 * x.queue) ++ us)
       (sym (append_assoc bytes rest others) ∙ ap (λ (us : List ℕ). us ++ others) (pays sends (k.how (ap is_get (its_sort d e t x y turns here sends there own.0))) none) ∙ sym rest_was)
-      ∙ owes.going e x here (met x) sends goes
+      ∙ owes.going e x here (was_there x its_alive) sends goes_told
 
   begins : receives x.desc.name.way ≡ false → IsPrefix (told (32 * x.queue)) (concat (puts_of d puts e))
   begins sends =
@@ -128,7 +144,7 @@ module _ (d new : DriverContent) (m : Mem) (e t : ℕ) (x : Endpoint) (y : Trans
       prefix_to bytes ((buffer ++ further) ++ others) (rest_of d m e) (ap (λ (us : List ℕ). us ++ others) (sym held_is) ∙ sym rest_was)
       (prefix_more bytes (buffer ++ further) others (prefix_more bytes buffer further own_bytes)) in
       prefix_of (told (32 * x.queue)) (reported (32 * x.queue) ++ bytes) (concat (puts_of d puts e)) told_here
-      (prefix_to (reported (32 * x.queue) ++ bytes) (reported (32 * x.queue) ++ rest_of d m e) (concat (puts_of d puts e)) (owes.going e x here (met x) sends goes)
+      (prefix_to (reported (32 * x.queue) ++ bytes) (reported (32 * x.queue) ++ rest_of d m e) (concat (puts_of d puts e)) (owes.going e x here (was_there x its_alive) sends goes_told)
       (prefix_both (reported (32 * x.queue)) bytes (rest_of d m e) rest_begins))
 
   -- ---- all of them
@@ -139,18 +155,18 @@ module _ (d new : DriverContent) (m : Mem) (e t : ℕ) (x : Endpoint) (y : Trans
   same_queue : (v : Endpoint) → v ≡ k.endpoint → v.queue ≡ x.queue
   same_queue v is = ap (λ (z : Endpoint). z.queue) is ∙ k.queue
 
-  last_read : (u : ℕ) (z : Transfer) (v : Endpoint) → slice_get new.transfers u ≡ Some z → slice_get new.endpoints z.endpoint ≡ Some v → receives v.desc.name.way ≡ false → v.ended ≡ None → z.reported ≡ true → z.released ≡ false → z.left ≡ 1
+  last_read : (u : ℕ) (z : Transfer) (v : Endpoint) → slice_get new.transfers u ≡ Some z → slice_get new.endpoints z.endpoint ≡ Some v → receives v.desc.name.way ≡ false → told_end v ≡ None → z.reported ≡ true → z.released ≡ false → z.left ≡ 1
   last_read u z v at_u at_v sends none is held =
       ⊎_elim
       (λ (mine : (u ≡ t) × (z ≡ k.transfer)).
       ⊎_elim
       (λ (its : (z.endpoint ≡ e) × (v ≡ k.endpoint)).
       ap (λ (r : Transfer). r.left) mine.1
-      ∙ its_last (k.how (ap is_get (its_sort d e t x y turns here (same_way v its.1 sends) there own.0))) (ap (λ (r : Endpoint). r.ended) (sym its.1) ∙ none) (ap (λ (r : Transfer). r.reported) (sym mine.1) ∙ is))
+      ∙ its_last (k.how (ap is_get (its_sort d e t x y turns here (same_way v its.1 sends) there own.0))) (going_now (ap (λ (r : Endpoint). told_end r) (sym its.1) ∙ none)) (ap (λ (r : Transfer). r.reported) (sym mine.1) ∙ is))
       (λ (apart : (z.endpoint ≢ e) × (slice_get d.endpoints z.endpoint ≡ Some v)). absurd (apart.0 (ap (λ (r : Transfer). r.endpoint) mine.1 ∙ k.its_endpoint ∙ own.0))) (k.ends z.endpoint v at_v))
       (λ (other : slice_get d.transfers u ≡ Some z).
       ⊎_elim
-      (λ (its : (z.endpoint ≡ e) × (v ≡ k.endpoint)). owes.last u z x other (ap (slice_get d.endpoints) its.0 ∙ here) (same_way v its.1 sends) goes is held)
+      (λ (its : (z.endpoint ≡ e) × (v ≡ k.endpoint)). owes.last u z x other (ap (slice_get d.endpoints) its.0 ∙ here) (same_way v its.1 sends) goes_told is held)
       (λ (apart : (z.endpoint ≢ e) × (slice_get d.endpoints z.endpoint ≡ Some v)). owes.last u z v other apart.1 sends none is held) (k.ends z.endpoint v at_v))
       (set_which d.transfers t u y k.transfer z there (ap (λ (ts : List Transfer). slice_get ts u) (sym k.transfers) ∙ at_u))
     where
@@ -165,18 +181,18 @@ module _ (d new : DriverContent) (m : Mem) (e t : ℕ) (x : Endpoint) (y : Trans
         ⊎_elim
         (λ (its : (f ≡ e) × (v ≡ k.endpoint)).
         ap (λ (q : ℕ). told (32 * q) ++ rest_of new m f) (same_queue v its.1) ∙ ap (λ (i : ℕ). told (32 * x.queue) ++ rest_of new m i) its.0
-        ∙ going_on (same_way v its.1 sends) (ap (λ (r : Endpoint). r.ended) (sym its.1) ∙ none) ∙ ap (λ (i : ℕ). concat (puts_of d puts i)) (sym its.0) ∙ sym (puts_same f))
+        ∙ going_on (same_way v its.1 sends) (going_now (ap (λ (r : Endpoint). told_end r) (sym its.1) ∙ none)) ∙ ap (λ (i : ℕ). concat (puts_of d puts i)) (sym its.0) ∙ sym (puts_same f))
         (λ (apart : (f ≢ e) × (slice_get d.endpoints f ≡ Some v)).
-        ap (λ (us : List ℕ). us ++ rest_of new m f) (told_beside f v apart.0 apart.1) ∙ ap (λ (us : List ℕ). reported (32 * v.queue) ++ us) (rest_beside f apart.0)
-        ∙ owes.going f v apart.1 (met v) sends none ∙ sym (puts_same f)) (k.ends f v at_v);
+        ap (λ (us : List ℕ). us ++ rest_of new m f) (told_beside f v apart.0 apart.1 meets.kept) ∙ ap (λ (us : List ℕ). reported (32 * v.queue) ++ us) (rest_beside f apart.0)
+        ∙ owes.going f v apart.1 (was_there v meets.kept) sends none ∙ sym (puts_same f)) (k.ends f v at_v);
     over = λ f v cause at_v meets sends ends.
         ⊎_elim
         (λ (its : (f ≡ e) × (v ≡ k.endpoint)).
         prefix_of (told (32 * v.queue)) (told (32 * x.queue)) (concat (puts_of new puts f)) (ap (λ (q : ℕ). told (32 * q)) (same_queue v its.1))
         (prefix_to (told (32 * x.queue)) (concat (puts_of d puts e)) (concat (puts_of new puts f)) (ap (λ (i : ℕ). concat (puts_of d puts i)) (sym its.0) ∙ sym (puts_same f)) (begins (same_way v its.1 sends))))
         (λ (apart : (f ≢ e) × (slice_get d.endpoints f ≡ Some v)).
-        prefix_of (told (32 * v.queue)) (reported (32 * v.queue)) (concat (puts_of new puts f)) (told_beside f v apart.0 apart.1)
-        (prefix_to (reported (32 * v.queue)) (concat (puts_of d puts f)) (concat (puts_of new puts f)) (sym (puts_same f)) (owes.over f v cause apart.1 (met v) sends ends))) (k.ends f v at_v);
-    opening = λ f u v z at_v is at_u. absurd (none_open v.queue (sym idle ∙ sym k.command ∙ is));
+        prefix_of (told (32 * v.queue)) (reported (32 * v.queue)) (concat (puts_of new puts f)) (told_beside f v apart.0 apart.1 meets.kept)
+        (prefix_to (reported (32 * v.queue)) (concat (puts_of d puts f)) (concat (puts_of new puts f)) (sym (puts_same f)) (owes.over f v cause apart.1 (was_there v meets.kept) sends ends))) (k.ends f v at_v);
+    opening = λ f u v z at_v still is at_u. absurd (none_open v.queue (sym idle ∙ sym k.command ∙ is));
     last = last_read;
   }

@@ -16,6 +16,7 @@ use Rattle.usb_base.specs.declared.endpoints.EndCause.{EndCause}
 use Rattle.driver_rows.specs.declared.content.Endpoint.{Endpoint}
 use Rattle.driver_rows.specs.declared.content.QtdNote.{QtdNote}
 use Rattle.driver_rows.specs.DriverContent.{DriverContent}
+use Rattle.endpoint_lives.specs.Lives.{told_end}
 use Rattle.driver_rows.specs.Harvests.{note_at, token_in, moved_of, buffer_bytes}
 use Rattle.chained_transfers.specs.Turns.{AreInTurn, AreReportedTo, turn_in}
 use Rattle.chained_transfers.proofs.Harvesting.{turn_at}
@@ -26,7 +27,7 @@ use Rattle.told_harvests.proofs.Noting.{found_done}
 use Rattle.harvested_streams.specs.Harvested.{IsNoted}
 use Rattle.harvested_streams.proofs.Harvesting.{done_harvested}
 use Rattle.harvest_rows.specs.Holds.{IsNextOf}
-use Rattle.fed_queues.specs.Places.{IsMet}
+use Rattle.fed_queues.specs.Places.{IsThere}
 use Rattle.told_queues.specs.Told.{ToldStands}
 use Rattle.owed_puts.proofs.Bytes.{no_bytes, moved_few}
 
@@ -64,30 +65,38 @@ module _ (hand : Hand) (parts : StructureSets) (n : ℕ) (note : ℕ → QtdNote
 none_some : (cause : EndCause) → ◌≡◌ {A = Option EndCause} None (Some cause) → ⊥
 none_some cause is = cc
 
-module _ (d : DriverContent) (hand : Hand) (parts : StructureSets) (a b : ℕ → List ℕ) (turns : AreInTurn d) (k : ToldStands d hand parts a) (l : ToldStands d hand parts b) where
+-- each endpoint that goes on has its first unreported transfer next
+abbrev pub NextIs : DriverContent → Type 0
+NextIs d = (e : ℕ) (x : Endpoint) → slice_get d.endpoints e ≡ Some x → told_end x ≡ None → AreReportedTo (turn_in d.transfers) e x.next
+
+module _ (d : DriverContent) (hand : Hand) (parts : StructureSets) (a b : ℕ → List ℕ) (next_is : NextIs d) (k : ToldStands d hand parts a) (l : ToldStands d hand parts b) where
   held_same : (e : ℕ) (x : Endpoint) → slice_get d.endpoints e ≡ Some x → k.held e ≡ l.held e
-  held_same e x here = by_end x.ended refl
+  held_same e x here = by_end (told_end x) refl
     where
-      going : x.ended ≡ None → (o : Option ℕ) → x.next ≡ o → k.held e ≡ l.held e
+      going : told_end x ≡ None → (o : Option ℕ) → x.next ≡ o → k.held e ≡ l.held e
       going goes None next = k.holds.none e x here next ∙ sym (l.holds.none e x here next)
       going goes (Some t) next =
-          let turn = subst (AreReportedTo (turn_in d.transfers) e) next (turns.turns.next e x here goes) in
+          let turn = subst (AreReportedTo (turn_in d.transfers) e) next (next_is e x here goes) in
           let y = turn_at d.transfers t turn.transfer turn.here in
           let is : IsNextOf d e t x y.0 = record { endpoint = here; going = goes; next = next; transfer = y.1 } in
           let one = k.holds.next e t x y.0 is in
           let two = l.holds.next e t x y.0 is in
           held_once hand parts (32 * x.queue) (note_at d.notes) y.0.first (y.0.qtds - y.0.left) y.0.place y.0.place (k.held e) (l.held e) one.done two.done
 
-      by_end : (o : Option EndCause) → x.ended ≡ o → k.held e ≡ l.held e
+      by_end : (o : Option EndCause) → told_end x ≡ o → k.held e ≡ l.held e
       by_end None goes = going goes x.next refl
       by_end (Some cause) ends =
           let named = ap (option_map named_of) here in
           ((k.tells.each e (named_of x) named).over cause ends).0 ∙ sym ((l.tells.each e (named_of x) named).over cause ends).0
 
-  pub told_once : (e : ℕ) (x : Endpoint) → slice_get d.endpoints e ≡ Some x → IsMet d x → a (32 * x.queue) ≡ b (32 * x.queue)
-  told_once e x here meets =
+  pub told_same : (e : ℕ) (x : Endpoint) → slice_get d.endpoints e ≡ Some x → IsThere d x → a (32 * x.queue) ≡ b (32 * x.queue)
+  told_same e x here meets =
       let named = ap (option_map named_of) here in
       sym (k.met e x here meets) ∙ sym (k.tells.each e (named_of x) named).sum ∙ ap (λ (bs : List ℕ). told_in d.store (lines_in x.desc.name d.reports) ++ bs) (held_same e x here) ∙ (l.tells.each e (named_of x) named).sum ∙ l.met e x here meets
+
+pub told_once : (d : DriverContent) (hand : Hand) (parts : StructureSets) (a b : ℕ → List ℕ) → AreInTurn d → ToldStands d hand parts a → ToldStands d hand parts b
+    → (e : ℕ) (x : Endpoint) → slice_get d.endpoints e ≡ Some x → IsThere d x → a (32 * x.queue) ≡ b (32 * x.queue)
+told_once d hand parts a b turns k l = told_same d hand parts a b turns.turns.next k l
 
 -- ---- what was moved of the qTDs that are out
 

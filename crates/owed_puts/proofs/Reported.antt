@@ -23,11 +23,12 @@ use Rattle.driver_rows.specs.Rows.{Parts, served, harvested_as, after_harvest, a
 use Rattle.run_owners.specs.Due.{IsHarvestDue}
 use Rattle.run_owners.specs.Kept.{HasOwners}
 use Rattle.run_owners.specs.Owners.{note_in}
-use Rattle.chained_transfers.specs.Bulk.{receives}
+use Rattle.chained_transfers.specs.Bulk.{receives, IsStanding}
 use Rattle.chained_transfers.specs.InTurn.{TakesTurns}
 use Rattle.chained_transfers.specs.Out.{pieces_from, passed, out_of_transfer, out_of, out_now}
-use Rattle.chained_transfers.specs.Turns.{IsAtPlace, AreInTurn}
-use Rattle.chained_transfers.proofs.Harvested.{harvest_turns}
+use Rattle.chained_transfers.specs.Turns.{IsAtPlace, IsNotGone}
+use Rattle.chained_transfers.proofs.Harvested.{harvest_turns_of}
+use Rattle.chained_transfers.proofs.Staying.{alive, going_fresh}
 use Rattle.chained_transfers.proofs.Ways.{moves_queued, found_by}
 use Rattle.told_harvests.specs.Held.{IsRead}
 use Rattle.told_harvests.specs.Passed.{HarvestsFirst}
@@ -38,7 +39,7 @@ use Rattle.harvest_rows.proofs.Outing.{goes_on_out, ends_out}
 use Rattle.harvest_rows.proofs.Places.{read_at}
 use Rattle.reported_streams.specs.Reported.{IsReported}
 use Rattle.fed_queues.specs.Fed.{AreFed}
-use Rattle.fed_queues.specs.Places.{IsMet}
+use Rattle.fed_queues.specs.Places.{IsThere}
 use Rattle.fed_harvests.proofs.Lists.{all_of, all_out, all_same, IsBefore, Splits, splits, own_out}
 use Rattle.told_queues.specs.Told.{ToldStands}
 use Rattle.told_queues.specs.Laws.{HarvestReports}
@@ -46,8 +47,8 @@ use Rattle.read_queues.proofs.Rows.{row_told, queue_alone, reads, not_active}
 use Rattle.owed_puts.specs.Owed.{Owes}
 use Rattle.owed_puts.specs.Laws.{IsMovedWhole, HarvestOwes, WaitOwes}
 use Rattle.owed_puts.proofs.Rests.{waits_is}
-use Rattle.owed_puts.proofs.Same.{kept, its_sort}
-use Rattle.owed_puts.proofs.Reading.{told_once, all_once, more_is, bytes_are}
+use Rattle.owed_puts.proofs.Same.{not_gone, kept, its_sort}
+use Rattle.owed_puts.proofs.Reading.{NextIs, told_same, all_once, more_is, bytes_are}
 use Rattle.owed_puts.proofs.Harvests.{HowRead, on, done, halts, ReadsTo, found_row}
 use Rattle.owed_puts.proofs.Paying.{paid_owes}
 
@@ -83,8 +84,14 @@ module _ (member : ℕ → Bool) (order : ℕ → ℕ) (p : Parts) (parts : Stru
   own : (y.endpoint ≡ e) × (y.reported ≡ false)
   own = waits_is e y due.waits
 
+  standing : IsStanding due.endpoint
+  standing = turns.bulk.endpoints e due.endpoint due.here
+
+  its_alive : due.endpoint.gone ≡ false
+  its_alive = alive due.endpoint standing due.goes_on
+
   released : y.released ≡ false
-  released = kept d t y turns due.there own.1
+  released = kept d t y turns due.there (not_gone d e due.endpoint y due.here its_alive own.0) own.1
 
   place : IsAtPlace (note_in d.notes) y
   place = turns.turns.places t y due.there released
@@ -101,11 +108,15 @@ module _ (member : ℕ → Bool) (order : ℕ → ℕ) (p : Parts) (parts : Stru
   k : ReadsTo d new m e t x y
   k = subst (λ (f : DriverContent). ReadsTo d f m e t x y) (sym (row_is p e t found due)) (found_row d m e t x y due.here due.goes_on (turns.bulk.endpoints e x due.here).bulk.kind place.some off found found_is)
 
-  turns_now : AreInTurn new
-  turns_now =
-      subst AreInTurn
+  not_gone_it : IsNotGone (slice_get p.driver.endpoints) e
+  not_gone_it = record { endpoint = due.endpoint; here = due.here; gone = its_alive }
+
+  next_now : NextIs new
+  next_now =
+      subst NextIs
       (sym (ap (λ (o : Option Endpoint). after_harvest d m e t found o (slice_get d.transfers t)) due.here ∙ ap (after_harvest d m e t found (Some x)) due.there))
-      (harvest_turns d m e t x y due.here due.there due.goes_on due.next due.waits (turns.bulk.endpoints e x due.here).bulk.kind turns.turns found found_is)
+      (harvest_turns_of (IsNotGone (slice_get d.endpoints)) d m e t x y due.here due.there due.goes_on (going_fresh x standing due.goes_on) due.next due.waits standing.bulk.kind not_gone_it
+      (record { places = turns.turns.places; turns = turns.turns.turns }) found found_is).turns.next
 
   hr : HarvestReports order d new hand parts e x acc reported
   hr = row_told member order p parts hand e t found acc reported due differs owners turns fed tells on_it none before r
@@ -123,19 +134,19 @@ module _ (member : ℕ → Bool) (order : ℕ → ℕ) (p : Parts) (parts : Stru
   unfolding now
   now_beside q apart = ap (λ (b : Bool). if b then reported q ++ hr.bytes else reported q) (not_same q (32 * due.endpoint.queue) apart)
 
-  met : (v : Endpoint) → IsMet new v
-  met v is = no_open v.queue (sym due.idle ∙ sym k.command ∙ is)
+  there_now : (v : Endpoint) → v.gone ≡ false → IsThere new v
+  there_now v still = record { linked = λ is. no_open v.queue (sym due.idle ∙ sym k.command ∙ is); kept = still }
 
-  told_is : (f : ℕ) (v : Endpoint) → slice_get new.endpoints f ≡ Some v → told (32 * v.queue) ≡ now (32 * v.queue)
-  told_is f v at = told_once new hand parts told now turns_now after (hr.stands now now_here now_beside) f v at (met v)
+  told_is : (f : ℕ) (v : Endpoint) → slice_get new.endpoints f ≡ Some v → v.gone ≡ false → told (32 * v.queue) ≡ now (32 * v.queue)
+  told_is f v at still = told_same new hand parts told now next_now after (hr.stands now now_here now_beside) f v at (there_now v still)
 
   told_here : told (32 * due.endpoint.queue) ≡ reported (32 * due.endpoint.queue) ++ hr.bytes
-  told_here = ap (λ (q : ℕ). told (32 * q)) (sym k.queue) ∙ told_is e k.endpoint k.here ∙ ap (λ (q : ℕ). now (32 * q)) k.queue ∙ now_here
+  told_here = ap (λ (q : ℕ). told (32 * q)) (sym k.queue) ∙ told_is e k.endpoint k.here (k.gone ∙ its_alive) ∙ ap (λ (q : ℕ). now (32 * q)) k.queue ∙ now_here
 
-  told_beside : (f : ℕ) (v : Endpoint) → f ≢ e → slice_get d.endpoints f ≡ Some v → told (32 * v.queue) ≡ reported (32 * v.queue)
-  told_beside f v apart at =
-      told_is f v (k.beside f v apart at)
-      ∙ now_beside (32 * v.queue) (λ same. apart (queue_alone p e t found due owners turns f v at (let q : v.queue ≡ due.endpoint.queue = omega (arith, same) in q)))
+  told_beside : (f : ℕ) (v : Endpoint) → f ≢ e → slice_get d.endpoints f ≡ Some v → v.gone ≡ false → told (32 * v.queue) ≡ reported (32 * v.queue)
+  told_beside f v apart at still =
+      told_is f v (k.beside f v apart at) still
+      ∙ now_beside (32 * v.queue) (λ same. apart (queue_alone p e t found due owners turns f v at still (let q : v.queue ≡ due.endpoint.queue = omega (arith, same) in q)))
 
   -- ---- which bytes these are
 
@@ -194,4 +205,9 @@ harvest_owes member order p parts hand e t found acc puts reported told due diff
 
 pub wait_owes : WaitOwes
 wait_owes p e t puts reported due owes =
-    subst (λ (d : DriverContent). Owes d p.memory puts reported) (sym (row_is p e t founds.Active due)) (record { going = owes.going; over = owes.over; opening = owes.opening; last = owes.last })
+    subst (λ (d : DriverContent). Owes d p.memory puts reported) (sym (row_is p e t founds.Active due)) (record {
+      going = λ f x here there sends goes. owes.going f x here (record { linked = there.linked; kept = there.kept }) sends goes;
+      over = λ f x cause here there sends ends. owes.over f x cause here (record { linked = there.linked; kept = there.kept }) sends ends;
+      opening = owes.opening;
+      last = owes.last;
+    })

@@ -10,6 +10,7 @@ use Rattle.driver_rows.specs.declared.content.Command.TheVariants as unfinished
 use Rattle.driver_rows.specs.declared.content.Endpoint.{Endpoint}
 use Rattle.driver_rows.specs.declared.content.Transfer.{Transfer}
 use Rattle.driver_rows.specs.Harvests.{buffer_bytes}
+use Rattle.endpoint_lives.specs.Lives.{told_end}
 use Rattle.put_bytes.specs.Held.{held_bytes}
 use Rattle.put_bytes.specs.Samples.{five}
 use Rattle.held_puts.specs.Puts.{with_put}
@@ -33,13 +34,13 @@ none_some : (cause : EndCause) → ◌≡◌ {A = Option EndCause} (Some cause) 
 none_some cause is = cc
 
 -- a driver of one endpoint and one transfer
-module _ (x : Endpoint) (y : Transfer) (bytes : List ℕ) (all : x.ended ≡ None → bytes ++ rest_of (driver_of x y) buffers 0 ≡ concat (puts_of (driver_of x y) its_put 0)) (first : (cause : EndCause) → x.ended ≡ Some cause → IsPrefix bytes (concat (puts_of (driver_of x y) its_put 0))) (last : y.reported ≡ true → y.left ≡ 1) where
-  goes_on : (e : ℕ) (z : Endpoint) → slice_get (x ∷ []) e ≡ Some z → z.ended ≡ None → bytes ++ rest_of (driver_of x y) buffers e ≡ concat (puts_of (driver_of x y) its_put e)
-  goes_on zero z here none = all (ap (λ (v : Endpoint). v.ended) (same_Some x z here) ∙ none)
+module _ (x : Endpoint) (y : Transfer) (bytes : List ℕ) (all : told_end x ≡ None → bytes ++ rest_of (driver_of x y) buffers 0 ≡ concat (puts_of (driver_of x y) its_put 0)) (first : (cause : EndCause) → told_end x ≡ Some cause → IsPrefix bytes (concat (puts_of (driver_of x y) its_put 0))) (last : y.reported ≡ true → y.left ≡ 1) where
+  goes_on : (e : ℕ) (z : Endpoint) → slice_get (x ∷ []) e ≡ Some z → told_end z ≡ None → bytes ++ rest_of (driver_of x y) buffers e ≡ concat (puts_of (driver_of x y) its_put e)
+  goes_on zero z here none = all (ap (λ (v : Endpoint). told_end v) (same_Some x z here) ∙ none)
   goes_on (suc e) z here none = absurd (none_behind x z e here)
 
-  is_over : (e : ℕ) (z : Endpoint) (cause : EndCause) → slice_get (x ∷ []) e ≡ Some z → z.ended ≡ Some cause → IsPrefix bytes (concat (puts_of (driver_of x y) its_put e))
-  is_over zero z cause here ends = first cause (ap (λ (v : Endpoint). v.ended) (same_Some x z here) ∙ ends)
+  is_over : (e : ℕ) (z : Endpoint) (cause : EndCause) → slice_get (x ∷ []) e ≡ Some z → told_end z ≡ Some cause → IsPrefix bytes (concat (puts_of (driver_of x y) its_put e))
+  is_over zero z cause here ends = first cause (ap (λ (v : Endpoint). told_end v) (same_Some x z here) ∙ ends)
   is_over (suc e) z cause here ends = absurd (none_behind x z e here)
 
   is_last : (t : ℕ) (z : Transfer) → slice_get (y ∷ []) t ≡ Some z → z.reported ≡ true → z.left ≡ 1
@@ -50,7 +51,7 @@ module _ (x : Endpoint) (y : Transfer) (bytes : List ℕ) (all : x.ended ≡ Non
   one_owes = record {
     going = λ e z here meets sends none. goes_on e z here none;
     over = λ e z cause here meets sends ends. is_over e z cause here ends;
-    opening = λ e t z v here is there. absurd (none_open z.queue is);
+    opening = λ e t z v here alive is there. absurd (none_open z.queue is);
     last = λ t z v there here sends none is held. is_last t z there is;
   }
 
@@ -80,4 +81,4 @@ nine_first : (bs cs : List ℕ) → 9 ∷ bs ≡ 1 ∷ cs → ⊥
 nine_first bs cs is = cc
 
 pub half_wrong : Owes at_half buffers its_put (told_bytes (9 ∷ [])) → ⊥
-half_wrong k = nine_first (rest_of at_half buffers 0) (2 ∷ 3 ∷ 4 ∷ 5 ∷ []) (k.going 0 receiver refl (λ is. none_open receiver.queue is) refl refl)
+half_wrong k = nine_first (rest_of at_half buffers 0) (2 ∷ 3 ∷ 4 ∷ 5 ∷ []) (k.going 0 receiver refl (record { linked = λ is. none_open receiver.queue is; kept = refl }) refl refl)

@@ -1,8 +1,8 @@
 -- What the device of an OUT endpoint took begins the endpoint's puts, at each moment and with each event of the controller.
-use Rattle.std.proofs.Common.{◌≡◌, ◌≢◌, ℕ, zero, suc, ◌*◌, ◌<◌, ◌≤◌, Bool, true, false, List, [], ◌∷◌, ◌++◌, length, slice_get, Option, Some, None, ap, refl, sym, subst, ◌∙◌, ⊎_elim, inl, inr, arith}
+use Rattle.std.proofs.Common.{◌≡◌, ◌≢◌, ℕ, zero, suc, ◌+◌, ◌*◌, ◌<◌, ◌≤◌, ◌==◌, Bool, true, false, if◌then◌else◌, List, [], ◌∷◌, ◌++◌, length, slice_get, Option, Some, None, ap, refl, sym, subst, ◌∙◌, ⊎_elim, inl, inr, arith}
 use Rattle.std.specs.Prelude.{◌⊎◌}
 use Rattle.std.specs.List.{concat}
-use Rattle.std.proofs.lemmas.Bool.{cases_eq, false≢true, true≢false}
+use Rattle.std.proofs.lemmas.Bool.{cases_eq, false≢true, true≢false, eqb-true, or_cases}
 use Rattle.std.proofs.lemmas.List.{append_assoc}
 use Rattle.std.proofs.lemmas.Option.{same_Some}
 use Rattle.pipe_agreement.specs.Prefix.{IsPrefix}
@@ -18,6 +18,11 @@ use Rattle.driver_rows.specs.declared.content.Endpoint.{Endpoint}
 use Rattle.driver_rows.specs.declared.content.Transfer.{Transfer}
 use Rattle.driver_rows.specs.DriverContent.{DriverContent}
 use Rattle.driver_rows.specs.Harvests.{note_at, buffer_bytes}
+use Rattle.endpoint_lives.specs.Lives.{told_end, may_meet, is_one_of}
+use Rattle.endpoint_lives.proofs.Lives.{past_unmet}
+use Rattle.run_owners.specs.Kept.{HasOwners}
+use Rattle.run_owners.specs.Leaving.{times}
+use Rattle.run_owners.proofs.Orders.{one_same, IsLeft, has_left}
 use Rattle.chained_transfers.specs.Bulk.{receives}
 use Rattle.chained_transfers.specs.InTurn.{TakesTurns}
 use Rattle.chained_transfers.specs.Out.{out_now, out_all}
@@ -38,7 +43,7 @@ use Rattle.hc_core.specs.Controller.{Content, walk_place}
 use Rattle.ring_control.specs.Control.{IsControlled, ControlEffect, WalksRing, a_microframe, a_step}
 use Rattle.reported_streams.specs.Reported.{IsReported}
 use Rattle.fed_queues.specs.Fed.{AreFed, IsPublished}
-use Rattle.fed_queues.specs.Places.{IsMet, AreLast}
+use Rattle.fed_queues.specs.Places.{IsThere, IsMet, AreLast}
 use Rattle.standing_fronts.specs.Reaching.{Reaches}
 use Rattle.out_rows.specs.Outs.{AreOutPiped}
 use Rattle.out_rows.proofs.Joining.{only_at}
@@ -108,10 +113,41 @@ stopped_or member parts n mem = by mem.queue.token.active mem.queue.token.halted
     by true h off on = inr (λ k. true≢false (sym off ∙ ap (λ (q : Qh). q.token.active) (sym (its k)) ∙ k.2))
     by false false off on = inr (λ k. false≢true (sym on ∙ ap (λ (q : Qh). q.token.halted) (sym (its k)) ∙ k.3))
 
+-- ---- an endpoint that was given back isn't met any more
+
+times_one : (e : ℕ) (es : List ℕ) → is_one_of e es ≡ true → 1 ≤ times e es
+times_one e [] on = absurd (false≢true on)
+times_one e (f ∷ es) on =
+    ⊎_elim (λ (same : (e == f) ≡ true).
+    let is : f ≡ e = sym (eqb-true e f same) in
+    let one : ◌≡◌ {A = ℕ} (if f == e then 1 else 0) 1 = ap (λ (g : ℕ). if g == e then 1 else 0) is ∙ one_same e in
+    omega (arith, one))
+    (λ (later : is_one_of e es ≡ true). let some = times_one e es later in omega (arith, some)) (or_cases (e == f) (is_one_of e es) on)
+
+-- what has left and isn't given back wasn't given back
+not_listed : (d : DriverContent) (e : ℕ) (x : Endpoint) (es : List ℕ) (owners : HasOwners d) → times e es ≤ times e d.waiting + times e d.rung → slice_get d.endpoints e ≡ Some x → x.gone ≡ true → is_one_of e es ≡ false
+not_listed d e x es owners few here gone = by (is_one_of e es) refl
+  where
+    by : (b : Bool) → is_one_of e es ≡ b → b ≡ false
+    by false is = refl
+    by true is =
+        let some = times_one e es is in
+        let most = owners.orderly.leaving e in
+        let left : IsLeft d.endpoints e = has_left d.endpoints e (slice_get d.endpoints e) refl (omega (arith, some, few, most)) in
+        absurd (true≢false (sym gone ∙ ap (λ (z : Endpoint). z.gone) (same_Some x left.endpoint (sym here ∙ left.here)) ∙ left.gone))
+
+gone_unmet : (d : DriverContent) (e : ℕ) (x : Endpoint) → HasOwners d → TakesTurns d → slice_get d.endpoints e ≡ Some x → x.gone ≡ true → may_meet d e x ≡ false
+gone_unmet d e x owners turns here gone =
+    past_unmet d e x (record {
+      unlinked = (turns.bulk.endpoints e x here).gone gone;
+      waits = not_listed d e x d.waiting owners (omega arith) here gone;
+      rung = not_listed d e x d.rung owners (omega arith) here gone;
+    })
+
 -- ---- at a moment
 
 module _ (rest : BuffersAreRest) (before : BuffersBeforeLend) (around : BuffersAround) where
-  module _ (member : ℕ → Bool) (parts : StructureSets) (hand : Hand) (reply : Reply) (order : ℕ → ℕ → ℕ) (acc : List (List ℕ)) (d : DriverContent) (m : Mem) (puts reported : ℕ → List ℕ) (e : ℕ) (x : Endpoint) (o : Option Taker) (z : Told) (turns : TakesTurns d) (tells : Tells m parts) (fed : AreFed d parts) (last : AreLast d parts order) (owes : Owes d m puts reported) (here : slice_get d.endpoints e ≡ Some x) (meets : IsMet d x) (sends : receives x.desc.name.way ≡ false) (goes : x.ended ≡ None) (mem : IsMember member (32 * x.queue) (parts (32 * x.queue))) (in_hand : IsInHand member parts reply hand) (rep : IsReported (order (32 * x.queue)) (out_now d e) hand parts (32 * x.queue) acc (reported (32 * x.queue))) (whole : AreSentWhole (order (32 * x.queue)) (out_now d e) hand (32 * x.queue) (parts (32 * x.queue))) (reaches : (b : ℕ) → IsPublishingTo d e b → Reaches d (parts (32 * x.queue)) (order (32 * x.queue)) (out_now d e) e x (32 * b)) (goes_on : IsStopped parts (32 * x.queue) → ⊥) where
+  module _ (member : ℕ → Bool) (parts : StructureSets) (hand : Hand) (reply : Reply) (order : ℕ → ℕ → ℕ) (acc : List (List ℕ)) (d : DriverContent) (m : Mem) (puts reported : ℕ → List ℕ) (e : ℕ) (x : Endpoint) (o : Option Taker) (z : Told) (turns : TakesTurns d) (tells : Tells m parts) (fed : AreFed d parts) (last : AreLast d parts order) (owes : Owes d m puts reported) (here : slice_get d.endpoints e ≡ Some x) (meets : IsMet d e x) (sends : receives x.desc.name.way ≡ false) (goes : told_end x ≡ None) (mem : IsMember member (32 * x.queue) (parts (32 * x.queue))) (in_hand : IsInHand member parts reply hand) (rep : IsReported (order (32 * x.queue)) (out_now d e) hand parts (32 * x.queue) acc (reported (32 * x.queue))) (whole : AreSentWhole (order (32 * x.queue)) (out_now d e) hand (32 * x.queue) (parts (32 * x.queue))) (reaches : (b : ℕ) → IsPublishingTo d e b → Reaches d (parts (32 * x.queue)) (order (32 * x.queue)) (out_now d e) e x (32 * b)) (goes_on : IsStopped parts (32 * x.queue) → ⊥) where
     abbrev n : ℕ
     n = 32 * x.queue
 
@@ -119,7 +155,7 @@ module _ (rest : BuffersAreRest) (before : BuffersBeforeLend) (around : BuffersA
     all = concat (puts_of d puts e)
 
     all_are : reported n ++ rest_of d m e ≡ all
-    all_are = owes.going e x here meets sends goes
+    all_are = owes.going e x here meets.there sends goes
 
     -- those that are out
     in_order : AreFresh (out_now d e) (parts n) → (p : IsOutPipe o (reported n ++ rep.told) parts hand n z) → IsPrefix p.taker.taken (reported n ++ buffers_of (parts n) (out_now d e))
@@ -183,7 +219,7 @@ module _ (rest : BuffersAreRest) (before : BuffersBeforeLend) (around : BuffersA
 
   -- ---- an event of the controller
 
-  module _ {W : Type 0} (begins : W → ℕ → Bool → W → Type 0) (transacts : W → Ask → List ℕ → Reply → W → Type 0) (stream : ℕ → ℕ → Bool) (taker : W → ℕ → ℕ → Option Taker) (base : Base) (member outs heads : ℕ → Bool) (ends_are : ℕ → Told) (parts : StructureSets) (hand : Hand) (c new : Content) (wire after : W) (now : StructureSets) (later : Hand) (known : ℕ → List ℕ) (d : DriverContent) (order : ℕ → ℕ → ℕ) (out : ℕ → List ℕ) (acc : ℕ → List (List ℕ)) (puts reported : ℕ → List ℕ) (bus : IsOutBus transacts stream taker) (keeps : KeepsTakers begins stream taker) (endpoints : AreEndpoints stream member outs ends_are) (controlled : IsControlled base member parts hand c) (controlled_now : IsControlled base member now later new) (piped : AreOutPiped stream taker member outs ends_are known parts hand wire) (ended : EndedAreStopped d parts) (stand : OutsStand stream taker member outs heads ends_are d new.memory now later order out acc puts reported after) (was : TakenBegin taker d puts wire) (e : ℕ) (x : Endpoint) (s : Taker) (here : slice_get d.endpoints e ≡ Some x) (meets : IsMet d x) (sends : receives x.desc.name.way ≡ false) (is : taker after x.desc.name.addr x.desc.name.num ≡ Some s) where
+  module _ {W : Type 0} (begins : W → ℕ → Bool → W → Type 0) (transacts : W → Ask → List ℕ → Reply → W → Type 0) (stream : ℕ → ℕ → Bool) (taker : W → ℕ → ℕ → Option Taker) (base : Base) (member outs heads : ℕ → Bool) (ends_are : ℕ → Told) (parts : StructureSets) (hand : Hand) (c new : Content) (wire after : W) (now : StructureSets) (later : Hand) (known : ℕ → List ℕ) (d : DriverContent) (order : ℕ → ℕ → ℕ) (out : ℕ → List ℕ) (acc : ℕ → List (List ℕ)) (puts reported : ℕ → List ℕ) (bus : IsOutBus transacts stream taker) (keeps : KeepsTakers begins stream taker) (endpoints : AreEndpoints stream member outs ends_are) (controlled : IsControlled base member parts hand c) (controlled_now : IsControlled base member now later new) (piped : AreOutPiped stream taker member outs ends_are known parts hand wire) (ended : EndedAreStopped d parts) (stand : OutsStand stream taker member outs heads ends_are d new.memory now later order out acc puts reported after) (was : TakenBegin taker d puts wire) (e : ℕ) (x : Endpoint) (s : Taker) (here : slice_get d.endpoints e ≡ Some x) (meets : IsMet d e x) (sends : receives x.desc.name.way ≡ false) (is : taker after x.desc.name.addr x.desc.name.num ≡ Some s) where
     abbrev k : ℕ
     k = 32 * x.queue
 
@@ -203,7 +239,7 @@ module _ (rest : BuffersAreRest) (before : BuffersBeforeLend) (around : BuffersA
     stays : taker after (ends_are k).addr (ends_are k).ep ≡ Some old.taker → IsPrefix s.taken (concat (puts_of d puts e))
     stays same =
         let after_is : taker after x.desc.name.addr x.desc.name.num ≡ Some old.taker = ap (λ (a : ℕ). taker after a x.desc.name.num) (sym addressed.0) ∙ ap (taker after (ends_are k).addr) (sym addressed.1) ∙ same in
-        subst (λ (t : Taker). IsPrefix t.taken (concat (puts_of d puts e))) (same_Some old.taker s (sym after_is ∙ is)) (was e x old.taker here meets sends old_is)
+        subst (λ (t : Taker). IsPrefix t.taken (concat (puts_of d puts e))) (same_Some old.taker s (sym after_is ∙ is)) (was e x old.taker here (inr meets.there) sends old_is)
 
     quiet : after ≡ wire → IsPrefix s.taken (concat (puts_of d puts e))
     quiet same = stays (ap (λ (w : W). taker w (ends_are k).addr (ends_are k).ep) same ∙ old.is)
@@ -222,7 +258,7 @@ module _ (rest : BuffersAreRest) (before : BuffersBeforeLend) (around : BuffersA
     worked : now ≡ parts → (IsStopped parts k → ⊥) → IsPrefix s.taken (concat (puts_of d puts e))
     worked unchanged goes_on =
         let p = stand.piped.pipes k head.out in
-        let out_is : out k ≡ out_now d e = stand.out_are e x here meets in
+        let out_is : out k ≡ out_now d e = stand.out_are e x here meets.there in
         let p_is : taker after x.desc.name.addr x.desc.name.num ≡ Some p.taker = ap (λ (a : ℕ). taker after a x.desc.name.num) (sym addressed.0) ∙ ap (taker after (ends_are k).addr) (sym addressed.1) ∙ p.is in
         subst (λ (t : Taker). IsPrefix t.taken (concat (puts_of d puts e))) (same_Some p.taker s (sym p_is ∙ is))
         (known_so member now later (walk_place new).walk.reply order (acc k) d new.memory puts reported e x (taker after (ends_are k).addr (ends_are k).ep) (ends_are k) stand.turns controlled_now.ring.tells stand.fed stand.last stand.owes here meets sends goes
@@ -232,12 +268,12 @@ module _ (rest : BuffersAreRest) (before : BuffersBeforeLend) (around : BuffersA
         (λ b publishing. subst (λ (xs : List ℕ). Reaches d (now k) (order k) xs e x (32 * b)) out_is (stand.tails e b x here meets sends publishing))
         (λ stopped. goes_on (subst (λ (ps : StructureSets). IsStopped ps k) unchanged stopped)) p)
       where
-        goes : x.ended ≡ None
-        goes = by x.ended refl
+        goes : told_end x ≡ None
+        goes = by (told_end x) refl
           where
-            by : (o : Option EndCause) → x.ended ≡ o → o ≡ None
+            by : (o : Option EndCause) → told_end x ≡ o → o ≡ None
             by None so = refl
-            by (Some cause) so = absurd (goes_on (ended e x cause here sends so))
+            by (Some cause) so = absurd (goes_on (ended e x cause here meets.there.kept sends so))
 
     by_kind : (w : WalksRing transacts parts hand wire after now later) (kind : WalkStep) → Effect transacts parts hand wire after now later kind → IsPrefix s.taken (concat (puts_of d puts e))
     by_kind w kind (reads r unchanged same) = quiet same
@@ -253,5 +289,13 @@ module _ (rest : BuffersAreRest) (before : BuffersBeforeLend) (around : BuffersA
     still_begins (a_step w) = by_kind w w.kind w.effect
 
   pub event_taken : {W : Type 0} (begins : W → ℕ → Bool → W → Type 0) (transacts : W → Ask → List ℕ → Reply → W → Type 0) → EventKeepsTaken begins transacts
-  event_taken begins transacts stream taker base member outs heads ends_are parts hand c new wire after now later known d order out acc puts reported bus keeps endpoints controlled controlled_now effect piped ended stand was e x s here meets sends is =
-      still_begins begins transacts stream taker base member outs heads ends_are parts hand c new wire after now later known d order out acc puts reported bus keeps endpoints controlled controlled_now piped ended stand was e x s here meets sends is effect
+  event_taken begins transacts stream taker base member outs heads ends_are parts hand c new wire after now later known d order out acc puts reported bus keeps endpoints controlled controlled_now effect owners piped ended stand leave was e x s here life sends is =
+      by (may_meet d e x) refl
+    where
+      by : (b : Bool) → may_meet d e x ≡ b → IsPrefix s.taken (concat (puts_of d puts e))
+      by false off = was e x s here life sends (sym (leave e x here sends off) ∙ is)
+      by true near =
+          ⊎_elim (λ (gone : x.gone ≡ true). absurd (false≢true (sym (gone_unmet d e x owners stand.turns here gone) ∙ near)))
+          (λ (there : IsThere d x).
+          still_begins begins transacts stream taker base member outs heads ends_are parts hand c new wire after now later known d order out acc puts reported bus keeps endpoints controlled controlled_now piped ended stand was e x s here (record { there = there; near = near }) sends is effect)
+          life

@@ -1,5 +1,5 @@
 -- The queue head of an OUT endpoint that has ended is halted, and stays so.
-use Rattle.std.proofs.Common.{◌≡◌, ◌≢◌, ℕ, suc, ◌-◌, ◌*◌, Bool, true, false, nat_le, if◌then◌else◌, List, [], length, set, slice_get, option_map, Option, Some, None, ap, refl, sym, subst, ◌∙◌, ⊎_elim, inl, inr, arith}
+use Rattle.std.proofs.Common.{◌≡◌, ◌≢◌, ℕ, suc, ◌-◌, ◌*◌, Bool, true, false, nat_le, if◌then◌else◌, List, length, set, slice_get, option_map, Option, Some, None, ap, refl, sym, subst, ◌∙◌, ⊎_elim, inl, inr, arith}
 use Rattle.std.specs.Prelude.{◌⊎◌, nat_eq}
 use Rattle.std.proofs.lemmas.Bool.{cases_eq, false≢true, true≢false}
 use Rattle.usb_base.specs.declared.endpoints.EndCause.{EndCause}
@@ -9,14 +9,12 @@ use Rattle.usb_base.specs.declared.packets.Reply.{Reply}
 use Rattle.usb_base.specs.declared.reports.What.{What}
 use Rattle.usb_base.specs.declared.reports.What.TheVariants as lines
 use Rattle.word_mem.specs.Memory.{Mem}
-use Rattle.run_book.specs.Book.{Holding, holding, lend_taken}
+use Rattle.run_book.specs.Book.{Holding, holding}
 use Rattle.qh_qtd.specs.declared.queue_head.Qh.{Qh}
 use Rattle.qh_qtd.specs.declared.token.Token.{Token}
 use Rattle.walk_copy.specs.Overlay.{advanced}
 use Rattle.walk_copy.specs.WriteBack.{moved_by}
 use Rattle.async_walk.specs.declared.state.WalkStep.{WalkStep}
-use Rattle.driver_rows.specs.declared.content.Command.{Command}
-use Rattle.driver_rows.specs.declared.content.Command.TheVariants as unfinished
 use Rattle.driver_rows.specs.declared.content.Endpoint.{Endpoint}
 use Rattle.driver_rows.specs.declared.content.Transfer.{Transfer}
 use Rattle.driver_rows.specs.declared.rows.DriverRow.{DriverRow}
@@ -25,17 +23,19 @@ use Rattle.driver_rows.specs.declared.rows.Found.{Found}
 use Rattle.driver_rows.specs.declared.rows.Found.TheVariants as founds
 use Rattle.driver_rows.specs.DriverContent.{DriverContent, waits_for, next_after}
 use Rattle.driver_rows.specs.Harvests.{note_at, token_in, halt_of, moved_of, done_of, ends_by, end_of, is_stall, found_in, noted}
-use Rattle.driver_rows.specs.Rows.{Parts, advance, framed_by, linked_by, freed_by, after_transfer, after_end, told_with, served, harvested_as, after_harvest, driver_row, after_driver_row}
+use Rattle.driver_rows.specs.Rows.{Parts, freed_by, after_transfer, after_end, told_with, served, harvested_as, after_harvest, driver_row, after_driver_row}
+use Rattle.endpoint_lives.proofs.Lives.{told_some}
 use Rattle.run_owners.specs.Due.{IsDue, IsHarvestDue}
 use Rattle.run_owners.specs.Owners.{note_in}
 use Rattle.run_owners.proofs.Reasons.{each_is_due}
-use Rattle.chained_transfers.specs.Bulk.{receives, IsBulkCommand, OnlyBulk}
+use Rattle.chained_transfers.specs.Bulk.{receives, OnlyBulk}
 use Rattle.chained_transfers.specs.Chains.{piece_at}
 use Rattle.chained_transfers.specs.InTurn.{TakesTurns}
-use Rattle.chained_transfers.specs.Turns.{IsAtPlace, turn_of}
+use Rattle.chained_transfers.specs.Turns.{IsAtPlace, turn_of, IsNotGone}
 use Rattle.chained_transfers.proofs.Harvested.{no_stall}
 use Rattle.chained_transfers.proofs.Harvesting.{waits_is}
-use Rattle.chained_transfers.proofs.Rows.{advanced_either, set_which}
+use Rattle.chained_transfers.proofs.Rows.{set_which}
+use Rattle.chained_transfers.proofs.Staying.{alive}
 use Rattle.chained_transfers.proofs.Ways.{moves_queued, found_by}
 use Rattle.harvested_streams.proofs.Harvesting.{token_read}
 use Rattle.lent_structures.specs.Structures.{QueueHead, Element, StructureSets, Tells}
@@ -54,12 +54,14 @@ use Rattle.whole_sends.specs.Laws.{IsStopped}
 use Rattle.fed_queues.specs.Fed.{AreFed, IsPieceFed, unpublished_of}
 use Rattle.released_queues.proofs.Queues.{none_yet}
 use Rattle.owed_puts.specs.Taken.{EndedAreStopped, EventKeepsStopped, SparedStayStopped, AlikeStayStopped, HarvestStops}
+use Rattle.owed_puts.proofs.Same.{not_gone, WasEnd, WereEnds, ends_same}
+use Rattle.owed_puts.proofs.Driver.{row_no_more}
 
 -- ---- steps that spare queue heads
 
 pub spared_stopped : SparedStayStopped
-spared_stopped d parts now spares ended e x cause here sends over =
-    let k : IsStopped parts (32 * x.queue) = ended e x cause here sends over in
+spared_stopped d parts now spares ended e x cause here alive sends over =
+    let k : IsStopped parts (32 * x.queue) = ended e x cause here alive sends over in
     let s : HasOverlay now (32 * x.queue) k.0 = spares e x here k.0 k.1 in
     (s.queue, s.here, ap (λ (t : Token). t.active) s.overlay.token ∙ k.2, ap (λ (t : Token). t.halted) s.overlay.token ∙ k.3)
 
@@ -95,53 +97,40 @@ event_one begins transacts member parts hand reply wire after now later n in_han
 event_one begins transacts member parts hand reply wire after now later n in_hand (a_step s) k = stopped_by transacts member parts hand reply wire after now later n in_hand k s.kind s.effect
 
 pub event_stopped : {W : Type 0} (begins : W → ℕ → Bool → W → Type 0) (transacts : W → Ask → List ℕ → Reply → W → Type 0) → EventKeepsStopped begins transacts
-event_stopped begins transacts base member parts hand c wire after now later d controlled effect ended e x cause here sends over =
-    event_one begins transacts member parts hand _ wire after now later (32 * x.queue) controlled.ring.in_hand effect (ended e x cause here sends over)
+event_stopped begins transacts base member parts hand c wire after now later d controlled effect ended e x cause here alive sends over =
+    event_one begins transacts member parts hand _ wire after now later (32 * x.queue) controlled.ring.in_hand effect (ended e x cause here alive sends over)
 
--- ---- rows of the driver that change no endpoint
+-- ---- rows of the driver by which no endpoint ends
 
-same_ended : (d f : DriverContent) (parts : StructureSets) → f.endpoints ≡ d.endpoints → EndedAreStopped d parts → EndedAreStopped f parts
-same_ended d f parts same ended e x cause here sends over = ended e x cause (ap (λ (xs : List Endpoint). slice_get xs e) (sym same) ∙ here) sends over
-
-advance_ends : (xs : List Endpoint) (f : DriverContent) → IsBulkCommand f.command → f.endpoints ≡ xs → (advance f).endpoints ≡ xs
-advance_ends xs f bulk is = advanced_either (λ (g : DriverContent). g.endpoints ≡ xs) f f.command bulk is is is
-
-framed_ends : (d : DriverContent) (n : ℕ) (o : Option Command) → IsBulkCommand o → (framed_by d n o).endpoints ≡ d.endpoints
-framed_ends d n None is = refl
-framed_ends d n (Some (unfinished.Open queue)) is = refl
-framed_ends d n (Some (unfinished.Publish b words)) is = refl
-framed_ends d n (Some (unfinished.Unlink e b link)) is = absurd is
-framed_ends d n (Some unfinished.Chain) is = absurd is
-framed_ends d n (Some (unfinished.Iso e t count)) is = absurd is
-framed_ends d n (Some (unfinished.Unchain e)) is = absurd is
+were_ended : (d f : DriverContent) (parts : StructureSets) → WereEnds d f → EndedAreStopped d parts → EndedAreStopped f parts
+were_ended d f parts were ended e z cause here alive sends over =
+    let w : WasEnd d e z = were e z here in
+    subst (λ (q : ℕ). IsStopped parts (32 * q)) (sym w.queue) (ended e w.endpoint cause w.here (sym w.gone ∙ alive) (ap (λ (r : EpDesc). receives r.name.way) (sym w.desc) ∙ sends) (sym w.ends ∙ over))
 
 transfer_ends : (p : Parts) (t : ℕ) (o : Option Transfer) (h : Holding) → (after_transfer p t o h).driver.endpoints ≡ p.driver.endpoints
 transfer_ends p t None h = refl
 transfer_ends p t (Some y) h = refl
 
-none_there : {X : Type 0} (xs : List X) (x : X) → xs ≡ [] → slice_get xs 0 ≡ Some x → ⊥
-none_there xs x none here = let e : ◌≡◌ {A = Option _} None (Some x) = sym (ap (λ ys. slice_get ys 0) none) ∙ here in cc
-
-row_ends : (p : Parts) (row : DriverRow) → IsDue p row → OnlyBulk p.driver → ((e t : ℕ) (found : Found) → row ≢ rows.Harvest e t found) → (after_driver_row row p).driver.endpoints ≡ p.driver.endpoints
-row_ends p rows.Lend due bulk harvest = advance_ends p.driver.endpoints (record p.driver { book = (lend_taken (holding p.driver.book p.memory)).book }) bulk.command refl
-row_ends p (rows.Store b at v) due bulk harvest = advance_ends p.driver.endpoints p.driver bulk.command refl
-row_ends p (rows.Mend w) due bulk harvest = refl
-row_ends p rows.Frames due bulk harvest = framed_ends p.driver p.registers.frame_index p.driver.command bulk.command
-row_ends p rows.LendDescriptors due bulk harvest =
-    advance_ends p.driver.endpoints (record p.driver { book = (lend_taken (holding p.driver.book (linked_by p.driver p.memory p.driver.command))).book }) bulk.command refl
-row_ends p (rows.Unlink t) due bulk harvest = absurd (none_there p.driver.periodic.unlinks t bulk.unlinks due.first)
-row_ends p (rows.ReleaseRemoved what) due bulk harvest = absurd (none_there p.driver.periodic.removals due.removal bulk.removals due.first)
-row_ends p (rows.ReleaseTransfer t) due bulk harvest = transfer_ends p t (slice_get p.driver.transfers t) (freed_by p.driver (holding p.driver.book p.memory) (slice_get p.driver.transfers t))
-row_ends p (rows.ReleaseEndpoint e) due bulk harvest = absurd (none_there p.driver.cleared e bulk.cleared due.first)
-row_ends p rows.ClearAdvance due bulk harvest = refl
-row_ends p rows.RingBell due bulk harvest = refl
-row_ends p (rows.ReadStatus heard) due bulk harvest = refl
-row_ends p (rows.ReadFrame n) due bulk harvest = refl
-row_ends p (rows.Harvest e t found) due bulk harvest = absurd (harvest e t found refl)
-row_ends p rows.Rest due bulk harvest = refl
+row_ends : (p : Parts) (row : DriverRow) → IsDue p row → OnlyBulk p.driver → ((e t : ℕ) (found : Found) → row ≢ rows.Harvest e t found) → ((e : ℕ) → row ≢ rows.ReleaseEndpoint e) → WereEnds p.driver (after_driver_row row p).driver
+row_ends p (rows.ReleaseTransfer t) due bulk harvest endpoint =
+    ends_same p.driver (after_driver_row (rows.ReleaseTransfer t) p).driver (transfer_ends p t (slice_get p.driver.transfers t) (freed_by p.driver (holding p.driver.book p.memory) (slice_get p.driver.transfers t)))
+row_ends p rows.Lend due bulk harvest endpoint = (row_no_more p rows.Lend due bulk harvest (λ t is. cc) endpoint).alike.ends
+row_ends p (rows.Store b at v) due bulk harvest endpoint = (row_no_more p (rows.Store b at v) due bulk harvest (λ t is. cc) endpoint).alike.ends
+row_ends p (rows.Mend w) due bulk harvest endpoint = (row_no_more p (rows.Mend w) due bulk harvest (λ t is. cc) endpoint).alike.ends
+row_ends p rows.Frames due bulk harvest endpoint = (row_no_more p rows.Frames due bulk harvest (λ t is. cc) endpoint).alike.ends
+row_ends p rows.LendDescriptors due bulk harvest endpoint = (row_no_more p rows.LendDescriptors due bulk harvest (λ t is. cc) endpoint).alike.ends
+row_ends p (rows.Unlink t) due bulk harvest endpoint = (row_no_more p (rows.Unlink t) due bulk harvest (λ u is. cc) endpoint).alike.ends
+row_ends p (rows.ReleaseRemoved what) due bulk harvest endpoint = (row_no_more p (rows.ReleaseRemoved what) due bulk harvest (λ t is. cc) endpoint).alike.ends
+row_ends p (rows.ReleaseEndpoint e) due bulk harvest endpoint = absurd (endpoint e refl)
+row_ends p rows.ClearAdvance due bulk harvest endpoint = (row_no_more p rows.ClearAdvance due bulk harvest (λ t is. cc) endpoint).alike.ends
+row_ends p rows.RingBell due bulk harvest endpoint = (row_no_more p rows.RingBell due bulk harvest (λ t is. cc) endpoint).alike.ends
+row_ends p (rows.ReadStatus heard) due bulk harvest endpoint = (row_no_more p (rows.ReadStatus heard) due bulk harvest (λ t is. cc) endpoint).alike.ends
+row_ends p (rows.ReadFrame n) due bulk harvest endpoint = (row_no_more p (rows.ReadFrame n) due bulk harvest (λ t is. cc) endpoint).alike.ends
+row_ends p (rows.Harvest e t found) due bulk harvest endpoint = absurd (harvest e t found refl)
+row_ends p rows.Rest due bulk harvest endpoint = (row_no_more p rows.Rest due bulk harvest (λ t is. cc) endpoint).alike.ends
 
 pub alike_stopped : AlikeStayStopped
-alike_stopped p parts turns harvest ended = same_ended p.driver (after_driver_row (driver_row p) p).driver parts (row_ends p (driver_row p) (each_is_due p) turns.bulk harvest) ended
+alike_stopped p parts turns harvest endpoint ended = were_ended p.driver (after_driver_row (driver_row p) p).driver parts (row_ends p (driver_row p) (each_is_due p) turns.bulk harvest endpoint) ended
 
 -- ---- a harvest
 
@@ -210,12 +199,15 @@ module _ (member : ℕ → Bool) (order : ℕ → ℕ) (out : List ℕ) (p : Par
   its : (y.endpoint ≡ e) × (y.reported ≡ false)
   its = waits_is e y due.waits
 
+  its_alive : IsNotGone (slice_get p.driver.endpoints) due.transfer.endpoint
+  its_alive = not_gone p.driver e due.endpoint due.transfer due.here (alive due.endpoint (turns.bulk.endpoints e due.endpoint due.here) due.goes_on) its.0
+
   held : y.released ≡ false
   held = by_test y.released refl
     where
       by_test : (b : Bool) → y.released ≡ b → b ≡ false
       by_test false is = refl
-      by_test true is = absurd (true≢false (sym (turns.turns.turns.told t (turn_of y) (ap (λ (o : Option Transfer). option_map turn_of o) due.there) is) ∙ its.1))
+      by_test true is = absurd (true≢false (sym (turns.turns.turns.told t (turn_of y) (ap (λ (o : Option Transfer). option_map turn_of o) due.there) its_alive is) ∙ its.1))
 
   at_place : IsAtPlace (note_in d.notes) y
   at_place = turns.turns.places t y due.there held
@@ -272,9 +264,9 @@ module _ (member : ℕ → Bool) (order : ℕ → ℕ) (out : List ℕ) (p : Par
     stopped = (mem.queue, mem.here, idle, halted)
 
 pub harvest_stops : HarvestStops
-harvest_stops member order out p parts hand e t found due owners turns fed tells mem sent ended i z cause there sends over =
-    ⊎_elim (λ (was : slice_get p.driver.endpoints i ≡ Some z). ended i z cause was sends over)
+harvest_stops member order out p parts hand e t found due owners turns fed tells mem sent ended i z cause there still sends over =
+    ⊎_elim (λ (was : slice_get p.driver.endpoints i ≡ Some z). ended i z cause was still sends over)
     (λ (now : (z.queue ≡ due.endpoint.queue) × (z.desc ≡ due.endpoint.desc) × Halts member order out p parts hand e t found due turns fed).
     subst (λ (q : ℕ). IsStopped parts (32 * q)) (sym now.0)
     (stopped member order out p parts hand e t found due turns fed tells mem (sent (ap (λ (r : EpDesc). receives r.name.way) (sym now.1) ∙ sends)) now.2))
-    ((ends_at member order out p parts hand e t found due turns fed).was i z cause (ap (λ (xs : List Endpoint). slice_get xs i) (sym (endpoints member order out p parts hand e t found due turns fed)) ∙ there) over)
+    ((ends_at member order out p parts hand e t found due turns fed).was i z cause (ap (λ (xs : List Endpoint). slice_get xs i) (sym (endpoints member order out p parts hand e t found due turns fed)) ∙ there) (told_some z cause over).ended)

@@ -20,6 +20,7 @@ use Rattle.whole_sends.specs.Whole.{buffers_of}
 use Rattle.fed_queues.specs.Fed.{AreFed}
 use Rattle.put_bytes.specs.Held.{held_bytes}
 use Rattle.owed_puts.specs.Owed.{rest_of, AreReadToEnd}
+use Rattle.endpoint_lives.specs.Lives.{told_end}
 
 pub record IsPublishingTo (d : DriverContent) (e b : ℕ) : Type 0 where
   pub words : List ℕ
@@ -33,12 +34,12 @@ pub record IsPublishingTo (d : DriverContent) (e b : ℕ) : Type 0 where
 -- of an OUT endpoint that goes on
 abbrev pub BuffersAreRest : Type 0
 BuffersAreRest = (d : DriverContent) (m : Mem) (parts : StructureSets) (e : ℕ) (x : Endpoint) → TakesTurns d → Tells m parts → AreFed d parts → AreReadToEnd d
-    → slice_get d.endpoints e ≡ Some x → receives x.desc.name.way ≡ false → x.ended ≡ None → ((b : ℕ) → IsPublishingTo d e b → ⊥)
+    → slice_get d.endpoints e ≡ Some x → receives x.desc.name.way ≡ false → told_end x ≡ None → ((b : ℕ) → IsPublishingTo d e b → ⊥)
     → rest_of d m e ≡ buffers_of (parts (32 * x.queue)) (out_now d e)
 
 abbrev pub BuffersBeforeLend : Type 0
 BuffersBeforeLend = (d : DriverContent) (m : Mem) (parts : StructureSets) (e b : ℕ) (x : Endpoint) → TakesTurns d → Tells m parts → AreFed d parts → AreReadToEnd d
-    → slice_get d.endpoints e ≡ Some x → receives x.desc.name.way ≡ false → x.ended ≡ None → (k : IsPublishingTo d e b) → d.made ≡ 0
+    → slice_get d.endpoints e ≡ Some x → receives x.desc.name.way ≡ false → told_end x ≡ None → (k : IsPublishingTo d e b) → d.made ≡ 0
     → rest_of d m e ≡ buffers_of (parts (32 * x.queue)) (out_now d e) ++ held_bytes m d.notes b k.transfer.qtds
 
 pub record IsRestAround (d : DriverContent) (m : Mem) (parts : StructureSets) (e n b : ℕ) : Type 0 where
@@ -50,4 +51,4 @@ pub record IsRestAround (d : DriverContent) (m : Mem) (parts : StructureSets) (e
 
 abbrev pub BuffersAround : Type 0
 BuffersAround = (d : DriverContent) (m : Mem) (parts : StructureSets) (e b : ℕ) (x : Endpoint) → TakesTurns d → Tells m parts → AreFed d parts → AreReadToEnd d
-    → slice_get d.endpoints e ≡ Some x → receives x.desc.name.way ≡ false → x.ended ≡ None → IsPublishingTo d e b → 1 ≤ d.made → IsRestAround d m parts e (32 * x.queue) b
+    → slice_get d.endpoints e ≡ Some x → receives x.desc.name.way ≡ false → told_end x ≡ None → IsPublishingTo d e b → 1 ≤ d.made → IsRestAround d m parts e (32 * x.queue) b

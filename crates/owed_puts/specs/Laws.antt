@@ -40,7 +40,7 @@ use Rattle.ring_streams.specs.Told.{Told}
 use Rattle.harvest_rows.specs.Outs.{IsOutEarlier}
 use Rattle.reported_streams.specs.Reported.{IsReported}
 use Rattle.fed_queues.specs.Fed.{AreFed}
-use Rattle.fed_queues.specs.Places.{IsMet}
+use Rattle.fed_queues.specs.Places.{IsThere}
 use Rattle.told_queues.specs.Told.{ToldStands}
 use Rattle.held_puts.specs.Puts.{HoldsPuts}
 use Rattle.owed_puts.specs.Owed.{Owes}
@@ -59,7 +59,7 @@ NewDriverOwes = (n : ℕ) (room : Reserve) (m : Mem) (puts reported : ℕ → Li
 -- ---- the same content
 
 abbrev pub AlikeOwes : Type 0
-AlikeOwes = (d new : DriverContent) (m later : Mem) (puts now reported : ℕ → List ℕ) → TakesTurns d → TellsAlike d new → ((x : Endpoint) → IsMet new x → IsMet d x)
+AlikeOwes = (d new : DriverContent) (m later : Mem) (puts now reported : ℕ → List ℕ) → TakesTurns d → TellsAlike d new → ((x : Endpoint) → IsThere new x → IsThere d x)
     → ((x : Endpoint) → new.command ≡ Some (unfinished.Open x.queue) → d.command ≡ Some (unfinished.Open x.queue)) → KeepsPuts d puts now
     → HoldsPuts d m puts → HoldsPuts new later now → Owes d m puts reported → Owes new later now reported
 
@@ -72,7 +72,7 @@ MetOwes = (d new : DriverContent) (m later : Mem) (puts reported told : ℕ → 
 
 abbrev pub OpenOwes : Type 0
 OpenOwes = (d : DriverContent) (m : Mem) (o : Offered) (puts now reported : ℕ → List ℕ) → IsOpened d m o → TakesTurns d
-    → ((e : ℕ) (x : Endpoint) → slice_get d.endpoints e ≡ Some x → o.driver.command ≢ Some (unfinished.Open x.queue)) → KeepsPuts d puts now
+    → ((e : ℕ) (x : Endpoint) → slice_get d.endpoints e ≡ Some x → x.gone ≡ false → o.driver.command ≢ Some (unfinished.Open x.queue)) → KeepsPuts d puts now
     → HoldsPuts d m puts → HoldsPuts o.driver o.memory now → Owes d m puts reported → Owes o.driver o.memory now reported
 
 -- what the buffers of a put hold is what `now` tells of it
@@ -93,8 +93,9 @@ ReturnedOwes = (d new : DriverContent) (m later : Mem) (t : ℕ) (y : Transfer) 
 
 abbrev pub DriverOwes : Type 0
 DriverOwes = (p : Parts) (puts reported told : ℕ → List ℕ) → HasOwners p.driver → TakesTurns p.driver → ((e t : ℕ) (found : Found) → driver_row p ≢ rows.Harvest e t found)
-    → ((e : ℕ) (x : Endpoint) → slice_get p.driver.endpoints e ≡ Some x → IsMet p.driver x → told (32 * x.queue) ≡ reported (32 * x.queue))
-    → ((e : ℕ) (x : Endpoint) → slice_get p.driver.endpoints e ≡ Some x → p.driver.command ≡ Some (unfinished.Open x.queue) → IsMet (after_driver_row (driver_row p) p).driver x
+    → ((e : ℕ) → driver_row p ≢ rows.ReleaseEndpoint e)
+    → ((e : ℕ) (x : Endpoint) → slice_get p.driver.endpoints e ≡ Some x → IsThere p.driver x → told (32 * x.queue) ≡ reported (32 * x.queue))
+    → ((e : ℕ) (x : Endpoint) → slice_get p.driver.endpoints e ≡ Some x → p.driver.command ≡ Some (unfinished.Open x.queue) → IsThere (after_driver_row (driver_row p) p).driver x
     → told (32 * x.queue) ≡ [])
     → HoldsPuts p.driver p.memory puts → HoldsPuts (after_driver_row (driver_row p) p).driver (after_driver_row (driver_row p) p).memory puts
     → Owes p.driver p.memory puts reported → Owes (after_driver_row (driver_row p) p).driver (after_driver_row (driver_row p) p).memory puts told

@@ -14,9 +14,10 @@ use Rattle.driver_rows.specs.declared.content.QtdNote.{QtdNote}
 use Rattle.driver_rows.specs.declared.content.Transfer.{Transfer}
 use Rattle.driver_rows.specs.DriverContent.{DriverContent, waits_for}
 use Rattle.chained_transfers.specs.Bulk.{receives}
-use Rattle.fed_queues.specs.Places.{IsMet}
+use Rattle.fed_queues.specs.Places.{IsThere}
 use Rattle.taken_puts.specs.Puts.{puts_of}
 use Rattle.put_bytes.specs.Held.{held_bytes}
+use Rattle.endpoint_lives.specs.Lives.{told_end}
 
 abbrev pub rest_from : Mem → List QtdNote → ℕ → List Transfer → List ℕ
 rest_from m notes e [] = []
@@ -26,15 +27,15 @@ abbrev pub rest_of : DriverContent → Mem → ℕ → List ℕ
 rest_of d m e = rest_from m d.notes e d.transfers
 
 abbrev pub AreReadToEnd : DriverContent → Type 0
-AreReadToEnd d = (t : ℕ) (y : Transfer) (x : Endpoint) → slice_get d.transfers t ≡ Some y → slice_get d.endpoints y.endpoint ≡ Some x → receives x.desc.name.way ≡ false → x.ended ≡ None
+AreReadToEnd d = (t : ℕ) (y : Transfer) (x : Endpoint) → slice_get d.transfers t ≡ Some y → slice_get d.endpoints y.endpoint ≡ Some x → receives x.desc.name.way ≡ false → told_end x ≡ None
     → y.reported ≡ true → y.released ≡ false → y.left ≡ 1
 
 pub record Owes (d : DriverContent) (m : Mem) (puts reported : ℕ → List ℕ) : Type 0 where
-  pub going : (e : ℕ) (x : Endpoint) → slice_get d.endpoints e ≡ Some x → IsMet d x → receives x.desc.name.way ≡ false → x.ended ≡ None
+  pub going : (e : ℕ) (x : Endpoint) → slice_get d.endpoints e ≡ Some x → IsThere d x → receives x.desc.name.way ≡ false → told_end x ≡ None
       → reported (32 * x.queue) ++ rest_of d m e ≡ concat (puts_of d puts e)
-  pub over : (e : ℕ) (x : Endpoint) (cause : EndCause) → slice_get d.endpoints e ≡ Some x → IsMet d x → receives x.desc.name.way ≡ false → x.ended ≡ Some cause
+  pub over : (e : ℕ) (x : Endpoint) (cause : EndCause) → slice_get d.endpoints e ≡ Some x → IsThere d x → receives x.desc.name.way ≡ false → told_end x ≡ Some cause
       → IsPrefix (reported (32 * x.queue)) (concat (puts_of d puts e))
   -- an endpoint that is being opened has no transfer
-  pub opening : (e t : ℕ) (x : Endpoint) (y : Transfer) → slice_get d.endpoints e ≡ Some x → d.command ≡ Some (unfinished.Open x.queue) → slice_get d.transfers t ≡ Some y
+  pub opening : (e t : ℕ) (x : Endpoint) (y : Transfer) → slice_get d.endpoints e ≡ Some x → x.gone ≡ false → d.command ≡ Some (unfinished.Open x.queue) → slice_get d.transfers t ≡ Some y
       → y.endpoint ≢ e
   pub last : AreReadToEnd d

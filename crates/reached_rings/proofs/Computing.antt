@@ -12,36 +12,19 @@ use Rattle.ring_members.proofs.Placed.{left_ring, linked_alive}
 use Rattle.queue_head_words.specs.Overlay.{HasQueueHead, of_ring, of_endpoint}
 use Rattle.walk_members.specs.Reached.{IsReached, at_head, at_member, at_waiting, at_rung}
 use Rattle.walk_members.proofs.Leading.{among_later, among_front}
-use Rattle.reached_rings.specs.Reaching.{any_at, is_one_of, may_reach, is_reached, ReachedIsReached, IsReachedReached, ReachedHasQueueHead, AnswerReachesFewer}
+use Rattle.endpoint_lives.specs.Lives.{any_at, is_one_of}
+use Rattle.endpoint_lives.proofs.Lives.{any_there, there_any}
+use Rattle.reached_rings.specs.Reaching.{may_reach, is_reached, ReachedIsReached, IsReachedReached, ReachedHasQueueHead, AnswerReachesFewer}
 
 -- ---- one of a list
 
-record IsAt (f : ℕ → Endpoint → Bool) (xs : List Endpoint) : Type 0 where
-  number : ℕ
-  endpoint : Endpoint
-  here : slice_get xs number ≡ Some endpoint
-  is : f number endpoint ≡ true
-
-any_there : (f : ℕ → Endpoint → Bool) (xs : List Endpoint) → any_at f xs ≡ true → IsAt f xs
-any_there f [] any = absurd (false≢true any)
-any_there f (x ∷ xs) any =
-    ⊎_elim (λ (on : f zero x ≡ true). record { number = zero; endpoint = x; here = refl; is = on })
-    (λ (on : any_at (λ e y. f (suc e) y) xs ≡ true). let r = any_there (λ e y. f (suc e) y) xs on in record { number = suc r.number; endpoint = r.endpoint; here = r.here; is = r.is })
-    (or_cases (f zero x) (any_at (λ e y. f (suc e) y) xs) any)
-
-there_any : (f : ℕ → Endpoint → Bool) (xs : List Endpoint) (e : ℕ) (x : Endpoint) → slice_get xs e ≡ Some x → f e x ≡ true → any_at f xs ≡ true
-there_any f [] e x here is = absurd (cc)
-there_any f (y ∷ ys) zero x here is =
-    let same : y ≡ x = cc in or_left (f zero y) (any_at (λ e z. f (suc e) z) ys) (ap (f zero) same ∙ is)
-there_any f (y ∷ ys) (suc e) x here is = or_right (f zero y) (any_at (λ e z. f (suc e) z) ys) (there_any (λ e z. f (suc e) z) ys e x here is)
-
-one_among : (e : ℕ) (es : List ℕ) → is_one_of e es ≡ true → IsAmong e es
+pub one_among : (e : ℕ) (es : List ℕ) → is_one_of e es ≡ true → IsAmong e es
 one_among e [] on = absurd (false≢true on)
 one_among e (f ∷ es) on =
     ⊎_elim (λ (same : (e == f) ≡ true). subst (λ (g : ℕ). IsAmong e (g ∷ es)) (eqb-true e f same) (first es)) (λ (rest : is_one_of e es ≡ true). later f es (one_among e es rest))
     (or_cases (e == f) (is_one_of e es) on)
 
-among_one : (e : ℕ) (es : List ℕ) → IsAmong e es → is_one_of e es ≡ true
+pub among_one : (e : ℕ) (es : List ℕ) → IsAmong e es → is_one_of e es ≡ true
 among_one e [] among = elim among [ ]
 among_one e (_ ∷ _) (first es) = or_left (e == e) (is_one_of e es) (eq-eqb e e refl)
 among_one e (_ ∷ _) (later f es rest) = or_right (e == f) (is_one_of e es) (among_one e es rest)

@@ -1,7 +1,5 @@
 -- The queue heads that a walk of the ring may reach, computed from the driver's content (EHCI 1.0, 4.8 and 4.8.2), and a ring whose members are
 -- exactly these.
---     any_at f xs              one of the elements is so, told with its number
---     is_one_of e es           the number is one of these
 --     may_reach d rings e x    endpoint e, which is x, is in the ring, or has left since the last answered doorbell; `rings`: it isn't answered yet
 --     is_reached d rings n        the queue head at byte address n is the head of the ring, or that of such an endpoint
 --     ReachedAt d rings n      a block begins there that the walk may reach
@@ -24,6 +22,7 @@ use Rattle.async_walk.specs.Rows.{WalkPlace, at_event, event_row, step_of, Leads
 use Rattle.driver_rows.specs.declared.content.Endpoint.{Endpoint}
 use Rattle.driver_rows.specs.DriverContent.{DriverContent}
 use Rattle.driver_rows.specs.Words.{head_block}
+use Rattle.endpoint_lives.specs.Lives.{any_at, is_one_of}
 use Rattle.run_owners.specs.Kept.{HasOwners}
 use Rattle.ring_members.specs.Links.{link_in}
 use Rattle.ring_members.specs.Ring.{IsRing as IsRingOf}
@@ -38,14 +37,6 @@ use Rattle.driver_parts.specs.Driven.{DrivesRing}
 use Rattle.walk_members.specs.Reached.{IsReached, IsWalkIn, AreNoHeads}
 
 -- ---- computed
-
-abbrev pub any_at : (ℕ → Endpoint → Bool) → List Endpoint → Bool
-any_at f [] = false
-any_at f (x ∷ xs) = f zero x || any_at (λ e y. f (suc e) y) xs
-
-abbrev pub is_one_of : ℕ → List ℕ → Bool
-is_one_of e [] = false
-is_one_of e (f ∷ es) = (e == f) || is_one_of e es
 
 abbrev pub may_reach : DriverContent → Bool → ℕ → Endpoint → Bool
 may_reach d rings e x = x.linked || (is_one_of e d.waiting || (is_one_of e d.rung && rings))

@@ -39,6 +39,10 @@ use Rattle.told_queues.specs.Told.{ToldStands}
 use Rattle.told_queues.specs.Laws.{HarvestReports}
 use Rattle.told_queues.proofs.Standing.{alike_told}
 use Rattle.told_queues.proofs.Harvesting.{harvested_told}
+use Rattle.endpoint_lives.specs.Lives.{told_end}
+use Rattle.endpoint_lives.proofs.Lives.{none_told}
+use Rattle.chained_transfers.proofs.Staying.{told_alive}
+use Rattle.chained_transfers.proofs.Holding.{unreleased}
 
 waits_by : (a b : Bool) → (a && not b) ≡ true → (a ≡ true) × (b ≡ false)
 waits_by true false is = (refl, refl)
@@ -70,13 +74,12 @@ same_head : (e k : ℕ) → QueueHead e ≡ QueueHead k → e ≡ k
 same_head e k is = cc
 
 module _ (p : Parts) (e t : ℕ) (found : Found) (due : IsHarvestDue p e t found) (owners : HasOwners p.driver) (turns : TakesTurns p.driver) where
-  -- what isn't reported isn't given back
-  kept : (u : ℕ) (z : Transfer) → slice_get p.driver.transfers u ≡ Some z → z.reported ≡ false → z.released ≡ false
-  kept u z there waits = by_released z.released refl
-    where
-      by_released : (b : Bool) → z.released ≡ b → b ≡ false
-      by_released false is = refl
-      by_released true is = absurd (false≢true (sym waits ∙ turns.turns.turns.told u (turn_of z) (ap (option_map turn_of) there) is))
+  -- what isn't reported of an endpoint that goes on isn't given back
+  kept : (u : ℕ) (z : Transfer) (w : Endpoint) → slice_get p.driver.transfers u ≡ Some z → slice_get p.driver.endpoints z.endpoint ≡ Some w → told_end w ≡ None → z.reported ≡ false → z.released ≡ false
+  kept u z w there here goes waits = unreleased p.driver u z w turns.bulk turns.turns there here goes waits
+
+  goes : told_end due.endpoint ≡ None
+  goes = none_told due.endpoint due.goes_on
 
   next_waits : (f u : ℕ) (w : Endpoint) (z : Transfer) → IsNextOf p.driver f u w z → (z.endpoint ≡ f) × (z.reported ≡ false)
   next_waits f u w z is =
@@ -84,14 +87,20 @@ module _ (p : Parts) (e t : ℕ) (found : Found) (due : IsHarvestDue p e t found
       let same : n.transfer ≡ turn_of z = same_Some n.transfer (turn_of z) (sym n.here ∙ ap (option_map turn_of) is.transfer) in
       (ap (λ (r : Turn). r.endpoint) (sym same) ∙ n.endpoint, ap (λ (r : Turn). r.reported) (sym same) ∙ n.waits)
 
-  pieces_of : (u : ℕ) (z : Transfer) → slice_get p.driver.transfers u ≡ Some z → z.reported ≡ false → (c : ℕ) → IsOneFrom (note_at p.driver.notes) z.first z.qtds c → owners.owner c ≡ Element u
-  pieces_of u z there waits c one = owner_is (slot_of p.driver.book.slots) owners.owner p.driver.notes u z.first z.qtds c (owners.owned.each.pieces u (runs_of_transfer z) (ap (option_map runs_of_transfer) there) (kept u z there waits)) one
+  pieces_of : (u : ℕ) (z : Transfer) → slice_get p.driver.transfers u ≡ Some z → z.released ≡ false → (c : ℕ) → IsOneFrom (note_at p.driver.notes) z.first z.qtds c → owners.owner c ≡ Element u
+  pieces_of u z there held c one = owner_is (slot_of p.driver.book.slots) owners.owner p.driver.notes u z.first z.qtds c (owners.owned.each.pieces u (runs_of_transfer z) (ap (option_map runs_of_transfer) there) held) one
 
   own : (due.transfer.endpoint ≡ e) × (due.transfer.reported ≡ false)
   own = waits_is e due.transfer due.waits
 
+  its_end : slice_get p.driver.endpoints due.transfer.endpoint ≡ Some due.endpoint
+  its_end = ap (slice_get p.driver.endpoints) own.0 ∙ due.here
+
+  held : due.transfer.released ≡ false
+  held = kept t due.transfer due.endpoint due.there its_end goes own.1
+
   at : IsAtPlace (note_in p.driver.notes) due.transfer
-  at = turns.turns.places t due.transfer due.there (kept t due.transfer due.there own.1)
+  at = turns.turns.places t due.transfer due.there held
 
   its_place : IsOneFrom (note_at p.driver.notes) due.transfer.first due.transfer.qtds due.transfer.place
   its_place =
@@ -106,21 +115,23 @@ module _ (p : Parts) (e t : ℕ) (found : Found) (due : IsHarvestDue p e t found
 
   pub read_next : IsReadNext p.driver e t due.endpoint due.transfer
   read_next = record {
-    next = record { endpoint = due.here; going = due.goes_on; next = due.next; transfer = due.there };
+    next = record { endpoint = due.here; going = goes; next = due.next; transfer = due.there };
     command = due.idle;
-    kept = kept t due.transfer due.there own.1;
+    kept = held;
     waits = next_waits;
-    places = λ u z there waits. turns.turns.places u z there (kept u z there waits);
-    others = λ u z there waits differs one. differs (same_element u t (sym (pieces_of u z there waits due.transfer.place one) ∙ pieces_of t due.transfer due.there own.1 due.transfer.place its_place));
+    unreleased = kept;
+    places = λ u z there waits still. turns.turns.places u z there still;
+    others = λ u z there waits still differs one. differs (same_element u t (sym (pieces_of u z there still due.transfer.place one) ∙ pieces_of t due.transfer due.there held due.transfer.place its_place));
   }
 
-  pub queue_alone : (k : ℕ) (z : Endpoint) → slice_get p.driver.endpoints k ≡ Some z → z.queue ≡ due.endpoint.queue → k ≡ e
-  queue_alone k z there same = same_head k e (sym (placed k z there).owned ∙ ap owners.owner same ∙ (placed e due.endpoint due.here).owned)
+  pub queue_alone : (k : ℕ) (z : Endpoint) → slice_get p.driver.endpoints k ≡ Some z → z.gone ≡ false → z.queue ≡ due.endpoint.queue → k ≡ e
+  queue_alone k z there alone same =
+      same_head k e (sym (placed k z there alone).owned ∙ ap owners.owner same ∙ (placed e due.endpoint due.here (told_alive due.endpoint (turns.bulk.endpoints e due.endpoint due.here) goes)).owned)
     where
-      placed : (i : ℕ) (w : Endpoint) → slice_get p.driver.endpoints i ≡ Some w → IsPlaced (slot_of p.driver.book.slots) owners.owner w.queue (QueueHead i)
-      placed i w here =
+      placed : (i : ℕ) (w : Endpoint) → slice_get p.driver.endpoints i ≡ Some w → w.gone ≡ false → IsPlaced (slot_of p.driver.book.slots) owners.owner w.queue (QueueHead i)
+      placed i w here alone =
           let s : IsStanding w = turns.bulk.endpoints i w here in
-          owners.owned.each.queue i (runs_of_endpoint w) (ap (option_map runs_of_endpoint) here) (ap (λ k. is_iso k || w.gone) s.bulk.kind ∙ s.gone)
+          owners.owned.each.queue i (runs_of_endpoint w) (ap (option_map runs_of_endpoint) here) (ap (λ k. is_iso k || w.gone) s.bulk.kind ∙ alone)
 
   pub reads : (parts : StructureSets) → AreFed p.driver parts → AreRead (parts (32 * due.endpoint.queue)) (note_at p.driver.notes) due.transfer.first due.transfer.qtds
   reads parts fed =
@@ -128,7 +139,7 @@ module _ (p : Parts) (e t : ℕ) (found : Found) (due : IsHarvestDue p e t found
       (λ i below.
       let none = none_unpublished p.driver t due.transfer due.idle in
       fed_read due.transfer.sort (parts (32 * due.endpoint.queue)) (note_at p.driver.notes (piece_at (note_in p.driver.notes) due.transfer.first i)) (piece_at (note_in p.driver.notes) due.transfer.first i) (piece_at (note_in p.driver.notes) due.transfer.first due.transfer.qtds)
-      (fed.pieces t i due.transfer due.endpoint due.there (kept t due.transfer due.there own.1) (ap (slice_get p.driver.endpoints) own.0 ∙ due.here) (omega (arith, none)) below))
+      (fed.pieces t i due.transfer due.endpoint due.there held its_end (omega (arith, none)) below))
 
   its_sort : is_descriptor due.transfer.sort ≡ false
   its_sort = moves_queued p.driver due.transfer (turns.bulk.moves t due.transfer due.there)
@@ -168,4 +179,4 @@ pub wait_told : (p : Parts) (parts : StructureSets) (hand : Hand) (e t : ℕ) (r
     → ToldStands (after_driver_row (rows.Harvest e t founds.Active) p).driver hand parts reported
 wait_told p parts hand e t reported due k =
     subst (λ (d : DriverContent). ToldStands d hand parts reported) (sym (after_is p e t founds.Active due ∙ ap (λ (b : Bool). if b then served p.driver e else p.driver) due.waits))
-    (alike_told p.driver (served p.driver e) hand parts reported (record { reports = refl; store = refl; endpoints = refl; transfers = refl; notes = refl }) (λ x meets. meets) (λ x opens. opens) k)
+    (alike_told p.driver (served p.driver e) hand parts reported (record { reports = refl; store = refl; endpoints = refl; transfers = refl; notes = refl }) (λ x meets. record { linked = meets.linked; kept = meets.kept }) (λ x opens. opens) k)

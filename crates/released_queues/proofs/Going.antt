@@ -34,7 +34,8 @@ use Rattle.fed_queues.specs.Fed.{IsPieceFed}
 use Rattle.released_queues.specs.Fronts.{piece_address, StandsAt}
 use Rattle.released_queues.specs.Released.{IsReturning, ReleaseStands}
 use Rattle.released_queues.proofs.Pieces.{HasNumber, number_of, piece_next, rises_below, first_taken, name_noted}
-use Rattle.released_queues.proofs.Queues.{mapped, link_there, same_target, alternate_to, goes_off, goes_on, head_off, InQueue, is_dummy, is_piece, in_queue, one_queue, fed_piece, piece_off, link_off, end_off, dummy_off}
+use Rattle.released_queues.proofs.Queues.{its_alive, mapped, link_there, same_target, alternate_to, goes_off, goes_on, head_off, InQueue, is_dummy, is_piece, in_queue, one_queue, fed_piece, piece_off, link_off, end_off, dummy_off}
+use Rattle.fed_queues.specs.Places.{IsMet}
 
 module _ (base : Base) (member : ℕ → Bool) (parts : StructureSets) (hand : Hand) (w : Walk) (p : DriverParts) (order : ℕ → ℕ → ℕ) (out : ℕ → List ℕ) (t : ℕ) (y : Transfer) (x : Endpoint) (s : ReleaseStands base member parts hand w p order out) (k : IsReturning p.driver t y x) where
   abbrev d : DriverContent
@@ -68,17 +69,23 @@ module _ (base : Base) (member : ℕ → Bool) (parts : StructureSets) (hand : H
   same_transfer : (u : ℕ) (z : Transfer) → slice_get d.transfers u ≡ Some z → u ≡ t → z ≡ y
   same_transfer u z here same = same_Some z y (sym here ∙ ap (slice_get d.transfers) same ∙ k.here)
 
-  met : d.command ≡ None → d.command ≢ Some (unfinished.Open x.queue)
-  met free is = none_some (sym free ∙ is)
+  alive : x.gone ≡ false
+  alive = its_alive base member parts hand w p order out t y x s k
+
+  not_opening : d.command ≡ None → d.command ≢ Some (unfinished.Open x.queue)
+  not_opening free is = none_some (sym free ∙ is)
     where
       none_some : None ≡ Some (unfinished.Open x.queue) → ⊥
       none_some bad = cc
 
+  pub met : IsMet d y.endpoint x
+  met = record { there = record { linked = not_opening k.free; kept = alive }; near = k.near }
+
   pub stand : StandsAt d (parts n) (order n) (out n) y.endpoint x
-  stand = s.fronts y.endpoint x k.endpoint (met k.free)
+  stand = s.fronts y.endpoint x k.endpoint met
 
   pub rise : LinksRise (order n) (parts n)
-  rise = s.rise y.endpoint x k.endpoint
+  rise = s.rise y.endpoint x k.endpoint met.there
 
   -- ---- orders
 
@@ -98,7 +105,7 @@ module _ (base : Base) (member : ℕ → Bool) (parts : StructureSets) (hand : H
   stays_or_before a q here = by_place (among a q here)
     where
       by_place : InQueue base member parts hand w p order out t y x s k a → (goes a ≡ false) ⊎ (order n a < stand.front)
-      by_place (is_dummy at lent) = inl (ap goes at ∙ off x.dummy (dummy_off base member parts hand w p order out t y x s k y.endpoint x k.endpoint))
+      by_place (is_dummy at lent) = inl (ap goes at ∙ off x.dummy (dummy_off base member parts hand w p order out t y x s k y.endpoint x k.endpoint alive))
       by_place (is_piece u i z there held same below at) =
           ⊎_elim (λ (one : u ≡ t).
           let is : z ≡ y = same_transfer u z there one in
@@ -121,7 +128,7 @@ module _ (base : Base) (member : ℕ → Bool) (parts : StructureSets) (hand : H
     where
       by_place : InQueue base member parts hand w p order out t y x s k a → goes b ≡ false
       by_place (is_dummy at lent) =
-          let none = dummy_links a b q at (s.fed.dummies y.endpoint x k.endpoint lent) here in
+          let none = dummy_links a b q at (s.fed.dummies y.endpoint x k.endpoint alive lent) here in
           absurd (⊎_elim (λ (to : qtd_link_of q.next ≡ qtd_links.To b). none.0 to) (λ (to : qtd_link_of q.alternate ≡ qtd_links.To b). none.1 to) leads)
       by_place (is_piece u i z there held same below at) =
           ⊎_elim (λ (one : u ≡ t).
@@ -140,7 +147,7 @@ module _ (base : Base) (member : ℕ → Bool) (parts : StructureSets) (hand : H
   -- ---- buffers
 
   member_here : IsMember member n (parts n)
-  member_here = s.drives.ring.members n (s.met y.endpoint x k.endpoint)
+  member_here = s.drives.ring.members n (s.met y.endpoint x k.endpoint met)
 
   -- a buffer that goes is that of a qTD that goes
   buffer_owned : (m a : ℕ) (i : Sort) (b : ℕ) (q : Qtd) (pages : List ℕ) (j : ℕ) (bs : List ℕ) → m ≡ n → i ≡ OfBuffer → parts n b ≡ Some (ElementOf q) → goes b ≡ false → a ≡ buffer_name q → parts n a ≡ Some (BufferOf pages j bs) → IsDriverOwned v m a i → goes a ≡ false

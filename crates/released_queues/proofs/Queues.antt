@@ -37,6 +37,7 @@ use Rattle.fed_queues.specs.Fed.{alternate_by, IsPieceFed, unpublished_of}
 use Rattle.released_queues.specs.Fronts.{piece_address}
 use Rattle.released_queues.specs.Released.{IsReturning, ReleaseStands}
 use Rattle.released_queues.proofs.Pieces.{piece_is, number_of, HasNext, find_next}
+use Rattle.chained_transfers.proofs.Holding.{held_alive}
 
 -- ---- what views tell
 
@@ -94,21 +95,25 @@ module _ (base : Base) (member : ℕ → Bool) (parts : StructureSets) (hand : H
   abbrev blocks : List ℕ
   blocks = blocks_of note y.first y.qtds
 
-  pub queue_of : (e : ℕ) (z : Endpoint) → slice_get d.endpoints e ≡ Some z → IsQueueIn v e (runs_of_endpoint z)
-  queue_of e z here =
+  -- the endpoint of a transfer that wasn't given back
+  pub its_alive : x.gone ≡ false
+  its_alive = held_alive d t y x s.turns k.here k.held k.endpoint
+
+  pub queue_of : (e : ℕ) (z : Endpoint) → slice_get d.endpoints e ≡ Some z → z.gone ≡ false → IsQueueIn v e (runs_of_endpoint z)
+  queue_of e z here kept =
       let st = s.bulk.endpoints e z here in
-      record { here = ap (option_map runs_of_endpoint) here; queued = ap (λ (i : EpKind). is_iso i || z.gone) st.bulk.kind ∙ st.gone }
+      record { here = ap (option_map runs_of_endpoint) here; queued = ap (λ (i : EpKind). is_iso i || z.gone) st.bulk.kind ∙ kept }
 
   pub transfer_of : (u : ℕ) (z : Transfer) (e : Endpoint) → slice_get d.transfers u ≡ Some z → z.released ≡ false → slice_get d.endpoints z.endpoint ≡ Some e → IsTransferIn v u (runs_of_transfer z) (runs_of_endpoint e)
   transfer_of u z e here held at = record {
     here = ap (option_map runs_of_transfer) here;
     held = held;
     qtds = moves_queued d z (s.bulk.moves u z here);
-    queue = queue_of z.endpoint e at;
+    queue = queue_of z.endpoint e at (held_alive d u z e s.turns here held at);
   }
 
   pub to_go : IsToGo d t y (runs_of_endpoint x)
-  to_go = record { here = k.here; held = k.held; qtds = moves_queued d y (s.bulk.moves t y k.here); queue = queue_of y.endpoint x k.endpoint }
+  to_go = record { here = k.here; held = k.held; qtds = moves_queued d y (s.bulk.moves t y k.here); queue = queue_of y.endpoint x k.endpoint its_alive }
 
   pub pieces_of : (u : ℕ) (z : Transfer) → slice_get d.transfers u ≡ Some z → z.released ≡ false → ArePieces v.slot owner v.note u z.first z.qtds
   pieces_of u z here held = s.owners.owned.each.pieces u (runs_of_transfer z) (ap (option_map runs_of_transfer) here) held
@@ -129,15 +134,15 @@ module _ (base : Base) (member : ℕ → Bool) (parts : StructureSets) (hand : H
 
   pub one_queue : (e : ℕ) (z : EndpointRuns) → IsQueueIn v e z → z.queue ≡ x.queue → (e ≡ y.endpoint) × (z ≡ runs_of_endpoint x)
   one_queue e z is same =
-      let mine_too = queue_of y.endpoint x k.endpoint in
+      let mine_too = queue_of y.endpoint x k.endpoint its_alive in
       let number : e ≡ y.endpoint = ap owner_number (sym (queue_placed e z is) ∙ ap owner same ∙ queue_placed y.endpoint (runs_of_endpoint x) mine_too) in
       (number, same_Some z (runs_of_endpoint x) (sym is.here ∙ ap v.endpoint number ∙ mine_too.here))
 
   pub head_off : mine t (owner x.queue) ≡ false
-  head_off = ap (mine t) (queue_placed y.endpoint (runs_of_endpoint x) (queue_of y.endpoint x k.endpoint))
+  head_off = ap (mine t) (queue_placed y.endpoint (runs_of_endpoint x) (queue_of y.endpoint x k.endpoint its_alive))
 
-  pub dummy_off : (e : ℕ) (z : Endpoint) → slice_get d.endpoints e ≡ Some z → mine t (owner z.dummy) ≡ false
-  dummy_off e z here = let is = queue_of e z here in ap (mine t) (s.owners.owned.each.dummy e (runs_of_endpoint z) is.here is.queued).owned
+  pub dummy_off : (e : ℕ) (z : Endpoint) → slice_get d.endpoints e ≡ Some z → z.gone ≡ false → mine t (owner z.dummy) ≡ false
+  dummy_off e z here kept = let is = queue_of e z here kept in ap (mine t) (s.owners.owned.each.dummy e (runs_of_endpoint z) is.here is.queued).owned
 
   -- ---- what stands in it
 
@@ -218,7 +223,7 @@ module _ (base : Base) (member : ℕ → Bool) (parts : StructureSets) (hand : H
       ap (λ (i : ℕ). mine t (owner i)) first ∙ ap (mine t) placed.owned ∙ not_same found.number t (λ one. omega (arith, one, later, less)))
       (λ (none : NoneFrom v z.endpoint (suc u) (suc u + length d.transfers)).
       let last : end_of v (runs_of_transfer z) ≡ x.dummy = s.chained.last u (runs_of_transfer z) (runs_of_endpoint x) there held (ap (option_map runs_of_endpoint) (same_endpoint z same)) (none_at_all u z none) in
-      ap (λ (i : ℕ). mine t (owner i)) last ∙ dummy_off y.endpoint x k.endpoint)
+      ap (λ (i : ℕ). mine t (owner i)) last ∙ dummy_off y.endpoint x k.endpoint its_alive)
       (find_next v z.endpoint (suc u) (length d.transfers))
 
   pub link_off : (u i : ℕ) (z : Transfer) → slice_get d.transfers u ≡ Some z → z.released ≡ false → z.endpoint ≡ y.endpoint → u ≢ t → i < z.qtds → goes (piece_address d z (suc i)) ≡ false

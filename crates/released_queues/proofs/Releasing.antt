@@ -40,13 +40,14 @@ use Rattle.driver_releases.proofs.Blocks.{mine, qtds_are_runs}
 use Rattle.driver_releases.proofs.Freeing.{IsLess, runs_less}
 use Rattle.driver_releases.proofs.Releasing.{release_drives}
 use Rattle.fed_queues.specs.Fed.{IsPieceFed, unpublished_of, AreFed}
-use Rattle.fed_queues.specs.Places.{IsMet, HasHead, AreMet, HaveStreams, AreLast, AreStillOut}
+use Rattle.fed_queues.specs.Places.{IsMet, AreMet, HaveStreams, AreLast, AreStillOut, IsThere}
 use Rattle.released_queues.specs.Fronts.{piece_address, StandsAt, FrontsStand}
 use Rattle.released_queues.specs.Released.{IsReturning, ReleaseStands, ReleaseFeeds, ReleaseKeepsMet}
 use Rattle.released_queues.proofs.Pieces.{piece_on}
 use Rattle.released_queues.proofs.Queues.{none_yet, goes_off, goes_on, one_queue, queue_of, piece_off, dummy_off, to_go}
-use Rattle.released_queues.proofs.Going.{stand, buffers_stay, head_stays, may_go}
+use Rattle.released_queues.proofs.Going.{stand, buffers_stay, head_stays, may_go, met as its_met}
 use Rattle.released_queues.proofs.Outs.{out_is, IsDropped, out_of_one, out_in, gone, plain_gone, plain_other}
+use Rattle.fed_queues.proofs.Places.{SameQueues, same_ends, met_stays, streams_stay}
 
 lent_was : (h : Holding) (notes : List QtdNote) (b m c : ℕ) → IsLent (slot_of (free_qtds notes h b m).book.slots c) → IsLent (slot_of h.book.slots c)
 lent_was h notes b m c lent =
@@ -103,13 +104,16 @@ module _ (base : Base) (member : ℕ → Bool) (parts : StructureSets) (hand : H
       (λ (differs : u ≢ t). (differs, sym (set_there d.transfers t u (gone y) differs) ∙ here)) (cases_eq u t)
 
   -- two endpoints with one queue
-  same_queue : (i : ℕ) (z : Endpoint) → slice_get d.endpoints i ≡ Some z → 32 * z.queue ≡ n → (i ≡ y.endpoint) × (z ≡ x)
-  same_queue i z here at =
-      let one = one_queue base member parts hand w p order out t y x s k i (runs_of_endpoint z) (queue_of base member parts hand w p order out t y x s k i z here) (let same : z.queue ≡ x.queue = omega (arith, at) in same) in
+  same_queue : (i : ℕ) (z : Endpoint) → slice_get d.endpoints i ≡ Some z → z.gone ≡ false → 32 * z.queue ≡ n → (i ≡ y.endpoint) × (z ≡ x)
+  same_queue i z here kept at =
+      let one = one_queue base member parts hand w p order out t y x s k i (runs_of_endpoint z) (queue_of base member parts hand w p order out t y x s k i z here kept) (let same : z.queue ≡ x.queue = omega (arith, at) in same) in
       (one.0, same_Some z x (sym here ∙ ap (slice_get d.endpoints) one.0 ∙ k.endpoint))
 
-  met_before : (z : Endpoint) → IsMet e z → IsMet d z
-  met_before z is = is
+  there_before : (z : Endpoint) → IsThere e z → IsThere d z
+  there_before z is = record { linked = is.linked; kept = is.kept }
+
+  met_before : (i : ℕ) (z : Endpoint) → IsMet e i z → IsMet d i z
+  met_before i z is = record { there = there_before z is.there; near = is.near }
 
   no_command : (c : Command) → e.command ≡ Some c → ⊥
   no_command c is = none_some c (sym k.free ∙ is)
@@ -147,9 +151,9 @@ module _ (base : Base) (member : ℕ → Bool) (parts : StructureSets) (hand : H
 
   fed_now : AreFed e now
   fed_now = record {
-    dummies = λ i z here lent.
-        those_else parts n goes (32 * z.queue) (32 * z.dummy) (off z.dummy (dummy_off base member parts hand w p order out t y x s k i z here))
-        ∙ s.fed.dummies i z here (lent_was (holding d.book p.memory) d.notes y.first y.qtds z.dummy lent);
+    dummies = λ i z here kept lent.
+        those_else parts n goes (32 * z.queue) (32 * z.dummy) (off z.dummy (dummy_off base member parts hand w p order out t y x s k i z here kept))
+        ∙ s.fed.dummies i z here kept (lent_was (holding d.book p.memory) d.notes y.first y.qtds z.dummy lent);
     pieces = λ u i z c here held at from below.
         let was = was_there u z here held in
         let none : unpublished_of d u z ≡ 0 = none_yet d.command d.made z.qtds (nat_eq (suc u) (length d.transfers)) k.free in
@@ -160,8 +164,8 @@ module _ (base : Base) (member : ℕ → Bool) (parts : StructureSets) (hand : H
 
   last_now : AreLast e now order
   last_now = record {
-    dummies = λ i z here lent b q found differs.
-        s.last.dummies i z here (lent_was (holding d.book p.memory) d.notes y.first y.qtds z.dummy lent) b q (those_found parts n goes (32 * z.queue) b (ElementOf q) found) differs;
+    dummies = λ i z here kept lent b q found differs.
+        s.last.dummies i z here kept (lent_was (holding d.book p.memory) d.notes y.first y.qtds z.dummy lent) b q (those_found parts n goes (32 * z.queue) b (ElementOf q) found) differs;
     taken = λ b words u z c is made newest here first at. absurd (no_command (unfinished.Publish b words) is);
     sorted = λ b words u z c is made newest here first at. absurd (no_command (unfinished.Publish b words) is);
   }
@@ -205,18 +209,18 @@ module _ (base : Base) (member : ℕ → Bool) (parts : StructureSets) (hand : H
   still_out_now : AreStillOut e (staying_of n goes out)
   still_out_now i z here is =
       ⊎_elim (λ (same : 32 * z.queue ≡ n).
-      let one = same_queue i z here same in
+      let one = same_queue i z here is.kept same in
       ap (λ (b : Bool). if b then staying goes (out (32 * z.queue)) else out (32 * z.queue)) (eq-eqb (32 * z.queue) n same)
-      ∙ ap (staying goes) (s.still_out i z here (met_before z is) ∙ ap (out_now d) one.0) ∙ out_here ∙ ap (out_now e) (sym one.0))
+      ∙ ap (staying goes) (s.still_out i z here (there_before z is) ∙ ap (out_now d) one.0) ∙ out_here ∙ ap (out_now e) (sym one.0))
       (λ (differs : 32 * z.queue ≢ n).
       ap (λ (b : Bool). if b then staying goes (out (32 * z.queue)) else out (32 * z.queue)) (not_same (32 * z.queue) n differs)
-      ∙ s.still_out i z here (met_before z is) ∙ out_beside i (λ one. differs (ap (λ (c : Endpoint). 32 * c.queue) (same_Some z x (sym here ∙ ap (slice_get d.endpoints) (sym one) ∙ k.endpoint))))) (cases_eq (32 * z.queue) n)
+      ∙ s.still_out i z here (there_before z is) ∙ out_beside i (λ one. differs (ap (λ (c : Endpoint). 32 * c.queue) (same_Some z x (sym here ∙ ap (slice_get d.endpoints) (sym one) ∙ k.endpoint))))) (cases_eq (32 * z.queue) n)
 
   untold_now : GoUntold goes (out n) hand parts n
   untold_now a xs among goes_now told =
       let front_here = stand base member parts hand w p order out t y x s k in
-      let met : IsMet d x = λ is. no_command (unfinished.Open x.queue) is in
-      let place = out_in note y.endpoint d.transfers a (subst (IsAmong a) (s.still_out y.endpoint x k.endpoint met ∙ out_is d y.endpoint k.free) among) in
+      let met : IsMet d y.endpoint x = its_met base member parts hand w p order out t y x s k in
+      let place = out_in note y.endpoint d.transfers a (subst (IsAmong a) (s.still_out y.endpoint x k.endpoint met.there ∙ out_is d y.endpoint k.free) among) in
       let piece = piece_out place.number place.transfer a place.here place.is.held place.is.dropped in
       ⊎_elim (λ (same : place.number ≡ t).
       let is : place.transfer ≡ y = same_transfer place.number place.transfer place.here same in
@@ -233,9 +237,9 @@ module _ (base : Base) (member : ℕ → Bool) (parts : StructureSets) (hand : H
   -- ---- fronts
 
   -- the front of an endpoint stays
-  stands_now : (i : ℕ) (z : Endpoint) → slice_get d.endpoints i ≡ Some z → IsMet d z → (f : StandsAt d (parts (32 * z.queue)) (order (32 * z.queue)) (out (32 * z.queue)) i z)
+  stands_now : (i : ℕ) (z : Endpoint) → slice_get d.endpoints i ≡ Some z → (f : StandsAt d (parts (32 * z.queue)) (order (32 * z.queue)) (out (32 * z.queue)) i z)
       → HasFront (order (32 * z.queue)) f.front (staying_of n goes out (32 * z.queue)) (32 * z.queue) (now (32 * z.queue)) → StandsAt e (now (32 * z.queue)) (order (32 * z.queue)) (staying_of n goes out (32 * z.queue)) i z
-  stands_now i z here is f has = record {
+  stands_now i z here f has = record {
     front = f.front;
     has = has;
     ended = λ h u c at there held same. let was = was_there u c there held in f.ended (suc h) u c (dropped_one d.harvested h u at) was.1 held same;
@@ -247,8 +251,8 @@ module _ (base : Base) (member : ℕ → Bool) (parts : StructureSets) (hand : H
 
   fronts_now : FrontsStand e now order (staying_of n goes out)
   fronts_now i z here is =
-      let f = s.fronts i z here (met_before z is) in
-      stands_now i z here (met_before z is) f
+      let f = s.fronts i z here (met_before i z is) in
+      stands_now i z here f
       (⊎_elim (λ (same : 32 * z.queue ≡ n).
       subst (λ (b : Bool). HasFront (order (32 * z.queue)) f.front (if b then staying goes (out (32 * z.queue)) else out (32 * z.queue)) (32 * z.queue) (now (32 * z.queue))) (sym (eq-eqb (32 * z.queue) n same))
       (by_queue (32 * z.queue) f.front same f.has))
@@ -283,11 +287,5 @@ release_keeps_met p t y member streams ends here met have =
     let d : DriverContent = (after_transfer p t (Some y) (freed_by p.driver (holding p.driver.book p.memory) (Some y))).driver in
     let row_is : after_driver_row (release_row t) p ≡ after_transfer p t (Some y) (freed_by p.driver (holding p.driver.book p.memory) (Some y)) =
     ap (λ (o : Option Transfer). after_transfer p t o (freed_by p.driver (holding p.driver.book p.memory) o)) here in
-    let head : (n : ℕ) → HasHead p.driver n → HasHead d n = λ n is. record { number = is.number; endpoint = is.endpoint; here = is.here; met = is.met; at = is.at } in
-    let met_now : AreMet d member = record {
-      head = met.head;
-      each = λ e x there is. met.each e x there is;
-      only = λ n on. ⊎_elim (λ (at : n ≡ 32 * head_block). inl at) (λ (is : HasHead p.driver n). inr (head n is)) (met.only n on);
-    } in
-    let have_now : HaveStreams d streams ends = record { each = λ e x there is. have.each e x there is; only = λ n on. head n (have.only n on) } in
-    subst (λ (q : DriverParts). AreMet q.driver member × HaveStreams q.driver streams ends) (sym row_is) (met_now, have_now)
+    let same : SameQueues p.driver d = same_ends p.driver d (record { waiting = refl; rung = refl; opens = λ c is. is }) (record { waiting = refl; rung = refl; opens = λ c is. is }) refl in
+    subst (λ (q : DriverParts). AreMet q.driver member × HaveStreams q.driver streams ends) (sym row_is) (met_stays p.driver d member same met, streams_stay p.driver d streams ends same have)

@@ -32,4 +32,4 @@ pub record StandsAt (d : DriverContent) (part : Structures) (order : ℕ → ℕ
 
 abbrev pub FrontsStand : DriverContent → StructureSets → (ℕ → ℕ → ℕ) → (ℕ → List ℕ) → Type 0
 FrontsStand d parts order out =
-    (e : ℕ) (x : Endpoint) → slice_get d.endpoints e ≡ Some x → IsMet d x → StandsAt d (parts (32 * x.queue)) (order (32 * x.queue)) (out (32 * x.queue)) e x
+    (e : ℕ) (x : Endpoint) → slice_get d.endpoints e ≡ Some x → IsMet d e x → StandsAt d (parts (32 * x.queue)) (order (32 * x.queue)) (out (32 * x.queue)) e x

@@ -28,8 +28,9 @@ use Rattle.driver_parts.specs.Driven.{DrivesRing}
 use Rattle.driver_releases.specs.Extents.{AreInRuns}
 use Rattle.driver_releases.specs.Released.{goes_of, release_row}
 use Rattle.fed_queues.specs.Fed.{AreFed}
-use Rattle.fed_queues.specs.Places.{AreMet, HaveStreams, AreLast, AreStillOut}
+use Rattle.fed_queues.specs.Places.{AreMet, HaveStreams, AreLast, AreStillOut, IsThere, IsMet}
 use Rattle.released_queues.specs.Fronts.{FrontsStand}
+use Rattle.endpoint_lives.specs.Lives.{may_meet}
 
 pub record IsReturning (d : DriverContent) (t : ℕ) (y : Transfer) (x : Endpoint) : Type 0 where
   pub free : d.command ≡ None
@@ -38,6 +39,8 @@ pub record IsReturning (d : DriverContent) (t : ℕ) (y : Transfer) (x : Endpoin
   pub held : y.released ≡ false
   pub reported : y.reported ≡ true
   pub endpoint : slice_get d.endpoints y.endpoint ≡ Some x
+  -- it isn't one that has left
+  pub near : may_meet d y.endpoint x ≡ true
 
 -- what the driver's content, memory and the walk are, beside its streams
 pub record ReleaseStands (base : Base) (member : ℕ → Bool) (parts : StructureSets) (hand : Hand) (w : Walk) (p : DriverParts) (order : ℕ → ℕ → ℕ) (out : ℕ → List ℕ) : Type 0 where
@@ -53,8 +56,8 @@ pub record ReleaseStands (base : Base) (member : ℕ → Bool) (parts : Structur
   pub still_out : AreStillOut p.driver out
   pub fronts : FrontsStand p.driver parts order out
   -- links lead to later qTDs
-  pub rise : (e : ℕ) (x : Endpoint) → slice_get p.driver.endpoints e ≡ Some x → LinksRise (order (32 * x.queue)) (parts (32 * x.queue))
-  pub met : (e : ℕ) (x : Endpoint) → slice_get p.driver.endpoints e ≡ Some x → member (32 * x.queue) ≡ true
+  pub rise : (e : ℕ) (x : Endpoint) → slice_get p.driver.endpoints e ≡ Some x → IsThere p.driver x → LinksRise (order (32 * x.queue)) (parts (32 * x.queue))
+  pub met : (e : ℕ) (x : Endpoint) → slice_get p.driver.endpoints e ≡ Some x → IsMet p.driver e x → member (32 * x.queue) ≡ true
 
 -- what the row leaves; pipes and reports stay by `goes`, `buffers` and `untold`
 pub record IsReleased (base : Base) (member : ℕ → Bool) (parts : StructureSets) (hand : Hand) (w : Walk) (p : DriverParts) (order : ℕ → ℕ → ℕ) (out : ℕ → List ℕ) (t n : ℕ)

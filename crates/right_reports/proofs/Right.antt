@@ -4,7 +4,7 @@ use Rattle.std.specs.Prelude.{is_none}
 use Rattle.std.specs.Option.{option_map, option_and_then}
 use Rattle.std.specs.List.{AllByRecursion, concat, list_any, cons_option}
 use Rattle.std.proofs.lemmas.Option.{same_Some}
-use Rattle.std.proofs.lemmas.List.{append_assoc}
+use Rattle.std.proofs.lemmas.List.{append_assoc, append-nil}
 use Rattle.usb_base.specs.declared.commands.Cmd.{Cmd}
 use Rattle.usb_base.specs.declared.commands.Cmd.TheVariants as commands
 use Rattle.usb_base.specs.declared.endpoints.EndCause.{EndCause}
@@ -22,15 +22,17 @@ use Rattle.usb_bus.specs.Bus.{Fixed}
 use Rattle.report_streams.specs.Reports.{WholeReport, is_end, is_pending}
 use Rattle.report_streams.specs.Streams.{is_refused, command_in, accepted_in, open_in, opened, has_stream, items_of, stream_by, told, told_in, ends_once, ends_whole, AreBytesRight, IsRightStream}
 use Rattle.driver_rows.specs.declared.content.Endpoint.{Endpoint}
-use Rattle.driver_rows.specs.DriverContent.{ended}
+use Rattle.driver_rows.specs.DriverContent.{DriverContent, ended}
 use Rattle.told_endpoints.specs.Telling.{named_of, named_in, lines_in, IsToldTo, TellsEach}
 use Rattle.told_endpoints.proofs.Lines.{once_without}
+use Rattle.endpoint_lives.specs.Lives.{told_end}
+use Rattle.endpoint_lives.proofs.Lives.{told_some, told_gone}
 use Rattle.bus_world.specs.World.{World}
 use Rattle.right_reports.specs.WorldReport.{closings_of, report_of}
 use Rattle.right_reports.specs.Ins.{AreRightInStreams}
 use Rattle.right_reports.specs.Laws.{BeginsEach}
 use Rattle.right_reports.proofs.Named.{HasNamed, NoneNamed, search, named_is, none_pending}
-use Rattle.chained_transfers.specs.Bulk.{IsDataWay, IsBulk, OpensBulk, BulkLine, BulkOnly, receives}
+use Rattle.chained_transfers.specs.Bulk.{IsDataWay, IsBulk, OpensBulk, BulkLine, BulkOnly, receives, IsStanding, OnlyBulk}
 
 -- ---- lists
 
@@ -106,7 +108,7 @@ module _ (s : Script) (fixed : Fixed) (w : World) (held told_each : ℕ → List
   not_both true = refl
   not_both false = refl
 
-  is_told : (k : ℕ) (x : Endpoint) → slice_get w.driver.endpoints k ≡ Some x → x.desc.name.way ≡ Ways.In → (o : Option EndCause) → x.ended ≡ o → IsRightStream s r x.desc.name
+  is_told : (k : ℕ) (x : Endpoint) → slice_get w.driver.endpoints k ≡ Some x → x.desc.name.way ≡ Ways.In → (o : Option EndCause) → told_end x ≡ o → IsRightStream s r x.desc.name
   is_told k x here way o is = record {
     bytes = bytes_right s r x.desc.name way (held k ++ front.0, sym (append_assoc (told r x.desc.name) (held k) front.0) ∙ ap (λ (xs : List ℕ). xs ++ front.0) t.sum ∙ front.1);
     once = once_by o is;
@@ -119,7 +121,7 @@ module _ (s : Script) (fixed : Fixed) (w : World) (held told_each : ℕ → List
       front : IsPrefix (told_each k) (concat (packets_of (items_of s x.desc.name)))
       front = begins k x here (ap receives way)
 
-      once_by : (end : Option EndCause) → x.ended ≡ end → ends_once (lines_in x.desc.name w.driver.reports) ≡ true
+      once_by : (end : Option EndCause) → told_end x ≡ end → ends_once (lines_in x.desc.name w.driver.reports) ≡ true
       once_by None still = once_without (lines_in x.desc.name w.driver.reports) (t.going still)
       once_by (Some cause) over = (t.over cause over).1
 
@@ -130,17 +132,32 @@ module _ (s : Script) (fixed : Fixed) (w : World) (held told_each : ℕ → List
       ended_is end same =
           ap (λ (e : Option Endpoint). option_and_then (λ y. y.ended) e) (named_is w.driver x.desc.name named (λ i y at alike. tells.apart i k (named_of y) (named_of x) (ap (option_map named_of) at) (ap (option_map named_of) here) alike)) ∙ same
 
-      whole_by : (end : Option EndCause) → x.ended ≡ end → ends_whole r x.desc.name ≡ true
+      whole_by : (end : Option EndCause) → told_end x ≡ end → ends_whole r x.desc.name ≡ true
       whole_by None still = ap (λ (b : Bool). not (b && list_any (is_pending x.desc.name) (closings_of fixed w))) (t.going still)
       whole_by (Some cause) over =
-          ap (λ (b : Bool). not (list_any (λ line. is_end line.what) (lines_in x.desc.name w.driver.reports) && b)) (none_pending w x.desc.name (ap is_none (ended_is (Some cause) over)) fixed)
+          ap (λ (b : Bool). not (list_any (λ line. is_end line.what) (lines_in x.desc.name w.driver.reports) && b)) (none_pending w x.desc.name (ap is_none (ended_is (Some cause) (told_some x cause over).ended)) fixed)
           ∙ not_both (list_any (λ line. is_end line.what) (lines_in x.desc.name w.driver.reports))
 
   one_right : (name : EpName) → name.way ≡ Ways.In → IsRightStream s r name
   one_right name way =
       ⊎_elim (λ (k : HasNamed w.driver.endpoints name).
-      subst (IsRightStream s r) k.same (is_told k.number k.endpoint k.here (ap (λ (n : EpName). n.way) k.same ∙ way) k.endpoint.ended refl))
+      subst (IsRightStream s r) k.same (is_told k.number k.endpoint k.here (ap (λ (n : EpName). n.way) k.same ∙ way) (told_end k.endpoint) refl))
       (λ (none : NoneNamed w.driver.endpoints name). nothing_told name way (tells.only name none)) (search w.driver.endpoints name)
+
+-- an endpoint that was given back has ended, and nothing of it is held back
+pub gone_told : (d : DriverContent) (held told : ℕ → List ℕ) (e : ℕ) (x : Endpoint) → OnlyBulk d → TellsEach d.reports d.store (named_in d.endpoints) held told → slice_get d.endpoints e ≡ Some x → x.gone ≡ true
+    → told e ≡ told_in d.store (lines_in x.desc.name d.reports)
+gone_told d held told e x only tells here gone = by x.ended refl
+  where
+    life : IsStanding x
+    life = only.endpoints e x here
+
+    by : (o : Option EndCause) → x.ended ≡ o → told e ≡ told_in d.store (lines_in x.desc.name d.reports)
+    by None is = absurd (life.ended (life.unlinked (life.gone gone)) is)
+    by (Some cause) is =
+        let to : IsToldTo d.reports d.store (named_of x) (held e) (told e) = tells.each e (named_of x) (ap (option_map named_of) here) in
+        let none : held e ≡ [] = (to.over cause (told_gone x gone ∙ is)).0 in
+        sym to.sum ∙ ap (λ (xs : List ℕ). told_in d.store (lines_in x.desc.name d.reports) ++ xs) none ∙ append-nil (told_in d.store (lines_in x.desc.name d.reports))
 
 pub report_right : (s : Script) (fixed : Fixed) (w : World) (held told : ℕ → List ℕ) → BulkOnly s → TellsEach w.driver.reports w.driver.store (named_in w.driver.endpoints) held told → BeginsEach s w told → AreRightInStreams s (report_of fixed w)
 report_right s fixed w held told bulk tells begins = all_right s (report_of fixed w) bulk (λ desc is comes. one_right s fixed w held told tells begins desc.name (in_way desc.name.way is.way comes))

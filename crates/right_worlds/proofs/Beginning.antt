@@ -1,8 +1,9 @@
 -- What is told of each IN endpoint begins its packets.
-use Rattle.std.proofs.Common.{◌≡◌, ◌≢◌, ℕ, ◌*◌, Bool, List, [], ◌∷◌, ◌++◌, Option, Some, None, ap, refl, sym, subst, ◌∙◌, ⊎_elim, inl, inr}
+use Rattle.std.proofs.Common.{◌≡◌, ◌≢◌, ℕ, ◌*◌, Bool, true, false, List, [], ◌∷◌, ◌++◌, slice_get, Option, Some, None, ap, refl, sym, subst, ◌∙◌, ⊎_elim, inl, inr}
 use Rattle.std.specs.Prelude.{◌⊎◌}
 use Rattle.std.specs.List.{concat}
 use Rattle.std.proofs.lemmas.Bool.{cases_eq}
+use Rattle.std.proofs.lemmas.List.{append_assoc}
 use Rattle.usb_base.specs.declared.endpoints.EpName.{EpName}
 use Rattle.usb_base.specs.declared.packets.Way.{Way}
 use Rattle.usb_base.specs.declared.packets.Way.TheVariants as Ways
@@ -10,26 +11,29 @@ use Rattle.script_types.specs.declared.scripts.Script.{Script}
 use Rattle.endpoint_script.specs.Items.{packets_of}
 use Rattle.pipe_agreement.specs.Prefix.{IsPrefix}
 use Rattle.usb_bus.specs.Bus.{Fixed, opening_wired}
-use Rattle.report_streams.specs.Streams.{items_of}
+use Rattle.report_streams.specs.Streams.{items_of, told_in}
 use Rattle.ring_walk.specs.Ring.{Base}
 use Rattle.ring_streams.specs.Told.{Endpoint as Told}
 use Rattle.ring_pipes.specs.Bus.{Sender}
 use Rattle.scripted_streams.specs.Senders.{sender_of}
 use Rattle.reported_streams.proofs.Reporting.{reported_begins}
+use Rattle.driver_rows.specs.declared.content.Endpoint.{Endpoint}
 use Rattle.driver_rows.specs.declared.content.Command.{Command}
 use Rattle.driver_rows.specs.declared.content.Command.TheVariants as unfinished
+use Rattle.endpoint_lives.specs.Lives.{may_meet}
+use Rattle.told_endpoints.specs.Telling.{lines_in}
 use Rattle.bus_world.specs.World.{World}
 use Rattle.world_streams.specs.Streaming.{Streams, Standing, IsStreaming, wired}
-use Rattle.chained_transfers.specs.Bulk.{BulkOnly, OnlyBulk}
-use Rattle.fed_queues.specs.Places.{IsMet, HaveStreams}
+use Rattle.chained_transfers.specs.Bulk.{receives, BulkOnly, OnlyBulk}
+use Rattle.fed_queues.specs.Places.{IsThere, IsMet, HaveStreams}
 use Rattle.told_queues.specs.Told.{ToldStands}
 use Rattle.opening_senders.specs.Own.{HasOwnDevices}
 use Rattle.opening_senders.proofs.Opening.{opening_sends}
 use Rattle.right_reports.specs.WorldReport.{report_of}
 use Rattle.right_reports.specs.Ins.{AreRightInStreams}
 use Rattle.right_reports.specs.Laws.{BeginsEach}
-use Rattle.right_reports.proofs.Right.{in_way, report_right}
-use Rattle.right_worlds.specs.Right.{AreOfScript}
+use Rattle.right_reports.proofs.Right.{in_way, gone_told, report_right}
+use Rattle.right_worlds.specs.Right.{AreOfScript, WorldIsRight}
 
 -- ---- an endpoint is met, or is being opened
 
@@ -91,18 +95,44 @@ packets_begin script packets name xs own of_it way k = by_sender (sender_of (ope
 
 -- ---- the world
 
-pub world_right : (script : Script) (fixed : Fixed) (base : Base) (member : ℕ → Bool) (x : Streams) (s : Standing) (w : World) → BulkOnly script → HasOwnDevices script → AreOfScript script x.packets
-    → IsStreaming fixed base member x s w → OnlyBulk w.driver → HaveStreams w.driver x.streams x.endpoint → ToldStands w.driver s.hand s.parts s.reported → AreRightInStreams script (report_of fixed w)
-world_right script fixed base member x s w only own of_it streaming bulk streams told = report_right script fixed w told.held told.told only told.tells begins
+pub world_right : WorldIsRight
+world_right script fixed base member heads x s w only own of_it streaming bulk streams told right heads_hold closed = report_right script fixed w told.held told.told only told.tells begins
   where
-    begins : BeginsEach script w told.told
-    begins e z here comes =
-        ⊎_elim (λ (opens : w.driver.command ≡ Some (unfinished.Open z.queue)).
-        subst (λ (xs : List ℕ). IsPrefix xs (concat (packets_of (items_of script z.desc.name)))) (sym (told.opening e z here opens)) (concat (packets_of (items_of script z.desc.name)), refl))
-        (λ (meets : IsMet w.driver z).
+    begun : (e : ℕ) (z : Endpoint) → slice_get w.driver.endpoints e ≡ Some z → receives z.desc.name.way ≡ true → (xs : List ℕ) → told.told e ≡ xs → IsPrefix xs (concat (x.packets z.desc.name.addr z.desc.name.num))
+        → IsPrefix (told.told e) (concat (packets_of (items_of script z.desc.name)))
+    begun e z here comes xs is front =
+        subst (λ (ys : List ℕ). IsPrefix ys (concat (packets_of (items_of script z.desc.name)))) (sym is)
+        (packets_begin script x.packets z.desc.name xs own of_it (in_way z.desc.name.way (bulk.endpoints e z here).bulk.way comes) front)
+
+    while_met : (e : ℕ) (z : Endpoint) → slice_get w.driver.endpoints e ≡ Some z → receives z.desc.name.way ≡ true → IsMet w.driver e z → IsPrefix (told.told e) (concat (packets_of (items_of script z.desc.name)))
+    while_met e z here comes meets =
         let has = streams.each e z here meets in
         let front : IsPrefix (s.reported (32 * z.queue)) (concat (x.packets (x.endpoint (32 * z.queue)).addr (x.endpoint (32 * z.queue)).ep)) =
         reported_begins x.stream x.packets sender_of member x.streams x.endpoint s.acc s.parts s.hand (wired fixed w) s.order s.out s.reported (32 * z.queue) streaming.piped streaming.right (has.0 ∙ comes) in
-        subst (λ (xs : List ℕ). IsPrefix xs (concat (packets_of (items_of script z.desc.name)))) (sym (told.met e z here meets))
-        (packets_begin script x.packets z.desc.name (s.reported (32 * z.queue)) own of_it (in_way z.desc.name.way (bulk.endpoints e z here).bulk.way comes)
-        (subst (λ (t : Told). IsPrefix (s.reported (32 * z.queue)) (concat (x.packets t.addr t.ep))) has.1 front))) (met_or_not w.driver.command z.queue)
+        begun e z here comes (s.reported (32 * z.queue)) (told.met e z here meets.there)
+        (subst (λ (t : Told). IsPrefix (s.reported (32 * z.queue)) (concat (x.packets t.addr t.ep))) has.1 front)
+
+    -- it has left the ring, and isn't given back yet
+    while_left : (e : ℕ) (z : Endpoint) → slice_get w.driver.endpoints e ≡ Some z → receives z.desc.name.way ≡ true → IsThere w.driver z → may_meet w.driver e z ≡ false
+        → IsPrefix (told.told e) (concat (packets_of (items_of script z.desc.name)))
+    while_left e z here comes there left =
+        let r = right (32 * z.queue) (heads_hold e z here there) in
+        let all : IsPrefix (concat (s.acc (32 * z.queue))) (concat (x.packets z.desc.name.addr z.desc.name.num)) = closed.left e z here comes there left in
+        begun e z here comes (s.reported (32 * z.queue)) (told.met e z here there)
+        (r.told ++ all.0, sym (append_assoc (s.reported (32 * z.queue)) r.told all.0) ∙ ap (λ (ys : List ℕ). ys ++ all.0) r.sum ∙ all.1)
+
+    there_begins : (e : ℕ) (z : Endpoint) → slice_get w.driver.endpoints e ≡ Some z → receives z.desc.name.way ≡ true → IsThere w.driver z → (b : Bool) → may_meet w.driver e z ≡ b
+        → IsPrefix (told.told e) (concat (packets_of (items_of script z.desc.name)))
+    there_begins e z here comes there true near = while_met e z here comes (record { there = there; near = near })
+    there_begins e z here comes there false left = while_left e z here comes there left
+
+    by_life : (e : ℕ) (z : Endpoint) → slice_get w.driver.endpoints e ≡ Some z → receives z.desc.name.way ≡ true → (b : Bool) → z.gone ≡ b → IsPrefix (told.told e) (concat (packets_of (items_of script z.desc.name)))
+    by_life e z here comes true gone =
+        begun e z here comes (told_in w.driver.store (lines_in z.desc.name w.driver.reports)) (gone_told w.driver told.held told.told e z bulk told.tells here gone) (closed.gone e z here comes gone)
+    by_life e z here comes false kept =
+        ⊎_elim (λ (opens : w.driver.command ≡ Some (unfinished.Open z.queue)).
+        subst (λ (xs : List ℕ). IsPrefix xs (concat (packets_of (items_of script z.desc.name)))) (sym (told.opening e z here kept opens)) (concat (packets_of (items_of script z.desc.name)), refl))
+        (λ (linked : w.driver.command ≢ Some (unfinished.Open z.queue)). there_begins e z here comes (record { linked = linked; kept = kept }) (may_meet w.driver e z) refl) (met_or_not w.driver.command z.queue)
+
+    begins : BeginsEach script w told.told
+    begins e z here comes = by_life e z here comes z.gone refl

@@ -1,16 +1,25 @@
 -- A world whose endpoints are all bulk ones, and whose report is right (EHCI 1.0, 4.10; USB 2.0, 8.6).
 --     AreOfScript s packets      these are the packets that the senders of the script have at the opening
+--     ClosedIns d packets acc    what is told of endpoints IN that have left begins their packets
 --     WorldIsRight               the law
-use Rattle.std.specs.Prelude.{◌≡◌, ℕ, Bool, List, [], Some, None}
+use Rattle.std.specs.Prelude.{◌≡◌, ℕ, ◌*◌, Bool, true, false, List, [], slice_get, Some, None}
+use Rattle.std.specs.List.{concat}
 use Rattle.script_types.specs.declared.scripts.Script.{Script}
 use Rattle.usb_bus.specs.Bus.{Fixed, opening_wired}
+use Rattle.driver_rows.specs.declared.content.Endpoint.{Endpoint}
+use Rattle.driver_rows.specs.DriverContent.{DriverContent}
+use Rattle.endpoint_lives.specs.Lives.{may_meet}
+use Rattle.pipe_agreement.specs.Prefix.{IsPrefix}
+use Rattle.report_streams.specs.Streams.{told_in}
+use Rattle.told_endpoints.specs.Telling.{lines_in}
+use Rattle.reported_streams.specs.Reported.{AreReported}
 use Rattle.ring_walk.specs.Ring.{Base}
 use Rattle.ring_pipes.specs.Bus.{Sender}
 use Rattle.scripted_streams.specs.Senders.{sender_of}
 use Rattle.bus_world.specs.World.{World}
 use Rattle.world_streams.specs.Streaming.{Streams, Standing, IsStreaming}
-use Rattle.chained_transfers.specs.Bulk.{BulkOnly, OnlyBulk}
-use Rattle.fed_queues.specs.Places.{HaveStreams}
+use Rattle.chained_transfers.specs.Bulk.{receives, BulkOnly, OnlyBulk}
+use Rattle.fed_queues.specs.Places.{HaveStreams, IsThere}
 use Rattle.told_queues.specs.Told.{ToldStands}
 use Rattle.opening_senders.specs.Own.{HasOwnDevices}
 use Rattle.right_reports.specs.WorldReport.{report_of}
@@ -20,6 +29,15 @@ pub record AreOfScript (s : Script) (packets : ℕ → ℕ → List (List ℕ)) 
   pub some : (addr ep : ℕ) (x : Sender) → sender_of (opening_wired s) addr ep ≡ Some x → packets addr ep ≡ x.left
   pub none : (addr ep : ℕ) → sender_of (opening_wired s) addr ep ≡ None → packets addr ep ≡ []
 
+-- of an endpoint IN that has left, and of one that was given back, what was moved and what is told begins its packets
+pub record ClosedIns (d : DriverContent) (packets : ℕ → ℕ → List (List ℕ)) (acc : ℕ → List (List ℕ)) : Type 0 where
+  pub left : (e : ℕ) (x : Endpoint) → slice_get d.endpoints e ≡ Some x → receives x.desc.name.way ≡ true → IsThere d x → may_meet d e x ≡ false
+      → IsPrefix (concat (acc (32 * x.queue))) (concat (packets x.desc.name.addr x.desc.name.num))
+  pub gone : (e : ℕ) (x : Endpoint) → slice_get d.endpoints e ≡ Some x → receives x.desc.name.way ≡ true → x.gone ≡ true
+      → IsPrefix (told_in d.store (lines_in x.desc.name d.reports)) (concat (packets x.desc.name.addr x.desc.name.num))
+
 abbrev pub WorldIsRight : Type 0
-WorldIsRight = (script : Script) (fixed : Fixed) (base : Base) (member : ℕ → Bool) (x : Streams) (s : Standing) (w : World) → BulkOnly script → HasOwnDevices script → AreOfScript script x.packets
-    → IsStreaming fixed base member x s w → OnlyBulk w.driver → HaveStreams w.driver x.streams x.endpoint → ToldStands w.driver s.hand s.parts s.reported → AreRightInStreams script (report_of fixed w)
+WorldIsRight = (script : Script) (fixed : Fixed) (base : Base) (member heads : ℕ → Bool) (x : Streams) (s : Standing) (w : World) → BulkOnly script → HasOwnDevices script → AreOfScript script x.packets
+    → IsStreaming fixed base member x s w → OnlyBulk w.driver → HaveStreams w.driver x.streams x.endpoint → ToldStands w.driver s.hand s.parts s.reported
+    → AreReported heads s.order s.out s.hand s.parts s.acc s.reported → ((e : ℕ) (z : Endpoint) → slice_get w.driver.endpoints e ≡ Some z → IsThere w.driver z → heads (32 * z.queue) ≡ true)
+    → ClosedIns w.driver x.packets s.acc → AreRightInStreams script (report_of fixed w)

@@ -1,7 +1,7 @@
 -- Each event of the controller leaves a world with what its driver has still to send: the bytes that devices took go on beginning the puts.
-use Rattle.std.proofs.Common.{◌≡◌, ℕ, ◌-◌, ◌*◌, Bool, false, if◌then◌else◌, List, length, slice_get, Option, Some, ap, refl, subst, ◌∙◌, arith}
+use Rattle.std.proofs.Common.{◌≡◌, ℕ, ◌-◌, ◌*◌, Bool, false, if◌then◌else◌, List, length, slice_get, Option, Some, ap, refl, sym, subst, ◌∙◌, arith}
 use Rattle.std.specs.List.{concat}
-use Rattle.std.proofs.lemmas.Bool.{eq-eqb}
+use Rattle.std.proofs.lemmas.Bool.{eq-eqb, true≢false}
 use Rattle.usb_bus.specs.Bus.{Fixed}
 use Rattle.driver_rows.specs.declared.content.Command.{Command}
 use Rattle.driver_rows.specs.declared.content.Command.TheVariants as unfinished
@@ -9,6 +9,7 @@ use Rattle.driver_rows.specs.declared.content.Endpoint.{Endpoint}
 use Rattle.driver_rows.specs.declared.content.Transfer.{Transfer}
 use Rattle.driver_rows.specs.DriverContent.{DriverContent}
 use Rattle.chained_transfers.specs.Bulk.{receives}
+use Rattle.endpoint_lives.proofs.Lives.{linked_met}
 use Rattle.fed_queues.specs.Places.{IsMet}
 use Rattle.standing_fronts.specs.Reaching.{Reaches}
 use Rattle.ring_control.specs.Control.{IsControlled, ControlEffect}
@@ -23,10 +24,10 @@ use Rattle.bus_world.specs.World.{World, controller_parts, controller_next}
 use Rattle.world_streams.specs.Streaming.{Streams, Standing, begins_by, transacts_by, wired}
 use Rattle.world_streams.proofs.Turning.{world_has_row}
 use Rattle.world_bytes.proofs.Hearing.{hears_bytes}
-use Rattle.whole_worlds.specs.Feeding.{heads_of, IsFeeding}
+use Rattle.whole_worlds.specs.Feeding.{there_of, IsFeeding}
 use Rattle.whole_worlds.specs.Taking.{outs_of}
 use Rattle.whole_worlds.specs.Whole.{tail_block, tail_of, IsUnderWay, IsWhole}
-use Rattle.whole_worlds.proofs.Heads.{queue_on}
+use Rattle.whole_worlds.proofs.Told.{there_on}
 use Rattle.whole_worlds.proofs.TakingHeads.{outs_stand}
 use Rattle.whole_worlds.proofs.Beside.{whole_beside, effect, after_event}
 use Rattle.sent_rows.specs.Sent.{SentStand, HoldMet, HoldOuts}
@@ -37,7 +38,7 @@ use Rattle.held_puts.proofs.Walking.{outs_ask_none}
 use Rattle.held_puts.proofs.Beside.{event_holds}
 use Rattle.owed_puts.specs.Owed.{Owes}
 use Rattle.owed_puts.specs.Buffers.{IsPublishingTo}
-use Rattle.owed_puts.specs.Taken.{TakenBegin, EndedAreStopped, IsOutHead, OutsStand}
+use Rattle.owed_puts.specs.Taken.{TakenBegin, EndedAreStopped, IsOutHead, OutsStand, LeaveTakers}
 use Rattle.owed_puts.proofs.Same.{alike_owes}
 use Rattle.owed_puts.proofs.BufferBytes.{buffers_are_rest, buffers_before_lend, buffers_around}
 use Rattle.owed_puts.proofs.TakenBegins.{event_taken}
@@ -87,8 +88,8 @@ module _ (fixed : Fixed) (takes : ℕ → ℕ → Bool) (member : ℕ → Bool) 
 
   -- ---- queue heads
 
-  heads_are : HoldMet d (heads_of member)
-  heads_are = queue_on fixed member x s w f
+  heads_are : HoldMet d (there_of d)
+  heads_are = there_on d
 
   outs_named : HaveOuts d outs x.endpoint
   outs_named = outs_stand fixed member x s w f
@@ -96,8 +97,8 @@ module _ (fixed : Fixed) (takes : ℕ → ℕ → Bool) (member : ℕ → Bool) 
   outs_are : HoldOuts d outs
   outs_are e z here met sends = (outs_named e z here met sends).0
 
-  out_heads : (e : ℕ) (z : Endpoint) → slice_get d.endpoints e ≡ Some z → IsMet d z → receives z.desc.name.way ≡ false → IsOutHead d outs (heads_of member) x.endpoint z
-  out_heads e z here met sends = record { out = (outs_named e z here met sends).0; counted = heads_are e z here met; named = (outs_named e z here met sends).1 }
+  out_heads : (e : ℕ) (z : Endpoint) → slice_get d.endpoints e ≡ Some z → IsMet d e z → receives z.desc.name.way ≡ false → IsOutHead d outs (there_of d) x.endpoint z
+  out_heads e z here met sends = record { out = (outs_named e z here met sends).0; counted = heads_are e z here met.there; named = (outs_named e z here met sends).1 }
 
   ask_none : OutsAskNoData d s.parts
   ask_none e z here met sends = outs_ask_none (s.parts (32 * z.queue)) (k.whole.taking.piped.pipes (32 * z.queue) (outs_are e z here met sends)).outs
@@ -106,7 +107,7 @@ module _ (fixed : Fixed) (takes : ℕ → ℕ → Bool) (member : ℕ → Bool) 
 
   sent_then : SentStand d s.order s.out now.hand now.parts
   sent_then =
-      event_sends begins_by transacts_by opening_base member (heads_of member) outs s.parts s.hand (controller_parts w) (wired fixed w) (wired fixed new) now.parts now.hand d s.order s.out s.acc s.reported
+      event_sends begins_by transacts_by opening_base member (there_of d) outs s.parts s.hand (controller_parts w) (wired fixed w) (wired fixed new) now.parts now.hand d s.order s.out s.acc s.reported
       controlled moves f.counted heads_are (λ n on. (k.whole.taking.piped.pipes n on).outs) outs_are k.sent
 
   ended_then : EndedAreStopped d now.parts
@@ -134,12 +135,12 @@ module _ (fixed : Fixed) (takes : ℕ → ℕ → Bool) (member : ℕ → Bool) 
 
   -- ---- what was taken
 
-  tails_then : (e b : ℕ) (z : Endpoint) → slice_get d.endpoints e ≡ Some z → IsMet d z → receives z.desc.name.way ≡ false → IsPublishingTo d e b
+  tails_then : (e b : ℕ) (z : Endpoint) → slice_get d.endpoints e ≡ Some z → IsMet d e z → receives z.desc.name.way ≡ false → IsPublishingTo d e b
       → Reaches d (now.parts (32 * z.queue)) (s.order (32 * z.queue)) (s.out (32 * z.queue)) e z (32 * b)
   tails_then e b z here met sends is =
       subst (λ (a : ℕ). Reaches d (now.parts (32 * z.queue)) (s.order (32 * z.queue)) (s.out (32 * z.queue)) e z a) (tail_at d e b z is) (whole_then.tails e z here met)
 
-  stand : OutsStand takes taker_of member outs (heads_of member) x.endpoint d new.memory now.parts now.hand s.order s.out now.acc puts s.reported (wired fixed new)
+  stand : OutsStand takes taker_of member outs (there_of d) x.endpoint d new.memory now.parts now.hand s.order s.out now.acc puts s.reported (wired fixed new)
   stand = record {
     turns = f.turns;
     fed = whole_then.feeding.queues.fed;
@@ -154,11 +155,15 @@ module _ (fixed : Fixed) (takes : ℕ → ℕ → Bool) (member : ℕ → Bool) 
     ended = ended_then;
   }
 
+  -- the walk may meet each
+  leave_takers : LeaveTakers taker_of d (wired fixed w) (wired fixed new)
+  leave_takers e z here sends off = absurd (true≢false (sym (linked_met d e z (k.whole.stays.endpoints e z here).linked) ∙ off))
+
   begin_then : TakenBegin taker_of d puts (wired fixed new)
   begin_then =
-      event_taken buffers_are_rest buffers_before_lend buffers_around begins_by transacts_by takes taker_of opening_base member outs (heads_of member) x.endpoint s.parts s.hand (controller_parts w)
+      event_taken buffers_are_rest buffers_before_lend buffers_around begins_by transacts_by takes taker_of opening_base member outs (there_of d) x.endpoint s.parts s.hand (controller_parts w)
       (controller_parts new) (wired fixed w) (wired fixed new) now.parts now.hand (λ n. concat (s.acc n)) d s.order s.out now.acc puts s.reported (scripted_out_bus takes) (scripted_out_begins takes)
-      k.whole.taking.ends controlled controlled_now moves k.whole.taking.piped k.ended stand k.begin
+      k.whole.taking.ends controlled controlled_now moves f.working.place.sound.owners k.whole.taking.piped k.ended stand leave_takers k.begin
 
   -- ---- all of it
 

@@ -1,5 +1,5 @@
 -- A command leaves a world with what its driver has still to send: one that is refused changes no endpoint, transfer or note, and an accepted put is one more.
-use Rattle.std.proofs.Common.{◌≡◌, ◌≢◌, ℕ, Bool, List, get_or, length, slice_get, Option, Some, None, Result, Ok, Err, ap, refl, sym, ◌∙◌, ⊎_elim, inl, inr}
+use Rattle.std.proofs.Common.{◌≡◌, ◌≢◌, ℕ, Bool, true, List, get_or, length, slice_get, Option, Some, None, Result, Ok, Err, ap, refl, sym, ◌∙◌, ⊎_elim, inl, inr}
 use Rattle.std.specs.List.{concat}
 use Rattle.std.proofs.lemmas.Option.{slice_get_within}
 use Rattle.usb_base.specs.declared.commands.Cmd.{Cmd}
@@ -15,7 +15,9 @@ use Rattle.lent_structures.specs.Structures.{StructureSets}
 use Rattle.chained_transfers.specs.Accepted.{IsAccepted}
 use Rattle.chained_transfers.specs.Bulk.{OpensBulk}
 use Rattle.chained_transfers.specs.InTurn.{TakesTurns}
-use Rattle.chained_transfers.proofs.Accepting.{command_received}
+use Rattle.chained_transfers.proofs.Accepting.{command_received, opens_or_cancels}
+use Rattle.endpoint_lives.proofs.Lives.{told_some}
+use Rattle.fed_queues.specs.Places.{IsThere}
 use Rattle.fed_commands.proofs.Asked.{push_which, set_which}
 use Rattle.walk_members.specs.Reached.{OpensNumbered}
 use Rattle.byte_answers.specs.Bytes.{IsByteCommand}
@@ -53,11 +55,12 @@ module _ (d : DriverContent) (line : ℕ) (name : EpName) (why : OfferError) (m 
 
   refused_owes : TakesTurns d → HoldsPuts d m puts → Owes d m puts reported → Owes f m now reported
   refused_owes turns held owes =
-      alike_owes d f m m puts now reported turns (record { endpoints = refl; transfers = refl; notes = refl }) (λ x meets. meets) (λ x is. is) keeps held (refused_held held) owes
+      alike_owes d f m m puts now reported turns (record { endpoints = refl; transfers = refl; notes = refl }) (λ x meets. record { linked = meets.linked; kept = meets.kept }) (λ x is. is) keeps held (refused_held held) owes
 
   refused_begin : {W : Type 0} (taker : W → ℕ → ℕ → Option Taker) (wire : W) → TakenBegin taker d puts wire → TakenBegin taker f now wire
-  refused_begin taker wire begin e z s here meets sends is =
-      prefix_to s.taken (concat (puts_of d puts e)) (concat (puts_of f now e)) (sym (ap concat (puts_kept puts now e d.transfers keeps))) (begin e z s here meets sends is)
+  refused_begin taker wire begin e z s here life sends is =
+      prefix_to s.taken (concat (puts_of d puts e)) (concat (puts_of f now e)) (sym (ap concat (puts_kept puts now e d.transfers keeps)))
+      (begin e z s here (⊎_elim (λ (gone : z.gone ≡ true). inl gone) (λ (there : IsThere f z). inr (record { linked = there.linked; kept = there.kept })) life) sends is)
 
 refused_sending : (fixed : Fixed) (takes : ℕ → ℕ → Bool) (member : ℕ → Bool) (x : Streams) (s : Standing) (puts now : ℕ → List ℕ) (w : World) (line : ℕ) (name : EpName) (why : OfferError) → KeepsPuts w.driver puts now
     → IsWhole fixed takes member x s (commanded_by w line name (Err why)) → IsSending fixed takes member x s puts w → IsSending fixed takes member x s now (commanded_by w line name (Err why))
@@ -65,7 +68,7 @@ refused_sending fixed takes member x s puts now w line name why keeps whole k =
     let d = w.driver in
     record {
       whole = whole;
-      sent = k.sent;
+      sent = λ e z here met sends. k.sent e z here (record { there = record { linked = met.there.linked; kept = met.there.kept }; near = met.near }) sends;
       ended = k.ended;
       held = refused_held d line name why w.memory puts now s.reported keeps k.held;
       owes = refused_owes d line name why w.memory puts now s.reported keeps k.whole.feeding.turns k.held k.owes;
@@ -79,16 +82,16 @@ none_some x is = cc
 
 -- an endpoint that is opened or asked goes on
 accepted_ended : (d : DriverContent) (m : Mem) (o : Offered) (parts : StructureSets) → IsAccepted d m o → EndedAreStopped d parts → EndedAreStopped o.driver parts
-accepted_ended d m o parts (inl opened) ended e z cause here sends over =
+accepted_ended d m o parts (inl opened) ended e z cause here kept sends over =
     let why : Opens d m o = opened.opens in
     let new : Endpoint = new_endpoint why.desc (get_or (new_runs d why.holding_after) 0 0) (get_or (new_runs d why.holding_after) 1 0) in
-    ⊎_elim (λ (was : slice_get d.endpoints e ≡ Some z). ended e z cause was sends over)
-    (λ (own : (e ≡ length d.endpoints) × (z ≡ new)). absurd (none_some cause (ap (λ (y : Endpoint). y.ended) (sym own.1) ∙ over)))
+    ⊎_elim (λ (was : slice_get d.endpoints e ≡ Some z). ended e z cause was kept sends over)
+    (λ (own : (e ≡ length d.endpoints) × (z ≡ new)). absurd (none_some cause (ap (λ (y : Endpoint). y.ended) (sym own.1) ∙ (told_some z cause over).ended)))
     (push_which d.endpoints new e z (ap (λ (g : Offered). slice_get g.driver.endpoints e) (sym why.is) ∙ here))
-accepted_ended d m o parts (inr asked) ended e z cause here sends over =
+accepted_ended d m o parts (inr asked) ended e z cause here kept sends over =
     let why : Transfers d m o = asked.transfers in
-    ⊎_elim (λ (own : (e ≡ why.number) × (z ≡ _)). absurd (none_some cause (sym why.goes_on ∙ ap (λ (y : Endpoint). y.ended) (sym own.1) ∙ over)))
-    (λ (other : (e ≢ why.number) × (slice_get d.endpoints e ≡ Some z)). ended e z cause other.1 sends over)
+    ⊎_elim (λ (own : (e ≡ why.number) × (z ≡ _)). absurd (none_some cause (sym why.goes_on ∙ ap (λ (y : Endpoint). y.ended) (sym own.1) ∙ (told_some z cause over).ended)))
+    (λ (other : (e ≢ why.number) × (slice_get d.endpoints e ≡ Some z)). ended e z cause other.1 kept sends over)
     (set_which d.endpoints why.number e why.endpoint _ z why.here (ap (λ (g : Offered). slice_get g.driver.endpoints e) (sym why.is) ∙ here))
 
 module _ (fixed : Fixed) (takes : ℕ → ℕ → Bool) (member : ℕ → Bool) (x : Streams) (s : Standing) (puts : ℕ → List ℕ) (w : World) (cmd : Cmd) (o : Offered) (k : IsSending fixed takes member x s puts w) (only : OpensBulk cmd) (offer : offered w.driver w.memory cmd ≡ Ok o) where
@@ -121,7 +124,7 @@ module _ (fixed : Fixed) (takes : ℕ → ℕ → Bool) (member : ℕ → Bool) 
       command_owes d w.memory cmd o puts now s.reported only offer sound.owners sound.stands feeding.turns (then_before d cmd puts) k.held still k.owes
 
   begin_then : TakenBegin taker_of o.driver now (wired fixed w)
-  begin_then = command_taken taker_of d w.memory cmd o puts now (wired fixed w) k.whole.feeding.turns only offer (then_before d cmd puts) k.begin
+  begin_then = command_taken taker_of d w.memory cmd o puts now (wired fixed w) k.whole.feeding.turns (opens_or_cancels cmd only) offer (then_before d cmd puts) k.begin
 
 accepted_sending : (fixed : Fixed) (takes : ℕ → ℕ → Bool) (member : ℕ → Bool) (x : Streams) (s : Standing) (puts : ℕ → List ℕ) (w : World) (line : ℕ) (name : EpName) (cmd : Cmd) (o : Offered) → OpensBulk cmd → IsByteCommand cmd → IsOffered w.driver.room cmd
     → offered w.driver w.memory cmd ≡ Ok o → IsWhole fixed takes member x s (commanded_by w line name (Ok o)) → IsSending fixed takes member x s puts w

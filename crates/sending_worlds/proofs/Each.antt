@@ -10,8 +10,9 @@ use Rattle.driver_rows.specs.declared.rows.DriverRow.TheVariants as rows
 use Rattle.driver_rows.specs.declared.rows.Found.{Found}
 use Rattle.driver_rows.specs.Rows.{driver_row}
 use Rattle.driver_rows.specs.Words.{queue_head}
-use Rattle.run_owners.specs.Due.{IsDue, IsHarvestDue}
+use Rattle.run_owners.specs.Due.{IsDue, IsEndpointDue, IsHarvestDue}
 use Rattle.run_owners.specs.Kept.{HasOwners}
+use Rattle.run_owners.specs.Leaving.{leaver}
 use Rattle.run_owners.proofs.Reasons.{each_is_due}
 use Rattle.usb_bus.specs.Bus.{Fixed}
 use Rattle.ring_streams.specs.Told.{Endpoint as Told, endpoint_of}
@@ -21,12 +22,14 @@ use Rattle.driver_parts.specs.Opened.{opening_base}
 use Rattle.driver_parts.specs.Driven.{DrivesRing}
 use Rattle.chained_transfers.specs.Bulk.{receives}
 use Rattle.chained_transfers.proofs.Ways.{way_sends}
-use Rattle.fed_queues.specs.Places.{IsMet, HasHead}
+use Rattle.endpoint_lives.proofs.Lives.{linked_met}
+use Rattle.fed_queues.specs.Places.{IsThere, HasHead}
 use Rattle.opened_streams.specs.Unopened.{IsUnopened}
 use Rattle.out_rows.specs.Outs.{IsUntaken}
 use Rattle.bus_world.specs.World.{World, driver_parts, driver_next}
 use Rattle.world_streams.specs.Streaming.{Streams, Standing, wired}
 use Rattle.held_puts.specs.Puts.{HoldsPuts}
+use Rattle.held_puts.specs.Laws.{IsReleasedMet}
 use Rattle.held_puts.proofs.Rows.{driver_holds}
 use Rattle.owed_puts.specs.Owed.{Owes}
 use Rattle.owed_puts.specs.Taken.{TakenBegin, EndedAreStopped}
@@ -47,6 +50,12 @@ HarvestsNone w = (e t : ℕ) (found : Found) → driver_row (driver_parts w) ≢
 no_command : (o : Option Command) (c : Command) → o ≡ None → o ≡ Some c → ⊥
 no_command o c idle busy = let e : ◌≡◌ {A = Option Command} None (Some c) = sym idle ∙ busy in cc
 
+no_leaver : (e : ℕ) → ◌≡◌ {A = Option ℕ} None (Some e) → ⊥
+no_leaver e bad = cc
+
+none_first : {X : Type 0} (xs : List X) (x : X) → xs ≡ [] → slice_get xs 0 ≡ Some x → ⊥
+none_first xs x none here = let e : ◌≡◌ {A = Option _} None (Some x) = sym (ap (λ ys. slice_get ys 0) none) ∙ here in cc
+
 -- while a command is unfinished
 pub busy_harvests_none : (w : World) (c : Command) → w.driver.command ≡ Some c → HarvestsNone w
 busy_harvests_none w c busy e t found row =
@@ -62,10 +71,22 @@ module _ (fixed : Fixed) (takes : ℕ → ℕ → Bool) (member : ℕ → Bool) 
   abbrev pub drives : DrivesRing opening_base member s.parts s.hand (place w.control.walk w.registers w.memory) w.driver
   drives = record { ring = k.whole.feeding.working.streaming.controlled.ring; driven = k.whole.feeding.working.driven }
 
+  -- nothing leaves the ring
+  unlinks_none : (e b link : ℕ) → w.driver.command ≡ Some (unfinished.Unlink e b link) → ⊥
+  unlinks_none e b link is = no_leaver e (sym k.whole.stays.command ∙ ap leaver is)
+
+  releases_none : (e : ℕ) → driver_row (driver_parts w) ≡ rows.ReleaseEndpoint e → ⊥
+  releases_none e row =
+      let due : IsEndpointDue (driver_parts w) e = subst (IsDue (driver_parts w)) row (each_is_due (driver_parts w)) in
+      none_first w.driver.cleared e k.whole.stays.cleared due.first
+
+  released_met : IsReleasedMet (driver_parts w)
+  released_met t y z row there here = linked_met w.driver y.endpoint z (k.whole.stays.endpoints y.endpoint z here).linked
+
   pub held_then : HoldsPuts (driver_next w).driver (driver_next w).memory puts
   held_then =
       driver_holds opening_base member s.parts s.hand w.control.walk (driver_parts w) s.order s.out puts owners k.whole.feeding.turns drives k.whole.feeding.queues.fed
-      (λ t row. stand fixed takes member x s w t row k.whole) k.held
+      (λ t row. stand fixed takes member x s w t row k.whole) released_met (λ e b link is. absurd (unlinks_none e b link is)) (λ e row. absurd (releases_none e row)) k.held
 
   -- ---- what devices took
 
@@ -83,13 +104,13 @@ module _ (fixed : Fixed) (takes : ℕ → ℕ → Bool) (member : ℕ → Bool) 
       k.whole.names h.number e h.endpoint z h.here here (sym (ap (λ (y : Told). y.addr) is) ∙ addr) (sym (ap (λ (y : Told). y.ep) is) ∙ num)
       (way_sends h.endpoint.desc.name.way too ∙ sym (way_sends z.desc.name.way sends)) in
       let same : h.endpoint ≡ z = same_Some h.endpoint z (sym h.here ∙ ap (slice_get w.driver.endpoints) number ∙ here) in
-      h.met (opens ∙ ap (λ (y : Endpoint). Some (unfinished.Open y.queue)) (sym same))
+      h.met.there.linked (opens ∙ ap (λ (y : Endpoint). Some (unfinished.Open y.queue)) (sym same))
 
   pub nothing_taken : (e : ℕ) (z : Endpoint) (t : Taker) → slice_get w.driver.endpoints e ≡ Some z → w.driver.command ≡ Some (unfinished.Open z.queue) → receives z.desc.name.way ≡ false
       → taker_of (wired fixed w) z.desc.name.addr z.desc.name.num ≡ Some t → t.taken ≡ []
   nothing_taken e z t here opens sends is =
       let u : IsUntaken (taker_of (wired fixed w) z.desc.name.addr z.desc.name.num) =
-      k.whole.taking.untaken z.desc.name.addr z.desc.name.num (k.whole.takers e z here sends) (unopened e z here opens sends) in
+      k.whole.taking.untaken z.desc.name.addr z.desc.name.num (k.whole.takers e z here opens (k.whole.stays.endpoints e z here).gone sends) (unopened e z here opens sends) in
       ap (λ (v : Taker). v.taken) (same_Some t u.taker (sym is ∙ u.is)) ∙ u.none
 
   pub begin_then : TakenBegin taker_of (driver_next w).driver puts (wired fixed (driver_next w))
@@ -98,17 +119,17 @@ module _ (fixed : Fixed) (takes : ℕ → ℕ → Bool) (member : ℕ → Bool) 
   -- ---- rows that are no harvest
 
   pub ended_alike : HarvestsNone w → EndedAreStopped (driver_next w).driver s.parts
-  ended_alike none = alike_stopped (driver_parts w) s.parts k.whole.feeding.turns none k.ended
+  ended_alike none = alike_stopped (driver_parts w) s.parts k.whole.feeding.turns none releases_none k.ended
 
-  -- `told` tells what was reported of queues that the walk may meet, and nothing of one whose open is finished
+  -- `told` tells what was reported of queues that are there, and nothing of one whose open is finished
   pub owes_then : (told : ℕ → List ℕ) → HarvestsNone w
-      → ((e : ℕ) (z : Endpoint) → slice_get w.driver.endpoints e ≡ Some z → IsMet w.driver z → told (32 * z.queue) ≡ s.reported (32 * z.queue))
-      → ((e : ℕ) (z : Endpoint) → slice_get w.driver.endpoints e ≡ Some z → w.driver.command ≡ Some (unfinished.Open z.queue) → IsMet (driver_next w).driver z → told (32 * z.queue) ≡ [])
+      → ((e : ℕ) (z : Endpoint) → slice_get w.driver.endpoints e ≡ Some z → IsThere w.driver z → told (32 * z.queue) ≡ s.reported (32 * z.queue))
+      → ((e : ℕ) (z : Endpoint) → slice_get w.driver.endpoints e ≡ Some z → w.driver.command ≡ Some (unfinished.Open z.queue) → IsThere (driver_next w).driver z → told (32 * z.queue) ≡ [])
       → Owes (driver_next w).driver (driver_next w).memory puts told
-  owes_then told none met opened = driver_owes (driver_parts w) puts s.reported told owners k.whole.feeding.turns none met opened k.held held_then k.owes
+  owes_then told none met opened = driver_owes (driver_parts w) puts s.reported told owners k.whole.feeding.turns none releases_none met opened k.held held_then k.owes
 
   -- no open is finished
   pub owes_same : HarvestsNone w
-      → ((e : ℕ) (z : Endpoint) → slice_get w.driver.endpoints e ≡ Some z → w.driver.command ≡ Some (unfinished.Open z.queue) → IsMet (driver_next w).driver z → ⊥)
+      → ((e : ℕ) (z : Endpoint) → slice_get w.driver.endpoints e ≡ Some z → w.driver.command ≡ Some (unfinished.Open z.queue) → IsThere (driver_next w).driver z → ⊥)
       → Owes (driver_next w).driver (driver_next w).memory puts s.reported
   owes_same none opens = owes_then s.reported none (λ e z here met. refl) (λ e z here is met. absurd (opens e z here is met))

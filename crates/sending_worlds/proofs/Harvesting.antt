@@ -22,7 +22,8 @@ use Rattle.chained_transfers.specs.Bulk.{receives}
 use Rattle.chained_transfers.specs.Out.{out_now}
 use Rattle.harvest_rows.specs.Outs.{IsOutEarlier}
 use Rattle.reported_streams.specs.Reported.{IsReported}
-use Rattle.fed_queues.specs.Places.{IsMet}
+use Rattle.fed_queues.specs.Places.{IsThere, IsMet}
+use Rattle.fed_queues.proofs.Places.{going_met}
 use Rattle.told_queues.specs.Told.{ToldStands}
 use Rattle.read_queues.proofs.Rows.{not_active, wait_told}
 use Rattle.bus_world.specs.World.{World, driver_parts, driver_next}
@@ -51,7 +52,7 @@ no_open : (b : ℕ) → ◌≡◌ {A = Option Command} None (Some (unfinished.Op
 no_open b same = cc
 
 -- what is owed where the same is reported
-same_reports : (d : DriverContent) (m : Mem) (puts reported told : ℕ → List ℕ) → ((e : ℕ) (x : Endpoint) → slice_get d.endpoints e ≡ Some x → IsMet d x → told (32 * x.queue) ≡ reported (32 * x.queue)) → Owes d m puts reported → Owes d m puts told
+same_reports : (d : DriverContent) (m : Mem) (puts reported told : ℕ → List ℕ) → ((e : ℕ) (x : Endpoint) → slice_get d.endpoints e ≡ Some x → IsThere d x → told (32 * x.queue) ≡ reported (32 * x.queue)) → Owes d m puts reported → Owes d m puts told
 same_reports d m puts reported told same owes = record {
   going = λ e x here meets sends goes. ap (λ (bs : List ℕ). bs ++ rest_of d m e) (same e x here meets) ∙ owes.going e x here meets sends goes;
   over = λ e x cause here meets sends ends.
@@ -86,12 +87,12 @@ module _ (fixed : Fixed) (takes : ℕ → ℕ → Bool) (member : ℕ → Bool) 
   tells : Tells w.memory s.parts
   tells = f.working.streaming.controlled.ring.tells
 
-  -- no command is unfinished, so the walk may meet each queue head
-  met : (z : Endpoint) → IsMet w.driver z
-  met z is = no_open z.queue (sym read.idle ∙ is)
+  -- no command is unfinished, and its endpoint goes on
+  its_met : IsMet w.driver e read.endpoint
+  its_met = going_met w.driver e read.endpoint (f.turns.bulk.endpoints e read.endpoint read.here) read.goes_on (λ is. no_open read.endpoint.queue (sym read.idle ∙ is))
 
   on_it : IsMember member (32 * read.endpoint.queue) (s.parts (32 * read.endpoint.queue))
-  on_it = f.working.streaming.controlled.ring.members (32 * read.endpoint.queue) (f.queues.met.each e read.endpoint read.here (met read.endpoint))
+  on_it = f.working.streaming.controlled.ring.members (32 * read.endpoint.queue) (f.queues.met.each e read.endpoint read.here its_met)
 
   -- ---- what was sent
 
@@ -105,18 +106,18 @@ module _ (fixed : Fixed) (takes : ℕ → ℕ → Bool) (member : ℕ → Bool) 
   ended_then =
       to_next (λ (d : DriverContent). EndedAreStopped d s.parts)
       (harvest_stops member (s.order (32 * read.endpoint.queue)) (s.out (32 * read.endpoint.queue)) (driver_parts w) s.parts s.hand e t found read owners f.turns f.queues.fed tells on_it
-      (λ sends. k.sent e read.endpoint read.here (met read.endpoint) sends) k.ended)
+      (λ sends. k.sent e read.endpoint read.here its_met sends) k.ended)
 
   -- ---- what is still to be sent
 
   untold : (a : ℕ) (z : List ℕ) → IsOutEarlier (note_in w.driver.notes) e t w.driver.transfers a → Told s.hand s.parts (32 * read.endpoint.queue) a z → z ≡ []
   untold a z earlier of_it =
-      passed_untold w.driver s.parts s.hand s.order s.out e t read.endpoint a z read.idle f.turns.turns f.queues.out_are (fronts fixed takes member x s w e t found row k.whole) read.here read.goes_on read.next earlier of_it
+      passed_untold w.driver s.parts s.hand s.order s.out e t read.endpoint a z read.idle f.turns.turns f.queues.out_are (fronts fixed takes member x s w e t found row k.whole) read.here its_met read.goes_on read.next earlier of_it
 
   right_now : IsReported (s.order (32 * read.endpoint.queue)) (out_now w.driver e) s.hand s.parts (32 * read.endpoint.queue) (s.acc (32 * read.endpoint.queue)) (s.reported (32 * read.endpoint.queue))
   right_now =
       subst (λ (out : List ℕ). IsReported (s.order (32 * read.endpoint.queue)) out s.hand s.parts (32 * read.endpoint.queue) (s.acc (32 * read.endpoint.queue)) (s.reported (32 * read.endpoint.queue)))
-      (f.queues.out_are e read.endpoint read.here (met read.endpoint)) (queue_reported fixed member x s w f e read.endpoint read.here (met read.endpoint))
+      (f.queues.out_are e read.endpoint read.here its_met.there) (queue_reported fixed member x s w f e read.endpoint read.here its_met.there)
 
   moved_whole : found ≢ founds.Active → receives read.endpoint.desc.name.way ≡ false → IsMovedWhole w.driver w.memory read.transfer
   moved_whole differs sends going =

@@ -12,9 +12,9 @@ use Rattle.sent_rows.proofs.Lending.{lend_row_sends}
 use Rattle.owed_puts.specs.Owed.{Owes}
 use Rattle.owed_puts.specs.Taken.{EndedAreStopped}
 use Rattle.owed_puts.proofs.TakenStopped.{spared_stopped}
-use Rattle.whole_worlds.specs.Feeding.{heads_of, IsFeeding}
+use Rattle.whole_worlds.specs.Feeding.{there_of, IsFeeding}
 use Rattle.whole_worlds.specs.LendFeeds.{LendsTransfer}
-use Rattle.whole_worlds.proofs.Heads.{queue_on}
+use Rattle.whole_worlds.proofs.Told.{there_on}
 use Rattle.whole_worlds.proofs.Lending.{lends, after_lend, whole_lent}
 use Rattle.sending_worlds.specs.Sending.{IsSending}
 use Rattle.sending_worlds.specs.Laws.{LendKeepsSending}
@@ -36,8 +36,8 @@ module _ (fixed : Fixed) (takes : ℕ → ℕ → Bool) (member : ℕ → Bool) 
   sent_then : SentStand (driver_next w).driver g.order g.out s.hand g.parts
   sent_then =
       subst (λ (d : DriverContent). SentStand d g.order g.out s.hand g.parts) (sym g.driver_is)
-      (lend_row_sends w.driver w.memory b words member (heads_of member) s.parts g.parts s.order g.order s.out g.out s.hand s.acc s.reported get g.behind f.working.streaming.controlled.ring.members f.queues.met f.counted
-      (queue_on fixed member x s w f) k.sent)
+      (lend_row_sends w.driver w.memory b words member (there_of w.driver) s.parts g.parts s.order g.order s.out g.out s.hand s.acc s.reported get g.behind f.working.streaming.controlled.ring.members f.queues.met f.counted
+      (there_on w.driver) k.sent)
 
   harvests_none : HarvestsNone w
   harvests_none = busy_harvests_none w (unfinished.Publish b words) get.command

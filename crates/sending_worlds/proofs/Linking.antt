@@ -1,35 +1,28 @@
 -- The store by which an open is finished leaves a world so: the walk may meet one queue head more, of which nothing was put, sent or reported yet.
 use Rattle.std.proofs.Common.{◌≡◌, ◌≢◌, ℕ, ◌*◌, Bool, List, [], slice_get, Some, ap, sym, ◌∙◌}
-use Rattle.qh_qtd.specs.declared.queue_head.Qh.{Qh}
 use Rattle.driver_rows.specs.declared.content.Endpoint.{Endpoint}
 use Rattle.driver_rows.specs.declared.content.Command.TheVariants as unfinished
-use Rattle.driver_rows.specs.DriverContent.{DriverContent}
 use Rattle.driver_rows.specs.Rows.{Parts as DriverParts}
-use Rattle.driver_rows.specs.Words.{to_queue_head}
-use Rattle.lent_structures.specs.Structures.{QueueHead, StructureSets}
-use Rattle.lent_structures.proofs.Names.{put_beside}
+use Rattle.lent_structures.specs.Structures.{StructureSets}
 use Rattle.queue_parts.specs.Sound.{IsMember}
 use Rattle.ring_walk.specs.Hand.{Hand}
-use Rattle.spared_streams.specs.Sparing.{SparesHead}
 use Rattle.driver_lends.specs.Linked.{with_member, head_at}
 use Rattle.driver_parts.specs.Opened.{opening_base}
 use Rattle.usb_bus.specs.Bus.{Fixed}
 use Rattle.bus_world.specs.World.{World, driver_parts, driver_next}
 use Rattle.world_streams.specs.Streaming.{Streams, Standing}
-use Rattle.fed_queues.specs.Places.{IsMet}
+use Rattle.fed_queues.specs.Places.{IsThere}
 use Rattle.fed_stores.proofs.Apart.{thirty_two}
 use Rattle.opened_streams.specs.Opened.{with_end, with_none}
 use Rattle.opened_streams.proofs.Beginning.{list_here, list_beside}
 use Rattle.open_stores.specs.Opens.{IsOpenLent, IsAtOpen, head_then, hand_then, end_then, streams_then}
-use Rattle.open_stores.proofs.Linking.{driver_is}
 use Rattle.sent_rows.specs.Sent.{SentStand}
 use Rattle.sent_rows.proofs.OpenLinking.{open_link_sends}
 use Rattle.owed_puts.specs.Owed.{Owes}
 use Rattle.owed_puts.specs.Taken.{EndedAreStopped}
 use Rattle.owed_puts.proofs.TakenStopped.{spared_stopped}
-use Rattle.whole_worlds.proofs.Heads.{not_head}
-use Rattle.whole_worlds.proofs.OpenBeside.{heads_stay}
 use Rattle.whole_worlds.proofs.FeedingLinks.{linked, found, at_open, more}
+use Rattle.whole_worlds.proofs.Linking.{spares}
 use Rattle.whole_worlds.proofs.Linked.{linked_whole}
 use Rattle.sending_worlds.specs.Sending.{IsSending}
 use Rattle.sending_worlds.specs.Laws.{OpenLinkKeepsSending}
@@ -72,27 +65,21 @@ module _ (fixed : Fixed) (takes : ℕ → ℕ → Bool) (member : ℕ → Bool) 
   sent_then : SentStand (driver_next w).driver s.order (with_none s.out n) later now
   sent_then = open_link_sends opening_base w.control.walk s.hand p member x.streams x.endpoint s.parts s.order s.out at (each.drives fixed takes member x s puts w k) k.sent
 
-  -- it is a store to the head of the ring
-  spares : (i : ℕ) (z : Endpoint) → slice_get (driver_next w).driver.endpoints i ≡ Some z → SparesHead s.parts now (32 * z.queue)
-  spares i z here =
-      let was : slice_get w.driver.endpoints i ≡ Some z = sym (ap (λ (d : DriverContent). slice_get d.endpoints i) (driver_is p member x.streams x.endpoint s.parts s.order s.out at)) ∙ here in
-      let differs : 32 * z.queue ≢ head_at = not_head w.driver i z (each.owners fixed takes member x s puts w k) k.whole.feeding.turns.bulk was in
-      let linked_head : Qh = record head.queue { link = to_queue_head e.queue } in
-      heads_stay s.parts now (32 * z.queue) (put_beside s.parts head_at head_at (QueueHead linked_head) (32 * z.queue) differs)
-
   ended_then : EndedAreStopped (driver_next w).driver now
-  ended_then = spared_stopped (driver_next w).driver s.parts now spares (each.ended_alike fixed takes member x s puts w k harvests_none)
+  ended_then =
+      spared_stopped (driver_next w).driver s.parts now (λ i z here. spares p member x.streams x.endpoint s.parts s.order s.out at (32 * z.queue))
+      (each.ended_alike fixed takes member x s puts w k harvests_none)
 
   -- ---- what is owed
 
-  met_told : (i : ℕ) (z : Endpoint) → slice_get w.driver.endpoints i ≡ Some z → IsMet w.driver z → told (32 * z.queue) ≡ s.reported (32 * z.queue)
-  met_told i z here met =
-      let differs : 32 * z.queue ≢ n = λ same. met (lent.command ∙ ap (λ (b : ℕ). Some (unfinished.Open b)) (sym (thirty_two z.queue e.queue same))) in
+  met_told : (i : ℕ) (z : Endpoint) → slice_get w.driver.endpoints i ≡ Some z → IsThere w.driver z → told (32 * z.queue) ≡ s.reported (32 * z.queue)
+  met_told i z here there =
+      let differs : 32 * z.queue ≢ n = λ same. there.linked (lent.command ∙ ap (λ (b : ℕ). Some (unfinished.Open b)) (sym (thirty_two z.queue e.queue same))) in
       list_beside s.reported n (32 * z.queue) differs
 
   -- nothing was reported of the new one
-  new_told : (i : ℕ) (z : Endpoint) → slice_get w.driver.endpoints i ≡ Some z → w.driver.command ≡ Some (unfinished.Open z.queue) → IsMet (driver_next w).driver z → told (32 * z.queue) ≡ []
-  new_told i z here opens met =
+  new_told : (i : ℕ) (z : Endpoint) → slice_get w.driver.endpoints i ≡ Some z → w.driver.command ≡ Some (unfinished.Open z.queue) → IsThere (driver_next w).driver z → told (32 * z.queue) ≡ []
+  new_told i z here opens there =
       let same : z.queue ≡ e.queue = one_open z.queue e.queue (sym opens ∙ lent.command) in
       ap (λ (b : ℕ). told (32 * b)) same ∙ list_here s.reported n
 

@@ -38,7 +38,7 @@ module _ (fixed : Fixed) (takes : ℕ → ℕ → Bool) (member : ℕ → Bool) 
       (ended_alike fixed takes member x s puts w k harvests_none)
 
   owes_then : Owes (driver_next w).driver (driver_next w).memory puts s.reported
-  owes_then = owes_same fixed takes member x s puts w k harvests_none (λ e z here opens met. met (still_open ∙ opens))
+  owes_then = owes_same fixed takes member x s puts w k harvests_none (λ e z here opens there. there.linked (still_open ∙ opens))
 
   pub sending_open_lent : IsSending fixed takes member x (record s { parts = now }) puts (driver_next w)
   sending_open_lent = record {

@@ -39,7 +39,7 @@ module _ (s : Script) where
     sent_then = new_driver_sends s.words (reserve_of s.lines) at.order at.out at.hand at.parts
 
     ended_then : EndedAreStopped w.driver at.parts
-    ended_then e x cause here sends over = absurd (no_endpoint e x here)
+    ended_then e x cause here kept sends over = absurd (no_endpoint e x here)
 
     owes_then : Owes w.driver w.memory no_puts at.reported
     owes_then = new_owes s.words (reserve_of s.lines) w.memory no_puts at.reported

@@ -51,13 +51,13 @@ module _ (fixed : Fixed) (takes : ℕ → ℕ → Bool) (member : ℕ → Bool) 
   harvests_none e t found row = false≢true (sym (ap is_still row) ∙ still)
 
   sent_then : SentStand (driver_next w).driver s.order s.out s.hand s.parts
-  sent_then = quiet_sends (driver_parts w) s.hand s.parts s.order s.out s.out leaves.0 (λ e z a here met among. among) k.sent
+  sent_then = quiet_sends (driver_parts w) s.hand s.parts s.order s.out s.out leaves.0 k.whole.feeding.turns.bulk (λ e z a here met among. among) k.sent
 
   ended_then : EndedAreStopped (driver_next w).driver s.parts
   ended_then = ended_alike fixed takes member x s puts w k harvests_none
 
   owes_then : Owes (driver_next w).driver (driver_next w).memory puts s.reported
-  owes_then = owes_same fixed takes member x s puts w k harvests_none (λ e z here opens met. met (leaves.1 ∙ opens))
+  owes_then = owes_same fixed takes member x s puts w k harvests_none (λ e z here opens there. there.linked (leaves.1 ∙ opens))
 
   pub sending_still : IsSending fixed takes member x s puts (driver_next w)
   sending_still = record {

@@ -16,8 +16,8 @@ use Rattle.sent_rows.proofs.Storing.{store_sends}
 use Rattle.owed_puts.specs.Owed.{Owes}
 use Rattle.owed_puts.specs.Taken.{EndedAreStopped}
 use Rattle.owed_puts.proofs.TakenStopped.{spared_stopped}
-use Rattle.whole_worlds.specs.Feeding.{heads_of, IsFeeding}
-use Rattle.whole_worlds.proofs.Heads.{queue_on}
+use Rattle.whole_worlds.specs.Feeding.{there_of, IsFeeding}
+use Rattle.whole_worlds.proofs.Told.{there_on}
 use Rattle.whole_worlds.proofs.FeedingStores.{at, after_store}
 use Rattle.whole_worlds.proofs.Storing.{met_now}
 use Rattle.whole_worlds.proofs.StoredTails.{tail_here}
@@ -53,11 +53,11 @@ module _ (fixed : Fixed) (takes : ℕ → ℕ → Bool) (member : ℕ → Bool) 
   reaches =
       subst (λ (a : ℕ). Reaches w.driver (s.parts n) (s.order n) (s.out n) g.transfer.endpoint g.endpoint a)
       (tail_here p member x.streams x.endpoint s.parts s.order s.out b words here)
-      (k.whole.tails g.transfer.endpoint g.endpoint g.here (met_now p member x.streams x.endpoint s.parts s.order s.out b words here g.endpoint))
+      (k.whole.tails g.transfer.endpoint g.endpoint g.here (met_now p member x.streams x.endpoint s.parts s.order s.out b words here))
 
   sent_then : SentStand (driver_next w).driver s.order (out_then s.out (next_of p).driver g) s.hand (parts_then g)
   sent_then =
-      store_sends s.hand (heads_of member) s.acc s.reported p member x.streams x.endpoint s.parts s.order s.out b words here f.counted (queue_on fixed member x s w f) reaches k.sent
+      store_sends s.hand (there_of w.driver) s.acc s.reported p member x.streams x.endpoint s.parts s.order s.out b words here f.counted (there_on w.driver) reaches k.sent
 
   harvests_none : HarvestsNone w
   harvests_none = busy_harvests_none w (unfinished.Publish b words) command

@@ -1,10 +1,11 @@
 -- Commands, and rows that store no word of a queue.
-use Rattle.std.proofs.Common.{◌≡◌, ◌≢◌, ℕ, ◌-◌, ◌*◌, ◌==◌, Bool, true, false, if◌then◌else◌, List, [], ◌∷◌, ◌++◌, length, take, get_or, slice_get, option_map, Option, Some, None, ap, refl, sym, subst, ◌∙◌, ⊎_elim, inl, inr}
-use Rattle.std.proofs.lemmas.Bool.{cases_eq, eq-eqb, false≢true}
+use Rattle.std.proofs.Common.{◌≡◌, ◌≢◌, ℕ, ◌-◌, ◌*◌, ◌==◌, Bool, true, false, if◌then◌else◌, List, [], ◌∷◌, ◌++◌, length, take, get_or, slice_get, option_map, Option, Some, None, ap, refl, sym, subst, ◌∙◌, ⊎_elim, inl, inr, ◌||◌}
+use Rattle.std.proofs.lemmas.Bool.{cases_eq, eq-eqb, false≢true, or_cases}
 use Rattle.std.proofs.lemmas.Option.{same_Some}
 use Rattle.usb_base.specs.declared.endpoints.EpDesc.{EpDesc}
 use Rattle.word_mem.specs.Memory.{Mem}
 use Rattle.run_book.specs.Book.{holding}
+use Rattle.driver_rows.specs.declared.content.Bell.TheVariants as bells
 use Rattle.driver_rows.specs.declared.content.Endpoint.{Endpoint}
 use Rattle.driver_rows.specs.declared.content.Transfer.{Transfer}
 use Rattle.driver_rows.specs.declared.content.Command.{Command}
@@ -15,7 +16,7 @@ use Rattle.driver_rows.specs.declared.rows.Found.{Found}
 use Rattle.driver_rows.specs.declared.rows.Found.TheVariants as founds
 use Rattle.driver_rows.specs.DriverContent.{DriverContent}
 use Rattle.driver_rows.specs.Offers.{Offered, new_runs, new_endpoint, with_queued}
-use Rattle.driver_rows.specs.Rows.{Parts, driver_row, after_driver_row, after_transfer, freed_by}
+use Rattle.driver_rows.specs.Rows.{Parts, driver_row, after_driver_row, after_transfer, freed_by, is_iso}
 use Rattle.run_owners.specs.Accepts.{Transfers}
 use Rattle.run_owners.specs.Due.{IsDue, IsHarvestDue}
 use Rattle.run_owners.specs.Kept.{HasOwners}
@@ -33,7 +34,7 @@ use Rattle.driver_releases.specs.Released.{release_row}
 use Rattle.returned_streams.specs.Returned.{staying, staying_of}
 use Rattle.published_streams.proofs.Storing.{among_with}
 use Rattle.chained_transfers.specs.Accepted.{IsOpened, IsAsked}
-use Rattle.chained_transfers.specs.Bulk.{receives}
+use Rattle.chained_transfers.specs.Bulk.{receives, OnlyBulk}
 use Rattle.chained_transfers.specs.InTurn.{TakesTurns}
 use Rattle.fed_queues.specs.Places.{IsMet, AreStillOut}
 use Rattle.fed_commands.specs.Commands.{QueuesStand}
@@ -45,6 +46,14 @@ use Rattle.whole_sends.specs.Whole.{AreSentWhole}
 use Rattle.whole_sends.proofs.Keeping.{spared_whole, returned_whole}
 use Rattle.sent_rows.specs.Sent.{SentStand, WasOut, OutsWere}
 use Rattle.sent_rows.specs.Rows.{AreFewer, FewerAreSent, AcceptedSends, QuietSends, HarvestSends, ReleaseSends}
+use Rattle.endpoint_lives.specs.Lives.{may_meet, is_one_of}
+use Rattle.endpoint_lives.proofs.Lives.{met_alike, linked_met, waiting_met, rung_met, one_of_joined}
+use Rattle.fed_queues.proofs.Places.{going_met}
+use Rattle.ring_members.proofs.Harvests.{harvest_stays}
+use Rattle.ring_members.proofs.Links.{RingOf}
+use Rattle.ring_members.proofs.Events.{ring_back}
+use Rattle.usb_base.specs.declared.packets.EpKind.{EpKind}
+use Rattle.usb_base.specs.declared.packets.EpKind.TheVariants as kinds
 
 -- ---- contents with the same OUT endpoints
 
@@ -62,14 +71,14 @@ fewer_sent d f hand parts order out later were fewer k e z here met sends =
     (λ a among. subst (λ (i : ℕ). IsAmong a (out (32 * i))) w.queue (fewer e z a here met (subst (λ (i : ℕ). IsAmong a (later (32 * i))) (sym w.queue) among)))
     (k w.number w.endpoint w.here w.met w.sends))
 
--- where no command is unfinished each endpoint is met
-idle_met : (d : DriverContent) (x : Endpoint) → d.command ≡ None → IsMet d x
-idle_met d x idle is = no_open x.queue (sym idle ∙ is)
+-- where no command is unfinished what is near is met
+idle_met : (d : DriverContent) (e : ℕ) (x : Endpoint) → d.command ≡ None → x.gone ≡ false → may_meet d e x ≡ true → IsMet d e x
+idle_met d e x idle kept near = record { there = record { linked = λ is. no_open x.queue (sym idle ∙ is); kept = kept }; near = near }
   where
     no_open : (b : ℕ) → ◌≡◌ {A = Option Command} None (Some (unfinished.Open b)) → ⊥
     no_open b same = cc
 
-itself : (d : DriverContent) (e : ℕ) (z : Endpoint) → slice_get d.endpoints e ≡ Some z → IsMet d z → receives z.desc.name.way ≡ false → WasOut d z
+itself : (d : DriverContent) (e : ℕ) (z : Endpoint) → slice_get d.endpoints e ≡ Some z → IsMet d e z → receives z.desc.name.way ≡ false → WasOut d z
 itself d e z here met sends = record { number = e; endpoint = z; here = here; met = met; sends = sends; queue = refl }
 
 -- ---- a command
@@ -79,8 +88,9 @@ module _ (d : DriverContent) (m : Mem) (o : Offered) where
   opened_outs k e z here met sends =
       let w = k.opens in
       let new : Endpoint = new_endpoint w.desc (get_or (new_runs d w.holding_after) 0 0) (get_or (new_runs d w.holding_after) 1 0) in
-      ⊎_elim (λ (was : slice_get d.endpoints e ≡ Some z). itself d e z was (idle_met d z w.idle) sends)
-      (λ (is : (e ≡ length d.endpoints) × (z ≡ new)). absurd (met (ap (λ (p : Offered). p.driver.command) w.is ∙ ap (λ (y : Endpoint). Some (unfinished.Open y.queue)) (sym is.1))))
+      let near : may_meet o.driver e z ≡ may_meet d e z = met_alike d o.driver e z z refl (ap (λ (p : Offered). p.driver.waiting) w.is) (ap (λ (p : Offered). p.driver.rung) w.is) in
+      ⊎_elim (λ (was : slice_get d.endpoints e ≡ Some z). itself d e z was (idle_met d e z w.idle met.there.kept (sym near ∙ met.near)) sends)
+      (λ (is : (e ≡ length d.endpoints) × (z ≡ new)). absurd (met.there.linked (ap (λ (p : Offered). p.driver.command) w.is ∙ ap (λ (y : Endpoint). Some (unfinished.Open y.queue)) (sym is.1))))
       (push_which d.endpoints new e z (ap (λ (p : Offered). slice_get p.driver.endpoints e) (sym w.is) ∙ here))
 
   asked_outs : IsAsked d m o → OutsWere d o.driver
@@ -88,16 +98,19 @@ module _ (d : DriverContent) (m : Mem) (o : Offered) where
       let w : Transfers d m o = k.transfers in
       let dummy : ℕ = get_or (take (length w.asked.stages) (new_runs d w.holding_after)) (length w.asked.stages - 1) 0 in
       let queued : Endpoint = with_queued w.endpoint dummy (length d.transfers) in
+      let near : (y : Endpoint) → z.linked ≡ y.linked → may_meet o.driver e z ≡ may_meet d e y =
+      λ y linked. met_alike d o.driver e y z linked (ap (λ (p : Offered). p.driver.waiting) w.is) (ap (λ (p : Offered). p.driver.rung) w.is) in
       ⊎_elim
       (λ (own : (e ≡ w.number) × (z ≡ queued)). record {
         number = w.number;
         endpoint = w.endpoint;
         here = w.here;
-        met = idle_met d w.endpoint w.idle;
+        met = idle_met d w.number w.endpoint w.idle (ap (λ (y : Endpoint). y.gone) (sym own.1) ∙ met.there.kept)
+            (ap (λ (i : ℕ). may_meet d i w.endpoint) (sym own.0) ∙ (sym (near w.endpoint (ap (λ (y : Endpoint). y.linked) own.1)) ∙ met.near));
         sends = ap (λ (y : Endpoint). receives y.desc.name.way) (sym own.1) ∙ sends;
         queue = ap (λ (y : Endpoint). y.queue) own.1;
       })
-      (λ (other : (e ≢ w.number) × (slice_get d.endpoints e ≡ Some z)). itself d e z other.1 (idle_met d z w.idle) sends)
+      (λ (other : (e ≢ w.number) × (slice_get d.endpoints e ≡ Some z)). itself d e z other.1 (idle_met d e z w.idle met.there.kept (sym (near z refl) ∙ met.near)) sends)
       (set_which d.endpoints w.number e w.endpoint queued z w.here (ap (λ (p : Offered). slice_get p.driver.endpoints e) (sym w.is) ∙ here))
 
 pub accepted_sends : AcceptedSends
@@ -112,6 +125,7 @@ record WasLike (o : Option Endpoint) (z : Endpoint) : Type 0 where
   here : o ≡ Some endpoint
   queue : z.queue ≡ endpoint.queue
   desc : z.desc ≡ endpoint.desc
+  bare : (is_iso z.desc.kind || z.gone) ≡ (is_iso endpoint.desc.kind || endpoint.gone)
 
 was_like : (o : Option Endpoint) (z : Endpoint) → Some (runs_of_endpoint z) ≡ option_map runs_of_endpoint o → Some z.desc ≡ option_map desc_of o → WasLike o z
 was_like None z runs desc = absurd cc
@@ -120,42 +134,68 @@ was_like (Some b) z runs desc = record {
   here = refl;
   queue = ap (λ (r : EndpointRuns). r.queue) (same_Some (runs_of_endpoint z) (runs_of_endpoint b) runs);
   desc = same_Some z.desc b.desc desc;
+  bare = ap (λ (r : EndpointRuns). r.bare) (same_Some (runs_of_endpoint z) (runs_of_endpoint b) runs);
 }
 
-harvest_outs : (p : Parts) (e t : ℕ) (found : Found) → p.driver.command ≡ None → OutsWere p.driver (after_driver_row (rows.Harvest e t found) p).driver
-harvest_outs p e t found idle i z here met sends =
+harvest_outs : (p : Parts) (e t : ℕ) (found : Found) → OnlyBulk p.driver → p.driver.command ≡ None → OutsWere p.driver (after_driver_row (rows.Harvest e t found) p).driver
+harvest_outs p e t found bulk idle i z here met sends =
+    let now : DriverContent = (after_driver_row (rows.Harvest e t found) p).driver in
     let w : WasLike (slice_get p.driver.endpoints i) z =
     was_like (slice_get p.driver.endpoints i) z (sym (ap (option_map runs_of_endpoint) here) ∙ (harvest_views p.driver p.memory e t found).endpoint i)
     (sym (ap (option_map desc_of) here) ∙ row_left (rows.Harvest e t found) p i) in
+    let k = harvest_stays p.driver p.memory e t found (slice_get p.driver.endpoints e) (slice_get p.driver.transfers t) refl in
+    let back = ring_back p.driver.endpoints now.endpoints i z k.endpoints here in
+    let same : back.endpoint ≡ w.endpoint = same_Some back.endpoint w.endpoint (sym back.here ∙ w.here) in
+    let linked : z.linked ≡ w.endpoint.linked = ap (λ (r : RingOf). r.linked) (sym back.same) ∙ ap (λ (x : Endpoint). x.linked) same in
+    let kind : w.endpoint.desc.kind ≡ kinds.Bulk = (bulk.endpoints i w.endpoint w.here).bulk.kind in
+    let gone : z.gone ≡ w.endpoint.gone =
+    sym (ap (λ (c : EpKind). is_iso c || z.gone) (ap (λ (c : EpDesc). c.kind) w.desc ∙ kind)) ∙ (w.bare ∙ ap (λ (c : EpKind). is_iso c || w.endpoint.gone) kind) in
     record {
       number = i;
       endpoint = w.endpoint;
       here = w.here;
-      met = idle_met p.driver w.endpoint idle;
+      met = idle_met p.driver i w.endpoint idle (sym gone ∙ met.there.kept) (sym (met_alike p.driver now i w.endpoint z linked k.waiting k.rung) ∙ met.near);
       sends = ap (λ (r : EpDesc). receives r.name.way) (sym w.desc) ∙ sends;
       queue = w.queue;
     }
 
-quiet_outs : (row : DriverRow) (p : Parts) → is_quiet row ≡ true → IsDue p row → OutsWere p.driver (after_driver_row row p).driver
-quiet_outs rows.ClearAdvance p quiet due e z here met sends = itself p.driver e z here (idle_met p.driver z due.0) sends
-quiet_outs rows.RingBell p quiet due e z here met sends = itself p.driver e z here (idle_met p.driver z due.0) sends
-quiet_outs (rows.ReadStatus heard) p quiet due e z here met sends = itself p.driver e z here (idle_met p.driver z due.0) sends
-quiet_outs (rows.ReadFrame n) p quiet due e z here met sends = itself p.driver e z here (idle_met p.driver z due.0) sends
-quiet_outs (rows.Harvest i t found) p quiet due e z here met sends = harvest_outs p i t found due.idle e z here met sends
-quiet_outs rows.Rest p quiet due e z here met sends = itself p.driver e z here met sends
-quiet_outs rows.Lend p quiet due e z here met sends = absurd (false≢true quiet)
-quiet_outs (rows.Store b at v) p quiet due e z here met sends = absurd (false≢true quiet)
-quiet_outs (rows.Mend w) p quiet due e z here met sends = absurd (false≢true quiet)
-quiet_outs rows.Frames p quiet due e z here met sends = absurd (false≢true quiet)
-quiet_outs rows.LendDescriptors p quiet due e z here met sends = absurd (false≢true quiet)
-quiet_outs (rows.Unlink t) p quiet due e z here met sends = absurd (false≢true quiet)
-quiet_outs (rows.ReleaseRemoved what) p quiet due e z here met sends = absurd (false≢true quiet)
-quiet_outs (rows.ReleaseTransfer t) p quiet due e z here met sends = absurd (false≢true quiet)
-quiet_outs (rows.ReleaseEndpoint i) p quiet due e z here met sends = absurd (false≢true quiet)
+-- who is near after the doorbell was answered was so before
+near_cleared : (d : DriverContent) (cleared : List ℕ) (e : ℕ) (z : Endpoint) → may_meet (record d { rung = []; cleared = cleared; bell = bells.Quiet }) e z ≡ true → may_meet d e z ≡ true
+near_cleared d cleared e z near =
+    ⊎_elim (λ (on : z.linked ≡ true). linked_met d e z on)
+    (λ (left : (is_one_of e d.waiting || false) ≡ true).
+    ⊎_elim (λ (waits : is_one_of e d.waiting ≡ true). waiting_met d e z waits) (λ (never : false ≡ true). absurd (false≢true never)) (or_cases (is_one_of e d.waiting) false left))
+    (or_cases z.linked (is_one_of e d.waiting || false) near)
+
+-- .. and so is who is when it is rung
+near_rung : (d : DriverContent) (e : ℕ) (z : Endpoint) → (z.linked || (false || is_one_of e (d.rung ++ d.waiting))) ≡ true → may_meet d e z ≡ true
+near_rung d e z near =
+    ⊎_elim (λ (on : z.linked ≡ true). linked_met d e z on)
+    (λ (left : is_one_of e (d.rung ++ d.waiting) ≡ true).
+    ⊎_elim (λ (rung : is_one_of e d.rung ≡ true). rung_met d e z rung) (λ (waits : is_one_of e d.waiting ≡ true). waiting_met d e z waits)
+    (or_cases (is_one_of e d.rung) (is_one_of e d.waiting) (sym (one_of_joined e d.rung d.waiting) ∙ left)))
+    (or_cases z.linked (is_one_of e (d.rung ++ d.waiting)) near)
+
+quiet_outs : (row : DriverRow) (p : Parts) → is_quiet row ≡ true → OnlyBulk p.driver → IsDue p row → OutsWere p.driver (after_driver_row row p).driver
+quiet_outs rows.ClearAdvance p quiet bulk due e z here met sends = itself p.driver e z here (idle_met p.driver e z due.0 met.there.kept (near_cleared p.driver (p.driver.cleared ++ p.driver.rung) e z met.near)) sends
+quiet_outs rows.RingBell p quiet bulk due e z here met sends = itself p.driver e z here (idle_met p.driver e z due.0 met.there.kept (near_rung p.driver e z met.near)) sends
+quiet_outs (rows.ReadStatus heard) p quiet bulk due e z here met sends = itself p.driver e z here (idle_met p.driver e z due.0 met.there.kept met.near) sends
+quiet_outs (rows.ReadFrame n) p quiet bulk due e z here met sends = itself p.driver e z here (idle_met p.driver e z due.0 met.there.kept met.near) sends
+quiet_outs (rows.Harvest i t found) p quiet bulk due e z here met sends = harvest_outs p i t found bulk due.idle e z here met sends
+quiet_outs rows.Rest p quiet bulk due e z here met sends = itself p.driver e z here met sends
+quiet_outs rows.Lend p quiet bulk due e z here met sends = absurd (false≢true quiet)
+quiet_outs (rows.Store b at v) p quiet bulk due e z here met sends = absurd (false≢true quiet)
+quiet_outs (rows.Mend w) p quiet bulk due e z here met sends = absurd (false≢true quiet)
+quiet_outs rows.Frames p quiet bulk due e z here met sends = absurd (false≢true quiet)
+quiet_outs rows.LendDescriptors p quiet bulk due e z here met sends = absurd (false≢true quiet)
+quiet_outs (rows.Unlink t) p quiet bulk due e z here met sends = absurd (false≢true quiet)
+quiet_outs (rows.ReleaseRemoved what) p quiet bulk due e z here met sends = absurd (false≢true quiet)
+quiet_outs (rows.ReleaseTransfer t) p quiet bulk due e z here met sends = absurd (false≢true quiet)
+quiet_outs (rows.ReleaseEndpoint i) p quiet bulk due e z here met sends = absurd (false≢true quiet)
 
 pub quiet_sends : QuietSends
-quiet_sends p hand parts order out later quiet fewer k =
-    fewer_sent p.driver (after_driver_row (driver_row p) p).driver hand parts order out later (quiet_outs (driver_row p) p quiet (each_is_due p)) fewer k
+quiet_sends p hand parts order out later quiet bulk fewer k =
+    fewer_sent p.driver (after_driver_row (driver_row p) p).driver hand parts order out later (quiet_outs (driver_row p) p quiet bulk (each_is_due p)) fewer k
 
 -- ---- a harvest
 
@@ -163,21 +203,27 @@ module _ (p : Parts) (e t : ℕ) (found : Found) (member streams : ℕ → Bool)
   abbrev new : DriverContent
   new = (after_driver_row (rows.Harvest e t found) p).driver
 
+  its_met : IsMet p.driver e due.endpoint
+  its_met = going_met p.driver e due.endpoint (turns.bulk.endpoints e due.endpoint due.here) due.goes_on (λ is. no_open (sym due.idle ∙ is))
+    where
+      no_open : ◌≡◌ {A = Option Command} None (Some (unfinished.Open due.endpoint.queue)) → ⊥
+      no_open same = cc
+
   -- what isn't done is out still
   not_done : found ≡ founds.Active → AreStillOut new later → AreFewer new out later
   not_done is still i z a here met among =
       let same : AreStillOut new out = subst (λ (f : Found). AreStillOut (after_driver_row (rows.Harvest e t f) p).driver out) (sym is)
       (wait_stands p e t member streams ends parts order out (subst (IsHarvestDue p e t) is due) queues).out_are in
-      subst (IsAmong a) (still i z here met ∙ sym (same i z here met)) among
+      subst (IsAmong a) (still i z here met.there ∙ sym (same i z here met.there)) among
 
   is_done : found ≢ founds.Active → AreStillOut new later → AreFewer new out later
   is_done differs still i z a here met among =
       let l : HarvestLeaves p e t found due member streams ends parts order out = harvest_stands p e t found member streams ends parts order out due differs owners turns queues in
       let n : ℕ = 32 * due.endpoint.queue in
       let left : List ℕ = l.harvested.before ++ l.harvested.behind in
-      let those : later (32 * z.queue) ≡ with_out out n left (32 * z.queue) = still i z here met ∙ sym (l.stand.out_are i z here met) in
+      let those : later (32 * z.queue) ≡ with_out out n left (32 * z.queue) = still i z here met.there ∙ sym (l.stand.out_are i z here met.there) in
       ⊎_elim (λ (same : 32 * z.queue ≡ n).
-      let was : out n ≡ l.harvested.before ++ 32 * due.transfer.place ∷ l.harvested.behind = queues.out_are e due.endpoint due.here (idle_met p.driver due.endpoint due.idle) ∙ l.harvested.was in
+      let was : out n ≡ l.harvested.before ++ 32 * due.transfer.place ∷ l.harvested.behind = queues.out_are e due.endpoint due.here (its_met.there) ∙ l.harvested.was in
       let now : with_out out n left (32 * z.queue) ≡ left = ap (λ (b : Bool). if b then left else out (32 * z.queue)) (eq-eqb (32 * z.queue) n same) in
       subst (IsAmong a) (sym was ∙ ap out (sym same)) (among_with (32 * due.transfer.place) l.harvested.before l.harvested.behind a (subst (IsAmong a) (those ∙ now) among)))
       (λ (apart : 32 * z.queue ≢ n).
@@ -205,7 +251,7 @@ pub harvest_sends : HarvestSends
 harvest_sends p e t found hand member streams ends parts order out later row owners turns queues still k =
     let due : IsHarvestDue p e t found = subst (IsDue p) row (each_is_due p) in
     subst (λ (r : DriverRow). SentStand (after_driver_row r p).driver order later hand parts) (sym row)
-    (fewer_sent p.driver (after_driver_row (rows.Harvest e t found) p).driver hand parts order out later (harvest_outs p e t found due.idle)
+    (fewer_sent p.driver (after_driver_row (rows.Harvest e t found) p).driver hand parts order out later (harvest_outs p e t found turns.bulk due.idle)
     (harvest_fewer p e t found member streams ends parts order out later due owners turns queues (subst (λ (r : DriverRow). AreStillOut (after_driver_row r p).driver later) row still)) k)
 
 -- ---- blocks are given back
@@ -233,4 +279,4 @@ release_sends p t y hand parts order out n goes here k =
     subst (λ (q : Parts). SentStand q.driver order (staying_of n goes out) hand (without_those parts n goes)) (sym row_is)
     (λ e z there met sends.
     let m = 32 * z.queue in
-    returned_whole (order m) (out m) (staying_of n goes out m) hand m parts n goes (λ a among. staying_among n goes out m a among) (k e z there met sends))
+    returned_whole (order m) (out m) (staying_of n goes out m) hand m parts n goes (λ a among. staying_among n goes out m a among) (k e z there (record { there = record { linked = met.there.linked; kept = met.there.kept }; near = met.near }) sends))

@@ -30,7 +30,7 @@ use Rattle.transfer_lends.specs.Pieces.{stage_qtd, IsNewQtd}
 use Rattle.fed_lends.specs.Streams.{second, new_order, new_out}
 use Rattle.fed_lends.proofs.Numbering.{AreNumbered, first_number, new_from}
 use Rattle.fed_lends.proofs.Reporting.{some_none, numbers, old_number, all_there, new_active}
-use Rattle.fed_lends.proofs.Reports.{is_met}
+use Rattle.fed_lends.proofs.Reports.{is_there}
 use Rattle.whole_sends.specs.Whole.{AreSentWhole}
 use Rattle.whole_sends.specs.Laws.{IsNewBehind}
 use Rattle.whole_sends.proofs.Keeping.{renumbered_whole, added_whole}
@@ -155,12 +155,12 @@ lend_row_sends d m b words member heads parts now order order_now out out_now ha
     let slot = slot_of (lent_driver d m).book.slots in
     let f = new_order d l.transfer l.further l.place (order n) in
     let more = out n ++ new_out d l.transfer l.further in
-    let is : IsMet d x = is_met d m b words x k in
+    let is : IsMet d e x = record { there = is_there d m b words x k meets.there.kept; near = meets.near } in
     let was : AreSentWhole (order q) (out q) hand q (parts q) = sent e x here is sends in
     ⊎_elim
     (λ (same : q ≡ n).
     let on : IsMember member n (parts n) = subst (λ (i : ℕ). IsMember member i (parts i)) same (members q (met.each e x here is)) in
-    let r : IsReported (order n) (out n) hand parts n (acc n) (reported n) = subst (λ (i : ℕ). IsReported (order i) (out i) hand parts i (acc i) (reported i)) same (reports q (held e x here is)) in
+    let r : IsReported (order n) (out n) hand parts n (acc n) (reported n) = subst (λ (i : ℕ). IsReported (order i) (out i) hand parts i (acc i) (reported i)) same (reports q (held e x here is.there)) in
     subst (λ (i : ℕ). AreSentWhole (order_now i) (out_now i) hand i (now i)) (sym same)
     (subst (λ (g : ℕ → ℕ). AreSentWhole g (out_now n) hand n (now n)) (sym l.order_is)
     (subst (λ (es : List ℕ). AreSentWhole f es hand n (now n)) (sym l.out_is)

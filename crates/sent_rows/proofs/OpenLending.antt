@@ -52,8 +52,8 @@ module _ (p : DriverParts) (parts : StructureSets) (ready : IsOpenReady p.driver
   lent_sends : (hand : Hand) (order : ℕ → ℕ → ℕ) (out : ℕ → List ℕ) → SentStand d order out hand parts → SentStand lent order out hand (parts_lent parts ready)
   lent_sends hand order out k e z there met sends =
       let m : ℕ = 32 * z.queue in
-      let differs : m ≢ n = λ same. met (ready.command ∙ ap (λ (b : ℕ). Some (unfinished.Open b)) (sym (thirty_two z.queue x.queue same))) in
-      subst (λ (part : Structures). AreSentWhole (order m) (out m) hand m part) (sym (beside m differs)) (k e z there met sends)
+      let differs : m ≢ n = λ same. met.there.linked (ready.command ∙ ap (λ (b : ℕ). Some (unfinished.Open b)) (sym (thirty_two z.queue x.queue same))) in
+      subst (λ (part : Structures). AreSentWhole (order m) (out m) hand m part) (sym (beside m differs)) (k e z there (record { there = record { linked = met.there.linked; kept = met.there.kept }; near = met.near }) sends)
 
 pub open_lend_sends : OpenLendSends
 open_lend_sends hand p parts order out ready k = subst (λ (f : DriverContent). SentStand f order out hand (parts_lent parts ready)) (sym (lent_is p parts ready)) (lent_sends p parts ready hand order out k)

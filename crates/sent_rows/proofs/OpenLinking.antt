@@ -1,5 +1,5 @@
 -- The link of an opened endpoint's queue head is stored: nothing of it is published.
-use Rattle.std.proofs.Common.{◌≡◌, ◌≢◌, ℕ, ◌*◌, Bool, false, if◌then◌else◌, List, [], slice_get, Option, Some, None, ap, refl, sym, subst, ◌∙◌, ⊎_elim}
+use Rattle.std.proofs.Common.{◌≡◌, ◌≢◌, ℕ, ◌*◌, Bool, false, if◌then◌else◌, List, [], slice_get, Option, Some, None, ap, refl, sym, subst, ◌∙◌, ⊎_elim, true}
 use Rattle.std.proofs.lemmas.Bool.{cases_eq, eq-eqb}
 use Rattle.qh_qtd.specs.declared.qtd.Qtd.{Qtd}
 use Rattle.qh_qtd.specs.declared.queue_head.Qh.{Qh}
@@ -32,6 +32,7 @@ use Rattle.whole_sends.proofs.Keeping.{linked_ends, stranger_ends, beginning_who
 use Rattle.whole_sends.proofs.Walking.{with_hand}
 use Rattle.sent_rows.specs.Sent.{SentStand}
 use Rattle.sent_rows.specs.Opens.{OpenLinkSends}
+use Rattle.endpoint_lives.specs.Lives.{may_meet}
 
 -- a new queue head has the inactive qTD alone
 one_element : (r : EndpointRuns) (q : Qh) (a : ℕ) (t : Qtd) → opened_part r q a ≡ Some (Element t) → dummy_qtd ≡ t
@@ -76,9 +77,9 @@ module _ (base : Base) (w : Walk) (hand : Hand) (p : DriverParts) (member stream
   linked = record d { command = None; made = 0 }
 
   -- the queue head of an endpoint isn't the head of the ring
-  not_head : (e : ℕ) (z : Endpoint) → slice_get d.endpoints e ≡ Some z → 32 * z.queue ≢ head_at
-  not_head e z there same =
-      never (sym (queue_placed d k.sound.owners e z there (k.turns.bulk.endpoints e z there)).owned ∙ ap k.sound.owners.owner (thirty_two z.queue head_block same) ∙ k.sound.owners.owned.each.head.owned)
+  not_head : (e : ℕ) (z : Endpoint) → slice_get d.endpoints e ≡ Some z → z.gone ≡ false → 32 * z.queue ≢ head_at
+  not_head e z there kept same =
+      never (sym (queue_placed d k.sound.owners e z there (k.turns.bulk.endpoints e z there) kept).owned ∙ ap k.sound.owners.owner (thirty_two z.queue head_block same) ∙ k.sound.owners.owned.each.head.owned)
     where
       never : QueueOf e ≡ Head → ⊥
       never is = cc
@@ -108,21 +109,21 @@ module _ (base : Base) (w : Walk) (hand : Hand) (p : DriverParts) (member stream
       (ap (λ (u : Qtd). u.token.active) (sym same), ap (λ (u : Qtd). u.token.halted) (sym same), ap (λ (u : Qtd). u.token.total) (sym same)))
 
   -- the others stay
-  goes_on : (e : ℕ) (z : Endpoint) → slice_get d.endpoints e ≡ Some z → receives z.desc.name.way ≡ false → 32 * z.queue ≢ n
+  goes_on : (e : ℕ) (z : Endpoint) → slice_get d.endpoints e ≡ Some z → z.gone ≡ false → may_meet d e z ≡ true → receives z.desc.name.way ≡ false → 32 * z.queue ≢ n
       → AreSentWhole (order (32 * z.queue)) (out (32 * z.queue)) later (32 * z.queue) (parts (32 * z.queue))
-  goes_on e z there sends differs =
+  goes_on e z there kept near sends differs =
       let m : ℕ = 32 * z.queue in
-      let met : IsMet d z = λ is. differs (ap (λ (b : ℕ). 32 * b) (sym (same_queue x.queue z.queue (sym k.lent.command ∙ is)))) in
+      let met : IsMet d e z = record { there = record { linked = λ is. differs (ap (λ (b : ℕ). 32 * b) (sym (same_queue x.queue z.queue (sym k.lent.command ∙ is)))); kept = kept }; near = near } in
       let was : AreSentWhole (order m) (out m) hand m (parts m) = sent e z there met sends in
       with_hand (order m) (out m) hand later m (parts m) (ends_linked m was.ends) was
 
   linked_sends : SentStand linked order (with_none out n) later now
   linked_sends e z there met sends =
       let m : ℕ = 32 * z.queue in
-      subst (λ (part : Structures). AreSentWhole (order m) (with_none out n m) later m part) (sym (stay m (not_head e z there)))
+      subst (λ (part : Structures). AreSentWhole (order m) (with_none out n m) later m part) (sym (stay m (not_head e z there met.there.kept)))
       (⊎_elim (λ (same : m ≡ n).
       subst (λ (i : ℕ). AreSentWhole (order i) (with_none out n i) later i (parts i)) (sym same) (subst (λ (xs : List ℕ). AreSentWhole (order n) xs later n (parts n)) (sym none_here) begins))
-      (λ (differs : m ≢ n). subst (λ (xs : List ℕ). AreSentWhole (order m) xs later m (parts m)) (sym (none_beside m differs)) (goes_on e z there sends differs)) (cases_eq m n))
+      (λ (differs : m ≢ n). subst (λ (xs : List ℕ). AreSentWhole (order m) xs later m (parts m)) (sym (none_beside m differs)) (goes_on e z there met.there.kept met.near sends differs)) (cases_eq m n))
 
 pub open_link_sends : OpenLinkSends
 open_link_sends base w hand p member streams ends parts order out k drives sent =

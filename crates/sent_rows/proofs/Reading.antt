@@ -34,6 +34,9 @@ use Rattle.fed_queues.specs.Places.{IsMet}
 use Rattle.released_queues.proofs.Queues.{none_yet}
 use Rattle.whole_sends.specs.Whole.{bytes_of_element, buffer_at}
 use Rattle.sent_rows.specs.Read.{MovesAll, ReadsPut, PutsMoveAll, PutsLeaveNone, DoneIsTold, PutsAreTold}
+use Rattle.chained_transfers.proofs.Holding.{unreleased}
+use Rattle.endpoint_lives.proofs.Lives.{none_told}
+use Rattle.fed_queues.proofs.Places.{going_met}
 
 -- ---- what a token tells
 
@@ -92,17 +95,13 @@ module _ (p : Parts) (e t : ℕ) (found : Found) (hand : Hand) (parts : Structur
   its = waits_is e y k.due.waits
 
   held : y.released ≡ false
-  held = by_test y.released refl
-    where
-      by_test : (b : Bool) → y.released ≡ b → b ≡ false
-      by_test false is = refl
-      by_test true is = absurd (true≢false (sym (k.turns.turns.turns.told t (turn_of y) (ap (λ (o : Option Transfer). option_map turn_of o) k.due.there) is) ∙ its.1))
+  held = unreleased d t y x k.turns.bulk k.turns.turns k.due.there (ap (slice_get d.endpoints) its.0 ∙ k.due.here) (none_told x k.due.goes_on) its.1
 
   at_place : IsAtPlace (note_in d.notes) y
   at_place = k.turns.turns.places t y k.due.there held
 
-  met : IsMet d x
-  met is = no_open x.queue (sym k.due.idle ∙ is)
+  met : IsMet d e x
+  met = going_met d e x (k.turns.bulk.endpoints e x k.due.here) k.due.goes_on (λ is. no_open x.queue (sym k.due.idle ∙ is))
     where
       no_open : (b : ℕ) → ◌≡◌ {A = Option Command} None (Some (unfinished.Open b)) → ⊥
       no_open b same = cc

@@ -1,5 +1,5 @@
 -- The worked drivers.
-use Rattle.std.proofs.Common.{◌≡◌, ℕ, zero, suc, ◌*◌, [], ◌∷◌, ◌++◌, true, false, slice_get, Option, Some, None, refl, subst, arith}
+use Rattle.std.proofs.Common.{◌≡◌, ℕ, zero, suc, ◌*◌, [], ◌∷◌, ◌++◌, true, false, slice_get, Option, Some, None, refl, subst, arith, ◌≢◌}
 use Rattle.std.proofs.lemmas.Bool.{true≢false}
 use Rattle.std.proofs.lemmas.Option.{same_Some}
 use Rattle.usb_base.specs.declared.packets.Way.{Way}
@@ -12,7 +12,6 @@ use Rattle.run_owners.specs.Worked.{bulk}
 use Rattle.lent_structures.specs.Structures.{StructureSets}
 use Rattle.ring_walk.specs.Hand.{Empty}
 use Rattle.chained_transfers.specs.Bulk.{receives}
-use Rattle.fed_queues.specs.Places.{IsMet}
 use Rattle.whole_sends.specs.Whole.{AreSentWhole}
 use Rattle.whole_sends.specs.Samples.{order, ahead, behind, working, parts, parts_halted, queue_of, owned, written}
 use Rattle.whole_sends.proofs.Sampled.{sent_whole, halted_whole, written_whole}
@@ -48,7 +47,7 @@ one_zero : ◌≡◌ {A = ℕ} 1 0 → ⊥
 one_zero same = omega (arith, same)
 
 pub never_left : Sends (one_endpoint ways.Out None) (owned (queue_of working left_second)) → ⊥
-never_left k = one_zero ((k 0 (it ways.Out) refl (no_open 2) refl).whole 192 left_second refl refl refl)
+never_left k = one_zero ((k 0 (it ways.Out) refl (record { there = record { linked = no_open 2; kept = refl }; near = refl }) refl).whole 192 left_second refl refl refl)
 
 pub not_asked : Sends (one_endpoint ways.In None) (owned (queue_of working left_second))
 not_asked e x here met sends =
@@ -56,7 +55,7 @@ not_asked e x here met sends =
 
 pub not_met : Sends (one_endpoint ways.Out (Some (unfinished.Open 2))) (owned (queue_of working left_second))
 not_met e x here met sends =
-    absurd (only ways.Out e x (λ (z : Endpoint). IsMet (one_endpoint ways.Out (Some (unfinished.Open 2))) z → ⊥) here (λ meets. meets refl) met)
+    absurd (only ways.Out e x (λ (z : Endpoint). (one_endpoint ways.Out (Some (unfinished.Open 2))).command ≢ Some (unfinished.Open z.queue) → ⊥) here (λ meets. meets refl) met.there.linked)
 
 pub two_of_three : ◌≡◌ {A = ℕ} 2 3 → ⊥
 two_of_three same = omega (arith, same)

@@ -38,6 +38,8 @@ use Rattle.whole_sends.specs.Whole.{AreSentWhole}
 use Rattle.whole_sends.proofs.Keeping.{idle_store_whole, last_store_whole}
 use Rattle.sent_rows.specs.Sent.{SentStand, HoldMet}
 use Rattle.sent_rows.specs.Stores.{StoreSends}
+use Rattle.fed_queues.proofs.Places.{going_met}
+use Rattle.endpoint_lives.specs.Lives.{may_meet}
 
 -- ---- the qTD before its last store
 
@@ -140,8 +142,14 @@ module _ (p : DriverParts) (member streams : ℕ → Bool) (ends : ℕ → Told)
   publish_not_open : (c : ℕ) → ◌≡◌ {A = Option Command} (Some (unfinished.Publish b words)) (Some (unfinished.Open c)) → ⊥
   publish_not_open c same = cc
 
-  met : (x : Endpoint) → IsMet d x
-  met x same = publish_not_open x.queue (sym k.command ∙ same)
+  never_opens : (c : ℕ) → d.command ≡ Some (unfinished.Open c) → ⊥
+  never_opens c same = publish_not_open c (sym k.command ∙ same)
+
+  met : IsMet d y.endpoint g.endpoint
+  met = going_met d y.endpoint g.endpoint (k.turns.bulk.endpoints y.endpoint g.endpoint g.here) g.going (never_opens g.endpoint.queue)
+
+  still_met : (e : ℕ) (x : Endpoint) → x.gone ≡ false → may_meet d e x ≡ true → IsMet d e x
+  still_met e x kept near = record { there = record { linked = never_opens x.queue; kept = kept }; near = near }
 
   -- ---- what is out
 
@@ -174,14 +182,14 @@ module _ (p : DriverParts) (member streams : ℕ → Bool) (ends : ℕ → Told)
   out_is e = ap (λ (c : Option Command). out_of note e c d.made d.transfers) k.command ∙ ap (λ (j : ℕ). out_of note e (Some (unfinished.Publish b words)) j d.transfers) made_is
 
   out_split : out n ≡ before ++ behind
-  out_split = k.out_are y.endpoint g.endpoint g.here (met g.endpoint) ∙ out_is y.endpoint ∙ parted (Some (unfinished.Publish b words)) (suc i)
+  out_split = k.out_are y.endpoint g.endpoint g.here met.there ∙ out_is y.endpoint ∙ parted (Some (unfinished.Publish b words)) (suc i)
 
   -- one store more changes nothing of it
   out_more : (m : ℕ) → out_then out more g m ≡ out m
   out_more m =
       ⊎_elim (λ (same : m ≡ n).
       ap (with_out out n (out_now more y.endpoint)) same ∙ out_here out n (out_now more y.endpoint) ∙ ap (λ (c : Option Command). out_of note y.endpoint c (suc d.made) d.transfers) k.command
-      ∙ same_out note y.endpoint b words d.transfers d.made i ∙ sym (out_is y.endpoint) ∙ sym (k.out_are y.endpoint g.endpoint g.here (met g.endpoint)) ∙ ap out (sym same))
+      ∙ same_out note y.endpoint b words d.transfers d.made i ∙ sym (out_is y.endpoint) ∙ sym (k.out_are y.endpoint g.endpoint g.here met.there) ∙ ap out (sym same))
       (λ (differs : m ≢ n). out_beside out n (out_now more y.endpoint) m differs) (cases_eq m n)
 
   out_done : out_then out done g n ≡ before ++ 32 * b ∷ behind
@@ -210,7 +218,7 @@ module _ (p : DriverParts) (member streams : ℕ → Bool) (ends : ℕ → Told)
     sent_more : d.made < 8 → SentStand more order (out_then out more g) hand (parts_then g)
     sent_more low e x here meets sends =
         let m : ℕ = 32 * x.queue in
-        let was = sent e x here (met x) sends in
+        let was = sent e x here (still_met e x meets.there.kept meets.near) sends in
         subst (λ (xs : List ℕ). AreSentWhole (order m) xs hand m (parts_then g m)) (sym (out_more m))
         (⊎_elim (λ (same : m ≡ n). stored_idle low m same was)
         (λ (differs : m ≢ n). subst (λ (part : Structures). AreSentWhole (order m) (out m) hand m part) (sym (put_beside parts n (32 * b) (Element new) m differs)) was) (cases_eq m n))
@@ -218,7 +226,7 @@ module _ (p : DriverParts) (member streams : ℕ → Bool) (ends : ℕ → Told)
     -- ---- the last one
 
     complete : (a : ℕ) (t : Qtd) → parts n a ≡ Some (Element t) → t.token.active ≡ true → IsAmong a (before ++ behind)
-    complete a t here on = subst (IsAmong a) out_split ((right n (counts y.endpoint g.endpoint g.here (met g.endpoint))).accounts.complete a t here on)
+    complete a t here on = subst (IsAmong a) out_split ((right n (counts y.endpoint g.endpoint g.here met.there)).accounts.complete a t here on)
 
     published : d.made ≡ 8 → AreSentWhole (order n) (out n) hand n (parts n) → AreSentWhole (order n) (out_then out done g n) hand n (parts_then g n)
     published eighth was =
@@ -230,7 +238,7 @@ module _ (p : DriverParts) (member streams : ℕ → Bool) (ends : ℕ → Told)
     sent_done : d.made ≡ 8 → SentStand done order (out_then out done g) hand (parts_then g)
     sent_done eighth e x here meets sends =
         let m : ℕ = 32 * x.queue in
-        let was : AreSentWhole (order m) (out m) hand m (parts m) = sent e x here (met x) sends in
+        let was : AreSentWhole (order m) (out m) hand m (parts m) = sent e x here (still_met e x meets.there.kept meets.near) sends in
         ⊎_elim (λ (same : m ≡ n).
         subst (λ (j : ℕ). AreSentWhole (order j) (out_then out done g j) hand j (parts_then g j)) (sym same)
         (published eighth (subst (λ (j : ℕ). AreSentWhole (order j) (out j) hand j (parts j)) same was)))

@@ -27,10 +27,11 @@ use Rattle.chained_transfers.specs.InTurn.{TakesTurns}
 use Rattle.fed_queues.specs.Places.{IsMet, AreStillOut}
 use Rattle.fed_commands.specs.Commands.{QueuesStand}
 use Rattle.sent_rows.specs.Sent.{SentStand, OutsWere}
+use Rattle.chained_transfers.specs.Bulk.{OnlyBulk}
 
 -- of the queues of f
 abbrev pub AreFewer : DriverContent → (ℕ → List ℕ) → (ℕ → List ℕ) → Type 0
-AreFewer f out later = (e : ℕ) (z : Endpoint) (a : ℕ) → slice_get f.endpoints e ≡ Some z → IsMet f z → IsAmong a (later (32 * z.queue)) → IsAmong a (out (32 * z.queue))
+AreFewer f out later = (e : ℕ) (z : Endpoint) (a : ℕ) → slice_get f.endpoints e ≡ Some z → IsMet f e z → IsAmong a (later (32 * z.queue)) → IsAmong a (out (32 * z.queue))
 
 abbrev pub FewerAreSent : Type 0
 FewerAreSent = (d f : DriverContent) (hand : Hand) (parts : StructureSets) (order : ℕ → ℕ → ℕ) (out later : ℕ → List ℕ) → OutsWere d f → AreFewer f out later
@@ -41,7 +42,7 @@ AcceptedSends = (d : DriverContent) (m : Mem) (o : Offered) (hand : Hand) (parts
     → SentStand d order out hand parts → SentStand o.driver order out hand parts
 
 abbrev pub QuietSends : Type 0
-QuietSends = (p : Parts) (hand : Hand) (parts : StructureSets) (order : ℕ → ℕ → ℕ) (out later : ℕ → List ℕ) → is_quiet (driver_row p) ≡ true
+QuietSends = (p : Parts) (hand : Hand) (parts : StructureSets) (order : ℕ → ℕ → ℕ) (out later : ℕ → List ℕ) → is_quiet (driver_row p) ≡ true → OnlyBulk p.driver
     → AreFewer (after_driver_row (driver_row p) p).driver out later → SentStand p.driver order out hand parts → SentStand (after_driver_row (driver_row p) p).driver order later hand parts
 
 abbrev pub HarvestSends : Type 0

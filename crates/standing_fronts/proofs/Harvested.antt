@@ -24,13 +24,14 @@ use Rattle.queue_parts.proofs.Altering.{found_element}
 use Rattle.ring_order.specs.Order.{IsAmong}
 use Rattle.ring_fronts.specs.Front.{own_pointer, IsPassed, HasFront}
 use Rattle.fed_queues.specs.Fed.{IsPieceFed, unpublished_of, AreFed}
-use Rattle.fed_queues.specs.Places.{IsMet, AreStillOut}
+use Rattle.fed_queues.specs.Places.{IsMet, AreStillOut, IsThere}
 use Rattle.released_queues.specs.Fronts.{piece_address, end_at, StandsAt, FrontsStand}
 use Rattle.released_queues.proofs.Pieces.{rises_below, piece_on}
 use Rattle.released_queues.proofs.Queues.{none_yet}
 use Rattle.released_queues.proofs.Outs.{out_plain, out_is, IsDropped, IsOutOf, out_in}
 use Rattle.standing_fronts.specs.Along.{LinksOfQueuesRise}
 use Rattle.standing_fronts.proofs.Lists.{in_out, dropped_same}
+use Rattle.endpoint_lives.proofs.Lives.{met_alike}
 
 -- the qTD that was read last is done, and leads to the end of its transfer
 pub record EndsThere (d : DriverContent) (part : Structures) (y : Transfer) : Type 0 where
@@ -45,7 +46,10 @@ pub record HarvestChanges (d f : DriverContent) (parts : StructureSets) (t : ℕ
   pub idle : d.command ≡ None
   pub idle_now : f.command ≡ None
   pub notes : (b : ℕ) → note_in f.notes b ≡ note_in d.notes b
-  pub ends : (i : ℕ) (c : Endpoint) → slice_get f.endpoints i ≡ Some c → (b : Endpoint) × (slice_get d.endpoints i ≡ Some b) × (c.queue ≡ b.queue)
+  pub ends : (i : ℕ) (c : Endpoint) → slice_get f.endpoints i ≡ Some c → (b : Endpoint) × (slice_get d.endpoints i ≡ Some b) × (c.queue ≡ b.queue) × (c.linked ≡ b.linked) × (c.gone ≡ b.gone)
+  pub waiting : f.waiting ≡ d.waiting
+  pub rung : f.rung ≡ d.rung
+  pub met : (x : Endpoint) → slice_get d.endpoints y.endpoint ≡ Some x → IsMet d y.endpoint x
   pub here : slice_get d.transfers t ≡ Some y
   pub held : y.released ≡ false
   pub waits : y.reported ≡ false
@@ -62,17 +66,14 @@ module _ (d f : DriverContent) (parts : StructureSets) (order : ℕ → ℕ → 
   abbrev note : ℕ → NoteRuns
   note = note_in d.notes
 
-  met : (x : Endpoint) → IsMet d x
-  met x is = none_some (sym k.idle ∙ is)
-    where
-      none_some : None ≡ Some (unfinished.Open x.queue) → ⊥
-      none_some bad = cc
+  none_some : (q : ℕ) → None ≡ Some (unfinished.Open q) → ⊥
+  none_some q bad = cc
 
-  met_now : (x : Endpoint) → IsMet f x
-  met_now x is = none_some (sym k.idle_now ∙ is)
-    where
-      none_some : None ≡ Some (unfinished.Open x.queue) → ⊥
-      none_some bad = cc
+  there_was : (x : Endpoint) → x.gone ≡ false → IsThere d x
+  there_was x kept = record { linked = λ is. none_some x.queue (sym k.idle ∙ is); kept = kept }
+
+  there_now : (x : Endpoint) → x.gone ≡ false → IsThere f x
+  there_now x kept = record { linked = λ is. none_some x.queue (sym k.idle_now ∙ is); kept = kept }
 
   which : (u : ℕ) (c : Transfer) → slice_get f.transfers u ≡ Some c → ((u ≡ t) × (c ≡ z)) ⊎ ((u ≢ t) × (slice_get d.transfers u ≡ Some c))
   which u c there =
@@ -93,9 +94,9 @@ module _ (d f : DriverContent) (parts : StructureSets) (order : ℕ → ℕ → 
       let o = out_in (note_in f.notes) i f.transfers a (subst (IsAmong a) (out_is f i k.idle_now) among) in
       subst (IsAmong a) (sym (out_is d i k.idle)) (was_out_of i a o.number o.transfer (which o.number o.transfer o.here) o.is)
 
-  fewer_out : (i : ℕ) (c b : Endpoint) (a : ℕ) → slice_get f.endpoints i ≡ Some c → slice_get d.endpoints i ≡ Some b → c.queue ≡ b.queue → IsAmong a (later (32 * c.queue)) → IsAmong a (out (32 * c.queue))
-  fewer_out i c b a there before same among =
-      subst (IsAmong a) (sym (still i b before (met b)) ∙ ap (λ (q : ℕ). out (32 * q)) (sym same)) (was_out i a (subst (IsAmong a) (still_now i c there (met_now c)) among))
+  fewer_out : (i : ℕ) (c b : Endpoint) (a : ℕ) → slice_get f.endpoints i ≡ Some c → slice_get d.endpoints i ≡ Some b → c.queue ≡ b.queue → c.gone ≡ b.gone → c.gone ≡ false → IsAmong a (later (32 * c.queue)) → IsAmong a (out (32 * c.queue))
+  fewer_out i c b a there before same gone kept among =
+      subst (IsAmong a) (sym (still i b before (there_was b (sym gone ∙ kept))) ∙ ap (λ (q : ℕ). out (32 * q)) (sym same)) (was_out i a (subst (IsAmong a) (still_now i c there (there_now c kept)) among))
 
   -- ---- the transfer that ended
 
@@ -135,13 +136,13 @@ module _ (d f : DriverContent) (parts : StructureSets) (order : ℕ → ℕ → 
     step : (i : ℕ) → i < y.qtds → order n (piece_address d y i) < order n (piece_address d y (suc i))
     step i below =
         let g = here_fed i below in
-        (rise y.endpoint x at (met x)).next (piece_address d y i) g.qtd (piece_address d y (suc i)) g.here (ap qtd_link_of g.noted.next ∙ ap (λ (c : ℕ). qtd_links.To (32 * c)) (sym (piece_next note y.first i)))
+        (rise y.endpoint x at (k.met x at)).next (piece_address d y i) g.qtd (piece_address d y (suc i)) g.here (ap qtd_link_of g.noted.next ∙ ap (λ (c : ℕ). qtd_links.To (32 * c)) (sym (piece_next note y.first i)))
 
     rises : (i j : ℕ) → i < j → j ≤ y.qtds → order n (piece_address d y i) < order n (piece_address d y j)
     rises i j less most = rises_below (λ (c : ℕ). order n (piece_address d y c)) i j less (λ c from below. step c (omega (arith, below, most)))
 
     among_out : (a : ℕ) → IsAmong a (out_now d y.endpoint) → IsAmong a (out n)
-    among_out a among = subst (IsAmong a) (sym (still y.endpoint x at (met x))) among
+    among_out a among = subst (IsAmong a) (sym (still y.endpoint x at (k.met x at).there)) among
 
     abbrev place : ℕ
     place = y.qtds - y.left
@@ -224,12 +225,13 @@ module _ (d f : DriverContent) (parts : StructureSets) (order : ℕ → ℕ → 
       let was = k.ends i c there in
       let b : Endpoint = was.0 in
       let queue : c.queue ≡ b.queue = was.2 in
-      let g = stand i b was.1 (met b) in
+      let met : IsMet d i b = record { there = there_was b (sym was.4 ∙ is.there.kept); near = sym (met_alike d f i b c was.3 k.waiting k.rung) ∙ is.near } in
+      let g = stand i b was.1 met in
       subst (λ (q : ℕ). StandsAt f (parts (32 * q)) (order (32 * q)) (later (32 * q)) i (record c { queue = q })) (sym queue)
       (record {
         front = g.front;
         has = front_less (order (32 * b.queue)) g.front (32 * b.queue) (parts (32 * b.queue)) (out (32 * b.queue)) (later (32 * b.queue))
-            (λ a among. subst (λ (q : ℕ). IsAmong a (out (32 * q))) queue (fewer_out i c b a there was.1 queue (subst (λ (q : ℕ). IsAmong a (later (32 * q))) (sym queue) among))) g.has;
+            (λ a among. subst (λ (q : ℕ). IsAmong a (out (32 * q))) queue (fewer_out i c b a there was.1 queue was.4 is.there.kept (subst (λ (q : ℕ). IsAmong a (later (32 * q))) (sym queue) among))) g.has;
         ended = λ h u r at held_there held same. (ended_by i b was.1 g h u r same held (k.harvested h u at) (which u r held_there)).0;
         passed = λ h u j r at held_there held same from below. (ended_by i b was.1 g h u r same held (k.harvested h u at) (which u r held_there)).1 j from below;
       })

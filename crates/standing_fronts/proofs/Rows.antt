@@ -22,6 +22,7 @@ use Rattle.driver_rows.specs.declared.content.Sort.TheVariants as sorts
 use Rattle.driver_rows.specs.declared.rows.DriverRow.TheVariants as rows
 use Rattle.driver_rows.specs.declared.rows.Found.{Found}
 use Rattle.driver_rows.specs.declared.rows.Found.TheVariants as founds
+use Rattle.driver_rows.specs.declared.content.Command.TheVariants as unfinished
 use Rattle.driver_rows.specs.DriverContent.{DriverContent}
 use Rattle.driver_rows.specs.Words.{to_qtd}
 use Rattle.driver_rows.specs.Harvests.{note_at, token_in, is_get, halt_of, moved_of, done_of, ends_by, found_in, end_of, is_stall, noted}
@@ -41,13 +42,16 @@ use Rattle.chained_transfers.proofs.Ways.{moves_queued, found_by}
 use Rattle.harvested_streams.proofs.Harvesting.{token_read}
 use Rattle.lent_structures.specs.Structures.{Element, StructureSets, Tells}
 use Rattle.fed_queues.specs.Fed.{alternate_by, IsPieceFed, unpublished_of, AreFed}
-use Rattle.fed_queues.specs.Places.{AreStillOut}
+use Rattle.fed_queues.specs.Places.{AreStillOut, IsMet}
 use Rattle.released_queues.specs.Fronts.{FrontsStand}
 use Rattle.released_queues.proofs.Queues.{none_yet}
 use Rattle.released_queues.proofs.Outs.{IsDropped}
 use Rattle.standing_fronts.specs.Along.{HarvestKeepsFronts}
 use Rattle.standing_fronts.proofs.Lists.{times_some, pushed_one}
 use Rattle.standing_fronts.proofs.Harvested.{EndsThere, HarvestChanges, fronts_follow}
+use Rattle.fed_queues.proofs.Places.{going_met}
+use Rattle.chained_transfers.proofs.Holding.{unreleased}
+use Rattle.endpoint_lives.proofs.Lives.{none_told}
 
 -- ---- what a token tells
 
@@ -100,12 +104,13 @@ short_or_last sort false n ends off = sym off ∙ ends
 
 -- ---- contents
 
-ends_set : (es : List Endpoint) (e i : ℕ) (x z c : Endpoint) → slice_get es e ≡ Some x → z.queue ≡ x.queue → slice_get (set es e z) i ≡ Some c → (b : Endpoint) × (slice_get es i ≡ Some b) × (c.queue ≡ b.queue)
-ends_set es e i x z c here queue there =
+ends_set : (es : List Endpoint) (e i : ℕ) (x z c : Endpoint) → slice_get es e ≡ Some x → z.queue ≡ x.queue → z.linked ≡ x.linked → z.gone ≡ x.gone → slice_get (set es e z) i ≡ Some c
+    → (b : Endpoint) × (slice_get es i ≡ Some b) × (c.queue ≡ b.queue) × (c.linked ≡ b.linked) × (c.gone ≡ b.gone)
+ends_set es e i x z c here queue linked gone there =
     ⊎_elim (λ (same : i ≡ e).
     let is : c ≡ z = same_Some c z (sym there ∙ ap (slice_get (set es e z)) same ∙ set_here es e x z here) in
-    (x, ap (slice_get es) same ∙ here, ap (λ (b : Endpoint). b.queue) is ∙ queue))
-    (λ (differs : i ≢ e). (c, sym (set_there es e i z differs) ∙ there, refl)) (cases_eq i e)
+    (x, ap (slice_get es) same ∙ here, ap (λ (b : Endpoint). b.queue) is ∙ queue, ap (λ (b : Endpoint). b.linked) is ∙ linked, ap (λ (b : Endpoint). b.gone) is ∙ gone))
+    (λ (differs : i ≢ e). (c, sym (set_there es e i z differs) ∙ there, refl, refl, refl)) (cases_eq i e)
 
 set_self : {X : Type 0} (xs : List X) (e : ℕ) (x : X) → slice_get xs e ≡ Some x → set xs e x ≡ xs
 set_self [] e x here = absurd (cc)
@@ -125,12 +130,20 @@ module _ (p : Parts) (e t : ℕ) (found : Found) (parts : StructureSets) (order 
   y_is : (y.endpoint ≡ e) × (y.reported ≡ false)
   y_is = waits_is e y due.waits
 
+  its_end : slice_get d.endpoints y.endpoint ≡ Some x
+  its_end = ap (slice_get d.endpoints) y_is.0 ∙ due.here
+
   held : y.released ≡ false
-  held = by_test y.released refl
+  held = unreleased d t y x turns.bulk turns.turns due.there its_end (none_told x due.goes_on) y_is.1
+
+  -- its endpoint goes on, so the walk meets it
+  met : (c : Endpoint) → slice_get d.endpoints y.endpoint ≡ Some c → IsMet d y.endpoint c
+  met c at =
+      subst (λ (z : Endpoint). IsMet d y.endpoint z) (same_Some x c (sym its_end ∙ at))
+      (going_met d y.endpoint x (turns.bulk.endpoints e x due.here) due.goes_on (λ is. no_open (sym due.idle ∙ is)))
     where
-      by_test : (b : Bool) → y.released ≡ b → b ≡ false
-      by_test false is = refl
-      by_test true is = absurd (true≢false (sym (turns.turns.turns.told t (turn_of y) (ap (λ (o : Option Transfer). option_map turn_of o) due.there) is) ∙ y_is.1))
+      no_open : None ≡ Some (unfinished.Open due.endpoint.queue) → ⊥
+      no_open bad = cc
 
   -- it isn't to be given back yet
   not_owed : (i u : ℕ) → slice_get d.harvested i ≡ Some u → u ≢ t
@@ -143,8 +156,8 @@ module _ (p : Parts) (e t : ℕ) (found : Found) (parts : StructureSets) (order 
   kept : (i u : ℕ) → slice_get d.harvested i ≡ Some u → (u ≢ t) × (slice_get d.harvested i ≡ Some u)
   kept i u at = (not_owed i u at, at)
 
-  same_ends : (i : ℕ) (c : Endpoint) → slice_get d.endpoints i ≡ Some c → (b : Endpoint) × (slice_get d.endpoints i ≡ Some b) × (c.queue ≡ b.queue)
-  same_ends i c there = (c, there, refl)
+  same_ends : (i : ℕ) (c : Endpoint) → slice_get d.endpoints i ≡ Some c → (b : Endpoint) × (slice_get d.endpoints i ≡ Some b) × (c.queue ≡ b.queue) × (c.linked ≡ b.linked) × (c.gone ≡ b.gone)
+  same_ends i c there = (c, there, refl, refl, refl)
 
   -- ---- by what was found
 
@@ -154,6 +167,9 @@ module _ (p : Parts) (e t : ℕ) (found : Found) (parts : StructureSets) (order 
     idle_now = due.idle;
     notes = λ b. refl;
     ends = same_ends;
+    waiting = refl;
+    rung = refl;
+    met = met;
     here = due.there;
     held = held;
     waits = y_is.1;
@@ -175,6 +191,9 @@ module _ (p : Parts) (e t : ℕ) (found : Found) (parts : StructureSets) (order 
     idle_now = due.idle;
     notes = λ b. note_same d.notes y.place n b;
     ends = same_ends;
+    waiting = refl;
+    rung = refl;
+    met = met;
     here = due.there;
     held = held;
     waits = y_is.1;
@@ -203,7 +222,10 @@ module _ (p : Parts) (e t : ℕ) (found : Found) (parts : StructureSets) (order 
     idle = due.idle;
     idle_now = due.idle;
     notes = λ b. note_same d.notes y.place n b;
-    ends = λ i c there. ends_set d.endpoints e i x (record x { ended = Some cause }) c due.here refl there;
+    ends = λ i c there. ends_set d.endpoints e i x (record x { ended = Some cause }) c due.here refl refl refl there;
+    waiting = refl;
+    rung = refl;
+    met = met;
     here = due.there;
     held = held;
     waits = y_is.1;
@@ -257,7 +279,10 @@ module _ (p : Parts) (e t : ℕ) (found : Found) (parts : StructureSets) (order 
     idle = due.idle;
     idle_now = due.idle;
     notes = λ b. note_same d.notes y.place n b;
-    ends = λ i c there. ends_set d.endpoints e i x (record x { next = _ }) c due.here refl there;
+    ends = λ i c there. ends_set d.endpoints e i x (record x { next = _ }) c due.here refl refl refl there;
+    waiting = refl;
+    rung = refl;
+    met = met;
     here = due.there;
     held = held;
     waits = y_is.1;

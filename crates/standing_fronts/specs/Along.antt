@@ -32,7 +32,7 @@ use Rattle.released_queues.specs.Fronts.{piece_address, FrontsStand}
 use Rattle.published_streams.specs.Storing.{IsStore, out_with, with_out, stored_parts}
 
 abbrev pub LinksOfQueuesRise : DriverContent → StructureSets → (ℕ → ℕ → ℕ) → Type 0
-LinksOfQueuesRise d parts order = (e : ℕ) (x : Endpoint) → slice_get d.endpoints e ≡ Some x → IsMet d x → LinksRise (order (32 * x.queue)) (parts (32 * x.queue))
+LinksOfQueuesRise d parts order = (e : ℕ) (x : Endpoint) → slice_get d.endpoints e ≡ Some x → IsMet d e x → LinksRise (order (32 * x.queue)) (parts (32 * x.queue))
 
 abbrev pub WalkKeepsFronts : {W : Type 0} → (W → Ask → List ℕ → Reply → W → Type 0) → Type 0
 WalkKeepsFronts {W} transacts = (member : ℕ → Bool) (parts : StructureSets) (hand : Hand) (reply : Reply) (wire after : W) (now : StructureSets) (later : Hand) (kind : WalkStep)
@@ -61,11 +61,11 @@ pub record WasOwed (d f : DriverContent) (u : ℕ) (y : Transfer) : Type 0 where
 pub record WasMet (d : DriverContent) (i : ℕ) (x : Endpoint) : Type 0 where
   pub endpoint : Endpoint
   pub here : slice_get d.endpoints i ≡ Some endpoint
-  pub met : IsMet d endpoint
+  pub met : IsMet d i endpoint
   pub queue : x.queue ≡ endpoint.queue
 
 pub record IsAlike (d f : DriverContent) : Type 0 where
-  pub ends : (i : ℕ) (x : Endpoint) → slice_get f.endpoints i ≡ Some x → IsMet f x → WasMet d i x
+  pub ends : (i : ℕ) (x : Endpoint) → slice_get f.endpoints i ≡ Some x → IsMet f i x → WasMet d i x
   pub harvested : f.harvested ≡ d.harvested
   pub owed : (i u : ℕ) (y : Transfer) → slice_get d.harvested i ≡ Some u → slice_get f.transfers u ≡ Some y → y.released ≡ false → WasOwed d f u y
 
@@ -81,5 +81,5 @@ IdleStoreKeepsFronts = (d : DriverContent) (parts : StructureSets) (order : ℕ 
 abbrev pub LastStoreKeepsFronts : Type 0
 LastStoreKeepsFronts = (d : DriverContent) (parts : StructureSets) (order : ℕ → ℕ → ℕ) (out : ℕ → List ℕ) (n e : ℕ) (old new : Qtd) → (s : IsStore (order n) (out n) parts n e old new)
     → new.token.active ≡ true → IsFresh (parts n) new → (stand : FrontsStand d parts order out)
-    → ((i : ℕ) (x : Endpoint) (here : slice_get d.endpoints i ≡ Some x) (met : IsMet d x) → 32 * x.queue ≡ n → (stand i x here met).front ≤ order n e)
+    → ((i : ℕ) (x : Endpoint) (here : slice_get d.endpoints i ≡ Some x) (met : IsMet d i x) → 32 * x.queue ≡ n → (stand i x here met).front ≤ order n e)
     → FrontsStand d (stored_parts parts n e new) order (with_out out n (out_with s))

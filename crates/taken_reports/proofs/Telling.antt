@@ -27,6 +27,8 @@ use Rattle.report_streams.specs.Reports.{WholeReport, is_end, is_pending, taken}
 use Rattle.report_streams.specs.Streams.{is_refused, command_in, accepted_in, open_in, opened as opened_by, has_stream, told, told_in, ends_once, ends_whole}
 use Rattle.driver_rows.specs.declared.content.Endpoint.{Endpoint}
 use Rattle.driver_rows.specs.DriverContent.{endpoint_of, endpoint_named, opened, ended}
+use Rattle.endpoint_lives.specs.Lives.{told_end}
+use Rattle.endpoint_lives.proofs.Lives.{told_some}
 use Rattle.told_endpoints.specs.Telling.{named_of, named_in, lines_in, IsToldTo, TellsEach}
 use Rattle.told_endpoints.proofs.Lines.{once_without}
 use Rattle.bus_world.specs.World.{World}
@@ -107,11 +109,11 @@ pub no_bytes : (o : Option (List ℕ)) → IsToldTaken [] o
 no_bytes None = refl
 no_bytes (Some taken) = (taken, refl)
 
-first_none : (xs ys : List ℕ) → xs ++ ys ≡ [] → xs ≡ []
+pub first_none : (xs ys : List ℕ) → xs ++ ys ≡ [] → xs ≡ []
 first_none [] ys is = refl
 first_none (x ∷ xs) ys is = absurd cc
 
-first_begins : (told held all taken : List ℕ) → told ++ held ≡ all → IsPrefix all taken → IsPrefix told taken
+pub first_begins : (told held all taken : List ℕ) → told ++ held ≡ all → IsPrefix all taken → IsPrefix told taken
 first_begins told held all taken sum k = (held ++ k.0, sym (append_assoc told held k.0) ∙ ap (λ (xs : List ℕ). xs ++ k.0) sum ∙ k.1)
 
 -- ---- one endpoint
@@ -152,26 +154,26 @@ module _ (fixed : Fixed) (w : World) (held told_each : ℕ → List ℕ) (tells 
     sum : told r name ++ held k.number ≡ told_each k.number
     sum = ap (λ (n : EpName). told r n ++ held k.number) (sym k.same) ∙ to.sum
 
-    once_by : (end : Option EndCause) → k.endpoint.ended ≡ end → ends_once (lines_in k.endpoint.desc.name w.driver.reports) ≡ true
+    once_by : (end : Option EndCause) → told_end k.endpoint ≡ end → ends_once (lines_in k.endpoint.desc.name w.driver.reports) ≡ true
     once_by None still = once_without (lines_in k.endpoint.desc.name w.driver.reports) (to.going still)
     once_by (Some cause) over = (to.over cause over).1
 
     ended_is : (end : Option EndCause) → k.endpoint.ended ≡ end → ended w.driver name ≡ end
     ended_is end same = ap (λ (e : Option Endpoint). option_and_then (λ y. y.ended) e) is_named ∙ same
 
-    whole_by : (end : Option EndCause) → k.endpoint.ended ≡ end → ends_whole r name ≡ true
+    whole_by : (end : Option EndCause) → told_end k.endpoint ≡ end → ends_whole r name ≡ true
     whole_by None still =
         ap (λ (b : Bool). not (b && list_any (is_pending name) (closings_of fixed w)))
         (ap (λ (n : EpName). list_any (λ line. is_end line.what) (lines_in n w.driver.reports)) (sym k.same) ∙ to.going still)
     whole_by (Some cause) over =
-        ap (λ (b : Bool). not (list_any (λ line. is_end line.what) (lines_in name w.driver.reports) && b)) (none_pending w name (ap is_none (ended_is (Some cause) over)) fixed)
+        ap (λ (b : Bool). not (list_any (λ line. is_end line.what) (lines_in name w.driver.reports) && b)) (none_pending w name (ap is_none (ended_is (Some cause) (told_some k.endpoint cause over).ended)) fixed)
         ∙ not_both (list_any (λ line. is_end line.what) (lines_in name w.driver.reports))
 
     pub is_told : IsToldTaken (told r name) (taken r name) → IsTakenStream r name
     is_told bytes = record {
       bytes = bytes;
-      once = ap (λ (n : EpName). ends_once (lines_in n w.driver.reports)) (sym k.same) ∙ once_by k.endpoint.ended refl;
-      whole = whole_by k.endpoint.ended refl;
+      once = ap (λ (n : EpName). ends_once (lines_in n w.driver.reports)) (sym k.same) ∙ once_by (told_end k.endpoint) refl;
+      whole = whole_by (told_end k.endpoint) refl;
     }
 
   -- ---- and its taker

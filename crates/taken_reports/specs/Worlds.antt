@@ -1,15 +1,20 @@
 -- A world of bulk endpoints, and what its report tells of OUT endpoints (EHCI 1.0, 4.10; USB 2.0, 8.5 and 8.6).
 --     HaveOuts d outs ends      each queue head of an OUT endpoint that the walk may meet is among these, and this is its endpoint
+--     ClosedOuts d taker ..     what is told of endpoints OUT that have left begins what their devices took
 --     WorldIsTaken              where both sides of their pipes agree, and what is told of each queue is what was harvested of it, what is told begins what
 --                               was taken
-use Rattle.std.specs.Prelude.{◌≡◌, ℕ, ◌*◌, Bool, true, false, List, slice_get, Some}
+use Rattle.std.specs.Prelude.{◌≡◌, ℕ, ◌*◌, Bool, true, false, List, slice_get, Some, Option, take}
 use Rattle.std.specs.List.{concat}
 use Rattle.script_types.specs.declared.scripts.Script.{Script}
 use Rattle.usb_bus.specs.Bus.{Fixed}
 use Rattle.lent_structures.specs.Structures.{StructureSets}
 use Rattle.ring_walk.specs.Hand.{Hand}
 use Rattle.ring_streams.specs.Told.{Endpoint as Told, endpoint_of}
+use Rattle.ring_out_pipes.specs.OutBus.{Taker}
 use Rattle.scripted_takers.specs.Takers.{taker_of}
+use Rattle.endpoint_lives.specs.Lives.{may_meet}
+use Rattle.report_streams.specs.Streams.{told_in}
+use Rattle.told_endpoints.specs.Telling.{lines_in}
 use Rattle.reported_streams.specs.Reported.{AreReported}
 use Rattle.driver_rows.specs.declared.content.Endpoint.{Endpoint}
 use Rattle.driver_rows.specs.DriverContent.{DriverContent}
@@ -17,19 +22,29 @@ use Rattle.driver_rows.specs.Words.{queue_head}
 use Rattle.bus_world.specs.World.{World}
 use Rattle.world_streams.specs.Streaming.{wired}
 use Rattle.out_rows.specs.Outs.{AreOutPiped}
-use Rattle.chained_transfers.specs.Bulk.{receives, BulkOnly}
-use Rattle.fed_queues.specs.Places.{IsMet}
+use Rattle.chained_transfers.specs.Bulk.{receives, BulkOnly, OnlyBulk}
+use Rattle.fed_queues.specs.Places.{IsMet, IsThere}
 use Rattle.told_queues.specs.Told.{ToldStands}
 use Rattle.right_reports.specs.WorldReport.{report_of}
 use Rattle.taken_reports.specs.Seats.{IsSeatedBus}
-use Rattle.taken_reports.specs.Taken.{AreTakenStreams}
+use Rattle.taken_reports.specs.Taken.{IsToldTaken, AreTakenStreams}
+use Rattle.taken_reports.specs.Laws.{bytes_taken}
 
 abbrev pub HaveOuts : DriverContent → (ℕ → Bool) → (ℕ → Told) → Type 0
-HaveOuts d outs ends = (e : ℕ) (x : Endpoint) → slice_get d.endpoints e ≡ Some x → IsMet d x → receives x.desc.name.way ≡ false
+HaveOuts d outs ends = (e : ℕ) (x : Endpoint) → slice_get d.endpoints e ≡ Some x → IsMet d e x → receives x.desc.name.way ≡ false
     → (outs (32 * x.queue) ≡ true) × (ends (32 * x.queue) ≡ endpoint_of (queue_head x.desc 0 x.dummy))
+
+-- of an endpoint OUT that has left, and of one that was given back, what was moved and what is told begins what its device took
+pub record ClosedOuts {W : Type 0} (d : DriverContent) (taker : W → ℕ → ℕ → Option Taker) (acc : ℕ → List (List ℕ)) (wire : W) : Type 0 where
+  pub left : (e : ℕ) (x : Endpoint) → slice_get d.endpoints e ≡ Some x → receives x.desc.name.way ≡ false → IsThere d x → may_meet d e x ≡ false
+      → IsToldTaken (concat (acc (32 * x.queue))) (bytes_taken (taker wire x.desc.name.addr x.desc.name.num))
+  pub gone : (e : ℕ) (x : Endpoint) → slice_get d.endpoints e ≡ Some x → receives x.desc.name.way ≡ false → x.gone ≡ true
+      → IsToldTaken (told_in d.store (lines_in x.desc.name d.reports)) (bytes_taken (taker wire x.desc.name.addr x.desc.name.num))
 
 abbrev pub WorldIsTaken : Type 0
 WorldIsTaken = (script : Script) (fixed : Fixed) (takes : ℕ → ℕ → Bool) (member outs heads : ℕ → Bool) (ends : ℕ → Told) (order : ℕ → ℕ → ℕ) (out reported : ℕ → List ℕ)
-    (acc : ℕ → List (List ℕ)) (parts : StructureSets) (hand : Hand) (w : World) → BulkOnly script → IsSeatedBus script fixed w.bus
+    (acc : ℕ → List (List ℕ)) (parts : StructureSets) (hand : Hand) (w : World) → BulkOnly script → IsSeatedBus script fixed w.bus → OnlyBulk w.driver
     → AreOutPiped takes taker_of member outs ends (λ n. concat (acc n)) parts hand (wired fixed w) → AreReported heads order out hand parts acc reported
-    → ((n : ℕ) → outs n ≡ true → heads n ≡ true) → HaveOuts w.driver outs ends → ToldStands w.driver hand parts reported → AreTakenStreams script (report_of fixed w)
+    → ((n : ℕ) → outs n ≡ true → heads n ≡ true) → HaveOuts w.driver outs ends
+    → ((e : ℕ) (x : Endpoint) → slice_get w.driver.endpoints e ≡ Some x → IsThere w.driver x → heads (32 * x.queue) ≡ true)
+    → ClosedOuts w.driver taker_of acc (wired fixed w) → ToldStands w.driver hand parts reported → AreTakenStreams script (report_of fixed w)

@@ -17,13 +17,14 @@ use Rattle.usb_bus.specs.Fates.{is_same_name}
 use Rattle.report_streams.specs.Reports.{is_end, is_line_of}
 use Rattle.report_streams.specs.Streams.{told_in, ends_once}
 use Rattle.driver_rows.specs.declared.content.Endpoint.{Endpoint}
+use Rattle.endpoint_lives.specs.Lives.{told_end}
 
 pub record Named : Type 0 where
   pub name : EpName
   pub ended : Option EndCause
 
 abbrev pub named_of : Endpoint → Named
-named_of x = record { name = x.desc.name; ended = x.ended }
+named_of x = record { name = x.desc.name; ended = told_end x }
 
 abbrev pub named_in : List Endpoint → ℕ → Option Named
 named_in xs e = option_map named_of (slice_get xs e)

@@ -27,8 +27,8 @@ use Rattle.harvest_rows.proofs.Rows.{cleared_at}
 use Rattle.held_commands.specs.Laws.{AreThere}
 use Rattle.held_commands.proofs.Opening.{push_which, set_which, open_holds}
 use Rattle.held_commands.proofs.Asking.{ask_holds}
-use Rattle.fed_queues.specs.Places.{IsMet}
 use Rattle.told_queues.specs.Told.{ToldStands}
+use Rattle.fed_queues.specs.Places.{IsThere}
 
 -- ---- lists
 
@@ -93,7 +93,7 @@ named_there xs e x is = by_end (slice_get xs e) refl is
 
 -- ---- an endpoint is opened
 
-pub opened_told : (d : DriverContent) (m : Mem) (o : Offered) (hand : Hand) (parts : StructureSets) (reported : ℕ → List ℕ) → IsOpened d m o → ((e : ℕ) (x : Endpoint) → slice_get d.endpoints e ≡ Some x → o.driver.command ≢ Some (unfinished.Open x.queue))
+pub opened_told : (d : DriverContent) (m : Mem) (o : Offered) (hand : Hand) (parts : StructureSets) (reported : ℕ → List ℕ) → IsOpened d m o → ((e : ℕ) (x : Endpoint) → slice_get d.endpoints e ≡ Some x → x.gone ≡ false → o.driver.command ≢ Some (unfinished.Open x.queue))
     → ToldStands d hand parts reported → ToldStands o.driver hand parts reported
 opened_told d m o hand parts reported opened others k = record {
   held = later;
@@ -108,10 +108,10 @@ opened_told d m o hand parts reported opened others k = record {
       clears.here (cleared_at n k.told).here
       (tells_like d.reports d.store (named_in d.endpoints) k.held later k.told now (λ e y here. let z = named_there d.endpoints e y here in (clears.beside e (older e z.0 z.1), (cleared_at n k.told).beside e (older e z.0 z.1))) k.tells));
   met = λ e y here meets.
-      ⊎_elim (λ (was : slice_get d.endpoints e ≡ Some y). (cleared_at n k.told).beside e (older e y was) ∙ k.met e y was (idle y))
-      (λ (new : (e ≡ n) × (y ≡ x)). absurd (meets (ap (λ (g : Offered). g.driver.command) opened.opens.is ∙ ap (λ (v : Endpoint). Some (unfinished.Open v.queue)) (sym new.1)))) (which e y here);
-  opening = λ e y here is.
-      ⊎_elim (λ (was : slice_get d.endpoints e ≡ Some y). absurd (others e y was is)) (λ (new : (e ≡ n) × (y ≡ x)). ap now new.0 ∙ (cleared_at n k.told).here) (which e y here);
+      ⊎_elim (λ (was : slice_get d.endpoints e ≡ Some y). (cleared_at n k.told).beside e (older e y was) ∙ k.met e y was (idle y meets.kept))
+      (λ (new : (e ≡ n) × (y ≡ x)). absurd (meets.linked (ap (λ (g : Offered). g.driver.command) opened.opens.is ∙ ap (λ (v : Endpoint). Some (unfinished.Open v.queue)) (sym new.1)))) (which e y here);
+  opening = λ e y here kept is.
+      ⊎_elim (λ (was : slice_get d.endpoints e ≡ Some y). absurd (others e y was kept is)) (λ (new : (e ≡ n) × (y ≡ x)). ap now new.0 ∙ (cleared_at n k.told).here) (which e y here);
 }
   where
     x : Endpoint
@@ -135,8 +135,8 @@ opened_told d m o hand parts reported opened others k = record {
     no_open : (b : ℕ) → None ≡ Some (unfinished.Open b) → ⊥
     no_open b is = cc
 
-    idle : (y : Endpoint) → IsMet d y
-    idle y is = no_open y.queue (sym opened.opens.idle ∙ is)
+    idle : (y : Endpoint) → y.gone ≡ false → IsThere d y
+    idle y kept = record { linked = λ is. no_open y.queue (sym opened.opens.idle ∙ is); kept = kept }
 
     which : (e : ℕ) (y : Endpoint) → slice_get o.driver.endpoints e ≡ Some y → (slice_get d.endpoints e ≡ Some y) ⊎ ((e ≡ length d.endpoints) × (y ≡ x))
     which e y here = push_which d.endpoints x e y (ap (λ (g : Offered). slice_get g.driver.endpoints e) (sym opened.opens.is) ∙ here)
@@ -152,15 +152,15 @@ asked_told d m o hand parts reported asked stands owners there places k = record
   tells = subst (λ (ls : List Report). TellsEach ls o.driver.store (named_in o.driver.endpoints) k.held k.told) (sym (ap (λ (g : Offered). g.driver.reports) asked.transfers.is))
       (subst (λ (bs : List ℕ). TellsEach d.reports bs (named_in o.driver.endpoints) k.held k.told) (sym (ap (λ (g : Offered). g.driver.store) asked.transfers.is))
       (names_kept d.reports d.store (named_in d.endpoints) (named_in o.driver.endpoints) k.held k.told names k.tells));
-  met = λ e y here meets. let w = was e y here in k.met e w.0 w.1 (idle w.0) ∙ ap (λ (q : ℕ). reported (32 * q)) w.2;
-  opening = λ e y here is. absurd (no_publish y.queue is);
+  met = λ e y here meets. let w = was e y here in k.met e w.0 w.1 (idle w.0 (w.3 ∙ meets.kept)) ∙ ap (λ (q : ℕ). reported (32 * q)) w.2;
+  opening = λ e y here kept is. absurd (no_publish y.queue is);
 }
   where
     no_open : (b : ℕ) → None ≡ Some (unfinished.Open b) → ⊥
     no_open b is = cc
 
-    idle : (y : Endpoint) → IsMet d y
-    idle y is = no_open y.queue (sym asked.transfers.idle ∙ is)
+    idle : (y : Endpoint) → y.gone ≡ false → IsThere d y
+    idle y kept = record { linked = λ is. no_open y.queue (sym asked.transfers.idle ∙ is); kept = kept }
 
     not_publish : (b c : ℕ) (words : List ℕ) → Some (unfinished.Publish c words) ≡ Some (unfinished.Open b) → ⊥
     not_publish b c words is = cc
@@ -168,11 +168,11 @@ asked_told d m o hand parts reported asked stands owners there places k = record
     no_publish : (b : ℕ) → o.driver.command ≡ Some (unfinished.Open b) → ⊥
     no_publish b is = not_publish b asked.transfers.endpoint.dummy _ (sym (ap (λ (g : Offered). g.driver.command) asked.transfers.is) ∙ is)
 
-    was : (e : ℕ) (y : Endpoint) → slice_get o.driver.endpoints e ≡ Some y → (z : Endpoint) × (slice_get d.endpoints e ≡ Some z) × (z.queue ≡ y.queue)
+    was : (e : ℕ) (y : Endpoint) → slice_get o.driver.endpoints e ≡ Some y → (z : Endpoint) × (slice_get d.endpoints e ≡ Some z) × (z.queue ≡ y.queue) × (z.gone ≡ y.gone)
     was e y here =
         let at = ap (λ (g : Offered). slice_get g.driver.endpoints e) (sym asked.transfers.is) ∙ here in
-        ⊎_elim (λ own. (asked.transfers.endpoint, ap (slice_get d.endpoints) own.0 ∙ asked.transfers.here, sym (ap (λ (v : Endpoint). v.queue) own.1)))
-        (λ other. (y, other.1, refl)) (set_which d.endpoints asked.transfers.number e asked.transfers.endpoint _ y asked.transfers.here at)
+        ⊎_elim (λ own. (asked.transfers.endpoint, ap (slice_get d.endpoints) own.0 ∙ asked.transfers.here, sym (ap (λ (v : Endpoint). v.queue) own.1), sym (ap (λ (v : Endpoint). v.gone) own.1)))
+        (λ other. (y, other.1, refl, refl)) (set_which d.endpoints asked.transfers.number e asked.transfers.endpoint _ y asked.transfers.here at)
 
     name_at : (xs : List Endpoint) (n : ℕ) (x w : Endpoint) → slice_get xs n ≡ Some x → named_of w ≡ named_of x → (e : ℕ) → named_in (slice_set xs n w) e ≡ named_in xs e
     name_at xs n x w here same e =

@@ -1,5 +1,5 @@
 -- What is told of each queue after a harvest.
-use Rattle.std.proofs.Common.{◌≡◌, ◌≢◌, ℕ, ◌*◌, Bool, if◌then◌else◌, ◌==◌, List, ◌++◌, slice_get, Some, None, ap, sym, ◌∙◌, ⊎_elim, arith}
+use Rattle.std.proofs.Common.{◌≡◌, ◌≢◌, ℕ, ◌*◌, Bool, if◌then◌else◌, ◌==◌, List, ◌++◌, slice_get, Some, None, ap, sym, ◌∙◌, ⊎_elim, arith, false}
 use Rattle.std.proofs.lemmas.Bool.{cases_eq}
 use Rattle.std.proofs.lemmas.Option.{same_Some}
 use Rattle.std.proofs.lemmas.List.{append_assoc}
@@ -18,12 +18,12 @@ use Rattle.harvest_rows.specs.Laws.{IsReadNext, CanBeRead, HarvestGoesOn}
 use Rattle.harvest_rows.proofs.Rows.{grown_at}
 use Rattle.harvest_rows.proofs.Harvesting.{harvest_is_told}
 use Rattle.reported_streams.specs.Reported.{IsReported}
-use Rattle.fed_queues.specs.Places.{IsMet}
 use Rattle.told_queues.specs.Told.{ToldStands}
 use Rattle.told_queues.specs.Laws.{HarvestReports}
+use Rattle.fed_queues.specs.Places.{IsThere}
 
 pub harvested_told : (member : ℕ → Bool) (order : ℕ → ℕ) (d : DriverContent) (m : Mem) (parts : StructureSets) (hand : Hand) (e t : ℕ) (x : Endpoint) (y : Transfer) (found : Found) (acc : List (List ℕ)) (reported : ℕ → List ℕ)
-    → IsReadNext d e t x y → CanBeRead member d m parts hand e t x y → ((k : ℕ) (z : Endpoint) → slice_get d.endpoints k ≡ Some z → z.queue ≡ x.queue → k ≡ e)
+    → IsReadNext d e t x y → CanBeRead member d m parts hand e t x y → ((k : ℕ) (z : Endpoint) → slice_get d.endpoints k ≡ Some z → z.gone ≡ false → z.queue ≡ x.queue → k ≡ e)
     → found ≡ found_of d m y y.sort → ToldStands d hand parts reported → IsReported order (out_now d e) hand parts (32 * x.queue) acc (reported (32 * x.queue))
     → HarvestReports order d (after_harvest d m e t found (Some x) (Some y)) hand parts e x acc reported
 harvested_told member order d m parts hand e t x y found acc reported n c alone is k r = record {
@@ -37,12 +37,13 @@ harvested_told member order d m parts hand e t x y found acc reported n c alone 
         let had : HadQueue d f z = h.tells.queues f z at in
         ⊎_elim (λ (own : f ≡ e).
         let x_is : had.endpoint ≡ x = same_Some had.endpoint x (sym had.here ∙ ap (slice_get d.endpoints) own ∙ n.next.endpoint) in
+        let kept : x.gone ≡ false = ap (λ (v : Endpoint). v.gone) (sym x_is) ∙ sym had.gone ∙ meets.kept in
         let q_is : z.queue ≡ x.queue = had.same ∙ ap (λ (v : Endpoint). v.queue) x_is in
-        ap told_now own ∙ (grown_at e h.bytes k.told).here ∙ ap (λ (xs : List ℕ). xs ++ h.bytes) (k.met e x n.next.endpoint (idle x)) ∙ sym here ∙ ap (λ (q : ℕ). now (32 * q)) (sym q_is))
+        ap told_now own ∙ (grown_at e h.bytes k.told).here ∙ ap (λ (xs : List ℕ). xs ++ h.bytes) (k.met e x n.next.endpoint (idle x kept)) ∙ sym here ∙ ap (λ (q : ℕ). now (32 * q)) (sym q_is))
         (λ (differs : f ≢ e).
-        (grown_at e h.bytes k.told).beside f differs ∙ k.met f had.endpoint had.here (idle had.endpoint) ∙ ap (λ (q : ℕ). reported (32 * q)) (sym had.same)
-        ∙ sym (beside (32 * z.queue) (λ same. differs (alone f had.endpoint had.here (sym had.same ∙ (let q : z.queue ≡ x.queue = omega (arith, same) in q)))))) (cases_eq f e);
-    opening = λ f z at opens. absurd (idle z (sym h.tells.command ∙ opens));
+        (grown_at e h.bytes k.told).beside f differs ∙ k.met f had.endpoint had.here (idle had.endpoint (sym had.gone ∙ meets.kept)) ∙ ap (λ (q : ℕ). reported (32 * q)) (sym had.same)
+        ∙ sym (beside (32 * z.queue) (λ same. differs (alone f had.endpoint had.here (sym had.gone ∙ meets.kept) (sym had.same ∙ (let q : z.queue ≡ x.queue = omega (arith, same) in q)))))) (cases_eq f e);
+    opening = λ f z at kept opens. absurd (no_open z.queue (sym n.command ∙ sym h.tells.command ∙ opens));
   };
   right = record {
     place = r.place;
@@ -62,5 +63,5 @@ harvested_told member order d m parts hand e t x y found acc reported n c alone 
     no_open : (b : ℕ) → None ≡ Some (unfinished.Open b) → ⊥
     no_open b is_open = cc
 
-    idle : (z : Endpoint) → IsMet d z
-    idle z opens = no_open z.queue (sym n.command ∙ opens)
+    idle : (z : Endpoint) → z.gone ≡ false → IsThere d z
+    idle z kept = record { linked = λ opens. no_open z.queue (sym n.command ∙ opens); kept = kept }

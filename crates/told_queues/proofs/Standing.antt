@@ -30,9 +30,9 @@ use Rattle.harvest_rows.proofs.Begun.{opening_holds, opening_tells}
 use Rattle.held_commands.specs.Laws.{AreThere}
 use Rattle.held_commands.proofs.Opening.{return_holds}
 use Rattle.kept_structures.specs.Kept.{KeepsEach}
-use Rattle.fed_queues.specs.Places.{IsMet}
 use Rattle.told_queues.specs.Told.{ToldStands}
 use Rattle.told_queues.specs.Laws.{SparesDone, IsAlike}
+use Rattle.fed_queues.specs.Places.{IsThere}
 
 nothing_at : {X : Type 0} (i : ℕ) (z : X) → slice_get [] i ≡ Some z → ⊥
 nothing_at zero z is = cc
@@ -45,7 +45,7 @@ new_told n room hand parts reported = record {
   holds = opening_holds n room hand parts;
   tells = opening_tells n room;
   met = λ e x here meets. absurd (nothing_at e x here);
-  opening = λ e x here opens. absurd (nothing_at e x here);
+  opening = λ e x here kept opens. absurd (nothing_at e x here);
 }
 
 -- ---- structures
@@ -85,7 +85,7 @@ tells_alike d new held told reports store ends k =
     subst (λ (xs : List Endpoint). TellsEach new.reports new.store (named_in xs) held told) (sym ends)
     (subst (λ (ls : List Report). TellsEach ls new.store (named_in d.endpoints) held told) (sym reports) (subst (λ (bs : List ℕ). TellsEach d.reports bs (named_in d.endpoints) held told) (sym store) k))
 
-pub alike_told : (d new : DriverContent) (hand : Hand) (parts : StructureSets) (reported : ℕ → List ℕ) → IsAlike d new → ((x : Endpoint) → IsMet new x → IsMet d x)
+pub alike_told : (d new : DriverContent) (hand : Hand) (parts : StructureSets) (reported : ℕ → List ℕ) → IsAlike d new → ((x : Endpoint) → IsThere new x → IsThere d x)
     → ((x : Endpoint) → new.command ≡ Some (unfinished.Open x.queue) → d.command ≡ Some (unfinished.Open x.queue)) → ToldStands d hand parts reported → ToldStands new hand parts reported
 alike_told d new hand parts reported a met opens k = record {
   held = k.held;
@@ -93,7 +93,7 @@ alike_told d new hand parts reported a met opens k = record {
   holds = holds_same d new hand parts k.held a.endpoints a.transfers a.notes k.holds;
   tells = tells_alike d new k.held k.told a.reports a.store a.endpoints k.tells;
   met = λ e x here meets. k.met e x (ap (λ (xs : List Endpoint). slice_get xs e) (sym a.endpoints) ∙ here) (met x meets);
-  opening = λ e x here is. k.opening e x (ap (λ (xs : List Endpoint). slice_get xs e) (sym a.endpoints) ∙ here) (opens x is);
+  opening = λ e x here kept is. k.opening e x (ap (λ (xs : List Endpoint). slice_get xs e) (sym a.endpoints) ∙ here) kept (opens x is);
 }
 
 queue_in : Option Command → ℕ
@@ -113,9 +113,9 @@ met_told d new hand parts reported now b a opens done here beside k = record {
   tells = tells_alike d new k.held k.told a.reports a.store a.endpoints k.tells;
   met = λ e x at meets.
       let there : slice_get d.endpoints e ≡ Some x = ap (λ (xs : List Endpoint). slice_get xs e) (sym a.endpoints) ∙ at in
-      ⊎_elim (λ (is : x.queue ≡ b). k.opening e x there (opens ∙ ap (λ (c : ℕ). Some (unfinished.Open c)) (sym is)) ∙ sym (ap (λ (c : ℕ). now (32 * c)) is ∙ here))
-      (λ (differs : x.queue ≢ b). k.met e x there (λ is. differs (sym (same_queue b x.queue (sym opens ∙ is)))) ∙ sym (beside (32 * x.queue) (λ same. differs (omega (arith, same))))) (cases_eq x.queue b);
-  opening = λ e x at is. absurd (no_open x.queue (sym done ∙ is));
+      ⊎_elim (λ (is : x.queue ≡ b). k.opening e x there meets.kept (opens ∙ ap (λ (c : ℕ). Some (unfinished.Open c)) (sym is)) ∙ sym (ap (λ (c : ℕ). now (32 * c)) is ∙ here))
+      (λ (differs : x.queue ≢ b). k.met e x there (record { linked = λ is. differs (sym (same_queue b x.queue (sym opens ∙ is))); kept = meets.kept }) ∙ sym (beside (32 * x.queue) (λ same. differs (omega (arith, same))))) (cases_eq x.queue b);
+  opening = λ e x at kept is. absurd (no_open x.queue (sym done ∙ is));
 }
   where
     no_open : (c : ℕ) → None ≡ Some (unfinished.Open c) → ⊥
@@ -131,8 +131,8 @@ refused_told d new hand parts reported line refusal from none reports store ends
   tells = subst (λ (xs : List Endpoint). TellsEach new.reports new.store (named_in xs) k.held k.told) (sym ends)
       (subst (λ (ls : List Report). TellsEach ls new.store (named_in d.endpoints) k.held k.told) (sym reports)
       (subst (λ (bs : List ℕ). TellsEach (d.reports ++ line ∷ []) bs (named_in d.endpoints) k.held k.told) (sym store) (refusal_added d.reports d.store (named_in d.endpoints) k.held k.told line refusal from none k.tells)));
-  met = λ e x here meets. k.met e x (ap (λ (xs : List Endpoint). slice_get xs e) (sym ends) ∙ here) (λ is. meets (command ∙ is));
-  opening = λ e x here is. k.opening e x (ap (λ (xs : List Endpoint). slice_get xs e) (sym ends) ∙ here) (sym command ∙ is);
+  met = λ e x here meets. k.met e x (ap (λ (xs : List Endpoint). slice_get xs e) (sym ends) ∙ here) (record { linked = λ is. meets.linked (command ∙ is); kept = meets.kept });
+  opening = λ e x here kept is. k.opening e x (ap (λ (xs : List Endpoint). slice_get xs e) (sym ends) ∙ here) kept (sym command ∙ is);
 }
 
 pub returned_told : (d new : DriverContent) (t : ℕ) (y : Transfer) (hand : Hand) (parts : StructureSets) (reported : ℕ → List ℕ) → slice_get d.transfers t ≡ Some y → y.reported ≡ true → AreThere d
@@ -143,6 +143,6 @@ returned_told d new t y hand parts reported here told there reports store ends t
   told = k.told;
   holds = return_holds d new t y hand parts k.held here told there ends transfers notes k.holds;
   tells = tells_alike d new k.held k.told reports store ends k.tells;
-  met = λ e x at meets. k.met e x (ap (λ (xs : List Endpoint). slice_get xs e) (sym ends) ∙ at) (λ is. meets (command ∙ is));
-  opening = λ e x at is. k.opening e x (ap (λ (xs : List Endpoint). slice_get xs e) (sym ends) ∙ at) (sym command ∙ is);
+  met = λ e x at meets. k.met e x (ap (λ (xs : List Endpoint). slice_get xs e) (sym ends) ∙ at) (record { linked = λ is. meets.linked (command ∙ is); kept = meets.kept });
+  opening = λ e x at kept is. k.opening e x (ap (λ (xs : List Endpoint). slice_get xs e) (sym ends) ∙ at) kept (sym command ∙ is);
 }

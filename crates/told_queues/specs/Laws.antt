@@ -1,5 +1,5 @@
 -- Laws of what a driver's report tells of each queue.
-use Rattle.std.specs.Prelude.{◌≡◌, ◌≢◌, ℕ, ◌-◌, ◌*◌, Bool, true, List, [], ◌∷◌, ◌++◌, length, slice_get, slice_set, Some, None}
+use Rattle.std.specs.Prelude.{◌≡◌, ◌≢◌, ℕ, ◌-◌, ◌*◌, Bool, true, List, [], ◌∷◌, ◌++◌, length, slice_get, slice_set, Some, None, false}
 use Rattle.usb_base.specs.declared.reports.Report.{Report}
 use Rattle.word_mem.specs.Memory.{Mem}
 use Rattle.run_book.specs.Book.{holding, Stands}
@@ -27,7 +27,7 @@ use Rattle.told_harvests.specs.Held.{IsOneFrom}
 use Rattle.harvest_rows.specs.Holds.{IsNextOf}
 use Rattle.harvest_rows.specs.Laws.{IsReadNext, CanBeRead}
 use Rattle.reported_streams.specs.Reported.{IsReported}
-use Rattle.fed_queues.specs.Places.{IsMet}
+use Rattle.fed_queues.specs.Places.{IsThere}
 use Rattle.told_queues.specs.Told.{ToldStands}
 
 abbrev pub NewIsTold : Type 0
@@ -55,7 +55,7 @@ pub record IsAlike (d new : DriverContent) : Type 0 where
   pub notes : new.notes ≡ d.notes
 
 abbrev pub AlikeIsTold : Type 0
-AlikeIsTold = (d new : DriverContent) (hand : Hand) (parts : StructureSets) (reported : ℕ → List ℕ) → IsAlike d new → ((x : Endpoint) → IsMet new x → IsMet d x)
+AlikeIsTold = (d new : DriverContent) (hand : Hand) (parts : StructureSets) (reported : ℕ → List ℕ) → IsAlike d new → ((x : Endpoint) → IsThere new x → IsThere d x)
     → ((x : Endpoint) → new.command ≡ Some (unfinished.Open x.queue) → d.command ≡ Some (unfinished.Open x.queue)) → ToldStands d hand parts reported → ToldStands new hand parts reported
 
 -- the open of the queue head in block b is finished
@@ -72,7 +72,7 @@ RefusedIsTold = (d new : DriverContent) (hand : Hand) (parts : StructureSets) (r
 -- it is accepted
 abbrev pub OpenedIsTold : Type 0
 OpenedIsTold = (d : DriverContent) (m : Mem) (o : Offered) (hand : Hand) (parts : StructureSets) (reported : ℕ → List ℕ) → IsOpened d m o
-    → ((e : ℕ) (x : Endpoint) → slice_get d.endpoints e ≡ Some x → o.driver.command ≢ Some (unfinished.Open x.queue)) → ToldStands d hand parts reported → ToldStands o.driver hand parts reported
+    → ((e : ℕ) (x : Endpoint) → slice_get d.endpoints e ≡ Some x → x.gone ≡ false → o.driver.command ≢ Some (unfinished.Open x.queue)) → ToldStands d hand parts reported → ToldStands o.driver hand parts reported
 
 abbrev pub AskedIsTold : Type 0
 AskedIsTold = (d : DriverContent) (m : Mem) (o : Offered) (hand : Hand) (parts : StructureSets) (reported : ℕ → List ℕ) → IsAsked d m o → Stands (holding d.book m) → HasOwners d
@@ -98,6 +98,6 @@ pub record HarvestReports (order : ℕ → ℕ) (d new : DriverContent) (hand : 
 abbrev pub HarvestedIsTold : Type 0
 HarvestedIsTold = (member : ℕ → Bool) (order : ℕ → ℕ) (d : DriverContent) (m : Mem) (parts : StructureSets) (hand : Hand) (e t : ℕ) (x : Endpoint) (y : Transfer) (found : Found)
     (acc : List (List ℕ)) (reported : ℕ → List ℕ)
-    → IsReadNext d e t x y → CanBeRead member d m parts hand e t x y → ((k : ℕ) (z : Endpoint) → slice_get d.endpoints k ≡ Some z → z.queue ≡ x.queue → k ≡ e)
+    → IsReadNext d e t x y → CanBeRead member d m parts hand e t x y → ((k : ℕ) (z : Endpoint) → slice_get d.endpoints k ≡ Some z → z.gone ≡ false → z.queue ≡ x.queue → k ≡ e)
     → found ≡ found_of d m y y.sort → ToldStands d hand parts reported → IsReported order (out_now d e) hand parts (32 * x.queue) acc (reported (32 * x.queue))
     → HarvestReports order d (after_harvest d m e t found (Some x) (Some y)) hand parts e x acc reported

@@ -1,5 +1,5 @@
 -- What is told of the driver's queues stays: the endpoint that leaves has its queue still, and the walk may meet it.
-use Rattle.std.proofs.Common.{◌≡◌, ◌≢◌, ℕ, suc, ◌*◌, Bool, true, false, nat_eq, if◌then◌else◌, List, [], ◌∷◌, ◌++◌, length, slice_get, Option, Some, None, ap, refl, sym, subst, ◌∙◌, ⊎_elim, inl, inr, arith}
+use Rattle.std.proofs.Common.{◌≡◌, ◌≢◌, ℕ, suc, ◌*◌, Bool, true, false, nat_eq, if◌then◌else◌, List, [], ◌∷◌, ◌++◌, length, slice_get, Option, Some, None, ap, refl, sym, subst, ◌∙◌, ⊎_elim, inl, inr, arith, ◌||◌}
 use Rattle.std.proofs.lemmas.Bool.{cases_eq}
 use Rattle.std.proofs.lemmas.Option.{same_Some}
 use Rattle.usb_base.specs.declared.endpoints.EpDesc.{EpDesc}
@@ -25,11 +25,13 @@ use Rattle.chained_transfers.specs.Bulk.{receives}
 use Rattle.chained_transfers.specs.Chains.{piece_at}
 use Rattle.chained_transfers.specs.Out.{unpublished, out_of_transfer, out_of, out_now}
 use Rattle.fed_queues.specs.Fed.{IsPieceFed, unpublished_of, AreFed}
-use Rattle.fed_queues.specs.Places.{IsMet, HasHead, AreMet, HaveStreams, IsLast, AreLast, AreStillOut}
+use Rattle.fed_queues.specs.Places.{IsMet, HasHead, AreMet, HaveStreams, IsLast, AreLast, AreStillOut, IsThere}
 use Rattle.fed_stores.specs.Stores.{QueuesThen}
 use Rattle.unlinked_streams.specs.Unlinks.{IsAtUnlink, driver_then, parts_unlinked, UnlinkLeavesQueues}
 use Rattle.unlinked_streams.proofs.Passing.{driver_is}
 use Rattle.unlinked_streams.proofs.Sparing.{stays, element_stays, element_was, buffer_stays}
+use Rattle.endpoint_lives.specs.Lives.{is_one_of, may_meet}
+use Rattle.endpoint_lives.proofs.Lives.{one_of_end, one_of_others, linked_met, waiting_met}
 
 -- ---- the command
 
@@ -57,12 +59,15 @@ none_published b words same = cc
 -- ---- endpoints
 
 -- endpoint i was this one, but for its place in the ring
-pub record WasThere (d : DriverContent) (i : ℕ) (y : Endpoint) : Type 0 where
+pub record WasThere (d f : DriverContent) (i : ℕ) (y : Endpoint) : Type 0 where
   pub endpoint : Endpoint
   pub here : slice_get d.endpoints i ≡ Some endpoint
   pub desc : y.desc ≡ endpoint.desc
   pub queue : y.queue ≡ endpoint.queue
   pub dummy : y.dummy ≡ endpoint.dummy
+  pub gone : y.gone ≡ endpoint.gone
+  -- it may be met as before: one that leaves waits for the doorbell
+  pub near : may_meet f i y ≡ may_meet d i endpoint
 
 module _ (d : DriverContent) (member : ℕ → Bool) (parts : StructureSets) (k : IsAtUnlink d member parts) where
   abbrev e : ℕ
@@ -86,7 +91,7 @@ module _ (d : DriverContent) (member : ℕ → Bool) (parts : StructureSets) (k 
   abbrev now : StructureSets
   now = parts_unlinked parts k.before k.queue k.after
 
-  was : (i : ℕ) (y : Endpoint) → slice_get f.endpoints i ≡ Some y → WasThere d i y
+  was : (i : ℕ) (y : Endpoint) → slice_get f.endpoints i ≡ Some y → WasThere d f i y
   was i y there =
       ⊎_elim (λ (same : i ≡ e).
       let is : left ≡ y = same_Some left y (sym (set_here d.endpoints e x left k.here) ∙ ap (slice_get f.endpoints) (sym same) ∙ there) in
@@ -96,34 +101,73 @@ module _ (d : DriverContent) (member : ℕ → Bool) (parts : StructureSets) (k 
         desc = ap (λ (z : Endpoint). z.desc) (sym is);
         queue = ap (λ (z : Endpoint). z.queue) (sym is);
         dummy = ap (λ (z : Endpoint). z.dummy) (sym is);
+        gone = ap (λ (z : Endpoint). z.gone) (sym is);
+        near = waiting_met f i y (ap (λ (j : ℕ). is_one_of j f.waiting) same ∙ one_of_end e d.waiting) ∙ sym (linked_met d i x k.linked);
       })
-      (λ (differs : i ≢ e). record { endpoint = y; here = sym (set_there d.endpoints e i left differs) ∙ there; desc = refl; queue = refl; dummy = refl }) (cases_eq i e)
+      (λ (differs : i ≢ e). record {
+        endpoint = y;
+        here = sym (set_there d.endpoints e i left differs) ∙ there;
+        desc = refl;
+        queue = refl;
+        dummy = refl;
+        gone = refl;
+        near = ap (λ (b : Bool). y.linked || (b || is_one_of i d.rung)) (one_of_others i e d.waiting differs);
+      }) (cases_eq i e)
 
-  met_before : (y : Endpoint) → IsMet d y
-  met_before y same = not_opened e k.before (queue_head_link k.after) y.queue (sym k.command ∙ same)
+  is_now : (i : ℕ) (y : Endpoint) → slice_get d.endpoints i ≡ Some y → WasThere f d i y
+  is_now i y there =
+      ⊎_elim (λ (same : i ≡ e).
+      let is : y ≡ x = same_Some y x (sym there ∙ ap (slice_get d.endpoints) same ∙ k.here) in
+      record {
+        endpoint = left;
+        here = ap (slice_get f.endpoints) same ∙ set_here d.endpoints e x left k.here;
+        desc = ap (λ (z : Endpoint). z.desc) is;
+        queue = ap (λ (z : Endpoint). z.queue) is;
+        dummy = ap (λ (z : Endpoint). z.dummy) is;
+        gone = ap (λ (z : Endpoint). z.gone) is;
+        near = linked_met d i y (ap (λ (z : Endpoint). z.linked) is ∙ k.linked) ∙ sym (waiting_met f i left (ap (λ (j : ℕ). is_one_of j f.waiting) same ∙ one_of_end e d.waiting));
+      })
+      (λ (differs : i ≢ e). record {
+        endpoint = y;
+        here = set_there d.endpoints e i left differs ∙ there;
+        desc = refl;
+        queue = refl;
+        dummy = refl;
+        gone = refl;
+        near = sym (ap (λ (b : Bool). y.linked || (b || is_one_of i d.rung)) (one_of_others i e d.waiting differs));
+      }) (cases_eq i e)
+
+  there_before : (y : Endpoint) → y.gone ≡ false → IsThere d y
+  there_before y kept = record { linked = λ same. not_opened e k.before (queue_head_link k.after) y.queue (sym k.command ∙ same); kept = kept }
+
+  met_before : (i : ℕ) (y : Endpoint) (w : WasThere d f i y) → IsMet f i y → IsMet d i w.endpoint
+  met_before i y w met = record { there = there_before w.endpoint (sym w.gone ∙ met.there.kept); near = sym w.near ∙ met.near }
 
   still : (n : ℕ) → HasHead d n → HasHead f n
   still n h =
-      ⊎_elim (λ (same : h.number ≡ e).
-      let is : h.endpoint ≡ x = same_Some h.endpoint x (sym h.here ∙ ap (slice_get d.endpoints) same ∙ k.here) in
-      record { number = e; endpoint = left; here = set_here d.endpoints e x left k.here; met = none_open x.queue; at = h.at ∙ ap (λ (z : Endpoint). 32 * z.queue) is })
-      (λ (differs : h.number ≢ e). record { number = h.number; endpoint = h.endpoint; here = set_there d.endpoints e h.number left differs ∙ h.here; met = none_open h.endpoint.queue; at = h.at })
-      (cases_eq h.number e)
+      let w = is_now h.number h.endpoint h.here in
+      record {
+        number = h.number;
+        endpoint = w.endpoint;
+        here = w.here;
+        met = record { there = record { linked = none_open w.endpoint.queue; kept = sym w.gone ∙ h.met.there.kept }; near = sym w.near ∙ h.met.near };
+        at = h.at ∙ ap (λ (b : ℕ). 32 * b) w.queue;
+      }
 
   met_then : AreMet d member → AreMet f member
   met_then old = record {
     head = old.head;
     each = λ i y there met.
-        let w : WasThere d i y = was i y there in
-        ap (λ (b : ℕ). member (32 * b)) w.queue ∙ old.each i w.endpoint w.here (met_before w.endpoint);
+        let w : WasThere d f i y = was i y there in
+        ap (λ (b : ℕ). member (32 * b)) w.queue ∙ old.each i w.endpoint w.here (met_before i y w met);
     only = λ n on. ⊎_elim (λ (head : n ≡ 32 * head_block). inl head) (λ (h : HasHead d n). inr (still n h)) (old.only n on);
   }
 
   streams_then : (streams : ℕ → Bool) (ends : ℕ → Told) → HaveStreams d streams ends → HaveStreams f streams ends
   streams_then streams ends old = record {
     each = λ i y there met.
-        let w : WasThere d i y = was i y there in
-        let both = old.each i w.endpoint w.here (met_before w.endpoint) in (
+        let w : WasThere d f i y = was i y there in
+        let both = old.each i w.endpoint w.here (met_before i y w met) in (
           ap (λ (b : ℕ). streams (32 * b)) w.queue ∙ both.0 ∙ ap (λ (z : EpDesc). receives z.name.way) (sym w.desc),
           ap (λ (b : ℕ). ends (32 * b)) w.queue ∙ both.1 ∙ ap (λ (z : EpDesc). endpoint_of (queue_head z 0 w.endpoint.dummy)) (sym w.desc)
               ∙ ap (λ (b : ℕ). endpoint_of (queue_head y.desc 0 b)) (sym w.dummy),
@@ -155,14 +199,14 @@ module _ (d : DriverContent) (member : ℕ → Bool) (parts : StructureSets) (k 
 
   fed_then : AreFed d parts → AreFed f now
   fed_then old = record {
-    dummies = λ i y there lent.
-        let w : WasThere d i y = was i y there in
+    dummies = λ i y there kept lent.
+        let w : WasThere d f i y = was i y there in
         let m = 32 * w.endpoint.queue in
         ap (λ (b : ℕ). now (32 * b) (32 * y.dummy)) w.queue ∙ ap (λ (b : ℕ). now m (32 * b)) w.dummy
         ∙ element_stays parts at k.queue l k.head m (32 * w.endpoint.dummy) dummy_qtd
-        (old.dummies i w.endpoint w.here (subst (λ (b : ℕ). IsLent (slot_of d.book.slots b)) w.dummy lent));
+        (old.dummies i w.endpoint w.here (sym w.gone ∙ kept) (subst (λ (b : ℕ). IsLent (slot_of d.book.slots b)) w.dummy lent));
     pieces = λ t j y z there held here from below.
-        let w : WasThere d y.endpoint z = was y.endpoint z here in
+        let w : WasThere d f y.endpoint z = was y.endpoint z here in
         let none = none_before t y in
         let b = piece_at (note_in d.notes) y.first j in
         let end = piece_at (note_in d.notes) y.first y.qtds in
@@ -176,11 +220,11 @@ module _ (d : DriverContent) (member : ℕ → Bool) (parts : StructureSets) (k 
 
   last_then : (order : ℕ → ℕ → ℕ) → AreLast d parts order → AreLast f now order
   last_then order old = record {
-    dummies = λ i y there lent.
-        let w : WasThere d i y = was i y there in
+    dummies = λ i y there kept lent.
+        let w : WasThere d f i y = was i y there in
         let m = 32 * w.endpoint.queue in
         let last : IsLast (order m) (now m) (32 * w.endpoint.dummy) =
-        last_still order m (32 * w.endpoint.dummy) (old.dummies i w.endpoint w.here (subst (λ (b : ℕ). IsLent (slot_of d.book.slots b)) w.dummy lent)) in
+        last_still order m (32 * w.endpoint.dummy) (old.dummies i w.endpoint w.here (sym w.gone ∙ kept) (subst (λ (b : ℕ). IsLent (slot_of d.book.slots b)) w.dummy lent)) in
         subst (λ (q : ℕ). IsLast (order (32 * q)) (now (32 * q)) (32 * y.dummy)) (sym w.queue) (subst (λ (b : ℕ). IsLast (order m) (now m) (32 * b)) (sym w.dummy) last);
     taken = λ b words t y z command made newest there first here. absurd (none_published b words command);
     sorted = λ b words t y z command made newest there first here. absurd (none_published b words command);
@@ -193,8 +237,8 @@ module _ (d : DriverContent) (member : ℕ → Bool) (parts : StructureSets) (k 
 
   out_then : (out : ℕ → List ℕ) → AreStillOut d out → AreStillOut f out
   out_then out old i y there met =
-      let w : WasThere d i y = was i y there in
-      ap (λ (b : ℕ). out (32 * b)) w.queue ∙ old i w.endpoint w.here (met_before w.endpoint) ∙ out_before i
+      let w : WasThere d f i y = was i y there in
+      ap (λ (b : ℕ). out (32 * b)) w.queue ∙ old i w.endpoint w.here (there_before w.endpoint (sym w.gone ∙ met.kept)) ∙ out_before i
 
   queues_then : (streams : ℕ → Bool) (ends : ℕ → Told) (order : ℕ → ℕ → ℕ) (out : ℕ → List ℕ) → QueuesThen d member streams ends parts order out → QueuesThen f member streams ends now order out
   queues_then streams ends order out old = record {

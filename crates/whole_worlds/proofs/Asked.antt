@@ -10,7 +10,8 @@ use Rattle.driver_rows.specs.declared.content.Command.TheVariants as unfinished
 use Rattle.driver_rows.specs.DriverContent.{DriverContent}
 use Rattle.driver_rows.specs.Offers.{Offered, new_runs, first_of, stage_words, with_queued, new_transfer}
 use Rattle.run_owners.specs.Accepts.{Transfers}
-use Rattle.chained_transfers.specs.Bulk.{receives}
+use Rattle.run_owners.specs.Leaving.{leaver}
+use Rattle.chained_transfers.specs.Leaving.{NothingLeaves}
 use Rattle.chained_transfers.specs.Accepted.{IsAsked}
 use Rattle.fed_lends.proofs.Accepting.{asked_is_to_be_lent, asked_is_blank}
 use Rattle.fed_commands.proofs.Asked.{set_which, dummy_in, notes_in}
@@ -55,14 +56,30 @@ module _ (fixed : Fixed) (takes : ℕ → ℕ → Bool) (member : ℕ → Bool) 
       ap (λ (p : Offered). tail_of p.driver e z) asked.transfers.is
       ∙ ap (λ (q : Option Transfer). 32 * tail_block (Some (unfinished.Publish asked.transfers.endpoint.dummy words)) q e z.dummy) (newest_there d.transfers new)
 
-  -- each endpoint has what its way needs: a stream where it receives, and else a taker
-  sides : (way : Bool) (has : ℕ → ℕ → Bool) → HaveSides way d has → HaveSides way o.driver has
-  sides way has old e z here goes =
-      ⊎_elim
-      (λ (own : (e ≡ why.number) × (z ≡ with_queued why.endpoint dummy (length d.transfers))).
-      ap (λ (y : Endpoint). has y.desc.name.addr y.desc.name.num) own.1 ∙ old why.number why.endpoint why.here (ap (λ (y : Endpoint). receives y.desc.name.way) (sym own.1) ∙ goes))
-      (λ (other : (e ≢ why.number) × (slice_get d.endpoints e ≡ Some z)). old e z other.1 goes)
-      (set_which d.endpoints why.number e why.endpoint (with_queued why.endpoint dummy (length d.transfers)) z why.here (ap (λ (p : Offered). slice_get p.driver.endpoints e) (sym why.is) ∙ here))
+  -- no endpoint is being opened
+  sides : (way : Bool) (has : ℕ → ℕ → Bool) → HaveSides way o.driver has
+  sides way has e z here opening =
+      let a : ◌≡◌ {A = Option Command} (Some (unfinished.Publish asked.transfers.endpoint.dummy words)) (Some (unfinished.Open z.queue)) = sym command_is ∙ opening in absurd (cc)
+
+  -- and none leaves
+  stays : NothingLeaves o.driver
+  stays = record {
+    endpoints = λ e z here.
+        ⊎_elim
+        (λ (own : (e ≡ why.number) × (z ≡ with_queued why.endpoint dummy (length d.transfers))).
+        let old = k.stays.endpoints why.number why.endpoint why.here in
+        record {
+          cancelled = ap (λ (y : Endpoint). y.cancelled) own.1 ∙ old.cancelled;
+          linked = ap (λ (y : Endpoint). y.linked) own.1 ∙ old.linked;
+          gone = ap (λ (y : Endpoint). y.gone) own.1 ∙ old.gone;
+        })
+        (λ (other : (e ≢ why.number) × (slice_get d.endpoints e ≡ Some z)). k.stays.endpoints e z other.1)
+        (set_which d.endpoints why.number e why.endpoint (with_queued why.endpoint dummy (length d.transfers)) z why.here (ap (λ (p : Offered). slice_get p.driver.endpoints e) (sym why.is) ∙ here));
+    command = ap leaver command_is;
+    waiting = ap (λ (p : Offered). p.driver.waiting) why.is ∙ k.stays.waiting;
+    rung = ap (λ (p : Offered). p.driver.rung) why.is ∙ k.stays.rung;
+    cleared = ap (λ (p : Offered). p.driver.cleared) why.is ∙ k.stays.cleared;
+  }
 
   to_be_lent : IsUnderWay o.driver o.memory member s.parts o.driver.command
   to_be_lent =
@@ -82,13 +99,14 @@ asked_whole fixed takes member x s w line name o asked feeding k =
       under_way = to_be_lent fixed takes member x s w o k asked;
       blank = asked_is_blank d w.memory o asked k.blank;
       names = accepted_apart d w.memory o turns.bulk (inr asked) k.names;
-      senders = sides fixed takes member x s w o k asked true x.stream k.senders;
-      takers = sides fixed takes member x s w o k asked false takes k.takers;
+      senders = sides fixed takes member x s w o k asked true x.stream;
+      takers = sides fixed takes member x s w o k asked false takes;
       taking = record { ends = k.taking.ends; piped = k.taking.piped; untaken = k.taking.untaken };
       runs = asked_extents d w.memory o s.parts asked sound.stands sound.owners feeding.working.driven k.runs;
       tails = λ e z here met.
           subst (λ (c : ℕ). Reaches o.driver (s.parts (32 * z.queue)) (s.order (32 * z.queue)) (s.out (32 * z.queue)) e z c) (sym (tail_is fixed takes member x s w o k asked e z))
-          (asked_reaches d w.memory o s.parts s.order s.out asked sound.stands sound.owners place.lent turns.bulk (idle_ends d s.parts s.order s.out asked.transfers.idle k.tails) e z here);
+          (asked_reaches d w.memory o s.parts s.order s.out asked sound.stands sound.owners place.lent turns.bulk (idle_ends d s.parts s.order s.out asked.transfers.idle k.tails) e z here met);
       told = asked_told d w.memory o s.hand s.parts s.reported asked sound.stands sound.owners (there_now d turns) turns.turns.places k.told;
       bytes = k.bytes;
+      stays = stays fixed takes member x s w o k asked;
     }

@@ -66,6 +66,7 @@ module _ (fixed : Fixed) (takes : ℕ → ℕ → Bool) (member : ℕ → Bool) 
             (rising fixed member x s w f) k.tails;
         told = beside_told begins_by transacts_by base member s.parts s.hand (controller_parts w) (wired fixed w) (wired fixed new) now later w.driver s.reported controlled effect keeps k.told;
         bytes = controller_bytes fixed w k.bytes;
+        stays = k.stays;
       }
 
 pub controller_whole : ControllerKeepsWhole

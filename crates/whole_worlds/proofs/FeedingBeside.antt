@@ -34,7 +34,7 @@ use Rattle.shared_memory.proofs.Sharing.{control_same, event_elsewhere}
 use Rattle.kept_structures.proofs.Events.{control_keeps}
 use Rattle.fed_events.proofs.Beside.{fed_still, last_still}
 use Rattle.opened_streams.proofs.Waiting.{unopened_wait}
-use Rattle.whole_worlds.specs.Feeding.{heads_of, IsFeeding, bytes_of_event, acc_after, Goes}
+use Rattle.whole_worlds.specs.Feeding.{there_of, IsFeeding, bytes_of_event, acc_after, Goes}
 use Rattle.whole_worlds.specs.FeedingLaws.{ControllerFeeds}
 use Rattle.whole_worlds.proofs.Heads.{right_of}
 
@@ -88,18 +88,18 @@ module _ (fixed : Fixed) (member : ℕ → Bool) (x : Streams) (s : Standing) (w
   acc_now = acc_after x.streams s.acc g.at g.more (λ n. bytes_of_event n g.event.effect)
 
   -- a stream's by what was taken of it, and others' by what was moved
-  head_counted : (n : ℕ) (b : Bool) → x.streams n ≡ b → heads_of member n ≡ true → IsReported (s.order n) (s.out n) g.event.later g.event.now n (acc_now n) (s.reported n)
-  head_counted n true on head =
+  head_counted : (n : ℕ) (b : Bool) → x.streams n ≡ b → there_of w.driver n ≡ true → IsReported (s.order n) (s.out n) g.event.later g.event.now n (acc_now n) (s.reported n)
+  head_counted n true on there =
       subst (λ (xs : List (List ℕ)). IsReported (s.order n) (s.out n) g.event.later g.event.now n xs (s.reported n)) (sym (after_on x.streams s.acc g.at g.more (λ k. bytes_of_event k g.event.effect) n on))
       (event_reported begins_by transacts_by x.stream x.packets sender_of opening_base member x.streams x.endpoint s.acc s.parts s.hand (controller_parts w) (wired fixed w) (wired fixed (controller_next fixed w)) (controller_parts (controller_next fixed w)) s.order s.out s.reported
       f.working.streaming.controlled g f.working.streaming.right n on)
-  head_counted n false off head =
+  head_counted n false off there =
       subst (λ (xs : List (List ℕ)). IsReported (s.order n) (s.out n) g.event.later g.event.now n xs (s.reported n)) (sym (after_off x.streams s.acc g.at g.more (λ k. bytes_of_event k g.event.effect) n off))
       (event_counted begins_by transacts_by opening_base member s.parts s.hand (controller_parts w) (wired fixed w) (wired fixed (controller_next fixed w)) f.working.streaming.controlled g.event.now g.event.later n (s.order n) (s.out n) (s.reported n) (s.acc n)
-      g.event.effect (f.counted n head))
+      g.event.effect (f.counted n there))
 
-  pub counted_now : AreReported (heads_of member) s.order s.out g.event.later g.event.now acc_now s.reported
-  counted_now n head = head_counted n (x.streams n) refl head
+  pub counted_now : AreReported (there_of w.driver) s.order s.out g.event.later g.event.now acc_now s.reported
+  counted_now n there = head_counted n (x.streams n) refl there
 
   pub piped_now : ArePiped x.stream x.packets sender_of member x.streams x.endpoint acc_now g.event.now g.event.later (wired fixed (controller_next fixed w))
   piped_now =

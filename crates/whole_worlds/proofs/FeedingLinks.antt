@@ -1,9 +1,11 @@
 -- The store by which an open is finished.
-use Rattle.std.proofs.Common.{◌≡◌, ◌≢◌, ℕ, ◌*◌, Bool, true, ap, sym, ◌∙◌, ⊎_elim, arith}
+use Rattle.std.proofs.Common.{◌≡◌, ◌≢◌, ℕ, ◌*◌, Bool, true, List, slice_get, Some, ap, sym, ◌∙◌, ⊎_elim, arith}
 use Rattle.std.proofs.lemmas.Bool.{cases_eq}
 use Rattle.usb_bus.specs.Bus.{Fixed}
 use Rattle.qh_qtd.specs.declared.queue_head.Qh.{Qh}
 use Rattle.driver_rows.specs.declared.content.Endpoint.{Endpoint}
+use Rattle.driver_rows.specs.declared.content.Command.TheVariants as unfinished
+use Rattle.driver_rows.specs.DriverContent.{DriverContent}
 use Rattle.driver_rows.specs.Rows.{Parts as DriverParts}
 use Rattle.driver_rows.specs.Words.{to_queue_head}
 use Rattle.lent_structures.specs.Structures.{QueueHead}
@@ -21,15 +23,17 @@ use Rattle.bus_world.specs.World.{World, driver_parts, driver_next}
 use Rattle.world_streams.specs.Streaming.{Streams, Standing, wired}
 use Rattle.chained_transfers.specs.Bulk.{receives}
 use Rattle.chained_transfers.proofs.Events.{event_turns}
+use Rattle.fed_queues.specs.Places.{HasThere}
 use Rattle.opened_streams.specs.Opened.{with_stream, with_end, with_none}
 use Rattle.open_stores.specs.Opens.{IsOpenLent, AreNamesApart, IsAtOpen, head_then, hand_then, end_then, streams_then}
-use Rattle.open_stores.proofs.Linking.{open_is_linked}
+use Rattle.open_stores.proofs.Linking.{driver_is, open_is_linked}
 use Rattle.open_stores.proofs.Streams.{open_pipes, open_reports}
-use Rattle.open_stores.proofs.Standing.{then_beside, member_here, member_old, member_beside, open_stands}
-use Rattle.whole_worlds.specs.Feeding.{heads_of, IsFeeding}
+use Rattle.open_stores.proofs.Standing.{then_beside, member_here, member_old, open_stands}
+use Rattle.whole_worlds.specs.Feeding.{there_of, IsFeeding}
 use Rattle.whole_worlds.specs.OpenFeeds.{LinkFeeds}
 use Rattle.whole_worlds.proofs.FeedingStores.{put_apart}
-use Rattle.whole_worlds.proofs.Heads.{head_of, head_on, head_is, stream_on}
+use Rattle.whole_worlds.proofs.Told.{same_queue, there_by, has_there}
+use Rattle.whole_worlds.proofs.Heads.{stream_on}
 use Rattle.whole_worlds.proofs.OpenBeside.{streams_at, still_frameless}
 
 behind_list : 0 ≢ head_at
@@ -37,17 +41,28 @@ behind_list same = absurd (omega (arith, same))
 
 -- ---- the queue heads after it
 
-head_wider : (member : ℕ → Bool) (n k : ℕ) → heads_of (with_member member n) k ≡ true → with_stream (heads_of member) n k ≡ true
-head_wider member n k on =
-    let both = head_on (with_member member n) k on in
-    ⊎_elim (λ (same : k ≡ n). ap (with_stream (heads_of member) n) same ∙ member_here (heads_of member) n)
-    (λ (differs : k ≢ n). member_old (heads_of member) n k (head_of member k both.0 ∙ member_beside member n k differs both.1)) (cases_eq k n)
-
-stream_wider : (member streams : ℕ → Bool) (e : Endpoint) (k : ℕ) → ((i : ℕ) → streams i ≡ true → heads_of member i ≡ true) → streams_then streams e k ≡ true → with_stream (heads_of member) (32 * e.queue) k ≡ true
-stream_wider member streams e k old on =
+-- the new one, and those that were there before
+there_wider : (d f : DriverContent) (e : Endpoint) (k : ℕ) → d.command ≡ Some (unfinished.Open e.queue) → f.endpoints ≡ d.endpoints → there_of f k ≡ true → with_stream (there_of d) (32 * e.queue) k ≡ true
+there_wider d f e k command ends on =
     let n = 32 * e.queue in
-    ⊎_elim (λ (same : k ≡ n). ap (with_stream (heads_of member) n) same ∙ member_here (heads_of member) n)
-    (λ (differs : k ≢ n). member_old (heads_of member) n k (old k (sym (then_beside streams e k differs) ∙ on))) (cases_eq k n)
+    let h : HasThere f k = has_there f k on in
+    ⊎_elim (λ (same : k ≡ n). ap (with_stream (there_of d) n) same ∙ member_here (there_of d) n)
+    (λ (differs : k ≢ n).
+    member_old (there_of d) n k
+    (there_by d k
+    (record {
+      number = h.number;
+      endpoint = h.endpoint;
+      here = ap (λ (xs : List Endpoint). slice_get xs h.number) (sym ends) ∙ h.here;
+      there = record { linked = λ is. differs (h.at ∙ ap (λ (q : ℕ). 32 * q) (same_queue h.endpoint.queue e.queue (sym is ∙ command))); kept = h.there.kept };
+      at = h.at;
+    }))) (cases_eq k n)
+
+stream_wider : (d : DriverContent) (streams : ℕ → Bool) (e : Endpoint) (k : ℕ) → ((i : ℕ) → streams i ≡ true → there_of d i ≡ true) → streams_then streams e k ≡ true → with_stream (there_of d) (32 * e.queue) k ≡ true
+stream_wider d streams e k old on =
+    let n = 32 * e.queue in
+    ⊎_elim (λ (same : k ≡ n). ap (with_stream (there_of d) n) same ∙ member_here (there_of d) n)
+    (λ (differs : k ≢ n). member_old (there_of d) n k (old k (sym (then_beside streams e k differs) ∙ on))) (cases_eq k n)
 
 -- ---- the world
 
@@ -92,9 +107,9 @@ module _ (fixed : Fixed) (member : ℕ → Bool) (x : Streams) (s : Standing) (w
   old : DrivesRing opening_base member s.parts s.hand (place w.control.walk p.registers p.memory) p.driver
   old = record { ring = f.working.streaming.controlled.ring; driven = f.working.driven }
 
-  reports_now : AreReported (with_stream (heads_of member) n) s.order (with_none s.out n) (hand_then s.hand e) (head_then s.parts found.queue e) (with_none s.acc n) (with_none s.reported n)
+  reports_now : AreReported (with_stream (there_of w.driver) n) s.order (with_none s.out n) (hand_then s.hand e) (head_then s.parts found.queue e) (with_none s.acc n) (with_none s.reported n)
   reports_now =
-      open_reports s.acc s.reported (heads_of member) opening_base w.control.walk s.hand p member x.streams x.endpoint s.parts s.order s.out at_open old (λ i on. head_is w.driver member i f.queues.met on) f.counted
+      open_reports s.acc s.reported (there_of w.driver) opening_base w.control.walk s.hand p member x.streams x.endpoint s.parts s.order s.out at_open old (has_there w.driver) f.counted
 
   pub link_feeding : AreNamesApart w.driver → (receives e.desc.name.way ≡ true → x.stream e.desc.name.addr e.desc.name.num ≡ true) → IsFeeding fixed (with_member member n) more (linked s found.queue e) (driver_next w)
   link_feeding apart sends =
@@ -119,14 +134,14 @@ module _ (fixed : Fixed) (member : ℕ → Bool) (x : Streams) (s : Standing) (w
               frameless = still_frameless g.streaming.controlled.list.words w g.streaming.controlled.frameless;
             };
             piped = pipes.1;
-            right = λ i on. reports_now i (stream_wider member x.streams e i (stream_on fixed member x s w f) on);
+            right = λ i on. reports_now i (stream_wider w.driver x.streams e i (stream_on fixed member x s w f) on);
           };
           place = event_in_place p g.place;
           driven = drives.driven;
         };
         turns = event_turns p g.place.sound.owners f.turns;
         queues = record { met = stands.met; streams_are = stands.streams_are; fed = stands.fed; last = stands.last; out_are = stands.out_are };
-        counted = λ i on. reports_now i (head_wider member n i on);
+        counted = λ i on. reports_now i (there_wider w.driver (driver_next w).driver e i lent.command (ap (λ (g : DriverContent). g.endpoints) (driver_is p member x.streams x.endpoint s.parts s.order s.out at_open)) on);
         unopened = pipes.2;
       }
 

@@ -34,12 +34,8 @@ use Rattle.shared_memory.specs.Shared.{IsShared}
 use Rattle.shared_memory.proofs.Sharing.{opening_shared}
 use Rattle.opened_streams.specs.Unopened.{IsUntouched}
 use Rattle.chained_transfers.proofs.Events.{new_turns}
-use Rattle.whole_worlds.specs.Feeding.{left_of, streams_of, heads_of}
+use Rattle.whole_worlds.specs.Feeding.{left_of, streams_of}
 use Rattle.whole_worlds.specs.FeedingLaws.{NewWorldFeeds}
-use Rattle.whole_worlds.proofs.Heads.{head_on}
-
-no_head : (n : ℕ) → heads_of is_head n ≡ true → ⊥
-no_head n on = let both = head_on is_head n on in both.0 (eqb-true n 4096 both.1)
 
 not_in : IsNotIn (opening_parts 4096)
 not_in a t here = by (a == 4096) here
@@ -138,6 +134,6 @@ new_world_feeds s fit =
         last = record { dummies = λ e x here. absurd (cc); taken = λ b words t y x is. absurd (cc); sorted = λ b words t y x is. absurd (cc) };
         out_are = λ e x here. absurd (cc);
       };
-      counted = λ n on. absurd (no_head n on);
+      counted = λ n on. absurd (false≢true on);
       unopened = λ addr ep on free. untouched (sender_of (opening_wired s) addr ep) (unsent_place s addr ep (place_for (opening_wired s).fixed.seats addr ep In)) on;
     }

@@ -11,9 +11,9 @@ use Rattle.ring_order.specs.Order.{IsAmong}
 use Rattle.driver_rows.specs.declared.content.Endpoint.{Endpoint}
 use Rattle.driver_rows.specs.declared.content.Transfer.{Transfer}
 use Rattle.driver_rows.specs.declared.content.Command.{Command}
-use Rattle.driver_rows.specs.declared.content.Command.TheVariants as unfinished
 use Rattle.driver_rows.specs.DriverContent.{DriverContent}
 use Rattle.run_owners.specs.Owners.{NoteRuns, note_in}
+use Rattle.endpoint_lives.proofs.Lives.{none_told}
 use Rattle.chained_transfers.specs.Chains.{piece_at}
 use Rattle.chained_transfers.specs.Turns.{IsAtPlace, turn_of, turn_in, IsInList, AreReportedTo, AreInTurn}
 use Rattle.chained_transfers.specs.Out.{pieces_from, passed, unpublished, if_last, out_of_transfer, out_of}
@@ -85,8 +85,8 @@ is_out note e made zero p (y ∷ ys) z here k =
 is_out note e made (suc n) p (y ∷ ys) z here k = among_back p (out_of_transfer note e (if_last ys (unpublished None made y.qtds)) y) (out_of note e None made ys) (is_out note e made n p ys z here k)
 
 pub passed_untold : (d : DriverContent) (parts : StructureSets) (hand : Hand) (order : ℕ → ℕ → ℕ) (out : ℕ → List ℕ) (e t : ℕ) (x : Endpoint) (a : ℕ) (z : List ℕ) → d.command ≡ None → AreInTurn d → AreStillOut d out → FrontsStand d parts order out
-    → slice_get d.endpoints e ≡ Some x → x.ended ≡ None → x.next ≡ Some t → IsOutEarlier (note_in d.notes) e t d.transfers a → Told hand parts (32 * x.queue) a z → z ≡ []
-passed_untold d parts hand order out e t x a z idle turns still fronts here going next k told =
+    → slice_get d.endpoints e ≡ Some x → IsMet d e x → x.ended ≡ None → x.next ≡ Some t → IsOutEarlier (note_in d.notes) e t d.transfers a → Told hand parts (32 * x.queue) a z → z ≡ []
+passed_untold d parts hand order out e t x a z idle turns still fronts here met going next k told =
     passed_none (order (32 * x.queue)) stand.front (out (32 * x.queue)) hand parts (32 * x.queue) a z stand.has among over.before told
     (ap (λ (q : Qtd). q.token.active) (found_element (parts (32 * x.queue) a) told.qtd over.qtd told.here over.here) ∙ over.published)
   where
@@ -99,12 +99,6 @@ passed_untold d parts hand order out e t x a z idle turns still fronts here goin
     own : (k.transfer.endpoint ≡ e) × (k.transfer.released ≡ false)
     own = let both = mine_by (k.transfer.endpoint == e) k.transfer.released split.0 in (eqb-true k.transfer.endpoint e both.0, both.1)
 
-    no_open : (b : ℕ) → None ≡ Some (unfinished.Open b) → ⊥
-    no_open b is = cc
-
-    met : IsMet d x
-    met is = no_open x.queue (sym idle ∙ is)
-
     stand : StandsAt d (parts (32 * x.queue)) (order (32 * x.queue)) (out (32 * x.queue)) e x
     stand = fronts e x here met
 
@@ -113,11 +107,11 @@ passed_untold d parts hand order out e t x a z idle turns still fronts here goin
 
     reported : k.transfer.reported ≡ true
     reported =
-        let n = subst (AreReportedTo (turn_in d.transfers) e) next (turns.turns.next e x here going) in
+        let n = subst (AreReportedTo (turn_in d.transfers) e) next (turns.turns.next e x here (none_told x going)) in
         n.before k.number (turn_of k.transfer) k.earlier turn own.0
 
     owed : IsInList d.harvested k.number
-    owed = turns.turns.owed k.number (turn_of k.transfer) x turn (ap (slice_get d.endpoints) own.0 ∙ here) going reported own.1
+    owed = turns.turns.owed k.number (turn_of k.transfer) x turn (ap (slice_get d.endpoints) own.0 ∙ here) (none_told x going) reported own.1
 
     at : IsAtPlace (note_in d.notes) k.transfer
     at = turns.places k.number k.transfer k.here own.1
@@ -140,4 +134,4 @@ passed_untold d parts hand order out e t x a z idle turns still fronts here goin
 
     among : IsAmong a (out (32 * x.queue))
     among =
-        subst (IsAmong a) (sym (still e x here met ∙ ap (λ (c : Option Command). out_of (note_in d.notes) e c d.made d.transfers) idle)) (is_out (note_in d.notes) e d.made k.number a d.transfers k.transfer k.here k.among)
+        subst (IsAmong a) (sym (still e x here met.there ∙ ap (λ (c : Option Command). out_of (note_in d.notes) e c d.made d.transfers) idle)) (is_out (note_in d.notes) e d.made k.number a d.transfers k.transfer k.here k.among)

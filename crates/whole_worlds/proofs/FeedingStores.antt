@@ -1,7 +1,8 @@
 -- A store of the first qTD of a transfer leaves queues fed.
-use Rattle.std.proofs.Common.{◌≡◌, ◌≢◌, ℕ, ◌*◌, ◌≤◌, Bool, false, ◌||◌, cond, List, slice_get, Some, option_map, ap, sym, ◌∙◌, arith}
+use Rattle.std.proofs.Common.{◌≡◌, ◌≢◌, ℕ, ◌*◌, ◌≤◌, Bool, true, false, ◌||◌, cond, List, slice_get, Option, Some, None, option_map, ap, refl, sym, ◌∙◌, arith}
 use Rattle.usb_bus.specs.Bus.{Fixed}
 use Rattle.driver_rows.specs.declared.content.Endpoint.{Endpoint}
+use Rattle.driver_rows.specs.declared.content.Command.{Command}
 use Rattle.driver_rows.specs.declared.content.Command.TheVariants as unfinished
 use Rattle.driver_rows.specs.DriverContent.{DriverContent}
 use Rattle.driver_rows.specs.Rows.{Parts as DriverParts, is_iso}
@@ -19,21 +20,24 @@ use Rattle.bus_world.specs.World.{World, driver_parts, driver_next}
 use Rattle.world_streams.specs.Streaming.{Streams, Standing, wired}
 use Rattle.shared_worlds.specs.Working.{IsWorking}
 use Rattle.chained_transfers.specs.Bulk.{OnlyBulk}
+use Rattle.chained_transfers.proofs.Staying.{alive}
 use Rattle.chained_transfers.proofs.Events.{event_turns}
 use Rattle.fed_queues.specs.Fed.{IsPublished}
 use Rattle.fed_stores.specs.Stores.{IsAtStore, published_by, parts_then, out_then, QueuesThen, next_of}
 use Rattle.fed_stores.proofs.Storing.{store_publishes, store_keeps_pipes, store_reports, store_stands}
 use Rattle.driver_lends.specs.Published.{partly}
-use Rattle.whole_worlds.specs.Feeding.{heads_of, IsFeeding}
+use Rattle.whole_worlds.specs.Feeding.{there_of, IsFeeding}
 use Rattle.whole_worlds.specs.FeedingLaws.{StoreFeeds}
+use Rattle.whole_worlds.proofs.Told.{there_before}
 use Rattle.whole_worlds.proofs.Heads.{right_of}
+use Rattle.whole_worlds.proofs.Storing.{by_store}
 use Rattle.whole_worlds.proofs.OpenBeside.{still_frameless}
 
 -- a queue head stands behind the frame list
-pub queue_above : (d : DriverContent) (e : ℕ) (x : Endpoint) → HasOwners d → OnlyBulk d → slice_get d.endpoints e ≡ Some x → 0 ≢ 32 * x.queue
-queue_above d e x owners bulk here same =
+pub queue_above : (d : DriverContent) (e : ℕ) (x : Endpoint) → HasOwners d → OnlyBulk d → slice_get d.endpoints e ≡ Some x → x.gone ≡ false → 0 ≢ 32 * x.queue
+queue_above d e x owners bulk here kept same =
     let s = bulk.endpoints e x here in
-    let alive : is_iso x.desc.kind || x.gone ≡ false = ap (λ k. is_iso k || x.gone) s.bulk.kind ∙ s.gone in
+    let alive : is_iso x.desc.kind || x.gone ≡ false = ap (λ k. is_iso k || x.gone) s.bulk.kind ∙ kept in
     let one = owners.owned.each.queue e (runs_of_endpoint x) (ap (option_map runs_of_endpoint) here) alive in
     let zero : x.queue ≡ 0 = omega (arith, same) in
     let is : QueueHead e ≡ FrameList = sym one.owned ∙ ap owners.owner zero ∙ owners.owned.each.list.owned in
@@ -78,12 +82,22 @@ module _ (fixed : Fixed) (member : ℕ → Bool) (x : Streams) (s : Standing) (w
   pub queues_then : QueuesThen (next_of p).driver member x.streams x.endpoint (parts_then stored) s.order (out_then s.out (next_of p).driver stored)
   queues_then = store_stands p member x.streams x.endpoint s.parts s.order s.out b words at
 
-  counted_then : AreReported (heads_of member) s.order (out_then s.out (next_of p).driver stored) s.hand (parts_then stored) s.acc s.reported
-  counted_then = store_reports s.acc s.reported s.hand (heads_of member) p member x.streams x.endpoint s.parts s.order s.out b words at k.streaming.controlled.ring.members f.counted
+  counted_then : AreReported (there_of w.driver) s.order (out_then s.out (next_of p).driver stored) s.hand (parts_then stored) s.acc s.reported
+  counted_then = store_reports s.acc s.reported s.hand (there_of w.driver) p member x.streams x.endpoint s.parts s.order s.out b words at k.streaming.controlled.ring.members f.counted
+
+  -- the endpoints that are there were so before
+  stored_there : (n : ℕ) → there_of (next_of p).driver n ≡ true → there_of p.driver n ≡ true
+  stored_there n =
+      by_store p member x.streams x.endpoint s.parts s.order s.out b words at (λ (d : DriverContent). there_of d n ≡ true → there_of p.driver n ≡ true) (λ low on. on)
+      (λ eighth on. there_before p.driver (record p.driver { command = None; made = 0 }) n refl (λ c is. never_opens c (sym command ∙ is)) on)
+    where
+      never_opens : (c : ℕ) → ◌≡◌ {A = Option Command} (Some (unfinished.Publish b words)) (Some (unfinished.Open c)) → ⊥
+      never_opens c is = cc
 
   working_then : IsWorking fixed opening_base member x after_store (driver_next w)
   working_then =
-      let above = queue_above p.driver stored.transfer.endpoint stored.endpoint k.place.sound.owners f.turns.bulk stored.here in
+      let kept : stored.endpoint.gone ≡ false = alive stored.endpoint (f.turns.bulk.endpoints stored.transfer.endpoint stored.endpoint stored.here) stored.going in
+      let above = queue_above p.driver stored.transfer.endpoint stored.endpoint k.place.sound.owners f.turns.bulk stored.here kept in
       record {
         operating = k.operating;
         streaming = record {
@@ -113,7 +127,7 @@ module _ (fixed : Fixed) (member : ℕ → Bool) (x : Streams) (s : Standing) (w
         working = working_then;
         turns = event_turns p k.place.sound.owners f.turns;
         queues = record { met = stands.met; streams_are = stands.streams_are; fed = stands.fed; last = stands.last; out_are = stands.out_are };
-        counted = counted_then;
+        counted = λ n on. counted_then n (stored_there n on);
         unopened = f.unopened;
       }
 

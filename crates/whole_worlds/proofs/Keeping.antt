@@ -34,7 +34,7 @@ under_way_stays d m new member parts now (Some (unfinished.Open queue)) owners s
 under_way_stays d m new member parts now (Some (unfinished.Open queue)) owners stands same lent (inr is) = inr (lent is)
 under_way_stays d m new member parts now (Some (unfinished.Publish b words)) owners stands same lent (inl k) = inl (to_be_lent_stays d m new b words k stands same)
 under_way_stays d m new member parts now (Some (unfinished.Publish b words)) owners stands same lent (inr made) = inr made
-under_way_stays d m new member parts now (Some (unfinished.Unlink e b link)) owners stands same lent k = tt
+under_way_stays d m new member parts now (Some (unfinished.Unlink e b link)) owners stands same lent k = k
 under_way_stays d m new member parts now (Some unfinished.Chain) owners stands same lent k = tt
 under_way_stays d m new member parts now (Some (unfinished.Iso e t count)) owners stands same lent k = tt
 under_way_stays d m new member parts now (Some (unfinished.Unchain e)) owners stands same lent k = tt

@@ -1,10 +1,8 @@
 -- What a harvest leaves of all that a world carries.
-use Rattle.std.proofs.Common.{◌≡◌, ℕ, ◌-◌, ◌*◌, Bool, true, false, List, length, slice_get, Option, Some, None, option_map, ap, refl, sym, subst, ◌∙◌}
-use Rattle.std.proofs.lemmas.Option.{same_Some}
-use Rattle.usb_base.specs.declared.endpoints.EpDesc.{EpDesc}
+use Rattle.std.proofs.Common.{◌≡◌, ℕ, ◌-◌, ◌*◌, Bool, true, false, length, slice_get, Option, Some, None, ap, refl, sym, subst, ◌∙◌}
 use Rattle.run_book.specs.declared.slots.Slot.{Slot}
-use Rattle.driver_rows.specs.declared.content.Endpoint.{Endpoint}
 use Rattle.driver_rows.specs.declared.content.Command.{Command}
+use Rattle.driver_rows.specs.declared.content.Command.TheVariants as unfinished
 use Rattle.driver_rows.specs.declared.rows.DriverRow.{DriverRow}
 use Rattle.driver_rows.specs.declared.rows.DriverRow.TheVariants as rows
 use Rattle.driver_rows.specs.declared.rows.Found.{Found}
@@ -18,10 +16,9 @@ use Rattle.lent_structures.specs.Structures.{StructureSets}
 use Rattle.driver_parts.proofs.Viewing.{SameViews, harvest_views}
 use Rattle.driver_releases.specs.Extents.{AreInRuns}
 use Rattle.driver_releases.proofs.Extending.{extents_stay}
-use Rattle.walk_members.proofs.Descriptions.{desc_of, row_left}
 use Rattle.open_stores.specs.Opens.{AreNamesApart}
 use Rattle.open_names.proofs.Apart.{events_apart}
-use Rattle.chained_transfers.specs.Bulk.{receives}
+use Rattle.chained_transfers.proofs.Events.{event_nothing}
 use Rattle.fed_lends.specs.ToLend.{AreBlank}
 use Rattle.released_queues.specs.Fronts.{FrontsStand}
 use Rattle.standing_fronts.specs.Reaching.{Reaches}
@@ -38,12 +35,8 @@ use Rattle.whole_worlds.proofs.Noting.{harvest_blank}
 
 -- ---- what is the same
 
-side_of : (way : Bool) (has : ℕ → ℕ → Bool) (xs : List Endpoint) (e : ℕ) (x : Endpoint) (o : Option Endpoint) → slice_get xs e ≡ o → Some x.desc ≡ option_map desc_of o
-    → ((i : ℕ) (z : Endpoint) → slice_get xs i ≡ Some z → receives z.desc.name.way ≡ way → has z.desc.name.addr z.desc.name.num ≡ true) → receives x.desc.name.way ≡ way → has x.desc.name.addr x.desc.name.num ≡ true
-side_of way has xs e x None here is all goes = absurd (cc)
-side_of way has xs e x (Some z) here is all goes =
-    let same : x.desc ≡ z.desc = same_Some x.desc z.desc is in
-    ap (λ (r : EpDesc). has r.name.addr r.name.num) same ∙ all e z here (ap (λ (r : EpDesc). receives r.name.way) (sym same) ∙ goes)
+no_open : (b : ℕ) → ◌≡◌ {A = Option Command} None (Some (unfinished.Open b)) → ⊥
+no_open b bad = cc
 
 runs_stay : (v w : Views) (parts : StructureSets) → SameViews v w → AreInRuns v parts → AreInRuns w parts
 runs_stay v w parts same k =
@@ -83,10 +76,9 @@ module _ (fixed : Fixed) (takes : ℕ → ℕ → Bool) (member : ℕ → Bool) 
   names : AreNamesApart new
   names = events_apart (driver_parts w) k.names
 
-  -- each endpoint has what its way needs: a stream where it receives, and else a taker
-  sides : (way : Bool) (has : ℕ → ℕ → Bool) → HaveSides way w.driver has → HaveSides way new has
-  sides way has old i z here =
-      side_of way has w.driver.endpoints i z (slice_get w.driver.endpoints i) refl (sym (ap (option_map desc_of) here) ∙ row_left (driver_row (driver_parts w)) (driver_parts w) i) old
+  -- none is being opened
+  sides : (way : Bool) (has : ℕ → ℕ → Bool) → HaveSides way new has
+  sides way has i z here opens = absurd (no_open z.queue (sym command ∙ opens))
 
   runs : AreInRuns (views_of new) s.parts
   runs =
@@ -99,7 +91,7 @@ module _ (fixed : Fixed) (takes : ℕ → ℕ → Bool) (member : ℕ → Bool) 
       let f = l.feeding in
       subst (λ (c : ℕ). Reaches new (s.parts (32 * z.queue)) (s.order (32 * z.queue)) (l.out (32 * z.queue)) i z c)
       (sym (ap (λ (c : Option Command). 32 * tail_block c (slice_get new.transfers (length new.transfers - 1)) i z.dummy) command))
-      (idle_queues_reach member new s.parts s.order l.out command f.working.place.sound.owners f.working.place.lent f.turns f.queues.fed f.queues.last f.queues.out_are l.fronts i z here
+      (idle_queues_reach member new s.parts s.order l.out command f.working.place.sound.owners f.working.place.lent f.turns f.queues.fed f.queues.last f.queues.out_are l.fronts i z here meets
       (f.working.streaming.controlled.ring.members (32 * z.queue) (f.queues.met.each i z here meets)))
 
   pub whole_harvested : (l : HarvestLeaves fixed member x s (driver_next w)) → IsWhole fixed takes member x (record s { out = l.out; reported = l.reported }) (driver_next w)
@@ -108,13 +100,14 @@ module _ (fixed : Fixed) (takes : ℕ → ℕ → Bool) (member : ℕ → Bool) 
     under_way = subst (λ (c : Option Command). IsUnderWay new (driver_next w).memory member s.parts c) (sym command) tt;
     blank = blank;
     names = names;
-    senders = sides true x.stream k.senders;
-    takers = sides false takes k.takers;
+    senders = sides true x.stream;
+    takers = sides false takes;
     taking = record { ends = k.taking.ends; piped = k.taking.piped; untaken = k.taking.untaken };
     runs = runs;
     tails = tails l;
     told = l.told;
     bytes = k.bytes;
+    stays = event_nothing (driver_parts w) k.feeding.working.place.sound.owners k.feeding.turns k.stays;
   }
 
   pub harvest_leaves_whole : HasWhole fixed takes x.stream x.packets (driver_next w)

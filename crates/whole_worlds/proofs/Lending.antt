@@ -9,6 +9,7 @@ use Rattle.lent_structures.specs.Structures.{Element, StructureSets}
 use Rattle.queue_parts.specs.Sound.{IsElement}
 use Rattle.ring_walk.specs.Hand.{Hand}
 use Rattle.spared_streams.specs.Sparing.{SparesHead, SparesElement}
+use Rattle.chained_transfers.proofs.Events.{event_nothing}
 use Rattle.told_harvests.specs.Held.{AreHeld, none_held, one_held, IsOneFrom}
 use Rattle.told_queues.specs.Told.{ToldStands}
 use Rattle.told_queues.specs.Laws.{SparesDone}
@@ -19,7 +20,7 @@ use Rattle.open_stores.specs.Opens.{AreNamesApart}
 use Rattle.fed_lends.specs.ToLend.{IsToBeLent, lent_now}
 use Rattle.fed_lends.proofs.Reporting.{same_hand}
 use Rattle.usb_bus.specs.Bus.{Fixed}
-use Rattle.bus_world.specs.World.{World, driver_next}
+use Rattle.bus_world.specs.World.{World, driver_parts, driver_next}
 use Rattle.world_streams.specs.Streaming.{Streams, Standing}
 use Rattle.whole_worlds.proofs.FeedingLends.{lend_feeds}
 use Rattle.whole_worlds.specs.LendFeeds.{LendsTransfer}
@@ -46,7 +47,7 @@ lend_told d m hand parts now reported heads elements k =
           let stands = held_stands y.first (y.qtds - y.left) y.place a (k.held e) (k.holds.next e t x y next).done one in
           elements (32 * x.queue) (32 * a) stands.qtd stands.here;
     } in
-    alike_told d (lent_now d m) hand now reported (record { reports = refl; store = refl; endpoints = refl; transfers = refl; notes = refl }) (λ x met. met) (λ x opens. opens)
+    alike_told d (lent_now d m) hand now reported (record { reports = refl; store = refl; endpoints = refl; transfers = refl; notes = refl }) (λ x met. record { linked = met.linked; kept = met.kept }) (λ x opens. opens)
     (spared_told d hand hand parts now reported (same_hand hand) spares k)
 
 -- ---- the command
@@ -86,9 +87,11 @@ module _ (fixed : Fixed) (takes : ℕ → ℕ → Bool) (member : ℕ → Bool) 
         tails = subst (λ (d : DriverContent). TailsStand d g.parts g.order g.out) (sym g.driver_is)
             (λ e z here met.
             subst (λ (d : DriverContent). Reaches d (g.parts (32 * z.queue)) (g.order (32 * z.queue)) (g.out (32 * z.queue)) e z (tail_of w.driver e z)) g.driver_is
-            (g.reaches e z (tail_of w.driver e z) here (tail_stands w.driver w.memory b words s.parts e z get place.sound.owners place.lent f.turns.bulk f.queues.fed here) (k.tails e z here met)));
+            (g.reaches e z (tail_of w.driver e z) here met.there.kept (tail_stands w.driver w.memory b words s.parts e z get place.sound.owners place.lent f.turns.bulk f.queues.fed here met.there.kept)
+            (k.tails e z here (record { there = record { linked = met.there.linked; kept = met.there.kept }; near = met.near }))));
         told = subst (λ (d : DriverContent). ToldStands d s.hand g.parts s.reported) (sym g.driver_is) (lend_told w.driver w.memory s.hand s.parts g.parts s.reported g.heads g.elements k.told);
         bytes = k.bytes;
+        stays = event_nothing (driver_parts w) place.sound.owners f.turns k.stays;
       }
 
 pub lend_keeps_whole : LendKeepsWhole

@@ -1,3 +1,4 @@
+pub mod Told
 pub mod Heads
 pub mod TakingAlike
 pub mod TakingOpening

@@ -1,7 +1,8 @@
 -- The store by which an open is finished leaves a world whole.
-use Rattle.std.proofs.Common.{ℕ, ◌*◌, Bool, Option, ap, sym, subst}
+use Rattle.std.proofs.Common.{◌≡◌, ℕ, ◌*◌, Bool, false, Option, Some, None, ap, sym, subst, ◌∙◌}
 use Rattle.driver_rows.specs.declared.content.Endpoint.{Endpoint}
 use Rattle.driver_rows.specs.declared.content.Command.{Command}
+use Rattle.driver_rows.specs.declared.content.Command.TheVariants as unfinished
 use Rattle.driver_rows.specs.DriverContent.{DriverContent}
 use Rattle.driver_rows.specs.Rows.{Parts as DriverParts}
 use Rattle.run_owners.specs.Owners.{views_of}
@@ -12,16 +13,20 @@ use Rattle.usb_bus.specs.Bus.{Fixed}
 use Rattle.bus_world.specs.World.{World, driver_parts, driver_next}
 use Rattle.world_streams.specs.Streaming.{Streams, Standing}
 use Rattle.opened_streams.specs.Opened.{with_end, with_none}
+use Rattle.chained_transfers.proofs.Events.{event_nothing}
+use Rattle.chained_transfers.proofs.Staying.{linked_alive}
 use Rattle.fed_lends.specs.ToLend.{AreBlank}
 use Rattle.told_queues.specs.Told.{ToldStands}
 use Rattle.open_stores.specs.Opens.{IsOpenLent, AreNamesApart, IsAtOpen, head_then, hand_then, end_then, streams_then}
 use Rattle.open_stores.proofs.Linking.{driver_is}
-use Rattle.whole_worlds.specs.Whole.{TailsStand, IsUnderWay, HaveSenders, IsWhole}
+use Rattle.whole_worlds.specs.Whole.{TailsStand, IsUnderWay, IsWhole}
 use Rattle.whole_worlds.specs.Laws.{OpenLinkKeepsWhole}
-use Rattle.whole_worlds.specs.Taking.{HaveTakers}
 use Rattle.whole_worlds.proofs.FeedingLinks.{linked, found, at_open, more, link_feeding}
 use Rattle.whole_worlds.proofs.Linking.{tails_then, runs_then, told_then}
 use Rattle.whole_worlds.proofs.TakingOpens.{link_taking}
+
+no_open : (b : ℕ) → ◌≡◌ {A = Option Command} None (Some (unfinished.Open b)) → ⊥
+no_open b bad = cc
 
 module _ (fixed : Fixed) (takes : ℕ → ℕ → Bool) (member : ℕ → Bool) (x : Streams) (s : Standing) (w : World) (lent : IsOpenLent w.driver member s.parts) (k : IsWhole fixed takes member x s w) where
   abbrev e : Endpoint
@@ -40,6 +45,9 @@ module _ (fixed : Fixed) (takes : ℕ → ℕ → Bool) (member : ℕ → Bool) 
   abbrev at : IsAtOpen p.driver p.memory member x.streams x.endpoint s.parts s.order s.out
   at = at_open fixed member x s w lent k.feeding
 
+  alive : e.gone ≡ false
+  alive = linked_alive e (k.feeding.turns.bulk.endpoints lent.number e lent.here) lent.fresh
+
   pub linked_whole : IsWhole fixed takes (with_member member n) (more fixed member x s w lent k.feeding) (linked s head.queue e) (driver_next w)
   linked_whole =
       let next = (driver_next w).driver in
@@ -49,17 +57,18 @@ module _ (fixed : Fixed) (takes : ℕ → ℕ → Bool) (member : ℕ → Bool) 
       let reported = with_none s.reported n in
       let is = sym (driver_is p member x.streams x.endpoint s.parts s.order s.out at) in
       record {
-        feeding = link_feeding fixed member x s w lent k.feeding k.names (k.senders lent.number e lent.here);
+        feeding = link_feeding fixed member x s w lent k.feeding k.names (k.senders lent.number e lent.here lent.command alive);
         under_way = subst (λ (c : Option Command). IsUnderWay next (driver_next w).memory (with_member member n) now c) (ap (λ (d : DriverContent). d.command) is) tt;
         blank = subst (λ (d : DriverContent). AreBlank d) is k.blank;
         names = subst (λ (d : DriverContent). AreNamesApart d) is k.names;
-        senders = subst (λ (d : DriverContent). HaveSenders d x.stream) is k.senders;
-        takers = subst (λ (d : DriverContent). HaveTakers d takes) is k.takers;
+        senders = λ i z there opens. absurd (no_open z.queue (ap (λ (d : DriverContent). d.command) is ∙ opens));
+        takers = λ i z there opens. absurd (no_open z.queue (ap (λ (d : DriverContent). d.command) is ∙ opens));
         taking = link_taking fixed takes member x s w lent k;
         runs = subst (λ (d : DriverContent). AreInRuns (views_of d) now) is (runs_then p member x.streams x.endpoint s.parts s.order s.out at k.runs);
         tails = subst (λ (d : DriverContent). TailsStand d now s.order out) is (tails_then p member x.streams x.endpoint s.parts s.order s.out at k.tails);
         told = subst (λ (d : DriverContent). ToldStands d later now reported) is (told_then p member x.streams x.endpoint s.parts s.order s.out at s.hand s.reported k.told);
         bytes = k.bytes;
+        stays = event_nothing p k.feeding.working.place.sound.owners k.feeding.turns k.stays;
       }
 
 pub open_link_keeps : OpenLinkKeepsWhole

@@ -1,5 +1,5 @@
 -- What the store by which an open is finished leaves of a driver's content and its queues: the new endpoint is met, and its queue has its inactive qTD alone.
-use Rattle.std.proofs.Common.{◌≡◌, ◌≢◌, ℕ, ◌*◌, ◌-◌, Bool, true, List, [], length, slice_get, Option, Some, None, ap, refl, sym, subst, ◌∙◌, ⊎_elim, arith}
+use Rattle.std.proofs.Common.{◌≡◌, ◌≢◌, ℕ, ◌*◌, ◌-◌, Bool, true, false, List, [], length, slice_get, Option, Some, None, ap, refl, sym, subst, ◌∙◌, ⊎_elim, arith}
 use Rattle.std.proofs.lemmas.Bool.{cases_eq, true≢false}
 use Rattle.std.proofs.lemmas.Option.{same_Some}
 use Rattle.link_words.specs.declared.kinds.QtdLink.TheVariants as qtd_links
@@ -16,17 +16,20 @@ use Rattle.driver_rows.specs.Rows.{Parts as DriverParts}
 use Rattle.driver_rows.specs.Words.{head_block, to_queue_head, queue_head, dummy_qtd}
 use Rattle.run_owners.specs.Owners.{EndpointRuns, Head, QueueHead as QueueOf, runs_of_endpoint, views_of}
 use Rattle.lent_structures.specs.Structures.{Structure, QueueHead, Element, Structures, StructureSets, with_structure}
-use Rattle.lent_structures.proofs.Names.{put_beside}
+use Rattle.lent_structures.proofs.Names.{put_beside, put_same}
 use Rattle.queue_parts.proofs.Altering.{found_queue, same_element}
 use Rattle.ring_walk.specs.Hand.{Hand}
 use Rattle.ring_stores.proofs.Parting.{found_with}
-use Rattle.ring_streams.specs.Told.{Endpoint as Told}
+use Rattle.ring_streams.specs.Told.{Endpoint as Told, endpoint_of}
 use Rattle.driver_lends.specs.Linked.{no_part, opened_part, head_at}
 use Rattle.driver_releases.specs.Extents.{AreInRuns}
 use Rattle.driver_releases.proofs.Extending.{extents_stay, head_put}
+use Rattle.spared_streams.specs.Sparing.{SparesHead}
 use Rattle.spared_streams.proofs.Sparing.{linked_same}
 use Rattle.opened_streams.specs.Opened.{with_none}
 use Rattle.opened_streams.proofs.Beginning.{list_here, list_beside}
+use Rattle.chained_transfers.specs.Bulk.{IsStanding}
+use Rattle.chained_transfers.proofs.Staying.{linked_alive, told_alive}
 use Rattle.fed_queues.specs.Places.{IsMet}
 use Rattle.fed_stores.proofs.Apart.{queue_placed, queues_same, thirty_two}
 use Rattle.told_queues.specs.Told.{ToldStands}
@@ -123,45 +126,71 @@ module _ (p : DriverParts) (member streams : ℕ → Bool) (ends : ℕ → Told)
 
   -- ---- the structures
 
-  not_head : (e : ℕ) (y : Endpoint) → slice_get d.endpoints e ≡ Some y → 32 * y.queue ≢ head_at
-  not_head e y there same =
-      never (sym (queue_placed d k.sound.owners e y there (k.turns.bulk.endpoints e y there)).owned ∙ ap k.sound.owners.owner (thirty_two y.queue head_block same) ∙ k.sound.owners.owned.each.head.owned)
+  standing : IsStanding x
+  standing = k.turns.bulk.endpoints k.lent.number x k.lent.here
+
+  alive : x.gone ≡ false
+  alive = linked_alive x standing k.lent.fresh
+
+  not_head : (e : ℕ) (y : Endpoint) → slice_get d.endpoints e ≡ Some y → y.gone ≡ false → 32 * y.queue ≢ head_at
+  not_head e y there kept same =
+      never (sym (queue_placed d k.sound.owners e y there (k.turns.bulk.endpoints e y there) kept).owned ∙ ap k.sound.owners.owner (thirty_two y.queue head_block same) ∙ k.sound.owners.owned.each.head.owned)
     where
       never : QueueOf e ≡ Head → ⊥
       never z = cc
 
-  stay : (e : ℕ) (y : Endpoint) → slice_get d.endpoints e ≡ Some y → now (32 * y.queue) ≡ parts (32 * y.queue)
-  stay e y there = put_beside parts head_at head_at (QueueHead head) (32 * y.queue) (not_head e y there)
+  stay : (e : ℕ) (y : Endpoint) → slice_get d.endpoints e ≡ Some y → y.gone ≡ false → now (32 * y.queue) ≡ parts (32 * y.queue)
+  stay e y there kept = put_beside parts head_at head_at (QueueHead head) (32 * y.queue) (not_head e y there kept)
+
+  -- of the head of the ring the link alone is stored
+  pub spares : (m : ℕ) → SparesHead parts now m
+  spares m r is =
+      ⊎_elim (λ (same : m ≡ head_at).
+      let queue : r ≡ k.queue = found_queue (parts m m) r k.queue is (ap (λ (i : ℕ). parts i i) same ∙ k.head) in
+      record {
+        queue = head;
+        here = ap (λ (i : ℕ). now i i) same ∙ put_same parts head_at head_at (QueueHead head);
+        overlay = record {
+          token = ap (λ (z : Qh). z.token) (sym queue);
+          current = ap (λ (z : Qh). z.current) (sym queue);
+          offset = ap (λ (z : Qh). z.offset) (sym queue);
+          endpoint = ap endpoint_of (sym queue);
+        };
+      })
+      (λ (differs : m ≢ head_at). heads_stay parts now m (put_beside parts head_at head_at (QueueHead head) m differs) r is) (cases_eq m head_at)
 
   -- ---- the endpoints
 
-  same_number : (e : ℕ) (y : Endpoint) → slice_get d.endpoints e ≡ Some y → y.queue ≡ x.queue → e ≡ k.lent.number
-  same_number e y there same =
-      queues_same y.queue x.queue e k.lent.number same (queue_placed d k.sound.owners e y there (k.turns.bulk.endpoints e y there))
-      (queue_placed d k.sound.owners k.lent.number x k.lent.here (k.turns.bulk.endpoints k.lent.number x k.lent.here))
+  same_number : (e : ℕ) (y : Endpoint) → slice_get d.endpoints e ≡ Some y → y.gone ≡ false → y.queue ≡ x.queue → e ≡ k.lent.number
+  same_number e y there kept same =
+      queues_same y.queue x.queue e k.lent.number same (queue_placed d k.sound.owners e y there (k.turns.bulk.endpoints e y there) kept)
+      (queue_placed d k.sound.owners k.lent.number x k.lent.here standing alive)
 
-  met_before : (e : ℕ) (y : Endpoint) → slice_get d.endpoints e ≡ Some y → e ≢ k.lent.number → IsMet d y
-  met_before e y there differs same = differs (same_number e y there (one_open y.queue x.queue (sym same ∙ k.lent.command)))
+  met_before : (e : ℕ) (y : Endpoint) → slice_get d.endpoints e ≡ Some y → e ≢ k.lent.number → IsMet f e y → IsMet d e y
+  met_before e y there differs met = record {
+    there = record { linked = λ same. differs (same_number e y there met.there.kept (one_open y.queue x.queue (sym same ∙ k.lent.command))); kept = met.there.kept };
+    near = met.near;
+  }
 
-  apart : (e : ℕ) (y : Endpoint) → slice_get d.endpoints e ≡ Some y → e ≢ k.lent.number → 32 * y.queue ≢ n
-  apart e y there differs same = differs (same_number e y there (thirty_two y.queue x.queue same))
+  apart : (e : ℕ) (y : Endpoint) → slice_get d.endpoints e ≡ Some y → y.gone ≡ false → e ≢ k.lent.number → 32 * y.queue ≢ n
+  apart e y there kept differs same = differs (same_number e y there kept (thirty_two y.queue x.queue same))
 
   -- ---- fronts and tails
 
   new_front : (e : ℕ) → e ≡ k.lent.number → Reaches f (now n) (order n) (with_none out n n) e x (32 * x.dummy)
   new_front e same =
       subst (λ (xs : List ℕ). Reaches f (now n) (order n) xs e x (32 * x.dummy)) (sym (list_here out n))
-      (new_reaches f (now n) (order n) e x k.lent.link (ap (λ (part : Structures). part n) (stay k.lent.number x k.lent.here) ∙ here p member streams ends parts order out k)
+      (new_reaches f (now n) (order n) e x k.lent.link (ap (λ (part : Structures). part n) (stay k.lent.number x k.lent.here alive) ∙ here p member streams ends parts order out k)
       (λ a t found. one_element (runs_of_endpoint x) q a t (sym (k.lent.part a) ∙ element_was p member streams ends parts order out k n a t found))
       (λ t y there is. k.lent.none t y there (is ∙ same)))
 
-  old_front : (e : ℕ) (y : Endpoint) → slice_get d.endpoints e ≡ Some y → e ≢ k.lent.number → Reaches d (parts (32 * y.queue)) (order (32 * y.queue)) (out (32 * y.queue)) e y (tail_of d e y)
+  old_front : (e : ℕ) (y : Endpoint) → slice_get d.endpoints e ≡ Some y → y.gone ≡ false → e ≢ k.lent.number → Reaches d (parts (32 * y.queue)) (order (32 * y.queue)) (out (32 * y.queue)) e y (tail_of d e y)
       → Reaches f (now (32 * y.queue)) (order (32 * y.queue)) (with_none out n (32 * y.queue)) e y (32 * y.dummy)
-  old_front e y there differs was =
+  old_front e y there kept differs was =
       let m = 32 * y.queue in
       reaches_beside d d.book None 0 (now m) (order m) (with_none out n m) e y (32 * y.dummy)
-      (subst (λ (xs : List ℕ). Reaches d (now m) (order m) xs e y (32 * y.dummy)) (sym (list_beside out n m (apart e y there differs)))
-      (subst (λ (part : Structures). Reaches d part (order m) (out m) e y (32 * y.dummy)) (sym (stay e y there))
+      (subst (λ (xs : List ℕ). Reaches d (now m) (order m) xs e y (32 * y.dummy)) (sym (list_beside out n m (apart e y there kept differs)))
+      (subst (λ (part : Structures). Reaches d part (order m) (out m) e y (32 * y.dummy)) (sym (stay e y there kept))
       (subst (λ (c : Option Command). Reaches d (parts m) (order m) (out m) e y (32 * tail_block c (slice_get d.transfers (length d.transfers - 1)) e y.dummy)) k.lent.command was)))
 
   pub tails_then : TailsStand d parts order out → TailsStand f now order (with_none out n)
@@ -169,7 +198,7 @@ module _ (p : DriverParts) (member streams : ℕ → Bool) (ends : ℕ → Told)
       ⊎_elim (λ (same : e ≡ k.lent.number).
       let is : y ≡ x = same_Some y x (sym there ∙ ap (slice_get d.endpoints) same ∙ k.lent.here) in
       subst (λ (z : Endpoint). Reaches f (now (32 * z.queue)) (order (32 * z.queue)) (with_none out n (32 * z.queue)) e z (32 * z.dummy)) (sym is) (new_front e same))
-      (λ (differs : e ≢ k.lent.number). old_front e y there differs (tails e y there (met_before e y there differs))) (cases_eq e k.lent.number)
+      (λ (differs : e ≢ k.lent.number). old_front e y there met.there.kept differs (tails e y there (met_before e y there differs met))) (cases_eq e k.lent.number)
 
   -- ---- runs, and what is told
 
@@ -183,6 +212,6 @@ module _ (p : DriverParts) (member streams : ℕ → Bool) (ends : ℕ → Told)
       (list_here reported n) (λ m differs. list_beside reported n m differs)
       (spared_told d hand (hand_then hand x) parts now reported (linked_same head_at (to_queue_head x.queue) hand)
       (record {
-        heads = λ e y there. heads_stay parts now (32 * y.queue) (stay e y there);
-        done = λ e t y z a next among. elements_stay parts now (32 * y.queue) (32 * a) (stay e y next.endpoint);
+        heads = λ e y there. spares (32 * y.queue);
+        done = λ e t y z a next among. elements_stay parts now (32 * y.queue) (32 * a) (stay e y next.endpoint (told_alive y (k.turns.bulk.endpoints e y next.endpoint) next.going));
       }) told)

@@ -1,8 +1,8 @@
 -- Where the opening, each event and each command leave the world whole, it is so at each moment, and its report is right.
-use Rattle.std.proofs.Common.{◌≡◌, ℕ, Bool, true, false, List, [], ◌∷◌, ap, refl, sym}
+use Rattle.std.proofs.Common.{◌≡◌, ℕ, Bool, true, false, List, [], ◌∷◌, Option, ap, refl, sym, ◌∙◌}
 use Rattle.std.specs.Prelude.{is_some}
 use Rattle.std.specs.List.{AllByRecursion}
-use Rattle.std.proofs.lemmas.Bool.{false≢true}
+use Rattle.std.proofs.lemmas.Bool.{false≢true, true≢false}
 use Rattle.usb_base.specs.declared.commands.Cmd.{Cmd}
 use Rattle.usb_base.specs.declared.commands.Cmd.TheVariants as commands
 use Rattle.usb_base.specs.declared.packets.Way.{Way}
@@ -21,21 +21,28 @@ use Rattle.declared_endpoints.proofs.Senders.{spelled_senders}
 use Rattle.declared_endpoints.proofs.Owning.{spelled_owns}
 use Rattle.script_numbers.specs.Numbers.{NumbersLine}
 use Rattle.script_numbers.proofs.Texts.{spelled_numbers}
+use Rattle.driver_rows.specs.DriverContent.{DriverContent}
+use Rattle.endpoint_lives.proofs.Lives.{linked_met}
+use Rattle.chained_transfers.specs.Leaving.{NothingLeaves}
+use Rattle.ring_out_pipes.specs.OutBus.{Taker}
+use Rattle.scripted_takers.specs.Takers.{taker_of}
 use Rattle.walk_members.specs.Reached.{OpensNumbered}
 use Rattle.driver_parts.specs.Opened.{opening_base}
 use Rattle.bus_world.specs.World.{World}
 use Rattle.bus_world.specs.Budgets.{moment}
-use Rattle.world_streams.specs.Streaming.{Streams}
+use Rattle.world_streams.specs.Streaming.{Streams, wired}
 use Rattle.chained_transfers.specs.Bulk.{IsDataWay, OpensBulk, BulkLine, BulkOnly, receives}
-use Rattle.right_worlds.specs.Right.{AreOfScript}
+use Rattle.right_worlds.specs.Right.{AreOfScript, ClosedIns}
 use Rattle.right_worlds.proofs.Beginning.{world_right}
 use Rattle.receiving_runs.specs.Runs.{KindOfLine, IsKeptBy}
 use Rattle.receiving_runs.proofs.Runs.{holds_throughout}
+use Rattle.taken_reports.specs.Worlds.{ClosedOuts}
 use Rattle.taken_reports.proofs.Beginning.{world_taken}
 use Rattle.taken_reports.proofs.Seating.{moment_seated}
-use Rattle.whole_worlds.specs.Feeding.{left_of, streams_of, heads_of}
+use Rattle.whole_worlds.specs.Feeding.{left_of, streams_of, there_of}
 use Rattle.whole_worlds.specs.Taking.{outs_of}
-use Rattle.whole_worlds.proofs.TakingHeads.{outs_are_heads, outs_stand}
+use Rattle.whole_worlds.proofs.TakingHeads.{outs_are_there, outs_stand}
+use Rattle.whole_worlds.proofs.Told.{there_on}
 use Rattle.whole_worlds.specs.Whole.{HasWhole}
 use Rattle.whole_worlds.specs.Laws.{NewWorldIsWhole, ControllerKeepsWhole, OpensTo, CommandKeepsWhole, DriverKeepsWhole}
 use Rattle.whole_worlds.specs.Moments.{IsBulkScript, ScriptsStayWhole, StreamsAreRight, TextsAreRight, TextsAreTaken}
@@ -107,6 +114,20 @@ with_streams s w h = record { stream = (streams_of s).stream; packets = (streams
 of_script : (s : Script) → AreOfScript s (streams_of s).packets
 of_script s = record { some = λ addr ep x is. ap left_of is; none = λ addr ep is. ap left_of is }
 
+-- ---- nothing leaves
+
+none_closed_in : (d : DriverContent) (packets : ℕ → ℕ → List (List ℕ)) (acc : ℕ → List (List ℕ)) → NothingLeaves d → ClosedIns d packets acc
+none_closed_in d packets acc stays = record {
+  left = λ e x here comes there off. absurd (true≢false (sym (linked_met d e x (stays.endpoints e x here).linked) ∙ off));
+  gone = λ e x here comes is. absurd (true≢false (sym is ∙ (stays.endpoints e x here).gone));
+}
+
+none_closed_out : {W : Type 0} (d : DriverContent) (taker : W → ℕ → ℕ → Option Taker) (acc : ℕ → List (List ℕ)) (wire : W) → NothingLeaves d → ClosedOuts d taker acc wire
+none_closed_out d taker acc wire stays = record {
+  left = λ e x here goes there off. absurd (true≢false (sym (linked_met d e x (stays.endpoints e x here).linked) ∙ off));
+  gone = λ e x here goes is. absurd (true≢false (sym is ∙ (stays.endpoints e x here).gone));
+}
+
 module _ (stays : StaysWhole) where
   is_kept : (s : Script) → IsKeptBy (fixed_of s) (CanBe (streams_of s).stream (takes_of s)) (Whole s)
   is_kept s = record {
@@ -124,7 +145,8 @@ module _ (stays : StaysWhole) where
       let w : World = (moment s k).world in
       let h : Whole s w = stay_whole s is k in
       let f = h.whole.feeding in
-      world_right s (fixed_of s) opening_base h.member (with_streams s w h) h.standing w is.only own (of_script s) f.working.streaming f.turns.bulk f.queues.streams_are h.whole.told
+      world_right s (fixed_of s) opening_base h.member (there_of w.driver) (with_streams s w h) h.standing w is.only own (of_script s) f.working.streaming f.turns.bulk f.queues.streams_are h.whole.told f.counted
+      (there_on w.driver) (none_closed_in w.driver (streams_of s).packets h.standing.acc h.whole.stays)
 
   pub texts_are_right : TextsAreRight
   texts_are_right text s spelled only = are_right s (spelled_bulk text s spelled only) (spelled_owns text s spelled)
@@ -137,5 +159,6 @@ module _ (stays : StaysWhole) where
       let h : Whole s w = stay_whole s (spelled_bulk text s spelled only) k in
       let f = h.whole.feeding in
       let t = h.whole.taking in
-      world_taken s (fixed_of s) (takes_of s) h.member (outs_of h.member h.streams) (heads_of h.member) h.endpoint h.standing.order h.standing.out h.standing.reported h.standing.acc h.standing.parts h.standing.hand w
-      only (moment_seated text s k spelled) t.piped f.counted (outs_are_heads h.member h.streams) (outs_stand (fixed_of s) h.member (with_streams s w h) h.standing w f) h.whole.told
+      world_taken s (fixed_of s) (takes_of s) h.member (outs_of h.member h.streams) (there_of w.driver) h.endpoint h.standing.order h.standing.out h.standing.reported h.standing.acc h.standing.parts h.standing.hand w
+      only (moment_seated text s k spelled) f.turns.bulk t.piped f.counted (outs_are_there (fixed_of s) h.member (with_streams s w h) h.standing w f) (outs_stand (fixed_of s) h.member (with_streams s w h) h.standing w f)
+      (there_on w.driver) (none_closed_out w.driver taker_of h.standing.acc (wired (fixed_of s) w) h.whole.stays) h.whole.told

@@ -35,7 +35,8 @@ use Rattle.scripted_streams.specs.Senders.{sender_of}
 use Rattle.usb_bus.specs.Bus.{Fixed}
 use Rattle.bus_world.specs.World.{World, driver_parts, driver_next}
 use Rattle.world_streams.specs.Streaming.{Streams, Standing, wired}
-use Rattle.chained_transfers.proofs.Events.{event_turns}
+use Rattle.chained_transfers.proofs.Events.{event_turns, event_nothing}
+use Rattle.chained_transfers.proofs.Staying.{linked_alive}
 use Rattle.fed_lends.specs.ToLend.{AreBlank}
 use Rattle.fed_stores.proofs.Apart.{thirty_two}
 use Rattle.told_queues.specs.Told.{ToldStands}
@@ -44,9 +45,10 @@ use Rattle.open_stores.specs.Opens.{IsOpenLent, AreNamesApart, next_of}
 use Rattle.open_lends.specs.Lends.{IsOpenReady, IsAtLend, parts_lent}
 use Rattle.open_lends.proofs.Lending.{lend_drives, lend_stands, lend_pipes, lend_reports}
 use Rattle.reported_streams.specs.Reported.{AreReported}
-use Rattle.whole_worlds.specs.Feeding.{heads_of, IsFeeding}
+use Rattle.whole_worlds.specs.Feeding.{there_of, IsFeeding}
 use Rattle.whole_worlds.proofs.FeedingStores.{queue_above}
-use Rattle.whole_worlds.proofs.Heads.{head_on, right_of}
+use Rattle.whole_worlds.proofs.Heads.{right_of}
+use Rattle.whole_worlds.proofs.Told.{has_there}
 use Rattle.standing_fronts.specs.Reaching.{Reaches}
 use Rattle.whole_worlds.specs.Whole.{tail_of, TailsStand, IsUnderWay, HaveSenders, IsWhole}
 use Rattle.whole_worlds.specs.Laws.{OpenLendKeepsWhole}
@@ -149,13 +151,14 @@ module _ (p : DriverParts) (ready : IsOpenReady p.driver p.memory) (owners : Has
   pub tails_then : (order : ℕ → ℕ → ℕ) (out : ℕ → List ℕ) → TailsStand d parts order out → TailsStand f now order out
   tails_then order out tails e z here met =
       let m = 32 * z.queue in
-      let differs : m ≢ n = λ same. met (ready.command ∙ ap (λ (b : ℕ). Some (unfinished.Open b)) (sym (thirty_two z.queue x.queue same))) in
+      let differs : m ≢ n = λ same. met.there.linked (ready.command ∙ ap (λ (b : ℕ). Some (unfinished.Open b)) (sym (thirty_two z.queue x.queue same))) in
       reaches_beside d lent_book d.command 1 (now m) (order m) (out m) e z (tail_of d e z)
-      (subst (λ (part : Structures). Reaches d part (order m) (out m) e z (tail_of d e z)) (sym (stay m differs)) (tails e z here met))
+      (subst (λ (part : Structures). Reaches d part (order m) (out m) e z (tail_of d e z)) (sym (stay m differs))
+      (tails e z here (record { there = record { linked = met.there.linked; kept = met.there.kept }; near = met.near })))
 
   pub told_then : (hand : Hand) (reported : ℕ → List ℕ) → ToldStands d hand parts reported → ToldStands f hand now reported
   told_then hand reported told =
-      alike_told d f hand now reported (record { reports = refl; store = refl; endpoints = refl; transfers = refl; notes = refl }) (λ z met. met) (λ z opens. opens)
+      alike_told d f hand now reported (record { reports = refl; store = refl; endpoints = refl; transfers = refl; notes = refl }) (λ z met. record { linked = met.linked; kept = met.kept }) (λ z opens. opens)
       (spared_told d hand hand parts now reported (same_hand hand)
       (record { heads = λ e z here. spares_head (32 * z.queue); done = λ e t z y a next among. spares_element (32 * z.queue) (32 * a) }) told)
 
@@ -176,9 +179,9 @@ lend_feeding fixed member x s w ready f =
     } in
     let drives = lend_drives opening_base w.control.walk s.hand p member x.streams x.endpoint s.parts s.order s.out at old in
     let stands = lend_stands opening_base w.control.walk s.hand p member x.streams x.endpoint s.parts s.order s.out at old in
-    let above = queue_above p.driver ready.number ready.endpoint sound.owners f.turns.bulk ready.here in
-    let counted : AreReported (heads_of member) s.order s.out s.hand (parts_lent s.parts ready) s.acc s.reported =
-    lend_reports s.acc s.reported (heads_of member) opening_base w.control.walk s.hand p member x.streams x.endpoint s.parts s.order s.out at old (λ n on. (head_on member n on).1) f.counted in (
+    let above = queue_above p.driver ready.number ready.endpoint sound.owners f.turns.bulk ready.here (linked_alive ready.endpoint (f.turns.bulk.endpoints ready.number ready.endpoint ready.here) ready.fresh) in
+    let counted : AreReported (there_of p.driver) s.order s.out s.hand (parts_lent s.parts ready) s.acc s.reported =
+    lend_reports s.acc s.reported (there_of p.driver) opening_base w.control.walk s.hand p member x.streams x.endpoint s.parts s.order s.out at old (has_there p.driver) f.counted in (
       record {
         working = record {
           operating = k.operating;
@@ -203,7 +206,7 @@ lend_feeding fixed member x s w ready f =
         };
         turns = event_turns p sound.owners f.turns;
         queues = record { met = stands.0.met; streams_are = stands.0.streams_are; fed = stands.0.fed; last = stands.0.last; out_are = stands.0.out_are };
-        counted = counted;
+        counted = subst (λ (d : DriverContent). AreReported (there_of d) s.order s.out s.hand (parts_lent s.parts ready) s.acc s.reported) (driver_is p ready sound.owners s.parts k.driven) counted;
         unopened = f.unopened;
       },
       stands.1,
@@ -231,6 +234,7 @@ module _ (fixed : Fixed) (takes : ℕ → ℕ → Bool) (member : ℕ → Bool) 
         tails = subst (λ (d : DriverContent). TailsStand d now s.order s.out) is (tails_then p ready owners s.parts driven s.order s.out k.tails);
         told = subst (λ (d : DriverContent). ToldStands d s.hand now s.reported) is (told_then p ready owners s.parts driven s.hand s.reported k.told);
         bytes = k.bytes;
+        stays = event_nothing p owners k.feeding.turns k.stays;
       }
 
 pub open_lend_keeps : OpenLendKeepsWhole

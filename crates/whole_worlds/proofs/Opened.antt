@@ -19,6 +19,7 @@ use Rattle.walk_members.specs.Reached.{OpensNumbered}
 use Rattle.driver_lends.specs.Opened.{opened_head}
 use Rattle.chained_transfers.specs.Bulk.{OpensBulk, receives}
 use Rattle.chained_transfers.specs.Accepted.{IsOpened}
+use Rattle.chained_transfers.proofs.Commands.{command_nothing}
 use Rattle.fed_lends.proofs.Accepting.{open_is_blank}
 use Rattle.fed_commands.proofs.Asked.{push_which}
 use Rattle.standing_fronts.specs.Reaching.{Reaches}
@@ -36,15 +37,8 @@ use Rattle.whole_worlds.specs.Feeding.{IsFeeding}
 use Rattle.whole_worlds.specs.Whole.{IsUnderWay, IsWhole}
 use Rattle.whole_worlds.specs.Laws.{OpensTo}
 use Rattle.whole_worlds.specs.Taking.{HaveSides}
+use Rattle.whole_worlds.proofs.Told.{same_queue}
 use Rattle.whole_worlds.proofs.Tail.{open_tail, idle_ends}
-
-queue_in : Option Command → ℕ
-queue_in (Some (unfinished.Open queue)) = queue
-queue_in _ = 0
-
-same_queue : (b c : ℕ) → ◌≡◌ {A = Option Command} (Some (unfinished.Open b)) (Some (unfinished.Open c)) → b ≡ c
-unfolding queue_in
-same_queue b c is = ap queue_in is
 
 module _ (fixed : Fixed) (takes : ℕ → ℕ → Bool) (member : ℕ → Bool) (x : Streams) (s : Standing) (w : World) (line : ℕ) (cmd : Cmd) (o : Offered) (k : IsWhole fixed takes member x s w) (opened : IsOpened w.driver w.memory o) where
   abbrev d : DriverContent
@@ -57,8 +51,8 @@ module _ (fixed : Fixed) (takes : ℕ → ℕ → Bool) (member : ℕ → Bool) 
   command_is = ap (λ (p : Offered). p.driver.command) opened.opens.is
 
   -- the new queue head has blocks of its own
-  apart : (e : ℕ) (z : Endpoint) → slice_get d.endpoints e ≡ Some z → o.driver.command ≢ Some (unfinished.Open z.queue)
-  apart e z there is =
+  apart : (e : ℕ) (z : Endpoint) → slice_get d.endpoints e ≡ Some z → z.gone ≡ false → o.driver.command ≢ Some (unfinished.Open z.queue)
+  apart e z there kept is =
       let why = opened.opens in
       let sound = k.feeding.working.place.sound in
       let standing = k.feeding.turns.bulk.endpoints e z there in
@@ -66,16 +60,15 @@ module _ (fixed : Fixed) (takes : ℕ → ℕ → Bool) (member : ℕ → Bool) 
       let bs = all.blocks in
       let two : length bs ≡ 2 = all.are.long in
       let runs : new_runs d why.holding_after ≡ bs = ap (drop (length d.book.taken)) all.are.taken ∙ drop_first d.book.taken bs in
-      let alive : is_iso z.desc.kind || z.gone ≡ false = ap (λ c. is_iso c || z.gone) standing.bulk.kind ∙ standing.gone in
+      let alive : is_iso z.desc.kind || z.gone ≡ false = ap (λ c. is_iso c || z.gone) standing.bulk.kind ∙ kept in
       fresh_differs 0 z.queue all.are (omega (arith, two))
       (placed_run z.queue (QueueHead e) (sound.owners.owned.each.queue e (runs_of_endpoint z) (ap (option_map runs_of_endpoint) there) alive))
       (ap (λ (rs : List ℕ). get_or rs 0 0) (sym runs) ∙ same_queue new.queue z.queue (sym command_is ∙ is))
 
-  -- each endpoint has what its way needs: a stream where it receives, and else a taker
-  sides : (way : Bool) (has : ℕ → ℕ → Bool) → (receives opened.opens.desc.name.way ≡ way → has opened.opens.desc.name.addr opened.opens.desc.name.num ≡ true) → HaveSides way d has
-      → HaveSides way o.driver has
-  sides way has to old e z here goes =
-      ⊎_elim (λ (was : slice_get d.endpoints e ≡ Some z). old e z was goes)
+  -- it has what its way needs: a stream where it receives, and else a taker
+  sides : (way : Bool) (has : ℕ → ℕ → Bool) → (receives opened.opens.desc.name.way ≡ way → has opened.opens.desc.name.addr opened.opens.desc.name.num ≡ true) → HaveSides way o.driver has
+  sides way has to e z here opening kept goes =
+      ⊎_elim (λ (was : slice_get d.endpoints e ≡ Some z). absurd (apart e z was kept opening))
       (λ (is : (e ≡ length d.endpoints) × (z ≡ new)).
       ap (λ (y : Endpoint). has y.desc.name.addr y.desc.name.num) is.1 ∙ to (ap (λ (y : Endpoint). receives y.desc.name.way) (sym is.1) ∙ goes))
       (push_which d.endpoints new e z (ap (λ (p : Offered). slice_get p.driver.endpoints e) (sym opened.opens.is) ∙ here))
@@ -103,8 +96,8 @@ opened_whole fixed takes member x s w line cmd o only to fits room offer opened 
       under_way = ready fixed takes member x s w line cmd o k opened range;
       blank = open_is_blank d w.memory o opened k.blank;
       names = accepted_apart d w.memory o k.feeding.turns.bulk (inl opened) k.names;
-      senders = sides fixed takes member x s w line cmd o k opened true x.stream stream.0 k.senders;
-      takers = sides fixed takes member x s w line cmd o k opened false takes stream.1 k.takers;
+      senders = sides fixed takes member x s w line cmd o k opened true x.stream stream.0;
+      takers = sides fixed takes member x s w line cmd o k opened false takes stream.1;
       taking = record { ends = k.taking.ends; piped = k.taking.piped; untaken = k.taking.untaken };
       runs = open_extents d w.memory o s.parts opened sound.stands sound.owners feeding.working.driven k.runs;
       tails = λ e z here met.
@@ -113,4 +106,5 @@ opened_whole fixed takes member x s w line cmd o only to fits room offer opened 
           (open_reaches d w.memory o s.parts s.order s.out opened (idle_ends d s.parts s.order s.out opened.opens.idle k.tails) e z here met);
       told = opened_told d w.memory o s.hand s.parts s.reported opened (apart fixed takes member x s w line cmd o k opened) k.told;
       bytes = k.bytes;
+      stays = command_nothing d w.memory cmd o k.feeding.turns.bulk k.stays only offer;
     }

@@ -8,6 +8,7 @@ use Rattle.run_owners.specs.Owners.{TransferRuns, transfer_in, views_of}
 use Rattle.lent_structures.specs.Structures.{Structure, Table}
 use Rattle.driver_parts.specs.Opened.{empty_list, opening_parts, is_head}
 use Rattle.driver_releases.specs.Extents.{AreInRuns}
+use Rattle.chained_transfers.proofs.Events.{new_nothing}
 use Rattle.fed_lends.proofs.Accepting.{opening_is_blank}
 use Rattle.told_queues.proofs.Standing.{new_told}
 use Rattle.open_names.proofs.Apart.{new_apart}
@@ -66,5 +67,6 @@ new_world_is_whole s fit bytes = record {
     tails = λ e x here met. absurd (no_endpoint e x here);
     told = new_told s.words (reserve_of s.lines) at_opening.hand at_opening.parts at_opening.reported;
     bytes = opened_bytes s bytes;
+    stays = new_nothing s.words (reserve_of s.lines);
   };
 }

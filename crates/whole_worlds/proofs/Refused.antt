@@ -32,6 +32,7 @@ module _ (d : DriverContent) (line : ℕ) (name : EpName) (why : OfferError) (m 
     here = k.here;
     command = k.command;
     made = k.made;
+    fresh = k.fresh;
     none = k.none;
     link = k.link;
     opened = record {
@@ -47,7 +48,7 @@ module _ (d : DriverContent) (line : ℕ) (name : EpName) (why : OfferError) (m 
   }
 
   lent : (member : ℕ → Bool) (parts : StructureSets) → IsOpenLent d member parts → IsOpenLent f member parts
-  lent member parts k = record { number = k.number; endpoint = k.endpoint; here = k.here; command = k.command; made = k.made; unmet = k.unmet; none = k.none; link = k.link; part = k.part }
+  lent member parts k = record { number = k.number; endpoint = k.endpoint; here = k.here; command = k.command; made = k.made; fresh = k.fresh; unmet = k.unmet; none = k.none; link = k.link; part = k.part }
 
   to_be_lent : (b : ℕ) (words : List ℕ) → IsToBeLent d m b words → IsToBeLent f m b words
   to_be_lent b words k =
@@ -63,6 +64,7 @@ module _ (d : DriverContent) (line : ℕ) (name : EpName) (why : OfferError) (m 
         newest = k.newest;
         there = k.there;
         here = k.here;
+        going = k.going;
         first = k.first;
         place = k.place;
         left = k.left;
@@ -89,7 +91,7 @@ module _ (d : DriverContent) (line : ℕ) (name : EpName) (why : OfferError) (m 
   under_way member parts None k = tt
   under_way member parts (Some (unfinished.Open queue)) k = ⊎_elim (λ (r : IsOpenReady d m). inl (ready r)) (λ (l : IsOpenLent d member parts). inr (lent member parts l)) k
   under_way member parts (Some (unfinished.Publish b words)) k = ⊎_elim (λ (g : IsToBeLent d m b words). inl (to_be_lent b words g)) (λ (made : 1 ≤ d.made). inr made) k
-  under_way member parts (Some (unfinished.Unlink e b link)) k = tt
+  under_way member parts (Some (unfinished.Unlink e b link)) k = k
   under_way member parts (Some unfinished.Chain) k = tt
   under_way member parts (Some (unfinished.Iso e t count)) k = tt
   under_way member parts (Some (unfinished.Unchain e)) k = tt
@@ -110,7 +112,9 @@ refused_whole fixed takes member x s w line name why feeding k =
       runs = k.runs;
       tails = λ e z here met.
           reaches_alike d (refused_line d line name why) s.parts s.order s.out e (tail_of d e z) z z refl refl
-          (λ h u y at there held. record { transfer = y; here = there; endpoint = refl; released = refl; qtds = refl; left = refl; places = λ j most. refl }) (k.tails e z here met);
+          (λ h u y at there held. record { transfer = y; here = there; endpoint = refl; released = refl; qtds = refl; left = refl; places = λ j most. refl })
+          (k.tails e z here (record { there = record { linked = met.there.linked; kept = met.there.kept }; near = met.near }));
       told = refused_told d (refused_line d line name why) s.hand s.parts s.reported row refl refl refl refl refl refl refl refl refl k.told;
       bytes = k.bytes;
+      stays = record { endpoints = k.stays.endpoints; command = k.stays.command; waiting = k.stays.waiting; rung = k.stays.rung; cleared = k.stays.cleared };
     }

@@ -21,9 +21,11 @@ use Rattle.driver_releases.specs.Released.{goes_of, release_row}
 use Rattle.in_place.specs.InPlace.{IsInPlace}
 use Rattle.in_place.proofs.Laws.{event_in_place}
 use Rattle.chained_transfers.specs.InTurn.{TakesTurns}
-use Rattle.chained_transfers.proofs.Events.{event_turns}
+use Rattle.chained_transfers.specs.Leaving.{NothingLeaves}
+use Rattle.chained_transfers.proofs.Events.{event_turns, event_nothing}
+use Rattle.chained_transfers.proofs.Holding.{held_alive}
 use Rattle.fed_lends.specs.ToLend.{AreBlank}
-use Rattle.fed_queues.specs.Places.{AreMet, HaveStreams}
+use Rattle.fed_queues.specs.Places.{IsMet, AreMet, HaveStreams}
 use Rattle.open_stores.specs.Opens.{AreNamesApart}
 use Rattle.released_queues.specs.Released.{IsReleased}
 use Rattle.released_queues.proofs.Releasing.{release_feeds, release_keeps_met}
@@ -34,13 +36,13 @@ use Rattle.bus_world.specs.World.{World, controller_parts, driver_parts, with_pa
 use Rattle.world_streams.specs.Streaming.{Streams, Standing, wired}
 use Rattle.shared_worlds.specs.Working.{IsWorking}
 use Rattle.reported_streams.specs.Reported.{AreReported}
-use Rattle.whole_worlds.specs.Feeding.{heads_of, IsFeeding}
+use Rattle.whole_worlds.specs.Feeding.{there_of, IsFeeding}
 use Rattle.whole_worlds.proofs.FeedingStores.{queue_above}
 use Rattle.whole_worlds.proofs.Heads.{right_of}
 use Rattle.whole_worlds.specs.Whole.{tail_block, tail_of, TailsStand, IsUnderWay, HaveSenders, IsWhole, HasWhole}
 use Rattle.whole_worlds.specs.Laws.{ReleaseKeepsWhole}
 use Rattle.whole_worlds.specs.Taking.{HaveTakers}
-use Rattle.whole_worlds.proofs.Returning.{due, transfer, endpoint, returning, stand, met}
+use Rattle.whole_worlds.proofs.Returning.{due, transfer, endpoint, returning, stand}
 use Rattle.whole_worlds.proofs.Telling.{release_told}
 use Rattle.whole_worlds.proofs.TakingReturns.{release_taking}
 
@@ -108,7 +110,9 @@ module _ (fixed : Fixed) (takes : ℕ → ℕ → Bool) (member : ℕ → Bool) 
   frameless words (empty none over) = empty none over
 
   above : 0 ≢ n
-  above = queue_above d y.endpoint z f.working.place.sound.owners f.turns.bulk (returning fixed takes member x s w t row k).endpoint
+  above =
+      let r = returning fixed takes member x s w t row k in
+      queue_above d y.endpoint z f.working.place.sound.owners f.turns.bulk r.endpoint (held_alive d t y z f.turns.turns r.here r.held r.endpoint)
 
   in_place : IsInPlace new.memory new.driver
   in_place = subst (λ (r : DriverRow). IsInPlace (after_driver_row r p).memory (after_driver_row r p).driver) row (event_in_place p f.working.place)
@@ -116,8 +120,11 @@ module _ (fixed : Fixed) (takes : ℕ → ℕ → Bool) (member : ℕ → Bool) 
   turns : TakesTurns new.driver
   turns = subst (λ (r : DriverRow). TakesTurns (after_driver_row r p).driver) row (event_turns p f.working.place.sound.owners f.turns)
 
-  counted : AreReported (heads_of member) s.order later s.hand now s.acc s.reported
-  counted = reported_stay (heads_of member) s.order s.out s.hand s.parts s.acc s.reported n goes g.head g.buffers g.untold f.counted
+  nothing : NothingLeaves new.driver
+  nothing = subst (λ (r : DriverRow). NothingLeaves (after_driver_row r p).driver) row (event_nothing p f.working.place.sound.owners f.turns k.stays)
+
+  counted : AreReported (there_of d) s.order later s.hand now s.acc s.reported
+  counted = reported_stay (there_of d) s.order s.out s.hand s.parts s.acc s.reported n goes g.head g.buffers g.untold f.counted
 
   working : IsWorking fixed opening_base member x standing new
   working = record {
@@ -150,7 +157,7 @@ module _ (fixed : Fixed) (takes : ℕ → ℕ → Bool) (member : ℕ → Bool) 
     working = working;
     turns = turns;
     queues = record { met = met_now.0; streams_are = met_now.1; fed = g.fed; last = g.last; out_are = g.still_out };
-    counted = counted;
+    counted = stays (λ (q : DriverContent). AreReported (there_of q) s.order later s.hand now s.acc s.reported) counted;
     unopened = f.unopened;
   }
 
@@ -166,9 +173,10 @@ module _ (fixed : Fixed) (takes : ℕ → ℕ → Bool) (member : ℕ → Bool) 
   tails : TailsStand new.driver now s.order later
   tails e c here is =
       let there : slice_get d.endpoints e ≡ Some c = ap (λ (q : Parts). slice_get q.driver.endpoints e) (sym row_is) ∙ here in
+      let same : IsMet after.driver e c = subst (λ (q : Parts). IsMet q.driver e c) row_is is in
       subst (Reaches new.driver (now (32 * c.queue)) (s.order (32 * c.queue)) (later (32 * c.queue)) e c) (tail_was e c ∙ sym (tail_is e c))
       (release_reaches opening_base member s.parts s.hand w.control.walk p s.order s.out t y z (stand fixed takes member x s w t row k) (returning fixed takes member x s w t row k) e c (tail_of d e c)
-      (k.tails e c there (met fixed takes member x s w t row k c)))
+      (k.tails e c there (record { there = record { linked = same.there.linked; kept = same.there.kept }; near = same.near })))
 
   -- ---- the whole
 
@@ -188,6 +196,7 @@ module _ (fixed : Fixed) (takes : ℕ → ℕ → Bool) (member : ℕ → Bool) 
     tails = tails;
     told = release_told opening_base member s.parts s.hand w.control.walk p s.order s.out t y z (stand fixed takes member x s w t row k) (returning fixed takes member x s w t row k) s.reported k.told;
     bytes = k.bytes;
+    stays = nothing;
   }
 
   new_whole : HasWhole fixed takes x.stream x.packets new

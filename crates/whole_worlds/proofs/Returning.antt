@@ -1,22 +1,22 @@
 -- The transfer that is given back, in a world whose endpoints are all bulk ones.
-use Rattle.std.proofs.Common.{◌≡◌, ℕ, zero, suc, ◌<◌, ◌≤◌, ◌&&◌, not, Bool, true, false, if◌then◌else◌, List, [], ◌∷◌, length, slice_get, Option, Some, None, refl, sym, subst, ◌∙◌, arith}
+use Rattle.std.proofs.Common.{◌≡◌, ℕ, zero, suc, ◌<◌, ◌≤◌, ◌&&◌, not, Bool, true, false, if◌then◌else◌, List, [], ◌∷◌, length, slice_get, Option, Some, None, refl, subst, arith}
 use Rattle.usb_bus.specs.Bus.{Fixed}
 use Rattle.driver_rows.specs.declared.content.Endpoint.{Endpoint}
 use Rattle.driver_rows.specs.declared.content.Transfer.{Transfer}
-use Rattle.driver_rows.specs.declared.content.Command.TheVariants as unfinished
 use Rattle.driver_rows.specs.declared.rows.DriverRow.TheVariants as rows
 use Rattle.driver_rows.specs.Rows.{driver_row}
 use Rattle.run_owners.specs.Due.{IsDue, IsTransferDue}
 use Rattle.run_owners.specs.Leaving.{owes}
 use Rattle.run_owners.proofs.Reasons.{each_is_due}
 use Rattle.driver_parts.specs.Opened.{opening_base}
-use Rattle.fed_queues.specs.Places.{IsMet}
+use Rattle.endpoint_lives.specs.Lives.{may_meet}
+use Rattle.endpoint_lives.proofs.Lives.{linked_met}
 use Rattle.released_queues.specs.Released.{IsReturning, ReleaseStands}
 use Rattle.standing_fronts.proofs.Lists.{times_some}
 use Rattle.bus_world.specs.World.{World, driver_parts}
 use Rattle.world_streams.specs.Streaming.{Streams, Standing}
 use Rattle.whole_worlds.specs.Whole.{IsWhole}
-use Rattle.whole_worlds.proofs.Heads.{rising}
+use Rattle.whole_worlds.proofs.Heads.{rising_there}
 
 -- ---- what is owed
 
@@ -61,15 +61,12 @@ module _ (fixed : Fixed) (takes : ℕ → ℕ → Bool) (member : ℕ → Bool) 
   abbrev pub endpoint : Endpoint
   endpoint = its_endpoint.0
 
-  pub returning : IsReturning w.driver t transfer endpoint
-  returning = record { free = due.idle; first = due.first; here = owed.here; held = owed.held; reported = owed.reported; endpoint = its_endpoint.1 }
+  -- it is in the ring
+  near : may_meet w.driver owed.transfer.endpoint endpoint ≡ true
+  near = linked_met w.driver owed.transfer.endpoint endpoint (k.stays.endpoints owed.transfer.endpoint endpoint its_endpoint.1).linked
 
-  -- no command is unfinished, and so each endpoint is met
-  pub met : (z : Endpoint) → IsMet w.driver z
-  met z is = no_open z.queue (sym due.idle ∙ is)
-    where
-      no_open : (b : ℕ) → None ≡ Some (unfinished.Open b) → ⊥
-      no_open b bad = cc
+  pub returning : IsReturning w.driver t transfer endpoint
+  returning = record { free = due.idle; first = due.first; here = owed.here; held = owed.held; reported = owed.reported; endpoint = its_endpoint.1; near = near }
 
   pub stand : ReleaseStands opening_base member s.parts s.hand w.control.walk (driver_parts w) s.order s.out
   stand =
@@ -86,6 +83,6 @@ module _ (fixed : Fixed) (takes : ℕ → ℕ → Bool) (member : ℕ → Bool) 
         last = f.queues.last;
         still_out = f.queues.out_are;
         fronts = λ e z here meets. (k.tails e z here meets).stands;
-        rise = λ e z here. rising fixed member x s w f e z here (met z);
-        met = λ e z here. f.queues.met.each e z here (met z);
+        rise = rising_there fixed member x s w f;
+        met = f.queues.met.each;
       }

@@ -14,6 +14,7 @@ use Rattle.ring_members.specs.Ring.{StandsFor, IsSound}
 use Rattle.ring_members.proofs.Links.{AreDistinct, rest_distinct, ring_is_read}
 use Rattle.ring_members.proofs.Placed.{ring_distinct}
 use Rattle.chained_transfers.specs.Bulk.{IsBulkCommand, OnlyBulk}
+use Rattle.chained_transfers.proofs.Staying.{fresh_linked}
 use Rattle.whole_worlds.specs.Placed.{linked_to, IsNone, AreOnce, ReadsRing}
 
 -- ---- each once
@@ -73,7 +74,7 @@ linked_now word xs ts None only s = s
 linked_now word xs ts (Some (unfinished.Open queue)) only s =
     subst (λ (ys : List Endpoint). AreLinked word head_block (take (length ys - 1) ys)) (sym s.all) (subst (λ (ys : List Endpoint). AreLinked word head_block ys) (sym (without_last s.older s.new)) s.ring)
 linked_now word xs ts (Some (unfinished.Publish b words)) only s = s.ring
-linked_now word xs ts (Some (unfinished.Unlink e b link)) only s = absurd only
+linked_now word xs ts (Some (unfinished.Unlink e b link)) only s = s.ring
 linked_now word xs ts (Some unfinished.Chain) only s = absurd only
 linked_now word xs ts (Some (unfinished.Iso e t count)) only s = absurd only
 linked_now word xs ts (Some (unfinished.Unchain e)) only s = absurd only
@@ -89,7 +90,7 @@ distinct_now xs (Some (unfinished.Unchain e)) distinct = distinct
 
 pub reads_ring : (m : Mem) (d : DriverContent) → IsSound m d → OnlyBulk d → ReadsRing m d
 reads_ring m d sound only = record {
-  all = λ e x here. (only.endpoints e x here).linked;
+  all = λ e x here fresh. fresh_linked x (only.endpoints e x here) fresh;
   chain = ring_is_read (link_in m) (linked_to d.command d.endpoints) (linked_now (link_in m) d.endpoints d.transfers d.command only.command sound.ring.ring);
   once = ring_once (linked_to d.command d.endpoints) (distinct_now d.endpoints d.command (ring_distinct d sound.owners));
 }

@@ -8,6 +8,7 @@ use Rattle.driver_rows.specs.declared.rows.DriverRow.TheVariants as rows
 use Rattle.driver_rows.specs.declared.rows.Found.{Found}
 use Rattle.driver_rows.specs.Rows.{driver_row}
 use Rattle.run_owners.specs.Due.{IsDue, IsNextOf, IsLinkOf}
+use Rattle.run_owners.specs.Leaving.{leaver}
 use Rattle.run_owners.proofs.Reasons.{each_is_due}
 use Rattle.usb_bus.specs.Bus.{Fixed}
 use Rattle.fed_lends.specs.ToLend.{IsToBeLent}
@@ -35,6 +36,9 @@ none_there xs x none here = let e : ◌≡◌ {A = Option _} None (Some x) = sym
 no_command : (o : Option Command) (c : Command) → o ≡ None → o ≡ Some c → ⊥
 no_command o c idle busy = let e : ◌≡◌ {A = Option Command} None (Some c) = sym idle ∙ busy in cc
 
+no_leaver : (e : ℕ) → ◌≡◌ {A = Option ℕ} None (Some e) → ⊥
+no_leaver e bad = cc
+
 module _ (fixed : Fixed) (takes : ℕ → ℕ → Bool) (member : ℕ → Bool) (x : Streams) (s : Standing) (w : World) (k : IsWhole fixed takes member x s w) (so : Type 0) (each : IsSoAfterEach member s w so) where
   bulk : OnlyBulk w.driver
   bulk = k.feeding.turns.bulk
@@ -60,7 +64,7 @@ module _ (fixed : Fixed) (takes : ℕ → ℕ → Bool) (member : ℕ → Bool) 
   idle_row (rows.Mend m) is due idle = absurd (none_there w.driver.mends m bulk.mends due.1)
   idle_row (rows.Unlink t) is due idle = absurd (none_there w.driver.periodic.unlinks t bulk.unlinks due.first)
   idle_row (rows.ReleaseRemoved what) is due idle = absurd (none_there w.driver.periodic.removals due.removal bulk.removals due.first)
-  idle_row (rows.ReleaseEndpoint e) is due idle = absurd (none_there w.driver.cleared e bulk.cleared due.first)
+  idle_row (rows.ReleaseEndpoint e) is due idle = absurd (none_there w.driver.cleared e k.stays.cleared due.first)
 
   -- ---- while a command is unfinished
 
@@ -78,7 +82,7 @@ module _ (fixed : Fixed) (takes : ℕ → ℕ → Bool) (member : ℕ → Bool) 
   by_command None is receiving way = idle_row (driver_row (driver_parts w)) refl (each_is_due (driver_parts w)) is
   by_command (Some (unfinished.Open queue)) is receiving way = opens way
   by_command (Some (unfinished.Publish b words)) is receiving way = publishes b words is way
-  by_command (Some (unfinished.Unlink e b link)) is receiving way = absurd receiving
+  by_command (Some (unfinished.Unlink e b link)) is receiving way = absurd (no_leaver e (sym k.stays.command ∙ ap leaver is))
   by_command (Some unfinished.Chain) is receiving way = absurd receiving
   by_command (Some (unfinished.Iso e t count)) is receiving way = absurd receiving
   by_command (Some (unfinished.Unchain e)) is receiving way = absurd receiving

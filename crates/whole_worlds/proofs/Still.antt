@@ -17,6 +17,9 @@ use Rattle.driver_rows.specs.DriverContent.{DriverContent}
 use Rattle.driver_rows.specs.Rows.{driver_row, after_driver_row, doorbell_command, bell_after}
 use Rattle.run_owners.specs.Due.{IsDue}
 use Rattle.run_owners.proofs.Reasons.{each_is_due}
+use Rattle.endpoint_lives.proofs.Lives.{linked_met}
+use Rattle.chained_transfers.specs.Leaving.{NothingLeaves}
+use Rattle.chained_transfers.proofs.Events.{event_nothing}
 use Rattle.usb_bus.specs.Bus.{Fixed}
 use Rattle.lent_structures.specs.Structures.{Structures}
 use Rattle.standing_fronts.specs.Reaching.{Reaches}
@@ -47,8 +50,8 @@ module _ (fixed : Fixed) (takes : ℕ → ℕ → Bool) (member : ℕ → Bool) 
   stilled_world cleared rung waiting bell turn status_next removals registers = record w { driver = stilled w.driver cleared rung waiting bell turn status_next removals; registers = registers }
 
   stilled_whole : (cleared rung waiting : List ℕ) (bell : Bell) (turn : Turn) (status_next : Bool) (removals : List Removal) (registers : RegisterFile) → w.driver.command ≡ None
-      → IsFeeding fixed member x s (stilled_world cleared rung waiting bell turn status_next removals registers) → IsWhole fixed takes member x s (stilled_world cleared rung waiting bell turn status_next removals registers)
-  stilled_whole cleared rung waiting bell turn status_next removals registers idle feeding =
+      → NothingLeaves (stilled w.driver cleared rung waiting bell turn status_next removals) → IsFeeding fixed member x s (stilled_world cleared rung waiting bell turn status_next removals registers) → IsWhole fixed takes member x s (stilled_world cleared rung waiting bell turn status_next removals registers)
+  stilled_whole cleared rung waiting bell turn status_next removals registers idle stays feeding =
       let f : DriverContent = stilled w.driver cleared rung waiting bell turn status_next removals in
       record {
         feeding = feeding;
@@ -59,35 +62,38 @@ module _ (fixed : Fixed) (takes : ℕ → ℕ → Bool) (member : ℕ → Bool) 
         takers = k.takers;
         taking = record { ends = k.taking.ends; piped = k.taking.piped; untaken = k.taking.untaken };
         runs = k.runs;
-        tails = λ e z here met. still_reaches w.driver cleared rung waiting bell turn status_next removals _ _ _ e z _ (k.tails e z here met);
-        told = alike_told w.driver f s.hand s.parts s.reported (record { reports = refl; store = refl; endpoints = refl; transfers = refl; notes = refl }) (λ z meets. meets) (λ z opens. opens) k.told;
+        tails = λ e z here met. still_reaches w.driver cleared rung waiting bell turn status_next removals _ _ _ e z _
+            (k.tails e z here (record { there = record { linked = met.there.linked; kept = met.there.kept }; near = linked_met w.driver e z (k.stays.endpoints e z here).linked }));
+        told = alike_told w.driver f s.hand s.parts s.reported (record { reports = refl; store = refl; endpoints = refl; transfers = refl; notes = refl }) (λ z meets. record { linked = meets.linked; kept = meets.kept }) (λ z opens. opens) k.told;
         bytes = k.bytes;
+        stays = stays;
       }
 
   abbrev after_row : DriverRow → World
   after_row row = with_parts w (after_driver_row row (driver_parts w))
 
-  still_row : (row : DriverRow) → IsDue (driver_parts w) row → is_still row ≡ true → IsFeeding fixed member x s (after_row row) → IsWhole fixed takes member x s (after_row row)
-  still_row rows.ClearAdvance due still f =
-      stilled_whole (w.driver.cleared ++ w.driver.rung) [] w.driver.waiting bells.Quiet turns.Harvest w.driver.periodic.status_next w.driver.periodic.removals (after_write w.registers 0x04 0x20) due.0 f
-  still_row rows.RingBell due still f =
-      stilled_whole w.driver.cleared (w.driver.rung ++ w.driver.waiting) [] bells.Rung turns.Harvest w.driver.periodic.status_next w.driver.periodic.removals (after_write w.registers 0x00 doorbell_command) due.0 f
-  still_row (rows.ReadStatus heard) due still f = stilled_whole w.driver.cleared w.driver.rung w.driver.waiting (bell_after heard) turns.Harvest false w.driver.periodic.removals w.registers due.0 f
-  still_row (rows.ReadFrame n) due still f = stilled_whole w.driver.cleared w.driver.rung w.driver.waiting w.driver.bell turns.Harvest true (read_again n w.driver.periodic.removals) w.registers due.0 f
-  still_row rows.Rest due still f = k
-  still_row rows.Lend due still f = absurd (false≢true still)
-  still_row (rows.Store b at v) due still f = absurd (false≢true still)
-  still_row (rows.Mend m) due still f = absurd (false≢true still)
-  still_row rows.Frames due still f = absurd (false≢true still)
-  still_row rows.LendDescriptors due still f = absurd (false≢true still)
-  still_row (rows.Unlink t) due still f = absurd (false≢true still)
-  still_row (rows.ReleaseRemoved what) due still f = absurd (false≢true still)
-  still_row (rows.ReleaseTransfer t) due still f = absurd (false≢true still)
-  still_row (rows.ReleaseEndpoint e) due still f = absurd (false≢true still)
-  still_row (rows.Harvest e t found) due still f = absurd (false≢true still)
+  still_row : (row : DriverRow) → IsDue (driver_parts w) row → is_still row ≡ true → NothingLeaves (after_row row).driver → IsFeeding fixed member x s (after_row row) → IsWhole fixed takes member x s (after_row row)
+  still_row rows.ClearAdvance due still stays f =
+      stilled_whole (w.driver.cleared ++ w.driver.rung) [] w.driver.waiting bells.Quiet turns.Harvest w.driver.periodic.status_next w.driver.periodic.removals (after_write w.registers 0x04 0x20) due.0 stays f
+  still_row rows.RingBell due still stays f =
+      stilled_whole w.driver.cleared (w.driver.rung ++ w.driver.waiting) [] bells.Rung turns.Harvest w.driver.periodic.status_next w.driver.periodic.removals (after_write w.registers 0x00 doorbell_command) due.0 stays f
+  still_row (rows.ReadStatus heard) due still stays f = stilled_whole w.driver.cleared w.driver.rung w.driver.waiting (bell_after heard) turns.Harvest false w.driver.periodic.removals w.registers due.0 stays f
+  still_row (rows.ReadFrame n) due still stays f = stilled_whole w.driver.cleared w.driver.rung w.driver.waiting w.driver.bell turns.Harvest true (read_again n w.driver.periodic.removals) w.registers due.0 stays f
+  still_row rows.Rest due still stays f = k
+  still_row rows.Lend due still stays f = absurd (false≢true still)
+  still_row (rows.Store b at v) due still stays f = absurd (false≢true still)
+  still_row (rows.Mend m) due still stays f = absurd (false≢true still)
+  still_row rows.Frames due still stays f = absurd (false≢true still)
+  still_row rows.LendDescriptors due still stays f = absurd (false≢true still)
+  still_row (rows.Unlink t) due still stays f = absurd (false≢true still)
+  still_row (rows.ReleaseRemoved what) due still stays f = absurd (false≢true still)
+  still_row (rows.ReleaseTransfer t) due still stays f = absurd (false≢true still)
+  still_row (rows.ReleaseEndpoint e) due still stays f = absurd (false≢true still)
+  still_row (rows.Harvest e t found) due still stays f = absurd (false≢true still)
 
 pub whole_still : (fixed : Fixed) (takes : ℕ → ℕ → Bool) (member : ℕ → Bool) (x : Streams) (s : Standing) (w : World) → is_still (driver_row (driver_parts w)) ≡ true → IsWhole fixed takes member x s w → IsWhole fixed takes member x s (driver_next w)
-whole_still fixed takes member x s w still k = still_row fixed takes member x s w k (driver_row (driver_parts w)) (each_is_due (driver_parts w)) still (still_feeds fixed member x s w still k.feeding)
+whole_still fixed takes member x s w still k = still_row fixed takes member x s w k (driver_row (driver_parts w)) (each_is_due (driver_parts w)) still
+    (event_nothing (driver_parts w) k.feeding.working.place.sound.owners k.feeding.turns k.stays) (still_feeds fixed member x s w still (λ clears. k.stays.rung) k.feeding)
 
 pub still_keeps_whole : StillKeepsWhole
 still_keeps_whole fixed takes member x s w still k = record { member = member; streams = x.streams; endpoint = x.endpoint; standing = s; whole = whole_still fixed takes member x s w still k }

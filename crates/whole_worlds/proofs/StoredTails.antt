@@ -1,5 +1,5 @@
 -- The tails of queues after a store of the newest transfer's first qTD: the last store publishes it, and the tail of its queue is the inactive one behind it.
-use Rattle.std.proofs.Common.{◌≡◌, ◌≢◌, ℕ, suc, ◌-◌, ◌*◌, ◌==◌, ◌<◌, ◌≤◌, Bool, false, if◌then◌else◌, List, ◌∷◌, ◌++◌, length, slice_get, Option, Some, None, option_map, ap, refl, sym, subst, ◌∙◌, ⊎_elim, arith}
+use Rattle.std.proofs.Common.{◌≡◌, ◌≢◌, ℕ, suc, ◌-◌, ◌*◌, ◌==◌, ◌<◌, ◌≤◌, Bool, true, false, if◌then◌else◌, List, ◌∷◌, ◌++◌, length, slice_get, Option, Some, None, option_map, ap, refl, sym, subst, ◌∙◌, ⊎_elim, arith}
 use Rattle.std.proofs.lemmas.Bool.{cases_eq, eq-eqb}
 use Rattle.std.proofs.lemmas.Option.{same_Some}
 use Rattle.qh_qtd.specs.declared.qtd.Qtd.{Qtd}
@@ -26,6 +26,7 @@ use Rattle.published_streams.specs.Storing.{with_out, stored_parts}
 use Rattle.published_streams.proofs.Storing.{out_apart}
 use Rattle.published_streams.proofs.Streams.{out_here, out_beside}
 use Rattle.chained_transfers.specs.Out.{out_of, out_now}
+use Rattle.endpoint_lives.specs.Lives.{may_meet}
 use Rattle.fed_queues.specs.Fed.{IsPublished}
 use Rattle.fed_queues.specs.Places.{IsMet}
 use Rattle.standing_fronts.specs.Reaching.{Reaches}
@@ -34,7 +35,7 @@ use Rattle.fed_stores.specs.Stores.{IsAtStore, published_by, parts_then, out_the
 use Rattle.fed_stores.proofs.Outs.{IsNewest, IsSplit, split_out, same_out}
 use Rattle.fed_stores.proofs.Apart.{dummy_placed, queue_placed, queues_same, thirty_two, all_lent}
 use Rattle.whole_worlds.specs.Whole.{tail_block, tail_of, TailsStand}
-use Rattle.whole_worlds.proofs.Storing.{made_is, below, one_more, finished, by_store, met_now}
+use Rattle.whole_worlds.proofs.Storing.{made_is, below, one_more, finished, by_store, met_now, met_still}
 
 -- a front tells nothing of the command
 reaches_by : (d : DriverContent) (c : Option Command) (made : ℕ) (part : Structures) (order : ℕ → ℕ) (out : List ℕ) (e : ℕ) (x : Endpoint) (a : ℕ) → Reaches d part order out e x a → Reaches (record d { command = c; made = made }) part order out e x a
@@ -77,8 +78,11 @@ module _ (p : DriverParts) (member streams : ℕ → Bool) (ends : ℕ → Told)
   old_idle : old.token.active ≡ false
   old_idle = idle g.qtd i (below p member streams ends parts order out b words k)
 
-  met : (x : Endpoint) → IsMet d x
-  met x = met_now p member streams ends parts order out b words k x
+  own_met : IsMet d y.endpoint g.endpoint
+  own_met = met_now p member streams ends parts order out b words k
+
+  met : (e : ℕ) (x : Endpoint) → x.gone ≡ false → may_meet d e x ≡ true → IsMet d e x
+  met e x kept near = met_still p member streams ends parts order out b words k e x kept near
 
   -- ---- what is out, with the place of the qTD that is stored
 
@@ -100,7 +104,7 @@ module _ (p : DriverParts) (member streams : ℕ → Bool) (ends : ℕ → Told)
       ∙ ap (λ (j : ℕ). out_of note e (Some (unfinished.Publish b words)) j d.transfers) (made_is p member streams ends parts order out b words k)
 
   out_split : out n ≡ split.before ++ split.after
-  out_split = k.out_are y.endpoint g.endpoint g.here (met g.endpoint) ∙ out_is y.endpoint ∙ split.out i
+  out_split = k.out_are y.endpoint g.endpoint g.here own_met.there ∙ out_is y.endpoint ∙ split.out i
 
   -- ---- a store before the last one
 
@@ -108,7 +112,7 @@ module _ (p : DriverParts) (member streams : ℕ → Bool) (ends : ℕ → Told)
   out_more m =
       ⊎_elim (λ (same : m ≡ n).
       ap (with_out out n (out_now more y.endpoint)) same ∙ out_here out n (out_now more y.endpoint) ∙ ap (λ (c : Option Command). out_of note y.endpoint c (suc d.made) d.transfers) k.command
-      ∙ same_out note y.endpoint b words d.transfers d.made i ∙ sym (out_is y.endpoint) ∙ sym (k.out_are y.endpoint g.endpoint g.here (met g.endpoint)) ∙ ap out (sym same))
+      ∙ same_out note y.endpoint b words d.transfers d.made i ∙ sym (out_is y.endpoint) ∙ sym (k.out_are y.endpoint g.endpoint g.here own_met.there) ∙ ap out (sym same))
       (λ (differs : m ≢ n). out_beside out n (out_now more y.endpoint) m differs) (cases_eq m n)
 
   stored_idle : d.made < 8 → (e : ℕ) (x : Endpoint) (a : ℕ) → Reaches d (parts (32 * x.queue)) (order (32 * x.queue)) (out (32 * x.queue)) e x a
@@ -125,7 +129,7 @@ module _ (p : DriverParts) (member streams : ℕ → Bool) (ends : ℕ → Told)
   tails_more low tails e x here meets =
       let m : ℕ = 32 * x.queue in
       subst (λ (xs : List ℕ). Reaches more (parts_then g m) (order m) xs e x (tail_of d e x)) (sym (out_more m))
-      (reaches_by d d.command (suc d.made) (parts_then g m) (order m) (out m) e x (tail_of d e x) (stored_idle low e x (tail_of d e x) (tails e x here (met x))))
+      (reaches_by d d.command (suc d.made) (parts_then g m) (order m) (out m) e x (tail_of d e x) (stored_idle low e x (tail_of d e x) (tails e x here (met e x meets.there.kept meets.near))))
 
   -- ---- the last one
 
@@ -146,13 +150,13 @@ module _ (p : DriverParts) (member streams : ℕ → Bool) (ends : ℕ → Told)
   lent_dummy : IsLent (slot_of d.book.slots g.endpoint.dummy)
   lent_dummy =
       all_lent d b words i g.endpoint.dummy k.command (made_is p member streams ends parts order out b words k) (below p member streams ends parts order out b words k) k.lent
-      (dummy_placed d k.sound.owners y.endpoint g.endpoint g.here (k.turns.bulk.endpoints y.endpoint g.endpoint g.here)).run
+      (dummy_placed d k.sound.owners y.endpoint g.endpoint g.here (k.turns.bulk.endpoints y.endpoint g.endpoint g.here) own_met.there.kept).run
 
-  queue_apart : (e : ℕ) (x : Endpoint) → slice_get d.endpoints e ≡ Some x → e ≢ y.endpoint → 32 * x.queue ≢ n
-  queue_apart e x here differs same =
+  queue_apart : (e : ℕ) (x : Endpoint) → slice_get d.endpoints e ≡ Some x → x.gone ≡ false → e ≢ y.endpoint → 32 * x.queue ≢ n
+  queue_apart e x here kept differs same =
       differs
-      (queues_same x.queue g.endpoint.queue e y.endpoint (thirty_two x.queue g.endpoint.queue same) (queue_placed d k.sound.owners e x here (k.turns.bulk.endpoints e x here))
-      (queue_placed d k.sound.owners y.endpoint g.endpoint g.here (k.turns.bulk.endpoints y.endpoint g.endpoint g.here)))
+      (queues_same x.queue g.endpoint.queue e y.endpoint (thirty_two x.queue g.endpoint.queue same) (queue_placed d k.sound.owners e x here (k.turns.bulk.endpoints e x here) kept)
+      (queue_placed d k.sound.owners y.endpoint g.endpoint g.here (k.turns.bulk.endpoints y.endpoint g.endpoint g.here) own_met.there.kept))
 
   module _ (eighth : d.made ≡ 8) (stands : QueuesThen done member streams ends (parts_then g) order (out_then out done g)) (mem : IsMember member n (parts_then g n)) (tails : TailsStand d parts order out) where
     abbrev c : ℕ
@@ -161,11 +165,11 @@ module _ (p : DriverParts) (member streams : ℕ → Bool) (ends : ℕ → Told)
     no_further : order n (32 * b) ≤ order n c
     no_further =
         ⊎_elim (λ (same : 32 * b ≡ c). let at = ap (order n) same in omega (arith, at))
-        (λ (differs : 32 * b ≢ c). let less = stands.last.dummies y.endpoint g.endpoint g.here lent_dummy (32 * b) new (put_same parts n (32 * b) (Element new)) differs in omega (arith, less)) (cases_eq (32 * b) c)
+        (λ (differs : 32 * b ≢ c). let less = stands.last.dummies y.endpoint g.endpoint g.here own_met.there.kept lent_dummy (32 * b) new (put_same parts n (32 * b) (Element new)) differs in omega (arith, less)) (cases_eq (32 * b) c)
 
     within_then : LinksWithin (order n) c (parts_then g n)
     within_then =
-        last_is_tail member (order n) c n (parts_then g n) dummy_qtd mem (stands.fed.dummies y.endpoint g.endpoint g.here lent_dummy) refl (stands.last.dummies y.endpoint g.endpoint g.here lent_dummy)
+        last_is_tail member (order n) c n (parts_then g n) dummy_qtd mem (stands.fed.dummies y.endpoint g.endpoint g.here own_met.there.kept lent_dummy) refl (stands.last.dummies y.endpoint g.endpoint g.here own_met.there.kept lent_dummy)
 
     fresh_last : IsFresh (parts n) new
     fresh_last = subst (λ (j : ℕ). IsFresh (parts n) (partly g.qtd j)) (sym eighth) (let fresh : IsFresh (parts n) g.qtd = g.total ∙ sym (g.long k.made) in fresh)
@@ -175,21 +179,21 @@ module _ (p : DriverParts) (member streams : ℕ → Bool) (ends : ℕ → Told)
         reaches_last_store d parts (order n) split.before split.after y.endpoint (32 * b) g.endpoint old new c g.stored old_idle (ap (λ (j : ℕ). (partly g.qtd j).token.active) eighth ∙ g.active) sorted fresh_last
         no_further within_then
         (subst (λ (xs : List ℕ). Reaches d (parts n) (order n) xs y.endpoint g.endpoint (32 * b)) out_split
-        (subst (λ (a : ℕ). Reaches d (parts n) (order n) (out n) y.endpoint g.endpoint a) tail_here (tails y.endpoint g.endpoint g.here (met g.endpoint))))
+        (subst (λ (a : ℕ). Reaches d (parts n) (order n) (out n) y.endpoint g.endpoint a) tail_here (tails y.endpoint g.endpoint g.here own_met)))
 
     own_then : Reaches done (parts_then g n) (order n) (out_then out done g n) y.endpoint g.endpoint c
     own_then =
         subst (λ (xs : List ℕ). Reaches done (parts_then g n) (order n) xs y.endpoint g.endpoint c) (sym (out_here out n (out_now done y.endpoint) ∙ split.all))
         (reaches_by d None 0 (parts_then g n) (order n) (split.before ++ (32 * b) ∷ split.after) y.endpoint g.endpoint c published)
 
-    beside_then : (e : ℕ) (x : Endpoint) → slice_get d.endpoints e ≡ Some x → e ≢ y.endpoint
+    beside_then : (e : ℕ) (x : Endpoint) → slice_get d.endpoints e ≡ Some x → IsMet d e x → e ≢ y.endpoint
         → Reaches done (parts_then g (32 * x.queue)) (order (32 * x.queue)) (out_then out done g (32 * x.queue)) e x (32 * x.dummy)
-    beside_then e x here differs =
+    beside_then e x here was differs =
         let m : ℕ = 32 * x.queue in
-        let apart : m ≢ n = queue_apart e x here differs in
+        let apart : m ≢ n = queue_apart e x here was.there.kept differs in
         subst (λ (xs : List ℕ). Reaches done (parts_then g m) (order m) xs e x (32 * x.dummy)) (sym (out_beside out n (out_now done y.endpoint) m apart))
         (subst (λ (part : Structures). Reaches done part (order m) (out m) e x (32 * x.dummy)) (sym (put_beside parts n (32 * b) (Element new) m apart))
-        (reaches_by d None 0 (parts m) (order m) (out m) e x (32 * x.dummy) (subst (λ (a : ℕ). Reaches d (parts m) (order m) (out m) e x a) (tail_beside e x differs) (tails e x here (met x)))))
+        (reaches_by d None 0 (parts m) (order m) (out m) e x (32 * x.dummy) (subst (λ (a : ℕ). Reaches d (parts m) (order m) (out m) e x a) (tail_beside e x differs) (tails e x here was))))
 
     tails_done : TailsStand done (parts_then g) order (out_then out done g)
     tails_done e x here meets =
@@ -197,7 +201,7 @@ module _ (p : DriverParts) (member streams : ℕ → Bool) (ends : ℕ → Told)
         let is : x ≡ g.endpoint = same_Some x g.endpoint (sym here ∙ ap (slice_get d.endpoints) same ∙ g.here) in
         subst (λ (j : ℕ). Reaches done (parts_then g (32 * x.queue)) (order (32 * x.queue)) (out_then out done g (32 * x.queue)) j x (32 * x.dummy)) (sym same)
         (subst (λ (z : Endpoint). Reaches done (parts_then g (32 * z.queue)) (order (32 * z.queue)) (out_then out done g (32 * z.queue)) y.endpoint z (32 * z.dummy)) (sym is) own_then))
-        (λ (differs : e ≢ y.endpoint). beside_then e x here differs) (cases_eq e y.endpoint)
+        (λ (differs : e ≢ y.endpoint). beside_then e x here (met e x meets.there.kept meets.near) differs) (cases_eq e y.endpoint)
 
   pub tails_then : QueuesThen (next_of p).driver member streams ends (parts_then g) order (out_then out (next_of p).driver g) → IsMember member n (parts_then g n) → TailsStand d parts order out
       → TailsStand (next_of p).driver (parts_then g) order (out_then out (next_of p).driver g)

@@ -1,6 +1,6 @@
 -- What a store of a driver that publishes its newest transfer leaves of the driver's content, of what is told of its queues and of its runs.
 use Rattle.std.proofs.Common.{◌≡◌, ◌≢◌, ℕ, suc, ◌-◌, ◌*◌, ◌<◌, ◌≤◌, Bool, true, false, if◌then◌else◌, List, slice_get, Option, Some, None, option_map, ap, refl, sym, subst, ◌∙◌, ⊎_elim, inr, arith}
-use Rattle.std.proofs.lemmas.Bool.{cases_lt, lt-ltb, false≢true}
+use Rattle.std.proofs.lemmas.Bool.{cases_lt, lt-ltb}
 use Rattle.std.proofs.lemmas.Option.{same_Some}
 use Rattle.word_mem.specs.Memory.{Mem}
 use Rattle.qh_qtd.specs.declared.qtd.Qtd.{Qtd}
@@ -22,7 +22,7 @@ use Rattle.driver_publishes.proofs.Rows.{counted, after_is}
 use Rattle.driver_releases.specs.Extents.{AreInRuns}
 use Rattle.driver_releases.proofs.Extending.{extents_stay, element_put}
 use Rattle.published_streams.proofs.Storing.{same_hand, spares_head, spares_element}
-use Rattle.chained_transfers.specs.Turns.{Turn, turn_of, turn_in, AreReportedTo, IsNext}
+use Rattle.endpoint_lives.specs.Lives.{may_meet}
 use Rattle.told_harvests.specs.Held.{IsOneFrom}
 use Rattle.harvest_rows.specs.Holds.{IsNextOf}
 use Rattle.harvest_rows.proofs.Places.{one_sooner, owner_is}
@@ -30,10 +30,12 @@ use Rattle.told_queues.specs.Told.{ToldStands}
 use Rattle.told_queues.specs.Laws.{SparesDone}
 use Rattle.told_queues.proofs.Standing.{spared_told, alike_told}
 use Rattle.fed_queues.specs.Fed.{IsPublished}
-use Rattle.fed_queues.specs.Places.{IsMet}
+use Rattle.fed_queues.specs.Places.{IsThere, IsMet}
+use Rattle.fed_queues.proofs.Places.{going_met}
 use Rattle.fed_stores.specs.Stores.{IsAtStore, published_by, parts_then, next_of}
 use Rattle.fed_stores.proofs.Apart.{piece_placed, thirty_two}
 use Rattle.whole_worlds.specs.Whole.{IsUnderWay}
+use Rattle.whole_worlds.proofs.There.{next_waits}
 
 same_piece : (t u : ℕ) → PieceOf t ≡ PieceOf u → t ≡ u
 same_piece t u is = cc
@@ -105,8 +107,18 @@ module _ (p : DriverParts) (member streams : ℕ → Bool) (ends : ℕ → Told)
   none_not_open : (c : ℕ) → ◌≡◌ {A = Option Command} None (Some (unfinished.Open c)) → ⊥
   none_not_open c same = cc
 
-  pub met_now : (x : Endpoint) → IsMet d x
-  met_now x same = publish_not_open x.queue (sym k.command ∙ same)
+  never_opens : (c : ℕ) → d.command ≡ Some (unfinished.Open c) → ⊥
+  never_opens c same = publish_not_open c (sym k.command ∙ same)
+
+  -- its endpoint goes on
+  pub met_now : IsMet d y.endpoint g.endpoint
+  met_now = going_met d y.endpoint g.endpoint (k.turns.bulk.endpoints y.endpoint g.endpoint g.here) g.going (never_opens g.endpoint.queue)
+
+  pub there_still : (x : Endpoint) → x.gone ≡ false → IsThere d x
+  there_still x kept = record { linked = never_opens x.queue; kept = kept }
+
+  pub met_still : (e : ℕ) (x : Endpoint) → x.gone ≡ false → may_meet d e x ≡ true → IsMet d e x
+  met_still e x kept near = record { there = there_still x kept; near = near }
 
   pub under_way_then : (m : Mem) (now : StructureSets) → IsUnderWay (next_of p).driver m member now (next_of p).driver.command
   under_way_then m now =
@@ -121,17 +133,7 @@ module _ (p : DriverParts) (member streams : ℕ → Bool) (ends : ℕ → Told)
       subst (λ (c : ℕ). IsPlaced (slot_of d.book.slots) k.sound.owners.owner c (PieceOf g.number)) g.place.0 (piece_placed d k.sound.owners g.number 0 y g.there g.fresh.1 some)
 
   next_held : (e t : ℕ) (x : Endpoint) (z : Transfer) → IsNextOf d e t x z → z.released ≡ false
-  next_held e t x z is = by_released z.released refl
-    where
-      waits : z.reported ≡ false
-      waits =
-          let next : IsNext (turn_in d.transfers) e t = subst (AreReportedTo (turn_in d.transfers) e) is.next (k.turns.turns.turns.next e x is.endpoint is.going) in
-          let same : next.transfer ≡ turn_of z = same_Some next.transfer (turn_of z) (sym next.here ∙ ap (option_map turn_of) is.transfer) in
-          ap (λ (r : Turn). r.reported) (sym same) ∙ next.waits
-
-      by_released : (on : Bool) → z.released ≡ on → on ≡ false
-      by_released false is_off = refl
-      by_released true is_on = absurd (false≢true (sym waits ∙ k.turns.turns.turns.told t (turn_of z) (ap (option_map turn_of) is.transfer) is_on))
+  next_held e t x z is = (next_waits d e t x z k.turns is).1
 
   not_read : (e t : ℕ) (x : Endpoint) (z : Transfer) (a : ℕ) → IsNextOf d e t x z → IsOneFrom (note_at d.notes) z.first (z.qtds - z.left) a → a ≢ b
   not_read e t x z a is one same =
@@ -153,9 +155,9 @@ module _ (p : DriverParts) (member streams : ℕ → Bool) (ends : ℕ → Told)
   told_then hand reported told =
       let spared : ToldStands d hand (parts_then g) reported = spared_told d hand hand parts (parts_then g) reported (same_hand hand) spares_done told in
       by_store (λ (f : DriverContent). ToldStands f hand (parts_then g) reported)
-      (λ low. alike_told d one_more hand (parts_then g) reported (record { reports = refl; store = refl; endpoints = refl; transfers = refl; notes = refl }) (λ x meets. met_now x) (λ x is. is) spared)
+      (λ low. alike_told d one_more hand (parts_then g) reported (record { reports = refl; store = refl; endpoints = refl; transfers = refl; notes = refl }) (λ x meets. there_still x meets.kept) (λ x is. is) spared)
       (λ eighth.
-      alike_told d finished hand (parts_then g) reported (record { reports = refl; store = refl; endpoints = refl; transfers = refl; notes = refl }) (λ x meets. met_now x) (λ x is. absurd (none_not_open x.queue is)) spared)
+      alike_told d finished hand (parts_then g) reported (record { reports = refl; store = refl; endpoints = refl; transfers = refl; notes = refl }) (λ x meets. there_still x meets.kept) (λ x is. absurd (none_not_open x.queue is)) spared)
 
   -- ---- runs
 

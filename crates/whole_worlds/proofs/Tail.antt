@@ -7,7 +7,6 @@ use Rattle.driver_rows.specs.declared.content.Command.TheVariants as unfinished
 use Rattle.driver_rows.specs.DriverContent.{DriverContent}
 use Rattle.lent_structures.specs.Structures.{StructureSets}
 use Rattle.chained_transfers.proofs.Chained.{pushed_last}
-use Rattle.fed_queues.specs.Places.{IsMet}
 use Rattle.standing_fronts.specs.Reaching.{Reaches}
 use Rattle.commanded_queues.specs.Accepted.{ReachEnds}
 use Rattle.whole_worlds.specs.Whole.{tail_block, tail_of, TailsStand}
@@ -37,13 +36,7 @@ newest_there ts y =
     let last : length (ts ++ y ∷ []) - 1 ≡ length ts = omega (arith, long) in
     ap (slice_get (ts ++ y ∷ [])) last ∙ pushed_last ts y
 
-no_open : (queue : ℕ) → ◌≡◌ {A = Option Command} None (Some (unfinished.Open queue)) → ⊥
-no_open queue is = cc
-
--- where no command is unfinished each endpoint is met, and the tail is the end of its queue
-pub idle_met : (d : DriverContent) (x : Endpoint) → d.command ≡ None → IsMet d x
-idle_met d x idle is = no_open x.queue (subst (λ (c : Option Command). c ≡ Some (unfinished.Open x.queue)) idle is)
-
+-- where no command is unfinished the tail is the end of the queue
 pub idle_ends : (d : DriverContent) (parts : StructureSets) (order : ℕ → ℕ → ℕ) (out : ℕ → List ℕ) → d.command ≡ None → TailsStand d parts order out → ReachEnds d parts order out
-idle_ends d parts order out idle tails e x here =
-    subst (λ (c : ℕ). Reaches d (parts (32 * x.queue)) (order (32 * x.queue)) (out (32 * x.queue)) e x c) (idle_tail d e x idle) (tails e x here (idle_met d x idle))
+idle_ends d parts order out idle tails e x here met =
+    subst (λ (c : ℕ). Reaches d (parts (32 * x.queue)) (order (32 * x.queue)) (out (32 * x.queue)) e x c) (idle_tail d e x idle) (tails e x here met)

@@ -33,7 +33,7 @@ use Rattle.world_streams.specs.Streaming.{Streams, Standing, wired}
 use Rattle.fed_lends.specs.ToLend.{AreStagesBy, IsToBeLent, lent_now}
 use Rattle.fed_lends.proofs.Fed.{y_of, x_of}
 use Rattle.fed_lends.proofs.Names.{names_lent}
-use Rattle.fed_lends.proofs.Reports.{is_met}
+use Rattle.fed_lends.proofs.Reports.{it_is_met}
 use Rattle.fed_lends.proofs.Row.{advance_is, after_is}
 use Rattle.released_queues.specs.Fronts.{FrontsStand}
 use Rattle.out_rows.specs.Outs.{GoesAs}
@@ -149,7 +149,7 @@ module _ (fixed : Fixed) (takes : ℕ → ℕ → Bool) (member : ℕ → Bool) 
 
   new_as : AreNewAs (outs_of member x.streams) s.parts g.parts
   new_as i a t here on =
-      let met = is_met d m b words get.endpoint get in
+      let met = it_is_met d m b words f.turns.bulk get in
       ⊎_elim (λ (was : s.parts i a ≡ Some (Element t)). inl was)
       (λ (new : (i ≡ n) × (t.token.pid ≡ pid_by get.endpoint.desc.name.way)).
       inr (subst (λ (j : ℕ). GoesAs (outs_of member x.streams) j t) (sym new.0)

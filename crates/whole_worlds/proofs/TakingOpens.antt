@@ -38,9 +38,9 @@ use Rattle.opened_streams.specs.Opened.{with_stream, with_end, with_none, IsOneM
 use Rattle.opened_streams.proofs.Beginning.{stream_here, ends_with_one, ends_with_other}
 use Rattle.opened_streams.proofs.Alike.{alike_ends}
 use Rattle.chained_transfers.specs.Bulk.{receives}
-use Rattle.fed_queues.specs.Places.{HasHead}
+use Rattle.fed_queues.specs.Places.{HasHead, HasThere}
 use Rattle.open_stores.specs.Opens.{IsOpenLent, IsAtOpen, head_then, hand_then, end_then, streams_then}
-use Rattle.open_stores.proofs.Standing.{then_here, then_beside, member_here, member_old, member_beside, element_was}
+use Rattle.open_stores.proofs.Standing.{then_here, then_beside, member_here, member_old, member_beside, element_was, its_alive}
 use Rattle.open_stores.proofs.Streams.{one_more}
 use Rattle.open_lends.specs.Lends.{IsOpenReady, parts_lent}
 use Rattle.out_rows.specs.Outs.{IsAside, AreAside, AreOutPiped, AreUntaken}
@@ -154,8 +154,14 @@ module _ (fixed : Fixed) (takes : ℕ → ℕ → Bool) (member : ℕ → Bool) 
   had : (m : ℕ) → those m ≡ true → HasHead w.driver m
   had m on = head_is w.driver member m f.queues.met (out_on member x.streams m on).1
 
+  had_there : (m : ℕ) → those m ≡ true → HasThere w.driver m
+  had_there m on = let h : HasHead w.driver m = had m on in record { number = h.number; endpoint = h.endpoint; here = h.here; there = h.met.there; at = h.at }
+
+  alive : e.gone ≡ false
+  alive = its_alive p member x.streams x.endpoint s.parts s.order s.out at
+
   one_of_those : IsOneMore those s.hand later s.parts parts_now new_at (end_then e)
-  one_of_those = one_more opening_base w.control.walk s.hand p member x.streams x.endpoint s.parts s.order s.out at old those had
+  one_of_those = one_more opening_base w.control.walk s.hand p member x.streams x.endpoint s.parts s.order s.out at old those had_there
 
   spares : (m : ℕ) → SparesHead s.parts parts_now m
   spares m r is =
@@ -199,7 +205,7 @@ module _ (fixed : Fixed) (takes : ℕ → ℕ → Bool) (member : ℕ → Bool) 
       k.names h.number lent.number h.endpoint e h.here lent.here (sym (ap (λ (z : Told). z.addr) is) ∙ addr) (sym (ap (λ (z : Told). z.ep) is) ∙ ep)
       (way_out h.endpoint.desc.name.way too ∙ sym (way_out e.desc.name.way goes)) in
       let same : h.endpoint ≡ e = same_Some h.endpoint e (sym h.here ∙ ap (slice_get w.driver.endpoints) number ∙ lent.here) in
-      h.met (lent.command ∙ ap (λ (z : Endpoint). Some (unfinished.Open z.queue)) (sym same))
+      h.met.there.linked (lent.command ∙ ap (λ (z : Endpoint). Some (unfinished.Open z.queue)) (sym same))
 
   -- ---- which these are then
 
@@ -212,7 +218,7 @@ module _ (fixed : Fixed) (takes : ℕ → ℕ → Bool) (member : ℕ → Bool) 
   then_there =
       ap (λ (b : Bool). if b then false else heads_of wider new_at) (then_here x.streams e)
       ∙ ap (λ (b : Bool). if receives e.desc.name.way then false else b)
-      (head_of wider new_at (not_head w.driver lent.number e f.working.place.sound.owners f.turns.bulk lent.here) ∙ member_here member new_at)
+      (head_of wider new_at (not_head w.driver lent.number e f.working.place.sound.owners f.turns.bulk lent.here alive) ∙ member_here member new_at)
 
   then_out : receives e.desc.name.way ≡ false → (m : ℕ) → outs_of wider (streams_then x.streams e) m ≡ with_stream those new_at m
   then_out goes m =
@@ -234,7 +240,7 @@ module _ (fixed : Fixed) (takes : ℕ → ℕ → Bool) (member : ℕ → Bool) 
 
   goes_out : receives e.desc.name.way ≡ false → Goes (with_stream those new_at)
   goes_out goes =
-      let on : takes e.desc.name.addr e.desc.name.num ≡ true = k.takers lent.number e lent.here goes in (
+      let on : takes e.desc.name.addr e.desc.name.num ≡ true = k.takers lent.number e lent.here lent.command alive goes in (
         ends_with_one takes member wider those x.endpoint new_at (end_then e) (member_old member new_at) (member_here member new_at) on (ap speed_field (f.turns.bulk.endpoints lent.number e lent.here).bulk.speed)
             (unopened goes) k.taking.ends,
         out_pipes_with_one taker_of takes member wider those x.endpoint known s.hand later s.parts parts_now (wired fixed w) new_at (end_then e) one_head

@@ -1,10 +1,11 @@
 -- A store of the first qTD of a transfer leaves the pipes of OUT endpoints agreed.
-use Rattle.std.proofs.Common.{◌≡◌, ℕ, ◌-◌, ◌*◌, ◌<◌, ◌≤◌, Bool, true, false, if◌then◌else◌, List, Some, ap, sym, ◌∙◌, ⊎_elim, inl, inr, arith}
+use Rattle.std.proofs.Common.{◌≡◌, ℕ, ◌-◌, ◌*◌, ◌<◌, ◌≤◌, Bool, true, false, if◌then◌else◌, List, Option, Some, ap, sym, ◌∙◌, ⊎_elim, inl, inr, arith}
 use Rattle.std.specs.List.{concat}
 use Rattle.std.proofs.lemmas.Bool.{cases_Bool, cases_lt, false≢true}
 use Rattle.usb_base.specs.declared.packets.Way.{Way}
 use Rattle.usb_bus.specs.Bus.{Fixed}
 use Rattle.qh_qtd.specs.declared.qtd.Qtd.{Qtd}
+use Rattle.driver_rows.specs.declared.content.Command.{Command}
 use Rattle.driver_rows.specs.declared.content.Command.TheVariants as unfinished
 use Rattle.driver_rows.specs.Rows.{Parts as DriverParts}
 use Rattle.chained_transfers.specs.Bulk.{receives, pid_by}
@@ -16,6 +17,7 @@ use Rattle.bus_world.specs.World.{World, driver_parts, driver_next}
 use Rattle.world_streams.specs.Streaming.{Streams, Standing, wired}
 use Rattle.fed_queues.specs.Fed.{IsPublished}
 use Rattle.fed_queues.specs.Places.{IsMet}
+use Rattle.fed_queues.proofs.Places.{going_met}
 use Rattle.fed_stores.specs.Stores.{IsAtStore, published_by}
 use Rattle.out_rows.specs.Outs.{GoesAs}
 use Rattle.out_rows.proofs.Storing.{store_pipes}
@@ -24,7 +26,7 @@ use Rattle.whole_worlds.specs.Whole.{IsWhole}
 use Rattle.whole_worlds.specs.Taking.{outs_of, IsTaking}
 use Rattle.whole_worlds.proofs.Heads.{queue_on}
 use Rattle.whole_worlds.proofs.FeedingStores.{at, after_store}
-use Rattle.whole_worlds.proofs.Storing.{below, met_now}
+use Rattle.whole_worlds.proofs.Storing.{below}
 
 -- ---- the queue heads of OUT endpoints
 
@@ -67,8 +69,12 @@ module _ (fixed : Fixed) (takes : ℕ → ℕ → Bool) (member : ℕ → Bool) 
   abbrev new : Qtd
   new = partly g.qtd w.driver.made
 
-  met : IsMet w.driver g.endpoint
-  met = met_now p member x.streams x.endpoint s.parts s.order s.out b words k g.endpoint
+  met : IsMet w.driver g.transfer.endpoint g.endpoint
+  met =
+      going_met w.driver g.transfer.endpoint g.endpoint (f.turns.bulk.endpoints g.transfer.endpoint g.endpoint g.here) g.going (λ is. never_opens (sym command ∙ is))
+    where
+      never_opens : ◌≡◌ {A = Option Command} (Some (unfinished.Publish b words)) (Some (unfinished.Open g.endpoint.queue)) → ⊥
+      never_opens is = cc
 
   -- it is active once all of its words are stored
   asks : new.token.active ≡ true → new.token.pid ≡ pid_by way

@@ -1,5 +1,5 @@
 -- What is told of each queue once a transfer's blocks were given back: what is held back is of the next transfers, and these aren't reported yet.
-use Rattle.std.proofs.Common.{◌≡◌, ◌≢◌, ℕ, ◌-◌, ◌*◌, Bool, true, false, List, slice_get, Option, Some, None, option_map, ap, refl, sym, subst, ◌∙◌, ⊎_elim, arith}
+use Rattle.std.proofs.Common.{◌≡◌, ◌≢◌, ℕ, ◌-◌, ◌*◌, Bool, false, List, slice_get, Option, Some, ap, refl, sym, subst, ◌∙◌, ⊎_elim, arith}
 use Rattle.std.proofs.lemmas.Bool.{cases_eq, true≢false}
 use Rattle.std.proofs.lemmas.Option.{same_Some}
 use Rattle.async_walk.specs.Walk.{Walk}
@@ -10,7 +10,7 @@ use Rattle.driver_rows.specs.DriverContent.{DriverContent}
 use Rattle.driver_rows.specs.Rows.{Parts as DriverParts, freed_by, free_qtds, after_transfer, after_driver_row}
 use Rattle.driver_rows.specs.Harvests.{note_at}
 use Rattle.run_owners.specs.Owners.{Element}
-use Rattle.chained_transfers.specs.Turns.{Turn, turn_of, turn_in, IsNext, AreReportedTo}
+use Rattle.chained_transfers.specs.InTurn.{TakesTurns}
 use Rattle.lent_structures.specs.Structures.{Structures, StructureSets}
 use Rattle.lent_structures.proofs.Names.{not_same}
 use Rattle.ring_walk.specs.Hand.{Hand}
@@ -23,15 +23,15 @@ use Rattle.returned_streams.proofs.Returning.{spares_head, spares_element}
 use Rattle.driver_releases.specs.Released.{goes_of, release_row}
 use Rattle.driver_releases.proofs.Blocks.{mine}
 use Rattle.released_queues.specs.Released.{IsReturning, ReleaseStands}
-use Rattle.released_queues.proofs.Queues.{mapped, pieces_of, goes_off}
+use Rattle.released_queues.proofs.Queues.{pieces_of, goes_off}
 use Rattle.released_queues.proofs.Going.{head_stays, buffers_stay}
 use Rattle.told_harvests.specs.Held.{IsOneFrom}
 use Rattle.harvest_rows.specs.Holds.{IsNextOf}
 use Rattle.harvest_rows.proofs.Places.{one_sooner, owner_is}
-use Rattle.held_commands.specs.Laws.{AreThere}
 use Rattle.told_queues.specs.Told.{ToldStands}
 use Rattle.told_queues.specs.Laws.{SparesDone}
 use Rattle.told_queues.proofs.Standing.{spared_told, returned_told}
+use Rattle.whole_worlds.proofs.There.{there_now, next_waits}
 
 module _ (base : Base) (member : ℕ → Bool) (parts : StructureSets) (hand : Hand) (w : Walk) (p : DriverParts) (order : ℕ → ℕ → ℕ) (out : ℕ → List ℕ) (t : ℕ) (y : Transfer) (x : Endpoint) (s : ReleaseStands base member parts hand w p order out) (k : IsReturning p.driver t y x) where
   abbrev d : DriverContent
@@ -51,40 +51,18 @@ module _ (base : Base) (member : ℕ → Bool) (parts : StructureSets) (hand : H
 
   -- ---- the next transfers
 
-  next_turn : (e u : ℕ) (z : Endpoint) → slice_get d.endpoints e ≡ Some z → z.ended ≡ None → z.next ≡ Some u → IsNext (turn_in d.transfers) e u
-  next_turn e u z here going next = subst (AreReportedTo (turn_in d.transfers) e) next (s.turns.turns.next e z here going)
-
-  waits_held : (u : ℕ) (r : Transfer) → slice_get d.transfers u ≡ Some r → r.reported ≡ false → r.released ≡ false
-  waits_held u r there waits = by_test r.released refl
-    where
-      by_test : (b : Bool) → r.released ≡ b → b ≡ false
-      by_test false is = refl
-      by_test true is = absurd (true≢false (sym (s.turns.turns.told u (turn_of r) (ap (option_map turn_of) there) is) ∙ waits))
-
-  next_waits : (e u : ℕ) (z : Endpoint) (r : Transfer) → IsNextOf d e u z r → r.reported ≡ false
-  next_waits e u z r is =
-      let turn = next_turn e u z is.endpoint is.going is.next in
-      let same : turn.transfer ≡ turn_of r = same_Some turn.transfer (turn_of r) (sym turn.here ∙ ap (option_map turn_of) is.transfer) in
-      ap (λ (q : Turn). q.reported) (sym same) ∙ turn.waits
-
-  are_there : AreThere d
-  are_there = (
-    waits_held,
-    λ e u z here going next.
-        let turn = next_turn e u z here going next in
-        let r = mapped turn_of (slice_get d.transfers u) turn.transfer turn.here in
-        (r.0, r.1, ap (λ (q : Turn). q.reported) (sym r.2) ∙ turn.waits),
-  )
+  turns : TakesTurns d
+  turns = record { bulk = s.bulk; chained = s.chained; turns = s.turns }
 
   -- ---- their qTDs stay
 
   next_stays : (e u : ℕ) (z : Endpoint) (r : Transfer) (a : ℕ) → IsNextOf d e u z r → IsOneFrom (note_at d.notes) r.first (r.qtds - r.left) a → goes (32 * a) ≡ false
   next_stays e u z r a is one =
-      let waits : r.reported ≡ false = next_waits e u z r is in
+      let one_next = next_waits d e u z r turns is in
       let owned : s.owners.owner a ≡ Element u =
-      owner_is (slot_of d.book.slots) s.owners.owner d.notes u r.first r.qtds a (pieces_of base member parts hand w p order out t y x s k u r is.transfer (waits_held u r is.transfer waits))
+      owner_is (slot_of d.book.slots) s.owners.owner d.notes u r.first r.qtds a (pieces_of base member parts hand w p order out t y x s k u r is.transfer one_next.1)
       (one_sooner (note_at d.notes) r.first (r.qtds - r.left) r.qtds a (omega arith) one) in
-      goes_off base member parts hand w p order out t y x s k a (ap (mine t) owned ∙ not_same u t (λ same. differs same waits))
+      goes_off base member parts hand w p order out t y x s k a (ap (mine t) owned ∙ not_same u t (λ same. differs same one_next.0))
     where
       differs : u ≡ t → r.reported ≡ false → ⊥
       differs same waits =
@@ -112,5 +90,5 @@ module _ (base : Base) (member : ℕ → Bool) (parts : StructureSets) (hand : H
   release_told reported told =
       let row_is : after_driver_row (release_row t) p ≡ after = ap (λ (o : Option Transfer). after_transfer p t o (freed_by d (holding d.book p.memory) o)) k.here in
       subst (λ (q : DriverParts). ToldStands q.driver hand now reported) (sym row_is)
-      (returned_told d after.driver t y hand now reported k.here k.reported are_there refl refl refl refl refl refl
+      (returned_told d after.driver t y hand now reported k.here k.reported (there_now d turns) refl refl refl refl refl refl
       (spared_told d hand hand parts now reported (record { bytes = λ m q b r bs. refl; toggle = λ m q. refl }) spares told))

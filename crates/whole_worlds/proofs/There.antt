@@ -1,26 +1,33 @@
--- A transfer that isn't reported wasn't given back, and the next one of an endpoint is there.
-use Rattle.std.proofs.Common.{◌≡◌, ℕ, Bool, true, false, slice_get, Option, Some, None, option_map, ap, refl, sym, subst, ◌∙◌}
-use Rattle.std.proofs.lemmas.Bool.{false≢true}
+-- The next transfer of an endpoint that goes on, as far as its report has it, is there: it isn't reported, and wasn't given back.
+use Rattle.std.proofs.Common.{◌≡◌, ℕ, false, slice_get, Option, Some, None, option_map, ap, refl, sym, subst, ◌∙◌}
 use Rattle.std.proofs.lemmas.Option.{same_Some}
+use Rattle.driver_rows.specs.declared.content.Endpoint.{Endpoint}
 use Rattle.driver_rows.specs.declared.content.Transfer.{Transfer}
 use Rattle.driver_rows.specs.DriverContent.{DriverContent}
+use Rattle.endpoint_lives.specs.Lives.{told_end}
 use Rattle.chained_transfers.specs.InTurn.{TakesTurns}
 use Rattle.chained_transfers.specs.Turns.{Turn, turn_of, turn_in, IsNext, AreReportedTo}
+use Rattle.chained_transfers.proofs.Holding.{unreleased}
+use Rattle.harvest_rows.specs.Holds.{IsNextOf}
 use Rattle.held_commands.specs.Laws.{AreThere}
 
 module _ (d : DriverContent) (k : TakesTurns d) where
-  not_released : (t : ℕ) (y : Transfer) → slice_get d.transfers t ≡ Some y → y.reported ≡ false → (b : Bool) → y.released ≡ b → y.released ≡ false
-  not_released t y there waits false is = is
-  not_released t y there waits true is = absurd (false≢true (sym waits ∙ k.turns.turns.told t (turn_of y) (ap (option_map turn_of) there) is))
-
-  found : (t : ℕ) (r : Turn) (o : Option Transfer) → slice_get d.transfers t ≡ o → option_map turn_of o ≡ Some r → r.reported ≡ false → (y : Transfer) × (slice_get d.transfers t ≡ Some y) × (y.reported ≡ false)
-  found t r None there is waits = absurd (cc)
-  found t r (Some y) there is waits = (y, there, ap (λ (u : Turn). u.reported) (same_Some (turn_of y) r is) ∙ waits)
+  found : (e t : ℕ) (x : Endpoint) (r : Turn) (o : Option Transfer) → slice_get d.endpoints e ≡ Some x → told_end x ≡ None → slice_get d.transfers t ≡ o → option_map turn_of o ≡ Some r → r.endpoint ≡ e → r.reported ≡ false
+      → (y : Transfer) × (slice_get d.transfers t ≡ Some y) × (y.reported ≡ false) × (y.released ≡ false)
+  found e t x r None here goes there is own waits = absurd (cc)
+  found e t x r (Some y) here goes there is own waits =
+      let same : turn_of y ≡ r = same_Some (turn_of y) r is in
+      let at : slice_get d.endpoints y.endpoint ≡ Some x = ap (λ (u : Turn). slice_get d.endpoints u.endpoint) same ∙ ap (slice_get d.endpoints) own ∙ here in
+      let unread : y.reported ≡ false = ap (λ (u : Turn). u.reported) same ∙ waits in
+      (y, there, unread, unreleased d t y x k.bulk k.turns there at goes unread)
 
 pub there_now : (d : DriverContent) → TakesTurns d → AreThere d
-there_now d k = (
-  λ t y there waits. not_released d k t y there waits y.released refl,
-  λ e t x here goes_on next.
-      let is : IsNext (turn_in d.transfers) e t = subst (AreReportedTo (turn_in d.transfers) e) next (k.turns.turns.next e x here goes_on) in
-      found d k t is.transfer (slice_get d.transfers t) refl is.here is.waits,
-)
+there_now d k e t x here goes next =
+    let is : IsNext (turn_in d.transfers) e t = subst (AreReportedTo (turn_in d.transfers) e) next (k.turns.turns.next e x here goes) in
+    found d k e t x is.transfer (slice_get d.transfers t) here goes refl is.here is.endpoint is.waits
+
+pub next_waits : (d : DriverContent) (e t : ℕ) (x : Endpoint) (y : Transfer) → TakesTurns d → IsNextOf d e t x y → (y.reported ≡ false) × (y.released ≡ false)
+next_waits d e t x y k is =
+    let w = there_now d k e t x is.endpoint is.going is.next in
+    let same : w.0 ≡ y = same_Some w.0 y (sym w.1 ∙ is.transfer) in
+    (ap (λ (q : Transfer). q.reported) (sym same) ∙ w.2, ap (λ (q : Transfer). q.released) (sym same) ∙ w.3)

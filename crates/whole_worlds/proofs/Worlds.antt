@@ -1,11 +1,13 @@
 -- A store of the first qTD of a transfer leaves a world whole.
-use Rattle.std.proofs.Common.{◌≡◌, ℕ, ◌*◌, ◌≤◌, Bool, List, Some}
+use Rattle.std.proofs.Common.{◌≡◌, ℕ, ◌*◌, ◌≤◌, Bool, List, Option, Some, None}
 use Rattle.usb_bus.specs.Bus.{Fixed}
+use Rattle.driver_rows.specs.declared.content.Command.{Command}
 use Rattle.driver_rows.specs.declared.content.Command.TheVariants as unfinished
 use Rattle.driver_rows.specs.DriverContent.{DriverContent}
 use Rattle.driver_rows.specs.Rows.{Parts as DriverParts}
 use Rattle.bus_world.specs.World.{World, driver_parts, driver_next}
 use Rattle.world_streams.specs.Streaming.{Streams, Standing}
+use Rattle.chained_transfers.proofs.Events.{event_nothing}
 use Rattle.fed_lends.specs.ToLend.{AreBlank}
 use Rattle.fed_queues.specs.Fed.{IsPublished}
 use Rattle.fed_stores.specs.Stores.{IsAtStore, published_by, parts_then, next_of}
@@ -18,6 +20,9 @@ use Rattle.whole_worlds.proofs.FeedingStores.{at, after_store, store_drives, que
 use Rattle.whole_worlds.proofs.Storing.{by_store, met_now, under_way_then, told_then, runs_then}
 use Rattle.whole_worlds.proofs.StoredTails.{tails_then}
 use Rattle.whole_worlds.proofs.TakingStores.{store_taking}
+
+no_open : (c : ℕ) → ◌≡◌ {A = Option Command} None (Some (unfinished.Open c)) → ⊥
+no_open c same = cc
 
 module _ (fixed : Fixed) (takes : ℕ → ℕ → Bool) (member : ℕ → Bool) (x : Streams) (s : Standing) (w : World) (b : ℕ) (words : List ℕ) (command : w.driver.command ≡ Some (unfinished.Publish b words)) (made : 1 ≤ w.driver.made) (whole : IsWhole fixed takes member x s w) where
   abbrev p : DriverParts
@@ -41,14 +46,15 @@ module _ (fixed : Fixed) (takes : ℕ → ℕ → Bool) (member : ℕ → Bool) 
         under_way = under_way_then p member x.streams x.endpoint s.parts s.order s.out b words k (next_of p).memory (parts_then g);
         blank = store (λ (d : DriverContent). AreBlank d) (λ low. whole.blank) (λ eighth. whole.blank);
         names = store (λ (d : DriverContent). AreNamesApart d) (λ low. whole.names) (λ eighth. whole.names);
-        senders = store (λ (d : DriverContent). HaveSenders d x.stream) (λ low. whole.senders) (λ eighth. whole.senders);
-        takers = store (λ (d : DriverContent). HaveTakers d takes) (λ low. whole.takers) (λ eighth. whole.takers);
+        senders = store (λ (d : DriverContent). HaveSenders d x.stream) (λ low. whole.senders) (λ eighth e z here opens. absurd (no_open z.queue opens));
+        takers = store (λ (d : DriverContent). HaveTakers d takes) (λ low. whole.takers) (λ eighth e z here opens. absurd (no_open z.queue opens));
         taking = store_taking fixed takes member x s w b words command made whole;
         runs = runs_then p member x.streams x.endpoint s.parts s.order s.out b words k whole.runs;
         tails = tails_then p member x.streams x.endpoint s.parts s.order s.out b words k (queues_then fixed member x s w b words command made f)
-            (drives.ring.members (32 * g.endpoint.queue) (f.queues.met.each g.transfer.endpoint g.endpoint g.here (met_now p member x.streams x.endpoint s.parts s.order s.out b words k g.endpoint))) whole.tails;
+            (drives.ring.members (32 * g.endpoint.queue) (f.queues.met.each g.transfer.endpoint g.endpoint g.here (met_now p member x.streams x.endpoint s.parts s.order s.out b words k))) whole.tails;
         told = told_then p member x.streams x.endpoint s.parts s.order s.out b words k s.hand s.reported whole.told;
         bytes = whole.bytes;
+        stays = event_nothing p f.working.place.sound.owners f.turns whole.stays;
       }
 
 pub store_keeps_whole : StoreKeepsWhole

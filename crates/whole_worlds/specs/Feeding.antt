@@ -2,15 +2,20 @@
 -- the devices' endpoints that aren't opened have all their packets.
 --     streams_of s              the streams of the script, of which no queue head has one yet
 --     heads_of member           the queue heads of endpoints, IN or OUT: all that the walk may meet but the head of the ring
+--     opens command b           the unfinished command opens the endpoint with its queue head in block b
+--     there_of d n              an endpoint that is there has its queue head at n: it was opened, and isn't given back (4.8.1, 4.8.2)
 --     IsFeeding fixed member x s w     the world is so
 --     bytes_of_event n e        the bytes that an event of the controller moved of the queue head at n
 --     acc_after ..              the packets taken of each stream after it; where data leave the host, the bytes of each event
 --     GoesOnBeside ..           and after an event of the controller, which is this
-use Rattle.std.specs.Prelude.{ℕ, ◌*◌, Bool, false, ◌==◌, List, [], ◌∷◌, ◌++◌, Option, Some, None, is_some, if◌then◌else◌}
+use Rattle.std.specs.Prelude.{ℕ, ◌*◌, Bool, false, ◌==◌, List, [], ◌∷◌, ◌++◌, Option, Some, None, is_some, if◌then◌else◌, not, ◌&&◌}
 use Rattle.usb_base.specs.declared.packets.Ask.{Ask}
 use Rattle.usb_base.specs.declared.packets.Reply.{Reply}
 use Rattle.script_types.specs.declared.scripts.Script.{Script}
 use Rattle.usb_bus.specs.Bus.{Fixed, opening_wired}
+use Rattle.driver_rows.specs.declared.content.Command.{Command}
+use Rattle.driver_rows.specs.declared.content.Command.TheVariants as unfinished
+use Rattle.driver_rows.specs.DriverContent.{DriverContent}
 use Rattle.driver_rows.specs.Words.{head_block, opening_head}
 use Rattle.lent_structures.specs.Structures.{StructureSets}
 use Rattle.ring_walk.specs.Hand.{Hand}
@@ -29,6 +34,7 @@ use Rattle.shared_worlds.specs.Working.{IsWorking}
 use Rattle.opened_streams.specs.Unopened.{AreUnopened}
 use Rattle.chained_transfers.specs.InTurn.{TakesTurns}
 use Rattle.fed_commands.specs.Commands.{QueuesStand}
+use Rattle.endpoint_lives.specs.Lives.{any_at}
 
 abbrev pub left_of : Option Sender → List (List ℕ)
 left_of None = []
@@ -45,12 +51,19 @@ streams_of s = record {
 abbrev pub heads_of : (ℕ → Bool) → ℕ → Bool
 heads_of member n = if n == 32 * head_block then false else member n
 
+abbrev pub opens : Option Command → ℕ → Bool
+opens (Some (unfinished.Open queue)) b = queue == b
+opens _ b = false
+
+abbrev pub there_of : DriverContent → ℕ → Bool
+there_of d n = any_at (λ e x. (n == 32 * x.queue) && (not x.gone && not (opens d.command x.queue))) d.endpoints
+
 pub record IsFeeding (fixed : Fixed) (member : ℕ → Bool) (x : Streams) (s : Standing) (w : World) : Type 0 where
   pub working : IsWorking fixed opening_base member x s w
   pub turns : TakesTurns w.driver
   pub queues : QueuesStand w.driver member x.streams x.endpoint s.parts s.order s.out
   -- .. and what was harvested of each queue, and what was moved of its qTDs that are out, are all the bytes that were moved of it, in their order
-  pub counted : AreReported (heads_of member) s.order s.out s.hand s.parts s.acc s.reported
+  pub counted : AreReported (there_of w.driver) s.order s.out s.hand s.parts s.acc s.reported
   pub unopened : AreUnopened x.stream x.packets sender_of x.streams x.endpoint (wired fixed w)
 
 -- ---- an event of the controller

@@ -1,5 +1,5 @@
 -- Laws of worlds whose endpoints are all bulk ones.
-use Rattle.std.specs.Prelude.{◌≡◌, ℕ, ◌≤◌, Bool, true, false, List, Some}
+use Rattle.std.specs.Prelude.{◌≡◌, ℕ, ◌≤◌, Bool, true, false, List, [], Some}
 use Rattle.usb_base.specs.declared.commands.Cmd.{Cmd}
 use Rattle.script_types.specs.declared.scripts.Script.{Script}
 use Rattle.script_fits.specs.Fits.{IsFit}
@@ -37,9 +37,10 @@ is_still (rows.ReadFrame n) = true
 is_still rows.Rest = true
 is_still _ = false
 
+-- where the doorbell's answer is cleared, none is among the rung: these aren't met any more afterwards (EHCI 1.0, 4.8.2)
 abbrev pub StillFeeds : Type 0
-StillFeeds = (fixed : Fixed) (member : ℕ → Bool) (x : Streams) (s : Standing) (w : World) → is_still (driver_row (driver_parts w)) ≡ true → IsFeeding fixed member x s w
-    → IsFeeding fixed member x s (driver_next w)
+StillFeeds = (fixed : Fixed) (member : ℕ → Bool) (x : Streams) (s : Standing) (w : World) → is_still (driver_row (driver_parts w)) ≡ true
+    → (driver_row (driver_parts w) ≡ rows.ClearAdvance → w.driver.rung ≡ []) → IsFeeding fixed member x s w → IsFeeding fixed member x s (driver_next w)
 
 -- a word of the first qTD of a transfer is stored
 abbrev pub StoreFeeds : Type 0

@@ -14,7 +14,7 @@ use Rattle.driver_rows.specs.DriverContent.{DriverContent}
 use Rattle.driver_rows.specs.Rows.{driver_row}
 use Rattle.run_owners.specs.Owners.{note_in}
 use Rattle.chained_transfers.specs.Turns.{AreInTurn}
-use Rattle.fed_queues.specs.Places.{AreStillOut}
+use Rattle.fed_queues.specs.Places.{AreStillOut, IsMet}
 use Rattle.released_queues.specs.Fronts.{FrontsStand}
 use Rattle.harvest_rows.specs.Outs.{IsOutEarlier}
 use Rattle.bus_world.specs.World.{World, driver_parts, driver_next}
@@ -25,7 +25,7 @@ use Rattle.whole_worlds.specs.Feeding.{IsFeeding}
 abbrev pub PassedAreUntold : Type 0
 PassedAreUntold = (d : DriverContent) (parts : StructureSets) (hand : Hand) (order : ℕ → ℕ → ℕ) (out : ℕ → List ℕ) (e t : ℕ) (x : Endpoint) (a : ℕ) (z : List ℕ) → d.command ≡ None
     → AreInTurn d → AreStillOut d out → FrontsStand d parts order out
-    → slice_get d.endpoints e ≡ Some x → x.ended ≡ None → x.next ≡ Some t → IsOutEarlier (note_in d.notes) e t d.transfers a → Told hand parts (32 * x.queue) a z → z ≡ []
+    → slice_get d.endpoints e ≡ Some x → IsMet d e x → x.ended ≡ None → x.next ≡ Some t → IsOutEarlier (note_in d.notes) e t d.transfers a → Told hand parts (32 * x.queue) a z → z ≡ []
 
 pub record HarvestLeaves (fixed : Fixed) (member : ℕ → Bool) (x : Streams) (s : Standing) (new : World) : Type 0 where
   pub out : ℕ → List ℕ

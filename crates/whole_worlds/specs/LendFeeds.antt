@@ -1,7 +1,7 @@
 -- A world at work whose driver lends a transfer (EHCI 1.0, 3.5 and 4.10; USB 2.0, 8.6).
 --     LendsTransfer ..   what stands afterwards: the world feeds its queues, and all that stood stays
 --     LendFeeds          the law
-use Rattle.std.specs.Prelude.{◌≡◌, ℕ, ◌*◌, Bool, List, slice_get, Some}
+use Rattle.std.specs.Prelude.{◌≡◌, ℕ, ◌*◌, Bool, List, slice_get, Some, false}
 use Rattle.usb_bus.specs.Bus.{Fixed}
 use Rattle.qh_qtd.specs.declared.qtd.Qtd.{Qtd}
 use Rattle.driver_rows.specs.declared.content.Endpoint.{Endpoint}
@@ -25,7 +25,7 @@ pub record LendsTransfer (fixed : Fixed) (member : ℕ → Bool) (x : Streams) (
   pub feeding : IsFeeding fixed member x (record s { parts = parts; order = order; out = out }) (driver_next w)
   pub fronts : FrontsStand (driver_next w).driver parts order out
   pub runs : AreInRuns (views_of (driver_next w).driver) parts
-  pub reaches : (e : ℕ) (z : Endpoint) (c : ℕ) → slice_get w.driver.endpoints e ≡ Some z → IsElement (s.parts (32 * z.queue)) c
+  pub reaches : (e : ℕ) (z : Endpoint) (c : ℕ) → slice_get w.driver.endpoints e ≡ Some z → z.gone ≡ false → IsElement (s.parts (32 * z.queue)) c
       → Reaches w.driver (s.parts (32 * z.queue)) (s.order (32 * z.queue)) (s.out (32 * z.queue)) e z c
       → Reaches (driver_next w).driver (parts (32 * z.queue)) (order (32 * z.queue)) (out (32 * z.queue)) e z c
   pub blank : AreBlank (driver_next w).driver

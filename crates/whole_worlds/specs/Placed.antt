@@ -42,7 +42,7 @@ abbrev pub ring_blocks : DriverContent → List ℕ
 ring_blocks d = members (linked_to d.command d.endpoints)
 
 pub record ReadsRing (m : Mem) (d : DriverContent) : Type 0 where
-  pub all : (e : ℕ) (x : Endpoint) → slice_get d.endpoints e ≡ Some x → x.linked ≡ true
+  pub all : (e : ℕ) (x : Endpoint) → slice_get d.endpoints e ≡ Some x → x.cancelled ≡ false → x.linked ≡ true
   pub chain : IsChain (link_in m) head_block (ring_blocks d)
   pub once : AreOnce (head_block ∷ ring_blocks d)
 

@@ -3,11 +3,12 @@
 --     outs_of member streams        the queue heads of OUT endpoints: of all that the walk may meet those without a stream, but the head of the ring
 --     IsTaking fixed takes member x s w     both sides of the pipe of each OUT endpoint agree, where s.acc are the bytes that were moved of it; and devices'
 --                                   endpoints that aren't opened took nothing
---     HaveSides way d has           each endpoint that was opened and receives, or sends, has one of these
---     HaveTakers d takes            each OUT endpoint that was opened has a taker
+--     HaveSides way d has           the endpoint that is being opened has one of these, if it receives, or sends
+--     HaveTakers d takes            one that is being opened has a taker, if it is an OUT endpoint
 use Rattle.std.specs.Prelude.{◌≡◌, ℕ, Bool, true, false, slice_get, Some, if◌then◌else◌}
 use Rattle.std.specs.List.{concat}
 use Rattle.driver_rows.specs.declared.content.Endpoint.{Endpoint}
+use Rattle.driver_rows.specs.declared.content.Command.TheVariants as unfinished
 use Rattle.driver_rows.specs.DriverContent.{DriverContent}
 use Rattle.chained_transfers.specs.Bulk.{receives}
 use Rattle.ring_pipes.specs.Pipes.{AreEndpoints}
@@ -27,7 +28,9 @@ pub record IsTaking (fixed : Fixed) (takes : ℕ → ℕ → Bool) (member : ℕ
   pub untaken : AreUntaken takes taker_of (outs_of member x.streams) x.endpoint (wired fixed w)
 
 abbrev pub HaveSides : Bool → DriverContent → (ℕ → ℕ → Bool) → Type 0
-HaveSides way d has = (e : ℕ) (x : Endpoint) → slice_get d.endpoints e ≡ Some x → receives x.desc.name.way ≡ way → has x.desc.name.addr x.desc.name.num ≡ true
+HaveSides way d has =
+    (e : ℕ) (x : Endpoint) → slice_get d.endpoints e ≡ Some x → d.command ≡ Some (unfinished.Open x.queue) → x.gone ≡ false → receives x.desc.name.way ≡ way
+    → has x.desc.name.addr x.desc.name.num ≡ true
 
 abbrev pub HaveTakers : DriverContent → (ℕ → ℕ → Bool) → Type 0
 HaveTakers d takes = HaveSides false d takes

@@ -2,7 +2,7 @@
 --     tail_of d e x             the address of the qTD at the end of endpoint e's queue, which isn't published
 --     TailsStand ..             each queue that the walk may meet has its front, no further than its tail
 --     IsUnderWay ..             what is known of the unfinished command: what it has still to lend stands ready, or is lent
---     HaveSenders d stream      each IN endpoint that was opened has a stream
+--     HaveSenders d stream      the endpoint that is being opened has a stream, if it is an IN endpoint
 --     IsWhole fixed takes member x s w        the world is so
 --     HasWhole fixed takes stream packets w   .. for some queue heads with streams, and some structures
 use Rattle.std.specs.Prelude.{◌≡◌, ℕ, ◌-◌, ◌*◌, ◌==◌, ◌≤◌, ◌⊎◌, Bool, true, List, length, slice_get, Option, Some, if◌then◌else◌}
@@ -28,6 +28,7 @@ use Rattle.bus_world.specs.World.{World}
 use Rattle.world_streams.specs.Streaming.{Streams, Standing}
 use Rattle.whole_worlds.specs.Feeding.{IsFeeding}
 use Rattle.whole_worlds.specs.Taking.{IsTaking, HaveSides, HaveTakers}
+use Rattle.chained_transfers.specs.Leaving.{NothingLeaves}
 
 -- ---- tails
 
@@ -41,7 +42,7 @@ tail_of d e x = 32 * tail_block d.command (slice_get d.transfers (length d.trans
 
 abbrev pub TailsStand : DriverContent → StructureSets → (ℕ → ℕ → ℕ) → (ℕ → List ℕ) → Type 0
 TailsStand d parts order out =
-    (e : ℕ) (x : Endpoint) → slice_get d.endpoints e ≡ Some x → IsMet d x
+    (e : ℕ) (x : Endpoint) → slice_get d.endpoints e ≡ Some x → IsMet d e x
     → Reaches d (parts (32 * x.queue)) (order (32 * x.queue)) (out (32 * x.queue)) e x (tail_of d e x)
 
 -- ---- the unfinished command
@@ -49,6 +50,7 @@ TailsStand d parts order out =
 abbrev pub IsUnderWay : DriverContent → Mem → (ℕ → Bool) → StructureSets → Option Command → Type 0
 IsUnderWay d m member parts (Some (unfinished.Open queue)) = IsOpenReady d m ⊎ IsOpenLent d member parts
 IsUnderWay d m member parts (Some (unfinished.Publish b words)) = IsToBeLent d m b words ⊎ (1 ≤ d.made)
+IsUnderWay d m member parts (Some (unfinished.Unlink e b link)) = d.made ≡ 0
 IsUnderWay d m member parts _ = Unit {0}
 
 -- ---- the whole
@@ -68,6 +70,7 @@ pub record IsWhole (fixed : Fixed) (takes : ℕ → ℕ → Bool) (member : ℕ 
   pub tails : TailsStand w.driver s.parts s.order s.out
   pub told : ToldStands w.driver s.hand s.parts s.reported
   pub bytes : IsByteBus w.bus
+  pub stays : NothingLeaves w.driver
 
 pub record HasWhole (fixed : Fixed) (takes : ℕ → ℕ → Bool) (stream : ℕ → ℕ → Bool) (packets : ℕ → ℕ → List (List ℕ)) (w : World) : Type 0 where
   pub member : ℕ → Bool

@@ -20,7 +20,7 @@ pub fn commands_leave_it_feeding()
     ensures { CommandFeeds }
 {}
 
-/// And each event of the driver that stores no word and reads no token.
+/// And each event of the driver that stores no word and reads no token, if no endpoint waits for a doorbell whose answer it clears.
 pub fn still_events_leave_it_feeding()
     ensures { StillFeeds }
 {}

@@ -2,7 +2,7 @@
 ghost use Rattle.std.specs.Prelude.{◌≡◌, [], Some, None, true, false, ◌==◌, ◌∷◌, ℕ};
 ghost use Rattle.driver_rows.specs.declared.content.Command.TheVariants as unfinished;
 ghost use Rattle.chained_transfers.specs.Worked.{under_way};
-ghost use Rattle.whole_worlds.specs.Feeding.{heads_of, acc_after};
+ghost use Rattle.whole_worlds.specs.Feeding.{heads_of, there_of, acc_after};
 ghost use Rattle.whole_worlds.specs.Whole.{tail_block, tail_of};
 ghost use Rattle.driver_parts.specs.Opened.{is_head};
 ghost use Rattle.driver_lends.specs.Linked.{with_member};
@@ -48,10 +48,14 @@ pub fn tails()
     ensures beside { tail_block (Some (unfinished.Publish 141 [])) (Some under_way) 1 163 ≡ 163 }
 {}
 
-/// All is there that the store of the head's link asks for; after it the walk may meet the queue head, and the inactive qTD is the tail still.
+/// All is there that the store of the head's link asks for; after it the walk may meet the queue head, its endpoint is there until it is given back, and the inactive
+/// qTD is the tail still.
 pub fn an_open_to_link()
     ensures lent { IsOpenLent lent_driver is_head lent_parts }
     ensures met { with_member is_head 4160 4160 ≡ true }
+    ensures not_yet { there_of lent_driver 4160 ≡ false }
+    ensures there { there_of (record lent_driver { command = None; made = 0 }) 4160 ≡ true }
+    ensures given_back { there_of (record lent_driver { command = None; made = 0; endpoints = record new_one { linked = false; gone = true } ∷ [] }) 4160 ≡ false }
     ensures before { tail_of lent_driver 0 new_one ≡ 4256 }
     ensures after { tail_of (record lent_driver { command = None; made = 0 }) 0 new_one ≡ 4256 }
 {}

@@ -14,12 +14,16 @@ returns c = record {
     here = refl;
     command = refl;
     made = refl;
+    fresh = refl;
     unmet = refl;
     none = λ t y there. absurd (nothing_at t y there);
     link = 128;
     part = λ b. refl;
   };
   met = refl;
+  not_yet = refl;
+  there = refl;
+  given_back = refl;
   before = refl;
   after = refl;
 }

@@ -1,0 +1,10 @@
+pub mod Bytes
+pub mod Fields
+pub mod Linking
+pub mod Descriptors
+pub mod Lends
+pub mod Sets
+pub mod Told
+pub mod Staying
+pub mod Accepting
+pub mod Accepted

@@ -1,0 +1,4 @@
+pub mod Written
+pub mod Lent
+pub mod Laws
+pub mod Worked

@@ -1,0 +1,4 @@
+pub mod Described
+pub mod Both
+pub mod Laws
+pub mod Worked

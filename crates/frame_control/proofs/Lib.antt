@@ -1,0 +1,4 @@
+pub mod Frameless
+pub mod Staying
+pub mod Running
+pub mod Sampled

@@ -1,0 +1,5 @@
+pub mod Linking
+pub mod Framing
+pub mod Beside
+pub mod Parting
+pub mod Sampled

@@ -1,0 +1,42 @@
+-- However many events follow each other.
+use Rattle.std.proofs.Common.{◌≡◌, ℕ, List, Option, ap, refl, ◌∙◌}
+use Rattle.usb_base.specs.declared.packets.Ask.{Ask}
+use Rattle.usb_base.specs.declared.packets.Reply.{Reply}
+use Rattle.async_walk.specs.declared.state.WalkStep.{WalkStep}
+use Rattle.async_walk.specs.declared.state.WalkStep.TheVariants as steps
+use Rattle.periodic_walk.specs.Place.{FramePlace}
+use Rattle.periodic_walk.specs.Rows.{step_of}
+use Rattle.lent_structures.specs.Structures.{StructureSets}
+use Rattle.ring_walk.specs.Ring.{Base}
+use Rattle.frame_parts.specs.Met.{Kind}
+use Rattle.frame_parts.specs.FrameHand.{FrameHand}
+use Rattle.frame_parts.specs.Frame.{IsFrame}
+use Rattle.frame_parts.specs.FrameEffects.{FrameHappens}
+use Rattle.frame_walk.specs.Walks.{HearsBytes, Walks, over, and_then, IsNoFault, IsWalked}
+use Rattle.frame_walk.proofs.Walking.{event_happens, foreign_stays, never_a_fault}
+
+not_the_fault : (kind : WalkStep) → (kind ≡ steps.Fault → ⊥) → IsNoFault kind
+not_the_fault steps.Fault other = other refl
+not_the_fault steps.Fetch other = tt
+not_the_fault steps.Skip other = tt
+not_the_fault steps.Ended other = tt
+not_the_fault steps.Advance other = tt
+not_the_fault steps.Transact other = tt
+not_the_fault steps.WriteBack other = tt
+
+module _ {W : Type 0} (transacts : W → Ask → List ℕ → Reply → W → Type 0) (met : ℕ → Option Kind) (heard : HearsBytes transacts) (new : FramePlace) (after : W) where
+  pub walked : (parts : StructureSets) (hand : FrameHand) (kinds : List WalkStep) (p : FramePlace) (wire : W) → IsFrame met parts hand p → Walks transacts new after kinds p wire → IsWalked met p new kinds
+  walked parts hand kinds p wire k over = record { now = parts; later = hand; frame = k; registers = refl; no_faults = tt; not_refused = λ runs. refl }
+  walked parts hand kinds p wire k (and_then kind rest from mid before between is leads more) =
+      let h : FrameHappens transacts met parts hand wire between p mid (step_of p) = event_happens transacts met parts hand p wire mid between k (heard wire between) leads in
+      let w : IsWalked met mid new rest = walked h.now h.later rest mid between h.frame more in
+      record {
+        now = w.now;
+        later = w.later;
+        frame = w.frame;
+        registers = w.registers ∙ h.registers;
+        no_faults = (not_the_fault kind (λ fault. never_a_fault met parts hand p k (is ∙ fault)), w.no_faults);
+        not_refused = λ runs.
+            w.not_refused (ap (λ (b : Base). b.run) h.registers ∙ runs)
+            ∙ foreign_stays transacts met parts hand p wire mid between k runs (heard wire between) leads;
+      }

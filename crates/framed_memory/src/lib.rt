@@ -1,0 +1,11 @@
+//! A driver and a controller over one memory, where the controller walks a ring and the frames (EHCI 1.0, 3, 4.6 to 4.10 and 4.12.3): each of its events leaves
+//! the driver all that it has to find again, its frame list, and its structures, and goes on over both.
+//!
+//! The crate has no code of its own: each function is a law over the definitions of `specs/`, and its body is empty.
+#![tactic(auto)]
+
+mod laws;
+
+pub use laws::{
+    quiet_events_keep_it_framed, the_controller_keeps_it_framed, the_opening_is_framed,
+};

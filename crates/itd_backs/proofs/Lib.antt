@@ -1,0 +1,4 @@
+pub mod Buffered
+pub mod Slots
+pub mod Backing
+pub mod Sampled

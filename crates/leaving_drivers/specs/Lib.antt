@@ -1,0 +1,4 @@
+pub mod Owed
+pub mod Told
+pub mod Before
+pub mod Worked

@@ -1,0 +1,4 @@
+pub mod Cancelling
+pub mod Clearing
+pub mod Beside
+pub mod Samples

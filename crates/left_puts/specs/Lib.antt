@@ -1,0 +1,4 @@
+pub mod Leaving
+pub mod Unlinked
+pub mod Released
+pub mod Samples

@@ -1,0 +1,3 @@
+pub mod Before
+pub mod Leaver
+pub mod Gone

@@ -1,0 +1,2 @@
+pub mod Leaver
+pub mod Samples

@@ -1,0 +1,4 @@
+pub mod Linking
+pub mod Describing
+pub mod Running
+pub mod Sampled

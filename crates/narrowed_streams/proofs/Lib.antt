@@ -1,0 +1,4 @@
+pub mod Names
+pub mod Narrowing
+pub mod Clearing
+pub mod Sampling

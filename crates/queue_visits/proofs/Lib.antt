@@ -1,0 +1,4 @@
+pub mod Taking
+pub mod Making
+pub mod Writing
+pub mod Sampled

@@ -1,0 +1,4 @@
+pub mod Sending
+pub mod Requests
+pub mod Accepting
+pub mod Fresh

@@ -1,0 +1,5 @@
+pub mod Turned
+pub mod Reaching
+pub mod States
+pub mod Backs
+pub mod Sampled

@@ -1,0 +1,3 @@
+pub mod Unlinking
+pub mod Releasing
+pub mod Standing
