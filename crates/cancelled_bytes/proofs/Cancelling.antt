@@ -9,9 +9,9 @@ use Rattle.std.proofs.lemmas.List.{append_assoc, take_all}
 use Rattle.word_mem.specs.Memory.{Mem}
 use Rattle.lent_structures.specs.Structures.{StructureSets}
 use Rattle.lent_structures.proofs.Names.{not_same}
-use Rattle.ring_walk.specs.Hand.{Hand}
-use Rattle.ring_streams.specs.Told.{Told}
-use Rattle.ring_order.specs.Order.{IsAmong, AllTold, none_out, one_out, Accounts}
+use Rattle.ring_laws.specs.Hand.{Hand}
+use Rattle.ring_laws.specs.Told.{Told}
+use Rattle.ring_laws.specs.Order.{IsAmong, AllTold, none_out, one_out, Accounts}
 use Rattle.driver_rows.specs.declared.content.Endpoint.{Endpoint}
 use Rattle.driver_rows.specs.declared.content.Transfer.{Transfer}
 use Rattle.driver_rows.specs.declared.content.QtdNote.{QtdNote}
@@ -23,8 +23,8 @@ use Rattle.run_owners.specs.Owners.{NoteRuns, note_in}
 use Rattle.chained_transfers.specs.Turns.{Turn, turn_of, turn_in, IsNext, AreReportedTo}
 use Rattle.chained_transfers.specs.Out.{pieces_from, unpublished, passed, out_of_transfer, if_last, out_of, out_now}
 use Rattle.told_harvests.specs.Held.{AreHeld, none_held}
-use Rattle.harvest_rows.specs.Holds.{IsUnderWay, IsToCome}
-use Rattle.reported_streams.specs.Reported.{IsReported}
+use Rattle.harvest_laws.specs.Holds.{IsUnderWay, IsToCome}
+use Rattle.controlled_streams.specs.Reported.{IsReported}
 use Rattle.cancelled_bytes.specs.Cancelled.{IsReadable, CanBeTold}
 use Rattle.cancelled_bytes.proofs.Transfers.{transfer_counted}
 

@@ -17,11 +17,11 @@ use Rattle.queue_words.specs.Structures.{reaches_queue_head}
 use Rattle.lent_structures.specs.Structures.{QueueHead, StructureSets, Tells}
 use Rattle.lent_structures.proofs.Reading.{head_read}
 use Rattle.lent_structures.proofs.Names.{not_same}
-use Rattle.queue_parts.specs.Sound.{HasBuffer}
-use Rattle.queue_parts.proofs.Altering.{found_element}
-use Rattle.ring_walk.specs.Hand.{Hand, Empty, Copied, Settled, Stale}
-use Rattle.ring_walk.specs.Effects.{bytes_in, buffer_of}
-use Rattle.ring_streams.specs.Told.{works_on, left_of, told_bytes, settled_bytes, hand_bytes, Told}
+use Rattle.lent_structures.specs.Sound.{HasBuffer}
+use Rattle.lent_structures.proofs.Altering.{found_element}
+use Rattle.ring_laws.specs.Hand.{Hand, Empty, Copied, Settled, Stale}
+use Rattle.ring_laws.specs.Effects.{bytes_in, buffer_of}
+use Rattle.ring_laws.specs.Told.{works_on, left_of, told_bytes, settled_bytes, hand_bytes, Told}
 use Rattle.driver_rows.specs.declared.content.QtdNote.{QtdNote}
 use Rattle.driver_rows.specs.Harvests.{token_in, buffer_bytes, is_current, left_now, moved_now}
 use Rattle.harvested_streams.specs.Harvested.{IsNoted}

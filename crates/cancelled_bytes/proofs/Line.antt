@@ -9,7 +9,7 @@ use Rattle.usb_base.specs.declared.reports.Report.{Report}
 use Rattle.usb_base.specs.declared.reports.What.TheVariants as lines
 use Rattle.word_mem.specs.Memory.{Mem}
 use Rattle.lent_structures.specs.Structures.{StructureSets}
-use Rattle.ring_walk.specs.Hand.{Hand}
+use Rattle.ring_laws.specs.Hand.{Hand}
 use Rattle.report_text.specs.ReportText.{bytes_of}
 use Rattle.report_streams.specs.Reports.{is_line_of}
 use Rattle.report_streams.specs.Streams.{told_in, ends_once}
@@ -21,7 +21,7 @@ use Rattle.chained_transfers.specs.Out.{out_now}
 use Rattle.told_endpoints.specs.Telling.{named_of, lines_in, IsToldTo}
 use Rattle.told_endpoints.proofs.Names.{name_is_same}
 use Rattle.told_endpoints.proofs.Lines.{stored_filtered, told_more, told_then, once_then, line_of_it, bytes_stored}
-use Rattle.reported_streams.specs.Reported.{IsReported}
+use Rattle.controlled_streams.specs.Reported.{IsReported}
 use Rattle.cancelled_bytes.specs.Cancelled.{CanBeTold, IsSaid}
 use Rattle.cancelled_bytes.proofs.Cancelling.{cancel_tells_all}
 use Rattle.endpoint_lives.proofs.Lives.{told_gone}

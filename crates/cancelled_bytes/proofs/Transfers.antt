@@ -4,8 +4,8 @@ use Rattle.std.proofs.lemmas.Bool.{lt-ltb, le-ltb}
 use Rattle.std.proofs.lemmas.List.{append_assoc, length-append}
 use Rattle.word_mem.specs.Memory.{Mem}
 use Rattle.lent_structures.specs.Structures.{StructureSets, Tells}
-use Rattle.ring_walk.specs.Hand.{Hand}
-use Rattle.ring_order.specs.Order.{AllTold, none_out, one_out}
+use Rattle.ring_laws.specs.Hand.{Hand}
+use Rattle.ring_laws.specs.Order.{AllTold, none_out, one_out}
 use Rattle.driver_rows.specs.declared.content.QtdNote.{QtdNote}
 use Rattle.driver_rows.specs.Harvests.{note_at, buffer_bytes, moved_now, bytes_now}
 use Rattle.run_owners.specs.Owners.{note_in}

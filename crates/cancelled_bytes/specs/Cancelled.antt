@@ -12,9 +12,9 @@ use Rattle.usb_base.specs.declared.endpoints.EpName.{EpName}
 use Rattle.usb_base.specs.declared.reports.Report.{Report}
 use Rattle.word_mem.specs.Memory.{Mem}
 use Rattle.lent_structures.specs.Structures.{Structures, StructureSets, Tells}
-use Rattle.ring_walk.specs.Hand.{Hand, Empty, Copied, Settled, Stale}
-use Rattle.ring_streams.specs.Told.{Told}
-use Rattle.ring_order.specs.Order.{IsAmong, AllTold, Accounts}
+use Rattle.ring_laws.specs.Hand.{Hand, Empty, Copied, Settled, Stale}
+use Rattle.ring_laws.specs.Told.{Told}
+use Rattle.ring_laws.specs.Order.{IsAmong, AllTold, Accounts}
 use Rattle.driver_rows.specs.declared.content.Endpoint.{Endpoint}
 use Rattle.driver_rows.specs.declared.content.Transfer.{Transfer}
 use Rattle.driver_rows.specs.declared.content.QtdNote.{QtdNote}
@@ -28,8 +28,8 @@ use Rattle.run_owners.specs.Owners.{NoteRuns, note_in}
 use Rattle.chained_transfers.specs.Turns.{turn_in, AreReportedTo}
 use Rattle.chained_transfers.specs.Out.{pieces_from, out_of_transfer, out_now}
 use Rattle.told_harvests.specs.Held.{AreHeld, told_of, IsRead, AreRead}
-use Rattle.harvest_rows.specs.Holds.{IsUnderWay, IsToCome}
-use Rattle.reported_streams.specs.Reported.{IsReported}
+use Rattle.harvest_laws.specs.Holds.{IsUnderWay, IsToCome}
+use Rattle.controlled_streams.specs.Reported.{IsReported}
 
 abbrev pub SettlesElsewhere : Hand → ℕ → Type 0
 SettlesElsewhere Empty n = Unit {0}

@@ -9,21 +9,21 @@ use Rattle.async_walk.specs.Naks.{kind_at, planned}
 use Rattle.hc_core.specs.Controller.{Content, walk_place}
 use Rattle.lent_structures.specs.Structures.{StructureSets}
 use Rattle.lent_structures.proofs.Names.{not_same}
-use Rattle.queue_parts.specs.Sound.{IsWorking, IsSoundQueue, IsMember}
-use Rattle.queue_parts.proofs.Altering.{found_queue}
-use Rattle.ring_walk.specs.Hand.{Hand}
-use Rattle.ring_walk.specs.Ring.{Base, IsCopied, IsInHand, IsRing}
-use Rattle.ring_walk.specs.Effects.{Makes}
-use Rattle.ring_streams.specs.Told.{Endpoint, endpoint_of, HasEndpoint}
-use Rattle.ring_streams.specs.Streams.{StreamEffect}
-use Rattle.ring_streams.specs.Streams.StreamEffect.{same, grows}
-use Rattle.ring_control.specs.Control.{IsControlled, ControlEffect, a_microframe, a_step}
-use Rattle.ring_pipes.specs.Bus.{Sender, IsStreamAsk, IsBus, KeepsSenders}
-use Rattle.ring_pipes.specs.Pipes.{IsElsewhere}
-use Rattle.ring_pipes.proofs.Direction.{other_asked, works_not_in}
-use Rattle.ring_out_pipes.specs.OutBus.{Taker, IsOutAsk, IsOutBus, KeepsTakers}
-use Rattle.ring_out_pipes.proofs.Stopping.{out_only}
-use Rattle.out_rows.specs.Outs.{IsAside, AreAside}
+use Rattle.lent_structures.specs.Sound.{IsWorking, IsSoundQueue, IsMember}
+use Rattle.lent_structures.proofs.Altering.{found_queue}
+use Rattle.ring_laws.specs.Hand.{Hand}
+use Rattle.ring_laws.specs.Ring.{Base, IsCopied, IsInHand, IsRing}
+use Rattle.ring_laws.specs.Effects.{Makes}
+use Rattle.ring_laws.specs.Told.{Endpoint, endpoint_of, HasEndpoint}
+use Rattle.ring_laws.specs.Streams.{StreamEffect}
+use Rattle.ring_laws.specs.Streams.StreamEffect.{same, grows}
+use Rattle.controlled_streams.specs.Control.{IsControlled, ControlEffect, a_microframe, a_step}
+use Rattle.ring_laws.specs.Bus.{Sender, IsStreamAsk, IsBus, KeepsSenders}
+use Rattle.ring_laws.specs.Pipes.{IsElsewhere}
+use Rattle.ring_laws.proofs.Direction.{other_asked, works_not_in}
+use Rattle.ring_laws.specs.OutBus.{Taker, IsOutAsk, IsOutBus, KeepsTakers}
+use Rattle.ring_laws.proofs.Stopping.{out_only}
+use Rattle.stream_worlds.specs.Outs.{IsAside, AreAside}
 use Rattle.closed_streams.specs.Aside.{AreElsewhere, AsideSendersWait, AsideTakersWait}
 
 -- ---- a transaction

@@ -2,14 +2,14 @@
 use Rattle.std.proofs.Common.{◌≡◌, ◌≢◌, ℕ, Bool, true, false, List, Option, ap, refl, sym, subst, ◌∙◌, ⊎_elim, inl, inr}
 use Rattle.std.proofs.lemmas.Bool.{cases_eq, false≢true}
 use Rattle.lent_structures.specs.Structures.{StructureSets}
-use Rattle.ring_walk.specs.Hand.{Hand}
-use Rattle.ring_streams.specs.Told.{Endpoint, HasEndpoint}
-use Rattle.ring_pipes.specs.Bus.{Sender}
-use Rattle.ring_pipes.specs.Pipes.{IsNotIn, AreEndpoints, IsElsewhere}
-use Rattle.ring_out_pipes.specs.OutBus.{Taker}
-use Rattle.ring_out_pipes.specs.Laws.{SendsNone, IsOnlyEndpoint}
-use Rattle.control_out_pipes.specs.Outs.{IsOutStream}
-use Rattle.out_rows.specs.Outs.{IsAside, AreAside}
+use Rattle.ring_laws.specs.Hand.{Hand}
+use Rattle.ring_laws.specs.Told.{Endpoint, HasEndpoint}
+use Rattle.ring_laws.specs.Bus.{Sender}
+use Rattle.ring_laws.specs.Pipes.{IsNotIn, AreEndpoints, IsElsewhere}
+use Rattle.ring_laws.specs.OutBus.{Taker}
+use Rattle.ring_laws.specs.OutPipeLaws.{SendsNone, IsOnlyEndpoint}
+use Rattle.controlled_streams.specs.Outs.{IsOutStream}
+use Rattle.stream_worlds.specs.Outs.{IsAside, AreAside}
 use Rattle.closed_streams.specs.Closed.{only_name, without_name, without_head, CloseEnds, CloseMetEnds, ClosePipes, CloseMetPipes, CloseOutPipes, CloseMetOutPipes, CloseOuts, CloseMetOuts, CloseReports, IsUnopenedStill, CloseUnopened, CloseUntaken, NoneAsksClosed, NoneSendsToClosed}
 use Rattle.closed_streams.proofs.Leaving.{only_not, name_gone, name_beside, name_on, name_off, head_beside, head_on}
 use Rattle.closed_streams.proofs.Narrowing.{narrow_ends, narrow_pipes, narrow_out_pipes, narrow_outs, less_met}

@@ -2,12 +2,12 @@
 use Rattle.std.proofs.Common.{◌≡◌, ℕ, Bool, true, false, not, Option, refl, sym, ◌∙◌, ⊎_elim, inl, inr}
 use Rattle.std.proofs.lemmas.Bool.{false≢true, and_from, and_parts, and_left, and_right, not_from_true, not_from_false, false_from_ne_true}
 use Rattle.lent_structures.specs.Structures.{Structures}
-use Rattle.ring_pipes.specs.Bus.{Sender}
-use Rattle.ring_pipes.specs.Pipes.{IsIn, IsNotIn, IsElsewhere}
-use Rattle.ring_out_pipes.specs.OutBus.{Taker}
-use Rattle.ring_out_pipes.specs.OutPipes.{IsOut}
-use Rattle.ring_out_pipes.specs.Laws.{SendsNone}
-use Rattle.out_rows.specs.Outs.{IsAside}
+use Rattle.ring_laws.specs.Bus.{Sender}
+use Rattle.ring_laws.specs.Pipes.{IsIn, IsNotIn, IsElsewhere}
+use Rattle.ring_laws.specs.OutBus.{Taker}
+use Rattle.ring_laws.specs.OutPipes.{IsOut}
+use Rattle.ring_laws.specs.OutPipeLaws.{SendsNone}
+use Rattle.stream_worlds.specs.Outs.{IsAside}
 use Rattle.closed_streams.specs.Left.{heads_met, names_closed, LeftAreClosed, NoneAsksSome, NoneSendsToSome, NoneAsksAnyClosed, NoneSendsToAnyClosed}
 
 -- ---- which are closed

@@ -2,15 +2,15 @@
 use Rattle.std.proofs.Common.{◌≡◌, ℕ, Bool, true, false, List, Option, ap, sym, ◌∙◌}
 use Rattle.std.proofs.lemmas.Bool.{false≢true}
 use Rattle.lent_structures.specs.Structures.{StructureSets}
-use Rattle.ring_walk.specs.Hand.{Hand}
-use Rattle.ring_stores.specs.Stores.{IsWider}
-use Rattle.ring_streams.specs.Told.{Endpoint}
-use Rattle.ring_pipes.specs.Bus.{Sender}
-use Rattle.ring_pipes.specs.Pipes.{AreEndpoints, ArePiped}
-use Rattle.ring_out_pipes.specs.OutBus.{Taker}
-use Rattle.ring_out_pipes.specs.Laws.{IsOnlyEndpoint}
-use Rattle.control_out_pipes.specs.Outs.{IsOutStream}
-use Rattle.out_rows.specs.Outs.{AreOutPiped, HaveOutStreams}
+use Rattle.ring_laws.specs.Hand.{Hand}
+use Rattle.ring_laws.specs.Stores.{IsWider}
+use Rattle.ring_laws.specs.Told.{Endpoint}
+use Rattle.ring_laws.specs.Bus.{Sender}
+use Rattle.ring_laws.specs.Pipes.{AreEndpoints, ArePiped}
+use Rattle.ring_laws.specs.OutBus.{Taker}
+use Rattle.ring_laws.specs.OutPipeLaws.{IsOnlyEndpoint}
+use Rattle.controlled_streams.specs.Outs.{IsOutStream}
+use Rattle.stream_worlds.specs.Outs.{AreOutPiped, HaveOutStreams}
 use Rattle.closed_streams.specs.Closed.{without_head, NarrowsBeside, ClosesBeside}
 use Rattle.closed_streams.proofs.Leaving.{head_beside, head_on}
 

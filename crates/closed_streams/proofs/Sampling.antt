@@ -5,14 +5,14 @@ use Rattle.std.proofs.lemmas.Option.{same_Some}
 use Rattle.qh_qtd.specs.declared.qtd.Qtd.{Qtd}
 use Rattle.qh_qtd.specs.declared.queue_head.Qh.{Qh}
 use Rattle.lent_structures.specs.Structures.{QueueHead, Element, put}
-use Rattle.lent_structures.specs.Samples.{element, nothing}
+use Rattle.lent_structures.specs.StructureSamples.{element, nothing}
 use Rattle.lent_structures.proofs.Names.{put_found}
-use Rattle.queue_parts.proofs.Altering.{same_element}
-use Rattle.ring_walk.specs.Hand.{Empty}
-use Rattle.ring_streams.specs.Told.{endpoint_of}
-use Rattle.ring_pipes.specs.Bus.{Sender}
-use Rattle.ring_pipes.specs.Pipes.{IsHalf, IsPipe, IsElsewhere}
-use Rattle.out_rows.specs.Samples.{sending}
+use Rattle.lent_structures.proofs.Altering.{same_element}
+use Rattle.ring_laws.specs.Hand.{Empty}
+use Rattle.ring_laws.specs.Told.{endpoint_of}
+use Rattle.ring_laws.specs.Bus.{Sender}
+use Rattle.ring_laws.specs.Pipes.{IsHalf, IsPipe, IsElsewhere}
+use Rattle.stream_worlds.specs.RowSamples.{sending}
 use Rattle.closed_streams.specs.Closed.{only_name, without_name, without_head}
 use Rattle.closed_streams.specs.Samples.{asking, ring, at_zero, packets, sent, sender_of, Pipes, Waits, Closes}
 use Rattle.closed_streams.proofs.Leaving.{only_is}

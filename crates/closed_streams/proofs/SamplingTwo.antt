@@ -3,12 +3,12 @@ use Rattle.std.proofs.Common.{◌≡◌, ◌⊎◌, ℕ, ◌==◌, true, false, 
 use Rattle.std.proofs.lemmas.Bool.{eqb-true, false≢true, true≢false, or_cases}
 use Rattle.qh_qtd.specs.declared.qtd.Qtd.{Qtd}
 use Rattle.lent_structures.specs.Structures.{QueueHead, Element, put}
-use Rattle.lent_structures.specs.Samples.{element}
+use Rattle.lent_structures.specs.StructureSamples.{element}
 use Rattle.lent_structures.proofs.Names.{put_found}
-use Rattle.queue_parts.proofs.Altering.{same_element}
-use Rattle.ring_walk.specs.Hand.{Empty}
-use Rattle.ring_pipes.specs.Pipes.{IsPipe, AreEndpoints}
-use Rattle.ring_stores.specs.Stores.{IsWider}
+use Rattle.lent_structures.proofs.Altering.{same_element}
+use Rattle.ring_laws.specs.Hand.{Empty}
+use Rattle.ring_laws.specs.Pipes.{IsPipe, AreEndpoints}
+use Rattle.ring_laws.specs.Stores.{IsWider}
 use Rattle.closed_streams.specs.Closed.{only_name}
 use Rattle.closed_streams.specs.Several.{ClosesSome}
 use Rattle.closed_streams.specs.Left.{KeepMet, heads_met, names_kept, names_closed}

@@ -2,16 +2,16 @@
 use Rattle.std.proofs.Common.{◌≡◌, ◌≢◌, ℕ, Bool, true, false, List, Option, ap, refl, sym, ◌∙◌, ⊎_elim, inl, inr}
 use Rattle.std.proofs.lemmas.Bool.{cases_eq, false≢true, false_from_ne_true}
 use Rattle.lent_structures.specs.Structures.{StructureSets}
-use Rattle.ring_walk.specs.Hand.{Hand}
-use Rattle.ring_streams.specs.Told.{Endpoint, HasEndpoint}
-use Rattle.ring_pipes.specs.Bus.{Sender}
-use Rattle.ring_stores.specs.Stores.{IsWider}
-use Rattle.ring_pipes.specs.Pipes.{IsNotIn, AreEndpoints, IsElsewhere}
-use Rattle.ring_out_pipes.specs.OutBus.{Taker}
-use Rattle.ring_out_pipes.specs.Laws.{SendsNone, IsOnlyEndpoint}
-use Rattle.control_out_pipes.specs.Outs.{IsOutStream}
-use Rattle.opened_streams.specs.Unopened.{IsUnopened}
-use Rattle.out_rows.specs.Outs.{IsAside}
+use Rattle.ring_laws.specs.Hand.{Hand}
+use Rattle.ring_laws.specs.Told.{Endpoint, HasEndpoint}
+use Rattle.ring_laws.specs.Bus.{Sender}
+use Rattle.ring_laws.specs.Stores.{IsWider}
+use Rattle.ring_laws.specs.Pipes.{IsNotIn, AreEndpoints, IsElsewhere}
+use Rattle.ring_laws.specs.OutBus.{Taker}
+use Rattle.ring_laws.specs.OutPipeLaws.{SendsNone, IsOnlyEndpoint}
+use Rattle.controlled_streams.specs.Outs.{IsOutStream}
+use Rattle.controlled_streams.specs.Unopened.{IsUnopened}
+use Rattle.stream_worlds.specs.Outs.{IsAside}
 use Rattle.closed_streams.specs.Closed.{without_name, without_head}
 use Rattle.closed_streams.specs.Several.{ClosesSome, OneCloses, CloseSomeEnds, CloseSomePipes, CloseSomeUnopened, CloseSomeOutPipes, CloseSomeUntaken, CloseSomeOuts, FewerReports}
 use Rattle.closed_streams.proofs.Leaving.{name_gone, name_beside, name_on, head_beside, head_on}

@@ -7,14 +7,14 @@ use Rattle.usb_base.specs.declared.packets.Ask.{Ask}
 use Rattle.usb_base.specs.declared.packets.Reply.{Reply}
 use Rattle.hc_core.specs.Controller.{Content}
 use Rattle.lent_structures.specs.Structures.{StructureSets}
-use Rattle.ring_walk.specs.Hand.{Hand}
-use Rattle.ring_walk.specs.Ring.{Base}
-use Rattle.ring_streams.specs.Told.{Endpoint}
-use Rattle.ring_control.specs.Control.{IsControlled, ControlEffect}
-use Rattle.ring_pipes.specs.Bus.{Sender, IsBus, KeepsSenders}
-use Rattle.ring_pipes.specs.Pipes.{IsElsewhere}
-use Rattle.ring_out_pipes.specs.OutBus.{Taker, IsOutBus, KeepsTakers}
-use Rattle.out_rows.specs.Outs.{AreAside}
+use Rattle.ring_laws.specs.Hand.{Hand}
+use Rattle.ring_laws.specs.Ring.{Base}
+use Rattle.ring_laws.specs.Told.{Endpoint}
+use Rattle.controlled_streams.specs.Control.{IsControlled, ControlEffect}
+use Rattle.ring_laws.specs.Bus.{Sender, IsBus, KeepsSenders}
+use Rattle.ring_laws.specs.Pipes.{IsElsewhere}
+use Rattle.ring_laws.specs.OutBus.{Taker, IsOutBus, KeepsTakers}
+use Rattle.stream_worlds.specs.Outs.{AreAside}
 
 abbrev pub AreElsewhere : (ℕ → ℕ → Bool) → (ℕ → Bool) → (ℕ → Endpoint) → StructureSets → Type 0
 AreElsewhere closed member ends parts = (n : ℕ) → member n ≡ true → IsElsewhere closed parts n (ends n)

@@ -15,15 +15,15 @@
 --     NoneAsksClosed, NoneSendsToClosed  no other queue head asks the closed endpoint, or sends to it
 use Rattle.std.specs.Prelude.{◌≡◌, ◌≢◌, ℕ, ◌==◌, ◌&&◌, Bool, true, false, List, Option, if◌then◌else◌}
 use Rattle.lent_structures.specs.Structures.{StructureSets}
-use Rattle.ring_walk.specs.Hand.{Hand}
-use Rattle.ring_stores.specs.Stores.{IsWider}
-use Rattle.ring_streams.specs.Told.{Endpoint}
-use Rattle.ring_pipes.specs.Bus.{Sender}
-use Rattle.ring_pipes.specs.Pipes.{AreEndpoints, IsElsewhere, ArePiped}
-use Rattle.ring_out_pipes.specs.OutBus.{Taker}
-use Rattle.reported_streams.specs.Reported.{AreReported}
-use Rattle.opened_streams.specs.Unopened.{IsUnopened, AreUnopened}
-use Rattle.out_rows.specs.Outs.{IsAside, AreOutPiped, HaveOutStreams, AreUntaken}
+use Rattle.ring_laws.specs.Hand.{Hand}
+use Rattle.ring_laws.specs.Stores.{IsWider}
+use Rattle.ring_laws.specs.Told.{Endpoint}
+use Rattle.ring_laws.specs.Bus.{Sender}
+use Rattle.ring_laws.specs.Pipes.{AreEndpoints, IsElsewhere, ArePiped}
+use Rattle.ring_laws.specs.OutBus.{Taker}
+use Rattle.controlled_streams.specs.Reported.{AreReported}
+use Rattle.controlled_streams.specs.Unopened.{IsUnopened, AreUnopened}
+use Rattle.stream_worlds.specs.Outs.{IsAside, AreOutPiped, HaveOutStreams, AreUntaken}
 
 abbrev pub only_name : ℕ → ℕ → ℕ → ℕ → Bool
 only_name addr ep a e = a == addr && e == ep

@@ -12,14 +12,14 @@
 --     NoneAsksAnyClosed, NoneSendsToAnyClosed       so long as that is so none asks one of these, or sends to it, whenever they were closed
 use Rattle.std.specs.Prelude.{◌≡◌, ℕ, ◌&&◌, not, Bool, true, false, List, Option}
 use Rattle.lent_structures.specs.Structures.{StructureSets}
-use Rattle.ring_walk.specs.Hand.{Hand}
-use Rattle.ring_stores.specs.Stores.{IsWider}
-use Rattle.ring_streams.specs.Told.{Endpoint, HasEndpoint}
-use Rattle.ring_pipes.specs.Bus.{Sender}
-use Rattle.ring_pipes.specs.Pipes.{IsNotIn, AreEndpoints, ArePiped}
-use Rattle.ring_out_pipes.specs.OutBus.{Taker}
-use Rattle.ring_out_pipes.specs.Laws.{SendsNone}
-use Rattle.out_rows.specs.Outs.{AreAside, AreOutPiped}
+use Rattle.ring_laws.specs.Hand.{Hand}
+use Rattle.ring_laws.specs.Stores.{IsWider}
+use Rattle.ring_laws.specs.Told.{Endpoint, HasEndpoint}
+use Rattle.ring_laws.specs.Bus.{Sender}
+use Rattle.ring_laws.specs.Pipes.{IsNotIn, AreEndpoints, ArePiped}
+use Rattle.ring_laws.specs.OutBus.{Taker}
+use Rattle.ring_laws.specs.OutPipeLaws.{SendsNone}
+use Rattle.stream_worlds.specs.Outs.{AreAside, AreOutPiped}
 use Rattle.closed_streams.specs.Several.{ClosesSome}
 use Rattle.closed_streams.specs.Aside.{AreElsewhere}
 

@@ -16,12 +16,12 @@ use Rattle.std.specs.Prelude.{ℕ, ◌==◌, ◌&&◌, ◌||◌, Bool, true, Lis
 use Rattle.qh_qtd.specs.declared.qtd.Qtd.{Qtd}
 use Rattle.qh_qtd.specs.declared.queue_head.Qh.{Qh}
 use Rattle.lent_structures.specs.Structures.{QueueHead, Element, StructureSets, put}
-use Rattle.lent_structures.specs.Samples.{token, queue, element, nothing}
-use Rattle.ring_walk.specs.Hand.{Empty}
-use Rattle.ring_streams.specs.Told.{Endpoint, endpoint_of}
-use Rattle.ring_pipes.specs.Bus.{Sender}
-use Rattle.ring_pipes.specs.Pipes.{ArePiped}
-use Rattle.opened_streams.specs.Unopened.{AreUnopened}
+use Rattle.lent_structures.specs.StructureSamples.{token, queue, element, nothing}
+use Rattle.ring_laws.specs.Hand.{Empty}
+use Rattle.ring_laws.specs.Told.{Endpoint, endpoint_of}
+use Rattle.ring_laws.specs.Bus.{Sender}
+use Rattle.ring_laws.specs.Pipes.{ArePiped}
+use Rattle.controlled_streams.specs.Unopened.{AreUnopened}
 use Rattle.closed_streams.specs.Several.{ClosesSome}
 use Rattle.closed_streams.specs.Aside.{AreElsewhere}
 use Rattle.closed_streams.specs.Left.{HaveLeft}

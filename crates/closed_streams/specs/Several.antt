@@ -6,15 +6,15 @@
 --     OneCloses                  the closing of one stream is such a one, once the walk doesn't meet the queue head any more and while it may still
 use Rattle.std.specs.Prelude.{◌≡◌, ℕ, Bool, true, false, List, Option}
 use Rattle.lent_structures.specs.Structures.{StructureSets}
-use Rattle.ring_walk.specs.Hand.{Hand}
-use Rattle.ring_stores.specs.Stores.{IsWider}
-use Rattle.ring_streams.specs.Told.{Endpoint}
-use Rattle.ring_pipes.specs.Bus.{Sender}
-use Rattle.ring_pipes.specs.Pipes.{AreEndpoints, ArePiped}
-use Rattle.ring_out_pipes.specs.OutBus.{Taker}
-use Rattle.reported_streams.specs.Reported.{AreReported}
-use Rattle.opened_streams.specs.Unopened.{AreUnopened}
-use Rattle.out_rows.specs.Outs.{AreOutPiped, HaveOutStreams, AreUntaken}
+use Rattle.ring_laws.specs.Hand.{Hand}
+use Rattle.ring_laws.specs.Stores.{IsWider}
+use Rattle.ring_laws.specs.Told.{Endpoint}
+use Rattle.ring_laws.specs.Bus.{Sender}
+use Rattle.ring_laws.specs.Pipes.{AreEndpoints, ArePiped}
+use Rattle.ring_laws.specs.OutBus.{Taker}
+use Rattle.controlled_streams.specs.Reported.{AreReported}
+use Rattle.controlled_streams.specs.Unopened.{AreUnopened}
+use Rattle.stream_worlds.specs.Outs.{AreOutPiped, HaveOutStreams, AreUntaken}
 use Rattle.closed_streams.specs.Closed.{without_name, without_head}
 
 pub record ClosesSome (stream now : ℕ → ℕ → Bool) (member narrow streams those : ℕ → Bool) (ends : ℕ → Endpoint) : Type 0 where

@@ -1,7 +1,7 @@
 //! The laws.
 ghost use Rattle.std.specs.Prelude.{ℕ, Option};
-ghost use Rattle.ring_pipes.specs.Bus.{Sender};
-ghost use Rattle.ring_out_pipes.specs.OutBus.{Taker};
+ghost use Rattle.ring_laws.specs.Bus.{Sender};
+ghost use Rattle.ring_laws.specs.OutBus.{Taker};
 ghost use Rattle.closed_streams.specs.Closed.{NameIsClosed, HeadIsClosed, NarrowsBeside, ClosesBeside, CloseEnds, CloseMetEnds, ClosePipes, CloseMetPipes};
 ghost use Rattle.closed_streams.specs.Closed.{CloseOutPipes, CloseMetOutPipes, CloseOuts, CloseMetOuts, CloseReports, IsUnopenedStill, CloseUnopened, CloseUntaken};
 ghost use Rattle.closed_streams.specs.Closed.{NoneAsksClosed, NoneSendsToClosed};

@@ -2,7 +2,7 @@
 //! asks the endpoint or sends to it. All other streams, IN and OUT, and the devices' endpoints that aren't opened, are as before. So they are where several are closed at
 //! once. What the device still has of a closed endpoint, or took, stays.
 //!
-//! The crate has no code of its own: each function is a law over the definitions of `ring_pipes`, `opened_streams` and `out_rows`, and its body is empty.
+//! The crate has no code of its own: each function is a law over the definitions of `ring_laws`, `controlled_streams` and `stream_worlds`, and its body is empty.
 #![tactic(auto)]
 
 pub mod laws;

@@ -1,9 +1,9 @@
 //! Worked rows.
 ghost use Rattle.std.specs.Prelude.{◌≡◌, ◌==◌, true, false};
-ghost use Rattle.ring_streams.specs.Told.{endpoint_of};
-ghost use Rattle.ring_pipes.specs.Pipes.{IsElsewhere};
-ghost use Rattle.lent_structures.specs.Samples.{element};
-ghost use Rattle.out_rows.specs.Samples.{sending};
+ghost use Rattle.ring_laws.specs.Told.{endpoint_of};
+ghost use Rattle.ring_laws.specs.Pipes.{IsElsewhere};
+ghost use Rattle.lent_structures.specs.StructureSamples.{element};
+ghost use Rattle.stream_worlds.specs.RowSamples.{sending};
 ghost use Rattle.closed_streams.specs.Closed.{only_name, without_name, without_head};
 ghost use Rattle.closed_streams.specs.Left.{heads_met, names_kept, names_closed};
 ghost use Rattle.closed_streams.specs.Samples.{asking, ring, at_zero, Pipes, Waits, Closes, at_both, both_names, PipesOfTwo, AsksNone, LeftOne};

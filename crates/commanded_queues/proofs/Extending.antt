@@ -13,11 +13,11 @@ use Rattle.run_owners.proofs.Accepted.{drop_first}
 use Rattle.run_owners.proofs.Transferred.{goes_on_alive}
 use Rattle.ring_members.proofs.Placed.{has_queue}
 use Rattle.lent_structures.specs.Structures.{StructureSets}
-use Rattle.driver_parts.specs.Inventory.{Sort, OfElement, OfBuffer, sort_of, sorts_of, IsLent, IsPieceOf, IsBufferTold, AreTold, IsTransferIn, IsDriverOwned, the_list, the_head, a_queue, a_dummy, a_piece, a_buffer, IsDriven}
-use Rattle.driver_accepts.proofs.Opens.{open_one_more}
-use Rattle.driver_accepts.proofs.Transfers.{moved_end, one_transfer, OneTransfer}
-use Rattle.driver_accepts.proofs.Noted.{transfer_one}
-use Rattle.driver_releases.specs.Extents.{AreInRuns}
+use Rattle.driver_laws.specs.Inventory.{Sort, OfElement, OfBuffer, sort_of, sorts_of, IsLent, IsPieceOf, IsBufferTold, AreTold, IsTransferIn, IsDriverOwned, the_list, the_head, a_queue, a_dummy, a_piece, a_buffer, IsDriven}
+use Rattle.driver_laws.proofs.Opens.{open_one_more}
+use Rattle.driver_laws.proofs.Transfers.{moved_end, one_transfer, OneTransfer}
+use Rattle.driver_laws.proofs.AcceptNoted.{transfer_one}
+use Rattle.driver_laws.specs.Extents.{AreInRuns}
 use Rattle.commanded_queues.specs.Accepted.{ExtentsOpen, ExtentsAsked}
 
 -- ---- where each lent buffer was one before

@@ -23,11 +23,11 @@ use Rattle.run_owners.proofs.Accepted.{drop_first}
 use Rattle.run_owners.proofs.Chains.{buffers_of}
 use Rattle.lent_structures.specs.Structures.{StructureSets}
 use Rattle.lent_structures.proofs.Names.{not_same}
-use Rattle.driver_parts.specs.Inventory.{IsLent}
-use Rattle.driver_accepts.proofs.Taken.{new_not_lent}
+use Rattle.driver_laws.specs.Inventory.{IsLent}
+use Rattle.driver_laws.proofs.Taken.{new_not_lent}
 use Rattle.chained_transfers.specs.Chains.{piece_at}
-use Rattle.fed_commands.proofs.Asked.{push_which, set_which, IsTakenOn, dummy_in, notes_in, taken_on}
-use Rattle.ring_fronts.specs.Front.{IsPassed}
+use Rattle.fed_lends.proofs.Asked.{push_which, set_which, IsTakenOn, dummy_in, notes_in, taken_on}
+use Rattle.ring_laws.specs.Front.{IsPassed}
 use Rattle.released_queues.specs.Fronts.{piece_address}
 use Rattle.standing_fronts.specs.Along.{WasOwed}
 use Rattle.standing_fronts.specs.Reaching.{Reaches}

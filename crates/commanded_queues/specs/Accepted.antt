@@ -20,8 +20,8 @@ use Rattle.run_owners.specs.Kept.{HasOwners}
 use Rattle.walk_members.specs.Reached.{IsNumbered}
 use Rattle.lent_runs.specs.Lent.{AreLent}
 use Rattle.lent_structures.specs.Structures.{StructureSets}
-use Rattle.driver_parts.specs.Inventory.{sorts_of, IsDriven}
-use Rattle.driver_releases.specs.Extents.{AreInRuns}
+use Rattle.driver_laws.specs.Inventory.{sorts_of, IsDriven}
+use Rattle.driver_laws.specs.Extents.{AreInRuns}
 use Rattle.chained_transfers.specs.Bulk.{IsBulk, OpensBulk, OnlyBulk}
 use Rattle.chained_transfers.specs.Accepted.{IsOpened, IsAsked}
 use Rattle.fed_queues.specs.Places.{IsMet}

@@ -5,11 +5,11 @@ use Rattle.usb_base.specs.declared.packets.Reply.{Reply}
 use Rattle.hc_core.specs.Controller.{Content, microframe_row, HasRow, walk_place}
 use Rattle.lent_structures.specs.Structures.{StructureSets}
 use Rattle.request_calls.specs.Bus.{Device, device_of, IsControlBus, KeepsDevices}
-use Rattle.ring_walk.specs.Hand.{Hand}
-use Rattle.ring_walk.specs.Ring.{Base, IsRing}
-use Rattle.ring_walk.specs.Effects.{AreBytesHeard}
-use Rattle.ring_control.specs.Control.{IsOn, IsControlled, BeginsMicroframe, ControlEffect, a_microframe, a_step, Controls}
-use Rattle.ring_control.proofs.Controlling.{event_controls}
+use Rattle.ring_laws.specs.Hand.{Hand}
+use Rattle.ring_laws.specs.Ring.{Base, IsRing}
+use Rattle.ring_laws.specs.Effects.{AreBytesHeard}
+use Rattle.controlled_streams.specs.Control.{IsOn, IsControlled, BeginsMicroframe, ControlEffect, a_microframe, a_step, Controls}
+use Rattle.controlled_streams.proofs.Controlling.{event_controls}
 use Rattle.ring_requests.specs.Windows.{Queue, Lines, IsQueue, AreSent, AreWindows, Step, stepped, HaltedStay}
 use Rattle.ring_requests.proofs.Windows.{none_stay, rest_by}
 use Rattle.control_requests.specs.Events.{IsControlStepOf, ControlWindowsGoOn}

@@ -8,9 +8,9 @@ use Rattle.usb_base.specs.declared.packets.Reply.{Reply}
 use Rattle.hc_core.specs.Controller.{Content}
 use Rattle.lent_structures.specs.Structures.{StructureSets}
 use Rattle.request_calls.specs.Bus.{Device}
-use Rattle.ring_walk.specs.Hand.{Hand}
-use Rattle.ring_walk.specs.Ring.{Base}
-use Rattle.ring_control.specs.Control.{ControlEffect, a_microframe, a_step, Controls}
+use Rattle.ring_laws.specs.Hand.{Hand}
+use Rattle.ring_laws.specs.Ring.{Base}
+use Rattle.controlled_streams.specs.Control.{ControlEffect, a_microframe, a_step, Controls}
 use Rattle.ring_requests.specs.Windows.{Queue, Lines, AreWindows, Step, stepped, IsStepOf, HaltedStay}
 
 abbrev pub IsControlStepOf : {W : Type 0} {begins : W → ℕ → Bool → W → Type 0} {transacts : W → Ask → List ℕ → Reply → W → Type 0} {parts : StructureSets} {hand : Hand} {wire after : W}

@@ -2,17 +2,17 @@
 //! most one transaction of one of the requests, or the advance of one queue head to its next request, and how host and device stand to each other is
 //! kept, whatever the bus loses.
 //!
-//! The crate has no code of its own: its function is a law over the definitions of `ring_control` and `ring_requests`, and its body is empty.
+//! The crate has no code of its own: its function is a law over the definitions of `controlled_streams` and `ring_requests`, and its body is empty.
 #![tactic(auto)]
 
 ghost use Rattle.std.specs.Prelude.{ℕ, Bool, Option};
 ghost use Rattle.hc_core.specs.Controller.{Content, HasRow, microframe_row};
 ghost use Rattle.lent_structures.specs.Structures.{StructureSets};
 ghost use Rattle.request_calls.specs.Bus.{Device, IsControlBus, KeepsDevices};
-ghost use Rattle.ring_walk.specs.Hand.{Hand};
-ghost use Rattle.ring_walk.specs.Ring.{Base};
-ghost use Rattle.ring_walk.specs.Effects.{AreBytesHeard};
-ghost use Rattle.ring_control.specs.Control.{IsOn, IsControlled};
+ghost use Rattle.ring_laws.specs.Hand.{Hand};
+ghost use Rattle.ring_laws.specs.Ring.{Base};
+ghost use Rattle.ring_laws.specs.Effects.{AreBytesHeard};
+ghost use Rattle.controlled_streams.specs.Control.{IsOn, IsControlled};
 ghost use Rattle.ring_requests.specs.Windows.{Queue, Lines, AreSent, AreWindows};
 ghost use Rattle.control_requests.specs.Events.{ControlWindowsGoOn};
 

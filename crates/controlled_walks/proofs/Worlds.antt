@@ -13,8 +13,8 @@ use Rattle.walk_members.proofs.Ringing.{bell_kept, driver_bell}
 use Rattle.walk_members.proofs.Descriptions.{no_heads, command_numbers, event_numbers}
 use Rattle.bus_world.specs.Rooms.{reserve_of}
 use Rattle.bus_world.specs.World.{World, controller_parts, driver_parts, controller_next, name_in, refused_line, commanded_by}
-use Rattle.world_streams.specs.Streaming.{begins_by, transacts_by, wired}
-use Rattle.world_streams.proofs.Turning.{world_has_row}
+use Rattle.stream_worlds.specs.Streaming.{begins_by, transacts_by, wired}
+use Rattle.stream_worlds.proofs.StreamTurning.{world_has_row}
 use Rattle.controlled_walks.specs.Worlds.{IsWalking, NewWorldWalks, ControllerKeepsWalking, DriverKeepsWalking, CommandKeepsWalking}
 use Rattle.controlled_walks.proofs.Controlling.{control_walk, control_bell, opening_bell}
 use Rattle.controlled_walks.proofs.Offering.{command_bell}

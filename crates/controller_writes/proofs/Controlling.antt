@@ -18,12 +18,12 @@ use Rattle.hc_core.specs.declared.controller.ControllerRow.{ControllerRow}
 use Rattle.hc_core.specs.declared.controller.ControllerRow.TheVariants as rows
 use Rattle.hc_core.specs.Controller.{Content, microframe_row, part_row, enter_row, ring_row, element_address, begun_at, began, entered, walk_place, HasRow}
 use Rattle.lent_structures.specs.Structures.{QueueHead, HoldsQueueHead, StructureSets}
-use Rattle.queue_parts.specs.Sound.{IsMember}
-use Rattle.ring_walk.specs.Hand.{Copy, copied_queue, Settlement, settled_queue_of, Hand, Empty, Copied, Settled, Stale, held_of}
-use Rattle.ring_walk.specs.Ring.{Base, base_of, IsCopied, IsRing}
-use Rattle.ring_walk.specs.Effects.{AreBytesHeard}
-use Rattle.ring_control.specs.Control.{IsOn, IsFrameless, off, empty, IsControlled, ControlEffect, a_microframe, a_step, Controls}
-use Rattle.ring_control.proofs.Controlling.{event_controls}
+use Rattle.lent_structures.specs.Sound.{IsMember}
+use Rattle.ring_laws.specs.Hand.{Copy, copied_queue, Settlement, settled_queue_of, Hand, Empty, Copied, Settled, Stale, held_of}
+use Rattle.ring_laws.specs.Ring.{Base, base_of, IsCopied, IsRing}
+use Rattle.ring_laws.specs.Effects.{AreBytesHeard}
+use Rattle.controlled_streams.specs.Control.{IsOn, IsFrameless, off, empty, IsControlled, ControlEffect, a_microframe, a_step, Controls}
+use Rattle.controlled_streams.proofs.Controlling.{event_controls}
 use Rattle.walk_writes.specs.Writes.{WritesLent, IsPlaced}
 use Rattle.walk_writes.proofs.Lent.{same_writes, refused_writes}
 use Rattle.walk_writes.proofs.Walking.{event_writes}

@@ -17,12 +17,12 @@ use Rattle.async_walk.specs.Rows.{WalkPlace}
 use Rattle.lent_structures.specs.Structures.{Structure, QueueHead, Element, Buffer, HoldsQueueHead, Structures, StructureSets, put, Tells}
 use Rattle.lent_structures.specs.Changes.{relinked, overwritten}
 use Rattle.lent_structures.proofs.Names.{names_differ, put_same, put_else, put_beside}
-use Rattle.write_back_laws.specs.WriteBack.{Received, Nothing, Into, IsReceived, received_parts, qtd_after, parts_back}
-use Rattle.write_back_laws.proofs.WrittenBack.{head_is_no_buffer, element_is_no_buffer, element_is_no_head, received_else}
-use Rattle.queue_parts.proofs.Altering.{found_queue}
-use Rattle.ring_walk.specs.Hand.{Copy, Settlement, settled_queue_of, Hand, Copied, Settled}
-use Rattle.ring_walk.specs.Ring.{Base, IsCopied, IsSettled, IsInHand, IsRing}
-use Rattle.ring_walk.specs.Effects.{received_into, Effect, reads, passes, ends, takes, makes, writes_back}
+use Rattle.lent_structures.specs.WriteBack.{Received, Nothing, Into, IsReceived, received_parts, qtd_after, parts_back}
+use Rattle.lent_structures.proofs.WrittenBack.{head_is_no_buffer, element_is_no_buffer, element_is_no_head, received_else}
+use Rattle.lent_structures.proofs.Altering.{found_queue}
+use Rattle.ring_laws.specs.Hand.{Copy, Settlement, settled_queue_of, Hand, Copied, Settled}
+use Rattle.ring_laws.specs.Ring.{Base, IsCopied, IsSettled, IsInHand, IsRing}
+use Rattle.ring_laws.specs.Effects.{received_into, Effect, reads, passes, ends, takes, makes, writes_back}
 
 -- ---- the queue head that stands there has the same front
 

@@ -1,10 +1,10 @@
 ghost use Rattle.std.specs.Prelude.{ℕ, Bool};
 ghost use Rattle.hc_core.specs.Controller.{Content, microframe_row, HasRow};
 ghost use Rattle.lent_structures.specs.Structures.{StructureSets};
-ghost use Rattle.ring_walk.specs.Hand.{Hand};
-ghost use Rattle.ring_walk.specs.Ring.{Base};
-ghost use Rattle.ring_walk.specs.Effects.{AreBytesHeard};
-ghost use Rattle.ring_control.specs.Control.{IsOn, IsControlled};
+ghost use Rattle.ring_laws.specs.Hand.{Hand};
+ghost use Rattle.ring_laws.specs.Ring.{Base};
+ghost use Rattle.ring_laws.specs.Effects.{AreBytesHeard};
+ghost use Rattle.controlled_streams.specs.Control.{IsOn, IsControlled};
 ghost use Rattle.controller_writes.specs.Leaving.{LeavesRest};
 
 use usb_base::Wire;

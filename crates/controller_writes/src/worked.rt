@@ -3,8 +3,8 @@ ghost use Rattle.std.specs.Prelude.{◌≡◌, take, drop};
 ghost use Rattle.word_mem.specs.Views.{words_at};
 ghost use Rattle.qh_qtd.specs.QueueHead.{qh_words};
 ghost use Rattle.queue_words.specs.Structures.{overlay_words, overlay_written};
-ghost use Rattle.lent_structures.specs.Samples.{queue, memory};
-ghost use Rattle.write_back_laws.specs.Samples.{settled};
+ghost use Rattle.lent_structures.specs.StructureSamples.{queue, memory};
+ghost use Rattle.lent_structures.specs.WriteBackSamples.{settled};
 
 /// The overlay of a copy with an older link is written: the link that stands there stays, and so do the two words behind it.
 pub fn an_overlay_leaves_the_front()

@@ -15,20 +15,20 @@ use Rattle.lent_structures.specs.Structures.{Structure, QueueHead, Element, Buff
 use Rattle.lent_structures.specs.Changes.{relinked, overwritten}
 use Rattle.lent_structures.proofs.Names.{names_differ, put_else, put_beside, put_found}
 use Rattle.lent_structures.proofs.Storing.{length-overwritten}
-use Rattle.write_back_laws.specs.WriteBack.{Received, Nothing, Into, IsReceived, received_parts, qtd_after, parts_back}
-use Rattle.queue_parts.specs.Alters.{HasBytes}
-use Rattle.queue_parts.proofs.Altering.{same_buffer}
-use Rattle.ring_walk.specs.Hand.{settled_queue_of, Hand}
-use Rattle.ring_walk.specs.Ring.{Base, IsCopied, IsSettled, IsInHand, IsRing}
-use Rattle.ring_walk.specs.Effects.{received_into, Effect, reads, passes, ends, takes, makes, writes_back}
-use Rattle.driver_parts.specs.Inventory.{OfBuffer, sort_of, SameSorts}
-use Rattle.driver_parts.proofs.Sorts.{same_put, effect_same}
-use Rattle.driver_releases.specs.Extents.{KeepExtents}
-use Rattle.driver_releases.proofs.Extending.{walk_keeps}
-use Rattle.frame_parts.specs.Met.{IsBuffered}
+use Rattle.lent_structures.specs.WriteBack.{Received, Nothing, Into, IsReceived, received_parts, qtd_after, parts_back}
+use Rattle.lent_structures.specs.Alters.{HasBytes}
+use Rattle.lent_structures.proofs.Altering.{same_buffer}
+use Rattle.ring_laws.specs.Hand.{settled_queue_of, Hand}
+use Rattle.ring_laws.specs.Ring.{Base, IsCopied, IsSettled, IsInHand, IsRing}
+use Rattle.ring_laws.specs.Effects.{received_into, Effect, reads, passes, ends, takes, makes, writes_back}
+use Rattle.driver_laws.specs.Inventory.{OfBuffer, sort_of, SameSorts}
+use Rattle.driver_laws.proofs.Sorts.{same_put, effect_same}
+use Rattle.driver_laws.specs.Extents.{KeepExtents}
+use Rattle.driver_laws.proofs.Extending.{walk_keeps}
+use Rattle.frame_walk.specs.Met.{IsBuffered}
 use Rattle.described_parts.specs.Described.{HasDescriptor}
 use Rattle.described_parts.specs.Both.{KeepDescriptors}
-use Rattle.described_parts.specs.Laws.{RingKeeps}
+use Rattle.described_parts.specs.PartLaws.{RingKeeps}
 
 -- ---- a buffer is there still
 

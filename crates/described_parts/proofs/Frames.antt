@@ -22,24 +22,24 @@ use Rattle.periodic_walk.specs.Place.{FramePlace}
 use Rattle.lent_structures.specs.Structures.{Structure, QueueHead, Buffer, Table, Isochronous, SplitIsochronous, Structures, StructureSets, put, Tells}
 use Rattle.lent_structures.specs.Changes.{relinked}
 use Rattle.lent_structures.proofs.Names.{put_same, put_beside}
-use Rattle.write_back_laws.specs.WriteBack.{Received, Nothing as Nowhere, Into, received_parts, qtd_after, parts_back}
-use Rattle.ring_walk.specs.Hand.{Copy, Settlement, settled_queue_of, Hand as RingHand, Copied}
-use Rattle.ring_walk.specs.Ring.{IsSettled}
-use Rattle.ring_walk.specs.Effects.{received_into, Takes}
-use Rattle.driver_parts.specs.Inventory.{SameSorts}
-use Rattle.driver_parts.proofs.Sorts.{same_put, same_both, same_parts, back_same}
-use Rattle.driver_releases.specs.Extents.{KeepExtents}
-use Rattle.driver_releases.proofs.Extending.{head_put, element_put}
-use Rattle.frame_parts.specs.Met.{Kind, IsBuffered}
-use Rattle.frame_parts.specs.FrameHand.{ItdCopy, SitdCopy, FrameHand}
-use Rattle.frame_parts.specs.Frame.{IsCopiedQueue, IsCopiedItd, IsCopiedSitd, IsMoved, IsTurned, IsInFrame, IsFrame}
-use Rattle.frame_parts.specs.FrameEffects.{AreReceivedAt, itd_back, itd_parts, sitd_back, sitd_parts, IsWrittenFrom, made, missed, WritesQueue, WritesItd, WritesSitd, WritesOne, TakesOne}
-use Rattle.frame_parts.specs.FrameEffects.WritesOne.{of_queue, of_itd, of_sitd}
-use Rattle.frame_parts.specs.FrameEffects.FrameEffect.{fetches, passes, ends, takes, makes, writes}
-use Rattle.frame_parts.proofs.Turning.{place_moved}
+use Rattle.lent_structures.specs.WriteBack.{Received, Nothing as Nowhere, Into, received_parts, qtd_after, parts_back}
+use Rattle.ring_laws.specs.Hand.{Copy, Settlement, settled_queue_of, Hand as RingHand, Copied}
+use Rattle.ring_laws.specs.Ring.{IsSettled}
+use Rattle.ring_laws.specs.Effects.{received_into, Takes}
+use Rattle.driver_laws.specs.Inventory.{SameSorts}
+use Rattle.driver_laws.proofs.Sorts.{same_put, same_both, same_parts, back_same}
+use Rattle.driver_laws.specs.Extents.{KeepExtents}
+use Rattle.driver_laws.proofs.Extending.{head_put, element_put}
+use Rattle.frame_walk.specs.Met.{Kind, IsBuffered}
+use Rattle.frame_walk.specs.FrameHand.{ItdCopy, SitdCopy, FrameHand}
+use Rattle.frame_walk.specs.Frame.{IsCopiedQueue, IsCopiedItd, IsCopiedSitd, IsMoved, IsTurned, IsInFrame, IsFrame}
+use Rattle.frame_walk.specs.FrameEffects.{AreReceivedAt, itd_back, itd_parts, sitd_back, sitd_parts, IsWrittenFrom, made, missed, WritesQueue, WritesItd, WritesSitd, WritesOne, TakesOne}
+use Rattle.frame_walk.specs.FrameEffects.WritesOne.{of_queue, of_itd, of_sitd}
+use Rattle.frame_walk.specs.FrameEffects.FrameEffect.{fetches, passes, ends, takes, makes, writes}
+use Rattle.frame_walk.proofs.PartTurning.{place_moved}
 use Rattle.described_parts.specs.Described.{HasItd, HasSitd, HasDescriptor}
 use Rattle.described_parts.specs.Both.{Keeps}
-use Rattle.described_parts.specs.Laws.{FramesKeep}
+use Rattle.described_parts.specs.PartLaws.{FramesKeep}
 use Rattle.described_parts.proofs.Events.{buffered_still, extents_same, extents_both, extents_put, Fit, fit_received, received_sorts, received_extents, received_there, received_beside, descriptors_same, descriptors_beside, queue_keeps, back_beside}
 
 keeps_same : (parts now : StructureSets) → now ≡ parts → Keeps parts now

@@ -9,10 +9,10 @@ use Rattle.driver_rows.specs.Words.{head_block}
 use Rattle.run_owners.specs.Owners.{Owner, FrameList, Head, QueueHead, Dummy, Element, Described, Buffer, SlotHas, HasBlocks, IsPlaced, TransferRuns, Views, AreOwned}
 use Rattle.run_owners.proofs.Apart.{runs_apart}
 use Rattle.lent_structures.specs.Structures.{Structure, QueueHead as QueueHeadOf, Element as ElementOf, Buffer as BufferOf, Table, Isochronous, SplitIsochronous, StructureSets, Has}
-use Rattle.driver_parts.specs.Inventory.{Sort, sort_of, sorts_of, OfBuffer, IsDriverOwned, the_list, the_head, a_queue, a_dummy, a_piece, a_buffer, IsDriven}
-use Rattle.driver_releases.specs.Extents.{AreInRuns}
-use Rattle.driver_releases.proofs.Blocks.{all_one, placed_buffer}
-use Rattle.driver_releases.proofs.Homes.{slot_some, head_has, element_has, list_has}
+use Rattle.driver_laws.specs.Inventory.{Sort, sort_of, sorts_of, OfBuffer, IsDriverOwned, the_list, the_head, a_queue, a_dummy, a_piece, a_buffer, IsDriven}
+use Rattle.driver_laws.specs.Extents.{AreInRuns}
+use Rattle.driver_laws.proofs.Blocks.{all_one, placed_buffer}
+use Rattle.driver_laws.proofs.Homes.{slot_some, head_has, element_has, list_has}
 use Rattle.described_parts.specs.Described.{IsDescriptorLent, HasDescriptor, HasBufferIn, HasItsBuffer, IsOfDescriptor, a_descriptor, a_buffer as a_buffer_of, AreDescribed}
 
 -- ---- whose a run is

@@ -4,12 +4,12 @@ use Rattle.std.proofs.lemmas.Option.{same_Some}
 use Rattle.usb_base.specs.declared.packets.Reply.{Reply}
 use Rattle.run_owners.specs.Owners.{Views, views_of}
 use Rattle.lent_structures.specs.Structures.{Structure, QueueHead, Element, Buffer, Table, Isochronous, SplitIsochronous, Structures, StructureSets}
-use Rattle.queue_parts.specs.Sound.{IsMember}
-use Rattle.ring_walk.specs.Hand.{Hand, Empty, Copied, Settled, Stale, Copy}
-use Rattle.ring_walk.specs.Ring.{IsCopied, IsInHand}
+use Rattle.lent_structures.specs.Sound.{IsMember}
+use Rattle.ring_laws.specs.Hand.{Hand, Empty, Copied, Settled, Stale, Copy}
+use Rattle.ring_laws.specs.Ring.{IsCopied, IsInHand}
 use Rattle.described_parts.specs.Described.{HasDescriptor, AreDescribed}
 use Rattle.described_parts.specs.Both.{owns, both}
-use Rattle.described_parts.specs.Laws.{RingIsOfQueues, RingIsOfBoth, ListIsOfQueues, ItdCanBeMet, SitdCanBeMet}
+use Rattle.described_parts.specs.PartLaws.{RingIsOfQueues, RingIsOfBoth, ListIsOfQueues, ItdCanBeMet, SitdCanBeMet}
 use Rattle.described_parts.proofs.Standing.{both_on, both_off, IsAtOwner, on_owner}
 use Rattle.described_parts.proofs.Telling.{each_told, queue_off, queue_found}
 

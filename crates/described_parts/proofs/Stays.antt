@@ -5,12 +5,12 @@ use Rattle.std.proofs.lemmas.Bool.{true≢false}
 use Rattle.run_book.specs.declared.slots.Slot.{Slot}
 use Rattle.run_owners.specs.Owners.{SlotHas, TransferRuns, DescriptorRuns, Views}
 use Rattle.lent_structures.specs.Structures.{Structure, Buffer, Table, Structures, StructureSets}
-use Rattle.driver_parts.specs.Inventory.{sort_of, sorts_of}
-use Rattle.queue_parts.specs.Alters.{HasBytes}
-use Rattle.driver_releases.specs.Extents.{HasWords, KeepExtents}
+use Rattle.driver_laws.specs.Inventory.{sort_of, sorts_of}
+use Rattle.lent_structures.specs.Alters.{HasBytes}
+use Rattle.driver_laws.specs.Extents.{HasWords, KeepExtents}
 use Rattle.described_parts.specs.Described.{IsDescriptorLent, HasDescriptor, HasItsBuffer, IsOfDescriptor, a_descriptor, a_buffer, AreDescribed}
 use Rattle.described_parts.specs.Both.{owns, both, descs_now, parts_now, Keeps}
-use Rattle.described_parts.specs.Laws.{DescribedStay, DescribedFollow}
+use Rattle.described_parts.specs.PartLaws.{DescribedStay, DescribedFollow}
 use Rattle.described_parts.proofs.Standing.{both_on, both_off, stands_some}
 use Rattle.described_parts.proofs.Events.{buffer_still}
 

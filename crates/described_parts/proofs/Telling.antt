@@ -7,11 +7,11 @@ use Rattle.driver_rows.specs.Words.{head_block}
 use Rattle.driver_rows.specs.DriverContent.{DriverContent}
 use Rattle.run_owners.specs.Owners.{Owner, Described, Buffer, EndpointRuns, TransferRuns, Views, views_of, AreOwned}
 use Rattle.lent_structures.specs.Structures.{Structure, StructureSets, Holds, Has, Tells}
-use Rattle.driver_parts.specs.Inventory.{Sort, sort_of, IsQueueIn, IsDriverOwned, the_list, the_head, a_queue, a_dummy, a_piece, a_buffer}
-use Rattle.driver_releases.specs.Extents.{AreInRuns}
+use Rattle.driver_laws.specs.Inventory.{Sort, sort_of, IsQueueIn, IsDriverOwned, the_list, the_head, a_queue, a_dummy, a_piece, a_buffer}
+use Rattle.driver_laws.specs.Extents.{AreInRuns}
 use Rattle.described_parts.specs.Described.{IsDescriptorLent, AreHeld}
 use Rattle.described_parts.specs.Both.{owns, both}
-use Rattle.described_parts.specs.Laws.{IsDescribing, QueuesApart, DescriptorsApart, BothAreTold, EachIsTold}
+use Rattle.described_parts.specs.PartLaws.{IsDescribing, QueuesApart, DescriptorsApart, BothAreTold, EachIsTold}
 use Rattle.described_parts.proofs.Standing.{both_on, both_off, found_on, nothing_off, IsAtOwner, on_owner}
 use Rattle.described_parts.proofs.Owned.{descriptor_owner, is_described, one_owner, IsOfQueues, queue_lies, IsPieceAt, itself, its_buffer, IsOfDescriptors, descriptor_lies}
 

@@ -8,8 +8,8 @@
 use Rattle.std.specs.Prelude.{◌≡◌, ℕ, Bool, is_some, if◌then◌else◌}
 use Rattle.run_owners.specs.Owners.{SlotHas, TransferRuns, Views}
 use Rattle.lent_structures.specs.Structures.{StructureSets}
-use Rattle.driver_parts.specs.Inventory.{SameSorts}
-use Rattle.driver_releases.specs.Extents.{KeepExtents}
+use Rattle.driver_laws.specs.Inventory.{SameSorts}
+use Rattle.driver_laws.specs.Extents.{KeepExtents}
 use Rattle.described_parts.specs.Described.{IsDescriptorLent, HasDescriptor}
 
 abbrev pub owns : StructureSets → ℕ → Bool

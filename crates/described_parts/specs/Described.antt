@@ -18,9 +18,9 @@ use Rattle.iso_visits.specs.Sitd.{sitd_place}
 use Rattle.iso_visits.specs.WriteBack.{itd_pages, slot_place, sitd_pages}
 use Rattle.run_owners.specs.Owners.{TransferRuns, Views}
 use Rattle.lent_structures.specs.Structures.{Structure, Buffer, Isochronous, SplitIsochronous, Structures, StructureSets, Holds, Has}
-use Rattle.driver_parts.specs.Inventory.{IsLent}
-use Rattle.driver_releases.specs.Extents.{InRuns}
-use Rattle.frame_parts.specs.Met.{IsBuffered}
+use Rattle.driver_laws.specs.Inventory.{IsLent}
+use Rattle.driver_laws.specs.Extents.{InRuns}
+use Rattle.frame_walk.specs.Met.{IsBuffered}
 
 pub record IsDescriptorLent (v : Views) (t : ℕ) (y : TransferRuns) : Type 0 where
   pub here : v.transfer t ≡ Some y

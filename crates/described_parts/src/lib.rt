@@ -1,8 +1,24 @@
-//! The isochronous descriptors of a driver beside its queues (EHCI 1.0, 3, 4.6, 4.7, 4.8 and 4.12.3): which of them stand in memory, with their buffers,
-//! that one memory is told by both, and what an event of the controller leaves of them.
+//! A driver's iTDs and siTDs beside its queues (EHCI 1.0, 3.3, 3.4, 4.6 and 4.7): described by its content, linked in its frame list, lent and given back.
 //!
-//! The crate has no code of its own: each function is a law over the definitions of `specs/`, and its body is empty.
+//! - `part_laws`, `part_worked`: The isochronous descriptors of a driver beside its queues (EHCI 1.0, 3, 4.6, 4.7, 4.8 and 4.12.3): which of them stand in
+//!   memory, with their buffers, that one memory is told by both, and what an event of the controller leaves of them.
+//! - `lend_laws`, `lend_worked`: Isochronous descriptors are accepted and lent, beside what memory tells already (EHCI 1.0, 3.3, 3.4, 4.7 and 4.12.3).
+//! - `command_laws`, `command_worked`: A command with isochronous descriptors beside a ring and the frames that a controller walks (EHCI 1.0, 4.6 to 4.8, 4.10
+//!   and 4.12.3).
+//! - `queue_laws`, `queue_worked`: The walk of a ring beside isochronous descriptors (EHCI 1.0, 4.8 and 4.10).
+//! - `row_laws`, `row_worked`: Whom the walk of the frames may meet, by what a driver has (EHCI 1.0, 3.1, 3.3, 3.4, 3.6, 4.6 and 4.7): the members of its frame
+//!   list, and within one microframe those that were unlinked in it.
+//!
+//! The crate has no code of its own: each function is a law, and its body is empty.
 #![tactic(auto)]
 
-pub mod laws;
-pub mod worked;
+pub mod command_laws;
+pub mod command_worked;
+pub mod lend_laws;
+pub mod lend_worked;
+pub mod part_laws;
+pub mod part_worked;
+pub mod queue_laws;
+pub mod queue_worked;
+pub mod row_laws;
+pub mod row_worked;

@@ -17,7 +17,7 @@ use Rattle.list_spread.proofs.Spreading.{queue_there, standing_there}
 use Rattle.list_closed.specs.Closed.{IsInFrame, IsNext}
 use Rattle.list_closed.proofs.Chained.{chain_in_frame}
 use Rattle.list_queued.proofs.Leading.{new_next}
-use Rattle.described_lends.specs.Written.{AreLinks}
+use Rattle.described_parts.specs.Written.{AreLinks}
 
 first_next : (s : Schedule) (f : ℕ) (ms : List Member) → AllByRecursion (IsInFrame s f) ms → IsNext s f (first_of ms)
 first_next s f [] all = tt

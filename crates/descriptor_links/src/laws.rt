@@ -2,7 +2,7 @@
 ghost use Rattle.driver_rows.specs.DriverContent.{DriverContent};
 ghost use Rattle.frame_words.specs.InWords.{IsInOrder};
 ghost use Rattle.listed_members.specs.Listed.{IsListed};
-ghost use Rattle.described_lends.specs.Written.{AreLinks};
+ghost use Rattle.described_parts.specs.Written.{AreLinks};
 
 /// Where the members of the frame list are in order, and are those of the driver, the link that a descriptor is given is a link word: the word of what stands
 /// first in its frame, or the end.

@@ -14,7 +14,7 @@ use Rattle.bus_world.specs.Opening.{opening_world}
 use Rattle.bus_world.specs.Orders.{OrderedWorld, Leads, at_place, orders_of, ticks, IsRun}
 use Rattle.bus_world.specs.Budgets.{moment}
 use Rattle.bus_world.proofs.Ticks.{ticks_more}
-use Rattle.sent_reports.specs.Sent.{AreSentStreams}
+use Rattle.sending_worlds.specs.Sent.{AreSentStreams}
 use Rattle.sending_worlds.specs.Moments.{StreamsAreRightAtTheEnd}
 use Rattle.sending_worlds.specs.Kept.{KeepsStreamsThroughout, KeepsPlaces}
 use Rattle.sending_worlds.proofs.Moments.{texts_keep_streams, texts_keep_places}

@@ -10,7 +10,7 @@ use Rattle.report_streams.specs.Streams.{AreRightStreams}
 use Rattle.right_reports.specs.WorldReport.{report_of}
 use Rattle.right_reports.specs.Ins.{AreRightInStreams}
 use Rattle.taken_reports.specs.Taken.{AreTakenStreams}
-use Rattle.sent_reports.specs.Sent.{AreSentStreams}
+use Rattle.sending_worlds.specs.Sent.{AreSentStreams}
 use Rattle.bus_world.specs.World.{Standing}
 use Rattle.bus_world.specs.Opening.{opening_standing}
 use Rattle.bus_world.specs.Orders.{Leads, at_place, orders_of}

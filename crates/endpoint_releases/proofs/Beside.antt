@@ -2,19 +2,19 @@
 use Rattle.std.proofs.Common.{◌≡◌, ◌≢◌, ℕ, Bool, true, false, List, ◌++◌, Option, ap, sym, subst, ◌∙◌, ⊎_elim, inl, inr}
 use Rattle.std.proofs.lemmas.Bool.{true≢false}
 use Rattle.lent_structures.specs.Structures.{Structures, StructureSets}
-use Rattle.ring_releases.proofs.Returning.{those_here}
-use Rattle.ring_walk.specs.Hand.{Hand}
-use Rattle.ring_streams.specs.Told.{Endpoint, HasEndpoint}
-use Rattle.ring_pipes.specs.Bus.{Sender}
-use Rattle.ring_pipes.specs.Pipes.{IsIn, IsNotIn, IsPipe, IsElsewhere}
-use Rattle.ring_order.specs.Order.{IsOrdered, Accounts}
-use Rattle.spared_streams.proofs.Sparing.{spared_endpoint, spared_toggle, spared_accounts}
-use Rattle.ring_out_pipes.specs.OutBus.{Taker}
-use Rattle.ring_out_pipes.specs.Laws.{SendsNone, IsBeside, IsOnlyEndpoint}
-use Rattle.control_out_pipes.specs.Outs.{IsOutStream}
-use Rattle.out_rows.specs.Outs.{IsAside, AreAside}
-use Rattle.out_rows.proofs.Joining.{same_hand, heads_stay, elements_stay, reported_stays}
-use Rattle.out_rows.proofs.Spared.{pipe_stays}
+use Rattle.ring_laws.proofs.Returning.{those_here}
+use Rattle.ring_laws.specs.Hand.{Hand}
+use Rattle.ring_laws.specs.Told.{Endpoint, HasEndpoint}
+use Rattle.ring_laws.specs.Bus.{Sender}
+use Rattle.ring_laws.specs.Pipes.{IsIn, IsNotIn, IsPipe, IsElsewhere}
+use Rattle.ring_laws.specs.Order.{IsOrdered, Accounts}
+use Rattle.ring_laws.proofs.SparedSparing.{spared_endpoint, spared_toggle, spared_accounts}
+use Rattle.ring_laws.specs.OutBus.{Taker}
+use Rattle.ring_laws.specs.OutPipeLaws.{SendsNone, IsBeside, IsOnlyEndpoint}
+use Rattle.controlled_streams.specs.Outs.{IsOutStream}
+use Rattle.stream_worlds.specs.Outs.{IsAside, AreAside}
+use Rattle.stream_worlds.proofs.Joining.{same_hand, heads_stay, elements_stay, reported_stays}
+use Rattle.stream_worlds.proofs.Spared.{pipe_stays}
 use Rattle.endpoint_releases.specs.Released.{without_queue}
 use Rattle.endpoint_releases.specs.Beside.{QueueIsGone, PipesStayBeside, OutPipesStayBeside, OutsStayBeside, ReportsStayBeside}
 use Rattle.endpoint_releases.proofs.Owning.{queue_beside}

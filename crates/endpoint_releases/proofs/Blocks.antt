@@ -11,8 +11,8 @@ use Rattle.driver_rows.specs.DriverContent.{DriverContent}
 use Rattle.driver_rows.specs.Rows.{free_runs, free_qtds, free_transfers, free_endpoint, is_held_of}
 use Rattle.run_owners.specs.Owners.{Owner, FrameList, Head, QueueHead, Dummy, Element, Described, Buffer, IsPlaced, ArePieces, NoteRuns, note_in}
 use Rattle.run_owners.proofs.Runs.{all_still}
-use Rattle.driver_releases.specs.Released.{blocks_of}
-use Rattle.driver_releases.proofs.Blocks.{qtds_are_runs}
+use Rattle.driver_laws.specs.Released.{blocks_of}
+use Rattle.driver_laws.proofs.Blocks.{qtds_are_runs}
 use Rattle.endpoint_releases.specs.Released.{held_blocks, endpoint_blocks}
 
 -- ---- whose they are

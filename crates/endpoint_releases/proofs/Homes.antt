@@ -9,10 +9,10 @@ use Rattle.driver_rows.specs.Words.{head_block}
 use Rattle.run_owners.specs.Owners.{Owner, Buffer, SlotHas, HasBlocks, IsPlaced, EndpointRuns, Views}
 use Rattle.lent_structures.specs.Structures.{Structure, QueueHead, Element as ElementOf, Buffer as BufferOf, Table, Isochronous, SplitIsochronous, StructureSets, Has}
 use Rattle.lent_structures.proofs.Names.{not_same}
-use Rattle.driver_parts.specs.Inventory.{Sort, sort_of, sorts_of, OfTable, OfQueueHead, OfElement, OfBuffer, IsDriverOwned, the_list, the_head, a_queue, a_dummy, a_piece, a_buffer, IsDriven}
-use Rattle.driver_releases.specs.Extents.{AreInRuns}
-use Rattle.driver_releases.proofs.Blocks.{all_one, placed_buffer}
-use Rattle.driver_releases.proofs.Homes.{slot_some, head_has, element_has, list_has}
+use Rattle.driver_laws.specs.Inventory.{Sort, sort_of, sorts_of, OfTable, OfQueueHead, OfElement, OfBuffer, IsDriverOwned, the_list, the_head, a_queue, a_dummy, a_piece, a_buffer, IsDriven}
+use Rattle.driver_laws.specs.Extents.{AreInRuns}
+use Rattle.driver_laws.proofs.Blocks.{all_one, placed_buffer}
+use Rattle.driver_laws.proofs.Homes.{slot_some, head_has, element_has, list_has}
 use Rattle.endpoint_releases.specs.Released.{without_queue}
 use Rattle.endpoint_releases.proofs.Blocks.{goes_with}
 use Rattle.endpoint_releases.proofs.Owning.{EndpointGoes, queue_found, other_number}

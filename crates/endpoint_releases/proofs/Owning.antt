@@ -8,10 +8,10 @@ use Rattle.driver_rows.specs.Words.{head_block}
 use Rattle.run_owners.specs.Owners.{Owner, FrameList, Head, QueueHead, Buffer, SlotHas, IsPlaced, EndpointRuns, TransferRuns, NoteRuns, Views, AreOwned}
 use Rattle.lent_structures.specs.Structures.{Structure, Buffer as BufferOf, Table, Structures, StructureSets}
 use Rattle.lent_structures.proofs.Names.{not_same}
-use Rattle.ring_releases.proofs.Returning.{those_found, those_stay, those_beside}
-use Rattle.driver_parts.specs.Inventory.{Sort, sort_of, sorts_of, IsLent, IsPieceOf, IsBufferTold, AreTold, IsQueueIn, IsTransferIn, IsDriverOwned, the_list, the_head, a_queue, a_dummy, a_piece, a_buffer, IsDriven}
-use Rattle.driver_releases.specs.Extents.{AreInRuns}
-use Rattle.driver_releases.proofs.Blocks.{all_one, placed_buffer}
+use Rattle.ring_laws.proofs.Returning.{those_found, those_stay, those_beside}
+use Rattle.driver_laws.specs.Inventory.{Sort, sort_of, sorts_of, IsLent, IsPieceOf, IsBufferTold, AreTold, IsQueueIn, IsTransferIn, IsDriverOwned, the_list, the_head, a_queue, a_dummy, a_piece, a_buffer, IsDriven}
+use Rattle.driver_laws.specs.Extents.{AreInRuns}
+use Rattle.driver_laws.proofs.Blocks.{all_one, placed_buffer}
 use Rattle.endpoint_releases.specs.Released.{without_queue}
 use Rattle.endpoint_releases.proofs.Blocks.{goes_with}
 

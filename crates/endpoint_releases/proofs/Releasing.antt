@@ -22,15 +22,15 @@ use Rattle.run_owners.proofs.Leaves.{first_left}
 use Rattle.run_owners.proofs.Rows.{not_iso}
 use Rattle.lent_structures.specs.Structures.{StructureSets, Tells}
 use Rattle.lent_structures.proofs.Names.{not_same}
-use Rattle.ring_releases.proofs.Returning.{fewer_told}
-use Rattle.queue_parts.specs.Sound.{IsMember}
-use Rattle.ring_walk.specs.Hand.{Copy, Hand, Empty, Copied, Settled, Stale}
-use Rattle.ring_walk.specs.Ring.{Base, IsCopied, IsInHand, IsRing}
-use Rattle.driver_parts.specs.Inventory.{sorts_of, IsLent, IsQueueIn, IsDriven}
-use Rattle.driver_parts.specs.Driven.{DrivesRing}
-use Rattle.driver_releases.specs.Extents.{AreInRuns}
-use Rattle.driver_releases.proofs.Blocks.{all_one}
-use Rattle.driver_releases.proofs.Freeing.{IsLess, runs_less, HaveNone, all_told}
+use Rattle.ring_laws.proofs.Returning.{fewer_told}
+use Rattle.lent_structures.specs.Sound.{IsMember}
+use Rattle.ring_laws.specs.Hand.{Copy, Hand, Empty, Copied, Settled, Stale}
+use Rattle.ring_laws.specs.Ring.{Base, IsCopied, IsInHand, IsRing}
+use Rattle.driver_laws.specs.Inventory.{sorts_of, IsLent, IsQueueIn, IsDriven}
+use Rattle.driver_laws.specs.Driven.{DrivesRing}
+use Rattle.driver_laws.specs.Extents.{AreInRuns}
+use Rattle.driver_laws.proofs.Blocks.{all_one}
+use Rattle.driver_laws.proofs.Freeing.{IsLess, runs_less, HaveNone, all_told}
 use Rattle.endpoint_releases.specs.Released.{endpoint_blocks, without_queue, IsToLeave, endpoint_row, EndpointReleaseDrives, DueIsToLeave, QueuesDiffer}
 use Rattle.endpoint_releases.proofs.Blocks.{held_at, goes_with, transfers_go, none_goes, endpoint_is_runs}
 use Rattle.endpoint_releases.proofs.Owning.{EndpointGoes, queue_beside, queues_differ as views_differ, driven_without, extents_without}

@@ -7,13 +7,13 @@
 --     ReportsStayBeside        what was reported of each stream, and what is still to be, are the bytes of the packets taken
 use Rattle.std.specs.Prelude.{◌≡◌, ◌≢◌, ℕ, Bool, false, List, Option, None}
 use Rattle.lent_structures.specs.Structures.{StructureSets}
-use Rattle.ring_walk.specs.Hand.{Hand}
-use Rattle.ring_streams.specs.Told.{Endpoint}
-use Rattle.ring_pipes.specs.Bus.{Sender}
-use Rattle.ring_pipes.specs.Pipes.{ArePiped}
-use Rattle.ring_out_pipes.specs.OutBus.{Taker}
-use Rattle.reported_streams.specs.Reported.{AreReported}
-use Rattle.out_rows.specs.Outs.{AreOutPiped, HaveOutStreams}
+use Rattle.ring_laws.specs.Hand.{Hand}
+use Rattle.ring_laws.specs.Told.{Endpoint}
+use Rattle.ring_laws.specs.Bus.{Sender}
+use Rattle.ring_laws.specs.Pipes.{ArePiped}
+use Rattle.ring_laws.specs.OutBus.{Taker}
+use Rattle.controlled_streams.specs.Reported.{AreReported}
+use Rattle.stream_worlds.specs.Outs.{AreOutPiped, HaveOutStreams}
 use Rattle.endpoint_releases.specs.Released.{without_queue}
 
 abbrev pub QueueIsGone : Type 0

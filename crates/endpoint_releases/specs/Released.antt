@@ -22,13 +22,13 @@ use Rattle.run_owners.specs.Owners.{EndpointRuns, NoteRuns, note_in, views_of}
 use Rattle.run_owners.specs.Kept.{HasOwners}
 use Rattle.run_owners.specs.Due.{IsEndpointDue}
 use Rattle.lent_structures.specs.Structures.{StructureSets}
-use Rattle.ring_walk.specs.Hand.{Hand}
-use Rattle.ring_walk.specs.Ring.{Base}
-use Rattle.ring_releases.specs.Fewer.{without_those}
-use Rattle.driver_parts.specs.Inventory.{IsQueueIn}
-use Rattle.driver_parts.specs.Driven.{DrivesRing}
-use Rattle.driver_releases.specs.Extents.{AreInRuns}
-use Rattle.driver_releases.specs.Released.{blocks_of}
+use Rattle.ring_laws.specs.Hand.{Hand}
+use Rattle.ring_laws.specs.Ring.{Base}
+use Rattle.ring_laws.specs.Fewer.{without_those}
+use Rattle.driver_laws.specs.Inventory.{IsQueueIn}
+use Rattle.driver_laws.specs.Driven.{DrivesRing}
+use Rattle.driver_laws.specs.Extents.{AreInRuns}
+use Rattle.driver_laws.specs.Released.{blocks_of}
 
 abbrev pub held_blocks : (ℕ → NoteRuns) → ℕ → List Transfer → List ℕ
 held_blocks note e [] = []

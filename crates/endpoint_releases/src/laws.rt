@@ -1,7 +1,7 @@
 //! The laws.
 ghost use Rattle.std.specs.Prelude.{ℕ, Option};
-ghost use Rattle.ring_pipes.specs.Bus.{Sender};
-ghost use Rattle.ring_out_pipes.specs.OutBus.{Taker};
+ghost use Rattle.ring_laws.specs.Bus.{Sender};
+ghost use Rattle.ring_laws.specs.OutBus.{Taker};
 ghost use Rattle.endpoint_releases.specs.Released.{EndpointReleaseDrives, DueIsToLeave, QueuesDiffer};
 ghost use Rattle.endpoint_releases.specs.Beside.{QueueIsGone, PipesStayBeside, OutPipesStayBeside, OutsStayBeside, ReportsStayBeside};
 

@@ -9,15 +9,15 @@ use Rattle.driver_rows.specs.DriverContent.{DriverContent}
 use Rattle.driver_rows.specs.Harvests.{note_at}
 use Rattle.driver_rows.specs.Words.{dummy_qtd}
 use Rattle.lent_structures.specs.Structures.{Structures, StructureSets}
-use Rattle.queue_parts.specs.Alters.{Alters}
-use Rattle.queue_parts.specs.Sound.{element_pages, buffer_name, HasBuffer}
-use Rattle.queue_parts.proofs.Members.{buffer_still, still_active}
-use Rattle.ring_walk.specs.Effects.{buffer_of}
-use Rattle.ring_streams.proofs.Altered.{length_still}
-use Rattle.kept_structures.specs.Kept.{KeepsEach}
-use Rattle.driver_lends.specs.Published.{partly}
-use Rattle.driver_lends.proofs.Publishing.{idle}
-use Rattle.driver_publishes.proofs.Keeping.{publishable_still}
+use Rattle.lent_structures.specs.Alters.{Alters}
+use Rattle.lent_structures.specs.Sound.{element_pages, buffer_name, HasBuffer}
+use Rattle.lent_structures.proofs.Members.{buffer_still, still_active}
+use Rattle.ring_laws.specs.Effects.{buffer_of}
+use Rattle.ring_laws.proofs.Altered.{length_still}
+use Rattle.controlled_streams.specs.Kept.{KeepsEach}
+use Rattle.driver_laws.specs.Published.{partly}
+use Rattle.driver_laws.proofs.Publishing.{idle}
+use Rattle.publish_laws.proofs.Keeping.{publishable_still}
 use Rattle.run_owners.specs.Owners.{note_in}
 use Rattle.chained_transfers.specs.Chains.{piece_at}
 use Rattle.fed_queues.specs.Fed.{IsNotedQtd, IsPieceFed, IsPublished}

@@ -3,7 +3,7 @@
 use Rattle.std.specs.Prelude.{ℕ}
 use Rattle.driver_rows.specs.DriverContent.{DriverContent}
 use Rattle.lent_structures.specs.Structures.{StructureSets}
-use Rattle.kept_structures.specs.Kept.{KeepsEach}
+use Rattle.controlled_streams.specs.Kept.{KeepsEach}
 use Rattle.fed_queues.specs.Fed.{AreFed}
 use Rattle.fed_queues.specs.Places.{AreLast}
 

@@ -23,7 +23,7 @@ use Rattle.run_owners.specs.Owners.{Owner, QueueHead, NoteRuns, runs_of_endpoint
 use Rattle.run_owners.proofs.Released.{set_here, set_there, same_number, other_number}
 use Rattle.run_owners.proofs.Stays.{same_item}
 use Rattle.lent_structures.specs.Structures.{StructureSets}
-use Rattle.ring_streams.specs.Told.{Endpoint as Told}
+use Rattle.ring_laws.specs.Told.{Endpoint as Told}
 use Rattle.chained_transfers.specs.Turns.{turn_of}
 use Rattle.chained_transfers.specs.InTurn.{TakesTurns}
 use Rattle.chained_transfers.specs.Out.{pieces_from, passed, out_of_transfer, out_of, out_now}
@@ -31,8 +31,8 @@ use Rattle.chained_transfers.proofs.Ways.{moves_queued, found_by}
 use Rattle.chained_transfers.proofs.Harvesting.{waits_is}
 use Rattle.chained_transfers.proofs.Harvested.{no_stall, not_served, note_same}
 use Rattle.fed_queues.specs.Places.{AreStillOut, IsThere}
-use Rattle.fed_commands.specs.Commands.{QueuesStand}
-use Rattle.fed_commands.proofs.Asked.{set_which}
+use Rattle.fed_lends.specs.Commands.{QueuesStand}
+use Rattle.fed_lends.proofs.Asked.{set_which}
 use Rattle.fed_harvests.specs.Harvests.{IsLike, Harvested, with_out, HarvestLeaves, HarvestStands, WaitStands}
 use Rattle.fed_harvests.proofs.Like.{like_stands}
 use Rattle.fed_harvests.proofs.Lists.{all_of, all_out, all_same, splits, all_set, others_none, own_out}

@@ -14,15 +14,15 @@ use Rattle.driver_rows.specs.Words.{to_qtd}
 use Rattle.driver_rows.specs.Harvests.{note_at}
 use Rattle.run_owners.specs.Owners.{note_in}
 use Rattle.lent_structures.specs.Structures.{Structures, StructureSets}
-use Rattle.queue_parts.specs.Sound.{HasBuffer}
-use Rattle.driver_parts.specs.Inventory.{IsLent}
-use Rattle.ring_streams.specs.Told.{Endpoint as Told}
+use Rattle.lent_structures.specs.Sound.{HasBuffer}
+use Rattle.driver_laws.specs.Inventory.{IsLent}
+use Rattle.ring_laws.specs.Told.{Endpoint as Told}
 use Rattle.chained_transfers.specs.Chains.{piece_at}
 use Rattle.chained_transfers.proofs.Chained.{piece_same}
 use Rattle.fed_queues.specs.Fed.{IsPieceFed}
 use Rattle.fed_queues.specs.Places.{IsLast, AreStillOut}
-use Rattle.fed_commands.specs.Commands.{QueuesStand}
-use Rattle.fed_commands.proofs.Asked.{same_unpublished}
+use Rattle.fed_lends.specs.Commands.{QueuesStand}
+use Rattle.fed_lends.proofs.Asked.{same_unpublished}
 use Rattle.fed_harvests.specs.Harvests.{IsLike, LikeStand}
 use Rattle.fed_queues.proofs.Places.{SameQueues, met_stays, streams_stay}
 

@@ -5,9 +5,9 @@ use Rattle.std.proofs.lemmas.Option.{same_Some}
 use Rattle.driver_rows.specs.declared.content.Transfer.{Transfer}
 use Rattle.run_owners.specs.Owners.{NoteRuns}
 use Rattle.run_owners.proofs.Released.{same_number, other_number}
-use Rattle.ring_order.specs.Order.{IsAmong}
+use Rattle.ring_laws.specs.Order.{IsAmong}
 use Rattle.chained_transfers.specs.Out.{pieces_from, passed, out_of_transfer, out_of}
-use Rattle.fed_commands.proofs.Asked.{both_lists}
+use Rattle.fed_lends.proofs.Asked.{both_lists}
 
 -- where no command is unfinished
 pub all_of : (ℕ → NoteRuns) → ℕ → List Transfer → List ℕ

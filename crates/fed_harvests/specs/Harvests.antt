@@ -16,12 +16,12 @@ use Rattle.run_owners.specs.Due.{IsHarvestDue}
 use Rattle.run_owners.specs.Kept.{HasOwners}
 use Rattle.run_owners.specs.Owners.{note_in}
 use Rattle.lent_structures.specs.Structures.{StructureSets}
-use Rattle.ring_order.specs.Order.{IsAmong}
-use Rattle.ring_streams.specs.Told.{Endpoint as Told}
+use Rattle.ring_laws.specs.Order.{IsAmong}
+use Rattle.ring_laws.specs.Told.{Endpoint as Told}
 use Rattle.chained_transfers.specs.Out.{out_of_transfer, out_now}
 use Rattle.chained_transfers.specs.InTurn.{TakesTurns}
 use Rattle.fed_queues.specs.Places.{AreStillOut}
-use Rattle.fed_commands.specs.Commands.{QueuesStand}
+use Rattle.fed_lends.specs.Commands.{QueuesStand}
 
 pub record WasEnd (d : DriverContent) (i : ℕ) (z : Endpoint) : Type 0 where
   pub endpoint : Endpoint

@@ -23,9 +23,9 @@ use Rattle.run_owners.proofs.Released.{set_here}
 use Rattle.lent_structures.proofs.Names.{not_same}
 use Rattle.chained_transfers.specs.Bulk.{sort_by}
 use Rattle.chained_transfers.proofs.Ways.{IsBy, its_told, its_pid_few, all_of_all, asked_by}
-use Rattle.transfer_lends.specs.Written.{AwaitsLend}
-use Rattle.transfer_lends.proofs.Accepting.{accepted_awaits_lend}
-use Rattle.transfer_lends.proofs.Stays.{written_stays}
+use Rattle.driver_laws.specs.Written.{AwaitsLend}
+use Rattle.driver_laws.proofs.TransferAccepting.{accepted_awaits_lend}
+use Rattle.driver_laws.proofs.Stays.{written_stays}
 use Rattle.fed_lends.specs.ToLend.{AreStagesBy, IsToBeLent, AreBlank}
 use Rattle.fed_lends.specs.Accepted.{AskedIsToBeLent, ToBeLentStays, OpeningIsBlank, AskedIsBlank, OpenIsBlank}
 use Rattle.fed_lends.proofs.Fed.{one_command}

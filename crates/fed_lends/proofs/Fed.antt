@@ -26,21 +26,21 @@ use Rattle.driver_rows.specs.Offers.{is_last}
 use Rattle.run_owners.specs.Owners.{Element as ElementOwner, Dummy, Buffer as BufferOwner, EndpointRuns, TransferRuns, runs_of_endpoint, runs_of_transfer, note_in, views_of}
 use Rattle.run_owners.specs.Kept.{HasOwners}
 use Rattle.lent_structures.specs.Structures.{Element, StructureSets}
-use Rattle.queue_parts.specs.Sound.{buffer_name}
-use Rattle.ring_walk.specs.Effects.{bytes_in, buffer_of}
-use Rattle.driver_parts.specs.Inventory.{IsLent}
-use Rattle.driver_lends.specs.Published.{partly, IsPublishable}
+use Rattle.lent_structures.specs.Sound.{buffer_name}
+use Rattle.ring_laws.specs.Effects.{bytes_in, buffer_of}
+use Rattle.driver_laws.specs.Inventory.{IsLent}
+use Rattle.driver_laws.specs.Published.{partly, IsPublishable}
 use Rattle.chained_transfers.specs.Chains.{piece_at}
 use Rattle.chained_transfers.specs.Bulk.{OnlyBulk}
 use Rattle.chained_transfers.specs.Out.{unpublished}
 use Rattle.fed_queues.specs.Fed.{IsPieceFed, unpublished_of, IsPublished, AreFed}
-use Rattle.transfer_lends.specs.Pieces.{stage_qtd}
-use Rattle.transfer_lends.specs.Laws.{lent_driver, HasPieces}
-use Rattle.transfer_lends.proofs.Lists.{IsOneOf}
-use Rattle.transfer_lends.proofs.Holding.{qtd_range, blocks_low}
-use Rattle.transfer_lends.proofs.Owning.{not_taken}
-use Rattle.transfer_lends.proofs.Pieces.{last_stands}
-use Rattle.transfer_lends.proofs.Lending.{lent_on_views}
+use Rattle.driver_laws.specs.Pieces.{stage_qtd}
+use Rattle.driver_laws.specs.TransferLaws.{lent_driver, HasPieces}
+use Rattle.driver_laws.proofs.Lists.{IsOneOf}
+use Rattle.driver_laws.proofs.Holding.{qtd_range, blocks_low}
+use Rattle.driver_laws.proofs.TransferOwning.{not_taken}
+use Rattle.driver_laws.proofs.Pieces.{last_stands}
+use Rattle.driver_laws.proofs.TransferLending.{lent_on_views}
 use Rattle.fed_lends.specs.ToLend.{IsToBeLent, lent_now}
 use Rattle.fed_lends.proofs.Reporting.{long_new}
 use Rattle.fed_lends.proofs.Feeding.{new_fed, end_is, stage_told}

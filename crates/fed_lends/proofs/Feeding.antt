@@ -15,15 +15,15 @@ use Rattle.driver_rows.specs.Offers.{is_last}
 use Rattle.run_owners.specs.Owners.{note_in}
 use Rattle.run_owners.specs.Accepts.{AreShort}
 use Rattle.lent_structures.specs.Structures.{Element, Buffer, Structures}
-use Rattle.queue_parts.specs.Sound.{HasBuffer}
+use Rattle.lent_structures.specs.Sound.{HasBuffer}
 use Rattle.chained_transfers.specs.Chains.{piece_at}
 use Rattle.chained_transfers.specs.Bulk.{sort_by, stage_by}
 use Rattle.chained_transfers.proofs.Ways.{IsBy, its_told}
 use Rattle.fed_queues.specs.Fed.{alternate_by, IsNotedQtd, IsPieceFed}
-use Rattle.transfer_lends.specs.Written.{AreRuns, next_blocks, last_block, IsStageNoted, AreNoted}
-use Rattle.transfer_lends.specs.Pieces.{stage_qtd, AreStanding, AreBuffered}
-use Rattle.transfer_lends.proofs.Lists.{IsOneOf}
-use Rattle.transfer_lends.proofs.Buffers.{take_same, runs_at, needs_case, pages_from}
+use Rattle.driver_laws.specs.Written.{AreRuns, next_blocks, last_block, IsStageNoted, AreNoted}
+use Rattle.driver_laws.specs.Pieces.{stage_qtd, AreStanding, AreBuffered}
+use Rattle.driver_laws.proofs.Lists.{IsOneOf}
+use Rattle.driver_laws.proofs.Buffers.{take_same, runs_at, needs_case, pages_from}
 use Rattle.fed_lends.specs.ToLend.{AreStagesBy}
 use Rattle.fed_lends.proofs.Reporting.{long_new}
 

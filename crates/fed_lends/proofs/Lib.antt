@@ -9,3 +9,6 @@ pub mod Order
 pub mod Reports
 pub mod Row
 pub mod Accepting
+pub mod Asked
+pub mod Publishing
+pub mod Opened

@@ -16,18 +16,18 @@ use Rattle.driver_rows.specs.Harvests.{note_at}
 use Rattle.run_owners.specs.Owners.{EndpointRuns, TransferRuns, NoteRuns, Views, runs_of_endpoint, runs_of_transfer, note_in, views_of}
 use Rattle.lent_structures.specs.Structures.{Element, StructureSets}
 use Rattle.lent_structures.proofs.Names.{not_same}
-use Rattle.queue_parts.specs.Sound.{element_pages, buffer_name}
-use Rattle.queue_parts.proofs.Altering.{found_element}
-use Rattle.driver_parts.specs.Inventory.{Sort, sort_of, sorts_of, OfElement, OfBuffer, IsLent, IsPieceOf, IsDriverOwned, the_list, the_head, a_queue, a_dummy, a_piece, a_buffer, IsDriven}
+use Rattle.lent_structures.specs.Sound.{element_pages, buffer_name}
+use Rattle.lent_structures.proofs.Altering.{found_element}
+use Rattle.driver_laws.specs.Inventory.{Sort, sort_of, sorts_of, OfElement, OfBuffer, IsLent, IsPieceOf, IsDriverOwned, the_list, the_head, a_queue, a_dummy, a_piece, a_buffer, IsDriven}
 use Rattle.chained_transfers.specs.Chains.{piece_at}
 use Rattle.chained_transfers.specs.Out.{unpublished}
-use Rattle.driver_lends.specs.Published.{partly}
+use Rattle.driver_laws.specs.Published.{partly}
 use Rattle.fed_queues.specs.Fed.{IsNotedQtd, IsPieceFed, unpublished_of, AreFed}
-use Rattle.transfer_lends.specs.Written.{next_blocks, buffer_blocks}
-use Rattle.transfer_lends.specs.Pieces.{NamesRun, NamesLent}
-use Rattle.transfer_lends.proofs.Lists.{IsOneOf, one_left}
-use Rattle.transfer_lends.proofs.Buffers.{pages_from, name_at}
-use Rattle.transfer_lends.proofs.Lending.{taken_keep}
+use Rattle.driver_laws.specs.Written.{next_blocks, buffer_blocks}
+use Rattle.driver_laws.specs.Pieces.{NamesRun, NamesLent}
+use Rattle.driver_laws.proofs.Lists.{IsOneOf, one_left}
+use Rattle.driver_laws.proofs.Buffers.{pages_from, name_at}
+use Rattle.driver_laws.proofs.TransferLending.{taken_keep}
 use Rattle.fed_lends.specs.ToLend.{IsToBeLent, AreBlank}
 use Rattle.fed_lends.proofs.Feeding.{later_block}
 use Rattle.driver_rows.specs.Rows.{is_iso}

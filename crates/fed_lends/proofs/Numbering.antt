@@ -14,11 +14,11 @@ use Rattle.driver_rows.specs.Harvests.{note_at}
 use Rattle.driver_rows.specs.Offers.{is_last}
 use Rattle.run_owners.specs.Owners.{note_in}
 use Rattle.lent_structures.proofs.Names.{not_same}
-use Rattle.ring_order.specs.Order.{AreAfter, IsSorted}
+use Rattle.ring_laws.specs.Order.{AreAfter, IsSorted}
 use Rattle.chained_transfers.specs.Out.{pieces_from}
-use Rattle.transfer_lends.specs.Written.{AreAllApart, next_blocks, last_block}
-use Rattle.transfer_lends.specs.Pieces.{stage_qtd, IsNewQtd}
-use Rattle.transfer_lends.proofs.Lists.{IsOneOf, each_of}
+use Rattle.driver_laws.specs.Written.{AreAllApart, next_blocks, last_block}
+use Rattle.driver_laws.specs.Pieces.{stage_qtd, IsNewQtd}
+use Rattle.driver_laws.proofs.Lists.{IsOneOf, each_of}
 use Rattle.fed_lends.specs.Numbers.{numbered}
 
 -- ---- a name of the chain, or another

@@ -12,7 +12,7 @@ use Rattle.driver_rows.specs.DriverContent.{DriverContent}
 use Rattle.run_owners.specs.Owners.{QueueHead, Element as ElementOwner, ArePieces, runs_of_endpoint, runs_of_transfer, note_in}
 use Rattle.lent_structures.specs.Structures.{StructureSets}
 use Rattle.lent_structures.proofs.Names.{not_same}
-use Rattle.ring_order.specs.Order.{IsAmong}
+use Rattle.ring_laws.specs.Order.{IsAmong}
 use Rattle.chained_transfers.specs.Turns.{AreInTurn}
 use Rattle.chained_transfers.specs.Out.{pieces_from, unpublished, out_of, out_now, out_all}
 use Rattle.fed_lends.specs.Numbers.{at_queue}

@@ -8,7 +8,7 @@ use Rattle.driver_rows.specs.declared.content.Transfer.{Transfer}
 use Rattle.driver_rows.specs.declared.content.Command.{Command}
 use Rattle.run_owners.specs.Owners.{Owner, Element, NoteRuns, ArePieces}
 use Rattle.lent_structures.proofs.Names.{not_same}
-use Rattle.ring_order.specs.Order.{IsAmong}
+use Rattle.ring_laws.specs.Order.{IsAmong}
 use Rattle.chained_transfers.specs.Chains.{piece_at}
 use Rattle.chained_transfers.specs.Out.{pieces_from, unpublished, out_of_transfer, if_last, out_of}
 

@@ -10,11 +10,11 @@ use Rattle.driver_rows.specs.DriverContent.{DriverContent}
 use Rattle.driver_rows.specs.Harvests.{note_at}
 use Rattle.run_owners.specs.Owners.{EndpointRuns, TransferRuns}
 use Rattle.lent_structures.specs.Structures.{Element, Structures, StructureSets}
-use Rattle.ring_pipes.specs.Bus.{Sender}
-use Rattle.ring_pipes.specs.Pipes.{IsIn, IsNotIn}
-use Rattle.spared_streams.proofs.Sparing.{spared_endpoint, spared_pipes}
-use Rattle.transfer_lends.specs.Pieces.{IsNewQtd}
-use Rattle.transfer_lends.specs.Laws.{HasPieces}
+use Rattle.ring_laws.specs.Bus.{Sender}
+use Rattle.ring_laws.specs.Pipes.{IsIn, IsNotIn}
+use Rattle.ring_laws.proofs.SparedSparing.{spared_endpoint, spared_pipes}
+use Rattle.driver_laws.specs.Pieces.{IsNewQtd}
+use Rattle.driver_laws.specs.TransferLaws.{HasPieces}
 use Rattle.fed_lends.specs.Streams.{second, LendLeavesPipes}
 use Rattle.fed_lends.proofs.Reporting.{same_hand, spares_heads}
 

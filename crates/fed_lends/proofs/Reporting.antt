@@ -18,21 +18,21 @@ use Rattle.driver_rows.specs.Harvests.{note_at}
 use Rattle.driver_rows.specs.Offers.{is_last}
 use Rattle.run_owners.specs.Owners.{EndpointRuns, TransferRuns, note_in}
 use Rattle.lent_structures.specs.Structures.{Structure, QueueHead, Element, Buffer, Table, Isochronous, SplitIsochronous, Structures, StructureSets}
-use Rattle.queue_parts.specs.Sound.{IsElement, LeadsOn, buffer_name, HasBuffer, IsSoundQueue, IsMember}
-use Rattle.queue_parts.proofs.Altering.{found_queue, found_element}
-use Rattle.ring_walk.specs.Hand.{Hand}
-use Rattle.ring_walk.specs.Effects.{bytes_in, buffer_of}
-use Rattle.ring_order.specs.Order.{IsFresh, IsOrdered, AreAfter, IsSorted, IsAmong, AllTold, none_out, one_out}
-use Rattle.spared_streams.specs.Sparing.{SameHand, SparesHead}
-use Rattle.spared_streams.proofs.Sparing.{spared_told, published_adds}
+use Rattle.lent_structures.specs.Sound.{IsElement, LeadsOn, buffer_name, HasBuffer, IsSoundQueue, IsMember}
+use Rattle.lent_structures.proofs.Altering.{found_queue, found_element}
+use Rattle.ring_laws.specs.Hand.{Hand}
+use Rattle.ring_laws.specs.Effects.{bytes_in, buffer_of}
+use Rattle.ring_laws.specs.Order.{IsFresh, IsOrdered, AreAfter, IsSorted, IsAmong, AllTold, none_out, one_out}
+use Rattle.ring_laws.specs.Sparing.{SameHand, SparesHead}
+use Rattle.ring_laws.proofs.SparedSparing.{spared_told, published_adds}
 use Rattle.chained_transfers.specs.Out.{pieces_from}
 use Rattle.fed_queues.specs.Places.{IsLast}
-use Rattle.transfer_lends.specs.Written.{AreAllApart, next_blocks, buffer_blocks, AreRuns, IsStageNoted, AreNoted, AwaitsLend}
-use Rattle.transfer_lends.specs.Pieces.{stage_qtd, IsNewQtd, AreStanding, AreBuffered}
-use Rattle.transfer_lends.specs.Laws.{HasPieces}
-use Rattle.transfer_lends.proofs.Lists.{IsOneOf, apart_left}
-use Rattle.transfer_lends.proofs.Lots.{NamesOne}
-use Rattle.transfer_lends.proofs.Pieces.{name_of}
+use Rattle.driver_laws.specs.Written.{AreAllApart, next_blocks, buffer_blocks, AreRuns, IsStageNoted, AreNoted, AwaitsLend}
+use Rattle.driver_laws.specs.Pieces.{stage_qtd, IsNewQtd, AreStanding, AreBuffered}
+use Rattle.driver_laws.specs.TransferLaws.{HasPieces}
+use Rattle.driver_laws.proofs.Lists.{IsOneOf, apart_left}
+use Rattle.driver_laws.proofs.Lots.{NamesOne}
+use Rattle.driver_laws.proofs.Pieces.{name_of}
 use Rattle.fed_lends.specs.Streams.{second, new_order, new_out, LendLeavesReports, LendEndsQueue}
 use Rattle.fed_lends.proofs.Numbering.{IsNumbered, numbered_case, AreNumbered, numbers_are, last_number, new_before, next_rises, alternate_rises, all_after, all_sorted}
 

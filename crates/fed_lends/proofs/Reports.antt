@@ -12,16 +12,16 @@ use Rattle.driver_rows.specs.DriverContent.{DriverContent}
 use Rattle.driver_rows.specs.Words.{dummy_qtd}
 use Rattle.run_owners.specs.Owners.{EndpointRuns, TransferRuns, transfer_in}
 use Rattle.lent_structures.specs.Structures.{Element, Structures, StructureSets}
-use Rattle.queue_parts.specs.Sound.{IsMember}
-use Rattle.ring_walk.specs.Hand.{Hand}
-use Rattle.ring_order.specs.Order.{IsOrdered, IsSorted, IsAmong}
-use Rattle.spared_streams.proofs.Sparing.{spared_accounts}
-use Rattle.reported_streams.specs.Reported.{IsReported, AreReported}
-use Rattle.driver_parts.specs.Inventory.{IsLent}
+use Rattle.lent_structures.specs.Sound.{IsMember}
+use Rattle.ring_laws.specs.Hand.{Hand}
+use Rattle.ring_laws.specs.Order.{IsOrdered, IsSorted, IsAmong}
+use Rattle.ring_laws.proofs.SparedSparing.{spared_accounts}
+use Rattle.controlled_streams.specs.Reported.{IsReported, AreReported}
+use Rattle.driver_laws.specs.Inventory.{IsLent}
 use Rattle.chained_transfers.specs.Turns.{AreInTurn}
 use Rattle.chained_transfers.specs.Out.{out_now, out_all}
 use Rattle.fed_queues.specs.Places.{IsMet, IsLast, AreLast, AreStillOut, IsThere}
-use Rattle.transfer_lends.specs.Laws.{lent_driver, HasPieces}
+use Rattle.driver_laws.specs.TransferLaws.{lent_driver, HasPieces}
 use Rattle.fed_lends.specs.Numbers.{at_queue}
 use Rattle.fed_lends.specs.Streams.{second, new_order, new_out}
 use Rattle.fed_lends.specs.ToLend.{IsToBeLent, lent_now}

@@ -13,17 +13,17 @@ use Rattle.driver_rows.specs.declared.content.Stage.{Stage}
 use Rattle.driver_rows.specs.DriverContent.{DriverContent}
 use Rattle.driver_rows.specs.Words.{head_block}
 use Rattle.driver_rows.specs.Rows.{Parts as DriverParts, events_of, links, finished, linked_on, row_for, command_row, driver_row, advanced_by, advance, after_driver_row}
-use Rattle.ring_lends.specs.Together.{put_all}
-use Rattle.ring_pipes.specs.Bus.{Sender}
-use Rattle.driver_parts.specs.Driven.{DrivesRing}
+use Rattle.ring_laws.specs.Together.{put_all}
+use Rattle.ring_laws.specs.Bus.{Sender}
+use Rattle.driver_laws.specs.Driven.{DrivesRing}
 use Rattle.chained_transfers.specs.Bulk.{receives, OnlyBulk}
 use Rattle.chained_transfers.proofs.Ways.{IsBy, its_pid, all_of_all, receives_pid, sends_pid}
 use Rattle.fed_queues.specs.Places.{HasHead, AreMet, HaveStreams}
-use Rattle.ring_streams.specs.Told.{Endpoint as Told}
-use Rattle.transfer_lends.specs.Laws.{lent_memory, lent_driver, items_of}
-use Rattle.transfer_lends.proofs.Lends.{lend_drives}
+use Rattle.ring_laws.specs.Told.{Endpoint as Told}
+use Rattle.driver_laws.specs.TransferLaws.{lent_memory, lent_driver, items_of}
+use Rattle.driver_laws.proofs.Lends.{lend_drives}
 use Rattle.fed_lends.specs.ToLend.{IsToBeLent, lent_now}
-use Rattle.fed_lends.specs.Laws.{GoesOnLent, LendRowGoesOn}
+use Rattle.fed_lends.specs.LendLaws.{GoesOnLent, LendRowGoesOn}
 use Rattle.fed_lends.proofs.Piping.{lend_leaves_pipes}
 use Rattle.fed_lends.proofs.Names.{names_lent}
 use Rattle.fed_lends.proofs.Fed.{y_of, x_of, IsLending, queues_fed}

@@ -1,5 +1,6 @@
 pub mod Numbers
 pub mod Streams
 pub mod ToLend
-pub mod Laws
+pub mod LendLaws
 pub mod Accepted
+pub mod Commands

@@ -10,16 +10,16 @@ use Rattle.driver_rows.specs.DriverContent.{DriverContent}
 use Rattle.driver_rows.specs.Harvests.{note_at}
 use Rattle.run_owners.specs.Owners.{EndpointRuns, TransferRuns, note_in}
 use Rattle.lent_structures.specs.Structures.{StructureSets}
-use Rattle.queue_parts.specs.Sound.{IsMember}
-use Rattle.ring_walk.specs.Hand.{Hand}
-use Rattle.ring_streams.specs.Told.{Endpoint}
-use Rattle.ring_pipes.specs.Bus.{Sender}
-use Rattle.ring_pipes.specs.Pipes.{ArePiped}
-use Rattle.reported_streams.specs.Reported.{IsReported}
+use Rattle.lent_structures.specs.Sound.{IsMember}
+use Rattle.ring_laws.specs.Hand.{Hand}
+use Rattle.ring_laws.specs.Told.{Endpoint}
+use Rattle.ring_laws.specs.Bus.{Sender}
+use Rattle.ring_laws.specs.Pipes.{ArePiped}
+use Rattle.controlled_streams.specs.Reported.{IsReported}
 use Rattle.chained_transfers.specs.Out.{pieces_from}
 use Rattle.fed_queues.specs.Places.{IsLast}
-use Rattle.transfer_lends.specs.Written.{AwaitsLend}
-use Rattle.transfer_lends.specs.Laws.{HasPieces}
+use Rattle.driver_laws.specs.Written.{AwaitsLend}
+use Rattle.driver_laws.specs.TransferLaws.{HasPieces}
 use Rattle.fed_lends.specs.Numbers.{numbered}
 
 -- the qTDs but the first, from this block on

@@ -16,9 +16,9 @@ use Rattle.driver_rows.specs.DriverContent.{DriverContent}
 use Rattle.driver_rows.specs.Harvests.{note_at}
 use Rattle.driver_rows.specs.Offers.{is_last}
 use Rattle.run_owners.specs.Owners.{runs_of_endpoint, runs_of_transfer}
-use Rattle.transfer_lends.specs.Written.{AwaitsLend}
-use Rattle.transfer_lends.specs.Pieces.{stage_qtd}
-use Rattle.transfer_lends.specs.Laws.{lent_driver}
+use Rattle.driver_laws.specs.Written.{AwaitsLend}
+use Rattle.driver_laws.specs.Pieces.{stage_qtd}
+use Rattle.driver_laws.specs.TransferLaws.{lent_driver}
 use Rattle.chained_transfers.specs.Bulk.{sort_by, stage_by}
 
 abbrev pub AreStagesBy : Way → List Stage → Type 0

@@ -1,7 +1,11 @@
-//! The lend of a transfer, beside the streams of a ring's IN endpoints (EHCI 1.0, 3.5 and 4.10).
+//! Commands and lends beside queues that are fed (EHCI 1.0, 3.5, 3.6 and 4.10).
 //!
-//! The crate has no code of its own: each function is a law over the definitions of `transfer_lends`, and its body is empty.
+//! - `lend_laws`, `lend_worked`: The lend of a transfer, beside the streams of a ring's IN endpoints (EHCI 1.0, 3.5 and 4.10).
+//! - `command_laws`: Accepted commands leave what is fed of each endpoint's queue (EHCI 1.0, 4.8 and 4.10).
+//!
+//! The crate has no code of its own: each function is a law, and its body is empty.
 #![tactic(auto)]
 
-pub mod laws;
-pub mod worked;
+pub mod command_laws;
+pub mod lend_laws;
+pub mod lend_worked;

@@ -6,7 +6,7 @@ use Rattle.driver_rows.specs.declared.content.Command.TheVariants as unfinished
 use Rattle.driver_rows.specs.DriverContent.{DriverContent}
 use Rattle.driver_rows.specs.Words.{head_block, queue_head}
 use Rattle.endpoint_lives.proofs.Lives.{linked_met, met_alike}
-use Rattle.ring_streams.specs.Told.{Endpoint as Told, endpoint_of}
+use Rattle.ring_laws.specs.Told.{Endpoint as Told, endpoint_of}
 use Rattle.chained_transfers.specs.Bulk.{receives, IsStanding}
 use Rattle.chained_transfers.proofs.Staying.{alive, going_linked}
 use Rattle.fed_queues.specs.Places.{IsThere, IsMet, HasHead, HasThere, AreMet, HaveStreams}

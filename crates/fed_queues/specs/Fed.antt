@@ -24,10 +24,10 @@ use Rattle.driver_rows.specs.Words.{to_qtd, dummy_qtd}
 use Rattle.driver_rows.specs.Harvests.{note_at, buffer_address}
 use Rattle.run_owners.specs.Owners.{note_in}
 use Rattle.lent_structures.specs.Structures.{Element, Structures, StructureSets}
-use Rattle.queue_parts.specs.Sound.{element_pages, HasBuffer}
-use Rattle.ring_walk.specs.Effects.{buffer_of}
-use Rattle.driver_parts.specs.Inventory.{IsLent}
-use Rattle.driver_lends.specs.Published.{partly, IsPublishable}
+use Rattle.lent_structures.specs.Sound.{element_pages, HasBuffer}
+use Rattle.ring_laws.specs.Effects.{buffer_of}
+use Rattle.driver_laws.specs.Inventory.{IsLent}
+use Rattle.driver_laws.specs.Published.{partly, IsPublishable}
 use Rattle.chained_transfers.specs.Bulk.{pid_by}
 use Rattle.chained_transfers.specs.Chains.{piece_at}
 use Rattle.chained_transfers.specs.Out.{unpublished}

@@ -17,9 +17,9 @@ use Rattle.driver_rows.specs.DriverContent.{DriverContent}
 use Rattle.driver_rows.specs.Words.{head_block, queue_head}
 use Rattle.endpoint_lives.specs.Lives.{may_meet}
 use Rattle.lent_structures.specs.Structures.{Element, Structures, StructureSets}
-use Rattle.ring_order.specs.Order.{IsSorted}
-use Rattle.ring_streams.specs.Told.{Endpoint as Told, endpoint_of}
-use Rattle.driver_parts.specs.Inventory.{IsLent}
+use Rattle.ring_laws.specs.Order.{IsSorted}
+use Rattle.ring_laws.specs.Told.{Endpoint as Told, endpoint_of}
+use Rattle.driver_laws.specs.Inventory.{IsLent}
 use Rattle.chained_transfers.specs.Bulk.{receives}
 use Rattle.chained_transfers.specs.Out.{out_now, out_all}
 

@@ -2,7 +2,7 @@
 ghost use Rattle.std.specs.Prelude.{◌≡◌};
 ghost use Rattle.link_words.specs.Links.{no_qtd};
 ghost use Rattle.driver_rows.specs.declared.content.Sort.TheVariants as sorts;
-ghost use Rattle.queue_parts.specs.Sound.{buffer_name};
+ghost use Rattle.lent_structures.specs.Sound.{buffer_name};
 ghost use Rattle.fed_queues.specs.Fed.{IsNotedQtd};
 ghost use Rattle.fed_queues.specs.Worked.{noted, written, sent};
 

@@ -10,12 +10,12 @@ use Rattle.periodic_walk.specs.Place.{FramePlace}
 use Rattle.hc_core.specs.declared.controller.MicroframePart.TheVariants.{Periodic}
 use Rattle.hc_core.specs.Controller.{Content, frame_place}
 use Rattle.lent_structures.specs.Structures.{StructureSets}
-use Rattle.ring_walk.specs.Hand.{Hand}
-use Rattle.ring_walk.specs.Ring.{Base}
-use Rattle.ring_control.specs.Control.{AreEmpty, IsFrameless, off, empty, IsControlled}
-use Rattle.frame_parts.specs.Met.{Kind, AQueue, AnItd, ASitd, LeadsTo}
-use Rattle.frame_parts.specs.FrameHand.{Nothing}
-use Rattle.frame_parts.specs.Frame.{IsFrameWalk}
+use Rattle.ring_laws.specs.Hand.{Hand}
+use Rattle.ring_laws.specs.Ring.{Base}
+use Rattle.controlled_streams.specs.Control.{AreEmpty, IsFrameless, off, empty, IsControlled}
+use Rattle.frame_walk.specs.Met.{Kind, AQueue, AnItd, ASitd, LeadsTo}
+use Rattle.frame_walk.specs.FrameHand.{Nothing}
+use Rattle.frame_walk.specs.Frame.{IsFrameWalk}
 use Rattle.frame_control.specs.Both.{RunsBoth}
 
 none_met : (k : Kind) → None ≡ Some k → ⊥

@@ -21,20 +21,20 @@ use Rattle.hc_core.specs.declared.controller.ControllerRow.{ControllerRow}
 use Rattle.hc_core.specs.declared.controller.ControllerRow.TheVariants as rows
 use Rattle.hc_core.specs.Controller.{Control, Content, microframe_row, part_row, enter_row, ring_row, element_address, begun_at, began, time_of, begun_control, entered, frame_place, walk_place, frame_step, walk_step, part_after, WalksFrame, Walks, HasRow}
 use Rattle.lent_structures.specs.Structures.{Structure, QueueHead, Table, Isochronous, SplitIsochronous, HoldsTable, Structures, StructureSets, Tells}
-use Rattle.queue_parts.specs.Sound.{IsMember}
-use Rattle.ring_walk.specs.Hand.{Hand, Empty}
-use Rattle.ring_walk.specs.Ring.{Base, base_of, IsInHand, IsRing}
-use Rattle.ring_walk.specs.Effects.{Effect, reads, passes, ends, takes, makes, writes_back, AreBytesHeard}
-use Rattle.ring_walk.proofs.Ringing.{ring_at, cursor_same}
-use Rattle.ring_streams.specs.Streams.{Streams}
-use Rattle.ring_streams.proofs.Events.{event_streams}
-use Rattle.ring_control.specs.Control.{IsOn, FrameList, a_microframe, a_step}
-use Rattle.frame_parts.specs.Met.{Kind, AQueue, AnItd, ASitd, LeadsTo, IsMetQueue, IsMetItd, IsMetSitd, IsMetAs}
-use Rattle.frame_parts.specs.FrameHand.{FrameHand, Nothing}
-use Rattle.frame_parts.specs.Frame.{IsFrameWalk}
-use Rattle.frame_parts.specs.FrameEffects.{FrameHappens}
-use Rattle.frame_parts.specs.FrameEffects as effects
-use Rattle.frame_steps.specs.Steps.{EventHappens}
+use Rattle.lent_structures.specs.Sound.{IsMember}
+use Rattle.ring_laws.specs.Hand.{Hand, Empty}
+use Rattle.ring_laws.specs.Ring.{Base, base_of, IsInHand, IsRing}
+use Rattle.ring_laws.specs.Effects.{Effect, reads, passes, ends, takes, makes, writes_back, AreBytesHeard}
+use Rattle.ring_laws.proofs.Ringing.{ring_at, cursor_same}
+use Rattle.ring_laws.specs.Streams.{Streams}
+use Rattle.ring_laws.proofs.StreamEvents.{event_streams}
+use Rattle.controlled_streams.specs.Control.{IsOn, FrameList, a_microframe, a_step}
+use Rattle.frame_walk.specs.Met.{Kind, AQueue, AnItd, ASitd, LeadsTo, IsMetQueue, IsMetItd, IsMetSitd, IsMetAs}
+use Rattle.frame_walk.specs.FrameHand.{FrameHand, Nothing}
+use Rattle.frame_walk.specs.Frame.{IsFrameWalk}
+use Rattle.frame_walk.specs.FrameEffects.{FrameHappens}
+use Rattle.frame_walk.specs.FrameEffects as effects
+use Rattle.frame_walk.specs.FrameSteps.{EventHappens}
 use Rattle.frame_control.specs.Both.{AreMet, AreApart, RunsBoth, BothEffect, of_ring, of_frame, ControlsBoth}
 use Rattle.frame_control.proofs.Staying.{ring_leaves, frame_leaves}
 

@@ -14,10 +14,10 @@ use Rattle.hc_core.specs.declared.controller.MicroframePart.TheVariants.{Over, P
 use Rattle.lent_structures.specs.Structures.{Structure, QueueHead, Element, Table, HoldsQueueHead, HoldsTable, Holds, StructureSets, put, Has, Tells}
 use Rattle.lent_structures.proofs.Names.{put_found}
 use Rattle.lent_structures.proofs.Telling.{joined}
-use Rattle.queue_parts.specs.Sound.{IsMember}
-use Rattle.ring_walk.specs.Hand.{Empty}
-use Rattle.frame_parts.specs.Met.{Kind, AQueue, LeadsTo, IsMetQueue, IsMetAs}
-use Rattle.frame_parts.specs.FrameHand.{Nothing}
+use Rattle.lent_structures.specs.Sound.{IsMember}
+use Rattle.ring_laws.specs.Hand.{Empty}
+use Rattle.frame_walk.specs.Met.{Kind, AQueue, LeadsTo, IsMetQueue, IsMetAs}
+use Rattle.frame_walk.specs.FrameHand.{Nothing}
 use Rattle.frame_control.specs.Both.{LeadToMet, RunsBoth}
 use Rattle.frame_control.specs.Samples.{head, queue, elements, front, memory, nothing, parts, member, met, base, opening}
 

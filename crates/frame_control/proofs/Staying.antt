@@ -10,15 +10,15 @@ use Rattle.async_walk.specs.Rows.{WalkPlace}
 use Rattle.periodic_walk.specs.Walk.{Walk}
 use Rattle.lent_structures.specs.Structures.{QueueHead, Isochronous, SplitIsochronous, StructureSets}
 use Rattle.lent_structures.proofs.Names.{put_beside}
-use Rattle.write_back_laws.specs.WriteBack.{received_parts}
-use Rattle.write_back_laws.proofs.Found.{received_beside, back_beside}
-use Rattle.ring_walk.specs.Hand.{Copy, Settlement, settled_queue_of, Hand, Empty, Copied, Settled, Stale}
-use Rattle.ring_walk.specs.Ring.{Base, IsCopied, IsSettled, IsInHand, IsRing}
-use Rattle.ring_walk.specs.Effects.{received_into, Effect, reads, passes, ends, takes, makes, writes_back}
-use Rattle.frame_parts.specs.Met.{Kind, AQueue, AnItd, ASitd}
-use Rattle.frame_parts.specs.FrameHand.{ItdCopy, SitdCopy, FrameHand, OfQueue, OfSettled, OfItd, OfSitd}
-use Rattle.frame_parts.specs.Frame.{IsCopiedQueue, IsCopiedItd, IsCopiedSitd, IsInFrame}
-use Rattle.frame_parts.specs.FrameEffects as effects
+use Rattle.lent_structures.specs.WriteBack.{received_parts}
+use Rattle.lent_structures.proofs.Found.{received_beside, back_beside}
+use Rattle.ring_laws.specs.Hand.{Copy, Settlement, settled_queue_of, Hand, Empty, Copied, Settled, Stale}
+use Rattle.ring_laws.specs.Ring.{Base, IsCopied, IsSettled, IsInHand, IsRing}
+use Rattle.ring_laws.specs.Effects.{received_into, Effect, reads, passes, ends, takes, makes, writes_back}
+use Rattle.frame_walk.specs.Met.{Kind, AQueue, AnItd, ASitd}
+use Rattle.frame_walk.specs.FrameHand.{ItdCopy, SitdCopy, FrameHand, OfQueue, OfSettled, OfItd, OfSitd}
+use Rattle.frame_walk.specs.Frame.{IsCopiedQueue, IsCopiedItd, IsCopiedSitd, IsInFrame}
+use Rattle.frame_walk.specs.FrameEffects as effects
 
 -- ---- by an event of the ring's walk, those of what is no queue head of the ring
 

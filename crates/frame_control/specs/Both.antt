@@ -18,13 +18,13 @@ use Rattle.async_walk.specs.declared.state.WalkStep.{WalkStep}
 use Rattle.hc_core.specs.declared.controller.MicroframePart.TheVariants.{Periodic, Asynchronous}
 use Rattle.hc_core.specs.Controller.{Control, Content, frame_place, walk_place}
 use Rattle.lent_structures.specs.Structures.{StructureSets}
-use Rattle.ring_walk.specs.Hand.{Hand, Empty}
-use Rattle.ring_walk.specs.Ring.{Base, IsRing}
-use Rattle.ring_control.specs.Control.{FrameList, ControlEffect}
-use Rattle.frame_parts.specs.Met.{Kind, LeadsTo, IsMetAs}
-use Rattle.frame_parts.specs.FrameHand.{FrameHand, Nothing}
-use Rattle.frame_parts.specs.Frame.{IsFrameWalk}
-use Rattle.frame_parts.specs.FrameEffects.{FrameEffect}
+use Rattle.ring_laws.specs.Hand.{Hand, Empty}
+use Rattle.ring_laws.specs.Ring.{Base, IsRing}
+use Rattle.controlled_streams.specs.Control.{FrameList, ControlEffect}
+use Rattle.frame_walk.specs.Met.{Kind, LeadsTo, IsMetAs}
+use Rattle.frame_walk.specs.FrameHand.{FrameHand, Nothing}
+use Rattle.frame_walk.specs.Frame.{IsFrameWalk}
+use Rattle.frame_walk.specs.FrameEffects.{FrameEffect}
 
 -- ---- whom the walk of the frames meets
 

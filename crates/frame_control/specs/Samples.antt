@@ -15,8 +15,8 @@ use Rattle.qh_qtd.specs.declared.queue_head.Qh.{Qh}
 use Rattle.qh_qtd.specs.QueueHead.{qh_words}
 use Rattle.hc_core.specs.Controller.{Content, content, new_control}
 use Rattle.lent_structures.specs.Structures.{QueueHead, Table, StructureSets, put}
-use Rattle.ring_walk.specs.Ring.{Base}
-use Rattle.frame_parts.specs.Met.{Kind, AQueue}
+use Rattle.ring_laws.specs.Ring.{Base}
+use Rattle.frame_walk.specs.Met.{Kind, AQueue}
 
 abbrev pub head : Qh
 head = record blank_head {

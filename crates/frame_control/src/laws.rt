@@ -1,13 +1,13 @@
 ghost use Rattle.std.specs.Prelude.{◌≡◌, ℕ, Bool, true, false, Option, None};
 ghost use Rattle.hc_core.specs.Controller.{Content, microframe_row, HasRow};
 ghost use Rattle.lent_structures.specs.Structures.{StructureSets};
-ghost use Rattle.ring_walk.specs.Hand.{Hand};
-ghost use Rattle.ring_walk.specs.Ring.{Base};
-ghost use Rattle.ring_walk.specs.Effects.{AreBytesHeard};
-ghost use Rattle.ring_control.specs.Control.{IsOn, IsControlled};
-ghost use Rattle.frame_parts.specs.Met.{Kind};
-ghost use Rattle.frame_parts.specs.FrameHand.{FrameHand, Nothing};
-ghost use Rattle.frame_steps.specs.Steps.{EventHappens};
+ghost use Rattle.ring_laws.specs.Hand.{Hand};
+ghost use Rattle.ring_laws.specs.Ring.{Base};
+ghost use Rattle.ring_laws.specs.Effects.{AreBytesHeard};
+ghost use Rattle.controlled_streams.specs.Control.{IsOn, IsControlled};
+ghost use Rattle.frame_walk.specs.Met.{Kind};
+ghost use Rattle.frame_walk.specs.FrameHand.{FrameHand, Nothing};
+ghost use Rattle.frame_walk.specs.FrameSteps.{EventHappens};
 ghost use Rattle.frame_control.specs.Both.{RunsBoth, BothEffect, ControlsBoth};
 
 use usb_base::Wire;

@@ -2,8 +2,8 @@
 ghost use Rattle.std.specs.Prelude.{◌≡◌};
 ghost use Rattle.link_words.specs.declared.kinds.Link.{Link};
 ghost use Rattle.link_words.specs.Links.{link_read};
-ghost use Rattle.ring_walk.specs.Hand.{Empty};
-ghost use Rattle.frame_parts.specs.FrameHand.{Nothing};
+ghost use Rattle.ring_laws.specs.Hand.{Empty};
+ghost use Rattle.frame_walk.specs.FrameHand.{Nothing};
 ghost use Rattle.frame_control.specs.Both.{RunsBoth};
 ghost use Rattle.frame_control.specs.Samples.{base, member, met, parts, opening};
 

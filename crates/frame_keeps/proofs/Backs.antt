@@ -19,17 +19,17 @@ use Rattle.lent_structures.specs.Structures.{Structure, QueueHead, Element, Buff
 use Rattle.lent_structures.specs.Changes.{relinked, overwritten}
 use Rattle.lent_structures.proofs.Names.{names_differ, put_else}
 use Rattle.lent_structures.proofs.Storing.{length-overwritten}
-use Rattle.write_back_laws.specs.WriteBack.{Received, Nothing, Into, IsReceived, received_parts, qtd_after, parts_back}
-use Rattle.write_back_laws.proofs.WrittenBack.{head_is_no_buffer, element_is_no_buffer, element_is_no_head}
-use Rattle.queue_parts.specs.Sound.{IsWorking, IsSoundQueue}
-use Rattle.queue_parts.specs.Alters.{IsAfter}
-use Rattle.queue_parts.proofs.Altering.{found_element, is_itself}
-use Rattle.ring_walk.specs.Hand.{Copy, Settlement, settled_queue_of}
-use Rattle.kept_structures.specs.Kept.{bare}
-use Rattle.frame_parts.specs.FrameHand.{SitdCopy}
-use Rattle.frame_parts.specs.Frame.{IsMoved, IsTurned}
-use Rattle.frame_parts.specs.FrameEffects.{AreReceivedAt, sitd_back}
-use Rattle.frame_parts.proofs.Turning.{place_moved}
+use Rattle.lent_structures.specs.WriteBack.{Received, Nothing, Into, IsReceived, received_parts, qtd_after, parts_back}
+use Rattle.lent_structures.proofs.WrittenBack.{head_is_no_buffer, element_is_no_buffer, element_is_no_head}
+use Rattle.lent_structures.specs.Sound.{IsWorking, IsSoundQueue}
+use Rattle.lent_structures.specs.Alters.{IsAfter}
+use Rattle.lent_structures.proofs.Altering.{found_element, is_itself}
+use Rattle.ring_laws.specs.Hand.{Copy, Settlement, settled_queue_of}
+use Rattle.controlled_streams.specs.Kept.{bare}
+use Rattle.frame_walk.specs.FrameHand.{SitdCopy}
+use Rattle.frame_walk.specs.Frame.{IsMoved, IsTurned}
+use Rattle.frame_walk.specs.FrameEffects.{AreReceivedAt, sitd_back}
+use Rattle.frame_walk.proofs.PartTurning.{place_moved}
 use Rattle.frame_keeps.specs.Kept.{stateless, IsItdAfter, IsLeft, IsSitdAfter, KeepsParts}
 use Rattle.frame_keeps.proofs.Keeping.{head_keeps, element_keeps, buffer_keeps, itd_keeps, sitd_keeps, parts_itself, parts_both, parts_put}
 

@@ -9,11 +9,11 @@ use Rattle.itd_sitd.specs.Itd.{slot_of}
 use Rattle.iso_visits.specs.Sitd.{sitd_place}
 use Rattle.iso_visits.specs.WriteBack.{itd_pages, slot_place, sitd_pages}
 use Rattle.lent_structures.specs.Structures.{Structure, QueueHead, Element, Buffer, Table, Isochronous, SplitIsochronous, Structures, StructureSets}
-use Rattle.queue_parts.specs.Alters.{HasBytes}
-use Rattle.kept_structures.specs.Kept.{KeepsEach}
-use Rattle.driver_parts.specs.Inventory.{OfTable, sort_of, SameSorts}
-use Rattle.driver_releases.specs.Extents.{KeepExtents}
-use Rattle.frame_parts.specs.Met.{IsBuffered}
+use Rattle.lent_structures.specs.Alters.{HasBytes}
+use Rattle.controlled_streams.specs.Kept.{KeepsEach}
+use Rattle.driver_laws.specs.Inventory.{OfTable, sort_of, SameSorts}
+use Rattle.driver_laws.specs.Extents.{KeepExtents}
+use Rattle.frame_walk.specs.Met.{IsBuffered}
 use Rattle.frame_keeps.specs.Kept.{IsItdAfter, IsLeft, IsSitdAfter, KeepsPart, KeepsParts, HasSlots, HasBytesLeft}
 
 pub queues_kept : (parts now : StructureSets) → KeepsParts parts now → KeepsEach parts now

@@ -12,17 +12,17 @@ use Rattle.iso_visits.specs.Sitd.{sitd_place, missed_copy}
 use Rattle.iso_visits.specs.WriteBack.{itd_pages, slot_place, sitd_pages, sitd_received, moved_by}
 use Rattle.periodic_walk.specs.Place.{FramePlace}
 use Rattle.lent_structures.specs.Structures.{QueueHead, Buffer, SplitIsochronous, HoldsBuffer, StructureSets, put}
-use Rattle.write_back_laws.specs.WriteBack.{received_parts}
-use Rattle.queue_parts.specs.Sound.{IsSoundQueue}
-use Rattle.queue_parts.proofs.Altering.{found_queue}
-use Rattle.ring_walk.specs.Hand.{Copy, Settlement, settled_queue_of, Hand, Empty, Copied, Settled, Stale}
-use Rattle.ring_walk.specs.Ring.{IsSettled}
-use Rattle.ring_walk.specs.Effects.{received_into, Takes}
-use Rattle.frame_parts.specs.Met.{Kind, AQueue, ASitd, IsBuffered, IsMetQueue, IsMetSitd}
-use Rattle.frame_parts.specs.FrameHand.{ItdCopy, SitdCopy, FrameHand, OfQueue, OfSettled, OfItd, OfSitd}
-use Rattle.frame_parts.specs.Frame.{IsCopiedQueue, IsCopiedItd, IsMoved, IsTurned, IsCopiedSitd, IsInFrame, IsFrame}
-use Rattle.frame_parts.specs.FrameEffects.{itd_back, sitd_back, TakesOne, WritesQueue, WritesItd, IsWrittenFrom, made, missed, WritesSitd, WritesOne, of_queue, of_itd, of_sitd}
-use Rattle.frame_parts.specs.FrameEffects.FrameEffect.{fetches, passes, ends, takes, makes, writes}
+use Rattle.lent_structures.specs.WriteBack.{received_parts}
+use Rattle.lent_structures.specs.Sound.{IsSoundQueue}
+use Rattle.lent_structures.proofs.Altering.{found_queue}
+use Rattle.ring_laws.specs.Hand.{Copy, Settlement, settled_queue_of, Hand, Empty, Copied, Settled, Stale}
+use Rattle.ring_laws.specs.Ring.{IsSettled}
+use Rattle.ring_laws.specs.Effects.{received_into, Takes}
+use Rattle.frame_walk.specs.Met.{Kind, AQueue, ASitd, IsBuffered, IsMetQueue, IsMetSitd}
+use Rattle.frame_walk.specs.FrameHand.{ItdCopy, SitdCopy, FrameHand, OfQueue, OfSettled, OfItd, OfSitd}
+use Rattle.frame_walk.specs.Frame.{IsCopiedQueue, IsCopiedItd, IsMoved, IsTurned, IsCopiedSitd, IsInFrame, IsFrame}
+use Rattle.frame_walk.specs.FrameEffects.{itd_back, sitd_back, TakesOne, WritesQueue, WritesItd, IsWrittenFrom, made, missed, WritesSitd, WritesOne, of_queue, of_itd, of_sitd}
+use Rattle.frame_walk.specs.FrameEffects.FrameEffect.{fetches, passes, ends, takes, makes, writes}
 use Rattle.frame_keeps.specs.Kept.{IsSitdAfter, KeepsParts, HasBytesLeft}
 use Rattle.frame_keeps.specs.Laws.{FrameKeeps}
 use Rattle.frame_keeps.proofs.Keeping.{head_keeps, found_sitd, parts_itself, parts_put}

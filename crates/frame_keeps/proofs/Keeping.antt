@@ -10,11 +10,11 @@ use Rattle.itd_sitd.specs.declared.sitd.Sitd.{Sitd}
 use Rattle.itd_sitd.specs.Itd.{slot_of}
 use Rattle.lent_structures.specs.Structures.{Structure, QueueHead, Element, Buffer, Table, Isochronous, SplitIsochronous, Structures, StructureSets, with_structure, put}
 use Rattle.lent_structures.proofs.Names.{names_differ, with_here, with_there, put_here, put_beside}
-use Rattle.queue_parts.specs.Alters.{IsAfter}
-use Rattle.queue_parts.proofs.Altering.{is_itself}
-use Rattle.driver_parts.specs.Inventory.{sort_of}
-use Rattle.kept_structures.specs.Kept.{bare, Keeps}
-use Rattle.kept_structures.proofs.Keeping.{kept_part, kept_both, kept_head, kept_element, kept_buffer}
+use Rattle.lent_structures.specs.Alters.{IsAfter}
+use Rattle.lent_structures.proofs.Altering.{is_itself}
+use Rattle.driver_laws.specs.Inventory.{sort_of}
+use Rattle.controlled_streams.specs.Kept.{bare, Keeps}
+use Rattle.controlled_streams.proofs.Keeping.{kept_part, kept_both, kept_head, kept_element, kept_buffer}
 use Rattle.frame_keeps.specs.Kept.{IsItdAfter, IsLeft, IsSitdAfter, HasItdAfter, HasSitdAfter, KeepsPart, KeepsParts}
 
 -- ---- nothing changes

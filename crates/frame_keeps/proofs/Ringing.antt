@@ -8,12 +8,12 @@ use Rattle.walk_copy.specs.WriteBack.{moved_by}
 use Rattle.async_walk.specs.Rows.{WalkPlace}
 use Rattle.hc_core.specs.Controller.{walk_place}
 use Rattle.lent_structures.specs.Structures.{QueueHead, StructureSets}
-use Rattle.queue_parts.specs.Sound.{IsSoundQueue, IsMember}
-use Rattle.queue_parts.proofs.Altering.{found_queue}
-use Rattle.ring_walk.specs.Hand.{Copy, Settlement, settled_queue_of, Hand, Copied, Settled}
-use Rattle.ring_walk.specs.Ring.{Base, IsCopied, IsSettled, IsInHand, IsRing}
-use Rattle.ring_walk.specs.Effects.{received_into, reads, passes, ends, takes, makes, writes_back, WritesBack, Takes}
-use Rattle.ring_control.specs.Control.{a_microframe, a_step}
+use Rattle.lent_structures.specs.Sound.{IsSoundQueue, IsMember}
+use Rattle.lent_structures.proofs.Altering.{found_queue}
+use Rattle.ring_laws.specs.Hand.{Copy, Settlement, settled_queue_of, Hand, Copied, Settled}
+use Rattle.ring_laws.specs.Ring.{Base, IsCopied, IsSettled, IsInHand, IsRing}
+use Rattle.ring_laws.specs.Effects.{received_into, reads, passes, ends, takes, makes, writes_back, WritesBack, Takes}
+use Rattle.controlled_streams.specs.Control.{a_microframe, a_step}
 use Rattle.frame_keeps.specs.Kept.{KeepsParts}
 use Rattle.frame_keeps.specs.Laws.{RingKeeps, ControlKeeps}
 use Rattle.frame_keeps.proofs.Keeping.{head_keeps, parts_itself, parts_put}

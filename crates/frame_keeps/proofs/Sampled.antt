@@ -1,9 +1,9 @@
 -- The worked iTD keeps its fields.
 use Rattle.std.proofs.Common.{ℕ, zero, suc, ◌<◌, [], ◌∷◌, slice_index, refl, arith}
-use Rattle.write_back_laws.specs.WriteBack.{Into}
+use Rattle.lent_structures.specs.WriteBack.{Into}
 use Rattle.iso_visits.specs.Itd.{fetched_itd, after_in}
-use Rattle.frame_parts.specs.FrameEffects.{AreReceivedAt, itd_back, itd_parts}
-use Rattle.frame_parts.specs.Samples.{itd, bytes, pages, parts, moved}
+use Rattle.frame_walk.specs.FrameEffects.{AreReceivedAt, itd_back, itd_parts}
+use Rattle.frame_walk.specs.PartSamples.{itd, bytes, pages, parts, moved}
 use Rattle.frame_keeps.specs.Kept.{KeepsParts}
 use Rattle.frame_keeps.proofs.Backs.{itd_after_back, itd_back_keeps}
 

@@ -15,8 +15,8 @@ use Rattle.itd_sitd.specs.declared.sitd.Sitd.{Sitd}
 use Rattle.itd_sitd.specs.Itd.{itd_words}
 use Rattle.itd_sitd.specs.Sitd.{sitd_words}
 use Rattle.lent_structures.specs.Structures.{QueueHead, Element, Table, Isochronous, SplitIsochronous, HoldsQueueHead, HoldsElement, HoldsTable, HoldsIsochronous, HoldsSplitIsochronous, StructureSets, Tells}
-use Rattle.queue_parts.specs.Alters.{IsAfter, HasElementAfter}
-use Rattle.kept_structures.specs.Kept.{bare, HasHeadAfter}
+use Rattle.lent_structures.specs.Alters.{IsAfter, HasElementAfter}
+use Rattle.controlled_streams.specs.Kept.{bare, HasHeadAfter}
 use Rattle.controller_writes.specs.Leaving.{LeavesRest}
 use Rattle.frame_keeps.specs.Kept.{slotless, stateless, HasItdAfter, HasSitdAfter, KeepsParts}
 use Rattle.frame_keeps.specs.Leaving.{LeavesWord, LeavesStructures, IsWithin}

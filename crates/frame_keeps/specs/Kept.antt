@@ -16,9 +16,9 @@ use Rattle.itd_sitd.specs.Itd.{slot_of}
 use Rattle.iso_visits.specs.Sitd.{sitd_place}
 use Rattle.iso_visits.specs.WriteBack.{itd_pages, slot_place, sitd_pages}
 use Rattle.lent_structures.specs.Structures.{Table, Isochronous, SplitIsochronous, Structures, StructureSets}
-use Rattle.driver_parts.specs.Inventory.{sort_of}
-use Rattle.kept_structures.specs.Kept.{Keeps}
-use Rattle.frame_parts.specs.Met.{IsBuffered}
+use Rattle.driver_laws.specs.Inventory.{sort_of}
+use Rattle.controlled_streams.specs.Kept.{Keeps}
+use Rattle.frame_walk.specs.Met.{IsBuffered}
 
 -- ---- an iTD (3.3)
 

@@ -12,15 +12,15 @@ use Rattle.async_walk.specs.Rows.{WalkPlace}
 use Rattle.periodic_walk.specs.Place.{FramePlace}
 use Rattle.hc_core.specs.Controller.{Content, walk_place}
 use Rattle.lent_structures.specs.Structures.{StructureSets, Tells}
-use Rattle.ring_walk.specs.Hand.{Hand}
-use Rattle.ring_walk.specs.Ring.{Base, IsRing}
-use Rattle.ring_walk.specs.Effects.{Effect}
-use Rattle.ring_control.specs.Control.{ControlEffect}
+use Rattle.ring_laws.specs.Hand.{Hand}
+use Rattle.ring_laws.specs.Ring.{Base, IsRing}
+use Rattle.ring_laws.specs.Effects.{Effect}
+use Rattle.controlled_streams.specs.Control.{ControlEffect}
 use Rattle.walk_writes.specs.Writes.{WritesLent}
-use Rattle.frame_parts.specs.Met.{Kind}
-use Rattle.frame_parts.specs.FrameHand.{FrameHand}
-use Rattle.frame_parts.specs.Frame.{IsFrame}
-use Rattle.frame_parts.specs.FrameEffects.{FrameEffect}
+use Rattle.frame_walk.specs.Met.{Kind}
+use Rattle.frame_walk.specs.FrameHand.{FrameHand}
+use Rattle.frame_walk.specs.Frame.{IsFrame}
+use Rattle.frame_walk.specs.FrameEffects.{FrameEffect}
 use Rattle.frame_keeps.specs.Kept.{KeepsParts}
 use Rattle.frame_keeps.specs.Leaving.{LeavesStructures}
 

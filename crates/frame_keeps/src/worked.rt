@@ -1,9 +1,9 @@
 //! Worked rows, which the check computes: of the iTD of a frame, whose microframe 2 is written back with two bytes.
 ghost use Rattle.std.specs.Prelude.{◌≡◌, [], ◌∷◌, take, drop};
 ghost use Rattle.itd_sitd.specs.Itd.{itd_words};
-ghost use Rattle.write_back_laws.specs.WriteBack.{Into};
-ghost use Rattle.frame_parts.specs.FrameEffects.{itd_back, itd_parts};
-ghost use Rattle.frame_parts.specs.Samples.{itd, pages, parts, moved};
+ghost use Rattle.lent_structures.specs.WriteBack.{Into};
+ghost use Rattle.frame_walk.specs.FrameEffects.{itd_back, itd_parts};
+ghost use Rattle.frame_walk.specs.PartSamples.{itd, pages, parts, moved};
 ghost use Rattle.frame_keeps.specs.Kept.{KeepsParts};
 
 /// Its bytes are put and its microframe is written: all is kept.

@@ -9,9 +9,9 @@ use Rattle.hc_core.specs.declared.controller.HcStep.TheVariants as steps
 use Rattle.hc_core.specs.declared.controller.ControllerRow.{ControllerRow}
 use Rattle.hc_core.specs.declared.controller.ControllerRow.TheVariants as rows
 use Rattle.hc_core.specs.Controller.{Content, microframe_row, part_row, HasRow}
-use Rattle.ring_walk.specs.Ring.{Base}
+use Rattle.ring_laws.specs.Ring.{Base}
 use Rattle.ring_runs.specs.Runs.{made_by}
-use Rattle.frame_parts.specs.Met.{Kind}
+use Rattle.frame_walk.specs.Met.{Kind}
 use Rattle.frame_control.specs.Both.{ControlsBoth}
 use Rattle.frame_control.proofs.Running.{event_runs}
 use Rattle.frame_walk.proofs.Walking.{event_happens}

@@ -2,8 +2,8 @@
 use Rattle.std.proofs.Common.{◌≡◌, ℕ, List, refl}
 use Rattle.usb_base.specs.declared.packets.Pid.{Pid}
 use Rattle.usb_base.specs.declared.packets.Reply.TheVariants.{Bytes, Silent}
-use Rattle.ring_walk.specs.Hand.{Empty}
-use Rattle.frame_parts.specs.FrameHand.{Nothing}
+use Rattle.ring_laws.specs.Hand.{Empty}
+use Rattle.frame_walk.specs.FrameHand.{Nothing}
 use Rattle.frame_control.specs.Samples.{base, member, met, parts, opening}
 use Rattle.frame_control.proofs.Sampled.{both_run}
 use Rattle.frame_runs.specs.Runs.{AreRunning}

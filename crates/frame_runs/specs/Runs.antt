@@ -13,13 +13,13 @@ use Rattle.usb_base.specs.declared.packets.Ask.{Ask}
 use Rattle.usb_base.specs.declared.packets.Reply.{Reply}
 use Rattle.hc_core.specs.Controller.{Content, microframe_row, HasRow}
 use Rattle.lent_structures.specs.Structures.{StructureSets}
-use Rattle.ring_walk.specs.Hand.{Hand}
-use Rattle.ring_walk.specs.Ring.{Base}
-use Rattle.ring_walk.specs.Effects.{AreBytesHeard}
-use Rattle.ring_control.specs.Control.{IsOn}
+use Rattle.ring_laws.specs.Hand.{Hand}
+use Rattle.ring_laws.specs.Ring.{Base}
+use Rattle.ring_laws.specs.Effects.{AreBytesHeard}
+use Rattle.controlled_streams.specs.Control.{IsOn}
 use Rattle.ring_runs.specs.Runs.{HearsBytes}
-use Rattle.frame_parts.specs.Met.{Kind}
-use Rattle.frame_parts.specs.FrameHand.{FrameHand}
+use Rattle.frame_walk.specs.Met.{Kind}
+use Rattle.frame_walk.specs.FrameHand.{FrameHand}
 use Rattle.frame_control.specs.Both.{RunsBoth, ControlsBoth}
 
 abbrev pub BothAreTold : {W : Type 0} → (W → ℕ → Bool → W → Type 0) → (W → Ask → List ℕ → Reply → W → Type 0) → Content → W → Content → W → Type 0

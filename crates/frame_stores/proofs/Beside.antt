@@ -21,14 +21,14 @@ use Rattle.lent_structures.specs.Changes.{Leaves, IsNew}
 use Rattle.lent_structures.proofs.Names.{put_beside, put_same, put_else, without_beside, without_else}
 use Rattle.lent_structures.proofs.Telling.{told_still, added, joined, removed}
 use Rattle.lent_structures.proofs.Writing.{word_put_table}
-use Rattle.queue_parts.specs.Sound.{IsMember}
-use Rattle.ring_walk.specs.Hand.{Copy, Hand, Empty, Copied, Settled, Stale}
-use Rattle.ring_walk.specs.Ring.{Base, base_of, IsCopied, IsInHand, IsRing}
-use Rattle.ring_walk.proofs.Ringing.{ring_at, cursor_same}
-use Rattle.ring_control.specs.Control.{FrameList}
-use Rattle.frame_parts.specs.Met.{Kind, LeadsTo, IsMetAs}
-use Rattle.frame_parts.specs.FrameHand.{FrameHand, Nothing}
-use Rattle.frame_parts.specs.Frame.{IsFrameWalk, IsFrame}
+use Rattle.lent_structures.specs.Sound.{IsMember}
+use Rattle.ring_laws.specs.Hand.{Copy, Hand, Empty, Copied, Settled, Stale}
+use Rattle.ring_laws.specs.Ring.{Base, base_of, IsCopied, IsInHand, IsRing}
+use Rattle.ring_laws.proofs.Ringing.{ring_at, cursor_same}
+use Rattle.controlled_streams.specs.Control.{FrameList}
+use Rattle.frame_walk.specs.Met.{Kind, LeadsTo, IsMetAs}
+use Rattle.frame_walk.specs.FrameHand.{FrameHand, Nothing}
+use Rattle.frame_walk.specs.Frame.{IsFrameWalk, IsFrame}
 use Rattle.frame_control.specs.Both.{LeadToMet, AreMet, AreApart, RunsBoth}
 use Rattle.frame_stores.specs.Stores.{HasLink, linked, frame_linked, KeepsMet, LeavesMet, LeavesMembers, IsMetFurther, AreMetAmong, IsFrameAmong}
 use Rattle.frame_stores.proofs.Linking.{link_told, all_met_linked, frame_link_stored, fields_range, fields_word, fields_lead}

@@ -13,9 +13,9 @@ use Rattle.lent_structures.specs.Changes.{Leaves, IsNew}
 use Rattle.lent_structures.proofs.Names.{put_beside, put_else, without_here, without_beside, without_else}
 use Rattle.lent_structures.proofs.Telling.{added, joined, removed}
 use Rattle.lent_structures.proofs.Writing.{word_put_table}
-use Rattle.frame_parts.specs.Met.{Kind, AQueue, AnItd, ASitd, LeadsTo, IsMetAs}
-use Rattle.frame_parts.specs.FrameHand.{FrameHand, Nothing, OfQueue, OfSettled, OfItd, OfSitd}
-use Rattle.frame_parts.specs.Frame.{IsInFrame, IsFrame}
+use Rattle.frame_walk.specs.Met.{Kind, AQueue, AnItd, ASitd, LeadsTo, IsMetAs}
+use Rattle.frame_walk.specs.FrameHand.{FrameHand, Nothing, OfQueue, OfSettled, OfItd, OfSitd}
+use Rattle.frame_walk.specs.Frame.{IsInFrame, IsFrame}
 use Rattle.frame_control.specs.Both.{AreMet}
 use Rattle.frame_stores.specs.Stores.{link_in, KeepsMet, LeavesMet, IsMetFurther, AreMetAmong, IsFrameHandAmong, IsFrameAmong}
 use Rattle.frame_stores.proofs.Linking.{met_but_one, met_put}

@@ -32,18 +32,18 @@ use Rattle.periodic_walk.specs.Place.{FramePlace}
 use Rattle.lent_structures.specs.Structures.{Structure, QueueHead, Element, Buffer, Table, Isochronous, SplitIsochronous, Structures, StructureSets, with_structure, put, Holds, Tells}
 use Rattle.lent_structures.proofs.Names.{names_differ, with_here, with_there, put_here, put_beside, put_same}
 use Rattle.lent_structures.proofs.Writing.{word_put_queue, word_put_isochronous, word_put_split}
-use Rattle.queue_parts.specs.Sound.{IsSoundQueue}
-use Rattle.queue_parts.specs.Alters.{Alters}
-use Rattle.queue_parts.proofs.Altering.{no_two, head_put}
-use Rattle.queue_parts.proofs.Members.{leads_still}
-use Rattle.ring_walk.specs.Hand.{Copy, copied_queue, Settlement}
-use Rattle.ring_walk.specs.Ring.{IsSettled}
-use Rattle.ring_stores.specs.Stores.{copy_linked}
-use Rattle.ring_stores.proofs.Driving.{copied_same}
-use Rattle.frame_parts.specs.Met.{Kind, AQueue, AnItd, ASitd, LeadsTo, IsBuffered, IsMetQueue, IsMetItd, IsMetSitd, IsMetAs}
-use Rattle.frame_parts.specs.FrameHand.{ItdCopy, SitdCopy, FrameHand, Nothing, OfQueue, OfSettled, OfItd, OfSitd, frame_held}
-use Rattle.frame_parts.specs.Frame.{HasSameExtent, IsCopiedQueue, IsCopiedItd, IsCopiedSitd, IsTurned, IsInFrame, IsFrame}
-use Rattle.frame_parts.proofs.Queues.{queue_still}
+use Rattle.lent_structures.specs.Sound.{IsSoundQueue}
+use Rattle.lent_structures.specs.Alters.{Alters}
+use Rattle.lent_structures.proofs.Altering.{no_two, head_put}
+use Rattle.lent_structures.proofs.Members.{leads_still}
+use Rattle.ring_laws.specs.Hand.{Copy, copied_queue, Settlement}
+use Rattle.ring_laws.specs.Ring.{IsSettled}
+use Rattle.ring_laws.specs.Stores.{copy_linked}
+use Rattle.ring_laws.proofs.Driving.{copied_same}
+use Rattle.frame_walk.specs.Met.{Kind, AQueue, AnItd, ASitd, LeadsTo, IsBuffered, IsMetQueue, IsMetItd, IsMetSitd, IsMetAs}
+use Rattle.frame_walk.specs.FrameHand.{ItdCopy, SitdCopy, FrameHand, Nothing, OfQueue, OfSettled, OfItd, OfSitd, frame_held}
+use Rattle.frame_walk.specs.Frame.{HasSameExtent, IsCopiedQueue, IsCopiedItd, IsCopiedSitd, IsTurned, IsInFrame, IsFrame}
+use Rattle.frame_walk.proofs.Queues.{queue_still}
 use Rattle.frame_control.specs.Both.{AreMet}
 use Rattle.frame_stores.specs.Stores.{HasLink, link_in, linked, itd_linked, sitd_linked, frame_linked}
 

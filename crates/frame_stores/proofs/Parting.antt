@@ -15,15 +15,15 @@ use Rattle.hc_core.specs.Controller.{Content}
 use Rattle.lent_structures.specs.Structures.{Structure, QueueHead, Element, Buffer, Table, Structures, StructureSets, with_structure, put, without_structure}
 use Rattle.lent_structures.proofs.Names.{with_here, with_there, gone_there, put_beside, put_else}
 use Rattle.lent_structures.proofs.Writing.{word_put_element}
-use Rattle.queue_parts.specs.Sound.{LeadsOn, element_pages, buffer_name, HasBuffer, IsSoundElement, AreOwn}
-use Rattle.queue_parts.proofs.Altering.{same_element, found_element, no_two}
-use Rattle.ring_walk.specs.Hand.{Hand}
-use Rattle.ring_walk.specs.Ring.{Base}
-use Rattle.ring_stores.specs.Stores.{IsUnnamed, NamesOne, IsUnled, IsUnused}
-use Rattle.ring_stores.proofs.Parting.{Spans, sound_spanned, queue_spanned, some_none, found_with, found_without}
-use Rattle.frame_parts.specs.Met.{Kind, IsMetQueue, IsMetAs}
-use Rattle.frame_parts.specs.FrameHand.{FrameHand}
-use Rattle.frame_parts.specs.Frame.{IsFrame}
+use Rattle.lent_structures.specs.Sound.{LeadsOn, element_pages, buffer_name, HasBuffer, IsSoundElement, AreOwn}
+use Rattle.lent_structures.proofs.Altering.{same_element, found_element, no_two}
+use Rattle.ring_laws.specs.Hand.{Hand}
+use Rattle.ring_laws.specs.Ring.{Base}
+use Rattle.ring_laws.specs.Stores.{IsUnnamed, NamesOne, IsUnled, IsUnused}
+use Rattle.ring_laws.proofs.Parting.{Spans, sound_spanned, queue_spanned, some_none, found_with, found_without}
+use Rattle.frame_walk.specs.Met.{Kind, IsMetQueue, IsMetAs}
+use Rattle.frame_walk.specs.FrameHand.{FrameHand}
+use Rattle.frame_walk.specs.Frame.{IsFrame}
 use Rattle.frame_control.specs.Both.{AreMet, RunsBoth}
 use Rattle.frame_stores.proofs.Linking.{met_put}
 use Rattle.frame_stores.proofs.Framing.{there, keeps_put, frame_retold}

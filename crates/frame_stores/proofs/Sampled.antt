@@ -4,13 +4,13 @@ use Rattle.std.proofs.lemmas.Bool.{eqb-true}
 use Rattle.std.proofs.lemmas.Option.{same_Some}
 use Rattle.link_words.specs.Links.{link_read, no_link}
 use Rattle.hc_core.specs.Controller.{began}
-use Rattle.ring_walk.specs.Hand.{Empty}
+use Rattle.ring_laws.specs.Hand.{Empty}
 use Rattle.lent_structures.specs.Structures.{Structure, QueueHead, Isochronous}
-use Rattle.frame_parts.specs.Met.{Kind, AQueue, AnItd, LeadsTo}
-use Rattle.frame_parts.specs.FrameHand.{Nothing, OfItd}
-use Rattle.frame_parts.specs.Frame.{IsFrame}
-use Rattle.frame_parts.specs.Samples.{itd, met, parts, at, in_hand, fetched}
-use Rattle.frame_parts.proofs.Sampled.{before_it, after_it}
+use Rattle.frame_walk.specs.Met.{Kind, AQueue, AnItd, LeadsTo}
+use Rattle.frame_walk.specs.FrameHand.{Nothing, OfItd}
+use Rattle.frame_walk.specs.Frame.{IsFrame}
+use Rattle.frame_walk.specs.PartSamples.{itd, met, parts, at, in_hand, fetched}
+use Rattle.frame_walk.proofs.PartSampled.{before_it, after_it}
 use Rattle.frame_control.specs.Both.{RunsBoth}
 use Rattle.frame_control.specs.Samples as both
 use Rattle.frame_control.proofs.Sampled.{both_run}

@@ -11,11 +11,11 @@ use Rattle.hc_core.specs.declared.controller.MicroframePart.TheVariants.{Over, P
 use Rattle.hc_core.specs.Controller.{Content, frame_place, walk_place, began}
 use Rattle.lent_structures.specs.Structures.{Structure, Table, StructureSets, put, without, Holds, Has, Tells}
 use Rattle.lent_structures.specs.Changes.{Leaves, IsNew}
-use Rattle.ring_walk.specs.Hand.{Hand, Empty}
-use Rattle.ring_walk.specs.Ring.{Base, base_of, IsRing}
-use Rattle.ring_control.specs.Control.{FrameList}
-use Rattle.frame_parts.specs.Met.{Kind, LeadsTo, IsMetAs}
-use Rattle.frame_parts.specs.FrameHand.{FrameHand, Nothing}
+use Rattle.ring_laws.specs.Hand.{Hand, Empty}
+use Rattle.ring_laws.specs.Ring.{Base, base_of, IsRing}
+use Rattle.controlled_streams.specs.Control.{FrameList}
+use Rattle.frame_walk.specs.Met.{Kind, LeadsTo, IsMetAs}
+use Rattle.frame_walk.specs.FrameHand.{FrameHand, Nothing}
 use Rattle.frame_control.specs.Both.{LeadToMet, AreMet, AreApart, RunsBoth}
 use Rattle.frame_stores.specs.Stores.{HasLink, linked, frame_linked, KeepsMet, LeavesMet, LeavesMembers, IsMetFurther, AreMetAmong, IsFrameAmong}
 

@@ -10,9 +10,9 @@ use Rattle.link_words.specs.Links.{link_of, link_read, link_fields, IsLinkWord}
 use Rattle.periodic_walk.specs.Place.{FramePlace}
 use Rattle.lent_structures.specs.Structures.{Structure, Table, StructureSets, with_structure, put, without_structure, without, Holds, Has, Tells}
 use Rattle.lent_structures.specs.Changes.{Leaves, IsNew}
-use Rattle.frame_parts.specs.Met.{Kind, LeadsTo, IsMetAs}
-use Rattle.frame_parts.specs.FrameHand.{FrameHand}
-use Rattle.frame_parts.specs.Frame.{IsFrame}
+use Rattle.frame_walk.specs.Met.{Kind, LeadsTo, IsMetAs}
+use Rattle.frame_walk.specs.FrameHand.{FrameHand}
+use Rattle.frame_walk.specs.Frame.{IsFrame}
 use Rattle.frame_control.specs.Both.{AreMet}
 use Rattle.frame_stores.specs.Stores.{HasLink, link_in, linked, frame_linked, KeepsMet, LeavesMet, IsMetFurther, AreMetAmong, IsFrameAmong}
 

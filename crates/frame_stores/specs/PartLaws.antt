@@ -6,13 +6,13 @@ use Rattle.qh_qtd.specs.Qtd.{qtd_words, IsQtdInRange}
 use Rattle.periodic_walk.specs.Place.{FramePlace}
 use Rattle.hc_core.specs.Controller.{Content}
 use Rattle.lent_structures.specs.Structures.{Element, Buffer, Structures, StructureSets, with_structure, put, without_structure}
-use Rattle.queue_parts.specs.Sound.{IsSoundElement}
-use Rattle.ring_walk.specs.Hand.{Hand}
-use Rattle.ring_walk.specs.Ring.{Base}
-use Rattle.ring_stores.specs.Stores.{IsUnnamed, NamesOne, IsUnled, IsUnused}
-use Rattle.frame_parts.specs.Met.{Kind, IsMetQueue, IsMetAs}
-use Rattle.frame_parts.specs.FrameHand.{FrameHand}
-use Rattle.frame_parts.specs.Frame.{IsFrame}
+use Rattle.lent_structures.specs.Sound.{IsSoundElement}
+use Rattle.ring_laws.specs.Hand.{Hand}
+use Rattle.ring_laws.specs.Ring.{Base}
+use Rattle.ring_laws.specs.Stores.{IsUnnamed, NamesOne, IsUnled, IsUnused}
+use Rattle.frame_walk.specs.Met.{Kind, IsMetQueue, IsMetAs}
+use Rattle.frame_walk.specs.FrameHand.{FrameHand}
+use Rattle.frame_walk.specs.Frame.{IsFrame}
 use Rattle.frame_control.specs.Both.{RunsBoth}
 
 -- an inactive qTD changes, or is added

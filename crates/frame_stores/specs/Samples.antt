@@ -13,8 +13,8 @@ use Rattle.link_words.specs.Fields.{link_rows}
 use Rattle.link_words.specs.Links.{no_link}
 use Rattle.hc_core.specs.Controller.{Content}
 use Rattle.lent_structures.specs.Structures.{Structure, Table, Isochronous, StructureSets, put}
-use Rattle.frame_parts.specs.Met.{Kind, AnItd}
-use Rattle.frame_parts.specs.Samples as frame
+use Rattle.frame_walk.specs.Met.{Kind, AnItd}
+use Rattle.frame_walk.specs.PartSamples as frame
 use Rattle.frame_control.specs.Samples as both
 use Rattle.frame_stores.specs.Stores.{linked}
 

@@ -18,9 +18,9 @@ use Rattle.link_words.specs.declared.fields.LinkBits.{LinkBits}
 use Rattle.link_words.specs.Links.{link_of}
 use Rattle.periodic_walk.specs.Place.{FramePlace}
 use Rattle.lent_structures.specs.Structures.{Structure, QueueHead, Element, Buffer, Table, Isochronous, SplitIsochronous, StructureSets}
-use Rattle.ring_stores.specs.Stores.{copy_linked}
-use Rattle.frame_parts.specs.Met.{Kind, AQueue, AnItd, ASitd, LeadsTo}
-use Rattle.frame_parts.specs.FrameHand.{ItdCopy, SitdCopy, FrameHand, Nothing, OfQueue, OfSettled, OfItd, OfSitd}
+use Rattle.ring_laws.specs.Stores.{copy_linked}
+use Rattle.frame_walk.specs.Met.{Kind, AQueue, AnItd, ASitd, LeadsTo}
+use Rattle.frame_walk.specs.FrameHand.{ItdCopy, SitdCopy, FrameHand, Nothing, OfQueue, OfSettled, OfItd, OfSitd}
 
 -- ---- links
 

@@ -7,11 +7,11 @@ use Rattle.async_walk.specs.declared.state.WalkStep.TheVariants as steps
 use Rattle.periodic_walk.specs.Place.{FramePlace}
 use Rattle.periodic_walk.specs.Rows.{step_of}
 use Rattle.lent_structures.specs.Structures.{StructureSets}
-use Rattle.ring_walk.specs.Ring.{Base}
-use Rattle.frame_parts.specs.Met.{Kind}
-use Rattle.frame_parts.specs.FrameHand.{FrameHand}
-use Rattle.frame_parts.specs.Frame.{IsFrame}
-use Rattle.frame_parts.specs.FrameEffects.{FrameHappens}
+use Rattle.ring_laws.specs.Ring.{Base}
+use Rattle.frame_walk.specs.Met.{Kind}
+use Rattle.frame_walk.specs.FrameHand.{FrameHand}
+use Rattle.frame_walk.specs.Frame.{IsFrame}
+use Rattle.frame_walk.specs.FrameEffects.{FrameHappens}
 use Rattle.frame_walk.specs.Walks.{HearsBytes, Walks, over, and_then, IsNoFault, IsWalked}
 use Rattle.frame_walk.proofs.Walking.{event_happens, foreign_stays, never_a_fault}
 

@@ -9,17 +9,17 @@ use Rattle.periodic_walk.specs.Place.{FramePlace, Effect, HasEffect}
 use Rattle.periodic_walk.specs.Place.Effect.{Leaves, Asks}
 use Rattle.periodic_walk.specs.Rows.{step_of, effect_of, Leads}
 use Rattle.lent_structures.specs.Structures.{StructureSets}
-use Rattle.ring_walk.specs.Effects.{AreBytesHeard}
-use Rattle.frame_parts.specs.Met.{Kind}
-use Rattle.frame_parts.specs.FrameHand.{FrameHand, Nothing, OfQueue, OfSettled, OfItd, OfSitd}
-use Rattle.frame_parts.specs.Frame.{IsFrame}
-use Rattle.frame_parts.specs.FrameEffects.{FrameHappens}
-use Rattle.frame_steps.proofs.Stepping.{no_fault, not_refused}
-use Rattle.frame_fetches.proofs.Fetching.{nothing_happens}
-use Rattle.frame_queue_steps.proofs.Stepping.{copied_event}
-use Rattle.frame_queue_steps.proofs.WritingBack.{settled_event}
-use Rattle.frame_itd_steps.proofs.Happening.{itd_happens}
-use Rattle.frame_sitd_steps.proofs.Steps.{sitd_happens}
+use Rattle.ring_laws.specs.Effects.{AreBytesHeard}
+use Rattle.frame_walk.specs.Met.{Kind}
+use Rattle.frame_walk.specs.FrameHand.{FrameHand, Nothing, OfQueue, OfSettled, OfItd, OfSitd}
+use Rattle.frame_walk.specs.Frame.{IsFrame}
+use Rattle.frame_walk.specs.FrameEffects.{FrameHappens}
+use Rattle.frame_walk.proofs.StepStepping.{no_fault, not_refused}
+use Rattle.frame_walk.proofs.Fetching.{nothing_happens}
+use Rattle.frame_walk.proofs.QueueStepStepping.{copied_event}
+use Rattle.frame_walk.proofs.WritingBack.{settled_event}
+use Rattle.frame_walk.proofs.Happening.{itd_happens}
+use Rattle.frame_walk.proofs.Steps.{sitd_happens}
 
 module _ {W : Type 0} (transacts : W → Ask → List ℕ → Reply → W → Type 0) (met : ℕ → Option Kind) (parts : StructureSets) where
   pub event_happens : (hand : FrameHand) (p : FramePlace) (wire : W) (new : FramePlace) (after : W) → IsFrame met parts hand p → AreBytesHeard transacts wire after → Leads transacts p wire new after → FrameHappens transacts met parts hand wire after p new (step_of p)

@@ -12,11 +12,11 @@ use Rattle.async_walk.specs.declared.state.WalkStep.TheVariants as steps
 use Rattle.periodic_walk.specs.Place.{FramePlace}
 use Rattle.periodic_walk.specs.Rows.{step_of, Leads}
 use Rattle.lent_structures.specs.Structures.{StructureSets}
-use Rattle.ring_walk.specs.Ring.{base_of}
-use Rattle.ring_walk.specs.Effects.{AreBytesHeard}
-use Rattle.frame_parts.specs.Met.{Kind}
-use Rattle.frame_parts.specs.FrameHand.{FrameHand}
-use Rattle.frame_parts.specs.Frame.{IsFrame}
+use Rattle.ring_laws.specs.Ring.{base_of}
+use Rattle.ring_laws.specs.Effects.{AreBytesHeard}
+use Rattle.frame_walk.specs.Met.{Kind}
+use Rattle.frame_walk.specs.FrameHand.{FrameHand}
+use Rattle.frame_walk.specs.Frame.{IsFrame}
 
 abbrev pub HearsBytes : {W : Type 0} → (W → Ask → List ℕ → Reply → W → Type 0) → Type 0
 HearsBytes {W} transacts = (before after : W) → AreBytesHeard transacts before after

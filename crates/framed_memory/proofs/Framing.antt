@@ -5,17 +5,17 @@ use Rattle.usb_base.specs.declared.packets.Reply.{Reply}
 use Rattle.aligned_copies.proofs.Controlling.{event_aligned}
 use Rattle.run_owners.specs.Owners.{Views, views_of}
 use Rattle.lent_structures.specs.Structures.{StructureSets}
-use Rattle.ring_walk.specs.Ring.{Base}
-use Rattle.ring_control.specs.Control.{IsOn}
-use Rattle.driver_parts.specs.Driven.{IsOperating}
-use Rattle.driver_parts.proofs.Sorts.{driven_same}
-use Rattle.driver_releases.specs.Extents.{KeepExtents, AreInRuns}
-use Rattle.driver_releases.proofs.Extending.{extents_stay}
+use Rattle.ring_laws.specs.Ring.{Base}
+use Rattle.controlled_streams.specs.Control.{IsOn}
+use Rattle.driver_laws.specs.Driven.{IsOperating}
+use Rattle.driver_laws.proofs.Sorts.{driven_same}
+use Rattle.driver_laws.specs.Extents.{KeepExtents, AreInRuns}
+use Rattle.driver_laws.proofs.Extending.{extents_stay}
 use Rattle.frame_walk.proofs.Walking.{event_happens}
 use Rattle.frame_control.specs.Both.{RunsBoth, ControlsBoth}
 use Rattle.frame_control.proofs.Running.{event_runs}
 use Rattle.described_parts.specs.Both.{both, parts_now}
-use Rattle.described_parts.specs.Laws.{IsDescribing, AreStill}
+use Rattle.described_parts.specs.PartLaws.{IsDescribing, AreStill}
 use Rattle.described_parts.proofs.Stays.{described_stay}
 use Rattle.frame_keeps.specs.Kept.{KeepsParts}
 use Rattle.kept_frames.proofs.Both.{both_keep}

@@ -7,9 +7,9 @@ use Rattle.driver_rows.specs.declared.content.Reserve.{Reserve}
 use Rattle.driver_rows.specs.Opening.{opening}
 use Rattle.run_owners.specs.Owners.{TransferRuns, transfer_in, views_of}
 use Rattle.lent_structures.specs.Structures.{Structure, Table}
-use Rattle.ring_walk.specs.Hand.{Empty}
-use Rattle.driver_parts.specs.Opened.{empty_list, no_parts, opening_base, opening_parts, is_head}
-use Rattle.driver_releases.specs.Extents.{AreInRuns}
+use Rattle.ring_laws.specs.Hand.{Empty}
+use Rattle.driver_laws.specs.PartOpened.{empty_list, no_parts, opening_base, opening_parts, is_head}
+use Rattle.driver_laws.specs.Extents.{AreInRuns}
 use Rattle.shared_memory.specs.Shared.{IsShared}
 use Rattle.shared_memory.proofs.Sharing.{opening_shared}
 use Rattle.list_driver.proofs.Rows.{opening_keeps}

@@ -20,20 +20,20 @@ use Rattle.driver_rows.specs.Rows.{Parts, doorbell_command, driver_row, after_dr
 use Rattle.run_book.specs.declared.slots.Slot.{Slot}
 use Rattle.run_owners.specs.Owners.{SlotHas, Views, descriptor_in, views_of}
 use Rattle.lent_structures.specs.Structures.{StructureSets}
-use Rattle.ring_walk.specs.Hand.{Hand}
-use Rattle.ring_walk.specs.Ring.{Base, base_of}
-use Rattle.ring_walk.proofs.Ringing.{ring_at, cursor_same}
-use Rattle.driver_parts.specs.Inventory.{sorts_of, IsLent}
-use Rattle.driver_parts.specs.Driven.{IsOperating, is_quiet}
-use Rattle.driver_parts.proofs.Viewing.{SameViews, same_views, harvest_views, driven_views}
-use Rattle.driver_releases.specs.Extents.{AreInRuns}
-use Rattle.driver_releases.proofs.Extending.{extents_stay}
+use Rattle.ring_laws.specs.Hand.{Hand}
+use Rattle.ring_laws.specs.Ring.{Base, base_of}
+use Rattle.ring_laws.proofs.Ringing.{ring_at, cursor_same}
+use Rattle.driver_laws.specs.Inventory.{sorts_of, IsLent}
+use Rattle.driver_laws.specs.Driven.{IsOperating, is_quiet}
+use Rattle.driver_laws.proofs.Viewing.{SameViews, same_views, harvest_views, driven_views}
+use Rattle.driver_laws.specs.Extents.{AreInRuns}
+use Rattle.driver_laws.proofs.Extending.{extents_stay}
 use Rattle.in_place.proofs.Laws.{event_in_place}
 use Rattle.shared_memory.specs.Shared.{parts_of, next_parts, after_driver}
 use Rattle.list_driver.proofs.Rows.{event_keeps}
-use Rattle.frame_parts.specs.Met.{Kind}
-use Rattle.frame_parts.specs.FrameHand.{FrameHand}
-use Rattle.frame_parts.specs.Frame.{IsFrameWalk}
+use Rattle.frame_walk.specs.Met.{Kind}
+use Rattle.frame_walk.specs.FrameHand.{FrameHand}
+use Rattle.frame_walk.specs.Frame.{IsFrameWalk}
 use Rattle.frame_control.specs.Both.{RunsBoth}
 use Rattle.described_parts.specs.Both.{both, SameDescriptors}
 use Rattle.described_parts.proofs.Stays.{described_follow}

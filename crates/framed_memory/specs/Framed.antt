@@ -17,19 +17,19 @@ use Rattle.driver_rows.specs.Opening.{opening}
 use Rattle.driver_rows.specs.Rows.{driver_row}
 use Rattle.run_owners.specs.Owners.{views_of}
 use Rattle.lent_structures.specs.Structures.{StructureSets}
-use Rattle.ring_walk.specs.Hand.{Hand, Empty}
-use Rattle.ring_walk.specs.Ring.{Base}
-use Rattle.ring_walk.specs.Effects.{AreBytesHeard}
-use Rattle.driver_parts.specs.Inventory.{sorts_of, IsDriven}
-use Rattle.driver_parts.specs.Driven.{IsOperating, is_quiet}
-use Rattle.driver_parts.specs.Opened.{no_parts, opening_base, opening_parts, is_head}
-use Rattle.driver_releases.specs.Extents.{AreInRuns}
+use Rattle.ring_laws.specs.Hand.{Hand, Empty}
+use Rattle.ring_laws.specs.Ring.{Base}
+use Rattle.ring_laws.specs.Effects.{AreBytesHeard}
+use Rattle.driver_laws.specs.Inventory.{sorts_of, IsDriven}
+use Rattle.driver_laws.specs.Driven.{IsOperating, is_quiet}
+use Rattle.driver_laws.specs.PartOpened.{no_parts, opening_base, opening_parts, is_head}
+use Rattle.driver_laws.specs.Extents.{AreInRuns}
 use Rattle.in_place.specs.InPlace.{IsInPlace}
 use Rattle.shared_memory.specs.Shared.{parts_of, next_parts, after_driver}
 use Rattle.iso_frames.specs.Frames.{AreInFrames}
 use Rattle.list_driver.specs.Kept.{KeepsItsList}
-use Rattle.frame_parts.specs.Met.{Kind}
-use Rattle.frame_parts.specs.FrameHand.{FrameHand, Nothing}
+use Rattle.frame_walk.specs.Met.{Kind}
+use Rattle.frame_walk.specs.FrameHand.{FrameHand, Nothing}
 use Rattle.frame_control.specs.Both.{RunsBoth, ControlsBoth}
 use Rattle.described_parts.specs.Described.{AreDescribed}
 use Rattle.described_parts.specs.Both.{both, descs_now, parts_now}

@@ -18,11 +18,11 @@ use Rattle.qh_qtd.specs.Token.{token_at}
 use Rattle.qh_qtd.specs.Qtd.{qtd_read, qtd_at, qtd_bad}
 use Rattle.lent_structures.specs.Structures.{Element, Buffer, StructureSets, Tells}
 use Rattle.lent_structures.proofs.Reading.{element_read, bytes_part}
-use Rattle.queue_parts.specs.Sound.{element_pages, buffer_name, IsMember}
-use Rattle.ring_walk.specs.Hand.{Hand}
-use Rattle.ring_walk.specs.Effects.{bytes_in, buffer_of}
-use Rattle.ring_streams.specs.Told.{Told}
-use Rattle.ring_order.proofs.Ordering.{done_told}
+use Rattle.lent_structures.specs.Sound.{element_pages, buffer_name, IsMember}
+use Rattle.ring_laws.specs.Hand.{Hand}
+use Rattle.ring_laws.specs.Effects.{bytes_in, buffer_of}
+use Rattle.ring_laws.specs.Told.{Told}
+use Rattle.ring_laws.proofs.Ordering.{done_told}
 use Rattle.driver_rows.specs.declared.content.QtdNote.{QtdNote}
 use Rattle.driver_rows.specs.Harvests.{token_in, moved_of, buffer_address, buffer_bytes}
 use Rattle.harvested_streams.specs.Harvested.{IsNoted}

@@ -8,9 +8,9 @@ use Rattle.word_mem.specs.Memory.{Mem}
 use Rattle.buffers.specs.Bytes.{place}
 use Rattle.qh_qtd.specs.declared.qtd.Qtd.{Qtd}
 use Rattle.lent_structures.specs.Structures.{Element, Buffer, StructureSets, Tells}
-use Rattle.queue_parts.specs.Sound.{element_pages, buffer_name, IsMember}
-use Rattle.ring_walk.specs.Hand.{Hand}
-use Rattle.ring_streams.specs.Told.{Told}
+use Rattle.lent_structures.specs.Sound.{element_pages, buffer_name, IsMember}
+use Rattle.ring_laws.specs.Hand.{Hand}
+use Rattle.ring_laws.specs.Told.{Told}
 use Rattle.driver_rows.specs.declared.content.QtdNote.{QtdNote}
 use Rattle.driver_rows.specs.Harvests.{token_in, moved_of, buffer_address, buffer_bytes}
 

@@ -1,6 +1,6 @@
 //! What a harvest reads (EHCI 1.0, 3.5.4 and 4.10): of a qTD that is done a driver reads exactly the bytes that were moved.
 //!
-//! The crate has no code of its own: its function is a law over the definitions of `driver_rows` and `ring_order`, and its body is empty.
+//! The crate has no code of its own: its function is a law over the definitions of `driver_rows` and `ring_laws`, and its body is empty.
 #![tactic(auto)]
 
 ghost use Rattle.harvested_streams.specs.Harvested.{TokenIsRead, BytesAreRead, DoneIsHarvested};

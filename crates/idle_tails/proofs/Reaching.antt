@@ -29,12 +29,12 @@ use Rattle.chained_transfers.specs.Turns.{IsAtPlace}
 use Rattle.lent_runs.specs.Lent.{AreLent, IsLent as IsLentSlot}
 use Rattle.lent_runs.proofs.Laws.{idle_lent}
 use Rattle.lent_structures.specs.Structures.{QueueHead, Element, Structures, StructureSets}
-use Rattle.queue_parts.specs.Sound.{IsElement, LeadsOn, IsSoundQueue, IsMember}
-use Rattle.queue_parts.proofs.Altering.{found_element, found_queue}
-use Rattle.driver_parts.specs.Inventory.{IsLent}
-use Rattle.ring_order.specs.Order.{IsAmong}
-use Rattle.ring_fronts.specs.Front.{own_pointer, IsFront, IsBehind, HasFront, LinksWithin}
-use Rattle.ring_fronts.proofs.Tails.{last_is_tail}
+use Rattle.lent_structures.specs.Sound.{IsElement, LeadsOn, IsSoundQueue, IsMember}
+use Rattle.lent_structures.proofs.Altering.{found_element, found_queue}
+use Rattle.driver_laws.specs.Inventory.{IsLent}
+use Rattle.ring_laws.specs.Order.{IsAmong}
+use Rattle.ring_laws.specs.Front.{own_pointer, IsFront, IsBehind, HasFront, LinksWithin}
+use Rattle.ring_laws.proofs.Tails.{last_is_tail}
 use Rattle.fed_queues.specs.Fed.{IsPieceFed, unpublished_of, AreFed}
 use Rattle.fed_queues.specs.Places.{IsMet, IsLast, AreLast, AreStillOut}
 use Rattle.released_queues.specs.Fronts.{piece_address, end_at, StandsAt}

@@ -7,7 +7,7 @@ use Rattle.run_owners.specs.Kept.{HasOwners}
 use Rattle.chained_transfers.specs.InTurn.{TakesTurns}
 use Rattle.lent_runs.specs.Lent.{AreLent}
 use Rattle.lent_structures.specs.Structures.{StructureSets}
-use Rattle.queue_parts.specs.Sound.{IsMember}
+use Rattle.lent_structures.specs.Sound.{IsMember}
 use Rattle.fed_queues.specs.Fed.{AreFed}
 use Rattle.fed_queues.specs.Places.{AreLast, AreStillOut, IsMet}
 use Rattle.released_queues.specs.Fronts.{FrontsStand}

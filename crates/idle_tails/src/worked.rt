@@ -1,6 +1,6 @@
 //! Worked rows.
 ghost use Rattle.std.specs.Prelude.{ℕ};
-ghost use Rattle.ring_fronts.specs.Front.{IsFront};
+ghost use Rattle.ring_laws.specs.Front.{IsFront};
 ghost use Rattle.idle_tails.specs.Worked.{halted, at_rest, goes_on};
 
 /// An overlay that is halted tells no front, nor does one at rest with no link; one that goes on has it at that qTD.

@@ -8,12 +8,12 @@ use Rattle.hc_core.specs.declared.controller.MicroframePart.TheVariants.{Periodi
 use Rattle.lent_writes.proofs.Controlling.{controller_writes_lent}
 use Rattle.aligned_copies.proofs.Controlling.{aligned_placed}
 use Rattle.lent_structures.specs.Structures.{StructureSets}
-use Rattle.ring_walk.specs.Hand.{Hand}
-use Rattle.ring_walk.specs.Ring.{Base}
-use Rattle.ring_control.specs.Control.{a_microframe, a_step}
-use Rattle.frame_parts.specs.Met.{Kind}
-use Rattle.frame_parts.specs.FrameHand.{FrameHand}
-use Rattle.frame_parts.specs.Frame.{IsFrame}
+use Rattle.ring_laws.specs.Hand.{Hand}
+use Rattle.ring_laws.specs.Ring.{Base}
+use Rattle.controlled_streams.specs.Control.{a_microframe, a_step}
+use Rattle.frame_walk.specs.Met.{Kind}
+use Rattle.frame_walk.specs.FrameHand.{FrameHand}
+use Rattle.frame_walk.specs.Frame.{IsFrame}
 use Rattle.frame_control.specs.Both.{RunsBoth, of_ring, of_frame}
 use Rattle.frame_control.proofs.Staying.{ring_leaves, frame_leaves}
 use Rattle.frame_keeps.proofs.Framing.{frame_keeps}

@@ -1,6 +1,6 @@
 //! A worked row, which the check computes: of a ring with its head alone, and frames that all lead to the queue head of an interrupt endpoint.
-ghost use Rattle.ring_walk.specs.Hand.{Empty};
-ghost use Rattle.frame_parts.specs.FrameHand.{Nothing};
+ghost use Rattle.ring_laws.specs.Hand.{Empty};
+ghost use Rattle.frame_walk.specs.FrameHand.{Nothing};
 ghost use Rattle.frame_control.specs.Both.{RunsBoth};
 ghost use Rattle.frame_control.specs.Samples.{base, member, met, parts, opening};
 ghost use Rattle.aligned_copies.specs.Aligned.{AreAligned};

@@ -16,7 +16,7 @@ use Rattle.chained_transfers.specs.InTurn.{TakesTurns}
 use Rattle.chained_transfers.proofs.Commands.{is_accepted}
 use Rattle.standing_fronts.specs.Reaching.{Reaches}
 use Rattle.commanded_queues.proofs.Tails.{reaches_alike}
-use Rattle.told_queues.proofs.Standing.{refused_told}
+use Rattle.harvest_laws.proofs.Standing.{refused_told}
 use Rattle.leaving_drivers.specs.Before.{UnlinksAtMost, IsAsBefore, NearFewer}
 use Rattle.leaving_drivers.proofs.Alike.{near_fewer}
 use Rattle.leaving_drivers.proofs.Leaving.{cancel_as_before, clear_as_before}
@@ -24,7 +24,7 @@ use Rattle.leaving_drivers.proofs.Clearing.{clear_finds}
 use Rattle.left_queues.proofs.Same.{tails_now}
 use Rattle.left_reports.proofs.Before.{before_told}
 use Rattle.bus_world.specs.World.{World, driver_parts, with_parts, refused_line, commanded_by}
-use Rattle.world_streams.specs.Streaming.{Standing}
+use Rattle.stream_worlds.specs.Streaming.{Standing}
 use Rattle.whole_worlds.specs.Whole.{tail_block, tail_of}
 use Rattle.leaving_worlds.specs.Beside.{IsTold, LeaveKeepsTails, CancelKeepsTold, ClearKeepsTold}
 

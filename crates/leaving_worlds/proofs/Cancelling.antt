@@ -11,23 +11,23 @@ use Rattle.driver_rows.specs.Offers.{Offered, offered, IsOffered}
 use Rattle.driver_rows.specs.Words.{head_block, queue_head}
 use Rattle.run_owners.specs.Accepts.{Cancels}
 use Rattle.hc_core.specs.Controller.{content}
-use Rattle.driver_parts.specs.Opened.{opening_base}
-use Rattle.driver_parts.specs.Driven.{DrivesRing}
-use Rattle.driver_accepts.proofs.Commanding.{cancel_drives}
-use Rattle.ring_control.specs.Control.{IsFrameless, off, empty}
+use Rattle.driver_laws.specs.PartOpened.{opening_base}
+use Rattle.driver_laws.specs.Driven.{DrivesRing}
+use Rattle.driver_laws.proofs.Commanding.{cancel_drives}
+use Rattle.controlled_streams.specs.Control.{IsFrameless, off, empty}
 use Rattle.in_place.specs.InPlace.{IsInPlace}
 use Rattle.in_place.proofs.Laws.{command_in_place}
 use Rattle.worlds_in_place.proofs.Refused.{refused_in_place}
 use Rattle.bus_world.specs.World.{World, controller_parts, refused_line, commanded_by}
-use Rattle.world_streams.specs.Streaming.{Streams, Standing}
+use Rattle.stream_worlds.specs.Streaming.{Streams, Standing}
 use Rattle.shared_worlds.specs.Working.{IsWorking}
 use Rattle.chained_transfers.specs.Bulk.{receives}
 use Rattle.chained_transfers.specs.InTurn.{TakesTurns}
 use Rattle.chained_transfers.proofs.Commands.{is_accepted, cancel_leaves}
-use Rattle.fed_commands.specs.Commands.{QueuesStand}
+use Rattle.fed_lends.specs.Commands.{QueuesStand}
 use Rattle.async_walk.specs.Rows.{place}
 use Rattle.lent_structures.specs.Structures.{StructureSets}
-use Rattle.ring_streams.specs.Told.{Endpoint as Told, endpoint_of}
+use Rattle.ring_laws.specs.Told.{Endpoint as Told, endpoint_of}
 use Rattle.fed_queues.specs.Fed.{IsPublished}
 use Rattle.fed_queues.specs.Places.{HasHead, AreMet, HaveStreams}
 use Rattle.fed_queues.proofs.Places.{SameQueues, same_ends, met_stays, streams_stay}

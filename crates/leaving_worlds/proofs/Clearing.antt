@@ -15,11 +15,11 @@ use Rattle.hc_core.specs.Controller.{walk_place}
 use Rattle.chained_transfers.specs.InTurn.{TakesTurns}
 use Rattle.chained_transfers.proofs.Events.{event_turns}
 use Rattle.walk_members.specs.Reached.{IsWalkIn}
-use Rattle.ring_stores.specs.Stores.{IsWider}
-use Rattle.driver_parts.specs.Driven.{is_quiet}
-use Rattle.driver_parts.specs.Opened.{opening_base}
+use Rattle.ring_laws.specs.Stores.{IsWider}
+use Rattle.driver_laws.specs.Driven.{is_quiet}
+use Rattle.driver_laws.specs.PartOpened.{opening_base}
 use Rattle.fed_queues.specs.Places.{IsMet, HasHead, AreMet}
-use Rattle.open_stores.specs.Opens.{AreNamesApart}
+use Rattle.open_laws.specs.Opens.{AreNamesApart}
 use Rattle.reached_rings.specs.Reaching.{may_reach, is_reached, IsReachedIn}
 use Rattle.reached_rings.proofs.Narrowing.{narrow_ring}
 use Rattle.leaving_drivers.specs.Before.{IsAsBefore, NearFewer}
@@ -36,7 +36,7 @@ use Rattle.narrowed_streams.proofs.Narrowing.{ins_are_closed}
 use Rattle.scripted_streams.specs.Senders.{sender_of}
 use Rattle.bus_world.specs.World.{World, driver_parts, with_parts, driver_next, controller_parts}
 use Rattle.controlled_walks.proofs.Worlds.{driver_walks}
-use Rattle.world_streams.specs.Streaming.{Streams, Standing, wired}
+use Rattle.stream_worlds.specs.Streaming.{Streams, Standing, wired}
 use Rattle.shared_worlds.specs.Working.{IsWorking}
 use Rattle.shared_worlds.proofs.Worlds.{quiet_working}
 use Rattle.whole_worlds.specs.Feeding.{IsFeeding}

@@ -11,10 +11,10 @@ use Rattle.driver_rows.specs.DriverContent.{DriverContent}
 use Rattle.driver_rows.specs.Rows.{driver_row}
 use Rattle.chained_transfers.specs.InTurn.{TakesTurns}
 use Rattle.lent_structures.specs.Structures.{StructureSets}
-use Rattle.told_queues.specs.Told.{ToldStands}
+use Rattle.harvest_laws.specs.Told.{ToldStands}
 use Rattle.leaving_drivers.specs.Before.{IsAsBefore, NearFewer}
 use Rattle.bus_world.specs.World.{World, driver_parts, driver_next, commanded}
-use Rattle.world_streams.specs.Streaming.{Standing}
+use Rattle.stream_worlds.specs.Streaming.{Standing}
 use Rattle.whole_worlds.specs.Whole.{TailsStand}
 
 pub record IsTold (s : Standing) (w : World) : Type 0 where

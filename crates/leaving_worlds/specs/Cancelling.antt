@@ -9,7 +9,7 @@ use Rattle.usb_bus.specs.Bus.{Fixed}
 use Rattle.driver_rows.specs.Offers.{IsOffered}
 use Rattle.chained_transfers.specs.Bulk.{OpensOrCancelsBulk}
 use Rattle.bus_world.specs.World.{World, commanded}
-use Rattle.world_streams.specs.Streaming.{Streams, Standing}
+use Rattle.stream_worlds.specs.Streaming.{Streams, Standing}
 use Rattle.whole_worlds.specs.Feeding.{IsFeeding}
 
 abbrev pub CancelFeeds : Type 0

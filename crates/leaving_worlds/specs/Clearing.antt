@@ -7,13 +7,13 @@ use Rattle.usb_bus.specs.Bus.{Fixed}
 use Rattle.driver_rows.specs.declared.rows.DriverRow.TheVariants as rows
 use Rattle.driver_rows.specs.DriverContent.{DriverContent}
 use Rattle.driver_rows.specs.Rows.{driver_row}
-use Rattle.open_stores.specs.Opens.{AreNamesApart}
+use Rattle.open_laws.specs.Opens.{AreNamesApart}
 use Rattle.reached_rings.specs.Reaching.{IsReachedIn}
 use Rattle.closed_streams.specs.Left.{heads_met, names_kept}
 use Rattle.narrowed_streams.specs.Narrowed.{left_names}
 use Rattle.bus_world.specs.World.{World, driver_parts, driver_next}
 use Rattle.controlled_walks.specs.Worlds.{IsWalking}
-use Rattle.world_streams.specs.Streaming.{Streams, Standing}
+use Rattle.stream_worlds.specs.Streaming.{Streams, Standing}
 use Rattle.whole_worlds.specs.Feeding.{IsFeeding}
 
 abbrev pub narrowed_to : Streams → DriverContent → (ℕ → Bool) → Streams

@@ -3,7 +3,7 @@
 --     one_stream       .. and then
 use Rattle.std.specs.Prelude.{[], true}
 use Rattle.narrowed_streams.specs.Samples.{after, narrow, streams, ends}
-use Rattle.world_streams.specs.Streaming.{Streams}
+use Rattle.stream_worlds.specs.Streaming.{Streams}
 use Rattle.leaving_worlds.specs.Clearing.{narrowed_to}
 
 abbrev pub both_streams : Streams

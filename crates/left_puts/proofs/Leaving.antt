@@ -6,18 +6,18 @@ use Rattle.qh_qtd.specs.declared.token.Token.{Token}
 use Rattle.driver_rows.specs.declared.content.Transfer.{Transfer}
 use Rattle.driver_rows.specs.DriverContent.{DriverContent}
 use Rattle.chained_transfers.specs.Bulk.{receives}
-use Rattle.spared_streams.specs.Sparing.{HasOverlay}
-use Rattle.ring_out_pipes.specs.OutBus.{Taker}
+use Rattle.ring_laws.specs.Sparing.{HasOverlay}
+use Rattle.ring_laws.specs.OutBus.{Taker}
 use Rattle.whole_sends.specs.Laws.{IsStopped}
 use Rattle.fed_queues.specs.Places.{IsThere}
 use Rattle.leaving_drivers.specs.Before.{IsAsBefore}
 use Rattle.leaving_drivers.proofs.Alike.{not_open, there_by, met_before}
-use Rattle.held_puts.proofs.Alike.{same_holds}
-use Rattle.sent_rows.specs.Sent.{OutsWere}
-use Rattle.sent_rows.proofs.Alike.{fewer_sent}
-use Rattle.taken_puts.specs.Puts.{puts_from, puts_of}
-use Rattle.owed_puts.proofs.Rests.{prefix_to}
-use Rattle.owed_puts.proofs.Same.{WereEnds, same_owes}
+use Rattle.put_laws.proofs.HeldAlike.{same_holds}
+use Rattle.put_laws.specs.Sent.{OutsWere}
+use Rattle.put_laws.proofs.SentAlike.{fewer_sent}
+use Rattle.put_laws.specs.TakenPuts.{puts_from, puts_of}
+use Rattle.put_laws.proofs.Rests.{prefix_to}
+use Rattle.put_laws.proofs.Same.{WereEnds, same_owes}
 use Rattle.left_puts.specs.Leaving.{LeaveHoldsPuts, LeaveOwes, LeaveSends, LeaveStops, LeaveKeepsTaken, KeptStayStopped}
 
 pub leave_holds : LeaveHoldsPuts

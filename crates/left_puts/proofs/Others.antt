@@ -15,14 +15,14 @@ use Rattle.run_owners.specs.Owners.{runs_of_endpoint, views_of}
 use Rattle.run_owners.specs.Kept.{HasOwners}
 use Rattle.run_owners.proofs.Released.{other_number, cancel_same}
 use Rattle.chained_transfers.specs.InTurn.{TakesTurns}
-use Rattle.driver_parts.specs.Inventory.{IsQueueIn}
+use Rattle.driver_laws.specs.Inventory.{IsQueueIn}
 use Rattle.fed_queues.specs.Places.{IsThere, IsMet}
-use Rattle.fed_commands.proofs.Asked.{set_which}
+use Rattle.fed_lends.proofs.Asked.{set_which}
 use Rattle.endpoint_releases.specs.Released.{IsToLeave, endpoint_row}
 use Rattle.endpoint_releases.proofs.Releasing.{queues_differ}
-use Rattle.taken_puts.specs.Puts.{puts_from}
-use Rattle.owed_puts.specs.Owed.{rest_from}
-use Rattle.owed_puts.proofs.Rests.{one_rest, one_none, waits_not}
+use Rattle.put_laws.specs.TakenPuts.{puts_from}
+use Rattle.put_laws.specs.Owed.{rest_from}
+use Rattle.put_laws.proofs.Rests.{one_rest, one_none, waits_not}
 
 -- ---- one transfer
 

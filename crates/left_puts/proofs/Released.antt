@@ -21,27 +21,27 @@ use Rattle.chained_transfers.specs.Chains.{piece_at}
 use Rattle.chained_transfers.specs.InTurn.{TakesTurns}
 use Rattle.chained_transfers.proofs.Holding.{held_alive}
 use Rattle.lent_structures.specs.Structures.{Structures, StructureSets}
-use Rattle.queue_parts.specs.Sound.{buffer_name}
-use Rattle.ring_walk.specs.Hand.{Hand}
-use Rattle.ring_walk.specs.Ring.{Base}
-use Rattle.ring_out_pipes.specs.OutBus.{Taker}
-use Rattle.driver_parts.specs.Driven.{DrivesRing}
-use Rattle.driver_releases.specs.Extents.{AreInRuns}
+use Rattle.lent_structures.specs.Sound.{buffer_name}
+use Rattle.ring_laws.specs.Hand.{Hand}
+use Rattle.ring_laws.specs.Ring.{Base}
+use Rattle.ring_laws.specs.OutBus.{Taker}
+use Rattle.driver_laws.specs.Driven.{DrivesRing}
+use Rattle.driver_laws.specs.Extents.{AreInRuns}
 use Rattle.whole_sends.specs.Whole.{AreSentWhole}
 use Rattle.whole_sends.specs.Laws.{IsStopped}
 use Rattle.fed_queues.specs.Fed.{AreFed}
 use Rattle.endpoint_releases.specs.Released.{without_queue, IsToLeave, endpoint_row}
 use Rattle.endpoint_releases.proofs.Owning.{queue_beside}
 use Rattle.endpoint_releases.proofs.Releasing.{release_drives}
-use Rattle.put_bytes.specs.Held.{held_bytes}
-use Rattle.held_puts.specs.Puts.{HoldsPuts}
-use Rattle.held_puts.proofs.Alike.{note_is, SameBytes, was_itself, puts_stay}
-use Rattle.held_puts.proofs.Stored.{IsStored, pieces_stored, buffer_stays, either_way}
-use Rattle.taken_puts.specs.Puts.{puts_from, puts_of}
-use Rattle.owed_puts.specs.Owed.{rest_from, rest_of, Owes}
-use Rattle.owed_puts.proofs.Bytes.{held_left}
-use Rattle.owed_puts.proofs.Rests.{prefix_to, waits_is, rest_alike}
-use Rattle.owed_puts.proofs.Same.{not_gone, kept, its_sort, its_bytes, idle_life}
+use Rattle.put_laws.specs.Held.{held_bytes}
+use Rattle.put_laws.specs.HeldPuts.{HoldsPuts}
+use Rattle.put_laws.proofs.HeldAlike.{note_is, SameBytes, was_itself, puts_stay}
+use Rattle.put_laws.proofs.Stored.{IsStored, pieces_stored, buffer_stays, either_way}
+use Rattle.put_laws.specs.TakenPuts.{puts_from, puts_of}
+use Rattle.put_laws.specs.Owed.{rest_from, rest_of, Owes}
+use Rattle.put_laws.proofs.Bytes.{held_left}
+use Rattle.put_laws.proofs.Rests.{prefix_to, waits_is, rest_alike}
+use Rattle.put_laws.proofs.Same.{not_gone, kept, its_sort, its_bytes, idle_life}
 use Rattle.left_puts.specs.Released.{EndpointReleaseHoldsPuts, EndpointReleaseOwes, EndpointReleaseSends, EndpointReleaseStops, EndpointReleaseKeepsTaken}
 use Rattle.left_puts.proofs.Others.{puts_let_go, rest_let_go, command_same, notes_same, transfers_are, which_end, other_end, held_back, owner_back, other_on, there_before, met_before, queues_apart}
 

@@ -8,9 +8,9 @@ use Rattle.driver_rows.specs.Rows.{after_driver_row, free_qtds, free_transfers}
 use Rattle.endpoint_lives.specs.Lives.{told_end, may_meet}
 use Rattle.endpoint_releases.specs.Released.{endpoint_row}
 use Rattle.leaving_drivers.specs.Before.{WasSame, IsAsBefore, NearSame}
-use Rattle.put_bytes.specs.Held.{held_bytes}
-use Rattle.owed_puts.specs.Owed.{rest_of}
-use Rattle.owed_puts.specs.Samples.{receiver, buffers, at_half}
+use Rattle.put_laws.specs.Held.{held_bytes}
+use Rattle.put_laws.specs.Owed.{rest_of}
+use Rattle.put_laws.specs.OwedSamples.{receiver, buffers, at_half}
 use Rattle.left_puts.specs.Samples.{cancelled_half, two_parts}
 
 none_behind : {X : Type 0} (x z : X) (i : ℕ) → slice_get (x ∷ []) (suc i) ≡ Some z → ⊥

@@ -4,7 +4,7 @@ use Rattle.driver_rows.specs.declared.rows.DriverRow.{DriverRow}
 use Rattle.driver_rows.specs.Rows.{Parts as DriverParts, after_driver_row}
 use Rattle.driver_rows.specs.Words.{queue_head_link}
 use Rattle.lent_structures.specs.Structures.{StructureSets}
-use Rattle.fed_stores.specs.Stores.{next_of}
+use Rattle.publish_laws.specs.Stores.{next_of}
 use Rattle.unlinked_streams.specs.Unlinks.{IsAtUnlink, parts_unlinked}
 use Rattle.unlinked_streams.proofs.Passing.{unlink_row_is}
 use Rattle.unlinked_streams.proofs.Streams.{unlink_spares_heads, unlink_leaves_sent}

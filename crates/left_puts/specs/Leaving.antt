@@ -12,14 +12,14 @@ use Rattle.driver_rows.specs.declared.content.Endpoint.{Endpoint}
 use Rattle.driver_rows.specs.DriverContent.{DriverContent}
 use Rattle.chained_transfers.specs.InTurn.{TakesTurns}
 use Rattle.lent_structures.specs.Structures.{StructureSets}
-use Rattle.ring_walk.specs.Hand.{Hand}
-use Rattle.spared_streams.specs.Sparing.{SparesHead}
-use Rattle.ring_out_pipes.specs.OutBus.{Taker}
+use Rattle.ring_laws.specs.Hand.{Hand}
+use Rattle.ring_laws.specs.Sparing.{SparesHead}
+use Rattle.ring_laws.specs.OutBus.{Taker}
 use Rattle.leaving_drivers.specs.Before.{IsAsBefore, NearFewer}
-use Rattle.held_puts.specs.Puts.{HoldsPuts}
-use Rattle.sent_rows.specs.Sent.{SentStand}
-use Rattle.owed_puts.specs.Owed.{Owes}
-use Rattle.owed_puts.specs.Taken.{TakenBegin, EndedAreStopped}
+use Rattle.put_laws.specs.HeldPuts.{HoldsPuts}
+use Rattle.put_laws.specs.Sent.{SentStand}
+use Rattle.put_laws.specs.Owed.{Owes}
+use Rattle.put_laws.specs.OwedTaken.{TakenBegin, EndedAreStopped}
 
 abbrev pub LeaveHoldsPuts : Type 0
 LeaveHoldsPuts = (d f : DriverContent) (m new : Mem) (puts : ℕ → List ℕ) → IsAsBefore d f → ((at : ℕ) → word_at new at ≡ word_at m at) → HoldsPuts d m puts → HoldsPuts f new puts

@@ -14,17 +14,17 @@ use Rattle.run_owners.specs.Owners.{views_of}
 use Rattle.run_owners.specs.Kept.{HasOwners}
 use Rattle.chained_transfers.specs.InTurn.{TakesTurns}
 use Rattle.lent_structures.specs.Structures.{StructureSets}
-use Rattle.ring_walk.specs.Hand.{Hand}
-use Rattle.ring_walk.specs.Ring.{Base}
-use Rattle.ring_out_pipes.specs.OutBus.{Taker}
-use Rattle.driver_parts.specs.Driven.{DrivesRing}
-use Rattle.driver_releases.specs.Extents.{AreInRuns}
+use Rattle.ring_laws.specs.Hand.{Hand}
+use Rattle.ring_laws.specs.Ring.{Base}
+use Rattle.ring_laws.specs.OutBus.{Taker}
+use Rattle.driver_laws.specs.Driven.{DrivesRing}
+use Rattle.driver_laws.specs.Extents.{AreInRuns}
 use Rattle.fed_queues.specs.Fed.{AreFed}
 use Rattle.endpoint_releases.specs.Released.{without_queue, IsToLeave, endpoint_row}
-use Rattle.held_puts.specs.Puts.{HoldsPuts}
-use Rattle.sent_rows.specs.Sent.{SentStand}
-use Rattle.owed_puts.specs.Owed.{Owes}
-use Rattle.owed_puts.specs.Taken.{TakenBegin, EndedAreStopped}
+use Rattle.put_laws.specs.HeldPuts.{HoldsPuts}
+use Rattle.put_laws.specs.Sent.{SentStand}
+use Rattle.put_laws.specs.Owed.{Owes}
+use Rattle.put_laws.specs.OwedTaken.{TakenBegin, EndedAreStopped}
 
 -- no command is unfinished then, so all that is out of their queues is lent
 abbrev pub EndpointReleaseHoldsPuts : Type 0

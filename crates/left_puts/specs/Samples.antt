@@ -13,9 +13,9 @@ use Rattle.driver_rows.specs.DriverContent.{DriverContent}
 use Rattle.driver_rows.specs.Offers.{new_endpoint}
 use Rattle.driver_rows.specs.Rows.{Parts as DriverParts}
 use Rattle.run_owners.specs.Worked.{bulk}
-use Rattle.put_bytes.specs.Samples.{five}
-use Rattle.held_puts.specs.Puts.{with_put}
-use Rattle.owed_puts.specs.Samples.{receiver, buffers, half_sent, driver_of}
+use Rattle.put_laws.specs.ByteSamples.{five}
+use Rattle.put_laws.specs.HeldPuts.{with_put}
+use Rattle.put_laws.specs.OwedSamples.{receiver, buffers, half_sent, driver_of}
 
 abbrev pub cancelled_half : DriverContent
 cancelled_half = driver_of (record receiver { ended = Some causes.Cancel; cancelled = true }) half_sent

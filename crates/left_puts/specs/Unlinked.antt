@@ -5,11 +5,11 @@
 use Rattle.std.specs.Prelude.{ℕ, Bool, List}
 use Rattle.driver_rows.specs.Rows.{Parts as DriverParts}
 use Rattle.lent_structures.specs.Structures.{StructureSets}
-use Rattle.ring_walk.specs.Hand.{Hand}
-use Rattle.fed_stores.specs.Stores.{next_of}
+use Rattle.ring_laws.specs.Hand.{Hand}
+use Rattle.publish_laws.specs.Stores.{next_of}
 use Rattle.unlinked_streams.specs.Unlinks.{IsAtUnlink, parts_unlinked, hand_unlinked}
-use Rattle.sent_rows.specs.Sent.{SentStand}
-use Rattle.owed_puts.specs.Taken.{EndedAreStopped}
+use Rattle.put_laws.specs.Sent.{SentStand}
+use Rattle.put_laws.specs.OwedTaken.{EndedAreStopped}
 
 abbrev pub UnlinkSends : Type 0
 UnlinkSends = (p : DriverParts) (member : ℕ → Bool) (hand : Hand) (parts : StructureSets) (order : ℕ → ℕ → ℕ) (out : ℕ → List ℕ) → (k : IsAtUnlink p.driver member parts)

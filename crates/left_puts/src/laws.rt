@@ -1,6 +1,6 @@
 //! The laws.
 ghost use Rattle.std.specs.Prelude.{ℕ, Option};
-ghost use Rattle.ring_out_pipes.specs.OutBus.{Taker};
+ghost use Rattle.ring_laws.specs.OutBus.{Taker};
 ghost use Rattle.left_puts.specs.Leaving.{LeaveHoldsPuts, LeaveOwes, LeaveSends, LeaveStops, LeaveKeepsTaken, KeptStayStopped};
 ghost use Rattle.left_puts.specs.Unlinked.{UnlinkSends, UnlinkStops};
 ghost use Rattle.left_puts.specs.Released.{EndpointReleaseHoldsPuts, EndpointReleaseOwes, EndpointReleaseSends, EndpointReleaseStops, EndpointReleaseKeepsTaken};

@@ -3,9 +3,9 @@ ghost use Rattle.std.specs.Prelude.{◌≡◌, true, [], ◌∷◌, None, map};
 ghost use Rattle.driver_rows.specs.Rows.{after_driver_row};
 ghost use Rattle.leaving_drivers.specs.Before.{IsAsBefore, NearSame};
 ghost use Rattle.endpoint_releases.specs.Released.{IsToLeave, endpoint_row};
-ghost use Rattle.taken_puts.specs.Puts.{puts_of};
-ghost use Rattle.owed_puts.specs.Owed.{rest_of};
-ghost use Rattle.owed_puts.specs.Samples.{buffers, at_half};
+ghost use Rattle.put_laws.specs.TakenPuts.{puts_of};
+ghost use Rattle.put_laws.specs.Owed.{rest_of};
+ghost use Rattle.put_laws.specs.OwedSamples.{buffers, at_half};
 ghost use Rattle.left_puts.specs.Samples.{cancelled_half, left_one, leaving_two, two_parts, their_puts};
 
 /// A cancel leaves the endpoint as before, and of its put of five bytes three are still to be sent.

@@ -9,7 +9,7 @@ use Rattle.driver_rows.specs.Words.{head_block}
 use Rattle.endpoint_lives.specs.Lives.{any_at}
 use Rattle.endpoint_lives.proofs.Lives.{any_there, there_any}
 use Rattle.run_owners.specs.Kept.{HasOwners}
-use Rattle.ring_streams.specs.Told.{Endpoint as Told}
+use Rattle.ring_laws.specs.Told.{Endpoint as Told}
 use Rattle.chained_transfers.specs.InTurn.{TakesTurns}
 use Rattle.fed_queues.specs.Places.{IsMet, HasHead, AreMet, HaveStreams}
 use Rattle.reached_rings.specs.Reaching.{may_reach, is_reached}

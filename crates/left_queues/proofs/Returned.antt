@@ -17,9 +17,9 @@ use Rattle.run_owners.specs.Owners.{NoteRuns, note_in}
 use Rattle.run_owners.specs.Kept.{HasOwners}
 use Rattle.run_owners.proofs.Released.{set_here, set_there}
 use Rattle.lent_structures.specs.Structures.{Structures, StructureSets}
-use Rattle.driver_parts.specs.Inventory.{IsLent}
-use Rattle.driver_releases.proofs.Freeing.{IsLess, runs_less}
-use Rattle.ring_streams.specs.Told.{Endpoint as Told}
+use Rattle.driver_laws.specs.Inventory.{IsLent}
+use Rattle.driver_laws.proofs.Freeing.{IsLess, runs_less}
+use Rattle.ring_laws.specs.Told.{Endpoint as Told}
 use Rattle.chained_transfers.specs.Chains.{piece_at}
 use Rattle.chained_transfers.specs.Turns.{turn_of}
 use Rattle.chained_transfers.specs.Out.{pieces_from, passed, out_of_transfer, if_last, out_of, out_now}

@@ -10,9 +10,9 @@ use Rattle.driver_rows.specs.Words.{head_block, queue_head}
 use Rattle.driver_rows.specs.Harvests.{note_at}
 use Rattle.run_owners.specs.Owners.{note_in}
 use Rattle.lent_structures.specs.Structures.{Structures, StructureSets}
-use Rattle.driver_parts.specs.Inventory.{IsLent}
-use Rattle.ring_streams.specs.Told.{Endpoint as Told, endpoint_of}
-use Rattle.ring_fronts.specs.Front.{IsPassed, HasFront, LinksWithin, HasTail}
+use Rattle.driver_laws.specs.Inventory.{IsLent}
+use Rattle.ring_laws.specs.Told.{Endpoint as Told, endpoint_of}
+use Rattle.ring_laws.specs.Front.{IsPassed, HasFront, LinksWithin, HasTail}
 use Rattle.chained_transfers.specs.Bulk.{receives}
 use Rattle.chained_transfers.specs.Chains.{piece_at}
 use Rattle.fed_queues.specs.Fed.{IsPieceFed, AreFed}

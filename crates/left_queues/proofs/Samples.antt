@@ -5,7 +5,7 @@ use Rattle.std.proofs.lemmas.Option.{same_Some}
 use Rattle.driver_rows.specs.declared.content.Endpoint.{Endpoint}
 use Rattle.driver_rows.specs.Words.{head_block, dummy_qtd}
 use Rattle.lent_structures.specs.Structures.{Structure, Element}
-use Rattle.ring_streams.specs.Told.{Endpoint as Told}
+use Rattle.ring_laws.specs.Told.{Endpoint as Told}
 use Rattle.endpoint_lives.specs.Lives.{may_meet}
 use Rattle.fed_queues.specs.Places.{IsMet, IsLast}
 use Rattle.endpoint_releases.specs.Samples.{left_endpoint}

@@ -12,9 +12,9 @@ use Rattle.driver_rows.specs.Rows.{Parts, after_driver_row}
 use Rattle.run_owners.specs.Kept.{HasOwners}
 use Rattle.chained_transfers.specs.InTurn.{TakesTurns}
 use Rattle.lent_structures.specs.Structures.{StructureSets}
-use Rattle.ring_streams.specs.Told.{Endpoint as Told}
+use Rattle.ring_laws.specs.Told.{Endpoint as Told}
 use Rattle.fed_queues.specs.Places.{IsMet, HasHead, AreMet}
-use Rattle.fed_commands.specs.Commands.{QueuesStand}
+use Rattle.fed_lends.specs.Commands.{QueuesStand}
 use Rattle.released_queues.specs.Fronts.{FrontsStand}
 use Rattle.standing_fronts.specs.Reaching.{Reaches}
 use Rattle.reached_rings.specs.Reaching.{is_reached}

@@ -2,7 +2,7 @@
 ghost use Rattle.std.specs.Prelude.{◌≡◌, ℕ, true, false, Some};
 ghost use Rattle.driver_rows.specs.declared.rows.DriverRow.TheVariants as rows;
 ghost use Rattle.driver_rows.specs.Rows.{driver_row, after_driver_row};
-ghost use Rattle.ring_streams.specs.Told.{Endpoint as Told};
+ghost use Rattle.ring_laws.specs.Told.{Endpoint as Told};
 ghost use Rattle.reached_rings.specs.Reaching.{is_reached};
 ghost use Rattle.endpoint_releases.specs.Samples.{left_endpoint};
 ghost use Rattle.endpoint_releases.specs.Released.{IsToLeave, endpoint_row};

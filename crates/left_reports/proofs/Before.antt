@@ -2,7 +2,7 @@
 use Rattle.std.proofs.Common.{◌≡◌, ◌≢◌, ℕ, ◌*◌, ◌≤◌, List, slice_get, Option, Some, None, option_map, ap, sym, subst, ◌∙◌, refl}
 use Rattle.usb_base.specs.declared.reports.Report.{Report}
 use Rattle.lent_structures.specs.Structures.{StructureSets}
-use Rattle.ring_walk.specs.Hand.{Hand}
+use Rattle.ring_laws.specs.Hand.{Hand}
 use Rattle.driver_rows.specs.declared.content.Endpoint.{Endpoint}
 use Rattle.driver_rows.specs.declared.content.Transfer.{Transfer}
 use Rattle.driver_rows.specs.declared.content.QtdNote.{QtdNote}
@@ -14,8 +14,8 @@ use Rattle.told_endpoints.specs.Telling.{named_of, named_in, TellsEach}
 use Rattle.told_endpoints.proofs.Tellings.{names_kept}
 use Rattle.told_harvests.specs.Held.{told_of}
 use Rattle.endpoint_lives.specs.Lives.{told_end}
-use Rattle.harvest_rows.specs.Holds.{IsUnderWay, IsToCome, HoldsEach}
-use Rattle.told_queues.specs.Told.{ToldStands}
+use Rattle.harvest_laws.specs.Holds.{IsUnderWay, IsToCome, HoldsEach}
+use Rattle.harvest_laws.specs.Told.{ToldStands}
 use Rattle.leaving_drivers.specs.Before.{WasSame, UnlinksAtMost, IsAsBefore}
 
 not_open : (o : Option Command) (q : ℕ) → UnlinksAtMost o → o ≢ Some (unfinished.Open q)

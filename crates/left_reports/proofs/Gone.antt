@@ -8,8 +8,8 @@ use Rattle.usb_base.specs.declared.reports.Report.{Report}
 use Rattle.usb_base.specs.declared.reports.What.TheVariants as lines
 use Rattle.async_walk.specs.Walk.{Walk}
 use Rattle.lent_structures.specs.Structures.{StructureSets}
-use Rattle.ring_walk.specs.Hand.{Hand}
-use Rattle.ring_walk.specs.Ring.{Base}
+use Rattle.ring_laws.specs.Hand.{Hand}
+use Rattle.ring_laws.specs.Ring.{Base}
 use Rattle.run_book.specs.Book.{Book, holding}
 use Rattle.driver_rows.specs.declared.content.Endpoint.{Endpoint}
 use Rattle.driver_rows.specs.declared.content.Transfer.{Transfer}
@@ -33,14 +33,14 @@ use Rattle.told_endpoints.specs.Steps.{Grows, Clears, NamesAt}
 use Rattle.told_endpoints.proofs.Tellings.{names_kept, line_added}
 use Rattle.told_harvests.specs.Held.{told_of}
 use Rattle.told_harvests.proofs.Keeping.{done_spared}
-use Rattle.harvest_rows.specs.Holds.{IsUnderWay, IsToCome, IsNextOf, HoldsEach}
-use Rattle.harvest_rows.proofs.Rows.{grown_at, cleared_at}
-use Rattle.harvest_rows.proofs.Harvesting.{holds_still}
-use Rattle.reported_streams.specs.Reported.{IsReported}
-use Rattle.out_rows.proofs.Joining.{same_hand, heads_stay, elements_stay}
+use Rattle.harvest_laws.specs.Holds.{IsUnderWay, IsToCome, IsNextOf, HoldsEach}
+use Rattle.harvest_laws.proofs.RowRows.{grown_at, cleared_at}
+use Rattle.harvest_laws.proofs.RowHarvesting.{holds_still}
+use Rattle.controlled_streams.specs.Reported.{IsReported}
+use Rattle.stream_worlds.proofs.Joining.{same_hand, heads_stay, elements_stay}
 use Rattle.fed_queues.specs.Places.{IsThere}
-use Rattle.told_queues.specs.Told.{ToldStands}
-use Rattle.driver_parts.specs.Inventory.{IsQueueIn}
+use Rattle.harvest_laws.specs.Told.{ToldStands}
+use Rattle.driver_laws.specs.Inventory.{IsQueueIn}
 use Rattle.leaving_drivers.specs.Told.{told_to}
 use Rattle.cancelled_bytes.proofs.Cancelling.{cancel_tells}
 use Rattle.endpoint_releases.specs.Released.{without_queue, endpoint_row}

@@ -4,9 +4,9 @@ use Rattle.std.proofs.lemmas.Bool.{false≢true, eqb-true, and_parts}
 use Rattle.std.proofs.lemmas.Option.{same_Some}
 use Rattle.async_walk.specs.Walk.{Walk}
 use Rattle.lent_structures.specs.Structures.{Structures, StructureSets}
-use Rattle.ring_walk.specs.Hand.{Hand, Empty, Copied, Settled, Stale}
-use Rattle.ring_walk.specs.Ring.{Base, IsInHand}
-use Rattle.ring_order.specs.Order.{IsAmong}
+use Rattle.ring_laws.specs.Hand.{Hand, Empty, Copied, Settled, Stale}
+use Rattle.ring_laws.specs.Ring.{Base, IsInHand}
+use Rattle.ring_laws.specs.Order.{IsAmong}
 use Rattle.usb_base.specs.declared.packets.Reply.{Reply}
 use Rattle.driver_rows.specs.declared.content.Endpoint.{Endpoint}
 use Rattle.driver_rows.specs.declared.content.Transfer.{Transfer}
@@ -22,9 +22,9 @@ use Rattle.chained_transfers.specs.Turns.{Turn, turn_of, turn_in, AreReportedTo,
 use Rattle.chained_transfers.specs.Out.{unpublished, pieces_from, passed, out_of_transfer}
 use Rattle.chained_transfers.proofs.Holding.{unreleased}
 use Rattle.told_harvests.specs.Held.{IsRead, AreRead}
-use Rattle.harvest_rows.specs.Holds.{IsNextOf}
+use Rattle.harvest_laws.specs.Holds.{IsNextOf}
 use Rattle.fed_queues.specs.Fed.{IsPieceFed, unpublished_of}
-use Rattle.told_queues.specs.Told.{ToldStands}
+use Rattle.harvest_laws.specs.Told.{ToldStands}
 use Rattle.cancelled_bytes.specs.Cancelled.{SettlesElsewhere, CanBeTold}
 use Rattle.left_reports.specs.Leaver.{IsLeaver}
 

@@ -9,8 +9,8 @@ use Rattle.std.specs.List.{concat}
 use Rattle.async_walk.specs.Walk.{Walk}
 use Rattle.async_walk.specs.Rows.{place}
 use Rattle.lent_structures.specs.Structures.{StructureSets}
-use Rattle.ring_walk.specs.Hand.{Hand}
-use Rattle.ring_walk.specs.Ring.{Base, IsRing}
+use Rattle.ring_laws.specs.Hand.{Hand}
+use Rattle.ring_laws.specs.Ring.{Base, IsRing}
 use Rattle.driver_rows.specs.declared.content.Endpoint.{Endpoint}
 use Rattle.driver_rows.specs.DriverContent.{DriverContent}
 use Rattle.driver_rows.specs.Rows.{Parts, is_told, after_driver_row}
@@ -18,8 +18,8 @@ use Rattle.run_owners.specs.Kept.{HasOwners}
 use Rattle.chained_transfers.specs.InTurn.{TakesTurns}
 use Rattle.chained_transfers.specs.Out.{out_now}
 use Rattle.fed_queues.specs.Fed.{AreFed}
-use Rattle.reported_streams.specs.Reported.{IsReported}
-use Rattle.told_queues.specs.Told.{ToldStands}
+use Rattle.controlled_streams.specs.Reported.{IsReported}
+use Rattle.harvest_laws.specs.Told.{ToldStands}
 use Rattle.leaving_drivers.specs.Before.{IsAsBefore}
 use Rattle.leaving_drivers.specs.Told.{told_to}
 use Rattle.cancelled_bytes.specs.Cancelled.{CanBeTold}

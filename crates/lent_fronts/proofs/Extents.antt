@@ -19,19 +19,19 @@ use Rattle.run_owners.specs.Owners.{Owner, FrameList, QueueHead, Element as Elem
 use Rattle.run_owners.proofs.Runs.{placed_run}
 use Rattle.lent_runs.specs.Lent.{AreLent, begins_in}
 use Rattle.lent_structures.specs.Structures.{Structure, Buffer, Structures, StructureSets, Has}
-use Rattle.queue_parts.specs.Sound.{element_pages, buffer_name, HasBuffer}
-use Rattle.driver_parts.specs.Inventory.{Sort, sort_of, sorts_of, OfBuffer, IsLent, IsPieceOf, IsBufferTold, AreTold, IsTransferIn, IsDriven}
-use Rattle.driver_releases.specs.Extents.{IsOneOf as IsOneRun, InRuns, AreInRuns}
+use Rattle.lent_structures.specs.Sound.{element_pages, buffer_name, HasBuffer}
+use Rattle.driver_laws.specs.Inventory.{Sort, sort_of, sorts_of, OfBuffer, IsLent, IsPieceOf, IsBufferTold, AreTold, IsTransferIn, IsDriven}
+use Rattle.driver_laws.specs.Extents.{IsOneOf as IsOneRun, InRuns, AreInRuns}
 use Rattle.run_owners.specs.Accepts.{AreShort}
-use Rattle.transfer_lends.specs.Written.{AreRuns, IsStageNoted, AreNoted}
-use Rattle.transfer_lends.specs.Pieces.{stage_qtd, AreBuffered}
-use Rattle.transfer_lends.specs.Laws.{lent_driver}
-use Rattle.transfer_lends.proofs.Lists.{IsOneOf, one_or_not}
-use Rattle.transfer_lends.proofs.Buffers.{take_same, name_at, pages_from, LiesIn, lies_in}
-use Rattle.transfer_lends.proofs.Slots.{taken_lent, others_stay}
-use Rattle.transfer_lends.proofs.Holding.{buffer_kept}
-use Rattle.transfer_lends.proofs.Owning.{not_taken}
-use Rattle.transfer_lends.proofs.Lending.{taken_keep, lent_on_views}
+use Rattle.driver_laws.specs.Written.{AreRuns, IsStageNoted, AreNoted}
+use Rattle.driver_laws.specs.Pieces.{stage_qtd, AreBuffered}
+use Rattle.driver_laws.specs.TransferLaws.{lent_driver}
+use Rattle.driver_laws.proofs.Lists.{IsOneOf, one_or_not}
+use Rattle.driver_laws.proofs.Buffers.{take_same, name_at, pages_from, LiesIn, lies_in}
+use Rattle.driver_laws.proofs.TransferSlots.{taken_lent, others_stay}
+use Rattle.driver_laws.proofs.Holding.{buffer_kept}
+use Rattle.driver_laws.proofs.TransferOwning.{not_taken}
+use Rattle.driver_laws.proofs.TransferLending.{taken_keep, lent_on_views}
 use Rattle.fed_lends.specs.ToLend.{lent_now}
 use Rattle.fed_lends.proofs.Fed.{y_of, x_of, IsLending, bare_is, its_alive}
 use Rattle.fed_lends.proofs.Names.{mapped}

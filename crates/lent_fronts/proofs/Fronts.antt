@@ -17,18 +17,18 @@ use Rattle.driver_rows.specs.Offers.{is_last}
 use Rattle.run_owners.specs.Leaving.{times, owes}
 use Rattle.run_owners.specs.Owners.{NoteRuns, note_in}
 use Rattle.lent_structures.specs.Structures.{Element, QueueHead, Structures, StructureSets}
-use Rattle.queue_parts.specs.Sound.{IsElement, LeadsOn, IsSoundQueue}
-use Rattle.queue_parts.proofs.Altering.{found_queue}
-use Rattle.ring_walk.specs.Hand.{Hand}
-use Rattle.ring_order.specs.Order.{IsAmong}
-use Rattle.ring_fronts.specs.Front.{HasFront}
-use Rattle.ring_fronts.proofs.Going.{front_spared, front_renumbered}
+use Rattle.lent_structures.specs.Sound.{IsElement, LeadsOn, IsSoundQueue}
+use Rattle.lent_structures.proofs.Altering.{found_queue}
+use Rattle.ring_laws.specs.Hand.{Hand}
+use Rattle.ring_laws.specs.Order.{IsAmong}
+use Rattle.ring_laws.specs.Front.{HasFront}
+use Rattle.ring_laws.proofs.FrontGoing.{front_spared, front_renumbered}
 use Rattle.chained_transfers.specs.Chains.{piece_at}
 use Rattle.chained_transfers.specs.Out.{pieces_from}
 use Rattle.released_queues.specs.Fronts.{piece_address, end_at, StandsAt, FrontsStand}
 use Rattle.standing_fronts.specs.Reaching.{Reaches}
-use Rattle.transfer_lends.specs.Laws.{lent_driver}
-use Rattle.transfer_lends.specs.Pieces.{stage_qtd, IsNewQtd}
+use Rattle.driver_laws.specs.TransferLaws.{lent_driver}
+use Rattle.driver_laws.specs.Pieces.{stage_qtd, IsNewQtd}
 use Rattle.fed_lends.specs.Streams.{second, new_out}
 use Rattle.fed_lends.specs.ToLend.{lent_now}
 use Rattle.fed_lends.proofs.Numbering.{new_from}

@@ -3,11 +3,11 @@ use Rattle.std.proofs.Common.{ℕ, ◌*◌, ◌≤◌, ◌++◌, arith, Option, 
 use Rattle.async_walk.specs.Rows.{place}
 use Rattle.run_book.specs.Book.{slot_of}
 use Rattle.lent_structures.specs.Structures.{Element}
-use Rattle.ring_lends.specs.Together.{put_all}
-use Rattle.ring_pipes.specs.Bus.{Sender}
-use Rattle.driver_parts.specs.Driven.{DrivesRing}
-use Rattle.transfer_lends.specs.Laws.{lent_memory, lent_driver, items_of}
-use Rattle.transfer_lends.proofs.Lends.{lend_drives}
+use Rattle.ring_laws.specs.Together.{put_all}
+use Rattle.ring_laws.specs.Bus.{Sender}
+use Rattle.driver_laws.specs.Driven.{DrivesRing}
+use Rattle.driver_laws.specs.TransferLaws.{lent_memory, lent_driver, items_of}
+use Rattle.driver_laws.proofs.Lends.{lend_drives}
 use Rattle.fed_lends.proofs.Reporting.{spares_heads}
 use Rattle.fed_lends.proofs.Piping.{lend_leaves_pipes}
 use Rattle.fed_lends.proofs.Names.{names_lent}

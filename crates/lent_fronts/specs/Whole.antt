@@ -16,23 +16,23 @@ use Rattle.run_owners.specs.Owners.{TransferRuns, EndpointRuns, views_of}
 use Rattle.run_owners.specs.Kept.{HasOwners}
 use Rattle.lent_runs.specs.Lent.{AreLent}
 use Rattle.lent_structures.specs.Structures.{Structure, Element, StructureSets}
-use Rattle.queue_parts.specs.Sound.{IsElement}
-use Rattle.ring_walk.specs.Hand.{Hand}
-use Rattle.ring_walk.specs.Ring.{Base}
-use Rattle.ring_streams.specs.Told.{Endpoint}
-use Rattle.ring_pipes.specs.Bus.{Sender}
-use Rattle.ring_pipes.specs.Pipes.{ArePiped}
-use Rattle.spared_streams.specs.Sparing.{SparesHead, SparesElement}
-use Rattle.reported_streams.specs.Reported.{AreReported}
-use Rattle.driver_parts.specs.Driven.{DrivesRing}
+use Rattle.lent_structures.specs.Sound.{IsElement}
+use Rattle.ring_laws.specs.Hand.{Hand}
+use Rattle.ring_laws.specs.Ring.{Base}
+use Rattle.ring_laws.specs.Told.{Endpoint}
+use Rattle.ring_laws.specs.Bus.{Sender}
+use Rattle.ring_laws.specs.Pipes.{ArePiped}
+use Rattle.ring_laws.specs.Sparing.{SparesHead, SparesElement}
+use Rattle.controlled_streams.specs.Reported.{AreReported}
+use Rattle.driver_laws.specs.Driven.{DrivesRing}
 use Rattle.chained_transfers.specs.Bulk.{OnlyBulk}
 use Rattle.chained_transfers.specs.Turns.{AreInTurn}
 use Rattle.fed_queues.specs.Places.{IsLast, IsThere}
-use Rattle.transfer_lends.specs.Written.{AwaitsLend}
-use Rattle.transfer_lends.specs.Laws.{HasPieces, lent_driver}
+use Rattle.driver_laws.specs.Written.{AwaitsLend}
+use Rattle.driver_laws.specs.TransferLaws.{HasPieces, lent_driver}
 use Rattle.fed_lends.specs.Streams.{new_order, new_out}
-use Rattle.fed_commands.specs.Commands.{QueuesStand}
-use Rattle.driver_releases.specs.Extents.{AreInRuns}
+use Rattle.fed_lends.specs.Commands.{QueuesStand}
+use Rattle.driver_laws.specs.Extents.{AreInRuns}
 use Rattle.standing_fronts.specs.Reaching.{Reaches}
 use Rattle.released_queues.specs.Fronts.{FrontsStand}
 use Rattle.fed_lends.specs.ToLend.{IsToBeLent, AreBlank}

@@ -1,7 +1,7 @@
 //! The laws.
 ghost use Rattle.lent_fronts.specs.Whole.{LendRowLeavesFronts};
 ghost use Rattle.std.specs.Prelude.{ℕ, Option};
-ghost use Rattle.ring_pipes.specs.Bus.{Sender};
+ghost use Rattle.ring_laws.specs.Bus.{Sender};
 
 use usb_base::Wire;
 

@@ -5,4 +5,11 @@ pub mod Reading
 pub mod Storing
 pub mod Writing
 pub mod Lending
-pub mod Sampled
+pub mod StructureSampled
+pub mod Moving
+pub mod Settling
+pub mod Altering
+pub mod Members
+pub mod WrittenBack
+pub mod Found
+pub mod WriteBackSampled

@@ -1,4 +1,10 @@
 pub mod Structures
 pub mod Changes
-pub mod Laws
-pub mod Samples
+pub mod StructureLaws
+pub mod StructureSamples
+pub mod Settles
+pub mod Sound
+pub mod Alters
+pub mod WriteBack
+pub mod WriteBackLaws
+pub mod WriteBackSamples

@@ -35,7 +35,7 @@ use Rattle.ring_members.proofs.Freed.{LeavesRest, lent_words, rest_qtds, rest_en
 use Rattle.ring_members.proofs.Links.{LeadsTo, oldest_is, dropped}
 use Rattle.ring_members.proofs.Placed.{in_ring_alive, linked_alive, queue_placed}
 use Rattle.ring_members.proofs.Events.{open_store, unlink_store, publish_store, chain_never, iso_never, unchain_never, stands_as, block_of}
-use Rattle.driver_parts.specs.Driven.{is_quiet}
+use Rattle.driver_laws.specs.Driven.{is_quiet}
 use Rattle.list_stands.specs.Standing.{ListStands}
 use Rattle.list_stands.proofs.Listing.{stands_left, event_stands}
 use Rattle.list_aside.specs.Elsewhere.{links_now, is_elsewhere}

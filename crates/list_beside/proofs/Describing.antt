@@ -5,7 +5,7 @@ use Rattle.run_owners.specs.Owners.{TransferRuns, views_of}
 use Rattle.lent_structures.specs.Structures.{Structure, Structures, StructureSets}
 use Rattle.described_parts.specs.Described.{IsDescriptorLent, HasDescriptor}
 use Rattle.described_parts.specs.Both.{owns, both}
-use Rattle.described_parts.specs.Laws.{IsDescribing}
+use Rattle.described_parts.specs.PartLaws.{IsDescribing}
 use Rattle.described_parts.proofs.Standing.{both_on, both_off, stands_some}
 use Rattle.described_parts.proofs.Telling.{descriptors_apart}
 use Rattle.frame_keeps.specs.Kept.{HasItdAfter, HasSitdAfter, KeepsPart}

@@ -27,9 +27,9 @@ use Rattle.listed_members.specs.Placed.{Framed, Placed, placed_in, is_chained, f
 use Rattle.listed_members.specs.Listed.{IsStanding, IsQueueOf, IsWaitingOf, IsDescribing, IsListed}
 use Rattle.listed_members.proofs.Standing.{IsSeen, seen, in_frames, unlinks_reported, IsFramed, framed, descriptor_block, queue_block, standing_block, why_stands}
 use Rattle.lent_structures.specs.Structures.{Structure, QueueHead, Element, Buffer, Table, Isochronous, SplitIsochronous, Structures, StructureSets}
-use Rattle.ring_walk.specs.Ring.{Base}
-use Rattle.driver_parts.specs.Inventory.{OfQueueHead, sort_of, IsLent, IsQueueIn}
-use Rattle.driver_parts.proofs.Sorts.{driven_same}
+use Rattle.ring_laws.specs.Ring.{Base}
+use Rattle.driver_laws.specs.Inventory.{OfQueueHead, sort_of, IsLent, IsQueueIn}
+use Rattle.driver_laws.proofs.Sorts.{driven_same}
 use Rattle.in_place.proofs.Elsewhere.{elsewhere_in_place}
 use Rattle.shared_memory.proofs.Elsewhere.{leaves_elsewhere}
 use Rattle.list_words.specs.Spared.{LeavesList}

@@ -11,7 +11,7 @@ use Rattle.frame_chains.specs.declared.members.Predecessor.TheVariants.{After}
 use Rattle.frame_members.specs.Members.{is_this, is_linked}
 use Rattle.periodic_list.specs.Periodic.{address_of}
 use Rattle.driver_rows.specs.Words.{opening_head}
-use Rattle.driver_parts.specs.Opened.{empty_list, opening_parts}
+use Rattle.driver_laws.specs.PartOpened.{empty_list, opening_parts}
 use Rattle.list_beside.specs.Links.{IsLinkAt, of_queue, HasItsLinks}
 use Rattle.list_beside.specs.Samples.{queue, list}
 

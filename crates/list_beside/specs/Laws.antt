@@ -14,18 +14,18 @@ use Rattle.hc_core.specs.Controller.{Content, microframe_row, HasRow}
 use Rattle.aligned_copies.specs.Aligned.{AreAligned}
 use Rattle.driver_rows.specs.DriverContent.{DriverContent}
 use Rattle.lent_structures.specs.Structures.{StructureSets}
-use Rattle.ring_walk.specs.Hand.{Hand}
-use Rattle.ring_walk.specs.Ring.{Base}
-use Rattle.ring_control.specs.Control.{FrameList}
-use Rattle.driver_parts.specs.Inventory.{SameSorts}
+use Rattle.ring_laws.specs.Hand.{Hand}
+use Rattle.ring_laws.specs.Ring.{Base}
+use Rattle.controlled_streams.specs.Control.{FrameList}
+use Rattle.driver_laws.specs.Inventory.{SameSorts}
 use Rattle.in_place.specs.InPlace.{IsInPlace}
 use Rattle.in_place.specs.Run.{IsElsewhere}
 use Rattle.list_driver.specs.Kept.{KeepsItsList}
-use Rattle.frame_parts.specs.Met.{Kind}
-use Rattle.frame_parts.specs.FrameHand.{FrameHand}
+use Rattle.frame_walk.specs.Met.{Kind}
+use Rattle.frame_walk.specs.FrameHand.{FrameHand}
 use Rattle.frame_control.specs.Both.{RunsBoth, ControlsBoth}
 use Rattle.described_parts.specs.Both.{both, Keeps}
-use Rattle.described_parts.specs.Laws.{IsDescribing}
+use Rattle.described_parts.specs.PartLaws.{IsDescribing}
 use Rattle.frame_keeps.specs.Kept.{KeepsParts}
 use Rattle.frame_keeps.specs.Leaving.{LeavesStructures, IsWithin}
 use Rattle.list_beside.specs.Links.{IsTold}

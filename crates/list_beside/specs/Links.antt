@@ -20,9 +20,9 @@ use Rattle.periodic_list.specs.Periodic.{Periodic, address_of}
 use Rattle.driver_rows.specs.DriverContent.{DriverContent}
 use Rattle.run_owners.specs.Owners.{TransferRuns, Views, views_of}
 use Rattle.lent_structures.specs.Structures.{Structure, QueueHead, Table, Isochronous, SplitIsochronous, StructureSets}
-use Rattle.ring_walk.specs.Ring.{Base}
-use Rattle.ring_control.specs.Control.{FrameList}
-use Rattle.driver_parts.specs.Inventory.{sorts_of, IsLent, IsDriven}
+use Rattle.ring_laws.specs.Ring.{Base}
+use Rattle.controlled_streams.specs.Control.{FrameList}
+use Rattle.driver_laws.specs.Inventory.{sorts_of, IsLent, IsDriven}
 use Rattle.in_place.specs.InPlace.{IsInPlace}
 use Rattle.frame_keeps.specs.Leaving.{IsWithin}
 

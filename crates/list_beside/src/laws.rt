@@ -2,7 +2,7 @@ ghost use Rattle.word_mem.specs.Memory.{Mem, word_at};
 ghost use Rattle.periodic_list.specs.Periodic.{Periodic};
 ghost use Rattle.driver_rows.specs.DriverContent.{DriverContent};
 ghost use Rattle.lent_structures.specs.Structures.{StructureSets};
-ghost use Rattle.ring_walk.specs.Ring.{Base};
+ghost use Rattle.ring_laws.specs.Ring.{Base};
 ghost use Rattle.list_words.specs.Spared.{LeavesList};
 ghost use Rattle.frame_keeps.specs.Leaving.{LeavesStructures};
 ghost use Rattle.list_beside.specs.Links.{HasItsLinks, IsTold};

@@ -1,6 +1,6 @@
 //! A worked row, which the check computes.
 ghost use Rattle.word_mem.specs.Memory.{Mem};
-ghost use Rattle.driver_parts.specs.Opened.{opening_parts};
+ghost use Rattle.driver_laws.specs.PartOpened.{opening_parts};
 ghost use Rattle.list_beside.specs.Links.{HasItsLinks};
 ghost use Rattle.list_beside.specs.Samples.{list};
 

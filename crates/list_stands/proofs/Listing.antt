@@ -25,9 +25,9 @@ use Rattle.driver_rows.specs.Opening.{opening}
 use Rattle.driver_rows.specs.Harvests.{is_stall, end_of, noted}
 use Rattle.driver_rows.specs.Rows.{Parts, driver_row, after_driver_row, served, told_with, behind_one, behind, after_end, harvested_as, after_harvest}
 use Rattle.lent_structures.specs.Structures.{Table, HoldsTable}
-use Rattle.driver_parts.specs.Driven.{is_quiet}
-use Rattle.driver_parts.specs.Opened.{empty_list}
-use Rattle.driver_parts.proofs.Opening.{opening_ring}
+use Rattle.driver_laws.specs.Driven.{is_quiet}
+use Rattle.driver_laws.specs.PartOpened.{empty_list}
+use Rattle.driver_laws.proofs.PartOpening.{opening_ring}
 use Rattle.list_words.specs.Spared.{LeavesList}
 use Rattle.list_words.proofs.Sparing.{stands_where_left}
 use Rattle.list_stands.specs.Standing.{ListStands}

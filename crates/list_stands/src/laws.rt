@@ -4,7 +4,7 @@ ghost use Rattle.driver_rows.specs.declared.content.Reserve.{Reserve};
 ghost use Rattle.driver_rows.specs.DriverContent.{DriverContent};
 ghost use Rattle.driver_rows.specs.Opening.{opening};
 ghost use Rattle.driver_rows.specs.Rows.{Parts, driver_row, after_driver_row};
-ghost use Rattle.driver_parts.specs.Driven.{is_quiet};
+ghost use Rattle.driver_laws.specs.Driven.{is_quiet};
 ghost use Rattle.list_words.specs.Spared.{LeavesList};
 ghost use Rattle.list_stands.specs.Standing.{ListStands};
 

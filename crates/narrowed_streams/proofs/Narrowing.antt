@@ -9,11 +9,11 @@ use Rattle.driver_rows.specs.DriverContent.{DriverContent}
 use Rattle.driver_rows.specs.Rows.{is_iso}
 use Rattle.driver_rows.specs.Words.{head_block, queue_head}
 use Rattle.ring_members.proofs.Placed.{queue_off_head, queues_apart}
-use Rattle.ring_streams.specs.Told.{Endpoint as Told, endpoint_of}
+use Rattle.ring_laws.specs.Told.{Endpoint as Told, endpoint_of}
 use Rattle.chained_transfers.specs.Bulk.{receives, IsDataWay, OnlyBulk}
 use Rattle.endpoint_lives.specs.Lives.{may_meet}
 use Rattle.fed_queues.specs.Places.{IsMet, HasHead, HaveStreams}
-use Rattle.open_stores.specs.Opens.{AreNamesApart}
+use Rattle.open_laws.specs.Opens.{AreNamesApart}
 use Rattle.closed_streams.proofs.Left.{left_are_closed}
 use Rattle.narrowed_streams.specs.Narrowed.{left_names, HasLeft, NarrowsTo, AreNarrowed, InsHaveLeft, OutsHaveLeft, StreamsStayMet, InsAreClosed, OutsAreClosed}
 use Rattle.narrowed_streams.proofs.Names.{left_named, named_left}

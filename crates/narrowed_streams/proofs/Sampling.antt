@@ -8,7 +8,7 @@ use Rattle.driver_rows.specs.declared.content.Transfer.{Transfer}
 use Rattle.chained_transfers.specs.Bulk.{receives, IsStanding, OnlyBulk}
 use Rattle.endpoint_lives.specs.Lives.{may_meet}
 use Rattle.fed_queues.specs.Places.{IsMet, HasHead, HaveStreams}
-use Rattle.open_stores.specs.Opens.{AreNamesApart}
+use Rattle.open_laws.specs.Opens.{AreNamesApart}
 use Rattle.closed_streams.specs.Left.{HaveLeft}
 use Rattle.narrowed_streams.specs.Narrowed.{left_names, NarrowsTo}
 use Rattle.narrowed_streams.specs.Samples.{first, second, third, before, after, narrow, streams, told, ends}

@@ -23,11 +23,11 @@ use Rattle.driver_rows.specs.Rows.{Parts, after_driver_row}
 use Rattle.run_owners.specs.Kept.{HasOwners}
 use Rattle.chained_transfers.specs.Bulk.{receives, OnlyBulk}
 use Rattle.endpoint_lives.specs.Lives.{any_at, may_meet}
-use Rattle.ring_stores.specs.Stores.{IsWider}
-use Rattle.ring_streams.specs.Told.{Endpoint as Told}
-use Rattle.ring_pipes.specs.Pipes.{AreEndpoints}
+use Rattle.ring_laws.specs.Stores.{IsWider}
+use Rattle.ring_laws.specs.Told.{Endpoint as Told}
+use Rattle.ring_laws.specs.Pipes.{AreEndpoints}
 use Rattle.fed_queues.specs.Places.{IsMet, HasHead, AreMet, HaveStreams}
-use Rattle.open_stores.specs.Opens.{AreNamesApart}
+use Rattle.open_laws.specs.Opens.{AreNamesApart}
 use Rattle.closed_streams.specs.Several.{ClosesSome}
 use Rattle.closed_streams.specs.Left.{heads_met, names_kept, HaveLeft, KeepMet}
 

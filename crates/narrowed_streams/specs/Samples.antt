@@ -11,7 +11,7 @@ use Rattle.driver_rows.specs.DriverContent.{DriverContent}
 use Rattle.driver_rows.specs.Opening.{opening}
 use Rattle.driver_rows.specs.Offers.{new_endpoint}
 use Rattle.driver_rows.specs.Words.{head_block, queue_head}
-use Rattle.ring_streams.specs.Told.{Endpoint as Told, endpoint_of}
+use Rattle.ring_laws.specs.Told.{Endpoint as Told, endpoint_of}
 use Rattle.endpoint_lives.specs.Samples.{left}
 use Rattle.run_owners.specs.Worked.{bulk}
 

@@ -3,7 +3,7 @@ ghost use Rattle.std.specs.Prelude.{◌≡◌, true, false};
 ghost use Rattle.usb_base.specs.declared.packets.Way.TheVariants as ways;
 ghost use Rattle.chained_transfers.specs.Bulk.{OnlyBulk};
 ghost use Rattle.fed_queues.specs.Places.{HaveStreams};
-ghost use Rattle.open_stores.specs.Opens.{AreNamesApart};
+ghost use Rattle.open_laws.specs.Opens.{AreNamesApart};
 ghost use Rattle.closed_streams.specs.Left.{HaveLeft};
 ghost use Rattle.narrowed_streams.specs.Narrowed.{is_side, left_names, NarrowsTo};
 ghost use Rattle.narrowed_streams.specs.Samples.{before, after, narrow, streams, ends};

@@ -16,7 +16,7 @@ use Rattle.driver_rows.specs.Rows.{driver_row, after_driver_row}
 use Rattle.run_owners.proofs.Stays.{same_view}
 use Rattle.chained_transfers.specs.Accepted.{IsOpened, IsAsked}
 use Rattle.walk_members.proofs.Descriptions.{desc_of, SameDescs, row_left}
-use Rattle.open_stores.specs.Opens.{AreNamesApart}
+use Rattle.open_laws.specs.Opens.{AreNamesApart}
 use Rattle.open_names.specs.Names.{NamesStayApart, AcceptedNamesAreApart, NewNamesAreApart}
 
 -- ---- where descriptions stay

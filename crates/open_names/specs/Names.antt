@@ -9,7 +9,7 @@ use Rattle.driver_rows.specs.Opening.{opening}
 use Rattle.driver_rows.specs.Rows.{Parts, driver_row, after_driver_row}
 use Rattle.chained_transfers.specs.Bulk.{OnlyBulk}
 use Rattle.chained_transfers.specs.Accepted.{IsAccepted}
-use Rattle.open_stores.specs.Opens.{AreNamesApart}
+use Rattle.open_laws.specs.Opens.{AreNamesApart}
 
 abbrev pub NamesStayApart : Type 0
 NamesStayApart = (p : Parts) → AreNamesApart p.driver → AreNamesApart (after_driver_row (driver_row p) p).driver

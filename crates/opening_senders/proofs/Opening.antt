@@ -22,7 +22,7 @@ use Rattle.endpoint_script.specs.Device.{Device, is_way, is_named, place_named, 
 use Rattle.usb_bus.specs.Fates.{is_same_way, is_same_name}
 use Rattle.usb_bus.specs.Bus.{opening_wired}
 use Rattle.report_streams.specs.Streams.{items_in, items_of}
-use Rattle.ring_pipes.specs.Bus.{Sender}
+use Rattle.ring_laws.specs.Bus.{Sender}
 use Rattle.scripted_streams.specs.Senders.{sender_of}
 use Rattle.scripted_streams.proofs.Asking.{HasSender, sender_found}
 use Rattle.opening_senders.specs.Own.{HasOwnDevices}

@@ -9,7 +9,7 @@ use Rattle.script_types.specs.declared.scripts.Script.{Script}
 use Rattle.endpoint_script.specs.Items.{packets_of}
 use Rattle.usb_bus.specs.Bus.{opening_wired}
 use Rattle.report_streams.specs.Streams.{items_of}
-use Rattle.ring_pipes.specs.Bus.{Sender}
+use Rattle.ring_laws.specs.Bus.{Sender}
 use Rattle.scripted_streams.specs.Senders.{sender_of}
 
 pub record HasOwnDevices (s : Script) : Type 0 where

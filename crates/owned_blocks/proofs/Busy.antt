@@ -4,7 +4,7 @@ use Rattle.std.proofs.lemmas.Bool.{false≢true, eq-eqb}
 use Rattle.run_owners.specs.Owners.{EndpointRuns, TransferRuns, endpoint_in, transfer_in, views_of}
 use Rattle.run_owners.specs.Worked.{busy_driver, busy_endpoints, busy_transfers}
 use Rattle.lent_runs.specs.Lent.{begins_in}
-use Rattle.driver_releases.specs.Extents.{IsOneOf}
+use Rattle.driver_laws.specs.Extents.{IsOneOf}
 use Rattle.owned_blocks.specs.Owned.{IsOwnedRun, the_list, the_head, a_queue, a_dummy, a_piece, a_buffer, a_descriptor, a_descriptor_buffer}
 use Rattle.owned_blocks.proofs.Whose.{Whose, of_driver, of_endpoint, of_transfer, of_descriptor, queue_blocks, qtd_blocks, descriptor_blocks, whose}
 

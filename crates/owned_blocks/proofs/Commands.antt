@@ -26,7 +26,7 @@ use Rattle.run_owners.proofs.Chains.{buffers_of, notes_apart}
 use Rattle.run_owners.proofs.Accepted.{drop_first, within_slots}
 use Rattle.run_owners.proofs.Transferred.{are_new, goes_on_alive}
 use Rattle.lent_runs.proofs.Books.{or_done_book}
-use Rattle.driver_releases.specs.Extents.{IsOneOf}
+use Rattle.driver_laws.specs.Extents.{IsOneOf}
 use Rattle.owned_blocks.specs.Owned.{IsQueued, AreAllOwned, AreQueuesHarvested, OwnsAll}
 use Rattle.owned_blocks.proofs.Whose.{Whose, of_driver, of_endpoint, of_transfer, of_descriptor, queue_blocks, qtd_blocks, blocks_still, endpoint_alike, whose, owned, endpoint_at, transfer_at, place_of}
 use Rattle.owned_blocks.proofs.Queues.{AreQueues}

@@ -21,8 +21,8 @@ use Rattle.run_owners.proofs.Stays.{same_view}
 use Rattle.run_owners.proofs.Taking.{AreTaken, runs_taken, blocks_some}
 use Rattle.run_owners.proofs.Chains.{few_runs}
 use Rattle.run_owners.proofs.Accepted.{drop_first, fresh_differs, within_slots}
-use Rattle.driver_releases.specs.Extents.{IsOneOf}
-use Rattle.driver_releases.specs.Released.{blocks_of}
+use Rattle.driver_laws.specs.Extents.{IsOneOf}
+use Rattle.driver_laws.specs.Released.{blocks_of}
 use Rattle.owned_blocks.specs.Owned.{IsIsochronous, AreAllOwned, AreQueuesHarvested, OwnsAll}
 use Rattle.owned_blocks.proofs.Whose.{Whose, of_driver, of_endpoint, of_transfer, of_descriptor, endpoint_alike, whose, owned, place_of}
 use Rattle.owned_blocks.proofs.Queues.{AreQueues}

@@ -33,7 +33,7 @@ use Rattle.run_owners.proofs.Reasons.{each_is_due}
 use Rattle.lent_runs.specs.Lent.{begins_in, AreLent}
 use Rattle.lent_runs.proofs.Books.{advance_book, harvest_book}
 use Rattle.lent_runs.proofs.Goes.{idle_none}
-use Rattle.driver_releases.specs.Extents.{IsOneOf}
+use Rattle.driver_laws.specs.Extents.{IsOneOf}
 use Rattle.owned_blocks.specs.Owned.{AreAllOwned, OwnsAll}
 use Rattle.owned_blocks.proofs.Whose.{Whose, of_driver, of_endpoint, of_transfer, of_descriptor, queue_blocks, qtd_blocks, descriptor_blocks, TellsAlike, queued_alike, described_alike, endpoint_alike, whose, whose_alike, owned, owned_alike, transfer_at}
 use Rattle.owned_blocks.proofs.Freed.{HasNoneKept, IsLess, Gone, less_has, less_gone, less_none, less_both, lent_back, runs_less, runs_gone, qtds_less, qtds_gone, transfers_less, transfers_gone, descriptors_less, descriptors_gone}

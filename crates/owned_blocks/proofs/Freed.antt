@@ -14,9 +14,9 @@ use Rattle.driver_rows.specs.declared.content.Transfer.{Transfer}
 use Rattle.driver_rows.specs.DriverContent.{waits_for}
 use Rattle.driver_rows.specs.Rows.{free_runs, free_qtds, free_transfers, is_held_of, free_descriptor, free_descriptors}
 use Rattle.run_owners.specs.Owners.{HasRun, note_in, descriptor_in}
-use Rattle.driver_releases.specs.Extents.{IsOneOf}
-use Rattle.driver_releases.specs.Released.{blocks_of}
-use Rattle.driver_releases.proofs.Blocks.{qtds_are_runs}
+use Rattle.driver_laws.specs.Extents.{IsOneOf}
+use Rattle.driver_laws.specs.Released.{blocks_of}
+use Rattle.driver_laws.proofs.Blocks.{qtds_are_runs}
 
 abbrev pub Has : Holding → ℕ → Type 0
 Has h c = HasRun (slot_of h.book.slots c)

@@ -25,7 +25,7 @@ use Rattle.run_owners.specs.Kept.{HasOwners}
 use Rattle.run_owners.proofs.Runs.{placed_run}
 use Rattle.run_owners.proofs.Commands.{accepted_for_a_reason}
 use Rattle.lent_runs.specs.Lent.{begins_in, AreLent, IsLent}
-use Rattle.driver_releases.proofs.Blocks.{all_one, placed_buffer}
+use Rattle.driver_laws.proofs.Blocks.{all_one, placed_buffer}
 use Rattle.owned_blocks.specs.Owned.{the_list, the_head, a_queue, a_dummy, a_piece, a_buffer, a_descriptor, a_descriptor_buffer, IsOwnedRun, AreAllOwned, OwnsAll, IsLentBlock, LentBlocksAre}
 use Rattle.owned_blocks.proofs.Commands.{open_owns, chain_owns, place_owns, transfer_owns, cancel_owns, unchain_owns}
 use Rattle.owned_blocks.proofs.Described.{describe_owns}

@@ -20,8 +20,8 @@ use Rattle.run_owners.specs.Accepts.{AreShort}
 use Rattle.run_owners.specs.Owners.{HasRun, NoteRuns, runs_of_note, note_in}
 use Rattle.run_owners.proofs.Accepted.{drop_first}
 use Rattle.run_owners.proofs.Chains.{buffers_of, notes_apart, few_runs}
-use Rattle.driver_releases.specs.Extents.{IsOneOf}
-use Rattle.driver_releases.specs.Released.{blocks_of}
+use Rattle.driver_laws.specs.Extents.{IsOneOf}
+use Rattle.driver_laws.specs.Released.{blocks_of}
 use Rattle.owned_blocks.proofs.Whose.{one_left, one_right}
 use Rattle.owned_blocks.proofs.Freed.{Has}
 

@@ -6,9 +6,9 @@ use Rattle.driver_rows.specs.Words.{head_block}
 use Rattle.driver_rows.specs.declared.content.Endpoint.{Endpoint}
 use Rattle.driver_rows.specs.declared.content.Transfer.{Transfer}
 use Rattle.run_owners.specs.Owners.{Owner, Element, IsPlaced, ArePieces, EndpointRuns, TransferRuns, NoteRuns, DescriptorRuns, Views, runs_of_endpoint, runs_of_transfer, endpoint_in, transfer_in}
-use Rattle.driver_parts.specs.Inventory.{IsPieceOf, IsQueueIn}
-use Rattle.driver_releases.specs.Extents.{IsOneOf}
-use Rattle.driver_releases.specs.Released.{blocks_of}
+use Rattle.driver_laws.specs.Inventory.{IsPieceOf, IsQueueIn}
+use Rattle.driver_laws.specs.Extents.{IsOneOf}
+use Rattle.driver_laws.specs.Released.{blocks_of}
 use Rattle.owned_blocks.specs.Owned.{IsQueued, IsIsochronous, IsOwnedIn, the_list, the_head, a_queue, a_dummy, a_piece, a_buffer, a_descriptor, a_descriptor_buffer}
 
 abbrev pub queue_blocks : EndpointRuns → List ℕ

@@ -18,8 +18,8 @@ use Rattle.driver_rows.specs.Words.{head_block}
 use Rattle.run_owners.specs.Owners.{HasRun, SlotHas, EndpointRuns, TransferRuns, transfer_in, Views, views_of}
 use Rattle.run_owners.specs.Leaving.{times}
 use Rattle.lent_runs.specs.Lent.{IsLent}
-use Rattle.driver_parts.specs.Inventory.{IsPieceOf, IsQueueIn}
-use Rattle.driver_releases.specs.Extents.{IsOneOf}
+use Rattle.driver_laws.specs.Inventory.{IsPieceOf, IsQueueIn}
+use Rattle.driver_laws.specs.Extents.{IsOneOf}
 
 pub record IsQueued (v : Views) (t : ℕ) (y : TransferRuns) : Type 0 where
   pub here : v.transfer t ≡ Some y

@@ -18,16 +18,16 @@ use Rattle.ring_members.specs.Links.{link_in}
 use Rattle.ring_members.specs.Ring.{IsRing as IsRingOf}
 use Rattle.lent_structures.specs.Structures.{QueueHead, StructureSets, Tells}
 use Rattle.lent_structures.proofs.Reading.{head_read}
-use Rattle.queue_parts.specs.Sound.{LeadsAmong}
-use Rattle.kept_structures.specs.Kept.{HadHead, KeepsEach}
-use Rattle.kept_structures.proofs.Events.{effect_keeps}
-use Rattle.ring_walk.specs.Hand.{Copy, copied_queue, Settlement, settled_queue_of, Hand, Empty, Copied, Settled, Stale, held_of}
-use Rattle.ring_walk.specs.Ring.{Base, IsRing}
-use Rattle.ring_walk.specs.Effects.{Happens}
-use Rattle.ring_walk.proofs.Stepping.{event_happens}
-use Rattle.ring_stores.specs.Stores.{IsWider, IsClosed, IsHandAmong}
-use Rattle.ring_stores.proofs.Driving.{ring_narrowed}
-use Rattle.driver_parts.proofs.Sorts.{effect_same, driven_same}
+use Rattle.lent_structures.specs.Sound.{LeadsAmong}
+use Rattle.controlled_streams.specs.Kept.{HadHead, KeepsEach}
+use Rattle.controlled_streams.proofs.Events.{effect_keeps}
+use Rattle.ring_laws.specs.Hand.{Copy, copied_queue, Settlement, settled_queue_of, Hand, Empty, Copied, Settled, Stale, held_of}
+use Rattle.ring_laws.specs.Ring.{Base, IsRing}
+use Rattle.ring_laws.specs.Effects.{Happens}
+use Rattle.ring_laws.proofs.Stepping.{event_happens}
+use Rattle.ring_laws.specs.Stores.{IsWider, IsClosed, IsHandAmong}
+use Rattle.ring_laws.proofs.Driving.{ring_narrowed}
+use Rattle.driver_laws.proofs.Sorts.{effect_same, driven_same}
 use Rattle.walk_members.specs.Reached.{IsReached, at_head, LeadsOn, IsCopyIn, IsWalkIn}
 use Rattle.walk_members.proofs.Decoding.{read_link, link_decoded}
 use Rattle.walk_members.proofs.Leading.{WordLeads, reached_leads}

@@ -29,11 +29,11 @@ use Rattle.ring_members.specs.Ring.{IsRing as IsRingOf}
 use Rattle.queue_head_words.specs.Fixed.{AreFixed}
 use Rattle.queue_head_words.specs.Overlay.{HasQueueHead}
 use Rattle.lent_structures.specs.Structures.{StructureSets}
-use Rattle.ring_walk.specs.Hand.{Hand}
-use Rattle.ring_walk.specs.Ring.{Base, IsRing}
-use Rattle.ring_walk.specs.Effects.{Effect, AreBytesHeard}
-use Rattle.ring_stores.specs.Stores.{IsWider}
-use Rattle.driver_parts.specs.Driven.{DrivesRing}
+use Rattle.ring_laws.specs.Hand.{Hand}
+use Rattle.ring_laws.specs.Ring.{Base, IsRing}
+use Rattle.ring_laws.specs.Effects.{Effect, AreBytesHeard}
+use Rattle.ring_laws.specs.Stores.{IsWider}
+use Rattle.driver_laws.specs.Driven.{DrivesRing}
 use Rattle.walk_members.specs.Reached.{IsReached, IsWalkIn, AreNoHeads}
 
 -- ---- computed

@@ -2,7 +2,7 @@
 //! have left since the last answered doorbell. So once the doorbell is answered, queue heads that had left before it are members no more, wherever the
 //! walk stands.
 //!
-//! The crate has no code of its own: each function is a law over the definitions of `driver_parts` and `walk_members`, and its body is empty.
+//! The crate has no code of its own: each function is a law over the definitions of `driver_laws` and `walk_members`, and its body is empty.
 #![tactic(auto)]
 
 pub mod laws;

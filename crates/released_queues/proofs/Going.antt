@@ -20,16 +20,16 @@ use Rattle.run_owners.specs.Owners.{Buffer, IsPlaced, TransferRuns, NoteRuns, ru
 use Rattle.chained_transfers.specs.Chains.{piece_at}
 use Rattle.lent_structures.specs.Structures.{Element as ElementOf, QueueHead, Buffer as BufferOf, StructureSets}
 use Rattle.lent_structures.proofs.Names.{not_same}
-use Rattle.queue_parts.specs.Sound.{IsElement, element_pages, buffer_name, HasBuffer, IsWorking, IsSoundQueue, IsMember}
-use Rattle.queue_parts.proofs.Altering.{found_queue, found_element}
-use Rattle.ring_walk.specs.Hand.{Hand}
-use Rattle.ring_walk.specs.Ring.{Base}
-use Rattle.ring_releases.specs.Fewer.{MayGo}
-use Rattle.ring_fronts.specs.Front.{IsFront, LinksRise}
-use Rattle.returned_streams.specs.Returned.{KeepsBuffers}
-use Rattle.driver_parts.specs.Inventory.{Sort, sort_of, OfBuffer, IsPieceOf, IsDriverOwned, the_list, the_head, a_queue, a_dummy, a_piece, a_buffer}
-use Rattle.driver_releases.specs.Released.{goes_of}
-use Rattle.driver_releases.proofs.Blocks.{mine, placed_buffer}
+use Rattle.lent_structures.specs.Sound.{IsElement, element_pages, buffer_name, HasBuffer, IsWorking, IsSoundQueue, IsMember}
+use Rattle.lent_structures.proofs.Altering.{found_queue, found_element}
+use Rattle.ring_laws.specs.Hand.{Hand}
+use Rattle.ring_laws.specs.Ring.{Base}
+use Rattle.ring_laws.specs.Fewer.{MayGo}
+use Rattle.ring_laws.specs.Front.{IsFront, LinksRise}
+use Rattle.controlled_streams.specs.Returned.{KeepsBuffers}
+use Rattle.driver_laws.specs.Inventory.{Sort, sort_of, OfBuffer, IsPieceOf, IsDriverOwned, the_list, the_head, a_queue, a_dummy, a_piece, a_buffer}
+use Rattle.driver_laws.specs.Released.{goes_of}
+use Rattle.driver_laws.proofs.Blocks.{mine, placed_buffer}
 use Rattle.fed_queues.specs.Fed.{IsPieceFed}
 use Rattle.released_queues.specs.Fronts.{piece_address, StandsAt}
 use Rattle.released_queues.specs.Released.{IsReturning, ReleaseStands}

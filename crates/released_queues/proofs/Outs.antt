@@ -10,8 +10,8 @@ use Rattle.run_owners.proofs.Released.{same_by_test}
 use Rattle.lent_structures.proofs.Names.{not_same}
 use Rattle.chained_transfers.specs.Chains.{piece_at}
 use Rattle.chained_transfers.specs.Out.{pieces_from, passed, if_last, out_of_transfer, out_of, out_now}
-use Rattle.ring_order.specs.Order.{IsAmong}
-use Rattle.returned_streams.specs.Returned.{staying}
+use Rattle.ring_laws.specs.Order.{IsAmong}
+use Rattle.controlled_streams.specs.Returned.{staying}
 
 -- ---- lists
 

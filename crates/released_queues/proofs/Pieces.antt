@@ -5,8 +5,8 @@ use Rattle.qh_qtd.specs.declared.qtd.Qtd.{Qtd}
 use Rattle.driver_rows.specs.declared.content.QtdNote.{QtdNote}
 use Rattle.driver_rows.specs.declared.content.Sort.{Sort}
 use Rattle.run_owners.specs.Owners.{TransferRuns, NoteRuns, Views}
-use Rattle.queue_parts.specs.Sound.{element_pages, buffer_name}
-use Rattle.driver_parts.specs.Inventory.{IsPieceOf}
+use Rattle.lent_structures.specs.Sound.{element_pages, buffer_name}
+use Rattle.driver_laws.specs.Inventory.{IsPieceOf}
 use Rattle.chained_transfers.specs.Chains.{piece_at, NoneFrom}
 use Rattle.fed_queues.specs.Fed.{IsNotedQtd}
 

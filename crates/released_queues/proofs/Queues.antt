@@ -26,13 +26,13 @@ use Rattle.chained_transfers.proofs.Chained.{within_list}
 use Rattle.chained_transfers.proofs.Ways.{moves_queued}
 use Rattle.lent_structures.specs.Structures.{Element as ElementOf, Structures, StructureSets}
 use Rattle.lent_structures.proofs.Names.{not_same}
-use Rattle.queue_parts.specs.Sound.{IsElement, LeadsOn}
-use Rattle.ring_walk.specs.Hand.{Hand}
-use Rattle.ring_walk.specs.Ring.{Base}
-use Rattle.driver_parts.specs.Inventory.{Sort, sort_of, OfElement, IsLent, IsQueueIn, IsTransferIn, IsDriverOwned, the_list, the_head, a_queue, a_dummy, a_piece, a_buffer}
-use Rattle.driver_lends.proofs.Owning.{number_of as owner_number}
-use Rattle.driver_releases.specs.Released.{blocks_of, goes_of, IsToGo}
-use Rattle.driver_releases.proofs.Blocks.{mine, all_mine, none_mine, is_named, is_not_named, piece_among, placed_buffer}
+use Rattle.lent_structures.specs.Sound.{IsElement, LeadsOn}
+use Rattle.ring_laws.specs.Hand.{Hand}
+use Rattle.ring_laws.specs.Ring.{Base}
+use Rattle.driver_laws.specs.Inventory.{Sort, sort_of, OfElement, IsLent, IsQueueIn, IsTransferIn, IsDriverOwned, the_list, the_head, a_queue, a_dummy, a_piece, a_buffer}
+use Rattle.driver_laws.proofs.LendOwning.{number_of as owner_number}
+use Rattle.driver_laws.specs.Released.{blocks_of, goes_of, IsToGo}
+use Rattle.driver_laws.proofs.Blocks.{mine, all_mine, none_mine, is_named, is_not_named, piece_among, placed_buffer}
 use Rattle.fed_queues.specs.Fed.{alternate_by, IsPieceFed, unpublished_of}
 use Rattle.released_queues.specs.Fronts.{piece_address}
 use Rattle.released_queues.specs.Released.{IsReturning, ReleaseStands}

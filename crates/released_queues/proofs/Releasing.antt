@@ -23,22 +23,22 @@ use Rattle.chained_transfers.specs.Turns.{IsAtPlace}
 use Rattle.chained_transfers.specs.Out.{passed, out_of_transfer, out_now}
 use Rattle.lent_structures.specs.Structures.{Element as ElementOf, Structures, StructureSets}
 use Rattle.lent_structures.proofs.Names.{not_same}
-use Rattle.queue_parts.specs.Sound.{element_pages, buffer_name}
-use Rattle.queue_parts.proofs.Altering.{found_element}
-use Rattle.ring_walk.specs.Hand.{Hand}
-use Rattle.ring_walk.specs.Ring.{Base}
-use Rattle.ring_walk.specs.Effects.{buffer_of}
-use Rattle.ring_order.specs.Order.{IsAmong}
-use Rattle.ring_releases.specs.Fewer.{without_those}
-use Rattle.ring_releases.proofs.Returning.{those_found, those_else, those_beside}
-use Rattle.ring_fronts.specs.Front.{IsPassed, HasFront}
-use Rattle.returned_streams.specs.Returned.{staying, staying_of, GoUntold}
-use Rattle.returned_streams.proofs.Returning.{front_returned, passed_none, spares_element}
-use Rattle.driver_parts.specs.Inventory.{IsLent}
-use Rattle.driver_releases.specs.Released.{blocks_of, goes_of, release_row}
-use Rattle.driver_releases.proofs.Blocks.{mine, qtds_are_runs}
-use Rattle.driver_releases.proofs.Freeing.{IsLess, runs_less}
-use Rattle.driver_releases.proofs.Releasing.{release_drives}
+use Rattle.lent_structures.specs.Sound.{element_pages, buffer_name}
+use Rattle.lent_structures.proofs.Altering.{found_element}
+use Rattle.ring_laws.specs.Hand.{Hand}
+use Rattle.ring_laws.specs.Ring.{Base}
+use Rattle.ring_laws.specs.Effects.{buffer_of}
+use Rattle.ring_laws.specs.Order.{IsAmong}
+use Rattle.ring_laws.specs.Fewer.{without_those}
+use Rattle.ring_laws.proofs.Returning.{those_found, those_else, those_beside}
+use Rattle.ring_laws.specs.Front.{IsPassed, HasFront}
+use Rattle.controlled_streams.specs.Returned.{staying, staying_of, GoUntold}
+use Rattle.controlled_streams.proofs.Returning.{front_returned, passed_none, spares_element}
+use Rattle.driver_laws.specs.Inventory.{IsLent}
+use Rattle.driver_laws.specs.Released.{blocks_of, goes_of, release_row}
+use Rattle.driver_laws.proofs.Blocks.{mine, qtds_are_runs}
+use Rattle.driver_laws.proofs.Freeing.{IsLess, runs_less}
+use Rattle.driver_laws.proofs.Releasing.{release_drives}
 use Rattle.fed_queues.specs.Fed.{IsPieceFed, unpublished_of, AreFed}
 use Rattle.fed_queues.specs.Places.{IsMet, AreMet, HaveStreams, AreLast, AreStillOut, IsThere}
 use Rattle.released_queues.specs.Fronts.{piece_address, StandsAt, FrontsStand}

@@ -12,7 +12,7 @@ use Rattle.driver_rows.specs.declared.content.Transfer.{Transfer}
 use Rattle.driver_rows.specs.DriverContent.{DriverContent}
 use Rattle.run_owners.specs.Owners.{note_in}
 use Rattle.lent_structures.specs.Structures.{Structures, StructureSets}
-use Rattle.ring_fronts.specs.Front.{IsPassed, HasFront}
+use Rattle.ring_laws.specs.Front.{IsPassed, HasFront}
 use Rattle.chained_transfers.specs.Chains.{piece_at}
 use Rattle.fed_queues.specs.Places.{IsMet}
 

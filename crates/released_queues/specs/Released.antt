@@ -18,15 +18,15 @@ use Rattle.chained_transfers.specs.Bulk.{OnlyBulk}
 use Rattle.chained_transfers.specs.Chains.{AreChained}
 use Rattle.chained_transfers.specs.Turns.{AreInTurn}
 use Rattle.lent_structures.specs.Structures.{StructureSets}
-use Rattle.ring_walk.specs.Hand.{Hand}
-use Rattle.ring_walk.specs.Ring.{Base}
-use Rattle.ring_releases.specs.Fewer.{without_those}
-use Rattle.ring_streams.specs.Told.{Endpoint as Told}
-use Rattle.ring_fronts.specs.Front.{LinksRise}
-use Rattle.returned_streams.specs.Returned.{staying_of, KeepsBuffers, GoUntold}
-use Rattle.driver_parts.specs.Driven.{DrivesRing}
-use Rattle.driver_releases.specs.Extents.{AreInRuns}
-use Rattle.driver_releases.specs.Released.{goes_of, release_row}
+use Rattle.ring_laws.specs.Hand.{Hand}
+use Rattle.ring_laws.specs.Ring.{Base}
+use Rattle.ring_laws.specs.Fewer.{without_those}
+use Rattle.ring_laws.specs.Told.{Endpoint as Told}
+use Rattle.ring_laws.specs.Front.{LinksRise}
+use Rattle.controlled_streams.specs.Returned.{staying_of, KeepsBuffers, GoUntold}
+use Rattle.driver_laws.specs.Driven.{DrivesRing}
+use Rattle.driver_laws.specs.Extents.{AreInRuns}
+use Rattle.driver_laws.specs.Released.{goes_of, release_row}
 use Rattle.fed_queues.specs.Fed.{AreFed}
 use Rattle.fed_queues.specs.Places.{AreMet, HaveStreams, AreLast, AreStillOut, IsThere, IsMet}
 use Rattle.released_queues.specs.Fronts.{FrontsStand}

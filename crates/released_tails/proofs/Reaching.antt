@@ -13,14 +13,14 @@ use Rattle.run_owners.proofs.Released.{set_here, set_there}
 use Rattle.chained_transfers.specs.Chains.{piece_at}
 use Rattle.lent_structures.specs.Structures.{QueueHead, Element, StructureSets}
 use Rattle.lent_structures.proofs.Names.{not_same}
-use Rattle.ring_walk.specs.Hand.{Hand}
-use Rattle.ring_walk.specs.Ring.{Base}
-use Rattle.ring_releases.specs.Fewer.{without_those}
-use Rattle.ring_releases.proofs.Returning.{those_found, those_else, those_beside}
-use Rattle.ring_fronts.specs.Front.{HasFront, LinksWithin, HasTail}
-use Rattle.returned_streams.specs.Returned.{staying, staying_of}
-use Rattle.returned_streams.proofs.Returning.{front_returned}
-use Rattle.driver_releases.specs.Released.{goes_of, release_row}
+use Rattle.ring_laws.specs.Hand.{Hand}
+use Rattle.ring_laws.specs.Ring.{Base}
+use Rattle.ring_laws.specs.Fewer.{without_those}
+use Rattle.ring_laws.proofs.Returning.{those_found, those_else, those_beside}
+use Rattle.ring_laws.specs.Front.{HasFront, LinksWithin, HasTail}
+use Rattle.controlled_streams.specs.Returned.{staying, staying_of}
+use Rattle.controlled_streams.proofs.Returning.{front_returned}
+use Rattle.driver_laws.specs.Released.{goes_of, release_row}
 use Rattle.released_queues.specs.Fronts.{piece_address, StandsAt}
 use Rattle.released_queues.specs.Released.{IsReturning, ReleaseStands}
 use Rattle.released_queues.proofs.Queues.{goes_off, piece_off}

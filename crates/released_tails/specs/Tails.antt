@@ -7,11 +7,11 @@ use Rattle.driver_rows.specs.declared.content.Endpoint.{Endpoint}
 use Rattle.driver_rows.specs.declared.content.Transfer.{Transfer}
 use Rattle.driver_rows.specs.Rows.{Parts as DriverParts, after_driver_row}
 use Rattle.lent_structures.specs.Structures.{StructureSets}
-use Rattle.ring_walk.specs.Hand.{Hand}
-use Rattle.ring_walk.specs.Ring.{Base}
-use Rattle.ring_releases.specs.Fewer.{without_those}
-use Rattle.returned_streams.specs.Returned.{staying_of}
-use Rattle.driver_releases.specs.Released.{goes_of, release_row}
+use Rattle.ring_laws.specs.Hand.{Hand}
+use Rattle.ring_laws.specs.Ring.{Base}
+use Rattle.ring_laws.specs.Fewer.{without_those}
+use Rattle.controlled_streams.specs.Returned.{staying_of}
+use Rattle.driver_laws.specs.Released.{goes_of, release_row}
 use Rattle.released_queues.specs.Released.{IsReturning, ReleaseStands}
 use Rattle.standing_fronts.specs.Reaching.{Reaches}
 

@@ -1,8 +1,8 @@
 //! Worked rows, which the check computes.
 ghost use Rattle.std.specs.Prelude.{◌≡◌, true, false, [], ◌∷◌};
 ghost use Rattle.chained_transfers.specs.Worked.{notes};
-ghost use Rattle.driver_releases.specs.Released.{blocks_of, names_one};
-ghost use Rattle.returned_streams.specs.Returned.{staying};
+ghost use Rattle.driver_laws.specs.Released.{blocks_of, names_one};
+ghost use Rattle.controlled_streams.specs.Returned.{staying};
 
 /// A short packet ended the transfer with the qTDs in blocks 132 and 140 at the first of them: both go. Those of the next one, in blocks 141 and 142, and the
 /// tail in block 143 stay.

@@ -20,11 +20,11 @@ use Rattle.lent_runs.specs.Lent.{AreLent}
 use Rattle.ring_members.proofs.Accepted.{shaped_taken}
 use Rattle.in_place.specs.InPlace.{IsGood}
 use Rattle.in_place.proofs.Good.{words_good, stages_good}
-use Rattle.transfer_lends.specs.Written.{AreAllApart, AreNoted, IsStageNoted, next_blocks, buffer_blocks, AwaitsLend}
-use Rattle.transfer_lends.proofs.Lists.{apart_right}
-use Rattle.transfer_lends.proofs.Accepting.{accepted_awaits_lend}
-use Rattle.put_bytes.proofs.Words.{bytes_same}
-use Rattle.put_bytes.proofs.Buffers.{StandsIn, stands_in}
+use Rattle.driver_laws.specs.Written.{AreAllApart, AreNoted, IsStageNoted, next_blocks, buffer_blocks, AwaitsLend}
+use Rattle.driver_laws.proofs.Lists.{apart_right}
+use Rattle.driver_laws.proofs.TransferAccepting.{accepted_awaits_lend}
+use Rattle.put_laws.proofs.Words.{bytes_same}
+use Rattle.put_laws.proofs.Buffers.{StandsIn, stands_in}
 use Rattle.report_streams.specs.Requests.{Request}
 use Rattle.request_windows.specs.Host.{has_data}
 use Rattle.request_bytes.specs.Held.{RequestIsHeld, AcceptedRequestIsHeld, HeldRequestStays}

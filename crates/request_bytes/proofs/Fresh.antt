@@ -14,13 +14,13 @@ use Rattle.driver_rows.specs.Harvests.{note_at, buffer_address, buffer_bytes}
 use Rattle.driver_rows.specs.Offers.{is_last}
 use Rattle.run_owners.specs.Accepts.{AreShort}
 use Rattle.lent_structures.specs.Structures.{Element, Buffer, Structures, StructureSets, Tells}
-use Rattle.queue_parts.specs.Sound.{element_pages, buffer_name, HasBuffer}
+use Rattle.lent_structures.specs.Sound.{element_pages, buffer_name, HasBuffer}
 use Rattle.harvested_streams.proofs.Harvesting.{bytes_read}
-use Rattle.transfer_lends.specs.Written.{AreNoted, IsStageNoted}
-use Rattle.transfer_lends.specs.Pieces.{stage_qtd, AreStanding, AreBuffered}
-use Rattle.transfer_lends.proofs.Pieces.{element_is}
+use Rattle.driver_laws.specs.Written.{AreNoted, IsStageNoted}
+use Rattle.driver_laws.specs.Pieces.{stage_qtd, AreStanding, AreBuffered}
+use Rattle.driver_laws.proofs.Pieces.{element_is}
 use Rattle.fed_lends.proofs.Feeding.{places_new}
-use Rattle.put_bytes.proofs.Words.{bytes_same}
+use Rattle.put_laws.proofs.Words.{bytes_same}
 use Rattle.walk_copy.specs.Planning.{pid_at}
 use Rattle.control_stages.specs.Stages.{is_read}
 use Rattle.report_streams.specs.Requests.{Request}

@@ -12,10 +12,10 @@ use Rattle.driver_rows.specs.Words.{pieces}
 use Rattle.driver_rows.specs.Harvests.{note_at, buffer_address, buffer_bytes}
 use Rattle.driver_rows.specs.Offers.{sends, write_bytes, send_stages}
 use Rattle.run_owners.specs.Accepts.{AreShort}
-use Rattle.transfer_lends.specs.Written.{AreAllApart, AreNoted, IsStageNoted, buffer_blocks}
-use Rattle.transfer_lends.proofs.Lists.{IsOneOf, one_left, one_right, apart_left, apart_right, apart_halves}
-use Rattle.put_bytes.proofs.Words.{IsBuffer, written_other, byte_written, bytes_are, bytes_same}
-use Rattle.put_bytes.proofs.Buffers.{StandsIn, stands_in, words_apart, is_buffer}
+use Rattle.driver_laws.specs.Written.{AreAllApart, AreNoted, IsStageNoted, buffer_blocks}
+use Rattle.driver_laws.proofs.Lists.{IsOneOf, one_left, one_right, apart_left, apart_right, apart_halves}
+use Rattle.put_laws.proofs.Words.{IsBuffer, written_other, byte_written, bytes_are, bytes_same}
+use Rattle.put_laws.proofs.Buffers.{StandsIn, stands_in, words_apart, is_buffer}
 
 -- ---- what is to be shown
 

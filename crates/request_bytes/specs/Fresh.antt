@@ -15,9 +15,9 @@ use Rattle.driver_rows.specs.Harvests.{note_at}
 use Rattle.driver_rows.specs.Offers.{is_last}
 use Rattle.run_owners.specs.Owners.{EndpointRuns, TransferRuns}
 use Rattle.lent_structures.specs.Structures.{Element, Structures, StructureSets, Tells}
-use Rattle.transfer_lends.specs.Written.{AwaitsLend}
-use Rattle.transfer_lends.specs.Pieces.{stage_qtd}
-use Rattle.transfer_lends.specs.Laws.{HasPieces, lent_memory}
+use Rattle.driver_laws.specs.Written.{AwaitsLend}
+use Rattle.driver_laws.specs.Pieces.{stage_qtd}
+use Rattle.driver_laws.specs.TransferLaws.{HasPieces, lent_memory}
 use Rattle.report_streams.specs.Requests.{Request}
 use Rattle.request_windows.specs.Host.{Endpoint, Setup, has_data}
 use Rattle.ring_requests.specs.Laid.{Places}

@@ -16,7 +16,7 @@ use Rattle.run_owners.specs.Owners.{EndpointRuns, TransferRuns}
 use Rattle.run_owners.specs.Accepts.{Transfers}
 use Rattle.run_owners.specs.Kept.{HasOwners}
 use Rattle.lent_runs.specs.Lent.{AreLent}
-use Rattle.transfer_lends.specs.Written.{AwaitsLend}
+use Rattle.driver_laws.specs.Written.{AwaitsLend}
 use Rattle.control_stages.specs.Stages.{is_read, wanted_of}
 use Rattle.report_streams.specs.Requests.{Request}
 use Rattle.request_windows.specs.Host.{has_data}

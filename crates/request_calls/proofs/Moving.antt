@@ -16,8 +16,8 @@ use Rattle.toggle_error.specs.declared.rows.SettleRow.TheVariants as Rows
 use Rattle.toggle_error.specs.Columns.{limit_of, heard_data, heard_hand, heard_of}
 use Rattle.toggle_error.specs.PlainRows.{plain_row, plain_outcome}
 use Rattle.walk_copy.specs.WriteBack.{moved_by}
-use Rattle.settle_laws.specs.Settles.{is_moved}
-use Rattle.settle_laws.proofs.Moving.{plain_moves, Moves, row_is}
+use Rattle.lent_structures.specs.Settles.{is_moved}
+use Rattle.lent_structures.proofs.Moving.{plain_moves, Moves, row_is}
 use Rattle.request_windows.specs.Host.{got_with}
 
 -- an OUT of a control endpoint, or a SETUP

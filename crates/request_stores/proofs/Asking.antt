@@ -7,11 +7,11 @@ use Rattle.qh_qtd.specs.declared.qtd.Qtd.{Qtd}
 use Rattle.qh_qtd.specs.declared.queue_head.Qh.{Qh}
 use Rattle.lent_structures.specs.Structures.{Structure, QueueHead, Element, Buffer, Structures, StructureSets, put}
 use Rattle.lent_structures.proofs.Names.{put_else, put_beside, put_found}
-use Rattle.queue_parts.specs.Sound.{buffer_name, HasBuffer}
-use Rattle.queue_parts.proofs.Altering.{same_element, found_element}
+use Rattle.lent_structures.specs.Sound.{buffer_name, HasBuffer}
+use Rattle.lent_structures.proofs.Altering.{same_element, found_element}
 use Rattle.request_windows.specs.Host.{Stage, Setup, Data, Status, Done, Halted}
 use Rattle.request_windows.specs.Samples.{described, get_device, get_configuration}
-use Rattle.ring_walk.specs.Hand.{Empty}
+use Rattle.ring_laws.specs.Hand.{Empty}
 use Rattle.ring_requests.specs.Laid.{place_at, AreOthers, comes, IsIdle, IsFresh}
 use Rattle.ring_requests.specs.Windows.{sent_at, IsBehind, AreLaid}
 use Rattle.ring_requests.specs.Samples.{queue, setup, read, status, pages_at, parts, qtds, nothing, first_status, second_setup, second_read, stand_at, is_only}

@@ -6,8 +6,8 @@ use Rattle.lent_structures.specs.Structures.{Element, Structures, StructureSets,
 use Rattle.lent_structures.proofs.Names.{not_same}
 use Rattle.request_windows.specs.Windows.{IsRequest}
 use Rattle.request_calls.specs.Bus.{Device}
-use Rattle.ring_walk.specs.Hand.{Hand}
-use Rattle.ring_streams.specs.Told.{endpoint_of}
+use Rattle.ring_laws.specs.Hand.{Hand}
+use Rattle.ring_laws.specs.Told.{endpoint_of}
 use Rattle.ring_requests.specs.Laid.{AreApart}
 use Rattle.ring_requests.specs.Windows.{Queue, Lines, lines_at, IsQueue, AreSent, IsElsewhere, AreWindows}
 use Rattle.ring_requests.proofs.Telling.{queue_opens}

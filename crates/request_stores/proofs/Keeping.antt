@@ -8,14 +8,14 @@ use Rattle.qh_qtd.specs.declared.qtd.Qtd.{Qtd}
 use Rattle.qh_qtd.specs.declared.queue_head.Qh.{Qh}
 use Rattle.toggle_error.specs.declared.host.HostSide.{HostSide}
 use Rattle.lent_structures.specs.Structures.{QueueHead, Element, Buffer, Structures, StructureSets}
-use Rattle.queue_parts.specs.Sound.{element_pages, buffer_name}
+use Rattle.lent_structures.specs.Sound.{element_pages, buffer_name}
 use Rattle.report_streams.specs.Requests.{Request}
 use Rattle.request_windows.specs.Host.{Endpoint, Host, Stage, Setup, Data, Status, Done, Halted, next_stage}
 use Rattle.request_windows.specs.Line.{Line}
 use Rattle.request_calls.specs.Bus.{Device}
-use Rattle.ring_walk.specs.Hand.{Hand}
-use Rattle.ring_walk.specs.Effects.{buffer_of}
-use Rattle.ring_streams.specs.Told.{hand_bytes, Told}
+use Rattle.ring_laws.specs.Hand.{Hand}
+use Rattle.ring_laws.specs.Effects.{buffer_of}
+use Rattle.ring_laws.specs.Told.{hand_bytes, Told}
 use Rattle.ring_requests.specs.Laid.{Places, place_at, IsUnpublished, IsLinkBehind, LeadBehind, Leads, HasBytes, IsStage, IsFresh}
 use Rattle.ring_requests.specs.Shown.{hand_side, pointer_at, AreFresh, IsPending, Shows}
 use Rattle.ring_requests.specs.Shown.Shows.{works, waits, ends, halts}

@@ -5,16 +5,16 @@ use Rattle.qh_qtd.specs.declared.qtd.Qtd.{Qtd}
 use Rattle.qh_qtd.specs.declared.queue_head.Qh.{Qh}
 use Rattle.lent_structures.specs.Structures.{Element, Structures, StructureSets, put}
 use Rattle.lent_structures.proofs.Names.{not_same}
-use Rattle.queue_parts.specs.Sound.{HasBuffer}
+use Rattle.lent_structures.specs.Sound.{HasBuffer}
 use Rattle.control_stages.specs.Stages.{Stages}
 use Rattle.report_streams.specs.Requests.{Request}
 use Rattle.request_windows.specs.Host.{Endpoint, Setup, Data}
 use Rattle.request_windows.specs.Windows.{IsRequest}
 use Rattle.request_calls.specs.Bus.{Device}
-use Rattle.ring_walk.specs.Hand.{Hand, Empty, Copied, Settled, Stale}
-use Rattle.ring_walk.specs.Effects.{bytes_in, buffer_of}
-use Rattle.ring_streams.specs.Told.{works_on, told_bytes, settled_bytes, hand_bytes}
-use Rattle.ring_streams.proofs.Growing.{works_not}
+use Rattle.ring_laws.specs.Hand.{Hand, Empty, Copied, Settled, Stale}
+use Rattle.ring_laws.specs.Effects.{bytes_in, buffer_of}
+use Rattle.ring_laws.specs.Told.{works_on, told_bytes, settled_bytes, hand_bytes}
+use Rattle.ring_laws.proofs.Growing.{works_not}
 use Rattle.ring_requests.specs.Laid.{Places, IsPlace, AreApart, AreOthers, IsIdle, IsFresh}
 use Rattle.ring_requests.specs.Windows.{Sent, Queue, sent_at, Lines, IsWindow, IsFinished, IsBehind, IsQueue, AreChained, AreSent, IsElsewhere, AreWindows}
 use Rattle.ring_requests.specs.Runs.{IsRun}

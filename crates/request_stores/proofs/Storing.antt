@@ -6,13 +6,13 @@ use Rattle.qh_qtd.specs.declared.qtd.Qtd.{Qtd}
 use Rattle.qh_qtd.specs.declared.queue_head.Qh.{Qh}
 use Rattle.lent_structures.specs.Structures.{QueueHead, Element, Buffer, Structure, Structures, StructureSets, put}
 use Rattle.lent_structures.proofs.Names.{put_same, put_else, put_beside}
-use Rattle.queue_parts.specs.Sound.{buffer_name}
-use Rattle.queue_parts.proofs.Altering.{found_element, no_two}
+use Rattle.lent_structures.specs.Sound.{buffer_name}
+use Rattle.lent_structures.proofs.Altering.{found_element, no_two}
 use Rattle.request_windows.specs.Host.{Stage}
 use Rattle.request_calls.specs.Bus.{Device}
-use Rattle.ring_walk.specs.Hand.{Hand}
-use Rattle.ring_walk.specs.Effects.{bytes_in, buffer_of}
-use Rattle.ring_streams.specs.Told.{hand_bytes, Told}
+use Rattle.ring_laws.specs.Hand.{Hand}
+use Rattle.ring_laws.specs.Effects.{bytes_in, buffer_of}
+use Rattle.ring_laws.specs.Told.{hand_bytes, Told}
 use Rattle.ring_requests.specs.Laid.{place_at, IsIdle}
 use Rattle.ring_requests.specs.Windows.{Queue, Lines, IsQueue, IsElsewhere, AreWindows}
 use Rattle.ring_requests.proofs.Windows.{queue_same}

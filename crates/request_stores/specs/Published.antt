@@ -20,14 +20,14 @@ use Rattle.link_words.specs.Links.{qtd_link_of}
 use Rattle.qh_qtd.specs.declared.qtd.Qtd.{Qtd}
 use Rattle.qh_qtd.specs.declared.queue_head.Qh.{Qh}
 use Rattle.lent_structures.specs.Structures.{Structure, QueueHead, Element, Structures, StructureSets, put}
-use Rattle.queue_parts.specs.Sound.{buffer_name, HasBuffer}
+use Rattle.lent_structures.specs.Sound.{buffer_name, HasBuffer}
 use Rattle.control_stages.specs.Stages.{Stages}
 use Rattle.report_streams.specs.Requests.{Request}
 use Rattle.request_windows.specs.Host.{Stage, Setup, has_data}
 use Rattle.request_windows.specs.Windows.{IsRequest}
 use Rattle.request_calls.specs.Bus.{Device, device_of}
-use Rattle.ring_walk.specs.Hand.{Hand}
-use Rattle.ring_streams.specs.Told.{HasEndpoint, Endpoint as Characteristics}
+use Rattle.ring_laws.specs.Hand.{Hand}
+use Rattle.ring_laws.specs.Told.{HasEndpoint, Endpoint as Characteristics}
 use Rattle.ring_requests.specs.Laid.{Places, place_at, AreApart, AreOthers, IsIdle}
 use Rattle.ring_requests.specs.Shown.{pointer_at, AreFresh}
 use Rattle.ring_requests.specs.Windows.{Sent, Queue, sent_at, Lines, lines_at, IsBehind, AreLaid, AreSent, AreWindows}

@@ -3,7 +3,7 @@ ghost use Rattle.usb_base.specs.declared.endpoints.EndCause.TheVariants as Ends;
 ghost use Rattle.std.specs.Prelude.{◌≡◌, [], ◌∷◌};
 ghost use Rattle.request_windows.specs.Host.{Data, Done, Halted};
 ghost use Rattle.request_windows.specs.Samples.{told, tells, descriptor, get_device as GetDevice, get_configuration as GetConfiguration};
-ghost use Rattle.ring_walk.specs.Hand.{Empty};
+ghost use Rattle.ring_laws.specs.Hand.{Empty};
 ghost use Rattle.ring_requests.specs.Samples.{queue, is_only as IsOnly};
 ghost use Rattle.ring_requests.specs.Windows.{AreLaid};
 ghost use Rattle.request_stores.specs.Published.{IsLend, IsNextRequest};

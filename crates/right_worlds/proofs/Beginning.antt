@@ -12,21 +12,21 @@ use Rattle.endpoint_script.specs.Items.{packets_of}
 use Rattle.pipe_agreement.specs.Prefix.{IsPrefix}
 use Rattle.usb_bus.specs.Bus.{Fixed, opening_wired}
 use Rattle.report_streams.specs.Streams.{items_of, told_in}
-use Rattle.ring_walk.specs.Ring.{Base}
-use Rattle.ring_streams.specs.Told.{Endpoint as Told}
-use Rattle.ring_pipes.specs.Bus.{Sender}
+use Rattle.ring_laws.specs.Ring.{Base}
+use Rattle.ring_laws.specs.Told.{Endpoint as Told}
+use Rattle.ring_laws.specs.Bus.{Sender}
 use Rattle.scripted_streams.specs.Senders.{sender_of}
-use Rattle.reported_streams.proofs.Reporting.{reported_begins}
+use Rattle.controlled_streams.proofs.Reporting.{reported_begins}
 use Rattle.driver_rows.specs.declared.content.Endpoint.{Endpoint}
 use Rattle.driver_rows.specs.declared.content.Command.{Command}
 use Rattle.driver_rows.specs.declared.content.Command.TheVariants as unfinished
 use Rattle.endpoint_lives.specs.Lives.{may_meet}
 use Rattle.told_endpoints.specs.Telling.{lines_in}
 use Rattle.bus_world.specs.World.{World}
-use Rattle.world_streams.specs.Streaming.{Streams, Standing, IsStreaming, wired}
+use Rattle.stream_worlds.specs.Streaming.{Streams, Standing, IsStreaming, wired}
 use Rattle.chained_transfers.specs.Bulk.{receives, BulkOnly, OnlyBulk}
 use Rattle.fed_queues.specs.Places.{IsThere, IsMet, HaveStreams}
-use Rattle.told_queues.specs.Told.{ToldStands}
+use Rattle.harvest_laws.specs.Told.{ToldStands}
 use Rattle.opening_senders.specs.Own.{HasOwnDevices}
 use Rattle.opening_senders.proofs.Opening.{opening_sends}
 use Rattle.right_reports.specs.WorldReport.{report_of}

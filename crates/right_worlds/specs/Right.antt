@@ -12,15 +12,15 @@ use Rattle.endpoint_lives.specs.Lives.{may_meet}
 use Rattle.pipe_agreement.specs.Prefix.{IsPrefix}
 use Rattle.report_streams.specs.Streams.{told_in}
 use Rattle.told_endpoints.specs.Telling.{lines_in}
-use Rattle.reported_streams.specs.Reported.{AreReported}
-use Rattle.ring_walk.specs.Ring.{Base}
-use Rattle.ring_pipes.specs.Bus.{Sender}
+use Rattle.controlled_streams.specs.Reported.{AreReported}
+use Rattle.ring_laws.specs.Ring.{Base}
+use Rattle.ring_laws.specs.Bus.{Sender}
 use Rattle.scripted_streams.specs.Senders.{sender_of}
 use Rattle.bus_world.specs.World.{World}
-use Rattle.world_streams.specs.Streaming.{Streams, Standing, IsStreaming}
+use Rattle.stream_worlds.specs.Streaming.{Streams, Standing, IsStreaming}
 use Rattle.chained_transfers.specs.Bulk.{receives, BulkOnly, OnlyBulk}
 use Rattle.fed_queues.specs.Places.{HaveStreams, IsThere}
-use Rattle.told_queues.specs.Told.{ToldStands}
+use Rattle.harvest_laws.specs.Told.{ToldStands}
 use Rattle.opening_senders.specs.Own.{HasOwnDevices}
 use Rattle.right_reports.specs.WorldReport.{report_of}
 use Rattle.right_reports.specs.Ins.{AreRightInStreams}

@@ -11,7 +11,7 @@ use Rattle.request_windows.specs.Standing.{sight_of, IsDone, StandsAt, Stands}
 use Rattle.request_windows.specs.Windows.{IsRequest}
 use Rattle.request_windows.proofs.Steps.{opens}
 use Rattle.request_calls.specs.Stages.{IsEndpoint}
-use Rattle.ring_walk.specs.Hand.{Empty}
+use Rattle.ring_laws.specs.Hand.{Empty}
 use Rattle.ring_requests.specs.Laid.{place_at, AreApart, AreOthers, comes, IsUnpublished, IsIdle, LeadBehind, IsFresh}
 use Rattle.ring_requests.specs.Shown.Shows.{works, ends}
 use Rattle.ring_requests.specs.Windows.{sent_at, IsFinished, IsBehind, IsLaid, HasTail, IsQueue, AreLaid, AreChained, AreSent}

@@ -14,8 +14,8 @@ use Rattle.lent_structures.specs.Structures.{Structures}
 use Rattle.lent_structures.proofs.Names.{not_same}
 use Rattle.walk_copy.specs.Overlay.{buffer_place}
 use Rattle.walk_copy.specs.Planning.{pid_at}
-use Rattle.ring_walk.specs.Effects.{bytes_in, buffer_of}
-use Rattle.queue_parts.specs.Sound.{HasBuffer, IsReady, IsWorking}
+use Rattle.ring_laws.specs.Effects.{bytes_in, buffer_of}
+use Rattle.lent_structures.specs.Sound.{HasBuffer, IsReady, IsWorking}
 use Rattle.report_streams.specs.Requests.{Request}
 use Rattle.request_windows.specs.Host.{Endpoint, Stage, Setup, Data, Status, Done, Halted, is_over, data_token, token_at, bytes_at, data_bytes}
 use Rattle.request_windows.specs.Windows.{IsRequest}

@@ -11,8 +11,8 @@ use Rattle.toggle_error.specs.declared.host.Outcome.{Outcome}
 use Rattle.toggle_error.specs.declared.host.Outcome.TheVariants as outcomes
 use Rattle.lent_structures.specs.Structures.{Element, Structures}
 use Rattle.walk_copy.specs.Planning.{host_in}
-use Rattle.settle_laws.specs.Settles.{is_moved}
-use Rattle.queue_parts.proofs.Altering.{found_element}
+use Rattle.lent_structures.specs.Settles.{is_moved}
+use Rattle.lent_structures.proofs.Altering.{found_element}
 use Rattle.report_streams.specs.Requests.{Request}
 use Rattle.request_windows.specs.Host.{Endpoint, Host, Stage, Setup, Data, Status, Done, Halted, has_data, is_over, side_at, next_stage, host_in as begun, moved_at, goes_on, settled_by}
 use Rattle.ring_requests.specs.Laid.{Places, place_at, AreApart, comes, IsStage, IsFresh}

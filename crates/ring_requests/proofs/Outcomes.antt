@@ -20,7 +20,7 @@ use Rattle.walk_copy.specs.Planning.{pid_at, transaction_at, host_in}
 use Rattle.walk_copy.specs.Transacting.{call_in, host_after, outcome_in}
 use Rattle.walk_copy.specs.WriteBack.{moved_by}
 use Rattle.async_walk.specs.Naks.{planned}
-use Rattle.settle_laws.specs.Settles.{is_moved}
+use Rattle.lent_structures.specs.Settles.{is_moved}
 use Rattle.request_windows.specs.Host.{Endpoint}
 use Rattle.request_calls.specs.Stages.{IsEndpoint, moved_of}
 use Rattle.request_calls.proofs.Alike.{own_pipe}

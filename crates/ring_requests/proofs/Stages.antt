@@ -9,8 +9,8 @@ use Rattle.link_words.specs.Links.{qtd_link_of}
 use Rattle.qh_qtd.specs.declared.qtd.Qtd.{Qtd}
 use Rattle.qh_qtd.specs.declared.queue_head.Qh.{Qh}
 use Rattle.lent_structures.specs.Structures.{Element, Structures}
-use Rattle.queue_parts.specs.Alters.{HasElementAfter, HadElement, Alters}
-use Rattle.queue_parts.proofs.Members.{still_active}
+use Rattle.lent_structures.specs.Alters.{HasElementAfter, HadElement, Alters}
+use Rattle.lent_structures.proofs.Members.{still_active}
 use Rattle.report_streams.specs.Requests.{Request}
 use Rattle.request_windows.specs.Host.{Endpoint, Stage, Setup, Data, Status, Done, Halted, has_data, is_over, next_stage}
 use Rattle.ring_requests.specs.Laid.{Places, place_at, AreApart, comes, LeadTo, IsLinkBehind, LeadBehind, IsUnpublished, IsIdle, Leads, HasBytes, IsStage, IsFresh}

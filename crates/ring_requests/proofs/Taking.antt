@@ -9,9 +9,9 @@ use Rattle.toggle_error.specs.declared.host.HostSide.{HostSide}
 use Rattle.host_token.specs.HostToken.{host_at}
 use Rattle.lent_structures.specs.Structures.{QueueHead, Element, Buffer, Structures, with_structure}
 use Rattle.lent_structures.proofs.Names.{with_there}
-use Rattle.queue_parts.specs.Alters.{Alters}
-use Rattle.queue_parts.specs.Sound.{buffer_name}
-use Rattle.queue_parts.proofs.Altering.{found_element, no_two, head_put}
+use Rattle.lent_structures.specs.Alters.{Alters}
+use Rattle.lent_structures.specs.Sound.{buffer_name}
+use Rattle.lent_structures.proofs.Altering.{found_element, no_two, head_put}
 use Rattle.walk_copy.specs.Overlay.{advanced}
 use Rattle.walk_copy.specs.Planning.{host_in}
 use Rattle.walk_copy.specs.Visits.{next_pointer}

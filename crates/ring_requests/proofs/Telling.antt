@@ -9,11 +9,11 @@ use Rattle.toggle_error.specs.declared.host.HostSide.{HostSide}
 use Rattle.walk_copy.specs.Planning.{host_in}
 use Rattle.lent_structures.specs.Structures.{QueueHead, Element, Structures, StructureSets}
 use Rattle.lent_structures.proofs.Names.{not_same}
-use Rattle.queue_parts.specs.Sound.{IsWorking, IsSoundQueue, IsMember}
-use Rattle.queue_parts.proofs.Altering.{found_queue, found_element}
-use Rattle.ring_walk.specs.Hand.{Hand, Empty, Copied, Settled, Stale}
-use Rattle.ring_walk.specs.Ring.{IsInHand}
-use Rattle.ring_streams.specs.Told.{Told}
+use Rattle.lent_structures.specs.Sound.{IsWorking, IsSoundQueue, IsMember}
+use Rattle.lent_structures.proofs.Altering.{found_queue, found_element}
+use Rattle.ring_laws.specs.Hand.{Hand, Empty, Copied, Settled, Stale}
+use Rattle.ring_laws.specs.Ring.{IsInHand}
+use Rattle.ring_laws.specs.Told.{Told}
 use Rattle.control_stages.specs.Stages.{Stages}
 use Rattle.report_streams.specs.Requests.{Request}
 use Rattle.request_windows.specs.Host.{Host, Stage, Setup, Data, Status, Done, Halted, has_data, is_over, next_stage}

@@ -13,26 +13,26 @@ use Rattle.walk_copy.specs.Transacting.{call_in}
 use Rattle.async_walk.specs.declared.state.WalkStep.{WalkStep}
 use Rattle.async_walk.specs.Naks.{kind_at, planned}
 use Rattle.async_walk.specs.Rows.{WalkPlace, at_event, event_row, step_of, Leads}
-use Rattle.settle_laws.specs.Settles.{Settles}
-use Rattle.settle_laws.proofs.Settling.{settles}
+use Rattle.lent_structures.specs.Settles.{Settles}
+use Rattle.lent_structures.proofs.Settling.{settles}
 use Rattle.lent_structures.specs.Structures.{QueueHead, Element, Structures, StructureSets, with_structure}
 use Rattle.lent_structures.proofs.Names.{not_same, put_here, put_beside, with_here}
-use Rattle.write_back_laws.proofs.Found.{back_beside}
-use Rattle.queue_parts.specs.Sound.{AreOwn, IsWorking, IsSoundQueue, IsMember}
-use Rattle.queue_parts.specs.Alters.{Alters}
-use Rattle.queue_parts.proofs.Altering.{found_queue, found_element}
-use Rattle.ring_walk.specs.Hand.{Copy, Settlement, settled_queue_of, Hand, Empty, Copied, Settled, Stale}
-use Rattle.ring_walk.specs.Ring.{Base, IsCopied, IsSettled, IsInHand, IsRing}
-use Rattle.ring_walk.specs.Effects.{buffer_of, received_into, settlement, counted, taken, Takes, Makes, WritesBack, Effect, Happens, AreBytesHeard}
-use Rattle.ring_walk.specs.Effects.Effect.{reads, passes, ends, takes, makes, writes_back}
-use Rattle.ring_walk.proofs.Stepping.{event_happens}
-use Rattle.ring_walk.proofs.Writing.{queue_written}
-use Rattle.ring_streams.specs.Told.{Told, endpoint_of, SameTold}
-use Rattle.ring_streams.specs.Streams.{AreMembers, Grows}
-use Rattle.ring_streams.proofs.Altered.{effect_alters}
-use Rattle.ring_streams.proofs.Keeping.{IsUnsettled, empty_unsettled, copied_unsettled, same_kept, taking_tells_the_same}
-use Rattle.ring_streams.proofs.Growing.{transaction_grows}
-use Rattle.ring_streams.proofs.Written.{writing_tells_the_same}
+use Rattle.lent_structures.proofs.Found.{back_beside}
+use Rattle.lent_structures.specs.Sound.{AreOwn, IsWorking, IsSoundQueue, IsMember}
+use Rattle.lent_structures.specs.Alters.{Alters}
+use Rattle.lent_structures.proofs.Altering.{found_queue, found_element}
+use Rattle.ring_laws.specs.Hand.{Copy, Settlement, settled_queue_of, Hand, Empty, Copied, Settled, Stale}
+use Rattle.ring_laws.specs.Ring.{Base, IsCopied, IsSettled, IsInHand, IsRing}
+use Rattle.ring_laws.specs.Effects.{buffer_of, received_into, settlement, counted, taken, Takes, Makes, WritesBack, Effect, Happens, AreBytesHeard}
+use Rattle.ring_laws.specs.Effects.Effect.{reads, passes, ends, takes, makes, writes_back}
+use Rattle.ring_laws.proofs.Stepping.{event_happens}
+use Rattle.ring_laws.proofs.Writing.{queue_written}
+use Rattle.ring_laws.specs.Told.{Told, endpoint_of, SameTold}
+use Rattle.ring_laws.specs.Streams.{AreMembers, Grows}
+use Rattle.ring_laws.proofs.Altered.{effect_alters}
+use Rattle.ring_laws.proofs.Keeping.{IsUnsettled, empty_unsettled, copied_unsettled, same_kept, taking_tells_the_same}
+use Rattle.ring_laws.proofs.Growing.{transaction_grows}
+use Rattle.ring_laws.proofs.Written.{writing_tells_the_same}
 use Rattle.report_streams.specs.Requests.{Request}
 use Rattle.request_windows.specs.Host.{Endpoint, Host, Stage, Setup, Data, Status, Done, Halted, is_over, settled_by}
 use Rattle.request_windows.specs.Line.{Line, transacted}

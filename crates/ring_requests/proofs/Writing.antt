@@ -10,15 +10,15 @@ use Rattle.lent_structures.specs.Structures.{QueueHead, Element, Buffer, Structu
 use Rattle.walk_copy.specs.Overlay.{settled_queue, moved}
 use Rattle.walk_copy.specs.Planning.{pid_at, host_in}
 use Rattle.walk_copy.specs.WriteBack.{moved_by}
-use Rattle.write_back_laws.specs.WriteBack.{Received, IsReceived, CanBeWritten, parts_back}
-use Rattle.write_back_laws.proofs.Found.{IsNotInto, back_element, back_head, back_other_element, back_other_buffer}
-use Rattle.queue_parts.specs.Sound.{element_pages, buffer_name, AreOwn}
-use Rattle.queue_parts.specs.Alters.{Alters}
-use Rattle.queue_parts.proofs.Altering.{found_element}
-use Rattle.ring_walk.specs.Hand.{Copy, Settlement, settled_queue_of, Hand}
-use Rattle.ring_walk.specs.Ring.{IsCopied, IsSettled}
-use Rattle.ring_walk.specs.Effects.{buffer_of, received_into, WritesBack}
-use Rattle.ring_walk.proofs.Writing.{settled_copy, settled_range, is_written, queue_written}
+use Rattle.lent_structures.specs.WriteBack.{Received, IsReceived, CanBeWritten, parts_back}
+use Rattle.lent_structures.proofs.Found.{IsNotInto, back_element, back_head, back_other_element, back_other_buffer}
+use Rattle.lent_structures.specs.Sound.{element_pages, buffer_name, AreOwn}
+use Rattle.lent_structures.specs.Alters.{Alters}
+use Rattle.lent_structures.proofs.Altering.{found_element}
+use Rattle.ring_laws.specs.Hand.{Copy, Settlement, settled_queue_of, Hand}
+use Rattle.ring_laws.specs.Ring.{IsCopied, IsSettled}
+use Rattle.ring_laws.specs.Effects.{buffer_of, received_into, WritesBack}
+use Rattle.ring_laws.proofs.Writing.{settled_copy, settled_range, is_written, queue_written}
 use Rattle.report_streams.specs.Requests.{Request}
 use Rattle.request_windows.specs.Host.{Endpoint, Host, Stage, Setup, Data, Status, Done, Halted, data_token, token_at}
 use Rattle.request_calls.specs.Stages.{IsEndpoint}

@@ -16,7 +16,7 @@ use Rattle.qh_qtd.specs.declared.qtd.Qtd.{Qtd}
 use Rattle.control_stages.specs.Stages.{is_read}
 use Rattle.host_token.specs.HostToken.{host_at}
 use Rattle.lent_structures.specs.Structures.{Element, Buffer, Structures}
-use Rattle.queue_parts.specs.Sound.{element_pages, buffer_name}
+use Rattle.lent_structures.specs.Sound.{element_pages, buffer_name}
 use Rattle.report_streams.specs.Requests.{Request}
 use Rattle.request_windows.specs.Host.{Endpoint, Stage, Setup, Data, Status, has_data, token_at, side_at, next_stage}
 use Rattle.walk_copy.specs.Planning.{pid_at}

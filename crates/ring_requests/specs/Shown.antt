@@ -19,7 +19,7 @@ use Rattle.lent_structures.specs.Structures.{Element, Structures}
 use Rattle.walk_copy.specs.Planning.{host_in}
 use Rattle.report_streams.specs.Requests.{Request}
 use Rattle.request_windows.specs.Host.{Endpoint, Host, Stage, Done, Halted, is_over, side_at, next_stage}
-use Rattle.ring_walk.specs.Hand.{Hand, Empty, Copied, Settled, Stale}
+use Rattle.ring_laws.specs.Hand.{Hand, Empty, Copied, Settled, Stale}
 use Rattle.ring_requests.specs.Laid.{Places, place_at, IsPlace, comes, IsLinkBehind, IsStage, IsFresh}
 
 abbrev pub hand_side : Hand → ℕ → Qh → HostSide

@@ -36,11 +36,11 @@ use Rattle.request_windows.specs.Windows.{IsRequest, data_of}
 use Rattle.request_windows.specs.Standing.{Stands}
 use Rattle.request_calls.specs.Bus.{Device, device_of}
 use Rattle.request_calls.specs.Stages.{IsEndpoint}
-use Rattle.ring_walk.specs.Hand.{Hand}
-use Rattle.ring_walk.specs.Ring.{Base}
-use Rattle.ring_walk.specs.Effects.{Effect, Happens}
-use Rattle.ring_walk.specs.Effects.Effect.{takes, makes}
-use Rattle.ring_streams.specs.Told.{Told, HasEndpoint, Endpoint as Characteristics}
+use Rattle.ring_laws.specs.Hand.{Hand}
+use Rattle.ring_laws.specs.Ring.{Base}
+use Rattle.ring_laws.specs.Effects.{Effect, Happens}
+use Rattle.ring_laws.specs.Effects.Effect.{takes, makes}
+use Rattle.ring_laws.specs.Told.{Told, HasEndpoint, Endpoint as Characteristics}
 use Rattle.ring_requests.specs.Laid.{Places, AreApart, AreOthers, IsIdle}
 use Rattle.ring_requests.specs.Shown.{hand_side, AreFresh, Shows, IsAmong}
 

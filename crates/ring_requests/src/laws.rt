@@ -1,9 +1,9 @@
 ghost use Rattle.std.specs.Prelude.{◌≡◌, ℕ, suc, ◌<◌, ◌≤◌, Bool, true, map, Option, Some};
 ghost use Rattle.async_walk.specs.Rows.{WalkPlace, at_event, event_row, step_of, Leads};
 ghost use Rattle.lent_structures.specs.Structures.{StructureSets};
-ghost use Rattle.ring_walk.specs.Hand.{Hand};
-ghost use Rattle.ring_walk.specs.Ring.{Base, IsRing};
-ghost use Rattle.ring_walk.specs.Effects.{AreBytesHeard};
+ghost use Rattle.ring_laws.specs.Hand.{Hand};
+ghost use Rattle.ring_laws.specs.Ring.{Base, IsRing};
+ghost use Rattle.ring_laws.specs.Effects.{AreBytesHeard};
 ghost use Rattle.request_windows.specs.Line.{line_at};
 ghost use Rattle.request_windows.specs.Windows.{windows, counted_in, IsRight};
 ghost use Rattle.request_calls.specs.Bus.{Device, device_of, IsControlBus};

@@ -4,7 +4,7 @@
 //! queue head to its next request, and how host and device stand to each other is kept. So a request that memory shows to be done was acted on exactly
 //! once, with all its data in the buffer of its data qTD, a halted one at most once, and those behind a halted one are never begun.
 //!
-//! The crate has no code of its own: each function is a law over the definitions of `ring_streams` and `request_windows`, and its body is empty.
+//! The crate has no code of its own: each function is a law over the definitions of `ring_laws` and `request_windows`, and its body is empty.
 #![tactic(auto)]
 
 mod laws;

@@ -4,7 +4,7 @@ ghost use Rattle.usb_base.specs.declared.endpoints.EndCause.TheVariants as Ends;
 ghost use Rattle.walk_copy.specs.Overlay.{advanced};
 ghost use Rattle.request_windows.specs.Host.{Setup, Done, Halted};
 ghost use Rattle.request_windows.specs.Samples.{told, tells, good, descriptor, token_lost as TokenLost, get_device as GetDevice};
-ghost use Rattle.ring_walk.specs.Hand.{Empty};
+ghost use Rattle.ring_laws.specs.Hand.{Empty};
 ghost use Rattle.ring_requests.specs.Samples.{queue, parts, request, both_parts as BothParts, requests, after, first_done as FirstDone, then_begun as ThenBegun};
 ghost use Rattle.ring_requests.specs.Samples.{second_setup as SecondSetup, done_queue as DoneQueue, done_parts as DoneParts, next_queue as NextQueue, next_parts as NextParts, device_in as DeviceIn, is_only as IsOnly, is_both as IsBoth};
 ghost use Rattle.ring_requests.specs.Windows.{IsLaid, AreLaid, IsQueue, AreSent, Transaction, Advance};

@@ -10,10 +10,10 @@ use Rattle.hc_core.specs.declared.controller.HcStep.{HcStep}
 use Rattle.hc_core.specs.declared.controller.HcStep.TheVariants as steps
 use Rattle.hc_core.specs.Controller.{Content}
 use Rattle.lent_structures.specs.Structures.{StructureSets}
-use Rattle.ring_walk.specs.Hand.{Hand}
-use Rattle.ring_walk.specs.Ring.{Base}
-use Rattle.ring_walk.specs.Effects.{AreBytesHeard}
-use Rattle.ring_control.specs.Control.{IsOn, IsControlled, Controls}
+use Rattle.ring_laws.specs.Hand.{Hand}
+use Rattle.ring_laws.specs.Ring.{Base}
+use Rattle.ring_laws.specs.Effects.{AreBytesHeard}
+use Rattle.controlled_streams.specs.Control.{IsOn, IsControlled, Controls}
 
 abbrev pub HearsBytes : {W : Type 0} → (W → Ask → List ℕ → Reply → W → Type 0) → Type 0
 HearsBytes {W} transacts = (before after : W) → AreBytesHeard transacts before after

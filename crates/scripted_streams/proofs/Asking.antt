@@ -30,7 +30,7 @@ use Rattle.usb_bus.specs.WhoHeard.{asker_hears, left_by, packets_before}
 use Rattle.usb_bus.specs.Seats.{token_kind, place_for}
 use Rattle.usb_bus.specs.Asking.{losses_of, row_for, device_after, device_answer, put_at, changed_at}
 use Rattle.usb_bus.specs.Bus.{Bus, Wired, Fixed, hears, asked_at, asked_of, bus_row, changed_by, reply_at, reply_of, after_at, transact_after}
-use Rattle.ring_pipes.specs.Bus.{Sender, IsStreamAsk, IsBus, HasAnswered, nothing_heard}
+use Rattle.ring_laws.specs.Bus.{Sender, IsStreamAsk, IsBus, HasAnswered, nothing_heard}
 use Rattle.scripted_streams.specs.Senders.{sender_of_part, sender_of_endpoint, sender_of_device, sender_of_owner, sender_of_seat, sender_of_place, sender_of}
 use Rattle.scripted_streams.proofs.Places.{set_here, set_beside}
 use Rattle.scripted_streams.proofs.Devices.{device_changes, address_after, place_answered, of_in}

@@ -31,7 +31,7 @@ use Rattle.usb_bus.specs.Seats.{token_kind, place_for}
 use Rattle.usb_bus.specs.Asking.{device_after, put_at}
 use Rattle.usb_bus.specs.Below.{Floor, Below, below_at, hears_at, asked_below_at, asked_below, devices_after, below_row, below_after_at, below_after, below_reply, floor_left, floor_worked}
 use Rattle.usb_bus.specs.Bus.{Wired, Fixed, begins_anew, begun_at, floor_of, begin_after, is_allowed}
-use Rattle.ring_pipes.specs.Bus.{Sender, KeepsSenders}
+use Rattle.ring_laws.specs.Bus.{Sender, KeepsSenders}
 use Rattle.scripted_streams.specs.Senders.{sender_of_part, sender_of_device, sender_of}
 use Rattle.scripted_streams.proofs.Places.{set_here, set_beside}
 use Rattle.scripted_streams.proofs.Devices.{device_changes, address_after, of_in}

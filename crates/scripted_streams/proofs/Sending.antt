@@ -15,7 +15,7 @@ use Rattle.endpoint_script.specs.Items.{nak_given, packets_of}
 use Rattle.endpoint_script.specs.Sending.{Sending, sent_reply, sending_reply, sending_answered, sending_acked}
 use Rattle.usb_bus.specs.declared.who_heard.WhoHeard.{WhoHeard}
 use Rattle.usb_bus.specs.WhoHeard.{who_heard, asker_hears, is_answer, left_by}
-use Rattle.ring_pipes.specs.Bus.{Sender, Answers, nothing_heard, unacknowledged, acknowledged, HasAnswered}
+use Rattle.ring_laws.specs.Bus.{Sender, Answers, nothing_heard, unacknowledged, acknowledged, HasAnswered}
 use Rattle.scripted_streams.specs.Senders.{sender_of_part}
 
 -- the sender that the endpoint is

@@ -16,7 +16,7 @@ use Rattle.usb_bus.specs.declared.seats.Seat.{Seat}
 use Rattle.usb_bus.specs.declared.seats.TokenKind.TheVariants.{In}
 use Rattle.usb_bus.specs.Seats.{place_for}
 use Rattle.usb_bus.specs.Bus.{Bus, Wired}
-use Rattle.ring_pipes.specs.Bus.{Sender}
+use Rattle.ring_laws.specs.Bus.{Sender}
 
 abbrev pub sender_of_part : Role → Option Sender
 sender_of_part (Sends s) = Some (record { left = packets_of s.items; sends = s.toggle })

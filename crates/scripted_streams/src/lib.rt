@@ -1,14 +1,14 @@
 //! The bus of a script is one whose devices send their streams by the toggle (USB 2.0, 8.5 and 8.6): a bulk or interrupt IN endpoint on the
 //! high-speed bus answers with the packet that it has left, until it hears the acknowledgement, and no other transaction changes it.
 //!
-//! The crate has no code of its own: each function is a law over the definitions of `usb_bus` and `ring_pipes`, and its body is empty.
+//! The crate has no code of its own: each function is a law over the definitions of `usb_bus` and `ring_laws`, and its body is empty.
 #![tactic(auto)]
 
 ghost use Rattle.std.specs.Prelude.{◌≡◌, ℕ, Bool, List};
 ghost use Rattle.usb_base.specs.declared.packets.Ask.{Ask};
 ghost use Rattle.usb_base.specs.declared.packets.Reply.{Reply};
 ghost use Rattle.usb_bus.specs.Bus.{Wired, reply_of, transact_after, is_allowed, begin_after};
-ghost use Rattle.ring_pipes.specs.Bus.{IsBus, KeepsSenders};
+ghost use Rattle.ring_laws.specs.Bus.{IsBus, KeepsSenders};
 ghost use Rattle.scripted_streams.specs.Senders.{sender_of};
 
 /// Whichever of its endpoints are asked about, the bus is such a bus.

@@ -34,7 +34,7 @@ use Rattle.endpoint_script.specs.Taking.{Taking, taking_reply}
 use Rattle.scripted_streams.proofs.Places.{set_here, set_beside}
 use Rattle.scripted_streams.proofs.Devices.{device_changes, address_after, place_answered}
 use Rattle.scripted_streams.proofs.Asking.{who_place, plain_only}
-use Rattle.ring_out_pipes.specs.OutBus.{Taker, IsOutAsk, IsOutBus, HasTaken, nothing_taken}
+use Rattle.ring_laws.specs.OutBus.{Taker, IsOutAsk, IsOutBus, HasTaken, nothing_taken}
 use Rattle.scripted_takers.specs.Takers.{taker_of_part, taker_of_endpoint, taker_of_device, taker_of_owner, taker_of_seat, taker_of_place, taker_of}
 use Rattle.scripted_takers.proofs.Taking.{taker_in, taker_by, taking_heard, pinged_stays}
 use Rattle.scripted_takers.proofs.Outs.{IsOutToken, IsOfOut, of_out}

@@ -26,7 +26,7 @@ use Rattle.usb_bus.specs.Below.{Floor, Below, below_at, asked_below, devices_aft
 use Rattle.usb_bus.specs.Bus.{Wired, Fixed, begins_anew, begun_at, floor_of, begin_after, is_allowed}
 use Rattle.usb_base.specs.declared.packets.Pid.TheVariants as Pids
 use Rattle.scripted_streams.proofs.Beginning.{IsWhoBelow, below_place, not_high, named_begun}
-use Rattle.ring_out_pipes.specs.OutBus.{Taker, KeepsTakers}
+use Rattle.ring_laws.specs.OutBus.{Taker, KeepsTakers}
 use Rattle.scripted_takers.specs.Takers.{taker_of_part, taker_of_device, taker_of}
 use Rattle.scripted_takers.proofs.Outs.{IsOfOut}
 use Rattle.scripted_takers.proofs.Asking.{IsAtDevice, device_found, HasTaker, taker_found, taker_through, device_taker, put_stays}

@@ -18,7 +18,7 @@ use Rattle.endpoint_script.specs.Taking.{Taking, is_ping, take_row, out_row, nex
 use Rattle.usb_bus.specs.declared.who_heard.WhoHeard.{WhoHeard}
 use Rattle.usb_bus.specs.declared.who_heard.WhoHeard.TheVariants.{SentUnheard, NoAnswer, AnswerUnheard, AnswerHeard, AckUnheard, AckHeard}
 use Rattle.usb_bus.specs.WhoHeard.{asker_hears, left_by}
-use Rattle.ring_out_pipes.specs.OutBus.{Taker, Takes as Took, is_acknowledgement, nothing_taken, all_taken, all_dropped, HasTaken}
+use Rattle.ring_laws.specs.OutBus.{Taker, Takes as Took, is_acknowledgement, nothing_taken, all_taken, all_dropped, HasTaken}
 use Rattle.scripted_takers.specs.Takers.{taker_of_part}
 
 -- the taker that the endpoint is

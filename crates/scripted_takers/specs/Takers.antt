@@ -15,7 +15,7 @@ use Rattle.usb_bus.specs.declared.seats.Seat.{Seat}
 use Rattle.usb_bus.specs.declared.seats.TokenKind.TheVariants.{Out}
 use Rattle.usb_bus.specs.Seats.{place_for}
 use Rattle.usb_bus.specs.Bus.{Bus, Wired}
-use Rattle.ring_out_pipes.specs.OutBus.{Taker}
+use Rattle.ring_laws.specs.OutBus.{Taker}
 
 abbrev pub taker_of_part : Role → Option Taker
 taker_of_part (Sends s) = None

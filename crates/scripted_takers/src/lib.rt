@@ -1,14 +1,14 @@
 //! The bus of a script is one whose devices take their streams by the toggle (USB 2.0, 8.5 and 8.6): a bulk or interrupt OUT endpoint on the
 //! high-speed bus takes data of the toggle that it expects or refuses them, drops any other, and no other transaction gives it bytes.
 //!
-//! The crate has no code of its own: each function is a law over the definitions of `usb_bus` and `ring_out_pipes`, and its body is empty.
+//! The crate has no code of its own: each function is a law over the definitions of `usb_bus` and `ring_laws`, and its body is empty.
 #![tactic(auto)]
 
 ghost use Rattle.std.specs.Prelude.{◌≡◌, ℕ, Bool, List};
 ghost use Rattle.usb_base.specs.declared.packets.Ask.{Ask};
 ghost use Rattle.usb_base.specs.declared.packets.Reply.{Reply};
 ghost use Rattle.usb_bus.specs.Bus.{Wired, reply_of, transact_after, is_allowed, begin_after};
-ghost use Rattle.ring_out_pipes.specs.OutBus.{IsOutBus, KeepsTakers};
+ghost use Rattle.ring_laws.specs.OutBus.{IsOutBus, KeepsTakers};
 ghost use Rattle.scripted_takers.specs.Takers.{taker_of};
 
 /// Whichever of its endpoints are asked about, the bus is such a bus.

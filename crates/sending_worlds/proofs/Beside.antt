@@ -12,8 +12,8 @@ use Rattle.chained_transfers.specs.Bulk.{receives}
 use Rattle.endpoint_lives.proofs.Lives.{linked_met}
 use Rattle.fed_queues.specs.Places.{IsMet}
 use Rattle.standing_fronts.specs.Reaching.{Reaches}
-use Rattle.ring_control.specs.Control.{IsControlled, ControlEffect}
-use Rattle.driver_parts.specs.Opened.{opening_base}
+use Rattle.controlled_streams.specs.Control.{IsControlled, ControlEffect}
+use Rattle.driver_laws.specs.PartOpened.{opening_base}
 use Rattle.controller_writes.specs.Leaving.{LeavesRest}
 use Rattle.controller_writes.proofs.Controlling.{event_leaves}
 use Rattle.scripted_takers.specs.Takers.{taker_of}
@@ -21,8 +21,8 @@ use Rattle.scripted_takers.proofs.Asking.{scripted_out_bus}
 use Rattle.scripted_takers.proofs.Beginning.{scripted_out_begins}
 use Rattle.taken_reports.specs.Worlds.{HaveOuts}
 use Rattle.bus_world.specs.World.{World, controller_parts, controller_next}
-use Rattle.world_streams.specs.Streaming.{Streams, Standing, begins_by, transacts_by, wired}
-use Rattle.world_streams.proofs.Turning.{world_has_row}
+use Rattle.stream_worlds.specs.Streaming.{Streams, Standing, begins_by, transacts_by, wired}
+use Rattle.stream_worlds.proofs.StreamTurning.{world_has_row}
 use Rattle.world_bytes.proofs.Hearing.{hears_bytes}
 use Rattle.whole_worlds.specs.Feeding.{there_of, IsFeeding}
 use Rattle.whole_worlds.specs.Taking.{outs_of}
@@ -30,21 +30,21 @@ use Rattle.whole_worlds.specs.Whole.{tail_block, tail_of, IsUnderWay, IsWhole}
 use Rattle.whole_worlds.proofs.Told.{there_on}
 use Rattle.whole_worlds.proofs.TakingHeads.{outs_stand}
 use Rattle.whole_worlds.proofs.Beside.{whole_beside, effect, after_event}
-use Rattle.sent_rows.specs.Sent.{SentStand, HoldMet, HoldOuts}
-use Rattle.sent_rows.proofs.Events.{event_sends}
-use Rattle.held_puts.specs.Puts.{HoldsPuts}
-use Rattle.held_puts.specs.Laws.{IsPublishing, OutsAskNoData}
-use Rattle.held_puts.proofs.Walking.{outs_ask_none}
-use Rattle.held_puts.proofs.Beside.{event_holds}
-use Rattle.owed_puts.specs.Owed.{Owes}
-use Rattle.owed_puts.specs.Buffers.{IsPublishingTo}
-use Rattle.owed_puts.specs.Taken.{TakenBegin, EndedAreStopped, IsOutHead, OutsStand, LeaveTakers}
-use Rattle.owed_puts.proofs.Same.{alike_owes}
-use Rattle.owed_puts.proofs.BufferBytes.{buffers_are_rest, buffers_before_lend, buffers_around}
-use Rattle.owed_puts.proofs.TakenBegins.{event_taken}
-use Rattle.owed_puts.proofs.TakenStopped.{event_stopped}
+use Rattle.put_laws.specs.Sent.{SentStand, HoldMet, HoldOuts}
+use Rattle.put_laws.proofs.Events.{event_sends}
+use Rattle.put_laws.specs.HeldPuts.{HoldsPuts}
+use Rattle.put_laws.specs.HeldLaws.{IsPublishing, OutsAskNoData}
+use Rattle.put_laws.proofs.Walking.{outs_ask_none}
+use Rattle.put_laws.proofs.Beside.{event_holds}
+use Rattle.put_laws.specs.Owed.{Owes}
+use Rattle.put_laws.specs.Buffers.{IsPublishingTo}
+use Rattle.put_laws.specs.OwedTaken.{TakenBegin, EndedAreStopped, IsOutHead, OutsStand, LeaveTakers}
+use Rattle.put_laws.proofs.Same.{alike_owes}
+use Rattle.put_laws.proofs.BufferBytes.{buffers_are_rest, buffers_before_lend, buffers_around}
+use Rattle.put_laws.proofs.TakenBegins.{event_taken}
+use Rattle.put_laws.proofs.TakenStopped.{event_stopped}
 use Rattle.sending_worlds.specs.Sending.{IsSending}
-use Rattle.sending_worlds.specs.Laws.{ControllerKeepsSending}
+use Rattle.sending_worlds.specs.WorldLaws.{ControllerKeepsSending}
 
 -- ---- the first qTD of the transfer that is published is the tail of its queue
 

@@ -18,31 +18,31 @@ use Rattle.chained_transfers.specs.InTurn.{TakesTurns}
 use Rattle.chained_transfers.proofs.Accepting.{command_received, opens_or_cancels}
 use Rattle.endpoint_lives.proofs.Lives.{told_some}
 use Rattle.fed_queues.specs.Places.{IsThere}
-use Rattle.fed_commands.proofs.Asked.{push_which, set_which}
+use Rattle.fed_lends.proofs.Asked.{push_which, set_which}
 use Rattle.walk_members.specs.Reached.{OpensNumbered}
 use Rattle.byte_answers.specs.Bytes.{IsByteCommand}
-use Rattle.ring_out_pipes.specs.OutBus.{Taker}
+use Rattle.ring_laws.specs.OutBus.{Taker}
 use Rattle.scripted_takers.specs.Takers.{taker_of}
 use Rattle.bus_world.specs.World.{World, name_in, refused_line, commanded_by, commanded}
-use Rattle.world_streams.specs.Streaming.{Streams, Standing, wired}
-use Rattle.held_puts.specs.Puts.{HoldsPuts, puts_then}
-use Rattle.held_puts.proofs.Commanding.{command_holds}
-use Rattle.sent_rows.specs.Sent.{SentStand}
-use Rattle.sent_rows.proofs.Alike.{accepted_sends}
-use Rattle.taken_puts.specs.Puts.{puts_of}
-use Rattle.taken_puts.proofs.Steps.{then_before}
-use Rattle.owed_puts.specs.Owed.{Owes}
-use Rattle.owed_puts.specs.Laws.{KeepsPuts}
-use Rattle.owed_puts.specs.Taken.{TakenBegin, EndedAreStopped}
-use Rattle.owed_puts.proofs.Commands.{command_owes}
-use Rattle.owed_puts.proofs.Rests.{prefix_to, puts_kept}
-use Rattle.owed_puts.proofs.Same.{alike_owes}
-use Rattle.owed_puts.proofs.TakenRows.{command_taken}
+use Rattle.stream_worlds.specs.Streaming.{Streams, Standing, wired}
+use Rattle.put_laws.specs.HeldPuts.{HoldsPuts, puts_then}
+use Rattle.put_laws.proofs.Commanding.{command_holds}
+use Rattle.put_laws.specs.Sent.{SentStand}
+use Rattle.put_laws.proofs.SentAlike.{accepted_sends}
+use Rattle.put_laws.specs.TakenPuts.{puts_of}
+use Rattle.put_laws.proofs.Steps.{then_before}
+use Rattle.put_laws.specs.Owed.{Owes}
+use Rattle.put_laws.specs.OwedLaws.{KeepsPuts}
+use Rattle.put_laws.specs.OwedTaken.{TakenBegin, EndedAreStopped}
+use Rattle.put_laws.proofs.Commands.{command_owes}
+use Rattle.put_laws.proofs.Rests.{prefix_to, puts_kept}
+use Rattle.put_laws.proofs.Same.{alike_owes}
+use Rattle.put_laws.proofs.TakenRows.{command_taken}
 use Rattle.whole_worlds.specs.Laws.{OpensTo}
 use Rattle.whole_worlds.specs.Whole.{IsWhole}
 use Rattle.whole_worlds.proofs.Commanding.{whole_commanded}
 use Rattle.sending_worlds.specs.Sending.{IsSending}
-use Rattle.sending_worlds.specs.Laws.{CommandKeepsSending}
+use Rattle.sending_worlds.specs.WorldLaws.{CommandKeepsSending}
 
 -- ---- a refusal
 

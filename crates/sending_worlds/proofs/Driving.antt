@@ -2,7 +2,7 @@
 use Rattle.bus_world.specs.World.{driver_next}
 use Rattle.whole_worlds.proofs.Rows.{after_each}
 use Rattle.sending_worlds.specs.Sending.{HasSending}
-use Rattle.sending_worlds.specs.Laws.{DriverKeepsSending}
+use Rattle.sending_worlds.specs.WorldLaws.{DriverKeepsSending}
 use Rattle.sending_worlds.proofs.Still.{still_sending}
 use Rattle.sending_worlds.proofs.Lending.{lend_sending}
 use Rattle.sending_worlds.proofs.Storing.{store_sending}

@@ -15,27 +15,27 @@ use Rattle.run_owners.specs.Kept.{HasOwners}
 use Rattle.run_owners.specs.Leaving.{leaver}
 use Rattle.run_owners.proofs.Reasons.{each_is_due}
 use Rattle.usb_bus.specs.Bus.{Fixed}
-use Rattle.ring_streams.specs.Told.{Endpoint as Told, endpoint_of}
-use Rattle.ring_out_pipes.specs.OutBus.{Taker}
+use Rattle.ring_laws.specs.Told.{Endpoint as Told, endpoint_of}
+use Rattle.ring_laws.specs.OutBus.{Taker}
 use Rattle.scripted_takers.specs.Takers.{taker_of}
-use Rattle.driver_parts.specs.Opened.{opening_base}
-use Rattle.driver_parts.specs.Driven.{DrivesRing}
+use Rattle.driver_laws.specs.PartOpened.{opening_base}
+use Rattle.driver_laws.specs.Driven.{DrivesRing}
 use Rattle.chained_transfers.specs.Bulk.{receives}
 use Rattle.chained_transfers.proofs.Ways.{way_sends}
 use Rattle.endpoint_lives.proofs.Lives.{linked_met}
 use Rattle.fed_queues.specs.Places.{IsThere, HasHead}
-use Rattle.opened_streams.specs.Unopened.{IsUnopened}
-use Rattle.out_rows.specs.Outs.{IsUntaken}
+use Rattle.controlled_streams.specs.Unopened.{IsUnopened}
+use Rattle.stream_worlds.specs.Outs.{IsUntaken}
 use Rattle.bus_world.specs.World.{World, driver_parts, driver_next}
-use Rattle.world_streams.specs.Streaming.{Streams, Standing, wired}
-use Rattle.held_puts.specs.Puts.{HoldsPuts}
-use Rattle.held_puts.specs.Laws.{IsReleasedMet}
-use Rattle.held_puts.proofs.Rows.{driver_holds}
-use Rattle.owed_puts.specs.Owed.{Owes}
-use Rattle.owed_puts.specs.Taken.{TakenBegin, EndedAreStopped}
-use Rattle.owed_puts.proofs.Driver.{driver_owes}
-use Rattle.owed_puts.proofs.TakenRows.{driver_taken}
-use Rattle.owed_puts.proofs.TakenStopped.{alike_stopped}
+use Rattle.stream_worlds.specs.Streaming.{Streams, Standing, wired}
+use Rattle.put_laws.specs.HeldPuts.{HoldsPuts}
+use Rattle.put_laws.specs.HeldLaws.{IsReleasedMet}
+use Rattle.put_laws.proofs.Rows.{driver_holds}
+use Rattle.put_laws.specs.Owed.{Owes}
+use Rattle.put_laws.specs.OwedTaken.{TakenBegin, EndedAreStopped}
+use Rattle.put_laws.proofs.Driver.{driver_owes}
+use Rattle.put_laws.proofs.TakenRows.{driver_taken}
+use Rattle.put_laws.proofs.TakenStopped.{alike_stopped}
 use Rattle.whole_worlds.specs.Taking.{outs_of}
 use Rattle.whole_worlds.proofs.Heads.{head_is}
 use Rattle.whole_worlds.proofs.TakingAlike.{out_on}

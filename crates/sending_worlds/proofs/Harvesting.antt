@@ -4,8 +4,8 @@ use Rattle.std.specs.List.{concat}
 use Rattle.usb_bus.specs.Bus.{Fixed}
 use Rattle.word_mem.specs.Memory.{Mem}
 use Rattle.lent_structures.specs.Structures.{Tells}
-use Rattle.queue_parts.specs.Sound.{IsMember}
-use Rattle.ring_streams.specs.Told.{Told}
+use Rattle.lent_structures.specs.Sound.{IsMember}
+use Rattle.ring_laws.specs.Told.{Told}
 use Rattle.driver_rows.specs.declared.content.Command.{Command}
 use Rattle.driver_rows.specs.declared.content.Command.TheVariants as unfinished
 use Rattle.driver_rows.specs.declared.content.Endpoint.{Endpoint}
@@ -20,32 +20,32 @@ use Rattle.run_owners.specs.Kept.{HasOwners}
 use Rattle.run_owners.specs.Owners.{note_in}
 use Rattle.chained_transfers.specs.Bulk.{receives}
 use Rattle.chained_transfers.specs.Out.{out_now}
-use Rattle.harvest_rows.specs.Outs.{IsOutEarlier}
-use Rattle.reported_streams.specs.Reported.{IsReported}
+use Rattle.harvest_laws.specs.Outs.{IsOutEarlier}
+use Rattle.controlled_streams.specs.Reported.{IsReported}
 use Rattle.fed_queues.specs.Places.{IsThere, IsMet}
 use Rattle.fed_queues.proofs.Places.{going_met}
-use Rattle.told_queues.specs.Told.{ToldStands}
-use Rattle.read_queues.proofs.Rows.{not_active, wait_told}
+use Rattle.harvest_laws.specs.Told.{ToldStands}
+use Rattle.harvest_laws.proofs.ReadRows.{not_active, wait_told}
 use Rattle.bus_world.specs.World.{World, driver_parts, driver_next}
-use Rattle.world_streams.specs.Streaming.{Streams, Standing}
-use Rattle.taken_puts.specs.Puts.{puts_of}
-use Rattle.sent_rows.specs.Sent.{SentStand}
-use Rattle.sent_rows.proofs.Alike.{harvest_sends}
-use Rattle.sent_rows.proofs.Reading.{puts_leave_none}
-use Rattle.owed_puts.specs.Laws.{IsMovedWhole}
-use Rattle.owed_puts.specs.Owed.{rest_of, Owes}
-use Rattle.owed_puts.specs.Taken.{EndedAreStopped}
-use Rattle.owed_puts.proofs.Reading.{told_once}
-use Rattle.owed_puts.proofs.Reported.{harvest_owes, wait_owes}
-use Rattle.owed_puts.proofs.Rests.{prefix_of}
-use Rattle.owed_puts.proofs.TakenStopped.{harvest_stops}
+use Rattle.stream_worlds.specs.Streaming.{Streams, Standing}
+use Rattle.put_laws.specs.TakenPuts.{puts_of}
+use Rattle.put_laws.specs.Sent.{SentStand}
+use Rattle.put_laws.proofs.SentAlike.{harvest_sends}
+use Rattle.put_laws.proofs.SentReading.{puts_leave_none}
+use Rattle.put_laws.specs.OwedLaws.{IsMovedWhole}
+use Rattle.put_laws.specs.Owed.{rest_of, Owes}
+use Rattle.put_laws.specs.OwedTaken.{EndedAreStopped}
+use Rattle.put_laws.proofs.OwedReading.{told_once}
+use Rattle.put_laws.proofs.Reported.{harvest_owes, wait_owes}
+use Rattle.put_laws.proofs.Rests.{prefix_of}
+use Rattle.put_laws.proofs.TakenStopped.{harvest_stops}
 use Rattle.whole_worlds.specs.Feeding.{IsFeeding}
 use Rattle.whole_worlds.specs.HarvestFeeds.{HarvestLeaves}
 use Rattle.whole_worlds.proofs.FeedingPassed.{passed_untold}
 use Rattle.whole_worlds.proofs.Heads.{queue_reported}
 use Rattle.whole_worlds.proofs.Leaving.{due, fronts, leaves, whole_harvested}
 use Rattle.sending_worlds.specs.Sending.{IsSending, HasSending}
-use Rattle.sending_worlds.specs.Laws.{HarvestKeepsSending}
+use Rattle.sending_worlds.specs.WorldLaws.{HarvestKeepsSending}
 use Rattle.sending_worlds.proofs.Each.{held_then, begin_then}
 
 no_open : (b : ℕ) → ◌≡◌ {A = Option Command} None (Some (unfinished.Open b)) → ⊥

@@ -5,19 +5,19 @@ use Rattle.driver_rows.specs.declared.content.Command.{Command}
 use Rattle.driver_rows.specs.declared.content.Command.TheVariants as unfinished
 use Rattle.driver_rows.specs.DriverContent.{DriverContent}
 use Rattle.bus_world.specs.World.{World, driver_next}
-use Rattle.world_streams.specs.Streaming.{Streams, Standing}
+use Rattle.stream_worlds.specs.Streaming.{Streams, Standing}
 use Rattle.fed_lends.specs.ToLend.{IsToBeLent}
-use Rattle.sent_rows.specs.Sent.{SentStand}
-use Rattle.sent_rows.proofs.Lending.{lend_row_sends}
-use Rattle.owed_puts.specs.Owed.{Owes}
-use Rattle.owed_puts.specs.Taken.{EndedAreStopped}
-use Rattle.owed_puts.proofs.TakenStopped.{spared_stopped}
+use Rattle.put_laws.specs.Sent.{SentStand}
+use Rattle.put_laws.proofs.Lending.{lend_row_sends}
+use Rattle.put_laws.specs.Owed.{Owes}
+use Rattle.put_laws.specs.OwedTaken.{EndedAreStopped}
+use Rattle.put_laws.proofs.TakenStopped.{spared_stopped}
 use Rattle.whole_worlds.specs.Feeding.{there_of, IsFeeding}
 use Rattle.whole_worlds.specs.LendFeeds.{LendsTransfer}
 use Rattle.whole_worlds.proofs.Told.{there_on}
 use Rattle.whole_worlds.proofs.Lending.{lends, after_lend, whole_lent}
 use Rattle.sending_worlds.specs.Sending.{IsSending}
-use Rattle.sending_worlds.specs.Laws.{LendKeepsSending}
+use Rattle.sending_worlds.specs.WorldLaws.{LendKeepsSending}
 use Rattle.sending_worlds.proofs.Each.{HarvestsNone, busy_harvests_none, held_then, begin_then, ended_alike, owes_same}
 
 no_open : (b c : ℕ) (words : List ℕ) → ◌≡◌ {A = Option Command} (Some (unfinished.Publish b words)) (Some (unfinished.Open c)) → ⊥

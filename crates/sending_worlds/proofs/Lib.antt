@@ -1,3 +1,7 @@
+pub mod Named
+pub mod Untold
+pub mod Sending
+pub mod ReportSampling
 pub mod Opening
 pub mod Beside
 pub mod Commanding

@@ -4,28 +4,28 @@ use Rattle.driver_rows.specs.declared.content.Endpoint.{Endpoint}
 use Rattle.driver_rows.specs.declared.content.Command.TheVariants as unfinished
 use Rattle.driver_rows.specs.Rows.{Parts as DriverParts}
 use Rattle.lent_structures.specs.Structures.{StructureSets}
-use Rattle.queue_parts.specs.Sound.{IsMember}
-use Rattle.ring_walk.specs.Hand.{Hand}
-use Rattle.driver_lends.specs.Linked.{with_member, head_at}
-use Rattle.driver_parts.specs.Opened.{opening_base}
+use Rattle.lent_structures.specs.Sound.{IsMember}
+use Rattle.ring_laws.specs.Hand.{Hand}
+use Rattle.driver_laws.specs.Linked.{with_member, head_at}
+use Rattle.driver_laws.specs.PartOpened.{opening_base}
 use Rattle.usb_bus.specs.Bus.{Fixed}
 use Rattle.bus_world.specs.World.{World, driver_parts, driver_next}
-use Rattle.world_streams.specs.Streaming.{Streams, Standing}
+use Rattle.stream_worlds.specs.Streaming.{Streams, Standing}
 use Rattle.fed_queues.specs.Places.{IsThere}
-use Rattle.fed_stores.proofs.Apart.{thirty_two}
-use Rattle.opened_streams.specs.Opened.{with_end, with_none}
-use Rattle.opened_streams.proofs.Beginning.{list_here, list_beside}
-use Rattle.open_stores.specs.Opens.{IsOpenLent, IsAtOpen, head_then, hand_then, end_then, streams_then}
-use Rattle.sent_rows.specs.Sent.{SentStand}
-use Rattle.sent_rows.proofs.OpenLinking.{open_link_sends}
-use Rattle.owed_puts.specs.Owed.{Owes}
-use Rattle.owed_puts.specs.Taken.{EndedAreStopped}
-use Rattle.owed_puts.proofs.TakenStopped.{spared_stopped}
+use Rattle.publish_laws.proofs.Apart.{thirty_two}
+use Rattle.controlled_streams.specs.Opened.{with_end, with_none}
+use Rattle.controlled_streams.proofs.Beginning.{list_here, list_beside}
+use Rattle.open_laws.specs.Opens.{IsOpenLent, IsAtOpen, head_then, hand_then, end_then, streams_then}
+use Rattle.put_laws.specs.Sent.{SentStand}
+use Rattle.put_laws.proofs.OpenLinking.{open_link_sends}
+use Rattle.put_laws.specs.Owed.{Owes}
+use Rattle.put_laws.specs.OwedTaken.{EndedAreStopped}
+use Rattle.put_laws.proofs.TakenStopped.{spared_stopped}
 use Rattle.whole_worlds.proofs.FeedingLinks.{linked, found, at_open, more}
 use Rattle.whole_worlds.proofs.Linking.{spares}
 use Rattle.whole_worlds.proofs.Linked.{linked_whole}
 use Rattle.sending_worlds.specs.Sending.{IsSending}
-use Rattle.sending_worlds.specs.Laws.{OpenLinkKeepsSending}
+use Rattle.sending_worlds.specs.WorldLaws.{OpenLinkKeepsSending}
 use Rattle.sending_worlds.proofs.Each as each
 
 one_open : (b c : ℕ) → Some (unfinished.Open b) ≡ Some (unfinished.Open c) → b ≡ c

@@ -10,17 +10,17 @@ use Rattle.byte_answers.specs.Bytes.{IsByteCommand, IsByteLine}
 use Rattle.usb_bus.specs.Bus.{fixed_of}
 use Rattle.bus_world.specs.World.{World}
 use Rattle.bus_world.specs.Budgets.{moment}
-use Rattle.world_streams.specs.Streaming.{Streams}
+use Rattle.stream_worlds.specs.Streaming.{Streams}
 use Rattle.taken_reports.proofs.Seating.{moment_seated}
 use Rattle.chained_transfers.specs.Bulk.{BulkOnly}
 use Rattle.receiving_runs.specs.Runs.{KindOfLine}
-use Rattle.out_rows.specs.Takers.{takes_of}
-use Rattle.taken_puts.specs.Puts.{puts_at}
-use Rattle.taken_puts.specs.Laws.{IsKeptWithPuts, StreamsArePuts}
-use Rattle.taken_puts.proofs.Along.{holds_with_puts}
-use Rattle.taken_puts.proofs.Ends.{moment_streams}
-use Rattle.taken_puts.proofs.Rising.{spelled_rise}
-use Rattle.sent_reports.proofs.Sending.{report_sent, report_right}
+use Rattle.stream_worlds.specs.Takers.{takes_of}
+use Rattle.put_laws.specs.TakenPuts.{puts_at}
+use Rattle.put_laws.specs.TakenLaws.{IsKeptWithPuts, StreamsArePuts}
+use Rattle.put_laws.proofs.Along.{holds_with_puts}
+use Rattle.put_laws.proofs.Ends.{moment_streams}
+use Rattle.put_laws.proofs.Rising.{spelled_rise}
+use Rattle.sending_worlds.proofs.Sending.{report_sent, report_right}
 use Rattle.whole_worlds.specs.Feeding.{streams_of}
 use Rattle.whole_worlds.proofs.Moments.{CanBe, script_can, spelled_bulk}
 use Rattle.whole_worlds.proofs.Running.{texts_right, texts_taken}

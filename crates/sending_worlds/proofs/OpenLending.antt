@@ -5,16 +5,16 @@ use Rattle.driver_rows.specs.DriverContent.{DriverContent}
 use Rattle.lent_structures.specs.Structures.{StructureSets}
 use Rattle.usb_bus.specs.Bus.{Fixed}
 use Rattle.bus_world.specs.World.{World, driver_parts, driver_next}
-use Rattle.world_streams.specs.Streaming.{Streams, Standing}
-use Rattle.open_lends.specs.Lends.{IsOpenReady, parts_lent}
-use Rattle.sent_rows.specs.Sent.{SentStand}
-use Rattle.sent_rows.proofs.OpenLending.{open_lend_sends}
-use Rattle.owed_puts.specs.Owed.{Owes}
-use Rattle.owed_puts.specs.Taken.{EndedAreStopped}
-use Rattle.owed_puts.proofs.TakenStopped.{spared_stopped}
+use Rattle.stream_worlds.specs.Streaming.{Streams, Standing}
+use Rattle.open_laws.specs.Lends.{IsOpenReady, parts_lent}
+use Rattle.put_laws.specs.Sent.{SentStand}
+use Rattle.put_laws.proofs.OpenLending.{open_lend_sends}
+use Rattle.put_laws.specs.Owed.{Owes}
+use Rattle.put_laws.specs.OwedTaken.{EndedAreStopped}
+use Rattle.put_laws.proofs.TakenStopped.{spared_stopped}
 use Rattle.whole_worlds.proofs.OpenLending.{driver_is, spares_head, open_lent}
 use Rattle.sending_worlds.specs.Sending.{IsSending}
-use Rattle.sending_worlds.specs.Laws.{OpenLendKeepsSending}
+use Rattle.sending_worlds.specs.WorldLaws.{OpenLendKeepsSending}
 use Rattle.sending_worlds.proofs.Each.{HarvestsNone, busy_harvests_none, owners, held_then, begin_then, ended_alike, owes_same}
 
 module _ (fixed : Fixed) (takes : ℕ → ℕ → Bool) (member : ℕ → Bool) (x : Streams) (s : Standing) (puts : ℕ → List ℕ) (w : World) (ready : IsOpenReady w.driver w.memory) (k : IsSending fixed takes member x s puts w) where

@@ -8,19 +8,19 @@ use Rattle.scripted_takers.specs.Takers.{taker_of}
 use Rattle.bus_world.specs.Rooms.{reserve_of}
 use Rattle.bus_world.specs.World.{World}
 use Rattle.bus_world.specs.Opening.{opening_world}
-use Rattle.world_streams.specs.Streaming.{Standing, wired}
-use Rattle.out_rows.specs.Takers.{takes_of}
-use Rattle.taken_puts.specs.Puts.{no_puts}
-use Rattle.held_puts.specs.Puts.{HoldsPuts}
-use Rattle.sent_rows.specs.Sent.{SentStand}
-use Rattle.sent_rows.proofs.Events.{new_driver_sends}
-use Rattle.owed_puts.specs.Owed.{Owes}
-use Rattle.owed_puts.specs.Taken.{TakenBegin, EndedAreStopped}
-use Rattle.owed_puts.proofs.Same.{new_owes}
+use Rattle.stream_worlds.specs.Streaming.{Standing, wired}
+use Rattle.stream_worlds.specs.Takers.{takes_of}
+use Rattle.put_laws.specs.TakenPuts.{no_puts}
+use Rattle.put_laws.specs.HeldPuts.{HoldsPuts}
+use Rattle.put_laws.specs.Sent.{SentStand}
+use Rattle.put_laws.proofs.Events.{new_driver_sends}
+use Rattle.put_laws.specs.Owed.{Owes}
+use Rattle.put_laws.specs.OwedTaken.{TakenBegin, EndedAreStopped}
+use Rattle.put_laws.proofs.Same.{new_owes}
 use Rattle.whole_worlds.specs.Feeding.{streams_of}
 use Rattle.whole_worlds.specs.Whole.{HasWhole}
 use Rattle.whole_worlds.proofs.Opening.{new_world_is_whole}
-use Rattle.sending_worlds.specs.Laws.{NewWorldSends}
+use Rattle.sending_worlds.specs.WorldLaws.{NewWorldSends}
 
 no_endpoint : (e : ℕ) (x : Endpoint) → slice_get {X = Endpoint} [] e ≡ Some x → ⊥
 no_endpoint zero x here = cc

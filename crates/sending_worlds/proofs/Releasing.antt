@@ -7,20 +7,20 @@ use Rattle.driver_rows.specs.declared.rows.DriverRow.{DriverRow}
 use Rattle.driver_rows.specs.declared.rows.DriverRow.TheVariants as rows
 use Rattle.driver_rows.specs.declared.rows.Found.{Found}
 use Rattle.driver_rows.specs.Rows.{Parts, driver_row, after_driver_row}
-use Rattle.returned_streams.proofs.Returning.{spares_head}
+use Rattle.controlled_streams.proofs.Returning.{spares_head}
 use Rattle.scripted_takers.specs.Takers.{taker_of}
 use Rattle.bus_world.specs.World.{World, driver_parts, with_parts}
-use Rattle.world_streams.specs.Streaming.{Streams, Standing, wired}
-use Rattle.held_puts.specs.Puts.{HoldsPuts}
-use Rattle.sent_rows.specs.Sent.{SentStand}
-use Rattle.sent_rows.proofs.Alike.{release_sends}
-use Rattle.owed_puts.specs.Owed.{Owes}
-use Rattle.owed_puts.specs.Taken.{TakenBegin, EndedAreStopped}
-use Rattle.owed_puts.proofs.TakenStopped.{spared_stopped}
+use Rattle.stream_worlds.specs.Streaming.{Streams, Standing, wired}
+use Rattle.put_laws.specs.HeldPuts.{HoldsPuts}
+use Rattle.put_laws.specs.Sent.{SentStand}
+use Rattle.put_laws.proofs.SentAlike.{release_sends}
+use Rattle.put_laws.specs.Owed.{Owes}
+use Rattle.put_laws.specs.OwedTaken.{TakenBegin, EndedAreStopped}
+use Rattle.put_laws.proofs.TakenStopped.{spared_stopped}
 use Rattle.whole_worlds.proofs.Returning.{due, transfer, returning}
 use Rattle.whole_worlds.proofs.Releasing.{n, goes, standing, g, whole_released}
 use Rattle.sending_worlds.specs.Sending.{IsSending, HasSending}
-use Rattle.sending_worlds.specs.Laws.{ReleaseKeepsSending}
+use Rattle.sending_worlds.specs.WorldLaws.{ReleaseKeepsSending}
 use Rattle.sending_worlds.proofs.Each.{HarvestsNone, held_then, begin_then, ended_alike, owes_same}
 
 no_open : (b : ℕ) → ◌≡◌ {A = Option Command} None (Some (unfinished.Open b)) → ⊥

@@ -6,14 +6,14 @@ use Rattle.usb_bus.specs.Bus.{Fixed}
 use Rattle.driver_rows.specs.declared.content.Command.TheVariants as unfinished
 use Rattle.endpoint_lives.proofs.Lives.{linked_met}
 use Rattle.fed_queues.specs.Places.{IsMet}
-use Rattle.ring_streams.specs.Told.{Endpoint as Told}
+use Rattle.ring_laws.specs.Told.{Endpoint as Told}
 use Rattle.scripted_takers.specs.Takers.{taker_of}
-use Rattle.out_rows.specs.Outs.{IsUntaken}
+use Rattle.stream_worlds.specs.Outs.{IsUntaken}
 use Rattle.taken_reports.proofs.Beginning.{met_or_not}
-use Rattle.taken_puts.specs.Puts.{puts_of}
-use Rattle.sent_reports.specs.Laws.{TakesPuts, HaveTheirTakers}
+use Rattle.put_laws.specs.TakenPuts.{puts_of}
+use Rattle.sending_worlds.specs.ReportLaws.{TakesPuts, HaveTheirTakers}
 use Rattle.bus_world.specs.World.{World}
-use Rattle.world_streams.specs.Streaming.{Streams, Standing, wired}
+use Rattle.stream_worlds.specs.Streaming.{Streams, Standing, wired}
 use Rattle.whole_worlds.proofs.TakingHeads.{outs_stand}
 use Rattle.sending_worlds.specs.Sending.{IsSending}
 use Rattle.sending_worlds.proofs.Each.{unopened, nothing_taken}

@@ -5,17 +5,17 @@ use Rattle.driver_rows.specs.declared.rows.DriverRow.{DriverRow}
 use Rattle.driver_rows.specs.declared.rows.DriverRow.TheVariants as rows
 use Rattle.driver_rows.specs.Rows.{Parts, driver_row, after_driver_row}
 use Rattle.usb_bus.specs.Bus.{Fixed}
-use Rattle.driver_parts.specs.Driven.{is_quiet}
+use Rattle.driver_laws.specs.Driven.{is_quiet}
 use Rattle.bus_world.specs.World.{World, driver_parts, driver_next}
-use Rattle.world_streams.specs.Streaming.{Streams, Standing}
-use Rattle.sent_rows.specs.Sent.{SentStand}
-use Rattle.sent_rows.proofs.Alike.{quiet_sends}
-use Rattle.owed_puts.specs.Owed.{Owes}
-use Rattle.owed_puts.specs.Taken.{EndedAreStopped}
+use Rattle.stream_worlds.specs.Streaming.{Streams, Standing}
+use Rattle.put_laws.specs.Sent.{SentStand}
+use Rattle.put_laws.proofs.SentAlike.{quiet_sends}
+use Rattle.put_laws.specs.Owed.{Owes}
+use Rattle.put_laws.specs.OwedTaken.{EndedAreStopped}
 use Rattle.whole_worlds.specs.FeedingLaws.{is_still}
 use Rattle.whole_worlds.proofs.Still.{whole_still}
 use Rattle.sending_worlds.specs.Sending.{IsSending}
-use Rattle.sending_worlds.specs.Laws.{StillKeepsSending}
+use Rattle.sending_worlds.specs.WorldLaws.{StillKeepsSending}
 use Rattle.sending_worlds.proofs.Each.{HarvestsNone, held_then, begin_then, ended_alike, owes_same}
 
 -- ---- such a row

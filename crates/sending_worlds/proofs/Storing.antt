@@ -4,18 +4,18 @@ use Rattle.usb_bus.specs.Bus.{Fixed}
 use Rattle.driver_rows.specs.declared.content.Command.{Command}
 use Rattle.driver_rows.specs.declared.content.Command.TheVariants as unfinished
 use Rattle.driver_rows.specs.Rows.{Parts as DriverParts}
-use Rattle.driver_lends.specs.Published.{partly}
-use Rattle.published_streams.proofs.Storing.{spares_head}
+use Rattle.driver_laws.specs.Published.{partly}
+use Rattle.controlled_streams.proofs.Storing.{spares_head}
 use Rattle.bus_world.specs.World.{World, driver_parts, driver_next}
-use Rattle.world_streams.specs.Streaming.{Streams, Standing}
+use Rattle.stream_worlds.specs.Streaming.{Streams, Standing}
 use Rattle.fed_queues.specs.Fed.{IsPublished}
-use Rattle.fed_stores.specs.Stores.{IsAtStore, published_by, parts_then, out_then, next_of}
+use Rattle.publish_laws.specs.Stores.{IsAtStore, published_by, parts_then, out_then, next_of}
 use Rattle.standing_fronts.specs.Reaching.{Reaches}
-use Rattle.sent_rows.specs.Sent.{SentStand}
-use Rattle.sent_rows.proofs.Storing.{store_sends}
-use Rattle.owed_puts.specs.Owed.{Owes}
-use Rattle.owed_puts.specs.Taken.{EndedAreStopped}
-use Rattle.owed_puts.proofs.TakenStopped.{spared_stopped}
+use Rattle.put_laws.specs.Sent.{SentStand}
+use Rattle.put_laws.proofs.Storing.{store_sends}
+use Rattle.put_laws.specs.Owed.{Owes}
+use Rattle.put_laws.specs.OwedTaken.{EndedAreStopped}
+use Rattle.put_laws.proofs.TakenStopped.{spared_stopped}
 use Rattle.whole_worlds.specs.Feeding.{there_of, IsFeeding}
 use Rattle.whole_worlds.proofs.Told.{there_on}
 use Rattle.whole_worlds.proofs.FeedingStores.{at, after_store}
@@ -23,7 +23,7 @@ use Rattle.whole_worlds.proofs.Storing.{met_now}
 use Rattle.whole_worlds.proofs.StoredTails.{tail_here}
 use Rattle.whole_worlds.proofs.Worlds.{whole_after}
 use Rattle.sending_worlds.specs.Sending.{IsSending}
-use Rattle.sending_worlds.specs.Laws.{StoreKeepsSending}
+use Rattle.sending_worlds.specs.WorldLaws.{StoreKeepsSending}
 use Rattle.sending_worlds.proofs.Each.{HarvestsNone, busy_harvests_none, held_then, begin_then, ended_alike, owes_same}
 
 no_open : (b c : ℕ) (words : List ℕ) → ◌≡◌ {A = Option Command} (Some (unfinished.Publish b words)) (Some (unfinished.Open c)) → ⊥

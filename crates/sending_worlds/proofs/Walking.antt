@@ -2,10 +2,10 @@
 use Rattle.script_types.specs.declared.scripts.Script.{Script}
 use Rattle.usb_bus.specs.Bus.{fixed_of}
 use Rattle.bus_world.specs.World.{World}
-use Rattle.world_streams.specs.Streaming.{Streams}
+use Rattle.stream_worlds.specs.Streaming.{Streams}
 use Rattle.receiving_runs.specs.Runs.{IsKeptBy}
 use Rattle.receiving_runs.proofs.Runs.{holds_throughout}
-use Rattle.out_rows.specs.Takers.{takes_of}
+use Rattle.stream_worlds.specs.Takers.{takes_of}
 use Rattle.controlled_walks.specs.Worlds.{IsWalking}
 use Rattle.controlled_walks.proofs.Worlds.{new_walks, controller_walks, driver_walks, command_walks}
 use Rattle.whole_worlds.specs.Feeding.{streams_of}

@@ -1,5 +1,8 @@
+pub mod Sent
+pub mod ReportLaws
+pub mod ReportSamples
 pub mod Sending
-pub mod Laws
+pub mod WorldLaws
 pub mod Moments
 pub mod Walking
 pub mod Kept

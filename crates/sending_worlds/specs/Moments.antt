@@ -11,9 +11,9 @@ use Rattle.bus_world.specs.Budgets.{moment}
 use Rattle.report_streams.specs.Streams.{AreRightStreams}
 use Rattle.right_reports.specs.WorldReport.{report_of}
 use Rattle.chained_transfers.specs.Bulk.{BulkOnly}
-use Rattle.out_rows.specs.Takers.{takes_of}
-use Rattle.taken_puts.specs.Puts.{puts_at}
-use Rattle.sent_reports.specs.Sent.{AreSentStreams}
+use Rattle.stream_worlds.specs.Takers.{takes_of}
+use Rattle.put_laws.specs.TakenPuts.{puts_at}
+use Rattle.sending_worlds.specs.Sent.{AreSentStreams}
 use Rattle.whole_worlds.specs.Feeding.{streams_of}
 use Rattle.whole_worlds.specs.Moments.{IsBulkScript}
 use Rattle.sending_worlds.specs.Sending.{HasSending}

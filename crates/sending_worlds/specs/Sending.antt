@@ -3,15 +3,15 @@
 --                                                 its transfer
 --     HasSending fixed takes stream packets puts w     .. for some queue heads with streams, and some structures
 use Rattle.std.specs.Prelude.{ℕ, Bool, List}
-use Rattle.ring_streams.specs.Told.{Endpoint as Told}
+use Rattle.ring_laws.specs.Told.{Endpoint as Told}
 use Rattle.scripted_takers.specs.Takers.{taker_of}
 use Rattle.usb_bus.specs.Bus.{Fixed}
 use Rattle.bus_world.specs.World.{World}
-use Rattle.world_streams.specs.Streaming.{Streams, Standing, wired}
-use Rattle.held_puts.specs.Puts.{HoldsPuts}
-use Rattle.sent_rows.specs.Sent.{SentStand}
-use Rattle.owed_puts.specs.Owed.{Owes}
-use Rattle.owed_puts.specs.Taken.{TakenBegin, EndedAreStopped}
+use Rattle.stream_worlds.specs.Streaming.{Streams, Standing, wired}
+use Rattle.put_laws.specs.HeldPuts.{HoldsPuts}
+use Rattle.put_laws.specs.Sent.{SentStand}
+use Rattle.put_laws.specs.Owed.{Owes}
+use Rattle.put_laws.specs.OwedTaken.{TakenBegin, EndedAreStopped}
 use Rattle.whole_worlds.specs.Whole.{IsWhole}
 
 pub record IsSending (fixed : Fixed) (takes : ℕ → ℕ → Bool) (member : ℕ → Bool) (x : Streams) (s : Standing) (puts : ℕ → List ℕ) (w : World) : Type 0 where

@@ -16,7 +16,7 @@ use Rattle.run_owners.specs.Owners.{QueueHead as QueueHeadOf, HasBlocks, runs_of
 use Rattle.queue_head_words.specs.Overlay.{HasQueueHead, of_ring, of_endpoint}
 use Rattle.lent_structures.specs.Structures.{Structure, QueueHead, Element, Buffer, Table, Isochronous, SplitIsochronous, StructureSets}
 use Rattle.controller_writes.specs.Leaving.{LeavesRest}
-use Rattle.driver_parts.specs.Inventory.{OfQueueHead, sort_of, sorts_of, IsLent, IsQueueIn, IsDriven}
+use Rattle.driver_laws.specs.Inventory.{OfQueueHead, sort_of, sorts_of, IsLent, IsQueueIn, IsDriven}
 use Rattle.in_place.specs.InPlace.{IsInPlace}
 use Rattle.in_place.specs.Run.{IsElsewhere}
 

@@ -13,18 +13,18 @@ use Rattle.driver_rows.specs.Opening.{opening}
 use Rattle.driver_rows.specs.Rows.{driver_row}
 use Rattle.run_owners.specs.Owners.{views_of}
 use Rattle.lent_structures.specs.Structures.{StructureSets}
-use Rattle.ring_walk.specs.Hand.{Hand, Empty}
-use Rattle.ring_walk.specs.Ring.{Base}
-use Rattle.ring_walk.specs.Effects.{AreBytesHeard}
-use Rattle.ring_control.specs.Control.{IsOn, AreEmpty, IsFrameless, off, empty, IsControlled, ControlEffect, a_microframe, a_step, Controls}
-use Rattle.ring_control.proofs.Controlling.{event_controls}
+use Rattle.ring_laws.specs.Hand.{Hand, Empty}
+use Rattle.ring_laws.specs.Ring.{Base}
+use Rattle.ring_laws.specs.Effects.{AreBytesHeard}
+use Rattle.controlled_streams.specs.Control.{IsOn, AreEmpty, IsFrameless, off, empty, IsControlled, ControlEffect, a_microframe, a_step, Controls}
+use Rattle.controlled_streams.proofs.Controlling.{event_controls}
 use Rattle.controller_writes.proofs.Controlling.{event_leaves}
-use Rattle.driver_parts.specs.Inventory.{SameSorts}
-use Rattle.driver_parts.specs.Driven.{IsOperating, DrivesRing, is_quiet}
-use Rattle.driver_parts.specs.Opened.{empty_list, opening_base, opening_parts, is_head}
-use Rattle.driver_parts.proofs.Sorts.{same_parts, effect_same, driven_same}
-use Rattle.driver_parts.proofs.Quiet.{quiet_drives}
-use Rattle.driver_parts.proofs.Opening.{opening_drives}
+use Rattle.driver_laws.specs.Inventory.{SameSorts}
+use Rattle.driver_laws.specs.Driven.{IsOperating, DrivesRing, is_quiet}
+use Rattle.driver_laws.specs.PartOpened.{empty_list, opening_base, opening_parts, is_head}
+use Rattle.driver_laws.proofs.Sorts.{same_parts, effect_same, driven_same}
+use Rattle.driver_laws.proofs.Quiet.{quiet_drives}
+use Rattle.driver_laws.proofs.PartOpening.{opening_drives}
 use Rattle.in_place.specs.Run.{IsElsewhere}
 use Rattle.in_place.proofs.Opened.{opening_in_place}
 use Rattle.in_place.proofs.Laws.{event_in_place}

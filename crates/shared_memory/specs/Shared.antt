@@ -11,11 +11,11 @@ use Rattle.driver_rows.specs.DriverContent.{DriverContent}
 use Rattle.driver_rows.specs.Rows.{Parts as DriverParts, driver_row, after_driver_row}
 use Rattle.run_owners.specs.Owners.{views_of}
 use Rattle.lent_structures.specs.Structures.{StructureSets}
-use Rattle.ring_walk.specs.Hand.{Hand}
-use Rattle.ring_walk.specs.Ring.{Base}
-use Rattle.ring_control.specs.Control.{IsControlled}
-use Rattle.driver_parts.specs.Inventory.{sorts_of, IsDriven}
-use Rattle.driver_parts.specs.Driven.{IsOperating}
+use Rattle.ring_laws.specs.Hand.{Hand}
+use Rattle.ring_laws.specs.Ring.{Base}
+use Rattle.controlled_streams.specs.Control.{IsControlled}
+use Rattle.driver_laws.specs.Inventory.{sorts_of, IsDriven}
+use Rattle.driver_laws.specs.Driven.{IsOperating}
 use Rattle.in_place.specs.InPlace.{IsInPlace}
 
 pub record IsShared (base : Base) (member : ℕ → Bool) (parts : StructureSets) (hand : Hand) (c : Content) (d : DriverContent) : Type 0 where

@@ -5,11 +5,11 @@ ghost use Rattle.driver_rows.specs.DriverContent.{DriverContent};
 ghost use Rattle.driver_rows.specs.Opening.{opening};
 ghost use Rattle.driver_rows.specs.Rows.{driver_row};
 ghost use Rattle.lent_structures.specs.Structures.{StructureSets};
-ghost use Rattle.ring_walk.specs.Hand.{Hand, Empty};
-ghost use Rattle.ring_walk.specs.Ring.{Base};
-ghost use Rattle.ring_walk.specs.Effects.{AreBytesHeard};
-ghost use Rattle.driver_parts.specs.Driven.{is_quiet};
-ghost use Rattle.driver_parts.specs.Opened.{opening_base, opening_parts, is_head};
+ghost use Rattle.ring_laws.specs.Hand.{Hand, Empty};
+ghost use Rattle.ring_laws.specs.Ring.{Base};
+ghost use Rattle.ring_laws.specs.Effects.{AreBytesHeard};
+ghost use Rattle.driver_laws.specs.Driven.{is_quiet};
+ghost use Rattle.driver_laws.specs.PartOpened.{opening_base, opening_parts, is_head};
 ghost use Rattle.in_place.specs.Run.{IsElsewhere};
 ghost use Rattle.shared_memory.specs.Shared.{IsShared, StaysShared, parts_of, next_parts, after_driver};
 

@@ -6,9 +6,9 @@ use Rattle.script_types.specs.declared.scripts.Event.{Event}
 use Rattle.script_types.specs.declared.scripts.Event.TheVariants as events
 use Rattle.usb_bus.specs.Bus.{Fixed}
 use Rattle.driver_rows.specs.Offers.{Offered, offered}
-use Rattle.ring_walk.specs.Ring.{Base}
+use Rattle.ring_laws.specs.Ring.{Base}
 use Rattle.bus_world.specs.World.{World, name_in, next, commanded, commanded_by}
-use Rattle.world_streams.specs.Streaming.{Streams, Standing}
+use Rattle.stream_worlds.specs.Streaming.{Streams, Standing}
 use Rattle.worlds_in_place.proofs.Refused.{refused_in_place}
 use Rattle.shared_worlds.specs.Working.{IsWorking, StaysWorking}
 use Rattle.shared_worlds.specs.Run.{IsCovered, AreCovered, after}

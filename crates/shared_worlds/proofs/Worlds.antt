@@ -9,25 +9,25 @@ use Rattle.driver_rows.specs.Opening.{opening}
 use Rattle.driver_rows.specs.Rows.{driver_row}
 use Rattle.driver_rows.specs.Words.{opening_head}
 use Rattle.run_owners.specs.Owners.{views_of}
-use Rattle.ring_walk.specs.Hand.{Empty}
-use Rattle.ring_walk.specs.Ring.{Base}
-use Rattle.ring_streams.specs.Told.{endpoint_of}
-use Rattle.ring_pipes.specs.Pipes.{IsElsewhere, grown}
-use Rattle.control_pipes.specs.Events.{ControlGoesOn}
-use Rattle.control_pipes.proofs.Piping.{control_pipes}
+use Rattle.ring_laws.specs.Hand.{Empty}
+use Rattle.ring_laws.specs.Ring.{Base}
+use Rattle.ring_laws.specs.Told.{endpoint_of}
+use Rattle.ring_laws.specs.Pipes.{IsElsewhere, grown}
+use Rattle.controlled_streams.specs.Events.{ControlGoesOn}
+use Rattle.controlled_streams.proofs.Piping.{control_pipes}
 use Rattle.scripted_streams.specs.Senders.{sender_of}
 use Rattle.scripted_streams.proofs.Asking.{scripted_bus}
 use Rattle.scripted_streams.proofs.Beginning.{scripted_begins}
-use Rattle.reported_streams.proofs.Reporting.{event_reported}
-use Rattle.driver_parts.specs.Driven.{is_quiet}
-use Rattle.driver_parts.specs.Opened.{opening_base, opening_parts, is_head}
-use Rattle.driver_parts.proofs.Sorts.{driven_same}
+use Rattle.controlled_streams.proofs.Reporting.{event_reported}
+use Rattle.driver_laws.specs.Driven.{is_quiet}
+use Rattle.driver_laws.specs.PartOpened.{opening_base, opening_parts, is_head}
+use Rattle.driver_laws.proofs.Sorts.{driven_same}
 use Rattle.in_place.proofs.Elsewhere.{elsewhere_in_place}
 use Rattle.bus_world.specs.Rooms.{reserve_of}
 use Rattle.bus_world.specs.World.{World, controller_parts, driver_parts, driver_next, controller_next}
 use Rattle.bus_world.specs.Opening.{opening_world}
-use Rattle.world_streams.specs.Streaming.{begins_by, transacts_by, wired, Streams, Standing, HearsBytesNow}
-use Rattle.world_streams.proofs.Turning.{world_has_row}
+use Rattle.stream_worlds.specs.Streaming.{begins_by, transacts_by, wired, Streams, Standing, HearsBytesNow}
+use Rattle.stream_worlds.proofs.StreamTurning.{world_has_row}
 use Rattle.shared_memory.specs.Shared.{IsShared, after_driver, next_parts}
 use Rattle.shared_memory.proofs.Sharing.{opening_shared, control_same, event_elsewhere, quiet_shared}
 use Rattle.shared_worlds.specs.Working.{IsWorking, StaysWorking, no_streams, at_opening}

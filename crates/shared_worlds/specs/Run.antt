@@ -7,9 +7,9 @@ use Rattle.script_types.specs.declared.scripts.Event.{Event}
 use Rattle.script_types.specs.declared.scripts.Event.TheVariants as events
 use Rattle.usb_bus.specs.Bus.{Fixed}
 use Rattle.driver_rows.specs.Rows.{driver_row}
-use Rattle.driver_parts.specs.Driven.{is_quiet}
+use Rattle.driver_laws.specs.Driven.{is_quiet}
 use Rattle.bus_world.specs.World.{World, driver_parts, next}
-use Rattle.world_streams.specs.Streaming.{HearsBytesNow}
+use Rattle.stream_worlds.specs.Streaming.{HearsBytesNow}
 
 abbrev pub IsCovered : Fixed → World → Event → Type 0
 IsCovered fixed w events.D = is_quiet (driver_row (driver_parts w)) ≡ true

@@ -8,15 +8,15 @@ use Rattle.usb_bus.specs.Bus.{Fixed}
 use Rattle.driver_rows.specs.Words.{opening_head}
 use Rattle.run_owners.specs.Owners.{views_of}
 use Rattle.lent_structures.specs.Structures.{StructureSets}
-use Rattle.ring_walk.specs.Hand.{Hand, Empty}
-use Rattle.ring_walk.specs.Ring.{Base}
-use Rattle.ring_streams.specs.Told.{endpoint_of}
-use Rattle.driver_parts.specs.Inventory.{sorts_of, IsDriven}
-use Rattle.driver_parts.specs.Driven.{IsOperating}
-use Rattle.driver_parts.specs.Opened.{opening_parts}
+use Rattle.ring_laws.specs.Hand.{Hand, Empty}
+use Rattle.ring_laws.specs.Ring.{Base}
+use Rattle.ring_laws.specs.Told.{endpoint_of}
+use Rattle.driver_laws.specs.Inventory.{sorts_of, IsDriven}
+use Rattle.driver_laws.specs.Driven.{IsOperating}
+use Rattle.driver_laws.specs.PartOpened.{opening_parts}
 use Rattle.in_place.specs.InPlace.{IsInPlace}
 use Rattle.bus_world.specs.World.{World}
-use Rattle.world_streams.specs.Streaming.{Streams, Standing, IsStreaming}
+use Rattle.stream_worlds.specs.Streaming.{Streams, Standing, IsStreaming}
 
 pub record IsWorking (fixed : Fixed) (base : Base) (member : ℕ → Bool) (x : Streams) (s : Standing) (w : World) : Type 0 where
   pub operating : IsOperating base

@@ -7,12 +7,12 @@ ghost use Rattle.script_fits.specs.Fits.{IsFit};
 ghost use Rattle.usb_bus.specs.Bus.{Fixed, fixed_of};
 ghost use Rattle.driver_rows.specs.Offers.{offered};
 ghost use Rattle.driver_rows.specs.Rows.{driver_row};
-ghost use Rattle.ring_walk.specs.Ring.{Base};
-ghost use Rattle.driver_parts.specs.Driven.{is_quiet};
-ghost use Rattle.driver_parts.specs.Opened.{opening_base, is_head};
+ghost use Rattle.ring_laws.specs.Ring.{Base};
+ghost use Rattle.driver_laws.specs.Driven.{is_quiet};
+ghost use Rattle.driver_laws.specs.PartOpened.{opening_base, is_head};
 ghost use Rattle.bus_world.specs.World.{World, driver_parts, driver_next, controller_next, commanded};
 ghost use Rattle.bus_world.specs.Opening.{opening_world};
-ghost use Rattle.world_streams.specs.Streaming.{Streams, Standing, HearsBytesNow};
+ghost use Rattle.stream_worlds.specs.Streaming.{Streams, Standing, HearsBytesNow};
 ghost use Rattle.shared_worlds.specs.Run.{AreCovered, after};
 ghost use Rattle.shared_worlds.specs.Working.{IsWorking, StaysWorking, no_streams, at_opening};
 

@@ -7,14 +7,14 @@ use Rattle.driver_rows.specs.declared.content.Endpoint.{Endpoint}
 use Rattle.driver_rows.specs.DriverContent.{DriverContent}
 use Rattle.lent_structures.specs.Structures.{QueueHead, Element, Structures, StructureSets}
 use Rattle.lent_structures.proofs.Names.{not_same, put_same, put_else, put_beside, put_found}
-use Rattle.queue_parts.specs.Sound.{buffer_name}
-use Rattle.queue_parts.proofs.Altering.{found_element}
-use Rattle.ring_walk.specs.Effects.{bytes_in, buffer_of}
-use Rattle.ring_order.specs.Order.{IsFresh, IsSorted, AreAfter, IsAmong}
-use Rattle.ring_fronts.specs.Front.{IsPassed, HasFront}
-use Rattle.ring_fronts.proofs.Going.{front_spared}
+use Rattle.lent_structures.specs.Sound.{buffer_name}
+use Rattle.lent_structures.proofs.Altering.{found_element}
+use Rattle.ring_laws.specs.Effects.{bytes_in, buffer_of}
+use Rattle.ring_laws.specs.Order.{IsFresh, IsSorted, AreAfter, IsAmong}
+use Rattle.ring_laws.specs.Front.{IsPassed, HasFront}
+use Rattle.ring_laws.proofs.FrontGoing.{front_spared}
 use Rattle.released_queues.specs.Fronts.{piece_address, StandsAt}
-use Rattle.published_streams.specs.Storing.{stored_parts}
+use Rattle.controlled_streams.specs.Storing.{stored_parts}
 use Rattle.standing_fronts.specs.Along.{AlikeKeepFronts, IdleStoreKeepsFronts, LastStoreKeepsFronts}
 
 pub alike_keep : AlikeKeepFronts

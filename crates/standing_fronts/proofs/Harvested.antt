@@ -20,9 +20,9 @@ use Rattle.chained_transfers.specs.Out.{passed, out_now}
 use Rattle.chained_transfers.proofs.Chained.{piece_same}
 use Rattle.chained_transfers.proofs.Harvested.{piece_next}
 use Rattle.lent_structures.specs.Structures.{Element, Structures, StructureSets}
-use Rattle.queue_parts.proofs.Altering.{found_element}
-use Rattle.ring_order.specs.Order.{IsAmong}
-use Rattle.ring_fronts.specs.Front.{own_pointer, IsPassed, HasFront}
+use Rattle.lent_structures.proofs.Altering.{found_element}
+use Rattle.ring_laws.specs.Order.{IsAmong}
+use Rattle.ring_laws.specs.Front.{own_pointer, IsPassed, HasFront}
 use Rattle.fed_queues.specs.Fed.{IsPieceFed, unpublished_of, AreFed}
 use Rattle.fed_queues.specs.Places.{IsMet, AreStillOut, IsThere}
 use Rattle.released_queues.specs.Fronts.{piece_address, end_at, StandsAt, FrontsStand}

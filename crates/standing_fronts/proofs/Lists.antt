@@ -7,7 +7,7 @@ use Rattle.run_owners.specs.Leaving.{times}
 use Rattle.chained_transfers.specs.Chains.{piece_at}
 use Rattle.chained_transfers.specs.Out.{pieces_from, passed, out_of_transfer}
 use Rattle.chained_transfers.proofs.Chained.{piece_same}
-use Rattle.ring_order.specs.Order.{IsAmong}
+use Rattle.ring_laws.specs.Order.{IsAmong}
 use Rattle.released_queues.proofs.Outs.{out_plain, IsDropped, IsOutOf}
 
 among_left : (a : ℕ) (xs ys : List ℕ) → IsAmong a xs → IsAmong a (xs ++ ys)

@@ -6,13 +6,13 @@ use Rattle.usb_base.specs.declared.packets.Reply.{Reply}
 use Rattle.qh_qtd.specs.declared.qtd.Qtd.{Qtd}
 use Rattle.lent_structures.specs.Structures.{Element, StructureSets}
 use Rattle.lent_structures.proofs.Names.{put_same}
-use Rattle.queue_parts.proofs.Altering.{found_element}
-use Rattle.ring_streams.proofs.Altered.{effect_alters}
-use Rattle.ring_fronts.specs.Front.{LinksWithin, HasTail}
-use Rattle.ring_fronts.proofs.Going.{front_moves}
-use Rattle.ring_fronts.proofs.Tails.{tail_stays, tail_moves}
+use Rattle.lent_structures.proofs.Altering.{found_element}
+use Rattle.ring_laws.proofs.Altered.{effect_alters}
+use Rattle.ring_laws.specs.Front.{LinksWithin, HasTail}
+use Rattle.ring_laws.proofs.FrontGoing.{front_moves}
+use Rattle.ring_laws.proofs.Tails.{tail_stays, tail_moves}
 use Rattle.released_queues.specs.Fronts.{piece_address}
-use Rattle.published_streams.specs.Storing.{stored_parts}
+use Rattle.controlled_streams.specs.Storing.{stored_parts}
 use Rattle.standing_fronts.proofs.Alike.{head_before, element_before, stored_at, stored_front, published_at, published_front}
 use Rattle.standing_fronts.specs.Reaching.{ReachesWalk, ReachesIdleStore, ReachesLastStore}
 

@@ -2,7 +2,7 @@
 use Rattle.std.proofs.Common.{ℕ, ◌*◌, List, arith}
 use Rattle.usb_base.specs.declared.packets.Ask.{Ask}
 use Rattle.usb_base.specs.declared.packets.Reply.{Reply}
-use Rattle.ring_fronts.proofs.Going.{front_moves}
+use Rattle.ring_laws.proofs.FrontGoing.{front_moves}
 use Rattle.released_queues.specs.Fronts.{piece_address}
 use Rattle.standing_fronts.specs.Along.{WalkKeepsFronts}
 

@@ -20,16 +20,16 @@ use Rattle.run_owners.specs.Due.{IsHarvestDue}
 use Rattle.run_owners.specs.Kept.{HasOwners}
 use Rattle.chained_transfers.specs.InTurn.{TakesTurns}
 use Rattle.lent_structures.specs.Structures.{StructureSets, Tells}
-use Rattle.ring_walk.specs.Hand.{Hand}
-use Rattle.ring_walk.specs.Ring.{IsInHand}
-use Rattle.ring_walk.specs.Effects.{Effect}
-use Rattle.ring_streams.specs.Streams.{AreMembers}
-use Rattle.ring_order.specs.Order.{IsFresh}
-use Rattle.ring_fronts.specs.Front.{LinksRise}
+use Rattle.ring_laws.specs.Hand.{Hand}
+use Rattle.ring_laws.specs.Ring.{IsInHand}
+use Rattle.ring_laws.specs.Effects.{Effect}
+use Rattle.ring_laws.specs.Streams.{AreMembers}
+use Rattle.ring_laws.specs.Order.{IsFresh}
+use Rattle.ring_laws.specs.Front.{LinksRise}
 use Rattle.fed_queues.specs.Fed.{AreFed}
 use Rattle.fed_queues.specs.Places.{IsMet, AreStillOut}
 use Rattle.released_queues.specs.Fronts.{piece_address, FrontsStand}
-use Rattle.published_streams.specs.Storing.{IsStore, out_with, with_out, stored_parts}
+use Rattle.controlled_streams.specs.Storing.{IsStore, out_with, with_out, stored_parts}
 
 abbrev pub LinksOfQueuesRise : DriverContent → StructureSets → (ℕ → ℕ → ℕ) → Type 0
 LinksOfQueuesRise d parts order = (e : ℕ) (x : Endpoint) → slice_get d.endpoints e ≡ Some x → IsMet d e x → LinksRise (order (32 * x.queue)) (parts (32 * x.queue))

@@ -10,14 +10,14 @@ use Rattle.async_walk.specs.declared.state.WalkStep.{WalkStep}
 use Rattle.driver_rows.specs.declared.content.Endpoint.{Endpoint}
 use Rattle.driver_rows.specs.DriverContent.{DriverContent}
 use Rattle.lent_structures.specs.Structures.{Element, Structures, StructureSets}
-use Rattle.ring_walk.specs.Hand.{Hand}
-use Rattle.ring_walk.specs.Ring.{IsInHand}
-use Rattle.ring_walk.specs.Effects.{Effect}
-use Rattle.ring_streams.specs.Streams.{AreMembers}
-use Rattle.ring_order.specs.Order.{IsFresh, IsSorted, IsAmong}
-use Rattle.ring_fronts.specs.Front.{LinksRise, LinksWithin, HasTail}
+use Rattle.ring_laws.specs.Hand.{Hand}
+use Rattle.ring_laws.specs.Ring.{IsInHand}
+use Rattle.ring_laws.specs.Effects.{Effect}
+use Rattle.ring_laws.specs.Streams.{AreMembers}
+use Rattle.ring_laws.specs.Order.{IsFresh, IsSorted, IsAmong}
+use Rattle.ring_laws.specs.Front.{LinksRise, LinksWithin, HasTail}
 use Rattle.released_queues.specs.Fronts.{StandsAt}
-use Rattle.published_streams.specs.Storing.{stored_parts}
+use Rattle.controlled_streams.specs.Storing.{stored_parts}
 
 pub record Reaches (d : DriverContent) (part : Structures) (order : ℕ → ℕ) (out : List ℕ) (i : ℕ) (x : Endpoint) (c : ℕ) : Type 0 where
   pub stands : StandsAt d part order out i x

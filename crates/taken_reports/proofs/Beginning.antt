@@ -5,13 +5,13 @@ use Rattle.std.specs.List.{concat}
 use Rattle.std.proofs.lemmas.Bool.{cases_eq}
 use Rattle.std.proofs.lemmas.List.{append_assoc}
 use Rattle.lent_structures.specs.Structures.{StructureSets}
-use Rattle.ring_walk.specs.Hand.{Hand}
-use Rattle.ring_streams.specs.Told.{Endpoint as Told}
-use Rattle.ring_out_pipes.specs.OutBus.{Taker}
+use Rattle.ring_laws.specs.Hand.{Hand}
+use Rattle.ring_laws.specs.Told.{Endpoint as Told}
+use Rattle.ring_laws.specs.OutBus.{Taker}
 use Rattle.scripted_takers.specs.Takers.{taker_of}
-use Rattle.reported_streams.specs.Reported.{IsReported}
-use Rattle.control_out_pipes.specs.Outs.{Begins}
-use Rattle.control_out_pipes.proofs.Outs.{out_begins}
+use Rattle.controlled_streams.specs.Reported.{IsReported}
+use Rattle.controlled_streams.specs.Outs.{Begins}
+use Rattle.controlled_streams.proofs.Outs.{out_begins}
 use Rattle.driver_rows.specs.declared.content.Endpoint.{Endpoint}
 use Rattle.driver_rows.specs.declared.content.Command.{Command}
 use Rattle.driver_rows.specs.declared.content.Command.TheVariants as unfinished
@@ -20,7 +20,7 @@ use Rattle.report_streams.specs.Streams.{told_in}
 use Rattle.told_endpoints.specs.Telling.{lines_in}
 use Rattle.chained_transfers.specs.Bulk.{receives}
 use Rattle.right_reports.proofs.Right.{gone_told}
-use Rattle.world_streams.specs.Streaming.{wired}
+use Rattle.stream_worlds.specs.Streaming.{wired}
 use Rattle.fed_queues.specs.Places.{IsThere, IsMet}
 use Rattle.taken_reports.specs.Taken.{IsToldTaken}
 use Rattle.taken_reports.specs.Laws.{bytes_taken, TakesEach}

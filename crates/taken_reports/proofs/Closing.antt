@@ -15,14 +15,14 @@ use Rattle.hub_class.specs.HubContent.{HubContent}
 use Rattle.driver_rows.specs.DriverContent.{opened}
 use Rattle.usb_bus.specs.declared.seats.Seat.{Seat}
 use Rattle.usb_bus.specs.Fates.{is_same_name}
-use Rattle.ring_out_pipes.specs.OutBus.{Taker}
+use Rattle.ring_laws.specs.OutBus.{Taker}
 use Rattle.scripted_takers.proofs.Asking.{IsAtDevice, HasTaker, taker_found}
 use Rattle.report_streams.specs.Reports.{Closing, Pending, taken_in}
 use Rattle.report_streams.specs.Streams.{has_stream}
 use Rattle.told_endpoints.proofs.Names.{same_name_is, name_is_same}
 use Rattle.bus_world.specs.World.{World}
 use Rattle.bus_world.specs.Closing.{waiting, hub_of}
-use Rattle.world_streams.specs.Streaming.{wired}
+use Rattle.stream_worlds.specs.Streaming.{wired}
 use Rattle.right_reports.specs.WorldReport.{waiting_closing, device_closing, told_closing, opened_closings, seat_closings}
 use Rattle.taken_reports.specs.Seats.{AreApart}
 use Rattle.taken_reports.specs.Laws.{ClosingTellsTaker}

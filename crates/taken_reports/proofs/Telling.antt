@@ -21,7 +21,7 @@ use Rattle.pipe_agreement.specs.Prefix.{IsPrefix}
 use Rattle.usb_bus.specs.declared.seats.Seat.{Seat}
 use Rattle.usb_bus.specs.Fates.{is_same_name}
 use Rattle.usb_bus.specs.Bus.{Fixed}
-use Rattle.ring_out_pipes.specs.OutBus.{Taker}
+use Rattle.ring_laws.specs.OutBus.{Taker}
 use Rattle.scripted_takers.specs.Takers.{taker_of}
 use Rattle.report_streams.specs.Reports.{WholeReport, is_end, is_pending, taken}
 use Rattle.report_streams.specs.Streams.{is_refused, command_in, accepted_in, open_in, opened as opened_by, has_stream, told, told_in, ends_once, ends_whole}
@@ -32,7 +32,7 @@ use Rattle.endpoint_lives.proofs.Lives.{told_some}
 use Rattle.told_endpoints.specs.Telling.{named_of, named_in, lines_in, IsToldTo, TellsEach}
 use Rattle.told_endpoints.proofs.Lines.{once_without}
 use Rattle.bus_world.specs.World.{World}
-use Rattle.world_streams.specs.Streaming.{wired}
+use Rattle.stream_worlds.specs.Streaming.{wired}
 use Rattle.chained_transfers.specs.Bulk.{IsDataWay, IsBulk, OpensBulk, BulkLine, BulkOnly, receives}
 use Rattle.right_reports.specs.WorldReport.{closings_of, report_of}
 use Rattle.right_reports.proofs.Named.{HasNamed, NoneNamed, search, named_is, none_pending}

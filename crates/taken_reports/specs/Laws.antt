@@ -7,7 +7,7 @@ use Rattle.usb_base.specs.declared.endpoints.EpDesc.{EpDesc}
 use Rattle.usb_base.specs.declared.packets.Way.TheVariants.{Out}
 use Rattle.script_types.specs.declared.scripts.Script.{Script}
 use Rattle.usb_bus.specs.Bus.{Fixed}
-use Rattle.ring_out_pipes.specs.OutBus.{Taker}
+use Rattle.ring_laws.specs.OutBus.{Taker}
 use Rattle.scripted_takers.specs.Takers.{taker_of}
 use Rattle.report_streams.specs.Reports.{taken}
 use Rattle.report_streams.specs.Streams.{has_stream}
@@ -16,7 +16,7 @@ use Rattle.driver_rows.specs.DriverContent.{opened}
 use Rattle.chained_transfers.specs.Bulk.{receives, BulkOnly}
 use Rattle.told_endpoints.specs.Telling.{named_in, TellsEach}
 use Rattle.bus_world.specs.World.{World}
-use Rattle.world_streams.specs.Streaming.{wired}
+use Rattle.stream_worlds.specs.Streaming.{wired}
 use Rattle.right_reports.specs.WorldReport.{report_of}
 use Rattle.taken_reports.specs.Seats.{HasSeat, AreApart, IsSeatedBus}
 use Rattle.taken_reports.specs.Taken.{IsToldTaken, AreTakenStreams}

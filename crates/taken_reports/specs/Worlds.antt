@@ -8,23 +8,23 @@ use Rattle.std.specs.List.{concat}
 use Rattle.script_types.specs.declared.scripts.Script.{Script}
 use Rattle.usb_bus.specs.Bus.{Fixed}
 use Rattle.lent_structures.specs.Structures.{StructureSets}
-use Rattle.ring_walk.specs.Hand.{Hand}
-use Rattle.ring_streams.specs.Told.{Endpoint as Told, endpoint_of}
-use Rattle.ring_out_pipes.specs.OutBus.{Taker}
+use Rattle.ring_laws.specs.Hand.{Hand}
+use Rattle.ring_laws.specs.Told.{Endpoint as Told, endpoint_of}
+use Rattle.ring_laws.specs.OutBus.{Taker}
 use Rattle.scripted_takers.specs.Takers.{taker_of}
 use Rattle.endpoint_lives.specs.Lives.{may_meet}
 use Rattle.report_streams.specs.Streams.{told_in}
 use Rattle.told_endpoints.specs.Telling.{lines_in}
-use Rattle.reported_streams.specs.Reported.{AreReported}
+use Rattle.controlled_streams.specs.Reported.{AreReported}
 use Rattle.driver_rows.specs.declared.content.Endpoint.{Endpoint}
 use Rattle.driver_rows.specs.DriverContent.{DriverContent}
 use Rattle.driver_rows.specs.Words.{queue_head}
 use Rattle.bus_world.specs.World.{World}
-use Rattle.world_streams.specs.Streaming.{wired}
-use Rattle.out_rows.specs.Outs.{AreOutPiped}
+use Rattle.stream_worlds.specs.Streaming.{wired}
+use Rattle.stream_worlds.specs.Outs.{AreOutPiped}
 use Rattle.chained_transfers.specs.Bulk.{receives, BulkOnly, OnlyBulk}
 use Rattle.fed_queues.specs.Places.{IsMet, IsThere}
-use Rattle.told_queues.specs.Told.{ToldStands}
+use Rattle.harvest_laws.specs.Told.{ToldStands}
 use Rattle.right_reports.specs.WorldReport.{report_of}
 use Rattle.taken_reports.specs.Seats.{IsSeatedBus}
 use Rattle.taken_reports.specs.Taken.{IsToldTaken, AreTakenStreams}

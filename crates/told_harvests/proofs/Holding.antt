@@ -5,10 +5,10 @@ use Rattle.std.proofs.lemmas.List.{append_assoc, append-nil}
 use Rattle.qh_qtd.specs.declared.qtd.Qtd.{Qtd}
 use Rattle.qh_qtd.specs.declared.queue_head.Qh.{Qh}
 use Rattle.lent_structures.specs.Structures.{StructureSets}
-use Rattle.queue_parts.proofs.Altering.{found_element, found_queue}
-use Rattle.ring_walk.specs.Hand.{Hand}
-use Rattle.ring_walk.specs.Effects.{buffer_of}
-use Rattle.ring_streams.specs.Told.{Told, hand_bytes}
+use Rattle.lent_structures.proofs.Altering.{found_element, found_queue}
+use Rattle.ring_laws.specs.Hand.{Hand}
+use Rattle.ring_laws.specs.Effects.{buffer_of}
+use Rattle.ring_laws.specs.Told.{Told, hand_bytes}
 use Rattle.driver_rows.specs.declared.content.QtdNote.{QtdNote}
 use Rattle.told_harvests.specs.Held.{IsDone, AreHeld, none_held, one_held, IsOneFrom, NotesMoved}
 

@@ -5,15 +5,15 @@ use Rattle.usb_base.specs.declared.packets.Ask.{Ask}
 use Rattle.usb_base.specs.declared.packets.Reply.{Reply}
 use Rattle.qh_qtd.specs.declared.qtd.Qtd.{Qtd}
 use Rattle.lent_structures.specs.Structures.{Element, StructureSets}
-use Rattle.queue_parts.specs.Sound.{IsWorking, IsSoundQueue, IsMember}
-use Rattle.queue_parts.proofs.Altering.{found_element, found_queue}
-use Rattle.ring_walk.specs.Hand.{Hand}
-use Rattle.ring_walk.specs.Ring.{IsCopied, IsInHand}
-use Rattle.ring_streams.specs.Told.{Told}
-use Rattle.ring_streams.specs.Streams.{AreMembers, StreamEffect}
-use Rattle.ring_streams.specs.Streams.StreamEffect.{same, grows}
-use Rattle.spared_streams.specs.Sparing.{SameHand, SparesHead, SparesElement}
-use Rattle.spared_streams.proofs.Sparing.{spared_told}
+use Rattle.lent_structures.specs.Sound.{IsWorking, IsSoundQueue, IsMember}
+use Rattle.lent_structures.proofs.Altering.{found_element, found_queue}
+use Rattle.ring_laws.specs.Hand.{Hand}
+use Rattle.ring_laws.specs.Ring.{IsCopied, IsInHand}
+use Rattle.ring_laws.specs.Told.{Told}
+use Rattle.ring_laws.specs.Streams.{AreMembers, StreamEffect}
+use Rattle.ring_laws.specs.Streams.StreamEffect.{same, grows}
+use Rattle.ring_laws.specs.Sparing.{SameHand, SparesHead, SparesElement}
+use Rattle.ring_laws.proofs.SparedSparing.{spared_told}
 use Rattle.told_harvests.specs.Held.{IsDone}
 
 pub done_kept : {W : Type 0} (transacts : W → Ask → List ℕ → Reply → W → Type 0) (member : ℕ → Bool) (parts : StructureSets) (hand : Hand) (reply : Reply) (wire after : W) (now : StructureSets) (later : Hand) (n b k : ℕ) (x : List ℕ)

@@ -4,11 +4,11 @@ use Rattle.std.proofs.lemmas.Bool.{leb-false}
 use Rattle.word_mem.specs.Memory.{Mem}
 use Rattle.qh_qtd.specs.declared.token.Token.{Token}
 use Rattle.lent_structures.specs.Structures.{StructureSets, Tells}
-use Rattle.queue_parts.specs.Sound.{IsMember}
-use Rattle.ring_walk.specs.Hand.{Hand}
-use Rattle.ring_walk.specs.Effects.{buffer_of}
-use Rattle.ring_streams.specs.Told.{Told}
-use Rattle.ring_order.proofs.Ordering.{done_told}
+use Rattle.lent_structures.specs.Sound.{IsMember}
+use Rattle.ring_laws.specs.Hand.{Hand}
+use Rattle.ring_laws.specs.Effects.{buffer_of}
+use Rattle.ring_laws.specs.Told.{Told}
+use Rattle.ring_laws.proofs.Ordering.{done_told}
 use Rattle.driver_rows.specs.declared.content.QtdNote.{QtdNote}
 use Rattle.driver_rows.specs.DriverContent.{no_note}
 use Rattle.driver_rows.specs.Harvests.{note_at, noted, token_in, moved_of}

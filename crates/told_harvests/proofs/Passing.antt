@@ -3,10 +3,10 @@ use Rattle.std.proofs.Common.{◌≡◌, ◌≢◌, ℕ, true, false, List, [], 
 use Rattle.std.proofs.lemmas.Bool.{false≢true}
 use Rattle.qh_qtd.specs.declared.qtd.Qtd.{Qtd}
 use Rattle.lent_structures.specs.Structures.{Element, StructureSets}
-use Rattle.queue_parts.proofs.Altering.{found_element}
-use Rattle.ring_walk.specs.Hand.{Hand}
-use Rattle.ring_streams.specs.Told.{Told}
-use Rattle.ring_order.specs.Order.{AreAfter, IsSorted, IsAmong, AllTold, one_out, Accounts}
+use Rattle.lent_structures.proofs.Altering.{found_element}
+use Rattle.ring_laws.specs.Hand.{Hand}
+use Rattle.ring_laws.specs.Told.{Told}
+use Rattle.ring_laws.specs.Order.{AreAfter, IsSorted, IsAmong, AllTold, one_out, Accounts}
 use Rattle.told_harvests.specs.Passed.{IsNoneTold, HarvestsFirst}
 
 -- ---- lists

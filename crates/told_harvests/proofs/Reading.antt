@@ -4,11 +4,11 @@ use Rattle.std.proofs.lemmas.List.{append_assoc, append-nil, length-append, take
 use Rattle.word_mem.specs.Memory.{Mem}
 use Rattle.qh_qtd.specs.declared.qtd.Qtd.{Qtd}
 use Rattle.lent_structures.specs.Structures.{StructureSets, Tells}
-use Rattle.queue_parts.specs.Sound.{HasBuffer, IsMember}
-use Rattle.queue_parts.proofs.Altering.{found_element}
-use Rattle.ring_walk.specs.Hand.{Hand}
-use Rattle.ring_walk.specs.Effects.{bytes_in, buffer_of}
-use Rattle.ring_order.proofs.Ordering.{done_told}
+use Rattle.lent_structures.specs.Sound.{HasBuffer, IsMember}
+use Rattle.lent_structures.proofs.Altering.{found_element}
+use Rattle.ring_laws.specs.Hand.{Hand}
+use Rattle.ring_laws.specs.Effects.{bytes_in, buffer_of}
+use Rattle.ring_laws.proofs.Ordering.{done_told}
 use Rattle.driver_rows.specs.declared.content.QtdNote.{QtdNote}
 use Rattle.driver_rows.specs.Harvests.{note_at, buffer_bytes, moved_bytes}
 use Rattle.harvested_streams.specs.Harvested.{IsNoted}

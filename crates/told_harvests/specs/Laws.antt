@@ -3,11 +3,11 @@ use Rattle.std.specs.Prelude.{◌≡◌, ℕ, suc, ◌+◌, ◌*◌, ◌≤◌, 
 use Rattle.word_mem.specs.Memory.{Mem}
 use Rattle.qh_qtd.specs.declared.qtd.Qtd.{Qtd}
 use Rattle.lent_structures.specs.Structures.{Element, StructureSets, Tells}
-use Rattle.queue_parts.specs.Sound.{IsMember}
-use Rattle.ring_walk.specs.Hand.{Hand}
-use Rattle.ring_streams.specs.Told.{Told}
-use Rattle.ring_order.specs.Order.{Accounts}
-use Rattle.spared_streams.specs.Sparing.{SameHand, SparesHead, SparesElement}
+use Rattle.lent_structures.specs.Sound.{IsMember}
+use Rattle.ring_laws.specs.Hand.{Hand}
+use Rattle.ring_laws.specs.Told.{Told}
+use Rattle.ring_laws.specs.Order.{Accounts}
+use Rattle.ring_laws.specs.Sparing.{SameHand, SparesHead, SparesElement}
 use Rattle.driver_rows.specs.declared.content.QtdNote.{QtdNote}
 use Rattle.driver_rows.specs.Harvests.{note_at, noted, token_in, moved_of, moved_bytes}
 use Rattle.told_harvests.specs.Held.{IsDone, AreHeld, AreUnmoved, told_of, IsOneFrom, IsRead, AreRead, NotesMoved}

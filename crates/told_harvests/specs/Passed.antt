@@ -3,9 +3,9 @@
 --     HarvestsFirst ..                   what the harvest of the qTD at e leaves: its bytes came first, and the others are out still
 use Rattle.std.specs.Prelude.{◌≡◌, ℕ, List, [], ◌++◌}
 use Rattle.lent_structures.specs.Structures.{StructureSets}
-use Rattle.ring_walk.specs.Hand.{Hand}
-use Rattle.ring_streams.specs.Told.{Told}
-use Rattle.ring_order.specs.Order.{IsAmong, Accounts}
+use Rattle.ring_laws.specs.Hand.{Hand}
+use Rattle.ring_laws.specs.Told.{Told}
+use Rattle.ring_laws.specs.Order.{IsAmong, Accounts}
 
 abbrev pub IsNoneTold : Hand → StructureSets → ℕ → List ℕ → Type 0
 IsNoneTold hand parts n passed = (p : ℕ) (x : List ℕ) → IsAmong p passed → Told hand parts n p x → x ≡ []

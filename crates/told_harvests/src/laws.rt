@@ -2,9 +2,9 @@ ghost use Rattle.std.specs.Prelude.{◌≡◌, ℕ, Bool, false, List, Some};
 ghost use Rattle.usb_base.specs.declared.packets.Reply.{Reply};
 ghost use Rattle.qh_qtd.specs.declared.qtd.Qtd.{Qtd};
 ghost use Rattle.lent_structures.specs.Structures.{Element, StructureSets};
-ghost use Rattle.ring_walk.specs.Hand.{Hand};
-ghost use Rattle.ring_walk.specs.Ring.{IsInHand};
-ghost use Rattle.ring_streams.specs.Streams.{AreMembers, StreamEffect};
+ghost use Rattle.ring_laws.specs.Hand.{Hand};
+ghost use Rattle.ring_laws.specs.Ring.{IsInHand};
+ghost use Rattle.ring_laws.specs.Streams.{AreMembers, StreamEffect};
 ghost use Rattle.told_harvests.specs.Held.{IsDone};
 ghost use Rattle.told_harvests.specs.Laws.{FoundIsDone, FoundIsNoted, HeldGrows, HeldIsNoted, HeldStays, SparedIsDone, ReportIsRead, FirstIsHarvested};
 

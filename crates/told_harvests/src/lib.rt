@@ -1,7 +1,7 @@
 //! What a driver reports of the qTDs that it harvests (EHCI 1.0, 3.5.4 and 4.10): the bytes that were moved of each, once and in order; until a transfer is
 //! done they are held back, as notes and in buffers that no event changes any more.
 //!
-//! The crate has no code of its own: each function is a law over the definitions of `driver_rows` and `ring_order`, and its body is empty.
+//! The crate has no code of its own: each function is a law over the definitions of `driver_rows` and `ring_laws`, and its body is empty.
 #![tactic(auto)]
 
 mod laws;

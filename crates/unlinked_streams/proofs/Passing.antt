@@ -14,11 +14,11 @@ use Rattle.driver_rows.specs.Rows.{Parts as DriverParts, row_for, command_row, l
 use Rattle.driver_rows.specs.Words.{queue_head_link}
 use Rattle.run_owners.proofs.Released.{set_here, set_there}
 use Rattle.lent_structures.specs.Structures.{StructureSets}
-use Rattle.ring_walk.specs.Hand.{Hand}
-use Rattle.ring_walk.specs.Ring.{Base}
-use Rattle.driver_parts.specs.Driven.{DrivesRing}
-use Rattle.driver_unlinks.proofs.Unlinking.{unlink_drives}
-use Rattle.fed_stores.specs.Stores.{next_of}
+use Rattle.ring_laws.specs.Hand.{Hand}
+use Rattle.ring_laws.specs.Ring.{Base}
+use Rattle.driver_laws.specs.Driven.{DrivesRing}
+use Rattle.driver_laws.proofs.Unlinking.{unlink_drives}
+use Rattle.publish_laws.specs.Stores.{next_of}
 use Rattle.unlinked_streams.specs.Unlinks.{IsAtUnlink, driver_then, parts_unlinked, hand_unlinked, MeetsRing, IsUnlinked, UnlinkRow, UnlinkMeetsRing, UnlinkLeavesRing}
 
 module _ (p : DriverParts) (member : ℕ → Bool) (parts : StructureSets) (k : IsAtUnlink p.driver member parts) where

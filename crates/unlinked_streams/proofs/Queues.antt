@@ -18,15 +18,15 @@ use Rattle.driver_rows.specs.Words.{head_block, to_queue_head, queue_head_link, 
 use Rattle.run_owners.specs.Owners.{NoteRuns, note_in}
 use Rattle.run_owners.proofs.Released.{set_here, set_there}
 use Rattle.lent_structures.specs.Structures.{Structure, QueueHead, Buffer, StructureSets}
-use Rattle.queue_parts.specs.Sound.{element_pages, buffer_name, HasBuffer}
-use Rattle.ring_streams.specs.Told.{Endpoint as Told, endpoint_of}
-use Rattle.driver_parts.specs.Inventory.{IsLent}
+use Rattle.lent_structures.specs.Sound.{element_pages, buffer_name, HasBuffer}
+use Rattle.ring_laws.specs.Told.{Endpoint as Told, endpoint_of}
+use Rattle.driver_laws.specs.Inventory.{IsLent}
 use Rattle.chained_transfers.specs.Bulk.{receives}
 use Rattle.chained_transfers.specs.Chains.{piece_at}
 use Rattle.chained_transfers.specs.Out.{unpublished, out_of_transfer, out_of, out_now}
 use Rattle.fed_queues.specs.Fed.{IsPieceFed, unpublished_of, AreFed}
 use Rattle.fed_queues.specs.Places.{IsMet, HasHead, AreMet, HaveStreams, IsLast, AreLast, AreStillOut, IsThere}
-use Rattle.fed_stores.specs.Stores.{QueuesThen}
+use Rattle.publish_laws.specs.Stores.{QueuesThen}
 use Rattle.unlinked_streams.specs.Unlinks.{IsAtUnlink, driver_then, parts_unlinked, UnlinkLeavesQueues}
 use Rattle.unlinked_streams.proofs.Passing.{driver_is}
 use Rattle.unlinked_streams.proofs.Sparing.{stays, element_stays, element_was, buffer_stays}

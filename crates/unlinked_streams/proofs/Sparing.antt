@@ -11,13 +11,13 @@ use Rattle.qh_qtd.specs.declared.queue_head.Qh.{Qh}
 use Rattle.walk_copy.specs.Visits.{next_pointer}
 use Rattle.lent_structures.specs.Structures.{Structure, QueueHead, Element, Structures, StructureSets, put}
 use Rattle.lent_structures.proofs.Names.{put_beside, put_same, put_else, put_found}
-use Rattle.queue_parts.specs.Sound.{buffer_name}
-use Rattle.queue_parts.proofs.Altering.{found_queue, same_queue}
-use Rattle.ring_walk.specs.Effects.{bytes_in, buffer_of}
-use Rattle.ring_streams.specs.Told.{endpoint_of}
-use Rattle.spared_streams.specs.Sparing.{SparesHead, SparesElement}
-use Rattle.ring_fronts.specs.Front.{IsPassed, SameRest, HadRest, HasFront, LinksWithin, HasTail}
-use Rattle.ring_fronts.proofs.Going.{front_spared}
+use Rattle.lent_structures.specs.Sound.{buffer_name}
+use Rattle.lent_structures.proofs.Altering.{found_queue, same_queue}
+use Rattle.ring_laws.specs.Effects.{bytes_in, buffer_of}
+use Rattle.ring_laws.specs.Told.{endpoint_of}
+use Rattle.ring_laws.specs.Sparing.{SparesHead, SparesElement}
+use Rattle.ring_laws.specs.Front.{IsPassed, SameRest, HadRest, HasFront, LinksWithin, HasTail}
+use Rattle.ring_laws.proofs.FrontGoing.{front_spared}
 
 -- where the overlay is the same, so is the link that is followed
 rest_pointer : (q r : Qh) → SameRest q r → next_pointer r ≡ next_pointer q

@@ -25,8 +25,8 @@ use Rattle.ring_members.proofs.Leaving.{link_at as word_from}
 use Rattle.ring_members.proofs.Placed.{can_begin, in_ring_alive, queue_run, head_run_there}
 use Rattle.lent_structures.specs.Structures.{QueueHead, StructureSets, Tells}
 use Rattle.lent_structures.proofs.Reading.{head_read}
-use Rattle.queue_parts.specs.Sound.{IsMember}
-use Rattle.ring_streams.specs.Streams.{AreMembers}
+use Rattle.lent_structures.specs.Sound.{IsMember}
+use Rattle.ring_laws.specs.Streams.{AreMembers}
 use Rattle.unlinked_streams.specs.Unlinks.{IsAtUnlink, MeetsRing, UnlinkStands}
 
 -- ---- the link of a queue head by its word

@@ -9,23 +9,23 @@ use Rattle.driver_rows.specs.declared.content.Endpoint.{Endpoint}
 use Rattle.driver_rows.specs.DriverContent.{DriverContent}
 use Rattle.driver_rows.specs.Words.{to_queue_head}
 use Rattle.lent_structures.specs.Structures.{StructureSets}
-use Rattle.ring_walk.specs.Hand.{Hand}
-use Rattle.ring_streams.specs.Told.{Endpoint as Told}
-use Rattle.ring_order.specs.Order.{IsPlaced, IsOrdered}
-use Rattle.ring_fronts.specs.Front.{SameRest, HadRest, IsPassed, HasFront, LinksWithin, HasTail}
-use Rattle.spared_streams.proofs.Sparing.{linked_same, spared_endpoint, spared_pipes, spared_accounts}
-use Rattle.ring_pipes.specs.Bus.{Sender}
-use Rattle.ring_pipes.specs.Pipes.{IsIn, IsNotIn, IsElsewhere}
-use Rattle.ring_out_pipes.specs.OutBus.{Taker}
-use Rattle.ring_out_pipes.specs.OutPipes.{IsOut}
-use Rattle.ring_out_pipes.specs.Laws.{SendsNone}
-use Rattle.control_out_pipes.proofs.Outs.{linked_unmoved}
-use Rattle.reported_streams.specs.Reported.{IsReported}
+use Rattle.ring_laws.specs.Hand.{Hand}
+use Rattle.ring_laws.specs.Told.{Endpoint as Told}
+use Rattle.ring_laws.specs.Order.{IsPlaced, IsOrdered}
+use Rattle.ring_laws.specs.Front.{SameRest, HadRest, IsPassed, HasFront, LinksWithin, HasTail}
+use Rattle.ring_laws.proofs.SparedSparing.{linked_same, spared_endpoint, spared_pipes, spared_accounts}
+use Rattle.ring_laws.specs.Bus.{Sender}
+use Rattle.ring_laws.specs.Pipes.{IsIn, IsNotIn, IsElsewhere}
+use Rattle.ring_laws.specs.OutBus.{Taker}
+use Rattle.ring_laws.specs.OutPipes.{IsOut}
+use Rattle.ring_laws.specs.OutPipeLaws.{SendsNone}
+use Rattle.controlled_streams.proofs.Outs.{linked_unmoved}
+use Rattle.controlled_streams.specs.Reported.{IsReported}
 use Rattle.released_queues.specs.Fronts.{piece_address}
 use Rattle.whole_sends.proofs.Keeping.{linked_ends, spared_whole}
 use Rattle.standing_fronts.specs.Reaching.{Reaches}
-use Rattle.out_rows.specs.Outs.{IsAside}
-use Rattle.out_rows.proofs.Spared.{out_pipes_spared}
+use Rattle.stream_worlds.specs.Outs.{IsAside}
+use Rattle.stream_worlds.proofs.Spared.{out_pipes_spared}
 use Rattle.unlinked_streams.specs.Unlinks.{IsAtUnlink, driver_then, parts_unlinked, hand_unlinked, UnlinkLeavesPipes, UnlinkLeavesOutPipes, UnlinkLeavesReports, UnlinkLeavesSent, UnlinkSparesHeads, UnlinkSparesElements, UnlinkSparesHand, UnlinkLeavesFronts}
 use Rattle.unlinked_streams.proofs.Passing.{driver_is}
 use Rattle.unlinked_streams.proofs.Sparing.{spares_head, had_rest, element_was, buffer_stays, spares_element, front_stays, passed_stays, within_stays, tail_stays}

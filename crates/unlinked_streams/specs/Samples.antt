@@ -12,7 +12,7 @@ use Rattle.driver_rows.specs.Offers.{new_endpoint, accepted_cancel}
 use Rattle.driver_rows.specs.Rows.{Parts as DriverParts}
 use Rattle.driver_rows.specs.Words.{queue_head_link, queue_head}
 use Rattle.run_owners.specs.Worked.{bulk}
-use Rattle.ring_walk.specs.Hand.{Copy}
+use Rattle.ring_laws.specs.Hand.{Copy}
 
 abbrev pub older_endpoint : Endpoint
 older_endpoint = new_endpoint bulk 130 133

@@ -20,21 +20,21 @@ use Rattle.driver_rows.specs.Rows.{Parts as DriverParts, driver_row}
 use Rattle.driver_rows.specs.Words.{head_block, to_queue_head, queue_head_link}
 use Rattle.ring_members.specs.Ring.{IsSound}
 use Rattle.lent_structures.specs.Structures.{QueueHead, StructureSets, put, Tells}
-use Rattle.ring_walk.specs.Hand.{Hand}
-use Rattle.ring_walk.specs.Ring.{Base}
-use Rattle.ring_stores.specs.Stores.{hand_linked}
-use Rattle.ring_streams.specs.Told.{Endpoint as Told}
-use Rattle.ring_streams.specs.Streams.{AreMembers}
-use Rattle.spared_streams.specs.Sparing.{SameHand, SparesHead, SparesElement}
-use Rattle.driver_parts.specs.Driven.{DrivesRing}
-use Rattle.ring_pipes.specs.Bus.{Sender}
-use Rattle.ring_pipes.specs.Pipes.{ArePiped}
-use Rattle.ring_out_pipes.specs.OutBus.{Taker}
-use Rattle.reported_streams.specs.Reported.{AreReported}
-use Rattle.fed_stores.specs.Stores.{QueuesThen, next_of}
+use Rattle.ring_laws.specs.Hand.{Hand}
+use Rattle.ring_laws.specs.Ring.{Base}
+use Rattle.ring_laws.specs.Stores.{hand_linked}
+use Rattle.ring_laws.specs.Told.{Endpoint as Told}
+use Rattle.ring_laws.specs.Streams.{AreMembers}
+use Rattle.ring_laws.specs.Sparing.{SameHand, SparesHead, SparesElement}
+use Rattle.driver_laws.specs.Driven.{DrivesRing}
+use Rattle.ring_laws.specs.Bus.{Sender}
+use Rattle.ring_laws.specs.Pipes.{ArePiped}
+use Rattle.ring_laws.specs.OutBus.{Taker}
+use Rattle.controlled_streams.specs.Reported.{AreReported}
+use Rattle.publish_laws.specs.Stores.{QueuesThen, next_of}
 use Rattle.whole_sends.specs.Whole.{AreSentWhole}
 use Rattle.standing_fronts.specs.Reaching.{Reaches}
-use Rattle.out_rows.specs.Outs.{AreOutPiped}
+use Rattle.stream_worlds.specs.Outs.{AreOutPiped}
 
 -- the queue head `queue` in block `before` leads to that of the endpoint, and this one, `own`, to the one in block `after`
 pub record IsAtUnlink (d : DriverContent) (member : ℕ → Bool) (parts : StructureSets) : Type 0 where

@@ -1,7 +1,7 @@
 //! The laws.
 ghost use Rattle.std.specs.Prelude.{ℕ, Option};
-ghost use Rattle.ring_pipes.specs.Bus.{Sender};
-ghost use Rattle.ring_out_pipes.specs.OutBus.{Taker};
+ghost use Rattle.ring_laws.specs.Bus.{Sender};
+ghost use Rattle.ring_laws.specs.OutBus.{Taker};
 ghost use Rattle.unlinked_streams.specs.Unlinks.{UnlinkStands, UnlinkRow, UnlinkMeetsRing, UnlinkLeavesRing, UnlinkLeavesPipes, UnlinkLeavesOutPipes, UnlinkLeavesReports, UnlinkLeavesSent, UnlinkSparesHeads, UnlinkSparesElements, UnlinkSparesHand, UnlinkLeavesFronts, UnlinkLeavesQueues};
 
 use usb_base::Wire;

@@ -6,10 +6,10 @@ ghost use Rattle.driver_rows.specs.Offers.{before, after};
 ghost use Rattle.driver_rows.specs.Words.{to_queue_head, queue_head};
 ghost use Rattle.ring_members.specs.Links.{members, IsChain, AreLinked};
 ghost use Rattle.run_owners.specs.Worked.{bulk};
-ghost use Rattle.lent_structures.specs.Samples.{nothing};
+ghost use Rattle.lent_structures.specs.StructureSamples.{nothing};
 ghost use Rattle.lent_structures.specs.Structures.{QueueHead};
-ghost use Rattle.ring_walk.specs.Hand.{Empty, Copied};
-ghost use Rattle.fed_stores.specs.Stores.{next_of};
+ghost use Rattle.ring_laws.specs.Hand.{Empty, Copied};
+ghost use Rattle.publish_laws.specs.Stores.{next_of};
 ghost use Rattle.unlinked_streams.specs.Unlinks.{parts_unlinked, hand_unlinked};
 ghost use Rattle.unlinked_streams.specs.Samples.{two, cancelling, word, word_then, newer, copy};
 

@@ -15,17 +15,17 @@ use Rattle.run_owners.specs.Owners.{views_of}
 use Rattle.run_owners.proofs.Reasons.{each_is_due}
 use Rattle.run_owners.proofs.Released.{set_here, set_there}
 use Rattle.lent_structures.specs.Structures.{Structures, StructureSets}
-use Rattle.ring_control.specs.Control.{IsFrameless, off, empty}
-use Rattle.reported_streams.specs.Reported.{AreReported}
-use Rattle.driver_parts.specs.Opened.{opening_base}
-use Rattle.driver_parts.specs.Driven.{DrivesRing}
-use Rattle.driver_releases.specs.Extents.{AreInRuns}
+use Rattle.controlled_streams.specs.Control.{IsFrameless, off, empty}
+use Rattle.controlled_streams.specs.Reported.{AreReported}
+use Rattle.driver_laws.specs.PartOpened.{opening_base}
+use Rattle.driver_laws.specs.Driven.{DrivesRing}
+use Rattle.driver_laws.specs.Extents.{AreInRuns}
 use Rattle.in_place.specs.InPlace.{IsInPlace}
 use Rattle.in_place.proofs.Laws.{event_in_place}
 use Rattle.async_walk.specs.Rows.{place}
 use Rattle.scripted_streams.specs.Senders.{sender_of}
 use Rattle.bus_world.specs.World.{World, controller_parts, driver_parts, with_parts}
-use Rattle.world_streams.specs.Streaming.{Streams, Standing, wired}
+use Rattle.stream_worlds.specs.Streaming.{Streams, Standing, wired}
 use Rattle.shared_worlds.specs.Working.{IsWorking}
 use Rattle.chained_transfers.specs.InTurn.{TakesTurns}
 use Rattle.chained_transfers.proofs.Events.{event_turns}

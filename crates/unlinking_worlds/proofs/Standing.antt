@@ -4,10 +4,10 @@ use Rattle.driver_rows.specs.declared.rows.DriverRow.{DriverRow}
 use Rattle.driver_rows.specs.Rows.{Parts as DriverParts, after_driver_row}
 use Rattle.driver_rows.specs.Words.{queue_head_link}
 use Rattle.fed_queues.specs.Places.{IsMet}
-use Rattle.fed_stores.specs.Stores.{next_of}
+use Rattle.publish_laws.specs.Stores.{next_of}
 use Rattle.standing_fronts.specs.Reaching.{Reaches}
-use Rattle.told_queues.specs.Told.{ToldStands}
-use Rattle.told_queues.proofs.Standing.{spared_told}
+use Rattle.harvest_laws.specs.Told.{ToldStands}
+use Rattle.harvest_laws.proofs.Standing.{spared_told}
 use Rattle.leaving_drivers.specs.Before.{WasSame, IsAsBefore, NearSame}
 use Rattle.leaving_drivers.proofs.Leaving.{unlink_as_before}
 use Rattle.leaving_drivers.proofs.Alike.{near_fewer, met_before}
@@ -17,7 +17,7 @@ use Rattle.unlinked_streams.specs.Unlinks.{IsAtUnlink}
 use Rattle.unlinked_streams.proofs.Passing.{unlink_row_is}
 use Rattle.unlinked_streams.proofs.Streams.{unlink_spares_heads, unlink_spares_elements, unlink_spares_hand, unlink_leaves_fronts}
 use Rattle.bus_world.specs.World.{driver_parts}
-use Rattle.world_streams.specs.Streaming.{Standing}
+use Rattle.stream_worlds.specs.Streaming.{Standing}
 use Rattle.unlinking_worlds.specs.Leaving.{unlinked, UnlinkTells}
 
 module _ (p : DriverParts) (member : ℕ → Bool) (s : Standing) (k : IsAtUnlink p.driver member s.parts) where

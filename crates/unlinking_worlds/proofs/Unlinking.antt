@@ -10,26 +10,26 @@ use Rattle.driver_rows.specs.Rows.{Parts as DriverParts}
 use Rattle.driver_rows.specs.Words.{head_block, to_queue_head}
 use Rattle.endpoint_lives.specs.Lives.{is_one_of}
 use Rattle.lent_structures.specs.Structures.{QueueHead}
-use Rattle.ring_walk.specs.Hand.{Hand}
-use Rattle.reported_streams.specs.Reported.{AreReported}
-use Rattle.driver_parts.specs.Opened.{opening_base}
-use Rattle.driver_parts.specs.Driven.{DrivesRing}
+use Rattle.ring_laws.specs.Hand.{Hand}
+use Rattle.controlled_streams.specs.Reported.{AreReported}
+use Rattle.driver_laws.specs.PartOpened.{opening_base}
+use Rattle.driver_laws.specs.Driven.{DrivesRing}
 use Rattle.in_place.proofs.Laws.{event_in_place}
 use Rattle.async_walk.specs.Rows.{place}
 use Rattle.scripted_streams.specs.Senders.{sender_of}
 use Rattle.bus_world.specs.World.{World, driver_parts, driver_next}
-use Rattle.world_streams.specs.Streaming.{Streams, Standing, wired}
+use Rattle.stream_worlds.specs.Streaming.{Streams, Standing, wired}
 use Rattle.shared_worlds.specs.Working.{IsWorking}
 use Rattle.chained_transfers.proofs.Staying.{linked_alive}
 use Rattle.chained_transfers.proofs.Events.{event_turns}
 use Rattle.fed_queues.specs.Places.{HasHead, HasThere}
-use Rattle.fed_stores.specs.Stores.{QueuesThen, next_of}
+use Rattle.publish_laws.specs.Stores.{QueuesThen, next_of}
 use Rattle.unlinked_streams.specs.Unlinks.{IsAtUnlink, MeetsRing, IsUnlinked}
 use Rattle.unlinked_streams.proofs.Standing.{unlink_stands}
 use Rattle.unlinked_streams.proofs.Passing.{unlink_row_is, unlink_leaves_ring}
 use Rattle.unlinked_streams.proofs.Streams.{unlink_leaves_pipes, unlink_leaves_reports}
 use Rattle.unlinked_streams.proofs.Queues.{unlink_leaves_queues}
-use Rattle.ring_stores.specs.Stores.{hand_linked}
+use Rattle.ring_laws.specs.Stores.{hand_linked}
 use Rattle.whole_worlds.specs.Feeding.{there_of, IsFeeding}
 use Rattle.whole_worlds.proofs.FeedingStores.{queue_above, put_apart}
 use Rattle.whole_worlds.proofs.Told.{there_by, has_there}

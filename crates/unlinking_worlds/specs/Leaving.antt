@@ -9,9 +9,9 @@ use Rattle.usb_bus.specs.Bus.{Fixed}
 use Rattle.driver_rows.specs.declared.content.Command.TheVariants as unfinished
 use Rattle.driver_rows.specs.DriverContent.{DriverContent}
 use Rattle.bus_world.specs.World.{World, driver_next}
-use Rattle.world_streams.specs.Streaming.{Streams, Standing}
+use Rattle.stream_worlds.specs.Streaming.{Streams, Standing}
 use Rattle.unlinked_streams.specs.Unlinks.{IsAtUnlink, parts_unlinked, hand_unlinked}
-use Rattle.told_queues.specs.Told.{ToldStands}
+use Rattle.harvest_laws.specs.Told.{ToldStands}
 use Rattle.left_queues.specs.Standing.{IdleTailsStand}
 use Rattle.whole_worlds.specs.Feeding.{IsFeeding}
 

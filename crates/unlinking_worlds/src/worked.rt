@@ -3,7 +3,7 @@
 ghost use Rattle.std.specs.Prelude.{◌≡◌, ◌*◌, true, false};
 ghost use Rattle.driver_rows.specs.declared.rows.DriverRow.TheVariants as rows;
 ghost use Rattle.driver_rows.specs.Rows.{driver_row};
-ghost use Rattle.fed_stores.specs.Stores.{next_of};
+ghost use Rattle.publish_laws.specs.Stores.{next_of};
 ghost use Rattle.unlinked_streams.specs.Samples.{cancelling};
 ghost use Rattle.left_queues.specs.Samples.{cleared_parts};
 ghost use Rattle.whole_worlds.specs.Feeding.{there_of};

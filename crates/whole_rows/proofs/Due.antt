@@ -6,8 +6,8 @@ use Rattle.driver_rows.specs.declared.content.Command.TheVariants as unfinished
 use Rattle.driver_rows.specs.DriverContent.{DriverContent}
 use Rattle.lent_structures.specs.Structures.{StructureSets}
 use Rattle.fed_lends.specs.ToLend.{IsToBeLent}
-use Rattle.open_lends.specs.Lends.{IsOpenReady}
-use Rattle.open_stores.specs.Opens.{IsOpenLent}
+use Rattle.open_laws.specs.Lends.{IsOpenReady}
+use Rattle.open_laws.specs.Opens.{IsOpenLent}
 use Rattle.whole_worlds.specs.Whole.{IsUnderWay}
 use Rattle.small_receiver.specs.Samples.{words, world_at, put_words, put_at}
 use Rattle.small_receiver.proofs.Moments.{an_open, a_get, put_open, a_put}

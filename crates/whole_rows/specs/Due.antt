@@ -2,8 +2,8 @@
 --     IsOpenLentIn w     once an open was lent: so it is of whichever structures the world is whole with
 use Rattle.std.specs.Prelude.{ℕ, Bool}
 use Rattle.usb_bus.specs.Bus.{Fixed}
-use Rattle.world_streams.specs.Streaming.{Streams, Standing}
-use Rattle.open_stores.specs.Opens.{IsOpenLent}
+use Rattle.stream_worlds.specs.Streaming.{Streams, Standing}
+use Rattle.open_laws.specs.Opens.{IsOpenLent}
 use Rattle.bus_world.specs.World.{World}
 use Rattle.whole_worlds.specs.Whole.{IsWhole}
 

@@ -11,22 +11,22 @@ use Rattle.async_walk.specs.declared.state.WalkStep.{WalkStep}
 use Rattle.lent_structures.specs.Structures.{Structure, QueueHead, Element, Structures, StructureSets, with_structure, put}
 use Rattle.lent_structures.specs.Changes.{relinked}
 use Rattle.lent_structures.proofs.Names.{put_here, put_beside, with_here, with_there}
-use Rattle.write_back_laws.specs.WriteBack.{CanBeWritten, Nothing, qtd_after, parts_back}
-use Rattle.write_back_laws.proofs.WrittenBack.{between_element}
-use Rattle.write_back_laws.proofs.Found.{back_beside}
-use Rattle.queue_parts.specs.Sound.{buffer_name, IsWorking, IsSoundQueue, IsMember}
-use Rattle.queue_parts.specs.Alters.{Alters}
-use Rattle.queue_parts.proofs.Altering.{found_queue}
-use Rattle.queue_parts.proofs.Members.{name_after}
-use Rattle.ring_walk.specs.Hand.{settled_queue_of, Hand}
-use Rattle.ring_walk.specs.Ring.{IsCopied, IsSettled, IsInHand}
-use Rattle.ring_walk.specs.Effects.{bytes_in, received_into, Takes, WritesBack, Effect}
-use Rattle.ring_walk.specs.Effects.Effect.{reads, passes, ends, takes, makes, writes_back}
-use Rattle.ring_walk.proofs.Writing.{settled_copy, settled_range}
-use Rattle.ring_streams.specs.Streams.{AreMembers}
-use Rattle.ring_streams.proofs.Keeping.{bytes_beside_head}
-use Rattle.ring_streams.proofs.Altered.{effect_alters}
-use Rattle.ring_out_pipes.specs.OutPipes.{IsOut}
+use Rattle.lent_structures.specs.WriteBack.{CanBeWritten, Nothing, qtd_after, parts_back}
+use Rattle.lent_structures.proofs.WrittenBack.{between_element}
+use Rattle.lent_structures.proofs.Found.{back_beside}
+use Rattle.lent_structures.specs.Sound.{buffer_name, IsWorking, IsSoundQueue, IsMember}
+use Rattle.lent_structures.specs.Alters.{Alters}
+use Rattle.lent_structures.proofs.Altering.{found_queue}
+use Rattle.lent_structures.proofs.Members.{name_after}
+use Rattle.ring_laws.specs.Hand.{settled_queue_of, Hand}
+use Rattle.ring_laws.specs.Ring.{IsCopied, IsSettled, IsInHand}
+use Rattle.ring_laws.specs.Effects.{bytes_in, received_into, Takes, WritesBack, Effect}
+use Rattle.ring_laws.specs.Effects.Effect.{reads, passes, ends, takes, makes, writes_back}
+use Rattle.ring_laws.proofs.Writing.{settled_copy, settled_range}
+use Rattle.ring_laws.specs.Streams.{AreMembers}
+use Rattle.ring_laws.proofs.Keeping.{bytes_beside_head}
+use Rattle.ring_laws.proofs.Altered.{effect_alters}
+use Rattle.ring_laws.specs.OutPipes.{IsOut}
 use Rattle.whole_sends.specs.Whole.{bytes_of_element, buffers_of}
 use Rattle.whole_sends.specs.Laws.{WalkKeepsBuffers}
 use Rattle.whole_sends.proofs.Telling.{silent}

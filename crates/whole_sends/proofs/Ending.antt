@@ -32,7 +32,7 @@ use Rattle.transactions.specs.Calls.{moving_of}
 use Rattle.walk_copy.specs.Planning.{pid_at, host_in}
 use Rattle.walk_copy.specs.Transacting.{call_in}
 use Rattle.async_walk.specs.Naks.{kind_at, planned}
-use Rattle.ring_walk.specs.Effects.{settlement}
+use Rattle.ring_laws.specs.Effects.{settlement}
 
 -- ---- only an IN receives
 

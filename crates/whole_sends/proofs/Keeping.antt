@@ -12,13 +12,13 @@ use Rattle.qh_qtd.specs.declared.queue_head.Qh.{Qh}
 use Rattle.walk_copy.specs.Visits.{next_pointer}
 use Rattle.lent_structures.specs.Structures.{Structure, QueueHead, Element, Structures, StructureSets, put}
 use Rattle.lent_structures.proofs.Names.{put_same, put_found}
-use Rattle.queue_parts.specs.Sound.{IsElement, LeadsOn, IsWorking, IsSoundQueue, IsMember}
-use Rattle.queue_parts.proofs.Altering.{found_queue, found_element}
-use Rattle.ring_walk.specs.Hand.{Copy, copied_queue, Hand, Empty, Copied, Settled, Stale}
-use Rattle.ring_releases.specs.Fewer.{fewer_structures, without_those}
-use Rattle.ring_releases.proofs.Going.{found_fewer}
-use Rattle.ring_order.specs.Order.{AreAfter, IsSorted, IsAmong}
-use Rattle.ring_fronts.specs.Front.{IsBehind, SameRest, HadRest}
+use Rattle.lent_structures.specs.Sound.{IsElement, LeadsOn, IsWorking, IsSoundQueue, IsMember}
+use Rattle.lent_structures.proofs.Altering.{found_queue, found_element}
+use Rattle.ring_laws.specs.Hand.{Copy, copied_queue, Hand, Empty, Copied, Settled, Stale}
+use Rattle.ring_laws.specs.Fewer.{fewer_structures, without_those}
+use Rattle.ring_laws.proofs.ReleaseGoing.{found_fewer}
+use Rattle.ring_laws.specs.Order.{AreAfter, IsSorted, IsAmong}
+use Rattle.ring_laws.specs.Front.{IsBehind, SameRest, HadRest}
 use Rattle.whole_sends.specs.Whole.{EndsWhole, IsFirst, GoesInTurn, AreSentWhole}
 use Rattle.whole_sends.specs.Laws.{LinkedEndsWhole, StaleEndsWhole, StrangerEndsWhole, SparedIsWhole, ReturnedIsWhole, RenumberedIsWhole, IsNewBehind, AddedIsWhole, IdleStoreIsWhole, LastStoreIsWhole, BeginningIsWhole}
 

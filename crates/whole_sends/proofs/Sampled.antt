@@ -15,18 +15,18 @@ use Rattle.qh_qtd.specs.QueueHead.{IsQhInRange}
 use Rattle.walk_copy.specs.Overlay.{settled_queue, moved}
 use Rattle.async_walk.specs.declared.state.WalkStep.TheVariants as steps
 use Rattle.lent_structures.specs.Structures.{Structure, QueueHead, Element, Buffer, Structures, with_structure}
-use Rattle.queue_parts.specs.Sound.{buffer_name, IsSoundElement, AreOwn, IsMember}
-use Rattle.queue_parts.proofs.Altering.{found_queue, same_element}
-use Rattle.ring_walk.specs.Hand.{copied_queue, Empty}
-use Rattle.ring_walk.specs.Ring.{IsInHand}
-use Rattle.ring_walk.specs.Effects.{Effect}
-use Rattle.ring_walk.specs.Effects.Effect.{writes_back}
-use Rattle.ring_streams.specs.Streams.{AreMembers}
-use Rattle.ring_stores.proofs.Parting.{found_with}
-use Rattle.ring_releases.proofs.Going.{found_fewer}
-use Rattle.ring_order.specs.Order.{IsPlaced, IsFresh, IsOrdered, IsSorted, IsAmong, none_out, one_out, Accounts}
-use Rattle.ring_fronts.specs.Front.{IsFront, IsBehind, LinksWithin, HasFront, HasTail}
-use Rattle.ring_out_pipes.specs.OutPipes.{IsOut, IsNext}
+use Rattle.lent_structures.specs.Sound.{buffer_name, IsSoundElement, AreOwn, IsMember}
+use Rattle.lent_structures.proofs.Altering.{found_queue, same_element}
+use Rattle.ring_laws.specs.Hand.{copied_queue, Empty}
+use Rattle.ring_laws.specs.Ring.{IsInHand}
+use Rattle.ring_laws.specs.Effects.{Effect}
+use Rattle.ring_laws.specs.Effects.Effect.{writes_back}
+use Rattle.ring_laws.specs.Streams.{AreMembers}
+use Rattle.ring_laws.proofs.Parting.{found_with}
+use Rattle.ring_laws.proofs.ReleaseGoing.{found_fewer}
+use Rattle.ring_laws.specs.Order.{IsPlaced, IsFresh, IsOrdered, IsSorted, IsAmong, none_out, one_out, Accounts}
+use Rattle.ring_laws.specs.Front.{IsFront, IsBehind, LinksWithin, HasFront, HasTail}
+use Rattle.ring_laws.specs.OutPipes.{IsOut, IsNext}
 use Rattle.whole_sends.specs.Whole.{EndsWhole, GoesInTurn, AreSentWhole}
 use Rattle.whole_sends.specs.Samples.{order, ahead, behind, first, second, tail, more, working, halted, halted_second, pages, no_part, head_of, queue_of, parts, earlier, parts_halted, member, copy, acknowledgement, last, sent, written, sent_second}
 use Rattle.whole_sends.specs.Laws.{IsNewBehind}

@@ -12,18 +12,18 @@ use Rattle.walk_copy.specs.Transacting.{call_in}
 use Rattle.async_walk.specs.Naks.{kind_at, planned}
 use Rattle.lent_structures.specs.Structures.{QueueHead, StructureSets}
 use Rattle.lent_structures.proofs.Names.{not_same}
-use Rattle.queue_parts.specs.Sound.{IsWorking, IsSoundQueue, IsMember}
-use Rattle.queue_parts.proofs.Altering.{found_queue}
-use Rattle.ring_walk.specs.Hand.{Hand}
-use Rattle.ring_walk.specs.Ring.{IsCopied, IsInHand}
-use Rattle.ring_walk.specs.Effects.{buffer_of, settlement, Makes}
-use Rattle.ring_streams.specs.Told.{Endpoint, endpoint_of}
-use Rattle.ring_streams.specs.Streams.{AreMembers, moved_bytes}
-use Rattle.ring_streams.specs.Streams.StreamEffect.{same, grows}
-use Rattle.ring_out_pipes.specs.OutBus.{Taker, IsOutAsk}
-use Rattle.ring_out_pipes.specs.OutPipes.{IsNext, IsUnmoved, OutAgrees, level, ahead, ended}
-use Rattle.ring_out_pipes.specs.Laws.{SendsNone, IsBeside}
-use Rattle.ring_out_pipes.proofs.Stopping.{out_only}
+use Rattle.lent_structures.specs.Sound.{IsWorking, IsSoundQueue, IsMember}
+use Rattle.lent_structures.proofs.Altering.{found_queue}
+use Rattle.ring_laws.specs.Hand.{Hand}
+use Rattle.ring_laws.specs.Ring.{IsCopied, IsInHand}
+use Rattle.ring_laws.specs.Effects.{buffer_of, settlement, Makes}
+use Rattle.ring_laws.specs.Told.{Endpoint, endpoint_of}
+use Rattle.ring_laws.specs.Streams.{AreMembers, moved_bytes}
+use Rattle.ring_laws.specs.Streams.StreamEffect.{same, grows}
+use Rattle.ring_laws.specs.OutBus.{Taker, IsOutAsk}
+use Rattle.ring_laws.specs.OutPipes.{IsNext, IsUnmoved, OutAgrees, level, ahead, ended}
+use Rattle.ring_laws.specs.OutPipeLaws.{SendsNone, IsBeside}
+use Rattle.ring_laws.proofs.Stopping.{out_only}
 use Rattle.whole_sends.specs.Whole.{buffers_of}
 use Rattle.whole_sends.specs.Laws.{IdleTakesNothing, IsStopped, TakenIsInOrder, TakenIsAhead}
 use Rattle.whole_sends.proofs.Telling.{told_in_order, next_in_order, told_ahead, next_ahead}

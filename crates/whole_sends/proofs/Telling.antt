@@ -11,18 +11,18 @@ use Rattle.qh_qtd.specs.declared.queue_head.Qh.{Qh}
 use Rattle.walk_copy.specs.Overlay.{buffer_place}
 use Rattle.walk_copy.specs.Planning.{pid_at}
 use Rattle.lent_structures.specs.Structures.{QueueHead, Element, Structures, StructureSets}
-use Rattle.queue_parts.specs.Sound.{IsWorking, IsSoundQueue, IsMember}
-use Rattle.queue_parts.proofs.Altering.{found_queue, found_element}
-use Rattle.ring_walk.specs.Hand.{Copy, Settlement, Hand, Empty, Copied, Settled, Stale}
-use Rattle.ring_walk.specs.Ring.{IsCopied, IsSettled, IsInHand}
-use Rattle.ring_walk.specs.Effects.{buffer_of}
-use Rattle.ring_streams.specs.Told.{works_on, told_bytes, settled_bytes, hand_bytes, Told}
-use Rattle.ring_streams.proofs.Growing.{overwritten_by_none, works_here, hand_here, hand_not}
-use Rattle.ring_order.specs.Order.{AreAfter, IsSorted, IsAmong, AllTold, none_out, one_out}
-use Rattle.ring_order.proofs.Ordering.{not_worked, works_by, done_told}
-use Rattle.ring_fronts.specs.Front.{HasFront, HasTail}
-use Rattle.ring_out_pipes.specs.OutPipes.{IsOut, IsNext, IsUnmoved}
-use Rattle.ring_out_pipes.proofs.Agreeing.{moved_none}
+use Rattle.lent_structures.specs.Sound.{IsWorking, IsSoundQueue, IsMember}
+use Rattle.lent_structures.proofs.Altering.{found_queue, found_element}
+use Rattle.ring_laws.specs.Hand.{Copy, Settlement, Hand, Empty, Copied, Settled, Stale}
+use Rattle.ring_laws.specs.Ring.{IsCopied, IsSettled, IsInHand}
+use Rattle.ring_laws.specs.Effects.{buffer_of}
+use Rattle.ring_laws.specs.Told.{works_on, told_bytes, settled_bytes, hand_bytes, Told}
+use Rattle.ring_laws.proofs.Growing.{overwritten_by_none, works_here, hand_here, hand_not}
+use Rattle.ring_laws.specs.Order.{AreAfter, IsSorted, IsAmong, AllTold, none_out, one_out}
+use Rattle.ring_laws.proofs.Ordering.{not_worked, works_by, done_told}
+use Rattle.ring_laws.specs.Front.{HasFront, HasTail}
+use Rattle.ring_laws.specs.OutPipes.{IsOut, IsNext, IsUnmoved}
+use Rattle.ring_laws.proofs.OutPipeAgreeing.{moved_none}
 use Rattle.whole_sends.specs.Whole.{AreSentWhole, bytes_of_element, buffer_at, buffers_of}
 use Rattle.whole_sends.specs.Laws.{AreFresh, ToldIsInOrder, NextIsInOrder, AllIsTold, ToldIsAhead, NextIsAhead, NothingPastHalted}
 

@@ -16,19 +16,19 @@ use Rattle.buffers.specs.Bytes.{place as place_of_byte}
 use Rattle.lent_structures.specs.Changes.{overwritten}
 use Rattle.lent_structures.specs.Structures.{QueueHead, Element, Buffer, Structures, StructureSets, put}
 use Rattle.lent_structures.proofs.Names.{put_same, put_beside, put_found}
-use Rattle.write_back_laws.specs.WriteBack.{CanBeWritten, Received, Nothing, Into, received_parts}
-use Rattle.write_back_laws.proofs.Found.{back_head, back_element, back_beside}
-use Rattle.queue_parts.specs.Sound.{IsWorking, IsSoundQueue, IsMember}
-use Rattle.queue_parts.proofs.Altering.{found_queue, found_element}
-use Rattle.ring_walk.specs.Hand.{Copy, Settlement, settled_queue_of, Hand, Empty, Copied, Settled}
-use Rattle.ring_walk.specs.Ring.{IsCopied, IsSettled, IsInHand}
-use Rattle.ring_walk.specs.Effects.{received_into, settlement, counted, taken, Takes, Makes, WritesBack, Effect}
-use Rattle.ring_walk.specs.Effects.Effect.{reads, passes, ends, takes, makes, writes_back}
-use Rattle.ring_walk.proofs.Writing.{settled_copy, settled_range, is_written, queue_written, element_written, all_parts}
-use Rattle.ring_streams.specs.Streams.{AreMembers}
-use Rattle.ring_order.specs.Order.{AreAfter, IsSorted, IsAmong, Accounts}
-use Rattle.ring_control.specs.Control.{a_microframe, a_step}
-use Rattle.ring_out_pipes.specs.OutPipes.{IsOut}
+use Rattle.lent_structures.specs.WriteBack.{CanBeWritten, Received, Nothing, Into, received_parts}
+use Rattle.lent_structures.proofs.Found.{back_head, back_element, back_beside}
+use Rattle.lent_structures.specs.Sound.{IsWorking, IsSoundQueue, IsMember}
+use Rattle.lent_structures.proofs.Altering.{found_queue, found_element}
+use Rattle.ring_laws.specs.Hand.{Copy, Settlement, settled_queue_of, Hand, Empty, Copied, Settled}
+use Rattle.ring_laws.specs.Ring.{IsCopied, IsSettled, IsInHand}
+use Rattle.ring_laws.specs.Effects.{received_into, settlement, counted, taken, Takes, Makes, WritesBack, Effect}
+use Rattle.ring_laws.specs.Effects.Effect.{reads, passes, ends, takes, makes, writes_back}
+use Rattle.ring_laws.proofs.Writing.{settled_copy, settled_range, is_written, queue_written, element_written, all_parts}
+use Rattle.ring_laws.specs.Streams.{AreMembers}
+use Rattle.ring_laws.specs.Order.{AreAfter, IsSorted, IsAmong, Accounts}
+use Rattle.controlled_streams.specs.Control.{a_microframe, a_step}
+use Rattle.ring_laws.specs.OutPipes.{IsOut}
 use Rattle.whole_sends.specs.Whole.{EndsWhole, IsFirst, GoesInTurn, AreSentWhole}
 use Rattle.whole_sends.specs.Laws.{WalkKeepsWhole, ControlKeepsWhole}
 use Rattle.whole_sends.proofs.Ending.{ends_whole}

@@ -30,20 +30,20 @@ use Rattle.qh_qtd.specs.declared.qtd.Qtd.{Qtd}
 use Rattle.qh_qtd.specs.declared.queue_head.Qh.{Qh}
 use Rattle.async_walk.specs.declared.state.WalkStep.{WalkStep}
 use Rattle.lent_structures.specs.Structures.{QueueHead, Element, Structures, StructureSets, put}
-use Rattle.queue_parts.specs.Sound.{IsMember}
-use Rattle.ring_walk.specs.Hand.{Hand}
-use Rattle.ring_walk.specs.Ring.{IsInHand}
-use Rattle.ring_walk.specs.Effects.{Effect}
-use Rattle.ring_stores.specs.Stores.{hand_linked, hand_stale}
-use Rattle.ring_releases.specs.Fewer.{without_those}
-use Rattle.ring_streams.specs.Told.{Endpoint}
-use Rattle.ring_streams.specs.Streams.{AreMembers, StreamEffect}
-use Rattle.ring_order.specs.Order.{IsFresh, IsSorted, IsAmong, Accounts, bytes_of_effect}
-use Rattle.ring_fronts.specs.Front.{HadRest, LinksWithin, HasFront, HasTail}
-use Rattle.ring_control.specs.Control.{ControlEffect}
-use Rattle.ring_out_pipes.specs.OutBus.{Taker, IsOutBus}
-use Rattle.ring_out_pipes.specs.OutPipes.{IsOut, IsNext, IsUnmoved, IsOutPipe}
-use Rattle.ring_out_pipes.specs.Laws.{IsOnlyEndpoint}
+use Rattle.lent_structures.specs.Sound.{IsMember}
+use Rattle.ring_laws.specs.Hand.{Hand}
+use Rattle.ring_laws.specs.Ring.{IsInHand}
+use Rattle.ring_laws.specs.Effects.{Effect}
+use Rattle.ring_laws.specs.Stores.{hand_linked, hand_stale}
+use Rattle.ring_laws.specs.Fewer.{without_those}
+use Rattle.ring_laws.specs.Told.{Endpoint}
+use Rattle.ring_laws.specs.Streams.{AreMembers, StreamEffect}
+use Rattle.ring_laws.specs.Order.{IsFresh, IsSorted, IsAmong, Accounts, bytes_of_effect}
+use Rattle.ring_laws.specs.Front.{HadRest, LinksWithin, HasFront, HasTail}
+use Rattle.controlled_streams.specs.Control.{ControlEffect}
+use Rattle.ring_laws.specs.OutBus.{Taker, IsOutBus}
+use Rattle.ring_laws.specs.OutPipes.{IsOut, IsNext, IsUnmoved, IsOutPipe}
+use Rattle.ring_laws.specs.OutPipeLaws.{IsOnlyEndpoint}
 use Rattle.whole_sends.specs.Whole.{EndsWhole, AreSentWhole, buffers_of}
 
 -- ---- the walk

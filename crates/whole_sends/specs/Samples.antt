@@ -18,10 +18,10 @@ use Rattle.qh_qtd.specs.declared.token.Token.{Token}
 use Rattle.qh_qtd.specs.declared.qtd.Qtd.{Qtd}
 use Rattle.qh_qtd.specs.declared.queue_head.Qh.{Qh}
 use Rattle.lent_structures.specs.Structures.{QueueHead, Element, Buffer, Structures, StructureSets, with_structure}
-use Rattle.write_back_laws.specs.WriteBack.{Nothing, parts_back}
-use Rattle.ring_walk.specs.Hand.{Copy, Settlement, settled_queue_of, Hand, Settled}
-use Rattle.ring_walk.specs.Effects.{settlement}
-use Rattle.ring_releases.specs.Fewer.{fewer_structures}
+use Rattle.lent_structures.specs.WriteBack.{Nothing, parts_back}
+use Rattle.ring_laws.specs.Hand.{Copy, Settlement, settled_queue_of, Hand, Settled}
+use Rattle.ring_laws.specs.Effects.{settlement}
+use Rattle.ring_laws.specs.Fewer.{fewer_structures}
 
 abbrev pub order : ℕ → ℕ
 order a = a / 32

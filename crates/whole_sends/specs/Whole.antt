@@ -14,9 +14,9 @@ use Rattle.qh_qtd.specs.declared.qtd.Qtd.{Qtd}
 use Rattle.qh_qtd.specs.declared.queue_head.Qh.{Qh}
 use Rattle.walk_copy.specs.Visits.{next_pointer}
 use Rattle.lent_structures.specs.Structures.{Structure, QueueHead, Element, Structures}
-use Rattle.ring_walk.specs.Hand.{Hand, Empty, Copied, Settled, Stale}
-use Rattle.ring_walk.specs.Effects.{buffer_of}
-use Rattle.ring_order.specs.Order.{IsAmong}
+use Rattle.ring_laws.specs.Hand.{Hand, Empty, Copied, Settled, Stale}
+use Rattle.ring_laws.specs.Effects.{buffer_of}
+use Rattle.ring_laws.specs.Order.{IsAmong}
 
 abbrev pub EndsWhole : Hand → ℕ → Type 0
 EndsWhole Empty n = Unit {0}

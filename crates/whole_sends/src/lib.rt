@@ -1,7 +1,7 @@
 //! What is sent to an OUT endpoint of a ring, qTD by qTD (EHCI 1.0, 4.10.2 to 4.10.6): the controller ends a qTD once all its bytes were sent, or halts
 //! the queue head, and takes the next one; so what was sent, and the packet that is sent next, begin the bytes of all published qTDs.
 //!
-//! The crate has no code of its own: each function is a law over the definitions of `ring_order` and `ring_out_pipes`, and its body is empty.
+//! The crate has no code of its own: each function is a law over the definitions of `ring_laws`, and its body is empty.
 #![tactic(auto)]
 
 mod laws;

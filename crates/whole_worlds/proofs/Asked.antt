@@ -14,14 +14,14 @@ use Rattle.run_owners.specs.Leaving.{leaver}
 use Rattle.chained_transfers.specs.Leaving.{NothingLeaves}
 use Rattle.chained_transfers.specs.Accepted.{IsAsked}
 use Rattle.fed_lends.proofs.Accepting.{asked_is_to_be_lent, asked_is_blank}
-use Rattle.fed_commands.proofs.Asked.{set_which, dummy_in, notes_in}
+use Rattle.fed_lends.proofs.Asked.{set_which, dummy_in, notes_in}
 use Rattle.standing_fronts.specs.Reaching.{Reaches}
-use Rattle.told_queues.proofs.Commanding.{asked_told}
+use Rattle.harvest_laws.proofs.Commanding.{asked_told}
 use Rattle.open_names.proofs.Apart.{accepted_apart}
 use Rattle.commanded_queues.proofs.Tails.{asked_reaches}
 use Rattle.commanded_queues.proofs.Extending.{asked_extents}
 use Rattle.bus_world.specs.World.{World, commanded_by}
-use Rattle.world_streams.specs.Streaming.{Streams, Standing}
+use Rattle.stream_worlds.specs.Streaming.{Streams, Standing}
 use Rattle.whole_worlds.specs.Feeding.{IsFeeding}
 use Rattle.whole_worlds.specs.Whole.{tail_block, tail_of, IsUnderWay, IsWhole}
 use Rattle.whole_worlds.specs.Taking.{HaveSides}

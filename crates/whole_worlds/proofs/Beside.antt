@@ -2,16 +2,16 @@
 use Rattle.std.specs.Prelude.{ℕ, Bool}
 use Rattle.usb_bus.specs.Bus.{Fixed}
 use Rattle.run_owners.specs.Owners.{views_of}
-use Rattle.ring_control.specs.Control.{IsControlled, ControlEffect}
-use Rattle.driver_parts.specs.Opened.{opening_base}
+use Rattle.controlled_streams.specs.Control.{IsControlled, ControlEffect}
+use Rattle.driver_laws.specs.PartOpened.{opening_base}
 use Rattle.controller_writes.specs.Leaving.{LeavesRest}
 use Rattle.controller_writes.proofs.Controlling.{event_leaves}
-use Rattle.kept_structures.proofs.Events.{control_keeps}
-use Rattle.open_lends.proofs.Waiting.{lent_stays}
-use Rattle.told_queues.proofs.Standing.{beside_told}
+use Rattle.controlled_streams.proofs.Events.{control_keeps}
+use Rattle.open_laws.proofs.LendWaiting.{lent_stays}
+use Rattle.harvest_laws.proofs.Standing.{beside_told}
 use Rattle.bus_world.specs.World.{World, controller_parts, controller_next}
-use Rattle.world_streams.specs.Streaming.{begins_by, transacts_by, wired, Streams, Standing, HearsBytesNow}
-use Rattle.world_streams.proofs.Turning.{world_has_row}
+use Rattle.stream_worlds.specs.Streaming.{begins_by, transacts_by, wired, Streams, Standing, HearsBytesNow}
+use Rattle.stream_worlds.proofs.StreamTurning.{world_has_row}
 use Rattle.world_bytes.proofs.Turning.{controller_bytes}
 use Rattle.world_bytes.proofs.Hearing.{hears_bytes}
 use Rattle.whole_worlds.specs.Feeding.{IsFeeding, GoesOnBeside, bytes_of_event, acc_after}

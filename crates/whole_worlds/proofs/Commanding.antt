@@ -9,7 +9,7 @@ use Rattle.chained_transfers.specs.Bulk.{OpensBulk}
 use Rattle.chained_transfers.specs.Accepted.{IsOpened, IsAsked}
 use Rattle.chained_transfers.proofs.Accepting.{command_received}
 use Rattle.bus_world.specs.World.{World, name_in, commanded_by, commanded}
-use Rattle.world_streams.specs.Streaming.{Streams, Standing}
+use Rattle.stream_worlds.specs.Streaming.{Streams, Standing}
 use Rattle.whole_worlds.specs.Feeding.{IsFeeding}
 use Rattle.whole_worlds.proofs.FeedingCommands.{command_feeds}
 use Rattle.whole_worlds.specs.Whole.{IsWhole}

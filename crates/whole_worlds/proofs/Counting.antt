@@ -4,7 +4,7 @@ use Rattle.usb_base.specs.declared.commands.Cmd.{Cmd}
 use Rattle.usb_base.specs.declared.reports.OfferError.{OfferError}
 use Rattle.script_types.specs.declared.scripts.Event.{Event}
 use Rattle.script_types.specs.declared.scripts.Event.TheVariants as events
-use Rattle.ring_walk.specs.Ring.{Base}
+use Rattle.ring_laws.specs.Ring.{Base}
 use Rattle.driver_rows.specs.Offers.{Offered, offered}
 use Rattle.driver_rows.specs.Rows.{driver_row}
 use Rattle.usb_bus.specs.Bus.{Fixed, fixed_of}

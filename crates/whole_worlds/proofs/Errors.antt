@@ -22,8 +22,8 @@ use Rattle.usb_bus.specs.Bus.{Fixed, fixed_of}
 use Rattle.bus_world.specs.World.{World, driver_parts, controller_parts, controller_next, next, name_in, commanded_by}
 use Rattle.bus_world.specs.Opening.{opening_world}
 use Rattle.bus_world.specs.Orders.{Left, Events, Microframes, Answer, Command, OrderedWorld, at_place, orders_of, tick_by, tick_at, tick, ticks}
-use Rattle.world_streams.specs.Streaming.{begins_by, transacts_by, wired}
-use Rattle.world_streams.proofs.Turning.{world_has_row}
+use Rattle.stream_worlds.specs.Streaming.{begins_by, transacts_by, wired}
+use Rattle.stream_worlds.proofs.StreamTurning.{world_has_row}
 use Rattle.whole_worlds.specs.PlacedLaws.{HasNoErrorWhileItRuns}
 
 -- ---- an event of the controller

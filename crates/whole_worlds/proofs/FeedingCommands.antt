@@ -12,28 +12,28 @@ use Rattle.driver_rows.specs.declared.content.Command.TheVariants as unfinished
 use Rattle.driver_rows.specs.Offers.{Offered, new_runs, new_endpoint, with_queued, offered, IsOffered}
 use Rattle.run_owners.specs.Accepts.{Transfers}
 use Rattle.hc_core.specs.Controller.{content}
-use Rattle.driver_parts.specs.Opened.{opening_base}
-use Rattle.driver_parts.specs.Driven.{DrivesRing}
-use Rattle.driver_accepts.proofs.Commanding.{open_drives, transfer_drives}
-use Rattle.ring_control.specs.Control.{IsFrameless, off, empty}
+use Rattle.driver_laws.specs.PartOpened.{opening_base}
+use Rattle.driver_laws.specs.Driven.{DrivesRing}
+use Rattle.driver_laws.proofs.Commanding.{open_drives, transfer_drives}
+use Rattle.controlled_streams.specs.Control.{IsFrameless, off, empty}
 use Rattle.in_place.specs.InPlace.{IsInPlace}
 use Rattle.in_place.proofs.Laws.{command_in_place}
 use Rattle.worlds_in_place.proofs.Refused.{refused_in_place}
 use Rattle.bus_world.specs.World.{World, controller_parts, name_in, refused_line, commanded_by}
-use Rattle.world_streams.specs.Streaming.{Streams, Standing}
+use Rattle.stream_worlds.specs.Streaming.{Streams, Standing}
 use Rattle.shared_worlds.specs.Working.{IsWorking}
 use Rattle.chained_transfers.specs.Bulk.{OpensBulk}
 use Rattle.chained_transfers.specs.Accepted.{IsOpened, IsAsked}
 use Rattle.chained_transfers.specs.InTurn.{TakesTurns}
 use Rattle.chained_transfers.proofs.Accepting.{opens_or_cancels, command_received}
 use Rattle.chained_transfers.proofs.Commands.{command_in_turn}
-use Rattle.fed_commands.specs.Commands.{QueuesStand}
-use Rattle.fed_commands.proofs.Asked.{push_which, set_which}
-use Rattle.fed_commands.proofs.Opened.{open_stands}
-use Rattle.fed_commands.proofs.Publishing.{asked_stands}
+use Rattle.fed_lends.specs.Commands.{QueuesStand}
+use Rattle.fed_lends.proofs.Asked.{push_which, set_which}
+use Rattle.fed_lends.proofs.Opened.{open_stands}
+use Rattle.fed_lends.proofs.Publishing.{asked_stands}
 use Rattle.async_walk.specs.Rows.{place}
 use Rattle.lent_structures.specs.Structures.{StructureSets}
-use Rattle.ring_streams.specs.Told.{Endpoint as Told}
+use Rattle.ring_laws.specs.Told.{Endpoint as Told}
 use Rattle.fed_queues.specs.Fed.{IsPublished}
 use Rattle.fed_queues.specs.Places.{HasThere}
 use Rattle.fed_queues.proofs.Places.{SameQueues, same_ends, met_stays, streams_stay}

@@ -14,29 +14,29 @@ use Rattle.driver_rows.specs.declared.rows.DriverRow.TheVariants as rows
 use Rattle.driver_rows.specs.declared.rows.Found.{Found}
 use Rattle.driver_rows.specs.declared.rows.Found.TheVariants as founds
 use Rattle.driver_rows.specs.Rows.{Parts, is_iso, driver_row, after_driver_row}
-use Rattle.driver_parts.specs.Driven.{is_quiet}
-use Rattle.driver_parts.specs.Opened.{opening_base}
-use Rattle.driver_parts.proofs.Viewing.{harvest_views}
+use Rattle.driver_laws.specs.Driven.{is_quiet}
+use Rattle.driver_laws.specs.PartOpened.{opening_base}
+use Rattle.driver_laws.proofs.Viewing.{harvest_views}
 use Rattle.walk_members.proofs.Descriptions.{desc_of, row_left}
 use Rattle.run_owners.specs.Owners.{EndpointRuns, runs_of_endpoint}
 use Rattle.run_owners.specs.Due.{IsDue, IsHarvestDue}
 use Rattle.run_owners.proofs.Reasons.{each_is_due}
 use Rattle.chained_transfers.specs.Out.{out_now}
 use Rattle.chained_transfers.proofs.Events.{event_turns}
-use Rattle.reported_streams.specs.Reported.{IsReported, AreReported}
+use Rattle.controlled_streams.specs.Reported.{IsReported, AreReported}
 use Rattle.bus_world.specs.World.{World, driver_parts, driver_next}
-use Rattle.world_streams.specs.Streaming.{Streams, Standing}
+use Rattle.stream_worlds.specs.Streaming.{Streams, Standing}
 use Rattle.shared_worlds.specs.Working.{IsWorking}
 use Rattle.shared_worlds.proofs.Worlds.{quiet_working}
 use Rattle.fed_queues.specs.Places.{IsMet, HasThere, AreStillOut}
 use Rattle.fed_queues.proofs.Places.{going_met}
-use Rattle.fed_commands.specs.Commands.{QueuesStand}
+use Rattle.fed_lends.specs.Commands.{QueuesStand}
 use Rattle.fed_harvests.specs.Harvests.{with_out, HarvestLeaves}
 use Rattle.fed_harvests.proofs.Harvests.{harvest_stands, wait_stands}
 use Rattle.released_queues.specs.Fronts.{FrontsStand}
-use Rattle.told_queues.specs.Told.{ToldStands}
-use Rattle.told_queues.specs.Laws.{HarvestReports}
-use Rattle.read_queues.proofs.Rows.{row_told, wait_told}
+use Rattle.harvest_laws.specs.Told.{ToldStands}
+use Rattle.harvest_laws.specs.ToldLaws.{HarvestReports}
+use Rattle.harvest_laws.proofs.ReadRows.{row_told, wait_told}
 use Rattle.whole_worlds.specs.Feeding.{there_of, IsFeeding}
 use Rattle.whole_worlds.specs.HarvestFeeds.{HarvestLeaves as Leaves}
 use Rattle.whole_worlds.proofs.FeedingPassed.{passed_untold}

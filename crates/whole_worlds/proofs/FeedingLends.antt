@@ -4,13 +4,13 @@ use Rattle.driver_rows.specs.declared.content.Command.{Command}
 use Rattle.driver_rows.specs.declared.content.Command.TheVariants as unfinished
 use Rattle.driver_rows.specs.Rows.{Parts as DriverParts}
 use Rattle.lent_structures.specs.Structures.{Table}
-use Rattle.driver_parts.specs.Opened.{opening_base}
-use Rattle.driver_parts.specs.Driven.{DrivesRing}
+use Rattle.driver_laws.specs.PartOpened.{opening_base}
+use Rattle.driver_laws.specs.Driven.{DrivesRing}
 use Rattle.in_place.proofs.Laws.{event_in_place}
 use Rattle.async_walk.specs.Rows.{place}
 use Rattle.scripted_streams.specs.Senders.{sender_of}
 use Rattle.bus_world.specs.World.{World, driver_parts, driver_next}
-use Rattle.world_streams.specs.Streaming.{wired}
+use Rattle.stream_worlds.specs.Streaming.{wired}
 use Rattle.chained_transfers.proofs.Events.{event_turns}
 use Rattle.fed_lends.specs.ToLend.{IsToBeLent, AreBlank}
 use Rattle.fed_lends.proofs.Row.{after_is}

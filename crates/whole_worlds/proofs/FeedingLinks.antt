@@ -9,26 +9,26 @@ use Rattle.driver_rows.specs.DriverContent.{DriverContent}
 use Rattle.driver_rows.specs.Rows.{Parts as DriverParts}
 use Rattle.driver_rows.specs.Words.{to_queue_head}
 use Rattle.lent_structures.specs.Structures.{QueueHead}
-use Rattle.ring_walk.specs.Hand.{Hand}
-use Rattle.ring_stores.specs.Stores.{hand_linked}
-use Rattle.reported_streams.specs.Reported.{AreReported}
-use Rattle.driver_lends.specs.Linked.{head_at, with_member}
-use Rattle.driver_parts.specs.Opened.{opening_base}
-use Rattle.driver_parts.specs.Driven.{DrivesRing}
-use Rattle.queue_parts.specs.Sound.{IsMember}
+use Rattle.ring_laws.specs.Hand.{Hand}
+use Rattle.ring_laws.specs.Stores.{hand_linked}
+use Rattle.controlled_streams.specs.Reported.{AreReported}
+use Rattle.driver_laws.specs.Linked.{head_at, with_member}
+use Rattle.driver_laws.specs.PartOpened.{opening_base}
+use Rattle.driver_laws.specs.Driven.{DrivesRing}
+use Rattle.lent_structures.specs.Sound.{IsMember}
 use Rattle.in_place.proofs.Laws.{event_in_place}
 use Rattle.async_walk.specs.Rows.{place}
 use Rattle.scripted_streams.specs.Senders.{sender_of}
 use Rattle.bus_world.specs.World.{World, driver_parts, driver_next}
-use Rattle.world_streams.specs.Streaming.{Streams, Standing, wired}
+use Rattle.stream_worlds.specs.Streaming.{Streams, Standing, wired}
 use Rattle.chained_transfers.specs.Bulk.{receives}
 use Rattle.chained_transfers.proofs.Events.{event_turns}
 use Rattle.fed_queues.specs.Places.{HasThere}
-use Rattle.opened_streams.specs.Opened.{with_stream, with_end, with_none}
-use Rattle.open_stores.specs.Opens.{IsOpenLent, AreNamesApart, IsAtOpen, head_then, hand_then, end_then, streams_then}
-use Rattle.open_stores.proofs.Linking.{driver_is, open_is_linked}
-use Rattle.open_stores.proofs.Streams.{open_pipes, open_reports}
-use Rattle.open_stores.proofs.Standing.{then_beside, member_here, member_old, open_stands}
+use Rattle.controlled_streams.specs.Opened.{with_stream, with_end, with_none}
+use Rattle.open_laws.specs.Opens.{IsOpenLent, AreNamesApart, IsAtOpen, head_then, hand_then, end_then, streams_then}
+use Rattle.open_laws.proofs.Linking.{driver_is, open_is_linked}
+use Rattle.open_laws.proofs.Streams.{open_pipes, open_reports}
+use Rattle.open_laws.proofs.Standing.{then_beside, member_here, member_old, open_stands}
 use Rattle.whole_worlds.specs.Feeding.{there_of, IsFeeding}
 use Rattle.whole_worlds.specs.OpenFeeds.{LinkFeeds}
 use Rattle.whole_worlds.proofs.FeedingStores.{put_apart}

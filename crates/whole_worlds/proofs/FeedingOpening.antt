@@ -8,10 +8,10 @@ use Rattle.hc_core.specs.Controller.{content, new_control}
 use Rattle.driver_rows.specs.Opening.{opening}
 use Rattle.driver_rows.specs.Words.{opening_head}
 use Rattle.lent_structures.specs.Structures.{QueueHead, Element}
-use Rattle.ring_walk.specs.Hand.{Empty}
-use Rattle.ring_streams.specs.Told.{endpoint_of}
-use Rattle.ring_pipes.specs.Bus.{Sender}
-use Rattle.ring_pipes.specs.Pipes.{IsNotIn, IsElsewhere}
+use Rattle.ring_laws.specs.Hand.{Empty}
+use Rattle.ring_laws.specs.Told.{endpoint_of}
+use Rattle.ring_laws.specs.Bus.{Sender}
+use Rattle.ring_laws.specs.Pipes.{IsNotIn, IsElsewhere}
 use Rattle.script_types.specs.declared.devices.EpText.{EpText}
 use Rattle.script_types.specs.declared.devices.DeviceText.{DeviceText}
 use Rattle.usb_base.specs.declared.packets.Way.{Way}
@@ -28,11 +28,11 @@ use Rattle.usb_bus.specs.Seats.{place_for}
 use Rattle.usb_bus.specs.Bus.{opening_bus}
 use Rattle.std.proofs.lemmas.Option.{same_Some, slice_get-map}
 use Rattle.scripted_streams.specs.Senders.{sender_of_part, sender_of_endpoint, sender_of_device, sender_of_owner, sender_of_seat, sender_of_place, sender_of}
-use Rattle.driver_parts.specs.Opened.{opening_base, opening_parts, is_head}
+use Rattle.driver_laws.specs.PartOpened.{opening_base, opening_parts, is_head}
 use Rattle.bus_world.specs.Rooms.{reserve_of}
 use Rattle.shared_memory.specs.Shared.{IsShared}
 use Rattle.shared_memory.proofs.Sharing.{opening_shared}
-use Rattle.opened_streams.specs.Unopened.{IsUntouched}
+use Rattle.controlled_streams.specs.Unopened.{IsUntouched}
 use Rattle.chained_transfers.proofs.Events.{new_turns}
 use Rattle.whole_worlds.specs.Feeding.{left_of, streams_of}
 use Rattle.whole_worlds.specs.FeedingLaws.{NewWorldFeeds}

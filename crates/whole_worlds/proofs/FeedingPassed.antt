@@ -4,10 +4,10 @@ use Rattle.std.proofs.lemmas.Bool.{false≢true, eqb-true}
 use Rattle.std.proofs.lemmas.Option.{same_Some}
 use Rattle.qh_qtd.specs.declared.qtd.Qtd.{Qtd}
 use Rattle.lent_structures.specs.Structures.{StructureSets}
-use Rattle.queue_parts.proofs.Altering.{found_element}
-use Rattle.ring_walk.specs.Hand.{Hand}
-use Rattle.ring_streams.specs.Told.{Told}
-use Rattle.ring_order.specs.Order.{IsAmong}
+use Rattle.lent_structures.proofs.Altering.{found_element}
+use Rattle.ring_laws.specs.Hand.{Hand}
+use Rattle.ring_laws.specs.Told.{Told}
+use Rattle.ring_laws.specs.Order.{IsAmong}
 use Rattle.driver_rows.specs.declared.content.Endpoint.{Endpoint}
 use Rattle.driver_rows.specs.declared.content.Transfer.{Transfer}
 use Rattle.driver_rows.specs.declared.content.Command.{Command}
@@ -18,10 +18,10 @@ use Rattle.chained_transfers.specs.Chains.{piece_at}
 use Rattle.chained_transfers.specs.Turns.{IsAtPlace, turn_of, turn_in, IsInList, AreReportedTo, AreInTurn}
 use Rattle.chained_transfers.specs.Out.{pieces_from, passed, unpublished, if_last, out_of_transfer, out_of}
 use Rattle.fed_queues.specs.Places.{IsMet, AreStillOut}
-use Rattle.ring_fronts.specs.Front.{IsPassed}
-use Rattle.returned_streams.proofs.Returning.{passed_none}
+use Rattle.ring_laws.specs.Front.{IsPassed}
+use Rattle.controlled_streams.proofs.Returning.{passed_none}
 use Rattle.released_queues.specs.Fronts.{StandsAt, FrontsStand}
-use Rattle.harvest_rows.specs.Outs.{IsOutEarlier}
+use Rattle.harvest_laws.specs.Outs.{IsOutEarlier}
 
 -- ---- it is one of the later qTDs of an earlier, reported transfer
 

@@ -20,14 +20,14 @@ use Rattle.run_owners.proofs.Reasons.{each_is_due}
 use Rattle.endpoint_lives.specs.Lives.{is_one_of, may_meet}
 use Rattle.endpoint_lives.proofs.Lives.{one_of_joined}
 use Rattle.lent_structures.specs.Structures.{StructureSets}
-use Rattle.ring_streams.specs.Told.{Endpoint as Told}
-use Rattle.driver_parts.specs.Driven.{is_quiet}
+use Rattle.ring_laws.specs.Told.{Endpoint as Told}
+use Rattle.driver_laws.specs.Driven.{is_quiet}
 use Rattle.bus_world.specs.World.{driver_parts}
 use Rattle.shared_worlds.proofs.Worlds.{quiet_working}
-use Rattle.driver_parts.specs.Opened.{opening_base}
+use Rattle.driver_laws.specs.PartOpened.{opening_base}
 use Rattle.chained_transfers.proofs.Events.{event_turns}
 use Rattle.fed_queues.specs.Places.{IsMet, HasHead}
-use Rattle.fed_commands.specs.Commands.{QueuesStand}
+use Rattle.fed_lends.specs.Commands.{QueuesStand}
 use Rattle.fed_harvests.proofs.Like.{like_stands}
 use Rattle.whole_worlds.specs.Feeding.{there_of}
 use Rattle.whole_worlds.specs.FeedingLaws.{is_still, StillFeeds}

@@ -10,22 +10,22 @@ use Rattle.run_owners.specs.Kept.{HasOwners}
 use Rattle.run_owners.specs.Owners.{FrameList, QueueHead, runs_of_endpoint}
 use Rattle.run_owners.proofs.Released.{other_number}
 use Rattle.lent_structures.specs.Structures.{Structure, Element, StructureSets, with_structure, put}
-use Rattle.reported_streams.specs.Reported.{AreReported}
-use Rattle.driver_parts.specs.Opened.{opening_base}
-use Rattle.driver_parts.specs.Driven.{DrivesRing}
+use Rattle.controlled_streams.specs.Reported.{AreReported}
+use Rattle.driver_laws.specs.PartOpened.{opening_base}
+use Rattle.driver_laws.specs.Driven.{DrivesRing}
 use Rattle.in_place.proofs.Laws.{event_in_place}
 use Rattle.async_walk.specs.Rows.{place}
 use Rattle.scripted_streams.specs.Senders.{sender_of}
 use Rattle.bus_world.specs.World.{World, driver_parts, driver_next}
-use Rattle.world_streams.specs.Streaming.{Streams, Standing, wired}
+use Rattle.stream_worlds.specs.Streaming.{Streams, Standing, wired}
 use Rattle.shared_worlds.specs.Working.{IsWorking}
 use Rattle.chained_transfers.specs.Bulk.{OnlyBulk}
 use Rattle.chained_transfers.proofs.Staying.{alive}
 use Rattle.chained_transfers.proofs.Events.{event_turns}
 use Rattle.fed_queues.specs.Fed.{IsPublished}
-use Rattle.fed_stores.specs.Stores.{IsAtStore, published_by, parts_then, out_then, QueuesThen, next_of}
-use Rattle.fed_stores.proofs.Storing.{store_publishes, store_keeps_pipes, store_reports, store_stands}
-use Rattle.driver_lends.specs.Published.{partly}
+use Rattle.publish_laws.specs.Stores.{IsAtStore, published_by, parts_then, out_then, QueuesThen, next_of}
+use Rattle.publish_laws.proofs.Storing.{store_publishes, store_keeps_pipes, store_reports, store_stands}
+use Rattle.driver_laws.specs.Published.{partly}
 use Rattle.whole_worlds.specs.Feeding.{there_of, IsFeeding}
 use Rattle.whole_worlds.specs.FeedingLaws.{StoreFeeds}
 use Rattle.whole_worlds.proofs.Told.{there_before}

@@ -9,15 +9,15 @@ use Rattle.run_owners.specs.Owners.{Head, QueueHead as QueueOf}
 use Rattle.run_owners.specs.Kept.{HasOwners}
 use Rattle.lent_structures.specs.Structures.{StructureSets}
 use Rattle.lent_structures.proofs.Names.{not_same}
-use Rattle.ring_walk.specs.Hand.{Hand}
-use Rattle.ring_fronts.specs.Front.{LinksRise}
-use Rattle.reported_streams.specs.Reported.{IsReported, AreReported}
+use Rattle.ring_laws.specs.Hand.{Hand}
+use Rattle.ring_laws.specs.Front.{LinksRise}
+use Rattle.controlled_streams.specs.Reported.{IsReported, AreReported}
 use Rattle.chained_transfers.specs.Bulk.{OnlyBulk}
 use Rattle.fed_queues.specs.Places.{IsThere, IsMet, HasHead, AreMet}
-use Rattle.fed_stores.proofs.Apart.{queue_placed, thirty_two}
+use Rattle.publish_laws.proofs.Apart.{queue_placed, thirty_two}
 use Rattle.standing_fronts.specs.Along.{LinksOfQueuesRise}
 use Rattle.bus_world.specs.World.{World}
-use Rattle.world_streams.specs.Streaming.{Streams, Standing}
+use Rattle.stream_worlds.specs.Streaming.{Streams, Standing}
 use Rattle.whole_worlds.specs.Feeding.{heads_of, there_of, IsFeeding}
 use Rattle.whole_worlds.proofs.Told.{there_on, there_by}
 

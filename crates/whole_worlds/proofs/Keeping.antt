@@ -11,16 +11,16 @@ use Rattle.driver_rows.specs.DriverContent.{DriverContent}
 use Rattle.run_owners.specs.Owners.{Views}
 use Rattle.run_owners.specs.Kept.{HasOwners}
 use Rattle.lent_structures.specs.Structures.{StructureSets}
-use Rattle.ring_walk.specs.Hand.{Hand}
-use Rattle.ring_walk.specs.Ring.{Base}
-use Rattle.ring_control.specs.Control.{IsControlled, ControlEffect, a_microframe, a_step}
-use Rattle.driver_releases.specs.Extents.{KeepExtents, AreInRuns}
-use Rattle.driver_releases.proofs.Extending.{extents_stay, walk_keeps}
+use Rattle.ring_laws.specs.Hand.{Hand}
+use Rattle.ring_laws.specs.Ring.{Base}
+use Rattle.controlled_streams.specs.Control.{IsControlled, ControlEffect, a_microframe, a_step}
+use Rattle.driver_laws.specs.Extents.{KeepExtents, AreInRuns}
+use Rattle.driver_laws.proofs.Extending.{extents_stay, walk_keeps}
 use Rattle.fed_lends.proofs.Accepting.{to_be_lent_stays}
 use Rattle.standing_fronts.specs.Along.{LinksOfQueuesRise}
 use Rattle.standing_fronts.proofs.Reaching.{reaches_walk}
-use Rattle.open_stores.specs.Opens.{IsOpenLent}
-use Rattle.accepted_opens.proofs.Waiting.{ready_stays}
+use Rattle.open_laws.specs.Opens.{IsOpenLent}
+use Rattle.open_laws.proofs.AcceptWaiting.{ready_stays}
 use Rattle.whole_worlds.specs.Whole.{tail_of, TailsStand, IsUnderWay}
 
 -- ---- the unfinished command

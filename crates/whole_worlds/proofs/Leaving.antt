@@ -13,10 +13,10 @@ use Rattle.run_owners.specs.Owners.{SlotHas, Views, views_of}
 use Rattle.run_owners.proofs.Reasons.{each_is_due}
 use Rattle.lent_runs.proofs.Books.{harvest_book}
 use Rattle.lent_structures.specs.Structures.{StructureSets}
-use Rattle.driver_parts.proofs.Viewing.{SameViews, harvest_views}
-use Rattle.driver_releases.specs.Extents.{AreInRuns}
-use Rattle.driver_releases.proofs.Extending.{extents_stay}
-use Rattle.open_stores.specs.Opens.{AreNamesApart}
+use Rattle.driver_laws.proofs.Viewing.{SameViews, harvest_views}
+use Rattle.driver_laws.specs.Extents.{AreInRuns}
+use Rattle.driver_laws.proofs.Extending.{extents_stay}
+use Rattle.open_laws.specs.Opens.{AreNamesApart}
 use Rattle.open_names.proofs.Apart.{events_apart}
 use Rattle.chained_transfers.proofs.Events.{event_nothing}
 use Rattle.fed_lends.specs.ToLend.{AreBlank}
@@ -24,7 +24,7 @@ use Rattle.released_queues.specs.Fronts.{FrontsStand}
 use Rattle.standing_fronts.specs.Reaching.{Reaches}
 use Rattle.usb_bus.specs.Bus.{Fixed}
 use Rattle.bus_world.specs.World.{World, driver_parts, driver_next}
-use Rattle.world_streams.specs.Streaming.{Streams, Standing}
+use Rattle.stream_worlds.specs.Streaming.{Streams, Standing}
 use Rattle.whole_worlds.specs.HarvestFeeds.{HarvestLeaves}
 use Rattle.whole_worlds.proofs.FeedingHarvests.{harvest_feeds}
 use Rattle.idle_tails.proofs.Reaching.{idle_queues_reach}

@@ -6,22 +6,22 @@ use Rattle.driver_rows.specs.declared.content.Command.{Command}
 use Rattle.driver_rows.specs.declared.content.QtdNote.{QtdNote}
 use Rattle.driver_rows.specs.DriverContent.{DriverContent}
 use Rattle.lent_structures.specs.Structures.{Element, StructureSets}
-use Rattle.queue_parts.specs.Sound.{IsElement}
-use Rattle.ring_walk.specs.Hand.{Hand}
-use Rattle.spared_streams.specs.Sparing.{SparesHead, SparesElement}
+use Rattle.lent_structures.specs.Sound.{IsElement}
+use Rattle.ring_laws.specs.Hand.{Hand}
+use Rattle.ring_laws.specs.Sparing.{SparesHead, SparesElement}
 use Rattle.chained_transfers.proofs.Events.{event_nothing}
 use Rattle.told_harvests.specs.Held.{AreHeld, none_held, one_held, IsOneFrom}
-use Rattle.told_queues.specs.Told.{ToldStands}
-use Rattle.told_queues.specs.Laws.{SparesDone}
-use Rattle.told_queues.proofs.Standing.{spared_told, alike_told}
+use Rattle.harvest_laws.specs.Told.{ToldStands}
+use Rattle.harvest_laws.specs.ToldLaws.{SparesDone}
+use Rattle.harvest_laws.proofs.Standing.{spared_told, alike_told}
 use Rattle.released_queues.specs.Fronts.{FrontsStand}
 use Rattle.standing_fronts.specs.Reaching.{Reaches}
-use Rattle.open_stores.specs.Opens.{AreNamesApart}
+use Rattle.open_laws.specs.Opens.{AreNamesApart}
 use Rattle.fed_lends.specs.ToLend.{IsToBeLent, lent_now}
 use Rattle.fed_lends.proofs.Reporting.{same_hand}
 use Rattle.usb_bus.specs.Bus.{Fixed}
 use Rattle.bus_world.specs.World.{World, driver_parts, driver_next}
-use Rattle.world_streams.specs.Streaming.{Streams, Standing}
+use Rattle.stream_worlds.specs.Streaming.{Streams, Standing}
 use Rattle.whole_worlds.proofs.FeedingLends.{lend_feeds}
 use Rattle.whole_worlds.specs.LendFeeds.{LendsTransfer}
 use Rattle.whole_worlds.specs.Whole.{tail_of, TailsStand, IsUnderWay, HaveSenders, IsWhole}

@@ -18,13 +18,13 @@ use Rattle.run_owners.proofs.Runs.{placed_run}
 use Rattle.lent_runs.specs.Lent.{AreLent, begins_in}
 use Rattle.lent_structures.specs.Structures.{Element, StructureSets}
 use Rattle.lent_structures.proofs.Names.{not_same}
-use Rattle.queue_parts.specs.Sound.{IsElement}
-use Rattle.driver_parts.specs.Inventory.{IsLent}
+use Rattle.lent_structures.specs.Sound.{IsElement}
+use Rattle.driver_laws.specs.Inventory.{IsLent}
 use Rattle.chained_transfers.specs.Bulk.{OnlyBulk}
 use Rattle.fed_queues.specs.Fed.{AreFed}
-use Rattle.transfer_lends.proofs.Lists.{IsOneOf}
-use Rattle.transfer_lends.proofs.Owning.{IsOwnedBy, as_element, as_dummy, as_buffer}
-use Rattle.transfer_lends.proofs.Lending.{taken_owner}
+use Rattle.driver_laws.proofs.Lists.{IsOneOf}
+use Rattle.driver_laws.proofs.TransferOwning.{IsOwnedBy, as_element, as_dummy, as_buffer}
+use Rattle.driver_laws.proofs.TransferLending.{taken_owner}
 use Rattle.fed_lends.specs.ToLend.{IsToBeLent}
 use Rattle.fed_lends.proofs.Names.{first_stands}
 use Rattle.fed_lends.proofs.Fed.{bare_is}

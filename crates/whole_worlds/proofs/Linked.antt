@@ -6,19 +6,19 @@ use Rattle.driver_rows.specs.declared.content.Command.TheVariants as unfinished
 use Rattle.driver_rows.specs.DriverContent.{DriverContent}
 use Rattle.driver_rows.specs.Rows.{Parts as DriverParts}
 use Rattle.run_owners.specs.Owners.{views_of}
-use Rattle.queue_parts.specs.Sound.{IsMember}
-use Rattle.driver_lends.specs.Linked.{with_member, head_at}
-use Rattle.driver_releases.specs.Extents.{AreInRuns}
+use Rattle.lent_structures.specs.Sound.{IsMember}
+use Rattle.driver_laws.specs.Linked.{with_member, head_at}
+use Rattle.driver_laws.specs.Extents.{AreInRuns}
 use Rattle.usb_bus.specs.Bus.{Fixed}
 use Rattle.bus_world.specs.World.{World, driver_parts, driver_next}
-use Rattle.world_streams.specs.Streaming.{Streams, Standing}
-use Rattle.opened_streams.specs.Opened.{with_end, with_none}
+use Rattle.stream_worlds.specs.Streaming.{Streams, Standing}
+use Rattle.controlled_streams.specs.Opened.{with_end, with_none}
 use Rattle.chained_transfers.proofs.Events.{event_nothing}
 use Rattle.chained_transfers.proofs.Staying.{linked_alive}
 use Rattle.fed_lends.specs.ToLend.{AreBlank}
-use Rattle.told_queues.specs.Told.{ToldStands}
-use Rattle.open_stores.specs.Opens.{IsOpenLent, AreNamesApart, IsAtOpen, head_then, hand_then, end_then, streams_then}
-use Rattle.open_stores.proofs.Linking.{driver_is}
+use Rattle.harvest_laws.specs.Told.{ToldStands}
+use Rattle.open_laws.specs.Opens.{IsOpenLent, AreNamesApart, IsAtOpen, head_then, hand_then, end_then, streams_then}
+use Rattle.open_laws.proofs.Linking.{driver_is}
 use Rattle.whole_worlds.specs.Whole.{TailsStand, IsUnderWay, IsWhole}
 use Rattle.whole_worlds.specs.Laws.{OpenLinkKeepsWhole}
 use Rattle.whole_worlds.proofs.FeedingLinks.{linked, found, at_open, more, link_feeding}

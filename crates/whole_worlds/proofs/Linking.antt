@@ -17,27 +17,27 @@ use Rattle.driver_rows.specs.Words.{head_block, to_queue_head, queue_head, dummy
 use Rattle.run_owners.specs.Owners.{EndpointRuns, Head, QueueHead as QueueOf, runs_of_endpoint, views_of}
 use Rattle.lent_structures.specs.Structures.{Structure, QueueHead, Element, Structures, StructureSets, with_structure}
 use Rattle.lent_structures.proofs.Names.{put_beside, put_same}
-use Rattle.queue_parts.proofs.Altering.{found_queue, same_element}
-use Rattle.ring_walk.specs.Hand.{Hand}
-use Rattle.ring_stores.proofs.Parting.{found_with}
-use Rattle.ring_streams.specs.Told.{Endpoint as Told, endpoint_of}
-use Rattle.driver_lends.specs.Linked.{no_part, opened_part, head_at}
-use Rattle.driver_releases.specs.Extents.{AreInRuns}
-use Rattle.driver_releases.proofs.Extending.{extents_stay, head_put}
-use Rattle.spared_streams.specs.Sparing.{SparesHead}
-use Rattle.spared_streams.proofs.Sparing.{linked_same}
-use Rattle.opened_streams.specs.Opened.{with_none}
-use Rattle.opened_streams.proofs.Beginning.{list_here, list_beside}
+use Rattle.lent_structures.proofs.Altering.{found_queue, same_element}
+use Rattle.ring_laws.specs.Hand.{Hand}
+use Rattle.ring_laws.proofs.Parting.{found_with}
+use Rattle.ring_laws.specs.Told.{Endpoint as Told, endpoint_of}
+use Rattle.driver_laws.specs.Linked.{no_part, opened_part, head_at}
+use Rattle.driver_laws.specs.Extents.{AreInRuns}
+use Rattle.driver_laws.proofs.Extending.{extents_stay, head_put}
+use Rattle.ring_laws.specs.Sparing.{SparesHead}
+use Rattle.ring_laws.proofs.SparedSparing.{linked_same}
+use Rattle.controlled_streams.specs.Opened.{with_none}
+use Rattle.controlled_streams.proofs.Beginning.{list_here, list_beside}
 use Rattle.chained_transfers.specs.Bulk.{IsStanding}
 use Rattle.chained_transfers.proofs.Staying.{linked_alive, told_alive}
 use Rattle.fed_queues.specs.Places.{IsMet}
-use Rattle.fed_stores.proofs.Apart.{queue_placed, queues_same, thirty_two}
-use Rattle.told_queues.specs.Told.{ToldStands}
-use Rattle.told_queues.proofs.Standing.{spared_told, met_told}
+use Rattle.publish_laws.proofs.Apart.{queue_placed, queues_same, thirty_two}
+use Rattle.harvest_laws.specs.Told.{ToldStands}
+use Rattle.harvest_laws.proofs.Standing.{spared_told, met_told}
 use Rattle.standing_fronts.specs.Reaching.{Reaches}
-use Rattle.open_stores.specs.Opens.{IsAtOpen, head_then, hand_then}
-use Rattle.open_stores.proofs.Linking.{here}
-use Rattle.open_stores.proofs.Standing.{element_was}
+use Rattle.open_laws.specs.Opens.{IsAtOpen, head_then, hand_then}
+use Rattle.open_laws.proofs.Linking.{here}
+use Rattle.open_laws.proofs.Standing.{element_was}
 use Rattle.whole_worlds.specs.Whole.{tail_block, tail_of, TailsStand}
 use Rattle.whole_worlds.proofs.OpenBeside.{heads_stay, elements_stay, reaches_beside}
 

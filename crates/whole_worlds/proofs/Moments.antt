@@ -24,13 +24,13 @@ use Rattle.script_numbers.proofs.Texts.{spelled_numbers}
 use Rattle.driver_rows.specs.DriverContent.{DriverContent}
 use Rattle.endpoint_lives.proofs.Lives.{linked_met}
 use Rattle.chained_transfers.specs.Leaving.{NothingLeaves}
-use Rattle.ring_out_pipes.specs.OutBus.{Taker}
+use Rattle.ring_laws.specs.OutBus.{Taker}
 use Rattle.scripted_takers.specs.Takers.{taker_of}
 use Rattle.walk_members.specs.Reached.{OpensNumbered}
-use Rattle.driver_parts.specs.Opened.{opening_base}
+use Rattle.driver_laws.specs.PartOpened.{opening_base}
 use Rattle.bus_world.specs.World.{World}
 use Rattle.bus_world.specs.Budgets.{moment}
-use Rattle.world_streams.specs.Streaming.{Streams, wired}
+use Rattle.stream_worlds.specs.Streaming.{Streams, wired}
 use Rattle.chained_transfers.specs.Bulk.{IsDataWay, OpensBulk, BulkLine, BulkOnly, receives}
 use Rattle.right_worlds.specs.Right.{AreOfScript, ClosedIns}
 use Rattle.right_worlds.proofs.Beginning.{world_right}
@@ -46,7 +46,7 @@ use Rattle.whole_worlds.proofs.Told.{there_on}
 use Rattle.whole_worlds.specs.Whole.{HasWhole}
 use Rattle.whole_worlds.specs.Laws.{NewWorldIsWhole, ControllerKeepsWhole, OpensTo, CommandKeepsWhole, DriverKeepsWhole}
 use Rattle.whole_worlds.specs.Moments.{IsBulkScript, ScriptsStayWhole, StreamsAreRight, TextsAreRight, TextsAreTaken}
-use Rattle.out_rows.specs.Takers.{takes_of}
+use Rattle.stream_worlds.specs.Takers.{takes_of}
 
 pub record StaysWhole : Type 0 where
   pub opening : NewWorldIsWhole

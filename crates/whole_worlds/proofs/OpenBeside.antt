@@ -5,13 +5,13 @@ use Rattle.driver_rows.specs.declared.content.Endpoint.{Endpoint}
 use Rattle.driver_rows.specs.declared.content.Command.{Command}
 use Rattle.driver_rows.specs.DriverContent.{DriverContent}
 use Rattle.lent_structures.specs.Structures.{Structures, StructureSets}
-use Rattle.ring_walk.specs.Effects.{buffer_of}
-use Rattle.ring_control.specs.Control.{IsFrameless, off, empty}
-use Rattle.ring_streams.specs.Told.{Endpoint as Told}
-use Rattle.driver_parts.specs.Opened.{opening_base}
-use Rattle.spared_streams.specs.Sparing.{SparesHead, SparesElement}
+use Rattle.ring_laws.specs.Effects.{buffer_of}
+use Rattle.controlled_streams.specs.Control.{IsFrameless, off, empty}
+use Rattle.ring_laws.specs.Told.{Endpoint as Told}
+use Rattle.driver_laws.specs.PartOpened.{opening_base}
+use Rattle.ring_laws.specs.Sparing.{SparesHead, SparesElement}
 use Rattle.bus_world.specs.World.{World, controller_parts, driver_next}
-use Rattle.world_streams.specs.Streaming.{Streams}
+use Rattle.stream_worlds.specs.Streaming.{Streams}
 use Rattle.standing_fronts.specs.Reaching.{Reaches}
 
 -- the streams of the script, with these queue heads

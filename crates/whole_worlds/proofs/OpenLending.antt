@@ -19,32 +19,32 @@ use Rattle.run_owners.specs.Owners.{EndpointRuns, SlotHas, runs_of_endpoint, vie
 use Rattle.run_owners.specs.Kept.{HasOwners}
 use Rattle.lent_structures.specs.Structures.{Structure, QueueHead, Element, Structures, StructureSets, put}
 use Rattle.lent_structures.proofs.Names.{put_beside}
-use Rattle.ring_walk.specs.Hand.{Hand}
-use Rattle.driver_parts.specs.Inventory.{sorts_of, IsDriven}
-use Rattle.driver_parts.specs.Opened.{opening_base}
-use Rattle.driver_parts.specs.Driven.{DrivesRing}
-use Rattle.driver_lends.proofs.Lending.{both_lend, other_slot}
-use Rattle.driver_lends.proofs.Opening.{two_lent, lent_content}
-use Rattle.driver_lends.proofs.Owning.{none_there, queue_no_dummy}
-use Rattle.driver_releases.specs.Extents.{AreInRuns}
-use Rattle.driver_releases.proofs.Extending.{extents_stay, head_put, element_put}
-use Rattle.spared_streams.specs.Sparing.{SparesHead, SparesElement}
-use Rattle.published_streams.proofs.Storing.{same_hand}
+use Rattle.ring_laws.specs.Hand.{Hand}
+use Rattle.driver_laws.specs.Inventory.{sorts_of, IsDriven}
+use Rattle.driver_laws.specs.PartOpened.{opening_base}
+use Rattle.driver_laws.specs.Driven.{DrivesRing}
+use Rattle.driver_laws.proofs.LendLending.{both_lend, other_slot}
+use Rattle.driver_laws.proofs.LendOpening.{two_lent, lent_content}
+use Rattle.driver_laws.proofs.LendOwning.{none_there, queue_no_dummy}
+use Rattle.driver_laws.specs.Extents.{AreInRuns}
+use Rattle.driver_laws.proofs.Extending.{extents_stay, head_put, element_put}
+use Rattle.ring_laws.specs.Sparing.{SparesHead, SparesElement}
+use Rattle.controlled_streams.proofs.Storing.{same_hand}
 use Rattle.in_place.proofs.Laws.{event_in_place}
 use Rattle.scripted_streams.specs.Senders.{sender_of}
 use Rattle.usb_bus.specs.Bus.{Fixed}
 use Rattle.bus_world.specs.World.{World, driver_parts, driver_next}
-use Rattle.world_streams.specs.Streaming.{Streams, Standing, wired}
+use Rattle.stream_worlds.specs.Streaming.{Streams, Standing, wired}
 use Rattle.chained_transfers.proofs.Events.{event_turns, event_nothing}
 use Rattle.chained_transfers.proofs.Staying.{linked_alive}
 use Rattle.fed_lends.specs.ToLend.{AreBlank}
-use Rattle.fed_stores.proofs.Apart.{thirty_two}
-use Rattle.told_queues.specs.Told.{ToldStands}
-use Rattle.told_queues.proofs.Standing.{spared_told, alike_told}
-use Rattle.open_stores.specs.Opens.{IsOpenLent, AreNamesApart, next_of}
-use Rattle.open_lends.specs.Lends.{IsOpenReady, IsAtLend, parts_lent}
-use Rattle.open_lends.proofs.Lending.{lend_drives, lend_stands, lend_pipes, lend_reports}
-use Rattle.reported_streams.specs.Reported.{AreReported}
+use Rattle.publish_laws.proofs.Apart.{thirty_two}
+use Rattle.harvest_laws.specs.Told.{ToldStands}
+use Rattle.harvest_laws.proofs.Standing.{spared_told, alike_told}
+use Rattle.open_laws.specs.Opens.{IsOpenLent, AreNamesApart, next_of}
+use Rattle.open_laws.specs.Lends.{IsOpenReady, IsAtLend, parts_lent}
+use Rattle.open_laws.proofs.Lending.{lend_drives, lend_stands, lend_pipes, lend_reports}
+use Rattle.controlled_streams.specs.Reported.{AreReported}
 use Rattle.whole_worlds.specs.Feeding.{there_of, IsFeeding}
 use Rattle.whole_worlds.proofs.FeedingStores.{queue_above}
 use Rattle.whole_worlds.proofs.Heads.{right_of}

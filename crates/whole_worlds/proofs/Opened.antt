@@ -16,23 +16,23 @@ use Rattle.run_owners.proofs.Runs.{placed_run}
 use Rattle.run_owners.proofs.Taking.{runs_taken}
 use Rattle.run_owners.proofs.Accepted.{drop_first, fresh_differs}
 use Rattle.walk_members.specs.Reached.{OpensNumbered}
-use Rattle.driver_lends.specs.Opened.{opened_head}
+use Rattle.driver_laws.specs.LendOpened.{opened_head}
 use Rattle.chained_transfers.specs.Bulk.{OpensBulk, receives}
 use Rattle.chained_transfers.specs.Accepted.{IsOpened}
 use Rattle.chained_transfers.proofs.Commands.{command_nothing}
 use Rattle.fed_lends.proofs.Accepting.{open_is_blank}
-use Rattle.fed_commands.proofs.Asked.{push_which}
+use Rattle.fed_lends.proofs.Asked.{push_which}
 use Rattle.standing_fronts.specs.Reaching.{Reaches}
-use Rattle.told_queues.proofs.Commanding.{opened_told}
+use Rattle.harvest_laws.proofs.Commanding.{opened_told}
 use Rattle.open_names.proofs.Apart.{accepted_apart}
-use Rattle.open_lends.specs.Lends.{IsOpenReady}
-use Rattle.accepted_opens.proofs.Waiting.{open_waits}
+use Rattle.open_laws.specs.Lends.{IsOpenReady}
+use Rattle.open_laws.proofs.AcceptWaiting.{open_waits}
 use Rattle.commanded_queues.proofs.Ranges.{new_head_range}
 use Rattle.commanded_queues.proofs.Which.{opens_its_own}
 use Rattle.commanded_queues.proofs.Tails.{open_reaches}
 use Rattle.commanded_queues.proofs.Extending.{open_extents}
 use Rattle.bus_world.specs.World.{World, name_in, commanded_by}
-use Rattle.world_streams.specs.Streaming.{Streams, Standing}
+use Rattle.stream_worlds.specs.Streaming.{Streams, Standing}
 use Rattle.whole_worlds.specs.Feeding.{IsFeeding}
 use Rattle.whole_worlds.specs.Whole.{IsUnderWay, IsWhole}
 use Rattle.whole_worlds.specs.Laws.{OpensTo}

@@ -6,11 +6,11 @@ use Rattle.driver_rows.specs.declared.content.Reserve.{Reserve}
 use Rattle.driver_rows.specs.Opening.{opening}
 use Rattle.run_owners.specs.Owners.{TransferRuns, transfer_in, views_of}
 use Rattle.lent_structures.specs.Structures.{Structure, Table}
-use Rattle.driver_parts.specs.Opened.{empty_list, opening_parts, is_head}
-use Rattle.driver_releases.specs.Extents.{AreInRuns}
+use Rattle.driver_laws.specs.PartOpened.{empty_list, opening_parts, is_head}
+use Rattle.driver_laws.specs.Extents.{AreInRuns}
 use Rattle.chained_transfers.proofs.Events.{new_nothing}
 use Rattle.fed_lends.proofs.Accepting.{opening_is_blank}
-use Rattle.told_queues.proofs.Standing.{new_told}
+use Rattle.harvest_laws.proofs.Standing.{new_told}
 use Rattle.open_names.proofs.Apart.{new_apart}
 use Rattle.world_bytes.proofs.Turning.{opened_bytes}
 use Rattle.bus_world.specs.Rooms.{reserve_of}

@@ -3,7 +3,7 @@ use Rattle.whole_worlds.specs.Feeding.{streams_of}
 use Rattle.whole_worlds.proofs.Moments.{spelled_bulk}
 use Rattle.whole_worlds.proofs.Running.{scripts_stay_whole}
 use Rattle.whole_worlds.specs.PlacedLaws.{ScriptsRunInPlace, TextsRunInPlace}
-use Rattle.out_rows.specs.Takers.{takes_of}
+use Rattle.stream_worlds.specs.Takers.{takes_of}
 use Rattle.whole_worlds.proofs.Working.{runs_in_place}
 
 pub scripts_run_in_place : ScriptsRunInPlace

@@ -12,12 +12,12 @@ use Rattle.driver_rows.specs.declared.content.Command.TheVariants as unfinished
 use Rattle.driver_rows.specs.DriverContent.{DriverContent}
 use Rattle.lent_structures.specs.Structures.{StructureSets}
 use Rattle.fed_lends.specs.ToLend.{IsToBeLent}
-use Rattle.open_lends.specs.Lends.{IsOpenReady}
-use Rattle.open_stores.specs.Opens.{IsOpenLent}
+use Rattle.open_laws.specs.Lends.{IsOpenReady}
+use Rattle.open_laws.specs.Opens.{IsOpenLent}
 use Rattle.commanded_queues.proofs.Tails.{reaches_alike}
-use Rattle.told_queues.proofs.Standing.{refused_told}
+use Rattle.harvest_laws.proofs.Standing.{refused_told}
 use Rattle.bus_world.specs.World.{World, refused_line, commanded_by}
-use Rattle.world_streams.specs.Streaming.{Streams, Standing}
+use Rattle.stream_worlds.specs.Streaming.{Streams, Standing}
 use Rattle.whole_worlds.specs.Feeding.{IsFeeding}
 use Rattle.whole_worlds.specs.Whole.{tail_of, IsUnderWay, IsWhole}
 

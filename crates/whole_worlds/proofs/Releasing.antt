@@ -11,13 +11,13 @@ use Rattle.driver_rows.specs.declared.rows.DriverRow.TheVariants as rows
 use Rattle.driver_rows.specs.DriverContent.{DriverContent}
 use Rattle.driver_rows.specs.Rows.{Parts, driver_row, after_driver_row, after_transfer, freed_by, free_qtds}
 use Rattle.lent_structures.specs.Structures.{StructureSets}
-use Rattle.ring_control.specs.Control.{IsFrameless, off, empty}
-use Rattle.ring_releases.specs.Fewer.{without_those}
-use Rattle.ring_releases.proofs.Returning.{those_beside}
-use Rattle.returned_streams.specs.Returned.{staying_of}
-use Rattle.returned_streams.proofs.Returning.{pipes_returned, reported_stay}
-use Rattle.driver_parts.specs.Opened.{opening_base}
-use Rattle.driver_releases.specs.Released.{goes_of, release_row}
+use Rattle.controlled_streams.specs.Control.{IsFrameless, off, empty}
+use Rattle.ring_laws.specs.Fewer.{without_those}
+use Rattle.ring_laws.proofs.Returning.{those_beside}
+use Rattle.controlled_streams.specs.Returned.{staying_of}
+use Rattle.controlled_streams.proofs.Returning.{pipes_returned, reported_stay}
+use Rattle.driver_laws.specs.PartOpened.{opening_base}
+use Rattle.driver_laws.specs.Released.{goes_of, release_row}
 use Rattle.in_place.specs.InPlace.{IsInPlace}
 use Rattle.in_place.proofs.Laws.{event_in_place}
 use Rattle.chained_transfers.specs.InTurn.{TakesTurns}
@@ -26,16 +26,16 @@ use Rattle.chained_transfers.proofs.Events.{event_turns, event_nothing}
 use Rattle.chained_transfers.proofs.Holding.{held_alive}
 use Rattle.fed_lends.specs.ToLend.{AreBlank}
 use Rattle.fed_queues.specs.Places.{IsMet, AreMet, HaveStreams}
-use Rattle.open_stores.specs.Opens.{AreNamesApart}
+use Rattle.open_laws.specs.Opens.{AreNamesApart}
 use Rattle.released_queues.specs.Released.{IsReleased}
 use Rattle.released_queues.proofs.Releasing.{release_feeds, release_keeps_met}
 use Rattle.standing_fronts.specs.Reaching.{Reaches}
 use Rattle.released_tails.proofs.Reaching.{release_reaches}
 use Rattle.scripted_streams.specs.Senders.{sender_of}
 use Rattle.bus_world.specs.World.{World, controller_parts, driver_parts, with_parts}
-use Rattle.world_streams.specs.Streaming.{Streams, Standing, wired}
+use Rattle.stream_worlds.specs.Streaming.{Streams, Standing, wired}
 use Rattle.shared_worlds.specs.Working.{IsWorking}
-use Rattle.reported_streams.specs.Reported.{AreReported}
+use Rattle.controlled_streams.specs.Reported.{AreReported}
 use Rattle.whole_worlds.specs.Feeding.{there_of, IsFeeding}
 use Rattle.whole_worlds.proofs.FeedingStores.{queue_above}
 use Rattle.whole_worlds.proofs.Heads.{right_of}

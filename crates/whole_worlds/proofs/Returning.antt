@@ -8,13 +8,13 @@ use Rattle.driver_rows.specs.Rows.{driver_row}
 use Rattle.run_owners.specs.Due.{IsDue, IsTransferDue}
 use Rattle.run_owners.specs.Leaving.{owes}
 use Rattle.run_owners.proofs.Reasons.{each_is_due}
-use Rattle.driver_parts.specs.Opened.{opening_base}
+use Rattle.driver_laws.specs.PartOpened.{opening_base}
 use Rattle.endpoint_lives.specs.Lives.{may_meet}
 use Rattle.endpoint_lives.proofs.Lives.{linked_met}
 use Rattle.released_queues.specs.Released.{IsReturning, ReleaseStands}
 use Rattle.standing_fronts.proofs.Lists.{times_some}
 use Rattle.bus_world.specs.World.{World, driver_parts}
-use Rattle.world_streams.specs.Streaming.{Streams, Standing}
+use Rattle.stream_worlds.specs.Streaming.{Streams, Standing}
 use Rattle.whole_worlds.specs.Whole.{IsWhole}
 use Rattle.whole_worlds.proofs.Heads.{rising_there}
 

@@ -12,10 +12,10 @@ use Rattle.run_owners.specs.Leaving.{leaver}
 use Rattle.run_owners.proofs.Reasons.{each_is_due}
 use Rattle.usb_bus.specs.Bus.{Fixed}
 use Rattle.fed_lends.specs.ToLend.{IsToBeLent}
-use Rattle.open_lends.specs.Lends.{IsOpenReady}
-use Rattle.open_stores.specs.Opens.{IsOpenLent}
+use Rattle.open_laws.specs.Lends.{IsOpenReady}
+use Rattle.open_laws.specs.Opens.{IsOpenLent}
 use Rattle.bus_world.specs.World.{World, driver_parts}
-use Rattle.world_streams.specs.Streaming.{Streams, Standing}
+use Rattle.stream_worlds.specs.Streaming.{Streams, Standing}
 use Rattle.chained_transfers.specs.Bulk.{IsBulkCommand, OnlyBulk}
 use Rattle.whole_worlds.specs.FeedingLaws.{is_still}
 use Rattle.whole_worlds.specs.Whole.{IsUnderWay, IsWhole}

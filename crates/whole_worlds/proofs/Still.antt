@@ -23,9 +23,9 @@ use Rattle.chained_transfers.proofs.Events.{event_nothing}
 use Rattle.usb_bus.specs.Bus.{Fixed}
 use Rattle.lent_structures.specs.Structures.{Structures}
 use Rattle.standing_fronts.specs.Reaching.{Reaches}
-use Rattle.told_queues.proofs.Standing.{alike_told}
+use Rattle.harvest_laws.proofs.Standing.{alike_told}
 use Rattle.bus_world.specs.World.{World, driver_parts, with_parts, driver_next}
-use Rattle.world_streams.specs.Streaming.{Streams, Standing}
+use Rattle.stream_worlds.specs.Streaming.{Streams, Standing}
 use Rattle.whole_worlds.specs.Feeding.{IsFeeding}
 use Rattle.whole_worlds.specs.FeedingLaws.{is_still}
 use Rattle.whole_worlds.proofs.FeedingStill.{still_feeds}

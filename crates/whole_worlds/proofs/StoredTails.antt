@@ -14,26 +14,26 @@ use Rattle.driver_rows.specs.Words.{dummy_qtd}
 use Rattle.run_owners.specs.Owners.{NoteRuns, runs_of_transfer, note_in}
 use Rattle.lent_structures.specs.Structures.{Element, Structures, StructureSets}
 use Rattle.lent_structures.proofs.Names.{not_same, put_same, put_beside}
-use Rattle.queue_parts.specs.Sound.{IsMember}
-use Rattle.ring_streams.specs.Told.{Endpoint as Told}
-use Rattle.ring_order.specs.Order.{IsFresh, IsSorted, IsAmong}
-use Rattle.ring_fronts.specs.Front.{LinksWithin}
-use Rattle.ring_fronts.proofs.Tails.{last_is_tail}
-use Rattle.driver_parts.specs.Inventory.{IsLent}
-use Rattle.driver_lends.specs.Published.{partly}
-use Rattle.driver_lends.proofs.Publishing.{idle}
-use Rattle.published_streams.specs.Storing.{with_out, stored_parts}
-use Rattle.published_streams.proofs.Storing.{out_apart}
-use Rattle.published_streams.proofs.Streams.{out_here, out_beside}
+use Rattle.lent_structures.specs.Sound.{IsMember}
+use Rattle.ring_laws.specs.Told.{Endpoint as Told}
+use Rattle.ring_laws.specs.Order.{IsFresh, IsSorted, IsAmong}
+use Rattle.ring_laws.specs.Front.{LinksWithin}
+use Rattle.ring_laws.proofs.Tails.{last_is_tail}
+use Rattle.driver_laws.specs.Inventory.{IsLent}
+use Rattle.driver_laws.specs.Published.{partly}
+use Rattle.driver_laws.proofs.Publishing.{idle}
+use Rattle.controlled_streams.specs.Storing.{with_out, stored_parts}
+use Rattle.controlled_streams.proofs.Storing.{out_apart}
+use Rattle.controlled_streams.proofs.Streams.{out_here, out_beside}
 use Rattle.chained_transfers.specs.Out.{out_of, out_now}
 use Rattle.endpoint_lives.specs.Lives.{may_meet}
 use Rattle.fed_queues.specs.Fed.{IsPublished}
 use Rattle.fed_queues.specs.Places.{IsMet}
 use Rattle.standing_fronts.specs.Reaching.{Reaches}
 use Rattle.standing_fronts.proofs.Reaching.{reaches_idle_store, reaches_last_store}
-use Rattle.fed_stores.specs.Stores.{IsAtStore, published_by, parts_then, out_then, QueuesThen, next_of}
-use Rattle.fed_stores.proofs.Outs.{IsNewest, IsSplit, split_out, same_out}
-use Rattle.fed_stores.proofs.Apart.{dummy_placed, queue_placed, queues_same, thirty_two, all_lent}
+use Rattle.publish_laws.specs.Stores.{IsAtStore, published_by, parts_then, out_then, QueuesThen, next_of}
+use Rattle.publish_laws.proofs.Outs.{IsNewest, IsSplit, split_out, same_out}
+use Rattle.publish_laws.proofs.Apart.{dummy_placed, queue_placed, queues_same, thirty_two, all_lent}
 use Rattle.whole_worlds.specs.Whole.{tail_block, tail_of, TailsStand}
 use Rattle.whole_worlds.proofs.Storing.{made_is, below, one_more, finished, by_store, met_now, met_still}
 

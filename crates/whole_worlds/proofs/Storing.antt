@@ -14,26 +14,26 @@ use Rattle.driver_rows.specs.Harvests.{note_at}
 use Rattle.driver_rows.specs.Rows.{Parts as DriverParts}
 use Rattle.run_owners.specs.Owners.{Element as PieceOf, IsPlaced, runs_of_transfer, views_of}
 use Rattle.lent_structures.specs.Structures.{StructureSets}
-use Rattle.ring_walk.specs.Hand.{Hand}
-use Rattle.ring_streams.specs.Told.{Endpoint as Told}
-use Rattle.driver_lends.specs.Published.{partly}
-use Rattle.driver_publishes.specs.Publishing.{IsBeingPublished}
-use Rattle.driver_publishes.proofs.Rows.{counted, after_is}
-use Rattle.driver_releases.specs.Extents.{AreInRuns}
-use Rattle.driver_releases.proofs.Extending.{extents_stay, element_put}
-use Rattle.published_streams.proofs.Storing.{same_hand, spares_head, spares_element}
+use Rattle.ring_laws.specs.Hand.{Hand}
+use Rattle.ring_laws.specs.Told.{Endpoint as Told}
+use Rattle.driver_laws.specs.Published.{partly}
+use Rattle.publish_laws.specs.Publishing.{IsBeingPublished}
+use Rattle.publish_laws.proofs.Rows.{counted, after_is}
+use Rattle.driver_laws.specs.Extents.{AreInRuns}
+use Rattle.driver_laws.proofs.Extending.{extents_stay, element_put}
+use Rattle.controlled_streams.proofs.Storing.{same_hand, spares_head, spares_element}
 use Rattle.endpoint_lives.specs.Lives.{may_meet}
 use Rattle.told_harvests.specs.Held.{IsOneFrom}
-use Rattle.harvest_rows.specs.Holds.{IsNextOf}
-use Rattle.harvest_rows.proofs.Places.{one_sooner, owner_is}
-use Rattle.told_queues.specs.Told.{ToldStands}
-use Rattle.told_queues.specs.Laws.{SparesDone}
-use Rattle.told_queues.proofs.Standing.{spared_told, alike_told}
+use Rattle.harvest_laws.specs.Holds.{IsNextOf}
+use Rattle.harvest_laws.proofs.Places.{one_sooner, owner_is}
+use Rattle.harvest_laws.specs.Told.{ToldStands}
+use Rattle.harvest_laws.specs.ToldLaws.{SparesDone}
+use Rattle.harvest_laws.proofs.Standing.{spared_told, alike_told}
 use Rattle.fed_queues.specs.Fed.{IsPublished}
 use Rattle.fed_queues.specs.Places.{IsThere, IsMet}
 use Rattle.fed_queues.proofs.Places.{going_met}
-use Rattle.fed_stores.specs.Stores.{IsAtStore, published_by, parts_then, next_of}
-use Rattle.fed_stores.proofs.Apart.{piece_placed, thirty_two}
+use Rattle.publish_laws.specs.Stores.{IsAtStore, published_by, parts_then, next_of}
+use Rattle.publish_laws.proofs.Apart.{piece_placed, thirty_two}
 use Rattle.whole_worlds.specs.Whole.{IsUnderWay}
 use Rattle.whole_worlds.proofs.There.{next_waits}
 

@@ -3,12 +3,12 @@ use Rattle.std.proofs.Common.{◌≡◌, ℕ, Bool, true, false, if◌then◌els
 use Rattle.std.specs.List.{concat}
 use Rattle.std.proofs.lemmas.Bool.{false≢true}
 use Rattle.lent_structures.specs.Structures.{StructureSets}
-use Rattle.ring_walk.specs.Hand.{Hand}
-use Rattle.ring_streams.specs.Told.{Endpoint}
-use Rattle.ring_out_pipes.specs.OutBus.{Taker}
-use Rattle.ring_out_pipes.specs.OutPipes.{IsOutPipe}
-use Rattle.opened_streams.specs.Opened.{with_none}
-use Rattle.out_rows.specs.Outs.{AreOutPiped, AreUntaken}
+use Rattle.ring_laws.specs.Hand.{Hand}
+use Rattle.ring_laws.specs.Told.{Endpoint}
+use Rattle.ring_laws.specs.OutBus.{Taker}
+use Rattle.ring_laws.specs.OutPipes.{IsOutPipe}
+use Rattle.controlled_streams.specs.Opened.{with_none}
+use Rattle.stream_worlds.specs.Outs.{AreOutPiped, AreUntaken}
 use Rattle.whole_worlds.specs.Feeding.{heads_of}
 use Rattle.whole_worlds.specs.Taking.{outs_of}
 

@@ -7,15 +7,15 @@ use Rattle.usb_base.specs.declared.packets.Ask.{Ask}
 use Rattle.usb_base.specs.declared.packets.Reply.{Reply}
 use Rattle.usb_bus.specs.Bus.{Fixed}
 use Rattle.lent_structures.specs.Structures.{StructureSets}
-use Rattle.ring_walk.specs.Hand.{Hand}
-use Rattle.ring_pipes.specs.Pipes.{grown}
-use Rattle.ring_control.specs.Control.{ControlEffect, a_microframe, a_step}
+use Rattle.ring_laws.specs.Hand.{Hand}
+use Rattle.ring_laws.specs.Pipes.{grown}
+use Rattle.controlled_streams.specs.Control.{ControlEffect, a_microframe, a_step}
 use Rattle.scripted_takers.specs.Takers.{taker_of}
-use Rattle.driver_parts.specs.Opened.{opening_base}
+use Rattle.driver_laws.specs.PartOpened.{opening_base}
 use Rattle.bus_world.specs.World.{World, controller_next}
-use Rattle.world_streams.specs.Streaming.{Streams, Standing, wired, HearsBytesNow}
-use Rattle.out_rows.specs.Events.{sent_in}
-use Rattle.out_rows.proofs.Turning.{world_pipes}
+use Rattle.stream_worlds.specs.Streaming.{Streams, Standing, wired, HearsBytesNow}
+use Rattle.stream_worlds.specs.Events.{sent_in}
+use Rattle.stream_worlds.proofs.RowTurning.{world_pipes}
 use Rattle.whole_worlds.specs.Feeding.{IsFeeding, Goes, bytes_of_event, acc_after}
 use Rattle.whole_worlds.specs.Taking.{outs_of, IsTaking}
 use Rattle.whole_worlds.proofs.FeedingBeside.{controller_feeds}

@@ -2,7 +2,7 @@
 use Rattle.std.proofs.Common.{◌≡◌, ℕ, ◌*◌, Bool, true, ◌∙◌}
 use Rattle.usb_bus.specs.Bus.{Fixed}
 use Rattle.bus_world.specs.World.{World}
-use Rattle.world_streams.specs.Streaming.{Streams, Standing}
+use Rattle.stream_worlds.specs.Streaming.{Streams, Standing}
 use Rattle.taken_reports.specs.Worlds.{HaveOuts}
 use Rattle.whole_worlds.specs.Feeding.{IsFeeding, there_of}
 use Rattle.whole_worlds.specs.Taking.{outs_of}

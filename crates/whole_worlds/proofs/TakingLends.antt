@@ -21,24 +21,24 @@ use Rattle.chained_transfers.specs.Bulk.{pid_by}
 use Rattle.chained_transfers.proofs.Ways.{its_pid}
 use Rattle.lent_structures.specs.Structures.{Structure, QueueHead, Element, Buffer, Table, Isochronous, SplitIsochronous, StructureSets, Tells}
 use Rattle.async_walk.specs.Rows.{place}
-use Rattle.driver_parts.specs.Inventory.{Sort, OfElement, sort_of, sorts_of, Inventory, IsLent, IsPieceOf, AreTold, IsDriverOwned, the_list, the_head, a_queue, a_dummy, a_piece, a_buffer, IsDriven}
-use Rattle.driver_parts.specs.Driven.{DrivesRing}
-use Rattle.driver_parts.specs.Opened.{opening_base}
-use Rattle.transfer_lends.specs.Pieces.{IsNewQtd}
-use Rattle.transfer_lends.specs.Laws.{lent_memory, lent_driver, HasPieces}
-use Rattle.transfer_lends.proofs.Lends.{lend_drives}
+use Rattle.driver_laws.specs.Inventory.{Sort, OfElement, sort_of, sorts_of, Inventory, IsLent, IsPieceOf, AreTold, IsDriverOwned, the_list, the_head, a_queue, a_dummy, a_piece, a_buffer, IsDriven}
+use Rattle.driver_laws.specs.Driven.{DrivesRing}
+use Rattle.driver_laws.specs.PartOpened.{opening_base}
+use Rattle.driver_laws.specs.Pieces.{IsNewQtd}
+use Rattle.driver_laws.specs.TransferLaws.{lent_memory, lent_driver, HasPieces}
+use Rattle.driver_laws.proofs.Lends.{lend_drives}
 use Rattle.scripted_takers.specs.Takers.{taker_of}
 use Rattle.bus_world.specs.World.{World, driver_parts, driver_next}
-use Rattle.world_streams.specs.Streaming.{Streams, Standing, wired}
+use Rattle.stream_worlds.specs.Streaming.{Streams, Standing, wired}
 use Rattle.fed_lends.specs.ToLend.{AreStagesBy, IsToBeLent, lent_now}
 use Rattle.fed_lends.proofs.Fed.{y_of, x_of}
 use Rattle.fed_lends.proofs.Names.{names_lent}
 use Rattle.fed_lends.proofs.Reports.{it_is_met}
 use Rattle.fed_lends.proofs.Row.{advance_is, after_is}
 use Rattle.released_queues.specs.Fronts.{FrontsStand}
-use Rattle.out_rows.specs.Outs.{GoesAs}
-use Rattle.out_rows.specs.Lends.{AreNewAs}
-use Rattle.out_rows.proofs.Lending.{lend_pipes}
+use Rattle.stream_worlds.specs.Outs.{GoesAs}
+use Rattle.stream_worlds.specs.Lends.{AreNewAs}
+use Rattle.stream_worlds.proofs.Lending.{lend_pipes}
 use Rattle.whole_worlds.specs.Feeding.{IsFeeding}
 use Rattle.whole_worlds.specs.LendFeeds.{LendsTransfer}
 use Rattle.whole_worlds.specs.Whole.{IsWhole}

@@ -6,14 +6,14 @@ use Rattle.script_fits.specs.Fits.{IsFit}
 use Rattle.usb_bus.specs.Bus.{fixed_of}
 use Rattle.driver_rows.specs.Words.{opening_head}
 use Rattle.lent_structures.specs.Structures.{QueueHead, Element}
-use Rattle.ring_streams.specs.Told.{endpoint_of}
-use Rattle.ring_out_pipes.specs.Laws.{SendsNone}
-use Rattle.driver_parts.specs.Opened.{opening_parts, is_head}
+use Rattle.ring_laws.specs.Told.{endpoint_of}
+use Rattle.ring_laws.specs.OutPipeLaws.{SendsNone}
+use Rattle.driver_laws.specs.PartOpened.{opening_parts, is_head}
 use Rattle.bus_world.specs.Opening.{opening_world}
 use Rattle.shared_worlds.specs.Working.{at_opening}
-use Rattle.out_rows.specs.Outs.{IsAside}
-use Rattle.out_rows.specs.Takers.{takes_of}
-use Rattle.out_rows.proofs.Beginning.{opening_untaken}
+use Rattle.stream_worlds.specs.Outs.{IsAside}
+use Rattle.stream_worlds.specs.Takers.{takes_of}
+use Rattle.stream_worlds.proofs.Beginning.{opening_untaken}
 use Rattle.whole_worlds.specs.Feeding.{streams_of}
 use Rattle.whole_worlds.specs.Taking.{outs_of, IsTaking}
 use Rattle.whole_worlds.proofs.Heads.{head_on}

@@ -15,38 +15,38 @@ use Rattle.driver_rows.specs.Words.{head_block, to_queue_head, queue_head, dummy
 use Rattle.run_owners.specs.Owners.{runs_of_endpoint}
 use Rattle.lent_structures.specs.Structures.{QueueHead, Element, StructureSets, put}
 use Rattle.lent_structures.proofs.Names.{not_same, put_beside, put_same}
-use Rattle.queue_parts.specs.Sound.{IsMember}
-use Rattle.queue_parts.proofs.Altering.{found_queue}
-use Rattle.ring_walk.specs.Hand.{Hand}
-use Rattle.ring_streams.specs.Told.{Endpoint as Told, endpoint_of}
-use Rattle.ring_pipes.specs.Pipes.{AreEndpoints}
-use Rattle.ring_out_pipes.specs.OutPipes.{IsOut}
-use Rattle.ring_out_pipes.specs.Laws.{SendsNone}
-use Rattle.control_out_pipes.proofs.Outs.{linked_unmoved}
-use Rattle.spared_streams.specs.Sparing.{SparesHead}
-use Rattle.spared_streams.proofs.Sparing.{spared_endpoint}
+use Rattle.lent_structures.specs.Sound.{IsMember}
+use Rattle.lent_structures.proofs.Altering.{found_queue}
+use Rattle.ring_laws.specs.Hand.{Hand}
+use Rattle.ring_laws.specs.Told.{Endpoint as Told, endpoint_of}
+use Rattle.ring_laws.specs.Pipes.{AreEndpoints}
+use Rattle.ring_laws.specs.OutPipes.{IsOut}
+use Rattle.ring_laws.specs.OutPipeLaws.{SendsNone}
+use Rattle.controlled_streams.proofs.Outs.{linked_unmoved}
+use Rattle.ring_laws.specs.Sparing.{SparesHead}
+use Rattle.ring_laws.proofs.SparedSparing.{spared_endpoint}
 use Rattle.scripted_takers.specs.Takers.{taker_of}
-use Rattle.driver_parts.specs.Opened.{opening_base}
-use Rattle.driver_parts.specs.Driven.{DrivesRing}
-use Rattle.driver_lends.specs.Linked.{with_member, head_at}
-use Rattle.driver_lends.proofs.Unmet.{open_is_unmet}
+use Rattle.driver_laws.specs.PartOpened.{opening_base}
+use Rattle.driver_laws.specs.Driven.{DrivesRing}
+use Rattle.driver_laws.specs.Linked.{with_member, head_at}
+use Rattle.driver_laws.proofs.Unmet.{open_is_unmet}
 use Rattle.bus_world.specs.World.{World, driver_parts, driver_next}
-use Rattle.world_streams.specs.Streaming.{Streams, Standing, wired}
-use Rattle.published_streams.proofs.Storing.{same_hand}
-use Rattle.opened_streams.specs.Unopened.{IsUnopened}
-use Rattle.opened_streams.specs.Opened.{with_stream, with_end, with_none, IsOneMore}
-use Rattle.opened_streams.proofs.Beginning.{stream_here, ends_with_one, ends_with_other}
-use Rattle.opened_streams.proofs.Alike.{alike_ends}
+use Rattle.stream_worlds.specs.Streaming.{Streams, Standing, wired}
+use Rattle.controlled_streams.proofs.Storing.{same_hand}
+use Rattle.controlled_streams.specs.Unopened.{IsUnopened}
+use Rattle.controlled_streams.specs.Opened.{with_stream, with_end, with_none, IsOneMore}
+use Rattle.controlled_streams.proofs.Beginning.{stream_here, ends_with_one, ends_with_other}
+use Rattle.controlled_streams.proofs.Alike.{alike_ends}
 use Rattle.chained_transfers.specs.Bulk.{receives}
 use Rattle.fed_queues.specs.Places.{HasHead, HasThere}
-use Rattle.open_stores.specs.Opens.{IsOpenLent, IsAtOpen, head_then, hand_then, end_then, streams_then}
-use Rattle.open_stores.proofs.Standing.{then_here, then_beside, member_here, member_old, member_beside, element_was, its_alive}
-use Rattle.open_stores.proofs.Streams.{one_more}
-use Rattle.open_lends.specs.Lends.{IsOpenReady, parts_lent}
-use Rattle.out_rows.specs.Outs.{IsAside, AreAside, AreOutPiped, AreUntaken}
-use Rattle.out_rows.specs.Opens.{IsOneMoreHead}
-use Rattle.out_rows.proofs.Spared.{work_stays, out_pipes_spared}
-use Rattle.out_rows.proofs.Opening.{out_pipes_with_one, out_pipes_with_another, untaken_less_one, untaken_with_another}
+use Rattle.open_laws.specs.Opens.{IsOpenLent, IsAtOpen, head_then, hand_then, end_then, streams_then}
+use Rattle.open_laws.proofs.Standing.{then_here, then_beside, member_here, member_old, member_beside, element_was, its_alive}
+use Rattle.open_laws.proofs.Streams.{one_more}
+use Rattle.open_laws.specs.Lends.{IsOpenReady, parts_lent}
+use Rattle.stream_worlds.specs.Outs.{IsAside, AreAside, AreOutPiped, AreUntaken}
+use Rattle.stream_worlds.specs.Opens.{IsOneMoreHead}
+use Rattle.stream_worlds.proofs.Spared.{work_stays, out_pipes_spared}
+use Rattle.stream_worlds.proofs.Opening.{out_pipes_with_one, out_pipes_with_another, untaken_less_one, untaken_with_another}
 use Rattle.whole_worlds.specs.Feeding.{heads_of, IsFeeding}
 use Rattle.whole_worlds.specs.Taking.{outs_of, IsTaking}
 use Rattle.whole_worlds.specs.Whole.{IsWhole}

@@ -6,16 +6,16 @@ use Rattle.driver_rows.specs.declared.content.Endpoint.{Endpoint}
 use Rattle.driver_rows.specs.declared.content.Transfer.{Transfer}
 use Rattle.driver_rows.specs.declared.rows.DriverRow.TheVariants as rows
 use Rattle.driver_rows.specs.Rows.{driver_row, after_driver_row}
-use Rattle.ring_releases.specs.Fewer.{without_those}
-use Rattle.returned_streams.specs.Returned.{staying_of, KeepsBuffers}
-use Rattle.driver_parts.specs.Opened.{opening_base}
-use Rattle.driver_releases.specs.Released.{goes_of}
+use Rattle.ring_laws.specs.Fewer.{without_those}
+use Rattle.controlled_streams.specs.Returned.{staying_of, KeepsBuffers}
+use Rattle.driver_laws.specs.PartOpened.{opening_base}
+use Rattle.driver_laws.specs.Released.{goes_of}
 use Rattle.released_queues.proofs.Going.{head_stays, buffers_stay, may_go}
 use Rattle.scripted_takers.specs.Takers.{taker_of}
 use Rattle.bus_world.specs.World.{World, driver_parts, with_parts}
-use Rattle.world_streams.specs.Streaming.{Streams, Standing, wired}
-use Rattle.out_rows.specs.Returns.{KeepsWork}
-use Rattle.out_rows.proofs.Returning.{return_pipes}
+use Rattle.stream_worlds.specs.Streaming.{Streams, Standing, wired}
+use Rattle.stream_worlds.specs.Returns.{KeepsWork}
+use Rattle.stream_worlds.proofs.Returning.{return_pipes}
 use Rattle.whole_worlds.specs.Whole.{IsWhole}
 use Rattle.whole_worlds.specs.Taking.{outs_of, IsTaking}
 use Rattle.whole_worlds.proofs.Returning.{transfer, endpoint, returning, stand}

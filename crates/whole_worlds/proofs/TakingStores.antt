@@ -10,17 +10,17 @@ use Rattle.driver_rows.specs.declared.content.Command.TheVariants as unfinished
 use Rattle.driver_rows.specs.Rows.{Parts as DriverParts}
 use Rattle.chained_transfers.specs.Bulk.{receives, pid_by}
 use Rattle.chained_transfers.proofs.Ways.{receives_pid, sends_pid}
-use Rattle.driver_lends.specs.Published.{partly}
-use Rattle.driver_lends.proofs.Publishing.{idle}
+use Rattle.driver_laws.specs.Published.{partly}
+use Rattle.driver_laws.proofs.Publishing.{idle}
 use Rattle.scripted_takers.specs.Takers.{taker_of}
 use Rattle.bus_world.specs.World.{World, driver_parts, driver_next}
-use Rattle.world_streams.specs.Streaming.{Streams, Standing, wired}
+use Rattle.stream_worlds.specs.Streaming.{Streams, Standing, wired}
 use Rattle.fed_queues.specs.Fed.{IsPublished}
 use Rattle.fed_queues.specs.Places.{IsMet}
 use Rattle.fed_queues.proofs.Places.{going_met}
-use Rattle.fed_stores.specs.Stores.{IsAtStore, published_by}
-use Rattle.out_rows.specs.Outs.{GoesAs}
-use Rattle.out_rows.proofs.Storing.{store_pipes}
+use Rattle.publish_laws.specs.Stores.{IsAtStore, published_by}
+use Rattle.stream_worlds.specs.Outs.{GoesAs}
+use Rattle.stream_worlds.proofs.Storing.{store_pipes}
 use Rattle.whole_worlds.specs.Feeding.{heads_of, IsFeeding}
 use Rattle.whole_worlds.specs.Whole.{IsWhole}
 use Rattle.whole_worlds.specs.Taking.{outs_of, IsTaking}

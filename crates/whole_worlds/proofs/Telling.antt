@@ -13,24 +13,24 @@ use Rattle.run_owners.specs.Owners.{Element}
 use Rattle.chained_transfers.specs.InTurn.{TakesTurns}
 use Rattle.lent_structures.specs.Structures.{Structures, StructureSets}
 use Rattle.lent_structures.proofs.Names.{not_same}
-use Rattle.ring_walk.specs.Hand.{Hand}
-use Rattle.ring_walk.specs.Ring.{Base}
-use Rattle.ring_walk.specs.Effects.{buffer_of}
-use Rattle.ring_releases.specs.Fewer.{without_those}
-use Rattle.ring_releases.proofs.Returning.{those_beside}
-use Rattle.spared_streams.specs.Sparing.{SparesElement}
-use Rattle.returned_streams.proofs.Returning.{spares_head, spares_element}
-use Rattle.driver_releases.specs.Released.{goes_of, release_row}
-use Rattle.driver_releases.proofs.Blocks.{mine}
+use Rattle.ring_laws.specs.Hand.{Hand}
+use Rattle.ring_laws.specs.Ring.{Base}
+use Rattle.ring_laws.specs.Effects.{buffer_of}
+use Rattle.ring_laws.specs.Fewer.{without_those}
+use Rattle.ring_laws.proofs.Returning.{those_beside}
+use Rattle.ring_laws.specs.Sparing.{SparesElement}
+use Rattle.controlled_streams.proofs.Returning.{spares_head, spares_element}
+use Rattle.driver_laws.specs.Released.{goes_of, release_row}
+use Rattle.driver_laws.proofs.Blocks.{mine}
 use Rattle.released_queues.specs.Released.{IsReturning, ReleaseStands}
 use Rattle.released_queues.proofs.Queues.{pieces_of, goes_off}
 use Rattle.released_queues.proofs.Going.{head_stays, buffers_stay}
 use Rattle.told_harvests.specs.Held.{IsOneFrom}
-use Rattle.harvest_rows.specs.Holds.{IsNextOf}
-use Rattle.harvest_rows.proofs.Places.{one_sooner, owner_is}
-use Rattle.told_queues.specs.Told.{ToldStands}
-use Rattle.told_queues.specs.Laws.{SparesDone}
-use Rattle.told_queues.proofs.Standing.{spared_told, returned_told}
+use Rattle.harvest_laws.specs.Holds.{IsNextOf}
+use Rattle.harvest_laws.proofs.Places.{one_sooner, owner_is}
+use Rattle.harvest_laws.specs.Told.{ToldStands}
+use Rattle.harvest_laws.specs.ToldLaws.{SparesDone}
+use Rattle.harvest_laws.proofs.Standing.{spared_told, returned_told}
 use Rattle.whole_worlds.proofs.There.{there_now, next_waits}
 
 module _ (base : Base) (member : ℕ → Bool) (parts : StructureSets) (hand : Hand) (w : Walk) (p : DriverParts) (order : ℕ → ℕ → ℕ) (out : ℕ → List ℕ) (t : ℕ) (y : Transfer) (x : Endpoint) (s : ReleaseStands base member parts hand w p order out) (k : IsReturning p.driver t y x) where

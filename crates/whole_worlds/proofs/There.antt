@@ -8,8 +8,8 @@ use Rattle.endpoint_lives.specs.Lives.{told_end}
 use Rattle.chained_transfers.specs.InTurn.{TakesTurns}
 use Rattle.chained_transfers.specs.Turns.{Turn, turn_of, turn_in, IsNext, AreReportedTo}
 use Rattle.chained_transfers.proofs.Holding.{unreleased}
-use Rattle.harvest_rows.specs.Holds.{IsNextOf}
-use Rattle.held_commands.specs.Laws.{AreThere}
+use Rattle.harvest_laws.specs.Holds.{IsNextOf}
+use Rattle.harvest_laws.specs.HeldLaws.{AreThere}
 
 module _ (d : DriverContent) (k : TakesTurns d) where
   found : (e t : ℕ) (x : Endpoint) (r : Turn) (o : Option Transfer) → slice_get d.endpoints e ≡ Some x → told_end x ≡ None → slice_get d.transfers t ≡ o → option_map turn_of o ≡ Some r → r.endpoint ≡ e → r.reported ≡ false

@@ -10,12 +10,12 @@ use Rattle.hc_core.specs.declared.controller.MicroframePart.TheVariants.{Over, P
 use Rattle.hc_core.specs.declared.controller.ControllerRow.{ControllerRow}
 use Rattle.hc_core.specs.declared.controller.ControllerRow.TheVariants as rows
 use Rattle.hc_core.specs.Controller.{Content, part_row, enter_row, ring_row, hc_step, kind_of, frame_step, walk_step, entered}
-use Rattle.ring_walk.specs.Ring.{Base, base_of}
-use Rattle.driver_parts.specs.Opened.{opening_base}
+use Rattle.ring_laws.specs.Ring.{Base, base_of}
+use Rattle.driver_laws.specs.PartOpened.{opening_base}
 use Rattle.usb_bus.specs.Bus.{Fixed, fixed_of}
 use Rattle.bus_world.specs.World.{World, controller_parts, controller_row, controller_next, kind_next}
 use Rattle.bus_world.specs.Budgets.{moment}
-use Rattle.world_streams.specs.Streaming.{Streams, Standing, HearsBytesNow}
+use Rattle.stream_worlds.specs.Streaming.{Streams, Standing, HearsBytesNow}
 use Rattle.world_bytes.proofs.Hearing.{hears_bytes}
 use Rattle.whole_worlds.specs.Feeding.{GoesOnBeside}
 use Rattle.whole_worlds.proofs.FeedingBeside.{controller_feeds}

@@ -6,12 +6,12 @@ use Rattle.driver_rows.specs.declared.content.Command.TheVariants as unfinished
 use Rattle.driver_rows.specs.DriverContent.{DriverContent}
 use Rattle.driver_rows.specs.Rows.{Parts as DriverParts}
 use Rattle.bus_world.specs.World.{World, driver_parts, driver_next}
-use Rattle.world_streams.specs.Streaming.{Streams, Standing}
+use Rattle.stream_worlds.specs.Streaming.{Streams, Standing}
 use Rattle.chained_transfers.proofs.Events.{event_nothing}
 use Rattle.fed_lends.specs.ToLend.{AreBlank}
 use Rattle.fed_queues.specs.Fed.{IsPublished}
-use Rattle.fed_stores.specs.Stores.{IsAtStore, published_by, parts_then, next_of}
-use Rattle.open_stores.specs.Opens.{AreNamesApart}
+use Rattle.publish_laws.specs.Stores.{IsAtStore, published_by, parts_then, next_of}
+use Rattle.open_laws.specs.Opens.{AreNamesApart}
 use Rattle.whole_worlds.specs.Feeding.{IsFeeding}
 use Rattle.whole_worlds.specs.Whole.{HaveSenders, IsWhole}
 use Rattle.whole_worlds.specs.Laws.{StoreKeepsWhole}

@@ -18,22 +18,22 @@ use Rattle.driver_rows.specs.declared.content.Command.TheVariants as unfinished
 use Rattle.driver_rows.specs.DriverContent.{DriverContent}
 use Rattle.driver_rows.specs.Words.{head_block, opening_head}
 use Rattle.lent_structures.specs.Structures.{StructureSets}
-use Rattle.ring_walk.specs.Hand.{Hand}
-use Rattle.ring_streams.specs.Told.{endpoint_of}
-use Rattle.ring_order.specs.Order.{bytes_of_effect}
-use Rattle.ring_pipes.specs.Bus.{Sender}
-use Rattle.ring_pipes.specs.Pipes.{grown}
-use Rattle.ring_control.specs.Control.{ControlEffect, a_microframe, a_step}
-use Rattle.control_pipes.specs.Events.{ControlGoesOn}
-use Rattle.reported_streams.specs.Reported.{AreReported}
+use Rattle.ring_laws.specs.Hand.{Hand}
+use Rattle.ring_laws.specs.Told.{endpoint_of}
+use Rattle.ring_laws.specs.Order.{bytes_of_effect}
+use Rattle.ring_laws.specs.Bus.{Sender}
+use Rattle.ring_laws.specs.Pipes.{grown}
+use Rattle.controlled_streams.specs.Control.{ControlEffect, a_microframe, a_step}
+use Rattle.controlled_streams.specs.Events.{ControlGoesOn}
+use Rattle.controlled_streams.specs.Reported.{AreReported}
 use Rattle.scripted_streams.specs.Senders.{sender_of}
-use Rattle.driver_parts.specs.Opened.{opening_base}
+use Rattle.driver_laws.specs.PartOpened.{opening_base}
 use Rattle.bus_world.specs.World.{World, controller_parts, controller_next}
-use Rattle.world_streams.specs.Streaming.{Streams, Standing, wired, begins_by, transacts_by}
+use Rattle.stream_worlds.specs.Streaming.{Streams, Standing, wired, begins_by, transacts_by}
 use Rattle.shared_worlds.specs.Working.{IsWorking}
-use Rattle.opened_streams.specs.Unopened.{AreUnopened}
+use Rattle.controlled_streams.specs.Unopened.{AreUnopened}
 use Rattle.chained_transfers.specs.InTurn.{TakesTurns}
-use Rattle.fed_commands.specs.Commands.{QueuesStand}
+use Rattle.fed_lends.specs.Commands.{QueuesStand}
 use Rattle.endpoint_lives.specs.Lives.{any_at}
 
 abbrev pub left_of : Option Sender → List (List ℕ)

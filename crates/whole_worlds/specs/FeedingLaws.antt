@@ -9,10 +9,10 @@ use Rattle.driver_rows.specs.declared.content.Command.TheVariants as unfinished
 use Rattle.driver_rows.specs.declared.rows.DriverRow.{DriverRow}
 use Rattle.driver_rows.specs.declared.rows.DriverRow.TheVariants as rows
 use Rattle.driver_rows.specs.Rows.{driver_row}
-use Rattle.driver_parts.specs.Opened.{is_head}
+use Rattle.driver_laws.specs.PartOpened.{is_head}
 use Rattle.bus_world.specs.World.{World, driver_parts, driver_next, commanded}
 use Rattle.bus_world.specs.Opening.{opening_world}
-use Rattle.world_streams.specs.Streaming.{Streams, Standing, HearsBytesNow}
+use Rattle.stream_worlds.specs.Streaming.{Streams, Standing, HearsBytesNow}
 use Rattle.shared_worlds.specs.Working.{at_opening}
 use Rattle.chained_transfers.specs.Bulk.{OpensBulk}
 use Rattle.whole_worlds.specs.Feeding.{streams_of, IsFeeding, GoesOnBeside, GoesOnAs}

@@ -4,8 +4,8 @@
 --     HarvestFeeds            the law
 use Rattle.std.specs.Prelude.{◌≡◌, ℕ, ◌*◌, Bool, List, [], slice_get, Some, None}
 use Rattle.lent_structures.specs.Structures.{StructureSets}
-use Rattle.ring_walk.specs.Hand.{Hand}
-use Rattle.ring_streams.specs.Told.{Told}
+use Rattle.ring_laws.specs.Hand.{Hand}
+use Rattle.ring_laws.specs.Told.{Told}
 use Rattle.usb_bus.specs.Bus.{Fixed}
 use Rattle.driver_rows.specs.declared.content.Endpoint.{Endpoint}
 use Rattle.driver_rows.specs.declared.rows.DriverRow.TheVariants as rows
@@ -16,10 +16,10 @@ use Rattle.run_owners.specs.Owners.{note_in}
 use Rattle.chained_transfers.specs.Turns.{AreInTurn}
 use Rattle.fed_queues.specs.Places.{AreStillOut, IsMet}
 use Rattle.released_queues.specs.Fronts.{FrontsStand}
-use Rattle.harvest_rows.specs.Outs.{IsOutEarlier}
+use Rattle.harvest_laws.specs.Outs.{IsOutEarlier}
 use Rattle.bus_world.specs.World.{World, driver_parts, driver_next}
-use Rattle.world_streams.specs.Streaming.{Streams, Standing}
-use Rattle.told_queues.specs.Told.{ToldStands}
+use Rattle.stream_worlds.specs.Streaming.{Streams, Standing}
+use Rattle.harvest_laws.specs.Told.{ToldStands}
 use Rattle.whole_worlds.specs.Feeding.{IsFeeding}
 
 abbrev pub PassedAreUntold : Type 0

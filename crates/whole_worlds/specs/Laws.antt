@@ -13,13 +13,13 @@ use Rattle.driver_rows.specs.declared.rows.Found.{Found}
 use Rattle.driver_rows.specs.Rows.{driver_row}
 use Rattle.bus_world.specs.World.{World, driver_parts, driver_next, controller_next, commanded}
 use Rattle.bus_world.specs.Opening.{opening_world}
-use Rattle.world_streams.specs.Streaming.{Streams, Standing}
+use Rattle.stream_worlds.specs.Streaming.{Streams, Standing}
 use Rattle.chained_transfers.specs.Bulk.{OpensBulk, receives}
 use Rattle.fed_lends.specs.ToLend.{IsToBeLent}
-use Rattle.open_lends.specs.Lends.{IsOpenReady}
-use Rattle.open_stores.specs.Opens.{IsOpenLent}
+use Rattle.open_laws.specs.Lends.{IsOpenReady}
+use Rattle.open_laws.specs.Opens.{IsOpenLent}
 use Rattle.walk_members.specs.Reached.{OpensNumbered}
-use Rattle.out_rows.specs.Takers.{takes_of}
+use Rattle.stream_worlds.specs.Takers.{takes_of}
 use Rattle.whole_worlds.specs.Feeding.{streams_of}
 use Rattle.whole_worlds.specs.FeedingLaws.{is_still}
 use Rattle.whole_worlds.specs.Whole.{IsWhole, HasWhole}

@@ -7,11 +7,11 @@ use Rattle.qh_qtd.specs.declared.qtd.Qtd.{Qtd}
 use Rattle.driver_rows.specs.declared.content.Endpoint.{Endpoint}
 use Rattle.run_owners.specs.Owners.{views_of}
 use Rattle.lent_structures.specs.Structures.{Structure, Element, StructureSets}
-use Rattle.queue_parts.specs.Sound.{IsElement}
-use Rattle.spared_streams.specs.Sparing.{SparesHead, SparesElement}
-use Rattle.driver_releases.specs.Extents.{AreInRuns}
+use Rattle.lent_structures.specs.Sound.{IsElement}
+use Rattle.ring_laws.specs.Sparing.{SparesHead, SparesElement}
+use Rattle.driver_laws.specs.Extents.{AreInRuns}
 use Rattle.bus_world.specs.World.{World, driver_next}
-use Rattle.world_streams.specs.Streaming.{Streams, Standing}
+use Rattle.stream_worlds.specs.Streaming.{Streams, Standing}
 use Rattle.released_queues.specs.Fronts.{FrontsStand}
 use Rattle.standing_fronts.specs.Reaching.{Reaches}
 use Rattle.fed_lends.specs.ToLend.{IsToBeLent, AreBlank, lent_now}

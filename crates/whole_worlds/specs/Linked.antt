@@ -9,9 +9,9 @@ use Rattle.driver_rows.specs.Opening.{opening}
 use Rattle.driver_rows.specs.Words.{queue_head}
 use Rattle.run_owners.specs.Owners.{runs_of_endpoint}
 use Rattle.run_owners.specs.Worked.{bulk}
-use Rattle.lent_structures.specs.Samples.{nothing}
+use Rattle.lent_structures.specs.StructureSamples.{nothing}
 use Rattle.lent_structures.specs.Structures.{StructureSets}
-use Rattle.driver_lends.specs.Opened.{opened_parts}
+use Rattle.driver_laws.specs.LendOpened.{opened_parts}
 
 abbrev pub new_one : Endpoint
 new_one = new_endpoint bulk 130 133

@@ -23,7 +23,7 @@ use Rattle.right_reports.specs.WorldReport.{report_of}
 use Rattle.right_reports.specs.Ins.{AreRightInStreams}
 use Rattle.taken_reports.specs.Taken.{AreTakenStreams}
 use Rattle.chained_transfers.specs.Bulk.{BulkOnly}
-use Rattle.out_rows.specs.Takers.{takes_of}
+use Rattle.stream_worlds.specs.Takers.{takes_of}
 use Rattle.whole_worlds.specs.Feeding.{streams_of}
 use Rattle.whole_worlds.specs.Whole.{HasWhole}
 

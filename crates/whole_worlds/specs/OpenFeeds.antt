@@ -4,11 +4,11 @@
 --     LinkFeeds            the law
 use Rattle.std.specs.Prelude.{◌≡◌, ℕ, Bool, true}
 use Rattle.usb_bus.specs.Bus.{Fixed}
-use Rattle.ring_streams.specs.Told.{Endpoint as Told}
+use Rattle.ring_laws.specs.Told.{Endpoint as Told}
 use Rattle.bus_world.specs.World.{World, driver_next}
-use Rattle.world_streams.specs.Streaming.{Streams, Standing}
+use Rattle.stream_worlds.specs.Streaming.{Streams, Standing}
 use Rattle.chained_transfers.specs.Bulk.{receives}
-use Rattle.open_stores.specs.Opens.{IsOpenLent, AreNamesApart}
+use Rattle.open_laws.specs.Opens.{IsOpenLent, AreNamesApart}
 use Rattle.whole_worlds.specs.Feeding.{IsFeeding}
 
 pub record FeedsOneMore (fixed : Fixed) (x : Streams) (new : World) : Type 0 where

@@ -18,8 +18,8 @@ use Rattle.driver_rows.specs.Words.{head_block}
 use Rattle.ring_members.specs.Links.{link_in, members, IsChain}
 use Rattle.in_place.specs.InPlace.{IsInPlace}
 use Rattle.refusal_laws.specs.Refusals.{GoesOn}
-use Rattle.ring_walk.specs.Ring.{base_of}
-use Rattle.driver_parts.specs.Opened.{opening_base}
+use Rattle.ring_laws.specs.Ring.{base_of}
+use Rattle.driver_laws.specs.PartOpened.{opening_base}
 use Rattle.usb_bus.specs.Bus.{Fixed, fixed_of}
 use Rattle.bus_world.specs.World.{World, kind_next, controller_next}
 use Rattle.bus_world.specs.Budgets.{moment}

@@ -11,12 +11,12 @@ use Rattle.driver_rows.specs.declared.content.Endpoint.{Endpoint}
 use Rattle.driver_rows.specs.declared.content.Command.TheVariants as unfinished
 use Rattle.driver_rows.specs.DriverContent.{DriverContent}
 use Rattle.chained_transfers.specs.Bulk.{receives}
-use Rattle.ring_pipes.specs.Pipes.{AreEndpoints}
+use Rattle.ring_laws.specs.Pipes.{AreEndpoints}
 use Rattle.scripted_takers.specs.Takers.{taker_of}
 use Rattle.usb_bus.specs.Bus.{Fixed}
 use Rattle.bus_world.specs.World.{World}
-use Rattle.world_streams.specs.Streaming.{Streams, Standing, wired}
-use Rattle.out_rows.specs.Outs.{AreOutPiped, AreUntaken}
+use Rattle.stream_worlds.specs.Streaming.{Streams, Standing, wired}
+use Rattle.stream_worlds.specs.Outs.{AreOutPiped, AreUntaken}
 use Rattle.whole_worlds.specs.Feeding.{heads_of}
 
 abbrev pub outs_of : (ℕ → Bool) → (ℕ → Bool) → ℕ → Bool

@@ -14,18 +14,18 @@ use Rattle.driver_rows.specs.declared.content.Command.TheVariants as unfinished
 use Rattle.driver_rows.specs.DriverContent.{DriverContent}
 use Rattle.run_owners.specs.Owners.{views_of}
 use Rattle.lent_structures.specs.Structures.{StructureSets}
-use Rattle.ring_streams.specs.Told.{Endpoint as Told}
-use Rattle.driver_releases.specs.Extents.{AreInRuns}
+use Rattle.ring_laws.specs.Told.{Endpoint as Told}
+use Rattle.driver_laws.specs.Extents.{AreInRuns}
 use Rattle.fed_lends.specs.ToLend.{IsToBeLent, AreBlank}
 use Rattle.fed_queues.specs.Places.{IsMet}
-use Rattle.open_lends.specs.Lends.{IsOpenReady}
-use Rattle.open_stores.specs.Opens.{IsOpenLent, AreNamesApart}
+use Rattle.open_laws.specs.Lends.{IsOpenReady}
+use Rattle.open_laws.specs.Opens.{IsOpenLent, AreNamesApart}
 use Rattle.standing_fronts.specs.Reaching.{Reaches}
-use Rattle.told_queues.specs.Told.{ToldStands}
+use Rattle.harvest_laws.specs.Told.{ToldStands}
 use Rattle.byte_answers.specs.Bytes.{IsByteBus}
 use Rattle.usb_bus.specs.Bus.{Fixed}
 use Rattle.bus_world.specs.World.{World}
-use Rattle.world_streams.specs.Streaming.{Streams, Standing}
+use Rattle.stream_worlds.specs.Streaming.{Streams, Standing}
 use Rattle.whole_worlds.specs.Feeding.{IsFeeding}
 use Rattle.whole_worlds.specs.Taking.{IsTaking, HaveSides, HaveTakers}
 use Rattle.chained_transfers.specs.Leaving.{NothingLeaves}

@@ -14,7 +14,7 @@ use Rattle.bus_world.specs.World.{World}
 use Rattle.bus_world.specs.Opening.{opening_world}
 use Rattle.bus_world.specs.Orders.{at_place, orders_of}
 use Rattle.bus_world.specs.Budgets.{moment}
-use Rattle.world_streams.specs.Streaming.{transacts_by, wired, HearsBytesNow}
+use Rattle.stream_worlds.specs.Streaming.{transacts_by, wired, HearsBytesNow}
 use Rattle.world_bytes.proofs.Turning.{run_bytes, opened_bytes}
 
 told_bytes : (fixed : Fixed) (w : World) (after : Wired) (ask : Ask) (out : List ℕ) (pid : Pid) (bs : List ℕ) → IsByteBus w.bus → transacts_by (wired fixed w) ask out (Bytes pid bs) after → (i : ℕ) → slice_index bs i < 256

@@ -10,7 +10,7 @@ ghost use Rattle.bus_world.specs.World.{World, next, commanded};
 ghost use Rattle.bus_world.specs.Opening.{opening_world};
 ghost use Rattle.bus_world.specs.Orders.{OrderedWorld, ticks};
 ghost use Rattle.bus_world.specs.Budgets.{moment};
-ghost use Rattle.world_streams.specs.Streaming.{HearsBytesNow};
+ghost use Rattle.stream_worlds.specs.Streaming.{HearsBytesNow};
 
 /// The bus of a world says bytes from the opening on; it is left so by each event of the driver and of the controller, and by each command.
 pub fn each_event_keeps_bytes()

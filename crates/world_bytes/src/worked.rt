@@ -5,7 +5,7 @@ ghost use Rattle.usb_bus.specs.Samples.{script};
 ghost use Rattle.byte_answers.specs.Bytes.{IsByteBus};
 ghost use Rattle.bus_world.specs.Opening.{opening_world};
 ghost use Rattle.bus_world.specs.Budgets.{moment};
-ghost use Rattle.world_streams.specs.Streaming.{HearsBytesNow};
+ghost use Rattle.stream_worlds.specs.Streaming.{HearsBytesNow};
 
 /// It hears bytes at each moment.
 pub fn three_bytes()

@@ -1,21 +1,21 @@
 -- An event of the controller in a world leaves the streams of both ways so.
 use Rattle.std.proofs.Common.{ℕ, Bool}
 use Rattle.usb_bus.specs.Bus.{Fixed}
-use Rattle.ring_walk.specs.Ring.{Base}
-use Rattle.ring_pipes.specs.Pipes.{grown}
-use Rattle.control_pipes.specs.Events.{ControlGoesOn}
-use Rattle.control_pipes.proofs.Piping.{control_pipes}
+use Rattle.ring_laws.specs.Ring.{Base}
+use Rattle.ring_laws.specs.Pipes.{grown}
+use Rattle.controlled_streams.specs.Events.{ControlGoesOn}
+use Rattle.controlled_streams.proofs.Piping.{control_pipes}
 use Rattle.scripted_streams.specs.Senders.{sender_of}
 use Rattle.scripted_streams.proofs.Asking.{scripted_bus}
 use Rattle.scripted_streams.proofs.Beginning.{scripted_begins}
-use Rattle.reported_streams.proofs.Reporting.{event_reported}
+use Rattle.controlled_streams.proofs.Reporting.{event_reported}
 use Rattle.scripted_takers.specs.Takers.{taker_of}
 use Rattle.scripted_takers.proofs.Asking.{scripted_out_bus}
 use Rattle.scripted_takers.proofs.Beginning.{scripted_out_begins}
-use Rattle.control_out_pipes.proofs.Outs.{event_keeps_stream}
+use Rattle.controlled_streams.proofs.Outs.{event_keeps_stream}
 use Rattle.bus_world.specs.World.{World, controller_parts, controller_next}
-use Rattle.world_streams.specs.Streaming.{begins_by, transacts_by, wired, Streams, Standing, IsStreaming, HearsBytesNow}
-use Rattle.world_streams.proofs.Turning.{world_has_row}
+use Rattle.stream_worlds.specs.Streaming.{begins_by, transacts_by, wired, Streams, Standing, IsStreaming, HearsBytesNow}
+use Rattle.stream_worlds.proofs.StreamTurning.{world_has_row}
 use Rattle.world_out_streams.specs.Outs.{OutStreams, AreOutStreams, StaysBothWays}
 
 pub both_ways : (fixed : Fixed) (base : Base) (member : ℕ → Bool) (x : Streams) (y : OutStreams) (s : Standing) (w : World) → HearsBytesNow fixed w → IsStreaming fixed base member x s w → AreOutStreams fixed member y s.parts s.hand w

@@ -5,13 +5,13 @@
 use Rattle.std.specs.Prelude.{◌≡◌, ℕ, Bool, true, List}
 use Rattle.usb_bus.specs.Bus.{Fixed}
 use Rattle.lent_structures.specs.Structures.{StructureSets}
-use Rattle.ring_walk.specs.Hand.{Hand}
-use Rattle.ring_walk.specs.Ring.{Base}
-use Rattle.ring_streams.specs.Told.{Endpoint}
-use Rattle.control_out_pipes.specs.Outs.{IsOutStream}
+use Rattle.ring_laws.specs.Hand.{Hand}
+use Rattle.ring_laws.specs.Ring.{Base}
+use Rattle.ring_laws.specs.Told.{Endpoint}
+use Rattle.controlled_streams.specs.Outs.{IsOutStream}
 use Rattle.scripted_takers.specs.Takers.{taker_of}
 use Rattle.bus_world.specs.World.{World}
-use Rattle.world_streams.specs.Streaming.{wired, Streams, Standing, IsStreaming}
+use Rattle.stream_worlds.specs.Streaming.{wired, Streams, Standing, IsStreaming}
 
 pub record OutStreams : Type 0 where
   pub stream : ℕ → ℕ → Bool

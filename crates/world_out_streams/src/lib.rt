@@ -6,9 +6,9 @@
 
 ghost use Rattle.std.specs.Prelude.{ℕ, Bool};
 ghost use Rattle.usb_bus.specs.Bus.{Fixed};
-ghost use Rattle.ring_walk.specs.Ring.{Base};
+ghost use Rattle.ring_laws.specs.Ring.{Base};
 ghost use Rattle.bus_world.specs.World.{World, controller_next};
-ghost use Rattle.world_streams.specs.Streaming.{Streams, Standing, IsStreaming, HearsBytesNow};
+ghost use Rattle.stream_worlds.specs.Streaming.{Streams, Standing, IsStreaming, HearsBytesNow};
 ghost use Rattle.world_out_streams.specs.Outs.{OutStreams, AreOutStreams, StaysBothWays};
 
 /// Each event of the controller leaves the streams of both ways so.

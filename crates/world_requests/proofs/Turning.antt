@@ -13,14 +13,14 @@ use Rattle.hc_core.specs.declared.controller.ControllerRow.{ControllerRow}
 use Rattle.hc_core.specs.declared.controller.ControllerRow.TheVariants as rows
 use Rattle.hc_core.specs.Controller.{Content, microframe_row, HasRow, entered, frame_place, walk_place}
 use Rattle.usb_bus.specs.Bus.{Bus, Wired, Fixed}
-use Rattle.ring_walk.specs.Ring.{Base}
+use Rattle.ring_laws.specs.Ring.{Base}
 use Rattle.control_requests.specs.Events.{ControlWindowsGoOn}
 use Rattle.control_requests.proofs.Keeping.{control_windows}
 use Rattle.scripted_requests.specs.Controls.{control_of, transacts_by, begins_by}
 use Rattle.scripted_requests.proofs.Asking.{scripted_control}
 use Rattle.scripted_requests.proofs.Beginning.{scripted_begins}
 use Rattle.lent_structures.specs.Structures.{StructureSets}
-use Rattle.ring_walk.specs.Hand.{Hand}
+use Rattle.ring_laws.specs.Hand.{Hand}
 use Rattle.ring_requests.specs.Windows.{Queue, sent_at, Lines, HasEnded, IsActedOnce}
 use Rattle.ring_requests.proofs.Windows.{window_ended}
 use Rattle.bus_world.specs.World.{World, frame_by, sent_by, sends_by, walk_by, turned_by, controller_parts, controller_row, controller_next}

@@ -8,10 +8,10 @@
 use Rattle.std.specs.Prelude.{ℕ, Bool, Option}
 use Rattle.usb_bus.specs.Bus.{Wired, Fixed}
 use Rattle.lent_structures.specs.Structures.{StructureSets}
-use Rattle.ring_walk.specs.Hand.{Hand}
-use Rattle.ring_walk.specs.Ring.{Base}
-use Rattle.ring_walk.specs.Effects.{AreBytesHeard}
-use Rattle.ring_control.specs.Control.{IsOn, IsControlled}
+use Rattle.ring_laws.specs.Hand.{Hand}
+use Rattle.ring_laws.specs.Ring.{Base}
+use Rattle.ring_laws.specs.Effects.{AreBytesHeard}
+use Rattle.controlled_streams.specs.Control.{IsOn, IsControlled}
 use Rattle.ring_requests.specs.Windows.{Queue, Lines, AreSent, AreWindows, Step, stepped, HaltedStay}
 use Rattle.scripted_requests.specs.Controls.{control_of, transacts_by}
 use Rattle.bus_world.specs.World.{World, controller_parts}

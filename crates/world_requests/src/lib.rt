@@ -8,8 +8,8 @@
 ghost use Rattle.std.specs.Prelude.{◌≡◌, ℕ, ◌<◌, Bool, true};
 ghost use Rattle.lent_structures.specs.Structures.{StructureSets};
 ghost use Rattle.usb_bus.specs.Bus.{Fixed};
-ghost use Rattle.ring_walk.specs.Hand.{Hand};
-ghost use Rattle.ring_walk.specs.Ring.{Base};
+ghost use Rattle.ring_laws.specs.Hand.{Hand};
+ghost use Rattle.ring_laws.specs.Ring.{Base};
 ghost use Rattle.ring_requests.specs.Windows.{Queue, sent_at, Lines, HasEnded, IsActedOnce};
 ghost use Rattle.bus_world.specs.World.{World, controller_next};
 ghost use Rattle.world_requests.specs.Requesting.{IsRequesting, HearsBytesNow, StaysRequesting};

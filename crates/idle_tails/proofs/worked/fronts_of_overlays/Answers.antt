@@ -1,7 +1,7 @@
 use Rattle.std.proofs.Common.{◌≡◌, ℕ, sym, arith}
 use Rattle.std.proofs.lemmas.Bool.{true≢false}
 use Rattle.link_words.specs.declared.kinds.QtdLink.TheVariants as qtd_links
-use Rattle.ring_fronts.specs.Front.{IsFront}
+use Rattle.ring_laws.specs.Front.{IsFront}
 use Rattle.idle_tails.specs.Worked.{halted, at_rest, goes_on}
 use Rattle.idle_tails.proofs.worked.fronts_of_overlays.Goals as goal
 

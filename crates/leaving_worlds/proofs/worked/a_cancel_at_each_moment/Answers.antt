@@ -1,7 +1,7 @@
 use Rattle.usb_bus.specs.Bus.{fixed_of}
 use Rattle.declared_endpoints.specs.Samples.{second}
 use Rattle.bus_world.specs.Budgets.{moment}
-use Rattle.world_streams.specs.Streaming.{Streams}
+use Rattle.stream_worlds.specs.Streaming.{Streams}
 use Rattle.whole_worlds.specs.Samples.{one_get}
 use Rattle.whole_worlds.specs.Feeding.{streams_of}
 use Rattle.whole_worlds.proofs.Running.{scripts_stay_whole}

@@ -3,7 +3,7 @@ use Rattle.usb_bus.specs.Bus.{fixed_of}
 use Rattle.usb_base.specs.declared.commands.Cmd.TheVariants as commands
 use Rattle.driver_rows.specs.Offers.{IsOffered}
 use Rattle.declared_endpoints.specs.Samples.{second}
-use Rattle.driver_parts.specs.Opened.{is_head}
+use Rattle.driver_laws.specs.PartOpened.{is_head}
 use Rattle.bus_world.specs.Opening.{opening_world}
 use Rattle.shared_worlds.specs.Working.{at_opening}
 use Rattle.whole_worlds.specs.Samples.{one_get}

@@ -1,5 +1,5 @@
 use Rattle.std.proofs.Common.{ap}
-use Rattle.ring_walk.specs.Ring.{Base}
+use Rattle.ring_laws.specs.Ring.{Base}
 use Rattle.whole_worlds.specs.Samples.{one_get}
 use Rattle.whole_worlds.proofs.Sampling.{get_is_bulk}
 use Rattle.whole_worlds.proofs.PlacedRunning.{scripts_run_in_place}

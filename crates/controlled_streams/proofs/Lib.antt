@@ -1,0 +1,12 @@
+pub mod Controlling
+pub mod Piping
+pub mod Reporting
+pub mod Waiting
+pub mod Beginning
+pub mod Alike
+pub mod Storing
+pub mod Streams
+pub mod Returning
+pub mod Outs
+pub mod Keeping
+pub mod Events

@@ -1,0 +1,10 @@
+pub mod Control
+pub mod Events
+pub mod Reported
+pub mod Unopened
+pub mod Opened
+pub mod Storing
+pub mod PublishedLaws
+pub mod Returned
+pub mod Outs
+pub mod Kept

@@ -1,6 +1,0 @@
-pub mod Queues
-pub mod Lending
-pub mod Accepting
-pub mod Both
-pub mod Opening
-pub mod Others

@@ -1,4 +1,0 @@
-pub mod Written
-pub mod Lent
-pub mod Laws
-pub mod Worked

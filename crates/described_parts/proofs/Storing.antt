@@ -1,0 +1,127 @@
+-- What rows of the driver leave of the frames: readings, and stores of the frame list.
+use Rattle.std.proofs.Common.{◌≡◌, ℕ, ◌+◌, ◌*◌, ◌<◌, Bool, true, false, nat_eq, if◌then◌else◌, inl, inr, List, set, length, Option, Some, ap, refl, sym, subst, ◌∙◌, arith}
+use Rattle.std.specs.Prelude.{slice_set, option_map}
+use Rattle.std.proofs.lemmas.List.{get_or-set_same, length-set}
+use Rattle.std.proofs.lemmas.Option.{slice_get-map}
+use Rattle.std.proofs.lemmas.Bool.{eq-eqb}
+use Rattle.word_mem.specs.Memory.{Mem, with_word}
+use Rattle.link_words.specs.declared.fields.LinkBits.{LinkBits}
+use Rattle.link_words.specs.Links.{link_of, link_read, link_fields, IsLinkWord}
+use Rattle.frame_chains.specs.declared.boundary.Boundary.{Boundary}
+use Rattle.frame_chains.specs.declared.boundary.Boundary.TheVariants.{Unread, Since, Seen}
+use Rattle.frame_chains.specs.Boundary.{frame_number, after_reading}
+use Rattle.periodic_rows.specs.declared.content.Removal.{Removal}
+use Rattle.periodic_rows.specs.Periodic.{read_once, read_again}
+use Rattle.driver_rows.specs.declared.content.Endpoint.{Endpoint}
+use Rattle.driver_rows.specs.declared.content.Transfer.{Transfer}
+use Rattle.driver_rows.specs.declared.rows.DriverRow.TheVariants as rows
+use Rattle.driver_rows.specs.DriverContent.{DriverContent}
+use Rattle.driver_rows.specs.Rows.{Parts, after_driver_row}
+use Rattle.hc_core.specs.Controller.{Content}
+use Rattle.lent_structures.specs.Structures.{Structure, Table, Isochronous, SplitIsochronous, StructureSets, put, Tells}
+use Rattle.lent_structures.proofs.Names.{put_same}
+use Rattle.lent_structures.proofs.Writing.{word_put_table}
+use Rattle.ring_laws.specs.Hand.{Hand}
+use Rattle.ring_laws.specs.Ring.{Base}
+use Rattle.controlled_streams.specs.Control.{FrameList}
+use Rattle.frame_walk.specs.Met.{Kind, LeadsTo, IsMetAs}
+use Rattle.frame_walk.specs.FrameHand.{FrameHand}
+use Rattle.frame_control.specs.Both.{RunsBoth}
+use Rattle.frame_stores.specs.Stores.{HasLink, linked, frame_linked}
+use Rattle.frame_stores.proofs.Framing.{leads_further}
+use Rattle.frame_stores.proofs.Linking.{link_told, fields_range, fields_word, stored_leads}
+use Rattle.frame_stores.proofs.Beside.{both_further, both_list_stored, both_word_stored}
+use Rattle.described_parts.specs.Described.{HasDescriptor}
+use Rattle.described_parts.specs.Meeting.{kind_of_descriptor, standing, met}
+use Rattle.described_parts.specs.Recent.{IsOpenAt, IsRemovedSince, DrivesFrames}
+use Rattle.described_parts.specs.RowLaws.{HasFrames}
+use Rattle.described_parts.specs.Rows.{IsMetBeside}
+use Rattle.described_parts.proofs.Closing.{standing_closed, list_leads, standing_met}
+
+-- ---- readings
+
+-- one more reading of the same frame
+same_frame : (index first : ℕ) (b : Bool) → first ≡ frame_number index → nat_eq (frame_number index) first ≡ b → IsOpenAt index (if b then Since first else Seen)
+same_frame index first true still is = still
+same_frame index first false still is = let e : false ≡ true = sym is ∙ eq-eqb (frame_number index) first (sym still) in cc
+
+open_again : (index : ℕ) (b : Boundary) → IsOpenAt index b → IsOpenAt index (after_reading index b)
+open_again index Unread still = refl
+open_again index (Since first) still = same_frame index first (nat_eq (frame_number index) first) still refl
+open_again index Seen still = absurd still
+
+removed_again : (xs : List Endpoint) (ts : List Transfer) (rs : List Removal) (index n : ℕ) → IsRemovedSince xs ts rs index n → IsRemovedSince xs ts (read_again index rs) index n
+removed_again xs ts rs index n r = record {
+  place = r.place;
+  removal = read_once index r.removal;
+  here = slice_get-map (read_once index) rs r.place ∙ ap (option_map (read_once index)) r.here;
+  what = r.what;
+  within = open_again index r.removal.boundary r.within;
+}
+
+pub frame_read : (base : Base) (member : ℕ → Bool) (recent : ℕ → Option Kind) (descs parts : StructureSets) (hand : Hand) (frame : FrameHand) (c : Content) (index : ℕ) (p : Parts) → DrivesFrames base member recent descs parts hand frame c index p.driver → DrivesFrames base member recent descs parts hand frame c index (after_driver_row (rows.ReadFrame index) p).driver
+frame_read base member recent descs parts hand frame c index p k = record {
+  runs = k.runs;
+  recent_are = λ n kind on. elim (k.recent_are n kind on) [
+    | inl since ↦ inl (removed_again p.driver.endpoints p.driver.transfers p.driver.periodic.removals index n since)
+    | inr now ↦ inr now
+  ];
+  described = k.described;
+}
+
+pub status_read : (base : Base) (member : ℕ → Bool) (recent : ℕ → Option Kind) (descs parts : StructureSets) (hand : Hand) (frame : FrameHand) (c : Content) (index : ℕ) (p : Parts) (heard : Bool) → DrivesFrames base member recent descs parts hand frame c index p.driver → DrivesFrames base member recent descs parts hand frame c index (after_driver_row (rows.ReadStatus heard) p).driver
+status_read base member recent descs parts hand frame c index p heard k = record { runs = k.runs; recent_are = k.recent_are; described = k.described }
+
+pub advance_cleared : (base : Base) (member : ℕ → Bool) (recent : ℕ → Option Kind) (descs parts : StructureSets) (hand : Hand) (frame : FrameHand) (c : Content) (index : ℕ) (p : Parts) → DrivesFrames base member recent descs parts hand frame c index p.driver → DrivesFrames base member recent descs parts hand frame c index (after_driver_row rows.ClearAdvance p).driver
+advance_cleared base member recent descs parts hand frame c index p k = record { runs = k.runs; recent_are = k.recent_are; described = k.described }
+
+pub bell_rung : (base : Base) (member : ℕ → Bool) (recent : ℕ → Option Kind) (descs parts : StructureSets) (hand : Hand) (frame : FrameHand) (c : Content) (index : ℕ) (p : Parts) → DrivesFrames base member recent descs parts hand frame c index p.driver → DrivesFrames base member recent descs parts hand frame c index (after_driver_row rows.RingBell p).driver
+bell_rung base member recent descs parts hand frame c index p k = record { runs = k.runs; recent_are = k.recent_are; described = k.described }
+
+-- ---- stores
+
+-- the list leads among those that stand once it was stored
+element_led : (base : Base) (parts : StructureSets) (m : Mem) (d : DriverContent) (k v : ℕ) → Tells m parts → base.periodic_list_base ≡ 32 * d.periodic.list.list → HasFrames (with_word m (base.periodic_list_base + 4 * k) v) d → (list : FrameList parts base) → k < 1024 → LeadsTo (standing d) (link_read v)
+element_led base parts m d k v told is frames list low =
+    let b : ℕ = base.periodic_list_base in
+    let below : k < length list.words = (let size = list.size in omega (arith, low, size)) in
+    let words : List ℕ = set list.words k v in
+    let now : StructureSets = put parts b b (Table words) in
+    let after : Tells (with_word m (b + 4 * k) v) now = word_put_table m parts b b list.words k v told list.here below in
+    let there : FrameList now base = record { words = words; here = put_same parts b b (Table words); size = length-set list.words k v ∙ list.size } in
+    subst (λ (w : ℕ). LeadsTo (standing d) (link_read w)) (get_or-set_same list.words k v 0 below)
+    (list_leads (with_word m (b + 4 * k) v) d now base frames after is there k low)
+
+pub element_meets : (base : Base) (member : ℕ → Bool) (recent later : ℕ → Option Kind) (parts : StructureSets) (hand : Hand) (frame : FrameHand) (c : Content) (d new : DriverContent) (k v : ℕ) → RunsBoth base member (met d recent) parts hand frame c → IsMetBeside member (met d recent) (met new later) parts → base.periodic_list_base ≡ 32 * new.periodic.list.list → HasFrames (with_word c.memory (base.periodic_list_base + 4 * k) v) new → (list : FrameList parts base) → k < 1024 → RunsBoth base member (met new later) (put parts base.periodic_list_base base.periodic_list_base (Table (slice_set list.words k v))) hand frame (record c { memory = with_word c.memory (base.periodic_list_base + 4 * k) v })
+element_meets base member recent later parts hand frame c d new k v runs beside is frames list low =
+    both_list_stored base member (met new later) parts hand frame c k v (both_further base member (met d recent) (met new later) parts hand frame c runs beside.further beside.sound) list low
+    (leads_further (standing new) (met new later) (link_read v) (standing_met new later) (element_led base parts c.memory new k v runs.ring.tells is frames list low))
+
+link_led : (parts : StructureSets) (m : Mem) (d : DriverContent) (n v : ℕ) (s : Structure) (kind : Kind) → Tells m parts → HasFrames (with_word m n v) d → parts n n ≡ Some s → HasLink s → IsLinkWord v → standing d n ≡ Some kind → LeadsTo (standing d) (link_read v)
+link_led parts m d n v s kind told frames here has is on =
+    let l : LinkBits = link_fields (link_read v) in
+    let now : StructureSets = put parts n n (linked l s) in
+    let after : Tells (with_word m n v) now
+    = subst (λ (w : ℕ). Tells (with_word m n w) now) (fields_word v is) (link_told m parts n n s l told here has (fields_range v)) in
+    subst (LeadsTo (standing d)) (stored_leads (link_read v) s has) (standing_closed (with_word m n v) d now frames after n kind (linked l s) on (put_same parts n n (linked l s)))
+
+pub link_meets : (base : Base) (member : ℕ → Bool) (recent later : ℕ → Option Kind) (parts : StructureSets) (hand : Hand) (frame : FrameHand) (c : Content) (d new : DriverContent) (n v : ℕ) (s : Structure) (kind : Kind) → RunsBoth base member (met d recent) parts hand frame c → IsMetBeside member (met d recent) (met new later) parts → HasFrames (with_word c.memory n v) new → parts n n ≡ Some s → HasLink s → IsLinkWord v → member n ≡ false → standing new n ≡ Some kind → RunsBoth base member (met new later) (put parts n n (linked (link_fields (link_read v)) s)) hand (frame_linked n (link_fields (link_read v)) frame) (record c { memory = with_word c.memory n v })
+link_meets base member recent later parts hand frame c d new n v s kind runs beside frames here has is off on =
+    both_word_stored base member (met new later) parts hand frame c n s v (both_further base member (met d recent) (met new later) parts hand frame c runs beside.further beside.sound) here has is off
+    (λ k met_there. leads_further (standing new) (met new later) (link_read v) (standing_met new later) (link_led parts c.memory new n v s kind runs.ring.tells frames here has is on))
+
+-- ---- descriptors
+
+pub descriptor_met : (m : Mem) (d : DriverContent) (recent : ℕ → Option Kind) (parts : StructureSets) (n : ℕ) (split : Bool) → HasFrames m d → Tells m parts → standing d n ≡ Some (kind_of_descriptor split) → HasDescriptor split (parts n) n → IsMetAs (met d recent) n (parts n) (kind_of_descriptor split)
+descriptor_met m d recent parts n true frames told on k = record {
+  sitd = k.sitd;
+  here = k.here;
+  link = leads_further (standing d) (met d recent) (link_of k.sitd.link) (standing_met d recent) (standing_closed m d parts frames told n (kind_of_descriptor true) (SplitIsochronous k.sitd) on k.here);
+  bytes = k.bytes;
+}
+descriptor_met m d recent parts n false frames told on k = record {
+  itd = k.itd;
+  here = k.here;
+  link = leads_further (standing d) (met d recent) (link_of k.itd.link) (standing_met d recent) (standing_closed m d parts frames told n (kind_of_descriptor false) (Isochronous k.itd) on k.here);
+  slots = k.slots;
+}

@@ -1,0 +1,17 @@
+pub mod Inventory
+pub mod Driven
+pub mod PartOpened
+pub mod PartLaws
+pub mod AcceptLaws
+pub mod LendOpened
+pub mod Linked
+pub mod Beside
+pub mod Published
+pub mod Written
+pub mod Pieces
+pub mod TransferLaws
+pub mod TransferWorked
+pub mod Leaving
+pub mod Extents
+pub mod Released
+pub mod Following

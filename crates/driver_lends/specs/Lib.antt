@@ -1,4 +1,0 @@
-pub mod Opened
-pub mod Linked
-pub mod Beside
-pub mod Published

@@ -1,6 +1,0 @@
-//! The lend of new structures over a ring that a driver drives (EHCI 1.0, 4.8.1 and 4.10).
-//!
-//! The crate has no code of its own: each function is a law over the definitions of `driver_parts`, and its body is empty.
-#![tactic(auto)]
-
-pub mod laws;

@@ -1,9 +1,0 @@
-pub mod Slots
-pub mod Lent
-pub mod Accepting
-pub mod Sorts
-pub mod Viewing
-pub mod Quiet
-pub mod Storing
-pub mod Opening
-pub mod Offered

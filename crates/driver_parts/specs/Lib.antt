@@ -1,4 +1,0 @@
-pub mod Inventory
-pub mod Driven
-pub mod Opened
-pub mod Laws

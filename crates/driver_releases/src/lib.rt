@@ -1,7 +1,0 @@
-//! A driver gives back the blocks of its transfers, while the controller walks the ring (EHCI 1.0, 4.10).
-//!
-//! The crate has no code of its own: each function is a law over the definitions of `driver_parts`, and its body is empty.
-#![tactic(auto)]
-
-pub mod laws;
-pub mod worked;

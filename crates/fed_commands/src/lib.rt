@@ -1,6 +1,0 @@
-//! Accepted commands leave what is fed of each endpoint's queue (EHCI 1.0, 4.8 and 4.10).
-//!
-//! The crate has no code of its own: each function is a law over the definitions of `fed_queues`, and its body is empty.
-#![tactic(auto)]
-
-pub mod laws;

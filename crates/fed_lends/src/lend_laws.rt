@@ -1,0 +1,35 @@
+//! The laws.
+ghost use Rattle.fed_lends.specs.Streams.{LendLeavesReports, LendEndsQueue, LendLeavesPipes};
+ghost use Rattle.fed_lends.specs.LendLaws.{LendRowGoesOn};
+ghost use Rattle.fed_lends.specs.Accepted.{AskedIsToBeLent, ToBeLentStays, OpeningIsBlank, AskedIsBlank, OpenIsBlank};
+ghost use Rattle.std.specs.Prelude.{ℕ, Option};
+ghost use Rattle.ring_laws.specs.Bus.{Sender};
+
+use usb_base::Wire;
+
+/// Once a transfer is lent, its qTDs but the first are out too: they come after all others, and no bytes are told of them. So what was
+/// reported, and what is still to be harvested, are the packets taken, as before.
+pub fn a_lend_leaves_reports()
+    ensures reports { LendLeavesReports }
+    ensures ends { LendEndsQueue }
+{}
+
+/// Both sides of each pipe agree as before.
+pub fn a_lend_leaves_pipes<W: Wire>()
+    ensures { (sender : W → ℕ → ℕ → Option Sender) → LendLeavesPipes sender }
+{}
+
+/// The row of a driver that lends a get or a put: the ring goes on, both sides of each pipe agree, what was reported is right, and each queue is fed.
+pub fn a_lend_row_goes_on<W: Wire>()
+    ensures { (sender : W → ℕ → ℕ → Option Sender) → LendRowGoesOn sender }
+{}
+
+/// Once a get or a put was accepted it is to be lent; the controller leaves it. Of a qTD that asks for no bytes no buffer is noted: so it is of a driver that was
+/// just built, and each command that is accepted leaves it so.
+pub fn a_transfer_is_to_be_lent()
+    ensures accepted { AskedIsToBeLent }
+    ensures stays { ToBeLentStays }
+    ensures opening { OpeningIsBlank }
+    ensures asked { AskedIsBlank }
+    ensures opens { OpenIsBlank }
+{}

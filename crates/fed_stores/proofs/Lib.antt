@@ -1,5 +1,0 @@
-pub mod Outs
-pub mod Apart
-pub mod Linked
-pub mod Feeding
-pub mod Storing

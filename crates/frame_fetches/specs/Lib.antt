@@ -1,2 +1,0 @@
-pub mod Fetches
-pub mod Samples

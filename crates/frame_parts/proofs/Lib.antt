@@ -1,4 +1,0 @@
-pub mod Queues
-pub mod Hands
-pub mod Sampled
-pub mod Turning

@@ -1,5 +1,0 @@
-pub mod Met
-pub mod FrameHand
-pub mod Frame
-pub mod FrameEffects
-pub mod Samples

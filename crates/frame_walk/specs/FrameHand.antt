@@ -1,0 +1,59 @@
+-- What the walk of the frames has in hand, told by what stands in memory (EHCI 1.0, 4.6, 4.7.1, 4.10 and 4.12.3).
+--     ItdCopy, SitdCopy       the copy of an iTD or of a siTD, and what stands in memory now
+--     FrameHand               nothing; the copy of a queue head, with how many transactions were made in the visit; one whose transaction isn't written
+--                             back; the copy of an iTD; the copy of a siTD
+--     frame_held hand         the same as the walk has it
+--     queue_hand hand         the same as the walk of a ring would have it: nothing but a queue head
+--     fetched_copy, fetched_itd_copy, fetched_sitd_copy
+--                             the copy of a structure that was just read
+use Rattle.std.specs.Prelude.{ℕ, Option, Some, None}
+use Rattle.qh_qtd.specs.declared.queue_head.Qh.{Qh}
+use Rattle.itd_sitd.specs.declared.itd.Itd.{Itd}
+use Rattle.itd_sitd.specs.declared.sitd.Sitd.{Sitd}
+use Rattle.ring_laws.specs.Hand.{Copy, copied_queue, Settlement, settled_queue_of, Hand as RingHand, Empty, Copied, Settled}
+use Rattle.iso_visits.specs.declared.held.HeldItd.{HeldItd}
+use Rattle.iso_visits.specs.declared.held.HeldSitd.{HeldSitd}
+use Rattle.iso_visits.specs.Itd.{fetched_itd}
+use Rattle.periodic_walk.specs.declared.state.Hand.{Hand}
+use Rattle.periodic_walk.specs.declared.state.Hand.TheVariants as hands
+
+pub record ItdCopy : Type 0 where
+  pub held : HeldItd
+  pub itd : Itd
+
+pub record SitdCopy : Type 0 where
+  pub held : HeldSitd
+  pub sitd : Sitd
+
+pub data FrameHand : Type 0 where
+  Nothing : FrameHand
+  OfQueue : Copy → ℕ → FrameHand
+  OfSettled : Copy → Settlement → ℕ → FrameHand
+  OfItd : ItdCopy → FrameHand
+  OfSitd : SitdCopy → FrameHand
+
+abbrev pub frame_held : FrameHand → Option Hand
+frame_held Nothing = None
+frame_held (OfQueue c made) = Some (hands.Queue (record { copy = record { at = c.at; queue_head = copied_queue c; settled = None }; made = made }))
+frame_held (OfSettled c s made) = Some (hands.Queue (record { copy = record { at = c.at; queue_head = settled_queue_of c s; settled = Some s.outcome }; made = made }))
+frame_held (OfItd c) = Some (hands.Itd c.held)
+frame_held (OfSitd c) = Some (hands.Sitd c.held)
+
+abbrev pub queue_hand : FrameHand → RingHand
+queue_hand Nothing = Empty
+queue_hand (OfQueue c made) = Copied c
+queue_hand (OfSettled c s made) = Settled c s
+queue_hand (OfItd c) = Empty
+queue_hand (OfSitd c) = Empty
+
+-- ---- a structure was just read
+
+abbrev pub fetched_copy : ℕ → Qh → Copy
+fetched_copy a q = record { at = a; queue = q; link = q.link; naks = q.nak_cnt }
+
+-- in microframe u
+abbrev pub fetched_itd_copy : ℕ → ℕ → Itd → ItdCopy
+fetched_itd_copy a u v = record { held = fetched_itd a u v; itd = v }
+
+abbrev pub fetched_sitd_copy : ℕ → Sitd → SitdCopy
+fetched_sitd_copy a v = record { held = record { at = a; sitd = v; settled = None }; sitd = v }

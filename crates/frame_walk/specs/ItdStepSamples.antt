@@ -1,0 +1,20 @@
+-- A worked transaction of an iTD, over the frame of frame_parts' rows.
+--     at                     the iTD was read, and 100 microseconds are left
+--     hears                  over this wire two bytes come, whatever is asked; it counts what it was asked
+--     left                   the walk's place after the transaction
+use Rattle.std.specs.Prelude.{◌≡◌, ℕ, ◌+◌, List}
+use Rattle.usb_base.specs.declared.packets.Ask.{Ask}
+use Rattle.usb_base.specs.declared.packets.Reply.{Reply}
+use Rattle.iso_visits.specs.Itd.{itd_transaction}
+use Rattle.periodic_walk.specs.Place.{FramePlace}
+use Rattle.periodic_walk.specs.Itd.{itd_left_by}
+use Rattle.frame_walk.specs.PartSamples.{in_hand, fetched, heard}
+
+abbrev pub at : FramePlace
+at = record fetched { walk = record fetched.walk { left = 100000000 } }
+
+abbrev pub hears : ℕ → Ask → List ℕ → Reply → ℕ → Type 0
+hears n ask out reply later = (reply ≡ heard) × (later ≡ n + 1)
+
+abbrev pub left : FramePlace
+left = itd_left_by (itd_transaction in_hand.held) in_hand.held at heard

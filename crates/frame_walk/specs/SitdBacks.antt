@@ -1,0 +1,47 @@
+-- A siTD in hand over structures in memory (EHCI 1.0, 3.4, 4.12.3): what its transaction sends and receives.
+--     IsSitdInHand met parts m reply c   memory is told by these structures, the siTD at hand is sound there, and the copy is one of it
+--     transacted u reply c               the copy after its transaction in microframe u
+--     missed c                           the copy of which a microframe was missed
+--     AreRead part pages from n m        the n bytes from byte `from` of these pages on are read in full, and are those that go out
+--     received_by c o reply              the bytes that its transaction received
+--     AreReceivedBy parts c o reply into so they are put into its buffer
+--     parts_after parts c o reply into    the parts after its write-back
+use Rattle.std.specs.Prelude.{◌≡◌, ℕ, true, List, Option}
+use Rattle.usb_base.specs.declared.packets.Reply.{Reply}
+use Rattle.word_mem.specs.Memory.{Mem}
+use Rattle.walk_copy.specs.Buffer.{bytes_read}
+use Rattle.iso_visits.specs.declared.held.SplitOutcome.{SplitOutcome}
+use Rattle.iso_visits.specs.Sitd.{sitd_place, sitd_copy, missed_copy}
+use Rattle.iso_visits.specs.WriteBack.{sitd_pages, sitd_received, moved_by}
+use Rattle.lent_structures.specs.Structures.{Structures, StructureSets, Tells}
+use Rattle.lent_structures.specs.WriteBack.{Received}
+use Rattle.frame_walk.specs.Met.{Kind, IsMetSitd}
+use Rattle.frame_walk.specs.FrameHand.{SitdCopy}
+use Rattle.frame_walk.specs.Frame.{IsCopiedSitd}
+use Rattle.frame_walk.specs.FrameEffects.{AreOut, AreReceivedAt, sitd_parts}
+
+pub record IsSitdInHand (met : ℕ → Option Kind) (parts : StructureSets) (m : Mem) (reply : Reply) (c : SitdCopy) : Type 0 where
+  pub tells : Tells m parts
+  pub is_met : IsMetSitd met c.held.at (parts c.held.at)
+  pub copied : IsCopiedSitd met parts reply c
+
+abbrev pub transacted : ℕ → Reply → SitdCopy → SitdCopy
+transacted u reply c = record c { held = sitd_copy u reply c.held }
+
+abbrev pub missed : SitdCopy → SitdCopy
+missed c = record c { held = missed_copy c.held }
+
+-- and none of them is refused
+pub record AreRead (part : Structures) (pages : List ℕ) (from n : ℕ) (m : Mem) : Type 0 where
+  pub out : List ℕ
+  pub are : AreOut part pages from n out
+  pub read : bytes_read pages from n m ≡ record { bytes = out; memory = m; all = true }
+
+abbrev pub received_by : SitdCopy → SplitOutcome → Reply → List ℕ
+received_by c o reply = sitd_received c.held.sitd.dir_in o reply
+
+abbrev pub AreReceivedBy : StructureSets → SitdCopy → SplitOutcome → Reply → Received → Type 0
+AreReceivedBy parts c o reply into = AreReceivedAt (parts c.held.at) (sitd_pages c.held.sitd) (sitd_place c.held.sitd) (received_by c o reply) into
+
+abbrev pub parts_after : StructureSets → SitdCopy → SplitOutcome → Reply → Received → StructureSets
+parts_after parts c o reply into = sitd_parts parts c (moved_by o) (received_by c o reply) into

@@ -1,3 +1,0 @@
-pub mod Walking
-pub mod Sparing
-pub mod Sampled

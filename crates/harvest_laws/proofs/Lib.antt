@@ -1,0 +1,13 @@
+pub mod Places
+pub mod Holding
+pub mod RowRows
+pub mod Outing
+pub mod RowHarvesting
+pub mod Begun
+pub mod Stages
+pub mod Asking
+pub mod Opening
+pub mod Standing
+pub mod Commanding
+pub mod ToldHarvesting
+pub mod ReadRows

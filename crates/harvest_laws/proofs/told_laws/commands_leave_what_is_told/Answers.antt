@@ -1,0 +1,12 @@
+use Rattle.harvest_laws.proofs.Standing.{refused_told}
+use Rattle.harvest_laws.proofs.Commanding.{opened_told, asked_told}
+use Rattle.harvest_laws.proofs.told_laws.commands_leave_what_is_told.Goals as goal
+
+pub returns-clause-refused : goal.returns-clause-refused
+returns-clause-refused c = refused_told
+
+pub returns-clause-opened : goal.returns-clause-opened
+returns-clause-opened c = opened_told
+
+pub returns-clause-asked : goal.returns-clause-asked
+returns-clause-asked c = asked_told

@@ -1,0 +1,10 @@
+pub mod Holds
+pub mod Harvest
+pub mod Row
+pub mod Outs
+pub mod RowLaws
+pub mod RowSamples
+pub mod HeldLaws
+pub mod Told
+pub mod ToldLaws
+pub mod ReadLaws

@@ -1,0 +1,34 @@
+-- The row of a harvest where a driver has bulk endpoints only, its transfers take turns and its queues are fed (EHCI 1.0, 4.10).
+--     HarvestRowIsTold     the bytes that were moved of the qTD that is read are told, and what is reported of its stream is right
+--     WaitIsTold           one that isn't done changes nothing
+use Rattle.std.specs.Prelude.{◌≡◌, ◌≢◌, ℕ, ◌*◌, Bool, List, []}
+use Rattle.lent_structures.specs.Structures.{StructureSets, Tells}
+use Rattle.lent_structures.specs.Sound.{IsMember}
+use Rattle.ring_laws.specs.Hand.{Hand}
+use Rattle.ring_laws.specs.Told.{Told}
+use Rattle.driver_rows.specs.declared.rows.DriverRow.TheVariants as rows
+use Rattle.driver_rows.specs.declared.rows.Found.{Found}
+use Rattle.driver_rows.specs.declared.rows.Found.TheVariants as founds
+use Rattle.driver_rows.specs.Rows.{Parts, after_driver_row}
+use Rattle.run_owners.specs.Owners.{note_in}
+use Rattle.run_owners.specs.Kept.{HasOwners}
+use Rattle.run_owners.specs.Due.{IsHarvestDue}
+use Rattle.chained_transfers.specs.InTurn.{TakesTurns}
+use Rattle.chained_transfers.specs.Out.{out_now}
+use Rattle.harvest_laws.specs.Outs.{IsOutEarlier}
+use Rattle.controlled_streams.specs.Reported.{IsReported}
+use Rattle.fed_queues.specs.Fed.{AreFed}
+use Rattle.harvest_laws.specs.Told.{ToldStands}
+use Rattle.harvest_laws.specs.ToldLaws.{HarvestReports}
+
+abbrev pub HarvestRowIsTold : Type 0
+HarvestRowIsTold = (member : ℕ → Bool) (order : ℕ → ℕ) (p : Parts) (parts : StructureSets) (hand : Hand) (e t : ℕ) (found : Found) (acc : List (List ℕ)) (reported : ℕ → List ℕ)
+    → (due : IsHarvestDue p e t found) → found ≢ founds.Active
+    → HasOwners p.driver → TakesTurns p.driver → AreFed p.driver parts → Tells p.memory parts → IsMember member (32 * due.endpoint.queue) (parts (32 * due.endpoint.queue))
+    → ((a : ℕ) (z : List ℕ) → IsOutEarlier (note_in p.driver.notes) e t p.driver.transfers a → Told hand parts (32 * due.endpoint.queue) a z → z ≡ [])
+    → ToldStands p.driver hand parts reported → IsReported order (out_now p.driver e) hand parts (32 * due.endpoint.queue) acc (reported (32 * due.endpoint.queue))
+    → HarvestReports order p.driver (after_driver_row (rows.Harvest e t found) p).driver hand parts e due.endpoint acc reported
+
+abbrev pub WaitIsTold : Type 0
+WaitIsTold = (p : Parts) (parts : StructureSets) (hand : Hand) (e t : ℕ) (reported : ℕ → List ℕ) → IsHarvestDue p e t founds.Active → ToldStands p.driver hand parts reported
+    → ToldStands (after_driver_row (rows.Harvest e t founds.Active) p).driver hand parts reported

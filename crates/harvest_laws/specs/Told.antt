@@ -1,0 +1,20 @@
+-- What a driver's report tells of each queue (EHCI 1.0, 4.10; USB 2.0, 8.6): the bytes of its lines, and behind them those that are held back, are what was
+-- harvested of it.
+--     ToldStands d hand parts reported      so it is of each queue head that the walk may meet; of one that is being opened nothing is told
+use Rattle.std.specs.Prelude.{◌≡◌, ℕ, ◌*◌, List, [], slice_get, Some, false}
+use Rattle.lent_structures.specs.Structures.{StructureSets}
+use Rattle.ring_laws.specs.Hand.{Hand}
+use Rattle.driver_rows.specs.declared.content.Endpoint.{Endpoint}
+use Rattle.driver_rows.specs.declared.content.Command.TheVariants as unfinished
+use Rattle.driver_rows.specs.DriverContent.{DriverContent}
+use Rattle.told_endpoints.specs.Telling.{named_in, TellsEach}
+use Rattle.harvest_laws.specs.Holds.{HoldsEach}
+use Rattle.fed_queues.specs.Places.{IsThere}
+
+pub record ToldStands (d : DriverContent) (hand : Hand) (parts : StructureSets) (reported : ℕ → List ℕ) : Type 0 where
+  pub held : ℕ → List ℕ
+  pub told : ℕ → List ℕ
+  pub holds : HoldsEach d hand parts held
+  pub tells : TellsEach d.reports d.store (named_in d.endpoints) held told
+  pub met : (e : ℕ) (x : Endpoint) → slice_get d.endpoints e ≡ Some x → IsThere d x → told e ≡ reported (32 * x.queue)
+  pub opening : (e : ℕ) (x : Endpoint) → slice_get d.endpoints e ≡ Some x → x.gone ≡ false → d.command ≡ Some (unfinished.Open x.queue) → told e ≡ []

@@ -1,0 +1,48 @@
+ghost use Rattle.std.specs.Prelude.{ℕ, Bool, List};
+ghost use Rattle.lent_structures.specs.Structures.{StructureSets};
+ghost use Rattle.ring_laws.specs.Hand.{Hand};
+ghost use Rattle.ring_laws.specs.Ring.{Base};
+ghost use Rattle.hc_core.specs.Controller.{Content};
+ghost use Rattle.controlled_streams.specs.Control.{IsControlled, ControlEffect};
+ghost use Rattle.driver_rows.specs.DriverContent.{DriverContent};
+ghost use Rattle.controlled_streams.specs.Kept.{KeepsEach};
+ghost use Rattle.harvest_laws.specs.Told.{ToldStands};
+ghost use Rattle.harvest_laws.specs.ToldLaws.{NewIsTold, SparedIsTold, AlikeIsTold, MetIsTold, RefusedIsTold, OpenedIsTold, AskedIsTold, ReturnedIsTold, HarvestedIsTold};
+
+use usb_base::Wire;
+
+/// A driver that was just built has told nothing.
+pub fn a_new_driver_has_told_nothing()
+    ensures { NewIsTold }
+{}
+
+/// Each event of the controller leaves what is told of each queue.
+pub fn the_controller_leaves_what_is_told<W: Wire>()
+    ensures { (base : Base) (member : ℕ → Bool) (parts : StructureSets) (hand : Hand) (c : Content) (wire after : W) (now : StructureSets) (later : Hand) (d : DriverContent) (reported : ℕ → List ℕ)
+        → IsControlled base member parts hand c → ControlEffect W.begins W.transacts parts hand wire after now later → KeepsEach parts now
+        → ToldStands d hand parts reported → ToldStands d later now reported }
+{}
+
+/// So does each step of the driver that spares overlays and what is done.
+pub fn steps_leave_what_is_told()
+    ensures { SparedIsTold }
+{}
+
+/// And each row that reports nothing: also the one that ends an open, and one that gives a reported transfer back.
+pub fn rows_leave_what_is_told()
+    ensures alike { AlikeIsTold }
+    ensures met { MetIsTold }
+    ensures returned { ReturnedIsTold }
+{}
+
+/// A command that is refused or accepted.
+pub fn commands_leave_what_is_told()
+    ensures refused { RefusedIsTold }
+    ensures opened { OpenedIsTold }
+    ensures asked { AskedIsTold }
+{}
+
+/// A harvest adds the bytes that were moved of the qTD that was read.
+pub fn a_harvest_adds_what_was_moved()
+    ensures { HarvestedIsTold }
+{}

@@ -1,6 +1,0 @@
-pub mod Places
-pub mod Holding
-pub mod Rows
-pub mod Outing
-pub mod Harvesting
-pub mod Begun

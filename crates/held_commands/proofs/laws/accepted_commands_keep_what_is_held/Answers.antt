@@ -1,9 +1,0 @@
-use Rattle.held_commands.proofs.Opening.{open_holds}
-use Rattle.held_commands.proofs.Asking.{ask_holds}
-use Rattle.held_commands.proofs.laws.accepted_commands_keep_what_is_held.Goals as goal
-
-pub returns-clause-open : goal.returns-clause-open
-returns-clause-open c = open_holds
-
-pub returns-clause-asked : goal.returns-clause-asked
-returns-clause-asked c = ask_holds

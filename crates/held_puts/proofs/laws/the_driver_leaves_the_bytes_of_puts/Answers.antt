@@ -1,5 +1,0 @@
-use Rattle.held_puts.proofs.Rows.{driver_holds}
-use Rattle.held_puts.proofs.laws.the_driver_leaves_the_bytes_of_puts.Goals as goal
-
-pub returns : goal.returns
-returns c = driver_holds

@@ -1,4 +1,0 @@
-pub mod Puts
-pub mod Rings
-pub mod Laws
-pub mod Samples

@@ -1,4 +1,0 @@
-pub mod Buffered
-pub mod Slots
-pub mod Backing
-pub mod Sampled

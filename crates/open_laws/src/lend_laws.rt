@@ -1,0 +1,24 @@
+//! The laws.
+ghost use Rattle.std.specs.Prelude.{ℕ, Option};
+ghost use Rattle.ring_laws.specs.Bus.{Sender};
+ghost use Rattle.open_laws.specs.Lends.{LendDrives, LendStands, LendPipes, LendReports, OpenLentStays, HeadIsThere};
+
+use usb_base::Wire;
+
+/// The lend leaves the ring and what is told of the driver's queues; the new queue head and its inactive qTD are told, and the walk doesn't meet them.
+pub fn a_lend_of_an_open()
+    ensures drives { LendDrives }
+    ensures stands { LendStands }
+    ensures head { HeadIsThere }
+{}
+
+/// It leaves the pipes, and the report of each queue head, IN or OUT.
+pub fn a_lend_leaves_the_streams<W: Wire>()
+    ensures pipes { (sender : W → ℕ → ℕ → Option Sender) → LendPipes sender }
+    ensures reports { LendReports }
+{}
+
+/// Each event of the controller leaves the new queue head as it was lent.
+pub fn it_waits_beside_the_controller<W: Wire>()
+    ensures { OpenLentStays W.begins W.transacts }
+{}

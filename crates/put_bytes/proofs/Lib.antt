@@ -1,5 +1,0 @@
-pub mod Words
-pub mod Buffers
-pub mod Sending
-pub mod Accepting
-pub mod Cuts

@@ -1,4 +1,0 @@
-pub mod Taking
-pub mod Making
-pub mod Writing
-pub mod Sampled

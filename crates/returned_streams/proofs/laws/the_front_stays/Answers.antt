@@ -1,5 +1,0 @@
-use Rattle.returned_streams.proofs.Returning.{front_returned, passed_none}
-use Rattle.returned_streams.proofs.laws.the_front_stays.Goals as goal
-
-pub returns : goal.returns
-returns c = record { front = front_returned; passed = passed_none }

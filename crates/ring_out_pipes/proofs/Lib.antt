@@ -1,5 +1,0 @@
-pub mod Stopping
-pub mod Transporting
-pub mod Agreeing
-pub mod Events
-pub mod Assembling

@@ -1,3 +1,0 @@
-pub mod OutBus
-pub mod OutPipes
-pub mod Laws

@@ -1,3 +1,0 @@
-pub mod Direction
-pub mod Settling
-pub mod Agreeing

@@ -1,2 +1,0 @@
-pub mod Bus
-pub mod Pipes

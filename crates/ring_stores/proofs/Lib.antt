@@ -1,4 +1,0 @@
-pub mod Parting
-pub mod Driving
-pub mod Answering
-pub mod Sampled

@@ -1,4 +1,0 @@
-pub mod Stores
-pub mod Doorbell
-pub mod Samples
-pub mod Laws

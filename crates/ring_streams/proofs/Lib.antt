@@ -1,5 +1,0 @@
-pub mod Keeping
-pub mod Growing
-pub mod Written
-pub mod Events
-pub mod Altered

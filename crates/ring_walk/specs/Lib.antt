@@ -1,3 +1,0 @@
-pub mod Hand
-pub mod Ring
-pub mod Effects

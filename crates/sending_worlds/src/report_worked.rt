@@ -1,0 +1,48 @@
+//! Worked rows, which the check computes.
+ghost use Rattle.std.specs.Prelude.{◌≡◌, [], ◌∷◌, Some, None};
+ghost use Rattle.usb_bus.specs.Bus.{fixed_of};
+ghost use Rattle.report_streams.specs.Reports.{Taken, taken};
+ghost use Rattle.report_streams.specs.Samples.{receiver};
+ghost use Rattle.report_streams.specs.Streams.{AreRightStreams};
+ghost use Rattle.right_reports.specs.Samples.{both_ways};
+ghost use Rattle.right_reports.specs.WorldReport.{report_of};
+ghost use Rattle.taken_reports.specs.Samples.{told_with};
+ghost use Rattle.put_laws.specs.TakenPuts.{puts_at};
+ghost use Rattle.put_laws.specs.TakenSamples.{two_puts, report_after};
+ghost use Rattle.sending_worlds.specs.Sent.{IsTakenSent, AreSentStreams};
+ghost use Rattle.sending_worlds.specs.ReportLaws.{HaveTheirTakers, TakesPuts};
+ghost use Rattle.sending_worlds.specs.ReportSamples.{refused_with, once_took};
+
+/// What was taken begins the stream, be it all of it or not; it has no other byte, and none behind the last. Where nothing says what was taken, nothing is asked of it.
+pub fn of_the_words()
+    ensures unsaid { IsTakenSent None (7 ∷ []) }
+    ensures first { IsTakenSent (Some (7 ∷ [])) (7 ∷ 9 ∷ []) }
+    ensures all { IsTakenSent (Some (7 ∷ 9 ∷ [])) (7 ∷ 9 ∷ []) }
+    ensures other { IsTakenSent (Some (9 ∷ [])) (7 ∷ 9 ∷ []) → ⊥ }
+    ensures more { IsTakenSent (Some (7 ∷ 9 ∷ [])) (7 ∷ []) → ⊥ }
+{}
+
+/// A byte was put, and the put is done: the device took that byte, or none, or nothing says what it took. A report in which it took another byte, or one more, is not
+/// so; nor is one in which it took the byte of a put that is refused. Where it took that byte, all streams of the report are right.
+pub fn a_put_of_a_byte()
+    ensures taken { AreSentStreams both_ways (told_with (Taken receiver (9 ∷ []) ∷ [])) }
+    ensures nothing { AreSentStreams both_ways (told_with (Taken receiver [] ∷ [])) }
+    ensures unsaid { AreSentStreams both_ways (told_with []) }
+    ensures other { AreSentStreams both_ways (told_with (Taken receiver (8 ∷ []) ∷ [])) → ⊥ }
+    ensures more { AreSentStreams both_ways (told_with (Taken receiver (9 ∷ 8 ∷ []) ∷ [])) → ⊥ }
+    ensures refused { AreSentStreams both_ways (refused_with (Taken receiver (9 ∷ []) ∷ [])) → ⊥ }
+    ensures right { AreRightStreams both_ways (told_with (Taken receiver (9 ∷ []) ∷ [])) }
+{}
+
+/// Before the first line of a run no line closes the report of the endpoint, which is still to be opened. After the last line, where the device took two bytes of the
+/// first put, all is so; where it took the byte of the second put, which was refused, it isn't.
+pub fn a_run_of_two_puts()
+    ensures before { taken (report_after 0) receiver ≡ None }
+    ensures unopened { AreSentStreams two_puts (report_after 0) }
+    ensures takers { HaveTheirTakers (fixed_of two_puts) (once_took (1 ∷ 2 ∷ [])) }
+    ensures takes { TakesPuts (fixed_of two_puts) (once_took (1 ∷ 2 ∷ [])) (puts_at two_puts 6) }
+    ensures closing { taken (report_of (fixed_of two_puts) (once_took (1 ∷ 2 ∷ []))) receiver ≡ Some (1 ∷ 2 ∷ []) }
+    ensures sent { AreSentStreams two_puts (report_of (fixed_of two_puts) (once_took (1 ∷ 2 ∷ []))) }
+    ensures others { TakesPuts (fixed_of two_puts) (once_took (9 ∷ [])) (puts_at two_puts 6) → ⊥ }
+    ensures unsent { AreSentStreams two_puts (report_of (fixed_of two_puts) (once_took (9 ∷ []))) → ⊥ }
+{}

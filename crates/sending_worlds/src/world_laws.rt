@@ -1,0 +1,36 @@
+//! The laws.
+ghost use Rattle.sending_worlds.specs.WorldLaws.{NewWorldSends, ControllerKeepsSending, CommandKeepsSending, DriverKeepsSending};
+ghost use Rattle.sending_worlds.specs.Moments.{ScriptsStaySending};
+ghost use Rattle.sending_worlds.specs.Kept.{TextsKeepStreams, TextsKeepPlaces};
+
+/// A new world has no endpoint and no put.
+pub fn a_new_world_sends()
+    ensures { NewWorldSends }
+{}
+
+/// Each event of the controller leaves it so.
+pub fn the_controller_leaves_it_sending()
+    ensures { ControllerKeepsSending }
+{}
+
+/// So does each command: an accepted put is one more.
+pub fn a_command_leaves_it_sending()
+    ensures { CommandKeepsSending }
+{}
+
+/// So does each event of the driver.
+pub fn the_driver_leaves_it_sending()
+    ensures { DriverKeepsSending }
+{}
+
+/// So it is at each moment of a script of bulk endpoints whose bytes are bytes, of which each endpoint that is opened has its side in a device, and numbers fit.
+pub fn each_moment_is_sending()
+    ensures { ScriptsStaySending }
+{}
+
+/// So its streams are right at each moment: what devices took begins what was put to them, and once no line is left to do these are all streams. And everything is in
+/// its place.
+pub fn each_text_keeps_its_streams()
+    ensures streams { TextsKeepStreams }
+    ensures places { TextsKeepPlaces }
+{}

@@ -1,4 +1,0 @@
-pub mod Named
-pub mod Untold
-pub mod Sending
-pub mod Sampling

@@ -1,5 +1,0 @@
-pub mod Turned
-pub mod Reaching
-pub mod States
-pub mod Backs
-pub mod Sampled

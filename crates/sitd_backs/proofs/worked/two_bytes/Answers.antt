@@ -1,9 +1,0 @@
-use Rattle.std.proofs.Common.{refl}
-use Rattle.frame_masks.specs.Masks.{lacks}
-use Rattle.iso_visits.specs.Sitd.{after_complete, moved_sitd}
-use Rattle.sitd_backs.proofs.Sampled.{before, after, miss, received}
-use Rattle.sitd_backs.proofs.worked.two_bytes.Goals as goal
-
-pub returns : goal.returns
-unfolding lacks after_complete moved_sitd
-returns c = record { works = refl; misses = refl; before = before; after = after; settled = refl; received = received; bytes = refl; done = refl; miss = miss }

@@ -1,8 +1,0 @@
-use Rattle.spared_streams.proofs.Sparing.{linked_same, stale_same}
-use Rattle.spared_streams.proofs.stores_leave_the_hand.Goals as goal
-
-pub returns-clause-linked : goal.returns-clause-linked
-returns-clause-linked c = linked_same
-
-pub returns-clause-stale : goal.returns-clause-stale
-returns-clause-stale c = stale_same

@@ -1,8 +1,0 @@
-use Rattle.spared_streams.proofs.Sparing.{spared_accounts, published_adds}
-use Rattle.spared_streams.proofs.what_is_published_is_accounted_for.Goals as goal
-
-pub returns-clause-spared : goal.returns-clause-spared
-returns-clause-spared c = spared_accounts
-
-pub returns-clause-published : goal.returns-clause-published
-returns-clause-published c = published_adds

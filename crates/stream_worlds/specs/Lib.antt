@@ -1,0 +1,12 @@
+pub mod Streaming
+pub mod Outs
+pub mod Joining
+pub mod Spared
+pub mod Stores
+pub mod Lends
+pub mod Opens
+pub mod Harvests
+pub mod Returns
+pub mod Events
+pub mod Takers
+pub mod RowSamples

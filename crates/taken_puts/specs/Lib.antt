@@ -1,4 +1,0 @@
-pub mod Taken
-pub mod Puts
-pub mod Laws
-pub mod Samples

@@ -1,4 +1,0 @@
-pub mod Written
-pub mod Pieces
-pub mod Laws
-pub mod Worked

@@ -1,3 +1,0 @@
-pub mod WrittenBack
-pub mod Found
-pub mod Sampled

@@ -1,3 +1,0 @@
-pub mod WriteBack
-pub mod Laws
-pub mod Samples
