@@ -26,7 +26,7 @@ use Rattle.run_owners.proofs.Stays.{same_item, same_view}
 use Rattle.endpoint_lives.specs.Lives.{told_end}
 use Rattle.endpoint_lives.proofs.Lives.{none_told, told_uncancelled}
 use Rattle.chained_transfers.specs.Chains.{piece_at}
-use Rattle.chained_transfers.specs.Turns.{IsAtPlace, AreAtPlaces, Turn, turn_of, turn_in, IsNext, AreReportedTo, AreInTurn, AreTurnsOf}
+use Rattle.chained_transfers.specs.Turns.{IsAtPlace, AreAtPlaces, Turn, turn_of, turn_in, IsNext, AreReportedTo, AreTurnsOf}
 use Rattle.chained_transfers.proofs.Chained.{piece_same}
 use Rattle.chained_transfers.proofs.Turning.{AreInTurnOf, IsChangedAt, changed, changed_plain}
 use Rattle.chained_transfers.proofs.Reporting.{IsFirst, ended_turns, harvested_turns}

@@ -2,7 +2,7 @@
 --     IsBulk x                 the endpoint is one
 --     OpensBulk cmd            the command opens such an endpoint, if any, and is no cancel; other commands may be refused
 --     OpensOrCancelsBulk cmd   .. or it is a cancel
---     BulkOnly s               so is each command of the script
+--     BulkOnly s               each command of the script opens a high-speed bulk endpoint, if any; others, cancels too, may be accepted or refused
 --     receives way             data of an endpoint of this way come to the host
 --     sort_by way, stage_by way n, pid_by way      the transfers of such an endpoint, their qTDs of n bytes, and the packets that these ask for
 --     IsStanding x             the endpoint is in the ring, or was cancelled; one that ended otherwise and one that was cancelled stay apart
@@ -55,7 +55,7 @@ OpensOrCancelsBulk (commands.OpenEp x) = IsBulk x
 OpensOrCancelsBulk _ = Unit {0}
 
 abbrev pub BulkLine : Line → Type 0
-BulkLine (lines.Command cmd) = OpensBulk cmd
+BulkLine (lines.Command cmd) = OpensOrCancelsBulk cmd
 BulkLine _ = Unit {0}
 
 abbrev pub BulkOnly : Script → Type 0

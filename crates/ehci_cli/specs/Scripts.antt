@@ -1,6 +1,6 @@
 -- What is so of each script that the bytes of a source spell, where the source tells its bytes.
 --     OfEachScript so left         of each script
---     OfEachBulkScript so left     of each that opens high-speed bulk endpoints alone and cancels nothing
+--     OfEachBulkScript so left     of each whose endpoints are high-speed bulk ones; it may cancel them
 use Rattle.std.specs.Prelude.{ℕ, List, Option, IfSome}
 use Rattle.script_types.specs.declared.scripts.Script.{Script}
 use Rattle.script_text.specs.Faults.{Spells}

@@ -5,7 +5,7 @@ ghost use Rattle.driver_rows.specs.declared.content.Endpoint.{Endpoint};
 ghost use Rattle.endpoint_lives.specs.Lives.{told_end, may_meet};
 ghost use Rattle.endpoint_lives.specs.Samples.{cancelled, left, given_back, stalled, leaving_driver};
 
-/// One that was cancelled has ended as far as its report has it only when it is given back, and is met until the doorbell was answered.
+/// One that was cancelled has ended as far as its report has it only when it is given back, and may be met until Async Advance is cleared after the answered doorbell.
 pub fn a_cancelled_endpoint_leaves()
     ensures going { (x : Endpoint) → told_end (cancelled x) ≡ (if x.gone then Some EndCause.Cancel else None) }
     ensures over { (x : Endpoint) → told_end (given_back x) ≡ Some EndCause.Cancel }

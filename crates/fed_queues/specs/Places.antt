@@ -27,7 +27,7 @@ pub record IsThere (d : DriverContent) (x : Endpoint) : Type 0 where
   pub linked : d.command ≢ Some (unfinished.Open x.queue)
   pub kept : x.gone ≡ false
 
--- until the doorbell is answered (EHCI 1.0, 4.8.2)
+-- until Async Advance is cleared after the answered doorbell (EHCI 1.0, 4.8.2)
 pub record IsMet (d : DriverContent) (e : ℕ) (x : Endpoint) : Type 0 where
   pub there : IsThere d x
   pub near : may_meet d e x ≡ true

@@ -1,21 +1,19 @@
 -- A ring and the frames under the controller stay, and the controller isn't idle and meets no refusal.
-use Rattle.std.proofs.Common.{◌≡◌, ◌≢◌, ℕ, Bool, true, false, List, Option, ap, refl, sym, subst, ◌∙◌, ⊎_elim, arith, if◌then◌else◌}
+use Rattle.std.proofs.Common.{◌≡◌, ◌≢◌, ℕ, Bool, true, false, List, Option, ap, refl, sym, ◌∙◌, ⊎_elim, arith}
 use Rattle.std.proofs.lemmas.Bool.{cases_eq, true≢false}
 use Rattle.usb_base.specs.declared.packets.Ask.{Ask}
 use Rattle.usb_base.specs.declared.packets.Reply.{Reply}
 use Rattle.async_walk.specs.Causes.{AreRefusalsFaults}
 use Rattle.hc_core.specs.declared.controller.HcStep.{HcStep}
 use Rattle.hc_core.specs.declared.controller.HcStep.TheVariants as steps
-use Rattle.hc_core.specs.declared.controller.ControllerRow.{ControllerRow}
-use Rattle.hc_core.specs.declared.controller.ControllerRow.TheVariants as rows
-use Rattle.hc_core.specs.Controller.{Content, microframe_row, part_row, HasRow}
+use Rattle.hc_core.specs.Controller.{Content, microframe_row, HasRow}
 use Rattle.ring_laws.specs.Ring.{Base}
 use Rattle.ring_runs.specs.Runs.{made_by}
 use Rattle.frame_walk.specs.Met.{Kind}
 use Rattle.frame_control.specs.Both.{ControlsBoth}
 use Rattle.frame_control.proofs.Running.{event_runs}
 use Rattle.frame_walk.proofs.Walking.{event_happens}
-use Rattle.frame_runs.specs.Runs.{BothAreTold, AreRunning, BothStay, AllAreMadeOverBoth, NothingIsRefused, EventsFollow}
+use Rattle.frame_runs.specs.Runs.{BothAreTold, AreRunning, BothStay, AllAreMadeOverBoth, NothingIsRefused}
 
 pub both_told : {W : Type 0} (begins : W → ℕ → Bool → W → Type 0) (transacts : W → Ask → List ℕ → Reply → W → Type 0) (old : Content) (before : W) (new : Content) (after : W) → HasRow begins transacts (microframe_row old.registers old.control) old before new after → BothAreTold begins transacts old before new after
 both_told begins transacts old before new after row base member met parts hand frame on heard k =
@@ -57,17 +55,3 @@ none_refused begins transacts old before new after row refused base member met r
     (λ (other : new.memory.foreign ≢ old.memory.foreign).
     absurd (true≢false (sym (runs_on transacts base member met new (both_stay begins transacts old before new after row base member met running)) ∙ refused other)))
     (cases_eq new.memory.foreign old.memory.foreign)
-
--- ---- an idle event changes nothing
-
-halted_row : (c : Content) → c.registers.run ≡ false → microframe_row c.registers c.control ≡ rows.Idle
-halted_row c halted = ap (λ (b : Bool). if b then part_row c.registers c.control.frame c.control.part else rows.Idle) halted
-
-pub idle_keeps : {W : Type 0} (begins : W → ℕ → Bool → W → Type 0) (transacts : W → Ask → List ℕ → Reply → W → Type 0) (old : Content) (before : W) (new : Content) (after : W) (step : HcStep) → HasRow begins transacts (microframe_row old.registers old.control) old before new after
-    → (step ≡ steps.Idle → old.registers.run ≡ false) → step ≡ steps.Idle → (new ≡ old) × (after ≡ before)
-idle_keeps begins transacts old before new after step row idle is = subst (λ (r : ControllerRow). HasRow begins transacts r old before new after) (halted_row old (idle is)) row
-
-pub follow_kept : {W : Type 0} (begins : W → ℕ → Bool → W → Type 0) (transacts : W → Ask → List ℕ → Reply → W → Type 0) (old : Content) (before : W) (n : ℕ) (mid : Content) (between : W) (new : Content) (after : W) → EventsFollow begins transacts old before n mid between
-    → (new ≡ mid) × (after ≡ between) → EventsFollow begins transacts old before n new after
-follow_kept {W} begins transacts old before n mid between new after k same =
-    subst (λ (c : Content). EventsFollow begins transacts old before n c after) (sym same.0) (subst (λ (w : W). EventsFollow begins transacts old before n mid w) (sym same.1) k)

@@ -6,12 +6,10 @@
 --     BothStay old new             where that held, it holds
 --     AllAreMadeOverBoth ..        there all of so many events were made
 --     NothingIsRefused old new     .. and no word was refused
---     EventsFollow old before n new after
---                                  n events of the controller follow each other, from the one content and wire to the other
-use Rattle.std.specs.Prelude.{◌≡◌, ℕ, ◌+◌, Bool, List, Option}
+use Rattle.std.specs.Prelude.{◌≡◌, ℕ, Bool, List, Option}
 use Rattle.usb_base.specs.declared.packets.Ask.{Ask}
 use Rattle.usb_base.specs.declared.packets.Reply.{Reply}
-use Rattle.hc_core.specs.Controller.{Content, microframe_row, HasRow}
+use Rattle.hc_core.specs.Controller.{Content}
 use Rattle.lent_structures.specs.Structures.{StructureSets}
 use Rattle.ring_laws.specs.Hand.{Hand}
 use Rattle.ring_laws.specs.Ring.{Base}
@@ -47,11 +45,3 @@ AllAreMadeOverBoth transacts old events made = (base : Base) (member : ℕ → B
 
 abbrev pub NothingIsRefused : {W : Type 0} → (W → Ask → List ℕ → Reply → W → Type 0) → Content → Content → Type 0
 NothingIsRefused transacts old new = (base : Base) (member : ℕ → Bool) (met : ℕ → Option Kind) → AreRunning transacts base member met old → new.memory.foreign ≡ old.memory.foreign
-
--- ---- events
-
-pub data EventsFollow {W : Type 0} (begins : W → ℕ → Bool → W → Type 0) (transacts : W → Ask → List ℕ → Reply → W → Type 0) (old : Content) (before : W)
-    : ℕ → Content → W → Type 0 where
-  none : EventsFollow begins transacts old before 0 old before
-  another : (n : ℕ) (mid : Content) (between : W) (new : Content) (after : W) → EventsFollow begins transacts old before n mid between
-      → HasRow begins transacts (microframe_row mid.registers mid.control) mid between new after → EventsFollow begins transacts old before (n + 1) new after

@@ -1,7 +1,7 @@
-ghost use Rattle.hc_core.specs.Controller.{content, microframe_row, HasRow};
-ghost use Rattle.ring_runs.specs.Runs.{made_by};
-ghost use Rattle.frame_runs.specs.Runs.{BothAreTold, BothStay, AllAreMadeOverBoth, NothingIsRefused, EventsFollow};
-ghost use Rattle.std.specs.Prelude.{◌≡◌, ◌≤◌};
+ghost use Rattle.hc_core.specs.Controller.{content, microframe_row, kind_of, HasRow};
+ghost use Rattle.ring_runs.specs.Runs.{made_by, EventsFollow};
+ghost use Rattle.frame_runs.specs.Runs.{BothAreTold, BothStay, AllAreMadeOverBoth, NothingIsRefused};
+ghost use Rattle.std.specs.Prelude.{◌≡◌, ◌≤◌, ◌⊎◌, ◌↔◌, false};
 
 use hc_core::{Controller, HcStep};
 use op_registers::Registers;
@@ -17,6 +17,8 @@ pub fn event<W: Wire>(
     wire: &mut W,
 ) -> HcStep
     ensures row { HasRow W.begins W.transacts (microframe_row regs.old controller.old) (content controller.old regs.old mem.old) wire.old (content controller.new regs.new mem.new) wire.new }
+    ensures kind { result ≡ kind_of (microframe_row regs.old controller.old) (content controller.old regs.old mem.old) }
+    ensures halted { (result ≡ HcStep.Idle) ↔ (regs.old.run ≡ false) }
     ensures idle { result ≡ HcStep.Idle → (content controller.new regs.new mem.new ≡ content controller.old regs.old mem.old) × (wire.new ≡ wire.old) }
     ensures told { BothAreTold W.begins W.transacts (content controller.old regs.old mem.old) wire.old (content controller.new regs.new mem.new) wire.new }
     ensures under_way { BothStay W.transacts (content controller.old regs.old mem.old) (content controller.new regs.new mem.new) }
@@ -26,7 +28,8 @@ pub fn event<W: Wire>(
     controller.step(regs, mem, wire)
 }
 
-/// Makes so many events of the controller, until one is idle, and answers how many it made: over a ring and the frames all of them, and no word is refused.
+/// Makes so many events of the controller, or as many as there are while Run is 1, and answers how many it made: over a ring and the frames all of them, and no
+/// word is refused.
 pub fn run<W: Wire>(
     events: u64,
     controller: &mut Controller,
@@ -35,6 +38,7 @@ pub fn run<W: Wire>(
     wire: &mut W,
 ) -> u64
     ensures most { result ≤ events }
+    ensures stops { (result ≡ events) ⊎ (regs.new.run ≡ false) }
     ensures made { EventsFollow W.begins W.transacts (content controller.old regs.old mem.old) wire.old result (content controller.new regs.new mem.new) wire.new }
     ensures under_way { BothStay W.transacts (content controller.old regs.old mem.old) (content controller.new regs.new mem.new) }
     ensures going { AllAreMadeOverBoth W.transacts (content controller.old regs.old mem.old) events result }

@@ -2,7 +2,7 @@
 --     AreOwedMet d            each transfer that was harvested and is to be given back belongs to an endpoint that a walk may still meet
 --     IsClearing d            what the driver finds when it clears Async Advance: the doorbell was answered, and nothing is left that comes before
 --     NewDriverOwesMet, EventsOweMet, CommandsOweMet, ClearFinds     the laws
---     ClearedAreUnmet, GoneAreUnmet     the laws: a walk can't meet an endpoint whose doorbell was answered, nor one that was given back
+--     ClearedAreUnmet, GoneAreUnmet     the laws: a walk can't meet an endpoint for which Async Advance was cleared, nor one that was given back
 use Rattle.std.specs.Prelude.{◌≡◌, ℕ, true, false, [], slice_get, Some, None, Ok}
 use Rattle.usb_base.specs.declared.commands.Cmd.{Cmd}
 use Rattle.word_mem.specs.Memory.{Mem}

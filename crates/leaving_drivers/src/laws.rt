@@ -21,7 +21,7 @@ pub fn what_a_clear_finds()
     ensures { ClearFinds }
 {}
 
-/// A walk can't meet an endpoint whose doorbell was answered, nor one that was given back.
+/// A walk can't meet an endpoint for which Async Advance was cleared, nor one that was given back.
 pub fn those_out_of_reach()
     ensures cleared { ClearedAreUnmet }
     ensures gone { GoneAreUnmet }

@@ -12,7 +12,7 @@ use Rattle.usb_bus.specs.Bus.{fixed_of}
 use Rattle.pipe_agreement.specs.Prefix.{IsPrefix}
 use Rattle.driver_rows.specs.declared.content.Endpoint.{Endpoint}
 use Rattle.report_streams.specs.Reports.{WholeReport}
-use Rattle.report_streams.specs.Streams.{accepted_in, put_in, opened, stream_by, stream, has_stream}
+use Rattle.report_streams.specs.Streams.{accepted_in, put_in, stream_by, stream, has_stream}
 use Rattle.chained_transfers.specs.Bulk.{receives}
 use Rattle.chained_transfers.proofs.Ways.{way_sends}
 use Rattle.bus_world.specs.Orders.{Left, OrderedWorld, orders_of}

@@ -85,12 +85,12 @@ there_or d x alive =
     ⊎_elim (λ (opens : d.command ≡ Some (unfinished.Open x.queue)). inl opens)
     (λ (linked : d.command ≢ Some (unfinished.Open x.queue)). inr (record { linked = linked; kept = alive })) (open_or d.command x.queue)
 
-pub life_or : (d : DriverContent) (x : Endpoint) → (d.command ≡ Some (unfinished.Open x.queue)) ⊎ ((x.gone ≡ true) ⊎ IsThere d x)
+pub life_or : (d : DriverContent) (x : Endpoint) → ((d.command ≡ Some (unfinished.Open x.queue)) × (x.gone ≡ false)) ⊎ ((x.gone ≡ true) ⊎ IsThere d x)
 life_or d x = by x.gone refl
   where
-    by : (b : Bool) → x.gone ≡ b → (d.command ≡ Some (unfinished.Open x.queue)) ⊎ ((x.gone ≡ true) ⊎ IsThere d x)
+    by : (b : Bool) → x.gone ≡ b → ((d.command ≡ Some (unfinished.Open x.queue)) × (x.gone ≡ false)) ⊎ ((x.gone ≡ true) ⊎ IsThere d x)
     by true gone = inr (inl gone)
-    by false alive = ⊎_elim (λ (opens : d.command ≡ Some (unfinished.Open x.queue)). inl opens) (λ (there : IsThere d x). inr (inr there)) (there_or d x alive)
+    by false alive = ⊎_elim (λ (opens : d.command ≡ Some (unfinished.Open x.queue)). inl (opens, alive)) (λ (there : IsThere d x). inr (inr there)) (there_or d x alive)
 
 -- where no command is unfinished
 pub idle_there : (d : DriverContent) → d.command ≡ None → (x : Endpoint) → x.gone ≡ false → IsThere d x

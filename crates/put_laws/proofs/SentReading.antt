@@ -1,7 +1,7 @@
 -- What a harvest reads of a put.
-use Rattle.std.proofs.Common.{◌≡◌, ℕ, suc, ◌-◌, ◌*◌, Bool, true, false, cond, if◌then◌else◌, List, length, slice_get, option_map, Option, Some, None, ap, refl, sym, subst, ◌∙◌, arith}
+use Rattle.std.proofs.Common.{◌≡◌, ℕ, suc, ◌-◌, ◌*◌, Bool, true, false, cond, if◌then◌else◌, List, length, slice_get, Option, Some, None, ap, refl, sym, subst, ◌∙◌, arith}
 use Rattle.std.specs.Prelude.{nat_eq, nat_le}
-use Rattle.std.proofs.lemmas.Bool.{le-leb, true≢false}
+use Rattle.std.proofs.lemmas.Bool.{le-leb}
 use Rattle.std.proofs.lemmas.List.{take_all}
 use Rattle.usb_base.specs.declared.reports.What.TheVariants as lines
 use Rattle.usb_base.specs.declared.endpoints.EndCause.TheVariants as causes
@@ -26,7 +26,7 @@ use Rattle.ring_laws.specs.Told.{Told}
 use Rattle.ring_laws.proofs.Ordering.{done_told}
 use Rattle.harvested_streams.proofs.Harvesting.{token_read}
 use Rattle.chained_transfers.specs.Chains.{piece_at}
-use Rattle.chained_transfers.specs.Turns.{IsAtPlace, turn_of}
+use Rattle.chained_transfers.specs.Turns.{IsAtPlace}
 use Rattle.chained_transfers.proofs.Harvesting.{waits_is}
 use Rattle.chained_transfers.proofs.Ways.{moves_queued, found_by}
 use Rattle.fed_queues.specs.Fed.{IsPieceFed, unpublished_of}

@@ -36,7 +36,7 @@ use Rattle.fed_lends.proofs.Outs.{last_apart, out_apart, its_out}
 use Rattle.publish_laws.proofs.Outs.{same_out}
 use Rattle.whole_sends.specs.Whole.{AreSentWhole}
 use Rattle.whole_sends.proofs.Keeping.{idle_store_whole, last_store_whole}
-use Rattle.put_laws.specs.Sent.{SentStand, HoldMet}
+use Rattle.put_laws.specs.Sent.{SentStand, HoldThere}
 use Rattle.put_laws.specs.SentStores.{StoreSends}
 use Rattle.fed_queues.proofs.Places.{going_met}
 use Rattle.endpoint_lives.specs.Lives.{may_meet}
@@ -204,7 +204,7 @@ module _ (p : DriverParts) (member streams : ℕ → Bool) (ends : ℕ → Told)
       let those : IsSorted (order n) (pieces_from note next q) = sorted_behind (order n) (32 * b) before behind sorted in
       subst (λ (j : ℕ). order n j ≤ order n a) at (first_least (order n) note next q a those among)
 
-  module _ (hand : Hand) (heads : ℕ → Bool) (acc : ℕ → List (List ℕ)) (reported : ℕ → List ℕ) (right : AreReported heads order out hand parts acc reported) (counts : HoldMet d heads)
+  module _ (hand : Hand) (heads : ℕ → Bool) (acc : ℕ → List (List ℕ)) (reported : ℕ → List ℕ) (right : AreReported heads order out hand parts acc reported) (counts : HoldThere d heads)
       (reach : Reaches d (parts (32 * g.endpoint.queue)) (order (32 * g.endpoint.queue)) (out (32 * g.endpoint.queue)) g.transfer.endpoint g.endpoint (32 * b)) (sent : SentStand d order out hand parts) where
     -- ---- a store before the last one
 

@@ -1,5 +1,5 @@
 -- A row of the driver, and a command, keep it that what was taken begins the puts.
-use Rattle.std.proofs.Common.{◌≡◌, ◌≢◌, ℕ, ◌==◌, true, if◌then◌else◌, List, [], ◌∷◌, ◌++◌, get_or, length, slice_get, Option, Some, ap, sym, ◌∙◌, ⊎_elim}
+use Rattle.std.proofs.Common.{false, ◌≡◌, ◌≢◌, ℕ, ◌==◌, true, if◌then◌else◌, List, [], ◌∷◌, ◌++◌, get_or, length, slice_get, Option, Some, ap, sym, ◌∙◌, ⊎_elim}
 use Rattle.std.specs.Prelude.{◌⊎◌}
 use Rattle.std.specs.List.{concat}
 use Rattle.std.proofs.lemmas.Bool.{false≢true}
@@ -45,7 +45,7 @@ driver_taken taker p puts wire opened k e x s here life sends is =
     let out = ap (λ (r : EpDesc). receives r.name.way) w.2 ∙ sends in
     let same : concat (puts_of p.driver puts e) ≡ concat (puts_of f puts e) =
     ap concat (by_owners puts e 0 p.driver.transfers ∙ ap (puts_in puts e 0) (sym stays.owners) ∙ sym (by_owners puts e 0 f.transfers)) in
-    ⊎_elim (λ (at_open : p.driver.command ≡ Some (unfinished.Open w.0.queue)). begins_all s.taken (concat (puts_of f puts e)) (opened e w.0 s w.1 at_open out its))
+    ⊎_elim (λ (at_open : (p.driver.command ≡ Some (unfinished.Open w.0.queue)) × (w.0.gone ≡ false)). begins_all s.taken (concat (puts_of f puts e)) (opened e w.0 s w.1 at_open.0 at_open.1 out its))
     (λ (before : (w.0.gone ≡ true) ⊎ IsThere p.driver w.0). prefix_to s.taken (concat (puts_of p.driver puts e)) (concat (puts_of f puts e)) same (k e w.0 s w.1 before out its)) (life_or p.driver w.0)
 
 -- ---- a command

@@ -1,5 +1,5 @@
 -- What the device of an OUT endpoint took begins the endpoint's puts (EHCI 1.0, 4.10; USB 2.0, 5.8 and 8.6).
---     TakenBegin taker d puts wire     so it is of each OUT endpoint that the walk may meet
+--     TakenBegin taker d puts wire     so it is of each OUT endpoint that is there, and of each that was given back
 --     EndedAreStopped d parts    the queue head of an OUT endpoint that has ended is halted
 --     OutsStand ..               what is known of the OUT endpoints at a moment: their pipes, what was reported, their queues and what is still to be sent
 --     TakenBeginsPuts            then what the device of one that goes on took begins its puts, where it did so when its queue head halted
@@ -117,8 +117,8 @@ EventKeepsTaken {W} begins transacts = (stream : ℕ → ℕ → Bool) (taker : 
 -- the device of an endpoint whose open is finished took nothing yet
 abbrev pub DriverKeepsTaken : {W : Type 0} → (W → ℕ → ℕ → Option Taker) → Type 0
 DriverKeepsTaken {W} taker = (p : Parts) (puts : ℕ → List ℕ) (wire : W)
-    → ((e : ℕ) (x : Endpoint) (s : Taker) → slice_get p.driver.endpoints e ≡ Some x → p.driver.command ≡ Some (unfinished.Open x.queue) → receives x.desc.name.way ≡ false
-    → taker wire x.desc.name.addr x.desc.name.num ≡ Some s → s.taken ≡ [])
+    → ((e : ℕ) (x : Endpoint) (s : Taker) → slice_get p.driver.endpoints e ≡ Some x → p.driver.command ≡ Some (unfinished.Open x.queue) → x.gone ≡ false
+    → receives x.desc.name.way ≡ false → taker wire x.desc.name.addr x.desc.name.num ≡ Some s → s.taken ≡ [])
     → TakenBegin taker p.driver puts wire → TakenBegin taker (after_driver_row (driver_row p) p).driver puts wire
 
 abbrev pub CommandKeepsTaken : {W : Type 0} → (W → ℕ → ℕ → Option Taker) → Type 0

@@ -14,7 +14,7 @@ use Rattle.ring_laws.specs.Ring.{Base}
 use Rattle.ring_laws.specs.OutPipes.{IsOut}
 use Rattle.controlled_streams.specs.Control.{IsControlled, ControlEffect}
 use Rattle.controlled_streams.specs.Reported.{AreReported}
-use Rattle.put_laws.specs.Sent.{SentStand, HoldMet, HoldOuts}
+use Rattle.put_laws.specs.Sent.{SentStand, HoldThere, HoldOuts}
 
 abbrev pub NewDriverSends : Type 0
 NewDriverSends = (n : ℕ) (room : Reserve) (order : ℕ → ℕ → ℕ) (out : ℕ → List ℕ) (hand : Hand) (parts : StructureSets) → SentStand (opening n room).driver order out hand parts
@@ -22,5 +22,5 @@ NewDriverSends = (n : ℕ) (room : Reserve) (order : ℕ → ℕ → ℕ) (out :
 abbrev pub EventSends : {W : Type 0} → (W → ℕ → Bool → W → Type 0) → (W → Ask → List ℕ → Reply → W → Type 0) → Type 0
 EventSends {W} begins transacts = (base : Base) (member heads outs : ℕ → Bool) (parts : StructureSets) (hand : Hand) (c : Content) (wire after : W) (now : StructureSets) (later : Hand)
     (d : DriverContent) (order : ℕ → ℕ → ℕ) (out : ℕ → List ℕ) (acc : ℕ → List (List ℕ)) (reported : ℕ → List ℕ) → IsControlled base member parts hand c
-    → ControlEffect begins transacts parts hand wire after now later → AreReported heads order out hand parts acc reported → HoldMet d heads
+    → ControlEffect begins transacts parts hand wire after now later → AreReported heads order out hand parts acc reported → HoldThere d heads
     → ((n : ℕ) → outs n ≡ true → IsOut (parts n)) → HoldOuts d outs → SentStand d order out hand parts → SentStand d order out later now

@@ -19,7 +19,7 @@ use Rattle.fed_lends.specs.Streams.{new_order, new_out}
 use Rattle.fed_lends.specs.ToLend.{IsToBeLent, lent_now}
 use Rattle.lent_fronts.specs.Whole.{IsLentBehind}
 use Rattle.whole_sends.specs.Whole.{AreSentWhole}
-use Rattle.put_laws.specs.Sent.{SentStand, HoldMet}
+use Rattle.put_laws.specs.Sent.{SentStand, HoldThere}
 
 abbrev pub LendSends : Type 0
 LendSends = (d : DriverContent) (m : Mem) (t : ℕ) (y : TransferRuns) (x : EndpointRuns) (s : Stage) (ss : List Stage) (slot : ℕ → Slot) (member : ℕ → Bool) (parts now : StructureSets)
@@ -31,4 +31,4 @@ LendSends = (d : DriverContent) (m : Mem) (t : ℕ) (y : TransferRuns) (x : Endp
 abbrev pub LendRowSends : Type 0
 LendRowSends = (d : DriverContent) (m : Mem) (b : ℕ) (words : List ℕ) (member heads : ℕ → Bool) (parts now : StructureSets) (order order_now : ℕ → ℕ → ℕ) (out out_now : ℕ → List ℕ) (hand : Hand)
     (acc : ℕ → List (List ℕ)) (reported : ℕ → List ℕ) → IsToBeLent d m b words → IsLentBehind d m parts now order order_now out out_now → AreMembers member parts → AreMet d member
-    → AreReported heads order out hand parts acc reported → HoldMet d heads → SentStand d order out hand parts → SentStand (lent_now d m) order_now out_now hand now
+    → AreReported heads order out hand parts acc reported → HoldThere d heads → SentStand d order out hand parts → SentStand (lent_now d m) order_now out_now hand now

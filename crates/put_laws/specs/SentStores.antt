@@ -9,12 +9,12 @@ use Rattle.ring_laws.specs.Told.{Endpoint as Told}
 use Rattle.controlled_streams.specs.Reported.{AreReported}
 use Rattle.standing_fronts.specs.Reaching.{Reaches}
 use Rattle.publish_laws.specs.Stores.{IsAtStore, published_by, parts_then, out_then, next_of}
-use Rattle.put_laws.specs.Sent.{SentStand, HoldMet}
+use Rattle.put_laws.specs.Sent.{SentStand, HoldThere}
 
 abbrev pub StoreSends : Type 0
 StoreSends = (hand : Hand) (heads : ℕ → Bool) (acc : ℕ → List (List ℕ)) (reported : ℕ → List ℕ) (p : DriverParts) (member streams : ℕ → Bool) (ends : ℕ → Told) (parts : StructureSets)
     (order : ℕ → ℕ → ℕ) (out : ℕ → List ℕ) (b : ℕ) (words : List ℕ) → (k : IsAtStore p.driver p.memory member streams ends parts order out b words)
-    → AreReported heads order out hand parts acc reported → HoldMet p.driver heads
+    → AreReported heads order out hand parts acc reported → HoldThere p.driver heads
     → Reaches p.driver (parts (32 * (published_by k).endpoint.queue)) (order (32 * (published_by k).endpoint.queue)) (out (32 * (published_by k).endpoint.queue))
     (published_by k).transfer.endpoint (published_by k).endpoint (32 * b)
     → SentStand p.driver order out hand parts → SentStand (next_of p).driver order (out_then out (next_of p).driver (published_by k)) hand (parts_then (published_by k))

@@ -9,7 +9,6 @@
 use Rattle.std.specs.Prelude.{◌≡◌, ◌≢◌, ℕ, zero, suc, ◌<◌, ◌==◌, true, false, List, [], ◌∷◌, length, filter_map, slice_get, Some, if◌then◌else◌}
 use Rattle.std.specs.List.{AllByRecursion, concat}
 use Rattle.usb_base.specs.declared.commands.Cmd.{Cmd}
-use Rattle.usb_base.specs.declared.commands.Cmd.TheVariants as commands
 use Rattle.usb_base.specs.declared.endpoints.EpDesc.{EpDesc}
 use Rattle.usb_base.specs.declared.endpoints.EpName.{EpName}
 use Rattle.script_types.specs.declared.scripts.Line.{Line}

@@ -32,7 +32,7 @@ use Rattle.right_reports.specs.WorldReport.{closings_of, report_of}
 use Rattle.right_reports.specs.Ins.{AreRightInStreams}
 use Rattle.right_reports.specs.Laws.{BeginsEach}
 use Rattle.right_reports.proofs.Named.{HasNamed, NoneNamed, search, named_is, none_pending}
-use Rattle.chained_transfers.specs.Bulk.{IsDataWay, IsBulk, OpensBulk, BulkLine, BulkOnly, receives, IsStanding, OnlyBulk}
+use Rattle.chained_transfers.specs.Bulk.{IsDataWay, IsBulk, OpensOrCancelsBulk, BulkLine, BulkOnly, receives, IsStanding, OnlyBulk}
 
 -- ---- lists
 
@@ -54,13 +54,13 @@ all_mapped P Q h (x ∷ xs) gives k = with_first (h x) refl (all_mapped P Q h xs
 
 -- ---- what is opened
 
-accepted_by : (b : Bool) (l : Line) (cmd : Cmd) → BulkLine l → (if b then None else command_in l) ≡ Some cmd → OpensBulk cmd
+accepted_by : (b : Bool) (l : Line) (cmd : Cmd) → BulkLine l → (if b then None else command_in l) ≡ Some cmd → OpensOrCancelsBulk cmd
 accepted_by true l cmd k is = absurd cc
-accepted_by false (lines.Command c) cmd k is = subst OpensBulk (same_Some c cmd is) k
+accepted_by false (lines.Command c) cmd k is = subst OpensOrCancelsBulk (same_Some c cmd is) k
 accepted_by false (lines.Order event n) cmd k is = absurd cc
 accepted_by false (lines.Micro n) cmd k is = absurd cc
 
-opens_by : (cmd : Cmd) (desc : EpDesc) → OpensBulk cmd → open_in cmd ≡ Some desc → IsBulk desc
+opens_by : (cmd : Cmd) (desc : EpDesc) → OpensOrCancelsBulk cmd → open_in cmd ≡ Some desc → IsBulk desc
 opens_by (commands.OpenEp x) desc k is = subst IsBulk (same_Some x desc is) k
 opens_by (commands.Get name len by) desc k is = absurd cc
 opens_by (commands.Put name bytes by) desc k is = absurd cc
@@ -74,8 +74,8 @@ and_right false b is = absurd cc
 
 opened_bulk : (s : Script) (r : WholeReport) → BulkOnly s → AllByRecursion IsBulk (opened s r)
 opened_bulk s r k =
-    all_mapped OpensBulk IsBulk open_in (filter_map (accepted_in r) s.lines) opens_by
-    (all_mapped (λ line. BulkLine line.1) OpensBulk (accepted_in r) s.lines (λ line cmd bulk is. accepted_by (is_refused r line.0) line.1 cmd bulk is) k)
+    all_mapped OpensOrCancelsBulk IsBulk open_in (filter_map (accepted_in r) s.lines) opens_by
+    (all_mapped (λ line. BulkLine line.1) OpensOrCancelsBulk (accepted_in r) s.lines (λ line cmd bulk is. accepted_by (is_refused r line.0) line.1 cmd bulk is) k)
 
 all_right : (s : Script) (r : WholeReport) → BulkOnly s → ((desc : EpDesc) → IsBulk desc → receives desc.name.way ≡ true → IsRightStream s r desc.name) → AreRightInStreams s r
 all_right s r k each =

@@ -10,7 +10,7 @@ ghost use Rattle.chained_transfers.specs.Receives.{ReceivesOnly};
 ghost use Rattle.bus_world.specs.Opening.{opening_world};
 ghost use Rattle.right_reports.specs.WorldReport.{waiting_closing, report_of};
 ghost use Rattle.right_reports.specs.Ins.{AreRightInStreams};
-ghost use Rattle.right_reports.specs.Samples.{both_ways, told_by};
+ghost use Rattle.right_reports.specs.Samples.{both_ways, told_by, cancelling, halted_by};
 
 /// A line tells what is pending, and none tells nothing.
 pub fn closing_lines()
@@ -34,4 +34,12 @@ pub fn an_in_and_an_out()
     ensures right { AreRightInStreams both_ways (told_by (1 ∷ 2 ∷ 9 ∷ [])) }
     ensures out { AreRightStreams both_ways (told_by (1 ∷ 2 ∷ 9 ∷ [])) → ⊥ }
     ensures wrong { AreRightInStreams both_ways (told_by (1 ∷ 3 ∷ 9 ∷ [])) → ⊥ }
+{}
+
+/// A script that cancels its endpoint is of bulk endpoints too: what its line tells begins the packets, whether all of them had come or none.
+pub fn a_cancel()
+    ensures bulk { BulkOnly cancelling }
+    ensures all { AreRightInStreams cancelling (halted_by (1 ∷ 2 ∷ []) 2) }
+    ensures none { AreRightInStreams cancelling (halted_by [] 0) }
+    ensures wrong { AreRightInStreams cancelling (halted_by (1 ∷ 3 ∷ []) 2) → ⊥ }
 {}

@@ -3,12 +3,13 @@
 --     EventIsTold ..              an event of the controller over a ring is told, from whatever structures and copy in hand it begins
 --     IsUnderWay base member c    some structures and some copy in hand are those of a ring under the controller
 --     StaysUnderWay old new       where that held, it holds
-use Rattle.std.specs.Prelude.{◌≡◌, ℕ, Bool, List}
+--     EventsFollow old before n new after      n events of the controller follow each other, from the one content and wire to the other, and Run is 1 before each
+use Rattle.std.specs.Prelude.{◌≡◌, ℕ, ◌+◌, Bool, true, List}
 use Rattle.usb_base.specs.declared.packets.Ask.{Ask}
 use Rattle.usb_base.specs.declared.packets.Reply.{Reply}
 use Rattle.hc_core.specs.declared.controller.HcStep.{HcStep}
 use Rattle.hc_core.specs.declared.controller.HcStep.TheVariants as steps
-use Rattle.hc_core.specs.Controller.{Content}
+use Rattle.hc_core.specs.Controller.{Content, microframe_row, HasRow}
 use Rattle.lent_structures.specs.Structures.{StructureSets}
 use Rattle.ring_laws.specs.Hand.{Hand}
 use Rattle.ring_laws.specs.Ring.{Base}
@@ -50,3 +51,11 @@ made_by steps.Idle = 0
 -- all of so many events were made
 abbrev pub AllAreMade : {W : Type 0} → (W → Ask → List ℕ → Reply → W → Type 0) → Content → ℕ → ℕ → Type 0
 AllAreMade transacts old events made = (base : Base) (member : ℕ → Bool) → IsRunning transacts base member old → made ≡ events
+
+-- ---- events
+
+pub data EventsFollow {W : Type 0} (begins : W → ℕ → Bool → W → Type 0) (transacts : W → Ask → List ℕ → Reply → W → Type 0) (old : Content) (before : W)
+    : ℕ → Content → W → Type 0 where
+  none : EventsFollow begins transacts old before 0 old before
+  another : (n : ℕ) (mid : Content) (between : W) (new : Content) (after : W) → EventsFollow begins transacts old before n mid between
+      → mid.registers.run ≡ true → HasRow begins transacts (microframe_row mid.registers mid.control) mid between new after → EventsFollow begins transacts old before (n + 1) new after

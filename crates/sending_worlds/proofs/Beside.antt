@@ -1,7 +1,7 @@
 -- Each event of the controller leaves a world with what its driver has still to send: the bytes that devices took go on beginning the puts.
 use Rattle.std.proofs.Common.{◌≡◌, ℕ, ◌-◌, ◌*◌, Bool, false, if◌then◌else◌, List, length, slice_get, Option, Some, ap, refl, sym, subst, ◌∙◌, arith}
 use Rattle.std.specs.List.{concat}
-use Rattle.std.proofs.lemmas.Bool.{eq-eqb, true≢false}
+use Rattle.std.proofs.lemmas.Bool.{eq-eqb}
 use Rattle.usb_bus.specs.Bus.{Fixed}
 use Rattle.driver_rows.specs.declared.content.Command.{Command}
 use Rattle.driver_rows.specs.declared.content.Command.TheVariants as unfinished
@@ -9,7 +9,7 @@ use Rattle.driver_rows.specs.declared.content.Endpoint.{Endpoint}
 use Rattle.driver_rows.specs.declared.content.Transfer.{Transfer}
 use Rattle.driver_rows.specs.DriverContent.{DriverContent}
 use Rattle.chained_transfers.specs.Bulk.{receives}
-use Rattle.endpoint_lives.proofs.Lives.{linked_met}
+use Rattle.endpoint_lives.specs.Lives.{may_meet}
 use Rattle.fed_queues.specs.Places.{IsMet}
 use Rattle.standing_fronts.specs.Reaching.{Reaches}
 use Rattle.controlled_streams.specs.Control.{IsControlled, ControlEffect}
@@ -24,13 +24,14 @@ use Rattle.bus_world.specs.World.{World, controller_parts, controller_next}
 use Rattle.stream_worlds.specs.Streaming.{Streams, Standing, begins_by, transacts_by, wired}
 use Rattle.stream_worlds.proofs.StreamTurning.{world_has_row}
 use Rattle.world_bytes.proofs.Hearing.{hears_bytes}
-use Rattle.whole_worlds.specs.Feeding.{there_of, IsFeeding}
-use Rattle.whole_worlds.specs.Taking.{outs_of}
-use Rattle.whole_worlds.specs.Whole.{tail_block, tail_of, IsUnderWay, IsWhole}
-use Rattle.whole_worlds.proofs.Told.{there_on}
+use Rattle.feeding_worlds.specs.Feeding.{there_of, IsFeeding}
+use Rattle.feeding_worlds.specs.Taking.{outs_of}
+use Rattle.feeding_worlds.specs.Tails.{tail_block, tail_of, IsUnderWay}
+use Rattle.whole_worlds.specs.Whole.{IsWhole}
+use Rattle.feeding_worlds.proofs.Told.{there_on}
 use Rattle.whole_worlds.proofs.TakingHeads.{outs_stand}
-use Rattle.whole_worlds.proofs.Beside.{whole_beside, effect, after_event}
-use Rattle.put_laws.specs.Sent.{SentStand, HoldMet, HoldOuts}
+use Rattle.whole_worlds.proofs.Beside.{beside, whole_beside, effect, after_event}
+use Rattle.put_laws.specs.Sent.{SentStand, HoldThere, HoldOuts}
 use Rattle.put_laws.proofs.Events.{event_sends}
 use Rattle.put_laws.specs.HeldPuts.{HoldsPuts}
 use Rattle.put_laws.specs.HeldLaws.{IsPublishing, OutsAskNoData}
@@ -43,7 +44,9 @@ use Rattle.put_laws.proofs.Same.{alike_owes}
 use Rattle.put_laws.proofs.BufferBytes.{buffers_are_rest, buffers_before_lend, buffers_around}
 use Rattle.put_laws.proofs.TakenBegins.{event_taken}
 use Rattle.put_laws.proofs.TakenStopped.{event_stopped}
+use Rattle.feeding_worlds.proofs.Controlled.{taker_stays}
 use Rattle.sending_worlds.specs.Sending.{IsSending}
+use Rattle.sending_worlds.proofs.Each.{has_of}
 use Rattle.sending_worlds.specs.WorldLaws.{ControllerKeepsSending}
 
 -- ---- the first qTD of the transfer that is published is the tail of its queue
@@ -88,7 +91,7 @@ module _ (fixed : Fixed) (takes : ℕ → ℕ → Bool) (member : ℕ → Bool) 
 
   -- ---- queue heads
 
-  heads_are : HoldMet d (there_of d)
+  heads_are : HoldThere d (there_of d)
   heads_are = there_on d
 
   outs_named : HaveOuts d outs x.endpoint
@@ -155,9 +158,15 @@ module _ (fixed : Fixed) (takes : ℕ → ℕ → Bool) (member : ℕ → Bool) 
     ended = ended_then;
   }
 
-  -- the walk may meet each
+  -- those that have left keep what they took
+  left_taker : (e : ℕ) (z : Endpoint) (here : slice_get d.endpoints e ≡ Some z) (sends : receives z.desc.name.way ≡ false) (off : may_meet d e z ≡ false)
+      → taker_of (wired fixed new) z.desc.name.addr z.desc.name.num ≡ Some (k.left_takers e z here sends off).taker
+  left_taker e z here sends off =
+      let h = k.left_takers e z here sends off in
+      taker_stays fixed takes member x s w f k.whole.taking (beside fixed takes member x s w k.whole) k.whole.left z.desc.name.addr z.desc.name.num h.taker (k.whole.left.shut e z here sends off) h.is
+
   leave_takers : LeaveTakers taker_of d (wired fixed w) (wired fixed new)
-  leave_takers e z here sends off = absurd (true≢false (sym (linked_met d e z (k.whole.stays.endpoints e z here).linked) ∙ off))
+  leave_takers e z here sends off = left_taker e z here sends off ∙ sym (k.left_takers e z here sends off).is
 
   begin_then : TakenBegin taker_of d puts (wired fixed new)
   begin_then =
@@ -168,13 +177,8 @@ module _ (fixed : Fixed) (takes : ℕ → ℕ → Bool) (member : ℕ → Bool) 
   -- ---- all of it
 
   pub sending_beside : IsSending fixed takes member x now puts new
-  sending_beside = record { whole = whole_then; sent = sent_then; ended = ended_then; held = held_then; owes = owes_then; begin = begin_then }
+  sending_beside = record { whole = whole_then; sent = sent_then; ended = ended_then; held = held_then; owes = owes_then; begin = begin_then; left_takers = λ e z here sends off. record { taker = (k.left_takers e z here sends off).taker; is = left_taker e z here sends off } }
 
 pub controller_sending : ControllerKeepsSending
-controller_sending fixed takes member x s puts w k = record {
-  member = member;
-  streams = x.streams;
-  endpoint = x.endpoint;
-  standing = now fixed takes member x s puts w k;
-  sending = sending_beside fixed takes member x s puts w k;
-}
+controller_sending fixed takes member x s puts w k =
+    has_of fixed takes member x (now fixed takes member x s puts w k) puts (controller_next fixed w) (sending_beside fixed takes member x s puts w k)

@@ -1,5 +1,5 @@
 -- A command leaves a world with what its driver has still to send: one that is refused changes no endpoint, transfer or note, and an accepted put is one more.
-use Rattle.std.proofs.Common.{◌≡◌, ◌≢◌, ℕ, Bool, true, List, get_or, length, slice_get, Option, Some, None, Result, Ok, Err, ap, refl, sym, ◌∙◌, ⊎_elim, inl, inr}
+use Rattle.std.proofs.Common.{◌≡◌, ◌≢◌, ℕ, Bool, true, List, get_or, length, slice_get, Option, Some, None, Result, Ok, Err, ap, refl, sym, ◌∙◌, ⊎_elim, inl, inr, subst, ◌⊎◌}
 use Rattle.std.specs.List.{concat}
 use Rattle.std.proofs.lemmas.Option.{slice_get_within}
 use Rattle.usb_base.specs.declared.commands.Cmd.{Cmd}
@@ -13,7 +13,7 @@ use Rattle.driver_rows.specs.Offers.{Offered, new_runs, new_endpoint, offered, I
 use Rattle.run_owners.specs.Accepts.{Opens, Transfers}
 use Rattle.lent_structures.specs.Structures.{StructureSets}
 use Rattle.chained_transfers.specs.Accepted.{IsAccepted}
-use Rattle.chained_transfers.specs.Bulk.{OpensBulk}
+use Rattle.chained_transfers.specs.Bulk.{OpensBulk, OpensOrCancelsBulk}
 use Rattle.chained_transfers.specs.InTurn.{TakesTurns}
 use Rattle.chained_transfers.proofs.Accepting.{command_received, opens_or_cancels}
 use Rattle.endpoint_lives.proofs.Lives.{told_some}
@@ -38,11 +38,14 @@ use Rattle.put_laws.proofs.Commands.{command_owes}
 use Rattle.put_laws.proofs.Rests.{prefix_to, puts_kept}
 use Rattle.put_laws.proofs.Same.{alike_owes}
 use Rattle.put_laws.proofs.TakenRows.{command_taken}
-use Rattle.whole_worlds.specs.Laws.{OpensTo}
 use Rattle.whole_worlds.specs.Whole.{IsWhole}
-use Rattle.whole_worlds.proofs.Commanding.{whole_commanded}
-use Rattle.sending_worlds.specs.Sending.{IsSending}
+use Rattle.whole_worlds.proofs.Commanding.{whole_commanded, OpensToOnce}
+use Rattle.sending_worlds.specs.Sending.{IsSending, HaveLeftTakers}
 use Rattle.sending_worlds.specs.WorldLaws.{CommandKeepsSending}
+use Rattle.usb_base.specs.declared.commands.Cmd.TheVariants as commands
+use Rattle.feeding_worlds.proofs.Commands.{unmet_by}
+use Rattle.sending_worlds.proofs.SentLeaving.{cancel_keeps_sent}
+use Rattle.sending_worlds.proofs.Each.{takers_stay, sent_of, has_of}
 
 -- ---- a refusal
 
@@ -63,8 +66,8 @@ module _ (d : DriverContent) (line : ℕ) (name : EpName) (why : OfferError) (m 
       (begin e z s here (⊎_elim (λ (gone : z.gone ≡ true). inl gone) (λ (there : IsThere f z). inr (record { linked = there.linked; kept = there.kept })) life) sends is)
 
 refused_sending : (fixed : Fixed) (takes : ℕ → ℕ → Bool) (member : ℕ → Bool) (x : Streams) (s : Standing) (puts now : ℕ → List ℕ) (w : World) (line : ℕ) (name : EpName) (why : OfferError) → KeepsPuts w.driver puts now
-    → IsWhole fixed takes member x s (commanded_by w line name (Err why)) → IsSending fixed takes member x s puts w → IsSending fixed takes member x s now (commanded_by w line name (Err why))
-refused_sending fixed takes member x s puts now w line name why keeps whole k =
+    → IsWhole fixed takes member x s (commanded_by w line name (Err why)) → HaveLeftTakers fixed (commanded_by w line name (Err why)) → IsSending fixed takes member x s puts w → IsSending fixed takes member x s now (commanded_by w line name (Err why))
+refused_sending fixed takes member x s puts now w line name why keeps whole left k =
     let d = w.driver in
     record {
       whole = whole;
@@ -73,6 +76,7 @@ refused_sending fixed takes member x s puts now w line name why keeps whole k =
       held = refused_held d line name why w.memory puts now s.reported keeps k.held;
       owes = refused_owes d line name why w.memory puts now s.reported keeps k.whole.feeding.turns k.held k.owes;
       begin = refused_begin d line name why w.memory puts now s.reported keeps taker_of (wired fixed w) k.begin;
+      left_takers = left;
     }
 
 -- ---- an accepted command
@@ -127,9 +131,9 @@ module _ (fixed : Fixed) (takes : ℕ → ℕ → Bool) (member : ℕ → Bool) 
   begin_then = command_taken taker_of d w.memory cmd o puts now (wired fixed w) k.whole.feeding.turns (opens_or_cancels cmd only) offer (then_before d cmd puts) k.begin
 
 accepted_sending : (fixed : Fixed) (takes : ℕ → ℕ → Bool) (member : ℕ → Bool) (x : Streams) (s : Standing) (puts : ℕ → List ℕ) (w : World) (line : ℕ) (name : EpName) (cmd : Cmd) (o : Offered) → OpensBulk cmd → IsByteCommand cmd → IsOffered w.driver.room cmd
-    → offered w.driver w.memory cmd ≡ Ok o → IsWhole fixed takes member x s (commanded_by w line name (Ok o)) → IsSending fixed takes member x s puts w
+    → offered w.driver w.memory cmd ≡ Ok o → IsWhole fixed takes member x s (commanded_by w line name (Ok o)) → HaveLeftTakers fixed (commanded_by w line name (Ok o)) → IsSending fixed takes member x s puts w
     → IsSending fixed takes member x s (puts_then w.driver cmd puts) (commanded_by w line name (Ok o))
-accepted_sending fixed takes member x s puts w line name cmd o only bytes room offer whole k =
+accepted_sending fixed takes member x s puts w line name cmd o only bytes room offer whole left k =
     let held = held_then fixed takes member x s puts w cmd o k only offer room bytes in
     record {
       whole = whole;
@@ -138,22 +142,68 @@ accepted_sending fixed takes member x s puts w line name cmd o only bytes room o
       held = held;
       owes = owes_then fixed takes member x s puts w cmd o k only offer held;
       begin = begin_then fixed takes member x s puts w cmd o k only offer;
+      left_takers = left;
     }
 
 -- ---- either
+
+same_wire : (fixed : Fixed) (w : World) (line : ℕ) (name : EpName) (r : Result Offered OfferError) → wired fixed (commanded_by w line name r) ≡ wired fixed w
+same_wire fixed w line name (Ok o) = refl
+same_wire fixed w line name (Err why) = refl
+
+left_by : (fixed : Fixed) (takes : ℕ → ℕ → Bool) (member : ℕ → Bool) (x : Streams) (s : Standing) (puts : ℕ → List ℕ) (w : World) (line : ℕ) (cmd : Cmd) (r : Result Offered OfferError) → OpensOrCancelsBulk cmd
+    → offered w.driver w.memory cmd ≡ r → IsSending fixed takes member x s puts w → HaveLeftTakers fixed (commanded_by w line (name_in cmd) r)
+left_by fixed takes member x s puts w line cmd r only is k =
+    takers_stay fixed takes member x s puts w k (commanded_by w line (name_in cmd) r) (unmet_by w line cmd r only k.whole.feeding.turns.bulk k.whole.feeding.turns is)
+    (same_wire fixed w line (name_in cmd) r)
 
 by_offer : (fixed : Fixed) (takes : ℕ → ℕ → Bool) (member : ℕ → Bool) (x : Streams) (s : Standing) (puts : ℕ → List ℕ) (w : World) (line : ℕ) (cmd : Cmd) (r : Result Offered OfferError) → OpensBulk cmd → IsByteCommand cmd → IsOffered w.driver.room cmd
     → offered w.driver w.memory cmd ≡ r → IsWhole fixed takes member x s (commanded_by w line (name_in cmd) r) → IsSending fixed takes member x s puts w
     → IsSending fixed takes member x s (puts_then w.driver cmd puts) (commanded_by w line (name_in cmd) r)
 by_offer fixed takes member x s puts w line cmd (Err why) only bytes room is whole k =
-    refused_sending fixed takes member x s puts (puts_then w.driver cmd puts) w line (name_in cmd) why (then_before w.driver cmd puts) whole k
-by_offer fixed takes member x s puts w line cmd (Ok o) only bytes room is whole k = accepted_sending fixed takes member x s puts w line (name_in cmd) cmd o only bytes room is whole k
+    refused_sending fixed takes member x s puts (puts_then w.driver cmd puts) w line (name_in cmd) why (then_before w.driver cmd puts) whole
+    (left_by fixed takes member x s puts w line cmd (Err why) (opens_or_cancels cmd only) is k) k
+by_offer fixed takes member x s puts w line cmd (Ok o) only bytes room is whole k =
+    accepted_sending fixed takes member x s puts w line (name_in cmd) cmd o only bytes room is whole (left_by fixed takes member x s puts w line cmd (Ok o) (opens_or_cancels cmd only) is k) k
 
-pub sending_commanded : (fixed : Fixed) (takes : ℕ → ℕ → Bool) (member : ℕ → Bool) (x : Streams) (s : Standing) (puts : ℕ → List ℕ) (w : World) (line : ℕ) (cmd : Cmd) → OpensBulk cmd → OpensTo x.stream takes cmd → OpensNumbered cmd → IsByteCommand cmd
-    → IsOffered w.driver.room cmd → IsSending fixed takes member x s puts w → IsSending fixed takes member x s (puts_then w.driver cmd puts) (commanded w line cmd)
+-- ---- a cancel
+
+cancel_sending : (fixed : Fixed) (takes : ℕ → ℕ → Bool) (member : ℕ → Bool) (x : Streams) (s : Standing) (puts : ℕ → List ℕ) (w : World) (line : ℕ) (name : EpName) → IsOffered w.driver.room (commands.Cancel name)
+    → IsWhole fixed takes member x s (commanded w line (commands.Cancel name)) → IsSending fixed takes member x s puts w
+    → IsSending fixed takes member x s (puts_then w.driver (commands.Cancel name) puts) (commanded w line (commands.Cancel name))
+cancel_sending fixed takes member x s puts w line name room whole k =
+    let then = cancel_keeps_sent fixed member x s puts w line name room k.whole.feeding (sent_of fixed takes member x s puts w k) in
+    record {
+      whole = whole;
+      sent = then.sent;
+      ended = then.ended;
+      held = then.held;
+      owes = then.owes;
+      begin = then.begin;
+      left_takers = left_by fixed takes member x s puts w line (commands.Cancel name) (offered w.driver w.memory (commands.Cancel name)) tt refl k;
+    }
+
+-- ---- each command
+
+by_kind : (cmd : Cmd) → OpensOrCancelsBulk cmd → OpensBulk cmd ⊎ ((name : EpName) × (cmd ≡ commands.Cancel name))
+by_kind (commands.OpenEp x) only = inl only
+by_kind (commands.Get name len by) only = inl tt
+by_kind (commands.Put name bytes by) only = inl tt
+by_kind (commands.Control name setup bytes) only = inl tt
+by_kind (commands.Iso name count len seed) only = inl tt
+by_kind (commands.Cancel name) only = inr (name, refl)
+
+pub sending_commanded : (fixed : Fixed) (takes : ℕ → ℕ → Bool) (member : ℕ → Bool) (x : Streams) (s : Standing) (puts : ℕ → List ℕ) (w : World) (line : ℕ) (cmd : Cmd) → OpensOrCancelsBulk cmd
+    → OpensToOnce x.stream takes w cmd → OpensNumbered cmd → IsByteCommand cmd → IsOffered w.driver.room cmd → IsSending fixed takes member x s puts w
+    → IsSending fixed takes member x s (puts_then w.driver cmd puts) (commanded w line cmd)
 sending_commanded fixed takes member x s puts w line cmd only to fits bytes room k =
-    by_offer fixed takes member x s puts w line cmd (offered w.driver w.memory cmd) only bytes room refl (whole_commanded fixed takes member x s w line cmd only to fits room k.whole) k
+    let whole : IsWhole fixed takes member x s (commanded w line cmd) = whole_commanded fixed takes member x s w line cmd only to fits room k.whole in
+    ⊎_elim (λ (opens : OpensBulk cmd). by_offer fixed takes member x s puts w line cmd (offered w.driver w.memory cmd) opens bytes room refl whole k)
+    (λ (cancels : (name : EpName) × (cmd ≡ commands.Cancel name)).
+    subst (λ (c : Cmd). IsSending fixed takes member x s (puts_then w.driver c puts) (commanded w line c)) (sym cancels.1)
+    (cancel_sending fixed takes member x s puts w line cancels.0 (subst (IsOffered w.driver.room) cancels.1 room) (subst (λ (c : Cmd). IsWhole fixed takes member x s (commanded w line c)) cancels.1 whole) k))
+    (by_kind cmd only)
 
 pub command_sending : CommandKeepsSending
 command_sending fixed takes member x s puts w line cmd only to fits bytes room k =
-    record { member = member; streams = x.streams; endpoint = x.endpoint; standing = s; sending = sending_commanded fixed takes member x s puts w line cmd only to fits bytes room k }
+    has_of fixed takes member x s (puts_then w.driver cmd puts) (commanded w line cmd) (sending_commanded fixed takes member x s puts w line cmd only to fits bytes room k)

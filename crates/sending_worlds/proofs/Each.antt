@@ -1,8 +1,9 @@
 -- What each event of the driver leaves of a world with what its driver has still to send: the buffers of puts hold their bytes, what the devices took begins their
 -- puts, the queue heads of endpoints that have ended are halted, and what is still to be sent stands behind what was reported.
-use Rattle.std.proofs.Common.{◌≡◌, ◌≢◌, ℕ, ◌*◌, Bool, false, List, [], slice_get, Option, Some, None, ap, refl, sym, subst, ◌∙◌}
+use Rattle.std.proofs.Common.{◌≡◌, ◌≢◌, ℕ, ◌*◌, Bool, false, List, [], slice_get, Option, Some, None, ap, refl, sym, subst, ◌∙◌, inl}
 use Rattle.std.proofs.lemmas.Option.{same_Some}
 use Rattle.async_walk.specs.Rows.{place}
+use Rattle.usb_base.specs.declared.endpoints.EpDesc.{EpDesc}
 use Rattle.driver_rows.specs.declared.content.Endpoint.{Endpoint}
 use Rattle.driver_rows.specs.declared.content.Command.{Command}
 use Rattle.driver_rows.specs.declared.content.Command.TheVariants as unfinished
@@ -10,9 +11,9 @@ use Rattle.driver_rows.specs.declared.rows.DriverRow.TheVariants as rows
 use Rattle.driver_rows.specs.declared.rows.Found.{Found}
 use Rattle.driver_rows.specs.Rows.{driver_row}
 use Rattle.driver_rows.specs.Words.{queue_head}
-use Rattle.run_owners.specs.Due.{IsDue, IsEndpointDue, IsHarvestDue}
+use Rattle.run_owners.specs.Due.{IsDue, IsEndpointDue, IsHarvestDue, IsTransferDue}
+use Rattle.driver_rows.specs.declared.rows.DriverRow.{DriverRow}
 use Rattle.run_owners.specs.Kept.{HasOwners}
-use Rattle.run_owners.specs.Leaving.{leaver}
 use Rattle.run_owners.proofs.Reasons.{each_is_due}
 use Rattle.usb_bus.specs.Bus.{Fixed}
 use Rattle.ring_laws.specs.Told.{Endpoint as Told, endpoint_of}
@@ -22,7 +23,6 @@ use Rattle.driver_laws.specs.PartOpened.{opening_base}
 use Rattle.driver_laws.specs.Driven.{DrivesRing}
 use Rattle.chained_transfers.specs.Bulk.{receives}
 use Rattle.chained_transfers.proofs.Ways.{way_sends}
-use Rattle.endpoint_lives.proofs.Lives.{linked_met}
 use Rattle.fed_queues.specs.Places.{IsThere, HasHead}
 use Rattle.controlled_streams.specs.Unopened.{IsUnopened}
 use Rattle.stream_worlds.specs.Outs.{IsUntaken}
@@ -36,11 +36,14 @@ use Rattle.put_laws.specs.OwedTaken.{TakenBegin, EndedAreStopped}
 use Rattle.put_laws.proofs.Driver.{driver_owes}
 use Rattle.put_laws.proofs.TakenRows.{driver_taken}
 use Rattle.put_laws.proofs.TakenStopped.{alike_stopped}
-use Rattle.whole_worlds.specs.Taking.{outs_of}
-use Rattle.whole_worlds.proofs.Heads.{head_is}
-use Rattle.whole_worlds.proofs.TakingAlike.{out_on}
+use Rattle.feeding_worlds.specs.Taking.{outs_of}
+use Rattle.feeding_worlds.proofs.Heads.{head_is}
+use Rattle.feeding_worlds.proofs.TakingAlike.{out_on}
 use Rattle.whole_worlds.proofs.Returning.{stand}
-use Rattle.sending_worlds.specs.Sending.{IsSending}
+use Rattle.feeding_worlds.proofs.Unmet.{UnmetStay}
+use Rattle.feeding_worlds.proofs.Rows.{row_unmet}
+use Rattle.sending_worlds.specs.LeavingSent.{IsSent}
+use Rattle.sending_worlds.specs.Sending.{IsSending, HasSending, HaveLeftTakers}
 
 -- ---- rows that are no harvest
 
@@ -50,17 +53,45 @@ HarvestsNone w = (e t : ℕ) (found : Found) → driver_row (driver_parts w) ≢
 no_command : (o : Option Command) (c : Command) → o ≡ None → o ≡ Some c → ⊥
 no_command o c idle busy = let e : ◌≡◌ {A = Option Command} None (Some c) = sym idle ∙ busy in cc
 
-no_leaver : (e : ℕ) → ◌≡◌ {A = Option ℕ} None (Some e) → ⊥
-no_leaver e bad = cc
-
-none_first : {X : Type 0} (xs : List X) (x : X) → xs ≡ [] → slice_get xs 0 ≡ Some x → ⊥
-none_first xs x none here = let e : ◌≡◌ {A = Option _} None (Some x) = sym (ap (λ ys. slice_get ys 0) none) ∙ here in cc
-
 -- while a command is unfinished
 pub busy_harvests_none : (w : World) (c : Command) → w.driver.command ≡ Some c → HarvestsNone w
 busy_harvests_none w c busy e t found row =
     let due : IsHarvestDue (driver_parts w) e t found = subst (IsDue (driver_parts w)) row (each_is_due (driver_parts w)) in
     no_command w.driver.command c due.idle busy
+
+-- ---- rows by which no endpoint leaves
+
+pub record IsOrdinary (w : World) : Type 0 where
+  pub no_unlink : (e b link : ℕ) → w.driver.command ≢ Some (unfinished.Unlink e b link)
+  pub no_clear : driver_row (driver_parts w) ≢ rows.ClearAdvance
+  pub no_release : (e : ℕ) → driver_row (driver_parts w) ≢ rows.ReleaseEndpoint e
+
+-- both come while no command is unfinished
+pub busy_ordinary : (w : World) (c : Command) → w.driver.command ≡ Some c → ((e b link : ℕ) → c ≢ unfinished.Unlink e b link) → IsOrdinary w
+busy_ordinary w c busy other = record {
+  no_unlink = λ e b link is. other e b link (same_Some c (unfinished.Unlink e b link) (sym busy ∙ is));
+  no_clear = λ row. let due : IsDue (driver_parts w) rows.ClearAdvance = subst (IsDue (driver_parts w)) row (each_is_due (driver_parts w)) in no_command w.driver.command c due.0 busy;
+  no_release = λ e row. let due : IsEndpointDue (driver_parts w) e = subst (IsDue (driver_parts w)) row (each_is_due (driver_parts w)) in no_command w.driver.command c due.idle busy;
+}
+
+pub idle_ordinary : (w : World) (row : DriverRow) → driver_row (driver_parts w) ≡ row → w.driver.command ≡ None → row ≢ rows.ClearAdvance → ((e : ℕ) → row ≢ rows.ReleaseEndpoint e) → IsOrdinary w
+idle_ordinary w row is idle clears releases = record {
+  no_unlink = λ e b link busy. no_command w.driver.command (unfinished.Unlink e b link) idle busy;
+  no_clear = λ same. clears (sym is ∙ same);
+  no_release = λ e same. releases e (sym is ∙ same);
+}
+
+no_unlink_publish : (b e c link : ℕ) (words : List ℕ) → unfinished.Publish b words ≢ unfinished.Unlink e c link
+no_unlink_publish b e c link words same = cc
+
+no_unlink_open : (queue e c link : ℕ) → unfinished.Open queue ≢ unfinished.Unlink e c link
+no_unlink_open queue e c link same = cc
+
+pub publish_ordinary : (w : World) (b : ℕ) (words : List ℕ) → w.driver.command ≡ Some (unfinished.Publish b words) → IsOrdinary w
+publish_ordinary w b words busy = busy_ordinary w (unfinished.Publish b words) busy (λ e c link. no_unlink_publish b e c link words)
+
+pub open_ordinary : (w : World) (queue : ℕ) → w.driver.command ≡ Some (unfinished.Open queue) → IsOrdinary w
+open_ordinary w queue busy = busy_ordinary w (unfinished.Open queue) busy (no_unlink_open queue)
 
 -- ---- each event
 
@@ -71,22 +102,14 @@ module _ (fixed : Fixed) (takes : ℕ → ℕ → Bool) (member : ℕ → Bool) 
   abbrev pub drives : DrivesRing opening_base member s.parts s.hand (place w.control.walk w.registers w.memory) w.driver
   drives = record { ring = k.whole.feeding.working.streaming.controlled.ring; driven = k.whole.feeding.working.driven }
 
-  -- nothing leaves the ring
-  unlinks_none : (e b link : ℕ) → w.driver.command ≡ Some (unfinished.Unlink e b link) → ⊥
-  unlinks_none e b link is = no_leaver e (sym k.whole.stays.command ∙ ap leaver is)
-
-  releases_none : (e : ℕ) → driver_row (driver_parts w) ≡ rows.ReleaseEndpoint e → ⊥
-  releases_none e row =
-      let due : IsEndpointDue (driver_parts w) e = subst (IsDue (driver_parts w)) row (each_is_due (driver_parts w)) in
-      none_first w.driver.cleared e k.whole.stays.cleared due.first
-
   released_met : IsReleasedMet (driver_parts w)
-  released_met t y z row there here = linked_met w.driver y.endpoint z (k.whole.stays.endpoints y.endpoint z here).linked
+  released_met t y z row there here =
+      let due : IsTransferDue (driver_parts w) t = subst (IsDue (driver_parts w)) row (each_is_due (driver_parts w)) in k.whole.left.owed 0 t y z due.first there here
 
-  pub held_then : HoldsPuts (driver_next w).driver (driver_next w).memory puts
-  held_then =
+  pub held_then : IsOrdinary w → HoldsPuts (driver_next w).driver (driver_next w).memory puts
+  held_then o =
       driver_holds opening_base member s.parts s.hand w.control.walk (driver_parts w) s.order s.out puts owners k.whole.feeding.turns drives k.whole.feeding.queues.fed
-      (λ t row. stand fixed takes member x s w t row k.whole) released_met (λ e b link is. absurd (unlinks_none e b link is)) (λ e row. absurd (releases_none e row)) k.held
+      (λ t row. stand fixed takes member x s w t row k.whole) released_met (λ e b link is. absurd (o.no_unlink e b link is)) (λ e row. absurd (o.no_release e row)) k.held
 
   -- ---- what devices took
 
@@ -106,11 +129,11 @@ module _ (fixed : Fixed) (takes : ℕ → ℕ → Bool) (member : ℕ → Bool) 
       let same : h.endpoint ≡ z = same_Some h.endpoint z (sym h.here ∙ ap (slice_get w.driver.endpoints) number ∙ here) in
       h.met.there.linked (opens ∙ ap (λ (y : Endpoint). Some (unfinished.Open y.queue)) (sym same))
 
-  pub nothing_taken : (e : ℕ) (z : Endpoint) (t : Taker) → slice_get w.driver.endpoints e ≡ Some z → w.driver.command ≡ Some (unfinished.Open z.queue) → receives z.desc.name.way ≡ false
+  pub nothing_taken : (e : ℕ) (z : Endpoint) (t : Taker) → slice_get w.driver.endpoints e ≡ Some z → w.driver.command ≡ Some (unfinished.Open z.queue) → z.gone ≡ false → receives z.desc.name.way ≡ false
       → taker_of (wired fixed w) z.desc.name.addr z.desc.name.num ≡ Some t → t.taken ≡ []
-  nothing_taken e z t here opens sends is =
+  nothing_taken e z t here opens kept sends is =
       let u : IsUntaken (taker_of (wired fixed w) z.desc.name.addr z.desc.name.num) =
-      k.whole.taking.untaken z.desc.name.addr z.desc.name.num (k.whole.takers e z here opens (k.whole.stays.endpoints e z here).gone sends) (unopened e z here opens sends) in
+      k.whole.taking.untaken z.desc.name.addr z.desc.name.num (k.whole.takers e z here opens kept sends) (unopened e z here opens sends) in
       ap (λ (v : Taker). v.taken) (same_Some t u.taker (sym is ∙ u.is)) ∙ u.none
 
   pub begin_then : TakenBegin taker_of (driver_next w).driver puts (wired fixed (driver_next w))
@@ -118,18 +141,49 @@ module _ (fixed : Fixed) (takes : ℕ → ℕ → Bool) (member : ℕ → Bool) 
 
   -- ---- rows that are no harvest
 
-  pub ended_alike : HarvestsNone w → EndedAreStopped (driver_next w).driver s.parts
-  ended_alike none = alike_stopped (driver_parts w) s.parts k.whole.feeding.turns none releases_none k.ended
+  pub ended_alike : IsOrdinary w → HarvestsNone w → EndedAreStopped (driver_next w).driver s.parts
+  ended_alike o none = alike_stopped (driver_parts w) s.parts k.whole.feeding.turns none o.no_release k.ended
 
   -- `told` tells what was reported of queues that are there, and nothing of one whose open is finished
-  pub owes_then : (told : ℕ → List ℕ) → HarvestsNone w
+  pub owes_then : IsOrdinary w → (told : ℕ → List ℕ) → HarvestsNone w
       → ((e : ℕ) (z : Endpoint) → slice_get w.driver.endpoints e ≡ Some z → IsThere w.driver z → told (32 * z.queue) ≡ s.reported (32 * z.queue))
       → ((e : ℕ) (z : Endpoint) → slice_get w.driver.endpoints e ≡ Some z → w.driver.command ≡ Some (unfinished.Open z.queue) → IsThere (driver_next w).driver z → told (32 * z.queue) ≡ [])
       → Owes (driver_next w).driver (driver_next w).memory puts told
-  owes_then told none met opened = driver_owes (driver_parts w) puts s.reported told owners k.whole.feeding.turns none releases_none met opened k.held held_then k.owes
+  owes_then o told none met opened = driver_owes (driver_parts w) puts s.reported told owners k.whole.feeding.turns none o.no_release met opened k.held (held_then o) k.owes
 
   -- no open is finished
-  pub owes_same : HarvestsNone w
+  pub owes_same : IsOrdinary w → HarvestsNone w
       → ((e : ℕ) (z : Endpoint) → slice_get w.driver.endpoints e ≡ Some z → w.driver.command ≡ Some (unfinished.Open z.queue) → IsThere (driver_next w).driver z → ⊥)
       → Owes (driver_next w).driver (driver_next w).memory puts s.reported
-  owes_same none opens = owes_then s.reported none (λ e z here met. refl) (λ e z here is met. absurd (opens e z here is met))
+  owes_same o none opens = owes_then o s.reported none (λ e z here met. refl) (λ e z here is met. absurd (opens e z here is met))
+
+  -- ---- endpoints that have left
+
+  pub takers_stay : (new : World) → UnmetStay w.driver new.driver → wired fixed new ≡ wired fixed w → HaveLeftTakers fixed new
+  takers_stay new stay same e z here sends off =
+      let u = stay e z here off in
+      let h = k.left_takers e u.endpoint u.here (sym (ap (λ (y : EpDesc). receives y.name.way) u.desc) ∙ sends) u.unmet in
+      record { taker = h.taker; is = ap (λ v. taker_of v z.desc.name.addr z.desc.name.num) same ∙ ap (λ (y : EpDesc). taker_of (wired fixed w) y.name.addr y.name.num) u.desc ∙ h.is }
+
+  pub left_then : IsOrdinary w → HaveLeftTakers fixed (driver_next w)
+  left_then o = takers_stay (driver_next w) (row_unmet fixed member x s w o.no_clear o.no_release k.whole.feeding) refl
+
+  -- ---- what is sent, without the rest
+
+  pub sent_of : IsSent fixed puts s w
+  sent_of = record { sent = k.sent; ended = k.ended; held = k.held; owes = k.owes; begin = k.begin }
+
+-- the same streams are open
+pub has_of : (fixed : Fixed) (takes : ℕ → ℕ → Bool) (member : ℕ → Bool) (x : Streams) (s : Standing) (puts : ℕ → List ℕ) (w : World) → IsSending fixed takes member x s puts w
+    → HasSending fixed takes x.stream x.packets puts w
+has_of fixed takes member x s puts w k = record {
+  member = member;
+  streams = x.streams;
+  endpoint = x.endpoint;
+  standing = s;
+  ins = x.stream;
+  outs = takes;
+  sending = k;
+  ins_stay = λ addr ep on. inl on;
+  outs_stay = λ addr ep on. inl on;
+}

@@ -39,14 +39,14 @@ use Rattle.put_laws.proofs.OwedReading.{told_once}
 use Rattle.put_laws.proofs.Reported.{harvest_owes, wait_owes}
 use Rattle.put_laws.proofs.Rests.{prefix_of}
 use Rattle.put_laws.proofs.TakenStopped.{harvest_stops}
-use Rattle.whole_worlds.specs.Feeding.{IsFeeding}
-use Rattle.whole_worlds.specs.HarvestFeeds.{HarvestLeaves}
-use Rattle.whole_worlds.proofs.FeedingPassed.{passed_untold}
-use Rattle.whole_worlds.proofs.Heads.{queue_reported}
+use Rattle.feeding_worlds.specs.Feeding.{IsFeeding}
+use Rattle.feeding_worlds.specs.HarvestFeeds.{HarvestLeaves}
+use Rattle.feeding_worlds.proofs.FeedingPassed.{passed_untold}
+use Rattle.feeding_worlds.proofs.Heads.{queue_reported}
 use Rattle.whole_worlds.proofs.Leaving.{due, fronts, leaves, whole_harvested}
 use Rattle.sending_worlds.specs.Sending.{IsSending, HasSending}
 use Rattle.sending_worlds.specs.WorldLaws.{HarvestKeepsSending}
-use Rattle.sending_worlds.proofs.Each.{held_then, begin_then}
+use Rattle.sending_worlds.proofs.Each.{held_then, begin_then, IsOrdinary, idle_ordinary, left_then, has_of}
 
 no_open : (b : ℕ) → ◌≡◌ {A = Option Command} None (Some (unfinished.Open b)) → ⊥
 no_open b same = cc
@@ -60,6 +60,12 @@ same_reports d m puts reported told same owes = record {
   opening = owes.opening;
   last = owes.last;
 }
+
+no_clear : (e t : ℕ) (found : Found) → rows.Harvest e t found ≢ rows.ClearAdvance
+no_clear e t found same = cc
+
+no_release : (e t : ℕ) (found : Found) (i : ℕ) → rows.Harvest e t found ≢ rows.ReleaseEndpoint i
+no_release e t found i same = cc
 
 module _ (fixed : Fixed) (takes : ℕ → ℕ → Bool) (member : ℕ → Bool) (x : Streams) (s : Standing) (puts : ℕ → List ℕ) (w : World) (e t : ℕ) (found : Found) (row : driver_row (driver_parts w) ≡ rows.Harvest e t found) (k : IsSending fixed takes member x s puts w) where
   abbrev f : IsFeeding fixed member x s w
@@ -80,6 +86,9 @@ module _ (fixed : Fixed) (takes : ℕ → ℕ → Bool) (member : ℕ → Bool) 
 
   to_next : (P : DriverContent → Type 0) → P new → P (driver_next w).driver
   to_next P it = subst (λ (r : DriverRow). P (after_driver_row r (driver_parts w)).driver) (sym row) it
+
+  ordinary : IsOrdinary w
+  ordinary = idle_ordinary w (rows.Harvest e t found) row read.idle (no_clear e t found) (no_release e t found)
 
   owners : HasOwners w.driver
   owners = f.working.place.sound.owners
@@ -175,13 +184,14 @@ module _ (fixed : Fixed) (takes : ℕ → ℕ → Bool) (member : ℕ → Bool) 
     whole = whole_harvested fixed takes member x s w e t found row k.whole left;
     sent = sent_then;
     ended = ended_then;
-    held = held_then fixed takes member x s puts w k;
+    held = held_then fixed takes member x s puts w k ordinary;
     owes = owes_then;
     begin = begin_then fixed takes member x s puts w k;
+    left_takers = left_then fixed takes member x s puts w k ordinary;
   }
 
   pub harvest_leaves_sending : HasSending fixed takes x.stream x.packets puts (driver_next w)
-  harvest_leaves_sending = record { member = member; streams = x.streams; endpoint = x.endpoint; standing = after; sending = sending_harvested }
+  harvest_leaves_sending = has_of fixed takes member x after puts (driver_next w) sending_harvested
 
 pub harvest_sending : HarvestKeepsSending
 harvest_sending fixed takes member x s puts w e t found row k = harvest_leaves_sending fixed takes member x s puts w e t found row k

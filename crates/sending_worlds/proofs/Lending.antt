@@ -12,13 +12,13 @@ use Rattle.put_laws.proofs.Lending.{lend_row_sends}
 use Rattle.put_laws.specs.Owed.{Owes}
 use Rattle.put_laws.specs.OwedTaken.{EndedAreStopped}
 use Rattle.put_laws.proofs.TakenStopped.{spared_stopped}
-use Rattle.whole_worlds.specs.Feeding.{there_of, IsFeeding}
-use Rattle.whole_worlds.specs.LendFeeds.{LendsTransfer}
-use Rattle.whole_worlds.proofs.Told.{there_on}
+use Rattle.feeding_worlds.specs.Feeding.{there_of, IsFeeding}
+use Rattle.feeding_worlds.specs.LendFeeds.{LendsTransfer}
+use Rattle.feeding_worlds.proofs.Told.{there_on}
 use Rattle.whole_worlds.proofs.Lending.{lends, after_lend, whole_lent}
 use Rattle.sending_worlds.specs.Sending.{IsSending}
 use Rattle.sending_worlds.specs.WorldLaws.{LendKeepsSending}
-use Rattle.sending_worlds.proofs.Each.{HarvestsNone, busy_harvests_none, held_then, begin_then, ended_alike, owes_same}
+use Rattle.sending_worlds.proofs.Each.{HarvestsNone, busy_harvests_none, held_then, begin_then, ended_alike, owes_same, IsOrdinary, publish_ordinary, left_then, has_of}
 
 no_open : (b c : ℕ) (words : List ℕ) → ◌≡◌ {A = Option Command} (Some (unfinished.Publish b words)) (Some (unfinished.Open c)) → ⊥
 no_open b c words same = cc
@@ -39,31 +39,30 @@ module _ (fixed : Fixed) (takes : ℕ → ℕ → Bool) (member : ℕ → Bool) 
       (lend_row_sends w.driver w.memory b words member (there_of w.driver) s.parts g.parts s.order g.order s.out g.out s.hand s.acc s.reported get g.behind f.working.streaming.controlled.ring.members f.queues.met f.counted
       (there_on w.driver) k.sent)
 
+  ordinary : IsOrdinary w
+  ordinary = publish_ordinary w b words get.command
+
   harvests_none : HarvestsNone w
   harvests_none = busy_harvests_none w (unfinished.Publish b words) get.command
 
   ended_then : EndedAreStopped (driver_next w).driver g.parts
   ended_then =
-      spared_stopped (driver_next w).driver s.parts g.parts (λ e z here. g.heads (32 * z.queue)) (ended_alike fixed takes member x s puts w k harvests_none)
+      spared_stopped (driver_next w).driver s.parts g.parts (λ e z here. g.heads (32 * z.queue)) (ended_alike fixed takes member x s puts w k ordinary harvests_none)
 
   owes_then : Owes (driver_next w).driver (driver_next w).memory puts s.reported
-  owes_then = owes_same fixed takes member x s puts w k harvests_none (λ e z here opens met. no_open b z.queue words (sym get.command ∙ opens))
+  owes_then = owes_same fixed takes member x s puts w k ordinary harvests_none (λ e z here opens met. no_open b z.queue words (sym get.command ∙ opens))
 
   pub sending_lent : IsSending fixed takes member x after puts (driver_next w)
   sending_lent = record {
     whole = whole_lent fixed takes member x s w b words get k.whole;
     sent = sent_then;
     ended = ended_then;
-    held = held_then fixed takes member x s puts w k;
+    held = held_then fixed takes member x s puts w k ordinary;
     owes = owes_then;
     begin = begin_then fixed takes member x s puts w k;
+    left_takers = left_then fixed takes member x s puts w k ordinary;
   }
 
 pub lend_sending : LendKeepsSending
-lend_sending fixed takes member x s puts w b words get k = record {
-  member = member;
-  streams = x.streams;
-  endpoint = x.endpoint;
-  standing = after_lend fixed takes member x s w b words get k.whole;
-  sending = sending_lent fixed takes member x s puts w b words get k;
-}
+lend_sending fixed takes member x s puts w b words get k =
+    has_of fixed takes member x (after_lend fixed takes member x s w b words get k.whole) puts (driver_next w) (sending_lent fixed takes member x s puts w b words get k)

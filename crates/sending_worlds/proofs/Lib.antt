@@ -1,3 +1,7 @@
+pub mod SentLeaving
+pub mod SentUnlinking
+pub mod SentReleasing
+pub mod LeaveSampled
 pub mod Named
 pub mod Untold
 pub mod Sending
@@ -13,6 +17,7 @@ pub mod OpenLending
 pub mod Linking
 pub mod Harvesting
 pub mod Releasing
+pub mod Leaving
 pub mod Driving
 pub mod Reporting
 pub mod Walking

@@ -13,15 +13,15 @@ use Rattle.bus_world.specs.World.{World, driver_parts, driver_next}
 use Rattle.stream_worlds.specs.Streaming.{Streams, Standing}
 use Rattle.fed_queues.specs.Places.{IsThere}
 use Rattle.publish_laws.proofs.Apart.{thirty_two}
-use Rattle.controlled_streams.specs.Opened.{with_end, with_none}
+use Rattle.controlled_streams.specs.Opened.{with_none}
 use Rattle.controlled_streams.proofs.Beginning.{list_here, list_beside}
-use Rattle.open_laws.specs.Opens.{IsOpenLent, IsAtOpen, head_then, hand_then, end_then, streams_then}
+use Rattle.open_laws.specs.Opens.{IsOpenLent, IsAtOpen, head_then, hand_then}
 use Rattle.put_laws.specs.Sent.{SentStand}
 use Rattle.put_laws.proofs.OpenLinking.{open_link_sends}
 use Rattle.put_laws.specs.Owed.{Owes}
 use Rattle.put_laws.specs.OwedTaken.{EndedAreStopped}
 use Rattle.put_laws.proofs.TakenStopped.{spared_stopped}
-use Rattle.whole_worlds.proofs.FeedingLinks.{linked, found, at_open, more}
+use Rattle.feeding_worlds.proofs.FeedingLinks.{linked, found, at_open, more}
 use Rattle.whole_worlds.proofs.Linking.{spares}
 use Rattle.whole_worlds.proofs.Linked.{linked_whole}
 use Rattle.sending_worlds.specs.Sending.{IsSending}
@@ -57,6 +57,9 @@ module _ (fixed : Fixed) (takes : ℕ → ℕ → Bool) (member : ℕ → Bool) 
   abbrev told : ℕ → List ℕ
   told = with_none s.reported n
 
+  ordinary : each.IsOrdinary w
+  ordinary = each.open_ordinary w e.queue lent.command
+
   harvests_none : each.HarvestsNone w
   harvests_none = each.busy_harvests_none w (unfinished.Open e.queue) lent.command
 
@@ -68,7 +71,7 @@ module _ (fixed : Fixed) (takes : ℕ → ℕ → Bool) (member : ℕ → Bool) 
   ended_then : EndedAreStopped (driver_next w).driver now
   ended_then =
       spared_stopped (driver_next w).driver s.parts now (λ i z here. spares p member x.streams x.endpoint s.parts s.order s.out at (32 * z.queue))
-      (each.ended_alike fixed takes member x s puts w k harvests_none)
+      (each.ended_alike fixed takes member x s puts w k ordinary harvests_none)
 
   -- ---- what is owed
 
@@ -84,25 +87,20 @@ module _ (fixed : Fixed) (takes : ℕ → ℕ → Bool) (member : ℕ → Bool) 
       ap (λ (b : ℕ). told (32 * b)) same ∙ list_here s.reported n
 
   owes_then : Owes (driver_next w).driver (driver_next w).memory puts told
-  owes_then = each.owes_then fixed takes member x s puts w k told harvests_none met_told new_told
+  owes_then = each.owes_then fixed takes member x s puts w k ordinary told harvests_none met_told new_told
 
   pub sending_linked : IsSending fixed takes (with_member member n) (more fixed member x s w lent k.whole.feeding) (linked s head.queue e) puts (driver_next w)
   sending_linked = record {
     whole = linked_whole fixed takes member x s w lent k.whole;
     sent = sent_then;
     ended = ended_then;
-    held = each.held_then fixed takes member x s puts w k;
+    held = each.held_then fixed takes member x s puts w k ordinary;
     owes = owes_then;
     begin = each.begin_then fixed takes member x s puts w k;
+    left_takers = each.left_then fixed takes member x s puts w k ordinary;
   }
 
 pub open_link_sending : OpenLinkKeepsSending
 open_link_sending fixed takes member x s puts w lent k =
-    let n = 32 * lent.endpoint.queue in
-    record {
-      member = with_member member n;
-      streams = streams_then x.streams lent.endpoint;
-      endpoint = with_end x.endpoint n (end_then lent.endpoint);
-      standing = linked s (found fixed member x s w lent k.whole.feeding).queue lent.endpoint;
-      sending = sending_linked fixed takes member x s puts w lent k;
-    }
+    each.has_of fixed takes (with_member member (32 * lent.endpoint.queue)) (more fixed member x s w lent k.whole.feeding) (linked s (found fixed member x s w lent k.whole.feeding).queue lent.endpoint) puts (driver_next w)
+    (sending_linked fixed takes member x s puts w lent k)

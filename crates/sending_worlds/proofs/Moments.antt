@@ -1,5 +1,5 @@
 -- Where the opening, each event and each command leave a world sending, it is so at each moment: what devices took begins the streams of its report.
-use Rattle.std.proofs.Common.{ℕ, Bool, List, [], ◌∷◌}
+use Rattle.std.proofs.Common.{ℕ, Bool, List, [], ◌∷◌, true, false}
 use Rattle.std.specs.List.{AllByRecursion}
 use Rattle.usb_base.specs.declared.commands.Cmd.{Cmd}
 use Rattle.script_types.specs.declared.scripts.Line.{Line}
@@ -8,7 +8,7 @@ use Rattle.script_types.specs.declared.scripts.Script.{Script}
 use Rattle.script_text.specs.Faults.{Spells}
 use Rattle.byte_answers.specs.Bytes.{IsByteCommand, IsByteLine}
 use Rattle.usb_bus.specs.Bus.{fixed_of}
-use Rattle.bus_world.specs.World.{World}
+use Rattle.bus_world.specs.World.{World, driver_next, controller_next, commanded}
 use Rattle.bus_world.specs.Budgets.{moment}
 use Rattle.stream_worlds.specs.Streaming.{Streams}
 use Rattle.taken_reports.proofs.Seating.{moment_seated}
@@ -21,8 +21,8 @@ use Rattle.put_laws.proofs.Along.{holds_with_puts}
 use Rattle.put_laws.proofs.Ends.{moment_streams}
 use Rattle.put_laws.proofs.Rising.{spelled_rise}
 use Rattle.sending_worlds.proofs.Sending.{report_sent, report_right}
-use Rattle.whole_worlds.specs.Feeding.{streams_of}
-use Rattle.whole_worlds.proofs.Moments.{CanBe, script_can, spelled_bulk}
+use Rattle.feeding_worlds.specs.Feeding.{streams_of}
+use Rattle.whole_worlds.proofs.Moments.{CanBe, script_can, spelled_bulk, opens_still}
 use Rattle.whole_worlds.proofs.Running.{texts_right, texts_taken}
 use Rattle.whole_worlds.proofs.PlacedRunning.{texts_run_in_place}
 use Rattle.whole_worlds.proofs.Counting.{never_refused}
@@ -35,6 +35,9 @@ use Rattle.sending_worlds.proofs.Commanding.{command_sending}
 use Rattle.sending_worlds.proofs.Driving.{driver_sending}
 use Rattle.sending_worlds.proofs.Walking.{texts_walk}
 use Rattle.sending_worlds.proofs.Reporting.{takes_puts, have_takers}
+use Rattle.whole_worlds.specs.Whole.{HasWhole}
+use Rattle.whole_worlds.proofs.Naming.{KeepsNames, event_named, command_named, stays_on}
+use Rattle.put_laws.specs.HeldPuts.{puts_then}
 
 -- ---- the commands of such a script
 
@@ -57,14 +60,41 @@ abbrev Sends : Script → World → (ℕ → List ℕ) → Type 0
 Sends s w puts = HasSending (fixed_of s) (takes_of s) (streams_of s).stream (streams_of s).packets puts w
 
 abbrev with_streams : (s : Script) (w : World) (puts : ℕ → List ℕ) → Sends s w puts → Streams
-with_streams s w puts h = record { stream = (streams_of s).stream; packets = (streams_of s).packets; streams = h.streams; endpoint = h.endpoint }
+with_streams s w puts h = record { stream = h.ins; packets = (streams_of s).packets; streams = h.streams; endpoint = h.endpoint }
+
+abbrev whole_in : (s : Script) (w : World) (puts : ℕ → List ℕ) → Sends s w puts → HasWhole (fixed_of s) (takes_of s) (streams_of s).stream (streams_of s).packets w
+whole_in s w puts h = record {
+  member = h.member;
+  streams = h.streams;
+  endpoint = h.endpoint;
+  standing = h.standing;
+  ins = h.ins;
+  outs = h.outs;
+  whole = h.sending.whole;
+  ins_stay = h.ins_stay;
+  outs_stay = h.outs_stay;
+}
+
+-- the streams that are open after a step, of those that the script has
+goes_on : (s : Script) (w v : World) (puts now : ℕ → List ℕ) (h : Sends s w puts) → KeepsNames w.driver v.driver → HasSending (fixed_of s) h.outs h.ins (streams_of s).packets now v → Sends s v now
+goes_on s w v puts now h keeps n = record {
+  member = n.member;
+  streams = n.streams;
+  endpoint = n.endpoint;
+  standing = n.standing;
+  ins = n.ins;
+  outs = n.outs;
+  sending = n.sending;
+  ins_stay = stays_on w.driver v.driver true (streams_of s).stream h.ins n.ins keeps h.ins_stay n.ins_stay;
+  outs_stay = stays_on w.driver v.driver false (takes_of s) h.outs n.outs keeps h.outs_stay n.outs_stay;
+}
 
 is_kept : (s : Script) → IsKeptWithPuts (fixed_of s) (CanBeSent (streams_of s).stream (takes_of s)) (Sends s)
 is_kept s = record {
-  driver = λ w puts h. driver_sending (fixed_of s) (takes_of s) h.member (with_streams s w puts h) h.standing puts w h.sending;
-  controller = λ w puts h. controller_sending (fixed_of s) (takes_of s) h.member (with_streams s w puts h) h.standing puts w h.sending;
-  command = λ w line cmd puts can offered h.
-      command_sending (fixed_of s) (takes_of s) h.member (with_streams s w puts h) h.standing puts w line cmd can.0.0 can.0.1 can.0.2 can.1 offered h.sending;
+  driver = λ w puts h. goes_on s w (driver_next w) puts puts h (event_named w) (driver_sending (fixed_of s) h.outs h.member (with_streams s w puts h) h.standing puts w h.sending);
+  controller = λ w puts h. goes_on s w (controller_next (fixed_of s) w) puts puts h (λ way addr ep k. k) (controller_sending (fixed_of s) h.outs h.member (with_streams s w puts h) h.standing puts w h.sending);
+  command = λ w line cmd puts can offered h. goes_on s w (commanded w line cmd) puts (puts_then w.driver cmd puts) h (command_named w line cmd h.sending.whole.feeding.turns can.0.0)
+      (command_sending (fixed_of s) h.outs h.member (with_streams s w puts h) h.standing puts w line cmd can.0.0 (λ o offer. opens_still s w (whole_in s w puts h) cmd o can.0.0 can.0.1 offer) can.0.2 can.1 offered h.sending);
 }
 
 pub stay_sending : ScriptsStaySending
@@ -82,16 +112,16 @@ texts_sent text s spelled only k =
     let h = sends_at text s spelled only k in
     let w : World = (moment s k).world in
     report_sent s (moment s k) (puts_at s k) only (moment_seated text s k spelled) (puts_streams text s spelled k) h.sending.whole.feeding.turns.bulk
-    (have_takers (fixed_of s) (takes_of s) h.member (with_streams s w (puts_at s k) h) h.standing (puts_at s k) w h.sending)
-    (takes_puts (fixed_of s) (takes_of s) h.member (with_streams s w (puts_at s k) h) h.standing (puts_at s k) w h.sending)
+    (have_takers (fixed_of s) h.outs h.member (with_streams s w (puts_at s k) h) h.standing (puts_at s k) w h.sending)
+    (takes_puts (fixed_of s) h.outs h.member (with_streams s w (puts_at s k) h) h.standing (puts_at s k) w h.sending)
 
 pub texts_end_right : TextsEndRight
 texts_end_right text s spelled only k over =
     let h = sends_at text s spelled only k in
     let w : World = (moment s k).world in
     report_right s (moment s k) (puts_at s k) only (moment_seated text s k spelled) (puts_streams text s spelled k)
-    (have_takers (fixed_of s) (takes_of s) h.member (with_streams s w (puts_at s k) h) h.standing (puts_at s k) w h.sending)
-    (takes_puts (fixed_of s) (takes_of s) h.member (with_streams s w (puts_at s k) h) h.standing (puts_at s k) w h.sending)
+    (have_takers (fixed_of s) h.outs h.member (with_streams s w (puts_at s k) h) h.standing (puts_at s k) w h.sending)
+    (takes_puts (fixed_of s) h.outs h.member (with_streams s w (puts_at s k) h) h.standing (puts_at s k) w h.sending)
     over (texts_right text s spelled only k) (texts_taken text s spelled only k)
 
 pub texts_keep_streams : TextsKeepStreams

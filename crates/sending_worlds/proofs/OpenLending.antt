@@ -15,11 +15,14 @@ use Rattle.put_laws.proofs.TakenStopped.{spared_stopped}
 use Rattle.whole_worlds.proofs.OpenLending.{driver_is, spares_head, open_lent}
 use Rattle.sending_worlds.specs.Sending.{IsSending}
 use Rattle.sending_worlds.specs.WorldLaws.{OpenLendKeepsSending}
-use Rattle.sending_worlds.proofs.Each.{HarvestsNone, busy_harvests_none, owners, held_then, begin_then, ended_alike, owes_same}
+use Rattle.sending_worlds.proofs.Each.{HarvestsNone, busy_harvests_none, owners, held_then, begin_then, ended_alike, owes_same, IsOrdinary, open_ordinary, left_then, has_of}
 
 module _ (fixed : Fixed) (takes : ℕ → ℕ → Bool) (member : ℕ → Bool) (x : Streams) (s : Standing) (puts : ℕ → List ℕ) (w : World) (ready : IsOpenReady w.driver w.memory) (k : IsSending fixed takes member x s puts w) where
   abbrev now : StructureSets
   now = parts_lent s.parts ready
+
+  ordinary : IsOrdinary w
+  ordinary = open_ordinary w ready.endpoint.queue ready.command
 
   harvests_none : HarvestsNone w
   harvests_none = busy_harvests_none w (unfinished.Open ready.endpoint.queue) ready.command
@@ -35,26 +38,22 @@ module _ (fixed : Fixed) (takes : ℕ → ℕ → Bool) (member : ℕ → Bool) 
   ended_then =
       spared_stopped (driver_next w).driver s.parts now
       (λ e z here. spares_head (driver_parts w) ready (owners fixed takes member x s puts w k) s.parts k.whole.feeding.working.driven (32 * z.queue))
-      (ended_alike fixed takes member x s puts w k harvests_none)
+      (ended_alike fixed takes member x s puts w k ordinary harvests_none)
 
   owes_then : Owes (driver_next w).driver (driver_next w).memory puts s.reported
-  owes_then = owes_same fixed takes member x s puts w k harvests_none (λ e z here opens there. there.linked (still_open ∙ opens))
+  owes_then = owes_same fixed takes member x s puts w k ordinary harvests_none (λ e z here opens there. there.linked (still_open ∙ opens))
 
   pub sending_open_lent : IsSending fixed takes member x (record s { parts = now }) puts (driver_next w)
   sending_open_lent = record {
     whole = open_lent fixed takes member x s w ready k.whole;
     sent = sent_then;
     ended = ended_then;
-    held = held_then fixed takes member x s puts w k;
+    held = held_then fixed takes member x s puts w k ordinary;
     owes = owes_then;
     begin = begin_then fixed takes member x s puts w k;
+    left_takers = left_then fixed takes member x s puts w k ordinary;
   }
 
 pub open_lend_sending : OpenLendKeepsSending
-open_lend_sending fixed takes member x s puts w ready k = record {
-  member = member;
-  streams = x.streams;
-  endpoint = x.endpoint;
-  standing = record s { parts = parts_lent s.parts ready };
-  sending = sending_open_lent fixed takes member x s puts w ready k;
-}
+open_lend_sending fixed takes member x s puts w ready k =
+    has_of fixed takes member x (record s { parts = parts_lent s.parts ready }) puts (driver_next w) (sending_open_lent fixed takes member x s puts w ready k)

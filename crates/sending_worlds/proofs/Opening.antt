@@ -17,7 +17,7 @@ use Rattle.put_laws.proofs.Events.{new_driver_sends}
 use Rattle.put_laws.specs.Owed.{Owes}
 use Rattle.put_laws.specs.OwedTaken.{TakenBegin, EndedAreStopped}
 use Rattle.put_laws.proofs.Same.{new_owes}
-use Rattle.whole_worlds.specs.Feeding.{streams_of}
+use Rattle.feeding_worlds.specs.Feeding.{streams_of}
 use Rattle.whole_worlds.specs.Whole.{HasWhole}
 use Rattle.whole_worlds.proofs.Opening.{new_world_is_whole}
 use Rattle.sending_worlds.specs.WorldLaws.{NewWorldSends}
@@ -58,6 +58,10 @@ new_world_sends s fit bytes =
       streams = k.streams;
       endpoint = k.endpoint;
       standing = k.standing;
+      ins = k.ins;
+      outs = k.outs;
+      ins_stay = k.ins_stay;
+      outs_stay = k.outs_stay;
       sending = record {
         whole = k.whole;
         sent = sent_then s k.standing;
@@ -65,5 +69,6 @@ new_world_sends s fit bytes =
         held = held_then s;
         owes = owes_then s k.standing;
         begin = begin_then s;
+        left_takers = λ e z here sends off. absurd (no_endpoint e z here);
       };
     }

@@ -22,7 +22,7 @@ use Rattle.report_streams.specs.Streams.{is_refused, command_in, accepted_in, op
 use Rattle.driver_rows.specs.DriverContent.{opened}
 use Rattle.bus_world.specs.Orders.{OrderedWorld}
 use Rattle.stream_worlds.specs.Streaming.{wired}
-use Rattle.chained_transfers.specs.Bulk.{IsBulk, OpensBulk, BulkLine, BulkOnly, OnlyBulk, receives}
+use Rattle.chained_transfers.specs.Bulk.{IsBulk, OpensOrCancelsBulk, BulkLine, BulkOnly, OnlyBulk, receives}
 use Rattle.chained_transfers.proofs.Ways.{way_sends}
 use Rattle.right_reports.specs.WorldReport.{report_of}
 use Rattle.right_reports.specs.Ins.{AreRightInStreams}
@@ -79,7 +79,7 @@ not_true false e = refl
 
 -- it is a bulk endpoint, and has its seat
 abbrev Opens : List Seat → Cmd → Type 0
-Opens seats cmd = OpensBulk cmd × OpensItsSeat seats (lines.Command cmd)
+Opens seats cmd = OpensOrCancelsBulk cmd × OpensItsSeat seats (lines.Command cmd)
 
 abbrev IsSeated : List Seat → EpDesc → Type 0
 IsSeated seats x = IsBulk x × HasSeat seats x

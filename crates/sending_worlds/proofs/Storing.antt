@@ -16,15 +16,15 @@ use Rattle.put_laws.proofs.Storing.{store_sends}
 use Rattle.put_laws.specs.Owed.{Owes}
 use Rattle.put_laws.specs.OwedTaken.{EndedAreStopped}
 use Rattle.put_laws.proofs.TakenStopped.{spared_stopped}
-use Rattle.whole_worlds.specs.Feeding.{there_of, IsFeeding}
-use Rattle.whole_worlds.proofs.Told.{there_on}
-use Rattle.whole_worlds.proofs.FeedingStores.{at, after_store}
-use Rattle.whole_worlds.proofs.Storing.{met_now}
+use Rattle.feeding_worlds.specs.Feeding.{there_of, IsFeeding}
+use Rattle.feeding_worlds.proofs.Told.{there_on}
+use Rattle.feeding_worlds.proofs.FeedingStores.{at, after_store}
+use Rattle.feeding_worlds.proofs.Storing.{met_now}
 use Rattle.whole_worlds.proofs.StoredTails.{tail_here}
 use Rattle.whole_worlds.proofs.Worlds.{whole_after}
 use Rattle.sending_worlds.specs.Sending.{IsSending}
 use Rattle.sending_worlds.specs.WorldLaws.{StoreKeepsSending}
-use Rattle.sending_worlds.proofs.Each.{HarvestsNone, busy_harvests_none, held_then, begin_then, ended_alike, owes_same}
+use Rattle.sending_worlds.proofs.Each.{HarvestsNone, busy_harvests_none, held_then, begin_then, ended_alike, owes_same, IsOrdinary, publish_ordinary, left_then, has_of}
 
 no_open : (b c : ℕ) (words : List ℕ) → ◌≡◌ {A = Option Command} (Some (unfinished.Publish b words)) (Some (unfinished.Open c)) → ⊥
 no_open b c words same = cc
@@ -59,6 +59,9 @@ module _ (fixed : Fixed) (takes : ℕ → ℕ → Bool) (member : ℕ → Bool) 
   sent_then =
       store_sends s.hand (there_of w.driver) s.acc s.reported p member x.streams x.endpoint s.parts s.order s.out b words here f.counted (there_on w.driver) reaches k.sent
 
+  ordinary : IsOrdinary w
+  ordinary = publish_ordinary w b words command
+
   harvests_none : HarvestsNone w
   harvests_none = busy_harvests_none w (unfinished.Publish b words) command
 
@@ -67,26 +70,22 @@ module _ (fixed : Fixed) (takes : ℕ → ℕ → Bool) (member : ℕ → Bool) 
   ended_then =
       spared_stopped (driver_next w).driver s.parts (parts_then g)
       (λ e z there. spares_head s.parts n (32 * b) (partly g.qtd (w.driver.made - 1)) (partly g.qtd w.driver.made) g.stored (32 * z.queue))
-      (ended_alike fixed takes member x s puts w k harvests_none)
+      (ended_alike fixed takes member x s puts w k ordinary harvests_none)
 
   owes_then : Owes (driver_next w).driver (driver_next w).memory puts s.reported
-  owes_then = owes_same fixed takes member x s puts w k harvests_none (λ e z there opens met. no_open b z.queue words (sym command ∙ opens))
+  owes_then = owes_same fixed takes member x s puts w k ordinary harvests_none (λ e z there opens met. no_open b z.queue words (sym command ∙ opens))
 
   pub sending_stored : IsSending fixed takes member x after puts (driver_next w)
   sending_stored = record {
     whole = whole_after fixed takes member x s w b words command made k.whole;
     sent = sent_then;
     ended = ended_then;
-    held = held_then fixed takes member x s puts w k;
+    held = held_then fixed takes member x s puts w k ordinary;
     owes = owes_then;
     begin = begin_then fixed takes member x s puts w k;
+    left_takers = left_then fixed takes member x s puts w k ordinary;
   }
 
 pub store_sending : StoreKeepsSending
-store_sending fixed takes member x s puts w b words command made k = record {
-  member = member;
-  streams = x.streams;
-  endpoint = x.endpoint;
-  standing = after_store fixed member x s w b words command made k.whole.feeding;
-  sending = sending_stored fixed takes member x s puts w b words command made k;
-}
+store_sending fixed takes member x s puts w b words command made k =
+    has_of fixed takes member x (after_store fixed member x s w b words command made k.whole.feeding) puts (driver_next w) (sending_stored fixed takes member x s puts w b words command made k)

@@ -1,3 +1,5 @@
+pub mod LeavingSent
+pub mod LeaveSamples
 pub mod Sent
 pub mod ReportLaws
 pub mod ReportSamples

@@ -1,8 +1,12 @@
 -- A world whose endpoints are all bulk ones, with what its driver has still to send (EHCI 1.0, 3.5.4 and 4.10; USB 2.0, 5.8 and 8.6).
 --     IsSending fixed takes member x s puts w     the world is whole, and so is what each OUT endpoint is sent; `puts` tells the bytes of each put by the number of
 --                                                 its transfer
---     HasSending fixed takes stream packets puts w     .. for some queue heads with streams, and some structures
-use Rattle.std.specs.Prelude.{ℕ, Bool, List}
+--     HaveLeftTakers fixed w     an OUT endpoint that the walk can't meet any more has its taker still
+--     HasSending fixed takes stream packets puts w     .. for some queue heads with streams, and some structures; the streams of endpoints that have left are closed
+use Rattle.std.specs.Prelude.{◌≡◌, ℕ, Bool, true, false, List, slice_get, Some}
+use Rattle.driver_rows.specs.declared.content.Endpoint.{Endpoint}
+use Rattle.endpoint_lives.specs.Lives.{may_meet}
+use Rattle.chained_transfers.specs.Bulk.{receives}
 use Rattle.ring_laws.specs.Told.{Endpoint as Told}
 use Rattle.scripted_takers.specs.Takers.{taker_of}
 use Rattle.usb_bus.specs.Bus.{Fixed}
@@ -12,7 +16,15 @@ use Rattle.put_laws.specs.HeldPuts.{HoldsPuts}
 use Rattle.put_laws.specs.Sent.{SentStand}
 use Rattle.put_laws.specs.Owed.{Owes}
 use Rattle.put_laws.specs.OwedTaken.{TakenBegin, EndedAreStopped}
-use Rattle.whole_worlds.specs.Whole.{IsWhole}
+use Rattle.whole_worlds.specs.Whole.{IsWhole, StaysOpen}
+use Rattle.sending_worlds.specs.ReportLaws.{HasNamedTaker}
+
+-- ---- endpoints that have left
+
+abbrev pub HaveLeftTakers : Fixed → World → Type 0
+HaveLeftTakers fixed w = (e : ℕ) (z : Endpoint) → slice_get w.driver.endpoints e ≡ Some z → receives z.desc.name.way ≡ false → may_meet w.driver e z ≡ false → HasNamedTaker fixed w z.desc.name
+
+-- ---- the whole
 
 pub record IsSending (fixed : Fixed) (takes : ℕ → ℕ → Bool) (member : ℕ → Bool) (x : Streams) (s : Standing) (puts : ℕ → List ℕ) (w : World) : Type 0 where
   pub whole : IsWhole fixed takes member x s w
@@ -24,10 +36,15 @@ pub record IsSending (fixed : Fixed) (takes : ℕ → ℕ → Bool) (member : �
   pub owes : Owes w.driver w.memory puts s.reported
   -- what its device took begins them
   pub begin : TakenBegin taker_of w.driver puts (wired fixed w)
+  pub left_takers : HaveLeftTakers fixed w
 
 pub record HasSending (fixed : Fixed) (takes : ℕ → ℕ → Bool) (stream : ℕ → ℕ → Bool) (packets : ℕ → ℕ → List (List ℕ)) (puts : ℕ → List ℕ) (w : World) : Type 0 where
   pub member : ℕ → Bool
   pub streams : ℕ → Bool
   pub endpoint : ℕ → Told
   pub standing : Standing
-  pub sending : IsSending fixed takes member (record { stream = stream; packets = packets; streams = streams; endpoint = endpoint }) standing puts w
+  pub ins : ℕ → ℕ → Bool
+  pub outs : ℕ → ℕ → Bool
+  pub sending : IsSending fixed outs member (record { stream = ins; packets = packets; streams = streams; endpoint = endpoint }) standing puts w
+  pub ins_stay : StaysOpen w.driver true stream ins
+  pub outs_stay : StaysOpen w.driver false takes outs

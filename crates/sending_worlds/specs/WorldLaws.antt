@@ -2,15 +2,15 @@
 --     NewWorldSends             the world of a new script
 --     ControllerKeepsSending    an event of the controller
 --     CommandKeepsSending       a command: one more put, if it is an accepted one
---     StillKeepsSending ..      each row of the driver
+--     StillKeepsSending ..      each row of the driver; at one of them endpoints leave, and at one an endpoint is given back
 --     DriverKeepsSending        an event of the driver
-use Rattle.std.specs.Prelude.{◌≡◌, ℕ, ◌≤◌, Bool, true, List, Some}
+use Rattle.std.specs.Prelude.{◌≡◌, ℕ, ◌≤◌, Bool, true, List, Some, Ok}
 use Rattle.usb_base.specs.declared.commands.Cmd.{Cmd}
 use Rattle.script_types.specs.declared.scripts.Script.{Script}
 use Rattle.script_fits.specs.Fits.{IsFit}
 use Rattle.byte_answers.specs.Bytes.{IsByteScript, IsByteCommand}
 use Rattle.usb_bus.specs.Bus.{Fixed, fixed_of}
-use Rattle.driver_rows.specs.Offers.{IsOffered}
+use Rattle.driver_rows.specs.Offers.{Offered, offered, IsOffered}
 use Rattle.driver_rows.specs.declared.content.Command.TheVariants as unfinished
 use Rattle.driver_rows.specs.declared.rows.DriverRow.TheVariants as rows
 use Rattle.driver_rows.specs.declared.rows.Found.{Found}
@@ -18,7 +18,7 @@ use Rattle.driver_rows.specs.Rows.{driver_row}
 use Rattle.bus_world.specs.World.{World, driver_parts, driver_next, controller_next, commanded}
 use Rattle.bus_world.specs.Opening.{opening_world}
 use Rattle.stream_worlds.specs.Streaming.{Streams, Standing}
-use Rattle.chained_transfers.specs.Bulk.{OpensBulk}
+use Rattle.chained_transfers.specs.Bulk.{OpensOrCancelsBulk}
 use Rattle.fed_lends.specs.ToLend.{IsToBeLent}
 use Rattle.open_laws.specs.Lends.{IsOpenReady}
 use Rattle.open_laws.specs.Opens.{IsOpenLent}
@@ -26,8 +26,8 @@ use Rattle.walk_members.specs.Reached.{OpensNumbered}
 use Rattle.stream_worlds.specs.Takers.{takes_of}
 use Rattle.put_laws.specs.HeldPuts.{puts_then}
 use Rattle.put_laws.specs.TakenPuts.{no_puts}
-use Rattle.whole_worlds.specs.Feeding.{streams_of}
-use Rattle.whole_worlds.specs.FeedingLaws.{is_still}
+use Rattle.feeding_worlds.specs.Feeding.{streams_of}
+use Rattle.feeding_worlds.specs.FeedingLaws.{is_still}
 use Rattle.whole_worlds.specs.Laws.{OpensTo}
 use Rattle.sending_worlds.specs.Sending.{IsSending, HasSending}
 
@@ -39,8 +39,8 @@ ControllerKeepsSending = (fixed : Fixed) (takes : ℕ → ℕ → Bool) (member 
     → IsSending fixed takes member x s puts w → HasSending fixed takes x.stream x.packets puts (controller_next fixed w)
 
 abbrev pub CommandKeepsSending : Type 0
-CommandKeepsSending = (fixed : Fixed) (takes : ℕ → ℕ → Bool) (member : ℕ → Bool) (x : Streams) (s : Standing) (puts : ℕ → List ℕ) (w : World) (line : ℕ) (cmd : Cmd) → OpensBulk cmd
-    → OpensTo x.stream takes cmd → OpensNumbered cmd → IsByteCommand cmd → IsOffered w.driver.room cmd → IsSending fixed takes member x s puts w
+CommandKeepsSending = (fixed : Fixed) (takes : ℕ → ℕ → Bool) (member : ℕ → Bool) (x : Streams) (s : Standing) (puts : ℕ → List ℕ) (w : World) (line : ℕ) (cmd : Cmd) → OpensOrCancelsBulk cmd
+    → ((o : Offered) → offered w.driver w.memory cmd ≡ Ok o → OpensTo x.stream takes cmd) → OpensNumbered cmd → IsByteCommand cmd → IsOffered w.driver.room cmd → IsSending fixed takes member x s puts w
     → HasSending fixed takes x.stream x.packets (puts_then w.driver cmd puts) (commanded w line cmd)
 
 -- ---- the driver's rows
@@ -73,6 +73,19 @@ HarvestKeepsSending = (fixed : Fixed) (takes : ℕ → ℕ → Bool) (member : �
 abbrev pub ReleaseKeepsSending : Type 0
 ReleaseKeepsSending = (fixed : Fixed) (takes : ℕ → ℕ → Bool) (member : ℕ → Bool) (x : Streams) (s : Standing) (puts : ℕ → List ℕ) (w : World) (t : ℕ)
     → driver_row (driver_parts w) ≡ rows.ReleaseTransfer t → IsSending fixed takes member x s puts w → HasSending fixed takes x.stream x.packets puts (driver_next w)
+
+-- an endpoint leaves the ring, and is given back (4.8.2)
+abbrev pub UnlinkKeepsSending : Type 0
+UnlinkKeepsSending = (fixed : Fixed) (takes : ℕ → ℕ → Bool) (member : ℕ → Bool) (x : Streams) (s : Standing) (puts : ℕ → List ℕ) (w : World) (e before link : ℕ)
+    → w.driver.command ≡ Some (unfinished.Unlink e before link) → IsSending fixed takes member x s puts w → HasSending fixed takes x.stream x.packets puts (driver_next w)
+
+abbrev pub ClearKeepsSending : Type 0
+ClearKeepsSending = (fixed : Fixed) (takes : ℕ → ℕ → Bool) (member : ℕ → Bool) (x : Streams) (s : Standing) (puts : ℕ → List ℕ) (w : World)
+    → driver_row (driver_parts w) ≡ rows.ClearAdvance → IsSending fixed takes member x s puts w → HasSending fixed takes x.stream x.packets puts (driver_next w)
+
+abbrev pub EndpointReleaseKeepsSending : Type 0
+EndpointReleaseKeepsSending = (fixed : Fixed) (takes : ℕ → ℕ → Bool) (member : ℕ → Bool) (x : Streams) (s : Standing) (puts : ℕ → List ℕ) (w : World) (e : ℕ)
+    → driver_row (driver_parts w) ≡ rows.ReleaseEndpoint e → IsSending fixed takes member x s puts w → HasSending fixed takes x.stream x.packets puts (driver_next w)
 
 -- a driver of bulk endpoints has no other row
 abbrev pub DriverKeepsSending : Type 0

@@ -1,5 +1,5 @@
 -- What the drivers of the small scripts have to do at their moments.
-use Rattle.std.proofs.Common.{◌≡◌, [], ◌∷◌, ◌++◌, map, replicate, Some, None, refl}
+use Rattle.std.proofs.Common.{◌≡◌, true, false, [], ◌∷◌, ◌++◌, map, replicate, Some, None, refl}
 use Rattle.word_mem.specs.Memory.{filled, word_at}
 use Rattle.word_mem.specs.declared.blocks.BlockState.TheVariants.{Free, Lent}
 use Rattle.word_mem.specs.Views.{words_in, with_words_in}
@@ -19,7 +19,7 @@ use Rattle.driver_rows.specs.declared.content.Command.TheVariants as unfinished
 use Rattle.driver_rows.specs.declared.rows.DriverRow.TheVariants as rows
 use Rattle.driver_rows.specs.declared.rows.Found.TheVariants as results
 use Rattle.driver_rows.specs.Harvests.{buffer_bytes, moved_bytes, bytes_now}
-use Rattle.driver_rows.specs.Rows.{driver_row, free_qtds, free_transfers}
+use Rattle.driver_rows.specs.Rows.{driver_row, free_qtds, free_transfers, cancelled_bytes}
 use Rattle.bus_world.specs.World.{driver_parts}
 use Rattle.bus_world.specs.Orders.{ticks}
 use Rattle.bus_world.specs.Budgets.{moment}
@@ -28,7 +28,7 @@ use Rattle.usb_bus.specs.Bus.{fixed_of}
 use Rattle.report_streams.specs.Reports.{taken}
 use Rattle.report_streams.specs.Streams.{told, stream}
 use Rattle.right_reports.specs.WorldReport.{report_of}
-use Rattle.small_receiver.specs.Samples.{desc, words, world_at, row_at, over, sink, one_put, put_words, put_at, put_row, lossy_put, lossy_at}
+use Rattle.small_receiver.specs.Samples.{desc, words, world_at, row_at, over, sink, one_put, put_words, put_at, put_row, lossy_put, lossy_at, one_cancel, cancel_at, cancel_row}
 
 pub an_open :
     ((world_at 1).driver.command ≡ Some (unfinished.Open 130))
@@ -115,3 +115,28 @@ pub is_sent_again :
     × (stream lossy_put (report_of (fixed_of lossy_put) (lossy_at 300)) sink.name ≡ 11 ∷ 13 ∷ 17 ∷ [])
 unfolding ticks lowest_run filled words_in with_words_in store_words lend_runs first_bad_bit link_read qtd_link_read link_word qtd_link_word token_word token_at qtd_words qtd_bad qtd_at qtd_read qh_words qh_bad qh_at qh_read words_from put_byte places bytes_at put_bytes reached all_reached stored loaded advanced settled_queue moved overlay_after written_back raised reloaded counted_queue buffer_bytes moved_bytes bytes_now free_qtds free_transfers
 is_sent_again = (refl, refl, refl, refl, refl, refl, refl)
+
+pub leaves :
+    ((cancel_at 23).driver.command ≡ Some (unfinished.Unlink 0 128 4098))
+    × (cancel_row 23 ≡ rows.Store 128 4096 4098)
+    × ((cancel_at 24).driver.command ≡ None)
+    × ((cancel_at 24).driver.waiting ≡ 0 ∷ [])
+    × (cancel_row 24 ≡ rows.RingBell)
+    × ((cancel_at 25).driver.rung ≡ 0 ∷ [])
+unfolding ticks lowest_run filled words_in with_words_in store_words lend_runs first_bad_bit link_read qtd_link_read link_word qtd_link_word token_word token_at qtd_words qtd_bad qtd_at qtd_read qh_words qh_bad qh_at qh_read words_from put_byte places bytes_at put_bytes reached all_reached stored loaded advanced settled_queue moved overlay_after written_back raised reloaded counted_queue buffer_bytes moved_bytes bytes_now free_qtds free_transfers
+leaves = (refl, refl, refl, refl, refl, refl)
+
+pub is_released :
+    (cancel_row 27 ≡ rows.ReadStatus false)
+    × (cancel_row 29 ≡ rows.ReadStatus true)
+    × (cancel_row 31 ≡ rows.ClearAdvance)
+    × ((cancel_at 32).driver.cleared ≡ 0 ∷ [])
+    × (cancel_row 33 ≡ rows.ReleaseEndpoint 0)
+    × (map (λ e. e.gone) (cancel_at 34).driver.endpoints ≡ true ∷ [])
+    × ((cancel_at 34).driver.reports ≡ record { name = desc.name; what = kinds.Cancel; from = 0; len = 1 } ∷ [])
+    × ((cancel_at 34).driver.store ≡ 5 ∷ [])
+    × ((cancel_at 34).memory.states ≡ replicate 130 Lent ++ replicate 126 Free)
+    × (cancel_row 34 ≡ rows.Rest)
+    × ((moment one_cancel 37).orders ≡ [])
+unfolding ticks lowest_run filled words_in with_words_in store_words lend_runs first_bad_bit link_read qtd_link_read link_word qtd_link_word token_word token_at qtd_words qtd_bad qtd_at qtd_read qh_words qh_bad qh_at qh_read words_from put_byte places bytes_at put_bytes reached all_reached stored loaded advanced settled_queue moved overlay_after written_back raised reloaded counted_queue buffer_bytes moved_bytes bytes_now free_qtds free_transfers cancelled_bytes
+is_released = (refl, refl, refl, refl, refl, refl, refl, refl, refl, refl, refl)

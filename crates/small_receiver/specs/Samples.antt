@@ -12,6 +12,8 @@
 --     put_at k, put_row k     its world and its driver's row at its moments
 --     lossy_put        a fourth one: of a put of three qTDs, a byte each, the acknowledgement of the second is lost
 --     lossy_at k       its world at its moments
+--     one_cancel       a fifth one: a byte is asked of the first endpoint, which is cancelled once the byte came and before the controller writes back (4.8.2)
+--     cancel_at k, cancel_row k     its world and its driver's row at its moments
 use Rattle.std.specs.Prelude.{ℕ, false, List, [], ◌∷◌, None}
 use Rattle.usb_base.specs.declared.commands.Cmd.{Cmd}
 use Rattle.usb_base.specs.declared.commands.Cmd.TheVariants as commands
@@ -111,3 +113,20 @@ lossy_put = record one_put {
 
 abbrev pub lossy_at : ℕ → World
 lossy_at k = (moment lossy_put k).world
+
+-- ---- a cancel: after six events of the controller the byte is in the copy in hand
+
+abbrev pub cancels : Cmd
+cancels = commands.Cancel desc.name
+
+abbrev pub one_cancel : Script
+one_cancel = record receiver {
+  lines = (5, lines.Command opens) ∷ (6, lines.Order events.D 2) ∷ (7, lines.Command asks) ∷ (8, lines.Order events.D 9) ∷ (9, lines.Order events.C 6) ∷ (10, lines.Command cancels)
+      ∷ (11, lines.Order events.D 2) ∷ (12, lines.Micro 1) ∷ [];
+}
+
+abbrev pub cancel_at : ℕ → World
+cancel_at k = (moment one_cancel k).world
+
+abbrev pub cancel_row : ℕ → DriverRow
+cancel_row k = driver_row (driver_parts (cancel_at k))

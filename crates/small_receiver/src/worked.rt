@@ -1,5 +1,5 @@
 //! Worked moments, which the check computes.
-ghost use Rattle.std.specs.Prelude.{◌≡◌, [], ◌∷◌, ◌++◌, map, replicate, Some, None};
+ghost use Rattle.std.specs.Prelude.{◌≡◌, true, false, [], ◌∷◌, ◌++◌, map, replicate, Some, None};
 ghost use Rattle.usb_base.specs.declared.reports.What.TheVariants as kinds;
 ghost use Rattle.word_mem.specs.declared.blocks.BlockState.TheVariants.{Free, Lent};
 ghost use Rattle.word_mem.specs.Memory.{word_at};
@@ -14,7 +14,7 @@ ghost use Rattle.usb_bus.specs.Bus.{fixed_of};
 ghost use Rattle.report_streams.specs.Reports.{taken};
 ghost use Rattle.report_streams.specs.Streams.{told, stream};
 ghost use Rattle.right_reports.specs.WorldReport.{report_of};
-ghost use Rattle.small_receiver.specs.Samples.{desc, words, world_at, row_at, over, sink, one_put, put_words, put_at, put_row, lossy_put, lossy_at};
+ghost use Rattle.small_receiver.specs.Samples.{desc, words, world_at, row_at, over, sink, one_put, put_words, put_at, put_row, lossy_put, lossy_at, one_cancel, cancel_at, cancel_row};
 
 /// The structures of the open are lent: the queue head in block 130, its inactive qTD in block 132. Then the head of the ring, in block 128, gets its link.
 pub fn an_open()
@@ -95,4 +95,31 @@ pub fn a_lost_acknowledgement()
     ensures told_in_all { told (report_of (fixed_of lossy_put) (lossy_at 300)) sink.name ≡ 11 ∷ 13 ∷ 17 ∷ [] }
     ensures taken { taken (report_of (fixed_of lossy_put) (lossy_at 300)) sink.name ≡ Some (11 ∷ 13 ∷ 17 ∷ []) }
     ensures put { stream lossy_put (report_of (fixed_of lossy_put) (lossy_at 300)) sink.name ≡ 11 ∷ 13 ∷ 17 ∷ [] }
+{}
+
+/// The endpoint is cancelled while the controller has the byte in its copy of the queue head. The head of the ring, in block 128, gets a link to itself, so the queue head is
+/// in the ring no more; then the doorbell is rung.
+pub fn a_leave()
+    ensures accepted { (cancel_at 23).driver.command ≡ Some (unfinished.Unlink 0 128 4098) }
+    ensures to_unlink { cancel_row 23 ≡ rows.Store 128 4096 4098 }
+    ensures unlinked { (cancel_at 24).driver.command ≡ None }
+    ensures waits { (cancel_at 24).driver.waiting ≡ 0 ∷ [] }
+    ensures to_ring { cancel_row 24 ≡ rows.RingBell }
+    ensures rung { (cancel_at 25).driver.rung ≡ 0 ∷ [] }
+{}
+
+/// The controller still writes back to the queue head that has left. Then its walk comes to the head of the ring, where it sets Async Advance: the driver reads that, clears it,
+/// and gives the endpoint back. A line tells the cancel with the byte that had come, and its queue head, both qTDs and the buffer are Free.
+pub fn its_release()
+    ensures not_heard { cancel_row 27 ≡ rows.ReadStatus false }
+    ensures heard { cancel_row 29 ≡ rows.ReadStatus true }
+    ensures to_clear { cancel_row 31 ≡ rows.ClearAdvance }
+    ensures cleared { (cancel_at 32).driver.cleared ≡ 0 ∷ [] }
+    ensures to_release { cancel_row 33 ≡ rows.ReleaseEndpoint 0 }
+    ensures gone { map (λ e. e.gone) (cancel_at 34).driver.endpoints ≡ true ∷ [] }
+    ensures told { (cancel_at 34).driver.reports ≡ record { name = desc.name; what = kinds.Cancel; from = 0; len = 1 } ∷ [] }
+    ensures its_byte { (cancel_at 34).driver.store ≡ 5 ∷ [] }
+    ensures blocks { (cancel_at 34).memory.states ≡ replicate 130 Lent ++ replicate 126 Free }
+    ensures rests { cancel_row 34 ≡ rows.Rest }
+    ensures carried { (moment one_cancel 37).orders ≡ [] }
 {}

@@ -33,7 +33,7 @@ use Rattle.told_endpoints.specs.Telling.{named_of, named_in, lines_in, IsToldTo,
 use Rattle.told_endpoints.proofs.Lines.{once_without}
 use Rattle.bus_world.specs.World.{World}
 use Rattle.stream_worlds.specs.Streaming.{wired}
-use Rattle.chained_transfers.specs.Bulk.{IsDataWay, IsBulk, OpensBulk, BulkLine, BulkOnly, receives}
+use Rattle.chained_transfers.specs.Bulk.{IsDataWay, IsBulk, OpensOrCancelsBulk, BulkLine, BulkOnly, receives}
 use Rattle.right_reports.specs.WorldReport.{closings_of, report_of}
 use Rattle.right_reports.proofs.Named.{HasNamed, NoneNamed, search, named_is, none_pending}
 use Rattle.right_reports.proofs.Right.{all_mapped}
@@ -60,7 +60,7 @@ all_both P Q (x ∷ xs) h k = ((h.0, k.0), all_both P Q xs h.1 k.1)
 
 -- it is a bulk endpoint, and has its seat
 abbrev Opens : List Seat → Cmd → Type 0
-Opens seats cmd = OpensBulk cmd × OpensItsSeat seats (lines.Command cmd)
+Opens seats cmd = OpensOrCancelsBulk cmd × OpensItsSeat seats (lines.Command cmd)
 
 abbrev IsSeated : List Seat → EpDesc → Type 0
 IsSeated seats x = IsBulk x × HasSeat seats x

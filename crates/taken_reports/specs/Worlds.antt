@@ -3,7 +3,7 @@
 --     ClosedOuts d taker ..     what is told of endpoints OUT that have left begins what their devices took
 --     WorldIsTaken              where both sides of their pipes agree, and what is told of each queue is what was harvested of it, what is told begins what
 --                               was taken
-use Rattle.std.specs.Prelude.{◌≡◌, ℕ, ◌*◌, Bool, true, false, List, slice_get, Some, Option, take}
+use Rattle.std.specs.Prelude.{◌≡◌, ℕ, ◌*◌, Bool, true, false, List, slice_get, Some, Option}
 use Rattle.std.specs.List.{concat}
 use Rattle.script_types.specs.declared.scripts.Script.{Script}
 use Rattle.usb_bus.specs.Bus.{Fixed}

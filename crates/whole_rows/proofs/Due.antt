@@ -8,10 +8,11 @@ use Rattle.lent_structures.specs.Structures.{StructureSets}
 use Rattle.fed_lends.specs.ToLend.{IsToBeLent}
 use Rattle.open_laws.specs.Lends.{IsOpenReady}
 use Rattle.open_laws.specs.Opens.{IsOpenLent}
-use Rattle.whole_worlds.specs.Whole.{IsUnderWay}
-use Rattle.small_receiver.specs.Samples.{words, world_at, put_words, put_at}
-use Rattle.small_receiver.proofs.Moments.{an_open, a_get, put_open, a_put}
-use Rattle.whole_rows.specs.Due.{IsOpenLentIn}
+use Rattle.feeding_worlds.specs.Tails.{IsUnderWay}
+use Rattle.feeding_worlds.proofs.Unlinking.{unlink_finds}
+use Rattle.small_receiver.specs.Samples.{words, world_at, put_words, put_at, cancel_at}
+use Rattle.small_receiver.proofs.Moments.{an_open, a_get, put_open, a_put, leaves}
+use Rattle.whole_rows.specs.Due.{IsOpenLentIn, IsAtUnlinkIn}
 use Rattle.whole_rows.proofs.Sampling.{it_stays_whole}
 use Rattle.whole_rows.proofs.Putting.{put_stays_whole}
 
@@ -52,3 +53,10 @@ put_lent fixed takes member x s whole = lent_of (put_at 2).driver (put_at 2).mem
 
 pub put_to_be_lent : IsToBeLent (put_at 5).driver (put_at 5).memory 132 put_words
 put_to_be_lent = let h = put_stays_whole 5 in to_be_lent_of (put_at 5).driver (put_at 5).memory h.member h.standing.parts 132 put_words a_put.0 a_put.1 h.whole.under_way
+
+-- ---- the script with a cancel
+
+pub cancel_unlinks : IsAtUnlinkIn (cancel_at 23)
+cancel_unlinks fixed takes member x s whole =
+    unlink_finds fixed member x s (cancel_at 23) 0 128 4098 leaves.0
+    (subst (λ (c : Option Command). IsUnderWay (cancel_at 23).driver (cancel_at 23).memory member s.parts c) leaves.0 whole.under_way) whole.feeding

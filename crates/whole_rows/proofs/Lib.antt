@@ -1,3 +1,4 @@
 pub mod Sampling
 pub mod Putting
+pub mod Cancelling
 pub mod Due

@@ -1,11 +1,16 @@
 -- What is due in the worlds of the small scripts, at the moments at which it is (EHCI 1.0, 4.8.1 and 4.10): the premises of the laws of the driver's rows.
 --     IsOpenLentIn w     once an open was lent: so it is of whichever structures the world is whole with
+--     IsAtUnlinkIn w     a store is due by which a queue head leaves the ring: .. (4.8.2)
 use Rattle.std.specs.Prelude.{ℕ, Bool}
 use Rattle.usb_bus.specs.Bus.{Fixed}
 use Rattle.stream_worlds.specs.Streaming.{Streams, Standing}
 use Rattle.open_laws.specs.Opens.{IsOpenLent}
+use Rattle.unlinked_streams.specs.Unlinks.{IsAtUnlink}
 use Rattle.bus_world.specs.World.{World}
 use Rattle.whole_worlds.specs.Whole.{IsWhole}
 
 abbrev pub IsOpenLentIn : World → Type 0
 IsOpenLentIn w = (fixed : Fixed) (takes : ℕ → ℕ → Bool) (member : ℕ → Bool) (x : Streams) (s : Standing) → IsWhole fixed takes member x s w → IsOpenLent w.driver member s.parts
+
+abbrev pub IsAtUnlinkIn : World → Type 0
+IsAtUnlinkIn w = (fixed : Fixed) (takes : ℕ → ℕ → Bool) (member : ℕ → Bool) (x : Streams) (s : Standing) → IsWhole fixed takes member x s w → IsAtUnlink w.driver member s.parts

@@ -1,5 +1,5 @@
 -- A transfer is asked: its first qTD is to be lent.
-use Rattle.std.proofs.Common.{◌≡◌, ◌≢◌, ℕ, ◌*◌, ◌==◌, Bool, true, false, nat_eq, if◌then◌else◌, List, length, slice_get, Option, Some, Ok, ap, sym, subst, ◌∙◌, ⊎_elim, inl, inr}
+use Rattle.std.proofs.Common.{◌≡◌, ℕ, ◌*◌, ◌==◌, Bool, true, false, nat_eq, if◌then◌else◌, List, length, Option, Some, Ok, ap, sym, subst, ◌∙◌, inl, inr}
 use Rattle.usb_base.specs.declared.endpoints.EpName.{EpName}
 use Rattle.usb_bus.specs.Bus.{Fixed}
 use Rattle.driver_rows.specs.declared.content.Endpoint.{Endpoint}
@@ -8,13 +8,11 @@ use Rattle.driver_rows.specs.declared.content.QtdNote.{QtdNote}
 use Rattle.driver_rows.specs.declared.content.Command.{Command}
 use Rattle.driver_rows.specs.declared.content.Command.TheVariants as unfinished
 use Rattle.driver_rows.specs.DriverContent.{DriverContent}
-use Rattle.driver_rows.specs.Offers.{Offered, new_runs, first_of, stage_words, with_queued, new_transfer}
+use Rattle.driver_rows.specs.Offers.{Offered, new_runs, first_of, stage_words, new_transfer}
 use Rattle.run_owners.specs.Accepts.{Transfers}
-use Rattle.run_owners.specs.Leaving.{leaver}
-use Rattle.chained_transfers.specs.Leaving.{NothingLeaves}
 use Rattle.chained_transfers.specs.Accepted.{IsAsked}
 use Rattle.fed_lends.proofs.Accepting.{asked_is_to_be_lent, asked_is_blank}
-use Rattle.fed_lends.proofs.Asked.{set_which, dummy_in, notes_in}
+use Rattle.fed_lends.proofs.Asked.{dummy_in, notes_in}
 use Rattle.standing_fronts.specs.Reaching.{Reaches}
 use Rattle.harvest_laws.proofs.Commanding.{asked_told}
 use Rattle.open_names.proofs.Apart.{accepted_apart}
@@ -22,11 +20,13 @@ use Rattle.commanded_queues.proofs.Tails.{asked_reaches}
 use Rattle.commanded_queues.proofs.Extending.{asked_extents}
 use Rattle.bus_world.specs.World.{World, commanded_by}
 use Rattle.stream_worlds.specs.Streaming.{Streams, Standing}
-use Rattle.whole_worlds.specs.Feeding.{IsFeeding}
-use Rattle.whole_worlds.specs.Whole.{tail_block, tail_of, IsUnderWay, IsWhole}
-use Rattle.whole_worlds.specs.Taking.{HaveSides}
-use Rattle.whole_worlds.proofs.There.{there_now}
-use Rattle.whole_worlds.proofs.Tail.{newest_there, idle_ends}
+use Rattle.feeding_worlds.specs.Feeding.{IsFeeding}
+use Rattle.feeding_worlds.specs.Tails.{tail_block, tail_of, IsUnderWay}
+use Rattle.feeding_worlds.specs.Left.{IsLeft}
+use Rattle.whole_worlds.specs.Whole.{IsWhole}
+use Rattle.feeding_worlds.specs.Taking.{HaveSides}
+use Rattle.feeding_worlds.proofs.There.{there_now}
+use Rattle.feeding_worlds.proofs.Tail.{newest_there, idle_ends}
 
 module _ (fixed : Fixed) (takes : ℕ → ℕ → Bool) (member : ℕ → Bool) (x : Streams) (s : Standing) (w : World) (o : Offered) (k : IsWhole fixed takes member x s w) (asked : IsAsked w.driver w.memory o) where
   abbrev d : DriverContent
@@ -61,35 +61,16 @@ module _ (fixed : Fixed) (takes : ℕ → ℕ → Bool) (member : ℕ → Bool) 
   sides way has e z here opening =
       let a : ◌≡◌ {A = Option Command} (Some (unfinished.Publish asked.transfers.endpoint.dummy words)) (Some (unfinished.Open z.queue)) = sym command_is ∙ opening in absurd (cc)
 
-  -- and none leaves
-  stays : NothingLeaves o.driver
-  stays = record {
-    endpoints = λ e z here.
-        ⊎_elim
-        (λ (own : (e ≡ why.number) × (z ≡ with_queued why.endpoint dummy (length d.transfers))).
-        let old = k.stays.endpoints why.number why.endpoint why.here in
-        record {
-          cancelled = ap (λ (y : Endpoint). y.cancelled) own.1 ∙ old.cancelled;
-          linked = ap (λ (y : Endpoint). y.linked) own.1 ∙ old.linked;
-          gone = ap (λ (y : Endpoint). y.gone) own.1 ∙ old.gone;
-        })
-        (λ (other : (e ≢ why.number) × (slice_get d.endpoints e ≡ Some z)). k.stays.endpoints e z other.1)
-        (set_which d.endpoints why.number e why.endpoint (with_queued why.endpoint dummy (length d.transfers)) z why.here (ap (λ (p : Offered). slice_get p.driver.endpoints e) (sym why.is) ∙ here));
-    command = ap leaver command_is;
-    waiting = ap (λ (p : Offered). p.driver.waiting) why.is ∙ k.stays.waiting;
-    rung = ap (λ (p : Offered). p.driver.rung) why.is ∙ k.stays.rung;
-    cleared = ap (λ (p : Offered). p.driver.cleared) why.is ∙ k.stays.cleared;
-  }
-
   to_be_lent : IsUnderWay o.driver o.memory member s.parts o.driver.command
   to_be_lent =
       let place = k.feeding.working.place in
       let is = asked_is_to_be_lent d w.memory o asked place.sound.owners place.lent place.sound.stands place.sound.shape asked.transfers.endpoint.dummy words command_is in
       subst (λ (c : Option Command). IsUnderWay o.driver o.memory member s.parts c) (sym command_is) (inl is)
 
-pub asked_whole : (fixed : Fixed) (takes : ℕ → ℕ → Bool) (member : ℕ → Bool) (x : Streams) (s : Standing) (w : World) (line : ℕ) (name : EpName) (o : Offered) → IsAsked w.driver w.memory o → IsFeeding fixed member x s (commanded_by w line name (Ok o))
+pub asked_whole : (fixed : Fixed) (takes : ℕ → ℕ → Bool) (member : ℕ → Bool) (x : Streams) (s : Standing) (w : World) (line : ℕ) (name : EpName) (o : Offered) → IsAsked w.driver w.memory o
+    → IsFeeding fixed member x s (commanded_by w line name (Ok o)) → IsLeft fixed takes x.packets s.acc (commanded_by w line name (Ok o))
     → IsWhole fixed takes member x s w → IsWhole fixed takes member x s (commanded_by w line name (Ok o))
-asked_whole fixed takes member x s w line name o asked feeding k =
+asked_whole fixed takes member x s w line name o asked feeding left k =
     let d = w.driver in
     let place = k.feeding.working.place in
     let sound = place.sound in
@@ -108,5 +89,5 @@ asked_whole fixed takes member x s w line name o asked feeding k =
           (asked_reaches d w.memory o s.parts s.order s.out asked sound.stands sound.owners place.lent turns.bulk (idle_ends d s.parts s.order s.out asked.transfers.idle k.tails) e z here met);
       told = asked_told d w.memory o s.hand s.parts s.reported asked sound.stands sound.owners (there_now d turns) turns.turns.places k.told;
       bytes = k.bytes;
-      stays = stays fixed takes member x s w o k asked;
+      left = left;
     }

@@ -14,13 +14,15 @@ use Rattle.stream_worlds.specs.Streaming.{begins_by, transacts_by, wired, Stream
 use Rattle.stream_worlds.proofs.StreamTurning.{world_has_row}
 use Rattle.world_bytes.proofs.Turning.{controller_bytes}
 use Rattle.world_bytes.proofs.Hearing.{hears_bytes}
-use Rattle.whole_worlds.specs.Feeding.{IsFeeding, GoesOnBeside, bytes_of_event, acc_after}
-use Rattle.whole_worlds.proofs.FeedingBeside.{controller_feeds}
+use Rattle.feeding_worlds.specs.Feeding.{IsFeeding, GoesOnBeside, bytes_of_event, acc_after}
+use Rattle.feeding_worlds.proofs.FeedingBeside.{controller_feeds}
 use Rattle.whole_worlds.specs.Whole.{IsWhole}
 use Rattle.whole_worlds.specs.Laws.{ControllerKeepsWhole}
-use Rattle.whole_worlds.proofs.Heads.{rising}
+use Rattle.feeding_worlds.proofs.Heads.{rising}
 use Rattle.whole_worlds.proofs.Keeping.{under_way_stays, runs_stay, tails_stay}
-use Rattle.whole_worlds.proofs.TakingBeside.{controller_taking}
+use Rattle.feeding_worlds.proofs.TakingBeside.{controller_taking}
+use Rattle.feeding_worlds.proofs.Controlled.{controller_keeps_left}
+use Rattle.whole_worlds.proofs.KeptLeft.{whole_of}
 
 module _ (fixed : Fixed) (takes : ℕ → ℕ → Bool) (member : ℕ → Bool) (x : Streams) (s : Standing) (w : World) (k : IsWhole fixed takes member x s w) where
   abbrev f : IsFeeding fixed member x s w
@@ -66,14 +68,8 @@ module _ (fixed : Fixed) (takes : ℕ → ℕ → Bool) (member : ℕ → Bool) 
             (rising fixed member x s w f) k.tails;
         told = beside_told begins_by transacts_by base member s.parts s.hand (controller_parts w) (wired fixed w) (wired fixed new) now later w.driver s.reported controlled effect keeps k.told;
         bytes = controller_bytes fixed w k.bytes;
-        stays = k.stays;
+        left = controller_keeps_left fixed takes member x s w heard f k.taking beside k.left;
       }
 
 pub controller_whole : ControllerKeepsWhole
-controller_whole fixed takes member x s w k = record {
-  member = member;
-  streams = x.streams;
-  endpoint = x.endpoint;
-  standing = after_event fixed takes member x s w k;
-  whole = whole_beside fixed takes member x s w k;
-}
+controller_whole fixed takes member x s w k = whole_of fixed takes member x (after_event fixed takes member x s w k) (controller_next fixed w) (whole_beside fixed takes member x s w k)

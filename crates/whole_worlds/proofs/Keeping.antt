@@ -21,7 +21,7 @@ use Rattle.standing_fronts.specs.Along.{LinksOfQueuesRise}
 use Rattle.standing_fronts.proofs.Reaching.{reaches_walk}
 use Rattle.open_laws.specs.Opens.{IsOpenLent}
 use Rattle.open_laws.proofs.AcceptWaiting.{ready_stays}
-use Rattle.whole_worlds.specs.Whole.{tail_of, TailsStand, IsUnderWay}
+use Rattle.feeding_worlds.specs.Tails.{tail_of, TailsStand, IsUnderWay}
 
 -- ---- the unfinished command
 

@@ -18,19 +18,20 @@ use Rattle.driver_laws.specs.Extents.{AreInRuns}
 use Rattle.driver_laws.proofs.Extending.{extents_stay}
 use Rattle.open_laws.specs.Opens.{AreNamesApart}
 use Rattle.open_names.proofs.Apart.{events_apart}
-use Rattle.chained_transfers.proofs.Events.{event_nothing}
+use Rattle.whole_worlds.proofs.KeptLeft.{whole_of, row_left}
 use Rattle.fed_lends.specs.ToLend.{AreBlank}
 use Rattle.released_queues.specs.Fronts.{FrontsStand}
 use Rattle.standing_fronts.specs.Reaching.{Reaches}
 use Rattle.usb_bus.specs.Bus.{Fixed}
 use Rattle.bus_world.specs.World.{World, driver_parts, driver_next}
 use Rattle.stream_worlds.specs.Streaming.{Streams, Standing}
-use Rattle.whole_worlds.specs.HarvestFeeds.{HarvestLeaves}
-use Rattle.whole_worlds.proofs.FeedingHarvests.{harvest_feeds}
+use Rattle.feeding_worlds.specs.HarvestFeeds.{HarvestLeaves}
+use Rattle.feeding_worlds.proofs.FeedingHarvests.{harvest_feeds}
 use Rattle.idle_tails.proofs.Reaching.{idle_queues_reach}
-use Rattle.whole_worlds.specs.Whole.{tail_block, TailsStand, IsUnderWay, IsWhole, HasWhole}
+use Rattle.feeding_worlds.specs.Tails.{tail_block, TailsStand, IsUnderWay}
+use Rattle.whole_worlds.specs.Whole.{IsWhole, HasWhole}
 use Rattle.whole_worlds.specs.Laws.{HarvestKeepsWhole}
-use Rattle.whole_worlds.specs.Taking.{HaveSides}
+use Rattle.feeding_worlds.specs.Taking.{HaveSides}
 use Rattle.whole_worlds.proofs.Noting.{harvest_blank}
 
 -- ---- what is the same
@@ -107,17 +108,11 @@ module _ (fixed : Fixed) (takes : ℕ → ℕ → Bool) (member : ℕ → Bool) 
     tails = tails l;
     told = l.told;
     bytes = k.bytes;
-    stays = event_nothing (driver_parts w) k.feeding.working.place.sound.owners k.feeding.turns k.stays;
+    left = row_left fixed takes member x s w k (rows.Harvest e t found) row (λ same. cc) (λ i same. cc);
   }
 
   pub harvest_leaves_whole : HasWhole fixed takes x.stream x.packets (driver_next w)
-  harvest_leaves_whole = record {
-    member = member;
-    streams = x.streams;
-    endpoint = x.endpoint;
-    standing = record s { out = leaves.out; reported = leaves.reported };
-    whole = whole_harvested leaves;
-  }
+  harvest_leaves_whole = whole_of fixed takes member x (record s { out = leaves.out; reported = leaves.reported }) (driver_next w) (whole_harvested leaves)
 
 pub harvest_whole : HarvestKeepsWhole
 harvest_whole fixed takes member x s w e t found row k = harvest_leaves_whole fixed takes member x s w e t found row k

@@ -3,13 +3,13 @@ use Rattle.std.proofs.Common.{◌≡◌, ℕ, ◌-◌, ◌*◌, ◌≤◌, Bool,
 use Rattle.word_mem.specs.Memory.{Mem}
 use Rattle.qh_qtd.specs.declared.qtd.Qtd.{Qtd}
 use Rattle.driver_rows.specs.declared.content.Command.{Command}
+use Rattle.driver_rows.specs.declared.content.Command.TheVariants as unfinished
 use Rattle.driver_rows.specs.declared.content.QtdNote.{QtdNote}
 use Rattle.driver_rows.specs.DriverContent.{DriverContent}
 use Rattle.lent_structures.specs.Structures.{Element, StructureSets}
 use Rattle.lent_structures.specs.Sound.{IsElement}
 use Rattle.ring_laws.specs.Hand.{Hand}
 use Rattle.ring_laws.specs.Sparing.{SparesHead, SparesElement}
-use Rattle.chained_transfers.proofs.Events.{event_nothing}
 use Rattle.told_harvests.specs.Held.{AreHeld, none_held, one_held, IsOneFrom}
 use Rattle.harvest_laws.specs.Told.{ToldStands}
 use Rattle.harvest_laws.specs.ToldLaws.{SparesDone}
@@ -20,13 +20,15 @@ use Rattle.open_laws.specs.Opens.{AreNamesApart}
 use Rattle.fed_lends.specs.ToLend.{IsToBeLent, lent_now}
 use Rattle.fed_lends.proofs.Reporting.{same_hand}
 use Rattle.usb_bus.specs.Bus.{Fixed}
-use Rattle.bus_world.specs.World.{World, driver_parts, driver_next}
+use Rattle.bus_world.specs.World.{World, driver_next}
 use Rattle.stream_worlds.specs.Streaming.{Streams, Standing}
-use Rattle.whole_worlds.proofs.FeedingLends.{lend_feeds}
-use Rattle.whole_worlds.specs.LendFeeds.{LendsTransfer}
-use Rattle.whole_worlds.specs.Whole.{tail_of, TailsStand, IsUnderWay, HaveSenders, IsWhole}
+use Rattle.feeding_worlds.proofs.FeedingLends.{lend_feeds}
+use Rattle.feeding_worlds.specs.LendFeeds.{LendsTransfer}
+use Rattle.feeding_worlds.specs.Tails.{tail_of, TailsStand, IsUnderWay}
+use Rattle.whole_worlds.specs.Whole.{HaveSenders, IsWhole}
 use Rattle.whole_worlds.specs.Laws.{LendKeepsWhole}
-use Rattle.whole_worlds.specs.Taking.{HaveTakers}
+use Rattle.feeding_worlds.specs.Taking.{HaveTakers}
+use Rattle.whole_worlds.proofs.KeptLeft.{whole_of, busy_left}
 use Rattle.whole_worlds.proofs.LentTails.{tail_stands}
 use Rattle.whole_worlds.proofs.TakingLends.{lend_taking}
 
@@ -91,14 +93,9 @@ module _ (fixed : Fixed) (takes : ℕ → ℕ → Bool) (member : ℕ → Bool) 
             (k.tails e z here (record { there = record { linked = met.there.linked; kept = met.there.kept }; near = met.near }))));
         told = subst (λ (d : DriverContent). ToldStands d s.hand g.parts s.reported) (sym g.driver_is) (lend_told w.driver w.memory s.hand s.parts g.parts s.reported g.heads g.elements k.told);
         bytes = k.bytes;
-        stays = event_nothing (driver_parts w) place.sound.owners f.turns k.stays;
+        left = busy_left fixed takes member x s w k (unfinished.Publish b words) get.command;
       }
 
 pub lend_keeps_whole : LendKeepsWhole
-lend_keeps_whole fixed takes member x s w b words get k = record {
-  member = member;
-  streams = x.streams;
-  endpoint = x.endpoint;
-  standing = after_lend fixed takes member x s w b words get k;
-  whole = whole_lent fixed takes member x s w b words get k;
-}
+lend_keeps_whole fixed takes member x s w b words get k =
+    whole_of fixed takes member x (after_lend fixed takes member x s w b words get k) (driver_next w) (whole_lent fixed takes member x s w b words get k)

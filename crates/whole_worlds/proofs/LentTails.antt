@@ -28,7 +28,7 @@ use Rattle.driver_laws.proofs.TransferLending.{taken_owner}
 use Rattle.fed_lends.specs.ToLend.{IsToBeLent}
 use Rattle.fed_lends.proofs.Names.{first_stands}
 use Rattle.fed_lends.proofs.Fed.{bare_is}
-use Rattle.whole_worlds.specs.Whole.{tail_block, tail_of}
+use Rattle.feeding_worlds.specs.Tails.{tail_block, tail_of}
 
 -- ---- the inactive qTD of another endpoint
 

@@ -12,16 +12,17 @@ use Rattle.driver_laws.specs.Extents.{AreInRuns}
 use Rattle.usb_bus.specs.Bus.{Fixed}
 use Rattle.bus_world.specs.World.{World, driver_parts, driver_next}
 use Rattle.stream_worlds.specs.Streaming.{Streams, Standing}
-use Rattle.controlled_streams.specs.Opened.{with_end, with_none}
-use Rattle.chained_transfers.proofs.Events.{event_nothing}
+use Rattle.controlled_streams.specs.Opened.{with_none}
+use Rattle.whole_worlds.proofs.KeptLeft.{whole_of, busy_left, begun_left}
 use Rattle.chained_transfers.proofs.Staying.{linked_alive}
 use Rattle.fed_lends.specs.ToLend.{AreBlank}
 use Rattle.harvest_laws.specs.Told.{ToldStands}
-use Rattle.open_laws.specs.Opens.{IsOpenLent, AreNamesApart, IsAtOpen, head_then, hand_then, end_then, streams_then}
+use Rattle.open_laws.specs.Opens.{IsOpenLent, AreNamesApart, IsAtOpen, head_then, hand_then}
 use Rattle.open_laws.proofs.Linking.{driver_is}
-use Rattle.whole_worlds.specs.Whole.{TailsStand, IsUnderWay, IsWhole}
+use Rattle.feeding_worlds.specs.Tails.{TailsStand, IsUnderWay}
+use Rattle.whole_worlds.specs.Whole.{IsWhole}
 use Rattle.whole_worlds.specs.Laws.{OpenLinkKeepsWhole}
-use Rattle.whole_worlds.proofs.FeedingLinks.{linked, found, at_open, more, link_feeding}
+use Rattle.feeding_worlds.proofs.FeedingLinks.{linked, found, at_open, more, link_feeding}
 use Rattle.whole_worlds.proofs.Linking.{tails_then, runs_then, told_then}
 use Rattle.whole_worlds.proofs.TakingOpens.{link_taking}
 
@@ -68,16 +69,10 @@ module _ (fixed : Fixed) (takes : ℕ → ℕ → Bool) (member : ℕ → Bool) 
         tails = subst (λ (d : DriverContent). TailsStand d now s.order out) is (tails_then p member x.streams x.endpoint s.parts s.order s.out at k.tails);
         told = subst (λ (d : DriverContent). ToldStands d later now reported) is (told_then p member x.streams x.endpoint s.parts s.order s.out at s.hand s.reported k.told);
         bytes = k.bytes;
-        stays = event_nothing p k.feeding.working.place.sound.owners k.feeding.turns k.stays;
+        left = begun_left fixed takes x.packets s.acc (driver_next w) n (busy_left fixed takes member x s w k (unfinished.Open e.queue) lent.command);
       }
 
 pub open_link_keeps : OpenLinkKeepsWhole
 open_link_keeps fixed takes member x s w lent k =
-    let n = 32 * lent.endpoint.queue in
-    record {
-      member = with_member member n;
-      streams = streams_then x.streams lent.endpoint;
-      endpoint = with_end x.endpoint n (end_then lent.endpoint);
-      standing = linked s (found fixed member x s w lent k.feeding).queue lent.endpoint;
-      whole = linked_whole fixed takes member x s w lent k;
-    }
+    whole_of fixed takes (with_member member (32 * lent.endpoint.queue)) (more fixed member x s w lent k.feeding)
+    (linked s (found fixed member x s w lent k.feeding).queue lent.endpoint) (driver_next w) (linked_whole fixed takes member x s w lent k)

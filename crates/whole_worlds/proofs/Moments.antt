@@ -1,10 +1,11 @@
 -- Where the opening, each event and each command leave the world whole, it is so at each moment, and its report is right.
-use Rattle.std.proofs.Common.{◌≡◌, ℕ, Bool, true, false, List, [], ◌∷◌, Option, ap, refl, sym, ◌∙◌}
+use Rattle.std.proofs.Common.{◌≡◌, ℕ, Bool, true, false, List, [], ◌∷◌, Ok, ap, refl, sym, ⊎_elim}
 use Rattle.std.specs.Prelude.{is_some}
 use Rattle.std.specs.List.{AllByRecursion}
-use Rattle.std.proofs.lemmas.Bool.{false≢true, true≢false}
+use Rattle.std.proofs.lemmas.Bool.{false≢true}
 use Rattle.usb_base.specs.declared.commands.Cmd.{Cmd}
 use Rattle.usb_base.specs.declared.commands.Cmd.TheVariants as commands
+use Rattle.usb_base.specs.declared.endpoints.EpDesc.{EpDesc}
 use Rattle.usb_base.specs.declared.packets.Way.{Way}
 use Rattle.usb_base.specs.declared.packets.Way.TheVariants as ways
 use Rattle.script_types.specs.declared.scripts.Line.{Line}
@@ -21,29 +22,28 @@ use Rattle.declared_endpoints.proofs.Senders.{spelled_senders}
 use Rattle.declared_endpoints.proofs.Owning.{spelled_owns}
 use Rattle.script_numbers.specs.Numbers.{NumbersLine}
 use Rattle.script_numbers.proofs.Texts.{spelled_numbers}
+use Rattle.word_mem.specs.Memory.{Mem}
 use Rattle.driver_rows.specs.DriverContent.{DriverContent}
-use Rattle.endpoint_lives.proofs.Lives.{linked_met}
-use Rattle.chained_transfers.specs.Leaving.{NothingLeaves}
-use Rattle.ring_laws.specs.OutBus.{Taker}
-use Rattle.scripted_takers.specs.Takers.{taker_of}
+use Rattle.driver_rows.specs.Offers.{Offered, offered}
+use Rattle.open_laws.specs.Opens.{AreNamesApart}
 use Rattle.walk_members.specs.Reached.{OpensNumbered}
 use Rattle.driver_laws.specs.PartOpened.{opening_base}
-use Rattle.bus_world.specs.World.{World}
+use Rattle.bus_world.specs.World.{World, driver_next, controller_next, commanded}
 use Rattle.bus_world.specs.Budgets.{moment}
-use Rattle.stream_worlds.specs.Streaming.{Streams, wired}
-use Rattle.chained_transfers.specs.Bulk.{IsDataWay, OpensBulk, BulkLine, BulkOnly, receives}
-use Rattle.right_worlds.specs.Right.{AreOfScript, ClosedIns}
+use Rattle.stream_worlds.specs.Streaming.{Streams}
+use Rattle.chained_transfers.specs.Bulk.{IsDataWay, IsBulk, OpensOrCancelsBulk, BulkLine, BulkOnly, OnlyBulk, receives}
+use Rattle.right_worlds.specs.Right.{AreOfScript}
 use Rattle.right_worlds.proofs.Beginning.{world_right}
 use Rattle.receiving_runs.specs.Runs.{KindOfLine, IsKeptBy}
 use Rattle.receiving_runs.proofs.Runs.{holds_throughout}
-use Rattle.taken_reports.specs.Worlds.{ClosedOuts}
 use Rattle.taken_reports.proofs.Beginning.{world_taken}
 use Rattle.taken_reports.proofs.Seating.{moment_seated}
-use Rattle.whole_worlds.specs.Feeding.{left_of, streams_of, there_of}
-use Rattle.whole_worlds.specs.Taking.{outs_of}
+use Rattle.feeding_worlds.specs.Feeding.{left_of, streams_of, there_of}
+use Rattle.feeding_worlds.specs.Taking.{outs_of}
+use Rattle.feeding_worlds.proofs.Told.{there_on}
+use Rattle.whole_worlds.proofs.Naming.{KeepsNames, event_named, command_named, stays_on, named_once}
 use Rattle.whole_worlds.proofs.TakingHeads.{outs_are_there, outs_stand}
-use Rattle.whole_worlds.proofs.Told.{there_on}
-use Rattle.whole_worlds.specs.Whole.{HasWhole}
+use Rattle.whole_worlds.specs.Whole.{IsNamed, StaysOpen, HasWhole}
 use Rattle.whole_worlds.specs.Laws.{NewWorldIsWhole, ControllerKeepsWhole, OpensTo, CommandKeepsWhole, DriverKeepsWhole}
 use Rattle.whole_worlds.specs.Moments.{IsBulkScript, ScriptsStayWhole, StreamsAreRight, TextsAreRight, TextsAreTaken}
 use Rattle.stream_worlds.specs.Takers.{takes_of}
@@ -57,7 +57,7 @@ pub record StaysWhole : Type 0 where
 -- ---- the commands of such a script
 
 abbrev pub CanBe : (ℕ → ℕ → Bool) → (ℕ → ℕ → Bool) → Cmd → Type 0
-CanBe stream takes cmd = OpensBulk cmd × OpensTo stream takes cmd × OpensNumbered cmd
+CanBe stream takes cmd = OpensOrCancelsBulk cmd × OpensTo stream takes cmd × OpensNumbered cmd
 
 -- data of a bulk endpoint come to the host where it is an IN
 in_way : (way : Way) → IsDataWay way → receives way ≡ true → way ≡ ways.In
@@ -71,7 +71,7 @@ out_way ways.In one goes = absurd (false≢true (sym goes))
 out_way ways.Out one goes = refl
 out_way ways.Ctl one goes = absurd one
 
-opens_to : (s : Script) (cmd : Cmd) → OpensBulk cmd → OpensItsSender s (lines.Command cmd) → OpensItsTaker s (lines.Command cmd) → OpensTo (streams_of s).stream (takes_of s) cmd
+opens_to : (s : Script) (cmd : Cmd) → OpensOrCancelsBulk cmd → OpensItsSender s (lines.Command cmd) → OpensItsTaker s (lines.Command cmd) → OpensTo (streams_of s).stream (takes_of s) cmd
 opens_to s (commands.OpenEp x) only sends takes =
     (λ comes. ap is_some (sends only.kind only.speed (in_way x.name.way only.way comes)), λ goes. ap is_some (takes only.kind only.speed (out_way x.name.way only.way goes)))
 opens_to s (commands.Get name len by) only sends takes = tt
@@ -109,31 +109,48 @@ abbrev Whole : Script → World → Type 0
 Whole s w = HasWhole (fixed_of s) (takes_of s) (streams_of s).stream (streams_of s).packets w
 
 abbrev with_streams : (s : Script) (w : World) → Whole s w → Streams
-with_streams s w h = record { stream = (streams_of s).stream; packets = (streams_of s).packets; streams = h.streams; endpoint = h.endpoint }
+with_streams s w h = record { stream = h.ins; packets = (streams_of s).packets; streams = h.streams; endpoint = h.endpoint }
 
 of_script : (s : Script) → AreOfScript s (streams_of s).packets
 of_script s = record { some = λ addr ep x is. ap left_of is; none = λ addr ep is. ap left_of is }
 
--- ---- nothing leaves
-
-none_closed_in : (d : DriverContent) (packets : ℕ → ℕ → List (List ℕ)) (acc : ℕ → List (List ℕ)) → NothingLeaves d → ClosedIns d packets acc
-none_closed_in d packets acc stays = record {
-  left = λ e x here comes there off. absurd (true≢false (sym (linked_met d e x (stays.endpoints e x here).linked) ∙ off));
-  gone = λ e x here comes is. absurd (true≢false (sym is ∙ (stays.endpoints e x here).gone));
+-- the streams that are open after a step, of those that the script has
+goes_on : (s : Script) (w v : World) (h : Whole s w) → KeepsNames w.driver v.driver → HasWhole (fixed_of s) h.outs h.ins (streams_of s).packets v → Whole s v
+goes_on s w v h keeps n = record {
+  member = n.member;
+  streams = n.streams;
+  endpoint = n.endpoint;
+  standing = n.standing;
+  ins = n.ins;
+  outs = n.outs;
+  whole = n.whole;
+  ins_stay = stays_on w.driver v.driver true (streams_of s).stream h.ins n.ins keeps h.ins_stay n.ins_stay;
+  outs_stay = stays_on w.driver v.driver false (takes_of s) h.outs n.outs keeps h.outs_stay n.outs_stay;
 }
 
-none_closed_out : {W : Type 0} (d : DriverContent) (taker : W → ℕ → ℕ → Option Taker) (acc : ℕ → List (List ℕ)) (wire : W) → NothingLeaves d → ClosedOuts d taker acc wire
-none_closed_out d taker acc wire stays = record {
-  left = λ e x here goes there off. absurd (true≢false (sym (linked_met d e x (stays.endpoints e x here).linked) ∙ off));
-  gone = λ e x here goes is. absurd (true≢false (sym is ∙ (stays.endpoints e x here).gone));
-}
+-- an endpoint that is opened has its stream, or its taker, still: a name is opened once
+still_open : (d : DriverContent) (m : Mem) (x : EpDesc) (o : Offered) (way : Bool) (base now : ℕ → ℕ → Bool) → OnlyBulk d → AreNamesApart d → IsBulk x → offered d m (commands.OpenEp x) ≡ Ok o → StaysOpen d way base now
+    → (receives x.name.way ≡ way → base x.name.addr x.name.num ≡ true) → receives x.name.way ≡ way → now x.name.addr x.name.num ≡ true
+still_open d m x o way base now bulk apart is offer stays to side =
+    ⊎_elim (λ (still : now x.name.addr x.name.num ≡ true). still) (λ (k : IsNamed d way x.name.addr x.name.num). absurd (named_once d m x o way bulk apart is side k offer)) (stays x.name.addr x.name.num (to side))
+
+pub opens_still : (s : Script) (w : World) (h : Whole s w) (cmd : Cmd) (o : Offered) → OpensOrCancelsBulk cmd → OpensTo (streams_of s).stream (takes_of s) cmd → offered w.driver w.memory cmd ≡ Ok o → OpensTo h.ins h.outs cmd
+opens_still s w h (commands.OpenEp x) o only to offer =
+    let bulk = h.whole.feeding.turns.bulk in
+    (still_open w.driver w.memory x o true (streams_of s).stream h.ins bulk h.whole.names only offer h.ins_stay to.0, still_open w.driver w.memory x o false (takes_of s) h.outs bulk h.whole.names only offer h.outs_stay to.1)
+opens_still s w h (commands.Get name len by) o only to offer = tt
+opens_still s w h (commands.Put name bytes by) o only to offer = tt
+opens_still s w h (commands.Control name setup bytes) o only to offer = tt
+opens_still s w h (commands.Iso name count len seed) o only to offer = tt
+opens_still s w h (commands.Cancel name) o only to offer = tt
 
 module _ (stays : StaysWhole) where
   is_kept : (s : Script) → IsKeptBy (fixed_of s) (CanBe (streams_of s).stream (takes_of s)) (Whole s)
   is_kept s = record {
-    driver = λ w h. stays.driver (fixed_of s) (takes_of s) h.member (with_streams s w h) h.standing w h.whole;
-    controller = λ w h. stays.controller (fixed_of s) (takes_of s) h.member (with_streams s w h) h.standing w h.whole;
-    command = λ w line cmd can offered h. stays.command (fixed_of s) (takes_of s) h.member (with_streams s w h) h.standing w line cmd can.0 can.1 can.2 offered h.whole;
+    driver = λ w h. goes_on s w (driver_next w) h (event_named w) (stays.driver (fixed_of s) h.outs h.member (with_streams s w h) h.standing w h.whole);
+    controller = λ w h. goes_on s w (controller_next (fixed_of s) w) h (λ way addr ep k. k) (stays.controller (fixed_of s) h.outs h.member (with_streams s w h) h.standing w h.whole);
+    command = λ w line cmd can room h. goes_on s w (commanded w line cmd) h (command_named w line cmd h.whole.feeding.turns can.0)
+        (stays.command (fixed_of s) h.outs h.member (with_streams s w h) h.standing w line cmd can.0 (λ o offer. opens_still s w h cmd o can.0 can.1 offer) can.2 room h.whole);
   }
 
   pub stay_whole : ScriptsStayWhole
@@ -146,7 +163,7 @@ module _ (stays : StaysWhole) where
       let h : Whole s w = stay_whole s is k in
       let f = h.whole.feeding in
       world_right s (fixed_of s) opening_base h.member (there_of w.driver) (with_streams s w h) h.standing w is.only own (of_script s) f.working.streaming f.turns.bulk f.queues.streams_are h.whole.told f.counted
-      (there_on w.driver) (none_closed_in w.driver (streams_of s).packets h.standing.acc h.whole.stays)
+      (there_on w.driver) h.whole.left.closed_ins
 
   pub texts_are_right : TextsAreRight
   texts_are_right text s spelled only = are_right s (spelled_bulk text s spelled only) (spelled_owns text s spelled)
@@ -159,6 +176,6 @@ module _ (stays : StaysWhole) where
       let h : Whole s w = stay_whole s (spelled_bulk text s spelled only) k in
       let f = h.whole.feeding in
       let t = h.whole.taking in
-      world_taken s (fixed_of s) (takes_of s) h.member (outs_of h.member h.streams) (there_of w.driver) h.endpoint h.standing.order h.standing.out h.standing.reported h.standing.acc h.standing.parts h.standing.hand w
+      world_taken s (fixed_of s) h.outs h.member (outs_of h.member h.streams) (there_of w.driver) h.endpoint h.standing.order h.standing.out h.standing.reported h.standing.acc h.standing.parts h.standing.hand w
       only (moment_seated text s k spelled) f.turns.bulk t.piped f.counted (outs_are_there (fixed_of s) h.member (with_streams s w h) h.standing w f) (outs_stand (fixed_of s) h.member (with_streams s w h) h.standing w f)
-      (there_on w.driver) (none_closed_out w.driver taker_of h.standing.acc (wired (fixed_of s) w) h.whole.stays) h.whole.told
+      (there_on w.driver) h.whole.left.closed_outs h.whole.told

@@ -35,7 +35,7 @@ use Rattle.scripted_streams.specs.Senders.{sender_of}
 use Rattle.usb_bus.specs.Bus.{Fixed}
 use Rattle.bus_world.specs.World.{World, driver_parts, driver_next}
 use Rattle.stream_worlds.specs.Streaming.{Streams, Standing, wired}
-use Rattle.chained_transfers.proofs.Events.{event_turns, event_nothing}
+use Rattle.chained_transfers.proofs.Events.{event_turns}
 use Rattle.chained_transfers.proofs.Staying.{linked_alive}
 use Rattle.fed_lends.specs.ToLend.{AreBlank}
 use Rattle.publish_laws.proofs.Apart.{thirty_two}
@@ -45,15 +45,17 @@ use Rattle.open_laws.specs.Opens.{IsOpenLent, AreNamesApart, next_of}
 use Rattle.open_laws.specs.Lends.{IsOpenReady, IsAtLend, parts_lent}
 use Rattle.open_laws.proofs.Lending.{lend_drives, lend_stands, lend_pipes, lend_reports}
 use Rattle.controlled_streams.specs.Reported.{AreReported}
-use Rattle.whole_worlds.specs.Feeding.{there_of, IsFeeding}
-use Rattle.whole_worlds.proofs.FeedingStores.{queue_above}
-use Rattle.whole_worlds.proofs.Heads.{right_of}
-use Rattle.whole_worlds.proofs.Told.{has_there}
+use Rattle.feeding_worlds.specs.Feeding.{there_of, IsFeeding}
+use Rattle.feeding_worlds.proofs.FeedingStores.{queue_above}
+use Rattle.feeding_worlds.proofs.Heads.{right_of}
+use Rattle.feeding_worlds.proofs.Told.{has_there}
 use Rattle.standing_fronts.specs.Reaching.{Reaches}
-use Rattle.whole_worlds.specs.Whole.{tail_of, TailsStand, IsUnderWay, HaveSenders, IsWhole}
+use Rattle.feeding_worlds.specs.Tails.{tail_of, TailsStand, IsUnderWay}
+use Rattle.whole_worlds.specs.Whole.{HaveSenders, IsWhole}
 use Rattle.whole_worlds.specs.Laws.{OpenLendKeepsWhole}
-use Rattle.whole_worlds.specs.Taking.{HaveTakers}
-use Rattle.whole_worlds.proofs.OpenBeside.{streams_at, still_frameless, heads_stay, elements_stay, reaches_beside}
+use Rattle.feeding_worlds.specs.Taking.{HaveTakers}
+use Rattle.feeding_worlds.proofs.OpenBeside.{streams_at, still_frameless, heads_stay, elements_stay, reaches_beside}
+use Rattle.whole_worlds.proofs.KeptLeft.{whole_of, busy_left}
 use Rattle.whole_worlds.proofs.TakingOpens.{open_lend_taking}
 
 -- a run that was kept and is lent has its blocks still
@@ -234,14 +236,8 @@ module _ (fixed : Fixed) (takes : ℕ → ℕ → Bool) (member : ℕ → Bool) 
         tails = subst (λ (d : DriverContent). TailsStand d now s.order s.out) is (tails_then p ready owners s.parts driven s.order s.out k.tails);
         told = subst (λ (d : DriverContent). ToldStands d s.hand now s.reported) is (told_then p ready owners s.parts driven s.hand s.reported k.told);
         bytes = k.bytes;
-        stays = event_nothing p owners k.feeding.turns k.stays;
+        left = busy_left fixed takes member x s w k (unfinished.Open ready.endpoint.queue) ready.command;
       }
 
 pub open_lend_keeps : OpenLendKeepsWhole
-open_lend_keeps fixed takes member x s w ready k = record {
-  member = member;
-  streams = x.streams;
-  endpoint = x.endpoint;
-  standing = record s { parts = parts_lent s.parts ready };
-  whole = open_lent fixed takes member x s w ready k;
-}
+open_lend_keeps fixed takes member x s w ready k = whole_of fixed takes member x (record s { parts = parts_lent s.parts ready }) (driver_next w) (open_lent fixed takes member x s w ready k)

@@ -19,7 +19,6 @@ use Rattle.walk_members.specs.Reached.{OpensNumbered}
 use Rattle.driver_laws.specs.LendOpened.{opened_head}
 use Rattle.chained_transfers.specs.Bulk.{OpensBulk, receives}
 use Rattle.chained_transfers.specs.Accepted.{IsOpened}
-use Rattle.chained_transfers.proofs.Commands.{command_nothing}
 use Rattle.fed_lends.proofs.Accepting.{open_is_blank}
 use Rattle.fed_lends.proofs.Asked.{push_which}
 use Rattle.standing_fronts.specs.Reaching.{Reaches}
@@ -33,12 +32,14 @@ use Rattle.commanded_queues.proofs.Tails.{open_reaches}
 use Rattle.commanded_queues.proofs.Extending.{open_extents}
 use Rattle.bus_world.specs.World.{World, name_in, commanded_by}
 use Rattle.stream_worlds.specs.Streaming.{Streams, Standing}
-use Rattle.whole_worlds.specs.Feeding.{IsFeeding}
-use Rattle.whole_worlds.specs.Whole.{IsUnderWay, IsWhole}
+use Rattle.feeding_worlds.specs.Feeding.{IsFeeding}
+use Rattle.feeding_worlds.specs.Tails.{IsUnderWay}
+use Rattle.feeding_worlds.specs.Left.{IsLeft}
+use Rattle.whole_worlds.specs.Whole.{IsWhole}
 use Rattle.whole_worlds.specs.Laws.{OpensTo}
-use Rattle.whole_worlds.specs.Taking.{HaveSides}
-use Rattle.whole_worlds.proofs.Told.{same_queue}
-use Rattle.whole_worlds.proofs.Tail.{open_tail, idle_ends}
+use Rattle.feeding_worlds.specs.Taking.{HaveSides}
+use Rattle.feeding_worlds.proofs.Told.{same_queue}
+use Rattle.feeding_worlds.proofs.Tail.{open_tail, idle_ends}
 
 module _ (fixed : Fixed) (takes : ℕ → ℕ → Bool) (member : ℕ → Bool) (x : Streams) (s : Standing) (w : World) (line : ℕ) (cmd : Cmd) (o : Offered) (k : IsWhole fixed takes member x s w) (opened : IsOpened w.driver w.memory o) where
   abbrev d : DriverContent
@@ -80,8 +81,9 @@ module _ (fixed : Fixed) (takes : ℕ → ℕ → Bool) (member : ℕ → Bool) 
       subst (λ (c : Option Command). IsUnderWay o.driver o.memory member s.parts c) (sym command_is) (inl is)
 
 pub opened_whole : (fixed : Fixed) (takes : ℕ → ℕ → Bool) (member : ℕ → Bool) (x : Streams) (s : Standing) (w : World) (line : ℕ) (cmd : Cmd) (o : Offered) → OpensBulk cmd → OpensTo x.stream takes cmd → OpensNumbered cmd → IsOffered w.driver.room cmd
-    → offered w.driver w.memory cmd ≡ Ok o → IsOpened w.driver w.memory o → IsFeeding fixed member x s (commanded_by w line (name_in cmd) (Ok o)) → IsWhole fixed takes member x s w → IsWhole fixed takes member x s (commanded_by w line (name_in cmd) (Ok o))
-opened_whole fixed takes member x s w line cmd o only to fits room offer opened feeding k =
+    → offered w.driver w.memory cmd ≡ Ok o → IsOpened w.driver w.memory o → IsFeeding fixed member x s (commanded_by w line (name_in cmd) (Ok o))
+    → IsLeft fixed takes x.packets s.acc (commanded_by w line (name_in cmd) (Ok o)) → IsWhole fixed takes member x s w → IsWhole fixed takes member x s (commanded_by w line (name_in cmd) (Ok o))
+opened_whole fixed takes member x s w line cmd o only to fits room offer opened feeding left k =
     let d = w.driver in
     let sound = k.feeding.working.place.sound in
     let desc = opened.opens.desc in
@@ -106,5 +108,5 @@ opened_whole fixed takes member x s w line cmd o only to fits room offer opened 
           (open_reaches d w.memory o s.parts s.order s.out opened (idle_ends d s.parts s.order s.out opened.opens.idle k.tails) e z here met);
       told = opened_told d w.memory o s.hand s.parts s.reported opened (apart fixed takes member x s w line cmd o k opened) k.told;
       bytes = k.bytes;
-      stays = command_nothing d w.memory cmd o k.feeding.turns.bulk k.stays only offer;
+      left = left;
     }

@@ -8,17 +8,21 @@ use Rattle.run_owners.specs.Owners.{TransferRuns, transfer_in, views_of}
 use Rattle.lent_structures.specs.Structures.{Structure, Table}
 use Rattle.driver_laws.specs.PartOpened.{empty_list, opening_parts, is_head}
 use Rattle.driver_laws.specs.Extents.{AreInRuns}
-use Rattle.chained_transfers.proofs.Events.{new_nothing}
 use Rattle.fed_lends.proofs.Accepting.{opening_is_blank}
 use Rattle.harvest_laws.proofs.Standing.{new_told}
 use Rattle.open_names.proofs.Apart.{new_apart}
 use Rattle.world_bytes.proofs.Turning.{opened_bytes}
 use Rattle.bus_world.specs.Rooms.{reserve_of}
 use Rattle.shared_worlds.specs.Working.{at_opening}
-use Rattle.whole_worlds.specs.Feeding.{streams_of}
-use Rattle.whole_worlds.proofs.FeedingOpening.{new_world_feeds}
+use Rattle.feeding_worlds.specs.Feeding.{streams_of}
+use Rattle.feeding_worlds.proofs.FeedingOpening.{new_world_feeds}
 use Rattle.whole_worlds.specs.Laws.{NewWorldIsWhole}
-use Rattle.whole_worlds.proofs.TakingOpening.{new_world_taking}
+use Rattle.feeding_worlds.proofs.Opening.{new_world_left}
+use Rattle.whole_worlds.proofs.KeptLeft.{whole_of}
+use Rattle.usb_bus.specs.Bus.{fixed_of}
+use Rattle.bus_world.specs.Opening.{opening_world}
+use Rattle.stream_worlds.specs.Takers.{takes_of}
+use Rattle.feeding_worlds.proofs.TakingOpening.{new_world_taking}
 
 no_endpoint : (e : ℕ) (x : Endpoint) → slice_get {X = Endpoint} [] e ≡ Some x → ⊥
 no_endpoint zero x here = cc
@@ -50,23 +54,17 @@ opening_runs n room = record {
 -- ---- the world
 
 pub new_world_is_whole : NewWorldIsWhole
-new_world_is_whole s fit bytes = record {
-  member = is_head;
-  streams = (streams_of s).streams;
-  endpoint = (streams_of s).endpoint;
-  standing = at_opening;
-  whole = record {
-    feeding = new_world_feeds s fit;
-    under_way = tt;
-    blank = opening_is_blank s.words (reserve_of s.lines);
-    names = new_apart s.words (reserve_of s.lines);
-    senders = λ e x here. absurd (no_endpoint e x here);
-    takers = λ e x here. absurd (no_endpoint e x here);
-    taking = new_world_taking s fit;
-    runs = opening_runs s.words (reserve_of s.lines);
-    tails = λ e x here met. absurd (no_endpoint e x here);
-    told = new_told s.words (reserve_of s.lines) at_opening.hand at_opening.parts at_opening.reported;
-    bytes = opened_bytes s bytes;
-    stays = new_nothing s.words (reserve_of s.lines);
-  };
-}
+new_world_is_whole s fit bytes = whole_of (fixed_of s) (takes_of s) is_head (streams_of s) at_opening (opening_world s) (record {
+  feeding = new_world_feeds s fit;
+  under_way = tt;
+  blank = opening_is_blank s.words (reserve_of s.lines);
+  names = new_apart s.words (reserve_of s.lines);
+  senders = λ e x here. absurd (no_endpoint e x here);
+  takers = λ e x here. absurd (no_endpoint e x here);
+  taking = new_world_taking s fit;
+  runs = opening_runs s.words (reserve_of s.lines);
+  tails = λ e x here met. absurd (no_endpoint e x here);
+  told = new_told s.words (reserve_of s.lines) at_opening.hand at_opening.parts at_opening.reported;
+  bytes = opened_bytes s bytes;
+  left = new_world_left s fit;
+})

@@ -1,5 +1,5 @@
 -- Each moment of the run of a script of bulk endpoints.
-use Rattle.whole_worlds.specs.Feeding.{streams_of}
+use Rattle.feeding_worlds.specs.Feeding.{streams_of}
 use Rattle.whole_worlds.proofs.Moments.{spelled_bulk}
 use Rattle.whole_worlds.proofs.Running.{scripts_stay_whole}
 use Rattle.whole_worlds.specs.PlacedLaws.{ScriptsRunInPlace, TextsRunInPlace}

@@ -18,8 +18,10 @@ use Rattle.commanded_queues.proofs.Tails.{reaches_alike}
 use Rattle.harvest_laws.proofs.Standing.{refused_told}
 use Rattle.bus_world.specs.World.{World, refused_line, commanded_by}
 use Rattle.stream_worlds.specs.Streaming.{Streams, Standing}
-use Rattle.whole_worlds.specs.Feeding.{IsFeeding}
-use Rattle.whole_worlds.specs.Whole.{tail_of, IsUnderWay, IsWhole}
+use Rattle.feeding_worlds.specs.Feeding.{IsFeeding}
+use Rattle.feeding_worlds.specs.Tails.{tail_of, IsUnderWay}
+use Rattle.feeding_worlds.specs.Left.{IsLeft}
+use Rattle.whole_worlds.specs.Whole.{IsWhole}
 
 module _ (d : DriverContent) (line : ℕ) (name : EpName) (why : OfferError) (m : Mem) where
   abbrev f : DriverContent
@@ -96,9 +98,10 @@ module _ (d : DriverContent) (line : ℕ) (name : EpName) (why : OfferError) (m 
   under_way member parts (Some (unfinished.Iso e t count)) k = tt
   under_way member parts (Some (unfinished.Unchain e)) k = tt
 
-pub refused_whole : (fixed : Fixed) (takes : ℕ → ℕ → Bool) (member : ℕ → Bool) (x : Streams) (s : Standing) (w : World) (line : ℕ) (name : EpName) (why : OfferError) → IsFeeding fixed member x s (commanded_by w line name (Err why)) → IsWhole fixed takes member x s w
+pub refused_whole : (fixed : Fixed) (takes : ℕ → ℕ → Bool) (member : ℕ → Bool) (x : Streams) (s : Standing) (w : World) (line : ℕ) (name : EpName) (why : OfferError)
+    → IsFeeding fixed member x s (commanded_by w line name (Err why)) → IsLeft fixed takes x.packets s.acc (commanded_by w line name (Err why)) → IsWhole fixed takes member x s w
     → IsWhole fixed takes member x s (commanded_by w line name (Err why))
-refused_whole fixed takes member x s w line name why feeding k =
+refused_whole fixed takes member x s w line name why feeding left k =
     let d = w.driver in
     let row : Report = record { name = name; what = Refused line why; from = length d.store; len = 0 } in
     record {
@@ -116,5 +119,5 @@ refused_whole fixed takes member x s w line name why feeding k =
           (k.tails e z here (record { there = record { linked = met.there.linked; kept = met.there.kept }; near = met.near }));
       told = refused_told d (refused_line d line name why) s.hand s.parts s.reported row refl refl refl refl refl refl refl refl refl k.told;
       bytes = k.bytes;
-      stays = record { endpoints = k.stays.endpoints; command = k.stays.command; waiting = k.stays.waiting; rung = k.stays.rung; cleared = k.stays.cleared };
+      left = left;
     }

@@ -21,8 +21,7 @@ use Rattle.driver_laws.specs.Released.{goes_of, release_row}
 use Rattle.in_place.specs.InPlace.{IsInPlace}
 use Rattle.in_place.proofs.Laws.{event_in_place}
 use Rattle.chained_transfers.specs.InTurn.{TakesTurns}
-use Rattle.chained_transfers.specs.Leaving.{NothingLeaves}
-use Rattle.chained_transfers.proofs.Events.{event_turns, event_nothing}
+use Rattle.chained_transfers.proofs.Events.{event_turns}
 use Rattle.chained_transfers.proofs.Holding.{held_alive}
 use Rattle.fed_lends.specs.ToLend.{AreBlank}
 use Rattle.fed_queues.specs.Places.{IsMet, AreMet, HaveStreams}
@@ -36,12 +35,15 @@ use Rattle.bus_world.specs.World.{World, controller_parts, driver_parts, with_pa
 use Rattle.stream_worlds.specs.Streaming.{Streams, Standing, wired}
 use Rattle.shared_worlds.specs.Working.{IsWorking}
 use Rattle.controlled_streams.specs.Reported.{AreReported}
-use Rattle.whole_worlds.specs.Feeding.{there_of, IsFeeding}
-use Rattle.whole_worlds.proofs.FeedingStores.{queue_above}
-use Rattle.whole_worlds.proofs.Heads.{right_of}
-use Rattle.whole_worlds.specs.Whole.{tail_block, tail_of, TailsStand, IsUnderWay, HaveSenders, IsWhole, HasWhole}
+use Rattle.feeding_worlds.specs.Feeding.{there_of, IsFeeding}
+use Rattle.feeding_worlds.proofs.FeedingStores.{queue_above}
+use Rattle.feeding_worlds.proofs.Heads.{right_of}
+use Rattle.feeding_worlds.specs.Tails.{tail_block, tail_of, TailsStand, IsUnderWay}
+use Rattle.whole_worlds.specs.Whole.{HaveSenders, IsWhole, HasWhole}
 use Rattle.whole_worlds.specs.Laws.{ReleaseKeepsWhole}
-use Rattle.whole_worlds.specs.Taking.{HaveTakers}
+use Rattle.feeding_worlds.specs.Taking.{HaveTakers}
+use Rattle.feeding_worlds.specs.Left.{IsLeft}
+use Rattle.whole_worlds.proofs.KeptLeft.{whole_of, row_left}
 use Rattle.whole_worlds.proofs.Returning.{due, transfer, endpoint, returning, stand}
 use Rattle.whole_worlds.proofs.Telling.{release_told}
 use Rattle.whole_worlds.proofs.TakingReturns.{release_taking}
@@ -120,8 +122,10 @@ module _ (fixed : Fixed) (takes : ℕ → ℕ → Bool) (member : ℕ → Bool) 
   turns : TakesTurns new.driver
   turns = subst (λ (r : DriverRow). TakesTurns (after_driver_row r p).driver) row (event_turns p f.working.place.sound.owners f.turns)
 
-  nothing : NothingLeaves new.driver
-  nothing = subst (λ (r : DriverRow). NothingLeaves (after_driver_row r p).driver) row (event_nothing p f.working.place.sound.owners f.turns k.stays)
+  left : IsLeft fixed takes x.packets s.acc new
+  left =
+      subst (λ (r : DriverRow). IsLeft fixed takes x.packets s.acc (with_parts w (after_driver_row r p))) row
+      (row_left fixed takes member x s w k (rows.ReleaseTransfer t) row (λ same. cc) (λ i same. cc))
 
   counted : AreReported (there_of d) s.order later s.hand now s.acc s.reported
   counted = reported_stay (there_of d) s.order s.out s.hand s.parts s.acc s.reported n goes g.head g.buffers g.untold f.counted
@@ -196,11 +200,11 @@ module _ (fixed : Fixed) (takes : ℕ → ℕ → Bool) (member : ℕ → Bool) 
     tails = tails;
     told = release_told opening_base member s.parts s.hand w.control.walk p s.order s.out t y z (stand fixed takes member x s w t row k) (returning fixed takes member x s w t row k) s.reported k.told;
     bytes = k.bytes;
-    stays = nothing;
+    left = left;
   }
 
   new_whole : HasWhole fixed takes x.stream x.packets new
-  new_whole = record { member = member; streams = x.streams; endpoint = x.endpoint; standing = standing; whole = whole_released }
+  new_whole = whole_of fixed takes member x standing new whole_released
 
 pub release_keeps_whole : ReleaseKeepsWhole
 release_keeps_whole fixed takes member x s w t row k =

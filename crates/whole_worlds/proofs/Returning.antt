@@ -10,13 +10,12 @@ use Rattle.run_owners.specs.Leaving.{owes}
 use Rattle.run_owners.proofs.Reasons.{each_is_due}
 use Rattle.driver_laws.specs.PartOpened.{opening_base}
 use Rattle.endpoint_lives.specs.Lives.{may_meet}
-use Rattle.endpoint_lives.proofs.Lives.{linked_met}
 use Rattle.released_queues.specs.Released.{IsReturning, ReleaseStands}
 use Rattle.standing_fronts.proofs.Lists.{times_some}
 use Rattle.bus_world.specs.World.{World, driver_parts}
 use Rattle.stream_worlds.specs.Streaming.{Streams, Standing}
 use Rattle.whole_worlds.specs.Whole.{IsWhole}
-use Rattle.whole_worlds.proofs.Heads.{rising_there}
+use Rattle.feeding_worlds.proofs.Heads.{rising_there}
 
 -- ---- what is owed
 
@@ -61,9 +60,9 @@ module _ (fixed : Fixed) (takes : ℕ → ℕ → Bool) (member : ℕ → Bool) 
   abbrev pub endpoint : Endpoint
   endpoint = its_endpoint.0
 
-  -- it is in the ring
+  -- a walk may meet it still
   near : may_meet w.driver owed.transfer.endpoint endpoint ≡ true
-  near = linked_met w.driver owed.transfer.endpoint endpoint (k.stays.endpoints owed.transfer.endpoint endpoint its_endpoint.1).linked
+  near = k.left.owed 0 t owed.transfer endpoint due.first owed.here its_endpoint.1
 
   pub returning : IsReturning w.driver t transfer endpoint
   returning = record { free = due.idle; first = due.first; here = owed.here; held = owed.held; reported = owed.reported; endpoint = its_endpoint.1; near = near }

@@ -8,7 +8,6 @@ use Rattle.driver_rows.specs.declared.rows.DriverRow.TheVariants as rows
 use Rattle.driver_rows.specs.declared.rows.Found.{Found}
 use Rattle.driver_rows.specs.Rows.{driver_row}
 use Rattle.run_owners.specs.Due.{IsDue, IsNextOf, IsLinkOf}
-use Rattle.run_owners.specs.Leaving.{leaver}
 use Rattle.run_owners.proofs.Reasons.{each_is_due}
 use Rattle.usb_bus.specs.Bus.{Fixed}
 use Rattle.fed_lends.specs.ToLend.{IsToBeLent}
@@ -17,8 +16,10 @@ use Rattle.open_laws.specs.Opens.{IsOpenLent}
 use Rattle.bus_world.specs.World.{World, driver_parts}
 use Rattle.stream_worlds.specs.Streaming.{Streams, Standing}
 use Rattle.chained_transfers.specs.Bulk.{IsBulkCommand, OnlyBulk}
-use Rattle.whole_worlds.specs.FeedingLaws.{is_still}
-use Rattle.whole_worlds.specs.Whole.{IsUnderWay, IsWhole}
+use Rattle.feeding_worlds.specs.FeedingLaws.{is_still}
+use Rattle.feeding_worlds.specs.Tails.{IsUnderWay}
+use Rattle.whole_worlds.specs.Whole.{IsWhole}
+use Rattle.whole_worlds.proofs.KeptLeft.{no_command}
 
 -- what is so after each row that such a driver may have
 pub record IsSoAfterEach (member : ℕ → Bool) (s : Standing) (w : World) (so : Type 0) : Type 0 where
@@ -28,16 +29,13 @@ pub record IsSoAfterEach (member : ℕ → Bool) (s : Standing) (w : World) (so 
   pub open_lend : IsOpenReady w.driver w.memory → so
   pub open_link : IsOpenLent w.driver member s.parts → so
   pub harvest : (e t : ℕ) (found : Found) → driver_row (driver_parts w) ≡ rows.Harvest e t found → so
+  pub unlink : (e before link : ℕ) → w.driver.command ≡ Some (unfinished.Unlink e before link) → so
+  pub clear : driver_row (driver_parts w) ≡ rows.ClearAdvance → so
+  pub release_endpoint : (e : ℕ) → driver_row (driver_parts w) ≡ rows.ReleaseEndpoint e → so
   pub release : (t : ℕ) → driver_row (driver_parts w) ≡ rows.ReleaseTransfer t → so
 
 none_there : {X : Type 0} (xs : List X) (x : X) → xs ≡ [] → slice_get xs 0 ≡ Some x → ⊥
 none_there xs x none here = let e : ◌≡◌ {A = Option _} None (Some x) = sym (ap (λ ys. slice_get ys 0) none) ∙ here in cc
-
-no_command : (o : Option Command) (c : Command) → o ≡ None → o ≡ Some c → ⊥
-no_command o c idle busy = let e : ◌≡◌ {A = Option Command} None (Some c) = sym idle ∙ busy in cc
-
-no_leaver : (e : ℕ) → ◌≡◌ {A = Option ℕ} None (Some e) → ⊥
-no_leaver e bad = cc
 
 module _ (fixed : Fixed) (takes : ℕ → ℕ → Bool) (member : ℕ → Bool) (x : Streams) (s : Standing) (w : World) (k : IsWhole fixed takes member x s w) (so : Type 0) (each : IsSoAfterEach member s w so) where
   bulk : OnlyBulk w.driver
@@ -46,13 +44,14 @@ module _ (fixed : Fixed) (takes : ℕ → ℕ → Bool) (member : ℕ → Bool) 
   -- ---- between commands
 
   idle_row : (row : DriverRow) → driver_row (driver_parts w) ≡ row → IsDue (driver_parts w) row → w.driver.command ≡ None → so
-  idle_row rows.ClearAdvance is due idle = each.still (ap is_still is)
+  idle_row rows.ClearAdvance is due idle = each.clear is
   idle_row rows.RingBell is due idle = each.still (ap is_still is)
   idle_row (rows.ReadStatus heard) is due idle = each.still (ap is_still is)
   idle_row (rows.ReadFrame n) is due idle = each.still (ap is_still is)
   idle_row rows.Rest is due idle = each.still (ap is_still is)
   idle_row (rows.Harvest e t found) is due idle = each.harvest e t found is
   idle_row (rows.ReleaseTransfer t) is due idle = each.release t is
+  idle_row (rows.ReleaseEndpoint e) is due idle = each.release_endpoint e is
   -- a command is unfinished there
   idle_row rows.Lend is due idle = absurd (no_command w.driver.command due.command idle due.unfinished)
   idle_row (rows.Store b at v) is due idle =
@@ -60,11 +59,10 @@ module _ (fixed : Fixed) (takes : ℕ → ℕ → Bool) (member : ℕ → Bool) 
       (λ (link : IsLinkOf (driver_parts w) (rows.Store b at v)). absurd (no_command w.driver.command link.command idle link.unfinished)) due
   idle_row rows.Frames is due idle = absurd (no_command w.driver.command due.command idle due.unfinished)
   idle_row rows.LendDescriptors is due idle = absurd (no_command w.driver.command due.command idle due.unfinished)
-  -- nothing leaves the ring or the frame list
+  -- nothing is in the frame list
   idle_row (rows.Mend m) is due idle = absurd (none_there w.driver.mends m bulk.mends due.1)
   idle_row (rows.Unlink t) is due idle = absurd (none_there w.driver.periodic.unlinks t bulk.unlinks due.first)
   idle_row (rows.ReleaseRemoved what) is due idle = absurd (none_there w.driver.periodic.removals due.removal bulk.removals due.first)
-  idle_row (rows.ReleaseEndpoint e) is due idle = absurd (none_there w.driver.cleared e k.stays.cleared due.first)
 
   -- ---- while a command is unfinished
 
@@ -82,7 +80,7 @@ module _ (fixed : Fixed) (takes : ℕ → ℕ → Bool) (member : ℕ → Bool) 
   by_command None is receiving way = idle_row (driver_row (driver_parts w)) refl (each_is_due (driver_parts w)) is
   by_command (Some (unfinished.Open queue)) is receiving way = opens way
   by_command (Some (unfinished.Publish b words)) is receiving way = publishes b words is way
-  by_command (Some (unfinished.Unlink e b link)) is receiving way = absurd (no_leaver e (sym k.stays.command ∙ ap leaver is))
+  by_command (Some (unfinished.Unlink e b link)) is receiving way = each.unlink e b link is
   by_command (Some unfinished.Chain) is receiving way = absurd receiving
   by_command (Some (unfinished.Iso e t count)) is receiving way = absurd receiving
   by_command (Some (unfinished.Unchain e)) is receiving way = absurd receiving

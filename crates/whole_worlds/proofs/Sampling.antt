@@ -12,7 +12,7 @@ use Rattle.declared_takers.specs.Declared.{OpensTakers}
 use Rattle.script_numbers.specs.Numbers.{NumbersOpens}
 use Rattle.chained_transfers.specs.Bulk.{BulkOnly}
 use Rattle.whole_worlds.specs.Moments.{IsBulkScript}
-use Rattle.whole_worlds.specs.Samples.{one_get}
+use Rattle.feeding_worlds.specs.FeedingSamples.{one_get}
 
 get_fits : IsFit one_get
 get_fits = record {

@@ -4,10 +4,10 @@ use Rattle.usb_bus.specs.Bus.{Fixed}
 use Rattle.bus_world.specs.World.{World}
 use Rattle.stream_worlds.specs.Streaming.{Streams, Standing}
 use Rattle.taken_reports.specs.Worlds.{HaveOuts}
-use Rattle.whole_worlds.specs.Feeding.{IsFeeding, there_of}
-use Rattle.whole_worlds.specs.Taking.{outs_of}
-use Rattle.whole_worlds.proofs.Heads.{head_is, queue_on, there_head}
-use Rattle.whole_worlds.proofs.TakingAlike.{out_on}
+use Rattle.feeding_worlds.specs.Feeding.{IsFeeding, there_of}
+use Rattle.feeding_worlds.specs.Taking.{outs_of}
+use Rattle.feeding_worlds.proofs.Heads.{head_is, queue_on, there_head}
+use Rattle.feeding_worlds.proofs.TakingAlike.{out_on}
 use Rattle.whole_worlds.proofs.TakingStores.{outs_on}
 
 -- each is that of an endpoint that is there

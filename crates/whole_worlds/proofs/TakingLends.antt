@@ -39,12 +39,12 @@ use Rattle.released_queues.specs.Fronts.{FrontsStand}
 use Rattle.stream_worlds.specs.Outs.{GoesAs}
 use Rattle.stream_worlds.specs.Lends.{AreNewAs}
 use Rattle.stream_worlds.proofs.Lending.{lend_pipes}
-use Rattle.whole_worlds.specs.Feeding.{IsFeeding}
-use Rattle.whole_worlds.specs.LendFeeds.{LendsTransfer}
+use Rattle.feeding_worlds.specs.Feeding.{IsFeeding}
+use Rattle.feeding_worlds.specs.LendFeeds.{LendsTransfer}
 use Rattle.whole_worlds.specs.Whole.{IsWhole}
-use Rattle.whole_worlds.specs.Taking.{outs_of, IsTaking}
-use Rattle.whole_worlds.proofs.Heads.{queue_on}
-use Rattle.whole_worlds.proofs.FeedingLends.{lend_feeds}
+use Rattle.feeding_worlds.specs.Taking.{outs_of, IsTaking}
+use Rattle.feeding_worlds.proofs.Heads.{queue_on}
+use Rattle.feeding_worlds.proofs.FeedingLends.{lend_feeds}
 use Rattle.whole_worlds.proofs.TakingStores.{goes_by}
 
 -- ---- one memory of one driver tells one qTD at a place

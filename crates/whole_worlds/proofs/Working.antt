@@ -17,8 +17,8 @@ use Rattle.bus_world.specs.World.{World, controller_parts, controller_row, contr
 use Rattle.bus_world.specs.Budgets.{moment}
 use Rattle.stream_worlds.specs.Streaming.{Streams, Standing, HearsBytesNow}
 use Rattle.world_bytes.proofs.Hearing.{hears_bytes}
-use Rattle.whole_worlds.specs.Feeding.{GoesOnBeside}
-use Rattle.whole_worlds.proofs.FeedingBeside.{controller_feeds}
+use Rattle.feeding_worlds.specs.Feeding.{GoesOnBeside}
+use Rattle.feeding_worlds.proofs.FeedingBeside.{controller_feeds}
 use Rattle.whole_worlds.specs.Whole.{IsWhole}
 use Rattle.whole_worlds.specs.Placed.{IsAtWork}
 use Rattle.whole_worlds.specs.PlacedLaws.{WholeIsAtWork, RunsInPlaceWhileWhole}
@@ -85,7 +85,7 @@ at_work fixed takes member x s w k =
     }
 
 pub whole_works : WholeIsAtWork
-whole_works fixed takes stream packets w h = at_work fixed takes h.member (record { stream = stream; packets = packets; streams = h.streams; endpoint = h.endpoint }) h.standing w h.whole
+whole_works fixed takes stream packets w h = at_work fixed h.outs h.member (record { stream = h.ins; packets = packets; streams = h.streams; endpoint = h.endpoint }) h.standing w h.whole
 
 pub runs_in_place : RunsInPlaceWhileWhole
 runs_in_place s takes stream packets whole k =

@@ -7,17 +7,17 @@ use Rattle.driver_rows.specs.DriverContent.{DriverContent}
 use Rattle.driver_rows.specs.Rows.{Parts as DriverParts}
 use Rattle.bus_world.specs.World.{World, driver_parts, driver_next}
 use Rattle.stream_worlds.specs.Streaming.{Streams, Standing}
-use Rattle.chained_transfers.proofs.Events.{event_nothing}
 use Rattle.fed_lends.specs.ToLend.{AreBlank}
 use Rattle.fed_queues.specs.Fed.{IsPublished}
 use Rattle.publish_laws.specs.Stores.{IsAtStore, published_by, parts_then, next_of}
 use Rattle.open_laws.specs.Opens.{AreNamesApart}
-use Rattle.whole_worlds.specs.Feeding.{IsFeeding}
+use Rattle.feeding_worlds.specs.Feeding.{IsFeeding}
 use Rattle.whole_worlds.specs.Whole.{HaveSenders, IsWhole}
 use Rattle.whole_worlds.specs.Laws.{StoreKeepsWhole}
-use Rattle.whole_worlds.specs.Taking.{HaveTakers}
-use Rattle.whole_worlds.proofs.FeedingStores.{at, after_store, store_drives, queues_then, store_feeding}
-use Rattle.whole_worlds.proofs.Storing.{by_store, met_now, under_way_then, told_then, runs_then}
+use Rattle.feeding_worlds.specs.Taking.{HaveTakers}
+use Rattle.feeding_worlds.proofs.FeedingStores.{at, after_store, store_drives, queues_then, store_feeding}
+use Rattle.feeding_worlds.proofs.Storing.{by_store, met_now, under_way_then, told_then, runs_then}
+use Rattle.whole_worlds.proofs.KeptLeft.{whole_of, busy_left}
 use Rattle.whole_worlds.proofs.StoredTails.{tails_then}
 use Rattle.whole_worlds.proofs.TakingStores.{store_taking}
 
@@ -54,14 +54,9 @@ module _ (fixed : Fixed) (takes : ℕ → ℕ → Bool) (member : ℕ → Bool) 
             (drives.ring.members (32 * g.endpoint.queue) (f.queues.met.each g.transfer.endpoint g.endpoint g.here (met_now p member x.streams x.endpoint s.parts s.order s.out b words k))) whole.tails;
         told = told_then p member x.streams x.endpoint s.parts s.order s.out b words k s.hand s.reported whole.told;
         bytes = whole.bytes;
-        stays = event_nothing p f.working.place.sound.owners f.turns whole.stays;
+        left = busy_left fixed takes member x s w whole (unfinished.Publish b words) command;
       }
 
 pub store_keeps_whole : StoreKeepsWhole
-store_keeps_whole fixed takes member x s w b words command made whole = record {
-  member = member;
-  streams = x.streams;
-  endpoint = x.endpoint;
-  standing = after_store fixed member x s w b words command made whole.feeding;
-  whole = whole_after fixed takes member x s w b words command made whole;
-}
+store_keeps_whole fixed takes member x s w b words command made whole =
+    whole_of fixed takes member x (after_store fixed member x s w b words command made whole.feeding) (driver_next w) (whole_after fixed takes member x s w b words command made whole)

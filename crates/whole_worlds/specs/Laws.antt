@@ -1,12 +1,12 @@
 -- Laws of worlds whose endpoints are all bulk ones: each event and each command leaves such a world whole.
-use Rattle.std.specs.Prelude.{◌≡◌, ℕ, ◌≤◌, Bool, true, false, List, Some}
+use Rattle.std.specs.Prelude.{◌≡◌, ℕ, ◌≤◌, Bool, true, false, List, Some, Ok}
 use Rattle.usb_base.specs.declared.commands.Cmd.{Cmd}
 use Rattle.usb_base.specs.declared.commands.Cmd.TheVariants as commands
 use Rattle.script_types.specs.declared.scripts.Script.{Script}
 use Rattle.script_fits.specs.Fits.{IsFit}
 use Rattle.byte_answers.specs.Bytes.{IsByteScript}
 use Rattle.usb_bus.specs.Bus.{Fixed, fixed_of}
-use Rattle.driver_rows.specs.Offers.{IsOffered}
+use Rattle.driver_rows.specs.Offers.{Offered, offered, IsOffered}
 use Rattle.driver_rows.specs.declared.content.Command.TheVariants as unfinished
 use Rattle.driver_rows.specs.declared.rows.DriverRow.TheVariants as rows
 use Rattle.driver_rows.specs.declared.rows.Found.{Found}
@@ -14,14 +14,14 @@ use Rattle.driver_rows.specs.Rows.{driver_row}
 use Rattle.bus_world.specs.World.{World, driver_parts, driver_next, controller_next, commanded}
 use Rattle.bus_world.specs.Opening.{opening_world}
 use Rattle.stream_worlds.specs.Streaming.{Streams, Standing}
-use Rattle.chained_transfers.specs.Bulk.{OpensBulk, receives}
+use Rattle.chained_transfers.specs.Bulk.{OpensOrCancelsBulk, receives}
 use Rattle.fed_lends.specs.ToLend.{IsToBeLent}
 use Rattle.open_laws.specs.Lends.{IsOpenReady}
 use Rattle.open_laws.specs.Opens.{IsOpenLent}
 use Rattle.walk_members.specs.Reached.{OpensNumbered}
 use Rattle.stream_worlds.specs.Takers.{takes_of}
-use Rattle.whole_worlds.specs.Feeding.{streams_of}
-use Rattle.whole_worlds.specs.FeedingLaws.{is_still}
+use Rattle.feeding_worlds.specs.Feeding.{streams_of}
+use Rattle.feeding_worlds.specs.FeedingLaws.{is_still}
 use Rattle.whole_worlds.specs.Whole.{IsWhole, HasWhole}
 
 abbrev pub NewWorldIsWhole : Type 0
@@ -32,15 +32,15 @@ ControllerKeepsWhole = (fixed : Fixed) (takes : ℕ → ℕ → Bool) (member : 
 
 -- ---- commands
 
--- the endpoint that is opened, if any, has a stream or a taker, and its address and number fit their fields (EHCI 1.0, 3.6.2; USB 2.0, 8.3.2)
+-- the endpoint that is opened, if any, has a stream or a taker
 abbrev pub OpensTo : (ℕ → ℕ → Bool) → (ℕ → ℕ → Bool) → Cmd → Type 0
 OpensTo stream takes (commands.OpenEp desc) =
     (receives desc.name.way ≡ true → stream desc.name.addr desc.name.num ≡ true) × (receives desc.name.way ≡ false → takes desc.name.addr desc.name.num ≡ true)
 OpensTo stream takes _ = Unit {0}
 
 abbrev pub CommandKeepsWhole : Type 0
-CommandKeepsWhole = (fixed : Fixed) (takes : ℕ → ℕ → Bool) (member : ℕ → Bool) (x : Streams) (s : Standing) (w : World) (line : ℕ) (cmd : Cmd) → OpensBulk cmd → OpensTo x.stream takes cmd
-    → OpensNumbered cmd → IsOffered w.driver.room cmd → IsWhole fixed takes member x s w → HasWhole fixed takes x.stream x.packets (commanded w line cmd)
+CommandKeepsWhole = (fixed : Fixed) (takes : ℕ → ℕ → Bool) (member : ℕ → Bool) (x : Streams) (s : Standing) (w : World) (line : ℕ) (cmd : Cmd) → OpensOrCancelsBulk cmd
+    → ((o : Offered) → offered w.driver w.memory cmd ≡ Ok o → OpensTo x.stream takes cmd) → OpensNumbered cmd → IsOffered w.driver.room cmd → IsWhole fixed takes member x s w → HasWhole fixed takes x.stream x.packets (commanded w line cmd)
 
 -- ---- the driver's rows
 
@@ -72,6 +72,19 @@ HarvestKeepsWhole = (fixed : Fixed) (takes : ℕ → ℕ → Bool) (member : ℕ
 
 abbrev pub ReleaseKeepsWhole : Type 0
 ReleaseKeepsWhole = (fixed : Fixed) (takes : ℕ → ℕ → Bool) (member : ℕ → Bool) (x : Streams) (s : Standing) (w : World) (t : ℕ) → driver_row (driver_parts w) ≡ rows.ReleaseTransfer t
+    → IsWhole fixed takes member x s w → HasWhole fixed takes x.stream x.packets (driver_next w)
+
+-- the endpoint of an accepted cancel leaves the ring (4.8.2): one store unlinks it; where the doorbell was answered its stream is closed; and it is given back
+abbrev pub UnlinkKeepsWhole : Type 0
+UnlinkKeepsWhole = (fixed : Fixed) (takes : ℕ → ℕ → Bool) (member : ℕ → Bool) (x : Streams) (s : Standing) (w : World) (e before link : ℕ)
+    → w.driver.command ≡ Some (unfinished.Unlink e before link) → IsWhole fixed takes member x s w → HasWhole fixed takes x.stream x.packets (driver_next w)
+
+abbrev pub ClearKeepsWhole : Type 0
+ClearKeepsWhole = (fixed : Fixed) (takes : ℕ → ℕ → Bool) (member : ℕ → Bool) (x : Streams) (s : Standing) (w : World) → driver_row (driver_parts w) ≡ rows.ClearAdvance
+    → IsWhole fixed takes member x s w → HasWhole fixed takes x.stream x.packets (driver_next w)
+
+abbrev pub EndpointReleaseKeepsWhole : Type 0
+EndpointReleaseKeepsWhole = (fixed : Fixed) (takes : ℕ → ℕ → Bool) (member : ℕ → Bool) (x : Streams) (s : Standing) (w : World) (e : ℕ) → driver_row (driver_parts w) ≡ rows.ReleaseEndpoint e
     → IsWhole fixed takes member x s w → HasWhole fixed takes x.stream x.packets (driver_next w)
 
 -- a driver of bulk endpoints has no other row

@@ -1,16 +1,8 @@
-pub mod Feeding
-pub mod Taking
-pub mod FeedingLaws
-pub mod OpenFeeds
-pub mod LendFeeds
-pub mod HarvestFeeds
 pub mod Whole
 pub mod Laws
-pub mod Linked
 pub mod Blank
 pub mod Harvested
 pub mod Moments
-pub mod Samples
 pub mod PlacedLaws
 pub mod Placed
 pub mod UnrefusedLaws

@@ -1,12 +1,12 @@
 -- Each moment of the run of a script of bulk endpoints (EHCI 1.0, 4.8 to 4.10; USB 2.0, 5.8 and 8.6).
---     IsBulkScript s                   the script opens bulk endpoints alone and cancels nothing; it fits, says bytes, has on its bus a sender for each IN endpoint and a
---                                      taker for each OUT endpoint that it opens, and no address or number that doesn't fit its field
+--     IsBulkScript s                   the endpoints that the script opens are high-speed bulk ones, and it may cancel them; it fits, says bytes, has on its bus a sender for each
+--                                      IN endpoint and a taker for each OUT endpoint that it opens, and no address or number that doesn't fit its field
 --     IsWholeThroughout s              the world is whole then
 --     InStreamsAreRightThroughout s    the IN streams of its report are right then: what is told of each IN endpoint begins its packets
 --     OutStreamsAreTakenThroughout s  what is told of each OUT endpoint, then, begins what its device took
 --     ScriptsStayWhole                 the law of such scripts
 --     StreamsAreRight                  .. and whose devices have endpoints of their own
---     TextsAreRight                    .. which each script is that a text spells and that opens bulk endpoints alone
+--     TextsAreRight                    .. which each script is that a text spells and whose endpoints are high-speed bulk ones
 --     TextsAreTaken                .. and for the OUT endpoints
 use Rattle.std.specs.Prelude.{ℕ, List}
 use Rattle.script_types.specs.declared.scripts.Script.{Script}
@@ -24,7 +24,7 @@ use Rattle.right_reports.specs.Ins.{AreRightInStreams}
 use Rattle.taken_reports.specs.Taken.{AreTakenStreams}
 use Rattle.chained_transfers.specs.Bulk.{BulkOnly}
 use Rattle.stream_worlds.specs.Takers.{takes_of}
-use Rattle.whole_worlds.specs.Feeding.{streams_of}
+use Rattle.feeding_worlds.specs.Feeding.{streams_of}
 use Rattle.whole_worlds.specs.Whole.{HasWhole}
 
 pub record IsBulkScript (s : Script) : Type 0 where

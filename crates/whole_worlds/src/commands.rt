@@ -2,7 +2,8 @@
 //! each command, whether it is accepted or refused.
 ghost use Rattle.whole_worlds.specs.Laws.{CommandKeepsWhole};
 
-/// Each command leaves a whole world whole: one that is refused is a line of the report, and an endpoint that is opened, or a get or put, is still to be lent.
+/// Each command leaves a whole world whole: one that is refused is a line of the report, an endpoint that is opened, or a get or put, is still to be lent, and one
+/// that is cancelled is still to be unlinked.
 pub fn each_command_keeps_a_whole_world()
     ensures { CommandKeepsWhole }
 {}

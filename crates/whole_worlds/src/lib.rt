@@ -8,8 +8,8 @@
 pub mod commands;
 pub mod drivers;
 pub mod events;
-pub mod feeding;
 pub mod harvests;
+pub mod leaves;
 pub mod lends;
 pub mod openings;
 pub mod opens;

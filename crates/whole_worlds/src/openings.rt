@@ -1,4 +1,5 @@
-//! Worlds of bulk endpoints (EHCI 1.0, 4.1, 4.8 and 4.10; USB 2.0, 5.8 and 8.6): whole from the opening on, and where the driver stores no word and reads no token.
+//! Worlds of bulk endpoints (EHCI 1.0, 4.1, 4.8 and 4.10; USB 2.0, 5.8 and 8.6): whole from the opening on, and where the driver stores no word,
+//! reads no token and closes no stream.
 ghost use Rattle.whole_worlds.specs.Laws.{NewWorldIsWhole, StillKeepsWhole};
 
 /// The world of each script of bytes is whole before its first line.
@@ -6,7 +7,7 @@ pub fn a_new_world_is_whole()
     ensures { NewWorldIsWhole }
 {}
 
-/// Each event of the driver that stores no word and reads no token leaves a world whole.
+/// Each event of the driver that stores no word and reads no token leaves a world whole, but the one that clears Async Advance, which closes streams.
 pub fn still_events_leave_it_whole()
     ensures { StillKeepsWhole }
 {}

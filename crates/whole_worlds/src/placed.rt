@@ -1,7 +1,8 @@
 //! Runs of scripts of bulk endpoints (EHCI 1.0, 3, 4.6, 4.8 and 4.15.2.4): at each moment nothing of the driver is out of place, and the controller meets no fault.
 ghost use Rattle.whole_worlds.specs.PlacedLaws.{HasNoErrorWhileItRuns, RunsInPlaceWhileWhole, ScriptsRunInPlace, TextsRunInPlace, WholeIsAtWork};
 
-/// In a whole world everything is in place, the ring in memory is the head and the queue head of each endpoint, and the controller runs and meets no fault.
+/// In a whole world everything is in place, the ring in memory is the head and the queue head of each endpoint that is linked, and the controller runs and meets
+/// no fault.
 pub fn a_whole_world_is_at_work()
     ensures { WholeIsAtWork }
 {}

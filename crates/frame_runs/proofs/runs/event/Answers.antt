@@ -1,5 +1,6 @@
 use Rattle.hc_core.specs.Controller.{content}
-use Rattle.frame_runs.proofs.Going.{idle_keeps, both_told, both_stay, event_made, none_refused}
+use Rattle.ring_runs.proofs.Following.{idle_keeps}
+use Rattle.frame_runs.proofs.Going.{both_told, both_stay, event_made, none_refused}
 use Rattle.frame_runs.proofs.runs.event.Goals as goal
 
 pub returns : goal.returns
@@ -7,6 +8,8 @@ returns g c =
     let old = content c.args.controller.now c.args.regs.now c.args.mem.now in
     let new = content c.step.new.self c.step.new.regs c.step.new.mem in
     record {
+      kind = c.step.ensures.kind;
+      halted = c.step.ensures.idle;
       row = c.step.ensures.row;
       idle = idle_keeps g.W.Wire.begins g.W.Wire.transacts old c.args.wire.now new c.step.new.wire c.step.result c.step.ensures.row c.step.ensures.idle.0;
       told = both_told g.W.Wire.begins g.W.Wire.transacts old c.args.wire.now new c.step.new.wire c.step.ensures.row;

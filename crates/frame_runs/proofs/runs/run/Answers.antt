@@ -1,7 +1,8 @@
-use Rattle.std.proofs.Common.{◌∙◌, refl}
-use Rattle.hc_core.specs.Controller.{content}
-use Rattle.frame_runs.specs.Runs.EventsFollow.{none, another}
-use Rattle.frame_runs.proofs.Going.{not_idle, follow_kept}
+use Rattle.std.proofs.Common.{◌∙◌, inr, ap, refl}
+use Rattle.hc_core.specs.Controller.{Content, content}
+use Rattle.ring_runs.specs.Runs.EventsFollow.{none, another}
+use Rattle.ring_runs.proofs.Following.{runs_by, follow_kept}
+use Rattle.frame_runs.proofs.Going.{not_idle}
 use Rattle.frame_runs.proofs.runs.run.Goals as goal
 
 pub returns-in-Idle-clause-made : goal.returns-in-Idle-clause-made
@@ -9,6 +10,9 @@ returns-in-Idle-clause-made g c =
     follow_kept g.W.Wire.begins g.W.Wire.transacts (content c.args.controller.now c.args.regs.now c.args.mem.now) c.args.wire.now c.loop-made.made
     (content c.loop-made.controller c.loop-made.regs c.loop-made.mem) c.loop-made.wire (content c.event.new.controller c.event.new.regs c.event.new.mem) c.event.new.wire c.loop-made.invariant.made
     (c.event.ensures.idle c.in-Idle.is)
+
+pub returns-in-Idle-clause-stops : goal.returns-in-Idle-clause-stops
+returns-in-Idle-clause-stops g c = inr (ap (λ (x : Content). x.registers.run) (c.event.ensures.idle c.in-Idle.is).0 ∙ c.event.ensures.halted.0 c.in-Idle.is)
 
 pub returns-in-Idle-clause-under_way : goal.returns-in-Idle-clause-under_way
 returns-in-Idle-clause-under_way g c = λ base member met running. c.event.ensures.under_way base member met (c.loop-made.invariant.stay base member met running)
@@ -26,7 +30,8 @@ loop-made-init g c = record { made = none; stay = λ base member met running. ru
 
 pub loop-made-preserved : goal.loop-made-preserved
 loop-made-preserved g c = record {
-  made = another c.loop-made.made (content c.loop-made.controller c.loop-made.regs c.loop-made.mem) c.loop-made.wire (content c.event.new.controller c.event.new.regs c.event.new.mem) c.event.new.wire c.loop-made.invariant.made c.event.ensures.row;
+  made = another c.loop-made.made (content c.loop-made.controller c.loop-made.regs c.loop-made.mem) c.loop-made.wire (content c.event.new.controller c.event.new.regs c.event.new.mem) c.event.new.wire c.loop-made.invariant.made
+      (runs_by c.loop-made.regs.run (λ off. c.in_default.not-Idle (c.event.ensures.halted.1 off))) c.event.ensures.row;
   stay = λ base member met running. c.event.ensures.under_way base member met (c.loop-made.invariant.stay base member met running);
   none = λ base member met running.
       c.event.ensures.not_refused base member met (c.loop-made.invariant.stay base member met running) ∙ c.loop-made.invariant.none base member met running;

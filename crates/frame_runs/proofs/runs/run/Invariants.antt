@@ -1,5 +1,6 @@
 use Rattle.hc_core.specs.Controller.{content}
-use Rattle.frame_runs.specs.Runs.{BothStay, NothingIsRefused, EventsFollow}
+use Rattle.ring_runs.specs.Runs.{EventsFollow}
+use Rattle.frame_runs.specs.Runs.{BothStay, NothingIsRefused}
 use Rattle.frame_runs.proofs.runs.run.Given as goal
 
 -- so many events were made, a ring and the frames have stayed, and no word was refused

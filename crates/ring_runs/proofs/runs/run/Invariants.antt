@@ -1,7 +1,10 @@
 use Rattle.hc_core.specs.Controller.{content}
-use Rattle.ring_runs.specs.Runs.{StaysUnderWay}
+use Rattle.ring_runs.specs.Runs.{StaysUnderWay, EventsFollow}
 use Rattle.ring_runs.proofs.runs.run.Given as goal
 
--- a ring has stayed one
+-- so many events were made, and a ring has stayed one
 abbrev pub invariant-loop-made : goal.invariant-loop-made
-invariant-loop-made g l = StaysUnderWay g.W.Wire.transacts (content l.fn.controller l.fn.regs l.fn.mem) (content l.controller l.regs l.mem)
+invariant-loop-made g l = record {
+  made : EventsFollow g.W.Wire.begins g.W.Wire.transacts (content l.fn.controller l.fn.regs l.fn.mem) l.fn.wire l.made (content l.controller l.regs l.mem) l.wire;
+  stay : StaysUnderWay g.W.Wire.transacts (content l.fn.controller l.fn.regs l.fn.mem) (content l.controller l.regs l.mem);
+}

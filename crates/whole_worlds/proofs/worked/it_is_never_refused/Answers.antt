@@ -1,6 +1,6 @@
 use Rattle.std.proofs.Common.{ap}
 use Rattle.ring_laws.specs.Ring.{Base}
-use Rattle.whole_worlds.specs.Samples.{one_get}
+use Rattle.feeding_worlds.specs.FeedingSamples.{one_get}
 use Rattle.whole_worlds.proofs.Sampling.{get_is_bulk}
 use Rattle.whole_worlds.proofs.PlacedRunning.{scripts_run_in_place}
 use Rattle.whole_worlds.proofs.Counting.{counts_nothing}

@@ -1,4 +1,4 @@
-use Rattle.whole_worlds.specs.Samples.{one_get}
+use Rattle.feeding_worlds.specs.FeedingSamples.{one_get}
 use Rattle.whole_worlds.proofs.Sampling.{get_is_bulk}
 use Rattle.whole_worlds.proofs.PlacedRunning.{scripts_run_in_place}
 use Rattle.whole_worlds.proofs.worked.it_runs_in_place.Goals as goal

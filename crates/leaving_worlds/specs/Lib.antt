@@ -1,4 +1,0 @@
-pub mod Cancelling
-pub mod Clearing
-pub mod Beside
-pub mod Samples

@@ -1,3 +1,0 @@
-pub mod Unlinking
-pub mod Releasing
-pub mod Standing

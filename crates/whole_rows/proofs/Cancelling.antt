@@ -1,0 +1,56 @@
+-- The script with a cancel meets the premises of the laws of runs.
+use Rattle.std.proofs.Common.{◌≡◌, refl, arith}
+use Rattle.usb_base.specs.declared.packets.Way.TheVariants as ways
+use Rattle.script_fits.specs.Fits.{IsFit}
+use Rattle.byte_answers.specs.Bytes.{IsByteScript}
+use Rattle.opening_senders.specs.Own.{HasOwnDevices}
+use Rattle.declared_endpoints.specs.Declared.{OpensSenders}
+use Rattle.declared_takers.specs.Declared.{OpensTakers}
+use Rattle.script_numbers.specs.Numbers.{NumbersOpens}
+use Rattle.chained_transfers.specs.Bulk.{BulkOnly}
+use Rattle.whole_worlds.specs.Moments.{IsBulkScript, IsWholeThroughout, InStreamsAreRightThroughout}
+use Rattle.whole_worlds.proofs.Running.{scripts_stay_whole, streams_are_right}
+use Rattle.small_receiver.specs.Samples.{one_cancel}
+use Rattle.whole_rows.proofs.Sampling.{it_owns}
+
+cancel_fits : IsFit one_cancel
+cancel_fits = record {
+  least = omega arith;
+  most = omega arith;
+  whole_pages = refl;
+  devices = refl;
+  hubs = refl;
+  rooms = ((omega arith, tt), tt);
+  lines = ((omega arith, omega arith, record { size = refl; pace = refl; below = refl }), (tt, ((omega arith, omega arith), (tt, (tt, (tt, (tt, (tt, tt))))))));
+}
+
+cancel_bytes : IsByteScript one_cancel
+cancel_bytes = record { devices = ((((omega arith, tt), tt), tt), tt); lines = (tt, (tt, (tt, (tt, (tt, (tt, (tt, (tt, tt)))))))) }
+
+cancel_sends : OpensSenders one_cancel
+cancel_sends = ((λ kind speed way. refl), (tt, (tt, (tt, (tt, (tt, (tt, (tt, tt))))))))
+
+in_no_out : ways.In ≡ ways.Out → ⊥
+in_no_out same = cc
+
+cancel_takes : OpensTakers one_cancel
+cancel_takes = ((λ kind speed way. absurd (in_no_out way)), (tt, (tt, (tt, (tt, (tt, (tt, (tt, tt))))))))
+
+cancel_numbers : NumbersOpens one_cancel
+cancel_numbers = ((omega arith, omega arith), (tt, (tt, (tt, (tt, (tt, (tt, (tt, tt))))))))
+
+cancel_only : BulkOnly one_cancel
+cancel_only = (record { kind = refl; speed = refl; way = tt }, (tt, (tt, (tt, (tt, (tt, (tt, (tt, tt))))))))
+
+-- its devices are those of the script with a get
+pub cancel_owns : HasOwnDevices one_cancel
+cancel_owns = record { own = it_owns.own; apart = it_owns.apart }
+
+pub a_cancel_is_bulk : IsBulkScript one_cancel
+a_cancel_is_bulk = record { fits = cancel_fits; bytes = cancel_bytes; senders = cancel_sends; takers = cancel_takes; numbers = cancel_numbers; only = cancel_only }
+
+pub cancel_stays_whole : IsWholeThroughout one_cancel
+cancel_stays_whole = scripts_stay_whole one_cancel a_cancel_is_bulk
+
+pub cancel_streams_are_right : InStreamsAreRightThroughout one_cancel
+cancel_streams_are_right = streams_are_right one_cancel a_cancel_is_bulk cancel_owns

@@ -1,0 +1,93 @@
+-- A cancel, accepted or refused, leaves a world whole.
+use Rattle.std.proofs.Common.{◌≡◌, ℕ, Bool, true, false, Result, Ok, Err, ap, sym, subst, ◌∙◌, refl}
+use Rattle.usb_base.specs.declared.commands.Cmd.TheVariants as commands
+use Rattle.usb_base.specs.declared.endpoints.EpDesc.{EpDesc}
+use Rattle.usb_base.specs.declared.endpoints.EpName.{EpName}
+use Rattle.usb_base.specs.declared.reports.OfferError.{OfferError}
+use Rattle.word_mem.specs.Memory.{Mem}
+use Rattle.run_book.specs.declared.slots.Slot.{Slot}
+use Rattle.usb_bus.specs.Bus.{Fixed}
+use Rattle.driver_rows.specs.DriverContent.{DriverContent}
+use Rattle.driver_rows.specs.Offers.{Offered, offered, IsOffered, accepted_cancel}
+use Rattle.run_owners.specs.Accepts.{Cancels}
+use Rattle.run_owners.specs.Owners.{SlotHas, Views, views_of}
+use Rattle.chained_transfers.proofs.Commands.{is_accepted}
+use Rattle.lent_structures.specs.Structures.{StructureSets}
+use Rattle.driver_laws.specs.Extents.{KeepExtents, AreInRuns}
+use Rattle.driver_laws.proofs.Viewing.{SameViews}
+use Rattle.driver_laws.proofs.Extending.{extents_stay}
+use Rattle.driver_laws.proofs.Opens.{cancel_views}
+use Rattle.fed_lends.specs.ToLend.{AreBlank}
+use Rattle.open_laws.specs.Opens.{AreNamesApart}
+use Rattle.leaving_drivers.specs.Before.{WasSame, UnlinksAtMost, IsAsBefore}
+use Rattle.leaving_drivers.proofs.Alike.{not_open}
+use Rattle.leaving_drivers.proofs.Leaving.{cancel_as_before}
+use Rattle.feeding_worlds.specs.Beside.{IsTold}
+use Rattle.feeding_worlds.proofs.Beside.{cancel_told}
+use Rattle.feeding_worlds.proofs.Cancelling.{cancel_feeds}
+use Rattle.bus_world.specs.World.{World, commanded_by, commanded}
+use Rattle.stream_worlds.specs.Streaming.{Streams, Standing}
+use Rattle.feeding_worlds.specs.Feeding.{IsFeeding}
+use Rattle.feeding_worlds.specs.Taking.{HaveSides}
+use Rattle.feeding_worlds.specs.Tails.{IsUnderWay}
+use Rattle.feeding_worlds.specs.Left.{IsLeft}
+use Rattle.whole_worlds.proofs.Refused.{refused_whole}
+use Rattle.whole_worlds.specs.Whole.{IsWhole}
+use Rattle.feeding_worlds.proofs.Commands.{command_keeps_left}
+
+-- ---- where no endpoint is being opened, and no run is given back
+
+pub idle_sides : (way : Bool) (d : DriverContent) (has : ℕ → ℕ → Bool) → UnlinksAtMost d.command → HaveSides way d has
+idle_sides way d has idle e x here opens = absurd (not_open d.command x.queue idle opens)
+
+pub runs_now : (v w : Views) (parts now : StructureSets) → SameViews v w → KeepExtents parts now → AreInRuns v parts → AreInRuns w now
+runs_now v w parts now same keep runs =
+    extents_stay v w parts now
+    (record { slots = λ c j has. subst (λ (s : Slot). SlotHas s j) (sym (same.slot c)) has; endpoints = same.endpoint; transfers = same.transfer; notes = same.note }) keep runs
+
+-- ---- an accepted cancel
+
+-- names stay
+names_before : (d f : DriverContent) → IsAsBefore d f → AreNamesApart d → AreNamesApart f
+names_before d f b k e g x y one other addr num way =
+    let v : WasSame d e x = b.ends e x one in
+    let u : WasSame d g y = b.ends g y other in
+    k e g v.endpoint u.endpoint v.here u.here (sym (ap (λ (z : EpDesc). z.name.addr) v.desc) ∙ addr ∙ ap (λ (z : EpDesc). z.name.addr) u.desc)
+    (sym (ap (λ (z : EpDesc). z.name.num) v.desc) ∙ num ∙ ap (λ (z : EpDesc). z.name.num) u.desc) (sym (ap (λ (z : EpDesc). z.name.way) v.desc) ∙ way ∙ ap (λ (z : EpDesc). z.name.way) u.desc)
+
+cancel_runs : (d : DriverContent) (m : Mem) (o : Offered) (parts : StructureSets) → Cancels d m o → AreInRuns (views_of d) parts → AreInRuns (views_of o.driver) parts
+cancel_runs d m o parts why runs =
+    subst (λ (g : Offered). AreInRuns (views_of g.driver) parts) (sym why.is)
+    (runs_now (views_of d) (views_of (accepted_cancel d why.number why.endpoint)) parts parts (cancel_views d why.number why.endpoint why.here)
+    (record { buffers = λ n a pages j bs here. record { bytes = bs; here = here; size = refl }; tables = λ n a ws here. record { words = ws; here = here; size = refl } }) runs)
+
+-- ---- the world
+
+module _ (fixed : Fixed) (takes : ℕ → ℕ → Bool) (member : ℕ → Bool) (x : Streams) (s : Standing) (w : World) (line : ℕ) (name : EpName) (k : IsWhole fixed takes member x s w) where
+  by_offer : (r : Result Offered OfferError) → offered w.driver w.memory (commands.Cancel name) ≡ r → IsFeeding fixed member x s (commanded_by w line name r) → IsTold s (commanded_by w line name r)
+      → IsLeft fixed takes x.packets s.acc (commanded_by w line name r) → IsWhole fixed takes member x s (commanded_by w line name r)
+  by_offer (Ok o) is feeding told left =
+      let why : Cancels w.driver w.memory o = is_accepted w.driver w.memory (commands.Cancel name) o k.feeding.turns.bulk tt is in
+      let b = (cancel_as_before w.driver w.memory o k.feeding.turns why).0 in
+      record {
+        feeding = feeding;
+        taking = record { ends = k.taking.ends; piped = k.taking.piped; untaken = k.taking.untaken };
+        under_way = subst (λ (g : Offered). IsUnderWay g.driver g.memory member s.parts g.driver.command) (sym why.is) refl;
+        blank = subst (λ (g : Offered). AreBlank g.driver) (sym why.is) k.blank;
+        names = names_before w.driver o.driver b k.names;
+        senders = idle_sides true o.driver x.stream b.idle_now;
+        takers = idle_sides false o.driver takes b.idle_now;
+        runs = cancel_runs w.driver w.memory o s.parts why k.runs;
+        tails = told.tails;
+        told = told.told;
+        bytes = k.bytes;
+        left = left;
+      }
+  by_offer (Err why) is feeding told left = refused_whole fixed takes member x s w line name why feeding left k
+
+pub cancel_whole : (fixed : Fixed) (takes : ℕ → ℕ → Bool) (member : ℕ → Bool) (x : Streams) (s : Standing) (w : World) (line : ℕ) (name : EpName)
+    → IsOffered w.driver.room (commands.Cancel name) → IsWhole fixed takes member x s w → IsWhole fixed takes member x s (commanded w line (commands.Cancel name))
+cancel_whole fixed takes member x s w line name room k =
+    by_offer fixed takes member x s w line name k (offered w.driver w.memory (commands.Cancel name)) refl (cancel_feeds fixed member x s w line name room k.feeding)
+    (cancel_told s w line name k.feeding.turns (record { tails = k.tails; told = k.told }))
+    (command_keeps_left fixed takes member x s w line (commands.Cancel name) tt tt room k.feeding k.left)

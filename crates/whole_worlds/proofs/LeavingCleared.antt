@@ -1,0 +1,92 @@
+-- The row that clears Async Advance leaves a world whole: the walk meets just the queue heads then that are in the ring or have left since, and the streams of the others
+-- are closed.
+use Rattle.std.proofs.Common.{◌≡◌, ℕ, Bool, true, false, Option, None, sym, subst, ⊎_elim, inl, inr, refl}
+use Rattle.usb_bus.specs.Bus.{Fixed}
+use Rattle.driver_rows.specs.declared.content.Command.{Command}
+use Rattle.driver_rows.specs.declared.rows.DriverRow.{DriverRow}
+use Rattle.driver_rows.specs.declared.rows.DriverRow.TheVariants as rows
+use Rattle.driver_rows.specs.DriverContent.{DriverContent}
+use Rattle.driver_rows.specs.Rows.{driver_row, after_driver_row}
+use Rattle.run_owners.specs.Owners.{views_of}
+use Rattle.driver_laws.specs.Extents.{AreInRuns}
+use Rattle.fed_lends.specs.ToLend.{AreBlank}
+use Rattle.open_names.proofs.Apart.{events_apart}
+use Rattle.leaving_drivers.specs.Before.{UnlinksAtMost}
+use Rattle.leaving_drivers.proofs.Clearing.{clear_finds}
+use Rattle.reached_rings.specs.Reaching.{is_reached}
+use Rattle.closed_streams.specs.Left.{names_kept}
+use Rattle.narrowed_streams.specs.Narrowed.{HasLeft, left_names}
+use Rattle.narrowed_streams.proofs.Names.{kept_or_left}
+use Rattle.feeding_worlds.specs.Clearing.{narrowed_to}
+use Rattle.feeding_worlds.proofs.Clearing.{clear_feeds}
+use Rattle.feeding_worlds.proofs.Beside.{clear_told}
+use Rattle.bus_world.specs.World.{World, driver_parts, driver_next}
+use Rattle.stream_worlds.specs.Streaming.{Streams, Standing}
+use Rattle.feeding_worlds.specs.Tails.{IsUnderWay}
+use Rattle.feeding_worlds.specs.Left.{taking_of}
+use Rattle.whole_worlds.specs.Whole.{StaysOpen, IsWhole}
+use Rattle.whole_worlds.specs.Laws.{ClearKeepsWhole}
+use Rattle.feeding_worlds.proofs.Cleared.{clear_keeps_left}
+use Rattle.feeding_worlds.proofs.Takes.{clear_keeps_taking}
+use Rattle.whole_worlds.proofs.LeavingCancelled.{idle_sides}
+
+-- the queue heads that the walk may meet then
+abbrev pub narrow_of : World → ℕ → Bool
+narrow_of w = is_reached (driver_next w).driver (driver_next w).registers.doorbell
+
+-- an endpoint is open still, or it has left
+pub stays_open : (f : DriverContent) (way : Bool) (stream : ℕ → ℕ → Bool) → StaysOpen f way stream (names_kept stream (left_names f way))
+stays_open f way stream addr ep on =
+    ⊎_elim (λ (kept : names_kept stream (left_names f way) addr ep ≡ true). inl kept)
+    (λ (h : HasLeft f way addr ep). inr (record { number = h.number; endpoint = h.endpoint; here = h.here; named = h.named; side = h.side })) (kept_or_left f way stream addr ep on)
+
+module _ (fixed : Fixed) (takes : ℕ → ℕ → Bool) (member : ℕ → Bool) (x : Streams) (s : Standing) (w : World) (row : driver_row (driver_parts w) ≡ rows.ClearAdvance) (k : IsWhole fixed takes member x s w) where
+  abbrev new : DriverContent
+  new = (driver_next w).driver
+
+  abbrev narrow : ℕ → Bool
+  narrow = narrow_of w
+
+  -- what the row leaves of the content
+  by_row : (P : DriverContent → Type 0) → P (after_driver_row rows.ClearAdvance (driver_parts w)).driver → P new
+  by_row P here = subst (λ (r : DriverRow). P (after_driver_row r (driver_parts w)).driver) (sym row) here
+
+  command : new.command ≡ None
+  command = by_row (λ (d : DriverContent). d.command ≡ None) (clear_finds (driver_parts w) row).idle
+
+  idle : UnlinksAtMost new.command
+  idle = subst UnlinksAtMost (sym command) tt
+
+  pub clear_whole : IsWhole fixed (taking_of takes (driver_next w).driver) (narrow_of w) (narrowed_to x (driver_next w).driver (narrow_of w)) s (driver_next w)
+  clear_whole =
+      let stand = clear_told s w row (record { tails = k.tails; told = k.told }) in
+      record {
+        feeding = clear_feeds fixed member narrow x s w row k.left.walking k.names (λ n. refl) k.feeding;
+        taking = clear_keeps_taking fixed takes member narrow x s w row k.names k.left.walking (λ n. refl) k.feeding k.taking;
+        under_way = subst (λ (c : Option Command). IsUnderWay new (driver_next w).memory narrow s.parts c) (sym command) tt;
+        blank = by_row AreBlank k.blank;
+        names = events_apart (driver_parts w) k.names;
+        senders = idle_sides true new (narrowed_to x new narrow).stream idle;
+        takers = idle_sides false new (taking_of takes new) idle;
+        runs = by_row (λ (d : DriverContent). AreInRuns (views_of d) s.parts) k.runs;
+        tails = stand.tails;
+        told = stand.told;
+        bytes = k.bytes;
+        left = clear_keeps_left fixed takes member narrow x s w row k.names (λ n. refl) k.feeding k.taking k.left;
+      }
+
+pub clear_keeps_whole : ClearKeepsWhole
+clear_keeps_whole fixed takes member x s w row k =
+    let new = (driver_next w).driver in
+    let those = narrowed_to x new (narrow_of w) in
+    record {
+      member = narrow_of w;
+      streams = those.streams;
+      endpoint = those.endpoint;
+      standing = s;
+      ins = those.stream;
+      outs = taking_of takes new;
+      whole = clear_whole fixed takes member x s w row k;
+      ins_stay = stays_open new true x.stream;
+      outs_stay = stays_open new false takes;
+    }

@@ -1,0 +1,156 @@
+-- The row that gives back an endpoint that has left the ring leaves a world whole.
+use Rattle.std.proofs.Common.{◌≡◌, ℕ, ◌*◌, Bool, true, false, cond, List, get_or, slice_get, Option, Some, None, sym, subst, ◌∙◌, refl, inl}
+use Rattle.usb_bus.specs.Bus.{Fixed}
+use Rattle.driver_rows.specs.declared.content.Command.{Command}
+use Rattle.driver_rows.specs.declared.content.Command.TheVariants as unfinished
+use Rattle.driver_rows.specs.declared.content.Endpoint.{Endpoint}
+use Rattle.driver_rows.specs.declared.content.QtdNote.{QtdNote}
+use Rattle.driver_rows.specs.declared.rows.DriverRow.{DriverRow}
+use Rattle.driver_rows.specs.declared.rows.DriverRow.TheVariants as rows
+use Rattle.driver_rows.specs.DriverContent.{DriverContent}
+use Rattle.driver_rows.specs.Harvests.{note_at}
+use Rattle.driver_rows.specs.Rows.{Parts, driver_row, after_driver_row, after_endpoint, is_told}
+use Rattle.run_owners.specs.Due.{IsDue, IsEndpointDue}
+use Rattle.run_owners.proofs.Reasons.{each_is_due}
+use Rattle.chained_transfers.specs.Out.{out_now}
+use Rattle.driver_laws.specs.PartOpened.{opening_base}
+use Rattle.controlled_streams.specs.Reported.{IsReported}
+use Rattle.fed_queues.specs.Places.{IsThere}
+use Rattle.fed_lends.specs.ToLend.{AreBlank}
+use Rattle.open_names.proofs.Apart.{events_apart}
+use Rattle.standing_fronts.specs.Reaching.{Reaches}
+use Rattle.harvest_laws.specs.Told.{ToldStands}
+use Rattle.endpoint_releases.specs.Released.{without_queue, HasLeaver, endpoint_row}
+use Rattle.leaving_drivers.specs.Before.{UnlinksAtMost}
+use Rattle.left_queues.proofs.Unmet.{cleared_unmet}
+use Rattle.left_reports.specs.Leaver.{IsLeaver}
+use Rattle.left_reports.proofs.Gone.{release_is_told}
+use Rattle.feeding_worlds.specs.Releases.{released, IsGivenBack}
+use Rattle.feeding_worlds.proofs.Releasing.{endpoint_release_feeds}
+use Rattle.bus_world.specs.World.{World, driver_parts, driver_next}
+use Rattle.stream_worlds.specs.Streaming.{Streams, Standing}
+use Rattle.feeding_worlds.specs.Feeding.{IsFeeding}
+use Rattle.feeding_worlds.specs.Tails.{IsUnderWay}
+use Rattle.feeding_worlds.proofs.Tail.{idle_tail, idle_ends}
+use Rattle.feeding_worlds.proofs.Told.{there_by}
+use Rattle.whole_worlds.specs.Whole.{IsWhole}
+use Rattle.whole_worlds.specs.Laws.{EndpointReleaseKeepsWhole}
+use Rattle.feeding_worlds.proofs.Released.{release_keeps_left}
+use Rattle.feeding_worlds.proofs.Takes.{release_keeps_taking}
+use Rattle.whole_worlds.proofs.LeavingCancelled.{idle_sides}
+
+no_open : (c : Option Command) (b : ℕ) → c ≡ None → c ≡ Some (unfinished.Open b) → ⊥
+no_open c b idle opens = cc
+
+-- whether a line of the report tells it, the rest of the content is the same
+told_same : {X : Type 0} (f : DriverContent → X) (g d : DriverContent) (b : Bool) → f g ≡ f d → f (cond b g d) ≡ f d
+told_same f g d true same = same
+told_same f g d false same = refl
+
+blank_by : (f d : DriverContent) → f.notes ≡ d.notes → AreBlank d → AreBlank f
+blank_by f d same k = subst (λ (notes : List QtdNote). (b : ℕ) → (note_at notes b).told ≡ 0 → get_or (note_at notes b).buffer 0 0 ≡ 0) (sym same) k
+
+-- the notes and the unfinished command stay
+row_notes : (p : Parts) (e : ℕ) (o : Option Endpoint) → (after_endpoint p e o).driver.notes ≡ p.driver.notes
+row_notes p e None = refl
+row_notes p e (Some z) = told_same (λ (d : DriverContent). d.notes) _ p.driver (is_told z) refl
+
+row_command : (p : Parts) (e : ℕ) (o : Option Endpoint) → (after_endpoint p e o).driver.command ≡ p.driver.command
+row_command p e None = refl
+row_command p e (Some z) = told_same (λ (d : DriverContent). d.command) _ p.driver (is_told z) refl
+
+module _ (fixed : Fixed) (takes : ℕ → ℕ → Bool) (member : ℕ → Bool) (x : Streams) (s : Standing) (w : World) (e : ℕ) (row : driver_row (driver_parts w) ≡ rows.ReleaseEndpoint e) (k : IsWhole fixed takes member x s w) where
+  abbrev p : Parts
+  p = driver_parts w
+
+  abbrev new : DriverContent
+  new = (driver_next w).driver
+
+  abbrev f : IsFeeding fixed member x s w
+  f = k.feeding
+
+  due : IsEndpointDue (driver_parts w) e
+  due = subst (IsDue (driver_parts w)) row (each_is_due (driver_parts w))
+
+  pub given_back : IsGivenBack fixed member x s e w (driver_next w)
+  given_back = endpoint_release_feeds fixed member x s w e row k.runs (idle_ends w.driver s.parts s.order s.out due.idle k.tails) k.feeding
+
+  abbrev pub leaver : HasLeaver w.driver e
+  leaver = given_back.leaver
+
+  abbrev z : Endpoint
+  z = leaver.endpoint
+
+  -- what the row leaves of the content
+  by_row : (P : DriverContent → Type 0) → P (after_driver_row (endpoint_row e) (driver_parts w)).driver → P new
+  by_row P here = subst (λ (r : DriverRow). P (after_driver_row r (driver_parts w)).driver) (sym row) here
+
+  command : new.command ≡ None
+  command = by_row (λ (d : DriverContent). d.command ≡ None) (row_command p e (slice_get w.driver.endpoints e) ∙ due.idle)
+
+  notes : new.notes ≡ w.driver.notes
+  notes = by_row (λ (d : DriverContent). d.notes ≡ w.driver.notes) (row_notes p e (slice_get w.driver.endpoints e))
+
+  idle : UnlinksAtMost new.command
+  idle = subst UnlinksAtMost (sym command) tt
+
+  -- ---- what is told of it
+
+  there : IsThere w.driver z
+  there = record { linked = λ opens. no_open w.driver.command z.queue due.idle opens; kept = leaver.leaves.held }
+
+  leaves : IsLeaver opening_base member s.parts s.hand w.control.walk p e z
+  leaves = record {
+    idle = due.idle;
+    leaves = leaver.leaves;
+    unlinked = leaver.unlinked;
+    unmet = cleared_unmet w.driver member 0 e z f.working.place.sound.owners f.turns f.queues.met leaver.leaves.first leaver.leaves.here;
+    owners = f.working.place.sound.owners;
+    turns = f.turns;
+    fed = f.queues.fed;
+    ring = f.working.streaming.controlled.ring;
+  }
+
+  reports : IsReported (s.order (32 * z.queue)) (out_now w.driver e) s.hand s.parts (32 * z.queue) (s.acc (32 * z.queue)) (s.reported (32 * z.queue))
+  reports =
+      subst (λ (out : List ℕ). IsReported (s.order (32 * z.queue)) out s.hand s.parts (32 * z.queue) (s.acc (32 * z.queue)) (s.reported (32 * z.queue))) (f.queues.out_are e z leaver.leaves.here there)
+      (f.counted (32 * z.queue) (there_by w.driver (32 * z.queue) (record { number = e; endpoint = z; here = leaver.leaves.here; there = there; at = refl })))
+
+  told : ToldStands new s.hand (without_queue s.parts (32 * z.queue)) s.reported
+  told =
+      by_row (λ (d : DriverContent). ToldStands d s.hand (without_queue s.parts (32 * z.queue)) s.reported)
+      (release_is_told opening_base member (s.order (32 * z.queue)) s.parts s.hand w.control.walk p e z (s.acc (32 * z.queue)) s.reported leaves reports k.told).0
+
+  -- ---- the whole
+
+  pub endpoint_release_whole : IsWhole fixed takes member x (released s leaver.endpoint) (driver_next w)
+  endpoint_release_whole =
+      let g = given_back in
+      record {
+        feeding = g.feeding;
+        taking = release_keeps_taking fixed takes member x s w e row leaver k.feeding k.taking;
+        under_way = subst (λ (c : Option Command). IsUnderWay new (driver_next w).memory member (released s z).parts c) (sym command) tt;
+        blank = blank_by new w.driver notes k.blank;
+        names = events_apart p k.names;
+        senders = idle_sides true new x.stream idle;
+        takers = idle_sides false new takes idle;
+        runs = g.runs;
+        tails = λ i y here met.
+            subst (λ (c : ℕ). Reaches new ((released s z).parts (32 * y.queue)) (s.order (32 * y.queue)) (s.out (32 * y.queue)) i y c) (sym (idle_tail new i y command)) (g.tails i y here met);
+        told = told;
+        bytes = k.bytes;
+        left = release_keeps_left fixed takes member x s w e row k.feeding k.told k.left;
+      }
+
+pub endpoint_release_keeps_whole : EndpointReleaseKeepsWhole
+endpoint_release_keeps_whole fixed takes member x s w e row k = record {
+  member = member;
+  streams = x.streams;
+  endpoint = x.endpoint;
+  standing = released s (leaver fixed takes member x s w e row k).endpoint;
+  ins = x.stream;
+  outs = takes;
+  whole = endpoint_release_whole fixed takes member x s w e row k;
+  ins_stay = λ addr ep on. inl on;
+  outs_stay = λ addr ep on. inl on;
+}
