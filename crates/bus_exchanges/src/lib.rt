@@ -1,7 +1,7 @@
 //! What went over the high-speed bus in a transaction: who heard what, and its packets as bytes (USB 2.0, 8.3 to 8.5).
 //!
 //! `Exchange` tells a transaction, and `Passed` has the bytes of its data. `put_frame` and `put_packets` append the packets to a capture with
-//! link type 288, each behind its header; specs/Packets.antt has them as `frame_packets` and `exchange_packets`. A lost packet isn't there, and
+//! link type 288, each behind its header; specs/Packets.antt has them as `frame_record` and `exchange_record`. A lost packet isn't there, and
 //! of a damaged one a bit of its last byte is turned round, so that its check tells.
 #![tactic(auto)]
 

@@ -1,6 +1,6 @@
 -- Scripts that only receive (USB 2.0, 5.8): of scripts of bulk endpoints those of IN endpoints alone.
 --     IsReceiving x            the endpoint is a high-speed bulk IN one
---     OpensReceiving cmd       the command opens such an endpoint, if any, and is no cancel
+--     OpensReceiving cmd       if the command opens an endpoint, it is such a one; other commands may be any
 --     ReceivesOnly s           so is each command of the script
 use Rattle.std.specs.Prelude.{◌≡◌}
 use Rattle.std.specs.List.{AllByRecursion}
@@ -21,7 +21,6 @@ pub record IsReceiving (x : EpDesc) : Type 0 where
 
 abbrev pub OpensReceiving : Cmd → Type 0
 OpensReceiving (commands.OpenEp x) = IsReceiving x
-OpensReceiving (commands.Cancel name) = ⊥
 OpensReceiving _ = Unit {0}
 
 abbrev pub ReceivesLine : Line → Type 0

@@ -15,6 +15,7 @@ ghost use Rattle.ring_laws.specs.Effects.{AreBytesHeard};
 ghost use Rattle.controlled_streams.specs.Control.{IsOn, IsControlled};
 ghost use Rattle.ring_requests.specs.Windows.{Queue, Lines, AreSent, AreWindows};
 ghost use Rattle.control_requests.specs.Events.{ControlWindowsGoOn};
+ghost use Rattle.control_requests.specs.Rests.{ControlKeepsRest};
 
 use usb_base::Wire;
 
@@ -26,4 +27,10 @@ pub fn an_event_keeps_the_windows<W: Wire>()
         → IsControlled base member parts hand c → IsOn base → AreWindows device member windows sent lines parts hand wire
         → AreBytesHeard W.transacts wire after → HasRow W.begins W.transacts (microframe_row c.registers c.control) c wire new after
         → ControlWindowsGoOn W.begins W.transacts device base member windows sent lines parts hand wire after new }
+{}
+
+/// Each event of the controller leaves a queue of which no request is under way so, with all its structures and the device as they were: nothing is asked
+/// of it. No other queue head of the ring has its endpoint.
+pub fn an_event_leaves_a_queue_at_rest<W: Wire>()
+    ensures { (device : W → ℕ → ℕ → Option Device) → ControlKeepsRest W.begins W.transacts device }
 {}

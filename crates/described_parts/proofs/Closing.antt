@@ -37,7 +37,7 @@ first_of_words m a n many =
     let same : (a + 4 * 0) / 4 ≡ a / 4 = omega arith in
     get_or-words_in m.words a n 0 many ∙ ap (λ (k : ℕ). get_or m.words k 0) same
 
-leads_as : (met : ℕ → Option Kind) (m : Mem) (a : ℕ) (s : Structure) → Holds m a s → LeadsTo met (link_read (word_at m a)) → LeadsTo met (link_in s)
+pub leads_as : (met : ℕ → Option Kind) (m : Mem) (a : ℕ) (s : Structure) → Holds m a s → LeadsTo met (link_read (word_at m a)) → LeadsTo met (link_in s)
 leads_as met m a (QueueHead q) h leads =
     let is : link_of q.link ≡ link_read (word_at m a)
     = qh_read-link (qh_words q) q (qh_read-words q h.range) ∙ ap (λ ws. link_read (slice_index ws 0)) (sym h.words) ∙ ap link_read (first_of_words m a 12 (omega arith)) in

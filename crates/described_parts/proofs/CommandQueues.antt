@@ -23,14 +23,28 @@ pub record QueuesStay (v w : Views) : Type 0 where
   pub piece : (t b : ℕ) (y : TransferRuns) (x : EndpointRuns) → IsTransferIn v t y x → IsPieceOf v.note y.first y.qtds b → AreLentAlike (v.slot b) (w.slot b)
   pub buffer : (t b c : ℕ) (cs : List ℕ) (y : TransferRuns) (x : EndpointRuns) → IsTransferIn v t y x → IsPieceOf v.note y.first y.qtds b → (v.note b).buffer ≡ c ∷ cs → AreLentAlike (v.slot c) (w.slot c)
 
-module _ (v w : Views) (k : QueuesStay v w) where
+-- the same without what is told of how far their runs reach
+pub record QueuesAlike (v w : Views) : Type 0 where
+  pub endpoints : (e : ℕ) → w.endpoint e ≡ v.endpoint e
+  pub notes : (b : ℕ) → w.note b ≡ v.note b
+  pub here : (t : ℕ) (y : TransferRuns) → y.isochronous ≡ false → v.transfer t ≡ Some y → w.transfer t ≡ Some y
+  pub was : (t : ℕ) (y : TransferRuns) → y.isochronous ≡ false → w.transfer t ≡ Some y → v.transfer t ≡ Some y
+  pub queue : (e : ℕ) (x : EndpointRuns) → IsQueueIn v e x → AreLentAlike (v.slot x.queue) (w.slot x.queue)
+  pub dummy : (e : ℕ) (x : EndpointRuns) → IsQueueIn v e x → AreLentAlike (v.slot x.dummy) (w.slot x.dummy)
+  pub piece : (t b : ℕ) (y : TransferRuns) (x : EndpointRuns) → IsTransferIn v t y x → IsPieceOf v.note y.first y.qtds b → AreLentAlike (v.slot b) (w.slot b)
+  pub buffer : (t b c : ℕ) (cs : List ℕ) (y : TransferRuns) (x : EndpointRuns) → IsTransferIn v t y x → IsPieceOf v.note y.first y.qtds b → (v.note b).buffer ≡ c ∷ cs → AreLentAlike (v.slot c) (w.slot c)
+
+queues_alike : (v w : Views) → QueuesStay v w → QueuesAlike v w
+queues_alike v w k = record { endpoints = k.endpoints; notes = k.notes; here = k.here; was = k.was; queue = k.queue; dummy = k.dummy; piece = k.piece; buffer = k.buffer }
+
+module _ (v w : Views) (k : QueuesAlike v w) where
   queue_back : (e : ℕ) (x : EndpointRuns) → IsQueueIn w e x → IsQueueIn v e x
   queue_back e x is = record { here = sym (k.endpoints e) ∙ is.here; queued = is.queued }
 
   queue_on : (e : ℕ) (x : EndpointRuns) → IsQueueIn v e x → IsQueueIn w e x
   queue_on e x is = record { here = k.endpoints e ∙ is.here; queued = is.queued }
 
-  transfer_back : (t : ℕ) (y : TransferRuns) (x : EndpointRuns) → IsTransferIn w t y x → IsTransferIn v t y x
+  pub transfer_back : (t : ℕ) (y : TransferRuns) (x : EndpointRuns) → IsTransferIn w t y x → IsTransferIn v t y x
   transfer_back t y x is = record { here = k.was t y is.qtds is.here; held = is.held; qtds = is.qtds; queue = queue_back y.endpoint x is.queue }
 
   transfer_on : (t : ℕ) (y : TransferRuns) (x : EndpointRuns) → IsTransferIn v t y x → IsTransferIn w t y x
@@ -41,7 +55,7 @@ module _ (v w : Views) (k : QueuesStay v w) where
   piece_on b (suc n) c (inl same) = inl same
   piece_on b (suc n) c (inr is) = inr (subst (λ (r : NoteRuns). IsPieceOf w.note r.next n c) (sym (k.notes b)) (piece_on (v.note b).next n c is))
 
-  piece_back : (b n c : ℕ) → IsPieceOf w.note b n c → IsPieceOf v.note b n c
+  pub piece_back : (b n c : ℕ) → IsPieceOf w.note b n c → IsPieceOf v.note b n c
   piece_back b zero c is = is
   piece_back b (suc n) c (inl same) = inl same
   piece_back b (suc n) c (inr is) = inr (piece_back (v.note b).next n c (subst (λ (r : NoteRuns). IsPieceOf w.note r.next n c) (k.notes b) is))
@@ -72,8 +86,8 @@ module _ (v w : Views) (k : QueuesStay v w) where
   owned_on _ _ _ (a_buffer t b c cs y x is piece first lent) =
       a_buffer t b c cs y x (transfer_on t y x is) (piece_on y.first y.qtds b piece) (ap (λ (r : NoteRuns). r.buffer) (k.notes b) ∙ first) ((k.buffer t b c cs y x is piece first).on lent)
 
-  pub driven_stays : (sorts : Inventory) → IsDriven v sorts → IsDriven w sorts
-  driven_stays sorts d = record {
+  pub driven_alike : (sorts : Inventory) → IsDriven v sorts → IsDriven w sorts
+  driven_alike sorts d = record {
     list = d.list;
     head = d.head;
     queue = λ e x is lent. let was = queue_back e x is in d.queue e x was ((k.queue e x was).back lent);
@@ -82,11 +96,15 @@ module _ (v w : Views) (k : QueuesStay v w) where
     only = λ n a s there. owned_on n a s (d.only n a s there);
   }
 
-  pub extents_stay : (parts : StructureSets) → IsDriven w (sorts_of parts) → AreInRuns v parts → AreInRuns w parts
-  extents_stay parts driven lies =
-      extents_follow v w parts
-      (record {
-        slots = k.runs;
-        buffered = λ t b c cs y x is piece first lent.
-            record { transfer = transfer_back t y x is; piece = piece_back y.first y.qtds b piece; first = ap (λ (r : NoteRuns). r.buffer) (sym (k.notes b)) ∙ first };
-      }) driven lies
+pub driven_stays : (v w : Views) → QueuesStay v w → (sorts : Inventory) → IsDriven v sorts → IsDriven w sorts
+driven_stays v w k sorts d = driven_alike v w (queues_alike v w k) sorts d
+
+pub extents_stay : (v w : Views) → QueuesStay v w → (parts : StructureSets) → IsDriven w (sorts_of parts) → AreInRuns v parts → AreInRuns w parts
+extents_stay v w k parts driven lies =
+    let alike = queues_alike v w k in
+    extents_follow v w parts
+    (record {
+      slots = k.runs;
+      buffered = λ t b c cs y x is piece first lent.
+          record { transfer = transfer_back v w alike t y x is; piece = piece_back v w alike y.first y.qtds b piece; first = ap (λ (r : NoteRuns). r.buffer) (sym (k.notes b)) ∙ first };
+    }) driven lies

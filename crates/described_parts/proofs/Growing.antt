@@ -49,7 +49,7 @@ members_kept p w m is on =
 
 -- ---- all that were met
 
-same_kind : (q r : PeriodicContent) (m : Member) → r.notes ≡ q.notes → kind_of r m ≡ kind_of q m
+pub same_kind : (q r : PeriodicContent) (m : Member) → r.notes ≡ q.notes → kind_of r m ≡ kind_of q m
 same_kind q r (Each x) same = refl
 same_kind q r (Once k) same = ap (λ (notes : List DescriptorNote). kind_of_descriptor (note_at notes (k.id / 32)).split) same
 

@@ -38,11 +38,11 @@ record StandsLed (list : ℕ) (s : Schedule) (o : Option Work) (word : ℕ → �
   member : HasMember s o
   stands : StandsBy list s o word
 
-no_removal : (a b : Bool) → (a || b) ≡ false → (a ≡ false) × (b ≡ false)
+pub no_removal : (a b : Bool) → (a || b) ≡ false → (a ≡ false) × (b ≡ false)
 no_removal true b is = absurd (true≢false is)
 no_removal false b is = (refl, is)
 
-none_made : (n : ℕ) → nat_lt 0 n ≡ false → n ≡ 0
+pub none_made : (n : ℕ) → nat_lt 0 n ≡ false → n ≡ 0
 none_made zero is = refl
 none_made (suc n) is = absurd (true≢false (sym (lt-ltb 0 (suc n) (omega arith)) ∙ is))
 

@@ -16,16 +16,21 @@ use Rattle.driver_rows.specs.declared.content.Endpoint.{Endpoint}
 use Rattle.driver_rows.specs.declared.content.Transfer.{Transfer}
 use Rattle.driver_rows.specs.declared.rows.DriverRow.TheVariants as rows
 use Rattle.driver_rows.specs.DriverContent.{DriverContent}
-use Rattle.driver_rows.specs.Rows.{Parts, after_driver_row}
-use Rattle.hc_core.specs.Controller.{Content}
+use Rattle.driver_rows.specs.Rows.{doorbell_command}
+use Rattle.op_registers.specs.RegisterFile.{RegisterFile}
+use Rattle.op_registers.specs.Table.{after_write}
+use Rattle.hc_core.specs.Controller.{Content, frame_place, walk_place}
 use Rattle.lent_structures.specs.Structures.{Structure, Table, Isochronous, SplitIsochronous, StructureSets, put, Tells}
 use Rattle.lent_structures.proofs.Names.{put_same}
 use Rattle.lent_structures.proofs.Writing.{word_put_table}
 use Rattle.ring_laws.specs.Hand.{Hand}
-use Rattle.ring_laws.specs.Ring.{Base}
+use Rattle.ring_laws.specs.Ring.{Base, base_of}
+use Rattle.ring_laws.proofs.Ringing.{ring_at, cursor_same}
+use Rattle.driver_laws.specs.Driven.{IsOperating}
 use Rattle.controlled_streams.specs.Control.{FrameList}
 use Rattle.frame_walk.specs.Met.{Kind, LeadsTo, IsMetAs}
 use Rattle.frame_walk.specs.FrameHand.{FrameHand}
+use Rattle.frame_walk.specs.Frame.{IsFrameWalk}
 use Rattle.frame_control.specs.Both.{RunsBoth}
 use Rattle.frame_stores.specs.Stores.{HasLink, linked, frame_linked}
 use Rattle.frame_stores.proofs.Framing.{leads_further}
@@ -33,9 +38,10 @@ use Rattle.frame_stores.proofs.Linking.{link_told, fields_range, fields_word, st
 use Rattle.frame_stores.proofs.Beside.{both_further, both_list_stored, both_word_stored}
 use Rattle.described_parts.specs.Described.{HasDescriptor}
 use Rattle.described_parts.specs.Meeting.{kind_of_descriptor, standing, met}
-use Rattle.described_parts.specs.Recent.{IsOpenAt, IsRemovedSince, DrivesFrames}
+use Rattle.described_parts.specs.Both.{both}
+use Rattle.described_parts.specs.Recent.{IsOpenAt, IsRemovedSince, DrivesFrames, content_after}
 use Rattle.described_parts.specs.RowLaws.{HasFrames}
-use Rattle.described_parts.specs.Rows.{IsMetBeside}
+use Rattle.described_parts.specs.Rows.{DrivesAfter, IsMetBeside}
 use Rattle.described_parts.proofs.Closing.{standing_closed, list_leads, standing_met}
 
 -- ---- readings
@@ -59,24 +65,68 @@ removed_again xs ts rs index n r = record {
   within = open_again index r.removal.boundary r.within;
 }
 
-pub frame_read : (base : Base) (member : ℕ → Bool) (recent : ℕ → Option Kind) (descs parts : StructureSets) (hand : Hand) (frame : FrameHand) (c : Content) (index : ℕ) (p : Parts) → DrivesFrames base member recent descs parts hand frame c index p.driver → DrivesFrames base member recent descs parts hand frame c index (after_driver_row (rows.ReadFrame index) p).driver
-frame_read base member recent descs parts hand frame c index p k = record {
+-- the walks go by few of the registers
+both_registers : (base : Base) (member : ℕ → Bool) (met : ℕ → Option Kind) (parts : StructureSets) (hand : Hand) (frame : FrameHand) (c : Content) (r : RegisterFile) → RunsBoth base member met parts hand frame c
+    → base_of r ≡ base_of c.registers → RunsBoth base member met parts hand frame (record c { registers = r })
+both_registers base member met parts hand frame c r k same = record {
+  ring = ring_at base member parts hand hand (walk_place c) (walk_place (record c { registers = r })) k.ring refl same
+      (cursor_same member (walk_place c) (walk_place (record c { registers = r })) same refl k.ring.cursor) k.ring.held k.ring.in_hand;
+  between = k.between;
+  list = k.list;
+  elements = k.elements;
+  members = k.members;
+  apart = k.apart;
+  walk = λ part. let w : IsFrameWalk met parts frame (frame_place c) = k.walk part in record { cursor = w.cursor; held = w.held; in_hand = w.in_hand };
+  outside = k.outside;
+}
+
+cleared_base : (r : RegisterFile) → base_of (after_write r 0x04 0x20) ≡ base_of r
+cleared_base r = refl
+
+rung_base : (r : RegisterFile) → base_of (after_write r 0x00 doorbell_command) ≡ record { run = true; async_enable = true; async_list_address = r.async_list_address; periodic_enable = true; periodic_list_base = r.periodic_list_base }
+rung_base r = refl
+
+-- where all of these are set already
+rung_same : (base : Base) (r : RegisterFile) → IsOperating base → base_of r ≡ base → base_of (after_write r 0x00 doorbell_command) ≡ base_of r
+rung_same base r on same =
+    let run : r.run ≡ true = ap (λ (b : Base). b.run) same ∙ on.run in
+    let async : r.async_enable ≡ true = ap (λ (b : Base). b.async_enable) same ∙ on.async_enable in
+    let periodic : r.periodic_enable ≡ true = ap (λ (b : Base). b.periodic_enable) same ∙ on.periodic_enable in
+    rung_base r
+    ∙ sym (ap (λ (x : Bool). record { run = x; async_enable = r.async_enable; async_list_address = r.async_list_address; periodic_enable = r.periodic_enable; periodic_list_base = r.periodic_list_base }) run
+    ∙ ap (λ (x : Bool). record { run = true; async_enable = x; async_list_address = r.async_list_address; periodic_enable = r.periodic_enable; periodic_list_base = r.periodic_list_base }) async
+    ∙ ap (λ (x : Bool). record { run = true; async_enable = true; async_list_address = r.async_list_address; periodic_enable = x; periodic_list_base = r.periodic_list_base }) periodic)
+
+pub frame_read : (base : Base) (member : ℕ → Bool) (recent : ℕ → Option Kind) (descs parts : StructureSets) (hand : Hand) (frame : FrameHand) (c : Content) (d : DriverContent) → DrivesFrames base member recent descs parts hand frame c d → DrivesAfter (rows.ReadFrame c.registers.frame_index) base member recent descs parts hand frame c d
+frame_read base member recent descs parts hand frame c d k = record {
   runs = k.runs;
   recent_are = λ n kind on. elim (k.recent_are n kind on) [
-    | inl since ↦ inl (removed_again p.driver.endpoints p.driver.transfers p.driver.periodic.removals index n since)
+    | inl since ↦ inl (removed_again d.endpoints d.transfers d.periodic.removals c.registers.frame_index n since)
     | inr now ↦ inr now
   ];
   described = k.described;
 }
 
-pub status_read : (base : Base) (member : ℕ → Bool) (recent : ℕ → Option Kind) (descs parts : StructureSets) (hand : Hand) (frame : FrameHand) (c : Content) (index : ℕ) (p : Parts) (heard : Bool) → DrivesFrames base member recent descs parts hand frame c index p.driver → DrivesFrames base member recent descs parts hand frame c index (after_driver_row (rows.ReadStatus heard) p).driver
-status_read base member recent descs parts hand frame c index p heard k = record { runs = k.runs; recent_are = k.recent_are; described = k.described }
+pub status_read : (base : Base) (member : ℕ → Bool) (recent : ℕ → Option Kind) (descs parts : StructureSets) (hand : Hand) (frame : FrameHand) (c : Content) (d : DriverContent) (heard : Bool) → DrivesFrames base member recent descs parts hand frame c d → DrivesAfter (rows.ReadStatus heard) base member recent descs parts hand frame c d
+status_read base member recent descs parts hand frame c d heard k = record {
+  runs = k.runs;
+  recent_are = k.recent_are;
+  described = k.described;
+}
 
-pub advance_cleared : (base : Base) (member : ℕ → Bool) (recent : ℕ → Option Kind) (descs parts : StructureSets) (hand : Hand) (frame : FrameHand) (c : Content) (index : ℕ) (p : Parts) → DrivesFrames base member recent descs parts hand frame c index p.driver → DrivesFrames base member recent descs parts hand frame c index (after_driver_row rows.ClearAdvance p).driver
-advance_cleared base member recent descs parts hand frame c index p k = record { runs = k.runs; recent_are = k.recent_are; described = k.described }
+pub advance_cleared : (base : Base) (member : ℕ → Bool) (recent : ℕ → Option Kind) (descs parts : StructureSets) (hand : Hand) (frame : FrameHand) (c : Content) (d : DriverContent) → DrivesFrames base member recent descs parts hand frame c d → DrivesAfter rows.ClearAdvance base member recent descs parts hand frame c d
+advance_cleared base member recent descs parts hand frame c d k = record {
+  runs = both_registers base member (met d recent) (both descs parts) hand frame c (content_after rows.ClearAdvance c d).registers k.runs (cleared_base c.registers);
+  recent_are = k.recent_are;
+  described = k.described;
+}
 
-pub bell_rung : (base : Base) (member : ℕ → Bool) (recent : ℕ → Option Kind) (descs parts : StructureSets) (hand : Hand) (frame : FrameHand) (c : Content) (index : ℕ) (p : Parts) → DrivesFrames base member recent descs parts hand frame c index p.driver → DrivesFrames base member recent descs parts hand frame c index (after_driver_row rows.RingBell p).driver
-bell_rung base member recent descs parts hand frame c index p k = record { runs = k.runs; recent_are = k.recent_are; described = k.described }
+pub bell_rung : (base : Base) (member : ℕ → Bool) (recent : ℕ → Option Kind) (descs parts : StructureSets) (hand : Hand) (frame : FrameHand) (c : Content) (d : DriverContent) → IsOperating base → DrivesFrames base member recent descs parts hand frame c d → DrivesAfter rows.RingBell base member recent descs parts hand frame c d
+bell_rung base member recent descs parts hand frame c d on k = record {
+  runs = both_registers base member (met d recent) (both descs parts) hand frame c (content_after rows.RingBell c d).registers k.runs (rung_same base c.registers on k.runs.ring.registers);
+  recent_are = k.recent_are;
+  described = k.described;
+}
 
 -- ---- stores
 

@@ -101,7 +101,7 @@ module _ (d : DriverContent) (m : Mem) (descs parts : StructureSets) (k : IsDesc
   abbrev owned : AreOwned v owner
   owned = k.owners.owned.each
 
-  slots : (c : ℕ) → v.slot c ≡ slot_of d.book.slots c
+  abbrev slots : (c : ℕ) → v.slot c ≡ slot_of d.book.slots c
   slots c = refl
 
   abbrev InDescriptors : ℕ → ℕ → ℕ → Type 0
@@ -113,7 +113,7 @@ module _ (d : DriverContent) (m : Mem) (descs parts : StructureSets) (k : IsDesc
   abbrev IsPiece : ℕ → TransferRuns → ℕ → Owner → Type 0
   IsPiece t y a o = IsPieceAt (holding d.book m) v owner slots stands owned t y a o
 
-  piece_owner : (t : ℕ) (y : TransferRuns) (a : ℕ) (o : Owner) → IsDescriptorLent v t y → IsPiece t y a o → descriptor_owner v.transfer o ≡ Some t
+  pub piece_owner : (t : ℕ) (y : TransferRuns) (a : ℕ) (o : Owner) → IsDescriptorLent v t y → IsPiece t y a o → descriptor_owner v.transfer o ≡ Some t
   piece_owner t y a _ lent (itself name) = refl
   piece_owner t y a _ lent (its_buffer c cs first name) = ap (λ (x : Bool). if x then Some t else None) (ap is_described lent.here ∙ lent.isochronous)
 

@@ -32,7 +32,7 @@ use Rattle.described_parts.proofs.Finding.{member_at}
 use Rattle.described_parts.proofs.Leading.{led_linked}
 use Rattle.described_parts.proofs.Returning.{same_transfer, no_descriptor, same_blocks, owed_by, frames_owed, one_of, transfer_counts, endpoint_counts, not_open, none_some}
 
-later_endpoint : (e : ℕ) (rs : List Removal) (k : ℕ) (r : Removal) → slice_get rs (suc k) ≡ Some r → r.what ≡ removed.Endpoint e → 1 ≤ times e (endpoints_in (drop 1 rs))
+pub later_endpoint : (e : ℕ) (rs : List Removal) (k : ℕ) (r : Removal) → slice_get rs (suc k) ≡ Some r → r.what ≡ removed.Endpoint e → 1 ≤ times e (endpoints_in (drop 1 rs))
 later_endpoint e [] k r here what = absurd cc
 later_endpoint e (m ∷ ms) k r here what = endpoint_counts e ms k r here what
 
@@ -41,7 +41,7 @@ out_owed : (c g p : Bool) → 1 ≤ (if c || g || not p then 0 else 1) → c ≡
 out_owed true g p one = absurd (omega (arith, one))
 out_owed false g p one = refl
 
-frames_most : (b : Bool) → (if b then 0 else 1) ≤ 1
+pub frames_most : (b : Bool) → (if b then 0 else 1) ≤ 1
 frames_most true = omega arith
 frames_most false = omega arith
 

@@ -17,3 +17,6 @@ pub mod RowWorked
 pub mod Returned
 pub mod Growing
 pub mod Staying
+pub mod Given
+pub mod GivenWorked
+pub mod ListRows

@@ -4,7 +4,10 @@
 --     IsRemovedAt xs ts n what     what was removed has a structure at byte address n
 --     IsRemovedSince, IsUnchainedNow   it was removed, and no later frame was read; or an unfinished command unlinks it
 --     AreRecent d index recent     each of `recent` is so
---     DrivesFrames ..              the controller over a ring and the frames, the driver's descriptors, and what was unlinked in this microframe
+--     DrivesFrames ..              the controller over a ring and the frames, with the structures of the driver's queues and of its descriptors, and what was
+--                                  unlinked in this microframe
+--     parts_of c d                 what a row of the driver reads and changes, over the controller's registers and memory
+--     content_after row c d, driver_after row c d   the controller's content and the driver's once the row was made
 use Rattle.std.specs.Prelude.{◌≡◌, ◌⊎◌, ℕ, ◌*◌, Bool, true, false, List, slice_get, Option, Some}
 use Rattle.frame_chains.specs.declared.boundary.Boundary.{Boundary}
 use Rattle.frame_chains.specs.declared.boundary.Boundary.TheVariants.{Unread, Since, Seen}
@@ -16,8 +19,9 @@ use Rattle.driver_rows.specs.declared.content.Endpoint.{Endpoint}
 use Rattle.driver_rows.specs.declared.content.Transfer.{Transfer}
 use Rattle.driver_rows.specs.declared.content.Command.{Command}
 use Rattle.driver_rows.specs.declared.content.Command.TheVariants as unfinished
+use Rattle.driver_rows.specs.declared.rows.DriverRow.{DriverRow}
 use Rattle.driver_rows.specs.DriverContent.{DriverContent, waits_for}
-use Rattle.driver_rows.specs.Rows.{is_iso}
+use Rattle.driver_rows.specs.Rows.{Parts, after_driver_row, is_iso}
 use Rattle.run_owners.specs.Owners.{is_descriptor, views_of}
 use Rattle.hc_core.specs.Controller.{Content}
 use Rattle.lent_structures.specs.Structures.{StructureSets}
@@ -27,6 +31,7 @@ use Rattle.frame_walk.specs.Met.{Kind}
 use Rattle.frame_walk.specs.FrameHand.{FrameHand}
 use Rattle.frame_control.specs.Both.{RunsBoth}
 use Rattle.described_parts.specs.Described.{AreDescribed}
+use Rattle.described_parts.specs.Both.{both}
 use Rattle.described_parts.specs.Meeting.{met}
 
 abbrev pub IsOpenAt : ℕ → Boundary → Type 0
@@ -58,8 +63,19 @@ AreRecent d index recent =
     (n : ℕ) (kind : Kind) → recent n ≡ Some kind
     → IsRemovedSince d.endpoints d.transfers d.periodic.removals index n ⊎ IsUnchainedNow d.endpoints d.transfers d.command n
 
-pub record DrivesFrames (base : Base) (member : ℕ → Bool) (recent : ℕ → Option Kind) (descs parts : StructureSets) (hand : Hand) (frame : FrameHand) (c : Content) (index : ℕ)
+pub record DrivesFrames (base : Base) (member : ℕ → Bool) (recent : ℕ → Option Kind) (descs parts : StructureSets) (hand : Hand) (frame : FrameHand) (c : Content)
     (d : DriverContent) : Type 0 where
-  pub runs : RunsBoth base member (met d recent) parts hand frame c
-  pub recent_are : AreRecent d index recent
+  pub runs : RunsBoth base member (met d recent) (both descs parts) hand frame c
+  pub recent_are : AreRecent d c.registers.frame_index recent
   pub described : AreDescribed (views_of d) descs
+
+-- ---- a row of the driver
+
+abbrev pub parts_of : Content → DriverContent → Parts
+parts_of c d = record { driver = d; registers = c.registers; memory = c.memory }
+
+abbrev pub driver_after : DriverRow → Content → DriverContent → DriverContent
+driver_after row c d = (after_driver_row row (parts_of c d)).driver
+
+abbrev pub content_after : DriverRow → Content → DriverContent → Content
+content_after row c d = record c { registers = (after_driver_row row (parts_of c d)).registers; memory = (after_driver_row row (parts_of c d)).memory }

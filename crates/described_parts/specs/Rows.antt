@@ -1,4 +1,5 @@
 -- Rows of the driver beside the frames under the controller (EHCI 1.0, 2.3.4, 3.1, 4.6 and 4.7).
+--     DrivesAfter row ..      it is so after the row
 --     ReadFrameDrives         FRINDEX is read
 --     ReadStatusDrives, AdvanceDrives, BellDrives    USBSTS is read, Async Advance is cleared, the doorbell is rung
 --     IsMetBeside ..          from then on more are met, each of them sound and none of the ring
@@ -7,44 +8,45 @@
 use Rattle.std.specs.Prelude.{◌≡◌, ℕ, ◌+◌, ◌*◌, ◌<◌, Bool, false, slice_set, Option, Some, None}
 use Rattle.word_mem.specs.Memory.{Mem, with_word}
 use Rattle.link_words.specs.Links.{link_read, link_fields, IsLinkWord}
+use Rattle.driver_rows.specs.declared.rows.DriverRow.{DriverRow}
 use Rattle.driver_rows.specs.declared.rows.DriverRow.TheVariants as rows
 use Rattle.driver_rows.specs.DriverContent.{DriverContent}
-use Rattle.driver_rows.specs.Rows.{Parts, after_driver_row}
 use Rattle.hc_core.specs.Controller.{Content}
 use Rattle.lent_structures.specs.Structures.{Structure, Table, StructureSets, put, Tells}
 use Rattle.ring_laws.specs.Hand.{Hand}
 use Rattle.ring_laws.specs.Ring.{Base}
 use Rattle.controlled_streams.specs.Control.{FrameList}
+use Rattle.driver_laws.specs.Driven.{IsOperating}
 use Rattle.frame_walk.specs.Met.{Kind, IsMetAs}
 use Rattle.frame_walk.specs.FrameHand.{FrameHand}
 use Rattle.frame_control.specs.Both.{RunsBoth}
 use Rattle.frame_stores.specs.Stores.{HasLink, linked, frame_linked, IsMetFurther}
 use Rattle.described_parts.specs.Described.{HasDescriptor}
 use Rattle.described_parts.specs.Meeting.{kind_of_descriptor, standing, met}
-use Rattle.described_parts.specs.Recent.{DrivesFrames}
+use Rattle.described_parts.specs.Recent.{DrivesFrames, driver_after, content_after}
 use Rattle.described_parts.specs.RowLaws.{HasFrames}
 
 -- ---- rows that store nothing
 
+abbrev pub DrivesAfter : DriverRow → Base → (ℕ → Bool) → (ℕ → Option Kind) → StructureSets → StructureSets → Hand → FrameHand → Content → DriverContent → Type 0
+DrivesAfter row base member recent descs parts hand frame c d = DrivesFrames base member recent descs parts hand frame (content_after row c d) (driver_after row c d)
+
 abbrev pub ReadFrameDrives : Type 0
-ReadFrameDrives = (base : Base) (member : ℕ → Bool) (recent : ℕ → Option Kind) (descs parts : StructureSets) (hand : Hand) (frame : FrameHand) (c : Content) (index : ℕ) (p : Parts)
-    → DrivesFrames base member recent descs parts hand frame c index p.driver
-    → DrivesFrames base member recent descs parts hand frame c index (after_driver_row (rows.ReadFrame index) p).driver
+ReadFrameDrives = (base : Base) (member : ℕ → Bool) (recent : ℕ → Option Kind) (descs parts : StructureSets) (hand : Hand) (frame : FrameHand) (c : Content) (d : DriverContent)
+    → DrivesFrames base member recent descs parts hand frame c d → DrivesAfter (rows.ReadFrame c.registers.frame_index) base member recent descs parts hand frame c d
 
 abbrev pub ReadStatusDrives : Type 0
-ReadStatusDrives = (base : Base) (member : ℕ → Bool) (recent : ℕ → Option Kind) (descs parts : StructureSets) (hand : Hand) (frame : FrameHand) (c : Content) (index : ℕ) (p : Parts) (heard : Bool)
-    → DrivesFrames base member recent descs parts hand frame c index p.driver
-    → DrivesFrames base member recent descs parts hand frame c index (after_driver_row (rows.ReadStatus heard) p).driver
+ReadStatusDrives = (base : Base) (member : ℕ → Bool) (recent : ℕ → Option Kind) (descs parts : StructureSets) (hand : Hand) (frame : FrameHand) (c : Content) (d : DriverContent) (heard : Bool)
+    → DrivesFrames base member recent descs parts hand frame c d → DrivesAfter (rows.ReadStatus heard) base member recent descs parts hand frame c d
 
 abbrev pub AdvanceDrives : Type 0
-AdvanceDrives = (base : Base) (member : ℕ → Bool) (recent : ℕ → Option Kind) (descs parts : StructureSets) (hand : Hand) (frame : FrameHand) (c : Content) (index : ℕ) (p : Parts)
-    → DrivesFrames base member recent descs parts hand frame c index p.driver
-    → DrivesFrames base member recent descs parts hand frame c index (after_driver_row rows.ClearAdvance p).driver
+AdvanceDrives = (base : Base) (member : ℕ → Bool) (recent : ℕ → Option Kind) (descs parts : StructureSets) (hand : Hand) (frame : FrameHand) (c : Content) (d : DriverContent)
+    → DrivesFrames base member recent descs parts hand frame c d → DrivesAfter rows.ClearAdvance base member recent descs parts hand frame c d
 
+-- the doorbell is rung by a word that sets Run and both Enables
 abbrev pub BellDrives : Type 0
-BellDrives = (base : Base) (member : ℕ → Bool) (recent : ℕ → Option Kind) (descs parts : StructureSets) (hand : Hand) (frame : FrameHand) (c : Content) (index : ℕ) (p : Parts)
-    → DrivesFrames base member recent descs parts hand frame c index p.driver
-    → DrivesFrames base member recent descs parts hand frame c index (after_driver_row rows.RingBell p).driver
+BellDrives = (base : Base) (member : ℕ → Bool) (recent : ℕ → Option Kind) (descs parts : StructureSets) (hand : Hand) (frame : FrameHand) (c : Content) (d : DriverContent)
+    → IsOperating base → DrivesFrames base member recent descs parts hand frame c d → DrivesAfter rows.RingBell base member recent descs parts hand frame c d
 
 -- ---- stores
 

@@ -2,18 +2,22 @@
 //!
 //! - `part_laws`, `part_worked`: The isochronous descriptors of a driver beside its queues (EHCI 1.0, 3, 4.6, 4.7, 4.8 and 4.12.3): which of them stand in
 //!   memory, with their buffers, that one memory is told by both, and what an event of the controller leaves of them.
+//! - `given_laws`, `given_worked`: What is given back of isochronous descriptors beside a ring and the frames that a controller walks (EHCI 1.0, 2.3.4, 3.3, 3.4 and 4.6).
 //! - `lend_laws`, `lend_worked`: Isochronous descriptors are accepted and lent, beside what memory tells already (EHCI 1.0, 3.3, 3.4, 4.7 and 4.12.3).
 //! - `command_laws`, `command_worked`: A command with isochronous descriptors beside a ring and the frames that a controller walks (EHCI 1.0, 4.6 to 4.8, 4.10
 //!   and 4.12.3).
 //! - `queue_laws`, `queue_worked`: The walk of a ring beside isochronous descriptors (EHCI 1.0, 4.8 and 4.10).
 //! - `row_laws`, `row_worked`: Whom the walk of the frames may meet, by what a driver has (EHCI 1.0, 3.1, 3.3, 3.4, 3.6, 4.6 and 4.7): the members of its frame
 //!   list, and within one microframe those that were unlinked in it.
+//! - `store_laws`, `store_worked`: The driver's own stores of its frame list, beside both walks (EHCI 1.0, 3.1, 3.3.1, 3.4.1, 3.6.1 and 4.6).
 //!
 //! The crate has no code of its own: each function is a law, and its body is empty.
 #![tactic(auto)]
 
 pub mod command_laws;
 pub mod command_worked;
+pub mod given_laws;
+pub mod given_worked;
 pub mod lend_laws;
 pub mod lend_worked;
 pub mod part_laws;
@@ -22,3 +26,5 @@ pub mod queue_laws;
 pub mod queue_worked;
 pub mod row_laws;
 pub mod row_worked;
+pub mod store_laws;
+pub mod store_worked;

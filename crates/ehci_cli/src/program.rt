@@ -38,7 +38,7 @@ use usb_base::{Sink, Source};
 /// Where the script opens high-speed bulk endpoints only, cancelled or not, the bytes that the report tells of each IN endpoint begin its stream, each once and in
 /// order, and nothing follows its end; those that it tells of each OUT endpoint begin what its device took, and these begin what was put to it: after the run, and
 /// at each moment of it, whatever is lost, damaged or held. After a run of which each line was carried out these are all its streams. And at each moment nothing of
-/// the driver is out of place in memory, the walk of the ring stands at its queue heads alone, or at those that left it since the last answered doorbell, and the
+/// the driver is out of place in memory, the walk of the ring stands at its queue heads alone, or at those that left it since the last answered doorbell was rung, and the
 /// controller runs, meets no fault and is refused no word.
 #[tactic(auto, using(crate::proofs::Admitted::source_admits, crate::proofs::Admitted::source_keeps_to_lent, crate::proofs::Admitted::source_owns, crate::proofs::Admitted::source_keeps_schedule, crate::proofs::Streams::source_keeps_streams, crate::proofs::Streams::source_keeps_places))]
 pub fn ehci<S: Source, K: Sink>(

@@ -1,7 +1,7 @@
 -- What is known of the endpoints that have left the ring of a world of bulk endpoints, and of those that were given back (EHCI 1.0, 4.8.2; USB 2.0, 5.8 and 8.6).
---     AreShut d takes          an OUT endpoint that the walk can't meet any more has no taker
+--     AreShut d takes          an OUT endpoint that the walk can't meet any more is none of these, so nothing is claimed of its pipe
 --     IsLeft fixed takes packets acc w     the walk is among the queue heads that it may meet, what is owed is of these, what was moved and told of the others
---                              begins their packets, or what their devices took, and these have no taker
+--                              begins their packets, or what their devices took, and no OUT endpoint of them is in `takes`
 --     taking_of takes d        the devices' endpoints with takers, but those of OUT endpoints of d that the walk can't meet any more
 --     after_event g            what stands after an event of the controller
 use Rattle.std.specs.Prelude.{◌≡◌, ℕ, Bool, false, List, slice_get, Some}

@@ -36,7 +36,8 @@ use Rattle.frame_walk.specs.FrameEffects.{FrameHappens}
 use Rattle.frame_walk.specs.FrameEffects as effects
 use Rattle.frame_walk.specs.FrameSteps.{EventHappens}
 use Rattle.frame_control.specs.Both.{AreMet, AreApart, RunsBoth, BothEffect, of_ring, of_frame, ControlsBoth}
-use Rattle.frame_control.proofs.Staying.{ring_leaves, frame_leaves}
+use Rattle.frame_walk.proofs.Leaving.{frame_leaves}
+use Rattle.frame_control.proofs.Staying.{ring_leaves}
 
 -- ---- parts of a microframe
 

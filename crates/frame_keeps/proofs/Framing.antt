@@ -1,5 +1,5 @@
 -- Each event of the walk of the frames keeps parts.
-use Rattle.std.proofs.Common.{◌≡◌, ℕ, ◌+◌, ◌<◌, ◌≤◌, true, List, Option, Some, None, ap, sym, subst, ◌∙◌, arith}
+use Rattle.std.proofs.Common.{◌≡◌, ℕ, ◌+◌, ◌<◌, ◌≤◌, true, List, Option, Some, None, ap, refl, sym, subst, ◌∙◌, arith}
 use Rattle.usb_base.specs.declared.packets.Ask.{Ask}
 use Rattle.usb_base.specs.declared.packets.Reply.{Reply}
 use Rattle.buffers.specs.Bytes.{place}
@@ -10,6 +10,7 @@ use Rattle.walk_copy.specs.WriteBack.{moved_by as queue_moved_by}
 use Rattle.iso_visits.specs.declared.held.SplitOutcome.{SplitOutcome}
 use Rattle.iso_visits.specs.Sitd.{sitd_place, missed_copy}
 use Rattle.iso_visits.specs.WriteBack.{itd_pages, slot_place, sitd_pages, sitd_received, moved_by}
+use Rattle.async_walk.specs.declared.state.WalkStep.{WalkStep}
 use Rattle.periodic_walk.specs.Place.{FramePlace}
 use Rattle.lent_structures.specs.Structures.{QueueHead, Buffer, SplitIsochronous, HoldsBuffer, StructureSets, put}
 use Rattle.lent_structures.specs.WriteBack.{received_parts}
@@ -23,9 +24,10 @@ use Rattle.frame_walk.specs.FrameHand.{ItdCopy, SitdCopy, FrameHand, OfQueue, Of
 use Rattle.frame_walk.specs.Frame.{IsCopiedQueue, IsCopiedItd, IsMoved, IsTurned, IsCopiedSitd, IsInFrame, IsFrame}
 use Rattle.frame_walk.specs.FrameEffects.{itd_back, sitd_back, TakesOne, WritesQueue, WritesItd, IsWrittenFrom, made, missed, WritesSitd, WritesOne, of_queue, of_itd, of_sitd}
 use Rattle.frame_walk.specs.FrameEffects.FrameEffect.{fetches, passes, ends, takes, makes, writes}
+use Rattle.frame_walk.specs.Walks.{HappenInTurn, none as over, first}
 use Rattle.frame_keeps.specs.Kept.{IsSitdAfter, KeepsParts, HasBytesLeft}
-use Rattle.frame_keeps.specs.Laws.{FrameKeeps}
-use Rattle.frame_keeps.proofs.Keeping.{head_keeps, found_sitd, parts_itself, parts_put}
+use Rattle.frame_keeps.specs.Laws.{FrameKeeps, WalkKeeps}
+use Rattle.frame_keeps.proofs.Keeping.{head_keeps, found_sitd, parts_itself, parts_both, parts_put}
 use Rattle.frame_keeps.proofs.Backs.{advanced_bare, written_bare, settled_current, published, back_keeps, itd_after_back, itd_back_keeps, sitd_back_keeps, made_after, missed_after}
 
 abbrev as_copy : Hand → Copy → Copy
@@ -144,3 +146,14 @@ frame_keeps transacts met parts hand p wire after now later _ k (ends none nothi
 frame_keeps transacts met parts hand p wire after now later _ k (makes r same) = parts_itself parts now same
 frame_keeps transacts met parts hand p wire after now later _ k (takes r quiet) = took met parts hand p k now later r
 frame_keeps transacts met parts hand p wire after now later _ k (writes r quiet) = wrote met parts hand p k now later r
+
+-- ---- however many
+
+module _ {W : Type 0} (transacts : W → Ask → List ℕ → Reply → W → Type 0) (met : ℕ → Option Kind) (new : FramePlace) (after : W) (now : StructureSets) (later : FrameHand) where
+  turns_keep : (kinds : List WalkStep) (p : FramePlace) (wire : W) (parts : StructureSets) (hand : FrameHand) → IsFrame met parts hand p → HappenInTurn transacts met new after now later kinds p wire parts hand → KeepsParts parts now
+  turns_keep kinds p wire parts hand k over = parts_itself parts parts refl
+  turns_keep kinds p wire parts hand k (first kind rest at mid before between old held is leads h more) =
+      parts_both parts h.now now (frame_keeps transacts met parts hand p wire between h.now h.later kind k h.effect) (turns_keep rest mid between h.now h.later h.frame more)
+
+pub walk_keeps : {W : Type 0} (transacts : W → Ask → List ℕ → Reply → W → Type 0) → WalkKeeps transacts
+walk_keeps transacts met parts hand wire after p new kinds k w = turns_keep transacts met new after w.now w.later kinds p wire parts hand k w.events

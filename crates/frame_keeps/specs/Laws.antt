@@ -1,5 +1,6 @@
 -- What an event of either walk keeps, and which words stay so.
 --     FrameKeeps transacts     an event of the walk of the frames keeps structures
+--     WalkKeeps transacts      so do however many of them that follow each other
 --     RingKeeps transacts      and one of the ring's walk
 --     ControlKeeps ..          and one of the controller over a ring
 --     KeptIsLeft               where memory is told before and after, the words that are kept stay
@@ -21,12 +22,17 @@ use Rattle.frame_walk.specs.Met.{Kind}
 use Rattle.frame_walk.specs.FrameHand.{FrameHand}
 use Rattle.frame_walk.specs.Frame.{IsFrame}
 use Rattle.frame_walk.specs.FrameEffects.{FrameEffect}
+use Rattle.frame_walk.specs.Walks.{IsWalked}
 use Rattle.frame_keeps.specs.Kept.{KeepsParts}
 use Rattle.frame_keeps.specs.Leaving.{LeavesStructures}
 
 abbrev pub FrameKeeps : {W : Type 0} → (W → Ask → List ℕ → Reply → W → Type 0) → Type 0
 FrameKeeps {W} transacts = (met : ℕ → Option Kind) (parts : StructureSets) (hand : FrameHand) (p : FramePlace) (wire after : W) (now : StructureSets) (later : FrameHand) (kind : WalkStep)
     → IsFrame met parts hand p → FrameEffect transacts parts p.walk hand wire after now later kind → KeepsParts parts now
+
+abbrev pub WalkKeeps : {W : Type 0} → (W → Ask → List ℕ → Reply → W → Type 0) → Type 0
+WalkKeeps {W} transacts = (met : ℕ → Option Kind) (parts : StructureSets) (hand : FrameHand) (wire after : W) (p new : FramePlace) (kinds : List WalkStep)
+    → IsFrame met parts hand p → (w : IsWalked transacts met parts hand wire after p new kinds) → KeepsParts parts w.now
 
 abbrev pub RingKeeps : {W : Type 0} → (W → Ask → List ℕ → Reply → W → Type 0) → Type 0
 RingKeeps {W} transacts = (base : Base) (member : ℕ → Bool) (parts : StructureSets) (hand : Hand) (p : WalkPlace) (wire after : W) (now : StructureSets) (later : Hand) (kind : WalkStep)

@@ -9,14 +9,15 @@ ghost use Rattle.driver_laws.specs.Inventory.{SameSorts};
 ghost use Rattle.driver_laws.specs.Extents.{KeepExtents};
 ghost use Rattle.frame_keeps.specs.Kept.{IsItdAfter, IsSitdAfter, KeepsPart, KeepsParts, HasSlots, HasBytesLeft};
 ghost use Rattle.frame_keeps.specs.Leaving.{LeavesStructures, IsWithin};
-ghost use Rattle.frame_keeps.specs.Laws.{FrameKeeps, RingKeeps, ControlKeeps, KeptIsLeft};
+ghost use Rattle.frame_keeps.specs.Laws.{FrameKeeps, WalkKeeps, RingKeeps, ControlKeeps, KeptIsLeft};
 
 use usb_base::Wire;
 
-/// Each event of the walk of the frames keeps so much of each structure; so does each of the ring's walk, each of the controller's over a ring, and any number
-/// of them one after the other.
+/// Each event of the walk of the frames keeps so much of each structure, and so do however many of them that follow each other; so does each of the ring's walk,
+/// each of the controller's over a ring, and any number of them one after the other.
 pub fn each_event_keeps_structures<W: Wire>()
     ensures frames { FrameKeeps W.transacts }
+    ensures walk { WalkKeeps W.transacts }
     ensures ring { RingKeeps W.transacts }
     ensures controller { ControlKeeps W.begins W.transacts }
     ensures both { (parts mid now : StructureSets) → KeepsParts parts mid → KeepsParts mid now → KeepsParts parts now }

@@ -1,5 +1,5 @@
 -- A ring and the frames beside it, under a driver's stores, lends and returns of runs.
-use Rattle.std.proofs.Common.{◌≡◌, ◌≢◌, ℕ, ◌+◌, ◌*◌, ◌/◌, ◌%◌, ◌<◌, Bool, true, false, if◌then◌else◌, List, [], length, get_or, set, slice_index, Option, Some, None, ap, refl, sym, subst, ◌∙◌, ⊎_elim, arith}
+use Rattle.std.proofs.Common.{◌≡◌, ◌≢◌, ℕ, ◌+◌, ◌*◌, ◌/◌, ◌%◌, ◌<◌, Bool, true, false, List, [], length, get_or, set, slice_index, Option, Some, None, ap, refl, sym, subst, ◌∙◌, ⊎_elim, arith}
 use Rattle.std.proofs.lemmas.Bool.{cases_eq, true≢false}
 use Rattle.std.proofs.lemmas.Option.{same_Some}
 use Rattle.std.proofs.lemmas.List.{get_or-set_same, get_or-set_other, length-set}
@@ -28,7 +28,7 @@ use Rattle.ring_laws.proofs.Ringing.{ring_at, cursor_same}
 use Rattle.controlled_streams.specs.Control.{FrameList}
 use Rattle.frame_walk.specs.Met.{Kind, LeadsTo, IsMetAs}
 use Rattle.frame_walk.specs.FrameHand.{FrameHand, Nothing}
-use Rattle.frame_walk.specs.Frame.{IsFrameWalk, IsFrame}
+use Rattle.frame_walk.specs.Frame.{IsFrame}
 use Rattle.frame_control.specs.Both.{LeadToMet, AreMet, AreApart, RunsBoth}
 use Rattle.frame_stores.specs.Stores.{HasLink, linked, frame_linked, KeepsMet, LeavesMet, LeavesMembers, IsMetFurther, AreMetAmong, IsFrameAmong}
 use Rattle.frame_stores.proofs.Linking.{link_told, all_met_linked, frame_link_stored, fields_range, fields_word, fields_lead}

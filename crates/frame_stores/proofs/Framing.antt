@@ -1,5 +1,5 @@
 -- The frames where other structures change, come and go, and where more or fewer are met.
-use Rattle.std.proofs.Common.{◌≡◌, ◌≢◌, ℕ, ◌+◌, ◌*◌, ◌<◌, Bool, true, false, List, length, set, Option, Some, None, ap, refl, sym, subst, ◌∙◌, ⊎_elim}
+use Rattle.std.proofs.Common.{◌≡◌, ◌≢◌, ℕ, ◌+◌, ◌*◌, ◌<◌, List, length, set, Option, Some, None, ap, refl, sym, subst, ◌∙◌, ⊎_elim}
 use Rattle.std.proofs.lemmas.Bool.{cases_eq}
 use Rattle.std.proofs.lemmas.Option.{same_Some}
 use Rattle.usb_base.specs.declared.packets.Reply.{Reply}
@@ -17,7 +17,7 @@ use Rattle.frame_walk.specs.Met.{Kind, AQueue, AnItd, ASitd, LeadsTo, IsMetAs}
 use Rattle.frame_walk.specs.FrameHand.{FrameHand, Nothing, OfQueue, OfSettled, OfItd, OfSitd}
 use Rattle.frame_walk.specs.Frame.{IsInFrame, IsFrame}
 use Rattle.frame_control.specs.Both.{AreMet}
-use Rattle.frame_stores.specs.Stores.{link_in, KeepsMet, LeavesMet, IsMetFurther, AreMetAmong, IsFrameHandAmong, IsFrameAmong}
+use Rattle.frame_stores.specs.Stores.{KeepsMet, LeavesMet, IsMetFurther, AreMetAmong, IsFrameHandAmong, IsFrameAmong}
 use Rattle.frame_stores.proofs.Linking.{met_but_one, met_put}
 
 -- ---- where each that is met is as it was
@@ -34,7 +34,7 @@ in_hand_kept met parts now got reply (OfItd c) keeps k = record {
   same = k.same;
   held = k.held;
   slot = k.slot;
-  few = k.few;
+  count = k.count;
   small = k.small;
   begun = k.begun;
 }
@@ -179,7 +179,7 @@ in_hand_further met wider parts got reply (OfItd c) more k = record {
   same = k.same;
   held = k.held;
   slot = k.slot;
-  few = k.few;
+  count = k.count;
   small = k.small;
   begun = k.begun;
 }
@@ -219,7 +219,7 @@ in_hand_among met narrow parts got reply (OfItd c) among k = record {
   same = k.same;
   held = k.held;
   slot = k.slot;
-  few = k.few;
+  count = k.count;
   small = k.small;
   begun = k.begun;
 }

@@ -1,5 +1,5 @@
 -- The link of a structure is stored: memory is told, those that are met are sound, and a copy in hand is of what stands there now.
-use Rattle.std.proofs.Common.{◌≡◌, ◌≢◌, ℕ, ◌+◌, ◌*◌, ◌%◌, ◌<◌, Bool, true, false, ◌==◌, if◌then◌else◌, List, length, Option, Some, None, ap, refl, sym, subst, ◌∙◌, ⊎_elim, arith}
+use Rattle.std.proofs.Common.{◌≡◌, ◌≢◌, ℕ, ◌+◌, ◌*◌, ◌%◌, Bool, true, false, ◌==◌, if◌then◌else◌, List, Option, Some, None, ap, refl, sym, subst, ◌∙◌, ⊎_elim, arith}
 use Rattle.std.proofs.lemmas.Bool.{cases_eq, true≢false, eq-eqb, eqb-true}
 use Rattle.std.proofs.lemmas.Option.{same_Some}
 use Rattle.usb_base.specs.declared.packets.Reply.{Reply}
@@ -36,7 +36,7 @@ use Rattle.lent_structures.specs.Sound.{IsSoundQueue}
 use Rattle.lent_structures.specs.Alters.{Alters}
 use Rattle.lent_structures.proofs.Altering.{no_two, head_put}
 use Rattle.lent_structures.proofs.Members.{leads_still}
-use Rattle.ring_laws.specs.Hand.{Copy, copied_queue, Settlement}
+use Rattle.ring_laws.specs.Hand.{Copy, Settlement}
 use Rattle.ring_laws.specs.Ring.{IsSettled}
 use Rattle.ring_laws.specs.Stores.{copy_linked}
 use Rattle.ring_laws.proofs.Driving.{copied_same}
@@ -214,14 +214,14 @@ itd_copy_linked met parts got n s l c there k = record {
   same = itd_same (c.held.at == n) l c.held.itd c.itd k.same;
   held = k.held;
   slot = extent_linked (c.held.at == n) l c.itd c.held.number c.held.slot k.slot;
-  few = k.few;
+  count = k.count;
   small = k.small;
   begun = k.begun;
 }
 
 turned_linked : (b : Bool) (l : LinkBits) (c : SitdCopy) (reply : Reply) (o : Option SplitOutcome) → IsTurned c reply o → IsTurned (record c { sitd = if b then record c.sitd { link = l } else c.sitd }) reply o
 turned_linked true l c reply None same = ap (λ (x : Sitd). record x { link = l }) same
-turned_linked true l c reply (Some o) k = record { works = k.works; same = k.same; left = k.left; few = k.few; small = k.small }
+turned_linked true l c reply (Some o) k = record { works = k.works; same = k.same; left = k.left; count = k.count; small = k.small }
 turned_linked false l c reply o k = k
 
 sitd_copy_linked : (met : ℕ → Option Kind) (parts : StructureSets) (reply : Reply) (n : ℕ) (s : Structure) (l : LinkBits) (c : SitdCopy) → parts n n ≡ Some s → IsCopiedSitd met parts reply c → IsCopiedSitd met (put parts n n (linked l s)) reply (sitd_linked n l c)

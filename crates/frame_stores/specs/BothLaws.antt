@@ -1,6 +1,6 @@
 -- Laws of a driver beside a ring and the frames under the controller (EHCI 1.0, 4.6 to 4.10), at any moment of a microframe: what it does to the frames
 -- leaves the ring, and what it does to the ring leaves the frames.
-use Rattle.std.specs.Prelude.{◌≡◌, ◌≢◌, ℕ, ◌+◌, ◌*◌, ◌<◌, Bool, true, false, List, slice_set, Option, Some, None}
+use Rattle.std.specs.Prelude.{◌≡◌, ◌≢◌, ℕ, ◌+◌, ◌*◌, ◌<◌, Bool, false, List, slice_set, Option, Some, None}
 use Rattle.word_mem.specs.Memory.{Mem, with_word}
 use Rattle.link_words.specs.declared.fields.LinkBits.{LinkBits}
 use Rattle.link_words.specs.Layout.{word_of, IsWordInRange}

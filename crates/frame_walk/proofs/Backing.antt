@@ -22,11 +22,11 @@ use Rattle.lent_structures.specs.WriteBack.{received_parts}
 use Rattle.link_words.specs.Links.{link_of}
 use Rattle.frame_walk.specs.Met.{Kind, IsBuffered, LeadsTo, IsMetItd}
 use Rattle.frame_walk.specs.FrameHand.{ItdCopy}
-use Rattle.frame_walk.specs.Frame.{IsCopiedItd}
+use Rattle.frame_walk.specs.Frame.{received_of, IsCopiedItd}
 use Rattle.frame_walk.specs.FrameEffects.{itd_back, itd_parts}
 use Rattle.frame_walk.specs.ItdBacks.{IsItdSent, IsItdBack}
 use Rattle.frame_walk.proofs.Buffered.{part_buffered, IsRead, all_read, IsPut, all_put, received_else, received_beside, received_alters, altered_buffered, buffered_beside}
-use Rattle.frame_walk.proofs.Slots.{itd_is_no_buffer, here_same, slots_buffered, slot_buffered, next_within, got_buffered, slot_reached, back_slot, back_other, done_rests, place_small}
+use Rattle.frame_walk.proofs.Slots.{itd_is_no_buffer, here_same, slots_buffered, slot_buffered, next_within, got_buffered, slot_reached, back_slot, back_other, done_counts, done_rests, place_small}
 
 -- ---- what goes out
 
@@ -108,6 +108,7 @@ module _ (met : ℕ → Option Kind) (parts : StructureSets) (m : Mem) (got : Li
   itd_back_is = record {
     into = put_there.into;
     received_is = put_there.are;
+    count = copied.count ∙ ap (received_of c.held.itd.dir_in) (sym (ap (λ (s : ItdSlot). s.length) (back_slot c itd_holds_there.range.eight copied.held.number) ∙ done_counts c.held));
     all = ap (λ (w : Writing). w.all) written_whole;
     tells = subst (λ (w : Writing). Tells w.memory (itd_parts parts c got put_there.into)) (sym written_whole) written_told;
     met_is = still_met;

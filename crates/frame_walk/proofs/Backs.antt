@@ -27,8 +27,9 @@ use Rattle.frame_walk.specs.Met.{Kind, LeadsTo, IsBuffered, IsMetSitd}
 use Rattle.frame_walk.specs.FrameHand.{SitdCopy}
 use Rattle.frame_walk.specs.Frame.{turned, IsMoved, IsTurned}
 use Rattle.frame_walk.specs.FrameEffects.{sitd_back}
+use Rattle.frame_walk.proofs.Counted.{in_few as moved_in}
 use Rattle.frame_walk.proofs.PartTurning.{place_moved}
-use Rattle.frame_walk.specs.SitdBacks.{IsSitdInHand, AreRead, received_by, AreReceivedBy, parts_after}
+use Rattle.frame_walk.specs.SitdBacks.{IsSitdInHand, AreRead, received_by, AreReceivedBy, parts_after, IsCounted}
 use Rattle.frame_walk.proofs.Turned.{unmoved, works_active}
 use Rattle.frame_walk.proofs.Reaching.{all_read, fewer_buffered, put_there, received_told, received_written, split_is_no_buffer, received_else, still_buffered}
 use Rattle.frame_walk.proofs.States.{state_put}
@@ -108,11 +109,21 @@ module _ (met : ℕ → Option Kind) (parts : StructureSets) (m : Mem) (reply : 
   pub received_put : IsSitdInHand met parts m reply c → c.held.settled ≡ Some o → (into : Received) × AreReceivedBy parts c o reply into
   received_put k settled =
       let moved = moved_copy k settled in
-      let few = moved.few in
+      let few : length (received_by c o reply) ≤ moved_by o = subst (λ (n : ℕ). n ≤ moved_by o) (sym moved.count) (moved_in c.held.sitd.dir_in (moved_by o)) in
       let left = moved.left in
       put_there (parts c.held.at) (sitd_pages c.held.sitd) (sitd_place c.held.sitd) (received_by c o reply)
       (λ some. fewer_buffered (parts c.held.at) (sitd_pages c.held.sitd) (sitd_place c.held.sitd) c.sitd.total (length (received_by c o reply)) (omega (arith, few, left)) (left_before k moved (omega (arith, few, left, some))))
       moved.small
+
+  -- just these are counted
+  total_kept : (n : ℕ) (d : Sitd) (v : Sitd) → (record (moved_sitd n v) { link = d.link }).total ≡ v.total
+  unfolding moved_sitd
+  total_kept n d v = refl
+
+  pub counted : IsSitdInHand met parts m reply c → c.held.settled ≡ Some o → IsCounted c o reply
+  counted k settled =
+      let moved = moved_copy k settled in
+      record { count = moved.count; left = ap (λ (n : ℕ). n + moved_by o) (total_kept (moved_by o) c.sitd c.held.sitd) ∙ moved.left }
 
   -- ---- the write-back
 

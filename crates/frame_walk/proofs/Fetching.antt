@@ -26,6 +26,7 @@ use Rattle.ring_laws.specs.Ring.{base_of}
 use Rattle.ring_laws.specs.Effects.{AreBytesHeard}
 use Rattle.frame_walk.specs.Met.{Kind, AQueue, AnItd, ASitd, LeadsTo, IsMetQueue, IsMetItd, IsMetSitd}
 use Rattle.frame_walk.specs.FrameHand.{FrameHand, Nothing, OfQueue, OfItd, OfSitd, fetched_copy, fetched_itd_copy, fetched_sitd_copy}
+use Rattle.frame_walk.proofs.Counted.{in_none}
 use Rattle.frame_walk.specs.Frame.{IsCopiedQueue, IsCopiedItd, IsCopiedSitd, IsFrameWalk, IsFrame}
 use Rattle.frame_walk.specs.FrameEffects.{of_queue, of_itd, of_sitd, fetches, FrameEffect, FrameHappens}
 use Rattle.frame_walk.specs.FrameEffects.FrameEffect.{ends}
@@ -55,7 +56,7 @@ module _ (met : ℕ → Option Kind) (parts : StructureSets) (p : FramePlace) (k
         same = refl;
         held = fetched_held a (microframe_of p.walk.index) m.itd h.aligned (early_below p.walk.index) h.range;
         slot = record { page = refl; offset = refl; length = refl; active = refl };
-        few = omega arith;
+        count = sym (in_none m.itd.dir_in);
         small = λ i. omega arith;
         begun = λ some. absurd (omega (arith, some));
       }

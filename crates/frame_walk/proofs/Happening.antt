@@ -125,7 +125,7 @@ module _ {W : Type 0} (transacts : W → Ask → List ℕ → Reply → W → Ty
               walk = record { cursor = k.walk.in_hand.link; held = refl; in_hand = tt };
             });
         registers = ap (λ (x : FramePlace). base_of x.registers) left ∙ raised_base c.held ended p.registers;
-        effect = writes (of_itd (record { copy = c; in_hand = refl; end = ended; ended = is; into = b.into; received_is = b.received_is; now_is = refl; nothing = refl })) lead.1;
+        effect = writes (of_itd (record { copy = c; in_hand = refl; end = ended; ended = is; into = b.into; received_is = b.received_is; count = b.count; now_is = refl; nothing = refl })) lead.1;
       })
 
   -- ---- by what there is to do

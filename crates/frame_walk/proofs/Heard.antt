@@ -1,5 +1,5 @@
 -- What an iTD in hand is once a transaction was made.
-use Rattle.std.proofs.Common.{◌≡◌, ℕ, zero, suc, Bool, true, false, nat_le, List, [], ◌∷◌, ◌++◌, length, if◌then◌else◌, Option, Some, None, refl, arith}
+use Rattle.std.proofs.Common.{◌≡◌, ℕ, zero, suc, Bool, true, false, nat_le, List, [], ◌∷◌, ◌++◌, length, if◌then◌else◌, Option, Some, None, ap, refl, sym, ◌∙◌, ◌+◌, arith}
 use Rattle.std.proofs.lemmas.List.{length-append}
 use Rattle.usb_base.specs.declared.packets.Reply.{Reply}
 use Rattle.usb_base.specs.declared.packets.Reply.TheVariants as replies
@@ -13,7 +13,7 @@ use Rattle.periodic_walk.specs.Itd.{with_heard, got_after}
 use Rattle.lent_structures.specs.Structures.{StructureSets}
 use Rattle.frame_walk.specs.Met.{Kind}
 use Rattle.frame_walk.specs.FrameHand.{ItdCopy}
-use Rattle.frame_walk.specs.Frame.{IsCopiedItd}
+use Rattle.frame_walk.specs.Frame.{received_of, IsCopiedItd}
 use Rattle.frame_walk.specs.ItdSteps.{AreBytes}
 
 -- ---- bytes
@@ -42,11 +42,12 @@ heard_length h (replies.Hand pid) k n e = absurd cc
 -- ---- the copy
 
 module _ (met : ℕ → Option Kind) (parts : StructureSets) (got : List ℕ) (reply : Reply) (c : ItdCopy) (copied : IsCopiedItd met parts got c) (active : c.held.slot.active ≡ true) (small : AreBytes (bytes_of reply)) where
-  heard_copied : (heard : Heard) → ((k n : ℕ) → heard ≡ heards.Packet k n → length (bytes_of reply) ≡ n) → IsItdHeld (after_heard c.held heard) → IsCopiedItd met parts (with_heard heard reply got) (record c { held = after_heard c.held heard })
-  heard_copied (heards.Packet k n) count held =
-      let few = copied.few in
+  heard_copied : c.held.itd.dir_in ≡ true → (heard : Heard) → ((k n : ℕ) → heard ≡ heards.Packet k n → length (bytes_of reply) ≡ n) → IsItdHeld (after_heard c.held heard) → IsCopiedItd met parts (with_heard heard reply got) (record c { held = after_heard c.held heard })
+  heard_copied into (heards.Packet k n) count held =
+      let before : length got ≡ c.held.moved = copied.count ∙ ap (λ (b : Bool). received_of b c.held.moved) into in
       let both = length-append got (bytes_of reply) in
       let more = count k n refl in
+      let all : length (got ++ bytes_of reply) ≡ c.held.moved + n = omega (arith, before, both, more) in
       record {
         on = copied.on;
         here = copied.here;
@@ -54,56 +55,54 @@ module _ (met : ℕ → Option Kind) (parts : StructureSets) (got : List ℕ) (r
         same = copied.same;
         held = held;
         slot = copied.slot;
-        few = omega (arith, few, both, more);
+        count = all ∙ ap (λ (b : Bool). received_of b (c.held.moved + n)) (sym into);
         small = are_appended got (bytes_of reply) copied.small small;
         begun = λ some. active;
       }
-  heard_copied heards.TooLong count held = record {
+  heard_copied into heards.TooLong count held = record {
     on = copied.on;
     here = copied.here;
     link = copied.link;
     same = copied.same;
     held = held;
     slot = record { page = copied.slot.page; offset = copied.slot.offset; length = copied.slot.length; active = copied.slot.active };
-    few = copied.few;
+    count = copied.count;
     small = copied.small;
     begun = copied.begun;
   }
-  heard_copied heards.Wrong count held = record {
+  heard_copied into heards.Wrong count held = record {
     on = copied.on;
     here = copied.here;
     link = copied.link;
     same = copied.same;
     held = held;
     slot = record { page = copied.slot.page; offset = copied.slot.offset; length = copied.slot.length; active = copied.slot.active };
-    few = copied.few;
+    count = copied.count;
     small = copied.small;
     begun = copied.begun;
   }
 
-  in_copied : IsItdHeld (after_in c.held reply) → IsCopiedItd met parts (with_heard (heard_in c.held reply) reply got) (record c { held = after_in c.held reply })
+  in_copied : c.held.itd.dir_in ≡ true → IsItdHeld (after_in c.held reply) → IsCopiedItd met parts (with_heard (heard_in c.held reply) reply got) (record c { held = after_in c.held reply })
   unfolding after_in
-  in_copied held = heard_copied (heard_in c.held reply) (heard_length c.held reply) held
+  in_copied into held = heard_copied into (heard_in c.held reply) (heard_length c.held reply) held
 
-  out_copied : IsItdHeld (after_out c.held) → IsCopiedItd met parts got (record c { held = after_out c.held })
+  out_copied : c.held.itd.dir_in ≡ false → IsItdHeld (after_out c.held) → IsCopiedItd met parts got (record c { held = after_out c.held })
   unfolding after_out
-  out_copied held =
-      let few = copied.few in
-      record {
-        on = copied.on;
-        here = copied.here;
-        link = copied.link;
-        same = copied.same;
-        held = held;
-        slot = copied.slot;
-        few = omega (arith, few);
-        small = copied.small;
-        begun = λ some. active;
-      }
+  out_copied out held = record {
+    on = copied.on;
+    here = copied.here;
+    link = copied.link;
+    same = copied.same;
+    held = held;
+    slot = copied.slot;
+    count = copied.count ∙ ap (λ (b : Bool). received_of b c.held.moved) out ∙ sym (ap (λ (b : Bool). received_of b (c.held.moved + limit_of c.held)) out);
+    small = copied.small;
+    begun = λ some. active;
+  }
 
-  way_copied : (b : Bool) → c.held.ended ≡ None → IsCopiedItd met parts (if b then with_heard (heard_in c.held reply) reply got else got) (record c { held = if b then after_in c.held reply else after_out c.held })
-  way_copied true going = in_copied (in_held c.held reply copied.held going)
-  way_copied false going = out_copied (out_held c.held copied.held going)
+  way_copied : (b : Bool) → c.held.itd.dir_in ≡ b → c.held.ended ≡ None → IsCopiedItd met parts (if b then with_heard (heard_in c.held reply) reply got else got) (record c { held = if b then after_in c.held reply else after_out c.held })
+  way_copied true way going = in_copied way (in_held c.held reply copied.held going)
+  way_copied false way going = out_copied way (out_held c.held copied.held going)
 
 pub heard_keeps : (met : ℕ → Option Kind) (parts : StructureSets) (got : List ℕ) (reply : Reply) (c : ItdCopy) → IsCopiedItd met parts got c → c.held.ended ≡ None → c.held.slot.active ≡ true → AreBytes (bytes_of reply) → IsCopiedItd met parts (got_after c.held reply got) (record c { held = itd_after reply c.held })
-heard_keeps met parts got reply c copied going active small = way_copied met parts got reply c copied active small c.held.itd.dir_in going
+heard_keeps met parts got reply c copied going active small = way_copied met parts got reply c copied active small c.held.itd.dir_in refl going

@@ -35,7 +35,7 @@ copied = record {
   same = refl;
   held = in_held in_hand.held heard after_it.walk.in_hand.held refl;
   slot = record { page = refl; offset = refl; length = refl; active = refl };
-  few = omega arith;
+  count = refl;
   small = two_small;
   begun = λ some. refl;
 }

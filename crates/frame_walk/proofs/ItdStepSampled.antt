@@ -1,19 +1,23 @@
 -- The worked transaction.
-use Rattle.std.proofs.Common.{◌≡◌, zero, suc, [], ◌∷◌, ap, refl, sym, subst, arith}
+use Rattle.std.proofs.Common.{◌≡◌, true, zero, suc, [], ◌∷◌, Some, ap, refl, sym, subst, arith}
 use Rattle.buffers.specs.Bytes.{places, all_reached, bytes_at}
-use Rattle.itd_sitd.specs.Itd.{itd_words}
+use Rattle.itd_sitd.specs.Itd.{itd_words, slot_of}
 use Rattle.qh_qtd.specs.QueueHead.{qh_words}
-use Rattle.iso_visits.specs.Itd.{fetched_itd}
-use Rattle.iso_visits.specs.WriteBack.{bytes_of}
+use Rattle.iso_visits.specs.declared.held.IsoEnd.TheVariants.{Failed}
+use Rattle.iso_visits.specs.Itd.{fetched_itd, after_in}
+use Rattle.iso_visits.specs.WriteBack.{bytes_of, done_slot}
 use Rattle.async_walk.specs.declared.state.WalkStep.TheVariants as steps
+use Rattle.periodic_walk.specs.Itd.{got_after}
 use Rattle.periodic_walk.specs.Rows.{step_of, Leads}
 use Rattle.ring_laws.specs.Effects.{AreBytesHeard}
 use Rattle.frame_walk.specs.FrameHand.{OfItd}
-use Rattle.frame_walk.specs.Frame.{IsFrame}
+use Rattle.frame_walk.specs.Frame.{IsCopiedItd, IsFrame}
+use Rattle.frame_walk.specs.FrameEffects.{itd_back}
 use Rattle.frame_walk.specs.PartSamples.{met, parts, in_hand, heard}
 use Rattle.frame_walk.proofs.PartSampled.{after_it}
+use Rattle.frame_walk.proofs.Heard.{heard_keeps}
 use Rattle.frame_walk.specs.ItdSteps.{AreBytes}
-use Rattle.frame_walk.specs.ItdStepSamples.{at, hears, left}
+use Rattle.frame_walk.specs.ItdStepSamples.{at, hears, left, too_long, babbled}
 
 pub frame_at : IsFrame met parts (OfItd in_hand) at
 frame_at = record {
@@ -41,3 +45,35 @@ transacts = refl
 pub two_kept : left.walk.got ≡ 5 ∷ 6 ∷ []
 unfolding fetched_itd
 two_kept = refl
+
+-- ---- a packet that is too long
+
+three_small : AreBytes (5 ∷ 6 ∷ 7 ∷ [])
+three_small zero = omega arith
+three_small (suc zero) = omega arith
+three_small (suc (suc zero)) = omega arith
+three_small (suc (suc (suc i))) = omega arith
+
+pub babble : babbled.held.slot.babble ≡ true
+unfolding fetched_itd after_in
+babble = refl
+
+pub failed : babbled.held.ended ≡ Some Failed
+unfolding fetched_itd after_in
+failed = refl
+
+pub none_kept : got_after in_hand.held too_long [] ≡ []
+unfolding fetched_itd
+none_kept = refl
+
+pub none_counted : babbled.held.moved ≡ 0
+unfolding fetched_itd after_in
+none_counted = refl
+
+pub none_noted : (slot_of 2 (itd_back babbled)).length ≡ 0
+unfolding fetched_itd after_in done_slot
+none_noted = refl
+
+pub still_copied : IsCopiedItd met parts [] babbled
+unfolding fetched_itd
+still_copied = heard_keeps met parts [] too_long in_hand after_it.walk.in_hand refl refl three_small

@@ -6,6 +6,7 @@ pub mod Taking
 pub mod Making
 pub mod Writing
 pub mod QueueVisitSampled
+pub mod Counted
 pub mod Buffered
 pub mod Slots
 pub mod Backing
@@ -31,5 +32,6 @@ pub mod ItdStepSampled
 pub mod Steps
 pub mod SitdStepSampled
 pub mod Walking
+pub mod Leaving
 pub mod Going
 pub mod WalkSampled

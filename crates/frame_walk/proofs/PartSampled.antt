@@ -236,7 +236,7 @@ copied = record {
   same = refl;
   held = fetched_held 64 2 itd refl (omega arith) itd_range;
   slot = record { page = refl; offset = refl; length = refl; active = refl };
-  few = omega arith;
+  count = refl;
   small = λ i. omega arith;
   begun = λ some. absurd (omega (arith, some));
 }

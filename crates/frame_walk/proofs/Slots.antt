@@ -18,6 +18,7 @@ use Rattle.frame_walk.specs.Met.{Kind, IsBuffered, IsMetItd}
 use Rattle.frame_walk.specs.FrameHand.{ItdCopy}
 use Rattle.frame_walk.specs.Frame.{IsCopiedItd}
 use Rattle.frame_walk.specs.FrameEffects.{itd_back}
+use Rattle.frame_walk.proofs.Counted.{in_few}
 use Rattle.frame_walk.proofs.Buffered.{part_buffered, buffered_within}
 
 pub itd_is_no_buffer : (v : Itd) (pages : List ℕ) (k : ℕ) (bs : List ℕ) → Isochronous v ≢ Buffer pages k bs
@@ -78,7 +79,7 @@ module _ (met : ℕ → Option Kind) (parts : StructureSets) (m : Mem) (got : Li
   -- the bytes that were received have their place in the buffer
   pub got_buffered : 0 < length got → IsBuffered (parts c.held.at) (itd_pages c.held.itd) (slot_place c.held.slot) (length got)
   got_buffered some =
-      let few = copied.few in
+      let few : length got ≤ c.held.moved = subst (λ (n : ℕ). n ≤ c.held.moved) (sym copied.count) (in_few c.held.itd.dir_in c.held.moved) in
       let within = copied.held.within in
       let more : 0 < c.held.moved = omega (arith, some, few) in
       part_buffered (parts c.held.at) (itd_pages c.held.itd) (slot_place c.held.slot) c.held.slot.length (slot_place c.held.slot) (length got)
@@ -102,6 +103,10 @@ back_slot c eight below = get_or-set_same c.itd.slots c.held.number (done_slot c
 
 pub back_other : (c : ItdCopy) (u : ℕ) → u ≢ c.held.number → slot_of u (itd_back c) ≡ slot_of u c.itd
 back_other c u differs = get_or-set_other c.itd.slots c.held.number u (done_slot c.held) no_slot differs
+
+pub done_counts : (h : HeldItd) → (done_slot h).length ≡ h.moved
+unfolding done_slot
+done_counts h = refl
 
 pub done_rests : (h : HeldItd) → (done_slot h).active ≡ false
 unfolding done_slot

@@ -38,7 +38,7 @@ use Rattle.frame_walk.specs.FrameEffects.IsWrittenFrom.{made, missed as was_miss
 use Rattle.frame_walk.proofs.StepStepping.{step_in_hand, effect_in_hand}
 use Rattle.frame_walk.specs.SitdBacks.{IsSitdInHand, transacted, missed, received_by, AreReceivedBy, parts_after}
 use Rattle.frame_walk.proofs.Turned.{transacted_in_hand, missed_in_hand}
-use Rattle.frame_walk.proofs.Backs.{sent as sends, received_put, all_written, told_back, met_again, others_stay}
+use Rattle.frame_walk.proofs.Backs.{sent as sends, received_put, counted, all_written, told_back, met_again, others_stay}
 
 -- the base of the registers stays where an interrupt is raised
 raised_base : (v : Sitd) (o : SplitOutcome) (r : RegisterFile) → base_of (sitd_raised v o r) ≡ base_of r
@@ -130,11 +130,12 @@ module _ {W : Type 0} (transacts : W → Ask → List ℕ → Reply → W → Ty
   after_back back o = record p { memory = (writing back.held o p.walk.reply p.memory).memory; walk = passed back.held.sitd.link p.walk; registers = sitd_raised back.held.sitd o p.registers }
 
   is_written : IsFrame met parts (OfSitd c) p → (back : SitdCopy) (o : SplitOutcome) → IsWrittenFrom p.walk c back → back.held.at ≡ c.held.at
-      → IsSitdInHand met parts p.memory p.walk.reply back → back.held.settled ≡ Some o
+      → back.sitd ≡ c.sitd → IsSitdInHand met parts p.memory p.walk.reply back → back.held.settled ≡ Some o
       → (new ≡ wrote back.held o p) × (after ≡ wire) → Happens (wrote_step back.held o p)
-  is_written frame back o from at k settled leads =
+  is_written frame back o from at same k settled leads =
       let w : Writing = writing back.held o p.walk.reply p.memory in
       let put = received_put met parts p.memory p.walk.reply back o k settled in
+      let count = counted met parts p.memory p.walk.reply back o k settled in
       let all = all_written met parts p.memory p.walk.reply back o put.0 k put.1 in
       let place : new ≡ after_back back o = leads.0 ∙ ap (λ (b : Bool). wrote_at b back.held o (record p { memory = w.memory })) all in
       let left : IsFrame met (parts_after parts back o p.walk.reply put.0) Nothing (after_back back o) = record {
@@ -157,6 +158,8 @@ module _ {W : Type 0} (transacts : W → Ask → List ℕ → Reply → W → Ty
           settled = settled;
           into = put.0;
           received_is = subst (λ (n : ℕ). AreReceivedAt (parts n) (sitd_pages back.held.sitd) (sitd_place back.held.sitd) (received_by back o p.walk.reply) put.0) at put.1;
+          count = count.count;
+          left = count.left ∙ ap (λ (v : Sitd). v.total) same;
           now_is = refl;
           nothing = refl;
         })) leads.1;
@@ -175,14 +178,14 @@ module _ {W : Type 0} (transacts : W → Ask → List ℕ → Reply → W → Ty
   by_turn frame heard none turns.Rest turn leads = is_passed frame none leads
   by_turn frame heard none turns.Work turn leads = by_time frame heard none turn (nat_lt p.walk.left (sitd_transaction c.held.sitd).price.0) leads
   by_turn frame heard none turns.Miss turn leads =
-      is_written frame (missed c) Failed (was_missed none turn refl) refl
+      is_written frame (missed c) Failed (was_missed none turn refl) refl refl
       (missed_in_hand met parts p.memory p.walk.reply p.walk.reply c (microframe_of p.walk.index) (in_hand frame) none turn) refl leads
 
   by_settled : IsFrame met parts (OfSitd c) p → AreBytesHeard transacts wire after → (s : Option SplitOutcome) → c.held.settled ≡ s
       → HasEffect transacts (sitd_effect (settled_row p.walk.left (microframe_of p.walk.index) c.held.sitd s) c.held p) wire new after
       → Happens (sitd_step (settled_row p.walk.left (microframe_of p.walk.index) c.held.sitd s) c.held p)
   by_settled frame heard None none leads = by_turn frame heard none (sitd_turn (microframe_of p.walk.index) c.held.sitd) refl leads
-  by_settled frame heard (Some o) settled leads = is_written frame c o (made refl) refl (in_hand frame) settled leads
+  by_settled frame heard (Some o) settled leads = is_written frame c o (made refl) refl refl (in_hand frame) settled leads
 
   pub sitd_happens : IsFrame met parts (OfSitd c) p → AreBytesHeard transacts wire after → Leads transacts p wire new after → Happens (step_of p)
   sitd_happens frame heard leads =

@@ -1,5 +1,5 @@
 -- The copy of a siTD that a transaction changed, or of which a microframe was missed, is one of the same siTD.
-use Rattle.std.proofs.Common.{◌≡◌, ℕ, ◌+◌, ◌<◌, ◌≤◌, Bool, true, false, if◌then◌else◌, length, slice_index, Option, None, ap, refl, sym, subst, ◌∙◌, arith}
+use Rattle.std.proofs.Common.{◌≡◌, ℕ, ◌+◌, ◌<◌, Bool, true, false, if◌then◌else◌, length, slice_index, Option, None, ap, refl, sym, subst, ◌∙◌, arith}
 use Rattle.std.specs.Prelude.{nat_le}
 use Rattle.std.proofs.lemmas.Bool.{leb-true}
 use Rattle.usb_base.specs.declared.packets.Pid.TheVariants as pids
@@ -21,7 +21,7 @@ use Rattle.iso_visits.proofs.Ranges.{part_in_range, complete_in_range, start_in_
 use Rattle.lent_structures.specs.Structures.{StructureSets}
 use Rattle.frame_walk.specs.Met.{Kind, LeadsTo}
 use Rattle.frame_walk.specs.FrameHand.{SitdCopy}
-use Rattle.frame_walk.specs.Frame.{turned, IsTurned, IsCopiedSitd}
+use Rattle.frame_walk.specs.Frame.{received_of, turned, IsTurned, IsCopiedSitd}
 use Rattle.frame_walk.proofs.PartTurning.{turn_same, miss_same}
 use Rattle.frame_walk.specs.SitdBacks.{IsSitdInHand, transacted, missed}
 
@@ -46,18 +46,18 @@ misses_active u v is = missing v.active (sitd_missed u v) (comes u v) is
 -- the bytes that are left, and the bytes that came
 record HeardFits (heard : SplitHeard) (v : Sitd) (reply : Reply) : Type 0 where
   left : (after_split_heard heard v).total + moved_by (heard_outcome heard) ≡ v.total
-  few : length (sitd_received true (heard_outcome heard) reply) ≤ moved_by (heard_outcome heard)
+  count : length (sitd_received true (heard_outcome heard) reply) ≡ moved_by (heard_outcome heard)
 
 data_fits : (last : Bool) (v : Sitd) (reply : Reply) (n : ℕ) (b : Bool) → nat_le n v.total ≡ b → length (bytes_of reply) ≡ n → HeardFits (if b then heards.Data last n else heards.TooLong) v reply
-data_fits last v reply n true le long = let fits = leb-true n v.total le in record { left = omega (arith, fits); few = omega (arith, long) }
-data_fits last v reply n false le long = record { left = omega arith; few = omega arith }
+data_fits last v reply n true le long = let fits = leb-true n v.total le in record { left = omega (arith, fits); count = long }
+data_fits last v reply n false le long = record { left = omega arith; count = refl }
 
 nyet_fits : (last : Bool) (v : Sitd) (reply : Reply) → HeardFits (if last then heards.Wrong else heards.Later) v reply
-nyet_fits true v reply = record { left = omega arith; few = omega arith }
-nyet_fits false v reply = record { left = omega arith; few = omega arith }
+nyet_fits true v reply = record { left = omega arith; count = refl }
+nyet_fits false v reply = record { left = omega arith; count = refl }
 
 wrong_fits : (v : Sitd) (reply : Reply) → HeardFits heards.Wrong v reply
-wrong_fits v reply = record { left = omega arith; few = omega arith }
+wrong_fits v reply = record { left = omega arith; count = refl }
 
 heard_fits : (last : Bool) (v : Sitd) (reply : Reply) → HeardFits (split_heard last v.total reply) v reply
 heard_fits last v Silent = wrong_fits v Silent
@@ -89,7 +89,7 @@ heard_fits last v (Hand pids.Nak) = wrong_fits v (Hand pids.Nak)
 heard_fits last v (Hand pids.Stall) = wrong_fits v (Hand pids.Stall)
 heard_fits true v (Hand pids.Nyet) = wrong_fits v (Hand pids.Nyet)
 heard_fits false v (Hand pids.Nyet) = nyet_fits false v (Hand pids.Nyet)
-heard_fits last v (Hand pids.Err) = record { left = omega arith; few = omega arith }
+heard_fits last v (Hand pids.Err) = record { left = omega arith; count = refl }
 heard_fits last v (Hand pids.Split) = wrong_fits v (Hand pids.Split)
 heard_fits last v (Hand pids.Ping) = wrong_fits v (Hand pids.Ping)
 
@@ -97,15 +97,15 @@ heard_fits last v (Hand pids.Ping) = wrong_fits v (Hand pids.Ping)
 
 record Moves (after : Sitd) (o : SplitOutcome) (dir_in : Bool) (total : ℕ) (reply : Reply) : Type 0 where
   left : after.total + moved_by o ≡ total
-  few : length (sitd_received dir_in o reply) ≤ moved_by o
+  count : length (sitd_received dir_in o reply) ≡ received_of dir_in (moved_by o)
 
 moves_at : (u : ℕ) (v : Sitd) (reply : Reply) (dir split : Bool)
     → Moves (if dir then (if split then after_complete u (heard_by u v reply) v else after_start v) else after_part u v)
     (if dir then (if split then heard_outcome (heard_by u v reply) else outcomes.Nothing) else outcomes.Moved (part_bytes v)) dir v.total reply
 unfolding after_complete after_start after_part
-moves_at u v reply true true = let fits = heard_fits _ v reply in record { left = fits.left; few = fits.few }
-moves_at u v reply true false = record { left = omega arith; few = omega arith }
-moves_at u v reply false split = record { left = omega arith; few = omega arith }
+moves_at u v reply true true = let fits = heard_fits _ v reply in record { left = fits.left; count = fits.count }
+moves_at u v reply true false = record { left = omega arith; count = refl }
+moves_at u v reply false split = record { left = omega arith; count = refl }
 
 moves : (u : ℕ) (v : Sitd) (reply : Reply) → Moves (sitd_after u reply v) (sitd_outcome u reply v) v.dir_in v.total reply
 moves u v reply = moves_at u v reply v.dir_in v.split_state
@@ -157,7 +157,7 @@ transacted_copy met parts before reply c u copied none turn low small =
         works = sym (ap (λ (x : Sitd). x.active) copy) ∙ works_active u v turn;
         same = same_turned v w c.sitd c.sitd.link copy same;
         left = omega (arith, left, whole);
-        few = subst (λ (b : Bool). length (sitd_received b o reply) ≤ moved_by o) dir moved.few;
+        count = subst (λ (b : Bool). length (sitd_received b o reply) ≡ received_of b (moved_by o)) dir moved.count;
         small = received_small w.dir_in o reply small;
       };
     }
@@ -172,9 +172,9 @@ missed_range : (v : Sitd) → IsSitdInRange v → IsSitdInRange (missed_sitd v)
 unfolding missed_sitd
 missed_range v range = range
 
-none_received : (dir : Bool) (reply : Reply) → length (sitd_received dir outcomes.Failed reply) ≤ 0
-none_received true reply = omega arith
-none_received false reply = omega arith
+none_received : (dir : Bool) (reply : Reply) → length (sitd_received dir outcomes.Failed reply) ≡ received_of dir 0
+none_received true reply = refl
+none_received false reply = refl
 
 none_small : (dir : Bool) (reply : Reply) (i : ℕ) → slice_index (sitd_received dir outcomes.Failed reply) i < 256
 none_small true reply i = omega arith
@@ -198,7 +198,7 @@ missed_copied met parts before reply c u copied none turn =
         works = sym (ap (λ (x : Sitd). x.active) copy) ∙ misses_active u v turn;
         same = same_turned v w c.sitd c.sitd.link copy (miss_same v);
         left = omega (arith, total, whole);
-        few = none_received w.dir_in reply;
+        count = none_received w.dir_in reply;
         small = none_small w.dir_in reply;
       };
     }

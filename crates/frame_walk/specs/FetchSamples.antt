@@ -1,4 +1,4 @@
--- Walks of worked rows, over the frame of an iTD and a queue head of frame_parts' rows.
+-- Walks of worked rows, over the frame of an iTD and a queue head of part_worked.
 --     is_asked                  a wire that is asked, whose count of transactions steps
 --     behind, queue_read        the cursor is behind the iTD, and the queue head was read
 --     last                      the cursor is at the end of the chain

@@ -2,13 +2,14 @@
 --     IsCopiedQueue, IsCopiedItd, IsCopiedSitd
 --                              a copy in hand is one of a structure that is met, and leads to others; its link may be an older one
 --     HasSameExtent s t        two words of a microframe tell the same bytes, and both are active or neither
---     IsMoved c reply o        what a transaction of a siTD changed: no word but its state and its transaction position
+--     received_of in n         of n bytes that were moved, how many were received: all where they come in, and none where they go out
+--     IsMoved c reply o        what a transaction of a siTD changed: no word but its state and its transaction position; and what it received
 --     IsTurned c reply settled nothing, before its transaction
 --     IsInFrame ..             what is in hand is so
 --     IsFrameWalk met parts hand p
 --                              the walk is among those that are met, and has this in hand
 --     IsFrame met parts hand p memory is told by these structures, those that are met are sound, and the walk is so
-use Rattle.std.specs.Prelude.{◌≡◌, ℕ, ◌+◌, ◌<◌, ◌≤◌, true, List, length, slice_index, Option, Some, None}
+use Rattle.std.specs.Prelude.{◌≡◌, ℕ, ◌+◌, ◌<◌, Bool, true, false, List, length, slice_index, Option, Some, None}
 use Rattle.usb_base.specs.declared.packets.Reply.{Reply}
 use Rattle.link_words.specs.Links.{link_of}
 use Rattle.qh_qtd.specs.QueueHead.{IsQhInRange}
@@ -26,6 +27,12 @@ use Rattle.ring_laws.specs.Ring.{IsSettled}
 use Rattle.frame_walk.specs.Met.{Kind, AQueue, AnItd, ASitd, LeadsTo, IsMetAs}
 use Rattle.frame_walk.specs.FrameHand.{ItdCopy, SitdCopy, FrameHand, Nothing, OfQueue, OfSettled, OfItd, OfSitd, frame_held}
 
+-- ---- bytes
+
+abbrev pub received_of : Bool → ℕ → ℕ
+received_of true n = n
+received_of false n = 0
+
 -- ---- a queue head
 
 pub record IsCopiedQueue (met : ℕ → Option Kind) (parts : StructureSets) (c : Copy) : Type 0 where
@@ -42,7 +49,7 @@ pub record HasSameExtent (s t : ItdSlot) : Type 0 where
   pub length : t.length ≡ s.length
   pub active : t.active ≡ s.active
 
--- it received these bytes, no more than were moved, and where any were moved its microframe is active
+-- it received these bytes: just as many as were moved where they come in, and none where they go out; and where any were moved its microframe is active
 pub record IsCopiedItd (met : ℕ → Option Kind) (parts : StructureSets) (got : List ℕ) (c : ItdCopy) : Type 0 where
   pub on : met c.held.at ≡ Some AnItd
   pub here : parts c.held.at c.held.at ≡ Some (Isochronous c.itd)
@@ -50,7 +57,7 @@ pub record IsCopiedItd (met : ℕ → Option Kind) (parts : StructureSets) (got 
   pub same : record c.held.itd { link = c.itd.link } ≡ c.itd
   pub held : IsItdHeld c.held
   pub slot : HasSameExtent (slot_of c.held.number c.itd) c.held.slot
-  pub few : length got ≤ c.held.moved
+  pub count : length got ≡ received_of c.held.itd.dir_in c.held.moved
   pub small : (i : ℕ) → slice_index got i < 256
   pub begun : 0 < c.held.moved → c.held.slot.active ≡ true
 
@@ -71,12 +78,12 @@ turned v w = record v {
   tp = w.tp;
 }
 
--- it was active, and has as many bytes left as weren't moved
+-- it was active, and has as many bytes left as weren't moved; where they come in, those that were moved are those that were received
 pub record IsMoved (c : SitdCopy) (reply : Reply) (o : SplitOutcome) : Type 0 where
   pub works : c.sitd.active ≡ true
   pub same : record (turned c.sitd c.held.sitd) { link = c.held.sitd.link } ≡ c.held.sitd
   pub left : c.held.sitd.total + moved_by o ≡ c.sitd.total
-  pub few : length (sitd_received c.held.sitd.dir_in o reply) ≤ moved_by o
+  pub count : length (sitd_received c.held.sitd.dir_in o reply) ≡ received_of c.held.sitd.dir_in (moved_by o)
   pub small : (i : ℕ) → slice_index (sitd_received c.held.sitd.dir_in o reply) i < 256
 
 abbrev pub IsTurned : SitdCopy → Reply → Option SplitOutcome → Type 0

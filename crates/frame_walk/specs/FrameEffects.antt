@@ -16,6 +16,7 @@ use Rattle.qh_qtd.specs.declared.qtd.Qtd.{Qtd}
 use Rattle.qh_qtd.specs.declared.queue_head.Qh.{Qh}
 use Rattle.itd_sitd.specs.declared.itd.Itd.{Itd}
 use Rattle.itd_sitd.specs.declared.sitd.Sitd.{Sitd}
+use Rattle.itd_sitd.specs.Itd.{slot_of}
 use Rattle.buffers.specs.Bytes.{place}
 use Rattle.walk_copy.specs.Overlay.{pages_of, buffer_place, moved}
 use Rattle.walk_copy.specs.Transacting.{call_in, outcome_in, host_after}
@@ -40,7 +41,7 @@ use Rattle.ring_laws.specs.Ring.{base_of}
 use Rattle.ring_laws.specs.Effects.{Takes, received_into}
 use Rattle.frame_walk.specs.Met.{Kind}
 use Rattle.frame_walk.specs.FrameHand.{ItdCopy, SitdCopy, FrameHand, Nothing, OfQueue, OfSettled, OfItd, OfSitd, fetched_copy, fetched_itd_copy, fetched_sitd_copy}
-use Rattle.frame_walk.specs.Frame.{IsFrame}
+use Rattle.frame_walk.specs.Frame.{received_of, IsFrame}
 
 -- ---- bytes
 
@@ -187,6 +188,7 @@ itd_back c = record c.itd { slots = slice_set c.itd.slots c.held.number (done_sl
 abbrev pub itd_parts : StructureSets → ItdCopy → List ℕ → Received → StructureSets
 itd_parts parts c got r = put (received_parts parts c.held.at got r) c.held.at c.held.at (Isochronous (itd_back c))
 
+-- The microframe's Transaction Length notes just the bytes that were received (3.3.2); an OUT receives none.
 pub record WritesItd (parts : StructureSets) (w : Walk) (hand : FrameHand) (now : StructureSets) (later : FrameHand) : Type 0 where
   pub copy : ItdCopy
   pub in_hand : hand ≡ OfItd copy
@@ -194,6 +196,7 @@ pub record WritesItd (parts : StructureSets) (w : Walk) (hand : FrameHand) (now 
   pub ended : copy.held.ended ≡ Some end
   pub into : Received
   pub received_is : AreReceivedAt (parts copy.held.at) (itd_pages copy.held.itd) (slot_place copy.held.slot) w.got into
+  pub count : length w.got ≡ received_of copy.held.itd.dir_in (slot_of copy.held.number (itd_back copy)).length
   pub now_is : now ≡ itd_parts parts copy w.got into
   pub nothing : later ≡ Nothing
 
@@ -209,6 +212,7 @@ pub data IsWrittenFrom (w : Walk) (copy back : SitdCopy) : Type 0 where
   made : back ≡ copy → IsWrittenFrom w copy back
   missed : copy.held.settled ≡ None → sitd_turn (microframe_of w.index) copy.held.sitd ≡ turns.Miss → back ≡ record copy { held = missed_copy copy.held } → IsWrittenFrom w copy back
 
+-- Its Total Bytes To Transfer are less by just the bytes that were moved, which for an IN are those that were received (3.4.3); an OUT receives none.
 pub record WritesSitd (parts : StructureSets) (w : Walk) (hand : FrameHand) (now : StructureSets) (later : FrameHand) : Type 0 where
   pub copy : SitdCopy
   pub in_hand : hand ≡ OfSitd copy
@@ -218,6 +222,8 @@ pub record WritesSitd (parts : StructureSets) (w : Walk) (hand : FrameHand) (now
   pub settled : back.held.settled ≡ Some outcome
   pub into : Received
   pub received_is : AreReceivedAt (parts copy.held.at) (sitd_pages back.held.sitd) (sitd_place back.held.sitd) (sitd_received back.held.sitd.dir_in outcome w.reply) into
+  pub count : length (sitd_received back.held.sitd.dir_in outcome w.reply) ≡ received_of back.held.sitd.dir_in (moved_by outcome)
+  pub left : (sitd_back back (moved_by outcome)).total + moved_by outcome ≡ copy.sitd.total
   pub now_is : now ≡ sitd_parts parts back (moved_by outcome) (sitd_received back.held.sitd.dir_in outcome w.reply) into
   pub nothing : later ≡ Nothing
 

@@ -2,18 +2,19 @@
 --     IsItdSent parts m c      the bytes that go out are those of its buffer, and the controller reads all of them
 --     IsItdBack met parts m got c
 --                              the bytes received are put into its buffer, the word of its microframe is written, and no write is refused; memory is
---                              told again, the iTD is sound again, and nothing else changed
+--                              told again, the iTD is sound again, and nothing else changed; its microframe notes just the bytes received
 --     ItdIsSent, ItdIsWrittenBack  these of each iTD in hand that is met
-use Rattle.std.specs.Prelude.{◌≡◌, ◌≢◌, ℕ, ◌+◌, true, List, Option}
+use Rattle.std.specs.Prelude.{◌≡◌, ◌≢◌, ℕ, ◌+◌, true, List, length, Option}
 use Rattle.word_mem.specs.Memory.{Mem}
+use Rattle.itd_sitd.specs.Itd.{slot_of}
 use Rattle.iso_visits.specs.Itd.{itd_transaction}
 use Rattle.iso_visits.specs.WriteBack.{itd_pages, slot_place, itd_sending, itd_written}
 use Rattle.lent_structures.specs.Structures.{StructureSets, Tells}
 use Rattle.lent_structures.specs.WriteBack.{Received}
 use Rattle.frame_walk.specs.Met.{Kind, IsMetItd}
 use Rattle.frame_walk.specs.FrameHand.{ItdCopy}
-use Rattle.frame_walk.specs.Frame.{IsCopiedItd}
-use Rattle.frame_walk.specs.FrameEffects.{AreOut, AreReceivedAt, itd_parts}
+use Rattle.frame_walk.specs.Frame.{received_of, IsCopiedItd}
+use Rattle.frame_walk.specs.FrameEffects.{AreOut, AreReceivedAt, itd_back, itd_parts}
 
 pub record IsItdSent (parts : StructureSets) (m : Mem) (c : ItdCopy) : Type 0 where
   pub out : List ℕ
@@ -23,6 +24,7 @@ pub record IsItdSent (parts : StructureSets) (m : Mem) (c : ItdCopy) : Type 0 wh
 pub record IsItdBack (met : ℕ → Option Kind) (parts : StructureSets) (m : Mem) (got : List ℕ) (c : ItdCopy) : Type 0 where
   pub into : Received
   pub received_is : AreReceivedAt (parts c.held.at) (itd_pages c.held.itd) (slot_place c.held.slot) got into
+  pub count : length got ≡ received_of c.held.itd.dir_in (slot_of c.held.number (itd_back c)).length
   pub all : (itd_written c.held got m).all ≡ true
   pub tells : Tells (itd_written c.held got m).memory (itd_parts parts c got into)
   pub met_is : IsMetItd met c.held.at (itd_parts parts c got into c.held.at)

@@ -1,13 +1,17 @@
--- A worked transaction of an iTD, over the frame of frame_parts' rows.
+-- A worked transaction of an iTD, over the frame of part_worked.
 --     at                     the iTD was read, and 100 microseconds are left
 --     hears                  over this wire two bytes come, whatever is asked; it counts what it was asked
 --     left                   the walk's place after the transaction
-use Rattle.std.specs.Prelude.{◌≡◌, ℕ, ◌+◌, List}
+--     too_long, babbled      a packet of three bytes, where two may come, and the copy after it
+use Rattle.std.specs.Prelude.{◌≡◌, ℕ, ◌+◌, List, [], ◌∷◌}
 use Rattle.usb_base.specs.declared.packets.Ask.{Ask}
+use Rattle.usb_base.specs.declared.packets.Pid.TheVariants.{Data0}
 use Rattle.usb_base.specs.declared.packets.Reply.{Reply}
-use Rattle.iso_visits.specs.Itd.{itd_transaction}
+use Rattle.usb_base.specs.declared.packets.Reply.TheVariants.{Bytes}
+use Rattle.iso_visits.specs.Itd.{itd_transaction, itd_after}
 use Rattle.periodic_walk.specs.Place.{FramePlace}
 use Rattle.periodic_walk.specs.Itd.{itd_left_by}
+use Rattle.frame_walk.specs.FrameHand.{ItdCopy}
 use Rattle.frame_walk.specs.PartSamples.{in_hand, fetched, heard}
 
 abbrev pub at : FramePlace
@@ -18,3 +22,9 @@ hears n ask out reply later = (reply ≡ heard) × (later ≡ n + 1)
 
 abbrev pub left : FramePlace
 left = itd_left_by (itd_transaction in_hand.held) in_hand.held at heard
+
+abbrev pub too_long : Reply
+too_long = Bytes Data0 (5 ∷ 6 ∷ 7 ∷ [])
+
+abbrev pub babbled : ItdCopy
+babbled = record in_hand { held = itd_after too_long in_hand.held }

@@ -1,4 +1,4 @@
--- A walk of worked rows, over the small memory of queue_visits.
+-- A walk of worked rows, over the small memory of `queue_visit_worked`.
 --     fetched, made       its queue head is in hand, and its transaction was made
 --     is_heard            a wire on which two bytes are heard, whose count of transactions steps
 use Rattle.std.specs.Prelude.{◌≡◌, ℕ, ◌+◌, List, [], Some}

@@ -11,7 +11,7 @@ use Rattle.lent_structures.specs.Structures.{StructureSets, Tells}
 use Rattle.lent_structures.specs.WriteBack.{Received}
 use Rattle.frame_walk.specs.Met.{Kind, IsMetSitd}
 use Rattle.frame_walk.specs.FrameHand.{SitdCopy}
-use Rattle.frame_walk.specs.SitdBacks.{IsSitdInHand, transacted, missed, AreRead, AreReceivedBy, parts_after}
+use Rattle.frame_walk.specs.SitdBacks.{IsSitdInHand, transacted, missed, AreRead, AreReceivedBy, parts_after, IsCounted}
 
 -- ---- its transaction
 
@@ -38,6 +38,11 @@ MissedIsInHand = (met : ℕ → Option Kind) (parts : StructureSets) (m : Mem) (
 abbrev pub ReceivedIsPut : Type 0
 ReceivedIsPut = (met : ℕ → Option Kind) (parts : StructureSets) (m : Mem) (reply : Reply) (c : SitdCopy) (o : SplitOutcome) → IsSitdInHand met parts m reply c
     → c.held.settled ≡ Some o → (into : Received) × AreReceivedBy parts c o reply into
+
+-- just as many bytes as it has less (3.4.3)
+abbrev pub BytesAreCounted : Type 0
+BytesAreCounted = (met : ℕ → Option Kind) (parts : StructureSets) (m : Mem) (reply : Reply) (c : SitdCopy) (o : SplitOutcome) → IsSitdInHand met parts m reply c
+    → c.held.settled ≡ Some o → IsCounted c o reply
 
 -- nothing of it is refused
 abbrev pub AllIsWritten : Type 0

@@ -6,7 +6,8 @@
 --     received_by c o reply              the bytes that its transaction received
 --     AreReceivedBy parts c o reply into so they are put into its buffer
 --     parts_after parts c o reply into    the parts after its write-back
-use Rattle.std.specs.Prelude.{◌≡◌, ℕ, true, List, Option}
+--     IsCounted c o reply                the bytes that it has left then are less by just those that were moved; an IN received these, an OUT none
+use Rattle.std.specs.Prelude.{◌≡◌, ℕ, ◌+◌, true, List, length, Option}
 use Rattle.usb_base.specs.declared.packets.Reply.{Reply}
 use Rattle.word_mem.specs.Memory.{Mem}
 use Rattle.walk_copy.specs.Buffer.{bytes_read}
@@ -17,8 +18,8 @@ use Rattle.lent_structures.specs.Structures.{Structures, StructureSets, Tells}
 use Rattle.lent_structures.specs.WriteBack.{Received}
 use Rattle.frame_walk.specs.Met.{Kind, IsMetSitd}
 use Rattle.frame_walk.specs.FrameHand.{SitdCopy}
-use Rattle.frame_walk.specs.Frame.{IsCopiedSitd}
-use Rattle.frame_walk.specs.FrameEffects.{AreOut, AreReceivedAt, sitd_parts}
+use Rattle.frame_walk.specs.Frame.{received_of, IsCopiedSitd}
+use Rattle.frame_walk.specs.FrameEffects.{AreOut, AreReceivedAt, sitd_back, sitd_parts}
 
 pub record IsSitdInHand (met : ℕ → Option Kind) (parts : StructureSets) (m : Mem) (reply : Reply) (c : SitdCopy) : Type 0 where
   pub tells : Tells m parts
@@ -45,3 +46,7 @@ AreReceivedBy parts c o reply into = AreReceivedAt (parts c.held.at) (sitd_pages
 
 abbrev pub parts_after : StructureSets → SitdCopy → SplitOutcome → Reply → Received → StructureSets
 parts_after parts c o reply into = sitd_parts parts c (moved_by o) (received_by c o reply) into
+
+pub record IsCounted (c : SitdCopy) (o : SplitOutcome) (reply : Reply) : Type 0 where
+  pub count : length (received_by c o reply) ≡ received_of c.held.sitd.dir_in (moved_by o)
+  pub left : (sitd_back c (moved_by o)).total + moved_by o ≡ c.sitd.total

@@ -1,4 +1,4 @@
--- The walk with the worked siTD of sitd_backs in hand.
+-- The walk with the worked siTD of `sitd_back_worked` in hand.
 --     at u          in microframe u of frame 0, before its transaction
 --     settled       in microframe 2, once two bytes came
 use Rattle.std.specs.Prelude.{ℕ, Some}

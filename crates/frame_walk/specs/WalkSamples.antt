@@ -1,4 +1,4 @@
--- The places of a worked walk, over the frame of an iTD and a queue head of frame_parts' rows, while the controller runs.
+-- The places of a worked walk, over the frame of an iTD and a queue head of `part_worked`'s rows, while the controller runs.
 --     hears                   over this wire two bytes come, whatever is asked; it counts what it was asked
 --     first                   the microframe begins, with 125 microseconds left
 --     itd_read, itd_moved, itd_written

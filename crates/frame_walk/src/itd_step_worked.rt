@@ -1,12 +1,16 @@
-//! A worked row, which the check computes: a transaction of an iTD, in the frame of an iTD and a queue head.
-ghost use Rattle.std.specs.Prelude.{◌≡◌, [], ◌∷◌};
+//! Worked rows, which the check computes: transactions of an iTD, in the frame of an iTD and a queue head.
+ghost use Rattle.std.specs.Prelude.{◌≡◌, true, [], ◌∷◌, Some};
+ghost use Rattle.itd_sitd.specs.Itd.{slot_of};
+ghost use Rattle.iso_visits.specs.declared.held.IsoEnd.TheVariants.{Failed};
 ghost use Rattle.async_walk.specs.declared.state.WalkStep.TheVariants as steps;
+ghost use Rattle.periodic_walk.specs.Itd.{got_after};
 ghost use Rattle.periodic_walk.specs.Rows.{step_of, Leads};
 ghost use Rattle.ring_laws.specs.Effects.{AreBytesHeard};
 ghost use Rattle.frame_walk.specs.FrameHand.{OfItd};
-ghost use Rattle.frame_walk.specs.Frame.{IsFrame};
+ghost use Rattle.frame_walk.specs.Frame.{IsCopiedItd, IsFrame};
+ghost use Rattle.frame_walk.specs.FrameEffects.{itd_back};
 ghost use Rattle.frame_walk.specs.PartSamples.{met, parts, in_hand};
-ghost use Rattle.frame_walk.specs.ItdStepSamples.{at, hears, left};
+ghost use Rattle.frame_walk.specs.ItdStepSamples.{at, hears, left, too_long, babbled};
 
 /// The iTD's microframe is active, and there is time: one transaction is made, two bytes come, and they are kept for the write-back.
 pub fn a_transaction_at_an_itd()
@@ -15,4 +19,14 @@ pub fn a_transaction_at_an_itd()
     ensures leads { Leads hears at 0 left 1 }
     ensures step { step_of at ≡ steps.Transact }
     ensures bytes { left.walk.got ≡ 5 ∷ 6 ∷ [] }
+{}
+
+/// A packet is longer than what may come: the error is in the microframe's word, nothing of the packet is kept, and no byte of it is counted (4.7.1).
+pub fn a_packet_that_is_too_long()
+    ensures babble { babbled.held.slot.babble ≡ true }
+    ensures ended { babbled.held.ended ≡ Some Failed }
+    ensures kept { got_after in_hand.held too_long [] ≡ [] }
+    ensures counted { babbled.held.moved ≡ 0 }
+    ensures copied { IsCopiedItd met parts [] babbled }
+    ensures length { (slot_of 2 (itd_back babbled)).length ≡ 0 }
 {}

@@ -53,7 +53,7 @@ pub use fetch_worked::{a_chain_is_read, a_queue_head_is_read};
 pub use itd_back_laws::{an_itd_is_written_back, an_itd_sends_its_bytes};
 pub use itd_back_worked::a_microframe_is_written_back;
 pub use itd_step_laws::{a_transaction_keeps_the_copy, each_event_at_an_itd};
-pub use itd_step_worked::a_transaction_at_an_itd;
+pub use itd_step_worked::{a_packet_that_is_too_long, a_transaction_at_an_itd};
 pub use part_laws::{
     a_linked_part_is_a_members, a_members_part_is_linked, a_transaction_turns_a_sitd,
     an_altered_queue_part_is_sound, its_place_moves_on, what_is_fetched_is_what_stands,
@@ -80,5 +80,7 @@ pub use step_laws::{
     no_fault_has_an_effect, no_step_refuses_a_word, the_event_is_that_of_what_is_in_hand,
 };
 pub use step_worked::an_itd_comes_first;
-pub use walk_laws::{a_walk_goes_on, each_event, no_event_is_a_fault, no_word_is_refused};
+pub use walk_laws::{
+    a_walk_goes_on, each_event, no_event_is_a_fault, no_word_is_refused, what_is_not_met_stays,
+};
 pub use walk_worked::a_chain_is_walked;

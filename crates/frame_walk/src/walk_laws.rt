@@ -8,7 +8,7 @@ ghost use Rattle.frame_walk.specs.Met.{Kind};
 ghost use Rattle.frame_walk.specs.FrameHand.{FrameHand};
 ghost use Rattle.frame_walk.specs.Frame.{IsFrame};
 ghost use Rattle.frame_walk.specs.FrameSteps.{EventHappens};
-ghost use Rattle.frame_walk.specs.Walks.{HearsBytes, Walks, IsWalked};
+ghost use Rattle.frame_walk.specs.Walks.{HearsBytes, Walks, LeavesOthers, IsWalked};
 
 use usb_base::Wire;
 
@@ -28,8 +28,15 @@ pub fn no_word_is_refused<W: Wire>()
         → p.registers.run ≡ true → AreBytesHeard W.transacts wire after → Leads W.transacts p wire new after → new.memory.foreign ≡ p.memory.foreign }
 {}
 
-/// However many events follow each other, a frame is left, none of them is the fault, and no word is refused in them.
+/// An event changes nothing of what belongs to one that isn't met.
+pub fn what_is_not_met_stays<W: Wire>()
+    ensures { LeavesOthers W.transacts }
+{}
+
+/// However many events follow each other, a frame is left, and each of them had one of the effects on what the one before it left: so the structures are told from
+/// those before. What belongs to one that isn't met is the same; none of the events is the fault, and no word is refused in them.
 pub fn a_walk_goes_on<W: Wire>()
     ensures { (met : ℕ → Option Kind) (parts : StructureSets) (hand : FrameHand) (kinds : List WalkStep) (p : FramePlace) (wire : W) (new : FramePlace) (after : W)
-        → HearsBytes W.transacts → IsFrame met parts hand p → Walks W.transacts new after kinds p wire → IsWalked met p new kinds }
+        → HearsBytes W.transacts → IsFrame met parts hand p → Walks W.transacts new after kinds p wire
+        → IsWalked W.transacts met parts hand wire after p new kinds }
 {}

@@ -15,7 +15,8 @@ use Rattle.frame_walk.specs.Met.{Kind}
 use Rattle.frame_walk.specs.FrameHand.{FrameHand}
 use Rattle.frame_walk.specs.Frame.{IsFrame}
 use Rattle.frame_control.specs.Both.{RunsBoth, of_ring, of_frame}
-use Rattle.frame_control.proofs.Staying.{ring_leaves, frame_leaves}
+use Rattle.frame_walk.proofs.Leaving.{frame_leaves}
+use Rattle.frame_control.proofs.Staying.{ring_leaves}
 use Rattle.frame_keeps.proofs.Framing.{frame_keeps}
 use Rattle.frame_keeps.proofs.Ringing.{control_keeps}
 use Rattle.frame_keeps.proofs.Words.{kept_is_left}

@@ -46,7 +46,7 @@ some_of : (ps : List Predecessor) (w : Predecessor) → is_among ps w ≡ true �
 some_of [] w is = absurd (false≢true is)
 some_of (p ∷ ps) w is = (p, refl)
 
-first_word : (s : Schedule) (k : Descriptor) → IsKept s → k.frame < 1024 → is_linked s (Once k) ≡ true → (p : Predecessor) × (slice_get (words_of s (begun (Once k) true)) 0 ≡ Some p)
+pub first_word : (s : Schedule) (k : Descriptor) → IsKept s → k.frame < 1024 → is_linked s (Once k) ≡ true → (p : Predecessor) × (slice_get (words_of s (begun (Once k) true)) 0 ≡ Some p)
 first_word s k kept small on =
     let at = descriptor_at s k kept on in
     let low : k.frame < 2 ^ 10 = omega (arith, small) in
@@ -60,10 +60,10 @@ among_first : (t : ℕ) (ts : List ℕ) → slice_get ts 0 ≡ Some t → is_in 
 among_first t [] here = absurd (cc)
 among_first t (u ∷ ts) here = let same : u ≡ t = cc in ap (λ b. b || list_any (λ v. v == t) ts) (eq-eqb u t same)
 
-named_of : DriverContent → Transfer → Descriptor
+unfoldable pub named_of : DriverContent → Transfer → Descriptor
 named_of d y = record { id = descriptor_name (note_at d.periodic.notes y.first) y.first; frame = (note_at d.periodic.notes y.first).frame }
 
-unlinked_linked : (d : DriverContent) (t : ℕ) (y : Transfer) → HasOwners d → IsListed d → slice_get d.transfers t ≡ Some y → slice_get d.periodic.unlinks 0 ≡ Some t → is_linked d.periodic.list.members.schedule (Once (named_of d y)) ≡ true
+pub unlinked_linked : (d : DriverContent) (t : ℕ) (y : Transfer) → HasOwners d → IsListed d → slice_get d.transfers t ≡ Some y → slice_get d.periodic.unlinks 0 ≡ Some t → is_linked d.periodic.list.members.schedule (Once (named_of d y)) ≡ true
 unfolding named_of
 unlinked_linked d t y has listed there first =
     let due : is_descriptor y.sort ≡ true =
@@ -84,10 +84,10 @@ abbrev Stays : DriverRow → Parts → Type 0
 Stays row p = ListStands (after_driver_row row p).memory (after_driver_row row p).driver
 
 -- what the list and the memory are once its store is made
-abbrev StandsAfter : DriverContent → Mem → Periodic → Option Store → Type 0
+abbrev pub StandsAfter : DriverContent → Mem → Periodic → Option Store → Type 0
 StandsAfter d m l o = IsInOrder (after_store l) × StandFor (after_store l) (word_at (stored_link d.book m o))
 
-removed_stands : (d : DriverContent) (m : Mem) (k : Descriptor) → Stands (holding d.book m) → IsShaped m → HasOwners d → IsListed d → ListStands m d → d.periodic.list.work ≡ None → k.frame < 1024 → is_linked d.periodic.list.members.schedule (Once k) ≡ true
+pub removed_stands : (d : DriverContent) (m : Mem) (k : Descriptor) → Stands (holding d.book m) → IsShaped m → HasOwners d → IsListed d → ListStands m d → d.periodic.list.work ≡ None → k.frame < 1024 → is_linked d.periodic.list.members.schedule (Once k) ≡ true
     → StandsAfter d m (unlinking d.periodic.list (Once k)) (next_store (unlinking d.periodic.list (Once k)))
 removed_stands d m k stands shape has listed old none small on =
     let l : Periodic = d.periodic.list in

@@ -129,7 +129,7 @@ goes_by : (d : DriverContent) (c : Command) (b t : Bool) → links c ≡ true �
 goes_by d c b t on off late =
     rw (off, late, on) (ended_list (record d { made = length (events_of c); periodic = begun_next (removes_members c) (record d.periodic { list = after_store d.periodic.list }) }) c)
 
-goes_on_list : (d : DriverContent) (c : Command) → d.command ≡ Some c → links c ≡ true → length (events_of c) ≤ d.made
+pub goes_on_list : (d : DriverContent) (c : Command) → d.command ≡ Some c → links c ≡ true → length (events_of c) ≤ d.made
     → list_of (advance d) ≡ (begun_next (removes_members c) (record d.periodic { list = after_store d.periodic.list })).list
 goes_on_list d c is on late =
     ap (λ (o : Option Command). list_of (advanced_by d o)) is
@@ -143,7 +143,7 @@ stands_from m d p is s = record {
   words = subst (λ (x : Periodic). StandFor x (word_at m)) (sym is) s.words;
 }
 
-stored_stands : (p : Parts) (c : Command) (s : Store) → IsLinkingStep p c → IsStoredFor p.memory p.driver s → next_store p.driver.periodic.list ≡ Some s → (removes_members c ≡ false → NextLeads p)
+pub stored_stands : (p : Parts) (c : Command) (s : Store) → IsLinkingStep p c → IsStoredFor p.memory p.driver s → next_store p.driver.periodic.list ≡ Some s → (removes_members c ≡ false → NextLeads p)
     → ListStands (store p.driver.book p.memory s.block s.at s.value) (advance p.driver)
 stored_stands p c s step stored is own =
     let m : Mem = store p.driver.book p.memory s.block s.at s.value in

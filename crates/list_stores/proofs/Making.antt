@@ -115,6 +115,18 @@ word_by m at v a false is one two inside test =
 same_test : (a at : ℕ) → a ≡ at → nat_eq a at ≡ true
 same_test a at e = eq-eqb a at e
 
+-- its block is kept or lent
+pub store_written : (d : DriverContent) (m : Mem) (o : Option Work) (s : Store) → Stands (holding d.book m) → IsShaped m → HasOwners d → IsListed d → IsKept d.periodic.list.members.schedule
+    → option_and_then (λ w. store_of d.periodic.list.list d.periodic.list.members.schedule w) o ≡ Some s → store d.book m s.block s.at s.value ≡ with_word m s.at s.value
+store_written d m o s stands shape has listed kept is =
+    let g : GoesTo d.periodic.list.list d.periodic.list.members.schedule s = goes_to d.periodic.list.list d.periodic.list.members.schedule o s kept is in
+    let zero_list : d.periodic.list.list ≡ 0 = listed.list.list in
+    let made : IsMade d m g.word = made_at d m g.word stands shape has listed g.its in
+    let at : s.at ≡ address_of 0 g.word = g.at ∙ ap (λ (l : ℕ). address_of l g.word) zero_list in
+    let block : s.block ≡ block_of 0 g.word = g.block ∙ ap (λ (l : ℕ). block_of l g.word) zero_list in
+    let can : can_store (slot_of d.book.slots s.block) s.at ≡ true = ap (λ (b : ℕ). can_store (slot_of d.book.slots b) s.at) block ∙ ap (can_store (slot_of d.book.slots (block_of 0 g.word))) at ∙ made.can in
+    ap (λ (b : Bool). if b then with_word m s.at s.value else m) can
+
 pub store_stands : (d : DriverContent) (m : Mem) (s : Store) → Stands (holding d.book m) → IsShaped m → HasOwners d → IsListed d → ListStands m d → next_store d.periodic.list ≡ Some s → IsStoredFor m d s
 store_stands d m s stands shape has listed old is =
     let p : Periodic = d.periodic.list in

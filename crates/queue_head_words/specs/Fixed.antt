@@ -1,7 +1,7 @@
 -- The words of a queue head that no event writes: its endpoint's characteristics and capabilities (EHCI 1.0, 3.6.2). They are words 1 and
 -- 2; the head alone has the bit H of the head of the reclamation list.
 --     characteristics x, capabilities x     these words of the endpoint x
---     IsMet d e x                           a walk may meet its queue head: it is in the ring, or has left since the last answered doorbell
+--     IsMet d e x                           a walk may meet its queue head: it is in the ring, or has left since the last answered doorbell was rung
 --     AreFixed m d                          the words stand
 --     KeepsFixed d m o                      they stand once a command was accepted
 use Rattle.std.specs.Prelude.{◌≡◌, ℕ, ◌+◌, ◌*◌, ◌⊎◌, true, ◌++◌, slice_index, slice_get, Some}

@@ -1,6 +1,6 @@
 -- The queue heads that a walk of the ring may reach, computed from the driver's content (EHCI 1.0, 4.8 and 4.8.2), and a ring whose members are
 -- exactly these.
---     may_reach d rings e x    endpoint e, which is x, is in the ring, or has left since the last answered doorbell; `rings`: it isn't answered yet
+--     may_reach d rings e x    endpoint e, which is x, is in the ring, or has left since the last answered doorbell was rung; `rings`: it isn't answered yet
 --     is_reached d rings n        the queue head at byte address n is the head of the ring, or that of such an endpoint
 --     ReachedAt d rings n      a block begins there that the walk may reach
 --     ReachedIsReached, IsReachedReached

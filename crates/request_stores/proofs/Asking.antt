@@ -20,13 +20,13 @@ use Rattle.request_stores.specs.Samples.{first_only, firsts, one_parts, last_sta
 
 -- ---- the first with its tail
 
-record HasFirst (part : Structures) : Type 0 where
-  setup_there : part 64 ≡ Some (Element setup)
-  read_there : part 96 ≡ Some (Element read)
-  status_there : part 128 ≡ Some (Element first_status)
-  bytes_there : part 0 ≡ Some (Buffer (pages_at 0) 0 get_device.setup)
+pub record HasFirst (part : Structures) : Type 0 where
+  pub setup_there : part 64 ≡ Some (Element setup)
+  pub read_there : part 96 ≡ Some (Element read)
+  pub status_there : part 128 ≡ Some (Element first_status)
+  pub bytes_there : part 0 ≡ Some (Buffer (pages_at 0) 0 get_device.setup)
 
-first_fresh : (part : Structures) → HasFirst part → (s : Stage) → comes get_device Setup s ≡ true → IsFresh described get_device (stand_at 0) part s
+pub first_fresh : (part : Structures) → HasFirst part → (s : Stage) → comes get_device Setup s ≡ true → IsFresh described get_device (stand_at 0) part s
 first_fresh part k Setup on = record { stage = record { qtd = setup; here = k.setup_there; pid = refl; leads = record { next = refl; alternate = inl refl }; bytes = k.bytes_there }; begins = λ ping. refl }
 first_fresh part k Data on = record { stage = record { qtd = read; here = k.read_there; pid = refl; leads = record { next = refl; alternate = inr refl }; bytes = λ off. absurd (false≢true (sym off)) }; begins = λ ping. refl }
 first_fresh part k Status on = record { stage = record { qtd = first_status; here = k.status_there; pid = refl; leads = record { next = refl; alternate = inl refl }; bytes = tt }; begins = λ ping. refl }
@@ -36,7 +36,7 @@ first_fresh part k (Halted cause) on = absurd (false≢true on)
 some_number : ℕ → {a b : ℕ} → Some a ≡ Some b → a ≡ b
 some_number n e = cc
 
-tail_at : (part : Structures) (b : ℕ) → part b ≡ Some (Element blank_qtd) → (a : ℕ) → Some b ≡ Some a → IsIdle part a
+pub tail_at : (part : Structures) (b : ℕ) → part b ≡ Some (Element blank_qtd) → (a : ℕ) → Some b ≡ Some a → IsIdle part a
 tail_at part b there a is = subst (IsIdle part) (some_number 0 is) (record { qtd = blank_qtd; here = there; idle = refl })
 
 pub one_laid : AreLaid first_only Empty one_parts 32 queue

@@ -116,7 +116,7 @@ module _ (v : Queue) (hand : Hand) (parts now : StructureSets) (n : ℕ) (keeps 
       later = fresh_kept (next_stage r h.stage) w.later;
     })
     shows_kept side q h head (waits w) = waits (record { goes_on = w.goes_on; idle = w.idle; side_is = w.side_is; leads = w.leads; fresh = fresh_kept h.stage w.fresh; beside = w.beside })
-    shows_kept side q h head (ends w) = ends (record { done = w.done; idle = w.idle; ping = w.ping; behind = link_kept (pointer_at side.left q) (λ a un. un.overlay n side.left q head) w.behind })
+    shows_kept side q h head (ends w) = ends (record { done = w.done; idle = w.idle; ping = w.ping; behind = link_kept (pointer_at side.left q) (λ a un. un.overlay n side.left q head) w.behind; worked = w.worked })
     shows_kept side q h head (halts w) = halts (record {
       cause = w.cause;
       ended = w.ended;

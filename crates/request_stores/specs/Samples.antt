@@ -6,14 +6,18 @@
 --     second_places, both        where it stands, and both requests
 --     goes v ps l                the windows after these steps
 --     first_begun, then_both     the first transaction, while the first is alone, and the steps once the second is published
-use Rattle.std.specs.Prelude.{ℕ, false, List, [], ◌∷◌, replicate, Some}
+--     waiting_parts, asked_parts before the SETUP of the first is stored, and then
+--     ended_parts, first_ended   once its status has ended, and the windows then
+--     device_at c                the device that is left so
+use Rattle.std.specs.Prelude.{ℕ, false, List, [], ◌∷◌, replicate, Option, Some}
 use Rattle.qh_qtd.specs.Blank.{blank_qtd}
 use Rattle.qh_qtd.specs.declared.qtd.Qtd.{Qtd}
-use Rattle.control_stages.specs.Stages.{opened}
-use Rattle.lent_structures.specs.Structures.{Element, Buffer, StructureSets, put}
+use Rattle.control_stages.specs.Stages.{Stages, opened}
+use Rattle.lent_structures.specs.Structures.{QueueHead, Element, Buffer, StructureSets, put}
 use Rattle.request_windows.specs.Samples.{described, get_device, get_configuration, good}
+use Rattle.request_calls.specs.Bus.{Device, device_of}
 use Rattle.ring_requests.specs.Laid.{Places}
-use Rattle.ring_requests.specs.Samples.{leads_to, status, pages_at, parts, first_status, second_setup, second_read, stand_at}
+use Rattle.ring_requests.specs.Samples.{leads_to, status, pages_at, parts, setup, done_queue, done_qtd, first_done, first_status, second_setup, second_read, stand_at}
 use Rattle.ring_requests.specs.Windows.{Queue, Lines, lines_at, Progress, Transaction, Advance, progressed}
 use Rattle.request_stores.specs.Published.{with_request}
 
@@ -64,3 +68,20 @@ first_begun = goes first_only (Transaction good ∷ []) (lines_at first_only fal
 
 abbrev pub then_both : Lines
 then_both = goes both (Transaction good ∷ Transaction good ∷ Advance ∷ Transaction good ∷ Transaction good ∷ []) first_begun
+
+-- ---- from rest to rest
+
+abbrev pub waiting_parts : StructureSets
+waiting_parts = put one_parts 32 64 (Element blank_qtd)
+
+abbrev pub asked_parts : StructureSets
+asked_parts = put waiting_parts 32 64 (Element setup)
+
+abbrev pub ended_parts : StructureSets
+ended_parts = put (put one_parts 32 32 (QueueHead done_queue)) 32 128 (Element (done_qtd first_status))
+
+abbrev pub first_ended : Lines
+first_ended = goes first_only first_done (lines_at first_only false (opened 64 0))
+
+abbrev pub device_at : Stages → Option Device
+device_at c = Some (device_of described c)

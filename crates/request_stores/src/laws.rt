@@ -7,6 +7,7 @@ ghost use Rattle.ring_requests.specs.Laid.{Places};
 ghost use Rattle.ring_requests.specs.Windows.{Queue, Lines};
 ghost use Rattle.ring_requests.specs.Runs.{IsRun};
 ghost use Rattle.request_stores.specs.Published.{LendKeepsWindows, IdleStoreKeepsWindows, LastStoreKeepsWindows, FirstStoreOpensWindows, with_request};
+ghost use Rattle.request_stores.specs.Rests.{RestStoreOpensWindows, LendLeavesRest};
 
 use usb_base::Wire;
 
@@ -26,4 +27,11 @@ pub fn a_first_request_is_published<W: Wire>()
 /// The windows of the endpoint's requests are still those of the run that they were of.
 pub fn the_run_goes_on()
     ensures { (v : Queue) (r : Request) (x : Places) (c : Stages) (l : Lines) → l.under < v.count → IsRun v c l → IsRun (with_request v r x) c l }
+{}
+
+/// Where a queue is at rest, the store over the qTD at its end opens the window of the first request on the device as it was left, and all others stay;
+/// the lends before it leave it at rest.
+pub fn a_request_is_published_from_rest<W: Wire>()
+    ensures store { (device : W → ℕ → ℕ → Option Device) → RestStoreOpensWindows device }
+    ensures lend { LendLeavesRest }
 {}

@@ -6,6 +6,11 @@ ghost use Rattle.request_windows.specs.Samples.{told, tells, descriptor, get_dev
 ghost use Rattle.ring_laws.specs.Hand.{Empty};
 ghost use Rattle.ring_requests.specs.Samples.{queue, is_only as IsOnly};
 ghost use Rattle.ring_requests.specs.Windows.{AreLaid};
+ghost use Rattle.control_stages.specs.Stages.{opened};
+ghost use Rattle.request_windows.specs.Samples.{described};
+ghost use Rattle.ring_requests.specs.Windows.{sent_at, HasEnded};
+ghost use Rattle.ring_requests.specs.Resting.{IsAtRest, IsFirstStore};
+ghost use Rattle.request_stores.specs.Samples.{waiting_parts as WaitingParts, asked_parts as AskedParts, ended_parts as EndedParts, first_ended as FirstEnded, device_at as DeviceAt};
 ghost use Rattle.request_stores.specs.Published.{IsLend, IsNextRequest};
 ghost use Rattle.request_stores.specs.Samples.{first_only as FirstOnly, firsts, one_parts as OneParts, lent_parts as LentParts, both_now as BothNow};
 ghost use Rattle.request_stores.specs.Samples.{second_places as SecondPlaces, both, first_begun as FirstBegun, then_both as ThenBoth};
@@ -27,4 +32,13 @@ pub fn the_first_goes_on()
     ensures under { told (FirstBegun.line 0) ≡ tells Data [] [] }
     ensures done { told (ThenBoth.line 0) ≡ tells Done descriptor (GetDevice.setup ∷ []) }
     ensures stalled { told (ThenBoth.line 1) ≡ tells (Halted Ends.Stall) [] [] }
+{}
+
+/// The queue head leads to an inactive qTD where the SETUP of the device descriptor's request will stand, and once that is stored it asks this one. Once it
+/// is done, the queue is at rest with the tail at its end.
+pub fn a_request_is_asked_from_rest_to_rest()
+    ensures waits { IsAtRest described (opened 64 0) 64 Empty WaitingParts 32 (DeviceAt (opened 64 0)) }
+    ensures stored { IsFirstStore FirstOnly 64 (AskedParts 32) }
+    ensures ended { HasEnded (sent_at FirstOnly 0) EndedParts 32 }
+    ensures rests { IsAtRest described (FirstEnded.line 0).device 160 Empty EndedParts 32 (DeviceAt (FirstEnded.line 0).device) }
 {}

@@ -160,7 +160,7 @@ first_shown = record {
     queue = done_queue;
     head = refl;
     control = is_control;
-    shown = ends (record { done = refl; idle = refl; ping = refl; behind = refl });
+    shown = ends (record { done = refl; idle = refl; ping = refl; behind = refl; worked = λ on. absurd (false≢true on) });
     among = λ on. absurd (false≢true on);
     moved = λ some. record { queue = done_queue; head = refl; qtd = done_qtd read; here = refl; are = refl };
     device = refl;

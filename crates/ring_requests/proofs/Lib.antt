@@ -8,3 +8,9 @@ pub mod Windows
 pub mod Telling
 pub mod Runs
 pub mod Asking
+pub mod Resting
+pub mod RestingEnded
+pub mod RestingGrows
+pub mod RestingSpared
+pub mod RestingSampled
+pub mod RestingAmong

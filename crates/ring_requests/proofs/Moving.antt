@@ -71,7 +71,7 @@ module _ (e : Endpoint) (r : Request) (x : Places) (apart : AreApart x) (part : 
       next_waits (next_stage r Setup) (going_next (has_data r)) idle (pointer_to q k.qtd after.left (place_at x (next_stage r Setup)) next alternate k.leads) fresh (λ t on is. next_apart r x apart Setup t refl on (is ∙ sym same)) moved
   ended Data k going next alternate fresh same idle moved =
       next_waits Status refl idle (pointer_to q k.qtd after.left x.status next alternate k.leads) fresh (λ t on is. next_apart r x apart Data t refl on (is ∙ sym same)) moved
-  ended Status k going next alternate fresh same idle moved = ends (record { done = refl; idle = idle; ping = refl; behind = pointer_behind part x.behind q k.qtd after.left next alternate k.leads })
+  ended Status k going next alternate fresh same idle moved = ends (record { done = refl; idle = idle; ping = refl; behind = pointer_behind part x.behind q k.qtd after.left next alternate k.leads; worked = λ on. w.current ∙ sym same })
   ended Done k going next alternate fresh same idle moved = absurd (false≢true (sym going))
   ended (Halted cause) k going next alternate fresh same idle moved = absurd (false≢true (sym going))
 

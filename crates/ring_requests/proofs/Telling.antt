@@ -61,7 +61,7 @@ finished_once v l hand parts n k =
 -- ---- what memory tells
 
 -- the hand has the transaction of a queue head that is active in memory, or none of it
-either_side : (P : HostSide → Type 0) (member : ℕ → Bool) (hand : Hand) (parts : StructureSets) (reply : Reply) (n : ℕ) (q : Qh) → IsInHand member parts reply hand → parts n n ≡ Some (QueueHead q) → P (host_in q) → ((s : HostSide) → q.token.active ≡ true → P s) → P (hand_side hand n q)
+pub either_side : (P : HostSide → Type 0) (member : ℕ → Bool) (hand : Hand) (parts : StructureSets) (reply : Reply) (n : ℕ) (q : Qh) → IsInHand member parts reply hand → parts n n ≡ Some (QueueHead q) → P (host_in q) → ((s : HostSide) → q.token.active ≡ true → P s) → P (hand_side hand n q)
 either_side P member Empty parts reply n q in_hand here as_told settled = as_told
 either_side P member (Copied c) parts reply n q in_hand here as_told settled = as_told
 either_side P member (Stale at old) parts reply n q in_hand here as_told settled = as_told
@@ -87,7 +87,7 @@ status_after r true = refl
 status_after r false = refl
 
 module _ (member : ℕ → Bool) (parts : StructureSets) (hand : Hand) (reply : Reply) (n : ℕ) (m : IsMember member n (parts n)) (in_hand : IsInHand member parts reply hand) (q : Qh) (head : parts n n ≡ Some (QueueHead q)) (v : Sent) (k : HasEnded v parts n) (h : Host) where
-  working : q.token.active ≡ true → IsPending (parts n) q.current
+  pub working : q.token.active ≡ true → IsPending (parts n) q.current
   working on =
       let is : m.queue ≡ q = found_queue (parts n n) m.queue q m.here head in
       let w : IsWorking (parts n) q = (subst (IsSoundQueue (parts n)) is m.sound).work on in
@@ -96,7 +96,7 @@ module _ (member : ℕ → Bool) (parts : StructureSets) (hand : Hand) (reply : 
   active_side : (hand_side hand n q).active ≡ true → q.token.active ≡ true
   active_side = either_side (λ (s : HostSide). s.active ≡ true → q.token.active ≡ true) member hand parts reply n q in_hand head (λ on. on) (λ s on other. on)
 
-  none_pending : IsPending (parts n) v.places.status → ⊥
+  pub none_pending : IsPending (parts n) v.places.status → ⊥
   none_pending pending = not_pending (parts n) v.places.status k.qtd k.here k.ended pending
 
   by_stage : (s : Stage) → h.stage ≡ s → is_over s ≡ false → Works v.endpoint v.request v.places (parts n) (hand_side hand n q) q h → ⊥
@@ -116,7 +116,7 @@ module _ (member : ℕ → Bool) (parts : StructureSets) (hand : Hand) (reply : 
       let same : going.queue ≡ q = found_queue (parts n n) going.queue q going.head head in
       none_pending (w.pending (halted_side (ap (λ (z : Qh). z.token.halted) (sym same) ∙ going.goes_on) w.halted))
 
-  stage_done : Shows v.endpoint v.request v.places (parts n) (hand_side hand n q) q h → h.stage ≡ Done
+  pub stage_done : Shows v.endpoint v.request v.places (parts n) (hand_side hand n q) q h → h.stage ≡ Done
   stage_done (works w) = absurd (by_stage h.stage refl w.goes_on w)
   stage_done (waits w) = absurd (none_pending (fresh_pending v.endpoint v.request v.places (parts n) Status (w.fresh Status (status_last v.request h.stage w.goes_on))))
   stage_done (ends w) = w.done
@@ -127,7 +127,7 @@ ended_once member parts hand reply n v l o m in_hand w k =
     finished_once v l hand parts n (record { done = stage_done member parts hand reply n m in_hand w.queue w.head v k l.host w.shown; moved = w.moved; stands = w.stands })
 
 -- a request that isn't begun hasn't ended
-behind_pending : (v : Sent) (hand : Hand) (parts : StructureSets) (n : ℕ) → IsBehind v hand parts n → HasEnded v parts n → ⊥
+pub behind_pending : (v : Sent) (hand : Hand) (parts : StructureSets) (n : ℕ) → IsBehind v hand parts n → HasEnded v parts n → ⊥
 behind_pending v hand parts n w k = not_pending (parts n) v.places.status k.qtd k.here k.ended (fresh_pending v.endpoint v.request v.places (parts n) Status (w.fresh Status refl))
 
 pub queue_ended : (member : ℕ → Bool) (parts : StructureSets) (hand : Hand) (reply : Reply) (n i : ℕ) (v : Queue) (l : Lines) (o : Option Device) → IsMember member n (parts n) → IsInHand member parts reply hand → i < v.count → IsQueue v l hand parts n o → HasEnded (sent_at v i) parts n

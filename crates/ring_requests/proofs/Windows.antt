@@ -56,7 +56,7 @@ use Rattle.ring_requests.proofs.Writing.{endpoint_back, head_now, host_now, back
 
 -- ---- the host's side in hand
 
-side_unsettled : (hand : Hand) (n : ℕ) (q : Qh) → IsUnsettled hand → hand_side hand n q ≡ host_in q
+pub side_unsettled : (hand : Hand) (n : ℕ) (q : Qh) → IsUnsettled hand → hand_side hand n q ≡ host_in q
 side_unsettled Empty n q un = refl
 side_unsettled (Copied c) n q un = refl
 side_unsettled (Settled c z) n q un = absurd (un c z refl)
@@ -65,7 +65,7 @@ side_unsettled (Stale at old) n q un = refl
 side_here : (hand : Hand) (c : Copy) (z : Settlement) (q : Qh) → hand ≡ Settled c z → hand_side hand c.at q ≡ z.host
 side_here hand c z q is = ap (λ (h : Hand). hand_side h c.at q) is ∙ ap (λ (b : Bool). if b then z.host else host_in q) (eq-eqb c.at c.at refl)
 
-side_beside : (hand : Hand) (c : Copy) (z : Settlement) (n : ℕ) (q : Qh) → hand ≡ Settled c z → c.at ≢ n → hand_side hand n q ≡ host_in q
+pub side_beside : (hand : Hand) (c : Copy) (z : Settlement) (n : ℕ) (q : Qh) → hand ≡ Settled c z → c.at ≢ n → hand_side hand n q ≡ host_in q
 side_beside hand c z n q is differs = ap (λ (h : Hand). hand_side h n q) is ∙ ap (λ (b : Bool). if b then z.host else host_in q) (not_same c.at n differs)
 
 -- ---- a window that goes on as it was

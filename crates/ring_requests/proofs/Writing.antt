@@ -194,6 +194,7 @@ module _ (e : Endpoint) (r : Request) (x : Places) (apart : AreApart x) (member 
         idle = w.idle;
         ping = w.ping;
         behind = subst (IsLinkBehind later_part x.behind) (sym (pointer_same k.settled.host.left q new v.next v.alternate)) (link_still part later_part x.behind (pointer_at k.settled.host.left q) alters w.behind);
+        worked = λ on. absurd (false≢true (sym w.idle ∙ sym v.active ∙ on));
       })
   back_shows (halts w) =
       let v = is_written k.copy k.settled in

@@ -3,3 +3,5 @@ pub mod Shown
 pub mod Windows
 pub mod Runs
 pub mod Samples
+pub mod Resting
+pub mod RestSamples

@@ -54,11 +54,13 @@ pub record Waits (e : Endpoint) (r : Request) (x : Places) (part : Structures) (
   pub fresh : AreFresh e r x part h.stage
   pub beside : q.token.active ≡ true → (s : Stage) → comes r h.stage s ≡ true → place_at x s ≢ q.current
 
+-- until it is written back the overlay works on the status yet
 pub record Ends (x : Places) (part : Structures) (side : HostSide) (q : Qh) (h : Host) : Type 0 where
   pub done : h.stage ≡ Done
   pub idle : side.active ≡ false
   pub ping : side.ping ≡ h.side.ping
   pub behind : IsLinkBehind part x.behind (pointer_at side.left q)
+  pub worked : q.token.active ≡ true → q.current ≡ x.status
 
 pub record IsPending (part : Structures) (a : ℕ) : Type 0 where
   pub qtd : Qtd

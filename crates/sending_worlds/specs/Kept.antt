@@ -2,8 +2,8 @@
 --     KeepsStreamsThroughout s   what is told of each IN endpoint begins its stream, each byte once and in order, and nothing follows its end; what is told of each OUT
 --                                endpoint begins the bytes that its device took, as its closing line tells them, and these begin what was put to it; once no line
 --                                is left to do, these are all streams
---     KeepsPlaces s              nothing of the driver is out of place, the ring in memory is the head and the queue head of each endpoint that is linked, as each is that was
---                                opened and isn't cancelled; the walk stands at these alone, or at those that have left since the last answered doorbell (4.8.2); and
+--     KeepsPlaces s              nothing of the driver is out of place, the ring in memory is the head and the queue head of each endpoint that is linked (not yet of an unfinished open), as each is that was
+--                                opened and isn't cancelled; the walk stands at these alone, or at those that have left since the last answered doorbell was rung (4.8.2); and
 --                                the controller runs, meets no fault and is refused no word (4.15.2.4)
 --     TextsKeepStreams, TextsKeepPlaces     the laws, of each script that a text spells
 use Rattle.std.specs.Prelude.{◌≡◌, ℕ, List}

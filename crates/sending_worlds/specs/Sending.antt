@@ -2,7 +2,7 @@
 --     IsSending fixed takes member x s puts w     the world is whole, and so is what each OUT endpoint is sent; `puts` tells the bytes of each put by the number of
 --                                                 its transfer
 --     HaveLeftTakers fixed w     an OUT endpoint that the walk can't meet any more has its taker still
---     HasSending fixed takes stream packets puts w     .. for some queue heads with streams, and some structures; the streams of endpoints that have left are closed
+--     HasSending fixed takes stream packets puts w     .. for some queue heads with streams, and some structures, over streams of which only those of opened endpoints may be closed
 use Rattle.std.specs.Prelude.{◌≡◌, ℕ, Bool, true, false, List, slice_get, Some}
 use Rattle.driver_rows.specs.declared.content.Endpoint.{Endpoint}
 use Rattle.endpoint_lives.specs.Lives.{may_meet}
@@ -28,10 +28,10 @@ HaveLeftTakers fixed w = (e : ℕ) (z : Endpoint) → slice_get w.driver.endpoin
 
 pub record IsSending (fixed : Fixed) (takes : ℕ → ℕ → Bool) (member : ℕ → Bool) (x : Streams) (s : Standing) (puts : ℕ → List ℕ) (w : World) : Type 0 where
   pub whole : IsWhole fixed takes member x s w
-  -- its qTDs are sent whole and in turn, and once it has ended its queue head is halted
+  -- its qTDs are sent whole and in turn, and once the report has its end its queue head is halted
   pub sent : SentStand w.driver s.order s.out s.hand s.parts
   pub ended : EndedAreStopped w.driver s.parts
-  -- the buffers of its puts hold their bytes; what was reported of it, and behind that what is still to be sent, are its puts
+  -- the buffers of its puts hold their bytes; what was reported of it, and behind that what is still to be sent, are its puts, or what was reported begins them
   pub held : HoldsPuts w.driver w.memory puts
   pub owes : Owes w.driver w.memory puts s.reported
   -- what its device took begins them

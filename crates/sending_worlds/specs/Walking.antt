@@ -1,5 +1,5 @@
 -- Where the walk of the ring stands at each moment of the run of a script of bulk endpoints (EHCI 1.0, 4.8 and 4.8.2).
---     WalksThroughout s     its cursor and its copy in hand name the head, a queue head in the ring or one that has left since the last answered doorbell; the driver's
+--     WalksThroughout s     its cursor and its copy in hand name the head, a queue head in the ring or one that has left since the last answered doorbell was rung; the driver's
 --                           content and the registers agree on the doorbell, and the numbers of each endpoint fit their fields
 --     TextsWalk             so it is of each script that a text spells
 use Rattle.std.specs.Prelude.{ℕ, List}

@@ -1,5 +1,5 @@
 -- Where a walk of the ring may go (EHCI 1.0, 4.8 and 4.8.2): to the head, to the queue heads in the ring, and to those that have left since
--- the last answered doorbell.
+-- the last answered doorbell was rung.
 --     IsReached d rings b        block b is such a queue head; `rings`: the doorbell isn't answered yet
 --     LeadsOn d rings link       the link leads to one
 --     IsWalkIn d r w             the cursor and the copy in hand name such queue heads, and the copy leads to one

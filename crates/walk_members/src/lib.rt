@@ -1,5 +1,5 @@
 //! Where a walk of the ring may go (EHCI 1.0, 4.8 and 4.8.2): its cursor and the copy in hand name the head, a queue head in the ring, or one that
-//! has left since the last answered doorbell, and so does the copy's link, whatever was stored since the copy was read.
+//! has left since the last answered doorbell was rung, and so does the copy's link, whatever was stored since the copy was read.
 //!
 //! The crate has no code of its own: each function is a law over the definitions of `async_walk` and `driver_rows`, and its body is empty.
 //! `the_walk_meets_members` says it of each event of the walk; `ring_members` and `queue_head_words` stand below it.

@@ -2,7 +2,7 @@
 -- meets no fault.
 --     linked_to command xs       the endpoints of which the queue heads are in the ring that memory shows: the newest isn't until its open's last store
 --     AreOnce bs                 no block is twice among these
---     ReadsRing m d              as the words of memory tell it, the ring is the head and the queue head of each endpoint that is linked, each once; one that
+--     ReadsRing m d              as the words of memory tell it, the ring is the head and the queue head of each endpoint that is linked, each once, but for one whose open is unfinished; one that
 --                                was opened and isn't cancelled is linked
 --     IsAtWork fixed w           nothing is out of place, and the controller runs: its next event isn't Idle, and isn't the fault
 --     RunsInPlace fixed w        .. and Host System Error is 0

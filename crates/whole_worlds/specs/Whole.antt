@@ -3,7 +3,7 @@
 --     IsNamed d way addr ep     an endpoint of this name and side was opened
 --     StaysOpen d way before now      each of these devices' endpoints is one still, or an endpoint was opened for it
 --     IsWhole fixed takes member x s w        the world is so
---     HasWhole fixed takes stream packets w   .. for some queue heads with streams, and some structures; the streams of endpoints that have left are closed
+--     HasWhole fixed takes stream packets w   .. for some queue heads with streams, and some structures, over streams of which only those of opened endpoints may be closed
 use Rattle.std.specs.Prelude.{◌≡◌, ℕ, ◌⊎◌, Bool, true, false, List, slice_get, Some}
 use Rattle.driver_rows.specs.declared.content.Endpoint.{Endpoint}
 use Rattle.driver_rows.specs.DriverContent.{DriverContent}

@@ -64,7 +64,7 @@ turned_has_row fixed rows.Enter c b = record { part = refl; frame = refl; walked
 turned_has_row fixed rows.Go c b = record { part = refl; frame = refl; walked = walk_asks fixed (event_row (walk_place c)) (at_event (walk_place c)) b }
 turned_has_row fixed rows.End c b = (refl, refl)
 
-world_has_row : (fixed : Fixed) (w : World) → HasRow begins_by transacts_by (microframe_row w.registers w.control) (controller_parts w) (wired fixed w) (controller_parts (controller_next fixed w)) (wired fixed (controller_next fixed w))
+pub world_has_row : (fixed : Fixed) (w : World) → HasRow begins_by transacts_by (microframe_row w.registers w.control) (controller_parts w) (wired fixed w) (controller_parts (controller_next fixed w)) (wired fixed (controller_next fixed w))
 world_has_row fixed w = turned_has_row fixed (controller_row w) (controller_parts w) w.bus
 
 -- ---- the windows

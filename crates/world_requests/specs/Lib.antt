@@ -1,1 +1,5 @@
 pub mod Requesting
+pub mod Recorded
+pub mod Samples
+pub mod Recording
+pub mod Along

@@ -6,4 +6,4 @@ use Rattle.frame_walk.proofs.sitd_back_worked.two_bytes.Goals as goal
 
 pub returns : goal.returns
 unfolding lacks after_complete moved_sitd
-returns c = record { works = refl; misses = refl; before = before; after = after; settled = refl; received = received; bytes = refl; done = refl; miss = miss }
+returns c = record { works = refl; misses = refl; before = before; after = after; settled = refl; received = received; counted = record { count = refl; left = refl }; bytes = refl; done = refl; miss = miss }
