@@ -49,3 +49,6 @@ pub mod ListRecent
 pub mod ListSamples
 pub mod ListComing
 pub mod ListFresh
+pub mod Chained
+pub mod Coming
+pub mod Queued

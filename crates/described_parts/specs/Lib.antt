@@ -20,3 +20,6 @@ pub mod Staying
 pub mod Given
 pub mod GivenWorked
 pub mod ListRows
+pub mod Chained
+pub mod Coming
+pub mod Queued

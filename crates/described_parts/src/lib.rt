@@ -10,10 +10,15 @@
 //! - `row_laws`, `row_worked`: Whom the walk of the frames may meet, by what a driver has (EHCI 1.0, 3.1, 3.3, 3.4, 3.6, 4.6 and 4.7): the members of its frame
 //!   list, and within one microframe those that were unlinked in it.
 //! - `store_laws`, `store_worked`: The driver's own stores of its frame list, beside both walks (EHCI 1.0, 3.1, 3.3.1, 3.4.1, 3.6.1 and 4.6).
+//! - `chained_laws`: The endpoint whose members a command unlinks is in its frames until the command is finished (EHCI 1.0, 4.6 and 4.7).
+//! - `coming_laws`: A descriptor that waits in its frame while a command links members (EHCI 1.0, 4.6 and 4.7).
+//! - `queued_laws`: What a command with descriptors links next (EHCI 1.0, 4.6 and 4.7).
 //!
 //! The crate has no code of its own: each function is a law, and its body is empty.
 #![tactic(auto)]
 
+pub mod chained_laws;
+pub mod coming_laws;
 pub mod command_laws;
 pub mod command_worked;
 pub mod given_laws;
@@ -24,6 +29,7 @@ pub mod part_laws;
 pub mod part_worked;
 pub mod queue_laws;
 pub mod queue_worked;
+pub mod queued_laws;
 pub mod row_laws;
 pub mod row_worked;
 pub mod store_laws;

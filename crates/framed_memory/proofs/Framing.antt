@@ -28,7 +28,7 @@ use Rattle.framed_memory.specs.Framed.{ControllerKeepsFramed}
 is_on : (base : Base) → IsOperating base → IsOn base
 is_on base is = record { run = is.run; async_enable = is.async_enable }
 
-stay_in_runs : (v : Views) (parts now : StructureSets) → KeepExtents parts now → AreInRuns v parts → AreInRuns v now
+pub stay_in_runs : (v : Views) (parts now : StructureSets) → KeepExtents parts now → AreInRuns v parts → AreInRuns v now
 stay_in_runs v parts now keep lie = extents_stay v v parts now (record { slots = λ at k has. has; endpoints = λ e. refl; transfers = λ t. refl; notes = λ b. refl }) keep lie
 
 pub controller_keeps : {W : Type 0} (begins : W → ℕ → Bool → W → Type 0) (transacts : W → Ask → List ℕ → Reply → W → Type 0) → ControllerKeepsFramed begins transacts

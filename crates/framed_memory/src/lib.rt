@@ -5,7 +5,13 @@
 #![tactic(auto)]
 
 mod laws;
+mod now_laws;
 
 pub use laws::{
     quiet_events_keep_it_framed, the_controller_keeps_it_framed, the_opening_is_framed,
+};
+pub use now_laws::{
+    an_unlinked_descriptor_is_framed_now, commands_that_store_keep_it_framed_now,
+    memory_has_the_frames, registers_keep_it_framed_now, releases_keep_it_framed_now,
+    the_controller_keeps_it_framed_now, the_opening_is_framed_now,
 };
