@@ -6,4 +6,3 @@ pub mod Index
 pub mod NowControlled
 pub mod NowRows
 pub mod Leading
-pub mod Chained

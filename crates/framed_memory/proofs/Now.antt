@@ -6,7 +6,6 @@ use Rattle.aligned_copies.specs.Aligned.{AreAligned}
 use Rattle.driver_rows.specs.declared.rows.DriverRow.{DriverRow}
 use Rattle.driver_rows.specs.declared.rows.DriverRow.TheVariants as rows
 use Rattle.driver_rows.specs.DriverContent.{DriverContent}
-use Rattle.driver_rows.specs.Opening.{opening}
 use Rattle.driver_rows.specs.Rows.{Parts, driver_row, after_driver_row}
 use Rattle.run_owners.specs.Owners.{views_of}
 use Rattle.run_owners.specs.Due.{IsDue}
@@ -29,14 +28,14 @@ use Rattle.described_parts.specs.CommandLaws.{keeps_runs}
 use Rattle.described_parts.specs.Meeting.{standing, met}
 use Rattle.described_parts.specs.Growing.{AreApartFrom}
 use Rattle.described_parts.specs.Recent.{AreRecent, DrivesFrames, driver_after, content_after}
-use Rattle.described_parts.specs.ListRows.{LeavesChained}
 use Rattle.described_parts.specs.Rows.{DrivesAfter}
 use Rattle.described_parts.proofs.Others.{rows_told}
 use Rattle.described_parts.proofs.Storing.{frame_read, status_read, advance_cleared, bell_rung}
 use Rattle.framed_memory.specs.Framed.{IsFramed}
 use Rattle.framed_memory.specs.Now.{IsFramedNow, NowHasFrames, NewIsFramedNow, reads_alone, RegistersKeepNow}
 use Rattle.framed_memory.proofs.Opening.{new_framed}
-use Rattle.framed_memory.proofs.Chained.{idle_chained, same_chained}
+use Rattle.described_parts.proofs.Chained.{new_chained, event_chained}
+use Rattle.described_parts.proofs.Queued.{new_linked, event_linked}
 
 -- ---- the frame list
 
@@ -59,7 +58,8 @@ new_now n room many few whole = record {
   framed = new_framed n room many few whole;
   recent_are = λ a kind is. absurd (none_some kind is);
   apart = λ a kind is. absurd (none_some kind is);
-  chained = idle_chained (opening n room).driver refl;
+  chained = new_chained n room;
+  queued = new_linked n room;
   planned = opening_planned n room;
   in_frames = opening_in_frames n room;
 }
@@ -72,7 +72,6 @@ pub record RowLeaves (base : Base) (member : ℕ → Bool) (later : ℕ → Opti
   pub told : IsToldBy (views_of (driver_after row c d)) descs parts
   pub recent_are : AreRecent (driver_after row c d) (content_after row c d).registers.frame_index later
   pub apart : AreApartFrom (driver_after row c d) later
-  pub chained : LeavesChained (driver_after row c d)
 
 -- the ring begins where it began
 still_aligned : (base : Base) (c : Content) (d : DriverContent) → base_of c.registers ≡ base → base_of (after_driver c d).registers ≡ base → AreAligned c → AreAligned (after_driver c d)
@@ -99,7 +98,8 @@ next_now base member recent later descs parts descs_then parts_then hand hand_th
       };
       recent_are = s.recent_are;
       apart = s.apart;
-      chained = s.chained;
+      chained = event_chained p k.chained;
+      queued = event_linked p sound.listed k.queued;
       planned = event_planned p sound.owners k.planned;
       in_frames = event_in_frames p sound.owners sound.listed k.planned k.in_frames;
     }
@@ -119,7 +119,6 @@ record RegistersAlone (base : Base) (member : ℕ → Bool) (recent : ℕ → Op
   drives : DrivesAfter row base member recent descs parts hand frame c d
   keeps : keeps_runs row ≡ true
   standing_stays : (n : ℕ) → standing (after_driver_row row (parts_of c d)).driver n ≡ standing d n
-  chained : LeavesChained (driver_after row c d)
 
 by_row : (base : Base) (member : ℕ → Bool) (recent : ℕ → Option Kind) (descs parts : StructureSets) (hand : Hand) (frame : FrameHand) (c : Content) (d : DriverContent) (row : DriverRow)
     → IsFramedNow base member recent descs parts hand frame c d → IsDue (parts_of c d) row → reads_alone row ≡ true → RegistersAlone base member recent descs parts hand frame c d row
@@ -129,13 +128,11 @@ by_row base member recent descs parts hand frame c d (rows.ReadFrame n) k due on
       drives = frame_read base member recent descs parts hand frame c d (drives_now base member recent descs parts hand frame c d k);
       keeps = refl;
       standing_stays = λ a. refl;
-      chained = same_chained d (driver_after (rows.ReadFrame c.registers.frame_index) c d) refl refl k.chained;
     })
 by_row base member recent descs parts hand frame c d (rows.ReadStatus heard) k due on = record {
   drives = status_read base member recent descs parts hand frame c d heard (drives_now base member recent descs parts hand frame c d k);
   keeps = refl;
   standing_stays = status_stands heard;
-  chained = same_chained d (driver_after (rows.ReadStatus heard) c d) refl refl k.chained;
 }
   where
     status_stands : (b : Bool) (n : ℕ) → standing (after_driver_row (rows.ReadStatus b) (parts_of c d)).driver n ≡ standing d n
@@ -145,13 +142,11 @@ by_row base member recent descs parts hand frame c d rows.ClearAdvance k due on 
   drives = advance_cleared base member recent descs parts hand frame c d (drives_now base member recent descs parts hand frame c d k);
   keeps = refl;
   standing_stays = λ a. refl;
-  chained = same_chained d (driver_after rows.ClearAdvance c d) refl refl k.chained;
 }
 by_row base member recent descs parts hand frame c d rows.RingBell k due on = record {
   drives = bell_rung base member recent descs parts hand frame c d k.framed.operating (drives_now base member recent descs parts hand frame c d k);
   keeps = refl;
   standing_stays = λ a. refl;
-  chained = same_chained d (driver_after rows.RingBell c d) refl refl k.chained;
 }
 by_row base member recent descs parts hand frame c d rows.Lend k due on = absurd (true≢false (sym on))
 by_row base member recent descs parts hand frame c d (rows.Store b at v) k due on = absurd (true≢false (sym on))
@@ -167,7 +162,6 @@ by_row base member recent descs parts hand frame c d rows.Rest k due on = record
   drives = drives_now base member recent descs parts hand frame c d k;
   keeps = refl;
   standing_stays = λ a. refl;
-  chained = same_chained d (driver_after rows.Rest c d) refl refl k.chained;
 }
 
 pub registers_now : RegistersKeepNow
@@ -180,5 +174,4 @@ registers_now base member recent descs parts hand frame c d k on =
       told = rows_told p descs parts (driver_row p) r.keeps (told_now base member recent descs parts hand frame c d k);
       recent_are = r.drives.recent_are;
       apart = λ n kind is. r.standing_stays n ∙ k.apart n kind is;
-      chained = r.chained;
     })

@@ -80,6 +80,7 @@ module _ {W : Type 0} (begins : W → ℕ → Bool → W → Type 0) (transacts 
       recent_are = λ n kind is. subst (λ (i : ℕ). AreRecent d i recent) (sym same) k.recent_are n kind is;
       apart = k.apart;
       chained = k.chained;
+      queued = k.queued;
       planned = k.planned;
       in_frames = k.in_frames;
     };
@@ -115,6 +116,7 @@ module _ {W : Type 0} (begins : W → ℕ → Bool → W → Type 0) (transacts 
           recent_are = λ n kind is. absurd (none_some kind is);
           apart = λ n kind is. absurd (none_some kind is);
           chained = k.chained;
+          queued = k.queued;
           planned = k.planned;
           in_frames = k.in_frames;
         };

@@ -1,10 +1,7 @@
 -- Rows that store the frame list, or give back what was unlinked, keep a driver framed with what was unlinked in this microframe.
-use Rattle.std.proofs.Common.{◌≡◌, ℕ, ◌*◌, Bool, false, Option, Some, None, ap, refl, sym, subst, ◌∙◌}
+use Rattle.std.proofs.Common.{◌≡◌, ℕ, ◌*◌, Bool, true, Option, Some, None, ap, refl, sym, subst, ◌∙◌}
 use Rattle.std.specs.Prelude.{slice_get}
-use Rattle.std.proofs.lemmas.Bool.{false≢true}
-use Rattle.std.proofs.lemmas.Option.{same_Some}
-use Rattle.periodic_list.specs.declared.work.Work.{Work}
-use Rattle.listed_members.specs.Listed.{IsListed, IsUnchaining, IsUnderWay}
+use Rattle.std.proofs.lemmas.Bool.{true≢false}
 use Rattle.op_registers.specs.RegisterFile.{RegisterFile}
 use Rattle.hc_core.specs.Controller.{Content}
 use Rattle.periodic_rows.specs.Periodic.{PeriodicContent, note_at}
@@ -16,7 +13,7 @@ use Rattle.driver_rows.specs.declared.content.Command.TheVariants as unfinished
 use Rattle.driver_rows.specs.declared.rows.DriverRow.{DriverRow}
 use Rattle.driver_rows.specs.declared.rows.DriverRow.TheVariants as rows
 use Rattle.driver_rows.specs.DriverContent.{DriverContent}
-use Rattle.driver_rows.specs.Rows.{Parts, removes_members, driver_row, after_driver_row, after_descriptor, after_placed}
+use Rattle.driver_rows.specs.Rows.{Parts, links, driver_row, after_driver_row, after_descriptor, after_placed}
 use Rattle.run_owners.specs.Owners.{views_of}
 use Rattle.run_owners.specs.Due.{IsDue, IsUnlinkDue}
 use Rattle.run_owners.proofs.Reasons.{each_is_due}
@@ -36,7 +33,7 @@ use Rattle.described_parts.specs.Meeting.{kind_of_descriptor, standing, standing
 use Rattle.described_parts.specs.Recent.{AreRecent, driver_after}
 use Rattle.described_parts.specs.Returned.{IsGivenBack}
 use Rattle.described_parts.specs.Staying.{also}
-use Rattle.described_parts.specs.ListRows.{ComesFirst, LeavesChained, leaves_now, recent_with, IsStoredIn, UnlinkDriven, LinkDriven}
+use Rattle.described_parts.specs.ListRows.{ComesFirst, leaves_now, recent_with, IsStoredIn, UnlinkDriven, LinkDriven}
 use Rattle.described_parts.specs.Given.{without_owners, begins_at, waiting_at}
 use Rattle.described_parts.proofs.Stays.{described_stay}
 use Rattle.described_parts.proofs.Others.{rows_told}
@@ -47,11 +44,11 @@ use Rattle.described_parts.proofs.GivenRow.{row_is_given_back}
 use Rattle.described_parts.proofs.GivenBoth.{release_told, release_runs_both}
 use Rattle.described_parts.proofs.GivenWaiting.{waiting_told, waiting_runs_both}
 use Rattle.described_parts.proofs.GivenRecent.{endpoint_recent}
+use Rattle.described_parts.proofs.Queued.{descriptors_first, leaving_first}
 use Rattle.framed_memory.specs.Now.{IsFramedNow}
 use Rattle.framed_memory.specs.NowRows.{UnlinkKeepsNow, LinkKeepsNow, ReleaseKeepsNow, WaitingKeepsNow}
 use Rattle.framed_memory.proofs.Framing.{stay_in_runs}
 use Rattle.framed_memory.proofs.Leading.{command_leads}
-use Rattle.framed_memory.proofs.Chained.{idle_chained, advanced_chained, unlink_chained, descriptor_chained, placed_idle}
 use Rattle.framed_memory.proofs.Now.{has_frames, begins_there, RowLeaves, next_now, told_now, drives_now}
 
 -- ---- stores
@@ -89,7 +86,6 @@ unlink_now base member recent descs parts hand frame c d t y k is there =
             told = rows_told p descs_then parts_then (rows.Unlink t) refl told;
             recent_are = u.drives.recent_are;
             apart = u.event.stored.apart;
-            chained = unlink_chained p t (slice_get d.transfers t) k.chained;
           }));
     }
 
@@ -97,21 +93,18 @@ store_told : (p : Parts) (descs parts : StructureSets) (row : DriverRow) (b at v
 store_told p descs parts row b at v is told =
     subst (λ (r : DriverRow). IsToldBy (views_of (after_driver_row r p).driver) descs parts) (sym is) (rows_told p descs parts (rows.Store b at v) refl told)
 
--- a command that unlinks members links none
-comes_first : (member : ℕ → Bool) (recent : ℕ → Option Kind) (all : StructureSets) (d : DriverContent) (c : Command) → d.command ≡ Some c → IsListed d
-    → (removes_members c ≡ false → ComesFirst member recent all d d.periodic.list) → ComesFirst member recent all d d.periodic.list
-comes_first member recent all d (unfinished.Open queue) is listed comes = comes refl
-comes_first member recent all d (unfinished.Publish b words) is listed comes = comes refl
-comes_first member recent all d (unfinished.Unlink e b link) is listed comes = comes refl
-comes_first member recent all d unfinished.Chain is listed comes = comes refl
-comes_first member recent all d (unfinished.Iso e t count) is listed comes = comes refl
-comes_first member recent all d (unfinished.Unchain e) is listed comes = none_comes
-  where
-    way : IsUnchaining d e
-    way = subst (IsUnderWay d) is listed.way
-
-    none_comes : ComesFirst member recent all d d.periodic.list
-    none_comes w begun adds made = absurd (false≢true (sym adds ∙ sym (ap (λ (x : Work). x.removes) (same_Some way.work w (sym way.begun ∙ begun))) ∙ way.removes))
+-- an endpoint's queue head apart, what a command links next is lent and isn't recent, and one that unlinks members links none
+comes_first : (base : Base) (member : ℕ → Bool) (recent : ℕ → Option Kind) (descs parts : StructureSets) (hand : Hand) (frame : FrameHand) (c : Content) (d : DriverContent) (cmd : Command)
+    → IsFramedNow base member recent descs parts hand frame c d → d.command ≡ Some cmd → links cmd ≡ true → (cmd ≡ unfinished.Chain → ComesFirst member recent (both descs parts) d d.periodic.list)
+    → ComesFirst member recent (both descs parts) d d.periodic.list
+comes_first base member recent descs parts hand frame c d (unfinished.Open queue) k is on chain = absurd (true≢false (sym on))
+comes_first base member recent descs parts hand frame c d (unfinished.Publish b words) k is on chain = absurd (true≢false (sym on))
+comes_first base member recent descs parts hand frame c d (unfinished.Unlink e b link) k is on chain = absurd (true≢false (sym on))
+comes_first base member recent descs parts hand frame c d unfinished.Chain k is on chain = chain refl
+comes_first base member recent descs parts hand frame c d (unfinished.Iso e t count) k is on chain =
+    descriptors_first base member (met d recent) recent descs parts hand frame c d c.registers.frame_index e t count k.framed.runs k.framed.described k.recent_are k.framed.place.sound.owners
+    k.framed.place.lent k.queued is
+comes_first base member recent descs parts hand frame c d (unfinished.Unchain e) k is on chain = leaving_first member recent (both descs parts) d e k.framed.place.sound.listed is
 
 pub link_now : LinkKeepsNow
 link_now base member recent descs parts hand frame c d k why comes =
@@ -121,7 +114,7 @@ link_now base member recent descs parts hand frame c d k why comes =
     let l : LinkDriven base member recent descs parts hand frame c d (driver_row p) why.store
     = link_drives base member recent descs parts hand frame c d (driver_row p) (drives_now base member recent descs parts hand frame c d k)
     (begins_there base member recent descs parts hand frame c d k) (has_frames base member recent descs parts hand frame c d k) k.apart sound.stands sound.shape sound.owners why
-    (command_leads p why.command (record { unfinished = why.unfinished; links = why.links; late = why.late }) sound k.framed.list) (comes_first member recent (both descs parts) d why.command why.unfinished sound.listed comes)
+    (command_leads p why.command (record { unfinished = why.unfinished; links = why.links; late = why.late }) sound k.framed.list) (comes_first base member recent descs parts hand frame c d why.command k why.unfinished why.links comes)
     k.chained in
     let descs_then : StructureSets = descs_now descs l.event.now in
     let parts_then : StructureSets = parts_now descs parts l.event.now in
@@ -135,7 +128,6 @@ link_now base member recent descs parts hand frame c d k why comes =
             told = store_told p descs_then parts_then (driver_row p) why.store.block why.store.at why.store.value why.is told;
             recent_are = l.drives.recent_are;
             apart = l.event.apart;
-            chained = subst (λ (r : DriverRow). LeavesChained (driver_after r c d)) (sym why.is) (advanced_chained d d.command k.chained);
           });
     }
 
@@ -168,7 +160,6 @@ release_now base member recent descs parts hand frame c d t y k is there =
       recent_are = subst (λ (r : RegisterFile). AreRecent (driver_after row c d) r.frame_index recent) (sym registers)
           (release_recent p recent c.registers.frame_index t y given there k.recent_are);
       apart = λ n kind on. descriptor_stands p t (slice_get d.transfers t) n ∙ k.apart n kind on;
-      chained = descriptor_chained p t (slice_get d.transfers t) k.chained;
     }))
 
 placed_registers : (p : Parts) (e : ℕ) (o : Option Endpoint) → (after_placed p e o).registers ≡ p.registers
@@ -198,5 +189,4 @@ waiting_now base member recent descs parts hand frame c d e x k is there iso =
       recent_are = subst (λ (r : RegisterFile). AreRecent (driver_after row c d) r.frame_index recent) (sym registers)
           (endpoint_recent p recent c.registers.frame_index e x sound.owners given there k.recent_are);
       apart = λ n kind on. placed_stands p e (slice_get d.endpoints e) n ∙ k.apart n kind on;
-      chained = idle_chained (driver_after row c d) (placed_idle p e (slice_get d.endpoints e) given.due.idle);
     }))

@@ -2,8 +2,8 @@
 -- (EHCI 1.0, 2.3.4, 3, 4.6, 4.7 and 4.12.3).
 --     IsFramedNow base member recent descs parts hand frame c d
 --                             memory is framed, and those are met that stand in the driver's frame list, or are `recent`: these were unlinked in this microframe,
---                             and none of them stands; an endpoint whose members are unlinked is in its frames, the driver's descriptors are in step, and
---                             its endpoints planned
+--                             and none of them stands; an endpoint whose members are unlinked is in its frames, a descriptor that is linked waits there, the
+--                             driver's descriptors are in step, and its endpoints planned
 --     FramedNext ..           so it is once the driver had its next event
 --     NowHasFrames            the words of memory stand for the driver's frame list, whose members are spread
 --     NewIsFramedNow          a driver that was just built and a new controller are so
@@ -40,6 +40,7 @@ use Rattle.described_parts.specs.Meeting.{no_recent, met}
 use Rattle.described_parts.specs.Growing.{AreApartFrom}
 use Rattle.described_parts.specs.Recent.{AreRecent}
 use Rattle.described_parts.specs.ListRows.{LeavesChained}
+use Rattle.described_parts.specs.Queued.{LinksQueued}
 use Rattle.described_parts.specs.RowLaws.{HasFrames}
 use Rattle.framed_memory.specs.Framed.{IsFramed}
 
@@ -49,6 +50,7 @@ pub record IsFramedNow (base : Base) (member : ℕ → Bool) (recent : ℕ → O
     pub recent_are : AreRecent d c.registers.frame_index recent
     pub apart : AreApartFrom d recent
     pub chained : LeavesChained d
+    pub queued : LinksQueued d
     pub planned : IsPlanned d
     pub in_frames : AreInFrames d
 

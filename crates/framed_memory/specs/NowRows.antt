@@ -1,10 +1,10 @@
 -- Rows of a driver that store its frame list, or give back what was unlinked, where the controller walks a ring and the frames (EHCI 1.0, 2.3.4, 3.1, 4.6 and 4.7).
 --     FramedUnlinked .., UnlinkKeepsNow     a harvested descriptor is unlinked: it is recent from then on, and all of it is framed with what the structures became
---     FramedLinked .., LinkKeepsNow         so it is where a command links or unlinks members, in each of its stores; one that is linked by the first of
---                                           them has its structure, and isn't recent
+--     FramedLinked .., LinkKeepsNow         so it is where a command links or unlinks members, in each of its stores; a queue head that is linked by the
+--                                           first of them has its structure, and isn't recent
 --     ReleaseKeepsNow                       a descriptor is given back
 --     WaitingKeepsNow                       an isochronous endpoint is given back, with all that waits there
-use Rattle.std.specs.Prelude.{◌≡◌, ℕ, ◌*◌, Bool, true, false, slice_get, Option, Some}
+use Rattle.std.specs.Prelude.{◌≡◌, ℕ, ◌*◌, Bool, true, slice_get, Option, Some}
 use Rattle.periodic_list.specs.declared.work.Store.{Store}
 use Rattle.periodic_rows.specs.Periodic.{note_at}
 use Rattle.periodic_rows.specs.declared.content.Removed.TheVariants as removed
@@ -12,7 +12,8 @@ use Rattle.driver_rows.specs.declared.content.Endpoint.{Endpoint}
 use Rattle.driver_rows.specs.declared.content.Transfer.{Transfer}
 use Rattle.driver_rows.specs.declared.rows.DriverRow.TheVariants as rows
 use Rattle.driver_rows.specs.DriverContent.{DriverContent}
-use Rattle.driver_rows.specs.Rows.{driver_row, removes_members, is_iso}
+use Rattle.driver_rows.specs.declared.content.Command.TheVariants as unfinished
+use Rattle.driver_rows.specs.Rows.{driver_row, is_iso}
 use Rattle.run_owners.specs.Due.{IsLinkOf}
 use Rattle.hc_core.specs.Controller.{Content}
 use Rattle.lent_structures.specs.Structures.{StructureSets}
@@ -51,7 +52,7 @@ pub record FramedLinked (base : Base) (member : ℕ → Bool) (recent : ℕ → 
 abbrev pub LinkKeepsNow : Type 0
 LinkKeepsNow = (base : Base) (member : ℕ → Bool) (recent : ℕ → Option Kind) (descs parts : StructureSets) (hand : Hand) (frame : FrameHand) (c : Content) (d : DriverContent)
     → IsFramedNow base member recent descs parts hand frame c d → (why : IsLinkOf (parts_of c d) (driver_row (parts_of c d)))
-    → (removes_members why.command ≡ false → ComesFirst member recent (both descs parts) d d.periodic.list)
+    → (why.command ≡ unfinished.Chain → ComesFirst member recent (both descs parts) d d.periodic.list)
     → FramedLinked base member recent descs parts hand frame c d why.store
 
 -- ---- what was unlinked is given back
