@@ -1,5 +1,5 @@
--- Each command of a script of bulk endpoints, where it is accepted, opens an endpoint, is a get or a put, or cancels an endpoint.
-use Rattle.std.proofs.Common.{◌≡◌, ℕ, ◌≤◌, Bool, true, false, ◌&&◌, cond, nat_lt, List, [], ◌∷◌, ◌++◌, length, get_or, slice_get, Option, Some, None, Result, Ok, Err, unwrap_or, ap, sym, subst, ◌∙◌, inl, inr, refl, arith}
+-- Each command of a script of bulk and control endpoints, where it is accepted, opens an endpoint, is a get, a put or a request, or cancels an endpoint.
+use Rattle.std.proofs.Common.{◌≡◌, ℕ, ◌≤◌, Bool, true, false, not, ◌&&◌, cond, nat_eq, nat_lt, List, [], ◌∷◌, ◌++◌, length, get_or, slice_get, Option, Some, None, Result, Ok, Err, unwrap_or, ap, sym, subst, ◌∙◌, inl, inr, refl, arith}
 use Rattle.std.specs.Prelude.{option_and_then, is_some, position}
 use Rattle.std.proofs.lemmas.Bool.{false≢true}
 use Rattle.std.proofs.lemmas.Option.{slice_get-get_or}
@@ -12,6 +12,7 @@ use Rattle.usb_base.specs.declared.commands.Cmd.{Cmd}
 use Rattle.usb_base.specs.declared.commands.Cmd.TheVariants as commands
 use Rattle.usb_base.specs.declared.reports.OfferError.{OfferError}
 use Rattle.usb_base.specs.declared.reports.OfferError.TheVariants as errors
+use Rattle.usb_base.specs.declared.packets.EpKind.{EpKind}
 use Rattle.usb_base.specs.declared.packets.Way.{Way}
 use Rattle.usb_base.specs.declared.packets.Way.TheVariants as ways
 use Rattle.word_mem.specs.Memory.{Mem}
@@ -24,13 +25,15 @@ use Rattle.driver_rows.specs.declared.content.Command.{Command}
 use Rattle.driver_rows.specs.declared.content.Sort.TheVariants as sorts
 use Rattle.driver_rows.specs.Rows.{is_iso}
 use Rattle.driver_rows.specs.DriverContent.{DriverContent, is_same_way, endpoint_of, endpoint_named}
-use Rattle.driver_rows.specs.Words.{request_length, request_stages, needs, is_control}
+use Rattle.driver_rows.specs.Words.{request_length, request_stages, setup_stage, data_stage, status_stage, asks_in, needs, is_control}
 use Rattle.driver_rows.specs.Offers.{Offered, Asked, take_runs, taken_open, planned_open, offered_open, taken_transfer, open_transfer, found_transfer, is_queued, takes_get, takes_put, takes_control, offered_iso, cancelled_by, offered_cancel, offered_next, offered}
 use Rattle.run_owners.specs.Owners.{is_descriptor}
-use Rattle.run_owners.specs.Accepts.{AreShort, Cancels}
-use Rattle.chained_transfers.specs.Bulk.{IsBulk, OpensBulk, OnlyBulk, OpensOrCancelsBulk}
+use Rattle.run_owners.specs.Accepts.{AreShort, Opens, Transfers, Cancels}
+use Rattle.chained_transfers.specs.Bulk.{IsDataWay, IsBulk, OpensBulk, OnlyBulk, OpensOrCancelsBulk}
 use Rattle.chained_transfers.specs.Leaving.{IsAcceptedAs}
-use Rattle.chained_transfers.specs.Accepted.{move_of, IsOpened, IsAsked, IsAccepted}
+use Rattle.chained_transfers.specs.Accepted.{move_of, IsAccepted}
+use Rattle.chained_transfers.specs.Asynchronous.{IsKindOf, IsAsynchronous, OpensAsynchronous, OnlyAsynchronous, IsAskedOfBulk, IsRequested, AcceptsAsynchronous}
+use Rattle.chained_transfers.proofs.BulkAndControl.{not_iso, not_periodic, bulk_asynchronous}
 use Rattle.chained_transfers.proofs.Ways.{sort_queued, same_in, same_out, stages_short, stages_some}
 
 ok_is : (o p : Offered) → ◌≡◌ {A = Result Offered OfferError} (Ok o) (Ok p) → p ≡ o
@@ -47,92 +50,151 @@ get_move way len by is = record { is = ap (λ (w : Way). move_of w len by []) (s
 put_move : (way : Way) (bytes : List ℕ) (by : ℕ) → way ≡ ways.Out → IsMove way (move_of ways.Out (length bytes) by bytes) (length bytes) by bytes
 put_move way bytes by is = record { is = ap (λ (w : Way). move_of w (length bytes) by bytes) (sym is); whole = λ out. refl }
 
+-- what is asked can be taken on, where it isn't too long
+record CanBeTaken (a : Asked) : Type 0 where
+  sort : is_descriptor a.sort ≡ false
+  short : a.most ≤ 20480 → AreShort a.stages
+  some : 1 ≤ length a.stages
+
+move_can : (way : Way) (most by : ℕ) (bytes : List ℕ) → CanBeTaken (move_of way most by bytes)
+move_can way most by bytes = record { sort = sort_queued way; short = stages_short way most by; some = stages_some way most by }
+
+abbrev request_of : List ℕ → List ℕ → Asked
+request_of setup bytes = record { sort = sorts.Request; stages = request_stages setup; most = request_length setup; bytes = setup ++ bytes }
+
+request_can : (setup bytes : List ℕ) → CanBeTaken (request_of setup bytes)
+request_can setup bytes = by (nat_eq (request_length setup) 0)
+  where
+    by : (b : Bool) → CanBeTaken (record { sort = sorts.Request; stages = cond b (setup_stage ∷ status_stage true ∷ []) (setup_stage ∷ data_stage (asks_in setup) (request_length setup) ∷ status_stage (not (asks_in setup)) ∷ []); most = request_length setup; bytes = setup ++ bytes })
+    by true = record { sort = refl; short = λ low. (omega arith, (omega arith, tt)); some = omega arith }
+    by false = record { sort = refl; short = λ low. (omega arith, (low, (omega arith, tt))); some = omega arith }
+
+-- each endpoint is a bulk or control one
+abbrev pub EachIsAsynchronous : DriverContent → Type 0
+EachIsAsynchronous d = (e : ℕ) (x : Endpoint) → slice_get d.endpoints e ≡ Some x → IsAsynchronous x.desc × (x.placement ≡ None)
+
 -- each endpoint is a bulk one
 abbrev pub EachIsBulk : DriverContent → Type 0
 EachIsBulk d = (e : ℕ) (x : Endpoint) → slice_get d.endpoints e ≡ Some x → IsBulk x.desc × (x.placement ≡ None)
 
-module _ (d : DriverContent) (m : Mem) (o : Offered) (idle : d.command ≡ None) (bulk : EachIsBulk d) where
-  -- ---- a get or a put
+both_second : (a b : Bool) → a && b ≡ true → b ≡ true
+both_second true b f = f
+both_second false b f = absurd (false≢true f)
 
-  taken_move : (e : ℕ) (x : Endpoint) (a : Asked) (most by : ℕ) (bytes : List ℕ) (r : Result Holding OfferError) → slice_get d.endpoints e ≡ Some x → x.ended ≡ None → is_iso x.desc.kind ≡ false → IsMove x.desc.name.way a most by bytes → most ≤ 20480
-      → take_runs (holding d.book m) (needs a.stages) ≡ r → taken_transfer d e x a r ≡ Ok o → IsAsked d m o
-  taken_move e x a most by bytes (Err why) here ended queued moves few is f = absurd (cc)
-  taken_move e x a most by bytes (Ok h) here ended queued moves few is f =
-      let way = x.desc.name.way in
+gets_in : (x : Endpoint) → takes_get x ≡ true → x.desc.name.way ≡ ways.In
+gets_in x is = same_in x.desc.name.way (both_second (is_queued x.desc.kind) (is_same_way x.desc.name.way ways.In) is)
+
+puts_out : (x : Endpoint) → takes_put x ≡ true → x.desc.name.way ≡ ways.Out
+puts_out x is = same_out x.desc.name.way (both_second (is_queued x.desc.kind) (is_same_way x.desc.name.way ways.Out) is)
+
+control_way : (way : Way) (k : EpKind) → IsKindOf way k → is_control k ≡ true → way ≡ ways.Ctl
+control_way ways.In k kind is = absurd (false≢true (sym (ap is_control kind) ∙ is))
+control_way ways.Out k kind is = absurd (false≢true (sym (ap is_control kind) ∙ is))
+control_way ways.Ctl k kind is = refl
+
+-- the endpoint is opened as this one
+record OpensAs (d : DriverContent) (m : Mem) (o : Offered) (x : EpDesc) : Type 0 where
+  opens : Opens d m o
+  desc : opens.desc ≡ x
+
+-- this is asked of an endpoint that takes it
+record IsTakenBy (d : DriverContent) (m : Mem) (o : Offered) (takes : Endpoint → Bool) (a : Asked) : Type 0 where
+  transfers : Transfers d m o
+  taken : takes transfers.endpoint ≡ true
+  asked : transfers.asked ≡ a
+
+abbrev AcceptsNext : DriverContent → Mem → Offered → Cmd → Type 0
+AcceptsNext d m o (commands.OpenEp x) = OpensAs d m o x
+AcceptsNext d m o (commands.Get name len by) = IsAskedOfBulk d m o
+AcceptsNext d m o (commands.Put name bytes by) = IsAskedOfBulk d m o
+AcceptsNext d m o (commands.Control name setup bytes) = IsRequested d m o
+AcceptsNext d m o (commands.Iso name count len seed) = ⊥
+AcceptsNext d m o (commands.Cancel name) = Cancels d m o
+
+abbrev OpensRing : Cmd → Type 0
+OpensRing (commands.OpenEp x) = is_periodic x.kind ≡ false
+OpensRing _ = Unit {0}
+
+module _ (d : DriverContent) (m : Mem) (o : Offered) (idle : d.command ≡ None) (each : EachIsAsynchronous d) where
+  -- ---- a transfer
+
+  module _ (takes : Endpoint → Bool) (a : Asked) (fit : CanBeTaken a) where
+    taken_one : (e : ℕ) (x : Endpoint) (r : Result Holding OfferError) → slice_get d.endpoints e ≡ Some x → takes x ≡ true → x.ended ≡ None → a.most ≤ 20480
+        → take_runs (holding d.book m) (needs a.stages) ≡ r → taken_transfer d e x a r ≡ Ok o → IsTakenBy d m o takes a
+    taken_one e x (Err why) here taken ended few is f = absurd (cc)
+    taken_one e x (Ok h) here taken ended few is f = record {
+      transfers = record {
+        number = e;
+        endpoint = x;
+        asked = a;
+        holding_after = h;
+        idle = idle;
+        here = here;
+        goes_on = ended;
+        queued = not_iso x.desc (each e x here).0;
+        sort = fit.sort;
+        short = fit.short few;
+        some = fit.some;
+        runs = is;
+        is = ok_is _ o f;
+      };
+      taken = taken;
+      asked = refl;
+    }
+
+    allowed_one : (e : ℕ) (x : Endpoint) (b : Bool) → slice_get d.endpoints e ≡ Some x → takes x ≡ true → x.ended ≡ None → nat_lt 20480 a.most ≡ b
+        → cond b (Err errors.TooLong) (taken_transfer d e x a (take_runs (holding d.book m) (needs a.stages))) ≡ Ok o → IsTakenBy d m o takes a
+    allowed_one e x true here taken ended is f = absurd (cc)
+    allowed_one e x false here taken ended is f =
+        let low : a.most ≤ 20480 = grind (arith, nat_tests) in
+        taken_one e x (take_runs (holding d.book m) (needs a.stages)) here taken ended low refl f
+
+    ended_one : (e : ℕ) (x : Endpoint) (c : Option EndCause) → slice_get d.endpoints e ≡ Some x → takes x ≡ true → x.ended ≡ c → open_transfer d m e x a c ≡ Ok o → IsTakenBy d m o takes a
+    ended_one e x (Some cause) here taken ended f = absurd (cc)
+    ended_one e x None here taken ended f = allowed_one e x (nat_lt 20480 a.most) here taken ended refl f
+
+    takes_one : (e : ℕ) (x : Endpoint) (b : Bool) → slice_get d.endpoints e ≡ Some x → takes x ≡ b → cond b (open_transfer d m e x a x.ended) (Err errors.NoEndpoint) ≡ Ok o → IsTakenBy d m o takes a
+    takes_one e x false here is f = absurd (cc)
+    takes_one e x true here is f = ended_one e x x.ended here is refl f
+
+    found_one : (e : ℕ) (q : Option Endpoint) → slice_get d.endpoints e ≡ q → found_transfer d m takes a e q ≡ Ok o → IsTakenBy d m o takes a
+    found_one e None here f = absurd (cc)
+    found_one e (Some x) here f = takes_one e x (takes x) here refl f
+
+    named_one : (q : Option ℕ) → found_transfer d m takes a (unwrap_or q 0) (option_and_then (λ e. slice_get d.endpoints e) q) ≡ Ok o → IsTakenBy d m o takes a
+    named_one None f = absurd (cc)
+    named_one (Some e) f = found_one e (slice_get d.endpoints e) refl f
+
+  gets : (len by : ℕ) → IsTakenBy d m o takes_get (move_of ways.In len by []) → IsAskedOfBulk d m o
+  gets len by t =
+      let is = gets_in t.transfers.endpoint t.taken in
+      let move = get_move t.transfers.endpoint.desc.name.way len by is in
       record {
-        most = most;
-        by = by;
-        bytes = bytes;
-        transfers = record {
-          number = e;
-          endpoint = x;
-          asked = a;
-          holding_after = h;
-          idle = idle;
-          here = here;
-          goes_on = ended;
-          queued = queued;
-          sort = ap (λ (z : Asked). is_descriptor z.sort) moves.is ∙ sort_queued way;
-          short = subst (λ (z : Asked). AreShort z.stages) (sym moves.is) (stages_short way most by few);
-          some = subst (λ (z : Asked). 1 ≤ length z.stages) (sym moves.is) (stages_some way most by);
-          runs = is;
-          is = ok_is _ o f;
-        };
-        asked = moves.is;
-        whole = moves.whole;
+        asked = record { most = len; by = by; bytes = []; transfers = t.transfers; asked = t.asked ∙ move.is; whole = move.whole };
+        way = subst (λ (w : Way). IsDataWay w) (sym is) tt;
       }
 
-  long_move : (e : ℕ) (x : Endpoint) (a : Asked) (most by : ℕ) (bytes : List ℕ) (b : Bool) → slice_get d.endpoints e ≡ Some x → x.ended ≡ None → is_iso x.desc.kind ≡ false → IsMove x.desc.name.way a most by bytes → nat_lt 20480 a.most ≡ b
-      → cond b (Err errors.TooLong) (taken_transfer d e x a (take_runs (holding d.book m) (needs a.stages))) ≡ Ok o → IsAsked d m o
-  long_move e x a most by bytes true here ended queued moves is f = absurd (cc)
-  long_move e x a most by bytes false here ended queued moves is f =
-      let low : a.most ≤ 20480 = grind (arith, nat_tests) in
-      let same : a.most ≡ most = ap (λ (z : Asked). z.most) moves.is in
-      taken_move e x a most by bytes (take_runs (holding d.book m) (needs a.stages)) here ended queued moves (omega (arith, low, same)) refl f
+  puts : (bytes : List ℕ) (by : ℕ) → IsTakenBy d m o takes_put (move_of ways.Out (length bytes) by bytes) → IsAskedOfBulk d m o
+  puts bytes by t =
+      let is = puts_out t.transfers.endpoint t.taken in
+      let move = put_move t.transfers.endpoint.desc.name.way bytes by is in
+      record {
+        asked = record { most = length bytes; by = by; bytes = bytes; transfers = t.transfers; asked = t.asked ∙ move.is; whole = move.whole };
+        way = subst (λ (w : Way). IsDataWay w) (sym is) tt;
+      }
 
-  ended_move : (e : ℕ) (x : Endpoint) (a : Asked) (most by : ℕ) (bytes : List ℕ) (c : Option EndCause) → slice_get d.endpoints e ≡ Some x → x.ended ≡ c → is_iso x.desc.kind ≡ false → IsMove x.desc.name.way a most by bytes → open_transfer d m e x a c ≡ Ok o → IsAsked d m o
-  ended_move e x a most by bytes (Some cause) here ended queued moves f = absurd (cc)
-  ended_move e x a most by bytes None here ended queued moves f = long_move e x a most by bytes (nat_lt 20480 a.most) here ended queued moves refl f
-
-  -- each endpoint that takes it moves these bytes
-  module _ (takes : Endpoint → Bool) (a : Asked) (most by : ℕ) (bytes : List ℕ) (fits : (x : Endpoint) → IsBulk x.desc → takes x ≡ true → IsMove x.desc.name.way a most by bytes) where
-    takes_one : (e : ℕ) (x : Endpoint) (b : Bool) → slice_get d.endpoints e ≡ Some x → takes x ≡ b → cond b (open_transfer d m e x a x.ended) (Err errors.NoEndpoint) ≡ Ok o → IsAsked d m o
-    takes_one e x false here is f = absurd (cc)
-    takes_one e x true here is f =
-        let s = (bulk e x here).0 in
-        ended_move e x a most by bytes x.ended here refl (ap is_iso s.kind) (fits x s is) f
-
-    found_move : (e : ℕ) (q : Option Endpoint) → slice_get d.endpoints e ≡ q → found_transfer d m takes a e q ≡ Ok o → IsAsked d m o
-    found_move e None here f = absurd (cc)
-    found_move e (Some x) here f = takes_one e x (takes x) here refl f
-
-    named_move : (q : Option ℕ) → found_transfer d m takes a (unwrap_or q 0) (option_and_then (λ e. slice_get d.endpoints e) q) ≡ Ok o → IsAsked d m o
-    named_move None f = absurd (cc)
-    named_move (Some e) f = found_move e (slice_get d.endpoints e) refl f
-
-  gets_in : (x : Endpoint) → IsBulk x.desc → takes_get x ≡ true → x.desc.name.way ≡ ways.In
-  gets_in x s is = same_in x.desc.name.way (sym (ap (λ k. is_queued k && is_same_way x.desc.name.way ways.In) s.kind) ∙ is)
-
-  puts_out : (x : Endpoint) → IsBulk x.desc → takes_put x ≡ true → x.desc.name.way ≡ ways.Out
-  puts_out x s is = same_out x.desc.name.way (sym (ap (λ k. is_queued k && is_same_way x.desc.name.way ways.Out) s.kind) ∙ is)
+  requests : (setup bytes : List ℕ) → IsTakenBy d m o takes_control (request_of setup bytes) → IsRequested d m o
+  requests setup bytes t =
+      let x = t.transfers.endpoint in
+      record {
+        setup = setup;
+        bytes = bytes;
+        transfers = t.transfers;
+        way = control_way x.desc.name.way x.desc.kind (each t.transfers.number x t.transfers.here).0.kind t.taken;
+        asked = t.asked;
+      }
 
   -- ---- what no endpoint takes
-
-  takes_none : (e : ℕ) (x : Endpoint) (a : Asked) (b : Bool) → b ≡ false → cond b (open_transfer d m e x a x.ended) (Err errors.NoEndpoint) ≡ Ok o → ⊥
-  takes_none e x a false off f = cc
-  takes_none e x a true off f = cc
-
-  found_none : (takes : Endpoint → Bool) (a : Asked) (e : ℕ) (q : Option Endpoint) → ((x : Endpoint) → IsBulk x.desc → takes x ≡ false) → slice_get d.endpoints e ≡ q → found_transfer d m takes a e q ≡ Ok o → ⊥
-  found_none takes a e None not here f = cc
-  found_none takes a e (Some x) not here f = takes_none e x a (takes x) (not x (bulk e x here).0) f
-
-  named_none : (takes : Endpoint → Bool) (a : Asked) (q : Option ℕ) → ((x : Endpoint) → IsBulk x.desc → takes x ≡ false)
-      → found_transfer d m takes a (unwrap_or q 0) (option_and_then (λ e. slice_get d.endpoints e) q) ≡ Ok o → ⊥
-  named_none takes a None not f = cc
-  named_none takes a (Some e) not f = found_none takes a e (slice_get d.endpoints e) not refl f
-
-  no_control : (x : Endpoint) → IsBulk x.desc → takes_control x ≡ false
-  no_control x s = ap is_control s.kind
 
   iso_at : (e : ℕ) (x : Endpoint) (b : Bool) (r : Result Offered OfferError) → b ≡ false → cond b r (Err errors.NoEndpoint) ≡ Ok o → ⊥
   iso_at e x false r off f = cc
@@ -140,7 +202,7 @@ module _ (d : DriverContent) (m : Mem) (o : Offered) (idle : d.command ≡ None)
 
   iso_found : (e n len seed : ℕ) (q : Option Endpoint) → slice_get d.endpoints e ≡ q → offered_iso d m e n len seed q ≡ Ok o → ⊥
   iso_found e n len seed None here f = cc
-  iso_found e n len seed (Some x) here f = iso_at e x (is_iso x.desc.kind) _ (ap is_iso (bulk e x here).0.kind) f
+  iso_found e n len seed (Some x) here f = iso_at e x (is_iso x.desc.kind) _ (not_iso x.desc (each e x here).0) f
 
   iso_named : (n len seed : ℕ) (q : Option ℕ) → offered_iso d m (unwrap_or q 0) n len seed (option_and_then (λ e. slice_get d.endpoints e) q) ≡ Ok o → ⊥
   iso_named n len seed None f = cc
@@ -153,17 +215,17 @@ module _ (d : DriverContent) (m : Mem) (o : Offered) (idle : d.command ≡ None)
   found_there (x ∷ xs) p e f =
       let at = position-Some p (x ∷ xs) e x f in (get_or (x ∷ xs) e x, slice_get-get_or (x ∷ xs) e x at.0)
 
-  taken_new : (x : EpDesc) (r : Result Holding OfferError) → IsBulk x → endpoint_of d x.name ≡ None → take_runs (holding d.book m) (2 ∷ 1 ∷ []) ≡ r → taken_open d x r ≡ Ok o → IsOpened d m o
-  taken_new x (Err why) is none runs f = absurd (cc)
-  taken_new x (Ok h) is none runs f = record {
-    opens = record { desc = x; holding_after = h; idle = idle; new_name = none; ring = ap is_periodic is.kind; runs = runs; is = ok_is _ o f };
-    bulk = is;
+  taken_new : (x : EpDesc) (r : Result Holding OfferError) → is_periodic x.kind ≡ false → endpoint_of d x.name ≡ None → take_runs (holding d.book m) (2 ∷ 1 ∷ []) ≡ r → taken_open d x r ≡ Ok o → OpensAs d m o x
+  taken_new x (Err why) ring none runs f = absurd (cc)
+  taken_new x (Ok h) ring none runs f = record {
+    opens = record { desc = x; holding_after = h; idle = idle; new_name = none; ring = ring; runs = runs; is = ok_is _ o f };
+    desc = refl;
   }
 
-  new_one : (x : EpDesc) (b : Bool) → IsBulk x → endpoint_of d x.name ≡ None → is_periodic x.kind ≡ b
-      → cond b (planned_open d m x (answer d.periodic.plan (want_of (length d.endpoints) x))) (taken_open d x (take_runs (holding d.book m) (2 ∷ 1 ∷ []))) ≡ Ok o → IsOpened d m o
-  new_one x true is none ring f = absurd (false≢true (sym (ap is_periodic is.kind) ∙ ring))
-  new_one x false is none ring f = taken_new x (take_runs (holding d.book m) (2 ∷ 1 ∷ [])) is none refl f
+  new_one : (x : EpDesc) (b : Bool) → is_periodic x.kind ≡ false → endpoint_of d x.name ≡ None → is_periodic x.kind ≡ b
+      → cond b (planned_open d m x (answer d.periodic.plan (want_of (length d.endpoints) x))) (taken_open d x (take_runs (holding d.book m) (2 ∷ 1 ∷ []))) ≡ Ok o → OpensAs d m o x
+  new_one x true ring none is f = absurd (false≢true (sym ring ∙ is))
+  new_one x false ring none is f = taken_new x (take_runs (holding d.book m) (2 ∷ 1 ∷ [])) ring none refl f
 
   again : (x : EpDesc) (old : Endpoint) (c : Option EndCause) → old.ended ≡ c → offered_open d m x (Some old) ≡ Ok o → ⊥
   again x old (Some cause) is f =
@@ -177,8 +239,8 @@ module _ (d : DriverContent) (m : Mem) (o : Offered) (idle : d.command ≡ None)
       by : Option EndCause → Result Offered OfferError
       by k = elim k [ Some cause ↦ Err (errors.Closed cause) | None ↦ Err errors.AlreadyOpen ]
 
-  open_one : (x : EpDesc) (n : Option ℕ) (q : Option Endpoint) → IsBulk x → endpoint_of d x.name ≡ n → option_and_then (λ e. slice_get d.endpoints e) n ≡ q
-      → ((e : ℕ) → n ≡ Some e → (y : Endpoint) × (slice_get d.endpoints e ≡ Some y)) → offered_open d m x q ≡ Ok o → IsOpened d m o
+  open_one : (x : EpDesc) (n : Option ℕ) (q : Option Endpoint) → is_periodic x.kind ≡ false → endpoint_of d x.name ≡ n → option_and_then (λ e. slice_get d.endpoints e) n ≡ q
+      → ((e : ℕ) → n ≡ Some e → (y : Endpoint) × (slice_get d.endpoints e ≡ Some y)) → offered_open d m x q ≡ Ok o → OpensAs d m o x
   open_one x n (Some old) is named at some f = absurd (again x old old.ended refl f)
   open_one x None None is named at some f = new_one x (is_periodic x.kind) is named refl f
   open_one x (Some e) None is named at some f = let y = some e refl in let w : Some y.0 ≡ None = sym y.1 ∙ at in absurd (cc)
@@ -191,7 +253,7 @@ module _ (d : DriverContent) (m : Mem) (o : Offered) (idle : d.command ≡ None)
 
   cancelled_one : (e : ℕ) (x : Endpoint) (b : Bool) → slice_get d.endpoints e ≡ Some x → x.cancelled ≡ b → cond b (Err (errors.Closed causes.Cancel)) (Ok (record { driver = cancelled_by d e x x.placement; memory = m })) ≡ Ok o → Cancels d m o
   cancelled_one e x true here is f = absurd (cc)
-  cancelled_one e x false here is f = cancelled_ring e x x.placement here is refl (bulk e x here).1 f
+  cancelled_one e x false here is f = cancelled_ring e x x.placement here is refl (each e x here).1 f
 
   cancelled_at : (e : ℕ) (q : Option Endpoint) → slice_get d.endpoints e ≡ q → offered_cancel d m e q ≡ Ok o → Cancels d m o
   cancelled_at e None here f = absurd (cc)
@@ -201,23 +263,62 @@ module _ (d : DriverContent) (m : Mem) (o : Offered) (idle : d.command ≡ None)
   cancelled_named None f = absurd (cc)
   cancelled_named (Some e) f = cancelled_at e (slice_get d.endpoints e) refl f
 
-  next_accepted : (cmd : Cmd) → OpensOrCancelsBulk cmd → offered_next d m cmd ≡ Ok o → IsAcceptedAs d m o cmd
-  next_accepted (commands.OpenEp x) is f =
-      inl (open_one x (endpoint_of d x.name) (endpoint_named d x.name) is refl refl (λ e at. found_there d.endpoints _ e at) f)
-  next_accepted (commands.Get name len by) is f =
-      inr (named_move takes_get (move_of ways.In len by []) len by [] (λ x s takes. get_move x.desc.name.way len by (gets_in x s takes)) (endpoint_of d name) f)
-  next_accepted (commands.Put name bytes by) is f =
-      inr (named_move takes_put (move_of ways.Out (length bytes) by bytes) (length bytes) by bytes (λ x s takes. put_move x.desc.name.way bytes by (puts_out x s takes)) (endpoint_of d name) f)
-  next_accepted (commands.Control name setup bytes) is f = absurd (named_none takes_control (record { sort = sorts.Request; stages = request_stages setup; most = request_length setup; bytes = setup ++ bytes }) (endpoint_of d name) no_control f)
-  next_accepted (commands.Iso name count len seed) is f = absurd (iso_named count len seed (endpoint_of d name) f)
-  next_accepted (commands.Cancel name) is f = cancelled_named (endpoint_of d name) f
+  -- ---- any command
 
-busy_accepted : (d : DriverContent) (m : Mem) (cmd : Cmd) (o : Offered) (c : Option Command) → EachIsBulk d → OpensOrCancelsBulk cmd → d.command ≡ c → cond (is_some c) (Err errors.Busy) (offered_next d m cmd) ≡ Ok o → IsAcceptedAs d m o cmd
-busy_accepted d m cmd o (Some c) bulk only is f = absurd (cc)
-busy_accepted d m cmd o None bulk only is f = next_accepted d m o is bulk cmd only f
+  next_accepted : (cmd : Cmd) → OpensRing cmd → offered_next d m cmd ≡ Ok o → AcceptsNext d m o cmd
+  next_accepted (commands.OpenEp x) ring f = open_one x (endpoint_of d x.name) (endpoint_named d x.name) ring refl refl (λ e at. found_there d.endpoints _ e at) f
+  next_accepted (commands.Get name len by) ring f = gets len by (named_one takes_get (move_of ways.In len by []) (move_can ways.In len by []) (endpoint_of d name) f)
+  next_accepted (commands.Put name bytes by) ring f = puts bytes by (named_one takes_put (move_of ways.Out (length bytes) by bytes) (move_can ways.Out (length bytes) by bytes) (endpoint_of d name) f)
+  next_accepted (commands.Control name setup bytes) ring f = requests setup bytes (named_one takes_control (request_of setup bytes) (request_can setup bytes) (endpoint_of d name) f)
+  next_accepted (commands.Iso name count len seed) ring f = iso_named count len seed (endpoint_of d name) f
+  next_accepted (commands.Cancel name) ring f = cancelled_named (endpoint_of d name) f
+
+busy_accepted : (d : DriverContent) (m : Mem) (cmd : Cmd) (o : Offered) (c : Option Command) → EachIsAsynchronous d → OpensRing cmd → d.command ≡ c → cond (is_some c) (Err errors.Busy) (offered_next d m cmd) ≡ Ok o → AcceptsNext d m o cmd
+busy_accepted d m cmd o (Some c) each ring is f = absurd (cc)
+busy_accepted d m cmd o None each ring is f = next_accepted d m o is each cmd ring f
+
+-- bulk and control endpoints
+opens_ring : (cmd : Cmd) → OpensAsynchronous cmd → OpensRing cmd
+opens_ring (commands.OpenEp x) is = not_periodic x is
+opens_ring (commands.Get name len by) is = tt
+opens_ring (commands.Put name bytes by) is = tt
+opens_ring (commands.Control name setup bytes) is = tt
+opens_ring (commands.Iso name count len seed) is = tt
+opens_ring (commands.Cancel name) is = tt
+
+accepts : (d : DriverContent) (m : Mem) (o : Offered) (cmd : Cmd) → OpensAsynchronous cmd → AcceptsNext d m o cmd → AcceptsAsynchronous d m o cmd
+accepts d m o (commands.OpenEp x) is new = record { opens = new.opens; asynchronous = subst (λ (z : EpDesc). IsAsynchronous z) (sym new.desc) is }
+accepts d m o (commands.Get name len by) is why = why
+accepts d m o (commands.Put name bytes by) is why = why
+accepts d m o (commands.Control name setup bytes) is why = why
+accepts d m o (commands.Iso name count len seed) is why = why
+accepts d m o (commands.Cancel name) is why = why
+
+pub command_accepts : (d : DriverContent) (m : Mem) (cmd : Cmd) (o : Offered) → OnlyAsynchronous d → OpensAsynchronous cmd → offered d m cmd ≡ Ok o → AcceptsAsynchronous d m o cmd
+command_accepts d m cmd o only is f =
+    accepts d m o cmd is (busy_accepted d m cmd o d.command (λ e x here. let s = only.endpoints e x here in (s.asynchronous, s.placement)) (opens_ring cmd is) refl f)
+
+-- bulk endpoints alone
+pub opens_bulk : (cmd : Cmd) → OpensOrCancelsBulk cmd → OpensAsynchronous cmd
+opens_bulk (commands.OpenEp x) is = bulk_asynchronous x is
+opens_bulk (commands.Get name len by) is = tt
+opens_bulk (commands.Put name bytes by) is = tt
+opens_bulk (commands.Control name setup bytes) is = tt
+opens_bulk (commands.Iso name count len seed) is = tt
+opens_bulk (commands.Cancel name) is = tt
+
+accepts_bulk : (d : DriverContent) (m : Mem) (o : Offered) (cmd : Cmd) → EachIsBulk d → OpensOrCancelsBulk cmd → AcceptsNext d m o cmd → IsAcceptedAs d m o cmd
+accepts_bulk d m o (commands.OpenEp x) each is new = inl (record { opens = new.opens; bulk = subst (λ (z : EpDesc). IsBulk z) (sym new.desc) is })
+accepts_bulk d m o (commands.Get name len by) each is why = inr why.asked
+accepts_bulk d m o (commands.Put name bytes by) each is why = inr why.asked
+accepts_bulk d m o (commands.Control name setup bytes) each is why = absurd (subst (λ (w : Way). IsDataWay w) why.way (each why.transfers.number why.transfers.endpoint why.transfers.here).0.way)
+accepts_bulk d m o (commands.Iso name count len seed) each is why = absurd why
+accepts_bulk d m o (commands.Cancel name) each is why = why
 
 pub command_accepted : (d : DriverContent) (m : Mem) (cmd : Cmd) (o : Offered) → EachIsBulk d → OpensOrCancelsBulk cmd → offered d m cmd ≡ Ok o → IsAcceptedAs d m o cmd
-command_accepted d m cmd o bulk only f = busy_accepted d m cmd o d.command bulk only refl f
+command_accepted d m cmd o bulk only f =
+    accepts_bulk d m o cmd bulk only
+    (busy_accepted d m cmd o d.command (λ e x here. let s = bulk e x here in (bulk_asynchronous x.desc s.0, s.1)) (opens_ring cmd (opens_bulk cmd only)) refl f)
 
 -- a command that may open a bulk endpoint, and is no cancel, is one that may
 pub opens_or_cancels : (cmd : Cmd) → OpensBulk cmd → OpensOrCancelsBulk cmd

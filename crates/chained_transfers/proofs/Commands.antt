@@ -29,20 +29,23 @@ use Rattle.run_owners.proofs.Orders.{owed, one_same}
 use Rattle.run_owners.proofs.Transferred.{are_new, goes_on_alive}
 use Rattle.run_owners.proofs.Released.{set_here}
 use Rattle.run_owners.proofs.Stays.{stays_same, endpoint_stays}
-use Rattle.chained_transfers.specs.Bulk.{OpensBulk, OpensOrCancelsBulk, MovesAs, IsStanding, OnlyBulk}
+use Rattle.chained_transfers.specs.Bulk.{IsBulk, OpensBulk, OpensOrCancelsBulk, OnlyBulk}
 use Rattle.chained_transfers.specs.Accepted.{IsOpened, IsAsked, IsAccepted}
 use Rattle.chained_transfers.specs.Chains.{piece_at}
 use Rattle.chained_transfers.specs.Turns.{IsAtPlace, AreAtPlaces, Turn, turn_of, turn_in, AreReportedTo, IsNotGone, AreTurnsOf, AreReturned}
 use Rattle.chained_transfers.specs.InTurn.{TakesTurns}
 use Rattle.chained_transfers.specs.Leaving.{IsAcceptedAs, IsStaying, NothingLeaves}
+use Rattle.chained_transfers.specs.Asynchronous.{OpensAsynchronous, sort_of, StandsAsynchronous, MovesAsynchronous, OnlyAsynchronous, IsOpenedAsynchronous, IsAskedOfBulk, AcceptsAsynchronous}
+use Rattle.chained_transfers.specs.AsynchronousTurns.{AsynchronousTakesTurns}
+use Rattle.chained_transfers.proofs.BulkAndControl.{bulk_asynchronous, sort_of_data, bulk_takes_turns, EachBulk, takes_bulk_turns}
 use Rattle.chained_transfers.proofs.Moves.{KeepDescs, descs_set, descs_push, moves_on, moves_same}
 use Rattle.chained_transfers.proofs.Chained.{pieces_same, same_chained, endpoint_chained, within_list, pushed_there, pushed_last}
 use Rattle.chained_transfers.proofs.Queued.{not_dummy, transfer_chained}
 use Rattle.chained_transfers.proofs.Turning.{fewer_turns, IsChangedAt, which, changed_plain}
 use Rattle.chained_transfers.proofs.Ends.{ends_turns, changed_end, changed_stays, WasGone, returned_on, same_turn, same_gone, changed_gone}
-use Rattle.chained_transfers.proofs.Accepting.{command_accepted, command_received}
+use Rattle.chained_transfers.proofs.Accepting.{command_accepts, command_accepted, command_received}
 use Rattle.chained_transfers.proofs.Rows.{ends_set}
-use Rattle.chained_transfers.proofs.Staying.{alive, fresh_linked, linked_alive}
+use Rattle.chained_transfers.proofs.Staying.{stands_alive, fresh_stands_linked, linked_stands_alive}
 
 push_which : {X : Type 0} (xs : List X) (x : X) (n : ℕ) (z : X) → slice_get (xs ++ x ∷ []) n ≡ Some z → (slice_get xs n ≡ Some z) ⊎ ((n ≡ length xs) × (z ≡ x))
 push_which [] x zero z here = inr (refl, sym (same_Some x z here))
@@ -92,26 +95,25 @@ opened_gone xs x alive k z here gone =
     (λ (new : (k ≡ length xs) × (z ≡ x)). absurd (false≢true (sym alive ∙ ap (λ (r : Endpoint). r.gone) (sym new.1) ∙ gone)))
     (push_which xs x k z here)
 
-pub open_leaves : (d : DriverContent) (m : Mem) (o : Offered) → IsOrderly d → IsOpened d m o → TakesTurns d → TakesTurns o.driver
-open_leaves d m o order why old =
+open_queue : (d : DriverContent) (m : Mem) (o : Offered) → IsOrderly d → IsOpenedAsynchronous d m o → AsynchronousTakesTurns d → AsynchronousTakesTurns o.driver
+open_queue d m o order why old =
     let w = why.opens in
     let q = get_or (new_runs d w.holding_after) 0 0 in
     let f = get_or (new_runs d w.holding_after) 1 0 in
     let x = new_endpoint w.desc q f in
-    let r = old.bulk in
+    let r = old.asynchronous in
     let v = turn_in d.transfers in
     let ends = slice_get d.endpoints in
     let ends_now = slice_get (d.endpoints ++ x ∷ []) in
-    let now : TakesTurns (accepted_open d w.desc w.holding_after q f).driver = record {
-      bulk = record {
+    let now : AsynchronousTakesTurns (accepted_open d w.desc w.holding_after q f).driver = record {
+      asynchronous = record {
         endpoints = λ e z here. ⊎_elim (λ (was : slice_get d.endpoints e ≡ Some z). r.endpoints e z was)
             (λ (new : (e ≡ length d.endpoints) × (z ≡ x)).
-            subst (λ (y : Endpoint). IsStanding y) (sym new.1) (record { bulk = why.bulk; placement = refl; chained = refl; unlinked = λ off. absurd (false≢true (sym off)); ended = λ on. absurd (false≢true on); cancel = λ on. absurd (false≢true on); gone = λ gone. absurd (false≢true gone) }))
+            subst (λ (y : Endpoint). StandsAsynchronous y) (sym new.1) (record { asynchronous = why.asynchronous; placement = refl; chained = refl; unlinked = λ off. absurd (false≢true (sym off)); ended = λ on. absurd (false≢true on); cancel = λ on. absurd (false≢true on); gone = λ gone. absurd (false≢true gone) }))
             (push_which d.endpoints x e z here);
         moves = moves_same d _ (descs_push d.endpoints x) r.moves;
         command = tt;
         leaver = λ e z is here. absurd (cc);
-        mends = r.mends;
         unlinks = r.unlinks;
         removals = r.removals;
       };
@@ -122,7 +124,7 @@ open_leaves d m o order why old =
         returned = returned_on v v ends ends_now (λ k z y there here gone. same_turn v k z there) (opened_gone d.endpoints x refl) old.turns.returned;
       };
     } in
-    subst (λ (g : Offered). TakesTurns g.driver) (sym w.is) now
+    subst (λ (g : Offered). AsynchronousTakesTurns g.driver) (sym w.is) now
   where
     turn_at_runs : (t : ℕ) (y : TransferRuns) → transfer_in d.transfers t ≡ Some y → (z : Transfer) × (slice_get d.transfers t ≡ Some z) × (y.endpoint ≡ z.endpoint)
     turn_at_runs t y there = by (slice_get d.transfers t) refl there
@@ -140,6 +142,18 @@ open_leaves d m o order why old =
         by : (o : Option Transfer) → slice_get d.transfers t ≡ o → option_map turn_of o ≡ Some y → y.endpoint < length d.endpoints
         by None is f = absurd (cc)
         by (Some z) is f = let w = order.within t z is in let e = ap (λ (r : Turn). r.endpoint) (same_Some (turn_of z) y f) in omega (arith, w, e)
+
+-- of a bulk endpoint
+open_leaves : (d : DriverContent) (m : Mem) (o : Offered) → IsOrderly d → IsOpened d m o → TakesTurns d → TakesTurns o.driver
+open_leaves d m o order why old =
+    let w = why.opens in
+    let x = new_endpoint w.desc (get_or (new_runs d w.holding_after) 0 0) (get_or (new_runs d w.holding_after) 1 0) in
+    takes_bulk_turns o.driver
+    (subst (λ (g : Offered). EachBulk g.driver) (sym w.is)
+    (λ e z here. ⊎_elim (λ (was : slice_get d.endpoints e ≡ Some z). (old.bulk.endpoints e z was).bulk)
+    (λ (new : (e ≡ length d.endpoints) × (z ≡ x)). subst (λ (y : Endpoint). IsBulk y.desc) (sym new.1) why.bulk) (push_which d.endpoints x e z here)))
+    (ap (λ (g : Offered). g.driver.mends) w.is ∙ old.bulk.mends)
+    (open_queue d m o order (record { opens = w; asynchronous = bulk_asynchronous w.desc why.bulk }) (bulk_takes_turns d old))
 
 open_nothing : (d : DriverContent) (m : Mem) (o : Offered) → IsOpened d m o → NothingLeaves d → NothingLeaves o.driver
 open_nothing d m o why old =
@@ -343,36 +357,50 @@ asked_turns d m o why order here_still old = subst (λ (g : Offered). TakeTurns 
               (changed_gone ends ends_now e x z c (λ gone. absurd (false≢true (sym here_still ∙ gone)))) old.1,
         )
 
-pub asked_in_turn : (d : DriverContent) (m : Mem) (o : Offered) → Stands (holding d.book m) → HasOwners d → IsAsked d m o → TakesTurns d → TakesTurns o.driver
-asked_in_turn d m o stands owners why old =
-    let w = why.transfers in
+-- what its endpoint takes
+queued_in_turn : (d : DriverContent) (m : Mem) (o : Offered) → Stands (holding d.book m) → HasOwners d → (w : Transfers d m o) → w.asked.sort ≡ sort_of w.endpoint.desc.name.way → AsynchronousTakesTurns d → AsynchronousTakesTurns o.driver
+queued_in_turn d m o stands owners w sort old =
     let x = w.endpoint in
-    let r = old.bulk in
+    let r = old.asynchronous in
     let places = asked_places d m o owners.owner stands w owners.orderly owners.owned old.turns.places in
-    let turns = asked_turns d m o w owners.orderly (alive x (r.endpoints w.number x w.here) w.goes_on) (old.turns.turns, old.turns.returned) in
+    let turns = asked_turns d m o w owners.orderly (stands_alive x (r.endpoints w.number x w.here) w.goes_on) (old.turns.turns, old.turns.returned) in
     let kept : (dummy : ℕ) → KeepDescs d.endpoints (set d.endpoints w.number (with_queued x dummy (length d.transfers))) = λ dummy. descs_set d.endpoints w.number x (with_queued x dummy (length d.transfers)) w.here refl in
-    let new_moves : (dummy : ℕ) (notes : List QtdNote) (y : Transfer) → y ≡ new_transfer w.number w.asked x.dummy → MovesAs (accepted_transfer d w.number x w.asked w.holding_after dummy notes).driver y = λ dummy notes y is. record {
+    let new_moves : (dummy : ℕ) (notes : List QtdNote) (y : Transfer) → y ≡ new_transfer w.number w.asked x.dummy → MovesAsynchronous (accepted_transfer d w.number x w.asked w.holding_after dummy notes).driver y = λ dummy notes y is. record {
       endpoint = with_queued x dummy (length d.transfers);
       here = ap (λ (z : Transfer). slice_get (set d.endpoints w.number (with_queued x dummy (length d.transfers))) z.endpoint) is ∙ set_here d.endpoints w.number x (with_queued x dummy (length d.transfers)) w.here;
-      sort = ap (λ (z : Transfer). z.sort) is ∙ ap (λ (a : Asked). a.sort) why.asked;
+      sort = ap (λ (z : Transfer). z.sort) is ∙ sort;
     } in
-    let bulk : (dummy : ℕ) (notes : List QtdNote) → OnlyBulk (accepted_transfer d w.number x w.asked w.holding_after dummy notes).driver = λ dummy notes. record {
-      endpoints = ends_set IsStanding d.endpoints w.number x (with_queued x dummy (length d.transfers)) w.here
-          (λ s. record { bulk = s.bulk; placement = s.placement; chained = s.chained; unlinked = s.unlinked; ended = s.ended; cancel = s.cancel; gone = s.gone }) r.endpoints;
+    let asynchronous : (dummy : ℕ) (notes : List QtdNote) → OnlyAsynchronous (accepted_transfer d w.number x w.asked w.holding_after dummy notes).driver = λ dummy notes. record {
+      endpoints = ends_set StandsAsynchronous d.endpoints w.number x (with_queued x dummy (length d.transfers)) w.here
+          (λ s. record { asynchronous = s.asynchronous; placement = s.placement; chained = s.chained; unlinked = s.unlinked; ended = s.ended; cancel = s.cancel; gone = s.gone }) r.endpoints;
       moves = λ t y here. ⊎_elim (λ (was : slice_get d.transfers t ≡ Some y). moves_on d _ y y refl refl (kept dummy) (r.moves t y was))
           (λ (new : (t ≡ length d.transfers) × (y ≡ new_transfer w.number w.asked x.dummy)). new_moves dummy notes y new.1)
           (push_which d.transfers (new_transfer w.number w.asked x.dummy) t y here);
       command = tt;
       leaver = λ e z is here. absurd (cc);
-      mends = r.mends;
       unlinks = r.unlinks;
       removals = r.removals;
     } in
     record {
-      bulk = subst (λ (g : Offered). OnlyBulk g.driver) (sym w.is) (bulk _ _);
+      asynchronous = subst (λ (g : Offered). OnlyAsynchronous g.driver) (sym w.is) (asynchronous _ _);
       chained = transfer_chained d m o owners.owner stands w owners.orderly owners.owned old.chained;
       turns = record { places = places; turns = turns.0; returned = turns.1 };
     }
+
+moved_in_turn : (d : DriverContent) (m : Mem) (o : Offered) → Stands (holding d.book m) → HasOwners d → IsAskedOfBulk d m o → AsynchronousTakesTurns d → AsynchronousTakesTurns o.driver
+moved_in_turn d m o stands owners why old =
+    let w = why.asked.transfers in queued_in_turn d m o stands owners w (ap (λ (a : Asked). a.sort) why.asked.asked ∙ sym (sort_of_data w.endpoint.desc.name.way why.way)) old
+
+-- a get or put, where all endpoints are bulk ones
+pub asked_in_turn : (d : DriverContent) (m : Mem) (o : Offered) → Stands (holding d.book m) → HasOwners d → IsAsked d m o → TakesTurns d → TakesTurns o.driver
+asked_in_turn d m o stands owners why old =
+    let w = why.transfers in
+    let x = w.endpoint in
+    let way = x.desc.name.way in
+    let each : (dummy e : ℕ) (y : Endpoint) → slice_get (set d.endpoints w.number (with_queued x dummy (length d.transfers))) e ≡ Some y → IsBulk y.desc =
+    λ dummy. ends_set (λ (y : Endpoint). IsBulk y.desc) d.endpoints w.number x (with_queued x dummy (length d.transfers)) w.here (λ s. s) (λ e y here. (old.bulk.endpoints e y here).bulk) in
+    takes_bulk_turns o.driver (subst (λ (g : Offered). EachBulk g.driver) (sym w.is) (each _)) (ap (λ (g : Offered). g.driver.mends) w.is ∙ old.bulk.mends)
+    (queued_in_turn d m o stands owners w (ap (λ (a : Asked). a.sort) why.asked ∙ sym (sort_of_data way (old.bulk.endpoints w.number x w.here).bulk.way)) (bulk_takes_turns d old))
 
 asked_nothing : (d : DriverContent) (m : Mem) (o : Offered) → IsAsked d m o → NothingLeaves d → NothingLeaves o.driver
 asked_nothing d m o why old =
@@ -407,30 +435,29 @@ cancel_goes x never goes = by x.ended refl
         absurd (never (ap ended_by_cancel is ∙ (sym (ap (λ (o : Option EndCause). ended_by_cancel (first_end o)) is) ∙ c))))
         (told_none (record x { cancelled = true; ended = first_end x.ended }) goes)
 
-pub cancel_leaves : (d : DriverContent) (m : Mem) (o : Offered) → Cancels d m o → TakesTurns d → TakesTurns o.driver
-cancel_leaves d m o why old =
+cancel_queue : (d : DriverContent) (m : Mem) (o : Offered) → Cancels d m o → AsynchronousTakesTurns d → AsynchronousTakesTurns o.driver
+cancel_queue d m o why old =
     let e = why.number in
     let x = why.endpoint in
     let z : Endpoint = record x { cancelled = true; ended = first_end x.ended } in
-    let r = old.bulk in
+    let r = old.asynchronous in
     let s = r.endpoints e x why.here in
-    let on = fresh_linked x s why.fresh in
-    let kept = linked_alive x s on in
+    let on = fresh_stands_linked x s why.fresh in
+    let kept = linked_stands_alive x s on in
     let v = turn_in d.transfers in
     let ends = slice_get d.endpoints in
     let ends_now = slice_get (set d.endpoints e z) in
     let c = changed_plain d.endpoints e x z why.here in
-    let now : TakesTurns (accepted_cancel d e x) = record {
-      bulk = record {
-        endpoints = ends_set IsStanding d.endpoints e x z why.here
-            (λ s. record { bulk = s.bulk; placement = s.placement; chained = s.chained; unlinked = λ off. refl; ended = λ on. first_some x.ended; cancel = λ on. refl; gone = s.gone }) r.endpoints;
+    let now : AsynchronousTakesTurns (accepted_cancel d e x) = record {
+      asynchronous = record {
+        endpoints = ends_set StandsAsynchronous d.endpoints e x z why.here
+            (λ s. record { asynchronous = s.asynchronous; placement = s.placement; chained = s.chained; unlinked = λ off. refl; ended = λ on. first_some x.ended; cancel = λ on. refl; gone = s.gone }) r.endpoints;
         moves = moves_same d _ (descs_set d.endpoints e x z why.here refl) r.moves;
         command = tt;
         leaver = λ k w is here.
             let own : k ≡ e = sym (same_Some e k is) in
             let same : w ≡ z = same_Some w z (sym here ∙ ap ends_now own ∙ c.here) in
             record { cancelled = ap (λ (i : Endpoint). i.cancelled) same; linked = ap (λ (i : Endpoint). i.linked) same ∙ on };
-        mends = r.mends;
         unlinks = r.unlinks;
         removals = r.removals;
       };
@@ -442,9 +469,30 @@ cancel_leaves d m o why old =
         returned = returned_on v v ends ends_now (λ k i w there here gone. same_turn v k i there) (changed_gone ends ends_now e x z c (λ gone. absurd (false≢true (sym kept ∙ gone)))) old.turns.returned;
       };
     } in
-    subst (λ (g : Offered). TakesTurns g.driver) (sym why.is) now
+    subst (λ (g : Offered). AsynchronousTakesTurns g.driver) (sym why.is) now
+
+-- of a bulk endpoint
+pub cancel_leaves : (d : DriverContent) (m : Mem) (o : Offered) → Cancels d m o → TakesTurns d → TakesTurns o.driver
+cancel_leaves d m o why old =
+    let x = why.endpoint in
+    let z : Endpoint = record x { cancelled = true; ended = first_end x.ended } in
+    takes_bulk_turns o.driver
+    (subst (λ (g : Offered). EachBulk g.driver) (sym why.is) (ends_set (λ (y : Endpoint). IsBulk y.desc) d.endpoints why.number x z why.here (λ s. s) (λ e y here. (old.bulk.endpoints e y here).bulk)))
+    (ap (λ (g : Offered). g.driver.mends) why.is ∙ old.bulk.mends)
+    (cancel_queue d m o why (bulk_takes_turns d old))
 
 -- ---- any command
+
+accepts_in_turn : (d : DriverContent) (m : Mem) (o : Offered) (cmd : Cmd) → Stands (holding d.book m) → HasOwners d → AcceptsAsynchronous d m o cmd → AsynchronousTakesTurns d → AsynchronousTakesTurns o.driver
+accepts_in_turn d m o (commands.OpenEp x) stands owners why old = open_queue d m o owners.orderly why old
+accepts_in_turn d m o (commands.Get name len by) stands owners why old = moved_in_turn d m o stands owners why old
+accepts_in_turn d m o (commands.Put name bytes by) stands owners why old = moved_in_turn d m o stands owners why old
+accepts_in_turn d m o (commands.Control name setup bytes) stands owners why old = queued_in_turn d m o stands owners why.transfers (ap (λ (a : Asked). a.sort) why.asked ∙ ap sort_of (sym why.way)) old
+accepts_in_turn d m o (commands.Iso name count len seed) stands owners why old = absurd why
+accepts_in_turn d m o (commands.Cancel name) stands owners why old = cancel_queue d m o why old
+
+pub command_takes_turns : (d : DriverContent) (m : Mem) (cmd : Cmd) (o : Offered) → Stands (holding d.book m) → HasOwners d → AsynchronousTakesTurns d → OpensAsynchronous cmd → offered d m cmd ≡ Ok o → AsynchronousTakesTurns o.driver
+command_takes_turns d m cmd o stands owners old only is = accepts_in_turn d m o cmd stands owners (command_accepts d m cmd o old.asynchronous only is) old
 
 -- an accepted open, get or put
 accepted_leaves : (d : DriverContent) (m : Mem) (o : Offered) → Stands (holding d.book m) → HasOwners d → IsAccepted d m o → TakesTurns d → TakesTurns o.driver

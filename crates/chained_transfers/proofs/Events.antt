@@ -1,10 +1,12 @@
 -- Each event of the driver leaves its transfers chained and in turn, where endpoints leave the ring, and where none does.
-use Rattle.std.proofs.Common.{◌≡◌, ℕ, zero, suc, Bool, true, false, not, ◌||◌, ◌&&◌, ◌==◌, cond, nat_le, List, [], ◌++◌, map, set, slice_get, Option, Some, None, ap, sym, subst, ◌∙◌, refl, arith}
+use Rattle.std.proofs.Common.{◌≡◌, ℕ, zero, suc, Bool, true, false, not, ◌||◌, ◌&&◌, ◌==◌, cond, nat_le, List, [], ◌++◌, map, set, drop, slice_get, Option, Some, None, ap, sym, subst, ◌∙◌, refl, arith}
 use Rattle.std.proofs.lemmas.Bool.{false≢true}
+use Rattle.usb_base.specs.declared.endpoints.EpDesc.{EpDesc}
 use Rattle.usb_base.specs.declared.reports.What.TheVariants as lines
 use Rattle.run_book.specs.Book.{Book, Holding, holding, lend_taken, slot_of}
 use Rattle.driver_rows.specs.declared.content.Endpoint.{Endpoint}
 use Rattle.driver_rows.specs.declared.content.Transfer.{Transfer}
+use Rattle.driver_rows.specs.declared.content.Mend.{Mend}
 use Rattle.driver_rows.specs.declared.content.Bell.{Bell}
 use Rattle.driver_rows.specs.declared.content.Bell.TheVariants as bells
 use Rattle.driver_rows.specs.declared.content.Turn.TheVariants as turns
@@ -28,86 +30,95 @@ use Rattle.run_owners.proofs.Orders.{IsOwed, owed, times_first, one_same, IsLeft
 use Rattle.run_owners.proofs.Leaves.{first_left}
 use Rattle.run_owners.proofs.Reasons.{each_is_due}
 use Rattle.run_owners.proofs.Stays.{advanced, lent, harvest_stays}
-use Rattle.chained_transfers.specs.Bulk.{IsBulkCommand, MovesAs, IsStanding, OnlyBulk}
+use Rattle.chained_transfers.specs.Bulk.{IsBulk, IsBulkCommand, OnlyBulk}
 use Rattle.chained_transfers.specs.Turns.{IsAtPlace, AreAtPlaces, turn_of, turn_in, IsNotGone, AreTurnsOf, AreReturned}
 use Rattle.chained_transfers.specs.InTurn.{TakesTurns}
 use Rattle.chained_transfers.specs.Leaving.{NothingLeaves}
-use Rattle.chained_transfers.proofs.Ways.{found_by, moves_queued}
+use Rattle.chained_transfers.specs.Asynchronous.{StandsAsynchronous, MovesAsynchronous, OnlyAsynchronous}
+use Rattle.chained_transfers.specs.AsynchronousTurns.{AsynchronousTakesTurns}
+use Rattle.chained_transfers.proofs.Ways.{found_by}
+use Rattle.chained_transfers.proofs.BulkAndControl.{moves_queued_of, only_asynchronous, bulk_takes_turns, takes_bulk_turns}
 use Rattle.chained_transfers.proofs.Moves.{KeepDescs, descs_same, descs_set, moves_on, moves_same, moves_set}
 use Rattle.chained_transfers.proofs.Chained.{same_chained, released_chained, gone_from, let_go_endpoint, endpoint_gone_chained}
 use Rattle.chained_transfers.proofs.Turning.{fewer_turns, changed, changed_plain, released_turns}
 use Rattle.chained_transfers.proofs.Ends.{returned_on, same_gone, changed_turn, IsGoing, gone_turns, gone_returned, gone_turn, other_turn}
-use Rattle.chained_transfers.proofs.Harvested.{not_served, ends_otherwise, places_set, harvest_turns_of}
-use Rattle.chained_transfers.proofs.Rows.{no_leaver, ends_set, bulk_on, nothing_on, kept_stays, kept_gone, IsHarvested, harvest_bulk, advanced_bulk, advanced_nothing, advanced_turns}
-use Rattle.chained_transfers.proofs.Staying.{alive, going_fresh}
+use Rattle.chained_transfers.proofs.Harvested.{not_served, ends_otherwise, places_set, harvest_in_turn}
+use Rattle.chained_transfers.proofs.Rows.{no_leaver, ends_set, queues_on, kept_back, kept_turns, nothing_on, kept_stays, kept_gone, descs_set_back, KeepsEndpoints, harvest_keeps, harvest_mends, advanced_queues, advanced_descs, advanced_mends, advanced_nothing, advanced_turns}
+use Rattle.chained_transfers.proofs.Staying.{stands_alive, stands_fresh}
 
 -- ---- a harvest
 
-module _ (p : Parts) (e t : ℕ) (found : Found) (due : IsHarvestDue p e t found) (bulk : OnlyBulk p.driver) where
+-- what an event leaves: turns, and endpoints that were opened as before
+record EventLeaves (d f : DriverContent) : Type 0 where
+  turns : AsynchronousTakesTurns f
+  descs : KeepDescs f.endpoints d.endpoints
+
+module _ (p : Parts) (e t : ℕ) (found : Found) (due : IsHarvestDue p e t found) (only : OnlyAsynchronous p.driver) where
   is_found : found ≡ found_in due.transfer.sort (nat_le due.transfer.left 1) (note_at p.driver.notes due.transfer.place) (token_in p.memory due.transfer.place)
-  is_found = due.tells ∙ found_by p.driver p.memory due.transfer due.transfer.sort (moves_queued p.driver due.transfer (bulk.moves t due.transfer due.there))
+  is_found = due.tells ∙ found_by p.driver p.memory due.transfer due.transfer.sort (moves_queued_of p.driver due.transfer (only.moves t due.transfer due.there))
 
   after : (P : DriverContent → Type 0) → P (after_harvest p.driver p.memory e t found (Some due.endpoint) (Some due.transfer)) → P (after_driver_row (rows.Harvest e t found) p).driver
   after P now =
       subst (λ (o : Option Endpoint). P (after_harvest p.driver p.memory e t found o (slice_get p.driver.transfers t))) (sym due.here)
       (subst (λ (o : Option Transfer). P (after_harvest p.driver p.memory e t found (Some due.endpoint) o)) (sym due.there) now)
 
-  harvested : IsHarvested p.driver (after_harvest p.driver p.memory e t found (Some due.endpoint) (Some due.transfer))
-  harvested =
-      let s = bulk.endpoints e due.endpoint due.here in
-      harvest_bulk p.driver p.memory e t due.endpoint due.transfer due.here due.there due.goes_on (alive due.endpoint s due.goes_on) s.bulk.kind found
+  keeps : KeepsEndpoints p.driver (after_harvest p.driver p.memory e t found (Some due.endpoint) (Some due.transfer))
+  keeps =
+      harvest_keeps p.driver p.memory e t due.endpoint due.transfer due.here due.there due.goes_on (stands_alive due.endpoint (only.endpoints e due.endpoint due.here) due.goes_on) found
       (not_served due.transfer.sort (nat_le due.transfer.left 1) (note_at p.driver.notes due.transfer.place) (token_in p.memory due.transfer.place) found is_found)
       (λ n what cause. ends_otherwise due.transfer.sort (nat_le due.transfer.left 1) (note_at p.driver.notes due.transfer.place) (token_in p.memory due.transfer.place) found is_found n what due.endpoint.desc.kind cause)
 
-  harvest_leaves : TakesTurns p.driver → TakesTurns (after_driver_row (rows.Harvest e t found) p).driver
+  harvest_leaves : AsynchronousTakesTurns p.driver → EventLeaves p.driver (after_driver_row (rows.Harvest e t found) p).driver
   harvest_leaves old =
       let d = p.driver in
       let x = due.endpoint in
       let y = due.transfer in
       let f = after_harvest d p.memory e t found (Some x) (Some y) in
-      let s = bulk.endpoints e x due.here in
-      let stays : IsNotGone (slice_get d.endpoints) e = record { endpoint = x; here = due.here; gone = alive x s due.goes_on } in
-      let k = harvest_turns_of (IsNotGone (slice_get d.endpoints)) d p.memory e t x y due.here due.there due.goes_on (going_fresh x s due.goes_on) due.next due.waits s.bulk.kind stays (record { places = old.turns.places; turns = old.turns.turns }) found is_found in
-      after TakesTurns (record {
-        bulk = bulk_on d f harvested.keeps old.bulk;
-        chained = same_chained (views_of d) (views_of f) (harvest_stays d p.memory e t found (Some x) (Some y) due.here due.there).same old.chained;
+      let s = only.endpoints e x due.here in
+      let stays : IsNotGone (slice_get d.endpoints) e = record { endpoint = x; here = due.here; gone = stands_alive x s due.goes_on } in
+      let k = harvest_in_turn (IsNotGone (slice_get d.endpoints)) d p.memory e t x y due.here due.there due.goes_on (stands_fresh x s due.goes_on) due.next due.waits stays (record { places = old.turns.places; turns = old.turns.turns }) found is_found in
+      after (EventLeaves d) (record {
         turns = record {
-          places = k.places;
-          turns = fewer_turns (IsNotGone (slice_get d.endpoints)) (IsNotGone (slice_get f.endpoints)) (turn_in f.transfers) (slice_get f.endpoints) f.harvested
-              (λ i z here. kept_stays d.endpoints (slice_get f.endpoints) harvested.keeps.ends z.endpoint) k.turns;
-          returned = returned_on (turn_in d.transfers) (turn_in f.transfers) (slice_get d.endpoints) (slice_get f.endpoints) (λ i z w here at gone. harvested.turns i z here)
-              (kept_gone d.endpoints (slice_get f.endpoints) harvested.keeps.ends) old.turns.returned;
+          asynchronous = queues_on d f keeps old.asynchronous;
+          chained = same_chained (views_of d) (views_of f) (harvest_stays d p.memory e t found (Some x) (Some y) due.here due.there).same old.chained;
+          turns = record {
+            places = k.places;
+            turns = fewer_turns (IsNotGone (slice_get d.endpoints)) (IsNotGone (slice_get f.endpoints)) (turn_in f.transfers) (slice_get f.endpoints) f.harvested
+                (λ i z here. kept_stays d.endpoints (slice_get f.endpoints) keeps.ends z.endpoint) k.turns;
+            returned = returned_on (turn_in d.transfers) (turn_in f.transfers) (slice_get d.endpoints) (slice_get f.endpoints) (λ i z w here at gone. kept_turns d f keeps i z here)
+                (kept_gone d.endpoints (slice_get f.endpoints) keeps.ends) old.turns.returned;
+          };
         };
+        descs = kept_back d f keeps;
       })
 
   harvest_nothing : NothingLeaves p.driver → NothingLeaves (after_driver_row (rows.Harvest e t found) p).driver
-  harvest_nothing old =
-      after NothingLeaves (nothing_on p.driver _ harvested.keeps (harvested.waiting ∙ old.waiting) (harvested.rung ∙ old.rung) (harvested.cleared ∙ old.cleared) old)
+  harvest_nothing old = after NothingLeaves (nothing_on p.driver _ keeps old)
 
 -- ---- a transfer is given back
 
 pub first_owed : (d : DriverContent) (t : ℕ) → slice_get d.harvested 0 ≡ Some t → IsOrderly d → IsOwed d.transfers t
 first_owed d t first order = owed d.transfers t (slice_get d.transfers t) refl (omega (arith, times_first t t d.harvested first, one_same t, order.harvests t))
 
-release_row : (p : Parts) (t : ℕ) → slice_get p.driver.harvested 0 ≡ Some t → IsOrderly p.driver → TakesTurns p.driver → TakesTurns (after_driver_row (rows.ReleaseTransfer t) p).driver
+release_row : (p : Parts) (t : ℕ) → slice_get p.driver.harvested 0 ≡ Some t → IsOrderly p.driver → AsynchronousTakesTurns p.driver → EventLeaves p.driver (after_driver_row (rows.ReleaseTransfer t) p).driver
 release_row p t first order old =
     let d = p.driver in
     let o = first_owed d t first order in
     let y = o.transfer in
     let h = freed_by d (holding d.book p.memory) (Some y) in
     let z : Transfer = record y { released = true } in
-    let r = old.bulk in
+    let r = old.asynchronous in
     let v = turn_in d.transfers in
     let w = turn_in (set d.transfers t z) in
     let ends = slice_get d.endpoints in
     let c = changed turn_of d.transfers t y z o.there in
-    let now : TakesTurns (after_transfer p t (Some y) h).driver = record {
-      bulk = record {
+    let f = (after_transfer p t (Some y) h).driver in
+    let now : AsynchronousTakesTurns f = record {
+      asynchronous = record {
         endpoints = r.endpoints;
-        moves = moves_set d _ t y z o.there refl refl (descs_same d.endpoints) r.moves;
+        moves = moves_set d f t y z o.there refl refl (descs_same d.endpoints) r.moves;
         command = r.command;
         leaver = r.leaver;
-        mends = r.mends;
         unlinks = r.unlinks;
         removals = r.removals;
       };
@@ -118,7 +129,7 @@ release_row p t first order old =
         returned = returned_on v w ends ends (λ k i x here at gone. changed_turn v w t (turn_of y) (turn_of z) c refl (λ was. refl) (λ was. was) k i here) (same_gone ends) old.turns.returned;
       };
     } in
-    subst (λ (q : Option Transfer). TakesTurns (after_transfer p t q (freed_by d (holding d.book p.memory) q)).driver) (sym o.there) now
+    subst (λ (q : Option Transfer). EventLeaves d (after_transfer p t q (freed_by d (holding d.book p.memory) q)).driver) (sym o.there) (record { turns = now; descs = descs_same d.endpoints })
 
 release_nothing : (p : Parts) (t : ℕ) (o : Option Transfer) (h : Holding) → NothingLeaves p.driver → NothingLeaves (after_transfer p t o h).driver
 release_nothing p t None h old = old
@@ -139,9 +150,9 @@ gone_held : (told b : Bool) (y : Transfer) → (cond b (record y { reported = y.
 gone_held told true y held = absurd (false≢true (sym held))
 gone_held told false y held = refl
 
-release_endpoint : (p : Parts) (e : ℕ) → IsEndpointDue p e → IsOrderly p.driver → TakesTurns p.driver → TakesTurns (after_driver_row (rows.ReleaseEndpoint e) p).driver
+release_endpoint : (p : Parts) (e : ℕ) → IsEndpointDue p e → IsOrderly p.driver → AsynchronousTakesTurns p.driver → EventLeaves p.driver (after_driver_row (rows.ReleaseEndpoint e) p).driver
 release_endpoint p e due order old =
-    subst (λ (o : Option Endpoint). TakesTurns (after_endpoint p e o).driver) (sym l.here) (by (is_told x))
+    subst (λ (o : Option Endpoint). EventLeaves p.driver (after_endpoint p e o).driver) (sym l.here) (by (is_told x))
   where
     d : DriverContent
     d = p.driver
@@ -152,11 +163,11 @@ release_endpoint p e due order old =
     x : Endpoint
     x = l.endpoint
 
-    r : OnlyBulk p.driver
-    r = old.bulk
+    r : OnlyAsynchronous p.driver
+    r = old.asynchronous
 
-    s : IsStanding l.endpoint
-    s = old.bulk.endpoints e l.endpoint l.here
+    s : StandsAsynchronous l.endpoint
+    s = old.asynchronous.endpoints e l.endpoint l.here
 
     z : Endpoint
     z = record l.endpoint { gone = true }
@@ -173,7 +184,7 @@ release_endpoint p e due order old =
     transfers : List Transfer
     transfers = map (let_go e (is_told l.endpoint)) p.driver.transfers
 
-    moves : (c : DriverContent) → KeepDescs d.endpoints c.endpoints → (k : ℕ) (w : Transfer) → slice_get transfers k ≡ Some w → MovesAs c w
+    moves : (c : DriverContent) → KeepDescs d.endpoints c.endpoints → (k : ℕ) (w : Transfer) → slice_get transfers k ≡ Some w → MovesAsynchronous c w
     moves c kept k w here =
         let y = gone_from e told d.transfers k w here in
         let b = y.0.endpoint == e in
@@ -195,14 +206,13 @@ release_endpoint p e due order old =
       gone = refl;
     }
 
-    bulk : (c : DriverContent) → c.endpoints ≡ ends → c.transfers ≡ transfers → c.command ≡ d.command → c.mends ≡ d.mends → c.periodic ≡ d.periodic → OnlyBulk c
-    bulk c at ts command mends periodic = record {
-      endpoints = λ k w here. ends_set IsStanding d.endpoints e x z l.here
-          (λ s. record { bulk = s.bulk; placement = s.placement; chained = s.chained; unlinked = s.unlinked; ended = s.ended; cancel = s.cancel; gone = λ gone. l.linked }) r.endpoints k w (ap (λ (xs : List Endpoint). slice_get xs k) (sym at) ∙ here);
+    asynchronous : (c : DriverContent) → c.endpoints ≡ ends → c.transfers ≡ transfers → c.command ≡ d.command → c.periodic ≡ d.periodic → OnlyAsynchronous c
+    asynchronous c at ts command periodic = record {
+      endpoints = λ k w here. ends_set StandsAsynchronous d.endpoints e x z l.here
+          (λ s. record { asynchronous = s.asynchronous; placement = s.placement; chained = s.chained; unlinked = s.unlinked; ended = s.ended; cancel = s.cancel; gone = λ gone. l.linked }) r.endpoints k w (ap (λ (xs : List Endpoint). slice_get xs k) (sym at) ∙ here);
       moves = λ k w here. moves c (subst (λ (xs : List Endpoint). KeepDescs d.endpoints xs) (sym at) (descs_set d.endpoints e x z l.here refl)) k w (ap (λ (ys : List Transfer). slice_get ys k) (sym ts) ∙ here);
       command = subst (λ (o : Option Command). IsBulkCommand o) (sym command) r.command;
       leaver = λ k w leaves here. absurd (no_leaver d.command k (ap leaver due.idle) (ap leaver (sym command) ∙ leaves));
-      mends = mends ∙ r.mends;
       unlinks = ap (λ (q : PeriodicContent). q.unlinks) periodic ∙ r.unlinks;
       removals = ap (λ (q : PeriodicContent). q.removals) periodic ∙ r.removals;
     }
@@ -214,17 +224,20 @@ release_endpoint p e due order old =
     returned = gone_returned (turn_in d.transfers) (turn_in transfers) (slice_get d.endpoints) (slice_get ends) d.harvested e x z told going
         (told_is x (s.unlinked l.linked) l.gone) old.turns.returned
 
-    by : (b : Bool) → TakesTurns (gone_with (cond b (reported d lines.Cancel x.desc.name (cancelled_bytes d.notes p.memory e x.queue d.transfers)) d) e x (is_told x) book)
-    by true = record {
-      bulk = bulk _ refl refl refl refl refl;
+    leaves : (c : DriverContent) → c.endpoints ≡ ends → AsynchronousTakesTurns c → EventLeaves d c
+    leaves c at now = record { turns = now; descs = subst (λ (xs : List Endpoint). KeepDescs xs d.endpoints) (sym at) (descs_set_back d.endpoints e x z l.here refl) }
+
+    by : (b : Bool) → EventLeaves d (gone_with (cond b (reported d lines.Cancel x.desc.name (cancelled_bytes d.notes p.memory e x.queue d.transfers)) d) e x (is_told x) book)
+    by true = leaves _ refl (record {
+      asynchronous = asynchronous _ refl refl refl refl;
       chained = endpoint_gone_chained (views_of d) d.transfers d.endpoints e x told (slot_of book.slots) (λ k. refl) (λ k. refl) l.here old.chained;
       turns = record { places = places; turns = turns; returned = returned };
-    }
-    by false = record {
-      bulk = bulk _ refl refl refl refl refl;
+    })
+    by false = leaves _ refl (record {
+      asynchronous = asynchronous _ refl refl refl refl;
       chained = endpoint_gone_chained (views_of d) d.transfers d.endpoints e x told (slot_of book.slots) (λ k. refl) (λ k. refl) l.here old.chained;
       turns = record { places = places; turns = turns; returned = returned };
-    }
+    })
 
 -- ---- what never happens there
 
@@ -249,8 +262,11 @@ no_frames (unfinished.Iso e t count) i is = absurd is
 no_frames (unfinished.Unchain e) i is = absurd is
 
 -- a command that is unfinished is one of a driver of bulk endpoints
+unfinished_one : (d : DriverContent) (c : Command) → d.command ≡ Some c → IsBulkCommand d.command → IsBulkCommand (Some c)
+unfinished_one d c is its = subst (λ (o : Option Command). IsBulkCommand o) is its
+
 pub its_command : (d : DriverContent) (c : Command) → d.command ≡ Some c → OnlyBulk d → IsBulkCommand (Some c)
-its_command d c is r = subst (λ (o : Option Command). IsBulkCommand o) is r.command
+its_command d c is r = unfinished_one d c is r.command
 
 none_there : {X : Type 0} (xs : List X) (x : X) → xs ≡ [] → slice_get xs 0 ≡ Some x → ⊥
 none_there xs x none here = let e : ◌≡◌ {A = Option _} None (Some x) = sym (ap (λ ys. slice_get ys 0) none) ∙ here in cc
@@ -260,89 +276,139 @@ both_empty xs ys one other = ap (λ (zs : List ℕ). zs ++ ys) one ∙ other
 
 -- ---- what changes neither endpoints nor transfers
 
-quiet : (d : DriverContent) (waiting rung cleared : List ℕ) (bell : Bell) (next : Bool) (rs : List Removal) → rs ≡ [] → TakesTurns d
-    → TakesTurns (record d { waiting = waiting; rung = rung; cleared = cleared; bell = bell; turn = turns.Harvest; periodic = record d.periodic { status_next = next; removals = rs } })
-quiet d waiting rung cleared bell next rs none old =
-    let r = old.bulk in
+quiet : (d : DriverContent) (mends : List Mend) (waiting rung cleared : List ℕ) (bell : Bell) (next : Bool) (rs : List Removal) → rs ≡ [] → AsynchronousTakesTurns d
+    → EventLeaves d (record d { mends = mends; waiting = waiting; rung = rung; cleared = cleared; bell = bell; turn = turns.Harvest; periodic = record d.periodic { status_next = next; removals = rs } })
+quiet d mends waiting rung cleared bell next rs none old =
+    let r = old.asynchronous in
     record {
-      bulk = record { endpoints = r.endpoints; moves = moves_same d _ (descs_same d.endpoints) r.moves; command = r.command; leaver = r.leaver; mends = r.mends; unlinks = r.unlinks; removals = none };
-      chained = old.chained;
-      turns = record { places = old.turns.places; turns = old.turns.turns; returned = old.turns.returned };
+      turns = record {
+        asynchronous = record { endpoints = r.endpoints; moves = moves_same d _ (descs_same d.endpoints) r.moves; command = r.command; leaver = r.leaver; unlinks = r.unlinks; removals = none };
+        chained = old.chained;
+        turns = record { places = old.turns.places; turns = old.turns.turns; returned = old.turns.returned };
+      };
+      descs = descs_same d.endpoints;
     }
 
 -- ---- any event
 
-due_leaves : (row : DriverRow) (p : Parts) → IsDue p row → IsOrderly p.driver → TakesTurns p.driver → TakesTurns (after_driver_row row p).driver
+due_leaves : (row : DriverRow) (p : Parts) → IsDue p row → IsOrderly p.driver → AsynchronousTakesTurns p.driver → EventLeaves p.driver (after_driver_row row p).driver
 due_leaves rows.Lend p due order old =
-    let r = old.bulk in
+    let r = old.asynchronous in
     let d = record p.driver { book = (lend_taken (holding p.driver.book p.memory)).book } in
-    let lending : OnlyBulk d = record { endpoints = r.endpoints; moves = moves_same p.driver d (descs_same d.endpoints) r.moves; command = r.command; leaver = r.leaver; mends = r.mends; unlinks = r.unlinks; removals = r.removals } in
+    let lending : OnlyAsynchronous d = record { endpoints = r.endpoints; moves = moves_same p.driver d (descs_same d.endpoints) r.moves; command = r.command; leaver = r.leaver; unlinks = r.unlinks; removals = r.removals } in
     record {
-      bulk = advanced_bulk d lending;
-      chained = same_chained (views_of p.driver) (views_of (advance d)) (lent p.driver p.memory).same old.chained;
-      turns = advanced_turns d r.command (record { places = old.turns.places; turns = old.turns.turns; returned = old.turns.returned });
+      turns = record {
+        asynchronous = advanced_queues d lending;
+        chained = same_chained (views_of p.driver) (views_of (advance d)) (lent p.driver p.memory).same old.chained;
+        turns = advanced_turns d r.command (record { places = old.turns.places; turns = old.turns.turns; returned = old.turns.returned });
+      };
+      descs = advanced_descs d r.command;
     }
 due_leaves (rows.Store b at v) p due order old = record {
-  bulk = advanced_bulk p.driver old.bulk;
-  chained = same_chained (views_of p.driver) (views_of (advance p.driver)) (advanced p.driver).same old.chained;
-  turns = advanced_turns p.driver old.bulk.command old.turns;
+  turns = record {
+    asynchronous = advanced_queues p.driver old.asynchronous;
+    chained = same_chained (views_of p.driver) (views_of (advance p.driver)) (advanced p.driver).same old.chained;
+    turns = advanced_turns p.driver old.asynchronous.command old.turns;
+  };
+  descs = advanced_descs p.driver old.asynchronous.command;
 }
-due_leaves (rows.Mend w) p due order old = absurd (none_there p.driver.mends w old.bulk.mends due.1)
-due_leaves rows.Frames p due order old = absurd ((no_frames due.command p.driver.made (its_command p.driver due.command due.unfinished old.bulk)).0 due.next)
-due_leaves rows.LendDescriptors p due order old = absurd ((no_frames due.command p.driver.made (its_command p.driver due.command due.unfinished old.bulk)).1 due.next)
-due_leaves (rows.Unlink t) p due order old = absurd (none_there p.driver.periodic.unlinks t old.bulk.unlinks due.first)
-due_leaves (rows.ReleaseRemoved what) p due order old = absurd (none_there p.driver.periodic.removals due.removal old.bulk.removals due.first)
+due_leaves (rows.Mend w) p due order old =
+    let d = p.driver in quiet d (drop 1 d.mends) d.waiting d.rung d.cleared d.bell d.periodic.status_next d.periodic.removals old.asynchronous.removals old
+due_leaves rows.Frames p due order old = absurd ((no_frames due.command p.driver.made (unfinished_one p.driver due.command due.unfinished old.asynchronous.command)).0 due.next)
+due_leaves rows.LendDescriptors p due order old = absurd ((no_frames due.command p.driver.made (unfinished_one p.driver due.command due.unfinished old.asynchronous.command)).1 due.next)
+due_leaves (rows.Unlink t) p due order old = absurd (none_there p.driver.periodic.unlinks t old.asynchronous.unlinks due.first)
+due_leaves (rows.ReleaseRemoved what) p due order old = absurd (none_there p.driver.periodic.removals due.removal old.asynchronous.removals due.first)
 due_leaves (rows.ReleaseTransfer t) p due order old = release_row p t due.first order old
 due_leaves (rows.ReleaseEndpoint e) p due order old = release_endpoint p e due order old
 due_leaves rows.ClearAdvance p due order old =
-    let d = p.driver in quiet d d.waiting [] (d.cleared ++ d.rung) bells.Quiet d.periodic.status_next d.periodic.removals old.bulk.removals old
+    let d = p.driver in quiet d d.mends d.waiting [] (d.cleared ++ d.rung) bells.Quiet d.periodic.status_next d.periodic.removals old.asynchronous.removals old
 due_leaves rows.RingBell p due order old =
-    let d = p.driver in quiet d [] (d.rung ++ d.waiting) d.cleared bells.Rung d.periodic.status_next d.periodic.removals old.bulk.removals old
+    let d = p.driver in quiet d d.mends [] (d.rung ++ d.waiting) d.cleared bells.Rung d.periodic.status_next d.periodic.removals old.asynchronous.removals old
 due_leaves (rows.ReadStatus heard) p due order old =
-    let d = p.driver in quiet d d.waiting d.rung d.cleared (bell_after heard) false d.periodic.removals old.bulk.removals old
+    let d = p.driver in quiet d d.mends d.waiting d.rung d.cleared (bell_after heard) false d.periodic.removals old.asynchronous.removals old
 due_leaves (rows.ReadFrame n) p due order old =
-    let d = p.driver in quiet d d.waiting d.rung d.cleared d.bell true (read_again n d.periodic.removals) (ap (read_again n) old.bulk.removals) old
-due_leaves (rows.Harvest e t found) p due order old = harvest_leaves p e t found due old.bulk old
-due_leaves rows.Rest p due order old = old
+    let d = p.driver in quiet d d.mends d.waiting d.rung d.cleared d.bell true (read_again n d.periodic.removals) (ap (read_again n) old.asynchronous.removals) old
+due_leaves (rows.Harvest e t found) p due order old = harvest_leaves p e t found due old.asynchronous old
+due_leaves rows.Rest p due order old = record { turns = old; descs = descs_same p.driver.endpoints }
 
--- and where nothing leaves, nothing does after it
-due_nothing : (row : DriverRow) (p : Parts) → IsDue p row → OnlyBulk p.driver → NothingLeaves p.driver → NothingLeaves (after_driver_row row p).driver
-due_nothing rows.Lend p due bulk old =
-    advanced_nothing (record p.driver { book = (lend_taken (holding p.driver.book p.memory)).book }) bulk.command
-    (record { endpoints = old.endpoints; command = old.command; waiting = old.waiting; rung = old.rung; cleared = old.cleared })
-due_nothing (rows.Store b at v) p due bulk old = advanced_nothing p.driver bulk.command old
-due_nothing (rows.Mend w) p due bulk old = absurd (none_there p.driver.mends w bulk.mends due.1)
-due_nothing rows.Frames p due bulk old = absurd ((no_frames due.command p.driver.made (its_command p.driver due.command due.unfinished bulk)).0 due.next)
-due_nothing rows.LendDescriptors p due bulk old = absurd ((no_frames due.command p.driver.made (its_command p.driver due.command due.unfinished bulk)).1 due.next)
-due_nothing (rows.Unlink t) p due bulk old = absurd (none_there p.driver.periodic.unlinks t bulk.unlinks due.first)
-due_nothing (rows.ReleaseRemoved what) p due bulk old = absurd (none_there p.driver.periodic.removals due.removal bulk.removals due.first)
-due_nothing (rows.ReleaseTransfer t) p due bulk old = release_nothing p t (slice_get p.driver.transfers t) (freed_by p.driver (holding p.driver.book p.memory) (slice_get p.driver.transfers t)) old
-due_nothing (rows.ReleaseEndpoint e) p due bulk old = absurd (none_there p.driver.cleared e old.cleared due.first)
-due_nothing rows.ClearAdvance p due bulk old =
-    record { endpoints = old.endpoints; command = old.command; waiting = old.waiting; rung = refl; cleared = both_empty p.driver.cleared p.driver.rung old.cleared old.rung }
-due_nothing rows.RingBell p due bulk old =
-    record { endpoints = old.endpoints; command = old.command; waiting = refl; rung = both_empty p.driver.rung p.driver.waiting old.rung old.waiting; cleared = old.cleared }
-due_nothing (rows.ReadStatus heard) p due bulk old = record { endpoints = old.endpoints; command = old.command; waiting = old.waiting; rung = old.rung; cleared = old.cleared }
-due_nothing (rows.ReadFrame n) p due bulk old = record { endpoints = old.endpoints; command = old.command; waiting = old.waiting; rung = old.rung; cleared = old.cleared }
-due_nothing (rows.Harvest e t found) p due bulk old = harvest_nothing p e t found due bulk old
-due_nothing rows.Rest p due bulk old = old
+pub event_queues : (p : Parts) → HasOwners p.driver → AsynchronousTakesTurns p.driver → AsynchronousTakesTurns (after_driver_row (driver_row p) p).driver
+event_queues p owners old = (due_leaves (driver_row p) p (each_is_due p) owners.orderly old).turns
+
+-- ---- bulk endpoints alone: none is owed a store
+
+transfer_mends : (p : Parts) (t : ℕ) (o : Option Transfer) (h : Holding) → (after_transfer p t o h).driver.mends ≡ p.driver.mends
+transfer_mends p t None h = refl
+transfer_mends p t (Some y) h = refl
+
+endpoint_mends : (p : Parts) (e : ℕ) (o : Option Endpoint) → (after_endpoint p e o).driver.mends ≡ p.driver.mends
+endpoint_mends p e None = refl
+endpoint_mends p e (Some x) = by (is_told x)
+  where
+    by : (b : Bool) → (cond b (reported p.driver lines.Cancel x.desc.name (cancelled_bytes p.driver.notes p.memory e x.queue p.driver.transfers)) p.driver).mends ≡ p.driver.mends
+    by true = refl
+    by false = refl
+
+mends_stay : (row : DriverRow) (p : Parts) → IsDue p row → OnlyBulk p.driver → (after_driver_row row p).driver.mends ≡ []
+mends_stay rows.Lend p due r = advanced_mends (record p.driver { book = (lend_taken (holding p.driver.book p.memory)).book }) r.command ∙ r.mends
+mends_stay (rows.Store b at v) p due r = advanced_mends p.driver r.command ∙ r.mends
+mends_stay (rows.Mend w) p due r = absurd (none_there p.driver.mends w r.mends due.1)
+mends_stay rows.Frames p due r = absurd ((no_frames due.command p.driver.made (its_command p.driver due.command due.unfinished r)).0 due.next)
+mends_stay rows.LendDescriptors p due r = absurd ((no_frames due.command p.driver.made (its_command p.driver due.command due.unfinished r)).1 due.next)
+mends_stay (rows.Unlink t) p due r = absurd (none_there p.driver.periodic.unlinks t r.unlinks due.first)
+mends_stay (rows.ReleaseRemoved what) p due r = absurd (none_there p.driver.periodic.removals due.removal r.removals due.first)
+mends_stay (rows.ReleaseTransfer t) p due r = transfer_mends p t (slice_get p.driver.transfers t) (freed_by p.driver (holding p.driver.book p.memory) (slice_get p.driver.transfers t)) ∙ r.mends
+mends_stay (rows.ReleaseEndpoint e) p due r = endpoint_mends p e (slice_get p.driver.endpoints e) ∙ r.mends
+mends_stay rows.ClearAdvance p due r = r.mends
+mends_stay rows.RingBell p due r = r.mends
+mends_stay (rows.ReadStatus heard) p due r = r.mends
+mends_stay (rows.ReadFrame n) p due r = r.mends
+mends_stay (rows.Harvest e t found) p due r =
+    after p e t found due (only_asynchronous p.driver r) (λ (f : DriverContent). f.mends ≡ [])
+    (harvest_mends p.driver p.memory e t due.endpoint due.transfer found (r.endpoints e due.endpoint due.here).bulk.kind ∙ r.mends)
+mends_stay rows.Rest p due r = r.mends
 
 pub event_turns : (p : Parts) → HasOwners p.driver → TakesTurns p.driver → TakesTurns (after_driver_row (driver_row p) p).driver
-event_turns p owners old = due_leaves (driver_row p) p (each_is_due p) owners.orderly old
+event_turns p owners old =
+    let due = each_is_due p in
+    let l = due_leaves (driver_row p) p due owners.orderly (bulk_takes_turns p.driver old) in
+    takes_bulk_turns (after_driver_row (driver_row p) p).driver
+    (λ e x here. let o = l.descs e x here in subst (λ (k : EpDesc). IsBulk k) o.same (old.bulk.endpoints e o.one o.here).bulk)
+    (mends_stay (driver_row p) p due old.bulk) l.turns
+
+-- and where nothing leaves, nothing does after it
+due_nothing : (row : DriverRow) (p : Parts) → IsDue p row → OnlyAsynchronous p.driver → NothingLeaves p.driver → NothingLeaves (after_driver_row row p).driver
+due_nothing rows.Lend p due only old =
+    advanced_nothing (record p.driver { book = (lend_taken (holding p.driver.book p.memory)).book }) only.command
+    (record { endpoints = old.endpoints; command = old.command; waiting = old.waiting; rung = old.rung; cleared = old.cleared })
+due_nothing (rows.Store b at v) p due only old = advanced_nothing p.driver only.command old
+due_nothing (rows.Mend w) p due only old = record { endpoints = old.endpoints; command = old.command; waiting = old.waiting; rung = old.rung; cleared = old.cleared }
+due_nothing rows.Frames p due only old = absurd ((no_frames due.command p.driver.made (unfinished_one p.driver due.command due.unfinished only.command)).0 due.next)
+due_nothing rows.LendDescriptors p due only old = absurd ((no_frames due.command p.driver.made (unfinished_one p.driver due.command due.unfinished only.command)).1 due.next)
+due_nothing (rows.Unlink t) p due only old = absurd (none_there p.driver.periodic.unlinks t only.unlinks due.first)
+due_nothing (rows.ReleaseRemoved what) p due only old = absurd (none_there p.driver.periodic.removals due.removal only.removals due.first)
+due_nothing (rows.ReleaseTransfer t) p due only old = release_nothing p t (slice_get p.driver.transfers t) (freed_by p.driver (holding p.driver.book p.memory) (slice_get p.driver.transfers t)) old
+due_nothing (rows.ReleaseEndpoint e) p due only old = absurd (none_there p.driver.cleared e old.cleared due.first)
+due_nothing rows.ClearAdvance p due only old =
+    record { endpoints = old.endpoints; command = old.command; waiting = old.waiting; rung = refl; cleared = both_empty p.driver.cleared p.driver.rung old.cleared old.rung }
+due_nothing rows.RingBell p due only old =
+    record { endpoints = old.endpoints; command = old.command; waiting = refl; rung = both_empty p.driver.rung p.driver.waiting old.rung old.waiting; cleared = old.cleared }
+due_nothing (rows.ReadStatus heard) p due only old = record { endpoints = old.endpoints; command = old.command; waiting = old.waiting; rung = old.rung; cleared = old.cleared }
+due_nothing (rows.ReadFrame n) p due only old = record { endpoints = old.endpoints; command = old.command; waiting = old.waiting; rung = old.rung; cleared = old.cleared }
+due_nothing (rows.Harvest e t found) p due only old = harvest_nothing p e t found due only old
+due_nothing rows.Rest p due only old = old
 
 pub event_nothing : (p : Parts) → HasOwners p.driver → TakesTurns p.driver → NothingLeaves p.driver → NothingLeaves (after_driver_row (driver_row p) p).driver
-event_nothing p owners old none = due_nothing (driver_row p) p (each_is_due p) old.bulk none
+event_nothing p owners old none = due_nothing (driver_row p) p (each_is_due p) (only_asynchronous p.driver old.bulk) none
 
 -- ---- the opening
 
-pub new_turns : (n : ℕ) (room : Reserve) → TakesTurns (opening n room).driver
-new_turns n room = record {
-  bulk = record {
+pub new_queues : (n : ℕ) (room : Reserve) → AsynchronousTakesTurns (opening n room).driver
+new_queues n room = record {
+  asynchronous = record {
     endpoints = λ e x here. absurd (cc);
     moves = λ t y here. absurd (cc);
     command = tt;
     leaver = λ e x is here. absurd (cc);
-    mends = refl;
     unlinks = refl;
     removals = refl;
   };
@@ -360,6 +426,9 @@ new_turns n room = record {
     returned = λ t y x there. absurd (cc);
   };
 }
+
+pub new_turns : (n : ℕ) (room : Reserve) → TakesTurns (opening n room).driver
+new_turns n room = takes_bulk_turns (opening n room).driver (λ e x here. absurd (cc)) refl (new_queues n room)
 
 pub new_nothing : (n : ℕ) (room : Reserve) → NothingLeaves (opening n room).driver
 new_nothing n room = record { endpoints = λ e x here. absurd (cc); command = refl; waiting = refl; rung = refl; cleared = refl }

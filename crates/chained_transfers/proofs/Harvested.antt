@@ -1,5 +1,5 @@
 -- A harvest leaves the transfers in turn, each at its place.
-use Rattle.std.proofs.Common.{◌≡◌, ◌≢◌, ℕ, zero, suc, ◌-◌, ◌≤◌, Bool, true, false, cond, nat_le, List, [], ◌∷◌, ◌++◌, set, slice_get, Option, Some, None, option_map, ap, sym, subst, ◌∙◌, ⊎_elim, refl, arith, inl, inr, nat_eq}
+use Rattle.std.proofs.Common.{◌≡◌, ◌≢◌, ℕ, zero, suc, ◌-◌, ◌≤◌, Bool, true, false, cond, nat_le, List, [], ◌∷◌, ◌++◌, length, set, slice_get, Option, Some, None, option_map, ap, sym, subst, ◌∙◌, ⊎_elim, refl, arith, inl, inr, nat_eq}
 use Rattle.std.proofs.lemmas.Bool.{cases_eq, false≢true}
 use Rattle.std.proofs.lemmas.Bool.Decides.{nat_tests}
 use Rattle.std.proofs.lemmas.Option.{same_Some}
@@ -19,7 +19,7 @@ use Rattle.driver_rows.specs.declared.rows.Found.{Found}
 use Rattle.driver_rows.specs.declared.rows.Found.TheVariants as founds
 use Rattle.driver_rows.specs.DriverContent.{DriverContent, waits_for, next_after}
 use Rattle.driver_rows.specs.Harvests.{note_at, token_in, found_in, done_of, ends_by, moved_of, halt_of, end_of, is_stall, noted}
-use Rattle.driver_rows.specs.Rows.{after_harvest, harvested_as, served, told_with, after_end, goes_on, stalled, ended_by_cancel}
+use Rattle.driver_rows.specs.Rows.{after_harvest, harvested_as, served, told_with, after_end, goes_on, stalled, mends_of, ended_by_cancel}
 use Rattle.run_owners.specs.Owners.{NoteRuns, runs_of_note, note_in}
 use Rattle.run_owners.proofs.Released.{set_here, set_there}
 use Rattle.run_owners.proofs.Stays.{same_item, same_view}
@@ -31,6 +31,7 @@ use Rattle.chained_transfers.proofs.Chained.{piece_same}
 use Rattle.chained_transfers.proofs.Turning.{AreInTurnOf, IsChangedAt, changed, changed_plain}
 use Rattle.chained_transfers.proofs.Reporting.{IsFirst, ended_turns, harvested_turns}
 use Rattle.chained_transfers.proofs.Harvesting.{waits_is, next_waits}
+use Rattle.chained_transfers.proofs.Stalled.{OnlyTells, behind_tells, behind_turns}
 use Rattle.std.specs.Prelude.{◌⊎◌}
 use Rattle.driver_rows.specs.Words.{is_control}
 
@@ -148,10 +149,21 @@ turns_same S v w ends hs same old = record {
     next e None old = λ u z there. old u z (sym (same u) ∙ there)
     next e (Some t) old = record { transfer = old.transfer; here = same t ∙ old.here; endpoint = old.endpoint; waits = old.waits; before = λ u z less there. old.before u z less (sym (same u) ∙ there) }
 
+-- some are reported, each at its place
+tells_in_turn : (S : ℕ → Type 0) (d f : DriverContent) → OnlyTells d f → AreAtPlaces (note_in d.notes) d.transfers → AreTurnsOf S (turn_in f.transfers) (slice_get d.endpoints) f.harvested → AreInTurnOf S f
+tells_in_turn S d f each places turns = record {
+  places = λ k z at free.
+      let was = each.transfers k z at in
+      let p = places k was.one was.here (sym (ap (λ (r : Transfer). r.released) was.is) ∙ free) in
+      subst (λ (notes : List QtdNote). IsAtPlace (note_in notes) z) (sym each.notes)
+      (subst (λ (r : Transfer). IsAtPlace (note_in d.notes) r) (sym was.is) (record { some = p.some; most = p.most; place = p.place }));
+  turns = subst (λ (xs : List Endpoint). AreTurnsOf S (turn_in f.transfers) (slice_get xs) f.harvested) (sym each.endpoints) turns;
+}
+
 -- ---- a harvest
 
 module _ (S : ℕ → Type 0) (d : DriverContent) (m : Mem) (e t : ℕ) (x : Endpoint) (y : Transfer) (here : slice_get d.endpoints e ≡ Some x) (there : slice_get d.transfers t ≡ Some y) (goes : x.ended ≡ None) (fresh : x.cancelled ≡ false) (next : x.next ≡ Some t)
-    (waits : waits_for e y ≡ true) (bulk : x.desc.kind ≡ kinds.Bulk) (stays : S e) (old : AreInTurnOf S d) where
+    (waits : waits_for e y ≡ true) (stays : S e) (old : AreInTurnOf S d) where
   is_next : IsNext (turn_in d.transfers) e t
   is_next = subst (λ (o : Option ℕ). AreReportedTo (turn_in d.transfers) e o) next (old.turns.next e x here (none_told x goes))
 
@@ -195,14 +207,24 @@ module _ (S : ℕ → Type 0) (d : DriverContent) (m : Mem) (e t : ℕ) (x : End
   told_places n = places_same (note_in d.notes) (note_in (noted d.notes y.place n)) told (note_same d.notes y.place n)
       (places_set (note_in d.notes) d.transfers t y (record y { reported = true }) there (λ h. let p = old.places t y there held in record { some = p.some; most = p.most; place = p.place }) old.places)
 
-  ends_as : (n : ℕ) (what : What) (o : Option EndCause) → end_of x.desc.kind what ≡ o → AreInTurnOf S (after_end (told_with d m t y what x.desc.name (noted d.notes y.place n)) e t x (is_stall what) o)
+  -- it is stalled, and ends with all requests behind it
+  stall_as : (n : ℕ) (what : What) → AreInTurnOf S (stalled (told_with d m t y what x.desc.name (noted d.notes y.place n)) e t x)
   unfolding told
-  ends_as n what (Some cause) is = record { places = told_places n; turns = ended (record x { ended = Some cause }) cause (told_uncancelled (record x { ended = Some cause }) fresh) }
-  ends_as n what None is = by (is_stall what) (no_stall x.desc.kind what bulk is)
+  stall_as n what =
+      let begun = told_with d m t y what x.desc.name (noted d.notes y.place n) in
+      let now = record begun { harvested = d.harvested ++ t ∷ []; endpoints = set d.endpoints e (record x { next = None }); mends = d.mends ++ mends_of x } in
+      tells_in_turn S now (stalled begun e t x) (behind_tells now e x.desc.name (suc t) (length begun.transfers - suc t)) (told_places n)
+      (behind_turns S d.endpoints e x here goes stays now x.desc.name (suc t) (length begun.transfers - suc t) (omega arith)
+      (record { next = next_after begun.transfers e t; turns = done; before = λ u z less at of_e. earlier u z (omega (arith, less)) at of_e }))
+
+  ends_as : (n : ℕ) (what : What) (o : Option EndCause) → AreInTurnOf S (after_end (told_with d m t y what x.desc.name (noted d.notes y.place n)) e t x (is_stall what) o)
+  unfolding told
+  ends_as n what (Some cause) = record { places = told_places n; turns = ended (record x { ended = Some cause }) cause (told_uncancelled (record x { ended = Some cause }) fresh) }
+  ends_as n what None = by (is_stall what)
     where
-      by : (b : Bool) → b ≡ false → AreInTurnOf S (cond b (stalled (told_with d m t y what x.desc.name (noted d.notes y.place n)) e t x) (goes_on (told_with d m t y what x.desc.name (noted d.notes y.place n)) e t x))
-      by true off = absurd (false≢true (sym off))
-      by false off = record { places = told_places n; turns = done }
+      by : (b : Bool) → AreInTurnOf S (cond b (stalled (told_with d m t y what x.desc.name (noted d.notes y.place n)) e t x) (goes_on (told_with d m t y what x.desc.name (noted d.notes y.place n)) e t x))
+      by true = stall_as n what
+      by false = record { places = told_places n; turns = done }
 
   read_as : (found : Found) → found ≡ found_in y.sort (nat_le y.left 1) (note_at d.notes y.place) (token_in m y.place) → AreInTurnOf S (served (harvested_as d m e t x y found) e)
   read_as founds.Active is = record { places = old.places; turns = old.turns }
@@ -218,7 +240,12 @@ module _ (S : ℕ → Type 0) (d : DriverContent) (m : Mem) (e t : ℕ) (x : End
       same_turn : (z : Transfer) → turn_of z ≡ turn_of y → (i : ℕ) → turn_in (set d.transfers t z) i ≡ turn_in d.transfers i
       same_turn z is i = same_view turn_of d.transfers t y z there is i
   read_as (founds.Served errors) is = absurd (served_by (token_in m y.place).active (token_in m y.place).halted (ends_by y.sort (nat_le y.left 1) (token_in m y.place).total) (moved_of (note_at d.notes y.place).told (token_in m y.place).total) errors (halt_of (token_in m y.place)) (sym is))
-  read_as (founds.Ended n what) is = let k = ends_as n what (end_of x.desc.kind what) refl in record { places = k.places; turns = k.turns }
+  read_as (founds.Ended n what) is = let k = ends_as n what (end_of x.desc.kind what) in record { places = k.places; turns = k.turns }
 
-  pub harvest_turns_of : (found : Found) → found ≡ found_in y.sort (nat_le y.left 1) (note_at d.notes y.place) (token_in m y.place) → AreInTurnOf S (after_harvest d m e t found (Some x) (Some y))
-  harvest_turns_of found is = subst (λ (b : Bool). AreInTurnOf S (cond b (served (harvested_as d m e t x y found) e) d)) (sym waits) (read_as found is)
+  pub harvest_in_turn : (found : Found) → found ≡ found_in y.sort (nat_le y.left 1) (note_at d.notes y.place) (token_in m y.place) → AreInTurnOf S (after_harvest d m e t found (Some x) (Some y))
+  harvest_in_turn found is = subst (λ (b : Bool). AreInTurnOf S (cond b (served (harvested_as d m e t x y found) e) d)) (sym waits) (read_as found is)
+
+-- of a bulk endpoint
+pub harvest_turns_of : (S : ℕ → Type 0) (d : DriverContent) (m : Mem) (e t : ℕ) (x : Endpoint) (y : Transfer) → slice_get d.endpoints e ≡ Some x → slice_get d.transfers t ≡ Some y → x.ended ≡ None → x.cancelled ≡ false → x.next ≡ Some t
+    → waits_for e y ≡ true → x.desc.kind ≡ kinds.Bulk → S e → AreInTurnOf S d → (found : Found) → found ≡ found_in y.sort (nat_le y.left 1) (note_at d.notes y.place) (token_in m y.place) → AreInTurnOf S (after_harvest d m e t found (Some x) (Some y))
+harvest_turns_of S d m e t x y here there goes fresh next waits bulk stays old found is = harvest_in_turn S d m e t x y here there goes fresh next waits stays old found is

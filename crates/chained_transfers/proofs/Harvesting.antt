@@ -70,7 +70,7 @@ waits_is e y is = (same_by_test y.endpoint e (first (y.endpoint == e) (not y.rep
     second true false f = refl
     second false b f = absurd (false≢true f)
 
-waits_not : (e : ℕ) (y : Transfer) → waits_for e y ≡ false → y.endpoint ≡ e → y.reported ≡ true
+pub waits_not : (e : ℕ) (y : Transfer) → waits_for e y ≡ false → y.endpoint ≡ e → y.reported ≡ true
 waits_not e y is of_e = by y.reported refl
   where
     by : (b : Bool) → y.reported ≡ b → y.reported ≡ true

@@ -1,4 +1,5 @@
 pub mod Ways
+pub mod BulkAndControl
 pub mod Moves
 pub mod Chained
 pub mod Turning
@@ -7,9 +8,11 @@ pub mod Reporting
 pub mod Queued
 pub mod Accepting
 pub mod Harvesting
+pub mod Stalled
 pub mod Harvested
 pub mod Rows
 pub mod Staying
 pub mod Holding
 pub mod Events
 pub mod Commands
+pub mod WorkedRequests

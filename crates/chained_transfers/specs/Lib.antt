@@ -6,4 +6,7 @@ pub mod Out
 pub mod Accepted
 pub mod InTurn
 pub mod Leaving
+pub mod Asynchronous
+pub mod AsynchronousTurns
 pub mod Worked
+pub mod WorkedRequests

@@ -1,17 +1,23 @@
 //! Worked rows of the definitions, which the check computes.
 ghost use Rattle.std.specs.Prelude.{◌≡◌, true, false, [], ◌∷◌, map, drop, Some, None};
 ghost use Rattle.usb_base.specs.declared.packets.Way.TheVariants as ways;
+ghost use Rattle.usb_base.specs.declared.endpoints.EndCause.TheVariants as causes;
+ghost use Rattle.usb_base.specs.declared.reports.What.TheVariants as lines;
 ghost use Rattle.driver_rows.specs.declared.content.Command.TheVariants as unfinished;
 ghost use Rattle.driver_rows.specs.declared.content.Bell.TheVariants as bells;
 ghost use Rattle.driver_rows.specs.declared.rows.DriverRow.TheVariants as rows;
+ghost use Rattle.driver_rows.specs.declared.rows.Found.TheVariants as founds;
 ghost use Rattle.driver_rows.specs.Words.{get_stages, put_stages};
 ghost use Rattle.driver_rows.specs.Opening.{opening_registers};
 ghost use Rattle.driver_rows.specs.Offers.{accepted_cancel};
-ghost use Rattle.driver_rows.specs.Rows.{advance, bell_row, is_told, let_go};
+ghost use Rattle.driver_rows.specs.Rows.{advance, bell_row, is_told, let_go, driver_row, after_driver_row};
+ghost use Rattle.run_owners.specs.Kept.{HasOwners};
 ghost use Rattle.chained_transfers.specs.Bulk.{receives, pid_by};
 ghost use Rattle.chained_transfers.specs.Accepted.{move_of};
 ghost use Rattle.chained_transfers.specs.Chains.{piece_at};
 ghost use Rattle.chained_transfers.specs.Out.{pieces_from, unpublished, out_of};
+ghost use Rattle.chained_transfers.specs.AsynchronousTurns.{AsynchronousTakesTurns};
+ghost use Rattle.chained_transfers.specs.WorkedRequests.{control_endpoint, stalled_request, waiting_request, request_driver, request_parts};
 ghost use Rattle.chained_transfers.specs.Worked.{notes, ended_early, under_way, in_ring, out_of_ring, ring_driver, waiting_driver};
 
 /// The chain goes from a transfer to the next, and on to the inactive qTD at the end of the queue.
@@ -48,4 +54,23 @@ pub fn leaving()
     ensures rings { bell_row waiting_driver opening_registers bells.Quiet ≡ Some rows.RingBell }
     ensures told { is_told out_of_ring ≡ true }
     ensures gone { map (let_go 0 true) (drop 1 waiting_driver.transfers) ≡ record under_way { reported = true; released = true } ∷ [] }
+{}
+
+/// The status of a request is found stalled, with another request behind it: both are reported as stalled, and are to be given back in their order; the
+/// endpoint has none next, and three words of its queue head are to be stored.
+#[tactic(auto, unfolding(driver_rows::specs::Rows::behind, qh_qtd::specs::Token::token_at))]
+pub fn a_request_is_stalled()
+    ensures row { driver_row request_parts ≡ rows.Harvest 0 0 (founds.Ended 0 (lines.Halt causes.Stall)) }
+    ensures transfers { (after_driver_row (driver_row request_parts) request_parts).driver.transfers ≡ record stalled_request { reported = true } ∷ record waiting_request { reported = true } ∷ [] }
+    ensures harvested { (after_driver_row (driver_row request_parts) request_parts).driver.harvested ≡ 0 ∷ 1 ∷ [] }
+    ensures endpoint { (after_driver_row (driver_row request_parts) request_parts).driver.endpoints ≡ record control_endpoint { next = None } ∷ [] }
+    ensures mends { (after_driver_row (driver_row request_parts) request_parts).driver.mends
+        ≡ record { queue = 130; at = 4176; value = 4416 } ∷ record { queue = 130; at = 4180; value = 1 } ∷ record { queue = 130; at = 4184; value = 0 } ∷ [] }
+    ensures lines { map (λ r. r.what) (after_driver_row (driver_row request_parts) request_parts).driver.reports ≡ lines.Halt causes.Stall ∷ lines.Halt causes.Stall ∷ [] }
+{}
+
+/// Its driver is one of which the laws speak.
+pub fn a_stalled_driver_takes_turns()
+    ensures owners { HasOwners request_driver }
+    ensures turns { AsynchronousTakesTurns request_driver }
 {}

@@ -1,10 +1,12 @@
 -- What is so of each script that the bytes of a source spell, where the source tells its bytes.
 --     OfEachScript so left         of each script
 --     OfEachBulkScript so left     of each whose endpoints are high-speed bulk ones; it may cancel them
+--     OfEachIsochronousScript so left     of each whose endpoints are isochronous ones; it may cancel them
 use Rattle.std.specs.Prelude.{ℕ, List, Option, IfSome}
 use Rattle.script_types.specs.declared.scripts.Script.{Script}
 use Rattle.script_text.specs.Faults.{Spells}
 use Rattle.chained_transfers.specs.Bulk.{BulkOnly}
+use Rattle.framed_worlds.specs.Scripts.{IsochronousOnly}
 use Rattle.program_ends.specs.Input.{input_of}
 
 abbrev pub OfEachScript : (Script → Type 0) → Option (List ℕ) → Type 0
@@ -12,3 +14,6 @@ OfEachScript so left = IfSome left (λ xs. (s : Script) → Spells (input_of xs)
 
 abbrev pub OfEachBulkScript : (Script → Type 0) → Option (List ℕ) → Type 0
 OfEachBulkScript so left = IfSome left (λ xs. (s : Script) → Spells (input_of xs) s → BulkOnly s → so s)
+
+abbrev pub OfEachIsochronousScript : (Script → Type 0) → Option (List ℕ) → Type 0
+OfEachIsochronousScript so left = IfSome left (λ xs. (s : Script) → Spells (input_of xs) s → IsochronousOnly s → so s)

@@ -8,7 +8,8 @@ ghost use Rattle.program_ends.specs.Input.{input_of};
 ghost use Rattle.program_forms.specs.Form.{AreWordsOf, AreNoForm};
 ghost use Rattle.program_forms.specs.Output.{IsAnswer, IsLoad, IsProgram, LeavesAs, Leaves};
 ghost use Rattle.sending_worlds.specs.Kept.{KeepsPlaces};
-ghost use Rattle.ehci_cli.specs.Scripts.{OfEachScript, OfEachBulkScript};
+ghost use Rattle.framed_worlds.specs.Frames.{KeepsFrames};
+ghost use Rattle.ehci_cli.specs.Scripts.{OfEachScript, OfEachBulkScript, OfEachIsochronousScript};
 ghost use Rattle.ehci_cli.specs.Streams.{KeepsStreams};
 
 use program_ends::{Status, Unread, read_input};
@@ -40,7 +41,11 @@ use usb_base::{Sink, Source};
 /// at each moment of it, whatever is lost, damaged or held. After a run of which each line was carried out these are all its streams. And at each moment nothing of
 /// the driver is out of place in memory, the walk of the ring stands at its queue heads alone, or at those that left it since the last answered doorbell was rung, and the
 /// controller runs, meets no fault and is refused no word.
-#[tactic(auto, using(crate::proofs::Admitted::source_admits, crate::proofs::Admitted::source_keeps_to_lent, crate::proofs::Admitted::source_owns, crate::proofs::Admitted::source_keeps_schedule, crate::proofs::Streams::source_keeps_streams, crate::proofs::Streams::source_keeps_places))]
+///
+/// Where the script opens isochronous endpoints only, of high-speed devices or behind hubs, cancelled or not, at each moment nothing of the driver is out of place in
+/// memory, the words of the frame list and of its descriptors stand for the driver's list, also while a descriptor is linked or unlinked, and the controller runs with
+/// both schedules on, meets no fault and is refused no word.
+#[tactic(auto, using(crate::proofs::Admitted::source_admits, crate::proofs::Admitted::source_keeps_to_lent, crate::proofs::Admitted::source_owns, crate::proofs::Admitted::source_keeps_schedule, crate::proofs::Streams::source_keeps_streams, crate::proofs::Streams::source_keeps_places, crate::proofs::Frames::source_keeps_frames))]
 pub fn ehci<S: Source, K: Sink>(
     alloc: Global,
     words: &[String],
@@ -58,6 +63,7 @@ pub fn ehci<S: Source, K: Sink>(
     ensures schedule { OfEachScript KeepsScheduleThroughout (S.left source.old) }
     ensures streams { OfEachBulkScript KeepsStreams (S.left source.old) }
     ensures placed { OfEachBulkScript KeepsPlaces (S.left source.old) }
+    ensures frames { OfEachIsochronousScript KeepsFrames (S.left source.old) }
     ensures left { IfSome (S.left source.old) (λ xs. Leaves (map string_bytes words.now) result xs (S.left source.new)) }
     ensures nothing { WritesNothing result → sink.new ≡ sink.old }
     ensures read { IsFault result (S.faults source.old) (S.faults source.new) }

@@ -6,3 +6,17 @@ pub mod Index
 pub mod NowControlled
 pub mod NowRows
 pub mod Leading
+pub mod EndpointFacts
+pub mod OnlyIsochronous
+pub mod OnlyAccepted
+pub mod Placing
+pub mod StillStanding
+pub mod Accepting
+pub mod Masking
+pub mod Awaiting
+pub mod TakenOn
+pub mod Lending
+pub mod Ended
+pub mod Alike
+pub mod Harvesting
+pub mod ChosenFrames

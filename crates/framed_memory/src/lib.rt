@@ -4,14 +4,28 @@
 //! The crate has no code of its own: each function is a law over the definitions of `specs/`, and its body is empty.
 #![tactic(auto)]
 
+mod command_laws;
 mod laws;
+mod lend_laws;
 mod now_laws;
+mod row_laws;
 
+pub use command_laws::{
+    accepted_commands_keep_it_framed_now, all_endpoints_stay_isochronous,
+    its_rows_are_those_of_frames, numbers_go_on_fitting,
+};
 pub use laws::{
     quiet_events_keep_it_framed, the_controller_keeps_it_framed, the_opening_is_framed,
+};
+pub use lend_laws::{
+    a_new_driver_awaits_no_lend, descriptors_await_their_lend, lent_descriptors_are_framed_now,
+    placements_have_small_masks,
 };
 pub use now_laws::{
     an_unlinked_descriptor_is_framed_now, commands_that_store_keep_it_framed_now,
     memory_has_the_frames, registers_keep_it_framed_now, releases_keep_it_framed_now,
     the_controller_keeps_it_framed_now, the_opening_is_framed_now,
+};
+pub use row_laws::{
+    chosen_frames_keep_it_framed_now, harvests_keep_it_framed_now, what_leaves_its_frames_has_ended,
 };

@@ -25,7 +25,7 @@ use Rattle.feeding_worlds.specs.Feeding.{streams_of}
 use Rattle.whole_worlds.proofs.Moments.{CanBe, script_can, spelled_bulk, opens_still}
 use Rattle.whole_worlds.proofs.Running.{texts_right, texts_taken}
 use Rattle.whole_worlds.proofs.PlacedRunning.{texts_run_in_place}
-use Rattle.whole_worlds.proofs.Counting.{never_refused}
+use Rattle.whole_worlds.proofs.NeverRefused.{never_refused}
 use Rattle.sending_worlds.specs.Sending.{HasSending}
 use Rattle.sending_worlds.specs.Moments.{ScriptsStaySending, TextsAreSent, TextsEndRight}
 use Rattle.sending_worlds.specs.Kept.{TextsKeepStreams, TextsKeepPlaces}

@@ -31,13 +31,10 @@ pub mod Naming
 pub mod Moments
 pub mod Running
 pub mod Sampling
-pub mod Errors
 pub mod Rings
 pub mod PlacedRunning
 pub mod Working
-pub mod UnrefusedCommands
-pub mod Counting
-pub mod UnrefusedRows
+pub mod NeverRefused
 pub mod LeavingCancelled
 pub mod LeavingUnlinked
 pub mod LeavingCleared

@@ -23,7 +23,7 @@ use Rattle.whole_worlds.specs.Whole.{IsWhole}
 use Rattle.whole_worlds.specs.Placed.{IsAtWork}
 use Rattle.whole_worlds.specs.PlacedLaws.{WholeIsAtWork, RunsInPlaceWhileWhole}
 use Rattle.whole_worlds.proofs.Rings.{reads_ring}
-use Rattle.whole_worlds.proofs.Errors.{goes_on, no_error}
+use Rattle.running_worlds.proofs.Errors.{goes_on, no_error}
 
 -- ---- the next event isn't Idle
 

@@ -1,10 +1,9 @@
 -- Laws of worlds whose endpoints are all bulk ones: everything is in place, and the controller meets no fault.
 --     WholeIsAtWork              a whole world is at work
---     HasNoErrorWhileItRuns      while the controller of a script runs, Host System Error is 0
 --     RunsInPlaceWhileWhole      while the world of a script is whole, it runs in place
 --     ScriptsRunInPlace          so does each script of bulk endpoints that fits
 --     TextsRunInPlace            .. which each script is that a text spells
-use Rattle.std.specs.Prelude.{◌≡◌, ℕ, Bool, true, false, List}
+use Rattle.std.specs.Prelude.{ℕ, Bool, List}
 use Rattle.script_types.specs.declared.scripts.Script.{Script}
 use Rattle.script_text.specs.Faults.{Spells}
 use Rattle.usb_bus.specs.Bus.{Fixed, fixed_of}
@@ -17,10 +16,6 @@ use Rattle.whole_worlds.specs.Placed.{IsAtWork, RunsInPlaceThroughout}
 
 abbrev pub WholeIsAtWork : Type 0
 WholeIsAtWork = (fixed : Fixed) (takes stream : ℕ → ℕ → Bool) (packets : ℕ → ℕ → List (List ℕ)) (w : World) → HasWhole fixed takes stream packets w → IsAtWork fixed w
-
--- EHCI 1.0, 2.3.2 and 4.15.2.4: the fault clears Run and sets Host System Error, and nothing else sets that
-abbrev pub HasNoErrorWhileItRuns : Type 0
-HasNoErrorWhileItRuns = (s : Script) → ((k : ℕ) → (moment s k).world.registers.run ≡ true) → (k : ℕ) → (moment s k).world.registers.host_system_error ≡ false
 
 abbrev pub RunsInPlaceWhileWhole : Type 0
 RunsInPlaceWhileWhole =

@@ -1,15 +1,10 @@
 //! Runs of scripts of bulk endpoints (EHCI 1.0, 3, 4.6, 4.8 and 4.15.2.4): at each moment nothing of the driver is out of place, and the controller meets no fault.
-ghost use Rattle.whole_worlds.specs.PlacedLaws.{HasNoErrorWhileItRuns, RunsInPlaceWhileWhole, ScriptsRunInPlace, TextsRunInPlace, WholeIsAtWork};
+ghost use Rattle.whole_worlds.specs.PlacedLaws.{RunsInPlaceWhileWhole, ScriptsRunInPlace, TextsRunInPlace, WholeIsAtWork};
 
 /// In a whole world everything is in place, the ring in memory is the head and the queue head of each endpoint that is linked, and the controller runs and meets
 /// no fault.
 pub fn a_whole_world_is_at_work()
     ensures { WholeIsAtWork }
-{}
-
-/// While the controller runs, Host System Error is 0.
-pub fn no_error_stands_while_it_runs()
-    ensures { HasNoErrorWhileItRuns }
 {}
 
 /// While the world of a script is whole, everything is in place at each moment, and the controller runs and meets no fault.

@@ -1,12 +1,7 @@
 //! Runs in which the controller is never refused a word (EHCI 1.0, 2.3.1, 2.3.2 and 4.15.2.4).
-ghost use Rattle.whole_worlds.specs.UnrefusedLaws.{CountsNothingWhileItRuns, TextsAreNeverRefused};
+ghost use Rattle.whole_worlds.specs.UnrefusedLaws.{TextsAreNeverRefused};
 
-/// While the controller of a script runs, no refusal is counted.
-pub fn no_refusal_is_counted_while_it_runs()
-    ensures { CountsNothingWhileItRuns }
-{}
-
-/// So none is at any moment of a script of bulk endpoints: each word that the controller reads or writes is lent to it.
+/// None is counted at any moment of a script of bulk endpoints: each word that the controller reads or writes is lent to it.
 pub fn bulk_scripts_are_never_refused()
     ensures { TextsAreNeverRefused }
 {}

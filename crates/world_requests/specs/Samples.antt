@@ -1,5 +1,6 @@
 -- A driver with requests of a control endpoint, for worked rows: transfer 0 was given back, and its qTDs stood in blocks 132 to 134; transfers 1 and 3
 -- have theirs from block 140 and from block 132 on. Transfer 2 are bytes that were asked of another endpoint.
+--     queued_at first released   a request of endpoint 0 whose qTDs begin in this block
 --     two_requests               a driver whose two transfers are the requests of ring_requests' sample
 --     asked setup done           a device of which this was asked, and that is done with it or isn't
 --     then_sends t v             the windows after an event that sends the SETUP of transfer t, and in which no device acts
@@ -51,5 +52,8 @@ control_endpoint = record {
   gone = false;
 }
 
+abbrev pub queued_at : ℕ → Bool → Transfer
+queued_at first released = transfer 0 sorts.Request first released
+
 abbrev pub two_requests : Bool → DriverContent
-two_requests released = record driver { endpoints = control_endpoint ∷ []; transfers = transfer 0 sorts.Request 2 released ∷ transfer 0 sorts.Request 5 false ∷ [] }
+two_requests released = record driver { endpoints = control_endpoint ∷ []; transfers = queued_at 2 released ∷ queued_at 5 false ∷ [] }

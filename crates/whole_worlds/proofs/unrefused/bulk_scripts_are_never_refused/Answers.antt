@@ -1,4 +1,4 @@
-use Rattle.whole_worlds.proofs.Counting.{never_refused}
+use Rattle.whole_worlds.proofs.NeverRefused.{never_refused}
 use Rattle.whole_worlds.proofs.unrefused.bulk_scripts_are_never_refused.Goals as goal
 
 pub returns : goal.returns

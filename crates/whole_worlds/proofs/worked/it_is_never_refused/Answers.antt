@@ -3,7 +3,7 @@ use Rattle.ring_laws.specs.Ring.{Base}
 use Rattle.feeding_worlds.specs.FeedingSamples.{one_get}
 use Rattle.whole_worlds.proofs.Sampling.{get_is_bulk}
 use Rattle.whole_worlds.proofs.PlacedRunning.{scripts_run_in_place}
-use Rattle.whole_worlds.proofs.Counting.{counts_nothing}
+use Rattle.running_worlds.proofs.Counting.{counts_nothing}
 use Rattle.whole_worlds.proofs.worked.it_is_never_refused.Goals as goal
 
 pub returns : goal.returns

@@ -1,0 +1,10 @@
+pub mod Accepted
+pub mod Alone
+pub mod Controls
+pub mod Drafts
+pub mod Names
+pub mod Places
+pub mod Requests
+pub mod Sampled
+pub mod Seats
+pub mod Texts

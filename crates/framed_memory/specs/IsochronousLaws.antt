@@ -1,0 +1,136 @@
+-- Laws of drivers whose endpoints are all isochronous ones, beside a controller that walks a ring and the frames (EHCI 1.0, 3.3, 3.4, 4.6, 4.7 and 4.12.3).
+--     HarvestKeepsNow            a token or a descriptor is read: whatever was unlinked in this microframe is what it was
+--     FramesKeepNow              the descriptors of a command get their frames
+--     FramedLent .., LendKeepsNow     they are lent
+--     OwnersTellLeaving          who leaves its frames has ended, at each moment of any driver
+--     NewAwaitsNothing, EventsKeepAwaiting, CommandsKeepAwaiting, WritesKeepAwaiting     a command's descriptors are as they were written, until they are lent
+--     OpensIsochronous cmd       the command opens an isochronous endpoint, if any; other commands may be any
+--     NewIsOnlyIsochronous, EventsKeepIsochronous, CommandsKeepIsochronous     a driver whose commands are such has isochronous endpoints alone
+--     OpensNumbered cmd, NewIsNumbered, EventsKeepNumbered, CommandsKeepNumbered     the numbers of its endpoints fit their fields
+--     IsFramesRow p row, IsochronousRows     its rows are these
+--     CommandsKeepNow            what such a driver accepts is framed
+use Rattle.std.specs.Prelude.{◌≡◌, ℕ, Bool, true, false, Option, Ok}
+use Rattle.usb_base.specs.declared.commands.Cmd.{Cmd}
+use Rattle.usb_base.specs.declared.commands.Cmd.TheVariants as commands
+use Rattle.usb_base.specs.declared.endpoints.EpDesc.{EpDesc}
+use Rattle.word_mem.specs.Memory.{Mem, word_at, reaches}
+use Rattle.run_book.specs.Book.{holding, Stands}
+use Rattle.periodic_rows.specs.declared.content.Removed.TheVariants as removed
+use Rattle.driver_rows.specs.declared.content.Reserve.{Reserve}
+use Rattle.driver_rows.specs.declared.rows.DriverRow.{DriverRow}
+use Rattle.driver_rows.specs.declared.rows.DriverRow.TheVariants as rows
+use Rattle.driver_rows.specs.declared.rows.Found.{Found}
+use Rattle.driver_rows.specs.DriverContent.{DriverContent}
+use Rattle.driver_rows.specs.Opening.{opening}
+use Rattle.driver_rows.specs.Offers.{Offered, IsOffered, offered}
+use Rattle.driver_rows.specs.Rows.{Parts, driver_row, after_driver_row, is_iso}
+use Rattle.run_owners.specs.Due.{IsLinkOf}
+use Rattle.run_owners.specs.Kept.{HasOwners}
+use Rattle.hc_core.specs.Controller.{Content}
+use Rattle.lent_structures.specs.Structures.{StructureSets}
+use Rattle.ring_laws.specs.Hand.{Hand}
+use Rattle.ring_laws.specs.Ring.{Base}
+use Rattle.in_place.specs.InPlace.{IsInPlace}
+use Rattle.planned_endpoints.specs.Planned.{IsPlanned}
+use Rattle.shared_memory.specs.Shared.{parts_of}
+use Rattle.frame_walk.specs.Met.{Kind}
+use Rattle.frame_walk.specs.FrameHand.{FrameHand}
+use Rattle.described_parts.specs.Lent.{descs_after}
+use Rattle.described_parts.specs.Told.{with_memory}
+use Rattle.framed_memory.specs.Now.{IsFramedNow, FramedNext, reads_alone}
+use Rattle.framed_memory.specs.Masks.{AreMasked}
+use Rattle.framed_memory.specs.Isochronous.{OnlyIsochronous, NumbersFit, AreNumbered, LeavingHaveEnded, AreAwaiting}
+
+-- ---- rows
+
+abbrev pub HarvestKeepsNow : Type 0
+HarvestKeepsNow = (base : Base) (member : ℕ → Bool) (recent : ℕ → Option Kind) (descs parts : StructureSets) (hand : Hand) (frame : FrameHand) (c : Content) (d : DriverContent) (e t : ℕ)
+    (found : Found) → IsFramedNow base member recent descs parts hand frame c d → driver_row (parts_of c d) ≡ rows.Harvest e t found
+    → FramedNext base member recent descs parts hand frame c d
+
+abbrev pub FramesKeepNow : Type 0
+FramesKeepNow = (base : Base) (member : ℕ → Bool) (recent : ℕ → Option Kind) (descs parts : StructureSets) (hand : Hand) (frame : FrameHand) (c : Content) (d : DriverContent)
+    → IsFramedNow base member recent descs parts hand frame c d → driver_row (parts_of c d) ≡ rows.Frames → FramedNext base member recent descs parts hand frame c d
+
+-- the descriptors of the unfinished command have their structures from then on
+pub record FramedLent (base : Base) (member : ℕ → Bool) (recent : ℕ → Option Kind) (descs parts : StructureSets) (hand : Hand) (frame : FrameHand) (c : Content)
+    (d : DriverContent) : Type 0 where
+  pub first : ℕ
+  pub desc : EpDesc
+  pub framed : FramedNext base member recent (descs_after (parts_of c d) first desc descs) parts hand frame c d
+
+abbrev pub LendKeepsNow : Type 0
+LendKeepsNow = (base : Base) (member : ℕ → Bool) (recent : ℕ → Option Kind) (descs parts : StructureSets) (hand : Hand) (frame : FrameHand) (c : Content) (d : DriverContent)
+    → IsFramedNow base member recent descs parts hand frame c d → AreAwaiting d c.memory → driver_row (parts_of c d) ≡ rows.LendDescriptors
+    → FramedLent base member recent descs parts hand frame c d
+
+-- ---- who leaves its frames has ended
+
+-- whatever its events and commands were: what is owed to be given back tells it
+abbrev pub OwnersTellLeaving : Type 0
+OwnersTellLeaving = (d : DriverContent) → HasOwners d → LeavingHaveEnded d
+
+-- ---- what a command has still to lend
+
+abbrev pub NewAwaitsNothing : Type 0
+NewAwaitsNothing = (n : ℕ) (room : Reserve) (m : Mem) → AreAwaiting (opening n room).driver m
+
+abbrev pub EventsKeepAwaiting : Type 0
+EventsKeepAwaiting = (p : Parts) → AreAwaiting p.driver p.memory → AreAwaiting (after_driver_row (driver_row p) p).driver (after_driver_row (driver_row p) p).memory
+
+-- the fields of an endpoint that is opened fit a descriptor's (3.3.3, 3.4.2); its placement is one of the plan, with masks that fit theirs
+abbrev pub CommandsKeepAwaiting : Type 0
+CommandsKeepAwaiting = (d : DriverContent) (m : Mem) (cmd : Cmd) (o : Offered) → IsInPlace m d → IsPlanned d → AreMasked d → AreNumbered d → offered d m cmd ≡ Ok o
+    → AreAwaiting o.driver o.memory
+
+-- what isn't lent the controller leaves (4.6)
+abbrev pub WritesKeepAwaiting : Type 0
+WritesKeepAwaiting = (d : DriverContent) (m new : Mem) → Stands (holding d.book m) → ((at : ℕ) → reaches m at ≡ false → word_at new at ≡ word_at m at) → AreAwaiting d m → AreAwaiting d new
+
+-- ---- drivers of isochronous endpoints
+
+abbrev pub OpensIsochronous : Cmd → Type 0
+OpensIsochronous (commands.OpenEp x) = is_iso x.kind ≡ true
+OpensIsochronous _ = Unit {0}
+
+abbrev pub NewIsOnlyIsochronous : Type 0
+NewIsOnlyIsochronous = (n : ℕ) (room : Reserve) → OnlyIsochronous (opening n room).driver
+
+abbrev pub EventsKeepIsochronous : Type 0
+EventsKeepIsochronous = (p : Parts) → HasOwners p.driver → OnlyIsochronous p.driver → OnlyIsochronous (after_driver_row (driver_row p) p).driver
+
+abbrev pub CommandsKeepIsochronous : Type 0
+CommandsKeepIsochronous = (d : DriverContent) (m : Mem) (cmd : Cmd) (o : Offered) → OnlyIsochronous d → OpensIsochronous cmd → offered d m cmd ≡ Ok o → OnlyIsochronous o.driver
+
+-- the numbers of each endpoint fit their fields
+abbrev pub OpensNumbered : Cmd → Type 0
+OpensNumbered (commands.OpenEp x) = NumbersFit x
+OpensNumbered _ = Unit {0}
+
+abbrev pub NewIsNumbered : Type 0
+NewIsNumbered = (n : ℕ) (room : Reserve) → AreNumbered (opening n room).driver
+
+abbrev pub EventsKeepNumbered : Type 0
+EventsKeepNumbered = (p : Parts) → AreNumbered p.driver → AreNumbered (after_driver_row (driver_row p) p).driver
+
+abbrev pub CommandsKeepNumbered : Type 0
+CommandsKeepNumbered = (d : DriverContent) (m : Mem) (cmd : Cmd) (o : Offered) → AreNumbered d → OpensNumbered cmd → offered d m cmd ≡ Ok o → AreNumbered o.driver
+
+pub data IsFramesRow (p : Parts) : DriverRow → Type 0 where
+  reads : (row : DriverRow) → reads_alone row ≡ true → IsFramesRow p row
+  frames : IsFramesRow p rows.Frames
+  lends : IsFramesRow p rows.LendDescriptors
+  links : (row : DriverRow) → IsLinkOf p row → IsFramesRow p row
+  harvests : (e t : ℕ) (found : Found) → IsFramesRow p (rows.Harvest e t found)
+  unlinks : (t : ℕ) → IsFramesRow p (rows.Unlink t)
+  releases : (t : ℕ) → IsFramesRow p (rows.ReleaseRemoved (removed.Descriptor t))
+  leaves : (e : ℕ) → IsFramesRow p (rows.ReleaseRemoved (removed.Endpoint e))
+
+abbrev pub IsochronousRows : Type 0
+IsochronousRows = (p : Parts) → OnlyIsochronous p.driver → IsFramesRow p (driver_row p)
+
+-- an endpoint is placed, descriptors are taken on, or the members of an endpoint are to be unlinked: nothing is met or has become recent by that
+abbrev pub CommandsKeepNow : Type 0
+CommandsKeepNow = (base : Base) (member : ℕ → Bool) (recent : ℕ → Option Kind) (descs parts : StructureSets) (hand : Hand) (frame : FrameHand) (c : Content) (d : DriverContent) (cmd : Cmd)
+    (o : Offered) → IsFramedNow base member recent descs parts hand frame c d → OnlyIsochronous d → OpensIsochronous cmd → IsOffered d.room cmd → offered d c.memory cmd ≡ Ok o
+    → IsFramedNow base member recent descs parts hand frame (with_memory c o.memory) o.driver

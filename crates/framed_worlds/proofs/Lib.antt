@@ -1,0 +1,12 @@
+pub mod Hubs
+pub mod Texts
+pub mod Opening
+pub mod Controlling
+pub mod Driving
+pub mod Refused
+pub mod Commanding
+pub mod Moments
+pub mod Working
+pub mod Microphone
+pub mod Sampling
+pub mod Computed

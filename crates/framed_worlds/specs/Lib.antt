@@ -1,0 +1,5 @@
+pub mod Scripts
+pub mod Framed
+pub mod Frames
+pub mod Laws
+pub mod Samples

@@ -1,0 +1,15 @@
+pub mod Words
+pub mod Content
+pub mod Harvested
+pub mod Groups
+pub mod Rows
+pub mod Commands
+pub mod Parts
+pub mod Standing
+pub mod Mending
+pub mod Lent
+pub mod Row
+pub mod Stalling
+pub mod Sampled
+pub mod Queues
+pub mod Streams

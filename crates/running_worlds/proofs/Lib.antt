@@ -1,0 +1,4 @@
+pub mod Errors
+pub mod UnrefusedRows
+pub mod UnrefusedCommands
+pub mod Counting

@@ -1,0 +1,15 @@
+pub mod Lines
+pub mod Driver
+pub mod Windows
+pub mod Quiet
+pub mod Harvests
+pub mod Waiting
+pub mod WaitingHarvests
+pub mod Closing
+pub mod Adding
+pub mod Agreeing
+pub mod Asking
+pub mod Growing
+pub mod Moments
+pub mod Claims
+pub mod Sampled

@@ -1,0 +1,10 @@
+pub mod Told
+pub mod Steps
+pub mod Rows
+pub mod Waiting
+pub mod Closing
+pub mod Asked
+pub mod AskedLaws
+pub mod Windows
+pub mod Claims
+pub mod Samples

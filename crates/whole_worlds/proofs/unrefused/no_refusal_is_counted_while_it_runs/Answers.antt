@@ -1,5 +1,0 @@
-use Rattle.whole_worlds.proofs.Counting.{counts_nothing}
-use Rattle.whole_worlds.proofs.unrefused.no_refusal_is_counted_while_it_runs.Goals as goal
-
-pub returns : goal.returns
-returns c = counts_nothing
