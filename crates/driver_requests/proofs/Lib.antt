@@ -1,0 +1,12 @@
+pub mod Finding
+pub mod Owning
+pub mod Telling
+pub mod Keeping
+pub mod Rows
+pub mod Accepting
+pub mod Commands
+pub mod Ordering
+pub mod RowOrder
+pub mod Behind
+pub mod Sampling
+pub mod SamplingOwners

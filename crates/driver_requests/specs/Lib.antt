@@ -1,0 +1,4 @@
+pub mod Requests
+pub mod Rows
+pub mod Behind
+pub mod Samples
