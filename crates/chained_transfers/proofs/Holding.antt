@@ -6,19 +6,26 @@ use Rattle.driver_rows.specs.declared.content.Transfer.{Transfer}
 use Rattle.driver_rows.specs.DriverContent.{DriverContent}
 use Rattle.endpoint_lives.specs.Lives.{told_end}
 use Rattle.chained_transfers.specs.Bulk.{OnlyBulk}
+use Rattle.chained_transfers.specs.Asynchronous.{StandsAsynchronous}
 use Rattle.chained_transfers.specs.Turns.{turn_of, AreInTurn}
-use Rattle.chained_transfers.proofs.Staying.{told_alive}
+use Rattle.chained_transfers.proofs.BulkAndControl.{standing}
+use Rattle.chained_transfers.proofs.Staying.{told_stands_alive}
 
 -- what isn't reported of an endpoint that goes on isn't given back
-pub unreleased : (d : DriverContent) (u : ℕ) (z : Transfer) (w : Endpoint) → OnlyBulk d → AreInTurn d → slice_get d.transfers u ≡ Some z → slice_get d.endpoints z.endpoint ≡ Some w → told_end w ≡ None
+pub stands_unreleased : (d : DriverContent) (u : ℕ) (z : Transfer) (w : Endpoint) → StandsAsynchronous w → AreInTurn d → slice_get d.transfers u ≡ Some z → slice_get d.endpoints z.endpoint ≡ Some w → told_end w ≡ None
     → z.reported ≡ false → z.released ≡ false
-unreleased d u z w bulk turns there here goes waits = by z.released refl
+stands_unreleased d u z w stands turns there here goes waits = by z.released refl
   where
     by : (b : Bool) → z.released ≡ b → z.released ≡ false
     by false is = is
     by true is =
         absurd (false≢true (sym waits ∙ turns.turns.told u (turn_of z) (ap (option_map turn_of) there)
-        (record { endpoint = w; here = here; gone = told_alive w (bulk.endpoints z.endpoint w here) goes }) is))
+        (record { endpoint = w; here = here; gone = told_stands_alive w stands goes }) is))
+
+-- .. of a bulk one
+pub unreleased : (d : DriverContent) (u : ℕ) (z : Transfer) (w : Endpoint) → OnlyBulk d → AreInTurn d → slice_get d.transfers u ≡ Some z → slice_get d.endpoints z.endpoint ≡ Some w → told_end w ≡ None
+    → z.reported ≡ false → z.released ≡ false
+unreleased d u z w bulk turns there here = stands_unreleased d u z w (standing w (bulk.endpoints z.endpoint w here)) turns there here
 
 -- an endpoint with such a transfer wasn't given back
 pub held_alive : (d : DriverContent) (t : ℕ) (y : Transfer) (x : Endpoint) → AreInTurn d → slice_get d.transfers t ≡ Some y → y.released ≡ false → slice_get d.endpoints y.endpoint ≡ Some x → x.gone ≡ false

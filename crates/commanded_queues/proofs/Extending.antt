@@ -63,8 +63,7 @@ slots_still h g ns bs taken c k has = subst (λ (s : Slot). SlotHas s k) (sym (t
 -- ---- an open
 
 pub open_extents : ExtentsOpen
-open_extents d m o parts opened stands owners driven lies =
-    let why = opened.opens in
+open_extents d m o parts why stands owners driven lies =
     let g = why.holding_after in
     let all = runs_taken (holding d.book m) g (2 ∷ 1 ∷ []) stands why.runs in
     let bs = all.blocks in
@@ -92,7 +91,7 @@ open_extents d m o parts opened stands owners driven lies =
       queue = refl;
     }) (subst (λ (f : Offered). IsDriven (views_of f.driver) (sorts_of parts)) is driven) lies)
 
--- ---- a get or a put
+-- ---- a get, a put or a request
 
 -- one of a transfer's qTDs was one before, and its note stays
 record WasPiece (note other : ℕ → NoteRuns) (b n c : ℕ) : Type 0 where
@@ -148,8 +147,7 @@ module _ (v w : Views) (owner : ℕ → Owner) (number : ℕ) (x : EndpointRuns)
       (one.transfers t y is.here)
 
 pub asked_extents : ExtentsAsked
-asked_extents d m o parts asked stands owners driven lies =
-    let why = asked.transfers in
+asked_extents d m o parts why stands owners driven lies =
     let g = why.holding_after in
     let a = why.asked in
     let n = length a.stages in

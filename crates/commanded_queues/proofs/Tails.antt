@@ -88,7 +88,7 @@ none_some q bad = cc
 
 pub open_reaches : ReachesOpen
 open_reaches d m o parts order out why ends e x here met =
-    let w = why.opens in
+    let w = why in
     let g = w.holding_after in
     let queue : ℕ = get_or (new_runs d g) 0 0 in
     let dummy : ℕ = get_or (new_runs d g) 1 0 in
@@ -100,7 +100,7 @@ open_reaches d m o parts order out why ends e x here met =
     (λ (is : (e ≡ length d.endpoints) × (x ≡ new)). absurd (met.there.linked (ap (λ (p : Offered). p.driver.command) w.is ∙ ap (λ (y : Endpoint). Some (unfinished.Open y.queue)) (sym is.1))))
     (push_which d.endpoints new e x (ap (λ (p : Offered). slice_get p.driver.endpoints e) (sym w.is) ∙ here))
 
--- ---- a get or a put
+-- ---- a get, a put or a request
 
 -- what is to be given back is a transfer that there was
 none_owed : (d : DriverContent) (h u : ℕ) → HasOwners d → slice_get d.harvested h ≡ Some u → u ≢ length d.transfers
@@ -163,7 +163,7 @@ end_not_lent d m o why stands lent =
 
 pub asked_reaches : ReachesAsked
 asked_reaches d m o parts order out why stands owners lent bulk ends e x here met =
-    let w = why.transfers in
+    let w = why in
     let rs = new_runs d w.holding_after in
     let n = length w.asked.stages in
     let k = taken_on d m o w stands owners lent bulk (end_not_lent d m o w stands) in

@@ -1,10 +1,11 @@
 -- Which command opens an endpoint, and which endpoint.
 use Rattle.std.proofs.Common.{◌≡◌, ℕ, ◌+◌, Bool, true, false, not, ◌||◌, cond, nat_lt, [], ◌∷◌, ◌++◌, length, slice_get, Option, Some, None, option_map, Result, Ok, Err, unwrap_or, ap, refl, sym, ◌∙◌}
-use Rattle.std.specs.Prelude.{is_some, count_by}
+use Rattle.std.specs.Prelude.{is_some, is_none, count_by}
 use Rattle.std.proofs.lemmas.Bool.{true≢false}
 use Rattle.std.proofs.lemmas.Option.{same_Some}
 use Rattle.usb_base.specs.declared.endpoints.EpDesc.{EpDesc}
 use Rattle.usb_base.specs.declared.endpoints.EndCause.{EndCause}
+use Rattle.usb_base.specs.declared.endpoints.EndCause.TheVariants as causes
 use Rattle.usb_base.specs.declared.commands.Cmd.{Cmd}
 use Rattle.usb_base.specs.declared.commands.Cmd.TheVariants as commands
 use Rattle.usb_base.specs.declared.reports.OfferError.{OfferError}
@@ -12,6 +13,7 @@ use Rattle.usb_base.specs.declared.reports.OfferError.TheVariants as errors
 use Rattle.word_mem.specs.Memory.{Mem}
 use Rattle.run_book.specs.Book.{Holding, holding}
 use Rattle.periodic_rows.specs.Periodic.{is_periodic, want_of}
+use Rattle.bandwidth.specs.declared.placements.Placement.{Placement}
 use Rattle.bandwidth.specs.Admission.{answer}
 use Rattle.driver_rows.specs.declared.content.Endpoint.{Endpoint}
 use Rattle.driver_rows.specs.declared.content.Command.{Command}
@@ -19,11 +21,12 @@ use Rattle.driver_rows.specs.declared.content.Command.TheVariants as unfinished
 use Rattle.driver_rows.specs.declared.content.Slots.{Slots}
 use Rattle.driver_rows.specs.declared.content.Sort.TheVariants as sorts
 use Rattle.driver_rows.specs.DriverContent.{DriverContent, endpoint_of, endpoint_named, waits_for}
-use Rattle.driver_rows.specs.Rows.{is_iso}
+use Rattle.driver_rows.specs.Rows.{is_iso, leave_frames, no_command, finished}
 use Rattle.driver_rows.specs.Words.{needs, get_stages, put_stages, request_length, request_stages}
-use Rattle.driver_rows.specs.Offers.{Offered, Asked, take_runs, taken_open, planned_open, offered_open, taken_transfer, open_transfer, found_transfer, takes_get, takes_put, takes_control, slots_of, spans_too_long, has_slots, iso_needs, taken_iso, open_iso, offered_iso, offered_next}
-use Rattle.chained_transfers.specs.Bulk.{OpensBulk}
-use Rattle.chained_transfers.specs.Accepted.{IsOpened}
+use Rattle.driver_rows.specs.Offers.{Offered, Asked, take_runs, taken_open, planned_open, offered_open, taken_transfer, open_transfer, found_transfer, takes_get, takes_put, takes_control, slots_of, spans_too_long, has_slots, iso_needs, taken_iso, open_iso, offered_iso, endpoint_members, with_cancel, cancelled_by, offered_cancel, offered_next}
+use Rattle.run_owners.specs.Accepts.{Opens}
+use Rattle.chained_transfers.specs.Asynchronous.{OpensAsynchronous}
+use Rattle.chained_transfers.proofs.BulkAndControl.{not_periodic}
 use Rattle.chained_transfers.proofs.Chained.{pushed_last}
 use Rattle.commanded_queues.specs.Accepted.{OpensItsOwn}
 
@@ -85,6 +88,31 @@ module _ (d : DriverContent) (m : Mem) (o : Offered) where
   iso_found e n len seed None f = absurd (cc)
   iso_found e n len seed (Some x) f = iso_at e x n len seed (is_iso x.desc.kind) f
 
+  -- ---- nor is a cancel
+
+  off_either : (b : Bool) (c f : DriverContent) → is_open c.command ≡ false → is_open f.command ≡ false → is_open (cond b c f).command ≡ false
+  off_either true c f one other = one
+  off_either false c f one other = other
+
+  off_frames : (c : DriverContent) (e : ℕ) (q : Option Endpoint) → is_open c.command ≡ false → is_open (leave_frames c e q).command ≡ false
+  off_frames c e None off = off
+  off_frames c e (Some x) off = off_either x.chained _ c off off
+
+  leaving : (e : ℕ) (x : Endpoint) (p : Option Placement) → is_open (cancelled_by d e x p).command ≡ false
+  unfolding is_open
+  leaving e x None = refl
+  leaving e x (Some p) =
+      let begun = with_cancel d e x (endpoint_members d e x p) in
+      off_either (is_none begun.periodic.list.work) (finished begun (unfinished.Unchain e)) begun (off_frames (no_command begun) e (slice_get begun.endpoints e) refl) refl
+
+  cancel_at : (e : ℕ) (x : Endpoint) (b : Bool) → cond b (Err (errors.Closed causes.Cancel)) (Ok (record { driver = cancelled_by d e x x.placement; memory = m })) ≡ Ok o → IsNoOpen
+  cancel_at e x true f = absurd (cc)
+  cancel_at e x false f = ap (λ (g : Offered). is_open g.driver.command) (ok_is o (record { driver = cancelled_by d e x x.placement; memory = m }) f) ∙ leaving e x x.placement
+
+  cancel_found : (e : ℕ) (q : Option Endpoint) → offered_cancel d m e q ≡ Ok o → IsNoOpen
+  cancel_found e None f = absurd (cc)
+  cancel_found e (Some x) f = cancel_at e x x.cancelled f
+
   -- ---- an open
 
   -- the description of the newest endpoint
@@ -118,19 +146,19 @@ module _ (d : DriverContent) (m : Mem) (o : Offered) where
 
   -- ---- each command
 
-  module _ (why : IsOpened d m o) where
+  module _ (why : Opens d m o) where
     opened : is_open o.driver.command ≡ true
     unfolding is_open
-    opened = ap (λ (g : Offered). is_open g.driver.command) why.opens.is
+    opened = ap (λ (g : Offered). is_open g.driver.command) why.is
 
     not_so : IsNoOpen → ⊥
     not_so off = true≢false (sym opened ∙ off)
 
-    described : newest o ≡ Some why.opens.desc
-    described = ap newest why.opens.is ∙ ap (option_map desc_of) (pushed_last d.endpoints _)
+    described : newest o ≡ Some why.desc
+    described = ap newest why.is ∙ ap (option_map desc_of) (pushed_last d.endpoints _)
 
-    next_is : (cmd : Cmd) → OpensBulk cmd → offered_next d m cmd ≡ Ok o → cmd ≡ commands.OpenEp why.opens.desc
-    next_is (commands.OpenEp x) is f = ap commands.OpenEp (same_Some x why.opens.desc (sym (open_found x (endpoint_named d x.name) (ap is_periodic is.kind) f) ∙ described))
+    next_is : (cmd : Cmd) → OpensAsynchronous cmd → offered_next d m cmd ≡ Ok o → cmd ≡ commands.OpenEp why.desc
+    next_is (commands.OpenEp x) is f = ap commands.OpenEp (same_Some x why.desc (sym (open_found x (endpoint_named d x.name) (not_periodic x is) f) ∙ described))
     next_is (commands.Get name len by) is f =
         absurd (not_so (found takes_get (record { sort = sorts.Get; stages = get_stages len by; most = len; bytes = [] }) (unwrap_or (endpoint_of d name) 0) (endpoint_named d name) f))
     next_is (commands.Put name bytes by) is f =
@@ -138,9 +166,9 @@ module _ (d : DriverContent) (m : Mem) (o : Offered) where
     next_is (commands.Control name setup bytes) is f =
         absurd (not_so (found takes_control (record { sort = sorts.Request; stages = request_stages setup; most = request_length setup; bytes = setup ++ bytes }) (unwrap_or (endpoint_of d name) 0) (endpoint_named d name) f))
     next_is (commands.Iso name count len seed) is f = absurd (not_so (iso_found (unwrap_or (endpoint_of d name) 0) count len seed (endpoint_named d name) f))
-    next_is (commands.Cancel name) is f = absurd is
+    next_is (commands.Cancel name) is f = absurd (not_so (cancel_found (unwrap_or (endpoint_of d name) 0) (endpoint_named d name) f))
 
-    offered_is : (cmd : Cmd) (c : Option Command) → OpensBulk cmd → cond (is_some c) (Err errors.Busy) (offered_next d m cmd) ≡ Ok o → cmd ≡ commands.OpenEp why.opens.desc
+    offered_is : (cmd : Cmd) (c : Option Command) → OpensAsynchronous cmd → cond (is_some c) (Err errors.Busy) (offered_next d m cmd) ≡ Ok o → cmd ≡ commands.OpenEp why.desc
     offered_is cmd (Some c) is f = absurd (cc)
     offered_is cmd None is f = next_is cmd is f
 

@@ -1,8 +1,8 @@
--- What an accepted command leaves of the queues of a driver of bulk endpoints (EHCI 1.0, 3.5.4, 3.6.2, 4.8 and 4.10).
+-- What an accepted command leaves of the queues of a driver of bulk and control endpoints (EHCI 1.0, 3.5.4, 3.6.2, 4.8 and 4.10).
 --     NewHeadIsInRange          each field of the queue head that is written for such an endpoint is in its range
 --     OpensItsOwn               where a command opens an endpoint, it is the one that the command describes
 --     ReachEnds d parts order out       each queue has its front, and its tail is the inactive qTD at its end
---     ReachesOpen, ReachesAsked fronts and tails stay: what was at the end of the queue that is asked is the first qTD of the get or put
+--     ReachesOpen, ReachesAsked fronts and tails stay: what was at the end of the queue that is asked is the first qTD of the get, put or request
 --     ExtentsOpen, ExtentsAsked buffers stay in their runs: nothing of what the command takes is lent yet
 use Rattle.std.specs.Prelude.{◌≡◌, ℕ, ◌*◌, ◌==◌, ◌≤◌, List, slice_get, Some, Ok, if◌then◌else◌}
 use Rattle.usb_base.specs.declared.commands.Cmd.{Cmd}
@@ -15,6 +15,7 @@ use Rattle.driver_rows.specs.declared.content.Endpoint.{Endpoint}
 use Rattle.driver_rows.specs.DriverContent.{DriverContent}
 use Rattle.driver_rows.specs.Words.{queue_head}
 use Rattle.driver_rows.specs.Offers.{Offered, offered}
+use Rattle.run_owners.specs.Accepts.{Opens, Transfers}
 use Rattle.run_owners.specs.Owners.{views_of}
 use Rattle.run_owners.specs.Kept.{HasOwners}
 use Rattle.walk_members.specs.Reached.{IsNumbered}
@@ -22,16 +23,15 @@ use Rattle.lent_runs.specs.Lent.{AreLent}
 use Rattle.lent_structures.specs.Structures.{StructureSets}
 use Rattle.driver_laws.specs.Inventory.{sorts_of, IsDriven}
 use Rattle.driver_laws.specs.Extents.{AreInRuns}
-use Rattle.chained_transfers.specs.Bulk.{IsBulk, OpensBulk, OnlyBulk}
-use Rattle.chained_transfers.specs.Accepted.{IsOpened, IsAsked}
+use Rattle.chained_transfers.specs.Asynchronous.{IsAsynchronous, OpensAsynchronous, OnlyAsynchronous}
 use Rattle.fed_queues.specs.Places.{IsMet}
 use Rattle.standing_fronts.specs.Reaching.{Reaches}
 
 abbrev pub NewHeadIsInRange : Type 0
-NewHeadIsInRange = (x : EpDesc) (link dummy : ℕ) → IsBulk x → IsNumbered x → x.max ≤ 1024 → IsQhInRange (queue_head x link dummy)
+NewHeadIsInRange = (x : EpDesc) (link dummy : ℕ) → IsAsynchronous x → IsNumbered x → x.max ≤ 1024 → IsQhInRange (queue_head x link dummy)
 
 abbrev pub OpensItsOwn : Type 0
-OpensItsOwn = (d : DriverContent) (m : Mem) (cmd : Cmd) (o : Offered) → OpensBulk cmd → offered d m cmd ≡ Ok o → (why : IsOpened d m o) → cmd ≡ commands.OpenEp why.opens.desc
+OpensItsOwn = (d : DriverContent) (m : Mem) (cmd : Cmd) (o : Offered) → OpensAsynchronous cmd → offered d m cmd ≡ Ok o → (why : Opens d m o) → cmd ≡ commands.OpenEp why.desc
 
 -- ---- fronts and tails
 
@@ -40,21 +40,21 @@ ReachEnds d parts order out =
     (e : ℕ) (x : Endpoint) → slice_get d.endpoints e ≡ Some x → IsMet d e x → Reaches d (parts (32 * x.queue)) (order (32 * x.queue)) (out (32 * x.queue)) e x (32 * x.dummy)
 
 abbrev pub ReachesOpen : Type 0
-ReachesOpen = (d : DriverContent) (m : Mem) (o : Offered) (parts : StructureSets) (order : ℕ → ℕ → ℕ) (out : ℕ → List ℕ) → IsOpened d m o → ReachEnds d parts order out
+ReachesOpen = (d : DriverContent) (m : Mem) (o : Offered) (parts : StructureSets) (order : ℕ → ℕ → ℕ) (out : ℕ → List ℕ) → Opens d m o → ReachEnds d parts order out
     → (e : ℕ) (x : Endpoint) → slice_get o.driver.endpoints e ≡ Some x → IsMet o.driver e x
     → Reaches o.driver (parts (32 * x.queue)) (order (32 * x.queue)) (out (32 * x.queue)) e x (32 * x.dummy)
 
 abbrev pub ReachesAsked : Type 0
-ReachesAsked = (d : DriverContent) (m : Mem) (o : Offered) (parts : StructureSets) (order : ℕ → ℕ → ℕ) (out : ℕ → List ℕ) → (why : IsAsked d m o) → Stands (holding d.book m) → HasOwners d
-    → AreLent d → OnlyBulk d → ReachEnds d parts order out → (e : ℕ) (x : Endpoint) → slice_get o.driver.endpoints e ≡ Some x → IsMet o.driver e x
-    → Reaches o.driver (parts (32 * x.queue)) (order (32 * x.queue)) (out (32 * x.queue)) e x (32 * (if why.transfers.number == e then why.transfers.endpoint.dummy else x.dummy))
+ReachesAsked = (d : DriverContent) (m : Mem) (o : Offered) (parts : StructureSets) (order : ℕ → ℕ → ℕ) (out : ℕ → List ℕ) → (why : Transfers d m o) → Stands (holding d.book m) → HasOwners d
+    → AreLent d → OnlyAsynchronous d → ReachEnds d parts order out → (e : ℕ) (x : Endpoint) → slice_get o.driver.endpoints e ≡ Some x → IsMet o.driver e x
+    → Reaches o.driver (parts (32 * x.queue)) (order (32 * x.queue)) (out (32 * x.queue)) e x (32 * (if why.number == e then why.endpoint.dummy else x.dummy))
 
 -- ---- buffers
 
 abbrev pub ExtentsOpen : Type 0
-ExtentsOpen = (d : DriverContent) (m : Mem) (o : Offered) (parts : StructureSets) → IsOpened d m o → Stands (holding d.book m) → HasOwners d → IsDriven (views_of o.driver) (sorts_of parts)
+ExtentsOpen = (d : DriverContent) (m : Mem) (o : Offered) (parts : StructureSets) → Opens d m o → Stands (holding d.book m) → HasOwners d → IsDriven (views_of o.driver) (sorts_of parts)
     → AreInRuns (views_of d) parts → AreInRuns (views_of o.driver) parts
 
 abbrev pub ExtentsAsked : Type 0
-ExtentsAsked = (d : DriverContent) (m : Mem) (o : Offered) (parts : StructureSets) → IsAsked d m o → Stands (holding d.book m) → HasOwners d → IsDriven (views_of o.driver) (sorts_of parts)
+ExtentsAsked = (d : DriverContent) (m : Mem) (o : Offered) (parts : StructureSets) → Transfers d m o → Stands (holding d.book m) → HasOwners d → IsDriven (views_of o.driver) (sorts_of parts)
     → AreInRuns (views_of d) parts → AreInRuns (views_of o.driver) parts

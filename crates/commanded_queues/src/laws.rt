@@ -1,7 +1,7 @@
 //! The laws.
 ghost use Rattle.commanded_queues.specs.Accepted.{NewHeadIsInRange, OpensItsOwn, ReachesOpen, ReachesAsked, ExtentsOpen, ExtentsAsked};
 
-/// The queue head of a high-speed bulk endpoint has each field in its range.
+/// The queue head of a high-speed bulk or control endpoint has each field in its range.
 pub fn a_new_head_is_in_range()
     ensures { NewHeadIsInRange }
 {}
@@ -11,7 +11,8 @@ pub fn an_open_opens_its_own()
     ensures { OpensItsOwn }
 {}
 
-/// Each queue has its front and its tail still: an endpoint that is opened isn't met yet, and the tail of the one that is asked is the first qTD of the get or put.
+/// Each queue has its front and its tail still: an endpoint that is opened isn't met yet, and the tail of the one that is asked is the first qTD of the get, put
+/// or request.
 pub fn commands_leave_tails()
     ensures opened { ReachesOpen }
     ensures asked { ReachesAsked }

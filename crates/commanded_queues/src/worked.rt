@@ -3,13 +3,17 @@ ghost use Rattle.qh_qtd.specs.QueueHead.{IsQhInRange};
 ghost use Rattle.driver_rows.specs.Words.{queue_head};
 ghost use Rattle.walk_members.specs.Reached.{IsNumbered};
 ghost use Rattle.chained_transfers.specs.Bulk.{IsBulk};
-ghost use Rattle.commanded_queues.specs.Samples.{highest, highest_out};
+ghost use Rattle.chained_transfers.specs.Asynchronous.{IsAsynchronous};
+ghost use Rattle.commanded_queues.specs.Samples.{highest, highest_out, highest_control};
 
-/// An endpoint of the highest address and number, of either way, whose queue head leads to the head of the ring, in block 128, and to the inactive qTD in block 143.
+/// An endpoint of the highest address and number, of either way or of control, whose queue head leads to the head of the ring, in block 128, and to the inactive
+/// qTD in block 143.
 pub fn a_new_head()
     ensures bulk { IsBulk highest }
     ensures out { IsBulk highest_out }
+    ensures control { IsAsynchronous highest_control }
     ensures numbered { IsNumbered highest }
     ensures range { IsQhInRange (queue_head highest 128 143) }
     ensures out_range { IsQhInRange (queue_head highest_out 128 143) }
+    ensures control_range { IsQhInRange (queue_head highest_control 128 143) }
 {}

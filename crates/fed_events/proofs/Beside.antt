@@ -20,7 +20,7 @@ use Rattle.driver_laws.proofs.Publishing.{idle}
 use Rattle.publish_laws.proofs.Keeping.{publishable_still}
 use Rattle.run_owners.specs.Owners.{note_in}
 use Rattle.chained_transfers.specs.Chains.{piece_at}
-use Rattle.fed_queues.specs.Fed.{IsNotedQtd, IsPieceFed, IsPublished}
+use Rattle.fed_queues.specs.Fed.{IsAlternate, IsNotedQtd, IsPieceFed, IsPublished, sized}
 use Rattle.fed_queues.specs.Places.{IsLast}
 use Rattle.fed_events.specs.Beside.{FedStaysBeside, LastStaysBeside}
 
@@ -29,7 +29,7 @@ use Rattle.fed_events.specs.Beside.{FedStaysBeside, LastStaysBeside}
 noted_still : (sort : Sort) (t u : Qtd) (note : QtdNote) (end : ℕ) → u ≡ record t { token = u.token } → IsNotedQtd sort t note end → IsNotedQtd sort u note end
 noted_still sort t u note end is k = record {
   next = ap (λ (x : Qtd). x.next) is ∙ k.next;
-  alternate = ap (λ (x : Qtd). x.alternate) is ∙ k.alternate;
+  alternate = subst (λ (x : Qtd). IsAlternate sort x.alternate note.next end) (sym is) k.alternate;
   offset = ap (λ (x : Qtd). x.offset) is ∙ k.offset;
   page0 = ap (λ (x : Qtd). x.page0) is ∙ k.page0;
   page1 = ap (λ (x : Qtd). x.page1) is ∙ k.page1;
@@ -57,6 +57,7 @@ piece_still sort part now note b end alters k =
       fresh = λ on.
           let same : u ≡ k.qtd = still_active k.qtd u had.after on in
           ap (λ (x : Qtd). x.token.total) same ∙ k.fresh (ap (λ (x : Qtd). x.token.active) (sym same) ∙ on);
+      blank = k.blank;
     }
 
 -- ---- all of them
@@ -81,6 +82,7 @@ published_still d parts now b words keeps k = record {
   total = k.total;
   stored = (keeps (32 * k.endpoint.queue)).idle (32 * b) (partly k.qtd (d.made - 1)) k.stored (idle k.qtd (d.made - 1) (let few = k.few in omega (arith, few)));
   places = k.places;
+  blank = k.blank;
   few = k.few;
   long = λ some. length_still (parts (32 * k.endpoint.queue)) (now (32 * k.endpoint.queue)) (buffer_name k.qtd) (keeps (32 * k.endpoint.queue)).alters ∙ k.long some;
   may = λ some. publishable_still (parts (32 * k.endpoint.queue)) (now (32 * k.endpoint.queue)) (32 * b) k.qtd (keeps (32 * k.endpoint.queue)).alters (k.may some);
@@ -91,7 +93,7 @@ fed_still d parts now keeps k = record {
   dummies = λ e x here kept lent. (keeps (32 * x.queue)).idle (32 * x.dummy) dummy_qtd (k.dummies e x here kept lent) refl;
   pieces = λ t i y x there held here from below.
       let b : ℕ = piece_at (note_in d.notes) y.first i in
-      piece_still y.sort (parts (32 * x.queue)) (now (32 * x.queue)) (note_at d.notes b) b (piece_at (note_in d.notes) y.first y.qtds) (keeps (32 * x.queue)).alters (k.pieces t i y x there held here from below);
+      piece_still y.sort (parts (32 * x.queue)) (now (32 * x.queue)) (sized y.sort i (note_at d.notes b)) b (piece_at (note_in d.notes) y.first y.qtds) (keeps (32 * x.queue)).alters (k.pieces t i y x there held here from below);
   publishes = λ b words command. published_still d parts now b words keeps (k.publishes b words command);
 }
 

@@ -1,9 +1,11 @@
 -- A harvest takes the first qTD out that no short packet passed over.
-use Rattle.std.proofs.Common.{◌≡◌, ◌≢◌, ℕ, zero, suc, ◌+◌, ◌-◌, ◌*◌, ◌≤◌, Bool, true, false, not, ◌||◌, ◌==◌, cond, nat_le, List, [], ◌∷◌, ◌++◌, set, drop, slice_get, Option, Some, None, option_map, ap, sym, subst, ◌∙◌, ⊎_elim, inl, inr, refl, arith}
+use Rattle.std.proofs.Common.{◌≡◌, ◌≢◌, ℕ, zero, suc, ◌+◌, ◌-◌, ◌*◌, ◌≤◌, Bool, true, false, not, ◌||◌, ◌==◌, cond, nat_le, List, [], ◌∷◌, ◌++◌, set, drop, slice_get, Option, Some, None, option_map, ap, sym, subst, ◌∙◌, ⊎_elim, refl, arith}
 use Rattle.std.specs.Prelude.{◌⊎◌}
 use Rattle.std.proofs.lemmas.Bool.{cases_eq, false≢true}
 use Rattle.std.proofs.lemmas.Option.{same_Some}
 use Rattle.usb_base.specs.declared.endpoints.EndCause.{EndCause}
+use Rattle.usb_base.specs.declared.packets.EpKind.{EpKind}
+use Rattle.usb_base.specs.declared.packets.EpKind.TheVariants as kinds
 use Rattle.usb_base.specs.declared.reports.What.{What}
 use Rattle.driver_rows.specs.declared.content.Endpoint.{Endpoint}
 use Rattle.driver_rows.specs.declared.content.Transfer.{Transfer}
@@ -14,7 +16,6 @@ use Rattle.driver_rows.specs.declared.rows.Found.{Found}
 use Rattle.driver_rows.specs.declared.rows.Found.TheVariants as founds
 use Rattle.driver_rows.specs.declared.rows.DriverRow.TheVariants as rows
 use Rattle.driver_rows.specs.DriverContent.{DriverContent, no_note, waits_for, next_after}
-use Rattle.driver_rows.specs.Words.{head_block}
 use Rattle.driver_rows.specs.Harvests.{note_at, token_in, noted, end_of, is_stall}
 use Rattle.driver_rows.specs.Rows.{Parts, is_iso, after_driver_row, after_harvest, harvested_as, served, after_end, told_with, goes_on, stalled}
 use Rattle.run_owners.specs.Due.{IsHarvestDue}
@@ -25,21 +26,21 @@ use Rattle.run_owners.proofs.Stays.{same_item}
 use Rattle.lent_structures.specs.Structures.{StructureSets}
 use Rattle.ring_laws.specs.Told.{Endpoint as Told}
 use Rattle.chained_transfers.specs.Turns.{turn_of}
-use Rattle.chained_transfers.specs.InTurn.{TakesTurns}
+use Rattle.chained_transfers.specs.AsynchronousTurns.{AsynchronousTakesTurns}
 use Rattle.chained_transfers.specs.Out.{pieces_from, passed, out_of_transfer, out_of, out_now}
-use Rattle.chained_transfers.proofs.Ways.{moves_queued, found_by}
+use Rattle.chained_transfers.proofs.Ways.{found_by}
 use Rattle.chained_transfers.proofs.Harvesting.{waits_is}
 use Rattle.chained_transfers.proofs.Harvested.{no_stall, not_served, note_same}
 use Rattle.fed_queues.specs.Places.{AreStillOut, IsThere}
 use Rattle.fed_lends.specs.Commands.{QueuesStand}
 use Rattle.fed_lends.proofs.Asked.{set_which}
-use Rattle.fed_harvests.specs.Harvests.{IsLike, Harvested, with_out, HarvestLeaves, HarvestStands, WaitStands}
+use Rattle.fed_harvests.specs.Harvests.{IsLike, Harvested, with_out, HarvestLeaves, UnstalledStands, HarvestStands, WaitStands}
 use Rattle.fed_harvests.proofs.Like.{like_stands}
 use Rattle.fed_harvests.proofs.Lists.{all_of, all_out, all_same, splits, all_set, others_none, own_out}
 use Rattle.fed_queues.proofs.Places.{SameQueues, same_ends, met_stays, streams_stay}
-use Rattle.chained_transfers.proofs.Holding.{unreleased}
-use Rattle.chained_transfers.proofs.Staying.{alive}
-use Rattle.endpoint_lives.proofs.Lives.{none_told}
+use Rattle.chained_transfers.proofs.BulkAndControl.{not_iso, moves_queued_of, bulk_takes_turns}
+use Rattle.chained_transfers.proofs.Staying.{stands_alive}
+use Rattle.mended_heads.specs.Stalling.{IsStall}
 
 set_self : {X : Type 0} (xs : List X) (e : ℕ) (x : X) → slice_get xs e ≡ Some x → set xs e x ≡ xs
 set_self [] e x here = refl
@@ -64,10 +65,10 @@ module _ (d : DriverContent) (e t : ℕ) (x : Endpoint) (y : Transfer) (idle : d
     pub transfers : f.transfers ≡ set d.transfers t y_now
     pub y_like : (y_now.endpoint ≡ y.endpoint) × (y_now.first ≡ y.first) × (y_now.qtds ≡ y.qtds) × (y_now.released ≡ y.released) × (y_now.sort ≡ y.sort)
 
-  note_field : {A : Type 0} (f : QtdNote → A) (n : ℕ) → f (record (note_at d.notes y.place) { moved = n }) ≡ f (note_at d.notes y.place) → (b : ℕ) → f (note_at (noted d.notes y.place n) b) ≡ f (note_at d.notes b)
+  pub note_field : {A : Type 0} (f : QtdNote → A) (n : ℕ) → f (record (note_at d.notes y.place) { moved = n }) ≡ f (note_at d.notes y.place) → (b : ℕ) → f (note_at (noted d.notes y.place n) b) ≡ f (note_at d.notes b)
   note_field f n same b = same_item f d.notes y.place (record (note_at d.notes y.place) { moved = n }) no_note same b
 
-  like : (f : DriverContent) → Becomes f → IsLike d f
+  pub like : (f : DriverContent) → Becomes f → IsLike d f
   like f k = record {
     idle = idle;
     idle_now = k.command ∙ idle;
@@ -157,7 +158,7 @@ number_of : Owner → ℕ
 number_of (QueueHead e) = e
 number_of _ = 0
 
-module _ (p : Parts) (e t : ℕ) (found : Found) (due : IsHarvestDue p e t found) (owners : HasOwners p.driver) (turns : TakesTurns p.driver) (member streams : ℕ → Bool) (ends : ℕ → Told) (parts : StructureSets) (order : ℕ → ℕ → ℕ) (out : ℕ → List ℕ) (old : QueuesStand p.driver member streams ends parts order out) where
+module _ (p : Parts) (e t : ℕ) (found : Found) (due : IsHarvestDue p e t found) (owners : HasOwners p.driver) (turns : AsynchronousTakesTurns p.driver) (member streams : ℕ → Bool) (ends : ℕ → Told) (parts : StructureSets) (order : ℕ → ℕ → ℕ) (out : ℕ → List ℕ) (old : QueuesStand p.driver member streams ends parts order out) where
   d : DriverContent
   d = p.driver
 
@@ -167,30 +168,38 @@ module _ (p : Parts) (e t : ℕ) (found : Found) (due : IsHarvestDue p e t found
   y : Transfer
   y = due.transfer
 
-  held : due.transfer.released ≡ false
-  held =
-      let own = waits_is e due.transfer due.waits in
-      unreleased p.driver t due.transfer due.endpoint turns.bulk turns.turns due.there (ap (slice_get p.driver.endpoints) own.0 ∙ due.here) (none_told due.endpoint due.goes_on) own.1
+  pub remains : due.endpoint.gone ≡ false
+  remains = stands_alive due.endpoint (turns.asynchronous.endpoints e due.endpoint due.here) due.goes_on
 
-  rest_of : List ℕ
+  pub held : due.transfer.released ≡ false
+  held = by due.transfer.released refl
+    where
+      by : (b : Bool) → due.transfer.released ≡ b → due.transfer.released ≡ false
+      by false is = is
+      by true is =
+          let own = waits_is e due.transfer due.waits in
+          absurd (false≢true (sym own.1 ∙ turns.turns.turns.told t (turn_of due.transfer) (ap (option_map turn_of) due.there)
+          (record { endpoint = due.endpoint; here = ap (slice_get p.driver.endpoints) own.0 ∙ due.here; gone = remains }) is))
+
+  pub rest_of : List ℕ
   rest_of = pieces_from (note_in p.driver.notes) (note_in p.driver.notes due.transfer.place).next (due.transfer.left - 1)
 
-  all_pieces : pieces_from (note_in p.driver.notes) due.transfer.place due.transfer.left ≡ 32 * due.transfer.place ∷ rest_of
+  pub all_pieces : pieces_from (note_in p.driver.notes) due.transfer.place due.transfer.left ≡ 32 * due.transfer.place ∷ rest_of
   unfolding rest_of
   all_pieces = piece_list (note_in p.driver.notes) due.transfer.place due.transfer.left (turns.turns.places t due.transfer due.there held).some
 
-  first_out : out_of_transfer (note_in p.driver.notes) e 0 due.transfer ≡ 32 * due.transfer.place ∷ rest_of
+  pub first_out : out_of_transfer (note_in p.driver.notes) e 0 due.transfer ≡ 32 * due.transfer.place ∷ rest_of
   first_out =
       own_out (note_in p.driver.notes) e due.transfer (waits_is e due.transfer due.waits).0 held
       ∙ ap (λ (b : Bool). drop (0 + passed b) (pieces_from (note_in p.driver.notes) due.transfer.place due.transfer.left)) (waits_is e due.transfer due.waits).1 ∙ all_pieces
 
-  apart : (i : ℕ) (z : Endpoint) → slice_get p.driver.endpoints i ≡ Some z → z.gone ≡ false → i ≢ e → 32 * z.queue ≢ 32 * due.endpoint.queue
+  pub apart : (i : ℕ) (z : Endpoint) → slice_get p.driver.endpoints i ≡ Some z → z.gone ≡ false → i ≢ e → 32 * z.queue ≢ 32 * due.endpoint.queue
   unfolding number_of
   apart i z at kept differs same =
       let bare : (j : ℕ) (w : Endpoint) → slice_get p.driver.endpoints j ≡ Some w → w.gone ≡ false → is_iso w.desc.kind || w.gone ≡ false =
-      λ j w there still. let s = turns.bulk.endpoints j w there in ap (λ k. is_iso k || w.gone) s.bulk.kind ∙ still in
+      λ j w there still. let s = turns.asynchronous.endpoints j w there in ap (λ (b : Bool). b || w.gone) (not_iso w.desc s.asynchronous) ∙ still in
       let one = owners.owned.each.queue i (runs_of_endpoint z) (ap (option_map runs_of_endpoint) at) (bare i z at kept) in
-      let two = owners.owned.each.queue e (runs_of_endpoint due.endpoint) (ap (option_map runs_of_endpoint) due.here) (bare e due.endpoint due.here (alive due.endpoint (turns.bulk.endpoints e due.endpoint due.here) due.goes_on)) in
+      let two = owners.owned.each.queue e (runs_of_endpoint due.endpoint) (ap (option_map runs_of_endpoint) due.here) (bare e due.endpoint due.here remains) in
       let block : z.queue ≡ due.endpoint.queue = omega (arith, same) in
       differs (ap number_of (sym one.owned ∙ ap owners.owner block ∙ two.owned))
 
@@ -232,10 +241,10 @@ module _ (p : Parts) (e t : ℕ) (found : Found) (due : IsHarvestDue p e t found
   EndsAs : DriverContent → Type 0
   EndsAs f = (k : Becomes p.driver e t due.endpoint due.transfer due.idle due.here due.there f) × (k.y_now ≡ record due.transfer { reported = true })
 
-  ended_by : (n : ℕ) (what : What) (o : Option EndCause) → end_of due.endpoint.desc.kind what ≡ o
+  ended_by : (n : ℕ) (what : What) (o : Option EndCause) → (IsStall due.endpoint.desc.kind (founds.Ended n what) → ⊥) → end_of due.endpoint.desc.kind what ≡ o
       → EndsAs (served (after_end (told_with p.driver p.memory t due.transfer what due.endpoint.desc.name (noted p.driver.notes due.transfer.place n)) e t due.endpoint (is_stall what) o) e)
   unfolding EndsAs
-  ended_by n what (Some cause) is = (
+  ended_by n what (Some cause) unstalled is = (
     record {
       command = refl;
       made = refl;
@@ -253,12 +262,16 @@ module _ (p : Parts) (e t : ℕ) (found : Found) (due : IsHarvestDue p e t found
     },
     refl,
   )
-  ended_by n what None is = by (is_stall what) (no_stall due.endpoint.desc.kind what (turns.bulk.endpoints e due.endpoint due.here).bulk.kind is)
+  ended_by n what None unstalled is = by (is_stall what) (off (is_stall what) refl)
     where
+      off : (b : Bool) → is_stall what ≡ b → b ≡ false
+      off false stall = refl
+      off true stall = absurd (unstalled (stall, is))
+
       by : (b : Bool) → b ≡ false
           → EndsAs (served (cond b (stalled (told_with p.driver p.memory t due.transfer what due.endpoint.desc.name (noted p.driver.notes due.transfer.place n)) e t due.endpoint) (goes_on (told_with p.driver p.memory t due.transfer what due.endpoint.desc.name (noted p.driver.notes due.transfer.place n)) e t due.endpoint)) e)
-      by true off = absurd (false≢true (sym off))
-      by false off = (
+      by true none = absurd (false≢true (sym none))
+      by false none = (
         record {
           command = refl;
           made = refl;
@@ -280,14 +293,14 @@ module _ (p : Parts) (e t : ℕ) (found : Found) (due : IsHarvestDue p e t found
   Leaves : DriverContent → Type 0
   Leaves f = (h : Harvested p.driver f e t due.transfer) × QueuesStand f member streams ends parts order (with_out out (32 * due.endpoint.queue) (h.before ++ h.behind))
 
-  read : (n : Found) → n ≢ founds.Active → ((k : ℕ) → n ≢ founds.Served k) → Leaves (served (harvested_as p.driver p.memory e t due.endpoint due.transfer n) e)
+  read : (n : Found) → (IsStall due.endpoint.desc.kind n → ⊥) → n ≢ founds.Active → ((k : ℕ) → n ≢ founds.Served k) → Leaves (served (harvested_as p.driver p.memory e t due.endpoint due.transfer n) e)
   unfolding Leaves EndsAs rest_of
-  read founds.Active not none = absurd (not refl)
-  read (founds.Served k) not none = absurd (none k refl)
-  read (founds.Ended n what) not none =
-      let k = ended_by n what (end_of due.endpoint.desc.kind what) refl in
+  read founds.Active unstalled differs none = absurd (differs refl)
+  read (founds.Served k) unstalled differs none = absurd (none k refl)
+  read (founds.Ended n what) unstalled differs none =
+      let k = ended_by n what (end_of due.endpoint.desc.kind what) unstalled refl in
       leaves_by (served (harvested_as p.driver p.memory e t due.endpoint due.transfer (founds.Ended n what)) e) k.0 (told_rest k.0.y_now k.1)
-  read (founds.Moved n) not none =
+  read (founds.Moved n) unstalled differs none =
       let z : Transfer = record due.transfer { place = (note_at p.driver.notes due.transfer.place).next; left = due.transfer.left - 1 } in
       leaves_by (served (harvested_as p.driver p.memory e t due.endpoint due.transfer (founds.Moved n)) e)
       (record {
@@ -314,16 +327,27 @@ module _ (p : Parts) (e t : ℕ) (found : Found) (due : IsHarvestDue p e t found
       subst (λ (o : Option Endpoint). Leaves (after_harvest p.driver p.memory e t found o (slice_get p.driver.transfers t))) (sym due.here)
       (subst (λ (o : Option Transfer). Leaves (after_harvest p.driver p.memory e t found (Some due.endpoint) o)) (sym due.there) k)
 
-  pub leaves : found ≢ founds.Active → HarvestLeaves p e t found due member streams ends parts order out
+  pub leaves : found ≢ founds.Active → (IsStall due.endpoint.desc.kind found → ⊥) → HarvestLeaves p e t found due member streams ends parts order out
   unfolding Leaves
-  leaves not =
-      let is = due.tells ∙ found_by p.driver p.memory due.transfer due.transfer.sort (moves_queued p.driver due.transfer (turns.bulk.moves t due.transfer due.there)) in
+  leaves differs unstalled =
+      let is = due.tells ∙ found_by p.driver p.memory due.transfer due.transfer.sort (moves_queued_of p.driver due.transfer (turns.asynchronous.moves t due.transfer due.there)) in
       let none = not_served due.transfer.sort (nat_le due.transfer.left 1) (note_at p.driver.notes due.transfer.place) (token_in p.memory due.transfer.place) found is in
-      let k = row_leaves (subst (λ (b : Bool). Leaves (cond b (served (harvested_as p.driver p.memory e t due.endpoint due.transfer found) e) p.driver)) (sym due.waits) (read found not none)) in
+      let k = row_leaves (subst (λ (b : Bool). Leaves (cond b (served (harvested_as p.driver p.memory e t due.endpoint due.transfer found) e) p.driver)) (sym due.waits) (read found unstalled differs none)) in
       record { harvested = k.0; stand = k.1 }
 
+pub unstalled_stands : UnstalledStands
+unstalled_stands p e t found member streams ends parts order out due differs unstalled owners turns old = leaves p e t found due owners turns member streams ends parts order out old differs unstalled
+
+-- a bulk endpoint doesn't go on after a STALL
+pub bulk_unstalled : (kind : EpKind) (found : Found) → kind ≡ kinds.Bulk → IsStall kind found → ⊥
+bulk_unstalled kind (founds.Ended n what) bulk stall = false≢true (sym (no_stall kind what bulk stall.1) ∙ stall.0)
+bulk_unstalled kind founds.Active bulk stall = stall
+bulk_unstalled kind (founds.Moved n) bulk stall = stall
+bulk_unstalled kind (founds.Served errors) bulk stall = stall
+
 pub harvest_stands : HarvestStands
-harvest_stands p e t found member streams ends parts order out due not owners turns old = leaves p e t found due owners turns member streams ends parts order out old not
+harvest_stands p e t found member streams ends parts order out due differs owners turns old =
+    unstalled_stands p e t found member streams ends parts order out due differs (bulk_unstalled due.endpoint.desc.kind found (turns.bulk.endpoints e due.endpoint due.here).bulk.kind) owners (bulk_takes_turns p.driver turns) old
 
 -- ---- where it isn't done
 

@@ -1,10 +1,7 @@
 -- Contents that tell the same of queues have the same structures.
-use Rattle.std.proofs.Common.{◌≡◌, ℕ, ◌+◌, ◌*◌, ◌/◌, ◌%◌, ◌<◌, Bool, true, List, get_or, slice_get, Option, Some, None, ap, sym, subst, ◌∙◌, ⊎_elim, inl, inr, arith}
-use Rattle.std.specs.Prelude.{◌⊎◌}
-use Rattle.usb_base.specs.declared.endpoints.EpDesc.{EpDesc}
+use Rattle.std.proofs.Common.{◌≡◌, ℕ, ◌+◌, ◌*◌, ◌/◌, ◌%◌, ◌<◌, Bool, List, get_or, slice_get, Option, Some, None, ap, sym, subst, ◌∙◌, arith}
 use Rattle.run_book.specs.Book.{slot_of}
 use Rattle.run_book.specs.declared.slots.Slot.{Slot}
-use Rattle.driver_rows.specs.declared.content.Endpoint.{Endpoint}
 use Rattle.driver_rows.specs.declared.content.QtdNote.{QtdNote}
 use Rattle.driver_rows.specs.declared.content.Sort.{Sort}
 use Rattle.driver_rows.specs.declared.content.Command.{Command}
@@ -19,7 +16,7 @@ use Rattle.driver_laws.specs.Inventory.{IsLent}
 use Rattle.ring_laws.specs.Told.{Endpoint as Told}
 use Rattle.chained_transfers.specs.Chains.{piece_at}
 use Rattle.chained_transfers.proofs.Chained.{piece_same}
-use Rattle.fed_queues.specs.Fed.{IsPieceFed}
+use Rattle.fed_queues.specs.Fed.{IsAlternate, size_of, sized, IsPieceFed}
 use Rattle.fed_queues.specs.Places.{IsLast, AreStillOut}
 use Rattle.fed_lends.specs.Commands.{QueuesStand}
 use Rattle.fed_lends.proofs.Asked.{same_unpublished}
@@ -33,7 +30,7 @@ fed_by_note sort part note other b end next buffer told k = record {
   here = k.here;
   noted = record {
     next = k.noted.next ∙ ap to_qtd (sym next);
-    alternate = k.noted.alternate;
+    alternate = subst (λ (c : ℕ). IsAlternate sort k.qtd.alternate c end) (sym next) k.noted.alternate;
     offset = k.noted.offset ∙ ap (λ (bs : List ℕ). 32 * (get_or bs 0 0 % 128)) (sym buffer);
     page0 = k.noted.page0 ∙ ap (λ (bs : List ℕ). get_or bs 0 0 / 128) (sym buffer);
     page1 = k.noted.page1 ∙ ap (λ (bs : List ℕ). get_or bs 1 0 / 128) (sym buffer);
@@ -45,6 +42,7 @@ fed_by_note sort part note other b end next buffer told k = record {
   long = k.long ∙ sym told;
   places = λ j below. ap (λ (bs : List ℕ). 32 * get_or bs (j / 4096) 0 + j % 4096) buffer ∙ k.places j (subst (λ (n : ℕ). j < n) told below);
   fresh = λ active. k.fresh active ∙ sym told;
+  blank = λ none. ap (λ (bs : List ℕ). get_or bs 0 0) buffer ∙ k.blank (sym told ∙ none);
 }
 
 module _ (d f : DriverContent) (k : IsLike d f) where
@@ -71,13 +69,13 @@ module _ (d f : DriverContent) (k : IsLike d f) where
   same_piece : (b i : ℕ) → piece_at (note_in f.notes) b i ≡ piece_at (note_in d.notes) b i
   same_piece b i = piece_same (note_in d.notes) (note_in f.notes) b i k.notes
 
-  moved : (sort : Sort) (part : Structures) (b i n : ℕ) → IsPieceFed sort part (note_at d.notes (piece_at (note_in d.notes) b i)) (piece_at (note_in d.notes) b i) (piece_at (note_in d.notes) b n)
-      → IsPieceFed sort part (note_at f.notes (piece_at (note_in f.notes) b i)) (piece_at (note_in f.notes) b i) (piece_at (note_in f.notes) b n)
+  moved : (sort : Sort) (part : Structures) (b i n : ℕ) → IsPieceFed sort part (sized sort i (note_at d.notes (piece_at (note_in d.notes) b i))) (piece_at (note_in d.notes) b i) (piece_at (note_in d.notes) b n)
+      → IsPieceFed sort part (sized sort i (note_at f.notes (piece_at (note_in f.notes) b i))) (piece_at (note_in f.notes) b i) (piece_at (note_in f.notes) b n)
   moved sort part b i n fed =
       let c = piece_at (note_in d.notes) b i in
-      let one = fed_by_note sort part (note_at d.notes c) (note_at f.notes c) c (piece_at (note_in d.notes) b n) (k.next c) (k.buffer c) (k.told c) fed in
-      let two = subst (λ (i : ℕ). IsPieceFed sort part (note_at f.notes i) i (piece_at (note_in d.notes) b n)) (sym (same_piece b i)) one in
-      subst (λ (end : ℕ). IsPieceFed sort part (note_at f.notes (piece_at (note_in f.notes) b i)) (piece_at (note_in f.notes) b i) end) (sym (same_piece b n)) two
+      let one = fed_by_note sort part (sized sort i (note_at d.notes c)) (sized sort i (note_at f.notes c)) c (piece_at (note_in d.notes) b n) (k.next c) (k.buffer c) (ap (size_of sort i) (k.told c)) fed in
+      let two = subst (λ (c : ℕ). IsPieceFed sort part (sized sort i (note_at f.notes c)) c (piece_at (note_in d.notes) b n)) (sym (same_piece b i)) one in
+      subst (λ (end : ℕ). IsPieceFed sort part (sized sort i (note_at f.notes (piece_at (note_in f.notes) b i))) (piece_at (note_in f.notes) b i) end) (sym (same_piece b n)) two
 
   stand : (member streams : ℕ → Bool) (ends : ℕ → Told) (parts : StructureSets) (order : ℕ → ℕ → ℕ) (out later : ℕ → List ℕ) → AreStillOut f later → QueuesStand d member streams ends parts order out → QueuesStand f member streams ends parts order later
   stand member streams ends parts order out later still old = record {
@@ -94,11 +92,11 @@ module _ (d f : DriverContent) (k : IsLike d f) where
           let none = same_unpublished d t u.transfer k.idle in
           let many = u.qtds in
           let fed = old.fed.pieces t i u.transfer w.endpoint u.there (sym u.released ∙ held) (ap (slice_get d.endpoints) (sym u.endpoint) ∙ w.there) (omega (arith, none)) (omega (arith, below, many)) in
-          subst (λ (q : ℕ). IsPieceFed y.sort (parts (32 * q)) (note_at f.notes (piece_at (note_in f.notes) y.first i)) (piece_at (note_in f.notes) y.first i) (piece_at (note_in f.notes) y.first y.qtds)) (sym w.queue)
+          subst (λ (q : ℕ). IsPieceFed y.sort (parts (32 * q)) (sized y.sort i (note_at f.notes (piece_at (note_in f.notes) y.first i))) (piece_at (note_in f.notes) y.first i) (piece_at (note_in f.notes) y.first y.qtds)) (sym w.queue)
           (moved y.sort (parts (32 * w.endpoint.queue)) y.first i y.qtds
-          (subst (λ (s : Sort). IsPieceFed s (parts (32 * w.endpoint.queue)) (note_at d.notes (piece_at (note_in d.notes) y.first i)) (piece_at (note_in d.notes) y.first i) (piece_at (note_in d.notes) y.first y.qtds)) (sym u.sort)
-          (subst (λ (n : ℕ). IsPieceFed u.transfer.sort (parts (32 * w.endpoint.queue)) (note_at d.notes (piece_at (note_in d.notes) y.first i)) (piece_at (note_in d.notes) y.first i) (piece_at (note_in d.notes) y.first n)) (sym u.qtds)
-          (subst (λ (b : ℕ). IsPieceFed u.transfer.sort (parts (32 * w.endpoint.queue)) (note_at d.notes (piece_at (note_in d.notes) b i)) (piece_at (note_in d.notes) b i) (piece_at (note_in d.notes) b u.transfer.qtds)) (sym u.first) fed))));
+          (subst (λ (s : Sort). IsPieceFed s (parts (32 * w.endpoint.queue)) (sized s i (note_at d.notes (piece_at (note_in d.notes) y.first i))) (piece_at (note_in d.notes) y.first i) (piece_at (note_in d.notes) y.first y.qtds)) (sym u.sort)
+          (subst (λ (n : ℕ). IsPieceFed u.transfer.sort (parts (32 * w.endpoint.queue)) (sized u.transfer.sort i (note_at d.notes (piece_at (note_in d.notes) y.first i))) (piece_at (note_in d.notes) y.first i) (piece_at (note_in d.notes) y.first n)) (sym u.qtds)
+          (subst (λ (b : ℕ). IsPieceFed u.transfer.sort (parts (32 * w.endpoint.queue)) (sized u.transfer.sort i (note_at d.notes (piece_at (note_in d.notes) b i))) (piece_at (note_in d.notes) b i) (piece_at (note_in d.notes) b u.transfer.qtds)) (sym u.first) fed))));
       publishes = λ b words is. absurd (no_publish b words is);
     };
     last = record {

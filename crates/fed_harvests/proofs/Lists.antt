@@ -10,7 +10,7 @@ use Rattle.chained_transfers.specs.Out.{pieces_from, passed, out_of_transfer, ou
 use Rattle.fed_lends.proofs.Asked.{both_lists}
 
 -- where no command is unfinished
-pub all_of : (ℕ → NoteRuns) → ℕ → List Transfer → List ℕ
+unfoldable pub all_of : (ℕ → NoteRuns) → ℕ → List Transfer → List ℕ
 all_of note e [] = []
 all_of note e (y ∷ ys) = out_of_transfer note e 0 y ++ all_of note e ys
 
@@ -36,7 +36,7 @@ among_either p [] ys in_ys = inr in_ys
 among_either p (x ∷ xs) ys (inl here) = inl (inl here)
 among_either p (x ∷ xs) ys (inr later) = ⊎_elim (λ (a : IsAmong p xs). inl (inr a)) (λ (b : IsAmong p ys). inr b) (among_either p xs ys later)
 
-append_assoc : (xs ys zs : List ℕ) → xs ++ (ys ++ zs) ≡ (xs ++ ys) ++ zs
+pub append_assoc : (xs ys zs : List ℕ) → xs ++ (ys ++ zs) ≡ (xs ++ ys) ++ zs
 append_assoc [] ys zs = refl
 append_assoc (x ∷ xs) ys zs = ap (λ ws. x ∷ ws) (append_assoc xs ys zs)
 

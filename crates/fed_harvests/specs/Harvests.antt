@@ -2,7 +2,7 @@
 --     IsLike d f                no command is unfinished, and what tells of the structures of queues is the same of both contents
 --     IsPassed d e t p          the qTD at p is out, of a transfer of endpoint e before t
 --     Harvested d f e t y       the first that no short packet passed over is harvested: which were out before it, and behind it
---     LikeStand, HarvestStands  the laws
+--     LikeStand, UnstalledStands, HarvestStands, WaitStands     the laws: of contents alike; of a harvest that is no STALL of a control endpoint; of bulk endpoints
 use Rattle.std.specs.Prelude.{◌≡◌, ◌≢◌, ℕ, ◌*◌, ◌<◌, ◌==◌, Bool, List, ◌∷◌, ◌++◌, slice_get, Some, None, if◌then◌else◌}
 use Rattle.driver_rows.specs.declared.content.Endpoint.{Endpoint}
 use Rattle.driver_rows.specs.declared.content.Transfer.{Transfer}
@@ -20,7 +20,9 @@ use Rattle.ring_laws.specs.Order.{IsAmong}
 use Rattle.ring_laws.specs.Told.{Endpoint as Told}
 use Rattle.chained_transfers.specs.Out.{out_of_transfer, out_now}
 use Rattle.chained_transfers.specs.InTurn.{TakesTurns}
+use Rattle.chained_transfers.specs.AsynchronousTurns.{AsynchronousTakesTurns}
 use Rattle.fed_queues.specs.Places.{AreStillOut}
+use Rattle.mended_heads.specs.Stalling.{IsStall}
 use Rattle.fed_lends.specs.Commands.{QueuesStand}
 
 pub record WasEnd (d : DriverContent) (i : ℕ) (z : Endpoint) : Type 0 where
@@ -84,6 +86,13 @@ pub record HarvestLeaves (p : Parts) (e t : ℕ) (found : Found) (due : IsHarves
   pub harvested : Harvested p.driver (after_driver_row (rows.Harvest e t found) p).driver e t due.transfer
   pub stand : QueuesStand (after_driver_row (rows.Harvest e t found) p).driver member streams ends parts order (with_out out (32 * due.endpoint.queue) (harvested.before ++ harvested.behind))
 
+-- no control endpoint answered STALL
+abbrev pub UnstalledStands : Type 0
+UnstalledStands = (p : Parts) (e t : ℕ) (found : Found) (member streams : ℕ → Bool) (ends : ℕ → Told) (parts : StructureSets) (order : ℕ → ℕ → ℕ) (out : ℕ → List ℕ)
+    → (due : IsHarvestDue p e t found) → found ≢ founds.Active → (IsStall due.endpoint.desc.kind found → ⊥) → HasOwners p.driver → AsynchronousTakesTurns p.driver
+    → QueuesStand p.driver member streams ends parts order out → HarvestLeaves p e t found due member streams ends parts order out
+
+-- .. as none of bulk endpoints is
 abbrev pub HarvestStands : Type 0
 HarvestStands = (p : Parts) (e t : ℕ) (found : Found) (member streams : ℕ → Bool) (ends : ℕ → Told) (parts : StructureSets) (order : ℕ → ℕ → ℕ) (out : ℕ → List ℕ)
     → (due : IsHarvestDue p e t found) → found ≢ founds.Active → HasOwners p.driver → TakesTurns p.driver → QueuesStand p.driver member streams ends parts order out

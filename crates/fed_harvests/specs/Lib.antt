@@ -1,1 +1,2 @@
 pub mod Harvests
+pub mod Stalls

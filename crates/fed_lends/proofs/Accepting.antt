@@ -1,9 +1,6 @@
 -- A get or put that was accepted is to be lent.
-use Rattle.std.proofs.Common.{◌≡◌, ◌≢◌, ℕ, zero, suc, ◌-◌, ◌<◌, ◌≤◌, Bool, nat_eq, List, [], ◌∷◌, ◌++◌, length, take, drop, set, get_or, replicate, slice_get, Some, ap, refl, sym, subst, ◌∙◌, ⊎_elim, arith, length-append, None}
-use Rattle.std.proofs.lemmas.Bool.{cases_eq, cases_lt}
-use Rattle.std.proofs.lemmas.List.{get_or-set_same, get_or-set_other, set_past}
+use Rattle.std.proofs.Common.{◌≡◌, ℕ, suc, ◌-◌, ◌≤◌, Bool, nat_eq, List, [], ◌∷◌, ◌++◌, length, take, drop, get_or, slice_get, Some, ap, refl, sym, subst, ◌∙◌, arith, length-append, None}
 use Rattle.std.specs.List.{AllByRecursion}
-use Rattle.usb_base.specs.declared.packets.Way.{Way}
 use Rattle.word_mem.specs.Memory.{Mem, IsShaped}
 use Rattle.run_book.specs.Book.{Holding, holding, Stands}
 use Rattle.driver_rows.specs.declared.content.Endpoint.{Endpoint}
@@ -11,10 +8,8 @@ use Rattle.driver_rows.specs.declared.content.Transfer.{Transfer}
 use Rattle.driver_rows.specs.declared.content.QtdNote.{QtdNote}
 use Rattle.driver_rows.specs.declared.content.Stage.{Stage}
 use Rattle.driver_rows.specs.declared.content.Command.TheVariants as unfinished
-use Rattle.driver_rows.specs.DriverContent.{DriverContent, no_note}
-use Rattle.driver_rows.specs.Words.{buffer_needs}
-use Rattle.driver_rows.specs.Harvests.{note_at}
-use Rattle.driver_rows.specs.Offers.{Offered, Asked, new_runs, note_for, runs_of, note_stages, first_of, is_last, stage_words, new_transfer, with_queued, accepted_transfer}
+use Rattle.driver_rows.specs.DriverContent.{DriverContent}
+use Rattle.driver_rows.specs.Offers.{Offered, Asked, new_runs, note_stages, first_of, is_last, stage_words, new_transfer, with_queued, accepted_transfer}
 use Rattle.run_owners.specs.Owners.{runs_of_endpoint, runs_of_transfer}
 use Rattle.run_owners.specs.Accepts.{Transfers}
 use Rattle.run_owners.specs.Kept.{HasOwners}
@@ -22,12 +17,12 @@ use Rattle.lent_runs.specs.Lent.{AreLent}
 use Rattle.run_owners.proofs.Released.{set_here}
 use Rattle.lent_structures.proofs.Names.{not_same}
 use Rattle.chained_transfers.specs.Bulk.{sort_by}
-use Rattle.chained_transfers.proofs.Ways.{IsBy, its_told, its_pid_few, all_of_all, asked_by}
+use Rattle.chained_transfers.proofs.Ways.{IsBy, its_pid_few, all_of_all, asked_by}
 use Rattle.driver_laws.specs.Written.{AwaitsLend}
 use Rattle.driver_laws.proofs.TransferAccepting.{accepted_awaits_lend}
 use Rattle.driver_laws.proofs.Stays.{written_stays}
-use Rattle.fed_lends.specs.ToLend.{AreStagesBy, IsToBeLent, AreBlank}
-use Rattle.fed_lends.specs.Accepted.{AskedIsToBeLent, ToBeLentStays, OpeningIsBlank, AskedIsBlank, OpenIsBlank}
+use Rattle.fed_lends.specs.ToLend.{AreStagesBy, IsToBeLent}
+use Rattle.fed_lends.specs.Accepted.{AskedIsToBeLent, ToBeLentStays}
 use Rattle.fed_lends.proofs.Fed.{one_command}
 
 -- ---- small facts
@@ -122,54 +117,3 @@ to_be_lent_stays d m new b words k stands same = record {
   sort = k.sort;
   are = k.are;
 }
-
--- ---- what is noted without a buffer
-
-abbrev AllBlank : List QtdNote → Type 0
-AllBlank notes = (c : ℕ) → (note_at notes c).told ≡ 0 → get_or (note_at notes c).buffer 0 0 ≡ 0
-
-blank_note : (way : Way) (s : Stage) (next : ℕ) (runs : List ℕ) → IsBy way s → s.told ≡ 0 → get_or (note_for s next runs).buffer 0 0 ≡ 0
-blank_note way s next runs is none =
-    let long : s.long ≡ 0 = sym (its_told way s is) ∙ none in
-    let few : runs_of s ≡ 0 = ap (λ (n : ℕ). length (buffer_needs n)) long in
-    ap (λ (k : ℕ). get_or (take 5 (take k runs ++ replicate {A = ℕ} 5 0)) 0 0) few
-
-set_blank : (notes : List QtdNote) (b : ℕ) (n : QtdNote) → (n.told ≡ 0 → get_or n.buffer 0 0 ≡ 0) → AllBlank notes → AllBlank (set notes b n)
-set_blank notes b n mine old c none =
-    ⊎_elim
-    (λ (same : c ≡ b).
-    ⊎_elim
-    (λ (below : b < length notes).
-    let is : note_at (set notes b n) c ≡ n = ap (note_at (set notes b n)) same ∙ get_or-set_same notes b n no_note below in
-    ap (λ (r : QtdNote). get_or r.buffer 0 0) is ∙ mine (sym (ap (λ (r : QtdNote). r.told) is) ∙ none))
-    (λ (past : length notes ≤ b).
-    let is : note_at (set notes b n) c ≡ note_at notes c = ap (λ (ns : List QtdNote). note_at ns c) (set_past notes b n past) in
-    ap (λ (r : QtdNote). get_or r.buffer 0 0) is ∙ old c (sym (ap (λ (r : QtdNote). r.told) is) ∙ none))
-    (cases_lt b (length notes)))
-    (λ (differs : c ≢ b).
-    let is : note_at (set notes b n) c ≡ note_at notes c = get_or-set_other notes b c n no_note differs in
-    ap (λ (r : QtdNote). get_or r.buffer 0 0) is ∙ old c (sym (ap (λ (r : QtdNote). r.told) is) ∙ none))
-    (cases_eq c b)
-
-stages_blank : (way : Way) (notes : List QtdNote) (ss : List Stage) (b : ℕ) (qtds runs : List ℕ) → AreStagesBy way ss → AllBlank notes → AllBlank (note_stages notes ss b qtds runs)
-stages_blank way notes [] b qtds runs all old = old
-stages_blank way notes (s ∷ ss) b qtds runs all old =
-    let q = get_or qtds 0 0 in
-    stages_blank way (set notes b (note_for s q runs)) ss q (drop 1 qtds) (drop (runs_of s) runs) all.1 (set_blank notes b (note_for s q runs) (blank_note way s q runs all.0) old)
-
-none_blank : (n : ℕ) → AllBlank (replicate n no_note)
-none_blank zero c none = refl
-none_blank (suc n) zero none = refl
-none_blank (suc n) (suc c) none = none_blank n c none
-
-pub opening_is_blank : OpeningIsBlank
-opening_is_blank n room c none = none_blank _ c none
-
-pub asked_is_blank : AskedIsBlank
-asked_is_blank d m o k old =
-    let why = k.transfers in
-    subst (λ (f : Offered). AreBlank f.driver) (sym why.is)
-    (stages_blank why.endpoint.desc.name.way d.notes why.asked.stages why.endpoint.dummy (take (length why.asked.stages) (new_runs d why.holding_after)) (drop (length why.asked.stages) (new_runs d why.holding_after)) (asked_by d m o k) old)
-
-pub open_is_blank : OpenIsBlank
-open_is_blank d m o k old = subst (λ (f : Offered). AreBlank f.driver) (sym k.opens.is) old

@@ -27,19 +27,17 @@ use Rattle.run_owners.proofs.Accepted.{drop_first}
 use Rattle.run_owners.proofs.Released.{set_here, set_there}
 use Rattle.run_owners.proofs.Transferred.{are_new, goes_on_alive}
 use Rattle.lent_runs.specs.Lent.{begins_in, still_lends, AreLent}
-use Rattle.driver_rows.specs.Rows.{is_iso}
 use Rattle.lent_structures.specs.Structures.{Element as ElementAt, StructureSets}
 use Rattle.driver_laws.specs.Inventory.{IsLent}
-use Rattle.chained_transfers.specs.Bulk.{OnlyBulk}
-use Rattle.usb_base.specs.declared.endpoints.EpDesc.{EpDesc}
-use Rattle.driver_rows.specs.Words.{head_block, queue_head}
+use Rattle.chained_transfers.specs.Asynchronous.{OnlyAsynchronous}
+use Rattle.chained_transfers.proofs.BulkAndControl.{not_iso}
 use Rattle.ring_laws.specs.Told.{Endpoint as Told}
 use Rattle.chained_transfers.specs.Turns.{AreAtPlaces}
 use Rattle.chained_transfers.specs.Chains.{piece_at}
 use Rattle.chained_transfers.specs.Out.{pieces_from, unpublished, passed, out_of_transfer, out_of}
 use Rattle.chained_transfers.proofs.Chained.{pieces_same}
 use Rattle.chained_transfers.proofs.Queued.{not_dummy}
-use Rattle.fed_queues.specs.Fed.{IsPieceFed, unpublished_of, IsPublished}
+use Rattle.fed_queues.specs.Fed.{IsPieceFed, unpublished_of, IsPublished, sized}
 use Rattle.fed_queues.specs.Places.{IsLast}
 use Rattle.fed_lends.specs.Commands.{QueuesStand}
 use Rattle.fed_queues.proofs.Places.{SameLife, same_life, WasLike, SameQueues, met_stays, streams_stay}
@@ -97,10 +95,10 @@ dummy_in n rs = get_or (take n rs) (n - 1) 0
 abbrev pub notes_in : DriverContent → Asked → Endpoint → List ℕ → List QtdNote
 notes_in d a x rs = note_stages d.notes a.stages x.dummy (take (length a.stages) rs) (drop (length a.stages) rs)
 
-pub taken_on : (d : DriverContent) (m : Mem) (o : Offered) (why : Transfers d m o) → Stands (holding d.book m) → HasOwners d → AreLent d → OnlyBulk d
+pub taken_on : (d : DriverContent) (m : Mem) (o : Offered) (why : Transfers d m o) → Stands (holding d.book m) → HasOwners d → AreLent d → OnlyAsynchronous d
     → (IsLent (slot_of why.holding_after.book.slots (dummy_in (length why.asked.stages) (new_runs d why.holding_after))) → ⊥)
     → IsTakenOn d (slot_of why.holding_after.book.slots) why.number why.endpoint why.asked (dummy_in (length why.asked.stages) (new_runs d why.holding_after)) (notes_in d why.asked why.endpoint (new_runs d why.holding_after))
-taken_on d m o why stands owners lent bulk =
+taken_on d m o why stands owners lent only =
     let all = runs_taken (holding d.book m) why.holding_after (needs why.asked.stages) stands why.runs in
     let bs = all.blocks in
     let ss = why.asked.stages in
@@ -130,8 +128,8 @@ taken_on d m o why stands owners lent bulk =
           (λ j less. ap runs_of_note (subst (λ (c : ℕ). note_at notes c ≡ note_at d.notes c) (sym (piece_more (note_in d.notes) y.first i j))
           (same _ t (piece_placed (slot_of d.book.slots) owners.owner (note_in d.notes) t y.first y.qtds (pieces t y there held) (i + j) (omega (arith, below, less))))));
       slots = λ i z there still.
-          let s = bulk.endpoints i z there in
-          all.are.old z.dummy (placed_run z.dummy (Dummy i) (owners.owned.each.dummy i (runs_of_endpoint z) (ap (option_map runs_of_endpoint) there) (ap (λ k. is_iso k || z.gone) s.bulk.kind ∙ still)));
+          let s = only.endpoints i z there in
+          all.are.old z.dummy (placed_run z.dummy (Dummy i) (owners.owned.each.dummy i (runs_of_endpoint z) (ap (option_map runs_of_endpoint) there) (ap (λ k. k || z.gone) (not_iso z.desc s.asynchronous) ∙ still)));
       first_lent = not_taken d x.dummy lent why.idle (placed_run x.dummy (Dummy e) was);
       kept = not;
     } in
@@ -321,15 +319,15 @@ taken_stands d e x a h dummy notes member streams ends parts order out k places 
     zero_from c t y idle i = let none = same_unpublished c t y idle in omega (arith, none)
 
     moved : (t i : ℕ) (y : Transfer) (z : Endpoint) (w : WasEnd d y.endpoint z) → slice_get d.transfers t ≡ Some y → y.released ≡ false → i < y.qtds
-        → IsPieceFed y.sort (parts (32 * w.endpoint.queue)) (note_at d.notes (piece_at (note_in d.notes) y.first i)) (piece_at (note_in d.notes) y.first i) (piece_at (note_in d.notes) y.first y.qtds)
-        → IsPieceFed y.sort (parts (32 * z.queue)) (note_at notes (piece_at (note_in notes) y.first i)) (piece_at (note_in notes) y.first i) (piece_at (note_in notes) y.first y.qtds)
+        → IsPieceFed y.sort (parts (32 * w.endpoint.queue)) (sized y.sort i (note_at d.notes (piece_at (note_in d.notes) y.first i))) (piece_at (note_in d.notes) y.first i) (piece_at (note_in d.notes) y.first y.qtds)
+        → IsPieceFed y.sort (parts (32 * z.queue)) (sized y.sort i (note_at notes (piece_at (note_in notes) y.first i))) (piece_at (note_in notes) y.first i) (piece_at (note_in notes) y.first y.qtds)
     moved t i y z w older held below fed =
         let b = piece_at (note_in d.notes) y.first i in
         let last = piece_at (note_in d.notes) y.first y.qtds in
-        let one = subst (λ (n : QtdNote). IsPieceFed y.sort (parts (32 * w.endpoint.queue)) n b last) (sym (k.notes_same t i y older held below)) fed in
-        let two = subst (λ (c : ℕ). IsPieceFed y.sort (parts (32 * w.endpoint.queue)) (note_at notes c) c last) (sym (k.pieces_are t i y older held (omega (arith, below)))) one in
-        let three = subst (λ (c : ℕ). IsPieceFed y.sort (parts (32 * w.endpoint.queue)) (note_at notes (piece_at (note_in notes) y.first i)) (piece_at (note_in notes) y.first i) c) (sym (k.pieces_are t y.qtds y older held (omega arith))) two in
-        subst (λ (q : ℕ). IsPieceFed y.sort (parts (32 * q)) (note_at notes (piece_at (note_in notes) y.first i)) (piece_at (note_in notes) y.first i) (piece_at (note_in notes) y.first y.qtds)) (sym w.queue) three
+        let one = subst (λ (n : QtdNote). IsPieceFed y.sort (parts (32 * w.endpoint.queue)) (sized y.sort i n) b last) (sym (k.notes_same t i y older held below)) fed in
+        let two = subst (λ (c : ℕ). IsPieceFed y.sort (parts (32 * w.endpoint.queue)) (sized y.sort i (note_at notes c)) c last) (sym (k.pieces_are t i y older held (omega (arith, below)))) one in
+        let three = subst (λ (c : ℕ). IsPieceFed y.sort (parts (32 * w.endpoint.queue)) (sized y.sort i (note_at notes (piece_at (note_in notes) y.first i))) (piece_at (note_in notes) y.first i) c) (sym (k.pieces_are t y.qtds y older held (omega arith))) two in
+        subst (λ (q : ℕ). IsPieceFed y.sort (parts (32 * q)) (sized y.sort i (note_at notes (piece_at (note_in notes) y.first i))) (piece_at (note_in notes) y.first i) (piece_at (note_in notes) y.first y.qtds)) (sym w.queue) three
 
     newest : (t : ℕ) (y : Transfer) → t ≡ length d.transfers → unpublished_of f t y ≡ y.qtds
     newest t y at =

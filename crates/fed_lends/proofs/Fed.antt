@@ -33,7 +33,8 @@ use Rattle.driver_laws.specs.Published.{partly, IsPublishable}
 use Rattle.chained_transfers.specs.Chains.{piece_at}
 use Rattle.chained_transfers.specs.Bulk.{OnlyBulk}
 use Rattle.chained_transfers.specs.Out.{unpublished}
-use Rattle.fed_queues.specs.Fed.{IsPieceFed, unpublished_of, IsPublished, AreFed}
+use Rattle.fed_queues.specs.Fed.{is_request, sized, IsPieceFed, unpublished_of, IsPublished, AreFed}
+use Rattle.fed_queues.proofs.Sized.{told_size, way_told}
 use Rattle.driver_laws.specs.Pieces.{stage_qtd}
 use Rattle.driver_laws.specs.TransferLaws.{lent_driver, HasPieces}
 use Rattle.driver_laws.proofs.Lists.{IsOneOf}
@@ -82,6 +83,7 @@ still_fed d slot parts now y x s ss n b end sort note has p = record {
   long = ap length (buffers_same d slot parts now y x s ss n (32 * b) p.qtd has p.here) ∙ p.long;
   places = p.places;
   fresh = p.fresh;
+  blank = p.blank;
 }
 
 -- ---- other endpoints
@@ -141,7 +143,7 @@ newest_unpublished d m b words y t k same =
     ap (λ c. cond c (unpublished d.command 1 y.qtds) 0) last ∙ ap (λ (c : Option Command). unpublished c 1 y.qtds) k.command
 
 new_piece : (d : DriverContent) (m : Mem) (b : ℕ) (words : List ℕ) (parts now : StructureSets) (i : ℕ) → (l : IsLending d m b words parts now) → 1 ≤ i → i < l.ready.transfer.qtds
-    → IsPieceFed l.ready.transfer.sort (now (32 * l.ready.endpoint.queue)) (note_at d.notes (piece_at (note_in d.notes) l.ready.transfer.first i)) (piece_at (note_in d.notes) l.ready.transfer.first i) (piece_at (note_in d.notes) l.ready.transfer.first l.ready.transfer.qtds)
+    → IsPieceFed l.ready.transfer.sort (now (32 * l.ready.endpoint.queue)) (sized l.ready.transfer.sort i (note_at d.notes (piece_at (note_in d.notes) l.ready.transfer.first i))) (piece_at (note_in d.notes) l.ready.transfer.first i) (piece_at (note_in d.notes) l.ready.transfer.first l.ready.transfer.qtds)
 new_piece d m b words parts now zero l from below = absurd (omega (arith, from))
 new_piece d m b words parts now (suc i) l from below =
     let k = l.ready in
@@ -155,7 +157,7 @@ new_piece d m b words parts now (suc i) l from below =
     (omega (arith, below, many)))
 
 pieces_fed : (d : DriverContent) (m : Mem) (b : ℕ) (words : List ℕ) (parts now : StructureSets) → IsLending d m b words parts now → (t i : ℕ) (y : Transfer) (x : Endpoint) → slice_get d.transfers t ≡ Some y → y.released ≡ false → slice_get d.endpoints y.endpoint ≡ Some x → unpublished_of (lent_now d m) t y ≤ i → i < y.qtds
-    → IsPieceFed y.sort (now (32 * x.queue)) (note_at d.notes (piece_at (note_in d.notes) y.first i)) (piece_at (note_in d.notes) y.first i) (piece_at (note_in d.notes) y.first y.qtds)
+    → IsPieceFed y.sort (now (32 * x.queue)) (sized y.sort i (note_at d.notes (piece_at (note_in d.notes) y.first i))) (piece_at (note_in d.notes) y.first i) (piece_at (note_in d.notes) y.first y.qtds)
 pieces_fed d m b words parts now l t i y x there held here from below =
     let k = l.ready in
     ⊎_elim
@@ -164,12 +166,12 @@ pieces_fed d m b words parts now l t i y x there held here from below =
     let queue : x ≡ k.endpoint = same_Some x k.endpoint (sym here ∙ ap (λ (z : Transfer). slice_get d.endpoints z.endpoint) is ∙ k.here) in
     let one = newest_unpublished d m b words y t k same in
     let qtds = ap (λ (z : Transfer). z.qtds) is in
-    subst (λ (z : Endpoint). IsPieceFed y.sort (now (32 * z.queue)) (note_at d.notes (piece_at (note_in d.notes) y.first i)) (piece_at (note_in d.notes) y.first i) (piece_at (note_in d.notes) y.first y.qtds)) (sym queue)
-    (subst (λ (z : Transfer). IsPieceFed z.sort (now (32 * k.endpoint.queue)) (note_at d.notes (piece_at (note_in d.notes) z.first i)) (piece_at (note_in d.notes) z.first i) (piece_at (note_in d.notes) z.first z.qtds)) (sym is)
+    subst (λ (z : Endpoint). IsPieceFed y.sort (now (32 * z.queue)) (sized y.sort i (note_at d.notes (piece_at (note_in d.notes) y.first i))) (piece_at (note_in d.notes) y.first i) (piece_at (note_in d.notes) y.first y.qtds)) (sym queue)
+    (subst (λ (z : Transfer). IsPieceFed z.sort (now (32 * k.endpoint.queue)) (sized z.sort i (note_at d.notes (piece_at (note_in d.notes) z.first i))) (piece_at (note_in d.notes) z.first i) (piece_at (note_in d.notes) z.first z.qtds)) (sym is)
     (new_piece d m b words parts now i l (omega (arith, from, one)) (omega (arith, below, qtds)))))
     (λ (differs : t ≢ k.number).
     let none = older_published d m b t words y k differs in
-    still_fed d (slot_of (lent_driver d m).book.slots) parts now (y_of k) (x_of k) k.stage k.further (32 * x.queue) (piece_at (note_in d.notes) y.first i) (piece_at (note_in d.notes) y.first y.qtds) y.sort (note_at d.notes (piece_at (note_in d.notes) y.first i)) l.pieces
+    still_fed d (slot_of (lent_driver d m).book.slots) parts now (y_of k) (x_of k) k.stage k.further (32 * x.queue) (piece_at (note_in d.notes) y.first i) (piece_at (note_in d.notes) y.first y.qtds) y.sort (sized y.sort i (note_at d.notes (piece_at (note_in d.notes) y.first i))) l.pieces
     (l.fed.pieces t i y x there held here (omega (arith, none)) below))
     (cases_eq t k.number)
 
@@ -210,6 +212,7 @@ first_fed d m b words parts now l c ws command =
     let range = qtd_range k.stage (note_at d.notes first).next k.endpoint.dummy (note_at d.notes first).buffer (is_last k.further) r.pids.0 r.short.0 (blocks_low (holding d.book m) (note_at d.notes first) k.stage l.stands l.shape r.noted.0) in
     let is : p.qtd ≡ q = one_qtd p.qtd q p.range range (sym p.are ∙ both.1 ∙ k.are) in
     let none : d.made - 1 ≡ 0 = let e = k.made in omega (arith, e) in
+    let plain : is_request p.transfer.sort ≡ false = ap (λ (y : Transfer). is_request y.sort) transfer ∙ ap is_request k.sort ∙ way_told k.endpoint.desc.name.way in
     let told = stage_told (slot_of d.book.slots) k.endpoint.desc.name.way (note_at d.notes first) k.stage r.noted.0 k.stages.0 in
     let long : length (buffer_of (now n) q) ≡ (note_at d.notes first).told =
     long_new (slot_of d.book.slots) (now n) d.notes k.stage first k.endpoint.dummy (is_last k.further) r.noted.0 l.pieces.buffered.0 l.pieces.none_at_zero ∙ sym told in
@@ -232,9 +235,11 @@ first_fed d m b words parts now l c ws command =
       total = p.total;
       stored = l.pieces.still (32 * p.endpoint.queue) (32 * c) (Element (partly p.qtd 0)) (p.stored ∙ ap (λ (i : ℕ). Some (Element (partly p.qtd i))) none);
       places = p.places;
+      blank = p.blank;
       few = omega arith;
       long = λ some.
-          ap (λ (x : Endpoint). length (buffer_of (now (32 * x.queue)) p.qtd)) endpoint ∙ ap (λ (t : Qtd). length (buffer_of (now n) t)) is ∙ long ∙ ap (λ (i : ℕ). (note_at d.notes i).told) (sym block);
+          ap (λ (x : Endpoint). length (buffer_of (now (32 * x.queue)) p.qtd)) endpoint ∙ ap (λ (t : Qtd). length (buffer_of (now n) t)) is ∙ long ∙ ap (λ (i : ℕ). (note_at d.notes i).told) (sym block)
+          ∙ sym (told_size p.transfer.sort 0 (note_at d.notes c).told plain);
       may = λ some.
           subst (λ (x : Endpoint). IsPublishable (now (32 * x.queue)) (32 * c) p.qtd) (sym endpoint)
           (subst (λ (i : ℕ). IsPublishable (now n) (32 * i) p.qtd) (sym block) (subst (IsPublishable (now n) (32 * first)) (sym is) l.pieces.first));

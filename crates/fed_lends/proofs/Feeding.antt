@@ -19,7 +19,7 @@ use Rattle.lent_structures.specs.Sound.{HasBuffer}
 use Rattle.chained_transfers.specs.Chains.{piece_at}
 use Rattle.chained_transfers.specs.Bulk.{sort_by, stage_by}
 use Rattle.chained_transfers.proofs.Ways.{IsBy, its_told}
-use Rattle.fed_queues.specs.Fed.{alternate_by, IsNotedQtd, IsPieceFed}
+use Rattle.fed_queues.specs.Fed.{IsAlternate, IsNotedQtd, IsPieceFed}
 use Rattle.driver_laws.specs.Written.{AreRuns, next_blocks, last_block, IsStageNoted, AreNoted}
 use Rattle.driver_laws.specs.Pieces.{stage_qtd, AreStanding, AreBuffered}
 use Rattle.driver_laws.proofs.Lists.{IsOneOf}
@@ -109,8 +109,22 @@ later_block notes (s ∷ ss) b (suc i) below = inr (later_block notes ss (note_a
 pub stage_told : (slot : ℕ → Slot) (way : Way) (note : QtdNote) (s : Stage) → IsStageNoted slot note s → IsBy way s → note.told ≡ s.long
 stage_told slot way note s noted is = noted.told ∙ its_told way s is
 
+-- one of no bytes has no buffer
+pub noted_blank : (slot : ℕ → Slot) (note : QtdNote) (s : Stage) → IsStageNoted slot note s → s.long ≡ 0 → get_or note.buffer 0 0 ≡ 0
+noted_blank slot note s noted none =
+    first_none note.runs note.buffer (no_runs (take note.runs note.buffer) (subst (λ (n : ℕ). AreRuns slot (buffer_needs n) (take note.runs note.buffer)) none noted.runs)) noted.rest
+  where
+    no_runs : (cs : List ℕ) → AreRuns slot [] cs → cs ≡ []
+    no_runs [] are = refl
+    no_runs (c ∷ cs) are = absurd are
+
+    first_none : (n : ℕ) (bs : List ℕ) → take n bs ≡ [] → ((i : ℕ) → n ≤ i → get_or bs i 0 ≡ 0) → get_or bs 0 0 ≡ 0
+    first_none zero bs is rest = rest 0 (omega arith)
+    first_none (suc n) [] is rest = refl
+    first_none (suc n) (x ∷ xs) is rest = absurd cc
+
 -- a short packet leads a get to the end, and a put has none
-stage_alternate : (way : Way) (n next dummy end : ℕ) → end ≡ dummy → alternate_link (stage_by way n).alternate next dummy ≡ alternate_by (sort_by way) end
+stage_alternate : (way : Way) (n next dummy end : ℕ) → end ≡ dummy → IsAlternate (sort_by way) (alternate_link (stage_by way n).alternate next dummy) next end
 stage_alternate ways.In n next dummy end at = ap to_qtd (sym at)
 stage_alternate ways.Out n next dummy end at = refl
 stage_alternate ways.Ctl n next dummy end at = ap to_qtd (sym at)
@@ -118,7 +132,7 @@ stage_alternate ways.Ctl n next dummy end at = ap to_qtd (sym at)
 pub stage_noted : (way : Way) (notes : List QtdNote) (s : Stage) (b dummy end : ℕ) (last : Bool) → IsBy way s → end ≡ dummy → IsNotedQtd (sort_by way) (stage_qtd notes s b dummy last) (note_at notes b) end
 stage_noted way notes s b dummy end last is at = record {
   next = refl;
-  alternate = ap (λ (r : Stage). alternate_link r.alternate (note_at notes b).next dummy) is ∙ stage_alternate way s.long (note_at notes b).next dummy end at;
+  alternate = subst (λ (r : Stage). IsAlternate (sort_by way) (alternate_link r.alternate (note_at notes b).next dummy) (note_at notes b).next end) (sym is) (stage_alternate way s.long (note_at notes b).next dummy end at);
   offset = refl;
   page0 = refl;
   page1 = refl;
@@ -143,6 +157,7 @@ stage_fed way h part notes s b dummy end last stands noted is short here has non
       long = long_new slot part notes s b dummy last noted has none ∙ sym told;
       places = λ j below. places_new h (note_at notes b) s j stands noted short (omega (arith, below, told));
       fresh = λ on. sym told;
+      blank = λ none. noted_blank slot (note_at notes b) s noted (sym told ∙ none);
     }
 
 -- ---- all of them

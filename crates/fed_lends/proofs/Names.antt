@@ -22,13 +22,13 @@ use Rattle.driver_laws.specs.Inventory.{Sort, sort_of, sorts_of, OfElement, OfBu
 use Rattle.chained_transfers.specs.Chains.{piece_at}
 use Rattle.chained_transfers.specs.Out.{unpublished}
 use Rattle.driver_laws.specs.Published.{partly}
-use Rattle.fed_queues.specs.Fed.{IsNotedQtd, IsPieceFed, unpublished_of, AreFed}
+use Rattle.fed_queues.specs.Fed.{IsNotedQtd, IsPieceFed, sized, unpublished_of, AreFed}
 use Rattle.driver_laws.specs.Written.{next_blocks, buffer_blocks}
 use Rattle.driver_laws.specs.Pieces.{NamesRun, NamesLent}
 use Rattle.driver_laws.proofs.Lists.{IsOneOf, one_left}
 use Rattle.driver_laws.proofs.Buffers.{pages_from, name_at}
 use Rattle.driver_laws.proofs.TransferLending.{taken_keep}
-use Rattle.fed_lends.specs.ToLend.{IsToBeLent, AreBlank}
+use Rattle.fed_lends.specs.ToLend.{IsToBeLent}
 use Rattle.fed_lends.proofs.Feeding.{later_block}
 use Rattle.driver_rows.specs.Rows.{is_iso}
 use Rattle.usb_base.specs.declared.packets.EpKind.{EpKind}
@@ -67,16 +67,14 @@ buffer_run v _ _ _ kind (a_dummy e x is lent) = absurd (cc)
 buffer_run v _ _ _ kind (a_piece t b y x is piece lent) = absurd (cc)
 buffer_run v _ _ _ kind (a_buffer t b c cs y x is piece first lent) = record { block = c; is = refl; lent = lent }
 
-fed_name : (d : DriverContent) (parts : StructureSets) (n b end : ℕ) (sort : TransferSort) → IsDriven (views_of d) (sorts_of parts) → AreBlank d → (p : IsPieceFed sort (parts n) (note_at d.notes b) b end) → (buffer_name p.qtd ≡ 0) ⊎ NamesRun (slot_of d.book.slots) (buffer_name p.qtd)
-fed_name d parts n b end sort driven blank p =
+fed_name : (d : DriverContent) (parts : StructureSets) (n b end : ℕ) (sort : TransferSort) (note : QtdNote) → IsDriven (views_of d) (sorts_of parts) → (p : IsPieceFed sort (parts n) note b end) → (buffer_name p.qtd ≡ 0) ⊎ NamesRun (slot_of d.book.slots) (buffer_name p.qtd)
+fed_name d parts n b end sort note driven p =
     ⊎_elim
-    (λ (some : 0 < (note_at d.notes b).told).
+    (λ (some : 0 < note.told).
     let h = p.buffer some in
     inr (buffer_run (views_of d) n (buffer_name p.qtd) OfBuffer refl (driven.only n (buffer_name p.qtd) OfBuffer (ap (option_map sort_of) h.here))))
-    (λ (none : (note_at d.notes b).told ≤ 0).
-    let zero : get_or (note_at d.notes b).buffer 0 0 ≡ 0 = blank b (omega (arith, none)) in
-    inl (noted_name sort p.qtd (note_at d.notes b) end p.noted ∙ ap (λ (i : ℕ). 32 * i) zero))
-    (cases_lt 0 (note_at d.notes b).told)
+    (λ (none : note.told ≤ 0). inl (noted_name sort p.qtd note end p.noted ∙ ap (λ (i : ℕ). 32 * i) (p.blank (omega (arith, none)))))
+    (cases_lt 0 note.told)
 
 -- ---- each qTD
 
@@ -122,18 +120,18 @@ first_stands d m b words parts k fed =
 pub bare_kept : (k : EpKind) (gone : Bool) → (is_iso k || gone) ≡ false → gone ≡ false
 bare_kept k gone is = (or_parts (is_iso k) gone is).1
 
-element_name : (d : DriverContent) (m : Mem) (b : ℕ) (words : List ℕ) (parts : StructureSets) (n a : ℕ) (sort : Sort) (u : Qtd) → IsToBeLent d m b words → AreFed d parts → IsDriven (views_of d) (sorts_of parts) → AreBlank d → sort ≡ OfElement → IsDriverOwned (views_of d) n a sort → parts n a ≡ Some (Element u) → (buffer_name u ≡ 0) ⊎ NamesRun (slot_of d.book.slots) (buffer_name u)
-element_name d m b words parts _ _ _ u k fed driven blank kind the_list there = absurd (cc)
-element_name d m b words parts _ _ _ u k fed driven blank kind the_head there = absurd (cc)
-element_name d m b words parts _ _ _ u k fed driven blank kind (a_queue e x is lent) there = absurd (cc)
-element_name d m b words parts _ _ _ u k fed driven blank kind (a_buffer t c i cs y x is piece first lent) there = absurd (cc)
-element_name d m b words parts _ _ _ u k fed driven blank kind (a_dummy e x is lent) there =
+element_name : (d : DriverContent) (m : Mem) (b : ℕ) (words : List ℕ) (parts : StructureSets) (n a : ℕ) (sort : Sort) (u : Qtd) → IsToBeLent d m b words → AreFed d parts → IsDriven (views_of d) (sorts_of parts) → sort ≡ OfElement → IsDriverOwned (views_of d) n a sort → parts n a ≡ Some (Element u) → (buffer_name u ≡ 0) ⊎ NamesRun (slot_of d.book.slots) (buffer_name u)
+element_name d m b words parts _ _ _ u k fed driven kind the_list there = absurd (cc)
+element_name d m b words parts _ _ _ u k fed driven kind the_head there = absurd (cc)
+element_name d m b words parts _ _ _ u k fed driven kind (a_queue e x is lent) there = absurd (cc)
+element_name d m b words parts _ _ _ u k fed driven kind (a_buffer t c i cs y x is piece first lent) there = absurd (cc)
+element_name d m b words parts _ _ _ u k fed driven kind (a_dummy e x is lent) there =
     let o = mapped runs_of_endpoint (slice_get d.endpoints e) x is.here in
     let z = o.value in
     let dummy = fed.dummies e z o.here (bare_kept z.desc.kind z.gone (ap (λ (r : EndpointRuns). r.bare) o.is ∙ is.queued)) (subst (λ (r : EndpointRuns). IsLent (slot_of d.book.slots r.dummy)) (sym o.is) lent) in
     let here : parts (32 * z.queue) (32 * z.dummy) ≡ Some (Element u) = subst (λ (r : EndpointRuns). parts (32 * r.queue) (32 * r.dummy) ≡ Some (Element u)) (sym o.is) there in
     inl (ap buffer_name (found_element (parts (32 * z.queue) (32 * z.dummy)) u dummy_qtd here dummy))
-element_name d m b words parts _ _ _ u k fed driven blank kind (a_piece t c y x is piece lent) there =
+element_name d m b words parts _ _ _ u k fed driven kind (a_piece t c y x is piece lent) there =
     let note = note_in d.notes in
     let oy = mapped runs_of_transfer (slice_get d.transfers t) y is.here in
     let z = oy.value in
@@ -153,7 +151,7 @@ element_name d m b words parts _ _ _ u k fed driven blank kind (a_piece t c y x 
     (λ (differs : t ≢ k.number).
     let p = fed.pieces t i z w oy.here (ap (λ (r : TransferRuns). r.released) oy.is ∙ is.held) of_endpoint (let e = older_published d m b t words z k differs in omega (arith, e)) below in
     let same : p.qtd ≡ u = found_element (parts (32 * w.queue) (32 * piece_at note z.first i)) p.qtd u p.here here in
-    subst (λ (q : Qtd). (buffer_name q ≡ 0) ⊎ NamesRun (slot_of d.book.slots) (buffer_name q)) same (fed_name d parts (32 * w.queue) (piece_at note z.first i) (piece_at note z.first z.qtds) z.sort driven blank p))
+    subst (λ (q : Qtd). (buffer_name q ≡ 0) ⊎ NamesRun (slot_of d.book.slots) (buffer_name q)) same (fed_name d parts (32 * w.queue) (piece_at note z.first i) (piece_at note z.first z.qtds) z.sort (sized z.sort i (note_at d.notes (piece_at note z.first i))) driven p))
     (cases_eq t k.number)
   where
     newest : (z : Transfer) (w : Endpoint) (i : ℕ) → i < z.qtds → z ≡ k.transfer → slice_get d.endpoints z.endpoint ≡ Some w → parts (32 * w.queue) (32 * piece_at (note_in d.notes) z.first i) ≡ Some (Element u) → IsLent (slot_of d.book.slots (piece_at (note_in d.notes) z.first i)) → (buffer_name u ≡ 0) ⊎ NamesRun (slot_of d.book.slots) (buffer_name u)
@@ -166,6 +164,6 @@ element_name d m b words parts _ _ _ u k fed driven blank kind (a_piece t c y x 
     newest z w (suc i) below is at here lent =
         absurd (further_kept d m b i words k (subst (λ (y : Transfer). suc i < y.qtds) is below) (subst (λ (y : Transfer). IsLent (slot_of d.book.slots (piece_at (note_in d.notes) y.first (suc i)))) is lent))
 
-pub names_lent : (d : DriverContent) (m : Mem) (b : ℕ) (words : List ℕ) (parts : StructureSets) (n : ℕ) → IsToBeLent d m b words → AreFed d parts → IsDriven (views_of d) (sorts_of parts) → AreBlank d → NamesLent (slot_of d.book.slots) (parts n)
-names_lent d m b words parts n k fed driven blank a u there =
-    element_name d m b words parts n a OfElement u k fed driven blank refl (driven.only n a OfElement (ap (option_map sort_of) there)) there
+pub names_lent : (d : DriverContent) (m : Mem) (b : ℕ) (words : List ℕ) (parts : StructureSets) (n : ℕ) → IsToBeLent d m b words → AreFed d parts → IsDriven (views_of d) (sorts_of parts) → NamesLent (slot_of d.book.slots) (parts n)
+names_lent d m b words parts n k fed driven a u there =
+    element_name d m b words parts n a OfElement u k fed driven refl (driven.only n a OfElement (ap (option_map sort_of) there)) there

@@ -33,10 +33,12 @@ use Rattle.ring_laws.specs.Told.{Endpoint as Told}
 use Rattle.chained_transfers.specs.Bulk.{sort_by}
 use Rattle.chained_transfers.specs.InTurn.{TakesTurns}
 use Rattle.chained_transfers.specs.Chains.{piece_at}
+use Rattle.chained_transfers.proofs.BulkAndControl.{only_asynchronous}
 use Rattle.chained_transfers.proofs.Ways.{IsBy, its_told, its_pid, asked_by, asked_pids}
 use Rattle.chained_transfers.proofs.Chained.{pushed_last}
-use Rattle.fed_queues.specs.Fed.{IsNotedQtd, IsPublished}
-use Rattle.fed_lends.proofs.Feeding.{places_new, stage_noted}
+use Rattle.fed_queues.specs.Fed.{is_request, size_of, IsNotedQtd, IsPublished}
+use Rattle.fed_queues.proofs.Sized.{told_size, way_told}
+use Rattle.fed_lends.proofs.Feeding.{places_new, stage_noted, noted_blank}
 use Rattle.fed_lends.specs.Commands.{QueuesStand, AskedStands}
 use Rattle.fed_lends.proofs.Asked.{dummy_in, notes_in, taken_on, taken_stands}
 
@@ -87,6 +89,7 @@ published d m e x a h dummy notes parts k words sort here going stands shape r i
     let all : first_of a.stages ≡ k.first = ap first_of k.are in
     let first : IsBy way (first_of a.stages) = subst (IsBy way) (sym all) k.stage in
     let told : k.first.told ≡ k.first.long = its_told way k.first k.stage in
+    let all_told : size_of a.sort 0 note.told ≡ note.told = told_size a.sort 0 note.told (ap is_request sort ∙ way_told way) in
     let end : piece_at (note_in notes) b (length a.stages) ≡ dummy = ap (λ ss. piece_at (note_in notes) b (length ss)) k.are ∙ piece_last notes (k.first ∷ k.rest) b ∙ r.ends in
     record {
       number = length d.transfers;
@@ -106,11 +109,12 @@ published d m e x a h dummy notes parts k words sort here going stands shape r i
           (stage_noted way notes (first_of a.stages) b dummy (piece_at (note_in notes) b (length a.stages)) last first end);
       active = refl;
       pid = its_pid way (first_of a.stages) first;
-      total = ap (λ (s : Stage). s.long) all ∙ sym told ∙ sym r.noted.0.told;
+      total = ap (λ (s : Stage). s.long) all ∙ sym told ∙ sym r.noted.0.told ∙ sym all_told;
       stored = stored;
       places = λ j below.
           let noted_told = r.noted.0.told in
-          places_new (holding f.book (accepted_transfer d e x a h dummy notes).memory) note k.first j stands r.noted.0 r.short.0 (omega (arith, below, told, noted_told));
+          places_new (holding f.book (accepted_transfer d e x a h dummy notes).memory) note k.first j stands r.noted.0 r.short.0 (omega (arith, below, told, noted_told, all_told));
+      blank = λ none. noted_blank (slot_of f.book.slots) note k.first r.noted.0 (sym told ∙ sym r.noted.0.told ∙ sym all_told ∙ none);
       few = omega arith;
       long = λ some. absurd (omega (arith, some));
       may = λ some. absurd (omega (arith, some));
@@ -157,7 +161,7 @@ by_stages d m o member streams ends parts order out why k sort stands shape stan
     let fs : Stands (holding f.driver.book f.memory) = subst (λ (g : Offered). Stands (holding g.driver.book g.memory)) why.is stands_now in
     let fm : IsShaped f.memory = subst (λ (g : Offered). IsShaped g.memory) why.is shape_now in
     subst (λ (g : Offered). QueuesStand g.driver member streams ends parts order out) (sym why.is)
-    (taken_stands d e x a h dummy notes member streams ends parts order out (taken_on d m o why stands owners lent turns.bulk kept) turns.turns.places
+    (taken_stands d e x a h dummy notes member streams ends parts order out (taken_on d m o why stands owners lent (only_asynchronous d turns.bulk) kept) turns.turns.places
     (λ words is stored. published d m e x a h dummy notes parts k words sort why.here why.goes_on fs fm now is stored) old)
 
 pub asked_stands : AskedStands

@@ -11,14 +11,13 @@ use Rattle.driver_rows.specs.declared.rows.DriverRow.{DriverRow}
 use Rattle.driver_rows.specs.declared.rows.DriverRow.TheVariants as rows
 use Rattle.driver_rows.specs.declared.content.Stage.{Stage}
 use Rattle.driver_rows.specs.DriverContent.{DriverContent}
-use Rattle.driver_rows.specs.Words.{head_block}
 use Rattle.driver_rows.specs.Rows.{Parts as DriverParts, events_of, links, finished, linked_on, row_for, command_row, driver_row, advanced_by, advance, after_driver_row}
 use Rattle.ring_laws.specs.Together.{put_all}
 use Rattle.ring_laws.specs.Bus.{Sender}
 use Rattle.driver_laws.specs.Driven.{DrivesRing}
 use Rattle.chained_transfers.specs.Bulk.{receives, OnlyBulk}
 use Rattle.chained_transfers.proofs.Ways.{IsBy, its_pid, all_of_all, receives_pid, sends_pid}
-use Rattle.fed_queues.specs.Places.{HasHead, AreMet, HaveStreams}
+use Rattle.fed_queues.specs.Places.{AreMet, HaveStreams}
 use Rattle.ring_laws.specs.Told.{Endpoint as Told}
 use Rattle.driver_laws.specs.TransferLaws.{lent_memory, lent_driver, items_of}
 use Rattle.driver_laws.proofs.Lends.{lend_drives}
@@ -78,14 +77,14 @@ its_asks {d = d} {m = m} {b = b} {words = words} bulk k have =
 -- ---- the whole
 
 pub lend_row_goes_on : {W : Type 0} (sender : W → ℕ → ℕ → Option Sender) → LendRowGoesOn sender
-lend_row_goes_on sender base stream packets member streams heads ends acc reported hand wire parts order out w p b words k has stands bulk turns blank drives piped reports fed last still_out met have counted =
+lend_row_goes_on sender base stream packets member streams heads ends acc reported hand wire parts order out w p b words k has stands bulk turns drives piped reports fed last still_out met have counted =
     let d = p.driver in
     let m = p.memory in
     let y = y_of k in
     let x = x_of k in
     let n = 32 * k.endpoint.queue in
     let now = put_all parts n (items_of d m y x k.stage k.further) in
-    let both = lend_drives base member parts hand w p.registers m d k.number y x k.stage k.further k.awaits has stands drives (names_lent d m b words parts n k fed drives.driven blank) in
+    let both = lend_drives base member parts hand w p.registers m d k.number y x k.stage k.further k.awaits has stands drives (names_lent d m b words parts n k fed drives.driven) in
     let l : IsLending d m b words parts now = record { ready = k; has = has; stands = stands; shape = drives.ring.tells.shape; bulk = bulk; fed = fed; pieces = both.1 } in
     let on = met.each k.transfer.endpoint k.endpoint k.here (it_is_met d m b words bulk k) in
     let o : IsOrdering d m b words parts now member heads order out hand acc reported = record {

@@ -1,18 +1,15 @@
 -- A get or put that was accepted is to be lent, and stays so until it is (EHCI 1.0, 3.5 and 4.10).
---     AskedIsToBeLent, ToBeLentStays               the laws
---     OpeningIsBlank, AskedIsBlank, OpenIsBlank    a qTD that asks for no bytes is noted without a buffer
+--     AskedIsToBeLent, ToBeLentStays     the laws
 use Rattle.std.specs.Prelude.{◌≡◌, ℕ, false, List, Some}
 use Rattle.word_mem.specs.Memory.{Mem, IsShaped, word_at, reaches}
 use Rattle.run_book.specs.Book.{holding, Stands}
-use Rattle.driver_rows.specs.declared.content.Reserve.{Reserve}
 use Rattle.driver_rows.specs.declared.content.Command.TheVariants as unfinished
 use Rattle.driver_rows.specs.DriverContent.{DriverContent}
 use Rattle.driver_rows.specs.Offers.{Offered}
-use Rattle.driver_rows.specs.Opening.{opening}
 use Rattle.run_owners.specs.Kept.{HasOwners}
 use Rattle.lent_runs.specs.Lent.{AreLent}
-use Rattle.chained_transfers.specs.Accepted.{IsOpened, IsAsked}
-use Rattle.fed_lends.specs.ToLend.{IsToBeLent, AreBlank}
+use Rattle.chained_transfers.specs.Accepted.{IsAsked}
+use Rattle.fed_lends.specs.ToLend.{IsToBeLent}
 
 abbrev pub AskedIsToBeLent : Type 0
 AskedIsToBeLent = (d : DriverContent) (m : Mem) (o : Offered) → IsAsked d m o → HasOwners d → AreLent d → Stands (holding d.book m) → IsShaped m
@@ -21,12 +18,3 @@ AskedIsToBeLent = (d : DriverContent) (m : Mem) (o : Offered) → IsAsked d m o 
 abbrev pub ToBeLentStays : Type 0
 ToBeLentStays = (d : DriverContent) (m new : Mem) (b : ℕ) (words : List ℕ) → IsToBeLent d m b words → Stands (holding d.book m)
     → ((at : ℕ) → reaches m at ≡ false → word_at new at ≡ word_at m at) → IsToBeLent d new b words
-
-abbrev pub OpeningIsBlank : Type 0
-OpeningIsBlank = (n : ℕ) (room : Reserve) → AreBlank (opening n room).driver
-
-abbrev pub AskedIsBlank : Type 0
-AskedIsBlank = (d : DriverContent) (m : Mem) (o : Offered) → IsAsked d m o → AreBlank d → AreBlank o.driver
-
-abbrev pub OpenIsBlank : Type 0
-OpenIsBlank = (d : DriverContent) (m : Mem) (o : Offered) → IsOpened d m o → AreBlank d → AreBlank o.driver

@@ -20,7 +20,7 @@ use Rattle.chained_transfers.specs.Bulk.{OnlyBulk}
 use Rattle.chained_transfers.specs.Turns.{AreInTurn}
 use Rattle.fed_queues.specs.Fed.{AreFed}
 use Rattle.fed_queues.specs.Places.{AreMet, HaveStreams, AreLast, AreStillOut, IsThere}
-use Rattle.fed_lends.specs.ToLend.{IsToBeLent, AreBlank}
+use Rattle.fed_lends.specs.ToLend.{IsToBeLent}
 
 pub record GoesOnLent {W : Type 0} (sender : W → ℕ → ℕ → Option Sender) (base : Base) (stream : ℕ → ℕ → Bool) (packets : ℕ → ℕ → List (List ℕ)) (member streams heads : ℕ → Bool) (ends : ℕ → Endpoint)
     (acc : ℕ → List (List ℕ)) (reported : ℕ → List ℕ) (hand : Hand) (wire : W) (w : Walk) (p : DriverParts) : Type 0 where
@@ -40,7 +40,7 @@ abbrev pub LendRowGoesOn : {W : Type 0} → (W → ℕ → ℕ → Option Sender
 LendRowGoesOn {W} sender = (base : Base) (stream : ℕ → ℕ → Bool) (packets : ℕ → ℕ → List (List ℕ)) (member streams heads : ℕ → Bool) (ends : ℕ → Endpoint) (acc : ℕ → List (List ℕ))
     (reported : ℕ → List ℕ) (hand : Hand) (wire : W)
     (parts : StructureSets) (order : ℕ → ℕ → ℕ) (out : ℕ → List ℕ) (w : Walk) (p : DriverParts) (b : ℕ) (words : List ℕ) → IsToBeLent p.driver p.memory b words
-    → HasOwners p.driver → Stands (holding p.driver.book p.memory) → OnlyBulk p.driver → AreInTurn p.driver → AreBlank p.driver
+    → HasOwners p.driver → Stands (holding p.driver.book p.memory) → OnlyBulk p.driver → AreInTurn p.driver
     → DrivesRing base member parts hand (place w p.registers p.memory) p.driver → ArePiped stream packets sender member streams ends acc parts hand wire
     → AreReported heads order out hand parts acc reported → AreFed p.driver parts → AreLast p.driver parts order → AreStillOut p.driver out
     → AreMet p.driver member → HaveStreams p.driver streams ends

@@ -1,9 +1,8 @@
 -- The get or put that is to be lent next, as the driver's content tells it (EHCI 1.0, 3.5 and 4.10): its command is unfinished, and none of its events is made.
 --     AreStagesBy way ss     the stages are those of a get or a put
 --     IsToBeLent d m b words the newest transfer is such a one, whose first qTD is to stand in block b with these words, and all else of it is written
---     AreBlank d             a qTD that asks for no bytes was noted without a buffer
 --     lent_now d m           the content once it is lent
-use Rattle.std.specs.Prelude.{◌≡◌, ℕ, suc, false, List, ◌∷◌, length, slice_get, slice_index, Some, None}
+use Rattle.std.specs.Prelude.{◌≡◌, ℕ, suc, false, List, ◌∷◌, length, slice_get, Some, None}
 use Rattle.std.specs.List.{AllByRecursion}
 use Rattle.usb_base.specs.declared.packets.Way.{Way}
 use Rattle.word_mem.specs.Memory.{Mem}
@@ -13,7 +12,6 @@ use Rattle.driver_rows.specs.declared.content.Transfer.{Transfer}
 use Rattle.driver_rows.specs.declared.content.Stage.{Stage}
 use Rattle.driver_rows.specs.declared.content.Command.TheVariants as unfinished
 use Rattle.driver_rows.specs.DriverContent.{DriverContent}
-use Rattle.driver_rows.specs.Harvests.{note_at}
 use Rattle.driver_rows.specs.Offers.{is_last}
 use Rattle.run_owners.specs.Owners.{runs_of_endpoint, runs_of_transfer}
 use Rattle.driver_laws.specs.Written.{AwaitsLend}
@@ -44,9 +42,6 @@ pub record IsToBeLent (d : DriverContent) (m : Mem) (b : ℕ) (words : List ℕ)
   pub stages : AreStagesBy endpoint.desc.name.way (stage ∷ further)
   pub sort : transfer.sort ≡ sort_by endpoint.desc.name.way
   pub are : words ≡ qtd_words (stage_qtd d.notes stage transfer.first endpoint.dummy (is_last further))
-
-abbrev pub AreBlank : DriverContent → Type 0
-AreBlank d = (b : ℕ) → (note_at d.notes b).told ≡ 0 → slice_index (note_at d.notes b).buffer 0 ≡ 0
 
 -- one event of the command is made
 abbrev pub lent_now : DriverContent → Mem → DriverContent

@@ -1,7 +1,7 @@
 //! The laws.
 ghost use Rattle.fed_lends.specs.Streams.{LendLeavesReports, LendEndsQueue, LendLeavesPipes};
 ghost use Rattle.fed_lends.specs.LendLaws.{LendRowGoesOn};
-ghost use Rattle.fed_lends.specs.Accepted.{AskedIsToBeLent, ToBeLentStays, OpeningIsBlank, AskedIsBlank, OpenIsBlank};
+ghost use Rattle.fed_lends.specs.Accepted.{AskedIsToBeLent, ToBeLentStays};
 ghost use Rattle.std.specs.Prelude.{ℕ, Option};
 ghost use Rattle.ring_laws.specs.Bus.{Sender};
 
@@ -24,12 +24,8 @@ pub fn a_lend_row_goes_on<W: Wire>()
     ensures { (sender : W → ℕ → ℕ → Option Sender) → LendRowGoesOn sender }
 {}
 
-/// Once a get or a put was accepted it is to be lent; the controller leaves it. Of a qTD that asks for no bytes no buffer is noted: so it is of a driver that was
-/// just built, and each command that is accepted leaves it so.
+/// Once a get or a put was accepted it is to be lent; the controller leaves it.
 pub fn a_transfer_is_to_be_lent()
     ensures accepted { AskedIsToBeLent }
     ensures stays { ToBeLentStays }
-    ensures opening { OpeningIsBlank }
-    ensures asked { AskedIsBlank }
-    ensures opens { OpenIsBlank }
 {}

@@ -8,7 +8,9 @@ use Rattle.driver_rows.specs.Words.{head_block, queue_head}
 use Rattle.endpoint_lives.proofs.Lives.{linked_met, met_alike}
 use Rattle.ring_laws.specs.Told.{Endpoint as Told, endpoint_of}
 use Rattle.chained_transfers.specs.Bulk.{receives, IsStanding}
-use Rattle.chained_transfers.proofs.Staying.{alive, going_linked}
+use Rattle.chained_transfers.specs.Asynchronous.{StandsAsynchronous}
+use Rattle.chained_transfers.proofs.BulkAndControl.{standing}
+use Rattle.chained_transfers.proofs.Staying.{stands_alive, stands_linked}
 use Rattle.fed_queues.specs.Places.{IsThere, IsMet, HasHead, HasThere, AreMet, HaveStreams}
 
 -- ---- one endpoint
@@ -38,8 +40,11 @@ pub met_as : (d f : DriverContent) (e : ℕ) (x z : Endpoint) → SameRing d f �
 met_as d f e x z s l m = record { there = there_as d f x z s l m.there; near = met_alike d f e x z l.linked s.waiting s.rung ∙ m.near }
 
 -- one that goes on is met
+pub stands_met : (d : DriverContent) (e : ℕ) (x : Endpoint) → StandsAsynchronous x → x.ended ≡ None → d.command ≢ Some (unfinished.Open x.queue) → IsMet d e x
+stands_met d e x s goes linked = record { there = record { linked = linked; kept = stands_alive x s goes }; near = linked_met d e x (stands_linked x s goes) }
+
 pub going_met : (d : DriverContent) (e : ℕ) (x : Endpoint) → IsStanding x → x.ended ≡ None → d.command ≢ Some (unfinished.Open x.queue) → IsMet d e x
-going_met d e x s goes linked = record { there = record { linked = linked; kept = alive x s goes }; near = linked_met d e x (going_linked x s goes) }
+going_met d e x s = stands_met d e x (standing x s)
 
 -- ---- all of them
 

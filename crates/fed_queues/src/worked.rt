@@ -3,8 +3,8 @@ ghost use Rattle.std.specs.Prelude.{◌≡◌};
 ghost use Rattle.link_words.specs.Links.{no_qtd};
 ghost use Rattle.driver_rows.specs.declared.content.Sort.TheVariants as sorts;
 ghost use Rattle.lent_structures.specs.Sound.{buffer_name};
-ghost use Rattle.fed_queues.specs.Fed.{IsNotedQtd};
-ghost use Rattle.fed_queues.specs.Worked.{noted, written, sent};
+ghost use Rattle.fed_queues.specs.Fed.{IsNotedQtd, IsPieceFed, sized};
+ghost use Rattle.fed_queues.specs.Worked.{noted, written, sent, setup_noted, setup_part};
 
 /// A qTD as it is written is the one that was noted; its buffer begins in the first of its runs.
 pub fn written_as_noted()
@@ -17,4 +17,10 @@ pub fn sent_as_noted()
     ensures noted { IsNotedQtd sorts.Put sent noted 143 }
     ensures alternate { sent.alternate ≡ no_qtd }
     ensures buffer { buffer_name sent ≡ 8352 }
+{}
+
+/// The first qTD of a request sends the eight bytes of its SETUP, of which its note tells none.
+pub fn a_setup_is_fed()
+    ensures told { setup_noted.told ≡ 0 }
+    ensures fed { IsPieceFed sorts.Request setup_part (sized sorts.Request 0 setup_noted) 141 143 }
 {}

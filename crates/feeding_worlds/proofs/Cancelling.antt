@@ -75,6 +75,7 @@ refused_queues d line name why member streams ends parts order out old = record 
       total = p.total;
       stored = p.stored;
       places = p.places;
+      blank = p.blank;
       few = p.few;
       long = p.long;
       may = p.may;

@@ -22,6 +22,7 @@ use Rattle.run_owners.specs.Owners.{EndpointRuns, runs_of_endpoint}
 use Rattle.run_owners.specs.Due.{IsDue, IsHarvestDue}
 use Rattle.run_owners.proofs.Reasons.{each_is_due}
 use Rattle.chained_transfers.specs.Out.{out_now}
+use Rattle.chained_transfers.proofs.BulkAndControl.{bulk_takes_turns}
 use Rattle.chained_transfers.proofs.Events.{event_turns}
 use Rattle.controlled_streams.specs.Reported.{IsReported, AreReported}
 use Rattle.bus_world.specs.World.{World, driver_parts, driver_next}
@@ -42,7 +43,7 @@ use Rattle.feeding_worlds.specs.HarvestFeeds.{HarvestLeaves as Leaves}
 use Rattle.feeding_worlds.proofs.FeedingPassed.{passed_untold}
 use Rattle.feeding_worlds.proofs.Told.{there_by, has_there}
 use Rattle.feeding_worlds.proofs.Heads.{queue_reported, rising, right_of}
-use Rattle.standing_fronts.proofs.Rows.{harvest_keeps}
+use Rattle.standing_fronts.proofs.Rows.{bulk_unstalled, harvest_keeps}
 use Rattle.bus_world.specs.World.{with_parts}
 use Rattle.run_owners.specs.Kept.{HasOwners}
 use Rattle.chained_transfers.specs.InTurn.{TakesTurns}
@@ -114,7 +115,7 @@ module _ (fixed : Fixed) (member : ℕ → Bool) (x : Streams) (s : Standing) (w
 
   fronts_then : (later : ℕ → List ℕ) → AreStillOut new.driver later → FrontsStand new.driver s.parts s.order later
   fronts_then later still =
-      harvest_keeps (driver_parts w) e t found s.parts s.order s.out later due owners f.turns f.working.streaming.controlled.ring.tells f.queues.fed (rising fixed member x s w f) f.queues.out_are still fronts
+      harvest_keeps (driver_parts w) e t found s.parts s.order s.out later due owners (bulk_takes_turns w.driver f.turns) (bulk_unstalled due.endpoint.desc.kind found (f.turns.bulk.endpoints e due.endpoint due.here).bulk.kind) f.working.streaming.controlled.ring.tells f.queues.fed (rising fixed member x s w f) f.queues.out_are still fronts
 
   -- ---- it isn't done
 
@@ -144,7 +145,7 @@ module _ (fixed : Fixed) (member : ℕ → Bool) (x : Streams) (s : Standing) (w
 
   reports : found ≢ founds.Active → HarvestReports (s.order (32 * due.endpoint.queue)) w.driver new.driver s.hand s.parts e due.endpoint (s.acc (32 * due.endpoint.queue)) s.reported
   reports differs =
-      row_told member (s.order (32 * due.endpoint.queue)) (driver_parts w) s.parts s.hand e t found (s.acc (32 * due.endpoint.queue)) s.reported due differs owners f.turns f.queues.fed f.working.streaming.controlled.ring.tells
+      row_told member (s.order (32 * due.endpoint.queue)) (driver_parts w) s.parts s.hand e t found (s.acc (32 * due.endpoint.queue)) s.reported due differs owners (bulk_takes_turns w.driver f.turns) (f.turns.bulk.endpoints e due.endpoint due.here).bulk.kind f.queues.fed f.working.streaming.controlled.ring.tells
       (f.working.streaming.controlled.ring.members (32 * due.endpoint.queue) (f.queues.met.each e due.endpoint due.here met))
       (λ a z earlier of_it. passed_untold w.driver s.parts s.hand s.order s.out e t due.endpoint a z due.idle f.turns.turns f.queues.out_are fronts due.here met due.goes_on due.next earlier of_it) told right_now
 

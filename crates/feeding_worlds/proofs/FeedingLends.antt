@@ -1,5 +1,5 @@
 -- The driver of a world lends a transfer.
-use Rattle.std.proofs.Common.{◌≡◌, ℕ, true, List, Option, Some, ap, sym, subst, ◌∙◌}
+use Rattle.std.proofs.Common.{◌≡◌, ℕ, true, List, Option, Some, ap, sym, ◌∙◌}
 use Rattle.driver_rows.specs.declared.content.Command.{Command}
 use Rattle.driver_rows.specs.declared.content.Command.TheVariants as unfinished
 use Rattle.driver_rows.specs.Rows.{Parts as DriverParts}
@@ -12,7 +12,7 @@ use Rattle.scripted_streams.specs.Senders.{sender_of}
 use Rattle.bus_world.specs.World.{World, driver_parts, driver_next}
 use Rattle.stream_worlds.specs.Streaming.{wired}
 use Rattle.chained_transfers.proofs.Events.{event_turns}
-use Rattle.fed_lends.specs.ToLend.{IsToBeLent, AreBlank}
+use Rattle.fed_lends.specs.ToLend.{IsToBeLent}
 use Rattle.fed_lends.proofs.Row.{after_is}
 use Rattle.lent_fronts.proofs.Row.{lend_row_leaves_fronts}
 use Rattle.feeding_worlds.specs.Feeding.{there_of}
@@ -30,13 +30,13 @@ lent_there w b words k n on =
     never_opens c is = cc
 
 pub lend_feeds : LendFeeds
-lend_feeds fixed member x s w b words lent blank f fronts runs =
+lend_feeds fixed member x s w b words lent f fronts runs =
     let k = f.working in
     let p = driver_parts w in
     let sound = k.place.sound in
     let old : DrivesRing opening_base member s.parts s.hand (place w.control.walk p.registers p.memory) p.driver = record { ring = k.streaming.controlled.ring; driven = k.driven } in
     let g = lend_row_leaves_fronts sender_of opening_base x.stream x.packets member x.streams (there_of w.driver) x.endpoint s.acc s.reported s.hand (wired fixed w) s.parts s.order s.out w.control.walk p b words lent
-    sound.owners sound.stands f.turns.bulk f.turns.turns blank old k.streaming.piped f.counted f.queues fronts k.place.lent runs (there_on w.driver) in
+    sound.owners sound.stands f.turns.bulk f.turns.turns old k.streaming.piped f.counted f.queues fronts k.place.lent runs (there_on w.driver) in
     record {
       parts = g.parts;
       order = g.order;
@@ -71,7 +71,6 @@ lend_feeds fixed member x s w b words lent blank f fronts runs =
       fronts = g.fronts;
       runs = g.runs;
       reaches = g.reaches;
-      blank = subst (λ (q : DriverParts). AreBlank q.driver) (sym (after_is p b words lent)) blank;
       driver_is = ap (λ (q : DriverParts). q.driver) (after_is p b words lent);
       behind = g.behind;
       still = g.still;

@@ -14,7 +14,7 @@ use Rattle.bus_world.specs.World.{World, driver_next}
 use Rattle.stream_worlds.specs.Streaming.{Streams, Standing}
 use Rattle.released_queues.specs.Fronts.{FrontsStand}
 use Rattle.standing_fronts.specs.Reaching.{Reaches}
-use Rattle.fed_lends.specs.ToLend.{IsToBeLent, AreBlank, lent_now}
+use Rattle.fed_lends.specs.ToLend.{IsToBeLent, lent_now}
 use Rattle.lent_fronts.specs.Whole.{IsLentBehind}
 use Rattle.feeding_worlds.specs.Feeding.{IsFeeding}
 
@@ -28,7 +28,6 @@ pub record LendsTransfer (fixed : Fixed) (member : ℕ → Bool) (x : Streams) (
   pub reaches : (e : ℕ) (z : Endpoint) (c : ℕ) → slice_get w.driver.endpoints e ≡ Some z → z.gone ≡ false → IsElement (s.parts (32 * z.queue)) c
       → Reaches w.driver (s.parts (32 * z.queue)) (s.order (32 * z.queue)) (s.out (32 * z.queue)) e z c
       → Reaches (driver_next w).driver (parts (32 * z.queue)) (order (32 * z.queue)) (out (32 * z.queue)) e z c
-  pub blank : AreBlank (driver_next w).driver
   pub behind : IsLentBehind w.driver w.memory s.parts parts s.order order s.out out
   pub driver_is : (driver_next w).driver ≡ lent_now w.driver w.memory
   pub still : (n a : ℕ) (u : Structure) → s.parts n a ≡ Some u → parts n a ≡ Some u
@@ -36,5 +35,5 @@ pub record LendsTransfer (fixed : Fixed) (member : ℕ → Bool) (x : Streams) (
   pub elements : (n a : ℕ) (u : Qtd) → s.parts n a ≡ Some (Element u) → SparesElement s.parts parts n a
 
 abbrev pub LendFeeds : Type 0
-LendFeeds = (fixed : Fixed) (member : ℕ → Bool) (x : Streams) (s : Standing) (w : World) (b : ℕ) (words : List ℕ) → IsToBeLent w.driver w.memory b words → AreBlank w.driver
+LendFeeds = (fixed : Fixed) (member : ℕ → Bool) (x : Streams) (s : Standing) (w : World) (b : ℕ) (words : List ℕ) → IsToBeLent w.driver w.memory b words
     → IsFeeding fixed member x s w → FrontsStand w.driver s.parts s.order s.out → AreInRuns (views_of w.driver) s.parts → LendsTransfer fixed member x s w

@@ -7,42 +7,47 @@ use Rattle.lent_structures.specs.Structures.{Structures, StructureSets, Tells}
 use Rattle.lent_structures.specs.Sound.{IsMember}
 use Rattle.ring_laws.specs.Hand.{Hand}
 use Rattle.ring_laws.specs.Told.{Told}
+use Rattle.usb_base.specs.declared.packets.EpKind.{EpKind}
+use Rattle.usb_base.specs.declared.packets.EpKind.TheVariants as kinds
+use Rattle.usb_base.specs.declared.packets.Way.{Way}
+use Rattle.usb_base.specs.declared.packets.Way.TheVariants as ways
 use Rattle.driver_rows.specs.declared.content.Endpoint.{Endpoint}
 use Rattle.driver_rows.specs.declared.content.Transfer.{Transfer}
 use Rattle.driver_rows.specs.declared.content.QtdNote.{QtdNote}
 use Rattle.driver_rows.specs.declared.content.Command.{Command}
-use Rattle.driver_rows.specs.declared.content.Command.TheVariants as unfinished
 use Rattle.driver_rows.specs.declared.content.Sort.{Sort}
 use Rattle.driver_rows.specs.declared.rows.DriverRow.TheVariants as rows
 use Rattle.driver_rows.specs.declared.rows.Found.{Found}
 use Rattle.driver_rows.specs.declared.rows.Found.TheVariants as founds
 use Rattle.driver_rows.specs.DriverContent.{DriverContent, waits_for}
 use Rattle.driver_rows.specs.Harvests.{note_at, token_in, moved_of, halt_of, done_of, ends_by}
-use Rattle.driver_rows.specs.Rows.{Parts, served, after_harvest, after_driver_row, is_iso}
+use Rattle.driver_rows.specs.Rows.{Parts, served, after_harvest, after_driver_row}
 use Rattle.run_owners.specs.Owners.{Element, QueueHead, IsPlaced, is_descriptor, runs_of_endpoint, runs_of_transfer, note_in}
 use Rattle.run_owners.specs.Kept.{HasOwners}
 use Rattle.run_owners.specs.Due.{IsHarvestDue}
 use Rattle.chained_transfers.specs.Chains.{piece_at}
-use Rattle.chained_transfers.specs.Bulk.{IsStanding}
 use Rattle.chained_transfers.specs.Turns.{IsAtPlace, Turn, turn_of, turn_in, AreReportedTo}
-use Rattle.chained_transfers.specs.InTurn.{TakesTurns}
+use Rattle.chained_transfers.specs.Asynchronous.{IsKindOf, sort_of}
+use Rattle.chained_transfers.specs.AsynchronousTurns.{AsynchronousTakesTurns}
 use Rattle.chained_transfers.specs.Out.{out_now, unpublished}
-use Rattle.chained_transfers.proofs.Ways.{moves_queued, found_by}
+use Rattle.chained_transfers.proofs.BulkAndControl.{not_iso, moves_queued_of}
+use Rattle.chained_transfers.proofs.Ways.{found_by}
 use Rattle.told_harvests.specs.Held.{IsOneFrom, IsRead, AreRead}
 use Rattle.harvest_laws.specs.Holds.{IsNextOf}
 use Rattle.harvest_laws.specs.RowLaws.{IsReadNext}
 use Rattle.harvest_laws.specs.Outs.{IsOutEarlier}
 use Rattle.harvest_laws.proofs.Places.{one_later, owner_is}
 use Rattle.controlled_streams.specs.Reported.{IsReported}
-use Rattle.fed_queues.specs.Fed.{AreFed, IsPieceFed, unpublished_of}
+use Rattle.fed_queues.specs.Fed.{AreFed, IsPieceFed, unpublished_of, is_request}
+use Rattle.fed_queues.proofs.Sized.{told_fed}
 use Rattle.harvest_laws.specs.Told.{ToldStands}
 use Rattle.harvest_laws.specs.ToldLaws.{HarvestReports}
 use Rattle.harvest_laws.proofs.Standing.{alike_told}
 use Rattle.harvest_laws.proofs.ToldHarvesting.{harvested_told}
 use Rattle.endpoint_lives.specs.Lives.{told_end}
 use Rattle.endpoint_lives.proofs.Lives.{none_told}
-use Rattle.chained_transfers.proofs.Staying.{told_alive}
-use Rattle.chained_transfers.proofs.Holding.{unreleased}
+use Rattle.chained_transfers.proofs.Staying.{told_stands_alive}
+use Rattle.chained_transfers.proofs.Holding.{stands_unreleased}
 
 waits_by : (a b : Bool) → (a && not b) ≡ true → (a ≡ true) × (b ≡ false)
 waits_by true false is = (refl, refl)
@@ -73,10 +78,16 @@ same_element t u is = cc
 same_head : (e k : ℕ) → QueueHead e ≡ QueueHead k → e ≡ k
 same_head e k is = cc
 
-module _ (p : Parts) (e t : ℕ) (found : Found) (due : IsHarvestDue p e t found) (owners : HasOwners p.driver) (turns : TakesTurns p.driver) where
+-- a bulk endpoint takes no requests
+no_request : (way : Way) (kind : EpKind) → IsKindOf way kind → kind ≡ kinds.Bulk → is_request (sort_of way) ≡ false
+no_request ways.In kind is bulk = refl
+no_request ways.Out kind is bulk = refl
+no_request ways.Ctl kind is bulk = absurd (let both : kinds.Control ≡ kinds.Bulk = sym is ∙ bulk in cc)
+
+module _ (p : Parts) (e t : ℕ) (found : Found) (due : IsHarvestDue p e t found) (owners : HasOwners p.driver) (turns : AsynchronousTakesTurns p.driver) where
   -- what isn't reported of an endpoint that goes on isn't given back
   kept : (u : ℕ) (z : Transfer) (w : Endpoint) → slice_get p.driver.transfers u ≡ Some z → slice_get p.driver.endpoints z.endpoint ≡ Some w → told_end w ≡ None → z.reported ≡ false → z.released ≡ false
-  kept u z w there here goes waits = unreleased p.driver u z w turns.bulk turns.turns there here goes waits
+  kept u z w there here goes waits = stands_unreleased p.driver u z w (turns.asynchronous.endpoints z.endpoint w here) turns.turns there here goes waits
 
   goes : told_end due.endpoint ≡ None
   goes = none_told due.endpoint due.goes_on
@@ -126,23 +137,31 @@ module _ (p : Parts) (e t : ℕ) (found : Found) (due : IsHarvestDue p e t found
 
   pub queue_alone : (k : ℕ) (z : Endpoint) → slice_get p.driver.endpoints k ≡ Some z → z.gone ≡ false → z.queue ≡ due.endpoint.queue → k ≡ e
   queue_alone k z there alone same =
-      same_head k e (sym (placed k z there alone).owned ∙ ap owners.owner same ∙ (placed e due.endpoint due.here (told_alive due.endpoint (turns.bulk.endpoints e due.endpoint due.here) goes)).owned)
+      same_head k e (sym (placed k z there alone).owned ∙ ap owners.owner same ∙ (placed e due.endpoint due.here (told_stands_alive due.endpoint (turns.asynchronous.endpoints e due.endpoint due.here) goes)).owned)
     where
       placed : (i : ℕ) (w : Endpoint) → slice_get p.driver.endpoints i ≡ Some w → w.gone ≡ false → IsPlaced (slot_of p.driver.book.slots) owners.owner w.queue (QueueHead i)
       placed i w here alone =
-          let s : IsStanding w = turns.bulk.endpoints i w here in
-          owners.owned.each.queue i (runs_of_endpoint w) (ap (option_map runs_of_endpoint) here) (ap (λ k. is_iso k || w.gone) s.bulk.kind ∙ alone)
+          let s = turns.asynchronous.endpoints i w here in
+          owners.owned.each.queue i (runs_of_endpoint w) (ap (option_map runs_of_endpoint) here) (ap (λ k. k || w.gone) (not_iso w.desc s.asynchronous) ∙ alone)
 
-  pub reads : (parts : StructureSets) → AreFed p.driver parts → AreRead (parts (32 * due.endpoint.queue)) (note_at p.driver.notes) due.transfer.first due.transfer.qtds
-  reads parts fed =
+  tells_all : due.endpoint.desc.kind ≡ kinds.Bulk → is_request due.transfer.sort ≡ false
+  tells_all bulk =
+      let moves = turns.asynchronous.moves t due.transfer due.there in
+      let same : moves.endpoint ≡ due.endpoint = same_Some moves.endpoint due.endpoint (sym moves.here ∙ its_end) in
+      ap is_request moves.sort ∙ ap (λ (w : Endpoint). is_request (sort_of w.desc.name.way)) same
+      ∙ no_request due.endpoint.desc.name.way due.endpoint.desc.kind (turns.asynchronous.endpoints e due.endpoint due.here).asynchronous.kind bulk
+
+  pub reads : due.endpoint.desc.kind ≡ kinds.Bulk → (parts : StructureSets) → AreFed p.driver parts → AreRead (parts (32 * due.endpoint.queue)) (note_at p.driver.notes) due.transfer.first due.transfer.qtds
+  reads bulk parts fed =
       all_read (parts (32 * due.endpoint.queue)) p.driver.notes due.transfer.first due.transfer.qtds
       (λ i below.
       let none = none_unpublished p.driver t due.transfer due.idle in
       fed_read due.transfer.sort (parts (32 * due.endpoint.queue)) (note_at p.driver.notes (piece_at (note_in p.driver.notes) due.transfer.first i)) (piece_at (note_in p.driver.notes) due.transfer.first i) (piece_at (note_in p.driver.notes) due.transfer.first due.transfer.qtds)
-      (fed.pieces t i due.transfer due.endpoint due.there held its_end (omega (arith, none)) below))
+      (told_fed due.transfer.sort (parts (32 * due.endpoint.queue)) i (note_at p.driver.notes (piece_at (note_in p.driver.notes) due.transfer.first i)) (piece_at (note_in p.driver.notes) due.transfer.first i) (piece_at (note_in p.driver.notes) due.transfer.first due.transfer.qtds) (tells_all bulk)
+      (fed.pieces t i due.transfer due.endpoint due.there held its_end (omega (arith, none)) below)))
 
   its_sort : is_descriptor due.transfer.sort ≡ false
-  its_sort = moves_queued p.driver due.transfer (turns.bulk.moves t due.transfer due.there)
+  its_sort = moves_queued_of p.driver due.transfer (turns.asynchronous.moves t due.transfer due.there)
 
   pub not_active : found ≢ founds.Active → (token_in p.memory due.transfer.place).active ≡ false
   not_active differs = by_active (token_in p.memory due.transfer.place).active refl
@@ -158,19 +177,19 @@ after_is p e t found due =
     ap (λ (o : Option Endpoint). after_harvest p.driver p.memory e t found o (slice_get p.driver.transfers t)) due.here ∙ ap (after_harvest p.driver p.memory e t found (Some due.endpoint)) due.there
 
 pub row_told : (member : ℕ → Bool) (order : ℕ → ℕ) (p : Parts) (parts : StructureSets) (hand : Hand) (e t : ℕ) (found : Found) (acc : List (List ℕ)) (reported : ℕ → List ℕ) → (due : IsHarvestDue p e t found) → found ≢ founds.Active
-    → HasOwners p.driver → TakesTurns p.driver → AreFed p.driver parts → Tells p.memory parts → IsMember member (32 * due.endpoint.queue) (parts (32 * due.endpoint.queue))
+    → HasOwners p.driver → AsynchronousTakesTurns p.driver → due.endpoint.desc.kind ≡ kinds.Bulk → AreFed p.driver parts → Tells p.memory parts → IsMember member (32 * due.endpoint.queue) (parts (32 * due.endpoint.queue))
     → ((a : ℕ) (z : List ℕ) → IsOutEarlier (note_in p.driver.notes) e t p.driver.transfers a → Told hand parts (32 * due.endpoint.queue) a z → z ≡ [])
     → ToldStands p.driver hand parts reported → IsReported order (out_now p.driver e) hand parts (32 * due.endpoint.queue) acc (reported (32 * due.endpoint.queue))
     → HarvestReports order p.driver (after_driver_row (rows.Harvest e t found) p).driver hand parts e due.endpoint acc reported
-row_told member order p parts hand e t found acc reported due differs owners turns fed tells on none told r =
+row_told member order p parts hand e t found acc reported due differs owners turns bulk fed tells on none told r =
     subst (λ (d : DriverContent). HarvestReports order p.driver d hand parts e due.endpoint acc reported) (sym (after_is p e t found due))
     (harvested_told member order p.driver p.memory parts hand e t due.endpoint due.transfer found acc reported (read_next p e t found due owners turns)
     (record {
-      bulk = (turns.bulk.endpoints e due.endpoint due.here).bulk.kind;
+      bulk = bulk;
       queued = its_sort p e t found due owners turns;
       tells = tells;
       on = on;
-      read = reads p e t found due owners turns parts fed;
+      read = reads p e t found due owners turns bulk parts fed;
       off = not_active p e t found due owners turns differs;
       none = none;
     }) (queue_alone p e t found due owners turns) due.tells told r)

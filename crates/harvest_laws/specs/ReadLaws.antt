@@ -1,7 +1,8 @@
--- The row of a harvest where a driver has bulk endpoints only, its transfers take turns and its queues are fed (EHCI 1.0, 4.10).
+-- The row of a harvest of a bulk endpoint where a driver has bulk and control endpoints, its transfers take turns and its queues are fed (EHCI 1.0, 4.10).
 --     HarvestRowIsTold     the bytes that were moved of the qTD that is read are told, and what is reported of its stream is right
 --     WaitIsTold           one that isn't done changes nothing
 use Rattle.std.specs.Prelude.{◌≡◌, ◌≢◌, ℕ, ◌*◌, Bool, List, []}
+use Rattle.usb_base.specs.declared.packets.EpKind.TheVariants as kinds
 use Rattle.lent_structures.specs.Structures.{StructureSets, Tells}
 use Rattle.lent_structures.specs.Sound.{IsMember}
 use Rattle.ring_laws.specs.Hand.{Hand}
@@ -13,7 +14,7 @@ use Rattle.driver_rows.specs.Rows.{Parts, after_driver_row}
 use Rattle.run_owners.specs.Owners.{note_in}
 use Rattle.run_owners.specs.Kept.{HasOwners}
 use Rattle.run_owners.specs.Due.{IsHarvestDue}
-use Rattle.chained_transfers.specs.InTurn.{TakesTurns}
+use Rattle.chained_transfers.specs.AsynchronousTurns.{AsynchronousTakesTurns}
 use Rattle.chained_transfers.specs.Out.{out_now}
 use Rattle.harvest_laws.specs.Outs.{IsOutEarlier}
 use Rattle.controlled_streams.specs.Reported.{IsReported}
@@ -24,7 +25,7 @@ use Rattle.harvest_laws.specs.ToldLaws.{HarvestReports}
 abbrev pub HarvestRowIsTold : Type 0
 HarvestRowIsTold = (member : ℕ → Bool) (order : ℕ → ℕ) (p : Parts) (parts : StructureSets) (hand : Hand) (e t : ℕ) (found : Found) (acc : List (List ℕ)) (reported : ℕ → List ℕ)
     → (due : IsHarvestDue p e t found) → found ≢ founds.Active
-    → HasOwners p.driver → TakesTurns p.driver → AreFed p.driver parts → Tells p.memory parts → IsMember member (32 * due.endpoint.queue) (parts (32 * due.endpoint.queue))
+    → HasOwners p.driver → AsynchronousTakesTurns p.driver → due.endpoint.desc.kind ≡ kinds.Bulk → AreFed p.driver parts → Tells p.memory parts → IsMember member (32 * due.endpoint.queue) (parts (32 * due.endpoint.queue))
     → ((a : ℕ) (z : List ℕ) → IsOutEarlier (note_in p.driver.notes) e t p.driver.transfers a → Told hand parts (32 * due.endpoint.queue) a z → z ≡ [])
     → ToldStands p.driver hand parts reported → IsReported order (out_now p.driver e) hand parts (32 * due.endpoint.queue) acc (reported (32 * due.endpoint.queue))
     → HarvestReports order p.driver (after_driver_row (rows.Harvest e t found) p).driver hand parts e due.endpoint acc reported

@@ -11,7 +11,6 @@ use Rattle.qh_qtd.specs.declared.queue_head.Qh.{Qh}
 use Rattle.run_book.specs.Book.{slot_of}
 use Rattle.run_book.specs.declared.slots.Slot.{Slot}
 use Rattle.run_book.specs.declared.slots.Slot.TheVariants.{Empty, Keeps, Lends}
-use Rattle.usb_base.specs.declared.packets.EpKind.{EpKind}
 use Rattle.walk_copy.specs.Visits.{next_pointer}
 use Rattle.driver_rows.specs.declared.content.Command.TheVariants as unfinished
 use Rattle.driver_rows.specs.declared.content.Endpoint.{Endpoint}
@@ -19,12 +18,12 @@ use Rattle.driver_rows.specs.declared.content.Transfer.{Transfer}
 use Rattle.driver_rows.specs.DriverContent.{DriverContent}
 use Rattle.driver_rows.specs.Words.{dummy_qtd}
 use Rattle.driver_rows.specs.Harvests.{note_at}
-use Rattle.driver_rows.specs.Rows.{is_iso}
 use Rattle.run_owners.specs.Kept.{HasOwners}
 use Rattle.run_owners.specs.Owners.{Dummy, NoteRuns, runs_of_endpoint, note_in}
 use Rattle.run_owners.proofs.Runs.{placed_run}
 use Rattle.chained_transfers.specs.Chains.{piece_at}
-use Rattle.chained_transfers.specs.InTurn.{TakesTurns}
+use Rattle.chained_transfers.specs.AsynchronousTurns.{AsynchronousTakesTurns}
+use Rattle.chained_transfers.proofs.BulkAndControl.{not_iso}
 use Rattle.chained_transfers.specs.Turns.{IsAtPlace}
 use Rattle.lent_runs.specs.Lent.{AreLent, IsLent as IsLentSlot}
 use Rattle.lent_runs.proofs.Laws.{idle_lent}
@@ -35,7 +34,7 @@ use Rattle.driver_laws.specs.Inventory.{IsLent}
 use Rattle.ring_laws.specs.Order.{IsAmong}
 use Rattle.ring_laws.specs.Front.{own_pointer, IsFront, IsBehind, HasFront, LinksWithin}
 use Rattle.ring_laws.proofs.Tails.{last_is_tail}
-use Rattle.fed_queues.specs.Fed.{IsPieceFed, unpublished_of, AreFed}
+use Rattle.fed_queues.specs.Fed.{IsPieceFed, unpublished_of, AreFed, sized}
 use Rattle.fed_queues.specs.Places.{IsMet, IsLast, AreLast, AreStillOut}
 use Rattle.released_queues.specs.Fronts.{piece_address, end_at, StandsAt}
 use Rattle.released_queues.proofs.Pieces.{piece_on, piece_next}
@@ -53,7 +52,7 @@ either_leads : (part : Structures) (b : Bool) (l r : ShortLink) → LeadsOn part
 either_leads part true l r one two = one
 either_leads part false l r one two = two
 
-module _ (member : ℕ → Bool) (d : DriverContent) (parts : StructureSets) (order : ℕ → ℕ → ℕ) (out : ℕ → List ℕ) (idle : d.command ≡ None) (owners : HasOwners d) (lent : AreLent d) (turns : TakesTurns d) (fed : AreFed d parts) (last : AreLast d parts order) (still : AreStillOut d out) (e : ℕ) (x : Endpoint) (here : slice_get d.endpoints e ≡ Some x) (meets : IsMet d e x) (on : IsMember member (32 * x.queue) (parts (32 * x.queue))) where
+module _ (member : ℕ → Bool) (d : DriverContent) (parts : StructureSets) (order : ℕ → ℕ → ℕ) (out : ℕ → List ℕ) (idle : d.command ≡ None) (owners : HasOwners d) (lent : AreLent d) (turns : AsynchronousTakesTurns d) (fed : AreFed d parts) (last : AreLast d parts order) (still : AreStillOut d out) (e : ℕ) (x : Endpoint) (here : slice_get d.endpoints e ≡ Some x) (meets : IsMet d e x) (on : IsMember member (32 * x.queue) (parts (32 * x.queue))) where
   abbrev n : ℕ
   n = 32 * x.queue
 
@@ -73,10 +72,10 @@ module _ (member : ℕ → Bool) (d : DriverContent) (parts : StructureSets) (or
 
   dummy_lent : IsLent (slot_of d.book.slots x.dummy)
   dummy_lent =
-      let s = turns.bulk.endpoints e x here in
+      let s = turns.asynchronous.endpoints e x here in
       lent_slot (slot_of d.book.slots x.dummy)
       (idle_lent d x.dummy idle lent
-      (placed_run x.dummy (Dummy e) (owners.owned.each.dummy e (runs_of_endpoint x) (ap (option_map runs_of_endpoint) here) (ap (λ (k : EpKind). is_iso k || x.gone) s.bulk.kind ∙ meets.there.kept))))
+      (placed_run x.dummy (Dummy e) (owners.owned.each.dummy e (runs_of_endpoint x) (ap (option_map runs_of_endpoint) here) (ap (λ (k : Bool). k || x.gone) (not_iso x.desc s.asynchronous) ∙ meets.there.kept))))
 
   there : part c ≡ Some (Element dummy_qtd)
   there = fed.dummies e x here meets.there.kept dummy_lent
@@ -100,7 +99,7 @@ module _ (member : ℕ → Bool) (d : DriverContent) (parts : StructureSets) (or
 
   -- ---- the pieces of its transfers
 
-  piece : (t i : ℕ) (y : Transfer) → slice_get d.transfers t ≡ Some y → y.released ≡ false → y.endpoint ≡ e → i < y.qtds → IsPieceFed y.sort part (note_at d.notes (piece_at note y.first i)) (piece_at note y.first i) (piece_at note y.first y.qtds)
+  piece : (t i : ℕ) (y : Transfer) → slice_get d.transfers t ≡ Some y → y.released ≡ false → y.endpoint ≡ e → i < y.qtds → IsPieceFed y.sort part (sized y.sort i (note_at d.notes (piece_at note y.first i))) (piece_at note y.first i) (piece_at note y.first y.qtds)
   piece t i y at held same less =
       let none : unpublished_of d t y ≡ 0 = none_yet d.command d.made y.qtds (nat_eq (suc t) (length d.transfers)) idle in
       fed.pieces t i y x at held (ap (slice_get d.endpoints) same ∙ here) (omega (arith, none)) less

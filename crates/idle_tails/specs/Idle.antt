@@ -4,7 +4,7 @@ use Rattle.std.specs.Prelude.{◌≡◌, ℕ, ◌*◌, Bool, List, slice_get, So
 use Rattle.driver_rows.specs.declared.content.Endpoint.{Endpoint}
 use Rattle.driver_rows.specs.DriverContent.{DriverContent}
 use Rattle.run_owners.specs.Kept.{HasOwners}
-use Rattle.chained_transfers.specs.InTurn.{TakesTurns}
+use Rattle.chained_transfers.specs.AsynchronousTurns.{AsynchronousTakesTurns}
 use Rattle.lent_runs.specs.Lent.{AreLent}
 use Rattle.lent_structures.specs.Structures.{StructureSets}
 use Rattle.lent_structures.specs.Sound.{IsMember}
@@ -14,7 +14,7 @@ use Rattle.released_queues.specs.Fronts.{FrontsStand}
 use Rattle.standing_fronts.specs.Reaching.{Reaches}
 
 abbrev pub IdleQueuesReach : Type 0
-IdleQueuesReach = (member : ℕ → Bool) (d : DriverContent) (parts : StructureSets) (order : ℕ → ℕ → ℕ) (out : ℕ → List ℕ) → d.command ≡ None → HasOwners d → AreLent d → TakesTurns d
+IdleQueuesReach = (member : ℕ → Bool) (d : DriverContent) (parts : StructureSets) (order : ℕ → ℕ → ℕ) (out : ℕ → List ℕ) → d.command ≡ None → HasOwners d → AreLent d → AsynchronousTakesTurns d
     → AreFed d parts → AreLast d parts order → AreStillOut d out → FrontsStand d parts order out
     → (e : ℕ) (x : Endpoint) → slice_get d.endpoints e ≡ Some x → IsMet d e x → IsMember member (32 * x.queue) (parts (32 * x.queue))
     → Reaches d (parts (32 * x.queue)) (order (32 * x.queue)) (out (32 * x.queue)) e x (32 * x.dummy)

@@ -36,6 +36,7 @@ use Rattle.endpoint_releases.proofs.Releasing.{release_drives}
 use Rattle.put_laws.specs.Held.{held_bytes}
 use Rattle.put_laws.specs.HeldPuts.{HoldsPuts}
 use Rattle.put_laws.proofs.HeldAlike.{note_is, SameBytes, was_itself, puts_stay}
+use Rattle.fed_queues.proofs.Sized.{moves_told}
 use Rattle.put_laws.proofs.Stored.{IsStored, pieces_stored, buffer_stays, either_way}
 use Rattle.put_laws.specs.TakenPuts.{puts_from, puts_of}
 use Rattle.put_laws.specs.Owed.{rest_from, rest_of, Owes}
@@ -64,7 +65,7 @@ module _ (base : Base) (member : ℕ → Bool) (parts : StructureSets) (hand : H
       let apart : n ≢ 32 * x.queue = queues_apart p e x leave owners turns z.endpoint y differs moves.here (held_alive p.driver u z y turns.turns there held moves.here) in
       either_way p.memory (after_driver_row (endpoint_row e) p).memory note
       (λ some.
-      let s : IsStored (parts n) note = pieces_stored p.driver parts u i z y fed there held moves.here (λ newest b words publish. absurd (no_publish b words (sym idle ∙ publish))) below some in
+      let s : IsStored (parts n) note = pieces_stored p.driver parts u i z y (moves_told p.driver z moves) fed there held moves.here (λ newest b words publish. absurd (no_publish b words (sym idle ∙ publish))) below some in
       buffer_stays p.memory (after_driver_row (endpoint_row e) p).memory parts (without_queue parts (32 * x.queue)) n note drives.ring.tells after.ring.tells s
       (ap (λ (part : Structures). part (buffer_name s.qtd)) (queue_beside parts (32 * x.queue) n apart) ∙ s.here))
 

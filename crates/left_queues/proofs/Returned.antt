@@ -24,7 +24,7 @@ use Rattle.chained_transfers.specs.Chains.{piece_at}
 use Rattle.chained_transfers.specs.Turns.{turn_of}
 use Rattle.chained_transfers.specs.Out.{pieces_from, passed, out_of_transfer, if_last, out_of, out_now}
 use Rattle.chained_transfers.specs.InTurn.{TakesTurns}
-use Rattle.fed_queues.specs.Fed.{IsPieceFed, AreFed}
+use Rattle.fed_queues.specs.Fed.{IsPieceFed, AreFed, sized}
 use Rattle.fed_queues.specs.Places.{IsMet, HasHead, AreMet, HaveStreams, IsLast, AreLast, AreStillOut}
 use Rattle.released_queues.specs.Fronts.{StandsAt, FrontsStand}
 use Rattle.standing_fronts.specs.Reaching.{Reaches}
@@ -213,8 +213,8 @@ module _ (d f : DriverContent) (e : ℕ) (x : Endpoint) (parts : StructureSets) 
         let w = was_transfer t y there held in
         let z_at = was y.endpoint z at w.1 in
         let zero = all_published d t y may in
-        subst (λ (part : Structures). IsPieceFed y.sort part (note_at f.notes (piece_at (note_in f.notes) y.first i)) (piece_at (note_in f.notes) y.first i) (piece_at (note_in f.notes) y.first y.qtds)) (sym (beside y.endpoint z z_at (holder_kept t y z w.0 held z_at) w.1))
-        (subst (λ (ns : List QtdNote). IsPieceFed y.sort (parts (32 * z.queue)) (note_at ns (piece_at (note_in ns) y.first i)) (piece_at (note_in ns) y.first i) (piece_at (note_in ns) y.first y.qtds)) (sym g.notes)
+        subst (λ (part : Structures). IsPieceFed y.sort part (sized y.sort i (note_at f.notes (piece_at (note_in f.notes) y.first i))) (piece_at (note_in f.notes) y.first i) (piece_at (note_in f.notes) y.first y.qtds)) (sym (beside y.endpoint z z_at (holder_kept t y z w.0 held z_at) w.1))
+        (subst (λ (ns : List QtdNote). IsPieceFed y.sort (parts (32 * z.queue)) (sized y.sort i (note_at ns (piece_at (note_in ns) y.first i))) (piece_at (note_in ns) y.first i) (piece_at (note_in ns) y.first y.qtds)) (sym g.notes)
         (old.pieces t i y z w.0 held z_at (omega (arith, zero)) below));
     publishes = λ b words is. absurd (not_publish f.command b words may_now is);
   }

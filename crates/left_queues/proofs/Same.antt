@@ -15,7 +15,7 @@ use Rattle.ring_laws.specs.Told.{Endpoint as Told, endpoint_of}
 use Rattle.ring_laws.specs.Front.{IsPassed, HasFront, LinksWithin, HasTail}
 use Rattle.chained_transfers.specs.Bulk.{receives}
 use Rattle.chained_transfers.specs.Chains.{piece_at}
-use Rattle.fed_queues.specs.Fed.{IsPieceFed, AreFed}
+use Rattle.fed_queues.specs.Fed.{IsPieceFed, AreFed, sized}
 use Rattle.fed_queues.specs.Places.{HasHead, AreMet, HaveStreams, IsLast, AreLast, AreStillOut}
 use Rattle.released_queues.specs.Fronts.{StandsAt, FrontsStand}
 use Rattle.standing_fronts.specs.Reaching.{Reaches}
@@ -44,8 +44,8 @@ module _ (d f : DriverContent) (b : IsAsBefore d f) where
     pieces = λ t i y z there held here from below.
         let w = b.ends y.endpoint z here in
         let none = all_published d t y b.idle in
-        subst (λ (ns : List QtdNote). IsPieceFed y.sort (parts (32 * z.queue)) (note_at ns (piece_at (note_in ns) y.first i)) (piece_at (note_in ns) y.first i) (piece_at (note_in ns) y.first y.qtds)) (sym b.notes)
-        (subst (λ (q : ℕ). IsPieceFed y.sort (parts (32 * q)) (note_at d.notes (piece_at (note_in d.notes) y.first i)) (piece_at (note_in d.notes) y.first i) (piece_at (note_in d.notes) y.first y.qtds)) (sym w.queue)
+        subst (λ (ns : List QtdNote). IsPieceFed y.sort (parts (32 * z.queue)) (sized y.sort i (note_at ns (piece_at (note_in ns) y.first i))) (piece_at (note_in ns) y.first i) (piece_at (note_in ns) y.first y.qtds)) (sym b.notes)
+        (subst (λ (q : ℕ). IsPieceFed y.sort (parts (32 * q)) (sized y.sort i (note_at d.notes (piece_at (note_in d.notes) y.first i))) (piece_at (note_in d.notes) y.first i) (piece_at (note_in d.notes) y.first y.qtds)) (sym w.queue)
         (old.pieces t i y w.endpoint (was_transfer t y there) held w.here (omega (arith, none)) below));
     publishes = λ c words is. absurd (not_publish f.command c words b.idle_now is);
   }

@@ -24,6 +24,7 @@ use Rattle.chained_transfers.proofs.Holding.{unreleased}
 use Rattle.told_harvests.specs.Held.{IsRead, AreRead}
 use Rattle.harvest_laws.specs.Holds.{IsNextOf}
 use Rattle.fed_queues.specs.Fed.{IsPieceFed, unpublished_of}
+use Rattle.fed_queues.proofs.Sized.{told_piece}
 use Rattle.harvest_laws.specs.Told.{ToldStands}
 use Rattle.cancelled_bytes.specs.Cancelled.{SettlesElsewhere, CanBeTold}
 use Rattle.left_reports.specs.Leaver.{IsLeaver}
@@ -116,5 +117,5 @@ leaver_can_be_told base member parts hand w p e x reported l told k = record {
         → IsRead (parts (32 * x.queue)) (note_at p.driver.notes (piece_at (note_in p.driver.notes) y.first i)) (piece_at (note_in p.driver.notes) y.first i)
     piece_read t y here own held i below =
         let none = none_unpublished p.driver t y l.idle in
-        let f : IsPieceFed y.sort (parts (32 * x.queue)) (note_at p.driver.notes (piece_at (note_in p.driver.notes) y.first i)) (piece_at (note_in p.driver.notes) y.first i) (piece_at (note_in p.driver.notes) y.first y.qtds) = l.fed.pieces t i y x here held (its_end y own) (omega (arith, none)) below in
+        let f : IsPieceFed y.sort (parts (32 * x.queue)) (note_at p.driver.notes (piece_at (note_in p.driver.notes) y.first i)) (piece_at (note_in p.driver.notes) y.first i) (piece_at (note_in p.driver.notes) y.first y.qtds) = told_piece p.driver parts l.turns.bulk l.fed t i y x here held (its_end y own) (omega (arith, none)) below in
         record { qtd = f.qtd; here = f.here; long = f.long; buffer = f.buffer; places = f.places }

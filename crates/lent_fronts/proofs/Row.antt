@@ -21,14 +21,14 @@ use Rattle.lent_fronts.proofs.Fronts.{fronts_stand, reaches_on}
 use Rattle.lent_fronts.proofs.Extents.{runs_lent}
 
 pub lend_row_leaves_fronts : {W : Type 0} (sender : W → ℕ → ℕ → Option Sender) → LendRowLeavesFronts sender
-lend_row_leaves_fronts sender base stream packets member streams heads ends acc reported hand wire parts order out w p b words k has stands bulk turns blank drives piped reports queues fronts lent runs counted =
+lend_row_leaves_fronts sender base stream packets member streams heads ends acc reported hand wire parts order out w p b words k has stands bulk turns drives piped reports queues fronts lent runs counted =
     let d = p.driver in
     let m = p.memory in
     let y = y_of k in
     let x = x_of k in
     let n = 32 * k.endpoint.queue in
     let now = put_all parts n (items_of d m y x k.stage k.further) in
-    let both = lend_drives base member parts hand w p.registers m d k.number y x k.stage k.further k.awaits has stands drives (names_lent d m b words parts n k queues.fed drives.driven blank) in
+    let both = lend_drives base member parts hand w p.registers m d k.number y x k.stage k.further k.awaits has stands drives (names_lent d m b words parts n k queues.fed drives.driven) in
     let l : IsLending d m b words parts now = record { ready = k; has = has; stands = stands; shape = drives.ring.tells.shape; bulk = bulk; fed = queues.fed; pieces = both.1 } in
     let met = it_is_met d m b words bulk k in
     let on = queues.met.each k.transfer.endpoint k.endpoint k.here met in

@@ -35,7 +35,7 @@ use Rattle.fed_lends.specs.Commands.{QueuesStand}
 use Rattle.driver_laws.specs.Extents.{AreInRuns}
 use Rattle.standing_fronts.specs.Reaching.{Reaches}
 use Rattle.released_queues.specs.Fronts.{FrontsStand}
-use Rattle.fed_lends.specs.ToLend.{IsToBeLent, AreBlank}
+use Rattle.fed_lends.specs.ToLend.{IsToBeLent}
 
 pub record IsLentBehind (d : DriverContent) (m : Mem) (before now : StructureSets) (order order_now : ℕ → ℕ → ℕ) (out out_now : ℕ → List ℕ) : Type 0 where
   pub number : ℕ
@@ -79,7 +79,7 @@ abbrev pub LendRowLeavesFronts : {W : Type 0} → (W → ℕ → ℕ → Option 
 LendRowLeavesFronts {W} sender = (base : Base) (stream : ℕ → ℕ → Bool) (packets : ℕ → ℕ → List (List ℕ)) (member streams counted : ℕ → Bool) (ends : ℕ → Endpoint) (acc : ℕ → List (List ℕ))
     (reported : ℕ → List ℕ) (hand : Hand) (wire : W)
     (parts : StructureSets) (order : ℕ → ℕ → ℕ) (out : ℕ → List ℕ) (w : Walk) (p : DriverParts) (b : ℕ) (words : List ℕ) → IsToBeLent p.driver p.memory b words
-    → HasOwners p.driver → Stands (holding p.driver.book p.memory) → OnlyBulk p.driver → AreInTurn p.driver → AreBlank p.driver
+    → HasOwners p.driver → Stands (holding p.driver.book p.memory) → OnlyBulk p.driver → AreInTurn p.driver
     → DrivesRing base member parts hand (place w p.registers p.memory) p.driver → ArePiped stream packets sender member streams ends acc parts hand wire
     → AreReported counted order out hand parts acc reported → QueuesStand p.driver member streams ends parts order out → FrontsStand p.driver parts order out
     → AreLent p.driver → AreInRuns (views_of p.driver) parts

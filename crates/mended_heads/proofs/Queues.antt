@@ -23,7 +23,7 @@ use Rattle.ring_laws.specs.Pipes.{IsIn, IsNotIn, IsElsewhere}
 use Rattle.ring_laws.proofs.SparedSparing.{stale_same, spared_pipes, spared_accounts}
 use Rattle.run_owners.specs.Owners.{note_in}
 use Rattle.chained_transfers.specs.Chains.{piece_at}
-use Rattle.fed_queues.specs.Fed.{IsPieceFed, AreFed}
+use Rattle.fed_queues.specs.Fed.{IsPieceFed, AreFed, sized}
 use Rattle.fed_queues.specs.Places.{IsThere, IsMet, HasHead, AreMet, HaveStreams, AreLast, AreStillOut}
 use Rattle.mended_heads.specs.Owed.{StalledQueue}
 use Rattle.mended_heads.specs.Mended.{mended, driver_mended, IsAtMend, head_at, parts_then, hand_then}
@@ -124,6 +124,7 @@ module _ (p : DriverParts) (parts : StructureSets) (out : ℕ → List ℕ) (k :
     long = ap length (buffer_stays parts own head new here m g.qtd) ∙ g.long;
     places = g.places;
     fresh = g.fresh;
+    blank = g.blank;
   }
 
   abbrev f : DriverContent
@@ -151,7 +152,7 @@ module _ (p : DriverParts) (parts : StructureSets) (out : ℕ → List ℕ) (k :
   fed_then : AreFed p.driver parts → AreFed f now
   fed_then q = record {
     dummies = λ i x there kept lent. element_stays parts own head new here (32 * x.queue) (32 * x.dummy) dummy_qtd (q.dummies i x there kept lent);
-    pieces = λ t j y x there held of_x from below. fed_now y.sort (32 * x.queue) (note_at p.driver.notes (piece_at (note_in p.driver.notes) y.first j)) (piece_at (note_in p.driver.notes) y.first j) (piece_at (note_in p.driver.notes) y.first y.qtds) (q.pieces t j y x there held of_x from below);
+    pieces = λ t j y x there held of_x from below. fed_now y.sort (32 * x.queue) (sized y.sort j (note_at p.driver.notes (piece_at (note_in p.driver.notes) y.first j))) (piece_at (note_in p.driver.notes) y.first j) (piece_at (note_in p.driver.notes) y.first y.qtds) (q.pieces t j y x there held of_x from below);
     publishes = λ b words command. absurd (none_published b words (sym k.idle ∙ command));
   }
 

@@ -41,7 +41,7 @@ use Rattle.ring_laws.specs.Pipes.{IsIn, IsNotIn, ArePiped}
 use Rattle.controlled_streams.specs.Reported.{AreReported}
 use Rattle.chained_transfers.specs.Chains.{piece_at}
 use Rattle.chained_transfers.specs.Out.{unpublished, out_of_transfer, out_of, out_now}
-use Rattle.fed_queues.specs.Fed.{IsPieceFed, unpublished_of, AreFed}
+use Rattle.fed_queues.specs.Fed.{IsPieceFed, unpublished_of, AreFed, sized}
 use Rattle.fed_queues.specs.Places.{AreMet, HaveStreams, IsLast, AreLast, AreStillOut, HasThere}
 use Rattle.publish_laws.specs.Stores.{QueuesThen}
 use Rattle.publish_laws.proofs.Apart.{queue_placed, dummy_placed, queues_same, thirty_two}
@@ -214,7 +214,7 @@ module _ (base : Base) (w : Walk) (hand : Hand) (p : DriverParts) (member stream
     pieces = λ t j y z there held here from below.
         let differs : 32 * z.queue ≢ n = apart y.endpoint z here (held_alive d t y z k.turns.turns there held here) (k.ready.none t y there) in
         let none : unpublished_of d t y ≡ 0 = none_of d.made t y in
-        subst (λ (part : Structures). IsPieceFed y.sort part (note_at d.notes (piece_at (note_in d.notes) y.first j)) (piece_at (note_in d.notes) y.first j) (piece_at (note_in d.notes) y.first y.qtds)) (sym (stay (32 * z.queue) differs))
+        subst (λ (part : Structures). IsPieceFed y.sort part (sized y.sort j (note_at d.notes (piece_at (note_in d.notes) y.first j))) (piece_at (note_in d.notes) y.first j) (piece_at (note_in d.notes) y.first y.qtds)) (sym (stay (32 * z.queue) differs))
         (k.stand.fed.pieces t j y z there held here (omega (arith, none)) below);
     publishes = λ b words command. absurd (open_of command);
   }

@@ -26,7 +26,7 @@ use Rattle.controlled_streams.specs.Opened.{with_end, with_none}
 use Rattle.controlled_streams.proofs.Beginning.{end_here, end_beside, list_here, list_beside}
 use Rattle.chained_transfers.specs.Bulk.{receives, IsStanding}
 use Rattle.chained_transfers.specs.Out.{unpublished, out_of_transfer, out_of, out_now}
-use Rattle.fed_queues.specs.Fed.{IsPieceFed, unpublished_of, AreFed}
+use Rattle.fed_queues.specs.Fed.{IsPieceFed, unpublished_of, AreFed, sized}
 use Rattle.fed_queues.specs.Places.{IsMet, HasHead, AreMet, HaveStreams, AreLast, AreStillOut, IsThere}
 use Rattle.publish_laws.specs.Stores.{QueuesThen}
 use Rattle.publish_laws.proofs.Outs.{other_part}
@@ -139,6 +139,7 @@ module _ (p : DriverParts) (member streams : ℕ → Bool) (ends : ℕ → Told)
     long = ap length (bytes_stay m (buffer_name g.qtd)) ∙ g.long;
     places = g.places;
     fresh = g.fresh;
+    blank = g.blank;
   }
 
   no_command : {b : ℕ} {words : List ℕ} → ◌≡◌ {A = Option Command} None (Some (unfinished.Publish b words)) → ⊥
@@ -152,7 +153,7 @@ module _ (p : DriverParts) (member streams : ℕ → Bool) (ends : ℕ → Told)
     dummies = λ e y there kept lent. stays (32 * y.queue) (32 * y.dummy) (Element dummy_qtd) (no_element dummy_qtd) (k.stand.fed.dummies e y there kept lent);
     pieces = λ t j y z there held here from below.
         let none = none_before t y in
-        fed_now y.sort (32 * z.queue) (note_at d.notes (piece_at (note_in d.notes) y.first j)) (piece_at (note_in d.notes) y.first j) (piece_at (note_in d.notes) y.first y.qtds)
+        fed_now y.sort (32 * z.queue) (sized y.sort j (note_at d.notes (piece_at (note_in d.notes) y.first j))) (piece_at (note_in d.notes) y.first j) (piece_at (note_in d.notes) y.first y.qtds)
         (k.stand.fed.pieces t j y z there held here (omega (arith, none)) below);
     publishes = λ b words command. absurd (no_command command);
   }

@@ -13,8 +13,8 @@ use Rattle.driver_rows.specs.declared.content.Endpoint.{Endpoint}
 use Rattle.driver_rows.specs.DriverContent.{DriverContent, is_same_way, is_same_name}
 use Rattle.driver_rows.specs.Offers.{Offered, new_runs, new_endpoint, note_stages, with_queued, accepted_transfer}
 use Rattle.driver_rows.specs.Rows.{driver_row, after_driver_row}
+use Rattle.run_owners.specs.Accepts.{Opens, Transfers}
 use Rattle.run_owners.proofs.Stays.{same_view}
-use Rattle.chained_transfers.specs.Accepted.{IsOpened, IsAsked}
 use Rattle.walk_members.proofs.Descriptions.{desc_of, SameDescs, row_left}
 use Rattle.open_laws.specs.Opens.{AreNamesApart}
 use Rattle.open_names.specs.Names.{NamesStayApart, AcceptedNamesAreApart, NewNamesAreApart}
@@ -86,17 +86,17 @@ same_name a b addr num way =
     ap (λ (x : Bool). x && (a.num == b.num) && is_same_way a.way b.way) (eq-eqb a.addr b.addr addr)
     ∙ ap (λ (x : Bool). x && is_same_way a.way b.way) (eq-eqb a.num b.num num) ∙ ap (λ (w : Way). is_same_way w b.way) way ∙ same_way b.way
 
-module _ (d : DriverContent) (m : Mem) (o : Offered) (why : IsOpened d m o) (k : AreNamesApart d) where
-  never_old : (e : ℕ) (x : Endpoint) → slice_get d.endpoints e ≡ Some x → x.desc.name.addr ≡ why.opens.desc.name.addr → x.desc.name.num ≡ why.opens.desc.name.num → x.desc.name.way ≡ why.opens.desc.name.way → ⊥
+module _ (d : DriverContent) (m : Mem) (o : Offered) (why : Opens d m o) (k : AreNamesApart d) where
+  never_old : (e : ℕ) (x : Endpoint) → slice_get d.endpoints e ≡ Some x → x.desc.name.addr ≡ why.desc.name.addr → x.desc.name.num ≡ why.desc.name.num → x.desc.name.way ≡ why.desc.name.way → ⊥
   never_old e x there addr num way =
-      no_position (λ (z : Endpoint). is_same_name z.desc.name why.opens.desc.name) d.endpoints e x there (same_name x.desc.name why.opens.desc.name addr num way) why.opens.new_name
+      no_position (λ (z : Endpoint). is_same_name z.desc.name why.desc.name) d.endpoints e x there (same_name x.desc.name why.desc.name addr num way) why.new_name
 
-  with_new : (new : Endpoint) → new.desc ≡ why.opens.desc → (e g : ℕ) (x y : Endpoint) → slice_get (d.endpoints ++ new ∷ []) e ≡ Some x → slice_get (d.endpoints ++ new ∷ []) g ≡ Some y
+  with_new : (new : Endpoint) → new.desc ≡ why.desc → (e g : ℕ) (x y : Endpoint) → slice_get (d.endpoints ++ new ∷ []) e ≡ Some x → slice_get (d.endpoints ++ new ∷ []) g ≡ Some y
       → x.desc.name.addr ≡ y.desc.name.addr → x.desc.name.num ≡ y.desc.name.num → x.desc.name.way ≡ y.desc.name.way → e ≡ g
   with_new new is e g x y one other addr num way =
-      let addr_is : (z : Endpoint) → z ≡ new → z.desc.name.addr ≡ why.opens.desc.name.addr = λ z same. ap (λ (w : Endpoint). w.desc.name.addr) same ∙ ap (λ (w : EpDesc). w.name.addr) is in
-      let num_is : (z : Endpoint) → z ≡ new → z.desc.name.num ≡ why.opens.desc.name.num = λ z same. ap (λ (w : Endpoint). w.desc.name.num) same ∙ ap (λ (w : EpDesc). w.name.num) is in
-      let way_is : (z : Endpoint) → z ≡ new → z.desc.name.way ≡ why.opens.desc.name.way = λ z same. ap (λ (w : Endpoint). w.desc.name.way) same ∙ ap (λ (w : EpDesc). w.name.way) is in
+      let addr_is : (z : Endpoint) → z ≡ new → z.desc.name.addr ≡ why.desc.name.addr = λ z same. ap (λ (w : Endpoint). w.desc.name.addr) same ∙ ap (λ (w : EpDesc). w.name.addr) is in
+      let num_is : (z : Endpoint) → z ≡ new → z.desc.name.num ≡ why.desc.name.num = λ z same. ap (λ (w : Endpoint). w.desc.name.num) same ∙ ap (λ (w : EpDesc). w.name.num) is in
+      let way_is : (z : Endpoint) → z ≡ new → z.desc.name.way ≡ why.desc.name.way = λ z same. ap (λ (w : Endpoint). w.desc.name.way) same ∙ ap (λ (w : EpDesc). w.name.way) is in
       ⊎_elim (λ (was : slice_get d.endpoints e ≡ Some x).
       ⊎_elim (λ (too : slice_get d.endpoints g ≡ Some y). k e g x y was too addr num way)
       (λ (fresh : (g ≡ length d.endpoints) × (y ≡ new)). absurd (never_old e x was (addr ∙ addr_is y fresh.1) (num ∙ num_is y fresh.1) (way ∙ way_is y fresh.1))) (push_which d.endpoints new g y other))
@@ -105,14 +105,13 @@ module _ (d : DriverContent) (m : Mem) (o : Offered) (why : IsOpened d m o) (k :
       (λ (also : (g ≡ length d.endpoints) × (y ≡ new)). fresh.0 ∙ sym also.0) (push_which d.endpoints new g y other)) (push_which d.endpoints new e x one)
 
   opened_apart : AreNamesApart o.driver
-  opened_apart = subst (λ (g : Offered). AreNamesApart g.driver) (sym why.opens.is) (with_new (new_endpoint why.opens.desc (get_or (new_runs d why.opens.holding_after) 0 0) (get_or (new_runs d why.opens.holding_after) 1 0)) refl)
+  opened_apart = subst (λ (g : Offered). AreNamesApart g.driver) (sym why.is) (with_new (new_endpoint why.desc (get_or (new_runs d why.holding_after) 0 0) (get_or (new_runs d why.holding_after) 1 0)) refl)
 
-asked_apart : (d : DriverContent) (m : Mem) (o : Offered) → IsAsked d m o → AreNamesApart d → AreNamesApart o.driver
-asked_apart d m o why k =
-    let t = why.transfers in
+taken_apart : (d : DriverContent) (m : Mem) (o : Offered) → Transfers d m o → AreNamesApart d → AreNamesApart o.driver
+taken_apart d m o t k =
     subst (λ (g : Offered). AreNamesApart g.driver) (sym t.is)
     (apart_by d (accepted_transfer d t.number t.endpoint t.asked t.holding_after (get_or (take (length t.asked.stages) (new_runs d t.holding_after)) (length t.asked.stages - 1) 0) (note_stages d.notes t.asked.stages t.endpoint.dummy (take (length t.asked.stages) (new_runs d t.holding_after)) (drop (length t.asked.stages) (new_runs d t.holding_after)))).driver
     (same_view desc_of d.endpoints t.number t.endpoint (with_queued t.endpoint (get_or (take (length t.asked.stages) (new_runs d t.holding_after)) (length t.asked.stages - 1) 0) (length d.transfers)) t.here refl) k)
 
 pub accepted_apart : AcceptedNamesAreApart
-accepted_apart d m o r why k = ⊎_elim (λ (opened : IsOpened d m o). opened_apart d m o opened k) (λ (asked : IsAsked d m o). asked_apart d m o asked k) why
+accepted_apart d m o why k = ⊎_elim (λ (opened : Opens d m o). opened_apart d m o opened k) (λ (taken : Transfers d m o). taken_apart d m o taken k) why

@@ -26,7 +26,8 @@ use Rattle.controlled_streams.specs.Storing.{stored_parts}
 use Rattle.controlled_streams.proofs.Storing.{other_stays, bytes_stay}
 use Rattle.chained_transfers.specs.Chains.{piece_at}
 use Rattle.chained_transfers.specs.Out.{unpublished}
-use Rattle.fed_queues.specs.Fed.{IsPieceFed, unpublished_of, IsPublished, AreFed}
+use Rattle.fed_queues.specs.Fed.{IsPieceFed, unpublished_of, IsPublished, AreFed, size_of, sized}
+use Rattle.fed_queues.proofs.Sized.{noted_sized}
 
 abbrev one_if : Bool → ℕ
 one_if b = if b then 1 else 0
@@ -59,6 +60,7 @@ module _ (parts : StructureSets) (n e : ℕ) (old new : Qtd) (at : parts n e ≡
     long = ap length (bytes_stay parts n e old new at m (buffer_name k.qtd)) ∙ k.long;
     places = k.places;
     fresh = k.fresh;
+    blank = k.blank;
   }
 
 -- ---- the newest transfer
@@ -98,10 +100,10 @@ module _ (d : DriverContent) (parts : StructureSets) (b : ℕ) (words : List ℕ
   is_newest t same = ap one_if (eq-eqb (suc t) (length d.transfers) (ap suc same ∙ k.newest))
 
   piece_then : (t j : ℕ) (y : Transfer) (x : Endpoint) → slice_get d.transfers t ≡ Some y → y.released ≡ false → slice_get d.endpoints y.endpoint ≡ Some x → unpublished_of d t y ≤ j → j < y.qtds → (t ≡ k.number → 1 ≤ j)
-      → IsPieceFed y.sort (then_parts (32 * x.queue)) (note_at d.notes (piece_at (note_in d.notes) y.first j)) (piece_at (note_in d.notes) y.first j) (piece_at (note_in d.notes) y.first y.qtds)
+      → IsPieceFed y.sort (then_parts (32 * x.queue)) (sized y.sort j (note_at d.notes (piece_at (note_in d.notes) y.first j))) (piece_at (note_in d.notes) y.first j) (piece_at (note_in d.notes) y.first y.qtds)
   piece_then t j y x there held here from below first =
       let c : ℕ = piece_at (note_in d.notes) y.first j in
-      fed_beside parts n (32 * b) (partly k.qtd i) (partly k.qtd (suc i)) h.at y.sort (32 * x.queue) (note_at d.notes c) c (piece_at (note_in d.notes) y.first y.qtds)
+      fed_beside parts n (32 * b) (partly k.qtd i) (partly k.qtd (suc i)) h.at y.sort (32 * x.queue) (sized y.sort j (note_at d.notes c)) c (piece_at (note_in d.notes) y.first y.qtds)
       (λ name owner. thirty_two c b (h.pieces t j y there held below first) name) (fed.pieces t j y x there held here from below)
 
   not_first : (t j : ℕ) (y : Transfer) → unpublished_of d t y ≤ j → t ≡ k.number → 1 ≤ j
@@ -112,7 +114,7 @@ module _ (d : DriverContent) (parts : StructureSets) (b : ℕ) (words : List ℕ
       subst (λ (part : Structures). IsPublishable part (32 * b) k.qtd) (sym (put_here parts n (32 * b) (Element (partly k.qtd (suc i)))))
       (publishable_put (parts n) (32 * b) (partly k.qtd i) (partly k.qtd (suc i)) k.qtd h.at (k.may (let made = h.made in omega (arith, made))))
 
-  long_then : length (buffer_of (then_parts n) k.qtd) ≡ (note_at d.notes b).told
+  long_then : length (buffer_of (then_parts n) k.qtd) ≡ size_of k.transfer.sort 0 (note_at d.notes b).told
   long_then = ap length (bytes_stay parts n (32 * b) (partly k.qtd i) (partly k.qtd (suc i)) h.at n (buffer_name k.qtd)) ∙ k.long (let made = h.made in omega (arith, made))
 
   -- ---- one store more
@@ -140,6 +142,7 @@ module _ (d : DriverContent) (parts : StructureSets) (b : ℕ) (words : List ℕ
     total = k.total;
     stored = put_same parts n (32 * b) (Element (partly k.qtd (suc i))) ∙ ap (λ (j : ℕ). Some (Element (partly k.qtd j))) (let e : suc i ≡ suc (suc i) - 1 = omega arith in e);
     places = k.places;
+    blank = k.blank;
     few = omega (arith, low);
     long = λ some. long_then;
     may = λ some. may_then;
@@ -177,17 +180,18 @@ module _ (d : DriverContent) (parts : StructureSets) (b : ℕ) (words : List ℕ
   abbrev pub done : DriverContent
   done = record d { command = None; made = 0 }
 
-  first_piece : suc i ≡ 8 → IsPieceFed k.transfer.sort (then_parts n) (note_at d.notes b) b (piece_at (note_in d.notes) b k.transfer.qtds)
+  first_piece : suc i ≡ 8 → IsPieceFed k.transfer.sort (then_parts n) (sized k.transfer.sort 0 (note_at d.notes b)) b (piece_at (note_in d.notes) b k.transfer.qtds)
   first_piece eighth =
       let ready = (may_then.sound.work k.active) in
       record {
         qtd = k.qtd;
         here = put_same parts n (32 * b) (Element (partly k.qtd (suc i))) ∙ ap (λ (j : ℕ). Some (Element (partly k.qtd j))) eighth;
-        noted = k.noted;
+        noted = noted_sized k.transfer.sort k.qtd 0 (note_at d.notes b) (piece_at (note_in d.notes) b k.transfer.qtds) k.noted;
         buffer = λ some. subst (HasBuffer (then_parts n) k.qtd) k.total (ready.buffer (let total = k.total in omega (arith, total, some)));
         long = long_then;
         places = k.places;
         fresh = λ on. k.total;
+        blank = k.blank;
       }
 
   none_left : (t : ℕ) (y : Transfer) → unpublished_of done t y ≡ 0
@@ -199,7 +203,7 @@ module _ (d : DriverContent) (parts : StructureSets) (b : ℕ) (words : List ℕ
 
   -- the first piece of the newest, or another one
   piece_done : suc i ≡ 8 → (t j : ℕ) (y : Transfer) (x : Endpoint) → slice_get d.transfers t ≡ Some y → y.released ≡ false → slice_get d.endpoints y.endpoint ≡ Some x → j < y.qtds
-      → IsPieceFed y.sort (then_parts (32 * x.queue)) (note_at d.notes (piece_at (note_in d.notes) y.first j)) (piece_at (note_in d.notes) y.first j) (piece_at (note_in d.notes) y.first y.qtds)
+      → IsPieceFed y.sort (then_parts (32 * x.queue)) (sized y.sort j (note_at d.notes (piece_at (note_in d.notes) y.first j))) (piece_at (note_in d.notes) y.first j) (piece_at (note_in d.notes) y.first y.qtds)
   piece_done eighth t j y x there held here below =
       ⊎_elim (λ (newest : t ≡ k.number). by_piece newest j below) (λ (differs : t ≢ k.number). piece_then t j y x there held here (other_from differs) below (λ same. absurd (differs same))) (cases_eq t k.number)
     where
@@ -209,13 +213,13 @@ module _ (d : DriverContent) (parts : StructureSets) (b : ℕ) (words : List ℕ
           let e : unpublished_of d t y ≡ 0 = count_now t y ∙ none in omega (arith, e)
 
       by_piece : t ≡ k.number → (l : ℕ) → l < y.qtds
-          → IsPieceFed y.sort (then_parts (32 * x.queue)) (note_at d.notes (piece_at (note_in d.notes) y.first l)) (piece_at (note_in d.notes) y.first l) (piece_at (note_in d.notes) y.first y.qtds)
+          → IsPieceFed y.sort (then_parts (32 * x.queue)) (sized y.sort l (note_at d.notes (piece_at (note_in d.notes) y.first l))) (piece_at (note_in d.notes) y.first l) (piece_at (note_in d.notes) y.first y.qtds)
       by_piece newest zero low =
           let same : y ≡ k.transfer = same_Some y k.transfer (sym there ∙ ap (slice_get d.transfers) newest ∙ k.there) in
           let owner : x ≡ k.endpoint = same_Some x k.endpoint (sym here ∙ ap (λ (z : Transfer). slice_get d.endpoints z.endpoint) same ∙ k.here) in
-          subst (λ (z : Endpoint). IsPieceFed y.sort (then_parts (32 * z.queue)) (note_at d.notes y.first) y.first (piece_at (note_in d.notes) y.first y.qtds)) (sym owner)
-          (subst (λ (z : Transfer). IsPieceFed z.sort (then_parts n) (note_at d.notes z.first) z.first (piece_at (note_in d.notes) z.first z.qtds)) (sym same)
-          (subst (λ (c : ℕ). IsPieceFed k.transfer.sort (then_parts n) (note_at d.notes c) c (piece_at (note_in d.notes) c k.transfer.qtds)) (sym k.place.0) (first_piece eighth)))
+          subst (λ (z : Endpoint). IsPieceFed y.sort (then_parts (32 * z.queue)) (sized y.sort 0 (note_at d.notes y.first)) y.first (piece_at (note_in d.notes) y.first y.qtds)) (sym owner)
+          (subst (λ (z : Transfer). IsPieceFed z.sort (then_parts n) (sized z.sort 0 (note_at d.notes z.first)) z.first (piece_at (note_in d.notes) z.first z.qtds)) (sym same)
+          (subst (λ (c : ℕ). IsPieceFed k.transfer.sort (then_parts n) (sized k.transfer.sort 0 (note_at d.notes c)) c (piece_at (note_in d.notes) c k.transfer.qtds)) (sym k.place.0) (first_piece eighth)))
       by_piece newest (suc l) low =
           let e : unpublished_of d t y ≡ 1 = count_now t y ∙ is_newest t newest in
           piece_then t (suc l) y x there held here (omega (arith, e)) low (λ is. omega arith)

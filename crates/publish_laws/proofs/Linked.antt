@@ -16,7 +16,7 @@ use Rattle.ring_laws.specs.Order.{IsAmong, AreAfter, IsSorted}
 use Rattle.driver_laws.specs.Published.{partly}
 use Rattle.controlled_streams.specs.Storing.{LeadsLater}
 use Rattle.chained_transfers.specs.Chains.{piece_at, AreChained}
-use Rattle.fed_queues.specs.Fed.{alternate_by}
+use Rattle.fed_queues.specs.Fed.{IsAlternate}
 use Rattle.publish_laws.proofs.Outs.{IsSplit}
 use Rattle.publish_laws.proofs.Apart.{newest_only}
 
@@ -80,11 +80,11 @@ led_nowhere order e l is b leads = absurd (never (sym (ap qtd_link_of is) ∙ le
     never : qtd_links.End ≡ qtd_links.To b → ⊥
     never z = cc
 
-led_by : (order : ℕ → ℕ) (e c : ℕ) (sort : Sort) (l : ShortLink) → l ≡ alternate_by sort c → order e < order (32 * c) → (b : ℕ) → qtd_link_of l ≡ qtd_links.To b → order e < order b
-led_by order e c sorts.Get l is later = led order e c l is later
-led_by order e c sorts.Put l is later = led_nowhere order e l is
-led_by order e c sorts.Request l is later = led_nowhere order e l is
-led_by order e c sorts.Descriptor l is later = led_nowhere order e l is
+led_by : (order : ℕ → ℕ) (e next end : ℕ) (sort : Sort) (l : ShortLink) → IsAlternate sort l next end → order e < order (32 * next) → order e < order (32 * end) → (b : ℕ) → qtd_link_of l ≡ qtd_links.To b → order e < order b
+led_by order e next end sorts.Get l is one other = led order e end l is other
+led_by order e next end sorts.Put l is one other = led_nowhere order e l is
+led_by order e next end sorts.Request l is one other = ⊎_elim (λ (none : l ≡ no_qtd). led_nowhere order e l none) (λ (to : l ≡ to_qtd next). led order e next l to one) is
+led_by order e next end sorts.Descriptor l is one other = led_nowhere order e l is
 
-pub leads_later : (order : ℕ → ℕ) (e next end : ℕ) (sort : Sort) (t : Qtd) → t.next ≡ to_qtd next → t.alternate ≡ alternate_by sort end → order e < order (32 * next) → order e < order (32 * end) → LeadsLater order e t
-leads_later order e next end sort t first second one other = record { next = led order e next t.next first one; alternate = led_by order e end sort t.alternate second other }
+pub leads_later : (order : ℕ → ℕ) (e next end : ℕ) (sort : Sort) (t : Qtd) → t.next ≡ to_qtd next → IsAlternate sort t.alternate next end → order e < order (32 * next) → order e < order (32 * end) → LeadsLater order e t
+leads_later order e next end sort t first second one other = record { next = led order e next t.next first one; alternate = led_by order e next end sort t.alternate second one other }

@@ -43,6 +43,7 @@ use Rattle.put_laws.proofs.Accepting.{held_stays}
 use Rattle.put_laws.specs.HeldLaws.{IsPublishing, OutsAskNoData, EventHoldsPuts}
 use Rattle.put_laws.proofs.HeldAlike.{note_itself, held_alike}
 use Rattle.put_laws.proofs.Walking.{event_leaves}
+use Rattle.fed_queues.proofs.Sized.{moves_told}
 use Rattle.put_laws.proofs.Stored.{IsStored, pieces_stored, buffer_stays, either_way}
 
 -- ---- a put is one of an OUT endpoint
@@ -141,7 +142,7 @@ module _ {W : Type 0} (begins : W → ℕ → Bool → W → Type 0) (transacts 
       let note = note_at d.notes (piece_at (note_in d.notes) y.first i) in
       either_way c.memory new.memory note
       (λ some.
-      let s : IsStored (parts n) note = pieces_stored d parts t i y x fed there held moves.here lent below some in
+      let s : IsStored (parts n) note = pieces_stored d parts t i y x (moves_told d y moves) fed there held moves.here lent below some in
       buffer_stays c.memory new.memory parts now n note controlled.ring.tells controlled_now.ring.tells s
       (event_leaves begins transacts base member parts hand c wire after now later n controlled effect asks (buffer_name s.qtd) (element_pages s.qtd) s.qtd.offset s.bytes s.here)))
 

@@ -24,6 +24,7 @@ use Rattle.lent_structures.specs.Structures.{Structures, StructureSets, Tells}
 use Rattle.ring_laws.specs.Effects.{bytes_in, buffer_of}
 use Rattle.whole_sends.specs.Whole.{bytes_of_element, buffer_at, buffers_of}
 use Rattle.fed_queues.specs.Fed.{IsPieceFed, unpublished_of, IsPublished, AreFed}
+use Rattle.fed_queues.proofs.Sized.{told_piece}
 use Rattle.fed_lends.proofs.Outs.{last_apart, out_apart, drop_all, its_out, not_its_out, piece_add}
 use Rattle.put_laws.specs.Held.{held_bytes}
 use Rattle.put_laws.proofs.Stored.{fed_stored, stored_bytes}
@@ -140,7 +141,7 @@ module _ (d : DriverContent) (m : Mem) (parts : StructureSets) (e : ℕ) (x : En
       let reached : unpublished_of d t y ≤ from + i = omega (arith, late) in
       let inside : from + i < y.qtds = omega (arith, few, below) in
       subst (λ (a : ℕ). buffer_bytes m (note_at d.notes a) (note_at d.notes a).told ≡ buffer_at (parts (32 * x.queue)) (32 * a)) (sym (piece_add (note_in d.notes) y.first from i))
-      (piece_bytes m parts (32 * x.queue) (note_at d.notes c) y.sort c (piece_at (note_in d.notes) y.first y.qtds) tells (fed.pieces t (from + i) y x there stays (its_end y own) reached inside))
+      (piece_bytes m parts (32 * x.queue) (note_at d.notes c) y.sort c (piece_at (note_in d.notes) y.first y.qtds) tells (told_piece d parts turns.bulk fed t (from + i) y x there stays (its_end y own) reached inside))
 
   -- a transfer that waits, and one that was reported
   waiting_is : (t : ℕ) (y : Transfer) → slice_get d.transfers t ≡ Some y → y.endpoint ≡ e → y.reported ≡ false → unpublished_of d t y ≡ 0

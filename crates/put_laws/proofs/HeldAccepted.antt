@@ -44,6 +44,7 @@ use Rattle.put_laws.proofs.Cuts.{puts_filled}
 use Rattle.put_laws.specs.HeldPuts.{HoldsPuts, with_put}
 use Rattle.put_laws.specs.HeldLaws.{OpenHoldsPuts, GetHoldsPuts, PutHoldsPuts}
 use Rattle.put_laws.proofs.HeldAlike.{note_is, SameBytes, was_itself, StaysPut, put_stays, puts_stay}
+use Rattle.fed_queues.proofs.Sized.{moves_told}
 use Rattle.put_laws.proofs.Stored.{IsStored, pieces_stored, words_stored, either_way, stored_at}
 
 -- ---- words of what is lent
@@ -57,7 +58,7 @@ idle_bytes d m new parts t i y idle turns tells fed leaves there held below =
     let note = note_at d.notes (piece_at (note_in d.notes) y.first i) in
     either_way m new note
     (λ some.
-    let s : IsStored (parts n) note = pieces_stored d parts t i y moves.endpoint fed there held moves.here (λ newest b words is. absurd (no_command b words (sym idle ∙ is))) below some in
+    let s : IsStored (parts n) note = pieces_stored d parts t i y moves.endpoint (moves_told d y moves) fed there held moves.here (λ newest b words is. absurd (no_command b words (sym idle ∙ is))) below some in
     words_stored m new note (λ j inside. leaves.words (buffer_address note j) (stored_at m parts n note tells s j inside).lent))
   where
     no_command : (b : ℕ) (words : List ℕ) → ◌≡◌ {A = Option Command} None (Some (unfinished.Publish b words)) → ⊥

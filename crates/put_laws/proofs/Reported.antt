@@ -43,6 +43,7 @@ use Rattle.fed_queues.specs.Places.{IsThere}
 use Rattle.fed_harvests.proofs.Lists.{all_of, all_out, all_same, IsBefore, Splits, splits, own_out}
 use Rattle.harvest_laws.specs.Told.{ToldStands}
 use Rattle.harvest_laws.specs.ToldLaws.{HarvestReports}
+use Rattle.chained_transfers.proofs.BulkAndControl.{bulk_takes_turns}
 use Rattle.harvest_laws.proofs.ReadRows.{row_told, queue_alone, reads, not_active}
 use Rattle.put_laws.specs.Owed.{Owes}
 use Rattle.put_laws.specs.OwedLaws.{IsMovedWhole, HarvestOwes, WaitOwes}
@@ -103,7 +104,7 @@ module _ (member : ℕ → Bool) (order : ℕ → ℕ) (p : Parts) (parts : Stru
   found_is = due.tells ∙ found_by d m y y.sort (moves_queued d y (turns.bulk.moves t y due.there))
 
   off : (token_in m y.place).active ≡ false
-  off = not_active p e t found due owners turns differs
+  off = not_active p e t found due owners (bulk_takes_turns p.driver turns) differs
 
   k : ReadsTo d new m e t x y
   k = subst (λ (f : DriverContent). ReadsTo d f m e t x y) (sym (row_is p e t found due)) (found_row d m e t x y due.here due.goes_on (turns.bulk.endpoints e x due.here).bulk.kind place.some off found found_is)
@@ -119,7 +120,7 @@ module _ (member : ℕ → Bool) (order : ℕ → ℕ) (p : Parts) (parts : Stru
       (record { places = turns.turns.places; turns = turns.turns.turns }) found found_is).turns.next
 
   hr : HarvestReports order d new hand parts e x acc reported
-  hr = row_told member order p parts hand e t found acc reported due differs owners turns fed tells on_it none before r
+  hr = row_told member order p parts hand e t found acc reported due differs owners (bulk_takes_turns p.driver turns) standing.bulk.kind fed tells on_it none before r
 
   -- ---- what is reported then
 
@@ -146,7 +147,7 @@ module _ (member : ℕ → Bool) (order : ℕ → ℕ) (p : Parts) (parts : Stru
   told_beside : (f : ℕ) (v : Endpoint) → f ≢ e → slice_get d.endpoints f ≡ Some v → v.gone ≡ false → told (32 * v.queue) ≡ reported (32 * v.queue)
   told_beside f v apart at still =
       told_is f v (k.beside f v apart at) still
-      ∙ now_beside (32 * v.queue) (λ same. apart (queue_alone p e t found due owners turns f v at still (let q : v.queue ≡ due.endpoint.queue = omega (arith, same) in q)))
+      ∙ now_beside (32 * v.queue) (λ same. apart (queue_alone p e t found due owners (bulk_takes_turns p.driver turns) f v at still (let q : v.queue ≡ due.endpoint.queue = omega (arith, same) in q)))
 
   -- ---- which bytes these are
 
@@ -155,7 +156,7 @@ module _ (member : ℕ → Bool) (order : ℕ → ℕ) (p : Parts) (parts : Stru
       let some = place.some in
       let most = place.most in
       subst (λ (b : ℕ). IsRead (parts (32 * due.endpoint.queue)) (note_at d.notes b) b) (sym place.place)
-      (read_at (parts (32 * due.endpoint.queue)) d.notes y.first (y.qtds - y.left) y.qtds (omega (arith, some, most)) (reads p e t found due owners turns parts fed))
+      (read_at (parts (32 * due.endpoint.queue)) d.notes y.first (y.qtds - y.left) y.qtds (omega (arith, some, most)) (reads p e t found due owners (bulk_takes_turns p.driver turns) standing.bulk.kind parts fed))
 
   abbrev behind_it : List ℕ
   behind_it = pieces_from (note_in p.driver.notes) (note_at p.driver.notes due.transfer.place).next (due.transfer.left - 1)

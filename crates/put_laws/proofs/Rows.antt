@@ -43,6 +43,7 @@ use Rattle.unlinked_streams.specs.Unlinks.{IsAtUnlink}
 use Rattle.put_laws.specs.HeldPuts.{HoldsPuts}
 use Rattle.put_laws.specs.HeldLaws.{IsReleasedMet, DriverHoldsPuts}
 use Rattle.put_laws.proofs.HeldAlike.{note_is, was_itself, puts_stay, alike_holds, same_holds}
+use Rattle.fed_queues.proofs.Sized.{moves_told}
 use Rattle.put_laws.proofs.Stored.{IsStored, pieces_stored, words_stored, either_way, IsInBuffer, stored_at}
 use Rattle.put_laws.proofs.Harvested.{Likes, harvest_like}
 use Rattle.put_laws.proofs.Released.{release_holds}
@@ -124,7 +125,7 @@ store_holds d m parts puts b at v turns tells fed beside made held =
           let note = note_at d.notes (piece_at (note_in d.notes) y.first i) in
           either_way m new note
           (λ some.
-          let s : IsStored (parts n) note = pieces_stored d parts t i y moves.endpoint fed there still moves.here (λ newest. made) below some in
+          let s : IsStored (parts n) note = pieces_stored d parts t i y moves.endpoint (moves_told d y moves) fed there still moves.here (λ newest. made) below some in
           words_stored m new note
           (λ j inside.
           let buffer : Structure = Buffer (element_pages s.qtd) s.qtd.offset s.bytes in
@@ -314,7 +315,7 @@ module _ (base : Base) (member : ℕ → Bool) (parts : StructureSets) (hand : H
       let o = first_owed p.driver t due.first owners.orderly in
       let moves : MovesAs p.driver o.transfer = turns.bulk.moves t o.transfer o.there in
       release_holds base member parts hand w p order out t o.transfer moves.endpoint (released t row)
-      (record { free = due.idle; first = due.first; here = o.there; held = o.released; reported = o.reported; endpoint = moves.here; near = near t o.transfer moves.endpoint row o.there moves.here }) puts held
+      (record { free = due.idle; first = due.first; here = o.there; held = o.released; reported = o.reported; endpoint = moves.here; near = near t o.transfer moves.endpoint row o.there moves.here }) turns.bulk puts held
 
   by_row : (row : DriverRow) → driver_row p ≡ row → IsDue p row → Holds row
   by_row rows.Lend is due = lent_holds p.driver p.memory p.memory puts turns.bulk refl held

@@ -29,7 +29,7 @@ use Rattle.chained_transfers.specs.Chains.{piece_at}
 use Rattle.chained_transfers.specs.Turns.{IsAtPlace}
 use Rattle.chained_transfers.proofs.Harvesting.{waits_is}
 use Rattle.chained_transfers.proofs.Ways.{moves_queued, found_by}
-use Rattle.fed_queues.specs.Fed.{IsPieceFed, unpublished_of}
+use Rattle.fed_queues.specs.Fed.{IsPieceFed, unpublished_of, sized}
 use Rattle.fed_queues.specs.Places.{IsMet}
 use Rattle.released_queues.proofs.Queues.{none_yet}
 use Rattle.whole_sends.specs.Whole.{bytes_of_element, buffer_at}
@@ -106,7 +106,7 @@ module _ (p : Parts) (e t : ℕ) (found : Found) (hand : Hand) (parts : Structur
       no_open : (b : ℕ) → ◌≡◌ {A = Option Command} None (Some (unfinished.Open b)) → ⊥
       no_open b same = cc
 
-  piece : IsPieceFed y.sort (parts n) (note_at d.notes (piece_at (note_in d.notes) y.first i)) (piece_at (note_in d.notes) y.first i) (piece_at (note_in d.notes) y.first y.qtds)
+  piece : IsPieceFed y.sort (parts n) (sized y.sort i (note_at d.notes (piece_at (note_in d.notes) y.first i))) (piece_at (note_in d.notes) y.first i) (piece_at (note_in d.notes) y.first y.qtds)
   piece =
       let none : unpublished_of d t y ≡ 0 = none_yet d.command d.made y.qtds (nat_eq (suc t) (length d.transfers)) k.due.idle in
       let some = at_place.some in

@@ -22,7 +22,8 @@ use Rattle.lent_structures.specs.Structures.{Structure, Buffer, Structures, Stru
 use Rattle.lent_structures.specs.Sound.{element_pages, buffer_name, HasBuffer}
 use Rattle.harvested_streams.specs.Harvested.{IsNoted}
 use Rattle.harvested_streams.proofs.Harvesting.{bytes_read}
-use Rattle.fed_queues.specs.Fed.{IsPieceFed, unpublished_of, IsPublished, AreFed}
+use Rattle.fed_queues.specs.Fed.{is_request, IsPieceFed, unpublished_of, IsPublished, AreFed}
+use Rattle.fed_queues.proofs.Sized.{told_size, told_fed}
 use Rattle.put_laws.proofs.Words.{bytes_same}
 use Rattle.put_laws.proofs.HeldAlike.{SameBytes}
 
@@ -46,12 +47,13 @@ buffer_stored part note t has places = record {
 abbrev pub fed_stored : (sort : Sort) (part : Structures) (note : QtdNote) (b end : ℕ) → IsPieceFed sort part note b end → 0 < note.told → IsStored part note
 fed_stored sort part note b end fed some = buffer_stored part note fed.qtd (fed.buffer some) fed.places
 
-published_stored : (d : DriverContent) (parts : StructureSets) (b : ℕ) (words : List ℕ) → (p : IsPublished d parts b words) → 1 ≤ d.made → 0 < (note_at d.notes b).told → IsStored (parts (32 * p.endpoint.queue)) (note_at d.notes b)
-published_stored d parts b words p made some =
+published_stored : (d : DriverContent) (parts : StructureSets) (b : ℕ) (words : List ℕ) → (p : IsPublished d parts b words) → is_request p.transfer.sort ≡ false → 1 ≤ d.made → 0 < (note_at d.notes b).told → IsStored (parts (32 * p.endpoint.queue)) (note_at d.notes b)
+published_stored d parts b words p plain made some =
     let part = parts (32 * p.endpoint.queue) in
-    let total = p.total in
+    let all = told_size p.transfer.sort 0 (note_at d.notes b).told plain in
+    let total : p.qtd.token.total ≡ (note_at d.notes b).told = p.total ∙ all in
     let has : HasBuffer part p.qtd p.qtd.token.total = ((p.may made).sound.work p.active).buffer (omega (arith, total, some)) in
-    buffer_stored part (note_at d.notes b) p.qtd (subst (HasBuffer part p.qtd) total has) p.places
+    buffer_stored part (note_at d.notes b) p.qtd (subst (HasBuffer part p.qtd) total has) (λ j below. p.places j (omega (arith, below, all)))
 
 -- ---- its bytes
 
@@ -127,10 +129,10 @@ same_publish : (b c : ℕ) (words others : List ℕ) → ◌≡◌ {A = Option C
 same_publish b c words others is = cc
 
 -- each is stored, but where its transfer is still to be lent
-pub pieces_stored : (d : DriverContent) (parts : StructureSets) (t i : ℕ) (y : Transfer) (x : Endpoint) → AreFed d parts → slice_get d.transfers t ≡ Some y → y.released ≡ false → slice_get d.endpoints y.endpoint ≡ Some x
+pub pieces_stored : (d : DriverContent) (parts : StructureSets) (t i : ℕ) (y : Transfer) (x : Endpoint) → is_request y.sort ≡ false → AreFed d parts → slice_get d.transfers t ≡ Some y → y.released ≡ false → slice_get d.endpoints y.endpoint ≡ Some x
     → (suc t ≡ length d.transfers → (b : ℕ) (words : List ℕ) → d.command ≡ Some (unfinished.Publish b words) → 1 ≤ d.made) → i < y.qtds → 0 < (note_at d.notes (piece_at (note_in d.notes) y.first i)).told
     → IsStored (parts (32 * x.queue)) (note_at d.notes (piece_at (note_in d.notes) y.first i))
-pieces_stored d parts t i y x fed there held here lent below some =
+pieces_stored d parts t i y x plain fed there held here lent below some =
     ⊎_elim
     (λ (early : i < unpublished_of d t y).
     let k = newest_by d t i y (nat_eq (suc t) (length d.transfers)) refl early in
@@ -143,8 +145,8 @@ pieces_stored d parts t i y x fed there held here lent below some =
     let block : piece_at (note_in d.notes) y.first i ≡ k.out.block = ap (piece_at (note_in d.notes) y.first) first ∙ ap (λ (r : Transfer). r.first) same ∙ p.place.0 in
     subst (λ (c : ℕ). IsStored (parts (32 * x.queue)) (note_at d.notes c)) (sym block)
     (subst (λ (z : Endpoint). IsStored (parts (32 * z.queue)) (note_at d.notes k.out.block)) (sym end)
-    (published_stored d parts k.out.block k.out.words p made (subst (λ (c : ℕ). 0 < (note_at d.notes c).told) block some))))
+    (published_stored d parts k.out.block k.out.words p (ap (λ (r : Transfer). is_request r.sort) (sym same) ∙ plain) made (subst (λ (c : ℕ). 0 < (note_at d.notes c).told) block some))))
     (λ (late : unpublished_of d t y ≤ i).
     fed_stored y.sort (parts (32 * x.queue)) (note_at d.notes (piece_at (note_in d.notes) y.first i)) (piece_at (note_in d.notes) y.first i) (piece_at (note_in d.notes) y.first y.qtds)
-    (fed.pieces t i y x there held here late below) some)
+    (told_fed y.sort (parts (32 * x.queue)) i (note_at d.notes (piece_at (note_in d.notes) y.first i)) (piece_at (note_in d.notes) y.first i) (piece_at (note_in d.notes) y.first y.qtds) plain (fed.pieces t i y x there held here late below)) some)
     (cases_lt i (unpublished_of d t y))

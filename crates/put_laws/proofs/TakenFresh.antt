@@ -17,7 +17,7 @@ use Rattle.chained_transfers.specs.Turns.{IsAtPlace}
 use Rattle.lent_structures.specs.Structures.{StructureSets}
 use Rattle.lent_structures.proofs.Altering.{found_element}
 use Rattle.ring_laws.specs.Order.{IsFresh, IsAmong}
-use Rattle.fed_queues.specs.Fed.{AreFed, IsPieceFed, unpublished_of}
+use Rattle.fed_queues.specs.Fed.{AreFed, IsPieceFed, unpublished_of, sized}
 use Rattle.fed_lends.proofs.Asked.{piece_more}
 use Rattle.released_queues.proofs.Outs.{IsOutIn, out_of_one}
 use Rattle.whole_sends.specs.Laws.{AreFresh}
@@ -85,7 +85,7 @@ module _ (d : DriverContent) (parts : StructureSets) (e : ℕ) (x : Endpoint) (t
       let all = all_published k.number y k.here k.is.endpoint in
       let below = k.is.dropped.below in
       let most = place.most in
-      let piece : IsPieceFed y.sort (parts n) (note_at d.notes (piece_at note y.first i)) (piece_at note y.first i) (piece_at note y.first y.qtds) =
+      let piece : IsPieceFed y.sort (parts n) (sized y.sort i (note_at d.notes (piece_at note y.first i))) (piece_at note y.first i) (piece_at note y.first y.qtds) =
       fed.pieces k.number i y x k.here k.is.held (ap (slice_get d.endpoints) k.is.endpoint ∙ here) (omega (arith, all)) (omega (arith, below, most)) in
       let address : a ≡ 32 * piece_at note y.first i =
       k.is.dropped.at ∙ ap (λ (b : ℕ). 32 * b) (ap (λ (b : ℕ). piece_at note b number) place.place ∙ piece_more note y.first (y.qtds - y.left) number) in

@@ -51,7 +51,7 @@ use Rattle.controlled_streams.specs.Control.{ControlEffect, a_microframe, a_step
 use Rattle.ring_laws.specs.Sparing.{HasOverlay}
 use Rattle.whole_sends.specs.Whole.{AreSentWhole}
 use Rattle.whole_sends.specs.Laws.{IsStopped}
-use Rattle.fed_queues.specs.Fed.{AreFed, IsPieceFed, unpublished_of}
+use Rattle.fed_queues.specs.Fed.{AreFed, IsPieceFed, unpublished_of, sized}
 use Rattle.released_queues.proofs.Queues.{none_yet}
 use Rattle.put_laws.specs.OwedTaken.{EndedAreStopped, EventKeepsStopped, SparedStayStopped, AlikeStayStopped, HarvestStops}
 use Rattle.put_laws.proofs.Same.{not_gone, WasEnd, WereEnds, ends_same}
@@ -212,7 +212,7 @@ module _ (member : ℕ → Bool) (order : ℕ → ℕ) (out : List ℕ) (p : Par
   at_place : IsAtPlace (note_in d.notes) y
   at_place = turns.turns.places t y due.there held
 
-  piece : IsPieceFed y.sort (parts n) (note_at d.notes (piece_at (note_in d.notes) y.first i)) (piece_at (note_in d.notes) y.first i) (piece_at (note_in d.notes) y.first y.qtds)
+  piece : IsPieceFed y.sort (parts n) (sized y.sort i (note_at d.notes (piece_at (note_in d.notes) y.first i))) (piece_at (note_in d.notes) y.first i) (piece_at (note_in d.notes) y.first y.qtds)
   piece =
       let none : unpublished_of d t y ≡ 0 = none_yet d.command d.made y.qtds (nat_eq (suc t) (length d.transfers)) due.idle in
       let some = at_place.some in

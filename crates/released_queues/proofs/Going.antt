@@ -30,7 +30,7 @@ use Rattle.controlled_streams.specs.Returned.{KeepsBuffers}
 use Rattle.driver_laws.specs.Inventory.{Sort, sort_of, OfBuffer, IsPieceOf, IsDriverOwned, the_list, the_head, a_queue, a_dummy, a_piece, a_buffer}
 use Rattle.driver_laws.specs.Released.{goes_of}
 use Rattle.driver_laws.proofs.Blocks.{mine, placed_buffer}
-use Rattle.fed_queues.specs.Fed.{IsPieceFed}
+use Rattle.fed_queues.specs.Fed.{IsPieceFed, sized}
 use Rattle.released_queues.specs.Fronts.{piece_address, StandsAt}
 use Rattle.released_queues.specs.Released.{IsReturning, ReleaseStands}
 use Rattle.released_queues.proofs.Pieces.{HasNumber, number_of, piece_next, rises_below, first_taken, name_noted}
@@ -63,7 +63,7 @@ module _ (base : Base) (member : ℕ → Bool) (parts : StructureSets) (hand : H
   among : (a : ℕ) (q : Qtd) → parts n a ≡ Some (ElementOf q) → InQueue base member parts hand w p order out t y x s k a
   among = in_queue base member parts hand w p order out t y x s k
 
-  fed : (u i : ℕ) (z : Transfer) → slice_get d.transfers u ≡ Some z → z.released ≡ false → z.endpoint ≡ y.endpoint → i < z.qtds → IsPieceFed z.sort (parts n) (note_at d.notes (piece_at note z.first i)) (piece_at note z.first i) (piece_at note z.first z.qtds)
+  fed : (u i : ℕ) (z : Transfer) → slice_get d.transfers u ≡ Some z → z.released ≡ false → z.endpoint ≡ y.endpoint → i < z.qtds → IsPieceFed z.sort (parts n) (sized z.sort i (note_at d.notes (piece_at note z.first i))) (piece_at note z.first i) (piece_at note z.first z.qtds)
   fed = fed_piece base member parts hand w p order out t y x s k
 
   same_transfer : (u : ℕ) (z : Transfer) → slice_get d.transfers u ≡ Some z → u ≡ t → z ≡ y
@@ -141,8 +141,12 @@ module _ (base : Base) (member : ℕ → Bool) (parts : StructureSets) (hand : H
           let b_is : 32 * (note (piece_at note z.first i)).next ≡ b = same_target (32 * (note (piece_at note z.first i)).next) b (sym (ap qtd_link_of f.noted.next) ∙ ap (λ (r : Qtd). qtd_link_of r.next) (sym is) ∙ to) in
           ap goes (sym b_is ∙ ap (λ (c : ℕ). 32 * c) (sym (piece_next note z.first i))) ∙ link_off base member parts hand w p order out t y x s k u i z there held same differs below)
           (λ (to : qtd_link_of q.alternate ≡ qtd_links.To b).
-          let b_is : 32 * piece_at note z.first z.qtds ≡ b = alternate_to z.sort (piece_at note z.first z.qtds) b (sym (ap qtd_link_of f.noted.alternate) ∙ ap (λ (r : Qtd). qtd_link_of r.alternate) (sym is) ∙ to) in
-          ap goes (sym b_is) ∙ off (piece_at note z.first z.qtds) (end_off base member parts hand w p order out t y x s k u z there held same differs)) leads) (cases_eq u t)
+          let next : ℕ = (note (piece_at note z.first i)).next in
+          let end : ℕ = piece_at note z.first z.qtds in
+          ⊎_elim (λ (b_is : 32 * end ≡ b). ap goes (sym b_is) ∙ off end (end_off base member parts hand w p order out t y x s k u z there held same differs))
+          (λ (b_is : 32 * next ≡ b).
+          ap goes (sym b_is ∙ ap (λ (c : ℕ). 32 * c) (sym (piece_next note z.first i))) ∙ link_off base member parts hand w p order out t y x s k u i z there held same differs below)
+          (alternate_to z.sort f.qtd.alternate next end b f.noted.alternate (ap (λ (r : Qtd). qtd_link_of r.alternate) (sym is) ∙ to))) leads) (cases_eq u t)
 
   -- ---- buffers
 
@@ -168,7 +172,7 @@ module _ (base : Base) (member : ℕ → Bool) (parts : StructureSets) (hand : H
       let place : HasNumber note y.first y.qtds c = number_of note y.first y.qtds c (subst (λ (f : TransferRuns). IsPieceOf note f.first f.qtds c) runs_are piece) in
       let f = fed t place.number y k.here k.held refl place.below in
       let first_is : slice_index (note_at d.notes (piece_at note y.first place.number)).buffer 0 ≡ g = ap (λ (i : ℕ). slice_index (note_at d.notes i).buffer 0) (sym place.at) ∙ first_taken (note_at d.notes c).runs g gs (note_at d.notes c).buffer first in
-      let name_is : buffer_name f.qtd ≡ 32 * g = name_noted y.sort f.qtd (note_at d.notes (piece_at note y.first place.number)) (piece_at note y.first y.qtds) f.noted ∙ ap (λ (i : ℕ). 32 * i) first_is in
+      let name_is : buffer_name f.qtd ≡ 32 * g = name_noted y.sort f.qtd (sized y.sort place.number (note_at d.notes (piece_at note y.first place.number))) (piece_at note y.first y.qtds) f.noted ∙ ap (λ (i : ℕ). 32 * i) first_is in
       let same : b ≡ piece_address d y place.number = member_here.own b (piece_address d y place.number) q f.qtd pages j bs here f.here (sym name ∙ sym name_is) (ap (parts n) (sym name) ∙ there) in
       absurd (true≢false (sym (on place.number place.below) ∙ ap goes (sym same) ∙ stay)))
       (λ (differs : u ≢ t). off g (ap (mine t) mine_first.0.owned ∙ not_same u t differs)) (cases_eq u t)

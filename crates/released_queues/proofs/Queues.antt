@@ -1,13 +1,14 @@
 -- What a queue has, and what of it goes with a transfer that is given back.
-use Rattle.std.proofs.Common.{◌≡◌, ◌≢◌, ℕ, suc, ◌+◌, ◌*◌, ◌||◌, ◌<◌, ◌≤◌, Bool, true, false, if◌then◌else◌, List, length, slice_get, Option, Some, None, option_map, ap, refl, sym, subst, ◌∙◌, ⊎_elim, arith}
+use Rattle.std.proofs.Common.{◌≡◌, ◌≢◌, ℕ, suc, ◌+◌, ◌*◌, ◌||◌, ◌<◌, ◌≤◌, Bool, true, false, if◌then◌else◌, List, length, slice_get, Option, Some, None, option_map, ap, refl, sym, subst, ◌∙◌, ⊎_elim, inl, inr, ◌⊎◌, arith}
 use Rattle.std.specs.Prelude.{nat_eq}
 use Rattle.std.specs.List.{AllByRecursion}
 use Rattle.std.proofs.lemmas.Bool.{cases_lt, true≢false}
 use Rattle.std.proofs.lemmas.Option.{same_Some}
-use Rattle.usb_base.specs.declared.packets.EpKind.{EpKind}
 use Rattle.link_words.specs.declared.kinds.QtdLink.{QtdLink}
 use Rattle.link_words.specs.declared.kinds.QtdLink.TheVariants as qtd_links
-use Rattle.link_words.specs.Links.{qtd_link_of}
+use Rattle.link_words.specs.declared.fields.ShortLink.{ShortLink}
+use Rattle.link_words.specs.Links.{qtd_link_of, no_qtd}
+use Rattle.driver_rows.specs.Words.{to_qtd}
 use Rattle.qh_qtd.specs.declared.qtd.Qtd.{Qtd}
 use Rattle.async_walk.specs.Walk.{Walk}
 use Rattle.driver_rows.specs.declared.content.Command.{Command}
@@ -16,14 +17,14 @@ use Rattle.driver_rows.specs.declared.content.Sort.{Sort as Sorted}
 use Rattle.driver_rows.specs.declared.content.Sort.TheVariants as sorts
 use Rattle.driver_rows.specs.declared.content.Transfer.{Transfer}
 use Rattle.driver_rows.specs.DriverContent.{DriverContent}
-use Rattle.driver_rows.specs.Rows.{Parts as DriverParts, is_iso}
+use Rattle.driver_rows.specs.Rows.{Parts as DriverParts}
 use Rattle.driver_rows.specs.Harvests.{note_at}
 use Rattle.run_owners.specs.Owners.{Owner, QueueHead as QueueHeadOf, Element, IsPlaced, ArePieces, EndpointRuns, TransferRuns, NoteRuns, runs_of_endpoint, runs_of_transfer, note_in, Views, views_of}
 use Rattle.chained_transfers.specs.Chains.{piece_at, end_of, NoneFrom}
 use Rattle.chained_transfers.specs.Turns.{turn_of, StandsBefore}
 use Rattle.chained_transfers.specs.Out.{unpublished}
 use Rattle.chained_transfers.proofs.Chained.{within_list}
-use Rattle.chained_transfers.proofs.Ways.{moves_queued}
+use Rattle.chained_transfers.proofs.BulkAndControl.{not_iso, moves_queued_of}
 use Rattle.lent_structures.specs.Structures.{Element as ElementOf, Structures, StructureSets}
 use Rattle.lent_structures.proofs.Names.{not_same}
 use Rattle.lent_structures.specs.Sound.{IsElement, LeadsOn}
@@ -33,7 +34,7 @@ use Rattle.driver_laws.specs.Inventory.{Sort, sort_of, OfElement, IsLent, IsQueu
 use Rattle.driver_laws.proofs.LendOwning.{number_of as owner_number}
 use Rattle.driver_laws.specs.Released.{blocks_of, goes_of, IsToGo}
 use Rattle.driver_laws.proofs.Blocks.{mine, all_mine, none_mine, is_named, is_not_named, piece_among, placed_buffer}
-use Rattle.fed_queues.specs.Fed.{alternate_by, IsPieceFed, unpublished_of}
+use Rattle.fed_queues.specs.Fed.{IsAlternate, IsPieceFed, unpublished_of, sized}
 use Rattle.released_queues.specs.Fronts.{piece_address}
 use Rattle.released_queues.specs.Released.{IsReturning, ReleaseStands}
 use Rattle.released_queues.proofs.Pieces.{piece_is, number_of, HasNext, find_next}
@@ -66,12 +67,13 @@ pub same_target : (b c : ℕ) → qtd_links.To b ≡ qtd_links.To c → b ≡ c
 unfolding target
 same_target b c is = ap (λ (l : QtdLink). target l b) is
 
--- a qTD without an alternate has none that leads anywhere
-pub alternate_to : (sort : Sorted) (end b : ℕ) → qtd_link_of (alternate_by sort end) ≡ qtd_links.To b → 32 * end ≡ b
-alternate_to sorts.Get end b is = same_target (32 * end) b is
-alternate_to sorts.Put end b is = absurd (leads_nowhere b is)
-alternate_to sorts.Request end b is = absurd (leads_nowhere b is)
-alternate_to sorts.Descriptor end b is = absurd (leads_nowhere b is)
+-- an alternate that leads anywhere leads to the end, or where the next does
+pub alternate_to : (sort : Sorted) (l : ShortLink) (next end b : ℕ) → IsAlternate sort l next end → qtd_link_of l ≡ qtd_links.To b → (32 * end ≡ b) ⊎ (32 * next ≡ b)
+alternate_to sorts.Get l next end b is to = inl (same_target (32 * end) b (sym (ap qtd_link_of is) ∙ to))
+alternate_to sorts.Put l next end b is to = absurd (leads_nowhere b (sym (ap qtd_link_of is) ∙ to))
+alternate_to sorts.Request l next end b is to =
+    ⊎_elim (λ (none : l ≡ no_qtd). absurd (leads_nowhere b (sym (ap qtd_link_of none) ∙ to))) (λ (on : l ≡ to_qtd next). inr (same_target (32 * next) b (sym (ap qtd_link_of on) ∙ to))) is
+alternate_to sorts.Descriptor l next end b is to = absurd (leads_nowhere b (sym (ap qtd_link_of is) ∙ to))
 
 module _ (base : Base) (member : ℕ → Bool) (parts : StructureSets) (hand : Hand) (w : Walk) (p : DriverParts) (order : ℕ → ℕ → ℕ) (out : ℕ → List ℕ) (t : ℕ) (y : Transfer) (x : Endpoint) (s : ReleaseStands base member parts hand w p order out) (k : IsReturning p.driver t y x) where
   abbrev d : DriverContent
@@ -101,19 +103,19 @@ module _ (base : Base) (member : ℕ → Bool) (parts : StructureSets) (hand : H
 
   pub queue_of : (e : ℕ) (z : Endpoint) → slice_get d.endpoints e ≡ Some z → z.gone ≡ false → IsQueueIn v e (runs_of_endpoint z)
   queue_of e z here kept =
-      let st = s.bulk.endpoints e z here in
-      record { here = ap (option_map runs_of_endpoint) here; queued = ap (λ (i : EpKind). is_iso i || z.gone) st.bulk.kind ∙ kept }
+      let st = s.asynchronous.endpoints e z here in
+      record { here = ap (option_map runs_of_endpoint) here; queued = ap (λ (i : Bool). i || z.gone) (not_iso z.desc st.asynchronous) ∙ kept }
 
   pub transfer_of : (u : ℕ) (z : Transfer) (e : Endpoint) → slice_get d.transfers u ≡ Some z → z.released ≡ false → slice_get d.endpoints z.endpoint ≡ Some e → IsTransferIn v u (runs_of_transfer z) (runs_of_endpoint e)
   transfer_of u z e here held at = record {
     here = ap (option_map runs_of_transfer) here;
     held = held;
-    qtds = moves_queued d z (s.bulk.moves u z here);
+    qtds = moves_queued_of d z (s.asynchronous.moves u z here);
     queue = queue_of z.endpoint e at (held_alive d u z e s.turns here held at);
   }
 
   pub to_go : IsToGo d t y (runs_of_endpoint x)
-  to_go = record { here = k.here; held = k.held; qtds = moves_queued d y (s.bulk.moves t y k.here); queue = queue_of y.endpoint x k.endpoint its_alive }
+  to_go = record { here = k.here; held = k.held; qtds = moves_queued_of d y (s.asynchronous.moves t y k.here); queue = queue_of y.endpoint x k.endpoint its_alive }
 
   pub pieces_of : (u : ℕ) (z : Transfer) → slice_get d.transfers u ≡ Some z → z.released ≡ false → ArePieces v.slot owner v.note u z.first z.qtds
   pieces_of u z here held = s.owners.owned.each.pieces u (runs_of_transfer z) (ap (option_map runs_of_transfer) here) held
@@ -174,7 +176,7 @@ module _ (base : Base) (member : ℕ → Bool) (parts : StructureSets) (hand : H
   same_endpoint z same = ap (slice_get d.endpoints) same ∙ k.endpoint
 
   pub fed_piece : (u i : ℕ) (z : Transfer) → slice_get d.transfers u ≡ Some z → z.released ≡ false → z.endpoint ≡ y.endpoint → i < z.qtds
-      → IsPieceFed z.sort (parts n) (note_at d.notes (piece_at note z.first i)) (piece_at note z.first i) (piece_at note z.first z.qtds)
+      → IsPieceFed z.sort (parts n) (sized z.sort i (note_at d.notes (piece_at note z.first i))) (piece_at note z.first i) (piece_at note z.first z.qtds)
   fed_piece u i z here held same below =
       let none : unpublished_of d u z ≡ 0 = none_yet d.command d.made z.qtds (nat_eq (suc u) (length d.transfers)) k.free in
       s.fed.pieces u i z x here held (same_endpoint z same) (omega (arith, none)) below

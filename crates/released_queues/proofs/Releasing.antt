@@ -14,7 +14,6 @@ use Rattle.driver_rows.specs.declared.content.QtdNote.{QtdNote}
 use Rattle.driver_rows.specs.declared.content.Sort.{Sort}
 use Rattle.driver_rows.specs.DriverContent.{DriverContent}
 use Rattle.driver_rows.specs.Rows.{Parts as DriverParts, freed_by, free_runs, free_qtds, after_transfer, after_driver_row}
-use Rattle.driver_rows.specs.Words.{head_block}
 use Rattle.driver_rows.specs.Harvests.{note_at}
 use Rattle.run_owners.specs.Owners.{NoteRuns, runs_of_endpoint, note_in}
 use Rattle.run_owners.proofs.Released.{set_here, set_there}
@@ -39,7 +38,7 @@ use Rattle.driver_laws.specs.Released.{blocks_of, goes_of, release_row}
 use Rattle.driver_laws.proofs.Blocks.{mine, qtds_are_runs}
 use Rattle.driver_laws.proofs.Freeing.{IsLess, runs_less}
 use Rattle.driver_laws.proofs.Releasing.{release_drives}
-use Rattle.fed_queues.specs.Fed.{IsPieceFed, unpublished_of, AreFed}
+use Rattle.fed_queues.specs.Fed.{IsPieceFed, unpublished_of, AreFed, sized}
 use Rattle.fed_queues.specs.Places.{IsMet, AreMet, HaveStreams, AreLast, AreStillOut, IsThere}
 use Rattle.released_queues.specs.Fronts.{piece_address, StandsAt, FrontsStand}
 use Rattle.released_queues.specs.Released.{IsReturning, ReleaseStands, ReleaseFeeds, ReleaseKeepsMet}
@@ -136,6 +135,7 @@ module _ (base : Base) (member : ℕ → Bool) (parts : StructureSets) (hand : H
             (λ (differs : m ≢ n). ap (λ (part : Structures). buffer_of part f.qtd) (those_beside parts n goes m differs)) (cases_eq m n)) ∙ f.long;
         places = f.places;
         fresh = f.fresh;
+        blank = f.blank;
         buffer = λ some.
             let has = f.buffer some in
             record {
@@ -157,7 +157,7 @@ module _ (base : Base) (member : ℕ → Bool) (parts : StructureSets) (hand : H
     pieces = λ u i z c here held at from below.
         let was = was_there u z here held in
         let none : unpublished_of d u z ≡ 0 = none_yet d.command d.made z.qtds (nat_eq (suc u) (length d.transfers)) k.free in
-        piece_still z.sort (32 * c.queue) (piece_address d z i) (note_at d.notes (piece_at note z.first i)) (piece_at note z.first i) (piece_at note z.first z.qtds) refl (off_piece u i z was.1 held below was.0)
+        piece_still z.sort (32 * c.queue) (piece_address d z i) (sized z.sort i (note_at d.notes (piece_at note z.first i))) (piece_at note z.first i) (piece_at note z.first z.qtds) refl (off_piece u i z was.1 held below was.0)
         (s.fed.pieces u i z c was.1 held at (omega (arith, none)) below);
     publishes = λ b words is. absurd (no_command (unfinished.Publish b words) is);
   }

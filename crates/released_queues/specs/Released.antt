@@ -1,5 +1,5 @@
 -- The blocks of a transfer that was harvested are given back, while the controller walks the ring (EHCI 1.0, 4.10): what the row leaves of a driver
--- whose endpoints are all bulk ones.
+-- whose endpoints are those of the asynchronous schedule.
 --     IsReturning d t y x        transfer t is y, the first that is to be given back, of endpoint x, and no command is unfinished
 --     ReleaseStands ..           what is known of the driver and its queues
 --     IsReleased ..              what the row leaves of them
@@ -14,7 +14,7 @@ use Rattle.driver_rows.specs.DriverContent.{DriverContent}
 use Rattle.driver_rows.specs.Rows.{Parts as DriverParts, after_driver_row}
 use Rattle.run_owners.specs.Owners.{views_of}
 use Rattle.run_owners.specs.Kept.{HasOwners}
-use Rattle.chained_transfers.specs.Bulk.{OnlyBulk}
+use Rattle.chained_transfers.specs.Asynchronous.{OnlyAsynchronous}
 use Rattle.chained_transfers.specs.Chains.{AreChained}
 use Rattle.chained_transfers.specs.Turns.{AreInTurn}
 use Rattle.lent_structures.specs.Structures.{StructureSets}
@@ -48,7 +48,7 @@ pub record ReleaseStands (base : Base) (member : ℕ → Bool) (parts : Structur
   pub owners : HasOwners p.driver
   pub stands : Stands (holding p.driver.book p.memory)
   pub in_runs : AreInRuns (views_of p.driver) parts
-  pub bulk : OnlyBulk p.driver
+  pub asynchronous : OnlyAsynchronous p.driver
   pub chained : AreChained (views_of p.driver)
   pub turns : AreInTurn p.driver
   pub fed : AreFed p.driver parts

@@ -25,6 +25,7 @@ use Rattle.controlled_streams.specs.Reported.{IsReported}
 use Rattle.fed_queues.specs.Places.{IsThere, IsMet}
 use Rattle.fed_queues.proofs.Places.{going_met}
 use Rattle.harvest_laws.specs.Told.{ToldStands}
+use Rattle.chained_transfers.proofs.BulkAndControl.{bulk_takes_turns}
 use Rattle.harvest_laws.proofs.ReadRows.{not_active, wait_told}
 use Rattle.bus_world.specs.World.{World, driver_parts, driver_next}
 use Rattle.stream_worlds.specs.Streaming.{Streams, Standing}
@@ -131,7 +132,7 @@ module _ (fixed : Fixed) (takes : ℕ → ℕ → Bool) (member : ℕ → Bool) 
   moved_whole : found ≢ founds.Active → receives read.endpoint.desc.name.way ≡ false → IsMovedWhole w.driver w.memory read.transfer
   moved_whole differs sends going =
       puts_leave_none (driver_parts w) e t found s.hand s.parts s.order s.out (record { due = read; turns = f.turns; tells = tells; fed = f.queues.fed; sends = sends; sent = k.sent })
-      (not_active (driver_parts w) e t found read owners f.turns differs) going
+      (not_active (driver_parts w) e t found read owners (bulk_takes_turns w.driver f.turns) differs) going
 
   told_after : ToldStands new s.hand s.parts left.reported
   told_after = subst (λ (r : DriverRow). ToldStands (after_driver_row r (driver_parts w)).driver s.hand s.parts left.reported) row left.told

@@ -14,7 +14,7 @@ use Rattle.driver_rows.specs.Harvests.{note_at}
 use Rattle.run_owners.specs.Owners.{NoteRuns, note_in}
 use Rattle.run_owners.proofs.Released.{set_here, set_there}
 use Rattle.chained_transfers.specs.Chains.{piece_at}
-use Rattle.chained_transfers.specs.InTurn.{TakesTurns}
+use Rattle.chained_transfers.specs.AsynchronousTurns.{AsynchronousTakesTurns}
 use Rattle.chained_transfers.specs.Turns.{IsAtPlace}
 use Rattle.chained_transfers.specs.Out.{passed, out_now}
 use Rattle.chained_transfers.proofs.Chained.{piece_same}
@@ -23,7 +23,7 @@ use Rattle.lent_structures.specs.Structures.{Element, Structures, StructureSets}
 use Rattle.lent_structures.proofs.Altering.{found_element}
 use Rattle.ring_laws.specs.Order.{IsAmong}
 use Rattle.ring_laws.specs.Front.{own_pointer, IsPassed, HasFront}
-use Rattle.fed_queues.specs.Fed.{IsPieceFed, unpublished_of, AreFed}
+use Rattle.fed_queues.specs.Fed.{IsPieceFed, unpublished_of, AreFed, sized}
 use Rattle.fed_queues.specs.Places.{IsMet, AreStillOut, IsThere}
 use Rattle.released_queues.specs.Fronts.{piece_address, end_at, StandsAt, FrontsStand}
 use Rattle.released_queues.proofs.Pieces.{rises_below, piece_on}
@@ -62,7 +62,7 @@ pub record HarvestChanges (d f : DriverContent) (parts : StructureSets) (t : ℕ
   pub harvested : (i u : ℕ) → slice_get f.harvested i ≡ Some u
       → ((u ≢ t) × (slice_get d.harvested i ≡ Some u)) ⊎ ((u ≡ t) × (z.left ≡ y.left) × ((x : Endpoint) → slice_get d.endpoints y.endpoint ≡ Some x → EndsThere d (parts (32 * x.queue)) y))
 
-module _ (d f : DriverContent) (parts : StructureSets) (order : ℕ → ℕ → ℕ) (out later : ℕ → List ℕ) (t : ℕ) (y z : Transfer) (k : HarvestChanges d f parts t y z) (turns : TakesTurns d) (fed : AreFed d parts) (rise : LinksOfQueuesRise d parts order) (still : AreStillOut d out) (still_now : AreStillOut f later) (stand : FrontsStand d parts order out) where
+module _ (d f : DriverContent) (parts : StructureSets) (order : ℕ → ℕ → ℕ) (out later : ℕ → List ℕ) (t : ℕ) (y z : Transfer) (k : HarvestChanges d f parts t y z) (turns : AsynchronousTakesTurns d) (fed : AreFed d parts) (rise : LinksOfQueuesRise d parts order) (still : AreStillOut d out) (still_now : AreStillOut f later) (stand : FrontsStand d parts order out) where
   abbrev note : ℕ → NoteRuns
   note = note_in d.notes
 
@@ -128,7 +128,7 @@ module _ (d f : DriverContent) (parts : StructureSets) (order : ℕ → ℕ → 
     abbrev n : ℕ
     n = 32 * x.queue
 
-    here_fed : (i : ℕ) → i < y.qtds → IsPieceFed y.sort (parts n) (note_at d.notes (piece_at note y.first i)) (piece_at note y.first i) (piece_at note y.first y.qtds)
+    here_fed : (i : ℕ) → i < y.qtds → IsPieceFed y.sort (parts n) (sized y.sort i (note_at d.notes (piece_at note y.first i))) (piece_at note y.first i) (piece_at note y.first y.qtds)
     here_fed i below =
         let none : unpublished_of d t y ≡ 0 = none_yet d.command d.made y.qtds (nat_eq (suc t) (length d.transfers)) k.idle in
         fed.pieces t i y x k.here k.held at (omega (arith, none)) below

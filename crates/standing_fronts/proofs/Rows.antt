@@ -1,5 +1,5 @@
 -- The row of a harvest, by what it found.
-use Rattle.std.proofs.Common.{◌≡◌, ◌≢◌, ℕ, zero, suc, ◌+◌, ◌-◌, ◌*◌, ◌==◌, ◌&&◌, not, option_map, ◌<◌, ◌≤◌, ◌⊎◌, Bool, true, false, cond, if◌then◌else◌, List, [], ◌∷◌, set, slice_get, length, Option, Some, None, ap, refl, sym, subst, ◌∙◌, ⊎_elim, inl, inr, arith}
+use Rattle.std.proofs.Common.{◌≡◌, ◌≢◌, ℕ, zero, suc, ◌+◌, ◌-◌, ◌*◌, ◌==◌, ◌&&◌, not, ◌<◌, ◌≤◌, ◌⊎◌, Bool, true, false, cond, if◌then◌else◌, List, [], ◌∷◌, set, slice_get, length, Option, Some, None, ap, refl, sym, subst, ◌∙◌, ⊎_elim, inl, inr, arith}
 use Rattle.std.specs.Prelude.{nat_eq, nat_le}
 use Rattle.std.proofs.lemmas.Bool.{cases_eq, cases_lt, true≢false}
 use Rattle.std.proofs.lemmas.Bool.Decides.{nat_tests}
@@ -33,24 +33,26 @@ use Rattle.run_owners.specs.Leaving.{owes}
 use Rattle.run_owners.specs.Owners.{note_in}
 use Rattle.run_owners.proofs.Released.{set_here, set_there}
 use Rattle.chained_transfers.specs.Chains.{piece_at}
-use Rattle.chained_transfers.specs.InTurn.{TakesTurns}
-use Rattle.chained_transfers.specs.Turns.{IsAtPlace, turn_of}
+use Rattle.chained_transfers.specs.AsynchronousTurns.{AsynchronousTakesTurns}
+use Rattle.chained_transfers.specs.Turns.{IsAtPlace}
 use Rattle.chained_transfers.specs.Out.{passed}
+use Rattle.chained_transfers.proofs.BulkAndControl.{moves_queued_of}
 use Rattle.chained_transfers.proofs.Harvested.{piece_next, note_same, not_served, no_stall}
 use Rattle.chained_transfers.proofs.Harvesting.{waits_is}
-use Rattle.chained_transfers.proofs.Ways.{moves_queued, found_by}
+use Rattle.chained_transfers.proofs.Ways.{found_by}
 use Rattle.harvested_streams.proofs.Harvesting.{token_read}
 use Rattle.lent_structures.specs.Structures.{Element, StructureSets, Tells}
-use Rattle.fed_queues.specs.Fed.{alternate_by, IsPieceFed, unpublished_of, AreFed}
+use Rattle.fed_queues.specs.Fed.{IsAlternate, IsPieceFed, unpublished_of, AreFed, sized}
 use Rattle.fed_queues.specs.Places.{AreStillOut, IsMet}
 use Rattle.released_queues.specs.Fronts.{FrontsStand}
 use Rattle.released_queues.proofs.Queues.{none_yet}
 use Rattle.released_queues.proofs.Outs.{IsDropped}
+use Rattle.mended_heads.specs.Stalling.{IsStall}
 use Rattle.standing_fronts.specs.Along.{HarvestKeepsFronts}
 use Rattle.standing_fronts.proofs.Lists.{times_some, pushed_one}
 use Rattle.standing_fronts.proofs.Harvested.{EndsThere, HarvestChanges, fronts_follow}
-use Rattle.fed_queues.proofs.Places.{going_met}
-use Rattle.chained_transfers.proofs.Holding.{unreleased}
+use Rattle.fed_queues.proofs.Places.{stands_met}
+use Rattle.chained_transfers.proofs.Holding.{stands_unreleased}
 use Rattle.endpoint_lives.proofs.Lives.{none_told}
 
 -- ---- what a token tells
@@ -73,15 +75,32 @@ found_ended sort last note t n what is =
     let both = ended_by t.active t.halted (ends_by sort last t.total) (moved_of note.told t.total) n (halt_of t) what is in
     record { done = both.0; why = both.1 }
 
--- a halt ends a bulk endpoint
-halt_by : (missed babble none : Bool) → end_of kinds.Bulk (if missed then lines.Miss else if babble then lines.Halt causes.Babble else if none then lines.Halt causes.Error else lines.Halt causes.Stall) ≡ None → ⊥
-halt_by true babble none is = cc
-halt_by false true none is = cc
-halt_by false false true is = cc
-halt_by false false false is = cc
+-- a halt that is no stall ends each endpoint
+abbrev halted_by : Bool → Bool → Bool → What
+halted_by missed babble none = if missed then lines.Miss else if babble then lines.Halt causes.Babble else if none then lines.Halt causes.Error else lines.Halt causes.Stall
 
-halt_ends : (t : Token) → end_of kinds.Bulk (halt_of t) ≡ None → ⊥
-halt_ends t is = halt_by t.missed t.babble (nat_eq t.cerr 0) is
+halt_by : (kind : EpKind) (missed babble none : Bool) → end_of kind (halted_by missed babble none) ≡ None → is_stall (halted_by missed babble none) ≡ false → ⊥
+halt_by kind true babble none is stall = cc
+halt_by kind false true none is stall = cc
+halt_by kind false false true is stall = cc
+halt_by kind false false false is stall = true≢false stall
+
+halt_ends : (kind : EpKind) (t : Token) → end_of kind (halt_of t) ≡ None → is_stall (halt_of t) ≡ false → ⊥
+halt_ends kind t is stall = halt_by kind t.missed t.babble (nat_eq t.cerr 0) is stall
+
+-- a stall ends a bulk endpoint
+pub bulk_unstalled : (kind : EpKind) (found : Found) → kind ≡ kinds.Bulk → IsStall kind found → ⊥
+bulk_unstalled kind (founds.Ended n what) bulk stall = true≢false (sym stall.0 ∙ no_stall kind what bulk stall.1)
+bulk_unstalled kind founds.Active bulk stall = stall
+bulk_unstalled kind (founds.Moved n) bulk stall = stall
+bulk_unstalled kind (founds.Served errors) bulk stall = stall
+
+is_unstalled : (kind : EpKind) (found : Found) (n : ℕ) (what : What) → (IsStall kind found → ⊥) → found ≡ founds.Ended n what → end_of kind what ≡ None → is_stall what ≡ false
+is_unstalled kind found n what unstalled is none = by (is_stall what) refl
+  where
+    by : (b : Bool) → is_stall what ≡ b → is_stall what ≡ false
+    by false off = off
+    by true on = absurd (unstalled (subst (IsStall kind) (sym is) (on, none)))
 
 -- ---- where the last one leads
 
@@ -89,14 +108,20 @@ no_alternate : (short : Bool) (alternate next : ShortLink) (to : ℕ) → altern
 no_alternate true alternate next to is last = ap (λ (l : ShortLink). qtd_link_of (if true && not l.t then l else next)) is ∙ ap qtd_link_of last
 no_alternate false alternate next to is last = ap qtd_link_of last
 
-pointer_by : (sort : Sort) (short : Bool) (alternate next : ShortLink) (to : ℕ) → alternate ≡ alternate_by sort to → ((is_get sort && short) ≡ false → next ≡ to_qtd to)
+-- both lead there
+either_way : (short : Bool) (alternate next : ShortLink) (on to : ℕ) → next ≡ to_qtd on → alternate ≡ to_qtd on → next ≡ to_qtd to → qtd_link_of (if short && not alternate.t then alternate else next) ≡ qtd_links.To (32 * to)
+either_way true alternate next on to at also last = ap (λ (l : ShortLink). qtd_link_of (if true && not l.t then l else next)) also ∙ ap qtd_link_of (sym at ∙ last)
+either_way false alternate next on to at also last = ap qtd_link_of last
+
+pointer_by : (sort : Sort) (short : Bool) (alternate next : ShortLink) (on to : ℕ) → next ≡ to_qtd on → IsAlternate sort alternate on to → ((is_get sort && short) ≡ false → next ≡ to_qtd to)
     → qtd_link_of (if short && not alternate.t then alternate else next) ≡ qtd_links.To (32 * to)
-pointer_by sorts.Get true alternate next to is last =
+pointer_by sorts.Get true alternate next on to at is last =
     ap (λ (l : ShortLink). qtd_link_of (if true && not l.t then l else next)) is
-pointer_by sorts.Get false alternate next to is last = ap qtd_link_of (last refl)
-pointer_by sorts.Put short alternate next to is last = no_alternate short alternate next to is (last refl)
-pointer_by sorts.Request short alternate next to is last = no_alternate short alternate next to is (last refl)
-pointer_by sorts.Descriptor short alternate next to is last = no_alternate short alternate next to is (last refl)
+pointer_by sorts.Get false alternate next on to at is last = ap qtd_link_of (last refl)
+pointer_by sorts.Put short alternate next on to at is last = no_alternate short alternate next to is (last refl)
+pointer_by sorts.Request short alternate next on to at is last =
+    ⊎_elim (λ (none : alternate ≡ no_qtd). no_alternate short alternate next to none (last refl)) (λ (also : alternate ≡ to_qtd on). either_way short alternate next on to at also (last refl)) is
+pointer_by sorts.Descriptor short alternate next on to at is last = no_alternate short alternate next to is (last refl)
 
 short_or_last : (sort : Sort) (last : Bool) (n : ℕ) → ends_by sort last n ≡ true → (is_get sort && not (n == 0)) ≡ false → last ≡ true
 short_or_last sort true n ends off = refl
@@ -117,7 +142,7 @@ set_self [] e x here = absurd (cc)
 set_self (z ∷ xs) zero x here = ap (λ (y : _). y ∷ xs) (same_Some x z (sym here))
 set_self (z ∷ xs) (suc e) x here = ap (λ (ys : List _). z ∷ ys) (set_self xs e x here)
 
-module _ (p : Parts) (e t : ℕ) (found : Found) (parts : StructureSets) (order : ℕ → ℕ → ℕ) (out : ℕ → List ℕ) (due : IsHarvestDue p e t found) (owners : HasOwners p.driver) (turns : TakesTurns p.driver) (tells : Tells p.memory parts) (fed : AreFed p.driver parts) where
+module _ (p : Parts) (e t : ℕ) (found : Found) (parts : StructureSets) (order : ℕ → ℕ → ℕ) (out : ℕ → List ℕ) (due : IsHarvestDue p e t found) (owners : HasOwners p.driver) (turns : AsynchronousTakesTurns p.driver) (unstalled : IsStall due.endpoint.desc.kind found → ⊥) (tells : Tells p.memory parts) (fed : AreFed p.driver parts) where
   abbrev d : DriverContent
   d = p.driver
 
@@ -134,13 +159,13 @@ module _ (p : Parts) (e t : ℕ) (found : Found) (parts : StructureSets) (order 
   its_end = ap (slice_get d.endpoints) y_is.0 ∙ due.here
 
   held : y.released ≡ false
-  held = unreleased d t y x turns.bulk turns.turns due.there its_end (none_told x due.goes_on) y_is.1
+  held = stands_unreleased d t y x (turns.asynchronous.endpoints e x due.here) turns.turns due.there its_end (none_told x due.goes_on) y_is.1
 
   -- its endpoint goes on, so the walk meets it
   met : (c : Endpoint) → slice_get d.endpoints y.endpoint ≡ Some c → IsMet d y.endpoint c
   met c at =
       subst (λ (z : Endpoint). IsMet d y.endpoint z) (same_Some x c (sym its_end ∙ at))
-      (going_met d y.endpoint x (turns.bulk.endpoints e x due.here) due.goes_on (λ is. no_open (sym due.idle ∙ is)))
+      (stands_met d y.endpoint x (turns.asynchronous.endpoints e x due.here) due.goes_on (λ is. no_open (sym due.idle ∙ is)))
     where
       no_open : None ≡ Some (unfinished.Open due.endpoint.queue) → ⊥
       no_open bad = cc
@@ -245,26 +270,26 @@ module _ (p : Parts) (e t : ℕ) (found : Found) (parts : StructureSets) (order 
   at_place : IsAtPlace (note_in d.notes) y
   at_place = turns.turns.places t y due.there held
 
-  ends_there : (what : What) → end_of x.desc.kind what ≡ None → Ended y.sort (nat_le y.left 1) token what → (c : Endpoint) → slice_get d.endpoints y.endpoint ≡ Some c → EndsThere d (parts (32 * c.queue)) y
-  ends_there what none ended c at =
+  ends_there : (what : What) → end_of x.desc.kind what ≡ None → is_stall what ≡ false → Ended y.sort (nat_le y.left 1) token what → (c : Endpoint) → slice_get d.endpoints y.endpoint ≡ Some c → EndsThere d (parts (32 * c.queue)) y
+  ends_there what none stall ended c at =
       let i : ℕ = y.qtds - y.left in
       let some = at_place.some in
       let most = at_place.most in
       let yet : unpublished_of d t y ≡ 0 = none_yet d.command d.made y.qtds (nat_eq (suc t) (length d.transfers)) due.idle in
-      let f : IsPieceFed y.sort (parts (32 * c.queue)) (note_at d.notes (piece_at (note_in d.notes) y.first i)) (piece_at (note_in d.notes) y.first i) (piece_at (note_in d.notes) y.first y.qtds) = fed.pieces t i y c due.there held at (omega (arith, yet)) (omega (arith, some, most)) in
+      let f : IsPieceFed y.sort (parts (32 * c.queue)) (sized y.sort i (note_at d.notes (piece_at (note_in d.notes) y.first i))) (piece_at (note_in d.notes) y.first i) (piece_at (note_in d.notes) y.first y.qtds) = fed.pieces t i y c due.there held at (omega (arith, yet)) (omega (arith, some, most)) in
       let place_is : y.place ≡ piece_at (note_in d.notes) y.first i = at_place.place in
       let here : parts (32 * c.queue) (32 * y.place) ≡ Some (Element f.qtd) = ap (λ (b : ℕ). parts (32 * c.queue) (32 * b)) place_is ∙ f.here in
       let read : token ≡ f.qtd.token = token_read p.memory parts (32 * c.queue) y.place f.qtd tells here in
       let right : (token.halted ≡ false) × (ends_by y.sort (nat_le y.left 1) token.total ≡ true) =
       ⊎_elim (λ (halt : (token.halted ≡ true) × (what ≡ halt_of token)).
-      absurd (halt_ends token (ap (end_of kinds.Bulk) (sym halt.1) ∙ ap (λ (kind : EpKind). end_of kind what) (sym (turns.bulk.endpoints e x due.here).bulk.kind) ∙ none)))
+      absurd (halt_ends x.desc.kind token (ap (end_of x.desc.kind) (sym halt.1) ∙ none) (ap is_stall (sym halt.1) ∙ stall)))
       (λ (goes : (token.halted ≡ false) × (ends_by y.sort (nat_le y.left 1) token.total ≡ true)). goes) ended.why in
       record {
         qtd = f.qtd;
         here = here;
         done = ap (λ (k : Token). k.active) (sym read) ∙ ended.done;
         goes_on = ap (λ (k : Token). k.halted) (sym read) ∙ right.0;
-        leads = pointer_by y.sort (not (f.qtd.token.total == 0)) f.qtd.alternate f.qtd.next (piece_at (note_in d.notes) y.first y.qtds) f.noted.alternate
+        leads = pointer_by y.sort (not (f.qtd.token.total == 0)) f.qtd.alternate f.qtd.next (note_at d.notes (piece_at (note_in d.notes) y.first i)).next (piece_at (note_in d.notes) y.first y.qtds) f.noted.next f.noted.alternate
             (λ off.
             let last : nat_le y.left 1 ≡ true = short_or_last y.sort (nat_le y.left 1) token.total right.1 (ap (λ (k : Token). is_get y.sort && not (k.total == 0)) read ∙ off) in
             let one : y.left ≤ 1 = few_by last in
@@ -274,8 +299,8 @@ module _ (p : Parts) (e t : ℕ) (found : Found) (parts : StructureSets) (order 
       few_by : nat_le y.left 1 ≡ true → y.left ≤ 1
       few_by is = ⊎_elim (λ (more : 1 < y.left). absurd (true≢false (sym is ∙ grind (arith, nat_tests)))) (λ (few : y.left ≤ 1). few) (cases_lt 1 y.left)
 
-  done_changes : (n : ℕ) (what : What) → end_of x.desc.kind what ≡ None → Ended y.sort (nat_le y.left 1) token what → HarvestChanges d (served (goes_on (told_with d p.memory t y what x.desc.name (noted d.notes y.place n)) e t x) e) parts t y told_transfer
-  done_changes n what none ended = record {
+  done_changes : (n : ℕ) (what : What) → end_of x.desc.kind what ≡ None → is_stall what ≡ false → Ended y.sort (nat_le y.left 1) token what → HarvestChanges d (served (goes_on (told_with d p.memory t y what x.desc.name (noted d.notes y.place n)) e t x) e) parts t y told_transfer
+  done_changes n what none stall ended = record {
     idle = due.idle;
     idle_now = due.idle;
     notes = λ b. note_same d.notes y.place n b;
@@ -293,7 +318,7 @@ module _ (p : Parts) (e t : ℕ) (found : Found) (parts : StructureSets) (order 
     released = refl;
     fewer = told_fewer;
     harvested = λ i u at.
-        ⊎_elim (λ (old : slice_get d.harvested i ≡ Some u). inl (kept i u old)) (λ (new : u ≡ t). inr (new, refl, ends_there what none ended)) (pushed_one d.harvested t i u at);
+        ⊎_elim (λ (old : slice_get d.harvested i ≡ Some u). inl (kept i u old)) (λ (new : u ≡ t). inr (new, refl, ends_there what none stall ended)) (pushed_one d.harvested t i u at);
   }
 
   -- ---- the row
@@ -305,7 +330,7 @@ module _ (p : Parts) (e t : ℕ) (found : Found) (parts : StructureSets) (order 
       ∙ ap (λ (b : Bool). record p { driver = if b then served (harvested_as d p.memory e t x y found) e else d }) due.waits
 
   found_is : found ≡ found_in y.sort (nat_le y.left 1) (note_at d.notes y.place) token
-  found_is = due.tells ∙ found_by d p.memory y y.sort (moves_queued d y (turns.bulk.moves t y due.there))
+  found_is = due.tells ∙ found_by d p.memory y y.sort (moves_queued_of d y (turns.asynchronous.moves t y due.there))
 
   -- what it leaves of any fact that a harvest leaves
   by_found : (P : DriverContent → Type 0) → ((f : DriverContent) (z : Transfer) → HarvestChanges d f parts t y z → P f) → (g : Found) → found ≡ g → P (served (harvested_as d p.memory e t x y g) e)
@@ -317,15 +342,14 @@ module _ (p : Parts) (e t : ℕ) (found : Found) (parts : StructureSets) (order 
       by_end : (o : Option EndCause) → end_of x.desc.kind what ≡ o → P (served (after_end (told_with d p.memory t y what x.desc.name (noted d.notes y.place n)) e t x (is_stall what) o) e)
       by_end (Some cause) end_is = each (served (after_end (told_with d p.memory t y what x.desc.name (noted d.notes y.place n)) e t x (is_stall what) (Some cause)) e) told_transfer (ended_changes n what cause)
       by_end None end_is =
-          let bulk : x.desc.kind ≡ kinds.Bulk = (turns.bulk.endpoints e x due.here).bulk.kind in
-          let stall : is_stall what ≡ false = no_stall x.desc.kind what bulk end_is in
+          let stall : is_stall what ≡ false = is_unstalled x.desc.kind found n what unstalled is end_is in
           let f0 : DriverContent = told_with d p.memory t y what x.desc.name (noted d.notes y.place n) in
           subst (λ (b : Bool). P (served (after_end f0 e t x b None) e)) (sym stall)
-          (each (served (goes_on f0 e t x) e) told_transfer (done_changes n what end_is (found_ended y.sort (nat_le y.left 1) (note_at d.notes y.place) token n what (sym found_is ∙ is))))
+          (each (served (goes_on f0 e t x) e) told_transfer (done_changes n what end_is stall (found_ended y.sort (nat_le y.left 1) (note_at d.notes y.place) token n what (sym found_is ∙ is))))
 
 pub harvest_keeps : HarvestKeepsFronts
-harvest_keeps p e t found parts order out later due owners turns tells fed rise still still_now stand =
-    subst (λ (q : Parts). AreStillOut q.driver later → FrontsStand q.driver parts order later) (sym (row_is p e t found parts order out due owners turns tells fed))
-    (by_found p e t found parts order out due owners turns tells fed (λ (f : DriverContent). AreStillOut f later → FrontsStand f parts order later)
+harvest_keeps p e t found parts order out later due owners turns unstalled tells fed rise still still_now stand =
+    subst (λ (q : Parts). AreStillOut q.driver later → FrontsStand q.driver parts order later) (sym (row_is p e t found parts order out due owners turns unstalled tells fed))
+    (by_found p e t found parts order out due owners turns unstalled tells fed (λ (f : DriverContent). AreStillOut f later → FrontsStand f parts order later)
     (λ f z changes now. fronts_follow p.driver f parts order out later t due.transfer z changes turns fed rise still now stand) found refl)
     still_now

@@ -1,7 +1,7 @@
 -- The fronts of a driver's queues along its run (EHCI 1.0, 4.10 and 4.10.2).
 --     LinksOfQueuesRise d parts order      links of each queue that the walk may meet lead to later qTDs
 --     WalkKeepsFronts                      the law of each event of the walk
---     HarvestKeepsFronts                   the law of a harvest
+--     HarvestKeepsFronts                   the law of a harvest, but where a control endpoint answered STALL (USB 2.0, 8.5.3.4)
 --     IsAlike d f                          both contents tell met endpoints and transfers that are to be given back alike
 --     AlikeKeepFronts, IdleStoreKeepsFronts, LastStoreKeepsFronts
 --                                          the laws of other rows and commands
@@ -18,7 +18,7 @@ use Rattle.driver_rows.specs.DriverContent.{DriverContent}
 use Rattle.driver_rows.specs.Rows.{Parts, after_driver_row}
 use Rattle.run_owners.specs.Due.{IsHarvestDue}
 use Rattle.run_owners.specs.Kept.{HasOwners}
-use Rattle.chained_transfers.specs.InTurn.{TakesTurns}
+use Rattle.chained_transfers.specs.AsynchronousTurns.{AsynchronousTakesTurns}
 use Rattle.lent_structures.specs.Structures.{StructureSets, Tells}
 use Rattle.ring_laws.specs.Hand.{Hand}
 use Rattle.ring_laws.specs.Ring.{IsInHand}
@@ -27,6 +27,7 @@ use Rattle.ring_laws.specs.Streams.{AreMembers}
 use Rattle.ring_laws.specs.Order.{IsFresh}
 use Rattle.ring_laws.specs.Front.{LinksRise}
 use Rattle.fed_queues.specs.Fed.{AreFed}
+use Rattle.mended_heads.specs.Stalling.{IsStall}
 use Rattle.fed_queues.specs.Places.{IsMet, AreStillOut}
 use Rattle.released_queues.specs.Fronts.{piece_address, FrontsStand}
 use Rattle.controlled_streams.specs.Storing.{IsStore, out_with, with_out, stored_parts}
@@ -40,8 +41,8 @@ WalkKeepsFronts {W} transacts = (member : ℕ → Bool) (parts : StructureSets) 
     → Effect transacts parts hand wire after now later kind → LinksOfQueuesRise d parts order → FrontsStand d parts order out → FrontsStand d now order out
 
 abbrev pub HarvestKeepsFronts : Type 0
-HarvestKeepsFronts = (p : Parts) (e t : ℕ) (found : Found) (parts : StructureSets) (order : ℕ → ℕ → ℕ) (out later : ℕ → List ℕ) → IsHarvestDue p e t found
-    → HasOwners p.driver → TakesTurns p.driver → Tells p.memory parts → AreFed p.driver parts → LinksOfQueuesRise p.driver parts order → AreStillOut p.driver out
+HarvestKeepsFronts = (p : Parts) (e t : ℕ) (found : Found) (parts : StructureSets) (order : ℕ → ℕ → ℕ) (out later : ℕ → List ℕ) → (due : IsHarvestDue p e t found)
+    → HasOwners p.driver → AsynchronousTakesTurns p.driver → (IsStall due.endpoint.desc.kind found → ⊥) → Tells p.memory parts → AreFed p.driver parts → LinksOfQueuesRise p.driver parts order → AreStillOut p.driver out
     → AreStillOut (after_driver_row (rows.Harvest e t found) p).driver later → FrontsStand p.driver parts order out
     → FrontsStand (after_driver_row (rows.Harvest e t found) p).driver parts order later
 

@@ -24,7 +24,7 @@ use Rattle.driver_laws.specs.Inventory.{IsLent}
 use Rattle.chained_transfers.specs.Bulk.{receives}
 use Rattle.chained_transfers.specs.Chains.{piece_at}
 use Rattle.chained_transfers.specs.Out.{unpublished, out_of_transfer, out_of, out_now}
-use Rattle.fed_queues.specs.Fed.{IsPieceFed, unpublished_of, AreFed}
+use Rattle.fed_queues.specs.Fed.{IsPieceFed, unpublished_of, AreFed, sized}
 use Rattle.fed_queues.specs.Places.{IsMet, HasHead, AreMet, HaveStreams, IsLast, AreLast, AreStillOut, IsThere}
 use Rattle.publish_laws.specs.Stores.{QueuesThen}
 use Rattle.unlinked_streams.specs.Unlinks.{IsAtUnlink, driver_then, parts_unlinked, UnlinkLeavesQueues}
@@ -192,6 +192,7 @@ module _ (d : DriverContent) (member : ℕ → Bool) (parts : StructureSets) (k 
     long = ap length (buffer_stays parts at k.queue l k.head m g.qtd) ∙ g.long;
     places = g.places;
     fresh = g.fresh;
+    blank = g.blank;
   }
 
   none_before : (t : ℕ) (y : Transfer) → unpublished_of d t y ≡ 0
@@ -210,8 +211,8 @@ module _ (d : DriverContent) (member : ℕ → Bool) (parts : StructureSets) (k 
         let none = none_before t y in
         let b = piece_at (note_in d.notes) y.first j in
         let end = piece_at (note_in d.notes) y.first y.qtds in
-        subst (λ (q : ℕ). IsPieceFed y.sort (now (32 * q)) (note_at d.notes b) b end) (sym w.queue)
-        (fed_now y.sort (32 * w.endpoint.queue) (note_at d.notes b) b end (old.pieces t j y w.endpoint there held w.here (omega (arith, none)) below));
+        subst (λ (q : ℕ). IsPieceFed y.sort (now (32 * q)) (sized y.sort j (note_at d.notes b)) b end) (sym w.queue)
+        (fed_now y.sort (32 * w.endpoint.queue) (sized y.sort j (note_at d.notes b)) b end (old.pieces t j y w.endpoint there held w.here (omega (arith, none)) below));
     publishes = λ b words command. absurd (none_published b words command);
   }
 

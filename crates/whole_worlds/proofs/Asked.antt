@@ -11,10 +11,11 @@ use Rattle.driver_rows.specs.DriverContent.{DriverContent}
 use Rattle.driver_rows.specs.Offers.{Offered, new_runs, first_of, stage_words, new_transfer}
 use Rattle.run_owners.specs.Accepts.{Transfers}
 use Rattle.chained_transfers.specs.Accepted.{IsAsked}
-use Rattle.fed_lends.proofs.Accepting.{asked_is_to_be_lent, asked_is_blank}
+use Rattle.fed_lends.proofs.Accepting.{asked_is_to_be_lent}
 use Rattle.fed_lends.proofs.Asked.{dummy_in, notes_in}
 use Rattle.standing_fronts.specs.Reaching.{Reaches}
 use Rattle.harvest_laws.proofs.Commanding.{asked_told}
+use Rattle.chained_transfers.proofs.BulkAndControl.{only_asynchronous}
 use Rattle.open_names.proofs.Apart.{accepted_apart}
 use Rattle.commanded_queues.proofs.Tails.{asked_reaches}
 use Rattle.commanded_queues.proofs.Extending.{asked_extents}
@@ -78,15 +79,14 @@ asked_whole fixed takes member x s w line name o asked feeding left k =
     record {
       feeding = feeding;
       under_way = to_be_lent fixed takes member x s w o k asked;
-      blank = asked_is_blank d w.memory o asked k.blank;
-      names = accepted_apart d w.memory o turns.bulk (inr asked) k.names;
+      names = accepted_apart d w.memory o (inr asked.transfers) k.names;
       senders = sides fixed takes member x s w o k asked true x.stream;
       takers = sides fixed takes member x s w o k asked false takes;
       taking = record { ends = k.taking.ends; piped = k.taking.piped; untaken = k.taking.untaken };
-      runs = asked_extents d w.memory o s.parts asked sound.stands sound.owners feeding.working.driven k.runs;
+      runs = asked_extents d w.memory o s.parts asked.transfers sound.stands sound.owners feeding.working.driven k.runs;
       tails = λ e z here met.
           subst (λ (c : ℕ). Reaches o.driver (s.parts (32 * z.queue)) (s.order (32 * z.queue)) (s.out (32 * z.queue)) e z c) (sym (tail_is fixed takes member x s w o k asked e z))
-          (asked_reaches d w.memory o s.parts s.order s.out asked sound.stands sound.owners place.lent turns.bulk (idle_ends d s.parts s.order s.out asked.transfers.idle k.tails) e z here met);
+          (asked_reaches d w.memory o s.parts s.order s.out asked.transfers sound.stands sound.owners place.lent (only_asynchronous d turns.bulk) (idle_ends d s.parts s.order s.out asked.transfers.idle k.tails) e z here met);
       told = asked_told d w.memory o s.hand s.parts s.reported asked sound.stands sound.owners (there_now d turns) turns.turns.places k.told;
       bytes = k.bytes;
       left = left;

@@ -58,7 +58,6 @@ module _ (fixed : Fixed) (takes : ℕ → ℕ → Bool) (member : ℕ → Bool) 
         feeding = beside.feeding;
         under_way = under_way_stays w.driver w.memory new.memory member s.parts now w.driver.command sound.owners sound.stands leaves.lent.words
             (λ is. lent_stays begins_by transacts_by base member s.parts s.hand (controller_parts w) (wired fixed w) (wired fixed new) now later w.driver controlled effect is) k.under_way;
-        blank = k.blank;
         names = k.names;
         senders = k.senders;
         takers = k.takers;

@@ -19,7 +19,6 @@ use Rattle.driver_laws.proofs.Extending.{extents_stay}
 use Rattle.open_laws.specs.Opens.{AreNamesApart}
 use Rattle.open_names.proofs.Apart.{events_apart}
 use Rattle.whole_worlds.proofs.KeptLeft.{whole_of, row_left}
-use Rattle.fed_lends.specs.ToLend.{AreBlank}
 use Rattle.released_queues.specs.Fronts.{FrontsStand}
 use Rattle.standing_fronts.specs.Reaching.{Reaches}
 use Rattle.usb_bus.specs.Bus.{Fixed}
@@ -27,12 +26,12 @@ use Rattle.bus_world.specs.World.{World, driver_parts, driver_next}
 use Rattle.stream_worlds.specs.Streaming.{Streams, Standing}
 use Rattle.feeding_worlds.specs.HarvestFeeds.{HarvestLeaves}
 use Rattle.feeding_worlds.proofs.FeedingHarvests.{harvest_feeds}
+use Rattle.chained_transfers.proofs.BulkAndControl.{bulk_takes_turns}
 use Rattle.idle_tails.proofs.Reaching.{idle_queues_reach}
 use Rattle.feeding_worlds.specs.Tails.{tail_block, TailsStand, IsUnderWay}
 use Rattle.whole_worlds.specs.Whole.{IsWhole, HasWhole}
 use Rattle.whole_worlds.specs.Laws.{HarvestKeepsWhole}
 use Rattle.feeding_worlds.specs.Taking.{HaveSides}
-use Rattle.whole_worlds.proofs.Noting.{harvest_blank}
 
 -- ---- what is the same
 
@@ -71,9 +70,6 @@ module _ (fixed : Fixed) (takes : ℕ → ℕ → Bool) (member : ℕ → Bool) 
   pub leaves : HarvestLeaves fixed member x s (driver_next w)
   leaves = harvest_feeds fixed member x s w e t found row k.feeding fronts k.told
 
-  blank : AreBlank new
-  blank = subst (λ (r : DriverRow). AreBlank (after_driver_row r (driver_parts w)).driver) (sym row) (harvest_blank (driver_parts w) e t found k.blank)
-
   names : AreNamesApart new
   names = events_apart (driver_parts w) k.names
 
@@ -92,14 +88,13 @@ module _ (fixed : Fixed) (takes : ℕ → ℕ → Bool) (member : ℕ → Bool) 
       let f = l.feeding in
       subst (λ (c : ℕ). Reaches new (s.parts (32 * z.queue)) (s.order (32 * z.queue)) (l.out (32 * z.queue)) i z c)
       (sym (ap (λ (c : Option Command). 32 * tail_block c (slice_get new.transfers (length new.transfers - 1)) i z.dummy) command))
-      (idle_queues_reach member new s.parts s.order l.out command f.working.place.sound.owners f.working.place.lent f.turns f.queues.fed f.queues.last f.queues.out_are l.fronts i z here meets
+      (idle_queues_reach member new s.parts s.order l.out command f.working.place.sound.owners f.working.place.lent (bulk_takes_turns new f.turns) f.queues.fed f.queues.last f.queues.out_are l.fronts i z here meets
       (f.working.streaming.controlled.ring.members (32 * z.queue) (f.queues.met.each i z here meets)))
 
   pub whole_harvested : (l : HarvestLeaves fixed member x s (driver_next w)) → IsWhole fixed takes member x (record s { out = l.out; reported = l.reported }) (driver_next w)
   whole_harvested l = record {
     feeding = l.feeding;
     under_way = subst (λ (c : Option Command). IsUnderWay new (driver_next w).memory member s.parts c) (sym command) tt;
-    blank = blank;
     names = names;
     senders = sides true x.stream;
     takers = sides false takes;

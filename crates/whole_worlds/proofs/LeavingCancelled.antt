@@ -17,7 +17,6 @@ use Rattle.driver_laws.specs.Extents.{KeepExtents, AreInRuns}
 use Rattle.driver_laws.proofs.Viewing.{SameViews}
 use Rattle.driver_laws.proofs.Extending.{extents_stay}
 use Rattle.driver_laws.proofs.Opens.{cancel_views}
-use Rattle.fed_lends.specs.ToLend.{AreBlank}
 use Rattle.open_laws.specs.Opens.{AreNamesApart}
 use Rattle.leaving_drivers.specs.Before.{WasSame, UnlinksAtMost, IsAsBefore}
 use Rattle.leaving_drivers.proofs.Alike.{not_open}
@@ -73,7 +72,6 @@ module _ (fixed : Fixed) (takes : ℕ → ℕ → Bool) (member : ℕ → Bool) 
         feeding = feeding;
         taking = record { ends = k.taking.ends; piped = k.taking.piped; untaken = k.taking.untaken };
         under_way = subst (λ (g : Offered). IsUnderWay g.driver g.memory member s.parts g.driver.command) (sym why.is) refl;
-        blank = subst (λ (g : Offered). AreBlank g.driver) (sym why.is) k.blank;
         names = names_before w.driver o.driver b k.names;
         senders = idle_sides true o.driver x.stream b.idle_now;
         takers = idle_sides false o.driver takes b.idle_now;

@@ -9,7 +9,6 @@ use Rattle.driver_rows.specs.DriverContent.{DriverContent}
 use Rattle.driver_rows.specs.Rows.{driver_row, after_driver_row}
 use Rattle.run_owners.specs.Owners.{views_of}
 use Rattle.driver_laws.specs.Extents.{AreInRuns}
-use Rattle.fed_lends.specs.ToLend.{AreBlank}
 use Rattle.open_names.proofs.Apart.{events_apart}
 use Rattle.leaving_drivers.specs.Before.{UnlinksAtMost}
 use Rattle.leaving_drivers.proofs.Clearing.{clear_finds}
@@ -64,7 +63,6 @@ module _ (fixed : Fixed) (takes : ℕ → ℕ → Bool) (member : ℕ → Bool) 
         feeding = clear_feeds fixed member narrow x s w row k.left.walking k.names (λ n. refl) k.feeding;
         taking = clear_keeps_taking fixed takes member narrow x s w row k.names k.left.walking (λ n. refl) k.feeding k.taking;
         under_way = subst (λ (c : Option Command). IsUnderWay new (driver_next w).memory narrow s.parts c) (sym command) tt;
-        blank = by_row AreBlank k.blank;
         names = events_apart (driver_parts w) k.names;
         senders = idle_sides true new (narrowed_to x new narrow).stream idle;
         takers = idle_sides false new (taking_of takes new) idle;

@@ -1,14 +1,12 @@
 -- The row that gives back an endpoint that has left the ring leaves a world whole.
-use Rattle.std.proofs.Common.{◌≡◌, ℕ, ◌*◌, Bool, true, false, cond, List, get_or, slice_get, Option, Some, None, sym, subst, ◌∙◌, refl, inl}
+use Rattle.std.proofs.Common.{◌≡◌, ℕ, ◌*◌, Bool, true, false, cond, List, slice_get, Option, Some, None, sym, subst, ◌∙◌, refl, inl}
 use Rattle.usb_bus.specs.Bus.{Fixed}
 use Rattle.driver_rows.specs.declared.content.Command.{Command}
 use Rattle.driver_rows.specs.declared.content.Command.TheVariants as unfinished
 use Rattle.driver_rows.specs.declared.content.Endpoint.{Endpoint}
-use Rattle.driver_rows.specs.declared.content.QtdNote.{QtdNote}
 use Rattle.driver_rows.specs.declared.rows.DriverRow.{DriverRow}
 use Rattle.driver_rows.specs.declared.rows.DriverRow.TheVariants as rows
 use Rattle.driver_rows.specs.DriverContent.{DriverContent}
-use Rattle.driver_rows.specs.Harvests.{note_at}
 use Rattle.driver_rows.specs.Rows.{Parts, driver_row, after_driver_row, after_endpoint, is_told}
 use Rattle.run_owners.specs.Due.{IsDue, IsEndpointDue}
 use Rattle.run_owners.proofs.Reasons.{each_is_due}
@@ -16,7 +14,6 @@ use Rattle.chained_transfers.specs.Out.{out_now}
 use Rattle.driver_laws.specs.PartOpened.{opening_base}
 use Rattle.controlled_streams.specs.Reported.{IsReported}
 use Rattle.fed_queues.specs.Places.{IsThere}
-use Rattle.fed_lends.specs.ToLend.{AreBlank}
 use Rattle.open_names.proofs.Apart.{events_apart}
 use Rattle.standing_fronts.specs.Reaching.{Reaches}
 use Rattle.harvest_laws.specs.Told.{ToldStands}
@@ -47,14 +44,7 @@ told_same : {X : Type 0} (f : DriverContent → X) (g d : DriverContent) (b : Bo
 told_same f g d true same = same
 told_same f g d false same = refl
 
-blank_by : (f d : DriverContent) → f.notes ≡ d.notes → AreBlank d → AreBlank f
-blank_by f d same k = subst (λ (notes : List QtdNote). (b : ℕ) → (note_at notes b).told ≡ 0 → get_or (note_at notes b).buffer 0 0 ≡ 0) (sym same) k
-
--- the notes and the unfinished command stay
-row_notes : (p : Parts) (e : ℕ) (o : Option Endpoint) → (after_endpoint p e o).driver.notes ≡ p.driver.notes
-row_notes p e None = refl
-row_notes p e (Some z) = told_same (λ (d : DriverContent). d.notes) _ p.driver (is_told z) refl
-
+-- the unfinished command stays
 row_command : (p : Parts) (e : ℕ) (o : Option Endpoint) → (after_endpoint p e o).driver.command ≡ p.driver.command
 row_command p e None = refl
 row_command p e (Some z) = told_same (λ (d : DriverContent). d.command) _ p.driver (is_told z) refl
@@ -87,9 +77,6 @@ module _ (fixed : Fixed) (takes : ℕ → ℕ → Bool) (member : ℕ → Bool) 
 
   command : new.command ≡ None
   command = by_row (λ (d : DriverContent). d.command ≡ None) (row_command p e (slice_get w.driver.endpoints e) ∙ due.idle)
-
-  notes : new.notes ≡ w.driver.notes
-  notes = by_row (λ (d : DriverContent). d.notes ≡ w.driver.notes) (row_notes p e (slice_get w.driver.endpoints e))
 
   idle : UnlinksAtMost new.command
   idle = subst UnlinksAtMost (sym command) tt
@@ -130,7 +117,6 @@ module _ (fixed : Fixed) (takes : ℕ → ℕ → Bool) (member : ℕ → Bool) 
         feeding = g.feeding;
         taking = release_keeps_taking fixed takes member x s w e row leaver k.feeding k.taking;
         under_way = subst (λ (c : Option Command). IsUnderWay new (driver_next w).memory member (released s z).parts c) (sym command) tt;
-        blank = blank_by new w.driver notes k.blank;
         names = events_apart p k.names;
         senders = idle_sides true new x.stream idle;
         takers = idle_sides false new takes idle;

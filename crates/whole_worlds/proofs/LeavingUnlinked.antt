@@ -11,7 +11,6 @@ use Rattle.run_owners.specs.Owners.{views_of}
 use Rattle.driver_laws.specs.Extents.{AreInRuns}
 use Rattle.driver_laws.proofs.Viewing.{advance_views}
 use Rattle.driver_laws.proofs.Extending.{head_put}
-use Rattle.fed_lends.specs.ToLend.{AreBlank}
 use Rattle.open_names.proofs.Apart.{events_apart}
 use Rattle.standing_fronts.specs.Reaching.{Reaches}
 use Rattle.left_queues.specs.Standing.{IdleTailsStand}
@@ -71,7 +70,6 @@ module _ (fixed : Fixed) (takes : ℕ → ℕ → Bool) (member : ℕ → Bool) 
         feeding = unlink_feeds fixed member x s w at k.feeding;
         taking = unlink_keeps_taking fixed takes member x s w at k.feeding k.taking;
         under_way = subst (λ (c : Option Command). IsUnderWay new (driver_next w).memory member (unlinked s at).parts c) (sym row.done) tt;
-        blank = subst AreBlank (sym row.driver) k.blank;
         names = events_apart (driver_parts w) k.names;
         senders = idle_sides true new x.stream idle;
         takers = idle_sides false new takes idle;

@@ -66,7 +66,7 @@ module _ (fixed : Fixed) (takes : ℕ → ℕ → Bool) (member : ℕ → Bool) 
   fronts = λ e z here met. (k.tails e z here met).stands
 
   abbrev pub lends : LendsTransfer fixed member x s w
-  lends = lend_feeds fixed member x s w b words get k.blank k.feeding fronts k.runs
+  lends = lend_feeds fixed member x s w b words get k.feeding fronts k.runs
 
   -- what stands after it
   abbrev pub after_lend : Standing
@@ -80,7 +80,6 @@ module _ (fixed : Fixed) (takes : ℕ → ℕ → Bool) (member : ℕ → Bool) 
       record {
         feeding = g.feeding;
         under_way = subst (λ (d : DriverContent). IsUnderWay d (driver_next w).memory member g.parts d.command) (sym g.driver_is) (lend_under_way w.driver w.memory (driver_next w).memory member g.parts b words get);
-        blank = g.blank;
         names = subst AreNamesApart (sym g.driver_is) k.names;
         senders = subst (λ (d : DriverContent). HaveSenders d x.stream) (sym g.driver_is) k.senders;
         takers = subst (λ (d : DriverContent). HaveTakers d takes) (sym g.driver_is) k.takers;

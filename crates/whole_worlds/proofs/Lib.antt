@@ -20,8 +20,6 @@ pub mod OpenLending
 pub mod Linked
 pub mod Linking
 pub mod Leaving
-pub mod Noting
-pub mod Sampled
 pub mod Releasing
 pub mod Returning
 pub mod Telling

@@ -15,7 +15,6 @@ use Rattle.stream_worlds.specs.Streaming.{Streams, Standing}
 use Rattle.controlled_streams.specs.Opened.{with_none}
 use Rattle.whole_worlds.proofs.KeptLeft.{whole_of, busy_left, begun_left}
 use Rattle.chained_transfers.proofs.Staying.{linked_alive}
-use Rattle.fed_lends.specs.ToLend.{AreBlank}
 use Rattle.harvest_laws.specs.Told.{ToldStands}
 use Rattle.open_laws.specs.Opens.{IsOpenLent, AreNamesApart, IsAtOpen, head_then, hand_then}
 use Rattle.open_laws.proofs.Linking.{driver_is}
@@ -60,7 +59,6 @@ module _ (fixed : Fixed) (takes : ℕ → ℕ → Bool) (member : ℕ → Bool) 
       record {
         feeding = link_feeding fixed member x s w lent k.feeding k.names (k.senders lent.number e lent.here lent.command alive);
         under_way = subst (λ (c : Option Command). IsUnderWay next (driver_next w).memory (with_member member n) now c) (ap (λ (d : DriverContent). d.command) is) tt;
-        blank = subst (λ (d : DriverContent). AreBlank d) is k.blank;
         names = subst (λ (d : DriverContent). AreNamesApart d) is k.names;
         senders = λ i z there opens. absurd (no_open z.queue (ap (λ (d : DriverContent). d.command) is ∙ opens));
         takers = λ i z there opens. absurd (no_open z.queue (ap (λ (d : DriverContent). d.command) is ∙ opens));

@@ -37,7 +37,6 @@ use Rattle.bus_world.specs.World.{World, driver_parts, driver_next}
 use Rattle.stream_worlds.specs.Streaming.{Streams, Standing, wired}
 use Rattle.chained_transfers.proofs.Events.{event_turns}
 use Rattle.chained_transfers.proofs.Staying.{linked_alive}
-use Rattle.fed_lends.specs.ToLend.{AreBlank}
 use Rattle.publish_laws.proofs.Apart.{thirty_two}
 use Rattle.harvest_laws.specs.Told.{ToldStands}
 use Rattle.harvest_laws.proofs.Standing.{spared_told, alike_told}
@@ -227,7 +226,6 @@ module _ (fixed : Fixed) (takes : ℕ → ℕ → Bool) (member : ℕ → Bool) 
       record {
         feeding = g.0;
         under_way = subst (λ (c : Option Command). IsUnderWay next (driver_next w).memory member now c) (sym g.1.command) (inr g.1);
-        blank = subst (λ (d : DriverContent). AreBlank d) is k.blank;
         names = subst (λ (d : DriverContent). AreNamesApart d) is k.names;
         senders = subst (λ (d : DriverContent). HaveSenders d x.stream) is k.senders;
         takers = subst (λ (d : DriverContent). HaveTakers d takes) is k.takers;

@@ -19,10 +19,11 @@ use Rattle.walk_members.specs.Reached.{OpensNumbered}
 use Rattle.driver_laws.specs.LendOpened.{opened_head}
 use Rattle.chained_transfers.specs.Bulk.{OpensBulk, receives}
 use Rattle.chained_transfers.specs.Accepted.{IsOpened}
-use Rattle.fed_lends.proofs.Accepting.{open_is_blank}
 use Rattle.fed_lends.proofs.Asked.{push_which}
 use Rattle.standing_fronts.specs.Reaching.{Reaches}
 use Rattle.harvest_laws.proofs.Commanding.{opened_told}
+use Rattle.chained_transfers.proofs.Accepting.{opens_bulk, opens_or_cancels}
+use Rattle.chained_transfers.proofs.BulkAndControl.{bulk_asynchronous}
 use Rattle.open_names.proofs.Apart.{accepted_apart}
 use Rattle.open_laws.specs.Lends.{IsOpenReady}
 use Rattle.open_laws.proofs.AcceptWaiting.{open_waits}
@@ -87,25 +88,24 @@ opened_whole fixed takes member x s w line cmd o only to fits room offer opened 
     let d = w.driver in
     let sound = k.feeding.working.place.sound in
     let desc = opened.opens.desc in
-    let is : cmd ≡ commands.OpenEp desc = opens_its_own d w.memory cmd o only offer opened in
+    let is : cmd ≡ commands.OpenEp desc = opens_its_own d w.memory cmd o (opens_bulk cmd (opens_or_cancels cmd only)) offer opened.opens in
     let small : IsOffered d.room (commands.OpenEp desc) = subst (λ (c : Cmd). IsOffered d.room c) is room in
     let numbered : OpensNumbered (commands.OpenEp desc) = subst (λ (c : Cmd). OpensNumbered c) is fits in
     let stream : OpensTo x.stream takes (commands.OpenEp desc) = subst (λ (c : Cmd). OpensTo x.stream takes c) is to in
     let range : IsQhInRange (opened_head d desc opened.opens.holding_after) =
-    new_head_range desc (newest_of d.endpoints) (get_or (new_runs d opened.opens.holding_after) 1 0) opened.bulk numbered small.1 in
+    new_head_range desc (newest_of d.endpoints) (get_or (new_runs d opened.opens.holding_after) 1 0) (bulk_asynchronous desc opened.bulk) numbered small.1 in
     record {
       feeding = feeding;
       under_way = ready fixed takes member x s w line cmd o k opened range;
-      blank = open_is_blank d w.memory o opened k.blank;
-      names = accepted_apart d w.memory o k.feeding.turns.bulk (inl opened) k.names;
+      names = accepted_apart d w.memory o (inl opened.opens) k.names;
       senders = sides fixed takes member x s w line cmd o k opened true x.stream stream.0;
       takers = sides fixed takes member x s w line cmd o k opened false takes stream.1;
       taking = record { ends = k.taking.ends; piped = k.taking.piped; untaken = k.taking.untaken };
-      runs = open_extents d w.memory o s.parts opened sound.stands sound.owners feeding.working.driven k.runs;
+      runs = open_extents d w.memory o s.parts opened.opens sound.stands sound.owners feeding.working.driven k.runs;
       tails = λ e z here met.
           subst (λ (c : ℕ). Reaches o.driver (s.parts (32 * z.queue)) (s.order (32 * z.queue)) (s.out (32 * z.queue)) e z c)
           (sym (open_tail o.driver e _ z (command_is fixed takes member x s w line cmd o k opened)))
-          (open_reaches d w.memory o s.parts s.order s.out opened (idle_ends d s.parts s.order s.out opened.opens.idle k.tails) e z here met);
+          (open_reaches d w.memory o s.parts s.order s.out opened.opens (idle_ends d s.parts s.order s.out opened.opens.idle k.tails) e z here met);
       told = opened_told d w.memory o s.hand s.parts s.reported opened (apart fixed takes member x s w line cmd o k opened) k.told;
       bytes = k.bytes;
       left = left;

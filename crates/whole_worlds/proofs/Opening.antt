@@ -8,7 +8,6 @@ use Rattle.run_owners.specs.Owners.{TransferRuns, transfer_in, views_of}
 use Rattle.lent_structures.specs.Structures.{Structure, Table}
 use Rattle.driver_laws.specs.PartOpened.{empty_list, opening_parts, is_head}
 use Rattle.driver_laws.specs.Extents.{AreInRuns}
-use Rattle.fed_lends.proofs.Accepting.{opening_is_blank}
 use Rattle.harvest_laws.proofs.Standing.{new_told}
 use Rattle.open_names.proofs.Apart.{new_apart}
 use Rattle.world_bytes.proofs.Turning.{opened_bytes}
@@ -57,7 +56,6 @@ pub new_world_is_whole : NewWorldIsWhole
 new_world_is_whole s fit bytes = whole_of (fixed_of s) (takes_of s) is_head (streams_of s) at_opening (opening_world s) (record {
   feeding = new_world_feeds s fit;
   under_way = tt;
-  blank = opening_is_blank s.words (reserve_of s.lines);
   names = new_apart s.words (reserve_of s.lines);
   senders = λ e x here. absurd (no_endpoint e x here);
   takers = λ e x here. absurd (no_endpoint e x here);

@@ -107,7 +107,6 @@ refused_whole fixed takes member x s w line name why feeding left k =
     record {
       feeding = feeding;
       under_way = under_way d line name why w.memory member s.parts d.command k.under_way;
-      blank = k.blank;
       names = k.names;
       senders = k.senders;
       takers = k.takers;

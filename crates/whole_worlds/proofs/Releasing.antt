@@ -23,7 +23,6 @@ use Rattle.in_place.proofs.Laws.{event_in_place}
 use Rattle.chained_transfers.specs.InTurn.{TakesTurns}
 use Rattle.chained_transfers.proofs.Events.{event_turns}
 use Rattle.chained_transfers.proofs.Holding.{held_alive}
-use Rattle.fed_lends.specs.ToLend.{AreBlank}
 use Rattle.fed_queues.specs.Places.{IsMet, AreMet, HaveStreams}
 use Rattle.open_laws.specs.Opens.{AreNamesApart}
 use Rattle.released_queues.specs.Released.{IsReleased}
@@ -191,14 +190,13 @@ module _ (fixed : Fixed) (takes : ℕ → ℕ → Bool) (member : ℕ → Bool) 
   whole_released = record {
     feeding = feeding;
     under_way = under_way;
-    blank = stays AreBlank k.blank;
     names = stays AreNamesApart k.names;
     senders = stays (λ (q : DriverContent). HaveSenders q x.stream) k.senders;
     takers = stays (λ (q : DriverContent). HaveTakers q takes) k.takers;
     taking = release_taking fixed takes member x s w t row k;
     runs = g.in_runs;
     tails = tails;
-    told = release_told opening_base member s.parts s.hand w.control.walk p s.order s.out t y z (stand fixed takes member x s w t row k) (returning fixed takes member x s w t row k) s.reported k.told;
+    told = release_told opening_base member s.parts s.hand w.control.walk p s.order s.out t y z (stand fixed takes member x s w t row k) (returning fixed takes member x s w t row k) f.turns s.reported k.told;
     bytes = k.bytes;
     left = left;
   }

@@ -10,6 +10,7 @@ use Rattle.run_owners.specs.Leaving.{owes}
 use Rattle.run_owners.proofs.Reasons.{each_is_due}
 use Rattle.driver_laws.specs.PartOpened.{opening_base}
 use Rattle.endpoint_lives.specs.Lives.{may_meet}
+use Rattle.chained_transfers.proofs.BulkAndControl.{only_asynchronous}
 use Rattle.released_queues.specs.Released.{IsReturning, ReleaseStands}
 use Rattle.standing_fronts.proofs.Lists.{times_some}
 use Rattle.bus_world.specs.World.{World, driver_parts}
@@ -75,7 +76,7 @@ module _ (fixed : Fixed) (takes : ℕ → ℕ → Bool) (member : ℕ → Bool) 
         owners = f.working.place.sound.owners;
         stands = f.working.place.sound.stands;
         in_runs = k.runs;
-        bulk = f.turns.bulk;
+        asynchronous = only_asynchronous w.driver f.turns.bulk;
         chained = f.turns.chained;
         turns = f.turns.turns;
         fed = f.queues.fed;

@@ -52,7 +52,6 @@ module _ (fixed : Fixed) (takes : ℕ → ℕ → Bool) (member : ℕ → Bool) 
       record {
         feeding = feeding;
         under_way = subst (λ (o : Option Command). IsUnderWay f w.memory member s.parts o) (sym idle) tt;
-        blank = k.blank;
         names = k.names;
         senders = k.senders;
         takers = k.takers;

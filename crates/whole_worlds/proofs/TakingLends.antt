@@ -119,7 +119,7 @@ module _ (fixed : Fixed) (takes : ℕ → ℕ → Bool) (member : ℕ → Bool) 
   fronts = λ e z here met. (k.tails e z here met).stands
 
   abbrev g : LendsTransfer fixed member x s w
-  g = lend_feeds fixed member x s w b words get k.blank f fronts k.runs
+  g = lend_feeds fixed member x s w b words get f fronts k.runs
 
   abbrev n : ℕ
   n = 32 * get.endpoint.queue
@@ -145,7 +145,7 @@ module _ (fixed : Fixed) (takes : ℕ → ℕ → Bool) (member : ℕ → Bool) 
       let old : DrivesRing opening_base member s.parts s.hand (place w.control.walk w.registers m) d = record { ring = f.working.streaming.controlled.ring; driven = f.working.driven } in
       asks_by
       (lend_drives opening_base member s.parts s.hand w.control.walk w.registers m d get.number (y_of get) (x_of get) get.stage get.further get.awaits owners stands old
-      (names_lent d m b words s.parts n get f.queues.fed old.driven k.blank))
+      (names_lent d m b words s.parts n get f.queues.fed old.driven))
 
   new_as : AreNewAs (outs_of member x.streams) s.parts g.parts
   new_as i a t here on =

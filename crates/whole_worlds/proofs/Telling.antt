@@ -33,7 +33,7 @@ use Rattle.harvest_laws.specs.ToldLaws.{SparesDone}
 use Rattle.harvest_laws.proofs.Standing.{spared_told, returned_told}
 use Rattle.feeding_worlds.proofs.There.{there_now, next_waits}
 
-module _ (base : Base) (member : ℕ → Bool) (parts : StructureSets) (hand : Hand) (w : Walk) (p : DriverParts) (order : ℕ → ℕ → ℕ) (out : ℕ → List ℕ) (t : ℕ) (y : Transfer) (x : Endpoint) (s : ReleaseStands base member parts hand w p order out) (k : IsReturning p.driver t y x) where
+module _ (base : Base) (member : ℕ → Bool) (parts : StructureSets) (hand : Hand) (w : Walk) (p : DriverParts) (order : ℕ → ℕ → ℕ) (out : ℕ → List ℕ) (t : ℕ) (y : Transfer) (x : Endpoint) (s : ReleaseStands base member parts hand w p order out) (k : IsReturning p.driver t y x) (turns : TakesTurns p.driver) where
   abbrev d : DriverContent
   d = p.driver
 
@@ -49,12 +49,7 @@ module _ (base : Base) (member : ℕ → Bool) (parts : StructureSets) (hand : H
   abbrev after : DriverParts
   after = after_transfer p t (Some y) (free_qtds d.notes (holding d.book p.memory) y.first y.qtds)
 
-  -- ---- the next transfers
-
-  turns : TakesTurns d
-  turns = record { bulk = s.bulk; chained = s.chained; turns = s.turns }
-
-  -- ---- their qTDs stay
+  -- ---- the qTDs of the next transfers stay
 
   next_stays : (e u : ℕ) (z : Endpoint) (r : Transfer) (a : ℕ) → IsNextOf d e u z r → IsOneFrom (note_at d.notes) r.first (r.qtds - r.left) a → goes (32 * a) ≡ false
   next_stays e u z r a is one =

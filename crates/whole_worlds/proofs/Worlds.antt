@@ -7,7 +7,6 @@ use Rattle.driver_rows.specs.DriverContent.{DriverContent}
 use Rattle.driver_rows.specs.Rows.{Parts as DriverParts}
 use Rattle.bus_world.specs.World.{World, driver_parts, driver_next}
 use Rattle.stream_worlds.specs.Streaming.{Streams, Standing}
-use Rattle.fed_lends.specs.ToLend.{AreBlank}
 use Rattle.fed_queues.specs.Fed.{IsPublished}
 use Rattle.publish_laws.specs.Stores.{IsAtStore, published_by, parts_then, next_of}
 use Rattle.open_laws.specs.Opens.{AreNamesApart}
@@ -44,7 +43,6 @@ module _ (fixed : Fixed) (takes : ℕ → ℕ → Bool) (member : ℕ → Bool) 
       record {
         feeding = store_feeding fixed member x s w b words command made f;
         under_way = under_way_then p member x.streams x.endpoint s.parts s.order s.out b words k (next_of p).memory (parts_then g);
-        blank = store (λ (d : DriverContent). AreBlank d) (λ low. whole.blank) (λ eighth. whole.blank);
         names = store (λ (d : DriverContent). AreNamesApart d) (λ low. whole.names) (λ eighth. whole.names);
         senders = store (λ (d : DriverContent). HaveSenders d x.stream) (λ low. whole.senders) (λ eighth e z here opens. absurd (no_open z.queue opens));
         takers = store (λ (d : DriverContent). HaveTakers d takes) (λ low. whole.takers) (λ eighth e z here opens. absurd (no_open z.queue opens));

@@ -1,6 +1,5 @@
 pub mod Whole
 pub mod Laws
-pub mod Blank
 pub mod Harvested
 pub mod Moments
 pub mod PlacedLaws

@@ -10,7 +10,6 @@ use Rattle.driver_rows.specs.DriverContent.{DriverContent}
 use Rattle.run_owners.specs.Owners.{views_of}
 use Rattle.ring_laws.specs.Told.{Endpoint as Told}
 use Rattle.driver_laws.specs.Extents.{AreInRuns}
-use Rattle.fed_lends.specs.ToLend.{AreBlank}
 use Rattle.open_laws.specs.Opens.{AreNamesApart}
 use Rattle.harvest_laws.specs.Told.{ToldStands}
 use Rattle.byte_answers.specs.Bytes.{IsByteBus}
@@ -44,7 +43,6 @@ pub record IsWhole (fixed : Fixed) (takes : ℕ → ℕ → Bool) (member : ℕ 
   pub feeding : IsFeeding fixed member x s w
   pub taking : IsTaking fixed takes member x s w
   pub under_way : IsUnderWay w.driver w.memory member s.parts w.driver.command
-  pub blank : AreBlank w.driver
   pub names : AreNamesApart w.driver
   pub senders : HaveSenders w.driver x.stream
   pub takers : HaveTakers w.driver takes

@@ -1,11 +1,5 @@
 //! The row of a harvest in a world of bulk endpoints, with all that the world carries (EHCI 1.0, 4.10; USB 2.0, 8.6).
-ghost use Rattle.whole_worlds.specs.Blank.{HarvestKeepsBlank};
 ghost use Rattle.whole_worlds.specs.Laws.{HarvestKeepsWhole};
-
-/// A harvest writes no length and no buffer of a note.
-pub fn a_harvest_leaves_notes_blank()
-    ensures { HarvestKeepsBlank }
-{}
 
 /// A harvest leaves such a world whole.
 pub fn a_harvest_leaves_it_whole()

@@ -7,7 +7,6 @@ ghost use Rattle.driver_rows.specs.declared.rows.DriverRow.TheVariants as rows;
 ghost use Rattle.driver_rows.specs.declared.rows.Found.TheVariants as founds;
 ghost use Rattle.driver_rows.specs.Harvests.{note_at};
 ghost use Rattle.driver_rows.specs.Rows.{after_driver_row, leaving_row};
-ghost use Rattle.fed_lends.specs.ToLend.{AreBlank};
 ghost use Rattle.whole_worlds.specs.Harvested.{at_harvest};
 ghost use Rattle.op_registers.specs.RegisterFile.{RegisterFile};
 ghost use Rattle.driver_laws.specs.Released.{goes_of};
@@ -22,11 +21,9 @@ ghost use Rattle.ring_members.specs.Worked.{ring_word};
 ghost use Rattle.whole_worlds.specs.Placed.{linked_to, AreOnce, RunsInPlaceThroughout};
 ghost use Rattle.bus_world.specs.Budgets.{moment};
 
-/// The get ends with 3 bytes: they are noted of its qTD, and notes without bytes are as blank as before.
+/// The get ends with 3 bytes: they are noted of its qTD.
 pub fn a_get_ends()
-    ensures before { AreBlank at_harvest.driver }
-    ensures moved { (note_at (after_driver_row (rows.Harvest 0 0 (founds.Ended 3 lines.Done)) at_harvest).driver.notes 132).moved ≡ 3 }
-    ensures after { AreBlank (after_driver_row (rows.Harvest 0 0 (founds.Ended 3 lines.Done)) at_harvest).driver }
+    ensures { (note_at (after_driver_row (rows.Harvest 0 0 (founds.Ended 3 lines.Done)) at_harvest).driver.notes 132).moved ≡ 3 }
 {}
 
 /// A get with its qTD in block 132 and its buffer in block 134 is reported, and given back: both go, and the tail in block 133 stays.

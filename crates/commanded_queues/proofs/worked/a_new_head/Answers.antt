@@ -1,7 +1,9 @@
 use Rattle.std.proofs.Common.{refl, arith}
 use Rattle.walk_members.specs.Reached.{IsNumbered}
 use Rattle.chained_transfers.specs.Bulk.{IsBulk}
-use Rattle.commanded_queues.specs.Samples.{highest, highest_out}
+use Rattle.chained_transfers.specs.Asynchronous.{IsAsynchronous}
+use Rattle.chained_transfers.proofs.BulkAndControl.{bulk_asynchronous}
+use Rattle.commanded_queues.specs.Samples.{highest, highest_out, highest_control}
 use Rattle.commanded_queues.proofs.Ranges.{new_head_range}
 use Rattle.commanded_queues.proofs.worked.a_new_head.Goals as goal
 
@@ -10,6 +12,9 @@ bulk = record { kind = refl; speed = refl; way = tt }
 
 out : IsBulk highest_out
 out = record { kind = refl; speed = refl; way = tt }
+
+control : IsAsynchronous highest_control
+control = record { kind = refl; speed = refl }
 
 numbered : IsNumbered highest
 numbered = (omega arith, omega arith)
@@ -20,11 +25,17 @@ returns-clause-bulk c = bulk
 pub returns-clause-out : goal.returns-clause-out
 returns-clause-out c = out
 
+pub returns-clause-control : goal.returns-clause-control
+returns-clause-control c = control
+
 pub returns-clause-numbered : goal.returns-clause-numbered
 returns-clause-numbered c = numbered
 
 pub returns-clause-range : goal.returns-clause-range
-returns-clause-range c = new_head_range highest 128 143 bulk numbered (omega arith)
+returns-clause-range c = new_head_range highest 128 143 (bulk_asynchronous highest bulk) numbered (omega arith)
 
 pub returns-clause-out_range : goal.returns-clause-out_range
-returns-clause-out_range c = new_head_range highest_out 128 143 out (omega arith, omega arith) (omega arith)
+returns-clause-out_range c = new_head_range highest_out 128 143 (bulk_asynchronous highest_out out) (omega arith, omega arith) (omega arith)
+
+pub returns-clause-control_range : goal.returns-clause-control_range
+returns-clause-control_range c = new_head_range highest_control 128 143 control (omega arith, omega arith) (omega arith)

@@ -1,5 +1,8 @@
-use Rattle.fed_harvests.proofs.Harvests.{harvest_stands, wait_stands}
+use Rattle.fed_harvests.proofs.Harvests.{unstalled_stands, harvest_stands, wait_stands}
 use Rattle.fed_harvests.proofs.laws.a_harvest_takes_one_out.Goals as goal
+
+pub returns-clause-unstalled : goal.returns-clause-unstalled
+returns-clause-unstalled c = unstalled_stands
 
 pub returns-clause-done : goal.returns-clause-done
 returns-clause-done c = harvest_stands

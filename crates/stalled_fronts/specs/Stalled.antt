@@ -1,0 +1,25 @@
+-- Fronts of queues where a control endpoint answered STALL (USB 2.0, 8.5.3.4; EHCI 1.0, 4.10.2 and 4.10.3). The walk stops at the qTD that was halted, so none of
+-- those that are out behind it was worked on: the front goes on to the inactive qTD at the end of the queue, and the qTDs that no harvest read are passed over.
+--     StallKeepsFronts      the law
+use Rattle.std.specs.Prelude.{ℕ, ◌*◌, Bool, List}
+use Rattle.driver_rows.specs.declared.rows.Found.{Found}
+use Rattle.driver_rows.specs.declared.rows.DriverRow.TheVariants as rows
+use Rattle.driver_rows.specs.Rows.{Parts, after_driver_row}
+use Rattle.run_owners.specs.Due.{IsHarvestDue}
+use Rattle.run_owners.specs.Kept.{HasOwners}
+use Rattle.lent_runs.specs.Lent.{AreLent}
+use Rattle.lent_structures.specs.Structures.{StructureSets}
+use Rattle.lent_structures.specs.Sound.{IsMember}
+use Rattle.ring_laws.specs.Told.{Endpoint as Told}
+use Rattle.chained_transfers.specs.AsynchronousTurns.{AsynchronousTakesTurns}
+use Rattle.fed_queues.specs.Places.{AreStillOut}
+use Rattle.mended_heads.specs.Stalling.{IsStall, HaltsQueue}
+use Rattle.fed_lends.specs.Commands.{QueuesStand}
+use Rattle.released_queues.specs.Fronts.{FrontsStand}
+
+abbrev pub StallKeepsFronts : Type 0
+StallKeepsFronts = (p : Parts) (e t : ℕ) (found : Found) (member streams : ℕ → Bool) (ends : ℕ → Told) (parts : StructureSets) (order : ℕ → ℕ → ℕ) (out later : ℕ → List ℕ)
+    → (due : IsHarvestDue p e t found) → IsStall due.endpoint.desc.kind found → HasOwners p.driver → AreLent p.driver → AsynchronousTakesTurns p.driver
+    → QueuesStand p.driver member streams ends parts order out → AreStillOut (after_driver_row (rows.Harvest e t found) p).driver later
+    → IsMember member (32 * due.endpoint.queue) (parts (32 * due.endpoint.queue)) → HaltsQueue (later (32 * due.endpoint.queue)) parts (32 * due.endpoint.queue)
+    → FrontsStand p.driver parts order out → FrontsStand (after_driver_row (rows.Harvest e t found) p).driver parts order later

@@ -1,0 +1,7 @@
+//! The law.
+ghost use Rattle.stalled_fronts.specs.Stalled.{StallKeepsFronts};
+
+/// At a STALL the front goes on to the end of the queue, and what is out behind the qTD that was halted is passed over.
+pub fn a_stall_leaves_fronts()
+    ensures { StallKeepsFronts }
+{}
