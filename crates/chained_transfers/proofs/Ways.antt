@@ -16,7 +16,7 @@ use Rattle.driver_rows.specs.Rows.{found_of}
 use Rattle.driver_rows.specs.Offers.{Offered, Asked}
 use Rattle.run_owners.specs.Owners.{is_descriptor}
 use Rattle.run_owners.specs.Accepts.{AreShort}
-use Rattle.chained_transfers.specs.Bulk.{IsDataWay, receives, sort_by, stage_by, pid_by, MovesAs}
+use Rattle.chained_transfers.specs.Bulk.{IsDataWay, receives, comes_in, sort_by, stage_by, pid_by, MovesAs}
 use Rattle.chained_transfers.specs.Accepted.{IsAsked}
 
 -- ---- a way, and the transfers that go it
@@ -45,6 +45,26 @@ pub way_sends : (way : Way) → receives way ≡ false → way ≡ ways.Out
 way_sends ways.In is = absurd (false≢true (sym is))
 way_sends ways.Out is = refl
 way_sends ways.Ctl is = absurd (false≢true (sym is))
+
+-- where data go one way, an endpoint is an IN or an OUT endpoint
+pub data_comes_in : (way : Way) → IsDataWay way → comes_in way ≡ receives way
+data_comes_in ways.In one = refl
+data_comes_in ways.Out one = refl
+data_comes_in ways.Ctl one = absurd one
+
+pub way_comes_in : (way : Way) → comes_in way ≡ true → way ≡ ways.In
+way_comes_in ways.In is = refl
+way_comes_in ways.Out is = absurd (false≢true is)
+way_comes_in ways.Ctl is = absurd (false≢true is)
+
+pub way_goes_out : (way : Way) → IsDataWay way → comes_in way ≡ false → way ≡ ways.Out
+way_goes_out way one is = way_sends way (sym (data_comes_in way one) ∙ is)
+
+pub comes_in_receives : (way : Way) → comes_in way ≡ true → receives way ≡ true
+comes_in_receives way is = ap receives (way_comes_in way is)
+
+pub sends_comes_not : (way : Way) → receives way ≡ false → comes_in way ≡ false
+sends_comes_not way is = ap comes_in (way_sends way is)
 
 pub receives_pid : (way : Way) → receives way ≡ true → pid_by way ≡ 1
 receives_pid ways.In is = refl

@@ -3,7 +3,8 @@
 --     OpensBulk cmd            the command opens such an endpoint, if any, and is no cancel; other commands may be refused
 --     OpensOrCancelsBulk cmd   .. or it is a cancel
 --     BulkOnly s               each command of the script opens a high-speed bulk endpoint, if any; others, cancels too, may be accepted or refused
---     receives way             data of an endpoint of this way come to the host
+--     receives way             the endpoint is no OUT endpoint
+--     comes_in way             the endpoint is an IN endpoint: all its data come to the host
 --     sort_by way, stage_by way n, pid_by way      the transfers of such an endpoint, their qTDs of n bytes, and the packets that these ask for
 --     IsStanding x             the endpoint is in the ring, or was cancelled; one that ended otherwise and one that was cancelled stay apart
 --     IsBulkCommand command    the unfinished command opens an endpoint, publishes a transfer or unlinks an endpoint
@@ -63,9 +64,15 @@ BulkOnly s = AllByRecursion (λ line. BulkLine line.1) s.lines
 
 -- ---- gets and puts
 
+-- no OUT endpoint: data come to the host, of a control endpoint those of its requests that read
 abbrev pub receives : Way → Bool
 receives ways.Out = false
 receives _ = true
+
+-- an IN endpoint: it has a stream of data to the host, which a control endpoint has not
+abbrev pub comes_in : Way → Bool
+comes_in ways.In = true
+comes_in _ = false
 
 abbrev pub sort_by : Way → Sort
 sort_by ways.Out = sorts.Put

@@ -12,7 +12,7 @@ ghost use Rattle.driver_rows.specs.Opening.{opening_registers};
 ghost use Rattle.driver_rows.specs.Offers.{accepted_cancel};
 ghost use Rattle.driver_rows.specs.Rows.{advance, bell_row, is_told, let_go, driver_row, after_driver_row};
 ghost use Rattle.run_owners.specs.Kept.{HasOwners};
-ghost use Rattle.chained_transfers.specs.Bulk.{receives, pid_by};
+ghost use Rattle.chained_transfers.specs.Bulk.{receives, comes_in, pid_by};
 ghost use Rattle.chained_transfers.specs.Accepted.{move_of};
 ghost use Rattle.chained_transfers.specs.Chains.{piece_at};
 ghost use Rattle.chained_transfers.specs.Out.{pieces_from, unpublished, out_of};
@@ -42,6 +42,9 @@ pub fn ways_of_data()
     ensures put { (move_of ways.Out 3 512 (7 ∷ 8 ∷ 9 ∷ [])).stages ≡ put_stages 3 512 }
     ensures comes { receives ways.In ≡ true }
     ensures goes { receives ways.Out ≡ false }
+    ensures stream { comes_in ways.In ≡ true }
+    ensures none { comes_in ways.Out ≡ false }
+    ensures control { comes_in ways.Ctl ≡ false }
     ensures pid_in { pid_by ways.In ≡ 1 }
     ensures pid_out { pid_by ways.Out ≡ 0 }
 {}

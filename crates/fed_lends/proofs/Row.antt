@@ -16,7 +16,7 @@ use Rattle.ring_laws.specs.Together.{put_all}
 use Rattle.ring_laws.specs.Bus.{Sender}
 use Rattle.driver_laws.specs.Driven.{DrivesRing}
 use Rattle.chained_transfers.specs.Bulk.{receives, OnlyBulk}
-use Rattle.chained_transfers.proofs.Ways.{IsBy, its_pid, all_of_all, receives_pid, sends_pid}
+use Rattle.chained_transfers.proofs.Ways.{data_comes_in, IsBy, its_pid, all_of_all, receives_pid, sends_pid}
 use Rattle.fed_queues.specs.Places.{AreMet, HaveStreams}
 use Rattle.ring_laws.specs.Told.{Endpoint as Told}
 use Rattle.driver_laws.specs.TransferLaws.{lent_memory, lent_driver, items_of}
@@ -65,9 +65,10 @@ streams_on d m streams ends have = streams_stay d (lent_now d m) streams ends (l
 -- INs where the queue head has a stream, and else none is one
 pub its_asks : {d : DriverContent} {m : Mem} {b : ℕ} {words : List ℕ} {streams : ℕ → Bool} {ends : ℕ → Told} → OnlyBulk d → (k : IsToBeLent d m b words) → HaveStreams d streams ends
     → ((streams (32 * k.endpoint.queue) ≡ true) × AllByRecursion (λ r. r.pid ≡ 1) (k.stage ∷ k.further)) ⊎ ((streams (32 * k.endpoint.queue) ≡ false) × AllByRecursion (λ r. r.pid ≢ 1) (k.stage ∷ k.further))
-its_asks {d = d} {m = m} {b = b} {words = words} bulk k have =
+its_asks {d = d} {m = m} {b = b} {words = words} {streams = streams} bulk k have =
     let way = k.endpoint.desc.name.way in
-    let stream = (have.each k.transfer.endpoint k.endpoint k.here (it_is_met d m b words bulk k)).0 in
+    let one = (bulk.endpoints k.transfer.endpoint k.endpoint k.here).bulk.way in
+    let stream : streams (32 * k.endpoint.queue) ≡ receives way = (have.each k.transfer.endpoint k.endpoint k.here (it_is_met d m b words bulk k)).0 ∙ data_comes_in way one in
     let ss = k.stage ∷ k.further in
     ⊎_elim (λ (on : receives way ≡ true). inl (stream ∙ on, all_of_all (IsBy way) (λ (r : Stage). r.pid ≡ 1) ss (λ r is. its_pid way r is ∙ receives_pid way on) k.stages))
     (λ (off : receives way ≡ false).

@@ -7,7 +7,7 @@ use Rattle.driver_rows.specs.DriverContent.{DriverContent}
 use Rattle.driver_rows.specs.Words.{head_block, queue_head}
 use Rattle.endpoint_lives.proofs.Lives.{linked_met, met_alike}
 use Rattle.ring_laws.specs.Told.{Endpoint as Told, endpoint_of}
-use Rattle.chained_transfers.specs.Bulk.{receives, IsStanding}
+use Rattle.chained_transfers.specs.Bulk.{comes_in, IsStanding}
 use Rattle.chained_transfers.specs.Asynchronous.{StandsAsynchronous}
 use Rattle.chained_transfers.proofs.BulkAndControl.{standing}
 use Rattle.chained_transfers.proofs.Staying.{stands_alive, stands_linked}
@@ -103,7 +103,7 @@ streams_stay d f streams ends s old = record {
   each = λ e z here met.
       let w = s.was e z here in
       let one = old.each e w.endpoint w.here (met_as f d e z w.endpoint s.back (life_back w.endpoint z w.life) met) in (
-        ap (λ (q : ℕ). streams (32 * q)) w.life.queue ∙ one.0 ∙ ap (λ (desc : EpDesc). receives desc.name.way) (sym w.life.desc),
+        ap (λ (q : ℕ). streams (32 * q)) w.life.queue ∙ one.0 ∙ ap (λ (desc : EpDesc). comes_in desc.name.way) (sym w.life.desc),
         ap (λ (q : ℕ). ends (32 * q)) w.life.queue ∙ one.1 ∙ ap (λ (desc : EpDesc). endpoint_of (queue_head desc 0 z.dummy)) (sym w.life.desc),
       );
   only = λ n on. head_as d f n s (old.only n on);

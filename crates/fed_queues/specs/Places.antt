@@ -20,7 +20,7 @@ use Rattle.lent_structures.specs.Structures.{Element, Structures, StructureSets}
 use Rattle.ring_laws.specs.Order.{IsSorted}
 use Rattle.ring_laws.specs.Told.{Endpoint as Told, endpoint_of}
 use Rattle.driver_laws.specs.Inventory.{IsLent}
-use Rattle.chained_transfers.specs.Bulk.{receives}
+use Rattle.chained_transfers.specs.Bulk.{comes_in}
 use Rattle.chained_transfers.specs.Out.{out_now, out_all}
 
 pub record IsThere (d : DriverContent) (x : Endpoint) : Type 0 where
@@ -55,7 +55,7 @@ pub record AreMet (d : DriverContent) (member : ℕ → Bool) : Type 0 where
 
 pub record HaveStreams (d : DriverContent) (streams : ℕ → Bool) (ends : ℕ → Told) : Type 0 where
   pub each : (e : ℕ) (x : Endpoint) → slice_get d.endpoints e ≡ Some x → IsMet d e x
-      → (streams (32 * x.queue) ≡ receives x.desc.name.way) × (ends (32 * x.queue) ≡ endpoint_of (queue_head x.desc 0 x.dummy))
+      → (streams (32 * x.queue) ≡ comes_in x.desc.name.way) × (ends (32 * x.queue) ≡ endpoint_of (queue_head x.desc 0 x.dummy))
   pub only : (n : ℕ) → streams n ≡ true → HasHead d n
 
 -- ---- order

@@ -21,7 +21,7 @@ use Rattle.worlds_in_place.proofs.Refused.{refused_in_place}
 use Rattle.bus_world.specs.World.{World, controller_parts, refused_line, commanded_by}
 use Rattle.stream_worlds.specs.Streaming.{Streams, Standing}
 use Rattle.shared_worlds.specs.Working.{IsWorking}
-use Rattle.chained_transfers.specs.Bulk.{receives}
+use Rattle.chained_transfers.specs.Bulk.{comes_in}
 use Rattle.chained_transfers.specs.InTurn.{TakesTurns}
 use Rattle.chained_transfers.proofs.Commands.{is_accepted, cancel_leaves}
 use Rattle.fed_lends.specs.Commands.{QueuesStand}
@@ -160,7 +160,7 @@ module _ (d f : DriverContent) (b : IsAsBefore d f) (near : NearSame d f) where
     each = λ e z here m.
         let w = b.ends e z here in
         let one = old.each e w.endpoint w.here (met_before d f e z w here b (near_fewer d f near) m) in (
-          ap (λ (q : ℕ). streams (32 * q)) w.queue ∙ one.0 ∙ ap (λ (desc : EpDesc). receives desc.name.way) (sym w.desc),
+          ap (λ (q : ℕ). streams (32 * q)) w.queue ∙ one.0 ∙ ap (λ (desc : EpDesc). comes_in desc.name.way) (sym w.desc),
           ap (λ (q : ℕ). ends (32 * q)) w.queue ∙ one.1 ∙ ap (λ (desc : EpDesc). endpoint_of (queue_head desc 0 w.endpoint.dummy)) (sym w.desc)
               ∙ ap (λ (c : ℕ). endpoint_of (queue_head z.desc 0 c)) (sym w.dummy),
         );

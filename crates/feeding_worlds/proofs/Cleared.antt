@@ -8,7 +8,8 @@ use Rattle.driver_rows.specs.declared.rows.DriverRow.{DriverRow}
 use Rattle.driver_rows.specs.declared.rows.DriverRow.TheVariants as rows
 use Rattle.driver_rows.specs.Rows.{driver_row, after_driver_row}
 use Rattle.endpoint_lives.specs.Lives.{may_meet}
-use Rattle.chained_transfers.specs.Bulk.{receives}
+use Rattle.chained_transfers.specs.Bulk.{receives, comes_in}
+use Rattle.chained_transfers.proofs.Ways.{sends_comes_not}
 use Rattle.scripted_streams.specs.Senders.{sender_of}
 use Rattle.scripted_takers.specs.Takers.{taker_of}
 use Rattle.ring_laws.specs.Told.{Endpoint as Told}
@@ -44,7 +45,7 @@ module _ (fixed : Fixed) (member : ℕ → Bool) (x : Streams) (s : Standing) (w
   abbrev n : ℕ
   n = 32 * z.queue
 
-  pub met_begins : receives z.desc.name.way ≡ true → IsPrefix (concat (s.acc n)) (concat (x.packets z.desc.name.addr z.desc.name.num))
+  pub met_begins : comes_in z.desc.name.way ≡ true → IsPrefix (concat (s.acc n)) (concat (x.packets z.desc.name.addr z.desc.name.num))
   met_begins comes =
       let has = f.queues.streams_are.each e z here met in
       subst (λ (t : Told). IsPrefix (concat (s.acc n)) (concat (x.packets t.addr t.ep))) has.1
@@ -57,7 +58,7 @@ module _ (fixed : Fixed) (member : ℕ → Bool) (x : Streams) (s : Standing) (w
       → IsToldTaken (concat (s.acc n)) (bytes_taken (taker_of (wired fixed w) z.desc.name.addr z.desc.name.num))
   met_taken takes t goes =
       let has = f.queues.streams_are.each e z here met in
-      let on : outs_of member x.streams n ≡ true = ap (λ (b : Bool). if b then false else heads_of member n) (has.0 ∙ goes) ∙ queue_on fixed member x s w f e z here met in
+      let on : outs_of member x.streams n ≡ true = ap (λ (b : Bool). if b then false else heads_of member n) (has.0 ∙ sends_comes_not z.desc.name.way goes) ∙ queue_on fixed member x s w f e z here met in
       let o : Option Taker = taker_of (wired fixed w) (x.endpoint n).addr (x.endpoint n).ep in
       subst (λ (k : Told). IsToldTaken (concat (s.acc n)) (bytes_taken (taker_of (wired fixed w) k.addr k.ep))) has.1
       (taken_by o (out_begins o (concat (s.acc n)) s.parts s.hand n (x.endpoint n) (t.piped.pipes n on)))
@@ -78,7 +79,7 @@ module _ (fixed : Fixed) (takes : ℕ → ℕ → Bool) (member : ℕ → Bool) 
   owed_then = subst (λ (r : DriverRow). AreOwedMet (after_driver_row r (driver_parts w)).driver) row (event_owed (driver_parts w) f.turns left.owed)
 
   -- one that was met until then, or that had left before
-  in_left : (e : ℕ) (z : Endpoint) → slice_get w.driver.endpoints e ≡ Some z → receives z.desc.name.way ≡ true → IsThere w.driver z → (b : Bool) → may_meet w.driver e z ≡ b
+  in_left : (e : ℕ) (z : Endpoint) → slice_get w.driver.endpoints e ≡ Some z → comes_in z.desc.name.way ≡ true → IsThere w.driver z → (b : Bool) → may_meet w.driver e z ≡ b
       → IsPrefix (concat (s.acc (32 * z.queue))) (concat (x.packets z.desc.name.addr z.desc.name.num))
   in_left e z here comes there true near = met_begins fixed member x s w f e z here (record { there = there; near = near }) comes
   in_left e z here comes there false off = left.closed_ins.left e z here comes there off

@@ -21,7 +21,7 @@ use Rattle.async_walk.specs.Rows.{place}
 use Rattle.scripted_streams.specs.Senders.{sender_of}
 use Rattle.bus_world.specs.World.{World, driver_parts, driver_next}
 use Rattle.stream_worlds.specs.Streaming.{Streams, Standing, wired}
-use Rattle.chained_transfers.specs.Bulk.{receives}
+use Rattle.chained_transfers.specs.Bulk.{comes_in}
 use Rattle.chained_transfers.proofs.Events.{event_turns}
 use Rattle.fed_queues.specs.Places.{HasThere}
 use Rattle.controlled_streams.specs.Opened.{with_stream, with_end, with_none}
@@ -111,7 +111,7 @@ module _ (fixed : Fixed) (member : ℕ → Bool) (x : Streams) (s : Standing) (w
   reports_now =
       open_reports s.acc s.reported (there_of w.driver) opening_base w.control.walk s.hand p member x.streams x.endpoint s.parts s.order s.out at_open old (has_there w.driver) f.counted
 
-  pub link_feeding : AreNamesApart w.driver → (receives e.desc.name.way ≡ true → x.stream e.desc.name.addr e.desc.name.num ≡ true) → IsFeeding fixed (with_member member n) more (linked s found.queue e) (driver_next w)
+  pub link_feeding : AreNamesApart w.driver → (comes_in e.desc.name.way ≡ true → x.stream e.desc.name.addr e.desc.name.num ≡ true) → IsFeeding fixed (with_member member n) more (linked s found.queue e) (driver_next w)
   link_feeding apart sends =
       let g = f.working in
       let drives = open_is_linked opening_base w.control.walk s.hand p member x.streams x.endpoint s.parts s.order s.out at_open old in

@@ -19,7 +19,7 @@ use Rattle.run_owners.proofs.Reasons.{each_is_due}
 use Rattle.run_owners.proofs.Released.{set_here, set_there}
 use Rattle.controlled_streams.specs.Reported.{IsReported}
 use Rattle.driver_laws.specs.PartOpened.{opening_base}
-use Rattle.chained_transfers.specs.Bulk.{receives}
+use Rattle.chained_transfers.specs.Bulk.{receives, comes_in}
 use Rattle.fed_queues.specs.Places.{IsThere}
 use Rattle.told_endpoints.specs.Telling.{named_of, IsToldTo}
 use Rattle.harvest_laws.specs.Told.{ToldStands}
@@ -198,13 +198,13 @@ module _ (fixed : Fixed) (takes : ℕ → ℕ → Bool) (member : ℕ → Bool) 
 
   -- ---- those that have left
 
-  ins_gone : (i : ℕ) (y : Endpoint) → slice_get then.endpoints i ≡ Some y → receives y.desc.name.way ≡ true → y.gone ≡ true
+  ins_gone : (i : ℕ) (y : Endpoint) → slice_get then.endpoints i ≡ Some y → comes_in y.desc.name.way ≡ true → y.gone ≡ true
       → IsPrefix (told_to then y.desc.name) (concat (x.packets y.desc.name.addr y.desc.name.num))
   ins_gone i y here ins gone =
       ⊎_elim (λ (own : (i ≡ e) × (y ≡ gone_z)).
       subst (λ (r : Endpoint). IsPrefix (told_to then r.desc.name) (concat (x.packets r.desc.name.addr r.desc.name.num))) (sym own.1)
       (begins_both (told_to then z.desc.name) (concat (s.acc n)) (concat (x.packets z.desc.name.addr z.desc.name.num)) is_moved
-      (l.closed_ins.left e z leaver.leaves.here (ap (λ (r : Endpoint). receives r.desc.name.way) (sym own.1) ∙ ins) there far)))
+      (l.closed_ins.left e z leaver.leaves.here (ap (λ (r : Endpoint). comes_in r.desc.name.way) (sym own.1) ∙ ins) there far)))
       (λ (other : (i ≢ e) × (slice_get d.endpoints i ≡ Some y)).
       let g : IsGoneIn d i y (told_to then y.desc.name) = gone_before i y here gone other.0 in
       let is : g.endpoint ≡ y = same_Some g.endpoint y (sym g.here ∙ other.1) in

@@ -10,7 +10,7 @@ use Rattle.driver_rows.specs.declared.content.Command.TheVariants as unfinished
 use Rattle.driver_rows.specs.DriverContent.{DriverContent}
 use Rattle.endpoint_lives.specs.Lives.{may_meet}
 use Rattle.ring_laws.specs.OutBus.{Taker}
-use Rattle.chained_transfers.specs.Bulk.{receives}
+use Rattle.chained_transfers.specs.Bulk.{receives, comes_in}
 use Rattle.fed_queues.specs.Places.{IsThere}
 use Rattle.leaving_drivers.specs.Told.{told_to, IsGoneIn}
 use Rattle.leaving_drivers.specs.Before.{IsAsBefore, NearSame}
@@ -63,12 +63,12 @@ module _ (d f : DriverContent) (unmet : UnmetStay d f) (opened : OpenedIsMet d) 
         let w = unmet e z here off in
         subst (λ (q : ℕ). IsPrefix (concat (acc (32 * q))) (concat (packets z.desc.name.addr z.desc.name.num))) (sym w.queue)
         (subst (λ (c : EpDesc). IsPrefix (concat (acc (32 * w.endpoint.queue))) (concat (packets c.name.addr c.name.num))) (sym w.desc)
-        (old.left e w.endpoint w.here (ap (λ (c : EpDesc). receives c.name.way) (sym w.desc) ∙ comes) (there_was e z w there) w.unmet));
+        (old.left e w.endpoint w.here (ap (λ (c : EpDesc). comes_in c.name.way) (sym w.desc) ∙ comes) (there_was e z w there) w.unmet));
     gone = λ e z here comes is.
         let g = gone e z here is in
         subst (λ (bytes : List ℕ). IsPrefix bytes (concat (packets z.desc.name.addr z.desc.name.num))) g.told
         (subst (λ (c : EpDesc). IsPrefix (told_to d g.endpoint.desc.name) (concat (packets c.name.addr c.name.num))) g.desc
-        (old.gone e g.endpoint g.here (ap (λ (c : EpDesc). receives c.name.way) g.desc ∙ comes) g.gone));
+        (old.gone e g.endpoint g.here (ap (λ (c : EpDesc). comes_in c.name.way) g.desc ∙ comes) g.gone));
   }
 
   pub closed_outs : {W : Type 0} (taker : W → ℕ → ℕ → Option Taker) (acc : ℕ → List (List ℕ)) (wire : W) → ClosedOuts d taker acc wire → ClosedOuts f taker acc wire

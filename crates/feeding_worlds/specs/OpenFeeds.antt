@@ -7,7 +7,7 @@ use Rattle.usb_bus.specs.Bus.{Fixed}
 use Rattle.ring_laws.specs.Told.{Endpoint as Told}
 use Rattle.bus_world.specs.World.{World, driver_next}
 use Rattle.stream_worlds.specs.Streaming.{Streams, Standing}
-use Rattle.chained_transfers.specs.Bulk.{receives}
+use Rattle.chained_transfers.specs.Bulk.{comes_in}
 use Rattle.open_laws.specs.Opens.{IsOpenLent, AreNamesApart}
 use Rattle.feeding_worlds.specs.Feeding.{IsFeeding}
 
@@ -20,4 +20,4 @@ pub record FeedsOneMore (fixed : Fixed) (x : Streams) (new : World) : Type 0 whe
 
 abbrev pub LinkFeeds : Type 0
 LinkFeeds = (fixed : Fixed) (member : ℕ → Bool) (x : Streams) (s : Standing) (w : World) → (k : IsOpenLent w.driver member s.parts) → AreNamesApart w.driver
-    → (receives k.endpoint.desc.name.way ≡ true → x.stream k.endpoint.desc.name.addr k.endpoint.desc.name.num ≡ true) → IsFeeding fixed member x s w → FeedsOneMore fixed x (driver_next w)
+    → (comes_in k.endpoint.desc.name.way ≡ true → x.stream k.endpoint.desc.name.addr k.endpoint.desc.name.num ≡ true) → IsFeeding fixed member x s w → FeedsOneMore fixed x (driver_next w)

@@ -3,14 +3,14 @@
 --     outs_of member streams        the queue heads of OUT endpoints: of all that the walk may meet those without a stream, but the head of the ring
 --     IsTaking fixed takes member x s w     both sides of the pipe of each OUT endpoint agree, where s.acc are the bytes that were moved of it; and devices'
 --                                   endpoints that aren't opened took nothing
---     HaveSides way d has           the endpoint that is being opened has one of these, if it receives, or sends
+--     HaveSides way d has           the endpoint that is being opened has one of these, if it is an IN endpoint, or an OUT endpoint where `way` is false
 --     HaveTakers d takes            one that is being opened has a taker, if it is an OUT endpoint
 use Rattle.std.specs.Prelude.{◌≡◌, ℕ, Bool, true, false, slice_get, Some, if◌then◌else◌}
 use Rattle.std.specs.List.{concat}
 use Rattle.driver_rows.specs.declared.content.Endpoint.{Endpoint}
 use Rattle.driver_rows.specs.declared.content.Command.TheVariants as unfinished
 use Rattle.driver_rows.specs.DriverContent.{DriverContent}
-use Rattle.chained_transfers.specs.Bulk.{receives}
+use Rattle.narrowed_streams.specs.Narrowed.{IsOnSide}
 use Rattle.ring_laws.specs.Pipes.{AreEndpoints}
 use Rattle.scripted_takers.specs.Takers.{taker_of}
 use Rattle.usb_bus.specs.Bus.{Fixed}
@@ -29,7 +29,7 @@ pub record IsTaking (fixed : Fixed) (takes : ℕ → ℕ → Bool) (member : ℕ
 
 abbrev pub HaveSides : Bool → DriverContent → (ℕ → ℕ → Bool) → Type 0
 HaveSides way d has =
-    (e : ℕ) (x : Endpoint) → slice_get d.endpoints e ≡ Some x → d.command ≡ Some (unfinished.Open x.queue) → x.gone ≡ false → receives x.desc.name.way ≡ way
+    (e : ℕ) (x : Endpoint) → slice_get d.endpoints e ≡ Some x → d.command ≡ Some (unfinished.Open x.queue) → x.gone ≡ false → IsOnSide way x.desc.name.way
     → has x.desc.name.addr x.desc.name.num ≡ true
 
 abbrev pub HaveTakers : DriverContent → (ℕ → ℕ → Bool) → Type 0

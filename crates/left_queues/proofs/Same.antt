@@ -13,7 +13,7 @@ use Rattle.lent_structures.specs.Structures.{Structures, StructureSets}
 use Rattle.driver_laws.specs.Inventory.{IsLent}
 use Rattle.ring_laws.specs.Told.{Endpoint as Told, endpoint_of}
 use Rattle.ring_laws.specs.Front.{IsPassed, HasFront, LinksWithin, HasTail}
-use Rattle.chained_transfers.specs.Bulk.{receives}
+use Rattle.chained_transfers.specs.Bulk.{comes_in}
 use Rattle.chained_transfers.specs.Chains.{piece_at}
 use Rattle.fed_queues.specs.Fed.{IsPieceFed, AreFed, sized}
 use Rattle.fed_queues.specs.Places.{HasHead, AreMet, HaveStreams, IsLast, AreLast, AreStillOut}
@@ -117,7 +117,7 @@ module _ (d f : DriverContent) (b : IsAsBefore d f) (near : NearSame d f) where
     each = λ e z here m.
         let w = b.ends e z here in
         let one = old.each e w.endpoint w.here (met_before d f e z w here b (near_fewer d f near) m) in (
-          ap (λ (q : ℕ). streams (32 * q)) w.queue ∙ one.0 ∙ ap (λ (desc : EpDesc). receives desc.name.way) (sym w.desc),
+          ap (λ (q : ℕ). streams (32 * q)) w.queue ∙ one.0 ∙ ap (λ (desc : EpDesc). comes_in desc.name.way) (sym w.desc),
           ap (λ (q : ℕ). ends (32 * q)) w.queue ∙ one.1 ∙ ap (λ (desc : EpDesc). endpoint_of (queue_head desc 0 w.endpoint.dummy)) (sym w.desc)
               ∙ ap (λ (c : ℕ). endpoint_of (queue_head z.desc 0 c)) (sym w.dummy),
         );

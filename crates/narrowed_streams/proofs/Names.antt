@@ -8,17 +8,17 @@ use Rattle.chained_transfers.specs.Bulk.{receives}
 use Rattle.endpoint_lives.specs.Lives.{may_meet}
 use Rattle.endpoint_lives.proofs.Lives.{any_there, there_any}
 use Rattle.closed_streams.specs.Left.{names_kept}
-use Rattle.narrowed_streams.specs.Narrowed.{is_side, left_names, HasLeft, LeftIsNamed, NamedHasLeft, KeptOrLeft, LeftIsShut}
+use Rattle.narrowed_streams.specs.Narrowed.{is_side, IsOnSide, left_names, HasLeft, LeftIsNamed, NamedHasLeft, KeptOrLeft, LeftIsShut}
 
 pub on_not : (b : Bool) → not b ≡ true → b ≡ false
 on_not true on = absurd (false≢true on)
 on_not false on = refl
 
-side_is : (way : Bool) (w : Way) → is_side way w ≡ true → receives w ≡ way
+side_is : (way : Bool) (w : Way) → is_side way w ≡ true → IsOnSide way w
 side_is true w on = on
 side_is false w on = on_not (receives w) on
 
-is_on_side : (way : Bool) (w : Way) → receives w ≡ way → is_side way w ≡ true
+is_on_side : (way : Bool) (w : Way) → IsOnSide way w → is_side way w ≡ true
 is_on_side true w is = is
 is_on_side false w is = not_from_false (receives w) is
 

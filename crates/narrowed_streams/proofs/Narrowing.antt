@@ -3,19 +3,19 @@ use Rattle.std.proofs.Common.{◌≡◌, ◌≢◌, ℕ, ◌*◌, ◌||◌, ◌&
 use Rattle.std.proofs.lemmas.Bool.{false≢true, cases_eq, and_parts, false_from_ne_true}
 use Rattle.std.proofs.lemmas.Option.{same_Some}
 use Rattle.usb_base.specs.declared.packets.Way.{Way}
-use Rattle.usb_base.specs.declared.packets.Way.TheVariants as ways
 use Rattle.driver_rows.specs.declared.content.Endpoint.{Endpoint}
 use Rattle.driver_rows.specs.DriverContent.{DriverContent}
 use Rattle.driver_rows.specs.Rows.{is_iso}
 use Rattle.driver_rows.specs.Words.{head_block, queue_head}
 use Rattle.ring_members.proofs.Placed.{queue_off_head, queues_apart}
 use Rattle.ring_laws.specs.Told.{Endpoint as Told, endpoint_of}
-use Rattle.chained_transfers.specs.Bulk.{receives, IsDataWay, OnlyBulk}
+use Rattle.chained_transfers.specs.Bulk.{comes_in, OnlyBulk}
+use Rattle.chained_transfers.proofs.Ways.{data_comes_in, way_comes_in, way_sends}
 use Rattle.endpoint_lives.specs.Lives.{may_meet}
 use Rattle.fed_queues.specs.Places.{IsMet, HasHead, HaveStreams}
 use Rattle.open_laws.specs.Opens.{AreNamesApart}
 use Rattle.closed_streams.proofs.Left.{left_are_closed}
-use Rattle.narrowed_streams.specs.Narrowed.{left_names, HasLeft, NarrowsTo, AreNarrowed, InsHaveLeft, OutsHaveLeft, StreamsStayMet, InsAreClosed, OutsAreClosed}
+use Rattle.narrowed_streams.specs.Narrowed.{IsOnSide, left_names, HasLeft, NarrowsTo, AreNarrowed, InsHaveLeft, OutsHaveLeft, StreamsStayMet, InsAreClosed, OutsAreClosed}
 use Rattle.narrowed_streams.proofs.Names.{left_named, named_left}
 
 -- ---- which the walk meets
@@ -53,16 +53,12 @@ are_narrowed d f narrow bulk owners ends none met = record { ends = ends; met = 
 
 -- ---- which have left
 
-same_way : (v w : Way) → IsDataWay v → IsDataWay w → receives v ≡ receives w → v ≡ w
-same_way ways.In ways.In one two same = refl
-same_way ways.Out ways.Out one two same = refl
-same_way ways.In ways.Out one two same = cc
-same_way ways.Out ways.In one two same = cc
-same_way ways.Ctl w one two same = absurd one
-same_way v ways.Ctl one two same = absurd two
+pub same_way : (way : Bool) (v w : Way) → IsOnSide way v → IsOnSide way w → v ≡ w
+same_way true v w one two = way_comes_in v one ∙ sym (way_comes_in w two)
+same_way false v w one two = way_sends v one ∙ sym (way_sends w two)
 
 module _ (d f : DriverContent) (narrow : ℕ → Bool) (bulk : OnlyBulk d) (apart : AreNamesApart d) (to : NarrowsTo d f narrow) where
-  module _ (e : ℕ) (x : Endpoint) (here : slice_get d.endpoints e ≡ Some x) (met : IsMet d e x) (way : Bool) (side : receives x.desc.name.way ≡ way) where
+  module _ (e : ℕ) (x : Endpoint) (here : slice_get d.endpoints e ≡ Some x) (met : IsMet d e x) (way : Bool) (side : IsOnSide way x.desc.name.way) where
     gone_name : narrow (32 * x.queue) ≡ false → left_names f way x.desc.name.addr x.desc.name.num ≡ true
     gone_name off =
         named_left f way x.desc.name.addr x.desc.name.num
@@ -82,11 +78,11 @@ module _ (d f : DriverContent) (narrow : ℕ → Bool) (bulk : OnlyBulk d) (apar
         never h =
             let there : slice_get d.endpoints h.number ≡ Some h.endpoint = ap (λ (xs : List Endpoint). slice_get xs h.number) (sym to.ends) ∙ h.here in
             let same : e ≡ h.number = apart e h.number x h.endpoint here there (sym h.named.0) (sym h.named.1)
-            (same_way x.desc.name.way h.endpoint.desc.name.way (bulk.endpoints e x here).bulk.way (bulk.endpoints h.number h.endpoint there).bulk.way (side ∙ sym h.side)) in
+            (same_way way x.desc.name.way h.endpoint.desc.name.way side h.side) in
             let one : x ≡ h.endpoint = same_Some x h.endpoint (sym here ∙ ap (slice_get d.endpoints) same ∙ there) in
             false≢true (sym h.unmet ∙ ap (may_meet f h.number) (sym one) ∙ ap (λ (i : ℕ). may_meet f i x) (sym same) ∙ sym (to.met e x here met) ∙ on)
 
-  module _ (streams : ℕ → Bool) (ends : ℕ → Told) (have : HaveStreams d streams ends) (n : ℕ) (h : HasHead d n) (way : Bool) (side : receives h.endpoint.desc.name.way ≡ way) where
+  module _ (streams : ℕ → Bool) (ends : ℕ → Told) (have : HaveStreams d streams ends) (n : ℕ) (h : HasHead d n) (way : Bool) (side : IsOnSide way h.endpoint.desc.name.way) where
     abbrev name_at : (ℕ → ℕ → Bool) → Told → Bool
     name_at left t = left t.addr t.ep
 
@@ -100,19 +96,25 @@ module _ (d f : DriverContent) (narrow : ℕ → Bool) (bulk : OnlyBulk d) (apar
     kept_at on = ap (name_at (left_names f way)) told ∙ kept_name h.number h.endpoint h.here h.met way side (ap narrow (sym h.at) ∙ on)
 
 -- the side of a queue head, by whether it has a stream
-side_at : (d : DriverContent) (streams : ℕ → Bool) (ends : ℕ → Told) (have : HaveStreams d streams ends) (n : ℕ) (h : HasHead d n) (b : Bool) → streams n ≡ b → receives h.endpoint.desc.name.way ≡ b
-side_at d streams ends have n h b is = sym (have.each h.number h.endpoint h.here h.met).0 ∙ ap streams (sym h.at) ∙ is
+way_at : (d : DriverContent) (streams : ℕ → Bool) (ends : ℕ → Told) (have : HaveStreams d streams ends) (n : ℕ) (h : HasHead d n) (b : Bool) → streams n ≡ b → comes_in h.endpoint.desc.name.way ≡ b
+way_at d streams ends have n h b is = sym (have.each h.number h.endpoint h.here h.met).0 ∙ ap streams (sym h.at) ∙ is
+
+side_at : (d : DriverContent) (streams : ℕ → Bool) (ends : ℕ → Told) (bulk : OnlyBulk d) (have : HaveStreams d streams ends) (n : ℕ) (h : HasHead d n) (b : Bool) → streams n ≡ b → IsOnSide b h.endpoint.desc.name.way
+side_at d streams ends bulk have n h true is = way_at d streams ends have n h true is
+side_at d streams ends bulk have n h false is =
+    let way = h.endpoint.desc.name.way in
+    sym (data_comes_in way (bulk.endpoints h.number h.endpoint h.here).bulk.way) ∙ way_at d streams ends have n h false is
 
 pub ins_have_left : InsHaveLeft
 ins_have_left d f narrow streams ends bulk apart have to = record {
-  none = λ n on met. let h = have.only n on in kept_at d f narrow bulk apart to streams ends have n h true (side_at d streams ends have n h true on) met;
-  each = λ n on off. let h = have.only n on in left_at d f narrow bulk apart to streams ends have n h true (side_at d streams ends have n h true on) off;
+  none = λ n on met. let h = have.only n on in kept_at d f narrow bulk apart to streams ends have n h true (side_at d streams ends bulk have n h true on) met;
+  each = λ n on off. let h = have.only n on in left_at d f narrow bulk apart to streams ends have n h true (side_at d streams ends bulk have n h true on) off;
 }
 
 pub outs_have_left : OutsHaveLeft
 outs_have_left d f narrow streams outs ends bulk apart have heads to = record {
-  none = λ n on met. let h = heads n on in kept_at d f narrow bulk apart to streams ends have n h.1 false (side_at d streams ends have n h.1 false h.0) met;
-  each = λ n on off. let h = heads n on in left_at d f narrow bulk apart to streams ends have n h.1 false (side_at d streams ends have n h.1 false h.0) off;
+  none = λ n on met. let h = heads n on in kept_at d f narrow bulk apart to streams ends have n h.1 false (side_at d streams ends bulk have n h.1 false h.0) met;
+  each = λ n on off. let h = heads n on in left_at d f narrow bulk apart to streams ends have n h.1 false (side_at d streams ends bulk have n h.1 false h.0) off;
 }
 
 -- ---- the streams

@@ -5,7 +5,7 @@ use Rattle.std.proofs.lemmas.Option.{same_Some}
 use Rattle.usb_base.specs.declared.packets.Way.TheVariants as ways
 use Rattle.driver_rows.specs.declared.content.Endpoint.{Endpoint}
 use Rattle.driver_rows.specs.declared.content.Transfer.{Transfer}
-use Rattle.chained_transfers.specs.Bulk.{receives, IsStanding, OnlyBulk}
+use Rattle.chained_transfers.specs.Bulk.{comes_in, IsStanding, OnlyBulk}
 use Rattle.endpoint_lives.specs.Lives.{may_meet}
 use Rattle.fed_queues.specs.Places.{IsMet, HasHead, HaveStreams}
 use Rattle.open_laws.specs.Opens.{AreNamesApart}
@@ -107,7 +107,7 @@ has_head n on =
 
 pub streams_row : HaveStreams before streams ends
 streams_row = record {
-  each = each_of (λ (e : ℕ) (x : Endpoint). IsMet before e x → (streams (32 * x.queue) ≡ receives x.desc.name.way) × (ends (32 * x.queue) ≡ told x)) (λ m. (refl, refl)) (λ m. (refl, refl)) (λ m. (refl, refl));
+  each = each_of (λ (e : ℕ) (x : Endpoint). IsMet before e x → (streams (32 * x.queue) ≡ comes_in x.desc.name.way) × (ends (32 * x.queue) ≡ told x)) (λ m. (refl, refl)) (λ m. (refl, refl)) (λ m. (refl, refl));
   only = has_head;
 }
 

@@ -1,6 +1,7 @@
 -- Endpoints of a driver of bulk endpoints that have left the ring, once the doorbell is answered (EHCI 1.0, 4.8.2): the walk meets fewer queue heads, and just the streams of
 -- those that it doesn't meet any more are closed.
---     is_side way w              data of an endpoint of way w come to the host, or leave it where `way` is false
+--     is_side way w              an endpoint of way w is an IN endpoint, or an OUT endpoint where `way` is false; a control endpoint is neither
+--     IsOnSide way w             the same, as a statement
 --     left_names d way           the names of the endpoints of this side that aren't met any more
 --     HasLeft d way addr ep      an endpoint of this name and side isn't met any more
 --     LeftIsNamed, NamedHasLeft        these are just those names
@@ -21,7 +22,7 @@ use Rattle.driver_rows.specs.declared.rows.DriverRow.TheVariants as rows
 use Rattle.driver_rows.specs.DriverContent.{DriverContent}
 use Rattle.driver_rows.specs.Rows.{Parts, after_driver_row}
 use Rattle.run_owners.specs.Kept.{HasOwners}
-use Rattle.chained_transfers.specs.Bulk.{receives, OnlyBulk}
+use Rattle.chained_transfers.specs.Bulk.{receives, comes_in, OnlyBulk}
 use Rattle.endpoint_lives.specs.Lives.{any_at, may_meet}
 use Rattle.ring_laws.specs.Stores.{IsWider}
 use Rattle.ring_laws.specs.Told.{Endpoint as Told}
@@ -34,7 +35,11 @@ use Rattle.closed_streams.specs.Left.{heads_met, names_kept, HaveLeft, KeepMet}
 -- ---- names
 
 abbrev pub is_side : Bool → Way → Bool
-is_side way w = if way then receives w else not (receives w)
+is_side way w = if way then comes_in w else not (receives w)
+
+abbrev pub IsOnSide : Bool → Way → Type 0
+IsOnSide true w = comes_in w ≡ true
+IsOnSide false w = receives w ≡ false
 
 abbrev pub left_names : DriverContent → Bool → ℕ → ℕ → Bool
 left_names d way addr ep = any_at (λ e x. (x.desc.name.addr == addr && x.desc.name.num == ep) && (is_side way x.desc.name.way && not (may_meet d e x))) d.endpoints
@@ -44,7 +49,7 @@ pub record HasLeft (d : DriverContent) (way : Bool) (addr ep : ℕ) : Type 0 whe
   pub endpoint : Endpoint
   pub here : slice_get d.endpoints number ≡ Some endpoint
   pub named : (endpoint.desc.name.addr ≡ addr) × (endpoint.desc.name.num ≡ ep)
-  pub side : receives endpoint.desc.name.way ≡ way
+  pub side : IsOnSide way endpoint.desc.name.way
   pub unmet : may_meet d number endpoint ≡ false
 
 abbrev pub LeftIsNamed : Type 0

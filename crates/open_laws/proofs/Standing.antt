@@ -24,7 +24,7 @@ use Rattle.ring_laws.specs.Told.{Endpoint as Told, endpoint_of}
 use Rattle.driver_laws.specs.Linked.{with_member, head_at}
 use Rattle.controlled_streams.specs.Opened.{with_end, with_none}
 use Rattle.controlled_streams.proofs.Beginning.{end_here, end_beside, list_here, list_beside}
-use Rattle.chained_transfers.specs.Bulk.{receives, IsStanding}
+use Rattle.chained_transfers.specs.Bulk.{comes_in, IsStanding}
 use Rattle.chained_transfers.specs.Out.{unpublished, out_of_transfer, out_of, out_now}
 use Rattle.fed_queues.specs.Fed.{IsPieceFed, unpublished_of, AreFed, sized}
 use Rattle.fed_queues.specs.Places.{IsMet, HasHead, AreMet, HaveStreams, AreLast, AreStillOut, IsThere}
@@ -58,11 +58,11 @@ none_either false = refl
 
 -- ---- who has a stream then
 
-pub then_here : (streams : ℕ → Bool) (x : Endpoint) → streams_then streams x (32 * x.queue) ≡ receives x.desc.name.way
-then_here streams x = ap (λ (b : Bool). if b then receives x.desc.name.way else streams (32 * x.queue)) (eq-eqb (32 * x.queue) (32 * x.queue) refl)
+pub then_here : (streams : ℕ → Bool) (x : Endpoint) → streams_then streams x (32 * x.queue) ≡ comes_in x.desc.name.way
+then_here streams x = ap (λ (b : Bool). if b then comes_in x.desc.name.way else streams (32 * x.queue)) (eq-eqb (32 * x.queue) (32 * x.queue) refl)
 
 pub then_beside : (streams : ℕ → Bool) (x : Endpoint) (m : ℕ) → m ≢ 32 * x.queue → streams_then streams x m ≡ streams m
-then_beside streams x m differs = ap (λ (b : Bool). if b then receives x.desc.name.way else streams m) (not_same m (32 * x.queue) differs)
+then_beside streams x m differs = ap (λ (b : Bool). if b then comes_in x.desc.name.way else streams m) (not_same m (32 * x.queue) differs)
 
 -- ---- members
 
@@ -220,7 +220,7 @@ module _ (p : DriverParts) (member streams : ℕ → Bool) (ends : ℕ → Told)
     each = λ e y there met.
         ⊎_elim (λ (same : e ≡ k.lent.number).
         let is : y ≡ x = is_new e y there same in (
-          ap (λ (z : Endpoint). streams_then streams x (32 * z.queue)) is ∙ then_here streams x ∙ ap (λ (z : Endpoint). receives z.desc.name.way) (sym is),
+          ap (λ (z : Endpoint). streams_then streams x (32 * z.queue)) is ∙ then_here streams x ∙ ap (λ (z : Endpoint). comes_in z.desc.name.way) (sym is),
           ap (λ (z : Endpoint). with_end ends n (end_then x) (32 * z.queue)) is ∙ end_here ends n (end_then x) ∙ ap (λ (z : Endpoint). endpoint_of (queue_head z.desc 0 z.dummy)) (sym is),
         ))
         (λ (differs : e ≢ k.lent.number).

@@ -3,7 +3,6 @@ use Rattle.std.proofs.Common.{◌≡◌, ◌≢◌, ℕ, ◌*◌, ◌||◌, ◌=
 use Rattle.std.proofs.lemmas.Bool.{cases_eq, false≢true}
 use Rattle.std.proofs.lemmas.Option.{same_Some}
 use Rattle.usb_base.specs.declared.packets.Reply.{Reply}
-use Rattle.usb_base.specs.declared.packets.Way.{Way}
 use Rattle.usb_base.specs.declared.packets.Way.TheVariants as ways
 use Rattle.link_words.specs.Links.{qtd_link_of}
 use Rattle.qh_qtd.specs.declared.qtd.Qtd.{Qtd}
@@ -34,7 +33,8 @@ use Rattle.controlled_streams.specs.Unopened.{IsUnopened, AreUnopened}
 use Rattle.controlled_streams.specs.Opened.{with_stream, with_end, with_none, IsBeginning, IsOneMore}
 use Rattle.controlled_streams.proofs.Beginning.{ends_with_one, pipes_with_one, reports_with_one, unopened_less_one, ends_with_other, pipes_with_other, unopened_with_other}
 use Rattle.controlled_streams.proofs.Alike.{alike_ends, alike_pipes, alike_unopened}
-use Rattle.chained_transfers.specs.Bulk.{IsDataWay, receives}
+use Rattle.chained_transfers.specs.Bulk.{comes_in}
+use Rattle.chained_transfers.proofs.Ways.{way_comes_in}
 use Rattle.fed_queues.specs.Places.{HasHead, HasThere}
 use Rattle.publish_laws.proofs.Apart.{queue_placed, thirty_two}
 use Rattle.open_laws.specs.Opens.{AreNamesApart, IsAtOpen, head_then, hand_then, end_then, streams_then, OpenPipes, OpenReports}
@@ -63,11 +63,6 @@ one_element r q a t found =
 either_true : (b c : Bool) → (if b then true else c) ≡ (b || c)
 either_true true c = refl
 either_true false c = refl
-
-way_in : (way : Way) → IsDataWay way → receives way ≡ true → way ≡ ways.In
-way_in ways.In one gets = refl
-way_in ways.Out one gets = absurd cc
-way_in ways.Ctl one gets = absurd one
 
 -- ---- its toggle
 
@@ -175,11 +170,11 @@ module _ (base : Base) (w : Walk) (hand : Hand) (p : DriverParts) (member stream
   new : streams n ≡ false
   new = not_yet streams streams_there
 
-  -- as its endpoint receives or not
-  with_one : receives x.desc.name.way ≡ true → (m : ℕ) → streams_then streams x m ≡ with_stream streams n m
+  -- as its endpoint is an IN endpoint or not
+  with_one : comes_in x.desc.name.way ≡ true → (m : ℕ) → streams_then streams x m ≡ with_stream streams n m
   with_one on m = ap (λ (b : Bool). if m == n then b else streams m) on ∙ either_true (m == n) (streams m)
 
-  with_other : receives x.desc.name.way ≡ false → (m : ℕ) → streams_then streams x m ≡ streams m
+  with_other : comes_in x.desc.name.way ≡ false → (m : ℕ) → streams_then streams x m ≡ streams m
   with_other off m =
       ⊎_elim (λ (same : m ≡ n). ap (streams_then streams x) same ∙ then_here streams x ∙ off ∙ sym new ∙ ap streams (sym same)) (λ (differs : m ≢ n). then_beside streams x m differs) (cases_eq m n)
 
@@ -212,15 +207,15 @@ module _ (base : Base) (w : Walk) (hand : Hand) (p : DriverParts) (member stream
     met_not : (y : Endpoint) → y ≡ x → d.command ≢ Some (unfinished.Open y.queue) → ⊥
     met_not y same met = met (k.lent.command ∙ ap (λ (z : Endpoint). Some (unfinished.Open z.queue)) (sym same))
 
-    in_way : (e : ℕ) (y : Endpoint) → slice_get d.endpoints e ≡ Some y → receives y.desc.name.way ≡ true → y.desc.name.way ≡ ways.In
-    in_way e y there gets = way_in y.desc.name.way (k.turns.bulk.endpoints e y there).bulk.way gets
+    in_way : (e : ℕ) (y : Endpoint) → slice_get d.endpoints e ≡ Some y → comes_in y.desc.name.way ≡ true → y.desc.name.way ≡ ways.In
+    in_way e y there gets = way_comes_in y.desc.name.way gets
 
-    unopened : receives x.desc.name.way ≡ true → IsUnopened streams ends x.desc.name.addr x.desc.name.num
+    unopened : comes_in x.desc.name.way ≡ true → IsUnopened streams ends x.desc.name.addr x.desc.name.num
     unopened gets m streamed addr ep =
         let h : HasHead d m = k.stand.streams_are.only m streamed in
         let told = k.stand.streams_are.each h.number h.endpoint h.here h.met in
         let is : ends m ≡ endpoint_of (queue_head h.endpoint.desc 0 h.endpoint.dummy) = ap ends h.at ∙ told.1 in
-        let too : receives h.endpoint.desc.name.way ≡ true = sym told.0 ∙ ap streams (sym h.at) ∙ streamed in
+        let too : comes_in h.endpoint.desc.name.way ≡ true = sym told.0 ∙ ap streams (sym h.at) ∙ streamed in
         let number : h.number ≡ k.lent.number =
         names h.number k.lent.number h.endpoint x h.here k.lent.here (sym (ap (λ (z : Told). z.addr) is) ∙ addr) (sym (ap (λ (z : Told). z.ep) is) ∙ ep)
         (in_way h.number h.endpoint h.here too ∙ sym (in_way k.lent.number x k.lent.here gets)) in
@@ -247,7 +242,7 @@ module _ (base : Base) (w : Walk) (hand : Hand) (p : DriverParts) (member stream
       others_stay : (m : ℕ) → with_member member n m ≡ true → m ≢ n → streams m ≡ false → IsElsewhere stream now m (ends m)
       others_stay m met differs off = elsewhere m (piped.others m (member_beside member n m differs met) off)
 
-      goes_one : receives x.desc.name.way ≡ true → stream x.desc.name.addr x.desc.name.num ≡ true → Goes (with_stream streams n)
+      goes_one : comes_in x.desc.name.way ≡ true → stream x.desc.name.addr x.desc.name.num ≡ true → Goes (with_stream streams n)
       goes_one gets on = (
         ends_with_one stream member (with_member member n) streams ends n (end_then x) (member_old member n) (member_here member n) on
             (ap speed_field (k.turns.bulk.endpoints k.lent.number x k.lent.here).bulk.speed) (unopened gets) are,
@@ -263,12 +258,12 @@ module _ (base : Base) (w : Walk) (hand : Hand) (p : DriverParts) (member stream
         unopened_with_other sender stream packets streams ends wire n (end_then x) new waits,
       )
 
-      goes_if : (b : Bool) → receives x.desc.name.way ≡ b → (receives x.desc.name.way ≡ true → stream x.desc.name.addr x.desc.name.num ≡ true) → Goes (streams_then streams x)
+      goes_if : (b : Bool) → comes_in x.desc.name.way ≡ b → (comes_in x.desc.name.way ≡ true → stream x.desc.name.addr x.desc.name.num ≡ true) → Goes (streams_then streams x)
       goes_if true is on = alike (with_stream streams n) (streams_then streams x) (with_one is) (goes_one is (on is))
       goes_if false is on = alike streams (streams_then streams x) (with_other is) goes_other
 
-      pub goes_by : (receives x.desc.name.way ≡ true → stream x.desc.name.addr x.desc.name.num ≡ true) → Goes (streams_then streams x)
-      goes_by on = goes_if (receives x.desc.name.way) refl on
+      pub goes_by : (comes_in x.desc.name.way ≡ true → stream x.desc.name.addr x.desc.name.num ≡ true) → Goes (streams_then streams x)
+      goes_by on = goes_if (comes_in x.desc.name.way) refl on
 
 pub open_pipes : {W : Type 0} (sender : W → ℕ → ℕ → Option Sender) → OpenPipes sender
 open_pipes sender stream packets acc wire base w hand p member streams ends parts order out k drives names on are waits piped =

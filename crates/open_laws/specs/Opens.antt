@@ -29,7 +29,7 @@ use Rattle.ring_laws.specs.Pipes.{AreEndpoints, ArePiped}
 use Rattle.controlled_streams.specs.Reported.{AreReported}
 use Rattle.controlled_streams.specs.Unopened.{AreUnopened}
 use Rattle.controlled_streams.specs.Opened.{with_stream, with_end, with_none}
-use Rattle.chained_transfers.specs.Bulk.{receives}
+use Rattle.chained_transfers.specs.Bulk.{comes_in}
 use Rattle.chained_transfers.specs.InTurn.{TakesTurns}
 use Rattle.fed_queues.specs.Places.{HasThere}
 use Rattle.publish_laws.specs.Stores.{QueuesThen}
@@ -69,7 +69,7 @@ end_then x = endpoint_of (queue_head x.desc 0 x.dummy)
 
 -- an IN endpoint has a stream
 abbrev pub streams_then : (ℕ → Bool) → Endpoint → ℕ → Bool
-streams_then streams x k = if k == 32 * x.queue then receives x.desc.name.way else streams k
+streams_then streams x k = if k == 32 * x.queue then comes_in x.desc.name.way else streams k
 
 abbrev pub next_of : DriverParts → DriverParts
 next_of p = after_driver_row (driver_row p) p
@@ -86,7 +86,7 @@ OpenPipes {W} sender = (stream : ℕ → ℕ → Bool) (packets : ℕ → ℕ �
     (member streams : ℕ → Bool)
     (ends : ℕ → Told) (parts : StructureSets) (order : ℕ → ℕ → ℕ) (out : ℕ → List ℕ) → (k : IsAtOpen p.driver p.memory member streams ends parts order out)
     → DrivesRing base member parts hand (place w p.registers p.memory) p.driver → AreNamesApart p.driver
-    → (receives k.lent.endpoint.desc.name.way ≡ true → stream k.lent.endpoint.desc.name.addr k.lent.endpoint.desc.name.num ≡ true)
+    → (comes_in k.lent.endpoint.desc.name.way ≡ true → stream k.lent.endpoint.desc.name.addr k.lent.endpoint.desc.name.num ≡ true)
     → AreEndpoints stream member streams ends → AreUnopened stream packets sender streams ends wire → ArePiped stream packets sender member streams ends acc parts hand wire
     → AreEndpoints stream (with_member member (32 * k.lent.endpoint.queue)) (streams_then streams k.lent.endpoint) (with_end ends (32 * k.lent.endpoint.queue) (end_then k.lent.endpoint))
     × ArePiped stream packets sender (with_member member (32 * k.lent.endpoint.queue)) (streams_then streams k.lent.endpoint)

@@ -16,5 +16,6 @@ pub fn open_rows()
     ensures end { end_then (new_endpoint bulk 130 133) ≡ endpoint_of (queue_head bulk 128 133) }
     ensures get { streams_then (λ k. false) (new_endpoint bulk 130 133) (32 * 130) ≡ true }
     ensures put { streams_then (λ k. false) (new_endpoint (record bulk { name = record { addr = 1; num = 1; way = ways.Out } }) 130 133) (32 * 130) ≡ false }
+    ensures control { streams_then (λ k. false) (new_endpoint (record bulk { name = record { addr = 1; num = 0; way = ways.Ctl } }) 130 133) (32 * 130) ≡ false }
     ensures beside { streams_then (λ k. true) (new_endpoint bulk 130 133) 32 ≡ true }
 {}

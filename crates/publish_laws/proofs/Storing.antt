@@ -33,7 +33,7 @@ use Rattle.publish_laws.proofs.Rows.{counted, after_is, store_made}
 use Rattle.controlled_streams.specs.Storing.{LeadsLater, IsStore, with_out, stored_parts}
 use Rattle.controlled_streams.proofs.Storing.{element_found}
 use Rattle.controlled_streams.proofs.Streams.{idle_reports, last_reports, store_pipes, out_here, out_beside}
-use Rattle.chained_transfers.specs.Bulk.{receives, pid_by, IsStanding}
+use Rattle.chained_transfers.specs.Bulk.{IsDataWay, comes_in, pid_by, IsStanding}
 use Rattle.chained_transfers.specs.Chains.{piece_at}
 use Rattle.chained_transfers.specs.Out.{out_of, out_now}
 use Rattle.fed_queues.specs.Fed.{IsPublished}
@@ -47,10 +47,10 @@ use Rattle.fed_queues.proofs.Places.{SameQueues, same_ends, going_met, met_stays
 use Rattle.chained_transfers.proofs.Staying.{alive}
 
 -- an IN where the queue head has a stream, else none
-asks_by : (on : Bool) (pid : ℕ) (way : Way) → on ≡ receives way → pid ≡ pid_by way → ((on ≡ true) × (pid ≡ 1)) ⊎ ((on ≡ false) × (pid ≢ 1))
-asks_by on pid ways.In streamed is = inl (streamed, is)
-asks_by on pid ways.Out streamed is = inr (streamed, λ same. let none : pid ≡ 0 = is in omega (arith, none, same))
-asks_by on pid ways.Ctl streamed is = inl (streamed, is)
+asks_by : (on : Bool) (pid : ℕ) (way : Way) → IsDataWay way → on ≡ comes_in way → pid ≡ pid_by way → ((on ≡ true) × (pid ≡ 1)) ⊎ ((on ≡ false) × (pid ≢ 1))
+asks_by on pid ways.In one streamed is = inl (streamed, is)
+asks_by on pid ways.Out one streamed is = inr (streamed, λ same. let none : pid ≡ 0 = is in omega (arith, none, same))
+asks_by on pid ways.Ctl one streamed is = absurd one
 
 module _ (p : DriverParts) (member streams : ℕ → Bool) (ends : ℕ → Told) (parts : StructureSets) (order : ℕ → ℕ → ℕ) (out : ℕ → List ℕ) (b : ℕ) (words : List ℕ) (k : IsAtStore p.driver p.memory member streams ends parts order out b words) where
   abbrev d : DriverContent
@@ -184,7 +184,7 @@ module _ (p : DriverParts) (member streams : ℕ → Bool) (ends : ℕ → Told)
       same_ends d (done d parts b words g i here k.fed) (record { waiting = refl; rung = refl; opens = λ c is. absurd (none_not_open c is) })
       (record { waiting = refl; rung = refl; opens = λ c is. absurd (never_opens c is) }) refl
 
-  streamed : streams n ≡ receives g.endpoint.desc.name.way
+  streamed : streams n ≡ comes_in g.endpoint.desc.name.way
   streamed = (k.streams_are.each y.endpoint g.endpoint g.here met_now).0
 
   -- ---- the order
@@ -305,7 +305,7 @@ module _ (p : DriverParts) (member streams : ℕ → Bool) (ends : ℕ → Told)
       → ArePiped stream packets sender member streams ends acc parts hand wire → ArePiped stream packets sender member streams ends acc (parts_then g) hand wire
   pipes_by sender stream packets acc wire hand piped =
       parts_are (λ (ps : StructureSets). ArePiped stream packets sender member streams ends acc ps hand wire)
-      (store_pipes sender stream packets member streams ends acc hand parts wire n (32 * b) (partly g.qtd i) (partly g.qtd (suc i)) g.stored (λ on. asks_by (streams n) (partly g.qtd (suc i)).token.pid g.endpoint.desc.name.way streamed (active_pid on)) piped)
+      (store_pipes sender stream packets member streams ends acc hand parts wire n (32 * b) (partly g.qtd i) (partly g.qtd (suc i)) g.stored (λ on. asks_by (streams n) (partly g.qtd (suc i)).token.pid g.endpoint.desc.name.way standing.bulk.way streamed (active_pid on)) piped)
 
   store : IsStore (order n) (out n) parts n (32 * b) (partly g.qtd i) (partly g.qtd (suc i))
   store = record {

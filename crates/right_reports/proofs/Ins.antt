@@ -10,7 +10,7 @@ use Rattle.script_types.specs.declared.scripts.Line.TheVariants as lines
 use Rattle.script_types.specs.declared.scripts.Script.{Script}
 use Rattle.report_streams.specs.Reports.{WholeReport}
 use Rattle.report_streams.specs.Streams.{is_refused, command_in, accepted_in, open_in, opened, has_stream, IsRightStream, AreRightStreams}
-use Rattle.chained_transfers.specs.Bulk.{receives}
+use Rattle.chained_transfers.specs.Bulk.{comes_in}
 use Rattle.chained_transfers.specs.Receives.{IsReceiving, OpensReceiving, ReceivesLine, ReceivesOnly}
 use Rattle.right_reports.specs.Ins.{AreRightInStreams}
 use Rattle.right_reports.proofs.Right.{all_mapped}
@@ -37,19 +37,19 @@ opened_receiving s r k =
 first_in : (x : EpDesc) (xs : List EpDesc) (b : Bool) → b ≡ true → (if b then x ∷ xs else xs) ≡ x ∷ xs
 first_in x xs b is = ap (λ (b : Bool). if b then x ∷ xs else xs) is
 
-comes : (x : EpDesc) → IsReceiving x → receives x.name.way ≡ true
-comes x k = ap receives k.way
+comes : (x : EpDesc) → IsReceiving x → comes_in x.name.way ≡ true
+comes x k = ap comes_in k.way
 
 streams : (x : EpDesc) → IsReceiving x → has_stream x.kind ≡ true
 streams x k = ap has_stream k.kind
 
-both : (x : EpDesc) → IsReceiving x → (has_stream x.kind && receives x.name.way) ≡ true
-both x k = ap (λ (b : Bool). b && receives x.name.way) (streams x k) ∙ comes x k
+both : (x : EpDesc) → IsReceiving x → (has_stream x.kind && comes_in x.name.way) ≡ true
+both x k = ap (λ (b : Bool). b && comes_in x.name.way) (streams x k) ∙ comes x k
 
-same_kept : (xs : List EpDesc) → AllByRecursion IsReceiving xs → filter (λ (x : EpDesc). has_stream x.kind && receives x.name.way) xs ≡ filter (λ (x : EpDesc). has_stream x.kind) xs
+same_kept : (xs : List EpDesc) → AllByRecursion IsReceiving xs → filter (λ (x : EpDesc). has_stream x.kind && comes_in x.name.way) xs ≡ filter (λ (x : EpDesc). has_stream x.kind) xs
 same_kept [] k = refl
 same_kept (x ∷ xs) k =
-    first_in x (filter (λ (y : EpDesc). has_stream y.kind && receives y.name.way) xs) (has_stream x.kind && receives x.name.way) (both x k.0) ∙ ap (λ (ys : List EpDesc). x ∷ ys) (same_kept xs k.1)
+    first_in x (filter (λ (y : EpDesc). has_stream y.kind && comes_in y.name.way) xs) (has_stream x.kind && comes_in x.name.way) (both x k.0) ∙ ap (λ (ys : List EpDesc). x ∷ ys) (same_kept xs k.1)
     ∙ sym (first_in x (filter (λ (y : EpDesc). has_stream y.kind) xs) (has_stream x.kind) (streams x k.0))
 
 pub ins_are_all : (s : Script) (r : WholeReport) → ReceivesOnly s → AreRightInStreams s r → AreRightStreams s r

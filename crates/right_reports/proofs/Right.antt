@@ -32,7 +32,7 @@ use Rattle.right_reports.specs.WorldReport.{closings_of, report_of}
 use Rattle.right_reports.specs.Ins.{AreRightInStreams}
 use Rattle.right_reports.specs.Laws.{BeginsEach}
 use Rattle.right_reports.proofs.Named.{HasNamed, NoneNamed, search, named_is, none_pending}
-use Rattle.chained_transfers.specs.Bulk.{IsDataWay, IsBulk, OpensOrCancelsBulk, BulkLine, BulkOnly, receives, IsStanding, OnlyBulk}
+use Rattle.chained_transfers.specs.Bulk.{IsBulk, OpensOrCancelsBulk, BulkLine, BulkOnly, comes_in, IsStanding, OnlyBulk}
 
 -- ---- lists
 
@@ -77,18 +77,18 @@ opened_bulk s r k =
     all_mapped OpensOrCancelsBulk IsBulk open_in (filter_map (accepted_in r) s.lines) opens_by
     (all_mapped (λ line. BulkLine line.1) OpensOrCancelsBulk (accepted_in r) s.lines (λ line cmd bulk is. accepted_by (is_refused r line.0) line.1 cmd bulk is) k)
 
-all_right : (s : Script) (r : WholeReport) → BulkOnly s → ((desc : EpDesc) → IsBulk desc → receives desc.name.way ≡ true → IsRightStream s r desc.name) → AreRightInStreams s r
+all_right : (s : Script) (r : WholeReport) → BulkOnly s → ((desc : EpDesc) → IsBulk desc → comes_in desc.name.way ≡ true → IsRightStream s r desc.name) → AreRightInStreams s r
 all_right s r k each =
-    all_kept IsBulk (λ desc. IsRightStream s r desc.name) (λ desc. has_stream desc.kind && receives desc.name.way) (opened s r)
-    (λ desc bulk is. each desc bulk (and_right (has_stream desc.kind) (receives desc.name.way) is)) (opened_bulk s r k)
+    all_kept IsBulk (λ desc. IsRightStream s r desc.name) (λ desc. has_stream desc.kind && comes_in desc.name.way) (opened s r)
+    (λ desc bulk is. each desc bulk (and_right (has_stream desc.kind) (comes_in desc.name.way) is)) (opened_bulk s r k)
 
 -- ---- one endpoint
 
 -- data of a bulk endpoint come to the host at an IN one alone
-pub in_way : (way : Way) → IsDataWay way → receives way ≡ true → way ≡ Ways.In
-in_way Ways.In moves is = refl
-in_way Ways.Out moves is = absurd cc
-in_way Ways.Ctl moves is = absurd moves
+pub in_way : (way : Way) → comes_in way ≡ true → way ≡ Ways.In
+in_way Ways.In is = refl
+in_way Ways.Out is = absurd cc
+in_way Ways.Ctl is = absurd cc
 
 bytes_right : (s : Script) (r : WholeReport) (name : EpName) → name.way ≡ Ways.In → IsPrefix (told r name) (concat (packets_of (items_of s name))) → AreBytesRight name.way s r name
 bytes_right s r name is k = subst (λ (way : Way). AreBytesRight way s r name) (sym is) (subst (λ (way : Way). IsPrefix (told r name) (stream_by way s r name)) (sym is) k)
@@ -119,7 +119,7 @@ module _ (s : Script) (fixed : Fixed) (w : World) (held told_each : ℕ → List
       t = tells.each k (named_of x) (ap (option_map named_of) here)
 
       front : IsPrefix (told_each k) (concat (packets_of (items_of s x.desc.name)))
-      front = begins k x here (ap receives way)
+      front = begins k x here (ap comes_in way)
 
       once_by : (end : Option EndCause) → told_end x ≡ end → ends_once (lines_in x.desc.name w.driver.reports) ≡ true
       once_by None still = once_without (lines_in x.desc.name w.driver.reports) (t.going still)
@@ -160,4 +160,4 @@ gone_told d held told e x only tells here gone = by x.ended refl
         sym to.sum ∙ ap (λ (xs : List ℕ). told_in d.store (lines_in x.desc.name d.reports) ++ xs) none ∙ append-nil (told_in d.store (lines_in x.desc.name d.reports))
 
 pub report_right : (s : Script) (fixed : Fixed) (w : World) (held told : ℕ → List ℕ) → BulkOnly s → TellsEach w.driver.reports w.driver.store (named_in w.driver.endpoints) held told → BeginsEach s w told → AreRightInStreams s (report_of fixed w)
-report_right s fixed w held told bulk tells begins = all_right s (report_of fixed w) bulk (λ desc is comes. one_right s fixed w held told tells begins desc.name (in_way desc.name.way is.way comes))
+report_right s fixed w held told bulk tells begins = all_right s (report_of fixed w) bulk (λ desc is comes. one_right s fixed w held told tells begins desc.name (in_way desc.name.way comes))

@@ -6,11 +6,11 @@ use Rattle.std.specs.List.{AllByRecursion, filter}
 use Rattle.script_types.specs.declared.scripts.Script.{Script}
 use Rattle.report_streams.specs.Reports.{WholeReport}
 use Rattle.report_streams.specs.Streams.{opened, has_stream, IsRightStream, AreRightStreams}
-use Rattle.chained_transfers.specs.Bulk.{receives}
+use Rattle.chained_transfers.specs.Bulk.{comes_in}
 use Rattle.chained_transfers.specs.Receives.{ReceivesOnly}
 
 abbrev pub AreRightInStreams : Script → WholeReport → Type 0
-AreRightInStreams s r = AllByRecursion (λ desc. IsRightStream s r desc.name) (filter (λ desc. has_stream desc.kind && receives desc.name.way) (opened s r))
+AreRightInStreams s r = AllByRecursion (λ desc. IsRightStream s r desc.name) (filter (λ desc. has_stream desc.kind && comes_in desc.name.way) (opened s r))
 
 abbrev pub InsAreAll : Type 0
 InsAreAll = (s : Script) (r : WholeReport) → ReceivesOnly s → AreRightInStreams s r → AreRightStreams s r

@@ -8,7 +8,7 @@ use Rattle.usb_bus.specs.Bus.{Fixed}
 use Rattle.report_streams.specs.Reports.{whole_text}
 use Rattle.report_streams.specs.Streams.{items_of}
 use Rattle.driver_rows.specs.declared.content.Endpoint.{Endpoint}
-use Rattle.chained_transfers.specs.Bulk.{receives, BulkOnly}
+use Rattle.chained_transfers.specs.Bulk.{comes_in, BulkOnly}
 use Rattle.told_endpoints.specs.Telling.{named_in, TellsEach}
 use Rattle.bus_world.specs.World.{World}
 use Rattle.bus_world.specs.Closing.{world_text}
@@ -21,7 +21,7 @@ ReportIsPrinted = (fixed : Fixed) (w : World) → whole_text (report_of fixed w)
 
 -- what is told of each IN endpoint begins the packets that the script has for it
 abbrev pub BeginsEach : Script → World → (ℕ → List ℕ) → Type 0
-BeginsEach s w told = (e : ℕ) (x : Endpoint) → slice_get w.driver.endpoints e ≡ Some x → receives x.desc.name.way ≡ true → IsPrefix (told e) (concat (packets_of (items_of s x.desc.name)))
+BeginsEach s w told = (e : ℕ) (x : Endpoint) → slice_get w.driver.endpoints e ≡ Some x → comes_in x.desc.name.way ≡ true → IsPrefix (told e) (concat (packets_of (items_of s x.desc.name)))
 
 abbrev pub ReportIsRight : Type 0
 ReportIsRight = (s : Script) (fixed : Fixed) (w : World) (held told : ℕ → List ℕ) → BulkOnly s → TellsEach w.driver.reports w.driver.store (named_in w.driver.endpoints) held told

@@ -24,7 +24,7 @@ use Rattle.endpoint_lives.specs.Lives.{may_meet}
 use Rattle.told_endpoints.specs.Telling.{lines_in}
 use Rattle.bus_world.specs.World.{World}
 use Rattle.stream_worlds.specs.Streaming.{Streams, Standing, IsStreaming, wired}
-use Rattle.chained_transfers.specs.Bulk.{receives, BulkOnly, OnlyBulk}
+use Rattle.chained_transfers.specs.Bulk.{comes_in, BulkOnly, OnlyBulk}
 use Rattle.fed_queues.specs.Places.{IsThere, IsMet, HaveStreams}
 use Rattle.harvest_laws.specs.Told.{ToldStands}
 use Rattle.opening_senders.specs.Own.{HasOwnDevices}
@@ -98,13 +98,13 @@ packets_begin script packets name xs own of_it way k = by_sender (sender_of (ope
 pub world_right : WorldIsRight
 world_right script fixed base member heads x s w only own of_it streaming bulk streams told right heads_hold closed = report_right script fixed w told.held told.told only told.tells begins
   where
-    begun : (e : ℕ) (z : Endpoint) → slice_get w.driver.endpoints e ≡ Some z → receives z.desc.name.way ≡ true → (xs : List ℕ) → told.told e ≡ xs → IsPrefix xs (concat (x.packets z.desc.name.addr z.desc.name.num))
+    begun : (e : ℕ) (z : Endpoint) → slice_get w.driver.endpoints e ≡ Some z → comes_in z.desc.name.way ≡ true → (xs : List ℕ) → told.told e ≡ xs → IsPrefix xs (concat (x.packets z.desc.name.addr z.desc.name.num))
         → IsPrefix (told.told e) (concat (packets_of (items_of script z.desc.name)))
     begun e z here comes xs is front =
         subst (λ (ys : List ℕ). IsPrefix ys (concat (packets_of (items_of script z.desc.name)))) (sym is)
-        (packets_begin script x.packets z.desc.name xs own of_it (in_way z.desc.name.way (bulk.endpoints e z here).bulk.way comes) front)
+        (packets_begin script x.packets z.desc.name xs own of_it (in_way z.desc.name.way comes) front)
 
-    while_met : (e : ℕ) (z : Endpoint) → slice_get w.driver.endpoints e ≡ Some z → receives z.desc.name.way ≡ true → IsMet w.driver e z → IsPrefix (told.told e) (concat (packets_of (items_of script z.desc.name)))
+    while_met : (e : ℕ) (z : Endpoint) → slice_get w.driver.endpoints e ≡ Some z → comes_in z.desc.name.way ≡ true → IsMet w.driver e z → IsPrefix (told.told e) (concat (packets_of (items_of script z.desc.name)))
     while_met e z here comes meets =
         let has = streams.each e z here meets in
         let front : IsPrefix (s.reported (32 * z.queue)) (concat (x.packets (x.endpoint (32 * z.queue)).addr (x.endpoint (32 * z.queue)).ep)) =
@@ -113,7 +113,7 @@ world_right script fixed base member heads x s w only own of_it streaming bulk s
         (subst (λ (t : Told). IsPrefix (s.reported (32 * z.queue)) (concat (x.packets t.addr t.ep))) has.1 front)
 
     -- it has left the ring, and isn't given back yet
-    while_left : (e : ℕ) (z : Endpoint) → slice_get w.driver.endpoints e ≡ Some z → receives z.desc.name.way ≡ true → IsThere w.driver z → may_meet w.driver e z ≡ false
+    while_left : (e : ℕ) (z : Endpoint) → slice_get w.driver.endpoints e ≡ Some z → comes_in z.desc.name.way ≡ true → IsThere w.driver z → may_meet w.driver e z ≡ false
         → IsPrefix (told.told e) (concat (packets_of (items_of script z.desc.name)))
     while_left e z here comes there left =
         let r = right (32 * z.queue) (heads_hold e z here there) in
@@ -121,12 +121,12 @@ world_right script fixed base member heads x s w only own of_it streaming bulk s
         begun e z here comes (s.reported (32 * z.queue)) (told.met e z here there)
         (r.told ++ all.0, sym (append_assoc (s.reported (32 * z.queue)) r.told all.0) ∙ ap (λ (ys : List ℕ). ys ++ all.0) r.sum ∙ all.1)
 
-    there_begins : (e : ℕ) (z : Endpoint) → slice_get w.driver.endpoints e ≡ Some z → receives z.desc.name.way ≡ true → IsThere w.driver z → (b : Bool) → may_meet w.driver e z ≡ b
+    there_begins : (e : ℕ) (z : Endpoint) → slice_get w.driver.endpoints e ≡ Some z → comes_in z.desc.name.way ≡ true → IsThere w.driver z → (b : Bool) → may_meet w.driver e z ≡ b
         → IsPrefix (told.told e) (concat (packets_of (items_of script z.desc.name)))
     there_begins e z here comes there true near = while_met e z here comes (record { there = there; near = near })
     there_begins e z here comes there false left = while_left e z here comes there left
 
-    by_life : (e : ℕ) (z : Endpoint) → slice_get w.driver.endpoints e ≡ Some z → receives z.desc.name.way ≡ true → (b : Bool) → z.gone ≡ b → IsPrefix (told.told e) (concat (packets_of (items_of script z.desc.name)))
+    by_life : (e : ℕ) (z : Endpoint) → slice_get w.driver.endpoints e ≡ Some z → comes_in z.desc.name.way ≡ true → (b : Bool) → z.gone ≡ b → IsPrefix (told.told e) (concat (packets_of (items_of script z.desc.name)))
     by_life e z here comes true gone =
         begun e z here comes (told_in w.driver.store (lines_in z.desc.name w.driver.reports)) (gone_told w.driver told.held told.told e z bulk told.tells here gone) (closed.gone e z here comes gone)
     by_life e z here comes false kept =

@@ -18,7 +18,7 @@ use Rattle.ring_laws.specs.Bus.{Sender}
 use Rattle.scripted_streams.specs.Senders.{sender_of}
 use Rattle.bus_world.specs.World.{World}
 use Rattle.stream_worlds.specs.Streaming.{Streams, Standing, IsStreaming}
-use Rattle.chained_transfers.specs.Bulk.{receives, BulkOnly, OnlyBulk}
+use Rattle.chained_transfers.specs.Bulk.{comes_in, BulkOnly, OnlyBulk}
 use Rattle.fed_queues.specs.Places.{HaveStreams, IsThere}
 use Rattle.harvest_laws.specs.Told.{ToldStands}
 use Rattle.opening_senders.specs.Own.{HasOwnDevices}
@@ -31,9 +31,9 @@ pub record AreOfScript (s : Script) (packets : ℕ → ℕ → List (List ℕ)) 
 
 -- of an endpoint IN that has left, and of one that was given back, what was moved and what is told begins its packets
 pub record ClosedIns (d : DriverContent) (packets : ℕ → ℕ → List (List ℕ)) (acc : ℕ → List (List ℕ)) : Type 0 where
-  pub left : (e : ℕ) (x : Endpoint) → slice_get d.endpoints e ≡ Some x → receives x.desc.name.way ≡ true → IsThere d x → may_meet d e x ≡ false
+  pub left : (e : ℕ) (x : Endpoint) → slice_get d.endpoints e ≡ Some x → comes_in x.desc.name.way ≡ true → IsThere d x → may_meet d e x ≡ false
       → IsPrefix (concat (acc (32 * x.queue))) (concat (packets x.desc.name.addr x.desc.name.num))
-  pub gone : (e : ℕ) (x : Endpoint) → slice_get d.endpoints e ≡ Some x → receives x.desc.name.way ≡ true → x.gone ≡ true
+  pub gone : (e : ℕ) (x : Endpoint) → slice_get d.endpoints e ≡ Some x → comes_in x.desc.name.way ≡ true → x.gone ≡ true
       → IsPrefix (told_in d.store (lines_in x.desc.name d.reports)) (concat (packets x.desc.name.addr x.desc.name.num))
 
 abbrev pub WorldIsRight : Type 0

@@ -21,8 +21,8 @@ use Rattle.ring_laws.specs.OutBus.{Taker}
 use Rattle.scripted_takers.specs.Takers.{taker_of}
 use Rattle.driver_laws.specs.PartOpened.{opening_base}
 use Rattle.driver_laws.specs.Driven.{DrivesRing}
-use Rattle.chained_transfers.specs.Bulk.{receives}
-use Rattle.chained_transfers.proofs.Ways.{way_sends}
+use Rattle.chained_transfers.specs.Bulk.{receives, comes_in}
+use Rattle.chained_transfers.proofs.Ways.{way_sends, way_goes_out}
 use Rattle.fed_queues.specs.Places.{IsThere, HasHead}
 use Rattle.controlled_streams.specs.Unopened.{IsUnopened}
 use Rattle.stream_worlds.specs.Outs.{IsUntaken}
@@ -122,10 +122,10 @@ module _ (fixed : Fixed) (takes : ℕ → ℕ → Bool) (member : ℕ → Bool) 
       let h : HasHead w.driver n = head_is w.driver member n queues.met out.1 in
       let told = queues.streams_are.each h.number h.endpoint h.here h.met in
       let is : x.endpoint n ≡ endpoint_of (queue_head h.endpoint.desc 0 h.endpoint.dummy) = ap x.endpoint h.at ∙ told.1 in
-      let too : receives h.endpoint.desc.name.way ≡ false = sym told.0 ∙ ap x.streams (sym h.at) ∙ out.0 in
+      let too : comes_in h.endpoint.desc.name.way ≡ false = sym told.0 ∙ ap x.streams (sym h.at) ∙ out.0 in
       let number : h.number ≡ e =
       k.whole.names h.number e h.endpoint z h.here here (sym (ap (λ (y : Told). y.addr) is) ∙ addr) (sym (ap (λ (y : Told). y.ep) is) ∙ num)
-      (way_sends h.endpoint.desc.name.way too ∙ sym (way_sends z.desc.name.way sends)) in
+      (way_goes_out h.endpoint.desc.name.way (k.whole.feeding.turns.bulk.endpoints h.number h.endpoint h.here).bulk.way too ∙ sym (way_sends z.desc.name.way sends)) in
       let same : h.endpoint ≡ z = same_Some h.endpoint z (sym h.here ∙ ap (slice_get w.driver.endpoints) number ∙ here) in
       h.met.there.linked (opens ∙ ap (λ (y : Endpoint). Some (unfinished.Open y.queue)) (sym same))
 

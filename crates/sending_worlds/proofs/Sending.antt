@@ -22,8 +22,8 @@ use Rattle.report_streams.specs.Streams.{is_refused, command_in, accepted_in, op
 use Rattle.driver_rows.specs.DriverContent.{opened}
 use Rattle.bus_world.specs.Orders.{OrderedWorld}
 use Rattle.stream_worlds.specs.Streaming.{wired}
-use Rattle.chained_transfers.specs.Bulk.{IsBulk, OpensOrCancelsBulk, BulkLine, BulkOnly, OnlyBulk, receives}
-use Rattle.chained_transfers.proofs.Ways.{way_sends}
+use Rattle.chained_transfers.specs.Bulk.{IsBulk, OpensOrCancelsBulk, BulkLine, BulkOnly, OnlyBulk, receives, comes_in}
+use Rattle.chained_transfers.proofs.Ways.{way_sends, data_comes_in}
 use Rattle.right_reports.specs.WorldReport.{report_of}
 use Rattle.right_reports.specs.Ins.{AreRightInStreams}
 use Rattle.right_reports.proofs.Named.{HasNamed}
@@ -67,6 +67,13 @@ all_split Q R P a b (x ∷ xs) gives k on off = by_tests (a x) (b x) refl (λ pa
     by_tests true true is rest passing failing = (passing.0, rest passing.1 failing)
     by_tests true false is rest passing failing = (gives x k.0 is failing.0, rest passing failing.1)
     by_tests false second is rest passing failing = rest passing failing
+
+-- two tests that agree keep the same
+alike_kept : {X : Type 0} (Q : X → Type 0) (a b c : X → Bool) (xs : List X) → ((x : X) → Q x → c x ≡ b x) → AllByRecursion Q xs → filter (λ x. a x && c x) xs ≡ filter (λ x. a x && b x) xs
+alike_kept Q a b c [] alike k = refl
+alike_kept {X} Q a b c (x ∷ xs) alike k =
+    ap (λ (t : Bool). if a x && t then x ∷ filter (λ y. a y && c y) xs else filter (λ y. a y && c y) xs) (alike x k.0)
+    ∙ ap (λ (ys : List X). if a x && b x then x ∷ ys else ys) (alike_kept Q a b c xs alike k.1)
 
 begins_both : (xs ys zs : List ℕ) → IsPrefix xs ys → IsPrefix ys zs → IsPrefix xs zs
 begins_both xs ys zs h k = (h.0 ++ k.0, sym (append_assoc xs h.0 k.0) ∙ ap (λ (bytes : List ℕ). bytes ++ k.0) h.1 ∙ k.1)
@@ -162,7 +169,15 @@ module _ (s : Script) (p : OrderedWorld) (puts : ℕ → List ℕ) (seated : IsS
   all_right bulk none ins outs =
       all_split (λ desc. IsSeated (fixed_of s).seats desc × IsOpen p.world.driver desc) (λ desc. IsTakenStream r desc.name) (λ desc. IsRightStream s r desc.name) (λ desc. has_stream desc.kind)
       (λ desc. receives desc.name.way) (opened_by s r) (λ x k sends t. one_right x k.0 k.1 sends t)
-      (all_both (IsSeated (fixed_of s).seats) (IsOpen p.world.driver) (opened_by s r) (opened_seated s (fixed_of s).seats r bulk seated.seats) (are.opened none)) ins outs
+      (all_both (IsSeated (fixed_of s).seats) (IsOpen p.world.driver) (opened_by s r) seats_all (are.opened none))
+      (subst (AllByRecursion (λ (desc : EpDesc). IsRightStream s r desc.name)) kept ins) outs
+    where
+      seats_all : AllByRecursion (IsSeated (fixed_of s).seats) (opened_by s r)
+      seats_all = opened_seated s (fixed_of s).seats r bulk seated.seats
+
+      kept : filter (λ (desc : EpDesc). has_stream desc.kind && comes_in desc.name.way) (opened_by s r) ≡ filter (λ (desc : EpDesc). has_stream desc.kind && receives desc.name.way) (opened_by s r)
+      kept =
+          alike_kept (IsSeated (fixed_of s).seats) (λ desc. has_stream desc.kind) (λ desc. receives desc.name.way) (λ desc. comes_in desc.name.way) (opened_by s r) (λ x k. data_comes_in x.name.way k.0.way) seats_all
 
 -- ---- the laws
 

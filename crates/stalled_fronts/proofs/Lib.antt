@@ -1,1 +1,2 @@
 pub mod Stalled
+pub mod Halted

@@ -1,7 +1,12 @@
 //! The law.
-ghost use Rattle.stalled_fronts.specs.Stalled.{StallKeepsFronts};
+ghost use Rattle.stalled_fronts.specs.Stalled.{StallKeepsFronts, StallHaltsQueue};
 
 /// At a STALL the front goes on to the end of the queue, and what is out behind the qTD that was halted is passed over.
 pub fn a_stall_leaves_fronts()
     ensures { StallKeepsFronts }
+{}
+
+/// Where the queue stops at the qTD that was halted, those of its requests that are out yet wait.
+pub fn a_stall_halts_the_queue()
+    ensures { StallHaltsQueue }
 {}

@@ -21,7 +21,7 @@ use Rattle.lent_structures.specs.Structures.{Structure, QueueHead, Buffer, Struc
 use Rattle.lent_structures.specs.Sound.{element_pages, buffer_name, HasBuffer}
 use Rattle.ring_laws.specs.Told.{Endpoint as Told, endpoint_of}
 use Rattle.driver_laws.specs.Inventory.{IsLent}
-use Rattle.chained_transfers.specs.Bulk.{receives}
+use Rattle.chained_transfers.specs.Bulk.{comes_in}
 use Rattle.chained_transfers.specs.Chains.{piece_at}
 use Rattle.chained_transfers.specs.Out.{unpublished, out_of_transfer, out_of, out_now}
 use Rattle.fed_queues.specs.Fed.{IsPieceFed, unpublished_of, AreFed, sized}
@@ -168,7 +168,7 @@ module _ (d : DriverContent) (member : ℕ → Bool) (parts : StructureSets) (k 
     each = λ i y there met.
         let w : WasThere d f i y = was i y there in
         let both = old.each i w.endpoint w.here (met_before i y w met) in (
-          ap (λ (b : ℕ). streams (32 * b)) w.queue ∙ both.0 ∙ ap (λ (z : EpDesc). receives z.name.way) (sym w.desc),
+          ap (λ (b : ℕ). streams (32 * b)) w.queue ∙ both.0 ∙ ap (λ (z : EpDesc). comes_in z.name.way) (sym w.desc),
           ap (λ (b : ℕ). ends (32 * b)) w.queue ∙ both.1 ∙ ap (λ (z : EpDesc). endpoint_of (queue_head z 0 w.endpoint.dummy)) (sym w.desc)
               ∙ ap (λ (b : ℕ). endpoint_of (queue_head y.desc 0 b)) (sym w.dummy),
         );

@@ -1,13 +1,10 @@
 -- Where the opening, each event and each command leave the world whole, it is so at each moment, and its report is right.
-use Rattle.std.proofs.Common.{◌≡◌, ℕ, Bool, true, false, List, [], ◌∷◌, Ok, ap, refl, sym, ⊎_elim}
+use Rattle.std.proofs.Common.{◌≡◌, ℕ, Bool, true, false, List, [], ◌∷◌, Ok, ap, ⊎_elim}
 use Rattle.std.specs.Prelude.{is_some}
 use Rattle.std.specs.List.{AllByRecursion}
-use Rattle.std.proofs.lemmas.Bool.{false≢true}
 use Rattle.usb_base.specs.declared.commands.Cmd.{Cmd}
 use Rattle.usb_base.specs.declared.commands.Cmd.TheVariants as commands
 use Rattle.usb_base.specs.declared.endpoints.EpDesc.{EpDesc}
-use Rattle.usb_base.specs.declared.packets.Way.{Way}
-use Rattle.usb_base.specs.declared.packets.Way.TheVariants as ways
 use Rattle.script_types.specs.declared.scripts.Line.{Line}
 use Rattle.script_types.specs.declared.scripts.Line.TheVariants as lines
 use Rattle.script_types.specs.declared.scripts.Script.{Script}
@@ -31,7 +28,9 @@ use Rattle.driver_laws.specs.PartOpened.{opening_base}
 use Rattle.bus_world.specs.World.{World, driver_next, controller_next, commanded}
 use Rattle.bus_world.specs.Budgets.{moment}
 use Rattle.stream_worlds.specs.Streaming.{Streams}
-use Rattle.chained_transfers.specs.Bulk.{IsDataWay, IsBulk, OpensOrCancelsBulk, BulkLine, BulkOnly, OnlyBulk, receives}
+use Rattle.chained_transfers.specs.Bulk.{OpensOrCancelsBulk, BulkLine, BulkOnly}
+use Rattle.chained_transfers.proofs.Ways.{way_comes_in, way_sends}
+use Rattle.narrowed_streams.specs.Narrowed.{IsOnSide}
 use Rattle.right_worlds.specs.Right.{AreOfScript}
 use Rattle.right_worlds.proofs.Beginning.{world_right}
 use Rattle.receiving_runs.specs.Runs.{KindOfLine, IsKeptBy}
@@ -59,21 +58,9 @@ pub record StaysWhole : Type 0 where
 abbrev pub CanBe : (ℕ → ℕ → Bool) → (ℕ → ℕ → Bool) → Cmd → Type 0
 CanBe stream takes cmd = OpensOrCancelsBulk cmd × OpensTo stream takes cmd × OpensNumbered cmd
 
--- data of a bulk endpoint come to the host where it is an IN
-in_way : (way : Way) → IsDataWay way → receives way ≡ true → way ≡ ways.In
-in_way ways.In one comes = refl
-in_way ways.Out one comes = absurd (false≢true comes)
-in_way ways.Ctl one comes = absurd one
-
--- and leave it where it is an OUT
-out_way : (way : Way) → IsDataWay way → receives way ≡ false → way ≡ ways.Out
-out_way ways.In one goes = absurd (false≢true (sym goes))
-out_way ways.Out one goes = refl
-out_way ways.Ctl one goes = absurd one
-
 opens_to : (s : Script) (cmd : Cmd) → OpensOrCancelsBulk cmd → OpensItsSender s (lines.Command cmd) → OpensItsTaker s (lines.Command cmd) → OpensTo (streams_of s).stream (takes_of s) cmd
 opens_to s (commands.OpenEp x) only sends takes =
-    (λ comes. ap is_some (sends only.kind only.speed (in_way x.name.way only.way comes)), λ goes. ap is_some (takes only.kind only.speed (out_way x.name.way only.way goes)))
+    (λ comes. ap is_some (sends only.kind only.speed (way_comes_in x.name.way comes)), λ goes. ap is_some (takes only.kind only.speed (way_sends x.name.way goes)))
 opens_to s (commands.Get name len by) only sends takes = tt
 opens_to s (commands.Put name bytes by) only sends takes = tt
 opens_to s (commands.Control name setup bytes) only sends takes = tt
@@ -129,15 +116,14 @@ goes_on s w v h keeps n = record {
 }
 
 -- an endpoint that is opened has its stream, or its taker, still: a name is opened once
-still_open : (d : DriverContent) (m : Mem) (x : EpDesc) (o : Offered) (way : Bool) (base now : ℕ → ℕ → Bool) → OnlyBulk d → AreNamesApart d → IsBulk x → offered d m (commands.OpenEp x) ≡ Ok o → StaysOpen d way base now
-    → (receives x.name.way ≡ way → base x.name.addr x.name.num ≡ true) → receives x.name.way ≡ way → now x.name.addr x.name.num ≡ true
-still_open d m x o way base now bulk apart is offer stays to side =
-    ⊎_elim (λ (still : now x.name.addr x.name.num ≡ true). still) (λ (k : IsNamed d way x.name.addr x.name.num). absurd (named_once d m x o way bulk apart is side k offer)) (stays x.name.addr x.name.num (to side))
+still_open : (d : DriverContent) (m : Mem) (x : EpDesc) (o : Offered) (way : Bool) (base now : ℕ → ℕ → Bool) → AreNamesApart d → offered d m (commands.OpenEp x) ≡ Ok o → StaysOpen d way base now
+    → (IsOnSide way x.name.way → base x.name.addr x.name.num ≡ true) → IsOnSide way x.name.way → now x.name.addr x.name.num ≡ true
+still_open d m x o way base now apart offer stays to side =
+    ⊎_elim (λ (still : now x.name.addr x.name.num ≡ true). still) (λ (k : IsNamed d way x.name.addr x.name.num). absurd (named_once d m x o way apart side k offer)) (stays x.name.addr x.name.num (to side))
 
 pub opens_still : (s : Script) (w : World) (h : Whole s w) (cmd : Cmd) (o : Offered) → OpensOrCancelsBulk cmd → OpensTo (streams_of s).stream (takes_of s) cmd → offered w.driver w.memory cmd ≡ Ok o → OpensTo h.ins h.outs cmd
 opens_still s w h (commands.OpenEp x) o only to offer =
-    let bulk = h.whole.feeding.turns.bulk in
-    (still_open w.driver w.memory x o true (streams_of s).stream h.ins bulk h.whole.names only offer h.ins_stay to.0, still_open w.driver w.memory x o false (takes_of s) h.outs bulk h.whole.names only offer h.outs_stay to.1)
+    (still_open w.driver w.memory x o true (streams_of s).stream h.ins h.whole.names offer h.ins_stay to.0, still_open w.driver w.memory x o false (takes_of s) h.outs h.whole.names offer h.outs_stay to.1)
 opens_still s w h (commands.Get name len by) o only to offer = tt
 opens_still s w h (commands.Put name bytes by) o only to offer = tt
 opens_still s w h (commands.Control name setup bytes) o only to offer = tt

@@ -1,7 +1,6 @@
 -- An endpoint keeps its name and its side from when it was opened, and no other is opened by them (USB 2.0, 5.3.1 and 8.3.2).
-use Rattle.std.proofs.Common.{◌≡◌, ℕ, zero, suc, Bool, true, cond, ◌-◌, List, [], ◌∷◌, ◌++◌, length, take, get_or, slice_get, Option, Some, None, Result, Ok, Err, option_map, ap, refl, sym, ◌∙◌, ⊎_elim, inl, inr}
+use Rattle.std.proofs.Common.{◌≡◌, ℕ, zero, suc, Bool, true, cond, ◌-◌, List, [], ◌∷◌, ◌++◌, length, take, get_or, slice_get, Option, Some, None, Result, Ok, Err, option_map, ap, refl, sym, subst, ◌∙◌, ⊎_elim, inl, inr}
 use Rattle.std.specs.Prelude.{is_some}
-use Rattle.std.proofs.lemmas.Bool.{false≢true}
 use Rattle.std.proofs.lemmas.Option.{same_Some}
 use Rattle.usb_base.specs.declared.commands.Cmd.{Cmd}
 use Rattle.usb_base.specs.declared.commands.Cmd.TheVariants as commands
@@ -9,7 +8,6 @@ use Rattle.usb_base.specs.declared.endpoints.EndCause.{EndCause}
 use Rattle.usb_base.specs.declared.endpoints.EpDesc.{EpDesc}
 use Rattle.usb_base.specs.declared.endpoints.EpName.{EpName}
 use Rattle.usb_base.specs.declared.packets.Way.{Way}
-use Rattle.usb_base.specs.declared.packets.Way.TheVariants as ways
 use Rattle.usb_base.specs.declared.reports.OfferError.{OfferError}
 use Rattle.usb_base.specs.declared.reports.OfferError.TheVariants as errors
 use Rattle.word_mem.specs.Memory.{Mem}
@@ -21,13 +19,15 @@ use Rattle.driver_rows.specs.Rows.{driver_row}
 use Rattle.run_owners.proofs.Stays.{same_view}
 use Rattle.told_endpoints.proofs.Names.{same_name_is}
 use Rattle.chained_transfers.specs.Accepted.{IsAccepted}
-use Rattle.chained_transfers.specs.Bulk.{IsDataWay, IsBulk, OpensOrCancelsBulk, OnlyBulk, receives}
+use Rattle.chained_transfers.specs.Bulk.{OpensOrCancelsBulk}
 use Rattle.chained_transfers.specs.InTurn.{TakesTurns}
 use Rattle.chained_transfers.specs.Leaving.{IsAcceptedAs}
 use Rattle.chained_transfers.proofs.Accepting.{command_accepted}
 use Rattle.leaving_drivers.specs.Before.{IsAsBefore}
 use Rattle.leaving_drivers.proofs.Leaving.{cancel_as_before}
 use Rattle.walk_members.proofs.Descriptions.{desc_of, SameDescs, row_left}
+use Rattle.narrowed_streams.specs.Narrowed.{IsOnSide}
+use Rattle.narrowed_streams.proofs.Narrowing.{same_way}
 use Rattle.open_laws.specs.Opens.{AreNamesApart}
 use Rattle.right_reports.proofs.Named.{HasNamed, named_is}
 use Rattle.bus_world.specs.World.{World, driver_parts, driver_next, name_in, commanded_by, commanded}
@@ -45,7 +45,7 @@ same_named d f way addr ep k z here same = record {
   endpoint = z;
   here = here;
   named = (ap (λ (c : EpDesc). c.name.addr) same ∙ k.named.0, ap (λ (c : EpDesc). c.name.num) same ∙ k.named.1);
-  side = ap (λ (c : EpDesc). receives c.name.way) same ∙ k.side;
+  side = subst (λ (c : EpDesc). IsOnSide way c.name.way) (sym same) k.side;
 }
 
 by_place : (d f : DriverContent) (way : Bool) (addr ep : ℕ) (k : IsNamed d way addr ep) (o : Option Endpoint) → slice_get f.endpoints k.number ≡ o → option_map desc_of o ≡ Some k.endpoint.desc → IsNamed f way addr ep
@@ -107,14 +107,6 @@ stays_on d f way base before now keeps first second addr ep on =
 
 -- ---- no other is opened by its name and side
 
-same_data_way : (a b : Way) → IsDataWay a → IsDataWay b → receives a ≡ receives b → a ≡ b
-same_data_way ways.In ways.In one other same = refl
-same_data_way ways.In ways.Out one other same = absurd (false≢true (sym same))
-same_data_way ways.Out ways.In one other same = absurd (false≢true same)
-same_data_way ways.Out ways.Out one other same = refl
-same_data_way ways.Ctl b one other same = absurd one
-same_data_way a ways.Ctl one other same = absurd other
-
 same_parts : (a b : EpName) → a.addr ≡ b.addr → a.num ≡ b.num → a.way ≡ b.way → a ≡ b
 same_parts a b addr num way =
     ap (λ (n : ℕ). record a { addr = n }) addr ∙ ap (λ (n : ℕ). record a { addr = b.addr; num = n }) num ∙ ap (λ (v : Way). record b { way = v }) way
@@ -143,13 +135,12 @@ named_already d m x o apart k f =
     let same : y.desc.name ≡ k.endpoint.desc.name = same_name_is y.desc.name x.name alike ∙ sym k.same in
     apart i k.number y k.endpoint at k.here (ap (λ (n : EpName). n.addr) same) (ap (λ (n : EpName). n.num) same) (ap (λ (n : EpName). n.way) same))) f
 
-pub named_once : (d : DriverContent) (m : Mem) (x : EpDesc) (o : Offered) (way : Bool) → OnlyBulk d → AreNamesApart d → IsBulk x → receives x.name.way ≡ way → IsNamed d way x.name.addr x.name.num
+pub named_once : (d : DriverContent) (m : Mem) (x : EpDesc) (o : Offered) (way : Bool) → AreNamesApart d → IsOnSide way x.name.way → IsNamed d way x.name.addr x.name.num
     → offered d m (commands.OpenEp x) ≡ Ok o → ⊥
-named_once d m x o way bulk apart is side k f =
-    let its = bulk.endpoints k.number k.endpoint k.here in
+named_once d m x o way apart side k f =
     named_already d m x o apart (record {
       number = k.number;
       endpoint = k.endpoint;
       here = k.here;
-      same = same_parts k.endpoint.desc.name x.name k.named.0 k.named.1 (same_data_way k.endpoint.desc.name.way x.name.way its.bulk.way is.way (k.side ∙ sym side));
+      same = same_parts k.endpoint.desc.name x.name k.named.0 k.named.1 (same_way way k.endpoint.desc.name.way x.name.way k.side side);
     }) f

@@ -17,7 +17,8 @@ use Rattle.run_owners.proofs.Taking.{runs_taken}
 use Rattle.run_owners.proofs.Accepted.{drop_first, fresh_differs}
 use Rattle.walk_members.specs.Reached.{OpensNumbered}
 use Rattle.driver_laws.specs.LendOpened.{opened_head}
-use Rattle.chained_transfers.specs.Bulk.{OpensBulk, receives}
+use Rattle.chained_transfers.specs.Bulk.{OpensBulk}
+use Rattle.narrowed_streams.specs.Narrowed.{IsOnSide}
 use Rattle.chained_transfers.specs.Accepted.{IsOpened}
 use Rattle.fed_lends.proofs.Asked.{push_which}
 use Rattle.standing_fronts.specs.Reaching.{Reaches}
@@ -67,12 +68,12 @@ module _ (fixed : Fixed) (takes : ℕ → ℕ → Bool) (member : ℕ → Bool) 
       (placed_run z.queue (QueueHead e) (sound.owners.owned.each.queue e (runs_of_endpoint z) (ap (option_map runs_of_endpoint) there) alive))
       (ap (λ (rs : List ℕ). get_or rs 0 0) (sym runs) ∙ same_queue new.queue z.queue (sym command_is ∙ is))
 
-  -- it has what its way needs: a stream where it receives, and else a taker
-  sides : (way : Bool) (has : ℕ → ℕ → Bool) → (receives opened.opens.desc.name.way ≡ way → has opened.opens.desc.name.addr opened.opens.desc.name.num ≡ true) → HaveSides way o.driver has
+  -- it has what its way needs: a stream where it is an IN endpoint, and a taker where it is an OUT endpoint
+  sides : (way : Bool) (has : ℕ → ℕ → Bool) → (IsOnSide way opened.opens.desc.name.way → has opened.opens.desc.name.addr opened.opens.desc.name.num ≡ true) → HaveSides way o.driver has
   sides way has to e z here opening kept goes =
       ⊎_elim (λ (was : slice_get d.endpoints e ≡ Some z). absurd (apart e z was kept opening))
       (λ (is : (e ≡ length d.endpoints) × (z ≡ new)).
-      ap (λ (y : Endpoint). has y.desc.name.addr y.desc.name.num) is.1 ∙ to (ap (λ (y : Endpoint). receives y.desc.name.way) (sym is.1) ∙ goes))
+      ap (λ (y : Endpoint). has y.desc.name.addr y.desc.name.num) is.1 ∙ to (subst (λ (y : Endpoint). IsOnSide way y.desc.name.way) is.1 goes))
       (push_which d.endpoints new e z (ap (λ (p : Offered). slice_get p.driver.endpoints e) (sym opened.opens.is) ∙ here))
 
   ready : IsQhInRange (opened_head d opened.opens.desc opened.opens.holding_after) → IsUnderWay o.driver o.memory member s.parts o.driver.command

@@ -153,7 +153,7 @@ module _ (fixed : Fixed) (takes : ℕ → ℕ → Bool) (member : ℕ → Bool) 
       ⊎_elim (λ (was : s.parts i a ≡ Some (Element t)). inl was)
       (λ (new : (i ≡ n) × (t.token.pid ≡ pid_by get.endpoint.desc.name.way)).
       inr (subst (λ (j : ℕ). GoesAs (outs_of member x.streams) j t) (sym new.0)
-      (goes_by member x.streams n get.endpoint.desc.name.way t (f.queues.streams_are.each get.transfer.endpoint get.endpoint get.here met).0
+      (goes_by member x.streams n get.endpoint.desc.name.way t (f.turns.bulk.endpoints get.transfer.endpoint get.endpoint get.here).bulk.way (f.queues.streams_are.each get.transfer.endpoint get.endpoint get.here met).0
       (queue_on fixed member x s w f get.transfer.endpoint get.endpoint get.here met) new.1))) (asks i a t here on)
 
   pub lend_taking : IsTaking fixed takes member x (record s { parts = g.parts; order = g.order; out = g.out }) (driver_next w)

@@ -3,8 +3,6 @@ use Rattle.std.proofs.Common.{◌≡◌, ◌≢◌, ℕ, ◌*◌, ◌||◌, ◌=
 use Rattle.std.specs.List.{concat}
 use Rattle.std.proofs.lemmas.Bool.{cases_eq, false≢true}
 use Rattle.std.proofs.lemmas.Option.{same_Some}
-use Rattle.usb_base.specs.declared.packets.Way.{Way}
-use Rattle.usb_base.specs.declared.packets.Way.TheVariants as ways
 use Rattle.usb_bus.specs.Bus.{Fixed}
 use Rattle.qh_qtd.specs.declared.queue_head.Qh.{Qh}
 use Rattle.async_walk.specs.Rows.{place}
@@ -37,7 +35,8 @@ use Rattle.controlled_streams.specs.Unopened.{IsUnopened}
 use Rattle.controlled_streams.specs.Opened.{with_stream, with_end, with_none, IsOneMore}
 use Rattle.controlled_streams.proofs.Beginning.{stream_here, ends_with_one, ends_with_other}
 use Rattle.controlled_streams.proofs.Alike.{alike_ends}
-use Rattle.chained_transfers.specs.Bulk.{receives}
+use Rattle.chained_transfers.specs.Bulk.{receives, comes_in}
+use Rattle.chained_transfers.proofs.Ways.{data_comes_in, way_goes_out, way_sends, sends_comes_not}
 use Rattle.fed_queues.specs.Places.{HasHead, HasThere}
 use Rattle.open_laws.specs.Opens.{IsOpenLent, IsAtOpen, head_then, hand_then, end_then, streams_then}
 use Rattle.open_laws.proofs.Standing.{then_here, then_beside, member_here, member_old, member_beside, element_was, its_alive}
@@ -102,11 +101,6 @@ module _ (fixed : Fixed) (takes : ℕ → ℕ → Bool) (member : ℕ → Bool) 
   }
 
 -- ---- the link: the walk may meet it
-
-way_out : (way : Way) → receives way ≡ false → way ≡ ways.Out
-way_out ways.In goes = absurd cc
-way_out ways.Out goes = refl
-way_out ways.Ctl goes = absurd cc
 
 module _ (fixed : Fixed) (takes : ℕ → ℕ → Bool) (member : ℕ → Bool) (x : Streams) (s : Standing) (w : World) (lent : IsOpenLent w.driver member s.parts) (k : IsWhole fixed takes member x s w) where
   abbrev e : Endpoint
@@ -200,10 +194,10 @@ module _ (fixed : Fixed) (takes : ℕ → ℕ → Bool) (member : ℕ → Bool) 
       let h : HasHead w.driver m = had m on in
       let told = f.queues.streams_are.each h.number h.endpoint h.here h.met in
       let is : x.endpoint m ≡ endpoint_of (queue_head h.endpoint.desc 0 h.endpoint.dummy) = ap x.endpoint h.at ∙ told.1 in
-      let too : receives h.endpoint.desc.name.way ≡ false = sym told.0 ∙ ap x.streams (sym h.at) ∙ (out_on member x.streams m on).0 in
+      let too : comes_in h.endpoint.desc.name.way ≡ false = sym told.0 ∙ ap x.streams (sym h.at) ∙ (out_on member x.streams m on).0 in
       let number : h.number ≡ lent.number =
       k.names h.number lent.number h.endpoint e h.here lent.here (sym (ap (λ (z : Told). z.addr) is) ∙ addr) (sym (ap (λ (z : Told). z.ep) is) ∙ ep)
-      (way_out h.endpoint.desc.name.way too ∙ sym (way_out e.desc.name.way goes)) in
+      (way_goes_out h.endpoint.desc.name.way (f.turns.bulk.endpoints h.number h.endpoint h.here).bulk.way too ∙ sym (way_sends e.desc.name.way goes)) in
       let same : h.endpoint ≡ e = same_Some h.endpoint e (sym h.here ∙ ap (slice_get w.driver.endpoints) number ∙ lent.here) in
       h.met.there.linked (lent.command ∙ ap (λ (z : Endpoint). Some (unfinished.Open z.queue)) (sym same))
 
@@ -214,19 +208,19 @@ module _ (fixed : Fixed) (takes : ℕ → ℕ → Bool) (member : ℕ → Bool) 
       ap (λ (b : Bool). if b then false else heads_of wider m) (then_beside x.streams e m differs)
       ∙ ap (λ (b : Bool). if x.streams m then false else (if m == 32 * head_block then false else (b || member m))) (not_same m new_at differs)
 
-  then_there : outs_of wider (streams_then x.streams e) new_at ≡ (if receives e.desc.name.way then false else true)
+  then_there : outs_of wider (streams_then x.streams e) new_at ≡ (if comes_in e.desc.name.way then false else true)
   then_there =
       ap (λ (b : Bool). if b then false else heads_of wider new_at) (then_here x.streams e)
-      ∙ ap (λ (b : Bool). if receives e.desc.name.way then false else b)
+      ∙ ap (λ (b : Bool). if comes_in e.desc.name.way then false else b)
       (head_of wider new_at (not_head w.driver lent.number e f.working.place.sound.owners f.turns.bulk lent.here alive) ∙ member_here member new_at)
 
   then_out : receives e.desc.name.way ≡ false → (m : ℕ) → outs_of wider (streams_then x.streams e) m ≡ with_stream those new_at m
   then_out goes m =
       ⊎_elim (λ (same : m ≡ new_at).
-      ap (outs_of wider (streams_then x.streams e)) same ∙ then_there ∙ ap (λ (b : Bool). if b then false else true) goes ∙ sym (stream_here those new_at) ∙ ap (with_stream those new_at) (sym same))
+      ap (outs_of wider (streams_then x.streams e)) same ∙ then_there ∙ ap (λ (b : Bool). if b then false else true) (sends_comes_not e.desc.name.way goes) ∙ sym (stream_here those new_at) ∙ ap (with_stream those new_at) (sym same))
       (λ (differs : m ≢ new_at). then_apart m differs ∙ sym (ap (λ (b : Bool). b || those m) (not_same m new_at differs))) (cases_eq m new_at)
 
-  then_in : receives e.desc.name.way ≡ true → (m : ℕ) → outs_of wider (streams_then x.streams e) m ≡ those m
+  then_in : comes_in e.desc.name.way ≡ true → (m : ℕ) → outs_of wider (streams_then x.streams e) m ≡ those m
   then_in comes m =
       ⊎_elim (λ (same : m ≡ new_at).
       ap (outs_of wider (streams_then x.streams e)) same ∙ then_there ∙ ap (λ (b : Bool). if b then false else true) comes ∙ sym one_of_those.new ∙ ap those (sym same))
@@ -266,9 +260,11 @@ module _ (fixed : Fixed) (takes : ℕ → ℕ → Bool) (member : ℕ → Bool) 
         untaken = alike_untaken outs_now outs_then same taker_of takes ends_now (wired fixed w) g.2;
       }
 
-  taking_if : (b : Bool) → receives e.desc.name.way ≡ b → IsTaking fixed takes wider (more fixed member x s w lent f) (linked s head.queue e) (driver_next w)
+  taking_if : (b : Bool) → comes_in e.desc.name.way ≡ b → IsTaking fixed takes wider (more fixed member x s w lent f) (linked s head.queue e) (driver_next w)
   taking_if true comes = taking_by those (then_in comes) goes_in
-  taking_if false goes = taking_by (with_stream those new_at) (then_out goes) (goes_out goes)
+  taking_if false off =
+      let goes : receives e.desc.name.way ≡ false = sym (data_comes_in e.desc.name.way (f.turns.bulk.endpoints lent.number e lent.here).bulk.way) ∙ off in
+      taking_by (with_stream those new_at) (then_out goes) (goes_out goes)
 
   pub link_taking : IsTaking fixed takes wider (more fixed member x s w lent f) (linked s head.queue e) (driver_next w)
-  link_taking = taking_if (receives e.desc.name.way) refl
+  link_taking = taking_if (comes_in e.desc.name.way) refl

@@ -8,8 +8,8 @@ use Rattle.qh_qtd.specs.declared.qtd.Qtd.{Qtd}
 use Rattle.driver_rows.specs.declared.content.Command.{Command}
 use Rattle.driver_rows.specs.declared.content.Command.TheVariants as unfinished
 use Rattle.driver_rows.specs.Rows.{Parts as DriverParts}
-use Rattle.chained_transfers.specs.Bulk.{receives, pid_by}
-use Rattle.chained_transfers.proofs.Ways.{receives_pid, sends_pid}
+use Rattle.chained_transfers.specs.Bulk.{IsDataWay, receives, comes_in, pid_by}
+use Rattle.chained_transfers.proofs.Ways.{data_comes_in, receives_pid, sends_pid}
 use Rattle.driver_laws.specs.Published.{partly}
 use Rattle.driver_laws.proofs.Publishing.{idle}
 use Rattle.scripted_takers.specs.Takers.{taker_of}
@@ -37,10 +37,11 @@ pub outs_on : (member streams : ℕ → Bool) (n : ℕ) → streams n ≡ false 
 outs_on member streams n off head = ap (λ (b : Bool). if b then false else heads_of member n) off ∙ head
 
 -- a qTD that asks the way of its endpoint
-pub goes_by : (member streams : ℕ → Bool) (n : ℕ) (way : Way) (t : Qtd) → streams n ≡ receives way → heads_of member n ≡ true → t.token.pid ≡ pid_by way → GoesAs (outs_of member streams) n t
-goes_by member streams n way t streamed head pid =
-    ⊎_elim (λ (on : receives way ≡ true). inr (outs_off member streams n (streamed ∙ on), λ zero. let one = receives_pid way on in omega (arith, pid, one, zero)))
-    (λ (off : receives way ≡ false). inl (outs_on member streams n (streamed ∙ off) head, pid ∙ sends_pid way off)) (cases_Bool (receives way))
+pub goes_by : (member streams : ℕ → Bool) (n : ℕ) (way : Way) (t : Qtd) → IsDataWay way → streams n ≡ comes_in way → heads_of member n ≡ true → t.token.pid ≡ pid_by way → GoesAs (outs_of member streams) n t
+goes_by member streams n way t one streamed head pid =
+    let by : streams n ≡ receives way = streamed ∙ data_comes_in way one in
+    ⊎_elim (λ (on : receives way ≡ true). inr (outs_off member streams n (by ∙ on), λ zero. let in_pid = receives_pid way on in omega (arith, pid, in_pid, zero)))
+    (λ (off : receives way ≡ false). inl (outs_on member streams n (by ∙ off) head, pid ∙ sends_pid way off)) (cases_Bool (receives way))
 
 -- ---- the store
 
@@ -86,7 +87,7 @@ module _ (fixed : Fixed) (takes : ℕ → ℕ → Bool) (member : ℕ → Bool) 
 
   goes : new.token.active ≡ true → GoesAs (outs_of member x.streams) n new
   goes on =
-      goes_by member x.streams n way new (f.queues.streams_are.each g.transfer.endpoint g.endpoint g.here met).0
+      goes_by member x.streams n way new (f.turns.bulk.endpoints g.transfer.endpoint g.endpoint g.here).bulk.way (f.queues.streams_are.each g.transfer.endpoint g.endpoint g.here met).0
       (queue_on fixed member x s w f g.transfer.endpoint g.endpoint g.here met) (asks on)
 
   pub store_taking : IsTaking fixed takes member x (after_store fixed member x s w b words command made whole.feeding) (driver_next w)

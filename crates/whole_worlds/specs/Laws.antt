@@ -14,7 +14,7 @@ use Rattle.driver_rows.specs.Rows.{driver_row}
 use Rattle.bus_world.specs.World.{World, driver_parts, driver_next, controller_next, commanded}
 use Rattle.bus_world.specs.Opening.{opening_world}
 use Rattle.stream_worlds.specs.Streaming.{Streams, Standing}
-use Rattle.chained_transfers.specs.Bulk.{OpensOrCancelsBulk, receives}
+use Rattle.chained_transfers.specs.Bulk.{OpensOrCancelsBulk, receives, comes_in}
 use Rattle.fed_lends.specs.ToLend.{IsToBeLent}
 use Rattle.open_laws.specs.Lends.{IsOpenReady}
 use Rattle.open_laws.specs.Opens.{IsOpenLent}
@@ -35,7 +35,7 @@ ControllerKeepsWhole = (fixed : Fixed) (takes : ℕ → ℕ → Bool) (member : 
 -- the endpoint that is opened, if any, has a stream or a taker
 abbrev pub OpensTo : (ℕ → ℕ → Bool) → (ℕ → ℕ → Bool) → Cmd → Type 0
 OpensTo stream takes (commands.OpenEp desc) =
-    (receives desc.name.way ≡ true → stream desc.name.addr desc.name.num ≡ true) × (receives desc.name.way ≡ false → takes desc.name.addr desc.name.num ≡ true)
+    (comes_in desc.name.way ≡ true → stream desc.name.addr desc.name.num ≡ true) × (receives desc.name.way ≡ false → takes desc.name.addr desc.name.num ≡ true)
 OpensTo stream takes _ = Unit {0}
 
 abbrev pub CommandKeepsWhole : Type 0

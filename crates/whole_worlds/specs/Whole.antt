@@ -18,7 +18,7 @@ use Rattle.bus_world.specs.World.{World}
 use Rattle.stream_worlds.specs.Streaming.{Streams, Standing}
 use Rattle.feeding_worlds.specs.Feeding.{IsFeeding}
 use Rattle.feeding_worlds.specs.Taking.{IsTaking, HaveSides, HaveTakers}
-use Rattle.chained_transfers.specs.Bulk.{receives}
+use Rattle.narrowed_streams.specs.Narrowed.{IsOnSide}
 use Rattle.feeding_worlds.specs.Left.{IsLeft}
 use Rattle.feeding_worlds.specs.Tails.{TailsStand, IsUnderWay}
 
@@ -29,7 +29,7 @@ pub record IsNamed (d : DriverContent) (way : Bool) (addr ep : ℕ) : Type 0 whe
   pub endpoint : Endpoint
   pub here : slice_get d.endpoints number ≡ Some endpoint
   pub named : (endpoint.desc.name.addr ≡ addr) × (endpoint.desc.name.num ≡ ep)
-  pub side : receives endpoint.desc.name.way ≡ way
+  pub side : IsOnSide way endpoint.desc.name.way
 
 abbrev pub StaysOpen : DriverContent → Bool → (ℕ → ℕ → Bool) → (ℕ → ℕ → Bool) → Type 0
 StaysOpen d way before now = (addr ep : ℕ) → before addr ep ≡ true → (now addr ep ≡ true) ⊎ IsNamed d way addr ep
