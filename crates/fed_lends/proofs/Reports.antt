@@ -1,5 +1,5 @@
 -- What is reported of each queue, once a transfer is lent.
-use Rattle.std.proofs.Common.{◌≡◌, ◌≢◌, ℕ, suc, ◌+◌, ◌*◌, ◌<◌, Bool, true, List, ◌∷◌, ◌++◌, slice_get, Some, None, ap, sym, subst, ◌∙◌, ⊎_elim, arith, false, length}
+use Rattle.std.proofs.Common.{◌≡◌, ◌≢◌, ℕ, suc, ◌+◌, ◌*◌, ◌<◌, Bool, true, List, ◌∷◌, ◌++◌, slice_get, Some, ap, sym, subst, ◌∙◌, ⊎_elim, arith, false, length}
 use Rattle.std.proofs.lemmas.Bool.{cases_eq}
 use Rattle.std.proofs.lemmas.Option.{same_Some}
 use Rattle.word_mem.specs.Memory.{Mem}
@@ -10,7 +10,7 @@ use Rattle.driver_rows.specs.declared.content.Stage.{Stage}
 use Rattle.driver_rows.specs.declared.content.Command.TheVariants as unfinished
 use Rattle.driver_rows.specs.DriverContent.{DriverContent}
 use Rattle.driver_rows.specs.Words.{dummy_qtd}
-use Rattle.run_owners.specs.Owners.{EndpointRuns, TransferRuns, transfer_in}
+use Rattle.run_owners.specs.Owners.{EndpointRuns, TransferRuns}
 use Rattle.lent_structures.specs.Structures.{Element, Structures, StructureSets}
 use Rattle.lent_structures.specs.Sound.{IsMember}
 use Rattle.ring_laws.specs.Hand.{Hand}

@@ -1,5 +1,5 @@
 -- The bytes of a qTD's buffer, as its note tells them: all of them but of a SETUP.
-use Rattle.std.proofs.Common.{◌≡◌, ℕ, zero, suc, ◌*◌, ◌<◌, ◌≤◌, Bool, true, false, if◌then◌else◌, slice_get, Some, ap, refl, sym, subst, ◌∙◌}
+use Rattle.std.proofs.Common.{◌≡◌, ℕ, zero, suc, ◌*◌, ◌<◌, ◌≤◌, Bool, false, if◌then◌else◌, slice_get, Some, ap, refl, sym, subst, ◌∙◌}
 use Rattle.usb_base.specs.declared.packets.Way.{Way}
 use Rattle.usb_base.specs.declared.packets.Way.TheVariants as ways
 use Rattle.qh_qtd.specs.declared.qtd.Qtd.{Qtd}

@@ -21,7 +21,7 @@ use Rattle.driver_rows.specs.declared.rows.Found.{Found}
 use Rattle.driver_rows.specs.declared.rows.Found.TheVariants as founds
 use Rattle.driver_rows.specs.DriverContent.{DriverContent, waits_for, next_after}
 use Rattle.driver_rows.specs.Harvests.{note_at, noted, is_stall, end_of, reported}
-use Rattle.driver_rows.specs.Rows.{Parts, driver_row, served, told_with, mends_of, behind_one, behind, after_end, harvested_as, after_harvest}
+use Rattle.driver_rows.specs.Rows.{Parts, served, told_with, mends_of, behind_one, behind, after_end, harvested_as, after_harvest}
 use Rattle.run_owners.specs.Owners.{TransferRuns, runs_of_transfer, transfer_in}
 use Rattle.run_owners.specs.Due.{IsDue, IsHarvestDue}
 use Rattle.run_owners.proofs.Reasons.{each_is_due}
@@ -39,7 +39,7 @@ use Rattle.described_parts.specs.Meeting.{standing}
 use Rattle.described_parts.specs.Recent.{IsRemovedAt, a_descriptor, a_queue, a_waiting, IsRemovedSince, IsUnchainedNow, AreRecent, driver_after}
 use Rattle.described_parts.proofs.Others.{rows_told}
 use Rattle.described_parts.proofs.Returning.{none_some}
-use Rattle.framed_memory.specs.Now.{IsFramedNow, FramedNext}
+use Rattle.framed_memory.specs.Now.{IsFramedNow}
 use Rattle.framed_memory.specs.IsochronousLaws.{HarvestKeepsNow}
 use Rattle.framed_memory.proofs.Now.{RowLeaves, next_now, told_now}
 use Rattle.framed_memory.proofs.Ended.{owners_ended}

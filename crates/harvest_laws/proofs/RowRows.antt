@@ -24,7 +24,7 @@ use Rattle.driver_rows.specs.declared.rows.Found.TheVariants as founds
 use Rattle.driver_rows.specs.DriverContent.{DriverContent, waits_for, next_after}
 use Rattle.endpoint_lives.specs.Lives.{told_end}
 use Rattle.endpoint_lives.proofs.Lives.{told_other}
-use Rattle.driver_rows.specs.Harvests.{note_at, noted, token_in, moved_of, moved_bytes, is_get, found_in, halt_of, done_of, ends_by, end_of, is_stall, reported}
+use Rattle.driver_rows.specs.Harvests.{note_at, noted, token_in, moved_of, moved_bytes, is_get, found_in, halt_of, done_of, ends_by, end_of, is_stall}
 use Rattle.driver_rows.specs.Rows.{ended_by_cancel, found_of, served, moved_on, told_with, goes_on as goes_on_with, after_end, harvested_as, after_harvest}
 use Rattle.run_owners.specs.Owners.{note_in, runs_of_note}
 use Rattle.run_owners.proofs.Released.{set_here, set_there}

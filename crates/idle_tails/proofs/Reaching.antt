@@ -12,7 +12,6 @@ use Rattle.run_book.specs.Book.{slot_of}
 use Rattle.run_book.specs.declared.slots.Slot.{Slot}
 use Rattle.run_book.specs.declared.slots.Slot.TheVariants.{Empty, Keeps, Lends}
 use Rattle.walk_copy.specs.Visits.{next_pointer}
-use Rattle.driver_rows.specs.declared.content.Command.TheVariants as unfinished
 use Rattle.driver_rows.specs.declared.content.Endpoint.{Endpoint}
 use Rattle.driver_rows.specs.declared.content.Transfer.{Transfer}
 use Rattle.driver_rows.specs.DriverContent.{DriverContent}

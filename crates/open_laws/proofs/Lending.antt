@@ -16,7 +16,7 @@ use Rattle.driver_rows.specs.declared.rows.DriverRow.TheVariants as rows
 use Rattle.driver_rows.specs.DriverContent.{DriverContent}
 use Rattle.driver_rows.specs.Harvests.{note_at}
 use Rattle.driver_rows.specs.Rows.{Parts as DriverParts, row_for, command_row, advanced_by, driver_row, after_driver_row}
-use Rattle.driver_rows.specs.Words.{head_block, queue_head, dummy_qtd}
+use Rattle.driver_rows.specs.Words.{queue_head, dummy_qtd}
 use Rattle.run_owners.specs.Owners.{EndpointRuns, NoteRuns, Owner, QueueHead as QueueOf, Dummy, runs_of_endpoint, note_in}
 use Rattle.lent_structures.specs.Structures.{Structure, QueueHead, Element, Structures, StructureSets, with_structure, put}
 use Rattle.lent_structures.proofs.Names.{put_beside, with_here}

@@ -12,7 +12,6 @@ use Rattle.driver_rows.specs.declared.content.Command.TheVariants as unfinished
 use Rattle.driver_rows.specs.DriverContent.{DriverContent}
 use Rattle.driver_rows.specs.Rows.{Parts as DriverParts}
 use Rattle.async_walk.specs.Rows.{place}
-use Rattle.driver_rows.specs.Words.{head_block}
 use Rattle.async_walk.specs.Walk.{Walk}
 use Rattle.ring_laws.specs.Pipes.{ArePiped}
 use Rattle.run_owners.specs.Owners.{Dummy, Element as PieceOf, NoteRuns, IsPlaced, runs_of_transfer, note_in}
@@ -37,7 +36,7 @@ use Rattle.chained_transfers.specs.Bulk.{IsDataWay, comes_in, pid_by, IsStanding
 use Rattle.chained_transfers.specs.Chains.{piece_at}
 use Rattle.chained_transfers.specs.Out.{out_of, out_now}
 use Rattle.fed_queues.specs.Fed.{IsPublished}
-use Rattle.fed_queues.specs.Places.{IsMet, AreMet, HaveStreams, IsLast, AreLast, AreStillOut, IsThere}
+use Rattle.fed_queues.specs.Places.{IsMet, IsLast, AreLast, AreStillOut, IsThere}
 use Rattle.publish_laws.specs.Stores.{IsAtStore, published_by, parts_then, out_then, QueuesThen, next_of, StorePublishes, StorePipes, StoreReports, StoreStands}
 use Rattle.publish_laws.proofs.Outs.{IsNewest, IsSplit, split_out, other_out, same_out}
 use Rattle.publish_laws.proofs.Apart.{dummy_placed, queue_placed, piece_placed, dummy_apart, pieces_apart, queues_same, thirty_two, all_lent}

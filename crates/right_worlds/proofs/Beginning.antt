@@ -10,9 +10,8 @@ use Rattle.usb_base.specs.declared.packets.Way.TheVariants as Ways
 use Rattle.script_types.specs.declared.scripts.Script.{Script}
 use Rattle.endpoint_script.specs.Items.{packets_of}
 use Rattle.pipe_agreement.specs.Prefix.{IsPrefix}
-use Rattle.usb_bus.specs.Bus.{Fixed, opening_wired}
+use Rattle.usb_bus.specs.Bus.{opening_wired}
 use Rattle.report_streams.specs.Streams.{items_of, told_in}
-use Rattle.ring_laws.specs.Ring.{Base}
 use Rattle.ring_laws.specs.Told.{Endpoint as Told}
 use Rattle.ring_laws.specs.Bus.{Sender}
 use Rattle.scripted_streams.specs.Senders.{sender_of}
@@ -22,15 +21,11 @@ use Rattle.driver_rows.specs.declared.content.Command.{Command}
 use Rattle.driver_rows.specs.declared.content.Command.TheVariants as unfinished
 use Rattle.endpoint_lives.specs.Lives.{may_meet}
 use Rattle.told_endpoints.specs.Telling.{lines_in}
-use Rattle.bus_world.specs.World.{World}
-use Rattle.stream_worlds.specs.Streaming.{Streams, Standing, IsStreaming, wired}
-use Rattle.chained_transfers.specs.Bulk.{comes_in, BulkOnly, OnlyBulk}
-use Rattle.fed_queues.specs.Places.{IsThere, IsMet, HaveStreams}
-use Rattle.harvest_laws.specs.Told.{ToldStands}
+use Rattle.stream_worlds.specs.Streaming.{wired}
+use Rattle.chained_transfers.specs.Bulk.{comes_in}
+use Rattle.fed_queues.specs.Places.{IsThere, IsMet}
 use Rattle.opening_senders.specs.Own.{HasOwnDevices}
 use Rattle.opening_senders.proofs.Opening.{opening_sends}
-use Rattle.right_reports.specs.WorldReport.{report_of}
-use Rattle.right_reports.specs.Ins.{AreRightInStreams}
 use Rattle.right_reports.specs.Laws.{BeginsEach}
 use Rattle.right_reports.proofs.Right.{in_way, gone_told, report_right}
 use Rattle.right_worlds.specs.Right.{AreOfScript, WorldIsRight}
