@@ -31,8 +31,8 @@ use Rattle.run_owners.specs.Owners.{is_descriptor}
 use Rattle.run_owners.specs.Accepts.{AreShort, Opens, Transfers, Cancels}
 use Rattle.chained_transfers.specs.Bulk.{IsDataWay, IsBulk, OpensBulk, OnlyBulk, OpensOrCancelsBulk}
 use Rattle.chained_transfers.specs.Leaving.{IsAcceptedAs}
-use Rattle.chained_transfers.specs.Accepted.{move_of, IsAccepted}
-use Rattle.chained_transfers.specs.Asynchronous.{IsKindOf, IsAsynchronous, OpensAsynchronous, OnlyAsynchronous, IsAskedOfBulk, IsRequested, AcceptsAsynchronous}
+use Rattle.chained_transfers.specs.Accepted.{move_of, IsAsked, IsAccepted}
+use Rattle.chained_transfers.specs.Asynchronous.{IsKindOf, IsAsynchronous, OpensAsynchronous, OnlyAsynchronous, IsRequested, AcceptsAsynchronous}
 use Rattle.chained_transfers.proofs.BulkAndControl.{not_iso, not_periodic, bulk_asynchronous}
 use Rattle.chained_transfers.proofs.Ways.{sort_queued, same_in, same_out, stages_short, stages_some}
 
@@ -105,8 +105,8 @@ record IsTakenBy (d : DriverContent) (m : Mem) (o : Offered) (takes : Endpoint �
 
 abbrev AcceptsNext : DriverContent → Mem → Offered → Cmd → Type 0
 AcceptsNext d m o (commands.OpenEp x) = OpensAs d m o x
-AcceptsNext d m o (commands.Get name len by) = IsAskedOfBulk d m o
-AcceptsNext d m o (commands.Put name bytes by) = IsAskedOfBulk d m o
+AcceptsNext d m o (commands.Get name len by) = IsAsked d m o
+AcceptsNext d m o (commands.Put name bytes by) = IsAsked d m o
 AcceptsNext d m o (commands.Control name setup bytes) = IsRequested d m o
 AcceptsNext d m o (commands.Iso name count len seed) = ⊥
 AcceptsNext d m o (commands.Cancel name) = Cancels d m o
@@ -165,23 +165,17 @@ module _ (d : DriverContent) (m : Mem) (o : Offered) (idle : d.command ≡ None)
     named_one None f = absurd (cc)
     named_one (Some e) f = found_one e (slice_get d.endpoints e) refl f
 
-  gets : (len by : ℕ) → IsTakenBy d m o takes_get (move_of ways.In len by []) → IsAskedOfBulk d m o
+  gets : (len by : ℕ) → IsTakenBy d m o takes_get (move_of ways.In len by []) → IsAsked d m o
   gets len by t =
       let is = gets_in t.transfers.endpoint t.taken in
       let move = get_move t.transfers.endpoint.desc.name.way len by is in
-      record {
-        asked = record { most = len; by = by; bytes = []; transfers = t.transfers; asked = t.asked ∙ move.is; whole = move.whole };
-        way = subst (λ (w : Way). IsDataWay w) (sym is) tt;
-      }
+      record { most = len; by = by; bytes = []; transfers = t.transfers; way = subst (λ (w : Way). IsDataWay w) (sym is) tt; asked = t.asked ∙ move.is; whole = move.whole }
 
-  puts : (bytes : List ℕ) (by : ℕ) → IsTakenBy d m o takes_put (move_of ways.Out (length bytes) by bytes) → IsAskedOfBulk d m o
+  puts : (bytes : List ℕ) (by : ℕ) → IsTakenBy d m o takes_put (move_of ways.Out (length bytes) by bytes) → IsAsked d m o
   puts bytes by t =
       let is = puts_out t.transfers.endpoint t.taken in
       let move = put_move t.transfers.endpoint.desc.name.way bytes by is in
-      record {
-        asked = record { most = length bytes; by = by; bytes = bytes; transfers = t.transfers; asked = t.asked ∙ move.is; whole = move.whole };
-        way = subst (λ (w : Way). IsDataWay w) (sym is) tt;
-      }
+      record { most = length bytes; by = by; bytes = bytes; transfers = t.transfers; way = subst (λ (w : Way). IsDataWay w) (sym is) tt; asked = t.asked ∙ move.is; whole = move.whole }
 
   requests : (setup bytes : List ℕ) → IsTakenBy d m o takes_control (request_of setup bytes) → IsRequested d m o
   requests setup bytes t =
@@ -309,8 +303,8 @@ opens_bulk (commands.Cancel name) is = tt
 
 accepts_bulk : (d : DriverContent) (m : Mem) (o : Offered) (cmd : Cmd) → EachIsBulk d → OpensOrCancelsBulk cmd → AcceptsNext d m o cmd → IsAcceptedAs d m o cmd
 accepts_bulk d m o (commands.OpenEp x) each is new = inl (record { opens = new.opens; bulk = subst (λ (z : EpDesc). IsBulk z) (sym new.desc) is })
-accepts_bulk d m o (commands.Get name len by) each is why = inr why.asked
-accepts_bulk d m o (commands.Put name bytes by) each is why = inr why.asked
+accepts_bulk d m o (commands.Get name len by) each is why = inr why
+accepts_bulk d m o (commands.Put name bytes by) each is why = inr why
 accepts_bulk d m o (commands.Control name setup bytes) each is why = absurd (subst (λ (w : Way). IsDataWay w) why.way (each why.transfers.number why.transfers.endpoint why.transfers.here).0.way)
 accepts_bulk d m o (commands.Iso name count len seed) each is why = absurd why
 accepts_bulk d m o (commands.Cancel name) each is why = why

@@ -1,5 +1,5 @@
--- Bulk and control endpoints of the asynchronous schedule, and their transfers; bulk ones alone.
-use Rattle.std.proofs.Common.{◌≡◌, ℕ, false, [], slice_get, Some, ap, sym, ◌∙◌, ⊎_elim, inl, inr, refl}
+-- Bulk and control endpoints of the asynchronous schedule; bulk ones alone.
+use Rattle.std.proofs.Common.{◌≡◌, ℕ, false, [], slice_get, Some, ap, ⊎_elim, inl, inr}
 use Rattle.std.specs.Prelude.{◌⊎◌}
 use Rattle.usb_base.specs.declared.endpoints.EpDesc.{EpDesc}
 use Rattle.usb_base.specs.declared.packets.EpKind.{EpKind}
@@ -8,13 +8,11 @@ use Rattle.usb_base.specs.declared.packets.Way.{Way}
 use Rattle.usb_base.specs.declared.packets.Way.TheVariants as ways
 use Rattle.periodic_rows.specs.Periodic.{is_periodic}
 use Rattle.driver_rows.specs.declared.content.Endpoint.{Endpoint}
-use Rattle.driver_rows.specs.declared.content.Transfer.{Transfer}
 use Rattle.driver_rows.specs.DriverContent.{DriverContent}
 use Rattle.driver_rows.specs.Rows.{is_iso}
-use Rattle.run_owners.specs.Owners.{is_descriptor}
-use Rattle.chained_transfers.specs.Bulk.{IsDataWay, IsBulk, sort_by, IsStanding, OnlyBulk}
+use Rattle.chained_transfers.specs.Bulk.{IsDataWay, IsBulk, IsStanding, OnlyBulk}
 use Rattle.chained_transfers.specs.InTurn.{TakesTurns}
-use Rattle.chained_transfers.specs.Asynchronous.{IsKindOf, IsAsynchronous, sort_of, StandsAsynchronous, MovesAsynchronous, OnlyAsynchronous}
+use Rattle.chained_transfers.specs.Asynchronous.{IsKindOf, IsAsynchronous, StandsAsynchronous, OnlyAsynchronous}
 use Rattle.chained_transfers.specs.AsynchronousTurns.{AsynchronousTakesTurns}
 
 -- ---- an endpoint
@@ -49,29 +47,12 @@ standing x s = record {
   gone = s.gone;
 }
 
--- ---- a transfer
-
-pub sort_of_queued : (way : Way) → is_descriptor (sort_of way) ≡ false
-sort_of_queued ways.In = refl
-sort_of_queued ways.Out = refl
-sort_of_queued ways.Ctl = refl
-
-pub sort_of_data : (way : Way) → IsDataWay way → sort_of way ≡ sort_by way
-sort_of_data ways.In one = refl
-sort_of_data ways.Out one = refl
-sort_of_data ways.Ctl one = absurd one
-
-pub moves_queued_of : (d : DriverContent) (y : Transfer) → MovesAsynchronous d y → is_descriptor y.sort ≡ false
-moves_queued_of d y moves = ap is_descriptor moves.sort ∙ sort_of_queued moves.endpoint.desc.name.way
-
 -- ---- a driver
 
 pub only_asynchronous : (d : DriverContent) → OnlyBulk d → OnlyAsynchronous d
 only_asynchronous d r = record {
   endpoints = λ e x here. standing x (r.endpoints e x here);
-  moves = λ t y here.
-      let m = r.moves t y here in
-      record { endpoint = m.endpoint; here = m.here; sort = m.sort ∙ sym (sort_of_data m.endpoint.desc.name.way (r.endpoints y.endpoint m.endpoint m.here).bulk.way) };
+  moves = r.moves;
   command = r.command;
   leaver = r.leaver;
   unlinks = r.unlinks;
@@ -90,9 +71,7 @@ only_bulk d each none r = record {
   endpoints = λ e x here.
       let s = r.endpoints e x here in
       record { bulk = each e x here; placement = s.placement; chained = s.chained; unlinked = s.unlinked; ended = s.ended; cancel = s.cancel; gone = s.gone };
-  moves = λ t y here.
-      let m = r.moves t y here in
-      record { endpoint = m.endpoint; here = m.here; sort = m.sort ∙ sort_of_data m.endpoint.desc.name.way (each y.endpoint m.endpoint m.here).way };
+  moves = r.moves;
   command = r.command;
   leaver = r.leaver;
   mends = none;

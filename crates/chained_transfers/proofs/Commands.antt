@@ -29,15 +29,15 @@ use Rattle.run_owners.proofs.Orders.{owed, one_same}
 use Rattle.run_owners.proofs.Transferred.{are_new, goes_on_alive}
 use Rattle.run_owners.proofs.Released.{set_here}
 use Rattle.run_owners.proofs.Stays.{stays_same, endpoint_stays}
-use Rattle.chained_transfers.specs.Bulk.{IsBulk, OpensBulk, OpensOrCancelsBulk, OnlyBulk}
+use Rattle.chained_transfers.specs.Bulk.{IsBulk, OpensBulk, OpensOrCancelsBulk, sort_by, MovesAs, OnlyBulk}
 use Rattle.chained_transfers.specs.Accepted.{IsOpened, IsAsked, IsAccepted}
 use Rattle.chained_transfers.specs.Chains.{piece_at}
 use Rattle.chained_transfers.specs.Turns.{IsAtPlace, AreAtPlaces, Turn, turn_of, turn_in, AreReportedTo, IsNotGone, AreTurnsOf, AreReturned}
 use Rattle.chained_transfers.specs.InTurn.{TakesTurns}
 use Rattle.chained_transfers.specs.Leaving.{IsAcceptedAs, IsStaying, NothingLeaves}
-use Rattle.chained_transfers.specs.Asynchronous.{OpensAsynchronous, sort_of, StandsAsynchronous, MovesAsynchronous, OnlyAsynchronous, IsOpenedAsynchronous, IsAskedOfBulk, AcceptsAsynchronous}
+use Rattle.chained_transfers.specs.Asynchronous.{OpensAsynchronous, StandsAsynchronous, OnlyAsynchronous, IsOpenedAsynchronous, AcceptsAsynchronous}
 use Rattle.chained_transfers.specs.AsynchronousTurns.{AsynchronousTakesTurns}
-use Rattle.chained_transfers.proofs.BulkAndControl.{bulk_asynchronous, sort_of_data, bulk_takes_turns, EachBulk, takes_bulk_turns}
+use Rattle.chained_transfers.proofs.BulkAndControl.{bulk_asynchronous, bulk_takes_turns, EachBulk, takes_bulk_turns}
 use Rattle.chained_transfers.proofs.Moves.{KeepDescs, descs_set, descs_push, moves_on, moves_same}
 use Rattle.chained_transfers.proofs.Chained.{pieces_same, same_chained, endpoint_chained, within_list, pushed_there, pushed_last}
 use Rattle.chained_transfers.proofs.Queued.{not_dummy, transfer_chained}
@@ -358,14 +358,14 @@ asked_turns d m o why order here_still old = subst (λ (g : Offered). TakeTurns 
         )
 
 -- what its endpoint takes
-queued_in_turn : (d : DriverContent) (m : Mem) (o : Offered) → Stands (holding d.book m) → HasOwners d → (w : Transfers d m o) → w.asked.sort ≡ sort_of w.endpoint.desc.name.way → AsynchronousTakesTurns d → AsynchronousTakesTurns o.driver
+queued_in_turn : (d : DriverContent) (m : Mem) (o : Offered) → Stands (holding d.book m) → HasOwners d → (w : Transfers d m o) → w.asked.sort ≡ sort_by w.endpoint.desc.name.way → AsynchronousTakesTurns d → AsynchronousTakesTurns o.driver
 queued_in_turn d m o stands owners w sort old =
     let x = w.endpoint in
     let r = old.asynchronous in
     let places = asked_places d m o owners.owner stands w owners.orderly owners.owned old.turns.places in
     let turns = asked_turns d m o w owners.orderly (stands_alive x (r.endpoints w.number x w.here) w.goes_on) (old.turns.turns, old.turns.returned) in
     let kept : (dummy : ℕ) → KeepDescs d.endpoints (set d.endpoints w.number (with_queued x dummy (length d.transfers))) = λ dummy. descs_set d.endpoints w.number x (with_queued x dummy (length d.transfers)) w.here refl in
-    let new_moves : (dummy : ℕ) (notes : List QtdNote) (y : Transfer) → y ≡ new_transfer w.number w.asked x.dummy → MovesAsynchronous (accepted_transfer d w.number x w.asked w.holding_after dummy notes).driver y = λ dummy notes y is. record {
+    let new_moves : (dummy : ℕ) (notes : List QtdNote) (y : Transfer) → y ≡ new_transfer w.number w.asked x.dummy → MovesAs (accepted_transfer d w.number x w.asked w.holding_after dummy notes).driver y = λ dummy notes y is. record {
       endpoint = with_queued x dummy (length d.transfers);
       here = ap (λ (z : Transfer). slice_get (set d.endpoints w.number (with_queued x dummy (length d.transfers))) z.endpoint) is ∙ set_here d.endpoints w.number x (with_queued x dummy (length d.transfers)) w.here;
       sort = ap (λ (z : Transfer). z.sort) is ∙ sort;
@@ -387,9 +387,9 @@ queued_in_turn d m o stands owners w sort old =
       turns = record { places = places; turns = turns.0; returned = turns.1 };
     }
 
-moved_in_turn : (d : DriverContent) (m : Mem) (o : Offered) → Stands (holding d.book m) → HasOwners d → IsAskedOfBulk d m o → AsynchronousTakesTurns d → AsynchronousTakesTurns o.driver
+moved_in_turn : (d : DriverContent) (m : Mem) (o : Offered) → Stands (holding d.book m) → HasOwners d → IsAsked d m o → AsynchronousTakesTurns d → AsynchronousTakesTurns o.driver
 moved_in_turn d m o stands owners why old =
-    let w = why.asked.transfers in queued_in_turn d m o stands owners w (ap (λ (a : Asked). a.sort) why.asked.asked ∙ sym (sort_of_data w.endpoint.desc.name.way why.way)) old
+    queued_in_turn d m o stands owners why.transfers (ap (λ (a : Asked). a.sort) why.asked) old
 
 -- a get or put, where all endpoints are bulk ones
 pub asked_in_turn : (d : DriverContent) (m : Mem) (o : Offered) → Stands (holding d.book m) → HasOwners d → IsAsked d m o → TakesTurns d → TakesTurns o.driver
@@ -400,7 +400,7 @@ asked_in_turn d m o stands owners why old =
     let each : (dummy e : ℕ) (y : Endpoint) → slice_get (set d.endpoints w.number (with_queued x dummy (length d.transfers))) e ≡ Some y → IsBulk y.desc =
     λ dummy. ends_set (λ (y : Endpoint). IsBulk y.desc) d.endpoints w.number x (with_queued x dummy (length d.transfers)) w.here (λ s. s) (λ e y here. (old.bulk.endpoints e y here).bulk) in
     takes_bulk_turns o.driver (subst (λ (g : Offered). EachBulk g.driver) (sym w.is) (each _)) (ap (λ (g : Offered). g.driver.mends) w.is ∙ old.bulk.mends)
-    (queued_in_turn d m o stands owners w (ap (λ (a : Asked). a.sort) why.asked ∙ sym (sort_of_data way (old.bulk.endpoints w.number x w.here).bulk.way)) (bulk_takes_turns d old))
+    (queued_in_turn d m o stands owners w (ap (λ (a : Asked). a.sort) why.asked) (bulk_takes_turns d old))
 
 asked_nothing : (d : DriverContent) (m : Mem) (o : Offered) → IsAsked d m o → NothingLeaves d → NothingLeaves o.driver
 asked_nothing d m o why old =
@@ -487,7 +487,7 @@ accepts_in_turn : (d : DriverContent) (m : Mem) (o : Offered) (cmd : Cmd) → St
 accepts_in_turn d m o (commands.OpenEp x) stands owners why old = open_queue d m o owners.orderly why old
 accepts_in_turn d m o (commands.Get name len by) stands owners why old = moved_in_turn d m o stands owners why old
 accepts_in_turn d m o (commands.Put name bytes by) stands owners why old = moved_in_turn d m o stands owners why old
-accepts_in_turn d m o (commands.Control name setup bytes) stands owners why old = queued_in_turn d m o stands owners why.transfers (ap (λ (a : Asked). a.sort) why.asked ∙ ap sort_of (sym why.way)) old
+accepts_in_turn d m o (commands.Control name setup bytes) stands owners why old = queued_in_turn d m o stands owners why.transfers (ap (λ (a : Asked). a.sort) why.asked ∙ ap sort_by (sym why.way)) old
 accepts_in_turn d m o (commands.Iso name count len seed) stands owners why old = absurd why
 accepts_in_turn d m o (commands.Cancel name) stands owners why old = cancel_queue d m o why old
 

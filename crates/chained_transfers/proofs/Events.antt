@@ -30,14 +30,14 @@ use Rattle.run_owners.proofs.Orders.{IsOwed, owed, times_first, one_same, IsLeft
 use Rattle.run_owners.proofs.Leaves.{first_left}
 use Rattle.run_owners.proofs.Reasons.{each_is_due}
 use Rattle.run_owners.proofs.Stays.{advanced, lent, harvest_stays}
-use Rattle.chained_transfers.specs.Bulk.{IsBulk, IsBulkCommand, OnlyBulk}
+use Rattle.chained_transfers.specs.Bulk.{IsBulk, MovesAs, IsBulkCommand, OnlyBulk}
 use Rattle.chained_transfers.specs.Turns.{IsAtPlace, AreAtPlaces, turn_of, turn_in, IsNotGone, AreTurnsOf, AreReturned}
 use Rattle.chained_transfers.specs.InTurn.{TakesTurns}
 use Rattle.chained_transfers.specs.Leaving.{NothingLeaves}
-use Rattle.chained_transfers.specs.Asynchronous.{StandsAsynchronous, MovesAsynchronous, OnlyAsynchronous}
+use Rattle.chained_transfers.specs.Asynchronous.{StandsAsynchronous, OnlyAsynchronous}
 use Rattle.chained_transfers.specs.AsynchronousTurns.{AsynchronousTakesTurns}
-use Rattle.chained_transfers.proofs.Ways.{found_by}
-use Rattle.chained_transfers.proofs.BulkAndControl.{moves_queued_of, only_asynchronous, bulk_takes_turns, takes_bulk_turns}
+use Rattle.chained_transfers.proofs.Ways.{found_by, moves_queued}
+use Rattle.chained_transfers.proofs.BulkAndControl.{only_asynchronous, bulk_takes_turns, takes_bulk_turns}
 use Rattle.chained_transfers.proofs.Moves.{KeepDescs, descs_same, descs_set, moves_on, moves_same, moves_set}
 use Rattle.chained_transfers.proofs.Chained.{same_chained, released_chained, gone_from, let_go_endpoint, endpoint_gone_chained}
 use Rattle.chained_transfers.proofs.Turning.{fewer_turns, changed, changed_plain, released_turns}
@@ -55,7 +55,7 @@ record EventLeaves (d f : DriverContent) : Type 0 where
 
 module _ (p : Parts) (e t : ℕ) (found : Found) (due : IsHarvestDue p e t found) (only : OnlyAsynchronous p.driver) where
   is_found : found ≡ found_in due.transfer.sort (nat_le due.transfer.left 1) (note_at p.driver.notes due.transfer.place) (token_in p.memory due.transfer.place)
-  is_found = due.tells ∙ found_by p.driver p.memory due.transfer due.transfer.sort (moves_queued_of p.driver due.transfer (only.moves t due.transfer due.there))
+  is_found = due.tells ∙ found_by p.driver p.memory due.transfer due.transfer.sort (moves_queued p.driver due.transfer (only.moves t due.transfer due.there))
 
   after : (P : DriverContent → Type 0) → P (after_harvest p.driver p.memory e t found (Some due.endpoint) (Some due.transfer)) → P (after_driver_row (rows.Harvest e t found) p).driver
   after P now =
@@ -184,7 +184,7 @@ release_endpoint p e due order old =
     transfers : List Transfer
     transfers = map (let_go e (is_told l.endpoint)) p.driver.transfers
 
-    moves : (c : DriverContent) → KeepDescs d.endpoints c.endpoints → (k : ℕ) (w : Transfer) → slice_get transfers k ≡ Some w → MovesAsynchronous c w
+    moves : (c : DriverContent) → KeepDescs d.endpoints c.endpoints → (k : ℕ) (w : Transfer) → slice_get transfers k ≡ Some w → MovesAs c w
     moves c kept k w here =
         let y = gone_from e told d.transfers k w here in
         let b = y.0.endpoint == e in

@@ -8,7 +8,6 @@ use Rattle.driver_rows.specs.declared.content.Transfer.{Transfer}
 use Rattle.driver_rows.specs.DriverContent.{DriverContent}
 use Rattle.run_owners.proofs.Released.{set_here, set_there}
 use Rattle.chained_transfers.specs.Bulk.{sort_by, MovesAs}
-use Rattle.chained_transfers.specs.Asynchronous.{sort_of, MovesAsynchronous}
 
 pub record IsOpenedAs (xs : List Endpoint) (e : ℕ) (k : EpDesc) : Type 0 where
   pub one : Endpoint
@@ -37,24 +36,18 @@ pub descs_push : (xs : List Endpoint) (x : Endpoint) → KeepDescs xs (xs ++ x �
 descs_push xs x e z here = record { one = z; here = pushed xs x e z here; same = refl }
 
 abbrev pub AllMove : DriverContent → Type 0
-AllMove d = (t : ℕ) (y : Transfer) → slice_get d.transfers t ≡ Some y → MovesAsynchronous d y
+AllMove d = (t : ℕ) (y : Transfer) → slice_get d.transfers t ≡ Some y → MovesAs d y
 
--- of drivers of bulk endpoints alone
-pub bulk_moves_on : (d c : DriverContent) (y z : Transfer) → z.endpoint ≡ y.endpoint → z.sort ≡ y.sort → KeepDescs d.endpoints c.endpoints → MovesAs d y → MovesAs c z
-bulk_moves_on d c y z of_e same kept moves =
+pub moves_on : (d c : DriverContent) (y z : Transfer) → z.endpoint ≡ y.endpoint → z.sort ≡ y.sort → KeepDescs d.endpoints c.endpoints → MovesAs d y → MovesAs c z
+moves_on d c y z of_e same kept moves =
     let k = kept y.endpoint moves.endpoint moves.here in
     record { endpoint = k.one; here = ap (slice_get c.endpoints) of_e ∙ k.here; sort = same ∙ moves.sort ∙ ap (λ (x : EpDesc). sort_by x.name.way) (sym k.same) }
 
-pub moves_on : (d c : DriverContent) (y z : Transfer) → z.endpoint ≡ y.endpoint → z.sort ≡ y.sort → KeepDescs d.endpoints c.endpoints → MovesAsynchronous d y → MovesAsynchronous c z
-moves_on d c y z of_e same kept moves =
-    let k = kept y.endpoint moves.endpoint moves.here in
-    record { endpoint = k.one; here = ap (slice_get c.endpoints) of_e ∙ k.here; sort = same ∙ moves.sort ∙ ap (λ (x : EpDesc). sort_of x.name.way) (sym k.same) }
-
-pub moves_same : (d c : DriverContent) → KeepDescs d.endpoints c.endpoints → AllMove d → (t : ℕ) (y : Transfer) → slice_get d.transfers t ≡ Some y → MovesAsynchronous c y
+pub moves_same : (d c : DriverContent) → KeepDescs d.endpoints c.endpoints → AllMove d → (t : ℕ) (y : Transfer) → slice_get d.transfers t ≡ Some y → MovesAs c y
 moves_same d c kept old t y here = moves_on d c y y refl refl kept (old t y here)
 
 pub moves_set : (d c : DriverContent) (t : ℕ) (y z : Transfer) → slice_get d.transfers t ≡ Some y → z.endpoint ≡ y.endpoint → z.sort ≡ y.sort → KeepDescs d.endpoints c.endpoints → AllMove d
-    → (k : ℕ) (w : Transfer) → slice_get (set d.transfers t z) k ≡ Some w → MovesAsynchronous c w
+    → (k : ℕ) (w : Transfer) → slice_get (set d.transfers t z) k ≡ Some w → MovesAs c w
 moves_set d c t y z here of_e same kept old k w there = ⊎_elim
     (λ (own : k ≡ t).
     let is : w ≡ z = same_Some w z (sym there ∙ ap (slice_get (set d.transfers t z)) own ∙ set_here d.transfers t y z here) in

@@ -26,7 +26,7 @@ use Rattle.chained_transfers.specs.Leaving.{IsStaying, NothingLeaves}
 use Rattle.chained_transfers.specs.Asynchronous.{IsAsynchronous, StandsAsynchronous, OnlyAsynchronous}
 use Rattle.chained_transfers.proofs.Turning.{changed_plain, fewer_turns}
 use Rattle.chained_transfers.proofs.Ends.{ends_turns, changed_end, changed_stays, WasTurn, WasGone, returned_on, same_turn, changed_gone}
-use Rattle.chained_transfers.proofs.Moves.{KeepDescs, descs_same, descs_set, bulk_moves_on, moves_on, moves_same}
+use Rattle.chained_transfers.proofs.Moves.{KeepDescs, descs_same, descs_set, moves_on, moves_same}
 use Rattle.chained_transfers.proofs.Harvesting.{turn_at}
 use Rattle.chained_transfers.proofs.Stalled.{IsToldOf, told_set, told_both, behind_tells}
 use Rattle.chained_transfers.proofs.Harvested.{no_stall}
@@ -437,7 +437,7 @@ harvest_bulk d m e t x y here there goes alive bulk found not other =
     record {
       keeps = record {
         ends = k.ends;
-        moves = λ old t y at. let w = k.transfers t y at in bulk_moves_on d f w.one y w.endpoint w.sort k.descs (old t w.one w.here);
+        moves = λ old t y at. let w = k.transfers t y at in moves_on d f w.one y w.endpoint w.sort k.descs (old t w.one w.here);
         command = k.command;
         mends = harvest_mends d m e t x y found bulk;
         unlinks = k.unlinks;

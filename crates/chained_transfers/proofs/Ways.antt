@@ -1,5 +1,5 @@
 -- The transfers of a bulk endpoint and their qTDs, by the way of its data.
-use Rattle.std.proofs.Common.{◌≡◌, ℕ, zero, suc, ◌+◌, ◌-◌, ◌*◌, ◌≤◌, true, false, nat_le, min, max, List, [], ◌∷◌, length, map, ap, sym, subst, ◌∙◌, refl, arith}
+use Rattle.std.proofs.Common.{◌≡◌, ℕ, zero, suc, ◌+◌, ◌-◌, ◌*◌, ◌≤◌, ◌⊎◌, inl, inr, true, false, nat_le, min, max, List, [], ◌∷◌, length, map, ap, sym, subst, ◌∙◌, refl, arith}
 use Rattle.std.proofs.lemmas.Bool.{false≢true}
 use Rattle.std.specs.List.{AllByRecursion, range_with_len}
 use Rattle.usb_base.specs.declared.packets.Way.{Way}
@@ -11,7 +11,7 @@ use Rattle.driver_rows.specs.declared.content.Sort.TheVariants as sorts
 use Rattle.driver_rows.specs.declared.content.Stage.{Stage}
 use Rattle.driver_rows.specs.DriverContent.{DriverContent, is_same_way}
 use Rattle.driver_rows.specs.Words.{pieces, cut, in_stage, out_stage, get_stages, put_stages}
-use Rattle.driver_rows.specs.Harvests.{is_get, note_at, token_in, found_in}
+use Rattle.driver_rows.specs.Harvests.{note_at, token_in, found_in}
 use Rattle.driver_rows.specs.Rows.{found_of}
 use Rattle.driver_rows.specs.Offers.{Offered, Asked}
 use Rattle.run_owners.specs.Owners.{is_descriptor}
@@ -26,15 +26,10 @@ sort_queued ways.In = refl
 sort_queued ways.Out = refl
 sort_queued ways.Ctl = refl
 
-pub sort_gets : (way : Way) → is_get (sort_by way) ≡ receives way
-sort_gets ways.In = refl
-sort_gets ways.Out = refl
-sort_gets ways.Ctl = refl
-
-pub pid_few : (way : Way) → pid_by way ≤ 2
-pid_few ways.In = omega arith
-pid_few ways.Out = omega arith
-pid_few ways.Ctl = omega arith
+pub data_or_control : (way : Way) → IsDataWay way ⊎ (way ≡ ways.Ctl)
+data_or_control ways.In = inl tt
+data_or_control ways.Out = inl tt
+data_or_control ways.Ctl = inr refl
 
 pub way_receives : (way : Way) → receives way ≡ true → IsDataWay way → way ≡ ways.In
 way_receives ways.In is one = refl
@@ -66,15 +61,11 @@ comes_in_receives way is = ap receives (way_comes_in way is)
 pub sends_comes_not : (way : Way) → receives way ≡ false → comes_in way ≡ false
 sends_comes_not way is = ap comes_in (way_sends way is)
 
-pub receives_pid : (way : Way) → receives way ≡ true → pid_by way ≡ 1
-receives_pid ways.In is = refl
-receives_pid ways.Out is = absurd (false≢true is)
-receives_pid ways.Ctl is = refl
+pub receives_pid : (way : Way) → receives way ≡ true → IsDataWay way → pid_by way ≡ 1
+receives_pid way is one = ap pid_by (way_receives way is one)
 
-pub receives_sort : (way : Way) → receives way ≡ true → sort_by way ≡ sorts.Get
-receives_sort ways.In is = refl
-receives_sort ways.Out is = absurd (false≢true is)
-receives_sort ways.Ctl is = refl
+pub receives_sort : (way : Way) → receives way ≡ true → IsDataWay way → sort_by way ≡ sorts.Get
+receives_sort way is one = ap sort_by (way_receives way is one)
 
 pub sends_pid : (way : Way) → receives way ≡ false → pid_by way ≡ 0
 sends_pid way is = ap pid_by (way_sends way is)
@@ -110,10 +101,15 @@ stage_toggle ways.In n = refl
 stage_toggle ways.Out n = refl
 stage_toggle ways.Ctl n = refl
 
-pub stage_pid : (way : Way) (n : ℕ) → (stage_by way n).pid ≡ pid_by way
-stage_pid ways.In n = refl
-stage_pid ways.Out n = refl
-stage_pid ways.Ctl n = refl
+pub stage_pid : (way : Way) (n : ℕ) → IsDataWay way → (stage_by way n).pid ≡ pid_by way
+stage_pid ways.In n one = refl
+stage_pid ways.Out n one = refl
+stage_pid ways.Ctl n one = absurd one
+
+stage_pid_few : (way : Way) (n : ℕ) → (stage_by way n).pid ≤ 2
+stage_pid_few ways.In n = omega arith
+stage_pid_few ways.Out n = omega arith
+stage_pid_few ways.Ctl n = omega arith
 
 pub stage_in : (way : Way) (n : ℕ) → receives way ≡ true → stage_by way n ≡ in_stage n
 stage_in ways.In n is = refl
@@ -136,11 +132,11 @@ its_told way s is = ap (λ (z : Stage). z.told) is ∙ stage_told way s.long
 pub its_toggle : (way : Way) (s : Stage) → IsBy way s → s.toggle ≡ false
 its_toggle way s is = ap (λ (z : Stage). z.toggle) is ∙ stage_toggle way s.long
 
-pub its_pid : (way : Way) (s : Stage) → IsBy way s → s.pid ≡ pid_by way
-its_pid way s is = ap (λ (z : Stage). z.pid) is ∙ stage_pid way s.long
+pub its_pid : (way : Way) (s : Stage) → IsDataWay way → IsBy way s → s.pid ≡ pid_by way
+its_pid way s one is = ap (λ (z : Stage). z.pid) is ∙ stage_pid way s.long one
 
 pub its_pid_few : (way : Way) (s : Stage) → IsBy way s → s.pid ≤ 2
-its_pid_few way s is = let p = its_pid way s is in let few = pid_few way in omega (arith, p, few)
+its_pid_few way s is = let p = ap (λ (z : Stage). z.pid) is in let few = stage_pid_few way s.long in omega (arith, p, few)
 
 -- ---- all qTDs of a transfer
 
@@ -185,9 +181,6 @@ puts_by most by = refl
 
 pub moves_queued : (d : DriverContent) (y : Transfer) → MovesAs d y → is_descriptor y.sort ≡ false
 moves_queued d y moves = ap is_descriptor moves.sort ∙ sort_queued moves.endpoint.desc.name.way
-
-pub moves_get : (d : DriverContent) (y : Transfer) (moves : MovesAs d y) → is_get y.sort ≡ receives moves.endpoint.desc.name.way
-moves_get d y moves = ap is_get moves.sort ∙ sort_gets moves.endpoint.desc.name.way
 
 -- what is found of it
 pub found_by : (d : DriverContent) (m : Mem) (y : Transfer) (sort : Sort) → is_descriptor sort ≡ false → found_of d m y sort ≡ found_in sort (nat_le y.left 1) (note_at d.notes y.place) (token_in m y.place)

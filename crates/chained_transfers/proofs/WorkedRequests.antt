@@ -6,7 +6,8 @@ use Rattle.driver_rows.specs.Rows.{is_iso}
 use Rattle.run_owners.specs.Owners.{Owner, is_descriptor, FrameList, Head, QueueHead, Dummy, Element, Buffer, ArePieces, Views, runs_of_endpoint, runs_of_transfer, views_of, IsPlaced, AreOwned}
 use Rattle.run_owners.specs.Leaving.{IsSteady, IsOrderly}
 use Rattle.run_owners.specs.Kept.{HasOwners}
-use Rattle.chained_transfers.specs.Asynchronous.{StandsAsynchronous, MovesAsynchronous}
+use Rattle.chained_transfers.specs.Bulk.{MovesAs}
+use Rattle.chained_transfers.specs.Asynchronous.{StandsAsynchronous}
 use Rattle.chained_transfers.specs.AsynchronousTurns.{AsynchronousTakesTurns}
 use Rattle.chained_transfers.specs.Chains.{end_of, NoneFrom, AreChained}
 use Rattle.chained_transfers.specs.Turns.{IsAtPlace, Turn, turn_of, turn_in, AreReportedTo, AreInTurn}
@@ -133,7 +134,7 @@ request_turns = record {
           cancel = λ on. absurd (false≢true on);
           gone = λ on. absurd (false≢true on);
         });
-    moves = two_there (λ t y. MovesAsynchronous request_driver y) stalled_request waiting_request
+    moves = two_there (λ t y. MovesAs request_driver y) stalled_request waiting_request
         (record { endpoint = control_endpoint; here = refl; sort = refl }) (record { endpoint = control_endpoint; here = refl; sort = refl });
     command = tt;
     leaver = λ e x is here. absurd (cc);

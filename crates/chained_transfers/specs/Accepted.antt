@@ -9,7 +9,7 @@ use Rattle.driver_rows.specs.DriverContent.{DriverContent}
 use Rattle.driver_rows.specs.Words.{cut}
 use Rattle.driver_rows.specs.Offers.{Offered, Asked}
 use Rattle.run_owners.specs.Accepts.{Opens, Transfers}
-use Rattle.chained_transfers.specs.Bulk.{IsBulk, sort_by, stage_by}
+use Rattle.chained_transfers.specs.Bulk.{IsDataWay, IsBulk, sort_by, stage_by}
 
 abbrev pub move_of : Way → ℕ → ℕ → List ℕ → Asked
 move_of way most by bytes = record { sort = sort_by way; stages = map (stage_by way) (cut most by); most = most; bytes = bytes }
@@ -23,6 +23,7 @@ pub record IsAsked (d : DriverContent) (m : Mem) (o : Offered) : Type 0 where
   pub by : ℕ
   pub bytes : List ℕ
   pub transfers : Transfers d m o
+  pub way : IsDataWay transfers.endpoint.desc.name.way
   pub asked : transfers.asked ≡ move_of transfers.endpoint.desc.name.way most by bytes
   -- all bytes of a put are to be moved
   pub whole : transfers.endpoint.desc.name.way ≡ ways.Out → length bytes ≡ most

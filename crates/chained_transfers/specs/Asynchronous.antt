@@ -3,13 +3,13 @@
 --     IsKindOf way kind        an endpoint of this way is of this kind
 --     IsAsynchronous x         the endpoint is one of them
 --     OpensAsynchronous cmd    if the command opens an endpoint, it is one of them; other commands, cancels too, may be any
---     sort_of way              what the transfers of such an endpoint are
+--     AsynchronousOnly s       so is each that the script opens
 --     StandsAsynchronous x     the endpoint is in the ring, or was cancelled; one that ended otherwise and one that was cancelled stay apart
---     MovesAsynchronous d y    the transfer is one that its endpoint takes
 --     OnlyAsynchronous d       each endpoint of the driver is one of them, and each transfer is one that its endpoint takes; nothing is in the frame list
---     IsOpenedAsynchronous, IsAskedOfBulk, IsRequested      what an accepted command comes to: an endpoint more, a get or put, a request
---     AcceptsAsynchronous d m o cmd                   .. by the command
+--     IsOpenedAsynchronous, IsRequested     what an accepted command comes to: an endpoint more, a request
+--     AcceptsAsynchronous d m o cmd         .. by the command; a get or a put is asked of a bulk endpoint
 use Rattle.std.specs.Prelude.{◌≡◌, ◌≢◌, ℕ, true, false, List, [], ◌++◌, slice_get, Some, None}
+use Rattle.std.specs.List.{AllByRecursion}
 use Rattle.usb_base.specs.declared.commands.Cmd.{Cmd}
 use Rattle.usb_base.specs.declared.commands.Cmd.TheVariants as commands
 use Rattle.usb_base.specs.declared.endpoints.EpDesc.{EpDesc}
@@ -18,10 +18,12 @@ use Rattle.usb_base.specs.declared.packets.EpKind.TheVariants as kinds
 use Rattle.usb_base.specs.declared.packets.Speed.TheVariants as speeds
 use Rattle.usb_base.specs.declared.packets.Way.{Way}
 use Rattle.usb_base.specs.declared.packets.Way.TheVariants as ways
+use Rattle.script_types.specs.declared.scripts.Line.{Line}
+use Rattle.script_types.specs.declared.scripts.Line.TheVariants as lines
+use Rattle.script_types.specs.declared.scripts.Script.{Script}
 use Rattle.word_mem.specs.Memory.{Mem}
 use Rattle.driver_rows.specs.declared.content.Endpoint.{Endpoint}
 use Rattle.driver_rows.specs.declared.content.Transfer.{Transfer}
-use Rattle.driver_rows.specs.declared.content.Sort.{Sort}
 use Rattle.driver_rows.specs.declared.content.Sort.TheVariants as sorts
 use Rattle.driver_rows.specs.DriverContent.{DriverContent}
 use Rattle.driver_rows.specs.Words.{request_length, request_stages}
@@ -29,7 +31,7 @@ use Rattle.driver_rows.specs.Rows.{ended_by_cancel}
 use Rattle.driver_rows.specs.Offers.{Offered}
 use Rattle.run_owners.specs.Leaving.{leaver}
 use Rattle.run_owners.specs.Accepts.{Opens, Transfers, Cancels}
-use Rattle.chained_transfers.specs.Bulk.{IsDataWay, IsBulkCommand, IsToUnlink}
+use Rattle.chained_transfers.specs.Bulk.{MovesAs, IsBulkCommand, IsToUnlink}
 use Rattle.chained_transfers.specs.Accepted.{IsAsked}
 
 abbrev pub IsKindOf : Way → EpKind → Type 0
@@ -45,10 +47,12 @@ abbrev pub OpensAsynchronous : Cmd → Type 0
 OpensAsynchronous (commands.OpenEp x) = IsAsynchronous x
 OpensAsynchronous _ = Unit {0}
 
-abbrev pub sort_of : Way → Sort
-sort_of ways.Ctl = sorts.Request
-sort_of ways.In = sorts.Get
-sort_of ways.Out = sorts.Put
+abbrev pub AsynchronousLine : Line → Type 0
+AsynchronousLine (lines.Command cmd) = OpensAsynchronous cmd
+AsynchronousLine _ = Unit {0}
+
+abbrev pub AsynchronousOnly : Script → Type 0
+AsynchronousOnly s = AllByRecursion (λ line. AsynchronousLine line.1) s.lines
 
 -- ---- drivers
 
@@ -62,14 +66,9 @@ pub record StandsAsynchronous (x : Endpoint) : Type 0 where
   pub cancel : ended_by_cancel x.ended ≡ true → x.cancelled ≡ true
   pub gone : x.gone ≡ true → x.linked ≡ false
 
-pub record MovesAsynchronous (d : DriverContent) (y : Transfer) : Type 0 where
-  pub endpoint : Endpoint
-  pub here : slice_get d.endpoints y.endpoint ≡ Some endpoint
-  pub sort : y.sort ≡ sort_of endpoint.desc.name.way
-
 pub record OnlyAsynchronous (d : DriverContent) : Type 0 where
   pub endpoints : (e : ℕ) (x : Endpoint) → slice_get d.endpoints e ≡ Some x → StandsAsynchronous x
-  pub moves : (t : ℕ) (y : Transfer) → slice_get d.transfers t ≡ Some y → MovesAsynchronous d y
+  pub moves : (t : ℕ) (y : Transfer) → slice_get d.transfers t ≡ Some y → MovesAs d y
   pub command : IsBulkCommand d.command
   pub leaver : (e : ℕ) (x : Endpoint) → leaver d.command ≡ Some e → slice_get d.endpoints e ≡ Some x → IsToUnlink x
   pub unlinks : d.periodic.unlinks ≡ []
@@ -80,11 +79,6 @@ pub record OnlyAsynchronous (d : DriverContent) : Type 0 where
 pub record IsOpenedAsynchronous (d : DriverContent) (m : Mem) (o : Offered) : Type 0 where
   pub opens : Opens d m o
   pub asynchronous : IsAsynchronous opens.desc
-
--- a get or put of a bulk endpoint
-pub record IsAskedOfBulk (d : DriverContent) (m : Mem) (o : Offered) : Type 0 where
-  pub asked : IsAsked d m o
-  pub way : IsDataWay asked.transfers.endpoint.desc.name.way
 
 -- a request to a control endpoint (USB 2.0, 8.5.3): its setup bytes, and behind them those that it sends
 pub record IsRequested (d : DriverContent) (m : Mem) (o : Offered) : Type 0 where
@@ -97,8 +91,8 @@ pub record IsRequested (d : DriverContent) (m : Mem) (o : Offered) : Type 0 wher
 -- none of these endpoints takes isochronous data
 abbrev pub AcceptsAsynchronous : DriverContent → Mem → Offered → Cmd → Type 0
 AcceptsAsynchronous d m o (commands.OpenEp x) = IsOpenedAsynchronous d m o
-AcceptsAsynchronous d m o (commands.Get name len by) = IsAskedOfBulk d m o
-AcceptsAsynchronous d m o (commands.Put name bytes by) = IsAskedOfBulk d m o
+AcceptsAsynchronous d m o (commands.Get name len by) = IsAsked d m o
+AcceptsAsynchronous d m o (commands.Put name bytes by) = IsAsked d m o
 AcceptsAsynchronous d m o (commands.Control name setup bytes) = IsRequested d m o
 AcceptsAsynchronous d m o (commands.Iso name count len seed) = ⊥
 AcceptsAsynchronous d m o (commands.Cancel name) = Cancels d m o

@@ -5,7 +5,8 @@
 --     BulkOnly s               each command of the script opens a high-speed bulk endpoint, if any; others, cancels too, may be accepted or refused
 --     receives way             the endpoint is no OUT endpoint
 --     comes_in way             the endpoint is an IN endpoint: all its data come to the host
---     sort_by way, stage_by way n, pid_by way      the transfers of such an endpoint, their qTDs of n bytes, and the packets that these ask for
+--     sort_by way, pid_by way  the transfers of an endpoint of this way, and the packets that the first qTD of one asks for
+--     stage_by way n           a qTD of n bytes of a get or a put
 --     IsStanding x             the endpoint is in the ring, or was cancelled; one that ended otherwise and one that was cancelled stay apart
 --     IsBulkCommand command    the unfinished command opens an endpoint, publishes a transfer or unlinks an endpoint
 --     OnlyBulk d               each endpoint of the driver is one, and each transfer a get or a put, as its endpoint takes; nothing is in the frame list
@@ -74,18 +75,21 @@ abbrev pub comes_in : Way → Bool
 comes_in ways.In = true
 comes_in _ = false
 
+-- of a control endpoint they are requests
 abbrev pub sort_by : Way → Sort
 sort_by ways.Out = sorts.Put
-sort_by _ = sorts.Get
+sort_by ways.In = sorts.Get
+sort_by ways.Ctl = sorts.Request
 
 abbrev pub stage_by : Way → ℕ → Stage
 stage_by ways.Out n = out_stage n
 stage_by _ n = in_stage n
 
--- the PID code of a qTD's token (3.5.3): 0 for OUT, 1 for IN
+-- the PID code of a qTD's token (3.5.3): 0 for OUT, 1 for IN, 2 for SETUP, with which a request begins (USB 2.0, 8.5.3)
 abbrev pub pid_by : Way → ℕ
 pid_by ways.Out = 0
-pid_by _ = 1
+pid_by ways.In = 1
+pid_by ways.Ctl = 2
 
 -- ---- drivers
 
@@ -99,7 +103,7 @@ pub record IsStanding (x : Endpoint) : Type 0 where
   pub cancel : ended_by_cancel x.ended ≡ true → x.cancelled ≡ true
   pub gone : x.gone ≡ true → x.linked ≡ false
 
--- the transfer goes the way of its endpoint
+-- the transfer is one that its endpoint takes
 pub record MovesAs (d : DriverContent) (y : Transfer) : Type 0 where
   pub endpoint : Endpoint
   pub here : slice_get d.endpoints y.endpoint ≡ Some endpoint

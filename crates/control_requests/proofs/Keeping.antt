@@ -15,11 +15,11 @@ use Rattle.ring_requests.proofs.Windows.{none_stay, rest_by}
 use Rattle.control_requests.specs.Events.{IsControlStepOf, ControlWindowsGoOn}
 
 module _ {W : Type 0} (begins : W → ℕ → Bool → W → Type 0) (transacts : W → Ask → List ℕ → Reply → W → Type 0) (device : W → ℕ → ℕ → Option Device) (base : Base) (member windows : ℕ → Bool) (sent : ℕ → Queue) (fixed : AreSent member windows sent) (bus : IsControlBus transacts device) (keeps : KeepsDevices begins device) (lines : ℕ → Lines) (parts : StructureSets) (hand : Hand) (c : Content) (wire : W) (controlled : IsControlled base member parts hand c) (all : AreWindows device member windows sent lines parts hand wire) (after : W) (now : StructureSets) (later : Hand) where
-  record Rest (z : ControlEffect begins transacts parts hand wire after now later) : Type 0 where
-    step : Option Step
-    windows_are : AreWindows device member windows sent (stepped sent step lines) now later after
-    is : IsControlStepOf windows lines step z
-    halted : HaltedStay windows lines step
+  pub record Rest (z : ControlEffect begins transacts parts hand wire after now later) : Type 0 where
+    pub step : Option Step
+    pub windows_are : AreWindows device member windows sent (stepped sent step lines) now later after
+    pub is : IsControlStepOf windows lines step z
+    pub halted : HaltedStay windows lines step
 
   begun : (b : BeginsMicroframe begins parts hand wire after now later) → AreWindows device member windows sent (stepped sent None lines) parts hand after
   begun b = record {
@@ -31,7 +31,7 @@ module _ {W : Type 0} (begins : W → ℕ → Bool → W → Type 0) (transacts 
     others = all.others;
   }
 
-  rest_of : (z : ControlEffect begins transacts parts hand wire after now later) → Rest z
+  pub rest_of : (z : ControlEffect begins transacts parts hand wire after now later) → Rest z
   rest_of (a_microframe b) = record {
     step = None;
     windows_are = subst (λ (h : Hand). AreWindows device member windows sent (stepped sent None lines) now h after) (sym b.hand_stays)

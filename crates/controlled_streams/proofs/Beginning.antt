@@ -136,13 +136,13 @@ old_pipe sender packets endpoint acc hand later parts now wire n x i hands same 
     }))
 
 pub pipes_with_one : {W : Type 0} (sender : W → ℕ → ℕ → Option Sender) → PipesWithOne sender
-pipes_with_one sender stream packets member wider streams endpoint acc hand later parts now wire n x more untouched others k = record {
+pipes_with_one sender stream packets member wider streams endpoint acc hand later parts now wire n x more own untouched others k = record {
   pipes = λ i on.
       ⊎_elim (λ (same : i ≡ n).
       subst (PipeOf sender packets (with_end endpoint n x) (with_none acc n) now later wire) (sym same)
       (subst (λ (y : Endpoint). IsPipe (packets y.addr y.ep) (sender wire y.addr y.ep) (with_none acc n n) now later n y) (sym (end_here endpoint n x))
       (subst (λ (xs : List (List ℕ)). IsPipe (packets x.addr x.ep) (sender wire x.addr x.ep) xs now later n x) (sym (list_here acc n))
-      (begin_pipe (packets x.addr x.ep) (sender wire x.addr x.ep) later now n x more.queue more.begins more.named more.expects untouched))))
+      (begin_pipe (packets x.addr x.ep) (sender wire x.addr x.ep) later now n x more.queue more.begins more.named (more.expects own) untouched))))
       (λ (differs : i ≢ n).
       let streamed : streams i ≡ true = stream_beside streams n i differs on in
       old_pipe sender packets endpoint acc hand later parts now wire n x i more.hands (more.stay i streamed) differs (k.pipes i streamed)) (cases_eq i n);

@@ -44,7 +44,8 @@ pub record IsOneMore (streams : ℕ → Bool) (hand later : Hand) (parts now : S
   pub queue : Qh
   pub begins : IsBeginning (now n) n queue
   pub named : HasEndpoint now n x
-  pub expects : HasToggle later now n false
+  -- a control endpoint's packets have the toggles of their qTDs (3.6)
+  pub expects : x.dtc ≡ false → HasToggle later now n false
 
 -- ---- the laws
 
@@ -56,7 +57,7 @@ EndsWithOne = (stream : ℕ → ℕ → Bool) (member wider streams : ℕ → Bo
 -- the walk meets no other queue head but that one for the first time, or one that asks none of the streams
 abbrev pub PipesWithOne : {W : Type 0} → (W → ℕ → ℕ → Option Sender) → Type 0
 PipesWithOne {W} sender = (stream : ℕ → ℕ → Bool) (packets : ℕ → ℕ → List (List ℕ)) (member wider streams : ℕ → Bool) (endpoint : ℕ → Endpoint) (acc : ℕ → List (List ℕ))
-    (hand later : Hand) (parts now : StructureSets) (wire : W) (n : ℕ) (x : Endpoint) → IsOneMore streams hand later parts now n x
+    (hand later : Hand) (parts now : StructureSets) (wire : W) (n : ℕ) (x : Endpoint) → IsOneMore streams hand later parts now n x → x.dtc ≡ false
     → IsUntouched (packets x.addr x.ep) (sender wire x.addr x.ep)
     → ((k : ℕ) → wider k ≡ true → k ≢ n → streams k ≡ false → IsElsewhere stream now k (endpoint k))
     → ArePiped stream packets sender member streams endpoint acc parts hand wire

@@ -60,7 +60,7 @@ module _ (d : DriverContent) (m : Mem) (o : Offered) (why : Transfers d m o) (ha
   given =
       accepted_transfer d why.number why.endpoint why.asked why.holding_after (get_or (take (length ss) (new_runs d why.holding_after)) (length ss - 1) 0) (notes_by (new_runs d why.holding_after))
 
-  endpoint_stays : (i : ℕ) (z : DriverEndpoint) → slice_get d.endpoints i ≡ Some z → EndpointStays given.driver i z
+  pub endpoint_stays : (i : ℕ) (z : DriverEndpoint) → slice_get d.endpoints i ≡ Some z → EndpointStays given.driver i z
   endpoint_stays i z here =
       let y = with_queued why.endpoint (get_or (take (length ss) (new_runs d why.holding_after)) (length ss - 1) 0) (length d.transfers) in
       ⊎_elim {C = EndpointStays given.driver i z}

@@ -17,11 +17,11 @@ use Rattle.ring_requests.specs.Laid.{Places}
 use Rattle.ring_requests.specs.Windows.{Queue, Lines}
 use Rattle.ring_requests.specs.Runs.{first_of}
 use Rattle.ring_requests.proofs.Runs.{first_same}
-use Rattle.request_stores.specs.Published.{with_request}
+use Rattle.request_stores.specs.Published.{with_request, without_first}
 use Rattle.world_requests.specs.Recorded.{Windows, asks_then, window_at, windows_of}
 use Rattle.world_requests.specs.Recording.{AreRecorded, AreInOrder, told_at}
 use Rattle.driver_requests.specs.Requests.{AreOfEndpoint}
-use Rattle.driver_requests.specs.Rows.{number_with, without_first}
+use Rattle.driver_requests.specs.Rows.{number_with}
 use Rattle.driver_requests.specs.Behind.{AreBehind}
 use Rattle.driver_requests.proofs.Ordering.{numbers_more, numbers_still, first_more, requests_more, below_new, asked_before}
 use Rattle.driver_requests.proofs.RowOrder.{row_numbers}

@@ -12,10 +12,10 @@ use Rattle.report_streams.specs.Requests.{Request}
 use Rattle.driver_laws.specs.Inventory.{IsPieceOf}
 use Rattle.ring_requests.specs.Laid.{Places}
 use Rattle.ring_requests.specs.Windows.{Queue, Lines, Progress, Transaction, Advance, Step, progressed, stepped}
-use Rattle.request_stores.specs.Published.{with_request}
+use Rattle.request_stores.specs.Published.{with_request, without_first}
 use Rattle.request_bytes.specs.Fresh.{data_places, other_places, next_of, request_places}
 use Rattle.driver_requests.specs.Requests.{IsOfEndpoint, IsOfTransfer, IsLaidOut, AreOfEndpoint, AreOfDriver}
-use Rattle.driver_requests.specs.Rows.{KeepsRequests, number_with, without_first}
+use Rattle.driver_requests.specs.Rows.{KeepsRequests, number_with}
 use Rattle.driver_requests.proofs.Owning.{qtds_case, first_piece, second_piece, third_piece}
 
 -- ---- places

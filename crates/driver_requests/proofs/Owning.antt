@@ -102,7 +102,7 @@ data_place d t r x k =
 
 -- ---- whose they are
 
-abbrev element_of : Owner → ℕ
+abbrev pub element_of : Owner → ℕ
 element_of (Element t) = t
 element_of _ = 0
 
@@ -115,7 +115,7 @@ piece_owner : (slot : ℕ → Slot) (owner : ℕ → Owner) (note : ℕ → Note
 piece_owner slot owner note t b n c all is = (piece_placed slot owner note t b n c all is).owned
 
 module _ (d : DriverContent) (has : HasOwners d) where
-  owned_piece : (t c : ℕ) (y : Transfer) → slice_get d.transfers t ≡ Some y → y.released ≡ false → IsPieceOf (note_in d.notes) y.first y.qtds c → has.owner c ≡ Element t
+  pub owned_piece : (t c : ℕ) (y : Transfer) → slice_get d.transfers t ≡ Some y → y.released ≡ false → IsPieceOf (note_in d.notes) y.first y.qtds c → has.owner c ≡ Element t
   owned_piece t c y here held piece =
       let v = views_of d in
       piece_owner v.slot has.owner v.note t y.first y.qtds c (has.owned.each.pieces t (runs_of_transfer y) (ap (option_map runs_of_transfer) here) held) piece

@@ -17,10 +17,10 @@ use Rattle.world_requests.specs.Recording.{AreInOrder}
 use Rattle.driver_requests.proofs.Ordering.{cons_same}
 use Rattle.driver_requests.proofs.Rows.{TransferView, transfer_view, StayAlike, advanced, lent, framed, unlinks, harvested, told_transfers}
 
-abbrev endpoint_at : List Transfer → ℕ → Option ℕ
+abbrev pub endpoint_at : List Transfer → ℕ → Option ℕ
 endpoint_at xs t = option_map (λ y. y.endpoint) (slice_get xs t)
 
-abbrev SameEndpoints : List Transfer → List Transfer → Type 0
+abbrev pub SameEndpoints : List Transfer → List Transfer → Type 0
 SameEndpoints xs ys = (t : ℕ) → endpoint_at ys t ≡ endpoint_at xs t
 
 numbers_same : (e n : ℕ) (xs ys : List Transfer) → SameEndpoints xs ys → numbers_from e n ys ≡ numbers_from e n xs
@@ -82,7 +82,7 @@ placed_given p e (Some x) t =
 
 -- ---- each row
 
-row_same : (p : Parts) (row : DriverRow) → SameEndpoints p.driver.transfers (after_driver_row row p).driver.transfers
+pub row_same : (p : Parts) (row : DriverRow) → SameEndpoints p.driver.transfers (after_driver_row row p).driver.transfers
 row_same p rows.Lend = of_alike p.driver _ (lent p.driver p.memory)
 row_same p (rows.Store b at v) = of_alike p.driver _ (advanced p.driver)
 row_same p (rows.Mend w) = λ t. refl

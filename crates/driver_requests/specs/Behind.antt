@@ -20,11 +20,11 @@ use Rattle.report_streams.specs.Requests.{Request}
 use Rattle.ring_requests.specs.Laid.{Places}
 use Rattle.ring_requests.specs.Windows.{Queue, Lines}
 use Rattle.ring_requests.specs.Runs.{first_of}
-use Rattle.request_stores.specs.Published.{with_request}
+use Rattle.request_stores.specs.Published.{with_request, without_first}
 use Rattle.world_requests.specs.Recorded.{Windows, asks_then, numbers_of, window_at, windows_of}
 use Rattle.world_requests.specs.Recording.{AreRecorded, AreInOrder, told_at}
 use Rattle.driver_requests.specs.Requests.{AreOfEndpoint}
-use Rattle.driver_requests.specs.Rows.{number_with, without_first}
+use Rattle.driver_requests.specs.Rows.{number_with}
 
 pub record AreBehind (d : DriverContent) (asks : ℕ → Request) (e : ℕ) (earlier : List ℕ) (v : Queue) (number : ℕ → ℕ) : Type 0 where
   pub numbers : numbers_of d e ≡ earlier ++ first_of number v.count

@@ -3,7 +3,6 @@
 --     EndpointStays, TransferStays   an endpoint, a transfer is told alike; a transfer may be given back where it is this one
 --     KeepsRequests given d e i      so are endpoint i and its transfers, and where their qTDs lead
 --     number_with count number t     the numbers of so many requests, and t behind them
---     without_first v                the requests behind the first
 --     RequestsStay, RequestsGoOn, RequestComes, RequestEnds
 --                                    the laws: of a row that keeps them, of a step of the walk, of one more request, and of the first that goes
 --     AcceptedRequestsStay           .. of a transfer that is accepted of any endpoint with qTDs
@@ -15,7 +14,7 @@
 --     EachRowKeepsRequests           the law: each such row is of this kind
 --     EachRowKeepsOrder              .. and each row leaves the order of an endpoint's requests
 --     OrderGrows, OrderStays         the laws of that order where a request is accepted, and where anything is accepted of another endpoint
-use Rattle.std.specs.Prelude.{◌≡◌, ◌≢◌, ℕ, suc, ◌-◌, ◌<◌, ◌≤◌, ◌==◌, Bool, false, List, length, slice_get, Option, Some, None, if◌then◌else◌}
+use Rattle.std.specs.Prelude.{◌≡◌, ◌≢◌, ℕ, suc, ◌<◌, ◌≤◌, ◌==◌, Bool, false, List, length, slice_get, Option, Some, None, if◌then◌else◌}
 use Rattle.usb_base.specs.declared.commands.Cmd.{Cmd}
 use Rattle.usb_base.specs.declared.commands.Cmd.TheVariants as commands
 use Rattle.usb_base.specs.declared.endpoints.EpName.{EpName}
@@ -38,7 +37,7 @@ use Rattle.report_streams.specs.Requests.{Request}
 use Rattle.driver_laws.specs.Inventory.{IsPieceOf}
 use Rattle.ring_requests.specs.Laid.{Places}
 use Rattle.ring_requests.specs.Windows.{Queue, Lines, Step, stepped}
-use Rattle.request_stores.specs.Published.{with_request}
+use Rattle.request_stores.specs.Published.{with_request, without_first}
 use Rattle.request_bytes.specs.Fresh.{next_of, request_places}
 use Rattle.world_requests.specs.Recorded.{asks_then}
 use Rattle.world_requests.specs.Recording.{AreInOrder}
@@ -68,9 +67,6 @@ pub record KeepsRequests (given : Option ℕ) (d e : DriverContent) (i : ℕ) : 
 
 abbrev pub number_with : ℕ → (ℕ → ℕ) → ℕ → ℕ → ℕ
 number_with count number t i = if i == count then t else number i
-
-abbrev pub without_first : Queue → Queue
-without_first v = record v { count = v.count - 1; requests = λ i. v.requests (suc i); places = λ i. v.places (suc i) }
 
 -- ---- the laws
 

@@ -20,7 +20,7 @@ use Rattle.sending_worlds.specs.Kept.{KeepsStreamsThroughout, KeepsPlaces}
 use Rattle.sending_worlds.proofs.Moments.{texts_keep_streams, texts_keep_places}
 use Rattle.program_ends.specs.Input.{input_of}
 use Rattle.program_forms.specs.Output.{IsRunOf}
-use Rattle.ehci_cli.specs.Scripts.{OfEachBulkScript}
+use Rattle.ehci_cli.specs.Scripts.{OfEachAsynchronousScript}
 use Rattle.ehci_cli.specs.Streams.{IsWholeRunOf, KeepsStreams}
 
 record IsMoment (s : Script) (w : World) : Type 0 where
@@ -63,10 +63,10 @@ keeps s k = record {
   printed = λ w. report_printed w.fixed w.world;
 }
 
-pub source_keeps_streams : (left : Option (List ℕ)) → OfEachBulkScript KeepsStreams left
+pub source_keeps_streams : (left : Option (List ℕ)) → OfEachAsynchronousScript KeepsStreams left
 source_keeps_streams None = tt
 source_keeps_streams (Some xs) = λ s spelled only. keeps s (texts_keep_streams (input_of xs) s spelled only)
 
-pub source_keeps_places : (left : Option (List ℕ)) → OfEachBulkScript KeepsPlaces left
+pub source_keeps_places : (left : Option (List ℕ)) → OfEachAsynchronousScript KeepsPlaces left
 source_keeps_places None = tt
 source_keeps_places (Some xs) = λ s spelled only. texts_keep_places (input_of xs) s spelled only

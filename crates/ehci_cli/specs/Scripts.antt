@@ -1,19 +1,19 @@
 -- What is so of each script that the bytes of a source spell, where the source tells its bytes.
 --     OfEachScript so left         of each script
---     OfEachBulkScript so left     of each whose endpoints are high-speed bulk ones; it may cancel them
+--     OfEachAsynchronousScript so left     of each whose endpoints are high-speed bulk and control ones; it may cancel them
 --     OfEachIsochronousScript so left     of each whose endpoints are isochronous ones; it may cancel them
 use Rattle.std.specs.Prelude.{ℕ, List, Option, IfSome}
 use Rattle.script_types.specs.declared.scripts.Script.{Script}
 use Rattle.script_text.specs.Faults.{Spells}
-use Rattle.chained_transfers.specs.Bulk.{BulkOnly}
+use Rattle.chained_transfers.specs.Asynchronous.{AsynchronousOnly}
 use Rattle.framed_worlds.specs.Scripts.{IsochronousOnly}
 use Rattle.program_ends.specs.Input.{input_of}
 
 abbrev pub OfEachScript : (Script → Type 0) → Option (List ℕ) → Type 0
 OfEachScript so left = IfSome left (λ xs. (s : Script) → Spells (input_of xs) s → so s)
 
-abbrev pub OfEachBulkScript : (Script → Type 0) → Option (List ℕ) → Type 0
-OfEachBulkScript so left = IfSome left (λ xs. (s : Script) → Spells (input_of xs) s → BulkOnly s → so s)
+abbrev pub OfEachAsynchronousScript : (Script → Type 0) → Option (List ℕ) → Type 0
+OfEachAsynchronousScript so left = IfSome left (λ xs. (s : Script) → Spells (input_of xs) s → AsynchronousOnly s → so s)
 
 abbrev pub OfEachIsochronousScript : (Script → Type 0) → Option (List ℕ) → Type 0
 OfEachIsochronousScript so left = IfSome left (λ xs. (s : Script) → Spells (input_of xs) s → IsochronousOnly s → so s)

@@ -1,7 +1,7 @@
--- Scripts of high-speed bulk endpoints: the streams of their reports (EHCI 1.0, 4.6, 4.8 and 4.10; USB 2.0, 5.8 and 8.6).
+-- Scripts of high-speed bulk and control endpoints: the streams of their reports (EHCI 1.0, 4.6, 4.8 and 4.10; USB 2.0, 5.5, 5.8, 8.5.3 and 8.6).
 --     IsWholeRunOf s w    this is a world after the run of the script, of which every line was carried out
---     KeepsStreams s      after its run, and at each moment of it, what is told of each IN endpoint begins its stream, each byte once and in order, and nothing
---                         follows its end; what is told of each OUT endpoint begins the bytes that its device took, as its closing line tells them, and these
+--     KeepsStreams s      after its run, and at each moment of it, what is told of each bulk IN endpoint begins its stream, each byte once and in order, and
+--                         nothing follows its end; what is told of each bulk OUT endpoint begins the bytes that its device took, as its closing line tells them, and these
 --                         begin what was put to it; after a whole run these are all streams; and the report that this is said of is the text that is printed
 use Rattle.std.specs.Prelude.{◌≡◌, []}
 use Rattle.script_types.specs.declared.scripts.Script.{Script}

@@ -9,7 +9,7 @@ ghost use Rattle.program_forms.specs.Form.{AreWordsOf, AreNoForm};
 ghost use Rattle.program_forms.specs.Output.{IsAnswer, IsLoad, IsProgram, LeavesAs, Leaves};
 ghost use Rattle.sending_worlds.specs.Kept.{KeepsPlaces};
 ghost use Rattle.framed_worlds.specs.Frames.{KeepsFrames};
-ghost use Rattle.ehci_cli.specs.Scripts.{OfEachScript, OfEachBulkScript, OfEachIsochronousScript};
+ghost use Rattle.ehci_cli.specs.Scripts.{OfEachScript, OfEachAsynchronousScript, OfEachIsochronousScript};
 ghost use Rattle.ehci_cli.specs.Streams.{KeepsStreams};
 
 use program_ends::{Status, Unread, read_input};
@@ -36,10 +36,10 @@ use usb_base::{Sink, Source};
 /// needs are Lent, each run of them with one owner, but for what its unfinished command has still to lend; and each frame of the list has what is due in
 /// it: the queue heads of placed interrupt endpoints, each once, and of each isochronous endpoint at most one descriptor that waits.
 ///
-/// Where the script opens high-speed bulk endpoints only, cancelled or not, the bytes that the report tells of each IN endpoint begin its stream, each once and in
-/// order, and nothing follows its end; those that it tells of each OUT endpoint begin what its device took, and these begin what was put to it: after the run, and
-/// at each moment of it, whatever is lost, damaged or held. After a run of which each line was carried out these are all its streams. And at each moment nothing of
-/// the driver is out of place in memory, the walk of the ring stands at its queue heads alone, or at those that left it since the last answered doorbell was rung, and the
+/// Where the script opens high-speed bulk and control endpoints only, cancelled or not, the bytes that the report tells of each bulk IN endpoint begin its stream, each
+/// once and in order, and nothing follows its end; those that it tells of each bulk OUT endpoint begin what its device took, and these begin what was put to it: after
+/// the run, and at each moment of it, whatever is lost, damaged or held, and whatever control endpoints are asked and answer, STALL too. After a run of which each line
+/// was carried out these are all its streams. And at each moment nothing of the driver is out of place in memory, the walk of the ring stands at its queue heads alone, or at those that left it since the last answered doorbell was rung, and the
 /// controller runs, meets no fault and is refused no word.
 ///
 /// Where the script opens isochronous endpoints only, of high-speed devices or behind hubs, cancelled or not, at each moment nothing of the driver is out of place in
@@ -61,8 +61,8 @@ pub fn ehci<S: Source, K: Sink>(
     ensures lent { OfEachScript KeepsToLentThroughout (S.left source.old) }
     ensures owned { OfEachScript OwnsItsBlocksThroughout (S.left source.old) }
     ensures schedule { OfEachScript KeepsScheduleThroughout (S.left source.old) }
-    ensures streams { OfEachBulkScript KeepsStreams (S.left source.old) }
-    ensures placed { OfEachBulkScript KeepsPlaces (S.left source.old) }
+    ensures streams { OfEachAsynchronousScript KeepsStreams (S.left source.old) }
+    ensures placed { OfEachAsynchronousScript KeepsPlaces (S.left source.old) }
     ensures frames { OfEachIsochronousScript KeepsFrames (S.left source.old) }
     ensures left { IfSome (S.left source.old) (λ xs. Leaves (map string_bytes words.now) result xs (S.left source.new)) }
     ensures nothing { WritesNothing result → sink.new ≡ sink.old }

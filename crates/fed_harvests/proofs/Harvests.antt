@@ -27,7 +27,7 @@ use Rattle.ring_laws.specs.Told.{Endpoint as Told}
 use Rattle.chained_transfers.specs.Turns.{turn_of}
 use Rattle.chained_transfers.specs.AsynchronousTurns.{AsynchronousTakesTurns}
 use Rattle.chained_transfers.specs.Out.{pieces_from, passed, out_of_transfer, out_of, out_now}
-use Rattle.chained_transfers.proofs.Ways.{found_by}
+use Rattle.chained_transfers.proofs.Ways.{found_by, moves_queued}
 use Rattle.chained_transfers.proofs.Harvesting.{waits_is}
 use Rattle.chained_transfers.proofs.Harvested.{no_stall, not_served, note_same}
 use Rattle.fed_queues.specs.Places.{AreStillOut, IsThere}
@@ -37,7 +37,7 @@ use Rattle.fed_harvests.specs.Harvests.{IsLike, Harvested, with_out, HarvestLeav
 use Rattle.fed_harvests.proofs.Like.{like_stands}
 use Rattle.fed_harvests.proofs.Lists.{all_of, all_out, all_same, splits, all_set, others_none, own_out}
 use Rattle.fed_queues.proofs.Places.{SameQueues, same_ends, met_stays, streams_stay}
-use Rattle.chained_transfers.proofs.BulkAndControl.{not_iso, moves_queued_of, bulk_takes_turns}
+use Rattle.chained_transfers.proofs.BulkAndControl.{not_iso, bulk_takes_turns}
 use Rattle.chained_transfers.proofs.Staying.{stands_alive}
 use Rattle.mended_heads.specs.Stalling.{IsStall}
 
@@ -329,7 +329,7 @@ module _ (p : Parts) (e t : ℕ) (found : Found) (due : IsHarvestDue p e t found
   pub leaves : found ≢ founds.Active → (IsStall due.endpoint.desc.kind found → ⊥) → HarvestLeaves p e t found due member streams ends parts order out
   unfolding Leaves
   leaves differs unstalled =
-      let is = due.tells ∙ found_by p.driver p.memory due.transfer due.transfer.sort (moves_queued_of p.driver due.transfer (turns.asynchronous.moves t due.transfer due.there)) in
+      let is = due.tells ∙ found_by p.driver p.memory due.transfer due.transfer.sort (moves_queued p.driver due.transfer (turns.asynchronous.moves t due.transfer due.there)) in
       let none = not_served due.transfer.sort (nat_le due.transfer.left 1) (note_at p.driver.notes due.transfer.place) (token_in p.memory due.transfer.place) found is in
       let k = row_leaves (subst (λ (b : Bool). Leaves (cond b (served (harvested_as p.driver p.memory e t due.endpoint due.transfer found) e) p.driver)) (sym due.waits) (read found unstalled differs none)) in
       record { harvested = k.0; stand = k.1 }

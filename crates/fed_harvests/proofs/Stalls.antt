@@ -26,12 +26,11 @@ use Rattle.ring_laws.specs.Told.{Endpoint as Told}
 use Rattle.chained_transfers.specs.AsynchronousTurns.{AsynchronousTakesTurns}
 use Rattle.chained_transfers.specs.Turns.{turn_of, turn_in, IsNext, IsNotGone, AreReportedTo}
 use Rattle.chained_transfers.specs.Out.{out_of_transfer, out_of, out_now}
-use Rattle.chained_transfers.proofs.BulkAndControl.{moves_queued_of}
 use Rattle.chained_transfers.proofs.Harvested.{harvest_in_turn}
 use Rattle.chained_transfers.proofs.Harvesting.{waits_is}
 use Rattle.chained_transfers.proofs.Staying.{stands_fresh}
 use Rattle.chained_transfers.proofs.Turning.{AreInTurnOf}
-use Rattle.chained_transfers.proofs.Ways.{found_by}
+use Rattle.chained_transfers.proofs.Ways.{found_by, moves_queued}
 use Rattle.fed_queues.specs.Places.{AreStillOut}
 use Rattle.mended_heads.specs.Stalling.{IsStall}
 use Rattle.fed_lends.specs.Commands.{QueuesStand}
@@ -177,7 +176,7 @@ module _ (p : Parts) (e t : ℕ) (found : Found) (due : IsHarvestDue p e t found
   fresh = stands_fresh x (turns.asynchronous.endpoints e x due.here) due.goes_on
 
   read_is : found ≡ found_in y.sort (nat_le y.left 1) (note_at d.notes y.place) (token_in p.memory y.place)
-  read_is = due.tells ∙ found_by d p.memory y y.sort (moves_queued_of d y (turns.asynchronous.moves t y due.there))
+  read_is = due.tells ∙ found_by d p.memory y y.sort (moves_queued d y (turns.asynchronous.moves t y due.there))
 
   pub in_turn : AreInTurnOf (IsNotGone (slice_get d.endpoints)) f
   in_turn =

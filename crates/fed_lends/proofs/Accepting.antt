@@ -1,4 +1,4 @@
--- A get or put that was accepted is to be lent.
+-- A get, put or request that was accepted is to be lent.
 use Rattle.std.proofs.Common.{◌≡◌, ℕ, suc, ◌-◌, ◌≤◌, Bool, nat_eq, List, [], ◌∷◌, ◌++◌, length, take, drop, get_or, slice_get, Some, ap, refl, sym, subst, ◌∙◌, arith, length-append, None}
 use Rattle.std.specs.List.{AllByRecursion}
 use Rattle.word_mem.specs.Memory.{Mem, IsShaped}
@@ -17,12 +17,13 @@ use Rattle.lent_runs.specs.Lent.{AreLent}
 use Rattle.run_owners.proofs.Released.{set_here}
 use Rattle.lent_structures.proofs.Names.{not_same}
 use Rattle.chained_transfers.specs.Bulk.{sort_by}
-use Rattle.chained_transfers.proofs.Ways.{IsBy, its_pid_few, all_of_all, asked_by}
+use Rattle.chained_transfers.proofs.Ways.{asked_by}
 use Rattle.driver_laws.specs.Written.{AwaitsLend}
 use Rattle.driver_laws.proofs.TransferAccepting.{accepted_awaits_lend}
 use Rattle.driver_laws.proofs.Stays.{written_stays}
 use Rattle.fed_lends.specs.ToLend.{AreStagesBy, IsToBeLent}
-use Rattle.fed_lends.specs.Accepted.{AskedIsToBeLent, ToBeLentStays}
+use Rattle.fed_lends.specs.Accepted.{AskedIsToBeLent, RequestedIsToBeLent, ToBeLentStays}
+use Rattle.fed_lends.proofs.Stages.{by_data, requested_by, stages_pids}
 use Rattle.fed_lends.proofs.Fed.{one_command}
 
 -- ---- small facts
@@ -83,7 +84,7 @@ asked_stages d m o why (s ∷ ss) stages all sort some has lent stands shape =
     ∙ ap (λ (ps : List Stage). accepted_transfer d why.number x why.asked g (get_or (take (length ps) rs) (length ps - 1) 0) (note_stages d.notes ps x.dummy (take (length ps) rs) (drop (length ps) rs))) stages
     ∙ ap (λ (i : ℕ). accepted_transfer d why.number x why.asked g (get_or (take n rs) i 0) notes) (let e : suc (length ss) - 1 ≡ length ss = omega arith in e) in
     let way = x.desc.name.way in
-    let pids = subst (AllByRecursion (λ r. r.pid ≤ 2)) (sym stages) (all_of_all (IsBy way) (λ r. r.pid ≤ 2) (s ∷ ss) (its_pid_few way) all) in
+    let pids = subst (AllByRecursion (λ r. r.pid ≤ 2)) (sym stages) (stages_pids way (s ∷ ss) all) in
     let y = runs_of_transfer (new_transfer why.number why.asked x.dummy) in
     let z = runs_of_endpoint (with_queued x dummy (length d.transfers)) in
     let awaits = accepted_awaits_lend d m o why s ss stages pids has lent stands shape in
@@ -93,7 +94,12 @@ asked_stages d m o why (s ∷ ss) stages all sort some has lent stands shape =
 pub asked_is_to_be_lent : AskedIsToBeLent
 asked_is_to_be_lent d m o k has lent stands shape =
     let why = k.transfers in
-    asked_stages d m o why why.asked.stages refl (asked_by d m o k) (ap (λ (a : Asked). a.sort) k.asked) why.some has lent stands shape
+    asked_stages d m o why why.asked.stages refl (by_data why.endpoint.desc.name.way why.asked.stages k.way (asked_by d m o k)) (ap (λ (a : Asked). a.sort) k.asked) why.some has lent stands shape
+
+pub requested_is_to_be_lent : RequestedIsToBeLent
+requested_is_to_be_lent d m o k has lent stands shape =
+    let why = k.transfers in
+    asked_stages d m o why why.asked.stages refl (requested_by d m o k) (ap (λ (a : Asked). a.sort) k.asked ∙ ap sort_by (sym k.way)) why.some has lent stands shape
 
 pub to_be_lent_stays : ToBeLentStays
 to_be_lent_stays d m new b words k stands same = record {

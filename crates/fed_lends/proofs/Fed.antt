@@ -1,5 +1,5 @@
 -- Queues are fed once a transfer is lent.
-use Rattle.std.proofs.Common.{◌≡◌, ◌≢◌, ℕ, zero, suc, ◌-◌, ◌*◌, ◌<◌, ◌≤◌, ◌||◌, Bool, false, true, List, [], ◌∷◌, length, nat_eq, cond, slice_get, Option, Some, None, option_map, Ok, Result, ap, sym, subst, ◌∙◌, ⊎_elim, arith}
+use Rattle.std.proofs.Common.{◌≡◌, ◌≢◌, ℕ, zero, suc, ◌-◌, ◌*◌, ◌<◌, ◌≤◌, ◌||◌, false, true, List, [], ◌∷◌, length, nat_eq, cond, slice_get, Option, Some, None, option_map, Ok, Result, ap, sym, subst, ◌∙◌, ⊎_elim, arith}
 use Rattle.std.proofs.lemmas.Bool.{cases_eq, eq-eqb}
 use Rattle.std.proofs.lemmas.Option.{same_Some}
 use Rattle.word_mem.specs.Memory.{Mem, IsShaped}
@@ -7,8 +7,6 @@ use Rattle.link_words.specs.declared.refusal.Bad.{Bad}
 use Rattle.qh_qtd.specs.declared.qtd.Qtd.{Qtd}
 use Rattle.qh_qtd.specs.Qtd.{qtd_words, qtd_read, IsQtdInRange}
 use Rattle.qh_qtd.proofs.QtdLaws.{qtd_read-words}
-use Rattle.usb_base.specs.declared.packets.EpKind.{EpKind}
-use Rattle.usb_base.specs.declared.packets.EpKind.TheVariants as kinds
 use Rattle.run_book.specs.declared.slots.Slot.{Slot}
 use Rattle.run_book.specs.Book.{holding, slot_of, Stands}
 use Rattle.driver_rows.specs.declared.content.Endpoint.{Endpoint}
@@ -31,10 +29,10 @@ use Rattle.ring_laws.specs.Effects.{bytes_in, buffer_of}
 use Rattle.driver_laws.specs.Inventory.{IsLent}
 use Rattle.driver_laws.specs.Published.{partly, IsPublishable}
 use Rattle.chained_transfers.specs.Chains.{piece_at}
-use Rattle.chained_transfers.specs.Bulk.{OnlyBulk}
+use Rattle.chained_transfers.specs.Bulk.{sort_by}
+use Rattle.chained_transfers.specs.Asynchronous.{OnlyAsynchronous}
 use Rattle.chained_transfers.specs.Out.{unpublished}
-use Rattle.fed_queues.specs.Fed.{is_request, sized, IsPieceFed, unpublished_of, IsPublished, AreFed}
-use Rattle.fed_queues.proofs.Sized.{told_size, way_told}
+use Rattle.fed_queues.specs.Fed.{size_of, sized, IsPieceFed, unpublished_of, IsPublished, AreFed}
 use Rattle.driver_laws.specs.Pieces.{stage_qtd}
 use Rattle.driver_laws.specs.TransferLaws.{lent_driver, HasPieces}
 use Rattle.driver_laws.proofs.Lists.{IsOneOf}
@@ -44,9 +42,11 @@ use Rattle.driver_laws.proofs.Pieces.{last_stands}
 use Rattle.driver_laws.proofs.TransferLending.{lent_on_views}
 use Rattle.fed_lends.specs.ToLend.{IsToBeLent, lent_now}
 use Rattle.fed_lends.proofs.Reporting.{long_new}
-use Rattle.fed_lends.proofs.Feeding.{new_fed, end_is, stage_told}
+use Rattle.fed_lends.proofs.Stages.{stages_are}
+use Rattle.fed_lends.proofs.Feeding.{new_fed, end_is}
 use Rattle.fed_lends.proofs.Names.{older_published}
-use Rattle.chained_transfers.proofs.Staying.{alive}
+use Rattle.chained_transfers.proofs.BulkAndControl.{not_iso}
+use Rattle.chained_transfers.proofs.Staying.{stands_alive}
 
 -- ---- what holds when a transfer is lent
 
@@ -61,7 +61,7 @@ pub record IsLending (d : DriverContent) (m : Mem) (b : ℕ) (words : List ℕ) 
   pub has : HasOwners d
   pub stands : Stands (holding d.book m)
   pub shape : IsShaped m
-  pub bulk : OnlyBulk d
+  pub asynchronous : OnlyAsynchronous d
   pub fed : AreFed d parts
   pub pieces : HasPieces d (slot_of (lent_driver d m).book.slots) parts now (y_of ready) (x_of ready) ready.stage ready.further
 
@@ -88,22 +88,19 @@ still_fed d slot parts now y x s ss n b end sort note has p = record {
 
 -- ---- other endpoints
 
-standing_bare : (k : EpKind) (gone : Bool) → k ≡ kinds.Bulk → gone ≡ false → (is_iso k || gone) ≡ false
-standing_bare k gone bulk stays = ap (λ j. is_iso j || gone) bulk ∙ stays
-
-pub bare_is : (d : DriverContent) (e : ℕ) (x : Endpoint) → OnlyBulk d → slice_get d.endpoints e ≡ Some x → x.gone ≡ false → (is_iso x.desc.kind || x.gone) ≡ false
-bare_is d e x bulk here kept = let s = bulk.endpoints e x here in standing_bare x.desc.kind x.gone s.bulk.kind kept
+pub bare_is : (d : DriverContent) (e : ℕ) (x : Endpoint) → OnlyAsynchronous d → slice_get d.endpoints e ≡ Some x → x.gone ≡ false → (is_iso x.desc.kind || x.gone) ≡ false
+bare_is d e x only here kept = ap (λ b. b || x.gone) (not_iso x.desc (only.endpoints e x here).asynchronous) ∙ kept
 
 -- its own endpoint goes on
-pub its_alive : (d : DriverContent) (m : Mem) (b : ℕ) (words : List ℕ) → OnlyBulk d → (k : IsToBeLent d m b words) → k.endpoint.gone ≡ false
-its_alive d m b words bulk k = alive k.endpoint (bulk.endpoints k.transfer.endpoint k.endpoint k.here) k.going
+pub its_alive : (d : DriverContent) (m : Mem) (b : ℕ) (words : List ℕ) → OnlyAsynchronous d → (k : IsToBeLent d m b words) → k.endpoint.gone ≡ false
+its_alive d m b words only k = stands_alive k.endpoint (only.endpoints k.transfer.endpoint k.endpoint k.here) k.going
 
 -- what another endpoint has at the end of its queue was lent before
 pub other_lent : (d : DriverContent) (m : Mem) (b : ℕ) (words : List ℕ) (parts now : StructureSets) (e : ℕ) (x : Endpoint) → (l : IsLending d m b words parts now) → slice_get d.endpoints e ≡ Some x → x.gone ≡ false → e ≢ l.ready.transfer.endpoint → IsLent (slot_of (lent_driver d m).book.slots x.dummy) → IsLent (slot_of d.book.slots x.dummy)
 other_lent d m b words parts now e x l here kept differs lent =
     let k = l.ready in
     let on = lent_on_views d m k.number (y_of k) (x_of k) k.stage k.further k.awaits l.has l.stands l.shape in
-    let placed = l.has.owned.each.dummy e (runs_of_endpoint x) (ap (option_map runs_of_endpoint) here) (bare_is d e x l.bulk here kept) in
+    let placed = l.has.owned.each.dummy e (runs_of_endpoint x) (ap (option_map runs_of_endpoint) here) (bare_is d e x l.asynchronous here kept) in
     let none : IsOneOf x.dummy d.book.taken → ⊥ =
     not_taken (views_of d) (views_of (lent_driver d m)) l.has.owner k.number (y_of k) (x_of k) d.book.taken x.dummy (Dummy e) on placed (λ same. no_element k.number same) (λ same. differs (one_dummy k.transfer.endpoint same)) (λ same. no_buffer k.number same) in
     subst IsLent (on.others x.dummy none) lent
@@ -153,7 +150,7 @@ new_piece d m b words parts now (suc i) l from below =
     let end : piece_at (note_in d.notes) first k.transfer.qtds ≡ k.endpoint.dummy = ap (piece_at (note_in d.notes) first) many ∙ end_is d.notes (k.stage ∷ k.further) first ∙ r.ends in
     let block = piece_at (note_in d.notes) (note_at d.notes first).next i in
     subst (λ (sort : Sort). IsPieceFed sort (now (32 * k.endpoint.queue)) (note_at d.notes block) block (piece_at (note_in d.notes) first k.transfer.qtds)) (sym k.sort)
-    (new_fed k.endpoint.desc.name.way (holding d.book m) (now (32 * k.endpoint.queue)) d.notes k.endpoint.dummy k.further (note_at d.notes first).next (piece_at (note_in d.notes) first k.transfer.qtds) i l.stands r.noted.1 k.stages.1 r.short.1 l.pieces.standing l.pieces.buffered.1 l.pieces.none_at_zero end
+    (new_fed (sort_by k.endpoint.desc.name.way) (holding d.book m) (now (32 * k.endpoint.queue)) d.notes k.endpoint.dummy k.further (note_at d.notes first).next (piece_at (note_in d.notes) first k.transfer.qtds) i l.stands r.noted.1 (stages_are k.endpoint.desc.name.way (k.stage ∷ k.further) k.stages).1 r.short.1 l.pieces.standing l.pieces.buffered.1 l.pieces.none_at_zero end
     (omega (arith, below, many)))
 
 pieces_fed : (d : DriverContent) (m : Mem) (b : ℕ) (words : List ℕ) (parts now : StructureSets) → IsLending d m b words parts now → (t i : ℕ) (y : Transfer) (x : Endpoint) → slice_get d.transfers t ≡ Some y → y.released ≡ false → slice_get d.endpoints y.endpoint ≡ Some x → unpublished_of (lent_now d m) t y ≤ i → i < y.qtds
@@ -212,10 +209,11 @@ first_fed d m b words parts now l c ws command =
     let range = qtd_range k.stage (note_at d.notes first).next k.endpoint.dummy (note_at d.notes first).buffer (is_last k.further) r.pids.0 r.short.0 (blocks_low (holding d.book m) (note_at d.notes first) k.stage l.stands l.shape r.noted.0) in
     let is : p.qtd ≡ q = one_qtd p.qtd q p.range range (sym p.are ∙ both.1 ∙ k.are) in
     let none : d.made - 1 ≡ 0 = let e = k.made in omega (arith, e) in
-    let plain : is_request p.transfer.sort ≡ false = ap (λ (y : Transfer). is_request y.sort) transfer ∙ ap is_request k.sort ∙ way_told k.endpoint.desc.name.way in
-    let told = stage_told (slot_of d.book.slots) k.endpoint.desc.name.way (note_at d.notes first) k.stage r.noted.0 k.stages.0 in
-    let long : length (buffer_of (now n) q) ≡ (note_at d.notes first).told =
-    long_new (slot_of d.book.slots) (now n) d.notes k.stage first k.endpoint.dummy (is_last k.further) r.noted.0 l.pieces.buffered.0 l.pieces.none_at_zero ∙ sym told in
+    let way = k.endpoint.desc.name.way in
+    let sort : p.transfer.sort ≡ sort_by way = ap (λ (y : Transfer). y.sort) transfer ∙ k.sort in
+    let size : size_of (sort_by way) 0 (note_at d.notes first).told ≡ k.stage.long = ap (size_of (sort_by way) 0) r.noted.0.told ∙ (stages_are way (k.stage ∷ k.further) k.stages).0.size in
+    let long : length (buffer_of (now n) q) ≡ size_of (sort_by way) 0 (note_at d.notes first).told =
+    long_new (slot_of d.book.slots) (now n) d.notes k.stage first k.endpoint.dummy (is_last k.further) r.noted.0 l.pieces.buffered.0 l.pieces.none_at_zero ∙ sym size in
     record {
       number = p.number;
       transfer = p.transfer;
@@ -238,8 +236,8 @@ first_fed d m b words parts now l c ws command =
       blank = p.blank;
       few = omega arith;
       long = λ some.
-          ap (λ (x : Endpoint). length (buffer_of (now (32 * x.queue)) p.qtd)) endpoint ∙ ap (λ (t : Qtd). length (buffer_of (now n) t)) is ∙ long ∙ ap (λ (i : ℕ). (note_at d.notes i).told) (sym block)
-          ∙ sym (told_size p.transfer.sort 0 (note_at d.notes c).told plain);
+          ap (λ (x : Endpoint). length (buffer_of (now (32 * x.queue)) p.qtd)) endpoint ∙ ap (λ (t : Qtd). length (buffer_of (now n) t)) is ∙ long
+          ∙ ap (λ (i : ℕ). size_of (sort_by way) 0 (note_at d.notes i).told) (sym block) ∙ ap (λ (s : Sort). size_of s 0 (note_at d.notes c).told) (sym sort);
       may = λ some.
           subst (λ (x : Endpoint). IsPublishable (now (32 * x.queue)) (32 * c) p.qtd) (sym endpoint)
           (subst (λ (i : ℕ). IsPublishable (now n) (32 * i) p.qtd) (sym block) (subst (IsPublishable (now n) (32 * first)) (sym is) l.pieces.first));

@@ -1,15 +1,15 @@
 -- Each new qTD is fed.
 use Rattle.std.proofs.Common.{◌≡◌, ℕ, zero, suc, ◌+◌, ◌*◌, ◌/◌, ◌%◌, ◌<◌, ◌≤◌, Bool, List, [], ◌∷◌, length, take, get_or, replicate, Some, ap, refl, sym, subst, ◌∙◌, ⊎_elim, inl, inr, arith}
+use Rattle.std.specs.List.{AllByRecursion}
 use Rattle.std.proofs.lemmas.List.{length-replicate}
 use Rattle.buffers.specs.Bytes.{place}
 use Rattle.run_book.specs.declared.slots.Slot.{Slot}
 use Rattle.run_book.specs.Book.{Holding, slot_of, Stands}
 use Rattle.run_book.proofs.Standing.{keeps_at}
 use Rattle.driver_rows.specs.declared.content.QtdNote.{QtdNote}
+use Rattle.driver_rows.specs.declared.content.Sort.{Sort}
 use Rattle.driver_rows.specs.declared.content.Stage.{Stage}
-use Rattle.usb_base.specs.declared.packets.Way.{Way}
-use Rattle.usb_base.specs.declared.packets.Way.TheVariants as ways
-use Rattle.driver_rows.specs.Words.{pieces, buffer_needs, to_qtd, alternate_link}
+use Rattle.driver_rows.specs.Words.{pieces, buffer_needs, alternate_link}
 use Rattle.driver_rows.specs.Harvests.{note_at, buffer_address}
 use Rattle.driver_rows.specs.Offers.{is_last}
 use Rattle.run_owners.specs.Owners.{note_in}
@@ -17,14 +17,12 @@ use Rattle.run_owners.specs.Accepts.{AreShort}
 use Rattle.lent_structures.specs.Structures.{Element, Buffer, Structures}
 use Rattle.lent_structures.specs.Sound.{HasBuffer}
 use Rattle.chained_transfers.specs.Chains.{piece_at}
-use Rattle.chained_transfers.specs.Bulk.{sort_by, stage_by}
-use Rattle.chained_transfers.proofs.Ways.{IsBy, its_told}
 use Rattle.fed_queues.specs.Fed.{IsAlternate, IsNotedQtd, IsPieceFed}
 use Rattle.driver_laws.specs.Written.{AreRuns, next_blocks, last_block, IsStageNoted, AreNoted}
 use Rattle.driver_laws.specs.Pieces.{stage_qtd, AreStanding, AreBuffered}
 use Rattle.driver_laws.proofs.Lists.{IsOneOf}
 use Rattle.driver_laws.proofs.Buffers.{take_same, runs_at, needs_case, pages_from}
-use Rattle.fed_lends.specs.ToLend.{AreStagesBy}
+use Rattle.fed_lends.proofs.Stages.{LeadsAs, IsLater}
 use Rattle.fed_lends.proofs.Reporting.{long_new}
 
 -- ---- where its bytes stand
@@ -106,9 +104,6 @@ later_block notes (s ∷ ss) b (suc i) below = inr (later_block notes ss (note_a
 
 -- ---- one qTD
 
-pub stage_told : (slot : ℕ → Slot) (way : Way) (note : QtdNote) (s : Stage) → IsStageNoted slot note s → IsBy way s → note.told ≡ s.long
-stage_told slot way note s noted is = noted.told ∙ its_told way s is
-
 -- one of no bytes has no buffer
 pub noted_blank : (slot : ℕ → Slot) (note : QtdNote) (s : Stage) → IsStageNoted slot note s → s.long ≡ 0 → get_or note.buffer 0 0 ≡ 0
 noted_blank slot note s noted none =
@@ -123,16 +118,10 @@ noted_blank slot note s noted none =
     first_none (suc n) [] is rest = refl
     first_none (suc n) (x ∷ xs) is rest = absurd cc
 
--- a short packet leads a get to the end, and a put has none
-stage_alternate : (way : Way) (n next dummy end : ℕ) → end ≡ dummy → IsAlternate (sort_by way) (alternate_link (stage_by way n).alternate next dummy) next end
-stage_alternate ways.In n next dummy end at = ap to_qtd (sym at)
-stage_alternate ways.Out n next dummy end at = refl
-stage_alternate ways.Ctl n next dummy end at = ap to_qtd (sym at)
-
-pub stage_noted : (way : Way) (notes : List QtdNote) (s : Stage) (b dummy end : ℕ) (last : Bool) → IsBy way s → end ≡ dummy → IsNotedQtd (sort_by way) (stage_qtd notes s b dummy last) (note_at notes b) end
-stage_noted way notes s b dummy end last is at = record {
+pub stage_noted : (sort : Sort) (notes : List QtdNote) (s : Stage) (b dummy end : ℕ) (last : Bool) → LeadsAs sort s → end ≡ dummy → IsNotedQtd sort (stage_qtd notes s b dummy last) (note_at notes b) end
+stage_noted sort notes s b dummy end last leads at = record {
   next = refl;
-  alternate = subst (λ (r : Stage). IsAlternate (sort_by way) (alternate_link r.alternate (note_at notes b).next dummy) (note_at notes b).next end) (sym is) (stage_alternate way s.long (note_at notes b).next dummy end at);
+  alternate = subst (IsAlternate sort (alternate_link s.alternate (note_at notes b).next dummy) (note_at notes b).next) (sym at) (leads (note_at notes b).next dummy);
   offset = refl;
   page0 = refl;
   page1 = refl;
@@ -144,15 +133,15 @@ stage_noted way notes s b dummy end last is at = record {
 abbrev pub NoneAtZero : Structures → Type 0
 NoneAtZero part = (pages : List ℕ) (k : ℕ) (bs : List ℕ) → part 0 ≡ Some (Buffer pages k bs) → ⊥
 
-stage_fed : (way : Way) (h : Holding) (part : Structures) (notes : List QtdNote) (s : Stage) (b dummy end : ℕ) (last : Bool) → Stands h → IsStageNoted (slot_of h.book.slots) (note_at notes b) s → IsBy way s → s.long ≤ 20480 → part (32 * b) ≡ Some (Element (stage_qtd notes s b dummy last)) → (0 < s.long → HasBuffer part (stage_qtd notes s b dummy last) s.long) → NoneAtZero part → end ≡ dummy
-    → IsPieceFed (sort_by way) part (note_at notes b) b end
-stage_fed way h part notes s b dummy end last stands noted is short here has none at =
+stage_fed : (sort : Sort) (h : Holding) (part : Structures) (notes : List QtdNote) (s : Stage) (b dummy end : ℕ) (last : Bool) → Stands h → IsStageNoted (slot_of h.book.slots) (note_at notes b) s → IsLater sort s → s.long ≤ 20480 → part (32 * b) ≡ Some (Element (stage_qtd notes s b dummy last)) → (0 < s.long → HasBuffer part (stage_qtd notes s b dummy last) s.long) → NoneAtZero part → end ≡ dummy
+    → IsPieceFed sort part (note_at notes b) b end
+stage_fed sort h part notes s b dummy end last stands noted is short here has none at =
     let slot = slot_of h.book.slots in
-    let told = stage_told slot way (note_at notes b) s noted is in
+    let told : (note_at notes b).told ≡ s.long = noted.told ∙ is.told in
     record {
       qtd = stage_qtd notes s b dummy last;
       here = here;
-      noted = stage_noted way notes s b dummy end last is at;
+      noted = stage_noted sort notes s b dummy end last is.leads at;
       buffer = λ some. subst (HasBuffer part (stage_qtd notes s b dummy last)) (sym told) (has (omega (arith, some, told)));
       long = long_new slot part notes s b dummy last noted has none ∙ sym told;
       places = λ j below. places_new h (note_at notes b) s j stands noted short (omega (arith, below, told));
@@ -162,9 +151,9 @@ stage_fed way h part notes s b dummy end last stands noted is short here has non
 
 -- ---- all of them
 
-pub new_fed : (way : Way) (h : Holding) (part : Structures) (notes : List QtdNote) (dummy : ℕ) (ss : List Stage) (b end i : ℕ) → Stands h → AreNoted (slot_of h.book.slots) notes ss b → AreStagesBy way ss → AreShort ss → AreStanding part notes dummy ss b → AreBuffered part notes dummy ss b → NoneAtZero part → end ≡ dummy → i < length ss
-    → IsPieceFed (sort_by way) part (note_at notes (piece_at (note_in notes) b i)) (piece_at (note_in notes) b i) end
-new_fed way h part notes dummy [] b end i stands noted by short stand buffered none at below = absurd (omega (arith, below))
-new_fed way h part notes dummy (s ∷ ss) b end zero stands noted by short stand buffered none at below = stage_fed way h part notes s b dummy end (is_last ss) stands noted.0 by.0 short.0 stand.0 buffered.0 none at
-new_fed way h part notes dummy (s ∷ ss) b end (suc i) stands noted by short stand buffered none at below =
-    new_fed way h part notes dummy ss (note_at notes b).next end i stands noted.1 by.1 short.1 stand.1 buffered.1 none at (omega (arith, below))
+pub new_fed : (sort : Sort) (h : Holding) (part : Structures) (notes : List QtdNote) (dummy : ℕ) (ss : List Stage) (b end i : ℕ) → Stands h → AreNoted (slot_of h.book.slots) notes ss b → AllByRecursion (IsLater sort) ss → AreShort ss → AreStanding part notes dummy ss b → AreBuffered part notes dummy ss b → NoneAtZero part → end ≡ dummy → i < length ss
+    → IsPieceFed sort part (note_at notes (piece_at (note_in notes) b i)) (piece_at (note_in notes) b i) end
+new_fed sort h part notes dummy [] b end i stands noted by short stand buffered none at below = absurd (omega (arith, below))
+new_fed sort h part notes dummy (s ∷ ss) b end zero stands noted by short stand buffered none at below = stage_fed sort h part notes s b dummy end (is_last ss) stands noted.0 by.0 short.0 stand.0 buffered.0 none at
+new_fed sort h part notes dummy (s ∷ ss) b end (suc i) stands noted by short stand buffered none at below =
+    new_fed sort h part notes dummy ss (note_at notes b).next end i stands noted.1 by.1 short.1 stand.1 buffered.1 none at (omega (arith, below))

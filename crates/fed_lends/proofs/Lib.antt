@@ -1,6 +1,7 @@
 pub mod Numbering
 pub mod Reporting
 pub mod Piping
+pub mod Stages
 pub mod Feeding
 pub mod Outs
 pub mod Names

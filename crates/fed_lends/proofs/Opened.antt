@@ -22,6 +22,7 @@ use Rattle.ring_laws.specs.Told.{Endpoint as Told}
 use Rattle.chained_transfers.specs.Out.{unpublished}
 use Rattle.fed_queues.specs.Places.{IsMet, HasHead, IsThere}
 use Rattle.fed_lends.specs.Commands.{QueuesStand, OpenStands}
+use Rattle.fed_lends.proofs.Fed.{bare_is}
 use Rattle.fed_lends.proofs.Asked.{push_which, same_unpublished, out_idle}
 
 push_there : {X : Type 0} (xs : List X) (x : X) (n : ℕ) (z : X) → slice_get xs n ≡ Some z → slice_get (xs ++ x ∷ []) n ≡ Some z
@@ -112,15 +113,14 @@ opened d desc g q dummy member streams ends parts order out k old = record {
         (push_which d.endpoints (new_endpoint desc q dummy) y.endpoint z here)
 
 pub open_stands : OpenStands
-open_stands d m o member streams ends parts order out why stands shape owners owners_now lent turns old =
-    let w = why.opens in
+open_stands d m o member streams ends parts order out w stands shape owners owners_now lent turns old =
     let g = w.holding_after in
     let all = runs_taken (holding d.book m) g (2 ∷ 1 ∷ []) stands w.runs in
     let rs = all.blocks in
     let two : length rs ≡ 2 = all.are.long in
     let new : new_runs d g ≡ rs = ap (drop (length d.book.taken)) all.are.taken ∙ drop_first d.book.taken rs in
     let bare : (i : ℕ) (z : Endpoint) → slice_get d.endpoints i ≡ Some z → z.gone ≡ false → is_iso z.desc.kind || z.gone ≡ false =
-    λ i z there kept. let s = turns.bulk.endpoints i z there in ap (λ k. is_iso k || z.gone) s.bulk.kind ∙ kept in
+    λ i z there kept. bare_is d i z turns.asynchronous there kept in
     let now : QueuesStand (accepted_open d w.desc g (get_or rs 0 0) (get_or rs 1 0)).driver member streams ends parts order out =
     opened d w.desc g (get_or rs 0 0) (get_or rs 1 0) member streams ends parts order out
     (record {

@@ -1,5 +1,5 @@
 -- The order of the queues' qTDs, and what is out of each, once a transfer is lent.
-use Rattle.std.proofs.Common.{◌≡◌, ◌≢◌, ℕ, zero, suc, ◌+◌, ◌*◌, ◌<◌, Bool, List, [], ◌∷◌, ◌++◌, length, take, drop, slice_get, Option, Some, None, option_map, if◌then◌else◌, ap, refl, sym, subst, ◌∙◌, arith, false}
+use Rattle.std.proofs.Common.{◌≡◌, ◌≢◌, ℕ, zero, suc, ◌+◌, ◌-◌, ◌*◌, ◌<◌, Bool, List, [], ◌∷◌, ◌++◌, length, take, drop, slice_get, Option, Some, None, option_map, if◌then◌else◌, ap, refl, sym, subst, ◌∙◌, arith, false}
 use Rattle.std.proofs.lemmas.Bool.{eq-eqb}
 use Rattle.std.proofs.lemmas.List.{append-nil, length-take-le}
 use Rattle.word_mem.specs.Memory.{Mem}
@@ -13,12 +13,15 @@ use Rattle.run_owners.specs.Owners.{QueueHead, Element as ElementOwner, ArePiece
 use Rattle.lent_structures.specs.Structures.{StructureSets}
 use Rattle.lent_structures.proofs.Names.{not_same}
 use Rattle.ring_laws.specs.Order.{IsAmong}
+use Rattle.chained_transfers.specs.Chains.{piece_at}
 use Rattle.chained_transfers.specs.Turns.{AreInTurn}
 use Rattle.chained_transfers.specs.Out.{pieces_from, unpublished, out_of, out_now, out_all}
 use Rattle.fed_lends.specs.Numbers.{at_queue}
 use Rattle.fed_lends.specs.Streams.{new_out}
 use Rattle.fed_lends.specs.ToLend.{IsToBeLent, lent_now}
-use Rattle.fed_lends.proofs.Outs.{last_apart, out_apart, drop_all, its_out, not_its_out, IsOwnedTransfer, out_owner}
+use Rattle.fed_lends.proofs.Outs.{last_apart, out_apart, drop_all, its_out, not_its_out, piece_add, IsOwnedTransfer, out_owner, out_qtd}
+use Rattle.fed_lends.proofs.Reporting.{StandsAt}
+use Rattle.fed_lends.proofs.Names.{older_published}
 use Rattle.fed_lends.proofs.Fed.{y_of, IsLending, bare_is, its_alive}
 
 -- ---- at one queue
@@ -34,8 +37,8 @@ at_else f n y i differs = ap (λ (t : Bool). if t then y else f i) (not_same i n
 pub queue_apart : (d : DriverContent) (m : Mem) (b : ℕ) (words : List ℕ) (parts now : StructureSets) (e : ℕ) (x : Endpoint) → (l : IsLending d m b words parts now) → slice_get d.endpoints e ≡ Some x → x.gone ≡ false → e ≢ l.ready.transfer.endpoint → 32 * x.queue ≢ 32 * l.ready.endpoint.queue
 queue_apart d m b words parts now e x l here kept differs same =
     let k = l.ready in
-    let one = (l.has.owned.each.queue e (runs_of_endpoint x) (ap (option_map runs_of_endpoint) here) (bare_is d e x l.bulk here kept)).owned in
-    let two = (l.has.owned.each.queue k.transfer.endpoint (runs_of_endpoint k.endpoint) (ap (option_map runs_of_endpoint) k.here) (bare_is d k.transfer.endpoint k.endpoint l.bulk k.here (its_alive d m b words l.bulk k))).owned in
+    let one = (l.has.owned.each.queue e (runs_of_endpoint x) (ap (option_map runs_of_endpoint) here) (bare_is d e x l.asynchronous here kept)).owned in
+    let two = (l.has.owned.each.queue k.transfer.endpoint (runs_of_endpoint k.endpoint) (ap (option_map runs_of_endpoint) k.here) (bare_is d k.transfer.endpoint k.endpoint l.asynchronous k.here (its_alive d m b words l.asynchronous k))).owned in
     differs (one_queue (sym one ∙ ap l.has.owner (let f : x.queue ≡ k.endpoint.queue = omega (arith, same) in f) ∙ two))
   where
     one_queue : {f : ℕ} → QueueHead e ≡ QueueHead f → e ≡ f
@@ -102,6 +105,28 @@ taken_older [] (suc n) i y there = absurd (cc)
 taken_older (z ∷ ts) zero i y there = absurd (cc)
 taken_older (z ∷ ts) (suc n) zero y there = (omega arith, there)
 taken_older (z ∷ ts) (suc n) (suc i) y there = let r = taken_older ts n i y there in let l = r.0 in (omega (arith, l), r.1)
+
+-- each qTD that is out of the older transfers stands
+pub early_stands : (d : DriverContent) (m : Mem) (b : ℕ) (words : List ℕ) (parts now : StructureSets) → (l : IsLending d m b words parts now) → AreInTurn d → (a : ℕ)
+    → IsAmong a (early d l.ready.number l.ready.transfer.endpoint) → StandsAt (parts (32 * l.ready.endpoint.queue)) a
+unfolding early
+early_stands d m b words parts now l turns a among =
+    let k = l.ready in
+    let n = 32 * k.endpoint.queue in
+    let note = note_in d.notes in
+    let o = out_qtd note k.transfer.endpoint (older d k.number) a among in
+    let y = o.transfer in
+    let was = taken_older d.transfers k.number o.number y o.there in
+    let at = turns.places o.number y was.1 o.held in
+    let i = y.qtds - y.left + o.piece.number in
+    let below = o.piece.below in
+    let most = at.most in
+    let low = was.0 in
+    let none = older_published d m b o.number words y k (λ same. omega (arith, low, same)) in
+    let fed = l.fed.pieces o.number i y k.endpoint was.1 o.held (ap (slice_get d.endpoints) o.owner ∙ k.here) (omega (arith, none)) (omega (arith, below, most)) in
+    let is : a ≡ 32 * piece_at note y.first i =
+    o.piece.at ∙ ap (λ (c : ℕ). 32 * piece_at note c o.piece.number) at.place ∙ ap (λ (c : ℕ). 32 * c) (piece_add note y.first (y.qtds - y.left) o.piece.number) in
+    record { qtd = fed.qtd; here = ap (parts n) is ∙ fed.here }
 
 pub early_owner : (d : DriverContent) (m : Mem) (b : ℕ) (words : List ℕ) (parts now : StructureSets) → (l : IsLending d m b words parts now) → AreInTurn d → IsAmong (32 * l.ready.transfer.first) (early d l.ready.number l.ready.transfer.endpoint) → ⊥
 unfolding early

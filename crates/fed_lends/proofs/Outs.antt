@@ -1,6 +1,6 @@
 -- What is out of the driver's transfers, the newest aside.
 use Rattle.std.proofs.Common.{◌≡◌, ◌≢◌, ℕ, zero, suc, ◌+◌, ◌-◌, ◌*◌, ◌<◌, ◌≤◌, ◌⊎◌, ◌==◌, Bool, true, false, not, ◌&&◌, cond, List, [], ◌∷◌, ◌++◌, length, take, drop, slice_get, Option, Some, None, ap, refl, sym, subst, ◌∙◌, ⊎_elim, inl, inr, arith, append_assoc}
-use Rattle.std.proofs.lemmas.Bool.{eq-eqb}
+use Rattle.std.proofs.lemmas.Bool.{eq-eqb, eqb-true}
 use Rattle.std.proofs.lemmas.List.{append-nil}
 use Rattle.std.proofs.lemmas.Option.{same_Some}
 use Rattle.run_book.specs.declared.slots.Slot.{Slot}
@@ -126,4 +126,33 @@ out_owner slot owner note e (y ∷ ts) k a each among =
     (λ (rest : IsAmong a (out_of note e None 0 ts)).
     let r = out_owner slot owner note e ts (suc k) a (λ i z there held. subst (λ (j : ℕ). IsOwnedTransfer slot owner note j z) (let f : k + suc i ≡ suc k + i = omega arith in f) (each (suc i) z there held)) rest in
     record { block = r.block; at = r.at; transfer = r.transfer; below = let b = r.below in omega (arith, b); owned = r.owned })
+    (among_either a (out_of_transfer note e (if_last ts 0) y) (out_of note e None 0 ts) among)
+
+-- a qTD of a transfer of this endpoint that wasn't given back
+pub record IsQtdOf (note : ℕ → NoteRuns) (e : ℕ) (ts : List Transfer) (a : ℕ) : Type 0 where
+  pub number : ℕ
+  pub transfer : Transfer
+  pub there : slice_get ts number ≡ Some transfer
+  pub held : transfer.released ≡ false
+  pub owner : transfer.endpoint ≡ e
+  pub piece : IsPieceNumber note transfer.place transfer.left a
+
+pub out_qtd : (note : ℕ → NoteRuns) (e : ℕ) (ts : List Transfer) (a : ℕ) → IsAmong a (out_of note e None 0 ts) → IsQtdOf note e ts a
+out_qtd note e [] a among = absurd among
+out_qtd note e (y ∷ ts) a among =
+    ⊎_elim
+    (λ (mine : IsAmong a (out_of_transfer note e (if_last ts 0) y)).
+    let c = among_cond (y.endpoint == e && not y.released) (drop (if_last ts 0 + cond y.reported 1 0) (pieces_from note y.place y.left)) a mine in
+    let both = and_parts (y.endpoint == e) y.released c.0 in
+    record {
+      number = 0;
+      transfer = y;
+      there = refl;
+      held = both.1;
+      owner = eqb-true y.endpoint e both.0;
+      piece = among_pieces note y.place y.left a (among_drop (if_last ts 0 + cond y.reported 1 0) (pieces_from note y.place y.left) a c.1);
+    })
+    (λ (rest : IsAmong a (out_of note e None 0 ts)).
+    let r = out_qtd note e ts a rest in
+    record { number = suc r.number; transfer = r.transfer; there = r.there; held = r.held; owner = r.owner; piece = r.piece })
     (among_either a (out_of_transfer note e (if_last ts 0) y) (out_of note e None 0 ts) among)

@@ -52,7 +52,7 @@ lend_leaves_pipes sender d m t y x s ss slot parts now stream packets member str
       ⊎_elim (λ (no : stream (ends n).addr (ends n).ep ≡ false). inl no) (λ (none : IsNotIn (parts n)). inr (subst IsNotIn (sym (has.beside n differs)) none)) was.1,
     ))
     piped
-lend_leaves_pipes sender d m t y x s ss slot parts now stream packets member streams ends acc hand wire r has (inr outs) piped =
+lend_leaves_pipes sender d m t y x s ss slot parts now stream packets member streams ends acc hand wire r has (inr (inl outs)) piped =
     spared_pipes sender stream packets member member streams ends acc hand hand parts now wire (same_hand hand) (λ n there. spares_heads d y x s ss slot parts now n has)
     (λ n there.
     let differs : n ≢ 32 * x.queue = λ same. true≢false (sym there ∙ ap streams same ∙ outs.0) in
@@ -62,5 +62,19 @@ lend_leaves_pipes sender d m t y x s ss slot parts now stream packets member str
       spared_endpoint parts now n (ends n) (spares_heads d y x s ss slot parts now n has) was.0,
       ⊎_elim (λ (no : stream (ends n).addr (ends n).ep ≡ false). inl no)
           (λ (none : IsNotIn (parts n)). inr (still_ask (λ p. p ≢ 1) d y x s ss slot parts now n outs.1.1 has none)) was.1,
+    ))
+    piped
+lend_leaves_pipes sender d m t y x s ss slot parts now stream packets member streams ends acc hand wire r has (inr (inr none)) piped =
+    spared_pipes sender stream packets member member streams ends acc hand hand parts now wire (same_hand hand) (λ n there. spares_heads d y x s ss slot parts now n has)
+    (λ n there.
+    let differs : n ≢ 32 * x.queue = λ same. true≢false (sym there ∙ ap streams same ∙ none.0) in
+    subst IsIn (sym (has.beside n differs)) (piped.pipes n there).ins)
+    (λ n there off.
+    let was = piped.others n there off in (
+      spared_endpoint parts now n (ends n) (spares_heads d y x s ss slot parts now n has) was.0,
+      ⊎_elim (λ (no : stream (ends n).addr (ends n).ep ≡ false). inl no)
+          (λ (quiet : IsNotIn (parts n)).
+          ⊎_elim (λ (same : n ≡ 32 * x.queue). inl (ap (λ (i : ℕ). stream (ends i).addr (ends i).ep) same ∙ none.1))
+          (λ (differs : n ≢ 32 * x.queue). inr (subst IsNotIn (sym (has.beside n differs)) quiet)) (cases_eq n (32 * x.queue))) was.1,
     ))
     piped

@@ -1,4 +1,4 @@
--- An accepted get or put, told by its stages.
+-- An accepted get, put or request, told by its stages.
 use Rattle.std.proofs.Common.{◌≡◌, ℕ, suc, ◌-◌, ◌*◌, ◌≤◌, Bool, nat_eq, List, [], ◌∷◌, ◌++◌, length, take, get_or, slice_get, Option, Some, ap, sym, subst, ◌∙◌, refl, arith, None}
 use Rattle.std.specs.List.{AllByRecursion}
 use Rattle.usb_base.specs.declared.packets.Way.{Way}
@@ -31,15 +31,15 @@ use Rattle.driver_laws.proofs.TransferAccepting.{accepted_awaits_lend}
 use Rattle.driver_laws.proofs.Holding.{qtd_range, blocks_low}
 use Rattle.ring_laws.specs.Told.{Endpoint as Told}
 use Rattle.chained_transfers.specs.Bulk.{sort_by}
-use Rattle.chained_transfers.specs.InTurn.{TakesTurns}
+use Rattle.chained_transfers.specs.AsynchronousTurns.{AsynchronousTakesTurns}
 use Rattle.chained_transfers.specs.Chains.{piece_at}
-use Rattle.chained_transfers.proofs.BulkAndControl.{only_asynchronous}
-use Rattle.chained_transfers.proofs.Ways.{IsBy, its_told, its_pid, asked_by, asked_pids}
+use Rattle.chained_transfers.proofs.Ways.{asked_by}
 use Rattle.chained_transfers.proofs.Chained.{pushed_last}
-use Rattle.fed_queues.specs.Fed.{is_request, size_of, IsNotedQtd, IsPublished}
-use Rattle.fed_queues.proofs.Sized.{told_size, way_told}
+use Rattle.fed_queues.specs.Fed.{size_of, IsNotedQtd, IsPublished}
+use Rattle.fed_lends.specs.ToLend.{AreStagesBy}
+use Rattle.fed_lends.proofs.Stages.{LeadsAs, IsFirst, by_data, requested_by, stages_are, stages_pids}
 use Rattle.fed_lends.proofs.Feeding.{places_new, stage_noted, noted_blank}
-use Rattle.fed_lends.specs.Commands.{QueuesStand, AskedStands}
+use Rattle.fed_lends.specs.Commands.{QueuesStand, AskedStands, RequestedStands}
 use Rattle.fed_lends.proofs.Asked.{dummy_in, notes_in, taken_on, taken_stands}
 
 -- ---- the stages
@@ -48,12 +48,12 @@ record HasStages (way : Way) (ss : List Stage) : Type 0 where
   first : Stage
   rest : List Stage
   are : ss ≡ first ∷ rest
-  stage : IsBy way first
+  stage : IsFirst way first
   pids : AllByRecursion (λ (r : Stage). r.pid ≤ 2) (first ∷ rest)
 
-some_stages : (way : Way) (ss : List Stage) → 1 ≤ length ss → AllByRecursion (IsBy way) ss → AllByRecursion (λ (r : Stage). r.pid ≤ 2) ss → HasStages way ss
-some_stages way [] some all pids = absurd (omega arith)
-some_stages way (s ∷ ss) some all pids = record { first = s; rest = ss; are = refl; stage = all.0; pids = pids }
+some_stages : (way : Way) (ss : List Stage) → 1 ≤ length ss → AreStagesBy way ss → HasStages way ss
+some_stages way [] some all = absurd (omega arith)
+some_stages way (s ∷ ss) some all = record { first = s; rest = ss; are = refl; stage = (stages_are way (s ∷ ss) all).0; pids = stages_pids way (s ∷ ss) all }
 
 -- ---- its last block
 
@@ -87,9 +87,7 @@ published d m e x a h dummy notes parts k words sort here going stands shape r i
     let qtd = new_qtd (first_of a.stages) note.next dummy note.buffer last in
     let way = x.desc.name.way in
     let all : first_of a.stages ≡ k.first = ap first_of k.are in
-    let first : IsBy way (first_of a.stages) = subst (IsBy way) (sym all) k.stage in
-    let told : k.first.told ≡ k.first.long = its_told way k.first k.stage in
-    let all_told : size_of a.sort 0 note.told ≡ note.told = told_size a.sort 0 note.told (ap is_request sort ∙ way_told way) in
+    let size : size_of a.sort 0 note.told ≡ k.first.long = ap (λ (c : Sort). size_of c 0 note.told) sort ∙ ap (size_of (sort_by way) 0) r.noted.0.told ∙ k.stage.size in
     let end : piece_at (note_in notes) b (length a.stages) ≡ dummy = ap (λ ss. piece_at (note_in notes) b (length ss)) k.are ∙ piece_last notes (k.first ∷ k.rest) b ∙ r.ends in
     record {
       number = length d.transfers;
@@ -106,15 +104,14 @@ published d m e x a h dummy notes parts k words sort here going stands shape r i
       range = qtd_range (first_of a.stages) note.next dummy note.buffer last (subst (λ (s : Stage). s.pid ≤ 2) (sym all) k.pids.0) (subst (λ (s : Stage). s.long ≤ 20480) (sym all) r.short.0)
           (blocks_low (holding f.book (accepted_transfer d e x a h dummy notes).memory) note k.first stands shape r.noted.0);
       noted = subst (λ (c : Sort). IsNotedQtd c qtd note (piece_at (note_in notes) b (length a.stages))) (sym sort)
-          (stage_noted way notes (first_of a.stages) b dummy (piece_at (note_in notes) b (length a.stages)) last first end);
+          (stage_noted (sort_by way) notes (first_of a.stages) b dummy (piece_at (note_in notes) b (length a.stages)) last (subst (LeadsAs (sort_by way)) (sym all) k.stage.leads) end);
       active = refl;
-      pid = its_pid way (first_of a.stages) first;
-      total = ap (λ (s : Stage). s.long) all ∙ sym told ∙ sym r.noted.0.told ∙ sym all_told;
+      pid = ap (λ (s : Stage). s.pid) all ∙ k.stage.pid;
+      total = ap (λ (s : Stage). s.long) all ∙ sym size;
       stored = stored;
       places = λ j below.
-          let noted_told = r.noted.0.told in
-          places_new (holding f.book (accepted_transfer d e x a h dummy notes).memory) note k.first j stands r.noted.0 r.short.0 (omega (arith, below, told, noted_told, all_told));
-      blank = λ none. noted_blank (slot_of f.book.slots) note k.first r.noted.0 (sym told ∙ sym r.noted.0.told ∙ sym all_told ∙ none);
+          places_new (holding f.book (accepted_transfer d e x a h dummy notes).memory) note k.first j stands r.noted.0 r.short.0 (omega (arith, below, size));
+      blank = λ none. noted_blank (slot_of f.book.slots) note k.first r.noted.0 (sym size ∙ none);
       few = omega arith;
       long = λ some. absurd (omega (arith, some));
       may = λ some. absurd (omega (arith, some));
@@ -138,7 +135,7 @@ less_one : (n : ℕ) → n ≡ suc n - 1
 less_one n = omega arith
 
 by_stages : (d : DriverContent) (m : Mem) (o : Offered) (member streams : ℕ → Bool) (ends : ℕ → Told) (parts : StructureSets) (order : ℕ → ℕ → ℕ) (out : ℕ → List ℕ) (why : Transfers d m o) (k : HasStages why.endpoint.desc.name.way why.asked.stages) → why.asked.sort ≡ sort_by why.endpoint.desc.name.way
-    → Stands (holding d.book m) → IsShaped m → Stands (holding o.driver.book o.memory) → IsShaped o.memory → HasOwners d → AreLent d → TakesTurns d → QueuesStand d member streams ends parts order out
+    → Stands (holding d.book m) → IsShaped m → Stands (holding o.driver.book o.memory) → IsShaped o.memory → HasOwners d → AreLent d → AsynchronousTakesTurns d → QueuesStand d member streams ends parts order out
     → QueuesStand o.driver member streams ends parts order out
 by_stages d m o member streams ends parts order out why k sort stands shape stands_now shape_now owners lent turns old =
     let a = why.asked in
@@ -161,12 +158,18 @@ by_stages d m o member streams ends parts order out why k sort stands shape stan
     let fs : Stands (holding f.driver.book f.memory) = subst (λ (g : Offered). Stands (holding g.driver.book g.memory)) why.is stands_now in
     let fm : IsShaped f.memory = subst (λ (g : Offered). IsShaped g.memory) why.is shape_now in
     subst (λ (g : Offered). QueuesStand g.driver member streams ends parts order out) (sym why.is)
-    (taken_stands d e x a h dummy notes member streams ends parts order out (taken_on d m o why stands owners lent (only_asynchronous d turns.bulk) kept) turns.turns.places
+    (taken_stands d e x a h dummy notes member streams ends parts order out (taken_on d m o why stands owners lent turns.asynchronous kept) turns.turns.places
     (λ words is stored. published d m e x a h dummy notes parts k words sort why.here why.goes_on fs fm now is stored) old)
 
 pub asked_stands : AskedStands
 asked_stands d m o member streams ends parts order out why stands shape stands_now shape_now owners lent turns old =
     let w = why.transfers in
     let way = w.endpoint.desc.name.way in
-    let k = some_stages way w.asked.stages w.some (asked_by d m o why) (asked_pids d m o why) in
+    let k = some_stages way w.asked.stages w.some (by_data way w.asked.stages why.way (asked_by d m o why)) in
     by_stages d m o member streams ends parts order out w k (ap (λ (a : Asked). a.sort) why.asked) stands shape stands_now shape_now owners lent turns old
+
+pub requested_stands : RequestedStands
+requested_stands d m o member streams ends parts order out why stands shape stands_now shape_now owners lent turns old =
+    let w = why.transfers in
+    let k = some_stages w.endpoint.desc.name.way w.asked.stages w.some (requested_by d m o why) in
+    by_stages d m o member streams ends parts order out w k (ap (λ (a : Asked). a.sort) why.asked ∙ ap sort_by (sym why.way)) stands shape stands_now shape_now owners lent turns old

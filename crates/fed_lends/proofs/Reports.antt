@@ -1,6 +1,6 @@
 -- What is reported of each queue, once a transfer is lent.
-use Rattle.std.proofs.Common.{◌≡◌, ◌≢◌, ℕ, suc, ◌+◌, ◌*◌, ◌<◌, Bool, true, List, ◌∷◌, ◌++◌, slice_get, Some, ap, sym, subst, ◌∙◌, ⊎_elim, arith, false, length}
-use Rattle.std.proofs.lemmas.Bool.{cases_eq}
+use Rattle.std.proofs.Common.{◌≡◌, ◌≢◌, ℕ, suc, ◌+◌, ◌*◌, ◌<◌, Bool, true, List, ◌∷◌, ◌++◌, slice_get, Some, ap, sym, subst, ◌∙◌, ⊎_elim, arith, refl, false, length}
+use Rattle.std.proofs.lemmas.Bool.{cases_eq, cases_Bool, true≢false}
 use Rattle.std.proofs.lemmas.Option.{same_Some}
 use Rattle.word_mem.specs.Memory.{Mem}
 use Rattle.run_book.specs.declared.slots.Slot.{Slot}
@@ -26,12 +26,12 @@ use Rattle.fed_lends.specs.Numbers.{at_queue}
 use Rattle.fed_lends.specs.Streams.{second, new_order, new_out}
 use Rattle.fed_lends.specs.ToLend.{IsToBeLent, lent_now}
 use Rattle.fed_lends.proofs.Numbering.{all_after, all_sorted}
-use Rattle.fed_lends.proofs.Reporting.{numbers, old_number, all_there, same_hand, spares_heads, sorted_both, sorted_same, lend_leaves_reports, lend_ends_queue}
+use Rattle.fed_lends.proofs.Reporting.{StandsAt, numbers, old_number, same_hand, spares_heads, sorted_both, sorted_same, lend_leaves_reports, lend_ends_queue}
 use Rattle.fed_lends.proofs.Names.{first_stands}
 use Rattle.fed_lends.proofs.Fed.{y_of, x_of, IsLending, buffers_same, other_lent, its_alive}
-use Rattle.fed_lends.proofs.Order.{at_here, at_else, queue_apart, early, out_before, out_after, out_then, out_other, early_owner}
-use Rattle.chained_transfers.specs.Bulk.{OnlyBulk}
-use Rattle.fed_queues.proofs.Places.{going_met}
+use Rattle.fed_lends.proofs.Order.{at_here, at_else, queue_apart, early, out_before, out_after, out_then, out_other, early_stands, early_owner}
+use Rattle.chained_transfers.specs.Asynchronous.{OnlyAsynchronous}
+use Rattle.fed_queues.proofs.Places.{stands_met}
 use Rattle.driver_rows.specs.declared.content.Transfer.{Transfer}
 
 -- ---- another queue's reports
@@ -61,7 +61,8 @@ pub record IsOrdering (d : DriverContent) (m : Mem) (b : ℕ) (words : List ℕ)
   pub reports : AreReported heads order out hand parts acc reported
   pub last : AreLast d parts order
   pub still_out : AreStillOut d out
-  pub counted : (e : ℕ) (x : Endpoint) → slice_get d.endpoints e ≡ Some x → IsThere d x → heads (32 * x.queue) ≡ true
+  -- what is out of its queue is in its order, also where its reports aren't kept
+  pub in_order : heads (32 * lending.ready.endpoint.queue) ≡ false → IsSorted (order (32 * lending.ready.endpoint.queue)) (out (32 * lending.ready.endpoint.queue))
 
 pub is_there : (d : DriverContent) (m : Mem) (b : ℕ) (words : List ℕ) (x : Endpoint) → IsToBeLent d m b words → x.gone ≡ false → IsThere d x
 is_there d m b words x k kept = record { linked = λ opens. never (sym k.command ∙ opens); kept = kept }
@@ -69,22 +70,27 @@ is_there d m b words x k kept = record { linked = λ opens. never (sym k.command
     never : Some (unfinished.Publish b words) ≡ Some (unfinished.Open x.queue) → ⊥
     never same = cc
 
-pub it_is_there : (d : DriverContent) (m : Mem) (b : ℕ) (words : List ℕ) → OnlyBulk d → (k : IsToBeLent d m b words) → IsThere d k.endpoint
-it_is_there d m b words bulk k = is_there d m b words k.endpoint k (its_alive d m b words bulk k)
+pub it_is_there : (d : DriverContent) (m : Mem) (b : ℕ) (words : List ℕ) → OnlyAsynchronous d → (k : IsToBeLent d m b words) → IsThere d k.endpoint
+it_is_there d m b words only k = is_there d m b words k.endpoint k (its_alive d m b words only k)
 
 -- what gets a transfer goes on, and so it is in the ring
-pub it_is_met : (d : DriverContent) (m : Mem) (b : ℕ) (words : List ℕ) → OnlyBulk d → (k : IsToBeLent d m b words) → IsMet d k.transfer.endpoint k.endpoint
-it_is_met d m b words bulk k = going_met d k.transfer.endpoint k.endpoint (bulk.endpoints k.transfer.endpoint k.endpoint k.here) k.going (it_is_there d m b words bulk k).linked
+pub it_is_met : (d : DriverContent) (m : Mem) (b : ℕ) (words : List ℕ) → OnlyAsynchronous d → (k : IsToBeLent d m b words) → IsMet d k.transfer.endpoint k.endpoint
+it_is_met d m b words only k = stands_met d k.transfer.endpoint k.endpoint (only.endpoints k.transfer.endpoint k.endpoint k.here) k.going (it_is_there d m b words only k).linked
 
 pub queue_of : {d : DriverContent} {m : Mem} {b : ℕ} {words : List ℕ} → IsToBeLent d m b words → ℕ
 queue_of k = 32 * k.endpoint.queue
 
-pub is_counted : {d : DriverContent} {m : Mem} {b : ℕ} {words : List ℕ} {parts now : StructureSets} {member heads : ℕ → Bool} {order : ℕ → ℕ → ℕ} {out : ℕ → List ℕ} {hand : Hand} {acc : ℕ → List (List ℕ)} {reported : ℕ → List ℕ} → (o : IsOrdering d m b words parts now member heads order out hand acc reported) → heads (32 * o.lending.ready.endpoint.queue) ≡ true
-is_counted {d = d} {m = m} {b = b} {words = words} o = let k = o.lending.ready in o.counted k.transfer.endpoint k.endpoint k.here (it_is_there d m b words o.lending.bulk k)
+-- the place of its queue, where its reports are kept
+place_by : {d : DriverContent} {m : Mem} {b : ℕ} {words : List ℕ} {parts now : StructureSets} {member heads : ℕ → Bool} {order : ℕ → ℕ → ℕ} {out : ℕ → List ℕ} {hand : Hand} {acc : ℕ → List (List ℕ)} {reported : ℕ → List ℕ} → (o : IsOrdering d m b words parts now member heads order out hand acc reported) → (c : Bool) → heads (32 * o.lending.ready.endpoint.queue) ≡ c → ℕ
+place_by o true on = (o.reports (32 * o.lending.ready.endpoint.queue) on).place
+place_by o false off = 0
+
+abbrev its_place : {d : DriverContent} {m : Mem} {b : ℕ} {words : List ℕ} {parts now : StructureSets} {member heads : ℕ → Bool} {order : ℕ → ℕ → ℕ} {out : ℕ → List ℕ} {hand : Hand} {acc : ℕ → List (List ℕ)} {reported : ℕ → List ℕ} → (o : IsOrdering d m b words parts now member heads order out hand acc reported) → ℕ
+its_place {heads = heads} o = place_by o (heads (32 * o.lending.ready.endpoint.queue)) refl
 
 -- numbers from here on are above all that stand
 pub from_here : {d : DriverContent} {m : Mem} {b : ℕ} {words : List ℕ} {parts now : StructureSets} {member heads : ℕ → Bool} {order : ℕ → ℕ → ℕ} {out : ℕ → List ℕ} {hand : Hand} {acc : ℕ → List (List ℕ)} {reported : ℕ → List ℕ} → IsOrdering d m b words parts now member heads order out hand acc reported → ℕ → ℕ
-from_here {order = order} o least = let k = o.lending.ready in suc (least + order (32 * k.endpoint.queue) (32 * k.transfer.first) + (o.reports (32 * k.endpoint.queue) (is_counted o)).place)
+from_here {order = order} o least = let k = o.lending.ready in suc (least + order (32 * k.endpoint.queue) (32 * k.transfer.first) + its_place o)
 
 pub least_below : {d : DriverContent} {m : Mem} {b : ℕ} {words : List ℕ} {parts now : StructureSets} {member heads : ℕ → Bool} {order : ℕ → ℕ → ℕ} {out : ℕ → List ℕ} {hand : Hand} {acc : ℕ → List (List ℕ)} {reported : ℕ → List ℕ} → (o : IsOrdering d m b words parts now member heads order out hand acc reported) (least : ℕ) → least < from_here o least
 unfolding from_here
@@ -93,6 +99,16 @@ least_below o least = omega arith
 pub first_below : {d : DriverContent} {m : Mem} {b : ℕ} {words : List ℕ} {parts now : StructureSets} {member heads : ℕ → Bool} {order : ℕ → ℕ → ℕ} {out : ℕ → List ℕ} {hand : Hand} {acc : ℕ → List (List ℕ)} {reported : ℕ → List ℕ} → (o : IsOrdering d m b words parts now member heads order out hand acc reported) (least : ℕ) → order (32 * o.lending.ready.endpoint.queue) (32 * o.lending.ready.transfer.first) < from_here o least
 unfolding from_here
 first_below o least = omega arith
+
+place_below : {d : DriverContent} {m : Mem} {b : ℕ} {words : List ℕ} {parts now : StructureSets} {member heads : ℕ → Bool} {order : ℕ → ℕ → ℕ} {out : ℕ → List ℕ} {hand : Hand} {acc : ℕ → List (List ℕ)} {reported : ℕ → List ℕ} → (o : IsOrdering d m b words parts now member heads order out hand acc reported) (least : ℕ) → its_place o < from_here o least
+unfolding from_here
+place_below o least = omega arith
+
+-- what is out of its queue is in its order
+out_sorted : {d : DriverContent} {m : Mem} {b : ℕ} {words : List ℕ} {parts now : StructureSets} {member heads : ℕ → Bool} {order : ℕ → ℕ → ℕ} {out : ℕ → List ℕ} {hand : Hand} {acc : ℕ → List (List ℕ)} {reported : ℕ → List ℕ} → (o : IsOrdering d m b words parts now member heads order out hand acc reported) → IsSorted (order (32 * o.lending.ready.endpoint.queue)) (out (32 * o.lending.ready.endpoint.queue))
+out_sorted {heads = heads} o =
+    let n = 32 * o.lending.ready.endpoint.queue in
+    ⊎_elim (λ (on : heads n ≡ true). (o.reports n on).accounts.sorted) o.in_order (cases_Bool (heads n))
 
 abbrev pub queue_order : {d : DriverContent} {m : Mem} {b : ℕ} {words : List ℕ} → IsToBeLent d m b words → ℕ → (ℕ → ℕ → ℕ) → ℕ → ℕ
 queue_order {d = d} k from order = new_order d (y_of k) k.further from (order (32 * k.endpoint.queue))
@@ -108,10 +124,22 @@ first_last {b = b} {words = words} {parts = parts} {order = order} o =
     let k = o.lending.ready in
     subst (λ (c : ℕ). IsLast (order (32 * k.endpoint.queue)) (parts (32 * k.endpoint.queue)) (32 * c)) (sym k.first) (o.last.taken b words k.number k.transfer k.endpoint k.command k.made k.newest k.there k.first k.here)
 
+its_reported : {d : DriverContent} {m : Mem} {b : ℕ} {words : List ℕ} {parts now : StructureSets} {member heads : ℕ → Bool} {order : ℕ → ℕ → ℕ} {out : ℕ → List ℕ} {hand : Hand} {acc : ℕ → List (List ℕ)} {reported : ℕ → List ℕ} → (o : IsOrdering d m b words parts now member heads order out hand acc reported) (from : ℕ) → order (32 * o.lending.ready.endpoint.queue) (32 * o.lending.ready.transfer.first) < from
+    → (c : Bool) (is : heads (32 * o.lending.ready.endpoint.queue) ≡ c) → heads (32 * o.lending.ready.endpoint.queue) ≡ true → place_by o c is < from
+    → IsReported (queue_order o.lending.ready from order) (out (32 * o.lending.ready.endpoint.queue) ++ new_out d (y_of o.lending.ready) o.lending.ready.further) hand now (32 * o.lending.ready.endpoint.queue)
+    (acc (32 * o.lending.ready.endpoint.queue)) (reported (32 * o.lending.ready.endpoint.queue))
+unfolding place_by
+its_reported {d = d} {m = m} {parts = parts} {now = now} {member = member} {order = order} {out = out} {hand = hand} {acc = acc} {reported = reported} o from above true is on below =
+    let l = o.lending in
+    let k = l.ready in
+    let n = 32 * k.endpoint.queue in
+    let low : (o.reports n is).place < from = below in
+    lend_leaves_reports d m k.number (y_of k) (x_of k) k.stage k.further (slot_of (lent_driver d m).book.slots) member parts now (order n) (out n) hand (acc n) (reported n) from k.awaits l.pieces o.sound (first_last o) above (o.reports n is) (omega (arith, low))
+its_reported o from above false is on below = absurd (true≢false (sym on ∙ is))
+
 pub all_reported : {d : DriverContent} {m : Mem} {b : ℕ} {words : List ℕ} {parts now : StructureSets} {member heads : ℕ → Bool} {order : ℕ → ℕ → ℕ} {out : ℕ → List ℕ} {hand : Hand} {acc : ℕ → List (List ℕ)} {reported : ℕ → List ℕ} → (o : IsOrdering d m b words parts now member heads order out hand acc reported) (least : ℕ)
     → AreReported heads (order_lent o.lending.ready (from_here o least) order) (out_lent o.lending.ready out) hand now acc reported
-unfolding from_here
-all_reported {d = d} {m = m} {b = b} {words = words} {parts = parts} {now = now} {member = member} {order = order} {out = out} {hand = hand} {acc = acc} {reported = reported} o least i on =
+all_reported {d = d} {m = m} {b = b} {words = words} {parts = parts} {now = now} {member = member} {heads = heads} {order = order} {out = out} {hand = hand} {acc = acc} {reported = reported} o least i on =
     let l = o.lending in
     let k = l.ready in
     let n = 32 * k.endpoint.queue in
@@ -119,13 +147,12 @@ all_reported {d = d} {m = m} {b = b} {words = words} {parts = parts} {now = now}
     let from = from_here o least in
     let f = queue_order k from order in
     let more = out n ++ new_out d (y_of k) k.further in
-    let r = o.reports n (is_counted o) in
     ⊎_elim
     (λ (same : i ≡ n).
     subst (λ (j : ℕ). IsReported (order_lent k from order j) (out_lent k out j) hand now j (acc j) (reported j)) (sym same)
     (subst (λ (g : ℕ → ℕ). IsReported g (out_lent k out n) hand now n (acc n) (reported n)) (sym (at_here order n f))
     (subst (λ (es : List ℕ). IsReported f es hand now n (acc n) (reported n)) (sym (at_here out n more))
-    (lend_leaves_reports d m k.number (y_of k) (x_of k) k.stage k.further slot member parts now (order n) (out n) hand (acc n) (reported n) from k.awaits l.pieces o.sound (first_last o) (omega arith) r (omega arith)))))
+    (its_reported o from (first_below o least) (heads n) refl (ap heads (sym same) ∙ on) (place_below o least)))))
     (λ (differs : i ≢ n).
     subst (λ (g : ℕ → ℕ). IsReported g (out_lent k out i) hand now i (acc i) (reported i)) (sym (at_else order n f i differs))
     (subst (λ (es : List ℕ). IsReported (order i) es hand now i (acc i) (reported i)) (sym (at_else out n more i differs))
@@ -160,7 +187,14 @@ dummies_last {d = d} {m = m} {b = b} {words = words} {parts = parts} {now = now}
 
 pub out_stays : {d : DriverContent} {m : Mem} {b : ℕ} {words : List ℕ} {parts now : StructureSets} {member heads : ℕ → Bool} {order : ℕ → ℕ → ℕ} {out : ℕ → List ℕ} {hand : Hand} {acc : ℕ → List (List ℕ)} {reported : ℕ → List ℕ} → (o : IsOrdering d m b words parts now member heads order out hand acc reported)
     → out (32 * o.lending.ready.endpoint.queue) ≡ early d o.lending.ready.number o.lending.ready.transfer.endpoint
-out_stays {d = d} {m = m} {b = b} {words = words} o = let k = o.lending.ready in o.still_out k.transfer.endpoint k.endpoint k.here (it_is_there d m b words o.lending.bulk k) ∙ out_before d m b words k
+out_stays {d = d} {m = m} {b = b} {words = words} o = let k = o.lending.ready in o.still_out k.transfer.endpoint k.endpoint k.here (it_is_there d m b words o.lending.asynchronous k) ∙ out_before d m b words k
+
+-- each of these stands
+pub out_stands : {d : DriverContent} {m : Mem} {b : ℕ} {words : List ℕ} {parts now : StructureSets} {member heads : ℕ → Bool} {order : ℕ → ℕ → ℕ} {out : ℕ → List ℕ} {hand : Hand} {acc : ℕ → List (List ℕ)} {reported : ℕ → List ℕ} → (o : IsOrdering d m b words parts now member heads order out hand acc reported)
+    → (a : ℕ) → IsAmong a (out (32 * o.lending.ready.endpoint.queue)) → StandsAt (parts (32 * o.lending.ready.endpoint.queue)) a
+out_stands {d = d} {m = m} {b = b} {words = words} {parts = parts} {now = now} o a among =
+    let l = o.lending in
+    early_stands d m b words parts now l o.turns a (subst (IsAmong a) (out_stays o) among)
 
 pub all_out : {d : DriverContent} {m : Mem} {b : ℕ} {words : List ℕ} {parts now : StructureSets} {member heads : ℕ → Bool} {order : ℕ → ℕ → ℕ} {out : ℕ → List ℕ} {hand : Hand} {acc : ℕ → List (List ℕ)} {reported : ℕ → List ℕ} → (o : IsOrdering d m b words parts now member heads order out hand acc reported)
     → AreStillOut (lent_now d m) (out_lent o.lending.ready out)
@@ -190,17 +224,16 @@ first_sorted {d = d} {m = m} {b = b} {words = words} {parts = parts} {now = now}
     let slot = slot_of (lent_driver d m).book.slots in
     let from = from_here o least in
     let f = queue_order k from order in
-    let r = o.reports n (is_counted o) in
     let are = numbers d m k.number (y_of k) (x_of k) k.stage k.further from (order n) k.awaits in
     let last = first_last o in
     let dummy = first_stands d m b words parts k l.fed in
     let mine = old_number d (y_of k) (x_of k) k.stage k.further slot parts now from (order n) first (Element dummy_qtd) l.pieces dummy in
     let new = new_out d (y_of k) k.further in
     sorted_both f (out n) (first ∷ new)
-    (sorted_same (order n) f (out n) (λ e among. let z = all_there hand parts n (out n) r.told e r.accounts.told among in old_number d (y_of k) (x_of k) k.stage k.further slot parts now from (order n) e (Element z.qtd) l.pieces z.here) r.accounts.sorted)
+    (sorted_same (order n) f (out n) (λ e among. let z = out_stands o e among in old_number d (y_of k) (x_of k) k.stage k.further slot parts now from (order n) e (Element z.qtd) l.pieces z.here) (out_sorted o))
     (all_after f d.notes k.further (second d (y_of k)) from first are (omega (arith, mine)), all_sorted f d.notes k.further (second d (y_of k)) from are)
     (λ e among.
-    let z = all_there hand parts n (out n) r.told e r.accounts.told among in
+    let z = out_stands o e among in
     let number = old_number d (y_of k) (x_of k) k.stage k.further slot parts now from (order n) e (Element z.qtd) l.pieces z.here in
     let differs : e ≢ first = λ same. early_owner d m b words parts now l o.turns (subst (IsAmong first) (out_stays o) (subst (λ (a : ℕ). IsAmong a (out n)) same among)) in
     let less = last e z.qtd z.here differs in

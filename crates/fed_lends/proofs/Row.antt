@@ -1,28 +1,34 @@
 -- The row that lends a transfer.
-use Rattle.std.proofs.Common.{◌≡◌, ◌≢◌, ℕ, suc, ◌*◌, ◌⊎◌, ⊎_elim, inl, inr, Bool, true, false, List, ◌∷◌, length, nat_lt, if◌then◌else◌, Option, ap, sym, subst, ◌∙◌, arith, refl}
+use Rattle.std.proofs.Common.{◌≡◌, ◌≢◌, ℕ, suc, ◌*◌, ◌⊎◌, ⊎_elim, inl, inr, Bool, true, false, List, ◌∷◌, length, nat_lt, if◌then◌else◌, slice_get, Option, Some, ap, sym, subst, ◌∙◌, arith, refl}
 use Rattle.std.specs.List.{AllByRecursion}
 use Rattle.std.proofs.lemmas.Bool.{cases_Bool}
+use Rattle.usb_base.specs.declared.packets.Way.{Way}
+use Rattle.usb_base.specs.declared.packets.Way.TheVariants as ways
 use Rattle.word_mem.specs.Memory.{Mem}
 use Rattle.async_walk.specs.Rows.{place}
 use Rattle.run_book.specs.Book.{slot_of}
+use Rattle.driver_rows.specs.declared.content.Endpoint.{Endpoint}
 use Rattle.driver_rows.specs.declared.content.Command.{Command}
 use Rattle.driver_rows.specs.declared.content.Command.TheVariants as unfinished
 use Rattle.driver_rows.specs.declared.rows.DriverRow.{DriverRow}
 use Rattle.driver_rows.specs.declared.rows.DriverRow.TheVariants as rows
 use Rattle.driver_rows.specs.declared.content.Stage.{Stage}
 use Rattle.driver_rows.specs.DriverContent.{DriverContent}
+use Rattle.driver_rows.specs.Words.{queue_head}
 use Rattle.driver_rows.specs.Rows.{Parts as DriverParts, events_of, links, finished, linked_on, row_for, command_row, driver_row, advanced_by, advance, after_driver_row}
 use Rattle.ring_laws.specs.Together.{put_all}
 use Rattle.ring_laws.specs.Bus.{Sender}
 use Rattle.driver_laws.specs.Driven.{DrivesRing}
-use Rattle.chained_transfers.specs.Bulk.{receives, OnlyBulk}
-use Rattle.chained_transfers.proofs.Ways.{data_comes_in, IsBy, its_pid, all_of_all, receives_pid, sends_pid}
+use Rattle.chained_transfers.specs.Bulk.{IsDataWay, receives, comes_in}
+use Rattle.chained_transfers.specs.Asynchronous.{OnlyAsynchronous}
+use Rattle.chained_transfers.proofs.Ways.{data_or_control, data_comes_in, IsBy, its_pid, all_of_all, receives_pid, sends_pid}
 use Rattle.fed_queues.specs.Places.{AreMet, HaveStreams}
-use Rattle.ring_laws.specs.Told.{Endpoint as Told}
+use Rattle.ring_laws.specs.Told.{Endpoint as Told, endpoint_of}
 use Rattle.driver_laws.specs.TransferLaws.{lent_memory, lent_driver, items_of}
 use Rattle.driver_laws.proofs.Lends.{lend_drives}
 use Rattle.fed_lends.specs.ToLend.{IsToBeLent, lent_now}
 use Rattle.fed_lends.specs.LendLaws.{GoesOnLent, LendRowGoesOn}
+use Rattle.fed_lends.proofs.Stages.{data_by}
 use Rattle.fed_lends.proofs.Piping.{lend_leaves_pipes}
 use Rattle.fed_lends.proofs.Names.{names_lent}
 use Rattle.fed_lends.proofs.Fed.{y_of, x_of, IsLending, queues_fed}
@@ -62,23 +68,41 @@ streams_on d m streams ends have = streams_stay d (lent_now d m) streams ends (l
 
 -- ---- what the qTDs ask for
 
--- INs where the queue head has a stream, and else none is one
-pub its_asks : {d : DriverContent} {m : Mem} {b : ℕ} {words : List ℕ} {streams : ℕ → Bool} {ends : ℕ → Told} → OnlyBulk d → (k : IsToBeLent d m b words) → HaveStreams d streams ends
-    → ((streams (32 * k.endpoint.queue) ≡ true) × AllByRecursion (λ r. r.pid ≡ 1) (k.stage ∷ k.further)) ⊎ ((streams (32 * k.endpoint.queue) ≡ false) × AllByRecursion (λ r. r.pid ≢ 1) (k.stage ∷ k.further))
-its_asks {d = d} {m = m} {b = b} {words = words} {streams = streams} bulk k have =
-    let way = k.endpoint.desc.name.way in
-    let one = (bulk.endpoints k.transfer.endpoint k.endpoint k.here).bulk.way in
-    let stream : streams (32 * k.endpoint.queue) ≡ receives way = (have.each k.transfer.endpoint k.endpoint k.here (it_is_met d m b words bulk k)).0 ∙ data_comes_in way one in
-    let ss = k.stage ∷ k.further in
-    ⊎_elim (λ (on : receives way ≡ true). inl (stream ∙ on, all_of_all (IsBy way) (λ (r : Stage). r.pid ≡ 1) ss (λ r is. its_pid way r is ∙ receives_pid way on) k.stages))
-    (λ (off : receives way ≡ false).
-    inr (stream ∙ off, all_of_all (IsBy way) (λ (r : Stage). r.pid ≢ 1) ss (λ r is one. let p = its_pid way r is in let none = sends_pid way off in omega (arith, p, none, one)) k.stages))
-    (cases_Bool (receives way))
+-- INs where the queue head has a stream, and none else, but of a control endpoint, of which there is no stream
+abbrev pub ControlsAreApart : (ℕ → ℕ → Bool) → DriverContent → Type 0
+ControlsAreApart stream d = (e : ℕ) (x : Endpoint) → slice_get d.endpoints e ≡ Some x → x.desc.name.way ≡ ways.Ctl → stream x.desc.name.addr x.desc.name.num ≡ false
+
+abbrev pub AskAs : (ℕ → ℕ → Bool) → (ℕ → Bool) → (ℕ → Told) → ℕ → List Stage → Type 0
+AskAs stream streams ends n ss =
+    ((streams n ≡ true) × AllByRecursion (λ r. r.pid ≡ 1) ss) ⊎ (((streams n ≡ false) × AllByRecursion (λ r. r.pid ≢ 1) ss) ⊎ ((streams n ≡ false) × (stream (ends n).addr (ends n).ep ≡ false)))
+
+pub its_asks : (stream : ℕ → ℕ → Bool) {d : DriverContent} {m : Mem} {b : ℕ} {words : List ℕ} {streams : ℕ → Bool} {ends : ℕ → Told} → OnlyAsynchronous d → (k : IsToBeLent d m b words) → HaveStreams d streams ends → ControlsAreApart stream d
+    → AskAs stream streams ends (32 * k.endpoint.queue) (k.stage ∷ k.further)
+its_asks stream {d = d} {m = m} {b = b} {words = words} {streams = streams} {ends = ends} only k have apart = by (data_or_control way)
+  where
+    way : Way
+    way = k.endpoint.desc.name.way
+
+    ss : List Stage
+    ss = k.stage ∷ k.further
+
+    its : (streams (32 * k.endpoint.queue) ≡ comes_in way) × (ends (32 * k.endpoint.queue) ≡ endpoint_of (queue_head k.endpoint.desc 0 k.endpoint.dummy))
+    its = have.each k.transfer.endpoint k.endpoint k.here (it_is_met d m b words only k)
+
+    by : IsDataWay way ⊎ (way ≡ ways.Ctl) → AskAs stream streams ends (32 * k.endpoint.queue) (k.stage ∷ k.further)
+    by (inl one) =
+        let all = data_by way ss one k.stages in
+        let on : streams (32 * k.endpoint.queue) ≡ receives way = its.0 ∙ data_comes_in way one in
+        ⊎_elim (λ (in_way : receives way ≡ true). inl (on ∙ in_way, all_of_all (IsBy way) (λ (r : Stage). r.pid ≡ 1) ss (λ r is. its_pid way r one is ∙ receives_pid way in_way one) all))
+        (λ (off : receives way ≡ false).
+        inr (inl (on ∙ off, all_of_all (IsBy way) (λ (r : Stage). r.pid ≢ 1) ss (λ r is same. let p = its_pid way r one is in let none = sends_pid way off in omega (arith, p, none, same)) all)))
+        (cases_Bool (receives way))
+    by (inr control) = inr (inr (its.0 ∙ ap comes_in control, ap (λ (t : Told). stream t.addr t.ep) its.1 ∙ apart k.transfer.endpoint k.endpoint k.here control))
 
 -- ---- the whole
 
 pub lend_row_goes_on : {W : Type 0} (sender : W → ℕ → ℕ → Option Sender) → LendRowGoesOn sender
-lend_row_goes_on sender base stream packets member streams heads ends acc reported hand wire parts order out w p b words k has stands bulk turns drives piped reports fed last still_out met have counted =
+lend_row_goes_on sender base stream packets member streams heads ends acc reported hand wire parts order out w p b words k has stands only turns drives piped reports fed last still_out met have in_order apart =
     let d = p.driver in
     let m = p.memory in
     let y = y_of k in
@@ -86,8 +110,9 @@ lend_row_goes_on sender base stream packets member streams heads ends acc report
     let n = 32 * k.endpoint.queue in
     let now = put_all parts n (items_of d m y x k.stage k.further) in
     let both = lend_drives base member parts hand w p.registers m d k.number y x k.stage k.further k.awaits has stands drives (names_lent d m b words parts n k fed drives.driven) in
-    let l : IsLending d m b words parts now = record { ready = k; has = has; stands = stands; shape = drives.ring.tells.shape; bulk = bulk; fed = fed; pieces = both.1 } in
-    let on = met.each k.transfer.endpoint k.endpoint k.here (it_is_met d m b words bulk k) in
+    let l : IsLending d m b words parts now = record { ready = k; has = has; stands = stands; shape = drives.ring.tells.shape; asynchronous = only; fed = fed; pieces = both.1 } in
+    let its_met = it_is_met d m b words only k in
+    let on = met.each k.transfer.endpoint k.endpoint k.here its_met in
     let o : IsOrdering d m b words parts now member heads order out hand acc reported = record {
       lending = l;
       turns = turns;
@@ -95,7 +120,7 @@ lend_row_goes_on sender base stream packets member streams heads ends acc report
       reports = reports;
       last = last;
       still_out = still_out;
-      counted = counted;
+      in_order = in_order k.transfer.endpoint k.endpoint k.here its_met;
     } in
     subst (GoesOnLent sender base stream packets member streams heads ends acc reported hand wire w) (sym (after_is p b words k))
     (record {
@@ -103,7 +128,7 @@ lend_row_goes_on sender base stream packets member streams heads ends acc report
       order = order_lent k (from_here o 0) order;
       out = out_lent k out;
       drives = subst (DrivesRing base member now hand (place w p.registers (lent_memory d m))) (advance_is d m b words k) both.0;
-      piped = lend_leaves_pipes sender d m k.number y x k.stage k.further (slot_of (lent_driver d m).book.slots) parts now stream packets member streams ends acc hand wire k.awaits both.1 (its_asks bulk k have) piped;
+      piped = lend_leaves_pipes sender d m k.number y x k.stage k.further (slot_of (lent_driver d m).book.slots) parts now stream packets member streams ends acc hand wire k.awaits both.1 (its_asks stream only k have apart) piped;
       reports = all_reported o 0;
       fed = queues_fed d m b words parts now l;
       last = all_last o 0;

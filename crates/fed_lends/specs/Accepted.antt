@@ -1,5 +1,5 @@
--- A get or put that was accepted is to be lent, and stays so until it is (EHCI 1.0, 3.5 and 4.10).
---     AskedIsToBeLent, ToBeLentStays     the laws
+-- A get, put or request that was accepted is to be lent, and stays so until it is (EHCI 1.0, 3.5 and 4.10).
+--     AskedIsToBeLent, RequestedIsToBeLent, ToBeLentStays     the laws
 use Rattle.std.specs.Prelude.{◌≡◌, ℕ, false, List, Some}
 use Rattle.word_mem.specs.Memory.{Mem, IsShaped, word_at, reaches}
 use Rattle.run_book.specs.Book.{holding, Stands}
@@ -9,10 +9,15 @@ use Rattle.driver_rows.specs.Offers.{Offered}
 use Rattle.run_owners.specs.Kept.{HasOwners}
 use Rattle.lent_runs.specs.Lent.{AreLent}
 use Rattle.chained_transfers.specs.Accepted.{IsAsked}
+use Rattle.chained_transfers.specs.Asynchronous.{IsRequested}
 use Rattle.fed_lends.specs.ToLend.{IsToBeLent}
 
 abbrev pub AskedIsToBeLent : Type 0
 AskedIsToBeLent = (d : DriverContent) (m : Mem) (o : Offered) → IsAsked d m o → HasOwners d → AreLent d → Stands (holding d.book m) → IsShaped m
+    → (b : ℕ) (words : List ℕ) → o.driver.command ≡ Some (unfinished.Publish b words) → IsToBeLent o.driver o.memory b words
+
+abbrev pub RequestedIsToBeLent : Type 0
+RequestedIsToBeLent = (d : DriverContent) (m : Mem) (o : Offered) → IsRequested d m o → HasOwners d → AreLent d → Stands (holding d.book m) → IsShaped m
     → (b : ℕ) (words : List ℕ) → o.driver.command ≡ Some (unfinished.Publish b words) → IsToBeLent o.driver o.memory b words
 
 abbrev pub ToBeLentStays : Type 0

@@ -1,18 +1,20 @@
 -- Accepted commands leave what is fed (EHCI 1.0, 4.8 and 4.10): memory is told by the same structures, and the driver's content has an endpoint more, or a
 -- transfer that is to be lent.
 --     QueuesStand ..              all that fed_queues says of a driver's queues
---     OpenStands, AskedStands       the laws
+--     OpenStands, AskedStands, RequestedStands     the laws, of an open, of a get or put and of a control endpoint's request
 use Rattle.std.specs.Prelude.{ℕ, Bool, List}
 use Rattle.word_mem.specs.Memory.{Mem, IsShaped}
 use Rattle.run_book.specs.Book.{holding, Stands}
 use Rattle.driver_rows.specs.DriverContent.{DriverContent}
 use Rattle.driver_rows.specs.Offers.{Offered}
+use Rattle.run_owners.specs.Accepts.{Opens}
 use Rattle.run_owners.specs.Kept.{HasOwners}
 use Rattle.lent_runs.specs.Lent.{AreLent}
 use Rattle.lent_structures.specs.Structures.{StructureSets}
 use Rattle.ring_laws.specs.Told.{Endpoint as Told}
-use Rattle.chained_transfers.specs.Accepted.{IsOpened, IsAsked}
-use Rattle.chained_transfers.specs.InTurn.{TakesTurns}
+use Rattle.chained_transfers.specs.Accepted.{IsAsked}
+use Rattle.chained_transfers.specs.Asynchronous.{IsRequested}
+use Rattle.chained_transfers.specs.AsynchronousTurns.{AsynchronousTakesTurns}
 use Rattle.fed_queues.specs.Fed.{AreFed}
 use Rattle.fed_queues.specs.Places.{AreMet, HaveStreams, AreLast, AreStillOut}
 
@@ -25,11 +27,17 @@ pub record QueuesStand (d : DriverContent) (member streams : ℕ → Bool) (ends
 
 abbrev pub OpenStands : Type 0
 OpenStands = (d : DriverContent) (m : Mem) (o : Offered) (member streams : ℕ → Bool) (ends : ℕ → Told) (parts : StructureSets) (order : ℕ → ℕ → ℕ) (out : ℕ → List ℕ)
-    → IsOpened d m o → Stands (holding d.book m) → IsShaped m → HasOwners d → HasOwners o.driver → AreLent d → TakesTurns d → QueuesStand d member streams ends parts order out
+    → Opens d m o → Stands (holding d.book m) → IsShaped m → HasOwners d → HasOwners o.driver → AreLent d → AsynchronousTakesTurns d → QueuesStand d member streams ends parts order out
     → QueuesStand o.driver member streams ends parts order out
 
 abbrev pub AskedStands : Type 0
 AskedStands = (d : DriverContent) (m : Mem) (o : Offered) (member streams : ℕ → Bool) (ends : ℕ → Told) (parts : StructureSets) (order : ℕ → ℕ → ℕ) (out : ℕ → List ℕ)
-    → IsAsked d m o → Stands (holding d.book m) → IsShaped m → Stands (holding o.driver.book o.memory) → IsShaped o.memory → HasOwners d → AreLent d → TakesTurns d
+    → IsAsked d m o → Stands (holding d.book m) → IsShaped m → Stands (holding o.driver.book o.memory) → IsShaped o.memory → HasOwners d → AreLent d → AsynchronousTakesTurns d
+    → QueuesStand d member streams ends parts order out
+    → QueuesStand o.driver member streams ends parts order out
+
+abbrev pub RequestedStands : Type 0
+RequestedStands = (d : DriverContent) (m : Mem) (o : Offered) (member streams : ℕ → Bool) (ends : ℕ → Told) (parts : StructureSets) (order : ℕ → ℕ → ℕ) (out : ℕ → List ℕ)
+    → IsRequested d m o → Stands (holding d.book m) → IsShaped m → Stands (holding o.driver.book o.memory) → IsShaped o.memory → HasOwners d → AreLent d → AsynchronousTakesTurns d
     → QueuesStand d member streams ends parts order out
     → QueuesStand o.driver member streams ends parts order out

@@ -1,7 +1,9 @@
--- The row of a driver that lends a get or a put, over a ring whose queues are fed (EHCI 1.0, 3.5 and 4.10; USB 2.0, 8.6).
+-- The row of a driver that lends a get, a put or a request, over a ring whose queues are fed (EHCI 1.0, 3.5 and 4.10; USB 2.0, 8.5.3 and 8.6).
 --     GoesOnLent ..       what stands afterwards: the ring, both sides of each pipe, what is reported, and the queues
---     LendRowGoesOn       the law; `heads` are the queue heads of which the reports are kept
-use Rattle.std.specs.Prelude.{◌≡◌, ℕ, ◌*◌, Bool, true, List, slice_get, Option, Some}
+--     LendRowGoesOn       the law; `heads` are the queue heads of which the reports are kept, of the others what is out is in its order, and a control endpoint has
+--                         no stream
+use Rattle.std.specs.Prelude.{◌≡◌, ℕ, ◌*◌, Bool, false, List, slice_get, Option, Some}
+use Rattle.usb_base.specs.declared.packets.Way.TheVariants as ways
 use Rattle.async_walk.specs.Walk.{Walk}
 use Rattle.async_walk.specs.Rows.{place}
 use Rattle.run_book.specs.Book.{holding, Stands}
@@ -12,14 +14,15 @@ use Rattle.lent_structures.specs.Structures.{StructureSets}
 use Rattle.ring_laws.specs.Hand.{Hand}
 use Rattle.ring_laws.specs.Ring.{Base}
 use Rattle.ring_laws.specs.Told.{Endpoint}
+use Rattle.ring_laws.specs.Order.{IsSorted}
 use Rattle.ring_laws.specs.Bus.{Sender}
 use Rattle.ring_laws.specs.Pipes.{ArePiped}
 use Rattle.controlled_streams.specs.Reported.{AreReported}
 use Rattle.driver_laws.specs.Driven.{DrivesRing}
-use Rattle.chained_transfers.specs.Bulk.{OnlyBulk}
+use Rattle.chained_transfers.specs.Asynchronous.{OnlyAsynchronous}
 use Rattle.chained_transfers.specs.Turns.{AreInTurn}
 use Rattle.fed_queues.specs.Fed.{AreFed}
-use Rattle.fed_queues.specs.Places.{AreMet, HaveStreams, AreLast, AreStillOut, IsThere}
+use Rattle.fed_queues.specs.Places.{AreMet, HaveStreams, AreLast, AreStillOut, IsMet}
 use Rattle.fed_lends.specs.ToLend.{IsToBeLent}
 
 pub record GoesOnLent {W : Type 0} (sender : W → ℕ → ℕ → Option Sender) (base : Base) (stream : ℕ → ℕ → Bool) (packets : ℕ → ℕ → List (List ℕ)) (member streams heads : ℕ → Bool) (ends : ℕ → Endpoint)
@@ -40,9 +43,10 @@ abbrev pub LendRowGoesOn : {W : Type 0} → (W → ℕ → ℕ → Option Sender
 LendRowGoesOn {W} sender = (base : Base) (stream : ℕ → ℕ → Bool) (packets : ℕ → ℕ → List (List ℕ)) (member streams heads : ℕ → Bool) (ends : ℕ → Endpoint) (acc : ℕ → List (List ℕ))
     (reported : ℕ → List ℕ) (hand : Hand) (wire : W)
     (parts : StructureSets) (order : ℕ → ℕ → ℕ) (out : ℕ → List ℕ) (w : Walk) (p : DriverParts) (b : ℕ) (words : List ℕ) → IsToBeLent p.driver p.memory b words
-    → HasOwners p.driver → Stands (holding p.driver.book p.memory) → OnlyBulk p.driver → AreInTurn p.driver
+    → HasOwners p.driver → Stands (holding p.driver.book p.memory) → OnlyAsynchronous p.driver → AreInTurn p.driver
     → DrivesRing base member parts hand (place w p.registers p.memory) p.driver → ArePiped stream packets sender member streams ends acc parts hand wire
     → AreReported heads order out hand parts acc reported → AreFed p.driver parts → AreLast p.driver parts order → AreStillOut p.driver out
     → AreMet p.driver member → HaveStreams p.driver streams ends
-    → ((e : ℕ) (x : EndpointOf) → slice_get p.driver.endpoints e ≡ Some x → IsThere p.driver x → heads (32 * x.queue) ≡ true)
+    → ((e : ℕ) (x : EndpointOf) → slice_get p.driver.endpoints e ≡ Some x → IsMet p.driver e x → heads (32 * x.queue) ≡ false → IsSorted (order (32 * x.queue)) (out (32 * x.queue)))
+    → ((e : ℕ) (x : EndpointOf) → slice_get p.driver.endpoints e ≡ Some x → x.desc.name.way ≡ ways.Ctl → stream x.desc.name.addr x.desc.name.num ≡ false)
     → GoesOnLent sender base stream packets member streams heads ends acc reported hand wire w (after_driver_row (driver_row p) p)

@@ -1,6 +1,7 @@
 -- Laws of the lend of a transfer, beside the streams of a ring's IN endpoints (EHCI 1.0, 4.10; USB 2.0, 8.6).
 --     LendLeavesReports   its qTDs but the first are out too, and are told no bytes
---     LendLeavesPipes     both sides of each pipe agree as before
+--     LendLeavesPipes     both sides of each pipe agree as before: its qTDs ask for INs where the queue head has a stream, and for none where it has none; those of
+--                         a control endpoint may ask for both, as it has no stream
 use Rattle.std.specs.Prelude.{◌≡◌, ◌≢◌, ℕ, ◌*◌, ◌<◌, ◌≤◌, ◌⊎◌, Bool, true, false, List, ◌∷◌, ◌++◌, length, Option}
 use Rattle.std.specs.List.{AllByRecursion}
 use Rattle.word_mem.specs.Memory.{Mem}
@@ -49,5 +50,6 @@ abbrev pub LendLeavesPipes : {W : Type 0} → (W → ℕ → ℕ → Option Send
 LendLeavesPipes {W} sender = (d : DriverContent) (m : Mem) (t : ℕ) (y : TransferRuns) (x : EndpointRuns) (s : Stage) (ss : List Stage) (slot : ℕ → Slot) (parts now : StructureSets)
     (stream : ℕ → ℕ → Bool) (packets : ℕ → ℕ → List (List ℕ)) (member streams : ℕ → Bool) (ends : ℕ → Endpoint) (acc : ℕ → List (List ℕ)) (hand : Hand) (wire : W)
     → AwaitsLend d m t y x s ss → HasPieces d slot parts now y x s ss
-    → ((streams (32 * x.queue) ≡ true) × AllByRecursion (λ r. r.pid ≡ 1) (s ∷ ss)) ⊎ ((streams (32 * x.queue) ≡ false) × AllByRecursion (λ r. r.pid ≢ 1) (s ∷ ss))
+    → ((streams (32 * x.queue) ≡ true) × AllByRecursion (λ r. r.pid ≡ 1) (s ∷ ss))
+    ⊎ (((streams (32 * x.queue) ≡ false) × AllByRecursion (λ r. r.pid ≢ 1) (s ∷ ss)) ⊎ ((streams (32 * x.queue) ≡ false) × (stream (ends (32 * x.queue)).addr (ends (32 * x.queue)).ep ≡ false)))
     → ArePiped stream packets sender member streams ends acc parts hand wire → ArePiped stream packets sender member streams ends acc now hand wire

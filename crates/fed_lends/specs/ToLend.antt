@@ -1,10 +1,12 @@
--- The get or put that is to be lent next, as the driver's content tells it (EHCI 1.0, 3.5 and 4.10): its command is unfinished, and none of its events is made.
---     AreStagesBy way ss     the stages are those of a get or a put
+-- The get, put or request that is to be lent next, as the driver's content tells it (EHCI 1.0, 3.5 and 4.10): its command is unfinished, and none of its events
+-- is made.
+--     AreStagesBy way ss     the stages are those of a get or a put, or of a control endpoint's request (USB 2.0, 8.5.3)
 --     IsToBeLent d m b words the newest transfer is such a one, whose first qTD is to stand in block b with these words, and all else of it is written
 --     lent_now d m           the content once it is lent
 use Rattle.std.specs.Prelude.{◌≡◌, ℕ, suc, false, List, ◌∷◌, length, slice_get, Some, None}
 use Rattle.std.specs.List.{AllByRecursion}
 use Rattle.usb_base.specs.declared.packets.Way.{Way}
+use Rattle.usb_base.specs.declared.packets.Way.TheVariants as ways
 use Rattle.word_mem.specs.Memory.{Mem}
 use Rattle.qh_qtd.specs.Qtd.{qtd_words}
 use Rattle.driver_rows.specs.declared.content.Endpoint.{Endpoint}
@@ -12,6 +14,7 @@ use Rattle.driver_rows.specs.declared.content.Transfer.{Transfer}
 use Rattle.driver_rows.specs.declared.content.Stage.{Stage}
 use Rattle.driver_rows.specs.declared.content.Command.TheVariants as unfinished
 use Rattle.driver_rows.specs.DriverContent.{DriverContent}
+use Rattle.driver_rows.specs.Words.{request_stages}
 use Rattle.driver_rows.specs.Offers.{is_last}
 use Rattle.run_owners.specs.Owners.{runs_of_endpoint, runs_of_transfer}
 use Rattle.driver_laws.specs.Written.{AwaitsLend}
@@ -20,7 +23,9 @@ use Rattle.driver_laws.specs.TransferLaws.{lent_driver}
 use Rattle.chained_transfers.specs.Bulk.{sort_by, stage_by}
 
 abbrev pub AreStagesBy : Way → List Stage → Type 0
-AreStagesBy way ss = AllByRecursion (λ s. s ≡ stage_by way s.long) ss
+AreStagesBy ways.In ss = AllByRecursion (λ s. s ≡ stage_by ways.In s.long) ss
+AreStagesBy ways.Out ss = AllByRecursion (λ s. s ≡ stage_by ways.Out s.long) ss
+AreStagesBy ways.Ctl ss = (setup : List ℕ) × (ss ≡ request_stages setup)
 
 pub record IsToBeLent (d : DriverContent) (m : Mem) (b : ℕ) (words : List ℕ) : Type 0 where
   pub number : ℕ

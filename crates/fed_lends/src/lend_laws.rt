@@ -1,7 +1,7 @@
 //! The laws.
 ghost use Rattle.fed_lends.specs.Streams.{LendLeavesReports, LendEndsQueue, LendLeavesPipes};
 ghost use Rattle.fed_lends.specs.LendLaws.{LendRowGoesOn};
-ghost use Rattle.fed_lends.specs.Accepted.{AskedIsToBeLent, ToBeLentStays};
+ghost use Rattle.fed_lends.specs.Accepted.{AskedIsToBeLent, RequestedIsToBeLent, ToBeLentStays};
 ghost use Rattle.std.specs.Prelude.{ℕ, Option};
 ghost use Rattle.ring_laws.specs.Bus.{Sender};
 
@@ -19,13 +19,14 @@ pub fn a_lend_leaves_pipes<W: Wire>()
     ensures { (sender : W → ℕ → ℕ → Option Sender) → LendLeavesPipes sender }
 {}
 
-/// The row of a driver that lends a get or a put: the ring goes on, both sides of each pipe agree, what was reported is right, and each queue is fed.
+/// The row of a driver that lends a get, a put or a request: the ring goes on, both sides of each pipe agree, what was reported is right, and each queue is fed.
 pub fn a_lend_row_goes_on<W: Wire>()
     ensures { (sender : W → ℕ → ℕ → Option Sender) → LendRowGoesOn sender }
 {}
 
-/// Once a get or a put was accepted it is to be lent; the controller leaves it.
+/// Once a get, a put or a request was accepted it is to be lent; the controller leaves it.
 pub fn a_transfer_is_to_be_lent()
     ensures accepted { AskedIsToBeLent }
+    ensures requested { RequestedIsToBeLent }
     ensures stays { ToBeLentStays }
 {}

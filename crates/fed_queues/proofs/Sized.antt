@@ -11,7 +11,7 @@ use Rattle.driver_rows.specs.DriverContent.{DriverContent}
 use Rattle.driver_rows.specs.Harvests.{note_at}
 use Rattle.run_owners.specs.Owners.{note_in}
 use Rattle.lent_structures.specs.Structures.{Structures, StructureSets}
-use Rattle.chained_transfers.specs.Bulk.{sort_by, MovesAs, OnlyBulk}
+use Rattle.chained_transfers.specs.Bulk.{IsDataWay, sort_by, MovesAs, OnlyBulk}
 use Rattle.chained_transfers.specs.Chains.{piece_at}
 use Rattle.fed_queues.specs.Fed.{is_request, size_of, sized, IsNotedQtd, IsPieceFed, unpublished_of, AreFed}
 
@@ -32,15 +32,15 @@ told_sized sort i note is = ap (λ (n : ℕ). record note { told = n }) (told_si
 pub noted_sized : (sort : Sort) (t : Qtd) (i : ℕ) (note : QtdNote) (end : ℕ) → IsNotedQtd sort t note end → IsNotedQtd sort t (sized sort i note) end
 noted_sized sort t i note end k = record { next = k.next; alternate = k.alternate; offset = k.offset; page0 = k.page0; page1 = k.page1; page2 = k.page2; page3 = k.page3; page4 = k.page4 }
 
--- ---- gets and puts
+-- ---- gets and puts, which are no requests
 
-pub way_told : (way : Way) → is_request (sort_by way) ≡ false
-way_told ways.In = refl
-way_told ways.Out = refl
-way_told ways.Ctl = refl
+pub way_told : (way : Way) → IsDataWay way → is_request (sort_by way) ≡ false
+way_told ways.In one = refl
+way_told ways.Out one = refl
+way_told ways.Ctl one = absurd one
 
-pub moves_told : (d : DriverContent) (y : Transfer) → MovesAs d y → is_request y.sort ≡ false
-moves_told d y moves = ap is_request moves.sort ∙ way_told moves.endpoint.desc.name.way
+pub moves_told : (d : DriverContent) (y : Transfer) (moves : MovesAs d y) → IsDataWay moves.endpoint.desc.name.way → is_request y.sort ≡ false
+moves_told d y moves one = ap is_request moves.sort ∙ way_told moves.endpoint.desc.name.way one
 
 -- ---- one qTD
 
@@ -57,4 +57,5 @@ pub told_piece : (d : DriverContent) (parts : StructureSets) → OnlyBulk d → 
 told_piece d parts bulk fed t i y x there held here from below =
     let note = note_in d.notes in
     let b = piece_at note y.first i in
-    told_fed y.sort (parts (32 * x.queue)) i (note_at d.notes b) b (piece_at note y.first y.qtds) (moves_told d y (bulk.moves t y there)) (fed.pieces t i y x there held here from below)
+    let moves = bulk.moves t y there in
+    told_fed y.sort (parts (32 * x.queue)) i (note_at d.notes b) b (piece_at note y.first y.qtds) (moves_told d y moves (bulk.endpoints y.endpoint moves.endpoint moves.here).bulk.way) (fed.pieces t i y x there held here from below)

@@ -12,8 +12,8 @@ use Rattle.driver_rows.specs.declared.rows.DriverRow.{DriverRow}
 use Rattle.driver_rows.specs.declared.rows.DriverRow.TheVariants as rows
 use Rattle.driver_rows.specs.Offers.{Offered, offered}
 use Rattle.driver_rows.specs.Rows.{after_driver_row}
-use Rattle.chained_transfers.specs.InTurn.{TakesTurns}
-use Rattle.chained_transfers.proofs.Commands.{is_accepted}
+use Rattle.chained_transfers.specs.AsynchronousTurns.{AsynchronousTakesTurns}
+use Rattle.chained_transfers.proofs.Accepting.{command_accepts}
 use Rattle.standing_fronts.specs.Reaching.{Reaches}
 use Rattle.commanded_queues.proofs.Tails.{reaches_alike}
 use Rattle.harvest_laws.proofs.Standing.{refused_told}
@@ -66,9 +66,9 @@ refusal_told s w line name why k =
       told = refused_told d (refused_line d line name why) s.hand s.parts s.reported row refl refl refl refl refl refl refl refl refl k.told;
     }
 
-cancel_by : (s : Standing) (w : World) (line : ℕ) (name : EpName) (r : Result Offered OfferError) → TakesTurns w.driver → IsTold s w → offered w.driver w.memory (commands.Cancel name) ≡ r → IsTold s (commanded_by w line name r)
+cancel_by : (s : Standing) (w : World) (line : ℕ) (name : EpName) (r : Result Offered OfferError) → AsynchronousTakesTurns w.driver → IsTold s w → offered w.driver w.memory (commands.Cancel name) ≡ r → IsTold s (commanded_by w line name r)
 cancel_by s w line name (Ok o) turns k is =
-    let b = cancel_as_before w.driver w.memory o turns (is_accepted w.driver w.memory (commands.Cancel name) o turns.bulk tt is) in
+    let b = cancel_as_before w.driver w.memory o turns (command_accepts w.driver w.memory (commands.Cancel name) o turns.asynchronous tt is) in
     leave_told s w (commanded_by w line name (Ok o)) b.0 (near_fewer w.driver o.driver b.1) k
 cancel_by s w line name (Err why) turns k is = refusal_told s w line name why k
 

@@ -1,11 +1,14 @@
 -- A cancel leaves queues fed: it is refused, or an endpoint is to leave the ring.
-use Rattle.std.proofs.Common.{◌≡◌, ℕ, ◌*◌, Bool, true, List, Result, Ok, Err, ap, sym, ◌∙◌, ⊎_elim, inl, inr, refl}
+use Rattle.std.proofs.Common.{◌≡◌, ℕ, ◌*◌, Bool, true, List, Option, Some, Result, Ok, Err, ap, sym, subst, ◌∙◌, ⊎_elim, inl, inr, refl}
+use Rattle.usb_base.specs.declared.commands.Cmd.{Cmd}
 use Rattle.usb_base.specs.declared.commands.Cmd.TheVariants as commands
 use Rattle.usb_base.specs.declared.endpoints.EpDesc.{EpDesc}
 use Rattle.usb_base.specs.declared.endpoints.EpName.{EpName}
 use Rattle.usb_base.specs.declared.reports.OfferError.{OfferError}
 use Rattle.usb_bus.specs.Bus.{Fixed}
 use Rattle.word_mem.specs.Memory.{Mem}
+use Rattle.driver_rows.specs.declared.content.Command.{Command}
+use Rattle.driver_rows.specs.declared.content.Command.TheVariants as unfinished
 use Rattle.driver_rows.specs.DriverContent.{DriverContent}
 use Rattle.driver_rows.specs.Offers.{Offered, offered, IsOffered}
 use Rattle.driver_rows.specs.Words.{head_block, queue_head}
@@ -22,8 +25,11 @@ use Rattle.bus_world.specs.World.{World, controller_parts, refused_line, command
 use Rattle.stream_worlds.specs.Streaming.{Streams, Standing}
 use Rattle.shared_worlds.specs.Working.{IsWorking}
 use Rattle.chained_transfers.specs.Bulk.{comes_in}
-use Rattle.chained_transfers.specs.InTurn.{TakesTurns}
-use Rattle.chained_transfers.proofs.Commands.{is_accepted, cancel_leaves}
+use Rattle.chained_transfers.specs.Asynchronous.{OpensAsynchronous}
+use Rattle.chained_transfers.specs.AsynchronousTurns.{AsynchronousTakesTurns}
+use Rattle.chained_transfers.proofs.Accepting.{command_accepts}
+use Rattle.chained_transfers.proofs.Commands.{command_takes_turns}
+use Rattle.report_streams.specs.Streams.{has_stream}
 use Rattle.fed_lends.specs.Commands.{QueuesStand}
 use Rattle.async_walk.specs.Rows.{place}
 use Rattle.lent_structures.specs.Structures.{StructureSets}
@@ -31,14 +37,16 @@ use Rattle.ring_laws.specs.Told.{Endpoint as Told, endpoint_of}
 use Rattle.fed_queues.specs.Fed.{IsPublished}
 use Rattle.fed_queues.specs.Places.{HasHead, AreMet, HaveStreams}
 use Rattle.fed_queues.proofs.Places.{SameQueues, same_ends, met_stays, streams_stay}
-use Rattle.leaving_drivers.specs.Before.{IsAsBefore, NearSame}
-use Rattle.leaving_drivers.proofs.Alike.{back, near_fewer, met_before, head_now, there_now}
+use Rattle.leaving_drivers.specs.Before.{IsAsBefore, NearSame, UnlinksAtMost, WasSame}
+use Rattle.leaving_drivers.proofs.Alike.{near_fewer, met_before, head_now}
 use Rattle.leaving_drivers.proofs.Leaving.{cancel_as_before}
 use Rattle.left_queues.proofs.Same.{fed_now, last_now, still_out_now}
 use Rattle.feeding_worlds.specs.Feeding.{there_of, IsFeeding}
-use Rattle.feeding_worlds.proofs.Told.{there_by, has_there}
-use Rattle.feeding_worlds.proofs.FeedingCommands.{command_feeds}
-use Rattle.feeding_worlds.specs.Cancelling.{CancelFeeds, EachCommandFeeds}
+use Rattle.control_queues.proofs.Beside.{same_keep_controls, commands_keep_controls}
+use Rattle.feeding_worlds.proofs.Names.{command_apart}
+use Rattle.feeding_worlds.proofs.Told.{there_by, bulk_there}
+use Rattle.feeding_worlds.specs.FeedingLaws.{OpensApart}
+use Rattle.feeding_worlds.specs.Cancelling.{CancelFeeds}
 
 -- ---- a refusal
 
@@ -81,16 +89,15 @@ refused_queues d line name why member streams ends parts order out old = record 
       may = p.may;
     }
 
-refused_turns : (d : DriverContent) (line : ℕ) (name : EpName) (why : OfferError) → TakesTurns d → TakesTurns (refused_line d line name why)
+refused_turns : (d : DriverContent) (line : ℕ) (name : EpName) (why : OfferError) → AsynchronousTakesTurns d → AsynchronousTakesTurns (refused_line d line name why)
 refused_turns d line name why t =
-    let r = t.bulk in
+    let r = t.asynchronous in
     record {
-      bulk = record {
+      asynchronous = record {
         endpoints = r.endpoints;
         moves = λ i y there. let m = r.moves i y there in record { endpoint = m.endpoint; here = m.here; sort = m.sort };
         command = r.command;
         leaver = r.leaver;
-        mends = r.mends;
         unlinks = r.unlinks;
         removals = r.removals;
       };
@@ -98,7 +105,7 @@ refused_turns d line name why t =
       turns = record { places = t.turns.places; turns = t.turns.turns; returned = t.turns.returned };
     }
 
-refused_feeds : (fixed : Fixed) (member : ℕ → Bool) (x : Streams) (s : Standing) (w : World) (line : ℕ) (name : EpName) (why : OfferError) → IsFeeding fixed member x s w → IsFeeding fixed member x s (commanded_by w line name (Err why))
+pub refused_feeds : (fixed : Fixed) (member : ℕ → Bool) (x : Streams) (s : Standing) (w : World) (line : ℕ) (name : EpName) (why : OfferError) → IsFeeding fixed member x s w → IsFeeding fixed member x s (commanded_by w line name (Err why))
 refused_feeds fixed member x s w line name why f =
     let k = f.working in
     record {
@@ -111,6 +118,8 @@ refused_feeds fixed member x s w line name why f =
       turns = refused_turns w.driver line name why f.turns;
       queues = refused_queues w.driver line name why member x.streams x.endpoint s.parts s.order s.out f.queues;
       counted = f.counted;
+      controls = same_keep_controls w.driver (refused_line w.driver line name why) s.parts s.order s.out refl refl refl refl refl refl f.controls;
+      controls_apart = f.controls_apart;
       unopened = f.unopened;
     }
 
@@ -120,7 +129,7 @@ still_frameless : (words : List ℕ) (w : World) (m : Mem) → IsFrameless openi
 still_frameless words w m (off is) = off is
 still_frameless words w m (empty none over) = empty none over
 
-accepted_working : (fixed : Fixed) (member : ℕ → Bool) (x : Streams) (s : Standing) (w : World) (line : ℕ) (name : EpName) (o : Offered) → IsWorking fixed opening_base member x s w → IsInPlace o.memory o.driver
+pub accepted_working : (fixed : Fixed) (member : ℕ → Bool) (x : Streams) (s : Standing) (w : World) (line : ℕ) (name : EpName) (o : Offered) → IsWorking fixed opening_base member x s w → IsInPlace o.memory o.driver
     → DrivesRing opening_base member s.parts s.hand (place w.control.walk w.registers o.memory) o.driver → IsWorking fixed opening_base member x s (commanded_by w line name (Ok o))
 accepted_working fixed member x s w line name o k in_place drives = record {
   operating = k.operating;
@@ -140,7 +149,7 @@ accepted_working fixed member x s w line name o k in_place drives = record {
   driven = drives.driven;
 }
 
-drives_now : (fixed : Fixed) (member : ℕ → Bool) (x : Streams) (s : Standing) (w : World) → IsWorking fixed opening_base member x s w → DrivesRing opening_base member s.parts s.hand (place w.control.walk w.registers w.memory) w.driver
+pub drives_now : (fixed : Fixed) (member : ℕ → Bool) (x : Streams) (s : Standing) (w : World) → IsWorking fixed opening_base member x s w → DrivesRing opening_base member s.parts s.hand (place w.control.walk w.registers w.memory) w.driver
 drives_now fixed member x s w k = record { ring = k.streaming.controlled.ring; driven = k.driven }
 
 -- ---- queue heads that are met
@@ -177,35 +186,45 @@ queues_now d f member streams ends parts order out b near old = record {
 }
 
 there_was : (d f : DriverContent) (n : ℕ) → IsAsBefore d f → there_of f n ≡ true → there_of d n ≡ true
-there_was d f n b on = there_by d n (there_now f d n (back d f b) (has_there f n on))
+there_was d f n b on =
+    let h = bulk_there f n on in
+    let w : WasSame d h.has.number h.has.endpoint = b.ends h.has.number h.has.endpoint h.has.here in
+    there_by d n
+    (record {
+      has = record {
+        number = h.has.number;
+        endpoint = w.endpoint;
+        here = w.here;
+        there = record { linked = λ is. never_opens d.command w.endpoint.queue b.idle is; kept = sym w.gone ∙ h.has.there.kept };
+        at = h.has.at ∙ ap (λ (q : ℕ). 32 * q) w.queue;
+      };
+      stream = ap (λ (desc : EpDesc). has_stream desc.kind) (sym w.desc) ∙ h.stream;
+    })
+  where
+    never_opens : (c : Option Command) (q : ℕ) → UnlinksAtMost c → c ≡ Some (unfinished.Open q) → ⊥
+    never_opens c q at is = subst UnlinksAtMost is at
 
-cancelled_feeds : (fixed : Fixed) (member : ℕ → Bool) (x : Streams) (s : Standing) (w : World) (line : ℕ) (name : EpName) (o : Offered) → IsOffered w.driver.room (commands.Cancel name) → IsFeeding fixed member x s w
-    → offered w.driver w.memory (commands.Cancel name) ≡ Ok o → IsFeeding fixed member x s (commanded_by w line name (Ok o))
-cancelled_feeds fixed member x s w line name o room f is =
+pub cancelled_feeds : (fixed : Fixed) (member : ℕ → Bool) (x : Streams) (s : Standing) (w : World) (line : ℕ) (name : EpName) (cmd : Cmd) (o : Offered) → IsInPlace o.memory o.driver
+    → OpensAsynchronous cmd → OpensApart x.stream w cmd → IsFeeding fixed member x s w → offered w.driver w.memory cmd ≡ Ok o → Cancels w.driver w.memory o → IsFeeding fixed member x s (commanded_by w line name (Ok o))
+cancelled_feeds fixed member x s w line name cmd o in_place only apart f is why =
     let k = f.working in
-    let in_place = command_in_place w.driver w.memory (commands.Cancel name) o room k.place is in
-    let why : Cancels w.driver w.memory o = is_accepted w.driver w.memory (commands.Cancel name) o f.turns.bulk tt is in
     let b = cancel_as_before w.driver w.memory o f.turns why in
     record {
       working = accepted_working fixed member x s w line name o k in_place (cancel_drives opening_base member s.parts s.hand w.control.walk w.registers w.memory w.driver o why (drives_now fixed member x s w k));
-      turns = cancel_leaves w.driver w.memory o why f.turns;
+      turns = command_takes_turns w.driver w.memory cmd o k.place.sound.stands k.place.sound.owners f.turns only is;
       queues = queues_now w.driver o.driver member x.streams x.endpoint s.parts s.order s.out b.0 b.1 f.queues;
       counted = λ n on. f.counted n (there_was w.driver o.driver n b.0 on);
+      controls = commands_keep_controls w.driver w.memory cmd o s.parts s.order s.out f.turns.asynchronous only is f.controls;
+      controls_apart = command_apart x.stream w cmd o f.turns only apart is f.controls_apart;
       unopened = f.unopened;
     }
 
 cancel_by : (fixed : Fixed) (member : ℕ → Bool) (x : Streams) (s : Standing) (w : World) (line : ℕ) (name : EpName) (r : Result Offered OfferError) → IsOffered w.driver.room (commands.Cancel name) → IsFeeding fixed member x s w
     → offered w.driver w.memory (commands.Cancel name) ≡ r → IsFeeding fixed member x s (commanded_by w line name r)
-cancel_by fixed member x s w line name (Ok o) room f is = cancelled_feeds fixed member x s w line name o room f is
+cancel_by fixed member x s w line name (Ok o) room f is =
+    let why : Cancels w.driver w.memory o = command_accepts w.driver w.memory (commands.Cancel name) o f.turns.asynchronous tt is in
+    cancelled_feeds fixed member x s w line name (commands.Cancel name) o (command_in_place w.driver w.memory (commands.Cancel name) o room f.working.place is) tt (λ p accepted. tt) f is why
 cancel_by fixed member x s w line name (Err why) room f is = refused_feeds fixed member x s w line name why f
 
 pub cancel_feeds : CancelFeeds
 cancel_feeds fixed member x s w line name room f = cancel_by fixed member x s w line name (offered w.driver w.memory (commands.Cancel name)) room f refl
-
-pub each_command_feeds : EachCommandFeeds
-each_command_feeds fixed member x s w line (commands.Cancel name) only room f = cancel_feeds fixed member x s w line name room f
-each_command_feeds fixed member x s w line (commands.OpenEp d) only room f = command_feeds fixed member x s w line (commands.OpenEp d) only room f
-each_command_feeds fixed member x s w line (commands.Get name len by) only room f = command_feeds fixed member x s w line (commands.Get name len by) tt room f
-each_command_feeds fixed member x s w line (commands.Put name bytes by) only room f = command_feeds fixed member x s w line (commands.Put name bytes by) tt room f
-each_command_feeds fixed member x s w line (commands.Control name setup bytes) only room f = command_feeds fixed member x s w line (commands.Control name setup bytes) tt room f
-each_command_feeds fixed member x s w line (commands.Iso name count len seed) only room f = command_feeds fixed member x s w line (commands.Iso name count len seed) tt room f

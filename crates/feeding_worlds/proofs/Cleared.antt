@@ -34,6 +34,7 @@ use Rattle.bus_world.specs.World.{World, driver_parts, with_parts}
 use Rattle.stream_worlds.specs.Streaming.{Streams, Standing, wired}
 use Rattle.feeding_worlds.specs.Feeding.{heads_of, IsFeeding}
 use Rattle.feeding_worlds.specs.Taking.{outs_of, IsTaking}
+use Rattle.feeding_worlds.proofs.Told.{out_way}
 use Rattle.feeding_worlds.proofs.Heads.{queue_on}
 use Rattle.feeding_worlds.specs.Left.{AreShut, IsLeft, taking_of}
 use Rattle.feeding_worlds.specs.LeftLaws.{ClearKeepsLeft}
@@ -58,7 +59,8 @@ module _ (fixed : Fixed) (member : ℕ → Bool) (x : Streams) (s : Standing) (w
       → IsToldTaken (concat (s.acc n)) (bytes_taken (taker_of (wired fixed w) z.desc.name.addr z.desc.name.num))
   met_taken takes t goes =
       let has = f.queues.streams_are.each e z here met in
-      let on : outs_of member x.streams n ≡ true = ap (λ (b : Bool). if b then false else heads_of member n) (has.0 ∙ sends_comes_not z.desc.name.way goes) ∙ queue_on fixed member x s w f e z here met in
+      let on : outs_of member x.streams x.endpoint n ≡ true =
+      ap (λ (b : Bool). if b then false else heads_of member x.endpoint n) (has.0 ∙ sends_comes_not z.desc.name.way goes) ∙ queue_on fixed member x s w f e z here met (out_way z.desc.name.way goes) in
       let o : Option Taker = taker_of (wired fixed w) (x.endpoint n).addr (x.endpoint n).ep in
       subst (λ (k : Told). IsToldTaken (concat (s.acc n)) (bytes_taken (taker_of (wired fixed w) k.addr k.ep))) has.1
       (taken_by o (out_begins o (concat (s.acc n)) s.parts s.hand n (x.endpoint n) (t.piped.pipes n on)))
@@ -100,7 +102,7 @@ module _ (fixed : Fixed) (takes : ℕ → ℕ → Bool) (member : ℕ → Bool) 
       left_is_shut q.driver false takes z.desc.name.addr z.desc.name.num (record { number = e; endpoint = z; here = here; named = (refl, refl); side = goes; unmet = off })
 
   pub left_then : IsLeft fixed (taking_of takes q.driver) x.packets s.acc q
-  left_then = record { walking = walking_then; owed = owed_then; closed_ins = ins_then; closed_outs = outs_then; shut = shut_then }
+  left_then = record { named = left.named; walking = walking_then; owed = owed_then; closed_ins = ins_then; closed_outs = outs_then; shut = shut_then }
 
 pub clear_keeps_left : ClearKeepsLeft
 clear_keeps_left fixed takes member narrow x s w row apart are f t left =

@@ -1,5 +1,5 @@
 -- Where Async Advance is cleared, the queues that the walk may still meet are fed as before.
-use Rattle.std.proofs.Common.{◌≡◌, ◌⊎◌, ℕ, ◌*◌, ◌==◌, ◌&&◌, Bool, true, slice_get, Some, None, ap, sym, subst, ◌∙◌, ⊎_elim, inl, inr, refl}
+use Rattle.std.proofs.Common.{◌≡◌, ◌⊎◌, ℕ, ◌*◌, ◌==◌, ◌&&◌, Bool, true, false, not, slice_get, Some, None, ap, sym, subst, ◌∙◌, ⊎_elim, inl, inr, refl}
 use Rattle.std.proofs.lemmas.Bool.{eqb-true, eq-eqb, and_parts, and_from, or_cases, or_left, or_right}
 use Rattle.usb_bus.specs.Bus.{Fixed}
 use Rattle.driver_rows.specs.declared.content.Endpoint.{Endpoint}
@@ -12,8 +12,8 @@ use Rattle.endpoint_lives.specs.Lives.{any_at}
 use Rattle.endpoint_lives.proofs.Lives.{any_there, there_any}
 use Rattle.run_owners.specs.Kept.{HasOwners}
 use Rattle.hc_core.specs.Controller.{walk_place}
-use Rattle.chained_transfers.specs.InTurn.{TakesTurns}
-use Rattle.chained_transfers.proofs.Events.{event_turns}
+use Rattle.chained_transfers.specs.AsynchronousTurns.{AsynchronousTakesTurns}
+use Rattle.chained_transfers.proofs.Events.{event_queues}
 use Rattle.walk_members.specs.Reached.{IsWalkIn}
 use Rattle.ring_laws.specs.Stores.{IsWider}
 use Rattle.driver_laws.specs.Driven.{is_quiet}
@@ -39,12 +39,15 @@ use Rattle.controlled_walks.proofs.Worlds.{driver_walks}
 use Rattle.stream_worlds.specs.Streaming.{Streams, Standing, wired}
 use Rattle.shared_worlds.specs.Working.{IsWorking}
 use Rattle.shared_worlds.proofs.Worlds.{quiet_working}
+use Rattle.control_queues.specs.Controls.{ControlsStand}
+use Rattle.control_queues.specs.Beside.{touches_none}
+use Rattle.control_queues.proofs.Beside.{silent_keeps_controls}
 use Rattle.feeding_worlds.specs.Feeding.{IsFeeding}
 use Rattle.feeding_worlds.specs.Clearing.{narrowed_to, ClearFeeds}
 
 -- ---- the queue heads that the walk meets then
 
-module _ (p : Parts) (rings : Bool) (owners : HasOwners p.driver) (turns : TakesTurns p.driver) (idle : p.driver.command ≡ None) (narrow : ℕ → Bool) (are : (n : ℕ) → narrow n ≡ is_reached (after_driver_row rows.ClearAdvance p).driver rings n) where
+module _ (p : Parts) (rings : Bool) (owners : HasOwners p.driver) (turns : AsynchronousTakesTurns p.driver) (idle : p.driver.command ≡ None) (narrow : ℕ → Bool) (are : (n : ℕ) → narrow n ≡ is_reached (after_driver_row rows.ClearAdvance p).driver rings n) where
   abbrev d : DriverContent
   d = p.driver
 
@@ -100,22 +103,26 @@ module _ (p : Parts) (rings : Bool) (owners : HasOwners p.driver) (turns : Takes
 abbrev after_row : World → DriverRow → World
 after_row w row = with_parts w (after_driver_row row (driver_parts w))
 
+-- a name that is kept had its stream
+shut_name : (stream left : ℕ → ℕ → Bool) (addr ep : ℕ) → stream addr ep ≡ false → names_kept stream left addr ep ≡ false
+shut_name stream left addr ep off = ap (λ (b : Bool). b && not (left addr ep)) off
+
 cleared_feeds : (fixed : Fixed) (member narrow : ℕ → Bool) (x : Streams) (s : Standing) (w : World) → w.driver.command ≡ None → AreNamesApart w.driver
     → IsReachedIn narrow (after_row w rows.ClearAdvance).driver (after_row w rows.ClearAdvance).registers → IsFeeding fixed member x s w
-    → IsWorking fixed opening_base member x s (after_row w rows.ClearAdvance) → TakesTurns (after_row w rows.ClearAdvance).driver
-    → IsWalkIn (after_row w rows.ClearAdvance).driver (after_row w rows.ClearAdvance).registers w.control.walk
+    → IsWorking fixed opening_base member x s (after_row w rows.ClearAdvance) → AsynchronousTakesTurns (after_row w rows.ClearAdvance).driver
+    → IsWalkIn (after_row w rows.ClearAdvance).driver (after_row w rows.ClearAdvance).registers w.control.walk → ControlsStand (after_row w rows.ClearAdvance).driver s.parts s.order s.out
     → IsFeeding fixed narrow (narrowed_to x (after_row w rows.ClearAdvance).driver narrow) s (after_row w rows.ClearAdvance)
-cleared_feeds fixed member narrow x s w idle apart are f k turns walk =
+cleared_feeds fixed member narrow x s w idle apart are f k turns walk silent =
     let p = driver_parts w in
     let q = after_row w rows.ClearAdvance in
     let owners = f.working.place.sound.owners in
     let b = clear_as_before p idle in
     let met = narrow_met p q.registers.doorbell owners f.turns idle narrow are in
     let fewer = narrow_fewer p q.registers.doorbell owners f.turns idle narrow are member f.queues.met in
-    let narrows = clear_narrows p narrow f.turns.bulk owners idle met in
+    let narrows = clear_narrows p narrow f.turns.asynchronous owners idle met in
     let now = names_kept x.stream (left_names q.driver true) in
     let those = heads_met x.streams narrow in
-    let closes = (ins_are_closed w.driver q.driver x.stream member narrow x.streams those x.endpoint f.turns.bulk apart f.queues.streams_are narrows fewer f.working.streaming.ends (λ n. refl)).0 in
+    let closes = (ins_are_closed w.driver q.driver x.stream member narrow x.streams those x.endpoint f.turns.asynchronous apart f.queues.streams_are narrows fewer f.working.streaming.ends (λ n. refl)).0 in
     record {
       working = record {
         operating = k.operating;
@@ -143,6 +150,8 @@ cleared_feeds fixed member narrow x s w idle apart are f k turns walk =
         out_are = still_out_now w.driver q.driver b.0 s.out f.queues.out_are;
       };
       counted = λ n on. f.counted n on;
+      controls = silent;
+      controls_apart = λ e z here way. shut_name x.stream (left_names q.driver true) z.desc.name.addr z.desc.name.num (f.controls_apart e z here way);
       unopened = close_some_unopened sender_of x.stream now x.packets member narrow x.streams those x.endpoint (wired fixed w) closes f.unopened;
     }
 
@@ -154,5 +163,6 @@ clear_feeds fixed member narrow x s w is walking apart are f =
     subst (λ (row : DriverRow). IsFeeding fixed narrow (narrowed_to x (after_row w row).driver narrow) s (after_row w row)) (sym is)
     (cleared_feeds fixed member narrow x s w found.idle apart (same (λ v. IsReachedIn narrow v.driver v.registers) are) f
     (same (λ v. IsWorking fixed opening_base member x s v) (quiet_working fixed opening_base member x s w f.working (ap is_quiet is)))
-    (same (λ v. TakesTurns v.driver) (event_turns p f.working.place.sound.owners f.turns))
-    (same (λ v. IsWalkIn v.driver v.registers v.control.walk) (driver_walks w walking).walk))
+    (same (λ v. AsynchronousTakesTurns v.driver) (event_queues p f.working.place.sound.owners f.turns))
+    (same (λ v. IsWalkIn v.driver v.registers v.control.walk) (driver_walks w walking).walk)
+    (same (λ v. ControlsStand v.driver s.parts s.order s.out) (silent_keeps_controls p s.parts s.order s.out (ap touches_none is) f.controls)))

@@ -1,17 +1,17 @@
 -- An event of the controller moves nothing of the endpoints that have left the ring: no queue head that the walk may meet is theirs, and none sends to them.
-use Rattle.std.proofs.Common.{◌≡◌, ◌≢◌, ℕ, ◌*◌, Bool, true, false, not, if◌then◌else◌, List, [], ◌∷◌, ◌++◌, slice_get, Option, Some, None, option_map, ap, refl, sym, subst, ◌∙◌, ⊎_elim, arith}
+use Rattle.std.proofs.Common.{◌≡◌, ◌≢◌, ◌⊎◌, ℕ, ◌*◌, Bool, true, false, ◌==◌, ◌&&◌, not, if◌then◌else◌, List, [], ◌∷◌, ◌++◌, slice_get, Option, Some, None, option_map, ap, refl, sym, subst, ◌∙◌, ⊎_elim, inl, inr, arith}
 use Rattle.std.specs.List.{concat}
-use Rattle.std.proofs.lemmas.Bool.{false≢true, cases_eq, not_from_false}
+use Rattle.std.proofs.lemmas.Bool.{false≢true, eq-eqb, and_from, not_from_false}
 use Rattle.std.proofs.lemmas.List.{append-nil}
 use Rattle.std.proofs.lemmas.List.Folds.{concat-append}
 use Rattle.usb_bus.specs.Bus.{Fixed}
 use Rattle.qh_qtd.specs.declared.qtd.Qtd.{Qtd}
 use Rattle.driver_rows.specs.declared.content.Endpoint.{Endpoint}
 use Rattle.driver_rows.specs.DriverContent.{DriverContent}
-use Rattle.driver_rows.specs.Words.{head_block}
+use Rattle.driver_rows.specs.Words.{head_block, is_control}
 use Rattle.endpoint_lives.specs.Lives.{may_meet}
 use Rattle.run_owners.specs.Owners.{Owner, Head, QueueHead as QueueOf, EndpointRuns, Views, AreOwned, views_of}
-use Rattle.lent_structures.specs.Structures.{Element, StructureSets}
+use Rattle.lent_structures.specs.Structures.{Element, Structures, StructureSets}
 use Rattle.lent_structures.proofs.Names.{not_same}
 use Rattle.hc_core.specs.Controller.{walk_place}
 use Rattle.ring_laws.specs.Hand.{Hand}
@@ -20,7 +20,9 @@ use Rattle.ring_laws.specs.Effects.{Makes, buffer_of, settlement}
 use Rattle.ring_laws.specs.Streams.{moved_bytes, StreamEffect}
 use Rattle.ring_laws.specs.Streams.StreamEffect.{same, grows}
 use Rattle.ring_laws.specs.Order.{bytes_of_effect}
-use Rattle.ring_laws.specs.Pipes.{grown}
+use Rattle.ring_laws.specs.Pipes.{IsIn, grown}
+use Rattle.ring_laws.specs.OutPipeLaws.{SendsNone}
+use Rattle.ring_laws.specs.Told.{Endpoint as Told}
 use Rattle.ring_laws.specs.OutBus.{Taker}
 use Rattle.controlled_streams.specs.Control.{IsControlled, ControlEffect, a_microframe, a_step}
 use Rattle.driver_laws.specs.PartOpened.{opening_base}
@@ -28,22 +30,26 @@ use Rattle.driver_laws.specs.Inventory.{Sort, OfElement, sort_of, sorts_of, IsQu
 use Rattle.fed_queues.specs.Places.{IsThere, HasHead}
 use Rattle.left_queues.proofs.Unmet.{apart_by, off_head_by, near_other}
 use Rattle.leaving_drivers.proofs.Unmet.{gone_unmet}
-use Rattle.closed_streams.specs.Left.{AreQuiet}
-use Rattle.closed_streams.proofs.Left.{none_sends_to_any_closed}
 use Rattle.closed_streams.proofs.Aside.{aside_takers}
-use Rattle.scripted_streams.specs.Senders.{sender_of}
 use Rattle.scripted_takers.specs.Takers.{taker_of}
 use Rattle.scripted_takers.proofs.Asking.{scripted_out_bus}
 use Rattle.scripted_takers.proofs.Beginning.{scripted_out_begins}
 use Rattle.controlled_walks.proofs.Worlds.{controller_walks}
 use Rattle.pipe_agreement.specs.Prefix.{IsPrefix}
-use Rattle.report_streams.specs.Streams.{told_in}
+use Rattle.report_streams.specs.Streams.{told_in, has_stream}
 use Rattle.told_endpoints.specs.Telling.{lines_in}
 use Rattle.taken_reports.specs.Taken.{IsToldTaken}
 use Rattle.taken_reports.specs.Laws.{bytes_taken}
 use Rattle.bus_world.specs.World.{World, controller_parts, controller_next}
 use Rattle.stream_worlds.specs.Streaming.{Streams, Standing, begins_by, transacts_by, wired}
-use Rattle.stream_worlds.specs.Outs.{AreAside}
+use Rattle.stream_worlds.specs.Outs.{IsAside, AreAside}
+use Rattle.usb_base.specs.declared.packets.EpKind.{EpKind}
+use Rattle.usb_base.specs.declared.packets.EpKind.TheVariants as kinds
+use Rattle.declared_controls.specs.Names.{IsNameOf}
+use Rattle.chained_transfers.specs.Bulk.{receives}
+use Rattle.feeding_worlds.proofs.Told.{stream_out, data_way}
+use Rattle.feeding_worlds.proofs.Heads.{queue_on}
+use Rattle.feeding_worlds.proofs.TakingAlike.{outs_on}
 use Rattle.feeding_worlds.specs.Feeding.{heads_of, IsFeeding, GoesOnBeside, bytes_of_event}
 use Rattle.feeding_worlds.specs.Taking.{outs_of, IsTaking}
 use Rattle.feeding_worlds.specs.Left.{IsLeft, after_event}
@@ -74,10 +80,6 @@ no_element v owner parts a t owned k here = none_at_head v owner (32 * head_bloc
 
 none_more : (acc : List (List ℕ)) → concat (acc ++ [] ∷ []) ≡ concat acc
 none_more acc = concat-append acc ([] ∷ []) ∙ append-nil (concat acc)
-
-on_by : (b : Bool) → not b ≡ true → b ≡ false
-on_by true on = absurd (false≢true on)
-on_by false on = refl
 
 off_by : (b : Bool) → (b ≡ true → ⊥) → b ≡ false
 off_by true never = absurd (never refl)
@@ -146,42 +148,87 @@ module _ (fixed : Fixed) (takes : ℕ → ℕ → Bool) (member : ℕ → Bool) 
 
   -- ---- takers
 
+  -- number 0 is that of control endpoints
   abbrev closed : ℕ → ℕ → Bool
-  closed addr ep = not (takes addr ep)
+  closed addr ep = not (takes addr ep) && not (ep == 0)
 
-  quiet : AreQuiet member x.streams (outs_of member x.streams) x.endpoint s.parts
-  quiet n met none off =
-      let head : n ≡ 32 * head_block = is_head n met none off in
-      let none_there : (a : ℕ) (t : Qtd) → s.parts n a ≡ Some (Element t) → ⊥ =
-      λ a t here.
-      no_element (views_of d) f.working.place.sound.owners.owner s.parts a t f.working.place.sound.owners.owned.each f.working.driven (ap (λ (i : ℕ). s.parts i a) (sym head) ∙ here) in (
-        (k.piped.others n met off).0,
-        (λ a t here on is. none_there a t here, λ a t here on is. none_there a t here),
-      )
+  takes_open : (addr ep : ℕ) → takes addr ep ≡ true → closed addr ep ≡ false
+  takes_open addr ep on = ap (λ (b : Bool). not b && not (ep == 0)) on
+
+  zero_open : (addr ep : ℕ) → ep ≡ 0 → closed addr ep ≡ false
+  zero_open addr ep is = ap (λ (b : Bool). not (takes addr ep) && not b) (eq-eqb ep 0 is) ∙ and_off (not (takes addr ep))
     where
-      is_head : (n : ℕ) → member n ≡ true → x.streams n ≡ false → outs_of member x.streams n ≡ false → n ≡ 32 * head_block
-      is_head n met none off =
-          ⊎_elim (λ (head : n ≡ 32 * head_block). head)
-          (λ (differs : n ≢ 32 * head_block).
-          absurd
-          (false≢true
-          (sym off ∙ ap (λ (b : Bool). if b then false else heads_of member n) none ∙ ap (λ (b : Bool). if b then false else member n) (not_same n (32 * head_block) differs) ∙ met)))
-          (cases_eq n (32 * head_block))
+      and_off : (b : Bool) → (b && false) ≡ false
+      and_off true = refl
+      and_off false = refl
+
+  -- the head of the ring has no qTD
+  head_sends_none : SendsNone (s.parts (32 * head_block))
+  head_sends_none a t here on out = no_element (views_of d) f.working.place.sound.owners.owner s.parts a t f.working.place.sound.owners.owned.each f.working.driven here
+
+  ins_send_none : (part : Structures) → IsIn part → SendsNone part
+  ins_send_none part ins a t here on out = one_zero t.token.pid (ins a t here on) out
+    where
+      one_zero : (i : ℕ) → i ≡ 1 → i ≡ 0 → ⊥
+      one_zero i one none = cc
+
+  -- a control endpoint has number 0
+  control_zero : (e : ℕ) (z : Endpoint) → slice_get d.endpoints e ≡ Some z → is_control z.desc.kind ≡ true → z.desc.name.num ≡ 0
+  control_zero e z here on = by_kind z.desc.kind (l.named e z here) on
+    where
+      by_kind : (kind : EpKind) → IsNameOf kind z.desc.name → is_control kind ≡ true → z.desc.name.num ≡ 0
+      by_kind kinds.Control named is = named.number
+      by_kind kinds.Iso named is = absurd (false≢true is)
+      by_kind kinds.Bulk named is = absurd (false≢true is)
+      by_kind kinds.Interrupt named is = absurd (false≢true is)
+
+  -- .. and an OUT endpoint another one
+  out_number : (e : ℕ) (z : Endpoint) → slice_get d.endpoints e ≡ Some z → receives z.desc.name.way ≡ false → z.desc.name.num ≢ 0
+  out_number e z here goes = by_kind z.desc.kind (stream_out z.desc (f.turns.asynchronous.endpoints e z here).asynchronous goes) (l.named e z here)
+    where
+      by_kind : (kind : EpKind) → has_stream kind ≡ true → IsNameOf kind z.desc.name → z.desc.name.num ≢ 0
+      by_kind kinds.Control on named = absurd (false≢true on)
+      by_kind kinds.Iso on named = absurd (false≢true on)
+      by_kind kinds.Bulk on named = λ none. let least = named.least in absurd (omega (arith, least, none))
+      by_kind kinds.Interrupt on named = λ none. let least = named.least in absurd (omega (arith, least, none))
 
   aside : AreAside closed member (λ n. false) x.endpoint s.parts
-  aside =
-      none_sends_to_any_closed sender_of taker_of x.stream takes closed x.packets member x.streams (outs_of member x.streams) x.endpoint s.acc (λ n. concat (s.acc n)) s.parts s.hand (wired fixed w)
-      (λ addr ep on. on_by (takes addr ep) on) k.ends f.working.streaming.piped k.piped quiet
+  aside n met every = by_out (outs_of member x.streams x.endpoint n) refl
+    where
+      by_dtc : outs_of member x.streams x.endpoint n ≡ false → x.streams n ≡ false → (h : HasHead d n) → (b : Bool) → is_control h.endpoint.desc.kind ≡ b → (closed (x.endpoint n).addr (x.endpoint n).ep ≡ false) ⊎ SendsNone (s.parts n)
+      by_dtc off none h true on =
+          let e = h.endpoint in
+          let ep : (x.endpoint n).ep ≡ 0 =
+          ap (λ (i : ℕ). (x.endpoint i).ep) h.at ∙ ap (λ (t : Told). t.ep) (f.queues.streams_are.each h.number e h.here h.met).1 ∙ control_zero h.number e h.here on in
+          inl (zero_open (x.endpoint n).addr (x.endpoint n).ep ep)
+      by_dtc off none h false one_way =
+          absurd
+          (false≢true
+          (sym off ∙ outs_on member x.streams x.endpoint n none
+          (ap (heads_of member x.endpoint) h.at ∙ queue_on fixed member x s w f h.number h.endpoint h.here h.met (data_way h.endpoint.desc (f.turns.asynchronous.endpoints h.number h.endpoint h.here).asynchronous one_way))))
 
-  pub taker_stays : (addr ep : ℕ) (t : Taker) → takes addr ep ≡ false → taker_of (wired fixed w) addr ep ≡ Some t → taker_of (wired fixed new) addr ep ≡ Some t
-  taker_stays addr ep t shut is =
+      by_in : outs_of member x.streams x.endpoint n ≡ false → (b : Bool) → x.streams n ≡ b → IsAside closed s.parts n (x.endpoint n)
+      by_in off true on = let pipe = f.working.streaming.piped.pipes n on in (pipe.named, inr (ins_send_none (s.parts n) pipe.ins))
+      by_in off false none = (
+        (k.piped.others n met off).0,
+        ⊎_elim (λ (head : n ≡ 32 * head_block). inr (subst (λ (i : ℕ). SendsNone (s.parts i)) (sym head) head_sends_none)) (λ (h : HasHead d n). by_dtc off none h (is_control h.endpoint.desc.kind) refl)
+            (f.queues.met.only n met),
+      )
+
+      by_out : (b : Bool) → outs_of member x.streams x.endpoint n ≡ b → IsAside closed s.parts n (x.endpoint n)
+      by_out true on = ((k.piped.pipes n on).named, inl (takes_open (x.endpoint n).addr (x.endpoint n).ep (k.ends.on n on)))
+      by_out false off = by_in off (x.streams n) refl
+
+  pub taker_stays : (addr ep : ℕ) (t : Taker) → takes addr ep ≡ false → ep ≢ 0 → taker_of (wired fixed w) addr ep ≡ Some t → taker_of (wired fixed new) addr ep ≡ Some t
+  taker_stays addr ep t shut some is =
       aside_takers begins_by transacts_by closed taker_of opening_base member x.endpoint s.parts s.hand (controller_parts w) (wired fixed w) (wired fixed new) now later (scripted_out_bus closed)
-      (scripted_out_begins closed) controlled aside moves addr ep t (not_from_false (takes addr ep) shut) is
+      (scripted_out_begins closed) controlled aside moves addr ep t
+      (and_from (not (takes addr ep)) (not (ep == 0)) (not_from_false (takes addr ep) shut) (not_from_false (ep == 0) (not_same ep 0 some))) is
 
   -- what begins what a taker had taken begins what it has taken
-  told_stays : (addr ep : ℕ) (told : List ℕ) → takes addr ep ≡ false → IsToldTaken told (bytes_taken (taker_of (wired fixed w) addr ep))
+  told_stays : (addr ep : ℕ) (told : List ℕ) → takes addr ep ≡ false → ep ≢ 0 → IsToldTaken told (bytes_taken (taker_of (wired fixed w) addr ep))
       → IsToldTaken told (bytes_taken (taker_of (wired fixed new) addr ep))
-  told_stays addr ep told shut = by_taker (taker_of (wired fixed w) addr ep) refl
+  told_stays addr ep told shut some = by_taker (taker_of (wired fixed w) addr ep) refl
     where
       from_none : (o : Option Taker) → told ≡ [] → IsToldTaken told (bytes_taken o)
       from_none None none = none
@@ -189,10 +236,11 @@ module _ (fixed : Fixed) (takes : ℕ → ℕ → Bool) (member : ℕ → Bool) 
 
       by_taker : (o : Option Taker) → taker_of (wired fixed w) addr ep ≡ o → IsToldTaken told (bytes_taken o) → IsToldTaken told (bytes_taken (taker_of (wired fixed new) addr ep))
       by_taker None is none = from_none (taker_of (wired fixed new) addr ep) none
-      by_taker (Some t) is begins = subst (λ (o : Option Taker). IsToldTaken told (bytes_taken o)) (sym (taker_stays addr ep t shut is)) begins
+      by_taker (Some t) is begins = subst (λ (o : Option Taker). IsToldTaken told (bytes_taken o)) (sym (taker_stays addr ep t shut some is)) begins
 
   pub left_beside : IsLeft fixed takes x.packets (after_event g).acc new
   left_beside = record {
+    named = l.named;
     walking = controller_walks fixed w f.working.place l.walking;
     owed = l.owed;
     closed_ins = record {
@@ -203,9 +251,9 @@ module _ (fixed : Fixed) (takes : ℕ → ℕ → Bool) (member : ℕ → Bool) 
     closed_outs = record {
       left = λ e z here outs there off.
           subst (λ (bs : List ℕ). IsToldTaken bs (bytes_taken (taker_of (wired fixed new) z.desc.name.addr z.desc.name.num))) (sym (left_stays e z here there off))
-          (told_stays z.desc.name.addr z.desc.name.num (concat (s.acc (32 * z.queue))) (l.shut e z here outs off) (l.closed_outs.left e z here outs there off));
+          (told_stays z.desc.name.addr z.desc.name.num (concat (s.acc (32 * z.queue))) (l.shut e z here outs off) (out_number e z here outs) (l.closed_outs.left e z here outs there off));
       gone = λ e z here outs gone.
-          told_stays z.desc.name.addr z.desc.name.num (told_in d.store (lines_in z.desc.name d.reports)) (l.shut e z here outs (gone_unmet d e z f.working.place.sound.owners here gone))
+          told_stays z.desc.name.addr z.desc.name.num (told_in d.store (lines_in z.desc.name d.reports)) (l.shut e z here outs (gone_unmet d e z f.working.place.sound.owners here gone)) (out_number e z here outs)
           (l.closed_outs.gone e z here outs gone);
     };
     shut = l.shut;

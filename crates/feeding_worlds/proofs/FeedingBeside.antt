@@ -36,6 +36,7 @@ use Rattle.fed_events.proofs.Beside.{fed_still, last_still}
 use Rattle.controlled_streams.proofs.Waiting.{unopened_wait}
 use Rattle.feeding_worlds.specs.Feeding.{there_of, IsFeeding, bytes_of_event, acc_after, Goes}
 use Rattle.feeding_worlds.specs.FeedingLaws.{ControllerFeeds}
+use Rattle.control_queues.proofs.Beside.{controller_keeps_controls}
 use Rattle.feeding_worlds.proofs.Heads.{right_of}
 
 -- ---- the packets taken
@@ -107,7 +108,7 @@ module _ (fixed : Fixed) (member : ℕ → Bool) (x : Streams) (s : Standing) (w
       (λ n on. after_on x.streams s.acc g.at g.more (λ k. bytes_of_event k g.event.effect) n on) g.piped
 
 pub controller_feeds : ControllerFeeds
-controller_feeds fixed member x s w heard f =
+controller_feeds fixed member x s w heard tails f =
     let k = f.working in
     let base = opening_base in
     let new : World = controller_next fixed w in
@@ -143,6 +144,9 @@ controller_feeds fixed member x s w heard f =
           out_are = f.queues.out_are;
         };
         counted = counted;
+        controls = controller_keeps_controls begins_by transacts_by base member s.parts s.hand (controller_parts w) (wired fixed w) (wired fixed new) g.event.now g.event.later w.driver s.order s.out
+            k.streaming.controlled g.event.effect (λ e z here met. (tails e z here met).stands) f.controls;
+        controls_apart = f.controls_apart;
         unopened = unopened_wait begins_by transacts_by x.stream x.packets sender_of base member x.streams x.endpoint s.acc s.parts s.hand (controller_parts w) (wired fixed w) (wired fixed new) g.event.now g.event.later
             (scripted_bus x.stream) (scripted_begins x.stream) k.streaming.controlled k.streaming.piped g.event.effect f.unopened;
       };

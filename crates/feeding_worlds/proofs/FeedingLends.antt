@@ -2,7 +2,7 @@
 use Rattle.std.proofs.Common.{◌≡◌, ℕ, true, List, Option, Some, ap, sym, ◌∙◌}
 use Rattle.driver_rows.specs.declared.content.Command.{Command}
 use Rattle.driver_rows.specs.declared.content.Command.TheVariants as unfinished
-use Rattle.driver_rows.specs.Rows.{Parts as DriverParts}
+use Rattle.driver_rows.specs.Rows.{Parts as DriverParts, driver_row}
 use Rattle.lent_structures.specs.Structures.{Table}
 use Rattle.driver_laws.specs.PartOpened.{opening_base}
 use Rattle.driver_laws.specs.Driven.{DrivesRing}
@@ -11,13 +11,15 @@ use Rattle.async_walk.specs.Rows.{place}
 use Rattle.scripted_streams.specs.Senders.{sender_of}
 use Rattle.bus_world.specs.World.{World, driver_parts, driver_next}
 use Rattle.stream_worlds.specs.Streaming.{wired}
-use Rattle.chained_transfers.proofs.Events.{event_turns}
+use Rattle.chained_transfers.proofs.Events.{event_queues}
 use Rattle.fed_lends.specs.ToLend.{IsToBeLent}
 use Rattle.fed_lends.proofs.Row.{after_is}
 use Rattle.lent_fronts.proofs.Row.{lend_row_leaves_fronts}
 use Rattle.feeding_worlds.specs.Feeding.{there_of}
 use Rattle.feeding_worlds.specs.LendFeeds.{LendFeeds}
-use Rattle.feeding_worlds.proofs.Told.{there_on, there_before}
+use Rattle.control_queues.proofs.Lends.{lend_keeps_controls}
+use Rattle.feeding_worlds.proofs.Names.{row_apart}
+use Rattle.feeding_worlds.proofs.Told.{there_before}
 use Rattle.feeding_worlds.proofs.Heads.{right_of}
 use Rattle.feeding_worlds.proofs.OpenBeside.{still_frameless}
 
@@ -36,7 +38,7 @@ lend_feeds fixed member x s w b words lent f fronts runs =
     let sound = k.place.sound in
     let old : DrivesRing opening_base member s.parts s.hand (place w.control.walk p.registers p.memory) p.driver = record { ring = k.streaming.controlled.ring; driven = k.driven } in
     let g = lend_row_leaves_fronts sender_of opening_base x.stream x.packets member x.streams (there_of w.driver) x.endpoint s.acc s.reported s.hand (wired fixed w) s.parts s.order s.out w.control.walk p b words lent
-    sound.owners sound.stands f.turns.bulk f.turns.turns old k.streaming.piped f.counted f.queues fronts k.place.lent runs (there_on w.driver) in
+    sound.owners sound.stands f.turns.asynchronous f.turns.turns old k.streaming.piped f.counted f.queues fronts k.place.lent runs (λ e z here met off. f.controls.sorted e z here met.there) f.controls_apart in
     record {
       parts = g.parts;
       order = g.order;
@@ -63,9 +65,11 @@ lend_feeds fixed member x s w b words lent f fronts runs =
           place = event_in_place p k.place;
           driven = g.drives.driven;
         };
-        turns = event_turns p sound.owners f.turns;
+        turns = event_queues p sound.owners f.turns;
         queues = g.queues;
         counted = λ n on. g.reports n (lent_there w b words lent n on);
+        controls = lend_keeps_controls p b words member x.streams x.endpoint s.parts g.parts s.order g.order s.out g.out lent f.turns k.streaming.controlled.ring.members f.queues g.queues g.behind f.controls;
+        controls_apart = row_apart x.stream (driver_row p) p f.controls_apart;
         unopened = f.unopened;
       };
       fronts = g.fronts;

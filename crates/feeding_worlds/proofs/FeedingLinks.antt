@@ -6,7 +6,7 @@ use Rattle.qh_qtd.specs.declared.queue_head.Qh.{Qh}
 use Rattle.driver_rows.specs.declared.content.Endpoint.{Endpoint}
 use Rattle.driver_rows.specs.declared.content.Command.TheVariants as unfinished
 use Rattle.driver_rows.specs.DriverContent.{DriverContent}
-use Rattle.driver_rows.specs.Rows.{Parts as DriverParts}
+use Rattle.driver_rows.specs.Rows.{Parts as DriverParts, driver_row}
 use Rattle.driver_rows.specs.Words.{to_queue_head}
 use Rattle.lent_structures.specs.Structures.{QueueHead}
 use Rattle.ring_laws.specs.Hand.{Hand}
@@ -22,7 +22,7 @@ use Rattle.scripted_streams.specs.Senders.{sender_of}
 use Rattle.bus_world.specs.World.{World, driver_parts, driver_next}
 use Rattle.stream_worlds.specs.Streaming.{Streams, Standing, wired}
 use Rattle.chained_transfers.specs.Bulk.{comes_in}
-use Rattle.chained_transfers.proofs.Events.{event_turns}
+use Rattle.chained_transfers.proofs.Events.{event_queues}
 use Rattle.fed_queues.specs.Places.{HasThere}
 use Rattle.controlled_streams.specs.Opened.{with_stream, with_end, with_none}
 use Rattle.open_laws.specs.Opens.{IsOpenLent, AreNamesApart, IsAtOpen, head_then, hand_then, end_then, streams_then}
@@ -32,7 +32,9 @@ use Rattle.open_laws.proofs.Standing.{then_beside, member_here, member_old, open
 use Rattle.feeding_worlds.specs.Feeding.{there_of, IsFeeding}
 use Rattle.feeding_worlds.specs.OpenFeeds.{LinkFeeds}
 use Rattle.feeding_worlds.proofs.FeedingStores.{put_apart}
-use Rattle.feeding_worlds.proofs.Told.{same_queue, there_by, has_there}
+use Rattle.control_queues.proofs.Opens.{open_link_keeps_controls}
+use Rattle.feeding_worlds.proofs.Names.{row_apart}
+use Rattle.feeding_worlds.proofs.Told.{same_queue, there_by, bulk_there, has_there}
 use Rattle.feeding_worlds.proofs.Heads.{stream_on}
 use Rattle.feeding_worlds.proofs.OpenBeside.{streams_at, still_frameless}
 
@@ -45,17 +47,21 @@ behind_list same = absurd (omega (arith, same))
 there_wider : (d f : DriverContent) (e : Endpoint) (k : ℕ) → d.command ≡ Some (unfinished.Open e.queue) → f.endpoints ≡ d.endpoints → there_of f k ≡ true → with_stream (there_of d) (32 * e.queue) k ≡ true
 there_wider d f e k command ends on =
     let n = 32 * e.queue in
-    let h : HasThere f k = has_there f k on in
+    let b = bulk_there f k on in
+    let h : HasThere f k = b.has in
     ⊎_elim (λ (same : k ≡ n). ap (with_stream (there_of d) n) same ∙ member_here (there_of d) n)
     (λ (differs : k ≢ n).
     member_old (there_of d) n k
     (there_by d k
     (record {
-      number = h.number;
-      endpoint = h.endpoint;
-      here = ap (λ (xs : List Endpoint). slice_get xs h.number) (sym ends) ∙ h.here;
-      there = record { linked = λ is. differs (h.at ∙ ap (λ (q : ℕ). 32 * q) (same_queue h.endpoint.queue e.queue (sym is ∙ command))); kept = h.there.kept };
-      at = h.at;
+      has = record {
+        number = h.number;
+        endpoint = h.endpoint;
+        here = ap (λ (xs : List Endpoint). slice_get xs h.number) (sym ends) ∙ h.here;
+        there = record { linked = λ is. differs (h.at ∙ ap (λ (q : ℕ). 32 * q) (same_queue h.endpoint.queue e.queue (sym is ∙ command))); kept = h.there.kept };
+        at = h.at;
+      };
+      stream = b.stream;
     }))) (cases_eq k n)
 
 stream_wider : (d : DriverContent) (streams : ℕ → Bool) (e : Endpoint) (k : ℕ) → ((i : ℕ) → streams i ≡ true → there_of d i ≡ true) → streams_then streams e k ≡ true → with_stream (there_of d) (32 * e.queue) k ≡ true
@@ -139,9 +145,11 @@ module _ (fixed : Fixed) (member : ℕ → Bool) (x : Streams) (s : Standing) (w
           place = event_in_place p g.place;
           driven = drives.driven;
         };
-        turns = event_turns p g.place.sound.owners f.turns;
+        turns = event_queues p g.place.sound.owners f.turns;
         queues = record { met = stands.met; streams_are = stands.streams_are; fed = stands.fed; last = stands.last; out_are = stands.out_are };
         counted = λ i on. reports_now i (there_wider w.driver (driver_next w).driver e i lent.command (ap (λ (g : DriverContent). g.endpoints) (driver_is p member x.streams x.endpoint s.parts s.order s.out at_open)) on);
+        controls = open_link_keeps_controls p member x.streams x.endpoint s.parts s.order s.out at_open f.controls;
+        controls_apart = row_apart x.stream (driver_row p) p f.controls_apart;
         unopened = pipes.2;
       }
 

@@ -1,5 +1,5 @@
 -- A new world feeds its queues: there are none.
-use Rattle.std.proofs.Common.{◌≡◌, ◌≢◌, ℕ, ◌==◌, Bool, true, false, cond, List, map, slice_get, Option, Some, None, option_map, ap, refl, sym, subst, inl, inr}
+use Rattle.std.proofs.Common.{◌≡◌, ◌≢◌, ℕ, ◌==◌, Bool, true, false, cond, List, map, slice_get, Option, Some, None, option_map, ap, refl, sym, subst, inl, inr, []}
 use Rattle.std.specs.Prelude.{is_some}
 use Rattle.std.proofs.lemmas.Bool.{eqb-true, false≢true}
 use Rattle.script_types.specs.declared.scripts.Script.{Script}
@@ -33,7 +33,8 @@ use Rattle.bus_world.specs.Rooms.{reserve_of}
 use Rattle.shared_memory.specs.Shared.{IsShared}
 use Rattle.shared_memory.proofs.Sharing.{opening_shared}
 use Rattle.controlled_streams.specs.Unopened.{IsUntouched}
-use Rattle.chained_transfers.proofs.Events.{new_turns}
+use Rattle.chained_transfers.proofs.Events.{new_queues}
+use Rattle.control_queues.proofs.Beside.{new_driver_controls}
 use Rattle.feeding_worlds.specs.Feeding.{left_of, streams_of}
 use Rattle.feeding_worlds.specs.FeedingLaws.{NewWorldFeeds}
 
@@ -126,7 +127,7 @@ new_world_feeds s fit =
         place = k.place;
         driven = k.driven;
       };
-      turns = new_turns s.words (reserve_of s.lines);
+      turns = new_queues s.words (reserve_of s.lines);
       queues = record {
         met = record { head = refl; each = λ e x here. absurd (cc); only = λ n on. inl (eqb-true n 4096 on) };
         streams_are = record { each = λ e x here. absurd (cc); only = λ n on. absurd (false≢true on) };
@@ -135,5 +136,7 @@ new_world_feeds s fit =
         out_are = λ e x here. absurd (cc);
       };
       counted = λ n on. absurd (false≢true on);
+      controls = new_driver_controls s.words (reserve_of s.lines) opening_parts (λ n i. 0) (λ n. []);
+      controls_apart = λ e x here. absurd (cc);
       unopened = λ addr ep on free. untouched (sender_of (opening_wired s) addr ep) (unsent_place s addr ep (place_for (opening_wired s).fixed.seats addr ep In)) on;
     }

@@ -25,11 +25,14 @@ use Rattle.driver_laws.specs.Driven.{is_quiet}
 use Rattle.bus_world.specs.World.{driver_parts}
 use Rattle.shared_worlds.proofs.Worlds.{quiet_working}
 use Rattle.driver_laws.specs.PartOpened.{opening_base}
-use Rattle.chained_transfers.proofs.Events.{event_turns}
+use Rattle.chained_transfers.proofs.Events.{event_queues}
 use Rattle.fed_queues.specs.Places.{IsMet, HasHead}
 use Rattle.fed_lends.specs.Commands.{QueuesStand}
 use Rattle.fed_harvests.proofs.Like.{like_stands}
+use Rattle.feeding_worlds.proofs.Names.{row_apart}
 use Rattle.feeding_worlds.specs.Feeding.{there_of}
+use Rattle.control_queues.specs.Beside.{touches_none}
+use Rattle.control_queues.proofs.Beside.{silent_keeps_controls}
 use Rattle.feeding_worlds.specs.FeedingLaws.{is_still, StillFeeds}
 
 -- what tells of queues is the same
@@ -133,6 +136,24 @@ still_there (rows.ReleaseTransfer t) p n still on = absurd (false≢true still)
 still_there (rows.ReleaseEndpoint e) p n still on = absurd (false≢true still)
 still_there (rows.Harvest e t found) p n still on = absurd (false≢true still)
 
+-- .. none of which touches a structure
+still_silent : (row : DriverRow) → is_still row ≡ true → touches_none row ≡ true
+still_silent rows.ClearAdvance still = absurd (false≢true still)
+still_silent rows.RingBell still = refl
+still_silent (rows.ReadStatus heard) still = refl
+still_silent (rows.ReadFrame n) still = refl
+still_silent rows.Rest still = refl
+still_silent rows.Lend still = absurd (false≢true still)
+still_silent (rows.Store b at v) still = absurd (false≢true still)
+still_silent (rows.Mend w) still = absurd (false≢true still)
+still_silent rows.Frames still = absurd (false≢true still)
+still_silent rows.LendDescriptors still = absurd (false≢true still)
+still_silent (rows.Unlink t) still = absurd (false≢true still)
+still_silent (rows.ReleaseRemoved what) still = absurd (false≢true still)
+still_silent (rows.ReleaseTransfer t) still = absurd (false≢true still)
+still_silent (rows.ReleaseEndpoint e) still = absurd (false≢true still)
+still_silent (rows.Harvest e t found) still = absurd (false≢true still)
+
 still_quiet : (row : DriverRow) → is_still row ≡ true → is_quiet row ≡ true
 still_quiet rows.ClearAdvance still = absurd (false≢true still)
 still_quiet rows.RingBell still = refl
@@ -155,8 +176,10 @@ still_feeds fixed member x s w still f =
     let p = driver_parts w in
     record {
       working = quiet_working fixed opening_base member x s w f.working (still_quiet (driver_row p) still);
-      turns = event_turns p f.working.place.sound.owners f.turns;
+      turns = event_queues p f.working.place.sound.owners f.turns;
       queues = still_queues (driver_row p) p member x.streams x.endpoint s.parts s.order s.out (each_is_due p) still f.queues;
       counted = λ n on. f.counted n (still_there (driver_row p) p n still on);
+      controls = silent_keeps_controls p s.parts s.order s.out (still_silent (driver_row p) still) f.controls;
+      controls_apart = row_apart x.stream (driver_row p) p f.controls_apart;
       unopened = f.unopened;
     }

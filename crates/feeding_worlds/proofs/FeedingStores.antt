@@ -5,7 +5,7 @@ use Rattle.driver_rows.specs.declared.content.Endpoint.{Endpoint}
 use Rattle.driver_rows.specs.declared.content.Command.{Command}
 use Rattle.driver_rows.specs.declared.content.Command.TheVariants as unfinished
 use Rattle.driver_rows.specs.DriverContent.{DriverContent}
-use Rattle.driver_rows.specs.Rows.{Parts as DriverParts, is_iso}
+use Rattle.driver_rows.specs.Rows.{Parts as DriverParts, is_iso, driver_row}
 use Rattle.run_owners.specs.Kept.{HasOwners}
 use Rattle.run_owners.specs.Owners.{FrameList, QueueHead, runs_of_endpoint}
 use Rattle.run_owners.proofs.Released.{other_number}
@@ -19,14 +19,17 @@ use Rattle.scripted_streams.specs.Senders.{sender_of}
 use Rattle.bus_world.specs.World.{World, driver_parts, driver_next}
 use Rattle.stream_worlds.specs.Streaming.{Streams, Standing, wired}
 use Rattle.shared_worlds.specs.Working.{IsWorking}
-use Rattle.chained_transfers.specs.Bulk.{OnlyBulk}
-use Rattle.chained_transfers.proofs.Staying.{alive}
-use Rattle.chained_transfers.proofs.Events.{event_turns}
+use Rattle.chained_transfers.specs.Asynchronous.{OnlyAsynchronous}
+use Rattle.chained_transfers.proofs.BulkAndControl.{not_iso}
+use Rattle.chained_transfers.proofs.Staying.{stands_alive}
+use Rattle.chained_transfers.proofs.Events.{event_queues}
 use Rattle.fed_queues.specs.Fed.{IsPublished}
 use Rattle.publish_laws.specs.Stores.{IsAtStore, published_by, parts_then, out_then, QueuesThen, next_of}
 use Rattle.publish_laws.proofs.Storing.{store_publishes, store_keeps_pipes, store_reports, store_stands}
 use Rattle.driver_laws.specs.Published.{partly}
+use Rattle.feeding_worlds.proofs.Names.{row_apart}
 use Rattle.feeding_worlds.specs.Feeding.{there_of, IsFeeding}
+use Rattle.control_queues.proofs.Stores.{store_keeps_controls}
 use Rattle.feeding_worlds.specs.FeedingLaws.{StoreFeeds}
 use Rattle.feeding_worlds.proofs.Told.{there_before}
 use Rattle.feeding_worlds.proofs.Heads.{right_of}
@@ -34,10 +37,9 @@ use Rattle.feeding_worlds.proofs.Storing.{by_store}
 use Rattle.feeding_worlds.proofs.OpenBeside.{still_frameless}
 
 -- a queue head stands behind the frame list
-pub queue_above : (d : DriverContent) (e : ℕ) (x : Endpoint) → HasOwners d → OnlyBulk d → slice_get d.endpoints e ≡ Some x → x.gone ≡ false → 0 ≢ 32 * x.queue
-queue_above d e x owners bulk here kept same =
-    let s = bulk.endpoints e x here in
-    let alive : is_iso x.desc.kind || x.gone ≡ false = ap (λ k. is_iso k || x.gone) s.bulk.kind ∙ kept in
+pub queue_above : (d : DriverContent) (e : ℕ) (x : Endpoint) → HasOwners d → OnlyAsynchronous d → slice_get d.endpoints e ≡ Some x → x.gone ≡ false → 0 ≢ 32 * x.queue
+queue_above d e x owners only here kept same =
+    let alive : is_iso x.desc.kind || x.gone ≡ false = ap (λ (b : Bool). b || x.gone) (not_iso x.desc (only.endpoints e x here).asynchronous) ∙ kept in
     let one = owners.owned.each.queue e (runs_of_endpoint x) (ap (option_map runs_of_endpoint) here) alive in
     let zero : x.queue ≡ 0 = omega (arith, same) in
     let is : QueueHead e ≡ FrameList = sym one.owned ∙ ap owners.owner zero ∙ owners.owned.each.list.owned in
@@ -96,8 +98,8 @@ module _ (fixed : Fixed) (member : ℕ → Bool) (x : Streams) (s : Standing) (w
 
   working_then : IsWorking fixed opening_base member x after_store (driver_next w)
   working_then =
-      let kept : stored.endpoint.gone ≡ false = alive stored.endpoint (f.turns.bulk.endpoints stored.transfer.endpoint stored.endpoint stored.here) stored.going in
-      let above = queue_above p.driver stored.transfer.endpoint stored.endpoint k.place.sound.owners f.turns.bulk stored.here kept in
+      let kept : stored.endpoint.gone ≡ false = stands_alive stored.endpoint (f.turns.asynchronous.endpoints stored.transfer.endpoint stored.endpoint stored.here) stored.going in
+      let above = queue_above p.driver stored.transfer.endpoint stored.endpoint k.place.sound.owners f.turns.asynchronous stored.here kept in
       record {
         operating = k.operating;
         streaming = record {
@@ -125,9 +127,11 @@ module _ (fixed : Fixed) (member : ℕ → Bool) (x : Streams) (s : Standing) (w
       let stands = queues_then in
       record {
         working = working_then;
-        turns = event_turns p k.place.sound.owners f.turns;
+        turns = event_queues p k.place.sound.owners f.turns;
         queues = record { met = stands.met; streams_are = stands.streams_are; fed = stands.fed; last = stands.last; out_are = stands.out_are };
         counted = λ n on. counted_then n (stored_there n on);
+        controls = store_keeps_controls p member x.streams x.endpoint s.parts s.order s.out b words at f.controls;
+        controls_apart = row_apart x.stream (driver_row p) p f.controls_apart;
         unopened = f.unopened;
       }
 

@@ -1,4 +1,5 @@
 pub mod Told
+pub mod Names
 pub mod Heads
 pub mod TakingAlike
 pub mod TakingOpening
@@ -20,6 +21,9 @@ pub mod Cancelling
 pub mod Clearing
 pub mod Beside
 pub mod Unlinking
+pub mod Mending
+pub mod Onward
+pub mod Mended
 pub mod Releasing
 pub mod Standing
 pub mod Takes

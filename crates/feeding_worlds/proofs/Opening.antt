@@ -6,6 +6,7 @@ use Rattle.feeding_worlds.specs.LeftLaws.{NewWorldLeft}
 
 pub new_world_left : NewWorldLeft
 new_world_left s fit = record {
+  named = λ e x here. absurd (cc);
   walking = new_walks s;
   owed = new_owed s.words (reserve_of s.lines);
   closed_ins = record { left = λ e x here. absurd (cc); gone = λ e x here. absurd (cc) };

@@ -41,7 +41,10 @@ use Rattle.taken_reports.specs.Laws.{bytes_taken}
 use Rattle.bus_world.specs.World.{World, driver_parts, with_parts}
 use Rattle.stream_worlds.specs.Streaming.{Streams, Standing, wired}
 use Rattle.feeding_worlds.specs.Feeding.{IsFeeding}
-use Rattle.feeding_worlds.proofs.Told.{there_on}
+use Rattle.chained_transfers.specs.Asynchronous.{IsAsynchronous}
+use Rattle.report_streams.specs.Streams.{has_stream}
+use Rattle.feeding_worlds.proofs.Names.{row_named}
+use Rattle.feeding_worlds.proofs.Told.{there_on, stream_in, stream_out}
 use Rattle.feeding_worlds.specs.Left.{IsLeft}
 use Rattle.feeding_worlds.specs.LeftLaws.{ReleaseKeepsLeft}
 
@@ -116,8 +119,8 @@ module _ (fixed : Fixed) (takes : ℕ → ℕ → Bool) (member : ℕ → Bool) 
 
   -- ---- what its lines tell
 
-  counted : IsReported (s.order n) (s.out n) s.hand s.parts n (s.acc n) (s.reported n)
-  counted = f.counted n (there_on d e z leaver.leaves.here there)
+  counted : has_stream z.desc.kind ≡ true → IsReported (s.order n) (s.out n) s.hand s.parts n (s.acc n) (s.reported n)
+  counted stream = f.counted n (there_on d e z leaver.leaves.here there stream)
 
   leaves : IsLeaver opening_base member s.parts s.hand w.control.walk p e z
   leaves = record {
@@ -134,22 +137,25 @@ module _ (fixed : Fixed) (takes : ℕ → ℕ → Bool) (member : ℕ → Bool) 
   told_gone : IsToldGone d then e z (s.acc n)
   told_gone =
       (release_is_told opening_base member (s.order n) s.parts s.hand w.control.walk p e z (s.acc n) s.reported leaves
-      (subst (λ (out : List ℕ). IsReported (s.order n) out s.hand s.parts n (s.acc n) (s.reported n)) (f.queues.out_are e z leaver.leaves.here there) counted) k).1
+      (λ stream. subst (λ (out : List ℕ). IsReported (s.order n) out s.hand s.parts n (s.acc n) (s.reported n)) (f.queues.out_are e z leaver.leaves.here there) (counted stream)) k).1
 
-  told_before : IsToldTo d.reports d.store (named_of z) (k.held e) (k.told e)
-  told_before = k.tells.each e (named_of z) (ap (option_map named_of) leaver.leaves.here)
+  told_before : has_stream z.desc.kind ≡ true → IsToldTo d.reports d.store (named_of z) (k.held e) (k.told e)
+  told_before stream = k.tells.each e (named_of z) (ap (option_map named_of) leaver.leaves.here) stream
 
   -- what was told before begins what was harvested, and that what was moved
-  was_moved : IsPrefix (told_to d z.desc.name) (concat (s.acc n))
-  was_moved =
-      begins_both (told_to d z.desc.name) (s.reported n) (concat (s.acc n)) (k.held e, told_before.sum ∙ k.met e z leaver.leaves.here there) (counted.told, counted.sum)
+  was_moved : has_stream z.desc.kind ≡ true → IsPrefix (told_to d z.desc.name) (concat (s.acc n))
+  was_moved stream =
+      begins_both (told_to d z.desc.name) (s.reported n) (concat (s.acc n)) (k.held e, (told_before stream).sum ∙ k.met e z leaver.leaves.here there) ((counted stream).told, (counted stream).sum)
 
-  is_moved : IsPrefix (told_to then z.desc.name) (concat (s.acc n))
-  is_moved = by (is_told z) refl
+  is_moved : has_stream z.desc.kind ≡ true → IsPrefix (told_to then z.desc.name) (concat (s.acc n))
+  is_moved stream = by (is_told z) refl
     where
       by : (b : Bool) → is_told z ≡ b → IsPrefix (told_to then z.desc.name) (concat (s.acc n))
-      by true is = ([], append-nil (told_to then z.desc.name) ∙ told_gone.told is)
-      by false is = subst (λ (bs : List ℕ). IsPrefix bs (concat (s.acc n))) (sym (told_gone.before is)) was_moved
+      by true is = ([], append-nil (told_to then z.desc.name) ∙ told_gone.told stream is)
+      by false is = subst (λ (bs : List ℕ). IsPrefix bs (concat (s.acc n))) (sym (told_gone.before is)) (was_moved stream)
+
+  described : IsAsynchronous z.desc
+  described = (f.turns.asynchronous.endpoints e z leaver.leaves.here).asynchronous
 
   -- ---- the endpoints after it
 
@@ -203,7 +209,8 @@ module _ (fixed : Fixed) (takes : ℕ → ℕ → Bool) (member : ℕ → Bool) 
   ins_gone i y here ins gone =
       ⊎_elim (λ (own : (i ≡ e) × (y ≡ gone_z)).
       subst (λ (r : Endpoint). IsPrefix (told_to then r.desc.name) (concat (x.packets r.desc.name.addr r.desc.name.num))) (sym own.1)
-      (begins_both (told_to then z.desc.name) (concat (s.acc n)) (concat (x.packets z.desc.name.addr z.desc.name.num)) is_moved
+      (begins_both (told_to then z.desc.name) (concat (s.acc n)) (concat (x.packets z.desc.name.addr z.desc.name.num))
+      (is_moved (stream_in z.desc described (ap (λ (r : Endpoint). comes_in r.desc.name.way) (sym own.1) ∙ ins)))
       (l.closed_ins.left e z leaver.leaves.here (ap (λ (r : Endpoint). comes_in r.desc.name.way) (sym own.1) ∙ ins) there far)))
       (λ (other : (i ≢ e) × (slice_get d.endpoints i ≡ Some y)).
       let g : IsGoneIn d i y (told_to then y.desc.name) = gone_before i y here gone other.0 in
@@ -217,7 +224,8 @@ module _ (fixed : Fixed) (takes : ℕ → ℕ → Bool) (member : ℕ → Bool) 
   outs_gone i y here outs gone =
       ⊎_elim (λ (own : (i ≡ e) × (y ≡ gone_z)).
       subst (λ (r : Endpoint). IsToldTaken (told_to then r.desc.name) (bytes_taken (taker_of (wired fixed w) r.desc.name.addr r.desc.name.num))) (sym own.1)
-      (told_begins (told_to then z.desc.name) (concat (s.acc n)) (bytes_taken (taker_of (wired fixed w) z.desc.name.addr z.desc.name.num)) is_moved
+      (told_begins (told_to then z.desc.name) (concat (s.acc n)) (bytes_taken (taker_of (wired fixed w) z.desc.name.addr z.desc.name.num))
+      (is_moved (stream_out z.desc described (ap (λ (r : Endpoint). receives r.desc.name.way) (sym own.1) ∙ outs)))
       (l.closed_outs.left e z leaver.leaves.here (ap (λ (r : Endpoint). receives r.desc.name.way) (sym own.1) ∙ outs) there far)))
       (λ (other : (i ≢ e) × (slice_get d.endpoints i ≡ Some y)).
       let g : IsGoneIn d i y (told_to then y.desc.name) = gone_before i y here gone other.0 in
@@ -234,6 +242,7 @@ module _ (fixed : Fixed) (takes : ℕ → ℕ → Bool) (member : ℕ → Bool) 
 
   pub left_then : IsLeft fixed takes x.packets s.acc new
   left_then = record {
+    named = row_named (endpoint_row e) p l.named;
     walking = subst (λ (r : DriverRow). IsWalking (with_parts w (after_driver_row r p))) row (driver_walks w l.walking);
     owed = subst (λ (r : DriverRow). AreOwedMet (after_driver_row r p).driver) row (event_owed p f.turns l.owed);
     closed_ins = record {

@@ -27,8 +27,8 @@ use Rattle.scripted_streams.specs.Senders.{sender_of}
 use Rattle.bus_world.specs.World.{World, controller_parts, driver_parts, with_parts}
 use Rattle.stream_worlds.specs.Streaming.{Streams, Standing, wired}
 use Rattle.shared_worlds.specs.Working.{IsWorking}
-use Rattle.chained_transfers.specs.InTurn.{TakesTurns}
-use Rattle.chained_transfers.proofs.Events.{event_turns}
+use Rattle.chained_transfers.specs.AsynchronousTurns.{AsynchronousTakesTurns}
+use Rattle.chained_transfers.proofs.Events.{event_queues}
 use Rattle.fed_queues.specs.Places.{HasThere}
 use Rattle.endpoint_releases.specs.Released.{without_queue, HasLeaver, endpoint_row}
 use Rattle.endpoint_releases.proofs.Owning.{queue_beside}
@@ -39,7 +39,9 @@ use Rattle.left_queues.proofs.Returned.{endpoint_release_stands}
 use Rattle.left_queues.proofs.Unmet.{apart_by, cleared_unmet, cleared_is_no_head}
 use Rattle.feeding_worlds.specs.Feeding.{there_of, IsFeeding}
 use Rattle.feeding_worlds.proofs.FeedingStores.{queue_above}
-use Rattle.feeding_worlds.proofs.Told.{there_by, has_there}
+use Rattle.control_queues.proofs.Returns.{leaver_keeps_controls}
+use Rattle.feeding_worlds.proofs.Names.{row_apart}
+use Rattle.feeding_worlds.proofs.Told.{HasBulkThere, there_by, bulk_there}
 use Rattle.feeding_worlds.specs.Releases.{released, EndpointReleaseFeeds, IsGivenBack}
 
 -- whether a line of the report tells it, the rest of the content is the same
@@ -102,17 +104,18 @@ module _ (fixed : Fixed) (member : ℕ → Bool) (x : Streams) (s : Standing) (w
 
   -- those that are there were so before, and aren't the one that was given back
   there_before : (i : ℕ) → there_of after.driver i ≡ true → (there_of d i ≡ true) × (i ≢ n)
-  there_before i on = by (has_there after.driver i on)
+  there_before i on = by (bulk_there after.driver i on)
     where
-      by : HasThere after.driver i → (there_of d i ≡ true) × (i ≢ n)
-      by h =
+      by : HasBulkThere after.driver i → (there_of d i ≡ true) × (i ≢ n)
+      by b =
+          let h : HasThere after.driver i = b.has in
           let there = ap (λ (xs : List Endpoint). slice_get xs h.number) (sym endpoints_are) ∙ h.here in
           let other : h.number ≢ e =
           λ own.
           let is : record z { gone = true } ≡ h.endpoint = same_Some (record z { gone = true }) h.endpoint (sym (ap (slice_get (set d.endpoints e (record z { gone = true }))) own ∙ set_here d.endpoints e z (record z { gone = true }) leaver.leaves.here) ∙ there) in
           false≢true (sym h.there.kept ∙ sym (ap (λ (r : Endpoint). r.gone) is)) in
           let was : slice_get d.endpoints h.number ≡ Some h.endpoint = sym (set_there d.endpoints e h.number (record z { gone = true }) other) ∙ there in (
-            there_by d i (record { number = h.number; endpoint = h.endpoint; here = was; there = record { linked = λ is. no_open d.command h.endpoint.queue due.idle is; kept = h.there.kept }; at = h.at }),
+            there_by d i (record { has = record { number = h.number; endpoint = h.endpoint; here = was; there = record { linked = λ is. no_open d.command h.endpoint.queue due.idle is; kept = h.there.kept }; at = h.at }; stream = b.stream }),
             λ same. apart_by d h.number e h.endpoint z g.place.sound.owners f.turns was h.there.kept leaver.leaves.here leaver.leaves.held other (sym h.at ∙ same),
           )
 
@@ -137,8 +140,8 @@ module _ (fixed : Fixed) (member : ℕ → Bool) (x : Streams) (s : Standing) (w
   in_place : IsInPlace new.memory new.driver
   in_place = subst (λ (r : DriverRow). IsInPlace (after_driver_row r p).memory (after_driver_row r p).driver) row (event_in_place p g.place)
 
-  turns : TakesTurns new.driver
-  turns = subst (λ (r : DriverRow). TakesTurns (after_driver_row r p).driver) row (event_turns p g.place.sound.owners f.turns)
+  turns : AsynchronousTakesTurns new.driver
+  turns = subst (λ (r : DriverRow). AsynchronousTakesTurns (after_driver_row r p).driver) row (event_queues p g.place.sound.owners f.turns)
 
   working : IsWorking fixed opening_base member x (released s z) new
   working = record {
@@ -151,7 +154,7 @@ module _ (fixed : Fixed) (member : ℕ → Bool) (x : Streams) (s : Standing) (w
         between = g.streaming.controlled.between;
         list = record {
           words = g.streaming.controlled.list.words;
-          here = ap (λ (part : Structures). part 0) (queue_beside s.parts n 0 (queue_above d e z g.place.sound.owners f.turns.bulk leaver.leaves.here leaver.leaves.held)) ∙ g.streaming.controlled.list.here;
+          here = ap (λ (part : Structures). part 0) (queue_beside s.parts n 0 (queue_above d e z g.place.sound.owners f.turns.asynchronous leaver.leaves.here leaver.leaves.held)) ∙ g.streaming.controlled.list.here;
           size = g.streaming.controlled.list.size;
         };
         frameless = frameless g.streaming.controlled.list.words g.streaming.controlled.frameless;
@@ -167,7 +170,15 @@ module _ (fixed : Fixed) (member : ℕ → Bool) (x : Streams) (s : Standing) (w
   counted = reports_stay (there_of after.driver) s.order s.out s.hand s.parts s.acc s.reported n not_there (λ i on. f.counted i (there_before i on).0)
 
   feeding : IsFeeding fixed member x (released s z) new
-  feeding = record { working = working; turns = turns; queues = stands.queues; counted = counted; unopened = f.unopened }
+  feeding = record {
+    working = working;
+    turns = turns;
+    queues = stands.queues;
+    counted = counted;
+    controls = leaver_keeps_controls p e z s.parts s.order s.out row leaver.leaves f.controls;
+    controls_apart = row_apart x.stream (endpoint_row e) p f.controls_apart;
+    unopened = f.unopened;
+  }
 
   pub given_back : IsGivenBack fixed member x s e w new
   given_back = record { leaver = leaver; feeding = feeding; runs = drives.1; tails = stands.tails }

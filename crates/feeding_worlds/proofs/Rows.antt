@@ -24,13 +24,14 @@ use Rattle.run_owners.proofs.Stays.{harvest_stays}
 use Rattle.ring_members.specs.Links.{link_in}
 use Rattle.ring_members.specs.Ring.{IsOpening, StandsFor, IsRing}
 use Rattle.publish_laws.proofs.Apart.{queue_placed, queues_same}
-use Rattle.chained_transfers.specs.Bulk.{OnlyBulk}
+use Rattle.chained_transfers.specs.Asynchronous.{OnlyAsynchronous}
+use Rattle.chained_transfers.specs.AsynchronousTurns.{AsynchronousTakesTurns}
 use Rattle.chained_transfers.proofs.Chained.{pushed_last}
 use Rattle.chained_transfers.proofs.Rows.{left, advanced_or_left, set_which}
-use Rattle.chained_transfers.proofs.Staying.{linked_alive}
+use Rattle.chained_transfers.proofs.Staying.{linked_stands_alive}
 use Rattle.leaving_drivers.specs.Told.{AreNamedOnce}
 use Rattle.leaving_drivers.proofs.Leaving.{bell_as_before, status_as_before, frame_as_before}
-use Rattle.leaving_drivers.proofs.Never.{IsBulkRow, bulk_row}
+use Rattle.leaving_drivers.proofs.Never.{IsAsynchronousRow, asynchronous_row}
 use Rattle.leaving_drivers.proofs.Owing.{event_owed}
 use Rattle.leaving_drivers.proofs.Reading.{read_row}
 use Rattle.leaving_drivers.proofs.Telling.{events_only}
@@ -42,20 +43,21 @@ use Rattle.usb_bus.specs.Bus.{Fixed}
 use Rattle.bus_world.specs.World.{World, driver_parts, driver_next}
 use Rattle.stream_worlds.specs.Streaming.{Streams, Standing, wired}
 use Rattle.feeding_worlds.specs.Feeding.{IsFeeding}
+use Rattle.feeding_worlds.proofs.Names.{row_named}
 use Rattle.feeding_worlds.specs.LeftLaws.{RowKeepsLeft}
 use Rattle.feeding_worlds.proofs.Unmet.{UnmetStay, OpenedIsMet, unmet_itself, unmet_before, closed_ins, closed_outs, still_shut}
 
 -- ---- an endpoint whose open isn't finished is in the ring, as far as the driver's content has it
 
-pub opened_met : (d : DriverContent) (m : Mem) → HasOwners d → OnlyBulk d → IsRing (link_in m) d → OpenedIsMet d
-opened_met d m owners bulk ring e x here kept is =
+pub opened_met : (d : DriverContent) (m : Mem) → HasOwners d → OnlyAsynchronous d → IsRing (link_in m) d → OpenedIsMet d
+opened_met d m owners only ring e x here kept is =
     let r : IsOpening (link_in m) d.endpoints x.queue = subst (λ (c : Option Command). StandsFor (link_in m) d.endpoints d.transfers c) is ring.ring in
     let n = length r.older in
     let at : slice_get d.endpoints n ≡ Some r.new = ap (λ (xs : List Endpoint). slice_get xs n) r.all ∙ pushed_last r.older r.new in
-    let stands = bulk.endpoints n r.new at in
+    let stands = only.endpoints n r.new at in
     let same : e ≡ n =
-    queues_same x.queue r.new.queue e n (sym r.here) (queue_placed d owners e x here (bulk.endpoints e x here) kept)
-    (queue_placed d owners n r.new at stands (linked_alive r.new stands r.linked)) in
+    queues_same x.queue r.new.queue e n (sym r.here) (queue_placed d owners e x here (only.endpoints e x here) kept)
+    (queue_placed d owners n r.new at stands (linked_stands_alive r.new stands r.linked)) in
     let one : x ≡ r.new = same_Some x r.new (sym here ∙ ap (slice_get d.endpoints) same ∙ at) in
     linked_met d e x (ap (λ (z : Endpoint). z.linked) one ∙ r.linked)
 
@@ -113,12 +115,12 @@ runs_found : (o : Option Endpoint) (x z : Endpoint) → o ≡ Some x → Some (r
 runs_found o x z here runs =
     ap (λ (r : EndpointRuns). r.queue) (same_Some (runs_of_endpoint z) (runs_of_endpoint x) (runs ∙ ap (option_map runs_of_endpoint) here))
 
-harvest_unmet : (p : Parts) (e t : ℕ) (found : Found) → IsHarvestDue p e t found → OnlyBulk p.driver → UnmetStay p.driver (after_driver_row (rows.Harvest e t found) p).driver
-harvest_unmet p e t found due bulk k z here off =
+harvest_unmet : (p : Parts) (e t : ℕ) (found : Found) → IsHarvestDue p e t found → AsynchronousTakesTurns p.driver → UnmetStay p.driver (after_driver_row (rows.Harvest e t found) p).driver
+harvest_unmet p e t found due turns k z here off =
     let d = p.driver in
     let f = (after_driver_row (rows.Harvest e t found) p).driver in
-    let r = read_row p e t found due bulk in
-    let one = r.harvested.keeps.ends k z here in
+    let r = read_row p e t found due turns.asynchronous in
+    let one = r.keeps.ends k z here in
     let stays = harvest_stays d p.memory e t found (slice_get d.endpoints e) (slice_get d.transfers t) refl refl in
     record {
       endpoint = one.one;
@@ -126,45 +128,45 @@ harvest_unmet p e t found due bulk k z here off =
       desc = one.kept.desc;
       queue = runs_found (slice_get d.endpoints k) one.one z one.here (sym (ap (option_map runs_of_endpoint) here) ∙ stays.same.endpoints k);
       gone = one.kept.gone;
-      unmet = sym (met_alike d f k one.one z one.kept.linked r.harvested.waiting r.harvested.rung) ∙ off;
+      unmet = sym (met_alike d f k one.one z one.kept.linked r.keeps.waiting r.keeps.rung) ∙ off;
     }
 
 -- ---- any row
 
-due_unmet : (row : DriverRow) (p : Parts) → IsDue p row → IsBulkRow row → row ≢ rows.ClearAdvance → ((e : ℕ) → row ≢ rows.ReleaseEndpoint e) → OnlyBulk p.driver
+due_unmet : (row : DriverRow) (p : Parts) → IsDue p row → IsAsynchronousRow row → row ≢ rows.ClearAdvance → ((e : ℕ) → row ≢ rows.ReleaseEndpoint e) → AsynchronousTakesTurns p.driver
     → UnmetStay p.driver (after_driver_row row p).driver
-due_unmet rows.Lend p due is clears releases bulk =
+due_unmet rows.Lend p due is clears releases turns =
     let d = p.driver in
     let c = record d { book = (lend_taken (holding d.book p.memory)).book } in
-    advanced_or_left (UnmetStay d) c c.command bulk.command (unmet_same d c refl refl refl)
+    advanced_or_left (UnmetStay d) c c.command turns.asynchronous.command (unmet_same d c refl refl refl)
     (unmet_same d (record c { made = suc c.made }) refl refl refl) (unmet_same d (no_command c) refl refl refl)
     (λ e x leaves here. unmet_from d c (left c e x) refl refl refl (left_unmet c e x here))
-due_unmet (rows.Store b at v) p due is clears releases bulk =
+due_unmet (rows.Store b at v) p due is clears releases turns =
     let d = p.driver in
-    advanced_or_left (UnmetStay d) d d.command bulk.command (unmet_itself d) (unmet_same d (record d { made = suc d.made }) refl refl refl) (unmet_same d (no_command d) refl refl refl)
+    advanced_or_left (UnmetStay d) d d.command turns.asynchronous.command (unmet_itself d) (unmet_same d (record d { made = suc d.made }) refl refl refl) (unmet_same d (no_command d) refl refl refl)
     (λ e x leaves here. left_unmet d e x here)
-due_unmet (rows.Mend w) p due is clears releases bulk = absurd is
-due_unmet rows.Frames p due is clears releases bulk = absurd is
-due_unmet rows.LendDescriptors p due is clears releases bulk = absurd is
-due_unmet (rows.Unlink t) p due is clears releases bulk = absurd is
-due_unmet (rows.ReleaseRemoved what) p due is clears releases bulk = absurd is
-due_unmet (rows.ReleaseTransfer t) p due is clears releases bulk =
+due_unmet (rows.Mend w) p due is clears releases turns = unmet_same p.driver (after_driver_row (rows.Mend w) p).driver refl refl refl
+due_unmet rows.Frames p due is clears releases turns = absurd is
+due_unmet rows.LendDescriptors p due is clears releases turns = absurd is
+due_unmet (rows.Unlink t) p due is clears releases turns = absurd is
+due_unmet (rows.ReleaseRemoved what) p due is clears releases turns = absurd is
+due_unmet (rows.ReleaseTransfer t) p due is clears releases turns =
     release_unmet p t (slice_get p.driver.transfers t) (freed_by p.driver (holding p.driver.book p.memory) (slice_get p.driver.transfers t))
-due_unmet (rows.ReleaseEndpoint e) p due is clears releases bulk = absurd (releases e refl)
-due_unmet rows.ClearAdvance p due is clears releases bulk = absurd (clears refl)
-due_unmet rows.RingBell p due is clears releases bulk = let b = bell_as_before p due.0 in unmet_before p.driver (after_driver_row rows.RingBell p).driver b.0 b.1
-due_unmet (rows.ReadStatus heard) p due is clears releases bulk =
+due_unmet (rows.ReleaseEndpoint e) p due is clears releases turns = absurd (releases e refl)
+due_unmet rows.ClearAdvance p due is clears releases turns = absurd (clears refl)
+due_unmet rows.RingBell p due is clears releases turns = let b = bell_as_before p due.0 in unmet_before p.driver (after_driver_row rows.RingBell p).driver b.0 b.1
+due_unmet (rows.ReadStatus heard) p due is clears releases turns =
     let b = status_as_before p heard due.0 in unmet_before p.driver (after_driver_row (rows.ReadStatus heard) p).driver b.0 b.1
-due_unmet (rows.ReadFrame n) p due is clears releases bulk = let b = frame_as_before p n due.0 in unmet_before p.driver (after_driver_row (rows.ReadFrame n) p).driver b.0 b.1
-due_unmet (rows.Harvest e t found) p due is clears releases bulk = harvest_unmet p e t found due bulk
-due_unmet rows.Rest p due is clears releases bulk = unmet_itself p.driver
+due_unmet (rows.ReadFrame n) p due is clears releases turns = let b = frame_as_before p n due.0 in unmet_before p.driver (after_driver_row (rows.ReadFrame n) p).driver b.0 b.1
+due_unmet (rows.Harvest e t found) p due is clears releases turns = harvest_unmet p e t found due turns
+due_unmet rows.Rest p due is clears releases turns = unmet_itself p.driver
 
 pub row_unmet : (fixed : Fixed) (member : ℕ → Bool) (x : Streams) (s : Standing) (w : World) → driver_row (driver_parts w) ≢ rows.ClearAdvance → ((e : ℕ) → driver_row (driver_parts w) ≢ rows.ReleaseEndpoint e)
     → IsFeeding fixed member x s w → UnmetStay w.driver (driver_next w).driver
 row_unmet fixed member x s w clears releases f =
     let p = driver_parts w in
     let due = each_is_due p in
-    due_unmet (driver_row p) p due (bulk_row p (driver_row p) f.turns.bulk due) clears releases f.turns.bulk
+    due_unmet (driver_row p) p due (asynchronous_row p (driver_row p) f.turns.asynchronous due) clears releases f.turns
 
 -- what is told of the queues says both of the report
 pub told_once : (d : DriverContent) (hand : Hand) (parts : StructureSets) (reported : ℕ → List ℕ) → ToldStands d hand parts reported → AreNamedOnce d
@@ -178,9 +180,10 @@ row_keeps_left fixed takes member x s w clears releases once f old =
     let new = (driver_next w).driver in
     let sound = f.working.place.sound in
     let unmet = row_unmet fixed member x s w clears releases f in
-    let opened = opened_met d w.memory sound.owners f.turns.bulk sound.ring in
+    let opened = opened_met d w.memory sound.owners f.turns.asynchronous sound.ring in
     let gone = λ (i : ℕ) (z : Endpoint) (here : slice_get new.endpoints i ≡ Some z) (is : z.gone ≡ true). events_only p sound.owners f.turns once i z here is (releases i) in
     record {
+      named = row_named (driver_row p) p old.named;
       walking = driver_walks w old.walking;
       owed = event_owed p f.turns old.owed;
       closed_ins = closed_ins d new unmet opened gone x.packets s.acc old.closed_ins;

@@ -42,7 +42,7 @@ module _ (p : DriverParts) (member : ℕ → Bool) (s : Standing) (k : IsAtUnlin
   told_now told =
       before_told p.driver (next_of p).driver now.hand now.parts s.reported as_before.0
       (spared_told p.driver s.hand now.hand s.parts now.parts s.reported (unlink_spares_hand s.hand p.driver member s.parts k)
-      (record { heads = λ e y there. unlink_spares_heads p.driver member s.parts k (32 * y.queue); done = λ e t y z a next among. unlink_spares_elements p.driver member s.parts k (32 * y.queue) (32 * a) }) told)
+      (record { heads = λ e y there stream. unlink_spares_heads p.driver member s.parts k (32 * y.queue); done = λ e t y z a next stream among. unlink_spares_elements p.driver member s.parts k (32 * y.queue) (32 * a) }) told)
 
 pub unlink_tells : UnlinkTells
 unlink_tells member s w k tails told = (tails_now (driver_parts w) member s k tails, told_now (driver_parts w) member s k told)

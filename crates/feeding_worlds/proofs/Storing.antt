@@ -31,7 +31,7 @@ use Rattle.harvest_laws.specs.ToldLaws.{SparesDone}
 use Rattle.harvest_laws.proofs.Standing.{spared_told, alike_told}
 use Rattle.fed_queues.specs.Fed.{IsPublished}
 use Rattle.fed_queues.specs.Places.{IsThere, IsMet}
-use Rattle.fed_queues.proofs.Places.{going_met}
+use Rattle.fed_queues.proofs.Places.{stands_met}
 use Rattle.publish_laws.specs.Stores.{IsAtStore, published_by, parts_then, next_of}
 use Rattle.publish_laws.proofs.Apart.{piece_placed, thirty_two}
 use Rattle.feeding_worlds.specs.Tails.{IsUnderWay}
@@ -112,7 +112,7 @@ module _ (p : DriverParts) (member streams : ℕ → Bool) (ends : ℕ → Told)
 
   -- its endpoint goes on
   pub met_now : IsMet d y.endpoint g.endpoint
-  met_now = going_met d y.endpoint g.endpoint (k.turns.bulk.endpoints y.endpoint g.endpoint g.here) g.going (never_opens g.endpoint.queue)
+  met_now = stands_met d y.endpoint g.endpoint (k.turns.asynchronous.endpoints y.endpoint g.endpoint g.here) g.going (never_opens g.endpoint.queue)
 
   pub there_still : (x : Endpoint) → x.gone ≡ false → IsThere d x
   there_still x kept = record { linked = never_opens x.queue; kept = kept }
@@ -147,8 +147,8 @@ module _ (p : DriverParts) (member streams : ℕ → Bool) (ends : ℕ → Told)
 
   spares_done : SparesDone d parts (parts_then g)
   spares_done = record {
-    heads = λ e x here. spares_head parts n (32 * b) old new g.stored (32 * x.queue);
-    done = λ e t x z a is one. spares_element parts n (32 * b) old new g.stored (32 * x.queue) (32 * a) (λ name owner. not_read e t x z a is one (thirty_two a b name));
+    heads = λ e x here stream. spares_head parts n (32 * b) old new g.stored (32 * x.queue);
+    done = λ e t x z a is stream one. spares_element parts n (32 * b) old new g.stored (32 * x.queue) (32 * a) (λ name owner. not_read e t x z a is one (thirty_two a b name));
   }
 
   pub told_then : (hand : Hand) (reported : ℕ → List ℕ) → ToldStands d hand parts reported → ToldStands (next_of p).driver hand (parts_then g) reported

@@ -1,5 +1,5 @@
 -- The same OUT endpoints and the same bytes, told by other functions.
-use Rattle.std.proofs.Common.{◌≡◌, ℕ, Bool, true, false, if◌then◌else◌, List, [], ◌==◌, Option, refl, sym, subst, ◌∙◌}
+use Rattle.std.proofs.Common.{◌≡◌, ℕ, Bool, true, false, if◌then◌else◌, List, [], ◌==◌, Option, ap, refl, sym, subst, ◌∙◌}
 use Rattle.std.specs.List.{concat}
 use Rattle.std.proofs.lemmas.Bool.{false≢true}
 use Rattle.lent_structures.specs.Structures.{StructureSets}
@@ -14,12 +14,15 @@ use Rattle.feeding_worlds.specs.Taking.{outs_of}
 
 -- ---- which these are
 
-pub out_on : (member streams : ℕ → Bool) (n : ℕ) → outs_of member streams n ≡ true → (streams n ≡ false) × (heads_of member n ≡ true)
-out_on member streams n on = by_test (streams n) refl on
+pub out_on : (member streams : ℕ → Bool) (ends : ℕ → Endpoint) (n : ℕ) → outs_of member streams ends n ≡ true → (streams n ≡ false) × (heads_of member ends n ≡ true)
+out_on member streams ends n on = by_test (streams n) refl on
   where
-    by_test : (b : Bool) → streams n ≡ b → (if b then false else heads_of member n) ≡ true → (streams n ≡ false) × (heads_of member n ≡ true)
+    by_test : (b : Bool) → streams n ≡ b → (if b then false else heads_of member ends n) ≡ true → (streams n ≡ false) × (heads_of member ends n ≡ true)
     by_test true is head = absurd (false≢true head)
     by_test false is head = (is, head)
+
+pub outs_on : (member streams : ℕ → Bool) (ends : ℕ → Endpoint) (n : ℕ) → streams n ≡ false → heads_of member ends n ≡ true → outs_of member streams ends n ≡ true
+outs_on member streams ends n off head = ap (λ (b : Bool). if b then false else heads_of member ends n) off ∙ head
 
 -- ---- the same ones
 

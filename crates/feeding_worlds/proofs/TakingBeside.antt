@@ -17,6 +17,7 @@ use Rattle.stream_worlds.specs.Streaming.{Streams, Standing, wired, HearsBytesNo
 use Rattle.stream_worlds.specs.Events.{sent_in}
 use Rattle.stream_worlds.proofs.RowTurning.{world_pipes}
 use Rattle.feeding_worlds.specs.Feeding.{IsFeeding, Goes, bytes_of_event, acc_after}
+use Rattle.feeding_worlds.specs.Tails.{TailsStand}
 use Rattle.feeding_worlds.specs.Taking.{outs_of, IsTaking}
 use Rattle.feeding_worlds.proofs.FeedingBeside.{controller_feeds}
 use Rattle.feeding_worlds.proofs.TakingAlike.{out_on, alike_known}
@@ -38,22 +39,22 @@ module _ (fixed : Fixed) (takes : ℕ → ℕ → Bool) (member : ℕ → Bool) 
   abbrev standing_after : Goes fixed member x s w → Standing
   standing_after g = record s { parts = g.event.now; hand = g.event.later; acc = acc_after x.streams s.acc g.at g.more (λ n. bytes_of_event n g.event.effect) }
 
-  known_after : (g : Goes fixed member x s w) (n : ℕ) → outs_of member x.streams n ≡ true → concat ((standing_after g).acc n) ≡ concat (s.acc n) ++ sent_in n g.event.effect
+  known_after : (g : Goes fixed member x s w) (n : ℕ) → outs_of member x.streams x.endpoint n ≡ true → concat ((standing_after g).acc n) ≡ concat (s.acc n) ++ sent_in n g.event.effect
   known_after g n on =
-      ap concat (moved_after x.streams s.acc g.at g.more (λ k. bytes_of_event k g.event.effect) n (out_on member x.streams n on).0) ∙ one_more (s.acc n) (bytes_of_event n g.event.effect)
+      ap concat (moved_after x.streams s.acc g.at g.more (λ k. bytes_of_event k g.event.effect) n (out_on member x.streams x.endpoint n on).0) ∙ one_more (s.acc n) (bytes_of_event n g.event.effect)
       ∙ ap (λ (xs : List ℕ). concat (s.acc n) ++ xs) (sent_same n g.event.effect)
 
   event_taking : IsFeeding fixed member x s w → (g : Goes fixed member x s w) → IsTaking fixed takes member x s w → IsTaking fixed takes member x (standing_after g) (controller_next fixed w)
   event_taking f g k =
       let both =
-      world_pipes fixed opening_base takes member (outs_of member x.streams) x.endpoint (λ n. concat (s.acc n)) s.parts s.hand w f.working.streaming.controlled g.event k.ends k.piped k.untaken in
+      world_pipes fixed opening_base takes member (outs_of member x.streams x.endpoint) x.endpoint (λ n. concat (s.acc n)) s.parts s.hand w f.working.streaming.controlled g.event k.ends k.piped k.untaken in
       record {
         ends = k.ends;
-        piped = alike_known taker_of takes member (outs_of member x.streams) x.endpoint (λ n. concat (s.acc n) ++ sent_in n g.event.effect) (λ n. concat ((standing_after g).acc n)) g.event.now g.event.later
+        piped = alike_known taker_of takes member (outs_of member x.streams x.endpoint) x.endpoint (λ n. concat (s.acc n) ++ sent_in n g.event.effect) (λ n. concat ((standing_after g).acc n)) g.event.now g.event.later
             (wired fixed (controller_next fixed w)) (known_after g) both.0;
         untaken = both.1;
       }
 
-  pub controller_taking : (heard : HearsBytesNow fixed w) (f : IsFeeding fixed member x s w) → IsTaking fixed takes member x s w
-      → IsTaking fixed takes member x (standing_after (controller_feeds fixed member x s w heard f).event) (controller_next fixed w)
-  controller_taking heard f k = event_taking f (controller_feeds fixed member x s w heard f).event k
+  pub controller_taking : (heard : HearsBytesNow fixed w) (tails : TailsStand w.driver s.parts s.order s.out) (f : IsFeeding fixed member x s w) → IsTaking fixed takes member x s w
+      → IsTaking fixed takes member x (standing_after (controller_feeds fixed member x s w heard tails f).event) (controller_next fixed w)
+  controller_taking heard tails f k = event_taking f (controller_feeds fixed member x s w heard tails f).event k

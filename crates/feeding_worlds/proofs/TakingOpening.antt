@@ -6,7 +6,7 @@ use Rattle.script_fits.specs.Fits.{IsFit}
 use Rattle.usb_bus.specs.Bus.{fixed_of}
 use Rattle.driver_rows.specs.Words.{opening_head}
 use Rattle.lent_structures.specs.Structures.{QueueHead, Element}
-use Rattle.ring_laws.specs.Told.{endpoint_of}
+use Rattle.ring_laws.specs.Told.{Endpoint, endpoint_of}
 use Rattle.ring_laws.specs.OutPipeLaws.{SendsNone}
 use Rattle.driver_laws.specs.PartOpened.{opening_parts, is_head}
 use Rattle.bus_world.specs.Opening.{opening_world}
@@ -19,8 +19,8 @@ use Rattle.feeding_worlds.specs.Taking.{outs_of, IsTaking}
 use Rattle.feeding_worlds.proofs.Heads.{head_on}
 use Rattle.feeding_worlds.proofs.TakingAlike.{out_on}
 
-no_out : (streams : ℕ → Bool) (n : ℕ) → outs_of is_head streams n ≡ true → ⊥
-no_out streams n on = let both = head_on is_head n (out_on is_head streams n on).1 in both.0 (eqb-true n 4096 both.1)
+no_out : (streams : ℕ → Bool) (ends : ℕ → Endpoint) (n : ℕ) → outs_of is_head streams ends n ≡ true → ⊥
+no_out streams ends n on = let all = head_on is_head ends n (out_on is_head streams ends n on).1 in all.0 (eqb-true n 4096 all.1)
 
 -- the head of the ring has no qTD
 sends_none : SendsNone (opening_parts 4096)
@@ -36,11 +36,11 @@ head_aside s n on = subst (λ (i : ℕ). IsAside (takes_of s) opening_parts i (e
 pub new_world_taking : (s : Script) → IsFit s → IsTaking (fixed_of s) (takes_of s) is_head (streams_of s) at_opening (opening_world s)
 new_world_taking s fit = record {
   ends = record {
-    members = λ n on. absurd (no_out (streams_of s).streams n on);
-    on = λ n on. absurd (no_out (streams_of s).streams n on);
-    high = λ n on. absurd (no_out (streams_of s).streams n on);
-    apart = λ n i on other addr ep. absurd (no_out (streams_of s).streams n on);
+    members = λ n on. absurd (no_out (streams_of s).streams (streams_of s).endpoint n on);
+    on = λ n on. absurd (no_out (streams_of s).streams (streams_of s).endpoint n on);
+    high = λ n on. absurd (no_out (streams_of s).streams (streams_of s).endpoint n on);
+    apart = λ n i on other addr ep. absurd (no_out (streams_of s).streams (streams_of s).endpoint n on);
   };
-  piped = record { pipes = λ n on. absurd (no_out (streams_of s).streams n on); others = λ n on off. head_aside s n on };
-  untaken = opening_untaken s (outs_of is_head (streams_of s).streams) (streams_of s).endpoint;
+  piped = record { pipes = λ n on. absurd (no_out (streams_of s).streams (streams_of s).endpoint n on); others = λ n on off. head_aside s n on };
+  untaken = opening_untaken s (outs_of is_head (streams_of s).streams (streams_of s).endpoint) (streams_of s).endpoint;
 }

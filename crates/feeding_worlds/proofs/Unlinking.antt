@@ -6,7 +6,7 @@ use Rattle.usb_bus.specs.Bus.{Fixed}
 use Rattle.driver_rows.specs.declared.content.Endpoint.{Endpoint}
 use Rattle.driver_rows.specs.declared.content.Command.{Command}
 use Rattle.driver_rows.specs.declared.content.Command.TheVariants as unfinished
-use Rattle.driver_rows.specs.Rows.{Parts as DriverParts}
+use Rattle.driver_rows.specs.Rows.{Parts as DriverParts, driver_row}
 use Rattle.driver_rows.specs.Words.{head_block, to_queue_head}
 use Rattle.endpoint_lives.specs.Lives.{is_one_of}
 use Rattle.lent_structures.specs.Structures.{QueueHead}
@@ -20,8 +20,8 @@ use Rattle.scripted_streams.specs.Senders.{sender_of}
 use Rattle.bus_world.specs.World.{World, driver_parts, driver_next}
 use Rattle.stream_worlds.specs.Streaming.{Streams, Standing, wired}
 use Rattle.shared_worlds.specs.Working.{IsWorking}
-use Rattle.chained_transfers.proofs.Staying.{linked_alive}
-use Rattle.chained_transfers.proofs.Events.{event_turns}
+use Rattle.chained_transfers.proofs.Staying.{linked_stands_alive}
+use Rattle.chained_transfers.proofs.Events.{event_queues}
 use Rattle.fed_queues.specs.Places.{HasHead, HasThere}
 use Rattle.publish_laws.specs.Stores.{QueuesThen, next_of}
 use Rattle.unlinked_streams.specs.Unlinks.{IsAtUnlink, MeetsRing, IsUnlinked}
@@ -32,7 +32,10 @@ use Rattle.unlinked_streams.proofs.Queues.{unlink_leaves_queues}
 use Rattle.ring_laws.specs.Stores.{hand_linked}
 use Rattle.feeding_worlds.specs.Feeding.{there_of, IsFeeding}
 use Rattle.feeding_worlds.proofs.FeedingStores.{queue_above, put_apart}
-use Rattle.feeding_worlds.proofs.Told.{there_by, has_there}
+use Rattle.report_streams.specs.Streams.{has_stream}
+use Rattle.control_queues.proofs.Heads.{unlink_keeps_controls}
+use Rattle.feeding_worlds.proofs.Names.{row_apart}
+use Rattle.feeding_worlds.proofs.Told.{there_by, bulk_there}
 use Rattle.feeding_worlds.proofs.Heads.{right_of}
 use Rattle.feeding_worlds.proofs.OpenBeside.{still_frameless}
 use Rattle.feeding_worlds.specs.Leaving.{UnlinkFinds, UnlinkFeeds, unlinked}
@@ -59,7 +62,7 @@ module _ (fixed : Fixed) (member : ℕ → Bool) (x : Streams) (s : Standing) (w
     each = λ e y here on.
         f.queues.met.each e y here
         (record {
-          there = record { linked = λ is. never y.queue is; kept = linked_alive y (f.turns.bulk.endpoints e y here) on };
+          there = record { linked = λ is. never y.queue is; kept = linked_stands_alive y (f.turns.asynchronous.endpoints e y here) on };
           near = ap (λ (b : Bool). b || (is_one_of e w.driver.waiting || is_one_of e w.driver.rung)) on;
         });
   }
@@ -73,7 +76,7 @@ module _ (fixed : Fixed) (member : ℕ → Bool) (x : Streams) (s : Standing) (w
   above : (n : ℕ) → member n ≡ true → 0 ≢ n
   above n on same =
       ⊎_elim (λ (head : n ≡ 32 * head_block). behind_list (same ∙ head))
-      (λ (h : HasHead w.driver n). queue_above w.driver h.number h.endpoint g.place.sound.owners f.turns.bulk h.here h.met.there.kept (same ∙ h.at)) (f.queues.met.only n on)
+      (λ (h : HasHead w.driver n). queue_above w.driver h.number h.endpoint g.place.sound.owners f.turns.asynchronous h.here h.met.there.kept (same ∙ h.at)) (f.queues.met.only n on)
 
   -- ---- what stands after it
 
@@ -90,26 +93,33 @@ module _ (fixed : Fixed) (member : ℕ → Bool) (x : Streams) (s : Standing) (w
     -- the endpoints that are there were so before
     there_was : (n : ℕ) → there_of (next_of p).driver n ≡ true → there_of w.driver n ≡ true
     there_was n on =
-        let h : HasThere (next_of p).driver n = has_there (next_of p).driver n on in
+        let b = bulk_there (next_of p).driver n on in
+        let h : HasThere (next_of p).driver n = b.has in
         ⊎_elim (λ (same : h.number ≡ k.number).
         let is : record k.endpoint { linked = false } ≡ h.endpoint =
         same_Some (record k.endpoint { linked = false }) h.endpoint (sym row.left ∙ ap (slice_get (next_of p).driver.endpoints) (sym same) ∙ h.here) in
         there_by w.driver n
         (record {
-          number = k.number;
-          endpoint = k.endpoint;
-          here = k.here;
-          there = record { linked = λ opens. never k.endpoint.queue opens; kept = ap (λ (z : Endpoint). z.gone) is ∙ h.there.kept };
-          at = h.at ∙ ap (λ (z : Endpoint). 32 * z.queue) (sym is);
+          has = record {
+            number = k.number;
+            endpoint = k.endpoint;
+            here = k.here;
+            there = record { linked = λ opens. never k.endpoint.queue opens; kept = ap (λ (z : Endpoint). z.gone) is ∙ h.there.kept };
+            at = h.at ∙ ap (λ (z : Endpoint). 32 * z.queue) (sym is);
+          };
+          stream = ap (λ (z : Endpoint). has_stream z.desc.kind) is ∙ b.stream;
         }))
         (λ (differs : h.number ≢ k.number).
         there_by w.driver n
         (record {
-          number = h.number;
-          endpoint = h.endpoint;
-          here = sym (row.others h.number differs) ∙ h.here;
-          there = record { linked = λ opens. never h.endpoint.queue opens; kept = h.there.kept };
-          at = h.at;
+          has = record {
+            number = h.number;
+            endpoint = h.endpoint;
+            here = sym (row.others h.number differs) ∙ h.here;
+            there = record { linked = λ opens. never h.endpoint.queue opens; kept = h.there.kept };
+            at = h.at;
+          };
+          stream = b.stream;
         })) (cases_eq h.number k.number)
 
     drives : DrivesRing opening_base member now.parts now.hand (place w.control.walk (next_of p).registers (next_of p).memory) (next_of p).driver
@@ -151,9 +161,11 @@ module _ (fixed : Fixed) (member : ℕ → Bool) (x : Streams) (s : Standing) (w
         let stands = queues_now in
         record {
           working = working_now;
-          turns = event_turns p g.place.sound.owners f.turns;
+          turns = event_queues p g.place.sound.owners f.turns;
           queues = record { met = stands.met; streams_are = stands.streams_are; fed = stands.fed; last = stands.last; out_are = stands.out_are };
           counted = λ n on. counted_now n (there_was n on);
+          controls = unlink_keeps_controls p member s.parts s.order s.out k f.controls;
+          controls_apart = row_apart x.stream (driver_row p) p f.controls_apart;
           unopened = f.unopened;
         }
 

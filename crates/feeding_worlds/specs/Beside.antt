@@ -9,7 +9,7 @@ use Rattle.usb_base.specs.declared.endpoints.EpName.{EpName}
 use Rattle.driver_rows.specs.declared.rows.DriverRow.TheVariants as rows
 use Rattle.driver_rows.specs.DriverContent.{DriverContent}
 use Rattle.driver_rows.specs.Rows.{driver_row}
-use Rattle.chained_transfers.specs.InTurn.{TakesTurns}
+use Rattle.chained_transfers.specs.AsynchronousTurns.{AsynchronousTakesTurns}
 use Rattle.lent_structures.specs.Structures.{StructureSets}
 use Rattle.harvest_laws.specs.Told.{ToldStands}
 use Rattle.leaving_drivers.specs.Before.{IsAsBefore, NearFewer}
@@ -26,7 +26,7 @@ LeaveKeepsTails = (d f : DriverContent) (parts : StructureSets) (order : ℕ →
     → TailsStand d parts order out → TailsStand f parts order out
 
 abbrev pub CancelKeepsTold : Type 0
-CancelKeepsTold = (s : Standing) (w : World) (line : ℕ) (name : EpName) → TakesTurns w.driver → IsTold s w → IsTold s (commanded w line (commands.Cancel name))
+CancelKeepsTold = (s : Standing) (w : World) (line : ℕ) (name : EpName) → AsynchronousTakesTurns w.driver → IsTold s w → IsTold s (commanded w line (commands.Cancel name))
 
 abbrev pub ClearKeepsTold : Type 0
 ClearKeepsTold = (s : Standing) (w : World) → driver_row (driver_parts w) ≡ rows.ClearAdvance → IsTold s w → IsTold s (driver_next w)

@@ -1,13 +1,10 @@
--- A cancel in a world whose endpoints are all bulk ones (EHCI 1.0, 4.8.2): the endpoint is to leave the ring, and its queue head, its qTDs and what is told of them stand as they are.
+-- A cancel in a world whose endpoints are bulk and control ones (EHCI 1.0, 4.8.2): the endpoint is to leave the ring, and its queue head, its qTDs and what is told of them stand as they are.
 --     CancelFeeds            accepted or refused, the cancel leaves queues fed
---     EachCommandFeeds       so does each command that opens a bulk endpoint, is no open, or is a cancel
 use Rattle.std.specs.Prelude.{ℕ, Bool}
 use Rattle.usb_base.specs.declared.endpoints.EpName.{EpName}
-use Rattle.usb_base.specs.declared.commands.Cmd.{Cmd}
 use Rattle.usb_base.specs.declared.commands.Cmd.TheVariants as commands
 use Rattle.usb_bus.specs.Bus.{Fixed}
 use Rattle.driver_rows.specs.Offers.{IsOffered}
-use Rattle.chained_transfers.specs.Bulk.{OpensOrCancelsBulk}
 use Rattle.bus_world.specs.World.{World, commanded}
 use Rattle.stream_worlds.specs.Streaming.{Streams, Standing}
 use Rattle.feeding_worlds.specs.Feeding.{IsFeeding}
@@ -15,7 +12,3 @@ use Rattle.feeding_worlds.specs.Feeding.{IsFeeding}
 abbrev pub CancelFeeds : Type 0
 CancelFeeds = (fixed : Fixed) (member : ℕ → Bool) (x : Streams) (s : Standing) (w : World) (line : ℕ) (name : EpName) → IsOffered w.driver.room (commands.Cancel name)
     → IsFeeding fixed member x s w → IsFeeding fixed member x s (commanded w line (commands.Cancel name))
-
-abbrev pub EachCommandFeeds : Type 0
-EachCommandFeeds = (fixed : Fixed) (member : ℕ → Bool) (x : Streams) (s : Standing) (w : World) (line : ℕ) (cmd : Cmd) → OpensOrCancelsBulk cmd → IsOffered w.driver.room cmd
-    → IsFeeding fixed member x s w → IsFeeding fixed member x s (commanded w line cmd)

@@ -1,4 +1,4 @@
--- The driver of a world whose endpoints are all bulk ones clears Async Advance (EHCI 1.0, 4.8.2): the walk doesn't meet the queue heads any more that had left the ring when the
+-- The driver of a world whose endpoints are bulk and control ones clears Async Advance (EHCI 1.0, 4.8.2): the walk doesn't meet the queue heads any more that had left the ring when the
 -- doorbell was rung, and their streams are closed.
 --     narrowed_to x d narrow      the streams but those of IN endpoints of d that the walk can't meet any more
 --     ClearFeeds                  those that it may meet are fed as before, and the bytes of their qTDs add up

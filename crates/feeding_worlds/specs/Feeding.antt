@@ -1,25 +1,29 @@
--- A world at work whose endpoints are all bulk ones (EHCI 1.0, 4.6, 4.8 and 4.10; USB 2.0, 5.8 and 8.6): each queue is fed as the driver's content tells, and
--- the devices' endpoints that aren't opened have all their packets.
+-- A world at work whose endpoints are bulk and control ones (EHCI 1.0, 4.6, 4.8 and 4.10; USB 2.0, 5.5, 5.8 and 8.6): each queue is fed as the driver's content
+-- tells, and the devices' endpoints that aren't opened have all their packets. A control endpoint has no stream of data: its queue goes on after a STALL.
 --     streams_of s              the streams of the script, of which no queue head has one yet
---     heads_of member           the queue heads of endpoints, IN or OUT: all that the walk may meet but the head of the ring
+--     heads_of member ends      the queue heads of bulk endpoints, IN or OUT: all that the walk may meet but the head of the ring and those of control endpoints,
+--                               which take the toggle from each qTD (data toggle control, 3.6.2)
 --     opens command b           the unfinished command opens the endpoint with its queue head in block b
---     there_of d n              an endpoint that is there has its queue head at n: it was opened, and isn't given back (4.8.1, 4.8.2)
+--     there_of d n              a bulk endpoint that is there has its queue head at n: it was opened, and isn't given back (4.8.1, 4.8.2)
+--     AreControlsApart d stream the name of a control endpoint is that of no stream
 --     IsFeeding fixed member x s w     the world is so
 --     bytes_of_event n e        the bytes that an event of the controller moved of the queue head at n
 --     acc_after ..              the packets taken of each stream after it; where data leave the host, the bytes of each event
 --     GoesOnBeside ..           and after an event of the controller, which is this
-use Rattle.std.specs.Prelude.{ℕ, ◌*◌, Bool, false, ◌==◌, List, [], ◌∷◌, ◌++◌, Option, Some, None, is_some, if◌then◌else◌, not, ◌&&◌}
+use Rattle.std.specs.Prelude.{◌≡◌, ℕ, ◌*◌, Bool, false, ◌==◌, List, [], ◌∷◌, ◌++◌, slice_get, Option, Some, None, is_some, if◌then◌else◌, not, ◌&&◌}
 use Rattle.usb_base.specs.declared.packets.Ask.{Ask}
 use Rattle.usb_base.specs.declared.packets.Reply.{Reply}
+use Rattle.usb_base.specs.declared.packets.Way.TheVariants as ways
 use Rattle.script_types.specs.declared.scripts.Script.{Script}
 use Rattle.usb_bus.specs.Bus.{Fixed, opening_wired}
+use Rattle.driver_rows.specs.declared.content.Endpoint.{Endpoint}
 use Rattle.driver_rows.specs.declared.content.Command.{Command}
 use Rattle.driver_rows.specs.declared.content.Command.TheVariants as unfinished
 use Rattle.driver_rows.specs.DriverContent.{DriverContent}
 use Rattle.driver_rows.specs.Words.{head_block, opening_head}
 use Rattle.lent_structures.specs.Structures.{StructureSets}
 use Rattle.ring_laws.specs.Hand.{Hand}
-use Rattle.ring_laws.specs.Told.{endpoint_of}
+use Rattle.ring_laws.specs.Told.{Endpoint as Told, endpoint_of}
 use Rattle.ring_laws.specs.Order.{bytes_of_effect}
 use Rattle.ring_laws.specs.Bus.{Sender}
 use Rattle.ring_laws.specs.Pipes.{grown}
@@ -32,9 +36,11 @@ use Rattle.bus_world.specs.World.{World, controller_parts, controller_next}
 use Rattle.stream_worlds.specs.Streaming.{Streams, Standing, wired, begins_by, transacts_by}
 use Rattle.shared_worlds.specs.Working.{IsWorking}
 use Rattle.controlled_streams.specs.Unopened.{AreUnopened}
-use Rattle.chained_transfers.specs.InTurn.{TakesTurns}
+use Rattle.chained_transfers.specs.AsynchronousTurns.{AsynchronousTakesTurns}
 use Rattle.fed_lends.specs.Commands.{QueuesStand}
 use Rattle.endpoint_lives.specs.Lives.{any_at}
+use Rattle.report_streams.specs.Streams.{has_stream}
+use Rattle.control_queues.specs.Controls.{ControlsStand}
 
 abbrev pub left_of : Option Sender → List (List ℕ)
 left_of None = []
@@ -48,22 +54,28 @@ streams_of s = record {
   endpoint = λ n. endpoint_of opening_head;
 }
 
-abbrev pub heads_of : (ℕ → Bool) → ℕ → Bool
-heads_of member n = if n == 32 * head_block then false else member n
+abbrev pub heads_of : (ℕ → Bool) → (ℕ → Told) → ℕ → Bool
+heads_of member ends n = if n == 32 * head_block then false else (member n && not (ends n).dtc)
 
 abbrev pub opens : Option Command → ℕ → Bool
 opens (Some (unfinished.Open queue)) b = queue == b
 opens _ b = false
 
 abbrev pub there_of : DriverContent → ℕ → Bool
-there_of d n = any_at (λ e x. (n == 32 * x.queue) && (not x.gone && not (opens d.command x.queue))) d.endpoints
+there_of d n = any_at (λ e x. (n == 32 * x.queue) && (has_stream x.desc.kind && (not x.gone && not (opens d.command x.queue)))) d.endpoints
+
+abbrev pub AreControlsApart : DriverContent → (ℕ → ℕ → Bool) → Type 0
+AreControlsApart d stream = (e : ℕ) (z : Endpoint) → slice_get d.endpoints e ≡ Some z → z.desc.name.way ≡ ways.Ctl → stream z.desc.name.addr z.desc.name.num ≡ false
 
 pub record IsFeeding (fixed : Fixed) (member : ℕ → Bool) (x : Streams) (s : Standing) (w : World) : Type 0 where
   pub working : IsWorking fixed opening_base member x s w
-  pub turns : TakesTurns w.driver
+  pub turns : AsynchronousTakesTurns w.driver
   pub queues : QueuesStand w.driver member x.streams x.endpoint s.parts s.order s.out
-  -- .. and what was harvested of each queue, and what was moved of its qTDs that are out, are all the bytes that were moved of it, in their order
+  -- of each bulk endpoint what was harvested of its queue, and what was moved of its qTDs that are out, are all the bytes that were moved of it, in their order
   pub counted : AreReported (there_of w.driver) s.order s.out s.hand s.parts s.acc s.reported
+  -- .. each queue stands in its order, and that of a control endpoint goes on after a STALL
+  pub controls : ControlsStand w.driver s.parts s.order s.out
+  pub controls_apart : AreControlsApart w.driver x.stream
   pub unopened : AreUnopened x.stream x.packets sender_of x.streams x.endpoint (wired fixed w)
 
 -- ---- an event of the controller

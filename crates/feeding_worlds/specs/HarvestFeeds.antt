@@ -1,6 +1,7 @@
--- The row of a harvest in a world whose endpoints are all bulk ones (EHCI 1.0, 4.10; USB 2.0, 8.6).
+-- The row of a harvest in a world whose endpoints are bulk and control ones (EHCI 1.0, 4.10; USB 2.0, 8.5.3.4 and 8.6): a STALL of a control endpoint too.
 --     PassedAreUntold         of what a short packet passed over no bytes are told
---     HarvestLeaves ..        what the row leaves: bytes more are reported, and one qTD less is out
+--     HarvestLeaves ..        what the row leaves: bytes more are reported of a bulk endpoint, and one qTD less is out, or where a control endpoint answered STALL
+--                             none of its stalled requests
 --     HarvestFeeds            the law
 use Rattle.std.specs.Prelude.{◌≡◌, ℕ, ◌*◌, Bool, List, [], slice_get, Some, None}
 use Rattle.lent_structures.specs.Structures.{StructureSets}

@@ -1,4 +1,4 @@
--- The store by which a cancelled endpoint's queue head leaves the ring, in a world whose endpoints are all bulk ones (EHCI 1.0, 4.8.2): the walk may still meet
+-- The store by which a cancelled endpoint's queue head leaves the ring, in a world whose endpoints are bulk and control ones (EHCI 1.0, 4.8.2): the walk may still meet
 -- it, so the same queue heads are met, with the same streams, and of each the same is told.
 --     UnlinkFinds              while the cancel is unfinished, that store is the driver's next event
 --     unlinked s k             what stands after it: the queue head before leads past that of the endpoint, in memory and in hand

@@ -1,7 +1,8 @@
--- What is known of the endpoints that have left the ring of a world of bulk endpoints, and of those that were given back (EHCI 1.0, 4.8.2; USB 2.0, 5.8 and 8.6).
+-- What is known of the endpoints that have left the ring of a world of bulk and control endpoints, and of those that were given back (EHCI 1.0, 4.8.2; USB 2.0, 5.8 and 8.6).
 --     AreShut d takes          an OUT endpoint that the walk can't meet any more is none of these, so nothing is claimed of its pipe
---     IsLeft fixed takes packets acc w     the walk is among the queue heads that it may meet, what is owed is of these, what was moved and told of the others
+--     IsLeft fixed takes packets acc w     each endpoint has a name of its type; the walk is among the queue heads that it may meet, what is owed is of these, what was moved and told of the others
 --                              begins their packets, or what their devices took, and no OUT endpoint of them is in `takes`
+--     AreNamed d               number 0 is that of control endpoints alone (USB 2.0, 5.3.1.2)
 --     taking_of takes d        the devices' endpoints with takers, but those of OUT endpoints of d that the walk can't meet any more
 --     after_event g            what stands after an event of the controller
 use Rattle.std.specs.Prelude.{◌≡◌, ℕ, Bool, false, List, slice_get, Some}
@@ -15,6 +16,7 @@ use Rattle.closed_streams.specs.Left.{names_kept}
 use Rattle.narrowed_streams.specs.Narrowed.{left_names}
 use Rattle.controlled_walks.specs.Worlds.{IsWalking}
 use Rattle.scripted_takers.specs.Takers.{taker_of}
+use Rattle.declared_controls.specs.Names.{IsNameOf}
 use Rattle.right_worlds.specs.Right.{ClosedIns}
 use Rattle.taken_reports.specs.Worlds.{ClosedOuts}
 use Rattle.bus_world.specs.World.{World}
@@ -24,7 +26,11 @@ use Rattle.feeding_worlds.specs.Feeding.{GoesOnBeside, bytes_of_event, acc_after
 abbrev pub AreShut : DriverContent → (ℕ → ℕ → Bool) → Type 0
 AreShut d takes = (e : ℕ) (z : Endpoint) → slice_get d.endpoints e ≡ Some z → receives z.desc.name.way ≡ false → may_meet d e z ≡ false → takes z.desc.name.addr z.desc.name.num ≡ false
 
+abbrev pub AreNamed : DriverContent → Type 0
+AreNamed d = (e : ℕ) (z : Endpoint) → slice_get d.endpoints e ≡ Some z → IsNameOf z.desc.kind z.desc.name
+
 pub record IsLeft (fixed : Fixed) (takes : ℕ → ℕ → Bool) (packets : ℕ → ℕ → List (List ℕ)) (acc : ℕ → List (List ℕ)) (w : World) : Type 0 where
+  pub named : AreNamed w.driver
   pub walking : IsWalking w
   pub owed : AreOwedMet w.driver
   pub closed_ins : ClosedIns w.driver packets acc

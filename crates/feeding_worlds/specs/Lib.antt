@@ -12,6 +12,7 @@ pub mod Clearing
 pub mod Beside
 pub mod LeaveSamples
 pub mod Leaving
+pub mod Mends
 pub mod Releases
 pub mod Left
 pub mod LeftLaws

@@ -1,4 +1,4 @@
--- The store by which an open is finished, in a world whose endpoints are all bulk ones (EHCI 1.0, 4.8.1): the walk may meet one queue head more, and the stream
+-- The store by which an open is finished, in a world whose endpoints are bulk and control ones (EHCI 1.0, 4.8.1): the walk may meet one queue head more, and the stream
 -- of an IN endpoint begins.
 --     FeedsOneMore ..      the world goes on with it
 --     LinkFeeds            the law

@@ -1,4 +1,4 @@
--- The row by which an endpoint that has left the ring is given back, in a world whose endpoints are all bulk ones (EHCI 1.0, 4.8.2 and 4.10): its queue head
+-- The row by which an endpoint that has left the ring is given back, in a world whose endpoints are bulk and control ones (EHCI 1.0, 4.8.2 and 4.10): its queue head
 -- isn't met any more, so no queue head less is met, and of each other one the same is told.
 --     released s z             what stands after it: nothing is told of the queue of this endpoint
 --     IsGivenBack ..           so it is in this world, and the frame list and buffers stay in their runs, fronts and tails where they were

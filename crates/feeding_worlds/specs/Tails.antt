@@ -1,4 +1,4 @@
--- Where the queues of a world of bulk endpoints end, and what is known of the command that its driver hasn't finished (EHCI 1.0, 4.8.1, 4.10 and 4.10.2).
+-- Where the queues of a world of bulk and control endpoints end, and what is known of the command that its driver hasn't finished (EHCI 1.0, 4.8.1, 4.10 and 4.10.2).
 --     tail_of d e x             the address of the qTD at the end of endpoint e's queue, which isn't published
 --     TailsStand ..             each queue that the walk may meet has its front, no further than its tail
 --     IsUnderWay ..             what is known of the unfinished command: what it has still to lend stands ready, or is lent

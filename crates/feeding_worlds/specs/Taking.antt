@@ -1,6 +1,6 @@
--- The OUT endpoints of a world whose endpoints are all bulk ones (EHCI 1.0, 4.6, 4.8 and 4.10; USB 2.0, 8.5 and 8.6): the bytes that the host knows to be taken are
+-- The OUT endpoints of a world whose endpoints are bulk and control ones (EHCI 1.0, 4.6, 4.8 and 4.10; USB 2.0, 8.5 and 8.6): the bytes that the host knows to be taken are
 -- those that the device took, or all of these but the last packet, whose acknowledgement wasn't heard.
---     outs_of member streams        the queue heads of OUT endpoints: of all that the walk may meet those without a stream, but the head of the ring
+--     outs_of member streams ends   the queue heads of OUT endpoints: those of bulk endpoints without a stream
 --     IsTaking fixed takes member x s w     both sides of the pipe of each OUT endpoint agree, where s.acc are the bytes that were moved of it; and devices'
 --                                   endpoints that aren't opened took nothing
 --     HaveSides way d has           the endpoint that is being opened has one of these, if it is an IN endpoint, or an OUT endpoint where `way` is false
@@ -11,6 +11,7 @@ use Rattle.driver_rows.specs.declared.content.Endpoint.{Endpoint}
 use Rattle.driver_rows.specs.declared.content.Command.TheVariants as unfinished
 use Rattle.driver_rows.specs.DriverContent.{DriverContent}
 use Rattle.narrowed_streams.specs.Narrowed.{IsOnSide}
+use Rattle.ring_laws.specs.Told.{Endpoint as Told}
 use Rattle.ring_laws.specs.Pipes.{AreEndpoints}
 use Rattle.scripted_takers.specs.Takers.{taker_of}
 use Rattle.usb_bus.specs.Bus.{Fixed}
@@ -19,13 +20,13 @@ use Rattle.stream_worlds.specs.Streaming.{Streams, Standing, wired}
 use Rattle.stream_worlds.specs.Outs.{AreOutPiped, AreUntaken}
 use Rattle.feeding_worlds.specs.Feeding.{heads_of}
 
-abbrev pub outs_of : (ℕ → Bool) → (ℕ → Bool) → ℕ → Bool
-outs_of member streams n = if streams n then false else heads_of member n
+abbrev pub outs_of : (ℕ → Bool) → (ℕ → Bool) → (ℕ → Told) → ℕ → Bool
+outs_of member streams ends n = if streams n then false else heads_of member ends n
 
 pub record IsTaking (fixed : Fixed) (takes : ℕ → ℕ → Bool) (member : ℕ → Bool) (x : Streams) (s : Standing) (w : World) : Type 0 where
-  pub ends : AreEndpoints takes member (outs_of member x.streams) x.endpoint
-  pub piped : AreOutPiped takes taker_of member (outs_of member x.streams) x.endpoint (λ n. concat (s.acc n)) s.parts s.hand (wired fixed w)
-  pub untaken : AreUntaken takes taker_of (outs_of member x.streams) x.endpoint (wired fixed w)
+  pub ends : AreEndpoints takes member (outs_of member x.streams x.endpoint) x.endpoint
+  pub piped : AreOutPiped takes taker_of member (outs_of member x.streams x.endpoint) x.endpoint (λ n. concat (s.acc n)) s.parts s.hand (wired fixed w)
+  pub untaken : AreUntaken takes taker_of (outs_of member x.streams x.endpoint) x.endpoint (wired fixed w)
 
 abbrev pub HaveSides : Bool → DriverContent → (ℕ → ℕ → Bool) → Type 0
 HaveSides way d has =

@@ -1,5 +1,5 @@
-//! Worlds at work of bulk endpoints (EHCI 1.0, 3.5, 4.6, 4.8 and 4.10; USB 2.0, 5.8 and 8.6): each queue is fed as the driver's content tells, and the bytes of its
-//! qTDs add up.
+//! Worlds at work of bulk and control endpoints (EHCI 1.0, 3.5, 4.6, 4.8 and 4.10; USB 2.0, 5.5, 5.8 and 8.6): each queue is fed as the driver's content tells,
+//! and the bytes of a bulk endpoint's qTDs add up.
 ghost use Rattle.feeding_worlds.specs.FeedingLaws.{NewWorldFeeds, ControllerFeeds, CommandFeeds, StillFeeds, StoreFeeds};
 ghost use Rattle.feeding_worlds.specs.OpenFeeds.{LinkFeeds};
 ghost use Rattle.feeding_worlds.specs.LendFeeds.{LendFeeds};
@@ -46,7 +46,7 @@ pub fn passed_qtds_are_untold()
     ensures { PassedAreUntold }
 {}
 
-/// The row of a harvest leaves such a world so, whether data come to the host or leave it.
+/// The row of a harvest leaves such a world so, whether data come to the host or leave it, and where a control endpoint answered STALL.
 pub fn a_harvest_leaves_it_feeding()
     ensures { HarvestFeeds }
 {}

@@ -4,16 +4,21 @@ ghost use Rattle.driver_rows.specs.declared.content.Command.TheVariants as unfin
 ghost use Rattle.chained_transfers.specs.Worked.{under_way};
 ghost use Rattle.feeding_worlds.specs.Feeding.{heads_of, there_of, acc_after};
 ghost use Rattle.feeding_worlds.specs.Tails.{tail_block, tail_of};
+ghost use Rattle.usb_base.specs.declared.packets.EpKind.TheVariants as kinds;
+ghost use Rattle.driver_rows.specs.Words.{queue_head};
+ghost use Rattle.run_owners.specs.Worked.{bulk};
+ghost use Rattle.ring_laws.specs.Told.{endpoint_of};
 ghost use Rattle.driver_laws.specs.PartOpened.{is_head};
 ghost use Rattle.driver_laws.specs.Linked.{with_member};
 ghost use Rattle.open_laws.specs.Opens.{IsOpenLent};
 ghost use Rattle.feeding_worlds.specs.Linked.{new_one, lent_driver, lent_parts};
 
-/// The walk meets the head of the ring and one queue head more, which is an endpoint's.
+/// The walk meets the head of the ring and one queue head more, which is an endpoint's: one of those whose bytes are counted, if it is no control endpoint's.
 pub fn queue_heads()
-    ensures ring { heads_of (with_member is_head 4160) 4096 ≡ false }
-    ensures endpoint { heads_of (with_member is_head 4160) 4160 ≡ true }
-    ensures other { heads_of (with_member is_head 4160) 4352 ≡ false }
+    ensures ring { heads_of (with_member is_head 4160) (λ n. endpoint_of (queue_head bulk 128 133)) 4096 ≡ false }
+    ensures endpoint { heads_of (with_member is_head 4160) (λ n. endpoint_of (queue_head bulk 128 133)) 4160 ≡ true }
+    ensures control { heads_of (with_member is_head 4160) (λ n. endpoint_of (queue_head (record bulk { kind = kinds.Control }) 128 133)) 4160 ≡ false }
+    ensures other { heads_of (with_member is_head 4160) (λ n. endpoint_of (queue_head bulk 128 133)) 4352 ≡ false }
 {}
 
 /// The queue head at 4160 has a stream, of which a packet of one byte was taken; of the one at 4352, which has none, a byte was moved.

@@ -1,12 +1,11 @@
 //! The laws.
 ghost use Rattle.feeding_worlds.specs.Beside.{LeaveKeepsTails, CancelKeepsTold, ClearKeepsTold};
-ghost use Rattle.feeding_worlds.specs.Cancelling.{CancelFeeds, EachCommandFeeds};
+ghost use Rattle.feeding_worlds.specs.Cancelling.{CancelFeeds};
 ghost use Rattle.feeding_worlds.specs.Clearing.{ClearFeeds};
 
 /// A cancel, accepted or refused, leaves each queue fed, with the same queue heads that the walk may meet, the same streams and the same bytes.
 pub fn a_cancel_leaves_it_feeding()
-    ensures cancel { CancelFeeds }
-    ensures each { EachCommandFeeds }
+    ensures { CancelFeeds }
 {}
 
 /// Where the driver clears Async Advance, the queues that the walk may still meet are fed as before, and the streams of the others are closed.

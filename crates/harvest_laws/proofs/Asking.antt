@@ -1,5 +1,5 @@
--- What is held back where a get or a put is accepted.
-use Rattle.std.proofs.Common.{◌≡◌, ◌≢◌, ℕ, zero, suc, ◌-◌, ◌*◌, ◌≤◌, false, ◌||◌, List, [], ◌∷◌, ◌++◌, length, map, take, drop, get_or, slice_get, slice_set, Option, Some, None, option_map, ap, refl, sym, subst, ◌∙◌, ⊎_elim, inl, inr, arith}
+-- What is held back where a get, a put or a request is accepted.
+use Rattle.std.proofs.Common.{◌≡◌, ◌≢◌, ℕ, zero, suc, ◌-◌, ◌*◌, ◌≤◌, true, false, ◌||◌, List, [], ◌∷◌, ◌++◌, length, map, take, drop, get_or, slice_get, slice_set, Option, Some, None, option_map, ap, refl, sym, subst, ◌∙◌, ⊎_elim, inl, inr, arith}
 use Rattle.std.specs.Prelude.{◌⊎◌}
 use Rattle.std.proofs.lemmas.Bool.{cases_eq}
 use Rattle.std.proofs.lemmas.Option.{same_Some, slice_get_within}
@@ -8,11 +8,12 @@ use Rattle.run_book.specs.declared.slots.Slot.{Slot}
 use Rattle.run_book.specs.Book.{Holding, holding, Stands, slot_of}
 use Rattle.lent_structures.specs.Structures.{StructureSets}
 use Rattle.ring_laws.specs.Hand.{Hand}
+use Rattle.report_streams.specs.Streams.{has_stream}
 use Rattle.driver_rows.specs.declared.content.Endpoint.{Endpoint}
 use Rattle.driver_rows.specs.declared.content.Transfer.{Transfer}
 use Rattle.driver_rows.specs.declared.content.QtdNote.{QtdNote}
 use Rattle.driver_rows.specs.DriverContent.{DriverContent}
-use Rattle.driver_rows.specs.Words.{cut, needs}
+use Rattle.driver_rows.specs.Words.{cut, needs, request_stages, request_length}
 use Rattle.driver_rows.specs.Harvests.{note_at}
 use Rattle.driver_rows.specs.Offers.{Offered, Asked, new_runs, note_stages, accepted_transfer, with_queued, new_transfer, first_waiting}
 use Rattle.run_owners.specs.Accepts.{Transfers}
@@ -28,13 +29,14 @@ use Rattle.endpoint_lives.specs.Lives.{told_end}
 use Rattle.chained_transfers.specs.Turns.{IsAtPlace, AreAtPlaces}
 use Rattle.chained_transfers.specs.Bulk.{stage_by}
 use Rattle.chained_transfers.specs.Accepted.{IsAsked}
+use Rattle.chained_transfers.specs.Asynchronous.{IsRequested}
 use Rattle.chained_transfers.proofs.Queued.{not_dummy}
 use Rattle.told_harvests.specs.Held.{AreHeld, none_held, AreUnmoved, told_of, IsOneFrom}
 use Rattle.told_harvests.proofs.Holding.{held_noted}
 use Rattle.harvest_laws.specs.Holds.{IsUnderWay, IsToCome, HoldsEach}
 use Rattle.harvest_laws.proofs.Places.{one_sooner, one_later, unmoved_noted}
 use Rattle.harvest_laws.specs.HeldLaws.{AreThere}
-use Rattle.harvest_laws.proofs.Stages.{AreBlocks, told_in_all, stages_unmoved, stages_told, cut_told}
+use Rattle.harvest_laws.proofs.Stages.{AreBlocks, told_in_all, stages_unmoved, stages_told, cut_told, request_told}
 use Rattle.harvest_laws.proofs.Opening.{push_which, set_which}
 
 -- ---- notes that stay
@@ -87,19 +89,19 @@ module _ (d : DriverContent) (e : ℕ) (x : Endpoint) (a : Asked) (h : Holding) 
   which t y at = push_which d.transfers new t y at
 
   -- the next one of the endpoint that was asked
-  own_next : (o : Option ℕ) (t : ℕ) (y : Transfer) → x.next ≡ o → told_end x ≡ None → first_waiting o (length d.transfers) ≡ Some t → slice_get (d.transfers ++ new ∷ []) t ≡ Some y → IsUnderWay hand parts (32 * x.queue) (note_at notes) y (held e)
-  own_next None t y is going first at =
+  own_next : (o : Option ℕ) (t : ℕ) (y : Transfer) → x.next ≡ o → told_end x ≡ None → has_stream x.desc.kind ≡ true → first_waiting o (length d.transfers) ≡ Some t → slice_get (d.transfers ++ new ∷ []) t ≡ Some y → IsUnderWay hand parts (32 * x.queue) (note_at notes) y (held e)
+  own_next None t y is going on first at =
       let number : length d.transfers ≡ t = same_Some (length d.transfers) t first in
       ⊎_elim (λ (old : slice_get d.transfers t ≡ Some y). absurd (newer t y old (sym number)))
       (λ (one : (t ≡ length d.transfers) × (y ≡ new)).
-      subst (λ (v : Transfer). IsUnderWay hand parts (32 * x.queue) (note_at notes) v (held e)) (sym one.1) (subst (IsUnderWay hand parts (32 * x.queue) (note_at notes) new) (sym (k.none e x here is)) (begins (32 * x.queue)))) (which t y at)
-  own_next (Some u) t y is going first at =
+      subst (λ (v : Transfer). IsUnderWay hand parts (32 * x.queue) (note_at notes) v (held e)) (sym one.1) (subst (IsUnderWay hand parts (32 * x.queue) (note_at notes) new) (sym (k.none e x here is on)) (begins (32 * x.queue)))) (which t y at)
+  own_next (Some u) t y is going on first at =
       let number : u ≡ t = same_Some u t first in
       let old = there e u x here going is in
       let y_is : y ≡ old.0 = ⊎_elim (λ (was : slice_get d.transfers t ≡ Some y). same_Some y old.0 (sym was ∙ ap (slice_get d.transfers) (sym number) ∙ old.1))
       (λ (one : (t ≡ length d.transfers) × (y ≡ new)). absurd (newer u old.0 old.1 (number ∙ one.0))) (which t y at) in
       subst (λ (v : Transfer). IsUnderWay hand parts (32 * x.queue) (note_at notes) v (held e)) (sym y_is)
-      (still_under_way u (32 * x.queue) old.0 (held e) old.1 old.3 (k.next e u x old.0 (record { endpoint = here; going = going; next = is; transfer = old.1 })))
+      (still_under_way u (32 * x.queue) old.0 (held e) old.1 old.3 (k.next e u x old.0 (record { endpoint = here; going = going; next = is; transfer = old.1 }) on))
 
   not_none : (o : Option ℕ) (n : ℕ) → first_waiting o n ≡ None → ⊥
   not_none None n is = cc
@@ -119,19 +121,19 @@ module _ (d : DriverContent) (e : ℕ) (x : Endpoint) (a : Asked) (h : Holding) 
 
   pub taken_holds : HoldsEach (accepted_transfer d e x a h dummy notes).driver hand parts held
   taken_holds = record {
-    next = λ f t w y is.
+    next = λ f t w y is on.
         ⊎_elim (λ (own : (f ≡ e) × (w ≡ end)).
         subst (λ (g : ℕ). IsUnderWay hand parts (32 * w.queue) (note_at notes) y (held g)) (sym own.0)
         (subst (λ (v : Endpoint). IsUnderWay hand parts (32 * v.queue) (note_at notes) y (held e)) (sym own.1)
-        (own_next x.next t y refl (ap told_end (sym own.1) ∙ is.going) (ap (λ (v : Endpoint). v.next) (sym own.1) ∙ is.next) is.transfer)))
+        (own_next x.next t y refl (ap told_end (sym own.1) ∙ is.going) (ap (λ (v : Endpoint). has_stream v.desc.kind) (sym own.1) ∙ on) (ap (λ (v : Endpoint). v.next) (sym own.1) ∙ is.next) is.transfer)))
         (λ (other : (f ≢ e) × (slice_get d.endpoints f ≡ Some w)).
         let old = there f t w other.1 is.going is.next in
         ⊎_elim (λ (was : slice_get d.transfers t ≡ Some y).
-        still_under_way t (32 * w.queue) y (held f) was (ap (λ (v : Transfer). v.released) (same_Some y old.0 (sym was ∙ old.1)) ∙ old.3) (k.next f t w y (record { endpoint = other.1; going = is.going; next = is.next; transfer = was })))
+        still_under_way t (32 * w.queue) y (held f) was (ap (λ (v : Transfer). v.released) (same_Some y old.0 (sym was ∙ old.1)) ∙ old.3) (k.next f t w y (record { endpoint = other.1; going = is.going; next = is.next; transfer = was }) on))
         (λ (one : (t ≡ length d.transfers) × (y ≡ new)). absurd (newer t old.0 old.1 one.0)) (which t y is.transfer)) (set_which d.endpoints e f x end w here is.endpoint);
-    none = λ f w at last.
+    none = λ f w at last on.
         ⊎_elim (λ (own : (f ≡ e) × (w ≡ end)). absurd (not_none x.next (length d.transfers) (ap (λ (v : Endpoint). v.next) (sym own.1) ∙ last)))
-        (λ (other : (f ≢ e) × (slice_get d.endpoints f ≡ Some w)). k.none f w other.1 last) (set_which d.endpoints e f x end w here at);
+        (λ (other : (f ≢ e) × (slice_get d.endpoints f ≡ Some w)). k.none f w other.1 last on) (set_which d.endpoints e f x end w here at);
     to_come = λ t y at waits kept other.
         ⊎_elim (λ (was : slice_get d.transfers t ≡ Some y).
         let c : IsToCome (note_at d.notes) y = k.to_come t y was waits kept (is_next_still t y other) in
@@ -145,12 +147,11 @@ module _ (d : DriverContent) (e : ℕ) (x : Endpoint) (a : Asked) (h : Holding) 
         (λ (one : (t ≡ length d.transfers) × (y ≡ new)). subst (λ (v : Transfer). told_of (note_at notes) v.first v.qtds ≤ v.most) (sym one.1) less) (which t y at);
   }
 
--- ---- a get or a put is accepted
+-- ---- it is accepted
 
-pub ask_holds : (d : DriverContent) (m : Mem) (o : Offered) (hand : Hand) (parts : StructureSets) (held : ℕ → List ℕ) → IsAsked d m o → Stands (holding d.book m) → HasOwners d → AreThere d → AreAtPlaces (note_in d.notes) d.transfers
+pub transfer_holds : (d : DriverContent) (m : Mem) (o : Offered) (hand : Hand) (parts : StructureSets) (held : ℕ → List ℕ) (why : Transfers d m o) → told_in_all why.asked.stages ≤ why.asked.most → Stands (holding d.book m) → HasOwners d → AreThere d → AreAtPlaces (note_in d.notes) d.transfers
     → HoldsEach d hand parts held → HoldsEach o.driver hand parts held
-ask_holds d m o hand parts held k stands owners there places holds =
-    let why : Transfers d m o = k.transfers in
+transfer_holds d m o hand parts held why few stands owners there places holds =
     let all = runs_taken (holding d.book m) why.holding_after (needs why.asked.stages) stands why.runs in
     let bs = all.blocks in
     let ss = why.asked.stages in
@@ -169,16 +170,32 @@ ask_holds d m o hand parts held k stands owners there places holds =
       distinct = are.distinct;
     } in
     let told = stages_told d.notes ss x.dummy qtds runs blocks in
-    let way = x.desc.name.way in
-    let asked : ss ≡ map (stage_by way) (cut k.most k.by) = ap (λ (a : Asked). a.stages) k.asked in
-    let long = cut_told way k.most k.by in
-    let all_told = ap told_in_all asked in
-    let most : why.asked.most ≡ k.most = ap (λ (a : Asked). a.most) k.asked in
     let now : HoldsEach (accepted_transfer d e x why.asked why.holding_after (get_or qtds (n - 1) 0) notes).driver hand parts held =
     taken_holds d e x why.asked why.holding_after (get_or qtds (n - 1) 0) notes hand parts held why.here there places
     (λ t y c at kept one.
     let p = one_placed (slot_of d.book.slots) owners.owner d.notes t y.first y.qtds c (owners.owned.each.pieces t (runs_of_transfer y) (ap (option_map runs_of_transfer) at) kept) one in
     notes_apart d.notes ss x.dummy qtds runs c (are.apart c (placed_run c (Element t) p) (not_dummy x.dummy c e t was p)))
-    (stages_unmoved d.notes ss x.dummy qtds runs blocks) (omega (arith, told, all_told, long, most)) holds in
+    (stages_unmoved d.notes ss x.dummy qtds runs blocks) (omega (arith, told, few)) holds in
     subst (λ (g : Offered). HoldsEach g.driver hand parts held) (sym why.is)
     (subst (λ (rs : List ℕ). HoldsEach (accepted_transfer d e x why.asked why.holding_after (get_or (take n rs) (n - 1) 0) (note_stages d.notes ss x.dummy (take n rs) (drop n rs))).driver hand parts held) (sym made) now)
+
+-- a get or a put
+pub ask_holds : (d : DriverContent) (m : Mem) (o : Offered) (hand : Hand) (parts : StructureSets) (held : ℕ → List ℕ) → IsAsked d m o → Stands (holding d.book m) → HasOwners d → AreThere d → AreAtPlaces (note_in d.notes) d.transfers
+    → HoldsEach d hand parts held → HoldsEach o.driver hand parts held
+ask_holds d m o hand parts held k = transfer_holds d m o hand parts held k.transfers
+    (let way = k.transfers.endpoint.desc.name.way in
+    let asked : k.transfers.asked.stages ≡ map (stage_by way) (cut k.most k.by) = ap (λ (a : Asked). a.stages) k.asked in
+    let long = cut_told way k.most k.by in
+    let all_told = ap told_in_all asked in
+    let most : k.transfers.asked.most ≡ k.most = ap (λ (a : Asked). a.most) k.asked in
+    omega (arith, all_told, long, most))
+
+-- a request
+pub request_holds : (d : DriverContent) (m : Mem) (o : Offered) (hand : Hand) (parts : StructureSets) (held : ℕ → List ℕ) → IsRequested d m o → Stands (holding d.book m) → HasOwners d → AreThere d → AreAtPlaces (note_in d.notes) d.transfers
+    → HoldsEach d hand parts held → HoldsEach o.driver hand parts held
+request_holds d m o hand parts held k = transfer_holds d m o hand parts held k.transfers
+    (let asked : k.transfers.asked.stages ≡ request_stages k.setup = ap (λ (a : Asked). a.stages) k.asked in
+    let long = request_told k.setup in
+    let all_told = ap told_in_all asked in
+    let most : k.transfers.asked.most ≡ request_length k.setup = ap (λ (a : Asked). a.most) k.asked in
+    omega (arith, all_told, long, most))

@@ -13,8 +13,8 @@ none_there (suc i) x is = cc
 
 pub opening_holds : (n : ℕ) (room : Reserve) (hand : Hand) (parts : StructureSets) → HoldsEach (opening n room).driver hand parts (λ (e : ℕ). [])
 opening_holds n room hand parts = record {
-  next = λ e t x y is. absurd (none_there e x is.endpoint);
-  none = λ e x here last. refl;
+  next = λ e t x y is on. absurd (none_there e x is.endpoint);
+  none = λ e x here last on. refl;
   to_come = λ t y here waits kept other. absurd (none_there t y here);
   within = λ t y here kept. absurd (none_there t y here);
 }
@@ -26,7 +26,7 @@ none_named (suc e) x is = cc
 pub opening_tells : (n : ℕ) (room : Reserve) → TellsEach (opening n room).driver.reports (opening n room).driver.store (named_in (opening n room).driver.endpoints) (λ (e : ℕ). []) (λ (e : ℕ). [])
 opening_tells n room = record {
   stored = tt;
-  each = λ e x there. absurd (none_named e x there);
+  each = λ e x there on. absurd (none_named e x there);
   only = λ name others. refl;
   apart = λ e k x y here there alike. absurd (none_named e x here);
 }

@@ -15,10 +15,12 @@ use Rattle.driver_rows.specs.declared.content.Command.TheVariants as unfinished
 use Rattle.driver_rows.specs.DriverContent.{DriverContent, is_same_name as is_driver_name}
 use Rattle.driver_rows.specs.Offers.{Offered, new_endpoint, new_runs}
 use Rattle.run_owners.specs.Owners.{note_in}
+use Rattle.run_owners.specs.Accepts.{Opens, Transfers}
 use Rattle.run_owners.specs.Kept.{HasOwners}
 use Rattle.run_owners.proofs.Released.{set_here, set_there}
 use Rattle.chained_transfers.specs.Turns.{AreAtPlaces}
-use Rattle.chained_transfers.specs.Accepted.{IsOpened, IsAsked}
+use Rattle.chained_transfers.specs.Accepted.{IsAsked}
+use Rattle.chained_transfers.specs.Asynchronous.{IsRequested}
 use Rattle.told_endpoints.specs.Telling.{Named, named_of, named_in, IsToldTo, TellsEach}
 use Rattle.told_endpoints.specs.Steps.{Clears}
 use Rattle.told_endpoints.proofs.Names.{driver_name}
@@ -26,7 +28,8 @@ use Rattle.told_endpoints.proofs.Tellings.{names_kept, endpoint_added}
 use Rattle.harvest_laws.proofs.RowRows.{cleared_at}
 use Rattle.harvest_laws.specs.HeldLaws.{AreThere}
 use Rattle.harvest_laws.proofs.Opening.{push_which, set_which, open_holds}
-use Rattle.harvest_laws.proofs.Asking.{ask_holds}
+use Rattle.harvest_laws.proofs.Asking.{ask_holds, request_holds}
+use Rattle.harvest_laws.specs.Holds.{HoldsEach}
 use Rattle.harvest_laws.specs.Told.{ToldStands}
 use Rattle.fed_queues.specs.Places.{IsThere}
 
@@ -78,8 +81,8 @@ tells_like : (reports : List Report) (store : List ℕ) (named : ℕ → Option 
     → TellsEach reports store named later now
 tells_like reports store named held later told now same k = record {
   stored = k.stored;
-  each = λ e x here.
-      subst (λ (xs : List ℕ). IsToldTo reports store x xs (now e)) (sym (same e x here).0) (subst (λ (xs : List ℕ). IsToldTo reports store x (held e) xs) (sym (same e x here).1) (k.each e x here));
+  each = λ e x here on.
+      subst (λ (xs : List ℕ). IsToldTo reports store x xs (now e)) (sym (same e x here).0) (subst (λ (xs : List ℕ). IsToldTo reports store x (held e) xs) (sym (same e x here).1) (k.each e x here on));
   only = k.only;
   apart = k.apart;
 }
@@ -93,29 +96,29 @@ named_there xs e x is = by_end (slice_get xs e) refl is
 
 -- ---- an endpoint is opened
 
-pub opened_told : (d : DriverContent) (m : Mem) (o : Offered) (hand : Hand) (parts : StructureSets) (reported : ℕ → List ℕ) → IsOpened d m o → ((e : ℕ) (x : Endpoint) → slice_get d.endpoints e ≡ Some x → x.gone ≡ false → o.driver.command ≢ Some (unfinished.Open x.queue))
+pub opened_told : (d : DriverContent) (m : Mem) (o : Offered) (hand : Hand) (parts : StructureSets) (reported : ℕ → List ℕ) → Opens d m o → ((e : ℕ) (x : Endpoint) → slice_get d.endpoints e ≡ Some x → x.gone ≡ false → o.driver.command ≢ Some (unfinished.Open x.queue))
     → ToldStands d hand parts reported → ToldStands o.driver hand parts reported
-opened_told d m o hand parts reported opened others k = record {
+opened_told d m o hand parts reported why others k = record {
   held = later;
   told = now;
-  holds = open_holds d m o hand parts k.held later opened clears k.holds;
-  tells = subst (λ (g : Offered). TellsEach g.driver.reports g.driver.store (named_in g.driver.endpoints) later now) (sym opened.opens.is)
+  holds = open_holds d m o hand parts k.held later why clears k.holds;
+  tells = subst (λ (g : Offered). TellsEach g.driver.reports g.driver.store (named_in g.driver.endpoints) later now) (sym why.is)
       (endpoint_added d.reports d.store (named_in d.endpoints) (named_in (d.endpoints ++ x ∷ [])) later now n (named_of x) (ap (option_map named_of) (slice_get_past d.endpoints n (omega arith)))
       (record { here = ap (option_map named_of) (pushed_last d.endpoints x); beside = λ e differs. ap (option_map named_of) (pushed_beside d.endpoints x e differs) }) refl
       (λ e y here.
       let z = named_there d.endpoints e y here in
-      ap (λ (v : Named). is_same_name v.name opened.opens.desc.name) (sym z.2) ∙ sym (driver_name z.0.desc.name opened.opens.desc.name) ∙ none_passes (λ v. is_driver_name v.desc.name opened.opens.desc.name) d.endpoints opened.opens.new_name e z.0 z.1)
+      ap (λ (v : Named). is_same_name v.name why.desc.name) (sym z.2) ∙ sym (driver_name z.0.desc.name why.desc.name) ∙ none_passes (λ v. is_driver_name v.desc.name why.desc.name) d.endpoints why.new_name e z.0 z.1)
       clears.here (cleared_at n k.told).here
       (tells_like d.reports d.store (named_in d.endpoints) k.held later k.told now (λ e y here. let z = named_there d.endpoints e y here in (clears.beside e (older e z.0 z.1), (cleared_at n k.told).beside e (older e z.0 z.1))) k.tells));
   met = λ e y here meets.
       ⊎_elim (λ (was : slice_get d.endpoints e ≡ Some y). (cleared_at n k.told).beside e (older e y was) ∙ k.met e y was (idle y meets.kept))
-      (λ (new : (e ≡ n) × (y ≡ x)). absurd (meets.linked (ap (λ (g : Offered). g.driver.command) opened.opens.is ∙ ap (λ (v : Endpoint). Some (unfinished.Open v.queue)) (sym new.1)))) (which e y here);
+      (λ (new : (e ≡ n) × (y ≡ x)). absurd (meets.linked (ap (λ (g : Offered). g.driver.command) why.is ∙ ap (λ (v : Endpoint). Some (unfinished.Open v.queue)) (sym new.1)))) (which e y here);
   opening = λ e y here kept is.
       ⊎_elim (λ (was : slice_get d.endpoints e ≡ Some y). absurd (others e y was kept is)) (λ (new : (e ≡ n) × (y ≡ x)). ap now new.0 ∙ (cleared_at n k.told).here) (which e y here);
 }
   where
     x : Endpoint
-    x = new_endpoint opened.opens.desc (slice_index (new_runs d opened.opens.holding_after) 0) (slice_index (new_runs d opened.opens.holding_after) 1)
+    x = new_endpoint why.desc (slice_index (new_runs d why.holding_after) 0) (slice_index (new_runs d why.holding_after) 1)
 
     n : ℕ
     n = length d.endpoints
@@ -136,21 +139,21 @@ opened_told d m o hand parts reported opened others k = record {
     no_open b is = cc
 
     idle : (y : Endpoint) → y.gone ≡ false → IsThere d y
-    idle y kept = record { linked = λ is. no_open y.queue (sym opened.opens.idle ∙ is); kept = kept }
+    idle y kept = record { linked = λ is. no_open y.queue (sym why.idle ∙ is); kept = kept }
 
     which : (e : ℕ) (y : Endpoint) → slice_get o.driver.endpoints e ≡ Some y → (slice_get d.endpoints e ≡ Some y) ⊎ ((e ≡ length d.endpoints) × (y ≡ x))
-    which e y here = push_which d.endpoints x e y (ap (λ (g : Offered). slice_get g.driver.endpoints e) (sym opened.opens.is) ∙ here)
+    which e y here = push_which d.endpoints x e y (ap (λ (g : Offered). slice_get g.driver.endpoints e) (sym why.is) ∙ here)
 
--- ---- a get or a put is asked
+-- ---- a transfer is asked
 
-pub asked_told : (d : DriverContent) (m : Mem) (o : Offered) (hand : Hand) (parts : StructureSets) (reported : ℕ → List ℕ) → IsAsked d m o → Stands (holding d.book m) → HasOwners d → AreThere d → AreAtPlaces (note_in d.notes) d.transfers
+transfer_told : (d : DriverContent) (m : Mem) (o : Offered) (hand : Hand) (parts : StructureSets) (reported : ℕ → List ℕ) (why : Transfers d m o) → ((held : ℕ → List ℕ) → HoldsEach d hand parts held → HoldsEach o.driver hand parts held)
     → ToldStands d hand parts reported → ToldStands o.driver hand parts reported
-asked_told d m o hand parts reported asked stands owners there places k = record {
+transfer_told d m o hand parts reported why holds_on k = record {
   held = k.held;
   told = k.told;
-  holds = ask_holds d m o hand parts k.held asked stands owners there places k.holds;
-  tells = subst (λ (ls : List Report). TellsEach ls o.driver.store (named_in o.driver.endpoints) k.held k.told) (sym (ap (λ (g : Offered). g.driver.reports) asked.transfers.is))
-      (subst (λ (bs : List ℕ). TellsEach d.reports bs (named_in o.driver.endpoints) k.held k.told) (sym (ap (λ (g : Offered). g.driver.store) asked.transfers.is))
+  holds = holds_on k.held k.holds;
+  tells = subst (λ (ls : List Report). TellsEach ls o.driver.store (named_in o.driver.endpoints) k.held k.told) (sym (ap (λ (g : Offered). g.driver.reports) why.is))
+      (subst (λ (bs : List ℕ). TellsEach d.reports bs (named_in o.driver.endpoints) k.held k.told) (sym (ap (λ (g : Offered). g.driver.store) why.is))
       (names_kept d.reports d.store (named_in d.endpoints) (named_in o.driver.endpoints) k.held k.told names k.tells));
   met = λ e y here meets. let w = was e y here in k.met e w.0 w.1 (idle w.0 (w.3 ∙ meets.kept)) ∙ ap (λ (q : ℕ). reported (32 * q)) w.2;
   opening = λ e y here kept is. absurd (no_publish y.queue is);
@@ -160,19 +163,19 @@ asked_told d m o hand parts reported asked stands owners there places k = record
     no_open b is = cc
 
     idle : (y : Endpoint) → y.gone ≡ false → IsThere d y
-    idle y kept = record { linked = λ is. no_open y.queue (sym asked.transfers.idle ∙ is); kept = kept }
+    idle y kept = record { linked = λ is. no_open y.queue (sym why.idle ∙ is); kept = kept }
 
     not_publish : (b c : ℕ) (words : List ℕ) → Some (unfinished.Publish c words) ≡ Some (unfinished.Open b) → ⊥
     not_publish b c words is = cc
 
     no_publish : (b : ℕ) → o.driver.command ≡ Some (unfinished.Open b) → ⊥
-    no_publish b is = not_publish b asked.transfers.endpoint.dummy _ (sym (ap (λ (g : Offered). g.driver.command) asked.transfers.is) ∙ is)
+    no_publish b is = not_publish b why.endpoint.dummy _ (sym (ap (λ (g : Offered). g.driver.command) why.is) ∙ is)
 
     was : (e : ℕ) (y : Endpoint) → slice_get o.driver.endpoints e ≡ Some y → (z : Endpoint) × (slice_get d.endpoints e ≡ Some z) × (z.queue ≡ y.queue) × (z.gone ≡ y.gone)
     was e y here =
-        let at = ap (λ (g : Offered). slice_get g.driver.endpoints e) (sym asked.transfers.is) ∙ here in
-        ⊎_elim (λ own. (asked.transfers.endpoint, ap (slice_get d.endpoints) own.0 ∙ asked.transfers.here, sym (ap (λ (v : Endpoint). v.queue) own.1), sym (ap (λ (v : Endpoint). v.gone) own.1)))
-        (λ other. (y, other.1, refl, refl)) (set_which d.endpoints asked.transfers.number e asked.transfers.endpoint _ y asked.transfers.here at)
+        let at = ap (λ (g : Offered). slice_get g.driver.endpoints e) (sym why.is) ∙ here in
+        ⊎_elim (λ own. (why.endpoint, ap (slice_get d.endpoints) own.0 ∙ why.here, sym (ap (λ (v : Endpoint). v.queue) own.1), sym (ap (λ (v : Endpoint). v.gone) own.1)))
+        (λ other. (y, other.1, refl, refl)) (set_which d.endpoints why.number e why.endpoint _ y why.here at)
 
     name_at : (xs : List Endpoint) (n : ℕ) (x w : Endpoint) → slice_get xs n ≡ Some x → named_of w ≡ named_of x → (e : ℕ) → named_in (slice_set xs n w) e ≡ named_in xs e
     name_at xs n x w here same e =
@@ -180,4 +183,17 @@ asked_told d m o hand parts reported asked stands owners there places k = record
         (λ (differs : e ≢ n). ap (option_map named_of) (set_there xs n e w differs)) (cases_eq e n)
 
     names : (e : ℕ) → named_in o.driver.endpoints e ≡ named_in d.endpoints e
-    names e = ap (λ (g : Offered). named_in g.driver.endpoints e) asked.transfers.is ∙ name_at d.endpoints asked.transfers.number asked.transfers.endpoint _ asked.transfers.here refl e
+    names e = ap (λ (g : Offered). named_in g.driver.endpoints e) why.is ∙ name_at d.endpoints why.number why.endpoint _ why.here refl e
+
+-- a get or a put
+pub asked_told : (d : DriverContent) (m : Mem) (o : Offered) (hand : Hand) (parts : StructureSets) (reported : ℕ → List ℕ) → IsAsked d m o → Stands (holding d.book m) → HasOwners d → AreThere d → AreAtPlaces (note_in d.notes) d.transfers
+    → ToldStands d hand parts reported → ToldStands o.driver hand parts reported
+asked_told d m o hand parts reported asked stands owners there places =
+    transfer_told d m o hand parts reported asked.transfers (λ held. ask_holds d m o hand parts held asked stands owners there places)
+
+-- a request
+pub requested_told : (d : DriverContent) (m : Mem) (o : Offered) (hand : Hand) (parts : StructureSets) (reported : ℕ → List ℕ) → IsRequested d m o → Stands (holding d.book m) → HasOwners d → AreThere d
+    → AreAtPlaces (note_in d.notes) d.transfers
+    → ToldStands d hand parts reported → ToldStands o.driver hand parts reported
+requested_told d m o hand parts reported asked stands owners there places =
+    transfer_told d m o hand parts reported asked.transfers (λ held. request_holds d m o hand parts held asked stands owners there places)

@@ -11,3 +11,4 @@ pub mod Standing
 pub mod Commanding
 pub mod ToldHarvesting
 pub mod ReadRows
+pub mod Requests

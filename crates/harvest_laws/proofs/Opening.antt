@@ -15,7 +15,7 @@ use Rattle.driver_rows.specs.declared.content.Reserve.{Reserve}
 use Rattle.driver_rows.specs.Opening.{opening}
 use Rattle.driver_rows.specs.Offers.{Offered, new_endpoint, new_runs}
 use Rattle.run_owners.proofs.Released.{set_here, set_there}
-use Rattle.chained_transfers.specs.Accepted.{IsOpened}
+use Rattle.run_owners.specs.Accepts.{Opens}
 use Rattle.told_endpoints.specs.Steps.{Clears}
 use Rattle.told_harvests.specs.Held.{told_of}
 use Rattle.harvest_laws.specs.Holds.{IsUnderWay, IsToCome, HoldsEach}
@@ -58,14 +58,14 @@ module _ (d new : DriverContent) (x : Endpoint) (hand : Hand) (parts : Structure
 
   pub opened_holds : HoldsEach new hand parts later
   opened_holds = record {
-    next = λ e t w y is.
+    next = λ e t w y is on.
         ⊎_elim (λ (old : slice_get d.endpoints e ≡ Some w).
         subst (IsUnderWay hand parts (32 * w.queue) (note_at new.notes) y) (sym (older e w old))
         (subst (λ (ns : List QtdNote). IsUnderWay hand parts (32 * w.queue) (note_at ns) y (held e)) (sym notes)
-        (k.next e t w y (record { endpoint = old; going = is.going; next = is.next; transfer = ap (λ (ts : List Transfer). slice_get ts t) (sym transfers) ∙ is.transfer }))))
+        (k.next e t w y (record { endpoint = old; going = is.going; next = is.next; transfer = ap (λ (ts : List Transfer). slice_get ts t) (sym transfers) ∙ is.transfer }) on)))
         (λ (one : (e ≡ length d.endpoints) × (w ≡ x)). absurd (none_next t (sym fresh ∙ ap (λ (v : Endpoint). v.next) (sym one.1) ∙ is.next))) (end_which e w is.endpoint);
-    none = λ e w here last.
-        ⊎_elim (λ (old : slice_get d.endpoints e ≡ Some w). older e w old ∙ k.none e w old last) (λ (one : (e ≡ length d.endpoints) × (w ≡ x)). ap later one.0 ∙ clears.here) (end_which e w here);
+    none = λ e w here last on.
+        ⊎_elim (λ (old : slice_get d.endpoints e ≡ Some w). older e w old ∙ k.none e w old last on) (λ (one : (e ≡ length d.endpoints) × (w ≡ x)). ap later one.0 ∙ clears.here) (end_which e w here);
     to_come = λ t y here waits kept other.
         subst (λ (ns : List QtdNote). IsToCome (note_at ns) y) (sym notes)
         (k.to_come t y (ap (λ (ts : List Transfer). slice_get ts t) (sym transfers) ∙ here) waits kept
@@ -74,9 +74,8 @@ module _ (d new : DriverContent) (x : Endpoint) (hand : Hand) (parts : Structure
         subst (λ (ns : List QtdNote). told_of (note_at ns) y.first y.qtds ≤ y.most) (sym notes) (k.within t y (ap (λ (ts : List Transfer). slice_get ts t) (sym transfers) ∙ here) kept);
   }
 
-pub open_holds : (d : DriverContent) (m : Mem) (o : Offered) (hand : Hand) (parts : StructureSets) (held later : ℕ → List ℕ) → IsOpened d m o → Clears (length d.endpoints) held later → HoldsEach d hand parts held → HoldsEach o.driver hand parts later
-open_holds d m o hand parts held later opened clears k =
-    let why = opened.opens in
+pub open_holds : (d : DriverContent) (m : Mem) (o : Offered) (hand : Hand) (parts : StructureSets) (held later : ℕ → List ℕ) → Opens d m o → Clears (length d.endpoints) held later → HoldsEach d hand parts held → HoldsEach o.driver hand parts later
+open_holds d m o hand parts held later why clears k =
     let x : Endpoint = new_endpoint why.desc (slice_index (new_runs d why.holding_after) 0) (slice_index (new_runs d why.holding_after) 1) in
     opened_holds d o.driver x hand parts held later refl (ap (λ (g : Offered). g.driver.endpoints) why.is) (ap (λ (g : Offered). g.driver.transfers) why.is) (ap (λ (g : Offered). g.driver.notes) why.is) clears k
 
@@ -85,15 +84,15 @@ open_holds d m o hand parts held later opened clears k =
 pub return_holds : (d new : DriverContent) (t : ℕ) (y : Transfer) (hand : Hand) (parts : StructureSets) (held : ℕ → List ℕ) → slice_get d.transfers t ≡ Some y → y.reported ≡ true → AreThere d
     → new.endpoints ≡ d.endpoints → new.transfers ≡ slice_set d.transfers t (record y { released = true }) → new.notes ≡ d.notes → HoldsEach d hand parts held → HoldsEach new hand parts held
 return_holds d new t y hand parts held here told there ends transfers notes k = record {
-  next = λ e u w z is.
+  next = λ e u w z is on.
       let end : slice_get d.endpoints e ≡ Some w = ap (λ (xs : List Endpoint). slice_get xs e) (sym ends) ∙ is.endpoint in
       ⊎_elim (λ (one : (u ≡ t) × (z ≡ record y { released = true })).
       let next_one = there e u w end is.going is.next in
       absurd (false≢true (sym next_one.2 ∙ ap (λ (v : Transfer). v.reported) (same_Some next_one.0 y (sym next_one.1 ∙ ap (slice_get d.transfers) one.0 ∙ here)) ∙ told)))
       (λ (old : (u ≢ t) × (slice_get d.transfers u ≡ Some z)).
-      subst (λ (ns : List QtdNote). IsUnderWay hand parts (32 * w.queue) (note_at ns) z (held e)) (sym notes) (k.next e u w z (record { endpoint = end; going = is.going; next = is.next; transfer = old.1 })))
+      subst (λ (ns : List QtdNote). IsUnderWay hand parts (32 * w.queue) (note_at ns) z (held e)) (sym notes) (k.next e u w z (record { endpoint = end; going = is.going; next = is.next; transfer = old.1 }) on))
       (which u z is.transfer);
-  none = λ e w at last. k.none e w (ap (λ (xs : List Endpoint). slice_get xs e) (sym ends) ∙ at) last;
+  none = λ e w at last on. k.none e w (ap (λ (xs : List Endpoint). slice_get xs e) (sym ends) ∙ at) last on;
   to_come = λ u z at waits kept other.
       ⊎_elim (λ (one : (u ≡ t) × (z ≡ record y { released = true })). absurd (false≢true (sym waits ∙ ap (λ (v : Transfer). v.reported) one.1 ∙ told)))
       (λ (old : (u ≢ t) × (slice_get d.transfers u ≡ Some z)).

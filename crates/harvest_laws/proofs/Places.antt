@@ -5,7 +5,7 @@ use Rattle.run_book.specs.declared.slots.Slot.{Slot}
 use Rattle.lent_structures.specs.Structures.{Structures}
 use Rattle.driver_rows.specs.declared.content.QtdNote.{QtdNote}
 use Rattle.driver_rows.specs.Harvests.{note_at}
-use Rattle.run_owners.specs.Owners.{Owner, Element, ArePieces, note_in}
+use Rattle.run_owners.specs.Owners.{Owner, Element, ArePieces, note_in, runs_of_note}
 use Rattle.ring_laws.specs.Order.{AreAfter, IsSorted, IsAmong}
 use Rattle.chained_transfers.specs.Chains.{piece_at}
 use Rattle.chained_transfers.specs.Out.{pieces_from}
@@ -81,6 +81,12 @@ told_noted note now c k noted b (suc i) =
     let one : (now b).told ≡ (note b).told = told_same note now c k noted b in
     let rest : told_of now (now b).next i ≡ told_of note (note b).next i = ap (λ (a : ℕ). told_of now a i) (next_same note now c k noted b) ∙ told_noted note now c k noted (note b).next i in
     omega (arith, one, rest)
+
+-- their blocks stay
+pub runs_noted : (notes now : List QtdNote) (c k : ℕ) → NotesMoved (note_at notes) (note_at now) c k → (b : ℕ) → note_in now b ≡ note_in notes b
+runs_noted notes now c k moved b =
+    ⊎_elim (λ (is : b ≡ c). ap (λ (i : ℕ). runs_of_note (note_at now i)) is ∙ ap runs_of_note moved.here ∙ ap (λ (i : ℕ). runs_of_note (note_at notes i)) (sym is))
+    (λ (differs : b ≢ c). ap runs_of_note (moved.beside b differs)) (cases_eq b c)
 
 is_read_still : (part : Structures) (note now : ℕ → QtdNote) (c k : ℕ) → NotesMoved note now c k → (b : ℕ) → IsRead part (note b) b → IsRead part (now b) b
 is_read_still part note now c k noted b r =

@@ -25,13 +25,14 @@ use Rattle.driver_rows.specs.Rows.{Parts, served, after_harvest, after_driver_ro
 use Rattle.run_owners.specs.Owners.{Element, QueueHead, IsPlaced, is_descriptor, runs_of_endpoint, runs_of_transfer, note_in}
 use Rattle.run_owners.specs.Kept.{HasOwners}
 use Rattle.run_owners.specs.Due.{IsHarvestDue}
+use Rattle.chained_transfers.specs.Bulk.{sort_by}
 use Rattle.chained_transfers.specs.Chains.{piece_at}
 use Rattle.chained_transfers.specs.Turns.{IsAtPlace, Turn, turn_of, turn_in, AreReportedTo}
-use Rattle.chained_transfers.specs.Asynchronous.{IsKindOf, sort_of}
+use Rattle.chained_transfers.specs.Asynchronous.{IsKindOf}
 use Rattle.chained_transfers.specs.AsynchronousTurns.{AsynchronousTakesTurns}
 use Rattle.chained_transfers.specs.Out.{out_now, unpublished}
-use Rattle.chained_transfers.proofs.BulkAndControl.{not_iso, moves_queued_of}
-use Rattle.chained_transfers.proofs.Ways.{found_by}
+use Rattle.chained_transfers.proofs.BulkAndControl.{not_iso}
+use Rattle.chained_transfers.proofs.Ways.{found_by, moves_queued}
 use Rattle.told_harvests.specs.Held.{IsOneFrom, IsRead, AreRead}
 use Rattle.harvest_laws.specs.Holds.{IsNextOf}
 use Rattle.harvest_laws.specs.RowLaws.{IsReadNext}
@@ -79,7 +80,7 @@ same_head : (e k : ℕ) → QueueHead e ≡ QueueHead k → e ≡ k
 same_head e k is = cc
 
 -- a bulk endpoint takes no requests
-no_request : (way : Way) (kind : EpKind) → IsKindOf way kind → kind ≡ kinds.Bulk → is_request (sort_of way) ≡ false
+no_request : (way : Way) (kind : EpKind) → IsKindOf way kind → kind ≡ kinds.Bulk → is_request (sort_by way) ≡ false
 no_request ways.In kind is bulk = refl
 no_request ways.Out kind is bulk = refl
 no_request ways.Ctl kind is bulk = absurd (let both : kinds.Control ≡ kinds.Bulk = sym is ∙ bulk in cc)
@@ -148,7 +149,7 @@ module _ (p : Parts) (e t : ℕ) (found : Found) (due : IsHarvestDue p e t found
   tells_all bulk =
       let moves = turns.asynchronous.moves t due.transfer due.there in
       let same : moves.endpoint ≡ due.endpoint = same_Some moves.endpoint due.endpoint (sym moves.here ∙ its_end) in
-      ap is_request moves.sort ∙ ap (λ (w : Endpoint). is_request (sort_of w.desc.name.way)) same
+      ap is_request moves.sort ∙ ap (λ (w : Endpoint). is_request (sort_by w.desc.name.way)) same
       ∙ no_request due.endpoint.desc.name.way due.endpoint.desc.kind (turns.asynchronous.endpoints e due.endpoint due.here).asynchronous.kind bulk
 
   pub reads : due.endpoint.desc.kind ≡ kinds.Bulk → (parts : StructureSets) → AreFed p.driver parts → AreRead (parts (32 * due.endpoint.queue)) (note_at p.driver.notes) due.transfer.first due.transfer.qtds
@@ -160,8 +161,8 @@ module _ (p : Parts) (e t : ℕ) (found : Found) (due : IsHarvestDue p e t found
       (told_fed due.transfer.sort (parts (32 * due.endpoint.queue)) i (note_at p.driver.notes (piece_at (note_in p.driver.notes) due.transfer.first i)) (piece_at (note_in p.driver.notes) due.transfer.first i) (piece_at (note_in p.driver.notes) due.transfer.first due.transfer.qtds) (tells_all bulk)
       (fed.pieces t i due.transfer due.endpoint due.there held its_end (omega (arith, none)) below)))
 
-  its_sort : is_descriptor due.transfer.sort ≡ false
-  its_sort = moves_queued_of p.driver due.transfer (turns.asynchronous.moves t due.transfer due.there)
+  pub its_sort : is_descriptor due.transfer.sort ≡ false
+  its_sort = moves_queued p.driver due.transfer (turns.asynchronous.moves t due.transfer due.there)
 
   pub not_active : found ≢ founds.Active → (token_in p.memory due.transfer.place).active ≡ false
   not_active differs = by_active (token_in p.memory due.transfer.place).active refl
@@ -172,7 +173,7 @@ module _ (p : Parts) (e t : ℕ) (found : Found) (due : IsHarvestDue p e t found
           absurd (differs (due.tells ∙ found_by p.driver p.memory due.transfer due.transfer.sort its_sort
           ∙ ap (λ (b : Bool). if b then founds.Active else if (token_in p.memory due.transfer.place).halted then founds.Ended (moved_of (note_at p.driver.notes due.transfer.place).told (token_in p.memory due.transfer.place).total) (halt_of (token_in p.memory due.transfer.place)) else done_of (ends_by due.transfer.sort (nat_le due.transfer.left 1) (token_in p.memory due.transfer.place).total) (moved_of (note_at p.driver.notes due.transfer.place).told (token_in p.memory due.transfer.place).total)) is))
 
-after_is : (p : Parts) (e t : ℕ) (found : Found) (due : IsHarvestDue p e t found) → (after_driver_row (rows.Harvest e t found) p).driver ≡ after_harvest p.driver p.memory e t found (Some due.endpoint) (Some due.transfer)
+pub after_is : (p : Parts) (e t : ℕ) (found : Found) (due : IsHarvestDue p e t found) → (after_driver_row (rows.Harvest e t found) p).driver ≡ after_harvest p.driver p.memory e t found (Some due.endpoint) (Some due.transfer)
 after_is p e t found due =
     ap (λ (o : Option Endpoint). after_harvest p.driver p.memory e t found o (slice_get p.driver.transfers t)) due.here ∙ ap (after_harvest p.driver p.memory e t found (Some due.endpoint)) due.there
 

@@ -7,6 +7,7 @@ use Rattle.lent_structures.specs.Structures.{StructureSets}
 use Rattle.ring_laws.specs.Hand.{Hand}
 use Rattle.ring_laws.specs.Order.{Accounts}
 use Rattle.harvested_streams.proofs.Harvesting.{token_read}
+use Rattle.report_streams.specs.Streams.{has_stream}
 use Rattle.driver_rows.specs.declared.content.Endpoint.{Endpoint}
 use Rattle.driver_rows.specs.declared.content.Transfer.{Transfer}
 use Rattle.driver_rows.specs.declared.content.Command.{Command}
@@ -49,7 +50,7 @@ reads_endpoint : (d : DriverContent) (y z : Transfer) → ReadsOn d y z → z.en
 reads_endpoint d y z goes_on = refl
 reads_endpoint d y z ends = refl
 
-out_new : (d new : DriverContent) (k : ℕ) (ts : List Transfer) → d.command ≡ None → new.command ≡ d.command → ((c : ℕ) → note_in new.notes c ≡ note_in d.notes c) → new.transfers ≡ ts → out_now new k ≡ out_of (note_in d.notes) k None 0 ts
+pub out_new : (d new : DriverContent) (k : ℕ) (ts : List Transfer) → d.command ≡ None → new.command ≡ d.command → ((c : ℕ) → note_in new.notes c ≡ note_in d.notes c) → new.transfers ≡ ts → out_now new k ≡ out_of (note_in d.notes) k None 0 ts
 out_new d new k ts none command notes transfers =
     out_alike (note_in d.notes) (note_in new.notes) k new.command new.made new.transfers notes ∙ ap (λ (c : Option Command). out_of (note_in d.notes) k c new.made new.transfers) (command ∙ none)
     ∙ out_made (note_in d.notes) k new.made new.transfers ∙ ap (out_of (note_in d.notes) k None 0) transfers
@@ -90,6 +91,7 @@ harvest_is_told member order place d m parts hand e t x y xs held told found n c
     h : Harvests d e t x y
     h = record {
       next = n.next;
+      stream = ap has_stream c.bulk;
       some = at.some;
       most = at.most;
       waits = n.waits;
@@ -129,14 +131,14 @@ active_left d m e t x y found n queued on is =
 -- ---- structures change
 
 pub holds_still : (d : DriverContent) (hand later : Hand) (parts now : StructureSets) (held : ℕ → List ℕ)
-    → ((e t : ℕ) (x : Endpoint) (y : Transfer) (a k : ℕ) (z : List ℕ) → IsNextOf d e t x y → IsOneFrom (note_at d.notes) y.first (y.qtds - y.left) a → IsDone hand parts (32 * x.queue) a k z → IsDone later now (32 * x.queue) a k z)
+    → ((e t : ℕ) (x : Endpoint) (y : Transfer) (a k : ℕ) (z : List ℕ) → IsNextOf d e t x y → has_stream x.desc.kind ≡ true → IsOneFrom (note_at d.notes) y.first (y.qtds - y.left) a → IsDone hand parts (32 * x.queue) a k z → IsDone later now (32 * x.queue) a k z)
     → HoldsEach d hand parts held → HoldsEach d later now held
 holds_still d hand later parts now held still k = record {
-  next = λ e t x y is.
-      let w : IsUnderWay hand parts (32 * x.queue) (note_at d.notes) y (held e) = k.next e t x y is in
+  next = λ e t x y is on.
+      let w : IsUnderWay hand parts (32 * x.queue) (note_at d.notes) y (held e) = k.next e t x y is on in
       record {
         done = held_still hand later parts now (32 * x.queue) (note_at d.notes) y.first (y.qtds - y.left) y.place (held e)
-            (λ a z one. still e t x y a (note_at d.notes a).moved z is one) w.done;
+            (λ a z one. still e t x y a (note_at d.notes a).moved z is on one) w.done;
         rest = w.rest;
       };
   none = k.none;

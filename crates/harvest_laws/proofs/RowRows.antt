@@ -16,6 +16,7 @@ use Rattle.lent_structures.specs.Structures.{StructureSets}
 use Rattle.lent_structures.proofs.Names.{not_same}
 use Rattle.ring_laws.specs.Hand.{Hand}
 use Rattle.report_streams.specs.Reports.{is_refusal, is_end}
+use Rattle.report_streams.specs.Streams.{has_stream}
 use Rattle.driver_rows.specs.declared.content.Endpoint.{Endpoint}
 use Rattle.driver_rows.specs.declared.content.Transfer.{Transfer}
 use Rattle.driver_rows.specs.declared.content.QtdNote.{QtdNote}
@@ -26,7 +27,7 @@ use Rattle.endpoint_lives.specs.Lives.{told_end}
 use Rattle.endpoint_lives.proofs.Lives.{told_other}
 use Rattle.driver_rows.specs.Harvests.{note_at, noted, token_in, moved_of, moved_bytes, is_get, found_in, halt_of, done_of, ends_by, end_of, is_stall}
 use Rattle.driver_rows.specs.Rows.{ended_by_cancel, found_of, served, moved_on, told_with, goes_on as goes_on_with, after_end, harvested_as, after_harvest}
-use Rattle.run_owners.specs.Owners.{note_in, runs_of_note}
+use Rattle.run_owners.specs.Owners.{note_in}
 use Rattle.run_owners.proofs.Released.{set_here, set_there}
 use Rattle.chained_transfers.specs.Turns.{IsAtPlace}
 use Rattle.chained_transfers.proofs.Ways.{found_by}
@@ -39,7 +40,7 @@ use Rattle.told_harvests.proofs.Reading.{report_read}
 use Rattle.harvest_laws.specs.Holds.{HoldsEach}
 use Rattle.harvest_laws.specs.Harvest.{Harvests}
 use Rattle.harvest_laws.specs.Row.{IsFoundDone, goes_on, ends, HadQueue, HarvestTells}
-use Rattle.harvest_laws.proofs.Places.{told_noted, read_noted, read_fewer, read_at}
+use Rattle.harvest_laws.proofs.Places.{runs_noted, told_noted, read_noted, read_fewer, read_at}
 use Rattle.harvest_laws.proofs.Holding.{holds_same, moved_holds, ended_holds, done_more, rest_less}
 
 -- ---- the next one that waits
@@ -86,7 +87,7 @@ cleared_at e held = record {
   beside = λ f differs. ap (λ (b : Bool). if b then [] else held f) (not_same f e differs);
 }
 
-names_at : (xs : List Endpoint) (e : ℕ) (x w : Endpoint) → slice_get xs e ≡ Some x → NamesAt e (named_of w) (named_in xs) (named_in (slice_set xs e w))
+pub names_at : (xs : List Endpoint) (e : ℕ) (x w : Endpoint) → slice_get xs e ≡ Some x → NamesAt e (named_of w) (named_in xs) (named_in (slice_set xs e w))
 names_at xs e x w here = record {
   here = ap (option_map named_of) (set_here xs e x w here);
   beside = λ f differs. ap (option_map named_of) (set_there xs e f w differs);
@@ -117,9 +118,7 @@ module _ (member : ℕ → Bool) (d : DriverContent) (m : Mem) (parts : Structur
   it_noted = is_noted d.notes y.place (token_in m y.place).total
 
   notes_same : (c : ℕ) → note_in notes_now c ≡ note_in d.notes c
-  notes_same c =
-      ⊎_elim (λ (is : c ≡ y.place). ap (λ (i : ℕ). runs_of_note (note_at notes_now i)) is ∙ ap runs_of_note it_noted.here ∙ ap (λ (i : ℕ). runs_of_note (note_at d.notes i)) (sym is))
-      (λ (differs : c ≢ y.place). ap runs_of_note (it_noted.beside c differs)) (cases_eq c y.place)
+  notes_same c = runs_noted d.notes notes_now y.place count it_noted c
 
   -- ---- it doesn't end its transfer
 
@@ -178,7 +177,7 @@ module _ (member : ℕ → Bool) (d : DriverContent) (m : Mem) (parts : Structur
         (subst (λ (bs : List ℕ). TellsEach (d.reports ++ (record { name = x.desc.name; what = what; from = length d.store; len = length report_now }) ∷ []) bs (named_in (slice_set d.endpoints e w)) (λ g. if g == e then [] else held g) now) (sym r.store)
         (line_added d.reports d.store report_now bytes (named_in d.endpoints) (named_in (slice_set d.endpoints e w)) held (λ g. if g == e then [] else held g) told now e (named_of x) (named_of w)
         (record { name = x.desc.name; what = what; from = length d.store; len = length report_now }) (ap (option_map named_of) h.next.endpoint) (names_at d.endpoints e x w h.next.endpoint)
-        (record { going = h.next.going; named = ap (λ z. z.name) same; line_named = refl; tells = tells_it; goes_on = goes; from = refl; long = refl; bytes_are = report_is }) (cleared_at e held) grows tells)));
+        (record { going = h.next.going; named = ap (λ z. z.name) same; alike = ap (λ z. has_stream z.kind) same; line_named = refl; tells = tells_it; goes_on = goes; from = refl; long = refl; bytes_are = report_is }) (cleared_at e held) grows tells)));
     transfer = record y { reported = true };
     reads = ends;
     transfers = r.transfers;

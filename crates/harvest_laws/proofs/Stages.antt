@@ -1,5 +1,5 @@
--- Nothing is noted as moved of new qTDs, and no more is told of them than a get or a put asks for.
-use Rattle.std.proofs.Common.{◌≡◌, ◌≢◌, ℕ, zero, suc, ◌+◌, ◌-◌, ◌*◌, ◌≤◌, ◌<◌, min, max, List, [], ◌∷◌, length, drop, map, get_or, set, ap, refl, sym, subst, ◌∙◌, arith}
+-- Nothing is noted as moved of new qTDs, and no more is told of them than a get, a put or a request asks for.
+use Rattle.std.proofs.Common.{◌≡◌, ◌≢◌, ℕ, zero, suc, ◌+◌, ◌-◌, ◌*◌, ◌≤◌, ◌<◌, min, max, nat_eq, not, Bool, true, false, if◌then◌else◌, List, [], ◌∷◌, length, drop, map, get_or, set, ap, refl, sym, subst, ◌∙◌, arith}
 use Rattle.std.specs.List.{range_with_len}
 use Rattle.std.proofs.Math.Nat.{suc-mul}
 use Rattle.std.proofs.lemmas.List.{get_or-set_same, length-set}
@@ -7,7 +7,7 @@ use Rattle.usb_base.specs.declared.packets.Way.{Way}
 use Rattle.driver_rows.specs.declared.content.QtdNote.{QtdNote}
 use Rattle.driver_rows.specs.declared.content.Stage.{Stage}
 use Rattle.driver_rows.specs.DriverContent.{no_note}
-use Rattle.driver_rows.specs.Words.{pieces, cut}
+use Rattle.driver_rows.specs.Words.{pieces, cut, request_length, request_stages, setup_stage, data_stage, status_stage, asks_in}
 use Rattle.driver_rows.specs.Harvests.{note_at}
 use Rattle.driver_rows.specs.Offers.{runs_of, note_for, note_stages}
 use Rattle.run_owners.proofs.Chains.{notes_apart}
@@ -78,3 +78,13 @@ cut_less way len by a (suc n) =
 
 pub cut_told : (way : Way) (len by : ℕ) → told_in_all (map (stage_by way) (cut len by)) ≤ len
 cut_told way len by = let z = cut_less way len by 0 (max 1 (pieces len by)) in omega (arith, z)
+
+-- ---- a request, whose SETUP and status tell no bytes
+
+pub request_told : (setup : List ℕ) → told_in_all (request_stages setup) ≤ request_length setup
+request_told setup = by_data (nat_eq (request_length setup) 0)
+  where
+    by_data : (b : Bool)
+        → told_in_all (if b then setup_stage ∷ status_stage true ∷ [] else setup_stage ∷ data_stage (asks_in setup) (request_length setup) ∷ status_stage (not (asks_in setup)) ∷ []) ≤ request_length setup
+    by_data true = omega arith
+    by_data false = omega arith

@@ -11,6 +11,7 @@ use Rattle.hc_core.specs.Controller.{Content, walk_place}
 use Rattle.controlled_streams.specs.Control.{IsControlled, ControlEffect, a_microframe, a_step}
 use Rattle.ring_laws.specs.Sparing.{SameHand}
 use Rattle.report_streams.specs.Reports.{is_refusal}
+use Rattle.report_streams.specs.Streams.{has_stream}
 use Rattle.driver_rows.specs.declared.content.Endpoint.{Endpoint}
 use Rattle.driver_rows.specs.declared.content.Transfer.{Transfer}
 use Rattle.driver_rows.specs.declared.content.Command.{Command}
@@ -51,7 +52,7 @@ new_told n room hand parts reported = record {
 -- ---- structures
 
 pub still_told : (d : DriverContent) (hand later : Hand) (parts now : StructureSets) (reported : ℕ → List ℕ)
-    → ((e t : ℕ) (x : Endpoint) (y : Transfer) (a k : ℕ) (z : List ℕ) → IsNextOf d e t x y → IsOneFrom (note_at d.notes) y.first (y.qtds - y.left) a → IsDone hand parts (32 * x.queue) a k z → IsDone later now (32 * x.queue) a k z)
+    → ((e t : ℕ) (x : Endpoint) (y : Transfer) (a k : ℕ) (z : List ℕ) → IsNextOf d e t x y → has_stream x.desc.kind ≡ true → IsOneFrom (note_at d.notes) y.first (y.qtds - y.left) a → IsDone hand parts (32 * x.queue) a k z → IsDone later now (32 * x.queue) a k z)
     → ToldStands d hand parts reported → ToldStands d later now reported
 still_told d hand later parts now reported still k = record {
   held = k.held;
@@ -65,7 +66,7 @@ still_told d hand later parts now reported still k = record {
 pub spared_told : (d : DriverContent) (hand later : Hand) (parts now : StructureSets) (reported : ℕ → List ℕ) → SameHand hand later → SparesDone d parts now → ToldStands d hand parts reported → ToldStands d later now reported
 spared_told d hand later parts now reported same spares k =
     still_told d hand later parts now reported
-    (λ e t x y a i z is one done. done_spared hand later parts now (32 * x.queue) a i z same (spares.heads e x is.endpoint) (spares.done e t x y a is one) done) k
+    (λ e t x y a i z is on one done. done_spared hand later parts now (32 * x.queue) a i z same (spares.heads e x is.endpoint on) (spares.done e t x y a is on one) done) k
 
 module _ {W : Type 0} (begins : W → ℕ → Bool → W → Type 0) (transacts : W → Ask → List ℕ → Reply → W → Type 0) (base : Base) (member : ℕ → Bool) (parts : StructureSets) (hand : Hand) (c : Content) (wire after : W) (now : StructureSets) (later : Hand) (d : DriverContent) (reported : ℕ → List ℕ) where
   pub beside_told : IsControlled base member parts hand c → ControlEffect begins transacts parts hand wire after now later → KeepsEach parts now → ToldStands d hand parts reported → ToldStands d later now reported
@@ -74,7 +75,7 @@ module _ {W : Type 0} (begins : W → ℕ → Bool → W → Type 0) (transacts 
   beside_told controlled (a_step s) keeps k =
       let ring : IsRing base member parts hand (walk_place c) = controlled.ring in
       still_told d hand later parts now reported
-      (λ e t x y a i z is one done.
+      (λ e t x y a i z is on one done.
       done_kept transacts member parts hand (walk_place c).walk.reply wire after now later (32 * x.queue) a i z ring.members ring.in_hand (λ b t there off. (keeps (32 * x.queue)).idle b t there off) s.streams done) k
 
 -- ---- content

@@ -1,6 +1,7 @@
--- A harvest of the next transfer of an endpoint (EHCI 1.0, 4.10).
+-- A harvest of the next transfer of an endpoint that has a stream (EHCI 1.0, 4.10).
 --     Harvests d e t x y      transfer t is the next of endpoint e, its place is one of its qTDs, and the qTD there is no other's
-use Rattle.std.specs.Prelude.{◌≡◌, ◌≢◌, ℕ, ◌-◌, ◌≤◌, false, slice_get, Some, None}
+use Rattle.std.specs.Prelude.{◌≡◌, ◌≢◌, ℕ, ◌-◌, ◌≤◌, true, false, slice_get, Some, None}
+use Rattle.report_streams.specs.Streams.{has_stream}
 use Rattle.driver_rows.specs.declared.content.Endpoint.{Endpoint}
 use Rattle.driver_rows.specs.declared.content.Transfer.{Transfer}
 use Rattle.driver_rows.specs.DriverContent.{DriverContent}
@@ -13,6 +14,7 @@ use Rattle.harvest_laws.specs.Holds.{IsNextOf}
 
 pub record Harvests (d : DriverContent) (e t : ℕ) (x : Endpoint) (y : Transfer) : Type 0 where
   pub next : IsNextOf d e t x y
+  pub stream : has_stream x.desc.kind ≡ true
   pub some : 1 ≤ y.left
   pub most : y.left ≤ y.qtds
   pub waits : (f u : ℕ) (w : Endpoint) (z : Transfer) → IsNextOf d f u w z → (z.endpoint ≡ f) × (z.reported ≡ false)

@@ -10,16 +10,18 @@ use Rattle.driver_rows.specs.declared.content.Transfer.{Transfer}
 use Rattle.driver_rows.specs.DriverContent.{DriverContent}
 use Rattle.driver_rows.specs.Offers.{Offered}
 use Rattle.run_owners.specs.Kept.{HasOwners}
+use Rattle.run_owners.specs.Accepts.{Opens}
 use Rattle.run_owners.specs.Owners.{note_in}
 use Rattle.chained_transfers.specs.Turns.{AreAtPlaces}
-use Rattle.chained_transfers.specs.Accepted.{IsOpened, IsAsked}
+use Rattle.chained_transfers.specs.Accepted.{IsAsked}
+use Rattle.chained_transfers.specs.Asynchronous.{IsRequested}
 use Rattle.told_endpoints.specs.Steps.{Clears}
 use Rattle.harvest_laws.specs.Holds.{HoldsEach}
 use Rattle.endpoint_lives.specs.Lives.{told_end}
 
 -- nothing is held back of an endpoint that is opened
 abbrev pub OpenHolds : Type 0
-OpenHolds = (d : DriverContent) (m : Mem) (o : Offered) (hand : Hand) (parts : StructureSets) (held later : ℕ → List ℕ) → IsOpened d m o → Clears (length d.endpoints) held later
+OpenHolds = (d : DriverContent) (m : Mem) (o : Offered) (hand : Hand) (parts : StructureSets) (held later : ℕ → List ℕ) → Opens d m o → Clears (length d.endpoints) held later
     → HoldsEach d hand parts held
     → HoldsEach o.driver hand parts later
 
@@ -31,6 +33,12 @@ AreThere d = (e t : ℕ) (x : Endpoint) → slice_get d.endpoints e ≡ Some x �
 -- a get or a put is accepted
 abbrev pub AskedHolds : Type 0
 AskedHolds = (d : DriverContent) (m : Mem) (o : Offered) (hand : Hand) (parts : StructureSets) (held : ℕ → List ℕ) → IsAsked d m o → Stands (holding d.book m) → HasOwners d → AreThere d
+    → AreAtPlaces (note_in d.notes) d.transfers
+    → HoldsEach d hand parts held → HoldsEach o.driver hand parts held
+
+-- a request of a control endpoint
+abbrev pub RequestedHolds : Type 0
+RequestedHolds = (d : DriverContent) (m : Mem) (o : Offered) (hand : Hand) (parts : StructureSets) (held : ℕ → List ℕ) → IsRequested d m o → Stands (holding d.book m) → HasOwners d → AreThere d
     → AreAtPlaces (note_in d.notes) d.transfers
     → HoldsEach d hand parts held → HoldsEach o.driver hand parts held
 

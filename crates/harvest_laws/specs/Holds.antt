@@ -2,11 +2,13 @@
 -- noted yet.
 --     IsUnderWay hand parts n note y held     the transfer y of the queue head at n is harvested up to its place, and these bytes are held back
 --     IsToCome note y                         nothing of the transfer y is harvested
---     HoldsEach d hand parts held             so it is of each endpoint that goes on
+--     HoldsEach d hand parts held             so it is of each endpoint that has a stream and goes on; of a control endpoint that nothing of the requests that are to
+--                                             come is harvested
 --     AreReadable d parts                     the qTDs and buffers of each transfer that wasn't given back are those that were noted
-use Rattle.std.specs.Prelude.{◌≡◌, ℕ, ◌-◌, ◌*◌, ◌≤◌, false, List, [], slice_get, Some, None}
+use Rattle.std.specs.Prelude.{◌≡◌, ℕ, ◌-◌, ◌*◌, ◌≤◌, true, false, List, [], slice_get, Some, None}
 use Rattle.lent_structures.specs.Structures.{StructureSets}
 use Rattle.ring_laws.specs.Hand.{Hand}
+use Rattle.report_streams.specs.Streams.{has_stream}
 use Rattle.driver_rows.specs.declared.content.Endpoint.{Endpoint}
 use Rattle.driver_rows.specs.declared.content.Transfer.{Transfer}
 use Rattle.driver_rows.specs.declared.content.QtdNote.{QtdNote}
@@ -32,8 +34,8 @@ pub record IsNextOf (d : DriverContent) (e t : ℕ) (x : Endpoint) (y : Transfer
   pub transfer : slice_get d.transfers t ≡ Some y
 
 pub record HoldsEach (d : DriverContent) (hand : Hand) (parts : StructureSets) (held : ℕ → List ℕ) : Type 0 where
-  pub next : (e t : ℕ) (x : Endpoint) (y : Transfer) → IsNextOf d e t x y → IsUnderWay hand parts (32 * x.queue) (note_at d.notes) y (held e)
-  pub none : (e : ℕ) (x : Endpoint) → slice_get d.endpoints e ≡ Some x → x.next ≡ None → held e ≡ []
+  pub next : (e t : ℕ) (x : Endpoint) (y : Transfer) → IsNextOf d e t x y → has_stream x.desc.kind ≡ true → IsUnderWay hand parts (32 * x.queue) (note_at d.notes) y (held e)
+  pub none : (e : ℕ) (x : Endpoint) → slice_get d.endpoints e ≡ Some x → x.next ≡ None → has_stream x.desc.kind ≡ true → held e ≡ []
   pub to_come : (t : ℕ) (y : Transfer) → slice_get d.transfers t ≡ Some y → y.reported ≡ false → y.released ≡ false
       → ((x : Endpoint) → slice_get d.endpoints y.endpoint ≡ Some x → x.next ≡ Some t → ⊥) → IsToCome (note_at d.notes) y
   pub within : (t : ℕ) (y : Transfer) → slice_get d.transfers t ≡ Some y → y.released ≡ false → told_of (note_at d.notes) y.first y.qtds ≤ y.most

@@ -10,6 +10,7 @@ use Rattle.lent_structures.specs.Sound.{IsMember}
 use Rattle.ring_laws.specs.Hand.{Hand}
 use Rattle.ring_laws.specs.Told.{Told}
 use Rattle.ring_laws.specs.Order.{Accounts}
+use Rattle.report_streams.specs.Streams.{has_stream}
 use Rattle.driver_rows.specs.declared.content.Endpoint.{Endpoint}
 use Rattle.driver_rows.specs.declared.content.Transfer.{Transfer}
 use Rattle.driver_rows.specs.declared.rows.Found.{Found}
@@ -77,6 +78,6 @@ HoldsTheSame = (d new : DriverContent) (hand : Hand) (parts : StructureSets) (he
 -- structures change, and of the next transfers what was harvested stays done
 abbrev pub HoldsStill : Type 0
 HoldsStill = (d : DriverContent) (hand later : Hand) (parts now : StructureSets) (held : ℕ → List ℕ)
-    → ((e t : ℕ) (x : Endpoint) (y : Transfer) (a k : ℕ) (z : List ℕ) → IsNextOf d e t x y → IsOneFrom (note_at d.notes) y.first (y.qtds - y.left) a
+    → ((e t : ℕ) (x : Endpoint) (y : Transfer) (a k : ℕ) (z : List ℕ) → IsNextOf d e t x y → has_stream x.desc.kind ≡ true → IsOneFrom (note_at d.notes) y.first (y.qtds - y.left) a
     → IsDone hand parts (32 * x.queue) a k z → IsDone later now (32 * x.queue) a k z)
     → HoldsEach d hand parts held → HoldsEach d later now held

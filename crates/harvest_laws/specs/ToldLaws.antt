@@ -7,6 +7,7 @@ use Rattle.lent_structures.specs.Structures.{StructureSets}
 use Rattle.ring_laws.specs.Hand.{Hand}
 use Rattle.ring_laws.specs.Sparing.{SameHand, SparesHead, SparesElement}
 use Rattle.report_streams.specs.Reports.{is_refusal}
+use Rattle.report_streams.specs.Streams.{has_stream}
 use Rattle.driver_rows.specs.declared.content.Endpoint.{Endpoint}
 use Rattle.driver_rows.specs.declared.content.Transfer.{Transfer}
 use Rattle.driver_rows.specs.declared.content.Command.TheVariants as unfinished
@@ -18,8 +19,10 @@ use Rattle.driver_rows.specs.Offers.{Offered}
 use Rattle.driver_rows.specs.Rows.{found_of, after_harvest}
 use Rattle.run_owners.specs.Owners.{note_in}
 use Rattle.run_owners.specs.Kept.{HasOwners}
+use Rattle.run_owners.specs.Accepts.{Opens}
 use Rattle.chained_transfers.specs.Turns.{AreAtPlaces}
-use Rattle.chained_transfers.specs.Accepted.{IsOpened, IsAsked}
+use Rattle.chained_transfers.specs.Accepted.{IsAsked}
+use Rattle.chained_transfers.specs.Asynchronous.{IsRequested}
 use Rattle.chained_transfers.specs.Out.{out_now}
 use Rattle.harvest_laws.specs.HeldLaws.{AreThere}
 use Rattle.driver_rows.specs.Harvests.{note_at}
@@ -35,10 +38,10 @@ NewIsTold = (n : ℕ) (room : Reserve) (hand : Hand) (parts : StructureSets) (re
 
 -- ---- structures
 
--- a step that leaves the overlays of queue heads, each qTD that is held back, and its buffer
+-- a step that leaves, of each endpoint that has a stream, the overlay of its queue head, each qTD that is held back, and its buffer
 pub record SparesDone (d : DriverContent) (parts now : StructureSets) : Type 0 where
-  pub heads : (e : ℕ) (x : Endpoint) → slice_get d.endpoints e ≡ Some x → SparesHead parts now (32 * x.queue)
-  pub done : (e t : ℕ) (x : Endpoint) (y : Transfer) (a : ℕ) → IsNextOf d e t x y → IsOneFrom (note_at d.notes) y.first (y.qtds - y.left) a → SparesElement parts now (32 * x.queue) (32 * a)
+  pub heads : (e : ℕ) (x : Endpoint) → slice_get d.endpoints e ≡ Some x → has_stream x.desc.kind ≡ true → SparesHead parts now (32 * x.queue)
+  pub done : (e t : ℕ) (x : Endpoint) (y : Transfer) (a : ℕ) → IsNextOf d e t x y → has_stream x.desc.kind ≡ true → IsOneFrom (note_at d.notes) y.first (y.qtds - y.left) a → SparesElement parts now (32 * x.queue) (32 * a)
 
 abbrev pub SparedIsTold : Type 0
 SparedIsTold = (d : DriverContent) (hand later : Hand) (parts now : StructureSets) (reported : ℕ → List ℕ) → SameHand hand later → SparesDone d parts now → ToldStands d hand parts reported
@@ -71,11 +74,17 @@ RefusedIsTold = (d new : DriverContent) (hand : Hand) (parts : StructureSets) (r
 
 -- it is accepted
 abbrev pub OpenedIsTold : Type 0
-OpenedIsTold = (d : DriverContent) (m : Mem) (o : Offered) (hand : Hand) (parts : StructureSets) (reported : ℕ → List ℕ) → IsOpened d m o
+OpenedIsTold = (d : DriverContent) (m : Mem) (o : Offered) (hand : Hand) (parts : StructureSets) (reported : ℕ → List ℕ) → Opens d m o
     → ((e : ℕ) (x : Endpoint) → slice_get d.endpoints e ≡ Some x → x.gone ≡ false → o.driver.command ≢ Some (unfinished.Open x.queue)) → ToldStands d hand parts reported → ToldStands o.driver hand parts reported
 
 abbrev pub AskedIsTold : Type 0
 AskedIsTold = (d : DriverContent) (m : Mem) (o : Offered) (hand : Hand) (parts : StructureSets) (reported : ℕ → List ℕ) → IsAsked d m o → Stands (holding d.book m) → HasOwners d
+    → AreThere d → AreAtPlaces (note_in d.notes) d.transfers
+    → ToldStands d hand parts reported → ToldStands o.driver hand parts reported
+
+-- a request of a control endpoint
+abbrev pub RequestedIsTold : Type 0
+RequestedIsTold = (d : DriverContent) (m : Mem) (o : Offered) (hand : Hand) (parts : StructureSets) (reported : ℕ → List ℕ) → IsRequested d m o → Stands (holding d.book m) → HasOwners d
     → AreThere d → AreAtPlaces (note_in d.notes) d.transfers
     → ToldStands d hand parts reported → ToldStands o.driver hand parts reported
 

@@ -1,9 +1,10 @@
-ghost use Rattle.harvest_laws.specs.HeldLaws.{OpenHolds, AskedHolds, ReturnHolds};
+ghost use Rattle.harvest_laws.specs.HeldLaws.{OpenHolds, AskedHolds, RequestedHolds, ReturnHolds};
 
-/// An accepted open, and an accepted get or put.
+/// An accepted open, an accepted get or put, and an accepted request of a control endpoint.
 pub fn accepted_commands_keep_what_is_held()
     ensures open { OpenHolds }
     ensures asked { AskedHolds }
+    ensures requested { RequestedHolds }
 {}
 
 /// A reported transfer is given back.

@@ -7,7 +7,7 @@ ghost use Rattle.controlled_streams.specs.Control.{IsControlled, ControlEffect};
 ghost use Rattle.driver_rows.specs.DriverContent.{DriverContent};
 ghost use Rattle.controlled_streams.specs.Kept.{KeepsEach};
 ghost use Rattle.harvest_laws.specs.Told.{ToldStands};
-ghost use Rattle.harvest_laws.specs.ToldLaws.{NewIsTold, SparedIsTold, AlikeIsTold, MetIsTold, RefusedIsTold, OpenedIsTold, AskedIsTold, ReturnedIsTold, HarvestedIsTold};
+ghost use Rattle.harvest_laws.specs.ToldLaws.{NewIsTold, SparedIsTold, AlikeIsTold, MetIsTold, RefusedIsTold, OpenedIsTold, AskedIsTold, RequestedIsTold, ReturnedIsTold, HarvestedIsTold};
 
 use usb_base::Wire;
 
@@ -40,6 +40,7 @@ pub fn commands_leave_what_is_told()
     ensures refused { RefusedIsTold }
     ensures opened { OpenedIsTold }
     ensures asked { AskedIsTold }
+    ensures requested { RequestedIsTold }
 {}
 
 /// A harvest adds the bytes that were moved of the qTD that was read.

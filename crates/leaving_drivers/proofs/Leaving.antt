@@ -16,10 +16,10 @@ use Rattle.endpoint_lives.specs.Lives.{is_one_of, told_end, may_meet}
 use Rattle.endpoint_lives.proofs.Lives.{one_of_joined, one_of_end, one_of_others, none_told, told_uncancelled, told_other, told_alike, linked_met, waiting_met}
 use Rattle.run_owners.specs.Accepts.{Cancels}
 use Rattle.run_owners.proofs.Released.{set_here, set_there}
-use Rattle.chained_transfers.specs.Bulk.{IsStanding}
-use Rattle.chained_transfers.specs.InTurn.{TakesTurns}
+use Rattle.chained_transfers.specs.Asynchronous.{StandsAsynchronous}
+use Rattle.chained_transfers.specs.AsynchronousTurns.{AsynchronousTakesTurns}
 use Rattle.chained_transfers.proofs.Rows.{left}
-use Rattle.chained_transfers.proofs.Staying.{fresh_linked, linked_alive}
+use Rattle.chained_transfers.proofs.Staying.{fresh_stands_linked, linked_stands_alive}
 use Rattle.leaving_drivers.specs.Before.{WasSame, UnlinksAtMost, IsAsBefore, NearSame, NearFewer}
 
 -- ---- one endpoint
@@ -93,7 +93,7 @@ unlinks_by d o is may = subst UnlinksAtMost (sym is) may
 -- ---- a cancel is accepted
 
 -- one that had not ended goes on as far as its report has it, and one that had, has ended as it had
-cancelled_end : (x : Endpoint) → IsStanding x → x.cancelled ≡ false → x.gone ≡ false → told_end (record x { cancelled = true; ended = first_end x.ended }) ≡ told_end x
+cancelled_end : (x : Endpoint) → StandsAsynchronous x → x.cancelled ≡ false → x.gone ≡ false → told_end (record x { cancelled = true; ended = first_end x.ended }) ≡ told_end x
 cancelled_end x s fresh kept = by x.ended refl
   where
     z : Endpoint
@@ -116,7 +116,7 @@ cancelled_end x s fresh kept = by x.ended refl
             off true on = absurd (never on)
             off false none = none
 
-pub cancel_as_before : (d : DriverContent) (m : Mem) (o : Offered) → TakesTurns d → Cancels d m o → IsAsBefore d o.driver × NearSame d o.driver
+pub cancel_as_before : (d : DriverContent) (m : Mem) (o : Offered) → AsynchronousTakesTurns d → Cancels d m o → IsAsBefore d o.driver × NearSame d o.driver
 cancel_as_before d m o turns why = subst (λ (g : Offered). IsAsBefore d g.driver × NearSame d g.driver) (sym why.is) (before, near)
   where
     e : ℕ
@@ -128,8 +128,8 @@ cancel_as_before d m o turns why = subst (λ (g : Offered). IsAsBefore d g.drive
     z : Endpoint
     z = record why.endpoint { cancelled = true; ended = first_end why.endpoint.ended }
 
-    s : IsStanding why.endpoint
-    s = turns.bulk.endpoints why.number why.endpoint why.here
+    s : StandsAsynchronous why.endpoint
+    s = turns.asynchronous.endpoints why.number why.endpoint why.here
 
     like : IsLike x z
     like = record {
@@ -138,7 +138,7 @@ cancel_as_before d m o turns why = subst (λ (g : Offered). IsAsBefore d g.drive
       desc = refl;
       next = refl;
       gone = refl;
-      ends = cancelled_end x s why.fresh (linked_alive x s (fresh_linked x s why.fresh));
+      ends = cancelled_end x s why.fresh (linked_stands_alive x s (fresh_stands_linked x s why.fresh));
     }
 
     before : IsAsBefore d (accepted_cancel d e x)

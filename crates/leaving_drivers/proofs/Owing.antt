@@ -1,5 +1,5 @@
 -- What is to be given back belongs to endpoints that a walk may meet, after each event and each accepted command.
-use Rattle.std.proofs.Common.{◌≡◌, ℕ, zero, suc, ◌<◌, Bool, true, false, cond, List, [], ◌∷◌, ◌++◌, length, take, drop, slice_get, Option, Some, None, Ok, option_map, ap, sym, subst, ◌∙◌, ⊎_elim, inl, inr, refl, arith}
+use Rattle.std.proofs.Common.{◌≡◌, ℕ, zero, suc, ◌<◌, Bool, true, false, cond, List, [], ◌∷◌, ◌++◌, length, take, drop, slice_get, Option, Some, None, Ok, ap, sym, subst, ◌∙◌, ⊎_elim, inl, inr, refl, arith}
 use Rattle.std.specs.Prelude.{◌⊎◌}
 use Rattle.std.proofs.lemmas.Bool.{or_left}
 use Rattle.std.proofs.lemmas.Option.{same_Some}
@@ -27,22 +27,20 @@ use Rattle.run_owners.specs.Leaving.{IsOrderly}
 use Rattle.run_owners.specs.Kept.{HasOwners}
 use Rattle.run_owners.proofs.Orders.{owed}
 use Rattle.run_owners.proofs.Reasons.{each_is_due}
-use Rattle.chained_transfers.specs.Accepted.{IsOpened, IsAsked, IsAccepted}
-use Rattle.chained_transfers.specs.Bulk.{OpensOrCancelsBulk, OnlyBulk}
-use Rattle.chained_transfers.specs.InTurn.{TakesTurns}
-use Rattle.chained_transfers.specs.Leaving.{IsAcceptedAs}
-use Rattle.chained_transfers.specs.Turns.{Turn, turn_of, IsInList}
-use Rattle.chained_transfers.proofs.Commands.{is_accepted}
-use Rattle.chained_transfers.proofs.Harvesting.{waits_is, turn_at}
+use Rattle.run_owners.specs.Accepts.{Opens, Transfers}
+use Rattle.chained_transfers.specs.Asynchronous.{OpensAsynchronous, OnlyAsynchronous, AcceptsAsynchronous}
+use Rattle.chained_transfers.specs.AsynchronousTurns.{AsynchronousTakesTurns}
+use Rattle.chained_transfers.specs.Turns.{IsInList}
+use Rattle.chained_transfers.proofs.Accepting.{command_accepts}
 use Rattle.chained_transfers.proofs.Rows.{left, advanced_or_left, set_which}
-use Rattle.chained_transfers.proofs.Staying.{going_linked}
+use Rattle.chained_transfers.proofs.Staying.{stands_linked}
 use Rattle.leaving_drivers.specs.Before.{IsAsBefore, NearSame}
 use Rattle.leaving_drivers.specs.Owed.{AreOwedMet, IsClearing}
 use Rattle.leaving_drivers.proofs.Clearing.{clear_finds}
 use Rattle.leaving_drivers.proofs.Leaving.{cancel_as_before, bell_as_before, status_as_before, frame_as_before}
-use Rattle.leaving_drivers.proofs.Reading.{read_row}
+use Rattle.leaving_drivers.proofs.Reading.{IsTransferOf, read_row}
 use Rattle.leaving_drivers.proofs.Unmet.{times_of}
-use Rattle.leaving_drivers.proofs.Never.{IsBulkRow, bulk_row}
+use Rattle.leaving_drivers.proofs.Never.{IsAsynchronousRow, asynchronous_row}
 
 -- ---- from what they were
 
@@ -117,7 +115,7 @@ left_owed d e x here = owed_on d (left d e x) (record {
       (set_which d.endpoints e y.endpoint x (record x { linked = false }) z here at);
 })
 
-pub advanced_owed : (d : DriverContent) → OnlyBulk d → AreOwedMet d → AreOwedMet (advance d)
+pub advanced_owed : (d : DriverContent) → OnlyAsynchronous d → AreOwedMet d → AreOwedMet (advance d)
 advanced_owed d r old = advanced_or_left AreOwedMet d d.command r.command old old old (λ e x leaves here. left_owed d e x here old)
 
 -- ---- a transfer is given back
@@ -161,67 +159,58 @@ none_first (h ∷ hs) is = absurd (cc)
 
 -- ---- a harvest
 
-push_listed : (hs : List ℕ) (t i u : ℕ) → slice_get (hs ++ t ∷ []) i ≡ Some u → IsInList hs u ⊎ (u ≡ t)
-push_listed [] t zero u here = inr (sym (same_Some t u here))
-push_listed [] t (suc i) u here = absurd (cc)
-push_listed (h ∷ hs) t zero u here = inl (record { at = 0; here = here })
-push_listed (h ∷ hs) t (suc i) u here =
-    ⊎_elim (λ (l : IsInList hs u). inl (record { at = suc l.at; here = l.here })) (λ (new : u ≡ t). inr new) (push_listed hs t i u here)
-
-harvest_owed : (p : Parts) (e t : ℕ) (found : Found) → IsHarvestDue p e t found → OnlyBulk p.driver → AreOwedMet p.driver → AreOwedMet (after_driver_row (rows.Harvest e t found) p).driver
-harvest_owed p e t found due bulk old i u z w at there here =
+harvest_owed : (p : Parts) (e t : ℕ) (found : Found) → IsHarvestDue p e t found → OnlyAsynchronous p.driver → AreOwedMet p.driver → AreOwedMet (after_driver_row (rows.Harvest e t found) p).driver
+harvest_owed p e t found due only old i u z w at there here =
     let d = p.driver in
     let f = (after_driver_row (rows.Harvest e t found) p).driver in
-    let r = read_row p e t found due bulk in
-    let was = r.harvested.turns u (turn_of z) (ap (option_map turn_of) there) in
-    let y = turn_at d.transfers u was.turn was.there in
-    let of_y : z.endpoint ≡ y.0.endpoint = was.endpoint ∙ ap (λ (k : Turn). k.endpoint) y.2 in
-    let one = r.harvested.keeps.ends z.endpoint w here in
-    let near : may_meet f z.endpoint w ≡ may_meet d z.endpoint one.one = met_alike d f z.endpoint one.one w one.kept.linked r.harvested.waiting r.harvested.rung in
+    let r = read_row p e t found due only in
+    let was = r.keeps.transfers u z there in
+    let one = r.keeps.ends z.endpoint w here in
+    let near : may_meet f z.endpoint w ≡ may_meet d z.endpoint one.one = met_alike d f z.endpoint one.one w one.kept.linked r.keeps.waiting r.keeps.rung in
     near
     ∙ ⊎_elim
     (λ (l : IsInList d.harvested u).
-    ap (λ (k : ℕ). may_meet d k one.one) of_y ∙ old l.at u y.0 one.one l.here y.1 (ap (slice_get d.endpoints) (sym of_y) ∙ one.here))
-    (λ (new : u ≡ t).
-    let is : y.0 ≡ due.transfer = same_Some y.0 due.transfer (sym y.1 ∙ ap (slice_get d.transfers) new ∙ due.there) in
-    let of_e : z.endpoint ≡ e = of_y ∙ ap (λ (k : Transfer). k.endpoint) is ∙ (waits_is e due.transfer due.waits).0 in
+    ap (λ (k : ℕ). may_meet d k one.one) was.endpoint ∙ old l.at u was.one one.one l.here was.here (ap (slice_get d.endpoints) (sym was.endpoint) ∙ one.here))
+    (λ (new : IsTransferOf d e u).
+    let is : was.one ≡ new.one = same_Some was.one new.one (sym was.here ∙ new.here) in
+    let of_e : z.endpoint ≡ e = was.endpoint ∙ ap (λ (k : Transfer). k.endpoint) is ∙ new.endpoint in
     let same : one.one ≡ due.endpoint = same_Some one.one due.endpoint (sym one.here ∙ ap (slice_get d.endpoints) of_e ∙ due.here) in
-    linked_met d z.endpoint one.one (ap (λ (k : Endpoint). k.linked) same ∙ going_linked due.endpoint (bulk.endpoints e due.endpoint due.here) due.goes_on))
-    (listed f r.leaves.listed at)
-  where
-    listed : (f : DriverContent) → (f.harvested ≡ p.driver.harvested) ⊎ (f.harvested ≡ p.driver.harvested ++ t ∷ []) → slice_get f.harvested i ≡ Some u → IsInList p.driver.harvested u ⊎ (u ≡ t)
-    listed f (inl same) at = inl (record { at = i; here = ap (λ (hs : List ℕ). slice_get hs i) (sym same) ∙ at })
-    listed f (inr more) at = push_listed p.driver.harvested t i u (ap (λ (hs : List ℕ). slice_get hs i) (sym more) ∙ at)
+    linked_met d z.endpoint one.one (ap (λ (k : Endpoint). k.linked) same ∙ stands_linked due.endpoint (only.endpoints e due.endpoint due.here) due.goes_on))
+    (r.leaves.listed i u at)
 
 -- ---- any event
 
-due_owed : (row : DriverRow) (p : Parts) → IsDue p row → IsBulkRow row → (row ≡ rows.ClearAdvance → IsClearing p.driver) → OnlyBulk p.driver → AreOwedMet p.driver → AreOwedMet (after_driver_row row p).driver
-due_owed rows.Lend p due is clears bulk old =
+due_owed : (row : DriverRow) (p : Parts) → IsDue p row → IsAsynchronousRow row → (row ≡ rows.ClearAdvance → IsClearing p.driver) → OnlyAsynchronous p.driver → AreOwedMet p.driver → AreOwedMet (after_driver_row row p).driver
+due_owed rows.Lend p due is clears only old =
     let d = record p.driver { book = (lend_taken (holding p.driver.book p.memory)).book } in
-    advanced_or_left AreOwedMet d d.command bulk.command old old old (λ e x leaves here. left_owed d e x here old)
-due_owed (rows.Store b at v) p due is clears bulk old = advanced_owed p.driver bulk old
-due_owed (rows.Mend w) p due is clears bulk old = absurd is
-due_owed rows.Frames p due is clears bulk old = absurd is
-due_owed rows.LendDescriptors p due is clears bulk old = absurd is
-due_owed (rows.Unlink t) p due is clears bulk old = absurd is
-due_owed (rows.ReleaseRemoved what) p due is clears bulk old = absurd is
-due_owed (rows.ReleaseTransfer t) p due is clears bulk old =
+    advanced_or_left AreOwedMet d d.command only.command old old old (λ e x leaves here. left_owed d e x here old)
+due_owed (rows.Store b at v) p due is clears only old = advanced_owed p.driver only old
+due_owed (rows.Mend w) p due is clears only old = owed_on p.driver (after_driver_row (rows.Mend w) p).driver (record {
+  listed = λ i t at. listed_as p.driver.harvested i t at;
+  turns = λ t y l there. was_of p.driver t y there;
+  nears = λ t y z there here. was_near p.driver (after_driver_row (rows.Mend w) p).driver y.endpoint z here refl;
+}) old
+due_owed rows.Frames p due is clears only old = absurd is
+due_owed rows.LendDescriptors p due is clears only old = absurd is
+due_owed (rows.Unlink t) p due is clears only old = absurd is
+due_owed (rows.ReleaseRemoved what) p due is clears only old = absurd is
+due_owed (rows.ReleaseTransfer t) p due is clears only old =
     release_owed p t (slice_get p.driver.transfers t) (freed_by p.driver (holding p.driver.book p.memory) (slice_get p.driver.transfers t)) refl old
-due_owed (rows.ReleaseEndpoint e) p due is clears bulk old =
+due_owed (rows.ReleaseEndpoint e) p due is clears only old =
     owed_none (after_driver_row (rows.ReleaseEndpoint e) p).driver (let_go_harvested p e (slice_get p.driver.endpoints e) ∙ none_first p.driver.harvested due.none_before)
-due_owed rows.ClearAdvance p due is clears bulk old = owed_none (after_driver_row rows.ClearAdvance p).driver (clears refl).none_harvested
-due_owed rows.RingBell p due is clears bulk old = let b = bell_as_before p due.0 in owed_before p.driver (after_driver_row rows.RingBell p).driver b.0 b.1 old
-due_owed (rows.ReadStatus heard) p due is clears bulk old =
+due_owed rows.ClearAdvance p due is clears only old = owed_none (after_driver_row rows.ClearAdvance p).driver (clears refl).none_harvested
+due_owed rows.RingBell p due is clears only old = let b = bell_as_before p due.0 in owed_before p.driver (after_driver_row rows.RingBell p).driver b.0 b.1 old
+due_owed (rows.ReadStatus heard) p due is clears only old =
     let b = status_as_before p heard due.0 in owed_before p.driver (after_driver_row (rows.ReadStatus heard) p).driver b.0 b.1 old
-due_owed (rows.ReadFrame n) p due is clears bulk old =
+due_owed (rows.ReadFrame n) p due is clears only old =
     let b = frame_as_before p n due.0 in owed_before p.driver (after_driver_row (rows.ReadFrame n) p).driver b.0 b.1 old
-due_owed (rows.Harvest e t found) p due is clears bulk old = harvest_owed p e t found due bulk old
-due_owed rows.Rest p due is clears bulk old = old
+due_owed (rows.Harvest e t found) p due is clears only old = harvest_owed p e t found due only old
+due_owed rows.Rest p due is clears only old = old
 
-pub event_owed : (p : Parts) → TakesTurns p.driver → AreOwedMet p.driver → AreOwedMet (after_driver_row (driver_row p) p).driver
+pub event_owed : (p : Parts) → AsynchronousTakesTurns p.driver → AreOwedMet p.driver → AreOwedMet (after_driver_row (driver_row p) p).driver
 event_owed p turns old =
     let due = each_is_due p in
-    due_owed (driver_row p) p due (bulk_row p (driver_row p) turns.bulk due) (λ is. clear_finds p is) turns.bulk old
+    due_owed (driver_row p) p due (asynchronous_row p (driver_row p) turns.asynchronous due) (λ is. clear_finds p is) turns.asynchronous old
 
 -- ---- an accepted command
 
@@ -242,68 +231,65 @@ listed_there d t order l =
     let o = owed d.transfers t (slice_get d.transfers t) refl (omega (arith, times_of d.harvested l.at t l.here, order.harvests t)) in
     low d.transfers t o.transfer o.there
 
-open_owed : (d : DriverContent) (m : Mem) (o : Offered) → IsOrderly d → IsOpened d m o → AreOwedMet d → AreOwedMet o.driver
-open_owed d m o order why old = subst (λ (g : Offered). AreOwedMet g.driver) (sym why.opens.is) (now _ _)
+open_owed : (d : DriverContent) (m : Mem) (o : Offered) → IsOrderly d → Opens d m o → AreOwedMet d → AreOwedMet o.driver
+open_owed d m o order why old = subst (λ (g : Offered). AreOwedMet g.driver) (sym why.is) (now _ _)
   where
-    now : (queue dummy : ℕ) → AreOwedMet (accepted_open d why.opens.desc why.opens.holding_after queue dummy).driver
+    now : (queue dummy : ℕ) → AreOwedMet (accepted_open d why.desc why.holding_after queue dummy).driver
     now queue dummy =
-        let f = (accepted_open d why.opens.desc why.opens.holding_after queue dummy).driver in
+        let f = (accepted_open d why.desc why.holding_after queue dummy).driver in
         owed_on d f
         (record {
           listed = λ i t at. listed_as d.harvested i t at;
           turns = λ t y l there. was_of d t y there;
           nears = λ t y z there here. ⊎_elim (λ (was : slice_get d.endpoints y.endpoint ≡ Some z). was_near d f y.endpoint z was refl)
               (λ (new : y.endpoint ≡ length d.endpoints). let w = order.within t y there in absurd (omega (arith, w, new)))
-              (push_which d.endpoints (new_endpoint why.opens.desc queue dummy) y.endpoint z here);
+              (push_which d.endpoints (new_endpoint why.desc queue dummy) y.endpoint z here);
         })
         old
 
-asked_owed : (d : DriverContent) (m : Mem) (o : Offered) → IsOrderly d → IsAsked d m o → AreOwedMet d → AreOwedMet o.driver
-asked_owed d m o order why old = subst (λ (g : Offered). AreOwedMet g.driver) (sym why.transfers.is) (now _ notes)
+asked_owed : (d : DriverContent) (m : Mem) (o : Offered) → IsOrderly d → Transfers d m o → AreOwedMet d → AreOwedMet o.driver
+asked_owed d m o order why old = subst (λ (g : Offered). AreOwedMet g.driver) (sym why.is) (now _ notes)
   where
     e : ℕ
-    e = why.transfers.number
+    e = why.number
 
     x : Endpoint
-    x = why.transfers.endpoint
+    x = why.endpoint
 
     notes : List QtdNote
     notes =
-        let w = why.transfers in
+        let w = why in
         let n = length w.asked.stages in
         note_stages d.notes w.asked.stages w.endpoint.dummy (take n (new_runs d w.holding_after)) (drop n (new_runs d w.holding_after))
 
-    now : (dummy : ℕ) (notes : List QtdNote) → AreOwedMet (accepted_transfer d why.transfers.number why.transfers.endpoint why.transfers.asked why.transfers.holding_after dummy notes).driver
+    now : (dummy : ℕ) (notes : List QtdNote) → AreOwedMet (accepted_transfer d why.number why.endpoint why.asked why.holding_after dummy notes).driver
     now dummy notes =
-        let f = (accepted_transfer d e x why.transfers.asked why.transfers.holding_after dummy notes).driver in
+        let f = (accepted_transfer d e x why.asked why.holding_after dummy notes).driver in
         let b = with_queued x dummy (length d.transfers) in
         owed_on d f
         (record {
           listed = λ i t at. listed_as d.harvested i t at;
           turns = λ t y l there. ⊎_elim (λ (was : slice_get d.transfers t ≡ Some y). was_of d t y was)
               (λ (new : t ≡ length d.transfers). let w = listed_there d t order l in absurd (omega (arith, w, new)))
-              (push_which d.transfers (new_transfer e why.transfers.asked x.dummy) t y there);
+              (push_which d.transfers (new_transfer e why.asked x.dummy) t y there);
           nears = λ t y z there here. ⊎_elim
               (λ (own : (y.endpoint ≡ e) × (z ≡ b)).
-              record { one = x; here = ap (slice_get d.endpoints) own.0 ∙ why.transfers.here; near = λ on. ap (may_meet f y.endpoint) own.1 ∙ on })
+              record { one = x; here = ap (slice_get d.endpoints) own.0 ∙ why.here; near = λ on. ap (may_meet f y.endpoint) own.1 ∙ on })
               (λ (other : slice_get d.endpoints y.endpoint ≡ Some z). was_near d f y.endpoint z other refl)
-              (set_which d.endpoints e y.endpoint x b z why.transfers.here here);
+              (set_which d.endpoints e y.endpoint x b z why.here here);
         })
         old
 
-accepted_owed : (d : DriverContent) (m : Mem) (o : Offered) → IsOrderly d → IsAccepted d m o → AreOwedMet d → AreOwedMet o.driver
-accepted_owed d m o order why old = ⊎_elim (λ (why : IsOpened d m o). open_owed d m o order why old) (λ (why : IsAsked d m o). asked_owed d m o order why old) why
-
-owed_as : (d : DriverContent) (m : Mem) (o : Offered) (cmd : Cmd) → IsOrderly d → IsAcceptedAs d m o cmd → TakesTurns d → AreOwedMet d → AreOwedMet o.driver
-owed_as d m o (commands.OpenEp x) order why turns old = accepted_owed d m o order why old
-owed_as d m o (commands.Get name len by) order why turns old = accepted_owed d m o order why old
-owed_as d m o (commands.Put name bytes by) order why turns old = accepted_owed d m o order why old
-owed_as d m o (commands.Control name setup bytes) order why turns old = accepted_owed d m o order why old
-owed_as d m o (commands.Iso name count len seed) order why turns old = accepted_owed d m o order why old
+owed_as : (d : DriverContent) (m : Mem) (o : Offered) (cmd : Cmd) → IsOrderly d → AcceptsAsynchronous d m o cmd → AsynchronousTakesTurns d → AreOwedMet d → AreOwedMet o.driver
+owed_as d m o (commands.OpenEp x) order why turns old = open_owed d m o order why.opens old
+owed_as d m o (commands.Get name len by) order why turns old = asked_owed d m o order why.transfers old
+owed_as d m o (commands.Put name bytes by) order why turns old = asked_owed d m o order why.transfers old
+owed_as d m o (commands.Control name setup bytes) order why turns old = asked_owed d m o order why.transfers old
+owed_as d m o (commands.Iso name count len seed) order why turns old = absurd why
 owed_as d m o (commands.Cancel name) order why turns old = let b = cancel_as_before d m o turns why in owed_before d o.driver b.0 b.1 old
 
-pub command_owed : (d : DriverContent) (m : Mem) (cmd : Cmd) (o : Offered) → HasOwners d → TakesTurns d → OpensOrCancelsBulk cmd → offered d m cmd ≡ Ok o → AreOwedMet d → AreOwedMet o.driver
-command_owed d m cmd o owners turns only is old = owed_as d m o cmd owners.orderly (is_accepted d m cmd o turns.bulk only is) turns old
+pub command_owed : (d : DriverContent) (m : Mem) (cmd : Cmd) (o : Offered) → HasOwners d → AsynchronousTakesTurns d → OpensAsynchronous cmd → offered d m cmd ≡ Ok o → AreOwedMet d → AreOwedMet o.driver
+command_owed d m cmd o owners turns only is old = owed_as d m o cmd owners.orderly (command_accepts d m cmd o turns.asynchronous only is) turns old
 
 pub new_owed : (n : ℕ) (room : Reserve) → AreOwedMet (opening n room).driver
 new_owed n room = owed_none (opening n room).driver refl

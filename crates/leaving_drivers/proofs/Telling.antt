@@ -2,7 +2,9 @@
 use Rattle.std.proofs.Common.{◌≡◌, ◌≢◌, ℕ, zero, suc, ◌&&◌, not, Bool, true, false, cond, List, [], ◌∷◌, ◌++◌, length, set, take, drop, slice_get, Option, Some, None, Ok, option_map, ap, sym, subst, ◌∙◌, ⊎_elim, inl, inr, refl}
 use Rattle.std.specs.Prelude.{◌⊎◌}
 use Rattle.std.proofs.lemmas.Bool.{cases_eq, false≢true}
+use Rattle.std.proofs.lemmas.List.{append_assoc, append-nil}
 use Rattle.std.proofs.lemmas.Option.{same_Some}
+use Rattle.std.specs.List.{AllByRecursion}
 use Rattle.usb_base.specs.declared.commands.Cmd.{Cmd}
 use Rattle.usb_base.specs.declared.commands.Cmd.TheVariants as commands
 use Rattle.usb_base.specs.declared.endpoints.EpDesc.{EpDesc}
@@ -33,18 +35,17 @@ use Rattle.run_owners.proofs.Leaves.{first_left}
 use Rattle.run_owners.proofs.Orders.{IsLeft}
 use Rattle.run_owners.proofs.Reasons.{each_is_due}
 use Rattle.run_owners.proofs.Released.{set_here, set_there}
-use Rattle.chained_transfers.specs.Accepted.{IsOpened, IsAsked, IsAccepted}
-use Rattle.chained_transfers.specs.Bulk.{OpensOrCancelsBulk, OnlyBulk}
-use Rattle.chained_transfers.specs.InTurn.{TakesTurns}
-use Rattle.chained_transfers.specs.Leaving.{IsAcceptedAs}
-use Rattle.chained_transfers.proofs.Commands.{is_accepted}
+use Rattle.run_owners.specs.Accepts.{Opens, Transfers}
+use Rattle.chained_transfers.specs.Asynchronous.{OpensAsynchronous, OnlyAsynchronous, AcceptsAsynchronous}
+use Rattle.chained_transfers.specs.AsynchronousTurns.{AsynchronousTakesTurns}
+use Rattle.chained_transfers.proofs.Accepting.{command_accepts}
 use Rattle.chained_transfers.proofs.Rows.{left, advanced_or_left, set_which}
-use Rattle.chained_transfers.proofs.Staying.{alive}
+use Rattle.chained_transfers.proofs.Staying.{stands_alive}
 use Rattle.leaving_drivers.specs.Before.{IsAsBefore}
 use Rattle.leaving_drivers.specs.Told.{told_to, AreNamedOnce, IsGoneIn}
 use Rattle.leaving_drivers.proofs.Leaving.{cancel_as_before, bell_as_before, status_as_before, frame_as_before, clear_as_before}
-use Rattle.leaving_drivers.proofs.Never.{IsBulkRow, bulk_row}
-use Rattle.leaving_drivers.proofs.Reading.{ChangesAtMost, AddsLine, AddsAtMost, read_row}
+use Rattle.leaving_drivers.proofs.Never.{IsAsynchronousRow, asynchronous_row}
+use Rattle.leaving_drivers.proofs.Reading.{ChangesAtMost, AddsLines, none_added, line_added, read_row}
 
 -- ---- lines
 
@@ -56,10 +57,18 @@ told_by d f name reports store =
 line_not : (name : EpName) (line : Report) → is_same_name line.name name ≡ false → is_line_of name line ≡ false
 line_not name line other = ap (λ (b : Bool). b && not (is_refusal line.what)) other
 
-told_beside : (d f : DriverContent) (name other : EpName) → AreNamedOnce d → AddsLine d f other → is_same_name other name ≡ false → told_to f name ≡ told_to d name
+-- lines of another endpoint
+lines_not : (name other : EpName) (reports lines : List Report) → AllByRecursion (λ (line : Report). line.name ≡ other) lines → is_same_name other name ≡ false → lines_in name (reports ++ lines) ≡ lines_in name reports
+lines_not name other reports [] named differs = ap (lines_in name) (append-nil reports)
+lines_not name other reports (line ∷ rest) named differs =
+    ap (lines_in name) (sym (append_assoc reports (line ∷ []) rest))
+    ∙ lines_not name other (reports ++ line ∷ []) rest named.1 differs
+    ∙ line_of_other name reports line (line_not name line (ap (λ (n : EpName). is_same_name n name) named.0 ∙ differs))
+
+told_beside : (d f : DriverContent) (name other : EpName) → AreNamedOnce d → AddsLines d f other → is_same_name other name ≡ false → told_to f name ≡ told_to d name
 told_beside d f name other once l differs =
     ap (λ (rs : List Report). told_in f.store (lines_in name rs)) l.reports
-    ∙ ap (told_in f.store) (line_of_other name d.reports l.line (line_not name l.line (ap (λ (n : EpName). is_same_name n name) l.named ∙ differs)))
+    ∙ ap (told_in f.store) (lines_not name other d.reports l.lines l.named differs)
     ∙ ap (λ (xs : List ℕ). told_in xs (lines_in name d.reports)) l.store
     ∙ told_more (lines_in name d.reports) d.store l.bytes (stored_filtered (is_line_of name) d.reports (length d.store) once.stored)
 
@@ -155,15 +164,14 @@ names_differ d e i x w once here kept there gone = by (is_same_name x.desc.name 
         let same : x ≡ w = same_Some x w (sym here ∙ ap (slice_get d.endpoints) own ∙ there) in
         absurd (false≢true (sym kept ∙ ap (λ (r : Endpoint). r.gone) same ∙ gone))
 
--- the line is of one that wasn't given back
-lines_tell : (d f : DriverContent) (e : ℕ) (x : Endpoint) → AreNamedOnce d → slice_get d.endpoints e ≡ Some x → x.gone ≡ false → AddsAtMost d f x.desc.name
+-- the lines are of one that wasn't given back
+lines_tell : (d f : DriverContent) (e : ℕ) (x : Endpoint) → AreNamedOnce d → slice_get d.endpoints e ≡ Some x → x.gone ≡ false → AddsLines d f x.desc.name
     → (i : ℕ) (w : Endpoint) → slice_get d.endpoints i ≡ Some w → w.gone ≡ true → told_to f w.desc.name ≡ told_to d w.desc.name
-lines_tell d f e x once here kept (inl none) i w there gone = told_by d f w.desc.name none.reports none.store
-lines_tell d f e x once here kept (inr line) i w there gone = told_beside d f w.desc.name x.desc.name once line (names_differ d e i x w once here kept there gone)
+lines_tell d f e x once here kept adds i w there gone = told_beside d f w.desc.name x.desc.name once adds (names_differ d e i x w once here kept there gone)
 
 -- ---- the command goes on
 
-advanced_leaves : (d : DriverContent) (gives : ℕ → Type 0) → OnlyBulk d → LeavesGone d (advance d) gives
+advanced_leaves : (d : DriverContent) (gives : ℕ → Type 0) → OnlyAsynchronous d → LeavesGone d (advance d) gives
 advanced_leaves d gives r = advanced_or_left (λ (f : DriverContent). LeavesGone d f gives) d d.command r.command (same_leaves d d gives refl refl refl) (same_leaves d _ gives refl refl refl) (same_leaves d _ gives refl refl refl)
     (λ e x leaves here.
     let z : Endpoint = record x { linked = false } in
@@ -203,7 +211,7 @@ endpoint_leaves p e first order once = subst (λ (o : Option Endpoint). LeavesGo
     book : Book
     book = (free_endpoint p.driver e l.endpoint (holding p.driver.book p.memory)).book
 
-    gone : (f : DriverContent) → f.endpoints ≡ set p.driver.endpoints e (record l.endpoint { gone = true }) → AddsAtMost p.driver f l.endpoint.desc.name → LeavesGone p.driver f gives
+    gone : (f : DriverContent) → f.endpoints ≡ set p.driver.endpoints e (record l.endpoint { gone = true }) → AddsLines p.driver f l.endpoint.desc.name → LeavesGone p.driver f gives
     gone f are adds = record {
       on = set_on p.driver f gives e l.endpoint (record l.endpoint { gone = true }) l.here are refl (λ was. refl);
       from = set_from p.driver f gives e l.endpoint (record l.endpoint { gone = true }) l.here are refl (λ is. inl refl);
@@ -211,20 +219,20 @@ endpoint_leaves p e first order once = subst (λ (o : Option Endpoint). LeavesGo
     }
 
     by : (b : Bool) → LeavesGone p.driver (gone_with (cond b (reported p.driver lines.Cancel l.endpoint.desc.name (cancelled_bytes p.driver.notes p.memory e l.endpoint.queue p.driver.transfers)) p.driver) e l.endpoint (is_told l.endpoint) book) gives
-    by true = gone _ refl (inr (record { line = _; bytes = _; reports = refl; store = refl; named = refl }))
-    by false = gone _ refl (inl (record { reports = refl; store = refl }))
+    by true = gone _ refl (line_added p.driver p.driver _ l.endpoint.desc.name _ _ refl refl refl (none_added p.driver p.driver l.endpoint.desc.name refl refl))
+    by false = gone _ refl (none_added p.driver _ l.endpoint.desc.name refl refl)
 
 -- ---- a harvest
 
-harvest_gone : (p : Parts) (e t : ℕ) (found : Found) (gives : ℕ → Type 0) → IsHarvestDue p e t found → OnlyBulk p.driver → AreNamedOnce p.driver → LeavesGone p.driver (after_driver_row (rows.Harvest e t found) p).driver gives
-harvest_gone p e t found gives due bulk once =
-    let r = read_row p e t found due bulk in
+harvest_gone : (p : Parts) (e t : ℕ) (found : Found) (gives : ℕ → Type 0) → IsHarvestDue p e t found → OnlyAsynchronous p.driver → AreNamedOnce p.driver → LeavesGone p.driver (after_driver_row (rows.Harvest e t found) p).driver gives
+harvest_gone p e t found gives due only once =
+    let r = read_row p e t found due only in
     by (after_driver_row (rows.Harvest e t found) p).driver r.leaves.ends r.leaves.lines
   where
-    told : (f : DriverContent) → AddsAtMost p.driver f due.endpoint.desc.name → (i : ℕ) (w : Endpoint) → slice_get p.driver.endpoints i ≡ Some w → w.gone ≡ true → told_to f w.desc.name ≡ told_to p.driver w.desc.name
-    told f adds = lines_tell p.driver f e due.endpoint once due.here (alive due.endpoint (bulk.endpoints e due.endpoint due.here) due.goes_on) adds
+    told : (f : DriverContent) → AddsLines p.driver f due.endpoint.desc.name → (i : ℕ) (w : Endpoint) → slice_get p.driver.endpoints i ≡ Some w → w.gone ≡ true → told_to f w.desc.name ≡ told_to p.driver w.desc.name
+    told f adds = lines_tell p.driver f e due.endpoint once due.here (stands_alive due.endpoint (only.endpoints e due.endpoint due.here) due.goes_on) adds
 
-    by : (f : DriverContent) → ChangesAtMost p.driver f e due.endpoint → AddsAtMost p.driver f due.endpoint.desc.name → LeavesGone p.driver f gives
+    by : (f : DriverContent) → ChangesAtMost p.driver f e due.endpoint → AddsLines p.driver f due.endpoint.desc.name → LeavesGone p.driver f gives
     by f (inl same) adds =
         let s = same_leaves p.driver (record p.driver { endpoints = f.endpoints }) gives same refl refl in
         record { on = λ i x here gone. let k = s.on i x here gone in record { endpoint = k.endpoint; here = k.here; gone = k.gone; desc = k.desc }; from = s.from; told = told f adds }
@@ -236,42 +244,42 @@ harvest_gone p e t found gives due bulk once =
 
 -- ---- any event
 
-due_gone : (row : DriverRow) (p : Parts) → IsDue p row → IsBulkRow row → IsOrderly p.driver → OnlyBulk p.driver → AreNamedOnce p.driver → LeavesGone p.driver (after_driver_row row p).driver (Gives row)
-due_gone rows.Lend p due is order bulk once =
+due_gone : (row : DriverRow) (p : Parts) → IsDue p row → IsAsynchronousRow row → IsOrderly p.driver → OnlyAsynchronous p.driver → AreNamedOnce p.driver → LeavesGone p.driver (after_driver_row row p).driver (Gives row)
+due_gone rows.Lend p due is order only once =
     let d = record p.driver { book = (lend_taken (holding p.driver.book p.memory)).book } in
-    let a = advanced_leaves d (Gives rows.Lend) (record { endpoints = bulk.endpoints; moves = λ t y here. let m = bulk.moves t y here in record { endpoint = m.endpoint; here = m.here; sort = m.sort }; command = bulk.command; leaver = bulk.leaver; mends = bulk.mends; unlinks = bulk.unlinks; removals = bulk.removals }) in
+    let a = advanced_leaves d (Gives rows.Lend) (record { endpoints = only.endpoints; moves = λ t y here. let m = only.moves t y here in record { endpoint = m.endpoint; here = m.here; sort = m.sort }; command = only.command; leaver = only.leaver; unlinks = only.unlinks; removals = only.removals }) in
     record {
       on = a.on;
       from = λ i z here gone. ⊎_elim (λ (given : Gives rows.Lend i). inl given)
           (λ (s : IsStill d i z). inr (record { endpoint = s.endpoint; here = s.here; gone = s.gone; desc = s.desc })) (a.from i z here gone);
       told = a.told;
     }
-due_gone (rows.Store b at v) p due is order bulk once = advanced_leaves p.driver (Gives (rows.Store b at v)) bulk
-due_gone (rows.Mend w) p due is order bulk once = absurd is
-due_gone rows.Frames p due is order bulk once = absurd is
-due_gone rows.LendDescriptors p due is order bulk once = absurd is
-due_gone (rows.Unlink t) p due is order bulk once = absurd is
-due_gone (rows.ReleaseRemoved what) p due is order bulk once = absurd is
-due_gone (rows.ReleaseTransfer t) p due is order bulk once =
+due_gone (rows.Store b at v) p due is order only once = advanced_leaves p.driver (Gives (rows.Store b at v)) only
+due_gone (rows.Mend w) p due is order only once = same_leaves p.driver (after_driver_row (rows.Mend w) p).driver (Gives (rows.Mend w)) refl refl refl
+due_gone rows.Frames p due is order only once = absurd is
+due_gone rows.LendDescriptors p due is order only once = absurd is
+due_gone (rows.Unlink t) p due is order only once = absurd is
+due_gone (rows.ReleaseRemoved what) p due is order only once = absurd is
+due_gone (rows.ReleaseTransfer t) p due is order only once =
     release_leaves p t (Gives (rows.ReleaseTransfer t)) (slice_get p.driver.transfers t) (freed_by p.driver (holding p.driver.book p.memory) (slice_get p.driver.transfers t))
-due_gone (rows.ReleaseEndpoint e) p due is order bulk once = endpoint_leaves p e due.first order once
-due_gone rows.ClearAdvance p due is order bulk once = before_leaves p.driver (after_driver_row rows.ClearAdvance p).driver (Gives rows.ClearAdvance) (clear_as_before p due.0).0
-due_gone rows.RingBell p due is order bulk once = before_leaves p.driver (after_driver_row rows.RingBell p).driver (Gives rows.RingBell) (bell_as_before p due.0).0
-due_gone (rows.ReadStatus heard) p due is order bulk once = before_leaves p.driver (after_driver_row (rows.ReadStatus heard) p).driver (Gives (rows.ReadStatus heard)) (status_as_before p heard due.0).0
-due_gone (rows.ReadFrame n) p due is order bulk once = before_leaves p.driver (after_driver_row (rows.ReadFrame n) p).driver (Gives (rows.ReadFrame n)) (frame_as_before p n due.0).0
-due_gone (rows.Harvest e t found) p due is order bulk once = harvest_gone p e t found (Gives (rows.Harvest e t found)) due bulk once
-due_gone rows.Rest p due is order bulk once = same_leaves p.driver p.driver (Gives rows.Rest) refl refl refl
+due_gone (rows.ReleaseEndpoint e) p due is order only once = endpoint_leaves p e due.first order once
+due_gone rows.ClearAdvance p due is order only once = before_leaves p.driver (after_driver_row rows.ClearAdvance p).driver (Gives rows.ClearAdvance) (clear_as_before p due.0).0
+due_gone rows.RingBell p due is order only once = before_leaves p.driver (after_driver_row rows.RingBell p).driver (Gives rows.RingBell) (bell_as_before p due.0).0
+due_gone (rows.ReadStatus heard) p due is order only once = before_leaves p.driver (after_driver_row (rows.ReadStatus heard) p).driver (Gives (rows.ReadStatus heard)) (status_as_before p heard due.0).0
+due_gone (rows.ReadFrame n) p due is order only once = before_leaves p.driver (after_driver_row (rows.ReadFrame n) p).driver (Gives (rows.ReadFrame n)) (frame_as_before p n due.0).0
+due_gone (rows.Harvest e t found) p due is order only once = harvest_gone p e t found (Gives (rows.Harvest e t found)) due only once
+due_gone rows.Rest p due is order only once = same_leaves p.driver p.driver (Gives rows.Rest) refl refl refl
 
-event_gone : (p : Parts) → HasOwners p.driver → TakesTurns p.driver → AreNamedOnce p.driver → LeavesGone p.driver (after_driver_row (driver_row p) p).driver (Gives (driver_row p))
+event_gone : (p : Parts) → HasOwners p.driver → AsynchronousTakesTurns p.driver → AreNamedOnce p.driver → LeavesGone p.driver (after_driver_row (driver_row p) p).driver (Gives (driver_row p))
 event_gone p owners turns once =
     let due = each_is_due p in
-    due_gone (driver_row p) p due (bulk_row p (driver_row p) turns.bulk due) owners.orderly turns.bulk once
+    due_gone (driver_row p) p due (asynchronous_row p (driver_row p) turns.asynchronous due) owners.orderly turns.asynchronous once
 
-pub events_leave : (p : Parts) → HasOwners p.driver → TakesTurns p.driver → AreNamedOnce p.driver → (i : ℕ) (x : Endpoint) → slice_get p.driver.endpoints i ≡ Some x → x.gone ≡ true
+pub events_leave : (p : Parts) → HasOwners p.driver → AsynchronousTakesTurns p.driver → AreNamedOnce p.driver → (i : ℕ) (x : Endpoint) → slice_get p.driver.endpoints i ≡ Some x → x.gone ≡ true
     → IsGoneIn (after_driver_row (driver_row p) p).driver i x (told_to p.driver x.desc.name)
 events_leave p owners turns once = gone_stays p.driver (after_driver_row (driver_row p) p).driver (Gives (driver_row p)) (event_gone p owners turns once)
 
-pub events_only : (p : Parts) → HasOwners p.driver → TakesTurns p.driver → AreNamedOnce p.driver → (i : ℕ) (z : Endpoint) → slice_get (after_driver_row (driver_row p) p).driver.endpoints i ≡ Some z
+pub events_only : (p : Parts) → HasOwners p.driver → AsynchronousTakesTurns p.driver → AreNamedOnce p.driver → (i : ℕ) (z : Endpoint) → slice_get (after_driver_row (driver_row p) p).driver.endpoints i ≡ Some z
     → z.gone ≡ true → driver_row p ≢ rows.ReleaseEndpoint i → IsGoneIn p.driver i z (told_to (after_driver_row (driver_row p) p).driver z.desc.name)
 events_only p owners turns once = gone_before p.driver (after_driver_row (driver_row p) p).driver (Gives (driver_row p)) (event_gone p owners turns once)
 
@@ -291,13 +299,13 @@ push_which [] x (suc n) z here = absurd (cc)
 push_which (y ∷ ys) x zero z here = inl here
 push_which (y ∷ ys) x (suc n) z here = push_which ys x n z here
 
-open_gone : (d : DriverContent) (m : Mem) (o : Offered) → IsOpened d m o → LeavesGone d o.driver NoneGiven
-open_gone d m o why = subst (λ (g : Offered). LeavesGone d g.driver NoneGiven) (sym why.opens.is) (now _ _)
+open_gone : (d : DriverContent) (m : Mem) (o : Offered) → Opens d m o → LeavesGone d o.driver NoneGiven
+open_gone d m o why = subst (λ (g : Offered). LeavesGone d g.driver NoneGiven) (sym why.is) (now _ _)
   where
-    now : (queue dummy : ℕ) → LeavesGone d (accepted_open d why.opens.desc why.opens.holding_after queue dummy).driver NoneGiven
+    now : (queue dummy : ℕ) → LeavesGone d (accepted_open d why.desc why.holding_after queue dummy).driver NoneGiven
     now queue dummy =
-        let n = new_endpoint why.opens.desc queue dummy in
-        let f = (accepted_open d why.opens.desc why.opens.holding_after queue dummy).driver in
+        let n = new_endpoint why.desc queue dummy in
+        let f = (accepted_open d why.desc why.holding_after queue dummy).driver in
         record {
           on = λ i x here gone. still f i x (push_there d.endpoints n i x here) gone;
           from = λ i z here gone. ⊎_elim (λ (was : slice_get d.endpoints i ≡ Some z). inr (still d i z was gone))
@@ -306,45 +314,42 @@ open_gone d m o why = subst (λ (g : Offered). LeavesGone d g.driver NoneGiven) 
           told = λ i x here gone. refl;
         }
 
-asked_gone : (d : DriverContent) (m : Mem) (o : Offered) → IsAsked d m o → LeavesGone d o.driver NoneGiven
-asked_gone d m o why = subst (λ (g : Offered). LeavesGone d g.driver NoneGiven) (sym why.transfers.is) (now _ notes)
+asked_gone : (d : DriverContent) (m : Mem) (o : Offered) → Transfers d m o → LeavesGone d o.driver NoneGiven
+asked_gone d m o why = subst (λ (g : Offered). LeavesGone d g.driver NoneGiven) (sym why.is) (now _ notes)
   where
     notes : List QtdNote
     notes =
-        let w = why.transfers in
+        let w = why in
         let n = length w.asked.stages in
         note_stages d.notes w.asked.stages w.endpoint.dummy (take n (new_runs d w.holding_after)) (drop n (new_runs d w.holding_after))
 
-    now : (dummy : ℕ) (notes : List QtdNote) → LeavesGone d (accepted_transfer d why.transfers.number why.transfers.endpoint why.transfers.asked why.transfers.holding_after dummy notes).driver NoneGiven
+    now : (dummy : ℕ) (notes : List QtdNote) → LeavesGone d (accepted_transfer d why.number why.endpoint why.asked why.holding_after dummy notes).driver NoneGiven
     now dummy notes =
-        let e = why.transfers.number in
-        let x = why.transfers.endpoint in
+        let e = why.number in
+        let x = why.endpoint in
         let z = with_queued x dummy (length d.transfers) in
-        let f = (accepted_transfer d e x why.transfers.asked why.transfers.holding_after dummy notes).driver in
+        let f = (accepted_transfer d e x why.asked why.holding_after dummy notes).driver in
         record {
-          on = set_on d f NoneGiven e x z why.transfers.here refl refl (λ gone. gone);
-          from = set_from d f NoneGiven e x z why.transfers.here refl refl (λ gone. inr gone);
+          on = set_on d f NoneGiven e x z why.here refl refl (λ gone. gone);
+          from = set_from d f NoneGiven e x z why.here refl refl (λ gone. inr gone);
           told = λ i w here gone. refl;
         }
 
-accepted_gone : (d : DriverContent) (m : Mem) (o : Offered) → IsAccepted d m o → LeavesGone d o.driver NoneGiven
-accepted_gone d m o why = ⊎_elim (λ (why : IsOpened d m o). open_gone d m o why) (λ (why : IsAsked d m o). asked_gone d m o why) why
-
-gone_as : (d : DriverContent) (m : Mem) (o : Offered) (cmd : Cmd) → IsAcceptedAs d m o cmd → TakesTurns d → LeavesGone d o.driver NoneGiven
-gone_as d m o (commands.OpenEp x) why turns = accepted_gone d m o why
-gone_as d m o (commands.Get name len by) why turns = accepted_gone d m o why
-gone_as d m o (commands.Put name bytes by) why turns = accepted_gone d m o why
-gone_as d m o (commands.Control name setup bytes) why turns = accepted_gone d m o why
-gone_as d m o (commands.Iso name count len seed) why turns = accepted_gone d m o why
+gone_as : (d : DriverContent) (m : Mem) (o : Offered) (cmd : Cmd) → AcceptsAsynchronous d m o cmd → AsynchronousTakesTurns d → LeavesGone d o.driver NoneGiven
+gone_as d m o (commands.OpenEp x) why turns = open_gone d m o why.opens
+gone_as d m o (commands.Get name len by) why turns = asked_gone d m o why.transfers
+gone_as d m o (commands.Put name bytes by) why turns = asked_gone d m o why.transfers
+gone_as d m o (commands.Control name setup bytes) why turns = asked_gone d m o why.transfers
+gone_as d m o (commands.Iso name count len seed) why turns = absurd why
 gone_as d m o (commands.Cancel name) why turns = before_leaves d o.driver NoneGiven (cancel_as_before d m o turns why).0
 
-command_gone : (d : DriverContent) (m : Mem) (cmd : Cmd) (o : Offered) → TakesTurns d → OpensOrCancelsBulk cmd → offered d m cmd ≡ Ok o → LeavesGone d o.driver NoneGiven
-command_gone d m cmd o turns only is = gone_as d m o cmd (is_accepted d m cmd o turns.bulk only is) turns
+command_gone : (d : DriverContent) (m : Mem) (cmd : Cmd) (o : Offered) → AsynchronousTakesTurns d → OpensAsynchronous cmd → offered d m cmd ≡ Ok o → LeavesGone d o.driver NoneGiven
+command_gone d m cmd o turns only is = gone_as d m o cmd (command_accepts d m cmd o turns.asynchronous only is) turns
 
-pub commands_leave : (d : DriverContent) (m : Mem) (cmd : Cmd) (o : Offered) → TakesTurns d → OpensOrCancelsBulk cmd → offered d m cmd ≡ Ok o
+pub commands_leave : (d : DriverContent) (m : Mem) (cmd : Cmd) (o : Offered) → AsynchronousTakesTurns d → OpensAsynchronous cmd → offered d m cmd ≡ Ok o
     → (i : ℕ) (x : Endpoint) → slice_get d.endpoints i ≡ Some x → x.gone ≡ true → IsGoneIn o.driver i x (told_to d x.desc.name)
 commands_leave d m cmd o turns only is = gone_stays d o.driver NoneGiven (command_gone d m cmd o turns only is)
 
-pub commands_only : (d : DriverContent) (m : Mem) (cmd : Cmd) (o : Offered) → TakesTurns d → OpensOrCancelsBulk cmd → offered d m cmd ≡ Ok o
+pub commands_only : (d : DriverContent) (m : Mem) (cmd : Cmd) (o : Offered) → AsynchronousTakesTurns d → OpensAsynchronous cmd → offered d m cmd ≡ Ok o
     → (i : ℕ) (z : Endpoint) → slice_get o.driver.endpoints i ≡ Some z → z.gone ≡ true → IsGoneIn d i z (told_to o.driver z.desc.name)
 commands_only d m cmd o turns only is i z here gone = gone_before d o.driver NoneGiven (command_gone d m cmd o turns only is) i z here gone (λ none. none)

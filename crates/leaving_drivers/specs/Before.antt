@@ -16,7 +16,7 @@ use Rattle.driver_rows.specs.Offers.{Offered}
 use Rattle.driver_rows.specs.Rows.{Parts, after_driver_row}
 use Rattle.endpoint_lives.specs.Lives.{told_end, may_meet}
 use Rattle.run_owners.specs.Accepts.{Cancels}
-use Rattle.chained_transfers.specs.InTurn.{TakesTurns}
+use Rattle.chained_transfers.specs.AsynchronousTurns.{AsynchronousTakesTurns}
 
 pub record WasSame (d : DriverContent) (i : ℕ) (z : Endpoint) : Type 0 where
   pub endpoint : Endpoint
@@ -54,7 +54,7 @@ NearFewer d f = (e : ℕ) (x z : Endpoint) → slice_get d.endpoints e ≡ Some 
 -- ---- the laws
 
 abbrev pub CancelIsAsBefore : Type 0
-CancelIsAsBefore = (d : DriverContent) (m : Mem) (o : Offered) → TakesTurns d → Cancels d m o → IsAsBefore d o.driver × NearSame d o.driver
+CancelIsAsBefore = (d : DriverContent) (m : Mem) (o : Offered) → AsynchronousTakesTurns d → Cancels d m o → IsAsBefore d o.driver × NearSame d o.driver
 
 -- the store that unlinks the endpoint is the whole command
 abbrev pub UnlinkIsAsBefore : Type 0

@@ -1,4 +1,4 @@
--- What a driver of bulk endpoints has to give back while endpoints leave the ring (EHCI 1.0, 4.8.2).
+-- What a driver of bulk and control endpoints has to give back while endpoints leave the ring (EHCI 1.0, 4.8.2).
 --     AreOwedMet d            each transfer that was harvested and is to be given back belongs to an endpoint that a walk may still meet
 --     IsClearing d            what the driver finds when it clears Async Advance: the doorbell was answered, and nothing is left that comes before
 --     NewDriverOwesMet, EventsOweMet, CommandsOweMet, ClearFinds     the laws
@@ -17,8 +17,8 @@ use Rattle.driver_rows.specs.Offers.{Offered, offered}
 use Rattle.driver_rows.specs.Rows.{Parts, driver_row, after_driver_row}
 use Rattle.endpoint_lives.specs.Lives.{may_meet}
 use Rattle.run_owners.specs.Kept.{HasOwners}
-use Rattle.chained_transfers.specs.Bulk.{OpensOrCancelsBulk}
-use Rattle.chained_transfers.specs.InTurn.{TakesTurns}
+use Rattle.chained_transfers.specs.Asynchronous.{OpensAsynchronous}
+use Rattle.chained_transfers.specs.AsynchronousTurns.{AsynchronousTakesTurns}
 
 abbrev pub AreOwedMet : DriverContent → Type 0
 AreOwedMet d = (i t : ℕ) (y : Transfer) (x : Endpoint) → slice_get d.harvested i ≡ Some t → slice_get d.transfers t ≡ Some y → slice_get d.endpoints y.endpoint ≡ Some x
@@ -28,10 +28,10 @@ abbrev pub NewDriverOwesMet : Type 0
 NewDriverOwesMet = (n : ℕ) (room : Reserve) → AreOwedMet (opening n room).driver
 
 abbrev pub EventsOweMet : Type 0
-EventsOweMet = (p : Parts) → TakesTurns p.driver → AreOwedMet p.driver → AreOwedMet (after_driver_row (driver_row p) p).driver
+EventsOweMet = (p : Parts) → AsynchronousTakesTurns p.driver → AreOwedMet p.driver → AreOwedMet (after_driver_row (driver_row p) p).driver
 
 abbrev pub CommandsOweMet : Type 0
-CommandsOweMet = (d : DriverContent) (m : Mem) (cmd : Cmd) (o : Offered) → HasOwners d → TakesTurns d → OpensOrCancelsBulk cmd → offered d m cmd ≡ Ok o → AreOwedMet d → AreOwedMet o.driver
+CommandsOweMet = (d : DriverContent) (m : Mem) (cmd : Cmd) (o : Offered) → HasOwners d → AsynchronousTakesTurns d → OpensAsynchronous cmd → offered d m cmd ≡ Ok o → AreOwedMet d → AreOwedMet o.driver
 
 -- the doorbell is 0 again once it was answered (4.8.2)
 pub record IsClearing (d : DriverContent) : Type 0 where

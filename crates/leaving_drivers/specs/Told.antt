@@ -19,8 +19,8 @@ use Rattle.driver_rows.specs.DriverContent.{DriverContent}
 use Rattle.driver_rows.specs.Offers.{Offered, offered}
 use Rattle.driver_rows.specs.Rows.{Parts, driver_row, after_driver_row}
 use Rattle.run_owners.specs.Kept.{HasOwners}
-use Rattle.chained_transfers.specs.Bulk.{OpensOrCancelsBulk}
-use Rattle.chained_transfers.specs.InTurn.{TakesTurns}
+use Rattle.chained_transfers.specs.Asynchronous.{OpensAsynchronous}
+use Rattle.chained_transfers.specs.AsynchronousTurns.{AsynchronousTakesTurns}
 
 abbrev pub told_to : DriverContent → EpName → List ℕ
 told_to d name = told_in d.store (lines_in name d.reports)
@@ -40,22 +40,22 @@ pub record IsGoneIn (d : DriverContent) (i : ℕ) (z : Endpoint) (bytes : List �
 
 -- what was given back stays so, with what was told of it
 abbrev pub EventsLeaveTold : Type 0
-EventsLeaveTold = (p : Parts) → HasOwners p.driver → TakesTurns p.driver → AreNamedOnce p.driver → (i : ℕ) (x : Endpoint) → slice_get p.driver.endpoints i ≡ Some x → x.gone ≡ true
+EventsLeaveTold = (p : Parts) → HasOwners p.driver → AsynchronousTakesTurns p.driver → AreNamedOnce p.driver → (i : ℕ) (x : Endpoint) → slice_get p.driver.endpoints i ≡ Some x → x.gone ≡ true
     → IsGoneIn (after_driver_row (driver_row p) p).driver i x (told_to p.driver x.desc.name)
 
 -- .. and what is given back was so before, but for the one that the event gives back
 abbrev pub EventsOnlyTell : Type 0
-EventsOnlyTell = (p : Parts) → HasOwners p.driver → TakesTurns p.driver → AreNamedOnce p.driver → (i : ℕ) (z : Endpoint) → slice_get (after_driver_row (driver_row p) p).driver.endpoints i ≡ Some z
+EventsOnlyTell = (p : Parts) → HasOwners p.driver → AsynchronousTakesTurns p.driver → AreNamedOnce p.driver → (i : ℕ) (z : Endpoint) → slice_get (after_driver_row (driver_row p) p).driver.endpoints i ≡ Some z
     → z.gone ≡ true → driver_row p ≢ rows.ReleaseEndpoint i → IsGoneIn p.driver i z (told_to (after_driver_row (driver_row p) p).driver z.desc.name)
 
 -- ---- commands
 
 abbrev pub CommandsLeaveTold : Type 0
-CommandsLeaveTold = (d : DriverContent) (m : Mem) (cmd : Cmd) (o : Offered) → TakesTurns d → OpensOrCancelsBulk cmd → offered d m cmd ≡ Ok o
+CommandsLeaveTold = (d : DriverContent) (m : Mem) (cmd : Cmd) (o : Offered) → AsynchronousTakesTurns d → OpensAsynchronous cmd → offered d m cmd ≡ Ok o
     → (i : ℕ) (x : Endpoint) → slice_get d.endpoints i ≡ Some x → x.gone ≡ true → IsGoneIn o.driver i x (told_to d x.desc.name)
 
 abbrev pub CommandsOnlyTell : Type 0
-CommandsOnlyTell = (d : DriverContent) (m : Mem) (cmd : Cmd) (o : Offered) → TakesTurns d → OpensOrCancelsBulk cmd → offered d m cmd ≡ Ok o
+CommandsOnlyTell = (d : DriverContent) (m : Mem) (cmd : Cmd) (o : Offered) → AsynchronousTakesTurns d → OpensAsynchronous cmd → offered d m cmd ≡ Ok o
     → (i : ℕ) (z : Endpoint) → slice_get o.driver.endpoints i ≡ Some z → z.gone ≡ true → IsGoneIn d i z (told_to o.driver z.desc.name)
 
 -- the line of a command that is refused tells of no endpoint

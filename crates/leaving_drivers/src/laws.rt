@@ -11,7 +11,7 @@ pub fn events_owe_what_is_met()
     ensures { EventsOweMet }
 {}
 
-/// And after each command that opens a high-speed bulk endpoint, cancels, or is no open, where it is accepted.
+/// And after each command that opens a high-speed bulk or control endpoint, cancels, or is no open, where it is accepted.
 pub fn commands_owe_what_is_met()
     ensures { CommandsOweMet }
 {}

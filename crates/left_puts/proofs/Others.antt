@@ -4,7 +4,6 @@ use Rattle.std.specs.Prelude.{◌⊎◌}
 use Rattle.std.proofs.lemmas.Bool.{true≢false, false≢true, eq-eqb, eqb-true}
 use Rattle.std.proofs.lemmas.Option.{same_Some, slice_get-map}
 use Rattle.word_mem.specs.Memory.{Mem}
-use Rattle.usb_base.specs.declared.packets.EpKind.{EpKind}
 use Rattle.driver_rows.specs.declared.content.Endpoint.{Endpoint}
 use Rattle.driver_rows.specs.declared.content.QtdNote.{QtdNote}
 use Rattle.driver_rows.specs.declared.content.Transfer.{Transfer}
@@ -14,7 +13,8 @@ use Rattle.endpoint_lives.proofs.Lives.{met_alike}
 use Rattle.run_owners.specs.Owners.{runs_of_endpoint, views_of}
 use Rattle.run_owners.specs.Kept.{HasOwners}
 use Rattle.run_owners.proofs.Released.{other_number, cancel_same}
-use Rattle.chained_transfers.specs.InTurn.{TakesTurns}
+use Rattle.chained_transfers.specs.AsynchronousTurns.{AsynchronousTakesTurns}
+use Rattle.chained_transfers.proofs.BulkAndControl.{not_iso}
 use Rattle.driver_laws.specs.Inventory.{IsQueueIn}
 use Rattle.fed_queues.specs.Places.{IsThere, IsMet}
 use Rattle.fed_lends.proofs.Asked.{set_which}
@@ -162,11 +162,11 @@ module _ (p : DriverParts) (e : ℕ) (x : Endpoint) (leave : IsToLeave p.driver 
 
   -- ---- queue heads
 
-  module _ (owners : HasOwners p.driver) (turns : TakesTurns p.driver) where
+  module _ (owners : HasOwners p.driver) (turns : AsynchronousTakesTurns p.driver) where
     queue_in : (i : ℕ) (z : Endpoint) → slice_get p.driver.endpoints i ≡ Some z → is_iso z.desc.kind ≡ false → z.gone ≡ false → IsQueueIn (views_of p.driver) i (runs_of_endpoint z)
     queue_in i z here queued kept = record { here = ap (option_map runs_of_endpoint) here; queued = ap (λ (b : Bool). b || z.gone) queued ∙ kept }
 
     pub queues_apart : (i : ℕ) (z : Endpoint) → i ≢ e → slice_get p.driver.endpoints i ≡ Some z → z.gone ≡ false → 32 * z.queue ≢ 32 * x.queue
     queues_apart i z differs here kept =
         queues_differ p.driver e i (runs_of_endpoint x) (runs_of_endpoint z) owners (queue_in e x leave.here leave.queued leave.held)
-        (queue_in i z here (ap (λ (k : EpKind). is_iso k) (turns.bulk.endpoints i z here).bulk.kind) kept) differs
+        (queue_in i z here (not_iso z.desc (turns.asynchronous.endpoints i z here).asynchronous) kept) differs

@@ -10,6 +10,7 @@ use Rattle.driver_rows.specs.declared.content.Command.{Command}
 use Rattle.driver_rows.specs.declared.content.Command.TheVariants as unfinished
 use Rattle.driver_rows.specs.declared.content.Endpoint.{Endpoint}
 use Rattle.driver_rows.specs.declared.content.QtdNote.{QtdNote}
+use Rattle.driver_rows.specs.declared.content.Sort.TheVariants as sorts
 use Rattle.driver_rows.specs.declared.content.Transfer.{Transfer}
 use Rattle.driver_rows.specs.DriverContent.{DriverContent}
 use Rattle.driver_rows.specs.Harvests.{note_at}
@@ -18,7 +19,7 @@ use Rattle.run_owners.specs.Owners.{note_in, views_of}
 use Rattle.run_owners.specs.Kept.{HasOwners}
 use Rattle.chained_transfers.specs.Bulk.{receives, MovesAs}
 use Rattle.chained_transfers.specs.Chains.{piece_at}
-use Rattle.chained_transfers.specs.InTurn.{TakesTurns}
+use Rattle.chained_transfers.specs.AsynchronousTurns.{AsynchronousTakesTurns}
 use Rattle.chained_transfers.proofs.Holding.{held_alive}
 use Rattle.lent_structures.specs.Structures.{Structures, StructureSets}
 use Rattle.lent_structures.specs.Sound.{buffer_name}
@@ -29,14 +30,13 @@ use Rattle.driver_laws.specs.Driven.{DrivesRing}
 use Rattle.driver_laws.specs.Extents.{AreInRuns}
 use Rattle.whole_sends.specs.Whole.{AreSentWhole}
 use Rattle.whole_sends.specs.Laws.{IsStopped}
-use Rattle.fed_queues.specs.Fed.{AreFed}
+use Rattle.fed_queues.specs.Fed.{is_request, AreFed}
 use Rattle.endpoint_releases.specs.Released.{without_queue, IsToLeave, endpoint_row}
 use Rattle.endpoint_releases.proofs.Owning.{queue_beside}
 use Rattle.endpoint_releases.proofs.Releasing.{release_drives}
 use Rattle.put_laws.specs.Held.{held_bytes}
 use Rattle.put_laws.specs.HeldPuts.{HoldsPuts}
 use Rattle.put_laws.proofs.HeldAlike.{note_is, SameBytes, was_itself, puts_stay}
-use Rattle.fed_queues.proofs.Sized.{moves_told}
 use Rattle.put_laws.proofs.Stored.{IsStored, pieces_stored, buffer_stays, either_way}
 use Rattle.put_laws.specs.TakenPuts.{puts_from, puts_of}
 use Rattle.put_laws.specs.Owed.{rest_from, rest_of, Owes}
@@ -51,21 +51,21 @@ no_publish b words is = cc
 
 -- ---- the buffers of puts
 
-module _ (base : Base) (member : ℕ → Bool) (parts : StructureSets) (hand : Hand) (w : Walk) (p : DriverParts) (e : ℕ) (x : Endpoint) (drives : DrivesRing base member parts hand (place w p.registers p.memory) p.driver) (owners : HasOwners p.driver) (stands : Stands (holding p.driver.book p.memory)) (lies : AreInRuns (views_of p.driver) parts) (turns : TakesTurns p.driver) (fed : AreFed p.driver parts) (idle : p.driver.command ≡ None) (leave : IsToLeave p.driver e x) (off : member (32 * x.queue) ≡ false) where
+module _ (base : Base) (member : ℕ → Bool) (parts : StructureSets) (hand : Hand) (w : Walk) (p : DriverParts) (e : ℕ) (x : Endpoint) (drives : DrivesRing base member parts hand (place w p.registers p.memory) p.driver) (owners : HasOwners p.driver) (stands : Stands (holding p.driver.book p.memory)) (lies : AreInRuns (views_of p.driver) parts) (turns : AsynchronousTakesTurns p.driver) (fed : AreFed p.driver parts) (idle : p.driver.command ≡ None) (leave : IsToLeave p.driver e x) (off : member (32 * x.queue) ≡ false) where
   after : DrivesRing base member (without_queue parts (32 * x.queue)) hand (place w (after_driver_row (endpoint_row e) p).registers (after_driver_row (endpoint_row e) p).memory) (after_driver_row (endpoint_row e) p).driver
   after = (release_drives base member parts hand w p e x drives owners stands lies leave off).0
 
-  bytes_stay : (u i : ℕ) (z : Transfer) → slice_get p.driver.transfers u ≡ Some z → z.released ≡ false → z.endpoint ≢ e → i < z.qtds
+  bytes_stay : (u i : ℕ) (z : Transfer) → slice_get p.driver.transfers u ≡ Some z → z.sort ≡ sorts.Put → z.released ≡ false → z.endpoint ≢ e → i < z.qtds
       → SameBytes p.memory (after_driver_row (endpoint_row e) p).memory (note_at p.driver.notes (piece_at (note_in p.driver.notes) z.first i))
-  bytes_stay u i z there held differs below =
-      let moves : MovesAs p.driver z = turns.bulk.moves u z there in
+  bytes_stay u i z there put held differs below =
+      let moves : MovesAs p.driver z = turns.asynchronous.moves u z there in
       let y : Endpoint = moves.endpoint in
       let n = 32 * y.queue in
       let note = note_at p.driver.notes (piece_at (note_in p.driver.notes) z.first i) in
       let apart : n ≢ 32 * x.queue = queues_apart p e x leave owners turns z.endpoint y differs moves.here (held_alive p.driver u z y turns.turns there held moves.here) in
       either_way p.memory (after_driver_row (endpoint_row e) p).memory note
       (λ some.
-      let s : IsStored (parts n) note = pieces_stored p.driver parts u i z y (moves_told p.driver z moves) fed there held moves.here (λ newest b words publish. absurd (no_publish b words (sym idle ∙ publish))) below some in
+      let s : IsStored (parts n) note = pieces_stored p.driver parts u i z y (ap is_request put) fed there held moves.here (λ newest b words publish. absurd (no_publish b words (sym idle ∙ publish))) below some in
       buffer_stays p.memory (after_driver_row (endpoint_row e) p).memory parts (without_queue parts (32 * x.queue)) n note drives.ring.tells after.ring.tells s
       (ap (λ (part : Structures). part (buffer_name s.qtd)) (queue_beside parts (32 * x.queue) n apart) ∙ s.here))
 
@@ -79,7 +79,7 @@ module _ (base : Base) (member : ℕ → Bool) (parts : StructureSets) (hand : H
         notes = λ i below.
             let c = piece_at (note_in p.driver.notes) z.first i in
             note_is (note_at p.driver.notes c) (note_at (after_driver_row (endpoint_row e) p).driver.notes c) (ap (λ (ns : List QtdNote). note_at ns c) (notes_same p e x leave));
-        bytes = λ i below. bytes_stay u i z was.1 still was.0 below;
+        bytes = λ i below. bytes_stay u i z was.1 put still was.0 below;
       }) k
 
 pub release_holds : EndpointReleaseHoldsPuts
@@ -87,7 +87,7 @@ release_holds base member parts hand w p e x puts drives owners stands lies turn
 
 -- ---- what is owed
 
-module _ (p : DriverParts) (e : ℕ) (x : Endpoint) (puts reported told : ℕ → List ℕ) (turns : TakesTurns p.driver) (leave : IsToLeave p.driver e x) (tells : (i : ℕ) (z : Endpoint) → i ≢ e → slice_get p.driver.endpoints i ≡ Some z → z.gone ≡ false → told (32 * z.queue) ≡ reported (32 * z.queue)) (held : HoldsPuts p.driver p.memory puts) (still : HoldsPuts (after_driver_row (endpoint_row e) p).driver (after_driver_row (endpoint_row e) p).memory puts) (owes : Owes p.driver p.memory puts reported) where
+module _ (p : DriverParts) (e : ℕ) (x : Endpoint) (puts reported told : ℕ → List ℕ) (turns : AsynchronousTakesTurns p.driver) (leave : IsToLeave p.driver e x) (tells : (i : ℕ) (z : Endpoint) → i ≢ e → slice_get p.driver.endpoints i ≡ Some z → z.gone ≡ false → receives z.desc.name.way ≡ false → told (32 * z.queue) ≡ reported (32 * z.queue)) (held : HoldsPuts p.driver p.memory puts) (still : HoldsPuts (after_driver_row (endpoint_row e) p).driver (after_driver_row (endpoint_row e) p).memory puts) (owes : Owes p.driver p.memory puts reported) where
   abbrev d : DriverContent
   d = p.driver
 
@@ -118,11 +118,11 @@ module _ (p : DriverParts) (e : ℕ) (x : Endpoint) (puts reported told : ℕ �
   owes_still = record {
     going = λ i z here is sends goes.
         let was = other_end p e x leave i z here is.kept in
-        ap (λ (bs : List ℕ). bs ++ rest_of f later i) (tells i z was.0 was.1 is.kept) ∙ ap (λ (bs : List ℕ). reported (32 * z.queue) ++ bs) (rest_stays i z was.0 was.1 is.kept sends)
+        ap (λ (bs : List ℕ). bs ++ rest_of f later i) (tells i z was.0 was.1 is.kept sends) ∙ ap (λ (bs : List ℕ). reported (32 * z.queue) ++ bs) (rest_stays i z was.0 was.1 is.kept sends)
         ∙ owes.going i z was.1 (there_before p e x leave z is) sends goes ∙ sym (puts_same i);
     over = λ i z cause here is sends ends.
         let was = other_end p e x leave i z here is.kept in
-        subst (λ (bs : List ℕ). IsPrefix bs (concat (puts_of f puts i))) (sym (tells i z was.0 was.1 is.kept))
+        subst (λ (bs : List ℕ). IsPrefix bs (concat (puts_of f puts i))) (sym (tells i z was.0 was.1 is.kept sends))
         (prefix_to (reported (32 * z.queue)) (concat (puts_of d puts i)) (concat (puts_of f puts i)) (sym (puts_same i)) (owes.over i z cause was.1 (there_before p e x leave z is) sends ends));
     opening = λ i t z y here alive is there.
         let was = other_end p e x leave i z here alive in

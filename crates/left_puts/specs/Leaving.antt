@@ -10,7 +10,7 @@ use Rattle.std.specs.Prelude.{◌≡◌, ℕ, ◌*◌, false, List, slice_get, O
 use Rattle.word_mem.specs.Memory.{Mem, word_at}
 use Rattle.driver_rows.specs.declared.content.Endpoint.{Endpoint}
 use Rattle.driver_rows.specs.DriverContent.{DriverContent}
-use Rattle.chained_transfers.specs.InTurn.{TakesTurns}
+use Rattle.chained_transfers.specs.AsynchronousTurns.{AsynchronousTakesTurns}
 use Rattle.lent_structures.specs.Structures.{StructureSets}
 use Rattle.ring_laws.specs.Hand.{Hand}
 use Rattle.ring_laws.specs.Sparing.{SparesHead}
@@ -25,7 +25,7 @@ abbrev pub LeaveHoldsPuts : Type 0
 LeaveHoldsPuts = (d f : DriverContent) (m new : Mem) (puts : ℕ → List ℕ) → IsAsBefore d f → ((at : ℕ) → word_at new at ≡ word_at m at) → HoldsPuts d m puts → HoldsPuts f new puts
 
 abbrev pub LeaveOwes : Type 0
-LeaveOwes = (d f : DriverContent) (m new : Mem) (puts reported : ℕ → List ℕ) → TakesTurns d → IsAsBefore d f → HoldsPuts d m puts → HoldsPuts f new puts
+LeaveOwes = (d f : DriverContent) (m new : Mem) (puts reported : ℕ → List ℕ) → AsynchronousTakesTurns d → IsAsBefore d f → HoldsPuts d m puts → HoldsPuts f new puts
     → Owes d m puts reported → Owes f new puts reported
 
 abbrev pub LeaveSends : Type 0

@@ -12,7 +12,8 @@ use Rattle.driver_rows.specs.declared.content.Endpoint.{Endpoint}
 use Rattle.driver_rows.specs.Rows.{Parts as DriverParts, after_driver_row}
 use Rattle.run_owners.specs.Owners.{views_of}
 use Rattle.run_owners.specs.Kept.{HasOwners}
-use Rattle.chained_transfers.specs.InTurn.{TakesTurns}
+use Rattle.chained_transfers.specs.Bulk.{receives}
+use Rattle.chained_transfers.specs.AsynchronousTurns.{AsynchronousTakesTurns}
 use Rattle.lent_structures.specs.Structures.{StructureSets}
 use Rattle.ring_laws.specs.Hand.{Hand}
 use Rattle.ring_laws.specs.Ring.{Base}
@@ -30,23 +31,23 @@ use Rattle.put_laws.specs.OwedTaken.{TakenBegin, EndedAreStopped}
 abbrev pub EndpointReleaseHoldsPuts : Type 0
 EndpointReleaseHoldsPuts = (base : Base) (member : ℕ → Bool) (parts : StructureSets) (hand : Hand) (w : Walk) (p : DriverParts) (e : ℕ) (x : Endpoint) (puts : ℕ → List ℕ)
     → DrivesRing base member parts hand (place w p.registers p.memory) p.driver → HasOwners p.driver → Stands (holding p.driver.book p.memory)
-    → AreInRuns (views_of p.driver) parts → TakesTurns p.driver → AreFed p.driver parts → p.driver.command ≡ None → IsToLeave p.driver e x → member (32 * x.queue) ≡ false
+    → AreInRuns (views_of p.driver) parts → AsynchronousTakesTurns p.driver → AreFed p.driver parts → p.driver.command ≡ None → IsToLeave p.driver e x → member (32 * x.queue) ≡ false
     → HoldsPuts p.driver p.memory puts → HoldsPuts (after_driver_row (endpoint_row e) p).driver (after_driver_row (endpoint_row e) p).memory puts
 
--- the report tells the same of the others
+-- the report tells the same of the other OUT endpoints
 abbrev pub EndpointReleaseOwes : Type 0
-EndpointReleaseOwes = (p : DriverParts) (e : ℕ) (x : Endpoint) (puts reported told : ℕ → List ℕ) → TakesTurns p.driver → IsToLeave p.driver e x
-    → ((i : ℕ) (z : Endpoint) → i ≢ e → slice_get p.driver.endpoints i ≡ Some z → z.gone ≡ false → told (32 * z.queue) ≡ reported (32 * z.queue))
+EndpointReleaseOwes = (p : DriverParts) (e : ℕ) (x : Endpoint) (puts reported told : ℕ → List ℕ) → AsynchronousTakesTurns p.driver → IsToLeave p.driver e x
+    → ((i : ℕ) (z : Endpoint) → i ≢ e → slice_get p.driver.endpoints i ≡ Some z → z.gone ≡ false → receives z.desc.name.way ≡ false → told (32 * z.queue) ≡ reported (32 * z.queue))
     → HoldsPuts p.driver p.memory puts → HoldsPuts (after_driver_row (endpoint_row e) p).driver (after_driver_row (endpoint_row e) p).memory puts
     → Owes p.driver p.memory puts reported → Owes (after_driver_row (endpoint_row e) p).driver (after_driver_row (endpoint_row e) p).memory puts told
 
 abbrev pub EndpointReleaseSends : Type 0
-EndpointReleaseSends = (p : DriverParts) (e : ℕ) (x : Endpoint) (hand : Hand) (parts : StructureSets) (order : ℕ → ℕ → ℕ) (out : ℕ → List ℕ) → HasOwners p.driver → TakesTurns p.driver
+EndpointReleaseSends = (p : DriverParts) (e : ℕ) (x : Endpoint) (hand : Hand) (parts : StructureSets) (order : ℕ → ℕ → ℕ) (out : ℕ → List ℕ) → HasOwners p.driver → AsynchronousTakesTurns p.driver
     → IsToLeave p.driver e x → SentStand p.driver order out hand parts
     → SentStand (after_driver_row (endpoint_row e) p).driver order out hand (without_queue parts (32 * x.queue))
 
 abbrev pub EndpointReleaseStops : Type 0
-EndpointReleaseStops = (p : DriverParts) (e : ℕ) (x : Endpoint) (parts : StructureSets) → HasOwners p.driver → TakesTurns p.driver → IsToLeave p.driver e x
+EndpointReleaseStops = (p : DriverParts) (e : ℕ) (x : Endpoint) (parts : StructureSets) → HasOwners p.driver → AsynchronousTakesTurns p.driver → IsToLeave p.driver e x
     → EndedAreStopped p.driver parts → EndedAreStopped (after_driver_row (endpoint_row e) p).driver (without_queue parts (32 * x.queue))
 
 abbrev pub EndpointReleaseKeepsTaken : {W : Type 0} → (W → ℕ → ℕ → Option Taker) → Type 0

@@ -10,7 +10,7 @@ use Rattle.endpoint_lives.specs.Lives.{any_at}
 use Rattle.endpoint_lives.proofs.Lives.{any_there, there_any}
 use Rattle.run_owners.specs.Kept.{HasOwners}
 use Rattle.ring_laws.specs.Told.{Endpoint as Told}
-use Rattle.chained_transfers.specs.InTurn.{TakesTurns}
+use Rattle.chained_transfers.specs.AsynchronousTurns.{AsynchronousTakesTurns}
 use Rattle.fed_queues.specs.Places.{IsMet, HasHead, AreMet, HaveStreams}
 use Rattle.reached_rings.specs.Reaching.{may_reach, is_reached}
 use Rattle.leaving_drivers.specs.Before.{IsAsBefore, NearFewer}
@@ -24,7 +24,7 @@ and_true : (b : Bool) → b && true ≡ b
 and_true true = refl
 and_true false = refl
 
-module _ (p : Parts) (rings : Bool) (idle : p.driver.command ≡ None) (owners : HasOwners p.driver) (turns : TakesTurns p.driver) (narrow : ℕ → Bool) (are : (n : ℕ) → narrow n ≡ is_reached (after_driver_row rows.ClearAdvance p).driver rings n) where
+module _ (p : Parts) (rings : Bool) (idle : p.driver.command ≡ None) (owners : HasOwners p.driver) (turns : AsynchronousTakesTurns p.driver) (narrow : ℕ → Bool) (are : (n : ℕ) → narrow n ≡ is_reached (after_driver_row rows.ClearAdvance p).driver rings n) where
   abbrev d : DriverContent
   d = p.driver
 

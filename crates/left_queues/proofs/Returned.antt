@@ -23,7 +23,7 @@ use Rattle.ring_laws.specs.Told.{Endpoint as Told}
 use Rattle.chained_transfers.specs.Chains.{piece_at}
 use Rattle.chained_transfers.specs.Turns.{turn_of}
 use Rattle.chained_transfers.specs.Out.{pieces_from, passed, out_of_transfer, if_last, out_of, out_now}
-use Rattle.chained_transfers.specs.InTurn.{TakesTurns}
+use Rattle.chained_transfers.specs.AsynchronousTurns.{AsynchronousTakesTurns}
 use Rattle.fed_queues.specs.Fed.{IsPieceFed, AreFed, sized}
 use Rattle.fed_queues.specs.Places.{IsMet, HasHead, AreMet, HaveStreams, IsLast, AreLast, AreStillOut}
 use Rattle.released_queues.specs.Fronts.{StandsAt, FrontsStand}
@@ -132,7 +132,7 @@ nothing_at (h ∷ hs) i t none at = cc
 
 -- ---- the others
 
-module _ (d f : DriverContent) (e : ℕ) (x : Endpoint) (parts : StructureSets) (g : IsGivenBack d f e x) (idle : d.command ≡ None) (owners : HasOwners d) (turns : TakesTurns d) (here : slice_get d.endpoints e ≡ Some x) (c : IsCleared d e x) (none : slice_get d.harvested 0 ≡ None) where
+module _ (d f : DriverContent) (e : ℕ) (x : Endpoint) (parts : StructureSets) (g : IsGivenBack d f e x) (idle : d.command ≡ None) (owners : HasOwners d) (turns : AsynchronousTakesTurns d) (here : slice_get d.endpoints e ≡ Some x) (c : IsCleared d e x) (none : slice_get d.harvested 0 ≡ None) where
   abbrev now : StructureSets
   now = without_queue parts (32 * x.queue)
 

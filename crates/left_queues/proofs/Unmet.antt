@@ -12,9 +12,10 @@ use Rattle.endpoint_lives.proofs.Lives.{past_unmet, IsNear, in_ring, has_left, i
 use Rattle.run_owners.specs.Leaving.{times, leaves_ring, IsOrderly}
 use Rattle.run_owners.specs.Kept.{HasOwners}
 use Rattle.run_owners.proofs.Orders.{one_same, IsLeft, has_left as was_left, out_of_ring}
-use Rattle.chained_transfers.specs.Bulk.{IsStanding}
-use Rattle.chained_transfers.specs.InTurn.{TakesTurns}
-use Rattle.chained_transfers.proofs.Staying.{linked_alive}
+use Rattle.chained_transfers.specs.Asynchronous.{StandsAsynchronous}
+use Rattle.chained_transfers.specs.AsynchronousTurns.{AsynchronousTakesTurns}
+use Rattle.chained_transfers.proofs.BulkAndControl.{not_iso}
+use Rattle.chained_transfers.proofs.Staying.{linked_stands_alive}
 use Rattle.ring_members.proofs.Placed.{has_queue, queue_off_head, queues_apart}
 use Rattle.standing_fronts.proofs.Lists.{times_some}
 use Rattle.fed_queues.specs.Places.{HasHead}
@@ -43,22 +44,19 @@ same_block a b is = omega (arith, is)
 
 -- ---- endpoints with a queue
 
-pub bulk_queued : (x : Endpoint) → IsStanding x → is_iso x.desc.kind ≡ false
-bulk_queued x s = ap is_iso s.bulk.kind
-
-pub bulk_bare : (x : Endpoint) → IsStanding x → x.gone ≡ false → is_iso x.desc.kind || x.gone ≡ false
-bulk_bare x s kept = has_queue x (bulk_queued x s) kept
+queued : (x : Endpoint) → StandsAsynchronous x → x.gone ≡ false → is_iso x.desc.kind || x.gone ≡ false
+queued x s kept = has_queue x (not_iso x.desc s.asynchronous) kept
 
 -- where two that weren't given back have their queue heads at one place, they are one
-pub apart_by : (d : DriverContent) (e f : ℕ) (x y : Endpoint) → HasOwners d → TakesTurns d → slice_get d.endpoints e ≡ Some x → x.gone ≡ false → slice_get d.endpoints f ≡ Some y → y.gone ≡ false → e ≢ f
+pub apart_by : (d : DriverContent) (e f : ℕ) (x y : Endpoint) → HasOwners d → AsynchronousTakesTurns d → slice_get d.endpoints e ≡ Some x → x.gone ≡ false → slice_get d.endpoints f ≡ Some y → y.gone ≡ false → e ≢ f
     → 32 * x.queue ≢ 32 * y.queue
 apart_by d e f x y owners turns here kept there also differ same =
-    queues_apart d e f x y owners here (bulk_bare x (turns.bulk.endpoints e x here) kept) there (bulk_bare y (turns.bulk.endpoints f y there) also) differ (same_block x.queue y.queue same)
+    queues_apart d e f x y owners here (queued x (turns.asynchronous.endpoints e x here) kept) there (queued y (turns.asynchronous.endpoints f y there) also) differ (same_block x.queue y.queue same)
 
 -- .. and none of them is the head of the ring
-pub off_head_by : (d : DriverContent) (e : ℕ) (x : Endpoint) → HasOwners d → TakesTurns d → slice_get d.endpoints e ≡ Some x → x.gone ≡ false → 32 * x.queue ≢ 32 * head_block
+pub off_head_by : (d : DriverContent) (e : ℕ) (x : Endpoint) → HasOwners d → AsynchronousTakesTurns d → slice_get d.endpoints e ≡ Some x → x.gone ≡ false → 32 * x.queue ≢ 32 * head_block
 off_head_by d e x owners turns here kept same =
-    queue_off_head d e x owners here (bulk_bare x (turns.bulk.endpoints e x here) kept) (same_block x.queue head_block same)
+    queue_off_head d e x owners here (queued x (turns.asynchronous.endpoints e x here) kept) (same_block x.queue head_block same)
 
 -- ---- one that has left
 
@@ -69,11 +67,11 @@ left_kept d e x here order some =
     let l : IsLeft d.endpoints e = was_left d.endpoints e (slice_get d.endpoints e) refl (omega (arith, some, most)) in
     ap (λ (z : Endpoint). z.gone) (same_Some x l.endpoint (sym here ∙ l.here)) ∙ l.gone
 
-pub near_kept : (d : DriverContent) (e : ℕ) (x : Endpoint) → HasOwners d → TakesTurns d → slice_get d.endpoints e ≡ Some x → may_meet d e x ≡ true → x.gone ≡ false
+pub near_kept : (d : DriverContent) (e : ℕ) (x : Endpoint) → HasOwners d → AsynchronousTakesTurns d → slice_get d.endpoints e ≡ Some x → may_meet d e x ≡ true → x.gone ≡ false
 near_kept d e x owners turns here near = by (met_where d e x near)
   where
     by : IsNear d e x → x.gone ≡ false
-    by (in_ring on) = linked_alive x (turns.bulk.endpoints e x here) on
+    by (in_ring on) = linked_stands_alive x (turns.asynchronous.endpoints e x here) on
     by (has_left on) = let some = times_one e d.waiting on in left_kept d e x here owners.orderly (omega (arith, some))
     by (is_rung on) = let some = times_one e d.rung on in left_kept d e x here owners.orderly (omega (arith, some))
 
@@ -103,7 +101,7 @@ near_other d e x here off k z there near own =
     let is : z ≡ x = same_Some z x (sym there ∙ ap (slice_get d.endpoints) own ∙ here) in
     false≢true (sym off ∙ ap (may_meet d e) (sym is) ∙ ap (λ (i : ℕ). may_meet d i z) (sym own) ∙ near)
 
-pub no_head : (d : DriverContent) (e : ℕ) (x : Endpoint) → HasOwners d → TakesTurns d → slice_get d.endpoints e ≡ Some x → IsCleared d e x → HasHead d (32 * x.queue) → ⊥
+pub no_head : (d : DriverContent) (e : ℕ) (x : Endpoint) → HasOwners d → AsynchronousTakesTurns d → slice_get d.endpoints e ≡ Some x → IsCleared d e x → HasHead d (32 * x.queue) → ⊥
 no_head d e x owners turns here c h =
     apart_by d h.number e h.endpoint x owners turns h.here h.met.there.kept here c.kept (near_other d e x here c.near h.number h.endpoint h.here h.met.near) (sym h.at)
 

@@ -10,7 +10,7 @@ use Rattle.driver_rows.specs.declared.rows.DriverRow.TheVariants as rows
 use Rattle.driver_rows.specs.DriverContent.{DriverContent}
 use Rattle.driver_rows.specs.Rows.{Parts, after_driver_row}
 use Rattle.run_owners.specs.Kept.{HasOwners}
-use Rattle.chained_transfers.specs.InTurn.{TakesTurns}
+use Rattle.chained_transfers.specs.AsynchronousTurns.{AsynchronousTakesTurns}
 use Rattle.lent_structures.specs.Structures.{StructureSets}
 use Rattle.ring_laws.specs.Told.{Endpoint as Told}
 use Rattle.fed_queues.specs.Places.{IsMet, HasHead, AreMet}
@@ -45,22 +45,22 @@ met_streams streams narrow n = streams n && narrow n
 -- none is rung any more, so it is the same whether the doorbell is answered
 abbrev pub ClearStands : Type 0
 ClearStands = (p : Parts) (member narrow streams : ℕ → Bool) (ends : ℕ → Told) (parts : StructureSets) (order : ℕ → ℕ → ℕ) (out : ℕ → List ℕ) (rings : Bool)
-    → p.driver.command ≡ None → HasOwners p.driver → TakesTurns p.driver → ((n : ℕ) → narrow n ≡ is_reached (after_driver_row rows.ClearAdvance p).driver rings n)
+    → p.driver.command ≡ None → HasOwners p.driver → AsynchronousTakesTurns p.driver → ((n : ℕ) → narrow n ≡ is_reached (after_driver_row rows.ClearAdvance p).driver rings n)
     → AllStand p.driver member streams ends parts order out
     → AllStand (after_driver_row rows.ClearAdvance p).driver narrow (met_streams streams narrow) ends parts order out
 
 -- the walk doesn't meet an endpoint any more that is to be given back
 abbrev pub ClearedUnmet : Type 0
-ClearedUnmet = (d : DriverContent) (member : ℕ → Bool) (i e : ℕ) (x : Endpoint) → HasOwners d → TakesTurns d → AreMet d member
+ClearedUnmet = (d : DriverContent) (member : ℕ → Bool) (i e : ℕ) (x : Endpoint) → HasOwners d → AsynchronousTakesTurns d → AreMet d member
     → slice_get d.cleared i ≡ Some e → slice_get d.endpoints e ≡ Some x → member (32 * x.queue) ≡ false
 
 -- .. so none that is met has its queue head there, with a stream or without
 abbrev pub ClearedIsNoHead : Type 0
-ClearedIsNoHead = (d : DriverContent) (i e : ℕ) (x : Endpoint) → HasOwners d → TakesTurns d
+ClearedIsNoHead = (d : DriverContent) (i e : ℕ) (x : Endpoint) → HasOwners d → AsynchronousTakesTurns d
     → slice_get d.cleared i ≡ Some e → slice_get d.endpoints e ≡ Some x → HasHead d (32 * x.queue) → ⊥
 
 -- nothing is told of its queue any more, and all of each other one
 abbrev pub EndpointReleaseStands : Type 0
 EndpointReleaseStands = (p : Parts) (e : ℕ) (x : Endpoint) (member streams : ℕ → Bool) (ends : ℕ → Told) (parts : StructureSets) (order : ℕ → ℕ → ℕ) (out : ℕ → List ℕ)
-    → p.driver.command ≡ None → HasOwners p.driver → TakesTurns p.driver → IsToLeave p.driver e x → AllStand p.driver member streams ends parts order out
+    → p.driver.command ≡ None → HasOwners p.driver → AsynchronousTakesTurns p.driver → IsToLeave p.driver e x → AllStand p.driver member streams ends parts order out
     → AllStand (after_driver_row (endpoint_row e) p).driver member streams ends (without_queue parts (32 * x.queue)) order out

@@ -1,8 +1,9 @@
 -- What is told of each queue where an endpoint leaves the ring.
-use Rattle.std.proofs.Common.{◌≡◌, ◌≢◌, ℕ, ◌*◌, ◌≤◌, List, slice_get, Option, Some, None, option_map, ap, sym, subst, ◌∙◌, refl}
+use Rattle.std.proofs.Common.{◌≡◌, ◌≢◌, ℕ, ◌*◌, ◌≤◌, true, List, slice_get, Option, Some, None, option_map, ap, sym, subst, ◌∙◌, refl}
 use Rattle.usb_base.specs.declared.reports.Report.{Report}
 use Rattle.lent_structures.specs.Structures.{StructureSets}
 use Rattle.ring_laws.specs.Hand.{Hand}
+use Rattle.report_streams.specs.Streams.{has_stream}
 use Rattle.driver_rows.specs.declared.content.Endpoint.{Endpoint}
 use Rattle.driver_rows.specs.declared.content.Transfer.{Transfer}
 use Rattle.driver_rows.specs.declared.content.QtdNote.{QtdNote}
@@ -27,14 +28,17 @@ not_open (Some unfinished.Chain) q may is = may
 not_open (Some (unfinished.Iso e t count)) q may is = may
 not_open (Some (unfinished.Unchain e)) q may is = may
 
+same_stream : (x z : Endpoint) → x.desc ≡ z.desc → has_stream x.desc.kind ≡ true → has_stream z.desc.kind ≡ true
+same_stream x z same on = ap (λ d. has_stream d.kind) (sym same) ∙ on
+
 before_holds : (d f : DriverContent) (hand : Hand) (parts : StructureSets) (held : ℕ → List ℕ) → IsAsBefore d f → HoldsEach d hand parts held → HoldsEach f hand parts held
 before_holds d f hand parts held b k = record {
-  next = λ e t z y is.
+  next = λ e t z y is on.
       let w : WasSame d e z = b.ends e z is.endpoint in
       subst (λ (q : ℕ). IsUnderWay hand parts (32 * q) (note_at f.notes) y (held e)) (sym w.queue)
       (subst (λ (ns : List QtdNote). IsUnderWay hand parts (32 * w.endpoint.queue) (note_at ns) y (held e)) (sym b.notes)
-      (k.next e t w.endpoint y (record { endpoint = w.here; going = sym w.ends ∙ is.going; next = sym w.next ∙ is.next; transfer = ap (λ (ts : List Transfer). slice_get ts t) (sym b.transfers) ∙ is.transfer })));
-  none = λ e z here last. let w : WasSame d e z = b.ends e z here in k.none e w.endpoint w.here (sym w.next ∙ last);
+      (k.next e t w.endpoint y (record { endpoint = w.here; going = sym w.ends ∙ is.going; next = sym w.next ∙ is.next; transfer = ap (λ (ts : List Transfer). slice_get ts t) (sym b.transfers) ∙ is.transfer }) (same_stream z w.endpoint w.desc on)));
+  none = λ e z here last on. let w : WasSame d e z = b.ends e z here in k.none e w.endpoint w.here (sym w.next ∙ last) (same_stream z w.endpoint w.desc on);
   to_come = λ t y here waits kept other.
       subst (λ (ns : List QtdNote). IsToCome (note_at ns) y) (sym b.notes)
       (k.to_come t y (ap (λ (ts : List Transfer). slice_get ts t) (sym b.transfers) ∙ here) waits kept
@@ -44,7 +48,7 @@ before_holds d f hand parts held b k = record {
 }
 
 same_named : (x z : Endpoint) → z.desc ≡ x.desc → told_end z ≡ told_end x → named_of z ≡ named_of x
-same_named x z desc ends = ap (λ n. record { name = n; ended = told_end z }) (ap (λ d. d.name) desc) ∙ ap (λ c. record { name = x.desc.name; ended = c }) ends
+same_named x z desc ends = ap (λ d. record { name = d.name; stream = has_stream d.kind; ended = told_end z }) desc ∙ ap (λ c. record { name = x.desc.name; stream = has_stream x.desc.kind; ended = c }) ends
 
 before_names : (d f : DriverContent) → IsAsBefore d f → (e : ℕ) → named_in f.endpoints e ≡ named_in d.endpoints e
 before_names d f b e = by (slice_get f.endpoints e) (slice_get d.endpoints e) refl refl

@@ -11,26 +11,28 @@ use Rattle.lent_structures.specs.Structures.{StructureSets}
 use Rattle.ring_laws.specs.Hand.{Hand}
 use Rattle.ring_laws.specs.Ring.{Base}
 use Rattle.run_book.specs.Book.{Book, holding}
+use Rattle.report_streams.specs.Streams.{has_stream}
 use Rattle.driver_rows.specs.declared.content.Endpoint.{Endpoint}
 use Rattle.driver_rows.specs.declared.content.Transfer.{Transfer}
 use Rattle.driver_rows.specs.declared.content.QtdNote.{QtdNote}
 use Rattle.driver_rows.specs.declared.content.Command.TheVariants as unfinished
 use Rattle.driver_rows.specs.DriverContent.{DriverContent}
 use Rattle.driver_rows.specs.Harvests.{note_at, reported as with_line}
-use Rattle.driver_rows.specs.Rows.{Parts, is_iso, is_told, cancelled_bytes, let_go, gone_with, free_endpoint, after_endpoint, after_driver_row}
+use Rattle.driver_rows.specs.Rows.{Parts, is_told, cancelled_bytes, let_go, gone_with, free_endpoint, after_endpoint, after_driver_row}
 use Rattle.endpoint_lives.specs.Lives.{told_end}
 use Rattle.endpoint_lives.proofs.Lives.{untold_same, told_gone}
 use Rattle.run_owners.specs.Owners.{runs_of_endpoint, views_of}
 use Rattle.run_owners.specs.Kept.{HasOwners}
 use Rattle.run_owners.proofs.Released.{set_here, set_there, same_number, other_number}
-use Rattle.chained_transfers.specs.Bulk.{OnlyBulk, IsStanding}
+use Rattle.chained_transfers.specs.Asynchronous.{OnlyAsynchronous, StandsAsynchronous}
 use Rattle.chained_transfers.specs.Turns.{AreInTurn}
 use Rattle.chained_transfers.specs.Out.{out_now}
 use Rattle.chained_transfers.proofs.Chained.{gone_from}
-use Rattle.chained_transfers.proofs.Staying.{told_alive}
+use Rattle.chained_transfers.proofs.BulkAndControl.{not_iso}
+use Rattle.chained_transfers.proofs.Staying.{told_stands_alive}
 use Rattle.told_endpoints.specs.Telling.{named_of, named_in, IsToldTo, TellsEach}
 use Rattle.told_endpoints.specs.Steps.{Grows, Clears, NamesAt}
-use Rattle.told_endpoints.proofs.Tellings.{names_kept, line_added}
+use Rattle.told_endpoints.proofs.Tellings.{names_kept, line_added, other_added}
 use Rattle.told_harvests.specs.Held.{told_of}
 use Rattle.told_harvests.proofs.Keeping.{done_spared}
 use Rattle.harvest_laws.specs.Holds.{IsUnderWay, IsToCome, IsNextOf, HoldsEach}
@@ -57,7 +59,7 @@ gone_of x = record x { gone = true }
 record IsGivenBack (d new : DriverContent) (e : ℕ) (x : Endpoint) (cut : Bool) : Type 0 where
   here : slice_get d.endpoints e ≡ Some x
   over : x.ended ≢ None
-  bulk : OnlyBulk d
+  only : OnlyAsynchronous d
   turns : AreInTurn d
   endpoints : new.endpoints ≡ slice_set d.endpoints e (gone_of x)
   transfers : new.transfers ≡ map (let_go e cut) d.transfers
@@ -116,15 +118,15 @@ module _ (d new : DriverContent) (e : ℕ) (x : Endpoint) (cut : Bool) (g : IsGi
       record { next = subst (IsNextOf d i t z) same was; differs = other.0 })
       (which i z is.endpoint)
 
-  gone_holds : (hand : Hand) (parts : StructureSets) (held later : ℕ → List ℕ) → Clears e held later → HoldsEach d hand parts held → HoldsEach new hand parts later
-  gone_holds hand parts held later clears k = record {
-    next = λ i t z y is.
+  gone_holds : (hand : Hand) (parts : StructureSets) (held later : ℕ → List ℕ) → ((i : ℕ) → i ≢ e → later i ≡ held i) → (has_stream x.desc.kind ≡ true → later e ≡ []) → HoldsEach d hand parts held → HoldsEach new hand parts later
+  gone_holds hand parts held later others none_held k = record {
+    next = λ i t z y is on.
         let was = was_next i t z y is in
         subst (λ (ns : List QtdNote). IsUnderWay hand parts (32 * z.queue) (note_at ns) y (later i)) (sym g.notes)
-        (subst (IsUnderWay hand parts (32 * z.queue) (note_at d.notes) y) (sym (clears.beside i was.differs)) (k.next i t z y was.next));
-    none = λ i z here last.
-        ⊎_elim (λ (own : (i ≡ e) × (z ≡ gone_of x)). ap later own.0 ∙ clears.here)
-        (λ (other : (i ≢ e) × (slice_get d.endpoints i ≡ Some z)). clears.beside i other.0 ∙ k.none i z other.1 last) (which i z here);
+        (subst (IsUnderWay hand parts (32 * z.queue) (note_at d.notes) y) (sym (others i was.differs)) (k.next i t z y was.next on));
+    none = λ i z here last on.
+        ⊎_elim (λ (own : (i ≡ e) × (z ≡ gone_of x)). ap later own.0 ∙ none_held (ap (λ (r : Endpoint). has_stream r.desc.kind) (sym own.1) ∙ on))
+        (λ (other : (i ≢ e) × (slice_get d.endpoints i ≡ Some z)). others i other.0 ∙ k.none i z other.1 last on) (which i z here);
     to_come = λ t y here waits kept other.
         let was = kept_before t y here kept in
         subst (λ (ns : List QtdNote). IsToCome (note_at ns) y) (sym g.notes) (k.to_come t y was.1 waits kept (λ z there is. other z (still_here y.endpoint was.0 ∙ there) is));
@@ -134,16 +136,16 @@ module _ (d new : DriverContent) (e : ℕ) (x : Endpoint) (cut : Bool) (g : IsGi
   queue_in : (i : ℕ) (z : Endpoint) → slice_get d.endpoints i ≡ Some z → z.gone ≡ false → IsQueueIn (views_of d) i (runs_of_endpoint z)
   queue_in i z here kept = record {
     here = ap (option_map runs_of_endpoint) here;
-    queued = ap (λ k. is_iso k || z.gone) (g.bulk.endpoints i z here).bulk.kind ∙ kept;
+    queued = ap (λ (k : Bool). k || z.gone) (not_iso z.desc (g.only.endpoints i z here).asynchronous) ∙ kept;
   }
 
   -- nothing of the queue head is told any more
   gone_still : (hand : Hand) (parts : StructureSets) (later : ℕ → List ℕ) → HasOwners d → x.gone ≡ false → HoldsEach new hand parts later → HoldsEach new hand (without_queue parts (32 * x.queue)) later
   gone_still hand parts later owners kept k =
       holds_still new hand hand parts (without_queue parts (32 * x.queue)) later
-      (λ i t z y a n bytes is one done.
+      (λ i t z y a n bytes is on one done.
       let was = was_next i t z y is in
-      let alive : z.gone ≡ false = told_alive z (g.bulk.endpoints i z was.next.endpoint) is.going in
+      let alive : z.gone ≡ false = told_stands_alive z (g.only.endpoints i z was.next.endpoint) is.going in
       let same : without_queue parts (32 * x.queue) (32 * z.queue) ≡ parts (32 * z.queue) = queue_beside parts (32 * x.queue) (32 * z.queue)
       (queues_differ d e i (runs_of_endpoint x) (runs_of_endpoint z) owners (queue_in e x g.here kept) (queue_in i z was.next.endpoint alive) was.differs) in
       done_spared hand hand parts (without_queue parts (32 * x.queue)) (32 * z.queue) a n bytes (same_hand hand) (heads_stay parts (without_queue parts (32 * x.queue)) (32 * z.queue) same)
@@ -158,19 +160,19 @@ module _ (d new : DriverContent) (e : ℕ) (x : Endpoint) (cut : Bool) (g : IsGi
   names_same : is_told x ≡ false → (i : ℕ) → named_in new.endpoints i ≡ named_in d.endpoints i
   names_same untold i =
       ⊎_elim (λ (is : i ≡ e).
-      ap (named_in new.endpoints) is ∙ names_now.here ∙ ap (λ (c : Option EndCause). Some (record { name = x.desc.name; ended = c })) (told_gone (gone_of x) refl ∙ sym (untold_same x untold))
+      ap (named_in new.endpoints) is ∙ names_now.here ∙ ap (λ (c : Option EndCause). Some (record { name = x.desc.name; stream = has_stream x.desc.kind; ended = c })) (told_gone (gone_of x) refl ∙ sym (untold_same x untold))
       ∙ sym (ap (option_map named_of) g.here) ∙ ap (named_in d.endpoints) (sym is))
       (λ (differs : i ≢ e). names_now.beside i differs) (cases_eq i e)
 
   -- ---- all together
 
-  gone_stands : (hand : Hand) (parts : StructureSets) (reported held later told now : ℕ → List ℕ) → HasOwners d → x.gone ≡ false → d.command ≡ None → Clears e held later → ((i : ℕ) → i ≢ e → now i ≡ told i) → HoldsEach d hand parts held
+  gone_stands : (hand : Hand) (parts : StructureSets) (reported held later told now : ℕ → List ℕ) → HasOwners d → x.gone ≡ false → d.command ≡ None → ((i : ℕ) → i ≢ e → later i ≡ held i) → (has_stream x.desc.kind ≡ true → later e ≡ []) → ((i : ℕ) → i ≢ e → now i ≡ told i) → HoldsEach d hand parts held
       → ((i : ℕ) (z : Endpoint) → slice_get d.endpoints i ≡ Some z → IsThere d z → told i ≡ reported (32 * z.queue)) → TellsEach new.reports new.store (named_in new.endpoints) later now
       → ToldStands new hand (without_queue parts (32 * x.queue)) reported
-  gone_stands hand parts reported held later told now owners kept idle clears beside holds met tells = record {
+  gone_stands hand parts reported held later told now owners kept idle others none_held beside holds met tells = record {
     held = later;
     told = now;
-    holds = gone_still hand parts later owners kept (gone_holds hand parts held later clears holds);
+    holds = gone_still hand parts later owners kept (gone_holds hand parts held later others none_held holds);
     tells = tells;
     met = λ i z here there.
         ⊎_elim (λ (own : (i ≡ e) × (z ≡ gone_of x)). absurd (false≢true (sym there.kept ∙ ap (λ (r : Endpoint). r.gone) own.1)))
@@ -183,7 +185,7 @@ module _ (d new : DriverContent) (e : ℕ) (x : Endpoint) (cut : Bool) (g : IsGi
 
 -- ---- the row
 
-module _ (base : Base) (member : ℕ → Bool) (order : ℕ → ℕ) (parts : StructureSets) (hand : Hand) (w : Walk) (p : Parts) (e : ℕ) (x : Endpoint) (acc : List (List ℕ)) (reported : ℕ → List ℕ) (l : IsLeaver base member parts hand w p e x) (r : IsReported order (out_now p.driver e) hand parts (32 * x.queue) acc (reported (32 * x.queue))) (k : ToldStands p.driver hand parts reported) where
+module _ (base : Base) (member : ℕ → Bool) (order : ℕ → ℕ) (parts : StructureSets) (hand : Hand) (w : Walk) (p : Parts) (e : ℕ) (x : Endpoint) (acc : List (List ℕ)) (reported : ℕ → List ℕ) (l : IsLeaver base member parts hand w p e x) (reports_it : has_stream x.desc.kind ≡ true → IsReported order (out_now p.driver e) hand parts (32 * x.queue) acc (reported (32 * x.queue))) (k : ToldStands p.driver hand parts reported) where
   abbrev d : DriverContent
   d = p.driver
 
@@ -199,8 +201,8 @@ module _ (base : Base) (member : ℕ → Bool) (order : ℕ → ℕ) (parts : St
   abbrev Stands : DriverContent → Type 0
   Stands new = ToldStands new hand (without_queue parts (32 * x.queue)) reported × IsToldGone d new e x acc
 
-  is_standing : IsStanding x
-  is_standing = l.turns.bulk.endpoints e x l.leaves.here
+  is_standing : StandsAsynchronous x
+  is_standing = l.turns.asynchronous.endpoints e x l.leaves.here
 
   over : x.ended ≢ None
   over = is_standing.ended (is_standing.unlinked l.unlinked)
@@ -217,26 +219,42 @@ module _ (base : Base) (member : ℕ → Bool) (order : ℕ → ℕ) (parts : St
   abbrev later : ℕ → List ℕ
   later i = if i == e then [] else k.held i
 
-  abbrev now : ℕ → List ℕ
-  now i = if i == e then k.told i ++ r.told else k.told i
-
   abbrev line : Report
   line = record { name = x.desc.name; what = lines.Cancel; from = length d.store; len = length bytes }
 
+  given_back : (book : Book) (b : Bool) → (after b book).endpoints ≡ slice_set d.endpoints e (gone_of x) → (after b book).transfers ≡ map (let_go e b) d.transfers → (after b book).notes ≡ d.notes → (after b book).command ≡ d.command
+      → IsGivenBack d (after b book) e x b
+  given_back book b endpoints transfers notes command = record {
+    here = l.leaves.here;
+    over = over;
+    only = l.turns.asynchronous;
+    turns = l.turns.turns;
+    endpoints = endpoints;
+    transfers = transfers;
+    notes = notes;
+    command = command;
+  }
+
   -- its cancel is told
-  told_stands : (book : Book) → is_told x ≡ true → Stands (after true book)
-  told_stands book told = (
-    gone_stands d (after true book) e x true g hand parts reported k.held later k.told now l.owners l.leaves.held l.idle clears grows.beside k.holds k.met tells,
+  told_stands : (book : Book) → has_stream x.desc.kind ≡ true → is_told x ≡ true → Stands (after true book)
+  told_stands book on told = (
+    gone_stands d (after true book) e x true g hand parts reported k.held later k.told now l.owners l.leaves.held l.idle clears.beside (λ _. clears.here) grows.beside k.holds k.met tells,
     record {
       gone = now_gone d (after true book) e x true g;
-      told = λ _. sym (append-nil (told_to (after true book) x.desc.name)) ∙ ap (λ (xs : List ℕ). told_to (after true book) x.desc.name ++ xs) (sym clears.here) ∙ one.sum ∙ grows.here
+      told = λ _ _. sym (append-nil (told_to (after true book) x.desc.name)) ∙ ap (λ (xs : List ℕ). told_to (after true book) x.desc.name ++ xs) (sym clears.here) ∙ one.sum ∙ grows.here
           ∙ ap (λ (xs : List ℕ). xs ++ r.told) (k.met e x l.leaves.here there) ∙ r.sum;
       before = λ untold. absurd (false≢true (sym untold ∙ told));
     },
   )
     where
       g : IsGivenBack d (after true book) e x true
-      g = record { here = l.leaves.here; over = over; bulk = l.turns.bulk; turns = l.turns.turns; endpoints = refl; transfers = refl; notes = refl; command = refl }
+      g = given_back book true refl refl refl refl
+
+      r : IsReported order (out_now p.driver e) hand parts (32 * x.queue) acc (reported (32 * x.queue))
+      r = reports_it on
+
+      now : ℕ → List ℕ
+      now i = if i == e then k.told i ++ (reports_it on).told else k.told i
 
       clears : Clears e k.held later
       clears = cleared_at e k.held
@@ -249,34 +267,51 @@ module _ (base : Base) (member : ℕ → Bool) (order : ℕ → ℕ) (parts : St
           (record {
             going = goes_untold x told;
             named = refl;
+            alike = refl;
             line_named = refl;
             tells = refl;
             goes_on = λ goes. absurd (no_end d (after true book) e x true g goes);
             from = refl;
             long = refl;
-            bytes_are = cancel_tells order r.place d p.memory parts hand e x (k.held e) r.told (leaver_can_be_told base member parts hand w p e x reported l told k) r.accounts;
+            bytes_are = cancel_tells order r.place d p.memory parts hand e x (k.held e) r.told (leaver_can_be_told base member parts hand w p e x reported l on told k) r.accounts;
           }) clears grows k.tells
 
       one : IsToldTo (after true book).reports (after true book).store (named_of (gone_of x)) (later e) (now e)
-      one = tells.each e (named_of (gone_of x)) (names_now d (after true book) e x true g).here
+      one = tells.each e (named_of (gone_of x)) (names_now d (after true book) e x true g).here on
+
+  -- so is that of one without a stream
+  other_stands : (book : Book) → has_stream x.desc.kind ≡ false → is_told x ≡ true → Stands (after true book)
+  other_stands book silent told = (
+    gone_stands d (after true book) e x true g hand parts reported k.held k.held k.told k.told l.owners l.leaves.held l.idle (λ i differs. refl) (λ on. absurd (false≢true (sym silent ∙ on))) (λ i differs. refl) k.holds k.met
+        (other_added d.reports d.store bytes (named_in d.endpoints) (named_in (after true book).endpoints) k.held k.told e (named_of x) (named_of (gone_of x)) line its_name (names_now d (after true book) e x true g)
+        (record { named = refl; none = silent; line_named = refl; tells = refl; from = refl; long = refl }) k.tells),
+    record { gone = now_gone d (after true book) e x true g; told = λ on _. absurd (false≢true (sym silent ∙ on)); before = λ untold. absurd (false≢true (sym untold ∙ told)) },
+  )
+    where
+      g : IsGivenBack d (after true book) e x true
+      g = given_back book true refl refl refl refl
 
   -- it had ended by an error
   untold_stands : (book : Book) → is_told x ≡ false → Stands (after false book)
   untold_stands book untold = (
-    gone_stands d (after false book) e x false g hand parts reported k.held k.held k.told k.told l.owners l.leaves.held l.idle (record { here = none_held x.ended refl; beside = λ i differs. refl }) (λ i differs. refl) k.holds k.met
+    gone_stands d (after false book) e x false g hand parts reported k.held k.held k.told k.told l.owners l.leaves.held l.idle (λ i differs. refl) (λ on. none_held on x.ended refl) (λ i differs. refl) k.holds k.met
         (names_kept d.reports d.store (named_in d.endpoints) (named_in (after false book).endpoints) k.held k.told (names_same d (after false book) e x false g untold) k.tells),
-    record { gone = now_gone d (after false book) e x false g; told = λ told. absurd (false≢true (sym untold ∙ told)); before = λ _. refl },
+    record { gone = now_gone d (after false book) e x false g; told = λ on told. absurd (false≢true (sym untold ∙ told)); before = λ _. refl },
   )
     where
       g : IsGivenBack d (after false book) e x false
-      g = record { here = l.leaves.here; over = over; bulk = l.turns.bulk; turns = l.turns.turns; endpoints = refl; transfers = refl; notes = refl; command = refl }
+      g = given_back book false refl refl refl refl
 
-      none_held : (o : Option EndCause) → x.ended ≡ o → k.held e ≡ []
-      none_held None is = absurd (over is)
-      none_held (Some c) is = ((k.tells.each e (named_of x) its_name).over c (untold_same x untold ∙ is)).0
+      none_held : has_stream x.desc.kind ≡ true → (o : Option EndCause) → x.ended ≡ o → k.held e ≡ []
+      none_held on None is = absurd (over is)
+      none_held on (Some c) is = ((k.tells.each e (named_of x) its_name on).over c (untold_same x untold ∙ is)).0
 
   gone_by : (book : Book) (b : Bool) → is_told x ≡ b → Stands (after b book)
-  gone_by book true told = told_stands book told
+  gone_by book true told = by_stream (has_stream x.desc.kind) refl
+    where
+      by_stream : (b : Bool) → has_stream x.desc.kind ≡ b → Stands (after true book)
+      by_stream true on = told_stands book on told
+      by_stream false silent = other_stands book silent told
   gone_by book false untold = untold_stands book untold
 
   pub release_is_told : Stands (after_driver_row (endpoint_row e) p).driver

@@ -7,7 +7,11 @@ use Rattle.lent_structures.specs.Structures.{Structures, StructureSets}
 use Rattle.ring_laws.specs.Hand.{Hand, Empty, Copied, Settled, Stale}
 use Rattle.ring_laws.specs.Ring.{Base, IsInHand}
 use Rattle.ring_laws.specs.Order.{IsAmong}
+use Rattle.usb_base.specs.declared.packets.EpKind.{EpKind}
 use Rattle.usb_base.specs.declared.packets.Reply.{Reply}
+use Rattle.usb_base.specs.declared.packets.Way.{Way}
+use Rattle.usb_base.specs.declared.packets.Way.TheVariants as Ways
+use Rattle.report_streams.specs.Streams.{has_stream}
 use Rattle.driver_rows.specs.declared.content.Endpoint.{Endpoint}
 use Rattle.driver_rows.specs.declared.content.Transfer.{Transfer}
 use Rattle.driver_rows.specs.declared.content.QtdNote.{QtdNote}
@@ -20,11 +24,13 @@ use Rattle.run_owners.specs.Owners.{NoteRuns, note_in}
 use Rattle.chained_transfers.specs.Chains.{piece_at}
 use Rattle.chained_transfers.specs.Turns.{Turn, turn_of, turn_in, AreReportedTo, AreInTurn}
 use Rattle.chained_transfers.specs.Out.{unpublished, pieces_from, passed, out_of_transfer}
-use Rattle.chained_transfers.proofs.Holding.{unreleased}
+use Rattle.chained_transfers.specs.Asynchronous.{IsKindOf}
+use Rattle.chained_transfers.specs.Bulk.{MovesAs, IsDataWay}
+use Rattle.chained_transfers.proofs.Holding.{stands_unreleased}
 use Rattle.told_harvests.specs.Held.{IsRead, AreRead}
 use Rattle.harvest_laws.specs.Holds.{IsNextOf}
 use Rattle.fed_queues.specs.Fed.{IsPieceFed, unpublished_of}
-use Rattle.fed_queues.proofs.Sized.{told_piece}
+use Rattle.fed_queues.proofs.Sized.{moves_told, told_fed}
 use Rattle.harvest_laws.specs.Told.{ToldStands}
 use Rattle.cancelled_bytes.specs.Cancelled.{SettlesElsewhere, CanBeTold}
 use Rattle.left_reports.specs.Leaver.{IsLeaver}
@@ -76,12 +82,18 @@ out_held note e y q among = by (y.endpoint == e && not y.released) refl
 
 -- ---- the endpoint
 
+-- a control endpoint has no stream
+data_way : (way : Way) (kind : EpKind) → IsKindOf way kind → has_stream kind ≡ true → IsDataWay way
+data_way Ways.In kind is on = tt
+data_way Ways.Out kind is on = tt
+data_way Ways.Ctl kind is on = absurd (false≢true (sym (ap has_stream is) ∙ on))
+
 pub goes_untold : (x : Endpoint) → is_told x ≡ true → told_end x ≡ None
 goes_untold x told = ap (λ (b : Bool). if b then None else x.ended) told
 
-pub leaver_can_be_told : (base : Base) (member : ℕ → Bool) (parts : StructureSets) (hand : Hand) (w : Walk) (p : Parts) (e : ℕ) (x : Endpoint) (reported : ℕ → List ℕ) → IsLeaver base member parts hand w p e x → is_told x ≡ true
+pub leaver_can_be_told : (base : Base) (member : ℕ → Bool) (parts : StructureSets) (hand : Hand) (w : Walk) (p : Parts) (e : ℕ) (x : Endpoint) (reported : ℕ → List ℕ) → IsLeaver base member parts hand w p e x → has_stream x.desc.kind ≡ true → is_told x ≡ true
     → (k : ToldStands p.driver hand parts reported) → CanBeTold p.driver p.memory parts hand e x (k.held e)
-leaver_can_be_told base member parts hand w p e x reported l told k = record {
+leaver_can_be_told base member parts hand w p e x reported l on told k = record {
   command = l.idle;
   tells = l.ring.tells;
   settled = elsewhere member parts w.reply hand (32 * x.queue) l.unmet l.ring.in_hand;
@@ -94,8 +106,8 @@ leaver_can_be_told base member parts hand w p e x reported l told k = record {
         read = all_read (parts (32 * x.queue)) p.driver.notes y.first y.qtds (λ i below. piece_read t y here own held i below);
         within = k.holds.within t y here held;
       };
-  next = λ t y is here. k.holds.next e t x y (record { endpoint = l.leaves.here; going = goes; next = is; transfer = here });
-  none = λ is. k.holds.none e x l.leaves.here is;
+  next = λ t y is here. k.holds.next e t x y (record { endpoint = l.leaves.here; going = goes; next = is; transfer = here }) on;
+  none = λ is. k.holds.none e x l.leaves.here is on;
   to_come = λ t y here own waits other.
       k.holds.to_come t y here waits (kept t y here own waits) (λ z there is. other (ap (λ (u : Endpoint). u.next) (same_Some x z (sym (its_end y own) ∙ there)) ∙ is));
   passed = λ q z out moved.
@@ -111,11 +123,21 @@ leaver_can_be_told base member parts hand w p e x reported l told k = record {
     its_end y own = ap (slice_get p.driver.endpoints) own ∙ l.leaves.here
 
     kept : (t : ℕ) (y : Transfer) → slice_get p.driver.transfers t ≡ Some y → y.endpoint ≡ e → y.reported ≡ false → y.released ≡ false
-    kept t y here own waits = unreleased p.driver t y x l.turns.bulk l.turns.turns here (its_end y own) goes waits
+    kept t y here own waits = stands_unreleased p.driver t y x (l.turns.asynchronous.endpoints y.endpoint x (its_end y own)) l.turns.turns here (its_end y own) goes waits
+
+    moves : (t : ℕ) (y : Transfer) → slice_get p.driver.transfers t ≡ Some y → MovesAs p.driver y
+    moves t y here = l.turns.asynchronous.moves t y here
+
+    -- it moves the data of its stream
+    moves_data : (t : ℕ) (y : Transfer) (here : slice_get p.driver.transfers t ≡ Some y) → y.endpoint ≡ e → IsDataWay (moves t y here).endpoint.desc.name.way
+    moves_data t y here own =
+        subst (λ (z : Endpoint). IsDataWay z.desc.name.way) (same_Some x (moves t y here).endpoint (sym (its_end y own) ∙ (moves t y here).here))
+        (data_way x.desc.name.way x.desc.kind (l.turns.asynchronous.endpoints e x l.leaves.here).asynchronous.kind on)
 
     piece_read : (t : ℕ) (y : Transfer) → slice_get p.driver.transfers t ≡ Some y → y.endpoint ≡ e → y.released ≡ false → (i : ℕ) → i < y.qtds
         → IsRead (parts (32 * x.queue)) (note_at p.driver.notes (piece_at (note_in p.driver.notes) y.first i)) (piece_at (note_in p.driver.notes) y.first i)
     piece_read t y here own held i below =
         let none = none_unpublished p.driver t y l.idle in
-        let f : IsPieceFed y.sort (parts (32 * x.queue)) (note_at p.driver.notes (piece_at (note_in p.driver.notes) y.first i)) (piece_at (note_in p.driver.notes) y.first i) (piece_at (note_in p.driver.notes) y.first y.qtds) = told_piece p.driver parts l.turns.bulk l.fed t i y x here held (its_end y own) (omega (arith, none)) below in
+        let f : IsPieceFed y.sort (parts (32 * x.queue)) (note_at p.driver.notes (piece_at (note_in p.driver.notes) y.first i)) (piece_at (note_in p.driver.notes) y.first i) (piece_at (note_in p.driver.notes) y.first y.qtds) =
+        told_fed y.sort (parts (32 * x.queue)) i (note_at p.driver.notes (piece_at (note_in p.driver.notes) y.first i)) (piece_at (note_in p.driver.notes) y.first i) (piece_at (note_in p.driver.notes) y.first y.qtds) (moves_told p.driver y (moves t y here) (moves_data t y here own)) (l.fed.pieces t i y x here held (its_end y own) (omega (arith, none)) below) in
         record { qtd = f.qtd; here = f.here; long = f.long; buffer = f.buffer; places = f.places }

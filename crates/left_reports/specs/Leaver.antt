@@ -1,8 +1,9 @@
 -- What a driver's report tells of an endpoint that leaves the ring (EHCI 1.0, 4.8.2 and 4.10; USB 2.0, 8.6).
 --     LeavesAreTold             the steps of its leave, up to the one that gives it back, leave what is told of each queue
 --     IsLeaver ..               endpoint e, which is x, is the next that is given back; no command is unfinished, and the walk doesn't meet its queue head
---     LeaverCanBeTold           then all is known of it that its line needs
---     IsToldGone ..             it was given back, and its lines tell the bytes of these packets, where its cancel is told; else what they told before
+--     LeaverCanBeTold           then all is known of it that its line needs, if it has a stream
+--     IsToldGone ..             it was given back, and the lines of one that has a stream tell the bytes of these packets, where its cancel is told; else they tell
+--                               what they told before
 --     EndpointReleaseIsTold     so it is after the row that gives it back, and of each other queue is told what was told before
 use Rattle.std.specs.Prelude.{◌≡◌, ℕ, ◌*◌, Bool, true, false, List, slice_get, Some, None}
 use Rattle.std.specs.List.{concat}
@@ -11,11 +12,12 @@ use Rattle.async_walk.specs.Rows.{place}
 use Rattle.lent_structures.specs.Structures.{StructureSets}
 use Rattle.ring_laws.specs.Hand.{Hand}
 use Rattle.ring_laws.specs.Ring.{Base, IsRing}
+use Rattle.report_streams.specs.Streams.{has_stream}
 use Rattle.driver_rows.specs.declared.content.Endpoint.{Endpoint}
 use Rattle.driver_rows.specs.DriverContent.{DriverContent}
 use Rattle.driver_rows.specs.Rows.{Parts, is_told, after_driver_row}
 use Rattle.run_owners.specs.Kept.{HasOwners}
-use Rattle.chained_transfers.specs.InTurn.{TakesTurns}
+use Rattle.chained_transfers.specs.AsynchronousTurns.{AsynchronousTakesTurns}
 use Rattle.chained_transfers.specs.Out.{out_now}
 use Rattle.fed_queues.specs.Fed.{AreFed}
 use Rattle.controlled_streams.specs.Reported.{IsReported}
@@ -38,18 +40,18 @@ pub record IsLeaver (base : Base) (member : ℕ → Bool) (parts : StructureSets
   pub unlinked : x.linked ≡ false
   pub unmet : member (32 * x.queue) ≡ false
   pub owners : HasOwners p.driver
-  pub turns : TakesTurns p.driver
+  pub turns : AsynchronousTakesTurns p.driver
   pub fed : AreFed p.driver parts
   pub ring : IsRing base member parts hand (place w p.registers p.memory)
 
 -- what was held back of it is known
 abbrev pub LeaverCanBeTold : Type 0
 LeaverCanBeTold = (base : Base) (member : ℕ → Bool) (parts : StructureSets) (hand : Hand) (w : Walk) (p : Parts) (e : ℕ) (x : Endpoint) (reported : ℕ → List ℕ)
-    → IsLeaver base member parts hand w p e x → is_told x ≡ true → (k : ToldStands p.driver hand parts reported) → CanBeTold p.driver p.memory parts hand e x (k.held e)
+    → IsLeaver base member parts hand w p e x → has_stream x.desc.kind ≡ true → is_told x ≡ true → (k : ToldStands p.driver hand parts reported) → CanBeTold p.driver p.memory parts hand e x (k.held e)
 
 pub record IsToldGone (d new : DriverContent) (e : ℕ) (x : Endpoint) (acc : List (List ℕ)) : Type 0 where
   pub gone : slice_get new.endpoints e ≡ Some (record x { gone = true })
-  pub told : is_told x ≡ true → told_to new x.desc.name ≡ concat acc
+  pub told : has_stream x.desc.kind ≡ true → is_told x ≡ true → told_to new x.desc.name ≡ concat acc
   -- it had ended by an error
   pub before : is_told x ≡ false → told_to new x.desc.name ≡ told_to d x.desc.name
 
@@ -57,7 +59,7 @@ pub record IsToldGone (d new : DriverContent) (e : ℕ) (x : Endpoint) (acc : Li
 abbrev pub EndpointReleaseIsTold : Type 0
 EndpointReleaseIsTold = (base : Base) (member : ℕ → Bool) (order : ℕ → ℕ) (parts : StructureSets) (hand : Hand) (w : Walk) (p : Parts) (e : ℕ) (x : Endpoint) (acc : List (List ℕ))
     (reported : ℕ → List ℕ)
-    → IsLeaver base member parts hand w p e x → IsReported order (out_now p.driver e) hand parts (32 * x.queue) acc (reported (32 * x.queue))
+    → IsLeaver base member parts hand w p e x → (has_stream x.desc.kind ≡ true → IsReported order (out_now p.driver e) hand parts (32 * x.queue) acc (reported (32 * x.queue)))
     → ToldStands p.driver hand parts reported
     → ToldStands (after_driver_row (endpoint_row e) p).driver hand (without_queue parts (32 * x.queue)) reported
     × IsToldGone p.driver (after_driver_row (endpoint_row e) p).driver e x acc

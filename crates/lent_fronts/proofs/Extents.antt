@@ -156,7 +156,7 @@ runs_lent {d = d} {m = m} {b = b} {words = words} {parts = parts} {now = now} l 
     let r = g.awaits in
     record {
       list = λ ws here.
-          let queue = (l.has.owned.each.queue g.transfer.endpoint (runs_of_endpoint g.endpoint) (ap (option_map runs_of_endpoint) g.here) (bare_is d g.transfer.endpoint g.endpoint l.bulk g.here (its_alive d m b words l.bulk g))).owned in
+          let queue = (l.has.owned.each.queue g.transfer.endpoint (runs_of_endpoint g.endpoint) (ap (option_map runs_of_endpoint) g.here) (bare_is d g.transfer.endpoint g.endpoint l.asynchronous g.here (its_alive d m b words l.asynchronous g))).owned in
           let differs : 0 ≢ n = λ same. no_list (sym l.has.owned.each.list.owned ∙ ap l.has.owner (let e : 0 ≡ g.endpoint.queue = omega (arith, same) in e) ∙ queue) in
           old.list ws (ap (λ (part : Structures). part 0) (sym (l.pieces.beside 0 differs)) ∙ here);
       buffers = λ t e c cs y x pages k bs is piece runs here j inside.

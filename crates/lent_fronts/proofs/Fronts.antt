@@ -32,11 +32,11 @@ use Rattle.driver_laws.specs.Pieces.{stage_qtd, IsNewQtd}
 use Rattle.fed_lends.specs.Streams.{second, new_out}
 use Rattle.fed_lends.specs.ToLend.{lent_now}
 use Rattle.fed_lends.proofs.Numbering.{new_from}
-use Rattle.fed_lends.proofs.Reporting.{numbers, old_number, all_there, fresh_new, new_active, some_none}
+use Rattle.fed_lends.proofs.Reporting.{numbers, old_number, fresh_new, new_active, some_none}
 use Rattle.fed_lends.proofs.Names.{older_published}
 use Rattle.fed_lends.proofs.Fed.{y_of, x_of, IsLending, buffers_same}
 use Rattle.fed_lends.proofs.Order.{at_here, at_else, queue_apart}
-use Rattle.fed_lends.proofs.Reports.{IsOrdering, is_there, it_is_met, is_counted, first_last, from_here, least_below, first_below, queue_order, order_lent, out_lent}
+use Rattle.fed_lends.proofs.Reports.{IsOrdering, is_there, it_is_met, first_last, from_here, least_below, first_below, queue_order, order_lent, out_lent, out_stands}
 
 -- one of the new qTDs stands there
 pub record HasNew (notes : List QtdNote) (dummy : ℕ) (ss : List Stage) (b a : ℕ) : Type 0 where
@@ -109,7 +109,6 @@ its_front {d = d} {m = m} {b = b} {words = words} {parts = parts} {now = now} {m
     let from = from_here o least in
     let f = queue_order k from order in
     let new = new_out d (y_of k) k.further in
-    let r = o.reports n (is_counted o) in
     let are = numbers d m k.number (y_of k) (x_of k) k.stage k.further from (order n) k.awaits in
     let first = front_renumbered member (order n) f front (out n) n (parts n) o.sound (λ a t there. old_number d (y_of k) (x_of k) k.stage k.further slot parts now from (order n) a (Element t) p there) has in
     front_spared f front (out n) (out n ++ new) n (parts n) (now n) first
@@ -126,7 +125,7 @@ its_front {d = d} {m = m} {b = b} {words = words} {parts = parts} {now = now} {m
     (λ (fresh : IsNewQtd d.notes k.endpoint.dummy k.further (second d (y_of k)) a t).
     ⊎_elim
     (λ (before : IsAmong a (out n)).
-    let z = all_there hand parts n (out n) r.told a r.accounts.told before in
+    let z = out_stands o a before in
     absurd (some_none (parts n a) (Element z.qtd) (p.none_before a t fresh) z.here))
     (λ (more : IsAmong a new).
     let on = new_active (now n) d.notes k.endpoint.dummy k.further (second d (y_of k)) a t p.standing more here in
@@ -158,7 +157,7 @@ end_stands {d = d} {m = m} {b = b} {words = words} {parts = parts} {order = orde
 -- ---- all queues
 
 pub fronts_stand : {d : DriverContent} {m : Mem} {b : ℕ} {words : List ℕ} {parts now : StructureSets} {member heads : ℕ → Bool} {order : ℕ → ℕ → ℕ} {out : ℕ → List ℕ} {hand : Hand} {acc : ℕ → List (List ℕ)} {reported : ℕ → List ℕ} → (o : IsOrdering d m b words parts now member heads order out hand acc reported) (least : ℕ)
-    → (fronts : FrontsStand d parts order out) → (fronts o.lending.ready.transfer.endpoint o.lending.ready.endpoint o.lending.ready.here (it_is_met d m b words o.lending.bulk o.lending.ready)).front ≤ least
+    → (fronts : FrontsStand d parts order out) → (fronts o.lending.ready.transfer.endpoint o.lending.ready.endpoint o.lending.ready.here (it_is_met d m b words o.lending.asynchronous o.lending.ready)).front ≤ least
     → FrontsStand (lent_now d m) now (order_lent o.lending.ready (from_here o least) order) (out_lent o.lending.ready out)
 fronts_stand {d = d} {m = m} {b = b} {words = words} {parts = parts} {now = now} {order = order} {out = out} o least fronts most e x here met =
     let l = o.lending in
@@ -171,7 +170,7 @@ fronts_stand {d = d} {m = m} {b = b} {words = words} {parts = parts} {now = now}
     ⊎_elim
     (λ (same : e ≡ k.transfer.endpoint).
     let is : x ≡ k.endpoint = same_Some x k.endpoint (sym here ∙ ap (slice_get d.endpoints) same ∙ k.here) in
-    let s = fronts k.transfer.endpoint k.endpoint k.here (it_is_met d m b words l.bulk k) in
+    let s = fronts k.transfer.endpoint k.endpoint k.here (it_is_met d m b words l.asynchronous k) in
     let mine : StandsAt (lent_now d m) (now n) f more k.transfer.endpoint k.endpoint = record {
       front = s.front;
       has = its_front o least s.front (let above = least_below o least in omega (arith, most, above)) s.has;

@@ -21,7 +21,7 @@ use Rattle.lent_fronts.proofs.Fronts.{fronts_stand, reaches_on}
 use Rattle.lent_fronts.proofs.Extents.{runs_lent}
 
 pub lend_row_leaves_fronts : {W : Type 0} (sender : W → ℕ → ℕ → Option Sender) → LendRowLeavesFronts sender
-lend_row_leaves_fronts sender base stream packets member streams heads ends acc reported hand wire parts order out w p b words k has stands bulk turns drives piped reports queues fronts lent runs counted =
+lend_row_leaves_fronts sender base stream packets member streams heads ends acc reported hand wire parts order out w p b words k has stands only turns drives piped reports queues fronts lent runs in_order apart =
     let d = p.driver in
     let m = p.memory in
     let y = y_of k in
@@ -29,8 +29,8 @@ lend_row_leaves_fronts sender base stream packets member streams heads ends acc 
     let n = 32 * k.endpoint.queue in
     let now = put_all parts n (items_of d m y x k.stage k.further) in
     let both = lend_drives base member parts hand w p.registers m d k.number y x k.stage k.further k.awaits has stands drives (names_lent d m b words parts n k queues.fed drives.driven) in
-    let l : IsLending d m b words parts now = record { ready = k; has = has; stands = stands; shape = drives.ring.tells.shape; bulk = bulk; fed = queues.fed; pieces = both.1 } in
-    let met = it_is_met d m b words bulk k in
+    let l : IsLending d m b words parts now = record { ready = k; has = has; stands = stands; shape = drives.ring.tells.shape; asynchronous = only; fed = queues.fed; pieces = both.1 } in
+    let met = it_is_met d m b words only k in
     let on = queues.met.each k.transfer.endpoint k.endpoint k.here met in
     let o : IsOrdering d m b words parts now member heads order out hand acc reported = record {
       lending = l;
@@ -39,7 +39,7 @@ lend_row_leaves_fronts sender base stream packets member streams heads ends acc 
       reports = reports;
       last = queues.last;
       still_out = queues.out_are;
-      counted = counted;
+      in_order = in_order k.transfer.endpoint k.endpoint k.here met;
     } in
     let least = (fronts k.transfer.endpoint k.endpoint k.here met).front in
     let slot = slot_of (lent_driver d m).book.slots in
@@ -52,7 +52,7 @@ lend_row_leaves_fronts sender base stream packets member streams heads ends acc 
       order = order_lent k (from_here o least) order;
       out = out_lent k out;
       drives = subst (DrivesRing base member now hand (place w p.registers (lent_memory d m))) (advance_is d m b words k) both.0;
-      piped = lend_leaves_pipes sender d m k.number y x k.stage k.further slot parts now stream packets member streams ends acc hand wire k.awaits both.1 (its_asks bulk k queues.streams_are) piped;
+      piped = lend_leaves_pipes sender d m k.number y x k.stage k.further slot parts now stream packets member streams ends acc hand wire k.awaits both.1 (its_asks stream only k queues.streams_are apart) piped;
       reports = all_reported o least;
       queues = record {
         met = met_on d m member queues.met;
@@ -66,6 +66,7 @@ lend_row_leaves_fronts sender base stream packets member streams heads ends acc 
       reaches = λ e z c here kept tail r. reaches_on o least e z c here kept tail r;
       behind = record {
         number = k.number;
+        newest = k.newest;
         transfer = y;
         endpoint = x;
         stage = k.stage;

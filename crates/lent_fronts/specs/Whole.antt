@@ -1,8 +1,10 @@
--- The row of a driver that lends a get or a put, with what it leaves of all structures that stood before (EHCI 1.0, 3.5, 4.10 and 4.10.2).
+-- The row of a driver that lends a get, a put or a request, with what it leaves of all structures that stood before (EHCI 1.0, 3.5, 4.10 and 4.10.2).
 --     IsLentBehind ..         the qTDs of the transfer but its first stand behind all that stood in its queue, in their order, and are out
 --     GoesOnWhole ..          what stands afterwards, by the structures, the order and what was out before
---     LendRowLeavesFronts     the law; the reports of the queue heads `counted` are kept
-use Rattle.std.specs.Prelude.{◌≡◌, ◌≢◌, ℕ, ◌*◌, ◌<◌, ◌++◌, Bool, true, List, slice_get, Option, Some, false}
+--     LendRowLeavesFronts     the law; the reports of the queue heads `counted` are kept, of the others what is out is in its order, and a control endpoint has no
+--                             stream
+use Rattle.std.specs.Prelude.{◌≡◌, ◌≢◌, ℕ, suc, ◌*◌, ◌<◌, ◌++◌, Bool, List, length, slice_get, Option, Some, false}
+use Rattle.usb_base.specs.declared.packets.Way.TheVariants as ways
 use Rattle.word_mem.specs.Memory.{Mem}
 use Rattle.async_walk.specs.Walk.{Walk}
 use Rattle.async_walk.specs.Rows.{place}
@@ -20,14 +22,15 @@ use Rattle.lent_structures.specs.Sound.{IsElement}
 use Rattle.ring_laws.specs.Hand.{Hand}
 use Rattle.ring_laws.specs.Ring.{Base}
 use Rattle.ring_laws.specs.Told.{Endpoint}
+use Rattle.ring_laws.specs.Order.{IsSorted}
 use Rattle.ring_laws.specs.Bus.{Sender}
 use Rattle.ring_laws.specs.Pipes.{ArePiped}
 use Rattle.ring_laws.specs.Sparing.{SparesHead, SparesElement}
 use Rattle.controlled_streams.specs.Reported.{AreReported}
 use Rattle.driver_laws.specs.Driven.{DrivesRing}
-use Rattle.chained_transfers.specs.Bulk.{OnlyBulk}
+use Rattle.chained_transfers.specs.Asynchronous.{OnlyAsynchronous}
 use Rattle.chained_transfers.specs.Turns.{AreInTurn}
-use Rattle.fed_queues.specs.Places.{IsLast, IsThere}
+use Rattle.fed_queues.specs.Places.{IsLast, IsMet}
 use Rattle.driver_laws.specs.Written.{AwaitsLend}
 use Rattle.driver_laws.specs.TransferLaws.{HasPieces, lent_driver}
 use Rattle.fed_lends.specs.Streams.{new_order, new_out}
@@ -39,6 +42,7 @@ use Rattle.fed_lends.specs.ToLend.{IsToBeLent}
 
 pub record IsLentBehind (d : DriverContent) (m : Mem) (before now : StructureSets) (order order_now : ℕ → ℕ → ℕ) (out out_now : ℕ → List ℕ) : Type 0 where
   pub number : ℕ
+  pub newest : suc number ≡ length d.transfers
   pub transfer : TransferRuns
   pub endpoint : EndpointRuns
   pub stage : Stage
@@ -79,9 +83,10 @@ abbrev pub LendRowLeavesFronts : {W : Type 0} → (W → ℕ → ℕ → Option 
 LendRowLeavesFronts {W} sender = (base : Base) (stream : ℕ → ℕ → Bool) (packets : ℕ → ℕ → List (List ℕ)) (member streams counted : ℕ → Bool) (ends : ℕ → Endpoint) (acc : ℕ → List (List ℕ))
     (reported : ℕ → List ℕ) (hand : Hand) (wire : W)
     (parts : StructureSets) (order : ℕ → ℕ → ℕ) (out : ℕ → List ℕ) (w : Walk) (p : DriverParts) (b : ℕ) (words : List ℕ) → IsToBeLent p.driver p.memory b words
-    → HasOwners p.driver → Stands (holding p.driver.book p.memory) → OnlyBulk p.driver → AreInTurn p.driver
+    → HasOwners p.driver → Stands (holding p.driver.book p.memory) → OnlyAsynchronous p.driver → AreInTurn p.driver
     → DrivesRing base member parts hand (place w p.registers p.memory) p.driver → ArePiped stream packets sender member streams ends acc parts hand wire
     → AreReported counted order out hand parts acc reported → QueuesStand p.driver member streams ends parts order out → FrontsStand p.driver parts order out
     → AreLent p.driver → AreInRuns (views_of p.driver) parts
-    → ((e : ℕ) (x : EndpointOf) → slice_get p.driver.endpoints e ≡ Some x → IsThere p.driver x → counted (32 * x.queue) ≡ true)
+    → ((e : ℕ) (x : EndpointOf) → slice_get p.driver.endpoints e ≡ Some x → IsMet p.driver e x → counted (32 * x.queue) ≡ false → IsSorted (order (32 * x.queue)) (out (32 * x.queue)))
+    → ((e : ℕ) (x : EndpointOf) → slice_get p.driver.endpoints e ≡ Some x → x.desc.name.way ≡ ways.Ctl → stream x.desc.name.addr x.desc.name.num ≡ false)
     → GoesOnWhole sender base stream packets member streams counted ends acc reported hand wire p.driver p.memory parts order out w (after_driver_row (driver_row p) p)

@@ -9,7 +9,7 @@ use Rattle.narrowed_streams.specs.Narrowed.{cleared, ClearNarrows, ClearKeepsStr
 use Rattle.narrowed_streams.proofs.Narrowing.{are_narrowed, streams_stay_met}
 
 pub clear_narrows : ClearNarrows
-clear_narrows p narrow bulk owners idle met = are_narrowed p.driver (cleared p) narrow bulk owners refl (λ queue opens. none queue (sym idle ∙ opens)) met
+clear_narrows p narrow only owners idle met = are_narrowed p.driver (cleared p) narrow only owners refl (λ queue opens. none queue (sym idle ∙ opens)) met
   where
     none : (queue : ℕ) → None ≡ Some (unfinished.Open queue) → ⊥
     none queue same = cc

@@ -2,15 +2,19 @@
 use Rattle.std.proofs.Common.{◌≡◌, ◌≢◌, ℕ, ◌*◌, ◌||◌, ◌&&◌, Bool, true, false, List, slice_get, Some, ap, sym, ◌∙◌, ⊎_elim, refl, arith}
 use Rattle.std.proofs.lemmas.Bool.{false≢true, cases_eq, and_parts, false_from_ne_true}
 use Rattle.std.proofs.lemmas.Option.{same_Some}
+use Rattle.usb_base.specs.declared.packets.EpKind.{EpKind}
 use Rattle.usb_base.specs.declared.packets.Way.{Way}
+use Rattle.usb_base.specs.declared.packets.Way.TheVariants as ways
 use Rattle.driver_rows.specs.declared.content.Endpoint.{Endpoint}
 use Rattle.driver_rows.specs.DriverContent.{DriverContent}
 use Rattle.driver_rows.specs.Rows.{is_iso}
-use Rattle.driver_rows.specs.Words.{head_block, queue_head}
+use Rattle.driver_rows.specs.Words.{head_block, queue_head, is_control}
 use Rattle.ring_members.proofs.Placed.{queue_off_head, queues_apart}
 use Rattle.ring_laws.specs.Told.{Endpoint as Told, endpoint_of}
-use Rattle.chained_transfers.specs.Bulk.{comes_in, OnlyBulk}
-use Rattle.chained_transfers.proofs.Ways.{data_comes_in, way_comes_in, way_sends}
+use Rattle.chained_transfers.specs.Bulk.{receives, comes_in}
+use Rattle.chained_transfers.specs.Asynchronous.{IsKindOf, OnlyAsynchronous}
+use Rattle.chained_transfers.proofs.BulkAndControl.{not_iso}
+use Rattle.chained_transfers.proofs.Ways.{way_comes_in, way_sends}
 use Rattle.endpoint_lives.specs.Lives.{may_meet}
 use Rattle.fed_queues.specs.Places.{IsMet, HasHead, HaveStreams}
 use Rattle.open_laws.specs.Opens.{AreNamesApart}
@@ -21,10 +25,10 @@ use Rattle.narrowed_streams.proofs.Names.{left_named, named_left}
 -- ---- which the walk meets
 
 pub are_narrowed : AreNarrowed
-are_narrowed d f narrow bulk owners ends none met = record { ends = ends; met = λ e x here m. narrowed e x here m (may_meet f e x) refl }
+are_narrowed d f narrow only owners ends none met = record { ends = ends; met = λ e x here m. narrowed e x here m (may_meet f e x) refl }
   where
     has_queue : (e : ℕ) (x : Endpoint) → slice_get d.endpoints e ≡ Some x → x.gone ≡ false → is_iso x.desc.kind || x.gone ≡ false
-    has_queue e x here kept = ap (λ k. is_iso k || x.gone) (bulk.endpoints e x here).bulk.kind ∙ kept
+    has_queue e x here kept = ap (λ (iso : Bool). iso || x.gone) (not_iso x.desc (only.endpoints e x here).asynchronous) ∙ kept
 
     here_then : (e : ℕ) (x : Endpoint) → slice_get d.endpoints e ≡ Some x → slice_get f.endpoints e ≡ Some x
     here_then e x here = ap (λ (xs : List Endpoint). slice_get xs e) ends ∙ here
@@ -57,7 +61,7 @@ pub same_way : (way : Bool) (v w : Way) → IsOnSide way v → IsOnSide way w �
 same_way true v w one two = way_comes_in v one ∙ sym (way_comes_in w two)
 same_way false v w one two = way_sends v one ∙ sym (way_sends w two)
 
-module _ (d f : DriverContent) (narrow : ℕ → Bool) (bulk : OnlyBulk d) (apart : AreNamesApart d) (to : NarrowsTo d f narrow) where
+module _ (d f : DriverContent) (narrow : ℕ → Bool) (only : OnlyAsynchronous d) (apart : AreNamesApart d) (to : NarrowsTo d f narrow) where
   module _ (e : ℕ) (x : Endpoint) (here : slice_get d.endpoints e ≡ Some x) (met : IsMet d e x) (way : Bool) (side : IsOnSide way x.desc.name.way) where
     gone_name : narrow (32 * x.queue) ≡ false → left_names f way x.desc.name.addr x.desc.name.num ≡ true
     gone_name off =
@@ -99,33 +103,38 @@ module _ (d f : DriverContent) (narrow : ℕ → Bool) (bulk : OnlyBulk d) (apar
 way_at : (d : DriverContent) (streams : ℕ → Bool) (ends : ℕ → Told) (have : HaveStreams d streams ends) (n : ℕ) (h : HasHead d n) (b : Bool) → streams n ≡ b → comes_in h.endpoint.desc.name.way ≡ b
 way_at d streams ends have n h b is = sym (have.each h.number h.endpoint h.here h.met).0 ∙ ap streams (sym h.at) ∙ is
 
-side_at : (d : DriverContent) (streams : ℕ → Bool) (ends : ℕ → Told) (bulk : OnlyBulk d) (have : HaveStreams d streams ends) (n : ℕ) (h : HasHead d n) (b : Bool) → streams n ≡ b → IsOnSide b h.endpoint.desc.name.way
-side_at d streams ends bulk have n h true is = way_at d streams ends have n h true is
-side_at d streams ends bulk have n h false is =
-    let way = h.endpoint.desc.name.way in
-    sym (data_comes_in way (bulk.endpoints h.number h.endpoint h.here).bulk.way) ∙ way_at d streams ends have n h false is
+-- .. of one that has none and isn't that of a control endpoint
+out_side : (way : Way) (kind : EpKind) → IsKindOf way kind → comes_in way ≡ false → is_control kind ≡ false → receives way ≡ false
+out_side ways.In kind is off own = absurd (false≢true (sym off))
+out_side ways.Out kind is off own = refl
+out_side ways.Ctl kind is off own = absurd (false≢true (sym own ∙ ap is_control is))
+
+sends_at : (d : DriverContent) (streams : ℕ → Bool) (ends : ℕ → Told) (only : OnlyAsynchronous d) (have : HaveStreams d streams ends) (n : ℕ) (h : HasHead d n) → streams n ≡ false → (ends n).dtc ≡ false → receives h.endpoint.desc.name.way ≡ false
+sends_at d streams ends only have n h is own =
+    let told : ends n ≡ endpoint_of (queue_head h.endpoint.desc 0 h.endpoint.dummy) = ap ends h.at ∙ (have.each h.number h.endpoint h.here h.met).1 in
+    out_side h.endpoint.desc.name.way h.endpoint.desc.kind (only.endpoints h.number h.endpoint h.here).asynchronous.kind (way_at d streams ends have n h false is) (ap (λ (t : Told). t.dtc) (sym told) ∙ own)
 
 pub ins_have_left : InsHaveLeft
-ins_have_left d f narrow streams ends bulk apart have to = record {
-  none = λ n on met. let h = have.only n on in kept_at d f narrow bulk apart to streams ends have n h true (side_at d streams ends bulk have n h true on) met;
-  each = λ n on off. let h = have.only n on in left_at d f narrow bulk apart to streams ends have n h true (side_at d streams ends bulk have n h true on) off;
+ins_have_left d f narrow streams ends only apart have to = record {
+  none = λ n on met. let h = have.only n on in kept_at d f narrow only apart to streams ends have n h true (way_at d streams ends have n h true on) met;
+  each = λ n on off. let h = have.only n on in left_at d f narrow only apart to streams ends have n h true (way_at d streams ends have n h true on) off;
 }
 
 pub outs_have_left : OutsHaveLeft
-outs_have_left d f narrow streams outs ends bulk apart have heads to = record {
-  none = λ n on met. let h = heads n on in kept_at d f narrow bulk apart to streams ends have n h.1 false (side_at d streams ends bulk have n h.1 false h.0) met;
-  each = λ n on off. let h = heads n on in left_at d f narrow bulk apart to streams ends have n h.1 false (side_at d streams ends bulk have n h.1 false h.0) off;
+outs_have_left d f narrow streams outs ends only apart have heads to = record {
+  none = λ n on met. let h = heads n on in kept_at d f narrow only apart to streams ends have n h.2 false (sends_at d streams ends only have n h.2 h.0 h.1) met;
+  each = λ n on off. let h = heads n on in left_at d f narrow only apart to streams ends have n h.2 false (sends_at d streams ends only have n h.2 h.0 h.1) off;
 }
 
 -- ---- the streams
 
 pub ins_are_closed : InsAreClosed
-ins_are_closed d f stream member narrow streams those ends bulk apart have to fewer e is =
-    left_are_closed stream (left_names f true) member narrow streams those ends fewer e (ins_have_left d f narrow streams ends bulk apart have to) is
+ins_are_closed d f stream member narrow streams those ends only apart have to fewer e is =
+    left_are_closed stream (left_names f true) member narrow streams those ends fewer e (ins_have_left d f narrow streams ends only apart have to) is
 
 pub outs_are_closed : OutsAreClosed
-outs_are_closed d f takes member narrow streams outs those ends bulk apart have heads to fewer e is =
-    left_are_closed takes (left_names f false) member narrow outs those ends fewer e (outs_have_left d f narrow streams outs ends bulk apart have heads to) is
+outs_are_closed d f takes member narrow streams outs those ends only apart have heads to fewer e is =
+    left_are_closed takes (left_names f false) member narrow outs those ends fewer e (outs_have_left d f narrow streams outs ends only apart have heads to) is
 
 pub streams_stay_met : StreamsStayMet
 streams_stay_met d f narrow streams ends have to back again = record {

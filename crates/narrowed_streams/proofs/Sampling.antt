@@ -6,6 +6,7 @@ use Rattle.usb_base.specs.declared.packets.Way.TheVariants as ways
 use Rattle.driver_rows.specs.declared.content.Endpoint.{Endpoint}
 use Rattle.driver_rows.specs.declared.content.Transfer.{Transfer}
 use Rattle.chained_transfers.specs.Bulk.{comes_in, IsStanding, OnlyBulk}
+use Rattle.chained_transfers.proofs.BulkAndControl.{only_asynchronous}
 use Rattle.endpoint_lives.specs.Lives.{may_meet}
 use Rattle.fed_queues.specs.Places.{IsMet, HasHead, HaveStreams}
 use Rattle.open_laws.specs.Opens.{AreNamesApart}
@@ -117,4 +118,4 @@ pub narrows_row : NarrowsTo before after narrow
 narrows_row = record { ends = refl; met = each_of (λ (e : ℕ) (x : Endpoint). IsMet before e x → narrow (32 * x.queue) ≡ may_meet after e x) (λ m. refl) (λ m. refl) (λ m. refl) }
 
 pub left_row : HaveLeft streams narrow ends (left_names after true)
-left_row = ins_have_left before after narrow streams ends bulk_row apart_row streams_row narrows_row
+left_row = ins_have_left before after narrow streams ends (only_asynchronous before bulk_row) apart_row streams_row narrows_row

@@ -1,10 +1,11 @@
--- Endpoints of a driver of bulk endpoints that have left the ring, once the doorbell is answered (EHCI 1.0, 4.8.2): the walk meets fewer queue heads, and just the streams of
+-- Endpoints of a driver of bulk and control endpoints that have left the ring, once the doorbell is answered (EHCI 1.0, 4.8.2): the walk meets fewer queue heads, and just the streams of
 -- those that it doesn't meet any more are closed.
 --     is_side way w              an endpoint of way w is an IN endpoint, or an OUT endpoint where `way` is false; a control endpoint is neither
 --     IsOnSide way w             the same, as a statement
 --     left_names d way           the names of the endpoints of this side that aren't met any more
 --     HasLeft d way addr ep      an endpoint of this name and side isn't met any more
 --     LeftIsNamed, NamedHasLeft        these are just those names
+--     HaveOuts d streams ends outs     each of these queue heads is that of an OUT endpoint
 --     NarrowsTo d f narrow       the endpoints are as before, and of those that were met the walk meets just those still that may be met
 --     AreNarrowed                so it is, where these are the queue heads that the walk meets then
 --     InsHaveLeft, OutsHaveLeft        those that have left are just the endpoints whose queue head isn't met any more
@@ -22,7 +23,8 @@ use Rattle.driver_rows.specs.declared.rows.DriverRow.TheVariants as rows
 use Rattle.driver_rows.specs.DriverContent.{DriverContent}
 use Rattle.driver_rows.specs.Rows.{Parts, after_driver_row}
 use Rattle.run_owners.specs.Kept.{HasOwners}
-use Rattle.chained_transfers.specs.Bulk.{receives, comes_in, OnlyBulk}
+use Rattle.chained_transfers.specs.Bulk.{receives, comes_in}
+use Rattle.chained_transfers.specs.Asynchronous.{OnlyAsynchronous}
 use Rattle.endpoint_lives.specs.Lives.{any_at, may_meet}
 use Rattle.ring_laws.specs.Stores.{IsWider}
 use Rattle.ring_laws.specs.Told.{Endpoint as Told}
@@ -66,18 +68,19 @@ pub record NarrowsTo (d f : DriverContent) (narrow : ℕ → Bool) : Type 0 wher
 
 -- no endpoint is being opened then
 abbrev pub AreNarrowed : Type 0
-AreNarrowed = (d f : DriverContent) (narrow : ℕ → Bool) → OnlyBulk d → HasOwners d → f.endpoints ≡ d.endpoints → ((queue : ℕ) → f.command ≢ Some (unfinished.Open queue)) → AreMet f narrow
+AreNarrowed = (d f : DriverContent) (narrow : ℕ → Bool) → OnlyAsynchronous d → HasOwners d → f.endpoints ≡ d.endpoints → ((queue : ℕ) → f.command ≢ Some (unfinished.Open queue)) → AreMet f narrow
     → NarrowsTo d f narrow
 
 abbrev pub InsHaveLeft : Type 0
-InsHaveLeft = (d f : DriverContent) (narrow streams : ℕ → Bool) (ends : ℕ → Told) → OnlyBulk d → AreNamesApart d → HaveStreams d streams ends → NarrowsTo d f narrow
+InsHaveLeft = (d f : DriverContent) (narrow streams : ℕ → Bool) (ends : ℕ → Told) → OnlyAsynchronous d → AreNamesApart d → HaveStreams d streams ends → NarrowsTo d f narrow
     → HaveLeft streams narrow ends (left_names f true)
 
-abbrev pub HaveOuts : DriverContent → (ℕ → Bool) → (ℕ → Bool) → Type 0
-HaveOuts d streams outs = (n : ℕ) → outs n ≡ true → (streams n ≡ false) × HasHead d n
+-- a queue head of an OUT endpoint has no stream to the host, and keeps the toggle itself (3.6), which that of a control endpoint doesn't
+abbrev pub HaveOuts : DriverContent → (ℕ → Bool) → (ℕ → Told) → (ℕ → Bool) → Type 0
+HaveOuts d streams ends outs = (n : ℕ) → outs n ≡ true → (streams n ≡ false) × ((ends n).dtc ≡ false) × HasHead d n
 
 abbrev pub OutsHaveLeft : Type 0
-OutsHaveLeft = (d f : DriverContent) (narrow streams outs : ℕ → Bool) (ends : ℕ → Told) → OnlyBulk d → AreNamesApart d → HaveStreams d streams ends → HaveOuts d streams outs → NarrowsTo d f narrow
+OutsHaveLeft = (d f : DriverContent) (narrow streams outs : ℕ → Bool) (ends : ℕ → Told) → OnlyAsynchronous d → AreNamesApart d → HaveStreams d streams ends → HaveOuts d streams ends outs → NarrowsTo d f narrow
     → HaveLeft outs narrow ends (left_names f false)
 
 -- none may be met that wasn't
@@ -91,7 +94,7 @@ abbrev pub cleared : Parts → DriverContent
 cleared p = (after_driver_row rows.ClearAdvance p).driver
 
 abbrev pub ClearNarrows : Type 0
-ClearNarrows = (p : Parts) (narrow : ℕ → Bool) → OnlyBulk p.driver → HasOwners p.driver → p.driver.command ≡ None → AreMet (cleared p) narrow → NarrowsTo p.driver (cleared p) narrow
+ClearNarrows = (p : Parts) (narrow : ℕ → Bool) → OnlyAsynchronous p.driver → HasOwners p.driver → p.driver.command ≡ None → AreMet (cleared p) narrow → NarrowsTo p.driver (cleared p) narrow
 
 abbrev pub ClearKeepsStreams : Type 0
 ClearKeepsStreams = (p : Parts) (narrow streams : ℕ → Bool) (ends : ℕ → Told) → HaveStreams p.driver streams ends → NarrowsTo p.driver (cleared p) narrow
@@ -100,13 +103,13 @@ ClearKeepsStreams = (p : Parts) (narrow streams : ℕ → Bool) (ends : ℕ → 
 -- ---- the streams
 
 abbrev pub InsAreClosed : Type 0
-InsAreClosed = (d f : DriverContent) (stream : ℕ → ℕ → Bool) (member narrow streams those : ℕ → Bool) (ends : ℕ → Told) → OnlyBulk d → AreNamesApart d → HaveStreams d streams ends
+InsAreClosed = (d f : DriverContent) (stream : ℕ → ℕ → Bool) (member narrow streams those : ℕ → Bool) (ends : ℕ → Told) → OnlyAsynchronous d → AreNamesApart d → HaveStreams d streams ends
     → NarrowsTo d f narrow → IsWider narrow member → AreEndpoints stream member streams ends → ((n : ℕ) → those n ≡ heads_met streams narrow n)
     → ClosesSome stream (names_kept stream (left_names f true)) member narrow streams those ends × KeepMet streams narrow those
 
 abbrev pub OutsAreClosed : Type 0
-OutsAreClosed = (d f : DriverContent) (takes : ℕ → ℕ → Bool) (member narrow streams outs those : ℕ → Bool) (ends : ℕ → Told) → OnlyBulk d → AreNamesApart d → HaveStreams d streams ends
-    → HaveOuts d streams outs → NarrowsTo d f narrow → IsWider narrow member → AreEndpoints takes member outs ends → ((n : ℕ) → those n ≡ heads_met outs narrow n)
+OutsAreClosed = (d f : DriverContent) (takes : ℕ → ℕ → Bool) (member narrow streams outs those : ℕ → Bool) (ends : ℕ → Told) → OnlyAsynchronous d → AreNamesApart d → HaveStreams d streams ends
+    → HaveOuts d streams ends outs → NarrowsTo d f narrow → IsWider narrow member → AreEndpoints takes member outs ends → ((n : ℕ) → those n ≡ heads_met outs narrow n)
     → ClosesSome takes (names_kept takes (left_names f false)) member narrow outs those ends × KeepMet outs narrow those
 
 abbrev pub KeptOrLeft : Type 0

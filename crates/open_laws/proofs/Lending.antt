@@ -48,8 +48,8 @@ use Rattle.publish_laws.proofs.Apart.{queue_placed, dummy_placed, queues_same, t
 use Rattle.open_laws.specs.Opens.{IsOpenLent, next_of}
 use Rattle.open_laws.specs.Lends.{IsAtLend, LendDrives, LendStands, LendPipes, LendReports}
 use Rattle.fed_queues.proofs.Places.{SameQueues, same_ends, met_stays, streams_stay}
-use Rattle.chained_transfers.specs.Bulk.{IsStanding}
-use Rattle.chained_transfers.proofs.Staying.{linked_alive}
+use Rattle.chained_transfers.specs.Asynchronous.{StandsAsynchronous}
+use Rattle.chained_transfers.proofs.Staying.{linked_stands_alive}
 use Rattle.chained_transfers.proofs.Holding.{held_alive}
 
 open_out : (note : ℕ → NoteRuns) (e queue made more : ℕ) (ts : List Transfer) → out_of note e (Some (unfinished.Open queue)) made ts ≡ out_of note e (Some (unfinished.Open queue)) more ts
@@ -130,13 +130,13 @@ module _ (base : Base) (w : Walk) (hand : Hand) (p : DriverParts) (member stream
 
   -- ---- the row
 
-  row_is : driver_row p ≡ rows.Lend
+  pub row_is : driver_row p ≡ rows.Lend
   row_is = ap (row_for p) k.ready.command ∙ ap (command_row (unfinished.Open x.queue)) k.ready.made
 
   abbrev counted : ℕ → DriverContent
   counted i = if nat_lt (suc i) 2 then record d { book = lent_book; made = suc i } else record d { book = lent_book; command = None; made = 0 }
 
-  driver_is : (next_of p).driver ≡ f
+  pub driver_is : (next_of p).driver ≡ f
   driver_is = ap (λ (row : DriverRow). (after_driver_row row p).driver) row_is ∙ ap (advanced_by (record d { book = lent_book })) k.ready.command ∙ ap counted k.ready.made
 
   pub drives_by : DrivesRing base member now hand (place w (next_of p).registers (next_of p).memory) (next_of p).driver
@@ -146,24 +146,24 @@ module _ (base : Base) (w : Walk) (hand : Hand) (p : DriverParts) (member stream
 
   -- ---- the structures
 
-  unmet : (member n ≡ false) × ((b : ℕ) → now n b ≡ opened_part r q b)
+  pub unmet : (member n ≡ false) × ((b : ℕ) → now n b ≡ opened_part r q b)
   unmet = open_is_unmet base member parts hand (place w p.registers p.memory) d p.memory number r q k.ready.opened k.sound.owners drives
 
-  stay : (m : ℕ) → m ≢ n → now m ≡ parts m
+  pub stay : (m : ℕ) → m ≢ n → now m ≡ parts m
   stay m differs = put_beside (put parts n n (QueueHead q)) n (32 * x.dummy) (Element dummy_qtd) m differs ∙ put_beside parts n n (QueueHead q) m differs
 
   met_apart : (m : ℕ) → member m ≡ true → m ≢ n
   met_apart m on same = false≢true (sym unmet.0 ∙ ap member (sym same) ∙ on)
 
-  standing : IsStanding x
-  standing = k.turns.bulk.endpoints number x k.ready.here
+  standing : StandsAsynchronous x
+  standing = k.turns.asynchronous.endpoints number x k.ready.here
 
   its_alive : x.gone ≡ false
-  its_alive = linked_alive x standing k.ready.fresh
+  its_alive = linked_stands_alive x standing k.ready.fresh
 
   same_number : (e : ℕ) (y : Endpoint) → slice_get d.endpoints e ≡ Some y → y.gone ≡ false → y.queue ≡ x.queue → e ≡ number
   same_number e y there kept same =
-      queues_same y.queue x.queue e number same (queue_placed d k.sound.owners e y there (k.turns.bulk.endpoints e y there) kept)
+      queues_same y.queue x.queue e number same (queue_placed d k.sound.owners e y there (k.turns.asynchronous.endpoints e y there) kept)
       (queue_placed d k.sound.owners number x k.ready.here standing its_alive)
 
   is_new : (e : ℕ) (y : Endpoint) → slice_get d.endpoints e ≡ Some y → e ≡ number → y ≡ x
@@ -175,7 +175,7 @@ module _ (base : Base) (w : Walk) (hand : Hand) (p : DriverParts) (member stream
   -- the slot of another endpoint's inactive qTD stays
   slot_stays : (e : ℕ) (y : Endpoint) → slice_get d.endpoints e ≡ Some y → y.gone ≡ false → e ≢ number → slot_of lent_book.slots y.dummy ≡ slot_of d.book.slots y.dummy
   slot_stays e y there kept differs =
-      let mine = dummy_placed d k.sound.owners e y there (k.turns.bulk.endpoints e y there) kept in
+      let mine = dummy_placed d k.sound.owners e y there (k.turns.asynchronous.endpoints e y there) kept in
       let queue = queue_placed d k.sound.owners number x k.ready.here standing its_alive in
       let dummy = dummy_placed d k.sound.owners number x k.ready.here standing its_alive in
       other_slot (holding d.book p.memory) x.queue x.dummy y.dummy k.ready.opened.taken

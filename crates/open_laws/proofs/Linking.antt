@@ -36,7 +36,7 @@ use Rattle.driver_laws.proofs.Linking.{link_opens_drives}
 use Rattle.ring_laws.specs.Told.{Endpoint as Told}
 use Rattle.publish_laws.proofs.Apart.{queue_placed, dummy_placed}
 use Rattle.open_laws.specs.Opens.{IsAtOpen, head_then, hand_then, next_of, OpenIsLinked}
-use Rattle.chained_transfers.proofs.Staying.{linked_alive}
+use Rattle.chained_transfers.proofs.Staying.{linked_stands_alive}
 
 -- ---- the link of a queue head by its word
 
@@ -104,8 +104,8 @@ module _ (p : DriverParts) (member streams : ℕ → Bool) (ends : ℕ → Told)
 
   pub differs : x.queue ≢ x.dummy
   differs same =
-      let stands = k.turns.bulk.endpoints k.lent.number x k.lent.here in
-      let alive = linked_alive x stands k.lent.fresh in
+      let stands = k.turns.asynchronous.endpoints k.lent.number x k.lent.here in
+      let alive = linked_stands_alive x stands k.lent.fresh in
       let one = (queue_placed d k.sound.owners k.lent.number x k.lent.here stands alive).owned in
       let other = (dummy_placed d k.sound.owners k.lent.number x k.lent.here stands alive).owned in
       never (sym one ∙ ap k.sound.owners.owner same ∙ other)

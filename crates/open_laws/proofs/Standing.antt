@@ -24,7 +24,8 @@ use Rattle.ring_laws.specs.Told.{Endpoint as Told, endpoint_of}
 use Rattle.driver_laws.specs.Linked.{with_member, head_at}
 use Rattle.controlled_streams.specs.Opened.{with_end, with_none}
 use Rattle.controlled_streams.proofs.Beginning.{end_here, end_beside, list_here, list_beside}
-use Rattle.chained_transfers.specs.Bulk.{comes_in, IsStanding}
+use Rattle.chained_transfers.specs.Bulk.{comes_in}
+use Rattle.chained_transfers.specs.Asynchronous.{StandsAsynchronous}
 use Rattle.chained_transfers.specs.Out.{unpublished, out_of_transfer, out_of, out_now}
 use Rattle.fed_queues.specs.Fed.{IsPieceFed, unpublished_of, AreFed, sized}
 use Rattle.fed_queues.specs.Places.{IsMet, HasHead, AreMet, HaveStreams, AreLast, AreStillOut, IsThere}
@@ -33,7 +34,7 @@ use Rattle.publish_laws.proofs.Outs.{other_part}
 use Rattle.publish_laws.proofs.Apart.{queue_placed, queues_same, thirty_two}
 use Rattle.open_laws.specs.Opens.{IsAtOpen, head_then, end_then, streams_then, next_of, OpenStands}
 use Rattle.open_laws.proofs.Linking.{driver_is}
-use Rattle.chained_transfers.proofs.Staying.{linked_alive}
+use Rattle.chained_transfers.proofs.Staying.{linked_stands_alive}
 use Rattle.endpoint_lives.proofs.Lives.{linked_met}
 
 -- ---- lists of what is out
@@ -174,15 +175,15 @@ module _ (p : DriverParts) (member streams : ℕ → Bool) (ends : ℕ → Told)
   queue_of (Some (unfinished.Open c)) = c
   queue_of o = 0
 
-  standing : IsStanding x
-  standing = k.turns.bulk.endpoints k.lent.number x k.lent.here
+  standing : StandsAsynchronous x
+  standing = k.turns.asynchronous.endpoints k.lent.number x k.lent.here
 
   pub its_alive : x.gone ≡ false
-  its_alive = linked_alive x standing k.lent.fresh
+  its_alive = linked_stands_alive x standing k.lent.fresh
 
   pub same_number : (e : ℕ) (y : Endpoint) → slice_get d.endpoints e ≡ Some y → y.gone ≡ false → y.queue ≡ x.queue → e ≡ k.lent.number
   same_number e y there kept same =
-      queues_same y.queue x.queue e k.lent.number same (queue_placed d k.sound.owners e y there (k.turns.bulk.endpoints e y there) kept)
+      queues_same y.queue x.queue e k.lent.number same (queue_placed d k.sound.owners e y there (k.turns.asynchronous.endpoints e y there) kept)
       (queue_placed d k.sound.owners k.lent.number x k.lent.here standing its_alive)
 
   there_before : (e : ℕ) (y : Endpoint) → slice_get d.endpoints e ≡ Some y → e ≢ k.lent.number → IsThere f y → IsThere d y

@@ -1,8 +1,10 @@
--- The stream of the new queue head begins, if it is that of an IN endpoint; that of an OUT one has none.
+-- The stream of the new queue head begins, if it is that of an IN endpoint; that of an OUT or a control one has none.
 use Rattle.std.proofs.Common.{◌≡◌, ◌≢◌, ℕ, ◌*◌, ◌||◌, ◌==◌, Bool, true, false, if◌then◌else◌, List, slice_get, Option, Some, None, ap, refl, sym, ◌∙◌, ⊎_elim, inl, inr}
 use Rattle.std.proofs.lemmas.Bool.{cases_eq, false≢true}
 use Rattle.std.proofs.lemmas.Option.{same_Some}
 use Rattle.usb_base.specs.declared.packets.Reply.{Reply}
+use Rattle.usb_base.specs.declared.packets.EpKind.{EpKind}
+use Rattle.usb_base.specs.declared.packets.Way.{Way}
 use Rattle.usb_base.specs.declared.packets.Way.TheVariants as ways
 use Rattle.link_words.specs.Links.{qtd_link_of}
 use Rattle.qh_qtd.specs.declared.qtd.Qtd.{Qtd}
@@ -34,6 +36,7 @@ use Rattle.controlled_streams.specs.Opened.{with_stream, with_end, with_none, Is
 use Rattle.controlled_streams.proofs.Beginning.{ends_with_one, pipes_with_one, reports_with_one, unopened_less_one, ends_with_other, pipes_with_other, unopened_with_other}
 use Rattle.controlled_streams.proofs.Alike.{alike_ends, alike_pipes, alike_unopened}
 use Rattle.chained_transfers.specs.Bulk.{comes_in}
+use Rattle.chained_transfers.specs.Asynchronous.{IsKindOf}
 use Rattle.chained_transfers.proofs.Ways.{way_comes_in}
 use Rattle.fed_queues.specs.Places.{HasHead, HasThere}
 use Rattle.publish_laws.proofs.Apart.{queue_placed, thirty_two}
@@ -66,6 +69,12 @@ either_true false c = refl
 
 -- ---- its toggle
 
+-- the queue head of an IN endpoint keeps the toggle itself
+own_toggle : (way : Way) (kind : EpKind) → IsKindOf way kind → comes_in way ≡ true → is_control kind ≡ false
+own_toggle ways.In kind is gets = ap is_control is
+own_toggle ways.Out kind is gets = absurd (false≢true gets)
+own_toggle ways.Ctl kind is gets = absurd (false≢true gets)
+
 -- no transaction in hand is its
 toggle_off : (member : ℕ → Bool) (parts : StructureSets) (reply : Reply) (n : ℕ) (q : Qh) (hand : Hand) → member n ≡ false → q.token.toggle ≡ false → IsInHand member parts reply hand → hand_toggle hand n q ≡ false
 toggle_off member parts reply n q Empty off none k = none
@@ -96,7 +105,7 @@ module _ (base : Base) (w : Walk) (hand : Hand) (p : DriverParts) (member stream
   -- a queue head of an endpoint isn't the head of the ring
   not_head : (e : ℕ) (y : Endpoint) → slice_get d.endpoints e ≡ Some y → y.gone ≡ false → 32 * y.queue ≢ head_at
   not_head e y there kept same =
-      never (sym (queue_placed d k.sound.owners e y there (k.turns.bulk.endpoints e y there) kept).owned ∙ ap k.sound.owners.owner (thirty_two y.queue head_block same) ∙ k.sound.owners.owned.each.head.owned)
+      never (sym (queue_placed d k.sound.owners e y there (k.turns.asynchronous.endpoints e y there) kept).owned ∙ ap k.sound.owners.owner (thirty_two y.queue head_block same) ∙ k.sound.owners.owned.each.head.owned)
     where
       never : QueueOf e ≡ Head → ⊥
       never z = cc
@@ -121,11 +130,11 @@ module _ (base : Base) (w : Walk) (hand : Hand) (p : DriverParts) (member stream
     ends = λ a t is. (ap (λ (u : Qtd). qtd_link_of u.next) (sym (its_dummy a t is)), ap (λ (u : Qtd). qtd_link_of u.alternate) (sym (its_dummy a t is)));
   }
 
-  expects : HasToggle later now n false
-  expects = record {
+  expects : (end_then x).dtc ≡ false → HasToggle later now n false
+  expects own = record {
     queue = q;
     head = here_now;
-    own = ap is_control (k.turns.bulk.endpoints k.lent.number x k.lent.here).bulk.kind;
+    own = own;
     is = sym ((linked_same head_at (to_queue_head x.queue) hand).toggle n q ∙ toggle_off member parts w.reply n q hand k.lent.unmet refl drives.ring.in_hand);
   }
 
@@ -245,9 +254,9 @@ module _ (base : Base) (w : Walk) (hand : Hand) (p : DriverParts) (member stream
       goes_one : comes_in x.desc.name.way ≡ true → stream x.desc.name.addr x.desc.name.num ≡ true → Goes (with_stream streams n)
       goes_one gets on = (
         ends_with_one stream member (with_member member n) streams ends n (end_then x) (member_old member n) (member_here member n) on
-            (ap speed_field (k.turns.bulk.endpoints k.lent.number x k.lent.here).bulk.speed) (unopened gets) are,
+            (ap speed_field (k.turns.asynchronous.endpoints k.lent.number x k.lent.here).asynchronous.speed) (unopened gets) are,
         pipes_with_one sender stream packets member (with_member member n) streams ends acc hand later parts now wire n (end_then x) more
-            (waits x.desc.name.addr x.desc.name.num on (unopened gets)) others_stay piped,
+            (own_toggle x.desc.name.way x.desc.kind (k.turns.asynchronous.endpoints k.lent.number x k.lent.here).asynchronous.kind gets) (waits x.desc.name.addr x.desc.name.num on (unopened gets)) others_stay piped,
         unopened_less_one sender stream packets streams ends wire n (end_then x) new waits,
       )
 

@@ -33,7 +33,7 @@ use Rattle.driver_laws.specs.Linked.{head_at}
 use Rattle.ring_laws.specs.Bus.{Sender}
 use Rattle.ring_laws.specs.Pipes.{ArePiped}
 use Rattle.controlled_streams.specs.Reported.{AreReported}
-use Rattle.chained_transfers.specs.InTurn.{TakesTurns}
+use Rattle.chained_transfers.specs.AsynchronousTurns.{AsynchronousTakesTurns}
 use Rattle.publish_laws.specs.Stores.{QueuesThen}
 use Rattle.open_laws.specs.Opens.{IsOpenLent, next_of}
 use Rattle.fed_queues.specs.Places.{HasThere}
@@ -52,7 +52,7 @@ pub record IsOpenReady (d : DriverContent) (m : Mem) : Type 0 where
 pub record IsAtLend (d : DriverContent) (m : Mem) (member streams : ℕ → Bool) (ends : ℕ → Told) (parts : StructureSets) (order : ℕ → ℕ → ℕ) (out : ℕ → List ℕ) : Type 0 where
   pub ready : IsOpenReady d m
   pub sound : IsSound m d
-  pub turns : TakesTurns d
+  pub turns : AsynchronousTakesTurns d
   pub stand : QueuesThen d member streams ends parts order out
 
 abbrev pub parts_lent : {d : DriverContent} {m : Mem} → StructureSets → IsOpenReady d m → StructureSets

@@ -30,7 +30,7 @@ use Rattle.controlled_streams.specs.Reported.{AreReported}
 use Rattle.controlled_streams.specs.Unopened.{AreUnopened}
 use Rattle.controlled_streams.specs.Opened.{with_stream, with_end, with_none}
 use Rattle.chained_transfers.specs.Bulk.{comes_in}
-use Rattle.chained_transfers.specs.InTurn.{TakesTurns}
+use Rattle.chained_transfers.specs.AsynchronousTurns.{AsynchronousTakesTurns}
 use Rattle.fed_queues.specs.Places.{HasThere}
 use Rattle.publish_laws.specs.Stores.{QueuesThen}
 
@@ -53,7 +53,7 @@ AreNamesApart d = (e f : ℕ) (x y : Endpoint) → slice_get d.endpoints e ≡ S
 pub record IsAtOpen (d : DriverContent) (m : Mem) (member streams : ℕ → Bool) (ends : ℕ → Told) (parts : StructureSets) (order : ℕ → ℕ → ℕ) (out : ℕ → List ℕ) : Type 0 where
   pub lent : IsOpenLent d member parts
   pub sound : IsSound m d
-  pub turns : TakesTurns d
+  pub turns : AsynchronousTakesTurns d
   pub stand : QueuesThen d member streams ends parts order out
   pub queue : Qh
   pub head : parts head_at head_at ≡ Some (QueueHead queue)

@@ -1,8 +1,7 @@
 -- The qTD that is being published stands in a block of its own.
-use Rattle.std.proofs.Common.{◌≡◌, ◌≢◌, ℕ, zero, suc, ◌*◌, ◌<◌, ◌≤◌, ◌||◌, false, List, [], length, slice_get, Option, Some, option_map, ap, refl, sym, ◌∙◌, arith}
+use Rattle.std.proofs.Common.{◌≡◌, ◌≢◌, ℕ, zero, suc, ◌*◌, ◌<◌, ◌≤◌, ◌||◌, Bool, false, List, [], length, slice_get, Option, Some, option_map, ap, refl, sym, ◌∙◌, arith}
 use Rattle.std.proofs.lemmas.Bool.{false≢true}
 use Rattle.std.proofs.lemmas.Option.{slice_get_within}
-use Rattle.usb_base.specs.declared.packets.EpKind.{EpKind}
 use Rattle.run_book.specs.declared.slots.Slot.{Slot}
 use Rattle.run_book.specs.declared.slots.Slot.TheVariants as slots
 use Rattle.run_book.specs.Book.{slot_of}
@@ -11,24 +10,24 @@ use Rattle.driver_rows.specs.declared.content.Transfer.{Transfer}
 use Rattle.driver_rows.specs.declared.content.Command.{Command}
 use Rattle.driver_rows.specs.declared.content.Command.TheVariants as unfinished
 use Rattle.driver_rows.specs.DriverContent.{DriverContent}
-use Rattle.driver_rows.specs.Rows.{is_iso}
 use Rattle.run_owners.specs.Owners.{Owner, QueueHead, Dummy, Element, HasBlocks, IsPlaced, ArePieces, NoteRuns, runs_of_endpoint, runs_of_transfer, note_in}
 use Rattle.run_owners.specs.Kept.{HasOwners}
 use Rattle.lent_runs.specs.Lent.{AreLent, begins_in, still_lends}
 use Rattle.driver_laws.specs.Inventory.{IsLent}
 use Rattle.chained_transfers.specs.Chains.{piece_at}
-use Rattle.chained_transfers.specs.Bulk.{IsStanding}
+use Rattle.chained_transfers.specs.Asynchronous.{StandsAsynchronous}
+use Rattle.chained_transfers.proofs.BulkAndControl.{not_iso}
 
 -- ---- whose the blocks are
 
 -- an endpoint of the ring has a queue
-pub bare_not : (x : Endpoint) → IsStanding x → x.gone ≡ false → (runs_of_endpoint x).bare ≡ false
-bare_not x k kept = ap (λ (z : EpKind). is_iso z || x.gone) k.bulk.kind ∙ kept
+pub bare_not : (x : Endpoint) → StandsAsynchronous x → x.gone ≡ false → (runs_of_endpoint x).bare ≡ false
+bare_not x k kept = ap (λ (iso : Bool). iso || x.gone) (not_iso x.desc k.asynchronous) ∙ kept
 
-pub dummy_placed : (d : DriverContent) (h : HasOwners d) (e : ℕ) (x : Endpoint) → slice_get d.endpoints e ≡ Some x → IsStanding x → x.gone ≡ false → IsPlaced (slot_of d.book.slots) h.owner x.dummy (Dummy e)
+pub dummy_placed : (d : DriverContent) (h : HasOwners d) (e : ℕ) (x : Endpoint) → slice_get d.endpoints e ≡ Some x → StandsAsynchronous x → x.gone ≡ false → IsPlaced (slot_of d.book.slots) h.owner x.dummy (Dummy e)
 dummy_placed d h e x here stands kept = h.owned.each.dummy e (runs_of_endpoint x) (ap (option_map runs_of_endpoint) here) (bare_not x stands kept)
 
-pub queue_placed : (d : DriverContent) (h : HasOwners d) (e : ℕ) (x : Endpoint) → slice_get d.endpoints e ≡ Some x → IsStanding x → x.gone ≡ false → IsPlaced (slot_of d.book.slots) h.owner x.queue (QueueHead e)
+pub queue_placed : (d : DriverContent) (h : HasOwners d) (e : ℕ) (x : Endpoint) → slice_get d.endpoints e ≡ Some x → StandsAsynchronous x → x.gone ≡ false → IsPlaced (slot_of d.book.slots) h.owner x.queue (QueueHead e)
 queue_placed d h e x here stands kept = h.owned.each.queue e (runs_of_endpoint x) (ap (option_map runs_of_endpoint) here) (bare_not x stands kept)
 
 pieces_placed : (slot : ℕ → Slot) (owner : ℕ → Owner) (note : ℕ → NoteRuns) (t b n i : ℕ) → i < n → ArePieces slot owner note t b n → IsPlaced slot owner (piece_at note b i) (Element t)

@@ -32,7 +32,8 @@ use Rattle.publish_laws.proofs.Rows.{counted, after_is, store_made}
 use Rattle.controlled_streams.specs.Storing.{LeadsLater, IsStore, with_out, stored_parts}
 use Rattle.controlled_streams.proofs.Storing.{element_found}
 use Rattle.controlled_streams.proofs.Streams.{idle_reports, last_reports, store_pipes, out_here, out_beside}
-use Rattle.chained_transfers.specs.Bulk.{IsDataWay, comes_in, pid_by, IsStanding}
+use Rattle.chained_transfers.specs.Bulk.{comes_in, pid_by}
+use Rattle.chained_transfers.specs.Asynchronous.{StandsAsynchronous}
 use Rattle.chained_transfers.specs.Chains.{piece_at}
 use Rattle.chained_transfers.specs.Out.{out_of, out_now}
 use Rattle.fed_queues.specs.Fed.{IsPublished}
@@ -42,14 +43,14 @@ use Rattle.publish_laws.proofs.Outs.{IsNewest, IsSplit, split_out, other_out, sa
 use Rattle.publish_laws.proofs.Apart.{dummy_placed, queue_placed, piece_placed, dummy_apart, pieces_apart, queues_same, thirty_two, all_lent}
 use Rattle.publish_laws.proofs.Linked.{partly_later, sorted_after, end_is, piece_later, leads_later}
 use Rattle.publish_laws.proofs.Feeding.{IsHere, more, done, fed_more, fed_done}
-use Rattle.fed_queues.proofs.Places.{SameQueues, same_ends, going_met, met_stays, streams_stay}
-use Rattle.chained_transfers.proofs.Staying.{alive}
+use Rattle.fed_queues.proofs.Places.{SameQueues, same_ends, stands_met, met_stays, streams_stay}
+use Rattle.chained_transfers.proofs.Staying.{stands_alive}
 
 -- an IN where the queue head has a stream, else none
-asks_by : (on : Bool) (pid : ℕ) (way : Way) → IsDataWay way → on ≡ comes_in way → pid ≡ pid_by way → ((on ≡ true) × (pid ≡ 1)) ⊎ ((on ≡ false) × (pid ≢ 1))
-asks_by on pid ways.In one streamed is = inl (streamed, is)
-asks_by on pid ways.Out one streamed is = inr (streamed, λ same. let none : pid ≡ 0 = is in omega (arith, none, same))
-asks_by on pid ways.Ctl one streamed is = absurd one
+asks_by : (on : Bool) (pid : ℕ) (way : Way) → on ≡ comes_in way → pid ≡ pid_by way → ((on ≡ true) × (pid ≡ 1)) ⊎ ((on ≡ false) × (pid ≢ 1))
+asks_by on pid ways.In streamed is = inl (streamed, is)
+asks_by on pid ways.Out streamed is = inr (streamed, λ same. let none : pid ≡ 0 = is in omega (arith, none, same))
+asks_by on pid ways.Ctl streamed is = inr (streamed, λ same. let setup : pid ≡ 2 = is in omega (arith, setup, same))
 
 module _ (p : DriverParts) (member streams : ℕ → Bool) (ends : ℕ → Told) (parts : StructureSets) (order : ℕ → ℕ → ℕ) (out : ℕ → List ℕ) (b : ℕ) (words : List ℕ) (k : IsAtStore p.driver p.memory member streams ends parts order out b words) where
   abbrev d : DriverContent
@@ -73,10 +74,10 @@ module _ (p : DriverParts) (member streams : ℕ → Bool) (ends : ℕ → Told)
   abbrev note : ℕ → NoteRuns
   note = note_in d.notes
 
-  made_is : d.made ≡ suc i
+  pub made_is : d.made ≡ suc i
   made_is = let some = k.made in omega (arith, some)
 
-  below : i < 8
+  pub below : i < 8
   below = let few = g.few in omega (arith, few)
 
   abbrev now : StructureSets
@@ -97,17 +98,17 @@ module _ (p : DriverParts) (member streams : ℕ → Bool) (ends : ℕ → Told)
   is_newest : IsNewest y.endpoint b (suc q) y
   is_newest = record { owner = refl; held = g.fresh.1; waits = g.fresh.0; place = g.place.1; left = g.place.2 ∙ sym qtds_are }
 
-  split : IsSplit note y.endpoint b q b words d.transfers
+  pub split : IsSplit note y.endpoint b q b words d.transfers
   split = split_out note y.endpoint b q b words d.transfers g.number y g.newest g.there is_newest
 
-  sorted : IsSorted (order n) (split.before ++ (32 * b) ∷ split.after)
+  pub sorted : IsSorted (order n) (split.before ++ (32 * b) ∷ split.after)
   sorted = subst (IsSorted (order n)) split.all (k.last.sorted b words g.number y g.endpoint k.command k.made g.newest g.there g.place.0 g.here)
 
   element : IsPlaced (slot_of d.book.slots) k.sound.owners.owner b (PieceOf g.number)
   element = subst (λ (c : ℕ). IsPlaced (slot_of d.book.slots) k.sound.owners.owner c (PieceOf g.number)) g.place.0 (piece_placed d k.sound.owners g.number 0 y g.there g.fresh.1 some)
 
   dummy_is : (e : ℕ) (x : Endpoint) → slice_get d.endpoints e ≡ Some x → x.gone ≡ false → IsPlaced (slot_of d.book.slots) k.sound.owners.owner x.dummy (Dummy e)
-  dummy_is e x here kept = dummy_placed d k.sound.owners e x here (k.turns.bulk.endpoints e x here) kept
+  dummy_is e x here kept = dummy_placed d k.sound.owners e x here (k.turns.asynchronous.endpoints e x here) kept
 
   dummies_apart : (e : ℕ) (x : Endpoint) → slice_get d.endpoints e ≡ Some x → x.gone ≡ false → x.dummy ≢ b
   dummies_apart e x here kept = dummy_apart x.dummy b e g.number (dummy_is e x here kept) element
@@ -125,15 +126,15 @@ module _ (p : DriverParts) (member streams : ℕ → Bool) (ends : ℕ → Told)
       subst (λ (c : ℕ). piece_at note c j ≢ b) (sym (ap (λ (w : Transfer). w.first) is ∙ g.place.0)) (own_apart j (first same) (let e = ap (λ (w : Transfer). w.qtds) is in let all = qtds_are in omega (arith, low, e, all))))
       (λ (differs : t ≢ g.number). pieces_apart (piece_at note z.first j) b t g.number differs (piece_placed d k.sound.owners t j z there held low) element) (cases_eq t g.number)
 
-  here : IsHere d parts b words g i
+  pub here : IsHere d parts b words g i
   here = record { command = k.command; made = made_is; below = below; at = g.stored; dummies = dummies_apart; pieces = others_apart }
 
   -- its endpoint goes on, so the walk meets it
-  standing : IsStanding g.endpoint
-  standing = k.turns.bulk.endpoints y.endpoint g.endpoint g.here
+  standing : StandsAsynchronous g.endpoint
+  standing = k.turns.asynchronous.endpoints y.endpoint g.endpoint g.here
 
   its_alive : g.endpoint.gone ≡ false
-  its_alive = alive g.endpoint standing g.going
+  its_alive = stands_alive g.endpoint standing g.going
 
   -- ---- its links
 
@@ -152,7 +153,7 @@ module _ (p : DriverParts) (member streams : ℕ → Bool) (ends : ℕ → Told)
   later_at : (j : ℕ) → 1 ≤ j → j ≤ suc q → order n (32 * b) < order n (32 * piece_at note b j)
   later_at j first most = piece_later (order n) note y.endpoint b q b words d.transfers split g.endpoint.dummy j sorted before_dummy ends_at first most
 
-  links : LeadsLater (order n) (32 * b) g.qtd
+  pub links : LeadsLater (order n) (32 * b) g.qtd
   links =
       leads_later (order n) (32 * b) (note b).next (piece_at note b y.qtds) y.sort g.qtd g.noted.next g.noted.alternate (later_at 1 (omega arith) (omega arith))
       (subst (λ (j : ℕ). order n (32 * b) < order n (32 * piece_at note b j)) qtds_are (later_at (suc q) (omega arith) (omega arith)))
@@ -169,7 +170,7 @@ module _ (p : DriverParts) (member streams : ℕ → Bool) (ends : ℕ → Told)
   never_opens c same = publish_not_open c (sym k.command ∙ same)
 
   met_now : IsMet d y.endpoint g.endpoint
-  met_now = going_met d y.endpoint g.endpoint standing g.going (never_opens g.endpoint.queue)
+  met_now = stands_met d y.endpoint g.endpoint standing g.going (never_opens g.endpoint.queue)
 
   there_now : (x : Endpoint) → x.gone ≡ false → IsThere d x
   there_now x kept = record { linked = never_opens x.queue; kept = kept }
@@ -228,7 +229,7 @@ module _ (p : DriverParts) (member streams : ℕ → Bool) (ends : ℕ → Told)
   same_queue : (e : ℕ) (x : Endpoint) → slice_get d.endpoints e ≡ Some x → x.gone ≡ false → 32 * x.queue ≡ n → e ≡ y.endpoint
   same_queue e x there kept same =
       queues_same x.queue g.endpoint.queue e y.endpoint (thirty_two x.queue g.endpoint.queue same)
-      (queue_placed d k.sound.owners e x there (k.turns.bulk.endpoints e x there) kept) (queue_placed d k.sound.owners y.endpoint g.endpoint g.here standing its_alive)
+      (queue_placed d k.sound.owners e x there (k.turns.asynchronous.endpoints e x there) kept) (queue_placed d k.sound.owners y.endpoint g.endpoint g.here standing its_alive)
 
   other_end : (e : ℕ) (x : Endpoint) → slice_get d.endpoints e ≡ Some x → 32 * x.queue ≢ n → y.endpoint ≢ e
   other_end e x there differs same = differs (ap (λ (z : Endpoint). 32 * z.queue) (same_Some x g.endpoint (sym there ∙ ap (slice_get d.endpoints) (sym same) ∙ g.here)))
@@ -253,11 +254,11 @@ module _ (p : DriverParts) (member streams : ℕ → Bool) (ends : ℕ → Told)
     may = λ on. g.may k.made;
   }
 
-  then_more : suc i < 8 → (next_of p).driver ≡ more d parts b words g i here k.fed
+  pub then_more : suc i < 8 → (next_of p).driver ≡ more d parts b words g i here k.fed
   then_more low =
       after_is p member parts n b g.qtd i being ∙ ap (λ (x : Bool). if x then record d { made = suc (suc i) } else record d { command = None; made = 0 }) (lt-ltb (suc (suc i)) 9 (omega (arith, low)))
 
-  then_done : suc i ≡ 8 → (next_of p).driver ≡ done d parts b words g i here k.fed
+  pub then_done : suc i ≡ 8 → (next_of p).driver ≡ done d parts b words g i here k.fed
   then_done eighth = after_is p member parts n b g.qtd i being ∙ ap (counted d) eighth
 
   eighth_by : 8 ≤ suc i → suc i ≡ 8
@@ -304,7 +305,7 @@ module _ (p : DriverParts) (member streams : ℕ → Bool) (ends : ℕ → Told)
       → ArePiped stream packets sender member streams ends acc parts hand wire → ArePiped stream packets sender member streams ends acc (parts_then g) hand wire
   pipes_by sender stream packets acc wire hand piped =
       parts_are (λ (ps : StructureSets). ArePiped stream packets sender member streams ends acc ps hand wire)
-      (store_pipes sender stream packets member streams ends acc hand parts wire n (32 * b) (partly g.qtd i) (partly g.qtd (suc i)) g.stored (λ on. asks_by (streams n) (partly g.qtd (suc i)).token.pid g.endpoint.desc.name.way standing.bulk.way streamed (active_pid on)) piped)
+      (store_pipes sender stream packets member streams ends acc hand parts wire n (32 * b) (partly g.qtd i) (partly g.qtd (suc i)) g.stored (λ on. asks_by (streams n) (partly g.qtd (suc i)).token.pid g.endpoint.desc.name.way streamed (active_pid on)) piped)
 
   store : IsStore (order n) (out n) parts n (32 * b) (partly g.qtd i) (partly g.qtd (suc i))
   store = record {

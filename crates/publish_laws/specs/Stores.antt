@@ -24,7 +24,7 @@ use Rattle.controlled_streams.specs.Reported.{AreReported}
 use Rattle.driver_laws.specs.Published.{partly}
 use Rattle.controlled_streams.specs.Storing.{with_out, stored_parts}
 use Rattle.chained_transfers.specs.Out.{out_now}
-use Rattle.chained_transfers.specs.InTurn.{TakesTurns}
+use Rattle.chained_transfers.specs.AsynchronousTurns.{AsynchronousTakesTurns}
 use Rattle.fed_queues.specs.Fed.{IsPublished, AreFed}
 use Rattle.fed_queues.specs.Places.{AreMet, HaveStreams, AreLast, AreStillOut}
 
@@ -34,7 +34,7 @@ pub record IsAtStore (d : DriverContent) (m : Mem) (member streams : ℕ → Boo
   pub made : 1 ≤ d.made
   pub sound : IsSound m d
   pub lent : AreLent d
-  pub turns : TakesTurns d
+  pub turns : AsynchronousTakesTurns d
   pub met : AreMet d member
   pub streams_are : HaveStreams d streams ends
   pub fed : AreFed d parts

@@ -25,8 +25,9 @@ use Rattle.run_owners.specs.Owners.{Owner, Head, QueueHead, runs_of_endpoint, ru
 use Rattle.run_owners.specs.Kept.{HasOwners}
 use Rattle.chained_transfers.specs.Bulk.{receives, sort_by, MovesAs}
 use Rattle.chained_transfers.specs.Chains.{piece_at}
-use Rattle.chained_transfers.specs.InTurn.{TakesTurns}
-use Rattle.chained_transfers.proofs.Ways.{IsBy, its_told, all_of_all}
+use Rattle.chained_transfers.specs.AsynchronousTurns.{AsynchronousTakesTurns}
+use Rattle.chained_transfers.proofs.Ways.{IsBy, its_told, all_of_all, way_sends}
+use Rattle.chained_transfers.proofs.BulkAndControl.{not_iso}
 use Rattle.chained_transfers.proofs.Holding.{held_alive}
 use Rattle.lent_structures.specs.Structures.{StructureSets}
 use Rattle.lent_structures.specs.Sound.{element_pages, buffer_name}
@@ -35,15 +36,14 @@ use Rattle.ring_laws.specs.Ring.{Base}
 use Rattle.ring_laws.specs.Pipes.{IsNotIn}
 use Rattle.hc_core.specs.Controller.{Content}
 use Rattle.controlled_streams.specs.Control.{IsControlled, ControlEffect}
-use Rattle.fed_queues.specs.Fed.{AreFed}
+use Rattle.fed_queues.specs.Fed.{is_request, AreFed}
 use Rattle.fed_queues.specs.Places.{IsMet, HasHead, AreMet}
-use Rattle.fed_lends.specs.ToLend.{IsToBeLent}
+use Rattle.fed_lends.specs.ToLend.{AreStagesBy, IsToBeLent}
 use Rattle.put_laws.specs.Held.{held_bytes}
 use Rattle.put_laws.proofs.Accepting.{held_stays}
 use Rattle.put_laws.specs.HeldLaws.{IsPublishing, OutsAskNoData, EventHoldsPuts}
 use Rattle.put_laws.proofs.HeldAlike.{note_itself, held_alike}
 use Rattle.put_laws.proofs.Walking.{event_leaves}
-use Rattle.fed_queues.proofs.Sized.{moves_told}
 use Rattle.put_laws.proofs.Stored.{IsStored, pieces_stored, buffer_stays, either_way}
 
 -- ---- a put is one of an OUT endpoint
@@ -51,10 +51,13 @@ use Rattle.put_laws.proofs.Stored.{IsStored, pieces_stored, buffer_stays, either
 get_no_put : ◌≡◌ {A = Sort} sorts.Get sorts.Put → ⊥
 get_no_put e = cc
 
+request_no_put : ◌≡◌ {A = Sort} sorts.Request sorts.Put → ⊥
+request_no_put e = cc
+
 pub put_sends : (way : Way) → sort_by way ≡ sorts.Put → receives way ≡ false
 put_sends ways.In is = absurd (get_no_put is)
 put_sends ways.Out is = refl
-put_sends ways.Ctl is = absurd (get_no_put is)
+put_sends ways.Ctl is = absurd (request_no_put is)
 
 -- ---- what is still to be lent
 
@@ -88,12 +91,13 @@ waits_or_out d m t (Some (unfinished.Unchain e)) is publishing =
     inr (λ newest b words publish. let f : ◌≡◌ {A = Option Command} (Some (unfinished.Unchain e)) (Some (unfinished.Publish b words)) = sym is ∙ publish in absurd (cc))
 
 -- the runs of its buffers are kept, and their words stay
-waiting_held : (d : DriverContent) (m new : Mem) (t : ℕ) (y : Transfer) (b : ℕ) (words : List ℕ) (k : IsToBeLent d m b words) → t ≡ k.number → slice_get d.transfers t ≡ Some y → Stands (holding d.book m)
+waiting_held : (d : DriverContent) (m new : Mem) (t : ℕ) (y : Transfer) (b : ℕ) (words : List ℕ) (k : IsToBeLent d m b words) → t ≡ k.number → slice_get d.transfers t ≡ Some y → y.sort ≡ sorts.Put → Stands (holding d.book m)
     → ((at : ℕ) → reaches m at ≡ false → word_at new at ≡ word_at m at) → held_bytes new d.notes y.first y.qtds ≡ held_bytes m d.notes y.first y.qtds
-waiting_held d m new t y b words k number there stands same =
-    let way = k.endpoint.desc.name.way in
+waiting_held d m new t y b words k number there put stands same =
     let is : y ≡ k.transfer = same_Some y k.transfer (sym there ∙ ap (slice_get d.transfers) number ∙ k.there) in
-    let whole : AllByRecursion (λ (r : Stage). r.told ≡ r.long) (k.stage ∷ k.further) = all_of_all (IsBy way) (λ (r : Stage). r.told ≡ r.long) (k.stage ∷ k.further) (its_told way) k.stages in
+    let out : k.endpoint.desc.name.way ≡ ways.Out = way_sends k.endpoint.desc.name.way (put_sends k.endpoint.desc.name.way (sym k.sort ∙ ap (λ (r : Transfer). r.sort) (sym is) ∙ put)) in
+    let stages : AllByRecursion (IsBy ways.Out) (k.stage ∷ k.further) = subst (λ (way : Way). AreStagesBy way (k.stage ∷ k.further)) out k.stages in
+    let whole : AllByRecursion (λ (r : Stage). r.told ≡ r.long) (k.stage ∷ k.further) = all_of_all (IsBy ways.Out) (λ (r : Stage). r.told ≡ r.long) (k.stage ∷ k.further) (its_told ways.Out) stages in
     let stays : held_bytes new d.notes k.transfer.first (suc (length k.further)) ≡ held_bytes m d.notes k.transfer.first (suc (length k.further)) =
     held_stays d m new k.number (runs_of_transfer k.transfer) (runs_of_endpoint k.endpoint) k.stage k.further k.awaits stands whole same in
     subst (λ (z : Transfer). held_bytes new d.notes z.first z.qtds ≡ held_bytes m d.notes z.first z.qtds) (sym is)
@@ -104,17 +108,17 @@ waiting_held d m new t y b words k number there stands same =
 head_no_queue : (e : ℕ) → ◌≡◌ {A = Owner} Head (QueueHead e) → ⊥
 head_no_queue e is = cc
 
-same_number : (e f : ℕ) → ◌≡◌ {A = Owner} (QueueHead e) (QueueHead f) → e ≡ f
+pub same_number : (e f : ℕ) → ◌≡◌ {A = Owner} (QueueHead e) (QueueHead f) → e ≡ f
 same_number e f is = cc
 
-queue_owned : (d : DriverContent) (e : ℕ) (x : Endpoint) (owners : HasOwners d) → TakesTurns d → slice_get d.endpoints e ≡ Some x → x.gone ≡ false → owners.owner x.queue ≡ QueueHead e
+pub queue_owned : (d : DriverContent) (e : ℕ) (x : Endpoint) (owners : HasOwners d) → AsynchronousTakesTurns d → slice_get d.endpoints e ≡ Some x → x.gone ≡ false → owners.owner x.queue ≡ QueueHead e
 queue_owned d e x owners turns here kept =
-    let s = turns.bulk.endpoints e x here in
-    let alive : is_iso x.desc.kind || x.gone ≡ false = ap (λ k. is_iso k || x.gone) s.bulk.kind ∙ kept in
+    let s = turns.asynchronous.endpoints e x here in
+    let alive : is_iso x.desc.kind || x.gone ≡ false = ap (λ (b : Bool). b || x.gone) (not_iso x.desc s.asynchronous) ∙ kept in
     (owners.owned.each.queue e (runs_of_endpoint x) (ap (option_map runs_of_endpoint) here) alive).owned
 
 -- a queue head that the walk may meet is that of a met endpoint
-its_met : (d : DriverContent) (member : ℕ → Bool) (e : ℕ) (x : Endpoint) → HasOwners d → TakesTurns d → AreMet d member → slice_get d.endpoints e ≡ Some x → x.gone ≡ false → member (32 * x.queue) ≡ true → IsMet d e x
+its_met : (d : DriverContent) (member : ℕ → Bool) (e : ℕ) (x : Endpoint) → HasOwners d → AsynchronousTakesTurns d → AreMet d member → slice_get d.endpoints e ≡ Some x → x.gone ≡ false → member (32 * x.queue) ≡ true → IsMet d e x
 its_met d member e x owners turns met here kept on =
     let own : owners.owner x.queue ≡ QueueHead e = queue_owned d e x owners turns here kept in
     ⊎_elim
@@ -129,10 +133,10 @@ its_met d member e x owners turns met here kept on =
     subst (λ (z : Endpoint). IsMet d e z) (sym same) (subst (λ (i : ℕ). IsMet d i is.endpoint) (sym number) is.met))
     (met.only (32 * x.queue) on)
 
-module _ {W : Type 0} (begins : W → ℕ → Bool → W → Type 0) (transacts : W → Ask → List ℕ → Reply → W → Type 0) (base : Base) (member : ℕ → Bool) (parts : StructureSets) (hand : Hand) (c new : Content) (wire after : W) (now : StructureSets) (later : Hand) (d : DriverContent) (controlled : IsControlled base member parts hand c) (controlled_now : IsControlled base member now later new) (effect : ControlEffect begins transacts parts hand wire after now later) (owners : HasOwners d) (turns : TakesTurns d) (met : AreMet d member) (fed : AreFed d parts) (outs : OutsAskNoData d parts) where
+module _ {W : Type 0} (begins : W → ℕ → Bool → W → Type 0) (transacts : W → Ask → List ℕ → Reply → W → Type 0) (base : Base) (member : ℕ → Bool) (parts : StructureSets) (hand : Hand) (c new : Content) (wire after : W) (now : StructureSets) (later : Hand) (d : DriverContent) (controlled : IsControlled base member parts hand c) (controlled_now : IsControlled base member now later new) (effect : ControlEffect begins transacts parts hand wire after now later) (owners : HasOwners d) (turns : AsynchronousTakesTurns d) (met : AreMet d member) (fed : AreFed d parts) (outs : OutsAskNoData d parts) where
   lent_held : (t : ℕ) (y : Transfer) → slice_get d.transfers t ≡ Some y → y.sort ≡ sorts.Put → y.released ≡ false → IsOut d t → held_bytes new.memory d.notes y.first y.qtds ≡ held_bytes c.memory d.notes y.first y.qtds
   lent_held t y there put held lent =
-      let moves : MovesAs d y = turns.bulk.moves t y there in
+      let moves : MovesAs d y = turns.asynchronous.moves t y there in
       let x : Endpoint = moves.endpoint in
       let n = 32 * x.queue in
       let sends : receives x.desc.name.way ≡ false = put_sends x.desc.name.way (sym moves.sort ∙ put) in
@@ -142,7 +146,7 @@ module _ {W : Type 0} (begins : W → ℕ → Bool → W → Type 0) (transacts 
       let note = note_at d.notes (piece_at (note_in d.notes) y.first i) in
       either_way c.memory new.memory note
       (λ some.
-      let s : IsStored (parts n) note = pieces_stored d parts t i y x (moves_told d y moves) fed there held moves.here lent below some in
+      let s : IsStored (parts n) note = pieces_stored d parts t i y x (ap is_request put) fed there held moves.here lent below some in
       buffer_stays c.memory new.memory parts now n note controlled.ring.tells controlled_now.ring.tells s
       (event_leaves begins transacts base member parts hand c wire after now later n controlled effect asks (buffer_name s.qtd) (element_pages s.qtd) s.qtd.offset s.bytes s.here)))
 
@@ -150,7 +154,7 @@ pub event_holds : {W : Type 0} (begins : W → ℕ → Bool → W → Type 0) (t
 event_holds begins transacts base member parts hand c new wire after now later d puts controlled controlled_now effect same owners stands turns met fed publishing outs k = record {
   each = λ t y there put held.
       ⊎_elim
-      (λ (w : Waits d c.memory t). waiting_held d c.memory new.memory t y w.0 w.1 w.2 w.3 there stands same)
+      (λ (w : Waits d c.memory t). waiting_held d c.memory new.memory t y w.0 w.1 w.2 w.3 there put stands same)
       (λ (out : IsOut d t). lent_held begins transacts base member parts hand c new wire after now later d controlled controlled_now effect owners turns met fed outs t y there put held out)
       (waits_or_out d c.memory t d.command refl publishing)
       ∙ k.each t y there put held;

@@ -16,15 +16,15 @@ use Rattle.driver_rows.specs.Harvests.{note_at, buffer_bytes}
 use Rattle.run_owners.specs.Owners.{NoteRuns, note_in}
 use Rattle.chained_transfers.specs.Bulk.{receives}
 use Rattle.chained_transfers.specs.Chains.{piece_at}
-use Rattle.chained_transfers.specs.InTurn.{TakesTurns}
-use Rattle.chained_transfers.proofs.Staying.{told_alive}
+use Rattle.chained_transfers.specs.AsynchronousTurns.{AsynchronousTakesTurns}
+use Rattle.chained_transfers.proofs.Staying.{told_stands_alive}
 use Rattle.endpoint_lives.specs.Lives.{told_end}
 use Rattle.chained_transfers.specs.Out.{pieces_from, unpublished, passed, out_of_transfer, if_last, out_of, out_now}
 use Rattle.lent_structures.specs.Structures.{Structures, StructureSets, Tells}
 use Rattle.ring_laws.specs.Effects.{bytes_in, buffer_of}
 use Rattle.whole_sends.specs.Whole.{bytes_of_element, buffer_at, buffers_of}
-use Rattle.fed_queues.specs.Fed.{IsPieceFed, unpublished_of, IsPublished, AreFed}
-use Rattle.fed_queues.proofs.Sized.{told_piece}
+use Rattle.fed_queues.specs.Fed.{is_request, IsPieceFed, unpublished_of, IsPublished, AreFed}
+use Rattle.fed_queues.proofs.Sized.{told_fed}
 use Rattle.fed_lends.proofs.Outs.{last_apart, out_apart, drop_all, its_out, not_its_out, piece_add}
 use Rattle.put_laws.specs.Held.{held_bytes}
 use Rattle.put_laws.proofs.Stored.{fed_stored, stored_bytes}
@@ -33,7 +33,7 @@ use Rattle.put_laws.specs.Owed.{rest_from, rest_of, AreReadToEnd}
 use Rattle.put_laws.specs.Buffers.{IsPublishingTo, BuffersAreRest, BuffersBeforeLend, IsRestAround, BuffersAround}
 use Rattle.put_laws.proofs.Bytes.{no_bytes, held_first}
 use Rattle.put_laws.proofs.Rests.{waits_on, waits_not, reported_not, one_rest, one_waits, one_none, rest_join}
-use Rattle.put_laws.proofs.Same.{not_gone, kept}
+use Rattle.put_laws.proofs.Same.{not_gone, kept, its_sort}
 
 -- ---- one qTD
 
@@ -123,7 +123,7 @@ publishes_none d e t y there own none newest = by d.command refl
 
 -- ---- all of them
 
-module _ (d : DriverContent) (m : Mem) (parts : StructureSets) (e : ℕ) (x : Endpoint) (turns : TakesTurns d) (tells : Tells m parts) (fed : AreFed d parts) (read : AreReadToEnd d) (here : slice_get d.endpoints e ≡ Some x) (sends : receives x.desc.name.way ≡ false) (goes : told_end x ≡ None) where
+module _ (d : DriverContent) (m : Mem) (parts : StructureSets) (e : ℕ) (x : Endpoint) (turns : AsynchronousTakesTurns d) (tells : Tells m parts) (fed : AreFed d parts) (read : AreReadToEnd d) (here : slice_get d.endpoints e ≡ Some x) (sends : receives x.desc.name.way ≡ false) (goes : told_end x ≡ None) where
   abbrev note : ℕ → NoteRuns
   note = note_in d.notes
 
@@ -141,13 +141,13 @@ module _ (d : DriverContent) (m : Mem) (parts : StructureSets) (e : ℕ) (x : En
       let reached : unpublished_of d t y ≤ from + i = omega (arith, late) in
       let inside : from + i < y.qtds = omega (arith, few, below) in
       subst (λ (a : ℕ). buffer_bytes m (note_at d.notes a) (note_at d.notes a).told ≡ buffer_at (parts (32 * x.queue)) (32 * a)) (sym (piece_add (note_in d.notes) y.first from i))
-      (piece_bytes m parts (32 * x.queue) (note_at d.notes c) y.sort c (piece_at (note_in d.notes) y.first y.qtds) tells (told_piece d parts turns.bulk fed t (from + i) y x there stays (its_end y own) reached inside))
+      (piece_bytes m parts (32 * x.queue) (note_at d.notes c) y.sort c (piece_at (note_in d.notes) y.first y.qtds) tells (told_fed y.sort (parts (32 * x.queue)) (from + i) (note_at d.notes c) c (piece_at (note_in d.notes) y.first y.qtds) (ap is_request (its_sort d e t x y turns here sends there own)) (fed.pieces t (from + i) y x there stays (its_end y own) reached inside)))
 
   -- a transfer that waits, and one that was reported
   waiting_is : (t : ℕ) (y : Transfer) → slice_get d.transfers t ≡ Some y → y.endpoint ≡ e → y.reported ≡ false → unpublished_of d t y ≡ 0
       → one_rest m d.notes e y ≡ buffers_of (parts (32 * x.queue)) (out_of_transfer (note_in d.notes) e 0 y)
   waiting_is t y there own waits all =
-      let stays = kept d t y turns there (not_gone d e x y here (told_alive x (turns.bulk.endpoints e x here) goes) own) waits in
+      let stays = kept d t y turns there (not_gone d e x y here (told_stands_alive x (turns.asynchronous.endpoints e x here) goes) own) waits in
       let at = turns.turns.places t y there stays in
       let most = at.most in
       let late : unpublished_of d t y ≤ y.qtds - y.left = omega (arith, all) in

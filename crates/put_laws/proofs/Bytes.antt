@@ -98,6 +98,12 @@ told_same notes now b (suc n) each =
     ap (λ (i : ℕ). told_before now i n) k.next ∙ told_same notes now (note_at notes b).next n (λ i below. each (suc i) (omega (arith, below))) in
     omega (arith, told, rest)
 
+pub pieces_same : (notes now : List QtdNote) (b n : ℕ) → ((i : ℕ) → i < n → SameNote (note_at notes (piece_at (note_in notes) b i)) (note_at now (piece_at (note_in notes) b i)))
+    → piece_at (note_in now) b n ≡ piece_at (note_in notes) b n
+pieces_same notes now b zero each = refl
+pieces_same notes now b (suc n) each =
+    ap (λ (i : ℕ). piece_at (note_in now) i n) (each 0 (omega arith)).next ∙ pieces_same notes now (note_at notes b).next n (λ i below. each (suc i) (omega (arith, below)))
+
 pub held_first : (m : Mem) (notes : List QtdNote) (b n : ℕ) → held_bytes m notes b (suc n) ≡ buffer_bytes m (note_at notes b) (note_at notes b).told ++ held_bytes m notes (note_at notes b).next n
 unfolding held_bytes
 held_first m notes b n = refl

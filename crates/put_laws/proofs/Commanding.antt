@@ -1,11 +1,9 @@
 -- The bytes of a put are those of its command.
-use Rattle.std.proofs.Common.{◌≡◌, ℕ, ◌<◌, ◌≤◌, Bool, true, false, ◌&&◌, cond, nat_lt, List, [], ◌∷◌, ◌++◌, length, slice_get, Option, Some, None, Result, Ok, Err, unwrap_or, ap, refl, sym, subst, ◌∙◌, ⊎_elim, arith}
+use Rattle.std.proofs.Common.{◌≡◌, ℕ, ◌<◌, ◌≤◌, Bool, true, false, ◌&&◌, cond, nat_lt, List, [], length, slice_get, Option, Some, None, Result, Ok, Err, unwrap_or, ap, refl, sym, subst, ◌∙◌, arith}
 use Rattle.std.specs.Prelude.{option_and_then, is_some}
 use Rattle.std.specs.List.{AllByRecursion}
 use Rattle.std.proofs.lemmas.Bool.{false≢true}
 use Rattle.std.proofs.lemmas.Bool.Decides.{nat_tests}
-use Rattle.std.proofs.lemmas.List.{length-append}
-use Rattle.usb_base.specs.declared.endpoints.EpDesc.{EpDesc}
 use Rattle.usb_base.specs.declared.endpoints.EndCause.{EndCause}
 use Rattle.usb_base.specs.declared.commands.Cmd.{Cmd}
 use Rattle.usb_base.specs.declared.commands.Cmd.TheVariants as commands
@@ -13,23 +11,23 @@ use Rattle.usb_base.specs.declared.reports.OfferError.{OfferError}
 use Rattle.usb_base.specs.declared.reports.OfferError.TheVariants as errors
 use Rattle.usb_base.specs.declared.packets.Way.{Way}
 use Rattle.usb_base.specs.declared.packets.Way.TheVariants as ways
-use Rattle.word_mem.specs.Memory.{Mem}
+use Rattle.word_mem.specs.Memory.{Mem, word_at}
 use Rattle.run_book.specs.Book.{Holding, holding, Stands}
-use Rattle.bandwidth.specs.Admission.{answer}
-use Rattle.periodic_rows.specs.Periodic.{is_periodic, want_of}
 use Rattle.driver_rows.specs.declared.content.Command.{Command}
 use Rattle.driver_rows.specs.declared.content.Endpoint.{Endpoint}
+use Rattle.driver_rows.specs.declared.content.Sort.{Sort}
 use Rattle.driver_rows.specs.declared.content.Sort.TheVariants as sorts
-use Rattle.driver_rows.specs.declared.content.Transfer.{Transfer}
-use Rattle.driver_rows.specs.DriverContent.{DriverContent, is_same_way, endpoint_of, endpoint_named}
-use Rattle.driver_rows.specs.Offers.{Offered, Asked, take_runs, taken_open, planned_open, offered_open, new_transfer, taken_transfer, open_transfer, found_transfer, is_queued, takes_get, takes_put, takes_control, offered_iso, offered_next, IsOffered}
+use Rattle.driver_rows.specs.DriverContent.{DriverContent, is_same_way, endpoint_of}
+use Rattle.driver_rows.specs.Offers.{Offered, Asked, take_runs, taken_transfer, open_transfer, found_transfer, is_queued, takes_get, takes_put, offered_iso, offered_next, IsOffered}
 use Rattle.driver_rows.specs.Rows.{is_iso}
-use Rattle.driver_rows.specs.Words.{request_length, request_stages, needs, is_control}
+use Rattle.driver_rows.specs.Words.{needs}
 use Rattle.run_owners.specs.Kept.{HasOwners}
-use Rattle.chained_transfers.specs.Accepted.{move_of, IsOpened, IsAsked, IsAccepted}
-use Rattle.chained_transfers.specs.Bulk.{receives, IsBulk, OpensBulk, IsStanding, OnlyBulk}
-use Rattle.chained_transfers.specs.InTurn.{TakesTurns}
-use Rattle.chained_transfers.proofs.Accepting.{command_received}
+use Rattle.chained_transfers.specs.Accepted.{move_of, IsAsked}
+use Rattle.chained_transfers.specs.Bulk.{IsDataWay, receives, sort_by}
+use Rattle.chained_transfers.specs.Asynchronous.{StandsAsynchronous, OnlyAsynchronous, AcceptsAsynchronous}
+use Rattle.chained_transfers.specs.AsynchronousTurns.{AsynchronousTakesTurns}
+use Rattle.chained_transfers.proofs.Accepting.{command_accepts}
+use Rattle.chained_transfers.proofs.BulkAndControl.{not_iso}
 use Rattle.chained_transfers.proofs.Ways.{sort_queued, same_in, same_out, stages_short, stages_some}
 use Rattle.lent_runs.specs.Lent.{AreLent}
 use Rattle.lent_structures.specs.Structures.{StructureSets, Tells}
@@ -38,9 +36,14 @@ use Rattle.byte_answers.specs.Bytes.{IsByteCommand}
 use Rattle.put_laws.specs.HeldPuts.{HoldsPuts, with_put, puts_then}
 use Rattle.put_laws.specs.HeldLaws.{CommandHoldsPuts}
 use Rattle.put_laws.proofs.HeldAccepted.{open_holds, get_holds, put_holds}
+use Rattle.put_laws.proofs.HeldAlike.{same_holds}
 
 ok_is : (o p : Offered) → ◌≡◌ {A = Result Offered OfferError} (Ok o) (Ok p) → p ≡ o
 ok_is o p e = cc
+
+and_right : (b c : Bool) → (b && c) ≡ true → c ≡ true
+and_right true c is = is
+and_right false c is = absurd (false≢true is)
 
 -- a get or put of an endpoint of this way, in qTDs of so many bytes
 record IsAskedAs (d : DriverContent) (m : Mem) (o : Offered) (way : Way) (by : ℕ) (bytes : List ℕ) : Type 0 where
@@ -49,10 +52,10 @@ record IsAskedAs (d : DriverContent) (m : Mem) (o : Offered) (way : Way) (by : �
   by_is : asked.by ≡ by
   bytes_are : asked.bytes ≡ bytes
 
-module _ (d : DriverContent) (m : Mem) (o : Offered) (idle : d.command ≡ None) (bulk : OnlyBulk d) where
+module _ (d : DriverContent) (m : Mem) (o : Offered) (idle : d.command ≡ None) (bulk : OnlyAsynchronous d) where
   -- ---- a get or a put
 
-  module _ (way : Way) (most by : ℕ) (bytes : List ℕ) (whole : way ≡ ways.Out → length bytes ≡ most) where
+  module _ (way : Way) (most by : ℕ) (bytes : List ℕ) (goes : IsDataWay way) (whole : way ≡ ways.Out → length bytes ≡ most) where
     abbrev a : Asked
     a = move_of way most by bytes
 
@@ -79,6 +82,7 @@ module _ (d : DriverContent) (m : Mem) (o : Offered) (idle : d.command ≡ None)
           runs = is;
           is = ok_is _ o f;
         };
+        way = subst (λ (w : Way). IsDataWay w) (sym at) goes;
         asked = ap (λ (w : Way). move_of w most by bytes) (sym at);
         whole = λ out. whole (sym at ∙ out);
       };
@@ -98,10 +102,10 @@ module _ (d : DriverContent) (m : Mem) (o : Offered) (idle : d.command ≡ None)
     ended_as e x (Some cause) here ended queued at f = absurd (cc)
     ended_as e x None here ended queued at f = long_as e x (nat_lt 20480 most) here ended queued at refl f
 
-    module _ (takes : Endpoint → Bool) (fits : (x : Endpoint) → IsStanding x → takes x ≡ true → x.desc.name.way ≡ way) where
+    module _ (takes : Endpoint → Bool) (fits : (x : Endpoint) → StandsAsynchronous x → takes x ≡ true → x.desc.name.way ≡ way) where
       takes_one : (e : ℕ) (x : Endpoint) (b : Bool) → slice_get d.endpoints e ≡ Some x → takes x ≡ b → cond b (open_transfer d m e x a x.ended) (Err errors.NoEndpoint) ≡ Ok o → IsAskedAs d m o way by bytes
       takes_one e x false here is f = absurd (cc)
-      takes_one e x true here is f = let s = bulk.endpoints e x here in ended_as e x x.ended here refl (ap is_iso s.bulk.kind) (fits x s is) f
+      takes_one e x true here is f = let s = bulk.endpoints e x here in ended_as e x x.ended here refl (not_iso x.desc s.asynchronous) (fits x s is) f
 
       found_as : (e : ℕ) (q : Option Endpoint) → slice_get d.endpoints e ≡ q → found_transfer d m takes a e q ≡ Ok o → IsAskedAs d m o way by bytes
       found_as e None here f = absurd (cc)
@@ -111,25 +115,13 @@ module _ (d : DriverContent) (m : Mem) (o : Offered) (idle : d.command ≡ None)
       named_as None f = absurd (cc)
       named_as (Some e) f = found_as e (slice_get d.endpoints e) refl f
 
-  gets_in : (x : Endpoint) → IsStanding x → takes_get x ≡ true → x.desc.name.way ≡ ways.In
-  gets_in x s is = same_in x.desc.name.way (sym (ap (λ k. is_queued k && is_same_way x.desc.name.way ways.In) s.bulk.kind) ∙ is)
+  gets_in : (x : Endpoint) → StandsAsynchronous x → takes_get x ≡ true → x.desc.name.way ≡ ways.In
+  gets_in x s is = same_in x.desc.name.way (and_right (is_queued x.desc.kind) (is_same_way x.desc.name.way ways.In) is)
 
-  puts_out : (x : Endpoint) → IsStanding x → takes_put x ≡ true → x.desc.name.way ≡ ways.Out
-  puts_out x s is = same_out x.desc.name.way (sym (ap (λ k. is_queued k && is_same_way x.desc.name.way ways.Out) s.bulk.kind) ∙ is)
+  puts_out : (x : Endpoint) → StandsAsynchronous x → takes_put x ≡ true → x.desc.name.way ≡ ways.Out
+  puts_out x s is = same_out x.desc.name.way (and_right (is_queued x.desc.kind) (is_same_way x.desc.name.way ways.Out) is)
 
   -- ---- what no endpoint takes
-
-  takes_none : (e : ℕ) (x : Endpoint) (a : Asked) (b : Bool) → b ≡ false → cond b (open_transfer d m e x a x.ended) (Err errors.NoEndpoint) ≡ Ok o → ⊥
-  takes_none e x a false off f = cc
-  takes_none e x a true off f = cc
-
-  found_none : (a : Asked) (e : ℕ) (q : Option Endpoint) → slice_get d.endpoints e ≡ q → found_transfer d m takes_control a e q ≡ Ok o → ⊥
-  found_none a e None here f = cc
-  found_none a e (Some x) here f = takes_none e x a (takes_control x) (ap is_control (bulk.endpoints e x here).bulk.kind) f
-
-  named_none : (a : Asked) (q : Option ℕ) → found_transfer d m takes_control a (unwrap_or q 0) (option_and_then (λ e. slice_get d.endpoints e) q) ≡ Ok o → ⊥
-  named_none a None f = cc
-  named_none a (Some e) f = found_none a e (slice_get d.endpoints e) refl f
 
   iso_at : (b : Bool) (r : Result Offered OfferError) → b ≡ false → cond b r (Err errors.NoEndpoint) ≡ Ok o → ⊥
   iso_at false r off f = cc
@@ -137,74 +129,45 @@ module _ (d : DriverContent) (m : Mem) (o : Offered) (idle : d.command ≡ None)
 
   iso_found : (e n len seed : ℕ) (q : Option Endpoint) → slice_get d.endpoints e ≡ q → offered_iso d m e n len seed q ≡ Ok o → ⊥
   iso_found e n len seed None here f = cc
-  iso_found e n len seed (Some x) here f = iso_at (is_iso x.desc.kind) _ (ap is_iso (bulk.endpoints e x here).bulk.kind) f
+  iso_found e n len seed (Some x) here f = iso_at (is_iso x.desc.kind) _ (not_iso x.desc (bulk.endpoints e x here).asynchronous) f
 
   iso_named : (n len seed : ℕ) (q : Option ℕ) → offered_iso d m (unwrap_or q 0) n len seed (option_and_then (λ e. slice_get d.endpoints e) q) ≡ Ok o → ⊥
   iso_named n len seed None f = cc
   iso_named n len seed (Some e) f = iso_found e n len seed (slice_get d.endpoints e) refl f
 
-  -- ---- an open has no transfer
-
-  open_taken : (x : EpDesc) (r : Result Holding OfferError) → taken_open d x r ≡ Ok o → o.driver.transfers ≡ d.transfers
-  open_taken x (Err why) f = absurd (cc)
-  open_taken x (Ok h) f = ap (λ (g : Offered). g.driver.transfers) (ok_is _ o f)
-
-  open_new : (x : EpDesc) (b : Bool) → b ≡ false
-      → cond b (planned_open d m x (answer d.periodic.plan (want_of (length d.endpoints) x))) (taken_open d x (take_runs (holding d.book m) (2 ∷ 1 ∷ []))) ≡ Ok o → o.driver.transfers ≡ d.transfers
-  open_new x true off f = absurd (false≢true (sym off))
-  open_new x false off f = open_taken x (take_runs (holding d.book m) (2 ∷ 1 ∷ [])) f
-
-  again : (x : EpDesc) (old : Endpoint) (c : Option EndCause) → old.ended ≡ c → offered_open d m x (Some old) ≡ Ok o → ⊥
-  again x old (Some cause) is f =
-      let e : offered_open d m x (Some old) ≡ Err (errors.Closed cause) = ap (λ (k : Option EndCause). by k) is in cc
-    where
-      by : Option EndCause → Result Offered OfferError
-      by k = elim k [ Some cause ↦ Err (errors.Closed cause) | None ↦ Err errors.AlreadyOpen ]
-  again x old None is f =
-      let e : offered_open d m x (Some old) ≡ Err errors.AlreadyOpen = ap (λ (k : Option EndCause). by k) is in cc
-    where
-      by : Option EndCause → Result Offered OfferError
-      by k = elim k [ Some cause ↦ Err (errors.Closed cause) | None ↦ Err errors.AlreadyOpen ]
-
-  open_found : (x : EpDesc) (q : Option Endpoint) → IsBulk x → offered_open d m x q ≡ Ok o → o.driver.transfers ≡ d.transfers
-  open_found x (Some old) is f = absurd (again x old old.ended refl f)
-  open_found x None is f = open_new x (is_periodic x.kind) (ap is_periodic is.kind) f
-
-  one_more : (k : IsAsked d m o) → o.driver.transfers ≡ d.transfers → ⊥
-  one_more k same =
-      let new : Transfer = new_transfer k.transfers.number k.transfers.asked k.transfers.endpoint.dummy in
-      let long = length-append d.transfers (new ∷ []) in
-      let is : length d.transfers ≡ length (d.transfers ++ new ∷ []) = ap length (sym same) ∙ ap (λ (f : Offered). length f.driver.transfers) k.transfers.is in
-      omega (arith, long, is)
-
   -- ---- each command
 
-  module _ (parts : StructureSets) (puts : ℕ → List ℕ) (owners : HasOwners d) (lent : AreLent d) (stands : Stands (holding d.book m)) (turns : TakesTurns d) (tells : Tells m parts) (fed : AreFed d parts) (held : HoldsPuts d m puts) where
-    next_holds : (cmd : Cmd) → OpensBulk cmd → IsOffered d.room cmd → IsByteCommand cmd → IsAccepted d m o → offered_next d m cmd ≡ Ok o → HoldsPuts o.driver o.memory (puts_then d cmd puts)
-    next_holds (commands.OpenEp x) is room small way f =
-        ⊎_elim (λ (k : IsOpened d m o). open_holds d m o parts puts k stands turns tells fed held)
-        (λ (k : IsAsked d m o). absurd (one_more k (open_found x (endpoint_named d x.name) is f))) way
-    next_holds (commands.Get name len by) is room small way f =
-        let k : IsAskedAs d m o ways.In by [] = named_as ways.In len by [] (λ out. absurd (in_out out)) takes_get gets_in (endpoint_of d name) f in
-        get_holds d m o parts puts k.asked (ap receives k.way_is) owners stands turns tells fed held
+  module _ (parts : StructureSets) (puts : ℕ → List ℕ) (owners : HasOwners d) (lent : AreLent d) (stands : Stands (holding d.book m)) (turns : AsynchronousTakesTurns d) (tells : Tells m parts) (fed : AreFed d parts) (held : HoldsPuts d m puts) where
+    next_holds : (cmd : Cmd) → IsOffered d.room cmd → IsByteCommand cmd → AcceptsAsynchronous d m o cmd → offered_next d m cmd ≡ Ok o → HoldsPuts o.driver o.memory (puts_then d cmd puts)
+    next_holds (commands.OpenEp x) room small why f = open_holds d m o parts puts why.opens stands turns tells fed held
+    next_holds (commands.Get name len by) room small why f =
+        let k : IsAskedAs d m o ways.In by [] = named_as ways.In len by [] tt (λ out. absurd (in_out out)) takes_get gets_in (endpoint_of d name) f in
+        get_holds d m o parts puts k.asked.transfers (λ put. no_put (sym (ap (λ (a : Asked). a.sort) k.asked.asked ∙ ap sort_by k.way_is) ∙ put)) owners stands turns tells fed held
       where
         in_out : ways.In ≡ ways.Out → ⊥
         in_out e = cc
-    next_holds (commands.Put name bytes by) is room small way f =
-        let k : IsAskedAs d m o ways.Out by bytes = named_as ways.Out (length bytes) by bytes (λ out. refl) takes_put puts_out (endpoint_of d name) f in
+
+        no_put : ◌≡◌ {A = Sort} sorts.Get sorts.Put → ⊥
+        no_put e = cc
+    next_holds (commands.Put name bytes by) room small why f =
+        let k : IsAskedAs d m o ways.Out by bytes = named_as ways.Out (length bytes) by bytes tt (λ out. refl) takes_put puts_out (endpoint_of d name) f in
         let some = room.0 in
         subst (λ (bs : List ℕ). HoldsPuts o.driver o.memory (with_put puts (length d.transfers) bs)) k.bytes_are
         (put_holds d m o parts puts k.asked (ap receives k.way_is) (let by_is = k.by_is in omega (arith, some, by_is)) (subst (AllByRecursion (λ b. b < 256)) (sym k.bytes_are) small) owners lent stands turns tells fed held)
-    next_holds (commands.Control name setup bytes) is room small way f =
-        absurd (named_none (record { sort = sorts.Request; stages = request_stages setup; most = request_length setup; bytes = setup ++ bytes }) (endpoint_of d name) f)
-    next_holds (commands.Iso name count len seed) is room small way f = absurd (iso_named count len seed (endpoint_of d name) f)
-    next_holds (commands.Cancel name) is room small way f = absurd is
+    next_holds (commands.Control name setup bytes) room small why f =
+        get_holds d m o parts puts why.transfers (λ put. no_put (sym (ap (λ (a : Asked). a.sort) why.asked) ∙ put)) owners stands turns tells fed held
+      where
+        no_put : ◌≡◌ {A = Sort} sorts.Request sorts.Put → ⊥
+        no_put e = cc
+    next_holds (commands.Iso name count len seed) room small why f = absurd (iso_named count len seed (endpoint_of d name) f)
+    next_holds (commands.Cancel name) room small why f =
+        same_holds d o.driver m o.memory puts (ap (λ (g : Offered). g.driver.transfers) why.is) (ap (λ (g : Offered). g.driver.notes) why.is) (λ at. ap (λ (g : Offered). word_at g.memory at) why.is) held
 
-busy_holds : (d : DriverContent) (m : Mem) (cmd : Cmd) (o : Offered) (parts : StructureSets) (puts : ℕ → List ℕ) (c : Option Command) → d.command ≡ c → OpensBulk cmd → IsOffered d.room cmd → IsByteCommand cmd → IsAccepted d m o
-    → cond (is_some c) (Err errors.Busy) (offered_next d m cmd) ≡ Ok o → HasOwners d → AreLent d → Stands (holding d.book m) → TakesTurns d → Tells m parts → AreFed d parts → HoldsPuts d m puts → HoldsPuts o.driver o.memory (puts_then d cmd puts)
-busy_holds d m cmd o parts puts (Some c) is only room small way f owners lent stands turns tells fed held = absurd (cc)
-busy_holds d m cmd o parts puts None is only room small way f owners lent stands turns tells fed held = next_holds d m o is turns.bulk parts puts owners lent stands turns tells fed held cmd only room small way f
+busy_holds : (d : DriverContent) (m : Mem) (cmd : Cmd) (o : Offered) (parts : StructureSets) (puts : ℕ → List ℕ) (c : Option Command) → d.command ≡ c → IsOffered d.room cmd → IsByteCommand cmd → AcceptsAsynchronous d m o cmd
+    → cond (is_some c) (Err errors.Busy) (offered_next d m cmd) ≡ Ok o → HasOwners d → AreLent d → Stands (holding d.book m) → AsynchronousTakesTurns d → Tells m parts → AreFed d parts → HoldsPuts d m puts → HoldsPuts o.driver o.memory (puts_then d cmd puts)
+busy_holds d m cmd o parts puts (Some c) is room small why f owners lent stands turns tells fed held = absurd (cc)
+busy_holds d m cmd o parts puts None is room small why f owners lent stands turns tells fed held = next_holds d m o is turns.asynchronous parts puts owners lent stands turns tells fed held cmd room small why f
 
 pub command_holds : CommandHoldsPuts
 command_holds d m cmd o parts puts only room small f owners lent stands turns tells fed held =
-    busy_holds d m cmd o parts puts d.command refl only room small (command_received d m cmd o turns.bulk only f) f owners lent stands turns tells fed held
+    busy_holds d m cmd o parts puts d.command refl room small (command_accepts d m cmd o turns.asynchronous only f) f owners lent stands turns tells fed held

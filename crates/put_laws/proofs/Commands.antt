@@ -1,10 +1,13 @@
 -- What is owed where a command is accepted.
-use Rattle.std.proofs.Common.{◌≡◌, ◌≢◌, ℕ, ◌-◌, ◌*◌, ◌<◌, ◌==◌, ◌||◌, Bool, true, false, if◌then◌else◌, List, [], ◌∷◌, ◌++◌, get_or, length, take, drop, slice_get, Option, Some, None, option_map, ap, refl, sym, ◌∙◌, ⊎_elim, arith}
+use Rattle.std.proofs.Common.{◌≡◌, ◌≢◌, ℕ, ◌-◌, ◌*◌, ◌<◌, ◌==◌, ◌||◌, ◌&&◌, not, Bool, true, false, if◌then◌else◌, List, [], ◌∷◌, ◌++◌, get_or, length, take, drop, slice_get, Option, Some, None, option_map, ap, refl, sym, ◌∙◌, ⊎_elim, arith}
 use Rattle.std.specs.Prelude.{◌⊎◌}
 use Rattle.std.specs.List.{concat}
 use Rattle.std.proofs.lemmas.Bool.{false≢true, eq-eqb, eqb-true}
 use Rattle.std.proofs.lemmas.List.{append_assoc, append-nil}
 use Rattle.std.proofs.lemmas.Option.{slice_get_within}
+use Rattle.usb_base.specs.declared.commands.Cmd.{Cmd}
+use Rattle.usb_base.specs.declared.commands.Cmd.TheVariants as commands
+use Rattle.usb_base.specs.declared.endpoints.EndCause.{EndCause}
 use Rattle.word_mem.specs.Memory.{Mem}
 use Rattle.run_book.specs.Book.{holding, slot_of, Stands}
 use Rattle.driver_rows.specs.declared.content.Command.{Command}
@@ -15,11 +18,12 @@ use Rattle.driver_rows.specs.declared.content.Sort.TheVariants as sorts
 use Rattle.driver_rows.specs.declared.content.Transfer.{Transfer}
 use Rattle.driver_rows.specs.DriverContent.{DriverContent}
 use Rattle.driver_rows.specs.Harvests.{note_at}
-use Rattle.driver_rows.specs.Offers.{Offered, Asked, new_runs, note_stages, new_endpoint, new_transfer}
-use Rattle.driver_rows.specs.Rows.{is_iso}
+use Rattle.driver_rows.specs.Offers.{Offered, Asked, new_runs, note_stages, new_endpoint, new_transfer, first_end}
+use Rattle.driver_rows.specs.Rows.{is_iso, ended_by_cancel}
 use Rattle.driver_rows.specs.Words.{needs}
 use Rattle.endpoint_lives.specs.Lives.{told_end}
-use Rattle.run_owners.specs.Accepts.{Transfers}
+use Rattle.endpoint_lives.proofs.Lives.{told_uncancelled}
+use Rattle.run_owners.specs.Accepts.{Opens, Transfers, Cancels}
 use Rattle.run_owners.specs.Kept.{HasOwners}
 use Rattle.run_owners.specs.Owners.{Element, QueueHead, IsPlaced, runs_of_endpoint, runs_of_transfer, note_in}
 use Rattle.run_owners.proofs.Accepted.{drop_first, fresh_differs}
@@ -27,12 +31,14 @@ use Rattle.run_owners.proofs.Chains.{notes_apart}
 use Rattle.run_owners.proofs.Runs.{placed_run}
 use Rattle.run_owners.proofs.Taking.{runs_taken}
 use Rattle.run_owners.proofs.Transferred.{are_new, goes_on_alive}
-use Rattle.chained_transfers.specs.Accepted.{IsOpened, IsAsked}
+use Rattle.chained_transfers.specs.Asynchronous.{StandsAsynchronous, IsRequested, AcceptsAsynchronous}
+use Rattle.chained_transfers.specs.Accepted.{IsAsked}
 use Rattle.chained_transfers.specs.Bulk.{receives, sort_by, MovesAs}
 use Rattle.chained_transfers.specs.Chains.{piece_at}
-use Rattle.chained_transfers.specs.InTurn.{TakesTurns}
-use Rattle.chained_transfers.proofs.Accepting.{command_received}
-use Rattle.chained_transfers.proofs.Commands.{asked_in_turn}
+use Rattle.chained_transfers.specs.AsynchronousTurns.{AsynchronousTakesTurns}
+use Rattle.chained_transfers.specs.Turns.{IsAtPlace}
+use Rattle.chained_transfers.proofs.Accepting.{command_accepts}
+use Rattle.chained_transfers.proofs.BulkAndControl.{not_iso}
 use Rattle.chained_transfers.proofs.Queued.{not_dummy}
 use Rattle.chained_transfers.proofs.Ways.{sends_sort}
 use Rattle.fed_queues.specs.Places.{IsThere}
@@ -44,9 +50,9 @@ use Rattle.put_laws.specs.TakenPuts.{puts_from, puts_of}
 use Rattle.put_laws.proofs.Mapped.{push_there, push_last}
 use Rattle.put_laws.specs.Owed.{rest_from, rest_of, Owes}
 use Rattle.put_laws.specs.OwedLaws.{KeepsPuts, OpenOwes, AskedOwes, CommandOwes}
-use Rattle.put_laws.proofs.Bytes.{held_left, told_same}
+use Rattle.put_laws.proofs.Bytes.{held_left, told_same, pieces_same}
 use Rattle.put_laws.proofs.Rests.{prefix_to, prefix_of, prefix_more, waits_is, waits_on, waits_not, one_rest, one_waits, one_none, rest_alike, rest_join, puts_kept, puts_push}
-use Rattle.put_laws.proofs.Same.{not_gone, kept, its_sort, its_bytes, same_open, idle_there}
+use Rattle.put_laws.proofs.Same.{not_gone, kept, its_sort, its_bytes, same_open, idle_there, WereEnds, same_owes}
 
 none_open : (q : ℕ) → ◌≡◌ {A = Option Command} None (Some (unfinished.Open q)) → ⊥
 none_open q is = cc
@@ -56,27 +62,27 @@ publish_open b q words is = cc
 
 -- ---- an open
 
-module _ (d : DriverContent) (m : Mem) (o : Offered) (puts now reported : ℕ → List ℕ) (k : IsOpened d m o) (turns : TakesTurns d) (others : (e : ℕ) (x : Endpoint) → slice_get d.endpoints e ≡ Some x → x.gone ≡ false → o.driver.command ≢ Some (unfinished.Open x.queue)) (keeps : KeepsPuts d puts now) (held : HoldsPuts d m puts) (still : HoldsPuts o.driver o.memory now) (owes : Owes d m puts reported) where
+module _ (d : DriverContent) (m : Mem) (o : Offered) (puts now reported : ℕ → List ℕ) (k : Opens d m o) (turns : AsynchronousTakesTurns d) (others : (e : ℕ) (x : Endpoint) → slice_get d.endpoints e ≡ Some x → x.gone ≡ false → o.driver.command ≢ Some (unfinished.Open x.queue)) (keeps : KeepsPuts d puts now) (held : HoldsPuts d m puts) (still : HoldsPuts o.driver o.memory now) (owes : Owes d m puts reported) where
   abbrev new : Endpoint
-  new = new_endpoint k.opens.desc (get_or (new_runs d k.opens.holding_after) 0 0) (get_or (new_runs d k.opens.holding_after) 1 0)
+  new = new_endpoint k.desc (get_or (new_runs d k.holding_after) 0 0) (get_or (new_runs d k.holding_after) 1 0)
 
   command_is : o.driver.command ≡ Some (unfinished.Open new.queue)
-  command_is = ap (λ (p : Offered). p.driver.command) k.opens.is
+  command_is = ap (λ (p : Offered). p.driver.command) k.is
 
   transfers : o.driver.transfers ≡ d.transfers
-  transfers = ap (λ (p : Offered). p.driver.transfers) k.opens.is
+  transfers = ap (λ (p : Offered). p.driver.transfers) k.is
 
   notes : o.driver.notes ≡ d.notes
-  notes = ap (λ (p : Offered). p.driver.notes) k.opens.is
+  notes = ap (λ (p : Offered). p.driver.notes) k.is
 
   which : (e : ℕ) (x : Endpoint) → slice_get o.driver.endpoints e ≡ Some x → (slice_get d.endpoints e ≡ Some x) ⊎ ((e ≡ length d.endpoints) × (x ≡ new))
-  which e x here = push_which d.endpoints new e x (ap (λ (p : Offered). slice_get p.driver.endpoints e) (sym k.opens.is) ∙ here)
+  which e x here = push_which d.endpoints new e x (ap (λ (p : Offered). slice_get p.driver.endpoints e) (sym k.is) ∙ here)
 
   had : (t : ℕ) (y : Transfer) → slice_get o.driver.transfers t ≡ Some y → slice_get d.transfers t ≡ Some y
   had t y there = ap (λ (ts : List Transfer). slice_get ts t) (sym transfers) ∙ there
 
   its_number : (t : ℕ) (y : Transfer) → slice_get d.transfers t ≡ Some y → y.endpoint < length d.endpoints
-  its_number t y there = let moves : MovesAs d y = turns.bulk.moves t y there in slice_get_within d.endpoints y.endpoint moves.endpoint moves.here
+  its_number t y there = let moves : MovesAs d y = turns.asynchronous.moves t y there in slice_get_within d.endpoints y.endpoint moves.endpoint moves.here
 
   met_old : (e : ℕ) (x : Endpoint) → slice_get o.driver.endpoints e ≡ Some x → IsThere o.driver x → slice_get d.endpoints e ≡ Some x
   met_old e x here meets =
@@ -103,10 +109,10 @@ module _ (d : DriverContent) (m : Mem) (o : Offered) (puts now reported : ℕ �
   opened_owes = record {
     going = λ e x here meets sends goes.
         let was = met_old e x here meets in
-        ap (λ (bs : List ℕ). reported (32 * x.queue) ++ bs) (rest_same e x was meets.kept sends) ∙ owes.going e x was (idle_there d k.opens.idle x meets.kept) sends goes ∙ sym (puts_same e);
+        ap (λ (bs : List ℕ). reported (32 * x.queue) ++ bs) (rest_same e x was meets.kept sends) ∙ owes.going e x was (idle_there d k.idle x meets.kept) sends goes ∙ sym (puts_same e);
     over = λ e x cause here meets sends ends.
         let was = met_old e x here meets in
-        prefix_to (reported (32 * x.queue)) (concat (puts_of d puts e)) (concat (puts_of o.driver now e)) (sym (puts_same e)) (owes.over e x cause was (idle_there d k.opens.idle x meets.kept) sends ends);
+        prefix_to (reported (32 * x.queue)) (concat (puts_of d puts e)) (concat (puts_of o.driver now e)) (sym (puts_same e)) (owes.over e x cause was (idle_there d k.idle x meets.kept) sends ends);
     opening = λ e t x y here alive is there.
         ⊎_elim (λ (was : slice_get d.endpoints e ≡ Some x). absurd (others e x was alive is))
         (λ (own : (e ≡ length d.endpoints) × (x ≡ new)). λ same. let below = its_number t y (had t y there) in let at = own.0 in omega (arith, below, at, same)) (which e x here);
@@ -118,23 +124,20 @@ module _ (d : DriverContent) (m : Mem) (o : Offered) (puts now reported : ℕ �
 pub open_owes : OpenOwes
 open_owes d m o puts now reported k turns others keeps held still owes = opened_owes d m o puts now reported k turns others keeps held still owes
 
--- ---- a get or a put
+-- ---- a get, a put or a request
 
-module _ (d : DriverContent) (m : Mem) (o : Offered) (puts now reported : ℕ → List ℕ) (k : IsAsked d m o) (owners : HasOwners d) (stands : Stands (holding d.book m)) (turns : TakesTurns d) (keeps : KeepsPuts d puts now) (held : HoldsPuts d m puts) (still : HoldsPuts o.driver o.memory now) (owes : Owes d m puts reported) where
+module _ (d : DriverContent) (m : Mem) (o : Offered) (puts now reported : ℕ → List ℕ) (k : Transfers d m o) (sorted : k.asked.sort ≡ sort_by k.endpoint.desc.name.way) (owners : HasOwners d) (stands : Stands (holding d.book m)) (turns : AsynchronousTakesTurns d) (keeps : KeepsPuts d puts now) (held : HoldsPuts d m puts) (still : HoldsPuts o.driver o.memory now) (owes : Owes d m puts reported) where
   abbrev why : Transfers d m o
-  why = k.transfers
+  why = k
 
   abbrev to : Endpoint
-  to = k.transfers.endpoint
+  to = k.endpoint
 
   abbrev added : Transfer
-  added = new_transfer k.transfers.number k.transfers.asked k.transfers.endpoint.dummy
-
-  turns_now : TakesTurns o.driver
-  turns_now = asked_in_turn d m o stands owners k turns
+  added = new_transfer k.number k.asked k.endpoint.dummy
 
   there_before : (x : Endpoint) → x.gone ≡ false → IsThere d x
-  there_before x alive = idle_there d k.transfers.idle x alive
+  there_before x alive = idle_there d k.idle x alive
 
   transfers_are : o.driver.transfers ≡ d.transfers ++ added ∷ []
   transfers_are = ap (λ (f : Offered). f.driver.transfers) why.is
@@ -164,6 +167,18 @@ module _ (d : DriverContent) (m : Mem) (o : Offered) (puts now reported : ℕ �
   old_there : (t : ℕ) (y : Transfer) → slice_get d.transfers t ≡ Some y → slice_get o.driver.transfers t ≡ Some y
   old_there t y there = ap (λ (ts : List Transfer). slice_get ts t) transfers_are ∙ push_there d.transfers (added ∷ []) t y there
 
+  -- .. and their places
+  still_placed : (t : ℕ) (y : Transfer) → slice_get d.transfers t ≡ Some y → y.released ≡ false → IsAtPlace (note_in o.driver.notes) y
+  still_placed t y there released =
+      let at : IsAtPlace (note_in d.notes) y = turns.turns.places t y there released in
+      let some = at.some in
+      let most = at.most in
+      record {
+        some = at.some;
+        most = at.most;
+        place = at.place ∙ sym (pieces_same d.notes o.driver.notes y.first (y.qtds - y.left) (λ j below. same_note t j y there released (omega (arith, below, some, most))));
+      }
+
   -- an endpoint was one with the same queue head, and is ended as before
   record WasEnd (e : ℕ) (x : Endpoint) : Type 0 where
     endpoint : Endpoint
@@ -172,7 +187,7 @@ module _ (d : DriverContent) (m : Mem) (o : Offered) (puts now reported : ℕ �
     desc : x.desc ≡ endpoint.desc
     gone : x.gone ≡ endpoint.gone
     ended : told_end x ≡ told_end endpoint
-    own : e ≡ k.transfers.number → endpoint ≡ k.transfers.endpoint
+    own : e ≡ k.number → endpoint ≡ k.endpoint
 
   was : (e : ℕ) (x : Endpoint) → slice_get o.driver.endpoints e ≡ Some x → WasEnd e x
   was e x here =
@@ -210,27 +225,27 @@ module _ (d : DriverContent) (m : Mem) (o : Offered) (puts now reported : ℕ �
       let i = y.qtds - y.left in
       let most = (turns.turns.places t y there released).most in
       let some = (turns.turns.places t y there released).some in
-      held_left o.memory o.driver.notes y (now t) (turns_now.turns.places t y (old_there t y there) released)
+      held_left o.memory o.driver.notes y (now t) (still_placed t y there released)
       (still.each t y (old_there t y there) (its_sort d e t x y turns here sends there its.0) released)
       ∙ ap (λ (j : ℕ). drop j (now t)) (told_same d.notes o.driver.notes y.first i (λ j below. same_note t j y there released (omega (arith, below, some, most))))
       ∙ ap (piece_of d.notes y.first i) (keeps t (slice_get_within d.transfers t y there))
       ∙ sym (its_bytes d m puts e t x y turns held here still_there sends there waits))
 
   -- and the new one
-  newest : (e : ℕ) (x : Endpoint) → slice_get d.endpoints e ≡ Some x → (e ≡ k.transfers.number → x ≡ k.transfers.endpoint) → receives x.desc.name.way ≡ false
+  newest : (e : ℕ) (x : Endpoint) → slice_get d.endpoints e ≡ Some x → (e ≡ k.number → x ≡ k.endpoint) → receives x.desc.name.way ≡ false
       → one_rest o.memory o.driver.notes e added ≡ (if added.endpoint == e then now (length d.transfers) else [])
   newest e x here own sends = by (added.endpoint == e) refl
     where
       by : (b : Bool) → (added.endpoint == e) ≡ b → one_rest o.memory o.driver.notes e added ≡ (if b then now (length d.transfers) else [])
       by true is =
           let same : added.endpoint ≡ e = eqb-true added.endpoint e is in
-          let way : k.transfers.endpoint.desc.name.way ≡ x.desc.name.way = ap (λ (z : Endpoint). z.desc.name.way) (sym (own (sym same))) in
-          let put : added.sort ≡ sorts.Put = ap (λ (a : Asked). a.sort) k.asked ∙ ap sort_by way ∙ sends_sort x.desc.name.way sends in
+          let way : k.endpoint.desc.name.way ≡ x.desc.name.way = ap (λ (z : Endpoint). z.desc.name.way) (sym (own (sym same))) in
+          let put : added.sort ≡ sorts.Put = sorted ∙ ap sort_by way ∙ sends_sort x.desc.name.way sends in
           one_waits o.memory o.driver.notes e added (waits_on e added same refl)
           ∙ still.each (length d.transfers) added (ap (λ (ts : List Transfer). slice_get ts (length d.transfers)) transfers_are ∙ push_last d.transfers added) put refl
       by false is = one_none o.memory o.driver.notes e added (waits_not e added (λ same. false≢true (sym is ∙ eq-eqb added.endpoint e same)))
 
-  rest_is : (e : ℕ) (x : Endpoint) → slice_get d.endpoints e ≡ Some x → x.gone ≡ false → (e ≡ k.transfers.number → x ≡ k.transfers.endpoint) → receives x.desc.name.way ≡ false
+  rest_is : (e : ℕ) (x : Endpoint) → slice_get d.endpoints e ≡ Some x → x.gone ≡ false → (e ≡ k.number → x ≡ k.endpoint) → receives x.desc.name.way ≡ false
       → rest_of o.driver o.memory e ≡ rest_of d m e ++ (if added.endpoint == e then now (length d.transfers) else [])
   rest_is e x here alive own sends =
       ap (rest_from o.memory o.driver.notes e) transfers_are ∙ rest_join o.memory o.driver.notes e d.transfers (added ∷ [])
@@ -272,25 +287,84 @@ module _ (d : DriverContent) (m : Mem) (o : Offered) (puts now reported : ℕ �
   }
 
 pub asked_owes : AskedOwes
-asked_owes d m o puts now reported k owners stands turns keeps held still owes = taken_owes d m o puts now reported k owners stands turns keeps held still owes
+asked_owes d m o puts now reported k sorted owners stands turns keeps held still owes = taken_owes d m o puts now reported k sorted owners stands turns keeps held still owes
 
--- ---- any command
+-- ---- what else may be accepted
 
 -- the new queue head has blocks of its own
-opens_apart : (d : DriverContent) (m : Mem) (o : Offered) → IsOpened d m o → HasOwners d → Stands (holding d.book m) → TakesTurns d → (e : ℕ) (x : Endpoint) → slice_get d.endpoints e ≡ Some x → x.gone ≡ false → o.driver.command ≢ Some (unfinished.Open x.queue)
-opens_apart d m o k owners stands turns e x there still is =
-    let why = k.opens in
-    let standing = turns.bulk.endpoints e x there in
+opens_apart : (d : DriverContent) (m : Mem) (o : Offered) → Opens d m o → HasOwners d → Stands (holding d.book m) → AsynchronousTakesTurns d → (e : ℕ) (x : Endpoint) → slice_get d.endpoints e ≡ Some x → x.gone ≡ false → o.driver.command ≢ Some (unfinished.Open x.queue)
+opens_apart d m o why owners stands turns e x there still is =
+    let standing = turns.asynchronous.endpoints e x there in
     let all = runs_taken (holding d.book m) why.holding_after (2 ∷ 1 ∷ []) stands why.runs in
     let bs = all.blocks in
     let two : length bs ≡ 2 = all.are.long in
     let runs : new_runs d why.holding_after ≡ bs = ap (drop (length d.book.taken)) all.are.taken ∙ drop_first d.book.taken bs in
-    let alive : is_iso x.desc.kind || x.gone ≡ false = ap (λ c. is_iso c || x.gone) standing.bulk.kind ∙ still in
+    let alive : is_iso x.desc.kind || x.gone ≡ false = ap (λ (b : Bool). b || x.gone) (not_iso x.desc standing.asynchronous) ∙ still in
     fresh_differs 0 x.queue all.are (omega (arith, two))
     (placed_run x.queue (QueueHead e) (owners.owned.each.queue e (runs_of_endpoint x) (ap (option_map runs_of_endpoint) there) alive))
     (ap (λ (rs : List ℕ). get_or rs 0 0) (sym runs) ∙ same_open (get_or (new_runs d why.holding_after) 0 0) x.queue (sym (ap (λ (p : Offered). p.driver.command) why.is) ∙ is))
 
+-- ---- a cancel
+
+-- its report doesn't have it yet
+cancel_ends : (x : Endpoint) → StandsAsynchronous x → x.cancelled ≡ false → told_end (record x { cancelled = true; ended = first_end x.ended }) ≡ told_end x
+cancel_ends x s fresh = by_end x.ended x.gone refl (alive x.gone refl) ∙ sym (told_uncancelled x fresh)
+  where
+    alive : (b : Bool) → x.gone ≡ b → b ≡ false
+    alive false is = refl
+    alive true is = absurd (false≢true (sym fresh ∙ s.unlinked (s.gone is)))
+
+    by_end : (o : Option EndCause) (g : Bool) → x.ended ≡ o → g ≡ false → (if ended_by_cancel (first_end o) && true && not g then None else first_end o) ≡ o
+    by_end None false is kept = refl
+    by_end None true is kept = absurd (false≢true (sym kept))
+    by_end (Some cause) g is kept =
+        ap (λ (b : Bool). if b && true && not g then None else Some cause) (no_cancel (ended_by_cancel (Some cause)) refl)
+      where
+        no_cancel : (b : Bool) → ended_by_cancel (Some cause) ≡ b → b ≡ false
+        no_cancel false at = refl
+        no_cancel true at = absurd (false≢true (sym fresh ∙ s.cancel (ap ended_by_cancel is ∙ at)))
+
+module _ (d : DriverContent) (m : Mem) (o : Offered) (puts now reported : ℕ → List ℕ) (i : Cancels d m o) (turns : AsynchronousTakesTurns d) (keeps : KeepsPuts d puts now) (held : HoldsPuts d m puts) (still : HoldsPuts o.driver o.memory now) (owes : Owes d m puts reported) where
+  ends : WereEnds d o.driver
+  ends e z here =
+      ⊎_elim
+      (λ (own : (e ≡ i.number) × (z ≡ record i.endpoint { cancelled = true; ended = first_end i.endpoint.ended })). record {
+        endpoint = i.endpoint;
+        here = ap (slice_get d.endpoints) own.0 ∙ i.here;
+        queue = ap (λ (r : Endpoint). r.queue) own.1;
+        desc = ap (λ (r : Endpoint). r.desc) own.1;
+        gone = ap (λ (r : Endpoint). r.gone) own.1;
+        ends = ap (λ (r : Endpoint). told_end r) own.1 ∙ cancel_ends i.endpoint (turns.asynchronous.endpoints i.number i.endpoint i.here) i.fresh;
+      })
+      (λ (other : (e ≢ i.number) × (slice_get d.endpoints e ≡ Some z)). record { endpoint = z; here = other.1; queue = refl; desc = refl; gone = refl; ends = refl })
+      (set_which d.endpoints i.number e i.endpoint _ z i.here (ap (λ (f : Offered). slice_get f.driver.endpoints e) (sym i.is) ∙ here))
+
+  pub cancel_owes : Owes o.driver o.memory now reported
+  cancel_owes =
+      same_owes d o.driver m o.memory puts now reported reported turns
+      (record { ends = ends; transfers = ap (λ (f : Offered). f.driver.transfers) i.is; notes = ap (λ (f : Offered). f.driver.notes) i.is }) keeps held still (λ e x here meets before. refl)
+      (λ e x here meets at_open. absurd (none_open x.queue (sym i.idle ∙ at_open))) (λ x is. absurd (unlink_open _ _ _ x.queue (sym (ap (λ (f : Offered). f.driver.command) i.is) ∙ is))) owes
+    where
+      unlink_open : (e b link q : ℕ) → ◌≡◌ {A = Option Command} (Some (unfinished.Unlink e b link)) (Some (unfinished.Open q)) → ⊥
+      unlink_open e b link q is = cc
+
+-- ---- any command
+
+module _ (d : DriverContent) (m : Mem) (o : Offered) (puts now reported : ℕ → List ℕ) (owners : HasOwners d) (stands : Stands (holding d.book m)) (turns : AsynchronousTakesTurns d) (keeps : KeepsPuts d puts now) (held : HoldsPuts d m puts) (still : HoldsPuts o.driver o.memory now) (owes : Owes d m puts reported) where
+  moved : IsAsked d m o → Owes o.driver o.memory now reported
+  moved k = asked_owes d m o puts now reported k.transfers (ap (λ (a : Asked). a.sort) k.asked) owners stands turns keeps held still owes
+
+  requested : IsRequested d m o → Owes o.driver o.memory now reported
+  requested k = asked_owes d m o puts now reported k.transfers (ap (λ (a : Asked). a.sort) k.asked ∙ ap sort_by (sym k.way)) owners stands turns keeps held still owes
+
+  pub accepted_owes : (cmd : Cmd) → AcceptsAsynchronous d m o cmd → Owes o.driver o.memory now reported
+  accepted_owes (commands.OpenEp x) k = open_owes d m o puts now reported k.opens turns (opens_apart d m o k.opens owners stands turns) keeps held still owes
+  accepted_owes (commands.Get name len by) k = moved k
+  accepted_owes (commands.Put name bytes by) k = moved k
+  accepted_owes (commands.Control name setup bytes) k = requested k
+  accepted_owes (commands.Iso name count len seed) k = absurd k
+  accepted_owes (commands.Cancel name) k = cancel_owes d m o puts now reported k turns keeps held still owes
+
 pub command_owes : CommandOwes
 command_owes d m cmd o puts now reported only offer owners stands turns keeps held still owes =
-    ⊎_elim (λ (k : IsOpened d m o). open_owes d m o puts now reported k turns (opens_apart d m o k owners stands turns) keeps held still owes)
-    (λ (k : IsAsked d m o). asked_owes d m o puts now reported k owners stands turns keeps held still owes) (command_received d m cmd o turns.bulk only offer)
+    accepted_owes d m o puts now reported owners stands turns keeps held still owes cmd (command_accepts d m cmd o turns.asynchronous only offer)

@@ -15,8 +15,9 @@ use Rattle.endpoint_lives.specs.Lives.{told_end}
 use Rattle.run_owners.specs.Due.{IsDue, IsTransferDue}
 use Rattle.run_owners.specs.Kept.{HasOwners}
 use Rattle.run_owners.proofs.Reasons.{each_is_due}
-use Rattle.chained_transfers.specs.Bulk.{IsBulkCommand, OnlyBulk}
-use Rattle.chained_transfers.specs.InTurn.{TakesTurns}
+use Rattle.chained_transfers.specs.Bulk.{IsBulkCommand}
+use Rattle.chained_transfers.specs.Asynchronous.{OnlyAsynchronous}
+use Rattle.chained_transfers.specs.AsynchronousTurns.{AsynchronousTakesTurns}
 use Rattle.chained_transfers.proofs.Events.{first_owed}
 use Rattle.chained_transfers.proofs.Rows.{left, advanced_or_left, set_which}
 use Rattle.fed_queues.specs.Places.{IsThere}
@@ -77,7 +78,7 @@ pub quiet_no_more : (d f : DriverContent) → f.endpoints ≡ d.endpoints → f.
 quiet_no_more d f endpoints transfers notes command = record { alike = record { ends = ends_same d f endpoints; transfers = transfers; notes = notes }; opens = λ q is. sym command ∙ is }
 
 -- each row but a harvest, and but one that gives something back, tells the same
-pub row_no_more : (p : Parts) (row : DriverRow) → IsDue p row → OnlyBulk p.driver → ((e t : ℕ) (found : Found) → row ≢ rows.Harvest e t found) → ((t : ℕ) → row ≢ rows.ReleaseTransfer t) → ((e : ℕ) → row ≢ rows.ReleaseEndpoint e) → IsNoMore p.driver (after_driver_row row p).driver
+pub row_no_more : (p : Parts) (row : DriverRow) → IsDue p row → OnlyAsynchronous p.driver → ((e t : ℕ) (found : Found) → row ≢ rows.Harvest e t found) → ((t : ℕ) → row ≢ rows.ReleaseTransfer t) → ((e : ℕ) → row ≢ rows.ReleaseEndpoint e) → IsNoMore p.driver (after_driver_row row p).driver
 row_no_more p rows.Lend due bulk harvest release endpoint =
     advanced_no_more p.driver (record p.driver { book = (lend_taken (holding p.driver.book p.memory)).book }) bulk.command (quiet_no_more p.driver _ refl refl refl refl)
 row_no_more p (rows.Store b at v) due bulk harvest release endpoint = advanced_no_more p.driver p.driver bulk.command (no_more_itself p.driver)
@@ -99,7 +100,7 @@ row_no_more p rows.Rest due bulk harvest release endpoint = no_more_itself p.dri
 
 -- ---- the law
 
-module _ (p : Parts) (puts reported told : ℕ → List ℕ) (owners : HasOwners p.driver) (turns : TakesTurns p.driver) (held : HoldsPuts p.driver p.memory puts) (owes : Owes p.driver p.memory puts reported) (met : (e : ℕ) (x : Endpoint) → slice_get p.driver.endpoints e ≡ Some x → IsThere p.driver x → told (32 * x.queue) ≡ reported (32 * x.queue)) where
+module _ (p : Parts) (puts reported told : ℕ → List ℕ) (owners : HasOwners p.driver) (turns : AsynchronousTakesTurns p.driver) (held : HoldsPuts p.driver p.memory puts) (owes : Owes p.driver p.memory puts reported) (met : (e : ℕ) (x : Endpoint) → slice_get p.driver.endpoints e ≡ Some x → IsThere p.driver x → told (32 * x.queue) ≡ reported (32 * x.queue)) where
   abbrev after : DriverRow → Parts
   after row = after_driver_row row p
 
@@ -133,20 +134,20 @@ module _ (p : Parts) (puts reported told : ℕ → List ℕ) (owners : HasOwners
       → ((e : ℕ) (x : Endpoint) → slice_get p.driver.endpoints e ≡ Some x → p.driver.command ≡ Some (unfinished.Open x.queue) → IsThere (after_driver_row row p).driver x → told (32 * x.queue) ≡ [])
       → HoldsPuts (after_driver_row row p).driver (after_driver_row row p).memory puts → Owes (after_driver_row row p).driver (after_driver_row row p).memory puts told
   by_row (rows.ReleaseTransfer t) due harvest endpoint opened still = told_released t due still
-  by_row rows.Lend due harvest endpoint opened still = told_same rows.Lend (row_no_more p rows.Lend due turns.bulk harvest (λ t is. cc) endpoint) opened still
-  by_row (rows.Store b at v) due harvest endpoint opened still = told_same (rows.Store b at v) (row_no_more p (rows.Store b at v) due turns.bulk harvest (λ t is. cc) endpoint) opened still
-  by_row (rows.Mend w) due harvest endpoint opened still = told_same (rows.Mend w) (row_no_more p (rows.Mend w) due turns.bulk harvest (λ t is. cc) endpoint) opened still
-  by_row rows.Frames due harvest endpoint opened still = told_same rows.Frames (row_no_more p rows.Frames due turns.bulk harvest (λ t is. cc) endpoint) opened still
-  by_row rows.LendDescriptors due harvest endpoint opened still = told_same rows.LendDescriptors (row_no_more p rows.LendDescriptors due turns.bulk harvest (λ t is. cc) endpoint) opened still
-  by_row (rows.Unlink t) due harvest endpoint opened still = told_same (rows.Unlink t) (row_no_more p (rows.Unlink t) due turns.bulk harvest (λ u is. cc) endpoint) opened still
-  by_row (rows.ReleaseRemoved what) due harvest endpoint opened still = told_same (rows.ReleaseRemoved what) (row_no_more p (rows.ReleaseRemoved what) due turns.bulk harvest (λ t is. cc) endpoint) opened still
-  by_row (rows.ReleaseEndpoint e) due harvest endpoint opened still = told_same (rows.ReleaseEndpoint e) (row_no_more p (rows.ReleaseEndpoint e) due turns.bulk harvest (λ t is. cc) endpoint) opened still
-  by_row rows.ClearAdvance due harvest endpoint opened still = told_same rows.ClearAdvance (row_no_more p rows.ClearAdvance due turns.bulk harvest (λ t is. cc) endpoint) opened still
-  by_row rows.RingBell due harvest endpoint opened still = told_same rows.RingBell (row_no_more p rows.RingBell due turns.bulk harvest (λ t is. cc) endpoint) opened still
-  by_row (rows.ReadStatus heard) due harvest endpoint opened still = told_same (rows.ReadStatus heard) (row_no_more p (rows.ReadStatus heard) due turns.bulk harvest (λ t is. cc) endpoint) opened still
-  by_row (rows.ReadFrame n) due harvest endpoint opened still = told_same (rows.ReadFrame n) (row_no_more p (rows.ReadFrame n) due turns.bulk harvest (λ t is. cc) endpoint) opened still
+  by_row rows.Lend due harvest endpoint opened still = told_same rows.Lend (row_no_more p rows.Lend due turns.asynchronous harvest (λ t is. cc) endpoint) opened still
+  by_row (rows.Store b at v) due harvest endpoint opened still = told_same (rows.Store b at v) (row_no_more p (rows.Store b at v) due turns.asynchronous harvest (λ t is. cc) endpoint) opened still
+  by_row (rows.Mend w) due harvest endpoint opened still = told_same (rows.Mend w) (row_no_more p (rows.Mend w) due turns.asynchronous harvest (λ t is. cc) endpoint) opened still
+  by_row rows.Frames due harvest endpoint opened still = told_same rows.Frames (row_no_more p rows.Frames due turns.asynchronous harvest (λ t is. cc) endpoint) opened still
+  by_row rows.LendDescriptors due harvest endpoint opened still = told_same rows.LendDescriptors (row_no_more p rows.LendDescriptors due turns.asynchronous harvest (λ t is. cc) endpoint) opened still
+  by_row (rows.Unlink t) due harvest endpoint opened still = told_same (rows.Unlink t) (row_no_more p (rows.Unlink t) due turns.asynchronous harvest (λ u is. cc) endpoint) opened still
+  by_row (rows.ReleaseRemoved what) due harvest endpoint opened still = told_same (rows.ReleaseRemoved what) (row_no_more p (rows.ReleaseRemoved what) due turns.asynchronous harvest (λ t is. cc) endpoint) opened still
+  by_row (rows.ReleaseEndpoint e) due harvest endpoint opened still = told_same (rows.ReleaseEndpoint e) (row_no_more p (rows.ReleaseEndpoint e) due turns.asynchronous harvest (λ t is. cc) endpoint) opened still
+  by_row rows.ClearAdvance due harvest endpoint opened still = told_same rows.ClearAdvance (row_no_more p rows.ClearAdvance due turns.asynchronous harvest (λ t is. cc) endpoint) opened still
+  by_row rows.RingBell due harvest endpoint opened still = told_same rows.RingBell (row_no_more p rows.RingBell due turns.asynchronous harvest (λ t is. cc) endpoint) opened still
+  by_row (rows.ReadStatus heard) due harvest endpoint opened still = told_same (rows.ReadStatus heard) (row_no_more p (rows.ReadStatus heard) due turns.asynchronous harvest (λ t is. cc) endpoint) opened still
+  by_row (rows.ReadFrame n) due harvest endpoint opened still = told_same (rows.ReadFrame n) (row_no_more p (rows.ReadFrame n) due turns.asynchronous harvest (λ t is. cc) endpoint) opened still
   by_row (rows.Harvest e t found) due harvest endpoint opened still = absurd (harvest e t found refl)
-  by_row rows.Rest due harvest endpoint opened still = told_same rows.Rest (row_no_more p rows.Rest due turns.bulk harvest (λ t is. cc) endpoint) opened still
+  by_row rows.Rest due harvest endpoint opened still = told_same rows.Rest (row_no_more p rows.Rest due turns.asynchronous harvest (λ t is. cc) endpoint) opened still
 
 pub driver_owes : DriverOwes
 driver_owes p puts reported told owners turns harvest endpoint met opened held still owes = by_row p puts reported told owners turns held owes met (driver_row p) (each_is_due p) harvest endpoint opened still

@@ -9,7 +9,6 @@ use Rattle.word_mem.specs.Memory.{Mem}
 use Rattle.run_book.specs.Book.{holding, slot_of, Stands}
 use Rattle.driver_rows.specs.declared.content.Endpoint.{Endpoint}
 use Rattle.driver_rows.specs.declared.content.QtdNote.{QtdNote}
-use Rattle.driver_rows.specs.declared.content.Sort.{Sort}
 use Rattle.driver_rows.specs.declared.content.Sort.TheVariants as sorts
 use Rattle.driver_rows.specs.declared.content.Transfer.{Transfer}
 use Rattle.driver_rows.specs.declared.content.Command.{Command}
@@ -29,14 +28,14 @@ use Rattle.run_owners.proofs.Transferred.{are_new, goes_on_alive}
 use Rattle.chained_transfers.specs.Accepted.{move_of}
 use Rattle.chained_transfers.specs.Bulk.{MovesAs}
 use Rattle.chained_transfers.specs.Chains.{piece_at}
-use Rattle.chained_transfers.specs.InTurn.{TakesTurns}
+use Rattle.chained_transfers.specs.AsynchronousTurns.{AsynchronousTakesTurns}
 use Rattle.chained_transfers.proofs.Queued.{not_dummy}
-use Rattle.chained_transfers.proofs.Ways.{way_sends, receives_sort, asked_pids}
+use Rattle.chained_transfers.proofs.Ways.{way_sends, asked_pids}
 use Rattle.lent_structures.specs.Structures.{StructureSets, Tells}
 use Rattle.lent_structures.specs.Changes.{Leaves}
 use Rattle.driver_laws.proofs.Offered.{opens_leave}
 use Rattle.driver_laws.proofs.Sending.{transfer_leaves}
-use Rattle.fed_queues.specs.Fed.{AreFed}
+use Rattle.fed_queues.specs.Fed.{is_request, AreFed}
 use Rattle.fed_lends.proofs.Asked.{push_which, low, piece_placed}
 use Rattle.put_laws.specs.Held.{held_bytes, AreFilled}
 use Rattle.put_laws.proofs.Accepting.{put_is_held}
@@ -44,21 +43,20 @@ use Rattle.put_laws.proofs.Cuts.{puts_filled}
 use Rattle.put_laws.specs.HeldPuts.{HoldsPuts, with_put}
 use Rattle.put_laws.specs.HeldLaws.{OpenHoldsPuts, GetHoldsPuts, PutHoldsPuts}
 use Rattle.put_laws.proofs.HeldAlike.{note_is, SameBytes, was_itself, StaysPut, put_stays, puts_stay}
-use Rattle.fed_queues.proofs.Sized.{moves_told}
 use Rattle.put_laws.proofs.Stored.{IsStored, pieces_stored, words_stored, either_way, stored_at}
 
 -- ---- words of what is lent
 
 -- where no command is unfinished each of them is lent
-idle_bytes : (d : DriverContent) (m new : Mem) (parts : StructureSets) (t i : ℕ) (y : Transfer) → d.command ≡ None → TakesTurns d → Tells m parts → AreFed d parts → Leaves m new → slice_get d.transfers t ≡ Some y → y.released ≡ false → i < y.qtds
+idle_bytes : (d : DriverContent) (m new : Mem) (parts : StructureSets) (t i : ℕ) (y : Transfer) → d.command ≡ None → AsynchronousTakesTurns d → Tells m parts → AreFed d parts → Leaves m new → slice_get d.transfers t ≡ Some y → y.sort ≡ sorts.Put → y.released ≡ false → i < y.qtds
     → SameBytes m new (note_at d.notes (piece_at (note_in d.notes) y.first i))
-idle_bytes d m new parts t i y idle turns tells fed leaves there held below =
-    let moves : MovesAs d y = turns.bulk.moves t y there in
+idle_bytes d m new parts t i y idle turns tells fed leaves there put held below =
+    let moves : MovesAs d y = turns.asynchronous.moves t y there in
     let n = 32 * moves.endpoint.queue in
     let note = note_at d.notes (piece_at (note_in d.notes) y.first i) in
     either_way m new note
     (λ some.
-    let s : IsStored (parts n) note = pieces_stored d parts t i y moves.endpoint (moves_told d y moves) fed there held moves.here (λ newest b words is. absurd (no_command b words (sym idle ∙ is))) below some in
+    let s : IsStored (parts n) note = pieces_stored d parts t i y moves.endpoint (ap is_request put) fed there held moves.here (λ newest b words is. absurd (no_command b words (sym idle ∙ is))) below some in
     words_stored m new note (λ j inside. leaves.words (buffer_address note j) (stored_at m parts n note tells s j inside).lent))
   where
     no_command : (b : ℕ) (words : List ℕ) → ◌≡◌ {A = Option Command} None (Some (unfinished.Publish b words)) → ⊥
@@ -67,8 +65,7 @@ idle_bytes d m new parts t i y idle turns tells fed leaves there held below =
 -- ---- an open
 
 pub open_holds : OpenHoldsPuts
-open_holds d m o parts puts why stands turns tells fed k =
-    let w = why.opens in
+open_holds d m o parts puts w stands turns tells fed k =
     let leaves : Leaves m o.memory = opens_leave d m o w stands tells.shape in
     let transfers : o.driver.transfers ≡ d.transfers = ap (λ (f : Offered). f.driver.transfers) w.is in
     let notes : o.driver.notes ≡ d.notes = ap (λ (f : Offered). f.driver.notes) w.is in
@@ -78,7 +75,7 @@ open_holds d m o parts puts why stands turns tells fed k =
     record {
       was = was_itself d.transfers t y there;
       notes = λ i below. let c = piece_at (note_in d.notes) y.first i in note_is (note_at d.notes c) (note_at o.driver.notes c) (ap (λ (ns : List QtdNote). note_at ns c) notes);
-      bytes = λ i below. idle_bytes d m o.memory parts t i y w.idle turns tells fed leaves there held below;
+      bytes = λ i below. idle_bytes d m o.memory parts t i y w.idle turns tells fed leaves there put held below;
     }) k
 
 -- ---- a transfer
@@ -93,7 +90,7 @@ put_there puts t bytes u less = by (u == t) refl
     by true is = let same = eqb-true u t is in absurd (omega (arith, less, same))
     by false is = refl
 
-module _ (d : DriverContent) (m : Mem) (o : Offered) (parts : StructureSets) (why : Transfers d m o) (owners : HasOwners d) (stands : Stands (holding d.book m)) (turns : TakesTurns d) (tells : Tells m parts) (fed : AreFed d parts) where
+module _ (d : DriverContent) (m : Mem) (o : Offered) (parts : StructureSets) (why : Transfers d m o) (owners : HasOwners d) (stands : Stands (holding d.book m)) (turns : AsynchronousTakesTurns d) (tells : Tells m parts) (fed : AreFed d parts) where
   abbrev x : Endpoint
   x = why.endpoint
 
@@ -121,22 +118,22 @@ module _ (d : DriverContent) (m : Mem) (o : Offered) (parts : StructureSets) (wh
       ∙ ap (λ (rs : List ℕ). note_at (note_stages d.notes ss x.dummy (take n rs) (drop n rs)) c) runs_are
       ∙ notes_apart d.notes ss x.dummy (take n bs) (drop n bs) c (are.apart c (placed_run c (Element t) placed) (not_dummy x.dummy c why.number t was placed))
 
-  older : (t : ℕ) (y : Transfer) → slice_get d.transfers t ≡ Some y → y.released ≡ false → StaysPut d o.driver m o.memory t y
-  older t y there held = record {
+  older : (t : ℕ) (y : Transfer) → slice_get d.transfers t ≡ Some y → y.sort ≡ sorts.Put → y.released ≡ false → StaysPut d o.driver m o.memory t y
+  older t y there put held = record {
     was = was_itself d.transfers t y there;
     notes = λ i below. let c = piece_at (note_in d.notes) y.first i in note_is (note_at d.notes c) (note_at o.driver.notes c) (notes_stay t i y there held below);
-    bytes = λ i below. idle_bytes d m o.memory parts t i y why.idle turns tells fed (transfer_leaves d m o why owners stands tells.shape) there held below;
+    bytes = λ i below. idle_bytes d m o.memory parts t i y why.idle turns tells fed (transfer_leaves d m o why owners stands tells.shape) there put held below;
   }
 
   which : (t : ℕ) (y : Transfer) → slice_get o.driver.transfers t ≡ Some y → (slice_get d.transfers t ≡ Some y) ⊎ ((t ≡ length d.transfers) × (y ≡ new))
   which t y here = push_which d.transfers new t y (sym (ap (λ (ts : List Transfer). slice_get ts t) transfers_are) ∙ here)
 
-  -- a get has no bytes to be held
+  -- a get and a request have no bytes to be held
   pub get_leaves : (puts : ℕ → List ℕ) → (why.asked.sort ≡ sorts.Put → ⊥) → HoldsPuts d m puts → HoldsPuts o.driver o.memory puts
   get_leaves puts no_put k =
       puts_stay d o.driver m o.memory puts
       (λ t y here put held.
-      ⊎_elim (λ (was : slice_get d.transfers t ≡ Some y). older t y was held)
+      ⊎_elim (λ (was : slice_get d.transfers t ≡ Some y). older t y was put held)
       (λ (is : (t ≡ length d.transfers) × (y ≡ new)). absurd (no_put (ap (λ (r : Transfer). r.sort) (sym is.1) ∙ put))) (which t y here)) k
 
   pub put_joins : (puts : ℕ → List ℕ) → held_bytes o.memory o.driver.notes why.endpoint.dummy (length why.asked.stages) ≡ why.asked.bytes → HoldsPuts d m puts
@@ -145,7 +142,7 @@ module _ (d : DriverContent) (m : Mem) (o : Offered) (parts : StructureSets) (wh
     each = λ t y here put held.
         ⊎_elim
         (λ (was : slice_get d.transfers t ≡ Some y).
-        put_stays d o.driver m o.memory puts t y (older t y was held) k put held ∙ sym (put_there puts (length d.transfers) why.asked.bytes t (low d.transfers t y was)))
+        put_stays d o.driver m o.memory puts t y (older t y was put held) k put held ∙ sym (put_there puts (length d.transfers) why.asked.bytes t (low d.transfers t y was)))
         (λ (is : (t ≡ length d.transfers) × (y ≡ new)).
         ap (λ (r : Transfer). held_bytes o.memory o.driver.notes r.first r.qtds) is.1 ∙ new_held ∙ sym (put_here puts (length d.transfers) why.asked.bytes t is.0))
         (which t y here);
@@ -153,14 +150,8 @@ module _ (d : DriverContent) (m : Mem) (o : Offered) (parts : StructureSets) (wh
 
 -- ---- the laws
 
-get_is_no_put : ◌≡◌ {A = Sort} sorts.Get sorts.Put → ⊥
-get_is_no_put e = cc
-
 pub get_holds : GetHoldsPuts
-get_holds d m o parts puts k comes owners stands turns tells fed held =
-    let way = k.transfers.endpoint.desc.name.way in
-    let get : k.transfers.asked.sort ≡ sorts.Get = ap (λ (a : Asked). a.sort) k.asked ∙ receives_sort way comes in
-    get_leaves d m o parts k.transfers owners stands turns tells fed puts (λ is. get_is_no_put (sym get ∙ is)) held
+get_holds d m o parts puts why differs owners stands turns tells fed held = get_leaves d m o parts why owners stands turns tells fed puts differs held
 
 pub put_holds : PutHoldsPuts
 put_holds d m o parts puts k leaves some small owners lent stands turns tells fed held =

@@ -160,7 +160,7 @@ lend_row_sends d m b words member heads parts now order order_now out out_now ha
     ⊎_elim
     (λ (same : q ≡ n).
     let on : IsMember member n (parts n) = subst (λ (i : ℕ). IsMember member i (parts i)) same (members q (met.each e x here is)) in
-    let r : IsReported (order n) (out n) hand parts n (acc n) (reported n) = subst (λ (i : ℕ). IsReported (order i) (out i) hand parts i (acc i) (reported i)) same (reports q (held e x here is.there)) in
+    let r : IsReported (order n) (out n) hand parts n (acc n) (reported n) = subst (λ (i : ℕ). IsReported (order i) (out i) hand parts i (acc i) (reported i)) same (reports q (held e x here is.there sends)) in
     subst (λ (i : ℕ). AreSentWhole (order_now i) (out_now i) hand i (now i)) (sym same)
     (subst (λ (g : ℕ → ℕ). AreSentWhole g (out_now n) hand n (now n)) (sym l.order_is)
     (subst (λ (es : List ℕ). AreSentWhole f es hand n (now n)) (sym l.out_is)

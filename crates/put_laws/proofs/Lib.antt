@@ -41,6 +41,7 @@ pub mod Commands
 pub mod Driver
 pub mod OwedReading
 pub mod Harvests
+pub mod OtherHarvests
 pub mod Paying
 pub mod Reported
 pub mod BufferBytes
@@ -48,4 +49,5 @@ pub mod TakenStopped
 pub mod TakenRows
 pub mod TakenFresh
 pub mod TakenBegins
+pub mod Mends
 pub mod OwedSampled

@@ -22,7 +22,7 @@ use Rattle.driver_rows.specs.Offers.{Offered, runs_of, note_for, note_stages, ne
 use Rattle.driver_rows.specs.Rows.{Parts as DriverParts, advance, linked_by, served, told_with, behind_one, behind, mends_of, after_end, harvested_as, after_harvest, freed_by, after_transfer, is_told, cancelled_bytes, after_endpoint, driver_row, after_driver_row}
 use Rattle.run_owners.specs.Due.{IsDue, IsHarvestDue}
 use Rattle.run_owners.proofs.Reasons.{each_is_due}
-use Rattle.chained_transfers.specs.Bulk.{OnlyBulk}
+use Rattle.chained_transfers.specs.Asynchronous.{OnlyAsynchronous}
 use Rattle.chained_transfers.proofs.Ways.{found_by, moves_queued}
 use Rattle.put_laws.specs.HeldLaws.{NewDriverMovesFew, CommandMovesFew, DriverMovesFew}
 use Rattle.put_laws.proofs.Rows.{advanced_keeps, framed_same, none_there}
@@ -58,9 +58,8 @@ new_moves_few n room b = none_few _ b
 -- ---- a command
 
 pub command_moves_few : CommandMovesFew
-command_moves_few d m o (inl w) k = subst (λ (f : Offered). AreFew f.driver.notes) (sym w.opens.is) k
-command_moves_few d m o (inr w) k =
-    let t = w.transfers in
+command_moves_few d m o (inl w) k = subst (λ (f : Offered). AreFew f.driver.notes) (sym w.is) k
+command_moves_few d m o (inr t) k =
     let n = length t.asked.stages in
     subst (λ (f : Offered). AreFew f.driver.notes) (sym t.is)
     (staged_few d.notes t.asked.stages t.endpoint.dummy (take n (new_runs d t.holding_after)) (drop n (new_runs d t.holding_after)) k)
@@ -119,7 +118,7 @@ by_wait : (d f : DriverContent) (b : Bool) → AreFew d.notes → AreFew f.notes
 by_wait d f true old new = new
 by_wait d f false old new = old
 
-harvest_few : (p : DriverParts) (e t : ℕ) (found : Found) → IsHarvestDue p e t found → OnlyBulk p.driver → AreFew p.driver.notes → AreFew (after_driver_row (rows.Harvest e t found) p).driver.notes
+harvest_few : (p : DriverParts) (e t : ℕ) (found : Found) → IsHarvestDue p e t found → OnlyAsynchronous p.driver → AreFew p.driver.notes → AreFew (after_driver_row (rows.Harvest e t found) p).driver.notes
 harvest_few p e t found due bulk k =
     let d = p.driver in
     let y = due.transfer in
@@ -138,16 +137,16 @@ told_notes d m e x false = refl
 
 -- ---- any row
 
-advanced_few : (d : DriverContent) → OnlyBulk d → AreFew d.notes → AreFew (advance d).notes
+advanced_few : (d : DriverContent) → OnlyAsynchronous d → AreFew d.notes → AreFew (advance d).notes
 advanced_few d bulk k = subst AreFew (sym (advanced_keeps d d.command bulk.command).notes) k
 
-lent_few : (d : DriverContent) (q : Mem) → OnlyBulk d → AreFew d.notes → AreFew (advance (record d { book = (lend_taken (holding d.book q)).book })).notes
+lent_few : (d : DriverContent) (q : Mem) → OnlyAsynchronous d → AreFew d.notes → AreFew (advance (record d { book = (lend_taken (holding d.book q)).book })).notes
 lent_few d q bulk k = let f : DriverContent = record d { book = (lend_taken (holding d.book q)).book } in subst AreFew (sym (advanced_keeps f d.command bulk.command).notes) k
 
-by_row : (p : DriverParts) (row : DriverRow) → OnlyBulk p.driver → IsDue p row → AreFew p.driver.notes → AreFew (after_driver_row row p).driver.notes
+by_row : (p : DriverParts) (row : DriverRow) → OnlyAsynchronous p.driver → IsDue p row → AreFew p.driver.notes → AreFew (after_driver_row row p).driver.notes
 by_row p rows.Lend bulk due k = lent_few p.driver p.memory bulk k
 by_row p (rows.Store b at v) bulk due k = advanced_few p.driver bulk k
-by_row p (rows.Mend m) bulk due k = absurd (none_there p.driver.mends m bulk.mends due.1)
+by_row p (rows.Mend m) bulk due k = k
 by_row p rows.Frames bulk due k = subst (λ (f : DriverContent). AreFew f.notes) (sym (framed_same p.driver p.registers.frame_index p.driver.command bulk.command)) k
 by_row p rows.LendDescriptors bulk due k = lent_few p.driver (linked_by p.driver p.memory p.driver.command) bulk k
 by_row p (rows.Unlink t) bulk due k = absurd (none_there p.driver.periodic.unlinks t bulk.unlinks due.first)

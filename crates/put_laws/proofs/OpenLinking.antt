@@ -79,7 +79,7 @@ module _ (base : Base) (w : Walk) (hand : Hand) (p : DriverParts) (member stream
   -- the queue head of an endpoint isn't the head of the ring
   not_head : (e : ℕ) (z : Endpoint) → slice_get d.endpoints e ≡ Some z → z.gone ≡ false → 32 * z.queue ≢ head_at
   not_head e z there kept same =
-      never (sym (queue_placed d k.sound.owners e z there (k.turns.bulk.endpoints e z there) kept).owned ∙ ap k.sound.owners.owner (thirty_two z.queue head_block same) ∙ k.sound.owners.owned.each.head.owned)
+      never (sym (queue_placed d k.sound.owners e z there (k.turns.asynchronous.endpoints e z there) kept).owned ∙ ap k.sound.owners.owner (thirty_two z.queue head_block same) ∙ k.sound.owners.owned.each.head.owned)
     where
       never : QueueOf e ≡ Head → ⊥
       never is = cc

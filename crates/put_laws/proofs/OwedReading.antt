@@ -1,5 +1,5 @@
 -- What the report tells of a queue, and what a harvest adds to it, is one list of bytes.
-use Rattle.std.proofs.Common.{◌≡◌, ℕ, zero, suc, ◌-◌, ◌*◌, ◌<◌, ◌≤◌, Bool, false, List, [], ◌∷◌, ◌++◌, slice_get, Option, Some, None, option_map, ap, refl, sym, subst, ◌∙◌, ⊎_elim, arith}
+use Rattle.std.proofs.Common.{◌≡◌, ℕ, zero, suc, ◌-◌, ◌*◌, ◌<◌, ◌≤◌, Bool, true, false, List, [], ◌∷◌, ◌++◌, slice_get, Option, Some, None, option_map, ap, refl, sym, subst, ◌∙◌, ⊎_elim, arith}
 use Rattle.std.proofs.lemmas.Bool.{cases_lt}
 use Rattle.std.proofs.lemmas.List.{append_assoc, append_cancel_left, append_cancel_right, nil_from_length}
 use Rattle.word_mem.specs.Memory.{Mem}
@@ -13,6 +13,7 @@ use Rattle.ring_laws.specs.Effects.{buffer_of}
 use Rattle.ring_laws.specs.Told.{Told, hand_bytes}
 use Rattle.ring_laws.specs.Order.{AllTold, none_out, one_out}
 use Rattle.usb_base.specs.declared.endpoints.EndCause.{EndCause}
+use Rattle.report_streams.specs.Streams.{told_in, has_stream}
 use Rattle.driver_rows.specs.declared.content.Endpoint.{Endpoint}
 use Rattle.driver_rows.specs.declared.content.QtdNote.{QtdNote}
 use Rattle.driver_rows.specs.DriverContent.{DriverContent}
@@ -20,7 +21,6 @@ use Rattle.endpoint_lives.specs.Lives.{told_end}
 use Rattle.driver_rows.specs.Harvests.{note_at, token_in, moved_of, buffer_bytes}
 use Rattle.chained_transfers.specs.Turns.{AreInTurn, AreReportedTo, turn_in}
 use Rattle.chained_transfers.proofs.Harvesting.{turn_at}
-use Rattle.report_streams.specs.Streams.{told_in}
 use Rattle.told_endpoints.specs.Telling.{named_of, lines_in}
 use Rattle.told_harvests.specs.Held.{IsDone, AreHeld, none_held, one_held, IsRead}
 use Rattle.told_harvests.proofs.Noting.{found_done}
@@ -70,32 +70,32 @@ abbrev pub NextIs : DriverContent → Type 0
 NextIs d = (e : ℕ) (x : Endpoint) → slice_get d.endpoints e ≡ Some x → told_end x ≡ None → AreReportedTo (turn_in d.transfers) e x.next
 
 module _ (d : DriverContent) (hand : Hand) (parts : StructureSets) (a b : ℕ → List ℕ) (next_is : NextIs d) (k : ToldStands d hand parts a) (l : ToldStands d hand parts b) where
-  held_same : (e : ℕ) (x : Endpoint) → slice_get d.endpoints e ≡ Some x → k.held e ≡ l.held e
-  held_same e x here = by_end (told_end x) refl
+  held_same : (e : ℕ) (x : Endpoint) → slice_get d.endpoints e ≡ Some x → has_stream x.desc.kind ≡ true → k.held e ≡ l.held e
+  held_same e x here streams = by_end (told_end x) refl
     where
       going : told_end x ≡ None → (o : Option ℕ) → x.next ≡ o → k.held e ≡ l.held e
-      going goes None next = k.holds.none e x here next ∙ sym (l.holds.none e x here next)
+      going goes None next = k.holds.none e x here next streams ∙ sym (l.holds.none e x here next streams)
       going goes (Some t) next =
           let turn = subst (AreReportedTo (turn_in d.transfers) e) next (next_is e x here goes) in
           let y = turn_at d.transfers t turn.transfer turn.here in
           let is : IsNextOf d e t x y.0 = record { endpoint = here; going = goes; next = next; transfer = y.1 } in
-          let one = k.holds.next e t x y.0 is in
-          let two = l.holds.next e t x y.0 is in
+          let one = k.holds.next e t x y.0 is streams in
+          let two = l.holds.next e t x y.0 is streams in
           held_once hand parts (32 * x.queue) (note_at d.notes) y.0.first (y.0.qtds - y.0.left) y.0.place y.0.place (k.held e) (l.held e) one.done two.done
 
       by_end : (o : Option EndCause) → told_end x ≡ o → k.held e ≡ l.held e
       by_end None goes = going goes x.next refl
       by_end (Some cause) ends =
           let named = ap (option_map named_of) here in
-          ((k.tells.each e (named_of x) named).over cause ends).0 ∙ sym ((l.tells.each e (named_of x) named).over cause ends).0
+          ((k.tells.each e (named_of x) named streams).over cause ends).0 ∙ sym ((l.tells.each e (named_of x) named streams).over cause ends).0
 
-  pub told_same : (e : ℕ) (x : Endpoint) → slice_get d.endpoints e ≡ Some x → IsThere d x → a (32 * x.queue) ≡ b (32 * x.queue)
-  told_same e x here meets =
+  pub told_same : (e : ℕ) (x : Endpoint) → slice_get d.endpoints e ≡ Some x → has_stream x.desc.kind ≡ true → IsThere d x → a (32 * x.queue) ≡ b (32 * x.queue)
+  told_same e x here streams meets =
       let named = ap (option_map named_of) here in
-      sym (k.met e x here meets) ∙ sym (k.tells.each e (named_of x) named).sum ∙ ap (λ (bs : List ℕ). told_in d.store (lines_in x.desc.name d.reports) ++ bs) (held_same e x here) ∙ (l.tells.each e (named_of x) named).sum ∙ l.met e x here meets
+      sym (k.met e x here meets) ∙ sym (k.tells.each e (named_of x) named streams).sum ∙ ap (λ (bs : List ℕ). told_in d.store (lines_in x.desc.name d.reports) ++ bs) (held_same e x here streams) ∙ (l.tells.each e (named_of x) named streams).sum ∙ l.met e x here meets
 
 pub told_once : (d : DriverContent) (hand : Hand) (parts : StructureSets) (a b : ℕ → List ℕ) → AreInTurn d → ToldStands d hand parts a → ToldStands d hand parts b
-    → (e : ℕ) (x : Endpoint) → slice_get d.endpoints e ≡ Some x → IsThere d x → a (32 * x.queue) ≡ b (32 * x.queue)
+    → (e : ℕ) (x : Endpoint) → slice_get d.endpoints e ≡ Some x → has_stream x.desc.kind ≡ true → IsThere d x → a (32 * x.queue) ≡ b (32 * x.queue)
 told_once d hand parts a b turns k l = told_same d hand parts a b turns.turns.next k l
 
 -- ---- what was moved of the qTDs that are out

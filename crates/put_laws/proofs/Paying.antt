@@ -17,11 +17,12 @@ use Rattle.endpoint_lives.specs.Lives.{told_end}
 use Rattle.endpoint_lives.proofs.Lives.{none_told, told_uncancelled}
 use Rattle.run_owners.specs.Owners.{note_in}
 use Rattle.run_owners.proofs.Released.{set_here, set_there}
-use Rattle.chained_transfers.specs.Bulk.{receives, IsStanding}
-use Rattle.chained_transfers.specs.InTurn.{TakesTurns}
+use Rattle.chained_transfers.specs.Bulk.{receives}
+use Rattle.chained_transfers.specs.Asynchronous.{StandsAsynchronous}
+use Rattle.chained_transfers.specs.AsynchronousTurns.{AsynchronousTakesTurns}
 use Rattle.chained_transfers.specs.Turns.{IsAtPlace, turn_of, turn_in, AreReportedTo}
 use Rattle.chained_transfers.proofs.Rows.{set_which}
-use Rattle.chained_transfers.proofs.Staying.{alive, going_fresh}
+use Rattle.chained_transfers.proofs.Staying.{stands_alive, stands_fresh}
 use Rattle.fed_queues.specs.Places.{IsThere}
 use Rattle.put_laws.specs.Held.{held_bytes}
 use Rattle.put_laws.proofs.HeldAlike.{held_alike}
@@ -39,7 +40,7 @@ none_some o cause none some = let e : ◌≡◌ {A = Option EndCause} None (Some
 none_open : (q : ℕ) → ◌≡◌ {A = Option Command} None (Some (unfinished.Open q)) → ⊥
 none_open q is = cc
 
-module _ (d new : DriverContent) (m : Mem) (e t : ℕ) (x : Endpoint) (y : Transfer) (turns : TakesTurns d) (idle : d.command ≡ None) (here : slice_get d.endpoints e ≡ Some x) (goes : x.ended ≡ None) (next : x.next ≡ Some t) (there : slice_get d.transfers t ≡ Some y) (waits : waits_for e y ≡ true) (k : ReadsTo d new m e t x y) (puts reported told : ℕ → List ℕ) (bytes : List ℕ) (bytes_is : receives x.desc.name.way ≡ false → bytes ≡ buffer_bytes m (note_at d.notes y.place) (moved_of (note_at d.notes y.place).told (token_in m y.place).total)) (whole : receives x.desc.name.way ≡ false → IsMovedWhole d m y) (told_here : told (32 * x.queue) ≡ reported (32 * x.queue) ++ bytes) (told_beside : (f : ℕ) (v : Endpoint) → f ≢ e → slice_get d.endpoints f ≡ Some v → v.gone ≡ false → told (32 * v.queue) ≡ reported (32 * v.queue)) (owes : Owes d m puts reported) where
+module _ (d new : DriverContent) (m : Mem) (e t : ℕ) (x : Endpoint) (y : Transfer) (turns : AsynchronousTakesTurns d) (idle : d.command ≡ None) (here : slice_get d.endpoints e ≡ Some x) (goes : x.ended ≡ None) (next : x.next ≡ Some t) (there : slice_get d.transfers t ≡ Some y) (waits : waits_for e y ≡ true) (k : ReadsTo d new m e t x y) (puts reported told : ℕ → List ℕ) (bytes : List ℕ) (bytes_is : receives x.desc.name.way ≡ false → bytes ≡ buffer_bytes m (note_at d.notes y.place) (moved_of (note_at d.notes y.place).told (token_in m y.place).total)) (whole : receives x.desc.name.way ≡ false → IsMovedWhole d m y) (told_here : told (32 * x.queue) ≡ reported (32 * x.queue) ++ bytes) (told_beside : (f : ℕ) (v : Endpoint) → f ≢ e → slice_get d.endpoints f ≡ Some v → v.gone ≡ false → receives v.desc.name.way ≡ false → told (32 * v.queue) ≡ reported (32 * v.queue)) (owes : Owes d m puts reported) where
   abbrev note : QtdNote
   note = note_at d.notes y.place
 
@@ -53,18 +54,18 @@ module _ (d new : DriverContent) (m : Mem) (e t : ℕ) (x : Endpoint) (y : Trans
   own : (y.endpoint ≡ e) × (y.reported ≡ false)
   own = waits_is e y waits
 
-  standing : IsStanding x
-  standing = turns.bulk.endpoints e x here
+  standing : StandsAsynchronous x
+  standing = turns.asynchronous.endpoints e x here
 
   its_alive : x.gone ≡ false
-  its_alive = alive x standing goes
+  its_alive = stands_alive x standing goes
 
   -- it goes on as far as its report has it, and so where it ends now
   goes_told : told_end x ≡ None
   goes_told = none_told x goes
 
   going_now : told_end k.endpoint ≡ None → k.endpoint.ended ≡ None
-  going_now none = sym (told_uncancelled k.endpoint (k.cancelled ∙ going_fresh x standing goes)) ∙ none
+  going_now none = sym (told_uncancelled k.endpoint (k.cancelled ∙ stands_fresh x standing goes)) ∙ none
 
   at : IsAtPlace (note_in d.notes) y
   at = turns.turns.places t y there (kept d t y turns there (not_gone d e x y here its_alive own.0) own.1)
@@ -183,7 +184,7 @@ module _ (d new : DriverContent) (m : Mem) (e t : ℕ) (x : Endpoint) (y : Trans
         ap (λ (q : ℕ). told (32 * q) ++ rest_of new m f) (same_queue v its.1) ∙ ap (λ (i : ℕ). told (32 * x.queue) ++ rest_of new m i) its.0
         ∙ going_on (same_way v its.1 sends) (going_now (ap (λ (r : Endpoint). told_end r) (sym its.1) ∙ none)) ∙ ap (λ (i : ℕ). concat (puts_of d puts i)) (sym its.0) ∙ sym (puts_same f))
         (λ (apart : (f ≢ e) × (slice_get d.endpoints f ≡ Some v)).
-        ap (λ (us : List ℕ). us ++ rest_of new m f) (told_beside f v apart.0 apart.1 meets.kept) ∙ ap (λ (us : List ℕ). reported (32 * v.queue) ++ us) (rest_beside f apart.0)
+        ap (λ (us : List ℕ). us ++ rest_of new m f) (told_beside f v apart.0 apart.1 meets.kept sends) ∙ ap (λ (us : List ℕ). reported (32 * v.queue) ++ us) (rest_beside f apart.0)
         ∙ owes.going f v apart.1 (was_there v meets.kept) sends none ∙ sym (puts_same f)) (k.ends f v at_v);
     over = λ f v cause at_v meets sends ends.
         ⊎_elim
@@ -191,7 +192,7 @@ module _ (d new : DriverContent) (m : Mem) (e t : ℕ) (x : Endpoint) (y : Trans
         prefix_of (told (32 * v.queue)) (told (32 * x.queue)) (concat (puts_of new puts f)) (ap (λ (q : ℕ). told (32 * q)) (same_queue v its.1))
         (prefix_to (told (32 * x.queue)) (concat (puts_of d puts e)) (concat (puts_of new puts f)) (ap (λ (i : ℕ). concat (puts_of d puts i)) (sym its.0) ∙ sym (puts_same f)) (begins (same_way v its.1 sends))))
         (λ (apart : (f ≢ e) × (slice_get d.endpoints f ≡ Some v)).
-        prefix_of (told (32 * v.queue)) (reported (32 * v.queue)) (concat (puts_of new puts f)) (told_beside f v apart.0 apart.1 meets.kept)
+        prefix_of (told (32 * v.queue)) (reported (32 * v.queue)) (concat (puts_of new puts f)) (told_beside f v apart.0 apart.1 meets.kept sends)
         (prefix_to (reported (32 * v.queue)) (concat (puts_of d puts f)) (concat (puts_of new puts f)) (sym (puts_same f)) (owes.over f v cause apart.1 (was_there v meets.kept) sends ends))) (k.ends f v at_v);
     opening = λ f u v z at_v still is at_u. absurd (none_open v.queue (sym idle ∙ sym k.command ∙ is));
     last = last_read;

@@ -5,12 +5,14 @@ use Rattle.std.proofs.lemmas.Option.{same_Some}
 use Rattle.async_walk.specs.Walk.{Walk}
 use Rattle.run_book.specs.Book.{holding}
 use Rattle.driver_rows.specs.declared.content.Endpoint.{Endpoint}
+use Rattle.driver_rows.specs.declared.content.Sort.TheVariants as sorts
 use Rattle.driver_rows.specs.declared.content.Transfer.{Transfer}
 use Rattle.driver_rows.specs.Harvests.{note_at}
 use Rattle.driver_rows.specs.Rows.{Parts as DriverParts, freed_by, after_transfer, after_driver_row}
 use Rattle.run_owners.specs.Owners.{note_in}
 use Rattle.run_owners.proofs.Released.{set_here, set_there}
-use Rattle.chained_transfers.specs.Bulk.{MovesAs, OnlyBulk}
+use Rattle.chained_transfers.specs.Bulk.{MovesAs}
+use Rattle.chained_transfers.specs.Asynchronous.{OnlyAsynchronous}
 use Rattle.chained_transfers.specs.Chains.{piece_at}
 use Rattle.lent_structures.specs.Structures.{Buffer, Structures, StructureSets}
 use Rattle.lent_structures.specs.Sound.{element_pages, buffer_name, HasBuffer}
@@ -20,8 +22,8 @@ use Rattle.ring_laws.specs.Stores.{IsBuffer}
 use Rattle.ring_laws.specs.Fewer.{without_those}
 use Rattle.ring_laws.proofs.Returning.{those_beside, those_else}
 use Rattle.driver_laws.specs.Released.{goes_of, release_row}
-use Rattle.fed_queues.specs.Fed.{IsPieceFed}
-use Rattle.fed_queues.proofs.Sized.{told_piece}
+use Rattle.fed_queues.specs.Fed.{is_request, IsPieceFed}
+use Rattle.fed_queues.proofs.Sized.{told_fed}
 use Rattle.fed_lends.proofs.Asked.{same_unpublished}
 use Rattle.released_queues.specs.Released.{IsReturning, ReleaseStands, IsReleased}
 use Rattle.released_queues.proofs.Queues.{goes_off, piece_off}
@@ -30,7 +32,7 @@ use Rattle.put_laws.specs.HeldPuts.{HoldsPuts}
 use Rattle.put_laws.proofs.HeldAlike.{note_is, SameBytes, was_itself, puts_stay}
 use Rattle.put_laws.proofs.Stored.{fed_stored, buffer_stays, either_way}
 
-module _ (base : Base) (member : ℕ → Bool) (parts : StructureSets) (hand : Hand) (w : Walk) (p : DriverParts) (order : ℕ → ℕ → ℕ) (out : ℕ → List ℕ) (t : ℕ) (y : Transfer) (x : Endpoint) (s : ReleaseStands base member parts hand w p order out) (k : IsReturning p.driver t y x) (bulk : OnlyBulk p.driver) where
+module _ (base : Base) (member : ℕ → Bool) (parts : StructureSets) (hand : Hand) (w : Walk) (p : DriverParts) (order : ℕ → ℕ → ℕ) (out : ℕ → List ℕ) (t : ℕ) (y : Transfer) (x : Endpoint) (s : ReleaseStands base member parts hand w p order out) (k : IsReturning p.driver t y x) (bulk : OnlyAsynchronous p.driver) where
   r : IsReleased base member parts hand w p order out t (32 * x.queue) (goes_of p.driver y)
   r = release_feeds base member parts hand w p order out t y x s k
 
@@ -71,15 +73,15 @@ module _ (base : Base) (member : ℕ → Bool) (parts : StructureSets) (hand : H
       ap (λ (part : Structures). part (buffer_name f.qtd)) (those_beside parts (32 * x.queue) (goes_of p.driver y) (32 * e.queue) apart) ∙ here)
       (cases_eq (32 * e.queue) (32 * x.queue))
 
-  bytes_stay : (u i : ℕ) (z : Transfer) → slice_get p.driver.transfers u ≡ Some z → z.released ≡ false → u ≢ t → i < z.qtds
+  bytes_stay : (u i : ℕ) (z : Transfer) → slice_get p.driver.transfers u ≡ Some z → z.sort ≡ sorts.Put → z.released ≡ false → u ≢ t → i < z.qtds
       → SameBytes p.memory (after_driver_row (release_row t) p).memory (note_at p.driver.notes (piece_at (note_in p.driver.notes) z.first i))
-  bytes_stay u i z there held differs below =
+  bytes_stay u i z there put held differs below =
       let moves : MovesAs p.driver z = bulk.moves u z there in
       let e : Endpoint = moves.endpoint in
       let c = piece_at (note_in p.driver.notes) z.first i in
       let note = note_at p.driver.notes c in
       let none = same_unpublished p.driver u z k.free in
-      let f : IsPieceFed z.sort (parts (32 * e.queue)) note c (piece_at (note_in p.driver.notes) z.first z.qtds) = told_piece p.driver parts bulk s.fed u i z e there held moves.here (omega (arith, none)) below in
+      let f : IsPieceFed z.sort (parts (32 * e.queue)) note c (piece_at (note_in p.driver.notes) z.first z.qtds) = told_fed z.sort (parts (32 * e.queue)) i note c (piece_at (note_in p.driver.notes) z.first z.qtds) (ap is_request put) (s.fed.pieces u i z e there held moves.here (omega (arith, none)) below) in
       either_way p.memory (after_driver_row (release_row t) p).memory note
       (λ some.
       let has : HasBuffer (parts (32 * e.queue)) f.qtd note.told = f.buffer some in
@@ -97,5 +99,5 @@ module _ (base : Base) (member : ℕ → Bool) (parts : StructureSets) (hand : H
         notes = λ i below.
             let c = piece_at (note_in p.driver.notes) z.first i in
             note_is (note_at p.driver.notes c) (note_at (after_driver_row (release_row t) p).driver.notes c) (ap (λ (q : DriverParts). note_at q.driver.notes c) row_is);
-        bytes = λ i below. bytes_stay u i z was.1 still was.0 below;
+        bytes = λ i below. bytes_stay u i z was.1 put still was.0 below;
       }) held

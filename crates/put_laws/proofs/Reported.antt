@@ -1,8 +1,15 @@
 -- The row of a harvest.
-use Rattle.std.proofs.Common.{◌≡◌, ◌≢◌, ℕ, suc, ◌+◌, ◌-◌, ◌*◌, ◌==◌, Bool, false, if◌then◌else◌, List, [], ◌∷◌, ◌++◌, set, drop, nat_le, slice_get, Option, Some, None, ap, refl, sym, subst, ◌∙◌, arith}
+use Rattle.std.proofs.Common.{◌≡◌, ◌≢◌, ℕ, suc, ◌+◌, ◌-◌, ◌*◌, ◌==◌, Bool, true, false, if◌then◌else◌, List, [], ◌∷◌, ◌++◌, set, drop, nat_le, slice_get, Option, Some, None, ap, refl, sym, subst, ◌∙◌, ⊎_elim, inl, inr, arith}
+use Rattle.std.specs.Prelude.{◌⊎◌}
 use Rattle.std.specs.List.{concat}
 use Rattle.std.proofs.lemmas.Bool.{eq-eqb}
 use Rattle.lent_structures.proofs.Names.{not_same}
+use Rattle.usb_base.specs.declared.endpoints.EpDesc.{EpDesc}
+use Rattle.usb_base.specs.declared.packets.EpKind.{EpKind}
+use Rattle.usb_base.specs.declared.packets.EpKind.TheVariants as kinds
+use Rattle.usb_base.specs.declared.packets.Way.{Way}
+use Rattle.usb_base.specs.declared.packets.Way.TheVariants as ways
+use Rattle.report_streams.specs.Streams.{has_stream}
 use Rattle.word_mem.specs.Memory.{Mem}
 use Rattle.lent_structures.specs.Structures.{StructureSets, Tells}
 use Rattle.lent_structures.specs.Sound.{IsMember}
@@ -23,13 +30,14 @@ use Rattle.driver_rows.specs.Rows.{Parts, served, harvested_as, after_harvest, a
 use Rattle.run_owners.specs.Due.{IsHarvestDue}
 use Rattle.run_owners.specs.Kept.{HasOwners}
 use Rattle.run_owners.specs.Owners.{note_in}
-use Rattle.chained_transfers.specs.Bulk.{receives, IsStanding}
-use Rattle.chained_transfers.specs.InTurn.{TakesTurns}
+use Rattle.chained_transfers.specs.Bulk.{receives}
+use Rattle.chained_transfers.specs.Asynchronous.{IsKindOf, StandsAsynchronous}
+use Rattle.chained_transfers.specs.AsynchronousTurns.{AsynchronousTakesTurns}
 use Rattle.chained_transfers.specs.Out.{pieces_from, passed, out_of_transfer, out_of, out_now}
 use Rattle.chained_transfers.specs.Turns.{IsAtPlace, IsNotGone}
-use Rattle.chained_transfers.proofs.Harvested.{harvest_turns_of}
-use Rattle.chained_transfers.proofs.Staying.{alive, going_fresh}
-use Rattle.chained_transfers.proofs.Ways.{moves_queued, found_by}
+use Rattle.chained_transfers.proofs.Harvested.{harvest_in_turn}
+use Rattle.chained_transfers.proofs.Staying.{stands_alive, stands_fresh}
+use Rattle.chained_transfers.proofs.Ways.{moves_queued, found_by, way_sends}
 use Rattle.told_harvests.specs.Held.{IsRead}
 use Rattle.told_harvests.specs.Passed.{HarvestsFirst}
 use Rattle.told_harvests.proofs.Passing.{first_harvested}
@@ -43,7 +51,8 @@ use Rattle.fed_queues.specs.Places.{IsThere}
 use Rattle.fed_harvests.proofs.Lists.{all_of, all_out, all_same, IsBefore, Splits, splits, own_out}
 use Rattle.harvest_laws.specs.Told.{ToldStands}
 use Rattle.harvest_laws.specs.ToldLaws.{HarvestReports}
-use Rattle.chained_transfers.proofs.BulkAndControl.{bulk_takes_turns}
+use Rattle.harvest_laws.specs.ReadLaws.{LeavesStreams}
+use Rattle.harvest_laws.proofs.Requests.{request_row_told}
 use Rattle.harvest_laws.proofs.ReadRows.{row_told, queue_alone, reads, not_active}
 use Rattle.put_laws.specs.Owed.{Owes}
 use Rattle.put_laws.specs.OwedLaws.{IsMovedWhole, HarvestOwes, WaitOwes}
@@ -52,6 +61,7 @@ use Rattle.put_laws.proofs.Same.{not_gone, kept, its_sort}
 use Rattle.put_laws.proofs.OwedReading.{NextIs, told_same, all_once, more_is, bytes_are}
 use Rattle.put_laws.proofs.Harvests.{HowRead, on, done, halts, ReadsTo, found_row}
 use Rattle.put_laws.proofs.Paying.{paid_owes}
+use Rattle.put_laws.proofs.OtherHarvests.{harvest_beside, other_out, other_owes}
 
 no_open : (q : ℕ) → ◌≡◌ {A = Option Command} None (Some (unfinished.Open q)) → ⊥
 no_open q is = cc
@@ -61,7 +71,25 @@ row_is p e t found due =
     ap (λ (o : Option Endpoint). after_harvest p.driver p.memory e t found o (slice_get p.driver.transfers t)) due.here ∙ ap (after_harvest p.driver p.memory e t found (Some due.endpoint)) due.there
     ∙ ap (λ (b : Bool). if b then served (harvested_as p.driver p.memory e t due.endpoint due.transfer found) e else p.driver) due.waits
 
-module _ (member : ℕ → Bool) (order : ℕ → ℕ) (p : Parts) (parts : StructureSets) (hand : Hand) (e t : ℕ) (found : Found) (acc : List (List ℕ)) (puts reported told : ℕ → List ℕ) (due : IsHarvestDue p e t found) (differs : found ≢ founds.Active) (owners : HasOwners p.driver) (turns : TakesTurns p.driver) (fed : AreFed p.driver parts) (tells : Tells p.memory parts) (on_it : IsMember member (32 * due.endpoint.queue) (parts (32 * due.endpoint.queue)))
+-- whose turn it is then
+next_then : (p : Parts) (e t : ℕ) (found : Found) → IsHarvestDue p e t found → AsynchronousTakesTurns p.driver → NextIs (after_driver_row (rows.Harvest e t found) p).driver
+next_then p e t found due turns =
+    let d = p.driver in
+    let m = p.memory in
+    let x = due.endpoint in
+    let y = due.transfer in
+    let standing : StandsAsynchronous x = turns.asynchronous.endpoints e x due.here in
+    subst NextIs
+    (sym (ap (λ (o : Option Endpoint). after_harvest d m e t found o (slice_get d.transfers t)) due.here ∙ ap (after_harvest d m e t found (Some x)) due.there))
+    (harvest_in_turn (IsNotGone (slice_get d.endpoints)) d m e t x y due.here due.there due.goes_on (stands_fresh x standing due.goes_on) due.next due.waits
+    (record { endpoint = x; here = due.here; gone = stands_alive x standing due.goes_on })
+    (record { places = turns.turns.places; turns = turns.turns.turns }) found (due.tells ∙ found_by d m y y.sort (moves_queued d y (turns.asynchronous.moves t y due.there)))).turns.next
+
+-- an OUT endpoint has a stream
+out_streams : (x : Endpoint) → StandsAsynchronous x → receives x.desc.name.way ≡ false → has_stream x.desc.kind ≡ true
+out_streams x s sends = ap has_stream (subst (λ (w : Way). IsKindOf w x.desc.kind) (way_sends x.desc.name.way sends) s.asynchronous.kind)
+
+module _ (member : ℕ → Bool) (order : ℕ → ℕ) (p : Parts) (parts : StructureSets) (hand : Hand) (e t : ℕ) (found : Found) (acc : List (List ℕ)) (puts reported told : ℕ → List ℕ) (due : IsHarvestDue p e t found) (differs : found ≢ founds.Active) (owners : HasOwners p.driver) (turns : AsynchronousTakesTurns p.driver) (bulk : due.endpoint.desc.kind ≡ kinds.Bulk) (fed : AreFed p.driver parts) (tells : Tells p.memory parts) (on_it : IsMember member (32 * due.endpoint.queue) (parts (32 * due.endpoint.queue)))
     (none : (a : ℕ) (z : List ℕ) → IsOutEarlier (note_in p.driver.notes) e t p.driver.transfers a → Told hand parts (32 * due.endpoint.queue) a z → z ≡ []) (r : IsReported order (out_now p.driver e) hand parts (32 * due.endpoint.queue) acc (reported (32 * due.endpoint.queue))) (whole : receives due.endpoint.desc.name.way ≡ false → IsMovedWhole p.driver p.memory due.transfer)
     (before : ToldStands p.driver hand parts reported) (after : ToldStands (after_driver_row (rows.Harvest e t found) p).driver hand parts told) (owes : Owes p.driver p.memory puts reported) where
   abbrev d : DriverContent
@@ -85,11 +113,11 @@ module _ (member : ℕ → Bool) (order : ℕ → ℕ) (p : Parts) (parts : Stru
   own : (y.endpoint ≡ e) × (y.reported ≡ false)
   own = waits_is e y due.waits
 
-  standing : IsStanding due.endpoint
-  standing = turns.bulk.endpoints e due.endpoint due.here
+  standing : StandsAsynchronous due.endpoint
+  standing = turns.asynchronous.endpoints e due.endpoint due.here
 
   its_alive : due.endpoint.gone ≡ false
-  its_alive = alive due.endpoint standing due.goes_on
+  its_alive = stands_alive due.endpoint standing due.goes_on
 
   released : y.released ≡ false
   released = kept d t y turns due.there (not_gone d e due.endpoint y due.here its_alive own.0) own.1
@@ -101,26 +129,19 @@ module _ (member : ℕ → Bool) (order : ℕ → ℕ) (p : Parts) (parts : Stru
   left_is = let some = place.some in omega (arith, some)
 
   found_is : found ≡ found_in y.sort (nat_le y.left 1) (note_at d.notes y.place) (token_in m y.place)
-  found_is = due.tells ∙ found_by d m y y.sort (moves_queued d y (turns.bulk.moves t y due.there))
+  found_is = due.tells ∙ found_by d m y y.sort (moves_queued d y (turns.asynchronous.moves t y due.there))
 
   off : (token_in m y.place).active ≡ false
-  off = not_active p e t found due owners (bulk_takes_turns p.driver turns) differs
+  off = not_active p e t found due owners turns differs
 
   k : ReadsTo d new m e t x y
-  k = subst (λ (f : DriverContent). ReadsTo d f m e t x y) (sym (row_is p e t found due)) (found_row d m e t x y due.here due.goes_on (turns.bulk.endpoints e x due.here).bulk.kind place.some off found found_is)
-
-  not_gone_it : IsNotGone (slice_get p.driver.endpoints) e
-  not_gone_it = record { endpoint = due.endpoint; here = due.here; gone = its_alive }
+  k = subst (λ (f : DriverContent). ReadsTo d f m e t x y) (sym (row_is p e t found due)) (found_row d m e t x y due.here due.goes_on bulk place.some off found found_is)
 
   next_now : NextIs new
-  next_now =
-      subst NextIs
-      (sym (ap (λ (o : Option Endpoint). after_harvest d m e t found o (slice_get d.transfers t)) due.here ∙ ap (after_harvest d m e t found (Some x)) due.there))
-      (harvest_turns_of (IsNotGone (slice_get d.endpoints)) d m e t x y due.here due.there due.goes_on (going_fresh x standing due.goes_on) due.next due.waits standing.bulk.kind not_gone_it
-      (record { places = turns.turns.places; turns = turns.turns.turns }) found found_is).turns.next
+  next_now = next_then p e t found due turns
 
   hr : HarvestReports order d new hand parts e x acc reported
-  hr = row_told member order p parts hand e t found acc reported due differs owners (bulk_takes_turns p.driver turns) standing.bulk.kind fed tells on_it none before r
+  hr = row_told member order p parts hand e t found acc reported due differs owners turns bulk fed tells on_it none before r
 
   -- ---- what is reported then
 
@@ -138,16 +159,16 @@ module _ (member : ℕ → Bool) (order : ℕ → ℕ) (p : Parts) (parts : Stru
   there_now : (v : Endpoint) → v.gone ≡ false → IsThere new v
   there_now v still = record { linked = λ is. no_open v.queue (sym due.idle ∙ sym k.command ∙ is); kept = still }
 
-  told_is : (f : ℕ) (v : Endpoint) → slice_get new.endpoints f ≡ Some v → v.gone ≡ false → told (32 * v.queue) ≡ now (32 * v.queue)
-  told_is f v at still = told_same new hand parts told now next_now after (hr.stands now now_here now_beside) f v at (there_now v still)
+  told_is : (f : ℕ) (v : Endpoint) → slice_get new.endpoints f ≡ Some v → has_stream v.desc.kind ≡ true → v.gone ≡ false → told (32 * v.queue) ≡ now (32 * v.queue)
+  told_is f v at streams still = told_same new hand parts told now next_now after (hr.stands now now_here now_beside) f v at streams (there_now v still)
 
   told_here : told (32 * due.endpoint.queue) ≡ reported (32 * due.endpoint.queue) ++ hr.bytes
-  told_here = ap (λ (q : ℕ). told (32 * q)) (sym k.queue) ∙ told_is e k.endpoint k.here (k.gone ∙ its_alive) ∙ ap (λ (q : ℕ). now (32 * q)) k.queue ∙ now_here
+  told_here = ap (λ (q : ℕ). told (32 * q)) (sym k.queue) ∙ told_is e k.endpoint k.here (ap (λ (r : EpDesc). has_stream r.kind) k.desc ∙ ap has_stream bulk) (k.gone ∙ its_alive) ∙ ap (λ (q : ℕ). now (32 * q)) k.queue ∙ now_here
 
-  told_beside : (f : ℕ) (v : Endpoint) → f ≢ e → slice_get d.endpoints f ≡ Some v → v.gone ≡ false → told (32 * v.queue) ≡ reported (32 * v.queue)
-  told_beside f v apart at still =
-      told_is f v (k.beside f v apart at) still
-      ∙ now_beside (32 * v.queue) (λ same. apart (queue_alone p e t found due owners (bulk_takes_turns p.driver turns) f v at still (let q : v.queue ≡ due.endpoint.queue = omega (arith, same) in q)))
+  told_beside : (f : ℕ) (v : Endpoint) → f ≢ e → slice_get d.endpoints f ≡ Some v → v.gone ≡ false → receives v.desc.name.way ≡ false → told (32 * v.queue) ≡ reported (32 * v.queue)
+  told_beside f v apart at still sends =
+      told_is f v (k.beside f v apart at) (out_streams v (turns.asynchronous.endpoints f v at) sends) still
+      ∙ now_beside (32 * v.queue) (λ same. apart (queue_alone p e t found due owners turns f v at still (let q : v.queue ≡ due.endpoint.queue = omega (arith, same) in q)))
 
   -- ---- which bytes these are
 
@@ -156,7 +177,7 @@ module _ (member : ℕ → Bool) (order : ℕ → ℕ) (p : Parts) (parts : Stru
       let some = place.some in
       let most = place.most in
       subst (λ (b : ℕ). IsRead (parts (32 * due.endpoint.queue)) (note_at d.notes b) b) (sym place.place)
-      (read_at (parts (32 * due.endpoint.queue)) d.notes y.first (y.qtds - y.left) y.qtds (omega (arith, some, most)) (reads p e t found due owners (bulk_takes_turns p.driver turns) standing.bulk.kind parts fed))
+      (read_at (parts (32 * due.endpoint.queue)) d.notes y.first (y.qtds - y.left) y.qtds (omega (arith, some, most)) (reads p e t found due owners turns bulk parts fed))
 
   abbrev behind_it : List ℕ
   behind_it = pieces_from (note_in p.driver.notes) (note_at p.driver.notes due.transfer.place).next (due.transfer.left - 1)
@@ -200,9 +221,31 @@ module _ (member : ℕ → Bool) (order : ℕ → ℕ) (p : Parts) (parts : Stru
   pub row_owes : Owes (after_driver_row (rows.Harvest e t found) p).driver p.memory puts told
   row_owes = paid_owes d new m e t x y turns due.idle due.here due.goes_on due.next due.there due.waits k puts reported told hr.bytes bytes_is whole told_here told_beside owes
 
+-- ---- a control endpoint's
+
+-- what is told of the OUT endpoints is what was
+module _ (p : Parts) (e t : ℕ) (found : Found) (parts : StructureSets) (hand : Hand) (reported told : ℕ → List ℕ) (due : IsHarvestDue p e t found) (owners : HasOwners p.driver) (turns : AsynchronousTakesTurns p.driver) (control : due.endpoint.desc.kind ≡ kinds.Control)
+    (before : ToldStands p.driver hand parts reported) (after : ToldStands (after_driver_row (rows.Harvest e t found) p).driver hand parts told) where
+  nothing_told : (f : ℕ) (v : Endpoint) → slice_get (after_driver_row (rows.Harvest e t found) p).driver.endpoints f ≡ Some v → v.gone ≡ false → receives v.desc.name.way ≡ false → told (32 * v.queue) ≡ reported (32 * v.queue)
+  nothing_told f v at still sends =
+      let new = (after_driver_row (rows.Harvest e t found) p).driver in
+      let left : LeavesStreams p.driver new hand parts e reported = request_row_told p parts hand e t found reported due owners turns control before in
+      let beside = harvest_beside p e t found due in
+      let turns_now : NextIs new = next_then p e t found due turns in
+      let was = other_out p e t found due control turns f v at sends in
+      told_same new hand parts told reported turns_now after left.stands f v at (out_streams v (turns.asynchronous.endpoints f v was.1) sends)
+      (record { linked = λ is. no_open v.queue (sym due.idle ∙ sym beside.command ∙ is); kept = still })
+
+kinds_of : (way : Way) (kind : EpKind) → IsKindOf way kind → (kind ≡ kinds.Bulk) ⊎ (kind ≡ kinds.Control)
+kinds_of ways.In kind is = inl is
+kinds_of ways.Out kind is = inl is
+kinds_of ways.Ctl kind is = inr is
+
 pub harvest_owes : HarvestOwes
 harvest_owes member order p parts hand e t found acc puts reported told due differs owners turns fed tells on_it none r whole before after owes =
-    row_owes member order p parts hand e t found acc puts reported told due differs owners turns fed tells on_it none r whole before after owes
+    ⊎_elim (λ (bulk : due.endpoint.desc.kind ≡ kinds.Bulk). row_owes member order p parts hand e t found acc puts reported told due differs owners turns bulk fed tells on_it (none (ap has_stream bulk)) (r (ap has_stream bulk)) whole before after owes)
+    (λ (control : due.endpoint.desc.kind ≡ kinds.Control). other_owes p e t found due control turns puts reported told (nothing_told p e t found parts hand reported told due owners turns control before after) owes)
+    (kinds_of due.endpoint.desc.name.way due.endpoint.desc.kind (turns.asynchronous.endpoints e due.endpoint due.here).asynchronous.kind)
 
 pub wait_owes : WaitOwes
 wait_owes p e t puts reported due owes =

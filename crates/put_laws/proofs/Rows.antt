@@ -1,5 +1,5 @@
 -- Each event of the driver leaves what each put holds.
-use Rattle.std.proofs.Common.{◌≡◌, ℕ, zero, suc, ◌+◌, ◌*◌, ◌/◌, ◌<◌, ◌≤◌, Bool, true, false, cond, nat_lt, List, [], ◌∷◌, ◌++◌, reverse, map, set, get_or, slice_get, slice_index, Option, Some, None, option_map, ap, refl, sym, subst, ◌∙◌, ⊎_elim, inl, arith}
+use Rattle.std.proofs.Common.{◌≡◌, ℕ, zero, suc, ◌+◌, ◌*◌, ◌/◌, ◌<◌, ◌≤◌, Bool, true, false, cond, nat_lt, List, [], ◌∷◌, ◌++◌, drop, reverse, map, set, get_or, slice_get, slice_index, Option, Some, None, option_map, ap, refl, sym, subst, ◌∙◌, ⊎_elim, inl, arith}
 use Rattle.std.specs.List.{AllByRecursion}
 use Rattle.std.proofs.lemmas.Bool.{false≢true}
 use Rattle.std.proofs.lemmas.Option.{same_Some}
@@ -14,6 +14,8 @@ use Rattle.run_book.specs.Book.{Holding, holding, slot_at, lend_slot, lend_runs,
 use Rattle.driver_rows.specs.declared.content.Endpoint.{Endpoint}
 use Rattle.driver_rows.specs.declared.content.Command.{Command}
 use Rattle.driver_rows.specs.declared.content.Command.TheVariants as unfinished
+use Rattle.driver_rows.specs.declared.content.Mend.{Mend}
+use Rattle.driver_rows.specs.declared.content.Turn.TheVariants as turn_of
 use Rattle.driver_rows.specs.declared.content.Transfer.{Transfer}
 use Rattle.driver_rows.specs.declared.content.QtdNote.{QtdNote}
 use Rattle.driver_rows.specs.declared.rows.DriverRow.{DriverRow}
@@ -26,24 +28,24 @@ use Rattle.run_owners.specs.Due.{IsDue, IsNextOf, IsLinkOf, IsTransferDue}
 use Rattle.run_owners.specs.Kept.{HasOwners}
 use Rattle.run_owners.specs.Owners.{note_in, views_of}
 use Rattle.run_owners.proofs.Reasons.{each_is_due}
-use Rattle.chained_transfers.specs.Bulk.{IsBulkCommand, MovesAs, OnlyBulk}
+use Rattle.chained_transfers.specs.Bulk.{IsBulkCommand, MovesAs}
+use Rattle.chained_transfers.specs.Asynchronous.{OnlyAsynchronous}
 use Rattle.chained_transfers.specs.Chains.{piece_at}
-use Rattle.chained_transfers.specs.InTurn.{TakesTurns}
-use Rattle.chained_transfers.proofs.Events.{first_owed, its_command}
+use Rattle.chained_transfers.specs.AsynchronousTurns.{AsynchronousTakesTurns}
+use Rattle.chained_transfers.proofs.Events.{first_owed}
 use Rattle.lent_structures.specs.Structures.{Structure, QueueHead, Element, Buffer, Table, Isochronous, SplitIsochronous, StructureSets, Has, Tells}
 use Rattle.lent_structures.specs.Sound.{element_pages, buffer_name}
 use Rattle.ring_laws.specs.Hand.{Hand}
 use Rattle.ring_laws.specs.Ring.{Base}
 use Rattle.driver_laws.specs.Inventory.{sort_of, sorts_of, OfQueueHead, IsDriven}
 use Rattle.driver_laws.specs.Driven.{DrivesRing}
-use Rattle.fed_queues.specs.Fed.{IsPublished, AreFed}
+use Rattle.fed_queues.specs.Fed.{is_request, IsPublished, AreFed}
 use Rattle.released_queues.specs.Released.{ReleaseStands}
 use Rattle.put_laws.proofs.Words.{store_other}
 use Rattle.unlinked_streams.specs.Unlinks.{IsAtUnlink}
 use Rattle.put_laws.specs.HeldPuts.{HoldsPuts}
-use Rattle.put_laws.specs.HeldLaws.{IsReleasedMet, DriverHoldsPuts}
+use Rattle.put_laws.specs.HeldLaws.{IsInHead, IsReleasedMet, DriverHoldsPuts}
 use Rattle.put_laws.proofs.HeldAlike.{note_is, was_itself, puts_stay, alike_holds, same_holds}
-use Rattle.fed_queues.proofs.Sized.{moves_told}
 use Rattle.put_laws.proofs.Stored.{IsStored, pieces_stored, words_stored, either_way, IsInBuffer, stored_at}
 use Rattle.put_laws.proofs.Harvested.{Likes, harvest_like}
 use Rattle.put_laws.proofs.Released.{release_holds}
@@ -90,7 +92,7 @@ unfolding lend_runs
 runs_words h [] = refl
 runs_words h (b ∷ bs) = runs_words (lend_slot h b (slot_at h b)) bs ∙ slot_words h b (slot_at h b)
 
-lent_holds : (d : DriverContent) (m q : Mem) (puts : ℕ → List ℕ) → OnlyBulk d → q ≡ m → HoldsPuts d m puts → HoldsPuts (advance (record d { book = (lend_taken (holding d.book q)).book })) (lend_taken (holding d.book q)).memory puts
+lent_holds : (d : DriverContent) (m q : Mem) (puts : ℕ → List ℕ) → OnlyAsynchronous d → q ≡ m → HoldsPuts d m puts → HoldsPuts (advance (record d { book = (lend_taken (holding d.book q)).book })) (lend_taken (holding d.book q)).memory puts
 lent_holds d m q puts bulk same held =
     let h : Holding = lend_taken (holding d.book q) in
     let f : DriverContent = record d { book = h.book } in
@@ -108,24 +110,24 @@ record IsBeside (parts : StructureSets) (at : ℕ) : Type 0 where
   has : Has name structure (at / 32)
   other : (pages : List ℕ) (k : ℕ) (bs : List ℕ) → structure ≡ Buffer pages k bs → ⊥
 
-store_holds : (d : DriverContent) (m : Mem) (parts : StructureSets) (puts : ℕ → List ℕ) (b at v : ℕ) → TakesTurns d → Tells m parts → AreFed d parts → IsBeside parts at
-    → ((c : ℕ) (words : List ℕ) → d.command ≡ Some (unfinished.Publish c words) → 1 ≤ d.made) → HoldsPuts d m puts → HoldsPuts (advance d) (store d.book m b at v) puts
-store_holds d m parts puts b at v turns tells fed beside made held =
-    let keeps : IsToldSo d (advance d) = advanced_keeps d d.command turns.bulk.command in
+-- the transfers and notes stay
+stored_holds : (d f : DriverContent) (m : Mem) (parts : StructureSets) (puts : ℕ → List ℕ) (b at v : ℕ) → IsToldSo d f → AsynchronousTakesTurns d → Tells m parts → AreFed d parts → IsBeside parts at
+    → ((c : ℕ) (words : List ℕ) → d.command ≡ Some (unfinished.Publish c words) → 1 ≤ d.made) → HoldsPuts d m puts → HoldsPuts f (store d.book m b at v) puts
+stored_holds d f m parts puts b at v keeps turns tells fed beside made held =
     let new : Mem = store d.book m b at v in
-    puts_stay d (advance d) m new puts
+    puts_stay d f m new puts
     (λ t y here put still.
     let there : slice_get d.transfers t ≡ Some y = sym (ap (λ (ts : List Transfer). slice_get ts t) keeps.transfers) ∙ here in
-    let moves : MovesAs d y = turns.bulk.moves t y there in
+    let moves : MovesAs d y = turns.asynchronous.moves t y there in
     let n = 32 * moves.endpoint.queue in
     record {
       was = was_itself d.transfers t y there;
-      notes = λ i below. let c = piece_at (note_in d.notes) y.first i in note_is (note_at d.notes c) (note_at (advance d).notes c) (ap (λ (ns : List QtdNote). note_at ns c) keeps.notes);
+      notes = λ i below. let c = piece_at (note_in d.notes) y.first i in note_is (note_at d.notes c) (note_at f.notes c) (ap (λ (ns : List QtdNote). note_at ns c) keeps.notes);
       bytes = λ i below.
           let note = note_at d.notes (piece_at (note_in d.notes) y.first i) in
           either_way m new note
           (λ some.
-          let s : IsStored (parts n) note = pieces_stored d parts t i y moves.endpoint (moves_told d y moves) fed there still moves.here (λ newest. made) below some in
+          let s : IsStored (parts n) note = pieces_stored d parts t i y moves.endpoint (ap is_request put) fed there still moves.here (λ newest. made) below some in
           words_stored m new note
           (λ j inside.
           let buffer : Structure = Buffer (element_pages s.qtd) s.qtd.offset s.bytes in
@@ -137,6 +139,29 @@ store_holds d m parts puts b at v turns tells fed beside made held =
           beside.other (element_pages s.qtd) s.qtd.offset s.bytes
           (same_Some beside.structure buffer (sym beside.here ∙ ap (λ (i : ℕ). parts i beside.name) (sym one.0) ∙ ap (parts n) (sym one.1) ∙ k.here)))));
     }) held
+
+store_holds : (d : DriverContent) (m : Mem) (parts : StructureSets) (puts : ℕ → List ℕ) (b at v : ℕ) → AsynchronousTakesTurns d → Tells m parts → AreFed d parts → IsBeside parts at
+    → ((c : ℕ) (words : List ℕ) → d.command ≡ Some (unfinished.Publish c words) → 1 ≤ d.made) → HoldsPuts d m puts → HoldsPuts (advance d) (store d.book m b at v) puts
+store_holds d m parts puts b at v turns tells fed beside made held =
+    stored_holds d (advance d) m parts puts b at v (advanced_keeps d d.command turns.asynchronous.command) turns tells fed beside made held
+
+-- a stalled control endpoint's queue head is no buffer
+mend_holds : (d : DriverContent) (m : Mem) (parts : StructureSets) (puts : ℕ → List ℕ) (w : Mend) → d.command ≡ None → AsynchronousTakesTurns d → Tells m parts → AreFed d parts → IsInHead parts w.at
+    → HoldsPuts d m puts → HoldsPuts (record d { mends = drop 1 d.mends; turn = turn_of.Harvest }) (store d.book m w.queue w.at w.value) puts
+mend_holds d m parts puts w idle turns tells fed head held =
+    stored_holds d (record d { mends = drop 1 d.mends; turn = turn_of.Harvest }) m parts puts w.queue w.at w.value (record { transfers = refl; notes = refl }) turns tells fed
+    (record {
+      owner = 32 * head.block;
+      name = 32 * head.block;
+      structure = QueueHead head.head;
+      here = head.here;
+      has = inl (head.within ∙ (let e : head.block ≡ 32 * head.block / 32 = omega arith in e));
+      other = λ pages k bs e. cc;
+    })
+    (λ c words publish. absurd (no_publish c words (sym idle ∙ publish))) held
+  where
+    no_publish : (c : ℕ) (words : List ℕ) → ◌≡◌ {A = Option Command} None (Some (unfinished.Publish c words)) → ⊥
+    no_publish c words e = cc
 
 -- ---- which store it is
 
@@ -262,6 +287,9 @@ command_store d member parts unfinished.Chain b at v is bulk driven fed finds ne
 command_store d member parts (unfinished.Iso e t count) b at v is bulk driven fed finds next = absurd bulk
 command_store d member parts (unfinished.Unchain e) b at v is bulk driven fed finds next = absurd bulk
 
+unfinished_one : (d : DriverContent) (c : Command) → d.command ≡ Some c → OnlyAsynchronous d → IsBulkCommand (Some c)
+unfinished_one d c is bulk = subst (λ (o : Option Command). IsBulkCommand o) is bulk.command
+
 no_links : (c : Command) → IsBulkCommand (Some c) → links c ≡ true → ⊥
 no_links (unfinished.Open queue) bulk is = false≢true is
 no_links (unfinished.Publish b words) bulk is = false≢true is
@@ -295,7 +323,7 @@ linked_same d m (Some (unfinished.Unchain e)) is = absurd is
 pub none_there : {X : Type 0} (xs : List X) (x : X) → xs ≡ [] → slice_get xs 0 ≡ Some x → ⊥
 none_there xs x none here = let e : ◌≡◌ {A = Option _} None (Some x) = sym (ap (λ ys. slice_get ys 0) none) ∙ here in cc
 
-module _ (base : Base) (member : ℕ → Bool) (parts : StructureSets) (hand : Hand) (w : Walk) (p : DriverParts) (order : ℕ → ℕ → ℕ) (out : ℕ → List ℕ) (puts : ℕ → List ℕ) (owners : HasOwners p.driver) (turns : TakesTurns p.driver) (drives : DrivesRing base member parts hand (place w p.registers p.memory) p.driver) (fed : AreFed p.driver parts) (released : (t : ℕ) → driver_row p ≡ rows.ReleaseTransfer t → ReleaseStands base member parts hand w p order out) (near : IsReleasedMet p) (finds : FindsUnlink p.driver member parts) (gone : (e : ℕ) → driver_row p ≡ rows.ReleaseEndpoint e → HoldsPuts (after_driver_row (driver_row p) p).driver (after_driver_row (driver_row p) p).memory puts) (held : HoldsPuts p.driver p.memory puts) where
+module _ (base : Base) (member : ℕ → Bool) (parts : StructureSets) (hand : Hand) (w : Walk) (p : DriverParts) (order : ℕ → ℕ → ℕ) (out : ℕ → List ℕ) (puts : ℕ → List ℕ) (owners : HasOwners p.driver) (turns : AsynchronousTakesTurns p.driver) (drives : DrivesRing base member parts hand (place w p.registers p.memory) p.driver) (fed : AreFed p.driver parts) (released : (t : ℕ) → driver_row p ≡ rows.ReleaseTransfer t → ReleaseStands base member parts hand w p order out) (near : IsReleasedMet p) (finds : FindsUnlink p.driver member parts) (heads : (w : Mend) → driver_row p ≡ rows.Mend w → IsInHead parts w.at) (gone : (e : ℕ) → driver_row p ≡ rows.ReleaseEndpoint e → HoldsPuts (after_driver_row (driver_row p) p).driver (after_driver_row (driver_row p) p).memory puts) (held : HoldsPuts p.driver p.memory puts) where
   abbrev Holds : DriverRow → Type 0
   Holds row = HoldsPuts (after_driver_row row p).driver (after_driver_row row p).memory puts
 
@@ -306,26 +334,26 @@ module _ (base : Base) (member : ℕ → Bool) (parts : StructureSets) (hand : H
   store_row b at v due =
       ⊎_elim
       (λ (own : IsNextOf p (rows.Store b at v)).
-      let k : IsCommandStore p.driver parts at = command_store p.driver member parts own.command b at v own.unfinished (its_command p.driver own.command own.unfinished turns.bulk) drives.driven fed finds own.next in
+      let k : IsCommandStore p.driver parts at = command_store p.driver member parts own.command b at v own.unfinished (unfinished_one p.driver own.command own.unfinished turns.asynchronous) drives.driven fed finds own.next in
       store_holds p.driver p.memory parts puts b at v turns tells fed k.beside k.made held)
-      (λ (link : IsLinkOf p (rows.Store b at v)). absurd (no_links link.command (its_command p.driver link.command link.unfinished turns.bulk) link.links)) due
+      (λ (link : IsLinkOf p (rows.Store b at v)). absurd (no_links link.command (unfinished_one p.driver link.command link.unfinished turns.asynchronous) link.links)) due
 
   release : (t : ℕ) → driver_row p ≡ rows.ReleaseTransfer t → IsTransferDue p t → Holds (rows.ReleaseTransfer t)
   release t row due =
       let o = first_owed p.driver t due.first owners.orderly in
-      let moves : MovesAs p.driver o.transfer = turns.bulk.moves t o.transfer o.there in
+      let moves : MovesAs p.driver o.transfer = turns.asynchronous.moves t o.transfer o.there in
       release_holds base member parts hand w p order out t o.transfer moves.endpoint (released t row)
-      (record { free = due.idle; first = due.first; here = o.there; held = o.released; reported = o.reported; endpoint = moves.here; near = near t o.transfer moves.endpoint row o.there moves.here }) turns.bulk puts held
+      (record { free = due.idle; first = due.first; here = o.there; held = o.released; reported = o.reported; endpoint = moves.here; near = near t o.transfer moves.endpoint row o.there moves.here }) turns.asynchronous puts held
 
   by_row : (row : DriverRow) → driver_row p ≡ row → IsDue p row → Holds row
-  by_row rows.Lend is due = lent_holds p.driver p.memory p.memory puts turns.bulk refl held
+  by_row rows.Lend is due = lent_holds p.driver p.memory p.memory puts turns.asynchronous refl held
   by_row (rows.Store b at v) is due = store_row b at v due
-  by_row (rows.Mend m) is due = absurd (none_there p.driver.mends m turns.bulk.mends due.1)
-  by_row rows.Frames is due = subst (λ (f : DriverContent). HoldsPuts f p.memory puts) (sym (framed_same p.driver p.registers.frame_index p.driver.command turns.bulk.command)) held
+  by_row (rows.Mend w) is due = mend_holds p.driver p.memory parts puts w due.0 turns tells fed (heads w is) held
+  by_row rows.Frames is due = subst (λ (f : DriverContent). HoldsPuts f p.memory puts) (sym (framed_same p.driver p.registers.frame_index p.driver.command turns.asynchronous.command)) held
   by_row rows.LendDescriptors is due =
-      lent_holds p.driver p.memory (linked_by p.driver p.memory p.driver.command) puts turns.bulk (linked_same p.driver p.memory p.driver.command turns.bulk.command) held
-  by_row (rows.Unlink t) is due = absurd (none_there p.driver.periodic.unlinks t turns.bulk.unlinks due.first)
-  by_row (rows.ReleaseRemoved what) is due = absurd (none_there p.driver.periodic.removals due.removal turns.bulk.removals due.first)
+      lent_holds p.driver p.memory (linked_by p.driver p.memory p.driver.command) puts turns.asynchronous (linked_same p.driver p.memory p.driver.command turns.asynchronous.command) held
+  by_row (rows.Unlink t) is due = absurd (none_there p.driver.periodic.unlinks t turns.asynchronous.unlinks due.first)
+  by_row (rows.ReleaseRemoved what) is due = absurd (none_there p.driver.periodic.removals due.removal turns.asynchronous.removals due.first)
   by_row (rows.ReleaseTransfer t) is due = release t is due
   by_row (rows.ReleaseEndpoint e) is due = subst Holds is (gone e is)
   by_row rows.ClearAdvance is due = record { each = held.each }
@@ -338,5 +366,5 @@ module _ (base : Base) (member : ℕ → Bool) (parts : StructureSets) (hand : H
   by_row rows.Rest is due = held
 
 pub driver_holds : DriverHoldsPuts
-driver_holds base member parts hand w p order out puts owners turns drives fed released near finds gone held =
-    by_row base member parts hand w p order out puts owners turns drives fed released near finds gone held (driver_row p) refl (each_is_due p)
+driver_holds base member parts hand w p order out puts owners turns drives fed released near finds heads gone held =
+    by_row base member parts hand w p order out puts owners turns drives fed released near finds heads gone held (driver_row p) refl (each_is_due p)

@@ -17,7 +17,7 @@ use Rattle.driver_rows.specs.DriverContent.{DriverContent, waits_for}
 use Rattle.endpoint_lives.specs.Lives.{told_end}
 use Rattle.run_owners.proofs.Released.{set_there}
 use Rattle.chained_transfers.specs.Bulk.{receives, sort_by, MovesAs}
-use Rattle.chained_transfers.specs.InTurn.{TakesTurns}
+use Rattle.chained_transfers.specs.AsynchronousTurns.{AsynchronousTakesTurns}
 use Rattle.chained_transfers.specs.Turns.{turn_of, IsNotGone}
 use Rattle.chained_transfers.proofs.Rows.{set_which}
 use Rattle.chained_transfers.proofs.Ways.{sends_sort}
@@ -40,21 +40,21 @@ pub not_gone : (d : DriverContent) (e : ℕ) (x : Endpoint) (y : Transfer) → s
 not_gone d e x y here alive own = record { endpoint = x; here = ap (slice_get d.endpoints) own ∙ here; gone = alive }
 
 -- what isn't reported of such an endpoint isn't given back
-pub kept : (d : DriverContent) (t : ℕ) (y : Transfer) → TakesTurns d → slice_get d.transfers t ≡ Some y → IsNotGone (slice_get d.endpoints) y.endpoint → y.reported ≡ false → y.released ≡ false
+pub kept : (d : DriverContent) (t : ℕ) (y : Transfer) → AsynchronousTakesTurns d → slice_get d.transfers t ≡ Some y → IsNotGone (slice_get d.endpoints) y.endpoint → y.reported ≡ false → y.released ≡ false
 kept d t y turns there alive waits = by y.released refl
   where
     by : (b : Bool) → y.released ≡ b → b ≡ false
     by false is = refl
     by true is = absurd (false≢true (sym waits ∙ turns.turns.turns.told t (turn_of y) (ap (option_map turn_of) there) alive is))
 
-pub its_sort : (d : DriverContent) (e t : ℕ) (x : Endpoint) (y : Transfer) → TakesTurns d → slice_get d.endpoints e ≡ Some x → receives x.desc.name.way ≡ false → slice_get d.transfers t ≡ Some y → y.endpoint ≡ e → y.sort ≡ sorts.Put
+pub its_sort : (d : DriverContent) (e t : ℕ) (x : Endpoint) (y : Transfer) → AsynchronousTakesTurns d → slice_get d.endpoints e ≡ Some x → receives x.desc.name.way ≡ false → slice_get d.transfers t ≡ Some y → y.endpoint ≡ e → y.sort ≡ sorts.Put
 its_sort d e t x y turns here sends there own =
-    let moves : MovesAs d y = turns.bulk.moves t y there in
+    let moves : MovesAs d y = turns.asynchronous.moves t y there in
     let is : moves.endpoint ≡ x = same_Some moves.endpoint x (sym moves.here ∙ ap (slice_get d.endpoints) own ∙ here) in
     moves.sort ∙ ap (λ (z : Endpoint). sort_by z.desc.name.way) is ∙ sends_sort x.desc.name.way sends
 
 -- of a content with the same places
-pub its_bytes : (d : DriverContent) (m : Mem) (puts : ℕ → List ℕ) (e t : ℕ) (x : Endpoint) (y : Transfer) → TakesTurns d → HoldsPuts d m puts → slice_get d.endpoints e ≡ Some x → x.gone ≡ false → receives x.desc.name.way ≡ false
+pub its_bytes : (d : DriverContent) (m : Mem) (puts : ℕ → List ℕ) (e t : ℕ) (x : Endpoint) (y : Transfer) → AsynchronousTakesTurns d → HoldsPuts d m puts → slice_get d.endpoints e ≡ Some x → x.gone ≡ false → receives x.desc.name.way ≡ false
     → slice_get d.transfers t ≡ Some y → waits_for e y ≡ true → held_bytes m d.notes y.place y.left ≡ piece_of d.notes y.first (y.qtds - y.left) (puts t)
 its_bytes d m puts e t x y turns held here alive sends there waits =
     let own = waits_is e y waits in
@@ -137,7 +137,7 @@ alike_like d f k = record { ends = ends_same d f k.endpoints; transfers = k.tran
 
 -- ---- the same content
 
-module _ (d new : DriverContent) (m later : Mem) (puts now reported told : ℕ → List ℕ) (turns : TakesTurns d) (alike : TellsLike d new) (keeps : KeepsPuts d puts now) (held : HoldsPuts d m puts) (still : HoldsPuts new later now) (met : (e : ℕ) (x : Endpoint) → slice_get d.endpoints e ≡ Some x → IsThere new x → IsThere d x → told (32 * x.queue) ≡ reported (32 * x.queue)) (opened : (e : ℕ) (x : Endpoint) → slice_get d.endpoints e ≡ Some x → IsThere new x → d.command ≡ Some (unfinished.Open x.queue) → told (32 * x.queue) ≡ []) (opens : (x : Endpoint) → new.command ≡ Some (unfinished.Open x.queue) → d.command ≡ Some (unfinished.Open x.queue)) (owes : Owes d m puts reported) where
+module _ (d new : DriverContent) (m later : Mem) (puts now reported told : ℕ → List ℕ) (turns : AsynchronousTakesTurns d) (alike : TellsLike d new) (keeps : KeepsPuts d puts now) (held : HoldsPuts d m puts) (still : HoldsPuts new later now) (met : (e : ℕ) (x : Endpoint) → slice_get d.endpoints e ≡ Some x → IsThere new x → IsThere d x → told (32 * x.queue) ≡ reported (32 * x.queue)) (opened : (e : ℕ) (x : Endpoint) → slice_get d.endpoints e ≡ Some x → IsThere new x → d.command ≡ Some (unfinished.Open x.queue) → told (32 * x.queue) ≡ []) (opens : (x : Endpoint) → new.command ≡ Some (unfinished.Open x.queue) → d.command ≡ Some (unfinished.Open x.queue)) (owes : Owes d m puts reported) where
   there_still : (e : ℕ) (z : Endpoint) (w : WasEnd d e z) → IsThere new z → IsThere new w.endpoint
   there_still e z w t = record { linked = λ is. t.linked (is ∙ ap (λ (q : ℕ). Some (unfinished.Open q)) (sym w.queue)); kept = sym w.gone ∙ t.kept }
 
@@ -232,7 +232,7 @@ new_owes n room m puts reported = record {
 
 -- ---- a reported transfer is given back
 
-module _ (d new : DriverContent) (m later : Mem) (t : ℕ) (y : Transfer) (puts reported : ℕ → List ℕ) (turns : TakesTurns d) (here : slice_get d.transfers t ≡ Some y) (told : y.reported ≡ true) (endpoints : new.endpoints ≡ d.endpoints) (transfers : new.transfers ≡ set d.transfers t (record y { released = true })) (notes : new.notes ≡ d.notes) (command : new.command ≡ d.command) (held : HoldsPuts d m puts) (still : HoldsPuts new later puts) (owes : Owes d m puts reported) where
+module _ (d new : DriverContent) (m later : Mem) (t : ℕ) (y : Transfer) (puts reported : ℕ → List ℕ) (turns : AsynchronousTakesTurns d) (here : slice_get d.transfers t ≡ Some y) (told : y.reported ≡ true) (endpoints : new.endpoints ≡ d.endpoints) (transfers : new.transfers ≡ set d.transfers t (record y { released = true })) (notes : new.notes ≡ d.notes) (command : new.command ≡ d.command) (held : HoldsPuts d m puts) (still : HoldsPuts new later puts) (owes : Owes d m puts reported) where
   abbrev gone : Transfer
   gone = record y { released = true }
 

@@ -1,5 +1,6 @@
 -- Commands, and rows that store no word of a queue.
 use Rattle.std.proofs.Common.{◌≡◌, ◌≢◌, ℕ, ◌-◌, ◌*◌, ◌==◌, Bool, true, false, if◌then◌else◌, List, [], ◌∷◌, ◌++◌, length, take, get_or, slice_get, option_map, Option, Some, None, ap, refl, sym, subst, ◌∙◌, ⊎_elim, inl, inr, ◌||◌}
+use Rattle.std.specs.Prelude.{◌⊎◌}
 use Rattle.std.proofs.lemmas.Bool.{cases_eq, eq-eqb, false≢true, or_cases}
 use Rattle.std.proofs.lemmas.Option.{same_Some}
 use Rattle.usb_base.specs.declared.endpoints.EpDesc.{EpDesc}
@@ -17,7 +18,7 @@ use Rattle.driver_rows.specs.declared.rows.Found.TheVariants as founds
 use Rattle.driver_rows.specs.DriverContent.{DriverContent}
 use Rattle.driver_rows.specs.Offers.{Offered, new_runs, new_endpoint, with_queued}
 use Rattle.driver_rows.specs.Rows.{Parts, driver_row, after_driver_row, after_transfer, freed_by, is_iso}
-use Rattle.run_owners.specs.Accepts.{Transfers}
+use Rattle.run_owners.specs.Accepts.{Opens, Transfers}
 use Rattle.run_owners.specs.Due.{IsDue, IsHarvestDue}
 use Rattle.run_owners.specs.Kept.{HasOwners}
 use Rattle.run_owners.specs.Owners.{EndpointRuns, runs_of_endpoint}
@@ -33,14 +34,23 @@ use Rattle.driver_laws.proofs.Viewing.{harvest_views}
 use Rattle.driver_laws.specs.Released.{release_row}
 use Rattle.controlled_streams.specs.Returned.{staying, staying_of}
 use Rattle.controlled_streams.proofs.Storing.{among_with}
-use Rattle.chained_transfers.specs.Accepted.{IsOpened, IsAsked}
-use Rattle.chained_transfers.specs.Bulk.{receives, OnlyBulk}
-use Rattle.chained_transfers.specs.InTurn.{TakesTurns}
+use Rattle.chained_transfers.specs.Bulk.{receives}
+use Rattle.chained_transfers.specs.Asynchronous.{OnlyAsynchronous}
+use Rattle.chained_transfers.specs.AsynchronousTurns.{AsynchronousTakesTurns}
 use Rattle.fed_queues.specs.Places.{IsMet, AreStillOut}
 use Rattle.fed_lends.specs.Commands.{QueuesStand}
 use Rattle.fed_lends.proofs.Asked.{push_which, set_which}
 use Rattle.fed_harvests.specs.Harvests.{HarvestLeaves, with_out}
-use Rattle.fed_harvests.proofs.Harvests.{harvest_stands, wait_stands}
+use Rattle.fed_harvests.specs.Stalls.{StallLeaves}
+use Rattle.fed_harvests.proofs.Harvests.{unstalled_stands, wait_stands}
+use Rattle.fed_harvests.proofs.Stalls.{stall_stands}
+use Rattle.fed_harvests.proofs.Told.{in_both}
+use Rattle.mended_heads.specs.Stalling.{IsStall}
+use Rattle.usb_base.specs.declared.packets.EpKind.{EpKind}
+use Rattle.usb_base.specs.declared.endpoints.EndCause.{EndCause}
+use Rattle.driver_rows.specs.Harvests.{end_of, is_stall}
+use Rattle.chained_transfers.specs.Out.{out_now}
+use Rattle.chained_transfers.proofs.BulkAndControl.{not_iso}
 use Rattle.walk_members.proofs.Descriptions.{desc_of, row_left}
 use Rattle.whole_sends.specs.Whole.{AreSentWhole}
 use Rattle.whole_sends.proofs.Keeping.{spared_whole, returned_whole}
@@ -48,12 +58,10 @@ use Rattle.put_laws.specs.Sent.{SentStand, WasOut, OutsWere}
 use Rattle.put_laws.specs.SentRows.{AreFewer, FewerAreSent, AcceptedSends, QuietSends, HarvestSends, ReleaseSends}
 use Rattle.endpoint_lives.specs.Lives.{may_meet, is_one_of}
 use Rattle.endpoint_lives.proofs.Lives.{met_alike, linked_met, waiting_met, rung_met, one_of_joined}
-use Rattle.fed_queues.proofs.Places.{going_met}
+use Rattle.fed_queues.proofs.Places.{stands_met}
 use Rattle.ring_members.proofs.Harvests.{harvest_stays}
 use Rattle.ring_members.proofs.Links.{RingOf}
 use Rattle.ring_members.proofs.Events.{ring_back}
-use Rattle.usb_base.specs.declared.packets.EpKind.{EpKind}
-use Rattle.usb_base.specs.declared.packets.EpKind.TheVariants as kinds
 
 -- ---- contents with the same OUT endpoints
 
@@ -84,18 +92,16 @@ itself d e z here met sends = record { number = e; endpoint = z; here = here; me
 -- ---- a command
 
 module _ (d : DriverContent) (m : Mem) (o : Offered) where
-  opened_outs : IsOpened d m o → OutsWere d o.driver
-  opened_outs k e z here met sends =
-      let w = k.opens in
+  opened_outs : Opens d m o → OutsWere d o.driver
+  opened_outs w e z here met sends =
       let new : Endpoint = new_endpoint w.desc (get_or (new_runs d w.holding_after) 0 0) (get_or (new_runs d w.holding_after) 1 0) in
       let near : may_meet o.driver e z ≡ may_meet d e z = met_alike d o.driver e z z refl (ap (λ (p : Offered). p.driver.waiting) w.is) (ap (λ (p : Offered). p.driver.rung) w.is) in
       ⊎_elim (λ (was : slice_get d.endpoints e ≡ Some z). itself d e z was (idle_met d e z w.idle met.there.kept (sym near ∙ met.near)) sends)
       (λ (is : (e ≡ length d.endpoints) × (z ≡ new)). absurd (met.there.linked (ap (λ (p : Offered). p.driver.command) w.is ∙ ap (λ (y : Endpoint). Some (unfinished.Open y.queue)) (sym is.1))))
       (push_which d.endpoints new e z (ap (λ (p : Offered). slice_get p.driver.endpoints e) (sym w.is) ∙ here))
 
-  asked_outs : IsAsked d m o → OutsWere d o.driver
-  asked_outs k e z here met sends =
-      let w : Transfers d m o = k.transfers in
+  asked_outs : Transfers d m o → OutsWere d o.driver
+  asked_outs w e z here met sends =
       let dummy : ℕ = get_or (take (length w.asked.stages) (new_runs d w.holding_after)) (length w.asked.stages - 1) 0 in
       let queued : Endpoint = with_queued w.endpoint dummy (length d.transfers) in
       let near : (y : Endpoint) → z.linked ≡ y.linked → may_meet o.driver e z ≡ may_meet d e y =
@@ -137,7 +143,7 @@ was_like (Some b) z runs desc = record {
   bare = ap (λ (r : EndpointRuns). r.bare) (same_Some (runs_of_endpoint z) (runs_of_endpoint b) runs);
 }
 
-harvest_outs : (p : Parts) (e t : ℕ) (found : Found) → OnlyBulk p.driver → p.driver.command ≡ None → OutsWere p.driver (after_driver_row (rows.Harvest e t found) p).driver
+harvest_outs : (p : Parts) (e t : ℕ) (found : Found) → OnlyAsynchronous p.driver → p.driver.command ≡ None → OutsWere p.driver (after_driver_row (rows.Harvest e t found) p).driver
 harvest_outs p e t found bulk idle i z here met sends =
     let now : DriverContent = (after_driver_row (rows.Harvest e t found) p).driver in
     let w : WasLike (slice_get p.driver.endpoints i) z =
@@ -147,9 +153,9 @@ harvest_outs p e t found bulk idle i z here met sends =
     let back = ring_back p.driver.endpoints now.endpoints i z k.endpoints here in
     let same : back.endpoint ≡ w.endpoint = same_Some back.endpoint w.endpoint (sym back.here ∙ w.here) in
     let linked : z.linked ≡ w.endpoint.linked = ap (λ (r : RingOf). r.linked) (sym back.same) ∙ ap (λ (x : Endpoint). x.linked) same in
-    let kind : w.endpoint.desc.kind ≡ kinds.Bulk = (bulk.endpoints i w.endpoint w.here).bulk.kind in
+    let kind : is_iso w.endpoint.desc.kind ≡ false = not_iso w.endpoint.desc (bulk.endpoints i w.endpoint w.here).asynchronous in
     let gone : z.gone ≡ w.endpoint.gone =
-    sym (ap (λ (c : EpKind). is_iso c || z.gone) (ap (λ (c : EpDesc). c.kind) w.desc ∙ kind)) ∙ (w.bare ∙ ap (λ (c : EpKind). is_iso c || w.endpoint.gone) kind) in
+    sym (ap (λ (b : Bool). b || z.gone) (ap (λ (c : EpDesc). is_iso c.kind) w.desc ∙ kind)) ∙ (w.bare ∙ ap (λ (b : Bool). b || w.endpoint.gone) kind) in
     record {
       number = i;
       endpoint = w.endpoint;
@@ -176,7 +182,7 @@ near_rung d e z near =
     (or_cases (is_one_of e d.rung) (is_one_of e d.waiting) (sym (one_of_joined e d.rung d.waiting) ∙ left)))
     (or_cases z.linked (is_one_of e (d.rung ++ d.waiting)) near)
 
-quiet_outs : (row : DriverRow) (p : Parts) → is_quiet row ≡ true → OnlyBulk p.driver → IsDue p row → OutsWere p.driver (after_driver_row row p).driver
+quiet_outs : (row : DriverRow) (p : Parts) → is_quiet row ≡ true → OnlyAsynchronous p.driver → IsDue p row → OutsWere p.driver (after_driver_row row p).driver
 quiet_outs rows.ClearAdvance p quiet bulk due e z here met sends = itself p.driver e z here (idle_met p.driver e z due.0 met.there.kept (near_cleared p.driver (p.driver.cleared ++ p.driver.rung) e z met.near)) sends
 quiet_outs rows.RingBell p quiet bulk due e z here met sends = itself p.driver e z here (idle_met p.driver e z due.0 met.there.kept (near_rung p.driver e z met.near)) sends
 quiet_outs (rows.ReadStatus heard) p quiet bulk due e z here met sends = itself p.driver e z here (idle_met p.driver e z due.0 met.there.kept met.near) sends
@@ -199,12 +205,26 @@ quiet_sends p hand parts order out later quiet bulk fewer k =
 
 -- ---- a harvest
 
-module _ (p : Parts) (e t : ℕ) (found : Found) (member streams : ℕ → Bool) (ends : ℕ → Told) (parts : StructureSets) (order : ℕ → ℕ → ℕ) (out later : ℕ → List ℕ) (due : IsHarvestDue p e t found) (owners : HasOwners p.driver) (turns : TakesTurns p.driver) (queues : QueuesStand p.driver member streams ends parts order out) where
+stall_or : (kind : EpKind) (found : Found) → IsStall kind found ⊎ (IsStall kind found → ⊥)
+stall_or kind founds.Active = inr (λ stall. stall)
+stall_or kind (founds.Moved n) = inr (λ stall. stall)
+stall_or kind (founds.Served errors) = inr (λ stall. stall)
+stall_or kind (founds.Ended n what) = by (is_stall what) (end_of kind what) refl refl
+  where
+    some_none : (c : EndCause) → ◌≡◌ {A = Option EndCause} (Some c) None → ⊥
+    some_none c same = cc
+
+    by : (b : Bool) (o : Option EndCause) → is_stall what ≡ b → end_of kind what ≡ o → ((is_stall what ≡ true) × (end_of kind what ≡ None)) ⊎ ((is_stall what ≡ true) × (end_of kind what ≡ None) → ⊥)
+    by true None one two = inl (one, two)
+    by true (Some c) one two = inr (λ both. some_none c (sym two ∙ both.1))
+    by false o one two = inr (λ both. false≢true (sym one ∙ both.0))
+
+module _ (p : Parts) (e t : ℕ) (found : Found) (member streams : ℕ → Bool) (ends : ℕ → Told) (parts : StructureSets) (order : ℕ → ℕ → ℕ) (out later : ℕ → List ℕ) (due : IsHarvestDue p e t found) (owners : HasOwners p.driver) (turns : AsynchronousTakesTurns p.driver) (queues : QueuesStand p.driver member streams ends parts order out) where
   abbrev new : DriverContent
   new = (after_driver_row (rows.Harvest e t found) p).driver
 
   its_met : IsMet p.driver e due.endpoint
-  its_met = going_met p.driver e due.endpoint (turns.bulk.endpoints e due.endpoint due.here) due.goes_on (λ is. no_open (sym due.idle ∙ is))
+  its_met = stands_met p.driver e due.endpoint (turns.asynchronous.endpoints e due.endpoint due.here) due.goes_on (λ is. no_open (sym due.idle ∙ is))
     where
       no_open : ◌≡◌ {A = Option Command} None (Some (unfinished.Open due.endpoint.queue)) → ⊥
       no_open same = cc
@@ -216,18 +236,34 @@ module _ (p : Parts) (e t : ℕ) (found : Found) (member streams : ℕ → Bool)
       (wait_stands p e t member streams ends parts order out (subst (IsHarvestDue p e t) is due) queues).out_are in
       subst (IsAmong a) (still i z here met.there ∙ sym (same i z here met.there)) among
 
-  is_done : found ≢ founds.Active → AreStillOut new later → AreFewer new out later
-  is_done differs still i z a here met among =
-      let l : HarvestLeaves p e t found due member streams ends parts order out = harvest_stands p e t found member streams ends parts order out due differs owners turns queues in
+  -- of the queue of its endpoint no more is out than before
+  less_out : (left : List ℕ) → AreStillOut new (with_out out (32 * due.endpoint.queue) left) → ((a : ℕ) → IsAmong a left → IsAmong a (out_now p.driver e)) → AreStillOut new later → AreFewer new out later
+  less_out left now fewer still i z a here met among =
       let n : ℕ = 32 * due.endpoint.queue in
-      let left : List ℕ = l.harvested.before ++ l.harvested.behind in
-      let those : later (32 * z.queue) ≡ with_out out n left (32 * z.queue) = still i z here met.there ∙ sym (l.stand.out_are i z here met.there) in
+      let those : later (32 * z.queue) ≡ with_out out n left (32 * z.queue) = still i z here met.there ∙ sym (now i z here met.there) in
       ⊎_elim (λ (same : 32 * z.queue ≡ n).
-      let was : out n ≡ l.harvested.before ++ 32 * due.transfer.place ∷ l.harvested.behind = queues.out_are e due.endpoint due.here (its_met.there) ∙ l.harvested.was in
-      let now : with_out out n left (32 * z.queue) ≡ left = ap (λ (b : Bool). if b then left else out (32 * z.queue)) (eq-eqb (32 * z.queue) n same) in
-      subst (IsAmong a) (sym was ∙ ap out (sym same)) (among_with (32 * due.transfer.place) l.harvested.before l.harvested.behind a (subst (IsAmong a) (those ∙ now) among)))
+      let was : out n ≡ out_now p.driver e = queues.out_are e due.endpoint due.here (its_met.there) in
+      let is : with_out out n left (32 * z.queue) ≡ left = ap (λ (b : Bool). if b then left else out (32 * z.queue)) (eq-eqb (32 * z.queue) n same) in
+      subst (IsAmong a) (sym was ∙ ap out (sym same)) (fewer a (subst (IsAmong a) (those ∙ is) among)))
       (λ (apart : 32 * z.queue ≢ n).
       subst (IsAmong a) (those ∙ ap (λ (b : Bool). if b then left else out (32 * z.queue)) (not_same (32 * z.queue) n apart)) among) (cases_eq (32 * z.queue) n)
+
+  one_less : found ≢ founds.Active → (IsStall due.endpoint.desc.kind found → ⊥) → AreStillOut new later → AreFewer new out later
+  one_less differs unstalled =
+      let l : HarvestLeaves p e t found due member streams ends parts order out = unstalled_stands p e t found member streams ends parts order out due differs unstalled owners turns queues in
+      less_out (l.harvested.before ++ l.harvested.behind) l.stand.out_are (λ a among. subst (IsAmong a) (sym l.harvested.was) (among_with (32 * due.transfer.place) l.harvested.before l.harvested.behind a among))
+
+  stall_less : IsStall due.endpoint.desc.kind found → AreStillOut new later → AreFewer new out later
+  stall_less stall =
+      let l : StallLeaves p e t found due member streams ends parts order out = stall_stands p e t found member streams ends parts order out due stall owners turns queues in
+      less_out (l.stalled.before ++ l.stalled.later) l.stand.out_are
+      (λ a among.
+      subst (IsAmong a) (sym l.stalled.was)
+      (among_with (32 * due.transfer.place) l.stalled.before l.stalled.behind a (in_both a l.stalled.before l.stalled.later l.stalled.before l.stalled.behind (λ is. is) (l.stalled.fewer a) among)))
+
+  is_done : found ≢ founds.Active → AreStillOut new later → AreFewer new out later
+  is_done differs =
+      ⊎_elim (λ (stall : IsStall due.endpoint.desc.kind found). stall_less stall) (λ (none : IsStall due.endpoint.desc.kind found → ⊥). one_less differs none) (stall_or due.endpoint.desc.kind found)
 
   fewer_by : (f : Found) → found ≡ f → AreStillOut new later → AreFewer new out later
   fewer_by founds.Active is still = not_done is still
@@ -251,7 +287,7 @@ pub harvest_sends : HarvestSends
 harvest_sends p e t found hand member streams ends parts order out later row owners turns queues still k =
     let due : IsHarvestDue p e t found = subst (IsDue p) row (each_is_due p) in
     subst (λ (r : DriverRow). SentStand (after_driver_row r p).driver order later hand parts) (sym row)
-    (fewer_sent p.driver (after_driver_row (rows.Harvest e t found) p).driver hand parts order out later (harvest_outs p e t found turns.bulk due.idle)
+    (fewer_sent p.driver (after_driver_row (rows.Harvest e t found) p).driver hand parts order out later (harvest_outs p e t found turns.asynchronous due.idle)
     (harvest_fewer p e t found member streams ends parts order out later due owners turns queues (subst (λ (r : DriverRow). AreStillOut (after_driver_row r p).driver later) row still)) k)
 
 -- ---- blocks are given back

@@ -34,9 +34,9 @@ use Rattle.fed_queues.specs.Places.{IsMet}
 use Rattle.released_queues.proofs.Queues.{none_yet}
 use Rattle.whole_sends.specs.Whole.{bytes_of_element, buffer_at}
 use Rattle.put_laws.specs.SentRead.{MovesAll, ReadsPut, PutsMoveAll, PutsLeaveNone, DoneIsTold, PutsAreTold}
-use Rattle.chained_transfers.proofs.Holding.{unreleased}
+use Rattle.chained_transfers.proofs.Holding.{stands_unreleased}
 use Rattle.endpoint_lives.proofs.Lives.{none_told}
-use Rattle.fed_queues.proofs.Places.{going_met}
+use Rattle.fed_queues.proofs.Places.{stands_met}
 
 -- ---- what a token tells
 
@@ -95,13 +95,13 @@ module _ (p : Parts) (e t : ℕ) (found : Found) (hand : Hand) (parts : Structur
   its = waits_is e y k.due.waits
 
   held : y.released ≡ false
-  held = unreleased d t y x k.turns.bulk k.turns.turns k.due.there (ap (slice_get d.endpoints) its.0 ∙ k.due.here) (none_told x k.due.goes_on) its.1
+  held = stands_unreleased d t y x (k.turns.asynchronous.endpoints e x k.due.here) k.turns.turns k.due.there (ap (slice_get d.endpoints) its.0 ∙ k.due.here) (none_told x k.due.goes_on) its.1
 
   at_place : IsAtPlace (note_in d.notes) y
   at_place = k.turns.turns.places t y k.due.there held
 
   met : IsMet d e x
-  met = going_met d e x (k.turns.bulk.endpoints e x k.due.here) k.due.goes_on (λ is. no_open x.queue (sym k.due.idle ∙ is))
+  met = stands_met d e x (k.turns.asynchronous.endpoints e x k.due.here) k.due.goes_on (λ is. no_open x.queue (sym k.due.idle ∙ is))
     where
       no_open : (b : ℕ) → ◌≡◌ {A = Option Command} None (Some (unfinished.Open b)) → ⊥
       no_open b same = cc
@@ -128,7 +128,7 @@ module _ (p : Parts) (e t : ℕ) (found : Found) (hand : Hand) (parts : Structur
   counts_all off goes = ap (moved_of (note_at d.notes y.place).told) (none_left off goes) ∙ none_left_all (note_at d.notes y.place).told
 
   found_is : found ≡ found_in y.sort (nat_le y.left 1) (note_at d.notes y.place) (token_in p.memory y.place)
-  found_is = k.due.tells ∙ found_by d p.memory y y.sort (moves_queued d y (k.turns.bulk.moves t y k.due.there))
+  found_is = k.due.tells ∙ found_by d p.memory y y.sort (moves_queued d y (k.turns.asynchronous.moves t y k.due.there))
 
   pub all_moved : MovesAll found (note_at d.notes y.place).told
   all_moved = subst (λ (f : Found). MovesAll f (note_at d.notes y.place).told) (sym found_is) (token_moves y.sort (nat_le y.left 1) (note_at d.notes y.place) (token_in p.memory y.place) none_left)

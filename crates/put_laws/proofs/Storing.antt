@@ -38,7 +38,7 @@ use Rattle.whole_sends.specs.Whole.{AreSentWhole}
 use Rattle.whole_sends.proofs.Keeping.{idle_store_whole, last_store_whole}
 use Rattle.put_laws.specs.Sent.{SentStand, HoldThere}
 use Rattle.put_laws.specs.SentStores.{StoreSends}
-use Rattle.fed_queues.proofs.Places.{going_met}
+use Rattle.fed_queues.proofs.Places.{stands_met}
 use Rattle.endpoint_lives.specs.Lives.{may_meet}
 
 -- ---- the qTD before its last store
@@ -146,7 +146,7 @@ module _ (p : DriverParts) (member streams : ℕ → Bool) (ends : ℕ → Told)
   never_opens c same = publish_not_open c (sym k.command ∙ same)
 
   met : IsMet d y.endpoint g.endpoint
-  met = going_met d y.endpoint g.endpoint (k.turns.bulk.endpoints y.endpoint g.endpoint g.here) g.going (never_opens g.endpoint.queue)
+  met = stands_met d y.endpoint g.endpoint (k.turns.asynchronous.endpoints y.endpoint g.endpoint g.here) g.going (never_opens g.endpoint.queue)
 
   still_met : (e : ℕ) (x : Endpoint) → x.gone ≡ false → may_meet d e x ≡ true → IsMet d e x
   still_met e x kept near = record { there = record { linked = never_opens x.queue; kept = kept }; near = near }
@@ -225,14 +225,14 @@ module _ (p : DriverParts) (member streams : ℕ → Bool) (ends : ℕ → Told)
 
     -- ---- the last one
 
-    complete : (a : ℕ) (t : Qtd) → parts n a ≡ Some (Element t) → t.token.active ≡ true → IsAmong a (before ++ behind)
-    complete a t here on = subst (IsAmong a) out_split ((right n (counts y.endpoint g.endpoint g.here met.there)).accounts.complete a t here on)
+    complete : heads n ≡ true → (a : ℕ) (t : Qtd) → parts n a ≡ Some (Element t) → t.token.active ≡ true → IsAmong a (before ++ behind)
+    complete counted a t here on = subst (IsAmong a) out_split ((right n counted).accounts.complete a t here on)
 
-    published : d.made ≡ 8 → AreSentWhole (order n) (out n) hand n (parts n) → AreSentWhole (order n) (out_then out done g n) hand n (parts_then g n)
-    published eighth was =
+    published : d.made ≡ 8 → heads n ≡ true → AreSentWhole (order n) (out n) hand n (parts n) → AreSentWhole (order n) (out_then out done g n) hand n (parts_then g n)
+    published eighth counted was =
         subst (λ (xs : List ℕ). AreSentWhole (order n) xs hand n (parts_then g n)) (sym out_done)
         (last_store_whole (order n) reach.stands.front before behind hand n parts (32 * b) old new g.stored old_idle (ap (λ (j : ℕ). (partly g.qtd j).token.active) eighth ∙ g.active) sorted
-        (subst (λ (xs : List ℕ). HasFront (order n) reach.stands.front xs n (parts n)) out_split reach.stands.has) reach.within reach.tail complete (leads eighth)
+        (subst (λ (xs : List ℕ). HasFront (order n) reach.stands.front xs n (parts n)) out_split reach.stands.has) reach.within reach.tail (complete counted) (leads eighth)
         (subst (λ (xs : List ℕ). AreSentWhole (order n) xs hand n (parts n)) out_split was))
 
     sent_done : d.made ≡ 8 → SentStand done order (out_then out done g) hand (parts_then g)
@@ -241,7 +241,7 @@ module _ (p : DriverParts) (member streams : ℕ → Bool) (ends : ℕ → Told)
         let was : AreSentWhole (order m) (out m) hand m (parts m) = sent e x here (still_met e x meets.there.kept meets.near) sends in
         ⊎_elim (λ (same : m ≡ n).
         subst (λ (j : ℕ). AreSentWhole (order j) (out_then out done g j) hand j (parts_then g j)) (sym same)
-        (published eighth (subst (λ (j : ℕ). AreSentWhole (order j) (out j) hand j (parts j)) same was)))
+        (published eighth (subst (λ (j : ℕ). heads j ≡ true) same (counts e x here (still_met e x meets.there.kept meets.near).there sends)) (subst (λ (j : ℕ). AreSentWhole (order j) (out j) hand j (parts j)) same was)))
         (λ (differs : m ≢ n).
         subst (λ (xs : List ℕ). AreSentWhole (order m) xs hand m (parts_then g m)) (sym (out_beside out n (out_now done y.endpoint) m differs))
         (subst (λ (part : Structures). AreSentWhole (order m) (out m) hand m part) (sym (put_beside parts n (32 * b) (Element new) m differs)) was)) (cases_eq m n)

@@ -24,7 +24,7 @@ use Rattle.run_owners.specs.Kept.{HasOwners}
 use Rattle.run_owners.specs.Leaving.{times}
 use Rattle.run_owners.proofs.Orders.{one_same, IsLeft, has_left}
 use Rattle.chained_transfers.specs.Bulk.{receives}
-use Rattle.chained_transfers.specs.InTurn.{TakesTurns}
+use Rattle.chained_transfers.specs.AsynchronousTurns.{AsynchronousTakesTurns}
 use Rattle.chained_transfers.specs.Out.{out_now, out_all}
 use Rattle.lent_structures.specs.Structures.{StructureSets, Tells}
 use Rattle.lent_structures.specs.Sound.{IsMember}
@@ -136,10 +136,10 @@ not_listed d e x es owners few here gone = by (is_one_of e es) refl
         let left : IsLeft d.endpoints e = has_left d.endpoints e (slice_get d.endpoints e) refl (omega (arith, some, few, most)) in
         absurd (true≢false (sym gone ∙ ap (λ (z : Endpoint). z.gone) (same_Some x left.endpoint (sym here ∙ left.here)) ∙ left.gone))
 
-gone_unmet : (d : DriverContent) (e : ℕ) (x : Endpoint) → HasOwners d → TakesTurns d → slice_get d.endpoints e ≡ Some x → x.gone ≡ true → may_meet d e x ≡ false
+gone_unmet : (d : DriverContent) (e : ℕ) (x : Endpoint) → HasOwners d → AsynchronousTakesTurns d → slice_get d.endpoints e ≡ Some x → x.gone ≡ true → may_meet d e x ≡ false
 gone_unmet d e x owners turns here gone =
     past_unmet d e x (record {
-      unlinked = (turns.bulk.endpoints e x here).gone gone;
+      unlinked = (turns.asynchronous.endpoints e x here).gone gone;
       waits = not_listed d e x d.waiting owners (omega arith) here gone;
       rung = not_listed d e x d.rung owners (omega arith) here gone;
     })
@@ -147,7 +147,7 @@ gone_unmet d e x owners turns here gone =
 -- ---- at a moment
 
 module _ (rest : BuffersAreRest) (before : BuffersBeforeLend) (around : BuffersAround) where
-  module _ (member : ℕ → Bool) (parts : StructureSets) (hand : Hand) (reply : Reply) (order : ℕ → ℕ → ℕ) (acc : List (List ℕ)) (d : DriverContent) (m : Mem) (puts reported : ℕ → List ℕ) (e : ℕ) (x : Endpoint) (o : Option Taker) (z : Told) (turns : TakesTurns d) (tells : Tells m parts) (fed : AreFed d parts) (last : AreLast d parts order) (owes : Owes d m puts reported) (here : slice_get d.endpoints e ≡ Some x) (meets : IsMet d e x) (sends : receives x.desc.name.way ≡ false) (goes : told_end x ≡ None) (mem : IsMember member (32 * x.queue) (parts (32 * x.queue))) (in_hand : IsInHand member parts reply hand) (rep : IsReported (order (32 * x.queue)) (out_now d e) hand parts (32 * x.queue) acc (reported (32 * x.queue))) (whole : AreSentWhole (order (32 * x.queue)) (out_now d e) hand (32 * x.queue) (parts (32 * x.queue))) (reaches : (b : ℕ) → IsPublishingTo d e b → Reaches d (parts (32 * x.queue)) (order (32 * x.queue)) (out_now d e) e x (32 * b)) (goes_on : IsStopped parts (32 * x.queue) → ⊥) where
+  module _ (member : ℕ → Bool) (parts : StructureSets) (hand : Hand) (reply : Reply) (order : ℕ → ℕ → ℕ) (acc : List (List ℕ)) (d : DriverContent) (m : Mem) (puts reported : ℕ → List ℕ) (e : ℕ) (x : Endpoint) (o : Option Taker) (z : Told) (turns : AsynchronousTakesTurns d) (tells : Tells m parts) (fed : AreFed d parts) (last : AreLast d parts order) (owes : Owes d m puts reported) (here : slice_get d.endpoints e ≡ Some x) (meets : IsMet d e x) (sends : receives x.desc.name.way ≡ false) (goes : told_end x ≡ None) (mem : IsMember member (32 * x.queue) (parts (32 * x.queue))) (in_hand : IsInHand member parts reply hand) (rep : IsReported (order (32 * x.queue)) (out_now d e) hand parts (32 * x.queue) acc (reported (32 * x.queue))) (whole : AreSentWhole (order (32 * x.queue)) (out_now d e) hand (32 * x.queue) (parts (32 * x.queue))) (reaches : (b : ℕ) → IsPublishingTo d e b → Reaches d (parts (32 * x.queue)) (order (32 * x.queue)) (out_now d e) e x (32 * b)) (goes_on : IsStopped parts (32 * x.queue) → ⊥) where
     abbrev n : ℕ
     n = 32 * x.queue
 

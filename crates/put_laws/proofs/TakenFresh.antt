@@ -11,7 +11,7 @@ use Rattle.driver_rows.specs.DriverContent.{DriverContent}
 use Rattle.driver_rows.specs.Harvests.{note_at}
 use Rattle.run_owners.specs.Owners.{NoteRuns, note_in}
 use Rattle.chained_transfers.specs.Chains.{piece_at}
-use Rattle.chained_transfers.specs.InTurn.{TakesTurns}
+use Rattle.chained_transfers.specs.AsynchronousTurns.{AsynchronousTakesTurns}
 use Rattle.chained_transfers.specs.Out.{pieces_from, passed, unpublished, if_last, out_of_transfer, out_of, out_now}
 use Rattle.chained_transfers.specs.Turns.{IsAtPlace}
 use Rattle.lent_structures.specs.Structures.{StructureSets}
@@ -58,7 +58,7 @@ out_any note e c made (y ∷ ys) a among =
 
 -- ---- while nothing is published
 
-module _ (d : DriverContent) (parts : StructureSets) (e : ℕ) (x : Endpoint) (turns : TakesTurns d) (fed : AreFed d parts) (here : slice_get d.endpoints e ≡ Some x) (none : (b : ℕ) → IsPublishingTo d e b → ⊥) where
+module _ (d : DriverContent) (parts : StructureSets) (e : ℕ) (x : Endpoint) (turns : AsynchronousTakesTurns d) (fed : AreFed d parts) (here : slice_get d.endpoints e ≡ Some x) (none : (b : ℕ) → IsPublishingTo d e b → ⊥) where
   all_published : (t : ℕ) (y : Transfer) → slice_get d.transfers t ≡ Some y → y.endpoint ≡ e → unpublished_of d t y ≡ 0
   all_published t y there own = by (nat_eq (suc t) (length d.transfers)) refl d.command refl
     where

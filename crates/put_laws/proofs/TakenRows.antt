@@ -14,11 +14,10 @@ use Rattle.driver_rows.specs.declared.content.Transfer.{Transfer}
 use Rattle.driver_rows.specs.DriverContent.{DriverContent}
 use Rattle.driver_rows.specs.Offers.{Offered, new_runs, new_endpoint, new_transfer}
 use Rattle.driver_rows.specs.Rows.{driver_row, after_driver_row}
-use Rattle.run_owners.specs.Accepts.{Cancels}
-use Rattle.chained_transfers.specs.Accepted.{IsOpened, IsAsked, IsAccepted}
+use Rattle.run_owners.specs.Accepts.{Opens, Transfers, Cancels}
+use Rattle.chained_transfers.specs.Asynchronous.{AcceptsAsynchronous}
 use Rattle.chained_transfers.specs.Bulk.{receives}
-use Rattle.chained_transfers.specs.Leaving.{IsAcceptedAs}
-use Rattle.chained_transfers.proofs.Accepting.{command_accepted}
+use Rattle.chained_transfers.proofs.Accepting.{command_accepts}
 use Rattle.fed_queues.specs.Places.{IsThere}
 use Rattle.fed_lends.proofs.Asked.{push_which, set_which}
 use Rattle.ring_laws.specs.OutBus.{Taker}
@@ -51,9 +50,8 @@ driver_taken taker p puts wire opened k e x s here life sends is =
 -- ---- a command
 
 module _ {W : Type 0} (taker : W → ℕ → ℕ → Option Taker) (d : DriverContent) (m : Mem) (o : Offered) (puts now : ℕ → List ℕ) (wire : W) (keeps : KeepsPuts d puts now) (k : TakenBegin taker d puts wire) where
-  opened_taken : IsOpened d m o → TakenBegin taker o.driver now wire
-  opened_taken i e x s here life sends is =
-      let w = i.opens in
+  opened_taken : Opens d m o → TakenBegin taker o.driver now wire
+  opened_taken w e x s here life sends is =
       let new : Endpoint = new_endpoint w.desc (get_or (new_runs d w.holding_after) 0 0) (get_or (new_runs d w.holding_after) 1 0) in
       let same : concat (puts_of o.driver now e) ≡ concat (puts_of d puts e) =
       ap (λ (g : Offered). concat (puts_from now e 0 g.driver.transfers)) w.is ∙ ap concat (puts_kept puts now e d.transfers keeps) in
@@ -65,12 +63,12 @@ module _ {W : Type 0} (taker : W → ℕ → ℕ → Option Taker) (d : DriverCo
       (λ (there : IsThere o.driver x). there.linked (ap (λ (g : Offered). g.driver.command) w.is ∙ ap (λ (y : Endpoint). Some (unfinished.Open y.queue)) (sym own.1))) life))
       (push_which d.endpoints new e x (ap (λ (g : Offered). slice_get g.driver.endpoints e) (sym w.is) ∙ here))
 
-  module _ (i : IsAsked d m o) where
+  module _ (i : Transfers d m o) where
     abbrev added : Transfer
-    added = new_transfer i.transfers.number i.transfers.asked i.transfers.endpoint.dummy
+    added = new_transfer i.number i.asked i.endpoint.dummy
 
     transfers_are : o.driver.transfers ≡ d.transfers ++ added ∷ []
-    transfers_are = ap (λ (g : Offered). g.driver.transfers) i.transfers.is
+    transfers_are = ap (λ (g : Offered). g.driver.transfers) i.is
 
     puts_are : (e : ℕ) → concat (puts_of d puts e) ++ (if added.endpoint == e then now (length d.transfers) else []) ≡ concat (puts_of o.driver now e)
     puts_are e =
@@ -84,14 +82,14 @@ module _ {W : Type 0} (taker : W → ℕ → ℕ → Option Taker) (d : DriverCo
 
     pub asked_taken : TakenBegin taker o.driver now wire
     asked_taken e x s here life sends is =
-        let to : Endpoint = i.transfers.endpoint in
+        let to : Endpoint = i.endpoint in
         ⊎_elim
-        (λ (own : (e ≡ i.transfers.number) × (x ≡ _)).
+        (λ (own : (e ≡ i.number) × (x ≡ _)).
         let desc : x.desc ≡ to.desc = ap (λ (z : Endpoint). z.desc) own.1 in
         begins_more e s.taken
-        (k e to s (ap (slice_get d.endpoints) own.0 ∙ i.transfers.here) (idle_life d i.transfers.idle to) (ap (λ (r : EpDesc). receives r.name.way) (sym desc) ∙ sends) (ap (λ (r : EpDesc). taker wire r.name.addr r.name.num) (sym desc) ∙ is)))
-        (λ (other : (e ≢ i.transfers.number) × (slice_get d.endpoints e ≡ Some x)). begins_more e s.taken (k e x s other.1 (idle_life d i.transfers.idle x) sends is))
-        (set_which d.endpoints i.transfers.number e to _ x i.transfers.here (ap (λ (g : Offered). slice_get g.driver.endpoints e) (sym i.transfers.is) ∙ here))
+        (k e to s (ap (slice_get d.endpoints) own.0 ∙ i.here) (idle_life d i.idle to) (ap (λ (r : EpDesc). receives r.name.way) (sym desc) ∙ sends) (ap (λ (r : EpDesc). taker wire r.name.addr r.name.num) (sym desc) ∙ is)))
+        (λ (other : (e ≢ i.number) × (slice_get d.endpoints e ≡ Some x)). begins_more e s.taken (k e x s other.1 (idle_life d i.idle x) sends is))
+        (set_which d.endpoints i.number e to _ x i.here (ap (λ (g : Offered). slice_get g.driver.endpoints e) (sym i.is) ∙ here))
 
   -- a cancel changes no transfer
   cancelled_taken : Cancels d m o → TakenBegin taker o.driver now wire
@@ -106,17 +104,14 @@ module _ {W : Type 0} (taker : W → ℕ → ℕ → Option Taker) (d : DriverCo
       (λ (other : (e ≢ i.number) × (slice_get d.endpoints e ≡ Some x)). prefix_to s.taken (concat (puts_of d puts e)) (concat (puts_of o.driver now e)) same (k e x s other.1 (idle_life d i.idle x) sends is))
       (set_which d.endpoints i.number e i.endpoint _ x i.here (ap (λ (g : Offered). slice_get g.driver.endpoints e) (sym i.is) ∙ here))
 
-  accepted_taken : IsAccepted d m o → TakenBegin taker o.driver now wire
-  accepted_taken why = ⊎_elim (λ (i : IsOpened d m o). opened_taken i) (λ (i : IsAsked d m o). asked_taken i) why
-
-  pub any_taken : (cmd : Cmd) → IsAcceptedAs d m o cmd → TakenBegin taker o.driver now wire
-  any_taken (commands.OpenEp x) why = accepted_taken why
-  any_taken (commands.Get name len by) why = accepted_taken why
-  any_taken (commands.Put name bytes by) why = accepted_taken why
-  any_taken (commands.Control name setup bytes) why = accepted_taken why
-  any_taken (commands.Iso name count len seed) why = accepted_taken why
+  pub any_taken : (cmd : Cmd) → AcceptsAsynchronous d m o cmd → TakenBegin taker o.driver now wire
+  any_taken (commands.OpenEp x) why = opened_taken why.opens
+  any_taken (commands.Get name len by) why = asked_taken why.transfers
+  any_taken (commands.Put name bytes by) why = asked_taken why.transfers
+  any_taken (commands.Control name setup bytes) why = asked_taken why.transfers
+  any_taken (commands.Iso name count len seed) why = absurd why
   any_taken (commands.Cancel name) why = cancelled_taken why
 
 pub command_taken : {W : Type 0} (taker : W → ℕ → ℕ → Option Taker) → CommandKeepsTaken taker
 command_taken taker d m cmd o puts now wire turns only offer keeps k =
-    any_taken taker d m o puts now wire keeps k cmd (command_accepted d m cmd o (λ e x here. let s = turns.bulk.endpoints e x here in (s.bulk, s.placement)) only offer)
+    any_taken taker d m o puts now wire keeps k cmd (command_accepts d m cmd o turns.asynchronous only offer)

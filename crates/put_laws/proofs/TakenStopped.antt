@@ -1,5 +1,5 @@
 -- The queue head of an OUT endpoint that has ended is halted, and stays so.
-use Rattle.std.proofs.Common.{◌≡◌, ◌≢◌, ℕ, suc, ◌-◌, ◌*◌, Bool, true, false, nat_le, if◌then◌else◌, List, length, set, slice_get, option_map, Option, Some, None, ap, refl, sym, subst, ◌∙◌, ⊎_elim, inl, inr, arith}
+use Rattle.std.proofs.Common.{◌≡◌, ◌≢◌, ℕ, suc, ◌-◌, ◌*◌, Bool, true, false, nat_le, if◌then◌else◌, List, [], ◌∷◌, ◌++◌, length, set, slice_get, option_map, Option, Some, None, ap, refl, sym, subst, ◌∙◌, ⊎_elim, inl, inr, arith}
 use Rattle.std.specs.Prelude.{◌⊎◌, nat_eq}
 use Rattle.std.proofs.lemmas.Bool.{cases_eq, false≢true, true≢false}
 use Rattle.usb_base.specs.declared.endpoints.EndCause.{EndCause}
@@ -23,19 +23,20 @@ use Rattle.driver_rows.specs.declared.rows.Found.{Found}
 use Rattle.driver_rows.specs.declared.rows.Found.TheVariants as founds
 use Rattle.driver_rows.specs.DriverContent.{DriverContent, waits_for, next_after}
 use Rattle.driver_rows.specs.Harvests.{note_at, token_in, halt_of, moved_of, done_of, ends_by, end_of, is_stall, found_in, noted}
-use Rattle.driver_rows.specs.Rows.{Parts, freed_by, after_transfer, after_end, told_with, served, harvested_as, after_harvest, driver_row, after_driver_row}
+use Rattle.driver_rows.specs.Rows.{Parts, freed_by, after_transfer, mends_of, after_end, told_with, served, harvested_as, after_harvest, driver_row, after_driver_row}
 use Rattle.endpoint_lives.proofs.Lives.{told_some}
 use Rattle.run_owners.specs.Due.{IsDue, IsHarvestDue}
 use Rattle.run_owners.specs.Owners.{note_in}
 use Rattle.run_owners.proofs.Reasons.{each_is_due}
-use Rattle.chained_transfers.specs.Bulk.{receives, OnlyBulk}
+use Rattle.chained_transfers.specs.Bulk.{receives}
+use Rattle.chained_transfers.specs.Asynchronous.{OnlyAsynchronous}
 use Rattle.chained_transfers.specs.Chains.{piece_at}
-use Rattle.chained_transfers.specs.InTurn.{TakesTurns}
+use Rattle.chained_transfers.specs.AsynchronousTurns.{AsynchronousTakesTurns}
 use Rattle.chained_transfers.specs.Turns.{IsAtPlace, turn_of, IsNotGone}
-use Rattle.chained_transfers.proofs.Harvested.{no_stall}
 use Rattle.chained_transfers.proofs.Harvesting.{waits_is}
 use Rattle.chained_transfers.proofs.Rows.{set_which}
-use Rattle.chained_transfers.proofs.Staying.{alive}
+use Rattle.chained_transfers.proofs.Staying.{stands_alive}
+use Rattle.chained_transfers.proofs.Stalled.{behind_tells}
 use Rattle.chained_transfers.proofs.Ways.{moves_queued, found_by}
 use Rattle.harvested_streams.proofs.Harvesting.{token_read}
 use Rattle.lent_structures.specs.Structures.{QueueHead, Element, StructureSets, Tells}
@@ -111,7 +112,7 @@ transfer_ends : (p : Parts) (t : ℕ) (o : Option Transfer) (h : Holding) → (a
 transfer_ends p t None h = refl
 transfer_ends p t (Some y) h = refl
 
-row_ends : (p : Parts) (row : DriverRow) → IsDue p row → OnlyBulk p.driver → ((e t : ℕ) (found : Found) → row ≢ rows.Harvest e t found) → ((e : ℕ) → row ≢ rows.ReleaseEndpoint e) → WereEnds p.driver (after_driver_row row p).driver
+row_ends : (p : Parts) (row : DriverRow) → IsDue p row → OnlyAsynchronous p.driver → ((e t : ℕ) (found : Found) → row ≢ rows.Harvest e t found) → ((e : ℕ) → row ≢ rows.ReleaseEndpoint e) → WereEnds p.driver (after_driver_row row p).driver
 row_ends p (rows.ReleaseTransfer t) due bulk harvest endpoint =
     ends_same p.driver (after_driver_row (rows.ReleaseTransfer t) p).driver (transfer_ends p t (slice_get p.driver.transfers t) (freed_by p.driver (holding p.driver.book p.memory) (slice_get p.driver.transfers t)))
 row_ends p rows.Lend due bulk harvest endpoint = (row_no_more p rows.Lend due bulk harvest (λ t is. cc) endpoint).alike.ends
@@ -130,7 +131,7 @@ row_ends p (rows.Harvest e t found) due bulk harvest endpoint = absurd (harvest 
 row_ends p rows.Rest due bulk harvest endpoint = (row_no_more p rows.Rest due bulk harvest (λ t is. cc) endpoint).alike.ends
 
 pub alike_stopped : AlikeStayStopped
-alike_stopped p parts turns harvest endpoint ended = were_ended p.driver (after_driver_row (driver_row p) p).driver parts (row_ends p (driver_row p) (each_is_due p) turns.bulk harvest endpoint) ended
+alike_stopped p parts turns harvest endpoint ended = were_ended p.driver (after_driver_row (driver_row p) p).driver parts (row_ends p (driver_row p) (each_is_due p) turns.asynchronous harvest endpoint) ended
 
 -- ---- a harvest
 
@@ -159,13 +160,19 @@ ends_now d f e x w Halts here queue desc halts same = record {
       (λ (other : slice_get d.endpoints i ≡ Some z). inl other) (set_which d.endpoints e i x w z here (ap (λ (xs : List Endpoint). slice_get xs i) (sym same) ∙ there));
 }
 
-module _ (d : DriverContent) (m : Mem) (e t : ℕ) (x : Endpoint) (y : Transfer) (here : slice_get d.endpoints e ≡ Some x) (goes : x.ended ≡ None) (waits : waits_for e y ≡ true) (bulk : OnlyBulk d) (Halts : Type 0) where
+module _ (d : DriverContent) (m : Mem) (e t : ℕ) (x : Endpoint) (y : Transfer) (here : slice_get d.endpoints e ≡ Some x) (goes : x.ended ≡ None) (waits : waits_for e y ≡ true) (Halts : Type 0) where
   -- after what was harvested
   end_any : (g : DriverContent) (what : What) (o : Option EndCause) → g.endpoints ≡ d.endpoints → end_of x.desc.kind what ≡ o → (o ≢ None → Halts) → EndsAt d (after_end g e t x (is_stall what) o) x Halts
   end_any g what (Some cause) same is halts = ends_now d _ e x (record x { ended = Some cause }) Halts here refl refl (halts (λ no. cc)) (ap (λ (xs : List Endpoint). set xs e (record x { ended = Some cause })) same)
-  end_any g what None same is halts =
-      subst (λ (b : Bool). EndsAt d (after_end g e t x b None) x Halts) (sym (no_stall x.desc.kind what (bulk.endpoints e x here).bulk.kind is))
-      (ends_on d _ e x (record x { next = next_after g.transfers e t }) Halts here goes (ap (λ (xs : List Endpoint). set xs e (record x { next = next_after g.transfers e t })) same))
+  end_any g what None same is halts = by (is_stall what)
+    where
+      -- a control endpoint goes on after a STALL
+      by : (b : Bool) → EndsAt d (after_end g e t x b None) x Halts
+      by true =
+          let first = record g { harvested = g.harvested ++ t ∷ []; endpoints = set g.endpoints e (record x { next = None }); mends = g.mends ++ mends_of x } in
+          ends_on d _ e x (record x { next = None }) Halts here goes
+          ((behind_tells first e x.desc.name (suc t) (length g.transfers - suc t)).endpoints ∙ ap (λ (xs : List Endpoint). set xs e (record x { next = None })) same)
+      by false = ends_on d _ e x (record x { next = next_after g.transfers e t }) Halts here goes (ap (λ (xs : List Endpoint). set xs e (record x { next = next_after g.transfers e t })) same)
 
   ended_as : (n : ℕ) (what : What) → (end_of x.desc.kind what ≢ None → Halts) → EndsAt d (harvested_as d m e t x y (founds.Ended n what)) x Halts
   ended_as n what halts = end_any (told_with d m t y what x.desc.name (noted d.notes y.place n)) what (end_of x.desc.kind what) refl refl halts
@@ -180,7 +187,7 @@ module _ (d : DriverContent) (m : Mem) (e t : ℕ) (x : Endpoint) (y : Transfer)
   found_as false true last n tok halts = ended_as n (halt_of tok) (λ some. halts refl refl)
   found_as false false last n tok halts = done_as last n
 
-module _ (member : ℕ → Bool) (order : ℕ → ℕ) (out : List ℕ) (p : Parts) (parts : StructureSets) (hand : Hand) (e t : ℕ) (found : Found) (due : IsHarvestDue p e t found) (turns : TakesTurns p.driver) (fed : AreFed p.driver parts) where
+module _ (member : ℕ → Bool) (order : ℕ → ℕ) (out : List ℕ) (p : Parts) (parts : StructureSets) (hand : Hand) (e t : ℕ) (found : Found) (due : IsHarvestDue p e t found) (turns : AsynchronousTakesTurns p.driver) (fed : AreFed p.driver parts) where
   abbrev d : DriverContent
   d = p.driver
 
@@ -200,7 +207,7 @@ module _ (member : ℕ → Bool) (order : ℕ → ℕ) (out : List ℕ) (p : Par
   its = waits_is e y due.waits
 
   its_alive : IsNotGone (slice_get p.driver.endpoints) due.transfer.endpoint
-  its_alive = not_gone p.driver e due.endpoint due.transfer due.here (alive due.endpoint (turns.bulk.endpoints e due.endpoint due.here) due.goes_on) its.0
+  its_alive = not_gone p.driver e due.endpoint due.transfer due.here (stands_alive due.endpoint (turns.asynchronous.endpoints e due.endpoint due.here) due.goes_on) its.0
 
   held : y.released ≡ false
   held = by_test y.released refl
@@ -226,13 +233,13 @@ module _ (member : ℕ → Bool) (order : ℕ → ℕ) (out : List ℕ) (p : Par
   Halts = ((token_in p.memory y.place).active ≡ false) × ((token_in p.memory y.place).halted ≡ true)
 
   found_is : found ≡ found_in y.sort (nat_le y.left 1) (note_at d.notes y.place) (token_in p.memory y.place)
-  found_is = due.tells ∙ found_by d p.memory y y.sort (moves_queued d y (turns.bulk.moves t y due.there))
+  found_is = due.tells ∙ found_by d p.memory y y.sort (moves_queued d y (turns.asynchronous.moves t y due.there))
 
   ends_at : EndsAt d (harvested_as d p.memory e t x y found) x Halts
   ends_at =
       let tok = token_in p.memory y.place in
       subst (λ (f : Found). EndsAt d (harvested_as d p.memory e t x y f) x Halts) (sym found_is)
-      (found_as d p.memory e t x y due.here due.goes_on due.waits turns.bulk Halts tok.active tok.halted (ends_by y.sort (nat_le y.left 1) tok.total) (moved_of (note_at d.notes y.place).told tok.total) tok (λ off halted. (off, halted)))
+      (found_as d p.memory e t x y due.here due.goes_on due.waits Halts tok.active tok.halted (ends_by y.sort (nat_le y.left 1) tok.total) (moved_of (note_at d.notes y.place).told tok.total) tok (λ off halted. (off, halted)))
 
   -- the content after it
   endpoints : (after_driver_row (rows.Harvest e t found) p).driver.endpoints ≡ (harvested_as d p.memory e t x y found).endpoints

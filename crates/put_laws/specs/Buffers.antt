@@ -13,7 +13,7 @@ use Rattle.driver_rows.specs.declared.content.Transfer.{Transfer}
 use Rattle.driver_rows.specs.DriverContent.{DriverContent}
 use Rattle.driver_rows.specs.Harvests.{note_at, buffer_bytes}
 use Rattle.chained_transfers.specs.Bulk.{receives}
-use Rattle.chained_transfers.specs.InTurn.{TakesTurns}
+use Rattle.chained_transfers.specs.AsynchronousTurns.{AsynchronousTakesTurns}
 use Rattle.chained_transfers.specs.Out.{out_now, out_all}
 use Rattle.lent_structures.specs.Structures.{StructureSets, Tells}
 use Rattle.whole_sends.specs.Whole.{buffers_of}
@@ -33,12 +33,12 @@ pub record IsPublishingTo (d : DriverContent) (e b : ℕ) : Type 0 where
 
 -- of an OUT endpoint that goes on
 abbrev pub BuffersAreRest : Type 0
-BuffersAreRest = (d : DriverContent) (m : Mem) (parts : StructureSets) (e : ℕ) (x : Endpoint) → TakesTurns d → Tells m parts → AreFed d parts → AreReadToEnd d
+BuffersAreRest = (d : DriverContent) (m : Mem) (parts : StructureSets) (e : ℕ) (x : Endpoint) → AsynchronousTakesTurns d → Tells m parts → AreFed d parts → AreReadToEnd d
     → slice_get d.endpoints e ≡ Some x → receives x.desc.name.way ≡ false → told_end x ≡ None → ((b : ℕ) → IsPublishingTo d e b → ⊥)
     → rest_of d m e ≡ buffers_of (parts (32 * x.queue)) (out_now d e)
 
 abbrev pub BuffersBeforeLend : Type 0
-BuffersBeforeLend = (d : DriverContent) (m : Mem) (parts : StructureSets) (e b : ℕ) (x : Endpoint) → TakesTurns d → Tells m parts → AreFed d parts → AreReadToEnd d
+BuffersBeforeLend = (d : DriverContent) (m : Mem) (parts : StructureSets) (e b : ℕ) (x : Endpoint) → AsynchronousTakesTurns d → Tells m parts → AreFed d parts → AreReadToEnd d
     → slice_get d.endpoints e ≡ Some x → receives x.desc.name.way ≡ false → told_end x ≡ None → (k : IsPublishingTo d e b) → d.made ≡ 0
     → rest_of d m e ≡ buffers_of (parts (32 * x.queue)) (out_now d e) ++ held_bytes m d.notes b k.transfer.qtds
 
@@ -50,5 +50,5 @@ pub record IsRestAround (d : DriverContent) (m : Mem) (parts : StructureSets) (e
   pub rest_is : rest_of d m e ≡ buffers_of (parts n) ahead ++ (buffer_bytes m (note_at d.notes b) (note_at d.notes b).told ++ buffers_of (parts n) behind)
 
 abbrev pub BuffersAround : Type 0
-BuffersAround = (d : DriverContent) (m : Mem) (parts : StructureSets) (e b : ℕ) (x : Endpoint) → TakesTurns d → Tells m parts → AreFed d parts → AreReadToEnd d
+BuffersAround = (d : DriverContent) (m : Mem) (parts : StructureSets) (e b : ℕ) (x : Endpoint) → AsynchronousTakesTurns d → Tells m parts → AreFed d parts → AreReadToEnd d
     → slice_get d.endpoints e ≡ Some x → receives x.desc.name.way ≡ false → told_end x ≡ None → IsPublishingTo d e b → 1 ≤ d.made → IsRestAround d m parts e (32 * x.queue) b

@@ -4,12 +4,13 @@
 --     NewDriverHoldsPuts         a driver that was just built has none
 --     EventHoldsPuts             each event of the controller leaves them
 --     OpenHoldsPuts, GetHoldsPuts, PutHoldsPuts, CommandHoldsPuts     an accepted command leaves them, and a put is one more
+--     IsInHead parts at          the word at this address is one of a queue head
 --     IsReleasedMet p            the endpoint of a transfer that is given back may still be met
 --     DriverHoldsPuts            each event of the driver leaves them, until it gives a put's blocks back
 --     HarvestReadsPuts, ReportIsOfPuts     what a harvest reads of a put, and what is reported of it, is what the put asked to send
 --     AreMovedFew d              no more was noted as moved of a qTD than it asked for
 --     NewDriverMovesFew, CommandMovesFew, DriverMovesFew     so it is at each moment
-use Rattle.std.specs.Prelude.{◌≡◌, ℕ, ◌*◌, ◌<◌, ◌≤◌, ◌⊎◌, Bool, true, false, List, length, slice_get, take, Some, Ok}
+use Rattle.std.specs.Prelude.{◌≡◌, ◌≢◌, ℕ, ◌*◌, ◌/◌, ◌<◌, ◌≤◌, ◌⊎◌, Bool, true, false, List, length, slice_get, take, Some, Ok}
 use Rattle.std.specs.List.{AllByRecursion}
 use Rattle.usb_base.specs.declared.commands.Cmd.{Cmd}
 use Rattle.usb_base.specs.declared.packets.Ask.{Ask}
@@ -18,6 +19,7 @@ use Rattle.word_mem.specs.Memory.{Mem, word_at, reaches}
 use Rattle.run_book.specs.Book.{holding, Stands}
 use Rattle.driver_rows.specs.declared.content.Command.TheVariants as unfinished
 use Rattle.driver_rows.specs.declared.content.Endpoint.{Endpoint}
+use Rattle.driver_rows.specs.declared.content.Mend.{Mend}
 use Rattle.driver_rows.specs.declared.content.Reserve.{Reserve}
 use Rattle.driver_rows.specs.declared.content.Sort.TheVariants as sorts
 use Rattle.driver_rows.specs.declared.content.Transfer.{Transfer}
@@ -30,15 +32,18 @@ use Rattle.driver_rows.specs.Rows.{Parts as DriverParts, driver_row, after_drive
 use Rattle.endpoint_lives.specs.Lives.{may_meet}
 use Rattle.run_owners.specs.Kept.{HasOwners}
 use Rattle.run_owners.specs.Owners.{note_in}
-use Rattle.chained_transfers.specs.Accepted.{IsOpened, IsAsked, IsAccepted}
-use Rattle.chained_transfers.specs.Bulk.{OpensBulk, receives, OnlyBulk}
+use Rattle.run_owners.specs.Accepts.{Opens, Transfers}
+use Rattle.chained_transfers.specs.Accepted.{IsAsked}
+use Rattle.chained_transfers.specs.Bulk.{receives}
+use Rattle.chained_transfers.specs.Asynchronous.{OpensAsynchronous, OnlyAsynchronous}
 use Rattle.chained_transfers.specs.Chains.{piece_at}
-use Rattle.chained_transfers.specs.InTurn.{TakesTurns}
+use Rattle.chained_transfers.specs.AsynchronousTurns.{AsynchronousTakesTurns}
 use Rattle.lent_runs.specs.Lent.{AreLent}
 use Rattle.byte_answers.specs.Bytes.{IsByteCommand}
 use Rattle.async_walk.specs.Walk.{Walk}
 use Rattle.async_walk.specs.Rows.{place}
-use Rattle.lent_structures.specs.Structures.{StructureSets, Tells}
+use Rattle.qh_qtd.specs.declared.queue_head.Qh.{Qh}
+use Rattle.lent_structures.specs.Structures.{QueueHead, StructureSets, Tells}
 use Rattle.ring_laws.specs.Hand.{Hand}
 use Rattle.ring_laws.specs.Ring.{Base}
 use Rattle.ring_laws.specs.Pipes.{IsNotIn}
@@ -67,28 +72,29 @@ abbrev pub EventHoldsPuts : {W : Type 0} → (W → ℕ → Bool → W → Type 
 EventHoldsPuts {W} begins transacts = (base : Base) (member : ℕ → Bool) (parts : StructureSets) (hand : Hand) (c new : Content) (wire after : W) (now : StructureSets) (later : Hand)
     (d : DriverContent) (puts : ℕ → List ℕ) → IsControlled base member parts hand c → IsControlled base member now later new
     → ControlEffect begins transacts parts hand wire after now later → ((at : ℕ) → reaches c.memory at ≡ false → word_at new.memory at ≡ word_at c.memory at)
-    → HasOwners d → Stands (holding d.book c.memory) → TakesTurns d → AreMet d member → AreFed d parts → IsPublishing d c.memory → OutsAskNoData d parts
+    → HasOwners d → Stands (holding d.book c.memory) → AsynchronousTakesTurns d → AreMet d member → AreFed d parts → IsPublishing d c.memory → OutsAskNoData d parts
     → HoldsPuts d c.memory puts → HoldsPuts d new.memory puts
 
 -- ---- an accepted command
 
 abbrev pub OpenHoldsPuts : Type 0
-OpenHoldsPuts = (d : DriverContent) (m : Mem) (o : Offered) (parts : StructureSets) (puts : ℕ → List ℕ) → IsOpened d m o → Stands (holding d.book m) → TakesTurns d
+OpenHoldsPuts = (d : DriverContent) (m : Mem) (o : Offered) (parts : StructureSets) (puts : ℕ → List ℕ) → Opens d m o → Stands (holding d.book m) → AsynchronousTakesTurns d
     → Tells m parts → AreFed d parts → HoldsPuts d m puts → HoldsPuts o.driver o.memory puts
 
+-- a get, or a request of a control endpoint
 abbrev pub GetHoldsPuts : Type 0
-GetHoldsPuts = (d : DriverContent) (m : Mem) (o : Offered) (parts : StructureSets) (puts : ℕ → List ℕ) (k : IsAsked d m o) → receives k.transfers.endpoint.desc.name.way ≡ true
-    → HasOwners d → Stands (holding d.book m) → TakesTurns d → Tells m parts → AreFed d parts → HoldsPuts d m puts → HoldsPuts o.driver o.memory puts
+GetHoldsPuts = (d : DriverContent) (m : Mem) (o : Offered) (parts : StructureSets) (puts : ℕ → List ℕ) (why : Transfers d m o) → why.asked.sort ≢ sorts.Put
+    → HasOwners d → Stands (holding d.book m) → AsynchronousTakesTurns d → Tells m parts → AreFed d parts → HoldsPuts d m puts → HoldsPuts o.driver o.memory puts
 
 abbrev pub PutHoldsPuts : Type 0
 PutHoldsPuts = (d : DriverContent) (m : Mem) (o : Offered) (parts : StructureSets) (puts : ℕ → List ℕ) (k : IsAsked d m o) → receives k.transfers.endpoint.desc.name.way ≡ false
-    → 1 ≤ k.by → AllByRecursion (λ b. b < 256) k.bytes → HasOwners d → AreLent d → Stands (holding d.book m) → TakesTurns d → Tells m parts → AreFed d parts
+    → 1 ≤ k.by → AllByRecursion (λ b. b < 256) k.bytes → HasOwners d → AreLent d → Stands (holding d.book m) → AsynchronousTakesTurns d → Tells m parts → AreFed d parts
     → HoldsPuts d m puts → HoldsPuts o.driver o.memory (with_put puts (length d.transfers) k.bytes)
 
 -- the bytes of a put are those of its command
 abbrev pub CommandHoldsPuts : Type 0
-CommandHoldsPuts = (d : DriverContent) (m : Mem) (cmd : Cmd) (o : Offered) (parts : StructureSets) (puts : ℕ → List ℕ) → OpensBulk cmd → IsOffered d.room cmd → IsByteCommand cmd
-    → offered d m cmd ≡ Ok o → HasOwners d → AreLent d → Stands (holding d.book m) → TakesTurns d → Tells m parts → AreFed d parts
+CommandHoldsPuts = (d : DriverContent) (m : Mem) (cmd : Cmd) (o : Offered) (parts : StructureSets) (puts : ℕ → List ℕ) → OpensAsynchronous cmd → IsOffered d.room cmd → IsByteCommand cmd
+    → offered d m cmd ≡ Ok o → HasOwners d → AreLent d → Stands (holding d.book m) → AsynchronousTakesTurns d → Tells m parts → AreFed d parts
     → HoldsPuts d m puts → HoldsPuts o.driver o.memory (puts_then d cmd puts)
 
 -- ---- an event of the driver
@@ -98,12 +104,20 @@ abbrev pub IsReleasedMet : DriverParts → Type 0
 IsReleasedMet p = (t : ℕ) (y : Transfer) (x : Endpoint) → driver_row p ≡ rows.ReleaseTransfer t → slice_get p.driver.transfers t ≡ Some y → slice_get p.driver.endpoints y.endpoint ≡ Some x
     → may_meet p.driver y.endpoint x ≡ true
 
--- a transfer is given back where the walk has left it behind
+-- it isn't one of a buffer, nor of a qTD
+pub record IsInHead (parts : StructureSets) (at : ℕ) : Type 0 where
+  pub block : ℕ
+  pub head : Qh
+  pub here : parts (32 * block) (32 * block) ≡ Some (QueueHead head)
+  pub within : at / 32 ≡ block
+
+-- a transfer is given back where the walk has left it behind; the stores that a stalled control endpoint is owed are those of its queue head
 abbrev pub DriverHoldsPuts : Type 0
 DriverHoldsPuts = (base : Base) (member : ℕ → Bool) (parts : StructureSets) (hand : Hand) (w : Walk) (p : DriverParts) (order : ℕ → ℕ → ℕ) (out : ℕ → List ℕ) (puts : ℕ → List ℕ)
-    → HasOwners p.driver → TakesTurns p.driver → DrivesRing base member parts hand (place w p.registers p.memory) p.driver → AreFed p.driver parts
+    → HasOwners p.driver → AsynchronousTakesTurns p.driver → DrivesRing base member parts hand (place w p.registers p.memory) p.driver → AreFed p.driver parts
     → ((t : ℕ) → driver_row p ≡ rows.ReleaseTransfer t → ReleaseStands base member parts hand w p order out) → IsReleasedMet p
     → ((e b link : ℕ) → p.driver.command ≡ Some (unfinished.Unlink e b link) → IsAtUnlink p.driver member parts)
+    → ((w : Mend) → driver_row p ≡ rows.Mend w → IsInHead parts w.at)
     → ((e : ℕ) → driver_row p ≡ rows.ReleaseEndpoint e → HoldsPuts (after_driver_row (driver_row p) p).driver (after_driver_row (driver_row p) p).memory puts)
     → HoldsPuts p.driver p.memory puts → HoldsPuts (after_driver_row (driver_row p) p).driver (after_driver_row (driver_row p) p).memory puts
 
@@ -131,7 +145,7 @@ abbrev pub NewDriverMovesFew : Type 0
 NewDriverMovesFew = (n : ℕ) (room : Reserve) → AreMovedFew (opening n room).driver
 
 abbrev pub CommandMovesFew : Type 0
-CommandMovesFew = (d : DriverContent) (m : Mem) (o : Offered) → IsAccepted d m o → AreMovedFew d → AreMovedFew o.driver
+CommandMovesFew = (d : DriverContent) (m : Mem) (o : Offered) → Opens d m o ⊎ Transfers d m o → AreMovedFew d → AreMovedFew o.driver
 
 abbrev pub DriverMovesFew : Type 0
-DriverMovesFew = (p : DriverParts) → OnlyBulk p.driver → AreMovedFew p.driver → AreMovedFew (after_driver_row (driver_row p) p).driver
+DriverMovesFew = (p : DriverParts) → OnlyAsynchronous p.driver → AreMovedFew p.driver → AreMovedFew (after_driver_row (driver_row p) p).driver

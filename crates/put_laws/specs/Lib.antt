@@ -20,4 +20,5 @@ pub mod Owed
 pub mod OwedLaws
 pub mod Buffers
 pub mod OwedTaken
+pub mod Mends
 pub mod OwedSamples

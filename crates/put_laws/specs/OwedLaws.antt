@@ -29,14 +29,16 @@ use Rattle.driver_rows.specs.Rows.{Parts, driver_row, after_driver_row}
 use Rattle.run_owners.specs.Due.{IsHarvestDue}
 use Rattle.run_owners.specs.Kept.{HasOwners}
 use Rattle.run_owners.specs.Owners.{note_in}
-use Rattle.chained_transfers.specs.Accepted.{IsOpened, IsAsked}
-use Rattle.chained_transfers.specs.Bulk.{OpensBulk, receives}
-use Rattle.chained_transfers.specs.InTurn.{TakesTurns}
+use Rattle.run_owners.specs.Accepts.{Opens, Transfers}
+use Rattle.chained_transfers.specs.Bulk.{sort_by, receives}
+use Rattle.chained_transfers.specs.Asynchronous.{OpensAsynchronous}
+use Rattle.chained_transfers.specs.AsynchronousTurns.{AsynchronousTakesTurns}
 use Rattle.chained_transfers.specs.Out.{out_now}
 use Rattle.lent_structures.specs.Structures.{StructureSets, Tells}
 use Rattle.lent_structures.specs.Sound.{IsMember}
 use Rattle.ring_laws.specs.Hand.{Hand}
 use Rattle.ring_laws.specs.Told.{Told}
+use Rattle.report_streams.specs.Streams.{has_stream}
 use Rattle.harvest_laws.specs.Outs.{IsOutEarlier}
 use Rattle.controlled_streams.specs.Reported.{IsReported}
 use Rattle.fed_queues.specs.Fed.{AreFed}
@@ -59,40 +61,40 @@ NewDriverOwes = (n : ℕ) (room : Reserve) (m : Mem) (puts reported : ℕ → Li
 -- ---- the same content
 
 abbrev pub AlikeOwes : Type 0
-AlikeOwes = (d new : DriverContent) (m later : Mem) (puts now reported : ℕ → List ℕ) → TakesTurns d → TellsAlike d new → ((x : Endpoint) → IsThere new x → IsThere d x)
+AlikeOwes = (d new : DriverContent) (m later : Mem) (puts now reported : ℕ → List ℕ) → AsynchronousTakesTurns d → TellsAlike d new → ((x : Endpoint) → IsThere new x → IsThere d x)
     → ((x : Endpoint) → new.command ≡ Some (unfinished.Open x.queue) → d.command ≡ Some (unfinished.Open x.queue)) → KeepsPuts d puts now
     → HoldsPuts d m puts → HoldsPuts new later now → Owes d m puts reported → Owes new later now reported
 
 -- nothing was reported of the queue head in block b
 abbrev pub MetOwes : Type 0
-MetOwes = (d new : DriverContent) (m later : Mem) (puts reported told : ℕ → List ℕ) (b : ℕ) → TakesTurns d → TellsAlike d new → d.command ≡ Some (unfinished.Open b) → new.command ≡ None
+MetOwes = (d new : DriverContent) (m later : Mem) (puts reported told : ℕ → List ℕ) (b : ℕ) → AsynchronousTakesTurns d → TellsAlike d new → d.command ≡ Some (unfinished.Open b) → new.command ≡ None
     → told (32 * b) ≡ [] → ((k : ℕ) → k ≢ 32 * b → told k ≡ reported k) → HoldsPuts d m puts → HoldsPuts new later puts → Owes d m puts reported → Owes new later puts told
 
 -- ---- an accepted command
 
 abbrev pub OpenOwes : Type 0
-OpenOwes = (d : DriverContent) (m : Mem) (o : Offered) (puts now reported : ℕ → List ℕ) → IsOpened d m o → TakesTurns d
+OpenOwes = (d : DriverContent) (m : Mem) (o : Offered) (puts now reported : ℕ → List ℕ) → Opens d m o → AsynchronousTakesTurns d
     → ((e : ℕ) (x : Endpoint) → slice_get d.endpoints e ≡ Some x → x.gone ≡ false → o.driver.command ≢ Some (unfinished.Open x.queue)) → KeepsPuts d puts now
     → HoldsPuts d m puts → HoldsPuts o.driver o.memory now → Owes d m puts reported → Owes o.driver o.memory now reported
 
--- what the buffers of a put hold is what `now` tells of it
+-- a get, put or request; what the buffers of a put hold is what `now` tells of it
 abbrev pub AskedOwes : Type 0
-AskedOwes = (d : DriverContent) (m : Mem) (o : Offered) (puts now reported : ℕ → List ℕ) → IsAsked d m o → HasOwners d → Stands (holding d.book m) → TakesTurns d → KeepsPuts d puts now
+AskedOwes = (d : DriverContent) (m : Mem) (o : Offered) (puts now reported : ℕ → List ℕ) (why : Transfers d m o) → why.asked.sort ≡ sort_by why.endpoint.desc.name.way → HasOwners d → Stands (holding d.book m) → AsynchronousTakesTurns d → KeepsPuts d puts now
     → HoldsPuts d m puts → HoldsPuts o.driver o.memory now → Owes d m puts reported → Owes o.driver o.memory now reported
 
 abbrev pub CommandOwes : Type 0
-CommandOwes = (d : DriverContent) (m : Mem) (cmd : Cmd) (o : Offered) (puts now reported : ℕ → List ℕ) → OpensBulk cmd → offered d m cmd ≡ Ok o → HasOwners d → Stands (holding d.book m)
-    → TakesTurns d → KeepsPuts d puts now → HoldsPuts d m puts → HoldsPuts o.driver o.memory now → Owes d m puts reported → Owes o.driver o.memory now reported
+CommandOwes = (d : DriverContent) (m : Mem) (cmd : Cmd) (o : Offered) (puts now reported : ℕ → List ℕ) → OpensAsynchronous cmd → offered d m cmd ≡ Ok o → HasOwners d → Stands (holding d.book m)
+    → AsynchronousTakesTurns d → KeepsPuts d puts now → HoldsPuts d m puts → HoldsPuts o.driver o.memory now → Owes d m puts reported → Owes o.driver o.memory now reported
 
 -- ---- rows of the driver
 
 abbrev pub ReturnedOwes : Type 0
-ReturnedOwes = (d new : DriverContent) (m later : Mem) (t : ℕ) (y : Transfer) (puts reported : ℕ → List ℕ) → TakesTurns d → slice_get d.transfers t ≡ Some y → y.reported ≡ true
+ReturnedOwes = (d new : DriverContent) (m later : Mem) (t : ℕ) (y : Transfer) (puts reported : ℕ → List ℕ) → AsynchronousTakesTurns d → slice_get d.transfers t ≡ Some y → y.reported ≡ true
     → new.endpoints ≡ d.endpoints → new.transfers ≡ slice_set d.transfers t (record y { released = true }) → new.notes ≡ d.notes → new.command ≡ d.command
     → HoldsPuts d m puts → HoldsPuts new later puts → Owes d m puts reported → Owes new later puts reported
 
 abbrev pub DriverOwes : Type 0
-DriverOwes = (p : Parts) (puts reported told : ℕ → List ℕ) → HasOwners p.driver → TakesTurns p.driver → ((e t : ℕ) (found : Found) → driver_row p ≢ rows.Harvest e t found)
+DriverOwes = (p : Parts) (puts reported told : ℕ → List ℕ) → HasOwners p.driver → AsynchronousTakesTurns p.driver → ((e t : ℕ) (found : Found) → driver_row p ≢ rows.Harvest e t found)
     → ((e : ℕ) → driver_row p ≢ rows.ReleaseEndpoint e)
     → ((e : ℕ) (x : Endpoint) → slice_get p.driver.endpoints e ≡ Some x → IsThere p.driver x → told (32 * x.queue) ≡ reported (32 * x.queue))
     → ((e : ℕ) (x : Endpoint) → slice_get p.driver.endpoints e ≡ Some x → p.driver.command ≡ Some (unfinished.Open x.queue) → IsThere (after_driver_row (driver_row p) p).driver x
@@ -105,13 +107,13 @@ DriverOwes = (p : Parts) (puts reported told : ℕ → List ℕ) → HasOwners p
 abbrev pub IsMovedWhole : DriverContent → Mem → Transfer → Type 0
 IsMovedWhole d m y = (token_in m y.place).halted ≡ false → moved_of (note_at d.notes y.place).told (token_in m y.place).total ≡ (note_at d.notes y.place).told
 
--- both before and after it the report tells what was harvested
+-- both before and after it the report tells what was harvested; a control endpoint has no stream, of which something is reported
 abbrev pub HarvestOwes : Type 0
 HarvestOwes = (member : ℕ → Bool) (order : ℕ → ℕ) (p : Parts) (parts : StructureSets) (hand : Hand) (e t : ℕ) (found : Found) (acc : List (List ℕ)) (puts reported told : ℕ → List ℕ)
     → (due : IsHarvestDue p e t found) → found ≢ founds.Active
-    → HasOwners p.driver → TakesTurns p.driver → AreFed p.driver parts → Tells p.memory parts → IsMember member (32 * due.endpoint.queue) (parts (32 * due.endpoint.queue))
-    → ((a : ℕ) (z : List ℕ) → IsOutEarlier (note_in p.driver.notes) e t p.driver.transfers a → Told hand parts (32 * due.endpoint.queue) a z → z ≡ [])
-    → IsReported order (out_now p.driver e) hand parts (32 * due.endpoint.queue) acc (reported (32 * due.endpoint.queue))
+    → HasOwners p.driver → AsynchronousTakesTurns p.driver → AreFed p.driver parts → Tells p.memory parts → IsMember member (32 * due.endpoint.queue) (parts (32 * due.endpoint.queue))
+    → (has_stream due.endpoint.desc.kind ≡ true → (a : ℕ) (z : List ℕ) → IsOutEarlier (note_in p.driver.notes) e t p.driver.transfers a → Told hand parts (32 * due.endpoint.queue) a z → z ≡ [])
+    → (has_stream due.endpoint.desc.kind ≡ true → IsReported order (out_now p.driver e) hand parts (32 * due.endpoint.queue) acc (reported (32 * due.endpoint.queue)))
     → (receives due.endpoint.desc.name.way ≡ false → IsMovedWhole p.driver p.memory due.transfer)
     → ToldStands p.driver hand parts reported → ToldStands (after_driver_row (rows.Harvest e t found) p).driver hand parts told
     → Owes p.driver p.memory puts reported → Owes (after_driver_row (rows.Harvest e t found) p).driver p.memory puts told

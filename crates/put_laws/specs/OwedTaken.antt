@@ -25,8 +25,9 @@ use Rattle.driver_rows.specs.Rows.{Parts, driver_row, after_driver_row}
 use Rattle.driver_rows.specs.Words.{queue_head}
 use Rattle.run_owners.specs.Due.{IsHarvestDue}
 use Rattle.run_owners.specs.Kept.{HasOwners}
-use Rattle.chained_transfers.specs.Bulk.{receives, OpensOrCancelsBulk}
-use Rattle.chained_transfers.specs.InTurn.{TakesTurns}
+use Rattle.chained_transfers.specs.Bulk.{receives}
+use Rattle.chained_transfers.specs.Asynchronous.{OpensAsynchronous}
+use Rattle.chained_transfers.specs.AsynchronousTurns.{AsynchronousTakesTurns}
 use Rattle.chained_transfers.specs.Out.{out_now}
 use Rattle.lent_structures.specs.Structures.{StructureSets, Tells}
 use Rattle.lent_structures.specs.Sound.{IsMember}
@@ -70,7 +71,7 @@ pub record IsOutHead (d : DriverContent) (outs heads : ℕ → Bool) (ends : ℕ
 
 pub record OutsStand {W : Type 0} (stream : ℕ → ℕ → Bool) (taker : W → ℕ → ℕ → Option Taker) (member outs heads : ℕ → Bool) (ends : ℕ → Told) (d : DriverContent) (m : Mem)
     (parts : StructureSets) (hand : Hand) (order : ℕ → ℕ → ℕ) (out : ℕ → List ℕ) (acc : ℕ → List (List ℕ)) (puts reported : ℕ → List ℕ) (wire : W) : Type 0 where
-  pub turns : TakesTurns d
+  pub turns : AsynchronousTakesTurns d
   pub fed : AreFed d parts
   pub last : AreLast d parts order
   pub out_are : AreStillOut d out
@@ -87,7 +88,7 @@ pub record OutsStand {W : Type 0} (stream : ℕ → ℕ → Bool) (taker : W →
 
 abbrev pub TakenBeginsPuts : Type 0
 TakenBeginsPuts = (member : ℕ → Bool) (parts : StructureSets) (hand : Hand) (reply : Reply) (order : ℕ → ℕ → ℕ) (acc : List (List ℕ)) (d : DriverContent) (m : Mem) (puts reported : ℕ → List ℕ)
-    (e : ℕ) (x : Endpoint) (o : Option Taker) (z : Told) → TakesTurns d → Tells m parts → AreFed d parts → AreLast d parts order → Owes d m puts reported
+    (e : ℕ) (x : Endpoint) (o : Option Taker) (z : Told) → AsynchronousTakesTurns d → Tells m parts → AreFed d parts → AreLast d parts order → Owes d m puts reported
     → slice_get d.endpoints e ≡ Some x → IsMet d e x → receives x.desc.name.way ≡ false → told_end x ≡ None
     → IsMember member (32 * x.queue) (parts (32 * x.queue)) → IsInHand member parts reply hand
     → IsReported (order (32 * x.queue)) (out_now d e) hand parts (32 * x.queue) acc (reported (32 * x.queue))
@@ -122,7 +123,7 @@ DriverKeepsTaken {W} taker = (p : Parts) (puts : ℕ → List ℕ) (wire : W)
     → TakenBegin taker p.driver puts wire → TakenBegin taker (after_driver_row (driver_row p) p).driver puts wire
 
 abbrev pub CommandKeepsTaken : {W : Type 0} → (W → ℕ → ℕ → Option Taker) → Type 0
-CommandKeepsTaken {W} taker = (d : DriverContent) (m : Mem) (cmd : Cmd) (o : Offered) (puts now : ℕ → List ℕ) (wire : W) → TakesTurns d → OpensOrCancelsBulk cmd → offered d m cmd ≡ Ok o
+CommandKeepsTaken {W} taker = (d : DriverContent) (m : Mem) (cmd : Cmd) (o : Offered) (puts now : ℕ → List ℕ) (wire : W) → AsynchronousTakesTurns d → OpensAsynchronous cmd → offered d m cmd ≡ Ok o
     → KeepsPuts d puts now → TakenBegin taker d puts wire → TakenBegin taker o.driver now wire
 
 -- ---- endpoints that have ended
@@ -137,12 +138,12 @@ SparedStayStopped = (d : DriverContent) (parts now : StructureSets) → ((e : �
 
 -- endpoints that have ended had ended before
 abbrev pub AlikeStayStopped : Type 0
-AlikeStayStopped = (p : Parts) (parts : StructureSets) → TakesTurns p.driver → ((e t : ℕ) (found : Found) → driver_row p ≢ rows.Harvest e t found)
+AlikeStayStopped = (p : Parts) (parts : StructureSets) → AsynchronousTakesTurns p.driver → ((e t : ℕ) (found : Found) → driver_row p ≢ rows.Harvest e t found)
     → ((e : ℕ) → driver_row p ≢ rows.ReleaseEndpoint e) → EndedAreStopped p.driver parts
     → EndedAreStopped (after_driver_row (driver_row p) p).driver parts
 
 abbrev pub HarvestStops : Type 0
 HarvestStops = (member : ℕ → Bool) (order : ℕ → ℕ) (out : List ℕ) (p : Parts) (parts : StructureSets) (hand : Hand) (e t : ℕ) (found : Found) → (due : IsHarvestDue p e t found)
-    → HasOwners p.driver → TakesTurns p.driver → AreFed p.driver parts → Tells p.memory parts → IsMember member (32 * due.endpoint.queue) (parts (32 * due.endpoint.queue))
+    → HasOwners p.driver → AsynchronousTakesTurns p.driver → AreFed p.driver parts → Tells p.memory parts → IsMember member (32 * due.endpoint.queue) (parts (32 * due.endpoint.queue))
     → (receives due.endpoint.desc.name.way ≡ false → AreSentWhole order out hand (32 * due.endpoint.queue) (parts (32 * due.endpoint.queue)))
     → EndedAreStopped p.driver parts → EndedAreStopped (after_driver_row (rows.Harvest e t found) p).driver parts

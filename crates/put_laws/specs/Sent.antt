@@ -1,7 +1,7 @@
 -- The OUT endpoints of a driver, qTD by qTD (EHCI 1.0, 4.10.2 to 4.10.6): the qTDs of each are sent whole and in turn, so what was sent of it begins the bytes of
 -- its puts.
 --     SentStand d order out hand parts     so it is of each OUT endpoint that the walk may meet
---     HoldThere d heads                    among these are the queue heads of all endpoints that are there
+--     HoldThere d heads                    among these are the queue heads of all OUT endpoints that are there
 --     HoldOuts d outs                      .. and those of all OUT endpoints that it may meet
 --     WasOut d z, OutsWere d f             the OUT endpoint z was one of d that the walk might meet; so was each such one of f
 use Rattle.std.specs.Prelude.{◌≡◌, ℕ, ◌*◌, Bool, true, false, List, slice_get, Some}
@@ -21,7 +21,7 @@ SentStand d order out hand parts =
 -- ---- queue heads
 
 abbrev pub HoldThere : DriverContent → (ℕ → Bool) → Type 0
-HoldThere d heads = (e : ℕ) (x : Endpoint) → slice_get d.endpoints e ≡ Some x → IsThere d x → heads (32 * x.queue) ≡ true
+HoldThere d heads = (e : ℕ) (x : Endpoint) → slice_get d.endpoints e ≡ Some x → IsThere d x → receives x.desc.name.way ≡ false → heads (32 * x.queue) ≡ true
 
 abbrev pub HoldOuts : DriverContent → (ℕ → Bool) → Type 0
 HoldOuts d outs = (e : ℕ) (x : Endpoint) → slice_get d.endpoints e ≡ Some x → IsMet d e x → receives x.desc.name.way ≡ false → outs (32 * x.queue) ≡ true

@@ -18,7 +18,7 @@ use Rattle.lent_structures.specs.Sound.{IsMember}
 use Rattle.ring_laws.specs.Hand.{Hand}
 use Rattle.ring_laws.specs.Told.{Told}
 use Rattle.chained_transfers.specs.Bulk.{receives}
-use Rattle.chained_transfers.specs.InTurn.{TakesTurns}
+use Rattle.chained_transfers.specs.AsynchronousTurns.{AsynchronousTakesTurns}
 use Rattle.fed_queues.specs.Fed.{AreFed}
 use Rattle.whole_sends.specs.Whole.{AreSentWhole, buffer_at}
 use Rattle.put_laws.specs.Sent.{SentStand}
@@ -31,7 +31,7 @@ MovesAll _ n = Unit {0}
 -- what the driver reads, and of whose queue
 pub record ReadsPut (p : Parts) (e t : ℕ) (found : Found) (hand : Hand) (parts : StructureSets) (order : ℕ → ℕ → ℕ) (out : ℕ → List ℕ) : Type 0 where
   pub due : IsHarvestDue p e t found
-  pub turns : TakesTurns p.driver
+  pub turns : AsynchronousTakesTurns p.driver
   pub tells : Tells p.memory parts
   pub fed : AreFed p.driver parts
   pub sends : receives due.endpoint.desc.name.way ≡ false

@@ -4,7 +4,7 @@
 --     QuietSends         a row that stores nothing
 --     HarvestSends       a harvest: the qTD that was read is out no more, if it was done
 --     ReleaseSends       the blocks of a transfer are given back
-use Rattle.std.specs.Prelude.{◌≡◌, ℕ, ◌*◌, Bool, true, List, slice_get, Some}
+use Rattle.std.specs.Prelude.{◌≡◌, ℕ, ◌*◌, ◌⊎◌, Bool, true, List, slice_get, Some}
 use Rattle.word_mem.specs.Memory.{Mem}
 use Rattle.driver_rows.specs.declared.content.Endpoint.{Endpoint}
 use Rattle.driver_rows.specs.declared.content.Transfer.{Transfer}
@@ -22,12 +22,12 @@ use Rattle.ring_laws.specs.Told.{Endpoint as Told}
 use Rattle.driver_laws.specs.Driven.{is_quiet}
 use Rattle.driver_laws.specs.Released.{release_row}
 use Rattle.controlled_streams.specs.Returned.{staying_of}
-use Rattle.chained_transfers.specs.Accepted.{IsAccepted}
-use Rattle.chained_transfers.specs.InTurn.{TakesTurns}
+use Rattle.run_owners.specs.Accepts.{Opens, Transfers}
+use Rattle.chained_transfers.specs.AsynchronousTurns.{AsynchronousTakesTurns}
 use Rattle.fed_queues.specs.Places.{IsMet, AreStillOut}
 use Rattle.fed_lends.specs.Commands.{QueuesStand}
 use Rattle.put_laws.specs.Sent.{SentStand, OutsWere}
-use Rattle.chained_transfers.specs.Bulk.{OnlyBulk}
+use Rattle.chained_transfers.specs.Asynchronous.{OnlyAsynchronous}
 
 -- of the queues of f
 abbrev pub AreFewer : DriverContent → (ℕ → List ℕ) → (ℕ → List ℕ) → Type 0
@@ -38,16 +38,16 @@ FewerAreSent = (d f : DriverContent) (hand : Hand) (parts : StructureSets) (orde
     → SentStand d order out hand parts → SentStand f order later hand parts
 
 abbrev pub AcceptedSends : Type 0
-AcceptedSends = (d : DriverContent) (m : Mem) (o : Offered) (hand : Hand) (parts : StructureSets) (order : ℕ → ℕ → ℕ) (out : ℕ → List ℕ) → IsAccepted d m o
+AcceptedSends = (d : DriverContent) (m : Mem) (o : Offered) (hand : Hand) (parts : StructureSets) (order : ℕ → ℕ → ℕ) (out : ℕ → List ℕ) → Opens d m o ⊎ Transfers d m o
     → SentStand d order out hand parts → SentStand o.driver order out hand parts
 
 abbrev pub QuietSends : Type 0
-QuietSends = (p : Parts) (hand : Hand) (parts : StructureSets) (order : ℕ → ℕ → ℕ) (out later : ℕ → List ℕ) → is_quiet (driver_row p) ≡ true → OnlyBulk p.driver
+QuietSends = (p : Parts) (hand : Hand) (parts : StructureSets) (order : ℕ → ℕ → ℕ) (out later : ℕ → List ℕ) → is_quiet (driver_row p) ≡ true → OnlyAsynchronous p.driver
     → AreFewer (after_driver_row (driver_row p) p).driver out later → SentStand p.driver order out hand parts → SentStand (after_driver_row (driver_row p) p).driver order later hand parts
 
 abbrev pub HarvestSends : Type 0
 HarvestSends = (p : Parts) (e t : ℕ) (found : Found) (hand : Hand) (member streams : ℕ → Bool) (ends : ℕ → Told) (parts : StructureSets) (order : ℕ → ℕ → ℕ) (out later : ℕ → List ℕ)
-    → driver_row p ≡ rows.Harvest e t found → HasOwners p.driver → TakesTurns p.driver → QueuesStand p.driver member streams ends parts order out
+    → driver_row p ≡ rows.Harvest e t found → HasOwners p.driver → AsynchronousTakesTurns p.driver → QueuesStand p.driver member streams ends parts order out
     → AreStillOut (after_driver_row (driver_row p) p).driver later → SentStand p.driver order out hand parts
     → SentStand (after_driver_row (driver_row p) p).driver order later hand parts
 

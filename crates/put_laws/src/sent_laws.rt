@@ -4,6 +4,7 @@ ghost use Rattle.put_laws.specs.SentStores.{StoreSends};
 ghost use Rattle.put_laws.specs.SentLends.{LendSends, LendRowSends};
 ghost use Rattle.put_laws.specs.SentOpens.{OpenLendSends, OpenLinkSends};
 ghost use Rattle.put_laws.specs.SentRows.{FewerAreSent, AcceptedSends, QuietSends, HarvestSends, ReleaseSends};
+ghost use Rattle.put_laws.specs.Mends.{MendIsInHead, MendSends, MendStops};
 ghost use Rattle.put_laws.specs.SentRead.{PutsMoveAll, PutsLeaveNone, DoneIsTold, PutsAreTold};
 
 use usb_base::Wire;
@@ -46,4 +47,11 @@ pub fn a_done_put_was_sent()
     ensures none { PutsLeaveNone }
     ensures done { DoneIsTold }
     ensures told { PutsAreTold }
+{}
+
+/// The stores that a stalled control endpoint is owed go to its queue head, and leave what each OUT endpoint sends.
+pub fn a_mend_sends_whole()
+    ensures place { MendIsInHead }
+    ensures sends { MendSends }
+    ensures stops { MendStops }
 {}

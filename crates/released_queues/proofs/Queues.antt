@@ -23,8 +23,9 @@ use Rattle.run_owners.specs.Owners.{Owner, QueueHead as QueueHeadOf, Element, Is
 use Rattle.chained_transfers.specs.Chains.{piece_at, end_of, NoneFrom}
 use Rattle.chained_transfers.specs.Turns.{turn_of, StandsBefore}
 use Rattle.chained_transfers.specs.Out.{unpublished}
+use Rattle.chained_transfers.proofs.Ways.{moves_queued}
 use Rattle.chained_transfers.proofs.Chained.{within_list}
-use Rattle.chained_transfers.proofs.BulkAndControl.{not_iso, moves_queued_of}
+use Rattle.chained_transfers.proofs.BulkAndControl.{not_iso}
 use Rattle.lent_structures.specs.Structures.{Element as ElementOf, Structures, StructureSets}
 use Rattle.lent_structures.proofs.Names.{not_same}
 use Rattle.lent_structures.specs.Sound.{IsElement, LeadsOn}
@@ -110,12 +111,12 @@ module _ (base : Base) (member : ℕ → Bool) (parts : StructureSets) (hand : H
   transfer_of u z e here held at = record {
     here = ap (option_map runs_of_transfer) here;
     held = held;
-    qtds = moves_queued_of d z (s.asynchronous.moves u z here);
+    qtds = moves_queued d z (s.asynchronous.moves u z here);
     queue = queue_of z.endpoint e at (held_alive d u z e s.turns here held at);
   }
 
   pub to_go : IsToGo d t y (runs_of_endpoint x)
-  to_go = record { here = k.here; held = k.held; qtds = moves_queued_of d y (s.asynchronous.moves t y k.here); queue = queue_of y.endpoint x k.endpoint its_alive }
+  to_go = record { here = k.here; held = k.held; qtds = moves_queued d y (s.asynchronous.moves t y k.here); queue = queue_of y.endpoint x k.endpoint its_alive }
 
   pub pieces_of : (u : ℕ) (z : Transfer) → slice_get d.transfers u ≡ Some z → z.released ≡ false → ArePieces v.slot owner v.note u z.first z.qtds
   pieces_of u z here held = s.owners.owned.each.pieces u (runs_of_transfer z) (ap (option_map runs_of_transfer) here) held

@@ -41,7 +41,7 @@ pid_status : (b : Bool) → pid_at (if not b then 1 else 0) ≡ status_token b
 pid_status true = refl
 pid_status false = refl
 
-positive : (n : ℕ) → not (nat_eq n 0) ≡ true → 0 < n
+pub positive : (n : ℕ) → not (nat_eq n 0) ≡ true → 0 < n
 positive zero some = absurd (true≢false (sym some))
 positive (suc n) some = omega arith
 

@@ -72,7 +72,7 @@ pub good_of : (member windows : ℕ → Bool) (sent : ℕ → Queue) → AreSent
 good_of member windows sent fixed n on = record { requests = λ i. fixed.requests n i on; whole = fixed.whole n on; places = λ i. fixed.places n i on; others = λ i k. fixed.others n i k on; chained = fixed.chained n on }
 
 module _ (v : Queue) (r : Request) (x : Places) (part : Structures) (k : IsNextRequest v r x part) where
-  good_with : IsGood v → IsGood (with_request v r x)
+  pub good_with : IsGood v → IsGood (with_request v r x)
   good_with good = record {
     requests = λ i few. with_cases v r x (λ (s : Sent). IsRequest s.request) i few (λ is. k.request) (good.requests i);
     whole = good.whole;

@@ -5,6 +5,7 @@
 --     IsLend ..                  further structures of the queue head at n stand beside those that it had
 --     IsNextRequest v r x part   the part has the qTDs of the request r at the places x, with the SETUP where the last status of v leads
 --     with_request v r x         v with this request behind the others; `new_sent` is the request
+--     without_first v            v without its first request
 --     sent_with sent n r x       the same of all queues, where the one of n has it
 --     IsPublished ..             all stands as it must with it, and no other request is changed
 --     LendKeepsWindows, IdleStoreKeepsWindows, LastStoreKeepsWindows
@@ -14,7 +15,7 @@
 --                                all queues and windows, with those of n
 --     IsBegun ..                 all stands as it must with them
 --     FirstStoreOpensWindows     the law
-use Rattle.std.specs.Prelude.{◌≡◌, ◌≢◌, ℕ, suc, ◌<◌, ◌≤◌, ◌==◌, ◌||◌, ◌⊎◌, Bool, true, false, Option, Some, None, if◌then◌else◌}
+use Rattle.std.specs.Prelude.{◌≡◌, ◌≢◌, ℕ, suc, ◌-◌, ◌<◌, ◌≤◌, ◌==◌, ◌||◌, ◌⊎◌, Bool, true, false, Option, Some, None, if◌then◌else◌}
 use Rattle.link_words.specs.declared.kinds.QtdLink.TheVariants.{To}
 use Rattle.link_words.specs.Links.{qtd_link_of}
 use Rattle.qh_qtd.specs.declared.qtd.Qtd.{Qtd}
@@ -67,6 +68,9 @@ with_request v r x = record v {
   requests = λ i. if i == v.count then r else v.requests i;
   places = λ i. if i == v.count then x else v.places i;
 }
+
+abbrev pub without_first : Queue → Queue
+without_first v = record v { count = v.count - 1; requests = λ i. v.requests (suc i); places = λ i. v.places (suc i) }
 
 abbrev pub new_sent : Queue → Request → Places → Sent
 new_sent v r x = record { endpoint = v.endpoint; request = r; places = x }

@@ -3,24 +3,20 @@ use Rattle.std.proofs.Common.{◌≡◌, ℕ, Bool, true, false, not, ◌&&◌, 
 use Rattle.std.specs.Prelude.{is_none}
 use Rattle.std.specs.Option.{option_map, option_and_then}
 use Rattle.std.specs.List.{AllByRecursion, concat, list_any, cons_option}
-use Rattle.std.proofs.lemmas.Option.{same_Some}
 use Rattle.std.proofs.lemmas.List.{append_assoc, append-nil}
-use Rattle.usb_base.specs.declared.commands.Cmd.{Cmd}
-use Rattle.usb_base.specs.declared.commands.Cmd.TheVariants as commands
 use Rattle.usb_base.specs.declared.endpoints.EndCause.{EndCause}
 use Rattle.usb_base.specs.declared.endpoints.EpDesc.{EpDesc}
 use Rattle.usb_base.specs.declared.endpoints.EpName.{EpName}
+use Rattle.usb_base.specs.declared.packets.EpKind.{EpKind}
 use Rattle.usb_base.specs.declared.packets.Way.{Way}
 use Rattle.usb_base.specs.declared.packets.Way.TheVariants as Ways
-use Rattle.script_types.specs.declared.scripts.Line.{Line}
-use Rattle.script_types.specs.declared.scripts.Line.TheVariants as lines
 use Rattle.script_types.specs.declared.scripts.Script.{Script}
 use Rattle.endpoint_script.specs.Items.{packets_of}
 use Rattle.pipe_agreement.specs.Prefix.{IsPrefix}
 use Rattle.usb_base.specs.declared.reports.Report.{Report}
 use Rattle.usb_bus.specs.Bus.{Fixed}
 use Rattle.report_streams.specs.Reports.{WholeReport, is_end, is_pending}
-use Rattle.report_streams.specs.Streams.{is_refused, command_in, accepted_in, open_in, opened, has_stream, items_of, stream_by, told, told_in, ends_once, ends_whole, AreBytesRight, IsRightStream}
+use Rattle.report_streams.specs.Streams.{opened, has_stream, items_of, stream_by, told, told_in, ends_once, ends_whole, AreBytesRight, IsRightStream}
 use Rattle.driver_rows.specs.declared.content.Endpoint.{Endpoint}
 use Rattle.driver_rows.specs.DriverContent.{DriverContent, ended}
 use Rattle.told_endpoints.specs.Telling.{named_of, named_in, lines_in, IsToldTo, TellsEach}
@@ -32,16 +28,17 @@ use Rattle.right_reports.specs.WorldReport.{closings_of, report_of}
 use Rattle.right_reports.specs.Ins.{AreRightInStreams}
 use Rattle.right_reports.specs.Laws.{BeginsEach}
 use Rattle.right_reports.proofs.Named.{HasNamed, NoneNamed, search, named_is, none_pending}
-use Rattle.chained_transfers.specs.Bulk.{IsBulk, OpensOrCancelsBulk, BulkLine, BulkOnly, comes_in, IsStanding, OnlyBulk}
+use Rattle.chained_transfers.specs.Bulk.{comes_in, IsDataWay}
+use Rattle.chained_transfers.specs.Asynchronous.{IsKindOf, StandsAsynchronous, OnlyAsynchronous}
 
 -- ---- lists
 
-all_kept : {X : Type 0} (Q P : X → Type 0) (p : X → Bool) (xs : List X) → ((x : X) → Q x → p x ≡ true → P x) → AllByRecursion Q xs → AllByRecursion P (filter p xs)
-all_kept Q P p [] gives k = tt
-all_kept Q P p (x ∷ xs) gives k = kept (p x) refl (all_kept Q P p xs gives k.1)
+all_kept : {X : Type 0} (P : X → Type 0) (p : X → Bool) (xs : List X) → ((x : X) → p x ≡ true → P x) → AllByRecursion P (filter p xs)
+all_kept P p [] gives = tt
+all_kept P p (x ∷ xs) gives = kept (p x) refl (all_kept P p xs gives)
   where
     kept : (b : Bool) → p x ≡ b → AllByRecursion P (filter p xs) → AllByRecursion P (if b then x ∷ filter p xs else filter p xs)
-    kept true is rest = (gives x k.0 is, rest)
+    kept true is rest = (gives x is, rest)
     kept false is rest = rest
 
 pub all_mapped : {X Y : Type 0} (P : X → Type 0) (Q : Y → Type 0) (h : X → Option Y) (xs : List X) → ((x : X) (y : Y) → P x → h x ≡ Some y → Q y) → AllByRecursion P xs → AllByRecursion Q (filter_map h xs)
@@ -54,35 +51,25 @@ all_mapped P Q h (x ∷ xs) gives k = with_first (h x) refl (all_mapped P Q h xs
 
 -- ---- what is opened
 
-accepted_by : (b : Bool) (l : Line) (cmd : Cmd) → BulkLine l → (if b then None else command_in l) ≡ Some cmd → OpensOrCancelsBulk cmd
-accepted_by true l cmd k is = absurd cc
-accepted_by false (lines.Command c) cmd k is = subst OpensOrCancelsBulk (same_Some c cmd is) k
-accepted_by false (lines.Order event n) cmd k is = absurd cc
-accepted_by false (lines.Micro n) cmd k is = absurd cc
-
-opens_by : (cmd : Cmd) (desc : EpDesc) → OpensOrCancelsBulk cmd → open_in cmd ≡ Some desc → IsBulk desc
-opens_by (commands.OpenEp x) desc k is = subst IsBulk (same_Some x desc is) k
-opens_by (commands.Get name len by) desc k is = absurd cc
-opens_by (commands.Put name bytes by) desc k is = absurd cc
-opens_by (commands.Control name setup bytes) desc k is = absurd cc
-opens_by (commands.Iso name count len seed) desc k is = absurd cc
-opens_by (commands.Cancel name) desc k is = absurd cc
-
 and_right : (a b : Bool) → (a && b) ≡ true → b ≡ true
 and_right true b is = is
 and_right false b is = absurd cc
 
-opened_bulk : (s : Script) (r : WholeReport) → BulkOnly s → AllByRecursion IsBulk (opened s r)
-opened_bulk s r k =
-    all_mapped OpensOrCancelsBulk IsBulk open_in (filter_map (accepted_in r) s.lines) opens_by
-    (all_mapped (λ line. BulkLine line.1) OpensOrCancelsBulk (accepted_in r) s.lines (λ line cmd bulk is. accepted_by (is_refused r line.0) line.1 cmd bulk is) k)
-
-all_right : (s : Script) (r : WholeReport) → BulkOnly s → ((desc : EpDesc) → IsBulk desc → comes_in desc.name.way ≡ true → IsRightStream s r desc.name) → AreRightInStreams s r
-all_right s r k each =
-    all_kept IsBulk (λ desc. IsRightStream s r desc.name) (λ desc. has_stream desc.kind && comes_in desc.name.way) (opened s r)
-    (λ desc bulk is. each desc bulk (and_right (has_stream desc.kind) (comes_in desc.name.way) is)) (opened_bulk s r k)
+all_right : (s : Script) (r : WholeReport) → ((desc : EpDesc) → comes_in desc.name.way ≡ true → IsRightStream s r desc.name) → AreRightInStreams s r
+all_right s r each =
+    all_kept (λ desc. IsRightStream s r desc.name) (λ desc. has_stream desc.kind && comes_in desc.name.way) (opened s r)
+    (λ desc is. each desc (and_right (has_stream desc.kind) (comes_in desc.name.way) is))
 
 -- ---- one endpoint
+
+-- an endpoint of data has a stream
+pub has_data : (way : Way) (kind : EpKind) → IsKindOf way kind → IsDataWay way → has_stream kind ≡ true
+has_data Ways.In kind is moves = ap has_stream is
+has_data Ways.Out kind is moves = ap has_stream is
+has_data Ways.Ctl kind is moves = absurd moves
+
+pub in_stream : (d : DriverContent) (e : ℕ) (x : Endpoint) → OnlyAsynchronous d → slice_get d.endpoints e ≡ Some x → x.desc.name.way ≡ Ways.In → has_stream x.desc.kind ≡ true
+in_stream d e x only here way = has_data x.desc.name.way x.desc.kind (only.endpoints e x here).asynchronous.kind (subst IsDataWay (sym way) tt)
 
 -- data of a bulk endpoint come to the host at an IN one alone
 pub in_way : (way : Way) → comes_in way ≡ true → way ≡ Ways.In
@@ -93,7 +80,7 @@ in_way Ways.Ctl is = absurd cc
 bytes_right : (s : Script) (r : WholeReport) (name : EpName) → name.way ≡ Ways.In → IsPrefix (told r name) (concat (packets_of (items_of s name))) → AreBytesRight name.way s r name
 bytes_right s r name is k = subst (λ (way : Way). AreBytesRight way s r name) (sym is) (subst (λ (way : Way). IsPrefix (told r name) (stream_by way s r name)) (sym is) k)
 
-module _ (s : Script) (fixed : Fixed) (w : World) (held told_each : ℕ → List ℕ) (tells : TellsEach w.driver.reports w.driver.store (named_in w.driver.endpoints) held told_each) (begins : BeginsEach s w told_each) where
+module _ (s : Script) (fixed : Fixed) (w : World) (held told_each : ℕ → List ℕ) (tells : TellsEach w.driver.reports w.driver.store (named_in w.driver.endpoints) held told_each) (only : OnlyAsynchronous w.driver) (begins : BeginsEach s w told_each) where
   abbrev r : WholeReport
   r = report_of fixed w
 
@@ -116,7 +103,7 @@ module _ (s : Script) (fixed : Fixed) (w : World) (held told_each : ℕ → List
   }
     where
       t : IsToldTo w.driver.reports w.driver.store (named_of x) (held k) (told_each k)
-      t = tells.each k (named_of x) (ap (option_map named_of) here)
+      t = tells.each k (named_of x) (ap (option_map named_of) here) (in_stream w.driver k x only here way)
 
       front : IsPrefix (told_each k) (concat (packets_of (items_of s x.desc.name)))
       front = begins k x here (ap comes_in way)
@@ -145,19 +132,19 @@ module _ (s : Script) (fixed : Fixed) (w : World) (held told_each : ℕ → List
       (λ (none : NoneNamed w.driver.endpoints name). nothing_told name way (tells.only name none)) (search w.driver.endpoints name)
 
 -- an endpoint that was given back has ended, and nothing of it is held back
-pub gone_told : (d : DriverContent) (held told : ℕ → List ℕ) (e : ℕ) (x : Endpoint) → OnlyBulk d → TellsEach d.reports d.store (named_in d.endpoints) held told → slice_get d.endpoints e ≡ Some x → x.gone ≡ true
+pub gone_told : (d : DriverContent) (held told : ℕ → List ℕ) (e : ℕ) (x : Endpoint) → OnlyAsynchronous d → has_stream x.desc.kind ≡ true → TellsEach d.reports d.store (named_in d.endpoints) held told → slice_get d.endpoints e ≡ Some x → x.gone ≡ true
     → told e ≡ told_in d.store (lines_in x.desc.name d.reports)
-gone_told d held told e x only tells here gone = by x.ended refl
+gone_told d held told e x only on tells here gone = by x.ended refl
   where
-    life : IsStanding x
+    life : StandsAsynchronous x
     life = only.endpoints e x here
 
     by : (o : Option EndCause) → x.ended ≡ o → told e ≡ told_in d.store (lines_in x.desc.name d.reports)
     by None is = absurd (life.ended (life.unlinked (life.gone gone)) is)
     by (Some cause) is =
-        let to : IsToldTo d.reports d.store (named_of x) (held e) (told e) = tells.each e (named_of x) (ap (option_map named_of) here) in
+        let to : IsToldTo d.reports d.store (named_of x) (held e) (told e) = tells.each e (named_of x) (ap (option_map named_of) here) on in
         let none : held e ≡ [] = (to.over cause (told_gone x gone ∙ is)).0 in
         sym to.sum ∙ ap (λ (xs : List ℕ). told_in d.store (lines_in x.desc.name d.reports) ++ xs) none ∙ append-nil (told_in d.store (lines_in x.desc.name d.reports))
 
-pub report_right : (s : Script) (fixed : Fixed) (w : World) (held told : ℕ → List ℕ) → BulkOnly s → TellsEach w.driver.reports w.driver.store (named_in w.driver.endpoints) held told → BeginsEach s w told → AreRightInStreams s (report_of fixed w)
-report_right s fixed w held told bulk tells begins = all_right s (report_of fixed w) bulk (λ desc is comes. one_right s fixed w held told tells begins desc.name (in_way desc.name.way comes))
+pub report_right : (s : Script) (fixed : Fixed) (w : World) (held told : ℕ → List ℕ) → OnlyAsynchronous w.driver → TellsEach w.driver.reports w.driver.store (named_in w.driver.endpoints) held told → BeginsEach s w told → AreRightInStreams s (report_of fixed w)
+report_right s fixed w held told only tells begins = all_right s (report_of fixed w) (λ desc comes. one_right s fixed w held told tells only begins desc.name (in_way desc.name.way comes))

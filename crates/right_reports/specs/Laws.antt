@@ -8,7 +8,8 @@ use Rattle.usb_bus.specs.Bus.{Fixed}
 use Rattle.report_streams.specs.Reports.{whole_text}
 use Rattle.report_streams.specs.Streams.{items_of}
 use Rattle.driver_rows.specs.declared.content.Endpoint.{Endpoint}
-use Rattle.chained_transfers.specs.Bulk.{comes_in, BulkOnly}
+use Rattle.chained_transfers.specs.Bulk.{comes_in}
+use Rattle.chained_transfers.specs.Asynchronous.{OnlyAsynchronous}
 use Rattle.told_endpoints.specs.Telling.{named_in, TellsEach}
 use Rattle.bus_world.specs.World.{World}
 use Rattle.bus_world.specs.Closing.{world_text}
@@ -24,5 +25,5 @@ abbrev pub BeginsEach : Script → World → (ℕ → List ℕ) → Type 0
 BeginsEach s w told = (e : ℕ) (x : Endpoint) → slice_get w.driver.endpoints e ≡ Some x → comes_in x.desc.name.way ≡ true → IsPrefix (told e) (concat (packets_of (items_of s x.desc.name)))
 
 abbrev pub ReportIsRight : Type 0
-ReportIsRight = (s : Script) (fixed : Fixed) (w : World) (held told : ℕ → List ℕ) → BulkOnly s → TellsEach w.driver.reports w.driver.store (named_in w.driver.endpoints) held told
+ReportIsRight = (s : Script) (fixed : Fixed) (w : World) (held told : ℕ → List ℕ) → OnlyAsynchronous w.driver → TellsEach w.driver.reports w.driver.store (named_in w.driver.endpoints) held told
     → BeginsEach s w told → AreRightInStreams s (report_of fixed w)

@@ -27,7 +27,7 @@ use Rattle.fed_queues.specs.Places.{IsThere, IsMet}
 use Rattle.opening_senders.specs.Own.{HasOwnDevices}
 use Rattle.opening_senders.proofs.Opening.{opening_sends}
 use Rattle.right_reports.specs.Laws.{BeginsEach}
-use Rattle.right_reports.proofs.Right.{in_way, gone_told, report_right}
+use Rattle.right_reports.proofs.Right.{in_way, in_stream, gone_told, report_right}
 use Rattle.right_worlds.specs.Right.{AreOfScript, WorldIsRight}
 
 -- ---- an endpoint is met, or is being opened
@@ -91,7 +91,7 @@ packets_begin script packets name xs own of_it way k = by_sender (sender_of (ope
 -- ---- the world
 
 pub world_right : WorldIsRight
-world_right script fixed base member heads x s w only own of_it streaming bulk streams told right heads_hold closed = report_right script fixed w told.held told.told only told.tells begins
+world_right script fixed base member heads x s w own of_it streaming asynchronous streams told right heads_hold closed = report_right script fixed w told.held told.told asynchronous told.tells begins
   where
     begun : (e : ℕ) (z : Endpoint) → slice_get w.driver.endpoints e ≡ Some z → comes_in z.desc.name.way ≡ true → (xs : List ℕ) → told.told e ≡ xs → IsPrefix xs (concat (x.packets z.desc.name.addr z.desc.name.num))
         → IsPrefix (told.told e) (concat (packets_of (items_of script z.desc.name)))
@@ -111,7 +111,7 @@ world_right script fixed base member heads x s w only own of_it streaming bulk s
     while_left : (e : ℕ) (z : Endpoint) → slice_get w.driver.endpoints e ≡ Some z → comes_in z.desc.name.way ≡ true → IsThere w.driver z → may_meet w.driver e z ≡ false
         → IsPrefix (told.told e) (concat (packets_of (items_of script z.desc.name)))
     while_left e z here comes there left =
-        let r = right (32 * z.queue) (heads_hold e z here there) in
+        let r = right (32 * z.queue) (heads_hold e z here there (in_stream w.driver e z asynchronous here (in_way z.desc.name.way comes))) in
         let all : IsPrefix (concat (s.acc (32 * z.queue))) (concat (x.packets z.desc.name.addr z.desc.name.num)) = closed.left e z here comes there left in
         begun e z here comes (s.reported (32 * z.queue)) (told.met e z here there)
         (r.told ++ all.0, sym (append_assoc (s.reported (32 * z.queue)) r.told all.0) ∙ ap (λ (ys : List ℕ). ys ++ all.0) r.sum ∙ all.1)
@@ -123,7 +123,7 @@ world_right script fixed base member heads x s w only own of_it streaming bulk s
 
     by_life : (e : ℕ) (z : Endpoint) → slice_get w.driver.endpoints e ≡ Some z → comes_in z.desc.name.way ≡ true → (b : Bool) → z.gone ≡ b → IsPrefix (told.told e) (concat (packets_of (items_of script z.desc.name)))
     by_life e z here comes true gone =
-        begun e z here comes (told_in w.driver.store (lines_in z.desc.name w.driver.reports)) (gone_told w.driver told.held told.told e z bulk told.tells here gone) (closed.gone e z here comes gone)
+        begun e z here comes (told_in w.driver.store (lines_in z.desc.name w.driver.reports)) (gone_told w.driver told.held told.told e z asynchronous (in_stream w.driver e z asynchronous here (in_way z.desc.name.way comes)) told.tells here gone) (closed.gone e z here comes gone)
     by_life e z here comes false kept =
         ⊎_elim (λ (opens : w.driver.command ≡ Some (unfinished.Open z.queue)).
         subst (λ (xs : List ℕ). IsPrefix xs (concat (packets_of (items_of script z.desc.name)))) (sym (told.opening e z here kept opens)) (concat (packets_of (items_of script z.desc.name)), refl))

@@ -1,4 +1,4 @@
--- A world whose endpoints are all bulk ones, and whose report is right (EHCI 1.0, 4.10; USB 2.0, 8.6).
+-- A world whose endpoints are bulk and control ones, and whose report of IN endpoints is right (EHCI 1.0, 4.10; USB 2.0, 8.6).
 --     AreOfScript s packets      these are the packets that the senders of the script have at the opening
 --     ClosedIns d packets acc    what is told of endpoints IN that have left begins their packets
 --     WorldIsRight               the law
@@ -10,7 +10,7 @@ use Rattle.driver_rows.specs.declared.content.Endpoint.{Endpoint}
 use Rattle.driver_rows.specs.DriverContent.{DriverContent}
 use Rattle.endpoint_lives.specs.Lives.{may_meet}
 use Rattle.pipe_agreement.specs.Prefix.{IsPrefix}
-use Rattle.report_streams.specs.Streams.{told_in}
+use Rattle.report_streams.specs.Streams.{told_in, has_stream}
 use Rattle.told_endpoints.specs.Telling.{lines_in}
 use Rattle.controlled_streams.specs.Reported.{AreReported}
 use Rattle.ring_laws.specs.Ring.{Base}
@@ -18,7 +18,8 @@ use Rattle.ring_laws.specs.Bus.{Sender}
 use Rattle.scripted_streams.specs.Senders.{sender_of}
 use Rattle.bus_world.specs.World.{World}
 use Rattle.stream_worlds.specs.Streaming.{Streams, Standing, IsStreaming}
-use Rattle.chained_transfers.specs.Bulk.{comes_in, BulkOnly, OnlyBulk}
+use Rattle.chained_transfers.specs.Bulk.{comes_in}
+use Rattle.chained_transfers.specs.Asynchronous.{OnlyAsynchronous}
 use Rattle.fed_queues.specs.Places.{HaveStreams, IsThere}
 use Rattle.harvest_laws.specs.Told.{ToldStands}
 use Rattle.opening_senders.specs.Own.{HasOwnDevices}
@@ -37,7 +38,7 @@ pub record ClosedIns (d : DriverContent) (packets : ℕ → ℕ → List (List �
       → IsPrefix (told_in d.store (lines_in x.desc.name d.reports)) (concat (packets x.desc.name.addr x.desc.name.num))
 
 abbrev pub WorldIsRight : Type 0
-WorldIsRight = (script : Script) (fixed : Fixed) (base : Base) (member heads : ℕ → Bool) (x : Streams) (s : Standing) (w : World) → BulkOnly script → HasOwnDevices script → AreOfScript script x.packets
-    → IsStreaming fixed base member x s w → OnlyBulk w.driver → HaveStreams w.driver x.streams x.endpoint → ToldStands w.driver s.hand s.parts s.reported
-    → AreReported heads s.order s.out s.hand s.parts s.acc s.reported → ((e : ℕ) (z : Endpoint) → slice_get w.driver.endpoints e ≡ Some z → IsThere w.driver z → heads (32 * z.queue) ≡ true)
+WorldIsRight = (script : Script) (fixed : Fixed) (base : Base) (member heads : ℕ → Bool) (x : Streams) (s : Standing) (w : World) → HasOwnDevices script → AreOfScript script x.packets
+    → IsStreaming fixed base member x s w → OnlyAsynchronous w.driver → HaveStreams w.driver x.streams x.endpoint → ToldStands w.driver s.hand s.parts s.reported
+    → AreReported heads s.order s.out s.hand s.parts s.acc s.reported → ((e : ℕ) (z : Endpoint) → slice_get w.driver.endpoints e ≡ Some z → IsThere w.driver z → has_stream z.desc.kind ≡ true → heads (32 * z.queue) ≡ true)
     → ClosedIns w.driver x.packets s.acc → AreRightInStreams script (report_of fixed w)

@@ -31,7 +31,7 @@ use Rattle.ring_requests.proofs.Stages.{pointer_same}
 
 -- ---- the queue head
 
-endpoint_same : (e : Endpoint) (q r : Qh) → endpoint_of r ≡ endpoint_of q → IsEndpoint e q → IsEndpoint e r
+pub endpoint_same : (e : Endpoint) (q r : Qh) → endpoint_of r ≡ endpoint_of q → IsEndpoint e q → IsEndpoint e r
 endpoint_same e q r same is = record {
   toggles = ap (λ (x : Characteristics). x.dtc) same ∙ is.toggles;
   high = ap (λ (x : Characteristics). x.speed) same ∙ is.high;
@@ -40,7 +40,7 @@ endpoint_same e q r same is = record {
   packets = ap (λ (x : Characteristics). x.max) same ∙ is.packets;
 }
 
-host_same : (q r : Qh) → r.token ≡ q.token → r.max ≡ q.max → host_in r ≡ host_in q
+pub host_same : (q r : Qh) → r.token ≡ q.token → r.max ≡ q.max → host_in r ≡ host_in q
 host_same q r token max = ap (λ (t : Token). host_at t r.max) token ∙ ap (λ (m : ℕ). host_at q.token m) max
 
 pointer_still : (q r : Qh) → SameRest q r → next_pointer r ≡ next_pointer q
@@ -140,7 +140,7 @@ release_spares member e c b n hand parts o k goes head tail alone r =
 
 -- ---- a queue head is stored over
 
-linked_side : (k n : ℕ) (l : LinkBits) (hand : Hand) → SameSide hand (hand_linked k l hand) n
+pub linked_side : (k n : ℕ) (l : LinkBits) (hand : Hand) → SameSide hand (hand_linked k l hand) n
 linked_side k n l Empty q = refl
 linked_side k n l (Copied c) q = refl
 linked_side k n l (Settled c z) q = refl
@@ -150,7 +150,7 @@ stale_by : (k n : ℕ) (c : Copy) (q : Qh) (b : Bool) → hand_side (if b then S
 stale_by k n c q true = refl
 stale_by k n c q false = refl
 
-stale_side : (k n : ℕ) (hand : Hand) → SameSide hand (hand_stale k hand) n
+pub stale_side : (k n : ℕ) (hand : Hand) → SameSide hand (hand_stale k hand) n
 stale_side k n Empty q = refl
 stale_side k n (Copied c) q = stale_by k n c q (c.at == k)
 stale_side k n (Settled c z) q = refl
@@ -209,7 +209,7 @@ mend_spares member e c b n hand parts o k q new differs here own alone r = recor
 }
 
 -- a transaction that isn't written back is that of another queue head
-idle_side : (member : ℕ → Bool) (parts : StructureSets) (reply : Reply) (n : ℕ) (q new : Qh) (hand : Hand) → IsInHand member parts reply hand → parts n n ≡ Some (QueueHead q) → q.token.active ≡ false → hand_side hand n new ≡ host_in new
+pub idle_side : (member : ℕ → Bool) (parts : StructureSets) (reply : Reply) (n : ℕ) (q new : Qh) (hand : Hand) → IsInHand member parts reply hand → parts n n ≡ Some (QueueHead q) → q.token.active ≡ false → hand_side hand n new ≡ host_in new
 idle_side member parts reply n q new Empty in_hand head idle = refl
 idle_side member parts reply n q new (Copied c) in_hand head idle = refl
 idle_side member parts reply n q new (Stale m r) in_hand head idle = refl

@@ -28,7 +28,6 @@ use Rattle.feeding_worlds.specs.Feeding.{there_of, IsFeeding}
 use Rattle.feeding_worlds.specs.Taking.{outs_of}
 use Rattle.feeding_worlds.specs.Tails.{tail_block, tail_of, IsUnderWay}
 use Rattle.whole_worlds.specs.Whole.{IsWhole}
-use Rattle.feeding_worlds.proofs.Told.{there_on}
 use Rattle.whole_worlds.proofs.TakingHeads.{outs_stand}
 use Rattle.whole_worlds.proofs.Beside.{beside, whole_beside, effect, after_event}
 use Rattle.put_laws.specs.Sent.{SentStand, HoldThere, HoldOuts}
@@ -46,7 +45,7 @@ use Rattle.put_laws.proofs.TakenBegins.{event_taken}
 use Rattle.put_laws.proofs.TakenStopped.{event_stopped}
 use Rattle.feeding_worlds.proofs.Controlled.{taker_stays}
 use Rattle.sending_worlds.specs.Sending.{IsSending}
-use Rattle.sending_worlds.proofs.Each.{has_of}
+use Rattle.sending_worlds.proofs.Each.{there_heads, out_number, has_of}
 use Rattle.sending_worlds.specs.WorldLaws.{ControllerKeepsSending}
 
 -- ---- the first qTD of the transfer that is published is the tail of its queue
@@ -78,7 +77,7 @@ module _ (fixed : Fixed) (takes : ℕ → ℕ → Bool) (member : ℕ → Bool) 
   whole_then = whole_beside fixed takes member x s w k.whole
 
   abbrev outs : ℕ → Bool
-  outs = outs_of member x.streams
+  outs = outs_of member x.streams x.endpoint
 
   controlled : IsControlled opening_base member s.parts s.hand (controller_parts w)
   controlled = f.working.streaming.controlled
@@ -92,7 +91,7 @@ module _ (fixed : Fixed) (takes : ℕ → ℕ → Bool) (member : ℕ → Bool) 
   -- ---- queue heads
 
   heads_are : HoldThere d (there_of d)
-  heads_are = there_on d
+  heads_are = there_heads fixed takes member x s puts w k
 
   outs_named : HaveOuts d outs x.endpoint
   outs_named = outs_stand fixed member x s w f
@@ -101,7 +100,7 @@ module _ (fixed : Fixed) (takes : ℕ → ℕ → Bool) (member : ℕ → Bool) 
   outs_are e z here met sends = (outs_named e z here met sends).0
 
   out_heads : (e : ℕ) (z : Endpoint) → slice_get d.endpoints e ≡ Some z → IsMet d e z → receives z.desc.name.way ≡ false → IsOutHead d outs (there_of d) x.endpoint z
-  out_heads e z here met sends = record { out = (outs_named e z here met sends).0; counted = heads_are e z here met.there; named = (outs_named e z here met sends).1 }
+  out_heads e z here met sends = record { out = (outs_named e z here met sends).0; counted = heads_are e z here met.there sends; named = (outs_named e z here met sends).1 }
 
   ask_none : OutsAskNoData d s.parts
   ask_none e z here met sends = outs_ask_none (s.parts (32 * z.queue)) (k.whole.taking.piped.pipes (32 * z.queue) (outs_are e z here met sends)).outs
@@ -163,7 +162,8 @@ module _ (fixed : Fixed) (takes : ℕ → ℕ → Bool) (member : ℕ → Bool) 
       → taker_of (wired fixed new) z.desc.name.addr z.desc.name.num ≡ Some (k.left_takers e z here sends off).taker
   left_taker e z here sends off =
       let h = k.left_takers e z here sends off in
-      taker_stays fixed takes member x s w f k.whole.taking (beside fixed takes member x s w k.whole) k.whole.left z.desc.name.addr z.desc.name.num h.taker (k.whole.left.shut e z here sends off) h.is
+      taker_stays fixed takes member x s w f k.whole.taking (beside fixed takes member x s w k.whole) k.whole.left z.desc.name.addr z.desc.name.num h.taker (k.whole.left.shut e z here sends off)
+      (out_number fixed takes member x s puts w k e z here sends) h.is
 
   leave_takers : LeaveTakers taker_of d (wired fixed w) (wired fixed new)
   leave_takers e z here sends off = left_taker e z here sends off ∙ sym (k.left_takers e z here sends off).is

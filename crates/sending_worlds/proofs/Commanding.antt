@@ -12,10 +12,9 @@ use Rattle.driver_rows.specs.DriverContent.{DriverContent}
 use Rattle.driver_rows.specs.Offers.{Offered, new_runs, new_endpoint, offered, IsOffered}
 use Rattle.run_owners.specs.Accepts.{Opens, Transfers}
 use Rattle.lent_structures.specs.Structures.{StructureSets}
-use Rattle.chained_transfers.specs.Accepted.{IsAccepted}
-use Rattle.chained_transfers.specs.Bulk.{OpensBulk, OpensOrCancelsBulk}
-use Rattle.chained_transfers.specs.InTurn.{TakesTurns}
-use Rattle.chained_transfers.proofs.Accepting.{command_received, opens_or_cancels}
+use Rattle.chained_transfers.specs.Asynchronous.{OpensAsynchronous, AcceptsAsynchronous}
+use Rattle.chained_transfers.specs.AsynchronousTurns.{AsynchronousTakesTurns}
+use Rattle.chained_transfers.proofs.Accepting.{command_accepts}
 use Rattle.endpoint_lives.proofs.Lives.{told_some}
 use Rattle.fed_queues.specs.Places.{IsThere}
 use Rattle.fed_lends.proofs.Asked.{push_which, set_which}
@@ -43,6 +42,7 @@ use Rattle.whole_worlds.proofs.Commanding.{whole_commanded, OpensToOnce}
 use Rattle.sending_worlds.specs.Sending.{IsSending, HaveLeftTakers}
 use Rattle.sending_worlds.specs.WorldLaws.{CommandKeepsSending}
 use Rattle.usb_base.specs.declared.commands.Cmd.TheVariants as commands
+use Rattle.feeding_worlds.specs.LeftLaws.{OpensNamed}
 use Rattle.feeding_worlds.proofs.Commands.{unmet_by}
 use Rattle.sending_worlds.proofs.SentLeaving.{cancel_keeps_sent}
 use Rattle.sending_worlds.proofs.Each.{takers_stay, sent_of, has_of}
@@ -56,7 +56,7 @@ module _ (d : DriverContent) (line : ℕ) (name : EpName) (why : OfferError) (m 
   refused_held : HoldsPuts d m puts → HoldsPuts f m now
   refused_held held = record { each = λ t y there put kept. held.each t y there put kept ∙ sym (keeps t (slice_get_within d.transfers t y there)) }
 
-  refused_owes : TakesTurns d → HoldsPuts d m puts → Owes d m puts reported → Owes f m now reported
+  refused_owes : AsynchronousTakesTurns d → HoldsPuts d m puts → Owes d m puts reported → Owes f m now reported
   refused_owes turns held owes =
       alike_owes d f m m puts now reported turns (record { endpoints = refl; transfers = refl; notes = refl }) (λ x meets. record { linked = meets.linked; kept = meets.kept }) (λ x is. is) keeps held (refused_held held) owes
 
@@ -84,29 +84,43 @@ refused_sending fixed takes member x s puts now w line name why keeps whole left
 none_some : {X : Type 0} (x : X) → ◌≡◌ {A = Option X} None (Some x) → ⊥
 none_some x is = cc
 
+-- by which no endpoint leaves
+abbrev IsNoCancel : Cmd → Type 0
+IsNoCancel (commands.Cancel name) = ⊥
+IsNoCancel _ = Unit {0}
+
+-- it opens an endpoint, or is a get, a put or a request of one
+comes_to : (d : DriverContent) (m : Mem) (o : Offered) (cmd : Cmd) → IsNoCancel cmd → AcceptsAsynchronous d m o cmd → Opens d m o ⊎ Transfers d m o
+comes_to d m o (commands.OpenEp desc) kept k = inl k.opens
+comes_to d m o (commands.Get name len by) kept k = inr k.transfers
+comes_to d m o (commands.Put name bytes by) kept k = inr k.transfers
+comes_to d m o (commands.Control name setup bytes) kept k = inr k.transfers
+comes_to d m o (commands.Iso name count len seed) kept k = absurd k
+comes_to d m o (commands.Cancel name) kept k = absurd kept
+
 -- an endpoint that is opened or asked goes on
-accepted_ended : (d : DriverContent) (m : Mem) (o : Offered) (parts : StructureSets) → IsAccepted d m o → EndedAreStopped d parts → EndedAreStopped o.driver parts
+accepted_ended : (d : DriverContent) (m : Mem) (o : Offered) (parts : StructureSets) → Opens d m o ⊎ Transfers d m o → EndedAreStopped d parts → EndedAreStopped o.driver parts
 accepted_ended d m o parts (inl opened) ended e z cause here kept sends over =
-    let why : Opens d m o = opened.opens in
+    let why : Opens d m o = opened in
     let new : Endpoint = new_endpoint why.desc (get_or (new_runs d why.holding_after) 0 0) (get_or (new_runs d why.holding_after) 1 0) in
     ⊎_elim (λ (was : slice_get d.endpoints e ≡ Some z). ended e z cause was kept sends over)
     (λ (own : (e ≡ length d.endpoints) × (z ≡ new)). absurd (none_some cause (ap (λ (y : Endpoint). y.ended) (sym own.1) ∙ (told_some z cause over).ended)))
     (push_which d.endpoints new e z (ap (λ (g : Offered). slice_get g.driver.endpoints e) (sym why.is) ∙ here))
 accepted_ended d m o parts (inr asked) ended e z cause here kept sends over =
-    let why : Transfers d m o = asked.transfers in
+    let why : Transfers d m o = asked in
     ⊎_elim (λ (own : (e ≡ why.number) × (z ≡ _)). absurd (none_some cause (sym why.goes_on ∙ ap (λ (y : Endpoint). y.ended) (sym own.1) ∙ (told_some z cause over).ended)))
     (λ (other : (e ≢ why.number) × (slice_get d.endpoints e ≡ Some z)). ended e z cause other.1 kept sends over)
     (set_which d.endpoints why.number e why.endpoint _ z why.here (ap (λ (g : Offered). slice_get g.driver.endpoints e) (sym why.is) ∙ here))
 
-module _ (fixed : Fixed) (takes : ℕ → ℕ → Bool) (member : ℕ → Bool) (x : Streams) (s : Standing) (puts : ℕ → List ℕ) (w : World) (cmd : Cmd) (o : Offered) (k : IsSending fixed takes member x s puts w) (only : OpensBulk cmd) (offer : offered w.driver w.memory cmd ≡ Ok o) where
+module _ (fixed : Fixed) (takes : ℕ → ℕ → Bool) (member : ℕ → Bool) (x : Streams) (s : Standing) (puts : ℕ → List ℕ) (w : World) (cmd : Cmd) (o : Offered) (k : IsSending fixed takes member x s puts w) (kept : IsNoCancel cmd) (only : OpensAsynchronous cmd) (offer : offered w.driver w.memory cmd ≡ Ok o) where
   abbrev d : DriverContent
   d = w.driver
 
   abbrev now : ℕ → List ℕ
   now = puts_then w.driver cmd puts
 
-  accepted : IsAccepted w.driver w.memory o
-  accepted = command_received d w.memory cmd o k.whole.feeding.turns.bulk only offer
+  accepted : Opens w.driver w.memory o ⊎ Transfers w.driver w.memory o
+  accepted = comes_to d w.memory o cmd kept (command_accepts d w.memory cmd o k.whole.feeding.turns.asynchronous only offer)
 
   sent_then : SentStand o.driver s.order s.out s.hand s.parts
   sent_then = accepted_sends d w.memory o s.hand s.parts s.order s.out accepted k.sent
@@ -128,20 +142,20 @@ module _ (fixed : Fixed) (takes : ℕ → ℕ → Bool) (member : ℕ → Bool) 
       command_owes d w.memory cmd o puts now s.reported only offer sound.owners sound.stands feeding.turns (then_before d cmd puts) k.held still k.owes
 
   begin_then : TakenBegin taker_of o.driver now (wired fixed w)
-  begin_then = command_taken taker_of d w.memory cmd o puts now (wired fixed w) k.whole.feeding.turns (opens_or_cancels cmd only) offer (then_before d cmd puts) k.begin
+  begin_then = command_taken taker_of d w.memory cmd o puts now (wired fixed w) k.whole.feeding.turns only offer (then_before d cmd puts) k.begin
 
-accepted_sending : (fixed : Fixed) (takes : ℕ → ℕ → Bool) (member : ℕ → Bool) (x : Streams) (s : Standing) (puts : ℕ → List ℕ) (w : World) (line : ℕ) (name : EpName) (cmd : Cmd) (o : Offered) → OpensBulk cmd → IsByteCommand cmd → IsOffered w.driver.room cmd
+accepted_sending : (fixed : Fixed) (takes : ℕ → ℕ → Bool) (member : ℕ → Bool) (x : Streams) (s : Standing) (puts : ℕ → List ℕ) (w : World) (line : ℕ) (name : EpName) (cmd : Cmd) (o : Offered) → IsNoCancel cmd → OpensAsynchronous cmd → IsByteCommand cmd → IsOffered w.driver.room cmd
     → offered w.driver w.memory cmd ≡ Ok o → IsWhole fixed takes member x s (commanded_by w line name (Ok o)) → HaveLeftTakers fixed (commanded_by w line name (Ok o)) → IsSending fixed takes member x s puts w
     → IsSending fixed takes member x s (puts_then w.driver cmd puts) (commanded_by w line name (Ok o))
-accepted_sending fixed takes member x s puts w line name cmd o only bytes room offer whole left k =
-    let held = held_then fixed takes member x s puts w cmd o k only offer room bytes in
+accepted_sending fixed takes member x s puts w line name cmd o kept only bytes room offer whole left k =
+    let held = held_then fixed takes member x s puts w cmd o k kept only offer room bytes in
     record {
       whole = whole;
-      sent = sent_then fixed takes member x s puts w cmd o k only offer;
-      ended = ended_then fixed takes member x s puts w cmd o k only offer;
+      sent = sent_then fixed takes member x s puts w cmd o k kept only offer;
+      ended = ended_then fixed takes member x s puts w cmd o k kept only offer;
       held = held;
-      owes = owes_then fixed takes member x s puts w cmd o k only offer held;
-      begin = begin_then fixed takes member x s puts w cmd o k only offer;
+      owes = owes_then fixed takes member x s puts w cmd o k kept only offer held;
+      begin = begin_then fixed takes member x s puts w cmd o k kept only offer;
       left_takers = left;
     }
 
@@ -151,20 +165,20 @@ same_wire : (fixed : Fixed) (w : World) (line : ℕ) (name : EpName) (r : Result
 same_wire fixed w line name (Ok o) = refl
 same_wire fixed w line name (Err why) = refl
 
-left_by : (fixed : Fixed) (takes : ℕ → ℕ → Bool) (member : ℕ → Bool) (x : Streams) (s : Standing) (puts : ℕ → List ℕ) (w : World) (line : ℕ) (cmd : Cmd) (r : Result Offered OfferError) → OpensOrCancelsBulk cmd
+left_by : (fixed : Fixed) (takes : ℕ → ℕ → Bool) (member : ℕ → Bool) (x : Streams) (s : Standing) (puts : ℕ → List ℕ) (w : World) (line : ℕ) (cmd : Cmd) (r : Result Offered OfferError) → OpensAsynchronous cmd
     → offered w.driver w.memory cmd ≡ r → IsSending fixed takes member x s puts w → HaveLeftTakers fixed (commanded_by w line (name_in cmd) r)
 left_by fixed takes member x s puts w line cmd r only is k =
-    takers_stay fixed takes member x s puts w k (commanded_by w line (name_in cmd) r) (unmet_by w line cmd r only k.whole.feeding.turns.bulk k.whole.feeding.turns is)
+    takers_stay fixed takes member x s puts w k (commanded_by w line (name_in cmd) r) (unmet_by w line cmd r only k.whole.feeding.turns is)
     (same_wire fixed w line (name_in cmd) r)
 
-by_offer : (fixed : Fixed) (takes : ℕ → ℕ → Bool) (member : ℕ → Bool) (x : Streams) (s : Standing) (puts : ℕ → List ℕ) (w : World) (line : ℕ) (cmd : Cmd) (r : Result Offered OfferError) → OpensBulk cmd → IsByteCommand cmd → IsOffered w.driver.room cmd
+by_offer : (fixed : Fixed) (takes : ℕ → ℕ → Bool) (member : ℕ → Bool) (x : Streams) (s : Standing) (puts : ℕ → List ℕ) (w : World) (line : ℕ) (cmd : Cmd) (r : Result Offered OfferError) → IsNoCancel cmd → OpensAsynchronous cmd → IsByteCommand cmd → IsOffered w.driver.room cmd
     → offered w.driver w.memory cmd ≡ r → IsWhole fixed takes member x s (commanded_by w line (name_in cmd) r) → IsSending fixed takes member x s puts w
     → IsSending fixed takes member x s (puts_then w.driver cmd puts) (commanded_by w line (name_in cmd) r)
-by_offer fixed takes member x s puts w line cmd (Err why) only bytes room is whole k =
+by_offer fixed takes member x s puts w line cmd (Err why) kept only bytes room is whole k =
     refused_sending fixed takes member x s puts (puts_then w.driver cmd puts) w line (name_in cmd) why (then_before w.driver cmd puts) whole
-    (left_by fixed takes member x s puts w line cmd (Err why) (opens_or_cancels cmd only) is k) k
-by_offer fixed takes member x s puts w line cmd (Ok o) only bytes room is whole k =
-    accepted_sending fixed takes member x s puts w line (name_in cmd) cmd o only bytes room is whole (left_by fixed takes member x s puts w line cmd (Ok o) (opens_or_cancels cmd only) is k) k
+    (left_by fixed takes member x s puts w line cmd (Err why) only is k) k
+by_offer fixed takes member x s puts w line cmd (Ok o) kept only bytes room is whole k =
+    accepted_sending fixed takes member x s puts w line (name_in cmd) cmd o kept only bytes room is whole (left_by fixed takes member x s puts w line cmd (Ok o) only is k) k
 
 -- ---- a cancel
 
@@ -185,25 +199,25 @@ cancel_sending fixed takes member x s puts w line name room whole k =
 
 -- ---- each command
 
-by_kind : (cmd : Cmd) → OpensOrCancelsBulk cmd → OpensBulk cmd ⊎ ((name : EpName) × (cmd ≡ commands.Cancel name))
-by_kind (commands.OpenEp x) only = inl only
-by_kind (commands.Get name len by) only = inl tt
-by_kind (commands.Put name bytes by) only = inl tt
-by_kind (commands.Control name setup bytes) only = inl tt
-by_kind (commands.Iso name count len seed) only = inl tt
-by_kind (commands.Cancel name) only = inr (name, refl)
+by_kind : (cmd : Cmd) → IsNoCancel cmd ⊎ ((name : EpName) × (cmd ≡ commands.Cancel name))
+by_kind (commands.OpenEp x) = inl tt
+by_kind (commands.Get name len by) = inl tt
+by_kind (commands.Put name bytes by) = inl tt
+by_kind (commands.Control name setup bytes) = inl tt
+by_kind (commands.Iso name count len seed) = inl tt
+by_kind (commands.Cancel name) = inr (name, refl)
 
-pub sending_commanded : (fixed : Fixed) (takes : ℕ → ℕ → Bool) (member : ℕ → Bool) (x : Streams) (s : Standing) (puts : ℕ → List ℕ) (w : World) (line : ℕ) (cmd : Cmd) → OpensOrCancelsBulk cmd
-    → OpensToOnce x.stream takes w cmd → OpensNumbered cmd → IsByteCommand cmd → IsOffered w.driver.room cmd → IsSending fixed takes member x s puts w
+pub sending_commanded : (fixed : Fixed) (takes : ℕ → ℕ → Bool) (member : ℕ → Bool) (x : Streams) (s : Standing) (puts : ℕ → List ℕ) (w : World) (line : ℕ) (cmd : Cmd) → OpensAsynchronous cmd
+    → OpensToOnce x.stream takes w cmd → OpensNumbered cmd → OpensNamed cmd → IsByteCommand cmd → IsOffered w.driver.room cmd → IsSending fixed takes member x s puts w
     → IsSending fixed takes member x s (puts_then w.driver cmd puts) (commanded w line cmd)
-sending_commanded fixed takes member x s puts w line cmd only to fits bytes room k =
-    let whole : IsWhole fixed takes member x s (commanded w line cmd) = whole_commanded fixed takes member x s w line cmd only to fits room k.whole in
-    ⊎_elim (λ (opens : OpensBulk cmd). by_offer fixed takes member x s puts w line cmd (offered w.driver w.memory cmd) opens bytes room refl whole k)
+sending_commanded fixed takes member x s puts w line cmd only to fits named bytes room k =
+    let whole : IsWhole fixed takes member x s (commanded w line cmd) = whole_commanded fixed takes member x s w line cmd only to fits named room k.whole in
+    ⊎_elim (λ (kept : IsNoCancel cmd). by_offer fixed takes member x s puts w line cmd (offered w.driver w.memory cmd) kept only bytes room refl whole k)
     (λ (cancels : (name : EpName) × (cmd ≡ commands.Cancel name)).
     subst (λ (c : Cmd). IsSending fixed takes member x s (puts_then w.driver c puts) (commanded w line c)) (sym cancels.1)
     (cancel_sending fixed takes member x s puts w line cancels.0 (subst (IsOffered w.driver.room) cancels.1 room) (subst (λ (c : Cmd). IsWhole fixed takes member x s (commanded w line c)) cancels.1 whole) k))
-    (by_kind cmd only)
+    (by_kind cmd)
 
 pub command_sending : CommandKeepsSending
-command_sending fixed takes member x s puts w line cmd only to fits bytes room k =
-    has_of fixed takes member x s (puts_then w.driver cmd puts) (commanded w line cmd) (sending_commanded fixed takes member x s puts w line cmd only to fits bytes room k)
+command_sending fixed takes member x s puts w line cmd only to fits named bytes room k =
+    has_of fixed takes member x s (puts_then w.driver cmd puts) (commanded w line cmd) (sending_commanded fixed takes member x s puts w line cmd only to fits named bytes room k)

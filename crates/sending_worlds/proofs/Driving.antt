@@ -10,6 +10,7 @@ use Rattle.sending_worlds.proofs.OpenLending.{open_lend_sending}
 use Rattle.sending_worlds.proofs.Linking.{open_link_sending}
 use Rattle.sending_worlds.proofs.Harvesting.{harvest_sending}
 use Rattle.sending_worlds.proofs.Releasing.{release_sending}
+use Rattle.sending_worlds.proofs.Mending.{mend_sending}
 use Rattle.sending_worlds.proofs.Leaving.{unlink_sending, clear_sending, endpoint_release_sending}
 
 pub driver_sending : DriverKeepsSending
@@ -22,6 +23,7 @@ driver_sending fixed takes member x s puts w k =
       open_lend = λ ready. open_lend_sending fixed takes member x s puts w ready k;
       open_link = λ lent. open_link_sending fixed takes member x s puts w lent k;
       harvest = λ e t found row. harvest_sending fixed takes member x s puts w e t found row k;
+      mend = λ m row. mend_sending fixed takes member x s puts w m row k;
       release = λ t row. release_sending fixed takes member x s puts w t row k;
       unlink = λ e before link command. unlink_sending fixed takes member x s puts w e before link command k;
       clear = λ row. clear_sending fixed takes member x s puts w row k;

@@ -1,27 +1,32 @@
 -- What each event of the driver leaves of a world with what its driver has still to send: the buffers of puts hold their bytes, what the devices took begins their
 -- puts, the queue heads of endpoints that have ended are halted, and what is still to be sent stands behind what was reported.
-use Rattle.std.proofs.Common.{◌≡◌, ◌≢◌, ℕ, ◌*◌, Bool, false, List, [], slice_get, Option, Some, None, ap, refl, sym, subst, ◌∙◌, inl}
+use Rattle.std.proofs.Common.{◌≡◌, ◌≢◌, ℕ, ◌*◌, Bool, true, false, List, [], slice_get, Option, Some, None, ap, refl, sym, subst, ◌∙◌, inl, arith}
+use Rattle.std.proofs.lemmas.Bool.{false≢true}
 use Rattle.std.proofs.lemmas.Option.{same_Some}
 use Rattle.async_walk.specs.Rows.{place}
 use Rattle.usb_base.specs.declared.endpoints.EpDesc.{EpDesc}
+use Rattle.usb_base.specs.declared.packets.EpKind.{EpKind}
+use Rattle.usb_base.specs.declared.packets.EpKind.TheVariants as kinds
 use Rattle.driver_rows.specs.declared.content.Endpoint.{Endpoint}
 use Rattle.driver_rows.specs.declared.content.Command.{Command}
 use Rattle.driver_rows.specs.declared.content.Command.TheVariants as unfinished
 use Rattle.driver_rows.specs.declared.rows.DriverRow.TheVariants as rows
 use Rattle.driver_rows.specs.declared.rows.Found.{Found}
 use Rattle.driver_rows.specs.Rows.{driver_row}
-use Rattle.driver_rows.specs.Words.{queue_head}
+use Rattle.driver_rows.specs.Words.{is_control, queue_head}
 use Rattle.run_owners.specs.Due.{IsDue, IsEndpointDue, IsHarvestDue, IsTransferDue}
 use Rattle.driver_rows.specs.declared.rows.DriverRow.{DriverRow}
 use Rattle.run_owners.specs.Kept.{HasOwners}
 use Rattle.run_owners.proofs.Reasons.{each_is_due}
 use Rattle.usb_bus.specs.Bus.{Fixed}
+use Rattle.declared_controls.specs.Names.{IsNameOf}
+use Rattle.report_streams.specs.Streams.{has_stream}
 use Rattle.ring_laws.specs.Told.{Endpoint as Told, endpoint_of}
 use Rattle.ring_laws.specs.OutBus.{Taker}
 use Rattle.scripted_takers.specs.Takers.{taker_of}
 use Rattle.driver_laws.specs.PartOpened.{opening_base}
 use Rattle.driver_laws.specs.Driven.{DrivesRing}
-use Rattle.chained_transfers.specs.Bulk.{receives, comes_in}
+use Rattle.chained_transfers.specs.Bulk.{IsDataWay, receives, comes_in}
 use Rattle.chained_transfers.proofs.Ways.{way_sends, way_goes_out}
 use Rattle.fed_queues.specs.Places.{IsThere, HasHead}
 use Rattle.controlled_streams.specs.Unopened.{IsUnopened}
@@ -30,16 +35,22 @@ use Rattle.bus_world.specs.World.{World, driver_parts, driver_next}
 use Rattle.stream_worlds.specs.Streaming.{Streams, Standing, wired}
 use Rattle.put_laws.specs.HeldPuts.{HoldsPuts}
 use Rattle.put_laws.specs.HeldLaws.{IsReleasedMet}
+use Rattle.put_laws.specs.Sent.{HoldThere}
+use Rattle.put_laws.proofs.Mends.{mend_in_head}
 use Rattle.put_laws.proofs.Rows.{driver_holds}
 use Rattle.put_laws.specs.Owed.{Owes}
 use Rattle.put_laws.specs.OwedTaken.{TakenBegin, EndedAreStopped}
 use Rattle.put_laws.proofs.Driver.{driver_owes}
 use Rattle.put_laws.proofs.TakenRows.{driver_taken}
 use Rattle.put_laws.proofs.TakenStopped.{alike_stopped}
+use Rattle.feeding_worlds.specs.Feeding.{there_of}
 use Rattle.feeding_worlds.specs.Taking.{outs_of}
-use Rattle.feeding_worlds.proofs.Heads.{head_is}
+use Rattle.feeding_worlds.proofs.Told.{there_on, stream_out, data_way}
+use Rattle.feeding_worlds.proofs.Mending.{mend_finds}
+use Rattle.feeding_worlds.proofs.Heads.{head_is, head_on, own_toggle}
 use Rattle.feeding_worlds.proofs.TakingAlike.{out_on}
 use Rattle.whole_worlds.proofs.Returning.{stand}
+use Rattle.whole_worlds.proofs.Fewer.{are_same}
 use Rattle.feeding_worlds.proofs.Unmet.{UnmetStay}
 use Rattle.feeding_worlds.proofs.Rows.{row_unmet}
 use Rattle.sending_worlds.specs.LeavingSent.{IsSent}
@@ -102,6 +113,20 @@ module _ (fixed : Fixed) (takes : ℕ → ℕ → Bool) (member : ℕ → Bool) 
   abbrev pub drives : DrivesRing opening_base member s.parts s.hand (place w.control.walk w.registers w.memory) w.driver
   drives = record { ring = k.whole.feeding.working.streaming.controlled.ring; driven = k.whole.feeding.working.driven }
 
+  -- each OUT endpoint that is there has its queue head among those of bulk endpoints
+  pub there_heads : HoldThere w.driver (there_of w.driver)
+  there_heads e z here there sends = there_on w.driver e z here there (stream_out z.desc (k.whole.feeding.turns.asynchronous.endpoints e z here).asynchronous sends)
+
+  -- .. and another number than 0
+  pub out_number : (e : ℕ) (z : Endpoint) → slice_get w.driver.endpoints e ≡ Some z → receives z.desc.name.way ≡ false → z.desc.name.num ≢ 0
+  out_number e z here sends = by_kind z.desc.kind (stream_out z.desc (k.whole.feeding.turns.asynchronous.endpoints e z here).asynchronous sends) (k.whole.left.named e z here)
+    where
+      by_kind : (kind : EpKind) → has_stream kind ≡ true → IsNameOf kind z.desc.name → z.desc.name.num ≢ 0
+      by_kind kinds.Control on named = absurd (false≢true on)
+      by_kind kinds.Iso on named = absurd (false≢true on)
+      by_kind kinds.Bulk on named = λ none. let least = named.least in absurd (omega (arith, least, none))
+      by_kind kinds.Interrupt on named = λ none. let least = named.least in absurd (omega (arith, least, none))
+
   released_met : IsReleasedMet (driver_parts w)
   released_met t y z row there here =
       let due : IsTransferDue (driver_parts w) t = subst (IsDue (driver_parts w)) row (each_is_due (driver_parts w)) in k.whole.left.owed 0 t y z due.first there here
@@ -109,23 +134,28 @@ module _ (fixed : Fixed) (takes : ℕ → ℕ → Bool) (member : ℕ → Bool) 
   pub held_then : IsOrdinary w → HoldsPuts (driver_next w).driver (driver_next w).memory puts
   held_then o =
       driver_holds opening_base member s.parts s.hand w.control.walk (driver_parts w) s.order s.out puts owners k.whole.feeding.turns drives k.whole.feeding.queues.fed
-      (λ t row. stand fixed takes member x s w t row k.whole) released_met (λ e b link is. absurd (o.no_unlink e b link is)) (λ e row. absurd (o.no_release e row)) k.held
+      (λ t row. stand fixed takes member x s w t row k.whole) released_met (λ e b link is. absurd (o.no_unlink e b link is))
+      (λ m row. mend_in_head (driver_parts w) s.parts s.out (mend_finds fixed member x s w m row k.whole.feeding) m row) (λ e row. absurd (o.no_release e row)) k.held
 
   -- ---- what devices took
 
   -- no other endpoint has the name of the one that is being opened
   pub unopened : (e : ℕ) (z : Endpoint) → slice_get w.driver.endpoints e ≡ Some z → w.driver.command ≡ Some (unfinished.Open z.queue) → receives z.desc.name.way ≡ false
-      → IsUnopened (outs_of member x.streams) x.endpoint z.desc.name.addr z.desc.name.num
+      → IsUnopened (outs_of member x.streams x.endpoint) x.endpoint z.desc.name.addr z.desc.name.num
   unopened e z here opens sends n on addr num =
       let queues = k.whole.feeding.queues in
-      let out = out_on member x.streams n on in
-      let h : HasHead w.driver n = head_is w.driver member n queues.met out.1 in
+      let out = out_on member x.streams x.endpoint n on in
+      let h : HasHead w.driver n = head_is w.driver member x.endpoint n queues.met out.1 in
       let told = queues.streams_are.each h.number h.endpoint h.here h.met in
       let is : x.endpoint n ≡ endpoint_of (queue_head h.endpoint.desc 0 h.endpoint.dummy) = ap x.endpoint h.at ∙ told.1 in
       let too : comes_in h.endpoint.desc.name.way ≡ false = sym told.0 ∙ ap x.streams (sym h.at) ∙ out.0 in
+      -- a control endpoint takes the toggle from each qTD
+      let off : is_control h.endpoint.desc.kind ≡ false =
+      sym (own_toggle w.driver x.streams x.endpoint h.number h.endpoint queues.streams_are h.here h.met) ∙ ap (λ (i : ℕ). (x.endpoint i).dtc) (sym h.at) ∙ (head_on member x.endpoint n out.1).2 in
+      let one_way : IsDataWay h.endpoint.desc.name.way = data_way h.endpoint.desc (k.whole.feeding.turns.asynchronous.endpoints h.number h.endpoint h.here).asynchronous off in
       let number : h.number ≡ e =
       k.whole.names h.number e h.endpoint z h.here here (sym (ap (λ (y : Told). y.addr) is) ∙ addr) (sym (ap (λ (y : Told). y.ep) is) ∙ num)
-      (way_goes_out h.endpoint.desc.name.way (k.whole.feeding.turns.bulk.endpoints h.number h.endpoint h.here).bulk.way too ∙ sym (way_sends z.desc.name.way sends)) in
+      (way_goes_out h.endpoint.desc.name.way one_way too ∙ sym (way_sends z.desc.name.way sends)) in
       let same : h.endpoint ≡ z = same_Some h.endpoint z (sym h.here ∙ ap (slice_get w.driver.endpoints) number ∙ here) in
       h.met.there.linked (opens ∙ ap (λ (y : Endpoint). Some (unfinished.Open y.queue)) (sym same))
 
@@ -186,4 +216,6 @@ has_of fixed takes member x s puts w k = record {
   sending = k;
   ins_stay = λ addr ep on. inl on;
   outs_stay = λ addr ep on. inl on;
+  ins_were = are_same x.stream;
+  outs_were = are_same takes;
 }

@@ -1,5 +1,5 @@
 -- The driver of a world harvests a qTD: its bytes are reported, and still to be sent no more.
-use Rattle.std.proofs.Common.{◌≡◌, ◌≢◌, ℕ, ◌*◌, Bool, false, List, [], ◌++◌, slice_get, Option, Some, None, ap, refl, sym, subst, ◌∙◌}
+use Rattle.std.proofs.Common.{◌≡◌, ◌≢◌, ℕ, ◌*◌, Bool, true, false, List, [], ◌++◌, slice_get, Option, Some, None, ap, refl, sym, subst, ◌∙◌}
 use Rattle.std.specs.List.{concat}
 use Rattle.usb_bus.specs.Bus.{Fixed}
 use Rattle.word_mem.specs.Memory.{Mem}
@@ -20,12 +20,12 @@ use Rattle.run_owners.specs.Kept.{HasOwners}
 use Rattle.run_owners.specs.Owners.{note_in}
 use Rattle.chained_transfers.specs.Bulk.{receives}
 use Rattle.chained_transfers.specs.Out.{out_now}
+use Rattle.report_streams.specs.Streams.{has_stream}
 use Rattle.harvest_laws.specs.Outs.{IsOutEarlier}
 use Rattle.controlled_streams.specs.Reported.{IsReported}
 use Rattle.fed_queues.specs.Places.{IsThere, IsMet}
-use Rattle.fed_queues.proofs.Places.{going_met}
+use Rattle.fed_queues.proofs.Places.{stands_met}
 use Rattle.harvest_laws.specs.Told.{ToldStands}
-use Rattle.chained_transfers.proofs.BulkAndControl.{bulk_takes_turns}
 use Rattle.harvest_laws.proofs.ReadRows.{not_active, wait_told}
 use Rattle.bus_world.specs.World.{World, driver_parts, driver_next}
 use Rattle.stream_worlds.specs.Streaming.{Streams, Standing}
@@ -43,6 +43,7 @@ use Rattle.put_laws.proofs.TakenStopped.{harvest_stops}
 use Rattle.feeding_worlds.specs.Feeding.{IsFeeding}
 use Rattle.feeding_worlds.specs.HarvestFeeds.{HarvestLeaves}
 use Rattle.feeding_worlds.proofs.FeedingPassed.{passed_untold}
+use Rattle.feeding_worlds.proofs.Told.{stream_out}
 use Rattle.feeding_worlds.proofs.Heads.{queue_reported}
 use Rattle.whole_worlds.proofs.Leaving.{due, fronts, leaves, whole_harvested}
 use Rattle.sending_worlds.specs.Sending.{IsSending, HasSending}
@@ -53,11 +54,11 @@ no_open : (b : ℕ) → ◌≡◌ {A = Option Command} None (Some (unfinished.Op
 no_open b same = cc
 
 -- what is owed where the same is reported
-same_reports : (d : DriverContent) (m : Mem) (puts reported told : ℕ → List ℕ) → ((e : ℕ) (x : Endpoint) → slice_get d.endpoints e ≡ Some x → IsThere d x → told (32 * x.queue) ≡ reported (32 * x.queue)) → Owes d m puts reported → Owes d m puts told
+same_reports : (d : DriverContent) (m : Mem) (puts reported told : ℕ → List ℕ) → ((e : ℕ) (x : Endpoint) → slice_get d.endpoints e ≡ Some x → receives x.desc.name.way ≡ false → IsThere d x → told (32 * x.queue) ≡ reported (32 * x.queue)) → Owes d m puts reported → Owes d m puts told
 same_reports d m puts reported told same owes = record {
-  going = λ e x here meets sends goes. ap (λ (bs : List ℕ). bs ++ rest_of d m e) (same e x here meets) ∙ owes.going e x here meets sends goes;
+  going = λ e x here meets sends goes. ap (λ (bs : List ℕ). bs ++ rest_of d m e) (same e x here sends meets) ∙ owes.going e x here meets sends goes;
   over = λ e x cause here meets sends ends.
-      prefix_of (told (32 * x.queue)) (reported (32 * x.queue)) (concat (puts_of d puts e)) (same e x here meets) (owes.over e x cause here meets sends ends);
+      prefix_of (told (32 * x.queue)) (reported (32 * x.queue)) (concat (puts_of d puts e)) (same e x here sends meets) (owes.over e x cause here meets sends ends);
   opening = owes.opening;
   last = owes.last;
 }
@@ -99,7 +100,7 @@ module _ (fixed : Fixed) (takes : ℕ → ℕ → Bool) (member : ℕ → Bool) 
 
   -- no command is unfinished, and its endpoint goes on
   its_met : IsMet w.driver e read.endpoint
-  its_met = going_met w.driver e read.endpoint (f.turns.bulk.endpoints e read.endpoint read.here) read.goes_on (λ is. no_open read.endpoint.queue (sym read.idle ∙ is))
+  its_met = stands_met w.driver e read.endpoint (f.turns.asynchronous.endpoints e read.endpoint read.here) read.goes_on (λ is. no_open read.endpoint.queue (sym read.idle ∙ is))
 
   on_it : IsMember member (32 * read.endpoint.queue) (s.parts (32 * read.endpoint.queue))
   on_it = f.working.streaming.controlled.ring.members (32 * read.endpoint.queue) (f.queues.met.each e read.endpoint read.here its_met)
@@ -124,15 +125,16 @@ module _ (fixed : Fixed) (takes : ℕ → ℕ → Bool) (member : ℕ → Bool) 
   untold a z earlier of_it =
       passed_untold w.driver s.parts s.hand s.order s.out e t read.endpoint a z read.idle f.turns.turns f.queues.out_are (fronts fixed takes member x s w e t found row k.whole) read.here its_met read.goes_on read.next earlier of_it
 
-  right_now : IsReported (s.order (32 * read.endpoint.queue)) (out_now w.driver e) s.hand s.parts (32 * read.endpoint.queue) (s.acc (32 * read.endpoint.queue)) (s.reported (32 * read.endpoint.queue))
-  right_now =
+  right_now : has_stream read.endpoint.desc.kind ≡ true
+      → IsReported (s.order (32 * read.endpoint.queue)) (out_now w.driver e) s.hand s.parts (32 * read.endpoint.queue) (s.acc (32 * read.endpoint.queue)) (s.reported (32 * read.endpoint.queue))
+  right_now streams =
       subst (λ (out : List ℕ). IsReported (s.order (32 * read.endpoint.queue)) out s.hand s.parts (32 * read.endpoint.queue) (s.acc (32 * read.endpoint.queue)) (s.reported (32 * read.endpoint.queue)))
-      (f.queues.out_are e read.endpoint read.here its_met.there) (queue_reported fixed member x s w f e read.endpoint read.here its_met.there)
+      (f.queues.out_are e read.endpoint read.here its_met.there) (queue_reported fixed member x s w f e read.endpoint read.here its_met.there streams)
 
   moved_whole : found ≢ founds.Active → receives read.endpoint.desc.name.way ≡ false → IsMovedWhole w.driver w.memory read.transfer
   moved_whole differs sends going =
       puts_leave_none (driver_parts w) e t found s.hand s.parts s.order s.out (record { due = read; turns = f.turns; tells = tells; fed = f.queues.fed; sends = sends; sent = k.sent })
-      (not_active (driver_parts w) e t found read owners (bulk_takes_turns w.driver f.turns) differs) going
+      (not_active (driver_parts w) e t found read owners f.turns differs) going
 
   told_after : ToldStands new s.hand s.parts left.reported
   told_after = subst (λ (r : DriverRow). ToldStands (after_driver_row r (driver_parts w)).driver s.hand s.parts left.reported) row left.told
@@ -140,7 +142,7 @@ module _ (fixed : Fixed) (takes : ℕ → ℕ → Bool) (member : ℕ → Bool) 
   pays : found ≢ founds.Active → Owes new w.memory puts left.reported
   pays differs =
       harvest_owes member (s.order (32 * read.endpoint.queue)) (driver_parts w) s.parts s.hand e t found (s.acc (32 * read.endpoint.queue)) puts s.reported left.reported read differs owners f.turns f.queues.fed tells on_it
-      untold right_now (moved_whole differs) k.whole.told told_after k.owes
+      (λ streams. untold) right_now (moved_whole differs) k.whole.told told_after k.owes
 
   -- where it isn't done the report is as it was
   waits : found ≡ founds.Active → Owes (driver_next w).driver w.memory puts left.reported
@@ -151,7 +153,9 @@ module _ (fixed : Fixed) (takes : ℕ → ℕ → Bool) (member : ℕ → Bool) 
       (subst (λ (z : Found). ToldStands (after_driver_row (rows.Harvest e t z) (driver_parts w)).driver s.hand s.parts s.reported) (sym is)
       (wait_told (driver_parts w) s.parts s.hand e t s.reported still k.whole.told)) in
       same_reports (driver_next w).driver w.memory puts s.reported left.reported
-      (told_once (driver_next w).driver s.hand s.parts left.reported s.reported left.feeding.turns.turns left.told told)
+      (λ i z here sends there.
+      told_once (driver_next w).driver s.hand s.parts left.reported s.reported left.feeding.turns.turns left.told told i z here
+      (stream_out z.desc (left.feeding.turns.asynchronous.endpoints i z here).asynchronous sends) there)
       (to_next (λ (d : DriverContent). Owes d w.memory puts s.reported)
       (subst (λ (z : Found). Owes (after_driver_row (rows.Harvest e t z) (driver_parts w)).driver w.memory puts s.reported) (sym is) (wait_owes (driver_parts w) e t puts s.reported still k.owes)))
 

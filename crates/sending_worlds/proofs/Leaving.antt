@@ -20,6 +20,8 @@ use Rattle.sending_worlds.proofs.SentReleasing.{endpoint_release_keeps_sent}
 use Rattle.put_laws.proofs.Stays.{desc_at, Stays, event_stays}
 use Rattle.put_laws.proofs.Mapped.{mapped, was_mapped}
 use Rattle.whole_worlds.proofs.LeavingUnlinked.{unlink_whole}
+use Rattle.narrowed_streams.specs.Narrowed.{left_names}
+use Rattle.whole_worlds.proofs.Fewer.{kept_of}
 use Rattle.whole_worlds.proofs.LeavingCleared.{narrow_of, stays_open, clear_whole}
 use Rattle.whole_worlds.proofs.LeavingReleased.{leaver, endpoint_release_whole}
 use Rattle.sending_worlds.specs.Sending.{IsSending, HaveLeftTakers}
@@ -78,6 +80,8 @@ clear_sending fixed takes member x s puts w row k =
       };
       ins_stay = stays_open new true x.stream;
       outs_stay = stays_open new false takes;
+      ins_were = kept_of x.stream (left_names new true);
+      outs_were = kept_of takes (left_names new false);
     }
 
 -- ---- the release

@@ -14,11 +14,10 @@ use Rattle.put_laws.specs.OwedTaken.{EndedAreStopped}
 use Rattle.put_laws.proofs.TakenStopped.{spared_stopped}
 use Rattle.feeding_worlds.specs.Feeding.{there_of, IsFeeding}
 use Rattle.feeding_worlds.specs.LendFeeds.{LendsTransfer}
-use Rattle.feeding_worlds.proofs.Told.{there_on}
 use Rattle.whole_worlds.proofs.Lending.{lends, after_lend, whole_lent}
 use Rattle.sending_worlds.specs.Sending.{IsSending}
 use Rattle.sending_worlds.specs.WorldLaws.{LendKeepsSending}
-use Rattle.sending_worlds.proofs.Each.{HarvestsNone, busy_harvests_none, held_then, begin_then, ended_alike, owes_same, IsOrdinary, publish_ordinary, left_then, has_of}
+use Rattle.sending_worlds.proofs.Each.{there_heads, HarvestsNone, busy_harvests_none, held_then, begin_then, ended_alike, owes_same, IsOrdinary, publish_ordinary, left_then, has_of}
 
 no_open : (b c : ℕ) (words : List ℕ) → ◌≡◌ {A = Option Command} (Some (unfinished.Publish b words)) (Some (unfinished.Open c)) → ⊥
 no_open b c words same = cc
@@ -37,7 +36,7 @@ module _ (fixed : Fixed) (takes : ℕ → ℕ → Bool) (member : ℕ → Bool) 
   sent_then =
       subst (λ (d : DriverContent). SentStand d g.order g.out s.hand g.parts) (sym g.driver_is)
       (lend_row_sends w.driver w.memory b words member (there_of w.driver) s.parts g.parts s.order g.order s.out g.out s.hand s.acc s.reported get g.behind f.working.streaming.controlled.ring.members f.queues.met f.counted
-      (there_on w.driver) k.sent)
+      (there_heads fixed takes member x s puts w k) k.sent)
 
   ordinary : IsOrdinary w
   ordinary = publish_ordinary w b words get.command

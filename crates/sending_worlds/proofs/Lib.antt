@@ -17,6 +17,7 @@ pub mod OpenLending
 pub mod Linking
 pub mod Harvesting
 pub mod Releasing
+pub mod Mending
 pub mod Leaving
 pub mod Driving
 pub mod Reporting

@@ -12,7 +12,7 @@ use Rattle.bus_world.specs.World.{World, driver_next, controller_next, commanded
 use Rattle.bus_world.specs.Budgets.{moment}
 use Rattle.stream_worlds.specs.Streaming.{Streams}
 use Rattle.taken_reports.proofs.Seating.{moment_seated}
-use Rattle.chained_transfers.specs.Bulk.{BulkOnly}
+use Rattle.chained_transfers.specs.Asynchronous.{AsynchronousOnly}
 use Rattle.receiving_runs.specs.Runs.{KindOfLine}
 use Rattle.stream_worlds.specs.Takers.{takes_of}
 use Rattle.put_laws.specs.TakenPuts.{puts_at}
@@ -22,7 +22,7 @@ use Rattle.put_laws.proofs.Ends.{moment_streams}
 use Rattle.put_laws.proofs.Rising.{spelled_rise}
 use Rattle.sending_worlds.proofs.Sending.{report_sent, report_right}
 use Rattle.feeding_worlds.specs.Feeding.{streams_of}
-use Rattle.whole_worlds.proofs.Moments.{CanBe, script_can, spelled_bulk, opens_still}
+use Rattle.whole_worlds.proofs.Moments.{CanBe, script_can, spelled_asynchronous, opens_still}
 use Rattle.whole_worlds.proofs.Running.{texts_right, texts_taken}
 use Rattle.whole_worlds.proofs.PlacedRunning.{texts_run_in_place}
 use Rattle.whole_worlds.proofs.NeverRefused.{never_refused}
@@ -36,6 +36,7 @@ use Rattle.sending_worlds.proofs.Driving.{driver_sending}
 use Rattle.sending_worlds.proofs.Walking.{texts_walk}
 use Rattle.sending_worlds.proofs.Reporting.{takes_puts, have_takers}
 use Rattle.whole_worlds.specs.Whole.{HasWhole}
+use Rattle.whole_worlds.proofs.Fewer.{are_fewer}
 use Rattle.whole_worlds.proofs.Naming.{KeepsNames, event_named, command_named, stays_on}
 use Rattle.put_laws.specs.HeldPuts.{puts_then}
 
@@ -73,6 +74,8 @@ whole_in s w puts h = record {
   whole = h.sending.whole;
   ins_stay = h.ins_stay;
   outs_stay = h.outs_stay;
+  ins_were = h.ins_were;
+  outs_were = h.outs_were;
 }
 
 -- the streams that are open after a step, of those that the script has
@@ -87,6 +90,8 @@ goes_on s w v puts now h keeps n = record {
   sending = n.sending;
   ins_stay = stays_on w.driver v.driver true (streams_of s).stream h.ins n.ins keeps h.ins_stay n.ins_stay;
   outs_stay = stays_on w.driver v.driver false (takes_of s) h.outs n.outs keeps h.outs_stay n.outs_stay;
+  ins_were = are_fewer (streams_of s).stream h.ins n.ins h.ins_were n.ins_were;
+  outs_were = are_fewer (takes_of s) h.outs n.outs h.outs_were n.outs_were;
 }
 
 is_kept : (s : Script) → IsKeptWithPuts (fixed_of s) (CanBeSent (streams_of s).stream (takes_of s)) (Sends s)
@@ -94,15 +99,15 @@ is_kept s = record {
   driver = λ w puts h. goes_on s w (driver_next w) puts puts h (event_named w) (driver_sending (fixed_of s) h.outs h.member (with_streams s w puts h) h.standing puts w h.sending);
   controller = λ w puts h. goes_on s w (controller_next (fixed_of s) w) puts puts h (λ way addr ep k. k) (controller_sending (fixed_of s) h.outs h.member (with_streams s w puts h) h.standing puts w h.sending);
   command = λ w line cmd puts can offered h. goes_on s w (commanded w line cmd) puts (puts_then w.driver cmd puts) h (command_named w line cmd h.sending.whole.feeding.turns can.0.0)
-      (command_sending (fixed_of s) h.outs h.member (with_streams s w puts h) h.standing puts w line cmd can.0.0 (λ o offer. opens_still s w (whole_in s w puts h) cmd o can.0.0 can.0.1 offer) can.0.2 can.1 offered h.sending);
+      (command_sending (fixed_of s) h.outs h.member (with_streams s w puts h) h.standing puts w line cmd can.0.0 (λ o offer. opens_still s w (whole_in s w puts h) cmd o can.0.0 can.0.1 offer) can.0.2 can.0.3 can.1 offered h.sending);
 }
 
 pub stay_sending : ScriptsStaySending
 stay_sending s is k =
     holds_with_puts (CanBeSent (streams_of s).stream (takes_of s)) (Sends s) s is.fits (lines_sent s s.lines (script_can s is) is.bytes.lines) (new_world_sends s is.fits is.bytes) (is_kept s) k
 
-sends_at : (text : List ℕ) (s : Script) → Spells text s → BulkOnly s → (k : ℕ) → Sends s (moment s k).world (puts_at s k)
-sends_at text s spelled only k = stay_sending s (spelled_bulk text s spelled only) k
+sends_at : (text : List ℕ) (s : Script) → Spells text s → AsynchronousOnly s → (k : ℕ) → Sends s (moment s k).world (puts_at s k)
+sends_at text s spelled only k = stay_sending s (spelled_asynchronous text s spelled only) k
 
 puts_streams : (text : List ℕ) (s : Script) → Spells text s → (k : ℕ) → StreamsArePuts s (moment s k) (puts_at s k)
 puts_streams text s spelled k = moment_streams s (spelled_rise text s spelled) k
@@ -111,7 +116,7 @@ pub texts_sent : TextsAreSent
 texts_sent text s spelled only k =
     let h = sends_at text s spelled only k in
     let w : World = (moment s k).world in
-    report_sent s (moment s k) (puts_at s k) only (moment_seated text s k spelled) (puts_streams text s spelled k) h.sending.whole.feeding.turns.bulk
+    report_sent s (moment s k) (puts_at s k) only (moment_seated text s k spelled) (puts_streams text s spelled k) h.sending.whole.feeding.turns.asynchronous
     (have_takers (fixed_of s) h.outs h.member (with_streams s w (puts_at s k) h) h.standing (puts_at s k) w h.sending)
     (takes_puts (fixed_of s) h.outs h.member (with_streams s w (puts_at s k) h) h.standing (puts_at s k) w h.sending)
 

@@ -22,7 +22,8 @@ use Rattle.report_streams.specs.Streams.{is_refused, command_in, accepted_in, op
 use Rattle.driver_rows.specs.DriverContent.{opened}
 use Rattle.bus_world.specs.Orders.{OrderedWorld}
 use Rattle.stream_worlds.specs.Streaming.{wired}
-use Rattle.chained_transfers.specs.Bulk.{IsBulk, OpensOrCancelsBulk, BulkLine, BulkOnly, OnlyBulk, receives, comes_in}
+use Rattle.chained_transfers.specs.Bulk.{IsDataWay, receives, comes_in}
+use Rattle.chained_transfers.specs.Asynchronous.{IsAsynchronous, OpensAsynchronous, AsynchronousLine, AsynchronousOnly, OnlyAsynchronous}
 use Rattle.chained_transfers.proofs.Ways.{way_sends, data_comes_in}
 use Rattle.right_reports.specs.WorldReport.{report_of}
 use Rattle.right_reports.specs.Ins.{AreRightInStreams}
@@ -31,6 +32,7 @@ use Rattle.right_reports.proofs.Right.{all_mapped}
 use Rattle.taken_reports.specs.Seats.{HasSeat, OpensItsSeat, OpensSeats, IsSeatedBus}
 use Rattle.taken_reports.specs.Taken.{IsToldTaken, IsTakenStream, AreTakenStreams}
 use Rattle.taken_reports.proofs.Closing.{closing_tells}
+use Rattle.feeding_worlds.proofs.Told.{data_way, stream_out, out_way, control_stream}
 use Rattle.put_laws.specs.TakenPuts.{puts_of, IsOpen}
 use Rattle.put_laws.specs.TakenLaws.{StreamsArePuts}
 use Rattle.sending_worlds.specs.Sent.{IsTakenSent, AreSentStreams}
@@ -68,12 +70,17 @@ all_split Q R P a b (x ∷ xs) gives k on off = by_tests (a x) (b x) refl (λ pa
     by_tests true false is rest passing failing = (gives x k.0 is failing.0, rest passing failing.1)
     by_tests false second is rest passing failing = rest passing failing
 
--- two tests that agree keep the same
-alike_kept : {X : Type 0} (Q : X → Type 0) (a b c : X → Bool) (xs : List X) → ((x : X) → Q x → c x ≡ b x) → AllByRecursion Q xs → filter (λ x. a x && c x) xs ≡ filter (λ x. a x && b x) xs
+-- two tests that agree on those that pass the first one keep the same
+alike_kept : {X : Type 0} (Q : X → Type 0) (a b c : X → Bool) (xs : List X) → ((x : X) → Q x → a x ≡ true → c x ≡ b x) → AllByRecursion Q xs → filter (λ x. a x && c x) xs ≡ filter (λ x. a x && b x) xs
 alike_kept Q a b c [] alike k = refl
-alike_kept {X} Q a b c (x ∷ xs) alike k =
-    ap (λ (t : Bool). if a x && t then x ∷ filter (λ y. a y && c y) xs else filter (λ y. a y && c y) xs) (alike x k.0)
-    ∙ ap (λ (ys : List X). if a x && b x then x ∷ ys else ys) (alike_kept Q a b c xs alike k.1)
+alike_kept {X} Q a b c (x ∷ xs) alike k = by_test (a x) refl (alike_kept Q a b c xs alike k.1)
+  where
+    by_test : (first : Bool) → a x ≡ first → filter (λ y. a y && c y) xs ≡ filter (λ y. a y && b y) xs
+        → (if first && c x then x ∷ filter (λ y. a y && c y) xs else filter (λ y. a y && c y) xs) ≡ (if first && b x then x ∷ filter (λ y. a y && b y) xs else filter (λ y. a y && b y) xs)
+    by_test true is rest =
+        ap (λ (t : Bool). if t then x ∷ filter (λ y. a y && c y) xs else filter (λ y. a y && c y) xs) (alike x k.0 is)
+        ∙ ap (λ (ys : List X). if b x then x ∷ ys else ys) rest
+    by_test false is rest = rest
 
 begins_both : (xs ys zs : List ℕ) → IsPrefix xs ys → IsPrefix ys zs → IsPrefix xs zs
 begins_both xs ys zs h k = (h.0 ++ k.0, sym (append_assoc xs h.0 k.0) ∙ ap (λ (bytes : List ℕ). bytes ++ k.0) h.1 ∙ k.1)
@@ -84,32 +91,32 @@ not_true false e = refl
 
 -- ---- what is opened
 
--- it is a bulk endpoint, and has its seat
+-- it is a bulk or a control endpoint, and where data go one way it has its seat
 abbrev Opens : List Seat → Cmd → Type 0
-Opens seats cmd = OpensOrCancelsBulk cmd × OpensItsSeat seats (lines.Command cmd)
+Opens seats cmd = OpensAsynchronous cmd × OpensItsSeat seats (lines.Command cmd)
 
 abbrev IsSeated : List Seat → EpDesc → Type 0
-IsSeated seats x = IsBulk x × HasSeat seats x
+IsSeated seats x = IsAsynchronous x × (IsDataWay x.name.way → HasSeat seats x)
 
-accepted_by : (seats : List Seat) (b : Bool) (l : Line) (cmd : Cmd) → BulkLine l × OpensItsSeat seats l → (if b then None else command_in l) ≡ Some cmd → Opens seats cmd
+accepted_by : (seats : List Seat) (b : Bool) (l : Line) (cmd : Cmd) → AsynchronousLine l × OpensItsSeat seats l → (if b then None else command_in l) ≡ Some cmd → Opens seats cmd
 accepted_by seats true l cmd k is = absurd cc
 accepted_by seats false (lines.Command c) cmd k is = subst (Opens seats) (same_Some c cmd is) k
 accepted_by seats false (lines.Order event n) cmd k is = absurd cc
 accepted_by seats false (lines.Micro n) cmd k is = absurd cc
 
 opens_by : (seats : List Seat) (cmd : Cmd) (desc : EpDesc) → Opens seats cmd → open_in cmd ≡ Some desc → IsSeated seats desc
-opens_by seats (commands.OpenEp x) desc k is = subst (IsSeated seats) (same_Some x desc is) (k.0, k.1 k.0.way)
+opens_by seats (commands.OpenEp x) desc k is = subst (IsSeated seats) (same_Some x desc is) (k.0, k.1)
 opens_by seats (commands.Get name len by) desc k is = absurd cc
 opens_by seats (commands.Put name bytes by) desc k is = absurd cc
 opens_by seats (commands.Control name setup bytes) desc k is = absurd cc
 opens_by seats (commands.Iso name count len seed) desc k is = absurd cc
 opens_by seats (commands.Cancel name) desc k is = absurd cc
 
-opened_seated : (s : Script) (seats : List Seat) (r : WholeReport) → BulkOnly s → OpensSeats s seats → AllByRecursion (IsSeated seats) (opened_by s r)
+opened_seated : (s : Script) (seats : List Seat) (r : WholeReport) → AsynchronousOnly s → OpensSeats s seats → AllByRecursion (IsSeated seats) (opened_by s r)
 opened_seated s seats r only has =
     all_mapped (Opens seats) (IsSeated seats) open_in (filter_map (accepted_in r) s.lines) (opens_by seats)
-    (all_mapped (λ line. BulkLine line.1 × OpensItsSeat seats line.1) (Opens seats) (accepted_in r) s.lines (λ line cmd both is. accepted_by seats (is_refused r line.0) line.1 cmd both is)
-    (all_both (λ line. BulkLine line.1) (λ line. OpensItsSeat seats line.1) s.lines only has))
+    (all_mapped (λ line. AsynchronousLine line.1 × OpensItsSeat seats line.1) (Opens seats) (accepted_in r) s.lines (λ line cmd both is. accepted_by seats (is_refused r line.0) line.1 cmd both is)
+    (all_both (λ line. AsynchronousLine line.1) (λ line. OpensItsSeat seats line.1) s.lines only has))
 
 -- ---- an OUT endpoint
 
@@ -118,7 +125,7 @@ module _ (s : Script) (p : OrderedWorld) (puts : ℕ → List ℕ) (seated : IsS
   r = report_of (fixed_of s) p.world
 
   -- that the driver has
-  module _ (x : EpDesc) (bulk : IsBulk x) (has : HasSeat (fixed_of s).seats x) (way : x.name.way ≡ Ways.Out) (k : HasNamed p.world.driver.endpoints x.name) (streams : has_stream k.endpoint.desc.kind ≡ true) where
+  module _ (x : EpDesc) (only : IsAsynchronous x) (has : HasSeat (fixed_of s).seats x) (way : x.name.way ≡ Ways.Out) (k : HasNamed p.world.driver.endpoints x.name) (streams : has_stream k.endpoint.desc.kind ≡ true) where
     sends : receives k.endpoint.desc.name.way ≡ false
     sends = ap (λ (n : EpName). receives n.way) k.same ∙ ap receives way
 
@@ -127,7 +134,7 @@ module _ (s : Script) (p : OrderedWorld) (puts : ℕ → List ℕ) (seated : IsS
 
     closes : taken r x.name ≡ Some its.taker.taken
     closes =
-        closing_tells (fixed_of s) p.world x its.taker way (ap has_stream bulk.kind) has seated.apart (named_opened p.world.driver x.name k)
+        closing_tells (fixed_of s) p.world x its.taker way (stream_out x only (ap receives way)) has seated.apart (named_opened p.world.driver x.name k)
         (subst (λ (n : EpName). taker_of (wired (fixed_of s) p.world) n.addr n.num ≡ Some its.taker) k.same its.is)
 
     begins : IsPrefix its.taker.taken (stream s r x.name)
@@ -149,40 +156,44 @@ module _ (s : Script) (p : OrderedWorld) (puts : ℕ → List ℕ) (seated : IsS
 
   -- ---- each that was opened
 
-  one_sent : OnlyBulk p.world.driver → (x : EpDesc) → IsBulk x → HasSeat (fixed_of s).seats x → x.name.way ≡ Ways.Out → IsTakenSent (taken r x.name) (stream s r x.name)
-  one_sent only x bulk has way =
-      ⊎_elim (λ (k : HasNamed p.world.driver.endpoints x.name). named_sent x bulk has way k (ap has_stream (only.endpoints k.number k.endpoint k.here).bulk.kind))
+  one_sent : OnlyAsynchronous p.world.driver → (x : EpDesc) → IsSeated (fixed_of s).seats x → receives x.name.way ≡ false → IsTakenSent (taken r x.name) (stream s r x.name)
+  one_sent only x seat sends_out =
+      ⊎_elim
+      (λ (k : HasNamed p.world.driver.endpoints x.name).
+      named_sent x seat.0 (seat.1 (out_way x.name.way sends_out)) (way_sends x.name.way sends_out) k
+      (stream_out k.endpoint.desc (only.endpoints k.number k.endpoint k.here).asynchronous (ap (λ (n : EpName). receives n.way) k.same ∙ sends_out)))
       (λ (off : opened p.world.driver x.name ≡ false). subst (λ (o : Option (List ℕ)). IsTakenSent o (stream s r x.name)) (sym (untold p.world x.name off (fixed_of s))) tt)
       (named_or_not p.world.driver x.name)
 
-  pub all_sent : BulkOnly s → OnlyBulk p.world.driver → AreSentStreams s r
-  all_sent bulk only =
+  pub all_sent : AsynchronousOnly s → OnlyAsynchronous p.world.driver → AreSentStreams s r
+  all_sent each only =
       all_kept (IsSeated (fixed_of s).seats) (λ desc. IsTakenSent (taken r desc.name) (stream s r desc.name)) (λ desc. has_stream desc.kind) (λ desc. not (receives desc.name.way)) (opened_by s r)
-      (λ x k is. one_sent only x k.0 k.1 (way_sends x.name.way (not_true (receives x.name.way) is))) (opened_seated s (fixed_of s).seats r bulk seated.seats)
+      (λ x k is. one_sent only x k (not_true (receives x.name.way) is)) (opened_seated s (fixed_of s).seats r each seated.seats)
 
   one_right : (x : EpDesc) → IsSeated (fixed_of s).seats x → IsOpen p.world.driver x → receives x.name.way ≡ false → IsTakenStream r x.name → IsRightStream s r x.name
   one_right x k o sends t =
-      named_right x k.0 k.1 (way_sends x.name.way sends) (record { number = o.number; endpoint = o.endpoint; here = o.here; same = ap (λ (z : EpDesc). z.name) o.same })
-      (ap (λ (z : EpDesc). has_stream z.kind) o.same ∙ ap has_stream k.0.kind) t
+      named_right x k.0 (k.1 (out_way x.name.way sends)) (way_sends x.name.way sends) (record { number = o.number; endpoint = o.endpoint; here = o.here; same = ap (λ (z : EpDesc). z.name) o.same })
+      (ap (λ (z : EpDesc). has_stream z.kind) o.same ∙ stream_out x k.0 sends) t
 
-  pub all_right : BulkOnly s → p.orders ≡ [] → AreRightInStreams s r → AreTakenStreams s r → AreRightStreams s r
-  all_right bulk none ins outs =
+  pub all_right : AsynchronousOnly s → p.orders ≡ [] → AreRightInStreams s r → AreTakenStreams s r → AreRightStreams s r
+  all_right each none ins outs =
       all_split (λ desc. IsSeated (fixed_of s).seats desc × IsOpen p.world.driver desc) (λ desc. IsTakenStream r desc.name) (λ desc. IsRightStream s r desc.name) (λ desc. has_stream desc.kind)
       (λ desc. receives desc.name.way) (opened_by s r) (λ x k sends t. one_right x k.0 k.1 sends t)
       (all_both (IsSeated (fixed_of s).seats) (IsOpen p.world.driver) (opened_by s r) seats_all (are.opened none))
       (subst (AllByRecursion (λ (desc : EpDesc). IsRightStream s r desc.name)) kept ins) outs
     where
       seats_all : AllByRecursion (IsSeated (fixed_of s).seats) (opened_by s r)
-      seats_all = opened_seated s (fixed_of s).seats r bulk seated.seats
+      seats_all = opened_seated s (fixed_of s).seats r each seated.seats
 
       kept : filter (λ (desc : EpDesc). has_stream desc.kind && comes_in desc.name.way) (opened_by s r) ≡ filter (λ (desc : EpDesc). has_stream desc.kind && receives desc.name.way) (opened_by s r)
       kept =
-          alike_kept (IsSeated (fixed_of s).seats) (λ desc. has_stream desc.kind) (λ desc. receives desc.name.way) (λ desc. comes_in desc.name.way) (opened_by s r) (λ x k. data_comes_in x.name.way k.0.way) seats_all
+          alike_kept (IsSeated (fixed_of s).seats) (λ desc. has_stream desc.kind) (λ desc. receives desc.name.way) (λ desc. comes_in desc.name.way) (opened_by s r) (λ x k on. data_comes_in x.name.way (data_way x k.0 (control_stream x.kind on)))
+          seats_all
 
 -- ---- the laws
 
 pub report_sent : ReportIsSent
-report_sent s p puts bulk seated are only takers takes = all_sent s p puts seated are takers takes bulk only
+report_sent s p puts each seated are only takers takes = all_sent s p puts seated are takers takes each only
 
 pub report_right : ReportEndsRight
-report_right s p puts bulk seated are takers takes none ins outs = all_right s p puts seated are takers takes bulk none ins outs
+report_right s p puts each seated are takers takes none ins outs = all_right s p puts seated are takers takes each none ins outs

@@ -17,8 +17,8 @@ use Rattle.driver_rows.specs.Rows.{Parts, driver_row, after_driver_row}
 use Rattle.run_owners.specs.Accepts.{Cancels}
 use Rattle.scripted_takers.specs.Takers.{taker_of}
 use Rattle.driver_laws.specs.Driven.{is_quiet}
-use Rattle.chained_transfers.specs.InTurn.{TakesTurns}
-use Rattle.chained_transfers.proofs.Commands.{is_accepted}
+use Rattle.chained_transfers.specs.AsynchronousTurns.{AsynchronousTakesTurns}
+use Rattle.chained_transfers.proofs.Accepting.{command_accepts}
 use Rattle.fed_queues.specs.Places.{IsThere}
 use Rattle.leaving_drivers.specs.Before.{IsAsBefore, NearFewer}
 use Rattle.leaving_drivers.proofs.Alike.{near_fewer}
@@ -41,7 +41,7 @@ use Rattle.sending_worlds.specs.LeavingSent.{IsSent, CancelKeepsSent, StillKeeps
 
 -- ---- a step of a leave that stores nothing
 
-step_keeps : (fixed : Fixed) (s : Standing) (puts : ℕ → List ℕ) (w v : World) → TakesTurns w.driver → IsAsBefore w.driver v.driver → NearFewer w.driver v.driver
+step_keeps : (fixed : Fixed) (s : Standing) (puts : ℕ → List ℕ) (w v : World) → AsynchronousTakesTurns w.driver → IsAsBefore w.driver v.driver → NearFewer w.driver v.driver
     → ((at : ℕ) → word_at v.memory at ≡ word_at w.memory at) → v.bus ≡ w.bus → IsSent fixed puts s w → IsSent fixed puts s v
 step_keeps fixed s puts w v turns b near same bus k =
     let held = leave_holds w.driver v.driver w.memory v.memory puts b same k.held in
@@ -63,7 +63,7 @@ module _ (d f : DriverContent) (m : Mem) (puts : ℕ → List ℕ) (tells : Tell
   alike_held : HoldsPuts d m puts → HoldsPuts f m puts
   alike_held k = same_holds d f m m puts tells.transfers tells.notes (λ at. refl) k
 
-  alike_owed : (reported : ℕ → List ℕ) → TakesTurns d → HoldsPuts d m puts → Owes d m puts reported → Owes f m puts reported
+  alike_owed : (reported : ℕ → List ℕ) → AsynchronousTakesTurns d → HoldsPuts d m puts → Owes d m puts reported → Owes f m puts reported
   alike_owed reported turns held owes = alike_owes d f m m puts puts reported turns tells there_was (λ x opens. sym command ∙ opens) (λ t low. refl) held (alike_held held) owes
 
   here_was : (e : ℕ) (x : Endpoint) → slice_get f.endpoints e ≡ Some x → slice_get d.endpoints e ≡ Some x
@@ -79,7 +79,7 @@ module _ (d f : DriverContent) (m : Mem) (puts : ℕ → List ℕ) (tells : Tell
 
 -- ---- a cancel
 
-refusal_keeps : (fixed : Fixed) (s : Standing) (puts : ℕ → List ℕ) (w : World) (line : ℕ) (name : EpName) (why : OfferError) → TakesTurns w.driver → IsSent fixed puts s w
+refusal_keeps : (fixed : Fixed) (s : Standing) (puts : ℕ → List ℕ) (w : World) (line : ℕ) (name : EpName) (why : OfferError) → AsynchronousTakesTurns w.driver → IsSent fixed puts s w
     → IsSent fixed puts s (commanded_by w line name (Err why))
 refusal_keeps fixed s puts w line name why turns k =
     let d = w.driver in
@@ -93,10 +93,10 @@ refusal_keeps fixed s puts w line name why turns k =
       begin = alike_taken d f w.memory puts tells refl fixed w k.begin;
     }
 
-cancel_by : (fixed : Fixed) (s : Standing) (puts : ℕ → List ℕ) (w : World) (line : ℕ) (name : EpName) (r : Result Offered OfferError) → TakesTurns w.driver
+cancel_by : (fixed : Fixed) (s : Standing) (puts : ℕ → List ℕ) (w : World) (line : ℕ) (name : EpName) (r : Result Offered OfferError) → AsynchronousTakesTurns w.driver
     → offered w.driver w.memory (commands.Cancel name) ≡ r → IsSent fixed puts s w → IsSent fixed puts s (commanded_by w line name r)
 cancel_by fixed s puts w line name (Ok o) turns is k =
-    let why : Cancels w.driver w.memory o = is_accepted w.driver w.memory (commands.Cancel name) o turns.bulk tt is in
+    let why : Cancels w.driver w.memory o = command_accepts w.driver w.memory (commands.Cancel name) o turns.asynchronous tt is in
     let b = cancel_as_before w.driver w.memory o turns why in
     step_keeps fixed s puts w (commanded_by w line name (Ok o)) turns b.0 (near_fewer w.driver o.driver b.1) (λ at. ap (λ (g : Offered). word_at g.memory at) why.is) refl k
 cancel_by fixed s puts w line name (Err why) turns is k = refusal_keeps fixed s puts w line name why turns k
@@ -137,7 +137,7 @@ still_keeps_sent fixed member x s puts w still f k =
     let q = after_driver_row (driver_row p) p in
     let l = still_leaves p (driver_row p) still in
     record {
-      sent = quiet_sends p s.hand s.parts s.order s.out s.out l.quiet f.turns.bulk (λ e z a here met among. among) k.sent;
+      sent = quiet_sends p s.hand s.parts s.order s.out s.out l.quiet f.turns.asynchronous (λ e z a here met among. among) k.sent;
       ended = alike_stops d q.driver w.memory puts l.tells l.command s k.ended;
       held = subst (λ (m : Mem). HoldsPuts q.driver m puts) (sym l.memory) (alike_held d q.driver w.memory puts l.tells l.command k.held);
       owes = subst (λ (m : Mem). Owes q.driver m puts s.reported) (sym l.memory) (alike_owed d q.driver w.memory puts l.tells l.command s.reported f.turns k.held k.owes);

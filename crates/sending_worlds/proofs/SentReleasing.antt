@@ -45,7 +45,7 @@ module _ (fixed : Fixed) (member : ℕ → Bool) (x : Streams) (s : Standing) (p
         sent = release_sends p e z s.hand s.parts s.order s.out owners f.turns leaves k.sent;
         ended = release_stops p e z s.parts owners f.turns leaves k.ended;
         held = held_then;
-        owes = release_owes p e z puts s.reported s.reported f.turns leaves (λ i y differs here kept. refl) k.held held_then k.owes;
+        owes = release_owes p e z puts s.reported s.reported f.turns leaves (λ i y differs here kept sends. refl) k.held held_then k.owes;
         begin = release_taken taker_of p e z puts (wired fixed w) due.idle leaves k.begin;
       }
 

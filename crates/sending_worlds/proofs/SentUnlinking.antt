@@ -1,6 +1,7 @@
 -- What is sent of puts stays where a queue head leaves the ring: the store writes a link of another queue head, and the buffers of puts are elsewhere.
 use Rattle.std.proofs.Common.{◌≡◌, ℕ, ◌*◌, Bool, List, sym, subst, ◌∙◌}
 use Rattle.usb_bus.specs.Bus.{Fixed}
+use Rattle.driver_rows.specs.declared.content.Mend.{Mend}
 use Rattle.driver_rows.specs.declared.rows.DriverRow.{DriverRow}
 use Rattle.driver_rows.specs.declared.rows.DriverRow.TheVariants as rows
 use Rattle.driver_rows.specs.Rows.{Parts, after_driver_row}
@@ -24,6 +25,9 @@ use Rattle.sending_worlds.specs.LeavingSent.{IsSent, UnlinkKeepsSent}
 store_is_no_transfer : (b at v t : ℕ) → ◌≡◌ {A = DriverRow} (rows.Store b at v) (rows.ReleaseTransfer t) → ⊥
 store_is_no_transfer b at v t is = cc
 
+store_is_no_mend : (b at v : ℕ) (m : Mend) → ◌≡◌ {A = DriverRow} (rows.Store b at v) (rows.Mend m) → ⊥
+store_is_no_mend b at v m is = cc
+
 store_is_no_endpoint : (b at v e : ℕ) → ◌≡◌ {A = DriverRow} (rows.Store b at v) (rows.ReleaseEndpoint e) → ⊥
 store_is_no_endpoint b at v e is = cc
 
@@ -45,6 +49,7 @@ module _ (fixed : Fixed) (member : ℕ → Bool) (x : Streams) (s : Standing) (p
       driver_holds opening_base member s.parts s.hand w.control.walk p s.order s.out puts g.place.sound.owners f.turns (record { ring = g.streaming.controlled.ring; driven = g.driven }) f.queues.fed
       (λ t row. absurd (store_is_no_transfer k.before (32 * k.before) (queue_head_link k.after) t (sym unlinks.row ∙ row)))
       (λ t y z row there here. absurd (store_is_no_transfer k.before (32 * k.before) (queue_head_link k.after) t (sym unlinks.row ∙ row))) (λ e b link is. k)
+      (λ m row. absurd (store_is_no_mend k.before (32 * k.before) (queue_head_link k.after) m (sym unlinks.row ∙ row)))
       (λ e row. absurd (store_is_no_endpoint k.before (32 * k.before) (queue_head_link k.after) e (sym unlinks.row ∙ row))) old.held
 
 pub unlink_keeps_sent : UnlinkKeepsSent

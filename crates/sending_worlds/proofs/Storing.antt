@@ -17,14 +17,13 @@ use Rattle.put_laws.specs.Owed.{Owes}
 use Rattle.put_laws.specs.OwedTaken.{EndedAreStopped}
 use Rattle.put_laws.proofs.TakenStopped.{spared_stopped}
 use Rattle.feeding_worlds.specs.Feeding.{there_of, IsFeeding}
-use Rattle.feeding_worlds.proofs.Told.{there_on}
 use Rattle.feeding_worlds.proofs.FeedingStores.{at, after_store}
 use Rattle.feeding_worlds.proofs.Storing.{met_now}
 use Rattle.whole_worlds.proofs.StoredTails.{tail_here}
 use Rattle.whole_worlds.proofs.Worlds.{whole_after}
 use Rattle.sending_worlds.specs.Sending.{IsSending}
 use Rattle.sending_worlds.specs.WorldLaws.{StoreKeepsSending}
-use Rattle.sending_worlds.proofs.Each.{HarvestsNone, busy_harvests_none, held_then, begin_then, ended_alike, owes_same, IsOrdinary, publish_ordinary, left_then, has_of}
+use Rattle.sending_worlds.proofs.Each.{there_heads, HarvestsNone, busy_harvests_none, held_then, begin_then, ended_alike, owes_same, IsOrdinary, publish_ordinary, left_then, has_of}
 
 no_open : (b c : ℕ) (words : List ℕ) → ◌≡◌ {A = Option Command} (Some (unfinished.Publish b words)) (Some (unfinished.Open c)) → ⊥
 no_open b c words same = cc
@@ -57,7 +56,7 @@ module _ (fixed : Fixed) (takes : ℕ → ℕ → Bool) (member : ℕ → Bool) 
 
   sent_then : SentStand (driver_next w).driver s.order (out_then s.out (next_of p).driver g) s.hand (parts_then g)
   sent_then =
-      store_sends s.hand (there_of w.driver) s.acc s.reported p member x.streams x.endpoint s.parts s.order s.out b words here f.counted (there_on w.driver) reaches k.sent
+      store_sends s.hand (there_of w.driver) s.acc s.reported p member x.streams x.endpoint s.parts s.order s.out b words here f.counted (there_heads fixed takes member x s puts w k) reaches k.sent
 
   ordinary : IsOrdinary w
   ordinary = publish_ordinary w b words command

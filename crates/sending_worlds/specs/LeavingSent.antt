@@ -1,4 +1,4 @@
--- What is sent of puts while endpoints leave the ring of a world of bulk endpoints, and are given back (EHCI 1.0, 4.8.2 and 4.10; USB 2.0, 5.8 and 8.6).
+-- What is sent of puts while endpoints leave the ring of a world of bulk and control endpoints, and are given back (EHCI 1.0, 4.8.2 and 4.10; USB 2.0, 5.8 and 8.6).
 --     IsSent fixed puts s w      what each OUT endpoint is sent begins the bytes of its puts, and so does what its device took
 --     CancelKeepsSent            a cancel, accepted or refused, leaves it so
 --     StillKeepsSent             so does the doorbell, with its readings

@@ -1,4 +1,4 @@
--- Each moment of the run of a script of bulk endpoints (EHCI 1.0, 4.8 to 4.10; USB 2.0, 5.8 and 8.6).
+-- Each moment of the run of a script of high-speed bulk and control endpoints (EHCI 1.0, 4.8 to 4.10; USB 2.0, 5.5, 5.8, 8.5.3 and 8.6).
 --     IsSendingThroughout s           the world is whole then, and so is what each OUT endpoint is sent
 --     OutStreamsAreSentThroughout s   what the device of each OUT endpoint took, by the closing lines of the report then, begins its stream
 --     StreamsAreRightAtTheEnd s       once no line is left to do all streams of the report are right
@@ -10,12 +10,12 @@ use Rattle.usb_bus.specs.Bus.{fixed_of}
 use Rattle.bus_world.specs.Budgets.{moment}
 use Rattle.report_streams.specs.Streams.{AreRightStreams}
 use Rattle.right_reports.specs.WorldReport.{report_of}
-use Rattle.chained_transfers.specs.Bulk.{BulkOnly}
+use Rattle.chained_transfers.specs.Asynchronous.{AsynchronousOnly}
 use Rattle.stream_worlds.specs.Takers.{takes_of}
 use Rattle.put_laws.specs.TakenPuts.{puts_at}
 use Rattle.sending_worlds.specs.Sent.{AreSentStreams}
 use Rattle.feeding_worlds.specs.Feeding.{streams_of}
-use Rattle.whole_worlds.specs.Moments.{IsBulkScript}
+use Rattle.whole_worlds.specs.Moments.{IsAsynchronousScript}
 use Rattle.sending_worlds.specs.Sending.{HasSending}
 
 abbrev pub IsSendingThroughout : Script → Type 0
@@ -28,10 +28,10 @@ abbrev pub StreamsAreRightAtTheEnd : Script → Type 0
 StreamsAreRightAtTheEnd s = (k : ℕ) → (moment s k).orders ≡ [] → AreRightStreams s (report_of (fixed_of s) (moment s k).world)
 
 abbrev pub ScriptsStaySending : Type 0
-ScriptsStaySending = (s : Script) → IsBulkScript s → IsSendingThroughout s
+ScriptsStaySending = (s : Script) → IsAsynchronousScript s → IsSendingThroughout s
 
 abbrev pub TextsAreSent : Type 0
-TextsAreSent = (text : List ℕ) (s : Script) → Spells text s → BulkOnly s → OutStreamsAreSentThroughout s
+TextsAreSent = (text : List ℕ) (s : Script) → Spells text s → AsynchronousOnly s → OutStreamsAreSentThroughout s
 
 abbrev pub TextsEndRight : Type 0
-TextsEndRight = (text : List ℕ) (s : Script) → Spells text s → BulkOnly s → StreamsAreRightAtTheEnd s
+TextsEndRight = (text : List ℕ) (s : Script) → Spells text s → AsynchronousOnly s → StreamsAreRightAtTheEnd s

@@ -2,7 +2,7 @@
 --     HasNamedTaker fixed w name      an OUT of this name has a taker on the bus
 --     HaveTheirTakers fixed w       so has each OUT endpoint of the driver
 --     TakesPuts fixed w puts        and what it took begins the endpoint's puts
---     ReportIsSent                  where the puts begin the streams, what the closing lines say was taken begins them
+--     ReportIsSent                  of bulk and control endpoints: where the puts begin the streams, what the closing lines say was taken begins them
 --     ReportEndsRight                 once no order is left, all streams of the report are right then, where those of IN endpoints are, and where what is told of
 --                                   OUT endpoints begins what was taken
 use Rattle.std.specs.Prelude.{◌≡◌, ℕ, false, List, [], slice_get, Some}
@@ -15,7 +15,8 @@ use Rattle.ring_laws.specs.OutBus.{Taker}
 use Rattle.scripted_takers.specs.Takers.{taker_of}
 use Rattle.report_streams.specs.Streams.{AreRightStreams}
 use Rattle.driver_rows.specs.declared.content.Endpoint.{Endpoint}
-use Rattle.chained_transfers.specs.Bulk.{receives, BulkOnly, OnlyBulk}
+use Rattle.chained_transfers.specs.Bulk.{receives}
+use Rattle.chained_transfers.specs.Asynchronous.{AsynchronousOnly, OnlyAsynchronous}
 use Rattle.bus_world.specs.World.{World}
 use Rattle.bus_world.specs.Orders.{OrderedWorld}
 use Rattle.stream_worlds.specs.Streaming.{wired}
@@ -39,10 +40,10 @@ TakesPuts fixed w puts = (e : ℕ) (x : Endpoint) (t : Taker) → slice_get w.dr
     → taker_of (wired fixed w) x.desc.name.addr x.desc.name.num ≡ Some t → IsPrefix t.taken (concat (puts_of w.driver puts e))
 
 abbrev pub ReportIsSent : Type 0
-ReportIsSent = (s : Script) (p : OrderedWorld) (puts : ℕ → List ℕ) → BulkOnly s → IsSeatedBus s (fixed_of s) p.world.bus → StreamsArePuts s p puts → OnlyBulk p.world.driver
+ReportIsSent = (s : Script) (p : OrderedWorld) (puts : ℕ → List ℕ) → AsynchronousOnly s → IsSeatedBus s (fixed_of s) p.world.bus → StreamsArePuts s p puts → OnlyAsynchronous p.world.driver
     → HaveTheirTakers (fixed_of s) p.world → TakesPuts (fixed_of s) p.world puts → AreSentStreams s (report_of (fixed_of s) p.world)
 
 abbrev pub ReportEndsRight : Type 0
-ReportEndsRight = (s : Script) (p : OrderedWorld) (puts : ℕ → List ℕ) → BulkOnly s → IsSeatedBus s (fixed_of s) p.world.bus → StreamsArePuts s p puts
+ReportEndsRight = (s : Script) (p : OrderedWorld) (puts : ℕ → List ℕ) → AsynchronousOnly s → IsSeatedBus s (fixed_of s) p.world.bus → StreamsArePuts s p puts
     → HaveTheirTakers (fixed_of s) p.world → TakesPuts (fixed_of s) p.world puts → p.orders ≡ [] → AreRightInStreams s (report_of (fixed_of s) p.world)
     → AreTakenStreams s (report_of (fixed_of s) p.world) → AreRightStreams s (report_of (fixed_of s) p.world)

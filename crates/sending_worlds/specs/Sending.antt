@@ -1,4 +1,4 @@
--- A world whose endpoints are all bulk ones, with what its driver has still to send (EHCI 1.0, 3.5.4 and 4.10; USB 2.0, 5.8 and 8.6).
+-- A world whose endpoints are all bulk and control ones, with what its driver has still to send (EHCI 1.0, 3.5.4 and 4.10; USB 2.0, 5.5, 5.8 and 8.6).
 --     IsSending fixed takes member x s puts w     the world is whole, and so is what each OUT endpoint is sent; `puts` tells the bytes of each put by the number of
 --                                                 its transfer
 --     HaveLeftTakers fixed w     an OUT endpoint that the walk can't meet any more has its taker still
@@ -16,7 +16,7 @@ use Rattle.put_laws.specs.HeldPuts.{HoldsPuts}
 use Rattle.put_laws.specs.Sent.{SentStand}
 use Rattle.put_laws.specs.Owed.{Owes}
 use Rattle.put_laws.specs.OwedTaken.{TakenBegin, EndedAreStopped}
-use Rattle.whole_worlds.specs.Whole.{IsWhole, StaysOpen}
+use Rattle.whole_worlds.specs.Whole.{IsWhole, StaysOpen, AreOf}
 use Rattle.sending_worlds.specs.ReportLaws.{HasNamedTaker}
 
 -- ---- endpoints that have left
@@ -48,3 +48,5 @@ pub record HasSending (fixed : Fixed) (takes : ℕ → ℕ → Bool) (stream : �
   pub sending : IsSending fixed outs member (record { stream = ins; packets = packets; streams = streams; endpoint = endpoint }) standing puts w
   pub ins_stay : StaysOpen w.driver true stream ins
   pub outs_stay : StaysOpen w.driver false takes outs
+  pub ins_were : AreOf stream ins
+  pub outs_were : AreOf takes outs

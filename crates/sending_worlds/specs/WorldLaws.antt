@@ -1,8 +1,8 @@
--- Laws of worlds whose endpoints are all bulk ones, with what their drivers have still to send: each event and each command leaves such a world so.
+-- Laws of worlds whose endpoints are all bulk and control ones, with what their drivers have still to send: each event and each command leaves such a world so.
 --     NewWorldSends             the world of a new script
 --     ControllerKeepsSending    an event of the controller
 --     CommandKeepsSending       a command: one more put, if it is an accepted one
---     StillKeepsSending ..      each row of the driver; at one of them endpoints leave, and at one an endpoint is given back
+--     StillKeepsSending ..      each row of the driver; at one of them a stalled control endpoint goes on, at one endpoints leave, and at one an endpoint is given back
 --     DriverKeepsSending        an event of the driver
 use Rattle.std.specs.Prelude.{◌≡◌, ℕ, ◌≤◌, Bool, true, List, Some, Ok}
 use Rattle.usb_base.specs.declared.commands.Cmd.{Cmd}
@@ -12,13 +12,14 @@ use Rattle.byte_answers.specs.Bytes.{IsByteScript, IsByteCommand}
 use Rattle.usb_bus.specs.Bus.{Fixed, fixed_of}
 use Rattle.driver_rows.specs.Offers.{Offered, offered, IsOffered}
 use Rattle.driver_rows.specs.declared.content.Command.TheVariants as unfinished
+use Rattle.driver_rows.specs.declared.content.Mend.{Mend}
 use Rattle.driver_rows.specs.declared.rows.DriverRow.TheVariants as rows
 use Rattle.driver_rows.specs.declared.rows.Found.{Found}
 use Rattle.driver_rows.specs.Rows.{driver_row}
 use Rattle.bus_world.specs.World.{World, driver_parts, driver_next, controller_next, commanded}
 use Rattle.bus_world.specs.Opening.{opening_world}
 use Rattle.stream_worlds.specs.Streaming.{Streams, Standing}
-use Rattle.chained_transfers.specs.Bulk.{OpensOrCancelsBulk}
+use Rattle.chained_transfers.specs.Asynchronous.{OpensAsynchronous}
 use Rattle.fed_lends.specs.ToLend.{IsToBeLent}
 use Rattle.open_laws.specs.Lends.{IsOpenReady}
 use Rattle.open_laws.specs.Opens.{IsOpenLent}
@@ -28,6 +29,7 @@ use Rattle.put_laws.specs.HeldPuts.{puts_then}
 use Rattle.put_laws.specs.TakenPuts.{no_puts}
 use Rattle.feeding_worlds.specs.Feeding.{streams_of}
 use Rattle.feeding_worlds.specs.FeedingLaws.{is_still}
+use Rattle.feeding_worlds.specs.LeftLaws.{OpensNamed}
 use Rattle.whole_worlds.specs.Laws.{OpensTo}
 use Rattle.sending_worlds.specs.Sending.{IsSending, HasSending}
 
@@ -39,8 +41,8 @@ ControllerKeepsSending = (fixed : Fixed) (takes : ℕ → ℕ → Bool) (member 
     → IsSending fixed takes member x s puts w → HasSending fixed takes x.stream x.packets puts (controller_next fixed w)
 
 abbrev pub CommandKeepsSending : Type 0
-CommandKeepsSending = (fixed : Fixed) (takes : ℕ → ℕ → Bool) (member : ℕ → Bool) (x : Streams) (s : Standing) (puts : ℕ → List ℕ) (w : World) (line : ℕ) (cmd : Cmd) → OpensOrCancelsBulk cmd
-    → ((o : Offered) → offered w.driver w.memory cmd ≡ Ok o → OpensTo x.stream takes cmd) → OpensNumbered cmd → IsByteCommand cmd → IsOffered w.driver.room cmd → IsSending fixed takes member x s puts w
+CommandKeepsSending = (fixed : Fixed) (takes : ℕ → ℕ → Bool) (member : ℕ → Bool) (x : Streams) (s : Standing) (puts : ℕ → List ℕ) (w : World) (line : ℕ) (cmd : Cmd) → OpensAsynchronous cmd
+    → ((o : Offered) → offered w.driver w.memory cmd ≡ Ok o → OpensTo x.stream takes cmd) → OpensNumbered cmd → OpensNamed cmd → IsByteCommand cmd → IsOffered w.driver.room cmd → IsSending fixed takes member x s puts w
     → HasSending fixed takes x.stream x.packets (puts_then w.driver cmd puts) (commanded w line cmd)
 
 -- ---- the driver's rows
@@ -74,6 +76,11 @@ abbrev pub ReleaseKeepsSending : Type 0
 ReleaseKeepsSending = (fixed : Fixed) (takes : ℕ → ℕ → Bool) (member : ℕ → Bool) (x : Streams) (s : Standing) (puts : ℕ → List ℕ) (w : World) (t : ℕ)
     → driver_row (driver_parts w) ≡ rows.ReleaseTransfer t → IsSending fixed takes member x s puts w → HasSending fixed takes x.stream x.packets puts (driver_next w)
 
+-- the next store by which a stalled control endpoint goes on (4.10.3)
+abbrev pub MendKeepsSending : Type 0
+MendKeepsSending = (fixed : Fixed) (takes : ℕ → ℕ → Bool) (member : ℕ → Bool) (x : Streams) (s : Standing) (puts : ℕ → List ℕ) (w : World) (m : Mend)
+    → driver_row (driver_parts w) ≡ rows.Mend m → IsSending fixed takes member x s puts w → HasSending fixed takes x.stream x.packets puts (driver_next w)
+
 -- an endpoint leaves the ring, and is given back (4.8.2)
 abbrev pub UnlinkKeepsSending : Type 0
 UnlinkKeepsSending = (fixed : Fixed) (takes : ℕ → ℕ → Bool) (member : ℕ → Bool) (x : Streams) (s : Standing) (puts : ℕ → List ℕ) (w : World) (e before link : ℕ)
@@ -87,7 +94,7 @@ abbrev pub EndpointReleaseKeepsSending : Type 0
 EndpointReleaseKeepsSending = (fixed : Fixed) (takes : ℕ → ℕ → Bool) (member : ℕ → Bool) (x : Streams) (s : Standing) (puts : ℕ → List ℕ) (w : World) (e : ℕ)
     → driver_row (driver_parts w) ≡ rows.ReleaseEndpoint e → IsSending fixed takes member x s puts w → HasSending fixed takes x.stream x.packets puts (driver_next w)
 
--- a driver of bulk endpoints has no other row
+-- a driver of bulk and control endpoints has no other row
 abbrev pub DriverKeepsSending : Type 0
 DriverKeepsSending = (fixed : Fixed) (takes : ℕ → ℕ → Bool) (member : ℕ → Bool) (x : Streams) (s : Standing) (puts : ℕ → List ℕ) (w : World)
     → IsSending fixed takes member x s puts w → HasSending fixed takes x.stream x.packets puts (driver_next w)

@@ -1,9 +1,10 @@
 //! Worked rows, which the check computes.
 ghost use Rattle.std.specs.Prelude.{◌≡◌, [], ◌∷◌, Some, None};
 ghost use Rattle.usb_bus.specs.Bus.{fixed_of};
-ghost use Rattle.report_streams.specs.Reports.{Taken, taken};
-ghost use Rattle.report_streams.specs.Samples.{receiver};
+ghost use Rattle.report_streams.specs.Reports.{Taken, Acted, taken};
+ghost use Rattle.report_streams.specs.Samples.{receiver, control};
 ghost use Rattle.report_streams.specs.Streams.{AreRightStreams};
+ghost use Rattle.chained_transfers.specs.Asynchronous.{AsynchronousOnly};
 ghost use Rattle.right_reports.specs.Samples.{both_ways};
 ghost use Rattle.right_reports.specs.WorldReport.{report_of};
 ghost use Rattle.taken_reports.specs.Samples.{told_with};
@@ -11,7 +12,7 @@ ghost use Rattle.put_laws.specs.TakenPuts.{puts_at};
 ghost use Rattle.put_laws.specs.TakenSamples.{two_puts, report_after};
 ghost use Rattle.sending_worlds.specs.Sent.{IsTakenSent, AreSentStreams};
 ghost use Rattle.sending_worlds.specs.ReportLaws.{HaveTheirTakers, TakesPuts};
-ghost use Rattle.sending_worlds.specs.ReportSamples.{refused_with, once_took};
+ghost use Rattle.sending_worlds.specs.ReportSamples.{refused_with, requested, stalled_with, once_took};
 
 /// What was taken begins the stream, be it all of it or not; it has no other byte, and none behind the last. Where nothing says what was taken, nothing is asked of it.
 pub fn of_the_words()
@@ -32,6 +33,15 @@ pub fn a_put_of_a_byte()
     ensures more { AreSentStreams both_ways (told_with (Taken receiver (9 ∷ 8 ∷ []) ∷ [])) → ⊥ }
     ensures refused { AreSentStreams both_ways (refused_with (Taken receiver (9 ∷ []) ∷ [])) → ⊥ }
     ensures right { AreRightStreams both_ways (told_with (Taken receiver (9 ∷ []) ∷ [])) }
+{}
+
+/// A control endpoint beside them has no stream: its read answered STALL, and all streams of the report are right where the device of the OUT endpoint took its byte.
+/// They aren't where it took another one.
+pub fn a_stalled_request_beside_a_put()
+    ensures only { AsynchronousOnly requested }
+    ensures sent { AreSentStreams requested (stalled_with (Taken receiver (9 ∷ []) ∷ Acted control 0 ∷ [])) }
+    ensures right { AreRightStreams requested (stalled_with (Taken receiver (9 ∷ []) ∷ Acted control 0 ∷ [])) }
+    ensures other { AreSentStreams requested (stalled_with (Taken receiver (8 ∷ []) ∷ Acted control 0 ∷ [])) → ⊥ }
 {}
 
 /// Before the first line of a run no line closes the report of the endpoint, which is still to be opened. After the last line, where the device took two bytes of the

@@ -23,7 +23,8 @@ pub fn the_driver_leaves_it_sending()
     ensures { DriverKeepsSending }
 {}
 
-/// So it is at each moment of a script of bulk endpoints whose bytes are bytes, of which each endpoint that is opened has its side in a device, and numbers fit.
+/// So it is at each moment of a script of high-speed bulk and control endpoints whose bytes are bytes, of which each bulk endpoint that is opened has its side in a
+/// device, numbers fit, and number 0 is that of control endpoints alone.
 pub fn each_moment_is_sending()
     ensures { ScriptsStaySending }
 {}

@@ -36,10 +36,9 @@ use Rattle.chained_transfers.specs.Chains.{piece_at}
 use Rattle.chained_transfers.specs.AsynchronousTurns.{AsynchronousTakesTurns}
 use Rattle.chained_transfers.specs.Turns.{IsAtPlace}
 use Rattle.chained_transfers.specs.Out.{passed}
-use Rattle.chained_transfers.proofs.BulkAndControl.{moves_queued_of}
 use Rattle.chained_transfers.proofs.Harvested.{piece_next, note_same, not_served, no_stall}
 use Rattle.chained_transfers.proofs.Harvesting.{waits_is}
-use Rattle.chained_transfers.proofs.Ways.{found_by}
+use Rattle.chained_transfers.proofs.Ways.{found_by, moves_queued}
 use Rattle.harvested_streams.proofs.Harvesting.{token_read}
 use Rattle.lent_structures.specs.Structures.{Element, StructureSets, Tells}
 use Rattle.fed_queues.specs.Fed.{IsAlternate, IsPieceFed, unpublished_of, AreFed, sized}
@@ -330,7 +329,7 @@ module _ (p : Parts) (e t : ℕ) (found : Found) (parts : StructureSets) (order 
       ∙ ap (λ (b : Bool). record p { driver = if b then served (harvested_as d p.memory e t x y found) e else d }) due.waits
 
   found_is : found ≡ found_in y.sort (nat_le y.left 1) (note_at d.notes y.place) token
-  found_is = due.tells ∙ found_by d p.memory y y.sort (moves_queued_of d y (turns.asynchronous.moves t y due.there))
+  found_is = due.tells ∙ found_by d p.memory y y.sort (moves_queued d y (turns.asynchronous.moves t y due.there))
 
   -- what it leaves of any fact that a harvest leaves
   by_found : (P : DriverContent → Type 0) → ((f : DriverContent) (z : Transfer) → HarvestChanges d f parts t y z → P f) → (g : Found) → found ≡ g → P (served (harvested_as d p.memory e t x y g) e)

@@ -1,5 +1,6 @@
 -- The streams of OUT endpoints beside structures that are added.
 use Rattle.std.proofs.Common.{◌≡◌, ℕ, ◌≤◌, ◌⊎◌, Bool, true, false, List, [], ◌∷◌, ◌++◌, length, Option, Some, ap, refl, sym, subst, ◌∙◌, ⊎_elim, inl, inr, arith}
+use Rattle.std.proofs.lemmas.Bool.{cases_Bool, false≢true}
 use Rattle.std.proofs.lemmas.List.{append_assoc, append-nil}
 use Rattle.qh_qtd.specs.declared.qtd.Qtd.{Qtd}
 use Rattle.qh_qtd.specs.declared.queue_head.Qh.{Qh}
@@ -59,22 +60,32 @@ module _ (parts now : StructureSets) (added : AreAdded parts now) where
   still_work : (n : ℕ) → SparesWork parts now n
   still_work n = record { head = still_head n; work = λ q here on. still_element n q.current }
 
-  module _ (outs : ℕ → Bool) (new : AreNewAs outs parts now) where
+  module _ (stream : ℕ → ℕ → Bool) (outs : ℕ → Bool) (ends : ℕ → Endpoint) (new : AreNewAs stream outs ends parts now) where
+    -- no endpoint has these that has no stream
+    abbrev HasNone : ℕ → Type 0
+    HasNone n = (outs n ≡ false) × (stream (ends n).addr (ends n).ep ≡ false)
+
     outs_now : (n : ℕ) → outs n ≡ true → IsOut (parts n) → IsOut (now n)
-    outs_now n one was a t here on = ⊎_elim (λ (old : parts n a ≡ Some (Element t)). was a t old on) (λ (way : GoesAs outs n t). out_goes outs n t one way) (new n a t here on)
+    outs_now n one was a t here on =
+        ⊎_elim (λ (old : parts n a ≡ Some (Element t)). was a t old on)
+        (λ (way : GoesAs outs n t ⊎ HasNone n). ⊎_elim (λ (goes : GoesAs outs n t). out_goes outs n t one goes) (λ (none : HasNone n). absurd (false≢true (sym none.0 ∙ one))) way) (new n a t here on)
 
     pipe_now : (n : ℕ) (x : Endpoint) (o : Option Taker) (known : List ℕ) (hand : Hand) → outs n ≡ true → IsOutPipe o known parts hand n x → IsOutPipe o known now hand n x
     pipe_now n x o known hand one pipe = spared_pipe hand hand parts now n x o known (same_hand hand) (λ un. un) (still_work n) (outs_now n one pipe.outs) pipe
 
-    none_now : (n : ℕ) → outs n ≡ false → SendsNone (parts n) → SendsNone (now n)
-    none_now n off was a t here on zero =
-        ⊎_elim (λ (old : parts n a ≡ Some (Element t)). was a t old on zero) (λ (way : GoesAs outs n t). none_goes outs n t off way zero) (new n a t here on)
+    none_now : (n : ℕ) → outs n ≡ false → stream (ends n).addr (ends n).ep ≡ true → SendsNone (parts n) → SendsNone (now n)
+    none_now n off some was a t here on zero =
+        ⊎_elim (λ (old : parts n a ≡ Some (Element t)). was a t old on zero)
+        (λ (way : GoesAs outs n t ⊎ HasNone n). ⊎_elim (λ (goes : GoesAs outs n t). none_goes outs n t off goes zero) (λ (none : HasNone n). false≢true (sym none.1 ∙ some)) way) (new n a t here on)
 
-    asides_now : (stream : ℕ → ℕ → Bool) (member : ℕ → Bool) (ends : ℕ → Endpoint) → AreAside stream member outs ends parts → AreAside stream member outs ends now
-    asides_now stream member ends all n met off =
+    asides_now : (member : ℕ → Bool) → AreAside stream member outs ends parts → AreAside stream member outs ends now
+    asides_now member all n met off =
         let was : IsAside stream parts n (ends n) = all n met off in (
           spared_endpoint parts now n (ends n) (still_head n) was.0,
-          ⊎_elim (λ (none : stream (ends n).addr (ends n).ep ≡ false). inl none) (λ (none : SendsNone (parts n)). inr (none_now n off none)) was.1,
+          ⊎_elim
+              (λ (some : stream (ends n).addr (ends n).ep ≡ true).
+              ⊎_elim (λ (none : stream (ends n).addr (ends n).ep ≡ false). inl none) (λ (none : SendsNone (parts n)). inr (none_now n off some none)) was.1)
+              (λ (none : stream (ends n).addr (ends n).ep ≡ false). inl none) (cases_Bool (stream (ends n).addr (ends n).ep)),
         )
 
   -- ---- one queue head with more
@@ -151,8 +162,8 @@ module _ (parts now : StructureSets) (added : AreAdded parts now) where
 
 pub lend_pipes : {W : Type 0} (taker : W → ℕ → ℕ → Option Taker) → LendLeavesOutPipes taker
 lend_pipes taker stream member outs ends known parts now hand wire added new k = record {
-  pipes = λ n on. pipe_now parts now added outs new n (ends n) (taker wire (ends n).addr (ends n).ep) (known n) hand on (k.pipes n on);
-  others = asides_now parts now added outs new stream member ends k.others;
+  pipes = λ n on. pipe_now parts now added stream outs ends new n (ends n) (taker wire (ends n).addr (ends n).ep) (known n) hand on (k.pipes n on);
+  others = asides_now parts now added stream outs ends new member k.others;
 }
 
 pub lend_streams : {W : Type 0} (taker : W → ℕ → ℕ → Option Taker) → LendLeavesOuts taker
@@ -165,6 +176,6 @@ lend_streams taker stream member outs ends order order_now out out_now more harv
     record {
       known = known;
       reported = reported_now parts now added member n (members n (ends_are.members n on)) (order n) (order_now n) was.place (out n) (out_now n) (more n) (gets n on) hand was.told (harvested n) was.accounts;
-      pipe = pipe_now parts now added outs new n (ends n) o known hand on was.pipe;
+      pipe = pipe_now parts now added stream outs ends new n (ends n) o known hand on was.pipe;
     })
-    (asides_now parts now added outs new stream member ends k.others)
+    (asides_now parts now added stream outs ends new member k.others)

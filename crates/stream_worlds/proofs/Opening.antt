@@ -75,11 +75,11 @@ module _ {W : Type 0} (taker : W → ℕ → ℕ → Option Taker) (stream : ℕ
     pipe_old : (k : ℕ) → k ≢ n → outs k ≡ true → IsPiped k (ends k)
     pipe_old k differs on = subst (λ (xs : List ℕ). IsOutPipe (taker wire (ends k).addr (ends k).ep) xs now later k (ends k)) (sym (list_beside known n k differs)) (old_pipe k (known k) on (was k on))
 
-    pipe_new : IsUntaken (taker wire x.addr x.ep) → IsPiped n x
-    pipe_new u = subst (λ (xs : List ℕ). IsOutPipe (taker wire x.addr x.ep) xs now later n x) (sym (list_here known n)) (begin_pipe (taker wire x.addr x.ep) later now n x h.more.queue h.more.begins h.more.named h.more.expects u)
+    pipe_new : x.dtc ≡ false → IsUntaken (taker wire x.addr x.ep) → IsPiped n x
+    pipe_new own u = subst (λ (xs : List ℕ). IsOutPipe (taker wire x.addr x.ep) xs now later n x) (sym (list_here known n)) (begin_pipe (taker wire x.addr x.ep) later now n x h.more.queue h.more.begins h.more.named (h.more.expects own) u)
 
-    pipes_with_one : IsUntaken (taker wire x.addr x.ep) → (k : ℕ) → with_stream outs n k ≡ true → IsPiped k (with_end ends n x k)
-    pipes_with_one u = each_head outs ends n x IsPiped (pipe_new u) pipe_old
+    pipes_with_one : x.dtc ≡ false → IsUntaken (taker wire x.addr x.ep) → (k : ℕ) → with_stream outs n k ≡ true → IsPiped k (with_end ends n x k)
+    pipes_with_one own u = each_head outs ends n x IsPiped (pipe_new own u) pipe_old
 
     pipes_with_another : (k : ℕ) → outs k ≡ true → IsPiped k (with_end ends n x k)
     pipes_with_another = old_head outs ends n x IsPiped h.more.new pipe_old
@@ -101,11 +101,11 @@ module _ {W : Type 0} (taker : W → ℕ → ℕ → Option Taker) (stream : ℕ
           pipe = old_pipe k p.known on p.pipe;
         }
 
-    parts_new : IsUntaken (taker wire x.addr x.ep) → HasNow n x
-    parts_new u = record {
+    parts_new : x.dtc ≡ false → IsUntaken (taker wire x.addr x.ep) → HasNow n x
+    parts_new own u = record {
       known = [];
       reported = begun;
-      pipe = begin_pipe (taker wire x.addr x.ep) later now n x h.more.queue h.more.begins h.more.named h.more.expects u;
+      pipe = begin_pipe (taker wire x.addr x.ep) later now n x h.more.queue h.more.begins h.more.named (h.more.expects own) u;
     }
       where
         none_more : IsOneMore (λ k. false) hand later parts now n x
@@ -124,8 +124,8 @@ module _ {W : Type 0} (taker : W → ℕ → ℕ → Option Taker) (stream : ℕ
             let r = reports_with_one (λ k. false) order out hand later parts now (λ k. []) harvested n x none_more (λ k on. absurd (false≢true on)) n (stream_here (λ k. false) n) in
             record { place = r.place; told = r.told; accounts = r.accounts; sum = r.sum ∙ ap concat (list_here {A = List ℕ} (λ k. []) n) }
 
-    parts_with_one : IsUntaken (taker wire x.addr x.ep) → (k : ℕ) → with_stream outs n k ≡ true → HasNow k (with_end ends n x k)
-    parts_with_one u = each_head outs ends n x HasNow (parts_new u) parts_old
+    parts_with_one : x.dtc ≡ false → IsUntaken (taker wire x.addr x.ep) → (k : ℕ) → with_stream outs n k ≡ true → HasNow k (with_end ends n x k)
+    parts_with_one own u = each_head outs ends n x HasNow (parts_new own u) parts_old
 
     parts_with_another : (k : ℕ) → outs k ≡ true → HasNow k (with_end ends n x k)
     parts_with_another = old_head outs ends n x HasNow h.more.new parts_old
@@ -133,15 +133,15 @@ module _ {W : Type 0} (taker : W → ℕ → ℕ → Option Taker) (stream : ℕ
 -- ---- the laws
 
 pub out_pipes_with_one : {W : Type 0} (taker : W → ℕ → ℕ → Option Taker) → OutPipesWithOne taker
-out_pipes_with_one taker stream member wider outs ends known hand later parts now wire n x h u k = record {
-  pipes = pipes_with_one taker stream wider outs ends hand later parts now wire n x h known k.pipes u;
+out_pipes_with_one taker stream member wider outs ends known hand later parts now wire n x h own u k = record {
+  pipes = pipes_with_one taker stream wider outs ends hand later parts now wire n x h known k.pipes own u;
   others = others_with_one taker stream wider outs ends hand later parts now wire n x h;
 }
 
 pub outs_with_one : {W : Type 0} (taker : W → ℕ → ℕ → Option Taker) → OutsWithOne taker
-outs_with_one taker stream member wider outs ends order out harvested hand later parts now wire n x h u ends_are k =
+outs_with_one taker stream member wider outs ends order out harvested hand later parts now wire n x h own u ends_are k =
     streams_all taker stream wider (with_stream outs n) (with_end ends n x) order (with_none out n) (with_none harvested n) now later wire ends_are
-    (parts_with_one taker stream wider outs ends hand later parts now wire n x h order out harvested (λ i on. parts_in stream (taker wire (ends i).addr (ends i).ep) member (order i) (out i) parts hand i (ends i) (harvested i) (k.streams i on)) u)
+    (parts_with_one taker stream wider outs ends hand later parts now wire n x h order out harvested (λ i on. parts_in stream (taker wire (ends i).addr (ends i).ep) member (order i) (out i) parts hand i (ends i) (harvested i) (k.streams i on)) own u)
     (others_with_one taker stream wider outs ends hand later parts now wire n x h)
 
 pub out_pipes_with_another : {W : Type 0} (taker : W → ℕ → ℕ → Option Taker) → OutPipesWithAnother taker

@@ -23,13 +23,13 @@ pub record IsOneMoreHead (stream : ℕ → ℕ → Bool) (wider outs : ℕ → B
 
 abbrev pub OutPipesWithOne : {W : Type 0} → (W → ℕ → ℕ → Option Taker) → Type 0
 OutPipesWithOne {W} taker = (stream : ℕ → ℕ → Bool) (member wider outs : ℕ → Bool) (ends : ℕ → Endpoint) (known : ℕ → List ℕ) (hand later : Hand) (parts now : StructureSets) (wire : W) (n : ℕ)
-    (x : Endpoint) → IsOneMoreHead stream wider outs ends hand later parts now n x → IsUntaken (taker wire x.addr x.ep)
+    (x : Endpoint) → IsOneMoreHead stream wider outs ends hand later parts now n x → x.dtc ≡ false → IsUntaken (taker wire x.addr x.ep)
     → AreOutPiped stream taker member outs ends known parts hand wire
     → AreOutPiped stream taker wider (with_stream outs n) (with_end ends n x) (with_none known n) now later wire
 
 abbrev pub OutsWithOne : {W : Type 0} → (W → ℕ → ℕ → Option Taker) → Type 0
 OutsWithOne {W} taker = (stream : ℕ → ℕ → Bool) (member wider outs : ℕ → Bool) (ends : ℕ → Endpoint) (order : ℕ → ℕ → ℕ) (out harvested : ℕ → List ℕ) (hand later : Hand)
-    (parts now : StructureSets) (wire : W) (n : ℕ) (x : Endpoint) → IsOneMoreHead stream wider outs ends hand later parts now n x → IsUntaken (taker wire x.addr x.ep)
+    (parts now : StructureSets) (wire : W) (n : ℕ) (x : Endpoint) → IsOneMoreHead stream wider outs ends hand later parts now n x → x.dtc ≡ false → IsUntaken (taker wire x.addr x.ep)
     → AreEndpoints stream wider (with_stream outs n) (with_end ends n x) → HaveOutStreams stream taker member outs ends order out harvested parts hand wire
     → HaveOutStreams stream taker wider (with_stream outs n) (with_end ends n x) order (with_none out n) (with_none harvested n) now later wire
 

@@ -25,7 +25,7 @@ use Rattle.fed_queues.specs.Places.{IsThere, IsMet}
 use Rattle.taken_reports.specs.Taken.{IsToldTaken}
 use Rattle.taken_reports.specs.Laws.{bytes_taken, TakesEach}
 use Rattle.taken_reports.specs.Worlds.{WorldIsTaken}
-use Rattle.taken_reports.proofs.Telling.{no_bytes, first_none, first_begins, report_taken}
+use Rattle.taken_reports.proofs.Telling.{out_stream, no_bytes, first_none, first_begins, report_taken}
 
 -- ---- an endpoint is met, or is being opened
 
@@ -81,8 +81,8 @@ all_begins (Some t) acc order out hand parts n harvested all r = first_begins ha
 -- ---- the world
 
 pub world_taken : WorldIsTaken
-world_taken script fixed takes member outs heads ends order out reported acc parts hand w only seated bulk piped right heads_hold have there_hold closed told =
-    report_taken script fixed w told.held told.told only seated told.tells begins
+world_taken script fixed takes member outs heads ends order out reported acc parts hand w seated asynchronous piped right heads_hold have there_hold closed told =
+    report_taken script fixed w told.held told.told seated asynchronous told.tells begins
   where
     begun : (e : ℕ) (x : Endpoint) (xs : List ℕ) → told.told e ≡ xs → IsToldTaken xs (bytes_taken (taker_of (wired fixed w) x.desc.name.addr x.desc.name.num))
         → IsToldTaken (told.told e) (bytes_taken (taker_of (wired fixed w) x.desc.name.addr x.desc.name.num))
@@ -106,12 +106,12 @@ world_taken script fixed takes member outs heads ends order out reported acc par
     there_begins e x here sends there false left =
         let n : ℕ = 32 * x.queue in
         begun e x (reported n) (told.met e x here there)
-        (all_begins (taker_of (wired fixed w) x.desc.name.addr x.desc.name.num) (acc n) (order n) (out n) hand parts n (reported n) (closed.left e x here sends there left) (right n (there_hold e x here there)))
+        (all_begins (taker_of (wired fixed w) x.desc.name.addr x.desc.name.num) (acc n) (order n) (out n) hand parts n (reported n) (closed.left e x here sends there left) (right n (there_hold e x here there (out_stream w.driver e x asynchronous here sends))))
 
     by_life : (e : ℕ) (x : Endpoint) → slice_get w.driver.endpoints e ≡ Some x → receives x.desc.name.way ≡ false → (b : Bool) → x.gone ≡ b
         → IsToldTaken (told.told e) (bytes_taken (taker_of (wired fixed w) x.desc.name.addr x.desc.name.num))
     by_life e x here sends true gone =
-        begun e x (told_in w.driver.store (lines_in x.desc.name w.driver.reports)) (gone_told w.driver told.held told.told e x bulk told.tells here gone) (closed.gone e x here sends gone)
+        begun e x (told_in w.driver.store (lines_in x.desc.name w.driver.reports)) (gone_told w.driver told.held told.told e x asynchronous (out_stream w.driver e x asynchronous here sends) told.tells here gone) (closed.gone e x here sends gone)
     by_life e x here sends false kept =
         ⊎_elim (λ (opens : w.driver.command ≡ Some (unfinished.Open x.queue)).
         begun e x [] (told.opening e x here kept opens) (no_bytes (bytes_taken (taker_of (wired fixed w) x.desc.name.addr x.desc.name.num))))

@@ -26,14 +26,15 @@ use Rattle.scripted_takers.specs.Takers.{taker_of}
 use Rattle.report_streams.specs.Reports.{WholeReport, is_end, is_pending, taken}
 use Rattle.report_streams.specs.Streams.{is_refused, command_in, accepted_in, open_in, opened as opened_by, has_stream, told, told_in, ends_once, ends_whole}
 use Rattle.driver_rows.specs.declared.content.Endpoint.{Endpoint}
-use Rattle.driver_rows.specs.DriverContent.{endpoint_of, endpoint_named, opened, ended}
+use Rattle.driver_rows.specs.DriverContent.{DriverContent, endpoint_of, endpoint_named, opened, ended}
 use Rattle.endpoint_lives.specs.Lives.{told_end}
 use Rattle.endpoint_lives.proofs.Lives.{told_some}
 use Rattle.told_endpoints.specs.Telling.{named_of, named_in, lines_in, IsToldTo, TellsEach}
 use Rattle.told_endpoints.proofs.Lines.{once_without}
 use Rattle.bus_world.specs.World.{World}
 use Rattle.stream_worlds.specs.Streaming.{wired}
-use Rattle.chained_transfers.specs.Bulk.{IsDataWay, IsBulk, OpensOrCancelsBulk, BulkLine, BulkOnly, receives}
+use Rattle.chained_transfers.specs.Asynchronous.{IsKindOf, OnlyAsynchronous}
+use Rattle.chained_transfers.specs.Bulk.{IsDataWay, receives}
 use Rattle.right_reports.specs.WorldReport.{closings_of, report_of}
 use Rattle.right_reports.proofs.Named.{HasNamed, NoneNamed, search, named_is, none_pending}
 use Rattle.right_reports.proofs.Right.{all_mapped}
@@ -52,38 +53,34 @@ all_kept Q P p (x ∷ xs) gives k = kept (p x) refl (all_kept Q P p xs gives k.1
     kept true is rest = (gives x k.0 is, rest)
     kept false is rest = rest
 
-all_both : {X : Type 0} (P Q : X → Type 0) (xs : List X) → AllByRecursion P xs → AllByRecursion Q xs → AllByRecursion (λ x. P x × Q x) xs
-all_both P Q [] h k = tt
-all_both P Q (x ∷ xs) h k = ((h.0, k.0), all_both P Q xs h.1 k.1)
-
 -- ---- what is opened
 
--- it is a bulk endpoint, and has its seat
-abbrev Opens : List Seat → Cmd → Type 0
-Opens seats cmd = OpensOrCancelsBulk cmd × OpensItsSeat seats (lines.Command cmd)
-
+-- it has its seat, if its data go one way
 abbrev IsSeated : List Seat → EpDesc → Type 0
-IsSeated seats x = IsBulk x × HasSeat seats x
+IsSeated seats x = IsDataWay x.name.way → HasSeat seats x
 
-accepted_by : (seats : List Seat) (b : Bool) (l : Line) (cmd : Cmd) → BulkLine l × OpensItsSeat seats l → (if b then None else command_in l) ≡ Some cmd → Opens seats cmd
+accepted_by : (seats : List Seat) (b : Bool) (l : Line) (cmd : Cmd) → OpensItsSeat seats l → (if b then None else command_in l) ≡ Some cmd → OpensItsSeat seats (lines.Command cmd)
 accepted_by seats true l cmd k is = absurd cc
-accepted_by seats false (lines.Command c) cmd k is = subst (Opens seats) (same_Some c cmd is) k
+accepted_by seats false (lines.Command c) cmd k is = subst (λ (z : Cmd). OpensItsSeat seats (lines.Command z)) (same_Some c cmd is) k
 accepted_by seats false (lines.Order event n) cmd k is = absurd cc
 accepted_by seats false (lines.Micro n) cmd k is = absurd cc
 
-opens_by : (seats : List Seat) (cmd : Cmd) (desc : EpDesc) → Opens seats cmd → open_in cmd ≡ Some desc → IsSeated seats desc
-opens_by seats (commands.OpenEp x) desc k is = subst (IsSeated seats) (same_Some x desc is) (k.0, k.1 k.0.way)
+opens_by : (seats : List Seat) (cmd : Cmd) (desc : EpDesc) → OpensItsSeat seats (lines.Command cmd) → open_in cmd ≡ Some desc → IsSeated seats desc
+opens_by seats (commands.OpenEp x) desc k is = subst (IsSeated seats) (same_Some x desc is) k
 opens_by seats (commands.Get name len by) desc k is = absurd cc
 opens_by seats (commands.Put name bytes by) desc k is = absurd cc
 opens_by seats (commands.Control name setup bytes) desc k is = absurd cc
 opens_by seats (commands.Iso name count len seed) desc k is = absurd cc
 opens_by seats (commands.Cancel name) desc k is = absurd cc
 
-opened_seated : (s : Script) (seats : List Seat) (r : WholeReport) → BulkOnly s → OpensSeats s seats → AllByRecursion (IsSeated seats) (opened_by s r)
-opened_seated s seats r only has =
-    all_mapped (Opens seats) (IsSeated seats) open_in (filter_map (accepted_in r) s.lines) (opens_by seats)
-    (all_mapped (λ line. BulkLine line.1 × OpensItsSeat seats line.1) (Opens seats) (accepted_in r) s.lines (λ line cmd both is. accepted_by seats (is_refused r line.0) line.1 cmd both is)
-    (all_both (λ line. BulkLine line.1) (λ line. OpensItsSeat seats line.1) s.lines only has))
+opened_seated : (s : Script) (seats : List Seat) (r : WholeReport) → OpensSeats s seats → AllByRecursion (IsSeated seats) (opened_by s r)
+opened_seated s seats r has =
+    all_mapped (λ cmd. OpensItsSeat seats (lines.Command cmd)) (IsSeated seats) open_in (filter_map (accepted_in r) s.lines) (opens_by seats)
+    (all_mapped (λ line. OpensItsSeat seats line.1) (λ cmd. OpensItsSeat seats (lines.Command cmd)) (accepted_in r) s.lines (λ line cmd seat is. accepted_by seats (is_refused r line.0) line.1 cmd seat is) has)
+
+and_left : (a b : Bool) → (a && b) ≡ true → a ≡ true
+and_left true b e = refl
+and_left false b e = absurd (false≢true e)
 
 and_right : (a b : Bool) → (a && b) ≡ true → b ≡ true
 and_right true b e = e
@@ -93,15 +90,18 @@ not_true : (b : Bool) → not b ≡ true → b ≡ false
 not_true true e = absurd (false≢true e)
 not_true false e = refl
 
-out_way : (way : Way) → IsDataWay way → receives way ≡ false → way ≡ Ways.Out
-out_way Ways.Out moves is = refl
-out_way Ways.In moves is = absurd (false≢true (sym is))
-out_way Ways.Ctl moves is = absurd moves
+out_way : (way : Way) → receives way ≡ false → way ≡ Ways.Out
+out_way Ways.Out is = refl
+out_way Ways.In is = absurd (false≢true (sym is))
+out_way Ways.Ctl is = absurd (false≢true (sym is))
 
-all_taken : (s : Script) (seats : List Seat) (r : WholeReport) → BulkOnly s → OpensSeats s seats → ((x : EpDesc) → IsBulk x → HasSeat seats x → x.name.way ≡ Ways.Out → IsTakenStream r x.name) → AreTakenStreams s r
-all_taken s seats r only has each =
+all_taken : (s : Script) (seats : List Seat) (r : WholeReport) → OpensSeats s seats → ((x : EpDesc) → has_stream x.kind ≡ true → HasSeat seats x → x.name.way ≡ Ways.Out → IsTakenStream r x.name)
+    → AreTakenStreams s r
+all_taken s seats r has each =
     all_kept (IsSeated seats) (λ desc. IsTakenStream r desc.name) (λ desc. has_stream desc.kind && not (receives desc.name.way)) (opened_by s r)
-    (λ x k is. each x k.0 k.1 (out_way x.name.way k.0.way (not_true (receives x.name.way) (and_right (has_stream x.kind) (not (receives x.name.way)) is)))) (opened_seated s seats r only has)
+    (λ x k is.
+    let way = out_way x.name.way (not_true (receives x.name.way) (and_right (has_stream x.kind) (not (receives x.name.way)) is)) in
+    each x (and_left (has_stream x.kind) (not (receives x.name.way)) is) (k (subst IsDataWay (sym way) tt)) way) (opened_seated s seats r has)
 
 -- ---- bytes
 
@@ -118,7 +118,16 @@ first_begins told held all taken sum k = (held ++ k.0, sym (append_assoc told he
 
 -- ---- one endpoint
 
-module _ (fixed : Fixed) (w : World) (held told_each : ℕ → List ℕ) (tells : TellsEach w.driver.reports w.driver.store (named_in w.driver.endpoints) held told_each) where
+-- it has a stream
+pub out_stream : (d : DriverContent) (e : ℕ) (x : Endpoint) → OnlyAsynchronous d → slice_get d.endpoints e ≡ Some x → receives x.desc.name.way ≡ false → has_stream x.desc.kind ≡ true
+out_stream d e x only here sends = by x.desc.name.way (only.endpoints e x here).asynchronous.kind sends
+  where
+    by : (way : Way) → IsKindOf way x.desc.kind → receives way ≡ false → has_stream x.desc.kind ≡ true
+    by Ways.Out kind is = ap has_stream kind
+    by Ways.In kind is = absurd (false≢true (sym is))
+    by Ways.Ctl kind is = absurd (false≢true (sym is))
+
+module _ (fixed : Fixed) (w : World) (held told_each : ℕ → List ℕ) (tells : TellsEach w.driver.reports w.driver.store (named_in w.driver.endpoints) held told_each) (only : OnlyAsynchronous w.driver) where
   abbrev r : WholeReport
   r = report_of fixed w
 
@@ -134,9 +143,9 @@ module _ (fixed : Fixed) (w : World) (held told_each : ℕ → List ℕ) (tells 
   not_both true = refl
   not_both false = refl
 
-  module _ (name : EpName) (k : HasNamed w.driver.endpoints name) where
+  module _ (name : EpName) (sends : receives name.way ≡ false) (k : HasNamed w.driver.endpoints name) where
     to : IsToldTo w.driver.reports w.driver.store (named_of k.endpoint) (held k.number) (told_each k.number)
-    to = tells.each k.number (named_of k.endpoint) (ap (option_map named_of) k.here)
+    to = tells.each k.number (named_of k.endpoint) (ap (option_map named_of) k.here) (out_stream w.driver k.number k.endpoint only k.here (ap (λ (n : EpName). receives n.way) k.same ∙ sends))
 
     is_named : endpoint_named w.driver name ≡ Some k.endpoint
     is_named =
@@ -178,24 +187,27 @@ module _ (fixed : Fixed) (w : World) (held told_each : ℕ → List ℕ) (tells 
 
   -- ---- and its taker
 
-  module _ (s : Script) (seated : IsSeatedBus s fixed w.bus) (takes : TakesEach fixed w told_each) (x : EpDesc) (bulk : IsBulk x) (has : HasSeat fixed.seats x) (way : x.name.way ≡ Ways.Out) where
+  module _ (s : Script) (seated : IsSeatedBus s fixed w.bus) (takes : TakesEach fixed w told_each) (x : EpDesc) (stream : has_stream x.kind ≡ true) (has : HasSeat fixed.seats x) (way : x.name.way ≡ Ways.Out) where
+    sends : receives x.name.way ≡ false
+    sends = ap receives way
+
     bytes_by : (k : HasNamed w.driver.endpoints x.name) (o : Option Taker) → taker_of (wired fixed w) x.name.addr x.name.num ≡ o → IsToldTaken (told_each k.number) (bytes_taken o) → IsToldTaken (told r x.name) (taken r x.name)
     bytes_by k None none nothing =
-        subst (λ (xs : List ℕ). IsToldTaken xs (taken r x.name)) (sym (first_none (told r x.name) (held k.number) (sum x.name k ∙ nothing))) (no_bytes (taken r x.name))
+        subst (λ (xs : List ℕ). IsToldTaken xs (taken r x.name)) (sym (first_none (told r x.name) (held k.number) (sum x.name sends k ∙ nothing))) (no_bytes (taken r x.name))
     bytes_by k (Some t) is begins =
-        subst (IsToldTaken (told r x.name)) (sym (closing_tells fixed w x t way (ap has_stream bulk.kind) has seated.apart (is_opened x.name k) is))
-        (first_begins (told r x.name) (held k.number) (told_each k.number) t.taken (sum x.name k) begins)
+        subst (IsToldTaken (told r x.name)) (sym (closing_tells fixed w x t way stream has seated.apart (is_opened x.name sends k) is))
+        (first_begins (told r x.name) (held k.number) (told_each k.number) t.taken (sum x.name sends k) begins)
 
     named_taken : (k : HasNamed w.driver.endpoints x.name) → IsToldTaken (told_each k.number) (bytes_taken (taker_of (wired fixed w) x.name.addr x.name.num))
     named_taken k =
         subst (λ (n : EpName). IsToldTaken (told_each k.number) (bytes_taken (taker_of (wired fixed w) n.addr n.num))) k.same
-        (takes k.number k.endpoint k.here (ap (λ (n : EpName). receives n.way) k.same ∙ ap receives way))
+        (takes k.number k.endpoint k.here (ap (λ (n : EpName). receives n.way) k.same ∙ sends))
 
     pub one_taken : IsTakenStream r x.name
     one_taken =
-        ⊎_elim (λ (k : HasNamed w.driver.endpoints x.name). is_told x.name k (bytes_by k (taker_of (wired fixed w) x.name.addr x.name.num) refl (named_taken k)))
+        ⊎_elim (λ (k : HasNamed w.driver.endpoints x.name). is_told x.name sends k (bytes_by k (taker_of (wired fixed w) x.name.addr x.name.num) refl (named_taken k)))
         (λ (none : NoneNamed w.driver.endpoints x.name). nothing_told x.name (tells.only x.name none)) (search w.driver.endpoints x.name)
 
-pub report_taken : (s : Script) (fixed : Fixed) (w : World) (held told : ℕ → List ℕ) → BulkOnly s → IsSeatedBus s fixed w.bus → TellsEach w.driver.reports w.driver.store (named_in w.driver.endpoints) held told → TakesEach fixed w told
+pub report_taken : (s : Script) (fixed : Fixed) (w : World) (held told : ℕ → List ℕ) → IsSeatedBus s fixed w.bus → OnlyAsynchronous w.driver → TellsEach w.driver.reports w.driver.store (named_in w.driver.endpoints) held told → TakesEach fixed w told
     → AreTakenStreams s (report_of fixed w)
-report_taken s fixed w held told only seated tells takes = all_taken s fixed.seats (report_of fixed w) only seated.seats (λ x bulk has way. one_taken fixed w held told tells s seated takes x bulk has way)
+report_taken s fixed w held told seated asynchronous tells takes = all_taken s fixed.seats (report_of fixed w) seated.seats (λ x stream has way. one_taken fixed w held told tells asynchronous s seated takes x stream has way)

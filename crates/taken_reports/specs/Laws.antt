@@ -13,7 +13,8 @@ use Rattle.report_streams.specs.Reports.{taken}
 use Rattle.report_streams.specs.Streams.{has_stream}
 use Rattle.driver_rows.specs.declared.content.Endpoint.{Endpoint}
 use Rattle.driver_rows.specs.DriverContent.{opened}
-use Rattle.chained_transfers.specs.Bulk.{receives, BulkOnly}
+use Rattle.chained_transfers.specs.Bulk.{receives}
+use Rattle.chained_transfers.specs.Asynchronous.{OnlyAsynchronous}
 use Rattle.told_endpoints.specs.Telling.{named_in, TellsEach}
 use Rattle.bus_world.specs.World.{World}
 use Rattle.stream_worlds.specs.Streaming.{wired}
@@ -33,5 +34,5 @@ TakesEach fixed w told = (e : ℕ) (x : Endpoint) → slice_get w.driver.endpoin
     → IsToldTaken (told e) (bytes_taken (taker_of (wired fixed w) x.desc.name.addr x.desc.name.num))
 
 abbrev pub ReportIsTaken : Type 0
-ReportIsTaken = (s : Script) (fixed : Fixed) (w : World) (held told : ℕ → List ℕ) → BulkOnly s → IsSeatedBus s fixed w.bus
+ReportIsTaken = (s : Script) (fixed : Fixed) (w : World) (held told : ℕ → List ℕ) → IsSeatedBus s fixed w.bus → OnlyAsynchronous w.driver
     → TellsEach w.driver.reports w.driver.store (named_in w.driver.endpoints) held told → TakesEach fixed w told → AreTakenStreams s (report_of fixed w)

@@ -1,4 +1,4 @@
--- A world of bulk endpoints, and what its report tells of OUT endpoints (EHCI 1.0, 4.10; USB 2.0, 8.5 and 8.6).
+-- A world of bulk and control endpoints, and what its report tells of OUT endpoints (EHCI 1.0, 4.10; USB 2.0, 8.5 and 8.6).
 --     HaveOuts d outs ends      each queue head of an OUT endpoint that the walk may meet is among these, and this is its endpoint
 --     ClosedOuts d taker ..     what is told of endpoints OUT that have left begins what their devices took
 --     WorldIsTaken              where both sides of their pipes agree, and what is told of each queue is what was harvested of it, what is told begins what
@@ -13,7 +13,7 @@ use Rattle.ring_laws.specs.Told.{Endpoint as Told, endpoint_of}
 use Rattle.ring_laws.specs.OutBus.{Taker}
 use Rattle.scripted_takers.specs.Takers.{taker_of}
 use Rattle.endpoint_lives.specs.Lives.{may_meet}
-use Rattle.report_streams.specs.Streams.{told_in}
+use Rattle.report_streams.specs.Streams.{told_in, has_stream}
 use Rattle.told_endpoints.specs.Telling.{lines_in}
 use Rattle.controlled_streams.specs.Reported.{AreReported}
 use Rattle.driver_rows.specs.declared.content.Endpoint.{Endpoint}
@@ -22,7 +22,8 @@ use Rattle.driver_rows.specs.Words.{queue_head}
 use Rattle.bus_world.specs.World.{World}
 use Rattle.stream_worlds.specs.Streaming.{wired}
 use Rattle.stream_worlds.specs.Outs.{AreOutPiped}
-use Rattle.chained_transfers.specs.Bulk.{receives, BulkOnly, OnlyBulk}
+use Rattle.chained_transfers.specs.Bulk.{receives}
+use Rattle.chained_transfers.specs.Asynchronous.{OnlyAsynchronous}
 use Rattle.fed_queues.specs.Places.{IsMet, IsThere}
 use Rattle.harvest_laws.specs.Told.{ToldStands}
 use Rattle.right_reports.specs.WorldReport.{report_of}
@@ -43,8 +44,8 @@ pub record ClosedOuts {W : Type 0} (d : DriverContent) (taker : W → ℕ → �
 
 abbrev pub WorldIsTaken : Type 0
 WorldIsTaken = (script : Script) (fixed : Fixed) (takes : ℕ → ℕ → Bool) (member outs heads : ℕ → Bool) (ends : ℕ → Told) (order : ℕ → ℕ → ℕ) (out reported : ℕ → List ℕ)
-    (acc : ℕ → List (List ℕ)) (parts : StructureSets) (hand : Hand) (w : World) → BulkOnly script → IsSeatedBus script fixed w.bus → OnlyBulk w.driver
+    (acc : ℕ → List (List ℕ)) (parts : StructureSets) (hand : Hand) (w : World) → IsSeatedBus script fixed w.bus → OnlyAsynchronous w.driver
     → AreOutPiped takes taker_of member outs ends (λ n. concat (acc n)) parts hand (wired fixed w) → AreReported heads order out hand parts acc reported
     → ((n : ℕ) → outs n ≡ true → heads n ≡ true) → HaveOuts w.driver outs ends
-    → ((e : ℕ) (x : Endpoint) → slice_get w.driver.endpoints e ≡ Some x → IsThere w.driver x → heads (32 * x.queue) ≡ true)
+    → ((e : ℕ) (x : Endpoint) → slice_get w.driver.endpoints e ≡ Some x → IsThere w.driver x → has_stream x.desc.kind ≡ true → heads (32 * x.queue) ≡ true)
     → ClosedOuts w.driver taker_of acc (wired fixed w) → ToldStands w.driver hand parts reported → AreTakenStreams script (report_of fixed w)

@@ -16,17 +16,17 @@ found_by : (b : Bool) (x y : Named) → (if b then Some x else None) ≡ Some y 
 found_by true x y e = (refl, same_Some x y e)
 found_by false x y e = absurd cc
 
-it_is : (ended : Option EndCause) (e : ℕ) (x : Named) → only_sender ended e ≡ Some x → (e ≡ 0) × (record { name = sender; ended = ended } ≡ x)
+it_is : (ended : Option EndCause) (e : ℕ) (x : Named) → only_sender ended e ≡ Some x → (e ≡ 0) × (record { name = sender; stream = true; ended = ended } ≡ x)
 it_is ended e x there =
-    let f = found_by (e == 0) (record { name = sender; ended = ended }) x there in
+    let f = found_by (e == 0) (record { name = sender; stream = true; ended = ended }) x there in
     (let b = f.0 in grind arith, f.1)
 
-tells_by : (reports : List Report) (store : List ℕ) (ended : Option EndCause) (held told : List ℕ) → IsToldTo reports store (record { name = sender; ended = ended }) held told
+tells_by : (reports : List Report) (store : List ℕ) (ended : Option EndCause) (held told : List ℕ) → IsToldTo reports store (record { name = sender; stream = true; ended = ended }) held told
     → ((name : EpName) → is_same_name sender name ≡ false → lines_in name reports ≡ []) → AreStored reports (length store) → TellsEach reports store (only_sender ended) (λ (e : ℕ). held) (λ (e : ℕ). told)
 tells_by reports store ended held told one none stored = record {
   stored = stored;
-  each = λ e x there. subst (λ (y : Named). IsToldTo reports store y held told) (it_is ended e x there).1 one;
-  only = λ name others. none name (others 0 (record { name = sender; ended = ended }) refl);
+  each = λ e x there on. subst (λ (y : Named). IsToldTo reports store y held told) (it_is ended e x there).1 one;
+  only = λ name others. none name (others 0 (record { name = sender; stream = true; ended = ended }) refl);
   apart = λ e k x y here there alike. (it_is ended e x here).0 ∙ sym (it_is ended k y there).0;
 }
 

@@ -11,7 +11,7 @@ use Rattle.usb_bus.specs.Fates.{is_same_name}
 use Rattle.report_streams.specs.Reports.{is_refusal, is_line_of}
 use Rattle.report_streams.specs.Streams.{told_in, ends_once}
 use Rattle.told_endpoints.specs.Telling.{Named, lines_in, has_end, IsToldTo, TellsEach, SameNames}
-use Rattle.told_endpoints.specs.Steps.{Grows, Clears, NamesAt, AddsLine}
+use Rattle.told_endpoints.specs.Steps.{Grows, Clears, NamesAt, AddsLine, AddsOtherLine}
 use Rattle.told_endpoints.proofs.Names.{same_name_is, name_is_same}
 use Rattle.told_endpoints.proofs.Lines.{stored_filtered, stored_more, stored_then, told_more, told_then, once_then, none_then, line_of_it, line_of_other, bytes_stored}
 
@@ -20,7 +20,7 @@ use Rattle.told_endpoints.proofs.Lines.{stored_filtered, stored_more, stored_the
 pub names_kept : (reports : List Report) (store : List ℕ) (named now : ℕ → Option Named) (held told : ℕ → List ℕ) → SameNames named now → TellsEach reports store named held told → TellsEach reports store now held told
 names_kept reports store named now held told same k = record {
   stored = k.stored;
-  each = λ e x there. k.each e x (sym (same e) ∙ there);
+  each = λ e x there on. k.each e x (sym (same e) ∙ there) on;
   only = λ name others. k.only name (λ e x there. others e x (same e ∙ there));
   apart = λ e i x y one two alike. k.apart e i x y (sym (same e) ∙ one) (sym (same i) ∙ two) alike;
 }
@@ -41,8 +41,8 @@ refusal_added reports store named held told line refusal from none k =
     let same : (name : EpName) → lines_in name (reports ++ line ∷ []) ≡ lines_in name reports = λ name. line_of_other name reports line (not_of name line refusal) in
     record {
       stored = stored_then reports line (length store) k.stored (omega (arith, from, none));
-      each = λ e x there.
-          let one = k.each e x there in
+      each = λ e x there on.
+          let one = k.each e x there on in
           record {
             sum = ap (λ (lines : List Report). told_in store lines ++ held e) (same x.name) ∙ one.sum;
             going = λ still. ap has_end (same x.name) ∙ one.going still;
@@ -58,7 +58,7 @@ pub endpoint_added : (reports : List Report) (store : List ℕ) (named now : ℕ
     → ((k : ℕ) (y : Named) → named k ≡ Some y → is_same_name y.name x.name ≡ false) → held e ≡ [] → told e ≡ [] → TellsEach reports store named held told → TellsEach reports store now held told
 endpoint_added reports store named now held told e x new at still others none nothing k = record {
   stored = k.stored;
-  each = λ i y there.
+  each = λ i y there on.
       ⊎_elim (λ (is : i ≡ e).
       let same : x ≡ y = same_Some x y (sym at.here ∙ ap now (sym is) ∙ there) in
       subst (λ (z : Named). IsToldTo reports store z (held i) (told i)) same
@@ -67,7 +67,7 @@ endpoint_added reports store named now held told e x new at still others none no
         going = λ going. ap has_end no_lines;
         over = λ cause ended. absurd (no_end cause (sym still ∙ ended));
       }))
-      (λ (differs : i ≢ e). k.each i y (sym (at.beside i differs) ∙ there)) (cases_eq i e);
+      (λ (differs : i ≢ e). k.each i y (sym (at.beside i differs) ∙ there) on) (cases_eq i e);
   only = λ name unlike. k.only name (λ i y there. unlike i y (at.beside i (λ is. absent i y is there) ∙ there));
   apart = λ i j y z one two alike.
       ⊎_elim (λ (first : i ≡ e).
@@ -102,10 +102,10 @@ pub held_added : (reports : List Report) (store : List ℕ) (named : ℕ → Opt
     → Grows e more held later → Grows e more told now → TellsEach reports store named held told → TellsEach reports store named later now
 held_added reports store named held later told now e x more there still grows adds k = record {
   stored = k.stored;
-  each = λ i y here.
+  each = λ i y here on.
       ⊎_elim (λ (is : i ≡ e).
       let same : x ≡ y = same_Some x y (sym there ∙ ap named (sym is) ∙ here) in
-      let one : IsToldTo reports store x (held e) (told e) = k.each e x there in
+      let one : IsToldTo reports store x (held e) (told e) = k.each e x there (ap (λ (w : Named). w.stream) same ∙ on) in
       subst (λ (z : Named). IsToldTo reports store z (later i) (now i)) same
       (record {
         sum = ap (λ (xs : List ℕ). told_in store (lines_in x.name reports) ++ xs) (ap later is ∙ grows.here) ∙ sym (append_assoc (told_in store (lines_in x.name reports)) (held e) more)
@@ -114,7 +114,7 @@ held_added reports store named held later told now e x more there still grows ad
         over = λ cause ended. absurd (no_end cause (sym still ∙ ended));
       }))
       (λ (differs : i ≢ e).
-      subst (λ (xs : List ℕ). IsToldTo reports store y xs (now i)) (sym (grows.beside i differs)) (subst (λ (xs : List ℕ). IsToldTo reports store y (held i) xs) (sym (adds.beside i differs)) (k.each i y here))) (cases_eq i e);
+      subst (λ (xs : List ℕ). IsToldTo reports store y xs (now i)) (sym (grows.beside i differs)) (subst (λ (xs : List ℕ). IsToldTo reports store y (held i) xs) (sym (adds.beside i differs)) (k.each i y here on))) (cases_eq i e);
   only = k.only;
   apart = k.apart;
 }
@@ -141,44 +141,80 @@ not_same : (a b : EpName) (c : Bool) → is_same_name a b ≡ c → (is_same_nam
 not_same a b true is never = absurd (never is)
 not_same a b false is never = refl
 
-pub line_added : (reports : List Report) (store bytes more : List ℕ) (named after : ℕ → Option Named) (held later told now : ℕ → List ℕ) (e : ℕ) (x y : Named) (line : Report) → named e ≡ Some x → NamesAt e y named after
-    → AddsLine e x y line store bytes (held e) more → Clears e held later → Grows e more told now → TellsEach reports store named held told → TellsEach (reports ++ line ∷ []) (store ++ bytes) after later now
-line_added reports store bytes more named after held later told now e x y line there at adds clears grows k = record {
-  stored = stored_then reports line (length (store ++ bytes)) (stored_more reports (length store) (length (store ++ bytes)) longer k.stored) (let a = adds.from in let b = adds.long in omega (arith, a, b, long));
-  each = λ i z here.
+-- what it leaves of the others
+line_placed : (reports : List Report) (store bytes : List ℕ) (named after : ℕ → Option Named) (held later told now : ℕ → List ℕ) (e : ℕ) (x y : Named) (line : Report) → named e ≡ Some x → NamesAt e y named after
+    → y.name ≡ x.name → line.name ≡ x.name → is_refusal line.what ≡ false → line.from ≡ length store → line.len ≡ length bytes → ((i : ℕ) → i ≢ e → later i ≡ held i) → ((i : ℕ) → i ≢ e → now i ≡ told i)
+    → (y.stream ≡ true → IsToldTo (reports ++ line ∷ []) (store ++ bytes) y (later e) (now e)) → TellsEach reports store named held told → TellsEach (reports ++ line ∷ []) (store ++ bytes) after later now
+line_placed reports store bytes named after held later told now e x y line there at name line_name tells from len held_beside told_beside told_here k = record {
+  stored = stored_then reports line (length (store ++ bytes)) (stored_more reports (length store) (length (store ++ bytes)) longer k.stored) (omega (arith, from, len, long));
+  each = λ i z here on.
       ⊎_elim (λ (is : i ≡ e).
-      subst (λ (u : Named). IsToldTo (reports ++ line ∷ []) (store ++ bytes) u (later i) (now i)) (same_Some y z (sym at.here ∙ ap after (sym is) ∙ here))
-      (record {
-        sum = ap (λ (n : EpName). told_in (store ++ bytes) (lines_in n (reports ++ line ∷ [])) ++ later i) adds.named ∙ ap (λ (ls : List Report). told_in (store ++ bytes) ls ++ later i) lines_now
-            ∙ ap (λ (xs : List ℕ). told_in (store ++ bytes) (lines_in x.name reports ++ line ∷ []) ++ xs) (ap later is ∙ clears.here) ∙ append-nil (told_in (store ++ bytes) (lines_in x.name reports ++ line ∷ [])) ∙ told_then (lines_in x.name reports) line (store ++ bytes) none
-            ∙ ap (λ (xs : List ℕ). xs ++ bytes_of line (store ++ bytes)) (told_more (lines_in x.name reports) store bytes (stored_filtered (is_line_of x.name) reports (length store) k.stored))
-            ∙ ap (λ (xs : List ℕ). told_in store (lines_in x.name reports) ++ xs) (bytes_now ∙ adds.bytes_are)
-            ∙ sym (append_assoc (told_in store (lines_in x.name reports)) (held e) more) ∙ ap (λ (xs : List ℕ). xs ++ more) one.sum ∙ sym grows.here ∙ ap now (sym is);
-        going = λ goes. ap has_end named_lines ∙ none_then (lines_in x.name reports) line none (adds.goes_on goes);
-        over = λ cause ended. (ap later is ∙ clears.here, ap ends_once named_lines ∙ once_then (lines_in x.name reports) line none);
-      }))
-      (λ (differs : i ≢ e). beside i z differs (sym (at.beside i differs) ∙ here)) (cases_eq i e);
-  only = λ name others.
-      line_of_other name reports line (line_by name line false (not_same line.name name (is_same_name line.name name) refl (λ alike. false≢true (sym (others e y at.here) ∙ ap (λ (n : EpName). is_same_name n name) (adds.named ∙ sym adds.line_named) ∙ alike))) adds.tells)
-      ∙ k.only name (λ i z here. unlike name others i z here);
+      let same : y ≡ z = same_Some y z (sym at.here ∙ ap after (sym is) ∙ here) in
+      subst (λ (u : Named). IsToldTo (reports ++ line ∷ []) (store ++ bytes) u (later i) (now i)) same
+      (subst (λ (j : ℕ). IsToldTo (reports ++ line ∷ []) (store ++ bytes) y (later j) (now j)) (sym is) (told_here (ap (λ (w : Named). w.stream) same ∙ on))))
+      (λ (differs : i ≢ e). beside i z differs (sym (at.beside i differs) ∙ here) on) (cases_eq i e);
+  only = λ name_of others.
+      line_of_other name_of reports line (line_by name_of line false (not_same line.name name_of (is_same_name line.name name_of) refl (λ alike. false≢true (sym (others e y at.here) ∙ ap (λ (n : EpName). is_same_name n name_of) (name ∙ sym line_name) ∙ alike))) tells)
+      ∙ k.only name_of (λ i z here. unlike name_of others i z here);
   apart = λ i j u v one_is two_is alike.
       let first = before i u one_is in
       let second = before j v two_is in
       k.apart i j first.named_before second.named_before first.was second.was (ap (λ (n : EpName). is_same_name n second.named_before.name) first.same ∙ ap (is_same_name u.name) second.same ∙ alike);
 }
   where
-    one : IsToldTo reports store x (held e) (told e)
-    one = k.each e x there
-
-    none : has_end (lines_in x.name reports) ≡ false
-    none = one.going adds.going
-
     long : length (store ++ bytes) ≡ length store + length bytes
     long = length-append store bytes
 
     longer : length store ≤ length (store ++ bytes)
     longer = let z : length (store ++ bytes) ≡ length store + length bytes = length-append store bytes in omega (arith, z)
 
+    before : (i : ℕ) (u : Named) → after i ≡ Some u → WasNamed named i u
+    before i u here =
+        ⊎_elim (λ (is : i ≡ e).
+        record { named_before = x; was = ap named is ∙ there; same = sym name ∙ ap (λ (w : Named). w.name) (same_Some y u (sym at.here ∙ ap after (sym is) ∙ here)) })
+        (λ (differs : i ≢ e). record { named_before = u; was = sym (at.beside i differs) ∙ here; same = refl }) (cases_eq i e)
+
+    unlike : (name_of : EpName) → ((i : ℕ) (z : Named) → after i ≡ Some z → is_same_name z.name name_of ≡ false) → (i : ℕ) (z : Named) → named i ≡ Some z → is_same_name z.name name_of ≡ false
+    unlike name_of others i z here =
+        ⊎_elim (λ (is : i ≡ e).
+        ap (λ (n : EpName). is_same_name n name_of) (ap (λ (w : Named). w.name) (same_Some z x (sym here ∙ ap named is ∙ there)) ∙ sym name) ∙ others e y at.here)
+        (λ (differs : i ≢ e). others i z (at.beside i differs ∙ here)) (cases_eq i e)
+
+    other_lines : (i : ℕ) (z : Named) → i ≢ e → named i ≡ Some z → lines_in z.name (reports ++ line ∷ []) ≡ lines_in z.name reports
+    other_lines i z differs here =
+        line_of_other z.name reports line (line_by z.name line false (not_same line.name z.name (is_same_name line.name z.name) refl (λ alike.
+        differs (sym (k.apart e i x z there here (ap (λ (n : EpName). is_same_name n z.name) (sym line_name) ∙ alike))))) tells)
+
+    beside : (i : ℕ) (z : Named) → i ≢ e → named i ≡ Some z → z.stream ≡ true → IsToldTo (reports ++ line ∷ []) (store ++ bytes) z (later i) (now i)
+    beside i z differs here on =
+        let was : IsToldTo reports store z (held i) (told i) = k.each i z here on in
+        let same : lines_in z.name (reports ++ line ∷ []) ≡ lines_in z.name reports = other_lines i z differs here in
+        record {
+          sum = ap (λ (ls : List Report). told_in (store ++ bytes) ls ++ later i) same ∙ ap (λ (xs : List ℕ). told_in (store ++ bytes) (lines_in z.name reports) ++ xs) (held_beside i differs)
+              ∙ ap (λ (xs : List ℕ). xs ++ held i) (told_more (lines_in z.name reports) store bytes (stored_filtered (is_line_of z.name) reports (length store) k.stored)) ∙ was.sum ∙ sym (told_beside i differs);
+          going = λ goes. ap has_end same ∙ was.going goes;
+          over = λ cause ended. (held_beside i differs ∙ (was.over cause ended).0, ap ends_once same ∙ (was.over cause ended).1);
+        }
+
+-- its endpoint has a stream
+pub line_added : (reports : List Report) (store bytes more : List ℕ) (named after : ℕ → Option Named) (held later told now : ℕ → List ℕ) (e : ℕ) (x y : Named) (line : Report) → named e ≡ Some x → NamesAt e y named after
+    → AddsLine e x y line store bytes (held e) more → Clears e held later → Grows e more told now → TellsEach reports store named held told → TellsEach (reports ++ line ∷ []) (store ++ bytes) after later now
+line_added reports store bytes more named after held later told now e x y line there at adds clears grows k =
+    line_placed reports store bytes named after held later told now e x y line there at adds.named adds.line_named adds.tells adds.from adds.long clears.beside grows.beside
+    (λ on.
+    let one = k.each e x there (sym adds.alike ∙ on) in
+    let none : has_end (lines_in x.name reports) ≡ false = one.going adds.going in
+    record {
+      sum = ap (λ (n : EpName). told_in (store ++ bytes) (lines_in n (reports ++ line ∷ [])) ++ later e) adds.named ∙ ap (λ (ls : List Report). told_in (store ++ bytes) ls ++ later e) lines_now
+          ∙ ap (λ (xs : List ℕ). told_in (store ++ bytes) (lines_in x.name reports ++ line ∷ []) ++ xs) clears.here ∙ append-nil (told_in (store ++ bytes) (lines_in x.name reports ++ line ∷ [])) ∙ told_then (lines_in x.name reports) line (store ++ bytes) none
+          ∙ ap (λ (xs : List ℕ). xs ++ bytes_of line (store ++ bytes)) (told_more (lines_in x.name reports) store bytes (stored_filtered (is_line_of x.name) reports (length store) k.stored))
+          ∙ ap (λ (xs : List ℕ). told_in store (lines_in x.name reports) ++ xs) (bytes_now ∙ adds.bytes_are)
+          ∙ sym (append_assoc (told_in store (lines_in x.name reports)) (held e) more) ∙ ap (λ (xs : List ℕ). xs ++ more) one.sum ∙ sym grows.here;
+      going = λ goes. ap has_end named_lines ∙ none_then (lines_in x.name reports) line none (adds.goes_on goes);
+      over = λ cause ended. (clears.here, ap ends_once named_lines ∙ once_then (lines_in x.name reports) line none);
+    })
+    k
+  where
     lines_now : lines_in x.name (reports ++ line ∷ []) ≡ lines_in x.name reports ++ line ∷ []
     lines_now = line_of_it x.name reports line (line_by x.name line true (ap (λ (n : EpName). is_same_name n x.name) adds.line_named ∙ name_is_same x.name) adds.tells)
 
@@ -188,30 +224,9 @@ line_added reports store bytes more named after held later told now e x y line t
     bytes_now : bytes_of line (store ++ bytes) ≡ bytes
     bytes_now = ap (λ (i : ℕ). take line.len (drop i (store ++ bytes))) adds.from ∙ ap (λ (i : ℕ). take i (drop (length store) (store ++ bytes))) adds.long ∙ bytes_stored store bytes
 
-    before : (i : ℕ) (u : Named) → after i ≡ Some u → WasNamed named i u
-    before i u here =
-        ⊎_elim (λ (is : i ≡ e).
-        record { named_before = x; was = ap named is ∙ there; same = sym adds.named ∙ ap (λ (w : Named). w.name) (same_Some y u (sym at.here ∙ ap after (sym is) ∙ here)) })
-        (λ (differs : i ≢ e). record { named_before = u; was = sym (at.beside i differs) ∙ here; same = refl }) (cases_eq i e)
-
-    unlike : (name : EpName) → ((i : ℕ) (z : Named) → after i ≡ Some z → is_same_name z.name name ≡ false) → (i : ℕ) (z : Named) → named i ≡ Some z → is_same_name z.name name ≡ false
-    unlike name others i z here =
-        ⊎_elim (λ (is : i ≡ e).
-        ap (λ (n : EpName). is_same_name n name) (ap (λ (w : Named). w.name) (same_Some z x (sym here ∙ ap named is ∙ there)) ∙ sym adds.named) ∙ others e y at.here)
-        (λ (differs : i ≢ e). others i z (at.beside i differs ∙ here)) (cases_eq i e)
-
-    other_lines : (i : ℕ) (z : Named) → i ≢ e → named i ≡ Some z → lines_in z.name (reports ++ line ∷ []) ≡ lines_in z.name reports
-    other_lines i z differs here =
-        line_of_other z.name reports line (line_by z.name line false (not_same line.name z.name (is_same_name line.name z.name) refl (λ alike.
-        differs (sym (k.apart e i x z there here (ap (λ (n : EpName). is_same_name n z.name) (sym adds.line_named) ∙ alike))))) adds.tells)
-
-    beside : (i : ℕ) (z : Named) → i ≢ e → named i ≡ Some z → IsToldTo (reports ++ line ∷ []) (store ++ bytes) z (later i) (now i)
-    beside i z differs here =
-        let was : IsToldTo reports store z (held i) (told i) = k.each i z here in
-        let same : lines_in z.name (reports ++ line ∷ []) ≡ lines_in z.name reports = other_lines i z differs here in
-        record {
-          sum = ap (λ (ls : List Report). told_in (store ++ bytes) ls ++ later i) same ∙ ap (λ (xs : List ℕ). told_in (store ++ bytes) (lines_in z.name reports) ++ xs) (clears.beside i differs)
-              ∙ ap (λ (xs : List ℕ). xs ++ held i) (told_more (lines_in z.name reports) store bytes (stored_filtered (is_line_of z.name) reports (length store) k.stored)) ∙ was.sum ∙ sym (grows.beside i differs);
-          going = λ goes. ap has_end same ∙ was.going goes;
-          over = λ cause ended. (clears.beside i differs ∙ (was.over cause ended).0, ap ends_once same ∙ (was.over cause ended).1);
-        }
+-- it has none
+pub other_added : (reports : List Report) (store bytes : List ℕ) (named after : ℕ → Option Named) (held told : ℕ → List ℕ) (e : ℕ) (x y : Named) (line : Report) → named e ≡ Some x → NamesAt e y named after
+    → AddsOtherLine x y line store bytes → TellsEach reports store named held told → TellsEach (reports ++ line ∷ []) (store ++ bytes) after held told
+other_added reports store bytes named after held told e x y line there at adds k =
+    line_placed reports store bytes named after held held told told e x y line there at adds.named adds.line_named adds.tells adds.from adds.long (λ i differs. refl) (λ i differs. refl)
+    (λ on. absurd (false≢true (sym adds.none ∙ on))) k

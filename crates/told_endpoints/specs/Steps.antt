@@ -3,7 +3,8 @@
 --     Clears e held later       of the endpoint of number e none any more, of the others the same
 --     NamesAt e y named now     the endpoint of number e is named so now, the others as before
 --     AddsLine ..               a line of the endpoint of number e tells what was held back of it, and then more bytes
---     KeepsNames .. AddsBytes ..  laws
+--     AddsOtherLine ..          a line of an endpoint that has no stream (a control endpoint, whose requests are told one by one)
+--     KeepsNames .. AddsOther ..  laws
 use Rattle.std.specs.Prelude.{◌≡◌, ◌≢◌, ℕ, true, false, List, [], ◌∷◌, ◌++◌, length, Option, Some, None}
 use Rattle.usb_base.specs.declared.reports.Report.{Report}
 use Rattle.usb_bus.specs.Fates.{is_same_name}
@@ -26,12 +27,21 @@ pub record NamesAt (e : ℕ) (y : Named) (named now : ℕ → Option Named) : Ty
 pub record AddsLine (e : ℕ) (x y : Named) (line : Report) (store bytes held more : List ℕ) : Type 0 where
   pub going : x.ended ≡ None
   pub named : y.name ≡ x.name
+  pub alike : y.stream ≡ x.stream
   pub line_named : line.name ≡ x.name
   pub tells : is_refusal line.what ≡ false
   pub goes_on : y.ended ≡ None → is_end line.what ≡ false
   pub from : line.from ≡ length store
   pub long : line.len ≡ length bytes
   pub bytes_are : bytes ≡ held ++ more
+
+pub record AddsOtherLine (x y : Named) (line : Report) (store bytes : List ℕ) : Type 0 where
+  pub named : y.name ≡ x.name
+  pub none : y.stream ≡ false
+  pub line_named : line.name ≡ x.name
+  pub tells : is_refusal line.what ≡ false
+  pub from : line.from ≡ length store
+  pub long : line.len ≡ length bytes
 
 abbrev pub KeepsNames : Type 0
 KeepsNames = (reports : List Report) (store : List ℕ) (named now : ℕ → Option Named) (held told : ℕ → List ℕ) → SameNames named now → TellsEach reports store named held told
@@ -58,3 +68,8 @@ AddsBytes = (reports : List Report) (store bytes more : List ℕ) (named after :
     → NamesAt e y named after
     → AddsLine e x y line store bytes (held e) more → Clears e held later → Grows e more told now → TellsEach reports store named held told
     → TellsEach (reports ++ line ∷ []) (store ++ bytes) after later now
+
+-- a qTD of an endpoint without a stream is harvested
+abbrev pub AddsOther : Type 0
+AddsOther = (reports : List Report) (store bytes : List ℕ) (named after : ℕ → Option Named) (held told : ℕ → List ℕ) (e : ℕ) (x y : Named) (line : Report) → named e ≡ Some x → NamesAt e y named after
+    → AddsOtherLine x y line store bytes → TellsEach reports store named held told → TellsEach (reports ++ line ∷ []) (store ++ bytes) after held told

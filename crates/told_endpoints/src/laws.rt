@@ -1,4 +1,4 @@
-ghost use Rattle.told_endpoints.specs.Steps.{KeepsNames, AddsRefusal, AddsEndpoint, AddsHeld, AddsBytes};
+ghost use Rattle.told_endpoints.specs.Steps.{KeepsNames, AddsRefusal, AddsEndpoint, AddsHeld, AddsBytes, AddsOther};
 
 /// Where endpoints are named as before, the lines tell the same; the line of a refused command tells of none.
 pub fn names_and_refusals_tell_nothing()
@@ -15,4 +15,9 @@ pub fn opened_endpoints_are_told()
 pub fn harvests_add_bytes()
     ensures held { AddsHeld }
     ensures told { AddsBytes }
+{}
+
+/// A line of a control endpoint tells nothing of the others: its requests are told one by one.
+pub fn requests_tell_nothing_of_streams()
+    ensures { AddsOther }
 {}

@@ -7,5 +7,8 @@
 mod laws;
 mod worked;
 
-pub use laws::{harvests_add_bytes, names_and_refusals_tell_nothing, opened_endpoints_are_told};
+pub use laws::{
+    harvests_add_bytes, names_and_refusals_tell_nothing, opened_endpoints_are_told,
+    requests_tell_nothing_of_streams,
+};
 pub use worked::held_and_told;

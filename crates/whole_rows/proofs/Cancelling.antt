@@ -7,11 +7,14 @@ use Rattle.opening_senders.specs.Own.{HasOwnDevices}
 use Rattle.declared_endpoints.specs.Declared.{OpensSenders}
 use Rattle.declared_takers.specs.Declared.{OpensTakers}
 use Rattle.script_numbers.specs.Numbers.{NumbersOpens}
-use Rattle.chained_transfers.specs.Bulk.{BulkOnly}
-use Rattle.whole_worlds.specs.Moments.{IsBulkScript, IsWholeThroughout, InStreamsAreRightThroughout}
+use Rattle.usb_bus.specs.Bus.{opening_bus}
+use Rattle.declared_controls.specs.Names.{NamesEndpoints}
+use Rattle.declared_controls.specs.Zero.{AreZeroesAlone}
+use Rattle.chained_transfers.specs.Asynchronous.{AsynchronousOnly}
+use Rattle.whole_worlds.specs.Moments.{IsAsynchronousScript, IsWholeThroughout, InStreamsAreRightThroughout}
 use Rattle.whole_worlds.proofs.Running.{scripts_stay_whole, streams_are_right}
 use Rattle.small_receiver.specs.Samples.{one_cancel}
-use Rattle.whole_rows.proofs.Sampling.{it_owns}
+use Rattle.whole_rows.proofs.Sampling.{it_is_named, it_owns}
 
 cancel_fits : IsFit one_cancel
 cancel_fits = record {
@@ -39,18 +42,24 @@ cancel_takes = ((λ kind speed way. absurd (in_no_out way)), (tt, (tt, (tt, (tt,
 cancel_numbers : NumbersOpens one_cancel
 cancel_numbers = ((omega arith, omega arith), (tt, (tt, (tt, (tt, (tt, (tt, (tt, tt))))))))
 
-cancel_only : BulkOnly one_cancel
-cancel_only = (record { kind = refl; speed = refl; way = tt }, (tt, (tt, (tt, (tt, (tt, (tt, (tt, tt))))))))
+cancel_only : AsynchronousOnly one_cancel
+cancel_only = (record { kind = refl; speed = refl }, (tt, (tt, (tt, (tt, (tt, (tt, (tt, tt))))))))
+
+cancel_names : NamesEndpoints one_cancel
+cancel_names = record { declared = ((it_is_named, tt), tt); opened = (it_is_named, (tt, (tt, (tt, (tt, (tt, (tt, (tt, tt)))))))) }
+
+cancel_zeroes : AreZeroesAlone (opening_bus one_cancel)
+cancel_zeroes = (record { no_in = refl; no_out = refl }, tt)
 
 -- its devices are those of the script with a get
 pub cancel_owns : HasOwnDevices one_cancel
 cancel_owns = record { own = it_owns.own; apart = it_owns.apart }
 
-pub a_cancel_is_bulk : IsBulkScript one_cancel
-a_cancel_is_bulk = record { fits = cancel_fits; bytes = cancel_bytes; senders = cancel_sends; takers = cancel_takes; numbers = cancel_numbers; only = cancel_only }
+pub a_cancel_is_asynchronous : IsAsynchronousScript one_cancel
+a_cancel_is_asynchronous = record { fits = cancel_fits; bytes = cancel_bytes; senders = cancel_sends; takers = cancel_takes; numbers = cancel_numbers; names = cancel_names; zeroes = cancel_zeroes; only = cancel_only }
 
 pub cancel_stays_whole : IsWholeThroughout one_cancel
-cancel_stays_whole = scripts_stay_whole one_cancel a_cancel_is_bulk
+cancel_stays_whole = scripts_stay_whole one_cancel a_cancel_is_asynchronous
 
 pub cancel_streams_are_right : InStreamsAreRightThroughout one_cancel
-cancel_streams_are_right = streams_are_right one_cancel a_cancel_is_bulk cancel_owns
+cancel_streams_are_right = streams_are_right one_cancel a_cancel_is_asynchronous cancel_owns

@@ -1,4 +1,5 @@
 pub mod Sampling
 pub mod Putting
 pub mod Cancelling
+pub mod Requesting
 pub mod Due

@@ -10,10 +10,13 @@ use Rattle.opening_senders.specs.Own.{HasOwnDevices}
 use Rattle.declared_endpoints.specs.Declared.{OpensSenders}
 use Rattle.declared_takers.specs.Declared.{OpensTakers}
 use Rattle.script_numbers.specs.Numbers.{NumbersOpens}
-use Rattle.chained_transfers.specs.Bulk.{BulkOnly}
-use Rattle.whole_worlds.specs.Moments.{IsBulkScript, IsWholeThroughout}
+use Rattle.usb_bus.specs.Bus.{opening_bus}
+use Rattle.declared_controls.specs.Names.{HasItsName, NamesEndpoints}
+use Rattle.declared_controls.specs.Zero.{AreZeroesAlone}
+use Rattle.chained_transfers.specs.Asynchronous.{AsynchronousOnly}
+use Rattle.whole_worlds.specs.Moments.{IsAsynchronousScript, IsWholeThroughout}
 use Rattle.whole_worlds.proofs.Running.{scripts_stay_whole}
-use Rattle.small_receiver.specs.Samples.{one_put}
+use Rattle.small_receiver.specs.Samples.{sink, one_put}
 
 put_fits : IsFit one_put
 put_fits = record {
@@ -41,8 +44,17 @@ put_takes = ((λ kind speed way. refl), (tt, (tt, (tt, (tt, tt)))))
 put_numbers : NumbersOpens one_put
 put_numbers = ((omega arith, omega arith), (tt, (tt, (tt, (tt, tt)))))
 
-put_is_bulk : BulkOnly one_put
-put_is_bulk = (record { kind = refl; speed = refl; way = tt }, (tt, (tt, (tt, (tt, tt)))))
+put_only : AsynchronousOnly one_put
+put_only = (record { kind = refl; speed = refl }, (tt, (tt, (tt, (tt, tt)))))
+
+sink_named : HasItsName sink
+sink_named = record { name = record { least = omega arith; most = omega arith; way = λ e. cc }; most = λ e. cc; high = λ e _. cc }
+
+put_names : NamesEndpoints one_put
+put_names = record { declared = ((sink_named, tt), tt); opened = (sink_named, (tt, (tt, (tt, (tt, tt))))) }
+
+put_zeroes : AreZeroesAlone (opening_bus one_put)
+put_zeroes = (record { no_in = refl; no_out = refl }, tt)
 
 -- there is one device
 only_device : (i : ℕ) (d : DeviceText) → slice_get one_put.devices (suc i) ≡ Some d → ⊥
@@ -61,8 +73,8 @@ put_owns = record { own = its_own; apart = one_alone }
     one_alone zero (suc j) d e one other same = absurd (only_device j e other)
     one_alone (suc i) j d e one other same = absurd (only_device i d one)
 
-pub a_put_is_bulk : IsBulkScript one_put
-a_put_is_bulk = record { fits = put_fits; bytes = put_bytes; senders = put_sends; takers = put_takes; numbers = put_numbers; only = put_is_bulk }
+pub a_put_is_asynchronous : IsAsynchronousScript one_put
+a_put_is_asynchronous = record { fits = put_fits; bytes = put_bytes; senders = put_sends; takers = put_takes; numbers = put_numbers; names = put_names; zeroes = put_zeroes; only = put_only }
 
 pub put_stays_whole : IsWholeThroughout one_put
-put_stays_whole = scripts_stay_whole one_put a_put_is_bulk
+put_stays_whole = scripts_stay_whole one_put a_put_is_asynchronous

@@ -10,10 +10,13 @@ use Rattle.opening_senders.specs.Own.{HasOwnDevices}
 use Rattle.declared_endpoints.specs.Declared.{OpensSenders}
 use Rattle.declared_takers.specs.Declared.{OpensTakers}
 use Rattle.script_numbers.specs.Numbers.{NumbersOpens}
-use Rattle.chained_transfers.specs.Bulk.{BulkOnly}
-use Rattle.whole_worlds.specs.Moments.{IsBulkScript, IsWholeThroughout, InStreamsAreRightThroughout}
+use Rattle.usb_bus.specs.Bus.{opening_bus}
+use Rattle.declared_controls.specs.Names.{HasItsName, NamesEndpoints}
+use Rattle.declared_controls.specs.Zero.{AreZeroesAlone}
+use Rattle.chained_transfers.specs.Asynchronous.{AsynchronousOnly}
+use Rattle.whole_worlds.specs.Moments.{IsAsynchronousScript, IsWholeThroughout, InStreamsAreRightThroughout}
 use Rattle.whole_worlds.proofs.Running.{scripts_stay_whole, streams_are_right}
-use Rattle.small_receiver.specs.Samples.{receiver}
+use Rattle.small_receiver.specs.Samples.{desc, receiver}
 
 it_fits : IsFit receiver
 it_fits = record {
@@ -41,8 +44,17 @@ it_takes = ((λ kind speed way. absurd (in_no_out way)), (tt, (tt, (tt, (tt, tt)
 its_numbers : NumbersOpens receiver
 its_numbers = ((omega arith, omega arith), (tt, (tt, (tt, (tt, tt)))))
 
-it_is_bulk : BulkOnly receiver
-it_is_bulk = (record { kind = refl; speed = refl; way = tt }, (tt, (tt, (tt, (tt, tt)))))
+its_endpoints : AsynchronousOnly receiver
+its_endpoints = (record { kind = refl; speed = refl }, (tt, (tt, (tt, (tt, tt)))))
+
+pub it_is_named : HasItsName desc
+it_is_named = record { name = record { least = omega arith; most = omega arith; way = λ e. cc }; most = λ e. cc; high = λ e _. cc }
+
+its_names : NamesEndpoints receiver
+its_names = record { declared = ((it_is_named, tt), tt); opened = (it_is_named, (tt, (tt, (tt, (tt, tt))))) }
+
+pub its_zeroes : AreZeroesAlone (opening_bus receiver)
+its_zeroes = (record { no_in = refl; no_out = refl }, tt)
 
 -- there is one device
 only_device : (i : ℕ) (d : DeviceText) → slice_get receiver.devices (suc i) ≡ Some d → ⊥
@@ -61,11 +73,11 @@ it_owns = record { own = its_own; apart = one_alone }
     one_alone zero (suc j) d e one other same = absurd (only_device j e other)
     one_alone (suc i) j d e one other same = absurd (only_device i d one)
 
-pub a_get_is_bulk : IsBulkScript receiver
-a_get_is_bulk = record { fits = it_fits; bytes = its_bytes; senders = it_sends; takers = it_takes; numbers = its_numbers; only = it_is_bulk }
+pub a_get_is_asynchronous : IsAsynchronousScript receiver
+a_get_is_asynchronous = record { fits = it_fits; bytes = its_bytes; senders = it_sends; takers = it_takes; numbers = its_numbers; names = its_names; zeroes = its_zeroes; only = its_endpoints }
 
 pub it_stays_whole : IsWholeThroughout receiver
-it_stays_whole = scripts_stay_whole receiver a_get_is_bulk
+it_stays_whole = scripts_stay_whole receiver a_get_is_asynchronous
 
 pub its_streams_are_right : InStreamsAreRightThroughout receiver
-its_streams_are_right = streams_are_right receiver a_get_is_bulk it_owns
+its_streams_are_right = streams_are_right receiver a_get_is_asynchronous it_owns

@@ -17,7 +17,7 @@ ghost use Rattle.declared_endpoints.specs.Samples.{second};
 ghost use Rattle.feeding_worlds.specs.FeedingSamples.{one_get};
 ghost use Rattle.feeding_worlds.specs.Feeding.{streams_of, IsFeeding};
 ghost use Rattle.feeding_worlds.specs.FeedingLaws.{is_still};
-ghost use Rattle.whole_worlds.specs.Moments.{IsBulkScript, IsWholeThroughout, InStreamsAreRightThroughout};
+ghost use Rattle.whole_worlds.specs.Moments.{IsAsynchronousScript, IsWholeThroughout, InStreamsAreRightThroughout};
 ghost use Rattle.small_receiver.specs.Samples.{desc, one_cancel, cancel_at, cancel_row};
 ghost use Rattle.whole_rows.specs.Due.{IsAtUnlinkIn};
 
@@ -35,7 +35,7 @@ pub fn a_cancel_before_the_open()
 
 /// A script that opens a bulk endpoint, asks a byte of it and cancels it meets the premises of the laws of runs.
 pub fn a_script_that_cancels()
-    ensures bulk { IsBulkScript one_cancel }
+    ensures asynchronous { IsAsynchronousScript one_cancel }
     ensures own { HasOwnDevices one_cancel }
 {}
 

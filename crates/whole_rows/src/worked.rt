@@ -8,13 +8,13 @@ ghost use Rattle.driver_rows.specs.declared.rows.Found.TheVariants as results;
 ghost use Rattle.fed_lends.specs.ToLend.{IsToBeLent};
 ghost use Rattle.open_laws.specs.Lends.{IsOpenReady};
 ghost use Rattle.feeding_worlds.specs.FeedingLaws.{is_still};
-ghost use Rattle.whole_worlds.specs.Moments.{IsBulkScript, IsWholeThroughout, InStreamsAreRightThroughout};
+ghost use Rattle.whole_worlds.specs.Moments.{IsAsynchronousScript, IsWholeThroughout, InStreamsAreRightThroughout};
 ghost use Rattle.small_receiver.specs.Samples.{receiver, words, world_at, row_at, one_put, put_words, put_at, put_row};
 ghost use Rattle.whole_rows.specs.Due.{IsOpenLentIn};
 
-/// The script with a get fits, says bytes, and has a sender for the endpoint that it opens, which is a bulk one and whose numbers fit; it opens no OUT that needs a taker.
+/// The script with a get fits, says bytes, and has a sender for the endpoint that it opens, which is a bulk one and whose name and numbers fit; it opens no OUT that needs a taker.
 pub fn a_small_script()
-    ensures bulk { IsBulkScript receiver }
+    ensures asynchronous { IsAsynchronousScript receiver }
     ensures own { HasOwnDevices receiver }
 {}
 
@@ -39,7 +39,7 @@ pub fn what_is_due()
 
 /// The script with a put meets the same premises: the endpoint that it opens is an OUT, so the bus needs no sender for it, and has its taker.
 pub fn a_small_put()
-    ensures bulk { IsBulkScript one_put }
+    ensures asynchronous { IsAsynchronousScript one_put }
     ensures own { HasOwnDevices one_put }
 {}
 

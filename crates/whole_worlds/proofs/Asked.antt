@@ -1,4 +1,4 @@
--- A transfer is asked: its first qTD is to be lent.
+-- A get, a put or a request is accepted: its first qTD is to be lent.
 use Rattle.std.proofs.Common.{◌≡◌, ℕ, ◌*◌, ◌==◌, Bool, true, false, nat_eq, if◌then◌else◌, List, length, Option, Some, Ok, ap, sym, subst, ◌∙◌, inl, inr}
 use Rattle.usb_base.specs.declared.endpoints.EpName.{EpName}
 use Rattle.usb_bus.specs.Bus.{Fixed}
@@ -11,17 +11,19 @@ use Rattle.driver_rows.specs.DriverContent.{DriverContent}
 use Rattle.driver_rows.specs.Offers.{Offered, new_runs, first_of, stage_words, new_transfer}
 use Rattle.run_owners.specs.Accepts.{Transfers}
 use Rattle.chained_transfers.specs.Accepted.{IsAsked}
-use Rattle.fed_lends.proofs.Accepting.{asked_is_to_be_lent}
+use Rattle.chained_transfers.specs.Asynchronous.{IsRequested}
+use Rattle.fed_lends.specs.ToLend.{IsToBeLent}
+use Rattle.fed_lends.proofs.Accepting.{asked_is_to_be_lent, requested_is_to_be_lent}
 use Rattle.fed_lends.proofs.Asked.{dummy_in, notes_in}
 use Rattle.standing_fronts.specs.Reaching.{Reaches}
-use Rattle.harvest_laws.proofs.Commanding.{asked_told}
-use Rattle.chained_transfers.proofs.BulkAndControl.{only_asynchronous}
+use Rattle.harvest_laws.specs.Told.{ToldStands}
+use Rattle.harvest_laws.proofs.Commanding.{asked_told, requested_told}
 use Rattle.open_names.proofs.Apart.{accepted_apart}
 use Rattle.commanded_queues.proofs.Tails.{asked_reaches}
 use Rattle.commanded_queues.proofs.Extending.{asked_extents}
 use Rattle.bus_world.specs.World.{World, commanded_by}
 use Rattle.stream_worlds.specs.Streaming.{Streams, Standing}
-use Rattle.feeding_worlds.specs.Feeding.{IsFeeding}
+use Rattle.feeding_worlds.specs.Feeding.{AreControlsApart, IsFeeding}
 use Rattle.feeding_worlds.specs.Tails.{tail_block, tail_of, IsUnderWay}
 use Rattle.feeding_worlds.specs.Left.{IsLeft}
 use Rattle.whole_worlds.specs.Whole.{IsWhole}
@@ -29,65 +31,81 @@ use Rattle.feeding_worlds.specs.Taking.{HaveSides}
 use Rattle.feeding_worlds.proofs.There.{there_now}
 use Rattle.feeding_worlds.proofs.Tail.{newest_there, idle_ends}
 
-module _ (fixed : Fixed) (takes : ℕ → ℕ → Bool) (member : ℕ → Bool) (x : Streams) (s : Standing) (w : World) (o : Offered) (k : IsWhole fixed takes member x s w) (asked : IsAsked w.driver w.memory o) where
+module _ (fixed : Fixed) (takes : ℕ → ℕ → Bool) (member : ℕ → Bool) (x : Streams) (s : Standing) (w : World) (o : Offered) (k : IsWhole fixed takes member x s w) (why : Transfers w.driver w.memory o) where
   abbrev d : DriverContent
   d = w.driver
 
-  abbrev why : Transfers w.driver w.memory o
-  why = asked.transfers
-
   abbrev dummy : ℕ
-  dummy = dummy_in (length asked.transfers.asked.stages) (new_runs w.driver asked.transfers.holding_after)
+  dummy = dummy_in (length why.asked.stages) (new_runs w.driver why.holding_after)
 
   abbrev notes : List QtdNote
-  notes = notes_in w.driver asked.transfers.asked asked.transfers.endpoint (new_runs w.driver asked.transfers.holding_after)
+  notes = notes_in w.driver why.asked why.endpoint (new_runs w.driver why.holding_after)
 
   -- the words of the first qTD
   abbrev words : List ℕ
-  words = stage_words notes (first_of asked.transfers.asked.stages) asked.transfers.endpoint.dummy dummy (nat_eq (length asked.transfers.asked.stages) 1)
+  words = stage_words notes (first_of why.asked.stages) why.endpoint.dummy dummy (nat_eq (length why.asked.stages) 1)
 
   abbrev new : Transfer
-  new = new_transfer asked.transfers.number asked.transfers.asked asked.transfers.endpoint.dummy
+  new = new_transfer why.number why.asked why.endpoint.dummy
 
-  command_is : o.driver.command ≡ Some (unfinished.Publish asked.transfers.endpoint.dummy words)
-  command_is = ap (λ (p : Offered). p.driver.command) asked.transfers.is
+  command_is : o.driver.command ≡ Some (unfinished.Publish why.endpoint.dummy words)
+  command_is = ap (λ (p : Offered). p.driver.command) why.is
 
-  tail_is : (e : ℕ) (z : Endpoint) → tail_of o.driver e z ≡ 32 * (if asked.transfers.number == e then asked.transfers.endpoint.dummy else z.dummy)
+  tail_is : (e : ℕ) (z : Endpoint) → tail_of o.driver e z ≡ 32 * (if why.number == e then why.endpoint.dummy else z.dummy)
   tail_is e z =
-      ap (λ (p : Offered). tail_of p.driver e z) asked.transfers.is
-      ∙ ap (λ (q : Option Transfer). 32 * tail_block (Some (unfinished.Publish asked.transfers.endpoint.dummy words)) q e z.dummy) (newest_there d.transfers new)
+      ap (λ (p : Offered). tail_of p.driver e z) why.is
+      ∙ ap (λ (q : Option Transfer). 32 * tail_block (Some (unfinished.Publish why.endpoint.dummy words)) q e z.dummy) (newest_there d.transfers new)
 
   -- no endpoint is being opened
   sides : (way : Bool) (has : ℕ → ℕ → Bool) → HaveSides way o.driver has
   sides way has e z here opening =
-      let a : ◌≡◌ {A = Option Command} (Some (unfinished.Publish asked.transfers.endpoint.dummy words)) (Some (unfinished.Open z.queue)) = sym command_is ∙ opening in absurd (cc)
+      let a : ◌≡◌ {A = Option Command} (Some (unfinished.Publish why.endpoint.dummy words)) (Some (unfinished.Open z.queue)) = sym command_is ∙ opening in absurd (cc)
 
-  to_be_lent : IsUnderWay o.driver o.memory member s.parts o.driver.command
-  to_be_lent =
+  -- its first qTD is ready
+  abbrev IsReady : Type 0
+  IsReady = (b : ℕ) (ws : List ℕ) → o.driver.command ≡ Some (unfinished.Publish b ws) → IsToBeLent o.driver o.memory b ws
+
+  to_be_lent : IsReady → IsUnderWay o.driver o.memory member s.parts o.driver.command
+  to_be_lent ready = subst (λ (c : Option Command). IsUnderWay o.driver o.memory member s.parts c) (sym command_is) (inl (ready why.endpoint.dummy words command_is))
+
+  transfer_whole : (line : ℕ) (name : EpName) → IsReady → ToldStands o.driver s.hand s.parts s.reported → AreControlsApart o.driver takes → IsFeeding fixed member x s (commanded_by w line name (Ok o))
+      → IsLeft fixed takes x.packets s.acc (commanded_by w line name (Ok o)) → IsWhole fixed takes member x s (commanded_by w line name (Ok o))
+  transfer_whole line name ready told apart feeding left =
       let place = k.feeding.working.place in
-      let is = asked_is_to_be_lent d w.memory o asked place.sound.owners place.lent place.sound.stands place.sound.shape asked.transfers.endpoint.dummy words command_is in
-      subst (λ (c : Option Command). IsUnderWay o.driver o.memory member s.parts c) (sym command_is) (inl is)
+      let sound = place.sound in
+      record {
+        feeding = feeding;
+        under_way = to_be_lent ready;
+        names = accepted_apart d w.memory o (inr why) k.names;
+        senders = sides true x.stream;
+        takers = sides false takes;
+        controls_apart = apart;
+        taking = record { ends = k.taking.ends; piped = k.taking.piped; untaken = k.taking.untaken };
+        runs = asked_extents d w.memory o s.parts why sound.stands sound.owners feeding.working.driven k.runs;
+        tails = λ e z here met.
+            subst (λ (c : ℕ). Reaches o.driver (s.parts (32 * z.queue)) (s.order (32 * z.queue)) (s.out (32 * z.queue)) e z c) (sym (tail_is e z))
+            (asked_reaches d w.memory o s.parts s.order s.out why sound.stands sound.owners place.lent k.feeding.turns.asynchronous (idle_ends d s.parts s.order s.out why.idle k.tails) e z here met);
+        told = told;
+        bytes = k.bytes;
+        left = left;
+      }
 
 pub asked_whole : (fixed : Fixed) (takes : ℕ → ℕ → Bool) (member : ℕ → Bool) (x : Streams) (s : Standing) (w : World) (line : ℕ) (name : EpName) (o : Offered) → IsAsked w.driver w.memory o
-    → IsFeeding fixed member x s (commanded_by w line name (Ok o)) → IsLeft fixed takes x.packets s.acc (commanded_by w line name (Ok o))
+    → AreControlsApart o.driver takes → IsFeeding fixed member x s (commanded_by w line name (Ok o)) → IsLeft fixed takes x.packets s.acc (commanded_by w line name (Ok o))
     → IsWhole fixed takes member x s w → IsWhole fixed takes member x s (commanded_by w line name (Ok o))
-asked_whole fixed takes member x s w line name o asked feeding left k =
-    let d = w.driver in
+asked_whole fixed takes member x s w line name o asked apart feeding left k =
     let place = k.feeding.working.place in
     let sound = place.sound in
     let turns = k.feeding.turns in
-    record {
-      feeding = feeding;
-      under_way = to_be_lent fixed takes member x s w o k asked;
-      names = accepted_apart d w.memory o (inr asked.transfers) k.names;
-      senders = sides fixed takes member x s w o k asked true x.stream;
-      takers = sides fixed takes member x s w o k asked false takes;
-      taking = record { ends = k.taking.ends; piped = k.taking.piped; untaken = k.taking.untaken };
-      runs = asked_extents d w.memory o s.parts asked.transfers sound.stands sound.owners feeding.working.driven k.runs;
-      tails = λ e z here met.
-          subst (λ (c : ℕ). Reaches o.driver (s.parts (32 * z.queue)) (s.order (32 * z.queue)) (s.out (32 * z.queue)) e z c) (sym (tail_is fixed takes member x s w o k asked e z))
-          (asked_reaches d w.memory o s.parts s.order s.out asked.transfers sound.stands sound.owners place.lent (only_asynchronous d turns.bulk) (idle_ends d s.parts s.order s.out asked.transfers.idle k.tails) e z here met);
-      told = asked_told d w.memory o s.hand s.parts s.reported asked sound.stands sound.owners (there_now d turns) turns.turns.places k.told;
-      bytes = k.bytes;
-      left = left;
-    }
+    transfer_whole fixed takes member x s w o k asked.transfers line name (asked_is_to_be_lent w.driver w.memory o asked sound.owners place.lent sound.stands sound.shape)
+    (asked_told w.driver w.memory o s.hand s.parts s.reported asked sound.stands sound.owners (there_now w.driver turns) turns.turns.places k.told) apart feeding left
+
+pub requested_whole : (fixed : Fixed) (takes : ℕ → ℕ → Bool) (member : ℕ → Bool) (x : Streams) (s : Standing) (w : World) (line : ℕ) (name : EpName) (o : Offered) → IsRequested w.driver w.memory o
+    → AreControlsApart o.driver takes → IsFeeding fixed member x s (commanded_by w line name (Ok o)) → IsLeft fixed takes x.packets s.acc (commanded_by w line name (Ok o))
+    → IsWhole fixed takes member x s w → IsWhole fixed takes member x s (commanded_by w line name (Ok o))
+requested_whole fixed takes member x s w line name o requested apart feeding left k =
+    let place = k.feeding.working.place in
+    let sound = place.sound in
+    let turns = k.feeding.turns in
+    transfer_whole fixed takes member x s w o k requested.transfers line name (requested_is_to_be_lent w.driver w.memory o requested sound.owners place.lent sound.stands sound.shape)
+    (requested_told w.driver w.memory o s.hand s.parts s.reported requested sound.stands sound.owners (there_now w.driver turns) turns.turns.places k.told) apart feeding left

@@ -35,7 +35,7 @@ module _ (fixed : Fixed) (takes : ℕ → ℕ → Bool) (member : ℕ → Bool) 
   heard = hears_bytes fixed w k.bytes
 
   abbrev pub beside : GoesOnBeside fixed member x s w
-  beside = controller_feeds fixed member x s w (hears_bytes fixed w k.bytes) k.feeding
+  beside = controller_feeds fixed member x s w (hears_bytes fixed w k.bytes) k.tails k.feeding
 
   abbrev pub effect : ControlEffect begins_by transacts_by s.parts s.hand (wired fixed w) (wired fixed (controller_next fixed w)) beside.event.event.now beside.event.event.later
   effect = beside.event.event.effect
@@ -61,7 +61,8 @@ module _ (fixed : Fixed) (takes : ℕ → ℕ → Bool) (member : ℕ → Bool) 
         names = k.names;
         senders = k.senders;
         takers = k.takers;
-        taking = controller_taking fixed takes member x s w heard f k.taking;
+        controls_apart = k.controls_apart;
+        taking = controller_taking fixed takes member x s w heard k.tails f k.taking;
         runs = runs_stay begins_by transacts_by base member s.parts s.hand (controller_parts w) (wired fixed w) (wired fixed new) now later controlled (views_of w.driver) effect k.runs;
         tails = tails_stay begins_by transacts_by base member s.parts s.hand (controller_parts w) (wired fixed w) (wired fixed new) now later controlled w.driver s.order s.out effect
             (rising fixed member x s w f) k.tails;

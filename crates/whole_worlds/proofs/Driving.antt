@@ -8,6 +8,7 @@ use Rattle.whole_worlds.proofs.Worlds.{store_keeps_whole}
 use Rattle.whole_worlds.proofs.OpenLending.{open_lend_keeps}
 use Rattle.whole_worlds.proofs.Linked.{open_link_keeps}
 use Rattle.whole_worlds.proofs.Leaving.{harvest_whole}
+use Rattle.whole_worlds.proofs.Mending.{mend_keeps_whole}
 use Rattle.whole_worlds.proofs.Releasing.{release_keeps_whole}
 use Rattle.whole_worlds.proofs.LeavingUnlinked.{unlink_keeps_whole}
 use Rattle.whole_worlds.proofs.LeavingCleared.{clear_keeps_whole}
@@ -22,6 +23,7 @@ driver_keeps_whole fixed takes member x s w k = after_each fixed takes member x 
   open_lend = λ ready. open_lend_keeps fixed takes member x s w ready k;
   open_link = λ lent. open_link_keeps fixed takes member x s w lent k;
   harvest = λ e t found row. harvest_whole fixed takes member x s w e t found row k;
+  mend = λ m row. mend_keeps_whole fixed takes member x s w m row k;
   unlink = λ e before link command. unlink_keeps_whole fixed takes member x s w e before link command k;
   clear = λ row. clear_keeps_whole fixed takes member x s w row k;
   release_endpoint = λ e row. endpoint_release_keeps_whole fixed takes member x s w e row k;

@@ -18,6 +18,7 @@ use Rattle.taken_reports.specs.Taken.{IsToldTaken}
 use Rattle.controlled_streams.specs.Opened.{with_none}
 use Rattle.whole_worlds.specs.Whole.{IsWhole, HasWhole}
 use Rattle.feeding_worlds.proofs.Rows.{told_once, row_keeps_left}
+use Rattle.whole_worlds.proofs.Fewer.{are_same}
 
 -- where each stream is open still
 pub whole_of : (fixed : Fixed) (takes : ℕ → ℕ → Bool) (member : ℕ → Bool) (x : Streams) (s : Standing) (w : World) → IsWhole fixed takes member x s w → HasWhole fixed takes x.stream x.packets w
@@ -31,6 +32,8 @@ whole_of fixed takes member x s w k = record {
   whole = k;
   ins_stay = λ addr ep on. inl on;
   outs_stay = λ addr ep on. inl on;
+  ins_were = are_same x.stream;
+  outs_were = are_same takes;
 }
 
 pub no_command : (o : Option Command) (c : Command) → o ≡ None → o ≡ Some c → ⊥
@@ -61,6 +64,7 @@ begun_left fixed takes packets acc w n k = record {
     gone = k.closed_outs.gone;
   };
   shut = k.shut;
+  named = k.named;
 }
 
 -- ---- along the rows

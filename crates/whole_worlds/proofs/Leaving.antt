@@ -26,12 +26,12 @@ use Rattle.bus_world.specs.World.{World, driver_parts, driver_next}
 use Rattle.stream_worlds.specs.Streaming.{Streams, Standing}
 use Rattle.feeding_worlds.specs.HarvestFeeds.{HarvestLeaves}
 use Rattle.feeding_worlds.proofs.FeedingHarvests.{harvest_feeds}
-use Rattle.chained_transfers.proofs.BulkAndControl.{bulk_takes_turns}
 use Rattle.idle_tails.proofs.Reaching.{idle_queues_reach}
 use Rattle.feeding_worlds.specs.Tails.{tail_block, TailsStand, IsUnderWay}
 use Rattle.whole_worlds.specs.Whole.{IsWhole, HasWhole}
 use Rattle.whole_worlds.specs.Laws.{HarvestKeepsWhole}
 use Rattle.feeding_worlds.specs.Taking.{HaveSides}
+use Rattle.feeding_worlds.proofs.Names.{row_apart}
 
 -- ---- what is the same
 
@@ -88,7 +88,7 @@ module _ (fixed : Fixed) (takes : ℕ → ℕ → Bool) (member : ℕ → Bool) 
       let f = l.feeding in
       subst (λ (c : ℕ). Reaches new (s.parts (32 * z.queue)) (s.order (32 * z.queue)) (l.out (32 * z.queue)) i z c)
       (sym (ap (λ (c : Option Command). 32 * tail_block c (slice_get new.transfers (length new.transfers - 1)) i z.dummy) command))
-      (idle_queues_reach member new s.parts s.order l.out command f.working.place.sound.owners f.working.place.lent (bulk_takes_turns new f.turns) f.queues.fed f.queues.last f.queues.out_are l.fronts i z here meets
+      (idle_queues_reach member new s.parts s.order l.out command f.working.place.sound.owners f.working.place.lent f.turns f.queues.fed f.queues.last f.queues.out_are l.fronts i z here meets
       (f.working.streaming.controlled.ring.members (32 * z.queue) (f.queues.met.each i z here meets)))
 
   pub whole_harvested : (l : HarvestLeaves fixed member x s (driver_next w)) → IsWhole fixed takes member x (record s { out = l.out; reported = l.reported }) (driver_next w)
@@ -98,6 +98,7 @@ module _ (fixed : Fixed) (takes : ℕ → ℕ → Bool) (member : ℕ → Bool) 
     names = names;
     senders = sides true x.stream;
     takers = sides false takes;
+    controls_apart = row_apart takes (driver_row (driver_parts w)) (driver_parts w) k.controls_apart;
     taking = record { ends = k.taking.ends; piped = k.taking.piped; untaken = k.taking.untaken };
     runs = runs;
     tails = tails l;

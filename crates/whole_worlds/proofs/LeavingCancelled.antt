@@ -11,7 +11,8 @@ use Rattle.driver_rows.specs.DriverContent.{DriverContent}
 use Rattle.driver_rows.specs.Offers.{Offered, offered, IsOffered, accepted_cancel}
 use Rattle.run_owners.specs.Accepts.{Cancels}
 use Rattle.run_owners.specs.Owners.{SlotHas, Views, views_of}
-use Rattle.chained_transfers.proofs.Commands.{is_accepted}
+use Rattle.chained_transfers.proofs.Accepting.{command_accepts}
+use Rattle.feeding_worlds.proofs.Names.{command_apart}
 use Rattle.lent_structures.specs.Structures.{StructureSets}
 use Rattle.driver_laws.specs.Extents.{KeepExtents, AreInRuns}
 use Rattle.driver_laws.proofs.Viewing.{SameViews}
@@ -66,7 +67,7 @@ module _ (fixed : Fixed) (takes : ℕ → ℕ → Bool) (member : ℕ → Bool) 
   by_offer : (r : Result Offered OfferError) → offered w.driver w.memory (commands.Cancel name) ≡ r → IsFeeding fixed member x s (commanded_by w line name r) → IsTold s (commanded_by w line name r)
       → IsLeft fixed takes x.packets s.acc (commanded_by w line name r) → IsWhole fixed takes member x s (commanded_by w line name r)
   by_offer (Ok o) is feeding told left =
-      let why : Cancels w.driver w.memory o = is_accepted w.driver w.memory (commands.Cancel name) o k.feeding.turns.bulk tt is in
+      let why : Cancels w.driver w.memory o = command_accepts w.driver w.memory (commands.Cancel name) o k.feeding.turns.asynchronous tt is in
       let b = (cancel_as_before w.driver w.memory o k.feeding.turns why).0 in
       record {
         feeding = feeding;
@@ -75,6 +76,7 @@ module _ (fixed : Fixed) (takes : ℕ → ℕ → Bool) (member : ℕ → Bool) 
         names = names_before w.driver o.driver b k.names;
         senders = idle_sides true o.driver x.stream b.idle_now;
         takers = idle_sides false o.driver takes b.idle_now;
+        controls_apart = command_apart takes w (commands.Cancel name) o k.feeding.turns tt (λ p offer. tt) is k.controls_apart;
         runs = cancel_runs w.driver w.memory o s.parts why k.runs;
         tails = told.tails;
         told = told.told;
@@ -88,4 +90,4 @@ pub cancel_whole : (fixed : Fixed) (takes : ℕ → ℕ → Bool) (member : ℕ 
 cancel_whole fixed takes member x s w line name room k =
     by_offer fixed takes member x s w line name k (offered w.driver w.memory (commands.Cancel name)) refl (cancel_feeds fixed member x s w line name room k.feeding)
     (cancel_told s w line name k.feeding.turns (record { tails = k.tails; told = k.told }))
-    (command_keeps_left fixed takes member x s w line (commands.Cancel name) tt tt room k.feeding k.left)
+    (command_keeps_left fixed takes member x s w line (commands.Cancel name) tt tt tt room k.feeding k.left)

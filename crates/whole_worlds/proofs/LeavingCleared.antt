@@ -28,6 +28,8 @@ use Rattle.whole_worlds.specs.Laws.{ClearKeepsWhole}
 use Rattle.feeding_worlds.proofs.Cleared.{clear_keeps_left}
 use Rattle.feeding_worlds.proofs.Takes.{clear_keeps_taking}
 use Rattle.whole_worlds.proofs.LeavingCancelled.{idle_sides}
+use Rattle.feeding_worlds.proofs.Names.{row_apart}
+use Rattle.whole_worlds.proofs.Fewer.{fewer_apart, kept_of}
 
 -- the queue heads that the walk may meet then
 abbrev pub narrow_of : World → ℕ → Bool
@@ -66,6 +68,7 @@ module _ (fixed : Fixed) (takes : ℕ → ℕ → Bool) (member : ℕ → Bool) 
         names = events_apart (driver_parts w) k.names;
         senders = idle_sides true new (narrowed_to x new narrow).stream idle;
         takers = idle_sides false new (taking_of takes new) idle;
+        controls_apart = fewer_apart new takes (taking_of takes new) (kept_of takes (left_names new false)) (row_apart takes (driver_row (driver_parts w)) (driver_parts w) k.controls_apart);
         runs = by_row (λ (d : DriverContent). AreInRuns (views_of d) s.parts) k.runs;
         tails = stand.tails;
         told = stand.told;
@@ -87,4 +90,6 @@ clear_keeps_whole fixed takes member x s w row k =
       whole = clear_whole fixed takes member x s w row k;
       ins_stay = stays_open new true x.stream;
       outs_stay = stays_open new false takes;
+      ins_were = kept_of x.stream (left_names new true);
+      outs_were = kept_of takes (left_names new false);
     }

@@ -29,12 +29,15 @@ use Rattle.stream_worlds.specs.Streaming.{Streams, Standing}
 use Rattle.feeding_worlds.specs.Feeding.{IsFeeding}
 use Rattle.feeding_worlds.specs.Tails.{IsUnderWay}
 use Rattle.feeding_worlds.proofs.Tail.{idle_tail, idle_ends}
-use Rattle.feeding_worlds.proofs.Told.{there_by}
+use Rattle.report_streams.specs.Streams.{has_stream}
+use Rattle.feeding_worlds.proofs.Heads.{queue_reported}
 use Rattle.whole_worlds.specs.Whole.{IsWhole}
 use Rattle.whole_worlds.specs.Laws.{EndpointReleaseKeepsWhole}
 use Rattle.feeding_worlds.proofs.Released.{release_keeps_left}
 use Rattle.feeding_worlds.proofs.Takes.{release_keeps_taking}
 use Rattle.whole_worlds.proofs.LeavingCancelled.{idle_sides}
+use Rattle.feeding_worlds.proofs.Names.{row_apart}
+use Rattle.whole_worlds.proofs.Fewer.{are_same}
 
 no_open : (c : Option Command) (b : ℕ) → c ≡ None → c ≡ Some (unfinished.Open b) → ⊥
 no_open c b idle opens = cc
@@ -98,10 +101,10 @@ module _ (fixed : Fixed) (takes : ℕ → ℕ → Bool) (member : ℕ → Bool) 
     ring = f.working.streaming.controlled.ring;
   }
 
-  reports : IsReported (s.order (32 * z.queue)) (out_now w.driver e) s.hand s.parts (32 * z.queue) (s.acc (32 * z.queue)) (s.reported (32 * z.queue))
-  reports =
+  reports : has_stream z.desc.kind ≡ true → IsReported (s.order (32 * z.queue)) (out_now w.driver e) s.hand s.parts (32 * z.queue) (s.acc (32 * z.queue)) (s.reported (32 * z.queue))
+  reports stream =
       subst (λ (out : List ℕ). IsReported (s.order (32 * z.queue)) out s.hand s.parts (32 * z.queue) (s.acc (32 * z.queue)) (s.reported (32 * z.queue))) (f.queues.out_are e z leaver.leaves.here there)
-      (f.counted (32 * z.queue) (there_by w.driver (32 * z.queue) (record { number = e; endpoint = z; here = leaver.leaves.here; there = there; at = refl })))
+      (queue_reported fixed member x s w f e z leaver.leaves.here there stream)
 
   told : ToldStands new s.hand (without_queue s.parts (32 * z.queue)) s.reported
   told =
@@ -120,6 +123,7 @@ module _ (fixed : Fixed) (takes : ℕ → ℕ → Bool) (member : ℕ → Bool) 
         names = events_apart p k.names;
         senders = idle_sides true new x.stream idle;
         takers = idle_sides false new takes idle;
+        controls_apart = row_apart takes (driver_row p) p k.controls_apart;
         runs = g.runs;
         tails = λ i y here met.
             subst (λ (c : ℕ). Reaches new ((released s z).parts (32 * y.queue)) (s.order (32 * y.queue)) (s.out (32 * y.queue)) i y c) (sym (idle_tail new i y command)) (g.tails i y here met);
@@ -139,4 +143,6 @@ endpoint_release_keeps_whole fixed takes member x s w e row k = record {
   whole = endpoint_release_whole fixed takes member x s w e row k;
   ins_stay = λ addr ep on. inl on;
   outs_stay = λ addr ep on. inl on;
+  ins_were = are_same x.stream;
+  outs_were = are_same takes;
 }

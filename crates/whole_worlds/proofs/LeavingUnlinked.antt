@@ -29,6 +29,8 @@ use Rattle.whole_worlds.specs.Laws.{UnlinkKeepsWhole}
 use Rattle.feeding_worlds.proofs.Rows.{told_once, row_keeps_left}
 use Rattle.feeding_worlds.proofs.Takes.{unlink_keeps_taking}
 use Rattle.whole_worlds.proofs.LeavingCancelled.{idle_sides, runs_now}
+use Rattle.feeding_worlds.proofs.Names.{row_apart}
+use Rattle.whole_worlds.proofs.Fewer.{are_same}
 
 -- ---- rows
 
@@ -73,6 +75,7 @@ module _ (fixed : Fixed) (takes : ℕ → ℕ → Bool) (member : ℕ → Bool) 
         names = events_apart (driver_parts w) k.names;
         senders = idle_sides true new x.stream idle;
         takers = idle_sides false new takes idle;
+        controls_apart = row_apart takes (driver_row (driver_parts w)) (driver_parts w) k.controls_apart;
         runs = runs;
         tails = λ i z here met.
             subst (λ (c : ℕ). Reaches new ((unlinked s at).parts (32 * z.queue)) (s.order (32 * z.queue)) (s.out (32 * z.queue)) i z c) (sym (idle_tail new i z row.done)) (tells.0 i z here met);
@@ -95,4 +98,6 @@ unlink_keeps_whole fixed takes member x s w e before link command k =
       whole = unlink_whole fixed takes member x s w at k;
       ins_stay = λ addr ep on. inl on;
       outs_stay = λ addr ep on. inl on;
+      ins_were = are_same x.stream;
+      outs_were = are_same takes;
     }

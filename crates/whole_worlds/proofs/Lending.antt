@@ -31,6 +31,7 @@ use Rattle.feeding_worlds.specs.Taking.{HaveTakers}
 use Rattle.whole_worlds.proofs.KeptLeft.{whole_of, busy_left}
 use Rattle.whole_worlds.proofs.LentTails.{tail_stands}
 use Rattle.whole_worlds.proofs.TakingLends.{lend_taking}
+use Rattle.feeding_worlds.specs.Feeding.{AreControlsApart}
 
 -- ---- what is told
 
@@ -44,9 +45,9 @@ lend_told : (d : DriverContent) (m : Mem) (hand : Hand) (parts now : StructureSe
     → ((n a : ℕ) (u : Qtd) → parts n a ≡ Some (Element u) → SparesElement parts now n a) → ToldStands d hand parts reported → ToldStands (lent_now d m) hand now reported
 lend_told d m hand parts now reported heads elements k =
     let spares : SparesDone d parts now = record {
-      heads = λ e x here. heads (32 * x.queue);
-      done = λ e t x y a next one.
-          let stands = held_stands y.first (y.qtds - y.left) y.place a (k.held e) (k.holds.next e t x y next).done one in
+      heads = λ e x here on. heads (32 * x.queue);
+      done = λ e t x y a next on one.
+          let stands = held_stands y.first (y.qtds - y.left) y.place a (k.held e) (k.holds.next e t x y next on).done one in
           elements (32 * x.queue) (32 * a) stands.qtd stands.here;
     } in
     alike_told d (lent_now d m) hand now reported (record { reports = refl; store = refl; endpoints = refl; transfers = refl; notes = refl }) (λ x met. record { linked = met.linked; kept = met.kept }) (λ x opens. opens)
@@ -83,12 +84,13 @@ module _ (fixed : Fixed) (takes : ℕ → ℕ → Bool) (member : ℕ → Bool) 
         names = subst AreNamesApart (sym g.driver_is) k.names;
         senders = subst (λ (d : DriverContent). HaveSenders d x.stream) (sym g.driver_is) k.senders;
         takers = subst (λ (d : DriverContent). HaveTakers d takes) (sym g.driver_is) k.takers;
+        controls_apart = subst (λ (d : DriverContent). AreControlsApart d takes) (sym g.driver_is) k.controls_apart;
         taking = lend_taking fixed takes member x s w b words get k;
         runs = g.runs;
         tails = subst (λ (d : DriverContent). TailsStand d g.parts g.order g.out) (sym g.driver_is)
             (λ e z here met.
             subst (λ (d : DriverContent). Reaches d (g.parts (32 * z.queue)) (g.order (32 * z.queue)) (g.out (32 * z.queue)) e z (tail_of w.driver e z)) g.driver_is
-            (g.reaches e z (tail_of w.driver e z) here met.there.kept (tail_stands w.driver w.memory b words s.parts e z get place.sound.owners place.lent f.turns.bulk f.queues.fed here met.there.kept)
+            (g.reaches e z (tail_of w.driver e z) here met.there.kept (tail_stands w.driver w.memory b words s.parts e z get place.sound.owners place.lent f.turns.asynchronous f.queues.fed here met.there.kept)
             (k.tails e z here (record { there = record { linked = met.there.linked; kept = met.there.kept }; near = met.near }))));
         told = subst (λ (d : DriverContent). ToldStands d s.hand g.parts s.reported) (sym g.driver_is) (lend_told w.driver w.memory s.hand s.parts g.parts s.reported g.heads g.elements k.told);
         bytes = k.bytes;

@@ -20,7 +20,7 @@ use Rattle.lent_structures.specs.Structures.{Element, StructureSets}
 use Rattle.lent_structures.proofs.Names.{not_same}
 use Rattle.lent_structures.specs.Sound.{IsElement}
 use Rattle.driver_laws.specs.Inventory.{IsLent}
-use Rattle.chained_transfers.specs.Bulk.{OnlyBulk}
+use Rattle.chained_transfers.specs.Asynchronous.{OnlyAsynchronous}
 use Rattle.fed_queues.specs.Fed.{AreFed}
 use Rattle.driver_laws.proofs.Lists.{IsOneOf}
 use Rattle.driver_laws.proofs.TransferOwning.{IsOwnedBy, as_element, as_dummy, as_buffer}
@@ -59,19 +59,19 @@ no_other_dummy owner t e f c differs owned (as_element is) = no_element e t (sym
 no_other_dummy owner t e f c differs owned (as_dummy is) = differs (one_dummy e f (sym owned ∙ is))
 no_other_dummy owner t e f c differs owned (as_buffer is) = no_buffer e t (sym owned ∙ is)
 
-other_dummy_lent : (d : DriverContent) (m : Mem) (b : ℕ) (words : List ℕ) (e : ℕ) (x : Endpoint) → (k : IsToBeLent d m b words) → HasOwners d → AreLent d → OnlyBulk d
+other_dummy_lent : (d : DriverContent) (m : Mem) (b : ℕ) (words : List ℕ) (e : ℕ) (x : Endpoint) → (k : IsToBeLent d m b words) → HasOwners d → AreLent d → OnlyAsynchronous d
     → slice_get d.endpoints e ≡ Some x → x.gone ≡ false → e ≢ k.transfer.endpoint → IsLent (slot_of d.book.slots x.dummy)
-other_dummy_lent d m b words e x k has lent bulk here kept differs =
-    let placed = has.owned.each.dummy e (runs_of_endpoint x) (ap (option_map runs_of_endpoint) here) (bare_is d e x bulk here kept) in
+other_dummy_lent d m b words e x k has lent only here kept differs =
+    let placed = has.owned.each.dummy e (runs_of_endpoint x) (ap (option_map runs_of_endpoint) here) (bare_is d e x only here kept) in
     let none : IsOneOf x.dummy d.book.taken → ⊥ = λ one. no_other_dummy has.owner k.number e k.transfer.endpoint x.dummy differs placed.owned
     (taken_owner d m k.number (runs_of_transfer k.transfer) (runs_of_endpoint k.endpoint) k.stage k.further x.dummy k.awaits has one) in
     lent_already {d = d} lent x.dummy (slot_of d.book.slots x.dummy) refl (placed_run x.dummy (Dummy e) placed) none
 
 -- ---- each tail
 
-pub tail_stands : (d : DriverContent) (m : Mem) (b : ℕ) (words : List ℕ) (parts : StructureSets) (e : ℕ) (x : Endpoint) → (k : IsToBeLent d m b words) → HasOwners d → AreLent d → OnlyBulk d
+pub tail_stands : (d : DriverContent) (m : Mem) (b : ℕ) (words : List ℕ) (parts : StructureSets) (e : ℕ) (x : Endpoint) → (k : IsToBeLent d m b words) → HasOwners d → AreLent d → OnlyAsynchronous d
     → AreFed d parts → slice_get d.endpoints e ≡ Some x → x.gone ≡ false → IsElement (parts (32 * x.queue)) (tail_of d e x)
-tail_stands d m b words parts e x k has lent bulk fed here kept =
+tail_stands d m b words parts e x k has lent only fed here kept =
     let newest = k.newest in
     let number : length d.transfers - 1 ≡ k.number = omega (arith, newest) in
     let last : slice_get d.transfers (length d.transfers - 1) ≡ Some k.transfer = ap (slice_get d.transfers) number ∙ k.there in
@@ -87,7 +87,7 @@ tail_stands d m b words parts e x k has lent bulk fed here kept =
     let at : 32 * cond (k.transfer.endpoint == e) b x.dummy ≡ 32 * b = ap (λ (c : Bool). 32 * cond c b x.dummy) (eq-eqb k.transfer.endpoint e same) in
     record { qtd = dummy_qtd; here = ap (parts (32 * x.queue)) at ∙ first })
     (λ (differs : k.transfer.endpoint ≢ e).
-    let dummy = fed.dummies e x here kept (other_dummy_lent d m b words e x k has lent bulk here kept (λ same. differs (sym same))) in
+    let dummy = fed.dummies e x here kept (other_dummy_lent d m b words e x k has lent only here kept (λ same. differs (sym same))) in
     let at : 32 * cond (k.transfer.endpoint == e) b x.dummy ≡ 32 * x.dummy = ap (λ (c : Bool). 32 * cond c b x.dummy) (not_same k.transfer.endpoint e differs) in
     record { qtd = dummy_qtd; here = ap (parts (32 * x.queue)) at ∙ dummy })
     (cases_eq k.transfer.endpoint e))

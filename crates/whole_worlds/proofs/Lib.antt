@@ -20,12 +20,14 @@ pub mod OpenLending
 pub mod Linked
 pub mod Linking
 pub mod Leaving
+pub mod Mending
 pub mod Releasing
 pub mod Returning
 pub mod Telling
 pub mod Driving
 pub mod Rows
 pub mod Naming
+pub mod Fewer
 pub mod Moments
 pub mod Running
 pub mod Sampling

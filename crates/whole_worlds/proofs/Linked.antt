@@ -14,7 +14,7 @@ use Rattle.bus_world.specs.World.{World, driver_parts, driver_next}
 use Rattle.stream_worlds.specs.Streaming.{Streams, Standing}
 use Rattle.controlled_streams.specs.Opened.{with_none}
 use Rattle.whole_worlds.proofs.KeptLeft.{whole_of, busy_left, begun_left}
-use Rattle.chained_transfers.proofs.Staying.{linked_alive}
+use Rattle.chained_transfers.proofs.Staying.{linked_stands_alive}
 use Rattle.harvest_laws.specs.Told.{ToldStands}
 use Rattle.open_laws.specs.Opens.{IsOpenLent, AreNamesApart, IsAtOpen, head_then, hand_then}
 use Rattle.open_laws.proofs.Linking.{driver_is}
@@ -24,6 +24,7 @@ use Rattle.whole_worlds.specs.Laws.{OpenLinkKeepsWhole}
 use Rattle.feeding_worlds.proofs.FeedingLinks.{linked, found, at_open, more, link_feeding}
 use Rattle.whole_worlds.proofs.Linking.{tails_then, runs_then, told_then}
 use Rattle.whole_worlds.proofs.TakingOpens.{link_taking}
+use Rattle.feeding_worlds.specs.Feeding.{AreControlsApart}
 
 no_open : (b : ℕ) → ◌≡◌ {A = Option Command} None (Some (unfinished.Open b)) → ⊥
 no_open b bad = cc
@@ -46,7 +47,7 @@ module _ (fixed : Fixed) (takes : ℕ → ℕ → Bool) (member : ℕ → Bool) 
   at = at_open fixed member x s w lent k.feeding
 
   alive : e.gone ≡ false
-  alive = linked_alive e (k.feeding.turns.bulk.endpoints lent.number e lent.here) lent.fresh
+  alive = linked_stands_alive e (k.feeding.turns.asynchronous.endpoints lent.number e lent.here) lent.fresh
 
   pub linked_whole : IsWhole fixed takes (with_member member n) (more fixed member x s w lent k.feeding) (linked s head.queue e) (driver_next w)
   linked_whole =
@@ -62,6 +63,7 @@ module _ (fixed : Fixed) (takes : ℕ → ℕ → Bool) (member : ℕ → Bool) 
         names = subst (λ (d : DriverContent). AreNamesApart d) is k.names;
         senders = λ i z there opens. absurd (no_open z.queue (ap (λ (d : DriverContent). d.command) is ∙ opens));
         takers = λ i z there opens. absurd (no_open z.queue (ap (λ (d : DriverContent). d.command) is ∙ opens));
+        controls_apart = subst (λ (d : DriverContent). AreControlsApart d takes) is k.controls_apart;
         taking = link_taking fixed takes member x s w lent k;
         runs = subst (λ (d : DriverContent). AreInRuns (views_of d) now) is (runs_then p member x.streams x.endpoint s.parts s.order s.out at k.runs);
         tails = subst (λ (d : DriverContent). TailsStand d now s.order out) is (tails_then p member x.streams x.endpoint s.parts s.order s.out at k.tails);

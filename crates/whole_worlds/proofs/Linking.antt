@@ -28,8 +28,8 @@ use Rattle.ring_laws.specs.Sparing.{SparesHead}
 use Rattle.ring_laws.proofs.SparedSparing.{linked_same}
 use Rattle.controlled_streams.specs.Opened.{with_none}
 use Rattle.controlled_streams.proofs.Beginning.{list_here, list_beside}
-use Rattle.chained_transfers.specs.Bulk.{IsStanding}
-use Rattle.chained_transfers.proofs.Staying.{linked_alive, told_alive}
+use Rattle.chained_transfers.specs.Asynchronous.{StandsAsynchronous}
+use Rattle.chained_transfers.proofs.Staying.{linked_stands_alive, told_stands_alive}
 use Rattle.fed_queues.specs.Places.{IsMet}
 use Rattle.publish_laws.proofs.Apart.{queue_placed, queues_same, thirty_two}
 use Rattle.harvest_laws.specs.Told.{ToldStands}
@@ -126,15 +126,15 @@ module _ (p : DriverParts) (member streams : ℕ → Bool) (ends : ℕ → Told)
 
   -- ---- the structures
 
-  standing : IsStanding x
-  standing = k.turns.bulk.endpoints k.lent.number x k.lent.here
+  standing : StandsAsynchronous x
+  standing = k.turns.asynchronous.endpoints k.lent.number x k.lent.here
 
   alive : x.gone ≡ false
-  alive = linked_alive x standing k.lent.fresh
+  alive = linked_stands_alive x standing k.lent.fresh
 
   not_head : (e : ℕ) (y : Endpoint) → slice_get d.endpoints e ≡ Some y → y.gone ≡ false → 32 * y.queue ≢ head_at
   not_head e y there kept same =
-      never (sym (queue_placed d k.sound.owners e y there (k.turns.bulk.endpoints e y there) kept).owned ∙ ap k.sound.owners.owner (thirty_two y.queue head_block same) ∙ k.sound.owners.owned.each.head.owned)
+      never (sym (queue_placed d k.sound.owners e y there (k.turns.asynchronous.endpoints e y there) kept).owned ∙ ap k.sound.owners.owner (thirty_two y.queue head_block same) ∙ k.sound.owners.owned.each.head.owned)
     where
       never : QueueOf e ≡ Head → ⊥
       never z = cc
@@ -163,7 +163,7 @@ module _ (p : DriverParts) (member streams : ℕ → Bool) (ends : ℕ → Told)
 
   same_number : (e : ℕ) (y : Endpoint) → slice_get d.endpoints e ≡ Some y → y.gone ≡ false → y.queue ≡ x.queue → e ≡ k.lent.number
   same_number e y there kept same =
-      queues_same y.queue x.queue e k.lent.number same (queue_placed d k.sound.owners e y there (k.turns.bulk.endpoints e y there) kept)
+      queues_same y.queue x.queue e k.lent.number same (queue_placed d k.sound.owners e y there (k.turns.asynchronous.endpoints e y there) kept)
       (queue_placed d k.sound.owners k.lent.number x k.lent.here standing alive)
 
   met_before : (e : ℕ) (y : Endpoint) → slice_get d.endpoints e ≡ Some y → e ≢ k.lent.number → IsMet f e y → IsMet d e y
@@ -212,6 +212,6 @@ module _ (p : DriverParts) (member streams : ℕ → Bool) (ends : ℕ → Told)
       (list_here reported n) (λ m differs. list_beside reported n m differs)
       (spared_told d hand (hand_then hand x) parts now reported (linked_same head_at (to_queue_head x.queue) hand)
       (record {
-        heads = λ e y there. spares (32 * y.queue);
-        done = λ e t y z a next among. elements_stay parts now (32 * y.queue) (32 * a) (stay e y next.endpoint (told_alive y (k.turns.bulk.endpoints e y next.endpoint) next.going));
+        heads = λ e y there on. spares (32 * y.queue);
+        done = λ e t y z a next on among. elements_stay parts now (32 * y.queue) (32 * a) (stay e y next.endpoint (told_stands_alive y (k.turns.asynchronous.endpoints e y next.endpoint) next.going));
       }) told)

@@ -1,5 +1,5 @@
 -- An endpoint keeps its name and its side from when it was opened, and no other is opened by them (USB 2.0, 5.3.1 and 8.3.2).
-use Rattle.std.proofs.Common.{◌≡◌, ℕ, zero, suc, Bool, true, cond, ◌-◌, List, [], ◌∷◌, ◌++◌, length, take, get_or, slice_get, Option, Some, None, Result, Ok, Err, option_map, ap, refl, sym, subst, ◌∙◌, ⊎_elim, inl, inr}
+use Rattle.std.proofs.Common.{◌≡◌, ℕ, zero, suc, Bool, true, cond, ◌-◌, List, [], ◌∷◌, ◌++◌, length, take, get_or, slice_get, Option, Some, None, Result, Ok, Err, option_map, ap, refl, sym, subst, ◌∙◌, ⊎_elim, inr}
 use Rattle.std.specs.Prelude.{is_some}
 use Rattle.std.proofs.lemmas.Option.{same_Some}
 use Rattle.usb_base.specs.declared.commands.Cmd.{Cmd}
@@ -18,11 +18,10 @@ use Rattle.driver_rows.specs.Offers.{Offered, new_runs, new_endpoint, with_queue
 use Rattle.driver_rows.specs.Rows.{driver_row}
 use Rattle.run_owners.proofs.Stays.{same_view}
 use Rattle.told_endpoints.proofs.Names.{same_name_is}
-use Rattle.chained_transfers.specs.Accepted.{IsAccepted}
-use Rattle.chained_transfers.specs.Bulk.{OpensOrCancelsBulk}
-use Rattle.chained_transfers.specs.InTurn.{TakesTurns}
-use Rattle.chained_transfers.specs.Leaving.{IsAcceptedAs}
-use Rattle.chained_transfers.proofs.Accepting.{command_accepted}
+use Rattle.run_owners.specs.Accepts.{Opens, Transfers}
+use Rattle.chained_transfers.specs.Asynchronous.{OpensAsynchronous, AcceptsAsynchronous}
+use Rattle.chained_transfers.specs.AsynchronousTurns.{AsynchronousTakesTurns}
+use Rattle.chained_transfers.proofs.Accepting.{command_accepts}
 use Rattle.leaving_drivers.specs.Before.{IsAsBefore}
 use Rattle.leaving_drivers.proofs.Leaving.{cancel_as_before}
 use Rattle.walk_members.proofs.Descriptions.{desc_of, SameDescs, row_left}
@@ -73,30 +72,32 @@ more_named d f new is way addr ep k =
 pub event_named : (w : World) → KeepsNames w.driver (driver_next w).driver
 event_named w = descs_named w.driver (driver_next w).driver (row_left (driver_row (driver_parts w)) (driver_parts w))
 
-accepted_named : (d : DriverContent) (m : Mem) (o : Offered) → IsAccepted d m o → KeepsNames d o.driver
-accepted_named d m o (inl opened) =
-    let why = opened.opens in
+opened_named : (d : DriverContent) (m : Mem) (o : Offered) → Opens d m o → KeepsNames d o.driver
+opened_named d m o why =
     more_named d o.driver (new_endpoint why.desc (get_or (new_runs d why.holding_after) 0 0) (get_or (new_runs d why.holding_after) 1 0)) (ap (λ (p : Offered). p.driver.endpoints) why.is)
-accepted_named d m o (inr asked) =
-    let t = asked.transfers in
-    descs_named d o.driver
-    (λ i. ap (λ (p : Offered). option_map desc_of (slice_get p.driver.endpoints i)) t.is
-    ∙ same_view desc_of d.endpoints t.number t.endpoint (with_queued t.endpoint (get_or (take (length t.asked.stages) (new_runs d t.holding_after)) (length t.asked.stages - 1) 0) (length d.transfers)) t.here refl i)
 
-taken_named : (d : DriverContent) (m : Mem) (cmd : Cmd) (o : Offered) → TakesTurns d → IsAcceptedAs d m o cmd → KeepsNames d o.driver
-taken_named d m (commands.OpenEp x) o turns why = accepted_named d m o why
-taken_named d m (commands.Get name len by) o turns why = accepted_named d m o why
-taken_named d m (commands.Put name bytes by) o turns why = accepted_named d m o why
-taken_named d m (commands.Control name setup bytes) o turns why = accepted_named d m o why
-taken_named d m (commands.Iso name count len seed) o turns why = accepted_named d m o why
+pub transfer_descs : (d : DriverContent) (m : Mem) (o : Offered) → Transfers d m o → SameDescs d.endpoints o.driver.endpoints
+transfer_descs d m o t i =
+    ap (λ (p : Offered). option_map desc_of (slice_get p.driver.endpoints i)) t.is
+    ∙ same_view desc_of d.endpoints t.number t.endpoint (with_queued t.endpoint (get_or (take (length t.asked.stages) (new_runs d t.holding_after)) (length t.asked.stages - 1) 0) (length d.transfers)) t.here refl i
+
+transfer_named : (d : DriverContent) (m : Mem) (o : Offered) → Transfers d m o → KeepsNames d o.driver
+transfer_named d m o t = descs_named d o.driver (transfer_descs d m o t)
+
+taken_named : (d : DriverContent) (m : Mem) (cmd : Cmd) (o : Offered) → AsynchronousTakesTurns d → AcceptsAsynchronous d m o cmd → KeepsNames d o.driver
+taken_named d m (commands.OpenEp x) o turns why = opened_named d m o why.opens
+taken_named d m (commands.Get name len by) o turns why = transfer_named d m o why.transfers
+taken_named d m (commands.Put name bytes by) o turns why = transfer_named d m o why.transfers
+taken_named d m (commands.Control name setup bytes) o turns why = transfer_named d m o why.transfers
+taken_named d m (commands.Iso name count len seed) o turns why = absurd why
 taken_named d m (commands.Cancel name) o turns why = before_named d o.driver (cancel_as_before d m o turns why).0
 
-by_offer : (w : World) (line : ℕ) (cmd : Cmd) (r : Result Offered OfferError) → TakesTurns w.driver → OpensOrCancelsBulk cmd → offered w.driver w.memory cmd ≡ r → KeepsNames w.driver (commanded_by w line (name_in cmd) r).driver
+by_offer : (w : World) (line : ℕ) (cmd : Cmd) (r : Result Offered OfferError) → AsynchronousTakesTurns w.driver → OpensAsynchronous cmd → offered w.driver w.memory cmd ≡ r → KeepsNames w.driver (commanded_by w line (name_in cmd) r).driver
 by_offer w line cmd (Ok o) turns only is =
-    taken_named w.driver w.memory cmd o turns (command_accepted w.driver w.memory cmd o (λ e x here. let s = turns.bulk.endpoints e x here in (s.bulk, s.placement)) only is)
+    taken_named w.driver w.memory cmd o turns (command_accepts w.driver w.memory cmd o turns.asynchronous only is)
 by_offer w line cmd (Err why) turns only is = λ way addr ep k. same_named w.driver (commanded_by w line (name_in cmd) (Err why)).driver way addr ep k k.endpoint k.here refl
 
-pub command_named : (w : World) (line : ℕ) (cmd : Cmd) → TakesTurns w.driver → OpensOrCancelsBulk cmd → KeepsNames w.driver (commanded w line cmd).driver
+pub command_named : (w : World) (line : ℕ) (cmd : Cmd) → AsynchronousTakesTurns w.driver → OpensAsynchronous cmd → KeepsNames w.driver (commanded w line cmd).driver
 command_named w line cmd turns only = by_offer w line cmd (offered w.driver w.memory cmd) turns only refl
 
 -- ---- what was open is open still, or an endpoint was opened for it

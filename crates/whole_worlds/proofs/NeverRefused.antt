@@ -1,4 +1,4 @@
--- In a run of a script of bulk endpoints the controller runs at each moment, so no refusal is counted.
+-- In a run of a script of bulk and control endpoints the controller runs at each moment, so no refusal is counted.
 use Rattle.std.proofs.Common.{ap}
 use Rattle.ring_laws.specs.Ring.{Base}
 use Rattle.running_worlds.proofs.Counting.{counts_nothing}

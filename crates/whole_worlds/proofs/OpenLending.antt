@@ -35,8 +35,8 @@ use Rattle.scripted_streams.specs.Senders.{sender_of}
 use Rattle.usb_bus.specs.Bus.{Fixed}
 use Rattle.bus_world.specs.World.{World, driver_parts, driver_next}
 use Rattle.stream_worlds.specs.Streaming.{Streams, Standing, wired}
-use Rattle.chained_transfers.proofs.Events.{event_turns}
-use Rattle.chained_transfers.proofs.Staying.{linked_alive}
+use Rattle.chained_transfers.proofs.Events.{event_queues}
+use Rattle.chained_transfers.proofs.Staying.{linked_stands_alive}
 use Rattle.publish_laws.proofs.Apart.{thirty_two}
 use Rattle.harvest_laws.specs.Told.{ToldStands}
 use Rattle.harvest_laws.proofs.Standing.{spared_told, alike_told}
@@ -44,8 +44,10 @@ use Rattle.open_laws.specs.Opens.{IsOpenLent, AreNamesApart, next_of}
 use Rattle.open_laws.specs.Lends.{IsOpenReady, IsAtLend, parts_lent}
 use Rattle.open_laws.proofs.Lending.{lend_drives, lend_stands, lend_pipes, lend_reports}
 use Rattle.controlled_streams.specs.Reported.{AreReported}
-use Rattle.feeding_worlds.specs.Feeding.{there_of, IsFeeding}
+use Rattle.feeding_worlds.specs.Feeding.{AreControlsApart, there_of, IsFeeding}
 use Rattle.feeding_worlds.proofs.FeedingStores.{queue_above}
+use Rattle.control_queues.proofs.OpenLends.{open_lend_keeps_controls}
+use Rattle.feeding_worlds.proofs.Names.{row_apart}
 use Rattle.feeding_worlds.proofs.Heads.{right_of}
 use Rattle.feeding_worlds.proofs.Told.{has_there}
 use Rattle.standing_fronts.specs.Reaching.{Reaches}
@@ -161,7 +163,7 @@ module _ (p : DriverParts) (ready : IsOpenReady p.driver p.memory) (owners : Has
   told_then hand reported told =
       alike_told d f hand now reported (record { reports = refl; store = refl; endpoints = refl; transfers = refl; notes = refl }) (λ z met. record { linked = met.linked; kept = met.kept }) (λ z opens. opens)
       (spared_told d hand hand parts now reported (same_hand hand)
-      (record { heads = λ e z here. spares_head (32 * z.queue); done = λ e t z y a next among. spares_element (32 * z.queue) (32 * a) }) told)
+      (record { heads = λ e z here on. spares_head (32 * z.queue); done = λ e t z y a next on among. spares_element (32 * z.queue) (32 * a) }) told)
 
 -- ---- the world
 
@@ -180,7 +182,7 @@ lend_feeding fixed member x s w ready f =
     } in
     let drives = lend_drives opening_base w.control.walk s.hand p member x.streams x.endpoint s.parts s.order s.out at old in
     let stands = lend_stands opening_base w.control.walk s.hand p member x.streams x.endpoint s.parts s.order s.out at old in
-    let above = queue_above p.driver ready.number ready.endpoint sound.owners f.turns.bulk ready.here (linked_alive ready.endpoint (f.turns.bulk.endpoints ready.number ready.endpoint ready.here) ready.fresh) in
+    let above = queue_above p.driver ready.number ready.endpoint sound.owners f.turns.asynchronous ready.here (linked_stands_alive ready.endpoint (f.turns.asynchronous.endpoints ready.number ready.endpoint ready.here) ready.fresh) in
     let counted : AreReported (there_of p.driver) s.order s.out s.hand (parts_lent s.parts ready) s.acc s.reported =
     lend_reports s.acc s.reported (there_of p.driver) opening_base w.control.walk s.hand p member x.streams x.endpoint s.parts s.order s.out at old (has_there p.driver) f.counted in (
       record {
@@ -205,9 +207,11 @@ lend_feeding fixed member x s w ready f =
           place = event_in_place p k.place;
           driven = drives.driven;
         };
-        turns = event_turns p sound.owners f.turns;
+        turns = event_queues p sound.owners f.turns;
         queues = record { met = stands.0.met; streams_are = stands.0.streams_are; fed = stands.0.fed; last = stands.0.last; out_are = stands.0.out_are };
         counted = subst (λ (d : DriverContent). AreReported (there_of d) s.order s.out s.hand (parts_lent s.parts ready) s.acc s.reported) (driver_is p ready sound.owners s.parts k.driven) counted;
+        controls = open_lend_keeps_controls opening_base w.control.walk s.hand p member x.streams x.endpoint s.parts s.order s.out at old f.controls;
+        controls_apart = row_apart x.stream (driver_row p) p f.controls_apart;
         unopened = f.unopened;
       },
       stands.1,
@@ -229,6 +233,7 @@ module _ (fixed : Fixed) (takes : ℕ → ℕ → Bool) (member : ℕ → Bool) 
         names = subst (λ (d : DriverContent). AreNamesApart d) is k.names;
         senders = subst (λ (d : DriverContent). HaveSenders d x.stream) is k.senders;
         takers = subst (λ (d : DriverContent). HaveTakers d takes) is k.takers;
+        controls_apart = subst (λ (d : DriverContent). AreControlsApart d takes) is k.controls_apart;
         taking = open_lend_taking fixed takes member x s w ready k;
         runs = subst (λ (d : DriverContent). AreInRuns (views_of d) now) is (runs_then p ready owners s.parts driven k.runs);
         tails = subst (λ (d : DriverContent). TailsStand d now s.order s.out) is (tails_then p ready owners s.parts driven s.order s.out k.tails);

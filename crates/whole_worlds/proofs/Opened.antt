@@ -17,14 +17,12 @@ use Rattle.run_owners.proofs.Taking.{runs_taken}
 use Rattle.run_owners.proofs.Accepted.{drop_first, fresh_differs}
 use Rattle.walk_members.specs.Reached.{OpensNumbered}
 use Rattle.driver_laws.specs.LendOpened.{opened_head}
-use Rattle.chained_transfers.specs.Bulk.{OpensBulk}
+use Rattle.chained_transfers.specs.Asynchronous.{OpensAsynchronous, IsOpenedAsynchronous}
 use Rattle.narrowed_streams.specs.Narrowed.{IsOnSide}
-use Rattle.chained_transfers.specs.Accepted.{IsOpened}
 use Rattle.fed_lends.proofs.Asked.{push_which}
 use Rattle.standing_fronts.specs.Reaching.{Reaches}
 use Rattle.harvest_laws.proofs.Commanding.{opened_told}
-use Rattle.chained_transfers.proofs.Accepting.{opens_bulk, opens_or_cancels}
-use Rattle.chained_transfers.proofs.BulkAndControl.{bulk_asynchronous}
+use Rattle.chained_transfers.proofs.BulkAndControl.{not_iso}
 use Rattle.open_names.proofs.Apart.{accepted_apart}
 use Rattle.open_laws.specs.Lends.{IsOpenReady}
 use Rattle.open_laws.proofs.AcceptWaiting.{open_waits}
@@ -34,7 +32,7 @@ use Rattle.commanded_queues.proofs.Tails.{open_reaches}
 use Rattle.commanded_queues.proofs.Extending.{open_extents}
 use Rattle.bus_world.specs.World.{World, name_in, commanded_by}
 use Rattle.stream_worlds.specs.Streaming.{Streams, Standing}
-use Rattle.feeding_worlds.specs.Feeding.{IsFeeding}
+use Rattle.feeding_worlds.specs.Feeding.{AreControlsApart, IsFeeding}
 use Rattle.feeding_worlds.specs.Tails.{IsUnderWay}
 use Rattle.feeding_worlds.specs.Left.{IsLeft}
 use Rattle.whole_worlds.specs.Whole.{IsWhole}
@@ -43,7 +41,7 @@ use Rattle.feeding_worlds.specs.Taking.{HaveSides}
 use Rattle.feeding_worlds.proofs.Told.{same_queue}
 use Rattle.feeding_worlds.proofs.Tail.{open_tail, idle_ends}
 
-module _ (fixed : Fixed) (takes : ℕ → ℕ → Bool) (member : ℕ → Bool) (x : Streams) (s : Standing) (w : World) (line : ℕ) (cmd : Cmd) (o : Offered) (k : IsWhole fixed takes member x s w) (opened : IsOpened w.driver w.memory o) where
+module _ (fixed : Fixed) (takes : ℕ → ℕ → Bool) (member : ℕ → Bool) (x : Streams) (s : Standing) (w : World) (line : ℕ) (cmd : Cmd) (o : Offered) (k : IsWhole fixed takes member x s w) (opened : IsOpenedAsynchronous w.driver w.memory o) where
   abbrev d : DriverContent
   d = w.driver
 
@@ -58,12 +56,12 @@ module _ (fixed : Fixed) (takes : ℕ → ℕ → Bool) (member : ℕ → Bool) 
   apart e z there kept is =
       let why = opened.opens in
       let sound = k.feeding.working.place.sound in
-      let standing = k.feeding.turns.bulk.endpoints e z there in
+      let standing = k.feeding.turns.asynchronous.endpoints e z there in
       let all = runs_taken (holding d.book w.memory) why.holding_after (2 ∷ 1 ∷ []) sound.stands why.runs in
       let bs = all.blocks in
       let two : length bs ≡ 2 = all.are.long in
       let runs : new_runs d why.holding_after ≡ bs = ap (drop (length d.book.taken)) all.are.taken ∙ drop_first d.book.taken bs in
-      let alive : is_iso z.desc.kind || z.gone ≡ false = ap (λ c. is_iso c || z.gone) standing.bulk.kind ∙ kept in
+      let alive : is_iso z.desc.kind || z.gone ≡ false = ap (λ (b : Bool). b || z.gone) (not_iso z.desc standing.asynchronous) ∙ kept in
       fresh_differs 0 z.queue all.are (omega (arith, two))
       (placed_run z.queue (QueueHead e) (sound.owners.owned.each.queue e (runs_of_endpoint z) (ap (option_map runs_of_endpoint) there) alive))
       (ap (λ (rs : List ℕ). get_or rs 0 0) (sym runs) ∙ same_queue new.queue z.queue (sym command_is ∙ is))
@@ -82,32 +80,34 @@ module _ (fixed : Fixed) (takes : ℕ → ℕ → Bool) (member : ℕ → Bool) 
       let is : IsOpenReady o.driver o.memory = open_waits w.memory d o opened.opens place.sound.owners place.lent place.sound.stands place.sound.shape range in
       subst (λ (c : Option Command). IsUnderWay o.driver o.memory member s.parts c) (sym command_is) (inl is)
 
-pub opened_whole : (fixed : Fixed) (takes : ℕ → ℕ → Bool) (member : ℕ → Bool) (x : Streams) (s : Standing) (w : World) (line : ℕ) (cmd : Cmd) (o : Offered) → OpensBulk cmd → OpensTo x.stream takes cmd → OpensNumbered cmd → IsOffered w.driver.room cmd
-    → offered w.driver w.memory cmd ≡ Ok o → IsOpened w.driver w.memory o → IsFeeding fixed member x s (commanded_by w line (name_in cmd) (Ok o))
+pub opened_whole : (fixed : Fixed) (takes : ℕ → ℕ → Bool) (member : ℕ → Bool) (x : Streams) (s : Standing) (w : World) (line : ℕ) (cmd : Cmd) (o : Offered) → OpensAsynchronous cmd → OpensTo x.stream takes cmd → OpensNumbered cmd → IsOffered w.driver.room cmd
+    → offered w.driver w.memory cmd ≡ Ok o → IsOpenedAsynchronous w.driver w.memory o → AreControlsApart o.driver takes
+    → IsFeeding fixed member x s (commanded_by w line (name_in cmd) (Ok o))
     → IsLeft fixed takes x.packets s.acc (commanded_by w line (name_in cmd) (Ok o)) → IsWhole fixed takes member x s w → IsWhole fixed takes member x s (commanded_by w line (name_in cmd) (Ok o))
-opened_whole fixed takes member x s w line cmd o only to fits room offer opened feeding left k =
+opened_whole fixed takes member x s w line cmd o only to fits room offer opened alone feeding left k =
     let d = w.driver in
     let sound = k.feeding.working.place.sound in
     let desc = opened.opens.desc in
-    let is : cmd ≡ commands.OpenEp desc = opens_its_own d w.memory cmd o (opens_bulk cmd (opens_or_cancels cmd only)) offer opened.opens in
+    let is : cmd ≡ commands.OpenEp desc = opens_its_own d w.memory cmd o only offer opened.opens in
     let small : IsOffered d.room (commands.OpenEp desc) = subst (λ (c : Cmd). IsOffered d.room c) is room in
     let numbered : OpensNumbered (commands.OpenEp desc) = subst (λ (c : Cmd). OpensNumbered c) is fits in
     let stream : OpensTo x.stream takes (commands.OpenEp desc) = subst (λ (c : Cmd). OpensTo x.stream takes c) is to in
     let range : IsQhInRange (opened_head d desc opened.opens.holding_after) =
-    new_head_range desc (newest_of d.endpoints) (get_or (new_runs d opened.opens.holding_after) 1 0) (bulk_asynchronous desc opened.bulk) numbered small.1 in
+    new_head_range desc (newest_of d.endpoints) (get_or (new_runs d opened.opens.holding_after) 1 0) opened.asynchronous numbered small.1 in
     record {
       feeding = feeding;
       under_way = ready fixed takes member x s w line cmd o k opened range;
       names = accepted_apart d w.memory o (inl opened.opens) k.names;
       senders = sides fixed takes member x s w line cmd o k opened true x.stream stream.0;
       takers = sides fixed takes member x s w line cmd o k opened false takes stream.1;
+      controls_apart = alone;
       taking = record { ends = k.taking.ends; piped = k.taking.piped; untaken = k.taking.untaken };
       runs = open_extents d w.memory o s.parts opened.opens sound.stands sound.owners feeding.working.driven k.runs;
       tails = λ e z here met.
           subst (λ (c : ℕ). Reaches o.driver (s.parts (32 * z.queue)) (s.order (32 * z.queue)) (s.out (32 * z.queue)) e z c)
           (sym (open_tail o.driver e _ z (command_is fixed takes member x s w line cmd o k opened)))
           (open_reaches d w.memory o s.parts s.order s.out opened.opens (idle_ends d s.parts s.order s.out opened.opens.idle k.tails) e z here met);
-      told = opened_told d w.memory o s.hand s.parts s.reported opened (apart fixed takes member x s w line cmd o k opened) k.told;
+      told = opened_told d w.memory o s.hand s.parts s.reported opened.opens (apart fixed takes member x s w line cmd o k opened) k.told;
       bytes = k.bytes;
       left = left;
     }

@@ -59,6 +59,7 @@ new_world_is_whole s fit bytes = whole_of (fixed_of s) (takes_of s) is_head (str
   names = new_apart s.words (reserve_of s.lines);
   senders = λ e x here. absurd (no_endpoint e x here);
   takers = λ e x here. absurd (no_endpoint e x here);
+  controls_apart = λ e x here. absurd (no_endpoint e x here);
   taking = new_world_taking s fit;
   runs = opening_runs s.words (reserve_of s.lines);
   tails = λ e x here met. absurd (no_endpoint e x here);

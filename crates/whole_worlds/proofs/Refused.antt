@@ -110,6 +110,7 @@ refused_whole fixed takes member x s w line name why feeding left k =
       names = k.names;
       senders = k.senders;
       takers = k.takers;
+      controls_apart = k.controls_apart;
       taking = record { ends = k.taking.ends; piped = k.taking.piped; untaken = k.taking.untaken };
       runs = k.runs;
       tails = λ e z here met.

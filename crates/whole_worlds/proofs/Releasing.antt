@@ -20,8 +20,8 @@ use Rattle.driver_laws.specs.PartOpened.{opening_base}
 use Rattle.driver_laws.specs.Released.{goes_of, release_row}
 use Rattle.in_place.specs.InPlace.{IsInPlace}
 use Rattle.in_place.proofs.Laws.{event_in_place}
-use Rattle.chained_transfers.specs.InTurn.{TakesTurns}
-use Rattle.chained_transfers.proofs.Events.{event_turns}
+use Rattle.chained_transfers.specs.AsynchronousTurns.{AsynchronousTakesTurns}
+use Rattle.chained_transfers.proofs.Events.{event_queues}
 use Rattle.chained_transfers.proofs.Holding.{held_alive}
 use Rattle.fed_queues.specs.Places.{IsMet, AreMet, HaveStreams}
 use Rattle.open_laws.specs.Opens.{AreNamesApart}
@@ -34,8 +34,9 @@ use Rattle.bus_world.specs.World.{World, controller_parts, driver_parts, with_pa
 use Rattle.stream_worlds.specs.Streaming.{Streams, Standing, wired}
 use Rattle.shared_worlds.specs.Working.{IsWorking}
 use Rattle.controlled_streams.specs.Reported.{AreReported}
-use Rattle.feeding_worlds.specs.Feeding.{there_of, IsFeeding}
+use Rattle.feeding_worlds.specs.Feeding.{AreControlsApart, there_of, IsFeeding}
 use Rattle.feeding_worlds.proofs.FeedingStores.{queue_above}
+use Rattle.control_queues.proofs.Returns.{release_keeps_controls}
 use Rattle.feeding_worlds.proofs.Heads.{right_of}
 use Rattle.feeding_worlds.specs.Tails.{tail_block, tail_of, TailsStand, IsUnderWay}
 use Rattle.whole_worlds.specs.Whole.{HaveSenders, IsWhole, HasWhole}
@@ -113,13 +114,13 @@ module _ (fixed : Fixed) (takes : ℕ → ℕ → Bool) (member : ℕ → Bool) 
   above : 0 ≢ n
   above =
       let r = returning fixed takes member x s w t row k in
-      queue_above d y.endpoint z f.working.place.sound.owners f.turns.bulk r.endpoint (held_alive d t y z f.turns.turns r.here r.held r.endpoint)
+      queue_above d y.endpoint z f.working.place.sound.owners f.turns.asynchronous r.endpoint (held_alive d t y z f.turns.turns r.here r.held r.endpoint)
 
   in_place : IsInPlace new.memory new.driver
   in_place = subst (λ (r : DriverRow). IsInPlace (after_driver_row r p).memory (after_driver_row r p).driver) row (event_in_place p f.working.place)
 
-  turns : TakesTurns new.driver
-  turns = subst (λ (r : DriverRow). TakesTurns (after_driver_row r p).driver) row (event_turns p f.working.place.sound.owners f.turns)
+  turns : AsynchronousTakesTurns new.driver
+  turns = subst (λ (r : DriverRow). AsynchronousTakesTurns (after_driver_row r p).driver) row (event_queues p f.working.place.sound.owners f.turns)
 
   left : IsLeft fixed takes x.packets s.acc new
   left =
@@ -161,6 +162,8 @@ module _ (fixed : Fixed) (takes : ℕ → ℕ → Bool) (member : ℕ → Bool) 
     turns = turns;
     queues = record { met = met_now.0; streams_are = met_now.1; fed = g.fed; last = g.last; out_are = g.still_out };
     counted = stays (λ (q : DriverContent). AreReported (there_of q) s.order later s.hand now s.acc s.reported) counted;
+    controls = release_keeps_controls p t y z s.parts s.order s.out row (returning fixed takes member x s w t row k) f.controls;
+    controls_apart = stays (λ (q : DriverContent). AreControlsApart q x.stream) f.controls_apart;
     unopened = f.unopened;
   }
 
@@ -193,6 +196,7 @@ module _ (fixed : Fixed) (takes : ℕ → ℕ → Bool) (member : ℕ → Bool) 
     names = stays AreNamesApart k.names;
     senders = stays (λ (q : DriverContent). HaveSenders q x.stream) k.senders;
     takers = stays (λ (q : DriverContent). HaveTakers q takes) k.takers;
+    controls_apart = stays (λ (q : DriverContent). AreControlsApart q takes) k.controls_apart;
     taking = release_taking fixed takes member x s w t row k;
     runs = g.in_runs;
     tails = tails;

@@ -1,4 +1,4 @@
--- The transfer that is given back, in a world whose endpoints are all bulk ones.
+-- The transfer that is given back, in a world whose endpoints are bulk and control ones.
 use Rattle.std.proofs.Common.{◌≡◌, ℕ, zero, suc, ◌<◌, ◌≤◌, ◌&&◌, not, Bool, true, false, if◌then◌else◌, List, [], ◌∷◌, length, slice_get, Option, Some, None, refl, subst, arith}
 use Rattle.usb_bus.specs.Bus.{Fixed}
 use Rattle.driver_rows.specs.declared.content.Endpoint.{Endpoint}
@@ -10,7 +10,6 @@ use Rattle.run_owners.specs.Leaving.{owes}
 use Rattle.run_owners.proofs.Reasons.{each_is_due}
 use Rattle.driver_laws.specs.PartOpened.{opening_base}
 use Rattle.endpoint_lives.specs.Lives.{may_meet}
-use Rattle.chained_transfers.proofs.BulkAndControl.{only_asynchronous}
 use Rattle.released_queues.specs.Released.{IsReturning, ReleaseStands}
 use Rattle.standing_fronts.proofs.Lists.{times_some}
 use Rattle.bus_world.specs.World.{World, driver_parts}
@@ -76,7 +75,7 @@ module _ (fixed : Fixed) (takes : ℕ → ℕ → Bool) (member : ℕ → Bool) 
         owners = f.working.place.sound.owners;
         stands = f.working.place.sound.stands;
         in_runs = k.runs;
-        asynchronous = only_asynchronous w.driver f.turns.bulk;
+        asynchronous = f.turns.asynchronous;
         chained = f.turns.chained;
         turns = f.turns.turns;
         fed = f.queues.fed;

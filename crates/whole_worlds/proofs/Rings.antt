@@ -1,4 +1,4 @@
--- The ring of a driver of bulk endpoints, as the words of memory tell it.
+-- The ring of a driver of bulk and control endpoints, as the words of memory tell it.
 use Rattle.std.proofs.Common.{◌≡◌, ◌≢◌, ℕ, zero, suc, ◌+◌, ◌-◌, Bool, true, false, cond, List, [], ◌∷◌, ◌++◌, length, take, slice_get, Option, Some, None, ap, sym, subst, ◌∙◌, refl, arith}
 use Rattle.std.proofs.Math.Seq.{take-append_seam}
 use Rattle.std.proofs.lemmas.List.{length-append}
@@ -13,8 +13,9 @@ use Rattle.ring_members.specs.Links.{link_in, members_from, members, AreLinked}
 use Rattle.ring_members.specs.Ring.{StandsFor, IsSound}
 use Rattle.ring_members.proofs.Links.{AreDistinct, rest_distinct, ring_is_read}
 use Rattle.ring_members.proofs.Placed.{ring_distinct}
-use Rattle.chained_transfers.specs.Bulk.{IsBulkCommand, OnlyBulk}
-use Rattle.chained_transfers.proofs.Staying.{fresh_linked}
+use Rattle.chained_transfers.specs.Bulk.{IsBulkCommand}
+use Rattle.chained_transfers.specs.Asynchronous.{OnlyAsynchronous}
+use Rattle.chained_transfers.proofs.Staying.{fresh_stands_linked}
 use Rattle.whole_worlds.specs.Placed.{linked_to, IsNone, AreOnce, ReadsRing}
 
 -- ---- each once
@@ -88,9 +89,9 @@ distinct_now xs (Some unfinished.Chain) distinct = distinct
 distinct_now xs (Some (unfinished.Iso e t count)) distinct = distinct
 distinct_now xs (Some (unfinished.Unchain e)) distinct = distinct
 
-pub reads_ring : (m : Mem) (d : DriverContent) → IsSound m d → OnlyBulk d → ReadsRing m d
+pub reads_ring : (m : Mem) (d : DriverContent) → IsSound m d → OnlyAsynchronous d → ReadsRing m d
 reads_ring m d sound only = record {
-  all = λ e x here fresh. fresh_linked x (only.endpoints e x here) fresh;
+  all = λ e x here fresh. fresh_stands_linked x (only.endpoints e x here) fresh;
   chain = ring_is_read (link_in m) (linked_to d.command d.endpoints) (linked_now (link_in m) d.endpoints d.transfers d.command only.command sound.ring.ring);
   once = ring_once (linked_to d.command d.endpoints) (distinct_now d.endpoints d.command (ring_distinct d sound.owners));
 }

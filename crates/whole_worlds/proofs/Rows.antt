@@ -1,8 +1,9 @@
--- The rows of a driver of bulk endpoints: what is so after each of them is so after each event of the driver.
+-- The rows of a driver of bulk and control endpoints: what is so after each of them is so after each event of the driver.
 use Rattle.std.proofs.Common.{◌≡◌, ℕ, ◌≤◌, Bool, true, List, [], slice_get, Option, Some, None, ap, sym, ◌∙◌, ⊎_elim, refl}
 use Rattle.std.specs.Prelude.{◌⊎◌}
 use Rattle.driver_rows.specs.declared.content.Command.{Command}
 use Rattle.driver_rows.specs.declared.content.Command.TheVariants as unfinished
+use Rattle.driver_rows.specs.declared.content.Mend.{Mend}
 use Rattle.driver_rows.specs.declared.rows.DriverRow.{DriverRow}
 use Rattle.driver_rows.specs.declared.rows.DriverRow.TheVariants as rows
 use Rattle.driver_rows.specs.declared.rows.Found.{Found}
@@ -15,7 +16,8 @@ use Rattle.open_laws.specs.Lends.{IsOpenReady}
 use Rattle.open_laws.specs.Opens.{IsOpenLent}
 use Rattle.bus_world.specs.World.{World, driver_parts}
 use Rattle.stream_worlds.specs.Streaming.{Streams, Standing}
-use Rattle.chained_transfers.specs.Bulk.{IsBulkCommand, OnlyBulk}
+use Rattle.chained_transfers.specs.Bulk.{IsBulkCommand}
+use Rattle.chained_transfers.specs.Asynchronous.{OnlyAsynchronous}
 use Rattle.feeding_worlds.specs.FeedingLaws.{is_still}
 use Rattle.feeding_worlds.specs.Tails.{IsUnderWay}
 use Rattle.whole_worlds.specs.Whole.{IsWhole}
@@ -29,6 +31,7 @@ pub record IsSoAfterEach (member : ℕ → Bool) (s : Standing) (w : World) (so 
   pub open_lend : IsOpenReady w.driver w.memory → so
   pub open_link : IsOpenLent w.driver member s.parts → so
   pub harvest : (e t : ℕ) (found : Found) → driver_row (driver_parts w) ≡ rows.Harvest e t found → so
+  pub mend : (m : Mend) → driver_row (driver_parts w) ≡ rows.Mend m → so
   pub unlink : (e before link : ℕ) → w.driver.command ≡ Some (unfinished.Unlink e before link) → so
   pub clear : driver_row (driver_parts w) ≡ rows.ClearAdvance → so
   pub release_endpoint : (e : ℕ) → driver_row (driver_parts w) ≡ rows.ReleaseEndpoint e → so
@@ -38,8 +41,8 @@ none_there : {X : Type 0} (xs : List X) (x : X) → xs ≡ [] → slice_get xs 0
 none_there xs x none here = let e : ◌≡◌ {A = Option _} None (Some x) = sym (ap (λ ys. slice_get ys 0) none) ∙ here in cc
 
 module _ (fixed : Fixed) (takes : ℕ → ℕ → Bool) (member : ℕ → Bool) (x : Streams) (s : Standing) (w : World) (k : IsWhole fixed takes member x s w) (so : Type 0) (each : IsSoAfterEach member s w so) where
-  bulk : OnlyBulk w.driver
-  bulk = k.feeding.turns.bulk
+  only : OnlyAsynchronous w.driver
+  only = k.feeding.turns.asynchronous
 
   -- ---- between commands
 
@@ -59,10 +62,10 @@ module _ (fixed : Fixed) (takes : ℕ → ℕ → Bool) (member : ℕ → Bool) 
       (λ (link : IsLinkOf (driver_parts w) (rows.Store b at v)). absurd (no_command w.driver.command link.command idle link.unfinished)) due
   idle_row rows.Frames is due idle = absurd (no_command w.driver.command due.command idle due.unfinished)
   idle_row rows.LendDescriptors is due idle = absurd (no_command w.driver.command due.command idle due.unfinished)
+  idle_row (rows.Mend m) is due idle = each.mend m is
   -- nothing is in the frame list
-  idle_row (rows.Mend m) is due idle = absurd (none_there w.driver.mends m bulk.mends due.1)
-  idle_row (rows.Unlink t) is due idle = absurd (none_there w.driver.periodic.unlinks t bulk.unlinks due.first)
-  idle_row (rows.ReleaseRemoved what) is due idle = absurd (none_there w.driver.periodic.removals due.removal bulk.removals due.first)
+  idle_row (rows.Unlink t) is due idle = absurd (none_there w.driver.periodic.unlinks t only.unlinks due.first)
+  idle_row (rows.ReleaseRemoved what) is due idle = absurd (none_there w.driver.periodic.removals due.removal only.removals due.first)
 
   -- ---- while a command is unfinished
 
@@ -86,4 +89,4 @@ module _ (fixed : Fixed) (takes : ℕ → ℕ → Bool) (member : ℕ → Bool) 
   by_command (Some (unfinished.Unchain e)) is receiving way = absurd receiving
 
   pub after_each : so
-  after_each = by_command w.driver.command refl bulk.command k.under_way
+  after_each = by_command w.driver.command refl only.command k.under_way

@@ -1,4 +1,4 @@
--- Each moment of the run of a script of bulk endpoints.
+-- Each moment of the run of a script of bulk and control endpoints.
 use Rattle.whole_worlds.proofs.Opening.{new_world_is_whole}
 use Rattle.whole_worlds.proofs.Beside.{controller_whole}
 use Rattle.whole_worlds.proofs.Commanding.{command_keeps_whole}

@@ -8,10 +8,14 @@ use Rattle.script_fits.specs.Fits.{IsFit}
 use Rattle.byte_answers.specs.Bytes.{IsByteScript}
 use Rattle.opening_senders.specs.Own.{HasOwnDevices}
 use Rattle.declared_endpoints.specs.Declared.{OpensSenders}
+use Rattle.declared_endpoints.specs.Samples.{desc_of, second}
 use Rattle.declared_takers.specs.Declared.{OpensTakers}
 use Rattle.script_numbers.specs.Numbers.{NumbersOpens}
-use Rattle.chained_transfers.specs.Bulk.{BulkOnly}
-use Rattle.whole_worlds.specs.Moments.{IsBulkScript}
+use Rattle.usb_bus.specs.Bus.{opening_bus}
+use Rattle.declared_controls.specs.Names.{HasItsName, NamesEndpoints}
+use Rattle.declared_controls.specs.Zero.{AreZeroesAlone}
+use Rattle.chained_transfers.specs.Asynchronous.{AsynchronousOnly}
+use Rattle.whole_worlds.specs.Moments.{IsAsynchronousScript}
 use Rattle.feeding_worlds.specs.FeedingSamples.{one_get}
 
 get_fits : IsFit one_get
@@ -40,8 +44,20 @@ get_takes = ((λ kind speed way. absurd (in_no_out way)), (tt, (tt, tt)))
 get_numbers : NumbersOpens one_get
 get_numbers = ((omega arith, omega arith), (tt, (tt, tt)))
 
-get_only : BulkOnly one_get
-get_only = (record { kind = refl; speed = refl; way = tt }, (tt, (tt, tt)))
+get_only : AsynchronousOnly one_get
+get_only = (record { kind = refl; speed = refl }, (tt, (tt, tt)))
+
+first_named : HasItsName (desc_of 1)
+first_named = record { name = record { least = omega arith; most = omega arith; way = λ e. cc }; most = λ e. cc; high = λ e _. cc }
+
+second_named : HasItsName second
+second_named = record { name = record { least = omega arith; most = omega arith; way = λ e. cc }; most = λ e. cc; high = λ e _. cc }
+
+get_names : NamesEndpoints one_get
+get_names = record { declared = ((first_named, (second_named, tt)), tt); opened = (second_named, (tt, (tt, tt))) }
+
+get_zeroes : AreZeroesAlone (opening_bus one_get)
+get_zeroes = (record { no_in = refl; no_out = refl }, tt)
 
 -- there is one device
 only_device : (i : ℕ) (d : DeviceText) → slice_get one_get.devices (suc i) ≡ Some d → ⊥
@@ -60,5 +76,5 @@ get_owns = record { own = its_own; apart = one_alone }
     one_alone zero (suc j) d e one other same = absurd (only_device j e other)
     one_alone (suc i) j d e one other same = absurd (only_device i d one)
 
-pub get_is_bulk : IsBulkScript one_get
-get_is_bulk = record { fits = get_fits; bytes = get_bytes; senders = get_sends; takers = get_takes; numbers = get_numbers; only = get_only }
+pub get_is_asynchronous : IsAsynchronousScript one_get
+get_is_asynchronous = record { fits = get_fits; bytes = get_bytes; senders = get_sends; takers = get_takes; numbers = get_numbers; names = get_names; zeroes = get_zeroes; only = get_only }

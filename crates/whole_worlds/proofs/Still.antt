@@ -55,6 +55,7 @@ module _ (fixed : Fixed) (takes : ℕ → ℕ → Bool) (member : ℕ → Bool) 
         names = k.names;
         senders = k.senders;
         takers = k.takers;
+        controls_apart = k.controls_apart;
         taking = record { ends = k.taking.ends; piped = k.taking.piped; untaken = k.taking.untaken };
         runs = k.runs;
         tails = leave_tails w.driver f s.parts s.order s.out before.0 (near_fewer w.driver f before.1) k.tails;

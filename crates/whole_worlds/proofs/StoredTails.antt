@@ -150,13 +150,13 @@ module _ (p : DriverParts) (member streams : ℕ → Bool) (ends : ℕ → Told)
   lent_dummy : IsLent (slot_of d.book.slots g.endpoint.dummy)
   lent_dummy =
       all_lent d b words i g.endpoint.dummy k.command (made_is p member streams ends parts order out b words k) (below p member streams ends parts order out b words k) k.lent
-      (dummy_placed d k.sound.owners y.endpoint g.endpoint g.here (k.turns.bulk.endpoints y.endpoint g.endpoint g.here) own_met.there.kept).run
+      (dummy_placed d k.sound.owners y.endpoint g.endpoint g.here (k.turns.asynchronous.endpoints y.endpoint g.endpoint g.here) own_met.there.kept).run
 
   queue_apart : (e : ℕ) (x : Endpoint) → slice_get d.endpoints e ≡ Some x → x.gone ≡ false → e ≢ y.endpoint → 32 * x.queue ≢ n
   queue_apart e x here kept differs same =
       differs
-      (queues_same x.queue g.endpoint.queue e y.endpoint (thirty_two x.queue g.endpoint.queue same) (queue_placed d k.sound.owners e x here (k.turns.bulk.endpoints e x here) kept)
-      (queue_placed d k.sound.owners y.endpoint g.endpoint g.here (k.turns.bulk.endpoints y.endpoint g.endpoint g.here) own_met.there.kept))
+      (queues_same x.queue g.endpoint.queue e y.endpoint (thirty_two x.queue g.endpoint.queue same) (queue_placed d k.sound.owners e x here (k.turns.asynchronous.endpoints e x here) kept)
+      (queue_placed d k.sound.owners y.endpoint g.endpoint g.here (k.turns.asynchronous.endpoints y.endpoint g.endpoint g.here) own_met.there.kept))
 
   module _ (eighth : d.made ≡ 8) (stands : QueuesThen done member streams ends (parts_then g) order (out_then out done g)) (mem : IsMember member n (parts_then g n)) (tails : TailsStand d parts order out) where
     abbrev c : ℕ

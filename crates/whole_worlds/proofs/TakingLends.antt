@@ -1,8 +1,9 @@
 -- A lend leaves the pipes of OUT endpoints agreed: each new qTD that is active asks the way of its endpoint.
-use Rattle.std.proofs.Common.{◌≡◌, ◌≢◌, ℕ, zero, suc, ◌*◌, ◌⊎◌, Bool, true, List, [], ◌∷◌, Option, Some, None, option_map, Ok, Result, ap, refl, sym, subst, ◌∙◌, ⊎_elim, inl, inr}
-use Rattle.std.specs.List.{concat}
+use Rattle.std.proofs.Common.{◌≡◌, ◌≢◌, ℕ, zero, suc, ◌*◌, ◌⊎◌, Bool, true, false, List, [], ◌∷◌, Option, Some, None, option_map, Ok, Result, ap, refl, sym, subst, ◌∙◌, ⊎_elim, inl, inr}
+use Rattle.std.specs.List.{AllByRecursion, concat}
 use Rattle.std.proofs.lemmas.Bool.{cases_eq, true≢false}
 use Rattle.usb_base.specs.declared.packets.Way.{Way}
+use Rattle.usb_base.specs.declared.packets.Way.TheVariants as ways
 use Rattle.usb_bus.specs.Bus.{Fixed}
 use Rattle.word_mem.specs.Memory.{Mem}
 use Rattle.link_words.specs.declared.refusal.Bad.{Bad}
@@ -17,8 +18,10 @@ use Rattle.driver_rows.specs.DriverContent.{DriverContent}
 use Rattle.driver_rows.specs.Rows.{Parts as DriverParts, advance}
 use Rattle.driver_rows.specs.Harvests.{note_at}
 use Rattle.run_owners.specs.Owners.{Views, views_of}
-use Rattle.chained_transfers.specs.Bulk.{pid_by}
-use Rattle.chained_transfers.proofs.Ways.{its_pid}
+use Rattle.chained_transfers.specs.Bulk.{IsDataWay, comes_in, pid_by}
+use Rattle.chained_transfers.proofs.Ways.{IsBy, data_or_control, its_pid}
+use Rattle.fed_queues.specs.Places.{IsMet}
+use Rattle.ring_laws.specs.Told.{Endpoint as Told}
 use Rattle.lent_structures.specs.Structures.{Structure, QueueHead, Element, Buffer, Table, Isochronous, SplitIsochronous, StructureSets, Tells}
 use Rattle.async_walk.specs.Rows.{place}
 use Rattle.driver_laws.specs.Inventory.{Sort, OfElement, sort_of, sorts_of, Inventory, IsLent, IsPieceOf, AreTold, IsDriverOwned, the_list, the_head, a_queue, a_dummy, a_piece, a_buffer, IsDriven}
@@ -43,9 +46,9 @@ use Rattle.feeding_worlds.specs.Feeding.{IsFeeding}
 use Rattle.feeding_worlds.specs.LendFeeds.{LendsTransfer}
 use Rattle.whole_worlds.specs.Whole.{IsWhole}
 use Rattle.feeding_worlds.specs.Taking.{outs_of, IsTaking}
-use Rattle.feeding_worlds.proofs.Heads.{queue_on}
+use Rattle.feeding_worlds.proofs.Heads.{own_toggle}
 use Rattle.feeding_worlds.proofs.FeedingLends.{lend_feeds}
-use Rattle.whole_worlds.proofs.TakingStores.{goes_by}
+use Rattle.whole_worlds.proofs.TakingStores.{control_out, control_kind, goes_as}
 
 -- ---- one memory of one driver tells one qTD at a place
 
@@ -87,19 +90,34 @@ same_element v m parts now driven tells driven_now tells_now n a t here =
 
 -- ---- what the new qTDs ask for
 
-new_pid : (notes : List QtdNote) (dummy : ℕ) (way : Way) (ss : List Stage) (b a : ℕ) (u : Qtd) → AreStagesBy way ss → IsNewQtd notes dummy ss b a u → u.token.active ≡ true → u.token.pid ≡ pid_by way
-new_pid notes dummy way [] b a u by new on = absurd (true≢false (sym on ∙ ap (λ (t : Qtd). t.token.active) new.1))
-new_pid notes dummy way (s ∷ ss) b a u by (inl new) on = ap (λ (t : Qtd). t.token.pid) new.1 ∙ its_pid way s by.0
-new_pid notes dummy way (s ∷ ss) b a u by (inr new) on = new_pid notes dummy way ss (note_at notes b).next a u by.1 new on
+-- the stages of a get or a put
+data_stages : (way : Way) (s : Stage) (ss : List Stage) → IsDataWay way → AreStagesBy way (s ∷ ss) → AllByRecursion (IsBy way) ss
+data_stages ways.In s ss one by = by.1
+data_stages ways.Out s ss one by = by.1
+data_stages ways.Ctl s ss one by = absurd one
+
+new_pid : (notes : List QtdNote) (dummy : ℕ) (way : Way) (ss : List Stage) (b a : ℕ) (u : Qtd) → IsDataWay way → AllByRecursion (IsBy way) ss → IsNewQtd notes dummy ss b a u → u.token.active ≡ true
+    → u.token.pid ≡ pid_by way
+new_pid notes dummy way [] b a u one by new on = absurd (true≢false (sym on ∙ ap (λ (t : Qtd). t.token.active) new.1))
+new_pid notes dummy way (s ∷ ss) b a u one by (inl new) on = ap (λ (t : Qtd). t.token.pid) new.1 ∙ its_pid way s one by.0
+new_pid notes dummy way (s ∷ ss) b a u one by (inr new) on = new_pid notes dummy way ss (note_at notes b).next a u one by.1 new on
+
+-- a new qTD of this queue, which asks as those of a get or a put do
+abbrev IsNewOf : {d : DriverContent} {m : Mem} {b : ℕ} {words : List ℕ} → IsToBeLent d m b words → ℕ → Qtd → Type 0
+IsNewOf get n t = (n ≡ 32 * get.endpoint.queue) × (IsDataWay get.endpoint.desc.name.way → t.token.pid ≡ pid_by get.endpoint.desc.name.way)
 
 pieces_ask : {d : DriverContent} {m : Mem} {b : ℕ} {words : List ℕ} (get : IsToBeLent d m b words) (slot : ℕ → Slot) (parts now : StructureSets) → HasPieces d slot parts now (y_of get) (x_of get) get.stage get.further → (n a : ℕ) (t : Qtd) → now n a ≡ Some (Element t) → t.token.active ≡ true
-    → (parts n a ≡ Some (Element t)) ⊎ ((n ≡ 32 * get.endpoint.queue) × (t.token.pid ≡ pid_by get.endpoint.desc.name.way))
+    → (parts n a ≡ Some (Element t)) ⊎ IsNewOf get n t
 pieces_ask {d = d} get slot parts now has n a t here on =
     ⊎_elim
     (λ (same : n ≡ 32 * get.endpoint.queue).
     ⊎_elim (λ (was : parts (32 * get.endpoint.queue) a ≡ Some (Element t)). inl (ap (λ (i : ℕ). parts i a) same ∙ was))
     (λ (new : IsNewQtd d.notes get.endpoint.dummy get.further (note_at d.notes get.transfer.first).next a t).
-    inr (same, new_pid d.notes get.endpoint.dummy get.endpoint.desc.name.way get.further (note_at d.notes get.transfer.first).next a t get.stages.1 new on))
+    inr (
+      same,
+      λ one. new_pid d.notes get.endpoint.dummy get.endpoint.desc.name.way get.further (note_at d.notes get.transfer.first).next a t one
+          (data_stages get.endpoint.desc.name.way get.stage get.further one get.stages) new on,
+    ))
     (has.elements a t (ap (λ (i : ℕ). now i a) (sym same) ∙ here)))
     (λ (differs : n ≢ 32 * get.endpoint.queue). inl (ap (λ part. part a) (sym (has.beside n differs)) ∙ here)) (cases_eq n (32 * get.endpoint.queue))
 
@@ -132,13 +150,13 @@ module _ (fixed : Fixed) (takes : ℕ → ℕ → Bool) (member : ℕ → Bool) 
   tells_then = subst (λ (i : Mem). Tells i g.parts) (ap (λ (q : DriverParts). q.memory) (after_is (driver_parts w) b words get)) g.feeding.working.streaming.controlled.ring.tells
 
   asks_by : {now : StructureSets} → DrivesRing opening_base member now s.hand (place w.control.walk w.registers (lent_memory d m)) (advance (lent_driver d m)) × HasPieces d (slot_of (lent_driver d m).book.slots) s.parts now (y_of get) (x_of get) get.stage get.further
-      → (i a : ℕ) (t : Qtd) → g.parts i a ≡ Some (Element t) → t.token.active ≡ true → (s.parts i a ≡ Some (Element t)) ⊎ ((i ≡ n) × (t.token.pid ≡ pid_by get.endpoint.desc.name.way))
+      → (i a : ℕ) (t : Qtd) → g.parts i a ≡ Some (Element t) → t.token.active ≡ true → (s.parts i a ≡ Some (Element t)) ⊎ IsNewOf get i t
   asks_by {now = now} both i a t here on =
       let driven : IsDriven (views_of (lent_now d m)) (sorts_of now) = subst (λ (q : DriverContent). IsDriven (views_of q) (sorts_of now)) (advance_is d m b words get) both.0.driven in
       pieces_ask get (slot_of (lent_driver d m).book.slots) s.parts now both.1 i a t
       (same_element (views_of (lent_now d m)) (lent_memory d m) g.parts now driven_then tells_then driven both.0.ring.tells i a t here) on
 
-  asks : (i a : ℕ) (t : Qtd) → g.parts i a ≡ Some (Element t) → t.token.active ≡ true → (s.parts i a ≡ Some (Element t)) ⊎ ((i ≡ n) × (t.token.pid ≡ pid_by get.endpoint.desc.name.way))
+  asks : (i a : ℕ) (t : Qtd) → g.parts i a ≡ Some (Element t) → t.token.active ≡ true → (s.parts i a ≡ Some (Element t)) ⊎ IsNewOf get i t
   asks =
       let owners = f.working.place.sound.owners in
       let stands = f.working.place.sound.stands in
@@ -147,19 +165,38 @@ module _ (fixed : Fixed) (takes : ℕ → ℕ → Bool) (member : ℕ → Bool) 
       (lend_drives opening_base member s.parts s.hand w.control.walk w.registers m d get.number (y_of get) (x_of get) get.stage get.further get.awaits owners stands old
       (names_lent d m b words s.parts n get f.queues.fed old.driven))
 
-  new_as : AreNewAs (outs_of member x.streams) s.parts g.parts
+  abbrev outs : ℕ → Bool
+  outs = outs_of member x.streams x.endpoint
+
+  met : IsMet w.driver get.transfer.endpoint get.endpoint
+  met = it_is_met d m b words f.turns.asynchronous get
+
+  -- the qTDs of a control endpoint may ask for both, and no taker has its name
+  abbrev GoesOrNone : ℕ → Qtd → Type 0
+  GoesOrNone i t = GoesAs outs i t ⊎ ((outs i ≡ false) × (takes (x.endpoint i).addr (x.endpoint i).ep ≡ false))
+
+  none_taken : get.endpoint.desc.name.way ≡ ways.Ctl → (outs n ≡ false) × (takes (x.endpoint n).addr (x.endpoint n).ep ≡ false)
+  none_taken way =
+      let told = f.queues.streams_are.each get.transfer.endpoint get.endpoint get.here met in (
+        control_out member x.streams x.endpoint n (told.0 ∙ ap comes_in way)
+            (own_toggle w.driver x.streams x.endpoint get.transfer.endpoint get.endpoint f.queues.streams_are get.here met
+            ∙ control_kind get.endpoint.desc.name.way get.endpoint.desc.kind way (f.turns.asynchronous.endpoints get.transfer.endpoint get.endpoint get.here).asynchronous.kind),
+        ap (λ (y : Told). takes y.addr y.ep) told.1 ∙ k.controls_apart get.transfer.endpoint get.endpoint get.here way,
+      )
+
+  new_as : AreNewAs takes outs x.endpoint s.parts g.parts
   new_as i a t here on =
-      let met = it_is_met d m b words f.turns.bulk get in
       ⊎_elim (λ (was : s.parts i a ≡ Some (Element t)). inl was)
-      (λ (new : (i ≡ n) × (t.token.pid ≡ pid_by get.endpoint.desc.name.way)).
-      inr (subst (λ (j : ℕ). GoesAs (outs_of member x.streams) j t) (sym new.0)
-      (goes_by member x.streams n get.endpoint.desc.name.way t (f.turns.bulk.endpoints get.transfer.endpoint get.endpoint get.here).bulk.way (f.queues.streams_are.each get.transfer.endpoint get.endpoint get.here met).0
-      (queue_on fixed member x s w f get.transfer.endpoint get.endpoint get.here met) new.1))) (asks i a t here on)
+      (λ (new : IsNewOf get i t).
+      inr (subst (λ (j : ℕ). GoesOrNone j t) (sym new.0)
+      (⊎_elim
+      (λ (one : IsDataWay get.endpoint.desc.name.way). inl (goes_as fixed member x s w f get.transfer.endpoint get.endpoint t get.here met (new.1 one)))
+      (λ (way : get.endpoint.desc.name.way ≡ ways.Ctl). inr (none_taken way)) (data_or_control get.endpoint.desc.name.way)))) (asks i a t here on)
 
   pub lend_taking : IsTaking fixed takes member x (record s { parts = g.parts; order = g.order; out = g.out }) (driver_next w)
   lend_taking = record {
     ends = k.taking.ends;
     piped =
-        lend_pipes taker_of takes member (outs_of member x.streams) x.endpoint (λ i. concat (s.acc i)) s.parts g.parts s.hand (wired fixed w) (record { still = g.still; elements = g.elements }) new_as k.taking.piped;
+        lend_pipes taker_of takes member outs x.endpoint (λ i. concat (s.acc i)) s.parts g.parts s.hand (wired fixed w) (record { still = g.still; elements = g.elements }) new_as k.taking.piped;
     untaken = k.taking.untaken;
   }

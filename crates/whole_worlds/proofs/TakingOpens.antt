@@ -1,15 +1,16 @@
 -- The two events of an open beside the OUT endpoints of a world: its structures are lent, and then linked, so that the stream of an OUT endpoint begins.
-use Rattle.std.proofs.Common.{◌≡◌, ◌≢◌, ℕ, ◌*◌, ◌||◌, ◌==◌, Bool, true, false, if◌then◌else◌, List, slice_get, Some, ap, refl, sym, subst, ◌∙◌, ⊎_elim, inl, inr}
+use Rattle.std.proofs.Common.{◌≡◌, ◌≢◌, ℕ, ◌*◌, ◌&&◌, ◌||◌, ◌==◌, Bool, true, false, not, if◌then◌else◌, List, slice_get, Some, ap, refl, sym, subst, ◌∙◌, ⊎_elim, inl, inr}
 use Rattle.std.specs.List.{concat}
 use Rattle.std.proofs.lemmas.Bool.{cases_eq, false≢true}
 use Rattle.std.proofs.lemmas.Option.{same_Some}
+use Rattle.usb_base.specs.declared.packets.Way.TheVariants as ways
 use Rattle.usb_bus.specs.Bus.{Fixed}
 use Rattle.qh_qtd.specs.declared.queue_head.Qh.{Qh}
 use Rattle.async_walk.specs.Rows.{place}
 use Rattle.driver_rows.specs.declared.content.Endpoint.{Endpoint}
 use Rattle.driver_rows.specs.declared.content.Command.TheVariants as unfinished
 use Rattle.driver_rows.specs.Rows.{Parts as DriverParts}
-use Rattle.driver_rows.specs.Words.{head_block, to_queue_head, queue_head, dummy_qtd, speed_field}
+use Rattle.driver_rows.specs.Words.{head_block, to_queue_head, queue_head, dummy_qtd, speed_field, is_control}
 use Rattle.run_owners.specs.Owners.{runs_of_endpoint}
 use Rattle.lent_structures.specs.Structures.{QueueHead, Element, StructureSets, put}
 use Rattle.lent_structures.proofs.Names.{not_same, put_beside, put_same}
@@ -33,10 +34,11 @@ use Rattle.stream_worlds.specs.Streaming.{Streams, Standing, wired}
 use Rattle.controlled_streams.proofs.Storing.{same_hand}
 use Rattle.controlled_streams.specs.Unopened.{IsUnopened}
 use Rattle.controlled_streams.specs.Opened.{with_stream, with_end, with_none, IsOneMore}
-use Rattle.controlled_streams.proofs.Beginning.{stream_here, ends_with_one, ends_with_other}
+use Rattle.controlled_streams.proofs.Beginning.{end_here, end_beside, stream_here, ends_with_one, ends_with_other}
 use Rattle.controlled_streams.proofs.Alike.{alike_ends}
-use Rattle.chained_transfers.specs.Bulk.{receives, comes_in}
-use Rattle.chained_transfers.proofs.Ways.{data_comes_in, way_goes_out, way_sends, sends_comes_not}
+use Rattle.chained_transfers.specs.Bulk.{IsDataWay, receives, comes_in}
+use Rattle.chained_transfers.specs.Asynchronous.{IsAsynchronous}
+use Rattle.chained_transfers.proofs.Ways.{data_or_control, data_comes_in, way_goes_out, way_sends, sends_comes_not}
 use Rattle.fed_queues.specs.Places.{HasHead, HasThere}
 use Rattle.open_laws.specs.Opens.{IsOpenLent, IsAtOpen, head_then, hand_then, end_then, streams_then}
 use Rattle.open_laws.proofs.Standing.{then_here, then_beside, member_here, member_old, member_beside, element_was, its_alive}
@@ -49,9 +51,11 @@ use Rattle.stream_worlds.proofs.Opening.{out_pipes_with_one, out_pipes_with_anot
 use Rattle.feeding_worlds.specs.Feeding.{heads_of, IsFeeding}
 use Rattle.feeding_worlds.specs.Taking.{outs_of, IsTaking}
 use Rattle.whole_worlds.specs.Whole.{IsWhole}
-use Rattle.feeding_worlds.proofs.Heads.{head_of, head_is, not_head}
+use Rattle.feeding_worlds.proofs.Heads.{head_of, head_on, head_is, not_head, own_toggle}
+use Rattle.feeding_worlds.proofs.Told.{data_way, way_control, out_way}
 use Rattle.feeding_worlds.proofs.OpenBeside.{heads_stay}
 use Rattle.feeding_worlds.proofs.FeedingLinks.{linked, found, at_open, more}
+use Rattle.whole_worlds.proofs.TakingStores.{control_out, control_kind}
 use Rattle.feeding_worlds.proofs.TakingAlike.{out_on, alike_out_pipes, alike_untaken, alike_known, none_concat}
 
 -- ---- the lend: the walk doesn't meet the new queue head yet
@@ -67,7 +71,7 @@ module _ (fixed : Fixed) (takes : ℕ → ℕ → Bool) (member : ℕ → Bool) 
   now = parts_lent s.parts ready
 
   abbrev outs : ℕ → Bool
-  outs = outs_of member x.streams
+  outs = outs_of member x.streams x.endpoint
 
   unmet : member n ≡ false
   unmet =
@@ -123,7 +127,7 @@ module _ (fixed : Fixed) (takes : ℕ → ℕ → Bool) (member : ℕ → Bool) 
   at = at_open fixed member x s w lent f
 
   abbrev those : ℕ → Bool
-  those = outs_of member x.streams
+  those = outs_of member x.streams x.endpoint
 
   abbrev parts_now : StructureSets
   parts_now = head_then s.parts head.queue e
@@ -146,7 +150,7 @@ module _ (fixed : Fixed) (takes : ℕ → ℕ → Bool) (member : ℕ → Bool) 
   old = record { ring = f.working.streaming.controlled.ring; driven = f.working.driven }
 
   had : (m : ℕ) → those m ≡ true → HasHead w.driver m
-  had m on = head_is w.driver member m f.queues.met (out_on member x.streams m on).1
+  had m on = head_is w.driver member x.endpoint m f.queues.met (out_on member x.streams x.endpoint m on).1
 
   had_there : (m : ℕ) → those m ≡ true → HasThere w.driver m
   had_there m on = let h : HasHead w.driver m = had m on in record { number = h.number; endpoint = h.endpoint; here = h.here; there = h.met.there; at = h.at }
@@ -188,43 +192,70 @@ module _ (fixed : Fixed) (takes : ℕ → ℕ → Bool) (member : ℕ → Bool) 
     others = λ m met differs off. aside_then m (k.taking.piped.others m (member_beside member new_at m differs met) off);
   }
 
+  described : (i : ℕ) (z : Endpoint) → slice_get w.driver.endpoints i ≡ Some z → IsAsynchronous z.desc
+  described i z here = (f.turns.asynchronous.endpoints i z here).asynchronous
+
+  -- each of these is that of an endpoint whose data go one way
+  had_data : (m : ℕ) → (on : those m ≡ true) → IsDataWay (had m on).endpoint.desc.name.way
+  had_data m on =
+      let h : HasHead w.driver m = had m on in
+      data_way h.endpoint.desc (described h.number h.endpoint h.here)
+      (sym (own_toggle w.driver x.streams x.endpoint h.number h.endpoint f.queues.streams_are h.here h.met) ∙ ap (λ (i : ℕ). (x.endpoint i).dtc) (sym h.at)
+      ∙ (head_on member x.endpoint m (out_on member x.streams x.endpoint m on).1).2)
+
   -- no other OUT endpoint has its name
   unopened : receives e.desc.name.way ≡ false → IsUnopened those x.endpoint e.desc.name.addr e.desc.name.num
   unopened goes m on addr ep =
       let h : HasHead w.driver m = had m on in
       let told = f.queues.streams_are.each h.number h.endpoint h.here h.met in
       let is : x.endpoint m ≡ endpoint_of (queue_head h.endpoint.desc 0 h.endpoint.dummy) = ap x.endpoint h.at ∙ told.1 in
-      let too : comes_in h.endpoint.desc.name.way ≡ false = sym told.0 ∙ ap x.streams (sym h.at) ∙ (out_on member x.streams m on).0 in
+      let too : comes_in h.endpoint.desc.name.way ≡ false = sym told.0 ∙ ap x.streams (sym h.at) ∙ (out_on member x.streams x.endpoint m on).0 in
       let number : h.number ≡ lent.number =
       k.names h.number lent.number h.endpoint e h.here lent.here (sym (ap (λ (z : Told). z.addr) is) ∙ addr) (sym (ap (λ (z : Told). z.ep) is) ∙ ep)
-      (way_goes_out h.endpoint.desc.name.way (f.turns.bulk.endpoints h.number h.endpoint h.here).bulk.way too ∙ sym (way_sends e.desc.name.way goes)) in
+      (way_goes_out h.endpoint.desc.name.way (had_data m on) too ∙ sym (way_sends e.desc.name.way goes)) in
       let same : h.endpoint ≡ e = same_Some h.endpoint e (sym h.here ∙ ap (slice_get w.driver.endpoints) number ∙ lent.here) in
       h.met.there.linked (lent.command ∙ ap (λ (z : Endpoint). Some (unfinished.Open z.queue)) (sym same))
 
   -- ---- which these are then
 
-  then_apart : (m : ℕ) → m ≢ new_at → outs_of wider (streams_then x.streams e) m ≡ those m
+  abbrev outs_then : ℕ → Bool
+  outs_then = outs_of wider (streams_then x.streams e) ends_now
+
+  -- a control endpoint takes the toggle from each qTD
+  toggle_is : (b : Bool) → is_control e.desc.kind ≡ b → (ends_now new_at).dtc ≡ b
+  toggle_is b is = ap (λ (y : Told). y.dtc) (end_here x.endpoint new_at (end_then e)) ∙ is
+
+  then_apart : (m : ℕ) → m ≢ new_at → outs_then m ≡ those m
   then_apart m differs =
-      ap (λ (b : Bool). if b then false else heads_of wider m) (then_beside x.streams e m differs)
-      ∙ ap (λ (b : Bool). if x.streams m then false else (if m == 32 * head_block then false else (b || member m))) (not_same m new_at differs)
+      ap (λ (b : Bool). if b then false else heads_of wider ends_now m) (then_beside x.streams e m differs)
+      ∙ ap (λ (b : Bool). if x.streams m then false else (if m == 32 * head_block then false else ((b || member m) && not (ends_now m).dtc))) (not_same m new_at differs)
+      ∙ ap (λ (y : Told). if x.streams m then false else (if m == 32 * head_block then false else (member m && not y.dtc))) (end_beside x.endpoint new_at (end_then e) m differs)
 
-  then_there : outs_of wider (streams_then x.streams e) new_at ≡ (if comes_in e.desc.name.way then false else true)
-  then_there =
-      ap (λ (b : Bool). if b then false else heads_of wider new_at) (then_here x.streams e)
+  then_there : IsDataWay e.desc.name.way → outs_then new_at ≡ (if comes_in e.desc.name.way then false else true)
+  then_there moves =
+      ap (λ (b : Bool). if b then false else heads_of wider ends_now new_at) (then_here x.streams e)
       ∙ ap (λ (b : Bool). if comes_in e.desc.name.way then false else b)
-      (head_of wider new_at (not_head w.driver lent.number e f.working.place.sound.owners f.turns.bulk lent.here alive) ∙ member_here member new_at)
+      (head_of wider ends_now new_at (not_head w.driver lent.number e f.working.place.sound.owners f.turns.asynchronous lent.here alive)
+      (toggle_is false (way_control e.desc (described lent.number e lent.here) moves)) ∙ member_here member new_at)
 
-  then_out : receives e.desc.name.way ≡ false → (m : ℕ) → outs_of wider (streams_then x.streams e) m ≡ with_stream those new_at m
+  then_out : receives e.desc.name.way ≡ false → (m : ℕ) → outs_then m ≡ with_stream those new_at m
   then_out goes m =
       ⊎_elim (λ (same : m ≡ new_at).
-      ap (outs_of wider (streams_then x.streams e)) same ∙ then_there ∙ ap (λ (b : Bool). if b then false else true) (sends_comes_not e.desc.name.way goes) ∙ sym (stream_here those new_at) ∙ ap (with_stream those new_at) (sym same))
+      ap outs_then same ∙ then_there (out_way e.desc.name.way goes) ∙ ap (λ (b : Bool). if b then false else true) (sends_comes_not e.desc.name.way goes) ∙ sym (stream_here those new_at) ∙ ap (with_stream those new_at) (sym same))
       (λ (differs : m ≢ new_at). then_apart m differs ∙ sym (ap (λ (b : Bool). b || those m) (not_same m new_at differs))) (cases_eq m new_at)
 
-  then_in : comes_in e.desc.name.way ≡ true → (m : ℕ) → outs_of wider (streams_then x.streams e) m ≡ those m
-  then_in comes m =
-      ⊎_elim (λ (same : m ≡ new_at).
-      ap (outs_of wider (streams_then x.streams e)) same ∙ then_there ∙ ap (λ (b : Bool). if b then false else true) comes ∙ sym one_of_those.new ∙ ap those (sym same))
-      (λ (differs : m ≢ new_at). then_apart m differs) (cases_eq m new_at)
+  -- where it is none of them
+  then_none : outs_then new_at ≡ false → (m : ℕ) → outs_then m ≡ those m
+  then_none none m =
+      ⊎_elim (λ (same : m ≡ new_at). ap outs_then same ∙ none ∙ sym one_of_those.new ∙ ap those (sym same)) (λ (differs : m ≢ new_at). then_apart m differs) (cases_eq m new_at)
+
+  in_none : IsDataWay e.desc.name.way → comes_in e.desc.name.way ≡ true → outs_then new_at ≡ false
+  in_none moves comes = then_there moves ∙ ap (λ (b : Bool). if b then false else true) comes
+
+  control_none : e.desc.name.way ≡ ways.Ctl → outs_then new_at ≡ false
+  control_none way =
+      control_out wider (streams_then x.streams e) ends_now new_at (then_here x.streams e ∙ ap comes_in way)
+      (toggle_is true (control_kind e.desc.name.way e.desc.kind way (described lent.number e lent.here).kind))
 
   -- ---- both sides of each pipe
 
@@ -235,9 +266,9 @@ module _ (fixed : Fixed) (takes : ℕ → ℕ → Bool) (member : ℕ → Bool) 
   goes_out : receives e.desc.name.way ≡ false → Goes (with_stream those new_at)
   goes_out goes =
       let on : takes e.desc.name.addr e.desc.name.num ≡ true = k.takers lent.number e lent.here lent.command alive goes in (
-        ends_with_one takes member wider those x.endpoint new_at (end_then e) (member_old member new_at) (member_here member new_at) on (ap speed_field (f.turns.bulk.endpoints lent.number e lent.here).bulk.speed)
+        ends_with_one takes member wider those x.endpoint new_at (end_then e) (member_old member new_at) (member_here member new_at) on (ap speed_field (described lent.number e lent.here).speed)
             (unopened goes) k.taking.ends,
-        out_pipes_with_one taker_of takes member wider those x.endpoint known s.hand later s.parts parts_now (wired fixed w) new_at (end_then e) one_head
+        out_pipes_with_one taker_of takes member wider those x.endpoint known s.hand later s.parts parts_now (wired fixed w) new_at (end_then e) one_head (way_control e.desc (described lent.number e lent.here) (out_way e.desc.name.way goes))
             (k.taking.untaken e.desc.name.addr e.desc.name.num on (unopened goes)) k.taking.piped,
         untaken_less_one taker_of takes those x.endpoint (wired fixed w) new_at (end_then e) one_of_those.new k.taking.untaken,
       )
@@ -249,10 +280,9 @@ module _ (fixed : Fixed) (takes : ℕ → ℕ → Bool) (member : ℕ → Bool) 
     untaken_with_another taker_of takes those x.endpoint (wired fixed w) new_at (end_then e) one_of_those.new k.taking.untaken,
   )
 
-  taking_by : (outs_now : ℕ → Bool) → ((m : ℕ) → outs_of wider (streams_then x.streams e) m ≡ outs_now m) → Goes outs_now
+  taking_by : (outs_now : ℕ → Bool) → ((m : ℕ) → outs_then m ≡ outs_now m) → Goes outs_now
       → IsTaking fixed takes wider (more fixed member x s w lent f) (linked s head.queue e) (driver_next w)
   taking_by outs_now same g =
-      let outs_then : ℕ → Bool = outs_of wider (streams_then x.streams e) in
       record {
         ends = alike_ends outs_now outs_then same takes wider ends_now g.0;
         piped = alike_known taker_of takes wider outs_then ends_now (with_none known new_at) (λ m. concat (with_none s.acc new_at m)) parts_now later (wired fixed w) (λ m on. none_concat s.acc new_at m)
@@ -260,11 +290,13 @@ module _ (fixed : Fixed) (takes : ℕ → ℕ → Bool) (member : ℕ → Bool) 
         untaken = alike_untaken outs_now outs_then same taker_of takes ends_now (wired fixed w) g.2;
       }
 
-  taking_if : (b : Bool) → comes_in e.desc.name.way ≡ b → IsTaking fixed takes wider (more fixed member x s w lent f) (linked s head.queue e) (driver_next w)
-  taking_if true comes = taking_by those (then_in comes) goes_in
-  taking_if false off =
-      let goes : receives e.desc.name.way ≡ false = sym (data_comes_in e.desc.name.way (f.turns.bulk.endpoints lent.number e lent.here).bulk.way) ∙ off in
+  taking_if : (b : Bool) → IsDataWay e.desc.name.way → comes_in e.desc.name.way ≡ b → IsTaking fixed takes wider (more fixed member x s w lent f) (linked s head.queue e) (driver_next w)
+  taking_if true moves comes = taking_by those (then_none (in_none moves comes)) goes_in
+  taking_if false moves off =
+      let goes : receives e.desc.name.way ≡ false = sym (data_comes_in e.desc.name.way moves) ∙ off in
       taking_by (with_stream those new_at) (then_out goes) (goes_out goes)
 
   pub link_taking : IsTaking fixed takes wider (more fixed member x s w lent f) (linked s head.queue e) (driver_next w)
-  link_taking = taking_if (comes_in e.desc.name.way) refl
+  link_taking =
+      ⊎_elim (λ (moves : IsDataWay e.desc.name.way). taking_if (comes_in e.desc.name.way) moves refl)
+      (λ (way : e.desc.name.way ≡ ways.Ctl). taking_by those (then_none (control_none way)) goes_in) (data_or_control e.desc.name.way)

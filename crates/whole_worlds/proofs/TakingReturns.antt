@@ -47,6 +47,6 @@ module _ (fixed : Fixed) (takes : ℕ → ℕ → Bool) (member : ℕ → Bool) 
   pub release_taking : IsTaking fixed takes member x (record s { parts = without_those s.parts n goes; out = staying_of n goes s.out }) (with_parts w (after_driver_row (rows.ReleaseTransfer t) (driver_parts w)))
   release_taking = record {
     ends = k.taking.ends;
-    piped = return_pipes taker_of takes member (outs_of member x.streams) x.endpoint (λ i. concat (s.acc i)) s.parts s.hand (wired fixed w) n goes head buffers works k.taking.piped;
+    piped = return_pipes taker_of takes member (outs_of member x.streams x.endpoint) x.endpoint (λ i. concat (s.acc i)) s.parts s.hand (wired fixed w) n goes head buffers works k.taking.piped;
     untaken = k.taking.untaken;
   }

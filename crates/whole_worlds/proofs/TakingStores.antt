@@ -1,15 +1,20 @@
 -- A store of the first qTD of a transfer leaves the pipes of OUT endpoints agreed.
-use Rattle.std.proofs.Common.{◌≡◌, ℕ, ◌-◌, ◌*◌, ◌<◌, ◌≤◌, Bool, true, false, if◌then◌else◌, List, Option, Some, ap, sym, ◌∙◌, ⊎_elim, inl, inr, arith}
+use Rattle.std.proofs.Common.{◌≡◌, ℕ, ◌-◌, ◌*◌, ◌<◌, ◌≤◌, ◌==◌, Bool, true, false, not, ◌&&◌, if◌then◌else◌, List, slice_get, Option, Some, ap, refl, sym, subst, ◌∙◌, ⊎_elim, inl, inr, arith}
 use Rattle.std.specs.List.{concat}
-use Rattle.std.proofs.lemmas.Bool.{cases_Bool, cases_lt, false≢true}
+use Rattle.std.proofs.lemmas.Bool.{cases_lt, false≢true}
+use Rattle.usb_base.specs.declared.packets.EpKind.{EpKind}
 use Rattle.usb_base.specs.declared.packets.Way.{Way}
+use Rattle.usb_base.specs.declared.packets.Way.TheVariants as ways
 use Rattle.usb_bus.specs.Bus.{Fixed}
 use Rattle.qh_qtd.specs.declared.qtd.Qtd.{Qtd}
+use Rattle.driver_rows.specs.declared.content.Endpoint.{Endpoint}
 use Rattle.driver_rows.specs.declared.content.Command.{Command}
 use Rattle.driver_rows.specs.declared.content.Command.TheVariants as unfinished
 use Rattle.driver_rows.specs.Rows.{Parts as DriverParts}
-use Rattle.chained_transfers.specs.Bulk.{IsDataWay, receives, comes_in, pid_by}
-use Rattle.chained_transfers.proofs.Ways.{data_comes_in, receives_pid, sends_pid}
+use Rattle.chained_transfers.specs.Bulk.{IsDataWay, comes_in, pid_by}
+use Rattle.chained_transfers.specs.Asynchronous.{IsKindOf}
+use Rattle.driver_rows.specs.Words.{head_block, is_control}
+use Rattle.ring_laws.specs.Told.{Endpoint as Told}
 use Rattle.driver_laws.specs.Published.{partly}
 use Rattle.driver_laws.proofs.Publishing.{idle}
 use Rattle.scripted_takers.specs.Takers.{taker_of}
@@ -17,31 +22,51 @@ use Rattle.bus_world.specs.World.{World, driver_parts, driver_next}
 use Rattle.stream_worlds.specs.Streaming.{Streams, Standing, wired}
 use Rattle.fed_queues.specs.Fed.{IsPublished}
 use Rattle.fed_queues.specs.Places.{IsMet}
-use Rattle.fed_queues.proofs.Places.{going_met}
+use Rattle.fed_queues.proofs.Places.{stands_met}
 use Rattle.publish_laws.specs.Stores.{IsAtStore, published_by}
 use Rattle.stream_worlds.specs.Outs.{GoesAs}
 use Rattle.stream_worlds.proofs.Storing.{store_pipes}
 use Rattle.feeding_worlds.specs.Feeding.{heads_of, IsFeeding}
 use Rattle.whole_worlds.specs.Whole.{IsWhole}
 use Rattle.feeding_worlds.specs.Taking.{outs_of, IsTaking}
-use Rattle.feeding_worlds.proofs.Heads.{queue_on}
+use Rattle.feeding_worlds.proofs.Heads.{own_toggle, queue_on}
+use Rattle.feeding_worlds.proofs.TakingAlike.{outs_on}
 use Rattle.feeding_worlds.proofs.FeedingStores.{at, after_store}
 use Rattle.feeding_worlds.proofs.Storing.{below}
 
 -- ---- the queue heads of OUT endpoints
 
-pub outs_off : (member streams : ℕ → Bool) (n : ℕ) → streams n ≡ true → outs_of member streams n ≡ false
-outs_off member streams n on = ap (λ (b : Bool). if b then false else heads_of member n) on
+outs_off : (member streams : ℕ → Bool) (ends : ℕ → Told) (n : ℕ) → streams n ≡ true → outs_of member streams ends n ≡ false
+outs_off member streams ends n on = ap (λ (b : Bool). if b then false else heads_of member ends n) on
 
-pub outs_on : (member streams : ℕ → Bool) (n : ℕ) → streams n ≡ false → heads_of member n ≡ true → outs_of member streams n ≡ true
-outs_on member streams n off head = ap (λ (b : Bool). if b then false else heads_of member n) off ∙ head
+-- the queue head of a control endpoint is none of these
+none_of_none : (a b : Bool) → (if a then false else (b && false)) ≡ false
+none_of_none true b = refl
+none_of_none false true = refl
+none_of_none false false = refl
+
+off_by_toggle : (member : ℕ → Bool) (ends : ℕ → Told) (n : ℕ) → (ends n).dtc ≡ true → heads_of member ends n ≡ false
+off_by_toggle member ends n own =
+    ap (λ (b : Bool). if n == 32 * head_block then false else (member n && not b)) own ∙ none_of_none (n == 32 * head_block) (member n)
+
+pub control_out : (member streams : ℕ → Bool) (ends : ℕ → Told) (n : ℕ) → streams n ≡ false → (ends n).dtc ≡ true → outs_of member streams ends n ≡ false
+control_out member streams ends n off own = ap (λ (b : Bool). if b then false else heads_of member ends n) off ∙ off_by_toggle member ends n own
+
+pub control_kind : (way : Way) (kind : EpKind) → way ≡ ways.Ctl → IsKindOf way kind → is_control kind ≡ true
+control_kind way kind is k = ap is_control (subst (λ (v : Way). IsKindOf v kind) is k)
 
 -- a qTD that asks the way of its endpoint
-pub goes_by : (member streams : ℕ → Bool) (n : ℕ) (way : Way) (t : Qtd) → IsDataWay way → streams n ≡ comes_in way → heads_of member n ≡ true → t.token.pid ≡ pid_by way → GoesAs (outs_of member streams) n t
-goes_by member streams n way t one streamed head pid =
-    let by : streams n ≡ receives way = streamed ∙ data_comes_in way one in
-    ⊎_elim (λ (on : receives way ≡ true). inr (outs_off member streams n (by ∙ on), λ zero. let in_pid = receives_pid way on in omega (arith, pid, in_pid, zero)))
-    (λ (off : receives way ≡ false). inl (outs_on member streams n (by ∙ off) head, pid ∙ sends_pid way off)) (cases_Bool (receives way))
+goes_by : (member streams : ℕ → Bool) (ends : ℕ → Told) (n : ℕ) (way : Way) (t : Qtd) → streams n ≡ comes_in way → (IsDataWay way → heads_of member ends n ≡ true) → (way ≡ ways.Ctl → (ends n).dtc ≡ true)
+    → t.token.pid ≡ pid_by way → GoesAs (outs_of member streams ends) n t
+goes_by member streams ends n ways.In t streamed head own pid = inr (outs_off member streams ends n streamed, λ zero. omega (arith, pid, zero))
+goes_by member streams ends n ways.Out t streamed head own pid = inl (outs_on member streams ends n streamed (head tt), pid)
+goes_by member streams ends n ways.Ctl t streamed head own pid = inr (control_out member streams ends n streamed (own refl), λ zero. omega (arith, pid, zero))
+
+pub goes_as : (fixed : Fixed) (member : ℕ → Bool) (x : Streams) (s : Standing) (w : World) → IsFeeding fixed member x s w → (e : ℕ) (z : Endpoint) (t : Qtd) → slice_get w.driver.endpoints e ≡ Some z
+    → IsMet w.driver e z → t.token.pid ≡ pid_by z.desc.name.way → GoesAs (outs_of member x.streams x.endpoint) (32 * z.queue) t
+goes_as fixed member x s w f e z t here met pid =
+    goes_by member x.streams x.endpoint (32 * z.queue) z.desc.name.way t (f.queues.streams_are.each e z here met).0 (queue_on fixed member x s w f e z here met)
+    (λ way. own_toggle w.driver x.streams x.endpoint e z f.queues.streams_are here met ∙ control_kind z.desc.name.way z.desc.kind way (f.turns.asynchronous.endpoints e z here).asynchronous.kind) pid
 
 -- ---- the store
 
@@ -72,7 +97,7 @@ module _ (fixed : Fixed) (takes : ℕ → ℕ → Bool) (member : ℕ → Bool) 
 
   met : IsMet w.driver g.transfer.endpoint g.endpoint
   met =
-      going_met w.driver g.transfer.endpoint g.endpoint (f.turns.bulk.endpoints g.transfer.endpoint g.endpoint g.here) g.going (λ is. never_opens (sym command ∙ is))
+      stands_met w.driver g.transfer.endpoint g.endpoint (f.turns.asynchronous.endpoints g.transfer.endpoint g.endpoint g.here) g.going (λ is. never_opens (sym command ∙ is))
     where
       never_opens : ◌≡◌ {A = Option Command} (Some (unfinished.Publish b words)) (Some (unfinished.Open g.endpoint.queue)) → ⊥
       never_opens is = cc
@@ -85,16 +110,14 @@ module _ (fixed : Fixed) (takes : ℕ → ℕ → Bool) (member : ℕ → Bool) 
       let eighth : w.driver.made ≡ 8 = (let few = g.few in omega (arith, few, over)) in
       ap (λ (j : ℕ). (partly g.qtd j).token.pid) eighth ∙ g.pid) (cases_lt w.driver.made 8)
 
-  goes : new.token.active ≡ true → GoesAs (outs_of member x.streams) n new
-  goes on =
-      goes_by member x.streams n way new (f.turns.bulk.endpoints g.transfer.endpoint g.endpoint g.here).bulk.way (f.queues.streams_are.each g.transfer.endpoint g.endpoint g.here met).0
-      (queue_on fixed member x s w f g.transfer.endpoint g.endpoint g.here met) (asks on)
+  goes : new.token.active ≡ true → GoesAs (outs_of member x.streams x.endpoint) n new
+  goes on = goes_as fixed member x s w f g.transfer.endpoint g.endpoint new g.here met (asks on)
 
   pub store_taking : IsTaking fixed takes member x (after_store fixed member x s w b words command made whole.feeding) (driver_next w)
   store_taking = record {
     ends = whole.taking.ends;
     piped =
-        store_pipes taker_of takes member (outs_of member x.streams) x.endpoint (λ i. concat (s.acc i)) s.parts s.hand (wired fixed w) n (32 * b) old new
+        store_pipes taker_of takes member (outs_of member x.streams x.endpoint) x.endpoint (λ i. concat (s.acc i)) s.parts s.hand (wired fixed w) n (32 * b) old new
         f.working.streaming.controlled.ring.members whole.taking.ends g.stored (idle g.qtd (w.driver.made - 1) (below p member x.streams x.endpoint s.parts s.order s.out b words k)) goes whole.taking.piped;
     untaken = whole.taking.untaken;
   }

@@ -10,7 +10,7 @@ use Rattle.driver_rows.specs.DriverContent.{DriverContent}
 use Rattle.driver_rows.specs.Rows.{Parts as DriverParts, freed_by, free_qtds, after_transfer, after_driver_row}
 use Rattle.driver_rows.specs.Harvests.{note_at}
 use Rattle.run_owners.specs.Owners.{Element}
-use Rattle.chained_transfers.specs.InTurn.{TakesTurns}
+use Rattle.chained_transfers.specs.AsynchronousTurns.{AsynchronousTakesTurns}
 use Rattle.lent_structures.specs.Structures.{Structures, StructureSets}
 use Rattle.lent_structures.proofs.Names.{not_same}
 use Rattle.ring_laws.specs.Hand.{Hand}
@@ -33,7 +33,7 @@ use Rattle.harvest_laws.specs.ToldLaws.{SparesDone}
 use Rattle.harvest_laws.proofs.Standing.{spared_told, returned_told}
 use Rattle.feeding_worlds.proofs.There.{there_now, next_waits}
 
-module _ (base : Base) (member : ℕ → Bool) (parts : StructureSets) (hand : Hand) (w : Walk) (p : DriverParts) (order : ℕ → ℕ → ℕ) (out : ℕ → List ℕ) (t : ℕ) (y : Transfer) (x : Endpoint) (s : ReleaseStands base member parts hand w p order out) (k : IsReturning p.driver t y x) (turns : TakesTurns p.driver) where
+module _ (base : Base) (member : ℕ → Bool) (parts : StructureSets) (hand : Hand) (w : Walk) (p : DriverParts) (order : ℕ → ℕ → ℕ) (out : ℕ → List ℕ) (t : ℕ) (y : Transfer) (x : Endpoint) (s : ReleaseStands base member parts hand w p order out) (k : IsReturning p.driver t y x) (turns : AsynchronousTakesTurns p.driver) where
   abbrev d : DriverContent
   d = p.driver
 
@@ -75,8 +75,8 @@ module _ (base : Base) (member : ℕ → Bool) (parts : StructureSets) (hand : H
 
   spares : SparesDone d parts now
   spares = record {
-    heads = λ e z here. spares_head parts n goes (head_stays base member parts hand w p order out t y x s k) (32 * z.queue);
-    done = λ e u z r a is one. spares_at (32 * z.queue) (32 * a) (next_stays e u z r a is one);
+    heads = λ e z here on. spares_head parts n goes (head_stays base member parts hand w p order out t y x s k) (32 * z.queue);
+    done = λ e u z r a is on one. spares_at (32 * z.queue) (32 * a) (next_stays e u z r a is one);
   }
 
   -- ---- the row

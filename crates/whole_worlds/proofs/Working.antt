@@ -73,12 +73,12 @@ at_work : (fixed : Fixed) (takes : ℕ → ℕ → Bool) (member : ℕ → Bool)
 at_work fixed takes member x s w k =
     let f = k.feeding in
     let heard : HearsBytesNow fixed w = hears_bytes fixed w k.bytes in
-    let g : GoesOnBeside fixed member x s w = controller_feeds fixed member x s w heard f in
+    let g : GoesOnBeside fixed member x s w = controller_feeds fixed member x s w heard k.tails f in
     let before : base_of w.registers ≡ opening_base = f.working.streaming.controlled.ring.registers in
     let after : base_of (controller_next fixed w).registers ≡ opening_base = g.event.event.controlled.ring.registers in
     record {
       place = f.working.place;
-      ring = reads_ring w.memory w.driver f.working.place.sound f.turns.bulk;
+      ring = reads_ring w.memory w.driver f.working.place.sound f.turns.asynchronous;
       registers = before;
       works = works w (ap (λ (b : Base). b.run) before);
       goes_on = goes_on fixed w (ap (λ (b : Base). b.run) after);

@@ -4,7 +4,7 @@ use Rattle.usb_bus.specs.Bus.{Fixed}
 use Rattle.driver_rows.specs.declared.content.Command.{Command}
 use Rattle.driver_rows.specs.declared.content.Command.TheVariants as unfinished
 use Rattle.driver_rows.specs.DriverContent.{DriverContent}
-use Rattle.driver_rows.specs.Rows.{Parts as DriverParts}
+use Rattle.driver_rows.specs.Rows.{Parts as DriverParts, driver_row}
 use Rattle.bus_world.specs.World.{World, driver_parts, driver_next}
 use Rattle.stream_worlds.specs.Streaming.{Streams, Standing}
 use Rattle.fed_queues.specs.Fed.{IsPublished}
@@ -19,6 +19,7 @@ use Rattle.feeding_worlds.proofs.Storing.{by_store, met_now, under_way_then, tol
 use Rattle.whole_worlds.proofs.KeptLeft.{whole_of, busy_left}
 use Rattle.whole_worlds.proofs.StoredTails.{tails_then}
 use Rattle.whole_worlds.proofs.TakingStores.{store_taking}
+use Rattle.feeding_worlds.proofs.Names.{row_apart}
 
 no_open : (c : ℕ) → ◌≡◌ {A = Option Command} None (Some (unfinished.Open c)) → ⊥
 no_open c same = cc
@@ -46,6 +47,7 @@ module _ (fixed : Fixed) (takes : ℕ → ℕ → Bool) (member : ℕ → Bool) 
         names = store (λ (d : DriverContent). AreNamesApart d) (λ low. whole.names) (λ eighth. whole.names);
         senders = store (λ (d : DriverContent). HaveSenders d x.stream) (λ low. whole.senders) (λ eighth e z here opens. absurd (no_open z.queue opens));
         takers = store (λ (d : DriverContent). HaveTakers d takes) (λ low. whole.takers) (λ eighth e z here opens. absurd (no_open z.queue opens));
+        controls_apart = row_apart takes (driver_row p) p whole.controls_apart;
         taking = store_taking fixed takes member x s w b words command made whole;
         runs = runs_then p member x.streams x.endpoint s.parts s.order s.out b words k whole.runs;
         tails = tails_then p member x.streams x.endpoint s.parts s.order s.out b words k (queues_then fixed member x s w b words command made f)

@@ -1,20 +1,23 @@
--- Laws of worlds whose endpoints are all bulk ones: each event and each command leaves such a world whole.
+-- Laws of worlds whose endpoints are all high-speed bulk and control ones: each event and each command leaves such a world whole.
 use Rattle.std.specs.Prelude.{◌≡◌, ℕ, ◌≤◌, Bool, true, false, List, Some, Ok}
 use Rattle.usb_base.specs.declared.commands.Cmd.{Cmd}
 use Rattle.usb_base.specs.declared.commands.Cmd.TheVariants as commands
+use Rattle.usb_base.specs.declared.packets.Way.TheVariants as ways
 use Rattle.script_types.specs.declared.scripts.Script.{Script}
 use Rattle.script_fits.specs.Fits.{IsFit}
 use Rattle.byte_answers.specs.Bytes.{IsByteScript}
 use Rattle.usb_bus.specs.Bus.{Fixed, fixed_of}
 use Rattle.driver_rows.specs.Offers.{Offered, offered, IsOffered}
 use Rattle.driver_rows.specs.declared.content.Command.TheVariants as unfinished
+use Rattle.driver_rows.specs.declared.content.Mend.{Mend}
 use Rattle.driver_rows.specs.declared.rows.DriverRow.TheVariants as rows
 use Rattle.driver_rows.specs.declared.rows.Found.{Found}
 use Rattle.driver_rows.specs.Rows.{driver_row}
 use Rattle.bus_world.specs.World.{World, driver_parts, driver_next, controller_next, commanded}
 use Rattle.bus_world.specs.Opening.{opening_world}
 use Rattle.stream_worlds.specs.Streaming.{Streams, Standing}
-use Rattle.chained_transfers.specs.Bulk.{OpensOrCancelsBulk, receives, comes_in}
+use Rattle.chained_transfers.specs.Bulk.{receives, comes_in}
+use Rattle.chained_transfers.specs.Asynchronous.{OpensAsynchronous}
 use Rattle.fed_lends.specs.ToLend.{IsToBeLent}
 use Rattle.open_laws.specs.Lends.{IsOpenReady}
 use Rattle.open_laws.specs.Opens.{IsOpenLent}
@@ -22,6 +25,7 @@ use Rattle.walk_members.specs.Reached.{OpensNumbered}
 use Rattle.stream_worlds.specs.Takers.{takes_of}
 use Rattle.feeding_worlds.specs.Feeding.{streams_of}
 use Rattle.feeding_worlds.specs.FeedingLaws.{is_still}
+use Rattle.feeding_worlds.specs.LeftLaws.{OpensNamed}
 use Rattle.whole_worlds.specs.Whole.{IsWhole, HasWhole}
 
 abbrev pub NewWorldIsWhole : Type 0
@@ -32,15 +36,16 @@ ControllerKeepsWhole = (fixed : Fixed) (takes : ℕ → ℕ → Bool) (member : 
 
 -- ---- commands
 
--- the endpoint that is opened, if any, has a stream or a taker
+-- the endpoint that is opened, if any, has a stream or a taker, and if it is a control endpoint neither
 abbrev pub OpensTo : (ℕ → ℕ → Bool) → (ℕ → ℕ → Bool) → Cmd → Type 0
 OpensTo stream takes (commands.OpenEp desc) =
     (comes_in desc.name.way ≡ true → stream desc.name.addr desc.name.num ≡ true) × (receives desc.name.way ≡ false → takes desc.name.addr desc.name.num ≡ true)
+    × (desc.name.way ≡ ways.Ctl → (stream desc.name.addr desc.name.num ≡ false) × (takes desc.name.addr desc.name.num ≡ false))
 OpensTo stream takes _ = Unit {0}
 
 abbrev pub CommandKeepsWhole : Type 0
-CommandKeepsWhole = (fixed : Fixed) (takes : ℕ → ℕ → Bool) (member : ℕ → Bool) (x : Streams) (s : Standing) (w : World) (line : ℕ) (cmd : Cmd) → OpensOrCancelsBulk cmd
-    → ((o : Offered) → offered w.driver w.memory cmd ≡ Ok o → OpensTo x.stream takes cmd) → OpensNumbered cmd → IsOffered w.driver.room cmd → IsWhole fixed takes member x s w → HasWhole fixed takes x.stream x.packets (commanded w line cmd)
+CommandKeepsWhole = (fixed : Fixed) (takes : ℕ → ℕ → Bool) (member : ℕ → Bool) (x : Streams) (s : Standing) (w : World) (line : ℕ) (cmd : Cmd) → OpensAsynchronous cmd
+    → ((o : Offered) → offered w.driver w.memory cmd ≡ Ok o → OpensTo x.stream takes cmd) → OpensNumbered cmd → OpensNamed cmd → IsOffered w.driver.room cmd → IsWhole fixed takes member x s w → HasWhole fixed takes x.stream x.packets (commanded w line cmd)
 
 -- ---- the driver's rows
 
@@ -74,6 +79,11 @@ abbrev pub ReleaseKeepsWhole : Type 0
 ReleaseKeepsWhole = (fixed : Fixed) (takes : ℕ → ℕ → Bool) (member : ℕ → Bool) (x : Streams) (s : Standing) (w : World) (t : ℕ) → driver_row (driver_parts w) ≡ rows.ReleaseTransfer t
     → IsWhole fixed takes member x s w → HasWhole fixed takes x.stream x.packets (driver_next w)
 
+-- the next store by which a stalled control endpoint goes on (4.10.3)
+abbrev pub MendKeepsWhole : Type 0
+MendKeepsWhole = (fixed : Fixed) (takes : ℕ → ℕ → Bool) (member : ℕ → Bool) (x : Streams) (s : Standing) (w : World) (m : Mend) → driver_row (driver_parts w) ≡ rows.Mend m
+    → IsWhole fixed takes member x s w → HasWhole fixed takes x.stream x.packets (driver_next w)
+
 -- the endpoint of an accepted cancel leaves the ring (4.8.2): one store unlinks it; where the doorbell was answered its stream is closed; and it is given back
 abbrev pub UnlinkKeepsWhole : Type 0
 UnlinkKeepsWhole = (fixed : Fixed) (takes : ℕ → ℕ → Bool) (member : ℕ → Bool) (x : Streams) (s : Standing) (w : World) (e before link : ℕ)
@@ -87,6 +97,6 @@ abbrev pub EndpointReleaseKeepsWhole : Type 0
 EndpointReleaseKeepsWhole = (fixed : Fixed) (takes : ℕ → ℕ → Bool) (member : ℕ → Bool) (x : Streams) (s : Standing) (w : World) (e : ℕ) → driver_row (driver_parts w) ≡ rows.ReleaseEndpoint e
     → IsWhole fixed takes member x s w → HasWhole fixed takes x.stream x.packets (driver_next w)
 
--- a driver of bulk endpoints has no other row
+-- a driver of such endpoints has no other row
 abbrev pub DriverKeepsWhole : Type 0
 DriverKeepsWhole = (fixed : Fixed) (takes : ℕ → ℕ → Bool) (member : ℕ → Bool) (x : Streams) (s : Standing) (w : World) → IsWhole fixed takes member x s w → HasWhole fixed takes x.stream x.packets (driver_next w)

@@ -1,39 +1,44 @@
--- Each moment of the run of a script of bulk endpoints (EHCI 1.0, 4.8 to 4.10; USB 2.0, 5.8 and 8.6).
---     IsBulkScript s                   the endpoints that the script opens are high-speed bulk ones, and it may cancel them; it fits, says bytes, has on its bus a sender for each
---                                      IN endpoint and a taker for each OUT endpoint that it opens, and no address or number that doesn't fit its field
+-- Each moment of the run of a script of high-speed bulk and control endpoints (EHCI 1.0, 4.8 to 4.10; USB 2.0, 5.5, 5.8, 8.5.3 and 8.6).
+--     IsAsynchronousScript s           the endpoints that the script opens are high-speed bulk and control ones, and it may cancel them; it fits, says bytes, has on its bus
+--                                      a sender for each IN endpoint and a taker for each OUT endpoint that it opens, and no address or number that doesn't fit its
+--                                      field; number 0 is that of control endpoints alone
 --     IsWholeThroughout s              the world is whole then
 --     InStreamsAreRightThroughout s    the IN streams of its report are right then: what is told of each IN endpoint begins its packets
 --     OutStreamsAreTakenThroughout s  what is told of each OUT endpoint, then, begins what its device took
 --     ScriptsStayWhole                 the law of such scripts
 --     StreamsAreRight                  .. and whose devices have endpoints of their own
---     TextsAreRight                    .. which each script is that a text spells and whose endpoints are high-speed bulk ones
+--     TextsAreRight                    .. which each script is that a text spells and whose endpoints are high-speed bulk and control ones
 --     TextsAreTaken                .. and for the OUT endpoints
 use Rattle.std.specs.Prelude.{ℕ, List}
 use Rattle.script_types.specs.declared.scripts.Script.{Script}
 use Rattle.script_text.specs.Faults.{Spells}
 use Rattle.script_fits.specs.Fits.{IsFit}
 use Rattle.byte_answers.specs.Bytes.{IsByteScript}
-use Rattle.usb_bus.specs.Bus.{fixed_of}
+use Rattle.usb_bus.specs.Bus.{fixed_of, opening_bus}
 use Rattle.opening_senders.specs.Own.{HasOwnDevices}
 use Rattle.declared_endpoints.specs.Declared.{OpensSenders}
 use Rattle.declared_takers.specs.Declared.{OpensTakers}
+use Rattle.declared_controls.specs.Names.{NamesEndpoints}
+use Rattle.declared_controls.specs.Zero.{AreZeroesAlone}
 use Rattle.script_numbers.specs.Numbers.{NumbersOpens}
 use Rattle.bus_world.specs.Budgets.{moment}
 use Rattle.right_reports.specs.WorldReport.{report_of}
 use Rattle.right_reports.specs.Ins.{AreRightInStreams}
 use Rattle.taken_reports.specs.Taken.{AreTakenStreams}
-use Rattle.chained_transfers.specs.Bulk.{BulkOnly}
+use Rattle.chained_transfers.specs.Asynchronous.{AsynchronousOnly}
 use Rattle.stream_worlds.specs.Takers.{takes_of}
 use Rattle.feeding_worlds.specs.Feeding.{streams_of}
 use Rattle.whole_worlds.specs.Whole.{HasWhole}
 
-pub record IsBulkScript (s : Script) : Type 0 where
+pub record IsAsynchronousScript (s : Script) : Type 0 where
   pub fits : IsFit s
   pub bytes : IsByteScript s
   pub senders : OpensSenders s
   pub takers : OpensTakers s
   pub numbers : NumbersOpens s
-  pub only : BulkOnly s
+  pub names : NamesEndpoints s
+  pub zeroes : AreZeroesAlone (opening_bus s)
+  pub only : AsynchronousOnly s
 
 abbrev pub IsWholeThroughout : Script → Type 0
 IsWholeThroughout s = (k : ℕ) → HasWhole (fixed_of s) (takes_of s) (streams_of s).stream (streams_of s).packets (moment s k).world
@@ -45,13 +50,13 @@ abbrev pub OutStreamsAreTakenThroughout : Script → Type 0
 OutStreamsAreTakenThroughout s = (k : ℕ) → AreTakenStreams s (report_of (fixed_of s) (moment s k).world)
 
 abbrev pub ScriptsStayWhole : Type 0
-ScriptsStayWhole = (s : Script) → IsBulkScript s → IsWholeThroughout s
+ScriptsStayWhole = (s : Script) → IsAsynchronousScript s → IsWholeThroughout s
 
 abbrev pub StreamsAreRight : Type 0
-StreamsAreRight = (s : Script) → IsBulkScript s → HasOwnDevices s → InStreamsAreRightThroughout s
+StreamsAreRight = (s : Script) → IsAsynchronousScript s → HasOwnDevices s → InStreamsAreRightThroughout s
 
 abbrev pub TextsAreRight : Type 0
-TextsAreRight = (text : List ℕ) (s : Script) → Spells text s → BulkOnly s → InStreamsAreRightThroughout s
+TextsAreRight = (text : List ℕ) (s : Script) → Spells text s → AsynchronousOnly s → InStreamsAreRightThroughout s
 
 abbrev pub TextsAreTaken : Type 0
-TextsAreTaken = (text : List ℕ) (s : Script) → Spells text s → BulkOnly s → OutStreamsAreTakenThroughout s
+TextsAreTaken = (text : List ℕ) (s : Script) → Spells text s → AsynchronousOnly s → OutStreamsAreTakenThroughout s

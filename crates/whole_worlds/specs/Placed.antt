@@ -1,5 +1,5 @@
--- A world of bulk endpoints whose controller runs (EHCI 1.0, 2.3.1, 2.3.2, 3, 4.6, 4.8 and 4.15.2.4): nothing of the driver is out of place, and the controller
--- meets no fault.
+-- A world of bulk and control endpoints whose controller runs (EHCI 1.0, 2.3.1, 2.3.2, 3, 4.6, 4.8 and 4.15.2.4): nothing of the driver is out of place, and the
+-- controller meets no fault.
 --     linked_to command xs       the endpoints of which the queue heads are in the ring that memory shows: the newest isn't until its open's last store
 --     AreOnce bs                 no block is twice among these
 --     ReadsRing m d              as the words of memory tell it, the ring is the head and the queue head of each endpoint that is linked, each once, but for one whose open is unfinished; one that

@@ -1,7 +1,9 @@
--- A world whose endpoints are all bulk ones, with all that it carries from one event to the next (EHCI 1.0, 3.5, 4.6, 4.8 and 4.10; USB 2.0, 5.8 and 8.6).
+-- A world whose endpoints are all high-speed bulk and control ones, with all that it carries from one event to the next (EHCI 1.0, 3.5, 4.6, 4.8 and 4.10; USB 2.0,
+-- 5.5, 5.8 and 8.6).
 --     HaveSenders d stream      the endpoint that is being opened has a stream, if it is an IN endpoint
 --     IsNamed d way addr ep     an endpoint of this name and side was opened
 --     StaysOpen d way before now      each of these devices' endpoints is one still, or an endpoint was opened for it
+--     AreOf base now            each of these devices' endpoints is one of those
 --     IsWhole fixed takes member x s w        the world is so
 --     HasWhole fixed takes stream packets w   .. for some queue heads with streams, and some structures, over streams of which only those of opened endpoints may be closed
 use Rattle.std.specs.Prelude.{◌≡◌, ℕ, ◌⊎◌, Bool, true, false, List, slice_get, Some}
@@ -16,7 +18,7 @@ use Rattle.byte_answers.specs.Bytes.{IsByteBus}
 use Rattle.usb_bus.specs.Bus.{Fixed}
 use Rattle.bus_world.specs.World.{World}
 use Rattle.stream_worlds.specs.Streaming.{Streams, Standing}
-use Rattle.feeding_worlds.specs.Feeding.{IsFeeding}
+use Rattle.feeding_worlds.specs.Feeding.{AreControlsApart, IsFeeding}
 use Rattle.feeding_worlds.specs.Taking.{IsTaking, HaveSides, HaveTakers}
 use Rattle.narrowed_streams.specs.Narrowed.{IsOnSide}
 use Rattle.feeding_worlds.specs.Left.{IsLeft}
@@ -34,6 +36,9 @@ pub record IsNamed (d : DriverContent) (way : Bool) (addr ep : ℕ) : Type 0 whe
 abbrev pub StaysOpen : DriverContent → Bool → (ℕ → ℕ → Bool) → (ℕ → ℕ → Bool) → Type 0
 StaysOpen d way before now = (addr ep : ℕ) → before addr ep ≡ true → (now addr ep ≡ true) ⊎ IsNamed d way addr ep
 
+abbrev pub AreOf : (ℕ → ℕ → Bool) → (ℕ → ℕ → Bool) → Type 0
+AreOf base now = (addr ep : ℕ) → base addr ep ≡ false → now addr ep ≡ false
+
 -- ---- the whole
 
 abbrev pub HaveSenders : DriverContent → (ℕ → ℕ → Bool) → Type 0
@@ -46,6 +51,8 @@ pub record IsWhole (fixed : Fixed) (takes : ℕ → ℕ → Bool) (member : ℕ 
   pub names : AreNamesApart w.driver
   pub senders : HaveSenders w.driver x.stream
   pub takers : HaveTakers w.driver takes
+  -- the name of a control endpoint is that of no taker
+  pub controls_apart : AreControlsApart w.driver takes
   pub runs : AreInRuns (views_of w.driver) s.parts
   pub tails : TailsStand w.driver s.parts s.order s.out
   pub told : ToldStands w.driver s.hand s.parts s.reported
@@ -62,3 +69,5 @@ pub record HasWhole (fixed : Fixed) (takes : ℕ → ℕ → Bool) (stream : ℕ
   pub whole : IsWhole fixed outs member (record { stream = ins; packets = packets; streams = streams; endpoint = endpoint }) standing w
   pub ins_stay : StaysOpen w.driver true stream ins
   pub outs_stay : StaysOpen w.driver false takes outs
+  pub ins_were : AreOf stream ins
+  pub outs_were : AreOf takes outs

@@ -1,5 +1,5 @@
-//! The leave of a cancelled endpoint in a world of bulk endpoints (EHCI 1.0, 4.8.2; USB 2.0, 5.8 and 8.6): each step of it leaves the world whole, and the streams of
-//! the other endpoints open.
+//! The leave of a cancelled endpoint in a world of bulk and control endpoints (EHCI 1.0, 4.8.2; USB 2.0, 5.8 and 8.6): each step of it leaves the world whole,
+//! and the streams of the other endpoints open.
 ghost use Rattle.whole_worlds.specs.Laws.{ClearKeepsWhole, EndpointReleaseKeepsWhole, UnlinkKeepsWhole};
 
 /// The store that takes its queue head out of the ring: the walk may still be at it.

@@ -1,4 +1,4 @@
-//! A whole world of bulk endpoints where its driver lends a get or a put (EHCI 1.0, 3.5 and 4.10; USB 2.0, 8.6).
+//! A whole world of bulk and control endpoints where its driver lends a get, a put or a request (EHCI 1.0, 3.5 and 4.10; USB 2.0, 8.6).
 ghost use Rattle.whole_worlds.specs.Laws.{LendKeepsWhole};
 
 /// Where the driver lends a transfer, all that such a world carries goes on: the front of each queue is still no further than its tail, of its endpoint's

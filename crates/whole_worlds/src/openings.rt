@@ -1,4 +1,4 @@
-//! Worlds of bulk endpoints (EHCI 1.0, 4.1, 4.8 and 4.10; USB 2.0, 5.8 and 8.6): whole from the opening on, and where the driver stores no word,
+//! Worlds of bulk and control endpoints (EHCI 1.0, 4.1, 4.8 and 4.10; USB 2.0, 5.8 and 8.6): whole from the opening on, and where the driver stores no word,
 //! reads no token and closes no stream.
 ghost use Rattle.whole_worlds.specs.Laws.{NewWorldIsWhole, StillKeepsWhole};
 

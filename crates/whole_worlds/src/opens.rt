@@ -1,5 +1,5 @@
-//! An open in a world of bulk endpoints (EHCI 1.0, 4.8.1): its queue head and its inactive qTD are lent, and the head's link is stored. Both leave the world with
-//! all that it carries.
+//! An open in a world of bulk and control endpoints (EHCI 1.0, 4.8.1): its queue head and its inactive qTD are lent, and the head's link is stored. Both leave
+//! the world with all that it carries.
 ghost use Rattle.whole_worlds.specs.Laws.{OpenLendKeepsWhole, OpenLinkKeepsWhole};
 
 /// The lend: the walk doesn't meet the new queue head yet, and all else stays.

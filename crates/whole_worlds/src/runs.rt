@@ -1,4 +1,5 @@
-//! Runs of scripts of bulk endpoints (EHCI 1.0, 4.8 to 4.10; USB 2.0, 5.8 and 8.6): at each moment the world is whole, and the IN streams of its report are right.
+//! Runs of scripts of bulk and control endpoints (EHCI 1.0, 4.8 to 4.10; USB 2.0, 5.8 and 8.6): at each moment the world is whole, and the IN streams of its
+//! report are right.
 ghost use Rattle.whole_worlds.specs.Moments.{ScriptsStayWhole, StreamsAreRight, TextsAreRight, TextsAreTaken};
 
 /// At each moment of the run of such a script the world is whole.

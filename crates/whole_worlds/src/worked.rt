@@ -13,7 +13,7 @@ ghost use Rattle.driver_laws.specs.Released.{goes_of};
 ghost use Rattle.run_owners.specs.Leaving.{owes};
 ghost use Rattle.run_owners.specs.Worked.{busy_driver, get_out, bulk};
 ghost use Rattle.opening_senders.specs.Own.{HasOwnDevices};
-ghost use Rattle.whole_worlds.specs.Moments.{IsBulkScript, IsWholeThroughout, InStreamsAreRightThroughout};
+ghost use Rattle.whole_worlds.specs.Moments.{IsAsynchronousScript, IsWholeThroughout, InStreamsAreRightThroughout};
 ghost use Rattle.feeding_worlds.specs.FeedingSamples.{one_get};
 ghost use Rattle.driver_rows.specs.Offers.{new_endpoint};
 ghost use Rattle.ring_members.specs.Links.{members, IsChain};
@@ -36,9 +36,9 @@ pub fn a_get_is_given_back()
     ensures tail { tail_block busy_driver.command (Some get_out) 0 133 ≡ 133 }
 {}
 
-/// The script fits, says bytes, and has a sender for the endpoint that it opens, which is a bulk one and whose numbers fit.
+/// The script fits, says bytes, and has a sender for the endpoint that it opens, which is a bulk one and whose name and numbers fit.
 pub fn a_script_with_one_get()
-    ensures bulk { IsBulkScript one_get }
+    ensures asynchronous { IsAsynchronousScript one_get }
     ensures own { HasOwnDevices one_get }
 {}
 

@@ -73,7 +73,7 @@ module _ (fixed : Fixed) (base : Base) (member windows : ℕ → Bool) (sent : �
 
   -- ---- the device of each queue head
 
-  acted_is : (n : ℕ) → windows n ≡ true → acted_by fixed w (controller_next fixed w) (endpoint n) ≡ acted_between ((lines n).line (lines n).under).device ((stepped sent g.step lines n).line (stepped sent g.step lines n).under).device
+  pub acted_is : (n : ℕ) → windows n ≡ true → acted_by fixed w (controller_next fixed w) (endpoint n) ≡ acted_between ((lines n).line (lines n).under).device ((stepped sent g.step lines n).line (stepped sent g.step lines n).under).device
   acted_is n on =
       let x : IsNamed w.driver (endpoint n) (sent n).endpoint = t.named n on in
       let before : control_of (wired fixed w) (sent n).endpoint.addr (sent n).endpoint.num ≡ Some (device_of (sent n).endpoint ((lines n).line (lines n).under).device) = (k.all.each n on).window.device in
@@ -251,7 +251,7 @@ module _ (fixed : Fixed) (base : Base) (member windows : ℕ → Bool) (sent : �
       (begun_is ∙ ap (λ (h : Hand). begun_between w.driver (held_of h) (held_of g.event.later)) x.in_hand ∙ ap (λ (h : Hand). begun_between w.driver (held_of (Copied x.copy)) (held_of h)) x.later_is) is n on
   effect_kept _ (makes m same) is n on = makes_kept m same (windows m.copy.at) refl is n on
 
-  event_kept : (z : ControlEffect begins_by transacts_by parts hand (wired fixed w) (wired fixed (controller_next fixed w)) g.event.now g.event.later) → IsControlStepOf windows lines g.step z → IsRecorded windows sent endpoint number (stepped sent g.step lines) (after_event fixed w v)
+  pub event_kept : (z : ControlEffect begins_by transacts_by parts hand (wired fixed w) (wired fixed (controller_next fixed w)) g.event.now g.event.later) → IsControlStepOf windows lines g.step z → IsRecorded windows sent endpoint number (stepped sent g.step lines) (after_event fixed w v)
   event_kept (a_microframe b) is n on =
       stays_at n on (no_step n is)
       (none_opens (endpoint n) (begun_is ∙ ap (λ (h : Hand). begun_between w.driver (held_of hand) (held_of h)) b.hand_stays ∙ same_begins w.driver (held_of hand)))

@@ -1,5 +1,5 @@
 use Rattle.harvest_laws.proofs.Standing.{refused_told}
-use Rattle.harvest_laws.proofs.Commanding.{opened_told, asked_told}
+use Rattle.harvest_laws.proofs.Commanding.{opened_told, asked_told, requested_told}
 use Rattle.harvest_laws.proofs.told_laws.commands_leave_what_is_told.Goals as goal
 
 pub returns-clause-refused : goal.returns-clause-refused
@@ -10,3 +10,6 @@ returns-clause-opened c = opened_told
 
 pub returns-clause-asked : goal.returns-clause-asked
 returns-clause-asked c = asked_told
+
+pub returns-clause-requested : goal.returns-clause-requested
+returns-clause-requested c = requested_told

@@ -9,7 +9,7 @@ use Rattle.shared_worlds.specs.Working.{at_opening}
 use Rattle.feeding_worlds.specs.FeedingSamples.{one_get}
 use Rattle.feeding_worlds.specs.Feeding.{streams_of}
 use Rattle.feeding_worlds.proofs.FeedingOpening.{new_world_feeds}
-use Rattle.whole_worlds.proofs.Sampling.{get_is_bulk}
+use Rattle.whole_worlds.proofs.Sampling.{get_is_asynchronous}
 use Rattle.feeding_worlds.proofs.Cancelling.{cancel_feeds}
 use Rattle.whole_rows.proofs.cancels.a_cancel_before_the_open.Goals as goal
 
@@ -19,5 +19,5 @@ room = omega arith
 pub returns : goal.returns
 returns c = record {
   offered = room;
-  feeding = λ line. cancel_feeds (fixed_of one_get) is_head (streams_of one_get) at_opening (opening_world one_get) line second.name room (new_world_feeds one_get get_is_bulk.fits);
+  feeding = λ line. cancel_feeds (fixed_of one_get) is_head (streams_of one_get) at_opening (opening_world one_get) line second.name room (new_world_feeds one_get get_is_asynchronous.fits);
 }

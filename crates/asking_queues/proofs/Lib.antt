@@ -1,0 +1,12 @@
+pub mod Courses
+pub mod Keeping
+pub mod Changing
+pub mod Writing
+pub mod Gone
+pub mod Ending
+pub mod Publishing
+pub mod Mending
+pub mod Beginning
+pub mod Events
+pub mod Coming
+pub mod Sampled

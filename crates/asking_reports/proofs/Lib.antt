@@ -1,0 +1,4 @@
+pub mod Telling
+pub mod Asking
+pub mod Right
+pub mod Accepted

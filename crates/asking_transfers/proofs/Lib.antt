@@ -1,0 +1,9 @@
+pub mod Lists
+pub mod Acting
+pub mod Counts
+pub mod Changing
+pub mod Events
+pub mod Rows
+pub mod Apart
+pub mod Lent
+pub mod Harvests

@@ -1,0 +1,19 @@
+-- The qTDs of a driver's control requests are apart (EHCI 1.0, 3.5): those of one request, and those of two of its transfers.
+--     LaidAreApart               the law: of a request whose qTDs lead on, one to the next
+--     LaidAreOthers              .. and of two transfers: each run of blocks has one owner
+use Rattle.std.specs.Prelude.{◌≢◌, ℕ}
+use Rattle.driver_rows.specs.DriverContent.{DriverContent}
+use Rattle.run_owners.specs.Kept.{HasOwners}
+use Rattle.lent_structures.specs.Structures.{Structures}
+use Rattle.report_streams.specs.Requests.{Request}
+use Rattle.request_windows.specs.Host.{Endpoint, Setup}
+use Rattle.ring_laws.specs.Front.{LinksRise}
+use Rattle.ring_requests.specs.Laid.{Places, AreApart, AreOthers}
+use Rattle.ring_requests.specs.Shown.{AreFresh}
+use Rattle.driver_requests.specs.Requests.{IsLaidOut}
+
+abbrev pub LaidAreApart : Type 0
+LaidAreApart = (d : DriverContent) (t : ℕ) (e : Endpoint) (r : Request) (x : Places) (order : ℕ → ℕ) (part : Structures) → IsLaidOut d t r x → LinksRise order part → AreFresh e r x part Setup → AreApart x
+
+abbrev pub LaidAreOthers : Type 0
+LaidAreOthers = (d : DriverContent) (t u : ℕ) (r q : Request) (x y : Places) → HasOwners d → IsLaidOut d t r x → IsLaidOut d u q y → t ≢ u → AreOthers x y

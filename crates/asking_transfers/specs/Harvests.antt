@@ -1,0 +1,22 @@
+-- What a harvest finds of a control request (EHCI 1.0, 3.5.3 and 4.10; USB 2.0, 8.5.3).
+--     DoneIsEnded                the law: where it finds the request done, memory shows that its status has ended
+use Rattle.std.specs.Prelude.{◌≡◌, ℕ, ◌*◌, Some}
+use Rattle.usb_base.specs.declared.reports.What.TheVariants.{Done}
+use Rattle.qh_qtd.specs.declared.qtd.Qtd.{Qtd}
+use Rattle.driver_rows.specs.declared.content.Sort.TheVariants as sorts
+use Rattle.driver_rows.specs.declared.rows.Found.TheVariants as founds
+use Rattle.driver_rows.specs.Rows.{Parts}
+use Rattle.run_owners.specs.Due.{IsHarvestDue}
+use Rattle.run_owners.specs.Owners.{note_in}
+use Rattle.chained_transfers.specs.Turns.{IsAtPlace}
+use Rattle.lent_structures.specs.Structures.{Element, StructureSets, Tells}
+use Rattle.report_streams.specs.Requests.{Request}
+use Rattle.request_windows.specs.Host.{Endpoint}
+use Rattle.ring_requests.specs.Laid.{Places}
+use Rattle.ring_requests.specs.Windows.{HasEnded}
+use Rattle.driver_requests.specs.Requests.{IsLaidOut}
+
+abbrev pub DoneIsEnded : Type 0
+DoneIsEnded = (p : Parts) (e t n : ℕ) (parts : StructureSets) (v : Endpoint) (r : Request) (x : Places) (u : Qtd) → (due : IsHarvestDue p e t (founds.Ended n Done)) → IsLaidOut p.driver t r x
+    → due.transfer.sort ≡ sorts.Request → IsAtPlace (note_in p.driver.notes) due.transfer → Tells p.memory parts → parts (32 * due.endpoint.queue) x.status ≡ Some (Element u)
+    → HasEnded (record { endpoint = v; request = r; places = x }) parts (32 * due.endpoint.queue)

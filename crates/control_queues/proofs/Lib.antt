@@ -1,0 +1,11 @@
+pub mod Lists
+pub mod Alike
+pub mod Beside
+pub mod Heads
+pub mod Opens
+pub mod OpenLends
+pub mod Stores
+pub mod Lends
+pub mod Returns
+pub mod Harvests
+pub mod Sampled

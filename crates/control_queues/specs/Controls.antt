@@ -1,0 +1,19 @@
+-- What is known of a driver's queues so that those of control endpoints go on after a STALL (EHCI 1.0, 3.6.3, 4.10.2, 4.10.3; USB 2.0, 8.5.3.4).
+--     ControlsStand d parts order out     links of each queue lead to later qTDs; its qTDs that are out stand in their order; where one of these was halted the
+--                              walk goes no further; and the queue heads that were halted are owed the stores by which they go on
+use Rattle.std.specs.Prelude.{◌≡◌, ℕ, ◌*◌, List, slice_get, Some}
+use Rattle.driver_rows.specs.declared.content.Endpoint.{Endpoint}
+use Rattle.driver_rows.specs.DriverContent.{DriverContent}
+use Rattle.lent_structures.specs.Structures.{StructureSets}
+use Rattle.ring_laws.specs.Front.{LinksRise}
+use Rattle.ring_laws.specs.Halted.{HaltStops}
+use Rattle.ring_laws.specs.Order.{IsSorted}
+use Rattle.fed_queues.specs.Places.{IsThere, IsMet}
+use Rattle.mended_heads.specs.Waiting.{MendsStand}
+
+pub record ControlsStand (d : DriverContent) (parts : StructureSets) (order : ℕ → ℕ → ℕ) (out : ℕ → List ℕ) : Type 0 where
+  pub rises : (e : ℕ) (x : Endpoint) → slice_get d.endpoints e ≡ Some x → IsThere d x → LinksRise (order (32 * x.queue)) (parts (32 * x.queue))
+  pub sorted : (e : ℕ) (x : Endpoint) → slice_get d.endpoints e ≡ Some x → IsThere d x → IsSorted (order (32 * x.queue)) (out (32 * x.queue))
+  -- .. where the walk may meet the queue head
+  pub stops : (e : ℕ) (x : Endpoint) → slice_get d.endpoints e ≡ Some x → IsMet d e x → HaltStops (order (32 * x.queue)) (out (32 * x.queue)) (32 * x.queue) (parts (32 * x.queue))
+  pub mends : MendsStand d parts out

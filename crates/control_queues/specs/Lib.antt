@@ -1,0 +1,4 @@
+pub mod Controls
+pub mod Beside
+pub mod Rows
+pub mod Samples

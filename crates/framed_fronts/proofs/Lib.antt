@@ -1,0 +1,5 @@
+pub mod Queues
+pub mod Fronts
+pub mod Halts
+pub mod Running
+pub mod Sampled

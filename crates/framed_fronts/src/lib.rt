@@ -1,0 +1,10 @@
+//! Fronts of the queues of interrupt endpoints, whose queue heads stand in the frames (EHCI 1.0, 4.6 and 4.10): how far each has gone along its qTDs.
+//!
+//! The crate has no code of its own: each function is a law over the definitions of `specs/`, and its body is empty.
+#![tactic(auto)]
+
+mod laws;
+mod worked;
+
+pub use laws::{each_event_of_the_frames, however_many_events};
+pub use worked::a_queue_in_a_frame;
