@@ -10,3 +10,5 @@ pub mod Beginning
 pub mod Events
 pub mod Coming
 pub mod Sampled
+pub mod SampledHalts
+pub mod SampledComing

@@ -4,7 +4,7 @@
 --     KeepsQueue v b ..          the queue head at n keeps its overlay and its endpoint, whatever its link, and so do these requests their qTDs; the qTD at b isn't active
 --     CoursesAreSpared           the law: where so it is of each queue, all stand as they did
 --     StoreSparesCourses, LendSparesCourses, ReleaseSparesCourses, LinkSparesCourses
---                                the laws of a store over a qTD that is no request's, of a lend, of structures that are given back, and of a link that is stored in a
+--                                the laws of a store over a qTD that is no request's, that isn't active where it ends the queue, of a lend, of structures that are given back, and of a link that is stored in a
 --                                queue head
 use Rattle.std.specs.Prelude.{◌≡◌, ◌≢◌, ◌⊎◌, ℕ, ◌<◌, Bool, true, false, List, Option, Some}
 use Rattle.link_words.specs.declared.fields.LinkBits.{LinkBits}

@@ -15,8 +15,8 @@ pub fn an_event_keeps_the_queues<W: Wire>()
     ensures device { (device : W → ℕ → ℕ → Option Device) → EventLeavesDevice W.begins W.transacts device }
 {}
 
-/// What is written beside the requests leaves all queues as they stand: a store over a qTD, a lend, structures that are given back, and a link that is stored in
-/// a queue head.
+/// What is written beside the requests leaves all queues as they stand: a store over a qTD that is no request's, that isn't active where it ends the queue, a
+/// lend, structures that are given back, and a link that is stored in a queue head.
 pub fn queues_are_spared<W: Wire>()
     ensures all { (device : W → ℕ → ℕ → Option Device) → CoursesAreSpared device }
     ensures store { (device : W → ℕ → ℕ → Option Device) → StoreSparesCourses device }
@@ -38,16 +38,16 @@ pub fn a_request_ends<W: Wire>()
     ensures halts { (device : W → ℕ → ℕ → Option Device) → RequestHalts device }
 {}
 
-/// The store by which a request is published puts it behind those that are asked, opens its window where the queue is at rest, or has it wait until the halted queue
-/// head is mended.
+/// The store by which a request is published puts it behind those that are asked, opens its window where the queue is at rest, or has it wait until the halted
+/// queue head is mended.
 pub fn a_request_is_published<W: Wire>()
     ensures asked { (device : W → ℕ → ℕ → Option Device) → AskedStore device }
     ensures first { (device : W → ℕ → ℕ → Option Device) → RestStore device }
     ensures waits { (device : W → ℕ → ℕ → Option Device) → HaltedStore device }
 {}
 
-/// Once the qTDs of a request are lent, and while its SETUP is being stored over the qTD at the end of its queue, its data and its status stay fresh, whatever the
-/// controller does; by the last store it is published there.
+/// Once the qTDs of a request are lent, and while its SETUP is being stored over the qTD at the end of its queue, its data and its status stay fresh, whatever
+/// the controller does; by the last store it is published there.
 pub fn a_request_is_coming<W: Wire>()
     ensures lent { LentIsComing }
     ensures store { StoreKeepsComing }

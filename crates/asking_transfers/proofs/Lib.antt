@@ -7,3 +7,4 @@ pub mod Rows
 pub mod Apart
 pub mod Lent
 pub mod Harvests
+pub mod Sampled

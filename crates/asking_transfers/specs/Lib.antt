@@ -5,3 +5,4 @@ pub mod Apart
 pub mod Counts
 pub mod Lent
 pub mod Harvests
+pub mod Samples

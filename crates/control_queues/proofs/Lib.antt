@@ -9,3 +9,4 @@ pub mod Lends
 pub mod Returns
 pub mod Harvests
 pub mod Sampled
+pub mod SampledWaiting

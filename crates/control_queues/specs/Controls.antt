@@ -1,6 +1,6 @@
--- What is known of a driver's queues so that those of control endpoints go on after a STALL (EHCI 1.0, 3.6.3, 4.10.2, 4.10.3; USB 2.0, 8.5.3.4).
+-- What is known of a driver's queues, also of those of control endpoints that answered STALL (EHCI 1.0, 3.6.3, 4.10.2, 4.10.3; USB 2.0, 8.5.3.4).
 --     ControlsStand d parts order out     links of each queue lead to later qTDs; its qTDs that are out stand in their order; where one of these was halted the
---                              walk goes no further; and the queue heads that were halted are owed the stores by which they go on
+--                              walk goes no further; and what the driver has still to store is what halted queue heads are owed
 use Rattle.std.specs.Prelude.{◌≡◌, ℕ, ◌*◌, List, slice_get, Some}
 use Rattle.driver_rows.specs.declared.content.Endpoint.{Endpoint}
 use Rattle.driver_rows.specs.DriverContent.{DriverContent}

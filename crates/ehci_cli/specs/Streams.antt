@@ -29,6 +29,6 @@ pub record KeepsStreams (s : Script) : Type 0 where
   pub taken : (w : Standing) → IsRunOf s w → AreTakenStreams s (report_of w.fixed w.world)
   pub sent : (w : Standing) → IsRunOf s w → AreSentStreams s (report_of w.fixed w.world)
   pub all : (w : Standing) → IsWholeRunOf s w → AreRightStreams s (report_of w.fixed w.world)
-  -- where it opens IN endpoints alone these are all streams in any case
+  -- where it opens bulk IN endpoints alone these are all streams in any case
   pub received : ReceivesOnly s → (w : Standing) → IsRunOf s w → AreRightStreams s (report_of w.fixed w.world)
   pub printed : (w : Standing) → whole_text (report_of w.fixed w.world) ≡ world_text w.fixed w.world

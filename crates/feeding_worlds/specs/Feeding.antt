@@ -1,5 +1,6 @@
 -- A world at work whose endpoints are bulk and control ones (EHCI 1.0, 4.6, 4.8 and 4.10; USB 2.0, 5.5, 5.8 and 8.6): each queue is fed as the driver's content
--- tells, and the devices' endpoints that aren't opened have all their packets. A control endpoint has no stream of data: its queue goes on after a STALL.
+-- tells, and the devices' endpoints that aren't opened have all their packets. A control endpoint has no stream of data: where it is owed stores, its queue
+-- head is halted until the last of them.
 --     streams_of s              the streams of the script, of which no queue head has one yet
 --     heads_of member ends      the queue heads of bulk endpoints, IN or OUT: all that the walk may meet but the head of the ring and those of control endpoints,
 --                               which take the toggle from each qTD (data toggle control, 3.6.2)
@@ -73,7 +74,7 @@ pub record IsFeeding (fixed : Fixed) (member : ℕ → Bool) (x : Streams) (s : 
   pub queues : QueuesStand w.driver member x.streams x.endpoint s.parts s.order s.out
   -- of each bulk endpoint what was harvested of its queue, and what was moved of its qTDs that are out, are all the bytes that were moved of it, in their order
   pub counted : AreReported (there_of w.driver) s.order s.out s.hand s.parts s.acc s.reported
-  -- .. each queue stands in its order, and that of a control endpoint goes on after a STALL
+  -- .. each queue stands in its order; where a control endpoint is owed stores, its queue head is halted until the last of them
   pub controls : ControlsStand w.driver s.parts s.order s.out
   pub controls_apart : AreControlsApart w.driver x.stream
   pub unopened : AreUnopened x.stream x.packets sender_of x.streams x.endpoint (wired fixed w)

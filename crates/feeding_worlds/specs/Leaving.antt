@@ -3,7 +3,7 @@
 --     UnlinkFinds              while the cancel is unfinished, that store is the driver's next event
 --     unlinked s k             what stands after it: the queue head before leads past that of the endpoint, in memory and in hand
 --     UnlinkFeeds              the law
---     UnlinkTells              the law: fronts, tails and what is told of each queue stand
+--     UnlinkTells              the law: fronts, tails and what is told of each queue that has a stream stand
 use Rattle.std.specs.Prelude.{◌≡◌, ℕ, Bool, Some}
 use Rattle.usb_bus.specs.Bus.{Fixed}
 use Rattle.driver_rows.specs.declared.content.Command.TheVariants as unfinished

@@ -1,6 +1,6 @@
 -- What is known of the endpoints that have left the ring of a world of bulk and control endpoints, and of those that were given back (EHCI 1.0, 4.8.2; USB 2.0, 5.8 and 8.6).
 --     AreShut d takes          an OUT endpoint that the walk can't meet any more is none of these, so nothing is claimed of its pipe
---     IsLeft fixed takes packets acc w     each endpoint has a name of its type; the walk is among the queue heads that it may meet, what is owed is of these, what was moved and told of the others
+--     IsLeft fixed takes packets acc w     each endpoint has a name of its type; the walk is among the queue heads that it may meet, what is owed is of these, what was moved and told of bulk ones of the others
 --                              begins their packets, or what their devices took, and no OUT endpoint of them is in `takes`
 --     AreNamed d               number 0 is that of control endpoints alone (USB 2.0, 5.3.1.2)
 --     taking_of takes d        the devices' endpoints with takers, but those of OUT endpoints of d that the walk can't meet any more

@@ -4,8 +4,8 @@
 --     ControllerKeepsLeft     an event of the controller moves nothing of them
 --     CommandKeepsLeft        a command, accepted or refused
 --     RowKeepsLeft            each row of the driver but the two by which endpoints leave and are given back
---     ClearKeepsLeft          where Async Advance is cleared, what was moved of those that have left then begins their packets, or what their devices took
---     ReleaseKeepsLeft        where an endpoint is given back, so does what its lines tell
+--     ClearKeepsLeft          where Async Advance is cleared, what was moved of the bulk endpoints that have left then begins their packets, or what their devices took
+--     ReleaseKeepsLeft        where a bulk endpoint is given back, so does what its lines tell
 use Rattle.std.specs.Prelude.{◌≡◌, ◌≢◌, ℕ, Bool}
 use Rattle.usb_base.specs.declared.commands.Cmd.{Cmd}
 use Rattle.usb_base.specs.declared.commands.Cmd.TheVariants as commands

@@ -3,7 +3,7 @@
 --     MendFinds                where the driver's next event is such a store, a stalled queue is owed it
 --     mended s k               what stands after it: the queue head after the store, in memory, and a copy in hand that may be older
 --     MendFeeds                the law: each queue is fed as before
---     MendTells                the law: fronts, tails and what is told of each queue stand
+--     MendTells                the law: fronts, tails and what is told of each queue that has a stream stand
 --     MendKeepsTaking          the law: both sides of the pipes of OUT endpoints agree
 use Rattle.std.specs.Prelude.{◌≡◌, ℕ, Bool}
 use Rattle.usb_bus.specs.Bus.{Fixed}

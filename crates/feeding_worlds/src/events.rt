@@ -6,7 +6,7 @@ pub fn the_controller_leaves_what_has_left()
     ensures { ControllerKeepsLeft }
 {}
 
-/// What the lines of an endpoint that is given back tell begins its packets, or what its device took; of each other endpoint the same is told as before.
+/// What the lines of a bulk endpoint that is given back tell begins its packets, or what its device took; of each other endpoint the same is told as before.
 pub fn a_given_back_endpoint_is_known()
     ensures { ReleaseKeepsLeft }
 {}

@@ -1,6 +1,7 @@
 //! Worlds at work whose endpoints are bulk ones, IN or OUT, and control ones (EHCI 1.0, 3.5, 4.6, 4.8 and 4.10; USB 2.0, 5.5, 5.8 and 8.6), while endpoints
-//! are opened, asked, cancelled and given back: each queue is fed as the driver's content tells, and what was moved and told of those that have left begins
-//! their packets, or what their devices took. A control endpoint has no stream of data; its queue goes on after a STALL.
+//! are opened, asked, cancelled and given back: each queue is fed as the driver's content tells, and what was moved and told of bulk ones that have left begins
+//! their packets, or what their devices took. A control endpoint has no stream of data; where it is owed stores, its queue head is halted until the last of
+//! them.
 //!
 //! - `feeding_laws`, `feeding_worked`: Worlds at work whose endpoints are bulk and control ones (EHCI 1.0, 3.5, 4.6, 4.8 and 4.10; USB 2.0, 5.5, 5.8 and 8.6):
 //!   each queue is fed as the driver's content tells, and the bytes of a bulk endpoint's qTDs add up; so they are at the opening, and each event of the driver
@@ -9,11 +10,11 @@
 //!   up still.
 //! - `unlink_laws`, `unlink_worked`: Such a world from which an endpoint leaves (EHCI 1.0, 4.8.2 and 4.10; USB 2.0, 5.8 and 8.6): one store takes its queue
 //!   head out of the ring, and in the end its blocks are given back; each other queue is fed as before.
-//! - `mend_laws`: Such a world in which a control endpoint answered STALL (EHCI 1.0, 3.6.3 and 4.10.3; USB 2.0, 8.5.3.4): its queue goes on, and nothing else
-//!   changes.
+//! - `mend_laws`: Such a world in which a control endpoint answered STALL (EHCI 1.0, 3.6.3 and 4.10.3; USB 2.0, 8.5.3.4): each of the stores that it is owed
+//!   is of its queue head, and leaves the queues fed and what is told of each stream.
 //! - `events`, `kept`, `taking`: Such worlds of which some endpoints have left the ring, or were given back (EHCI 1.0, 4.8.2 and 4.10; USB 2.0, 5.8 and 8.6):
-//!   what was moved and told of these begins their packets, or what their devices took, along everything that happens; and both sides of the pipes of OUT
-//!   endpoints agree while endpoints leave.
+//!   what was moved and told of bulk ones of these begins their packets, or what their devices took, along everything that happens; and both sides of the pipes
+//!   of OUT endpoints agree while endpoints leave.
 //!
 //! The crate has no code of its own: each function is a law, and its body is empty.
 #![tactic(auto)]

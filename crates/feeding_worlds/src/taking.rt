@@ -9,7 +9,7 @@ pub fn pipes_agree_while_an_endpoint_leaves()
     ensures release { ReleaseKeepsTaking }
 {}
 
-/// Where Async Advance is cleared, what was moved of the endpoints that have left then begins their packets, or what their devices took.
+/// Where Async Advance is cleared, what was moved of the bulk endpoints that have left then begins their packets, or what their devices took.
 pub fn a_clear_tells_what_has_left()
     ensures { ClearKeepsLeft }
 {}

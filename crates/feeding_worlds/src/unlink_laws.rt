@@ -8,7 +8,7 @@ pub fn a_cancel_finds_its_place()
 {}
 
 /// After that store the world is such a world, with the same queue heads met, the same streams, and the same packets, published qTDs and bytes reported;
-/// fronts, tails and what is told of each queue stand.
+/// fronts, tails and what is told of each queue that has a stream stand.
 pub fn an_unlink_leaves_it_feeding()
     ensures feeding { UnlinkFeeds }
     ensures tells { UnlinkTells }

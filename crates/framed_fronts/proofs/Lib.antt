@@ -3,3 +3,4 @@ pub mod Fronts
 pub mod Halts
 pub mod Running
 pub mod Sampled
+pub mod SampledHalts

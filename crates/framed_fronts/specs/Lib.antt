@@ -1,1 +1,2 @@
 pub mod FrameFronts
+pub mod Samples

@@ -7,4 +7,4 @@ mod laws;
 mod worked;
 
 pub use laws::{each_event_of_the_frames, however_many_events};
-pub use worked::a_queue_in_a_frame;
+pub use worked::{a_halted_queue_in_a_frame, a_queue_in_a_frame, the_walk_meets_a_queue};

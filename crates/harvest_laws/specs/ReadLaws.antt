@@ -33,7 +33,7 @@ HarvestRowIsTold = (member : ℕ → Bool) (order : ℕ → ℕ) (p : Parts) (pa
     → ToldStands p.driver hand parts reported → IsReported order (out_now p.driver e) hand parts (32 * due.endpoint.queue) acc (reported (32 * due.endpoint.queue))
     → HarvestReports order p.driver (after_driver_row (rows.Harvest e t found) p).driver hand parts e due.endpoint acc reported
 
--- the lines of its requests change nothing of what is told of each queue, and the qTDs of the other endpoints are out as before
+-- the lines of its requests change nothing of what is told of each queue that has a stream, and the qTDs of the other endpoints are out as before
 pub record LeavesStreams (d new : DriverContent) (hand : Hand) (parts : StructureSets) (e : ℕ) (reported : ℕ → List ℕ) : Type 0 where
   pub stands : ToldStands new hand parts reported
   pub beside : (k : ℕ) → k ≢ e → out_now new k ≡ out_now d k

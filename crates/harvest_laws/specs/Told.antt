@@ -1,6 +1,7 @@
--- What a driver's report tells of each queue (EHCI 1.0, 4.10; USB 2.0, 8.6): the bytes of its lines, and behind them those that are held back, are what was
+-- What a driver's report tells of each queue that has a stream (EHCI 1.0, 4.10; USB 2.0, 8.6): the bytes of its lines, and behind them those that are held back, are what was
 -- harvested of it.
---     ToldStands d hand parts reported      so it is of the queue head of each endpoint that is there; of one that is being opened nothing is told
+--     ToldStands d hand parts reported      so it is of the queue head of each endpoint that is there and has a stream, and of one of these that is being opened nothing is told;
+--                                           of a control endpoint nothing is said
 use Rattle.std.specs.Prelude.{◌≡◌, ℕ, ◌*◌, List, [], slice_get, Some, false}
 use Rattle.lent_structures.specs.Structures.{StructureSets}
 use Rattle.ring_laws.specs.Hand.{Hand}

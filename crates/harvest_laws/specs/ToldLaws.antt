@@ -1,4 +1,4 @@
--- Laws of what a driver's report tells of each queue.
+-- Laws of what a driver's report tells of each queue that has a stream.
 use Rattle.std.specs.Prelude.{◌≡◌, ◌≢◌, ℕ, ◌-◌, ◌*◌, Bool, true, List, [], ◌∷◌, ◌++◌, length, slice_get, slice_set, Some, None, false}
 use Rattle.usb_base.specs.declared.reports.Report.{Report}
 use Rattle.word_mem.specs.Memory.{Mem}

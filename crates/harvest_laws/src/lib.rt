@@ -1,11 +1,12 @@
-//! Harvests of a driver of bulk and control endpoints (EHCI 1.0, 4.8 and 4.10; USB 2.0, 8.6): what its report tells of each queue, and what is held back.
+//! Harvests of a driver of bulk and control endpoints (EHCI 1.0, 4.8 and 4.10; USB 2.0, 8.6): what its report tells of each queue that has a
+//! stream, and what is held back.
 //!
 //! - `row_laws`, `row_worked`: A harvest of a get or a put (EHCI 1.0, 4.10): the bytes moved of the qTD that is read are told behind those that were told
 //!   before of its endpoint, at once where it ends its transfer, and else held back; the other qTDs are out still.
 //! - `held_laws`, `held_worked`: What a driver holds back where a command is accepted, and where a transfer is given back (EHCI 1.0, 4.8 and 4.10): nothing of
 //!   a new transfer is harvested, and what was held back of the others stays.
-//! - `told_laws`: What a driver's report tells of each queue (EHCI 1.0, 4.10; USB 2.0, 8.6), along everything that happens: it grows by what is harvested, and
-//!   stays else.
+//! - `told_laws`: What a driver's report tells of each queue that has a stream (EHCI 1.0, 4.10; USB 2.0, 8.6), along everything that happens: it grows by what
+//!   is harvested, and stays else. Of a control endpoint nothing is said.
 //! - `read_laws`: The row of a harvest where a driver has bulk and control endpoints, its transfers take turns and its queues are fed (EHCI 1.0, 4.10): what
 //!   was moved of the qTD of a bulk endpoint is told, and what is reported of its stream stays right; that of a control endpoint tells nothing of any stream.
 //!

@@ -16,7 +16,7 @@ pub fn a_new_driver_has_told_nothing()
     ensures { NewIsTold }
 {}
 
-/// Each event of the controller leaves what is told of each queue.
+/// Each event of the controller leaves what is told of each queue that has a stream.
 pub fn the_controller_leaves_what_is_told<W: Wire>()
     ensures { (base : Base) (member : ℕ → Bool) (parts : StructureSets) (hand : Hand) (c : Content) (wire after : W) (now : StructureSets) (later : Hand) (d : DriverContent) (reported : ℕ → List ℕ)
         → IsControlled base member parts hand c → ControlEffect W.begins W.transacts parts hand wire after now later → KeepsEach parts now

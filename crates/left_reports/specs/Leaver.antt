@@ -1,9 +1,9 @@
 -- What a driver's report tells of an endpoint that leaves the ring (EHCI 1.0, 4.8.2 and 4.10; USB 2.0, 8.6).
---     LeavesAreTold             the steps of its leave, up to the one that gives it back, leave what is told of each queue
+--     LeavesAreTold             the steps of its leave, up to the one that gives it back, leave what is told of each queue that has a stream
 --     IsLeaver ..               endpoint e, which is x, is the next that is given back; no command is unfinished, and the walk doesn't meet its queue head
 --     LeaverCanBeTold           then all is known of it that its line needs, if it has a stream
---     IsToldGone ..             it was given back, and the lines of one that has a stream tell the bytes of these packets, where its cancel is told; else they tell
---                               what they told before
+--     IsToldGone ..             it was given back, and the lines of one that has a stream tell the bytes of these packets, where its cancel is told; where it had
+--                               ended by an error they tell what they told before; of a cancelled control endpoint nothing is said
 --     EndpointReleaseIsTold     so it is after the row that gives it back, and of each other queue is told what was told before
 use Rattle.std.specs.Prelude.{◌≡◌, ℕ, ◌*◌, Bool, true, false, List, slice_get, Some, None}
 use Rattle.std.specs.List.{concat}

@@ -1,7 +1,8 @@
 //! The laws.
 ghost use Rattle.left_reports.specs.Leaver.{LeavesAreTold, LeaverCanBeTold, EndpointReleaseIsTold};
 
-/// The steps of an endpoint's leave, up to the one that gives it back, leave what is told of each queue.
+/// The steps of an endpoint's leave, up to the one that gives it back, leave what is told of each queue that has a
+/// stream.
 pub fn a_leave_keeps_what_is_told()
     ensures { LeavesAreTold }
 {}
@@ -11,7 +12,8 @@ pub fn a_leaver_can_be_told()
     ensures { LeaverCanBeTold }
 {}
 
-/// When it is given back, its lines tell all that was moved of it, where its cancel is told, and else what they told before; of the others as before.
+/// When it is given back, the lines of one that has a stream tell all that was moved of it, where its cancel is told; where it had ended by an error they tell
+/// what they told before. Of a cancelled control endpoint nothing is said; of the others as before.
 pub fn a_leaver_is_told()
     ensures { EndpointReleaseIsTold }
 {}

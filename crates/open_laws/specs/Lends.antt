@@ -75,7 +75,7 @@ LendPipes {W} sender = (stream : ℕ → ℕ → Bool) (packets : ℕ → ℕ �
     → DrivesRing base member parts hand (place w p.registers p.memory) p.driver → ((n : ℕ) → streams n ≡ true → member n ≡ true)
     → ArePiped stream packets sender member streams ends acc parts hand wire → ArePiped stream packets sender member streams ends acc (parts_lent parts k.ready) hand wire
 
--- of each queue head of which it was right, IN or OUT
+-- of each queue head of which it was right, of any endpoint
 abbrev pub LendReports : Type 0
 LendReports = (acc : ℕ → List (List ℕ)) (reported : ℕ → List ℕ) (heads : ℕ → Bool) (base : Base) (w : Walk) (hand : Hand) (p : DriverParts) (member streams : ℕ → Bool) (ends : ℕ → Told)
     (parts : StructureSets) (order : ℕ → ℕ → ℕ) (out : ℕ → List ℕ) → (k : IsAtLend p.driver p.memory member streams ends parts order out)

@@ -94,7 +94,7 @@ OpenPipes {W} sender = (stream : ℕ → ℕ → Bool) (packets : ℕ → ℕ �
     (with_none acc (32 * k.lent.endpoint.queue)) (head_then parts k.queue k.lent.endpoint) (hand_then hand k.lent.endpoint) wire
     × AreUnopened stream packets sender (streams_then streams k.lent.endpoint) (with_end ends (32 * k.lent.endpoint.queue) (end_then k.lent.endpoint)) wire
 
--- of each of these queue heads the report is right, IN or OUT, and so it is of the new one
+-- of each of these queue heads, of any endpoint, the report is right, and so it is of the new one
 abbrev pub OpenReports : Type 0
 OpenReports = (acc : ℕ → List (List ℕ)) (reported : ℕ → List ℕ) (heads : ℕ → Bool) (base : Base) (w : Walk) (hand : Hand) (p : DriverParts) (member streams : ℕ → Bool) (ends : ℕ → Told)
     (parts : StructureSets) (order : ℕ → ℕ → ℕ) (out : ℕ → List ℕ) → (k : IsAtOpen p.driver p.memory member streams ends parts order out)

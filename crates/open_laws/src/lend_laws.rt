@@ -12,7 +12,7 @@ pub fn a_lend_of_an_open()
     ensures head { HeadIsThere }
 {}
 
-/// It leaves the pipes, and the report of each queue head, IN or OUT.
+/// It leaves the pipes, and the report of each queue head, of any endpoint.
 pub fn a_lend_leaves_the_streams<W: Wire>()
     ensures pipes { (sender : W → ℕ → ℕ → Option Sender) → LendPipes sender }
     ensures reports { LendReports }

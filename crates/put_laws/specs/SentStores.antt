@@ -1,6 +1,6 @@
--- The stores by which the driver publishes the first qTD of a put (EHCI 1.0, 3.5 and 4.10.2): the token is stored last, so until then the qTD has nothing to
+-- The stores by which the driver publishes the first qTD of a transfer (EHCI 1.0, 3.5 and 4.10.2): the token is stored last, so until then the qTD has nothing to
 -- send, and the walk hasn't gone past it.
---     StoreSends     the law, of the store of any get or put; its qTD is the tail of its queue
+--     StoreSends     the law, of the store of any get, put or request; its qTD is the tail of its queue
 use Rattle.std.specs.Prelude.{ℕ, ◌*◌, Bool, List}
 use Rattle.driver_rows.specs.Rows.{Parts as DriverParts}
 use Rattle.lent_structures.specs.Structures.{StructureSets}

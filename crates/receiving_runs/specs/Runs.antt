@@ -1,4 +1,4 @@
--- Runs of scripts of bulk endpoints (USB 2.0, 5.8): what each event keeps, and each command of such a script that is of some kind, holds at each moment.
+-- Runs of scripts of which each command is of some kind: what each event keeps, and each such command, holds at each moment.
 --     KindOfLine can l             a line's command, if any, can be of this kind
 --     IsKeptBy fixed can holds     what holds of worlds is kept by each event, and by each such command for which there is room
 --     HoldsThroughout can holds    the law

@@ -1,5 +1,5 @@
-//! The report of a world of bulk endpoints (USB 2.0, 8.6): where what is told of each IN endpoint begins the packets that the script has for it, its IN streams
-//! are right.
+//! The report of a world of bulk and control endpoints (USB 2.0, 8.6): where what is told of each IN endpoint begins the packets that the script has for it,
+//! its IN streams are right.
 //!
 //! The crate has no code of its own: each function is a law over the definitions of `bus_world` and `report_streams`, and its body is empty.
 #![tactic(auto)]

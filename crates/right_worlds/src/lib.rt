@@ -1,5 +1,5 @@
-//! A world whose endpoints are all bulk ones (EHCI 1.0, 4.10; USB 2.0, 8.6): where its pipes agree and what is told of each queue is what was harvested of it,
-//! the IN streams of its report are right.
+//! A world whose endpoints are bulk and control ones (EHCI 1.0, 4.10; USB 2.0, 8.6): where its pipes agree and what is told of each queue that has a stream is
+//! what was harvested of it, the IN streams of its report are right.
 //!
 //! The crate has no code of its own: each function is a law over the definitions of `stream_worlds`, `harvest_laws` and `right_reports`, and its body is empty.
 #![tactic(auto)]

@@ -2,7 +2,7 @@
 --     NewWorldSends             the world of a new script
 --     ControllerKeepsSending    an event of the controller
 --     CommandKeepsSending       a command: one more put, if it is an accepted one
---     StillKeepsSending ..      each row of the driver; at one of them a stalled control endpoint goes on, at one endpoints leave, and at one an endpoint is given back
+--     StillKeepsSending ..      each row of the driver; at one of them a stalled control endpoint is made a store that it is owed, at one endpoints leave, and at one an endpoint is given back
 --     DriverKeepsSending        an event of the driver
 use Rattle.std.specs.Prelude.{◌≡◌, ℕ, ◌≤◌, Bool, true, List, Some, Ok}
 use Rattle.usb_base.specs.declared.commands.Cmd.{Cmd}
@@ -76,7 +76,7 @@ abbrev pub ReleaseKeepsSending : Type 0
 ReleaseKeepsSending = (fixed : Fixed) (takes : ℕ → ℕ → Bool) (member : ℕ → Bool) (x : Streams) (s : Standing) (puts : ℕ → List ℕ) (w : World) (t : ℕ)
     → driver_row (driver_parts w) ≡ rows.ReleaseTransfer t → IsSending fixed takes member x s puts w → HasSending fixed takes x.stream x.packets puts (driver_next w)
 
--- the next store by which a stalled control endpoint goes on (4.10.3)
+-- the next store that a stalled control endpoint is owed (4.10.3)
 abbrev pub MendKeepsSending : Type 0
 MendKeepsSending = (fixed : Fixed) (takes : ℕ → ℕ → Bool) (member : ℕ → Bool) (x : Streams) (s : Standing) (puts : ℕ → List ℕ) (w : World) (m : Mend)
     → driver_row (driver_parts w) ≡ rows.Mend m → IsSending fixed takes member x s puts w → HasSending fixed takes x.stream x.packets puts (driver_next w)

@@ -1,4 +1,4 @@
--- A bus by which a report can be closed: each endpoint that the script opens has its seat, and each device an address of its own (USB 2.0, 8.3.2.1 and 9.4.6).
+-- A bus by which a report can be closed: each IN or OUT endpoint that the script opens has its seat, and each device an address of its own (USB 2.0, 8.3.2.1 and 9.4.6).
 --     HasSeat seats x         one of the seats has the name and the kind of the endpoint x
 --     OpensSeats s seats      so has each IN and OUT endpoint that the script opens
 --     AreApart devices        no two devices have one address

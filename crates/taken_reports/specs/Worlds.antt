@@ -1,8 +1,8 @@
 -- A world of bulk and control endpoints, and what its report tells of OUT endpoints (EHCI 1.0, 4.10; USB 2.0, 8.5 and 8.6).
 --     HaveOuts d outs ends      each queue head of an OUT endpoint that the walk may meet is among these, and this is its endpoint
 --     ClosedOuts d taker ..     what is told of endpoints OUT that have left begins what their devices took
---     WorldIsTaken              where both sides of their pipes agree, and what is told of each queue is what was harvested of it, what is told begins what
---                               was taken
+--     WorldIsTaken              where both sides of their pipes agree, and what is told of each queue that has a stream is what was harvested of it, what is told
+--                               begins what was taken
 use Rattle.std.specs.Prelude.{◌≡◌, ℕ, ◌*◌, Bool, true, false, List, slice_get, Some, Option}
 use Rattle.std.specs.List.{concat}
 use Rattle.script_types.specs.declared.scripts.Script.{Script}

@@ -13,7 +13,7 @@ pub fn what_a_report_tells_was_taken()
     ensures { ReportIsTaken }
 {}
 
-/// So it is in a world whose OUT pipes agree, and where what is told of each queue is what was harvested of it.
+/// So it is in a world whose OUT pipes agree, and where what is told of each queue that has a stream is what was harvested of it.
 pub fn what_a_world_reports_was_taken()
     ensures { WorldIsTaken }
 {}

@@ -5,7 +5,7 @@
 --     lines_in name reports      the lines of an endpoint that tell of a transfer or of its end
 --     has_end lines              one of these lines ends the endpoint
 --     IsToldTo ..                its lines, and behind them the bytes that are held back, are these bytes; it is told to end once, where it has
---     TellsEach ..               the same of each endpoint that has a stream, and no line names what is no endpoint of these
+--     TellsEach ..               the same of each endpoint that has a stream, and no line but a refusal names what is no endpoint of these
 --     SameNames ..               endpoints are named as before
 use Rattle.std.specs.Prelude.{◌≡◌, ℕ, Bool, true, false, List, [], ◌++◌, length, filter, slice_get, Option, Some, None, option_map}
 use Rattle.std.specs.List.{list_any}

@@ -1,5 +1,5 @@
-//! The small scripts, one with a get, one with a put and one with a cancel, are whole at each moment, and meet the premise of each law of the rows of a driver of bulk endpoints at one of
-//! them (EHCI 1.0, 4.8.1, 4.8.2 and 4.10; USB 2.0, 8.6).
+//! The small scripts, one with a get, one with a put, one with a cancel and one with control requests, are whole at each moment; the first three meet the
+//! premise of each law of the rows of a driver of bulk endpoints at one of them (EHCI 1.0, 4.8.1, 4.8.2 and 4.10; USB 2.0, 8.5.3 and 8.6).
 //!
 //! The crate has no code of its own: each function is a law over the definitions of `whole_worlds` and `small_receiver`, and its body is empty.
 #![tactic(auto)]

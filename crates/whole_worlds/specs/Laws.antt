@@ -79,7 +79,7 @@ abbrev pub ReleaseKeepsWhole : Type 0
 ReleaseKeepsWhole = (fixed : Fixed) (takes : ℕ → ℕ → Bool) (member : ℕ → Bool) (x : Streams) (s : Standing) (w : World) (t : ℕ) → driver_row (driver_parts w) ≡ rows.ReleaseTransfer t
     → IsWhole fixed takes member x s w → HasWhole fixed takes x.stream x.packets (driver_next w)
 
--- the next store by which a stalled control endpoint goes on (4.10.3)
+-- the next store that a stalled control endpoint is owed (4.10.3)
 abbrev pub MendKeepsWhole : Type 0
 MendKeepsWhole = (fixed : Fixed) (takes : ℕ → ℕ → Bool) (member : ℕ → Bool) (x : Streams) (s : Standing) (w : World) (m : Mend) → driver_row (driver_parts w) ≡ rows.Mend m
     → IsWhole fixed takes member x s w → HasWhole fixed takes x.stream x.packets (driver_next w)

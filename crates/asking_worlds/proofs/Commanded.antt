@@ -1,0 +1,55 @@
+-- Each command leaves the requests of a world as they must stand: one that is refused is a line, and one that is accepted opens an endpoint, is one more transfer, or
+-- cancels an endpoint.
+use Rattle.std.proofs.Common.{◌≡◌, ℕ, ◌*◌, Bool, Result, Ok, Err, refl}
+use Rattle.usb_base.specs.declared.commands.Cmd.{Cmd}
+use Rattle.usb_base.specs.declared.commands.Cmd.TheVariants as commands
+use Rattle.usb_base.specs.declared.reports.OfferError.{OfferError}
+use Rattle.byte_answers.specs.Bytes.{IsByteCommand}
+use Rattle.usb_bus.specs.Bus.{Fixed}
+use Rattle.driver_rows.specs.Offers.{Offered, offered, IsOffered}
+use Rattle.driver_rows.specs.Words.{head_block, opening_head}
+use Rattle.report_streams.specs.Requests.{Request}
+use Rattle.ring_laws.specs.Told.{endpoint_of}
+use Rattle.chained_transfers.specs.Asynchronous.{OpensAsynchronous}
+use Rattle.chained_transfers.proofs.Accepting.{command_accepts}
+use Rattle.walk_members.specs.Reached.{OpensNumbered}
+use Rattle.bus_world.specs.World.{World, commanded}
+use Rattle.stream_worlds.specs.Streaming.{Streams, Standing}
+use Rattle.world_requests.specs.Recorded.{Windows, asks_then}
+use Rattle.feeding_worlds.specs.LeftLaws.{OpensNamed}
+use Rattle.whole_worlds.specs.Whole.{IsWhole}
+use Rattle.whole_worlds.proofs.Commanding.{whole_commanded, OpensToOnce}
+use Rattle.asking_worlds.specs.Asking.{Sides, Asking, IsAskingWorld, HasAskingWorld}
+use Rattle.asking_worlds.specs.Given.{GivesCommand}
+use Rattle.asking_worlds.specs.WorldLaws.{CommandKeepsAsking}
+use Rattle.asking_worlds.proofs.Has.{asking_of}
+use Rattle.asking_worlds.proofs.Opened.{open_keeps_asking}
+use Rattle.asking_worlds.proofs.Refused.{refused_asking}
+use Rattle.asking_worlds.proofs.Transferring.{transfer_keeps_asking, cancel_keeps_asking}
+
+module _ (g : Sides) (fixed : Fixed) (takes : ℕ → ℕ → Bool) (member : ℕ → Bool) (x : Streams) (s : Standing) (a : Asking) (v : Windows) (asks : ℕ → Request) (w : World) (line : ℕ)
+    (k : IsWhole fixed takes member x s w) (head : x.endpoint (32 * head_block) ≡ endpoint_of opening_head) (q : IsAskingWorld g fixed member s a v asks w) where
+  abbrev So : Cmd → Type 0
+  So cmd = HasAskingWorld g fixed takes x.stream x.packets v (asks_then w.driver cmd asks) (commanded w line cmd)
+
+  accepted : (cmd : Cmd) (o : Offered) → OpensAsynchronous cmd → OpensToOnce x.stream takes w cmd → OpensNumbered cmd → OpensNamed cmd → IsByteCommand cmd → GivesCommand g cmd → IsOffered w.driver.room cmd
+      → offered w.driver w.memory cmd ≡ Ok o → So cmd
+  accepted (commands.OpenEp desc) o only to fits named bytes gives room is = open_keeps_asking g fixed takes member x s a v asks w line desc o only (to o is) fits named gives.opened room is k head q
+  accepted (commands.Get name len by) o only to fits named bytes gives room is = transfer_keeps_asking g fixed takes member x s a v asks w line (commands.Get name len by) o tt bytes room is k head q
+  accepted (commands.Put name data_bytes by) o only to fits named bytes gives room is = transfer_keeps_asking g fixed takes member x s a v asks w line (commands.Put name data_bytes by) o tt bytes room is k head q
+  accepted (commands.Control name setup more) o only to fits named bytes gives room is =
+      transfer_keeps_asking g fixed takes member x s a v asks w line (commands.Control name setup more) o gives.asks.whole.request bytes room is k head q
+  accepted (commands.Iso name count len seed) o only to fits named bytes gives room is =
+      absurd (command_accepts w.driver w.memory (commands.Iso name count len seed) o k.feeding.turns.asynchronous only is)
+  accepted (commands.Cancel name) o only to fits named bytes gives room is = cancel_keeps_asking g fixed takes member x s a v asks w line name o room is k head q
+
+  pub by_offer : (cmd : Cmd) (r : Result Offered OfferError) → OpensAsynchronous cmd → OpensToOnce x.stream takes w cmd → OpensNumbered cmd → OpensNamed cmd → IsByteCommand cmd → GivesCommand g cmd
+      → IsOffered w.driver.room cmd → offered w.driver w.memory cmd ≡ r → So cmd
+  by_offer cmd (Ok o) only to fits named bytes gives room is = accepted cmd o only to fits named bytes gives room is
+  by_offer cmd (Err why) only to fits named bytes gives room is =
+      asking_of g fixed takes member x s a v (asks_then w.driver cmd asks) (commanded w line cmd) (whole_commanded fixed takes member x s w line cmd only to fits named room k)
+      (refused_asking g fixed member s a v asks w line cmd why is q) head
+
+pub command_asking : CommandKeepsAsking
+command_asking g fixed takes member x s a v asks w line cmd only to fits named bytes gives room k head q =
+    by_offer g fixed takes member x s a v asks w line k head q cmd (offered w.driver w.memory cmd) only to fits named bytes gives room refl

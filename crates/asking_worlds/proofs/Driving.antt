@@ -1,0 +1,133 @@
+-- Each event of the driver leaves the requests of a world as they must stand.
+use Rattle.std.proofs.Common.{◌≡◌, ℕ, ◌*◌, cond, nat_eq, Bool, true, false, Option, Some, refl, sym, ap, ◌∙◌, subst}
+use Rattle.std.specs.Prelude.{nat_le}
+use Rattle.usb_base.specs.declared.endpoints.EndCause.{EndCause}
+use Rattle.usb_base.specs.declared.endpoints.EndCause.TheVariants as causes
+use Rattle.usb_base.specs.declared.reports.What.{What}
+use Rattle.usb_base.specs.declared.reports.What.TheVariants as lines
+use Rattle.usb_bus.specs.Bus.{Fixed}
+use Rattle.qh_qtd.specs.declared.token.Token.{Token}
+use Rattle.driver_rows.specs.declared.content.Endpoint.{Endpoint}
+use Rattle.driver_rows.specs.declared.content.QtdNote.{QtdNote}
+use Rattle.driver_rows.specs.declared.content.Sort.{Sort}
+use Rattle.driver_rows.specs.declared.rows.DriverRow.TheVariants as rows
+use Rattle.driver_rows.specs.declared.rows.Found.{Found}
+use Rattle.driver_rows.specs.declared.rows.Found.TheVariants as founds
+use Rattle.driver_rows.specs.Harvests.{note_at, token_in, found_in, done_of, ends_by, moved_of, halt_of}
+use Rattle.driver_rows.specs.Rows.{driver_row}
+use Rattle.driver_rows.specs.Words.{is_control, head_block, opening_head}
+use Rattle.run_owners.specs.Due.{IsHarvestDue}
+use Rattle.report_streams.specs.Requests.{Request}
+use Rattle.ring_laws.specs.Told.{endpoint_of}
+use Rattle.chained_transfers.proofs.Harvested.{not_served}
+use Rattle.chained_transfers.proofs.Ways.{found_by, moves_queued}
+use Rattle.bus_world.specs.World.{World, driver_parts, driver_next}
+use Rattle.stream_worlds.specs.Streaming.{Streams, Standing}
+use Rattle.world_requests.specs.Recorded.{Windows}
+use Rattle.whole_worlds.specs.Whole.{IsWhole}
+use Rattle.whole_worlds.proofs.Leaving.{due}
+use Rattle.whole_worlds.proofs.Rows.{after_each}
+use Rattle.asking_worlds.specs.Asking.{Sides, Asking, IsControlOf, IsAskingWorld, HasAskingWorld}
+use Rattle.asking_worlds.specs.Reading.{AreSilent}
+use Rattle.asking_worlds.specs.WorldLaws.{DriverKeepsAsking}
+use Rattle.asking_worlds.proofs.Left.{RowsLeft}
+use Rattle.asking_worlds.proofs.Still.{still_asking}
+use Rattle.asking_worlds.proofs.Publishing.{lend_keeps_asking, store_keeps_asking}
+use Rattle.asking_worlds.proofs.OpenLending.{open_lend_asking}
+use Rattle.asking_worlds.proofs.OpenLinking.{open_link_asking}
+use Rattle.asking_worlds.proofs.Mending.{mend_asking}
+use Rattle.asking_worlds.proofs.Clearing.{clear_asking}
+use Rattle.asking_worlds.proofs.Unlinking.{unlink_asking}
+use Rattle.asking_worlds.proofs.Releasing.{release_asking}
+use Rattle.asking_worlds.proofs.GivenBack.{endpoint_release_asking}
+use Rattle.asking_worlds.proofs.Waits.{wait_asking}
+use Rattle.asking_worlds.proofs.Moves.{moved_asking}
+use Rattle.asking_worlds.proofs.EndedBeside.{beside_ended}
+use Rattle.asking_worlds.proofs.Endings.{done_asking, halt_asking}
+
+-- ---- what a harvest tells
+
+same_Some : {X : Type 0} (a b : X) → ◌≡◌ {A = Option X} (Some a) (Some b) → a ≡ b
+same_Some a b is = cc
+
+data EndsAs (what : What) : Type 0 where
+  as_done : what ≡ lines.Done → EndsAs what
+  as_halt : (cause : EndCause) → what ≡ lines.Halt cause → EndsAs what
+  as_miss : what ≡ lines.Miss → EndsAs what
+
+halt_as : (a b c : Bool) → EndsAs (cond a lines.Miss (cond b (lines.Halt causes.Babble) (cond c (lines.Halt causes.Error) (lines.Halt causes.Stall))))
+halt_as true b c = as_miss refl
+halt_as false true c = as_halt causes.Babble refl
+halt_as false false true = as_halt causes.Error refl
+halt_as false false false = as_halt causes.Stall refl
+
+ends_as : (a h e : Bool) (m n : ℕ) (halt what : What) → EndsAs halt → cond a founds.Active (cond h (founds.Ended m halt) (done_of e m)) ≡ founds.Ended n what → EndsAs what
+ends_as true h e m n halt what ends is = absurd cc
+ends_as false true e m n halt what ends is = subst EndsAs (cc) ends
+ends_as false false true m n halt what ends is = as_done (cc)
+ends_as false false false m n halt what ends is = absurd cc
+
+read_as : (sort : Sort) (last : Bool) (note : QtdNote) (t : Token) (n : ℕ) (what : What) → founds.Ended n what ≡ found_in sort last note t → EndsAs what
+read_as sort last note t n what is =
+    ends_as t.active t.halted (ends_by sort last t.total) (moved_of note.told t.total) n (halt_of t) what (halt_as t.missed t.babble (nat_eq t.cerr 0)) (sym is)
+
+module _ (left : RowsLeft) (g : Sides) (fixed : Fixed) (takes : ℕ → ℕ → Bool) (member : ℕ → Bool) (x : Streams) (s : Standing) (a : Asking) (v : Windows) (asks : ℕ → Request) (w : World)
+    (k : IsWhole fixed takes member x s w) (head : x.endpoint (32 * head_block) ≡ endpoint_of opening_head) (silent : AreSilent w.driver) (q : IsAskingWorld g fixed member s a v asks w) where
+  abbrev So : Type 0
+  So = HasAskingWorld g fixed takes x.stream x.packets v asks (driver_next w)
+
+  -- ---- a harvest
+
+  reads : (e t : ℕ) (found : Found) → driver_row (driver_parts w) ≡ rows.Harvest e t found → IsHarvestDue (driver_parts w) e t found
+  reads e t found row = due fixed takes member x s w e t found row k
+
+  found_is : (e t : ℕ) (found : Found) (r : IsHarvestDue (driver_parts w) e t found)
+      → found ≡ found_in r.transfer.sort (nat_le r.transfer.left 1) (note_at w.driver.notes r.transfer.place) (token_in w.memory r.transfer.place)
+  found_is e t found r = r.tells ∙ found_by w.driver w.memory r.transfer r.transfer.sort (moves_queued w.driver r.transfer (k.feeding.turns.asynchronous.moves t r.transfer r.there))
+
+  its_own : (e t n : ℕ) (what : What) (z : Endpoint) → driver_row (driver_parts w) ≡ rows.Harvest e t (founds.Ended n what) → IsControlOf w.driver e z → EndsAs what → So
+  its_own e t n what z row of (as_done is) =
+      done_asking g fixed takes member x s a v asks w e t n z (row ∙ ap (λ (u : What). rows.Harvest e t (founds.Ended n u)) is) of head k silent q
+  its_own e t n what z row of (as_halt cause is) =
+      halt_asking g fixed takes member x s a v asks w e t n cause z (row ∙ ap (λ (u : What). rows.Harvest e t (founds.Ended n u)) is) of head k silent q
+  its_own e t n what z row of (as_miss is) =
+      absurd (left.misses g fixed takes member x s a v asks w e t n z (row ∙ ap (λ (u : What). rows.Harvest e t (founds.Ended n u)) is) of k q)
+
+  ended : (e t n : ℕ) (what : What) → driver_row (driver_parts w) ≡ rows.Harvest e t (founds.Ended n what) → (r : IsHarvestDue (driver_parts w) e t (founds.Ended n what)) (b : Bool) → is_control r.endpoint.desc.kind ≡ b → So
+  ended e t n what row r true on =
+      its_own e t n what r.endpoint row (record { here = r.here; control = on })
+      (read_as r.transfer.sort (nat_le r.transfer.left 1) (note_at w.driver.notes r.transfer.place) (token_in w.memory r.transfer.place) n what (found_is e t (founds.Ended n what) r))
+  ended e t n what row r false off =
+      beside_ended g fixed takes member x s a v asks w e t n what row
+      (λ z here. ap (λ (y : Endpoint). is_control y.desc.kind) (same_Some z r.endpoint (sym here ∙ r.here)) ∙ off) head k q
+
+  -- no descriptor of the frame list is read
+  harvested : (e t : ℕ) (found : Found) → driver_row (driver_parts w) ≡ rows.Harvest e t found → So
+  harvested e t founds.Active row = wait_asking g fixed takes member x s a v asks w e t row head k q
+  harvested e t (founds.Moved n) row = moved_asking g fixed takes member x s a v asks w e t n row head k silent q
+  harvested e t (founds.Ended n what) row = let r = reads e t (founds.Ended n what) row in ended e t n what row r (is_control r.endpoint.desc.kind) refl
+  harvested e t (founds.Served n) row =
+      let r = reads e t (founds.Served n) row in
+      absurd (not_served r.transfer.sort (nat_le r.transfer.left 1) (note_at w.driver.notes r.transfer.place) (token_in w.memory r.transfer.place) (founds.Served n) (found_is e t (founds.Served n) r) n refl)
+
+  -- ---- each row
+
+  pub each_row : So
+  each_row =
+      after_each fixed takes member x s w k So
+      (record {
+        still = λ still. still_asking g fixed takes member x s a v asks w still k head q;
+        lend = λ b words ready. lend_keeps_asking g fixed takes member x s a v asks w b words ready k head q;
+        store = λ b words command made. store_keeps_asking g fixed takes member x s a v asks w b words command made k head q;
+        open_lend = λ ready. open_lend_asking g fixed takes member x s a v asks w ready head k q;
+        open_link = λ lent. open_link_asking g fixed takes member x s a v asks w lent head k q;
+        harvest = harvested;
+        mend = λ m row. mend_asking g fixed takes member x s a v asks w m row head k q;
+        unlink = λ e before link command. unlink_asking g fixed takes member x s a v asks w e before link command head k q;
+        clear = λ row. clear_asking g fixed takes member x s a v asks w row head k q;
+        release_endpoint = λ e row. endpoint_release_asking g fixed takes member x s a v asks w e row head k q;
+        release = λ t row. release_asking g fixed takes member x s a v asks w t row head k q;
+      })
+
+pub driver_asking : RowsLeft → DriverKeepsAsking
+driver_asking left g fixed takes member x s a v asks w k head silent q = each_row left g fixed takes member x s a v asks w k head silent q

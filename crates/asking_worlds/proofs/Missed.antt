@@ -1,0 +1,187 @@
+-- A transaction leaves the bit of a missed microframe, and so does each event of the walk of the ring; nothing that a driver writes for a ring's endpoint sets it.
+use Rattle.std.proofs.Common.{◌≡◌, ◌≢◌, ℕ, ◌*◌, Bool, true, false, ◌==◌, cond, nat_eq, nat_le, if◌then◌else◌, List, Option, Some, None, ap, sym, subst, ◌∙◌, ⊎_elim, refl}
+use Rattle.usb_base.specs.declared.endpoints.EndCause.TheVariants as causes
+use Rattle.usb_base.specs.declared.endpoints.EpDesc.{EpDesc}
+use Rattle.usb_base.specs.declared.packets.Ask.{Ask}
+use Rattle.usb_base.specs.declared.packets.Reply.{Reply}
+use Rattle.usb_base.specs.declared.reports.What.{What}
+use Rattle.usb_base.specs.declared.reports.What.TheVariants as lines
+use Rattle.toggle_error.specs.declared.host.HostSide.{HostSide}
+use Rattle.toggle_error.specs.declared.rows.CompleteRow.{CompleteRow}
+use Rattle.toggle_error.specs.declared.rows.CompleteRow.TheVariants.{Pending, NeverCame, Answered, BrokeBelow, Unanswered}
+use Rattle.toggle_error.specs.declared.rows.PlainRow.{PlainRow}
+use Rattle.toggle_error.specs.declared.rows.PlainRow.TheVariants as plains
+use Rattle.toggle_error.specs.declared.rows.SettleRow.{SettleRow}
+use Rattle.toggle_error.specs.declared.rows.SettleRow.TheVariants.{Plain, Start, Complete}
+use Rattle.toggle_error.specs.declared.rows.StartRow.{StartRow}
+use Rattle.toggle_error.specs.declared.rows.StartRow.TheVariants.{Accepted, Declined, Unheard, Begun}
+use Rattle.toggle_error.specs.PlainRows.{after_plain}
+use Rattle.toggle_error.specs.SplitRows.{after_start, after_complete}
+use Rattle.toggle_error.specs.Settle.{settle_row, after_settle_row}
+use Rattle.qh_qtd.specs.declared.qtd.Qtd.{Qtd}
+use Rattle.qh_qtd.specs.declared.queue_head.Qh.{Qh}
+use Rattle.qh_qtd.specs.declared.token.Token.{Token}
+use Rattle.driver_rows.specs.declared.content.QtdNote.{QtdNote}
+use Rattle.driver_rows.specs.declared.content.Stage.{Stage}
+use Rattle.driver_rows.specs.declared.rows.Found.TheVariants as founds
+use Rattle.driver_rows.specs.Harvests.{note_at, token_in, halt_of, moved_of, ends_by, done_of, found_in}
+use Rattle.driver_rows.specs.Rows.{Parts}
+use Rattle.driver_rows.specs.Words.{queue_head, dummy_qtd}
+use Rattle.run_owners.specs.Due.{IsHarvestDue}
+use Rattle.chained_transfers.specs.Asynchronous.{OnlyAsynchronous}
+use Rattle.chained_transfers.proofs.Ways.{found_by, moves_queued}
+use Rattle.walk_copy.specs.Overlay.{advanced, moved, settled_queue}
+use Rattle.walk_copy.specs.Transacting.{call_in, host_after}
+use Rattle.walk_copy.specs.WriteBack.{moved_by}
+use Rattle.async_walk.specs.declared.state.WalkStep.{WalkStep}
+use Rattle.async_walk.specs.Naks.{planned}
+use Rattle.lent_structures.specs.Changes.{relinked}
+use Rattle.lent_structures.specs.Structures.{Structure, QueueHead, Element, StructureSets, Tells, put}
+use Rattle.lent_structures.specs.WriteBack.{Received, Nothing, Into, qtd_after, received_parts}
+use Rattle.lent_structures.proofs.Names.{put_found}
+use Rattle.harvested_streams.proofs.Harvesting.{token_read}
+use Rattle.ring_laws.specs.Hand.{Copy, Settlement, settled_queue_of, Hand}
+use Rattle.ring_laws.specs.Effects.{received_into, Effect}
+use Rattle.ring_laws.specs.Effects.Effect.{reads, passes, ends, takes, makes, writes_back}
+use Rattle.ring_laws.specs.Fewer.{without_those}
+use Rattle.driver_laws.specs.Pieces.{stage_qtd}
+use Rattle.asking_worlds.specs.Missed.{IsUnmissed, NoneMissed, MissesNone}
+
+-- ---- a transaction
+
+plain_missed : (row : PlainRow) (host : HostSide) → (after_plain row host).missed ≡ host.missed
+plain_missed (plains.Received n) host = refl
+plain_missed plains.Repeated host = refl
+plain_missed plains.Babbled host = refl
+plain_missed (plains.Sent n) host = refl
+plain_missed (plains.SentLast n) host = refl
+plain_missed plains.Refused host = refl
+plain_missed plains.RefusedPinged host = refl
+plain_missed plains.Room host = refl
+plain_missed plains.NoRoom host = refl
+plain_missed plains.Stalled host = refl
+plain_missed plains.Failed host = refl
+plain_missed plains.FailedPinged host = refl
+
+start_missed : (row : StartRow) (host : HostSide) → (after_start row host).missed ≡ host.missed
+start_missed Accepted host = refl
+start_missed Declined host = refl
+start_missed Unheard host = refl
+start_missed Begun host = refl
+
+complete_missed : (row : CompleteRow) (host : HostSide) → (after_complete row host).missed ≡ host.missed
+complete_missed Pending host = refl
+complete_missed NeverCame host = refl
+complete_missed (Answered row) host = plain_missed row host
+complete_missed BrokeBelow host = refl
+complete_missed Unanswered host = refl
+
+row_missed : (row : SettleRow) (host : HostSide) → (after_settle_row row host).missed ≡ host.missed
+row_missed (Plain row) host = plain_missed row host
+row_missed (Start row) host = start_missed row host
+row_missed (Complete row) host = complete_missed row host
+
+made_missed : (q : Qh) (out : List ℕ) (reply : Reply) → (host_after (planned q) out false reply).missed ≡ q.token.missed
+made_missed q out reply = row_missed (settle_row (call_in (planned q) out false).ask (call_in (planned q) out false).sent false reply (planned q).host) (planned q).host
+
+-- ---- what the driver writes
+
+pub head_unmissed : (x : EpDesc) (link dummy : ℕ) → IsUnmissed (QueueHead (queue_head x link dummy))
+head_unmissed x link dummy = refl
+
+pub qtd_unmissed : (notes : List QtdNote) (s : Stage) (b dummy : ℕ) (last : Bool) → IsUnmissed (Element (stage_qtd notes s b dummy last))
+qtd_unmissed notes s b dummy last = refl
+
+pub dummy_unmissed : IsUnmissed (Element dummy_qtd)
+dummy_unmissed = refl
+
+pub writing_unmissed : (parts : StructureSets) (n a : ℕ) (s : Structure) → IsUnmissed s → NoneMissed parts → NoneMissed (put parts n a s)
+writing_unmissed parts n a s new none k b t here =
+    ⊎_elim {C = IsUnmissed t} (λ (own : (k ≡ n) × (b ≡ a) × (t ≡ s)). subst IsUnmissed (sym own.2) new) (λ (old : parts k b ≡ Some t). none k b t old) (put_found parts n a s k b t here)
+
+found_still : (goes : Bool) (o : Option Structure) (s : Structure) → cond goes None o ≡ Some s → o ≡ Some s
+found_still true o s here = absurd (cc)
+found_still false o s here = here
+
+pub release_unmissed : (parts : StructureSets) (n : ℕ) (goes : ℕ → Bool) → NoneMissed parts → NoneMissed (without_those parts n goes)
+release_unmissed parts n goes none k a s here = by (k == n) here
+  where
+    by : (own : Bool) → cond own (λ (b : ℕ). if goes b then None else parts k b) (parts k) a ≡ Some s → IsUnmissed s
+    by true there = none k a s (found_still (goes a) (parts k a) s there)
+    by false there = none k a s there
+
+-- ---- an event of the walk
+
+advanced_missed : (q : Qh) (a : ℕ) (t : Qtd) → (advanced q a t).token.missed ≡ t.token.missed
+unfolding advanced
+advanced_missed q a t = refl
+
+moved_missed : (c : Copy) (s : Settlement) (n : ℕ) → (moved (settled_queue_of c s) n).token.missed ≡ s.host.missed
+unfolding moved settled_queue
+moved_missed c s n = refl
+
+after_unmissed : (c : Qh) (t : Qtd) (b : Bool) → c.token.missed ≡ false → t.token.missed ≡ false → IsUnmissed (Element (cond b t (record t { token = c.token })))
+after_unmissed c t true new old = old
+after_unmissed c t false new old = new
+
+received_unmissed : (parts : StructureSets) (n : ℕ) (got : List ℕ) (r : Received) → NoneMissed parts → NoneMissed (received_parts parts n got r)
+received_unmissed parts n got Nothing none = none
+received_unmissed parts n got (Into pages k bs j) none = writing_unmissed parts n _ _ tt none
+
+pub walk_unmissed : {W : Type 0} (transacts : W → Ask → List ℕ → Reply → W → Type 0) (parts : StructureSets) (hand : Hand) (wire after : W) (now : StructureSets) (later : Hand) (kind : WalkStep)
+    → Effect transacts parts hand wire after now later kind → NoneMissed parts → MissesNone hand → NoneMissed now × MissesNone later
+walk_unmissed transacts parts hand wire after now later kind (reads k same quiet) none had =
+    (subst NoneMissed (sym same) none, subst MissesNone (sym k.in_hand) (none k.copy.at k.copy.at (QueueHead k.copy.queue) k.here))
+walk_unmissed transacts parts hand wire after now later kind (passes k same quiet) none had = (subst NoneMissed (sym same) none, subst MissesNone (sym k.nothing) tt)
+walk_unmissed transacts parts hand wire after now later kind (ends k same quiet) none had = (subst NoneMissed (sym same) none, subst MissesNone (sym k.nothing) tt)
+walk_unmissed transacts parts hand wire after now later kind (takes k quiet) none had =
+    let c = k.copy in
+    let q = advanced c.queue k.element k.qtd in
+    let new : q.token.missed ≡ false = advanced_missed c.queue k.element k.qtd ∙ none c.at k.element (Element k.qtd) k.here in
+    (subst NoneMissed (sym k.now_is) (writing_unmissed parts c.at c.at (QueueHead q) new none), subst MissesNone (sym k.later_is) new)
+walk_unmissed transacts parts hand wire after now later kind (makes k same) none had =
+    let was : k.copy.queue.token.missed ≡ false = subst MissesNone k.in_hand had in
+    (subst NoneMissed (sym same) none, subst MissesNone (sym k.later_is) (made_missed k.copy.queue k.out k.reply ∙ was))
+walk_unmissed transacts parts hand wire after now later kind (writes_back k quiet) none had =
+    let c = k.copy in
+    let s = k.settled in
+    let was : s.host.missed ≡ false = subst MissesNone k.in_hand had in
+    let r = received_into (parts c.at) c.queue k.element s.got in
+    let h = settled_queue_of c s in
+    let q = moved h (moved_by s.outcome) in
+    let new : q.token.missed ≡ false = moved_missed c s (moved_by s.outcome) ∙ was in
+    let one = received_parts parts c.at s.got r in
+    let two = put one c.at c.at (QueueHead (relinked c.queue q)) in
+    let old : k.element.token.missed ≡ false = none c.at c.queue.current (Element k.element) k.here in
+    let all : NoneMissed (put two c.at h.current (Element (qtd_after q k.element))) =
+    writing_unmissed two c.at h.current (Element (qtd_after q k.element)) (after_unmissed q k.element q.token.active new old)
+    (writing_unmissed one c.at c.at (QueueHead (relinked c.queue q)) new (received_unmissed parts c.at s.got r none)) in
+    (subst NoneMissed (sym k.now_is) all, subst MissesNone (sym k.nothing) tt)
+
+-- ---- a harvest
+
+halts : (b e : Bool) → cond b (lines.Halt causes.Babble) (cond e (lines.Halt causes.Error) (lines.Halt causes.Stall)) ≢ lines.Miss
+halts true e same = cc
+halts false true same = cc
+halts false false same = cc
+
+halt_unmissed : (t : Token) → t.missed ≡ false → halt_of t ≢ lines.Miss
+halt_unmissed t unset same =
+    halts t.babble (nat_eq t.cerr 0)
+    (sym (ap (λ (m : Bool). if m then lines.Miss else if t.babble then lines.Halt causes.Babble else if nat_eq t.cerr 0 then lines.Halt causes.Error else lines.Halt causes.Stall) unset) ∙ same)
+
+found_unmissed : (active halted done : Bool) (k n : ℕ) (what halt : What) → founds.Ended k what ≡ cond active founds.Active (cond halted (founds.Ended n halt) (done_of done n)) → halt ≢ lines.Miss → what ≢ lines.Miss
+found_unmissed true halted done k n what halt is not same = absurd (cc)
+found_unmissed false true done k n what halt is not same = let told : halt ≡ what = cc in not (told ∙ same)
+found_unmissed false false true k n what halt is not same = absurd (cc)
+found_unmissed false false false k n what halt is not same = absurd (cc)
+
+pub harvest_unmissed : (p : Parts) (e t k n : ℕ) (what : What) (due : IsHarvestDue p e t (founds.Ended k what)) (parts : StructureSets) (u : Qtd) → OnlyAsynchronous p.driver → Tells p.memory parts
+    → parts n (32 * due.transfer.place) ≡ Some (Element u) → NoneMissed parts → what ≢ lines.Miss
+harvest_unmissed p e t k n what due parts u only tells here none =
+    let y = due.transfer in
+    let note = note_at p.driver.notes y.place in
+    let token = token_in p.memory y.place in
+    let is : founds.Ended k what ≡ found_in y.sort (nat_le y.left 1) note token = due.tells ∙ found_by p.driver p.memory y y.sort (moves_queued p.driver y (only.moves t y due.there)) in
+    let unset : token.missed ≡ false = ap (λ (z : Token). z.missed) (token_read p.memory parts n y.place u tells here) ∙ none n (32 * y.place) (Element u) here in
+    found_unmissed token.active token.halted (ends_by y.sort (nat_le y.left 1) token.total) k (moved_of note.told token.total) what (halt_of token) is (halt_unmissed token unset)

@@ -1,0 +1,17 @@
+pub mod Asking
+pub mod Given
+pub mod WorldLaws
+pub mod Moments
+pub mod Kept
+pub mod AskingLaws
+pub mod Publishing
+pub mod Commanding
+pub mod Reading
+pub mod Ended
+pub mod Narrowing
+pub mod Rows
+pub mod Waits
+pub mod Moves
+pub mod Silent
+pub mod Endings
+pub mod Missed

@@ -1,0 +1,10 @@
+pub mod Moving
+pub mod Steps
+pub mod OpenLends
+pub mod Publishing
+pub mod Releasing
+pub mod LentExtents
+pub mod TransferLends
+pub mod Mending
+pub mod Chains
+pub mod Accepting
