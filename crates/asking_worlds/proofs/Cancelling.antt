@@ -183,4 +183,5 @@ module _ (sides : Sides) (member : ℕ → Bool) (parts : StructureSets) (hand :
         let is : z ≡ x = same_Some z x (sym there ∙ ap (slice_get d.endpoints) at ∙ here) in
         unnamed number end (set_here d.endpoints number x end here) (ap (λ (w : Endpoint). w.desc.name) (sym is) ∙ named))
         (λ (differs : i ≢ number). unnamed i z (set_there d.endpoints number i end differs ∙ there) named) (cases_eq i number))));
+    unmissed = record { structures = world.unmissed.structures; in_hand = world.unmissed.in_hand; first = tt };
   }

@@ -153,7 +153,7 @@ module _ (g : Sides) (fixed : Fixed) (takes : ℕ → ℕ → Bool) (member : �
       subst (λ (c : DriverContent). IsAskingWorld g fixed (narrow_of w) s (record { courses = courses_met (narrow_of w) a.courses; numbers = a.numbers }) v asks (with_parts w (record { driver = c; registers = (driver_next w).registers; memory = (driver_next w).memory })))
       (sym driver_is)
       (world_left g fixed member s a v asks w parts_now leaves z (λ e y c. record { lines = refl; telling = λ reported waits t. record { numbers = t.numbers; told = t.told; wait = t.wait } }) (λ name u. refl)
-      (narrow_of w) s (courses_met (narrow_of w) a.courses) stand recorded each reads)
+      (narrow_of w) s (courses_met (narrow_of w) a.courses) z.unmissed.structures z.unmissed.in_hand stand recorded each reads)
 
   pub cleared_world : HasAskingWorld g fixed takes x.stream x.packets v asks (driver_next w)
   cleared_world = record {

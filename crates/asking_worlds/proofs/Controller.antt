@@ -65,6 +65,8 @@ use Rattle.asking_worlds.specs.Asking.{Sides, Asking, has_left, left_with, HasCo
 use Rattle.asking_worlds.specs.AskingLaws.{ControllerKeepsAsking}
 use Rattle.asking_worlds.proofs.Has.{asking_of}
 use Rattle.asking_worlds.proofs.Names.{opens_is, opened_is, left_is, not_met, one_of, has_device}
+use Rattle.asking_worlds.specs.Missed.{NoneMissed, MissesNone}
+use Rattle.asking_worlds.proofs.Missed.{walk_unmissed}
 
 -- ---- queues whose windows go on
 
@@ -100,6 +102,13 @@ module _ {W : Type 0} (begins : W → ℕ → Bool → W → Type 0) (transacts 
       subst (λ (h : Hand). IsDone h now n b i xs) (sym m.hand_stays) (subst (λ (ps : StructureSets). IsDone hand ps n b i xs) (sym m.parts_stay) k)
   done_still n b i xs (a_step k) keeps done =
       done_kept transacts member parts hand (walk_place c).walk.reply wire after now later n b i xs controlled.ring.members controlled.ring.in_hand (λ a t there off. (keeps n).idle a t there off) k.streams done
+
+-- ---- no microframe is missed
+
+event_unmissed : {W : Type 0} (begins : W → ℕ → Bool → W → Type 0) (transacts : W → Ask → List ℕ → Reply → W → Type 0) (parts : StructureSets) (hand : Hand) (wire after : W) (now : StructureSets) (later : Hand)
+    → ControlEffect begins transacts parts hand wire after now later → NoneMissed parts → MissesNone hand → NoneMissed now × MissesNone later
+event_unmissed begins transacts parts hand wire after now later (a_microframe m) none had = (subst NoneMissed (sym m.parts_stay) none, subst MissesNone (sym m.hand_stays) had)
+event_unmissed begins transacts parts hand wire after now later (a_step k) none had = walk_unmissed transacts parts hand wire after now later k.kind k.effect none had
 
 -- ---- the event
 
@@ -318,6 +327,9 @@ module _ (g : Sides) (fixed : Fixed) (takes : ℕ → ℕ → Bool) (member : �
             };
           }) (q.counts e z is off)
 
+  unmissed_then : NoneMissed (beside fixed takes member x s w k).event.event.now × MissesNone (beside fixed takes member x s w k).event.event.later
+  unmissed_then = event_unmissed begins_by transacts_by s.parts s.hand (wired fixed w) (wired fixed new) event.now event.later event.effect q.unmissed.structures q.unmissed.in_hand
+
   pub asking_beside : IsAskingWorld g fixed member (standing_after fixed takes member x s w k) (record { courses = courses_after goes.step a.courses; numbers = a.numbers }) (after_event fixed w v) asks (controller_next fixed w)
   asking_beside = record {
     stand = goes.stand;
@@ -331,6 +343,7 @@ module _ (g : Sides) (fixed : Fixed) (takes : ℕ → ℕ → Bool) (member : �
     unopened = λ addr num c least none first.
         device_stays addr num c least (λ e z here met address number. met.there.linked (opened_is w.driver.command z.queue (and_parts (opens w.driver.command z.queue) (not z.gone) (none e z here address number)).0)) (q.unopened addr num c least none first);
     untold = q.untold;
+    unmissed = record { structures = unmissed_then.0; in_hand = unmissed_then.1; first = q.unmissed.first };
   }
 
 pub controller_asking : ControllerKeepsAsking

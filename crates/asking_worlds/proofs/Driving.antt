@@ -3,6 +3,7 @@ use Rattle.std.proofs.Common.{◌≡◌, ℕ, ◌*◌, cond, nat_eq, Bool, true,
 use Rattle.std.specs.Prelude.{nat_le}
 use Rattle.usb_base.specs.declared.endpoints.EndCause.{EndCause}
 use Rattle.usb_base.specs.declared.endpoints.EndCause.TheVariants as causes
+use Rattle.usb_base.specs.declared.packets.EpKind.TheVariants as kinds
 use Rattle.usb_base.specs.declared.reports.What.{What}
 use Rattle.usb_base.specs.declared.reports.What.TheVariants as lines
 use Rattle.usb_bus.specs.Bus.{Fixed}
@@ -24,13 +25,15 @@ use Rattle.chained_transfers.proofs.Ways.{found_by, moves_queued}
 use Rattle.bus_world.specs.World.{World, driver_parts, driver_next}
 use Rattle.stream_worlds.specs.Streaming.{Streams, Standing}
 use Rattle.world_requests.specs.Recorded.{Windows}
+use Rattle.feeding_worlds.proofs.Told.{control_kind}
 use Rattle.whole_worlds.specs.Whole.{IsWhole}
 use Rattle.whole_worlds.proofs.Leaving.{due}
 use Rattle.whole_worlds.proofs.Rows.{after_each}
-use Rattle.asking_worlds.specs.Asking.{Sides, Asking, IsControlOf, IsAskingWorld, HasAskingWorld}
+use Rattle.asking_worlds.specs.Asking.{Sides, Asking, IsAskingWorld, HasAskingWorld}
 use Rattle.asking_worlds.specs.Reading.{AreSilent}
 use Rattle.asking_worlds.specs.WorldLaws.{DriverKeepsAsking}
-use Rattle.asking_worlds.proofs.Left.{RowsLeft}
+use Rattle.asking_worlds.proofs.Missed.{harvest_unmissed}
+use Rattle.asking_worlds.proofs.Ended.{piece_here, qtd_here}
 use Rattle.asking_worlds.proofs.Still.{still_asking}
 use Rattle.asking_worlds.proofs.Publishing.{lend_keeps_asking, store_keeps_asking}
 use Rattle.asking_worlds.proofs.OpenLending.{open_lend_asking}
@@ -71,7 +74,7 @@ read_as : (sort : Sort) (last : Bool) (note : QtdNote) (t : Token) (n : ℕ) (wh
 read_as sort last note t n what is =
     ends_as t.active t.halted (ends_by sort last t.total) (moved_of note.told t.total) n (halt_of t) what (halt_as t.missed t.babble (nat_eq t.cerr 0)) (sym is)
 
-module _ (left : RowsLeft) (g : Sides) (fixed : Fixed) (takes : ℕ → ℕ → Bool) (member : ℕ → Bool) (x : Streams) (s : Standing) (a : Asking) (v : Windows) (asks : ℕ → Request) (w : World)
+module _ (g : Sides) (fixed : Fixed) (takes : ℕ → ℕ → Bool) (member : ℕ → Bool) (x : Streams) (s : Standing) (a : Asking) (v : Windows) (asks : ℕ → Request) (w : World)
     (k : IsWhole fixed takes member x s w) (head : x.endpoint (32 * head_block) ≡ endpoint_of opening_head) (silent : AreSilent w.driver) (q : IsAskingWorld g fixed member s a v asks w) where
   abbrev So : Type 0
   So = HasAskingWorld g fixed takes x.stream x.packets v asks (driver_next w)
@@ -85,17 +88,21 @@ module _ (left : RowsLeft) (g : Sides) (fixed : Fixed) (takes : ℕ → ℕ → 
       → found ≡ found_in r.transfer.sort (nat_le r.transfer.left 1) (note_at w.driver.notes r.transfer.place) (token_in w.memory r.transfer.place)
   found_is e t found r = r.tells ∙ found_by w.driver w.memory r.transfer r.transfer.sort (moves_queued w.driver r.transfer (k.feeding.turns.asynchronous.moves t r.transfer r.there))
 
-  its_own : (e t n : ℕ) (what : What) (z : Endpoint) → driver_row (driver_parts w) ≡ rows.Harvest e t (founds.Ended n what) → IsControlOf w.driver e z → EndsAs what → So
-  its_own e t n what z row of (as_done is) =
-      done_asking g fixed takes member x s a v asks w e t n z (row ∙ ap (λ (u : What). rows.Harvest e t (founds.Ended n u)) is) of head k silent q
-  its_own e t n what z row of (as_halt cause is) =
-      halt_asking g fixed takes member x s a v asks w e t n cause z (row ∙ ap (λ (u : What). rows.Harvest e t (founds.Ended n u)) is) of head k silent q
-  its_own e t n what z row of (as_miss is) =
-      absurd (left.misses g fixed takes member x s a v asks w e t n z (row ∙ ap (λ (u : What). rows.Harvest e t (founds.Ended n u)) is) of k q)
+  its_own : (e t n : ℕ) (what : What) → driver_row (driver_parts w) ≡ rows.Harvest e t (founds.Ended n what) → (r : IsHarvestDue (driver_parts w) e t (founds.Ended n what)) → is_control r.endpoint.desc.kind ≡ true → EndsAs what → So
+  its_own e t n what row r on (as_done is) =
+      done_asking g fixed takes member x s a v asks w e t n r.endpoint (row ∙ ap (λ (u : What). rows.Harvest e t (founds.Ended n u)) is) (record { here = r.here; control = on }) head k silent q
+  its_own e t n what row r on (as_halt cause is) =
+      halt_asking g fixed takes member x s a v asks w e t n cause r.endpoint (row ∙ ap (λ (u : What). rows.Harvest e t (founds.Ended n u)) is) (record { here = r.here; control = on }) head k silent q
+  -- that bit is of split transactions (3.5.3)
+  its_own e t n what row r on (as_miss is) =
+      let control : r.endpoint.desc.kind ≡ kinds.Control = control_kind r.endpoint.desc.kind on in
+      absurd
+      (harvest_unmissed (driver_parts w) e t n (32 * r.endpoint.queue) what r s.parts (piece_here g fixed takes member x s a v asks w e t (founds.Ended n what) r control k silent q).qtd k.feeding.turns.asynchronous
+      k.feeding.working.streaming.controlled.ring.tells (qtd_here g fixed takes member x s a v asks w e t (founds.Ended n what) r control k silent q) q.unmissed.structures is)
 
   ended : (e t n : ℕ) (what : What) → driver_row (driver_parts w) ≡ rows.Harvest e t (founds.Ended n what) → (r : IsHarvestDue (driver_parts w) e t (founds.Ended n what)) (b : Bool) → is_control r.endpoint.desc.kind ≡ b → So
   ended e t n what row r true on =
-      its_own e t n what r.endpoint row (record { here = r.here; control = on })
+      its_own e t n what row r on
       (read_as r.transfer.sort (nat_le r.transfer.left 1) (note_at w.driver.notes r.transfer.place) (token_in w.memory r.transfer.place) n what (found_is e t (founds.Ended n what) r))
   ended e t n what row r false off =
       beside_ended g fixed takes member x s a v asks w e t n what row
@@ -129,5 +136,5 @@ module _ (left : RowsLeft) (g : Sides) (fixed : Fixed) (takes : ℕ → ℕ → 
         release = λ t row. release_asking g fixed takes member x s a v asks w t row head k q;
       })
 
-pub driver_asking : RowsLeft → DriverKeepsAsking
-driver_asking left g fixed takes member x s a v asks w k head silent q = each_row left g fixed takes member x s a v asks w k head silent q
+pub driver_asking : DriverKeepsAsking
+driver_asking g fixed takes member x s a v asks w k head silent q = each_row g fixed takes member x s a v asks w k head silent q

@@ -68,6 +68,7 @@ use Rattle.asking_worlds.proofs.Has.{asking_of}
 use Rattle.asking_worlds.proofs.Leaving.{IsQuiet, idle_quiet, IsEndpointStill, gone_by}
 use Rattle.asking_worlds.proofs.Moves.{set_else, first_one, second_one}
 use Rattle.asking_worlds.proofs.Names.{one_of}
+use Rattle.asking_worlds.proofs.Missed.{idle_misses}
 
 -- ---- the qTDs of a request with data
 
@@ -386,6 +387,7 @@ module _ (g : Sides) (fixed : Fixed) (takes : ℕ → ℕ → Bool) (member : �
       counts = counts_now;
       unopened = λ addr num c some none first. q.unopened addr num c some (unopened_was addr num none) first;
       untold = untold_now;
+      unmissed = idle_misses w.driver new s.parts s.hand idle_now q.unmissed;
     }
 
     pub asking_then : IsAskingWorld g fixed member (record s { out = left.out; reported = left.reported }) b v asks (driver_next w)

@@ -57,6 +57,7 @@ use Rattle.asking_worlds.proofs.Leaving.{idle_quiet, WasEndpoint, IsEndpointStil
 use Rattle.asking_worlds.proofs.Beside.{owner_of, stand_beside}
 use Rattle.asking_worlds.proofs.Names.{one_of}
 use Rattle.asking_worlds.proofs.Releasing.{next_is}
+use Rattle.asking_worlds.proofs.Missed.{release_unmissed}
 
 -- whether a line of the report tells it, the rest of the content is the same
 told_same : {X : Type 0} (f : DriverContent → X) (g d : DriverContent) (b : Bool) → f g ≡ f d → f (if b then g else d) ≡ f d
@@ -296,7 +297,7 @@ module _ (g : Sides) (fixed : Fixed) (takes : ℕ → ℕ → Bool) (member : �
   -- ---- the world
 
   world : IsAskingWorld g fixed member (released s own) (record { courses = a.courses; numbers = a.numbers }) v asks (with_parts w after)
-  world = world_left g fixed member s a v asks w after leaves z tells unheard member (released s own) a.courses stand recorded (each_still g fixed member s a v asks w after leaves z) reads
+  world = world_left g fixed member s a v asks w after leaves z tells unheard member (released s own) a.courses (release_unmissed s.parts (32 * own.queue) (λ i. true) z.unmissed.structures) z.unmissed.in_hand stand recorded (each_still g fixed member s a v asks w after leaves z) reads
 
   driver_is : after ≡ after_driver_row (driver_row (driver_parts w)) (driver_parts w)
   driver_is = sym row_is ∙ ap (λ (r : DriverRow). after_driver_row r (driver_parts w)) (sym row)

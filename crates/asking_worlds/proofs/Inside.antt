@@ -26,6 +26,7 @@ use Rattle.asking_transfers.specs.Records.{AreRecords}
 use Rattle.asking_transfers.specs.Counts.{counted_all}
 use Rattle.asking_transfers.proofs.Rows.{kept_recorded}
 use Rattle.asking_worlds.specs.Asking.{Sides, IsGiven, Asking, has_left, is_next_of, HasCourse, IsPublishing, IsReadTo, HasTelling, is_opening, IsUnopened, IsUnheard, IsControlOf, IsMetControl, IsAskingWorld}
+use Rattle.asking_worlds.specs.Missed.{MissNone}
 
 -- ---- by its parts
 
@@ -46,6 +47,7 @@ pub record AsksIn (g : Sides) (member : ℕ → Bool) (parts : StructureSets) (h
   pub counts : (e : ℕ) (x : Endpoint) → IsControlOf d e x → is_opening d x ≡ false → IsCountedOn wire d v e x
   pub unopened : (addr num : ℕ) (c : Device) → 1 ≤ addr → IsUnopened d addr num → g.first addr num ≡ Some c → control_of wire addr num ≡ Some c
   pub untold : (name : EpName) → IsUnheard d name → lines_in name d.reports ≡ []
+  pub unmissed : MissNone d parts hand
 
 module _ (g : Sides) (fixed : Fixed) (member : ℕ → Bool) (s : Standing) (a : Asking) (v : Windows) (asks : ℕ → Request) (w : World) where
   pub inside : IsAskingWorld g fixed member s a v asks w → AsksIn g member s.parts s.hand a v asks w.driver w.memory (wired fixed w)
@@ -60,6 +62,7 @@ module _ (g : Sides) (fixed : Fixed) (member : ℕ → Bool) (s : Standing) (a :
     counts = λ e x is off. let k = q.counts e x is off in record { device = k.device; is = k.is; acted = k.acted };
     unopened = q.unopened;
     untold = q.untold;
+    unmissed = record { structures = q.unmissed.structures; in_hand = q.unmissed.in_hand; first = q.unmissed.first };
   }
 
   pub outside : AsksIn g member s.parts s.hand a v asks w.driver w.memory (wired fixed w) → IsAskingWorld g fixed member s a v asks w
@@ -74,6 +77,7 @@ module _ (g : Sides) (fixed : Fixed) (member : ℕ → Bool) (s : Standing) (a :
     counts = λ e x is off. let k = q.counts e x is off in record { device = k.device; is = k.is; acted = k.acted };
     unopened = q.unopened;
     untold = q.untold;
+    unmissed = record { structures = q.unmissed.structures; in_hand = q.unmissed.in_hand; first = q.unmissed.first };
   }
 
 -- ---- the driver goes on with its command
@@ -97,12 +101,12 @@ module _ (g : Sides) (member : ℕ → Bool) (parts now : StructureSets) (hand :
     met = record { there = record { linked = k.met.there.linked; kept = k.met.there.kept }; near = k.met.near };
   }
 
-  pub goes_on : CoursesStand control_of member a.courses now hand wire
+  pub goes_on : MissNone (record d { book = book; made = made }) now hand → CoursesStand control_of member a.courses now hand wire
       → ((e : ℕ) (x : Endpoint) → IsMetControl d e x → is_next_of d e ≡ true → IsPublishing onward new x (now (32 * x.queue)) (a.courses (32 * x.queue)) (a.numbers (32 * x.queue)))
       → ((e t : ℕ) (x : Endpoint) (y : Transfer) → IsMetControl d e x → told_end x ≡ None → x.next ≡ Some t → slice_get d.transfers t ≡ Some y
       → IsReadTo hand now (32 * x.queue) (note_at d.notes) y ((a.numbers (32 * x.queue)).requests.requests 0))
       → AsksIn g member now hand a v asks onward new wire
-  goes_on stand publishing read = record {
+  goes_on unmissed stand publishing read = record {
     stand = stand;
     records = kept_recorded d onward asks a.courses a.numbers (has_left d) v (same_requests d book made d.command) refl q.records;
     each = λ e x is.
@@ -117,4 +121,5 @@ module _ (g : Sides) (member : ℕ → Bool) (parts now : StructureSets) (hand :
     counts = λ e x is off. let k = q.counts e x (record { here = is.here; control = is.control }) off in record { device = k.device; is = k.is; acted = k.acted };
     unopened = q.unopened;
     untold = q.untold;
+    unmissed = unmissed;
   }

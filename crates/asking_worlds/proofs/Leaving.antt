@@ -30,12 +30,15 @@ use Rattle.asking_transfers.specs.Counts.{counted_all}
 use Rattle.asking_reports.specs.Telling.{IsTelling}
 use Rattle.feeding_worlds.specs.Tails.{tail_block, tail_of}
 use Rattle.asking_worlds.specs.Asking.{Sides, IsGiven, Asking, has_left, is_publishing, is_next_of, HasCourse, IsReadTo, HasTelling, IsCounted, is_opening, IsUnopened, IsUnheard, IsControlOf, IsMetControl, IsAskingWorld}
+use Rattle.asking_worlds.specs.Missed.{NoneMissed, MissesNone, PublishesNone}
+use Rattle.asking_worlds.proofs.Missed.{none_published, open_published, unlink_published}
 
 -- ---- no transfer is being published
 
 pub record IsQuiet (d : DriverContent) : Type 0 where
   pub none : (e : ℕ) → is_next_of d e ≡ false
   pub tail : (e : ℕ) (x : Endpoint) → tail_of d e x ≡ 32 * x.dummy
+  pub first : PublishesNone d
 
 module _ (d : DriverContent) where
   abbrev newest : Option Transfer
@@ -45,18 +48,21 @@ module _ (d : DriverContent) where
   idle_quiet is = record {
     none = λ e. ap (λ (c : Option Command). is_publishing c newest e) is;
     tail = λ e x. ap (λ (c : Option Command). 32 * tail_block c newest e x.dummy) is;
+    first = none_published d is;
   }
 
   pub open_quiet : (b : ℕ) → d.command ≡ Some (unfinished.Open b) → IsQuiet d
   open_quiet b is = record {
     none = λ e. ap (λ (c : Option Command). is_publishing c newest e) is;
     tail = λ e x. ap (λ (c : Option Command). 32 * tail_block c newest e x.dummy) is;
+    first = open_published d b is;
   }
 
   pub unlink_quiet : (e b link : ℕ) → d.command ≡ Some (unfinished.Unlink e b link) → IsQuiet d
   unlink_quiet f b link is = record {
     none = λ e. ap (λ (c : Option Command). is_publishing c newest e) is;
     tail = λ e x. ap (λ (c : Option Command). 32 * tail_block c newest e x.dummy) is;
+    first = unlink_published d f b link is;
   }
 
 -- ---- endpoints
@@ -192,13 +198,13 @@ module _ (g : Sides) (fixed : Fixed) (member : ℕ → Bool) (s : Standing) (a :
         }
 
     -- of the queues and of what is read it is told apart
-    pub world_left : (wider : ℕ → Bool) (later : Standing) (courses : ℕ → Course) → CoursesStand control_of wider courses later.parts later.hand (wired fixed w)
+    pub world_left : (wider : ℕ → Bool) (later : Standing) (courses : ℕ → Course) → NoneMissed later.parts → MissesNone later.hand → CoursesStand control_of wider courses later.parts later.hand (wired fixed w)
         → AreRecords q.driver asks courses a.numbers (has_left q.driver) v
         → ((e : ℕ) (x : Endpoint) → IsMetControl q.driver e x → HasCourse g q.driver e x (courses (32 * x.queue)) (a.numbers (32 * x.queue)))
         → ((e t : ℕ) (x : Endpoint) (y : Transfer) → IsMetControl q.driver e x → told_end x ≡ None → x.next ≡ Some t → slice_get q.driver.transfers t ≡ Some y
         → IsReadTo later.hand later.parts (32 * x.queue) (note_at q.driver.notes) y ((a.numbers (32 * x.queue)).requests.requests 0))
         → IsAskingWorld g fixed wider later (record { courses = courses; numbers = a.numbers }) v asks (with_parts w q)
-    world_left wider later courses stand records each read = record {
+    world_left wider later courses none none_held stand records each read = record {
       stand = stand;
       records = records;
       each = each;
@@ -209,6 +215,7 @@ module _ (g : Sides) (fixed : Fixed) (member : ℕ → Bool) (s : Standing) (a :
       counts = counts_still;
       unopened = λ addr num c some u first. z.unopened addr num c some (unopened_was w.driver q.driver k addr num u) first;
       untold = λ name u. lines name u ∙ z.untold name (unheard_was w.driver q.driver k name u);
+      unmissed = record { structures = none; in_hand = none_held; first = k.quiet_now.first };
     }
 
   -- the same queues

@@ -1,11 +1,11 @@
 -- The driver of a world lends a transfer: its requests stand as they did, and where it is one it is coming.
-use Rattle.std.proofs.Common.{◌≡◌, ◌≢◌, ℕ, suc, ◌-◌, ◌*◌, ◌<◌, Bool, true, List, [], ◌∷◌, length, slice_get, if◌then◌else◌, Option, Some, None, option_map, ap, refl, sym, subst, ◌∙◌, ⊎_elim, inl, inr, arith}
+use Rattle.std.proofs.Common.{◌≡◌, ◌≢◌, ℕ, suc, ◌-◌, ◌*◌, ◌<◌, Bool, true, false, List, [], ◌∷◌, length, slice_get, if◌then◌else◌, Option, Some, None, option_map, ap, refl, sym, subst, ◌∙◌, ⊎_elim, inl, inr, arith}
 use Rattle.std.specs.Prelude.{◌⊎◌}
 use Rattle.std.proofs.lemmas.Bool.{cases_eq}
 use Rattle.std.proofs.lemmas.Option.{same_Some}
 use Rattle.word_mem.specs.Memory.{Mem, IsShaped}
 use Rattle.qh_qtd.specs.declared.qtd.Qtd.{Qtd}
-use Rattle.qh_qtd.specs.Qtd.{qtd_words}
+use Rattle.qh_qtd.specs.Qtd.{qtd_words, IsQtdInRange}
 use Rattle.run_book.specs.declared.slots.Slot.{Slot}
 use Rattle.run_book.specs.Book.{lend_taken, holding, slot_of, Stands}
 use Rattle.usb_bus.specs.Bus.{Fixed}
@@ -30,7 +30,7 @@ use Rattle.fed_lends.specs.ToLend.{IsToBeLent, lent_now}
 use Rattle.fed_lends.proofs.Reporting.{same_hand}
 use Rattle.fed_lends.proofs.Row.{after_is}
 use Rattle.publish_laws.proofs.Apart.{dummy_placed}
-use Rattle.lent_structures.specs.Structures.{Element, StructureSets, Tells}
+use Rattle.lent_structures.specs.Structures.{Element, StructureSets, Tells, Structure, Structures, QueueHead}
 use Rattle.driver_laws.specs.Inventory.{IsPieceOf}
 use Rattle.driver_laws.specs.Pieces.{stage_qtd, IsNewQtd}
 use Rattle.driver_laws.specs.Published.{partly, IsPublishable}
@@ -61,6 +61,11 @@ use Rattle.asking_worlds.specs.Asking.{Sides, Asking, is_publishing, is_next_of,
 use Rattle.asking_worlds.proofs.Awaited.{one_qtd, ranged, pieces_as, apart_awaits}
 use Rattle.asking_worlds.proofs.Inside.{AsksIn, inside, outside, goes_on}
 use Rattle.asking_worlds.proofs.Newest.{tail_next, fewer, same_places, laid_at, owner_at, not_asked}
+use Rattle.asking_worlds.specs.Missed.{NoneMissed, PublishesNoneBy}
+use Rattle.lent_structures.specs.Sound.{IsMember}
+use Rattle.fed_queues.proofs.Places.{stands_met}
+use Rattle.qh_qtd.specs.declared.queue_head.Qh.{Qh}
+use Rattle.driver_rows.specs.declared.content.QtdNote.{QtdNote}
 
 -- ---- whose the new qTDs are
 
@@ -81,6 +86,19 @@ no_dummy t e same = cc
 -- the newest transfer is of this endpoint
 pub next_is : (o : Option Transfer) (y : Transfer) (e b : ℕ) (words : List ℕ) → o ≡ Some y → is_publishing (Some (unfinished.Publish b words)) o e ≡ true → y.endpoint ≡ e
 next_is o y e b words there is = same_by_test y.endpoint e (sym (ap (λ (z : Option Transfer). is_publishing (Some (unfinished.Publish b words)) z e) there) ∙ is)
+
+-- ---- what is lent tells no missed microframe
+
+new_unmissed : (notes : List QtdNote) (dummy : ℕ) (ss : List Stage) (b c : ℕ) (t : Qtd) → IsNewQtd notes dummy ss b c t → t.token.missed ≡ false
+new_unmissed notes dummy [] b c t new = ap (λ (u : Qtd). u.token.missed) new.1
+new_unmissed notes dummy (s ∷ ss) b c t (inl new) = ap (λ (u : Qtd). u.token.missed) new.1
+new_unmissed notes dummy (s ∷ ss) b c t (inr new) = new_unmissed notes dummy ss (note_at notes b).next c t new
+
+one_head : (q h : Qh) → ◌≡◌ {A = Option Structure} (Some (QueueHead q)) (Some (QueueHead h)) → q ≡ h
+one_head q h same = cc
+
+no_open : (b c : ℕ) (words : List ℕ) → ◌≡◌ {A = Option Command} (Some (unfinished.Publish b words)) (Some (unfinished.Open c)) → ⊥
+no_open b c words same = cc
 
 module _ (g : Sides) (fixed : Fixed) (takes : ℕ → ℕ → Bool) (member : ℕ → Bool) (x : Streams) (s : Standing) (a : Asking) (v : Windows) (asks : ℕ → Request) (w : World) (b : ℕ) (words : List ℕ) (get : IsToBeLent w.driver w.memory b words)
     (k : IsWhole fixed takes member x s w) (world : IsAskingWorld g fixed member s a v asks w) where
@@ -300,10 +318,43 @@ module _ (g : Sides) (fixed : Fixed) (takes : ℕ → ℕ → Bool) (member : �
         rest = k.rest;
       }
 
+  -- ---- no microframe is missed
+
+  its_member : IsMember member (32 * get.endpoint.queue) (s.parts (32 * get.endpoint.queue))
+  its_member =
+      k.feeding.working.streaming.controlled.ring.members (32 * get.endpoint.queue)
+      (k.feeding.queues.met.each get.transfer.endpoint get.endpoint get.here
+      (stands_met d get.transfer.endpoint get.endpoint (only.endpoints get.transfer.endpoint get.endpoint get.here) get.going (λ opens. no_open b get.endpoint.queue words (sym get.command ∙ opens))))
+
+  unmissed_then : NoneMissed l.parts
+  unmissed_then = record {
+    heads = λ n h here.
+        ⊎_elim {C = h.token.missed ≡ false}
+        (λ (same : n ≡ 32 * get.endpoint.queue).
+        let there : now (32 * get.endpoint.queue) (32 * get.endpoint.queue) ≡ Some (QueueHead its_member.queue) = l.still (32 * get.endpoint.queue) (32 * get.endpoint.queue) (QueueHead its_member.queue) its_member.here in
+        let one : its_member.queue ≡ h = one_head its_member.queue h (sym there ∙ ap (λ (i : ℕ). now i i) (sym same) ∙ here) in
+        ap (λ (i : Qh). i.token.missed) (sym one) ∙ world.unmissed.structures.heads (32 * get.endpoint.queue) its_member.queue its_member.here)
+        (λ (differs : n ≢ 32 * get.endpoint.queue). world.unmissed.structures.heads n h (sym (ap (λ (part : Structures). part n) (its.beside n differs)) ∙ here)) (cases_eq n (32 * get.endpoint.queue));
+    elements = λ n c t here.
+        ⊎_elim {C = t.token.missed ≡ false}
+        (λ (same : n ≡ 32 * get.endpoint.queue).
+        ⊎_elim {C = t.token.missed ≡ false} (λ (was : s.parts (32 * get.endpoint.queue) c ≡ Some (Element t)). world.unmissed.structures.elements (32 * get.endpoint.queue) c t was)
+        (λ (new : IsNewQtd d.notes get.endpoint.dummy get.further (note_at d.notes get.transfer.first).next c t). new_unmissed d.notes get.endpoint.dummy get.further (note_at d.notes get.transfer.first).next c t new)
+        (its.elements c t (sym (ap (λ (i : ℕ). now i c) same) ∙ here)))
+        (λ (differs : n ≢ 32 * get.endpoint.queue). world.unmissed.structures.elements n c t (sym (ap (λ (part : Structures). part c) (its.beside n differs)) ∙ here)) (cases_eq n (32 * get.endpoint.queue));
+  }
+
+  first_then : (t : Qtd) → words ≡ qtd_words t → IsQtdInRange t → t.token.missed ≡ false
+  first_then t is range =
+      let setup : Qtd = stage_qtd d.notes get.stage get.transfer.first get.endpoint.dummy (is_last get.further) in
+      ap (λ (u : Qtd). u.token.missed)
+      (one_qtd t setup range (ranged d m stands shape get.stage get.transfer.first get.endpoint.dummy (is_last get.further) get.awaits.pids.0 get.awaits.short.0 get.awaits.noted.0) (sym is ∙ get.are))
+
   -- ---- the whole
 
   pub asking_lent : IsAskingWorld g fixed member (after_lend fixed takes member x s w b words get k) a v asks (driver_next w)
   asking_lent =
       outside g fixed member (after_lend fixed takes member x s w b words get k) a v asks (driver_next w)
       (subst (λ (i : DriverContent). AsksIn g member l.parts s.hand a v asks i (driver_next w).memory (wired fixed w)) (sym l.driver_is)
-      (goes_on g member s.parts l.parts s.hand a v asks d m (driver_next w).memory (wired fixed w) (lend_taken (holding d.book m)).book 1 q stand_then (λ e z is next. publishing_then e z is next (driver_next w).memory) read_then))
+      (goes_on g member s.parts l.parts s.hand a v asks d m (driver_next w).memory (wired fixed w) (lend_taken (holding d.book m)).book 1 q
+      (record { structures = unmissed_then; in_hand = world.unmissed.in_hand; first = subst (PublishesNoneBy 1) (sym get.command) (λ some. first_then) }) stand_then (λ e z is next. publishing_then e z is next (driver_next w).memory) read_then))

@@ -5,6 +5,7 @@ pub mod Still
 pub mod NewWorld
 pub mod Scripts
 pub mod Given
+pub mod Missed
 pub mod Silent
 pub mod SilentCommands
 pub mod Moments
@@ -41,8 +42,6 @@ pub mod GivenBack
 pub mod Ending
 pub mod EndedBeside
 pub mod Endings
-pub mod Left
 pub mod Driving
 pub mod Commanded
 pub mod Together
-pub mod Missed

@@ -64,6 +64,7 @@ use Rattle.asking_worlds.specs.Rows.{MendKeepsAsking, IsHeadOfNone}
 use Rattle.asking_worlds.proofs.Has.{asking_of}
 use Rattle.asking_worlds.proofs.Leaving.{idle_quiet, same_endpoint, RowLeaves, gone_by, each_still, world_left}
 use Rattle.asking_worlds.proofs.Beside.{HasOwner, one_queue, owner_of, stand_beside}
+use Rattle.asking_worlds.proofs.Missed.{writing_unmissed, stale_unmissed}
 
 -- ---- the stores that are left
 
@@ -118,6 +119,11 @@ still_idle : (b made : ℕ) (q : Qh) → q.token.active ≡ false → (mended_by
 still_idle b zero q off = off
 still_idle b (suc zero) q off = off
 still_idle b (suc (suc k)) q off = refl
+
+mended_unmissed : (b made : ℕ) (q : Qh) → q.token.missed ≡ false → (mended_by b made q).token.missed ≡ false
+mended_unmissed b zero q off = off
+mended_unmissed b (suc zero) q off = off
+mended_unmissed b (suc (suc k)) q off = refl
 
 and_false : (b : Bool) → (b && false) ≡ false
 and_false true = refl
@@ -361,7 +367,10 @@ module _ (g : Sides) (fixed : Fixed) (takes : ℕ → ℕ → Bool) (member : �
       (subst (λ (c : DriverContent). IsAskingWorld g fixed member (mended s at) (record { courses = courses; numbers = a.numbers }) v asks (with_parts w (record { driver = c; registers = (driver_next w).registers; memory = (driver_next w).memory })))
       (sym is_mended.driver)
       (world_left g fixed member s a v asks w then_parts leaves z (λ e y c. record { lines = refl; telling = λ reported waits t. record { numbers = t.numbers; told = t.told; wait = t.wait } }) (λ name u. refl)
-      member (mended s at) courses stand records each reads)) head
+      member (mended s at) courses
+      (writing_unmissed s.parts (32 * at.stalled.queue) (32 * at.stalled.queue) (QueueHead (mended_head at.stalled (head_at at)))
+      (mended_unmissed at.stalled.onward at.stalled.made (head_at at) (z.unmissed.structures.heads (32 * at.stalled.queue) (head_at at) at.are.wait.0.stands.here)) z.unmissed.structures)
+      (stale_unmissed (32 * at.stalled.queue) s.hand z.unmissed.in_hand) stand records each reads)) head
 
   still : CoursesStand control_of member a.courses (parts_then at) (hand_then at s.hand) (wired fixed w) → HasAskingWorld g fixed takes x.stream x.packets v asks (driver_next w)
   still stand = world_by a.courses stand recorded (each_still g fixed member s a v asks w then_parts leaves z)

@@ -1,5 +1,5 @@
 -- A transaction leaves the bit of a missed microframe, and so does each event of the walk of the ring; nothing that a driver writes for a ring's endpoint sets it.
-use Rattle.std.proofs.Common.{◌≡◌, ◌≢◌, ℕ, ◌*◌, Bool, true, false, ◌==◌, cond, nat_eq, nat_le, if◌then◌else◌, List, Option, Some, None, ap, sym, subst, ◌∙◌, ⊎_elim, refl}
+use Rattle.std.proofs.Common.{◌≡◌, ◌≢◌, ℕ, zero, suc, ◌*◌, ◌≤◌, Bool, true, false, ◌==◌, cond, nat_eq, nat_le, if◌then◌else◌, List, Option, Some, None, ap, sym, subst, ◌∙◌, ⊎_elim, refl, arith}
 use Rattle.usb_base.specs.declared.endpoints.EndCause.TheVariants as causes
 use Rattle.usb_base.specs.declared.endpoints.EpDesc.{EpDesc}
 use Rattle.usb_base.specs.declared.packets.Ask.{Ask}
@@ -18,12 +18,15 @@ use Rattle.toggle_error.specs.declared.rows.StartRow.TheVariants.{Accepted, Decl
 use Rattle.toggle_error.specs.PlainRows.{after_plain}
 use Rattle.toggle_error.specs.SplitRows.{after_start, after_complete}
 use Rattle.toggle_error.specs.Settle.{settle_row, after_settle_row}
+use Rattle.link_words.specs.declared.fields.LinkBits.{LinkBits}
 use Rattle.qh_qtd.specs.declared.qtd.Qtd.{Qtd}
 use Rattle.qh_qtd.specs.declared.queue_head.Qh.{Qh}
 use Rattle.qh_qtd.specs.declared.token.Token.{Token}
+use Rattle.driver_rows.specs.declared.content.Command.TheVariants as unfinished
 use Rattle.driver_rows.specs.declared.content.QtdNote.{QtdNote}
 use Rattle.driver_rows.specs.declared.content.Stage.{Stage}
 use Rattle.driver_rows.specs.declared.rows.Found.TheVariants as founds
+use Rattle.driver_rows.specs.DriverContent.{DriverContent}
 use Rattle.driver_rows.specs.Harvests.{note_at, token_in, halt_of, moved_of, ends_by, done_of, found_in}
 use Rattle.driver_rows.specs.Rows.{Parts}
 use Rattle.driver_rows.specs.Words.{queue_head, dummy_qtd}
@@ -40,12 +43,14 @@ use Rattle.lent_structures.specs.Structures.{Structure, QueueHead, Element, Stru
 use Rattle.lent_structures.specs.WriteBack.{Received, Nothing, Into, qtd_after, received_parts}
 use Rattle.lent_structures.proofs.Names.{put_found}
 use Rattle.harvested_streams.proofs.Harvesting.{token_read}
-use Rattle.ring_laws.specs.Hand.{Copy, Settlement, settled_queue_of, Hand}
+use Rattle.ring_laws.specs.Hand.{Copy, copied_queue, Settlement, settled_queue_of, Hand, Empty, Copied, Settled, Stale}
 use Rattle.ring_laws.specs.Effects.{received_into, Effect}
 use Rattle.ring_laws.specs.Effects.Effect.{reads, passes, ends, takes, makes, writes_back}
 use Rattle.ring_laws.specs.Fewer.{without_those}
+use Rattle.ring_laws.specs.Stores.{hand_linked, hand_stale}
 use Rattle.driver_laws.specs.Pieces.{stage_qtd}
-use Rattle.asking_worlds.specs.Missed.{IsUnmissed, NoneMissed, MissesNone}
+use Rattle.driver_laws.specs.Published.{partly}
+use Rattle.asking_worlds.specs.Missed.{IsUnmissed, NoneMissed, MissesNone, PublishesNoneBy, PublishesNone, MissNone}
 
 -- ---- a transaction
 
@@ -96,19 +101,77 @@ pub dummy_unmissed : IsUnmissed (Element dummy_qtd)
 dummy_unmissed = refl
 
 pub writing_unmissed : (parts : StructureSets) (n a : ℕ) (s : Structure) → IsUnmissed s → NoneMissed parts → NoneMissed (put parts n a s)
-writing_unmissed parts n a s new none k b t here =
-    ⊎_elim {C = IsUnmissed t} (λ (own : (k ≡ n) × (b ≡ a) × (t ≡ s)). subst IsUnmissed (sym own.2) new) (λ (old : parts k b ≡ Some t). none k b t old) (put_found parts n a s k b t here)
+writing_unmissed parts n a s new none = record {
+  heads = λ k q here. by k k (QueueHead q) here (λ was. none.heads k q was);
+  elements = λ k b t here. by k b (Element t) here (λ was. none.elements k b t was);
+}
+  where
+    by : (k b : ℕ) (t : Structure) → put parts n a s k b ≡ Some t → (parts k b ≡ Some t → IsUnmissed t) → IsUnmissed t
+    by k b t here still =
+        ⊎_elim {C = IsUnmissed t} (λ (own : (k ≡ n) × (b ≡ a) × (t ≡ s)). subst IsUnmissed (sym own.2) new) (λ (old : parts k b ≡ Some t). still old) (put_found parts n a s k b t here)
 
 found_still : (goes : Bool) (o : Option Structure) (s : Structure) → cond goes None o ≡ Some s → o ≡ Some s
 found_still true o s here = absurd (cc)
 found_still false o s here = here
 
+-- where nothing is new
+pub fewer_unmissed : (parts now : StructureSets) → ((n a : ℕ) (s : Structure) → now n a ≡ Some s → parts n a ≡ Some s) → NoneMissed parts → NoneMissed now
+fewer_unmissed parts now was none = record { heads = λ n q here. none.heads n q (was n n (QueueHead q) here); elements = λ n a t here. none.elements n a t (was n a (Element t) here) }
+
 pub release_unmissed : (parts : StructureSets) (n : ℕ) (goes : ℕ → Bool) → NoneMissed parts → NoneMissed (without_those parts n goes)
-release_unmissed parts n goes none k a s here = by (k == n) here
+release_unmissed parts n goes none = fewer_unmissed parts (without_those parts n goes) (λ k a s here. by k a s (k == n) here) none
   where
-    by : (own : Bool) → cond own (λ (b : ℕ). if goes b then None else parts k b) (parts k) a ≡ Some s → IsUnmissed s
-    by true there = none k a s (found_still (goes a) (parts k a) s there)
-    by false there = none k a s there
+    by : (k a : ℕ) (s : Structure) (own : Bool) → cond own (λ (b : ℕ). if goes b then None else parts k b) (parts k) a ≡ Some s → parts k a ≡ Some s
+    by k a s true there = found_still (goes a) (parts k a) s there
+    by k a s false there = there
+
+-- ---- what is in hand once a word was stored
+
+pub linked_unmissed : (n : ℕ) (l : LinkBits) (hand : Hand) → MissesNone hand → MissesNone (hand_linked n l hand)
+linked_unmissed n l Empty none = tt
+linked_unmissed n l (Copied c) none = by (c.at == n)
+  where
+    by : (b : Bool) → (if b then record c.queue { link = l } else c.queue).token.missed ≡ false
+    by true = none
+    by false = none
+linked_unmissed n l (Settled c s) none = none
+linked_unmissed n l (Stale m q) none = tt
+
+pub stale_unmissed : (n : ℕ) (hand : Hand) → MissesNone hand → MissesNone (hand_stale n hand)
+stale_unmissed n Empty none = tt
+stale_unmissed n (Copied c) none = by (c.at == n)
+  where
+    by : (b : Bool) → MissesNone (if b then Stale n (copied_queue c) else Copied c)
+    by true = tt
+    by false = none
+stale_unmissed n (Settled c s) none = none
+stale_unmissed n (Stale m q) none = tt
+
+-- ---- what is being published
+
+pub none_published : (d : DriverContent) → d.command ≡ None → PublishesNone d
+none_published d idle = subst (PublishesNoneBy d.made) (sym idle) tt
+
+pub open_published : (d : DriverContent) (b : ℕ) → d.command ≡ Some (unfinished.Open b) → PublishesNone d
+open_published d b opens = subst (PublishesNoneBy d.made) (sym opens) tt
+
+pub unlink_published : (d : DriverContent) (e b link : ℕ) → d.command ≡ Some (unfinished.Unlink e b link) → PublishesNone d
+unlink_published d e b link unlinks = subst (PublishesNoneBy d.made) (sym unlinks) tt
+
+-- the structures are as they were
+pub idle_misses : (d c : DriverContent) (parts : StructureSets) (hand : Hand) → c.command ≡ None → MissNone d parts hand → MissNone c parts hand
+idle_misses d c parts hand idle none = record { structures = none.structures; in_hand = none.in_hand; first = none_published c idle }
+
+pub partly_unmissed : (t : Qtd) (k : ℕ) → (8 ≤ k → t.token.missed ≡ false) → (partly t k).token.missed ≡ false
+partly_unmissed t zero is = refl
+partly_unmissed t (suc zero) is = refl
+partly_unmissed t (suc (suc zero)) is = refl
+partly_unmissed t (suc (suc (suc zero))) is = refl
+partly_unmissed t (suc (suc (suc (suc zero)))) is = refl
+partly_unmissed t (suc (suc (suc (suc (suc zero))))) is = refl
+partly_unmissed t (suc (suc (suc (suc (suc (suc zero)))))) is = refl
+partly_unmissed t (suc (suc (suc (suc (suc (suc (suc zero))))))) is = refl
+partly_unmissed t (suc (suc (suc (suc (suc (suc (suc (suc k)))))))) is = is (omega arith)
 
 -- ---- an event of the walk
 
@@ -131,13 +194,13 @@ received_unmissed parts n got (Into pages k bs j) none = writing_unmissed parts 
 pub walk_unmissed : {W : Type 0} (transacts : W → Ask → List ℕ → Reply → W → Type 0) (parts : StructureSets) (hand : Hand) (wire after : W) (now : StructureSets) (later : Hand) (kind : WalkStep)
     → Effect transacts parts hand wire after now later kind → NoneMissed parts → MissesNone hand → NoneMissed now × MissesNone later
 walk_unmissed transacts parts hand wire after now later kind (reads k same quiet) none had =
-    (subst NoneMissed (sym same) none, subst MissesNone (sym k.in_hand) (none k.copy.at k.copy.at (QueueHead k.copy.queue) k.here))
+    (subst NoneMissed (sym same) none, subst MissesNone (sym k.in_hand) (none.heads k.copy.at k.copy.queue k.here))
 walk_unmissed transacts parts hand wire after now later kind (passes k same quiet) none had = (subst NoneMissed (sym same) none, subst MissesNone (sym k.nothing) tt)
 walk_unmissed transacts parts hand wire after now later kind (ends k same quiet) none had = (subst NoneMissed (sym same) none, subst MissesNone (sym k.nothing) tt)
 walk_unmissed transacts parts hand wire after now later kind (takes k quiet) none had =
     let c = k.copy in
     let q = advanced c.queue k.element k.qtd in
-    let new : q.token.missed ≡ false = advanced_missed c.queue k.element k.qtd ∙ none c.at k.element (Element k.qtd) k.here in
+    let new : q.token.missed ≡ false = advanced_missed c.queue k.element k.qtd ∙ none.elements c.at k.element k.qtd k.here in
     (subst NoneMissed (sym k.now_is) (writing_unmissed parts c.at c.at (QueueHead q) new none), subst MissesNone (sym k.later_is) new)
 walk_unmissed transacts parts hand wire after now later kind (makes k same) none had =
     let was : k.copy.queue.token.missed ≡ false = subst MissesNone k.in_hand had in
@@ -152,7 +215,7 @@ walk_unmissed transacts parts hand wire after now later kind (writes_back k quie
     let new : q.token.missed ≡ false = moved_missed c s (moved_by s.outcome) ∙ was in
     let one = received_parts parts c.at s.got r in
     let two = put one c.at c.at (QueueHead (relinked c.queue q)) in
-    let old : k.element.token.missed ≡ false = none c.at c.queue.current (Element k.element) k.here in
+    let old : k.element.token.missed ≡ false = none.elements c.at c.queue.current k.element k.here in
     let all : NoneMissed (put two c.at h.current (Element (qtd_after q k.element))) =
     writing_unmissed two c.at h.current (Element (qtd_after q k.element)) (after_unmissed q k.element q.token.active new old)
     (writing_unmissed one c.at c.at (QueueHead (relinked c.queue q)) new (received_unmissed parts c.at s.got r none)) in
@@ -183,5 +246,5 @@ harvest_unmissed p e t k n what due parts u only tells here none =
     let note = note_at p.driver.notes y.place in
     let token = token_in p.memory y.place in
     let is : founds.Ended k what ≡ found_in y.sort (nat_le y.left 1) note token = due.tells ∙ found_by p.driver p.memory y y.sort (moves_queued p.driver y (only.moves t y due.there)) in
-    let unset : token.missed ≡ false = ap (λ (z : Token). z.missed) (token_read p.memory parts n y.place u tells here) ∙ none n (32 * y.place) (Element u) here in
+    let unset : token.missed ≡ false = ap (λ (z : Token). z.missed) (token_read p.memory parts n y.place u tells here) ∙ none.elements n (32 * y.place) u here in
     found_unmissed token.active token.halted (ends_by y.sort (nat_le y.left 1) token.total) k (moved_of note.told token.total) what (halt_of token) is (halt_unmissed token unset)

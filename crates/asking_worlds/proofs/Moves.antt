@@ -53,6 +53,7 @@ use Rattle.asking_worlds.specs.Moves.{MovedKeepsAsking}
 use Rattle.asking_worlds.proofs.Has.{asking_of}
 use Rattle.asking_worlds.proofs.Reading.{moved_read}
 use Rattle.asking_worlds.proofs.Ended.{reads, same_sent}
+use Rattle.asking_worlds.proofs.Missed.{idle_misses}
 
 -- ---- notes of other blocks
 
@@ -230,6 +231,7 @@ module _ (g : Sides) (fixed : Fixed) (takes : ℕ → ℕ → Bool) (member : �
         record { device = h.device; is = h.is; acted = h.acted ∙ ap (λ (ts : List ℕ). counted_all v ts 0) (sym (numbers_then i)) };
     unopened = q.unopened;
     untold = q.untold;
+    unmissed = idle_misses w.driver f s.parts s.hand is_due.idle q.unmissed;
   }
 
   pub asking_then : IsAskingWorld g fixed member (record s { out = l.out; reported = l.reported }) a v asks (driver_next w)

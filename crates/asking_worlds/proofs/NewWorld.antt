@@ -1,5 +1,5 @@
 -- A new world has no endpoint and no request.
-use Rattle.std.proofs.Common.{◌≡◌, ℕ, zero, suc, ◌*◌, ◌≤◌, Bool, true, List, [], length, slice_get, Option, Some, ap, refl, subst, arith}
+use Rattle.std.proofs.Common.{◌≡◌, ℕ, zero, suc, ◌*◌, ◌≤◌, Bool, true, List, [], length, slice_get, Option, Some, ap, refl, subst, arith, None}
 use Rattle.std.proofs.lemmas.Bool.{false≢true}
 use Rattle.std.proofs.lemmas.List.{length-replicate}
 use Rattle.script_types.specs.declared.scripts.Script.{Script}
@@ -11,8 +11,8 @@ use Rattle.driver_rows.specs.declared.content.Reserve.{Reserve}
 use Rattle.driver_rows.specs.DriverContent.{DriverContent}
 use Rattle.driver_rows.specs.Opening.{opening}
 use Rattle.run_owners.specs.Owners.{TransferRuns, transfer_in, views_of}
-use Rattle.lent_structures.specs.Structures.{Structure, Table}
-use Rattle.driver_laws.specs.PartOpened.{empty_list, opening_parts, is_head}
+use Rattle.lent_structures.specs.Structures.{Structure, Table, QueueHead, Element}
+use Rattle.driver_laws.specs.PartOpened.{empty_list, opening_parts, is_head, no_parts, list_parts}
 use Rattle.driver_laws.specs.Extents.{AreInRuns}
 use Rattle.harvest_laws.proofs.Standing.{new_told}
 use Rattle.open_names.proofs.Apart.{new_apart}
@@ -36,6 +36,8 @@ use Rattle.asking_worlds.specs.Asking.{Sides, Asking, left_with, IsAskingWorld}
 use Rattle.asking_worlds.specs.AskingLaws.{IsFirst, NewWorldAsks}
 use Rattle.asking_worlds.proofs.Has.{asking_of}
 use Rattle.asking_worlds.proofs.Names.{named_by}
+use Rattle.asking_worlds.specs.Missed.{NoneMissed, MissesNone}
+use Rattle.asking_worlds.proofs.Missed.{writing_unmissed}
 
 no_endpoint : (e : ℕ) (x : DriverEndpoint) → slice_get {X = DriverEndpoint} [] e ≡ Some x → ⊥
 no_endpoint zero x here = cc
@@ -45,13 +47,20 @@ none_left : (d : DriverContent) (e : ℕ) → left_with d e (slice_get {X = Driv
 none_left d zero on = false≢true on
 none_left d (suc e) on = false≢true on
 
+-- nothing but the frame list and the head of the ring stands
+no_misses : NoneMissed no_parts
+no_misses = record { heads = λ n q here. let never : ◌≡◌ {A = Option Structure} None (Some (QueueHead q)) = here in absurd cc; elements = λ n a t here. let never : ◌≡◌ {A = Option Structure} None (Some (Element t)) = here in absurd cc }
+
+opening_unmissed : NoneMissed opening_parts
+opening_unmissed = writing_unmissed list_parts 4096 4096 (QueueHead opening_head) refl (writing_unmissed no_parts 0 0 (Table empty_list) tt no_misses)
+
 abbrev no_numbers : Numbers
 no_numbers = record { endpoint = 0; closed = []; requests = nobody; number = λ i. i }
 
 abbrev none_asked : Asking
 none_asked = record { courses = λ n. NoQueue; numbers = λ n. no_numbers }
 
-module _ (s : Script) (g : Sides) (first : IsFirst s g) (takes : ℕ → ℕ → Bool) (member : ℕ → Bool) (x : Streams) (standing : Standing) (k : IsWhole (fixed_of s) takes member x standing (opening_world s)) (ring : x.endpoint (32 * head_block) ≡ endpoint_of opening_head) where
+module _ (s : Script) (g : Sides) (first : IsFirst s g) (takes : ℕ → ℕ → Bool) (member : ℕ → Bool) (x : Streams) (standing : Standing) (k : IsWhole (fixed_of s) takes member x standing (opening_world s)) (ring : x.endpoint (32 * head_block) ≡ endpoint_of opening_head) (none : NoneMissed standing.parts) (none_held : MissesNone standing.hand) where
   pub new_asking : IsAskingWorld g (fixed_of s) member standing (record { courses = λ n. NoQueue; numbers = λ n. record { endpoint = 0; closed = []; requests = nobody; number = λ i. i } }) no_windows no_asks (opening_world s)
   new_asking = record {
     stand = record {
@@ -73,6 +82,7 @@ module _ (s : Script) (g : Sides) (first : IsFirst s g) (takes : ℕ → ℕ →
     counts = λ e z is off. absurd (no_endpoint e z is.here);
     unopened = λ addr num c least none is. first addr num c is;
     untold = λ name unnamed. refl;
+    unmissed = record { structures = none; in_hand = none_held; first = tt };
   }
 
 -- ---- the world is whole
@@ -118,4 +128,4 @@ new_whole s fit bytes = record {
 pub new_world_asks : NewWorldAsks
 new_world_asks s g fit bytes first =
     asking_of g (fixed_of s) (takes_of s) is_head (streams_of s) at_opening none_asked no_windows no_asks (opening_world s) (new_whole s fit bytes)
-    (new_asking s g first (takes_of s) is_head (streams_of s) at_opening (new_whole s fit bytes) refl) refl
+    (new_asking s g first (takes_of s) is_head (streams_of s) at_opening (new_whole s fit bytes) refl opening_unmissed tt) refl

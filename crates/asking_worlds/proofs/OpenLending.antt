@@ -15,7 +15,7 @@ use Rattle.driver_rows.specs.Rows.{row_for, command_row, driver_row}
 use Rattle.endpoint_lives.specs.Lives.{told_end, may_meet}
 use Rattle.run_book.specs.Book.{holding, lend_taken}
 use Rattle.run_owners.specs.Kept.{HasOwners}
-use Rattle.lent_structures.specs.Structures.{Structures, StructureSets}
+use Rattle.lent_structures.specs.Structures.{Structures, StructureSets, put, QueueHead, Element}
 use Rattle.publish_laws.proofs.Apart.{thirty_two}
 use Rattle.report_streams.specs.Requests.{Request}
 use Rattle.ring_laws.specs.Effects.{buffer_of}
@@ -39,6 +39,8 @@ use Rattle.asking_worlds.specs.Rows.{OpenLendKeepsAsking, IsHeadOfNone}
 use Rattle.asking_worlds.proofs.Has.{asking_of}
 use Rattle.asking_worlds.proofs.Beside.{HasOwner, owner_of, stand_beside}
 use Rattle.asking_worlds.proofs.Leaving.{open_quiet, same_endpoint, RowLeaves, LinesLeave, gone_by, was_met, each_still, world_left}
+use Rattle.asking_worlds.proofs.Missed.{writing_unmissed}
+use Rattle.driver_rows.specs.Words.{queue_head, dummy_qtd}
 
 module _ (g : Sides) (fixed : Fixed) (takes : ℕ → ℕ → Bool) (member : ℕ → Bool) (x : Streams) (s : Standing) (a : Asking) (v : Windows) (asks : ℕ → Request) (w : World) (ready : IsOpenReady w.driver w.memory) (head : IsHeadOfNone x) (k : IsWhole fixed takes member x s w) (z : IsAskingWorld g fixed member s a v asks w) where
   abbrev new : DriverContent
@@ -136,7 +138,9 @@ module _ (g : Sides) (fixed : Fixed) (takes : ℕ → ℕ → Bool) (member : �
 
   world : IsAskingWorld g fixed member (record s { parts = parts_lent s.parts ready }) (record { courses = a.courses; numbers = a.numbers }) v asks (driver_next w)
   world =
-      world_left g fixed member s a v asks w (driver_parts (driver_next w)) leaves z (λ e y c. lines e y.desc.name) (λ name u. (lines 0 name).lines) member (record s { parts = parts_lent s.parts ready }) a.courses stand recorded
+      world_left g fixed member s a v asks w (driver_parts (driver_next w)) leaves z (λ e y c. lines e y.desc.name) (λ name u. (lines 0 name).lines) member (record s { parts = parts_lent s.parts ready }) a.courses
+      (writing_unmissed (put s.parts (32 * ready.endpoint.queue) (32 * ready.endpoint.queue) (QueueHead (queue_head ready.endpoint.desc ready.link ready.endpoint.dummy))) (32 * ready.endpoint.queue) (32 * ready.endpoint.dummy) (Element dummy_qtd) refl
+      (writing_unmissed s.parts (32 * ready.endpoint.queue) (32 * ready.endpoint.queue) (QueueHead (queue_head ready.endpoint.desc ready.link ready.endpoint.dummy)) refl z.unmissed.structures)) z.unmissed.in_hand stand recorded
       (each_still g fixed member s a v asks w (driver_parts (driver_next w)) leaves z) reads
 
   pub open_lent_world : HasAskingWorld g fixed takes x.stream x.packets v asks (driver_next w)

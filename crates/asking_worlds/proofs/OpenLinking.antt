@@ -75,6 +75,7 @@ use Rattle.asking_worlds.proofs.Inside.{same_requests}
 use Rattle.asking_worlds.proofs.Names.{one_of, not_met, named_by, one_endpoint}
 use Rattle.asking_worlds.proofs.Beside.{HasOwner, one_queue, owner_of}
 use Rattle.asking_worlds.proofs.Leaving.{IsQuiet, open_quiet}
+use Rattle.asking_worlds.proofs.Missed.{writing_unmissed, linked_unmissed}
 
 -- ---- an endpoint without transfers
 
@@ -402,6 +403,11 @@ module _ (g : Sides) (fixed : Fixed) (takes : ℕ → ℕ → Bool) (member : �
       counts = λ i y m off. counts_now i y m;
       unopened = λ addr num c least none first. z.unopened addr num c least (λ i y there one two. absurd (false≢true (none i y there one two))) first;
       untold = λ name none. z.untold name (λ i y there same. absurd (false≢true (none i y there same)));
+      unmissed = record {
+        structures = writing_unmissed s.parts head_at head_at (QueueHead (record ring.queue { link = link })) (z.unmissed.structures.heads head_at ring.queue ring.here) z.unmissed.structures;
+        in_hand = linked_unmissed head_at link s.hand z.unmissed.in_hand;
+        first = tt;
+      };
     }
 
   -- ---- a bulk endpoint

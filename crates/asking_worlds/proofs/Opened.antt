@@ -136,6 +136,7 @@ module _ (sides : Sides) (member : ℕ → Bool) (parts : StructureSets) (hand :
         record { device = f.device; is = f.is; acted = f.acted };
     unopened = λ addr num c least none first. world.unopened addr num c least (λ i z there one two. absurd (not_opening i z there (none i z (push_there d.endpoints (new ∷ []) i z there) one two))) first;
     untold = λ name unheard. world.untold name (λ i z there named. absurd (not_opening i z there (unheard i z (push_there d.endpoints (new ∷ []) i z there) named)));
+    unmissed = record { structures = world.unmissed.structures; in_hand = world.unmissed.in_hand; first = tt };
   }
 
 module _ (g : Sides) (fixed : Fixed) (takes : ℕ → ℕ → Bool) (member : ℕ → Bool) (x : Streams) (s : Standing) (a : Asking) (v : Windows) (asks : ℕ → Request) (w : World) (o : Offered) (k : IsWhole fixed takes member x s w)

@@ -193,6 +193,7 @@ module _ (g : Sides) (fixed : Fixed) (member : ℕ → Bool) (s : Standing) (a :
         record { device = h.device; is = h.is; acted = h.acted };
     unopened = q.unopened;
     untold = λ other unnamed. lines_same d line name other why ∙ q.untold other unnamed;
+    unmissed = record { structures = q.unmissed.structures; in_hand = q.unmissed.in_hand; first = q.unmissed.first };
   }
 
 there : (t e : ℕ) (ts : List Transfer) → option_map (λ (y : Transfer). y.endpoint) (slice_get ts t) ≡ Some e → t < length ts

@@ -57,6 +57,7 @@ use Rattle.asking_worlds.specs.Rows.{ReleaseKeepsAsking, IsHeadOfNone}
 use Rattle.asking_worlds.proofs.Has.{asking_of}
 use Rattle.asking_worlds.proofs.Leaving.{idle_quiet, same_endpoint, RowLeaves, LinesLeave, gone_by, each_still, world_left}
 use Rattle.asking_worlds.proofs.Beside.{HasOwner, owner_of}
+use Rattle.asking_worlds.proofs.Missed.{release_unmissed}
 
 -- ---- numbers
 
@@ -301,7 +302,7 @@ module _ (g : Sides) (fixed : Fixed) (takes : ℕ → ℕ → Bool) (member : �
 
   world : IsAskingWorld g fixed member (standing fixed takes member x s w t row k) (record { courses = a.courses; numbers = a.numbers }) v asks (with_parts w after)
   world =
-      world_left g fixed member s a v asks w after leaves z lines (λ name u. refl) member (standing fixed takes member x s w t row k) a.courses stand_now recorded (each_still g fixed member s a v asks w after leaves z) reads
+      world_left g fixed member s a v asks w after leaves z lines (λ name u. refl) member (standing fixed takes member x s w t row k) a.courses (release_unmissed s.parts n goes z.unmissed.structures) z.unmissed.in_hand stand_now recorded (each_still g fixed member s a v asks w after leaves z) reads
 
   pub released_world : HasAskingWorld g fixed takes x.stream x.packets v asks (with_parts w (after_driver_row (rows.ReleaseTransfer t) (driver_parts w)))
   released_world =

@@ -33,6 +33,7 @@ use Rattle.whole_worlds.proofs.Still.{whole_still}
 use Rattle.asking_worlds.specs.Asking.{Sides, Asking, has_left, left_with, IsPublishingBy, IsMetControl, IsAskingWorld}
 use Rattle.asking_worlds.specs.AskingLaws.{StillKeepsAsking}
 use Rattle.asking_worlds.proofs.Has.{asking_of}
+use Rattle.asking_worlds.proofs.Missed.{idle_misses}
 
 -- what such a row changes of the driver's content
 abbrev stilled : DriverContent → List ℕ → List ℕ → List ℕ → Bell → Turn → Bool → List Removal → DriverContent
@@ -94,6 +95,7 @@ module _ (g : Sides) (fixed : Fixed) (member : ℕ → Bool) (s : Standing) (a :
           record { device = h.device; is = h.is; acted = h.acted };
       unopened = q.unopened;
       untold = q.untold;
+      unmissed = idle_misses w.driver f s.parts s.hand idle q.unmissed;
     }
 
   abbrev after_row : DriverRow → World

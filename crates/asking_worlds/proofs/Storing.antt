@@ -67,6 +67,9 @@ use Rattle.asking_worlds.proofs.Awaited.{one_qtd}
 use Rattle.asking_worlds.proofs.Inside.{AsksIn, inside, outside, same_requests, goes_on}
 use Rattle.asking_worlds.proofs.Lending.{next_is}
 use Rattle.asking_worlds.proofs.Newest.{tail_next, laid_at, owner_at, its_next, its_control, not_asked}
+use Rattle.asking_worlds.specs.Missed.{NoneMissed, PublishesNoneBy}
+use Rattle.asking_worlds.proofs.Missed.{writing_unmissed, partly_unmissed}
+use Rattle.qh_qtd.specs.Qtd.{qtd_words, IsQtdInRange}
 
 -- ---- stores that are owed
 
@@ -306,6 +309,14 @@ module _ (sides : Sides) (fixed : Fixed) (takes : ℕ → ℕ → Bool) (member 
           written = λ some. record { setup = was.setup; words_are = was.words_are; range = was.range; coming = coming_then };
         })
 
+  -- ---- no microframe is missed
+
+  first_unmissed : (t : Qtd) → words ≡ qtd_words t → IsQtdInRange t → t.token.missed ≡ false
+  first_unmissed = (subst (PublishesNoneBy w.driver.made) command world.unmissed.first) made
+
+  unmissed_then : NoneMissed now
+  unmissed_then = writing_unmissed s.parts n (32 * b) (Element new) (partly_unmissed p.qtd d.made (λ whole. first_unmissed p.qtd p.are p.range)) world.unmissed.structures
+
   -- ---- before the last store
 
   stand_low : w.driver.made < 8 → CoursesStand control_of member a.courses now s.hand (wired fixed w)
@@ -313,7 +324,8 @@ module _ (sides : Sides) (fixed : Fixed) (takes : ℕ → ℕ → Bool) (member 
 
   pub low_asking : (more : Mem) → w.driver.made < 8 → AsksIn sides member now s.hand a v asks (record w.driver { made = suc w.driver.made }) more (wired fixed w)
   low_asking more low =
-      goes_on sides member s.parts now s.hand a v asks d m more (wired fixed w) d.book (suc d.made) q (stand_low low) (λ i u is next. publishing_then i u is next more) read_then
+      goes_on sides member s.parts now s.hand a v asks d m more (wired fixed w) d.book (suc d.made) q
+      (record { structures = unmissed_then; in_hand = world.unmissed.in_hand; first = subst (PublishesNoneBy (suc d.made)) (sym command) (λ some. first_unmissed) }) (stand_low low) (λ i u is next. publishing_then i u is next more) read_then
 
   -- ---- the last store
 
@@ -378,6 +390,7 @@ module _ (sides : Sides) (fixed : Fixed) (takes : ℕ → ℕ → Bool) (member 
         record { device = f.device; is = f.is; acted = f.acted };
     unopened = λ addr num c least none first. q.unopened addr num c least (λ i u here one two. absurd (false≢true (none i u here one two))) first;
     untold = λ name none. q.untold name (λ i u here same. absurd (false≢true (none i u here same)));
+    unmissed = record { structures = unmissed_then; in_hand = world.unmissed.in_hand; first = tt };
   }
 
   -- of an endpoint that is no control endpoint

@@ -39,6 +39,8 @@ use Rattle.asking_worlds.specs.Asking.{Sides, Asking, left_with, has_left, IsMet
 use Rattle.asking_worlds.specs.Rows.{UnlinkKeepsAsking, IsHeadOfNone}
 use Rattle.asking_worlds.proofs.Has.{asking_of}
 use Rattle.asking_worlds.proofs.Leaving.{idle_quiet, unlink_quiet, WasEndpoint, IsEndpointStill, RowLeaves, gone_by, was_met, each_still, world_left}
+use Rattle.asking_worlds.proofs.Missed.{writing_unmissed, linked_unmissed}
+use Rattle.lent_structures.specs.Structures.{QueueHead}
 
 module _ (g : Sides) (fixed : Fixed) (takes : ℕ → ℕ → Bool) (member : ℕ → Bool) (x : Streams) (s : Standing) (a : Asking) (v : Windows) (asks : ℕ → Request) (w : World) (at : IsAtUnlink w.driver member s.parts) (head : IsHeadOfNone x) (k : IsWhole fixed takes member x s w) (z : IsAskingWorld g fixed member s a v asks w) where
   abbrev f : ℕ
@@ -170,7 +172,9 @@ module _ (g : Sides) (fixed : Fixed) (takes : ℕ → ℕ → Bool) (member : �
       subst (λ (c : DriverContent). IsAskingWorld g fixed member (unlinked s at) (record { courses = a.courses; numbers = a.numbers }) v asks (with_parts w (record { driver = c; registers = (driver_next w).registers; memory = (driver_next w).memory })))
       (sym row.driver)
       (world_left g fixed member s a v asks w parts_now leaves z (λ e y c. record { lines = refl; telling = λ reported waits t. record { numbers = t.numbers; told = t.told; wait = t.wait } }) (λ name u. refl)
-      member (unlinked s at) a.courses stand recorded (each_still g fixed member s a v asks w parts_now leaves z) reads)
+      member (unlinked s at) a.courses
+      (writing_unmissed s.parts (32 * at.before) (32 * at.before) (QueueHead (record at.queue { link = to_queue_head at.after })) (z.unmissed.structures.heads (32 * at.before) at.queue at.head) z.unmissed.structures)
+      (linked_unmissed (32 * at.before) (to_queue_head at.after) s.hand z.unmissed.in_hand) stand recorded (each_still g fixed member s a v asks w parts_now leaves z) reads)
 
   pub unlinked_world : HasAskingWorld g fixed takes x.stream x.packets v asks (driver_next w)
   unlinked_world = asking_of g fixed takes member x (unlinked s at) (record { courses = a.courses; numbers = a.numbers }) v asks (driver_next w) (unlink_whole fixed takes member x s w at k) world head

@@ -23,6 +23,7 @@ use Rattle.whole_worlds.proofs.Leaving.{due, leaves, whole_harvested}
 use Rattle.asking_worlds.specs.Asking.{Sides, Asking, has_left, IsPublishingBy, IsMetControl, IsAskingWorld}
 use Rattle.asking_worlds.specs.Waits.{WaitKeepsAsking}
 use Rattle.asking_worlds.proofs.Has.{asking_of}
+use Rattle.asking_worlds.proofs.Missed.{idle_misses}
 
 module _ (g : Sides) (fixed : Fixed) (member : ℕ → Bool) (s : Standing) (a : Asking) (v : Windows) (asks : ℕ → Request) (w : World) (q : IsAskingWorld g fixed member s a v asks w) (idle : w.driver.command ≡ None) (e : ℕ) (out : ℕ → List ℕ) (reported : ℕ → List ℕ) where
   abbrev f : DriverContent
@@ -69,6 +70,7 @@ module _ (g : Sides) (fixed : Fixed) (member : ℕ → Bool) (s : Standing) (a :
         record { device = h.device; is = h.is; acted = h.acted };
     unopened = q.unopened;
     untold = q.untold;
+    unmissed = idle_misses w.driver f s.parts s.hand idle q.unmissed;
   }
 
 module _ (g : Sides) (fixed : Fixed) (takes : ℕ → ℕ → Bool) (member : ℕ → Bool) (x : Streams) (s : Standing) (a : Asking) (v : Windows) (asks : ℕ → Request) (w : World) (e t : ℕ)

@@ -63,6 +63,7 @@ use Rattle.asking_reports.specs.Telling.{IsTelling, IsUncancelled}
 use Rattle.feeding_worlds.specs.Feeding.{opens}
 use Rattle.feeding_worlds.specs.Tails.{tail_of}
 use Rattle.whole_worlds.specs.Whole.{IsWhole, StaysOpen, AreOf}
+use Rattle.asking_worlds.specs.Missed.{MissNone}
 
 -- ---- what the script has for its control endpoints
 
@@ -217,6 +218,8 @@ pub record IsAskingWorld (g : Sides) (fixed : Fixed) (member : ℕ → Bool) (s 
   pub unopened : (addr num : ℕ) (c : Device) → 1 ≤ addr → IsUnopened w.driver addr num → g.first addr num ≡ Some c → control_of (wired fixed w) addr num ≡ Some c
   -- no line tells of an endpoint that wasn't opened, or is being opened
   pub untold : (name : EpName) → IsUnheard w.driver name → lines_in name w.driver.reports ≡ []
+  -- no token tells a missed microframe: that bit is of split transactions (EHCI 1.0, 3.5.3)
+  pub unmissed : MissNone w.driver s.parts s.hand
 
 pub record HasAskingWorld (g : Sides) (fixed : Fixed) (takes : ℕ → ℕ → Bool) (stream : ℕ → ℕ → Bool) (packets : ℕ → ℕ → List (List ℕ)) (v : Windows) (asks : ℕ → Request) (w : World) : Type 0 where
   pub member : ℕ → Bool

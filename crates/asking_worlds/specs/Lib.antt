@@ -12,6 +12,6 @@ pub mod Narrowing
 pub mod Rows
 pub mod Waits
 pub mod Moves
+pub mod Missed
 pub mod Silent
 pub mod Endings
-pub mod Missed

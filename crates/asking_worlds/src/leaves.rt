@@ -1,4 +1,5 @@
 //! What the driver's rows leave beside its commands and its harvests.
+ghost use Rattle.asking_worlds.specs.WorldLaws.{DriverKeepsAsking};
 ghost use Rattle.asking_worlds.specs.Rows.{MendKeepsAsking, OpenLendKeepsAsking, OpenLinkKeepsAsking, UnlinkKeepsAsking, ClearKeepsAsking, ReleaseKeepsAsking, EndpointReleaseKeepsAsking};
 
 /// The next store by which a stalled control endpoint goes on leaves the requests of a world as they must stand; by the last of the three the window of the first
@@ -33,4 +34,9 @@ pub fn a_transfer_is_given_back()
 /// So does the row that gives back an endpoint that has left the ring.
 pub fn an_endpoint_is_given_back()
     ensures { EndpointReleaseKeepsAsking }
+{}
+
+/// So does each event of the driver.
+pub fn each_event_of_the_driver_leaves_the_requests()
+    ensures { DriverKeepsAsking }
 {}
