@@ -28,14 +28,14 @@ use Rattle.ring_laws.specs.Hand.{Hand}
 use Rattle.world_requests.specs.Recorded.{Windows}
 use Rattle.driver_requests.proofs.Ordering.{numbers_still}
 use Rattle.driver_requests.proofs.Owning.{qtds_case}
-use Rattle.asking_queues.specs.Courses.{Course, queue_in}
-use Rattle.asking_transfers.specs.Counts.{counted_all}
-use Rattle.asking_transfers.specs.Records.{Numbers, AreRecords}
-use Rattle.asking_reports.specs.Telling.{AddsTransfer}
-use Rattle.asking_reports.proofs.Telling.{other_accepted_keeps}
-use Rattle.feeding_worlds.specs.Feeding.{opens}
-use Rattle.feeding_worlds.specs.Tails.{tail_block}
-use Rattle.feeding_worlds.proofs.Tail.{newest_there}
+use Rattle.asking_worlds.specs.Courses.{Course, queue_in}
+use Rattle.asking_worlds.specs.Counts.{counted_all}
+use Rattle.asking_worlds.specs.Records.{Numbers, AreRecords}
+use Rattle.asking_worlds.specs.Telling.{AddsTransfer}
+use Rattle.asking_worlds.proofs.Telling.{other_accepted_keeps}
+use Rattle.whole_worlds.specs.Feeding.{opens}
+use Rattle.standing_fronts.specs.Tails.{tail_block}
+use Rattle.whole_worlds.proofs.Tail.{newest_there}
 use Rattle.asking_worlds.specs.Asking.{Sides, IsGiven, Asking, has_left, is_publishing, is_next_of, HasCourse, IsPublishing, DataIsRead, IsReadTo, HasTelling, IsControlOf, IsMetControl}
 use Rattle.asking_worlds.proofs.Inside.{AsksIn, IsCountedOn}
 use Rattle.asking_worlds.proofs.Noting.{NotesStay}

@@ -16,12 +16,12 @@ use Rattle.bus_world.specs.World.{World}
 use Rattle.stream_worlds.specs.Streaming.{Streams, Standing}
 use Rattle.world_requests.specs.Recorded.{Windows}
 use Rattle.driver_requests.specs.Requests.{IsOfEndpoint}
-use Rattle.asking_queues.specs.Courses.{Course, NoQueue, Asks, Rests, has_queue, IsCourse, have_queues, CoursesStand}
-use Rattle.asking_queues.specs.Spared.{KeepsEndpoints}
-use Rattle.asking_queues.proofs.Changing.{all_kept}
-use Rattle.asking_queues.proofs.Writing.{same_kept}
-use Rattle.feeding_worlds.specs.Feeding.{IsFeeding}
-use Rattle.feeding_worlds.proofs.Heads.{not_head}
+use Rattle.asking_worlds.specs.Courses.{Course, NoQueue, Asks, Rests, has_queue, IsCourse, have_queues, CoursesStand}
+use Rattle.asking_worlds.specs.Spared.{KeepsEndpoints}
+use Rattle.asking_worlds.proofs.QueueChanging.{all_kept}
+use Rattle.asking_worlds.proofs.Writing.{same_kept}
+use Rattle.whole_worlds.specs.Feeding.{IsFeeding}
+use Rattle.whole_worlds.proofs.Heads.{not_head}
 use Rattle.asking_worlds.specs.Asking.{Sides, Asking, IsMetControl, IsAskingWorld}
 
 -- ---- the endpoint

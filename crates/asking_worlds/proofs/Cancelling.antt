@@ -26,10 +26,10 @@ use Rattle.ring_laws.specs.Hand.{Hand}
 use Rattle.scripted_requests.specs.Controls.{control_of}
 use Rattle.world_requests.specs.Recorded.{Windows}
 use Rattle.driver_requests.specs.Rows.{EndpointStays, KeepsRequests}
-use Rattle.asking_queues.specs.Courses.{Course, queue_in}
-use Rattle.asking_transfers.proofs.Rows.{kept_recorded}
-use Rattle.feeding_worlds.specs.Feeding.{opens}
-use Rattle.feeding_worlds.specs.Tails.{tail_block}
+use Rattle.asking_worlds.specs.Courses.{Course, queue_in}
+use Rattle.asking_worlds.proofs.Rows.{kept_recorded}
+use Rattle.whole_worlds.specs.Feeding.{opens}
+use Rattle.standing_fronts.specs.Tails.{tail_block}
 use Rattle.asking_worlds.specs.Asking.{Sides, IsGiven, Asking, left_with, has_left, is_publishing, HasCourse, IsReadTo, HasTelling, IsMetControl}
 use Rattle.asking_worlds.proofs.Commanding.{regone}
 use Rattle.asking_worlds.proofs.Inside.{AsksIn}

@@ -26,11 +26,11 @@ use Rattle.stream_worlds.specs.Streaming.{Streams, Standing}
 use Rattle.world_requests.specs.Requesting.{wired}
 use Rattle.world_requests.specs.Recorded.{Windows}
 use Rattle.driver_requests.specs.Rows.{given_by, KeepsEndpoint}
-use Rattle.asking_queues.specs.Courses.{NoQueue, CoursesStand}
-use Rattle.asking_transfers.specs.Records.{AreRecords}
-use Rattle.asking_transfers.proofs.Rows.{row_recorded}
-use Rattle.feeding_worlds.specs.Clearing.{narrowed_to}
-use Rattle.feeding_worlds.specs.Left.{taking_of}
+use Rattle.asking_worlds.specs.Courses.{NoQueue, CoursesStand}
+use Rattle.asking_worlds.specs.Records.{AreRecords}
+use Rattle.asking_worlds.proofs.Rows.{row_recorded}
+use Rattle.whole_worlds.specs.Clearing.{narrowed_to}
+use Rattle.whole_worlds.specs.Left.{taking_of}
 use Rattle.whole_worlds.specs.Whole.{IsWhole}
 use Rattle.whole_worlds.proofs.Fewer.{kept_of}
 use Rattle.whole_worlds.proofs.LeavingCleared.{narrow_of, stays_open, clear_whole}

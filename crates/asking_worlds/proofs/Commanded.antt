@@ -16,7 +16,7 @@ use Rattle.walk_members.specs.Reached.{OpensNumbered}
 use Rattle.bus_world.specs.World.{World, commanded}
 use Rattle.stream_worlds.specs.Streaming.{Streams, Standing}
 use Rattle.world_requests.specs.Recorded.{Windows, asks_then}
-use Rattle.feeding_worlds.specs.LeftLaws.{OpensNamed}
+use Rattle.whole_worlds.specs.LeftLaws.{OpensNamed}
 use Rattle.whole_worlds.specs.Whole.{IsWhole}
 use Rattle.whole_worlds.proofs.Commanding.{whole_commanded, OpensToOnce}
 use Rattle.asking_worlds.specs.Asking.{Sides, Asking, IsAskingWorld, HasAskingWorld}

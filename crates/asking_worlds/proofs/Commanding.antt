@@ -49,17 +49,17 @@ use Rattle.world_requests.specs.Recorded.{Windows, asks_then, numbers_of}
 use Rattle.driver_requests.specs.Rows.{number_with}
 use Rattle.driver_requests.proofs.Ordering.{numbers_more, first_more}
 use Rattle.driver_requests.proofs.Owning.{qtds_case}
-use Rattle.asking_queues.specs.Courses.{Course, Asks, queue_in, have_queues, IsCourse, IsAsking}
-use Rattle.asking_transfers.specs.Changes.{with_numbers, accepted_in}
-use Rattle.asking_transfers.specs.Counts.{counted_all}
-use Rattle.asking_transfers.specs.Records.{Numbers, AreRecords}
-use Rattle.asking_transfers.proofs.Counts.{counted_more}
-use Rattle.asking_transfers.proofs.Rows.{other_recorded, request_recorded}
-use Rattle.asking_reports.specs.Telling.{IsTelling}
-use Rattle.asking_reports.proofs.Telling.{accepted_keeps}
-use Rattle.feeding_worlds.specs.Feeding.{opens}
-use Rattle.feeding_worlds.specs.Tails.{tail_block}
-use Rattle.feeding_worlds.proofs.Tail.{newest_there}
+use Rattle.asking_worlds.specs.Courses.{Course, Asks, queue_in, have_queues, IsCourse, IsAsking}
+use Rattle.asking_worlds.specs.TransferChanges.{with_numbers, accepted_in}
+use Rattle.asking_worlds.specs.Counts.{counted_all}
+use Rattle.asking_worlds.specs.Records.{Numbers, AreRecords}
+use Rattle.asking_worlds.proofs.Counts.{counted_more}
+use Rattle.asking_worlds.proofs.Rows.{other_recorded, request_recorded}
+use Rattle.asking_worlds.specs.Telling.{IsTelling}
+use Rattle.asking_worlds.proofs.Telling.{accepted_keeps}
+use Rattle.whole_worlds.specs.Feeding.{opens}
+use Rattle.standing_fronts.specs.Tails.{tail_block}
+use Rattle.whole_worlds.proofs.Tail.{newest_there}
 use Rattle.asking_worlds.specs.Asking.{Sides, Asking, left_with, has_left, is_publishing, is_next_of, next_with, HasCourse, IsHeldRequest, IsPublishingAt, IsPublishing, IsReadTo, HasTelling, IsMetControl}
 use Rattle.asking_worlds.proofs.Accepting.{adds, read_first, OwnAsks, accepted_asks}
 use Rattle.asking_worlds.proofs.Inside.{AsksIn, IsCountedOn}

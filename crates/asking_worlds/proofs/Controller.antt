@@ -47,18 +47,18 @@ use Rattle.stream_worlds.proofs.StreamTurning.{world_has_row}
 use Rattle.world_bytes.proofs.Hearing.{hears_bytes}
 use Rattle.world_requests.specs.Requesting.{wired}
 use Rattle.world_requests.specs.Recorded.{Windows, numbers_of, after_event}
-use Rattle.asking_queues.specs.Courses.{Course, NoQueue, Asks, Rests, has_queue, queue_in, tail_in, IsCourse}
-use Rattle.asking_queues.specs.Coming.{IsComing}
-use Rattle.asking_queues.specs.Events.{course_after, courses_after, CoursesGoOn}
-use Rattle.asking_queues.proofs.Events.{event_keeps, event_leaves}
-use Rattle.asking_queues.proofs.Coming.{event_coming}
-use Rattle.asking_transfers.specs.Records.{Numbers}
-use Rattle.asking_transfers.specs.Counts.{counted_all}
-use Rattle.asking_transfers.specs.Events.{IsLeftAlone, IsOwned, ClosedStay}
-use Rattle.asking_transfers.proofs.Counts.{counted_same}
-use Rattle.asking_transfers.proofs.Events.{records_follow, closed_follow, counts_follow}
-use Rattle.asking_reports.proofs.Telling.{acts_keep, split}
-use Rattle.feeding_worlds.specs.Feeding.{opens}
+use Rattle.asking_worlds.specs.Courses.{Course, NoQueue, Asks, Rests, has_queue, queue_in, tail_in, IsCourse}
+use Rattle.asking_worlds.specs.Coming.{IsComing}
+use Rattle.asking_worlds.specs.QueueEvents.{course_after, courses_after, CoursesGoOn}
+use Rattle.asking_worlds.proofs.QueueEvents.{event_keeps, event_leaves}
+use Rattle.asking_worlds.proofs.Coming.{event_coming}
+use Rattle.asking_worlds.specs.Records.{Numbers}
+use Rattle.asking_worlds.specs.Counts.{counted_all}
+use Rattle.asking_worlds.specs.TransferEvents.{IsLeftAlone, IsOwned, ClosedStay}
+use Rattle.asking_worlds.proofs.Counts.{counted_same}
+use Rattle.asking_worlds.proofs.TransferEvents.{records_follow, closed_follow, counts_follow}
+use Rattle.asking_worlds.proofs.Telling.{acts_keep, split}
+use Rattle.whole_worlds.specs.Feeding.{opens}
 use Rattle.whole_worlds.specs.Whole.{IsWhole}
 use Rattle.whole_worlds.proofs.Beside.{beside, after_event as standing_after, whole_beside}
 use Rattle.asking_worlds.specs.Asking.{Sides, Asking, has_left, left_with, HasCourse, IsWritten, IsHeldRequest, IsPublishingAt, IsPublishingBy, IsReadTo, HasTelling, IsCounted, is_opening, IsControlOf, IsMetControl, IsAskingWorld}

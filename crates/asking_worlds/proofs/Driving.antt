@@ -25,7 +25,7 @@ use Rattle.chained_transfers.proofs.Ways.{found_by, moves_queued}
 use Rattle.bus_world.specs.World.{World, driver_parts, driver_next}
 use Rattle.stream_worlds.specs.Streaming.{Streams, Standing}
 use Rattle.world_requests.specs.Recorded.{Windows}
-use Rattle.feeding_worlds.proofs.Told.{control_kind}
+use Rattle.whole_worlds.proofs.Told.{control_kind}
 use Rattle.whole_worlds.specs.Whole.{IsWhole}
 use Rattle.whole_worlds.proofs.Leaving.{due}
 use Rattle.whole_worlds.proofs.Rows.{after_each}

@@ -64,17 +64,17 @@ use Rattle.bus_world.specs.World.{World, driver_parts, controller_parts}
 use Rattle.stream_worlds.specs.Streaming.{Streams, Standing}
 use Rattle.world_requests.specs.Requesting.{wired}
 use Rattle.world_requests.specs.Recorded.{Windows}
-use Rattle.asking_queues.specs.Courses.{Course, NoQueue, Asks, Rests, IsAsking, IsResting, IsCourse, has_queue, queue_in, tail_in}
-use Rattle.asking_queues.specs.Changes.{lines_behind, FirstHasGone}
-use Rattle.asking_queues.proofs.Ending.{first_goes, last_goes}
-use Rattle.asking_transfers.specs.Records.{Numbers, IsRecord, AreRecords}
-use Rattle.asking_transfers.specs.Changes.{first_closed}
-use Rattle.asking_transfers.proofs.Changing.{course_recorded, first_recorded, last_recorded}
-use Rattle.asking_transfers.proofs.Harvests.{done_ended}
-use Rattle.asking_transfers.proofs.Rows.{row_recorded}
-use Rattle.asking_reports.specs.Telling.{IsTelling, IsUncancelled}
-use Rattle.asking_reports.proofs.Telling.{harvest_told}
-use Rattle.feeding_worlds.specs.Feeding.{IsFeeding}
+use Rattle.asking_worlds.specs.Courses.{Course, NoQueue, Asks, Rests, IsAsking, IsResting, IsCourse, has_queue, queue_in, tail_in}
+use Rattle.asking_worlds.specs.QueueChanges.{lines_behind, FirstHasGone}
+use Rattle.asking_worlds.proofs.QueueEnding.{first_goes, last_goes}
+use Rattle.asking_worlds.specs.Records.{Numbers, IsRecord, AreRecords}
+use Rattle.asking_worlds.specs.TransferChanges.{first_closed}
+use Rattle.asking_worlds.proofs.TransferChanging.{course_recorded, first_recorded, last_recorded}
+use Rattle.asking_worlds.proofs.TransferHarvests.{done_ended}
+use Rattle.asking_worlds.proofs.Rows.{row_recorded}
+use Rattle.asking_worlds.specs.Telling.{IsTelling, IsUncancelled}
+use Rattle.asking_worlds.proofs.Telling.{harvest_told}
+use Rattle.whole_worlds.specs.Feeding.{IsFeeding}
 use Rattle.hc_core.specs.Controller.{walk_place}
 use Rattle.whole_worlds.specs.Whole.{IsWhole}
 use Rattle.asking_worlds.specs.Asking.{Sides, Asking, has_left, is_next_of, is_publishing, next_with, HasCourse, HasTelling, IsMetControl, IsReadTo, IsAskingWorld}

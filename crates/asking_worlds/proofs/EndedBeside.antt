@@ -50,13 +50,13 @@ use Rattle.world_requests.specs.Recorded.{Windows, numbers_of}
 use Rattle.driver_requests.specs.Requests.{IsLaidOut}
 use Rattle.driver_requests.proofs.Owning.{qtds_case}
 use Rattle.driver_requests.proofs.RowOrder.{row_numbers}
-use Rattle.asking_queues.specs.Courses.{Course, queue_in, CoursesStand}
-use Rattle.asking_transfers.specs.Counts.{counted_all}
-use Rattle.asking_transfers.specs.Records.{Numbers, AreRecords}
-use Rattle.asking_transfers.proofs.Rows.{row_recorded}
-use Rattle.asking_reports.proofs.Telling.{other_harvest}
-use Rattle.feeding_worlds.specs.Feeding.{opens}
-use Rattle.feeding_worlds.specs.HarvestFeeds.{HarvestLeaves}
+use Rattle.asking_worlds.specs.Courses.{Course, queue_in, CoursesStand}
+use Rattle.asking_worlds.specs.Counts.{counted_all}
+use Rattle.asking_worlds.specs.Records.{Numbers, AreRecords}
+use Rattle.asking_worlds.proofs.Rows.{row_recorded}
+use Rattle.asking_worlds.proofs.Telling.{other_harvest}
+use Rattle.whole_worlds.specs.Feeding.{opens}
+use Rattle.whole_worlds.specs.HarvestFeeds.{HarvestLeaves}
 use Rattle.whole_worlds.specs.Whole.{IsWhole}
 use Rattle.whole_worlds.proofs.Leaving.{due, leaves, whole_harvested}
 use Rattle.asking_worlds.specs.Asking.{is_opening, IsUnheard, Sides, IsGiven, Asking, has_left, left_with, next_with, DataIsRead, HasCourse, HasTelling, IsCounted, IsUnopened, IsControlOf, IsMetControl, IsReadTo, IsAskingWorld}

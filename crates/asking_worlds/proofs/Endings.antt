@@ -35,12 +35,12 @@ use Rattle.told_requests.specs.Told.{has_cancel}
 use Rattle.bus_world.specs.World.{World, driver_parts, driver_next}
 use Rattle.stream_worlds.specs.Streaming.{Streams, Standing}
 use Rattle.world_requests.specs.Recorded.{Windows, numbers_of}
-use Rattle.feeding_worlds.proofs.Told.{control_kind}
+use Rattle.whole_worlds.proofs.Told.{control_kind}
 use Rattle.driver_requests.specs.Requests.{IsOfTransfer}
-use Rattle.asking_queues.specs.Courses.{Course, queue_in, is_asking, with_course}
-use Rattle.asking_transfers.specs.Records.{Numbers, IsRecord}
-use Rattle.asking_transfers.specs.Changes.{with_numbers, first_closed, all_closed}
-use Rattle.asking_reports.specs.Telling.{IsTelling}
+use Rattle.asking_worlds.specs.Courses.{Course, queue_in, is_asking, with_course}
+use Rattle.asking_worlds.specs.Records.{Numbers, IsRecord}
+use Rattle.asking_worlds.specs.TransferChanges.{with_numbers, first_closed, all_closed}
+use Rattle.asking_worlds.specs.Telling.{IsTelling}
 use Rattle.whole_worlds.specs.Whole.{IsWhole}
 use Rattle.asking_worlds.specs.Asking.{Sides, Asking, next_with, next_in, HasCourse, HasTelling, IsMetControl, IsReadTo, IsAskingWorld, HasAskingWorld}
 use Rattle.asking_worlds.specs.Reading.{AreSilent}

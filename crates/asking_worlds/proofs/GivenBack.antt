@@ -40,14 +40,14 @@ use Rattle.stream_worlds.proofs.Joining.{heads_stay, elements_stay}
 use Rattle.world_requests.specs.Requesting.{wired}
 use Rattle.world_requests.specs.Recorded.{Windows, numbers_of}
 use Rattle.driver_requests.proofs.RowOrder.{row_numbers}
-use Rattle.asking_queues.specs.Courses.{have_queues, CoursesStand}
-use Rattle.asking_queues.proofs.Writing.{same_hand, same_side}
-use Rattle.asking_transfers.specs.Records.{AreRecords}
-use Rattle.asking_transfers.proofs.Rows.{row_recorded}
-use Rattle.asking_reports.specs.Telling.{IsTelling}
-use Rattle.asking_reports.proofs.Telling.{other_return}
-use Rattle.feeding_worlds.specs.Feeding.{opens}
-use Rattle.feeding_worlds.specs.Releases.{released}
+use Rattle.asking_worlds.specs.Courses.{have_queues, CoursesStand}
+use Rattle.asking_worlds.proofs.Writing.{same_hand, same_side}
+use Rattle.asking_worlds.specs.Records.{AreRecords}
+use Rattle.asking_worlds.proofs.Rows.{row_recorded}
+use Rattle.asking_worlds.specs.Telling.{IsTelling}
+use Rattle.asking_worlds.proofs.Telling.{other_return}
+use Rattle.whole_worlds.specs.Feeding.{opens}
+use Rattle.whole_worlds.specs.Releases.{released}
 use Rattle.whole_worlds.specs.Whole.{IsWhole}
 use Rattle.whole_worlds.proofs.LeavingReleased.{leaver, endpoint_release_whole}
 use Rattle.asking_worlds.specs.Asking.{Sides, Asking, left_with, has_left, is_opening, IsUnheard, IsMetControl, IsReadTo, IsAskingWorld, HasAskingWorld}

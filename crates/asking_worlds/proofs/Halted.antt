@@ -51,14 +51,14 @@ use Rattle.hc_core.specs.Controller.{walk_place}
 use Rattle.stream_worlds.specs.Streaming.{Streams, Standing}
 use Rattle.world_requests.specs.Requesting.{wired}
 use Rattle.world_requests.specs.Recorded.{Windows}
-use Rattle.asking_queues.specs.Courses.{Course, Asks, Rests, IsAsking, IsCourse, queue_in, tail_in}
-use Rattle.asking_queues.specs.Changes.{without_requests}
-use Rattle.asking_queues.proofs.Ending.{request_halts}
-use Rattle.asking_transfers.specs.Records.{Numbers, IsRecord}
-use Rattle.asking_transfers.specs.Changes.{all_closed}
-use Rattle.asking_transfers.proofs.Changing.{course_recorded, all_recorded}
-use Rattle.asking_reports.specs.Telling.{IsTelling, behind}
-use Rattle.asking_reports.proofs.Telling.{harvest_told, stall_told}
+use Rattle.asking_worlds.specs.Courses.{Course, Asks, Rests, IsAsking, IsCourse, queue_in, tail_in}
+use Rattle.asking_worlds.specs.QueueChanges.{without_requests}
+use Rattle.asking_worlds.proofs.QueueEnding.{request_halts}
+use Rattle.asking_worlds.specs.Records.{Numbers, IsRecord}
+use Rattle.asking_worlds.specs.TransferChanges.{all_closed}
+use Rattle.asking_worlds.proofs.TransferChanging.{course_recorded, all_recorded}
+use Rattle.asking_worlds.specs.Telling.{IsTelling, behind}
+use Rattle.asking_worlds.proofs.Telling.{harvest_told, stall_told}
 use Rattle.whole_worlds.specs.Whole.{IsWhole}
 use Rattle.asking_worlds.specs.Asking.{Sides, Asking, has_left, HasTelling, IsAskingWorld}
 use Rattle.asking_worlds.specs.Reading.{AreSilent, IsAtRequest}

@@ -21,10 +21,10 @@ use Rattle.stream_worlds.specs.Streaming.{Standing}
 use Rattle.world_requests.specs.Requesting.{wired}
 use Rattle.world_requests.specs.Recorded.{Windows, numbers_of}
 use Rattle.driver_requests.specs.Rows.{KeepsRequests}
-use Rattle.asking_queues.specs.Courses.{CoursesStand}
-use Rattle.asking_transfers.specs.Records.{AreRecords}
-use Rattle.asking_transfers.specs.Counts.{counted_all}
-use Rattle.asking_transfers.proofs.Rows.{kept_recorded}
+use Rattle.asking_worlds.specs.Courses.{CoursesStand}
+use Rattle.asking_worlds.specs.Records.{AreRecords}
+use Rattle.asking_worlds.specs.Counts.{counted_all}
+use Rattle.asking_worlds.proofs.Rows.{kept_recorded}
 use Rattle.asking_worlds.specs.Asking.{Sides, IsGiven, Asking, has_left, is_next_of, HasCourse, IsPublishing, IsReadTo, HasTelling, is_opening, IsUnopened, IsUnheard, IsControlOf, IsMetControl, IsAskingWorld}
 use Rattle.asking_worlds.specs.Missed.{MissNone}
 

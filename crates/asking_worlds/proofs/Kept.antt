@@ -44,14 +44,14 @@ use Rattle.world_requests.specs.Requesting.{wired}
 use Rattle.world_requests.specs.Recorded.{Windows, windows_at, asks_at, numbers_of, window_at, windows_of}
 use Rattle.told_requests.proofs.Claims.{report_numbers, report_tells, report_counts}
 use Rattle.told_requests.proofs.Moments.{moment_asks}
-use Rattle.asking_queues.specs.Courses.{Asks, IsCourse}
-use Rattle.asking_transfers.specs.Records.{IsOnceAt}
-use Rattle.asking_transfers.proofs.Changing.{once_by}
-use Rattle.asking_transfers.proofs.Counts.{counts_are_acts}
-use Rattle.asking_reports.specs.Right.{AreOnce}
-use Rattle.asking_reports.proofs.Telling.{telling_told}
+use Rattle.asking_worlds.specs.Courses.{Asks, IsCourse}
+use Rattle.asking_worlds.specs.Records.{IsOnceAt}
+use Rattle.asking_worlds.proofs.TransferChanging.{once_by}
+use Rattle.asking_worlds.proofs.Counts.{counts_are_acts}
+use Rattle.asking_worlds.specs.Right.{AreOnce}
+use Rattle.asking_worlds.proofs.Telling.{telling_told}
 use Rattle.stream_worlds.specs.Takers.{takes_of}
-use Rattle.feeding_worlds.specs.Feeding.{opens, streams_of}
+use Rattle.whole_worlds.specs.Feeding.{opens, streams_of}
 use Rattle.asking_worlds.specs.Asking.{Sides, HasAskingWorld, has_left, left_with, IsCounted as IsCountedNow, IsMetControl}
 use Rattle.asking_worlds.specs.Given.{sides_of, AsynchronousOfDevices}
 use Rattle.asking_worlds.specs.Kept.{IsOpenControl, report_at, windows_then, RequestsAreKept, TextsKeepRequests}

@@ -24,11 +24,11 @@ use Rattle.bus_world.specs.World.{World, with_parts}
 use Rattle.stream_worlds.specs.Streaming.{Standing}
 use Rattle.world_requests.specs.Requesting.{wired}
 use Rattle.world_requests.specs.Recorded.{Windows, numbers_of}
-use Rattle.asking_queues.specs.Courses.{Course, queue_in, CoursesStand}
-use Rattle.asking_transfers.specs.Records.{Numbers, AreRecords}
-use Rattle.asking_transfers.specs.Counts.{counted_all}
-use Rattle.asking_reports.specs.Telling.{IsTelling}
-use Rattle.feeding_worlds.specs.Tails.{tail_block, tail_of}
+use Rattle.asking_worlds.specs.Courses.{Course, queue_in, CoursesStand}
+use Rattle.asking_worlds.specs.Records.{Numbers, AreRecords}
+use Rattle.asking_worlds.specs.Counts.{counted_all}
+use Rattle.asking_worlds.specs.Telling.{IsTelling}
+use Rattle.standing_fronts.specs.Tails.{tail_block, tail_of}
 use Rattle.asking_worlds.specs.Asking.{Sides, IsGiven, Asking, has_left, is_publishing, is_next_of, HasCourse, IsReadTo, HasTelling, IsCounted, is_opening, IsUnopened, IsUnheard, IsControlOf, IsMetControl, IsAskingWorld}
 use Rattle.asking_worlds.specs.Missed.{NoneMissed, MissesNone, PublishesNone}
 use Rattle.asking_worlds.proofs.Missed.{none_published, open_published, unlink_published}

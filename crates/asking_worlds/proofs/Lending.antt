@@ -47,14 +47,14 @@ use Rattle.stream_worlds.specs.Streaming.{Streams, Standing}
 use Rattle.world_requests.specs.Recorded.{Windows}
 use Rattle.world_requests.specs.Requesting.{wired}
 use Rattle.driver_requests.proofs.Owning.{element_of, owned_piece}
-use Rattle.asking_queues.specs.Coming.{IsComing}
-use Rattle.asking_queues.specs.Courses.{Course, queue_in, tail_in, CoursesStand}
-use Rattle.asking_queues.specs.Spared.{IsNoRequests, IsLentBeside}
-use Rattle.asking_queues.proofs.Writing.{lend_spares}
-use Rattle.asking_transfers.specs.Records.{Numbers}
-use Rattle.asking_transfers.proofs.Apart.{laid_others}
-use Rattle.asking_transfers.proofs.Lent.{request_lent}
-use Rattle.feeding_worlds.specs.LendFeeds.{LendsTransfer}
+use Rattle.asking_worlds.specs.Coming.{IsComing}
+use Rattle.asking_worlds.specs.Courses.{Course, queue_in, tail_in, CoursesStand}
+use Rattle.asking_worlds.specs.Spared.{IsNoRequests, IsLentBeside}
+use Rattle.asking_worlds.proofs.Writing.{lend_spares}
+use Rattle.asking_worlds.specs.Records.{Numbers}
+use Rattle.asking_worlds.proofs.Apart.{laid_others}
+use Rattle.asking_worlds.proofs.Lent.{request_lent}
+use Rattle.whole_worlds.specs.LendFeeds.{LendsTransfer}
 use Rattle.whole_worlds.specs.Whole.{IsWhole}
 use Rattle.whole_worlds.proofs.Lending.{lends, after_lend}
 use Rattle.asking_worlds.specs.Asking.{Sides, Asking, is_publishing, is_next_of, HasCourse, IsWritten, IsHeldRequest, IsPublishingAt, IsPublishingBy, IsPublishing, IsReadTo, IsMetControl, IsAskingWorld}

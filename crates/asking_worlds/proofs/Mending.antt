@@ -48,15 +48,15 @@ use Rattle.world_requests.specs.Requesting.{wired}
 use Rattle.world_requests.specs.Recorded.{Windows}
 use Rattle.driver_requests.specs.Requests.{IsLaidOut}
 use Rattle.driver_requests.specs.Rows.{given_by, KeepsEndpoint}
-use Rattle.asking_queues.specs.Courses.{Course, NoQueue, Asks, Rests, has_queue, is_asking, queue_in, tail_in, have_queues, IsResting, IsCourse, CoursesStand, with_course}
-use Rattle.asking_queues.specs.Changes.{first_from, first_in, mended_from, mended_course, IsMendedTo}
-use Rattle.asking_queues.proofs.Changing.{each_with}
-use Rattle.asking_queues.proofs.Mending.{mend_stands, mend_goes_on}
-use Rattle.asking_transfers.specs.Records.{Numbers, IsRecord, AreRecords}
-use Rattle.asking_transfers.proofs.Changing.{mended_recorded}
-use Rattle.asking_transfers.proofs.Rows.{row_recorded}
-use Rattle.feeding_worlds.specs.Mends.{mended}
-use Rattle.feeding_worlds.proofs.Mending.{mend_finds}
+use Rattle.asking_worlds.specs.Courses.{Course, NoQueue, Asks, Rests, has_queue, is_asking, queue_in, tail_in, have_queues, IsResting, IsCourse, CoursesStand, with_course}
+use Rattle.asking_worlds.specs.QueueChanges.{first_from, first_in, mended_from, mended_course, IsMendedTo}
+use Rattle.asking_worlds.proofs.QueueChanging.{each_with}
+use Rattle.asking_worlds.proofs.QueueMending.{mend_stands, mend_goes_on}
+use Rattle.asking_worlds.specs.Records.{Numbers, IsRecord, AreRecords}
+use Rattle.asking_worlds.proofs.TransferChanging.{mended_recorded}
+use Rattle.asking_worlds.proofs.Rows.{row_recorded}
+use Rattle.whole_worlds.specs.Mends.{mended}
+use Rattle.whole_worlds.proofs.FedMending.{mend_finds}
 use Rattle.whole_worlds.specs.Whole.{IsWhole}
 use Rattle.whole_worlds.proofs.Mending.{whole_mended}
 use Rattle.asking_worlds.specs.Asking.{Sides, Asking, has_left, next_with, next_in, HasCourse, IsMetControl, IsReadTo, IsAskingWorld, HasAskingWorld}

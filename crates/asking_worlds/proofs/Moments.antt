@@ -18,7 +18,7 @@ use Rattle.receiving_runs.specs.Runs as runs
 use Rattle.world_requests.specs.Along.{KindOfLine}
 use Rattle.world_requests.proofs.Along.{holds_with_windows}
 use Rattle.world_requests.specs.Recorded.{Windows, windows_at, asks_at, after_event, asks_then}
-use Rattle.feeding_worlds.specs.Feeding.{streams_of}
+use Rattle.whole_worlds.specs.Feeding.{streams_of}
 use Rattle.whole_worlds.specs.Whole.{HasWhole}
 use Rattle.whole_worlds.proofs.Fewer.{are_fewer}
 use Rattle.whole_worlds.proofs.Moments.{CanBe, script_can, opens_still}

@@ -37,13 +37,13 @@ use Rattle.told_requests.specs.Waiting.{waiting}
 use Rattle.told_requests.proofs.WaitingHarvests.{other_harvest_waits, harvest_keeps_waits}
 use Rattle.driver_requests.proofs.Owning.{qtds_case}
 use Rattle.driver_requests.proofs.RowOrder.{row_numbers}
-use Rattle.asking_queues.specs.Courses.{queue_in}
-use Rattle.asking_transfers.specs.Counts.{counted_all}
-use Rattle.asking_transfers.specs.Records.{AreRecords}
-use Rattle.asking_transfers.proofs.Rows.{row_recorded}
-use Rattle.feeding_worlds.specs.HarvestFeeds.{HarvestLeaves}
-use Rattle.feeding_worlds.specs.Tails.{tail_of, tail_block}
-use Rattle.feeding_worlds.proofs.Told.{control_kind}
+use Rattle.asking_worlds.specs.Courses.{queue_in}
+use Rattle.asking_worlds.specs.Counts.{counted_all}
+use Rattle.asking_worlds.specs.Records.{AreRecords}
+use Rattle.asking_worlds.proofs.Rows.{row_recorded}
+use Rattle.whole_worlds.specs.HarvestFeeds.{HarvestLeaves}
+use Rattle.standing_fronts.specs.Tails.{tail_of, tail_block}
+use Rattle.whole_worlds.proofs.Told.{control_kind}
 use Rattle.whole_worlds.specs.Whole.{IsWhole}
 use Rattle.whole_worlds.proofs.Leaving.{due, leaves, whole_harvested}
 use Rattle.asking_worlds.specs.Asking.{Sides, Asking, has_left, is_next_of, is_publishing, next_with, DataIsRead, HasCourse, IsPublishingBy, IsMetControl, IsReadTo, IsAskingWorld}

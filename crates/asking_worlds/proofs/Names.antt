@@ -26,7 +26,7 @@ use Rattle.bus_world.specs.World.{World}
 use Rattle.stream_worlds.specs.Streaming.{Streams, Standing}
 use Rattle.world_requests.specs.Requesting.{wired}
 use Rattle.world_requests.specs.Recorded.{Windows}
-use Rattle.feeding_worlds.specs.Feeding.{opens}
+use Rattle.whole_worlds.specs.Feeding.{opens}
 use Rattle.whole_worlds.specs.Whole.{IsWhole}
 use Rattle.asking_worlds.specs.Asking.{Sides, IsGiven, Asking, has_left, left_with, is_opening, IsControlOf, IsAskingWorld}
 

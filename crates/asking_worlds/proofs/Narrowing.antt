@@ -11,9 +11,9 @@ use Rattle.ring_laws.specs.Hand.{Hand}
 use Rattle.ring_laws.specs.Stores.{IsWider}
 use Rattle.ring_requests.specs.Windows.{Queue, Lines, IsQueue, IsElsewhere}
 use Rattle.world_requests.specs.Recorded.{Windows, numbers_of}
-use Rattle.asking_queues.specs.Courses.{Course, NoQueue, Asks, has_queue, queue_in, IsCourse, queues, have_queues, CoursesStand}
-use Rattle.asking_transfers.specs.Records.{Numbers, IsOnceAt, IsRecord, AreRecords}
-use Rattle.asking_transfers.proofs.Changing.{course_gone}
+use Rattle.asking_worlds.specs.Courses.{Course, NoQueue, Asks, has_queue, queue_in, IsCourse, queues, have_queues, CoursesStand}
+use Rattle.asking_worlds.specs.Records.{Numbers, IsOnceAt, IsRecord, AreRecords}
+use Rattle.asking_worlds.proofs.TransferChanging.{course_gone}
 use Rattle.asking_worlds.specs.Narrowing.{courses_met, CoursesAreMet, HadQueue, HaveGone, RecordsAreMet}
 
 met_by : (b : Bool) (c : Course) → has_queue (if b then c else NoQueue) ≡ true → (b ≡ true) × ((if b then c else NoQueue) ≡ c)

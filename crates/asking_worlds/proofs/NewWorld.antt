@@ -19,18 +19,18 @@ use Rattle.open_names.proofs.Apart.{new_apart}
 use Rattle.world_bytes.proofs.Turning.{opened_bytes}
 use Rattle.bus_world.specs.Rooms.{reserve_of}
 use Rattle.shared_worlds.specs.Working.{at_opening}
-use Rattle.feeding_worlds.proofs.FeedingOpening.{new_world_feeds}
-use Rattle.feeding_worlds.proofs.Opening.{new_world_left}
-use Rattle.feeding_worlds.proofs.TakingOpening.{new_world_taking}
+use Rattle.whole_worlds.proofs.FeedingOpening.{new_world_feeds}
+use Rattle.whole_worlds.proofs.FedOpening.{new_world_left}
+use Rattle.whole_worlds.proofs.TakingOpening.{new_world_taking}
 use Rattle.driver_rows.specs.Words.{head_block, opening_head}
 use Rattle.ring_laws.specs.Told.{endpoint_of}
 use Rattle.bus_world.specs.Opening.{opening_world}
 use Rattle.stream_worlds.specs.Streaming.{Streams, Standing}
 use Rattle.stream_worlds.specs.Takers.{takes_of}
 use Rattle.world_requests.specs.Recorded.{no_windows, no_asks}
-use Rattle.asking_queues.specs.Courses.{NoQueue, nobody}
-use Rattle.asking_transfers.specs.Records.{Numbers}
-use Rattle.feeding_worlds.specs.Feeding.{streams_of}
+use Rattle.asking_worlds.specs.Courses.{NoQueue, nobody}
+use Rattle.asking_worlds.specs.Records.{Numbers}
+use Rattle.whole_worlds.specs.Feeding.{streams_of}
 use Rattle.whole_worlds.specs.Whole.{IsWhole}
 use Rattle.asking_worlds.specs.Asking.{Sides, Asking, left_with, IsAskingWorld}
 use Rattle.asking_worlds.specs.AskingLaws.{IsFirst, NewWorldAsks}

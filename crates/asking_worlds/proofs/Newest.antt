@@ -24,9 +24,9 @@ use Rattle.ring_requests.specs.Windows.{Sent}
 use Rattle.world_requests.specs.Recorded.{Windows}
 use Rattle.driver_requests.specs.Requests.{IsLaidOut}
 use Rattle.driver_requests.proofs.Owning.{qtds_case, first_piece, setup_place, IsQtdAt, status_place, data_place, owned_piece}
-use Rattle.asking_queues.specs.Courses.{queue_in, have_queues}
-use Rattle.asking_transfers.specs.Records.{IsRecord}
-use Rattle.feeding_worlds.specs.Tails.{tail_block}
+use Rattle.asking_worlds.specs.Courses.{queue_in, have_queues}
+use Rattle.asking_worlds.specs.Records.{IsRecord}
+use Rattle.standing_fronts.specs.Tails.{tail_block}
 use Rattle.asking_worlds.specs.Asking.{Sides, Asking, is_publishing, is_next_of, HasCourse, IsMetControl}
 use Rattle.asking_worlds.proofs.Inside.{AsksIn}
 

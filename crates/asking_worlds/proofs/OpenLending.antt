@@ -28,10 +28,10 @@ use Rattle.stream_worlds.specs.Streaming.{Streams, Standing}
 use Rattle.world_requests.specs.Requesting.{wired}
 use Rattle.world_requests.specs.Recorded.{Windows, numbers_of}
 use Rattle.driver_requests.specs.Rows.{given_by, KeepsEndpoint}
-use Rattle.asking_queues.specs.Courses.{have_queues, CoursesStand}
-use Rattle.asking_queues.proofs.Writing.{same_hand, same_side}
-use Rattle.asking_transfers.specs.Records.{AreRecords}
-use Rattle.asking_transfers.proofs.Rows.{row_recorded}
+use Rattle.asking_worlds.specs.Courses.{have_queues, CoursesStand}
+use Rattle.asking_worlds.proofs.Writing.{same_hand, same_side}
+use Rattle.asking_worlds.specs.Records.{AreRecords}
+use Rattle.asking_worlds.proofs.Rows.{row_recorded}
 use Rattle.whole_worlds.specs.Whole.{IsWhole}
 use Rattle.whole_worlds.proofs.OpenLending.{driver_is, stay, spares_head, open_lent}
 use Rattle.asking_worlds.specs.Asking.{Sides, Asking, has_left, is_opening, IsMetControl, IsReadTo, IsAskingWorld, HasAskingWorld}

@@ -31,7 +31,7 @@ use Rattle.publish_laws.proofs.Apart.{thirty_two}
 use Rattle.report_text.specs.ReportText.{AreStored}
 use Rattle.told_endpoints.specs.Telling.{lines_in}
 use Rattle.told_requests.specs.Told.{left_after, has_cancel}
-use Rattle.asking_reports.specs.Telling.{IsTelling}
+use Rattle.asking_worlds.specs.Telling.{IsTelling}
 use Rattle.ring_requests.specs.Runs.{first_of}
 use Rattle.report_streams.specs.Requests.{Request, AreTold}
 use Rattle.request_calls.specs.Bus.{device_of}
@@ -54,18 +54,18 @@ use Rattle.bus_world.specs.World.{World, driver_parts, driver_next, with_parts}
 use Rattle.stream_worlds.specs.Streaming.{Streams, Standing}
 use Rattle.world_requests.specs.Requesting.{wired}
 use Rattle.world_requests.specs.Recorded.{Windows, numbers_from, numbers_of}
-use Rattle.asking_queues.specs.Courses.{Course, NoQueue, Asks, Rests, has_queue, queue_in, nobody, queues, have_queues, with_course, CoursesStand}
-use Rattle.asking_queues.specs.Changes.{IsNewCourse}
-use Rattle.asking_queues.proofs.Beginning.{course_begins}
-use Rattle.asking_queues.proofs.Changing.{members_change, with_here as course_here, with_beside as course_beside}
-use Rattle.asking_queues.proofs.Writing.{link_spares}
-use Rattle.asking_transfers.specs.Records.{Numbers, IsRecord, AreRecords}
-use Rattle.asking_transfers.specs.Changes.{with_numbers}
-use Rattle.asking_transfers.specs.Counts.{counted_all}
-use Rattle.asking_transfers.proofs.Changing.{course_recorded, new_recorded}
-use Rattle.asking_transfers.proofs.Rows.{kept_recorded}
-use Rattle.feeding_worlds.specs.Feeding.{opens}
-use Rattle.feeding_worlds.proofs.FeedingLinks.{linked, found, at_open, more}
+use Rattle.asking_worlds.specs.Courses.{Course, NoQueue, Asks, Rests, has_queue, queue_in, nobody, queues, have_queues, with_course, CoursesStand}
+use Rattle.asking_worlds.specs.QueueChanges.{IsNewCourse}
+use Rattle.asking_worlds.proofs.Beginning.{course_begins}
+use Rattle.asking_worlds.proofs.QueueChanging.{members_change, with_here as course_here, with_beside as course_beside}
+use Rattle.asking_worlds.proofs.Writing.{link_spares}
+use Rattle.asking_worlds.specs.Records.{Numbers, IsRecord, AreRecords}
+use Rattle.asking_worlds.specs.TransferChanges.{with_numbers}
+use Rattle.asking_worlds.specs.Counts.{counted_all}
+use Rattle.asking_worlds.proofs.TransferChanging.{course_recorded, new_recorded}
+use Rattle.asking_worlds.proofs.Rows.{kept_recorded}
+use Rattle.whole_worlds.specs.Feeding.{opens}
+use Rattle.whole_worlds.proofs.FeedingLinks.{linked, found, at_open, more}
 use Rattle.whole_worlds.specs.Whole.{IsWhole}
 use Rattle.whole_worlds.proofs.Linked.{linked_whole}
 use Rattle.asking_worlds.specs.Asking.{Sides, IsGiven, Asking, has_left, HasCourse, IsReadTo, HasTelling, IsCounted, is_opening, IsUnheard, IsControlOf, IsMetControl, IsAskingWorld, HasAskingWorld}

@@ -33,10 +33,10 @@ use Rattle.stream_worlds.specs.Streaming.{Streams, Standing}
 use Rattle.world_requests.specs.Recorded.{Windows}
 use Rattle.world_requests.specs.Requesting.{wired}
 use Rattle.driver_requests.specs.Rows.{KeepsRequests}
-use Rattle.asking_queues.specs.Courses.{queue_in}
-use Rattle.asking_transfers.proofs.Rows.{kept_recorded}
-use Rattle.feeding_worlds.specs.Feeding.{opens}
-use Rattle.feeding_worlds.specs.Tails.{tail_block}
+use Rattle.asking_worlds.specs.Courses.{queue_in}
+use Rattle.asking_worlds.proofs.Rows.{kept_recorded}
+use Rattle.whole_worlds.specs.Feeding.{opens}
+use Rattle.standing_fronts.specs.Tails.{tail_block}
 use Rattle.whole_worlds.specs.Whole.{IsWhole}
 use Rattle.whole_worlds.proofs.Commanding.{whole_commanded}
 use Rattle.asking_worlds.specs.Asking.{Sides, IsGiven, Asking, left_with, has_left, is_publishing, is_opening, IsMetControl, IsAskingWorld}

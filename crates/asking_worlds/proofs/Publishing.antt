@@ -1,7 +1,7 @@
 -- Requests stand as they must while the driver publishes a transfer.
 use Rattle.whole_worlds.proofs.Lending.{after_lend, whole_lent}
 use Rattle.whole_worlds.proofs.Worlds.{whole_after}
-use Rattle.feeding_worlds.proofs.FeedingStores.{after_store}
+use Rattle.whole_worlds.proofs.FeedingStores.{after_store}
 use Rattle.bus_world.specs.World.{driver_next}
 use Rattle.asking_worlds.specs.Publishing.{LendKeepsAsking, StoreKeepsAsking}
 use Rattle.asking_worlds.proofs.Has.{asking_of}

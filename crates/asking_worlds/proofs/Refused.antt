@@ -27,12 +27,12 @@ use Rattle.driver_requests.proofs.Ordering.{asked_before}
 use Rattle.bus_world.specs.World.{World, name_in, refused_line, commanded_by}
 use Rattle.stream_worlds.specs.Streaming.{Standing}
 use Rattle.world_requests.specs.Recorded.{Windows, endpoint_of as transfers_endpoint, numbers_of, window_at, asks_then}
-use Rattle.asking_queues.specs.Courses.{Course}
-use Rattle.asking_transfers.specs.Records.{Numbers, IsOnceAt, IsClosed, IsRecord, AreRecords}
-use Rattle.asking_transfers.proofs.Lists.{all_map, all_both, numbers_are}
-use Rattle.asking_transfers.proofs.Rows.{kept_recorded}
-use Rattle.asking_reports.specs.Telling.{IsTelling}
-use Rattle.asking_reports.proofs.Telling.{split}
+use Rattle.asking_worlds.specs.Courses.{Course}
+use Rattle.asking_worlds.specs.Records.{Numbers, IsOnceAt, IsClosed, IsRecord, AreRecords}
+use Rattle.asking_worlds.proofs.Lists.{all_map, all_both, numbers_are}
+use Rattle.asking_worlds.proofs.Rows.{kept_recorded}
+use Rattle.asking_worlds.specs.Telling.{IsTelling}
+use Rattle.asking_worlds.proofs.Telling.{split}
 use Rattle.asking_worlds.specs.Asking.{Sides, Asking, has_left, IsPublishingBy, IsMetControl, IsAskingWorld}
 use Rattle.asking_worlds.specs.AskingLaws.{RefusedKeepsAsking}
 

@@ -42,13 +42,13 @@ use Rattle.world_requests.specs.Recorded.{Windows, numbers_of}
 use Rattle.driver_requests.specs.Requests.{IsOfTransfer, IsLaidOut}
 use Rattle.driver_requests.proofs.Owning.{qtds_case, first_piece, second_piece, setup_place, status_place, data_place, IsQtdAt, owned_piece}
 use Rattle.driver_requests.proofs.RowOrder.{row_numbers}
-use Rattle.asking_queues.specs.Courses.{queues, have_queues, CoursesStand}
-use Rattle.asking_queues.specs.Spared.{GoBeside}
-use Rattle.asking_queues.proofs.Writing.{release_spares, same_hand}
-use Rattle.asking_transfers.specs.Records.{AreRecords}
-use Rattle.asking_transfers.proofs.Rows.{row_recorded}
-use Rattle.asking_reports.specs.Telling.{IsTelling}
-use Rattle.asking_reports.proofs.Telling.{quiet_row}
+use Rattle.asking_worlds.specs.Courses.{queues, have_queues, CoursesStand}
+use Rattle.asking_worlds.specs.Spared.{GoBeside}
+use Rattle.asking_worlds.proofs.Writing.{release_spares, same_hand}
+use Rattle.asking_worlds.specs.Records.{AreRecords}
+use Rattle.asking_worlds.proofs.Rows.{row_recorded}
+use Rattle.asking_worlds.specs.Telling.{IsTelling}
+use Rattle.asking_worlds.proofs.Telling.{quiet_row}
 use Rattle.whole_worlds.specs.Whole.{IsWhole}
 use Rattle.whole_worlds.proofs.Returning.{due, owed, transfer, endpoint, returning, stand}
 use Rattle.whole_worlds.proofs.Releasing.{standing, whole_released}

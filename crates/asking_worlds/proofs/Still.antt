@@ -26,9 +26,9 @@ use Rattle.driver_requests.specs.Rows.{KeepsRequests}
 use Rattle.bus_world.specs.World.{World, driver_parts, with_parts, driver_next}
 use Rattle.stream_worlds.specs.Streaming.{Standing}
 use Rattle.world_requests.specs.Recorded.{Windows}
-use Rattle.feeding_worlds.specs.FeedingLaws.{is_still}
-use Rattle.asking_transfers.specs.Records.{AreRecords}
-use Rattle.asking_transfers.proofs.Rows.{kept_recorded}
+use Rattle.whole_worlds.specs.FeedingLaws.{is_still}
+use Rattle.asking_worlds.specs.Records.{AreRecords}
+use Rattle.asking_worlds.proofs.Rows.{kept_recorded}
 use Rattle.whole_worlds.proofs.Still.{whole_still}
 use Rattle.asking_worlds.specs.Asking.{Sides, Asking, has_left, left_with, IsPublishingBy, IsMetControl, IsAskingWorld}
 use Rattle.asking_worlds.specs.AskingLaws.{StillKeepsAsking}

@@ -46,21 +46,21 @@ use Rattle.stream_worlds.specs.Streaming.{Streams, Standing}
 use Rattle.world_requests.specs.Recorded.{Windows}
 use Rattle.world_requests.specs.Requesting.{wired}
 use Rattle.driver_requests.proofs.Owning.{qtds_case, second_piece, element_of, owned_piece}
-use Rattle.asking_queues.specs.Coming.{IsComing}
-use Rattle.asking_queues.specs.Courses.{Course, NoQueue, Asks, Rests, has_queue, is_asking, queue_in, tail_in, have_queues, IsCourse, CoursesStand, with_course}
-use Rattle.asking_queues.specs.Changes.{IsPublishedAt}
-use Rattle.asking_queues.specs.Spared.{IsNoRequests}
-use Rattle.asking_queues.proofs.Coming.{store_coming, coming_is_published}
-use Rattle.asking_queues.proofs.Publishing.{asked_store, rest_store, halted_store}
-use Rattle.asking_queues.proofs.Writing.{store_spares}
-use Rattle.asking_transfers.specs.Records.{Numbers, IsRecord, AreRecords}
-use Rattle.asking_transfers.specs.Changes.{with_numbers, next_request}
-use Rattle.asking_transfers.proofs.Changing.{course_recorded, behind_published, first_published, halted_published}
-use Rattle.asking_transfers.proofs.Rows.{kept_recorded}
-use Rattle.feeding_worlds.specs.Feeding.{opens}
-use Rattle.feeding_worlds.specs.Tails.{tail_block}
-use Rattle.feeding_worlds.proofs.FeedingStores.{at, after_store}
-use Rattle.feeding_worlds.proofs.Storing.{by_store, element}
+use Rattle.asking_worlds.specs.Coming.{IsComing}
+use Rattle.asking_worlds.specs.Courses.{Course, NoQueue, Asks, Rests, has_queue, is_asking, queue_in, tail_in, have_queues, IsCourse, CoursesStand, with_course}
+use Rattle.asking_worlds.specs.QueueChanges.{IsPublishedAt}
+use Rattle.asking_worlds.specs.Spared.{IsNoRequests}
+use Rattle.asking_worlds.proofs.Coming.{store_coming, coming_is_published}
+use Rattle.asking_worlds.proofs.QueuePublishing.{asked_store, rest_store, halted_store}
+use Rattle.asking_worlds.proofs.Writing.{store_spares}
+use Rattle.asking_worlds.specs.Records.{Numbers, IsRecord, AreRecords}
+use Rattle.asking_worlds.specs.TransferChanges.{with_numbers, next_request}
+use Rattle.asking_worlds.proofs.TransferChanging.{course_recorded, behind_published, first_published, halted_published}
+use Rattle.asking_worlds.proofs.Rows.{kept_recorded}
+use Rattle.whole_worlds.specs.Feeding.{opens}
+use Rattle.standing_fronts.specs.Tails.{tail_block}
+use Rattle.whole_worlds.proofs.FeedingStores.{at, after_store}
+use Rattle.whole_worlds.proofs.Storing.{by_store, element}
 use Rattle.whole_worlds.specs.Whole.{IsWhole}
 use Rattle.asking_worlds.specs.Asking.{Sides, Asking, has_left, is_publishing, is_next_of, next_with, HasCourse, IsWritten, IsPublishingAt, IsPublishingBy, IsPublishing, IsReadTo, HasTelling, IsMetControl, IsAskingWorld}
 use Rattle.asking_worlds.proofs.Awaited.{one_qtd}

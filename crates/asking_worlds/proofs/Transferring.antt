@@ -15,7 +15,7 @@ use Rattle.bus_world.specs.World.{World, name_in, commanded_by, commanded}
 use Rattle.stream_worlds.specs.Streaming.{Streams, Standing}
 use Rattle.world_requests.specs.Recorded.{Windows, asks_then}
 use Rattle.world_requests.specs.Requesting.{wired}
-use Rattle.asking_transfers.proofs.Lists.{all_more}
+use Rattle.asking_worlds.proofs.Lists.{all_more}
 use Rattle.whole_worlds.specs.Whole.{IsWhole}
 use Rattle.whole_worlds.proofs.Commanding.{whole_commanded}
 use Rattle.asking_worlds.specs.Asking.{Sides, Asking, IsAskingWorld}

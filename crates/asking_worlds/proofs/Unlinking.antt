@@ -25,14 +25,14 @@ use Rattle.stream_worlds.specs.Streaming.{Streams, Standing}
 use Rattle.world_requests.specs.Requesting.{wired}
 use Rattle.world_requests.specs.Recorded.{Windows}
 use Rattle.driver_requests.specs.Rows.{given_by, KeepsEndpoint}
-use Rattle.asking_queues.specs.Courses.{CoursesStand}
-use Rattle.asking_queues.proofs.Writing.{link_spares}
-use Rattle.asking_transfers.specs.Records.{AreRecords}
-use Rattle.asking_transfers.proofs.Rows.{row_recorded}
-use Rattle.feeding_worlds.specs.Feeding.{opens}
-use Rattle.feeding_worlds.specs.Leaving.{unlinked}
-use Rattle.feeding_worlds.specs.Tails.{IsUnderWay}
-use Rattle.feeding_worlds.proofs.Unlinking.{unlink_finds}
+use Rattle.asking_worlds.specs.Courses.{CoursesStand}
+use Rattle.asking_worlds.proofs.Writing.{link_spares}
+use Rattle.asking_worlds.specs.Records.{AreRecords}
+use Rattle.asking_worlds.proofs.Rows.{row_recorded}
+use Rattle.whole_worlds.specs.Feeding.{opens}
+use Rattle.whole_worlds.specs.Leaving.{unlinked}
+use Rattle.whole_worlds.specs.Tails.{IsUnderWay}
+use Rattle.whole_worlds.proofs.Unlinking.{unlink_finds}
 use Rattle.whole_worlds.specs.Whole.{IsWhole}
 use Rattle.whole_worlds.proofs.LeavingUnlinked.{unlink_whole}
 use Rattle.asking_worlds.specs.Asking.{Sides, Asking, left_with, has_left, IsMetControl, IsReadTo, IsAskingWorld, HasAskingWorld}

@@ -15,9 +15,9 @@ use Rattle.bus_world.specs.World.{World, driver_parts, driver_next, with_parts}
 use Rattle.stream_worlds.specs.Streaming.{Streams, Standing}
 use Rattle.world_requests.specs.Recorded.{Windows}
 use Rattle.driver_requests.specs.Rows.{KeepsRequests}
-use Rattle.asking_transfers.specs.Records.{AreRecords}
-use Rattle.asking_transfers.proofs.Rows.{kept_recorded}
-use Rattle.feeding_worlds.specs.HarvestFeeds.{HarvestLeaves}
+use Rattle.asking_worlds.specs.Records.{AreRecords}
+use Rattle.asking_worlds.proofs.Rows.{kept_recorded}
+use Rattle.whole_worlds.specs.HarvestFeeds.{HarvestLeaves}
 use Rattle.whole_worlds.specs.Whole.{IsWhole}
 use Rattle.whole_worlds.proofs.Leaving.{due, leaves, whole_harvested}
 use Rattle.asking_worlds.specs.Asking.{Sides, Asking, has_left, IsPublishingBy, IsMetControl, IsAskingWorld}

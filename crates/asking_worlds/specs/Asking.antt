@@ -55,13 +55,13 @@ use Rattle.bus_world.specs.World.{World}
 use Rattle.stream_worlds.specs.Streaming.{Standing}
 use Rattle.world_requests.specs.Requesting.{wired}
 use Rattle.world_requests.specs.Recorded.{Windows, numbers_of}
-use Rattle.asking_queues.specs.Courses.{Course, has_queue, is_asking, queue_in, tail_in, CoursesStand}
-use Rattle.asking_queues.specs.Coming.{IsComing}
-use Rattle.asking_transfers.specs.Records.{Numbers, AreRecords}
-use Rattle.asking_transfers.specs.Counts.{counted_all}
-use Rattle.asking_reports.specs.Telling.{IsTelling, IsUncancelled}
-use Rattle.feeding_worlds.specs.Feeding.{opens}
-use Rattle.feeding_worlds.specs.Tails.{tail_of}
+use Rattle.asking_worlds.specs.Courses.{Course, has_queue, is_asking, queue_in, tail_in, CoursesStand}
+use Rattle.asking_worlds.specs.Coming.{IsComing}
+use Rattle.asking_worlds.specs.Records.{Numbers, AreRecords}
+use Rattle.asking_worlds.specs.Counts.{counted_all}
+use Rattle.asking_worlds.specs.Telling.{IsTelling, IsUncancelled}
+use Rattle.whole_worlds.specs.Feeding.{opens}
+use Rattle.standing_fronts.specs.Tails.{tail_of}
 use Rattle.whole_worlds.specs.Whole.{IsWhole, StaysOpen, AreOf}
 use Rattle.asking_worlds.specs.Missed.{MissNone}
 

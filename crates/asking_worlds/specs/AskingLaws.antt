@@ -20,8 +20,8 @@ use Rattle.bus_world.specs.Opening.{opening_world}
 use Rattle.stream_worlds.specs.Streaming.{Streams, Standing}
 use Rattle.stream_worlds.specs.Takers.{takes_of}
 use Rattle.world_requests.specs.Recorded.{Windows, no_windows, no_asks, asks_then, after_event}
-use Rattle.feeding_worlds.specs.Feeding.{streams_of}
-use Rattle.feeding_worlds.specs.FeedingLaws.{is_still}
+use Rattle.whole_worlds.specs.Feeding.{streams_of}
+use Rattle.whole_worlds.specs.FeedingLaws.{is_still}
 use Rattle.whole_worlds.specs.Whole.{IsWhole}
 use Rattle.asking_worlds.specs.Asking.{Sides, Asking, IsAskingWorld, HasAskingWorld}
 

@@ -20,7 +20,7 @@ use Rattle.ring_laws.specs.Told.{endpoint_of}
 use Rattle.bus_world.specs.World.{World, commanded}
 use Rattle.stream_worlds.specs.Streaming.{Streams, Standing}
 use Rattle.world_requests.specs.Recorded.{Windows, asks_then}
-use Rattle.feeding_worlds.specs.LeftLaws.{OpensNamed}
+use Rattle.whole_worlds.specs.LeftLaws.{OpensNamed}
 use Rattle.whole_worlds.specs.Whole.{IsWhole}
 use Rattle.whole_worlds.specs.Laws.{OpensTo}
 use Rattle.asking_worlds.specs.Asking.{Sides, Asking, IsAskingWorld, HasAskingWorld}

@@ -25,9 +25,9 @@ use Rattle.bus_world.specs.World.{World, driver_parts}
 use Rattle.stream_worlds.specs.Streaming.{Streams, Standing}
 use Rattle.world_requests.specs.Requesting.{wired}
 use Rattle.world_requests.specs.Recorded.{Windows}
-use Rattle.asking_queues.specs.Courses.{Course, Asks, has_queue, is_asking, queue_in, tail_in, with_course, CoursesStand}
-use Rattle.asking_transfers.specs.Records.{Numbers, AreRecords}
-use Rattle.asking_transfers.specs.Changes.{with_numbers, first_closed, all_closed}
+use Rattle.asking_worlds.specs.Courses.{Course, Asks, has_queue, is_asking, queue_in, tail_in, with_course, CoursesStand}
+use Rattle.asking_worlds.specs.Records.{Numbers, AreRecords}
+use Rattle.asking_worlds.specs.TransferChanges.{with_numbers, first_closed, all_closed}
 use Rattle.whole_worlds.specs.Whole.{IsWhole}
 use Rattle.asking_worlds.specs.Asking.{Sides, Asking, has_left, HasTelling, IsAskingWorld}
 use Rattle.asking_worlds.specs.Reading.{AreSilent, IsAtRequest}

@@ -19,7 +19,7 @@ use Rattle.report_streams.specs.Requests.{Window, data_of, has_acted, AreTold, A
 use Rattle.bus_world.specs.Budgets.{moment}
 use Rattle.right_reports.specs.WorldReport.{report_of}
 use Rattle.world_requests.specs.Recorded.{windows_at, asks_at, windows_of}
-use Rattle.asking_reports.specs.Right.{AreOnce}
+use Rattle.asking_worlds.specs.Right.{AreOnce}
 use Rattle.asking_worlds.specs.Asking.{is_opening}
 use Rattle.asking_worlds.specs.Given.{AsynchronousOfDevices}
 

@@ -12,8 +12,8 @@ use Rattle.request_calls.specs.Bus.{Device}
 use Rattle.ring_laws.specs.Hand.{Hand}
 use Rattle.ring_laws.specs.Stores.{IsWider}
 use Rattle.world_requests.specs.Recorded.{Windows}
-use Rattle.asking_queues.specs.Courses.{Course, NoQueue, have_queues, CoursesStand}
-use Rattle.asking_transfers.specs.Records.{Numbers, AreRecords}
+use Rattle.asking_worlds.specs.Courses.{Course, NoQueue, have_queues, CoursesStand}
+use Rattle.asking_worlds.specs.Records.{Numbers, AreRecords}
 
 abbrev pub courses_met : (ℕ → Bool) → (ℕ → Course) → ℕ → Course
 courses_met narrow courses n = if narrow n then courses n else NoQueue

@@ -15,7 +15,7 @@ use Rattle.stream_worlds.specs.Streaming.{Streams, Standing}
 use Rattle.world_requests.specs.Recorded.{Windows, asks_then}
 use Rattle.chained_transfers.specs.Asynchronous.{OpensAsynchronous}
 use Rattle.walk_members.specs.Reached.{OpensNumbered}
-use Rattle.feeding_worlds.specs.LeftLaws.{OpensNamed}
+use Rattle.whole_worlds.specs.LeftLaws.{OpensNamed}
 use Rattle.whole_worlds.specs.Whole.{IsWhole}
 use Rattle.whole_worlds.specs.Laws.{OpensTo}
 use Rattle.asking_worlds.specs.Asking.{Sides, Asking, IsAskingWorld, HasAskingWorld}

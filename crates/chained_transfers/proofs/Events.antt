@@ -49,9 +49,9 @@ use Rattle.chained_transfers.proofs.Staying.{stands_alive, stands_fresh}
 -- ---- a harvest
 
 -- what an event leaves: turns, and endpoints that were opened as before
-record EventLeaves (d f : DriverContent) : Type 0 where
-  turns : AsynchronousTakesTurns f
-  descs : KeepDescs f.endpoints d.endpoints
+pub record EventLeaves (d f : DriverContent) : Type 0 where
+  pub turns : AsynchronousTakesTurns f
+  pub descs : KeepDescs f.endpoints d.endpoints
 
 module _ (p : Parts) (e t : ℕ) (found : Found) (due : IsHarvestDue p e t found) (only : OnlyAsynchronous p.driver) where
   is_found : found ≡ found_in due.transfer.sort (nat_le due.transfer.left 1) (note_at p.driver.notes due.transfer.place) (token_in p.memory due.transfer.place)
@@ -291,7 +291,7 @@ quiet d mends waiting rung cleared bell next rs none old =
 
 -- ---- any event
 
-due_leaves : (row : DriverRow) (p : Parts) → IsDue p row → IsOrderly p.driver → AsynchronousTakesTurns p.driver → EventLeaves p.driver (after_driver_row row p).driver
+pub due_leaves : (row : DriverRow) (p : Parts) → IsDue p row → IsOrderly p.driver → AsynchronousTakesTurns p.driver → EventLeaves p.driver (after_driver_row row p).driver
 due_leaves rows.Lend p due order old =
     let r = old.asynchronous in
     let d = record p.driver { book = (lend_taken (holding p.driver.book p.memory)).book } in

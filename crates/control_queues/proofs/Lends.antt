@@ -1,5 +1,5 @@
 -- A transfer that is lent leaves what stands of control queues.
-use Rattle.std.proofs.Common.{◌≡◌, ◌≢◌, ℕ, suc, ◌+◌, ◌*◌, ◌<◌, ◌≤◌, Bool, true, List, ◌∷◌, ◌++◌, length, slice_get, Some, option_map, ap, refl, sym, subst, ◌∙◌, ⊎_elim, inl, inr, ◌⊎◌, arith}
+use Rattle.std.proofs.Common.{◌≡◌, ◌≢◌, ℕ, suc, ◌*◌, ◌<◌, ◌≤◌, Bool, true, List, ◌∷◌, ◌++◌, length, slice_get, Some, option_map, ap, refl, sym, subst, ◌∙◌, ⊎_elim, inl, inr, arith}
 use Rattle.std.proofs.lemmas.Bool.{cases_eq}
 use Rattle.std.proofs.lemmas.Option.{same_Some}
 use Rattle.word_mem.specs.Memory.{Mem}
@@ -12,14 +12,12 @@ use Rattle.driver_rows.specs.declared.content.Transfer.{Transfer}
 use Rattle.driver_rows.specs.DriverContent.{DriverContent}
 use Rattle.driver_rows.specs.Rows.{Parts as DriverParts}
 use Rattle.run_owners.specs.Owners.{TransferRuns, EndpointRuns, runs_of_transfer, runs_of_endpoint, views_of}
-use Rattle.chained_transfers.specs.AsynchronousTurns.{AsynchronousTakesTurns}
-use Rattle.lent_structures.specs.Sound.{IsMember, IsElement, LeadsOn}
+use Rattle.chained_transfers.specs.Asynchronous.{OnlyAsynchronous}
 use Rattle.lent_structures.specs.Structures.{Structure, QueueHead, Element, Structures, StructureSets}
 use Rattle.lent_structures.proofs.Altering.{found_queue}
 use Rattle.ring_laws.specs.Front.{SameRest, LinksRise}
 use Rattle.ring_laws.specs.Halted.{HaltStops, KeepsRest, IsKeptOrPublished}
 use Rattle.ring_laws.specs.Order.{IsSorted, IsAmong}
-use Rattle.ring_laws.specs.Streams.{AreMembers}
 use Rattle.ring_laws.specs.Told.{Endpoint as Told}
 use Rattle.ring_laws.proofs.HaltSparing.{lend_keeps}
 use Rattle.driver_laws.specs.Pieces.{IsNewQtd}
@@ -30,31 +28,29 @@ use Rattle.fed_lends.specs.Commands.{QueuesStand}
 use Rattle.fed_lends.specs.Streams.{second, new_order, new_out}
 use Rattle.fed_lends.specs.ToLend.{IsToBeLent, lent_now}
 use Rattle.fed_lends.proofs.Fed.{y_of}
-use Rattle.fed_lends.proofs.Numbering.{AreNumbered, new_from, next_rises, alternate_rises}
+use Rattle.fed_lends.proofs.Numbering.{AreNumbered, new_from}
 use Rattle.fed_lends.proofs.Order.{early, out_before, out_after, out_then}
 use Rattle.fed_lends.proofs.Reporting.{numbers, old_number, new_active}
 use Rattle.fed_lends.proofs.Reports.{it_is_met}
 use Rattle.fed_lends.proofs.Row.{after_is}
+use Rattle.frame_walk.specs.Met.{IsQueuePart}
 use Rattle.lent_fronts.specs.Whole.{IsLentBehind}
+use Rattle.lent_fronts.proofs.Parts.{member_head}
+use Rattle.lent_fronts.proofs.Rising.{rises_lent}
 use Rattle.mended_heads.specs.Waiting.{MendsStand}
 use Rattle.mended_heads.proofs.Content.{any_one, OwesAlike, alike_same, owed_on}
 use Rattle.mended_heads.proofs.Standing.{stand_on, lend_keeps as lend_keeps_halted}
 use Rattle.publish_laws.specs.Stores.{next_of}
 use Rattle.control_queues.specs.Controls.{ControlsStand}
+use Rattle.control_queues.specs.Queues.{LendKeepsQueues}
 use Rattle.control_queues.specs.Rows.{LendKeepsControls}
 use Rattle.control_queues.proofs.Alike.{same_there, stand_by}
 use Rattle.control_queues.proofs.Lists.{among_either, before_less, part_sorted, one_less}
 
-module _ (p : DriverParts) (b : ℕ) (words : List ℕ) (member streams : ℕ → Bool) (ends : ℕ → Told) (parts now : StructureSets) (order order_now : ℕ → ℕ → ℕ) (out later : ℕ → List ℕ) (k : IsToBeLent p.driver p.memory b words) (turns : AsynchronousTakesTurns p.driver)
-    (members : AreMembers member parts) (old : QueuesStand p.driver member streams ends parts order out) (next : QueuesStand (next_of p).driver member streams ends now order_now later) (l : IsLentBehind p.driver p.memory parts now order order_now out later) (c : ControlsStand p.driver parts order out) where
-  abbrev d : DriverContent
-  d = p.driver
-
-  abbrev m : Mem
-  m = p.memory
-
+module _ (d : DriverContent) (m : Mem) (b : ℕ) (words : List ℕ) (member streams : ℕ → Bool) (ends : ℕ → Told) (parts now : StructureSets) (order order_now : ℕ → ℕ → ℕ) (out later : ℕ → List ℕ) (k : IsToBeLent d m b words) (only : OnlyAsynchronous d)
+    (head : IsQueuePart (32 * k.endpoint.queue) (parts (32 * k.endpoint.queue))) (old : QueuesStand d member streams ends parts order out) (next : QueuesStand (lent_now d m) member streams ends now order_now later) (l : IsLentBehind d m parts now order order_now out later) (c : ControlsStand d parts order out) where
   abbrev f : DriverContent
-  f = lent_now p.driver p.memory
+  f = lent_now d m
 
   abbrev y : TransferRuns
   y = l.transfer
@@ -66,20 +62,14 @@ module _ (p : DriverParts) (b : ℕ) (words : List ℕ) (member streams : ℕ �
   n = 32 * l.endpoint.queue
 
   abbrev slot : ℕ → Slot
-  slot = slot_of (lent_driver p.driver p.memory).book.slots
+  slot = slot_of (lent_driver d m).book.slots
 
   -- the order of its queue, and its qTDs that are out
   abbrev g : ℕ → ℕ
-  g = new_order p.driver l.transfer l.further l.place (order (32 * l.endpoint.queue))
+  g = new_order d l.transfer l.further l.place (order (32 * l.endpoint.queue))
 
   abbrev more : List ℕ
-  more = new_out p.driver l.transfer l.further
-
-  driver_is : (next_of p).driver ≡ f
-  driver_is = ap (λ (q : DriverParts). q.driver) (after_is p b words k)
-
-  stands_now : QueuesStand f member streams ends now order_now later
-  stands_now = subst (λ (z : DriverContent). QueuesStand z member streams ends now order_now later) driver_is next
+  more = new_out d l.transfer l.further
 
   -- ---- it is the transfer that is to be lent
 
@@ -97,10 +87,10 @@ module _ (p : DriverParts) (b : ℕ) (words : List ℕ) (member streams : ℕ �
   queue_is = ap (λ (z : EndpointRuns). 32 * z.queue) endpoint_is
 
   its_met : IsMet d k.transfer.endpoint k.endpoint
-  its_met = it_is_met d m b words turns.asynchronous k
+  its_met = it_is_met d m b words only k
 
-  on : IsMember member n (parts n)
-  on = members n (ap member queue_is ∙ old.met.each k.transfer.endpoint k.endpoint k.here its_met)
+  on : IsQueuePart n (parts n)
+  on = subst (λ (i : ℕ). IsQueuePart i (parts i)) (sym queue_is) head
 
   are : AreNumbered g d.notes l.further (second d y) l.place
   are = numbers d m l.number y x l.stage l.further l.place (order n) l.awaits
@@ -108,41 +98,29 @@ module _ (p : DriverParts) (b : ℕ) (words : List ℕ) (member streams : ℕ �
   old_is : (a : ℕ) (u : Structure) → parts n a ≡ Some u → g a ≡ order n a
   old_is a u there = old_number d y x l.stage l.further slot parts now l.place (order n) a u l.pieces there
 
-  -- ---- links
-
-  led : (a : ℕ) (u : Qtd) (e : ℕ) → parts n a ≡ Some (Element u) → IsElement (parts n) e → order n a < order n e → g a < g e
-  led a u e was to less = let one = old_is a (Element u) was in let two = old_is e (Element to.qtd) to.here in omega (arith, one, two, less)
-
   its_rises : LinksRise (order n) (parts n) → LinksRise g (now n)
-  its_rises r = record {
-    next = λ a u e found leads.
-        ⊎_elim (λ (was : parts n a ≡ Some (Element u)). led a u e was (subst (LeadsOn (parts n)) leads (on.elements a u was).next) (r.next a u e was leads))
-        (λ (new : IsNewQtd d.notes x.dummy l.further (second d y) a u). next_rises g d.notes x.dummy l.further (second d y) l.place a u e are new leads) (l.pieces.elements a u found);
-    alternate = λ a u e found leads.
-        ⊎_elim (λ (was : parts n a ≡ Some (Element u)). led a u e was (subst (LeadsOn (parts n)) leads (on.elements a u was).alternate) (r.alternate a u e was leads))
-        (λ (new : IsNewQtd d.notes x.dummy l.further (second d y) a u). alternate_rises g d.notes x.dummy l.further (second d y) l.place a u e are l.awaits.ends new leads) (l.pieces.elements a u found);
-  }
+  its_rises r = rises_lent d m l.number y x l.stage l.further slot parts now l.place (order n) l.awaits l.pieces on r
 
   -- ---- what is out
 
   abbrev sooner : List ℕ
-  sooner = early p.driver k.number k.transfer.endpoint
+  sooner = early d k.number k.transfer.endpoint
 
   abbrev first : ℕ
   first = 32 * k.transfer.first
 
   abbrev rest : List ℕ
-  rest = new_out p.driver (y_of k) k.further
+  rest = new_out d (y_of k) k.further
 
   all_sorted : IsSorted (order_now n) (sooner ++ first ∷ rest)
   all_sorted =
       subst (λ (i : ℕ). IsSorted (order_now i) (sooner ++ first ∷ rest)) (sym queue_is)
       (subst (IsSorted (order_now (32 * k.endpoint.queue))) (out_then d m b words k)
-      (stands_now.last.sorted b words k.number k.transfer k.endpoint k.command (let e : 1 ≤ 1 = omega arith in e) k.newest k.there k.first k.here))
+      (next.last.sorted b words k.number k.transfer k.endpoint k.command (let e : 1 ≤ 1 = omega arith in e) k.newest k.there k.first k.here))
 
   later_is : later n ≡ sooner ++ rest
   later_is =
-      ap later queue_is ∙ stands_now.out_are k.transfer.endpoint k.endpoint k.here (record { linked = its_met.there.linked; kept = its_met.there.kept }) ∙ out_after d m b words k
+      ap later queue_is ∙ next.out_are k.transfer.endpoint k.endpoint k.here (record { linked = its_met.there.linked; kept = its_met.there.kept }) ∙ out_after d m b words k
 
   out_is : out n ≡ sooner
   out_is = ap out queue_is ∙ old.out_are k.transfer.endpoint k.endpoint k.here its_met.there ∙ out_before d m b words k
@@ -239,7 +217,15 @@ module _ (p : DriverParts) (b : ℕ) (words : List ℕ) (member streams : ℕ �
       s)
       mends_now c
 
+pub lend_keeps_queues : LendKeepsQueues
+lend_keeps_queues d m b words member streams ends parts now order order_now out later k only head old next l c = lent_stands d m b words member streams ends parts now order order_now out later k only head old next l c
+
+-- where a ring leads to it
 pub lend_keeps_controls : LendKeepsControls
 lend_keeps_controls p b words member streams ends parts now order order_now out later k turns members old next l c =
-    subst (λ (z : DriverContent). ControlsStand z now order_now later) (sym (driver_is p b words member streams ends parts now order order_now out later k turns members old next l c))
-    (lent_stands p b words member streams ends parts now order order_now out later k turns members old next l c)
+    let n = 32 * k.endpoint.queue in
+    let is : (next_of p).driver ≡ lent_now p.driver p.memory = ap (λ (q : DriverParts). q.driver) (after_is p b words k) in
+    let on = members n (old.met.each k.transfer.endpoint k.endpoint k.here (it_is_met p.driver p.memory b words turns.asynchronous k)) in
+    subst (λ (z : DriverContent). ControlsStand z now order_now later) (sym is)
+    (lend_keeps_queues p.driver p.memory b words member streams ends parts now order order_now out later k turns.asynchronous (member_head member n (parts n) on) old
+    (subst (λ (z : DriverContent). QueuesStand z member streams ends now order_now later) is next) l c)

@@ -2,6 +2,7 @@ pub mod Lists
 pub mod Alike
 pub mod Beside
 pub mod Heads
+pub mod NewFronts
 pub mod Opens
 pub mod OpenLends
 pub mod Stores

@@ -1,5 +1,6 @@
 //! What stands of control queues is left by everything that happens.
 ghost use Rattle.control_queues.specs.Beside.{NewDriverControls, ControllerKeepsControls, SameKeepControls, CommandsKeepControls, SilentKeepsControls};
+ghost use Rattle.control_queues.specs.Queues.{LendKeepsQueues, OpenLendIsWhole, OpenIsWhole, LinkKeepsControls};
 ghost use Rattle.control_queues.specs.Rows.{LendKeepsControls, StoreKeepsControls, OpenLendKeepsControls, OpenLinkKeepsControls, HarvestKeepsControls, ReleaseKeepsControls, MendKeepsControls, UnlinkKeepsControls, LeaverKeepsControls};
 
 use usb_base::Wire;
@@ -44,4 +45,13 @@ pub fn returns_leave_control_queues()
     ensures release { ReleaseKeepsControls }
     ensures unlink { UnlinkKeepsControls }
     ensures leaver { LeaverKeepsControls }
+{}
+
+/// All this is so of queues of any kind, whatever leads to their queue heads: the lend of a transfer, the lend of a new endpoint's structures, and the end of its
+/// open, from where on its front stands at its tail.
+pub fn lends_and_opens_of_any_queue()
+    ensures lend { LendKeepsQueues }
+    ensures opened { OpenLendIsWhole }
+    ensures finished { OpenIsWhole }
+    ensures link { LinkKeepsControls }
 {}

@@ -18,24 +18,25 @@ use Rattle.walk_copy.specs.WriteBack.{moved_by as queue_moved_by}
 use Rattle.iso_visits.specs.declared.held.SplitOutcome.{SplitOutcome}
 use Rattle.iso_visits.specs.Sitd.{sitd_place, moved_sitd, missed_sitd, missed_copy}
 use Rattle.iso_visits.specs.WriteBack.{itd_pages, slot_place, done_slot, sitd_pages, sitd_received, moved_by}
+use Rattle.periodic_walk.specs.Walk.{Walk}
 use Rattle.periodic_walk.specs.Place.{FramePlace}
 use Rattle.lent_structures.specs.Structures.{Structure, QueueHead, Buffer, Table, Isochronous, SplitIsochronous, Structures, StructureSets, put, Tells}
 use Rattle.lent_structures.specs.Changes.{relinked}
 use Rattle.lent_structures.proofs.Names.{put_same, put_beside}
 use Rattle.lent_structures.specs.WriteBack.{Received, Nothing as Nowhere, Into, received_parts, qtd_after, parts_back}
-use Rattle.ring_laws.specs.Hand.{Copy, Settlement, settled_queue_of, Hand as RingHand, Copied}
-use Rattle.ring_laws.specs.Ring.{IsSettled}
+use Rattle.ring_laws.specs.Hand.{Copy, Hand as RingHand, Copied}
 use Rattle.ring_laws.specs.Effects.{received_into, Takes}
 use Rattle.driver_laws.specs.Inventory.{SameSorts}
 use Rattle.driver_laws.proofs.Sorts.{same_put, same_both, same_parts, back_same}
 use Rattle.driver_laws.specs.Extents.{KeepExtents}
 use Rattle.driver_laws.proofs.Extending.{head_put, element_put}
 use Rattle.frame_walk.specs.Met.{Kind, IsBuffered}
-use Rattle.frame_walk.specs.FrameHand.{ItdCopy, SitdCopy, FrameHand}
-use Rattle.frame_walk.specs.Frame.{IsCopiedQueue, IsCopiedItd, IsCopiedSitd, IsMoved, IsTurned, IsInFrame, IsFrame}
+use Rattle.frame_walk.specs.FrameHand.{QueueSettlement, settled_in, ItdCopy, SitdCopy, FrameHand}
+use Rattle.frame_walk.specs.Frame.{IsQueueSettled, IsCopiedQueue, IsCopiedItd, IsCopiedSitd, IsMoved, IsTurned, IsInFrame, IsFrame}
 use Rattle.frame_walk.specs.FrameEffects.{AreReceivedAt, itd_back, itd_parts, sitd_back, sitd_parts, IsWrittenFrom, made, missed, WritesQueue, WritesItd, WritesSitd, WritesOne, TakesOne}
 use Rattle.frame_walk.specs.FrameEffects.WritesOne.{of_queue, of_itd, of_sitd}
 use Rattle.frame_walk.specs.FrameEffects.FrameEffect.{fetches, passes, ends, takes, makes, writes}
+use Rattle.frame_walk.proofs.QueueBacks.{hand_settled}
 use Rattle.frame_walk.proofs.PartTurning.{place_moved}
 use Rattle.described_parts.specs.Described.{HasItd, HasSitd, HasDescriptor}
 use Rattle.described_parts.specs.Both.{Keeps}
@@ -75,14 +76,14 @@ back_extents parts n a q c count got r t fit =
     extents_both parts one (parts_back parts n a q c count got r t) (received_extents parts n got r fit)
     (extents_both one two (parts_back parts n a q c count got r t) (head_put one n a (relinked q (moved c count))) (element_put two n c.current (qtd_after (moved c count) t)))
 
-settled_current : (c : Copy) (s : Settlement) → (settled_queue_of c s).current ≡ c.queue.current
+settled_current : (c : Copy) (s : QueueSettlement) → (settled_in c s).current ≡ c.queue.current
 unfolding settled_queue
 settled_current c s = refl
 
-queue_written_keeps : (met : ℕ → Option Kind) (parts : StructureSets) (got : List ℕ) (reply : Reply) (hand : FrameHand) (now : StructureSets) (later : FrameHand) → IsInFrame met parts got reply hand → WritesQueue parts hand now later → Keeps parts now
-queue_written_keeps met parts got reply hand now later k w =
-    let c : IsCopiedQueue met parts w.copy × IsSettled w.copy.queue reply w.settled = subst (IsInFrame met parts got reply) w.in_hand k in
-    let q : Qh = settled_queue_of w.copy w.settled in
+queue_written_keeps : (met : ℕ → Option Kind) (parts : StructureSets) (walk : Walk) (hand : FrameHand) (now : StructureSets) (later : FrameHand) → IsInFrame met parts walk.got walk.reply hand → WritesQueue parts walk hand now later → Keeps parts now
+queue_written_keeps met parts walk hand now later k w =
+    let c : IsCopiedQueue met parts w.copy × IsQueueSettled w.copy.queue walk.reply w.settled = hand_settled met parts walk hand w.copy w.settled w.made k w.from in
+    let q : Qh = settled_in w.copy w.settled in
     let n : ℕ = queue_moved_by w.settled.outcome in
     let into : Received = received_into (parts w.copy.at) w.copy.queue w.element w.settled.got in
     subst (Keeps parts) (sym w.now_is)
@@ -319,7 +320,7 @@ sitd_written_keeps met parts hand p now later told k w = by_case w.written
 -- ---- an event
 
 written_keeps : (met : ℕ → Option Kind) (parts : StructureSets) (hand : FrameHand) (p : FramePlace) (now : StructureSets) (later : FrameHand) → IsFrame met parts hand p → WritesOne parts p.walk hand now later → Keeps parts now
-written_keeps met parts hand p now later k (of_queue w) = queue_written_keeps met parts p.walk.got p.walk.reply hand now later k.walk.in_hand w
+written_keeps met parts hand p now later k (of_queue w) = queue_written_keeps met parts p.walk hand now later k.walk.in_hand w
 written_keeps met parts hand p now later k (of_itd w) = itd_written_keeps met parts hand p now later k.walk.in_hand w
 written_keeps met parts hand p now later k (of_sitd w) = sitd_written_keeps met parts hand p now later k.tells k.walk.in_hand w
 

@@ -132,7 +132,7 @@ value_by d m false listed kept on = member_word d m listed on
 -- ---- what stands there, but for its link
 
 met_part : (met : ℕ → Option Kind) (n : ℕ) (part : Structures) (kind : Kind) → HasPart n part kind → ((s : Structure) → part n ≡ Some s → LeadsTo met (link_in s)) → IsMetAs met n part kind
-met_part met n part AQueue k leads = record { part_is = k.part_is; high = k.high; link = leads (Head k.part_is.queue) k.part_is.here }
+met_part met n part AQueue k leads = record { part_is = k.part_is; link = leads (Head k.part_is.queue) k.part_is.here }
 met_part met n part AnItd k leads = record { itd = k.itd; here = k.here; link = leads (Isochronous k.itd) k.here; slots = k.slots }
 met_part met n part ASitd k leads = record { sitd = k.sitd; here = k.here; link = leads (SplitIsochronous k.sitd) k.here; bytes = k.bytes }
 

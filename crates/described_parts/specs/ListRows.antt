@@ -71,10 +71,9 @@ recent_with q (Some m) recent = also (32 * (id_of m / 32)) (kind_of q m) recent
 
 -- ---- who comes
 
--- of a high-speed endpoint
+-- of an endpoint of any speed
 pub record HasQueue (n : ℕ) (part : Structures) : Type 0 where
   pub part_is : IsQueuePart n part
-  pub high : part_is.queue.eps ≡ 2
 
 abbrev pub HasPart : ℕ → Structures → Kind → Type 0
 HasPart n part AQueue = HasQueue n part

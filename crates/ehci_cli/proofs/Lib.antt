@@ -1,4 +1,5 @@
 pub mod Admitted
 pub mod Answered
 pub mod Streams
-pub mod Frames
+pub mod Memory
+pub mod Requests

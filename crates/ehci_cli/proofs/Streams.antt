@@ -1,4 +1,4 @@
--- The report of a script's run is that of a moment of it, and at each moment everything is in place.
+-- The report of a script's run is that of a moment of it.
 use Rattle.std.proofs.Common.{◌≡◌, ℕ, ◌+◌, ◌*◌, List, [], Option, Some, None, inl, inr, ap, sym, subst, ◌∙◌, refl}
 use Rattle.script_types.specs.declared.scripts.Script.{Script}
 use Rattle.right_reports.specs.WorldReport.{report_of}
@@ -16,8 +16,8 @@ use Rattle.bus_world.specs.Budgets.{moment}
 use Rattle.bus_world.proofs.Ticks.{ticks_more}
 use Rattle.sending_worlds.specs.Sent.{AreSentStreams}
 use Rattle.sending_worlds.specs.Moments.{StreamsAreRightAtTheEnd}
-use Rattle.sending_worlds.specs.Kept.{KeepsStreamsThroughout, KeepsPlaces}
-use Rattle.sending_worlds.proofs.Moments.{texts_keep_streams, texts_keep_places}
+use Rattle.sending_worlds.specs.Kept.{KeepsStreamsThroughout}
+use Rattle.sending_worlds.proofs.Moments.{texts_keep_streams}
 use Rattle.program_ends.specs.Input.{input_of}
 use Rattle.program_forms.specs.Output.{IsRunOf}
 use Rattle.ehci_cli.specs.Scripts.{OfEachAsynchronousScript}
@@ -66,7 +66,3 @@ keeps s k = record {
 pub source_keeps_streams : (left : Option (List ℕ)) → OfEachAsynchronousScript KeepsStreams left
 source_keeps_streams None = tt
 source_keeps_streams (Some xs) = λ s spelled only. keeps s (texts_keep_streams (input_of xs) s spelled only)
-
-pub source_keeps_places : (left : Option (List ℕ)) → OfEachAsynchronousScript KeepsPlaces left
-source_keeps_places None = tt
-source_keeps_places (Some xs) = λ s spelled only. texts_keep_places (input_of xs) s spelled only

@@ -7,9 +7,9 @@ ghost use Rattle.program_ends.specs.Ends.{IsFault, IsWriteFault, WritesNothing};
 ghost use Rattle.program_ends.specs.Input.{input_of};
 ghost use Rattle.program_forms.specs.Form.{AreWordsOf, AreNoForm};
 ghost use Rattle.program_forms.specs.Output.{IsAnswer, IsLoad, IsProgram, LeavesAs, Leaves};
-ghost use Rattle.sending_worlds.specs.Kept.{KeepsPlaces};
-ghost use Rattle.framed_worlds.specs.Frames.{KeepsFrames};
-ghost use Rattle.ehci_cli.specs.Scripts.{OfEachScript, OfEachAsynchronousScript, OfEachIsochronousScript};
+ghost use Rattle.mixed_worlds.specs.Placed.{KeepsMemory};
+ghost use Rattle.asking_worlds.specs.Kept.{KeepsRequests};
+ghost use Rattle.ehci_cli.specs.Scripts.{OfEachScript, OfEachAsynchronousScript, OfEachScriptOfDevices};
 ghost use Rattle.ehci_cli.specs.Streams.{KeepsStreams};
 
 use program_ends::{Status, Unread, read_input};
@@ -36,16 +36,19 @@ use usb_base::{Sink, Source};
 /// needs are Lent, each run of them with one owner, but for what its unfinished command has still to lend; and each frame of the list has what is due in
 /// it: the queue heads of placed interrupt endpoints, each once, and of each isochronous endpoint at most one descriptor that waits.
 ///
+/// And at each such moment, whatever endpoints it opens and cancels, nothing of the driver is out of place in memory; the words of the ring stand for the queue heads that are linked in
+/// it, each once, and those of the frame list and of its members for the driver's list, also while one is linked or unlinked; the walk of the ring stands at these queue heads
+/// alone, or at those that left since the last answered doorbell was rung; and the controller runs with both schedules on, meets no fault and is refused no word.
+///
 /// Where the script opens high-speed bulk and control endpoints only, cancelled or not, the bytes that the report tells of each bulk IN endpoint begin its stream, each
 /// once and in order, and nothing follows its end; those that it tells of each bulk OUT endpoint begin what its device took, and these begin what was put to it: after
 /// the run, and at each moment of it, whatever is lost, damaged or held, and whatever control endpoints are asked and answer, STALL too. After a run of which each line
-/// was carried out these are all its streams. And at each moment nothing of the driver is out of place in memory, the walk of the ring stands at its queue heads alone, or at those that left it since the last answered doorbell was rung, and the
-/// controller runs, meets no fault and is refused no word.
+/// was carried out these are all its streams.
 ///
-/// Where the script opens isochronous endpoints only, of high-speed devices or behind hubs, cancelled or not, at each moment nothing of the driver is out of place in
-/// memory, the words of the frame list and of its descriptors stand for the driver's list, also while a descriptor is linked or unlinked, and the controller runs with
-/// both schedules on, meets no fault and is refused no word.
-#[tactic(auto, using(crate::proofs::Admitted::source_admits, crate::proofs::Admitted::source_keeps_to_lent, crate::proofs::Admitted::source_owns, crate::proofs::Admitted::source_keeps_schedule, crate::proofs::Streams::source_keeps_streams, crate::proofs::Streams::source_keeps_places, crate::proofs::Frames::source_keeps_frames))]
+/// Where these endpoints are of devices, none a hub's own control endpoint, at each moment the device acted at most once on each control request, and only on its setup
+/// bytes; of an endpoint that isn't cancelled the report tells of its requests in their order: a request that is done was acted on exactly once, and the bytes told of it are
+/// those of its data; those of one that halted begin its data; and `acted` is told as the number of requests that were acted on. After the run these are all its requests.
+#[tactic(auto, using(crate::proofs::Admitted::source_admits, crate::proofs::Admitted::source_keeps_to_lent, crate::proofs::Admitted::source_owns, crate::proofs::Admitted::source_keeps_schedule, crate::proofs::Streams::source_keeps_streams, crate::proofs::Requests::source_keeps_requests, crate::proofs::Memory::source_keeps_memory))]
 pub fn ehci<S: Source, K: Sink>(
     alloc: Global,
     words: &[String],
@@ -61,9 +64,9 @@ pub fn ehci<S: Source, K: Sink>(
     ensures lent { OfEachScript KeepsToLentThroughout (S.left source.old) }
     ensures owned { OfEachScript OwnsItsBlocksThroughout (S.left source.old) }
     ensures schedule { OfEachScript KeepsScheduleThroughout (S.left source.old) }
+    ensures memory { OfEachScript KeepsMemory (S.left source.old) }
     ensures streams { OfEachAsynchronousScript KeepsStreams (S.left source.old) }
-    ensures placed { OfEachAsynchronousScript KeepsPlaces (S.left source.old) }
-    ensures frames { OfEachIsochronousScript KeepsFrames (S.left source.old) }
+    ensures requests { OfEachScriptOfDevices KeepsRequests (S.left source.old) }
     ensures left { IfSome (S.left source.old) (λ xs. Leaves (map string_bytes words.now) result xs (S.left source.new)) }
     ensures nothing { WritesNothing result → sink.new ≡ sink.old }
     ensures read { IsFault result (S.faults source.old) (S.faults source.new) }

@@ -1,5 +1,5 @@
 -- The row that lends a transfer.
-use Rattle.std.proofs.Common.{◌≡◌, ◌≢◌, ℕ, suc, ◌*◌, ◌⊎◌, ⊎_elim, inl, inr, Bool, true, false, List, ◌∷◌, length, nat_lt, if◌then◌else◌, slice_get, Option, Some, ap, sym, subst, ◌∙◌, arith, refl}
+use Rattle.std.proofs.Common.{◌≡◌, ◌≢◌, ℕ, suc, ◌+◌, ◌*◌, ◌⊎◌, ⊎_elim, inl, inr, Bool, true, false, List, ◌∷◌, length, nat_lt, if◌then◌else◌, slice_get, Option, Some, ap, sym, subst, ◌∙◌, arith, refl}
 use Rattle.std.specs.List.{AllByRecursion}
 use Rattle.std.proofs.lemmas.Bool.{cases_Bool}
 use Rattle.usb_base.specs.declared.packets.Way.{Way}
@@ -32,7 +32,7 @@ use Rattle.fed_lends.proofs.Stages.{data_by}
 use Rattle.fed_lends.proofs.Piping.{lend_leaves_pipes}
 use Rattle.fed_lends.proofs.Names.{names_lent}
 use Rattle.fed_lends.proofs.Fed.{y_of, x_of, IsLending, queues_fed}
-use Rattle.fed_lends.proofs.Reports.{IsOrdering, it_is_met, from_here, order_lent, out_lent, all_reported, all_out, all_last}
+use Rattle.fed_lends.proofs.Reports.{IsOrdering, it_is_met, order_lent, out_lent, all_reported, place_by, reported_below, sorted_by, all_out, all_last}
 use Rattle.fed_queues.proofs.Places.{SameQueues, same_ends, met_stays, streams_stay}
 
 -- ---- which row it is
@@ -50,10 +50,11 @@ advance_is d m b words k =
 abbrev pub lent_parts : DriverParts → DriverParts
 lent_parts p = record p { driver = lent_now p.driver p.memory; memory = lent_memory p.driver p.memory }
 
+pub lend_is : (p : DriverParts) (b : ℕ) (words : List ℕ) → IsToBeLent p.driver p.memory b words → after_driver_row rows.Lend p ≡ lent_parts p
+lend_is p b words k = ap (λ (d : DriverContent). record p { driver = d; memory = lent_memory p.driver p.memory }) (advance_is p.driver p.memory b words k)
+
 pub after_is : (p : DriverParts) (b : ℕ) (words : List ℕ) → IsToBeLent p.driver p.memory b words → after_driver_row (driver_row p) p ≡ lent_parts p
-after_is p b words k =
-    ap (λ (row : DriverRow). after_driver_row row p) (row_is p b words k)
-    ∙ ap (λ (d : DriverContent). record p { driver = d; memory = lent_memory p.driver p.memory }) (advance_is p.driver p.memory b words k)
+after_is p b words k = ap (λ (row : DriverRow). after_driver_row row p) (row_is p b words k) ∙ lend_is p b words k
 
 -- ---- who is met
 
@@ -102,7 +103,7 @@ its_asks stream {d = d} {m = m} {b = b} {words = words} {streams = streams} {end
 -- ---- the whole
 
 pub lend_row_goes_on : {W : Type 0} (sender : W → ℕ → ℕ → Option Sender) → LendRowGoesOn sender
-lend_row_goes_on sender base stream packets member streams heads ends acc reported hand wire parts order out w p b words k has stands only turns drives piped reports fed last still_out met have in_order apart =
+lend_row_goes_on sender base stream packets member streams heads ends acc reported hand wire parts order out w p b words k has stands only turns drives piped reports fed last still_out met have sorted apart =
     let d = p.driver in
     let m = p.memory in
     let y = y_of k in
@@ -113,25 +114,26 @@ lend_row_goes_on sender base stream packets member streams heads ends acc report
     let l : IsLending d m b words parts now = record { ready = k; has = has; stands = stands; shape = drives.ring.tells.shape; asynchronous = only; fed = fed; pieces = both.1 } in
     let its_met = it_is_met d m b words only k in
     let on = met.each k.transfer.endpoint k.endpoint k.here its_met in
-    let o : IsOrdering d m b words parts now member heads order out hand acc reported = record {
+    let from = suc (order n (32 * k.transfer.first) + place_by reports n (heads n) refl) in
+    let o : IsOrdering d m b words parts now order out = record {
       lending = l;
       turns = turns;
-      sound = drives.ring.members n on;
-      reports = reports;
       last = last;
       still_out = still_out;
-      in_order = in_order k.transfer.endpoint k.endpoint k.here its_met;
+      sorted = sorted_by reports n (sorted k.transfer.endpoint k.endpoint k.here its_met);
+      from = from;
+      above = omega arith;
     } in
     subst (GoesOnLent sender base stream packets member streams heads ends acc reported hand wire w) (sym (after_is p b words k))
     (record {
       parts = now;
-      order = order_lent k (from_here o 0) order;
+      order = order_lent k from order;
       out = out_lent k out;
       drives = subst (DrivesRing base member now hand (place w p.registers (lent_memory d m))) (advance_is d m b words k) both.0;
       piped = lend_leaves_pipes sender d m k.number y x k.stage k.further (slot_of (lent_driver d m).book.slots) parts now stream packets member streams ends acc hand wire k.awaits both.1 (its_asks stream only k have apart) piped;
-      reports = all_reported o 0;
+      reports = all_reported member heads hand acc reported o (drives.ring.members n on) (reported_below reports n (heads n) refl from (omega arith)) reports;
       fed = queues_fed d m b words parts now l;
-      last = all_last o 0;
+      last = all_last o;
       still_out = all_out o;
       met = met_on d m member met;
       have = streams_on d m streams ends have;

@@ -26,7 +26,7 @@ use Rattle.lent_structures.specs.Alters.{IsAfter}
 use Rattle.lent_structures.proofs.Altering.{found_element, is_itself}
 use Rattle.ring_laws.specs.Hand.{Copy, Settlement, settled_queue_of}
 use Rattle.controlled_streams.specs.Kept.{bare}
-use Rattle.frame_walk.specs.FrameHand.{SitdCopy}
+use Rattle.frame_walk.specs.FrameHand.{QueueSettlement, settled_in, SitdCopy}
 use Rattle.frame_walk.specs.Frame.{IsMoved, IsTurned}
 use Rattle.frame_walk.specs.FrameEffects.{AreReceivedAt, sitd_back}
 use Rattle.frame_walk.proofs.PartTurning.{place_moved}
@@ -65,6 +65,15 @@ written_bare c z n = refl
 pub settled_current : (c : Copy) (z : Settlement) → (settled_queue_of c z).current ≡ c.queue.current
 unfolding settled_queue
 settled_current c z = refl
+
+-- in the frames, also where its transaction is split
+pub marked_bare : (c : Copy) (z : QueueSettlement) (n : ℕ) → bare (relinked c.queue (moved (settled_in c z) n)) ≡ bare c.queue
+unfolding moved settled_queue
+marked_bare c z n = refl
+
+pub marked_current : (c : Copy) (z : QueueSettlement) → (settled_in c z).current ≡ c.queue.current
+unfolding settled_queue
+marked_current c z = refl
 
 -- the qTD that is worked on is active
 pub published : (part : Structures) (q : Qh) (t : Qtd) → IsSoundQueue part q → q.token.active ≡ true → part q.current ≡ Some (Element t) → t.token.active ≡ true

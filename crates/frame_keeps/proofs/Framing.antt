@@ -16,19 +16,19 @@ use Rattle.lent_structures.specs.Structures.{QueueHead, Buffer, SplitIsochronous
 use Rattle.lent_structures.specs.WriteBack.{received_parts}
 use Rattle.lent_structures.specs.Sound.{IsSoundQueue}
 use Rattle.lent_structures.proofs.Altering.{found_queue}
-use Rattle.ring_laws.specs.Hand.{Copy, Settlement, settled_queue_of, Hand, Empty, Copied, Settled, Stale}
-use Rattle.ring_laws.specs.Ring.{IsSettled}
+use Rattle.ring_laws.specs.Hand.{Copy, Hand, Empty, Copied, Settled, Stale}
 use Rattle.ring_laws.specs.Effects.{received_into, Takes}
 use Rattle.frame_walk.specs.Met.{Kind, AQueue, ASitd, IsBuffered, IsMetQueue, IsMetSitd}
-use Rattle.frame_walk.specs.FrameHand.{ItdCopy, SitdCopy, FrameHand, OfQueue, OfSettled, OfItd, OfSitd}
-use Rattle.frame_walk.specs.Frame.{IsCopiedQueue, IsCopiedItd, IsMoved, IsTurned, IsCopiedSitd, IsInFrame, IsFrame}
+use Rattle.frame_walk.specs.FrameHand.{settled_in, ItdCopy, SitdCopy, FrameHand, OfQueue, OfItd, OfSitd}
+use Rattle.frame_walk.specs.Frame.{IsQueueSettled, IsCopiedQueue, IsCopiedItd, IsMoved, IsTurned, IsCopiedSitd, IsInFrame, IsFrame}
 use Rattle.frame_walk.specs.FrameEffects.{itd_back, sitd_back, TakesOne, WritesQueue, WritesItd, IsWrittenFrom, made, missed, WritesSitd, WritesOne, of_queue, of_itd, of_sitd}
 use Rattle.frame_walk.specs.FrameEffects.FrameEffect.{fetches, passes, ends, takes, makes, writes}
 use Rattle.frame_walk.specs.Walks.{HappenInTurn, none as over, first}
+use Rattle.frame_walk.proofs.QueueBacks.{hand_settled}
 use Rattle.frame_keeps.specs.Kept.{IsSitdAfter, KeepsParts, HasBytesLeft}
 use Rattle.frame_keeps.specs.Laws.{FrameKeeps, WalkKeeps}
 use Rattle.frame_keeps.proofs.Keeping.{head_keeps, found_sitd, parts_itself, parts_both, parts_put}
-use Rattle.frame_keeps.proofs.Backs.{advanced_bare, written_bare, settled_current, published, back_keeps, itd_after_back, itd_back_keeps, sitd_back_keeps, made_after, missed_after}
+use Rattle.frame_keeps.proofs.Backs.{advanced_bare, marked_bare, marked_current, published, back_keeps, itd_after_back, itd_back_keeps, sitd_back_keeps, made_after, missed_after}
 
 abbrev as_copy : Hand → Copy → Copy
 as_copy Empty other = other
@@ -42,9 +42,6 @@ same_copy c d e = ap (λ (h : Hand). as_copy h c) e
 module _ (met : ℕ → Option Kind) (parts : StructureSets) (hand : FrameHand) (p : FramePlace) (k : IsFrame met parts hand p) where
   in_queue : (c : Copy) (count : ℕ) → hand ≡ OfQueue c count → IsCopiedQueue met parts c
   in_queue c count is = subst (IsInFrame met parts p.walk.got p.walk.reply) is k.walk.in_hand
-
-  in_settled : (c : Copy) (s : Settlement) (count : ℕ) → hand ≡ OfSettled c s count → IsCopiedQueue met parts c × IsSettled c.queue p.walk.reply s
-  in_settled c s count is = subst (IsInFrame met parts p.walk.got p.walk.reply) is k.walk.in_hand
 
   in_itd : (c : ItdCopy) → hand ≡ OfItd c → IsCopiedItd met parts p.walk.got c
   in_itd c is = subst (IsInFrame met parts p.walk.got p.walk.reply) is k.walk.in_hand
@@ -68,13 +65,13 @@ module _ (met : ℕ → Option Kind) (parts : StructureSets) (hand : FrameHand) 
       subst (KeepsParts parts) (sym t.now_is)
       (parts_put parts t.copy.at t.copy.at (QueueHead new) (head_keeps (parts t.copy.at) t.copy.at t.copy.queue new here (advanced_bare t.copy.queue t.element t.qtd)))
 
-  wrote_queue : (now : StructureSets) (later : FrameHand) → WritesQueue parts hand now later → KeepsParts parts now
+  wrote_queue : (now : StructureSets) (later : FrameHand) → WritesQueue parts p.walk hand now later → KeepsParts parts now
   wrote_queue now later r =
-      let both : IsCopiedQueue met parts r.copy × IsSettled r.copy.queue p.walk.reply r.settled = in_settled r.copy r.settled r.made r.in_hand in
+      let both : IsCopiedQueue met parts r.copy × IsQueueSettled r.copy.queue p.walk.reply r.settled = hand_settled met parts p.walk hand r.copy r.settled r.made k.walk.in_hand r.from in
       subst (KeepsParts parts) (sym r.now_is)
-      (back_keeps parts r.copy.at r.copy.at r.copy.queue (settled_queue_of r.copy r.settled) (queue_moved_by r.settled.outcome) r.settled.got
-      (received_into (parts r.copy.at) r.copy.queue r.element r.settled.got) r.element (written_bare r.copy r.settled (queue_moved_by r.settled.outcome))
-      (published (parts r.copy.at) r.copy.queue r.element (sound r.copy both.0) both.1.works r.here) both.0.here (ap (parts r.copy.at) (settled_current r.copy r.settled) ∙ r.here) r.received_is)
+      (back_keeps parts r.copy.at r.copy.at r.copy.queue (settled_in r.copy r.settled) (queue_moved_by r.settled.outcome) r.settled.got
+      (received_into (parts r.copy.at) r.copy.queue r.element r.settled.got) r.element (marked_bare r.copy r.settled (queue_moved_by r.settled.outcome))
+      (published (parts r.copy.at) r.copy.queue r.element (sound r.copy both.0) both.1.came_to.works r.here) both.0.here (ap (parts r.copy.at) (marked_current r.copy r.settled) ∙ r.here) r.received_is)
 
   -- ---- an iTD (4.7.1)
 

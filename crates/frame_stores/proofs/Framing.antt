@@ -150,7 +150,7 @@ leads_further met wider (links.Sitd a) more leads = more a ASitd leads
 leads_further met wider (links.Fstn a) more leads = leads
 
 met_further : (met wider : ℕ → Option Kind) (n : ℕ) (part : Structures) (kind : Kind) → IsMetFurther met wider → IsMetAs met n part kind → IsMetAs wider n part kind
-met_further met wider n part AQueue more m = record { part_is = m.part_is; high = m.high; link = leads_further met wider _ more m.link }
+met_further met wider n part AQueue more m = record { part_is = m.part_is; link = leads_further met wider _ more m.link }
 met_further met wider n part AnItd more m = record { itd = m.itd; here = m.here; link = leads_further met wider _ more m.link; slots = m.slots }
 met_further met wider n part ASitd more m = record { sitd = m.sitd; here = m.here; link = leads_further met wider _ more m.link; bytes = m.bytes }
 
@@ -201,7 +201,7 @@ frame_further met wider parts hand p k more comes = record {
 
 met_among : (met narrow : ℕ → Option Kind) (parts : StructureSets) (n : ℕ) (kind : Kind) → narrow n ≡ Some kind → AreMetAmong narrow parts → IsMetAs met n (parts n) kind → IsMetAs narrow n (parts n) kind
 met_among met narrow parts n AQueue on among m =
-    record { part_is = m.part_is; high = m.high; link = among n AQueue (QueueHead m.part_is.queue) on m.part_is.here }
+    record { part_is = m.part_is; link = among n AQueue (QueueHead m.part_is.queue) on m.part_is.here }
 met_among met narrow parts n AnItd on among m = record { itd = m.itd; here = m.here; link = among n AnItd (Isochronous m.itd) on m.here; slots = m.slots }
 met_among met narrow parts n ASitd on among m = record { sitd = m.sitd; here = m.here; link = among n ASitd (SplitIsochronous m.sitd) on m.here; bytes = m.bytes }
 

@@ -41,8 +41,8 @@ use Rattle.ring_laws.specs.Ring.{IsSettled}
 use Rattle.ring_laws.specs.Stores.{copy_linked}
 use Rattle.ring_laws.proofs.Driving.{copied_same}
 use Rattle.frame_walk.specs.Met.{Kind, AQueue, AnItd, ASitd, LeadsTo, IsBuffered, IsMetQueue, IsMetItd, IsMetSitd, IsMetAs}
-use Rattle.frame_walk.specs.FrameHand.{ItdCopy, SitdCopy, FrameHand, Nothing, OfQueue, OfSettled, OfItd, OfSitd, frame_held}
-use Rattle.frame_walk.specs.Frame.{HasSameExtent, IsCopiedQueue, IsCopiedItd, IsCopiedSitd, IsTurned, IsInFrame, IsFrame}
+use Rattle.frame_walk.specs.FrameHand.{QueueSettlement, came, ItdCopy, SitdCopy, FrameHand, Nothing, OfQueue, OfSettled, OfItd, OfSitd, frame_held}
+use Rattle.frame_walk.specs.Frame.{HasSameExtent, IsQueueSettled, IsCopiedQueue, IsCopiedItd, IsCopiedSitd, IsTurned, IsInFrame, IsFrame}
 use Rattle.frame_walk.proofs.Queues.{queue_still}
 use Rattle.frame_control.specs.Both.{AreMet}
 use Rattle.frame_stores.specs.Stores.{HasLink, link_in, linked, itd_linked, sitd_linked, frame_linked}
@@ -108,7 +108,6 @@ queue_linked met n part l m link =
     let still = queue_still n part now new m.part_is alters (with_here part n (QueueHead new)) sound in
     record {
       part_is = record { queue = new; here = with_here part n (QueueHead new); sound = sound; elements = still.elements; own = still.own };
-      high = m.high;
       link = link;
     }
 
@@ -197,6 +196,9 @@ settled_linked : (b : Bool) (l : LinkBits) (q : Qh) (reply : Reply) (s : Settlem
 settled_linked true l q reply s k = record { works = k.works; host = k.host; bytes = k.bytes; got = k.got; are_bytes = k.are_bytes }
 settled_linked false l q reply s k = k
 
+queue_settled_linked : (b : Bool) (l : LinkBits) (q : Qh) (reply : Reply) (z : QueueSettlement) → IsQueueSettled q reply z → IsQueueSettled (if b then record q { link = l } else q) reply z
+queue_settled_linked b l q reply z k = record { came_to = settled_linked b l q reply (came z) k.came_to; prog = k.prog; tag = k.tag }
+
 -- its link may be an older one
 itd_same : (b : Bool) (l : LinkBits) (held v : Itd) → record held { link = v.link } ≡ v → record held { link = (if b then record v { link = l } else v).link } ≡ (if b then record v { link = l } else v)
 itd_same true l held v same = ap (λ (x : Itd). record x { link = l }) same
@@ -237,7 +239,7 @@ in_hand_linked : (met : ℕ → Option Kind) (parts : StructureSets) (got : List
 in_hand_linked met parts got reply n s l Nothing there k = tt
 in_hand_linked met parts got reply n s l (OfQueue c made) there k = queue_copy_linked met parts n s l c there k
 in_hand_linked met parts got reply n s l (OfSettled c z made) there k =
-    (queue_copy_linked met parts n s l c there k.0, settled_linked (c.at == n) l c.queue reply z k.1)
+    (queue_copy_linked met parts n s l c there k.0, queue_settled_linked (c.at == n) l c.queue reply z k.1)
 in_hand_linked met parts got reply n s l (OfItd c) there k = itd_copy_linked met parts got n s l c there k
 in_hand_linked met parts got reply n s l (OfSitd c) there k = sitd_copy_linked met parts reply n s l c there k
 
@@ -247,7 +249,7 @@ held_linked n l Nothing = refl
 held_linked n l (OfQueue c made) =
     ap (λ (q : Qh). let h : HeldQueue = record { copy = record { at = c.at; queue_head = q; settled = None }; made = made } in Some (hands.Queue h)) (sym (copied_same n l c))
 held_linked n l (OfSettled c s made) =
-    ap (λ (q : Qh). let h : HeldQueue = record { copy = record { at = c.at; queue_head = settled_queue s.host q; settled = Some s.outcome }; made = made } in Some (hands.Queue h)) (sym (copied_same n l c))
+    ap (λ (q : Qh). let h : HeldQueue = record { copy = record { at = c.at; queue_head = record (settled_queue s.host q) { c_prog = s.c_prog; frame_tag = s.frame_tag }; settled = Some s.outcome }; made = made } in Some (hands.Queue h)) (sym (copied_same n l c))
 held_linked n l (OfItd c) = refl
 held_linked n l (OfSitd c) = refl
 

@@ -89,7 +89,6 @@ met_stored met n part a d new m at off sound unnamed =
             (λ (there : (b ≢ a) × (part b ≡ Some (Element t))). sound_spanned part now t spans (m.part_is.elements b t there.1)) (found_with part a b (Element new) (Element t) found);
         own = new_own part a new unnamed m.part_is.own;
       };
-      high = m.high;
       link = m.link;
     }
 
@@ -118,7 +117,6 @@ met_element_added met n part a new m none sound unnamed =
             (λ (there : (b ≢ a) × (part b ≡ Some (Element t))). sound_spanned part now t spans (m.part_is.elements b t there.1)) (found_with part a b (Element new) (Element t) found);
         own = new_own part a new unnamed m.part_is.own;
       };
-      high = m.high;
       link = m.link;
     }
 
@@ -148,7 +146,6 @@ met_buffer_added met n part a pages k bs m none one_name =
         elements = λ b t found. sound_spanned part now t spans (m.part_is.elements b t (element_before part a b pages k bs t found));
         own = buffer_own part a pages k bs one_name m.part_is.own;
       };
-      high = m.high;
       link = m.link;
     }
 
@@ -200,7 +197,6 @@ met_element_gone met n part a d m at unled = record {
         };
     own = fewer_own part a m.part_is.own;
   };
-  high = m.high;
   link = m.link;
 }
 
@@ -249,7 +245,6 @@ met_buffer_gone met n part a pages k bs m at unused = record {
         };
     own = fewer_own part a m.part_is.own;
   };
-  high = m.high;
   link = m.link;
 }
 

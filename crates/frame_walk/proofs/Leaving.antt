@@ -11,20 +11,17 @@ use Rattle.lent_structures.specs.Structures.{QueueHead, Isochronous, SplitIsochr
 use Rattle.lent_structures.proofs.Names.{put_beside}
 use Rattle.lent_structures.specs.WriteBack.{received_parts}
 use Rattle.lent_structures.proofs.Found.{received_beside, back_beside}
-use Rattle.ring_laws.specs.Hand.{Copy, Settlement, settled_queue_of, Hand as RingHand, Empty, Copied, Settled, Stale}
-use Rattle.ring_laws.specs.Ring.{IsSettled}
+use Rattle.ring_laws.specs.Hand.{Copy, Hand as RingHand, Empty, Copied, Settled, Stale}
 use Rattle.ring_laws.specs.Effects.{received_into}
 use Rattle.frame_walk.specs.Met.{Kind, AQueue, AnItd, ASitd}
-use Rattle.frame_walk.specs.FrameHand.{ItdCopy, SitdCopy, FrameHand, OfQueue, OfSettled, OfItd, OfSitd}
+use Rattle.frame_walk.specs.FrameHand.{settled_in, ItdCopy, SitdCopy, FrameHand, OfQueue, OfItd, OfSitd}
 use Rattle.frame_walk.specs.Frame.{IsCopiedQueue, IsCopiedItd, IsCopiedSitd, IsInFrame}
 use Rattle.frame_walk.specs.FrameEffects.{IsWrittenFrom, made as was_made, missed as was_missed, itd_back, sitd_back, WritesOne, of_queue, of_itd, of_sitd, FrameEffect, fetches, passes, ends, makes, takes, writes}
 use Rattle.frame_walk.specs.Walks.{LeavesOthers}
+use Rattle.frame_walk.proofs.QueueBacks.{hand_settled}
 
 queue_on : (met : ℕ → Option Kind) (parts : StructureSets) (w : Walk) (hand : FrameHand) (c : Copy) (made : ℕ) → IsInFrame met parts w.got w.reply hand → hand ≡ OfQueue c made → met c.at ≡ Some AQueue
 queue_on met parts w hand c made k is = let copied : IsCopiedQueue met parts c = subst (IsInFrame met parts w.got w.reply) is k in copied.on
-
-settled_met : (met : ℕ → Option Kind) (parts : StructureSets) (w : Walk) (hand : FrameHand) (c : Copy) (s : Settlement) (made : ℕ) → IsInFrame met parts w.got w.reply hand → hand ≡ OfSettled c s made → met c.at ≡ Some AQueue
-settled_met met parts w hand c s made k is = let both : IsCopiedQueue met parts c × IsSettled c.queue w.reply s = subst (IsInFrame met parts w.got w.reply) is k in both.0.on
 
 itd_on : (met : ℕ → Option Kind) (parts : StructureSets) (w : Walk) (hand : FrameHand) (c : ItdCopy) → IsInFrame met parts w.got w.reply hand → hand ≡ OfItd c → met c.held.at ≡ Some AnItd
 itd_on met parts w hand c k is = let copied : IsCopiedItd met parts w.got c = subst (IsInFrame met parts w.got w.reply) is k in copied.on
@@ -47,8 +44,8 @@ write_leaves : (met : ℕ → Option Kind) (parts : StructureSets) (w : Walk) (h
     → IsInFrame met parts w.got w.reply hand → WritesOne parts w hand now later → ((a : ℕ) (kind : Kind) → met a ≡ Some kind → n ≢ a) → now n ≡ parts n
 write_leaves met parts w hand now later n k (of_queue r) other =
     ap (λ (x : StructureSets). x n) r.now_is
-    ∙ back_beside parts r.copy.at r.copy.at r.copy.queue (settled_queue_of r.copy r.settled) (moved_by r.settled.outcome) r.settled.got (received_into (parts r.copy.at) r.copy.queue r.element r.settled.got) r.element n
-    (other r.copy.at AQueue (settled_met met parts w hand r.copy r.settled r.made k r.in_hand))
+    ∙ back_beside parts r.copy.at r.copy.at r.copy.queue (settled_in r.copy r.settled) (moved_by r.settled.outcome) r.settled.got (received_into (parts r.copy.at) r.copy.queue r.element r.settled.got) r.element n
+    (other r.copy.at AQueue (hand_settled met parts w hand r.copy r.settled r.made k r.from).0.on)
 write_leaves met parts w hand now later n k (of_itd r) other =
     let differs = other r.copy.held.at AnItd (itd_on met parts w hand r.copy k r.in_hand) in
     ap (λ (x : StructureSets). x n) r.now_is

@@ -2,6 +2,7 @@ pub mod Queues
 pub mod Hands
 pub mod PartSampled
 pub mod PartTurning
+pub mod QueueBacks
 pub mod Taking
 pub mod Making
 pub mod Writing
@@ -26,6 +27,8 @@ pub mod Visiting
 pub mod WritingBack
 pub mod QueueStepStepping
 pub mod QueueStepSampled
+pub mod SplitSampled
+pub mod SplitWalked
 pub mod Heard
 pub mod Happening
 pub mod ItdStepSampled

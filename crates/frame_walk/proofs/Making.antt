@@ -1,5 +1,5 @@
 -- The bytes that a transaction sends, and what it came to.
-use Rattle.std.proofs.Common.{◌≡◌, ℕ, zero, suc, ◌+◌, ◌-◌, ◌<◌, ◌≤◌, Bool, true, false, ◌==◌, if◌then◌else◌, List, [], length, take, drop, slice_index, Option, Some, ap, refl, sym, subst, arith}
+use Rattle.std.proofs.Common.{◌≡◌, ℕ, zero, suc, ◌+◌, ◌-◌, ◌<◌, ◌≤◌, Bool, true, false, if◌then◌else◌, List, [], length, take, drop, slice_index, Option, Some, ap, refl, sym, subst, arith}
 use Rattle.std.proofs.lemmas.List.{length-take, length-drop}
 use Rattle.usb_base.specs.declared.packets.EpKind.TheVariants.{Interrupt}
 use Rattle.usb_base.specs.declared.packets.Pid.{Pid}
@@ -14,25 +14,25 @@ use Rattle.toggle_error.specs.declared.host.HostSide.{HostSide}
 use Rattle.toggle_error.specs.declared.host.Outcome.{Outcome}
 use Rattle.toggle_error.specs.declared.host.Outcome.TheVariants as outcomes
 use Rattle.toggle_error.specs.Columns.{limit_of}
-use Rattle.transactions.specs.declared.pipe.Pipe.{Pipe}
 use Rattle.transactions.specs.Calls.{got_of}
 use Rattle.walk_copy.specs.declared.held.Transaction.{Transaction}
-use Rattle.walk_copy.specs.Planning.{pid_at, queue_pipe, split_at, carries}
+use Rattle.walk_copy.specs.Planning.{pid_at, carries}
 use Rattle.walk_copy.specs.Overlay.{pages_of, buffer_place}
-use Rattle.walk_copy.specs.Transacting.{outcome_in}
+use Rattle.walk_copy.specs.Transacting.{outcome_in, host_after}
 use Rattle.interrupt_visits.specs.Turns.{planned, is_last_of}
-use Rattle.interrupt_visits.specs.Copies.{with_split, interrupt_copy}
+use Rattle.interrupt_visits.specs.Copies.{interrupt_copy}
 use Rattle.lent_structures.specs.Settles.{Settles}
 use Rattle.lent_structures.proofs.Settling.{settles}
 use Rattle.lent_structures.specs.Structures.{Buffer, StructureSets}
 use Rattle.lent_structures.proofs.WrittenBack.{sent_there, none_sent}
 use Rattle.lent_structures.specs.Sound.{HasBuffer, IsReady, IsWorking, IsSoundElement}
-use Rattle.ring_laws.specs.Hand.{Copy, copied_queue, settled_queue_of}
-use Rattle.ring_laws.specs.Ring.{IsSettled}
+use Rattle.ring_laws.specs.Hand.{Copy, copied_queue}
 use Rattle.frame_walk.specs.Met.{Kind}
+use Rattle.frame_walk.specs.Frame.{IsQueueSettled}
 use Rattle.frame_walk.specs.FrameEffects.{frame_settlement}
 use Rattle.frame_walk.specs.Visits.{IsQueueVisit, AreAllSent}
 use Rattle.frame_walk.specs.QueueVisitLaws.{HasBytes, held_copy, held_settled}
+use Rattle.frame_walk.proofs.QueueBacks.{split_prog, split_tag, split_marks}
 use Rattle.frame_walk.proofs.Taking.{sound_there}
 
 -- ---- the bytes that go out
@@ -86,23 +86,23 @@ bytes_got : (pid : Pid) (o : Outcome) (reply : Reply) → HasBytes reply → (i 
 bytes_got Packets.In (outcomes.Moved n) (Bytes sent bs) small i = small sent bs refl i
 bytes_got _ _ _ small i = omega arith
 
-pub settles_so : (f : ℕ) (q : Qh) (out : List ℕ) (reply : Reply) → q.token.active ≡ true → length out ≡ (planned q).bytes → HasBytes reply → IsSettled q reply (frame_settlement f q out reply)
-settles_so f q out reply on count small =
+pub settles_so : (f : ℕ) (q : Qh) (out : List ℕ) (reply : Reply) → q.token.active ≡ true → q.c_prog < 256 → q.frame_tag < 32 → length out ≡ (planned q).bytes → HasBytes reply
+    → IsQueueSettled q reply (frame_settlement f q out reply)
+settles_so f q out reply on low tag count small =
     let z : Settles Interrupt q out (is_last_of f q) reply = settles Interrupt q out (is_last_of f q) reply count in
     record {
-      works = on;
-      host = z.host;
-      bytes = z.bytes;
-      got = refl;
-      are_bytes = bytes_got (pid_at q.token.pid) (outcome_in (planned q) out (is_last_of f q) reply) reply small;
+      came_to = record {
+        works = on;
+        host = z.host;
+        bytes = z.bytes;
+        got = refl;
+        are_bytes = bytes_got (pid_at q.token.pid) (outcome_in (planned q) out (is_last_of f q) reply) reply small;
+      };
+      prog = split_prog f (planned q).split q low;
+      tag = split_tag f (planned q).split q tag;
     }
 
--- a plain transaction leaves no split state
-with_plain : (f : ℕ) (b state : Bool) (pipe : Pipe) (q : Qh) → b ≡ true → with_split f (split_at b state pipe) q ≡ q
-unfolding with_split
-with_plain f b state pipe q is = ap (λ (x : Bool). with_split f (split_at x state pipe) q) is
-
-pub copy_settles : (f : ℕ) (c : Copy) (out : List ℕ) (reply : Reply) → c.queue.eps ≡ 2 → interrupt_copy f (planned (copied_queue c)) out reply (held_copy c) ≡ held_settled c (frame_settlement f c.queue out reply)
-copy_settles f c out reply high =
+pub copy_settles : (f : ℕ) (c : Copy) (out : List ℕ) (reply : Reply) → interrupt_copy f (planned (copied_queue c)) out reply (held_copy c) ≡ held_settled c (frame_settlement f c.queue out reply)
+copy_settles f c out reply =
     ap (λ (x : Qh). record (held_settled c (frame_settlement f c.queue out reply)) { queue_head = x })
-    (with_plain f (c.queue.eps == 2) c.queue.token.split_state (queue_pipe Interrupt (copied_queue c)) (settled_queue_of c (frame_settlement f c.queue out reply)) (ap (λ (n : ℕ). n == 2) high))
+    (split_marks f (planned (copied_queue c)).split (host_after (planned c.queue) out (is_last_of f c.queue) reply) c)

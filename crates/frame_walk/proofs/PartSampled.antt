@@ -194,7 +194,6 @@ queue_met = record {
     elements = λ a t found. absurd (no_element 128 a t found);
     own = λ a b t u ps k bs one other same there. absurd (no_element 128 a t one);
   };
-  high = refl;
   link = tt;
 }
 

@@ -16,10 +16,9 @@ use Rattle.periodic_walk.specs.declared.state.Hand.TheVariants as hands
 use Rattle.periodic_walk.specs.Place.{FramePlace, Effect, HasEffect, sent}
 use Rattle.periodic_walk.specs.Queue.{queue_left_by}
 use Rattle.periodic_walk.specs.Rows.{step_of, Leads}
-use Rattle.ring_laws.specs.Hand.{settled_queue_of}
 use Rattle.ring_laws.specs.Effects.{AreBytesHeard}
 use Rattle.frame_walk.specs.Met.{Kind, AQueue, IsMetQueue, IsMetAs}
-use Rattle.frame_walk.specs.FrameHand.{OfQueue, OfSettled}
+use Rattle.frame_walk.specs.FrameHand.{settled_in, OfQueue, OfSettled}
 use Rattle.frame_walk.specs.Frame.{IsFrame}
 use Rattle.frame_walk.specs.QueueVisitSamples.{queue, memory, met, parts, copy, settled, heard}
 use Rattle.frame_walk.specs.QueueVisitLaws.{held_copy}
@@ -42,7 +41,7 @@ after_it = record {
   members = λ n k on. members_at (n == 0) n k refl on;
   walk = record {
     cursor = refl;
-    held = ap (λ (x : Held). Some (hands.Queue (record { copy = x; made = 1 }))) (copy_settles 0 copy [] heard refl);
+    held = ap (λ (x : Held). Some (hands.Queue (record { copy = x; made = 1 }))) (copy_settles 0 copy [] heard);
     in_hand = (visit_is.copied, settled_so);
   };
 }
@@ -53,7 +52,7 @@ transacts_it = ap (λ (r : Reading). if r.all then steps.Transact else steps.Fau
 pub writes_it : step_of made ≡ steps.WriteBack
 unfolding with_split settled_queue
 writes_it =
-    ap (λ (got : List ℕ). if (written_back copy.at (settled_queue_of copy settled) settled.outcome got memory).all then steps.WriteBack else steps.Fault) (received_same copy settled heard)
+    ap (λ (got : List ℕ). if (written_back copy.at (settled_in copy settled) settled.outcome got memory).all then steps.WriteBack else steps.Fault) (received_same copy settled heard)
     ∙ ap (λ (b : Bool). if b then steps.WriteBack else steps.Fault) back_is.whole
 
 abbrev heard_in : Reply → List ℕ
@@ -61,7 +60,7 @@ heard_in (Bytes pid bs) = bs
 heard_in _ = []
 
 pub heard_it : AreBytesHeard is_heard 0 1
-heard_it ask out pid bs is i = subst (λ (r : Reply). slice_index (heard_in r) i < 256) (sym is.0) (settled_so.are_bytes i)
+heard_it ask out pid bs is i = subst (λ (r : Reply). slice_index (heard_in r) i < 256) (sym is.0) (settled_so.came_to.are_bytes i)
 
 -- what a reading of its bytes leads to
 abbrev sent_from : Reading → Effect

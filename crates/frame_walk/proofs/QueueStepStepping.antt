@@ -9,6 +9,7 @@ use Rattle.link_words.specs.Links.{qtd_link_of}
 use Rattle.qh_qtd.specs.declared.qtd.Qtd.{Qtd}
 use Rattle.walk_copy.specs.Visits.{next_pointer}
 use Rattle.interrupt_visits.specs.declared.turns.Turn.{Turn}
+use Rattle.interrupt_visits.specs.declared.turns.Turn.TheVariants as turns
 use Rattle.interrupt_visits.specs.Turns.{turn_of, planned}
 use Rattle.periodic_walk.specs.declared.queue.QueueRow.{QueueRow}
 use Rattle.periodic_walk.specs.declared.queue.QueueRow.TheVariants as rows
@@ -25,11 +26,11 @@ use Rattle.frame_walk.specs.Met.{Kind}
 use Rattle.frame_walk.specs.FrameHand.{OfQueue}
 use Rattle.frame_walk.specs.Frame.{IsFrame}
 use Rattle.frame_walk.specs.FrameEffects.{FrameHappens}
-use Rattle.frame_walk.specs.Visits.{IsQueueVisit}
-use Rattle.frame_walk.proofs.Taking.{sound_there, high_there}
+use Rattle.frame_walk.proofs.Taking.{sound_there}
 use Rattle.frame_walk.proofs.Framing.{visit_there}
-use Rattle.frame_walk.proofs.QueueStepTurning.{TurnOf, rests, works, goes_on, turn_found}
+use Rattle.frame_walk.proofs.QueueStepTurning.{TurnOf, rests, works, goes_on, misses, turn_found}
 use Rattle.frame_walk.proofs.Visiting.{RowHappens, skip_happens, take_happens, transact_happens}
+use Rattle.frame_walk.proofs.WritingBack.{miss_happens}
 
 module _ {W : Type 0} (transacts : W → Ask → List ℕ → Reply → W → Type 0) (met : ℕ → Option Kind) (parts : StructureSets) (wire after : W) (p new : FramePlace) (c : Copy) (made : ℕ) where
   abbrev By : QueueRow → FramePlace → Type 0
@@ -50,19 +51,19 @@ module _ {W : Type 0} (transacts : W → Ask → List ℕ → Reply → W → Ty
       (same_memory (taken_row a (Some on.qtd)) (take_read p.memory (qtd_links.To a)) (element_not_refused p.memory parts c.at a on.qtd k.tells on.here)
       (taken_by a on.qtd on.qtd.token.active refl k off idle leads on.here))
 
-  work_by : (b : Bool) → IsFrame met parts (OfQueue c made) p → AreBytesHeard transacts wire after → c.queue.token.active ≡ true → By (if b then rows.Skip else rows.Transact (planned (copied_queue c))) p
-  work_by true k heard on = skip_happens transacts met parts wire after p new c made k
-  work_by false k heard on = transact_happens transacts met parts wire after p new c made k heard on
+  work_by : (b : Bool) → IsFrame met parts (OfQueue c made) p → AreBytesHeard transacts wire after → c.queue.token.active ≡ true → turn_of p.walk.index (copied_queue c) ≡ turns.Work → By (if b then rows.Skip else rows.Transact (planned (copied_queue c))) p
+  work_by true k heard on turn = skip_happens transacts met parts wire after p new c made k
+  work_by false k heard on turn = transact_happens transacts met parts wire after p new c made k heard on turn
 
-  turn_by : (turn : Turn) → TurnOf (copied_queue c) turn → IsFrame met parts (OfQueue c made) p → AreBytesHeard transacts wire after → By (turn_row p.memory p.walk.left (copied_queue c) turn) (reading (turn_read p.memory turn) p)
-  turn_by turn rests k heard = skip_happens transacts met parts wire after p new c made k
-  turn_by turn (works on) k heard = work_by (nat_lt p.walk.left (planned (copied_queue c)).price.0) k heard on
-  turn_by turn (goes_on off idle) k heard =
+  turn_by : (turn : Turn) → TurnOf (copied_queue c) turn → IsFrame met parts (OfQueue c made) p → AreBytesHeard transacts wire after → turn_of p.walk.index (copied_queue c) ≡ turn → By (turn_row p.memory p.walk.left (copied_queue c) turn) (reading (turn_read p.memory turn) p)
+  turn_by _ rests k heard is = skip_happens transacts met parts wire after p new c made k
+  turn_by _ (works on) k heard is = work_by (nat_lt p.walk.left (planned (copied_queue c)).price.0) k heard on is
+  turn_by _ misses k heard is = miss_happens transacts met parts wire after p new c made k is
+  turn_by _ (goes_on off idle) k heard is =
       let sound : IsSoundQueue (parts c.at) c.queue = sound_there met p.memory parts c (visit_there met parts (OfQueue c made) p c k k.walk.in_hand) in
       take_by (qtd_link_of (next_pointer (copied_queue c))) refl (sound.rest off idle) k off idle
 
   pub copied_event : IsFrame met parts (OfQueue c made) p → AreBytesHeard transacts wire after → Leads transacts p wire new after → FrameHappens transacts met parts (OfQueue c made) wire after p new (step_of p)
   copied_event k heard =
-      let v : IsQueueVisit met p.memory parts c = visit_there met parts (OfQueue c made) p c k k.walk.in_hand in
       subst (λ (o : Option Hand). HasEffect transacts (effect_at p o) wire new after → FrameHappens transacts met parts (OfQueue c made) wire after p new (step_at p o)) (sym k.walk.held)
-      (turn_by (turn_of p.walk.index (copied_queue c)) (turn_found p.walk.index (copied_queue c) (high_there met p.memory parts c v)) k heard)
+      (turn_by (turn_of p.walk.index (copied_queue c)) (turn_found p.walk.index (copied_queue c)) k heard refl)

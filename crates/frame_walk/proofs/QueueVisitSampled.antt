@@ -12,7 +12,7 @@ use Rattle.lent_structures.proofs.Writing.{word_put_queue}
 use Rattle.lent_structures.proofs.StructureSampled.{queue_range as first_range, sample_told}
 use Rattle.lent_structures.specs.Sound.{IsSoundElement, IsSoundQueue}
 use Rattle.lent_structures.proofs.Altering.{same_element}
-use Rattle.ring_laws.specs.Ring.{IsSettled}
+use Rattle.frame_walk.specs.Frame.{IsQueueSettled}
 use Rattle.frame_walk.specs.Met.{IsMetQueue}
 use Rattle.frame_walk.specs.Visits.{IsQueueVisit, IsWrittenBack}
 use Rattle.frame_walk.specs.QueueVisitSamples.{queue, memory, parts, met, copy, heard, settled}
@@ -29,11 +29,11 @@ unfolding qh_words
 told = word_put_queue small small_parts 0 0 first queue 2 0x40000001 sample_told refl (omega arith) refl queue_range
 
 -- the qTD at 64 alone
-record IsTheOne (a : ℕ) (t : Qtd) : Type 0 where
-  at : a ≡ 64
-  is : t ≡ element
+pub record IsTheOne (a : ℕ) (t : Qtd) : Type 0 where
+  pub at : a ≡ 64
+  pub is : t ≡ element
 
-the_first : (n a : ℕ) (t : Qtd) → small_parts n a ≡ Some (Element t) → IsTheOne a t
+pub the_first : (n a : ℕ) (t : Qtd) → small_parts n a ≡ Some (Element t) → IsTheOne a t
 the_first n a t found =
     ⊎_elim (λ (is : (n ≡ 0) × (a ≡ 100) × (Element t ≡ Buffer pages 100 bytes)). cc)
     (λ (second : put (put nothing 0 0 (QueueHead first)) 0 64 (Element element) n a ≡ Some (Element t)).
@@ -77,7 +77,6 @@ queue_met = record {
     elements = λ a t found. subst (IsSoundElement (parts 0)) (sym (the_one 0 a t found).is) element_sound;
     own = λ a b t u ps k bs one other same there. (the_one 0 a t one).at ∙ sym (the_one 0 b u other).at;
   };
-  high = refl;
   link = refl;
 }
 
@@ -85,17 +84,17 @@ pub visit_is : IsQueueVisit met memory parts copy
 visit_is = record { tells = told; met_is = queue_met; copied = record { on = refl; here = refl; link = refl; range = queue_range } }
 
 -- the bytes that were heard
-abbrev heard_in : Reply → List ℕ
+abbrev pub heard_in : Reply → List ℕ
 heard_in (Bytes pid bs) = bs
 heard_in _ = []
 
-two_small : (i : ℕ) → slice_index (heard_in heard) i < 256
+pub two_small : (i : ℕ) → slice_index (heard_in heard) i < 256
 two_small zero = omega arith
 two_small (suc zero) = omega arith
 two_small (suc (suc i)) = omega arith
 
-pub settled_so : IsSettled queue heard settled
-settled_so = settles_so 0 queue [] heard refl refl (λ pid bs same i. subst (λ (r : Reply). slice_index (heard_in r) i < 256) same (two_small i))
+pub settled_so : IsQueueSettled queue heard settled
+settled_so = settles_so 0 queue [] heard refl (omega arith) (omega arith) refl (λ pid bs same i. subst (λ (r : Reply). slice_index (heard_in r) i < 256) same (two_small i))
 
 pub back_is : IsWrittenBack met memory parts copy settled
 back_is = visit_written met memory parts copy settled heard visit_is settled_so

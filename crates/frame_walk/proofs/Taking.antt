@@ -31,19 +31,15 @@ queue_same met m parts c v = found_queue (parts c.at c.at) v.met_is.part_is.queu
 pub sound_there : (met : ℕ → Option Kind) (m : Mem) (parts : StructureSets) (c : Copy) → IsQueueVisit met m parts c → IsSoundQueue (parts c.at) c.queue
 sound_there met m parts c v = subst (IsSoundQueue (parts c.at)) (queue_same met m parts c v) v.met_is.part_is.sound
 
-pub high_there : (met : ℕ → Option Kind) (m : Mem) (parts : StructureSets) (c : Copy) → IsQueueVisit met m parts c → c.queue.eps ≡ 2
-high_there met m parts c v = subst (λ (q : Qh). q.eps ≡ 2) (queue_same met m parts c v) v.met_is.high
-
 pub link_there : (met : ℕ → Option Kind) (m : Mem) (parts : StructureSets) (c : Copy) → IsQueueVisit met m parts c → LeadsTo met (link_of c.queue.link)
 link_there met m parts c v = subst (λ (q : Qh). LeadsTo met (link_of q.link)) (queue_same met m parts c v) v.met_is.link
 
--- another queue head in its place, of the same endpoint and with the same link
-pub met_after : (met : ℕ → Option Kind) (m : Mem) (parts : StructureSets) (c : Copy) (now : Structures) (new : Qh) → IsQueueVisit met m parts c → Alters (parts c.at) now → now c.at ≡ Some (QueueHead new) → new.eps ≡ c.queue.eps → new.link ≡ c.queue.link → IsSoundQueue now new → IsMetQueue met c.at now
-met_after met m parts c now new v alters here high link sound =
+-- another queue head in its place, with the same link
+pub met_after : (met : ℕ → Option Kind) (m : Mem) (parts : StructureSets) (c : Copy) (now : Structures) (new : Qh) → IsQueueVisit met m parts c → Alters (parts c.at) now → now c.at ≡ Some (QueueHead new) → new.link ≡ c.queue.link → IsSoundQueue now new → IsMetQueue met c.at now
+met_after met m parts c now new v alters here link sound =
     let still : IsQueuePart c.at now = queue_still c.at (parts c.at) now new v.met_is.part_is alters here sound in
     record {
       part_is = record { queue = new; here = here; sound = sound; elements = still.elements; own = still.own };
-      high = high ∙ high_there met m parts c v;
       link = subst (λ (l : LinkBits). LeadsTo met (link_of l)) (sym link) (link_there met m parts c v);
     }
 
@@ -61,10 +57,6 @@ taken_copy c a t = refl
 link_advanced : (q : Qh) (a : ℕ) (t : Qtd) → (advanced q a t).link ≡ q.link
 unfolding advanced
 link_advanced q a t = refl
-
-speed_advanced : (q : Qh) (a : ℕ) (t : Qtd) → (advanced q a t).eps ≡ q.eps
-unfolding advanced
-speed_advanced q a t = refl
 
 copy_front : (c : Copy) → take 3 (qh_words (relinked c.queue (copied_queue c))) ≡ take 3 (qh_words c.queue)
 unfolding qh_words
@@ -116,7 +108,7 @@ taken_met met m parts c a t v here on =
     let new : Qh = advanced c.queue a t in
     met_after met m parts c (taken_parts parts c a t c.at) new v
     (subst (Alters (parts c.at)) (sym (put_here parts c.at c.at (QueueHead new))) (head_put (parts c.at) c.at c.queue new v.copied.here))
-    (put_same parts c.at c.at (QueueHead new)) (speed_advanced c.queue a t) (link_advanced c.queue a t)
+    (put_same parts c.at c.at (QueueHead new)) (link_advanced c.queue a t)
     (sound_advanced (parts c.at) (taken_parts parts c a t c.at) c.queue a t (still_there parts c a t v.copied.here here) on (v.met_is.part_is.elements a t here))
 
 pub taken_visit : (met : ℕ → Option Kind) (m : Mem) (parts : StructureSets) (c : Copy) (a : ℕ) (t : Qtd) → IsQueueVisit met m parts c → parts c.at a ≡ Some (Element t) → t.token.active ≡ true → IsQueueVisit met (overlay_after m c.at (advanced (copied_queue c) a t)) (taken_parts parts c a t) (taken c a t)

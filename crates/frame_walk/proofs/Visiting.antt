@@ -13,7 +13,8 @@ use Rattle.walk_copy.specs.Overlay.{advanced}
 use Rattle.walk_copy.specs.Buffer.{Reading}
 use Rattle.walk_copy.specs.Transacting.{call_in}
 use Rattle.walk_copy.specs.WriteBack.{overlay_after}
-use Rattle.interrupt_visits.specs.Turns.{planned, is_last_of}
+use Rattle.interrupt_visits.specs.declared.turns.Turn.TheVariants as turns
+use Rattle.interrupt_visits.specs.Turns.{turn_of, planned, is_last_of}
 use Rattle.async_walk.specs.declared.state.WalkStep.{WalkStep}
 use Rattle.async_walk.specs.declared.state.WalkStep.TheVariants as steps
 use Rattle.periodic_walk.specs.declared.queue.QueueRow.{QueueRow}
@@ -35,7 +36,8 @@ use Rattle.frame_walk.specs.FrameEffects.MakesOne.{of_queue}
 use Rattle.frame_walk.specs.FrameEffects.FrameEffect.{passes, takes, makes}
 use Rattle.frame_walk.specs.Visits.{IsQueueVisit, AreAllSent}
 use Rattle.frame_walk.specs.QueueVisitLaws.{HasBytes, held_copy}
-use Rattle.frame_walk.proofs.Taking.{taken_copy, taken_parts, taken_visit, taken_only, high_there}
+use Rattle.frame_walk.proofs.QueueBacks.{marks_small}
+use Rattle.frame_walk.proofs.Taking.{taken_copy, taken_parts, taken_visit, taken_only}
 use Rattle.frame_walk.proofs.Making.{all_sent, settles_so, copy_settles}
 use Rattle.frame_walk.proofs.Framing.{visit_there, frame_after}
 
@@ -118,8 +120,8 @@ module _ {W : Type 0} (transacts : W → Ask → List ℕ → Reply → W → Ty
     walk = record {
       cursor = k.walk.cursor;
       held = ap (λ (x : Held). Some (hands.Queue (record { copy = x; made = min (made + 1) 255 })))
-          (copy_settles p.walk.index c s.out reply (high_there met p.memory parts c (visit_there met parts (OfQueue c made) p c k k.walk.in_hand)));
-      in_hand = (k.walk.in_hand, settles_so p.walk.index c.queue s.out reply on s.are.count small);
+          (copy_settles p.walk.index c s.out reply);
+      in_hand = (k.walk.in_hand, settles_so p.walk.index c.queue s.out reply on (marks_small (copied_queue c) k.walk.in_hand.range).0 (marks_small (copied_queue c) k.walk.in_hand.range).1 s.are.count small);
     };
   }
 
@@ -131,8 +133,8 @@ module _ {W : Type 0} (transacts : W → Ask → List ℕ → Reply → W → Ty
       let there : FramePlace = record p { memory = r.memory } in
       sent r.all (call_in t r.bytes last).ask (call_in t r.bytes last).out (queue_left_by t r.bytes (held_queue c made) there) there
 
-  asked_happens : IsFrame met parts (OfQueue c made) p → AreBytesHeard transacts wire after → c.queue.token.active ≡ true → (s : AreAllSent p.memory parts c) → HasEffect transacts (sent_from (record { bytes = s.out; memory = p.memory; all = true })) wire new after → Happens steps.Transact
-  asked_happens k heard on s lead =
+  asked_happens : IsFrame met parts (OfQueue c made) p → AreBytesHeard transacts wire after → c.queue.token.active ≡ true → turn_of p.walk.index (copied_queue c) ≡ turns.Work → (s : AreAllSent p.memory parts c) → HasEffect transacts (sent_from (record { bytes = s.out; memory = p.memory; all = true })) wire new after → Happens steps.Transact
+  asked_happens k heard on turn s lead =
       let t : Transaction = planned (copied_queue c) in
       let last : Bool = is_last_of p.walk.index (copied_queue c) in
       record {
@@ -142,10 +144,10 @@ module _ {W : Type 0} (transacts : W → Ask → List ℕ → Reply → W → Ty
             (made_frame k on s lead.reply
             (λ pid bs same. heard (call_in t s.out last).ask (call_in t s.out last).out pid bs (subst (λ (r : Reply). transacts wire (call_in t s.out last).ask (call_in t s.out last).out r after) same lead.made)));
         registers = ap (λ (x : FramePlace). base_of x.registers) lead.place;
-        effect = makes (of_queue (record { copy = c; made = made; in_hand = refl; works = on; out = s.out; sent = s.are; reply = lead.reply; asked = lead.made; later_is = refl })) refl;
+        effect = makes (of_queue (record { copy = c; made = made; in_hand = refl; works = on; turn = turn; out = s.out; sent = s.are; reply = lead.reply; asked = lead.made; later_is = refl })) refl;
       }
 
-  pub transact_happens : IsFrame met parts (OfQueue c made) p → AreBytesHeard transacts wire after → c.queue.token.active ≡ true → RowHappens (rows.Transact (planned (copied_queue c))) p
-  transact_happens k heard on =
+  pub transact_happens : IsFrame met parts (OfQueue c made) p → AreBytesHeard transacts wire after → c.queue.token.active ≡ true → turn_of p.walk.index (copied_queue c) ≡ turns.Work → RowHappens (rows.Transact (planned (copied_queue c))) p
+  transact_happens k heard on turn =
       let s : AreAllSent p.memory parts c = all_sent met p.memory parts c (visit_there met parts (OfQueue c made) p c k k.walk.in_hand) on in
-      subst (λ (r : Reading). HasEffect transacts (sent_from r) wire new after → Happens (if r.all then steps.Transact else steps.Fault)) (sym s.read) (asked_happens k heard on s)
+      subst (λ (r : Reading). HasEffect transacts (sent_from r) wire new after → Happens (if r.all then steps.Transact else steps.Fault)) (sym s.read) (asked_happens k heard on turn s)

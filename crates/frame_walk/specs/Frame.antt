@@ -1,4 +1,5 @@
 -- The walk of the frames at any moment (EHCI 1.0, 4.6, 4.7.1, 4.10 and 4.12.3): wherever it is and whatever it has in hand, over told structures.
+--     IsQueueSettled q reply z what the last transaction of a queue head came to, where this reply was heard; its C-prog-mask and FrameTag are in their ranges
 --     IsCopiedQueue, IsCopiedItd, IsCopiedSitd
 --                              a copy in hand is one of a structure that is met, and leads to others; its link may be an older one
 --     HasSameExtent s t        two words of a microframe tell the same bytes, and both are active or neither
@@ -12,6 +13,7 @@
 use Rattle.std.specs.Prelude.{◌≡◌, ℕ, ◌+◌, ◌<◌, Bool, true, false, List, length, slice_index, Option, Some, None}
 use Rattle.usb_base.specs.declared.packets.Reply.{Reply}
 use Rattle.link_words.specs.Links.{link_of}
+use Rattle.qh_qtd.specs.declared.queue_head.Qh.{Qh}
 use Rattle.qh_qtd.specs.QueueHead.{IsQhInRange}
 use Rattle.itd_sitd.specs.declared.slot.ItdSlot.{ItdSlot}
 use Rattle.itd_sitd.specs.declared.sitd.Sitd.{Sitd}
@@ -25,7 +27,7 @@ use Rattle.lent_structures.specs.Structures.{QueueHead, Isochronous, SplitIsochr
 use Rattle.ring_laws.specs.Hand.{Copy, copied_queue}
 use Rattle.ring_laws.specs.Ring.{IsSettled}
 use Rattle.frame_walk.specs.Met.{Kind, AQueue, AnItd, ASitd, LeadsTo, IsMetAs}
-use Rattle.frame_walk.specs.FrameHand.{ItdCopy, SitdCopy, FrameHand, Nothing, OfQueue, OfSettled, OfItd, OfSitd, frame_held}
+use Rattle.frame_walk.specs.FrameHand.{QueueSettlement, came, ItdCopy, SitdCopy, FrameHand, Nothing, OfQueue, OfSettled, OfItd, OfSitd, frame_held}
 
 -- ---- bytes
 
@@ -40,6 +42,11 @@ pub record IsCopiedQueue (met : ℕ → Option Kind) (parts : StructureSets) (c 
   pub here : parts c.at c.at ≡ Some (QueueHead c.queue)
   pub link : LeadsTo met (link_of c.link)
   pub range : IsQhInRange (copied_queue c)
+
+pub record IsQueueSettled (q : Qh) (reply : Reply) (z : QueueSettlement) : Type 0 where
+  pub came_to : IsSettled q reply (came z)
+  pub prog : z.c_prog < 256
+  pub tag : z.frame_tag < 32
 
 -- ---- an iTD (4.7.1)
 
@@ -102,7 +109,7 @@ pub record IsCopiedSitd (met : ℕ → Option Kind) (parts : StructureSets) (rep
 abbrev pub IsInFrame : (ℕ → Option Kind) → StructureSets → List ℕ → Reply → FrameHand → Type 0
 IsInFrame met parts got reply Nothing = Unit {0}
 IsInFrame met parts got reply (OfQueue c made) = IsCopiedQueue met parts c
-IsInFrame met parts got reply (OfSettled c s made) = IsCopiedQueue met parts c × IsSettled c.queue reply s
+IsInFrame met parts got reply (OfSettled c s made) = IsCopiedQueue met parts c × IsQueueSettled c.queue reply s
 IsInFrame met parts got reply (OfItd c) = IsCopiedItd met parts got c
 IsInFrame met parts got reply (OfSitd c) = IsCopiedSitd met parts reply c
 

@@ -1,15 +1,20 @@
--- What an event of the walk of the frames is to the structures in memory and to what is in hand (EHCI 1.0, 4.6, 4.7.1, 4.10 and 4.12.3): it reads a
+-- What an event of the walk of the frames is to the structures in memory and to what is in hand (EHCI 1.0, 4.6, 4.7.1, 4.10, 4.12.2 and 4.12.3): it reads a
 -- structure, passes on, takes a qTD, makes one transaction, or writes one back. Nothing else changes, and of one structure's part alone.
 --     AreOut part pages from n out  the n bytes that go out, from byte `from` of these pages on
 --     AreReceivedAt part pages from got r
 --                                   so these received bytes are put, from byte `from` of these pages on
 --     itd_back c, itd_parts ..      the iTD after its write-back, and the parts with it
 --     sitd_back c n, sitd_parts ..  the siTD after its write-back, where n bytes were moved, and the parts with it
+--     frame_settlement f q out reply
+--                                   what the transaction of a queue head came to, in a microframe
+--     missed_settlement q           what a missed microframe of its split transaction comes to
+--     IsSettledFrom w hand c z made what is in hand is settled; or a microframe was missed, and that settles it
 --     Fetches, TakesOne, MakesOne, WritesOne
 --                                   each of the events, where the walk stands at w
 --     FrameEffect .. kind           which of them an event of this kind is; no fault is one
 --     FrameHappens .. p new kind    the walk at `new` after an event at p, with its effect
-use Rattle.std.specs.Prelude.{◌≡◌, ℕ, ◌+◌, ◌-◌, ◌<◌, ◌≤◌, min, true, List, [], length, take, drop, slice_index, slice_set, if◌then◌else◌, Option, Some, None}
+use Rattle.std.specs.Prelude.{◌≡◌, ℕ, ◌+◌, ◌-◌, ◌<◌, ◌≤◌, min, true, false, List, [], length, take, drop, slice_index, slice_set, if◌then◌else◌, Option, Some, None}
+use Rattle.usb_base.specs.declared.endpoints.EndCause.TheVariants.{Miss}
 use Rattle.usb_base.specs.declared.packets.Ask.{Ask}
 use Rattle.usb_base.specs.declared.packets.Reply.{Reply}
 use Rattle.qh_qtd.specs.declared.qtd.Qtd.{Qtd}
@@ -18,11 +23,14 @@ use Rattle.itd_sitd.specs.declared.itd.Itd.{Itd}
 use Rattle.itd_sitd.specs.declared.sitd.Sitd.{Sitd}
 use Rattle.itd_sitd.specs.Itd.{slot_of}
 use Rattle.buffers.specs.Bytes.{place}
+use Rattle.toggle_error.specs.declared.host.Outcome.TheVariants.{Halt}
+use Rattle.walk_copy.specs.Planning.{host_in}
 use Rattle.walk_copy.specs.Overlay.{pages_of, buffer_place, moved}
 use Rattle.walk_copy.specs.Transacting.{call_in, outcome_in, host_after}
 use Rattle.walk_copy.specs.WriteBack.{moved_by as queue_moved_by, received}
-use Rattle.interrupt_visits.specs.Turns.{microframe_of, planned, is_last_of}
-use Rattle.interrupt_visits.specs.Copies.{goes_on}
+use Rattle.interrupt_visits.specs.declared.turns.Turn.TheVariants as queue_turns
+use Rattle.interrupt_visits.specs.Turns.{microframe_of, turn_of, planned, is_last_of}
+use Rattle.interrupt_visits.specs.Copies.{with_split, goes_on}
 use Rattle.iso_visits.specs.declared.held.IsoEnd.{IsoEnd}
 use Rattle.iso_visits.specs.declared.held.SitdTurn.TheVariants as turns
 use Rattle.iso_visits.specs.declared.held.SplitOutcome.{SplitOutcome}
@@ -36,11 +44,11 @@ use Rattle.periodic_walk.specs.Place.{FramePlace}
 use Rattle.lent_structures.specs.Structures.{QueueHead, Element, Buffer, Isochronous, SplitIsochronous, Structures, StructureSets, put}
 use Rattle.lent_structures.specs.Changes.{relinked}
 use Rattle.lent_structures.specs.WriteBack.{Received, Nothing as Nowhere, Into, IsReceived, received_parts, parts_back}
-use Rattle.ring_laws.specs.Hand.{Copy, Settlement, settled_queue_of, Copied}
+use Rattle.ring_laws.specs.Hand.{Copy, Copied}
 use Rattle.ring_laws.specs.Ring.{base_of}
 use Rattle.ring_laws.specs.Effects.{Takes, received_into}
 use Rattle.frame_walk.specs.Met.{Kind}
-use Rattle.frame_walk.specs.FrameHand.{ItdCopy, SitdCopy, FrameHand, Nothing, OfQueue, OfSettled, OfItd, OfSitd, fetched_copy, fetched_itd_copy, fetched_sitd_copy}
+use Rattle.frame_walk.specs.FrameHand.{QueueSettlement, settled_in, ItdCopy, SitdCopy, FrameHand, Nothing, OfQueue, OfSettled, OfItd, OfSitd, fetched_copy, fetched_itd_copy, fetched_sitd_copy}
 use Rattle.frame_walk.specs.Frame.{received_of, IsFrame}
 
 -- ---- bytes
@@ -114,12 +122,15 @@ pub record TakesOne (parts : StructureSets) (hand : FrameHand) (now : StructureS
 
 -- ---- a transaction is made
 
--- what that of a queue head came to (4.10.3), in the microframe f of FRINDEX
-abbrev pub frame_settlement : ℕ → Qh → List ℕ → Reply → Settlement
+-- What that of a queue head came to (4.10.3), in the microframe f of FRINDEX. A start-split notes the frame, with no complete-split made; a complete-split notes
+-- its microframe (4.12.2.4.2).
+abbrev pub frame_settlement : ℕ → Qh → List ℕ → Reply → QueueSettlement
 frame_settlement f q out reply = record {
   host = host_after (planned q) out (is_last_of f q) reply;
   outcome = outcome_in (planned q) out (is_last_of f q) reply;
   got = received q (outcome_in (planned q) out (is_last_of f q) reply) reply;
+  c_prog = (with_split f (planned q).split q).c_prog;
+  frame_tag = (with_split f (planned q).split q).frame_tag;
 }
 
 pub record MakesOfQueue {W : Type 0} (transacts : W → Ask → List ℕ → Reply → W → Type 0) (parts : StructureSets) (w : Walk) (hand : FrameHand) (wire after : W) (later : FrameHand) : Type 0 where
@@ -127,6 +138,7 @@ pub record MakesOfQueue {W : Type 0} (transacts : W → Ask → List ℕ → Rep
   pub made : ℕ
   pub in_hand : hand ≡ OfQueue copy made
   pub works : copy.queue.token.active ≡ true
+  pub turn : turn_of w.index copy.queue ≡ queue_turns.Work
   pub out : List ℕ
   pub sent : AreOut (parts copy.at) (pages_of copy.queue) (buffer_place copy.queue) (planned copy.queue).bytes out
   pub reply : Reply
@@ -163,21 +175,36 @@ pub data MakesOne {W : Type 0} (transacts : W → Ask → List ℕ → Reply →
 -- ---- a transaction is written back
 
 -- the queue head in memory after it, and the copy where the visit goes on (4.10.4)
-abbrev pub queue_written : Copy → Settlement → Qh
-queue_written c s = relinked c.queue (moved (settled_queue_of c s) (queue_moved_by s.outcome))
+abbrev pub queue_written : Copy → QueueSettlement → Qh
+queue_written c s = relinked c.queue (moved (settled_in c s) (queue_moved_by s.outcome))
 
-abbrev pub after_back : Copy → Settlement → ℕ → FrameHand
-after_back c s made = if goes_on made (settled_queue_of c s) s.outcome then OfQueue (record c { queue = queue_written c s }) made else Nothing
+abbrev pub after_back : Copy → QueueSettlement → ℕ → FrameHand
+after_back c s made = if goes_on made (settled_in c s) s.outcome then OfQueue (record c { queue = queue_written c s }) made else Nothing
 
-pub record WritesQueue (parts : StructureSets) (hand : FrameHand) (now : StructureSets) (later : FrameHand) : Type 0 where
+-- of a split transaction: the qTD halts with Missed Micro-Frame, and nothing is moved (4.12.2.4.1)
+abbrev pub missed_settlement : Qh → QueueSettlement
+missed_settlement q = record {
+  host = record (host_in q) { missed = true; halted = true; active = false };
+  outcome = Halt Miss;
+  got = [];
+  c_prog = q.c_prog;
+  frame_tag = q.frame_tag;
+}
+
+-- its transaction was made; or one of its microframes was missed, which is written back at once
+pub data IsSettledFrom (w : Walk) (hand : FrameHand) (copy : Copy) (settled : QueueSettlement) (made : ℕ) : Type 0 where
+  was_worked : hand ≡ OfSettled copy settled made → IsSettledFrom w hand copy settled made
+  was_missed : hand ≡ OfQueue copy made → turn_of w.index copy.queue ≡ queue_turns.Miss → settled ≡ missed_settlement copy.queue → IsSettledFrom w hand copy settled made
+
+pub record WritesQueue (parts : StructureSets) (w : Walk) (hand : FrameHand) (now : StructureSets) (later : FrameHand) : Type 0 where
   pub copy : Copy
-  pub settled : Settlement
+  pub settled : QueueSettlement
   pub made : ℕ
-  pub in_hand : hand ≡ OfSettled copy settled made
+  pub from : IsSettledFrom w hand copy settled made
   pub element : Qtd
   pub here : parts copy.at copy.queue.current ≡ Some (Element element)
-  pub received_is : IsReceived (parts copy.at) (settled_queue_of copy settled) settled.got (received_into (parts copy.at) copy.queue element settled.got)
-  pub now_is : now ≡ parts_back parts copy.at copy.at copy.queue (settled_queue_of copy settled) (queue_moved_by settled.outcome) settled.got
+  pub received_is : IsReceived (parts copy.at) (settled_in copy settled) settled.got (received_into (parts copy.at) copy.queue element settled.got)
+  pub now_is : now ≡ parts_back parts copy.at copy.at copy.queue (settled_in copy settled) (queue_moved_by settled.outcome) settled.got
       (received_into (parts copy.at) copy.queue element settled.got) element
   pub later_is : later ≡ after_back copy settled made
 
@@ -228,7 +255,7 @@ pub record WritesSitd (parts : StructureSets) (w : Walk) (hand : FrameHand) (now
   pub nothing : later ≡ Nothing
 
 pub data WritesOne (parts : StructureSets) (w : Walk) (hand : FrameHand) (now : StructureSets) (later : FrameHand) : Type 0 where
-  of_queue : WritesQueue parts hand now later → WritesOne parts w hand now later
+  of_queue : WritesQueue parts w hand now later → WritesOne parts w hand now later
   of_itd : WritesItd parts w hand now later → WritesOne parts w hand now later
   of_sitd : WritesSitd parts w hand now later → WritesOne parts w hand now later
 

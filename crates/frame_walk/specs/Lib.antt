@@ -6,6 +6,7 @@ pub mod PartSamples
 pub mod Visits
 pub mod QueueVisitLaws
 pub mod QueueVisitSamples
+pub mod SplitSamples
 pub mod ItdBacks
 pub mod SitdBacks
 pub mod SitdBackLaws

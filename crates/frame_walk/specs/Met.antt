@@ -49,10 +49,9 @@ pub record IsLinkedPart (member : ℕ → Bool) (n : ℕ) (part : Structures) : 
   pub part_is : IsQueuePart n part
   pub link : LeadsAmong member part_is.queue.link
 
--- of a high-speed endpoint
+-- of an endpoint of any speed (4.10, 4.12.2)
 pub record IsMetQueue (met : ℕ → Option Kind) (n : ℕ) (part : Structures) : Type 0 where
   pub part_is : IsQueuePart n part
-  pub high : part_is.queue.eps ≡ 2
   pub link : LeadsTo met (link_of part_is.queue.link)
 
 -- ---- isochronous descriptors (3.3, 3.4)

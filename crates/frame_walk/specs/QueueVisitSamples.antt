@@ -16,9 +16,9 @@ use Rattle.qh_qtd.specs.declared.queue_head.Qh.{Qh}
 use Rattle.lent_structures.specs.Structures.{QueueHead, StructureSets, put}
 use Rattle.lent_structures.specs.StructureSamples.{queue as first, element, pages, bytes, memory as small, parts as small_parts}
 use Rattle.lent_structures.specs.WriteBack.{Into, parts_back}
-use Rattle.ring_laws.specs.Hand.{Copy, Settlement, settled_queue_of}
+use Rattle.ring_laws.specs.Hand.{Copy}
 use Rattle.frame_walk.specs.Met.{Kind, AQueue}
-use Rattle.frame_walk.specs.FrameHand.{fetched_copy}
+use Rattle.frame_walk.specs.FrameHand.{QueueSettlement, settled_in, fetched_copy}
 use Rattle.frame_walk.specs.FrameEffects.{frame_settlement}
 
 abbrev pub queue : Qh
@@ -39,11 +39,11 @@ copy = fetched_copy 0 queue
 abbrev pub heard : Reply
 heard = Bytes Data0 (1 ∷ 2 ∷ [])
 
-abbrev pub settled : Settlement
+abbrev pub settled : QueueSettlement
 settled = frame_settlement 0 queue [] heard
 
 abbrev pub after : StructureSets
-after = parts_back parts 0 0 queue (settled_queue_of copy settled) 2 settled.got (Into pages 100 bytes 0) element
+after = parts_back parts 0 0 queue (settled_in copy settled) 2 settled.got (Into pages 100 bytes 0) element
 
 abbrev pub high : Copy
 high = fetched_copy 0 (record queue { max = 1; mult = 2 })
@@ -51,5 +51,5 @@ high = fetched_copy 0 (record queue { max = 1; mult = 2 })
 abbrev pub heard_one : Reply
 heard_one = Bytes Data0 (1 ∷ [])
 
-abbrev pub one : Settlement
+abbrev pub one : QueueSettlement
 one = frame_settlement 0 high.queue [] heard_one

@@ -1,4 +1,4 @@
--- A visit to the queue head of an interrupt endpoint that the walk of the frames meets (EHCI 1.0, 4.10.2 to 4.10.6), whatever the rest of the frames is.
+-- A visit to the queue head of an interrupt endpoint that the walk of the frames meets (EHCI 1.0, 4.10.2 to 4.10.6 and 4.12.2), whatever the rest of the frames is.
 --     IsQueueVisit met m parts c    memory is told by these parts, the queue head is met and sound, and c is a copy of it
 --     IsOnlyAt n parts now          no other owner's part is changed
 --     AreAllSent m parts c          the bytes that go out with its transaction are those of one buffer, and the controller may read all of them
@@ -10,12 +10,13 @@ use Rattle.walk_copy.specs.Overlay.{pages_of, buffer_place}
 use Rattle.walk_copy.specs.Buffer.{Writing, sending}
 use Rattle.walk_copy.specs.WriteBack.{written_back}
 use Rattle.interrupt_visits.specs.Turns.{planned}
+use Rattle.periodic_walk.specs.Walk.{Walk}
 use Rattle.lent_structures.specs.Structures.{StructureSets, Tells}
-use Rattle.ring_laws.specs.Hand.{Copy, copied_queue, Settlement, settled_queue_of}
+use Rattle.ring_laws.specs.Hand.{Copy, copied_queue}
 use Rattle.frame_walk.specs.Met.{Kind, IsMetQueue}
-use Rattle.frame_walk.specs.FrameHand.{OfSettled}
+use Rattle.frame_walk.specs.FrameHand.{QueueSettlement, settled_in, FrameHand}
 use Rattle.frame_walk.specs.Frame.{IsCopiedQueue}
-use Rattle.frame_walk.specs.FrameEffects.{AreOut, queue_written, after_back, WritesQueue}
+use Rattle.frame_walk.specs.FrameEffects.{AreOut, queue_written, after_back, IsSettledFrom, WritesQueue}
 
 pub record IsQueueVisit (met : ℕ → Option Kind) (m : Mem) (parts : StructureSets) (c : Copy) : Type 0 where
   pub tells : Tells m parts
@@ -34,12 +35,12 @@ pub record AreAllSent (m : Mem) (parts : StructureSets) (c : Copy) : Type 0 wher
 
 -- ---- its write-back (4.10.4 to 4.10.6)
 
-abbrev pub back_of : Copy → Settlement → Mem → Writing
-back_of c z m = written_back c.at (settled_queue_of c z) z.outcome z.got m
+abbrev pub back_of : Copy → QueueSettlement → Mem → Writing
+back_of c z m = written_back c.at (settled_in c z) z.outcome z.got m
 
-pub record IsWrittenBack (met : ℕ → Option Kind) (m : Mem) (parts : StructureSets) (c : Copy) (z : Settlement) : Type 0 where
+pub record IsWrittenBack (met : ℕ → Option Kind) (m : Mem) (parts : StructureSets) (c : Copy) (z : QueueSettlement) : Type 0 where
   pub now : StructureSets
   pub whole : (back_of c z m).all ≡ true
   pub visit : IsQueueVisit met (back_of c z m).memory now (record c { queue = queue_written c z })
   pub only : IsOnlyAt c.at parts now
-  pub writes : (made : ℕ) → WritesQueue parts (OfSettled c z made) now (after_back c z made)
+  pub writes : (w : Walk) (hand : FrameHand) (made : ℕ) → IsSettledFrom w hand c z made → WritesQueue parts w hand now (after_back c z made)

@@ -3,8 +3,8 @@
 //!
 //! - `part_laws`, `part_worked`: The frames over the structures in memory (EHCI 1.0, 3 and 4.6): whom the walk of the frames may meet, what is owed to each,
 //!   what the walk has in hand, and what one event of it may do to them. The definitions of `specs/` say so for any frames, wherever the walk is.
-//! - `queue_visit_laws`, `queue_visit_worked`: A visit to the queue head of an interrupt endpoint over the structures in memory (EHCI 1.0, 4.10.2 to 4.10.6):
-//!   whichever event of it comes, the queue head stays one that the walk of the frames may meet, and memory is told.
+//! - `queue_visit_laws`, `queue_visit_worked`: A visit to the queue head of an interrupt endpoint over the structures in memory (EHCI 1.0, 4.10.2 to 4.10.6
+//!   and 4.12.2): whichever event of it comes, also of a split transaction, the queue head stays one that the walk of the frames may meet, and memory is told.
 //! - `itd_back_laws`, `itd_back_worked`: An iTD in hand over the structures in memory (EHCI 1.0, 3.3.2 and 4.7.1): what its transactions send, and what its
 //!   write-back leaves.
 //! - `sitd_back_laws`, `sitd_back_worked`: A siTD in hand over structures in memory (EHCI 1.0, 3.4, 4.12.3 and 4.15.2.4): its transaction sends the bytes of
@@ -13,7 +13,8 @@
 //! - `fetch_laws`, `fetch_worked`: Each event of the walk of the frames while nothing is in hand, over the structures in memory (EHCI 1.0, 4.6 and 4.7.1): the
 //!   structure that the cursor's link names is read into the copy in hand, or the chain has ended; it is never the fault.
 //! - `queue_step_laws`, `queue_step_worked`: The walk of the frames with a queue head of an interrupt endpoint in hand, over the structures in memory (EHCI
-//!   1.0, 4.6 and 4.10): whatever the rest of the frames is, each of its events has one of the effects of `frame_walk`, never the fault, and leaves a frame.
+//!   1.0, 4.6, 4.10 and 4.12.2): whatever the rest of the frames is, each of its events has one of the effects of `frame_walk`, never the fault, and leaves a frame.
+//! - `split_worked`: A split transaction of a full-speed interrupt endpoint, computed (EHCI 1.0, 4.12.2): its start-split, a complete-split, and a missed one.
 //! - `itd_step_laws`, `itd_step_worked`: Each event of the walk of the frames while an iTD is in hand, over the structures in memory (EHCI 1.0, 4.6 and 4.7.1):
 //!   it passes on, makes one transaction, or writes the microframe back; it is never the fault.
 //! - `sitd_step_laws`, `sitd_step_worked`: Each event of the walk of the frames while it has a siTD in hand (EHCI 1.0, 4.6 and 4.12.3): it passes on, makes the
@@ -41,6 +42,7 @@ mod sitd_back_laws;
 mod sitd_back_worked;
 mod sitd_step_laws;
 mod sitd_step_worked;
+mod split_worked;
 mod step_laws;
 mod step_worked;
 mod walk_laws;
@@ -65,8 +67,9 @@ pub use part_worked::{
 pub use queue_step_laws::{each_event_at_a_queue_head, each_event_at_a_settled_queue_head};
 pub use queue_step_worked::a_queue_head_is_worked;
 pub use queue_visit_laws::{
-    a_transaction_sends_its_bytes, a_transaction_settles, a_write_back_keeps_the_visit,
-    an_advance_keeps_the_visit,
+    a_miss_settles, a_transaction_sends_its_bytes, a_transaction_settles,
+    a_write_back_keeps_the_visit, an_advance_keeps_the_visit, what_a_split_notes,
+    what_is_written_back_is_settled,
 };
 pub use queue_visit_worked::{a_visit, a_visit_goes_on};
 pub use sitd_back_laws::{
@@ -76,6 +79,10 @@ pub use sitd_back_laws::{
 pub use sitd_back_worked::two_bytes;
 pub use sitd_step_laws::each_event_at_a_sitd;
 pub use sitd_step_worked::a_sitd_in_hand;
+pub use split_worked::{
+    a_complete_split, a_complete_split_is_written, a_missed_complete_split, a_start_split,
+    a_start_split_is_walked, a_start_split_is_written,
+};
 pub use step_laws::{
     no_fault_has_an_effect, no_step_refuses_a_word, the_event_is_that_of_what_is_in_hand,
 };

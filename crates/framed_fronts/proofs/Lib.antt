@@ -4,3 +4,4 @@ pub mod Halts
 pub mod Running
 pub mod Sampled
 pub mod SampledHalts
+pub mod SampledSplits

@@ -8,7 +8,7 @@ use Rattle.link_words.specs.Links.{qtd_link_of}
 use Rattle.qh_qtd.specs.declared.qtd.Qtd.{Qtd}
 use Rattle.qh_qtd.specs.declared.queue_head.Qh.{Qh}
 use Rattle.buffers.specs.Bytes.{place}
-use Rattle.walk_copy.specs.Overlay.{advanced}
+use Rattle.walk_copy.specs.Overlay.{advanced, moved}
 use Rattle.walk_copy.specs.Visits.{next_pointer}
 use Rattle.walk_copy.specs.WriteBack.{moved_by}
 use Rattle.iso_visits.specs.WriteBack.{sitd_received, moved_by as sitd_moved_by}
@@ -17,19 +17,18 @@ use Rattle.periodic_walk.specs.Walk.{Walk}
 use Rattle.lent_structures.specs.Structures.{QueueHead, Element, Buffer, Isochronous, SplitIsochronous, Structures, StructureSets, put}
 use Rattle.lent_structures.specs.Changes.{overwritten}
 use Rattle.lent_structures.proofs.Names.{put_here, put_same, put_else, put_beside, put_found}
-use Rattle.lent_structures.specs.WriteBack.{CanBeWritten, Received, Nothing as Nowhere, Into, received_parts}
-use Rattle.lent_structures.proofs.Found.{received_beside, back_element, back_other_element}
+use Rattle.lent_structures.specs.WriteBack.{CanBeWritten, Received, Nothing as Nowhere, Into, received_parts, qtd_after, parts_back}
+use Rattle.lent_structures.proofs.Found.{received_beside, back_beside, back_head, back_element, back_other_element}
 use Rattle.lent_structures.specs.Sound.{IsWorking, IsSoundQueue}
 use Rattle.lent_structures.specs.Alters.{Alters}
 use Rattle.lent_structures.proofs.Altering.{found_queue, found_element, no_two, unaltered, head_put}
-use Rattle.ring_laws.specs.Hand.{settled_queue_of, Hand, Empty, Copied, Settled, Stale}
-use Rattle.ring_laws.specs.Ring.{IsSettled}
+use Rattle.ring_laws.specs.Hand.{Hand, Empty, Copied, Settled, Stale}
 use Rattle.ring_laws.specs.Effects.{received_into, Takes}
-use Rattle.ring_laws.proofs.Writing.{settled_copy, settled_range, is_written, queue_written, element_written, all_parts, all_alters, all_beside, head_there}
 use Rattle.frame_walk.specs.Met.{Kind, AQueue, IsMetQueue}
-use Rattle.frame_walk.specs.FrameHand.{ItdCopy, SitdCopy, FrameHand}
-use Rattle.frame_walk.specs.Frame.{IsCopiedQueue, IsCopiedItd, IsCopiedSitd, IsInFrame}
-use Rattle.frame_walk.specs.FrameEffects.{IsWrittenFrom, made as was_made, missed as was_missed, itd_back, sitd_back, WritesQueue, WritesOne, of_queue, of_itd, of_sitd, TakesOne, FrameEffect, fetches, passes, ends, makes, takes, writes}
+use Rattle.frame_walk.specs.FrameHand.{settled_in, ItdCopy, SitdCopy, FrameHand}
+use Rattle.frame_walk.specs.Frame.{IsQueueSettled, IsCopiedQueue, IsCopiedItd, IsCopiedSitd, IsInFrame}
+use Rattle.frame_walk.specs.FrameEffects.{IsWrittenFrom, made as was_made, missed as was_missed, queue_written, itd_back, sitd_back, WritesQueue, WritesOne, of_queue, of_itd, of_sitd, TakesOne, FrameEffect, fetches, passes, ends, makes, takes, writes}
+use Rattle.frame_walk.proofs.QueueBacks.{settled_facts, settled_range, written_facts, hand_settled, back_alters}
 use Rattle.framed_fronts.specs.FrameFronts.{AreMet}
 
 -- ---- the events of one queue
@@ -154,21 +153,25 @@ module _ (parts : StructureSets) (hand later : Hand) (now : StructureSets) (n : 
 
 -- ---- a transaction is written back
 
-module _ (parts : StructureSets) (hand : FrameHand) (now : StructureSets) (later : FrameHand) (n : ℕ) (reply : Reply) (w : WritesQueue parts hand now later) (here : parts w.copy.at w.copy.at ≡ Some (QueueHead w.copy.queue)) (works : IsWorking (parts w.copy.at) w.copy.queue) (is_settled : IsSettled w.copy.queue reply w.settled) where
+module _ (parts : StructureSets) (walk : Walk) (hand : FrameHand) (now : StructureSets) (later : FrameHand) (n : ℕ) (reply : Reply) (w : WritesQueue parts walk hand now later) (here : parts w.copy.at w.copy.at ≡ Some (QueueHead w.copy.queue)) (works : IsWorking (parts w.copy.at) w.copy.queue) (is_settled : IsQueueSettled w.copy.queue reply w.settled) where
   abbrev received : Received
   received = received_into (parts w.copy.at) w.copy.queue w.element w.settled.got
 
   abbrev settled_head : Qh
-  settled_head = settled_queue_of w.copy w.settled
+  settled_head = settled_in w.copy w.settled
 
   abbrev all : StructureSets
-  all = all_parts parts w.copy w.settled received w.element
+  all = parts_back parts w.copy.at w.copy.at w.copy.queue settled_head (moved_by w.settled.outcome) w.settled.got received w.element
 
   abbrev new_head : Qh
   new_head = queue_written w.copy w.settled
 
   current_is : settled_head.current ≡ w.copy.queue.current
-  current_is = (settled_copy w.copy w.settled).current
+  current_is = (settled_facts w.copy w.settled).current
+
+  -- the qTD as it then stands
+  abbrev element_now : Qtd
+  element_now = qtd_after (moved settled_head (moved_by w.settled.outcome)) w.element
 
   element_is : works.element ≡ w.element
   element_is = found_element (parts w.copy.at w.copy.queue.current) works.element w.element works.here w.here
@@ -178,25 +181,25 @@ module _ (parts : StructureSets) (hand : FrameHand) (now : StructureSets) (later
     before_at is a u found differs =
         let first : StructureSets = received_parts parts w.copy.at w.settled.got received in
         let mid : StructureSets = put first w.copy.at w.copy.at (QueueHead new_head) in
-        ⊎_elim (λ (last : (n ≡ w.copy.at) × (a ≡ settled_head.current) × (Element u ≡ Element (element_written w.copy w.settled w.element))). absurd (differs (last.1 ∙ current_is)))
+        ⊎_elim (λ (last : (n ≡ w.copy.at) × (a ≡ settled_head.current) × (Element u ≡ Element element_now)). absurd (differs (last.1 ∙ current_is)))
         (λ (there : mid n a ≡ Some (Element u)). through_bytes parts w.copy.at w.settled.got received n a u (through_head first w.copy.at new_head n a u there))
-        (put_found mid w.copy.at settled_head.current (Element (element_written w.copy w.settled w.element)) n a (Element u) (sym (ap (λ (ps : StructureSets). ps n a) w.now_is) ∙ found))
+        (put_found mid w.copy.at settled_head.current (Element element_now) n a (Element u) (sym (ap (λ (ps : StructureSets). ps n a) w.now_is) ∙ found))
 
     written_at : n ≡ w.copy.at → HasEvent n (parts n) (now n)
     written_at is =
         let now_at : (a : ℕ) → now n a ≡ all w.copy.at a = λ a. ap (λ (ps : StructureSets). ps n a) w.now_is ∙ ap (λ (i : ℕ). all i a) is in
-        let v = is_written w.copy w.settled in
+        let v = written_facts w.copy w.settled in
         record {
           event = settles (record {
             queue = w.copy.queue;
             here = ap (λ (i : ℕ). parts i i) is ∙ here;
-            works = is_settled.works;
+            works = is_settled.came_to.works;
             goes_on = works.goes_on;
             element = w.element;
             there = ap (λ (i : ℕ). parts i w.copy.queue.current) is ∙ w.here;
             published = ap (λ (t : Qtd). t.token.active) (sym element_is) ∙ works.published;
             new = new_head;
-            head_now = now_at n ∙ ap (all w.copy.at) is ∙ head_there parts w.copy w.settled w.element received can;
+            head_now = now_at n ∙ ap (all w.copy.at) is ∙ back_head parts w.copy.at w.copy.at w.copy.queue settled_head (moved_by w.settled.outcome) w.settled.got received w.element can;
             current = v.current;
             next = v.next ∙ works.next ∙ ap (λ (t : Qtd). t.next) element_is;
             alternate = v.alternate ∙ works.alternate ∙ ap (λ (t : Qtd). t.alternate) element_is;
@@ -206,13 +209,13 @@ module _ (parts : StructureSets) (hand : FrameHand) (now : StructureSets) (later
                 ∙ back_other_element parts w.copy.at w.copy.at w.copy.queue settled_head (moved_by w.settled.outcome) w.settled.got received w.element a u can (ap (λ (i : ℕ). parts i a) (sym is) ∙ there) (λ same. differs (same ∙ current_is));
             before = before_at is;
           });
-          alters = subst (λ (ps : StructureSets). Alters (parts n) (ps n)) (sym w.now_is) (subst (λ (i : ℕ). Alters (parts i) (all i)) (sym is) (all_alters parts w.copy w.settled w.element received can));
+          alters = subst (λ (ps : StructureSets). Alters (parts n) (ps n)) (sym w.now_is) (subst (λ (i : ℕ). Alters (parts i) (all i)) (sym is) (back_alters parts w.copy.at w.copy.queue settled_head (moved_by w.settled.outcome) w.settled.got received w.element can));
         }
 
     written_so : HasEvent n (parts n) (now n)
     written_so =
         ⊎_elim written_at
-        (λ (differs : n ≢ w.copy.at). same_part n (parts n) (now n) (ap (λ (ps : StructureSets). ps n) w.now_is ∙ all_beside parts w.copy w.settled w.element received n differs)) (cases_eq n w.copy.at)
+        (λ (differs : n ≢ w.copy.at). same_part n (parts n) (now n) (ap (λ (ps : StructureSets). ps n) w.now_is ∙ back_beside parts w.copy.at w.copy.at w.copy.queue settled_head (moved_by w.settled.outcome) w.settled.got received w.element n differs)) (cases_eq n w.copy.at)
 
 -- ---- the event
 
@@ -234,12 +237,12 @@ module _ (met : ℕ → Option Kind) (parts : StructureSets) (w : Walk) (hand : 
 
   write_event : WritesOne parts w hand now later → HasEvent n (parts n) (now n)
   write_event (of_queue r) =
-      let both : IsCopiedQueue met parts r.copy × IsSettled r.copy.queue w.reply r.settled = subst (IsInFrame met parts w.got w.reply) r.in_hand in_hand in
+      let both : IsCopiedQueue met parts r.copy × IsQueueSettled r.copy.queue w.reply r.settled = hand_settled met parts w hand r.copy r.settled r.made in_hand r.from in
       let mine : IsMetQueue met r.copy.at (parts r.copy.at) = members r.copy.at AQueue both.0.on in
       let sound : IsSoundQueue (parts r.copy.at) r.copy.queue = subst (IsSoundQueue (parts r.copy.at)) (found_queue (parts r.copy.at r.copy.at) mine.part_is.queue r.copy.queue mine.part_is.here both.0.here) mine.part_is.sound in
-      written_so parts hand now later n w.reply r both.0.here (sound.work both.1.works) both.1 (record {
-        copy = record { head = both.0.here; range = settled_range r.copy r.settled w.reply both.0.range both.1; front = (settled_copy r.copy r.settled).front };
-        element = ap (parts r.copy.at) (settled_copy r.copy r.settled).current ∙ r.here;
+      written_so parts w hand now later n w.reply r both.0.here (sound.work both.1.came_to.works) both.1 (record {
+        copy = record { head = both.0.here; range = settled_range r.copy r.settled w.reply both.0.range both.1; front = (settled_facts r.copy r.settled).front };
+        element = ap (parts r.copy.at) (settled_facts r.copy r.settled).current ∙ r.here;
         received = r.received_is;
       })
   write_event (of_itd r) =

@@ -13,11 +13,11 @@ use Rattle.lent_structures.proofs.Altering.{same_element, found_queue}
 use Rattle.ring_laws.specs.Order.{IsFresh}
 use Rattle.ring_laws.specs.Front.{IsFront, LinksRise, HasFront, FrontGoesOn}
 use Rattle.ring_laws.specs.Halted.{HaltStops}
-use Rattle.ring_laws.proofs.Writing.{settled_copy}
 use Rattle.frame_walk.specs.FrameHand.{Nothing, OfSettled}
-use Rattle.frame_walk.specs.FrameEffects.{FrameEffect, writes, of_queue}
+use Rattle.frame_walk.specs.FrameEffects.{FrameEffect, writes, of_queue, was_worked}
 use Rattle.frame_walk.specs.QueueVisitSamples.{queue, parts, met, copy, settled, after}
 use Rattle.frame_walk.specs.QueueStepSamples.{made, is_heard}
+use Rattle.frame_walk.proofs.QueueBacks.{settled_facts}
 use Rattle.frame_walk.proofs.QueueVisitSampled.{settled_so}
 use Rattle.frame_walk.proofs.QueueStepSampled.{after_it}
 use Rattle.framed_fronts.proofs.Running.{front_kept}
@@ -77,15 +77,15 @@ back_happens = writes (of_queue (record {
   copy = copy;
   settled = settled;
   made = 1;
-  in_hand = refl;
+  from = was_worked refl;
   element = element;
   here = refl;
   received_is = record {
     buffer = refl;
-    pages_are = (settled_copy copy settled).pages;
-    place_is = (settled_copy copy settled).place;
+    pages_are = (settled_facts copy settled).pages;
+    place_is = (settled_facts copy settled).place;
     fits = omega arith;
-    bytes = settled_so.are_bytes;
+    bytes = settled_so.came_to.are_bytes;
   };
   now_is = refl;
   later_is = refl;

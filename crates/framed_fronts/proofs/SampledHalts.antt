@@ -95,7 +95,6 @@ queue_met = record {
     elements = elements;
     own = own;
   };
-  high = refl;
   link = refl;
 }
 

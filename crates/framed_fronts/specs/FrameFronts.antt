@@ -1,6 +1,6 @@
 -- How far the queue of an interrupt endpoint has gone along its qTDs, under the walk of the frames (EHCI 1.0, 4.6 and 4.10): as in a ring, the
 -- front of a queue head goes on with each event of the walk, not past its tail, and a qTD that was halted stops the queue. It is so of each queue head,
--- whatever its link leads to, and whether the walk meets it or not; where it does, the endpoint is a high-speed one. Beside it there may be iTDs and siTDs.
+-- whatever its link leads to, and whether the walk meets it or not, at any speed of the endpoint (4.12.2). Beside it there may be iTDs and siTDs.
 --     AreMet met parts       whatever the walk may meet is as it is owed
 --     FrameKeepsLinks        an event of the walk of the frames leaves it so that links lead to later qTDs only
 --     FrameKeepsTail         .. and that they lead no further than the tail

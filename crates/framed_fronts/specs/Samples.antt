@@ -4,9 +4,11 @@
 --     halted_part, halted_parts      its structures
 --     halted_copy                    its copy in hand
 --     both_out                       its qTDs that are out
+--     lapsed                         the walk in microframe 3 of frame 5
 use Rattle.std.specs.Prelude.{ℕ, true, false, List, [], ◌∷◌, None}
 use Rattle.qh_qtd.specs.declared.qtd.Qtd.{Qtd}
 use Rattle.qh_qtd.specs.declared.queue_head.Qh.{Qh}
+use Rattle.periodic_walk.specs.Walk.{Walk, new_walk}
 use Rattle.lent_structures.specs.Structures.{QueueHead, Element, Buffer, Structures, StructureSets, with_structure}
 use Rattle.lent_structures.specs.StructureSamples.{element, pages, bytes}
 use Rattle.ring_laws.specs.Hand.{Copy}
@@ -43,3 +45,6 @@ halted_copy = fetched_copy 0 halted_queue
 
 abbrev pub both_out : List ℕ
 both_out = 64 ∷ 128 ∷ []
+
+abbrev pub lapsed : Walk
+lapsed = record new_walk { index = 43 }

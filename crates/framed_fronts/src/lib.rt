@@ -4,7 +4,9 @@
 #![tactic(auto)]
 
 mod laws;
+mod split_worked;
 mod worked;
 
 pub use laws::{each_event_of_the_frames, however_many_events};
+pub use split_worked::{a_missed_split_halts_the_queue, a_start_split_leaves_the_front};
 pub use worked::{a_halted_queue_in_a_frame, a_queue_in_a_frame, the_walk_meets_a_queue};

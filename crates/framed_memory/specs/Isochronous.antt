@@ -1,12 +1,9 @@
--- Drivers whose endpoints are all isochronous ones (EHCI 1.0, 3.3, 3.4, 4.6 and 4.7; USB 2.0, 5.6), beside a controller that walks a ring and the frames.
+-- What a driver has of isochronous endpoints (EHCI 1.0, 3.3, 3.4, 4.6 and 4.7; USB 2.0, 5.6), beside a controller that walks a ring and the frames.
 --     IsFramesCommand command    the unfinished command has isochronous descriptors, or unlinks the members of an endpoint
---     OnlyIsochronous d          each endpoint of the driver is one and has a placement; none is in the ring or leaves it
 --     AreNumbered d              the numbers of each endpoint fit their fields (USB 2.0, 8.3.2; EHCI 1.0, 3.3.3 and 3.4.2)
 --     LeavingHaveEnded d         an endpoint whose members the unfinished command unlinks, and one that has left its frames and is still to be given back, has ended
 --     AreAwaiting d m            the descriptors of the unfinished command are written in runs that the driver alone may touch, until they are lent
---     IsFramedIsochronous ..     the whole of such a driver and a controller over one memory
---     StaysFramed ..             .. with some structures, and something recent
-use Rattle.std.specs.Prelude.{◌≡◌, ◌≢◌, ℕ, ◌<◌, Bool, true, [], slice_get, Option, Some, None, unwrap_or}
+use Rattle.std.specs.Prelude.{◌≡◌, ◌≢◌, ℕ, ◌<◌, slice_get, Option, Some, None, unwrap_or}
 use Rattle.usb_base.specs.declared.endpoints.EpDesc.{EpDesc}
 use Rattle.word_mem.specs.Memory.{Mem}
 use Rattle.periodic_rows.specs.declared.content.Removal.{Removal}
@@ -14,18 +11,8 @@ use Rattle.periodic_rows.specs.declared.content.Removed.TheVariants as removed
 use Rattle.driver_rows.specs.declared.content.Endpoint.{Endpoint}
 use Rattle.driver_rows.specs.declared.content.Command.{Command}
 use Rattle.driver_rows.specs.declared.content.Command.TheVariants as unfinished
-use Rattle.driver_rows.specs.declared.content.Bell.TheVariants as bells
 use Rattle.driver_rows.specs.DriverContent.{DriverContent}
-use Rattle.driver_rows.specs.Rows.{is_iso}
-use Rattle.hc_core.specs.Controller.{Content}
-use Rattle.lent_structures.specs.Structures.{StructureSets}
-use Rattle.ring_laws.specs.Hand.{Hand}
-use Rattle.ring_laws.specs.Ring.{Base}
-use Rattle.frame_walk.specs.Met.{Kind}
-use Rattle.frame_walk.specs.FrameHand.{FrameHand}
 use Rattle.described_parts.specs.Written.{DescriptorsAwaitLend}
-use Rattle.framed_memory.specs.Now.{IsFramedNow}
-use Rattle.framed_memory.specs.Masks.{AreMasked}
 
 -- ---- the driver's content
 
@@ -34,20 +21,6 @@ IsFramesCommand None = Unit {0}
 IsFramesCommand (Some (unfinished.Iso e t count)) = Unit {0}
 IsFramesCommand (Some (unfinished.Unchain e)) = Unit {0}
 IsFramesCommand _ = ⊥
-
-pub record IsPlacedIsochronous (x : Endpoint) : Type 0 where
-  pub kind : is_iso x.desc.kind ≡ true
-  pub placed : x.placement ≢ None
-
-pub record OnlyIsochronous (d : DriverContent) : Type 0 where
-  pub endpoints : (e : ℕ) (x : Endpoint) → slice_get d.endpoints e ≡ Some x → IsPlacedIsochronous x
-  pub command : IsFramesCommand d.command
-  pub mends : d.mends ≡ []
-  pub harvested : d.harvested ≡ []
-  pub waiting : d.waiting ≡ []
-  pub rung : d.rung ≡ []
-  pub cleared : d.cleared ≡ []
-  pub bell : d.bell ≡ bells.Quiet
 
 pub record NumbersFit (x : EpDesc) : Type 0 where
   pub addr : x.name.addr < 128
@@ -72,21 +45,3 @@ pub record AwaitsLend (d : DriverContent) (m : Mem) (e t : ℕ) : Type 0 where
 -- its own events are two: it gets its frames, and lends
 abbrev pub AreAwaiting : DriverContent → Mem → Type 0
 AreAwaiting d m = (e t count : ℕ) → d.command ≡ Some (unfinished.Iso e t count) → d.made < 2 → AwaitsLend d m e t
-
--- ---- the whole
-
-pub record IsFramedIsochronous (base : Base) (member : ℕ → Bool) (recent : ℕ → Option Kind) (descs parts : StructureSets) (hand : Hand) (frame : FrameHand) (c : Content)
-    (d : DriverContent) : Type 0 where
-  pub now : IsFramedNow base member recent descs parts hand frame c d
-  pub only : OnlyIsochronous d
-  pub numbers : AreNumbered d
-  pub masks : AreMasked d
-  pub awaiting : AreAwaiting d c.memory
-
-pub record StaysFramed (base : Base) (member : ℕ → Bool) (c : Content) (d : DriverContent) : Type 0 where
-  pub recent : ℕ → Option Kind
-  pub descs : StructureSets
-  pub parts : StructureSets
-  pub hand : Hand
-  pub frame : FrameHand
-  pub framed : IsFramedIsochronous base member recent descs parts hand frame c d

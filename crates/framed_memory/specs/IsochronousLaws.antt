@@ -1,30 +1,23 @@
--- Laws of drivers whose endpoints are all isochronous ones, beside a controller that walks a ring and the frames (EHCI 1.0, 3.3, 3.4, 4.6, 4.7 and 4.12.3).
+-- Laws of isochronous endpoints of a driver, beside a controller that walks a ring and the frames (EHCI 1.0, 3.3, 3.4, 4.6, 4.7 and 4.12.3).
 --     HarvestKeepsNow            a token or a descriptor is read: whatever was unlinked in this microframe is what it was
 --     FramesKeepNow              the descriptors of a command get their frames
 --     FramedLent .., LendKeepsNow     they are lent
 --     OwnersTellLeaving          who leaves its frames has ended, at each moment of any driver
 --     NewAwaitsNothing, EventsKeepAwaiting, CommandsKeepAwaiting, WritesKeepAwaiting     a command's descriptors are as they were written, until they are lent
---     OpensIsochronous cmd       the command opens an isochronous endpoint, if any; other commands may be any
---     NewIsOnlyIsochronous, EventsKeepIsochronous, CommandsKeepIsochronous     a driver whose commands are such has isochronous endpoints alone
---     OpensNumbered cmd, NewIsNumbered, EventsKeepNumbered, CommandsKeepNumbered     the numbers of its endpoints fit their fields
---     IsFramesRow p row, IsochronousRows     its rows are these
---     CommandsKeepNow            what such a driver accepts is framed
-use Rattle.std.specs.Prelude.{◌≡◌, ℕ, Bool, true, false, Option, Ok}
+--     OpensNumbered cmd, NewIsNumbered, EventsKeepNumbered, CommandsKeepNumbered     the numbers of each endpoint fit their fields
+use Rattle.std.specs.Prelude.{◌≡◌, ℕ, Bool, false, Option, Ok}
 use Rattle.usb_base.specs.declared.commands.Cmd.{Cmd}
 use Rattle.usb_base.specs.declared.commands.Cmd.TheVariants as commands
 use Rattle.usb_base.specs.declared.endpoints.EpDesc.{EpDesc}
 use Rattle.word_mem.specs.Memory.{Mem, word_at, reaches}
 use Rattle.run_book.specs.Book.{holding, Stands}
-use Rattle.periodic_rows.specs.declared.content.Removed.TheVariants as removed
 use Rattle.driver_rows.specs.declared.content.Reserve.{Reserve}
-use Rattle.driver_rows.specs.declared.rows.DriverRow.{DriverRow}
 use Rattle.driver_rows.specs.declared.rows.DriverRow.TheVariants as rows
 use Rattle.driver_rows.specs.declared.rows.Found.{Found}
 use Rattle.driver_rows.specs.DriverContent.{DriverContent}
 use Rattle.driver_rows.specs.Opening.{opening}
-use Rattle.driver_rows.specs.Offers.{Offered, IsOffered, offered}
-use Rattle.driver_rows.specs.Rows.{Parts, driver_row, after_driver_row, is_iso}
-use Rattle.run_owners.specs.Due.{IsLinkOf}
+use Rattle.driver_rows.specs.Offers.{Offered, offered}
+use Rattle.driver_rows.specs.Rows.{Parts, driver_row, after_driver_row}
 use Rattle.run_owners.specs.Kept.{HasOwners}
 use Rattle.hc_core.specs.Controller.{Content}
 use Rattle.lent_structures.specs.Structures.{StructureSets}
@@ -36,10 +29,9 @@ use Rattle.shared_memory.specs.Shared.{parts_of}
 use Rattle.frame_walk.specs.Met.{Kind}
 use Rattle.frame_walk.specs.FrameHand.{FrameHand}
 use Rattle.described_parts.specs.Lent.{descs_after}
-use Rattle.described_parts.specs.Told.{with_memory}
-use Rattle.framed_memory.specs.Now.{IsFramedNow, FramedNext, reads_alone}
+use Rattle.framed_memory.specs.Now.{IsFramedNow, FramedNext}
 use Rattle.framed_memory.specs.Masks.{AreMasked}
-use Rattle.framed_memory.specs.Isochronous.{OnlyIsochronous, NumbersFit, AreNumbered, LeavingHaveEnded, AreAwaiting}
+use Rattle.framed_memory.specs.Isochronous.{NumbersFit, AreNumbered, LeavingHaveEnded, AreAwaiting}
 
 -- ---- rows
 
@@ -87,22 +79,8 @@ CommandsKeepAwaiting = (d : DriverContent) (m : Mem) (cmd : Cmd) (o : Offered) �
 abbrev pub WritesKeepAwaiting : Type 0
 WritesKeepAwaiting = (d : DriverContent) (m new : Mem) → Stands (holding d.book m) → ((at : ℕ) → reaches m at ≡ false → word_at new at ≡ word_at m at) → AreAwaiting d m → AreAwaiting d new
 
--- ---- drivers of isochronous endpoints
+-- ---- numbers
 
-abbrev pub OpensIsochronous : Cmd → Type 0
-OpensIsochronous (commands.OpenEp x) = is_iso x.kind ≡ true
-OpensIsochronous _ = Unit {0}
-
-abbrev pub NewIsOnlyIsochronous : Type 0
-NewIsOnlyIsochronous = (n : ℕ) (room : Reserve) → OnlyIsochronous (opening n room).driver
-
-abbrev pub EventsKeepIsochronous : Type 0
-EventsKeepIsochronous = (p : Parts) → HasOwners p.driver → OnlyIsochronous p.driver → OnlyIsochronous (after_driver_row (driver_row p) p).driver
-
-abbrev pub CommandsKeepIsochronous : Type 0
-CommandsKeepIsochronous = (d : DriverContent) (m : Mem) (cmd : Cmd) (o : Offered) → OnlyIsochronous d → OpensIsochronous cmd → offered d m cmd ≡ Ok o → OnlyIsochronous o.driver
-
--- the numbers of each endpoint fit their fields
 abbrev pub OpensNumbered : Cmd → Type 0
 OpensNumbered (commands.OpenEp x) = NumbersFit x
 OpensNumbered _ = Unit {0}
@@ -115,22 +93,3 @@ EventsKeepNumbered = (p : Parts) → AreNumbered p.driver → AreNumbered (after
 
 abbrev pub CommandsKeepNumbered : Type 0
 CommandsKeepNumbered = (d : DriverContent) (m : Mem) (cmd : Cmd) (o : Offered) → AreNumbered d → OpensNumbered cmd → offered d m cmd ≡ Ok o → AreNumbered o.driver
-
-pub data IsFramesRow (p : Parts) : DriverRow → Type 0 where
-  reads : (row : DriverRow) → reads_alone row ≡ true → IsFramesRow p row
-  frames : IsFramesRow p rows.Frames
-  lends : IsFramesRow p rows.LendDescriptors
-  links : (row : DriverRow) → IsLinkOf p row → IsFramesRow p row
-  harvests : (e t : ℕ) (found : Found) → IsFramesRow p (rows.Harvest e t found)
-  unlinks : (t : ℕ) → IsFramesRow p (rows.Unlink t)
-  releases : (t : ℕ) → IsFramesRow p (rows.ReleaseRemoved (removed.Descriptor t))
-  leaves : (e : ℕ) → IsFramesRow p (rows.ReleaseRemoved (removed.Endpoint e))
-
-abbrev pub IsochronousRows : Type 0
-IsochronousRows = (p : Parts) → OnlyIsochronous p.driver → IsFramesRow p (driver_row p)
-
--- an endpoint is placed, descriptors are taken on, or the members of an endpoint are to be unlinked: nothing is met or has become recent by that
-abbrev pub CommandsKeepNow : Type 0
-CommandsKeepNow = (base : Base) (member : ℕ → Bool) (recent : ℕ → Option Kind) (descs parts : StructureSets) (hand : Hand) (frame : FrameHand) (c : Content) (d : DriverContent) (cmd : Cmd)
-    (o : Offered) → IsFramedNow base member recent descs parts hand frame c d → OnlyIsochronous d → OpensIsochronous cmd → IsOffered d.room cmd → offered d c.memory cmd ≡ Ok o
-    → IsFramedNow base member recent descs parts hand frame (with_memory c o.memory) o.driver

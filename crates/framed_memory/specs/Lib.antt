@@ -4,3 +4,7 @@ pub mod NowRows
 pub mod Masks
 pub mod Isochronous
 pub mod IsochronousLaws
+pub mod QueueRows
+pub mod Chained
+pub mod Leaving
+pub mod Ring

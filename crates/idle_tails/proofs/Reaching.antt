@@ -27,12 +27,13 @@ use Rattle.chained_transfers.specs.Turns.{IsAtPlace}
 use Rattle.lent_runs.specs.Lent.{AreLent, IsLent as IsLentSlot}
 use Rattle.lent_runs.proofs.Laws.{idle_lent}
 use Rattle.lent_structures.specs.Structures.{QueueHead, Element, Structures, StructureSets}
-use Rattle.lent_structures.specs.Sound.{IsElement, LeadsOn, IsSoundQueue, IsMember}
+use Rattle.lent_structures.specs.Sound.{IsElement, LeadsOn, IsSoundQueue}
 use Rattle.lent_structures.proofs.Altering.{found_element, found_queue}
+use Rattle.frame_walk.specs.Met.{IsQueuePart}
+use Rattle.frame_walk.proofs.Queues.{linked_part}
 use Rattle.driver_laws.specs.Inventory.{IsLent}
 use Rattle.ring_laws.specs.Order.{IsAmong}
 use Rattle.ring_laws.specs.Front.{own_pointer, IsFront, IsBehind, HasFront, LinksWithin}
-use Rattle.ring_laws.proofs.Tails.{last_is_tail}
 use Rattle.fed_queues.specs.Fed.{IsPieceFed, unpublished_of, AreFed, sized}
 use Rattle.fed_queues.specs.Places.{IsMet, IsLast, AreLast, AreStillOut}
 use Rattle.released_queues.specs.Fronts.{piece_address, end_at, StandsAt}
@@ -40,7 +41,7 @@ use Rattle.released_queues.proofs.Pieces.{piece_on, piece_next}
 use Rattle.released_queues.proofs.Queues.{none_yet}
 use Rattle.released_queues.proofs.Outs.{out_is, IsOutIn, out_in}
 use Rattle.standing_fronts.specs.Reaching.{Reaches}
-use Rattle.idle_tails.specs.Idle.{IdleQueuesReach}
+use Rattle.idle_tails.specs.Idle.{SoundQueuesReach, IdleQueuesReach}
 
 lent_slot : (s : Slot) → IsLentSlot s → IsLent s
 lent_slot Empty lent = lent
@@ -51,7 +52,7 @@ either_leads : (part : Structures) (b : Bool) (l r : ShortLink) → LeadsOn part
 either_leads part true l r one two = one
 either_leads part false l r one two = two
 
-module _ (member : ℕ → Bool) (d : DriverContent) (parts : StructureSets) (order : ℕ → ℕ → ℕ) (out : ℕ → List ℕ) (idle : d.command ≡ None) (owners : HasOwners d) (lent : AreLent d) (turns : AsynchronousTakesTurns d) (fed : AreFed d parts) (last : AreLast d parts order) (still : AreStillOut d out) (e : ℕ) (x : Endpoint) (here : slice_get d.endpoints e ≡ Some x) (meets : IsMet d e x) (on : IsMember member (32 * x.queue) (parts (32 * x.queue))) where
+module _ (d : DriverContent) (parts : StructureSets) (order : ℕ → ℕ → ℕ) (out : ℕ → List ℕ) (idle : d.command ≡ None) (owners : HasOwners d) (lent : AreLent d) (turns : AsynchronousTakesTurns d) (fed : AreFed d parts) (last : AreLast d parts order) (still : AreStillOut d out) (e : ℕ) (x : Endpoint) (here : slice_get d.endpoints e ≡ Some x) (meets : IsMet d e x) (on : IsQueuePart (32 * x.queue) (parts (32 * x.queue))) where
   abbrev n : ℕ
   n = 32 * x.queue
 
@@ -131,7 +132,11 @@ module _ (member : ℕ → Bool) (d : DriverContent) (parts : StructureSets) (or
   -- ---- the front
 
   within : LinksWithin o c part
-  within = last_is_tail member o c n part dummy_qtd on there refl is_last
+  within = record {
+    below = λ a t at active reached. below a t at active;
+    next = λ a b t at active reached to. leads b (qtd_link_of t.next) (on.elements a t at).next to;
+    alternate = λ a b t at active reached to. leads b (qtd_link_of t.alternate) (on.elements a t at).alternate to;
+  }
 
   rest : (q : Qh) (b : ℕ) → part n ≡ Some (QueueHead q) → q.token.halted ≡ false → q.token.active ≡ false → qtd_link_of (next_pointer q) ≡ qtd_links.To b → o b ≤ o c
   rest q b at off idle_now to = leads b (qtd_link_of (next_pointer q)) ((sound q at).rest off idle_now) to
@@ -183,6 +188,10 @@ module _ (member : ℕ → Bool) (d : DriverContent) (parts : StructureSets) (or
       })
       (λ (few : g.front ≤ o c). record { stands = g; within = within; tail = record { most = few; rest = rest } }) (cases_lt (o c) g.front)
 
+pub sound_queues_reach : SoundQueuesReach
+sound_queues_reach d parts order out idle owners lent turns fed last still fronts e x here meets on =
+    reaches d parts order out idle owners lent turns fed last still e x here meets on (fronts e x here meets)
+
 pub idle_queues_reach : IdleQueuesReach
 idle_queues_reach member d parts order out idle owners lent turns fed last still fronts e x here meets on =
-    reaches member d parts order out idle owners lent turns fed last still e x here meets on (fronts e x here meets)
+    sound_queues_reach d parts order out idle owners lent turns fed last still fronts e x here meets (linked_part member (32 * x.queue) (parts (32 * x.queue)) on).part_is

@@ -118,7 +118,7 @@ begins_one c (b ∷ bs) is =
     (λ (off : (b == c) ≡ false). inr (begins_one c bs (sym (ap (λ (t : Bool). t || begins_in c bs) off) ∙ is))) (cases_Bool (b == c))
 
 -- a run that isn't to be lent is lent
-lent_already : {d : DriverContent} → AreLent d → (c : ℕ) (s : Slot) → slot_of d.book.slots c ≡ s → HasRun s → (IsOneOf c d.book.taken → ⊥) → IsLent s
+pub lent_already : {d : DriverContent} → AreLent d → (c : ℕ) (s : Slot) → slot_of d.book.slots c ≡ s → HasRun s → (IsOneOf c d.book.taken → ⊥) → IsLent s
 lent_already lent c Empty is run none = run
 lent_already {d = d} lent c (Keeps r) is run none = absurd (none (begins_one c d.book.taken (lent.kept c r is)))
 lent_already lent c (Lends r) is run none = tt

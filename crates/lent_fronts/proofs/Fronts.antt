@@ -19,10 +19,9 @@ use Rattle.run_owners.specs.Owners.{NoteRuns, note_in}
 use Rattle.lent_structures.specs.Structures.{Element, QueueHead, Structures, StructureSets}
 use Rattle.lent_structures.specs.Sound.{IsElement, LeadsOn, IsSoundQueue}
 use Rattle.lent_structures.proofs.Altering.{found_queue}
-use Rattle.ring_laws.specs.Hand.{Hand}
 use Rattle.ring_laws.specs.Order.{IsAmong}
 use Rattle.ring_laws.specs.Front.{HasFront}
-use Rattle.ring_laws.proofs.FrontGoing.{front_spared, front_renumbered}
+use Rattle.ring_laws.proofs.FrontGoing.{front_spared}
 use Rattle.chained_transfers.specs.Chains.{piece_at}
 use Rattle.chained_transfers.specs.Out.{pieces_from}
 use Rattle.released_queues.specs.Fronts.{piece_address, end_at, StandsAt, FrontsStand}
@@ -36,7 +35,9 @@ use Rattle.fed_lends.proofs.Reporting.{numbers, old_number, fresh_new, new_activ
 use Rattle.fed_lends.proofs.Names.{older_published}
 use Rattle.fed_lends.proofs.Fed.{y_of, x_of, IsLending, buffers_same}
 use Rattle.fed_lends.proofs.Order.{at_here, at_else, queue_apart}
-use Rattle.fed_lends.proofs.Reports.{IsOrdering, is_there, it_is_met, first_last, from_here, least_below, first_below, queue_order, order_lent, out_lent, out_stands}
+use Rattle.fed_lends.proofs.Reports.{IsOrdering, is_there, it_is_met, first_last, queue_order, order_lent, out_lent, out_stands}
+use Rattle.frame_walk.specs.Met.{IsQueuePart}
+use Rattle.lent_fronts.proofs.Parts.{front_renumbered}
 
 -- one of the new qTDs stands there
 pub record HasNew (notes : List QtdNote) (dummy : ℕ) (ss : List Stage) (b a : ℕ) : Type 0 where
@@ -91,30 +92,30 @@ not_there d m b words parts now l a t among there =
     some_none (parts (32 * k.endpoint.queue) a) (Element t) (l.pieces.none_before a r.qtd r.new) there
 
 -- a transfer that wasn't given back has a qTD
-o_some : {d : DriverContent} {m : Mem} {b : ℕ} {words : List ℕ} {parts now : StructureSets} {member heads : ℕ → Bool} {order : ℕ → ℕ → ℕ} {out : ℕ → List ℕ} {hand : Hand} {acc : ℕ → List (List ℕ)} {reported : ℕ → List ℕ} → IsOrdering d m b words parts now member heads order out hand acc reported → (t : ℕ) (y : Transfer) → slice_get d.transfers t ≡ Some y → y.released ≡ false → 1 ≤ y.qtds
+o_some : {d : DriverContent} {m : Mem} {b : ℕ} {words : List ℕ} {parts now : StructureSets} {order : ℕ → ℕ → ℕ} {out : ℕ → List ℕ} → IsOrdering d m b words parts now order out → (t : ℕ) (y : Transfer) → slice_get d.transfers t ≡ Some y → y.released ≡ false → 1 ≤ y.qtds
 o_some o t y there held = let at = o.turns.places t y there held in let some = at.some in let most = at.most in omega (arith, some, most)
 
 -- ---- its queue
 
 -- the front of the queue that gets the transfer
-its_front : {d : DriverContent} {m : Mem} {b : ℕ} {words : List ℕ} {parts now : StructureSets} {member heads : ℕ → Bool} {order : ℕ → ℕ → ℕ} {out : ℕ → List ℕ} {hand : Hand} {acc : ℕ → List (List ℕ)} {reported : ℕ → List ℕ} → (o : IsOrdering d m b words parts now member heads order out hand acc reported) (least : ℕ) → (front : ℕ) → front ≤ from_here o least
+its_front : {d : DriverContent} {m : Mem} {b : ℕ} {words : List ℕ} {parts now : StructureSets} {order : ℕ → ℕ → ℕ} {out : ℕ → List ℕ} → (o : IsOrdering d m b words parts now order out) (head : IsQueuePart (32 * o.lending.ready.endpoint.queue) (parts (32 * o.lending.ready.endpoint.queue))) → (front : ℕ) → front ≤ o.from
     → HasFront (order (32 * o.lending.ready.endpoint.queue)) front (out (32 * o.lending.ready.endpoint.queue)) (32 * o.lending.ready.endpoint.queue) (parts (32 * o.lending.ready.endpoint.queue))
-    → HasFront (queue_order o.lending.ready (from_here o least) order) front (out (32 * o.lending.ready.endpoint.queue) ++ new_out d (y_of o.lending.ready) o.lending.ready.further) (32 * o.lending.ready.endpoint.queue) (now (32 * o.lending.ready.endpoint.queue))
-its_front {d = d} {m = m} {b = b} {words = words} {parts = parts} {now = now} {member = member} {order = order} {out = out} {hand = hand} o least front most has =
+    → HasFront (queue_order o.lending.ready o.from order) front (out (32 * o.lending.ready.endpoint.queue) ++ new_out d (y_of o.lending.ready) o.lending.ready.further) (32 * o.lending.ready.endpoint.queue) (now (32 * o.lending.ready.endpoint.queue))
+its_front {d = d} {m = m} {b = b} {words = words} {parts = parts} {now = now} {order = order} {out = out} o head front most has =
     let l = o.lending in
     let k = l.ready in
     let p = l.pieces in
     let n = 32 * k.endpoint.queue in
     let slot = slot_of (lent_driver d m).book.slots in
-    let from = from_here o least in
+    let from = o.from in
     let f = queue_order k from order in
     let new = new_out d (y_of k) k.further in
     let are = numbers d m k.number (y_of k) (x_of k) k.stage k.further from (order n) k.awaits in
-    let first = front_renumbered member (order n) f front (out n) n (parts n) o.sound (λ a t there. old_number d (y_of k) (x_of k) k.stage k.further slot parts now from (order n) a (Element t) p there) has in
+    let first = front_renumbered (order n) f front (out n) n (parts n) head (λ a t there. old_number d (y_of k) (x_of k) k.stage k.further slot parts now from (order n) a (Element t) p there) has in
     front_spared f front (out n) (out n ++ new) n (parts n) (now n) first
     (λ q here. record {
       queue = q;
-      here = subst (λ z. parts n n ≡ Some (QueueHead z)) (found_queue (now n n) o.sound.queue q (p.still n n (QueueHead o.sound.queue) o.sound.here) here) o.sound.here;
+      here = subst (λ z. parts n n ≡ Some (QueueHead z)) (found_queue (now n n) head.queue q (p.still n n (QueueHead head.queue) head.here) here) head.here;
       rest = record { token = refl; current = refl; next = refl; alternate = refl };
     })
     (λ a t among here.
@@ -137,9 +138,9 @@ its_front {d = d} {m = m} {b = b} {words = words} {parts = parts} {now = now} {m
 -- ---- what was harvested
 
 -- the end of an older transfer stands
-end_stands : {d : DriverContent} {m : Mem} {b : ℕ} {words : List ℕ} {parts now : StructureSets} {member heads : ℕ → Bool} {order : ℕ → ℕ → ℕ} {out : ℕ → List ℕ} {hand : Hand} {acc : ℕ → List (List ℕ)} {reported : ℕ → List ℕ} → (o : IsOrdering d m b words parts now member heads order out hand acc reported) → (t : ℕ) (y : Transfer) → t ≢ o.lending.ready.number → slice_get d.transfers t ≡ Some y → y.released ≡ false → y.endpoint ≡ o.lending.ready.transfer.endpoint → 1 ≤ y.qtds
+end_stands : {d : DriverContent} {m : Mem} {b : ℕ} {words : List ℕ} {parts now : StructureSets} {order : ℕ → ℕ → ℕ} {out : ℕ → List ℕ} → (o : IsOrdering d m b words parts now order out) (head : IsQueuePart (32 * o.lending.ready.endpoint.queue) (parts (32 * o.lending.ready.endpoint.queue))) → (t : ℕ) (y : Transfer) → t ≢ o.lending.ready.number → slice_get d.transfers t ≡ Some y → y.released ≡ false → y.endpoint ≡ o.lending.ready.transfer.endpoint → 1 ≤ y.qtds
     → IsElement (parts (32 * o.lending.ready.endpoint.queue)) (end_at d y)
-end_stands {d = d} {m = m} {b = b} {words = words} {parts = parts} {order = order} o t y differs there held at some =
+end_stands {d = d} {m = m} {b = b} {words = words} {parts = parts} {order = order} o head t y differs there held at some =
     let l = o.lending in
     let k = l.ready in
     let n = 32 * k.endpoint.queue in
@@ -148,7 +149,7 @@ end_stands {d = d} {m = m} {b = b} {words = words} {parts = parts} {order = orde
     let i = y.qtds - 1 in
     let p = l.fed.pieces t i y k.endpoint there held (ap (slice_get d.endpoints) at ∙ k.here) (omega (arith, none)) (omega (arith, some)) in
     let c = piece_at note y.first i in
-    let leads : LeadsOn (parts n) (qtd_link_of p.qtd.next) = (o.sound.elements (32 * c) p.qtd p.here).next in
+    let leads : LeadsOn (parts n) (qtd_link_of p.qtd.next) = (head.elements (32 * c) p.qtd p.here).next in
     let link : qtd_link_of p.qtd.next ≡ qtd_links.To (32 * (note_at d.notes c).next) = ap qtd_link_of p.noted.next in
     let led : IsElement (parts n) (32 * (note_at d.notes c).next) = subst (LeadsOn (parts n)) link leads in
     let same : (note_at d.notes c).next ≡ piece_at note y.first y.qtds = next_piece note y.first i ∙ ap (piece_at note y.first) (let e : suc i ≡ y.qtds = omega (arith, some) in e) in
@@ -156,15 +157,15 @@ end_stands {d = d} {m = m} {b = b} {words = words} {parts = parts} {order = orde
 
 -- ---- all queues
 
-pub fronts_stand : {d : DriverContent} {m : Mem} {b : ℕ} {words : List ℕ} {parts now : StructureSets} {member heads : ℕ → Bool} {order : ℕ → ℕ → ℕ} {out : ℕ → List ℕ} {hand : Hand} {acc : ℕ → List (List ℕ)} {reported : ℕ → List ℕ} → (o : IsOrdering d m b words parts now member heads order out hand acc reported) (least : ℕ)
-    → (fronts : FrontsStand d parts order out) → (fronts o.lending.ready.transfer.endpoint o.lending.ready.endpoint o.lending.ready.here (it_is_met d m b words o.lending.asynchronous o.lending.ready)).front ≤ least
-    → FrontsStand (lent_now d m) now (order_lent o.lending.ready (from_here o least) order) (out_lent o.lending.ready out)
-fronts_stand {d = d} {m = m} {b = b} {words = words} {parts = parts} {now = now} {order = order} {out = out} o least fronts most e x here met =
+pub fronts_stand : {d : DriverContent} {m : Mem} {b : ℕ} {words : List ℕ} {parts now : StructureSets} {order : ℕ → ℕ → ℕ} {out : ℕ → List ℕ} → (o : IsOrdering d m b words parts now order out) (head : IsQueuePart (32 * o.lending.ready.endpoint.queue) (parts (32 * o.lending.ready.endpoint.queue)))
+    → (fronts : FrontsStand d parts order out) → (fronts o.lending.ready.transfer.endpoint o.lending.ready.endpoint o.lending.ready.here (it_is_met d m b words o.lending.asynchronous o.lending.ready)).front ≤ o.from
+    → FrontsStand (lent_now d m) now (order_lent o.lending.ready o.from order) (out_lent o.lending.ready out)
+fronts_stand {d = d} {m = m} {b = b} {words = words} {parts = parts} {now = now} {order = order} {out = out} o head fronts most e x here met =
     let l = o.lending in
     let k = l.ready in
     let n = 32 * k.endpoint.queue in
     let slot = slot_of (lent_driver d m).book.slots in
-    let from = from_here o least in
+    let from = o.from in
     let f = queue_order k from order in
     let more = out n ++ new_out d (y_of k) k.further in
     ⊎_elim
@@ -173,10 +174,10 @@ fronts_stand {d = d} {m = m} {b = b} {words = words} {parts = parts} {now = now}
     let s = fronts k.transfer.endpoint k.endpoint k.here (it_is_met d m b words l.asynchronous k) in
     let mine : StandsAt (lent_now d m) (now n) f more k.transfer.endpoint k.endpoint = record {
       front = s.front;
-      has = its_front o least s.front (let above = least_below o least in omega (arith, most, above)) s.has;
+      has = its_front o head s.front most s.has;
       ended = λ i t y at there held of.
           let differs = not_newest l i t y at there in
-          let stands = end_stands o t y differs there held of (o_some o t y there held) in
+          let stands = end_stands o head t y differs there held of (o_some o t y there held) in
           let number = old_number d (y_of k) (x_of k) k.stage k.further slot parts now from (order n) (end_at d y) (Element stands.qtd) l.pieces stands.here in
           let old = s.ended i t y at there held of in omega (arith, number, old);
       passed = λ i t j y at there held of after below.
@@ -203,30 +204,30 @@ fronts_stand {d = d} {m = m} {b = b} {words = words} {parts = parts} {now = now}
 -- ---- the queue's tail
 
 -- nothing that stood comes after the first qTD, and all that is new does
-old_below : {d : DriverContent} {m : Mem} {b : ℕ} {words : List ℕ} {parts now : StructureSets} {member heads : ℕ → Bool} {order : ℕ → ℕ → ℕ} {out : ℕ → List ℕ} {hand : Hand} {acc : ℕ → List (List ℕ)} {reported : ℕ → List ℕ} → (o : IsOrdering d m b words parts now member heads order out hand acc reported) (least : ℕ)
-    → (c : ℕ) → IsElement (parts (32 * o.lending.ready.endpoint.queue)) c → order (32 * o.lending.ready.endpoint.queue) c < from_here o least
-old_below {d = d} {m = m} {b = b} {words = words} {parts = parts} {order = order} o least c there =
+old_below : {d : DriverContent} {m : Mem} {b : ℕ} {words : List ℕ} {parts now : StructureSets} {order : ℕ → ℕ → ℕ} {out : ℕ → List ℕ} → (o : IsOrdering d m b words parts now order out)
+    → (c : ℕ) → IsElement (parts (32 * o.lending.ready.endpoint.queue)) c → order (32 * o.lending.ready.endpoint.queue) c < o.from
+old_below {d = d} {m = m} {b = b} {words = words} {parts = parts} {order = order} o c there =
     let k = o.lending.ready in
     let n = 32 * k.endpoint.queue in
     let first = 32 * k.transfer.first in
-    let above = first_below o least in
+    let above = o.above in
     ⊎_elim (λ (same : c ≡ first). let e = ap (order n) same in omega (arith, e, above))
     (λ (differs : c ≢ first). let low = first_last o c there.qtd there.here differs in omega (arith, low, above)) (cases_eq c first)
 
-its_reach : {d : DriverContent} {m : Mem} {b : ℕ} {words : List ℕ} {parts now : StructureSets} {member heads : ℕ → Bool} {order : ℕ → ℕ → ℕ} {out : ℕ → List ℕ} {hand : Hand} {acc : ℕ → List (List ℕ)} {reported : ℕ → List ℕ} → (o : IsOrdering d m b words parts now member heads order out hand acc reported) (least : ℕ)
+its_reach : {d : DriverContent} {m : Mem} {b : ℕ} {words : List ℕ} {parts now : StructureSets} {order : ℕ → ℕ → ℕ} {out : ℕ → List ℕ} → (o : IsOrdering d m b words parts now order out) (head : IsQueuePart (32 * o.lending.ready.endpoint.queue) (parts (32 * o.lending.ready.endpoint.queue)))
     → (c : ℕ) → IsElement (parts (32 * o.lending.ready.endpoint.queue)) c
     → Reaches d (parts (32 * o.lending.ready.endpoint.queue)) (order (32 * o.lending.ready.endpoint.queue)) (out (32 * o.lending.ready.endpoint.queue)) o.lending.ready.transfer.endpoint o.lending.ready.endpoint c
-    → Reaches (lent_now d m) (now (32 * o.lending.ready.endpoint.queue)) (queue_order o.lending.ready (from_here o least) order) (out (32 * o.lending.ready.endpoint.queue) ++ new_out d (y_of o.lending.ready) o.lending.ready.further) o.lending.ready.transfer.endpoint o.lending.ready.endpoint c
-its_reach {d = d} {m = m} {b = b} {words = words} {parts = parts} {now = now} {order = order} {out = out} o least c there r =
+    → Reaches (lent_now d m) (now (32 * o.lending.ready.endpoint.queue)) (queue_order o.lending.ready o.from order) (out (32 * o.lending.ready.endpoint.queue) ++ new_out d (y_of o.lending.ready) o.lending.ready.further) o.lending.ready.transfer.endpoint o.lending.ready.endpoint c
+its_reach {d = d} {m = m} {b = b} {words = words} {parts = parts} {now = now} {order = order} {out = out} o head c there r =
     let l = o.lending in
     let k = l.ready in
     let n = 32 * k.endpoint.queue in
     let slot = slot_of (lent_driver d m).book.slots in
-    let from = from_here o least in
+    let from = o.from in
     let f = queue_order k from order in
     let s = r.stands in
     let are = numbers d m k.number (y_of k) (x_of k) k.stage k.further from (order n) k.awaits in
-    let low = old_below o least c there in
+    let low = old_below o c there in
     let most = r.tail.most in
     let at : f c ≡ order n c = old_number d (y_of k) (x_of k) k.stage k.further slot parts now from (order n) c (Element there.qtd) l.pieces there.here in
     let same : (a : ℕ) → IsElement (parts n) a → f a ≡ order n a = λ a z. old_number d (y_of k) (x_of k) k.stage k.further slot parts now from (order n) a (Element z.qtd) l.pieces z.here in
@@ -234,10 +235,10 @@ its_reach {d = d} {m = m} {b = b} {words = words} {parts = parts} {now = now} {o
     record {
       stands = record {
         front = s.front;
-        has = its_front o least s.front (omega (arith, most, low)) s.has;
+        has = its_front o head s.front (omega (arith, most, low)) s.has;
         ended = λ i t y here written held of.
             let differs = not_newest l i t y here written in
-            let z = end_stands o t y differs written held of (o_some o t y written held) in
+            let z = end_stands o head t y differs written held of (o_some o t y written held) in
             let number = same (end_at d y) z in
             let old = s.ended i t y here written held of in omega (arith, number, old);
         passed = λ i t j y here written held of after below.
@@ -258,7 +259,7 @@ its_reach {d = d} {m = m} {b = b} {words = words} {parts = parts} {now = now} {o
             ⊎_elim
             (λ (was : parts n a ≡ Some (Element u)).
             let number = same a (record { qtd = u; here = was }) in
-            let to : IsElement (parts n) i = subst (LeadsOn (parts n)) leads (o.sound.elements a u was).next in
+            let to : IsElement (parts n) i = subst (LeadsOn (parts n)) leads (head.elements a u was).next in
             let other = same i to in
             let old = r.within.next a i u was on (omega (arith, number, at, less)) leads in omega (arith, other, at, old))
             (λ (is : IsNewQtd d.notes k.endpoint.dummy k.further (second d (y_of k)) a u). absurd (new a u is less)) (l.pieces.elements a u here);
@@ -266,7 +267,7 @@ its_reach {d = d} {m = m} {b = b} {words = words} {parts = parts} {now = now} {o
             ⊎_elim
             (λ (was : parts n a ≡ Some (Element u)).
             let number = same a (record { qtd = u; here = was }) in
-            let to : IsElement (parts n) i = subst (LeadsOn (parts n)) leads (o.sound.elements a u was).alternate in
+            let to : IsElement (parts n) i = subst (LeadsOn (parts n)) leads (head.elements a u was).alternate in
             let other = same i to in
             let old = r.within.alternate a i u was on (omega (arith, number, at, less)) leads in omega (arith, other, at, old))
             (λ (is : IsNewQtd d.notes k.endpoint.dummy k.further (second d (y_of k)) a u). absurd (new a u is less)) (l.pieces.elements a u here);
@@ -274,9 +275,9 @@ its_reach {d = d} {m = m} {b = b} {words = words} {parts = parts} {now = now} {o
       tail = record {
         most = omega (arith, most, at);
         rest = λ q i here off idle leads.
-            let is : o.sound.queue ≡ q = found_queue (now n n) o.sound.queue q (l.pieces.still n n (QueueHead o.sound.queue) o.sound.here) here in
-            let was : parts n n ≡ Some (QueueHead q) = subst (λ z. parts n n ≡ Some (QueueHead z)) is o.sound.here in
-            let sound : IsSoundQueue (parts n) q = subst (IsSoundQueue (parts n)) is o.sound.sound in
+            let is : head.queue ≡ q = found_queue (now n n) head.queue q (l.pieces.still n n (QueueHead head.queue) head.here) here in
+            let was : parts n n ≡ Some (QueueHead q) = subst (λ z. parts n n ≡ Some (QueueHead z)) is head.here in
+            let sound : IsSoundQueue (parts n) q = subst (IsSoundQueue (parts n)) is head.sound in
             let to : IsElement (parts n) i = subst (LeadsOn (parts n)) leads (sound.rest off idle) in
             let other = same i to in
             let old = r.tail.rest q i was off idle leads in omega (arith, other, at, old);
@@ -286,15 +287,15 @@ its_reach {d = d} {m = m} {b = b} {words = words} {parts = parts} {now = now} {o
 -- ---- tails
 
 -- a tail that stood is one still, as all new qTDs come after it
-pub reaches_on : {d : DriverContent} {m : Mem} {b : ℕ} {words : List ℕ} {parts now : StructureSets} {member heads : ℕ → Bool} {order : ℕ → ℕ → ℕ} {out : ℕ → List ℕ} {hand : Hand} {acc : ℕ → List (List ℕ)} {reported : ℕ → List ℕ} → (o : IsOrdering d m b words parts now member heads order out hand acc reported) (least : ℕ)
+pub reaches_on : {d : DriverContent} {m : Mem} {b : ℕ} {words : List ℕ} {parts now : StructureSets} {order : ℕ → ℕ → ℕ} {out : ℕ → List ℕ} → (o : IsOrdering d m b words parts now order out) (head : IsQueuePart (32 * o.lending.ready.endpoint.queue) (parts (32 * o.lending.ready.endpoint.queue)))
     → (e : ℕ) (x : Endpoint) (c : ℕ) → slice_get d.endpoints e ≡ Some x → x.gone ≡ false → IsElement (parts (32 * x.queue)) c → Reaches d (parts (32 * x.queue)) (order (32 * x.queue)) (out (32 * x.queue)) e x c
-    → Reaches (lent_now d m) (now (32 * x.queue)) (order_lent o.lending.ready (from_here o least) order (32 * x.queue)) (out_lent o.lending.ready out (32 * x.queue)) e x c
-reaches_on {d = d} {m = m} {b = b} {words = words} {parts = parts} {now = now} {order = order} {out = out} o least e x c here kept tail r =
+    → Reaches (lent_now d m) (now (32 * x.queue)) (order_lent o.lending.ready o.from order (32 * x.queue)) (out_lent o.lending.ready out (32 * x.queue)) e x c
+reaches_on {d = d} {m = m} {b = b} {words = words} {parts = parts} {now = now} {order = order} {out = out} o head e x c here kept tail r =
     let l = o.lending in
     let k = l.ready in
     let n = 32 * k.endpoint.queue in
     let slot = slot_of (lent_driver d m).book.slots in
-    let from = from_here o least in
+    let from = o.from in
     let f = queue_order k from order in
     let more = out n ++ new_out d (y_of k) k.further in
     ⊎_elim
@@ -303,7 +304,7 @@ reaches_on {d = d} {m = m} {b = b} {words = words} {parts = parts} {now = now} {
     let there : IsElement (parts n) c = subst (λ (z : Endpoint). IsElement (parts (32 * z.queue)) c) is tail in
     let before : Reaches d (parts n) (order n) (out n) k.transfer.endpoint k.endpoint c =
     subst (λ (i : ℕ). Reaches d (parts n) (order n) (out n) i k.endpoint c) same (subst (λ (z : Endpoint). Reaches d (parts (32 * z.queue)) (order (32 * z.queue)) (out (32 * z.queue)) e z c) is r) in
-    let mine = its_reach o least c there before in
+    let mine = its_reach o head c there before in
     subst (λ (z : Endpoint). Reaches (lent_now d m) (now (32 * z.queue)) (order_lent k from order (32 * z.queue)) (out_lent k out (32 * z.queue)) e z c) (sym is)
     (subst (λ (i : ℕ). Reaches (lent_now d m) (now n) (order_lent k from order n) (out_lent k out n) i k.endpoint c) (sym same)
     (subst (λ (g : ℕ → ℕ). Reaches (lent_now d m) (now n) g (out_lent k out n) k.transfer.endpoint k.endpoint c) (sym (at_here order n f))

@@ -1,3 +1,6 @@
+pub mod Parts
 pub mod Fronts
+pub mod Rising
 pub mod Extents
+pub mod Tails
 pub mod Row

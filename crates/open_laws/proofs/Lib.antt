@@ -1,6 +1,10 @@
 pub mod AcceptWaiting
+pub mod Newest
 pub mod Linking
+pub mod HeadStores
+pub mod FinishedQueues
 pub mod Standing
 pub mod Streams
+pub mod LentQueues
 pub mod Lending
 pub mod LendWaiting

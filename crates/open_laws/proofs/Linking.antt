@@ -17,24 +17,23 @@ use Rattle.driver_rows.specs.declared.content.Command.TheVariants as unfinished
 use Rattle.driver_rows.specs.declared.rows.DriverRow.{DriverRow}
 use Rattle.driver_rows.specs.DriverContent.{DriverContent}
 use Rattle.driver_rows.specs.Rows.{Parts as DriverParts, row_for, command_row, advanced_by, driver_row, after_driver_row}
-use Rattle.driver_rows.specs.Words.{head_block, to_queue_head, queue_head_link, queue_head, dummy_qtd}
-use Rattle.run_owners.specs.Owners.{Head, QueueHead as QueueOf, Dummy, runs_of_endpoint}
+use Rattle.driver_rows.specs.Words.{head_block, to_queue_head, queue_head_link, queue_head}
+use Rattle.run_owners.specs.Owners.{Head, runs_of_endpoint}
 use Rattle.run_owners.proofs.Runs.{placed_run}
 use Rattle.ring_members.specs.Links.{link_in, step_to, newest_from, AreLinked}
 use Rattle.ring_members.specs.Ring.{IsOpening, StandsFor}
 use Rattle.ring_members.proofs.Placed.{can_begin}
 use Rattle.async_walk.specs.Walk.{Walk}
 use Rattle.async_walk.specs.Rows.{place}
-use Rattle.lent_structures.specs.Structures.{QueueHead, Element, Structures, StructureSets, with_structure, Tells}
-use Rattle.lent_structures.proofs.Names.{with_here, with_there}
+use Rattle.lent_structures.specs.Structures.{QueueHead, StructureSets, Tells}
 use Rattle.lent_structures.proofs.Reading.{head_read}
 use Rattle.ring_laws.specs.Hand.{Hand}
 use Rattle.ring_laws.specs.Ring.{Base}
 use Rattle.driver_laws.specs.Driven.{DrivesRing}
-use Rattle.driver_laws.specs.Linked.{no_part, with_member, head_at, link_row}
+use Rattle.driver_laws.specs.Linked.{with_member, head_at, link_row}
 use Rattle.driver_laws.proofs.Linking.{link_opens_drives}
 use Rattle.ring_laws.specs.Told.{Endpoint as Told}
-use Rattle.publish_laws.proofs.Apart.{queue_placed, dummy_placed}
+use Rattle.open_laws.proofs.Newest.{queue_and_dummy, queue_here}
 use Rattle.open_laws.specs.Opens.{IsAtOpen, head_then, hand_then, next_of, OpenIsLinked}
 use Rattle.chained_transfers.proofs.Staying.{linked_stands_alive}
 
@@ -103,20 +102,12 @@ module _ (p : DriverParts) (member streams : ℕ → Bool) (ends : ℕ → Told)
   q = queue_head x.desc k.lent.link x.dummy
 
   pub differs : x.queue ≢ x.dummy
-  differs same =
+  differs =
       let stands = k.turns.asynchronous.endpoints k.lent.number x k.lent.here in
-      let alive = linked_stands_alive x stands k.lent.fresh in
-      let one = (queue_placed d k.sound.owners k.lent.number x k.lent.here stands alive).owned in
-      let other = (dummy_placed d k.sound.owners k.lent.number x k.lent.here stands alive).owned in
-      never (sym one ∙ ap k.sound.owners.owner same ∙ other)
-    where
-      never : QueueOf k.lent.number ≡ Dummy k.lent.number → ⊥
-      never e = cc
+      queue_and_dummy d k.sound.owners k.lent.number x k.lent.here stands (linked_stands_alive x stands k.lent.fresh)
 
   pub here : parts n n ≡ Some (QueueHead q)
-  here =
-      let one : Structures = with_structure no_part n (QueueHead q) in
-      k.lent.part n ∙ with_there one (32 * x.dummy) (Element dummy_qtd) n (λ s. differs (omega (arith, s))) ∙ with_here no_part n (QueueHead q)
+  here = queue_here x q (parts n) differs k.lent.part
 
   leads : Tells p.memory parts → k.queue.link ≡ to_queue_head k.lent.link
   leads tells =

@@ -1,84 +1,25 @@
 -- What is told of the driver's queues once the walk may meet one more.
-use Rattle.std.proofs.Common.{◌≡◌, ◌≢◌, ℕ, suc, ◌*◌, ◌||◌, ◌==◌, Bool, true, false, nat_eq, if◌then◌else◌, List, [], ◌∷◌, ◌++◌, length, slice_get, Option, Some, None, ap, refl, sym, subst, ◌∙◌, ⊎_elim, inl, inr, arith}
-use Rattle.std.proofs.lemmas.Bool.{cases_eq, eq-eqb}
-use Rattle.std.proofs.lemmas.Option.{same_Some}
+use Rattle.std.proofs.Common.{◌≡◌, ℕ, ◌*◌, Bool, false, List, slice_get, Option, Some, None, sym, subst}
 use Rattle.qh_qtd.specs.declared.qtd.Qtd.{Qtd}
 use Rattle.qh_qtd.specs.declared.queue_head.Qh.{Qh}
-use Rattle.driver_rows.specs.declared.content.Endpoint.{Endpoint}
-use Rattle.driver_rows.specs.declared.content.Transfer.{Transfer}
-use Rattle.driver_rows.specs.declared.content.QtdNote.{QtdNote}
-use Rattle.driver_rows.specs.declared.content.Sort.{Sort}
 use Rattle.driver_rows.specs.declared.content.Command.{Command}
 use Rattle.driver_rows.specs.declared.content.Command.TheVariants as unfinished
+use Rattle.driver_rows.specs.declared.content.Endpoint.{Endpoint}
 use Rattle.driver_rows.specs.DriverContent.{DriverContent}
-use Rattle.driver_rows.specs.Harvests.{note_at}
 use Rattle.driver_rows.specs.Rows.{Parts as DriverParts}
-use Rattle.chained_transfers.specs.Chains.{piece_at}
-use Rattle.driver_rows.specs.Words.{head_block, to_queue_head, queue_head, dummy_qtd}
-use Rattle.run_owners.specs.Owners.{NoteRuns, note_in}
-use Rattle.lent_structures.specs.Structures.{Structure, QueueHead, Element, Buffer, Structures, StructureSets}
-use Rattle.lent_structures.proofs.Names.{not_same, put_beside, put_same, put_else, put_found}
-use Rattle.lent_structures.specs.Sound.{element_pages, buffer_name, HasBuffer}
-use Rattle.ring_laws.specs.Effects.{bytes_in}
-use Rattle.ring_laws.specs.Told.{Endpoint as Told, endpoint_of}
+use Rattle.driver_rows.specs.Words.{to_queue_head, queue_head}
+use Rattle.lent_structures.specs.Structures.{Element, StructureSets}
+use Rattle.ring_laws.specs.Told.{Endpoint as Told}
 use Rattle.driver_laws.specs.Linked.{with_member, head_at}
 use Rattle.controlled_streams.specs.Opened.{with_end, with_none}
-use Rattle.controlled_streams.proofs.Beginning.{end_here, end_beside, list_here, list_beside}
-use Rattle.chained_transfers.specs.Bulk.{comes_in}
-use Rattle.chained_transfers.specs.Asynchronous.{StandsAsynchronous}
-use Rattle.chained_transfers.specs.Out.{unpublished, out_of_transfer, out_of, out_now}
-use Rattle.fed_queues.specs.Fed.{IsPieceFed, unpublished_of, AreFed, sized}
-use Rattle.fed_queues.specs.Places.{IsMet, HasHead, AreMet, HaveStreams, AreLast, AreStillOut, IsThere}
 use Rattle.publish_laws.specs.Stores.{QueuesThen}
-use Rattle.publish_laws.proofs.Outs.{other_part}
-use Rattle.publish_laws.proofs.Apart.{queue_placed, queues_same, thirty_two}
 use Rattle.open_laws.specs.Opens.{IsAtOpen, head_then, end_then, streams_then, next_of, OpenStands}
-use Rattle.open_laws.proofs.Linking.{driver_is}
-use Rattle.chained_transfers.proofs.Staying.{linked_stands_alive}
-use Rattle.endpoint_lives.proofs.Lives.{linked_met}
-
--- ---- lists of what is out
-
-none_out : (note : ℕ → NoteRuns) (e : ℕ) (ts : List Transfer) → ((t : ℕ) (y : Transfer) → slice_get ts t ≡ Some y → y.endpoint ≢ e) → out_of note e None 0 ts ≡ []
-none_out note e [] none = refl
-none_out note e (z ∷ []) none = ap (λ (xs : List ℕ). xs ++ []) (other_part note e 0 z (none 0 z refl))
-none_out note e (z ∷ w ∷ zs) none =
-    ap (λ (xs : List ℕ). xs ++ out_of note e None 0 (w ∷ zs)) (other_part note e 0 z (none 0 z refl)) ∙ none_out note e (w ∷ zs) (λ t y there. none (suc t) y there)
-
-open_out : (note : ℕ → NoteRuns) (e queue made : ℕ) (ts : List Transfer) → out_of note e (Some (unfinished.Open queue)) made ts ≡ out_of note e None 0 ts
-open_out note e queue made [] = refl
-open_out note e queue made (z ∷ []) = refl
-open_out note e queue made (z ∷ w ∷ zs) = ap (λ (xs : List ℕ). out_of_transfer note e 0 z ++ xs) (open_out note e queue made (w ∷ zs))
-
-abbrev none_if : Bool → ℕ
-none_if b = if b then 0 else 0
-
-none_either : (b : Bool) → none_if b ≡ 0
-none_either true = refl
-none_either false = refl
-
--- ---- who has a stream then
-
-pub then_here : (streams : ℕ → Bool) (x : Endpoint) → streams_then streams x (32 * x.queue) ≡ comes_in x.desc.name.way
-then_here streams x = ap (λ (b : Bool). if b then comes_in x.desc.name.way else streams (32 * x.queue)) (eq-eqb (32 * x.queue) (32 * x.queue) refl)
-
-pub then_beside : (streams : ℕ → Bool) (x : Endpoint) (m : ℕ) → m ≢ 32 * x.queue → streams_then streams x m ≡ streams m
-then_beside streams x m differs = ap (λ (b : Bool). if b then comes_in x.desc.name.way else streams m) (not_same m (32 * x.queue) differs)
-
--- ---- members
-
-pub member_here : (member : ℕ → Bool) (n : ℕ) → with_member member n n ≡ true
-member_here member n = ap (λ (b : Bool). b || member n) (eq-eqb n n refl)
-
-pub member_old : (member : ℕ → Bool) (n m : ℕ) → member m ≡ true → with_member member n m ≡ true
-member_old member n m on = by_test (m == n)
-  where
-    by_test : (b : Bool) → (b || member m) ≡ true
-    by_test true = refl
-    by_test false = on
-
-pub member_beside : (member : ℕ → Bool) (n m : ℕ) → m ≢ n → with_member member n m ≡ true → member m ≡ true
-member_beside member n m differs on = ap (λ (b : Bool). b || member m) (sym (not_same m n differs)) ∙ on
+use Rattle.open_laws.specs.Queues.{IsOpenThere, open_finished}
+use Rattle.open_laws.proofs.FinishedQueues as finished
+use Rattle.open_laws.proofs.HeadStores.{element_before, head_keeps_queues}
+use Rattle.open_laws.proofs.Linking.{driver_is, differs}
+use Rattle.open_laws.proofs.Newest.{new_heads_rest, new_part}
+pub use Rattle.open_laws.proofs.FinishedQueues.{then_here, then_beside, member_here, member_old, member_beside}
 
 module _ (p : DriverParts) (member streams : ℕ → Bool) (ends : ℕ → Told) (parts : StructureSets) (order : ℕ → ℕ → ℕ) (out : ℕ → List ℕ) (k : IsAtOpen p.driver p.memory member streams ends parts order out) where
   abbrev d : DriverContent
@@ -88,166 +29,43 @@ module _ (p : DriverParts) (member streams : ℕ → Bool) (ends : ℕ → Told)
   x = k.lent.endpoint
 
   abbrev n : ℕ
-  n = 32 * x.queue
+  n = 32 * k.lent.endpoint.queue
 
   abbrev new_head : Qh
-  new_head = record k.queue { link = to_queue_head x.queue }
+  new_head = record k.queue { link = to_queue_head k.lent.endpoint.queue }
 
   abbrev now : StructureSets
-  now = head_then parts k.queue x
+  now = head_then parts k.queue k.lent.endpoint
 
-  abbrev f : DriverContent
-  f = record d { command = None; made = 0 }
-
-  -- ---- the structures
-
-  is_head : (m a : ℕ) → m ≡ head_at → a ≡ head_at → parts m a ≡ Some (QueueHead k.queue)
-  is_head m a owner name = ap (λ (i : ℕ). parts i a) owner ∙ ap (parts head_at) name ∙ k.head
-
-  pub stays : (m a : ℕ) (s : Structure) → ((q : Qh) → s ≢ QueueHead q) → parts m a ≡ Some s → now m a ≡ Some s
-  stays m a s other is =
-      ⊎_elim (λ (owner : m ≡ head_at).
-      ⊎_elim (λ (name : a ≡ head_at). absurd (other k.queue (same_Some s (QueueHead k.queue) (sym is ∙ is_head m a owner name))))
-      (λ (differs : a ≢ head_at). ap (λ (i : ℕ). now i a) owner ∙ put_else parts head_at head_at (QueueHead new_head) a differs ∙ ap (λ (i : ℕ). parts i a) (sym owner) ∙ is) (cases_eq a head_at))
-      (λ (differs : m ≢ head_at). ap (λ (part : Structures). part a) (put_beside parts head_at head_at (QueueHead new_head) m differs) ∙ is) (cases_eq m head_at)
-
-  bytes_stay : (m a : ℕ) → bytes_in (now m a) ≡ bytes_in (parts m a)
-  bytes_stay m a =
-      ⊎_elim (λ (owner : m ≡ head_at).
-      ⊎_elim (λ (name : a ≡ head_at). ap (λ (i : ℕ). bytes_in (now i a)) owner ∙ ap (λ (i : ℕ). bytes_in (now head_at i)) name ∙ ap bytes_in (put_same parts head_at head_at (QueueHead new_head)) ∙ sym (ap bytes_in (is_head m a owner name)))
-      (λ (differs : a ≢ head_at). ap (λ (i : ℕ). bytes_in (now i a)) owner ∙ ap bytes_in (put_else parts head_at head_at (QueueHead new_head) a differs) ∙ ap (λ (i : ℕ). bytes_in (parts i a)) (sym owner)) (cases_eq a head_at))
-      (λ (differs : m ≢ head_at). ap (λ (part : Structures). bytes_in (part a)) (put_beside parts head_at head_at (QueueHead new_head) m differs)) (cases_eq m head_at)
-
-  no_element : (t : Qtd) (q : Qh) → Element t ≢ QueueHead q
-  no_element t q same = cc
-
-  no_buffer : (pages : List ℕ) (j : ℕ) (bs : List ℕ) (q : Qh) → Buffer pages j bs ≢ QueueHead q
-  no_buffer pages j bs q same = cc
+  -- its queue head and its inactive qTD stand
+  abbrev pub stands_there : IsOpenThere p.driver parts
+  stands_there = record {
+    number = k.lent.number;
+    endpoint = k.lent.endpoint;
+    here = k.lent.here;
+    command = k.lent.command;
+    fresh = k.lent.fresh;
+    none = k.lent.none;
+    part = new_part x (queue_head x.desc k.lent.link x.dummy) (parts n) (differs p member streams ends parts order out k) (new_heads_rest x.desc 0 0 k.lent.link x.dummy).0 k.lent.part;
+  }
 
   pub element_was : (m a : ℕ) (t : Qtd) → now m a ≡ Some (Element t) → parts m a ≡ Some (Element t)
-  element_was m a t is =
-      ⊎_elim (λ (put_there : (m ≡ head_at) × (a ≡ head_at) × (Element t ≡ QueueHead new_head)). absurd (no_element t new_head put_there.2))
-      (λ (was : parts m a ≡ Some (Element t)). was) (put_found parts head_at head_at (QueueHead new_head) m a (Element t) is)
-
-  fed_now : (sort : Sort) (m : ℕ) (note : QtdNote) (b end : ℕ) → IsPieceFed sort (parts m) note b end → IsPieceFed sort (now m) note b end
-  fed_now sort m note b end g = record {
-    qtd = g.qtd;
-    here = stays m (32 * b) (Element g.qtd) (no_element g.qtd) g.here;
-    noted = g.noted;
-    buffer = λ some.
-        let has : HasBuffer (parts m) g.qtd note.told = g.buffer some in
-        record { bytes = has.bytes; here = stays m (buffer_name g.qtd) (Buffer (element_pages g.qtd) g.qtd.offset has.bytes) (no_buffer (element_pages g.qtd) g.qtd.offset has.bytes) has.here; size = has.size };
-    long = ap length (bytes_stay m (buffer_name g.qtd)) ∙ g.long;
-    places = g.places;
-    fresh = g.fresh;
-    blank = g.blank;
-  }
-
-  no_command : {b : ℕ} {words : List ℕ} → ◌≡◌ {A = Option Command} None (Some (unfinished.Publish b words)) → ⊥
-  no_command same = cc
-
-  none_before : (t : ℕ) (y : Transfer) → unpublished_of d t y ≡ 0
-  none_before t y = ap (λ (o : Option Command). if nat_eq (suc t) (length d.transfers) then unpublished o d.made y.qtds else 0) k.lent.command ∙ none_either (nat_eq (suc t) (length d.transfers))
-
-  fed_then : AreFed f now
-  fed_then = record {
-    dummies = λ e y there kept lent. stays (32 * y.queue) (32 * y.dummy) (Element dummy_qtd) (no_element dummy_qtd) (k.stand.fed.dummies e y there kept lent);
-    pieces = λ t j y z there held here from below.
-        let none = none_before t y in
-        fed_now y.sort (32 * z.queue) (sized y.sort j (note_at d.notes (piece_at (note_in d.notes) y.first j))) (piece_at (note_in d.notes) y.first j) (piece_at (note_in d.notes) y.first y.qtds)
-        (k.stand.fed.pieces t j y z there held here (omega (arith, none)) below);
-    publishes = λ b words command. absurd (no_command command);
-  }
-
-  last_then : AreLast f now order
-  last_then = record {
-    dummies = λ e y there kept lent a t is differs. k.stand.last.dummies e y there kept lent a t (element_was (32 * y.queue) a t is) differs;
-    taken = λ b words t y z command made newest there first here. absurd (no_command command);
-    sorted = λ b words t y z command made newest there first here. absurd (no_command command);
-  }
-
-  -- ---- whom the walk meets
-
-  none_open : (c : ℕ) → ◌≡◌ {A = Option Command} None (Some (unfinished.Open c)) → ⊥
-  none_open c same = cc
-
-  queue_of : Option Command → ℕ
-  queue_of (Some (unfinished.Open c)) = c
-  queue_of o = 0
-
-  standing : StandsAsynchronous x
-  standing = k.turns.asynchronous.endpoints k.lent.number x k.lent.here
+  element_was m a t is = element_before parts head_at k.queue new_head k.head m a t is
 
   pub its_alive : x.gone ≡ false
-  its_alive = linked_stands_alive x standing k.lent.fresh
+  its_alive = finished.its_alive p.driver member streams ends parts order out k.sound.owners k.turns stands_there k.stand
 
   pub same_number : (e : ℕ) (y : Endpoint) → slice_get d.endpoints e ≡ Some y → y.gone ≡ false → y.queue ≡ x.queue → e ≡ k.lent.number
-  same_number e y there kept same =
-      queues_same y.queue x.queue e k.lent.number same (queue_placed d k.sound.owners e y there (k.turns.asynchronous.endpoints e y there) kept)
-      (queue_placed d k.sound.owners k.lent.number x k.lent.here standing its_alive)
+  same_number e y there kept same = finished.same_number p.driver member streams ends parts order out k.sound.owners k.turns stands_there k.stand e y there kept same
 
-  there_before : (e : ℕ) (y : Endpoint) → slice_get d.endpoints e ≡ Some y → e ≢ k.lent.number → IsThere f y → IsThere d y
-  unfolding queue_of
-  there_before e y there differs is = record { linked = λ same. differs (same_number e y there is.kept (ap queue_of (sym same ∙ k.lent.command))); kept = is.kept }
-
-  met_before : (e : ℕ) (y : Endpoint) → slice_get d.endpoints e ≡ Some y → e ≢ k.lent.number → IsMet f e y → IsMet d e y
-  met_before e y there differs met = record { there = there_before e y there differs met.there; near = met.near }
-
-  is_new : (e : ℕ) (y : Endpoint) → slice_get d.endpoints e ≡ Some y → e ≡ k.lent.number → y ≡ x
-  is_new e y there same = same_Some y x (sym there ∙ ap (slice_get d.endpoints) same ∙ k.lent.here)
-
-  apart : (e : ℕ) (y : Endpoint) → slice_get d.endpoints e ≡ Some y → y.gone ≡ false → e ≢ k.lent.number → 32 * y.queue ≢ n
-  apart e y there kept differs same = differs (same_number e y there kept (thirty_two y.queue x.queue same))
-
-  head_new : (m : ℕ) → m ≡ n → HasHead f m
-  head_new m same = record { number = k.lent.number; endpoint = x; here = k.lent.here; met = record { there = record { linked = none_open x.queue; kept = its_alive }; near = linked_met f k.lent.number x k.lent.fresh }; at = same }
-
-  head_old : (m : ℕ) → HasHead d m → HasHead f m
-  head_old m h = record { number = h.number; endpoint = h.endpoint; here = h.here; met = record { there = record { linked = none_open h.endpoint.queue; kept = h.met.there.kept }; near = h.met.near }; at = h.at }
-
-  met_then : AreMet f (with_member member n)
-  met_then = record {
-    head = member_old member n head_at k.stand.met.head;
-    each = λ e y there met.
-        ⊎_elim (λ (same : e ≡ k.lent.number). ap (λ (z : Endpoint). with_member member n (32 * z.queue)) (is_new e y there same) ∙ member_here member n)
-        (λ (differs : e ≢ k.lent.number). member_old member n (32 * y.queue) (k.stand.met.each e y there (met_before e y there differs met))) (cases_eq e k.lent.number);
-    only = λ m on.
-        ⊎_elim (λ (same : m ≡ n). inr (head_new m same))
-        (λ (differs : m ≢ n). ⊎_elim (λ (head : m ≡ 32 * head_block). inl head) (λ (h : HasHead d m). inr (head_old m h)) (k.stand.met.only m (member_beside member n m differs on))) (cases_eq m n);
-  }
-
-  streams_are_then : HaveStreams f (streams_then streams x) (with_end ends n (end_then x))
-  streams_are_then = record {
-    each = λ e y there met.
-        ⊎_elim (λ (same : e ≡ k.lent.number).
-        let is : y ≡ x = is_new e y there same in (
-          ap (λ (z : Endpoint). streams_then streams x (32 * z.queue)) is ∙ then_here streams x ∙ ap (λ (z : Endpoint). comes_in z.desc.name.way) (sym is),
-          ap (λ (z : Endpoint). with_end ends n (end_then x) (32 * z.queue)) is ∙ end_here ends n (end_then x) ∙ ap (λ (z : Endpoint). endpoint_of (queue_head z.desc 0 z.dummy)) (sym is),
-        ))
-        (λ (differs : e ≢ k.lent.number).
-        let was = k.stand.streams_are.each e y there (met_before e y there differs met) in
-        let other = apart e y there met.there.kept differs in (
-          then_beside streams x (32 * y.queue) other ∙ was.0,
-          end_beside ends n (end_then x) (32 * y.queue) other ∙ was.1,
-        )) (cases_eq e k.lent.number);
-    only = λ m on.
-        ⊎_elim (λ (same : m ≡ n). head_new m same) (λ (differs : m ≢ n). head_old m (k.stand.streams_are.only m (sym (then_beside streams x m differs) ∙ on))) (cases_eq m n);
-  }
-
-  out_before : (e : ℕ) → out_now d e ≡ out_now f e
-  out_before e = ap (λ (o : Option Command). out_of (note_in d.notes) e o d.made d.transfers) k.lent.command ∙ open_out (note_in d.notes) e x.queue d.made d.transfers
-
-  out_then : AreStillOut f (with_none out n)
-  out_then e y there met =
-      ⊎_elim (λ (same : e ≡ k.lent.number).
-      ap (λ (z : Endpoint). with_none out n (32 * z.queue)) (is_new e y there same) ∙ list_here out n ∙ sym (none_out (note_in d.notes) k.lent.number d.transfers k.lent.none) ∙ ap (out_now f) (sym same))
-      (λ (differs : e ≢ k.lent.number).
-      list_beside out n (32 * y.queue) (apart e y there met.kept differs) ∙ k.stand.out_are e y there (there_before e y there differs met) ∙ out_before e) (cases_eq e k.lent.number)
+  no_command : (b : ℕ) (words : List ℕ) → ◌≡◌ {A = Option Command} None (Some (unfinished.Publish b words)) → ⊥
+  no_command b words same = cc
 
   pub stands_by : QueuesThen (next_of p).driver (with_member member n) (streams_then streams x) (with_end ends n (end_then x)) now order (with_none out n)
   stands_by =
       subst (λ (g : DriverContent). QueuesThen g (with_member member n) (streams_then streams x) (with_end ends n (end_then x)) now order (with_none out n)) (sym (driver_is p member streams ends parts order out k))
-      (record { met = met_then; streams_are = streams_are_then; fed = fed_then; last = last_then; out_are = out_then })
+      (head_keeps_queues (open_finished p.driver) (with_member member n) (streams_then streams x) (with_end ends n (end_then x)) parts order (with_none out n) head_at k.queue new_head k.head (λ b words. no_command b words)
+      (finished.open_finishes p.driver member streams ends parts order out k.sound.owners k.turns stands_there k.stand))
 
 pub open_stands : OpenStands
 open_stands p member streams ends parts order out k = stands_by p member streams ends parts order out k

@@ -1,3 +1,4 @@
 pub mod Accepted
 pub mod Opens
 pub mod Lends
+pub mod Queues

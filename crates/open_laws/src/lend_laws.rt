@@ -2,6 +2,7 @@
 ghost use Rattle.std.specs.Prelude.{ℕ, Option};
 ghost use Rattle.ring_laws.specs.Bus.{Sender};
 ghost use Rattle.open_laws.specs.Lends.{LendDrives, LendStands, LendPipes, LendReports, OpenLentStays, HeadIsThere};
+ghost use Rattle.open_laws.specs.Queues.{OpenLendStands, OpenLendIsMade, OpenFinishes, HeadKeepsQueues, NewHeadsRest};
 
 use usb_base::Wire;
 
@@ -21,4 +22,14 @@ pub fn a_lend_leaves_the_streams<W: Wire>()
 /// Each event of the controller leaves the new queue head as it was lent.
 pub fn it_waits_beside_the_controller<W: Wire>()
     ensures { OpenLentStays W.begins W.transacts }
+{}
+
+/// Of the driver's queues all this is so of an endpoint of any kind, whatever is to lead to its queue head: what is told of them goes on with the lend, with the
+/// stores of links, and with the end of the open, from where on the new queue is one of them.
+pub fn an_open_of_any_queue()
+    ensures lend { OpenLendStands }
+    ensures made { OpenLendIsMade }
+    ensures finishes { OpenFinishes }
+    ensures head { HeadKeepsQueues }
+    ensures rest { NewHeadsRest }
 {}

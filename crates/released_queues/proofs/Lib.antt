@@ -1,5 +1,10 @@
 pub mod Pieces
+pub mod Links
+pub mod StayingQueues
+pub mod StayingParts
+pub mod Outs
+pub mod Fewer
+pub mod Staying
 pub mod Queues
 pub mod Going
-pub mod Outs
 pub mod Releasing

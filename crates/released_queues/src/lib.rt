@@ -1,4 +1,4 @@
-//! The blocks of a transfer of a bulk or control endpoint that was harvested are given back, while the controller walks the ring (EHCI 1.0, 4.10).
+//! The blocks of a transfer that was harvested are given back, while the controller walks the ring and the frames (EHCI 1.0, 4.6 and 4.10).
 //!
 //! The crate has no code of its own: each function is a law over the definitions of `fed_queues`, and its body is empty.
 #![tactic(auto)]

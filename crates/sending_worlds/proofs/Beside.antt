@@ -24,9 +24,10 @@ use Rattle.bus_world.specs.World.{World, controller_parts, controller_next}
 use Rattle.stream_worlds.specs.Streaming.{Streams, Standing, begins_by, transacts_by, wired}
 use Rattle.stream_worlds.proofs.StreamTurning.{world_has_row}
 use Rattle.world_bytes.proofs.Hearing.{hears_bytes}
-use Rattle.feeding_worlds.specs.Feeding.{there_of, IsFeeding}
-use Rattle.feeding_worlds.specs.Taking.{outs_of}
-use Rattle.feeding_worlds.specs.Tails.{tail_block, tail_of, IsUnderWay}
+use Rattle.whole_worlds.specs.Feeding.{there_of, IsFeeding}
+use Rattle.whole_worlds.specs.Taking.{outs_of}
+use Rattle.standing_fronts.specs.Tails.{tail_block, tail_of}
+use Rattle.whole_worlds.specs.Tails.{IsUnderWay}
 use Rattle.whole_worlds.specs.Whole.{IsWhole}
 use Rattle.whole_worlds.proofs.TakingHeads.{outs_stand}
 use Rattle.whole_worlds.proofs.Beside.{beside, whole_beside, effect, after_event}
@@ -43,7 +44,7 @@ use Rattle.put_laws.proofs.Same.{alike_owes}
 use Rattle.put_laws.proofs.BufferBytes.{buffers_are_rest, buffers_before_lend, buffers_around}
 use Rattle.put_laws.proofs.TakenBegins.{event_taken}
 use Rattle.put_laws.proofs.TakenStopped.{event_stopped}
-use Rattle.feeding_worlds.proofs.Controlled.{taker_stays}
+use Rattle.whole_worlds.proofs.Controlled.{taker_stays}
 use Rattle.sending_worlds.specs.Sending.{IsSending}
 use Rattle.sending_worlds.proofs.Each.{there_heads, out_number, has_of}
 use Rattle.sending_worlds.specs.WorldLaws.{ControllerKeepsSending}

@@ -42,8 +42,8 @@ use Rattle.whole_worlds.proofs.Commanding.{whole_commanded, OpensToOnce}
 use Rattle.sending_worlds.specs.Sending.{IsSending, HaveLeftTakers}
 use Rattle.sending_worlds.specs.WorldLaws.{CommandKeepsSending}
 use Rattle.usb_base.specs.declared.commands.Cmd.TheVariants as commands
-use Rattle.feeding_worlds.specs.LeftLaws.{OpensNamed}
-use Rattle.feeding_worlds.proofs.Commands.{unmet_by}
+use Rattle.whole_worlds.specs.LeftLaws.{OpensNamed}
+use Rattle.whole_worlds.proofs.FedCommands.{unmet_by}
 use Rattle.sending_worlds.proofs.SentLeaving.{cancel_keeps_sent}
 use Rattle.sending_worlds.proofs.Each.{takers_stay, sent_of, has_of}
 

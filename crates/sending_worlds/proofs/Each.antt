@@ -43,16 +43,16 @@ use Rattle.put_laws.specs.OwedTaken.{TakenBegin, EndedAreStopped}
 use Rattle.put_laws.proofs.Driver.{driver_owes}
 use Rattle.put_laws.proofs.TakenRows.{driver_taken}
 use Rattle.put_laws.proofs.TakenStopped.{alike_stopped}
-use Rattle.feeding_worlds.specs.Feeding.{there_of}
-use Rattle.feeding_worlds.specs.Taking.{outs_of}
-use Rattle.feeding_worlds.proofs.Told.{there_on, stream_out, data_way}
-use Rattle.feeding_worlds.proofs.Mending.{mend_finds}
-use Rattle.feeding_worlds.proofs.Heads.{head_is, head_on, own_toggle}
-use Rattle.feeding_worlds.proofs.TakingAlike.{out_on}
+use Rattle.whole_worlds.specs.Feeding.{there_of}
+use Rattle.whole_worlds.specs.Taking.{outs_of}
+use Rattle.whole_worlds.proofs.Told.{there_on, stream_out, data_way}
+use Rattle.whole_worlds.proofs.FedMending.{mend_finds}
+use Rattle.whole_worlds.proofs.Heads.{head_is, head_on, own_toggle}
+use Rattle.whole_worlds.proofs.TakingAlike.{out_on}
 use Rattle.whole_worlds.proofs.Returning.{stand}
 use Rattle.whole_worlds.proofs.Fewer.{are_same}
-use Rattle.feeding_worlds.proofs.Unmet.{UnmetStay}
-use Rattle.feeding_worlds.proofs.Rows.{row_unmet}
+use Rattle.whole_worlds.proofs.Unmet.{UnmetStay}
+use Rattle.whole_worlds.proofs.FedRows.{row_unmet}
 use Rattle.sending_worlds.specs.LeavingSent.{IsSent}
 use Rattle.sending_worlds.specs.Sending.{IsSending, HasSending, HaveLeftTakers}
 

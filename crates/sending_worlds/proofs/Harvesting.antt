@@ -40,11 +40,11 @@ use Rattle.put_laws.proofs.OwedReading.{told_once}
 use Rattle.put_laws.proofs.Reported.{harvest_owes, wait_owes}
 use Rattle.put_laws.proofs.Rests.{prefix_of}
 use Rattle.put_laws.proofs.TakenStopped.{harvest_stops}
-use Rattle.feeding_worlds.specs.Feeding.{IsFeeding}
-use Rattle.feeding_worlds.specs.HarvestFeeds.{HarvestLeaves}
-use Rattle.feeding_worlds.proofs.FeedingPassed.{passed_untold}
-use Rattle.feeding_worlds.proofs.Told.{stream_out}
-use Rattle.feeding_worlds.proofs.Heads.{queue_reported}
+use Rattle.whole_worlds.specs.Feeding.{IsFeeding}
+use Rattle.whole_worlds.specs.HarvestFeeds.{HarvestLeaves}
+use Rattle.whole_worlds.proofs.FeedingPassed.{passed_untold}
+use Rattle.whole_worlds.proofs.Told.{stream_out}
+use Rattle.whole_worlds.proofs.Heads.{queue_reported}
 use Rattle.whole_worlds.proofs.Leaving.{due, fronts, leaves, whole_harvested}
 use Rattle.sending_worlds.specs.Sending.{IsSending, HasSending}
 use Rattle.sending_worlds.specs.WorldLaws.{HarvestKeepsSending}

@@ -7,12 +7,12 @@ use Rattle.scripted_takers.specs.Takers.{taker_of}
 use Rattle.unlinked_streams.specs.Unlinks.{IsAtUnlink}
 use Rattle.bus_world.specs.World.{World, driver_parts, driver_next}
 use Rattle.stream_worlds.specs.Streaming.{Streams, Standing, wired}
-use Rattle.feeding_worlds.specs.Tails.{IsUnderWay}
-use Rattle.feeding_worlds.specs.Clearing.{narrowed_to}
-use Rattle.feeding_worlds.specs.Leaving.{unlinked}
-use Rattle.feeding_worlds.specs.Releases.{released}
-use Rattle.feeding_worlds.proofs.Unlinking.{unlink_finds}
-use Rattle.feeding_worlds.specs.Left.{taking_of}
+use Rattle.whole_worlds.specs.Tails.{IsUnderWay}
+use Rattle.whole_worlds.specs.Clearing.{narrowed_to}
+use Rattle.whole_worlds.specs.Leaving.{unlinked}
+use Rattle.whole_worlds.specs.Releases.{released}
+use Rattle.whole_worlds.proofs.Unlinking.{unlink_finds}
+use Rattle.whole_worlds.specs.Left.{taking_of}
 use Rattle.sending_worlds.specs.LeavingSent.{IsSent}
 use Rattle.sending_worlds.proofs.SentLeaving.{clear_keeps_sent}
 use Rattle.sending_worlds.proofs.SentUnlinking.{unlink_keeps_sent}

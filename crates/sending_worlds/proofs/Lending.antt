@@ -12,8 +12,8 @@ use Rattle.put_laws.proofs.Lending.{lend_row_sends}
 use Rattle.put_laws.specs.Owed.{Owes}
 use Rattle.put_laws.specs.OwedTaken.{EndedAreStopped}
 use Rattle.put_laws.proofs.TakenStopped.{spared_stopped}
-use Rattle.feeding_worlds.specs.Feeding.{there_of, IsFeeding}
-use Rattle.feeding_worlds.specs.LendFeeds.{LendsTransfer}
+use Rattle.whole_worlds.specs.Feeding.{there_of, IsFeeding}
+use Rattle.whole_worlds.specs.LendFeeds.{LendsTransfer}
 use Rattle.whole_worlds.proofs.Lending.{lends, after_lend, whole_lent}
 use Rattle.sending_worlds.specs.Sending.{IsSending}
 use Rattle.sending_worlds.specs.WorldLaws.{LendKeepsSending}

@@ -21,5 +21,4 @@ pub mod Mending
 pub mod Leaving
 pub mod Driving
 pub mod Reporting
-pub mod Walking
 pub mod Moments

@@ -21,7 +21,7 @@ use Rattle.put_laws.proofs.OpenLinking.{open_link_sends}
 use Rattle.put_laws.specs.Owed.{Owes}
 use Rattle.put_laws.specs.OwedTaken.{EndedAreStopped}
 use Rattle.put_laws.proofs.TakenStopped.{spared_stopped}
-use Rattle.feeding_worlds.proofs.FeedingLinks.{linked, found, at_open, more}
+use Rattle.whole_worlds.proofs.FeedingLinks.{linked, found, at_open, more}
 use Rattle.whole_worlds.proofs.Linking.{spares}
 use Rattle.whole_worlds.proofs.Linked.{linked_whole}
 use Rattle.sending_worlds.specs.Sending.{IsSending}

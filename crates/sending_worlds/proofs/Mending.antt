@@ -16,8 +16,8 @@ use Rattle.put_laws.specs.Sent.{SentStand}
 use Rattle.put_laws.specs.Owed.{Owes}
 use Rattle.put_laws.specs.OwedTaken.{EndedAreStopped}
 use Rattle.put_laws.proofs.Mends.{mend_sends, mend_stops}
-use Rattle.feeding_worlds.specs.Mends.{mended}
-use Rattle.feeding_worlds.proofs.Mending.{mend_finds}
+use Rattle.whole_worlds.specs.Mends.{mended}
+use Rattle.whole_worlds.proofs.FedMending.{mend_finds}
 use Rattle.whole_worlds.proofs.Mending.{whole_mended}
 use Rattle.sending_worlds.specs.Sending.{IsSending}
 use Rattle.sending_worlds.specs.WorldLaws.{MendKeepsSending}

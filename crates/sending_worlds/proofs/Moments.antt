@@ -21,19 +21,16 @@ use Rattle.put_laws.proofs.Along.{holds_with_puts}
 use Rattle.put_laws.proofs.Ends.{moment_streams}
 use Rattle.put_laws.proofs.Rising.{spelled_rise}
 use Rattle.sending_worlds.proofs.Sending.{report_sent, report_right}
-use Rattle.feeding_worlds.specs.Feeding.{streams_of}
+use Rattle.whole_worlds.specs.Feeding.{streams_of}
 use Rattle.whole_worlds.proofs.Moments.{CanBe, script_can, spelled_asynchronous, opens_still}
 use Rattle.whole_worlds.proofs.Running.{texts_right, texts_taken}
-use Rattle.whole_worlds.proofs.PlacedRunning.{texts_run_in_place}
-use Rattle.whole_worlds.proofs.NeverRefused.{never_refused}
 use Rattle.sending_worlds.specs.Sending.{HasSending}
 use Rattle.sending_worlds.specs.Moments.{ScriptsStaySending, TextsAreSent, TextsEndRight}
-use Rattle.sending_worlds.specs.Kept.{TextsKeepStreams, TextsKeepPlaces}
+use Rattle.sending_worlds.specs.Kept.{TextsKeepStreams}
 use Rattle.sending_worlds.proofs.Opening.{new_world_sends}
 use Rattle.sending_worlds.proofs.Beside.{controller_sending}
 use Rattle.sending_worlds.proofs.Commanding.{command_sending}
 use Rattle.sending_worlds.proofs.Driving.{driver_sending}
-use Rattle.sending_worlds.proofs.Walking.{texts_walk}
 use Rattle.sending_worlds.proofs.Reporting.{takes_puts, have_takers}
 use Rattle.whole_worlds.specs.Whole.{HasWhole}
 use Rattle.whole_worlds.proofs.Fewer.{are_fewer}
@@ -136,6 +133,3 @@ texts_keep_streams text s spelled only = record {
   sent = texts_sent text s spelled only;
   at_the_end = texts_end_right text s spelled only;
 }
-
-pub texts_keep_places : TextsKeepPlaces
-texts_keep_places text s spelled only = record { placed = texts_run_in_place text s spelled only; walking = texts_walk text s spelled only; unrefused = never_refused text s spelled only }

@@ -17,7 +17,7 @@ use Rattle.put_laws.proofs.Events.{new_driver_sends}
 use Rattle.put_laws.specs.Owed.{Owes}
 use Rattle.put_laws.specs.OwedTaken.{TakenBegin, EndedAreStopped}
 use Rattle.put_laws.proofs.Same.{new_owes}
-use Rattle.feeding_worlds.specs.Feeding.{streams_of}
+use Rattle.whole_worlds.specs.Feeding.{streams_of}
 use Rattle.whole_worlds.specs.Whole.{HasWhole}
 use Rattle.whole_worlds.proofs.Opening.{new_world_is_whole}
 use Rattle.sending_worlds.specs.WorldLaws.{NewWorldSends}

@@ -32,7 +32,7 @@ use Rattle.right_reports.proofs.Right.{all_mapped}
 use Rattle.taken_reports.specs.Seats.{HasSeat, OpensItsSeat, OpensSeats, IsSeatedBus}
 use Rattle.taken_reports.specs.Taken.{IsToldTaken, IsTakenStream, AreTakenStreams}
 use Rattle.taken_reports.proofs.Closing.{closing_tells}
-use Rattle.feeding_worlds.proofs.Told.{data_way, stream_out, out_way, control_stream}
+use Rattle.whole_worlds.proofs.Told.{data_way, stream_out, out_way, control_stream}
 use Rattle.put_laws.specs.TakenPuts.{puts_of, IsOpen}
 use Rattle.put_laws.specs.TakenLaws.{StreamsArePuts}
 use Rattle.sending_worlds.specs.Sent.{IsTakenSent, AreSentStreams}

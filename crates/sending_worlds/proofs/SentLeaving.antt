@@ -36,7 +36,7 @@ use Rattle.put_laws.proofs.Rests.{prefix_to}
 use Rattle.left_puts.proofs.Leaving.{leave_holds, leave_owes, leave_sends, leave_stops, leave_taken}
 use Rattle.bus_world.specs.World.{World, driver_parts, with_parts, refused_line, commanded_by}
 use Rattle.stream_worlds.specs.Streaming.{Standing, wired}
-use Rattle.feeding_worlds.specs.FeedingLaws.{is_still}
+use Rattle.whole_worlds.specs.FeedingLaws.{is_still}
 use Rattle.sending_worlds.specs.LeavingSent.{IsSent, CancelKeepsSent, StillKeepsSent, ClearKeepsSent}
 
 -- ---- a step of a leave that stores nothing

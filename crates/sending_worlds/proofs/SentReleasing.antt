@@ -17,8 +17,8 @@ use Rattle.put_laws.specs.HeldPuts.{HoldsPuts}
 use Rattle.left_puts.proofs.Released.{release_holds, release_owes, release_sends, release_stops, release_taken}
 use Rattle.bus_world.specs.World.{World, driver_parts, with_parts}
 use Rattle.stream_worlds.specs.Streaming.{Streams, Standing, wired}
-use Rattle.feeding_worlds.specs.Feeding.{IsFeeding}
-use Rattle.feeding_worlds.specs.Releases.{released}
+use Rattle.whole_worlds.specs.Feeding.{IsFeeding}
+use Rattle.whole_worlds.specs.Releases.{released}
 use Rattle.sending_worlds.specs.LeavingSent.{IsSent, EndpointReleaseKeepsSent}
 
 module _ (fixed : Fixed) (member : ℕ → Bool) (x : Streams) (s : Standing) (puts : ℕ → List ℕ) (w : World) (e : ℕ) (row : driver_row (driver_parts w) ≡ rows.ReleaseEndpoint e) (z : Endpoint) (leaves : IsToLeave w.driver e z) (lies : AreInRuns (views_of w.driver) s.parts) (f : IsFeeding fixed member x s w) (k : IsSent fixed puts s w) where

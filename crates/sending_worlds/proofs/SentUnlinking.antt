@@ -19,7 +19,7 @@ use Rattle.left_puts.proofs.Leaving.{leave_owes, leave_taken}
 use Rattle.left_puts.proofs.Unlinked.{unlink_sends, unlink_stops}
 use Rattle.bus_world.specs.World.{World, driver_parts}
 use Rattle.stream_worlds.specs.Streaming.{Streams, Standing, wired}
-use Rattle.feeding_worlds.specs.Feeding.{IsFeeding}
+use Rattle.whole_worlds.specs.Feeding.{IsFeeding}
 use Rattle.sending_worlds.specs.LeavingSent.{IsSent, UnlinkKeepsSent}
 
 store_is_no_transfer : (b at v t : ℕ) → ◌≡◌ {A = DriverRow} (rows.Store b at v) (rows.ReleaseTransfer t) → ⊥

@@ -5,8 +5,8 @@ use Rattle.usb_bus.specs.Bus.{Fixed}
 use Rattle.driver_rows.specs.Rows.{driver_row}
 use Rattle.bus_world.specs.World.{World, driver_parts, driver_next}
 use Rattle.stream_worlds.specs.Streaming.{Streams, Standing}
-use Rattle.feeding_worlds.specs.FeedingLaws.{is_still}
-use Rattle.feeding_worlds.proofs.Rows.{row_unmet}
+use Rattle.whole_worlds.specs.FeedingLaws.{is_still}
+use Rattle.whole_worlds.proofs.FedRows.{row_unmet}
 use Rattle.sending_worlds.specs.LeavingSent.{IsSent}
 use Rattle.sending_worlds.proofs.SentLeaving.{still_keeps_sent}
 use Rattle.whole_worlds.proofs.Still.{whole_still}

@@ -16,9 +16,9 @@ use Rattle.put_laws.proofs.Storing.{store_sends}
 use Rattle.put_laws.specs.Owed.{Owes}
 use Rattle.put_laws.specs.OwedTaken.{EndedAreStopped}
 use Rattle.put_laws.proofs.TakenStopped.{spared_stopped}
-use Rattle.feeding_worlds.specs.Feeding.{there_of, IsFeeding}
-use Rattle.feeding_worlds.proofs.FeedingStores.{at, after_store}
-use Rattle.feeding_worlds.proofs.Storing.{met_now}
+use Rattle.whole_worlds.specs.Feeding.{there_of, IsFeeding}
+use Rattle.whole_worlds.proofs.FeedingStores.{at, after_store}
+use Rattle.whole_worlds.proofs.Storing.{met_now}
 use Rattle.whole_worlds.proofs.StoredTails.{tail_here}
 use Rattle.whole_worlds.proofs.Worlds.{whole_after}
 use Rattle.sending_worlds.specs.Sending.{IsSending}

@@ -23,10 +23,10 @@ use Rattle.put_laws.specs.Owed.{Owes}
 use Rattle.put_laws.specs.OwedTaken.{TakenBegin, EndedAreStopped}
 use Rattle.bus_world.specs.World.{World, driver_parts, driver_next, commanded}
 use Rattle.stream_worlds.specs.Streaming.{Streams, Standing, wired}
-use Rattle.feeding_worlds.specs.Feeding.{IsFeeding}
-use Rattle.feeding_worlds.specs.FeedingLaws.{is_still}
-use Rattle.feeding_worlds.specs.Leaving.{unlinked}
-use Rattle.feeding_worlds.specs.Releases.{released}
+use Rattle.whole_worlds.specs.Feeding.{IsFeeding}
+use Rattle.whole_worlds.specs.FeedingLaws.{is_still}
+use Rattle.whole_worlds.specs.Leaving.{unlinked}
+use Rattle.whole_worlds.specs.Releases.{released}
 
 pub record IsSent (fixed : Fixed) (puts : ℕ → List ℕ) (s : Standing) (w : World) : Type 0 where
   pub sent : SentStand w.driver s.order s.out s.hand s.parts

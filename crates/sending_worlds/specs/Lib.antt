@@ -6,5 +6,4 @@ pub mod ReportSamples
 pub mod Sending
 pub mod WorldLaws
 pub mod Moments
-pub mod Walking
 pub mod Kept

@@ -14,7 +14,7 @@ use Rattle.chained_transfers.specs.Asynchronous.{AsynchronousOnly}
 use Rattle.stream_worlds.specs.Takers.{takes_of}
 use Rattle.put_laws.specs.TakenPuts.{puts_at}
 use Rattle.sending_worlds.specs.Sent.{AreSentStreams}
-use Rattle.feeding_worlds.specs.Feeding.{streams_of}
+use Rattle.whole_worlds.specs.Feeding.{streams_of}
 use Rattle.whole_worlds.specs.Moments.{IsAsynchronousScript}
 use Rattle.sending_worlds.specs.Sending.{HasSending}
 

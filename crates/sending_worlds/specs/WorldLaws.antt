@@ -27,9 +27,9 @@ use Rattle.walk_members.specs.Reached.{OpensNumbered}
 use Rattle.stream_worlds.specs.Takers.{takes_of}
 use Rattle.put_laws.specs.HeldPuts.{puts_then}
 use Rattle.put_laws.specs.TakenPuts.{no_puts}
-use Rattle.feeding_worlds.specs.Feeding.{streams_of}
-use Rattle.feeding_worlds.specs.FeedingLaws.{is_still}
-use Rattle.feeding_worlds.specs.LeftLaws.{OpensNamed}
+use Rattle.whole_worlds.specs.Feeding.{streams_of}
+use Rattle.whole_worlds.specs.FeedingLaws.{is_still}
+use Rattle.whole_worlds.specs.LeftLaws.{OpensNamed}
 use Rattle.whole_worlds.specs.Laws.{OpensTo}
 use Rattle.sending_worlds.specs.Sending.{IsSending, HasSending}
 

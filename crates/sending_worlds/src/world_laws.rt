@@ -1,7 +1,7 @@
 //! The laws.
 ghost use Rattle.sending_worlds.specs.WorldLaws.{NewWorldSends, ControllerKeepsSending, CommandKeepsSending, DriverKeepsSending};
 ghost use Rattle.sending_worlds.specs.Moments.{ScriptsStaySending};
-ghost use Rattle.sending_worlds.specs.Kept.{TextsKeepStreams, TextsKeepPlaces};
+ghost use Rattle.sending_worlds.specs.Kept.{TextsKeepStreams};
 
 /// A new world has no endpoint and no put.
 pub fn a_new_world_sends()
@@ -29,9 +29,7 @@ pub fn each_moment_is_sending()
     ensures { ScriptsStaySending }
 {}
 
-/// So its streams are right at each moment: what devices took begins what was put to them, and once no line is left to do these are all streams. And everything is in
-/// its place.
+/// So its streams are right at each moment: what devices took begins what was put to them, and once no line is left to do these are all streams.
 pub fn each_text_keeps_its_streams()
-    ensures streams { TextsKeepStreams }
-    ensures places { TextsKeepPlaces }
+    ensures { TextsKeepStreams }
 {}

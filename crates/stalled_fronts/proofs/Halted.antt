@@ -14,11 +14,12 @@ use Rattle.run_owners.specs.Kept.{HasOwners}
 use Rattle.run_owners.specs.Owners.{NoteRuns, note_in}
 use Rattle.endpoint_lives.proofs.Lives.{none_told}
 use Rattle.lent_structures.specs.Structures.{Element, Structures, StructureSets, Tells}
-use Rattle.lent_structures.specs.Sound.{IsMember}
 use Rattle.lent_structures.proofs.Altering.{found_element}
 use Rattle.ring_laws.specs.Told.{Endpoint as Told}
 use Rattle.ring_laws.specs.Order.{AreAfter, IsSorted, IsAmong}
 use Rattle.ring_laws.specs.Halted.{IsHalted, HaltStops}
+use Rattle.frame_walk.specs.Met.{IsQueuePart}
+use Rattle.frame_walk.proofs.Queues.{linked_part}
 use Rattle.chained_transfers.specs.AsynchronousTurns.{AsynchronousTakesTurns}
 use Rattle.chained_transfers.specs.Chains.{piece_at}
 use Rattle.chained_transfers.specs.Turns.{IsAtPlace, turn_of, turn_in, IsNext, AreReportedTo}
@@ -38,7 +39,7 @@ use Rattle.released_queues.specs.Fronts.{piece_address, FrontsStand}
 use Rattle.released_queues.proofs.Pieces.{piece_on}
 use Rattle.released_queues.proofs.Queues.{none_yet}
 use Rattle.released_queues.proofs.Outs.{out_of_one}
-use Rattle.stalled_fronts.specs.Stalled.{StallHaltsQueue}
+use Rattle.stalled_fronts.specs.Stalled.{StallStopsQueue, StallHaltsQueue}
 
 -- ---- what stands behind one in the order
 
@@ -60,7 +61,7 @@ behind_among h a [] behind among = inr among
 behind_among h a (x ∷ before) behind among = inr (behind_among h a before behind among)
 
 module _ (p : Parts) (e t : ℕ) (found : Found) (due : IsHarvestDue p e t found) (owners : HasOwners p.driver) (turns : AsynchronousTakesTurns p.driver) (member streams : ℕ → Bool) (ends : ℕ → Told) (parts : StructureSets) (order : ℕ → ℕ → ℕ) (out : ℕ → List ℕ) (old : QueuesStand p.driver member streams ends parts order out)
-    (stall : IsStall due.endpoint.desc.kind found) (tells : Tells p.memory parts) (met : IsMet p.driver e due.endpoint) (on : IsMember member (32 * due.endpoint.queue) (parts (32 * due.endpoint.queue)))
+    (stall : IsStall due.endpoint.desc.kind found) (tells : Tells p.memory parts) (met : IsMet p.driver e due.endpoint) (on : IsQueuePart (32 * due.endpoint.queue) (parts (32 * due.endpoint.queue)))
     (stops : HaltStops (order (32 * due.endpoint.queue)) (out (32 * due.endpoint.queue)) (32 * due.endpoint.queue) (parts (32 * due.endpoint.queue))) (sorted : IsSorted (order (32 * due.endpoint.queue)) (out (32 * due.endpoint.queue))) (fronts : FrontsStand p.driver parts order out) where
   abbrev d : DriverContent
   d = p.driver
@@ -140,6 +141,11 @@ module _ (p : Parts) (e t : ℕ) (found : Found) (due : IsHarvestDue p e t found
         (among_either a s.before s.later (subst (IsAmong a) s.now is));
   }
 
+pub stall_stops : StallStopsQueue
+stall_stops p e t found member streams ends parts order out due stall owners turns tells old met on stops sorted fronts =
+    halts p e t found due owners turns member streams ends parts order out old stall tells met on stops sorted fronts
+
 pub stall_halts : StallHaltsQueue
 stall_halts p e t found member streams ends parts order out due stall owners turns tells old met on stops sorted fronts =
-    halts p e t found due owners turns member streams ends parts order out old stall tells met on stops sorted fronts
+    let n = 32 * due.endpoint.queue in
+    stall_stops p e t found member streams ends parts order out due stall owners turns tells old met (linked_part member n (parts n) on).part_is stops sorted fronts

@@ -28,8 +28,10 @@ use Rattle.endpoint_lives.proofs.Lives.{met_alike}
 use Rattle.lent_runs.specs.Lent.{AreLent, IsLent as IsLentSlot}
 use Rattle.lent_runs.proofs.Laws.{idle_lent}
 use Rattle.lent_structures.specs.Structures.{QueueHead, Element, Structures, StructureSets}
-use Rattle.lent_structures.specs.Sound.{IsElement, LeadsOn, IsSoundQueue, IsMember}
+use Rattle.lent_structures.specs.Sound.{IsElement, LeadsOn, IsSoundQueue}
 use Rattle.lent_structures.proofs.Altering.{found_element, found_queue}
+use Rattle.frame_walk.specs.Met.{IsQueuePart}
+use Rattle.frame_walk.proofs.Queues.{linked_part}
 use Rattle.driver_laws.specs.Inventory.{IsLent}
 use Rattle.ring_laws.specs.Told.{Endpoint as Told}
 use Rattle.ring_laws.specs.Order.{IsAmong}
@@ -52,7 +54,7 @@ use Rattle.released_queues.proofs.Pieces.{piece_on, piece_next}
 use Rattle.released_queues.proofs.Queues.{none_yet}
 use Rattle.released_queues.proofs.Outs.{out_is}
 use Rattle.standing_fronts.proofs.Lists.{in_out}
-use Rattle.stalled_fronts.specs.Stalled.{StallKeepsFronts}
+use Rattle.stalled_fronts.specs.Stalled.{StallMovesFronts, StallKeepsFronts}
 
 lent_slot : (s : Slot) → IsLentSlot s → IsLent s
 lent_slot Empty lent = lent
@@ -94,7 +96,7 @@ fewer_out a h before behind later was now is is_now fewer among =
 
 module _ (p : Parts) (e t : ℕ) (found : Found) (due : IsHarvestDue p e t found) (owners : HasOwners p.driver) (turns : AsynchronousTakesTurns p.driver) (member streams : ℕ → Bool) (ends : ℕ → Told) (parts : StructureSets) (order : ℕ → ℕ → ℕ) (out : ℕ → List ℕ) (old : QueuesStand p.driver member streams ends parts order out)
     (later : ℕ → List ℕ) (stall : IsStall due.endpoint.desc.kind found) (lent : AreLent p.driver) (still : AreStillOut (after_harvest p.driver p.memory e t found (Some due.endpoint) (Some due.transfer)) later)
-    (on : IsMember member (32 * due.endpoint.queue) (parts (32 * due.endpoint.queue))) (halts : HaltsQueue (later (32 * due.endpoint.queue)) parts (32 * due.endpoint.queue)) (fronts : FrontsStand p.driver parts order out) where
+    (on : IsQueuePart (32 * due.endpoint.queue) (parts (32 * due.endpoint.queue))) (halts : HaltsQueue (later (32 * due.endpoint.queue)) parts (32 * due.endpoint.queue)) (fronts : FrontsStand p.driver parts order out) where
   abbrev d : DriverContent
   d = p.driver
 
@@ -331,7 +333,12 @@ after_is : (p : Parts) (e t : ℕ) (found : Found) (due : IsHarvestDue p e t fou
 after_is p e t found due =
     ap (λ (o : Option Endpoint). after_harvest p.driver p.memory e t found o (slice_get p.driver.transfers t)) due.here ∙ ap (after_harvest p.driver p.memory e t found (Some due.endpoint)) due.there
 
-pub stall_keeps : StallKeepsFronts
-stall_keeps p e t found member streams ends parts order out later due stall owners lent turns old still on halts fronts =
+pub stall_moves : StallMovesFronts
+stall_moves p e t found member streams ends parts order out later due stall owners lent turns old still on halts fronts =
     subst (λ (f : DriverContent). FrontsStand f parts order later) (sym (after_is p e t found due))
     (fronts_then p e t found due owners turns member streams ends parts order out old later stall lent (subst (λ (f : DriverContent). AreStillOut f later) (after_is p e t found due) still) on halts fronts)
+
+pub stall_keeps : StallKeepsFronts
+stall_keeps p e t found member streams ends parts order out later due stall owners lent turns old still on halts fronts =
+    let n = 32 * due.endpoint.queue in
+    stall_moves p e t found member streams ends parts order out later due stall owners lent turns old still (linked_part member n (parts n) on).part_is halts fronts

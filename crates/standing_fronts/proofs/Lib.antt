@@ -4,3 +4,4 @@ pub mod Harvested
 pub mod Rows
 pub mod Alike
 pub mod Reaching
+pub mod Returning

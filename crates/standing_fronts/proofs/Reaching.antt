@@ -1,37 +1,39 @@
 -- Fronts with their tails.
-use Rattle.std.proofs.Common.{◌≡◌, ℕ, ◌*◌, true, false, List, Some, ap, sym, subst, ◌∙◌, arith}
+use Rattle.std.proofs.Common.{◌≡◌, ℕ, ◌*◌, true, false, List, Some, ap, sym, subst, ◌∙◌}
 use Rattle.std.proofs.lemmas.Bool.{true≢false}
 use Rattle.usb_base.specs.declared.packets.Ask.{Ask}
 use Rattle.usb_base.specs.declared.packets.Reply.{Reply}
 use Rattle.qh_qtd.specs.declared.qtd.Qtd.{Qtd}
+use Rattle.driver_rows.specs.declared.content.Endpoint.{Endpoint}
+use Rattle.driver_rows.specs.DriverContent.{DriverContent}
 use Rattle.lent_structures.specs.Structures.{Element, StructureSets}
+use Rattle.lent_structures.specs.Alters.{Alters}
 use Rattle.lent_structures.proofs.Names.{put_same}
 use Rattle.lent_structures.proofs.Altering.{found_element}
 use Rattle.ring_laws.proofs.Altered.{effect_alters}
-use Rattle.ring_laws.specs.Front.{LinksWithin, HasTail}
+use Rattle.ring_laws.specs.Front.{LinksWithin, HasTail, FrontGoesOn}
 use Rattle.ring_laws.proofs.FrontGoing.{front_moves}
 use Rattle.ring_laws.proofs.Tails.{tail_stays, tail_moves}
-use Rattle.released_queues.specs.Fronts.{piece_address}
 use Rattle.controlled_streams.specs.Storing.{stored_parts}
 use Rattle.standing_fronts.proofs.Alike.{head_before, element_before, stored_at, stored_front, published_at, published_front}
-use Rattle.standing_fronts.specs.Reaching.{ReachesWalk, ReachesIdleStore, ReachesLastStore}
+use Rattle.standing_fronts.proofs.Walking.{stands_on}
+use Rattle.standing_fronts.specs.Reaching.{Reaches, ReachesWalk, ReachesIdleStore, ReachesLastStore}
+
+-- where the front has gone on, it stands before the tail yet
+pub reaches_on : (d : DriverContent) (parts now : StructureSets) (order : ℕ → ℕ) (out : List ℕ) (i : ℕ) (x : Endpoint) (c : ℕ) → (k : Reaches d (parts (32 * x.queue)) order out i x c)
+    → Alters (parts (32 * x.queue)) (now (32 * x.queue)) → FrontGoesOn order k.stands.front out (32 * x.queue) parts now → Reaches d (now (32 * x.queue)) order out i x c
+unfolding stands_on
+reaches_on d parts now order out i x c k alters g = record {
+  stands = stands_on d parts now order out i x k.stands g;
+  within = tail_stays order c (parts (32 * x.queue)) (now (32 * x.queue)) alters k.within;
+  tail = g.tail c k.within k.tail;
+}
 
 pub reaches_walk : {W : Type 0} (transacts : W → Ask → List ℕ → Reply → W → Type 0) → ReachesWalk transacts
 reaches_walk transacts member parts hand reply wire after now later kind d order out i x c members in_hand effect rise k =
     let n = 32 * x.queue in
-    let f = k.stands in
-    let g = front_moves transacts member parts hand reply wire after now later kind order f.front out n members in_hand effect rise f.has in
-    let grows = g.goes_on in
-    record {
-      stands = record {
-        front = g.front_now;
-        has = g.has;
-        ended = λ h t y at there held same. let most = f.ended h t y at there held same in omega (arith, most, grows);
-        passed = λ h t j y at there held same from below. g.passed (piece_address d y j) (f.passed h t j y at there held same from below);
-      };
-      within = tail_stays order c (parts n) (now n) (effect_alters transacts member parts hand reply wire after now later kind in_hand effect n) k.within;
-      tail = g.tail c k.within k.tail;
-    }
+    reaches_on d parts now order out i x c k (effect_alters transacts member parts hand reply wire after now later kind in_hand effect n)
+    (front_moves transacts member parts hand reply wire after now later kind order k.stands.front out n members in_hand effect rise k.stands.has)
 
 -- what is active after a store of an inactive qTD was there before
 within_stored : (parts : StructureSets) (order : ℕ → ℕ) (m e c : ℕ) (old new : Qtd) → parts m e ≡ Some (Element old) → new.token.active ≡ false → LinksWithin order c (parts m) → LinksWithin order c (stored_parts parts m e new m)

@@ -1,6 +1,6 @@
 //! The laws.
 ghost use Rattle.standing_fronts.specs.Along.{WalkKeepsFronts, HarvestKeepsFronts, AlikeKeepFronts, IdleStoreKeepsFronts, LastStoreKeepsFronts};
-ghost use Rattle.standing_fronts.specs.Reaching.{ReachesWalk, ReachesIdleStore, ReachesLastStore};
+ghost use Rattle.standing_fronts.specs.Reaching.{ReachesWalk, ReachesIdleStore, ReachesLastStore, ReachesRelease};
 
 use usb_base::Wire;
 
@@ -27,4 +27,9 @@ pub fn fronts_stay_before_tails<W: Wire>()
     ensures walk { ReachesWalk W.transacts }
     ensures idle { ReachesIdleStore }
     ensures last { ReachesLastStore }
+{}
+
+/// So where the blocks of a harvested transfer are given back, in the ring or in frames.
+pub fn a_release_leaves_tails()
+    ensures { ReachesRelease }
 {}

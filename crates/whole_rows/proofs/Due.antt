@@ -8,8 +8,8 @@ use Rattle.lent_structures.specs.Structures.{StructureSets}
 use Rattle.fed_lends.specs.ToLend.{IsToBeLent}
 use Rattle.open_laws.specs.Lends.{IsOpenReady}
 use Rattle.open_laws.specs.Opens.{IsOpenLent}
-use Rattle.feeding_worlds.specs.Tails.{IsUnderWay}
-use Rattle.feeding_worlds.proofs.Unlinking.{unlink_finds}
+use Rattle.whole_worlds.specs.Tails.{IsUnderWay}
+use Rattle.whole_worlds.proofs.Unlinking.{unlink_finds}
 use Rattle.small_receiver.specs.Samples.{words, world_at, put_words, put_at, cancel_at}
 use Rattle.small_receiver.proofs.Moments.{an_open, a_get, put_open, a_put, leaves}
 use Rattle.whole_rows.specs.Due.{IsOpenLentIn, IsAtUnlinkIn}

@@ -15,9 +15,7 @@ use Rattle.declared_controls.proofs.Sampled.{sample_names}
 use Rattle.script_numbers.specs.Numbers.{NumbersOpens}
 use Rattle.chained_transfers.specs.Asynchronous.{AsynchronousOnly}
 use Rattle.whole_worlds.specs.Moments.{IsAsynchronousScript, IsWholeThroughout, InStreamsAreRightThroughout}
-use Rattle.whole_worlds.specs.Placed.{RunsInPlaceThroughout}
 use Rattle.whole_worlds.proofs.Running.{scripts_stay_whole, streams_are_right}
-use Rattle.whole_worlds.proofs.PlacedRunning.{scripts_run_in_place}
 
 its_fits : IsFit beside_bulk
 its_fits = record {
@@ -100,6 +98,3 @@ request_stays_whole = scripts_stay_whole beside_bulk a_request_is_asynchronous
 
 pub request_streams_are_right : InStreamsAreRightThroughout beside_bulk
 request_streams_are_right = streams_are_right beside_bulk a_request_is_asynchronous request_owns
-
-pub request_runs_in_place : RunsInPlaceThroughout beside_bulk
-request_runs_in_place = scripts_run_in_place beside_bulk a_request_is_asynchronous

@@ -2,7 +2,6 @@
 ghost use Rattle.opening_senders.specs.Own.{HasOwnDevices};
 ghost use Rattle.declared_controls.specs.Samples.{beside_bulk};
 ghost use Rattle.whole_worlds.specs.Moments.{IsAsynchronousScript, IsWholeThroughout, InStreamsAreRightThroughout};
-ghost use Rattle.whole_worlds.specs.Placed.{RunsInPlaceThroughout};
 
 /// A script that opens a control endpoint, a bulk IN endpoint and a hub's own endpoint, and makes a read and a write, meets the premises of the laws of runs.
 pub fn a_script_with_requests()
@@ -10,9 +9,8 @@ pub fn a_script_with_requests()
     ensures own { HasOwnDevices beside_bulk }
 {}
 
-/// So its world is whole at each moment, everything is in place, and the streams of its report are right.
+/// So its world is whole at each moment, and the streams of its report are right.
 pub fn the_world_of_requests()
     ensures whole { IsWholeThroughout beside_bulk }
-    ensures placed { RunsInPlaceThroughout beside_bulk }
     ensures right { InStreamsAreRightThroughout beside_bulk }
 {}

@@ -7,7 +7,7 @@ ghost use Rattle.driver_rows.specs.declared.rows.DriverRow.TheVariants as rows;
 ghost use Rattle.driver_rows.specs.declared.rows.Found.TheVariants as results;
 ghost use Rattle.fed_lends.specs.ToLend.{IsToBeLent};
 ghost use Rattle.open_laws.specs.Lends.{IsOpenReady};
-ghost use Rattle.feeding_worlds.specs.FeedingLaws.{is_still};
+ghost use Rattle.whole_worlds.specs.FeedingLaws.{is_still};
 ghost use Rattle.whole_worlds.specs.Moments.{IsAsynchronousScript, IsWholeThroughout, InStreamsAreRightThroughout};
 ghost use Rattle.small_receiver.specs.Samples.{receiver, words, world_at, row_at, one_put, put_words, put_at, put_row};
 ghost use Rattle.whole_rows.specs.Due.{IsOpenLentIn};

@@ -23,13 +23,14 @@ use Rattle.commanded_queues.proofs.Tails.{asked_reaches}
 use Rattle.commanded_queues.proofs.Extending.{asked_extents}
 use Rattle.bus_world.specs.World.{World, commanded_by}
 use Rattle.stream_worlds.specs.Streaming.{Streams, Standing}
-use Rattle.feeding_worlds.specs.Feeding.{AreControlsApart, IsFeeding}
-use Rattle.feeding_worlds.specs.Tails.{tail_block, tail_of, IsUnderWay}
-use Rattle.feeding_worlds.specs.Left.{IsLeft}
+use Rattle.whole_worlds.specs.Feeding.{AreControlsApart, IsFeeding}
+use Rattle.standing_fronts.specs.Tails.{tail_block, tail_of}
+use Rattle.whole_worlds.specs.Tails.{IsUnderWay}
+use Rattle.whole_worlds.specs.Left.{IsLeft}
 use Rattle.whole_worlds.specs.Whole.{IsWhole}
-use Rattle.feeding_worlds.specs.Taking.{HaveSides}
-use Rattle.feeding_worlds.proofs.There.{there_now}
-use Rattle.feeding_worlds.proofs.Tail.{newest_there, idle_ends}
+use Rattle.whole_worlds.specs.Taking.{HaveSides}
+use Rattle.whole_worlds.proofs.There.{there_now}
+use Rattle.whole_worlds.proofs.Tail.{newest_there, idle_ends}
 
 module _ (fixed : Fixed) (takes : ℕ → ℕ → Bool) (member : ℕ → Bool) (x : Streams) (s : Standing) (w : World) (o : Offered) (k : IsWhole fixed takes member x s w) (why : Transfers w.driver w.memory o) where
   abbrev d : DriverContent

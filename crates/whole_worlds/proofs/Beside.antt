@@ -14,14 +14,14 @@ use Rattle.stream_worlds.specs.Streaming.{begins_by, transacts_by, wired, Stream
 use Rattle.stream_worlds.proofs.StreamTurning.{world_has_row}
 use Rattle.world_bytes.proofs.Turning.{controller_bytes}
 use Rattle.world_bytes.proofs.Hearing.{hears_bytes}
-use Rattle.feeding_worlds.specs.Feeding.{IsFeeding, GoesOnBeside, bytes_of_event, acc_after}
-use Rattle.feeding_worlds.proofs.FeedingBeside.{controller_feeds}
+use Rattle.whole_worlds.specs.Feeding.{IsFeeding, GoesOnBeside, bytes_of_event, acc_after}
+use Rattle.whole_worlds.proofs.FeedingBeside.{controller_feeds}
 use Rattle.whole_worlds.specs.Whole.{IsWhole}
 use Rattle.whole_worlds.specs.Laws.{ControllerKeepsWhole}
-use Rattle.feeding_worlds.proofs.Heads.{rising}
+use Rattle.whole_worlds.proofs.Heads.{rising}
 use Rattle.whole_worlds.proofs.Keeping.{under_way_stays, runs_stay, tails_stay}
-use Rattle.feeding_worlds.proofs.TakingBeside.{controller_taking}
-use Rattle.feeding_worlds.proofs.Controlled.{controller_keeps_left}
+use Rattle.whole_worlds.proofs.TakingBeside.{controller_taking}
+use Rattle.whole_worlds.proofs.Controlled.{controller_keeps_left}
 use Rattle.whole_worlds.proofs.KeptLeft.{whole_of}
 
 module _ (fixed : Fixed) (takes : ℕ → ℕ → Bool) (member : ℕ → Bool) (x : Streams) (s : Standing) (w : World) (k : IsWhole fixed takes member x s w) where

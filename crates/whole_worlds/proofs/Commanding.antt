@@ -10,14 +10,14 @@ use Rattle.chained_transfers.specs.Asynchronous.{OpensAsynchronous, AcceptsAsync
 use Rattle.chained_transfers.proofs.Accepting.{command_accepts}
 use Rattle.bus_world.specs.World.{World, name_in, commanded_by, commanded}
 use Rattle.stream_worlds.specs.Streaming.{Streams, Standing}
-use Rattle.feeding_worlds.specs.Feeding.{AreControlsApart, IsFeeding}
-use Rattle.feeding_worlds.specs.LeftLaws.{OpensNamed}
-use Rattle.feeding_worlds.proofs.Names.{command_apart}
-use Rattle.feeding_worlds.proofs.FeedingCommands.{command_feeds}
-use Rattle.feeding_worlds.specs.Left.{IsLeft}
+use Rattle.whole_worlds.specs.Feeding.{AreControlsApart, IsFeeding}
+use Rattle.whole_worlds.specs.LeftLaws.{OpensNamed}
+use Rattle.whole_worlds.proofs.Names.{command_apart}
+use Rattle.whole_worlds.proofs.FeedingCommands.{command_feeds}
+use Rattle.whole_worlds.specs.Left.{IsLeft}
 use Rattle.whole_worlds.specs.Whole.{IsWhole}
 use Rattle.whole_worlds.specs.Laws.{OpensTo, CommandKeepsWhole}
-use Rattle.feeding_worlds.proofs.Commands.{command_keeps_left}
+use Rattle.whole_worlds.proofs.FedCommands.{command_keeps_left}
 use Rattle.whole_worlds.proofs.LeavingCancelled.{cancel_whole}
 use Rattle.whole_worlds.proofs.Fewer.{opens_no_stream, opens_no_taker}
 use Rattle.whole_worlds.proofs.KeptLeft.{whole_of}

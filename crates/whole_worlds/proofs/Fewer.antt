@@ -4,8 +4,8 @@ use Rattle.usb_base.specs.declared.commands.Cmd.{Cmd}
 use Rattle.usb_base.specs.declared.commands.Cmd.TheVariants as commands
 use Rattle.driver_rows.specs.DriverContent.{DriverContent}
 use Rattle.closed_streams.specs.Left.{names_kept}
-use Rattle.feeding_worlds.specs.Feeding.{AreControlsApart}
-use Rattle.feeding_worlds.specs.FeedingLaws.{OpensNoStream}
+use Rattle.whole_worlds.specs.Feeding.{AreControlsApart}
+use Rattle.whole_worlds.specs.FeedingLaws.{OpensNoStream}
 use Rattle.whole_worlds.specs.Whole.{AreOf}
 use Rattle.whole_worlds.specs.Laws.{OpensTo}
 

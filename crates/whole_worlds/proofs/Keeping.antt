@@ -21,7 +21,8 @@ use Rattle.standing_fronts.specs.Along.{LinksOfQueuesRise}
 use Rattle.standing_fronts.proofs.Reaching.{reaches_walk}
 use Rattle.open_laws.specs.Opens.{IsOpenLent}
 use Rattle.open_laws.proofs.AcceptWaiting.{ready_stays}
-use Rattle.feeding_worlds.specs.Tails.{tail_of, TailsStand, IsUnderWay}
+use Rattle.standing_fronts.specs.Tails.{tail_of, TailsStand}
+use Rattle.whole_worlds.specs.Tails.{IsUnderWay}
 
 -- ---- the unfinished command
 

@@ -11,13 +11,13 @@ use Rattle.run_owners.proofs.Reasons.{each_is_due}
 use Rattle.usb_bus.specs.Bus.{Fixed}
 use Rattle.bus_world.specs.World.{World, driver_parts, driver_next}
 use Rattle.stream_worlds.specs.Streaming.{Streams, Standing}
-use Rattle.feeding_worlds.specs.FeedingLaws.{is_still}
-use Rattle.feeding_worlds.specs.Left.{IsLeft}
+use Rattle.whole_worlds.specs.FeedingLaws.{is_still}
+use Rattle.whole_worlds.specs.Left.{IsLeft}
 use Rattle.pipe_agreement.specs.Prefix.{IsPrefix}
 use Rattle.taken_reports.specs.Taken.{IsToldTaken}
 use Rattle.controlled_streams.specs.Opened.{with_none}
 use Rattle.whole_worlds.specs.Whole.{IsWhole, HasWhole}
-use Rattle.feeding_worlds.proofs.Rows.{told_once, row_keeps_left}
+use Rattle.whole_worlds.proofs.FedRows.{told_once, row_keeps_left}
 use Rattle.whole_worlds.proofs.Fewer.{are_same}
 
 -- where each stream is open still

@@ -24,14 +24,15 @@ use Rattle.standing_fronts.specs.Reaching.{Reaches}
 use Rattle.usb_bus.specs.Bus.{Fixed}
 use Rattle.bus_world.specs.World.{World, driver_parts, driver_next}
 use Rattle.stream_worlds.specs.Streaming.{Streams, Standing}
-use Rattle.feeding_worlds.specs.HarvestFeeds.{HarvestLeaves}
-use Rattle.feeding_worlds.proofs.FeedingHarvests.{harvest_feeds}
+use Rattle.whole_worlds.specs.HarvestFeeds.{HarvestLeaves}
+use Rattle.whole_worlds.proofs.FeedingHarvests.{harvest_feeds}
 use Rattle.idle_tails.proofs.Reaching.{idle_queues_reach}
-use Rattle.feeding_worlds.specs.Tails.{tail_block, TailsStand, IsUnderWay}
+use Rattle.standing_fronts.specs.Tails.{tail_block, TailsStand}
+use Rattle.whole_worlds.specs.Tails.{IsUnderWay}
 use Rattle.whole_worlds.specs.Whole.{IsWhole, HasWhole}
 use Rattle.whole_worlds.specs.Laws.{HarvestKeepsWhole}
-use Rattle.feeding_worlds.specs.Taking.{HaveSides}
-use Rattle.feeding_worlds.proofs.Names.{row_apart}
+use Rattle.whole_worlds.specs.Taking.{HaveSides}
+use Rattle.whole_worlds.proofs.Names.{row_apart}
 
 -- ---- what is the same
 

@@ -12,7 +12,7 @@ use Rattle.driver_rows.specs.Offers.{Offered, offered, IsOffered, accepted_cance
 use Rattle.run_owners.specs.Accepts.{Cancels}
 use Rattle.run_owners.specs.Owners.{SlotHas, Views, views_of}
 use Rattle.chained_transfers.proofs.Accepting.{command_accepts}
-use Rattle.feeding_worlds.proofs.Names.{command_apart}
+use Rattle.whole_worlds.proofs.Names.{command_apart}
 use Rattle.lent_structures.specs.Structures.{StructureSets}
 use Rattle.driver_laws.specs.Extents.{KeepExtents, AreInRuns}
 use Rattle.driver_laws.proofs.Viewing.{SameViews}
@@ -22,18 +22,18 @@ use Rattle.open_laws.specs.Opens.{AreNamesApart}
 use Rattle.leaving_drivers.specs.Before.{WasSame, UnlinksAtMost, IsAsBefore}
 use Rattle.leaving_drivers.proofs.Alike.{not_open}
 use Rattle.leaving_drivers.proofs.Leaving.{cancel_as_before}
-use Rattle.feeding_worlds.specs.Beside.{IsTold}
-use Rattle.feeding_worlds.proofs.Beside.{cancel_told}
-use Rattle.feeding_worlds.proofs.Cancelling.{cancel_feeds}
+use Rattle.whole_worlds.specs.Beside.{IsTold}
+use Rattle.whole_worlds.proofs.FedBeside.{cancel_told}
+use Rattle.whole_worlds.proofs.Cancelling.{cancel_feeds}
 use Rattle.bus_world.specs.World.{World, commanded_by, commanded}
 use Rattle.stream_worlds.specs.Streaming.{Streams, Standing}
-use Rattle.feeding_worlds.specs.Feeding.{IsFeeding}
-use Rattle.feeding_worlds.specs.Taking.{HaveSides}
-use Rattle.feeding_worlds.specs.Tails.{IsUnderWay}
-use Rattle.feeding_worlds.specs.Left.{IsLeft}
+use Rattle.whole_worlds.specs.Feeding.{IsFeeding}
+use Rattle.whole_worlds.specs.Taking.{HaveSides}
+use Rattle.whole_worlds.specs.Tails.{IsUnderWay}
+use Rattle.whole_worlds.specs.Left.{IsLeft}
 use Rattle.whole_worlds.proofs.Refused.{refused_whole}
 use Rattle.whole_worlds.specs.Whole.{IsWhole}
-use Rattle.feeding_worlds.proofs.Commands.{command_keeps_left}
+use Rattle.whole_worlds.proofs.FedCommands.{command_keeps_left}
 
 -- ---- where no endpoint is being opened, and no run is given back
 

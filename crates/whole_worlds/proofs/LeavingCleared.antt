@@ -16,19 +16,19 @@ use Rattle.reached_rings.specs.Reaching.{is_reached}
 use Rattle.closed_streams.specs.Left.{names_kept}
 use Rattle.narrowed_streams.specs.Narrowed.{HasLeft, left_names}
 use Rattle.narrowed_streams.proofs.Names.{kept_or_left}
-use Rattle.feeding_worlds.specs.Clearing.{narrowed_to}
-use Rattle.feeding_worlds.proofs.Clearing.{clear_feeds}
-use Rattle.feeding_worlds.proofs.Beside.{clear_told}
+use Rattle.whole_worlds.specs.Clearing.{narrowed_to}
+use Rattle.whole_worlds.proofs.Clearing.{clear_feeds}
+use Rattle.whole_worlds.proofs.FedBeside.{clear_told}
 use Rattle.bus_world.specs.World.{World, driver_parts, driver_next}
 use Rattle.stream_worlds.specs.Streaming.{Streams, Standing}
-use Rattle.feeding_worlds.specs.Tails.{IsUnderWay}
-use Rattle.feeding_worlds.specs.Left.{taking_of}
+use Rattle.whole_worlds.specs.Tails.{IsUnderWay}
+use Rattle.whole_worlds.specs.Left.{taking_of}
 use Rattle.whole_worlds.specs.Whole.{StaysOpen, IsWhole}
 use Rattle.whole_worlds.specs.Laws.{ClearKeepsWhole}
-use Rattle.feeding_worlds.proofs.Cleared.{clear_keeps_left}
-use Rattle.feeding_worlds.proofs.Takes.{clear_keeps_taking}
+use Rattle.whole_worlds.proofs.Cleared.{clear_keeps_left}
+use Rattle.whole_worlds.proofs.Takes.{clear_keeps_taking}
 use Rattle.whole_worlds.proofs.LeavingCancelled.{idle_sides}
-use Rattle.feeding_worlds.proofs.Names.{row_apart}
+use Rattle.whole_worlds.proofs.Names.{row_apart}
 use Rattle.whole_worlds.proofs.Fewer.{fewer_apart, kept_of}
 
 -- the queue heads that the walk may meet then

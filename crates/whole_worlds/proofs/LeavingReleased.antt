@@ -22,21 +22,21 @@ use Rattle.leaving_drivers.specs.Before.{UnlinksAtMost}
 use Rattle.left_queues.proofs.Unmet.{cleared_unmet}
 use Rattle.left_reports.specs.Leaver.{IsLeaver}
 use Rattle.left_reports.proofs.Gone.{release_is_told}
-use Rattle.feeding_worlds.specs.Releases.{released, IsGivenBack}
-use Rattle.feeding_worlds.proofs.Releasing.{endpoint_release_feeds}
+use Rattle.whole_worlds.specs.Releases.{released, IsGivenBack}
+use Rattle.whole_worlds.proofs.FedReleasing.{endpoint_release_feeds}
 use Rattle.bus_world.specs.World.{World, driver_parts, driver_next}
 use Rattle.stream_worlds.specs.Streaming.{Streams, Standing}
-use Rattle.feeding_worlds.specs.Feeding.{IsFeeding}
-use Rattle.feeding_worlds.specs.Tails.{IsUnderWay}
-use Rattle.feeding_worlds.proofs.Tail.{idle_tail, idle_ends}
+use Rattle.whole_worlds.specs.Feeding.{IsFeeding}
+use Rattle.whole_worlds.specs.Tails.{IsUnderWay}
+use Rattle.whole_worlds.proofs.Tail.{idle_tail, idle_ends}
 use Rattle.report_streams.specs.Streams.{has_stream}
-use Rattle.feeding_worlds.proofs.Heads.{queue_reported}
+use Rattle.whole_worlds.proofs.Heads.{queue_reported}
 use Rattle.whole_worlds.specs.Whole.{IsWhole}
 use Rattle.whole_worlds.specs.Laws.{EndpointReleaseKeepsWhole}
-use Rattle.feeding_worlds.proofs.Released.{release_keeps_left}
-use Rattle.feeding_worlds.proofs.Takes.{release_keeps_taking}
+use Rattle.whole_worlds.proofs.Released.{release_keeps_left}
+use Rattle.whole_worlds.proofs.Takes.{release_keeps_taking}
 use Rattle.whole_worlds.proofs.LeavingCancelled.{idle_sides}
-use Rattle.feeding_worlds.proofs.Names.{row_apart}
+use Rattle.whole_worlds.proofs.Names.{row_apart}
 use Rattle.whole_worlds.proofs.Fewer.{are_same}
 
 no_open : (c : Option Command) (b : ℕ) → c ≡ None → c ≡ Some (unfinished.Open b) → ⊥

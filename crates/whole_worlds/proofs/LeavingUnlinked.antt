@@ -17,19 +17,20 @@ use Rattle.left_queues.specs.Standing.{IdleTailsStand}
 use Rattle.leaving_drivers.specs.Before.{UnlinksAtMost}
 use Rattle.unlinked_streams.specs.Unlinks.{IsAtUnlink, IsUnlinked}
 use Rattle.unlinked_streams.proofs.Passing.{unlink_row_is}
-use Rattle.feeding_worlds.specs.Leaving.{unlinked}
-use Rattle.feeding_worlds.proofs.Unlinking.{unlink_finds, unlink_feeds}
-use Rattle.feeding_worlds.proofs.Standing.{unlink_tells}
+use Rattle.whole_worlds.specs.Leaving.{unlinked}
+use Rattle.whole_worlds.proofs.Unlinking.{unlink_finds, unlink_feeds}
+use Rattle.whole_worlds.proofs.Standing.{unlink_tells}
 use Rattle.bus_world.specs.World.{World, driver_parts, driver_next}
 use Rattle.stream_worlds.specs.Streaming.{Streams, Standing}
-use Rattle.feeding_worlds.specs.Tails.{tail_block, IsUnderWay}
-use Rattle.feeding_worlds.proofs.Tail.{idle_tail}
+use Rattle.standing_fronts.specs.Tails.{tail_block}
+use Rattle.whole_worlds.specs.Tails.{IsUnderWay}
+use Rattle.whole_worlds.proofs.Tail.{idle_tail}
 use Rattle.whole_worlds.specs.Whole.{IsWhole}
 use Rattle.whole_worlds.specs.Laws.{UnlinkKeepsWhole}
-use Rattle.feeding_worlds.proofs.Rows.{told_once, row_keeps_left}
-use Rattle.feeding_worlds.proofs.Takes.{unlink_keeps_taking}
+use Rattle.whole_worlds.proofs.FedRows.{told_once, row_keeps_left}
+use Rattle.whole_worlds.proofs.Takes.{unlink_keeps_taking}
 use Rattle.whole_worlds.proofs.LeavingCancelled.{idle_sides, runs_now}
-use Rattle.feeding_worlds.proofs.Names.{row_apart}
+use Rattle.whole_worlds.proofs.Names.{row_apart}
 use Rattle.whole_worlds.proofs.Fewer.{are_same}
 
 -- ---- rows

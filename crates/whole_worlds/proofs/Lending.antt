@@ -22,16 +22,17 @@ use Rattle.fed_lends.proofs.Reporting.{same_hand}
 use Rattle.usb_bus.specs.Bus.{Fixed}
 use Rattle.bus_world.specs.World.{World, driver_next}
 use Rattle.stream_worlds.specs.Streaming.{Streams, Standing}
-use Rattle.feeding_worlds.proofs.FeedingLends.{lend_feeds}
-use Rattle.feeding_worlds.specs.LendFeeds.{LendsTransfer}
-use Rattle.feeding_worlds.specs.Tails.{tail_of, TailsStand, IsUnderWay}
+use Rattle.whole_worlds.proofs.FeedingLends.{lend_feeds}
+use Rattle.whole_worlds.specs.LendFeeds.{LendsTransfer}
+use Rattle.standing_fronts.specs.Tails.{tail_of, TailsStand}
+use Rattle.whole_worlds.specs.Tails.{IsUnderWay}
 use Rattle.whole_worlds.specs.Whole.{HaveSenders, IsWhole}
 use Rattle.whole_worlds.specs.Laws.{LendKeepsWhole}
-use Rattle.feeding_worlds.specs.Taking.{HaveTakers}
+use Rattle.whole_worlds.specs.Taking.{HaveTakers}
 use Rattle.whole_worlds.proofs.KeptLeft.{whole_of, busy_left}
-use Rattle.whole_worlds.proofs.LentTails.{tail_stands}
+use Rattle.lent_fronts.proofs.Tails.{tail_stands}
 use Rattle.whole_worlds.proofs.TakingLends.{lend_taking}
-use Rattle.feeding_worlds.specs.Feeding.{AreControlsApart}
+use Rattle.whole_worlds.specs.Feeding.{AreControlsApart}
 
 -- ---- what is told
 

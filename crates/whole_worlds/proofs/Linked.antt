@@ -18,13 +18,14 @@ use Rattle.chained_transfers.proofs.Staying.{linked_stands_alive}
 use Rattle.harvest_laws.specs.Told.{ToldStands}
 use Rattle.open_laws.specs.Opens.{IsOpenLent, AreNamesApart, IsAtOpen, head_then, hand_then}
 use Rattle.open_laws.proofs.Linking.{driver_is}
-use Rattle.feeding_worlds.specs.Tails.{TailsStand, IsUnderWay}
+use Rattle.standing_fronts.specs.Tails.{TailsStand}
+use Rattle.whole_worlds.specs.Tails.{IsUnderWay}
 use Rattle.whole_worlds.specs.Whole.{IsWhole}
 use Rattle.whole_worlds.specs.Laws.{OpenLinkKeepsWhole}
-use Rattle.feeding_worlds.proofs.FeedingLinks.{linked, found, at_open, more, link_feeding}
+use Rattle.whole_worlds.proofs.FeedingLinks.{linked, found, at_open, more, link_feeding}
 use Rattle.whole_worlds.proofs.Linking.{tails_then, runs_then, told_then}
 use Rattle.whole_worlds.proofs.TakingOpens.{link_taking}
-use Rattle.feeding_worlds.specs.Feeding.{AreControlsApart}
+use Rattle.whole_worlds.specs.Feeding.{AreControlsApart}
 
 no_open : (b : ℕ) → ◌≡◌ {A = Option Command} None (Some (unfinished.Open b)) → ⊥
 no_open b bad = cc

@@ -38,8 +38,8 @@ use Rattle.standing_fronts.specs.Reaching.{Reaches}
 use Rattle.open_laws.specs.Opens.{IsAtOpen, head_then, hand_then}
 use Rattle.open_laws.proofs.Linking.{here}
 use Rattle.open_laws.proofs.Standing.{element_was}
-use Rattle.feeding_worlds.specs.Tails.{tail_block, tail_of, TailsStand}
-use Rattle.feeding_worlds.proofs.OpenBeside.{heads_stay, elements_stay, reaches_beside}
+use Rattle.standing_fronts.specs.Tails.{tail_block, tail_of, TailsStand}
+use Rattle.whole_worlds.proofs.OpenBeside.{heads_stay, elements_stay, reaches_beside}
 
 -- ---- a new queue
 

@@ -16,12 +16,12 @@ use Rattle.mended_heads.proofs.Row.{mend_row}
 use Rattle.open_names.proofs.Apart.{events_apart}
 use Rattle.bus_world.specs.World.{World, driver_parts, driver_next}
 use Rattle.stream_worlds.specs.Streaming.{Streams, Standing}
-use Rattle.feeding_worlds.specs.Tails.{IsUnderWay}
-use Rattle.feeding_worlds.specs.Mends.{mended}
-use Rattle.feeding_worlds.proofs.Mending.{mend_finds, mend_feeds}
-use Rattle.feeding_worlds.proofs.Mended.{mend_tells, mend_keeps_taking}
-use Rattle.feeding_worlds.proofs.Names.{row_apart}
-use Rattle.feeding_worlds.proofs.Tail.{idle_tail, idle_ends}
+use Rattle.whole_worlds.specs.Tails.{IsUnderWay}
+use Rattle.whole_worlds.specs.Mends.{mended}
+use Rattle.whole_worlds.proofs.FedMending.{mend_finds, mend_feeds}
+use Rattle.whole_worlds.proofs.Mended.{mend_tells, mend_keeps_taking}
+use Rattle.whole_worlds.proofs.Names.{row_apart}
+use Rattle.whole_worlds.proofs.Tail.{idle_tail, idle_ends}
 use Rattle.whole_worlds.specs.Whole.{IsWhole}
 use Rattle.whole_worlds.specs.Laws.{MendKeepsWhole}
 use Rattle.whole_worlds.proofs.KeptLeft.{whole_of, row_left}

@@ -47,10 +47,10 @@ use Rattle.receiving_runs.specs.Runs.{KindOfLine, IsKeptBy}
 use Rattle.receiving_runs.proofs.Runs.{holds_throughout}
 use Rattle.taken_reports.proofs.Beginning.{world_taken}
 use Rattle.taken_reports.proofs.Seating.{moment_seated}
-use Rattle.feeding_worlds.specs.Feeding.{left_of, streams_of, there_of}
-use Rattle.feeding_worlds.specs.Taking.{outs_of}
-use Rattle.feeding_worlds.specs.LeftLaws.{OpensNamed}
-use Rattle.feeding_worlds.proofs.Told.{there_on}
+use Rattle.whole_worlds.specs.Feeding.{left_of, streams_of, there_of}
+use Rattle.whole_worlds.specs.Taking.{outs_of}
+use Rattle.whole_worlds.specs.LeftLaws.{OpensNamed}
+use Rattle.whole_worlds.proofs.Told.{there_on}
 use Rattle.whole_worlds.proofs.Naming.{KeepsNames, event_named, command_named, stays_on, named_once}
 use Rattle.whole_worlds.proofs.TakingHeads.{outs_are_there, outs_stand}
 use Rattle.whole_worlds.specs.Whole.{IsNamed, StaysOpen, HasWhole}

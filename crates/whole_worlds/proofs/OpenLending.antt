@@ -44,18 +44,19 @@ use Rattle.open_laws.specs.Opens.{IsOpenLent, AreNamesApart, next_of}
 use Rattle.open_laws.specs.Lends.{IsOpenReady, IsAtLend, parts_lent}
 use Rattle.open_laws.proofs.Lending.{lend_drives, lend_stands, lend_pipes, lend_reports}
 use Rattle.controlled_streams.specs.Reported.{AreReported}
-use Rattle.feeding_worlds.specs.Feeding.{AreControlsApart, there_of, IsFeeding}
-use Rattle.feeding_worlds.proofs.FeedingStores.{queue_above}
+use Rattle.whole_worlds.specs.Feeding.{AreControlsApart, there_of, IsFeeding}
+use Rattle.whole_worlds.proofs.FeedingStores.{queue_above}
 use Rattle.control_queues.proofs.OpenLends.{open_lend_keeps_controls}
-use Rattle.feeding_worlds.proofs.Names.{row_apart}
-use Rattle.feeding_worlds.proofs.Heads.{right_of}
-use Rattle.feeding_worlds.proofs.Told.{has_there}
+use Rattle.whole_worlds.proofs.Names.{row_apart}
+use Rattle.whole_worlds.proofs.Heads.{right_of}
+use Rattle.whole_worlds.proofs.Told.{has_there}
 use Rattle.standing_fronts.specs.Reaching.{Reaches}
-use Rattle.feeding_worlds.specs.Tails.{tail_of, TailsStand, IsUnderWay}
+use Rattle.standing_fronts.specs.Tails.{tail_of, TailsStand}
+use Rattle.whole_worlds.specs.Tails.{IsUnderWay}
 use Rattle.whole_worlds.specs.Whole.{HaveSenders, IsWhole}
 use Rattle.whole_worlds.specs.Laws.{OpenLendKeepsWhole}
-use Rattle.feeding_worlds.specs.Taking.{HaveTakers}
-use Rattle.feeding_worlds.proofs.OpenBeside.{streams_at, still_frameless, heads_stay, elements_stay, reaches_beside}
+use Rattle.whole_worlds.specs.Taking.{HaveTakers}
+use Rattle.whole_worlds.proofs.OpenBeside.{streams_at, still_frameless, heads_stay, elements_stay, reaches_beside}
 use Rattle.whole_worlds.proofs.KeptLeft.{whole_of, busy_left}
 use Rattle.whole_worlds.proofs.TakingOpens.{open_lend_taking}
 

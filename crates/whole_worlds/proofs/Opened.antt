@@ -32,14 +32,14 @@ use Rattle.commanded_queues.proofs.Tails.{open_reaches}
 use Rattle.commanded_queues.proofs.Extending.{open_extents}
 use Rattle.bus_world.specs.World.{World, name_in, commanded_by}
 use Rattle.stream_worlds.specs.Streaming.{Streams, Standing}
-use Rattle.feeding_worlds.specs.Feeding.{AreControlsApart, IsFeeding}
-use Rattle.feeding_worlds.specs.Tails.{IsUnderWay}
-use Rattle.feeding_worlds.specs.Left.{IsLeft}
+use Rattle.whole_worlds.specs.Feeding.{AreControlsApart, IsFeeding}
+use Rattle.whole_worlds.specs.Tails.{IsUnderWay}
+use Rattle.whole_worlds.specs.Left.{IsLeft}
 use Rattle.whole_worlds.specs.Whole.{IsWhole}
 use Rattle.whole_worlds.specs.Laws.{OpensTo}
-use Rattle.feeding_worlds.specs.Taking.{HaveSides}
-use Rattle.feeding_worlds.proofs.Told.{same_queue}
-use Rattle.feeding_worlds.proofs.Tail.{open_tail, idle_ends}
+use Rattle.whole_worlds.specs.Taking.{HaveSides}
+use Rattle.whole_worlds.proofs.Told.{same_queue}
+use Rattle.whole_worlds.proofs.Tail.{open_tail, idle_ends}
 
 module _ (fixed : Fixed) (takes : ℕ → ℕ → Bool) (member : ℕ → Bool) (x : Streams) (s : Standing) (w : World) (line : ℕ) (cmd : Cmd) (o : Offered) (k : IsWhole fixed takes member x s w) (opened : IsOpenedAsynchronous w.driver w.memory o) where
   abbrev d : DriverContent

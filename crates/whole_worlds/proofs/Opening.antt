@@ -13,15 +13,15 @@ use Rattle.open_names.proofs.Apart.{new_apart}
 use Rattle.world_bytes.proofs.Turning.{opened_bytes}
 use Rattle.bus_world.specs.Rooms.{reserve_of}
 use Rattle.shared_worlds.specs.Working.{at_opening}
-use Rattle.feeding_worlds.specs.Feeding.{streams_of}
-use Rattle.feeding_worlds.proofs.FeedingOpening.{new_world_feeds}
+use Rattle.whole_worlds.specs.Feeding.{streams_of}
+use Rattle.whole_worlds.proofs.FeedingOpening.{new_world_feeds}
 use Rattle.whole_worlds.specs.Laws.{NewWorldIsWhole}
-use Rattle.feeding_worlds.proofs.Opening.{new_world_left}
+use Rattle.whole_worlds.proofs.FedOpening.{new_world_left}
 use Rattle.whole_worlds.proofs.KeptLeft.{whole_of}
 use Rattle.usb_bus.specs.Bus.{fixed_of}
 use Rattle.bus_world.specs.Opening.{opening_world}
 use Rattle.stream_worlds.specs.Takers.{takes_of}
-use Rattle.feeding_worlds.proofs.TakingOpening.{new_world_taking}
+use Rattle.whole_worlds.proofs.TakingOpening.{new_world_taking}
 
 no_endpoint : (e : ℕ) (x : Endpoint) → slice_get {X = Endpoint} [] e ≡ Some x → ⊥
 no_endpoint zero x here = cc

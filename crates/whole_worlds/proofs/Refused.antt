@@ -18,9 +18,10 @@ use Rattle.commanded_queues.proofs.Tails.{reaches_alike}
 use Rattle.harvest_laws.proofs.Standing.{refused_told}
 use Rattle.bus_world.specs.World.{World, refused_line, commanded_by}
 use Rattle.stream_worlds.specs.Streaming.{Streams, Standing}
-use Rattle.feeding_worlds.specs.Feeding.{IsFeeding}
-use Rattle.feeding_worlds.specs.Tails.{tail_of, IsUnderWay}
-use Rattle.feeding_worlds.specs.Left.{IsLeft}
+use Rattle.whole_worlds.specs.Feeding.{IsFeeding}
+use Rattle.standing_fronts.specs.Tails.{tail_of}
+use Rattle.whole_worlds.specs.Tails.{IsUnderWay}
+use Rattle.whole_worlds.specs.Left.{IsLeft}
 use Rattle.whole_worlds.specs.Whole.{IsWhole}
 
 module _ (d : DriverContent) (line : ℕ) (name : EpName) (why : OfferError) (m : Mem) where

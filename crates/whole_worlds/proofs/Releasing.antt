@@ -34,15 +34,16 @@ use Rattle.bus_world.specs.World.{World, controller_parts, driver_parts, with_pa
 use Rattle.stream_worlds.specs.Streaming.{Streams, Standing, wired}
 use Rattle.shared_worlds.specs.Working.{IsWorking}
 use Rattle.controlled_streams.specs.Reported.{AreReported}
-use Rattle.feeding_worlds.specs.Feeding.{AreControlsApart, there_of, IsFeeding}
-use Rattle.feeding_worlds.proofs.FeedingStores.{queue_above}
+use Rattle.whole_worlds.specs.Feeding.{AreControlsApart, there_of, IsFeeding}
+use Rattle.whole_worlds.proofs.FeedingStores.{queue_above}
 use Rattle.control_queues.proofs.Returns.{release_keeps_controls}
-use Rattle.feeding_worlds.proofs.Heads.{right_of}
-use Rattle.feeding_worlds.specs.Tails.{tail_block, tail_of, TailsStand, IsUnderWay}
+use Rattle.whole_worlds.proofs.Heads.{right_of}
+use Rattle.standing_fronts.specs.Tails.{tail_block, tail_of, TailsStand}
+use Rattle.whole_worlds.specs.Tails.{IsUnderWay}
 use Rattle.whole_worlds.specs.Whole.{HaveSenders, IsWhole, HasWhole}
 use Rattle.whole_worlds.specs.Laws.{ReleaseKeepsWhole}
-use Rattle.feeding_worlds.specs.Taking.{HaveTakers}
-use Rattle.feeding_worlds.specs.Left.{IsLeft}
+use Rattle.whole_worlds.specs.Taking.{HaveTakers}
+use Rattle.whole_worlds.specs.Left.{IsLeft}
 use Rattle.whole_worlds.proofs.KeptLeft.{whole_of, row_left}
 use Rattle.whole_worlds.proofs.Returning.{due, transfer, endpoint, returning, stand}
 use Rattle.whole_worlds.proofs.Telling.{release_told}

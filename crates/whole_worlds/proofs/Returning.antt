@@ -15,7 +15,7 @@ use Rattle.standing_fronts.proofs.Lists.{times_some}
 use Rattle.bus_world.specs.World.{World, driver_parts}
 use Rattle.stream_worlds.specs.Streaming.{Streams, Standing}
 use Rattle.whole_worlds.specs.Whole.{IsWhole}
-use Rattle.feeding_worlds.proofs.Heads.{rising_there}
+use Rattle.whole_worlds.proofs.Heads.{rising_there}
 
 -- ---- what is owed
 

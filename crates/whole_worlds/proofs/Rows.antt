@@ -18,8 +18,8 @@ use Rattle.bus_world.specs.World.{World, driver_parts}
 use Rattle.stream_worlds.specs.Streaming.{Streams, Standing}
 use Rattle.chained_transfers.specs.Bulk.{IsBulkCommand}
 use Rattle.chained_transfers.specs.Asynchronous.{OnlyAsynchronous}
-use Rattle.feeding_worlds.specs.FeedingLaws.{is_still}
-use Rattle.feeding_worlds.specs.Tails.{IsUnderWay}
+use Rattle.whole_worlds.specs.FeedingLaws.{is_still}
+use Rattle.whole_worlds.specs.Tails.{IsUnderWay}
 use Rattle.whole_worlds.specs.Whole.{IsWhole}
 use Rattle.whole_worlds.proofs.KeptLeft.{no_command}
 

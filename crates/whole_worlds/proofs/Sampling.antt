@@ -16,7 +16,7 @@ use Rattle.declared_controls.specs.Names.{HasItsName, NamesEndpoints}
 use Rattle.declared_controls.specs.Zero.{AreZeroesAlone}
 use Rattle.chained_transfers.specs.Asynchronous.{AsynchronousOnly}
 use Rattle.whole_worlds.specs.Moments.{IsAsynchronousScript}
-use Rattle.feeding_worlds.specs.FeedingSamples.{one_get}
+use Rattle.whole_worlds.specs.FeedingSamples.{one_get}
 
 get_fits : IsFit one_get
 get_fits = record {

@@ -21,14 +21,14 @@ use Rattle.leaving_drivers.specs.Before.{IsAsBefore, NearSame}
 use Rattle.leaving_drivers.proofs.Alike.{near_fewer}
 use Rattle.leaving_drivers.proofs.Leaving.{bell_as_before, status_as_before, frame_as_before}
 use Rattle.left_reports.proofs.Before.{before_told}
-use Rattle.feeding_worlds.proofs.Beside.{leave_tails}
-use Rattle.feeding_worlds.specs.Left.{IsLeft}
+use Rattle.whole_worlds.proofs.FedBeside.{leave_tails}
+use Rattle.whole_worlds.specs.Left.{IsLeft}
 use Rattle.bus_world.specs.World.{World, driver_parts, with_parts, driver_next}
 use Rattle.stream_worlds.specs.Streaming.{Streams, Standing}
-use Rattle.feeding_worlds.specs.Feeding.{IsFeeding}
-use Rattle.feeding_worlds.specs.FeedingLaws.{is_still}
-use Rattle.feeding_worlds.proofs.FeedingStill.{still_feeds}
-use Rattle.feeding_worlds.specs.Tails.{IsUnderWay}
+use Rattle.whole_worlds.specs.Feeding.{IsFeeding}
+use Rattle.whole_worlds.specs.FeedingLaws.{is_still}
+use Rattle.whole_worlds.proofs.FeedingStill.{still_feeds}
+use Rattle.whole_worlds.specs.Tails.{IsUnderWay}
 use Rattle.whole_worlds.specs.Whole.{IsWhole}
 use Rattle.whole_worlds.specs.Laws.{StillKeepsWhole}
 use Rattle.whole_worlds.proofs.KeptLeft.{whole_of, still_left}

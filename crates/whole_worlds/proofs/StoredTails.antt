@@ -34,8 +34,8 @@ use Rattle.standing_fronts.proofs.Reaching.{reaches_idle_store, reaches_last_sto
 use Rattle.publish_laws.specs.Stores.{IsAtStore, published_by, parts_then, out_then, QueuesThen, next_of}
 use Rattle.publish_laws.proofs.Outs.{IsNewest, IsSplit, split_out, same_out}
 use Rattle.publish_laws.proofs.Apart.{dummy_placed, queue_placed, queues_same, thirty_two, all_lent}
-use Rattle.feeding_worlds.specs.Tails.{tail_block, tail_of, TailsStand}
-use Rattle.feeding_worlds.proofs.Storing.{made_is, below, one_more, finished, by_store, met_now, met_still}
+use Rattle.standing_fronts.specs.Tails.{tail_block, tail_of, TailsStand}
+use Rattle.whole_worlds.proofs.Storing.{made_is, below, one_more, finished, by_store, met_now, met_still}
 
 -- a front tells nothing of the command
 reaches_by : (d : DriverContent) (c : Option Command) (made : ℕ) (part : Structures) (order : ℕ → ℕ) (out : List ℕ) (e : ℕ) (x : Endpoint) (a : ℕ) → Reaches d part order out e x a → Reaches (record d { command = c; made = made }) part order out e x a

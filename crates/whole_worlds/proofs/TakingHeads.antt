@@ -5,11 +5,11 @@ use Rattle.chained_transfers.proofs.Ways.{sends_comes_not}
 use Rattle.bus_world.specs.World.{World}
 use Rattle.stream_worlds.specs.Streaming.{Streams, Standing}
 use Rattle.taken_reports.specs.Worlds.{HaveOuts}
-use Rattle.feeding_worlds.specs.Feeding.{IsFeeding, there_of}
-use Rattle.feeding_worlds.specs.Taking.{outs_of}
-use Rattle.feeding_worlds.proofs.Heads.{queue_on, heads_are_there}
-use Rattle.feeding_worlds.proofs.TakingAlike.{out_on, outs_on}
-use Rattle.feeding_worlds.proofs.Told.{out_way}
+use Rattle.whole_worlds.specs.Feeding.{IsFeeding, there_of}
+use Rattle.whole_worlds.specs.Taking.{outs_of}
+use Rattle.whole_worlds.proofs.Heads.{queue_on, heads_are_there}
+use Rattle.whole_worlds.proofs.TakingAlike.{out_on, outs_on}
+use Rattle.whole_worlds.proofs.Told.{out_way}
 
 -- each is that of an endpoint that is there
 pub outs_are_there : (fixed : Fixed) (member : ℕ → Bool) (x : Streams) (s : Standing) (w : World) → IsFeeding fixed member x s w → (n : ℕ) → outs_of member x.streams x.endpoint n ≡ true → there_of w.driver n ≡ true

@@ -42,12 +42,12 @@ use Rattle.released_queues.specs.Fronts.{FrontsStand}
 use Rattle.stream_worlds.specs.Outs.{GoesAs}
 use Rattle.stream_worlds.specs.Lends.{AreNewAs}
 use Rattle.stream_worlds.proofs.Lending.{lend_pipes}
-use Rattle.feeding_worlds.specs.Feeding.{IsFeeding}
-use Rattle.feeding_worlds.specs.LendFeeds.{LendsTransfer}
+use Rattle.whole_worlds.specs.Feeding.{IsFeeding}
+use Rattle.whole_worlds.specs.LendFeeds.{LendsTransfer}
 use Rattle.whole_worlds.specs.Whole.{IsWhole}
-use Rattle.feeding_worlds.specs.Taking.{outs_of, IsTaking}
-use Rattle.feeding_worlds.proofs.Heads.{own_toggle}
-use Rattle.feeding_worlds.proofs.FeedingLends.{lend_feeds}
+use Rattle.whole_worlds.specs.Taking.{outs_of, IsTaking}
+use Rattle.whole_worlds.proofs.Heads.{own_toggle}
+use Rattle.whole_worlds.proofs.FeedingLends.{lend_feeds}
 use Rattle.whole_worlds.proofs.TakingStores.{control_out, control_kind, goes_as}
 
 -- ---- one memory of one driver tells one qTD at a place

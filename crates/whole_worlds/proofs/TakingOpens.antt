@@ -48,15 +48,15 @@ use Rattle.stream_worlds.specs.Outs.{IsAside, AreAside, AreOutPiped, AreUntaken}
 use Rattle.stream_worlds.specs.Opens.{IsOneMoreHead}
 use Rattle.stream_worlds.proofs.Spared.{work_stays, out_pipes_spared}
 use Rattle.stream_worlds.proofs.Opening.{out_pipes_with_one, out_pipes_with_another, untaken_less_one, untaken_with_another}
-use Rattle.feeding_worlds.specs.Feeding.{heads_of, IsFeeding}
-use Rattle.feeding_worlds.specs.Taking.{outs_of, IsTaking}
+use Rattle.whole_worlds.specs.Feeding.{heads_of, IsFeeding}
+use Rattle.whole_worlds.specs.Taking.{outs_of, IsTaking}
 use Rattle.whole_worlds.specs.Whole.{IsWhole}
-use Rattle.feeding_worlds.proofs.Heads.{head_of, head_on, head_is, not_head, own_toggle}
-use Rattle.feeding_worlds.proofs.Told.{data_way, way_control, out_way}
-use Rattle.feeding_worlds.proofs.OpenBeside.{heads_stay}
-use Rattle.feeding_worlds.proofs.FeedingLinks.{linked, found, at_open, more}
+use Rattle.whole_worlds.proofs.Heads.{head_of, head_on, head_is, not_head, own_toggle}
+use Rattle.whole_worlds.proofs.Told.{data_way, way_control, out_way}
+use Rattle.whole_worlds.proofs.OpenBeside.{heads_stay}
+use Rattle.whole_worlds.proofs.FeedingLinks.{linked, found, at_open, more}
 use Rattle.whole_worlds.proofs.TakingStores.{control_out, control_kind}
-use Rattle.feeding_worlds.proofs.TakingAlike.{out_on, alike_out_pipes, alike_untaken, alike_known, none_concat}
+use Rattle.whole_worlds.proofs.TakingAlike.{out_on, alike_out_pipes, alike_untaken, alike_known, none_concat}
 
 -- ---- the lend: the walk doesn't meet the new queue head yet
 

@@ -17,7 +17,7 @@ use Rattle.stream_worlds.specs.Streaming.{Streams, Standing, wired}
 use Rattle.stream_worlds.specs.Returns.{KeepsWork}
 use Rattle.stream_worlds.proofs.Returning.{return_pipes}
 use Rattle.whole_worlds.specs.Whole.{IsWhole}
-use Rattle.feeding_worlds.specs.Taking.{outs_of, IsTaking}
+use Rattle.whole_worlds.specs.Taking.{outs_of, IsTaking}
 use Rattle.whole_worlds.proofs.Returning.{transfer, endpoint, returning, stand}
 
 module _ (fixed : Fixed) (takes : ℕ → ℕ → Bool) (member : ℕ → Bool) (x : Streams) (s : Standing) (w : World) (t : ℕ) (row : driver_row (driver_parts w) ≡ rows.ReleaseTransfer t) (k : IsWhole fixed takes member x s w) where

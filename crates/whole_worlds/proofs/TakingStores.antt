@@ -26,13 +26,13 @@ use Rattle.fed_queues.proofs.Places.{stands_met}
 use Rattle.publish_laws.specs.Stores.{IsAtStore, published_by}
 use Rattle.stream_worlds.specs.Outs.{GoesAs}
 use Rattle.stream_worlds.proofs.Storing.{store_pipes}
-use Rattle.feeding_worlds.specs.Feeding.{heads_of, IsFeeding}
+use Rattle.whole_worlds.specs.Feeding.{heads_of, IsFeeding}
 use Rattle.whole_worlds.specs.Whole.{IsWhole}
-use Rattle.feeding_worlds.specs.Taking.{outs_of, IsTaking}
-use Rattle.feeding_worlds.proofs.Heads.{own_toggle, queue_on}
-use Rattle.feeding_worlds.proofs.TakingAlike.{outs_on}
-use Rattle.feeding_worlds.proofs.FeedingStores.{at, after_store}
-use Rattle.feeding_worlds.proofs.Storing.{below}
+use Rattle.whole_worlds.specs.Taking.{outs_of, IsTaking}
+use Rattle.whole_worlds.proofs.Heads.{own_toggle, queue_on}
+use Rattle.whole_worlds.proofs.TakingAlike.{outs_on}
+use Rattle.whole_worlds.proofs.FeedingStores.{at, after_store}
+use Rattle.whole_worlds.proofs.Storing.{below}
 
 -- ---- the queue heads of OUT endpoints
 

@@ -31,7 +31,7 @@ use Rattle.harvest_laws.proofs.Places.{one_sooner, owner_is}
 use Rattle.harvest_laws.specs.Told.{ToldStands}
 use Rattle.harvest_laws.specs.ToldLaws.{SparesDone}
 use Rattle.harvest_laws.proofs.Standing.{spared_told, returned_told}
-use Rattle.feeding_worlds.proofs.There.{there_now, next_waits}
+use Rattle.whole_worlds.proofs.There.{there_now, next_waits}
 
 module _ (base : Base) (member : ℕ → Bool) (parts : StructureSets) (hand : Hand) (w : Walk) (p : DriverParts) (order : ℕ → ℕ → ℕ) (out : ℕ → List ℕ) (t : ℕ) (y : Transfer) (x : Endpoint) (s : ReleaseStands base member parts hand w p order out) (k : IsReturning p.driver t y x) (turns : AsynchronousTakesTurns p.driver) where
   abbrev d : DriverContent

@@ -10,16 +10,16 @@ use Rattle.stream_worlds.specs.Streaming.{Streams, Standing}
 use Rattle.fed_queues.specs.Fed.{IsPublished}
 use Rattle.publish_laws.specs.Stores.{IsAtStore, published_by, parts_then, next_of}
 use Rattle.open_laws.specs.Opens.{AreNamesApart}
-use Rattle.feeding_worlds.specs.Feeding.{IsFeeding}
+use Rattle.whole_worlds.specs.Feeding.{IsFeeding}
 use Rattle.whole_worlds.specs.Whole.{HaveSenders, IsWhole}
 use Rattle.whole_worlds.specs.Laws.{StoreKeepsWhole}
-use Rattle.feeding_worlds.specs.Taking.{HaveTakers}
-use Rattle.feeding_worlds.proofs.FeedingStores.{at, after_store, store_drives, queues_then, store_feeding}
-use Rattle.feeding_worlds.proofs.Storing.{by_store, met_now, under_way_then, told_then, runs_then}
+use Rattle.whole_worlds.specs.Taking.{HaveTakers}
+use Rattle.whole_worlds.proofs.FeedingStores.{at, after_store, store_drives, queues_then, store_feeding}
+use Rattle.whole_worlds.proofs.Storing.{by_store, met_now, under_way_then, told_then, runs_then}
 use Rattle.whole_worlds.proofs.KeptLeft.{whole_of, busy_left}
 use Rattle.whole_worlds.proofs.StoredTails.{tails_then}
 use Rattle.whole_worlds.proofs.TakingStores.{store_taking}
-use Rattle.feeding_worlds.proofs.Names.{row_apart}
+use Rattle.whole_worlds.proofs.Names.{row_apart}
 
 no_open : (c : ℕ) → ◌≡◌ {A = Option Command} None (Some (unfinished.Open c)) → ⊥
 no_open c same = cc

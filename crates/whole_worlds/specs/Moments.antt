@@ -27,7 +27,7 @@ use Rattle.right_reports.specs.Ins.{AreRightInStreams}
 use Rattle.taken_reports.specs.Taken.{AreTakenStreams}
 use Rattle.chained_transfers.specs.Asynchronous.{AsynchronousOnly}
 use Rattle.stream_worlds.specs.Takers.{takes_of}
-use Rattle.feeding_worlds.specs.Feeding.{streams_of}
+use Rattle.whole_worlds.specs.Feeding.{streams_of}
 use Rattle.whole_worlds.specs.Whole.{HasWhole}
 
 pub record IsAsynchronousScript (s : Script) : Type 0 where

@@ -18,11 +18,12 @@ use Rattle.byte_answers.specs.Bytes.{IsByteBus}
 use Rattle.usb_bus.specs.Bus.{Fixed}
 use Rattle.bus_world.specs.World.{World}
 use Rattle.stream_worlds.specs.Streaming.{Streams, Standing}
-use Rattle.feeding_worlds.specs.Feeding.{AreControlsApart, IsFeeding}
-use Rattle.feeding_worlds.specs.Taking.{IsTaking, HaveSides, HaveTakers}
+use Rattle.whole_worlds.specs.Feeding.{AreControlsApart, IsFeeding}
+use Rattle.whole_worlds.specs.Taking.{IsTaking, HaveSides, HaveTakers}
 use Rattle.narrowed_streams.specs.Narrowed.{IsOnSide}
-use Rattle.feeding_worlds.specs.Left.{IsLeft}
-use Rattle.feeding_worlds.specs.Tails.{TailsStand, IsUnderWay}
+use Rattle.whole_worlds.specs.Left.{IsLeft}
+use Rattle.standing_fronts.specs.Tails.{TailsStand}
+use Rattle.whole_worlds.specs.Tails.{IsUnderWay}
 
 -- ---- names
 

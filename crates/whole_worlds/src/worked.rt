@@ -1,7 +1,6 @@
 //! Worked rows, which the check computes.
-ghost use Rattle.std.specs.Prelude.{◌≡◌, [], Some, None, true, false, ◌∷◌, ℕ};
-ghost use Rattle.driver_rows.specs.declared.content.Command.TheVariants as unfinished;
-ghost use Rattle.feeding_worlds.specs.Tails.{tail_block};
+ghost use Rattle.std.specs.Prelude.{◌≡◌, [], Some, true, false, ◌∷◌};
+ghost use Rattle.standing_fronts.specs.Tails.{tail_block};
 ghost use Rattle.usb_base.specs.declared.reports.What.TheVariants as lines;
 ghost use Rattle.driver_rows.specs.declared.rows.DriverRow.TheVariants as rows;
 ghost use Rattle.driver_rows.specs.declared.rows.Found.TheVariants as founds;
@@ -11,15 +10,10 @@ ghost use Rattle.whole_worlds.specs.Harvested.{at_harvest};
 ghost use Rattle.op_registers.specs.RegisterFile.{RegisterFile};
 ghost use Rattle.driver_laws.specs.Released.{goes_of};
 ghost use Rattle.run_owners.specs.Leaving.{owes};
-ghost use Rattle.run_owners.specs.Worked.{busy_driver, get_out, bulk};
+ghost use Rattle.run_owners.specs.Worked.{busy_driver, get_out};
 ghost use Rattle.opening_senders.specs.Own.{HasOwnDevices};
 ghost use Rattle.whole_worlds.specs.Moments.{IsAsynchronousScript, IsWholeThroughout, InStreamsAreRightThroughout};
-ghost use Rattle.feeding_worlds.specs.FeedingSamples.{one_get};
-ghost use Rattle.driver_rows.specs.Offers.{new_endpoint};
-ghost use Rattle.ring_members.specs.Links.{members, IsChain};
-ghost use Rattle.ring_members.specs.Worked.{ring_word};
-ghost use Rattle.whole_worlds.specs.Placed.{linked_to, AreOnce, RunsInPlaceThroughout};
-ghost use Rattle.bus_world.specs.Budgets.{moment};
+ghost use Rattle.whole_worlds.specs.FeedingSamples.{one_get};
 
 /// The get ends with 3 bytes: they are noted of its qTD.
 pub fn a_get_ends()
@@ -46,22 +40,4 @@ pub fn a_script_with_one_get()
 pub fn its_streams_are_right()
     ensures whole { IsWholeThroughout one_get }
     ensures right { InStreamsAreRightThroughout one_get }
-{}
-
-/// The head leads to the newest endpoint and back through the older one, also while a third isn't linked yet.
-pub fn rings()
-    ensures two { members (linked_to None (new_endpoint bulk 130 133 ∷ new_endpoint bulk 140 142 ∷ [])) ≡ 140 ∷ 130 ∷ [] }
-    ensures opening { members (linked_to (Some (unfinished.Open 150)) (new_endpoint bulk 130 133 ∷ new_endpoint bulk 140 142 ∷ new_endpoint bulk 150 152 ∷ [])) ≡ 140 ∷ 130 ∷ [] }
-    ensures chain { IsChain ring_word 128 (140 ∷ 130 ∷ []) }
-    ensures once { AreOnce (128 ∷ 140 ∷ 130 ∷ []) }
-{}
-
-/// A script with one get runs in place.
-pub fn it_runs_in_place()
-    ensures { RunsInPlaceThroughout one_get }
-{}
-
-/// Each word that its controller reads or writes is lent to it.
-pub fn it_is_never_refused()
-    ensures { (k : ℕ) → (moment one_get k).world.memory.foreign ≡ 0 }
 {}

@@ -1,4 +1,4 @@
-use Rattle.framed_memory.proofs.OnlyAccepted.{new_numbered, event_numbered, command_numbered}
+use Rattle.framed_memory.proofs.Numbering.{new_numbered, event_numbered, command_numbered}
 use Rattle.framed_memory.proofs.command_laws.numbers_go_on_fitting.Goals as goal
 
 pub returns : goal.returns

@@ -2,11 +2,11 @@ use Rattle.usb_bus.specs.Bus.{fixed_of}
 use Rattle.declared_endpoints.specs.Samples.{second}
 use Rattle.bus_world.specs.Budgets.{moment}
 use Rattle.stream_worlds.specs.Streaming.{Streams}
-use Rattle.feeding_worlds.specs.FeedingSamples.{one_get}
-use Rattle.feeding_worlds.specs.Feeding.{streams_of}
+use Rattle.whole_worlds.specs.FeedingSamples.{one_get}
+use Rattle.whole_worlds.specs.Feeding.{streams_of}
 use Rattle.whole_worlds.proofs.Running.{scripts_stay_whole}
 use Rattle.whole_worlds.proofs.Sampling.{get_is_asynchronous}
-use Rattle.feeding_worlds.proofs.Cancelling.{cancel_feeds}
+use Rattle.whole_worlds.proofs.Cancelling.{cancel_feeds}
 use Rattle.whole_rows.proofs.cancels.a_cancel_at_each_moment.Goals as goal
 
 pub returns : goal.returns

@@ -6,11 +6,11 @@ use Rattle.declared_endpoints.specs.Samples.{second}
 use Rattle.driver_laws.specs.PartOpened.{is_head}
 use Rattle.bus_world.specs.Opening.{opening_world}
 use Rattle.shared_worlds.specs.Working.{at_opening}
-use Rattle.feeding_worlds.specs.FeedingSamples.{one_get}
-use Rattle.feeding_worlds.specs.Feeding.{streams_of}
-use Rattle.feeding_worlds.proofs.FeedingOpening.{new_world_feeds}
+use Rattle.whole_worlds.specs.FeedingSamples.{one_get}
+use Rattle.whole_worlds.specs.Feeding.{streams_of}
+use Rattle.whole_worlds.proofs.FeedingOpening.{new_world_feeds}
 use Rattle.whole_worlds.proofs.Sampling.{get_is_asynchronous}
-use Rattle.feeding_worlds.proofs.Cancelling.{cancel_feeds}
+use Rattle.whole_worlds.proofs.Cancelling.{cancel_feeds}
 use Rattle.whole_rows.proofs.cancels.a_cancel_before_the_open.Goals as goal
 
 room : IsOffered (opening_world one_get).driver.room (commands.Cancel second.name)

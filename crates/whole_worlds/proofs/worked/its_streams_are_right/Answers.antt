@@ -1,6 +1,6 @@
 use Rattle.whole_worlds.proofs.Running.{scripts_stay_whole, streams_are_right}
 use Rattle.whole_worlds.proofs.Sampling.{get_is_asynchronous, get_owns}
-use Rattle.feeding_worlds.specs.FeedingSamples.{one_get}
+use Rattle.whole_worlds.specs.FeedingSamples.{one_get}
 use Rattle.whole_worlds.proofs.worked.its_streams_are_right.Goals as goal
 
 pub returns : goal.returns

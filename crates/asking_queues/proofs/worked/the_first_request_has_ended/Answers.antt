@@ -1,6 +1,0 @@
-use Rattle.request_stores.proofs.Waiting.{has_ended}
-use Rattle.asking_queues.proofs.SampledHalts.{first_of_both_ended}
-use Rattle.asking_queues.proofs.worked.the_first_request_has_ended.Goals as goal
-
-pub returns : goal.returns
-returns c = record { several = first_of_both_ended; only = has_ended }

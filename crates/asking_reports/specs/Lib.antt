@@ -1,5 +1,0 @@
-pub mod Telling
-pub mod Asking
-pub mod Right
-pub mod Accepted
-pub mod Samples

@@ -1,5 +1,0 @@
-use Rattle.asking_transfers.proofs.Sampled.{begun_recorded, done_recorded, next_recorded, closed_recorded}
-use Rattle.asking_transfers.proofs.worked.two_requests_are_recorded.Goals as goal
-
-pub returns : goal.returns
-returns c = record { begun = begun_recorded; done = done_recorded; next = next_recorded; closed = closed_recorded }

@@ -1,0 +1,27 @@
+-- What the lines of the sample's driver tell.
+use Rattle.std.proofs.Common.{[], ◌∷◌, refl, arith}
+use Rattle.ring_requests.specs.Samples.{asked}
+use Rattle.request_stores.specs.Published.{without_first}
+use Rattle.world_requests.specs.Recorded.{no_windows}
+use Rattle.driver_requests.specs.Samples.{endpoint, driver, requests, begun}
+use Rattle.asking_worlds.specs.QueueChanges.{lines_behind}
+use Rattle.asking_worlds.specs.Courses.{Asks}
+use Rattle.asking_worlds.specs.TransferSamples.{both, one, first_acted, then_next}
+use Rattle.asking_worlds.specs.Telling.{IsTelling}
+use Rattle.asking_worlds.specs.ReportAsking.{IsTold}
+use Rattle.asking_worlds.specs.ReportSamples.{name, whole, told, stalled}
+
+pub none_told : IsTelling driver asked 0 name whole no_windows [] (0 ∷ 1 ∷ [])
+none_told = record { numbers = refl; told = record { told = tt; rest = refl; stored = tt }; wait = refl }
+
+pub first_told : IsTelling told asked 0 name whole first_acted (0 ∷ []) (1 ∷ [])
+first_told = record { numbers = refl; told = record { told = ((refl, refl), tt); rest = refl; stored = (omega arith, tt) }; wait = refl }
+
+pub both_told : IsTelling stalled asked 0 name whole first_acted (0 ∷ 1 ∷ []) []
+both_told = record { numbers = refl; told = record { told = ((refl, refl), (([], refl), tt)); rest = refl; stored = (omega arith, (omega arith, tt)) }; wait = refl }
+
+pub told_at_first : IsTold driver asked (λ name. whole) (Asks requests 4416 begun) both no_windows
+told_at_first = record { own = endpoint; here = refl; reported = []; waits = 0 ∷ 1 ∷ []; telling = none_told; going = refl; closed = λ on. refl }
+
+pub told_then : IsTold told asked (λ name. whole) (Asks (without_first requests) 4416 (lines_behind requests then_next)) one first_acted
+told_then = record { own = endpoint; here = refl; reported = 0 ∷ []; waits = 1 ∷ []; telling = first_told; going = refl; closed = λ on. refl }

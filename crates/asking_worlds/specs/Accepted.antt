@@ -1,0 +1,32 @@
+-- All that holds of the control requests of a world, where one more is accepted (EHCI 1.0, 4.10; USB 2.0, 8.5.3): it waits, and nothing is recorded of it.
+--     IsGiven w new o            the world has the driver that accepted it, and the bus as it was
+--     RequestKeepsAsking         the law
+use Rattle.std.specs.Prelude.{◌≡◌, ℕ, Bool, List, length}
+use Rattle.usb_base.specs.declared.commands.Cmd.TheVariants as commands
+use Rattle.usb_base.specs.declared.endpoints.EpName.{EpName}
+use Rattle.usb_bus.specs.Bus.{Fixed}
+use Rattle.lent_structures.specs.Structures.{StructureSets}
+use Rattle.driver_rows.specs.Offers.{Offered}
+use Rattle.run_owners.specs.Accepts.{Transfers}
+use Rattle.report_streams.specs.Requests.{Request}
+use Rattle.ring_laws.specs.Hand.{Hand}
+use Rattle.bus_world.specs.World.{World}
+use Rattle.request_bytes.specs.Fresh.{request_places}
+use Rattle.world_requests.specs.Recorded.{Windows, asks_then}
+use Rattle.asking_worlds.specs.Courses.{Course}
+use Rattle.asking_worlds.specs.Records.{Numbers}
+use Rattle.asking_worlds.specs.TransferChanges.{with_numbers, accepted_in, IsRequestOf}
+use Rattle.asking_worlds.specs.ReportAsking.{IsAsking}
+
+pub record IsGiven (w new : World) (o : Offered) : Type 0 where
+  pub driver : new.driver ≡ o.driver
+  pub bus : new.bus ≡ w.bus
+
+abbrev pub RequestKeepsAsking : Type 0
+RequestKeepsAsking = (fixed : Fixed) (member : ℕ → Bool) (courses : ℕ → Course) (numbers : ℕ → Numbers) (gone : ℕ → Bool) (asks : ℕ → Request) (whole : EpName → Request → List ℕ)
+    (parts : StructureSets) (hand : Hand) (w new : World) (v : Windows) (o : Offered) (why : Transfers w.driver w.memory o) (name : EpName) (setup bytes : List ℕ) (n : ℕ) → IsGiven w new o
+    → IsRequestOf w.driver w.memory o why setup courses numbers gone n → IsAsking fixed member courses numbers gone asks whole parts hand w v
+    → IsAsking fixed member courses
+    (with_numbers numbers n
+    (accepted_in (numbers n) (length w.driver.transfers) (record { setup = setup; bytes = bytes }) (request_places o.driver.notes why.endpoint.dummy (record { setup = setup; bytes = bytes }))))
+    gone (asks_then w.driver (commands.Control name setup bytes) asks) whole parts hand new v

@@ -1,5 +1,0 @@
-use Rattle.feeding_worlds.proofs.FeedingPassed.{passed_untold}
-use Rattle.feeding_worlds.proofs.feeding_laws.passed_qtds_are_untold.Goals as goal
-
-pub returns : goal.returns
-returns c = passed_untold

@@ -1,0 +1,214 @@
+-- The next store that a stalled control endpoint is owed leaves a world mixed, whether the walk of the ring may still meet its queue head or not.
+use Rattle.std.proofs.Common.{◌≡◌, ◌≢◌, ℕ, ◌*◌, ◌||◌, not, Bool, true, false, if◌then◌else◌, ◌∷◌, slice_get, Some, None, ap, sym, subst, ◌∙◌, ⊎_elim}
+use Rattle.std.proofs.lemmas.Bool.{cases_eq}
+use Rattle.std.proofs.lemmas.Option.{same_Some}
+use Rattle.periodic_rows.specs.Periodic.{is_periodic}
+use Rattle.driver_rows.specs.declared.content.Command.TheVariants as unfinished
+use Rattle.driver_rows.specs.declared.content.Endpoint.{Endpoint}
+use Rattle.driver_rows.specs.declared.content.Mend.{Mend}
+use Rattle.driver_rows.specs.declared.rows.DriverRow.{DriverRow}
+use Rattle.driver_rows.specs.declared.rows.DriverRow.TheVariants as rows
+use Rattle.driver_rows.specs.DriverContent.{DriverContent}
+use Rattle.driver_rows.specs.Rows.{is_iso, driver_row, after_driver_row}
+use Rattle.endpoint_lives.specs.Lives.{is_one_of, may_meet}
+use Rattle.run_owners.specs.Kept.{HasOwners}
+use Rattle.lent_runs.specs.Lent.{AreLent}
+use Rattle.lent_structures.specs.Structures.{QueueHead, StructureSets}
+use Rattle.lent_structures.proofs.Names.{put_beside}
+use Rattle.driver_laws.specs.PartOpened.{opening_base}
+use Rattle.publish_laws.proofs.Apart.{queues_same, thirty_two}
+use Rattle.frame_walk.specs.Met.{IsQueuePart}
+use Rattle.fed_queues.specs.Places.{IsMet}
+use Rattle.fed_lends.specs.Commands.{QueuesStand}
+use Rattle.mended_heads.specs.Owed.{IsOwed}
+use Rattle.mended_heads.specs.Mended.{IsAtMend, mended, head_at, parts_then, hand_then, driver_mended}
+use Rattle.mended_heads.proofs.Content.{all_on}
+use Rattle.mended_heads.proofs.Lent.{not_iso, queue_placed}
+use Rattle.mended_heads.proofs.Queues.{leaves_met}
+use Rattle.released_queues.specs.Fronts.{FrontsStand}
+use Rattle.standing_fronts.specs.Reaching.{Reaches}
+use Rattle.control_queues.specs.Controls.{ControlsStand}
+use Rattle.described_parts.specs.Both.{owns, both}
+use Rattle.described_parts.specs.Meeting.{met}
+use Rattle.described_parts.proofs.Standing.{both_off}
+use Rattle.described_parts.proofs.Telling.{queue_off}
+use Rattle.framed_memory.specs.Now.{FramedNext}
+use Rattle.framed_memory.proofs.LeavingUnmet.{ring_unmet}
+use Rattle.queued_drivers.specs.Queued.{with_queue, queued_endpoint, queued, queued_parts}
+use Rattle.queued_drivers.specs.Rows.{IsToldAlike}
+use Rattle.queued_drivers.proofs.RowEvents.{idle_told}
+use Rattle.queued_drivers.proofs.RowLists.{queue_told, IsMapped, mapped}
+use Rattle.queue_events.specs.Events.{PartsStand}
+use Rattle.lent_fronts.proofs.Parts.{member_head}
+use Rattle.bus_world.specs.World.{World, controller_parts, driver_parts, driver_next}
+use Rattle.mixed_worlds.specs.Mixed.{Standing, IsMixedAt, IsMixedWorld}
+use Rattle.mixed_worlds.specs.Laws.{RowKeepsMixed}
+use Rattle.mixed_worlds.proofs.Unfinished.{none_unfinished}
+use Rattle.mixed_worlds.proofs.HarvestKept.{idle_lent, owners_of, describes, driven_of, IsIdleNext, idle_mixed}
+use Rattle.mixed_worlds.proofs.RingBasis.{due_is, row_alike, queued_next}
+use Rattle.mixed_worlds.proofs.CommandTails.{idle_tail}
+use Rattle.mixed_worlds.proofs.MendNow.{mend_stays_now}
+use Rattle.mixed_worlds.proofs.MendTurned.{turned, turned_parts, its_row, mend_at, of_ring, has_queue, owed_of}
+use Rattle.mixed_worlds.proofs.MendQueues.{AllReach, queues_then, controls_then, fronts_then}
+
+-- a member of the ring is sound
+module _ (s : Standing) (w : World) (k : IsMixedAt s w) (m : Mend) (row : driver_row (driver_parts w) ≡ rows.Mend m) where
+  abbrev d : DriverContent
+  d = queued w.driver
+
+  abbrev f : DriverContent
+  f = (after_driver_row (rows.Mend m) (queued_parts (driver_parts w))).driver
+
+  due : (w.driver.command ≡ None) × (slice_get w.driver.mends 0 ≡ Some m)
+  due = due_is s w k (rows.Mend m) row
+
+  told : IsToldAlike (driver_parts w) (rows.Mend m)
+  told = row_alike s w k (rows.Mend m) row tt
+
+  idle : (queued w.driver).command ≡ None
+  idle = idle_told w.driver due.0
+
+  owners : HasOwners w.driver
+  owners = k.now.framed.place.sound.owners
+
+  lent : AreLent (queued w.driver)
+  lent = idle_lent w.driver due.0 k.now.framed.place.lent
+
+  at : IsAtMend (turned_parts (queued w.driver) w.registers w.memory) s.parts s.out
+  at =
+      mend_at (queued w.driver) w.registers w.memory m s.parts s.out idle due.1 k.now.framed.place.sound.stands (owners_of s w k) lent k.turns.turns (driven_of s w k) k.queues.controls.mends
+
+  -- the same of the driver
+  owed : IsOwed w.driver at.stalled
+  owed = owed_of w.driver at.stalled k.turns at.are.owed.0
+
+  abbrev own_at : IsAtMend (driver_parts w) s.parts s.out
+  own_at = record {
+    stalled = at.stalled;
+    others = at.others;
+    row = row ∙ sym (its_row (queued w.driver) w.registers w.memory m idle due.1) ∙ at.row;
+    idle = due.0;
+    are = record {
+      mends = at.are.mends;
+      owed = all_on (IsOwed (turned (queued w.driver))) (IsOwed w.driver) (at.stalled ∷ at.others) (λ i o. owed_of w.driver i k.turns o) at.are.owed;
+      wait = at.are.wait;
+      apart = at.are.apart;
+    };
+    can = at.can;
+    onward = at.onward;
+  }
+
+  abbrev n : ℕ
+  n = 32 * at.stalled.queue
+
+  abbrev parts_now : StructureSets
+  parts_now = parts_then at
+
+  ring_kind : is_periodic owed.endpoint.desc.kind ≡ false
+  ring_kind = of_ring owed.endpoint.desc.kind owed.control
+
+  unmet : met w.driver s.recent (32 * at.stalled.queue) ≡ None
+  unmet =
+      subst (λ (b : ℕ). met w.driver s.recent (32 * b) ≡ None) owed.queue
+      (ring_unmet w.driver s.recent w.registers.frame_index owed.number owed.endpoint owners k.now.framed.place.sound.listed k.now.recent_are due.0 owed.here ring_kind owed.kept)
+
+  now : FramedNext opening_base s.member s.recent s.descs (parts_then at) (hand_then at s.hand) s.frame (controller_parts w) w.driver
+  now = mend_stays_now opening_base s.member s.recent s.descs s.parts s.hand s.frame (controller_parts w) w.driver s.out k.now own_at unmet
+
+  -- ---- the queues
+
+  old : QueuesStand (queued w.driver) s.near s.streams s.ends s.parts s.order s.out
+  old = k.queues.queues
+
+  reach : AllReach (queued w.driver) s.parts s.order s.out
+  reach e z here is =
+      subst (Reaches (queued w.driver) (s.parts (32 * z.queue)) (s.order (32 * z.queue)) (s.out (32 * z.queue)) e z) (idle_tail (queued w.driver) e z idle) (k.queues.tails e z here is)
+
+  fronts : FrontsStand (driver_mended (queued w.driver)) (parts_then at) s.order s.out
+  fronts =
+      fronts_then (queued w.driver) w.registers w.memory s.near s.streams s.ends s.parts s.order s.out at old (owners_of s w k) lent k.turns.turns k.queues.sound k.queues.controls reach
+
+  -- where the queue head that is mended is met, the walk of the ring meets it
+  module _ (e : ℕ) (z : Endpoint) (here : slice_get (queued w.driver).endpoints e ≡ Some z) (is : IsMet (queued w.driver) e z) (same : z.queue ≡ at.stalled.queue) where
+    its : IsMapped queued_endpoint w.driver.endpoints e z
+    its = mapped queued_endpoint w.driver.endpoints e z here
+
+    off : is_iso its.one.desc.kind ≡ false
+    off = has_queue its.one z its.is is.there.kept
+
+    told_as : with_queue its.one ≡ z
+    told_as = sym (queue_told its.one off) ∙ its.is
+
+    queue : its.one.queue ≡ at.stalled.queue
+    queue = ap (λ (i : Endpoint). i.queue) told_as ∙ same
+
+    kept : its.one.gone ≡ false
+    kept = ap (λ (i : Endpoint). i.gone) told_as ∙ is.there.kept
+
+    number : e ≡ owed.number
+    number =
+        queues_same its.one.queue owed.endpoint.queue e owed.number (queue ∙ sym owed.queue) (queue_placed w.driver owners e its.one its.here off kept)
+        (queue_placed w.driver owners owed.number owed.endpoint owed.here (not_iso owed.endpoint.desc.kind owed.control) owed.kept)
+
+    itself : its.one ≡ owed.endpoint
+    itself = same_Some its.one owed.endpoint (sym its.here ∙ ap (slice_get w.driver.endpoints) number ∙ owed.here)
+
+    of_the_ring : is_periodic its.one.desc.kind ≡ false
+    of_the_ring = ap (λ (i : Endpoint). is_periodic i.desc.kind) itself ∙ ring_kind
+
+    near : may_meet w.driver e its.one ≡ true
+    near =
+        sym (ap (λ (b : Bool). (if b then not its.one.gone else its.one.linked) || (is_one_of e w.driver.waiting || is_one_of e w.driver.rung)) of_the_ring)
+        ∙ ap (may_meet (queued w.driver) e) told_as ∙ is.near
+
+    on : s.member (32 * at.stalled.queue) ≡ true
+    on =
+        ap (λ (b : ℕ). s.member (32 * b)) (sym queue)
+        ∙ k.ring.each e its.one its.here (record { there = record { linked = λ opens. none_unfinished (unfinished.Open its.one.queue) (sym due.0 ∙ opens); kept = kept }; near = near })
+
+    sound_own : IsQueuePart (32 * z.queue) (parts_then at (32 * z.queue))
+    sound_own =
+        let none : owns s.descs (32 * at.stalled.queue) ≡ false
+        = queue_off w.driver s.descs s.parts (describes s w k) (32 * at.stalled.queue) (32 * at.stalled.queue) (QueueHead (head_at at)) at.are.wait.0.stands.here in
+        subst (λ (b : ℕ). IsQueuePart (32 * b) (parts_then at (32 * b))) (sym same)
+        (subst (IsQueuePart (32 * at.stalled.queue)) (both_off s.descs (parts_then at) (32 * at.stalled.queue) none)
+        (member_head s.member (32 * at.stalled.queue) (both s.descs (parts_then at) (32 * at.stalled.queue)) (now.framed.runs.ring.members (32 * at.stalled.queue) on)))
+
+  sound : PartsStand (driver_mended (queued w.driver)) (parts_then at)
+  sound e z here is =
+      let was : IsMet (queued w.driver) e z = record { there = record { linked = is.there.linked; kept = is.there.kept }; near = is.near } in
+      ⊎_elim (λ (same : z.queue ≡ at.stalled.queue). sound_own e z here was same)
+      (λ (differs : z.queue ≢ at.stalled.queue).
+      subst (IsQueuePart (32 * z.queue))
+      (sym (put_beside s.parts n n (QueueHead (mended at.stalled (head_at at))) (32 * z.queue) (λ names. differs (thirty_two z.queue at.stalled.queue names))))
+      (k.queues.sound e z here was)) (cases_eq z.queue at.stalled.queue)
+
+  -- ---- the world
+
+  abbrev new : DriverContent
+  new = (after_driver_row (driver_row (driver_parts w)) (driver_parts w)).driver
+
+  tells_new : queued new ≡ f
+  tells_new = sym (queued_next s w k (rows.Mend m) row tt)
+
+  abbrev standing_then : Standing
+  standing_then = record s { parts = parts_then at; hand = hand_then at s.hand }
+
+  leaves : IsIdleNext s standing_then w
+  leaves = record {
+    idle = ap (λ (r : DriverRow). (after_driver_row r (driver_parts w)).driver.command) row ∙ due.0;
+    now = now;
+    ring = leaves_met (driver_parts w) s.parts s.out s.member own_at k.ring;
+    queues = subst (λ (i : DriverContent). QueuesStand i s.near s.streams s.ends (parts_then at) s.order s.out) (sym tells_new)
+        (queues_then (queued w.driver) w.registers w.memory s.near s.streams s.ends s.parts s.order s.out at old);
+    sound = subst (λ (i : DriverContent). PartsStand i (parts_then at)) (sym tells_new) sound;
+    fronts = subst (λ (i : DriverContent). FrontsStand i (parts_then at) s.order s.out) (sym tells_new) fronts;
+    controls = subst (λ (i : DriverContent). ControlsStand i (parts_then at) s.order s.out) (sym tells_new)
+        (controls_then (queued w.driver) w.registers w.memory s.near s.streams s.ends s.parts s.order s.out at old k.queues.controls);
+  }
+
+  pub mend_leaves : IsMixedWorld (driver_next w)
+  mend_leaves = idle_mixed s standing_then w k leaves
+
+pub mend_mixed : (m : Mend) → RowKeepsMixed (rows.Mend m)
+mend_mixed m s w k row = mend_leaves s w k m row

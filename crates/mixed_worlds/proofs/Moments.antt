@@ -1,0 +1,38 @@
+-- Each moment of the run of a script, whatever endpoints it opens.
+use Rattle.std.proofs.Common.{ℕ, List, [], ◌∷◌}
+use Rattle.std.specs.List.{AllByRecursion}
+use Rattle.script_types.specs.declared.scripts.Line.{Line}
+use Rattle.script_types.specs.declared.scripts.Line.TheVariants as lines
+use Rattle.script_types.specs.declared.scripts.Script.{Script}
+use Rattle.usb_bus.specs.Bus.{fixed_of}
+use Rattle.receiving_runs.specs.Runs.{KindOfLine, IsKeptBy}
+use Rattle.receiving_runs.proofs.Runs.{holds_throughout}
+use Rattle.mixed_worlds.specs.Mixed.{IsMixedWorld}
+use Rattle.mixed_worlds.specs.Laws.{OpensMixed, NewWorldIsMixed, ControllerKeepsMixed, DriverKeepsMixed, CommandKeepsMixed}
+use Rattle.mixed_worlds.specs.PlacedLaws.{MixedLine, ScriptsStayMixed}
+
+-- all that is to be shown of the world's events
+pub record StaysMixed : Type 0 where
+  pub opening : NewWorldIsMixed
+  pub controller : ControllerKeepsMixed
+  pub driver : DriverKeepsMixed
+  pub command : CommandKeepsMixed
+
+line_can : (l : Line) → MixedLine l → KindOfLine OpensMixed l
+line_can (lines.Order event count) fits = tt
+line_can (lines.Micro count) fits = tt
+line_can (lines.Command cmd) fits = fits
+
+lines_can : (xs : List (ℕ × Line)) → AllByRecursion (λ x. MixedLine x.1) xs → AllByRecursion (λ x. KindOfLine OpensMixed x.1) xs
+lines_can [] fits = tt
+lines_can (x ∷ xs) fits = (line_can x.1 fits.0, lines_can xs fits.1)
+
+is_kept : StaysMixed → (s : Script) → IsKeptBy (fixed_of s) OpensMixed IsMixedWorld
+is_kept stays s = record {
+  driver = λ w k. stays.driver w k;
+  controller = λ w k. stays.controller (fixed_of s) w k;
+  command = λ w line cmd can room k. stays.command w line cmd can room k;
+}
+
+pub stay_mixed : StaysMixed → ScriptsStayMixed
+stay_mixed stays s fits bytes opens k = holds_throughout OpensMixed IsMixedWorld s fits (lines_can s.lines opens) (stays.opening s fits bytes) (is_kept stays s) k

@@ -1,0 +1,17 @@
+pub mod RowLists
+pub mod RowHarvests
+pub mod RowEvents
+pub mod RowOwners
+pub mod RowFrames
+pub mod RowRemovals
+pub mod RowTurns
+pub mod CommandReasons
+pub mod CommandFields
+pub mod CommandOpens
+pub mod CommandAsks
+pub mod CommandEnds
+pub mod CommandGiven
+pub mod CommandLeaves
+pub mod CommandRest
+pub mod CommandTurns
+pub mod RowKinds

@@ -1,0 +1,4 @@
+pub mod Queued
+pub mod Rows
+pub mod Commands
+pub mod CommandsWorked
