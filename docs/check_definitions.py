@@ -3,7 +3,8 @@
 
 A row is: rule | defined in | worked | contract | edit. In "defined in" a word with a slash is a file below crates/, and the words after it
 stand in that file. A function is written as it is called, `crate::name` or `Type::name`; without a crate it is one of the row's first
-crate. An edit is a file of that crate's must-fail/, or `crate/name`. Names stand between backticks, and nothing else does.
+crate. An edit is a file of that crate's must-fail/, or of edits/CRATE, or `crate/name`. Names stand between backticks, and nothing else
+does.
 """
 import pathlib
 import re
@@ -38,7 +39,8 @@ def faults(cells, texts):
             yield f"no function {parts[-1]} in {home}"
     for word in re.findall(r"`([^`]+)`", edit):
         home, _, name = word.rpartition("/")
-        if not (CRATES / (home or crate or "") / "must-fail" / f"{name}.edit").is_file():
+        home = home or crate or ""
+        if not any((it / f"{name}.edit").is_file() for it in (CRATES / home / "must-fail", TOP / "edits" / home)):
             yield f"no edit {word}"
 
 

@@ -9,25 +9,25 @@ use Rattle.usb_base.specs.declared.endpoints.EpName.{EpName}
 use Rattle.usb_base.specs.declared.reports.Report.{Report}
 use Rattle.usb_bus.specs.Bus.{Fixed, Bus, Wired}
 use Rattle.endpoint_laws.specs.Acts.{counted}
-use Rattle.lent_structures.specs.Structures.{StructureSets}
+use Rattle.ring_laws.specs.lent_structures.Structures.{StructureSets}
 use Rattle.driver_rows.specs.declared.content.Endpoint.{Endpoint as DriverEndpoint}
 use Rattle.driver_rows.specs.declared.content.Transfer.{Transfer}
 use Rattle.driver_rows.specs.DriverContent.{DriverContent}
 use Rattle.driver_rows.specs.Offers.{Offered, new_transfer}
-use Rattle.run_owners.specs.Accepts.{Transfers}
+use Rattle.driver_laws.specs.run_owners.Accepts.{Transfers}
 use Rattle.report_streams.specs.Requests.{Request}
 use Rattle.ring_laws.specs.Hand.{Hand}
-use Rattle.scripted_requests.specs.Controls.{control_of}
+use Rattle.declared_endpoints.specs.scripted_requests.Controls.{control_of}
 use Rattle.bus_world.specs.World.{World}
-use Rattle.request_bytes.specs.Fresh.{request_places}
-use Rattle.world_requests.specs.Requesting.{wired}
-use Rattle.world_requests.specs.Recorded.{Windows, asks_then, numbers_of}
-use Rattle.driver_requests.specs.Requests.{IsOfEndpoint}
-use Rattle.driver_requests.specs.Rows.{EndpointStays}
-use Rattle.driver_requests.proofs.Accepting.{endpoint_stays}
-use Rattle.driver_requests.proofs.Ordering.{numbers_more, numbers_still, asked_before}
-use Rattle.told_endpoints.specs.Telling.{lines_in}
-use Rattle.told_requests.specs.Told.{has_cancel}
+use Rattle.asking_worlds.specs.request_bytes.Fresh.{request_places}
+use Rattle.asking_worlds.specs.world_requests.Requesting.{wired}
+use Rattle.asking_worlds.specs.world_requests.Recorded.{Windows, asks_then, numbers_of}
+use Rattle.asking_worlds.specs.driver_requests.Requests.{IsOfEndpoint}
+use Rattle.asking_worlds.specs.driver_requests.Rows.{EndpointStays}
+use Rattle.asking_worlds.proofs.lemmas.driver_requests.Accepting.{endpoint_stays}
+use Rattle.asking_worlds.proofs.lemmas.driver_requests.Ordering.{numbers_more, numbers_still, asked_before}
+use Rattle.walked_queues.specs.told_endpoints.Telling.{lines_in}
+use Rattle.asking_worlds.specs.told_requests.Told.{has_cancel}
 use Rattle.asking_worlds.specs.Courses.{Course, has_queue, queue_in, have_queues, CoursesStand}
 use Rattle.asking_worlds.specs.Records.{Numbers, AreRecords}
 use Rattle.asking_worlds.specs.TransferChanges.{with_numbers, accepted_in, IsRequestOf}

@@ -15,26 +15,26 @@ use Rattle.driver_rows.specs.DriverContent.{DriverContent}
 use Rattle.driver_rows.specs.Harvests.{note_at}
 use Rattle.driver_rows.specs.Offers.{Asked, first_of, stage_words, new_transfer, with_queued, accepted_transfer}
 use Rattle.driver_rows.specs.Words.{is_control}
-use Rattle.run_owners.specs.Owners.{note_in}
-use Rattle.run_owners.proofs.Released.{other_number, set_here, set_there}
-use Rattle.endpoint_lives.specs.Lives.{told_end}
-use Rattle.chained_transfers.specs.Turns.{IsAtPlace, AreAtPlaces}
-use Rattle.fed_lends.proofs.Asked.{push_which, set_which}
-use Rattle.told_harvests.specs.Held.{IsOneFrom}
-use Rattle.harvest_laws.proofs.Places.{one_later, unmoved_noted}
-use Rattle.lent_structures.specs.Structures.{StructureSets}
+use Rattle.driver_laws.specs.run_owners.Owners.{note_in}
+use Rattle.driver_laws.proofs.lemmas.run_owners.Released.{other_number, set_here, set_there}
+use Rattle.driver_laws.specs.endpoint_lives.Lives.{told_end}
+use Rattle.driver_laws.specs.chained_transfers.Turns.{IsAtPlace, AreAtPlaces}
+use Rattle.walked_queues.proofs.lemmas.fed_lends.Asked.{push_which, set_which}
+use Rattle.driver_laws.specs.told_harvests.Held.{IsOneFrom}
+use Rattle.driven_queues.proofs.lemmas.harvest_laws.Places.{one_later, unmoved_noted}
+use Rattle.ring_laws.specs.lent_structures.Structures.{StructureSets}
 use Rattle.report_streams.specs.Requests.{Request}
 use Rattle.ring_laws.specs.Hand.{Hand}
-use Rattle.world_requests.specs.Recorded.{Windows}
-use Rattle.driver_requests.proofs.Ordering.{numbers_still}
-use Rattle.driver_requests.proofs.Owning.{qtds_case}
+use Rattle.asking_worlds.specs.world_requests.Recorded.{Windows}
+use Rattle.asking_worlds.proofs.lemmas.driver_requests.Ordering.{numbers_still}
+use Rattle.asking_worlds.proofs.lemmas.driver_requests.Owning.{qtds_case}
 use Rattle.asking_worlds.specs.Courses.{Course, queue_in}
 use Rattle.asking_worlds.specs.Counts.{counted_all}
 use Rattle.asking_worlds.specs.Records.{Numbers, AreRecords}
 use Rattle.asking_worlds.specs.Telling.{AddsTransfer}
 use Rattle.asking_worlds.proofs.Telling.{other_accepted_keeps}
 use Rattle.whole_worlds.specs.Feeding.{opens}
-use Rattle.standing_fronts.specs.Tails.{tail_block}
+use Rattle.walked_queues.specs.standing_fronts.Tails.{tail_block}
 use Rattle.whole_worlds.proofs.Tail.{newest_there}
 use Rattle.asking_worlds.specs.Asking.{Sides, IsGiven, Asking, has_left, is_publishing, is_next_of, HasCourse, IsPublishing, DataIsRead, IsReadTo, HasTelling, IsControlOf, IsMetControl}
 use Rattle.asking_worlds.proofs.Inside.{AsksIn, IsCountedOn}

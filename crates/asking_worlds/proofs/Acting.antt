@@ -3,8 +3,8 @@ use Rattle.std.proofs.Common.{◌≡◌, ◌≢◌, ℕ, suc, ◌<◌, ◌==◌,
 use Rattle.std.specs.Prelude.{◌⊎◌}
 use Rattle.std.proofs.lemmas.Bool.{eq-eqb, false≢true}
 use Rattle.std.proofs.lemmas.Option.{same_Some}
-use Rattle.lent_structures.specs.Structures.{StructureSets}
-use Rattle.run_owners.proofs.Released.{same_by_test}
+use Rattle.ring_laws.specs.lent_structures.Structures.{StructureSets}
+use Rattle.driver_laws.proofs.lemmas.run_owners.Released.{same_by_test}
 use Rattle.usb_bus.specs.Bus.{Fixed}
 use Rattle.request_windows.specs.Host.{Endpoint, Stage, Setup}
 use Rattle.request_windows.specs.Line.{Line, transacted}
@@ -12,15 +12,15 @@ use Rattle.request_windows.specs.Standing.{Sight, sight_of, StandsAt}
 use Rattle.report_streams.specs.Requests.{Request}
 use Rattle.ring_laws.specs.Hand.{Hand}
 use Rattle.ring_laws.specs.Ring.{Base}
-use Rattle.ring_requests.specs.Windows.{Queue, Lines, IsQueue, Progress, Transaction, Advance, Step, opened, progressed, stepped, stage_of}
-use Rattle.control_requests.specs.Events.{ControlWindowsGoOn}
-use Rattle.scripted_requests.specs.Controls.{control_of, transacts_by, begins_by, is_at}
+use Rattle.declared_endpoints.specs.ring_requests.Windows.{Queue, Lines, IsQueue, Progress, Transaction, Advance, Step, opened, progressed, stepped, stage_of}
+use Rattle.asking_worlds.specs.control_requests.Events.{ControlWindowsGoOn}
+use Rattle.declared_endpoints.specs.scripted_requests.Controls.{control_of, transacts_by, begins_by, is_at}
 use Rattle.bus_world.specs.World.{World, controller_parts, controller_next}
-use Rattle.world_requests.specs.Requesting.{wired, IsRequesting}
-use Rattle.world_requests.specs.Recorded.{endpoint_of, Windows, acted_between, acts_in, opened_by, begun_by, acted_by, after_event}
-use Rattle.world_requests.specs.Recording.{AreTransfers, IsRecorded, AreRecorded}
-use Rattle.world_requests.proofs.Acting.{none_acted, transaction_acts}
-use Rattle.world_requests.proofs.Following.{event_kept, acted_is}
+use Rattle.asking_worlds.specs.world_requests.Requesting.{wired, IsRequesting}
+use Rattle.asking_worlds.specs.world_requests.Recorded.{endpoint_of, Windows, acted_between, acts_in, opened_by, begun_by, acted_by, after_event}
+use Rattle.asking_worlds.specs.world_requests.Recording.{AreTransfers, IsRecorded, AreRecorded}
+use Rattle.asking_worlds.proofs.lemmas.world_requests.Acting.{none_acted, transaction_acts}
+use Rattle.asking_worlds.proofs.lemmas.world_requests.Following.{event_kept, acted_is}
 
 -- ---- lists and places
 

@@ -3,16 +3,16 @@ use Rattle.std.proofs.Common.{◌≡◌, ℕ, ◌+◌, ◌*◌, ◌<◌, ◌≤�
 use Rattle.std.specs.Prelude.{◌⊎◌, if◌then◌else◌}
 use Rattle.link_words.specs.declared.kinds.QtdLink.TheVariants.{To}
 use Rattle.driver_rows.specs.DriverContent.{DriverContent}
-use Rattle.run_owners.specs.Owners.{Element, note_in}
-use Rattle.run_owners.specs.Kept.{HasOwners}
-use Rattle.lent_structures.specs.Structures.{Structures}
+use Rattle.driver_laws.specs.run_owners.Owners.{Element, note_in}
+use Rattle.driver_laws.specs.run_owners.Kept.{HasOwners}
+use Rattle.ring_laws.specs.lent_structures.Structures.{Structures}
 use Rattle.report_streams.specs.Requests.{Request}
 use Rattle.request_windows.specs.Host.{Endpoint, Stage, Setup, Data, Status, Done, Halted, has_data}
 use Rattle.ring_laws.specs.Front.{LinksRise}
-use Rattle.ring_requests.specs.Laid.{Places, place_at, AreApart, IsFresh}
-use Rattle.ring_requests.specs.Shown.{AreFresh}
-use Rattle.driver_requests.specs.Requests.{IsLaidOut}
-use Rattle.driver_requests.proofs.Owning.{qtds_case, first_piece, places_without, setup_place, IsQtdAt, status_place, data_place, element_of, owned_piece}
+use Rattle.declared_endpoints.specs.ring_requests.Laid.{Places, place_at, AreApart, IsFresh}
+use Rattle.declared_endpoints.specs.ring_requests.Shown.{AreFresh}
+use Rattle.asking_worlds.specs.driver_requests.Requests.{IsLaidOut}
+use Rattle.asking_worlds.proofs.lemmas.driver_requests.Owning.{qtds_case, first_piece, places_without, setup_place, IsQtdAt, status_place, data_place, element_of, owned_piece}
 use Rattle.asking_worlds.specs.Apart.{LaidAreApart, LaidAreOthers}
 
 -- ---- of one request

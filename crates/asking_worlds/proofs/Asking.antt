@@ -5,19 +5,19 @@ use Rattle.std.specs.List.{AllByRecursion}
 use Rattle.std.proofs.lemmas.Bool.{false≢true}
 use Rattle.usb_base.specs.declared.endpoints.EpName.{EpName}
 use Rattle.usb_bus.specs.Bus.{Fixed}
-use Rattle.lent_structures.specs.Structures.{StructureSets}
+use Rattle.ring_laws.specs.lent_structures.Structures.{StructureSets}
 use Rattle.driver_rows.specs.declared.content.Endpoint.{Endpoint as DriverEndpoint}
 use Rattle.report_streams.specs.Requests.{Request}
 use Rattle.ring_laws.specs.Hand.{Hand}
 use Rattle.ring_laws.specs.Ring.{Base}
-use Rattle.controlled_streams.specs.Control.{IsOn, IsControlled, Controls}
-use Rattle.ring_requests.specs.Windows.{Queue, Step}
-use Rattle.scripted_requests.specs.Controls.{control_of, transacts_by, begins_by}
-use Rattle.scripted_requests.proofs.Asking.{scripted_control}
-use Rattle.scripted_requests.proofs.Beginning.{scripted_begins}
+use Rattle.walked_queues.specs.controlled_streams.Control.{IsOn, IsControlled, Controls}
+use Rattle.declared_endpoints.specs.ring_requests.Windows.{Queue, Step}
+use Rattle.declared_endpoints.specs.scripted_requests.Controls.{control_of, transacts_by, begins_by}
+use Rattle.declared_endpoints.proofs.lemmas.scripted_requests.Asking.{scripted_control}
+use Rattle.declared_endpoints.proofs.lemmas.scripted_requests.Beginning.{scripted_begins}
 use Rattle.bus_world.specs.World.{World, controller_next, controller_parts}
-use Rattle.world_requests.specs.Requesting.{wired}
-use Rattle.world_requests.specs.Recorded.{Windows, after_event, numbers_of}
+use Rattle.asking_worlds.specs.world_requests.Requesting.{wired}
+use Rattle.asking_worlds.specs.world_requests.Recorded.{Windows, after_event, numbers_of}
 use Rattle.asking_worlds.specs.Courses.{Course, NoQueue, Asks, Rests, has_queue, is_asking, queue_in, have_queues}
 use Rattle.asking_worlds.specs.QueueEvents.{course_after, courses_after, CoursesGoOn}
 use Rattle.asking_worlds.proofs.QueueEvents.{event_keeps}

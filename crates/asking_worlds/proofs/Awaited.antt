@@ -15,10 +15,10 @@ use Rattle.driver_rows.specs.DriverContent.{DriverContent}
 use Rattle.driver_rows.specs.Harvests.{note_at}
 use Rattle.driver_rows.specs.Offers.{is_last}
 use Rattle.driver_rows.specs.Words.{request_stages}
-use Rattle.run_owners.specs.Accepts.{AreShort}
-use Rattle.run_owners.specs.Owners.{EndpointRuns, TransferRuns, views_of}
-use Rattle.lent_structures.specs.Structures.{Element, Structures, StructureSets}
-use Rattle.lent_structures.specs.Sound.{HasBuffer}
+use Rattle.driver_laws.specs.run_owners.Accepts.{AreShort}
+use Rattle.driver_laws.specs.run_owners.Owners.{EndpointRuns, TransferRuns, views_of}
+use Rattle.ring_laws.specs.lent_structures.Structures.{Element, Structures, StructureSets}
+use Rattle.ring_laws.specs.lent_structures.Sound.{HasBuffer}
 use Rattle.driver_laws.specs.Inventory.{IsLent}
 use Rattle.driver_laws.specs.Pieces.{stage_qtd, IsNewQtd, AreStanding, AreBuffered}
 use Rattle.driver_laws.specs.Published.{IsPublishable}
@@ -27,9 +27,9 @@ use Rattle.driver_laws.specs.Written.{IsPageRun, AreAllApart, next_blocks, buffe
 use Rattle.driver_laws.proofs.Holding.{qtd_range, blocks_low}
 use Rattle.report_streams.specs.Requests.{Request}
 use Rattle.request_windows.specs.Host.{has_data}
-use Rattle.ring_requests.specs.Laid.{Places, AreApart}
-use Rattle.request_bytes.specs.Fresh.{data_places, other_places, next_of, request_places}
-use Rattle.request_bytes.proofs.Requests.{no_data, with_data, request_case}
+use Rattle.declared_endpoints.specs.ring_requests.Laid.{Places, AreApart}
+use Rattle.asking_worlds.specs.request_bytes.Fresh.{data_places, other_places, next_of, request_places}
+use Rattle.asking_worlds.proofs.lemmas.request_bytes.Requests.{no_data, with_data, request_case}
 
 ok_same : (t u : Qtd) → ◌≡◌ {A = Result Qtd Bad} (Ok t) (Ok u) → t ≡ u
 ok_same t u same = cc

@@ -1,12 +1,12 @@
 -- An endpoint is met from now on, at rest.
 use Rattle.std.proofs.Common.{◌≡◌, ◌≢◌, ℕ, Bool, true, false, Option, ap, refl, sym, ◌∙◌, ⊎_elim, arith}
 use Rattle.std.proofs.lemmas.Bool.{cases_eq, false≢true}
-use Rattle.lent_structures.specs.Structures.{StructureSets}
+use Rattle.ring_laws.specs.lent_structures.Structures.{StructureSets}
 use Rattle.control_stages.specs.Stages.{Stages}
-use Rattle.request_calls.specs.Bus.{Device}
+use Rattle.declared_endpoints.specs.request_calls.Bus.{Device}
 use Rattle.ring_laws.specs.Hand.{Hand}
 use Rattle.ring_laws.specs.Told.{endpoint_of}
-use Rattle.ring_requests.specs.Windows.{Queue, IsElsewhere}
+use Rattle.declared_endpoints.specs.ring_requests.Windows.{Queue, IsElsewhere}
 use Rattle.asking_worlds.specs.Courses.{Course, Rests, has_queue, queue_in, IsResting, IsCourse, queues, have_queues, CoursesStand, with_course}
 use Rattle.asking_worlds.specs.QueueChanges.{IsNewCourse, CourseBegins}
 use Rattle.asking_worlds.proofs.Courses.{HasHead, head_at}

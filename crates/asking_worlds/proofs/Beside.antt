@@ -4,18 +4,18 @@ use Rattle.std.proofs.lemmas.Option.{same_Some}
 use Rattle.usb_bus.specs.Bus.{Fixed}
 use Rattle.driver_rows.specs.declared.content.Endpoint.{Endpoint}
 use Rattle.driver_rows.specs.Words.{head_block, is_control}
-use Rattle.fed_queues.specs.Places.{HasHead}
-use Rattle.lent_structures.specs.Structures.{StructureSets}
-use Rattle.publish_laws.proofs.Apart.{queue_placed, queues_same, thirty_two}
+use Rattle.driver_laws.specs.fed_queues.Places.{HasHead}
+use Rattle.ring_laws.specs.lent_structures.Structures.{StructureSets}
+use Rattle.driven_queues.proofs.lemmas.publish_laws.Apart.{queue_placed, queues_same, thirty_two}
 use Rattle.report_streams.specs.Requests.{Request}
-use Rattle.request_calls.specs.Bus.{Device}
+use Rattle.declared_endpoints.specs.request_calls.Bus.{Device}
 use Rattle.ring_laws.specs.Hand.{Hand}
 use Rattle.ring_laws.specs.Sparing.{SameHand}
-use Rattle.ring_requests.specs.Resting.{SameSide}
+use Rattle.declared_endpoints.specs.ring_requests.Resting.{SameSide}
 use Rattle.bus_world.specs.World.{World}
 use Rattle.stream_worlds.specs.Streaming.{Streams, Standing}
-use Rattle.world_requests.specs.Recorded.{Windows}
-use Rattle.driver_requests.specs.Requests.{IsOfEndpoint}
+use Rattle.asking_worlds.specs.world_requests.Recorded.{Windows}
+use Rattle.asking_worlds.specs.driver_requests.Requests.{IsOfEndpoint}
 use Rattle.asking_worlds.specs.Courses.{Course, NoQueue, Asks, Rests, has_queue, IsCourse, have_queues, CoursesStand}
 use Rattle.asking_worlds.specs.Spared.{KeepsEndpoints}
 use Rattle.asking_worlds.proofs.QueueChanging.{all_kept}

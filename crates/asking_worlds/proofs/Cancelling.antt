@@ -16,20 +16,20 @@ use Rattle.driver_rows.specs.Harvests.{note_at}
 use Rattle.driver_rows.specs.Offers.{first_end, accepted_cancel}
 use Rattle.driver_rows.specs.Rows.{ended_by_cancel}
 use Rattle.driver_rows.specs.Words.{is_control}
-use Rattle.run_owners.proofs.Released.{set_here, set_there}
-use Rattle.endpoint_lives.specs.Lives.{told_end, is_one_of}
-use Rattle.chained_transfers.specs.Asynchronous.{OnlyAsynchronous}
-use Rattle.fed_lends.proofs.Asked.{set_which}
-use Rattle.lent_structures.specs.Structures.{StructureSets}
+use Rattle.driver_laws.proofs.lemmas.run_owners.Released.{set_here, set_there}
+use Rattle.driver_laws.specs.endpoint_lives.Lives.{told_end, is_one_of}
+use Rattle.driver_laws.specs.chained_transfers.Asynchronous.{OnlyAsynchronous}
+use Rattle.walked_queues.proofs.lemmas.fed_lends.Asked.{set_which}
+use Rattle.ring_laws.specs.lent_structures.Structures.{StructureSets}
 use Rattle.report_streams.specs.Requests.{Request}
 use Rattle.ring_laws.specs.Hand.{Hand}
-use Rattle.scripted_requests.specs.Controls.{control_of}
-use Rattle.world_requests.specs.Recorded.{Windows}
-use Rattle.driver_requests.specs.Rows.{EndpointStays, KeepsRequests}
+use Rattle.declared_endpoints.specs.scripted_requests.Controls.{control_of}
+use Rattle.asking_worlds.specs.world_requests.Recorded.{Windows}
+use Rattle.asking_worlds.specs.driver_requests.Rows.{EndpointStays, KeepsRequests}
 use Rattle.asking_worlds.specs.Courses.{Course, queue_in}
 use Rattle.asking_worlds.proofs.Rows.{kept_recorded}
 use Rattle.whole_worlds.specs.Feeding.{opens}
-use Rattle.standing_fronts.specs.Tails.{tail_block}
+use Rattle.walked_queues.specs.standing_fronts.Tails.{tail_block}
 use Rattle.asking_worlds.specs.Asking.{Sides, IsGiven, Asking, left_with, has_left, is_publishing, HasCourse, IsReadTo, HasTelling, IsMetControl}
 use Rattle.asking_worlds.proofs.Commanding.{regone}
 use Rattle.asking_worlds.proofs.Inside.{AsksIn}

@@ -13,19 +13,19 @@ use Rattle.driver_rows.specs.DriverContent.{DriverContent}
 use Rattle.driver_rows.specs.Harvests.{note_at}
 use Rattle.driver_rows.specs.Rows.{Parts, driver_row, after_driver_row}
 use Rattle.driver_rows.specs.Words.{head_block, is_control}
-use Rattle.endpoint_lives.specs.Lives.{told_end, may_meet}
-use Rattle.fed_queues.specs.Places.{IsMet, HasHead, AreMet}
-use Rattle.leaving_drivers.proofs.Clearing.{clear_finds}
-use Rattle.leaving_drivers.proofs.Unmet.{gone_unmet}
-use Rattle.narrowed_streams.specs.Narrowed.{left_names}
+use Rattle.driver_laws.specs.endpoint_lives.Lives.{told_end, may_meet}
+use Rattle.driver_laws.specs.fed_queues.Places.{IsMet, HasHead, AreMet}
+use Rattle.driven_queues.proofs.lemmas.leaving_drivers.Clearing.{clear_finds}
+use Rattle.driven_queues.proofs.lemmas.leaving_drivers.Unmet.{gone_unmet}
+use Rattle.told_streams.specs.narrowed_streams.Narrowed.{left_names}
 use Rattle.report_streams.specs.Requests.{Request}
 use Rattle.ring_laws.specs.Stores.{IsWider}
-use Rattle.scripted_requests.specs.Controls.{control_of}
+use Rattle.declared_endpoints.specs.scripted_requests.Controls.{control_of}
 use Rattle.bus_world.specs.World.{World, driver_parts, driver_next, with_parts}
 use Rattle.stream_worlds.specs.Streaming.{Streams, Standing}
-use Rattle.world_requests.specs.Requesting.{wired}
-use Rattle.world_requests.specs.Recorded.{Windows}
-use Rattle.driver_requests.specs.Rows.{given_by, KeepsEndpoint}
+use Rattle.asking_worlds.specs.world_requests.Requesting.{wired}
+use Rattle.asking_worlds.specs.world_requests.Recorded.{Windows}
+use Rattle.asking_worlds.specs.driver_requests.Rows.{given_by, KeepsEndpoint}
 use Rattle.asking_worlds.specs.Courses.{NoQueue, CoursesStand}
 use Rattle.asking_worlds.specs.Records.{AreRecords}
 use Rattle.asking_worlds.proofs.Rows.{row_recorded}

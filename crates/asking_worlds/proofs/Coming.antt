@@ -13,16 +13,16 @@ use Rattle.walk_copy.specs.Overlay.{advanced}
 use Rattle.walk_copy.specs.WriteBack.{moved_by}
 use Rattle.async_walk.specs.declared.state.WalkStep.{WalkStep}
 use Rattle.hc_core.specs.Controller.{Content, walk_place}
-use Rattle.lent_structures.specs.Structures.{QueueHead, Element, Buffer, Structures, StructureSets, put, with_structure}
-use Rattle.lent_structures.specs.WriteBack.{CanBeWritten}
-use Rattle.lent_structures.specs.Sound.{element_pages, buffer_name, HasBuffer, IsWorking, IsSoundQueue, IsMember}
-use Rattle.lent_structures.specs.Alters.{Alters, HadElement, HasBytes as HadBytes}
-use Rattle.lent_structures.proofs.Names.{put_same, put_else, put_here, put_beside}
-use Rattle.lent_structures.proofs.Altering.{found_queue, found_element, no_two}
-use Rattle.lent_structures.proofs.Found.{IsNotInto, back_beside, back_other_element, back_other_buffer}
+use Rattle.ring_laws.specs.lent_structures.Structures.{QueueHead, Element, Buffer, Structures, StructureSets, put, with_structure}
+use Rattle.ring_laws.specs.lent_structures.WriteBack.{CanBeWritten}
+use Rattle.ring_laws.specs.lent_structures.Sound.{element_pages, buffer_name, HasBuffer, IsWorking, IsSoundQueue, IsMember}
+use Rattle.ring_laws.specs.lent_structures.Alters.{Alters, HadElement, HasBytes as HadBytes}
+use Rattle.ring_laws.proofs.lemmas.lent_structures.Names.{put_same, put_else, put_here, put_beside}
+use Rattle.ring_laws.proofs.lemmas.lent_structures.Altering.{found_queue, found_element, no_two}
+use Rattle.ring_laws.proofs.lemmas.lent_structures.Found.{IsNotInto, back_beside, back_other_element, back_other_buffer}
 use Rattle.report_streams.specs.Requests.{Request}
 use Rattle.request_windows.specs.Host.{Endpoint, Stage, Setup, Data, Status, Done, Halted, has_data, next_stage}
-use Rattle.request_calls.specs.Bus.{Device, IsControlBus, KeepsDevices}
+use Rattle.declared_endpoints.specs.request_calls.Bus.{Device, IsControlBus, KeepsDevices}
 use Rattle.ring_laws.specs.Hand.{settled_queue_of, Hand}
 use Rattle.ring_laws.specs.Ring.{Base, IsCopied, IsSettled, IsInHand, IsRing}
 use Rattle.ring_laws.specs.Effects.{received_into, WritesBack, Effect}
@@ -30,14 +30,14 @@ use Rattle.ring_laws.specs.Effects.Effect.{reads, passes, ends, takes, makes, wr
 use Rattle.ring_laws.specs.Stores.{IsUnnamed}
 use Rattle.ring_laws.proofs.Altered.{effect_alters}
 use Rattle.ring_laws.proofs.Writing.{settled_copy, settled_range}
-use Rattle.controlled_streams.specs.Control.{IsControlled, ControlEffect, a_microframe, a_step}
-use Rattle.ring_requests.specs.Laid.{Places, place_at, IsPlace, AreApart, comes, IsLinkBehind, LeadBehind, Leads, HasBytes, IsBuffer, IsIdle, IsFresh}
-use Rattle.ring_requests.specs.Shown.{AreFresh}
-use Rattle.ring_requests.specs.Windows.{Queue, Lines}
-use Rattle.ring_requests.specs.Resting.{IsAlone}
-use Rattle.ring_requests.proofs.Stages.{comes_later, idle_still}
-use Rattle.ring_requests.proofs.Taking.{element_there, buffer_there}
-use Rattle.control_requests.proofs.Resting.{control_rests}
+use Rattle.walked_queues.specs.controlled_streams.Control.{IsControlled, ControlEffect, a_microframe, a_step}
+use Rattle.declared_endpoints.specs.ring_requests.Laid.{Places, place_at, IsPlace, AreApart, comes, IsLinkBehind, LeadBehind, Leads, HasBytes, IsBuffer, IsIdle, IsFresh}
+use Rattle.declared_endpoints.specs.ring_requests.Shown.{AreFresh}
+use Rattle.declared_endpoints.specs.ring_requests.Windows.{Queue, Lines}
+use Rattle.declared_endpoints.specs.ring_requests.Resting.{IsAlone}
+use Rattle.declared_endpoints.proofs.lemmas.ring_requests.Stages.{comes_later, idle_still}
+use Rattle.declared_endpoints.proofs.lemmas.ring_requests.Taking.{element_there, buffer_there}
+use Rattle.asking_worlds.proofs.lemmas.control_requests.Resting.{control_rests}
 use Rattle.asking_worlds.specs.Courses.{Course, NoQueue, Asks, Rests, has_queue, queue_in, tail_in, AreInLine, IsCourse, IsAsking, IsResting, CoursesStand}
 use Rattle.asking_worlds.specs.QueueChanges.{IsPublishedAt}
 use Rattle.asking_worlds.specs.Coming.{IsSetup, IsComing, LentIsComing, StoreKeepsComing, EventKeepsComing, ComingIsPublished}

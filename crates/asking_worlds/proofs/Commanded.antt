@@ -4,18 +4,18 @@ use Rattle.std.proofs.Common.{◌≡◌, ℕ, ◌*◌, Bool, Result, Ok, Err, re
 use Rattle.usb_base.specs.declared.commands.Cmd.{Cmd}
 use Rattle.usb_base.specs.declared.commands.Cmd.TheVariants as commands
 use Rattle.usb_base.specs.declared.reports.OfferError.{OfferError}
-use Rattle.byte_answers.specs.Bytes.{IsByteCommand}
+use Rattle.script_laws.specs.byte_answers.Bytes.{IsByteCommand}
 use Rattle.usb_bus.specs.Bus.{Fixed}
 use Rattle.driver_rows.specs.Offers.{Offered, offered, IsOffered}
 use Rattle.driver_rows.specs.Words.{head_block, opening_head}
 use Rattle.report_streams.specs.Requests.{Request}
 use Rattle.ring_laws.specs.Told.{endpoint_of}
-use Rattle.chained_transfers.specs.Asynchronous.{OpensAsynchronous}
-use Rattle.chained_transfers.proofs.Accepting.{command_accepts}
-use Rattle.walk_members.specs.Reached.{OpensNumbered}
+use Rattle.driver_laws.specs.chained_transfers.Asynchronous.{OpensAsynchronous}
+use Rattle.driver_laws.proofs.lemmas.chained_transfers.Accepting.{command_accepts}
+use Rattle.driver_laws.specs.walk_members.Reached.{OpensNumbered}
 use Rattle.bus_world.specs.World.{World, commanded}
 use Rattle.stream_worlds.specs.Streaming.{Streams, Standing}
-use Rattle.world_requests.specs.Recorded.{Windows, asks_then}
+use Rattle.asking_worlds.specs.world_requests.Recorded.{Windows, asks_then}
 use Rattle.whole_worlds.specs.LeftLaws.{OpensNamed}
 use Rattle.whole_worlds.specs.Whole.{IsWhole}
 use Rattle.whole_worlds.proofs.Commanding.{whole_commanded, OpensToOnce}

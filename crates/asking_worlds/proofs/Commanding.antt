@@ -20,35 +20,35 @@ use Rattle.driver_rows.specs.DriverContent.{DriverContent}
 use Rattle.driver_rows.specs.Harvests.{note_at}
 use Rattle.driver_rows.specs.Offers.{Offered, Asked, new_runs, first_of as first_stage, stage_words, new_transfer, with_queued, accepted_transfer, first_waiting}
 use Rattle.driver_rows.specs.Words.{is_control}
-use Rattle.run_owners.specs.Accepts.{Transfers}
-use Rattle.run_owners.specs.Kept.{HasOwners}
-use Rattle.run_owners.specs.Owners.{note_in}
-use Rattle.run_owners.proofs.Released.{set_here, set_there, other_number}
-use Rattle.lent_runs.specs.Lent.{AreLent}
-use Rattle.endpoint_lives.specs.Lives.{told_end, may_meet}
-use Rattle.endpoint_lives.proofs.Lives.{told_some}
-use Rattle.chained_transfers.specs.Accepted.{IsAsked}
-use Rattle.chained_transfers.specs.Bulk.{IsDataWay}
-use Rattle.chained_transfers.specs.Asynchronous.{IsKindOf, OnlyAsynchronous}
-use Rattle.chained_transfers.specs.Turns.{AreAtPlaces}
-use Rattle.told_harvests.specs.Held.{AreUnmoved}
-use Rattle.fed_lends.proofs.Asked.{dummy_in, notes_in}
-use Rattle.fed_queues.proofs.Places.{stands_met}
-use Rattle.lent_structures.specs.Structures.{StructureSets}
+use Rattle.driver_laws.specs.run_owners.Accepts.{Transfers}
+use Rattle.driver_laws.specs.run_owners.Kept.{HasOwners}
+use Rattle.driver_laws.specs.run_owners.Owners.{note_in}
+use Rattle.driver_laws.proofs.lemmas.run_owners.Released.{set_here, set_there, other_number}
+use Rattle.driver_laws.specs.lent_runs.Lent.{AreLent}
+use Rattle.driver_laws.specs.endpoint_lives.Lives.{told_end, may_meet}
+use Rattle.driver_laws.proofs.lemmas.endpoint_lives.Lives.{told_some}
+use Rattle.driver_laws.specs.chained_transfers.Accepted.{IsAsked}
+use Rattle.driver_laws.specs.chained_transfers.Bulk.{IsDataWay}
+use Rattle.driver_laws.specs.chained_transfers.Asynchronous.{IsKindOf, OnlyAsynchronous}
+use Rattle.driver_laws.specs.chained_transfers.Turns.{AreAtPlaces}
+use Rattle.driver_laws.specs.told_harvests.Held.{AreUnmoved}
+use Rattle.walked_queues.proofs.lemmas.fed_lends.Asked.{dummy_in, notes_in}
+use Rattle.driver_laws.proofs.lemmas.fed_queues.Places.{stands_met}
+use Rattle.ring_laws.specs.lent_structures.Structures.{StructureSets}
 use Rattle.endpoint_laws.specs.Acts.{counted}
 use Rattle.report_streams.specs.Requests.{Request}
 use Rattle.request_windows.specs.Windows.{IsRequest}
 use Rattle.ring_laws.specs.Hand.{Hand}
-use Rattle.ring_requests.specs.Runs.{first_of}
-use Rattle.ring_requests.specs.Windows.{Queue, Lines}
-use Rattle.request_bytes.specs.Fresh.{request_places}
-use Rattle.request_bytes.specs.Held.{RequestIsHeld}
-use Rattle.request_bytes.proofs.Accepting.{accepted_held}
-use Rattle.scripted_requests.specs.Controls.{control_of}
-use Rattle.world_requests.specs.Recorded.{Windows, asks_then, numbers_of}
-use Rattle.driver_requests.specs.Rows.{number_with}
-use Rattle.driver_requests.proofs.Ordering.{numbers_more, first_more}
-use Rattle.driver_requests.proofs.Owning.{qtds_case}
+use Rattle.declared_endpoints.specs.ring_requests.Runs.{first_of}
+use Rattle.declared_endpoints.specs.ring_requests.Windows.{Queue, Lines}
+use Rattle.asking_worlds.specs.request_bytes.Fresh.{request_places}
+use Rattle.asking_worlds.specs.request_bytes.Held.{RequestIsHeld}
+use Rattle.asking_worlds.proofs.lemmas.request_bytes.Accepting.{accepted_held}
+use Rattle.declared_endpoints.specs.scripted_requests.Controls.{control_of}
+use Rattle.asking_worlds.specs.world_requests.Recorded.{Windows, asks_then, numbers_of}
+use Rattle.asking_worlds.specs.driver_requests.Rows.{number_with}
+use Rattle.asking_worlds.proofs.lemmas.driver_requests.Ordering.{numbers_more, first_more}
+use Rattle.asking_worlds.proofs.lemmas.driver_requests.Owning.{qtds_case}
 use Rattle.asking_worlds.specs.Courses.{Course, Asks, queue_in, have_queues, IsCourse, IsAsking}
 use Rattle.asking_worlds.specs.TransferChanges.{with_numbers, accepted_in}
 use Rattle.asking_worlds.specs.Counts.{counted_all}
@@ -58,7 +58,7 @@ use Rattle.asking_worlds.proofs.Rows.{other_recorded, request_recorded}
 use Rattle.asking_worlds.specs.Telling.{IsTelling}
 use Rattle.asking_worlds.proofs.Telling.{accepted_keeps}
 use Rattle.whole_worlds.specs.Feeding.{opens}
-use Rattle.standing_fronts.specs.Tails.{tail_block}
+use Rattle.walked_queues.specs.standing_fronts.Tails.{tail_block}
 use Rattle.whole_worlds.proofs.Tail.{newest_there}
 use Rattle.asking_worlds.specs.Asking.{Sides, Asking, left_with, has_left, is_publishing, is_next_of, next_with, HasCourse, IsHeldRequest, IsPublishingAt, IsPublishing, IsReadTo, HasTelling, IsMetControl}
 use Rattle.asking_worlds.proofs.Accepting.{adds, read_first, OwnAsks, accepted_asks}

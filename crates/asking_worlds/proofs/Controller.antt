@@ -6,7 +6,7 @@ use Rattle.std.proofs.lemmas.Option.{same_Some}
 use Rattle.usb_base.specs.declared.packets.Ask.{Ask}
 use Rattle.usb_base.specs.declared.packets.Reply.{Reply}
 use Rattle.usb_bus.specs.Bus.{Fixed}
-use Rattle.run_owners.specs.Owners.{runs_of_transfer, runs_of_endpoint}
+use Rattle.driver_laws.specs.run_owners.Owners.{runs_of_transfer, runs_of_endpoint}
 use Rattle.hc_core.specs.Controller.{Content, walk_place}
 use Rattle.driver_rows.specs.declared.content.Command.{Command}
 use Rattle.driver_rows.specs.declared.content.Command.TheVariants as unfinished
@@ -17,36 +17,36 @@ use Rattle.driver_rows.specs.Harvests.{note_at}
 use Rattle.driver_rows.specs.Words.{is_control, head_block, opening_head}
 use Rattle.driver_laws.specs.PartOpened.{opening_base}
 use Rattle.driver_laws.proofs.Stays.{written_stays}
-use Rattle.fed_queues.specs.Places.{IsMet}
-use Rattle.endpoint_lives.specs.Lives.{may_meet}
-use Rattle.left_queues.proofs.Unmet.{near_kept}
-use Rattle.lent_structures.specs.Structures.{StructureSets}
+use Rattle.driver_laws.specs.fed_queues.Places.{IsMet}
+use Rattle.driver_laws.specs.endpoint_lives.Lives.{may_meet}
+use Rattle.stream_worlds.proofs.lemmas.left_queues.Unmet.{near_kept}
+use Rattle.ring_laws.specs.lent_structures.Structures.{StructureSets}
 use Rattle.report_streams.specs.Requests.{Request}
 use Rattle.request_windows.specs.Host.{Endpoint}
-use Rattle.request_calls.specs.Bus.{Device}
-use Rattle.request_bytes.specs.Held.{RequestIsHeld}
-use Rattle.request_bytes.proofs.Accepting.{held_stays}
-use Rattle.told_harvests.specs.Held.{IsDone}
-use Rattle.told_harvests.proofs.Keeping.{done_kept}
+use Rattle.declared_endpoints.specs.request_calls.Bus.{Device}
+use Rattle.asking_worlds.specs.request_bytes.Held.{RequestIsHeld}
+use Rattle.asking_worlds.proofs.lemmas.request_bytes.Accepting.{held_stays}
+use Rattle.driver_laws.specs.told_harvests.Held.{IsDone}
+use Rattle.driver_laws.proofs.lemmas.told_harvests.Keeping.{done_kept}
 use Rattle.ring_laws.specs.Hand.{Hand}
 use Rattle.ring_laws.specs.Ring.{Base}
 use Rattle.ring_laws.specs.Told.{endpoint_of}
-use Rattle.ring_requests.specs.Windows.{Queue, Step}
-use Rattle.controlled_streams.specs.Control.{IsControlled, ControlEffect, a_microframe, a_step, Controls}
-use Rattle.controlled_streams.specs.Kept.{KeepsEach}
-use Rattle.controlled_streams.proofs.Events.{control_keeps}
-use Rattle.controller_writes.specs.Leaving.{LeavesRest}
-use Rattle.controller_writes.proofs.Controlling.{event_leaves as memory_leaves}
-use Rattle.scripted_requests.specs.Controls.{control_of, transacts_by, begins_by}
-use Rattle.scripted_requests.proofs.Asking.{scripted_control}
-use Rattle.scripted_requests.proofs.Beginning.{scripted_begins}
-use Rattle.driver_requests.proofs.Commands.{chained_have_qtds}
+use Rattle.declared_endpoints.specs.ring_requests.Windows.{Queue, Step}
+use Rattle.walked_queues.specs.controlled_streams.Control.{IsControlled, ControlEffect, a_microframe, a_step, Controls}
+use Rattle.walked_queues.specs.controlled_streams.Kept.{KeepsEach}
+use Rattle.walked_queues.proofs.lemmas.controlled_streams.Events.{control_keeps}
+use Rattle.walked_queues.specs.controller_writes.Leaving.{LeavesRest}
+use Rattle.walked_queues.proofs.lemmas.controller_writes.Controlling.{event_leaves as memory_leaves}
+use Rattle.declared_endpoints.specs.scripted_requests.Controls.{control_of, transacts_by, begins_by}
+use Rattle.declared_endpoints.proofs.lemmas.scripted_requests.Asking.{scripted_control}
+use Rattle.declared_endpoints.proofs.lemmas.scripted_requests.Beginning.{scripted_begins}
+use Rattle.asking_worlds.proofs.lemmas.driver_requests.Commands.{chained_have_qtds}
 use Rattle.bus_world.specs.World.{World, controller_parts, controller_next}
 use Rattle.stream_worlds.specs.Streaming.{Streams, Standing}
 use Rattle.stream_worlds.proofs.StreamTurning.{world_has_row}
-use Rattle.world_bytes.proofs.Hearing.{hears_bytes}
-use Rattle.world_requests.specs.Requesting.{wired}
-use Rattle.world_requests.specs.Recorded.{Windows, numbers_of, after_event}
+use Rattle.stream_worlds.proofs.lemmas.world_bytes.Hearing.{hears_bytes}
+use Rattle.asking_worlds.specs.world_requests.Requesting.{wired}
+use Rattle.asking_worlds.specs.world_requests.Recorded.{Windows, numbers_of, after_event}
 use Rattle.asking_worlds.specs.Courses.{Course, NoQueue, Asks, Rests, has_queue, queue_in, tail_in, IsCourse}
 use Rattle.asking_worlds.specs.Coming.{IsComing}
 use Rattle.asking_worlds.specs.QueueEvents.{course_after, courses_after, CoursesGoOn}

@@ -4,8 +4,8 @@ use Rattle.std.specs.List.{AllByRecursion}
 use Rattle.std.proofs.lemmas.Bool.{cases_eq}
 use Rattle.endpoint_laws.specs.Acts.{IsOnce, counted}
 use Rattle.report_streams.specs.Requests.{Request, Window, is_some_act, has_acted}
-use Rattle.ring_requests.specs.Runs.{first_of}
-use Rattle.world_requests.specs.Recorded.{Windows, window_at}
+use Rattle.declared_endpoints.specs.ring_requests.Runs.{first_of}
+use Rattle.asking_worlds.specs.world_requests.Recorded.{Windows, window_at}
 use Rattle.asking_worlds.specs.Records.{IsOnceAt}
 use Rattle.asking_worlds.specs.Counts.{counted_all, CountsAreActs}
 

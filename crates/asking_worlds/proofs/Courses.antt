@@ -1,15 +1,15 @@
 -- The queues of a ring as the laws of requests have them, and back.
 use Rattle.std.proofs.Common.{◌≡◌, ◌≢◌, ℕ, Bool, true, false, Option, Some, ap, refl, sym, ◌∙◌}
 use Rattle.std.proofs.lemmas.Bool.{false≢true}
-use Rattle.lent_structures.specs.Structures.{StructureSets}
-use Rattle.request_calls.specs.Bus.{Device}
-use Rattle.request_calls.specs.Stages.{IsEndpoint}
+use Rattle.ring_laws.specs.lent_structures.Structures.{StructureSets}
+use Rattle.declared_endpoints.specs.request_calls.Bus.{Device}
+use Rattle.declared_endpoints.specs.request_calls.Stages.{IsEndpoint}
 use Rattle.qh_qtd.specs.declared.queue_head.Qh.{Qh}
-use Rattle.lent_structures.specs.Structures.{QueueHead}
+use Rattle.ring_laws.specs.lent_structures.Structures.{QueueHead}
 use Rattle.ring_laws.specs.Hand.{Hand}
 use Rattle.ring_laws.specs.Told.{endpoint_of}
-use Rattle.ring_requests.specs.Windows.{Queue, IsQueue, AreSent, IsElsewhere, AreWindows}
-use Rattle.ring_requests.specs.Resting.{IsOtherEndpoint, IsAlone}
+use Rattle.declared_endpoints.specs.ring_requests.Windows.{Queue, IsQueue, AreSent, IsElsewhere, AreWindows}
+use Rattle.declared_endpoints.specs.ring_requests.Resting.{IsOtherEndpoint, IsAlone}
 use Rattle.asking_worlds.specs.Courses.{Course, NoQueue, Asks, Rests, has_queue, is_asking, queue_in, tail_in, lines_in, AreInLine, IsCourse, queues, have_queues, are_asking, all_lines, CoursesStand}
 
 -- ---- what has a queue

@@ -17,14 +17,14 @@ use Rattle.driver_rows.specs.declared.rows.Found.TheVariants as founds
 use Rattle.driver_rows.specs.Harvests.{note_at, token_in, found_in, done_of, ends_by, moved_of, halt_of}
 use Rattle.driver_rows.specs.Rows.{driver_row}
 use Rattle.driver_rows.specs.Words.{is_control, head_block, opening_head}
-use Rattle.run_owners.specs.Due.{IsHarvestDue}
+use Rattle.driver_laws.specs.run_owners.Due.{IsHarvestDue}
 use Rattle.report_streams.specs.Requests.{Request}
 use Rattle.ring_laws.specs.Told.{endpoint_of}
-use Rattle.chained_transfers.proofs.Harvested.{not_served}
-use Rattle.chained_transfers.proofs.Ways.{found_by, moves_queued}
+use Rattle.driver_laws.proofs.lemmas.chained_transfers.Harvested.{not_served}
+use Rattle.driver_laws.proofs.lemmas.chained_transfers.Ways.{found_by, moves_queued}
 use Rattle.bus_world.specs.World.{World, driver_parts, driver_next}
 use Rattle.stream_worlds.specs.Streaming.{Streams, Standing}
-use Rattle.world_requests.specs.Recorded.{Windows}
+use Rattle.asking_worlds.specs.world_requests.Recorded.{Windows}
 use Rattle.whole_worlds.proofs.Told.{control_kind}
 use Rattle.whole_worlds.specs.Whole.{IsWhole}
 use Rattle.whole_worlds.proofs.Leaving.{due}

@@ -27,43 +27,43 @@ use Rattle.driver_rows.specs.DriverContent.{DriverContent}
 use Rattle.driver_rows.specs.Harvests.{note_at, token_in, done_of, moved_of, halt_of}
 use Rattle.driver_rows.specs.Words.{is_control, request_stages}
 use Rattle.driver_rows.specs.Rows.{harvested_as, served}
-use Rattle.endpoint_lives.specs.Lives.{told_end}
-use Rattle.endpoint_lives.proofs.Lives.{none_told}
-use Rattle.run_owners.specs.Due.{IsHarvestDue}
-use Rattle.run_owners.specs.Kept.{HasOwners}
-use Rattle.run_owners.specs.Owners.{note_in}
-use Rattle.chained_transfers.specs.Chains.{piece_at}
-use Rattle.chained_transfers.specs.Turns.{IsAtPlace}
-use Rattle.chained_transfers.proofs.Harvesting.{waits_is}
-use Rattle.chained_transfers.specs.Out.{unpublished}
-use Rattle.lent_structures.specs.Structures.{Element, Tells}
-use Rattle.lent_structures.specs.Sound.{IsMember}
-use Rattle.lent_structures.proofs.Altering.{found_element}
-use Rattle.fed_queues.specs.Fed.{IsPieceFed, sized, unpublished_of}
-use Rattle.fed_queues.specs.Places.{IsMet}
-use Rattle.fed_queues.proofs.Places.{stands_met}
-use Rattle.harvested_streams.proofs.Harvesting.{token_read}
-use Rattle.told_harvests.specs.Held.{IsRead}
-use Rattle.harvest_laws.proofs.ReadRows.{not_active, after_is}
+use Rattle.driver_laws.specs.endpoint_lives.Lives.{told_end}
+use Rattle.driver_laws.proofs.lemmas.endpoint_lives.Lives.{none_told}
+use Rattle.driver_laws.specs.run_owners.Due.{IsHarvestDue}
+use Rattle.driver_laws.specs.run_owners.Kept.{HasOwners}
+use Rattle.driver_laws.specs.run_owners.Owners.{note_in}
+use Rattle.driver_laws.specs.chained_transfers.Chains.{piece_at}
+use Rattle.driver_laws.specs.chained_transfers.Turns.{IsAtPlace}
+use Rattle.driver_laws.proofs.lemmas.chained_transfers.Harvesting.{waits_is}
+use Rattle.driver_laws.specs.chained_transfers.Out.{unpublished}
+use Rattle.ring_laws.specs.lent_structures.Structures.{Element, Tells}
+use Rattle.ring_laws.specs.lent_structures.Sound.{IsMember}
+use Rattle.ring_laws.proofs.lemmas.lent_structures.Altering.{found_element}
+use Rattle.driver_laws.specs.fed_queues.Fed.{IsPieceFed, sized, unpublished_of}
+use Rattle.driver_laws.specs.fed_queues.Places.{IsMet}
+use Rattle.driver_laws.proofs.lemmas.fed_queues.Places.{stands_met}
+use Rattle.driver_laws.proofs.lemmas.harvested_streams.Harvesting.{token_read}
+use Rattle.driver_laws.specs.told_harvests.Held.{IsRead}
+use Rattle.driven_queues.proofs.lemmas.harvest_laws.ReadRows.{not_active, after_is}
 use Rattle.report_streams.specs.Reports.{is_line_of}
 use Rattle.report_streams.specs.Requests.{Request}
-use Rattle.told_endpoints.specs.Telling.{lines_in}
-use Rattle.told_requests.specs.Told.{is_cancel, has_cancel}
-use Rattle.told_requests.specs.Rows.{bytes_with}
+use Rattle.walked_queues.specs.told_endpoints.Telling.{lines_in}
+use Rattle.asking_worlds.specs.told_requests.Told.{is_cancel, has_cancel}
+use Rattle.asking_worlds.specs.told_requests.Rows.{bytes_with}
 use Rattle.request_windows.specs.Host.{Endpoint as Characteristics, Stage, Setup, Data, Status, Done as Ready, Halted, has_data, side_at}
 use Rattle.request_windows.specs.Windows.{data_of}
-use Rattle.request_bytes.specs.Fresh.{next_of}
-use Rattle.ring_requests.specs.Laid.{Places, place_at, comes, IsFresh}
-use Rattle.ring_requests.specs.Runs.{first_of}
-use Rattle.ring_requests.specs.Windows.{Queue, Lines, Sent, sent_at, HasEnded, IsActedOnce, IsBehind}
-use Rattle.request_stores.specs.Published.{without_first}
-use Rattle.scripted_requests.specs.Controls.{control_of}
-use Rattle.driver_requests.specs.Requests.{IsOfTransfer, IsLaidOut}
-use Rattle.driver_requests.proofs.Owning.{qtds_case, places_with_data, places_without}
+use Rattle.asking_worlds.specs.request_bytes.Fresh.{next_of}
+use Rattle.declared_endpoints.specs.ring_requests.Laid.{Places, place_at, comes, IsFresh}
+use Rattle.declared_endpoints.specs.ring_requests.Runs.{first_of}
+use Rattle.declared_endpoints.specs.ring_requests.Windows.{Queue, Lines, Sent, sent_at, HasEnded, IsActedOnce, IsBehind}
+use Rattle.asking_worlds.specs.request_stores.Published.{without_first}
+use Rattle.declared_endpoints.specs.scripted_requests.Controls.{control_of}
+use Rattle.asking_worlds.specs.driver_requests.Requests.{IsOfTransfer, IsLaidOut}
+use Rattle.asking_worlds.proofs.lemmas.driver_requests.Owning.{qtds_case, places_with_data, places_without}
 use Rattle.bus_world.specs.World.{World, driver_parts, controller_parts}
 use Rattle.stream_worlds.specs.Streaming.{Streams, Standing}
-use Rattle.world_requests.specs.Requesting.{wired}
-use Rattle.world_requests.specs.Recorded.{Windows}
+use Rattle.asking_worlds.specs.world_requests.Requesting.{wired}
+use Rattle.asking_worlds.specs.world_requests.Recorded.{Windows}
 use Rattle.asking_worlds.specs.Courses.{Course, NoQueue, Asks, Rests, IsAsking, IsResting, IsCourse, has_queue, queue_in, tail_in}
 use Rattle.asking_worlds.specs.QueueChanges.{lines_behind, FirstHasGone}
 use Rattle.asking_worlds.proofs.QueueEnding.{first_goes, last_goes}

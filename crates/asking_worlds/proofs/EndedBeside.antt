@@ -21,35 +21,35 @@ use Rattle.driver_rows.specs.DriverContent.{DriverContent}
 use Rattle.driver_rows.specs.Harvests.{note_at, end_of, is_stall}
 use Rattle.driver_rows.specs.Rows.{driver_row, after_driver_row, served, harvested_as}
 use Rattle.driver_rows.specs.Words.{is_control, head_block, opening_head, request_stages}
-use Rattle.endpoint_lives.specs.Lives.{told_end, may_meet, is_one_of}
-use Rattle.fed_queues.specs.Places.{IsMet}
-use Rattle.fed_queues.proofs.Places.{stands_met}
-use Rattle.run_owners.specs.Due.{IsHarvestDue}
-use Rattle.run_owners.specs.Owners.{note_in}
-use Rattle.run_owners.proofs.Released.{set_here, set_there}
-use Rattle.chained_transfers.specs.AsynchronousTurns.{AsynchronousTakesTurns}
-use Rattle.chained_transfers.specs.Turns.{Turn, turn_of, turn_in, IsNext, AreReportedTo, IsAtPlace}
-use Rattle.told_harvests.specs.Held.{IsOneFrom}
-use Rattle.harvest_laws.specs.RowLaws.{IsReadNext}
-use Rattle.harvest_laws.proofs.Places.{unmoved_noted, one_later}
-use Rattle.harvest_laws.proofs.ReadRows.{after_is, read_next}
-use Rattle.publish_laws.proofs.Apart.{thirty_two}
+use Rattle.driver_laws.specs.endpoint_lives.Lives.{told_end, may_meet, is_one_of}
+use Rattle.driver_laws.specs.fed_queues.Places.{IsMet}
+use Rattle.driver_laws.proofs.lemmas.fed_queues.Places.{stands_met}
+use Rattle.driver_laws.specs.run_owners.Due.{IsHarvestDue}
+use Rattle.driver_laws.specs.run_owners.Owners.{note_in}
+use Rattle.driver_laws.proofs.lemmas.run_owners.Released.{set_here, set_there}
+use Rattle.driver_laws.specs.chained_transfers.AsynchronousTurns.{AsynchronousTakesTurns}
+use Rattle.driver_laws.specs.chained_transfers.Turns.{Turn, turn_of, turn_in, IsNext, AreReportedTo, IsAtPlace}
+use Rattle.driver_laws.specs.told_harvests.Held.{IsOneFrom}
+use Rattle.driven_queues.specs.harvest_laws.RowLaws.{IsReadNext}
+use Rattle.driven_queues.proofs.lemmas.harvest_laws.Places.{unmoved_noted, one_later}
+use Rattle.driven_queues.proofs.lemmas.harvest_laws.ReadRows.{after_is, read_next}
+use Rattle.driven_queues.proofs.lemmas.publish_laws.Apart.{thirty_two}
 use Rattle.report_streams.specs.Requests.{Request}
 use Rattle.ring_laws.specs.Told.{endpoint_of}
 use Rattle.request_windows.specs.Host.{has_data}
-use Rattle.ring_requests.specs.Laid.{Places}
-use Rattle.ring_requests.specs.Runs.{first_of}
-use Rattle.told_endpoints.specs.Telling.{lines_in}
-use Rattle.told_endpoints.proofs.Names.{same_name_is}
-use Rattle.told_requests.specs.Told.{has_cancel}
-use Rattle.scripted_requests.specs.Controls.{control_of}
+use Rattle.declared_endpoints.specs.ring_requests.Laid.{Places}
+use Rattle.declared_endpoints.specs.ring_requests.Runs.{first_of}
+use Rattle.walked_queues.specs.told_endpoints.Telling.{lines_in}
+use Rattle.walked_queues.proofs.lemmas.told_endpoints.Names.{same_name_is}
+use Rattle.asking_worlds.specs.told_requests.Told.{has_cancel}
+use Rattle.declared_endpoints.specs.scripted_requests.Controls.{control_of}
 use Rattle.bus_world.specs.World.{World, driver_parts, driver_next, with_parts}
 use Rattle.stream_worlds.specs.Streaming.{Streams, Standing}
-use Rattle.world_requests.specs.Requesting.{wired}
-use Rattle.world_requests.specs.Recorded.{Windows, numbers_of}
-use Rattle.driver_requests.specs.Requests.{IsLaidOut}
-use Rattle.driver_requests.proofs.Owning.{qtds_case}
-use Rattle.driver_requests.proofs.RowOrder.{row_numbers}
+use Rattle.asking_worlds.specs.world_requests.Requesting.{wired}
+use Rattle.asking_worlds.specs.world_requests.Recorded.{Windows, numbers_of}
+use Rattle.asking_worlds.specs.driver_requests.Requests.{IsLaidOut}
+use Rattle.asking_worlds.proofs.lemmas.driver_requests.Owning.{qtds_case}
+use Rattle.asking_worlds.proofs.lemmas.driver_requests.RowOrder.{row_numbers}
 use Rattle.asking_worlds.specs.Courses.{Course, queue_in, CoursesStand}
 use Rattle.asking_worlds.specs.Counts.{counted_all}
 use Rattle.asking_worlds.specs.Records.{Numbers, AreRecords}

@@ -17,13 +17,13 @@ use Rattle.driver_rows.specs.declared.content.Transfer.{Transfer}
 use Rattle.driver_rows.specs.DriverContent.{DriverContent, waits_for, next_after}
 use Rattle.driver_rows.specs.Harvests.{noted, end_of, is_stall}
 use Rattle.driver_rows.specs.Rows.{behind_one, behind, mends_of, told_with, after_end, ended_by_cancel}
-use Rattle.endpoint_lives.specs.Lives.{told_end}
-use Rattle.run_owners.proofs.Released.{set_here}
-use Rattle.chained_transfers.proofs.Stalled.{IsToldOf, told_set, told_both, behind_tells}
+use Rattle.driver_laws.specs.endpoint_lives.Lives.{told_end}
+use Rattle.driver_laws.proofs.lemmas.run_owners.Released.{set_here}
+use Rattle.driver_laws.proofs.lemmas.chained_transfers.Stalled.{IsToldOf, told_set, told_both, behind_tells}
 use Rattle.report_streams.specs.Reports.{is_refusal}
-use Rattle.told_endpoints.specs.Telling.{lines_in}
-use Rattle.told_endpoints.proofs.Lines.{line_of_other}
-use Rattle.world_requests.specs.Recorded.{numbers_from}
+use Rattle.walked_queues.specs.told_endpoints.Telling.{lines_in}
+use Rattle.walked_queues.proofs.lemmas.told_endpoints.Lines.{line_of_other}
+use Rattle.asking_worlds.specs.world_requests.Recorded.{numbers_from}
 
 -- ---- lines of other endpoints, and stores that are owed
 

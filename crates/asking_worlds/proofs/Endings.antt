@@ -18,25 +18,25 @@ use Rattle.driver_rows.specs.DriverContent.{DriverContent}
 use Rattle.driver_rows.specs.Harvests.{note_at, end_of, is_stall}
 use Rattle.driver_rows.specs.Rows.{driver_row}
 use Rattle.driver_rows.specs.Words.{head_block, opening_head, is_control}
-use Rattle.endpoint_lives.specs.Lives.{told_end}
-use Rattle.endpoint_lives.proofs.Lives.{none_told}
-use Rattle.run_owners.specs.Due.{IsHarvestDue}
-use Rattle.run_owners.proofs.Released.{other_number, set_there}
-use Rattle.chained_transfers.specs.Turns.{Turn, turn_of, turn_in, IsNext, AreReportedTo}
-use Rattle.chained_transfers.proofs.Harvesting.{turn_at, waits_is}
-use Rattle.told_harvests.specs.Held.{AreUnmoved}
-use Rattle.harvest_laws.specs.Holds.{IsToCome}
-use Rattle.harvest_laws.proofs.Places.{unmoved_noted}
+use Rattle.driver_laws.specs.endpoint_lives.Lives.{told_end}
+use Rattle.driver_laws.proofs.lemmas.endpoint_lives.Lives.{none_told}
+use Rattle.driver_laws.specs.run_owners.Due.{IsHarvestDue}
+use Rattle.driver_laws.proofs.lemmas.run_owners.Released.{other_number, set_there}
+use Rattle.driver_laws.specs.chained_transfers.Turns.{Turn, turn_of, turn_in, IsNext, AreReportedTo}
+use Rattle.driver_laws.proofs.lemmas.chained_transfers.Harvesting.{turn_at, waits_is}
+use Rattle.driver_laws.specs.told_harvests.Held.{AreUnmoved}
+use Rattle.driven_queues.specs.harvest_laws.Holds.{IsToCome}
+use Rattle.driven_queues.proofs.lemmas.harvest_laws.Places.{unmoved_noted}
 use Rattle.report_streams.specs.Requests.{Request}
 use Rattle.ring_laws.specs.Told.{endpoint_of}
-use Rattle.ring_requests.specs.Runs.{first_of}
-use Rattle.told_endpoints.specs.Telling.{lines_in}
-use Rattle.told_requests.specs.Told.{has_cancel}
+use Rattle.declared_endpoints.specs.ring_requests.Runs.{first_of}
+use Rattle.walked_queues.specs.told_endpoints.Telling.{lines_in}
+use Rattle.asking_worlds.specs.told_requests.Told.{has_cancel}
 use Rattle.bus_world.specs.World.{World, driver_parts, driver_next}
 use Rattle.stream_worlds.specs.Streaming.{Streams, Standing}
-use Rattle.world_requests.specs.Recorded.{Windows, numbers_of}
+use Rattle.asking_worlds.specs.world_requests.Recorded.{Windows, numbers_of}
 use Rattle.whole_worlds.proofs.Told.{control_kind}
-use Rattle.driver_requests.specs.Requests.{IsOfTransfer}
+use Rattle.asking_worlds.specs.driver_requests.Requests.{IsOfTransfer}
 use Rattle.asking_worlds.specs.Courses.{Course, queue_in, is_asking, with_course}
 use Rattle.asking_worlds.specs.Records.{Numbers, IsRecord}
 use Rattle.asking_worlds.specs.TransferChanges.{with_numbers, first_closed, all_closed}

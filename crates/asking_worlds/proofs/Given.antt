@@ -22,18 +22,18 @@ use Rattle.script_text.specs.Faults.{Spells}
 use Rattle.driver_rows.specs.Words.{is_control}
 use Rattle.report_streams.specs.Reports.{WholeReport}
 use Rattle.report_streams.specs.Requests.{requests}
-use Rattle.chained_transfers.specs.Asynchronous.{IsAsynchronous, AsynchronousLine}
+use Rattle.driver_laws.specs.chained_transfers.Asynchronous.{IsAsynchronous, AsynchronousLine}
 use Rattle.declared_endpoints.proofs.Lists.{Holds, all_find, all_more}
 use Rattle.declared_endpoints.proofs.Drafts.{IsEpOf, HasOwn, IsNamedIn, IsDeclaredDraft}
 use Rattle.declared_endpoints.proofs.Texts.{IsScriptOf}
 use Rattle.declared_endpoints.proofs.Senders.{IsDeclaredAt, empty_declared, line_declares}
-use Rattle.declared_controls.specs.Opened.{stages_of, is_of_hub, HasItsControl, OpensItsControl}
-use Rattle.declared_controls.specs.Names.{HasItsName, NamesLine}
-use Rattle.declared_controls.specs.Requests.{AsksLine}
-use Rattle.declared_controls.proofs.Controls.{spelled_controls, spelled_names, spelled_requests}
-use Rattle.declared_controls.proofs.Drafts.{has_hub, IsToldLine, IsToldDraft, after_told}
-use Rattle.declared_controls.proofs.Requests.{IsEight, form_eight}
-use Rattle.declared_controls.proofs.Texts.{is_ranged, spelled_kept}
+use Rattle.declared_endpoints.specs.declared_controls.Opened.{stages_of, is_of_hub, HasItsControl, OpensItsControl}
+use Rattle.declared_endpoints.specs.declared_controls.Names.{HasItsName, NamesLine}
+use Rattle.declared_endpoints.specs.declared_controls.Requests.{AsksLine}
+use Rattle.declared_endpoints.proofs.lemmas.declared_controls.Controls.{spelled_controls, spelled_names, spelled_requests}
+use Rattle.declared_endpoints.proofs.lemmas.declared_controls.Drafts.{has_hub, IsToldLine, IsToldDraft, after_told}
+use Rattle.declared_endpoints.proofs.lemmas.declared_controls.Requests.{IsEight, form_eight}
+use Rattle.declared_endpoints.proofs.lemmas.declared_controls.Texts.{is_ranged, spelled_kept}
 use Rattle.whole_worlds.proofs.Moments.{spelled_asynchronous}
 use Rattle.asking_worlds.specs.Asking.{IsGiven}
 use Rattle.asking_worlds.specs.Given.{sides_of, GivesLine, OpensOfDevice}

@@ -18,28 +18,28 @@ use Rattle.driver_rows.specs.DriverContent.{DriverContent}
 use Rattle.driver_rows.specs.Harvests.{note_at, reported as with_line}
 use Rattle.driver_rows.specs.Rows.{Parts, driver_row, after_driver_row, after_endpoint, cancel_told, cancelled_bytes, is_told, let_go}
 use Rattle.driver_rows.specs.Words.{is_control}
-use Rattle.run_owners.specs.Due.{IsDue, IsEndpointDue}
-use Rattle.run_owners.proofs.Reasons.{each_is_due}
-use Rattle.endpoint_lives.specs.Lives.{is_one_of, told_end, may_meet}
-use Rattle.chained_transfers.proofs.Chained.{gone_from}
-use Rattle.lent_structures.specs.Structures.{StructureSets}
-use Rattle.lent_structures.proofs.Names.{not_same}
-use Rattle.endpoint_releases.specs.Released.{without_queue}
-use Rattle.endpoint_releases.proofs.Owning.{queue_beside}
-use Rattle.left_queues.proofs.Unmet.{cleared_unmet}
+use Rattle.driver_laws.specs.run_owners.Due.{IsDue, IsEndpointDue}
+use Rattle.driver_laws.proofs.lemmas.run_owners.Reasons.{each_is_due}
+use Rattle.driver_laws.specs.endpoint_lives.Lives.{is_one_of, told_end, may_meet}
+use Rattle.driver_laws.proofs.lemmas.chained_transfers.Chained.{gone_from}
+use Rattle.ring_laws.specs.lent_structures.Structures.{StructureSets}
+use Rattle.ring_laws.proofs.lemmas.lent_structures.Names.{not_same}
+use Rattle.stream_worlds.specs.endpoint_releases.Released.{without_queue}
+use Rattle.stream_worlds.proofs.lemmas.endpoint_releases.Owning.{queue_beside}
+use Rattle.stream_worlds.proofs.lemmas.left_queues.Unmet.{cleared_unmet}
 use Rattle.report_streams.specs.Requests.{Request}
-use Rattle.scripted_requests.specs.Controls.{control_of}
+use Rattle.declared_endpoints.specs.scripted_requests.Controls.{control_of}
 use Rattle.scripted_streams.proofs.Places.{set_here, set_beside}
-use Rattle.told_endpoints.specs.Telling.{lines_in}
-use Rattle.told_endpoints.proofs.Lines.{line_of_other}
-use Rattle.told_endpoints.proofs.Names.{same_name_is}
-use Rattle.told_harvests.proofs.Keeping.{done_spared}
+use Rattle.walked_queues.specs.told_endpoints.Telling.{lines_in}
+use Rattle.walked_queues.proofs.lemmas.told_endpoints.Lines.{line_of_other}
+use Rattle.walked_queues.proofs.lemmas.told_endpoints.Names.{same_name_is}
+use Rattle.driver_laws.proofs.lemmas.told_harvests.Keeping.{done_spared}
 use Rattle.bus_world.specs.World.{World, driver_parts, driver_next, with_parts}
 use Rattle.stream_worlds.specs.Streaming.{Streams, Standing}
 use Rattle.stream_worlds.proofs.Joining.{heads_stay, elements_stay}
-use Rattle.world_requests.specs.Requesting.{wired}
-use Rattle.world_requests.specs.Recorded.{Windows, numbers_of}
-use Rattle.driver_requests.proofs.RowOrder.{row_numbers}
+use Rattle.asking_worlds.specs.world_requests.Requesting.{wired}
+use Rattle.asking_worlds.specs.world_requests.Recorded.{Windows, numbers_of}
+use Rattle.asking_worlds.proofs.lemmas.driver_requests.RowOrder.{row_numbers}
 use Rattle.asking_worlds.specs.Courses.{have_queues, CoursesStand}
 use Rattle.asking_worlds.proofs.Writing.{same_hand, same_side}
 use Rattle.asking_worlds.specs.Records.{AreRecords}

@@ -4,20 +4,20 @@ use Rattle.std.proofs.lemmas.Bool.{false≢true}
 use Rattle.usb_base.specs.declared.packets.Reply.{Reply}
 use Rattle.toggle_error.specs.declared.host.HostSide.{HostSide}
 use Rattle.walk_copy.specs.Planning.{host_in}
-use Rattle.lent_structures.specs.Structures.{StructureSets}
-use Rattle.lent_structures.specs.Sound.{IsMember}
+use Rattle.ring_laws.specs.lent_structures.Structures.{StructureSets}
+use Rattle.ring_laws.specs.lent_structures.Sound.{IsMember}
 use Rattle.request_windows.specs.Host.{Done}
 use Rattle.request_windows.specs.Line.{Line}
 use Rattle.request_windows.proofs.Steps.{opens}
-use Rattle.request_calls.specs.Bus.{Device}
+use Rattle.declared_endpoints.specs.request_calls.Bus.{Device}
 use Rattle.ring_laws.specs.Hand.{Hand}
 use Rattle.ring_laws.specs.Ring.{IsInHand}
-use Rattle.ring_requests.specs.Shown.{hand_side, IsPending, Waits, Ends, Shows}
-use Rattle.ring_requests.specs.Shown.Shows.{waits}
-use Rattle.ring_requests.specs.Windows.{Queue, sent_at, Lines, opened, is_done, IsWindow, IsBehind, HasEnded, IsActedOnce, IsQueue}
-use Rattle.ring_requests.proofs.Taking.{ends_only, next_waits}
-use Rattle.ring_requests.proofs.Telling.{either_side, working, none_pending, stage_done, queue_ended}
-use Rattle.request_stores.specs.Published.{without_first}
+use Rattle.declared_endpoints.specs.ring_requests.Shown.{hand_side, IsPending, Waits, Ends, Shows}
+use Rattle.declared_endpoints.specs.ring_requests.Shown.Shows.{waits}
+use Rattle.declared_endpoints.specs.ring_requests.Windows.{Queue, sent_at, Lines, opened, is_done, IsWindow, IsBehind, HasEnded, IsActedOnce, IsQueue}
+use Rattle.declared_endpoints.proofs.lemmas.ring_requests.Taking.{ends_only, next_waits}
+use Rattle.declared_endpoints.proofs.lemmas.ring_requests.Telling.{either_side, working, none_pending, stage_done, queue_ended}
+use Rattle.asking_worlds.specs.request_stores.Published.{without_first}
 use Rattle.asking_worlds.specs.Courses.{AreInLine}
 use Rattle.asking_worlds.specs.QueueChanges.{lines_from, IsFirstDone, FirstEnds}
 

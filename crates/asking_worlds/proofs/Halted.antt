@@ -26,31 +26,31 @@ use Rattle.driver_rows.specs.DriverContent.{DriverContent, waits_for}
 use Rattle.driver_rows.specs.Harvests.{note_at, noted, token_in, done_of, moved_of, halt_of, end_of, is_stall}
 use Rattle.driver_rows.specs.Rows.{behind_one, behind as ended_behind, told_with, after_end, ended_by_cancel}
 use Rattle.driver_rows.specs.Words.{is_control}
-use Rattle.endpoint_lives.specs.Lives.{told_end}
-use Rattle.run_owners.specs.Due.{IsHarvestDue}
-use Rattle.chained_transfers.specs.Out.{out_now}
-use Rattle.chained_transfers.proofs.Harvesting.{waits_is}
-use Rattle.chained_transfers.specs.Turns.{turn_of, turn_in, IsNext, AreReportedTo}
-use Rattle.harvested_streams.proofs.Harvesting.{token_read}
-use Rattle.fed_harvests.proofs.Harvests.{unstalled_stands}
-use Rattle.fed_harvests.proofs.Stalls.{stall_stands}
-use Rattle.mended_heads.specs.Stalling.{IsStall}
+use Rattle.driver_laws.specs.endpoint_lives.Lives.{told_end}
+use Rattle.driver_laws.specs.run_owners.Due.{IsHarvestDue}
+use Rattle.driver_laws.specs.chained_transfers.Out.{out_now}
+use Rattle.driver_laws.proofs.lemmas.chained_transfers.Harvesting.{waits_is}
+use Rattle.driver_laws.specs.chained_transfers.Turns.{turn_of, turn_in, IsNext, AreReportedTo}
+use Rattle.driver_laws.proofs.lemmas.harvested_streams.Harvesting.{token_read}
+use Rattle.driven_queues.proofs.lemmas.fed_harvests.Harvests.{unstalled_stands}
+use Rattle.driven_queues.proofs.lemmas.fed_harvests.Stalls.{stall_stands}
+use Rattle.walked_queues.specs.mended_heads.Stalling.{IsStall}
 use Rattle.report_streams.specs.Requests.{Request}
-use Rattle.told_endpoints.specs.Telling.{lines_in}
-use Rattle.told_requests.specs.Told.{has_cancel}
-use Rattle.told_requests.specs.Rows.{bytes_with}
+use Rattle.walked_queues.specs.told_endpoints.Telling.{lines_in}
+use Rattle.asking_worlds.specs.told_requests.Told.{has_cancel}
+use Rattle.asking_worlds.specs.told_requests.Rows.{bytes_with}
 use Rattle.request_windows.specs.Windows.{data_of}
 use Rattle.ring_laws.specs.Halted.{IsHalted}
 use Rattle.ring_laws.specs.Order.{IsAmong}
-use Rattle.ring_requests.specs.Runs.{first_of}
-use Rattle.ring_requests.specs.Resting.{IsStopped}
-use Rattle.ring_requests.specs.Windows.{Queue, Lines}
-use Rattle.scripted_requests.specs.Controls.{control_of}
+use Rattle.declared_endpoints.specs.ring_requests.Runs.{first_of}
+use Rattle.declared_endpoints.specs.ring_requests.Resting.{IsStopped}
+use Rattle.declared_endpoints.specs.ring_requests.Windows.{Queue, Lines}
+use Rattle.declared_endpoints.specs.scripted_requests.Controls.{control_of}
 use Rattle.bus_world.specs.World.{World, driver_parts, controller_parts}
 use Rattle.hc_core.specs.Controller.{walk_place}
 use Rattle.stream_worlds.specs.Streaming.{Streams, Standing}
-use Rattle.world_requests.specs.Requesting.{wired}
-use Rattle.world_requests.specs.Recorded.{Windows}
+use Rattle.asking_worlds.specs.world_requests.Requesting.{wired}
+use Rattle.asking_worlds.specs.world_requests.Recorded.{Windows}
 use Rattle.asking_worlds.specs.Courses.{Course, Asks, Rests, IsAsking, IsCourse, queue_in, tail_in}
 use Rattle.asking_worlds.specs.QueueChanges.{without_requests}
 use Rattle.asking_worlds.proofs.QueueEnding.{request_halts}

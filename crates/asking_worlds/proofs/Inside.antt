@@ -9,18 +9,18 @@ use Rattle.driver_rows.specs.declared.content.Endpoint.{Endpoint}
 use Rattle.driver_rows.specs.declared.content.Transfer.{Transfer}
 use Rattle.driver_rows.specs.DriverContent.{DriverContent}
 use Rattle.driver_rows.specs.Harvests.{note_at}
-use Rattle.endpoint_lives.specs.Lives.{told_end}
-use Rattle.told_endpoints.specs.Telling.{lines_in}
-use Rattle.lent_structures.specs.Structures.{StructureSets}
+use Rattle.driver_laws.specs.endpoint_lives.Lives.{told_end}
+use Rattle.walked_queues.specs.told_endpoints.Telling.{lines_in}
+use Rattle.ring_laws.specs.lent_structures.Structures.{StructureSets}
 use Rattle.report_streams.specs.Requests.{Request}
-use Rattle.request_calls.specs.Bus.{Device}
+use Rattle.declared_endpoints.specs.request_calls.Bus.{Device}
 use Rattle.ring_laws.specs.Hand.{Hand}
-use Rattle.scripted_requests.specs.Controls.{control_of}
+use Rattle.declared_endpoints.specs.scripted_requests.Controls.{control_of}
 use Rattle.bus_world.specs.World.{World}
 use Rattle.stream_worlds.specs.Streaming.{Standing}
-use Rattle.world_requests.specs.Requesting.{wired}
-use Rattle.world_requests.specs.Recorded.{Windows, numbers_of}
-use Rattle.driver_requests.specs.Rows.{KeepsRequests}
+use Rattle.asking_worlds.specs.world_requests.Requesting.{wired}
+use Rattle.asking_worlds.specs.world_requests.Recorded.{Windows, numbers_of}
+use Rattle.asking_worlds.specs.driver_requests.Rows.{KeepsRequests}
 use Rattle.asking_worlds.specs.Courses.{CoursesStand}
 use Rattle.asking_worlds.specs.Records.{AreRecords}
 use Rattle.asking_worlds.specs.Counts.{counted_all}

@@ -10,14 +10,14 @@ use Rattle.qh_qtd.specs.declared.qtd.Qtd.{Qtd}
 use Rattle.qh_qtd.specs.declared.queue_head.Qh.{Qh}
 use Rattle.toggle_error.specs.declared.host.HostSide.{HostSide}
 use Rattle.walk_copy.specs.Planning.{host_in}
-use Rattle.lent_structures.specs.Structures.{QueueHead, StructureSets}
-use Rattle.lent_structures.specs.Sound.{element_pages}
-use Rattle.lent_structures.proofs.Altering.{found_queue}
+use Rattle.ring_laws.specs.lent_structures.Structures.{QueueHead, StructureSets}
+use Rattle.ring_laws.specs.lent_structures.Sound.{element_pages}
+use Rattle.ring_laws.proofs.lemmas.lent_structures.Altering.{found_queue}
 use Rattle.control_stages.specs.Stages.{Stages}
 use Rattle.report_streams.specs.Requests.{Request}
 use Rattle.request_windows.specs.Host.{Endpoint, Host, Stage, Setup, Data, Status, Done, Halted, next_stage}
 use Rattle.request_windows.specs.Line.{Line}
-use Rattle.request_calls.specs.Bus.{Device}
+use Rattle.declared_endpoints.specs.request_calls.Bus.{Device}
 use Rattle.ring_laws.specs.Hand.{Hand, Empty, Copied, Settled, Stale}
 use Rattle.ring_laws.specs.Effects.{buffer_of}
 use Rattle.ring_laws.specs.Front.{SameRest}
@@ -25,13 +25,13 @@ use Rattle.ring_laws.specs.Sparing.{SparesElement}
 use Rattle.ring_laws.specs.Told.{Told, endpoint_of, Endpoint as Characteristics}
 use Rattle.ring_laws.proofs.Ordering.{not_worked, works_by}
 use Rattle.ring_laws.proofs.SparedSparing.{spared_told}
-use Rattle.ring_requests.specs.Laid.{Places, IsPlace, IsIdle, IsLinkBehind, LeadBehind, Leads, HasBytes, IsStage, IsFresh}
-use Rattle.ring_requests.specs.Shown.{hand_side, pointer_at, AreFresh, IsPending, Shows, IsAmong}
-use Rattle.ring_requests.specs.Shown.Shows.{works, waits, ends, halts}
-use Rattle.ring_requests.specs.Windows.{Queue, sent_at, Lines, IsWindow, IsFinished, IsBehind, IsQueue}
-use Rattle.ring_requests.specs.Resting.{IsAtRest, HeadStays}
-use Rattle.ring_requests.proofs.Stages.{pointer_same}
-use Rattle.ring_requests.proofs.RestingSpared.{endpoint_same, host_same, rest_spared}
+use Rattle.declared_endpoints.specs.ring_requests.Laid.{Places, IsPlace, IsIdle, IsLinkBehind, LeadBehind, Leads, HasBytes, IsStage, IsFresh}
+use Rattle.declared_endpoints.specs.ring_requests.Shown.{hand_side, pointer_at, AreFresh, IsPending, Shows, IsAmong}
+use Rattle.declared_endpoints.specs.ring_requests.Shown.Shows.{works, waits, ends, halts}
+use Rattle.declared_endpoints.specs.ring_requests.Windows.{Queue, sent_at, Lines, IsWindow, IsFinished, IsBehind, IsQueue}
+use Rattle.declared_endpoints.specs.ring_requests.Resting.{IsAtRest, HeadStays}
+use Rattle.declared_endpoints.proofs.lemmas.ring_requests.Stages.{pointer_same}
+use Rattle.declared_endpoints.proofs.lemmas.ring_requests.RestingSpared.{endpoint_same, host_same, rest_spared}
 use Rattle.asking_worlds.specs.Courses.{AreInLine, IsAsking, IsResting}
 use Rattle.asking_worlds.specs.Spared.{KeepsBuffer, KeepsQtds, KeepsQueue}
 

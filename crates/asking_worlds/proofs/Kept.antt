@@ -24,26 +24,26 @@ use Rattle.driver_rows.specs.declared.content.Command.{Command}
 use Rattle.driver_rows.specs.declared.content.Command.TheVariants as unfinished
 use Rattle.driver_rows.specs.DriverContent.{DriverContent, is_same_name as is_driver_name, opened}
 use Rattle.driver_rows.specs.Words.{is_control}
-use Rattle.endpoint_lives.specs.Lives.{may_meet}
-use Rattle.ring_requests.specs.Windows.{Queue, Lines, IsQueue}
+use Rattle.driver_laws.specs.endpoint_lives.Lives.{may_meet}
+use Rattle.declared_endpoints.specs.ring_requests.Windows.{Queue, Lines, IsQueue}
 use Rattle.report_streams.specs.Reports.{acted, lines_of}
 use Rattle.report_streams.specs.Requests.{Request, has_acted, AreTold, AreRightRequests}
-use Rattle.request_calls.specs.Bus.{Device}
-use Rattle.scripted_requests.specs.Controls.{control_of}
-use Rattle.scripted_requests.proofs.Finding.{HasControl, control_found}
+use Rattle.declared_endpoints.specs.request_calls.Bus.{Device}
+use Rattle.declared_endpoints.specs.scripted_requests.Controls.{control_of}
+use Rattle.declared_endpoints.proofs.lemmas.scripted_requests.Finding.{HasControl, control_found}
 use Rattle.bus_world.specs.World.{World}
 use Rattle.bus_world.specs.Budgets.{moment}
-use Rattle.right_reports.specs.WorldReport.{report_of}
-use Rattle.taken_reports.specs.Seats.{AreApart}
-use Rattle.taken_reports.proofs.Seating.{moment_seated}
-use Rattle.chained_transfers.specs.Asynchronous.{IsKindOf}
-use Rattle.leaving_drivers.proofs.Unmet.{gone_unmet}
-use Rattle.put_laws.proofs.Rising.{spelled_rise}
-use Rattle.told_endpoints.proofs.Names.{name_is_same, driver_name}
-use Rattle.world_requests.specs.Requesting.{wired}
-use Rattle.world_requests.specs.Recorded.{Windows, windows_at, asks_at, numbers_of, window_at, windows_of}
-use Rattle.told_requests.proofs.Claims.{report_numbers, report_tells, report_counts}
-use Rattle.told_requests.proofs.Moments.{moment_asks}
+use Rattle.told_streams.specs.right_reports.WorldReport.{report_of}
+use Rattle.told_streams.specs.taken_reports.Seats.{AreApart}
+use Rattle.told_streams.proofs.lemmas.taken_reports.Seating.{moment_seated}
+use Rattle.driver_laws.specs.chained_transfers.Asynchronous.{IsKindOf}
+use Rattle.driven_queues.proofs.lemmas.leaving_drivers.Unmet.{gone_unmet}
+use Rattle.told_streams.proofs.lemmas.put_laws.Rising.{spelled_rise}
+use Rattle.walked_queues.proofs.lemmas.told_endpoints.Names.{name_is_same, driver_name}
+use Rattle.asking_worlds.specs.world_requests.Requesting.{wired}
+use Rattle.asking_worlds.specs.world_requests.Recorded.{Windows, windows_at, asks_at, numbers_of, window_at, windows_of}
+use Rattle.asking_worlds.proofs.lemmas.told_requests.Claims.{report_numbers, report_tells, report_counts}
+use Rattle.asking_worlds.proofs.lemmas.told_requests.Moments.{moment_asks}
 use Rattle.asking_worlds.specs.Courses.{Asks, IsCourse}
 use Rattle.asking_worlds.specs.Records.{IsOnceAt}
 use Rattle.asking_worlds.proofs.TransferChanging.{once_by}

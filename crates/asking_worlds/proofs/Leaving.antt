@@ -14,21 +14,21 @@ use Rattle.driver_rows.specs.DriverContent.{DriverContent}
 use Rattle.driver_rows.specs.Harvests.{note_at}
 use Rattle.driver_rows.specs.Rows.{Parts}
 use Rattle.driver_rows.specs.Words.{is_control}
-use Rattle.endpoint_lives.specs.Lives.{told_end, may_meet}
-use Rattle.told_endpoints.specs.Telling.{lines_in}
-use Rattle.told_requests.specs.Told.{has_cancel}
+use Rattle.driver_laws.specs.endpoint_lives.Lives.{told_end, may_meet}
+use Rattle.walked_queues.specs.told_endpoints.Telling.{lines_in}
+use Rattle.asking_worlds.specs.told_requests.Told.{has_cancel}
 use Rattle.report_streams.specs.Requests.{Request}
-use Rattle.ring_requests.specs.Runs.{first_of}
-use Rattle.scripted_requests.specs.Controls.{control_of}
+use Rattle.declared_endpoints.specs.ring_requests.Runs.{first_of}
+use Rattle.declared_endpoints.specs.scripted_requests.Controls.{control_of}
 use Rattle.bus_world.specs.World.{World, with_parts}
 use Rattle.stream_worlds.specs.Streaming.{Standing}
-use Rattle.world_requests.specs.Requesting.{wired}
-use Rattle.world_requests.specs.Recorded.{Windows, numbers_of}
+use Rattle.asking_worlds.specs.world_requests.Requesting.{wired}
+use Rattle.asking_worlds.specs.world_requests.Recorded.{Windows, numbers_of}
 use Rattle.asking_worlds.specs.Courses.{Course, queue_in, CoursesStand}
 use Rattle.asking_worlds.specs.Records.{Numbers, AreRecords}
 use Rattle.asking_worlds.specs.Counts.{counted_all}
 use Rattle.asking_worlds.specs.Telling.{IsTelling}
-use Rattle.standing_fronts.specs.Tails.{tail_block, tail_of}
+use Rattle.walked_queues.specs.standing_fronts.Tails.{tail_block, tail_of}
 use Rattle.asking_worlds.specs.Asking.{Sides, IsGiven, Asking, has_left, is_publishing, is_next_of, HasCourse, IsReadTo, HasTelling, IsCounted, is_opening, IsUnopened, IsUnheard, IsControlOf, IsMetControl, IsAskingWorld}
 use Rattle.asking_worlds.specs.Missed.{NoneMissed, MissesNone, PublishesNone}
 use Rattle.asking_worlds.proofs.Missed.{none_published, open_published, unlink_published}

@@ -19,34 +19,34 @@ use Rattle.driver_rows.specs.Harvests.{note_at}
 use Rattle.driver_rows.specs.Offers.{is_last}
 use Rattle.driver_rows.specs.Rows.{Parts as DriverParts}
 use Rattle.driver_rows.specs.Words.{dummy_qtd}
-use Rattle.run_owners.specs.Owners.{Owner, Dummy, Element as ElementOwner, EndpointRuns, TransferRuns, runs_of_endpoint, runs_of_transfer, note_in, views_of}
-use Rattle.run_owners.specs.Kept.{HasOwners}
-use Rattle.run_owners.proofs.Released.{same_by_test}
-use Rattle.chained_transfers.specs.Asynchronous.{OnlyAsynchronous}
-use Rattle.chained_transfers.proofs.Staying.{stands_alive}
-use Rattle.endpoint_lives.specs.Lives.{told_end}
-use Rattle.fed_queues.specs.Fed.{IsPublished, AreFed}
-use Rattle.fed_lends.specs.ToLend.{IsToBeLent, lent_now}
-use Rattle.fed_lends.proofs.Reporting.{same_hand}
-use Rattle.fed_lends.proofs.Row.{after_is}
-use Rattle.publish_laws.proofs.Apart.{dummy_placed}
-use Rattle.lent_structures.specs.Structures.{Element, StructureSets, Tells, Structure, Structures, QueueHead}
+use Rattle.driver_laws.specs.run_owners.Owners.{Owner, Dummy, Element as ElementOwner, EndpointRuns, TransferRuns, runs_of_endpoint, runs_of_transfer, note_in, views_of}
+use Rattle.driver_laws.specs.run_owners.Kept.{HasOwners}
+use Rattle.driver_laws.proofs.lemmas.run_owners.Released.{same_by_test}
+use Rattle.driver_laws.specs.chained_transfers.Asynchronous.{OnlyAsynchronous}
+use Rattle.driver_laws.proofs.lemmas.chained_transfers.Staying.{stands_alive}
+use Rattle.driver_laws.specs.endpoint_lives.Lives.{told_end}
+use Rattle.driver_laws.specs.fed_queues.Fed.{IsPublished, AreFed}
+use Rattle.walked_queues.specs.fed_lends.ToLend.{IsToBeLent, lent_now}
+use Rattle.walked_queues.proofs.lemmas.fed_lends.Reporting.{same_hand}
+use Rattle.walked_queues.proofs.lemmas.fed_lends.Row.{after_is}
+use Rattle.driven_queues.proofs.lemmas.publish_laws.Apart.{dummy_placed}
+use Rattle.ring_laws.specs.lent_structures.Structures.{Element, StructureSets, Tells, Structure, Structures, QueueHead}
 use Rattle.driver_laws.specs.Inventory.{IsPieceOf}
 use Rattle.driver_laws.specs.Pieces.{stage_qtd, IsNewQtd}
 use Rattle.driver_laws.specs.Published.{partly, IsPublishable}
 use Rattle.driver_laws.specs.TransferLaws.{HasPieces, lent_driver, lent_memory}
 use Rattle.driver_laws.specs.Written.{last_block, AwaitsLend}
-use Rattle.told_harvests.proofs.Keeping.{done_spared}
+use Rattle.driver_laws.proofs.lemmas.told_harvests.Keeping.{done_spared}
 use Rattle.report_streams.specs.Requests.{Request}
-use Rattle.ring_requests.specs.Laid.{Places, AreOthers}
-use Rattle.request_bytes.specs.Fresh.{request_places}
-use Rattle.request_bytes.specs.Held.{RequestIsHeld}
-use Rattle.scripted_requests.specs.Controls.{control_of}
+use Rattle.declared_endpoints.specs.ring_requests.Laid.{Places, AreOthers}
+use Rattle.asking_worlds.specs.request_bytes.Fresh.{request_places}
+use Rattle.asking_worlds.specs.request_bytes.Held.{RequestIsHeld}
+use Rattle.declared_endpoints.specs.scripted_requests.Controls.{control_of}
 use Rattle.bus_world.specs.World.{World, driver_parts, driver_next}
 use Rattle.stream_worlds.specs.Streaming.{Streams, Standing}
-use Rattle.world_requests.specs.Recorded.{Windows}
-use Rattle.world_requests.specs.Requesting.{wired}
-use Rattle.driver_requests.proofs.Owning.{element_of, owned_piece}
+use Rattle.asking_worlds.specs.world_requests.Recorded.{Windows}
+use Rattle.asking_worlds.specs.world_requests.Requesting.{wired}
+use Rattle.asking_worlds.proofs.lemmas.driver_requests.Owning.{element_of, owned_piece}
 use Rattle.asking_worlds.specs.Coming.{IsComing}
 use Rattle.asking_worlds.specs.Courses.{Course, queue_in, tail_in, CoursesStand}
 use Rattle.asking_worlds.specs.Spared.{IsNoRequests, IsLentBeside}
@@ -62,8 +62,8 @@ use Rattle.asking_worlds.proofs.Awaited.{one_qtd, ranged, pieces_as, apart_await
 use Rattle.asking_worlds.proofs.Inside.{AsksIn, inside, outside, goes_on}
 use Rattle.asking_worlds.proofs.Newest.{tail_next, fewer, same_places, laid_at, owner_at, not_asked}
 use Rattle.asking_worlds.specs.Missed.{NoneMissed, PublishesNoneBy}
-use Rattle.lent_structures.specs.Sound.{IsMember}
-use Rattle.fed_queues.proofs.Places.{stands_met}
+use Rattle.ring_laws.specs.lent_structures.Sound.{IsMember}
+use Rattle.driver_laws.proofs.lemmas.fed_queues.Places.{stands_met}
 use Rattle.qh_qtd.specs.declared.queue_head.Qh.{Qh}
 use Rattle.driver_rows.specs.declared.content.QtdNote.{QtdNote}
 

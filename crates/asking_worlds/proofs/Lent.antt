@@ -7,18 +7,18 @@ use Rattle.driver_rows.specs.declared.content.QtdNote.{QtdNote}
 use Rattle.driver_rows.specs.declared.content.Stage.{Stage}
 use Rattle.driver_rows.specs.Words.{dummy_qtd, request_stages, request_length, asks_in, data_stage}
 use Rattle.driver_rows.specs.Offers.{is_last}
-use Rattle.lent_structures.specs.Structures.{Element, Structures, with_structure}
-use Rattle.lent_structures.specs.Sound.{HasBuffer}
-use Rattle.lent_structures.proofs.Names.{with_here, with_there}
-use Rattle.lent_structures.proofs.Altering.{found_element}
+use Rattle.ring_laws.specs.lent_structures.Structures.{Element, Structures, with_structure}
+use Rattle.ring_laws.specs.lent_structures.Sound.{HasBuffer}
+use Rattle.ring_laws.proofs.lemmas.lent_structures.Names.{with_here, with_there}
+use Rattle.ring_laws.proofs.lemmas.lent_structures.Altering.{found_element}
 use Rattle.driver_laws.specs.Written.{last_block}
 use Rattle.driver_laws.specs.Pieces.{stage_qtd, IsNewQtd, AreStanding, AreBuffered}
 use Rattle.report_streams.specs.Requests.{Request}
 use Rattle.request_windows.specs.Host.{has_data}
-use Rattle.ring_requests.specs.Laid.{Places, IsIdle}
-use Rattle.request_bytes.specs.Fresh.{data_places, other_places, next_of, request_places}
-use Rattle.request_bytes.proofs.Fresh.{lent_fresh, positive}
-use Rattle.request_bytes.proofs.Requests.{no_data, with_data, request_case}
+use Rattle.declared_endpoints.specs.ring_requests.Laid.{Places, IsIdle}
+use Rattle.asking_worlds.specs.request_bytes.Fresh.{data_places, other_places, next_of, request_places}
+use Rattle.asking_worlds.proofs.lemmas.request_bytes.Fresh.{lent_fresh, positive}
+use Rattle.asking_worlds.proofs.lemmas.request_bytes.Requests.{no_data, with_data, request_case}
 use Rattle.asking_worlds.proofs.Coming.{lent_coming}
 use Rattle.asking_worlds.specs.Lent.{RequestIsLent}
 

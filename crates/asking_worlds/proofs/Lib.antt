@@ -74,3 +74,4 @@ pub mod Endings
 pub mod Driving
 pub mod Commanded
 pub mod Together
+pub mod lemmas

@@ -4,8 +4,8 @@ use Rattle.std.specs.Prelude.{slice_get, option_map}
 use Rattle.std.specs.List.{AllByRecursion}
 use Rattle.driver_rows.specs.declared.content.Transfer.{Transfer}
 use Rattle.driver_rows.specs.DriverContent.{DriverContent}
-use Rattle.run_owners.proofs.Released.{same_by_test}
-use Rattle.world_requests.specs.Recorded.{endpoint_of, numbers_from, numbers_of}
+use Rattle.driver_laws.proofs.lemmas.run_owners.Released.{same_by_test}
+use Rattle.asking_worlds.specs.world_requests.Recorded.{endpoint_of, numbers_from, numbers_of}
 
 pub all_map : (P Q : ℕ → Type 0) → ((t : ℕ) → P t → Q t) → (ts : List ℕ) → AllByRecursion P ts → AllByRecursion Q ts
 all_map P Q each [] all = tt

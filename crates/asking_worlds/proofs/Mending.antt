@@ -18,36 +18,36 @@ use Rattle.driver_rows.specs.declared.rows.DriverRow.TheVariants as rows
 use Rattle.driver_rows.specs.DriverContent.{DriverContent}
 use Rattle.driver_rows.specs.Harvests.{note_at}
 use Rattle.driver_rows.specs.Rows.{Parts, driver_row}
-use Rattle.endpoint_lives.specs.Lives.{told_end}
-use Rattle.lent_structures.specs.Structures.{QueueHead, StructureSets}
-use Rattle.lent_structures.proofs.Names.{put_same, put_beside}
-use Rattle.lent_structures.proofs.Altering.{found_queue}
-use Rattle.mended_heads.specs.Owed.{StalledQueue, mends_at, store_by, store_due, all_left, IsOwed, GoesOnAt}
-use Rattle.mended_heads.specs.Mended.{mended_by, IsAtMend, IsMended, IsMendedWhole, mended as mended_head, head_at, driver_mended, parts_then, hand_then}
-use Rattle.mended_heads.proofs.Row.{mend_row, last_ends, spares_heads, spares_endpoints, spares_elements}
-use Rattle.mended_heads.proofs.Mending.{keeps_endpoint, keeps_halted}
-use Rattle.publish_laws.proofs.Apart.{thirty_two}
+use Rattle.driver_laws.specs.endpoint_lives.Lives.{told_end}
+use Rattle.ring_laws.specs.lent_structures.Structures.{QueueHead, StructureSets}
+use Rattle.ring_laws.proofs.lemmas.lent_structures.Names.{put_same, put_beside}
+use Rattle.ring_laws.proofs.lemmas.lent_structures.Altering.{found_queue}
+use Rattle.walked_queues.specs.mended_heads.Owed.{StalledQueue, mends_at, store_by, store_due, all_left, IsOwed, GoesOnAt}
+use Rattle.walked_queues.specs.mended_heads.Mended.{mended_by, IsAtMend, IsMended, IsMendedWhole, mended as mended_head, head_at, driver_mended, parts_then, hand_then}
+use Rattle.walked_queues.proofs.lemmas.mended_heads.Row.{mend_row, last_ends, spares_heads, spares_endpoints, spares_elements}
+use Rattle.walked_queues.proofs.lemmas.mended_heads.Mending.{keeps_endpoint, keeps_halted}
+use Rattle.driven_queues.proofs.lemmas.publish_laws.Apart.{thirty_two}
 use Rattle.report_streams.specs.Requests.{Request}
 use Rattle.ring_laws.specs.Hand.{Hand, Empty, Copied, Settled, Stale}
 use Rattle.ring_laws.specs.Effects.{buffer_of}
 use Rattle.ring_laws.specs.Told.{told_bytes, settled_bytes, hand_bytes}
 use Rattle.ring_laws.specs.Sparing.{SparesElement}
 use Rattle.ring_laws.proofs.SparedSparing.{stale_same}
-use Rattle.ring_requests.specs.Laid.{Places}
-use Rattle.ring_requests.specs.Windows.{Queue, Sent, sent_at}
-use Rattle.ring_requests.proofs.RestingSpared.{stale_side}
+use Rattle.declared_endpoints.specs.ring_requests.Laid.{Places}
+use Rattle.declared_endpoints.specs.ring_requests.Windows.{Queue, Sent, sent_at}
+use Rattle.declared_endpoints.proofs.lemmas.ring_requests.RestingSpared.{stale_side}
 use Rattle.control_stages.specs.Stages.{Stages}
-use Rattle.scripted_requests.specs.Controls.{control_of}
+use Rattle.declared_endpoints.specs.scripted_requests.Controls.{control_of}
 use Rattle.request_windows.specs.Host.{has_data}
-use Rattle.request_bytes.specs.Fresh.{data_places, other_places, request_places, next_of}
-use Rattle.told_harvests.specs.Held.{IsDone}
-use Rattle.told_harvests.proofs.Keeping.{done_spared}
+use Rattle.asking_worlds.specs.request_bytes.Fresh.{data_places, other_places, request_places, next_of}
+use Rattle.driver_laws.specs.told_harvests.Held.{IsDone}
+use Rattle.driver_laws.proofs.lemmas.told_harvests.Keeping.{done_spared}
 use Rattle.bus_world.specs.World.{World, driver_parts, driver_next, with_parts}
 use Rattle.stream_worlds.specs.Streaming.{Streams, Standing}
-use Rattle.world_requests.specs.Requesting.{wired}
-use Rattle.world_requests.specs.Recorded.{Windows}
-use Rattle.driver_requests.specs.Requests.{IsLaidOut}
-use Rattle.driver_requests.specs.Rows.{given_by, KeepsEndpoint}
+use Rattle.asking_worlds.specs.world_requests.Requesting.{wired}
+use Rattle.asking_worlds.specs.world_requests.Recorded.{Windows}
+use Rattle.asking_worlds.specs.driver_requests.Requests.{IsLaidOut}
+use Rattle.asking_worlds.specs.driver_requests.Rows.{given_by, KeepsEndpoint}
 use Rattle.asking_worlds.specs.Courses.{Course, NoQueue, Asks, Rests, has_queue, is_asking, queue_in, tail_in, have_queues, IsResting, IsCourse, CoursesStand, with_course}
 use Rattle.asking_worlds.specs.QueueChanges.{first_from, first_in, mended_from, mended_course, IsMendedTo}
 use Rattle.asking_worlds.proofs.QueueChanging.{each_with}

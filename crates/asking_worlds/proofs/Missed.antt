@@ -30,19 +30,19 @@ use Rattle.driver_rows.specs.DriverContent.{DriverContent}
 use Rattle.driver_rows.specs.Harvests.{note_at, token_in, halt_of, moved_of, ends_by, done_of, found_in}
 use Rattle.driver_rows.specs.Rows.{Parts}
 use Rattle.driver_rows.specs.Words.{queue_head, dummy_qtd}
-use Rattle.run_owners.specs.Due.{IsHarvestDue}
-use Rattle.chained_transfers.specs.Asynchronous.{OnlyAsynchronous}
-use Rattle.chained_transfers.proofs.Ways.{found_by, moves_queued}
+use Rattle.driver_laws.specs.run_owners.Due.{IsHarvestDue}
+use Rattle.driver_laws.specs.chained_transfers.Asynchronous.{OnlyAsynchronous}
+use Rattle.driver_laws.proofs.lemmas.chained_transfers.Ways.{found_by, moves_queued}
 use Rattle.walk_copy.specs.Overlay.{advanced, moved, settled_queue}
 use Rattle.walk_copy.specs.Transacting.{call_in, host_after}
 use Rattle.walk_copy.specs.WriteBack.{moved_by}
 use Rattle.async_walk.specs.declared.state.WalkStep.{WalkStep}
 use Rattle.async_walk.specs.Naks.{planned}
-use Rattle.lent_structures.specs.Changes.{relinked}
-use Rattle.lent_structures.specs.Structures.{Structure, QueueHead, Element, StructureSets, Tells, put}
-use Rattle.lent_structures.specs.WriteBack.{Received, Nothing, Into, qtd_after, received_parts}
-use Rattle.lent_structures.proofs.Names.{put_found}
-use Rattle.harvested_streams.proofs.Harvesting.{token_read}
+use Rattle.ring_laws.specs.lent_structures.Changes.{relinked}
+use Rattle.ring_laws.specs.lent_structures.Structures.{Structure, QueueHead, Element, StructureSets, Tells, put}
+use Rattle.ring_laws.specs.lent_structures.WriteBack.{Received, Nothing, Into, qtd_after, received_parts}
+use Rattle.ring_laws.proofs.lemmas.lent_structures.Names.{put_found}
+use Rattle.driver_laws.proofs.lemmas.harvested_streams.Harvesting.{token_read}
 use Rattle.ring_laws.specs.Hand.{Copy, copied_queue, Settlement, settled_queue_of, Hand, Empty, Copied, Settled, Stale}
 use Rattle.ring_laws.specs.Effects.{received_into, Effect}
 use Rattle.ring_laws.specs.Effects.Effect.{reads, passes, ends, takes, makes, writes_back}

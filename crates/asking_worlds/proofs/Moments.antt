@@ -5,7 +5,7 @@ use Rattle.usb_base.specs.declared.commands.Cmd.{Cmd}
 use Rattle.script_types.specs.declared.scripts.Line.{Line}
 use Rattle.script_types.specs.declared.scripts.Line.TheVariants as lines
 use Rattle.script_types.specs.declared.scripts.Script.{Script}
-use Rattle.byte_answers.specs.Bytes.{IsByteCommand, IsByteLine}
+use Rattle.script_laws.specs.byte_answers.Bytes.{IsByteCommand, IsByteLine}
 use Rattle.usb_bus.specs.Bus.{fixed_of}
 use Rattle.report_streams.specs.Requests.{Request}
 use Rattle.driver_rows.specs.Offers.{IsOffered}
@@ -14,10 +14,10 @@ use Rattle.bus_world.specs.Opening.{opening_world}
 use Rattle.bus_world.specs.Budgets.{moment}
 use Rattle.stream_worlds.specs.Streaming.{Streams}
 use Rattle.stream_worlds.specs.Takers.{takes_of}
-use Rattle.receiving_runs.specs.Runs as runs
-use Rattle.world_requests.specs.Along.{KindOfLine}
-use Rattle.world_requests.proofs.Along.{holds_with_windows}
-use Rattle.world_requests.specs.Recorded.{Windows, windows_at, asks_at, after_event, asks_then}
+use Rattle.told_streams.specs.receiving_runs.Runs as runs
+use Rattle.asking_worlds.specs.world_requests.Along.{KindOfLine}
+use Rattle.asking_worlds.proofs.lemmas.world_requests.Along.{holds_with_windows}
+use Rattle.asking_worlds.specs.world_requests.Recorded.{Windows, windows_at, asks_at, after_event, asks_then}
 use Rattle.whole_worlds.specs.Feeding.{streams_of}
 use Rattle.whole_worlds.specs.Whole.{HasWhole}
 use Rattle.whole_worlds.proofs.Fewer.{are_fewer}

@@ -17,32 +17,32 @@ use Rattle.driver_rows.specs.DriverContent.{DriverContent, no_note}
 use Rattle.driver_rows.specs.Harvests.{note_at, noted}
 use Rattle.driver_rows.specs.Rows.{driver_row, after_driver_row, served, moved_on}
 use Rattle.driver_rows.specs.Words.{request_stages}
-use Rattle.endpoint_lives.specs.Lives.{told_end}
-use Rattle.run_owners.specs.Due.{IsHarvestDue}
-use Rattle.run_owners.specs.Owners.{note_in}
-use Rattle.chained_transfers.specs.Turns.{IsAtPlace}
-use Rattle.chained_transfers.proofs.Harvesting.{waits_is}
-use Rattle.told_harvests.specs.Held.{IsOneFrom}
-use Rattle.harvest_laws.specs.RowLaws.{IsReadNext}
-use Rattle.harvest_laws.proofs.Opening.{set_which}
-use Rattle.harvest_laws.proofs.Places.{unmoved_noted, one_later}
-use Rattle.harvest_laws.proofs.ReadRows.{after_is, read_next}
+use Rattle.driver_laws.specs.endpoint_lives.Lives.{told_end}
+use Rattle.driver_laws.specs.run_owners.Due.{IsHarvestDue}
+use Rattle.driver_laws.specs.run_owners.Owners.{note_in}
+use Rattle.driver_laws.specs.chained_transfers.Turns.{IsAtPlace}
+use Rattle.driver_laws.proofs.lemmas.chained_transfers.Harvesting.{waits_is}
+use Rattle.driver_laws.specs.told_harvests.Held.{IsOneFrom}
+use Rattle.driven_queues.specs.harvest_laws.RowLaws.{IsReadNext}
+use Rattle.driven_queues.proofs.lemmas.harvest_laws.Opening.{set_which}
+use Rattle.driven_queues.proofs.lemmas.harvest_laws.Places.{unmoved_noted, one_later}
+use Rattle.driven_queues.proofs.lemmas.harvest_laws.ReadRows.{after_is, read_next}
 use Rattle.report_streams.specs.Requests.{Request}
 use Rattle.request_windows.specs.Host.{has_data}
-use Rattle.ring_requests.specs.Windows.{Queue, Sent}
+use Rattle.declared_endpoints.specs.ring_requests.Windows.{Queue, Sent}
 use Rattle.bus_world.specs.World.{World, driver_parts, driver_next, with_parts}
 use Rattle.stream_worlds.specs.Streaming.{Streams, Standing}
-use Rattle.world_requests.specs.Recorded.{Windows, numbers_of}
-use Rattle.told_requests.specs.Waiting.{waiting}
-use Rattle.told_requests.proofs.WaitingHarvests.{other_harvest_waits, harvest_keeps_waits}
-use Rattle.driver_requests.proofs.Owning.{qtds_case}
-use Rattle.driver_requests.proofs.RowOrder.{row_numbers}
+use Rattle.asking_worlds.specs.world_requests.Recorded.{Windows, numbers_of}
+use Rattle.asking_worlds.specs.told_requests.Waiting.{waiting}
+use Rattle.asking_worlds.proofs.lemmas.told_requests.WaitingHarvests.{other_harvest_waits, harvest_keeps_waits}
+use Rattle.asking_worlds.proofs.lemmas.driver_requests.Owning.{qtds_case}
+use Rattle.asking_worlds.proofs.lemmas.driver_requests.RowOrder.{row_numbers}
 use Rattle.asking_worlds.specs.Courses.{queue_in}
 use Rattle.asking_worlds.specs.Counts.{counted_all}
 use Rattle.asking_worlds.specs.Records.{AreRecords}
 use Rattle.asking_worlds.proofs.Rows.{row_recorded}
 use Rattle.whole_worlds.specs.HarvestFeeds.{HarvestLeaves}
-use Rattle.standing_fronts.specs.Tails.{tail_of, tail_block}
+use Rattle.walked_queues.specs.standing_fronts.Tails.{tail_of, tail_block}
 use Rattle.whole_worlds.proofs.Told.{control_kind}
 use Rattle.whole_worlds.specs.Whole.{IsWhole}
 use Rattle.whole_worlds.proofs.Leaving.{due, leaves, whole_harvested}

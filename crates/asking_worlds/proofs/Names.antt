@@ -14,18 +14,18 @@ use Rattle.driver_rows.specs.declared.content.Command.TheVariants as unfinished
 use Rattle.driver_rows.specs.declared.content.Endpoint.{Endpoint as DriverEndpoint}
 use Rattle.driver_rows.specs.DriverContent.{DriverContent}
 use Rattle.driver_rows.specs.Words.{is_control, head_block, opening_head, queue_head}
-use Rattle.endpoint_lives.specs.Lives.{may_meet}
-use Rattle.fed_queues.specs.Places.{IsMet, HasHead}
-use Rattle.lent_structures.specs.Structures.{Structure, QueueHead, StructureSets}
-use Rattle.declared_controls.specs.Names.{IsNameOf}
+use Rattle.driver_laws.specs.endpoint_lives.Lives.{may_meet}
+use Rattle.driver_laws.specs.fed_queues.Places.{IsMet, HasHead}
+use Rattle.ring_laws.specs.lent_structures.Structures.{Structure, QueueHead, StructureSets}
+use Rattle.declared_endpoints.specs.declared_controls.Names.{IsNameOf}
 use Rattle.report_streams.specs.Requests.{Request}
-use Rattle.request_calls.specs.Bus.{Device}
+use Rattle.declared_endpoints.specs.request_calls.Bus.{Device}
 use Rattle.ring_laws.specs.Told.{HasEndpoint, Endpoint as Characteristics, endpoint_of}
-use Rattle.scripted_requests.specs.Controls.{control_of}
+use Rattle.declared_endpoints.specs.scripted_requests.Controls.{control_of}
 use Rattle.bus_world.specs.World.{World}
 use Rattle.stream_worlds.specs.Streaming.{Streams, Standing}
-use Rattle.world_requests.specs.Requesting.{wired}
-use Rattle.world_requests.specs.Recorded.{Windows}
+use Rattle.asking_worlds.specs.world_requests.Requesting.{wired}
+use Rattle.asking_worlds.specs.world_requests.Recorded.{Windows}
 use Rattle.whole_worlds.specs.Feeding.{opens}
 use Rattle.whole_worlds.specs.Whole.{IsWhole}
 use Rattle.asking_worlds.specs.Asking.{Sides, IsGiven, Asking, has_left, left_with, is_opening, IsControlOf, IsAskingWorld}

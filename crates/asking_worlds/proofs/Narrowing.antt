@@ -3,14 +3,14 @@ use Rattle.std.proofs.Common.{◌≡◌, ℕ, ◌==◌, ◌&&◌, ◌||◌, Bool
 use Rattle.std.specs.List.{AllByRecursion}
 use Rattle.std.proofs.lemmas.Bool.{eq-eqb, false≢true}
 use Rattle.driver_rows.specs.DriverContent.{DriverContent}
-use Rattle.lent_structures.specs.Structures.{StructureSets}
+use Rattle.ring_laws.specs.lent_structures.Structures.{StructureSets}
 use Rattle.report_streams.specs.Requests.{Request}
 use Rattle.request_windows.specs.Host.{Endpoint}
-use Rattle.request_calls.specs.Bus.{Device}
+use Rattle.declared_endpoints.specs.request_calls.Bus.{Device}
 use Rattle.ring_laws.specs.Hand.{Hand}
 use Rattle.ring_laws.specs.Stores.{IsWider}
-use Rattle.ring_requests.specs.Windows.{Queue, Lines, IsQueue, IsElsewhere}
-use Rattle.world_requests.specs.Recorded.{Windows, numbers_of}
+use Rattle.declared_endpoints.specs.ring_requests.Windows.{Queue, Lines, IsQueue, IsElsewhere}
+use Rattle.asking_worlds.specs.world_requests.Recorded.{Windows, numbers_of}
 use Rattle.asking_worlds.specs.Courses.{Course, NoQueue, Asks, has_queue, queue_in, IsCourse, queues, have_queues, CoursesStand}
 use Rattle.asking_worlds.specs.Records.{Numbers, IsOnceAt, IsRecord, AreRecords}
 use Rattle.asking_worlds.proofs.TransferChanging.{course_gone}

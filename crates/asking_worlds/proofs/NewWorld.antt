@@ -4,21 +4,21 @@ use Rattle.std.proofs.lemmas.Bool.{false≢true}
 use Rattle.std.proofs.lemmas.List.{length-replicate}
 use Rattle.script_types.specs.declared.scripts.Script.{Script}
 use Rattle.script_fits.specs.Fits.{IsFit}
-use Rattle.byte_answers.specs.Bytes.{IsByteScript}
+use Rattle.script_laws.specs.byte_answers.Bytes.{IsByteScript}
 use Rattle.usb_bus.specs.Bus.{fixed_of}
 use Rattle.driver_rows.specs.declared.content.Endpoint.{Endpoint as DriverEndpoint}
 use Rattle.driver_rows.specs.declared.content.Reserve.{Reserve}
 use Rattle.driver_rows.specs.DriverContent.{DriverContent}
 use Rattle.driver_rows.specs.Opening.{opening}
-use Rattle.run_owners.specs.Owners.{TransferRuns, transfer_in, views_of}
-use Rattle.lent_structures.specs.Structures.{Structure, Table, QueueHead, Element}
+use Rattle.driver_laws.specs.run_owners.Owners.{TransferRuns, transfer_in, views_of}
+use Rattle.ring_laws.specs.lent_structures.Structures.{Structure, Table, QueueHead, Element}
 use Rattle.driver_laws.specs.PartOpened.{empty_list, opening_parts, is_head, no_parts, list_parts}
 use Rattle.driver_laws.specs.Extents.{AreInRuns}
-use Rattle.harvest_laws.proofs.Standing.{new_told}
-use Rattle.open_names.proofs.Apart.{new_apart}
-use Rattle.world_bytes.proofs.Turning.{opened_bytes}
+use Rattle.driven_queues.proofs.lemmas.harvest_laws.Standing.{new_told}
+use Rattle.told_streams.proofs.lemmas.open_names.Apart.{new_apart}
+use Rattle.stream_worlds.proofs.lemmas.world_bytes.Turning.{opened_bytes}
 use Rattle.bus_world.specs.Rooms.{reserve_of}
-use Rattle.shared_worlds.specs.Working.{at_opening}
+use Rattle.told_streams.specs.shared_worlds.Working.{at_opening}
 use Rattle.whole_worlds.proofs.FeedingOpening.{new_world_feeds}
 use Rattle.whole_worlds.proofs.FedOpening.{new_world_left}
 use Rattle.whole_worlds.proofs.TakingOpening.{new_world_taking}
@@ -27,7 +27,7 @@ use Rattle.ring_laws.specs.Told.{endpoint_of}
 use Rattle.bus_world.specs.Opening.{opening_world}
 use Rattle.stream_worlds.specs.Streaming.{Streams, Standing}
 use Rattle.stream_worlds.specs.Takers.{takes_of}
-use Rattle.world_requests.specs.Recorded.{no_windows, no_asks}
+use Rattle.asking_worlds.specs.world_requests.Recorded.{no_windows, no_asks}
 use Rattle.asking_worlds.specs.Courses.{NoQueue, nobody}
 use Rattle.asking_worlds.specs.Records.{Numbers}
 use Rattle.whole_worlds.specs.Feeding.{streams_of}

@@ -11,22 +11,22 @@ use Rattle.driver_rows.specs.declared.content.Endpoint.{Endpoint}
 use Rattle.driver_rows.specs.declared.content.Transfer.{Transfer}
 use Rattle.driver_rows.specs.DriverContent.{DriverContent}
 use Rattle.driver_rows.specs.Words.{is_control}
-use Rattle.run_owners.specs.Owners.{Element, note_in}
-use Rattle.run_owners.specs.Kept.{HasOwners}
-use Rattle.chained_transfers.specs.Asynchronous.{OnlyAsynchronous}
-use Rattle.fed_queues.proofs.Places.{stands_met}
-use Rattle.lent_structures.specs.Structures.{StructureSets}
+use Rattle.driver_laws.specs.run_owners.Owners.{Element, note_in}
+use Rattle.driver_laws.specs.run_owners.Kept.{HasOwners}
+use Rattle.driver_laws.specs.chained_transfers.Asynchronous.{OnlyAsynchronous}
+use Rattle.driver_laws.proofs.lemmas.fed_queues.Places.{stands_met}
+use Rattle.ring_laws.specs.lent_structures.Structures.{StructureSets}
 use Rattle.report_streams.specs.Requests.{Request}
 use Rattle.request_windows.specs.Host.{Stage, Setup, Data, Status, Done, Halted}
 use Rattle.ring_laws.specs.Hand.{Hand}
-use Rattle.ring_requests.specs.Laid.{Places, place_at}
-use Rattle.ring_requests.specs.Windows.{Sent}
-use Rattle.world_requests.specs.Recorded.{Windows}
-use Rattle.driver_requests.specs.Requests.{IsLaidOut}
-use Rattle.driver_requests.proofs.Owning.{qtds_case, first_piece, setup_place, IsQtdAt, status_place, data_place, owned_piece}
+use Rattle.declared_endpoints.specs.ring_requests.Laid.{Places, place_at}
+use Rattle.declared_endpoints.specs.ring_requests.Windows.{Sent}
+use Rattle.asking_worlds.specs.world_requests.Recorded.{Windows}
+use Rattle.asking_worlds.specs.driver_requests.Requests.{IsLaidOut}
+use Rattle.asking_worlds.proofs.lemmas.driver_requests.Owning.{qtds_case, first_piece, setup_place, IsQtdAt, status_place, data_place, owned_piece}
 use Rattle.asking_worlds.specs.Courses.{queue_in, have_queues}
 use Rattle.asking_worlds.specs.Records.{IsRecord}
-use Rattle.standing_fronts.specs.Tails.{tail_block}
+use Rattle.walked_queues.specs.standing_fronts.Tails.{tail_block}
 use Rattle.asking_worlds.specs.Asking.{Sides, Asking, is_publishing, is_next_of, HasCourse, IsMetControl}
 use Rattle.asking_worlds.proofs.Inside.{AsksIn}
 

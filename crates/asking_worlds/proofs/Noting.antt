@@ -13,27 +13,27 @@ use Rattle.driver_rows.specs.DriverContent.{DriverContent}
 use Rattle.driver_rows.specs.Harvests.{note_at}
 use Rattle.driver_rows.specs.Offers.{Offered, Asked, new_runs, note_stages, first_of, is_last, stage_words, new_transfer, with_queued, accepted_transfer}
 use Rattle.driver_rows.specs.Words.{needs}
-use Rattle.run_owners.specs.Accepts.{Transfers}
-use Rattle.run_owners.specs.Kept.{HasOwners}
-use Rattle.run_owners.specs.Owners.{Owner, Element, IsPlaced, ArePieces, runs_of_endpoint, runs_of_transfer, note_in}
-use Rattle.run_owners.proofs.Accepted.{drop_first, within_slots}
-use Rattle.run_owners.proofs.Chains.{notes_apart}
-use Rattle.run_owners.proofs.Released.{set_here}
-use Rattle.run_owners.proofs.Runs.{placed_run}
-use Rattle.run_owners.proofs.Taking.{runs_taken}
-use Rattle.run_owners.proofs.Transferred.{are_new, goes_on_alive}
-use Rattle.lent_runs.specs.Lent.{AreLent}
-use Rattle.lent_structures.proofs.Names.{not_same}
-use Rattle.chained_transfers.specs.Asynchronous.{IsRequested}
-use Rattle.chained_transfers.specs.Bulk.{sort_by}
-use Rattle.chained_transfers.proofs.Queued.{not_dummy}
-use Rattle.told_harvests.specs.Held.{AreUnmoved, IsOneFrom}
-use Rattle.harvest_laws.proofs.Stages.{AreBlocks, stages_unmoved}
+use Rattle.driver_laws.specs.run_owners.Accepts.{Transfers}
+use Rattle.driver_laws.specs.run_owners.Kept.{HasOwners}
+use Rattle.driver_laws.specs.run_owners.Owners.{Owner, Element, IsPlaced, ArePieces, runs_of_endpoint, runs_of_transfer, note_in}
+use Rattle.driver_laws.proofs.lemmas.run_owners.Accepted.{drop_first, within_slots}
+use Rattle.driver_laws.proofs.lemmas.run_owners.Chains.{notes_apart}
+use Rattle.driver_laws.proofs.lemmas.run_owners.Released.{set_here}
+use Rattle.driver_laws.proofs.lemmas.run_owners.Runs.{placed_run}
+use Rattle.driver_laws.proofs.lemmas.run_owners.Taking.{runs_taken}
+use Rattle.driver_laws.proofs.lemmas.run_owners.Transferred.{are_new, goes_on_alive}
+use Rattle.driver_laws.specs.lent_runs.Lent.{AreLent}
+use Rattle.ring_laws.proofs.lemmas.lent_structures.Names.{not_same}
+use Rattle.driver_laws.specs.chained_transfers.Asynchronous.{IsRequested}
+use Rattle.driver_laws.specs.chained_transfers.Bulk.{sort_by}
+use Rattle.driver_laws.proofs.lemmas.chained_transfers.Queued.{not_dummy}
+use Rattle.driver_laws.specs.told_harvests.Held.{AreUnmoved, IsOneFrom}
+use Rattle.driven_queues.proofs.lemmas.harvest_laws.Stages.{AreBlocks, stages_unmoved}
 use Rattle.driver_laws.specs.Written.{AwaitsLend}
 use Rattle.driver_laws.proofs.TransferAccepting.{accepted_awaits_lend}
-use Rattle.fed_lends.specs.ToLend.{AreStagesBy, IsToBeLent}
-use Rattle.fed_lends.proofs.Fed.{one_command}
-use Rattle.fed_lends.proofs.Stages.{requested_by, stages_pids}
+use Rattle.walked_queues.specs.fed_lends.ToLend.{AreStagesBy, IsToBeLent}
+use Rattle.walked_queues.proofs.lemmas.fed_lends.Fed.{one_command}
+use Rattle.walked_queues.proofs.lemmas.fed_lends.Stages.{requested_by, stages_pids}
 
 one_placed : (slot : ℕ → Slot) (owner : ℕ → Owner) (notes : List QtdNote) (t b n a : ℕ) → ArePieces slot owner (note_in notes) t b n → IsOneFrom (note_at notes) b n a → IsPlaced slot owner a (Element t)
 one_placed slot owner notes t b zero a k one = absurd one

@@ -12,22 +12,22 @@ use Rattle.driver_rows.specs.declared.rows.DriverRow.TheVariants as rows
 use Rattle.driver_rows.specs.DriverContent.{DriverContent}
 use Rattle.driver_rows.specs.Harvests.{note_at}
 use Rattle.driver_rows.specs.Rows.{row_for, command_row, driver_row}
-use Rattle.endpoint_lives.specs.Lives.{told_end, may_meet}
+use Rattle.driver_laws.specs.endpoint_lives.Lives.{told_end, may_meet}
 use Rattle.run_book.specs.Book.{holding, lend_taken}
-use Rattle.run_owners.specs.Kept.{HasOwners}
-use Rattle.lent_structures.specs.Structures.{Structures, StructureSets, put, QueueHead, Element}
-use Rattle.publish_laws.proofs.Apart.{thirty_two}
+use Rattle.driver_laws.specs.run_owners.Kept.{HasOwners}
+use Rattle.ring_laws.specs.lent_structures.Structures.{Structures, StructureSets, put, QueueHead, Element}
+use Rattle.driven_queues.proofs.lemmas.publish_laws.Apart.{thirty_two}
 use Rattle.report_streams.specs.Requests.{Request}
 use Rattle.ring_laws.specs.Effects.{buffer_of}
 use Rattle.ring_laws.specs.Sparing.{SparesElement}
-use Rattle.scripted_requests.specs.Controls.{control_of}
-use Rattle.told_harvests.proofs.Keeping.{done_spared}
-use Rattle.open_laws.specs.Lends.{IsOpenReady, parts_lent}
+use Rattle.declared_endpoints.specs.scripted_requests.Controls.{control_of}
+use Rattle.driver_laws.proofs.lemmas.told_harvests.Keeping.{done_spared}
+use Rattle.driven_queues.specs.open_laws.Lends.{IsOpenReady, parts_lent}
 use Rattle.bus_world.specs.World.{World, driver_parts, driver_next}
 use Rattle.stream_worlds.specs.Streaming.{Streams, Standing}
-use Rattle.world_requests.specs.Requesting.{wired}
-use Rattle.world_requests.specs.Recorded.{Windows, numbers_of}
-use Rattle.driver_requests.specs.Rows.{given_by, KeepsEndpoint}
+use Rattle.asking_worlds.specs.world_requests.Requesting.{wired}
+use Rattle.asking_worlds.specs.world_requests.Recorded.{Windows, numbers_of}
+use Rattle.asking_worlds.specs.driver_requests.Rows.{given_by, KeepsEndpoint}
 use Rattle.asking_worlds.specs.Courses.{have_queues, CoursesStand}
 use Rattle.asking_worlds.proofs.Writing.{same_hand, same_side}
 use Rattle.asking_worlds.specs.Records.{AreRecords}

@@ -20,40 +20,40 @@ use Rattle.driver_rows.specs.declared.content.Transfer.{Transfer}
 use Rattle.driver_rows.specs.DriverContent.{DriverContent, waits_for}
 use Rattle.driver_rows.specs.Harvests.{note_at}
 use Rattle.driver_rows.specs.Words.{is_control, speed_field, to_queue_head, queue_head, dummy_qtd}
-use Rattle.endpoint_lives.specs.Lives.{told_end}
-use Rattle.chained_transfers.specs.Turns.{Turn, turn_of, turn_in, AreReportedTo}
-use Rattle.chained_transfers.proofs.Staying.{linked_stands_alive}
-use Rattle.fed_queues.specs.Places.{IsMet}
-use Rattle.lent_structures.specs.Structures.{Structures, StructureSets, QueueHead, Element, with_structure}
-use Rattle.lent_structures.specs.Sound.{IsMember}
-use Rattle.lent_structures.proofs.Names.{not_same, put_beside, with_here}
-use Rattle.publish_laws.proofs.Apart.{thirty_two}
+use Rattle.driver_laws.specs.endpoint_lives.Lives.{told_end}
+use Rattle.driver_laws.specs.chained_transfers.Turns.{Turn, turn_of, turn_in, AreReportedTo}
+use Rattle.driver_laws.proofs.lemmas.chained_transfers.Staying.{linked_stands_alive}
+use Rattle.driver_laws.specs.fed_queues.Places.{IsMet}
+use Rattle.ring_laws.specs.lent_structures.Structures.{Structures, StructureSets, QueueHead, Element, with_structure}
+use Rattle.ring_laws.specs.lent_structures.Sound.{IsMember}
+use Rattle.ring_laws.proofs.lemmas.lent_structures.Names.{not_same, put_beside, with_here}
+use Rattle.driven_queues.proofs.lemmas.publish_laws.Apart.{thirty_two}
 use Rattle.report_text.specs.ReportText.{AreStored}
-use Rattle.told_endpoints.specs.Telling.{lines_in}
-use Rattle.told_requests.specs.Told.{left_after, has_cancel}
+use Rattle.walked_queues.specs.told_endpoints.Telling.{lines_in}
+use Rattle.asking_worlds.specs.told_requests.Told.{left_after, has_cancel}
 use Rattle.asking_worlds.specs.Telling.{IsTelling}
-use Rattle.ring_requests.specs.Runs.{first_of}
+use Rattle.declared_endpoints.specs.ring_requests.Runs.{first_of}
 use Rattle.report_streams.specs.Requests.{Request, AreTold}
-use Rattle.request_calls.specs.Bus.{device_of}
+use Rattle.declared_endpoints.specs.request_calls.Bus.{device_of}
 use Rattle.ring_laws.specs.Hand.{Hand, Empty, Copied, Settled, Stale}
 use Rattle.ring_laws.specs.Ring.{IsInHand}
 use Rattle.ring_laws.specs.Stores.{hand_linked}
 use Rattle.ring_laws.specs.Told.{HasEndpoint, Endpoint as Characteristics, endpoint_of}
 use Rattle.ring_laws.proofs.SparedSparing.{linked_same}
-use Rattle.ring_requests.specs.Shown.{hand_side}
-use Rattle.ring_requests.specs.Windows.{Queue, IsElsewhere}
-use Rattle.ring_requests.specs.Resting.{IsAtRest}
-use Rattle.scripted_requests.specs.Controls.{control_of}
-use Rattle.told_harvests.proofs.Keeping.{done_spared}
+use Rattle.declared_endpoints.specs.ring_requests.Shown.{hand_side}
+use Rattle.declared_endpoints.specs.ring_requests.Windows.{Queue, IsElsewhere}
+use Rattle.declared_endpoints.specs.ring_requests.Resting.{IsAtRest}
+use Rattle.declared_endpoints.specs.scripted_requests.Controls.{control_of}
+use Rattle.driver_laws.proofs.lemmas.told_harvests.Keeping.{done_spared}
 use Rattle.driver_laws.specs.Linked.{no_part, with_member, head_at}
-use Rattle.open_laws.specs.Opens.{IsOpenLent, end_then}
-use Rattle.open_laws.proofs.Linking.{here as head_stands, driver_is}
-use Rattle.open_laws.proofs.Standing.{member_here, member_old}
-use Rattle.unlinked_streams.proofs.Sparing.{spares_head, spares_element}
+use Rattle.driven_queues.specs.open_laws.Opens.{IsOpenLent, end_then}
+use Rattle.driven_queues.proofs.lemmas.open_laws.Linking.{here as head_stands, driver_is}
+use Rattle.driven_queues.proofs.lemmas.open_laws.Standing.{member_here, member_old}
+use Rattle.stream_worlds.proofs.lemmas.unlinked_streams.Sparing.{spares_head, spares_element}
 use Rattle.bus_world.specs.World.{World, driver_parts, driver_next, with_parts}
 use Rattle.stream_worlds.specs.Streaming.{Streams, Standing}
-use Rattle.world_requests.specs.Requesting.{wired}
-use Rattle.world_requests.specs.Recorded.{Windows, numbers_from, numbers_of}
+use Rattle.asking_worlds.specs.world_requests.Requesting.{wired}
+use Rattle.asking_worlds.specs.world_requests.Recorded.{Windows, numbers_from, numbers_of}
 use Rattle.asking_worlds.specs.Courses.{Course, NoQueue, Asks, Rests, has_queue, queue_in, nobody, queues, have_queues, with_course, CoursesStand}
 use Rattle.asking_worlds.specs.QueueChanges.{IsNewCourse}
 use Rattle.asking_worlds.proofs.Beginning.{course_begins}

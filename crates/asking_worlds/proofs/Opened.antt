@@ -15,28 +15,28 @@ use Rattle.driver_rows.specs.DriverContent.{DriverContent}
 use Rattle.driver_rows.specs.Offers.{Offered, new_runs, new_endpoint, accepted_open}
 use Rattle.driver_rows.specs.Rows.{is_iso}
 use Rattle.driver_rows.specs.Words.{is_control}
-use Rattle.run_owners.specs.Owners.{QueueHead, runs_of_endpoint}
-use Rattle.run_owners.proofs.Runs.{placed_run}
-use Rattle.run_owners.proofs.Taking.{runs_taken}
-use Rattle.run_owners.proofs.Accepted.{drop_first, fresh_differs}
-use Rattle.chained_transfers.specs.Asynchronous.{IsOpenedAsynchronous}
-use Rattle.chained_transfers.proofs.Accepting.{command_accepts}
-use Rattle.chained_transfers.proofs.BulkAndControl.{not_iso}
-use Rattle.commanded_queues.proofs.Which.{opens_its_own}
-use Rattle.fed_lends.proofs.Asked.{push_which}
-use Rattle.put_laws.proofs.Mapped.{push_there}
-use Rattle.lent_structures.specs.Structures.{StructureSets}
+use Rattle.driver_laws.specs.run_owners.Owners.{QueueHead, runs_of_endpoint}
+use Rattle.driver_laws.proofs.lemmas.run_owners.Runs.{placed_run}
+use Rattle.driver_laws.proofs.lemmas.run_owners.Taking.{runs_taken}
+use Rattle.driver_laws.proofs.lemmas.run_owners.Accepted.{drop_first, fresh_differs}
+use Rattle.driver_laws.specs.chained_transfers.Asynchronous.{IsOpenedAsynchronous}
+use Rattle.driver_laws.proofs.lemmas.chained_transfers.Accepting.{command_accepts}
+use Rattle.driver_laws.proofs.lemmas.chained_transfers.BulkAndControl.{not_iso}
+use Rattle.walked_queues.proofs.lemmas.commanded_queues.Which.{opens_its_own}
+use Rattle.walked_queues.proofs.lemmas.fed_lends.Asked.{push_which}
+use Rattle.told_streams.proofs.lemmas.put_laws.Mapped.{push_there}
+use Rattle.ring_laws.specs.lent_structures.Structures.{StructureSets}
 use Rattle.report_streams.specs.Requests.{Request}
 use Rattle.ring_laws.specs.Hand.{Hand}
 use Rattle.bus_world.specs.World.{World, commanded_by, commanded}
 use Rattle.stream_worlds.specs.Streaming.{Streams, Standing}
-use Rattle.world_requests.specs.Recorded.{Windows}
-use Rattle.world_requests.specs.Requesting.{wired}
-use Rattle.driver_requests.specs.Rows.{KeepsRequests}
+use Rattle.asking_worlds.specs.world_requests.Recorded.{Windows}
+use Rattle.asking_worlds.specs.world_requests.Requesting.{wired}
+use Rattle.asking_worlds.specs.driver_requests.Rows.{KeepsRequests}
 use Rattle.asking_worlds.specs.Courses.{queue_in}
 use Rattle.asking_worlds.proofs.Rows.{kept_recorded}
 use Rattle.whole_worlds.specs.Feeding.{opens}
-use Rattle.standing_fronts.specs.Tails.{tail_block}
+use Rattle.walked_queues.specs.standing_fronts.Tails.{tail_block}
 use Rattle.whole_worlds.specs.Whole.{IsWhole}
 use Rattle.whole_worlds.proofs.Commanding.{whole_commanded}
 use Rattle.asking_worlds.specs.Asking.{Sides, IsGiven, Asking, left_with, has_left, is_publishing, is_opening, IsMetControl, IsAskingWorld}

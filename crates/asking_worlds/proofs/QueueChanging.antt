@@ -2,13 +2,13 @@
 use Rattle.std.proofs.Common.{◌≡◌, ◌≢◌, ℕ, Bool, true, false, if◌then◌else◌, Option, ap, refl, sym, subst, ◌∙◌, ⊎_elim}
 use Rattle.std.specs.Prelude.{◌⊎◌}
 use Rattle.std.proofs.lemmas.Bool.{cases_eq, eq-eqb, false≢true}
-use Rattle.lent_structures.specs.Structures.{StructureSets}
-use Rattle.lent_structures.proofs.Names.{not_same}
+use Rattle.ring_laws.specs.lent_structures.Structures.{StructureSets}
+use Rattle.ring_laws.proofs.lemmas.lent_structures.Names.{not_same}
 use Rattle.request_windows.specs.Host.{Endpoint}
-use Rattle.request_calls.specs.Bus.{Device}
+use Rattle.declared_endpoints.specs.request_calls.Bus.{Device}
 use Rattle.ring_laws.specs.Hand.{Hand}
 use Rattle.ring_laws.specs.Told.{HasEndpoint, endpoint_of, Endpoint as Characteristics}
-use Rattle.ring_requests.specs.Windows.{IsElsewhere}
+use Rattle.declared_endpoints.specs.ring_requests.Windows.{IsElsewhere}
 use Rattle.asking_worlds.specs.Courses.{Course, NoQueue, Asks, Rests, has_queue, queue_in, tail_in, IsCourse, queues, have_queues, CoursesStand, with_course}
 use Rattle.asking_worlds.specs.Spared.{KeepsQueue, KeepsEndpoints, CoursesAreSpared}
 use Rattle.asking_worlds.specs.QueueChanges.{CourseLeaves, MembersChange}

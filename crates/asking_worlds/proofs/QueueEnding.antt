@@ -1,12 +1,12 @@
 -- The first request of a queue has ended, or its queue head is halted.
 use Rattle.std.proofs.Common.{◌≡◌, ℕ, suc, ◌-◌, Bool, true, Option, ap, refl, sym, subst, ◌∙◌, arith}
-use Rattle.lent_structures.specs.Structures.{StructureSets}
-use Rattle.request_calls.specs.Bus.{Device}
+use Rattle.ring_laws.specs.lent_structures.Structures.{StructureSets}
+use Rattle.declared_endpoints.specs.request_calls.Bus.{Device}
 use Rattle.ring_laws.specs.Hand.{Hand}
-use Rattle.ring_requests.specs.Windows.{Queue, Lines}
-use Rattle.ring_requests.specs.Resting.{IsAtRest, HasRest}
-use Rattle.ring_requests.proofs.RestingEnded.{queue_done, queue_halted}
-use Rattle.request_stores.specs.Published.{without_first}
+use Rattle.declared_endpoints.specs.ring_requests.Windows.{Queue, Lines}
+use Rattle.declared_endpoints.specs.ring_requests.Resting.{IsAtRest, HasRest}
+use Rattle.declared_endpoints.proofs.lemmas.ring_requests.RestingEnded.{queue_done, queue_halted}
+use Rattle.asking_worlds.specs.request_stores.Published.{without_first}
 use Rattle.asking_worlds.specs.Courses.{Course, Asks, Rests, has_queue, queue_in, AreInLine, IsAsking, IsResting, IsCourse, CoursesStand, with_course}
 use Rattle.asking_worlds.specs.QueueChanges.{without_requests, lines_behind, IsFirstDone, FirstGoes, LastGoes, RequestHalts}
 use Rattle.asking_worlds.proofs.QueueChanging.{one_changes}

@@ -8,24 +8,24 @@ use Rattle.walk_copy.specs.Transacting.{call_in}
 use Rattle.async_walk.specs.declared.state.WalkStep.{WalkStep}
 use Rattle.async_walk.specs.Naks.{planned}
 use Rattle.hc_core.specs.Controller.{Content, walk_place}
-use Rattle.lent_structures.specs.Structures.{QueueHead, Structures, StructureSets}
-use Rattle.lent_structures.proofs.Altering.{found_queue}
+use Rattle.ring_laws.specs.lent_structures.Structures.{QueueHead, Structures, StructureSets}
+use Rattle.ring_laws.proofs.lemmas.lent_structures.Altering.{found_queue}
 use Rattle.control_stages.specs.Stages.{Stages}
 use Rattle.request_windows.specs.Host.{Setup}
-use Rattle.request_calls.specs.Bus.{Device, IsControlBus, KeepsDevices}
+use Rattle.declared_endpoints.specs.request_calls.Bus.{Device, IsControlBus, KeepsDevices}
 use Rattle.ring_laws.specs.Hand.{Hand}
 use Rattle.ring_laws.specs.Ring.{Base, IsCopied, IsInHand}
 use Rattle.ring_laws.specs.Effects.{buffer_of, Effect}
 use Rattle.ring_laws.specs.Effects.Effect.{reads, passes, ends, takes, makes, writes_back}
 use Rattle.ring_laws.specs.Told.{Told, hand_bytes, HasEndpoint, endpoint_of, Endpoint as Characteristics}
 use Rattle.ring_laws.proofs.Ordering.{not_worked, works_by}
-use Rattle.controlled_streams.specs.Control.{IsControlled, ControlEffect, a_microframe, a_step}
-use Rattle.ring_requests.specs.Shown.{AreFresh}
-use Rattle.ring_requests.specs.Windows.{Queue, sent_at, Lines, IsQueue, IsBehind, IsElsewhere, Step, stepped}
-use Rattle.ring_requests.specs.Resting.{IsOtherEndpoint, IsAlone}
-use Rattle.control_requests.specs.Rests.{ControlRestStays}
-use Rattle.control_requests.proofs.Keeping.{Rest, rest_of}
-use Rattle.control_requests.proofs.Resting.{control_rests}
+use Rattle.walked_queues.specs.controlled_streams.Control.{IsControlled, ControlEffect, a_microframe, a_step}
+use Rattle.declared_endpoints.specs.ring_requests.Shown.{AreFresh}
+use Rattle.declared_endpoints.specs.ring_requests.Windows.{Queue, sent_at, Lines, IsQueue, IsBehind, IsElsewhere, Step, stepped}
+use Rattle.declared_endpoints.specs.ring_requests.Resting.{IsOtherEndpoint, IsAlone}
+use Rattle.asking_worlds.specs.control_requests.Rests.{ControlRestStays}
+use Rattle.asking_worlds.proofs.lemmas.control_requests.Keeping.{Rest, rest_of}
+use Rattle.asking_worlds.proofs.lemmas.control_requests.Resting.{control_rests}
 use Rattle.asking_worlds.specs.Courses.{Course, NoQueue, Asks, Rests, has_queue, is_asking, queue_in, lines_in, IsAsking, IsResting, IsCourse, queues, have_queues, are_asking, all_lines, CoursesStand}
 use Rattle.asking_worlds.specs.QueueEvents.{line_after, course_after, courses_after, CoursesGoOn, EventKeepsCourses, EventLeavesDevice}
 use Rattle.asking_worlds.proofs.Courses.{sent_are, windows_are, queue_alone}

@@ -8,22 +8,22 @@ use Rattle.link_words.specs.Links.{qtd_link_of}
 use Rattle.qh_qtd.specs.declared.queue_head.Qh.{Qh}
 use Rattle.walk_copy.specs.Visits.{next_pointer}
 use Rattle.walk_copy.specs.Planning.{host_in}
-use Rattle.lent_structures.specs.Structures.{QueueHead, Structures, StructureSets, put}
-use Rattle.lent_structures.proofs.Names.{put_same, put_beside}
-use Rattle.lent_structures.proofs.Altering.{found_queue}
+use Rattle.ring_laws.specs.lent_structures.Structures.{QueueHead, Structures, StructureSets, put}
+use Rattle.ring_laws.proofs.lemmas.lent_structures.Names.{put_same, put_beside}
+use Rattle.ring_laws.proofs.lemmas.lent_structures.Altering.{found_queue}
 use Rattle.control_stages.specs.Stages.{Stages}
-use Rattle.request_calls.specs.Bus.{Device}
-use Rattle.request_calls.specs.Stages.{IsEndpoint}
+use Rattle.declared_endpoints.specs.request_calls.Bus.{Device}
+use Rattle.declared_endpoints.specs.request_calls.Stages.{IsEndpoint}
 use Rattle.ring_laws.specs.Hand.{Hand}
 use Rattle.ring_laws.specs.Ring.{IsInHand}
 use Rattle.ring_laws.specs.Stores.{hand_stale}
 use Rattle.ring_laws.specs.Told.{HasEndpoint, endpoint_of}
 use Rattle.ring_laws.proofs.SparedSparing.{stale_same}
-use Rattle.ring_requests.specs.Laid.{IsIdle}
-use Rattle.ring_requests.specs.Shown.{hand_side}
-use Rattle.ring_requests.specs.Windows.{Queue, sent_at, lines_at, IsBehind, AreLaid}
-use Rattle.ring_requests.proofs.RestingSpared.{endpoint_same, stale_side, idle_side}
-use Rattle.ring_requests.proofs.Telling.{queue_opens}
+use Rattle.declared_endpoints.specs.ring_requests.Laid.{IsIdle}
+use Rattle.declared_endpoints.specs.ring_requests.Shown.{hand_side}
+use Rattle.declared_endpoints.specs.ring_requests.Windows.{Queue, sent_at, lines_at, IsBehind, AreLaid}
+use Rattle.declared_endpoints.proofs.lemmas.ring_requests.RestingSpared.{endpoint_same, stale_side, idle_side}
+use Rattle.declared_endpoints.proofs.lemmas.ring_requests.Telling.{queue_opens}
 use Rattle.asking_worlds.specs.Courses.{Course, Rests, has_queue, queue_in, IsAsking, IsResting, IsCourse, CoursesStand, with_course}
 use Rattle.asking_worlds.specs.Spared.{KeepsQtds, KeepsEndpoints}
 use Rattle.asking_worlds.specs.QueueChanges.{first_from, mended_from, mended_course, IsMendedTo, MendStands, MendGoesOn}

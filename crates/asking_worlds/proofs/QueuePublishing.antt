@@ -3,25 +3,25 @@ use Rattle.std.proofs.Common.{◌≡◌, ◌≢◌, ℕ, suc, ◌-◌, ◌<◌, 
 use Rattle.std.proofs.lemmas.Bool.{cases_eq, eq-eqb, false≢true}
 use Rattle.qh_qtd.specs.declared.qtd.Qtd.{Qtd}
 use Rattle.qh_qtd.specs.declared.queue_head.Qh.{Qh}
-use Rattle.lent_structures.specs.Structures.{QueueHead, Element, Structures, StructureSets, put}
-use Rattle.lent_structures.specs.Sound.{HasBuffer}
-use Rattle.lent_structures.proofs.Names.{put_beside}
-use Rattle.lent_structures.proofs.Altering.{found_queue}
+use Rattle.ring_laws.specs.lent_structures.Structures.{QueueHead, Element, Structures, StructureSets, put}
+use Rattle.ring_laws.specs.lent_structures.Sound.{HasBuffer}
+use Rattle.ring_laws.proofs.lemmas.lent_structures.Names.{put_beside}
+use Rattle.ring_laws.proofs.lemmas.lent_structures.Altering.{found_queue}
 use Rattle.control_stages.specs.Stages.{Stages}
 use Rattle.report_streams.specs.Requests.{Request}
 use Rattle.request_windows.specs.Host.{Setup, Data, Stage, has_data}
-use Rattle.request_calls.specs.Bus.{Device}
+use Rattle.declared_endpoints.specs.request_calls.Bus.{Device}
 use Rattle.ring_laws.specs.Hand.{Hand}
 use Rattle.ring_laws.specs.Effects.{bytes_in, buffer_of}
 use Rattle.ring_laws.specs.Told.{Told}
 use Rattle.ring_laws.proofs.Ordering.{not_worked, works_by}
-use Rattle.ring_requests.specs.Laid.{Places, place_at, IsFresh, IsIdle}
-use Rattle.ring_requests.specs.Shown.{AreFresh}
-use Rattle.ring_requests.specs.Windows.{Sent, Queue, sent_at, lines_at, IsBehind, IsQueue}
-use Rattle.ring_requests.specs.Resting.{IsStopped, IsFirstStore}
-use Rattle.ring_requests.proofs.RestingGrows.{queue_grows}
-use Rattle.request_stores.specs.Published.{IsNextRequest, with_request, new_sent, sent_with}
-use Rattle.request_stores.proofs.Publishing.{with_old, with_new, good_with, last_windows}
+use Rattle.declared_endpoints.specs.ring_requests.Laid.{Places, place_at, IsFresh, IsIdle}
+use Rattle.declared_endpoints.specs.ring_requests.Shown.{AreFresh}
+use Rattle.declared_endpoints.specs.ring_requests.Windows.{Sent, Queue, sent_at, lines_at, IsBehind, IsQueue}
+use Rattle.declared_endpoints.specs.ring_requests.Resting.{IsStopped, IsFirstStore}
+use Rattle.declared_endpoints.proofs.lemmas.ring_requests.RestingGrows.{queue_grows}
+use Rattle.asking_worlds.specs.request_stores.Published.{IsNextRequest, with_request, new_sent, sent_with}
+use Rattle.asking_worlds.proofs.lemmas.request_stores.Publishing.{with_old, with_new, good_with, last_windows}
 use Rattle.asking_worlds.specs.Courses.{Course, Asks, Rests, has_queue, is_asking, queue_in, lines_in, AreInLine, IsAsking, IsResting, IsCourse, queues, have_queues, are_asking, all_lines, CoursesStand, with_course}
 use Rattle.asking_worlds.specs.QueueChanges.{IsPublishedAt, AskedStore, RestStore, HaltedStore}
 use Rattle.asking_worlds.proofs.Courses.{sent_are, windows_are}

@@ -1,17 +1,17 @@
 -- The worked queue.
 use Rattle.std.proofs.Common.{◌≡◌, ◌≢◌, ℕ, ◌==◌, true, false, refl, ap, sym, ◌∙◌, arith}
 use Rattle.std.proofs.lemmas.Bool.{eqb-true, false≢true}
-use Rattle.lent_structures.proofs.Names.{not_same}
+use Rattle.ring_laws.proofs.lemmas.lent_structures.Names.{not_same}
 use Rattle.control_stages.specs.Stages.{opened}
 use Rattle.request_windows.specs.Samples.{get_device}
 use Rattle.request_windows.specs.Windows.{IsRequest}
 use Rattle.ring_laws.specs.Hand.{Empty}
 use Rattle.ring_laws.specs.Told.{endpoint_of}
-use Rattle.ring_requests.specs.Laid.{AreApart}
-use Rattle.ring_requests.specs.Samples.{queue, setup, stand_at}
-use Rattle.ring_requests.specs.Windows.{IsElsewhere}
-use Rattle.request_stores.specs.Samples.{waiting_parts, asked_parts}
-use Rattle.request_stores.proofs.Waiting.{waits as waits_there, stored}
+use Rattle.declared_endpoints.specs.ring_requests.Laid.{AreApart}
+use Rattle.declared_endpoints.specs.ring_requests.Samples.{queue, setup, stand_at}
+use Rattle.declared_endpoints.specs.ring_requests.Windows.{IsElsewhere}
+use Rattle.asking_worlds.specs.request_stores.Samples.{waiting_parts, asked_parts}
+use Rattle.asking_worlds.proofs.lemmas.request_stores.Waiting.{waits as waits_there, stored}
 use Rattle.asking_worlds.specs.Courses.{Course, NoQueue, have_queues, queues, CoursesStand}
 use Rattle.asking_worlds.specs.QueueChanges.{IsPublishedAt}
 use Rattle.asking_worlds.specs.QueueSamples.{empty, is_one, the_device, waits, asks}

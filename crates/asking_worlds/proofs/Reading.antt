@@ -17,31 +17,31 @@ use Rattle.driver_rows.specs.DriverContent.{DriverContent}
 use Rattle.driver_rows.specs.Harvests.{note_at, noted, token_in, found_in, done_of, moved_of, halt_of, buffer_bytes, moved_bytes}
 use Rattle.driver_rows.specs.Rows.{Parts}
 use Rattle.driver_rows.specs.Words.{request_stages}
-use Rattle.run_owners.specs.Due.{IsHarvestDue}
-use Rattle.run_owners.specs.Owners.{note_in, is_descriptor}
-use Rattle.chained_transfers.specs.Chains.{piece_at}
-use Rattle.chained_transfers.proofs.Ways.{found_by}
+use Rattle.driver_laws.specs.run_owners.Due.{IsHarvestDue}
+use Rattle.driver_laws.specs.run_owners.Owners.{note_in, is_descriptor}
+use Rattle.driver_laws.specs.chained_transfers.Chains.{piece_at}
+use Rattle.driver_laws.proofs.lemmas.chained_transfers.Ways.{found_by}
 use Rattle.control_stages.specs.Stages.{is_read, wanted_of}
-use Rattle.lent_structures.specs.Structures.{StructureSets, Tells}
-use Rattle.lent_structures.specs.Sound.{IsMember}
+use Rattle.ring_laws.specs.lent_structures.Structures.{StructureSets, Tells}
+use Rattle.ring_laws.specs.lent_structures.Sound.{IsMember}
 use Rattle.report_streams.specs.Requests.{Request, read_with}
 use Rattle.request_windows.specs.Host.{Endpoint, has_data}
 use Rattle.request_windows.specs.Windows.{IsRequest, IsRight, data_of}
 use Rattle.request_windows.proofs.Steps.{right}
-use Rattle.request_calls.specs.Bus.{Device}
+use Rattle.declared_endpoints.specs.request_calls.Bus.{Device}
 use Rattle.ring_laws.specs.Hand.{Hand}
 use Rattle.ring_laws.specs.Effects.{buffer_of}
 use Rattle.ring_laws.specs.Told.{Told, hand_bytes}
-use Rattle.ring_requests.specs.Laid.{Places}
-use Rattle.ring_requests.specs.Windows.{Queue, Lines, sent_at, IsWindow, IsFinished, IsQueue}
-use Rattle.request_bytes.specs.Fresh.{next_of}
-use Rattle.driver_requests.proofs.Owning.{qtds_case, places_with_data}
-use Rattle.told_harvests.specs.Held.{IsDone, AreHeld, none_held, one_held, AreUnmoved, told_of, IsRead, NotesMoved}
-use Rattle.told_harvests.proofs.Holding.{one_told}
-use Rattle.told_harvests.proofs.Noting.{moved_is, found_done, is_noted}
-use Rattle.told_harvests.proofs.Reading.{report_read}
-use Rattle.told_requests.specs.Rows.{bytes_with}
-use Rattle.harvest_laws.proofs.Places.{unmoved_noted, told_noted, read_noted}
+use Rattle.declared_endpoints.specs.ring_requests.Laid.{Places}
+use Rattle.declared_endpoints.specs.ring_requests.Windows.{Queue, Lines, sent_at, IsWindow, IsFinished, IsQueue}
+use Rattle.asking_worlds.specs.request_bytes.Fresh.{next_of}
+use Rattle.asking_worlds.proofs.lemmas.driver_requests.Owning.{qtds_case, places_with_data}
+use Rattle.driver_laws.specs.told_harvests.Held.{IsDone, AreHeld, none_held, one_held, AreUnmoved, told_of, IsRead, NotesMoved}
+use Rattle.driver_laws.proofs.lemmas.told_harvests.Holding.{one_told}
+use Rattle.driver_laws.proofs.lemmas.told_harvests.Noting.{moved_is, found_done, is_noted}
+use Rattle.driver_laws.proofs.lemmas.told_harvests.Reading.{report_read}
+use Rattle.asking_worlds.specs.told_requests.Rows.{bytes_with}
+use Rattle.driven_queues.proofs.lemmas.harvest_laws.Places.{unmoved_noted, told_noted, read_noted}
 use Rattle.asking_worlds.specs.Asking.{DataIsRead, IsReadTo}
 use Rattle.asking_worlds.specs.Reading.{IsAtRequest, AreMoved, none_moved, some_moved, ReadIsMoved, MovedIsRead, MovedBegin, MovedAreAll}
 

@@ -16,17 +16,17 @@ use Rattle.driver_rows.specs.declared.content.Endpoint.{Endpoint as DriverEndpoi
 use Rattle.driver_rows.specs.declared.content.Transfer.{Transfer}
 use Rattle.driver_rows.specs.DriverContent.{DriverContent}
 use Rattle.driver_rows.specs.Offers.{Offered}
-use Rattle.lent_structures.specs.Structures.{Structures}
+use Rattle.ring_laws.specs.lent_structures.Structures.{Structures}
 use Rattle.report_streams.specs.Requests.{Request, Window}
-use Rattle.told_endpoints.specs.Telling.{lines_in}
-use Rattle.told_endpoints.proofs.Lines.{line_of_other}
-use Rattle.told_requests.specs.Told.{has_cancel, AreToldTo}
-use Rattle.told_requests.proofs.Driver.{refusal_stays}
-use Rattle.driver_requests.specs.Rows.{KeepsRequests}
-use Rattle.driver_requests.proofs.Ordering.{asked_before}
+use Rattle.walked_queues.specs.told_endpoints.Telling.{lines_in}
+use Rattle.walked_queues.proofs.lemmas.told_endpoints.Lines.{line_of_other}
+use Rattle.asking_worlds.specs.told_requests.Told.{has_cancel, AreToldTo}
+use Rattle.asking_worlds.proofs.lemmas.told_requests.Driver.{refusal_stays}
+use Rattle.asking_worlds.specs.driver_requests.Rows.{KeepsRequests}
+use Rattle.asking_worlds.proofs.lemmas.driver_requests.Ordering.{asked_before}
 use Rattle.bus_world.specs.World.{World, name_in, refused_line, commanded_by}
 use Rattle.stream_worlds.specs.Streaming.{Standing}
-use Rattle.world_requests.specs.Recorded.{Windows, endpoint_of as transfers_endpoint, numbers_of, window_at, asks_then}
+use Rattle.asking_worlds.specs.world_requests.Recorded.{Windows, endpoint_of as transfers_endpoint, numbers_of, window_at, asks_then}
 use Rattle.asking_worlds.specs.Courses.{Course}
 use Rattle.asking_worlds.specs.Records.{Numbers, IsOnceAt, IsClosed, IsRecord, AreRecords}
 use Rattle.asking_worlds.proofs.Lists.{all_map, all_both, numbers_are}

@@ -13,35 +13,35 @@ use Rattle.driver_rows.specs.declared.rows.DriverRow.TheVariants as rows
 use Rattle.driver_rows.specs.DriverContent.{DriverContent}
 use Rattle.driver_rows.specs.Harvests.{note_at}
 use Rattle.driver_rows.specs.Rows.{Parts, driver_row, after_driver_row, after_transfer, freed_by, free_qtds}
-use Rattle.run_owners.specs.Owners.{note_in}
-use Rattle.endpoint_lives.specs.Lives.{told_end}
-use Rattle.chained_transfers.specs.Turns.{AreReportedTo, IsNext, turn_of, turn_in}
-use Rattle.lent_structures.specs.Structures.{Structures, StructureSets}
-use Rattle.lent_structures.proofs.Names.{not_same}
+use Rattle.driver_laws.specs.run_owners.Owners.{note_in}
+use Rattle.driver_laws.specs.endpoint_lives.Lives.{told_end}
+use Rattle.driver_laws.specs.chained_transfers.Turns.{AreReportedTo, IsNext, turn_of, turn_in}
+use Rattle.ring_laws.specs.lent_structures.Structures.{Structures, StructureSets}
+use Rattle.ring_laws.proofs.lemmas.lent_structures.Names.{not_same}
 use Rattle.driver_laws.specs.PartOpened.{opening_base}
 use Rattle.driver_laws.specs.Released.{names_one, blocks_of, goes_of}
 use Rattle.driver_laws.proofs.Blocks.{mine}
-use Rattle.released_queues.proofs.Queues.{goes_off, dummy_off}
-use Rattle.released_queues.proofs.Going.{head_stays, buffers_stay}
+use Rattle.walked_queues.proofs.lemmas.released_queues.Queues.{goes_off, dummy_off}
+use Rattle.walked_queues.proofs.lemmas.released_queues.Going.{head_stays, buffers_stay}
 use Rattle.report_streams.specs.Requests.{Request}
 use Rattle.request_windows.specs.Host.{Stage, Setup, Data, Status, Done, Halted}
 use Rattle.ring_laws.specs.Effects.{buffer_of}
 use Rattle.ring_laws.specs.Fewer.{without_those}
 use Rattle.ring_laws.specs.Sparing.{SparesElement}
 use Rattle.ring_laws.proofs.Returning.{those_beside}
-use Rattle.controlled_streams.proofs.Returning.{spares_head, spares_element}
-use Rattle.ring_requests.specs.Laid.{Places, place_at}
-use Rattle.ring_requests.specs.Windows.{Sent}
-use Rattle.scripted_requests.specs.Controls.{control_of}
+use Rattle.walked_queues.proofs.lemmas.controlled_streams.Returning.{spares_head, spares_element}
+use Rattle.declared_endpoints.specs.ring_requests.Laid.{Places, place_at}
+use Rattle.declared_endpoints.specs.ring_requests.Windows.{Sent}
+use Rattle.declared_endpoints.specs.scripted_requests.Controls.{control_of}
 use Rattle.scripted_streams.proofs.Places.{set_beside}
-use Rattle.told_harvests.proofs.Keeping.{done_spared}
+use Rattle.driver_laws.proofs.lemmas.told_harvests.Keeping.{done_spared}
 use Rattle.bus_world.specs.World.{World, driver_parts, with_parts}
 use Rattle.stream_worlds.specs.Streaming.{Streams, Standing}
-use Rattle.world_requests.specs.Requesting.{wired}
-use Rattle.world_requests.specs.Recorded.{Windows, numbers_of}
-use Rattle.driver_requests.specs.Requests.{IsOfTransfer, IsLaidOut}
-use Rattle.driver_requests.proofs.Owning.{qtds_case, first_piece, second_piece, setup_place, status_place, data_place, IsQtdAt, owned_piece}
-use Rattle.driver_requests.proofs.RowOrder.{row_numbers}
+use Rattle.asking_worlds.specs.world_requests.Requesting.{wired}
+use Rattle.asking_worlds.specs.world_requests.Recorded.{Windows, numbers_of}
+use Rattle.asking_worlds.specs.driver_requests.Requests.{IsOfTransfer, IsLaidOut}
+use Rattle.asking_worlds.proofs.lemmas.driver_requests.Owning.{qtds_case, first_piece, second_piece, setup_place, status_place, data_place, IsQtdAt, owned_piece}
+use Rattle.asking_worlds.proofs.lemmas.driver_requests.RowOrder.{row_numbers}
 use Rattle.asking_worlds.specs.Courses.{queues, have_queues, CoursesStand}
 use Rattle.asking_worlds.specs.Spared.{GoBeside}
 use Rattle.asking_worlds.proofs.Writing.{release_spares, same_hand}

@@ -1,9 +1,9 @@
 -- What the lines of the sample's driver tell.
 use Rattle.std.proofs.Common.{[], ◌∷◌, refl, arith}
-use Rattle.ring_requests.specs.Samples.{asked}
-use Rattle.request_stores.specs.Published.{without_first}
-use Rattle.world_requests.specs.Recorded.{no_windows}
-use Rattle.driver_requests.specs.Samples.{endpoint, driver, requests, begun}
+use Rattle.declared_endpoints.specs.ring_requests.Samples.{asked}
+use Rattle.asking_worlds.specs.request_stores.Published.{without_first}
+use Rattle.asking_worlds.specs.world_requests.Recorded.{no_windows}
+use Rattle.asking_worlds.specs.driver_requests.Samples.{endpoint, driver, requests, begun}
 use Rattle.asking_worlds.specs.QueueChanges.{lines_behind}
 use Rattle.asking_worlds.specs.Courses.{Asks}
 use Rattle.asking_worlds.specs.TransferSamples.{both, one, first_acted, then_next}

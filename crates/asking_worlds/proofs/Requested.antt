@@ -15,9 +15,9 @@ use Rattle.driver_rows.specs.declared.content.Sort.TheVariants as sorts
 use Rattle.driver_rows.specs.DriverContent.{DriverContent, endpoint_of}
 use Rattle.driver_rows.specs.Offers.{Offered, Asked, take_runs, taken_transfer, open_transfer, found_transfer, takes_control, offered_next, offered}
 use Rattle.driver_rows.specs.Words.{is_control, needs, asks_in, request_length, request_stages, setup_stage, data_stage, status_stage}
-use Rattle.run_owners.specs.Accepts.{Transfers, AreShort}
-use Rattle.chained_transfers.specs.Asynchronous.{OnlyAsynchronous}
-use Rattle.chained_transfers.proofs.BulkAndControl.{not_iso}
+use Rattle.driver_laws.specs.run_owners.Accepts.{Transfers, AreShort}
+use Rattle.driver_laws.specs.chained_transfers.Asynchronous.{OnlyAsynchronous}
+use Rattle.driver_laws.proofs.lemmas.chained_transfers.BulkAndControl.{not_iso}
 
 abbrev pub request_of : List ℕ → List ℕ → Asked
 request_of setup bytes = record { sort = sorts.Request; stages = request_stages setup; most = request_length setup; bytes = setup ++ bytes }

@@ -3,11 +3,11 @@ use Rattle.std.proofs.Common.{◌≡◌, ℕ, List, [], ◌∷◌, map, Option, 
 use Rattle.std.specs.List.{AllByRecursion}
 use Rattle.endpoint_laws.specs.Acts.{IsOnce}
 use Rattle.report_streams.specs.Requests.{Request}
-use Rattle.request_calls.specs.Bus.{Device}
-use Rattle.ring_requests.specs.Windows.{Queue, Lines, IsQueue}
-use Rattle.scripted_requests.specs.Controls.{control_of}
-use Rattle.world_requests.specs.Requesting.{wired}
-use Rattle.world_requests.specs.Recorded.{Windows, numbers_of, window_at}
+use Rattle.declared_endpoints.specs.request_calls.Bus.{Device}
+use Rattle.declared_endpoints.specs.ring_requests.Windows.{Queue, Lines, IsQueue}
+use Rattle.declared_endpoints.specs.scripted_requests.Controls.{control_of}
+use Rattle.asking_worlds.specs.world_requests.Requesting.{wired}
+use Rattle.asking_worlds.specs.world_requests.Recorded.{Windows, numbers_of, window_at}
 use Rattle.asking_worlds.specs.Courses.{Asks, IsCourse}
 use Rattle.asking_worlds.specs.Records.{IsOnceAt}
 use Rattle.asking_worlds.proofs.TransferChanging.{once_by}

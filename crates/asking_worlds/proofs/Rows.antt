@@ -15,24 +15,24 @@ use Rattle.driver_rows.specs.declared.content.Transfer.{Transfer}
 use Rattle.driver_rows.specs.DriverContent.{DriverContent}
 use Rattle.driver_rows.specs.Offers.{Offered, new_transfer}
 use Rattle.driver_rows.specs.Rows.{after_driver_row}
-use Rattle.run_owners.specs.Accepts.{Transfers}
-use Rattle.run_owners.specs.Kept.{HasOwners}
+use Rattle.driver_laws.specs.run_owners.Accepts.{Transfers}
+use Rattle.driver_laws.specs.run_owners.Kept.{HasOwners}
 use Rattle.report_streams.specs.Requests.{Request}
-use Rattle.ring_requests.specs.Laid.{Places}
-use Rattle.request_stores.specs.Published.{with_request}
-use Rattle.request_stores.proofs.Publishing.{with_old}
-use Rattle.request_bytes.specs.Fresh.{request_places}
-use Rattle.world_requests.specs.Recorded.{endpoint_of, Windows, asks_then, numbers_from, numbers_of}
-use Rattle.world_requests.specs.Recording.{IsOpened}
-use Rattle.driver_requests.specs.Requests.{IsOfEndpoint, AreOfEndpoint}
-use Rattle.driver_requests.specs.Behind.{AreBehind}
-use Rattle.driver_requests.specs.Rows.{KeepsRequests, number_with, given_by}
-use Rattle.driver_requests.proofs.Accepting.{still_there, accepted_stay, accepted_comes}
-use Rattle.driver_requests.proofs.Behind.{rows_leave, accepted_behind, accepted_beside_behind}
-use Rattle.driver_requests.proofs.Keeping.{requests_stay, number_new, number_old}
-use Rattle.driver_requests.proofs.Ordering.{numbers_still, asked_before}
-use Rattle.driver_requests.proofs.RowOrder.{row_same, row_numbers}
-use Rattle.driver_requests.proofs.Rows.{each_row_keeps}
+use Rattle.declared_endpoints.specs.ring_requests.Laid.{Places}
+use Rattle.asking_worlds.specs.request_stores.Published.{with_request}
+use Rattle.asking_worlds.proofs.lemmas.request_stores.Publishing.{with_old}
+use Rattle.asking_worlds.specs.request_bytes.Fresh.{request_places}
+use Rattle.asking_worlds.specs.world_requests.Recorded.{endpoint_of, Windows, asks_then, numbers_from, numbers_of}
+use Rattle.asking_worlds.specs.world_requests.Recording.{IsOpened}
+use Rattle.asking_worlds.specs.driver_requests.Requests.{IsOfEndpoint, AreOfEndpoint}
+use Rattle.asking_worlds.specs.driver_requests.Behind.{AreBehind}
+use Rattle.asking_worlds.specs.driver_requests.Rows.{KeepsRequests, number_with, given_by}
+use Rattle.asking_worlds.proofs.lemmas.driver_requests.Accepting.{still_there, accepted_stay, accepted_comes}
+use Rattle.asking_worlds.proofs.lemmas.driver_requests.Behind.{rows_leave, accepted_behind, accepted_beside_behind}
+use Rattle.asking_worlds.proofs.lemmas.driver_requests.Keeping.{requests_stay, number_new, number_old}
+use Rattle.asking_worlds.proofs.lemmas.driver_requests.Ordering.{numbers_still, asked_before}
+use Rattle.asking_worlds.proofs.lemmas.driver_requests.RowOrder.{row_same, row_numbers}
+use Rattle.asking_worlds.proofs.lemmas.driver_requests.Rows.{each_row_keeps}
 use Rattle.asking_worlds.specs.Courses.{Course, NoQueue, Asks, Rests, has_queue, queue_in, have_queues}
 use Rattle.asking_worlds.specs.Records.{Numbers, IsAhead, IsOnceAt, AreActs, IsClosed, IsRecord, AreRecords}
 use Rattle.asking_worlds.specs.TransferChanges.{with_numbers, RowKeepsRecords, accepted_in, IsRequestOf, RequestIsAccepted, OtherIsAccepted, AcceptedKeepsRecords}

@@ -4,14 +4,14 @@ use Rattle.std.specs.Prelude.{List, replicate}
 use Rattle.qh_qtd.specs.Blank.{blank_qtd}
 use Rattle.qh_qtd.specs.declared.qtd.Qtd.{Qtd}
 use Rattle.qh_qtd.specs.declared.queue_head.Qh.{Qh}
-use Rattle.lent_structures.specs.Structures.{Structure, QueueHead, Element, Buffer, StructureSets, put}
-use Rattle.lent_structures.specs.Sound.{buffer_name, HasBuffer}
-use Rattle.lent_structures.proofs.Altering.{same_element, found_element}
-use Rattle.lent_structures.proofs.Names.{put_else, put_found}
+use Rattle.ring_laws.specs.lent_structures.Structures.{Structure, QueueHead, Element, Buffer, StructureSets, put}
+use Rattle.ring_laws.specs.lent_structures.Sound.{buffer_name, HasBuffer}
+use Rattle.ring_laws.proofs.lemmas.lent_structures.Altering.{same_element, found_element}
+use Rattle.ring_laws.proofs.lemmas.lent_structures.Names.{put_else, put_found}
 use Rattle.request_windows.specs.Samples.{get_device, get_configuration}
-use Rattle.ring_requests.specs.Samples.{queue, setup, read, status, pages_at, parts, qtds, nothing, first_status, second_setup, second_read}
-use Rattle.request_stores.specs.Samples.{first_only, one_parts, last_status, with_read, with_status, with_tail, with_setup, lent_parts, both_now, second_places}
-use Rattle.request_stores.proofs.Asking.{second_next}
+use Rattle.declared_endpoints.specs.ring_requests.Samples.{queue, setup, read, status, pages_at, parts, qtds, nothing, first_status, second_setup, second_read}
+use Rattle.asking_worlds.specs.request_stores.Samples.{first_only, one_parts, last_status, with_read, with_status, with_tail, with_setup, lent_parts, both_now, second_places}
+use Rattle.asking_worlds.proofs.lemmas.request_stores.Asking.{second_next}
 use Rattle.asking_worlds.specs.Coming.{IsComing}
 use Rattle.asking_worlds.proofs.Coming.{lent_coming}
 

@@ -5,21 +5,21 @@ use Rattle.std.proofs.lemmas.Bool.{eqb-true, false≢true}
 use Rattle.usb_base.specs.declared.packets.Reply.TheVariants.{Silent}
 use Rattle.qh_qtd.specs.Blank.{blank_qtd}
 use Rattle.qh_qtd.specs.declared.qtd.Qtd.{Qtd}
-use Rattle.lent_structures.specs.Sound.{HasBuffer}
-use Rattle.lent_structures.proofs.Altering.{found_element}
-use Rattle.lent_structures.proofs.Names.{not_same}
+use Rattle.ring_laws.specs.lent_structures.Sound.{HasBuffer}
+use Rattle.ring_laws.proofs.lemmas.lent_structures.Altering.{found_element}
+use Rattle.ring_laws.proofs.lemmas.lent_structures.Names.{not_same}
 use Rattle.control_stages.specs.Stages.{opened}
 use Rattle.request_windows.specs.Host.{Stage, Setup, Data, Status, Done, Halted}
 use Rattle.request_windows.specs.Samples.{described, get_configuration}
 use Rattle.ring_laws.specs.Hand.{Empty}
 use Rattle.ring_laws.specs.Told.{endpoint_of}
-use Rattle.ring_requests.specs.Laid.{comes, IsFresh}
-use Rattle.ring_requests.specs.RestSamples.{stalled_queue}
-use Rattle.ring_requests.specs.Samples.{second_setup, second_read, first_status, done_qtd}
-use Rattle.ring_requests.specs.Resting.{IsAtRest, IsStopped}
-use Rattle.ring_requests.specs.Windows.{sent_at, HasEnded, IsElsewhere}
-use Rattle.request_stores.specs.Samples.{last_status, second_places, both, device_at}
-use Rattle.request_stores.proofs.Asking.{second_next, tail_at}
+use Rattle.declared_endpoints.specs.ring_requests.Laid.{comes, IsFresh}
+use Rattle.declared_endpoints.specs.ring_requests.RestSamples.{stalled_queue}
+use Rattle.declared_endpoints.specs.ring_requests.Samples.{second_setup, second_read, first_status, done_qtd}
+use Rattle.declared_endpoints.specs.ring_requests.Resting.{IsAtRest, IsStopped}
+use Rattle.declared_endpoints.specs.ring_requests.Windows.{sent_at, HasEnded, IsElsewhere}
+use Rattle.asking_worlds.specs.request_stores.Samples.{last_status, second_places, both, device_at}
+use Rattle.asking_worlds.proofs.lemmas.request_stores.Asking.{second_next, tail_at}
 use Rattle.asking_worlds.specs.Courses.{Course, NoQueue, have_queues, queues, IsResting, CoursesStand}
 use Rattle.asking_worlds.specs.QueueChanges.{IsPublishedAt}
 use Rattle.asking_worlds.specs.QueueSamples.{empty, is_one, the_device, one, halted_parts, behind_parts, mended_queue, mended_parts, halted, behind, goes_on, done_parts}

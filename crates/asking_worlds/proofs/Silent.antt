@@ -17,16 +17,16 @@ use Rattle.driver_rows.specs.declared.rows.Found.TheVariants as founds
 use Rattle.driver_rows.specs.DriverContent.{DriverContent, no_note, waits_for}
 use Rattle.driver_rows.specs.Harvests.{note_at, reported, noted, is_stall, end_of}
 use Rattle.driver_rows.specs.Rows.{Parts, advance, told_with, behind_one, behind, mends_of, after_end, served, harvested_as, after_harvest, is_told, cancelled_bytes, let_go, linked_by, freed_by, after_transfer, after_endpoint, driver_row, after_driver_row}
-use Rattle.run_owners.specs.Due.{IsDue}
-use Rattle.run_owners.specs.Owners.{NoteRuns, note_in}
-use Rattle.run_owners.proofs.Reasons.{each_is_due}
-use Rattle.run_owners.proofs.Released.{set_here, set_there}
-use Rattle.run_owners.proofs.Stays.{same_item}
-use Rattle.request_bytes.specs.Fresh.{next_of}
-use Rattle.chained_transfers.specs.Chains.{piece_at}
-use Rattle.chained_transfers.specs.Asynchronous.{OnlyAsynchronous}
-use Rattle.driver_requests.proofs.Rows.{TransferView, transfer_view, StayAlike, advanced, lent, harvested, told_transfers}
-use Rattle.put_laws.proofs.Rows.{advanced_keeps, framed_same, none_there}
+use Rattle.driver_laws.specs.run_owners.Due.{IsDue}
+use Rattle.driver_laws.specs.run_owners.Owners.{NoteRuns, note_in}
+use Rattle.driver_laws.proofs.lemmas.run_owners.Reasons.{each_is_due}
+use Rattle.driver_laws.proofs.lemmas.run_owners.Released.{set_here, set_there}
+use Rattle.driver_laws.proofs.lemmas.run_owners.Stays.{same_item}
+use Rattle.asking_worlds.specs.request_bytes.Fresh.{next_of}
+use Rattle.driver_laws.specs.chained_transfers.Chains.{piece_at}
+use Rattle.driver_laws.specs.chained_transfers.Asynchronous.{OnlyAsynchronous}
+use Rattle.asking_worlds.proofs.lemmas.driver_requests.Rows.{TransferView, transfer_view, StayAlike, advanced, lent, harvested, told_transfers}
+use Rattle.told_streams.proofs.lemmas.put_laws.Rows.{advanced_keeps, framed_same, none_there}
 use Rattle.asking_worlds.specs.Reading.{AreSilent}
 use Rattle.asking_worlds.specs.Silent.{RowKeepsSilent}
 

@@ -16,25 +16,25 @@ use Rattle.driver_rows.specs.DriverContent.{DriverContent, no_note}
 use Rattle.driver_rows.specs.Harvests.{note_at}
 use Rattle.driver_rows.specs.Offers.{Asked, Offered, offered, runs_of, note_for, note_stages, new_runs, new_transfer, accepted_transfer}
 use Rattle.driver_rows.specs.Words.{needs, asks_in, request_length, request_stages, setup_stage, data_stage, status_stage}
-use Rattle.run_owners.specs.Accepts.{Transfers}
-use Rattle.run_owners.specs.Kept.{HasOwners}
-use Rattle.run_owners.specs.Owners.{Element, IsPlaced, note_in, runs_of_endpoint, runs_of_note, runs_of_transfer}
-use Rattle.run_owners.proofs.Accepted.{drop_first, within_slots}
-use Rattle.run_owners.proofs.Chains.{notes_apart}
-use Rattle.run_owners.proofs.Runs.{placed_run}
-use Rattle.run_owners.proofs.Taking.{runs_taken}
-use Rattle.run_owners.proofs.Transferred.{are_new, goes_on_alive}
+use Rattle.driver_laws.specs.run_owners.Accepts.{Transfers}
+use Rattle.driver_laws.specs.run_owners.Kept.{HasOwners}
+use Rattle.driver_laws.specs.run_owners.Owners.{Element, IsPlaced, note_in, runs_of_endpoint, runs_of_note, runs_of_transfer}
+use Rattle.driver_laws.proofs.lemmas.run_owners.Accepted.{drop_first, within_slots}
+use Rattle.driver_laws.proofs.lemmas.run_owners.Chains.{notes_apart}
+use Rattle.driver_laws.proofs.lemmas.run_owners.Runs.{placed_run}
+use Rattle.driver_laws.proofs.lemmas.run_owners.Taking.{runs_taken}
+use Rattle.driver_laws.proofs.lemmas.run_owners.Transferred.{are_new, goes_on_alive}
 use Rattle.bus_world.specs.World.{World, commanded_by, name_in}
-use Rattle.chained_transfers.specs.Asynchronous.{OpensAsynchronous, AcceptsAsynchronous}
-use Rattle.chained_transfers.specs.AsynchronousTurns.{AsynchronousTakesTurns}
-use Rattle.chained_transfers.specs.Bulk.{IsDataWay, sort_by}
-use Rattle.chained_transfers.specs.Chains.{piece_at}
-use Rattle.chained_transfers.proofs.Accepting.{command_accepts}
-use Rattle.chained_transfers.proofs.Chained.{pieces_same}
-use Rattle.chained_transfers.proofs.Queued.{not_dummy}
-use Rattle.fed_lends.proofs.Asked.{piece_placed}
-use Rattle.harvest_laws.proofs.Opening.{push_which}
-use Rattle.harvest_laws.proofs.Stages.{AreBlocks}
+use Rattle.driver_laws.specs.chained_transfers.Asynchronous.{OpensAsynchronous, AcceptsAsynchronous}
+use Rattle.driver_laws.specs.chained_transfers.AsynchronousTurns.{AsynchronousTakesTurns}
+use Rattle.driver_laws.specs.chained_transfers.Bulk.{IsDataWay, sort_by}
+use Rattle.driver_laws.specs.chained_transfers.Chains.{piece_at}
+use Rattle.driver_laws.proofs.lemmas.chained_transfers.Accepting.{command_accepts}
+use Rattle.driver_laws.proofs.lemmas.chained_transfers.Chained.{pieces_same}
+use Rattle.driver_laws.proofs.lemmas.chained_transfers.Queued.{not_dummy}
+use Rattle.walked_queues.proofs.lemmas.fed_lends.Asked.{piece_placed}
+use Rattle.driven_queues.proofs.lemmas.harvest_laws.Opening.{push_which}
+use Rattle.driven_queues.proofs.lemmas.harvest_laws.Stages.{AreBlocks}
 use Rattle.asking_worlds.specs.Reading.{IsSilent, AreSilent}
 use Rattle.asking_worlds.specs.Silent.{CommandKeepsSilent}
 use Rattle.asking_worlds.proofs.Silent.{stays_silent, same_silent}

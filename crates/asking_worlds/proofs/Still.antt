@@ -17,15 +17,15 @@ use Rattle.driver_rows.specs.declared.rows.DriverRow.TheVariants as rows
 use Rattle.driver_rows.specs.DriverContent.{DriverContent}
 use Rattle.driver_rows.specs.Rows.{driver_row, after_driver_row, doorbell_command, bell_after}
 use Rattle.driver_rows.specs.Words.{is_control}
-use Rattle.run_owners.specs.Due.{IsDue}
-use Rattle.run_owners.proofs.Reasons.{each_is_due}
-use Rattle.leaving_drivers.specs.Before.{NearSame}
-use Rattle.leaving_drivers.proofs.Leaving.{bell_as_before, status_as_before, frame_as_before}
+use Rattle.driver_laws.specs.run_owners.Due.{IsDue}
+use Rattle.driver_laws.proofs.lemmas.run_owners.Reasons.{each_is_due}
+use Rattle.driven_queues.specs.leaving_drivers.Before.{NearSame}
+use Rattle.driven_queues.proofs.lemmas.leaving_drivers.Leaving.{bell_as_before, status_as_before, frame_as_before}
 use Rattle.report_streams.specs.Requests.{Request}
-use Rattle.driver_requests.specs.Rows.{KeepsRequests}
+use Rattle.asking_worlds.specs.driver_requests.Rows.{KeepsRequests}
 use Rattle.bus_world.specs.World.{World, driver_parts, with_parts, driver_next}
 use Rattle.stream_worlds.specs.Streaming.{Standing}
-use Rattle.world_requests.specs.Recorded.{Windows}
+use Rattle.asking_worlds.specs.world_requests.Recorded.{Windows}
 use Rattle.whole_worlds.specs.FeedingLaws.{is_still}
 use Rattle.asking_worlds.specs.Records.{AreRecords}
 use Rattle.asking_worlds.proofs.Rows.{kept_recorded}

@@ -17,35 +17,35 @@ use Rattle.driver_rows.specs.DriverContent.{DriverContent}
 use Rattle.driver_rows.specs.Harvests.{note_at}
 use Rattle.driver_rows.specs.Rows.{is_iso}
 use Rattle.driver_rows.specs.Words.{is_control}
-use Rattle.run_owners.specs.Owners.{Owner, QueueHead as QueueOwner, Element as ElementOwner, runs_of_endpoint, note_in}
-use Rattle.run_owners.specs.Kept.{HasOwners}
-use Rattle.run_owners.proofs.Released.{other_number}
-use Rattle.chained_transfers.specs.Asynchronous.{OnlyAsynchronous}
-use Rattle.chained_transfers.proofs.BulkAndControl.{not_iso}
-use Rattle.chained_transfers.proofs.Staying.{stands_alive}
-use Rattle.endpoint_lives.specs.Lives.{told_end}
-use Rattle.endpoint_lives.proofs.Lives.{told_some}
-use Rattle.fed_queues.specs.Fed.{IsPublished}
-use Rattle.fed_lends.proofs.Reporting.{same_hand}
-use Rattle.lent_structures.specs.Structures.{QueueHead, Element, StructureSets, put}
-use Rattle.lent_structures.proofs.Altering.{found_queue}
-use Rattle.controlled_streams.proofs.Storing.{spares_head, spares_element}
+use Rattle.driver_laws.specs.run_owners.Owners.{Owner, QueueHead as QueueOwner, Element as ElementOwner, runs_of_endpoint, note_in}
+use Rattle.driver_laws.specs.run_owners.Kept.{HasOwners}
+use Rattle.driver_laws.proofs.lemmas.run_owners.Released.{other_number}
+use Rattle.driver_laws.specs.chained_transfers.Asynchronous.{OnlyAsynchronous}
+use Rattle.driver_laws.proofs.lemmas.chained_transfers.BulkAndControl.{not_iso}
+use Rattle.driver_laws.proofs.lemmas.chained_transfers.Staying.{stands_alive}
+use Rattle.driver_laws.specs.endpoint_lives.Lives.{told_end}
+use Rattle.driver_laws.proofs.lemmas.endpoint_lives.Lives.{told_some}
+use Rattle.driver_laws.specs.fed_queues.Fed.{IsPublished}
+use Rattle.walked_queues.proofs.lemmas.fed_lends.Reporting.{same_hand}
+use Rattle.ring_laws.specs.lent_structures.Structures.{QueueHead, Element, StructureSets, put}
+use Rattle.ring_laws.proofs.lemmas.lent_structures.Altering.{found_queue}
+use Rattle.walked_queues.proofs.lemmas.controlled_streams.Storing.{spares_head, spares_element}
 use Rattle.driver_laws.specs.Published.{partly}
-use Rattle.mended_heads.specs.Owed.{StalledQueue, mends_at, left_of, all_left}
-use Rattle.mended_heads.specs.Waiting.{Waits}
-use Rattle.publish_laws.specs.Stores.{IsAtStore, published_by, parts_then}
-use Rattle.told_harvests.proofs.Keeping.{done_spared}
+use Rattle.walked_queues.specs.mended_heads.Owed.{StalledQueue, mends_at, left_of, all_left}
+use Rattle.walked_queues.specs.mended_heads.Waiting.{Waits}
+use Rattle.driven_queues.specs.publish_laws.Stores.{IsAtStore, published_by, parts_then}
+use Rattle.driver_laws.proofs.lemmas.told_harvests.Keeping.{done_spared}
 use Rattle.report_streams.specs.Requests.{Request}
 use Rattle.request_windows.specs.Host.{has_data}
-use Rattle.ring_requests.specs.Laid.{Places, IsIdle}
-use Rattle.ring_requests.specs.Resting.{IsStopped}
-use Rattle.ring_requests.specs.Windows.{Queue, Lines, lines_at}
-use Rattle.scripted_requests.specs.Controls.{control_of}
+use Rattle.declared_endpoints.specs.ring_requests.Laid.{Places, IsIdle}
+use Rattle.declared_endpoints.specs.ring_requests.Resting.{IsStopped}
+use Rattle.declared_endpoints.specs.ring_requests.Windows.{Queue, Lines, lines_at}
+use Rattle.declared_endpoints.specs.scripted_requests.Controls.{control_of}
 use Rattle.bus_world.specs.World.{World, driver_parts, driver_next}
 use Rattle.stream_worlds.specs.Streaming.{Streams, Standing}
-use Rattle.world_requests.specs.Recorded.{Windows}
-use Rattle.world_requests.specs.Requesting.{wired}
-use Rattle.driver_requests.proofs.Owning.{qtds_case, second_piece, element_of, owned_piece}
+use Rattle.asking_worlds.specs.world_requests.Recorded.{Windows}
+use Rattle.asking_worlds.specs.world_requests.Requesting.{wired}
+use Rattle.asking_worlds.proofs.lemmas.driver_requests.Owning.{qtds_case, second_piece, element_of, owned_piece}
 use Rattle.asking_worlds.specs.Coming.{IsComing}
 use Rattle.asking_worlds.specs.Courses.{Course, NoQueue, Asks, Rests, has_queue, is_asking, queue_in, tail_in, have_queues, IsCourse, CoursesStand, with_course}
 use Rattle.asking_worlds.specs.QueueChanges.{IsPublishedAt}
@@ -58,7 +58,7 @@ use Rattle.asking_worlds.specs.TransferChanges.{with_numbers, next_request}
 use Rattle.asking_worlds.proofs.TransferChanging.{course_recorded, behind_published, first_published, halted_published}
 use Rattle.asking_worlds.proofs.Rows.{kept_recorded}
 use Rattle.whole_worlds.specs.Feeding.{opens}
-use Rattle.standing_fronts.specs.Tails.{tail_block}
+use Rattle.walked_queues.specs.standing_fronts.Tails.{tail_block}
 use Rattle.whole_worlds.proofs.FeedingStores.{at, after_store}
 use Rattle.whole_worlds.proofs.Storing.{by_store, element}
 use Rattle.whole_worlds.specs.Whole.{IsWhole}

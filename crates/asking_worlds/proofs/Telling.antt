@@ -9,23 +9,23 @@ use Rattle.usb_base.specs.declared.endpoints.EndCause.TheVariants.{Stall}
 use Rattle.usb_base.specs.declared.reports.Report.{Report}
 use Rattle.usb_base.specs.declared.reports.What.{What}
 use Rattle.usb_base.specs.declared.reports.What.TheVariants as lines
-use Rattle.lent_structures.proofs.Names.{not_same}
+use Rattle.ring_laws.proofs.lemmas.lent_structures.Names.{not_same}
 use Rattle.report_streams.specs.Requests.{Request, Window, left_by}
 use Rattle.driver_rows.specs.declared.content.Transfer.{Transfer}
 use Rattle.driver_rows.specs.declared.rows.DriverRow.TheVariants as rows
 use Rattle.driver_rows.specs.declared.rows.Found.TheVariants as founds
 use Rattle.driver_rows.specs.DriverContent.{DriverContent, waits_for}
 use Rattle.driver_rows.specs.Rows.{after_driver_row}
-use Rattle.world_requests.specs.Recorded.{Windows, window_at}
-use Rattle.driver_requests.proofs.RowOrder.{row_numbers}
-use Rattle.driver_requests.proofs.Ordering.{numbers_more, numbers_still}
-use Rattle.told_requests.specs.Told.{is_cancel, AreToldTo, RequestsAreToldTo}
-use Rattle.told_requests.specs.Waiting.{waiting}
-use Rattle.told_requests.proofs.Harvests.{other_harvests, other_returns, harvest_goes_on, harvest_ends, harvest_stalls}
-use Rattle.told_requests.proofs.Quiet.{quiet_rows}
-use Rattle.told_requests.proofs.Waiting.{transfer_waits, quiet_waiting}
-use Rattle.told_requests.proofs.WaitingHarvests.{other_harvest_waits, other_returns_wait, harvest_keeps_waits, harvest_ends_one, harvest_stalls_all, stall_has_windows}
-use Rattle.told_requests.proofs.Windows.{windows_grow}
+use Rattle.asking_worlds.specs.world_requests.Recorded.{Windows, window_at}
+use Rattle.asking_worlds.proofs.lemmas.driver_requests.RowOrder.{row_numbers}
+use Rattle.asking_worlds.proofs.lemmas.driver_requests.Ordering.{numbers_more, numbers_still}
+use Rattle.asking_worlds.specs.told_requests.Told.{is_cancel, AreToldTo, RequestsAreToldTo}
+use Rattle.asking_worlds.specs.told_requests.Waiting.{waiting}
+use Rattle.asking_worlds.proofs.lemmas.told_requests.Harvests.{other_harvests, other_returns, harvest_goes_on, harvest_ends, harvest_stalls}
+use Rattle.asking_worlds.proofs.lemmas.told_requests.Quiet.{quiet_rows}
+use Rattle.asking_worlds.proofs.lemmas.told_requests.Waiting.{transfer_waits, quiet_waiting}
+use Rattle.asking_worlds.proofs.lemmas.told_requests.WaitingHarvests.{other_harvest_waits, other_returns_wait, harvest_keeps_waits, harvest_ends_one, harvest_stalls_all, stall_has_windows}
+use Rattle.asking_worlds.proofs.lemmas.told_requests.Windows.{windows_grow}
 use Rattle.asking_worlds.proofs.Lists.{numbers_all}
 use Rattle.asking_worlds.specs.Telling.{IsTelling, IsUncancelled, TellingIsTold, ActsKeepTelling, QuietRowKeepsTelling, OtherHarvestKeepsTelling, OtherReturnsKeepTelling, HarvestKeepsTelling, HarvestTells, behind, StallTells, AddsTransfer, AcceptedKeepsTelling, OtherAcceptedKeepsTelling}
 

@@ -3,28 +3,28 @@ use Rattle.std.proofs.Common.{◌≡◌, ◌≢◌, ℕ, zero, suc, ◌-◌, ◌
 use Rattle.std.specs.Prelude.{◌⊎◌, option_map}
 use Rattle.std.specs.List.{AllByRecursion}
 use Rattle.std.proofs.lemmas.Bool.{cases_eq, cases_lt, eq-eqb, false≢true}
-use Rattle.lent_structures.specs.Structures.{StructureSets}
-use Rattle.lent_structures.proofs.Names.{not_same}
+use Rattle.ring_laws.specs.lent_structures.Structures.{StructureSets}
+use Rattle.ring_laws.proofs.lemmas.lent_structures.Names.{not_same}
 use Rattle.endpoint_laws.specs.Acts.{IsOnce}
 use Rattle.driver_rows.specs.declared.content.Transfer.{Transfer}
 use Rattle.driver_rows.specs.DriverContent.{DriverContent}
-use Rattle.run_owners.proofs.Released.{same_by_test}
+use Rattle.driver_laws.proofs.lemmas.run_owners.Released.{same_by_test}
 use Rattle.control_stages.specs.Stages.{Stages}
 use Rattle.report_streams.specs.Requests.{Request}
 use Rattle.request_windows.specs.Host.{Endpoint, Setup}
 use Rattle.request_windows.proofs.Steps.{right}
-use Rattle.request_calls.specs.Bus.{Device}
+use Rattle.declared_endpoints.specs.request_calls.Bus.{Device}
 use Rattle.ring_laws.specs.Hand.{Hand}
-use Rattle.ring_requests.specs.Windows.{Sent, Queue, sent_at, Lines, lines_at, IsQueue, opened}
-use Rattle.ring_requests.specs.Runs.{first_of}
-use Rattle.request_stores.specs.Published.{new_sent, without_first}
-use Rattle.request_stores.proofs.Publishing.{with_old, with_new}
-use Rattle.world_requests.specs.Recorded.{endpoint_of, Windows, numbers_of}
-use Rattle.world_requests.specs.Recording.{AreRecorded}
-use Rattle.driver_requests.specs.Requests.{IsOfTransfer, AreOfEndpoint}
-use Rattle.driver_requests.specs.Behind.{AreBehind}
-use Rattle.driver_requests.proofs.Keeping.{request_ends}
-use Rattle.driver_requests.proofs.Behind.{first_goes}
+use Rattle.declared_endpoints.specs.ring_requests.Windows.{Sent, Queue, sent_at, Lines, lines_at, IsQueue, opened}
+use Rattle.declared_endpoints.specs.ring_requests.Runs.{first_of}
+use Rattle.asking_worlds.specs.request_stores.Published.{new_sent, without_first}
+use Rattle.asking_worlds.proofs.lemmas.request_stores.Publishing.{with_old, with_new}
+use Rattle.asking_worlds.specs.world_requests.Recorded.{endpoint_of, Windows, numbers_of}
+use Rattle.asking_worlds.specs.world_requests.Recording.{AreRecorded}
+use Rattle.asking_worlds.specs.driver_requests.Requests.{IsOfTransfer, AreOfEndpoint}
+use Rattle.asking_worlds.specs.driver_requests.Behind.{AreBehind}
+use Rattle.asking_worlds.proofs.lemmas.driver_requests.Keeping.{request_ends}
+use Rattle.asking_worlds.proofs.lemmas.driver_requests.Behind.{first_goes}
 use Rattle.asking_worlds.specs.Courses.{Course, NoQueue, Asks, Rests, has_queue, have_queues, with_course}
 use Rattle.asking_worlds.specs.QueueChanges.{lines_from, lines_behind, mended_from}
 use Rattle.asking_worlds.proofs.QueueChanging.{with_here, with_beside}

@@ -9,31 +9,31 @@ use Rattle.usb_bus.specs.declared.asked.Losses.{Losses}
 use Rattle.driver_rows.specs.declared.content.Endpoint.{Endpoint as DriverEndpoint}
 use Rattle.driver_rows.specs.declared.content.Transfer.{Transfer}
 use Rattle.driver_rows.specs.DriverContent.{DriverContent}
-use Rattle.lent_structures.specs.Structures.{StructureSets}
-use Rattle.lent_structures.proofs.Names.{not_same}
+use Rattle.ring_laws.specs.lent_structures.Structures.{StructureSets}
+use Rattle.ring_laws.proofs.lemmas.lent_structures.Names.{not_same}
 use Rattle.usb_bus.specs.Bus.{Fixed}
 use Rattle.request_windows.specs.Host.{Endpoint}
 use Rattle.request_windows.specs.Line.{Line, transacted}
 use Rattle.request_windows.proofs.Counts.{transacted_counts}
-use Rattle.request_calls.specs.Bus.{Device, device_of}
+use Rattle.declared_endpoints.specs.request_calls.Bus.{Device, device_of}
 use Rattle.control_stages.specs.Stages.{Stages}
 use Rattle.report_streams.specs.Requests.{Request}
 use Rattle.ring_laws.specs.Hand.{Hand}
 use Rattle.ring_laws.specs.Ring.{Base}
-use Rattle.controlled_streams.specs.Control.{IsOn, IsControlled, Controls}
-use Rattle.ring_requests.specs.Windows.{Sent, Queue, Lines, Progress, Transaction, Advance, opened, progressed, Step, stepped}
-use Rattle.ring_requests.specs.Runs.{first_of}
-use Rattle.control_requests.specs.Events.{ControlWindowsGoOn}
-use Rattle.scripted_requests.specs.Controls.{control_of, transacts_by, begins_by}
+use Rattle.walked_queues.specs.controlled_streams.Control.{IsOn, IsControlled, Controls}
+use Rattle.declared_endpoints.specs.ring_requests.Windows.{Sent, Queue, Lines, Progress, Transaction, Advance, opened, progressed, Step, stepped}
+use Rattle.declared_endpoints.specs.ring_requests.Runs.{first_of}
+use Rattle.asking_worlds.specs.control_requests.Events.{ControlWindowsGoOn}
+use Rattle.declared_endpoints.specs.scripted_requests.Controls.{control_of, transacts_by, begins_by}
 use Rattle.bus_world.specs.World.{World, controller_parts, controller_next}
-use Rattle.world_requests.specs.Requesting.{wired, IsRequesting}
-use Rattle.world_requests.specs.Recorded.{endpoint_of, Windows, side_of, acted_with, begun_by, acted_by, after_event, numbers_of}
-use Rattle.world_requests.specs.Recording.{AreTransfers, IsRecorded, AreRecorded}
-use Rattle.world_requests.proofs.Acting.{none_acted}
-use Rattle.world_requests.proofs.Following.{event_kept}
-use Rattle.world_requests.proofs.Queues.{quiet_acts}
-use Rattle.driver_requests.specs.Requests.{IsOfEndpoint, IsOfTransfer, IsLaidOut, AreOfEndpoint, AreOfDriver, AreUnderWay}
-use Rattle.driver_requests.proofs.Telling.{transfers_told}
+use Rattle.asking_worlds.specs.world_requests.Requesting.{wired, IsRequesting}
+use Rattle.asking_worlds.specs.world_requests.Recorded.{endpoint_of, Windows, side_of, acted_with, begun_by, acted_by, after_event, numbers_of}
+use Rattle.asking_worlds.specs.world_requests.Recording.{AreTransfers, IsRecorded, AreRecorded}
+use Rattle.asking_worlds.proofs.lemmas.world_requests.Acting.{none_acted}
+use Rattle.asking_worlds.proofs.lemmas.world_requests.Following.{event_kept}
+use Rattle.asking_worlds.proofs.lemmas.world_requests.Queues.{quiet_acts}
+use Rattle.asking_worlds.specs.driver_requests.Requests.{IsOfEndpoint, IsOfTransfer, IsLaidOut, AreOfEndpoint, AreOfDriver, AreUnderWay}
+use Rattle.asking_worlds.proofs.lemmas.driver_requests.Telling.{transfers_told}
 use Rattle.asking_worlds.specs.Courses.{Course, NoQueue, Asks, Rests, has_queue, is_asking, queue_in, lines_in, IsCourse, queues, are_asking, all_lines, CoursesStand}
 use Rattle.asking_worlds.specs.QueueEvents.{line_after, course_after, courses_after, CoursesGoOn}
 use Rattle.asking_worlds.proofs.Courses.{sent_are, windows_are, asks_has, asked_of}

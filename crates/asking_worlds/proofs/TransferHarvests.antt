@@ -15,16 +15,16 @@ use Rattle.driver_rows.specs.declared.rows.Found.{Found}
 use Rattle.driver_rows.specs.declared.rows.Found.TheVariants as founds
 use Rattle.driver_rows.specs.DriverContent.{DriverContent}
 use Rattle.driver_rows.specs.Harvests.{note_at, token_in, found_in, done_of, ends_by, moved_of, halt_of}
-use Rattle.run_owners.specs.Owners.{note_in, is_descriptor}
-use Rattle.chained_transfers.specs.Chains.{piece_at}
-use Rattle.chained_transfers.specs.Turns.{IsAtPlace}
-use Rattle.chained_transfers.proofs.Ways.{found_by}
-use Rattle.harvested_streams.proofs.Harvesting.{token_read}
+use Rattle.driver_laws.specs.run_owners.Owners.{note_in, is_descriptor}
+use Rattle.driver_laws.specs.chained_transfers.Chains.{piece_at}
+use Rattle.driver_laws.specs.chained_transfers.Turns.{IsAtPlace}
+use Rattle.driver_laws.proofs.lemmas.chained_transfers.Ways.{found_by}
+use Rattle.driver_laws.proofs.lemmas.harvested_streams.Harvesting.{token_read}
 use Rattle.report_streams.specs.Requests.{Request}
-use Rattle.ring_requests.specs.Laid.{Places}
-use Rattle.request_bytes.specs.Fresh.{next_of}
-use Rattle.driver_requests.specs.Requests.{IsLaidOut}
-use Rattle.driver_requests.proofs.Owning.{qtds_case, places_with_data, places_without}
+use Rattle.declared_endpoints.specs.ring_requests.Laid.{Places}
+use Rattle.asking_worlds.specs.request_bytes.Fresh.{next_of}
+use Rattle.asking_worlds.specs.driver_requests.Requests.{IsLaidOut}
+use Rattle.asking_worlds.proofs.lemmas.driver_requests.Owning.{qtds_case, places_with_data, places_without}
 use Rattle.asking_worlds.specs.Harvests.{DoneIsEnded}
 
 -- ---- what is found

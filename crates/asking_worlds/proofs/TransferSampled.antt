@@ -1,12 +1,12 @@
 -- What is recorded of the sample's requests.
 use Rattle.std.proofs.Common.{◌≡◌, ℕ, zero, suc, ◌<◌, ◌≤◌, ◌==◌, Bool, true, false, [], None, if◌then◌else◌, refl, sym, subst, inl, inr, arith}
 use Rattle.std.proofs.lemmas.Bool.{eqb-true, false≢true}
-use Rattle.request_stores.specs.Published.{without_first}
-use Rattle.ring_requests.specs.Samples.{asked}
-use Rattle.ring_requests.specs.Windows.{Queue, Lines}
-use Rattle.world_requests.specs.Recorded.{endpoint_of, Windows, no_windows}
-use Rattle.driver_requests.specs.Samples.{driver, requests, begun}
-use Rattle.driver_requests.proofs.Sampling.{are_of_driver}
+use Rattle.asking_worlds.specs.request_stores.Published.{without_first}
+use Rattle.declared_endpoints.specs.ring_requests.Samples.{asked}
+use Rattle.declared_endpoints.specs.ring_requests.Windows.{Queue, Lines}
+use Rattle.asking_worlds.specs.world_requests.Recorded.{endpoint_of, Windows, no_windows}
+use Rattle.asking_worlds.specs.driver_requests.Samples.{driver, requests, begun}
+use Rattle.asking_worlds.proofs.lemmas.driver_requests.Sampling.{are_of_driver}
 use Rattle.asking_worlds.specs.Courses.{Course, NoQueue, Asks, has_queue}
 use Rattle.asking_worlds.specs.QueueChanges.{lines_behind}
 use Rattle.asking_worlds.specs.Records.{Numbers, IsNumbered, AreActs, IsRecord, AreRecords}

@@ -5,16 +5,16 @@ use Rattle.usb_base.specs.declared.commands.Cmd.TheVariants as commands
 use Rattle.usb_base.specs.declared.endpoints.EpName.{EpName}
 use Rattle.usb_base.specs.declared.reports.OfferError.{OfferError}
 use Rattle.usb_bus.specs.Bus.{Fixed}
-use Rattle.byte_answers.specs.Bytes.{IsByteCommand}
+use Rattle.script_laws.specs.byte_answers.Bytes.{IsByteCommand}
 use Rattle.driver_rows.specs.Offers.{Offered, offered, IsOffered}
-use Rattle.run_owners.specs.Accepts.{Cancels}
-use Rattle.chained_transfers.specs.Accepted.{IsAsked}
-use Rattle.chained_transfers.proofs.Accepting.{command_accepts}
+use Rattle.driver_laws.specs.run_owners.Accepts.{Cancels}
+use Rattle.driver_laws.specs.chained_transfers.Accepted.{IsAsked}
+use Rattle.driver_laws.proofs.lemmas.chained_transfers.Accepting.{command_accepts}
 use Rattle.report_streams.specs.Requests.{Request}
 use Rattle.bus_world.specs.World.{World, name_in, commanded_by, commanded}
 use Rattle.stream_worlds.specs.Streaming.{Streams, Standing}
-use Rattle.world_requests.specs.Recorded.{Windows, asks_then}
-use Rattle.world_requests.specs.Requesting.{wired}
+use Rattle.asking_worlds.specs.world_requests.Recorded.{Windows, asks_then}
+use Rattle.asking_worlds.specs.world_requests.Requesting.{wired}
 use Rattle.asking_worlds.proofs.Lists.{all_more}
 use Rattle.whole_worlds.specs.Whole.{IsWhole}
 use Rattle.whole_worlds.proofs.Commanding.{whole_commanded}

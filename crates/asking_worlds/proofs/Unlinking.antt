@@ -12,19 +12,19 @@ use Rattle.driver_rows.specs.DriverContent.{DriverContent}
 use Rattle.driver_rows.specs.Harvests.{note_at}
 use Rattle.driver_rows.specs.Rows.{Parts, driver_row}
 use Rattle.driver_rows.specs.Words.{is_control, to_queue_head}
-use Rattle.endpoint_lives.specs.Lives.{is_one_of, told_end, may_meet}
-use Rattle.endpoint_lives.proofs.Lives.{one_of_end, one_of_others}
+use Rattle.driver_laws.specs.endpoint_lives.Lives.{is_one_of, told_end, may_meet}
+use Rattle.driver_laws.proofs.lemmas.endpoint_lives.Lives.{one_of_end, one_of_others}
 use Rattle.report_streams.specs.Requests.{Request}
-use Rattle.scripted_requests.specs.Controls.{control_of}
-use Rattle.told_harvests.proofs.Keeping.{done_spared}
-use Rattle.unlinked_streams.specs.Unlinks.{IsAtUnlink, driver_then, IsUnlinked}
-use Rattle.unlinked_streams.proofs.Passing.{unlink_row_is}
-use Rattle.unlinked_streams.proofs.Streams.{unlink_spares_heads, unlink_spares_elements, unlink_spares_hand}
+use Rattle.declared_endpoints.specs.scripted_requests.Controls.{control_of}
+use Rattle.driver_laws.proofs.lemmas.told_harvests.Keeping.{done_spared}
+use Rattle.stream_worlds.specs.unlinked_streams.Unlinks.{IsAtUnlink, driver_then, IsUnlinked}
+use Rattle.stream_worlds.proofs.lemmas.unlinked_streams.Passing.{unlink_row_is}
+use Rattle.stream_worlds.proofs.lemmas.unlinked_streams.Streams.{unlink_spares_heads, unlink_spares_elements, unlink_spares_hand}
 use Rattle.bus_world.specs.World.{World, driver_parts, driver_next, with_parts}
 use Rattle.stream_worlds.specs.Streaming.{Streams, Standing}
-use Rattle.world_requests.specs.Requesting.{wired}
-use Rattle.world_requests.specs.Recorded.{Windows}
-use Rattle.driver_requests.specs.Rows.{given_by, KeepsEndpoint}
+use Rattle.asking_worlds.specs.world_requests.Requesting.{wired}
+use Rattle.asking_worlds.specs.world_requests.Recorded.{Windows}
+use Rattle.asking_worlds.specs.driver_requests.Rows.{given_by, KeepsEndpoint}
 use Rattle.asking_worlds.specs.Courses.{CoursesStand}
 use Rattle.asking_worlds.proofs.Writing.{link_spares}
 use Rattle.asking_worlds.specs.Records.{AreRecords}
@@ -40,7 +40,7 @@ use Rattle.asking_worlds.specs.Rows.{UnlinkKeepsAsking, IsHeadOfNone}
 use Rattle.asking_worlds.proofs.Has.{asking_of}
 use Rattle.asking_worlds.proofs.Leaving.{idle_quiet, unlink_quiet, WasEndpoint, IsEndpointStill, RowLeaves, gone_by, was_met, each_still, world_left}
 use Rattle.asking_worlds.proofs.Missed.{writing_unmissed, linked_unmissed}
-use Rattle.lent_structures.specs.Structures.{QueueHead}
+use Rattle.ring_laws.specs.lent_structures.Structures.{QueueHead}
 
 module _ (g : Sides) (fixed : Fixed) (takes : ℕ → ℕ → Bool) (member : ℕ → Bool) (x : Streams) (s : Standing) (a : Asking) (v : Windows) (asks : ℕ → Request) (w : World) (at : IsAtUnlink w.driver member s.parts) (head : IsHeadOfNone x) (k : IsWhole fixed takes member x s w) (z : IsAskingWorld g fixed member s a v asks w) where
   abbrev f : ℕ

@@ -8,13 +8,13 @@ use Rattle.driver_rows.specs.declared.rows.DriverRow.TheVariants as rows
 use Rattle.driver_rows.specs.declared.rows.Found.TheVariants as founds
 use Rattle.driver_rows.specs.DriverContent.{DriverContent}
 use Rattle.driver_rows.specs.Rows.{driver_row, after_driver_row, served}
-use Rattle.run_owners.specs.Due.{IsHarvestDue}
-use Rattle.harvest_laws.proofs.ReadRows.{after_is}
+use Rattle.driver_laws.specs.run_owners.Due.{IsHarvestDue}
+use Rattle.driven_queues.proofs.lemmas.harvest_laws.ReadRows.{after_is}
 use Rattle.report_streams.specs.Requests.{Request}
 use Rattle.bus_world.specs.World.{World, driver_parts, driver_next, with_parts}
 use Rattle.stream_worlds.specs.Streaming.{Streams, Standing}
-use Rattle.world_requests.specs.Recorded.{Windows}
-use Rattle.driver_requests.specs.Rows.{KeepsRequests}
+use Rattle.asking_worlds.specs.world_requests.Recorded.{Windows}
+use Rattle.asking_worlds.specs.driver_requests.Rows.{KeepsRequests}
 use Rattle.asking_worlds.specs.Records.{AreRecords}
 use Rattle.asking_worlds.proofs.Rows.{kept_recorded}
 use Rattle.whole_worlds.specs.HarvestFeeds.{HarvestLeaves}

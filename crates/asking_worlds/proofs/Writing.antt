@@ -4,12 +4,12 @@ use Rattle.std.specs.Prelude.{◌⊎◌}
 use Rattle.std.proofs.lemmas.Bool.{cases_eq, eq-eqb, false≢true}
 use Rattle.qh_qtd.specs.declared.qtd.Qtd.{Qtd}
 use Rattle.qh_qtd.specs.declared.queue_head.Qh.{Qh}
-use Rattle.lent_structures.specs.Structures.{Structure, QueueHead, Element, Buffer, Table, Isochronous, SplitIsochronous, Structures, StructureSets, put}
-use Rattle.lent_structures.specs.Sound.{buffer_name}
-use Rattle.lent_structures.proofs.Names.{not_same, put_same, put_else, put_beside}
-use Rattle.lent_structures.proofs.Altering.{found_queue, no_two}
+use Rattle.ring_laws.specs.lent_structures.Structures.{Structure, QueueHead, Element, Buffer, Table, Isochronous, SplitIsochronous, Structures, StructureSets, put}
+use Rattle.ring_laws.specs.lent_structures.Sound.{buffer_name}
+use Rattle.ring_laws.proofs.lemmas.lent_structures.Names.{not_same, put_same, put_else, put_beside}
+use Rattle.ring_laws.proofs.lemmas.lent_structures.Altering.{found_queue, no_two}
 use Rattle.request_windows.specs.Host.{Stage}
-use Rattle.request_calls.specs.Bus.{Device}
+use Rattle.declared_endpoints.specs.request_calls.Bus.{Device}
 use Rattle.ring_laws.specs.Hand.{Hand}
 use Rattle.ring_laws.specs.Effects.{bytes_in, buffer_of}
 use Rattle.ring_laws.specs.Fewer.{fewer_structures, without_those}
@@ -17,10 +17,10 @@ use Rattle.ring_laws.specs.Front.{SameRest}
 use Rattle.ring_laws.specs.Sparing.{SameHand, SameOverlay, HasOverlay, SparesHead}
 use Rattle.ring_laws.specs.Stores.{hand_linked}
 use Rattle.ring_laws.proofs.SparedSparing.{linked_same}
-use Rattle.ring_requests.specs.Laid.{place_at, IsIdle}
-use Rattle.ring_requests.specs.Windows.{Queue}
-use Rattle.ring_requests.specs.Resting.{HeadStays, SameSide}
-use Rattle.ring_requests.proofs.RestingSpared.{linked_side}
+use Rattle.declared_endpoints.specs.ring_requests.Laid.{place_at, IsIdle}
+use Rattle.declared_endpoints.specs.ring_requests.Windows.{Queue}
+use Rattle.declared_endpoints.specs.ring_requests.Resting.{HeadStays, SameSide}
+use Rattle.declared_endpoints.proofs.lemmas.ring_requests.RestingSpared.{linked_side}
 use Rattle.asking_worlds.specs.Courses.{Course, NoQueue, Asks, Rests, has_queue, queue_in, tail_in, AreInLine, IsCourse, queues, have_queues}
 use Rattle.asking_worlds.specs.Spared.{KeepsBuffer, KeepsQtds, KeepsQueue, KeepsEndpoints, IsNoRequests, StoreSparesCourses, IsLentBeside, LendSparesCourses, GoBeside, ReleaseSparesCourses, LinkSparesCourses}
 use Rattle.asking_worlds.proofs.Courses.{HasHead, head_of}

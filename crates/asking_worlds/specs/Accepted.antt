@@ -5,14 +5,14 @@ use Rattle.std.specs.Prelude.{◌≡◌, ℕ, Bool, List, length}
 use Rattle.usb_base.specs.declared.commands.Cmd.TheVariants as commands
 use Rattle.usb_base.specs.declared.endpoints.EpName.{EpName}
 use Rattle.usb_bus.specs.Bus.{Fixed}
-use Rattle.lent_structures.specs.Structures.{StructureSets}
+use Rattle.ring_laws.specs.lent_structures.Structures.{StructureSets}
 use Rattle.driver_rows.specs.Offers.{Offered}
-use Rattle.run_owners.specs.Accepts.{Transfers}
+use Rattle.driver_laws.specs.run_owners.Accepts.{Transfers}
 use Rattle.report_streams.specs.Requests.{Request}
 use Rattle.ring_laws.specs.Hand.{Hand}
 use Rattle.bus_world.specs.World.{World}
-use Rattle.request_bytes.specs.Fresh.{request_places}
-use Rattle.world_requests.specs.Recorded.{Windows, asks_then}
+use Rattle.asking_worlds.specs.request_bytes.Fresh.{request_places}
+use Rattle.asking_worlds.specs.world_requests.Recorded.{Windows, asks_then}
 use Rattle.asking_worlds.specs.Courses.{Course}
 use Rattle.asking_worlds.specs.Records.{Numbers}
 use Rattle.asking_worlds.specs.TransferChanges.{with_numbers, accepted_in, IsRequestOf}

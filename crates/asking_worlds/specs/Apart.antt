@@ -3,14 +3,14 @@
 --     LaidAreOthers              .. and of two transfers: each run of blocks has one owner
 use Rattle.std.specs.Prelude.{◌≢◌, ℕ}
 use Rattle.driver_rows.specs.DriverContent.{DriverContent}
-use Rattle.run_owners.specs.Kept.{HasOwners}
-use Rattle.lent_structures.specs.Structures.{Structures}
+use Rattle.driver_laws.specs.run_owners.Kept.{HasOwners}
+use Rattle.ring_laws.specs.lent_structures.Structures.{Structures}
 use Rattle.report_streams.specs.Requests.{Request}
 use Rattle.request_windows.specs.Host.{Endpoint, Setup}
 use Rattle.ring_laws.specs.Front.{LinksRise}
-use Rattle.ring_requests.specs.Laid.{Places, AreApart, AreOthers}
-use Rattle.ring_requests.specs.Shown.{AreFresh}
-use Rattle.driver_requests.specs.Requests.{IsLaidOut}
+use Rattle.declared_endpoints.specs.ring_requests.Laid.{Places, AreApart, AreOthers}
+use Rattle.declared_endpoints.specs.ring_requests.Shown.{AreFresh}
+use Rattle.asking_worlds.specs.driver_requests.Requests.{IsLaidOut}
 
 abbrev pub LaidAreApart : Type 0
 LaidAreApart = (d : DriverContent) (t : ℕ) (e : Endpoint) (r : Request) (x : Places) (order : ℕ → ℕ) (part : Structures) → IsLaidOut d t r x → LinksRise order part → AreFresh e r x part Setup → AreApart x

@@ -36,32 +36,32 @@ use Rattle.driver_rows.specs.declared.content.Transfer.{Transfer}
 use Rattle.driver_rows.specs.DriverContent.{DriverContent}
 use Rattle.driver_rows.specs.Harvests.{note_at}
 use Rattle.driver_rows.specs.Words.{is_control, head_block, opening_head, request_stages}
-use Rattle.endpoint_lives.specs.Lives.{told_end, may_meet}
-use Rattle.fed_queues.specs.Places.{IsMet}
-use Rattle.fed_lends.specs.ToLend.{IsToBeLent}
-use Rattle.told_harvests.specs.Held.{IsDone, AreUnmoved}
-use Rattle.lent_structures.specs.Structures.{Structures, StructureSets}
-use Rattle.told_endpoints.specs.Telling.{lines_in}
+use Rattle.driver_laws.specs.endpoint_lives.Lives.{told_end, may_meet}
+use Rattle.driver_laws.specs.fed_queues.Places.{IsMet}
+use Rattle.walked_queues.specs.fed_lends.ToLend.{IsToBeLent}
+use Rattle.driver_laws.specs.told_harvests.Held.{IsDone, AreUnmoved}
+use Rattle.ring_laws.specs.lent_structures.Structures.{Structures, StructureSets}
+use Rattle.walked_queues.specs.told_endpoints.Telling.{lines_in}
 use Rattle.report_streams.specs.Requests.{Request}
 use Rattle.request_windows.specs.Host.{Endpoint, has_data}
 use Rattle.request_windows.specs.Windows.{IsRequest, data_of}
-use Rattle.request_calls.specs.Bus.{Device, device_of}
-use Rattle.request_bytes.specs.Held.{RequestIsHeld}
+use Rattle.declared_endpoints.specs.request_calls.Bus.{Device, device_of}
+use Rattle.asking_worlds.specs.request_bytes.Held.{RequestIsHeld}
 use Rattle.ring_laws.specs.Hand.{Hand}
 use Rattle.ring_laws.specs.Told.{Endpoint as Characteristics, endpoint_of}
-use Rattle.ring_requests.specs.Runs.{first_of}
-use Rattle.scripted_requests.specs.Controls.{control_of}
+use Rattle.declared_endpoints.specs.ring_requests.Runs.{first_of}
+use Rattle.declared_endpoints.specs.scripted_requests.Controls.{control_of}
 use Rattle.bus_world.specs.World.{World}
 use Rattle.stream_worlds.specs.Streaming.{Standing}
-use Rattle.world_requests.specs.Requesting.{wired}
-use Rattle.world_requests.specs.Recorded.{Windows, numbers_of}
+use Rattle.asking_worlds.specs.world_requests.Requesting.{wired}
+use Rattle.asking_worlds.specs.world_requests.Recorded.{Windows, numbers_of}
 use Rattle.asking_worlds.specs.Courses.{Course, has_queue, is_asking, queue_in, tail_in, CoursesStand}
 use Rattle.asking_worlds.specs.Coming.{IsComing}
 use Rattle.asking_worlds.specs.Records.{Numbers, AreRecords}
 use Rattle.asking_worlds.specs.Counts.{counted_all}
 use Rattle.asking_worlds.specs.Telling.{IsTelling, IsUncancelled}
 use Rattle.whole_worlds.specs.Feeding.{opens}
-use Rattle.standing_fronts.specs.Tails.{tail_of}
+use Rattle.walked_queues.specs.standing_fronts.Tails.{tail_of}
 use Rattle.whole_worlds.specs.Whole.{IsWhole, StaysOpen, AreOf}
 use Rattle.asking_worlds.specs.Missed.{MissNone}
 

@@ -6,20 +6,20 @@ use Rattle.usb_base.specs.declared.commands.Cmd.{Cmd}
 use Rattle.usb_base.specs.declared.reports.OfferError.{OfferError}
 use Rattle.script_types.specs.declared.scripts.Script.{Script}
 use Rattle.script_fits.specs.Fits.{IsFit}
-use Rattle.byte_answers.specs.Bytes.{IsByteScript}
+use Rattle.script_laws.specs.byte_answers.Bytes.{IsByteScript}
 use Rattle.usb_bus.specs.Bus.{Fixed, fixed_of, opening_wired}
 use Rattle.driver_rows.specs.Offers.{offered}
 use Rattle.driver_rows.specs.Rows.{driver_row}
 use Rattle.driver_rows.specs.Words.{head_block, opening_head}
 use Rattle.report_streams.specs.Requests.{Request}
-use Rattle.request_calls.specs.Bus.{Device}
+use Rattle.declared_endpoints.specs.request_calls.Bus.{Device}
 use Rattle.ring_laws.specs.Told.{endpoint_of}
-use Rattle.scripted_requests.specs.Controls.{control_of}
+use Rattle.declared_endpoints.specs.scripted_requests.Controls.{control_of}
 use Rattle.bus_world.specs.World.{World, driver_parts, driver_next, controller_next, commanded}
 use Rattle.bus_world.specs.Opening.{opening_world}
 use Rattle.stream_worlds.specs.Streaming.{Streams, Standing}
 use Rattle.stream_worlds.specs.Takers.{takes_of}
-use Rattle.world_requests.specs.Recorded.{Windows, no_windows, no_asks, asks_then, after_event}
+use Rattle.asking_worlds.specs.world_requests.Recorded.{Windows, no_windows, no_asks, asks_then, after_event}
 use Rattle.whole_worlds.specs.Feeding.{streams_of}
 use Rattle.whole_worlds.specs.FeedingLaws.{is_still}
 use Rattle.whole_worlds.specs.Whole.{IsWhole}

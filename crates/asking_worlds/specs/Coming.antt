@@ -12,19 +12,19 @@ use Rattle.qh_qtd.specs.declared.qtd.Qtd.{Qtd}
 use Rattle.host_token.specs.HostToken.{host_at}
 use Rattle.walk_copy.specs.Planning.{pid_at}
 use Rattle.hc_core.specs.Controller.{Content}
-use Rattle.lent_structures.specs.Structures.{Element, Structures, StructureSets, put}
-use Rattle.lent_structures.specs.Sound.{HasBuffer}
+use Rattle.ring_laws.specs.lent_structures.Structures.{Element, Structures, StructureSets, put}
+use Rattle.ring_laws.specs.lent_structures.Sound.{HasBuffer}
 use Rattle.report_streams.specs.Requests.{Request}
 use Rattle.request_windows.specs.Host.{Endpoint, Setup, has_data, token_at, side_at, next_stage}
 use Rattle.request_windows.specs.Windows.{IsRequest}
-use Rattle.request_calls.specs.Bus.{Device, IsControlBus, KeepsDevices}
+use Rattle.declared_endpoints.specs.request_calls.Bus.{Device, IsControlBus, KeepsDevices}
 use Rattle.ring_laws.specs.Hand.{Hand}
 use Rattle.ring_laws.specs.Ring.{Base}
 use Rattle.ring_laws.specs.Stores.{IsUnnamed}
-use Rattle.controlled_streams.specs.Control.{IsControlled, ControlEffect}
-use Rattle.ring_requests.specs.Laid.{Places, place_at, AreApart, AreOthers, LeadTo, IsBuffer, IsIdle}
-use Rattle.ring_requests.specs.Shown.{AreFresh}
-use Rattle.ring_requests.specs.Windows.{Queue}
+use Rattle.walked_queues.specs.controlled_streams.Control.{IsControlled, ControlEffect}
+use Rattle.declared_endpoints.specs.ring_requests.Laid.{Places, place_at, AreApart, AreOthers, LeadTo, IsBuffer, IsIdle}
+use Rattle.declared_endpoints.specs.ring_requests.Shown.{AreFresh}
+use Rattle.declared_endpoints.specs.ring_requests.Windows.{Queue}
 use Rattle.asking_worlds.specs.Courses.{Course, AreInLine, tail_in, queues, have_queues, CoursesStand}
 use Rattle.asking_worlds.specs.QueueChanges.{IsPublishedAt}
 

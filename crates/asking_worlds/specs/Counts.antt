@@ -8,17 +8,17 @@ use Rattle.std.specs.Prelude.{◌≡◌, ℕ, Bool, true, min, List, [], ◌∷�
 use Rattle.std.specs.List.{AllByRecursion}
 use Rattle.endpoint_laws.specs.Acts.{counted}
 use Rattle.usb_bus.specs.Bus.{Fixed}
-use Rattle.lent_structures.specs.Structures.{StructureSets}
+use Rattle.ring_laws.specs.lent_structures.Structures.{StructureSets}
 use Rattle.driver_rows.specs.declared.content.Endpoint.{Endpoint as DriverEndpoint}
 use Rattle.report_streams.specs.Requests.{Request, has_acted}
-use Rattle.request_calls.specs.Bus.{Device}
+use Rattle.declared_endpoints.specs.request_calls.Bus.{Device}
 use Rattle.ring_laws.specs.Hand.{Hand}
 use Rattle.ring_laws.specs.Ring.{Base}
-use Rattle.controlled_streams.specs.Control.{IsOn, IsControlled, Controls}
-use Rattle.scripted_requests.specs.Controls.{control_of, transacts_by, begins_by}
+use Rattle.walked_queues.specs.controlled_streams.Control.{IsOn, IsControlled, Controls}
+use Rattle.declared_endpoints.specs.scripted_requests.Controls.{control_of, transacts_by, begins_by}
 use Rattle.bus_world.specs.World.{World, controller_next, controller_parts}
-use Rattle.world_requests.specs.Requesting.{wired}
-use Rattle.world_requests.specs.Recorded.{Windows, after_event, numbers_of, window_at}
+use Rattle.asking_worlds.specs.world_requests.Requesting.{wired}
+use Rattle.asking_worlds.specs.world_requests.Recorded.{Windows, after_event, numbers_of, window_at}
 use Rattle.asking_worlds.specs.Courses.{Course, queue_in, have_queues, CoursesStand}
 use Rattle.asking_worlds.specs.QueueEvents.{CoursesGoOn}
 use Rattle.asking_worlds.specs.Records.{Numbers, IsOnceAt, AreRecords}

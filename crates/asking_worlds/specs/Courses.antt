@@ -11,14 +11,14 @@
 --     CoursesStand ..            all queues of a ring stand so, each of an endpoint of its own
 --     with_course courses n c    the same, but for the queue head at n
 use Rattle.std.specs.Prelude.{◌≡◌, ◌≢◌, ℕ, suc, ◌<◌, ◌≤◌, ◌==◌, Bool, true, false, [], Option, Some, None, if◌then◌else◌}
-use Rattle.lent_structures.specs.Structures.{StructureSets}
+use Rattle.ring_laws.specs.lent_structures.Structures.{StructureSets}
 use Rattle.control_stages.specs.Stages.{Stages, opened}
 use Rattle.request_windows.specs.Windows.{IsRequest}
-use Rattle.request_calls.specs.Bus.{Device}
+use Rattle.declared_endpoints.specs.request_calls.Bus.{Device}
 use Rattle.ring_laws.specs.Hand.{Hand}
-use Rattle.ring_requests.specs.Laid.{AreApart, AreOthers}
-use Rattle.ring_requests.specs.Windows.{Queue, sent_at, Lines, lines_at, IsBehind, IsQueue, AreChained, IsElsewhere}
-use Rattle.ring_requests.specs.Resting.{IsAtRest}
+use Rattle.declared_endpoints.specs.ring_requests.Laid.{AreApart, AreOthers}
+use Rattle.declared_endpoints.specs.ring_requests.Windows.{Queue, sent_at, Lines, lines_at, IsBehind, IsQueue, AreChained, IsElsewhere}
+use Rattle.declared_endpoints.specs.ring_requests.Resting.{IsAtRest}
 
 pub data Course : Type 0 where
   NoQueue : Course

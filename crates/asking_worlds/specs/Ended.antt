@@ -17,14 +17,14 @@ use Rattle.driver_rows.specs.declared.rows.Found.TheVariants as founds
 use Rattle.driver_rows.specs.DriverContent.{DriverContent}
 use Rattle.driver_rows.specs.Harvests.{end_of}
 use Rattle.driver_rows.specs.Rows.{after_driver_row}
-use Rattle.run_owners.specs.Due.{IsHarvestDue}
+use Rattle.driver_laws.specs.run_owners.Due.{IsHarvestDue}
 use Rattle.report_streams.specs.Requests.{Request}
-use Rattle.ring_requests.specs.Windows.{Queue, Lines}
-use Rattle.scripted_requests.specs.Controls.{control_of}
+use Rattle.declared_endpoints.specs.ring_requests.Windows.{Queue, Lines}
+use Rattle.declared_endpoints.specs.scripted_requests.Controls.{control_of}
 use Rattle.bus_world.specs.World.{World, driver_parts}
 use Rattle.stream_worlds.specs.Streaming.{Streams, Standing}
-use Rattle.world_requests.specs.Requesting.{wired}
-use Rattle.world_requests.specs.Recorded.{Windows}
+use Rattle.asking_worlds.specs.world_requests.Requesting.{wired}
+use Rattle.asking_worlds.specs.world_requests.Recorded.{Windows}
 use Rattle.asking_worlds.specs.Courses.{Course, Asks, has_queue, is_asking, queue_in, tail_in, with_course, CoursesStand}
 use Rattle.asking_worlds.specs.Records.{Numbers, AreRecords}
 use Rattle.asking_worlds.specs.TransferChanges.{with_numbers, first_closed, all_closed}

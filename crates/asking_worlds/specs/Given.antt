@@ -14,10 +14,10 @@ use Rattle.script_types.specs.declared.scripts.Script.{Script}
 use Rattle.driver_rows.specs.Words.{is_control}
 use Rattle.usb_bus.specs.Bus.{opening_wired}
 use Rattle.report_streams.specs.Requests.{data_of}
-use Rattle.scripted_requests.specs.Controls.{control_of}
-use Rattle.chained_transfers.specs.Asynchronous.{AsynchronousOnly}
-use Rattle.declared_controls.specs.Opened.{endpoint_of, is_of_hub}
-use Rattle.declared_controls.specs.Requests.{AsksCommand}
+use Rattle.declared_endpoints.specs.scripted_requests.Controls.{control_of}
+use Rattle.driver_laws.specs.chained_transfers.Asynchronous.{AsynchronousOnly}
+use Rattle.declared_endpoints.specs.declared_controls.Opened.{endpoint_of, is_of_hub}
+use Rattle.declared_endpoints.specs.declared_controls.Requests.{AsksCommand}
 use Rattle.asking_worlds.specs.Asking.{Sides, IsGiven}
 
 abbrev pub sides_of : Script → Sides

@@ -6,15 +6,15 @@ use Rattle.qh_qtd.specs.declared.qtd.Qtd.{Qtd}
 use Rattle.driver_rows.specs.declared.content.Sort.TheVariants as sorts
 use Rattle.driver_rows.specs.declared.rows.Found.TheVariants as founds
 use Rattle.driver_rows.specs.Rows.{Parts}
-use Rattle.run_owners.specs.Due.{IsHarvestDue}
-use Rattle.run_owners.specs.Owners.{note_in}
-use Rattle.chained_transfers.specs.Turns.{IsAtPlace}
-use Rattle.lent_structures.specs.Structures.{Element, StructureSets, Tells}
+use Rattle.driver_laws.specs.run_owners.Due.{IsHarvestDue}
+use Rattle.driver_laws.specs.run_owners.Owners.{note_in}
+use Rattle.driver_laws.specs.chained_transfers.Turns.{IsAtPlace}
+use Rattle.ring_laws.specs.lent_structures.Structures.{Element, StructureSets, Tells}
 use Rattle.report_streams.specs.Requests.{Request}
 use Rattle.request_windows.specs.Host.{Endpoint}
-use Rattle.ring_requests.specs.Laid.{Places}
-use Rattle.ring_requests.specs.Windows.{HasEnded}
-use Rattle.driver_requests.specs.Requests.{IsLaidOut}
+use Rattle.declared_endpoints.specs.ring_requests.Laid.{Places}
+use Rattle.declared_endpoints.specs.ring_requests.Windows.{HasEnded}
+use Rattle.asking_worlds.specs.driver_requests.Requests.{IsLaidOut}
 
 abbrev pub DoneIsEnded : Type 0
 DoneIsEnded = (p : Parts) (e t n : ℕ) (parts : StructureSets) (v : Endpoint) (r : Request) (x : Places) (u : Qtd) → (due : IsHarvestDue p e t (founds.Ended n Done)) → IsLaidOut p.driver t r x

@@ -17,8 +17,8 @@ use Rattle.driver_rows.specs.Words.{is_control}
 use Rattle.report_streams.specs.Reports.{WholeReport, lines_of, acted}
 use Rattle.report_streams.specs.Requests.{Window, data_of, has_acted, AreTold, AreRightRequests}
 use Rattle.bus_world.specs.Budgets.{moment}
-use Rattle.right_reports.specs.WorldReport.{report_of}
-use Rattle.world_requests.specs.Recorded.{windows_at, asks_at, windows_of}
+use Rattle.told_streams.specs.right_reports.WorldReport.{report_of}
+use Rattle.asking_worlds.specs.world_requests.Recorded.{windows_at, asks_at, windows_of}
 use Rattle.asking_worlds.specs.Right.{AreOnce}
 use Rattle.asking_worlds.specs.Asking.{is_opening}
 use Rattle.asking_worlds.specs.Given.{AsynchronousOfDevices}

@@ -8,17 +8,17 @@ use Rattle.driver_rows.specs.declared.content.Stage.{Stage}
 use Rattle.driver_rows.specs.DriverContent.{DriverContent}
 use Rattle.driver_rows.specs.Words.{dummy_qtd, request_stages}
 use Rattle.driver_rows.specs.Offers.{is_last}
-use Rattle.run_owners.specs.Owners.{EndpointRuns, TransferRuns}
-use Rattle.lent_structures.specs.Structures.{Element, StructureSets, Tells}
+use Rattle.driver_laws.specs.run_owners.Owners.{EndpointRuns, TransferRuns}
+use Rattle.ring_laws.specs.lent_structures.Structures.{Element, StructureSets, Tells}
 use Rattle.driver_laws.specs.Written.{AwaitsLend}
 use Rattle.driver_laws.specs.Pieces.{stage_qtd}
 use Rattle.driver_laws.specs.TransferLaws.{HasPieces, lent_memory}
 use Rattle.report_streams.specs.Requests.{Request}
 use Rattle.request_windows.specs.Windows.{IsRequest}
-use Rattle.ring_requests.specs.Laid.{AreApart, AreOthers}
-use Rattle.ring_requests.specs.Windows.{Queue}
-use Rattle.request_bytes.specs.Fresh.{request_places}
-use Rattle.request_bytes.specs.Held.{RequestIsHeld}
+use Rattle.declared_endpoints.specs.ring_requests.Laid.{AreApart, AreOthers}
+use Rattle.declared_endpoints.specs.ring_requests.Windows.{Queue}
+use Rattle.asking_worlds.specs.request_bytes.Fresh.{request_places}
+use Rattle.asking_worlds.specs.request_bytes.Held.{RequestIsHeld}
 use Rattle.asking_worlds.specs.Coming.{IsComing}
 
 -- its first qTD is stored over the one that ended the queue

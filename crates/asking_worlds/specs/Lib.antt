@@ -34,3 +34,9 @@ pub mod Moves
 pub mod Missed
 pub mod Silent
 pub mod Endings
+pub mod request_stores
+pub mod control_requests
+pub mod world_requests
+pub mod told_requests
+pub mod request_bytes
+pub mod driver_requests

@@ -28,10 +28,10 @@ use Rattle.driver_rows.specs.declared.rows.Found.TheVariants as founds
 use Rattle.driver_rows.specs.DriverContent.{DriverContent}
 use Rattle.driver_rows.specs.Rows.{Parts}
 use Rattle.driver_rows.specs.Words.{queue_head, dummy_qtd}
-use Rattle.run_owners.specs.Due.{IsHarvestDue}
-use Rattle.chained_transfers.specs.Asynchronous.{OnlyAsynchronous}
+use Rattle.driver_laws.specs.run_owners.Due.{IsHarvestDue}
+use Rattle.driver_laws.specs.chained_transfers.Asynchronous.{OnlyAsynchronous}
 use Rattle.async_walk.specs.declared.state.WalkStep.{WalkStep}
-use Rattle.lent_structures.specs.Structures.{Structure, QueueHead, Element, StructureSets, Tells, put}
+use Rattle.ring_laws.specs.lent_structures.Structures.{Structure, QueueHead, Element, StructureSets, Tells, put}
 use Rattle.ring_laws.specs.Hand.{Hand, Empty, Copied, Settled, Stale}
 use Rattle.ring_laws.specs.Effects.{Effect}
 use Rattle.ring_laws.specs.Fewer.{without_those}

@@ -10,7 +10,7 @@ use Rattle.script_text.specs.Faults.{Spells}
 use Rattle.usb_bus.specs.Bus.{fixed_of}
 use Rattle.bus_world.specs.Budgets.{moment}
 use Rattle.stream_worlds.specs.Takers.{takes_of}
-use Rattle.world_requests.specs.Recorded.{windows_at, asks_at}
+use Rattle.asking_worlds.specs.world_requests.Recorded.{windows_at, asks_at}
 use Rattle.whole_worlds.specs.Feeding.{streams_of}
 use Rattle.whole_worlds.specs.Moments.{IsAsynchronousScript}
 use Rattle.asking_worlds.specs.Asking.{HasAskingWorld}

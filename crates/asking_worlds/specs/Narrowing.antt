@@ -6,12 +6,12 @@
 --     RecordsAreMet              the law of what is recorded
 use Rattle.std.specs.Prelude.{◌≡◌, ◌⊎◌, ℕ, Bool, true, Option, if◌then◌else◌}
 use Rattle.driver_rows.specs.DriverContent.{DriverContent}
-use Rattle.lent_structures.specs.Structures.{StructureSets}
+use Rattle.ring_laws.specs.lent_structures.Structures.{StructureSets}
 use Rattle.report_streams.specs.Requests.{Request}
-use Rattle.request_calls.specs.Bus.{Device}
+use Rattle.declared_endpoints.specs.request_calls.Bus.{Device}
 use Rattle.ring_laws.specs.Hand.{Hand}
 use Rattle.ring_laws.specs.Stores.{IsWider}
-use Rattle.world_requests.specs.Recorded.{Windows}
+use Rattle.asking_worlds.specs.world_requests.Recorded.{Windows}
 use Rattle.asking_worlds.specs.Courses.{Course, NoQueue, have_queues, CoursesStand}
 use Rattle.asking_worlds.specs.Records.{Numbers, AreRecords}
 

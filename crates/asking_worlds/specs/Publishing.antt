@@ -6,12 +6,12 @@ use Rattle.std.specs.Prelude.{◌≡◌, ℕ, ◌*◌, ◌≤◌, Bool, List, So
 use Rattle.usb_bus.specs.Bus.{Fixed}
 use Rattle.driver_rows.specs.declared.content.Command.TheVariants as unfinished
 use Rattle.driver_rows.specs.Words.{head_block, opening_head}
-use Rattle.fed_lends.specs.ToLend.{IsToBeLent}
+use Rattle.walked_queues.specs.fed_lends.ToLend.{IsToBeLent}
 use Rattle.report_streams.specs.Requests.{Request}
 use Rattle.ring_laws.specs.Told.{endpoint_of}
 use Rattle.bus_world.specs.World.{World, driver_next}
 use Rattle.stream_worlds.specs.Streaming.{Streams, Standing}
-use Rattle.world_requests.specs.Recorded.{Windows}
+use Rattle.asking_worlds.specs.world_requests.Recorded.{Windows}
 use Rattle.whole_worlds.specs.Whole.{IsWhole}
 use Rattle.asking_worlds.specs.Asking.{Sides, Asking, IsAskingWorld, HasAskingWorld}
 

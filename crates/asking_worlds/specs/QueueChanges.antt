@@ -19,20 +19,20 @@ use Rattle.link_words.specs.Links.{qtd_link_of}
 use Rattle.qh_qtd.specs.declared.qtd.Qtd.{Qtd}
 use Rattle.qh_qtd.specs.declared.queue_head.Qh.{Qh}
 use Rattle.walk_copy.specs.Visits.{next_pointer}
-use Rattle.lent_structures.specs.Structures.{QueueHead, Element, StructureSets, put}
-use Rattle.lent_structures.specs.Sound.{IsMember}
+use Rattle.ring_laws.specs.lent_structures.Structures.{QueueHead, Element, StructureSets, put}
+use Rattle.ring_laws.specs.lent_structures.Sound.{IsMember}
 use Rattle.control_stages.specs.Stages.{Stages}
 use Rattle.report_streams.specs.Requests.{Request}
 use Rattle.request_windows.specs.Line.{Line}
-use Rattle.request_calls.specs.Bus.{Device}
+use Rattle.declared_endpoints.specs.request_calls.Bus.{Device}
 use Rattle.ring_laws.specs.Hand.{Hand}
 use Rattle.ring_laws.specs.Ring.{IsInHand}
 use Rattle.ring_laws.specs.Stores.{hand_stale}
 use Rattle.ring_laws.specs.Told.{HasEndpoint, endpoint_of, Endpoint as Characteristics}
-use Rattle.ring_requests.specs.Laid.{Places}
-use Rattle.ring_requests.specs.Windows.{Queue, sent_at, Lines, lines_at, opened, HasEnded, IsActedOnce, IsQueue, IsElsewhere}
-use Rattle.ring_requests.specs.Resting.{IsAtRest, IsStopped}
-use Rattle.request_stores.specs.Published.{IsNextRequest, with_request, without_first}
+use Rattle.declared_endpoints.specs.ring_requests.Laid.{Places}
+use Rattle.declared_endpoints.specs.ring_requests.Windows.{Queue, sent_at, Lines, lines_at, opened, HasEnded, IsActedOnce, IsQueue, IsElsewhere}
+use Rattle.declared_endpoints.specs.ring_requests.Resting.{IsAtRest, IsStopped}
+use Rattle.asking_worlds.specs.request_stores.Published.{IsNextRequest, with_request, without_first}
 use Rattle.asking_worlds.specs.Courses.{Course, NoQueue, Asks, Rests, AreInLine, have_queues, queues, CoursesStand, with_course}
 
 abbrev pub without_requests : Queue → Queue

@@ -8,16 +8,16 @@ use Rattle.std.specs.Prelude.{◌≡◌, ℕ, ◌==◌, Bool, true, List, Option
 use Rattle.usb_base.specs.declared.packets.Ask.{Ask}
 use Rattle.usb_base.specs.declared.packets.Reply.{Reply}
 use Rattle.hc_core.specs.Controller.{Content}
-use Rattle.lent_structures.specs.Structures.{StructureSets}
+use Rattle.ring_laws.specs.lent_structures.Structures.{StructureSets}
 use Rattle.control_stages.specs.Stages.{Stages}
-use Rattle.request_calls.specs.Bus.{Device, IsControlBus, KeepsDevices}
+use Rattle.declared_endpoints.specs.request_calls.Bus.{Device, IsControlBus, KeepsDevices}
 use Rattle.ring_laws.specs.Hand.{Hand}
 use Rattle.ring_laws.specs.Ring.{Base}
 use Rattle.ring_laws.specs.Told.{HasEndpoint, Endpoint as Characteristics}
-use Rattle.controlled_streams.specs.Control.{IsControlled, ControlEffect}
-use Rattle.ring_requests.specs.Windows.{Queue, Lines, AreWindows, Step, progressed, stepped, HaltedStay}
-use Rattle.control_requests.specs.Events.{IsControlStepOf}
-use Rattle.control_requests.specs.Rests.{IsControlBeside}
+use Rattle.walked_queues.specs.controlled_streams.Control.{IsControlled, ControlEffect}
+use Rattle.declared_endpoints.specs.ring_requests.Windows.{Queue, Lines, AreWindows, Step, progressed, stepped, HaltedStay}
+use Rattle.asking_worlds.specs.control_requests.Events.{IsControlStepOf}
+use Rattle.asking_worlds.specs.control_requests.Rests.{IsControlBeside}
 use Rattle.asking_worlds.specs.Courses.{Course, NoQueue, Asks, Rests, queues, are_asking, all_lines, CoursesStand}
 
 abbrev pub line_after : Option Step → ℕ → Queue → Lines → Lines

@@ -13,15 +13,15 @@
 use Rattle.std.specs.Prelude.{ℕ, ◌==◌, Bool, false, Option}
 use Rattle.qh_qtd.specs.Blank.{blank_token}
 use Rattle.qh_qtd.specs.declared.queue_head.Qh.{Qh}
-use Rattle.lent_structures.specs.Structures.{QueueHead, Element, StructureSets, put}
+use Rattle.ring_laws.specs.lent_structures.Structures.{QueueHead, Element, StructureSets, put}
 use Rattle.control_stages.specs.Stages.{opened}
 use Rattle.request_windows.specs.Samples.{get_device, get_configuration}
-use Rattle.request_calls.specs.Bus.{Device}
-use Rattle.ring_requests.specs.RestSamples.{setup_stalled, stalled_queue}
-use Rattle.ring_requests.specs.Samples.{leads_to, second_setup, first_status, done_queue, done_qtd, stand_at}
-use Rattle.ring_requests.specs.Windows.{Queue, lines_at}
-use Rattle.request_stores.specs.Published.{with_request}
-use Rattle.request_stores.specs.Samples.{first_only, lent_parts, both_now, second_places, device_at}
+use Rattle.declared_endpoints.specs.request_calls.Bus.{Device}
+use Rattle.declared_endpoints.specs.ring_requests.RestSamples.{setup_stalled, stalled_queue}
+use Rattle.declared_endpoints.specs.ring_requests.Samples.{leads_to, second_setup, first_status, done_queue, done_qtd, stand_at}
+use Rattle.declared_endpoints.specs.ring_requests.Windows.{Queue, lines_at}
+use Rattle.asking_worlds.specs.request_stores.Published.{with_request}
+use Rattle.asking_worlds.specs.request_stores.Samples.{first_only, lent_parts, both_now, second_places, device_at}
 use Rattle.asking_worlds.specs.Courses.{Course, NoQueue, Asks, Rests, with_course}
 
 abbrev pub empty : Queue

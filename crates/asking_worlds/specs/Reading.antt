@@ -16,25 +16,25 @@ use Rattle.driver_rows.specs.declared.rows.Found.TheVariants as founds
 use Rattle.driver_rows.specs.DriverContent.{DriverContent}
 use Rattle.driver_rows.specs.Harvests.{note_at, noted}
 use Rattle.driver_rows.specs.Rows.{Parts}
-use Rattle.run_owners.specs.Due.{IsHarvestDue}
-use Rattle.run_owners.specs.Owners.{note_in}
-use Rattle.chained_transfers.specs.Chains.{piece_at}
-use Rattle.chained_transfers.specs.Turns.{IsAtPlace}
-use Rattle.lent_structures.specs.Structures.{StructureSets, Tells}
-use Rattle.lent_structures.specs.Sound.{IsMember}
+use Rattle.driver_laws.specs.run_owners.Due.{IsHarvestDue}
+use Rattle.driver_laws.specs.run_owners.Owners.{note_in}
+use Rattle.driver_laws.specs.chained_transfers.Chains.{piece_at}
+use Rattle.driver_laws.specs.chained_transfers.Turns.{IsAtPlace}
+use Rattle.ring_laws.specs.lent_structures.Structures.{StructureSets, Tells}
+use Rattle.ring_laws.specs.lent_structures.Sound.{IsMember}
 use Rattle.report_streams.specs.Requests.{Request}
 use Rattle.request_windows.specs.Host.{has_data}
 use Rattle.request_windows.specs.Line.{Line}
 use Rattle.request_windows.specs.Windows.{IsRequest, data_of}
-use Rattle.request_calls.specs.Bus.{Device}
+use Rattle.declared_endpoints.specs.request_calls.Bus.{Device}
 use Rattle.ring_laws.specs.Hand.{Hand}
 use Rattle.ring_laws.specs.Told.{Told}
-use Rattle.ring_requests.specs.Laid.{Places, AreApart}
-use Rattle.ring_requests.specs.Windows.{Queue, Lines, sent_at, IsQueue, IsActedOnce}
-use Rattle.request_bytes.specs.Fresh.{next_of}
-use Rattle.driver_requests.specs.Requests.{IsLaidOut}
-use Rattle.told_harvests.specs.Held.{told_of, IsRead}
-use Rattle.told_requests.specs.Rows.{bytes_with}
+use Rattle.declared_endpoints.specs.ring_requests.Laid.{Places, AreApart}
+use Rattle.declared_endpoints.specs.ring_requests.Windows.{Queue, Lines, sent_at, IsQueue, IsActedOnce}
+use Rattle.asking_worlds.specs.request_bytes.Fresh.{next_of}
+use Rattle.asking_worlds.specs.driver_requests.Requests.{IsLaidOut}
+use Rattle.driver_laws.specs.told_harvests.Held.{told_of, IsRead}
+use Rattle.asking_worlds.specs.told_requests.Rows.{bytes_with}
 use Rattle.asking_worlds.specs.Asking.{IsReadTo}
 
 -- ---- what is told of it

@@ -12,11 +12,11 @@ use Rattle.std.specs.List.{AllByRecursion}
 use Rattle.endpoint_laws.specs.Acts.{IsOnce}
 use Rattle.driver_rows.specs.DriverContent.{DriverContent}
 use Rattle.report_streams.specs.Requests.{Request}
-use Rattle.ring_requests.specs.Windows.{Queue, sent_at}
-use Rattle.world_requests.specs.Recorded.{endpoint_of, Windows, numbers_of}
-use Rattle.world_requests.specs.Recording.{AreRecorded}
-use Rattle.driver_requests.specs.Requests.{AreOfEndpoint}
-use Rattle.driver_requests.specs.Behind.{AreBehind}
+use Rattle.declared_endpoints.specs.ring_requests.Windows.{Queue, sent_at}
+use Rattle.asking_worlds.specs.world_requests.Recorded.{endpoint_of, Windows, numbers_of}
+use Rattle.asking_worlds.specs.world_requests.Recording.{AreRecorded}
+use Rattle.asking_worlds.specs.driver_requests.Requests.{AreOfEndpoint}
+use Rattle.asking_worlds.specs.driver_requests.Behind.{AreBehind}
 use Rattle.asking_worlds.specs.Courses.{Course, NoQueue, Asks, Rests, queue_in, have_queues}
 
 pub record Numbers : Type 0 where

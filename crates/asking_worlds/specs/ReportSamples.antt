@@ -13,7 +13,7 @@ use Rattle.report_streams.specs.Requests.{Request}
 use Rattle.report_streams.specs.Samples.{line_of}
 use Rattle.request_windows.specs.Samples.{described, descriptor}
 use Rattle.request_windows.specs.Windows.{data_of}
-use Rattle.driver_requests.specs.Samples.{endpoint, first, second, driver}
+use Rattle.asking_worlds.specs.driver_requests.Samples.{endpoint, first, second, driver}
 
 abbrev pub name : EpName
 name = endpoint.desc.name

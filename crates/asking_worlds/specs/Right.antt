@@ -8,13 +8,13 @@ use Rattle.std.specs.List.{AllByRecursion}
 use Rattle.usb_base.specs.declared.endpoints.EpName.{EpName}
 use Rattle.endpoint_laws.specs.Acts.{IsOnce}
 use Rattle.usb_bus.specs.Bus.{Fixed}
-use Rattle.lent_structures.specs.Structures.{StructureSets}
+use Rattle.ring_laws.specs.lent_structures.Structures.{StructureSets}
 use Rattle.driver_rows.specs.DriverContent.{DriverContent}
 use Rattle.report_streams.specs.Requests.{Request, Window, has_acted}
 use Rattle.ring_laws.specs.Hand.{Hand}
 use Rattle.bus_world.specs.World.{World}
-use Rattle.world_requests.specs.Recorded.{Windows, windows_of}
-use Rattle.told_requests.specs.Told.{RequestsAreToldTo}
+use Rattle.asking_worlds.specs.world_requests.Recorded.{Windows, windows_of}
+use Rattle.asking_worlds.specs.told_requests.Told.{RequestsAreToldTo}
 use Rattle.asking_worlds.specs.Courses.{Course, have_queues}
 use Rattle.asking_worlds.specs.Records.{Numbers, AreRecords}
 use Rattle.asking_worlds.specs.Counts.{Counts, side_at}

@@ -5,9 +5,9 @@ use Rattle.std.specs.Prelude.{ℕ}
 use Rattle.usb_base.specs.declared.commands.Cmd.{Cmd}
 use Rattle.run_book.specs.Book.{holding, Stands}
 use Rattle.driver_rows.specs.Rows.{Parts, driver_row, after_driver_row}
-use Rattle.run_owners.specs.Kept.{HasOwners}
-use Rattle.chained_transfers.specs.Asynchronous.{OnlyAsynchronous, OpensAsynchronous}
-use Rattle.chained_transfers.specs.AsynchronousTurns.{AsynchronousTakesTurns}
+use Rattle.driver_laws.specs.run_owners.Kept.{HasOwners}
+use Rattle.driver_laws.specs.chained_transfers.Asynchronous.{OnlyAsynchronous, OpensAsynchronous}
+use Rattle.driver_laws.specs.chained_transfers.AsynchronousTurns.{AsynchronousTakesTurns}
 use Rattle.bus_world.specs.World.{World, commanded}
 use Rattle.asking_worlds.specs.Reading.{AreSilent}
 

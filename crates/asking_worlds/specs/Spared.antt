@@ -10,19 +10,19 @@ use Rattle.std.specs.Prelude.{◌≡◌, ◌≢◌, ◌⊎◌, ℕ, ◌<◌, Boo
 use Rattle.link_words.specs.declared.fields.LinkBits.{LinkBits}
 use Rattle.qh_qtd.specs.declared.qtd.Qtd.{Qtd}
 use Rattle.qh_qtd.specs.declared.queue_head.Qh.{Qh}
-use Rattle.lent_structures.specs.Structures.{Structure, QueueHead, Element, Buffer, Structures, StructureSets, put}
-use Rattle.lent_structures.specs.Sound.{buffer_name}
+use Rattle.ring_laws.specs.lent_structures.Structures.{Structure, QueueHead, Element, Buffer, Structures, StructureSets, put}
+use Rattle.ring_laws.specs.lent_structures.Sound.{buffer_name}
 use Rattle.request_windows.specs.Host.{Stage}
-use Rattle.request_calls.specs.Bus.{Device}
+use Rattle.declared_endpoints.specs.request_calls.Bus.{Device}
 use Rattle.ring_laws.specs.Hand.{Hand}
 use Rattle.ring_laws.specs.Effects.{buffer_of}
 use Rattle.ring_laws.specs.Fewer.{without_those}
 use Rattle.ring_laws.specs.Sparing.{SameHand, SparesHead}
 use Rattle.ring_laws.specs.Stores.{hand_linked}
 use Rattle.ring_laws.specs.Told.{HasEndpoint, Endpoint as Characteristics}
-use Rattle.ring_requests.specs.Laid.{place_at, IsIdle}
-use Rattle.ring_requests.specs.Windows.{Queue}
-use Rattle.ring_requests.specs.Resting.{HeadStays, SameSide}
+use Rattle.declared_endpoints.specs.ring_requests.Laid.{place_at, IsIdle}
+use Rattle.declared_endpoints.specs.ring_requests.Windows.{Queue}
+use Rattle.declared_endpoints.specs.ring_requests.Resting.{HeadStays, SameSide}
 use Rattle.asking_worlds.specs.Courses.{Course, tail_in, have_queues, queues, CoursesStand}
 
 -- the buffer of a qTD, if it has one

@@ -33,11 +33,11 @@ use Rattle.driver_rows.specs.DriverContent.{DriverContent, waits_for}
 use Rattle.driver_rows.specs.Harvests.{is_stall}
 use Rattle.driver_rows.specs.Words.{is_control}
 use Rattle.driver_rows.specs.Rows.{Parts, after_driver_row}
-use Rattle.told_endpoints.specs.Telling.{lines_in}
-use Rattle.world_requests.specs.Recorded.{Windows, numbers_of, window_at, windows_of}
-use Rattle.told_requests.specs.Told.{is_cancel, has_cancel, AreToldTo, RequestsAreToldTo}
-use Rattle.told_requests.specs.Rows.{adds_lines, IsHarvested, ReturnsOther, bytes_with}
-use Rattle.told_requests.specs.Waiting.{waiting}
+use Rattle.walked_queues.specs.told_endpoints.Telling.{lines_in}
+use Rattle.asking_worlds.specs.world_requests.Recorded.{Windows, numbers_of, window_at, windows_of}
+use Rattle.asking_worlds.specs.told_requests.Told.{is_cancel, has_cancel, AreToldTo, RequestsAreToldTo}
+use Rattle.asking_worlds.specs.told_requests.Rows.{adds_lines, IsHarvested, ReturnsOther, bytes_with}
+use Rattle.asking_worlds.specs.told_requests.Waiting.{waiting}
 
 pub record IsTelling (d : DriverContent) (asks : ℕ → Request) (e : ℕ) (name : EpName) (whole : Request → List ℕ) (v : Windows) (reported waits : List ℕ) : Type 0 where
   pub numbers : numbers_of d e ≡ reported ++ waits

@@ -26,21 +26,21 @@ use Rattle.driver_rows.specs.DriverContent.{DriverContent}
 use Rattle.driver_rows.specs.Offers.{Offered}
 use Rattle.driver_rows.specs.Rows.{Parts, after_driver_row}
 use Rattle.driver_rows.specs.Words.{request_stages}
-use Rattle.run_owners.specs.Accepts.{Transfers}
-use Rattle.run_owners.specs.Kept.{HasOwners}
-use Rattle.lent_structures.specs.Structures.{StructureSets}
+use Rattle.driver_laws.specs.run_owners.Accepts.{Transfers}
+use Rattle.driver_laws.specs.run_owners.Kept.{HasOwners}
+use Rattle.ring_laws.specs.lent_structures.Structures.{StructureSets}
 use Rattle.control_stages.specs.Stages.{Stages}
 use Rattle.report_streams.specs.Requests.{Request}
-use Rattle.request_calls.specs.Bus.{Device}
+use Rattle.declared_endpoints.specs.request_calls.Bus.{Device}
 use Rattle.ring_laws.specs.Hand.{Hand}
-use Rattle.ring_requests.specs.Laid.{Places}
-use Rattle.ring_requests.specs.Windows.{Queue, Lines, lines_at, IsQueue}
-use Rattle.ring_requests.specs.Runs.{first_of}
-use Rattle.request_stores.specs.Published.{with_request, without_first}
-use Rattle.request_bytes.specs.Fresh.{request_places}
-use Rattle.world_requests.specs.Recorded.{Windows, asks_then, numbers_of}
-use Rattle.driver_requests.specs.Requests.{IsOfEndpoint}
-use Rattle.driver_requests.specs.Rows.{KeepsRequests, number_with, given_by, KeepsEndpoint}
+use Rattle.declared_endpoints.specs.ring_requests.Laid.{Places}
+use Rattle.declared_endpoints.specs.ring_requests.Windows.{Queue, Lines, lines_at, IsQueue}
+use Rattle.declared_endpoints.specs.ring_requests.Runs.{first_of}
+use Rattle.asking_worlds.specs.request_stores.Published.{with_request, without_first}
+use Rattle.asking_worlds.specs.request_bytes.Fresh.{request_places}
+use Rattle.asking_worlds.specs.world_requests.Recorded.{Windows, asks_then, numbers_of}
+use Rattle.asking_worlds.specs.driver_requests.Requests.{IsOfEndpoint}
+use Rattle.asking_worlds.specs.driver_requests.Rows.{KeepsRequests, number_with, given_by, KeepsEndpoint}
 use Rattle.asking_worlds.specs.Courses.{Course, NoQueue, Asks, Rests, queue_in, have_queues, with_course}
 use Rattle.asking_worlds.specs.QueueChanges.{without_requests, lines_behind, mended_course}
 use Rattle.asking_worlds.specs.Records.{Numbers, IsRecord, AreRecords}

@@ -6,23 +6,23 @@
 use Rattle.std.specs.Prelude.{◌≡◌, ℕ, Bool, true, slice_get, Some}
 use Rattle.std.specs.List.{AllByRecursion}
 use Rattle.usb_bus.specs.Bus.{Fixed}
-use Rattle.lent_structures.specs.Structures.{StructureSets}
+use Rattle.ring_laws.specs.lent_structures.Structures.{StructureSets}
 use Rattle.driver_rows.specs.declared.content.Endpoint.{Endpoint as DriverEndpoint}
 use Rattle.driver_rows.specs.DriverContent.{DriverContent}
-use Rattle.run_owners.specs.Owners.{views_of}
-use Rattle.run_owners.specs.Kept.{HasOwners}
+use Rattle.driver_laws.specs.run_owners.Owners.{views_of}
+use Rattle.driver_laws.specs.run_owners.Kept.{HasOwners}
 use Rattle.report_streams.specs.Requests.{Request}
 use Rattle.control_stages.specs.Stages.{Stages}
 use Rattle.ring_laws.specs.Hand.{Hand}
 use Rattle.ring_laws.specs.Ring.{Base}
-use Rattle.ring_requests.specs.Windows.{Queue}
-use Rattle.controlled_streams.specs.Control.{IsOn, IsControlled, Controls}
-use Rattle.scripted_requests.specs.Controls.{control_of, transacts_by, begins_by}
+use Rattle.declared_endpoints.specs.ring_requests.Windows.{Queue}
+use Rattle.walked_queues.specs.controlled_streams.Control.{IsOn, IsControlled, Controls}
+use Rattle.declared_endpoints.specs.scripted_requests.Controls.{control_of, transacts_by, begins_by}
 use Rattle.driver_laws.specs.Inventory.{sorts_of, IsDriven}
 use Rattle.bus_world.specs.World.{World, controller_next, controller_parts}
-use Rattle.world_requests.specs.Requesting.{wired}
-use Rattle.world_requests.specs.Recorded.{Windows, after_event, numbers_of}
-use Rattle.driver_requests.specs.Requests.{HaveQtds}
+use Rattle.asking_worlds.specs.world_requests.Requesting.{wired}
+use Rattle.asking_worlds.specs.world_requests.Recorded.{Windows, after_event, numbers_of}
+use Rattle.asking_worlds.specs.driver_requests.Requests.{HaveQtds}
 use Rattle.asking_worlds.specs.Courses.{Course, Rests, have_queues, CoursesStand}
 use Rattle.asking_worlds.specs.QueueEvents.{courses_after, CoursesGoOn}
 use Rattle.asking_worlds.specs.Records.{Numbers, AreRecords}

@@ -7,10 +7,10 @@
 --     first_done, then_next  the windows of the requests' lines then, and once the controller went on to the second
 use Rattle.std.specs.Prelude.{ℕ, ◌==◌, Bool, false, List, [], ◌∷◌, Some, None, if◌then◌else◌}
 use Rattle.request_windows.specs.Samples.{get_device}
-use Rattle.ring_requests.specs.Samples.{first_done as first_steps}
-use Rattle.ring_requests.specs.Windows.{Queue, Lines, Progress, Advance, progressed}
-use Rattle.world_requests.specs.Recorded.{Windows, no_windows, recorded}
-use Rattle.driver_requests.specs.Samples.{driver, requests, begun}
+use Rattle.declared_endpoints.specs.ring_requests.Samples.{first_done as first_steps}
+use Rattle.declared_endpoints.specs.ring_requests.Windows.{Queue, Lines, Progress, Advance, progressed}
+use Rattle.asking_worlds.specs.world_requests.Recorded.{Windows, no_windows, recorded}
+use Rattle.asking_worlds.specs.driver_requests.Samples.{driver, requests, begun}
 use Rattle.asking_worlds.specs.Courses.{Course, NoQueue, Asks, with_course}
 use Rattle.asking_worlds.specs.Records.{Numbers}
 use Rattle.asking_worlds.specs.TransferChanges.{first_closed}

@@ -4,7 +4,7 @@
 --     DriverKeepsAsking        an event of the driver, which has noted no bytes to tell of the SETUP and of the status of a request
 use Rattle.std.specs.Prelude.{◌≡◌, ℕ, ◌*◌, Bool, Ok}
 use Rattle.usb_base.specs.declared.commands.Cmd.{Cmd}
-use Rattle.byte_answers.specs.Bytes.{IsByteCommand}
+use Rattle.script_laws.specs.byte_answers.Bytes.{IsByteCommand}
 use Rattle.usb_bus.specs.Bus.{Fixed}
 use Rattle.driver_rows.specs.Offers.{Offered, offered, IsOffered}
 use Rattle.driver_rows.specs.Words.{head_block, opening_head}
@@ -12,9 +12,9 @@ use Rattle.report_streams.specs.Requests.{Request}
 use Rattle.ring_laws.specs.Told.{endpoint_of}
 use Rattle.bus_world.specs.World.{World, driver_next, commanded}
 use Rattle.stream_worlds.specs.Streaming.{Streams, Standing}
-use Rattle.world_requests.specs.Recorded.{Windows, asks_then}
-use Rattle.chained_transfers.specs.Asynchronous.{OpensAsynchronous}
-use Rattle.walk_members.specs.Reached.{OpensNumbered}
+use Rattle.asking_worlds.specs.world_requests.Recorded.{Windows, asks_then}
+use Rattle.driver_laws.specs.chained_transfers.Asynchronous.{OpensAsynchronous}
+use Rattle.driver_laws.specs.walk_members.Reached.{OpensNumbered}
 use Rattle.whole_worlds.specs.LeftLaws.{OpensNamed}
 use Rattle.whole_worlds.specs.Whole.{IsWhole}
 use Rattle.whole_worlds.specs.Laws.{OpensTo}

@@ -11,12 +11,29 @@
 //!   how often the devices acted.
 //! - The other modules: all of this of whole worlds, along each event of the driver and of the controller and each command, and at each moment of each text that
 //!   opens bulk and control endpoints of devices.
+//! - `request_stores`: A control request is published behind the others of its endpoint while the walk goes on (EHCI 1.0, 3.5, 4.10 and 4.10.2; USB 2.0,
+//!   8.5.3).
+//! - `control_requests`: The controller over a ring, and the requests of its control endpoints (EHCI 1.0, 4.6 and 4.10; USB 2.0, 8.5.3): each event of the
+//!   controller is at most one transaction of one of the requests, or the advance of one queue head to its next request, and how host and device stand to each
+//!   other is kept, whatever the bus loses.
+//! - `world_requests`: The control requests of a world (EHCI 1.0, 4.6, 4.8 and 4.10; USB 2.0, 8.5.3): each event of the controller is at most one transaction
+//!   of one of the requests, or the advance of one queue head to its next request, and leaves all windows as they must stand, so that at any moment a request
+//!   whose status memory shows to have ended was acted on exactly once by its scripted device.
+//! - `request_bytes`: The bytes of a control transfer's SETUP and of its data OUT in the buffers that the driver took for them (EHCI 1.0, 3.5.4 and 4.10; USB
+//!   2.0, 9.3): they stand there once the request was accepted, and stay until the buffers are lent; then its qTDs are as a new request's must be.
+//! - `driver_requests`: The control requests of a driver's endpoints are those of the ring's queue heads (EHCI 1.0, 3.5, 3.6 and 4.10; USB 2.0, 8.5.3): each is
+//!   a transfer, and is found by the place of its SETUP.
+//! - `told_requests`: What the report of a world tells of control requests (EHCI 1.0, 4.10; USB 2.0, 8.5.3): each line of a control endpoint tells of one
+//!   request, in their order; its closing line tells how often the device acted; and the requests of a driver's transfers are those that the script has for the
+//!   endpoint by the report.
 //!
 //! The crate has no code of its own: each function is a law, and its body is empty.
 #![tactic(auto)]
 
 pub mod asking_laws;
 pub mod commands;
+pub mod control_requests;
+pub mod driver_requests;
 pub mod harvests;
 pub mod leaves;
 pub mod no_misses;
@@ -25,7 +42,11 @@ pub mod queue_laws;
 pub mod queue_worked;
 pub mod report_laws;
 pub mod report_worked;
+pub mod request_bytes;
+pub mod request_stores;
 pub mod texts;
 pub mod told_data;
+pub mod told_requests;
 pub mod transfer_laws;
 pub mod transfer_worked;
+pub mod world_requests;

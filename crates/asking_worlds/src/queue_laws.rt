@@ -1,6 +1,6 @@
 //! The laws.
 ghost use Rattle.std.specs.Prelude.{ℕ, Option};
-ghost use Rattle.request_calls.specs.Bus.{Device};
+ghost use Rattle.declared_endpoints.specs.request_calls.Bus.{Device};
 ghost use Rattle.asking_worlds.specs.QueueEvents.{EventKeepsCourses, EventLeavesDevice};
 ghost use Rattle.asking_worlds.specs.Spared.{CoursesAreSpared, StoreSparesCourses, LendSparesCourses, ReleaseSparesCourses, LinkSparesCourses};
 ghost use Rattle.asking_worlds.specs.Coming.{LentIsComing, StoreKeepsComing, EventKeepsComing, ComingIsPublished};

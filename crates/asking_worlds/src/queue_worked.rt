@@ -2,10 +2,10 @@
 ghost use Rattle.ring_laws.specs.Hand.{Empty};
 ghost use Rattle.control_stages.specs.Stages.{opened};
 ghost use Rattle.request_windows.specs.Samples.{get_configuration as GetConfiguration};
-ghost use Rattle.ring_requests.specs.Samples.{second_setup as SecondSetup};
-ghost use Rattle.ring_requests.specs.Windows.{sent_at, HasEnded};
-ghost use Rattle.ring_requests.specs.Resting.{IsStopped};
-ghost use Rattle.request_stores.specs.Samples.{waiting_parts as WaitingParts, asked_parts as AskedParts, ended_parts as EndedParts, lent_parts as LentParts, first_only as FirstOnly, second_places as SecondPlaces, both as Both, device_at as DeviceAt};
+ghost use Rattle.declared_endpoints.specs.ring_requests.Samples.{second_setup as SecondSetup};
+ghost use Rattle.declared_endpoints.specs.ring_requests.Windows.{sent_at, HasEnded};
+ghost use Rattle.declared_endpoints.specs.ring_requests.Resting.{IsStopped};
+ghost use Rattle.asking_worlds.specs.request_stores.Samples.{waiting_parts as WaitingParts, asked_parts as AskedParts, ended_parts as EndedParts, lent_parts as LentParts, first_only as FirstOnly, second_places as SecondPlaces, both as Both, device_at as DeviceAt};
 ghost use Rattle.asking_worlds.specs.Coming.{IsComing};
 ghost use Rattle.asking_worlds.specs.Courses.{IsResting, CoursesStand};
 ghost use Rattle.asking_worlds.specs.QueueSamples.{is_one as IsOne, the_device as TheDevice, waits, asks, one, halted_parts as HaltedParts, behind_parts as BehindParts, mended_parts as MendedParts, halted, behind, goes_on as GoesOn, done_parts as DoneParts};

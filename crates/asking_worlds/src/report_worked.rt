@@ -1,10 +1,10 @@
 //! Worked lines, which the check computes.
 ghost use Rattle.std.specs.Prelude.{◌≡◌, [], ◌∷◌};
 ghost use Rattle.request_windows.specs.Samples.{descriptor};
-ghost use Rattle.ring_requests.specs.Samples.{asked};
-ghost use Rattle.request_stores.specs.Published.{without_first};
-ghost use Rattle.world_requests.specs.Recorded.{no_windows};
-ghost use Rattle.driver_requests.specs.Samples.{driver, requests, begun};
+ghost use Rattle.declared_endpoints.specs.ring_requests.Samples.{asked};
+ghost use Rattle.asking_worlds.specs.request_stores.Published.{without_first};
+ghost use Rattle.asking_worlds.specs.world_requests.Recorded.{no_windows};
+ghost use Rattle.asking_worlds.specs.driver_requests.Samples.{driver, requests, begun};
 ghost use Rattle.asking_worlds.specs.QueueChanges.{lines_behind};
 ghost use Rattle.asking_worlds.specs.Courses.{Asks};
 ghost use Rattle.asking_worlds.specs.TransferSamples.{both, one, first_acted as FirstActed, then_next as ThenNext};

@@ -1,8 +1,8 @@
 //! Worked records, which the check computes.
-ghost use Rattle.request_stores.specs.Published.{without_first};
-ghost use Rattle.ring_requests.specs.Samples.{asked};
-ghost use Rattle.world_requests.specs.Recorded.{no_windows};
-ghost use Rattle.driver_requests.specs.Samples.{driver, requests, begun};
+ghost use Rattle.asking_worlds.specs.request_stores.Published.{without_first};
+ghost use Rattle.declared_endpoints.specs.ring_requests.Samples.{asked};
+ghost use Rattle.asking_worlds.specs.world_requests.Recorded.{no_windows};
+ghost use Rattle.asking_worlds.specs.driver_requests.Samples.{driver, requests, begun};
 ghost use Rattle.asking_worlds.specs.QueueChanges.{lines_behind};
 ghost use Rattle.asking_worlds.specs.Records.{AreRecords};
 ghost use Rattle.asking_worlds.specs.TransferSamples.{courses, both, one, none_gone as NoneGone, first_acted as FirstActed, first_done as FirstDone, then_next as ThenNext};

@@ -4,3 +4,4 @@ pub mod Texts
 pub mod Seats
 pub mod Senders
 pub mod Owning
+pub mod lemmas

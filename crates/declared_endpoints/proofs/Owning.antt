@@ -9,7 +9,7 @@ use Rattle.script_types.specs.declared.devices.EpText.{EpText}
 use Rattle.script_types.specs.declared.scripts.Script.{Script}
 use Rattle.script_world.specs.Draft.{Draft, Placed, device_text, script_of}
 use Rattle.script_text.specs.Faults.{Spells}
-use Rattle.opening_senders.specs.Own.{HasOwnDevices}
+use Rattle.declared_endpoints.specs.opening_senders.Own.{HasOwnDevices}
 use Rattle.declared_endpoints.proofs.Lists.{all_more}
 use Rattle.declared_endpoints.proofs.Drafts.{IsApart, AreApart, addresses, IsEpOf, HasOwn, IsDeclaredDraft}
 use Rattle.declared_endpoints.proofs.Texts.{spelled_kept}

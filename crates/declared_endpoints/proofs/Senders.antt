@@ -32,7 +32,7 @@ use Rattle.usb_bus.specs.Bus.{opening_bus, opening_wired}
 use Rattle.report_streams.specs.Streams.{items_of, items_in}
 use Rattle.scripted_streams.specs.Senders.{sender_of_part, sender_of_endpoint, sender_of_device, sender_of}
 use Rattle.scripted_streams.proofs.Asking.{sender_through}
-use Rattle.declared_endpoints.specs.Declared.{HasItsSender, OpensItsSender, OpensSenders}
+use Rattle.declared_endpoints.specs.DeclaredEndpoints.{HasItsSender, OpensItsSender, OpensSenders}
 use Rattle.declared_endpoints.proofs.Lists.{Holds, all_append, all_at, all_find, any_later, any_found, found_passes, IsFirst, found_first, none_each, find_append, find_later, find_same, find_map}
 use Rattle.declared_endpoints.proofs.Drafts.{addresses, IsEpOf, HasOwn, IsKnownDesc, IsKnownLine, IsDeclaredDraft, after_declared}
 use Rattle.declared_endpoints.proofs.Texts.{Keeps, is_new, spelled_kept}

@@ -2,8 +2,8 @@
 ghost use Rattle.std.specs.Prelude.{ℕ, List};
 ghost use Rattle.script_types.specs.declared.scripts.Script.{Script as Told};
 ghost use Rattle.script_text.specs.Faults.{Spells};
-ghost use Rattle.opening_senders.specs.Own.{HasOwnDevices};
-ghost use Rattle.declared_endpoints.specs.Declared.{OpensSenders};
+ghost use Rattle.declared_endpoints.specs.opening_senders.Own.{HasOwnDevices};
+ghost use Rattle.declared_endpoints.specs.DeclaredEndpoints.{OpensSenders};
 
 /// Each high-speed bulk IN endpoint that a text opens has its sender on the bus of the script.
 pub fn an_opened_endpoint_has_its_sender()

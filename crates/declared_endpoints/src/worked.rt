@@ -2,7 +2,7 @@
 ghost use Rattle.std.specs.Prelude.{◌≡◌, ℕ, List, [], ◌∷◌, false, Some, None};
 ghost use Rattle.script_types.specs.declared.scripts.Script.{Script as Told};
 ghost use Rattle.declared_endpoints.specs.Samples.{two_senders, second};
-ghost use Rattle.declared_endpoints.specs.Declared.{HasItsSender, OpensSenders};
+ghost use Rattle.declared_endpoints.specs.DeclaredEndpoints.{HasItsSender, OpensSenders};
 ghost use Rattle.scripted_streams.specs.Senders.{sender_of};
 ghost use Rattle.usb_bus.specs.Bus.{opening_wired};
 

@@ -28,14 +28,14 @@ use Rattle.driver_rows.specs.declared.content.Command.{Command}
 use Rattle.driver_rows.specs.DriverContent.{DriverContent}
 use Rattle.driver_rows.specs.Words.{buffer_needs}
 use Rattle.driver_rows.specs.Offers.{Offered, Descriptors, new_runs, total_of, slot_runs, descriptor_blocks, iso_needs, descriptor_note, descriptor_transfer, one_descriptor, all_descriptors, entered_iso}
-use Rattle.run_owners.specs.Owners.{SlotHas}
-use Rattle.run_owners.specs.Kept.{HasOwners}
-use Rattle.run_owners.proofs.Taking.{AreTaken, runs_taken}
-use Rattle.run_owners.proofs.Chains.{few_runs}
-use Rattle.run_owners.proofs.Accepted.{drop_first}
-use Rattle.lent_runs.specs.Lent.{AreLent, still_lends}
-use Rattle.ring_members.proofs.Stores.{AreApart, slots_apart, words_elsewhere}
-use Rattle.ring_members.proofs.Accepted.{shaped_taken}
+use Rattle.driver_laws.specs.run_owners.Owners.{SlotHas}
+use Rattle.driver_laws.specs.run_owners.Kept.{HasOwners}
+use Rattle.driver_laws.proofs.lemmas.run_owners.Taking.{AreTaken, runs_taken}
+use Rattle.driver_laws.proofs.lemmas.run_owners.Chains.{few_runs}
+use Rattle.driver_laws.proofs.lemmas.run_owners.Accepted.{drop_first}
+use Rattle.driver_laws.specs.lent_runs.Lent.{AreLent, still_lends}
+use Rattle.driver_laws.proofs.lemmas.ring_members.Stores.{AreApart, slots_apart, words_elsewhere}
+use Rattle.driver_laws.proofs.lemmas.ring_members.Accepted.{shaped_taken}
 use Rattle.driver_laws.specs.Written.{IsPageRun, AreRuns, AreAllApart}
 use Rattle.driver_laws.proofs.Lists.{IsOneOf, at_one, each_of, apart_by_place}
 use Rattle.driver_laws.proofs.Buffers.{runs_at, runs_keep}

@@ -5,18 +5,18 @@ use Rattle.usb_base.specs.declared.endpoints.EpDesc.{EpDesc}
 use Rattle.run_book.specs.Book.{holding, Stands}
 use Rattle.driver_rows.specs.DriverContent.{DriverContent}
 use Rattle.driver_rows.specs.Rows.{Parts}
-use Rattle.run_owners.specs.Owners.{views_of}
-use Rattle.run_owners.specs.Kept.{HasOwners}
+use Rattle.driver_laws.specs.run_owners.Owners.{views_of}
+use Rattle.driver_laws.specs.run_owners.Kept.{HasOwners}
 use Rattle.hc_core.specs.Controller.{Content}
-use Rattle.lent_structures.specs.Structures.{Structure, QueueHead, Table, Isochronous, SplitIsochronous, Structures, StructureSets, Tells}
-use Rattle.lent_structures.proofs.Telling.{told_still}
-use Rattle.lent_structures.specs.Sound.{IsMember}
+use Rattle.ring_laws.specs.lent_structures.Structures.{Structure, QueueHead, Table, Isochronous, SplitIsochronous, Structures, StructureSets, Tells}
+use Rattle.ring_laws.proofs.lemmas.lent_structures.Telling.{told_still}
+use Rattle.ring_laws.specs.lent_structures.Sound.{IsMember}
 use Rattle.ring_laws.specs.Hand.{Hand}
 use Rattle.ring_laws.specs.Ring.{Base}
 use Rattle.frame_walk.specs.Met.{Kind, AQueue, AnItd, ASitd, IsMetAs}
 use Rattle.frame_walk.specs.FrameHand.{FrameHand}
-use Rattle.frame_control.specs.Both.{RunsBoth}
-use Rattle.frame_stores.proofs.Beside.{both_left}
+use Rattle.frame_laws.specs.frame_control.Both.{RunsBoth}
+use Rattle.frame_laws.proofs.lemmas.frame_stores.Beside.{both_left}
 use Rattle.described_parts.specs.Described.{AreHeld}
 use Rattle.described_parts.specs.Both.{owns, both}
 use Rattle.described_parts.specs.PartLaws.{IsDescribing}

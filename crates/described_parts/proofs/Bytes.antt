@@ -14,12 +14,12 @@ use Rattle.run_book.specs.declared.slots.Slot.{Slot}
 use Rattle.run_book.specs.declared.slots.Slot.TheVariants.{Keeps}
 use Rattle.run_book.specs.Book.{Holding, slot_of, Stands}
 use Rattle.run_book.proofs.Standing.{keeps_at, keeps_all}
-use Rattle.run_owners.specs.Owners.{SlotHas}
-use Rattle.run_owners.proofs.Apart.{runs_apart}
+use Rattle.driver_laws.specs.run_owners.Owners.{SlotHas}
+use Rattle.driver_laws.proofs.lemmas.run_owners.Apart.{runs_apart}
 use Rattle.periodic_rows.specs.Descriptors.{buffer_address}
 use Rattle.driver_rows.specs.Words.{pieces, buffer_needs}
-use Rattle.lent_structures.specs.Structures.{HoldsBuffer}
-use Rattle.lent_structures.proofs.Standing.{reaches_if}
+use Rattle.ring_laws.specs.lent_structures.Structures.{HoldsBuffer}
+use Rattle.ring_laws.proofs.lemmas.lent_structures.Standing.{reaches_if}
 use Rattle.driver_laws.specs.Written.{AreRuns, AreAllApart}
 use Rattle.driver_laws.proofs.Lists.{at_one}
 use Rattle.driver_laws.proofs.Buffers.{take_same, runs_at, runs_keep, apart_at, needs_case}

@@ -27,13 +27,13 @@ use Rattle.driver_rows.specs.Opening.{opening}
 use Rattle.driver_rows.specs.Offers.{Offered, offered, first_end, endpoint_members, with_cancel}
 use Rattle.driver_rows.specs.Harvests.{noted, end_of, is_stall, reported}
 use Rattle.driver_rows.specs.Rows.{Parts, events_of, links, leave_ring, leave_frames, no_command, removal_of, finished, or_finished, linked_on, advanced_by, framed_by, framed_notes, with_notes, placement_at, linked_by, after_unlink, after_transfer, after_endpoint, after_descriptor, after_placed, after_removed, freed_by, cancelled_bytes, cancel_told, is_told, told_with, behind_one, behind, after_end, harvested_as, served, after_harvest, driver_row, after_driver_row}
-use Rattle.run_owners.specs.Accepts.{Accepts, opens, chains, places, transfers, describes, cancels, unchains, Unchains}
-use Rattle.run_owners.specs.Due.{IsDue}
-use Rattle.run_owners.specs.Kept.{HasOwners}
-use Rattle.run_owners.proofs.Commands.{accepted_for_a_reason}
-use Rattle.run_owners.proofs.Reasons.{each_is_due}
-use Rattle.run_owners.proofs.Released.{set_here}
-use Rattle.listed_members.specs.Listed.{IsListed}
+use Rattle.driver_laws.specs.run_owners.Accepts.{Accepts, opens, chains, places, transfers, describes, cancels, unchains, Unchains}
+use Rattle.driver_laws.specs.run_owners.Due.{IsDue}
+use Rattle.driver_laws.specs.run_owners.Kept.{HasOwners}
+use Rattle.driver_laws.proofs.lemmas.run_owners.Commands.{accepted_for_a_reason}
+use Rattle.driver_laws.proofs.lemmas.run_owners.Reasons.{each_is_due}
+use Rattle.driver_laws.proofs.lemmas.run_owners.Released.{set_here}
+use Rattle.driver_laws.specs.listed_members.Listed.{IsListed}
 use Rattle.described_parts.specs.ListRows.{LeavesChained}
 
 -- ---- where no command unlinks members

@@ -16,16 +16,16 @@ use Rattle.periodic_list.specs.Periodic.{address_of}
 use Rattle.driver_rows.specs.DriverContent.{DriverContent}
 use Rattle.hc_core.specs.declared.controller.MicroframePart.TheVariants.{Over}
 use Rattle.hc_core.specs.Controller.{Content, began}
-use Rattle.lent_structures.specs.Structures.{Structure, QueueHead, Element as Qtd, Buffer, Table, Isochronous, SplitIsochronous, StructureSets, Holds, HoldsTable, Tells}
+use Rattle.ring_laws.specs.lent_structures.Structures.{Structure, QueueHead, Element as Qtd, Buffer, Table, Isochronous, SplitIsochronous, StructureSets, Holds, HoldsTable, Tells}
 use Rattle.ring_laws.specs.Hand.{Hand}
 use Rattle.ring_laws.specs.Ring.{Base}
-use Rattle.controlled_streams.specs.Control.{FrameList}
+use Rattle.walked_queues.specs.controlled_streams.Control.{FrameList}
 use Rattle.frame_walk.specs.Met.{Kind, LeadsTo}
 use Rattle.frame_walk.specs.FrameHand.{FrameHand, Nothing}
-use Rattle.frame_control.specs.Both.{LeadToMet, RunsBoth}
-use Rattle.frame_stores.specs.Stores.{link_in, IsMetFurther, AreMetAmong}
-use Rattle.frame_stores.proofs.Framing.{leads_further}
-use Rattle.frame_stores.proofs.Beside.{begin_narrowed}
+use Rattle.frame_laws.specs.frame_control.Both.{LeadToMet, RunsBoth}
+use Rattle.frame_laws.specs.frame_stores.Stores.{link_in, IsMetFurther, AreMetAmong}
+use Rattle.frame_laws.proofs.lemmas.frame_stores.Framing.{leads_further}
+use Rattle.frame_laws.proofs.lemmas.frame_stores.Beside.{begin_narrowed}
 use Rattle.described_parts.specs.Meeting.{standing, no_recent, or_recent, met}
 use Rattle.described_parts.specs.RowLaws.{HasFrames}
 use Rattle.described_parts.proofs.Leading.{element_leads, member_leads}

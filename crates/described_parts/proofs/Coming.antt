@@ -11,22 +11,22 @@ use Rattle.driver_rows.specs.declared.content.Command.{Command}
 use Rattle.driver_rows.specs.declared.content.Command.TheVariants as unfinished
 use Rattle.driver_rows.specs.DriverContent.{DriverContent}
 use Rattle.driver_rows.specs.Rows.{events_of, removes_members}
-use Rattle.run_owners.specs.Owners.{Described, HasRun, runs_of_transfer, views_of}
-use Rattle.run_owners.specs.Kept.{HasOwners}
-use Rattle.run_owners.proofs.Runs.{placed_run}
+use Rattle.driver_laws.specs.run_owners.Owners.{Described, HasRun, runs_of_transfer, views_of}
+use Rattle.driver_laws.specs.run_owners.Kept.{HasOwners}
+use Rattle.driver_laws.proofs.lemmas.run_owners.Runs.{placed_run}
 use Rattle.driver_rows.specs.declared.content.Endpoint.{Endpoint}
 use Rattle.periodic_rows.specs.Periodic.{note_at, descriptor_member}
 use Rattle.frame_chains.specs.declared.members.Member.{Member}
 use Rattle.frame_chains.specs.Chains.{id_of}
-use Rattle.listed_members.specs.Placed.{framed_of, is_chained}
-use Rattle.listed_members.specs.Listed.{IsWaitingOf}
-use Rattle.listed_members.proofs.Standing.{IsSeen, seen, descriptor_block}
-use Rattle.lent_structures.specs.Structures.{StructureSets}
+use Rattle.driver_laws.specs.listed_members.Placed.{framed_of, is_chained}
+use Rattle.driver_laws.specs.listed_members.Listed.{IsWaitingOf}
+use Rattle.driver_laws.proofs.lemmas.listed_members.Standing.{IsSeen, seen, descriptor_block}
+use Rattle.ring_laws.specs.lent_structures.Structures.{StructureSets}
 use Rattle.frame_walk.specs.Met.{Kind}
 use Rattle.described_parts.specs.Both.{both}
 use Rattle.described_parts.specs.Meeting.{kind_of_descriptor, kind_of}
 use Rattle.described_parts.specs.ListRows.{Comes}
-use Rattle.lent_runs.specs.Lent.{begins_in, is_lending, still_lends, AreLent}
+use Rattle.driver_laws.specs.lent_runs.Lent.{begins_in, is_lending, still_lends, AreLent}
 use Rattle.driver_laws.specs.Inventory.{IsLent}
 use Rattle.described_parts.specs.Coming.{IsWaiting, DescriptorsAreLent, LinkingLendsNothing, WaitingAreLent, WaitingComes, WaitingMembersCome}
 use Rattle.described_parts.proofs.ListComing.{lent_comes}

@@ -15,14 +15,14 @@ use Rattle.driver_rows.specs.Words.{pieces, buffer_needs}
 use Rattle.driver_rows.specs.Rows.{framed_by}
 use Rattle.driver_rows.specs.Offers.{Offered, Descriptors, first_waiting, new_runs, total_of, slot_runs, iso_needs, descriptor_note, descriptor_transfer, written_descriptor, one_descriptor, all_descriptors, entered_iso}
 use Rattle.usb_base.specs.declared.endpoints.EpDesc.{EpDesc}
-use Rattle.run_owners.specs.Owners.{HasRun, SlotHas, TransferRuns, Views, views_of, runs_of_transfer, runs_of_descriptor, transfer_in}
-use Rattle.run_owners.specs.Accepts.{Describes}
-use Rattle.run_owners.proofs.Taking.{AreTaken, runs_taken}
-use Rattle.run_owners.proofs.Accepted.{drop_first, fresh_differs}
-use Rattle.run_owners.proofs.Stays.{endpoint_stays, framed}
-use Rattle.ring_members.proofs.Stores.{slots_apart}
-use Rattle.lent_structures.specs.Structures.{StructureSets}
-use Rattle.lent_structures.specs.Changes.{Leaves}
+use Rattle.driver_laws.specs.run_owners.Owners.{HasRun, SlotHas, TransferRuns, Views, views_of, runs_of_transfer, runs_of_descriptor, transfer_in}
+use Rattle.driver_laws.specs.run_owners.Accepts.{Describes}
+use Rattle.driver_laws.proofs.lemmas.run_owners.Taking.{AreTaken, runs_taken}
+use Rattle.driver_laws.proofs.lemmas.run_owners.Accepted.{drop_first, fresh_differs}
+use Rattle.driver_laws.proofs.lemmas.run_owners.Stays.{endpoint_stays, framed}
+use Rattle.driver_laws.proofs.lemmas.ring_members.Stores.{slots_apart}
+use Rattle.ring_laws.specs.lent_structures.Structures.{StructureSets}
+use Rattle.ring_laws.specs.lent_structures.Changes.{Leaves}
 use Rattle.driver_laws.specs.Inventory.{sorts_of, IsLent, IsDriven}
 use Rattle.driver_laws.proofs.PartSlots.{taken_leaves}
 use Rattle.driver_laws.proofs.Viewing.{SameViews}

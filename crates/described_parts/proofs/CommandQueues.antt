@@ -1,8 +1,8 @@
 -- What a driver has of its queues stays, where their endpoints, transfers and notes are told alike, and of their runs the same are lent.
 use Rattle.std.proofs.Common.{◌≡◌, ℕ, zero, suc, ◌*◌, false, List, [], ◌∷◌, Option, Some, ap, refl, sym, subst, ◌∙◌, inl, inr}
 use Rattle.run_book.specs.declared.slots.Slot.{Slot}
-use Rattle.run_owners.specs.Owners.{SlotHas, EndpointRuns, TransferRuns, NoteRuns, Views}
-use Rattle.lent_structures.specs.Structures.{StructureSets}
+use Rattle.driver_laws.specs.run_owners.Owners.{SlotHas, EndpointRuns, TransferRuns, NoteRuns, Views}
+use Rattle.ring_laws.specs.lent_structures.Structures.{StructureSets}
 use Rattle.driver_laws.specs.Inventory.{Sort, Inventory, sorts_of, IsLent, IsPieceOf, IsBufferTold, AreTold, IsQueueIn, IsTransferIn, IsDriverOwned, the_list, the_head, a_queue, a_dummy, a_piece, a_buffer, IsDriven}
 use Rattle.driver_laws.specs.Extents.{AreInRuns}
 use Rattle.driver_laws.proofs.Following.{extents_follow}

@@ -29,10 +29,10 @@ use Rattle.bandwidth.specs.Placements.{has}
 use Rattle.periodic_rows.specs.declared.content.DescriptorNote.{DescriptorNote}
 use Rattle.periodic_rows.specs.Descriptors.{slots_before, slots_in, slot_limit, new_itd, new_sitd, descriptor_words, buffer_address}
 use Rattle.driver_rows.specs.Words.{buffer_needs}
-use Rattle.run_owners.specs.Owners.{SlotHas}
-use Rattle.lent_structures.specs.Structures.{Structure, Buffer, Isochronous, SplitIsochronous, Structures, Holds}
-use Rattle.lent_structures.proofs.Standing.{reaches_if, both_true}
-use Rattle.lent_structures.proofs.Names.{not_same}
+use Rattle.driver_laws.specs.run_owners.Owners.{SlotHas}
+use Rattle.ring_laws.specs.lent_structures.Structures.{Structure, Buffer, Isochronous, SplitIsochronous, Structures, Holds}
+use Rattle.ring_laws.proofs.lemmas.lent_structures.Standing.{reaches_if, both_true}
+use Rattle.ring_laws.proofs.lemmas.lent_structures.Names.{not_same}
 use Rattle.driver_laws.specs.Extents.{IsOneOf as IsAmong}
 use Rattle.frame_walk.specs.Met.{IsBuffered}
 use Rattle.described_parts.specs.Described.{HasItd, HasSitd, HasDescriptor, HasItsBuffer}

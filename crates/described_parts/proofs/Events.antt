@@ -11,13 +11,13 @@ use Rattle.walk_copy.specs.Overlay.{advanced, moved}
 use Rattle.walk_copy.specs.WriteBack.{moved_by as queue_moved_by}
 use Rattle.async_walk.specs.declared.state.WalkStep.{WalkStep}
 use Rattle.async_walk.specs.Rows.{WalkPlace}
-use Rattle.lent_structures.specs.Structures.{Structure, QueueHead, Element, Buffer, Table, Isochronous, SplitIsochronous, Structures, StructureSets, put}
-use Rattle.lent_structures.specs.Changes.{relinked, overwritten}
-use Rattle.lent_structures.proofs.Names.{names_differ, put_else, put_beside, put_found}
-use Rattle.lent_structures.proofs.Storing.{length-overwritten}
-use Rattle.lent_structures.specs.WriteBack.{Received, Nothing, Into, IsReceived, received_parts, qtd_after, parts_back}
-use Rattle.lent_structures.specs.Alters.{HasBytes}
-use Rattle.lent_structures.proofs.Altering.{same_buffer}
+use Rattle.ring_laws.specs.lent_structures.Structures.{Structure, QueueHead, Element, Buffer, Table, Isochronous, SplitIsochronous, Structures, StructureSets, put}
+use Rattle.ring_laws.specs.lent_structures.Changes.{relinked, overwritten}
+use Rattle.ring_laws.proofs.lemmas.lent_structures.Names.{names_differ, put_else, put_beside, put_found}
+use Rattle.ring_laws.proofs.lemmas.lent_structures.Storing.{length-overwritten}
+use Rattle.ring_laws.specs.lent_structures.WriteBack.{Received, Nothing, Into, IsReceived, received_parts, qtd_after, parts_back}
+use Rattle.ring_laws.specs.lent_structures.Alters.{HasBytes}
+use Rattle.ring_laws.proofs.lemmas.lent_structures.Altering.{same_buffer}
 use Rattle.ring_laws.specs.Hand.{settled_queue_of, Hand}
 use Rattle.ring_laws.specs.Ring.{Base, IsCopied, IsSettled, IsInHand, IsRing}
 use Rattle.ring_laws.specs.Effects.{received_into, Effect, reads, passes, ends, takes, makes, writes_back}

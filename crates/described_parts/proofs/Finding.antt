@@ -9,7 +9,7 @@ use Rattle.frame_chains.specs.declared.members.Member.{Member}
 use Rattle.frame_chains.specs.declared.members.Member.TheVariants.{Once, Each}
 use Rattle.frame_chains.specs.Chains.{Schedule, id_of}
 use Rattle.frame_members.specs.Members.{is_that, is_this, is_linked}
-use Rattle.frame_words.specs.InWords.{IsSpread}
+use Rattle.frame_laws.specs.frame_words.InWords.{IsSpread}
 use Rattle.periodic_rows.specs.Periodic.{PeriodicContent, note_at}
 use Rattle.frame_walk.specs.Met.{Kind}
 use Rattle.described_parts.specs.Meeting.{kind_of_descriptor, kind_of, queue_begins, descriptor_begins, kind_by, kind_at}

@@ -20,10 +20,10 @@ use Rattle.iso_visits.specs.Sitd.{sitd_place, moved_sitd, missed_sitd, missed_co
 use Rattle.iso_visits.specs.WriteBack.{itd_pages, slot_place, done_slot, sitd_pages, sitd_received, moved_by}
 use Rattle.periodic_walk.specs.Walk.{Walk}
 use Rattle.periodic_walk.specs.Place.{FramePlace}
-use Rattle.lent_structures.specs.Structures.{Structure, QueueHead, Buffer, Table, Isochronous, SplitIsochronous, Structures, StructureSets, put, Tells}
-use Rattle.lent_structures.specs.Changes.{relinked}
-use Rattle.lent_structures.proofs.Names.{put_same, put_beside}
-use Rattle.lent_structures.specs.WriteBack.{Received, Nothing as Nowhere, Into, received_parts, qtd_after, parts_back}
+use Rattle.ring_laws.specs.lent_structures.Structures.{Structure, QueueHead, Buffer, Table, Isochronous, SplitIsochronous, Structures, StructureSets, put, Tells}
+use Rattle.ring_laws.specs.lent_structures.Changes.{relinked}
+use Rattle.ring_laws.proofs.lemmas.lent_structures.Names.{put_same, put_beside}
+use Rattle.ring_laws.specs.lent_structures.WriteBack.{Received, Nothing as Nowhere, Into, received_parts, qtd_after, parts_back}
 use Rattle.ring_laws.specs.Hand.{Copy, Hand as RingHand, Copied}
 use Rattle.ring_laws.specs.Effects.{received_into, Takes}
 use Rattle.driver_laws.specs.Inventory.{SameSorts}

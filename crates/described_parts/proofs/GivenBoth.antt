@@ -8,17 +8,17 @@ use Rattle.run_book.specs.declared.slots.Slot.{Slot}
 use Rattle.periodic_rows.specs.declared.content.Removed.TheVariants as removed
 use Rattle.driver_rows.specs.declared.content.Transfer.{Transfer}
 use Rattle.driver_rows.specs.Rows.{Parts, after_descriptor, free_runs}
-use Rattle.run_owners.specs.Owners.{Owner, Buffer, IsPlaced, TransferRuns, Views, is_descriptor, runs_of_transfer, descriptor_in, IsDescribed, views_of}
-use Rattle.run_owners.specs.Leaving.{times, transfers_in, owes}
-use Rattle.run_owners.specs.Kept.{HasOwners}
-use Rattle.run_owners.proofs.Freeing.{descriptor_freed}
-use Rattle.run_owners.proofs.Released.{set_here, set_there}
-use Rattle.lent_structures.specs.Structures.{StructureSets}
+use Rattle.driver_laws.specs.run_owners.Owners.{Owner, Buffer, IsPlaced, TransferRuns, Views, is_descriptor, runs_of_transfer, descriptor_in, IsDescribed, views_of}
+use Rattle.driver_laws.specs.run_owners.Leaving.{times, transfers_in, owes}
+use Rattle.driver_laws.specs.run_owners.Kept.{HasOwners}
+use Rattle.driver_laws.proofs.lemmas.run_owners.Freeing.{descriptor_freed}
+use Rattle.driver_laws.proofs.lemmas.run_owners.Released.{set_here, set_there}
+use Rattle.ring_laws.specs.lent_structures.Structures.{StructureSets}
 use Rattle.driver_laws.specs.Inventory.{IsLent}
 use Rattle.driver_laws.specs.Extents.{IsOneOf}
 use Rattle.driver_laws.proofs.Blocks.{all_one}
 use Rattle.driver_laws.proofs.Freeing.{IsLess, runs_less}
-use Rattle.frame_control.specs.Both.{RunsBoth}
+use Rattle.frame_laws.specs.frame_control.Both.{RunsBoth}
 use Rattle.described_parts.specs.Both.{both}
 use Rattle.described_parts.specs.PartLaws.{IsDescribing}
 use Rattle.described_parts.specs.Told.{IsToldBy, with_memory, as_parts}

@@ -11,11 +11,11 @@ use Rattle.driver_rows.specs.declared.content.Endpoint.{Endpoint}
 use Rattle.driver_rows.specs.declared.content.Transfer.{Transfer}
 use Rattle.driver_rows.specs.DriverContent.{DriverContent, waits_for}
 use Rattle.driver_rows.specs.Rows.{Parts, is_iso, is_told, cancel_told, let_go_placed, after_placed}
-use Rattle.run_owners.specs.Owners.{is_descriptor}
-use Rattle.run_owners.specs.Leaving.{leaves_frames}
-use Rattle.run_owners.specs.Kept.{HasOwners}
-use Rattle.run_owners.proofs.Orders.{endpoint_first}
-use Rattle.run_owners.proofs.Released.{set_there, AreUntouched, cancel_same}
+use Rattle.driver_laws.specs.run_owners.Owners.{is_descriptor}
+use Rattle.driver_laws.specs.run_owners.Leaving.{leaves_frames}
+use Rattle.driver_laws.specs.run_owners.Kept.{HasOwners}
+use Rattle.driver_laws.proofs.lemmas.run_owners.Orders.{endpoint_first}
+use Rattle.driver_laws.proofs.lemmas.run_owners.Released.{set_there, AreUntouched, cancel_same}
 use Rattle.frame_walk.specs.Met.{Kind}
 use Rattle.described_parts.specs.Recent.{IsOpenAt, IsRemovedAt, a_descriptor, a_queue, a_waiting, IsRemovedSince, IsUnchainedNow, AreRecent}
 use Rattle.described_parts.specs.Returned.{IsGivenBack}

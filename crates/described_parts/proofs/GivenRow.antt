@@ -16,8 +16,8 @@ use Rattle.driver_rows.specs.DriverContent.{DriverContent, waits_for}
 use Rattle.driver_rows.specs.Rows.{Parts, tells_advance, removes, reading_for, bell_row, removal_row, found_of, first_row, leaving_row, next_worker, reading_row, transfer_row, worker_row, harvest_row, turn_row, row_for}
 use Rattle.op_registers.specs.RegisterFile.{RegisterFile}
 use Rattle.word_mem.specs.Memory.{Mem}
-use Rattle.run_owners.specs.Due.{IsRemovalDue, IsDue}
-use Rattle.run_owners.proofs.Reasons.{each_is_due}
+use Rattle.driver_laws.specs.run_owners.Due.{IsRemovalDue, IsDue}
+use Rattle.driver_laws.proofs.lemmas.run_owners.Reasons.{each_is_due}
 use Rattle.described_parts.specs.Given.{RowIsGivenBack}
 
 -- where it gives back what was unlinked, the first of these was seen

@@ -15,10 +15,10 @@ use Rattle.run_book.proofs.Standing.{stands_taken, stands_lent, stands_word, len
 use Rattle.link_words.specs.Links.{link_read}
 use Rattle.itd_sitd.specs.Itd.{itd_words}
 use Rattle.driver_rows.specs.Opening.{opening_memory}
-use Rattle.in_place.specs.InPlace.{IsInPlace}
-use Rattle.in_place.proofs.Opened.{opening_in_place}
-use Rattle.lent_structures.specs.Structures.{Isochronous, Structures, StructureSets, put, Has, Holds}
-use Rattle.lent_structures.specs.Changes.{Leaves, IsNew}
+use Rattle.driver_laws.specs.in_place.InPlace.{IsInPlace}
+use Rattle.driver_laws.proofs.lemmas.in_place.Opened.{opening_in_place}
+use Rattle.ring_laws.specs.lent_structures.Structures.{Isochronous, Structures, StructureSets, put, Has, Holds}
+use Rattle.ring_laws.specs.lent_structures.Changes.{Leaves, IsNew}
 use Rattle.described_parts.specs.Written.{HasFields}
 use Rattle.described_parts.proofs.Fields.{itd_range}
 use Rattle.run_book.specs.declared.slots.Slot.{Slot}
@@ -26,16 +26,16 @@ use Rattle.run_book.specs.declared.slots.Slot.TheVariants.{Keeps, Lends}
 use Rattle.word_mem.specs.Memory.{filled}
 use Rattle.word_mem.specs.Free.{IsTaken}
 use Rattle.driver_rows.specs.Opening.{list_run, head_run}
-use Rattle.lent_structures.proofs.Names.{put_beside}
+use Rattle.ring_laws.proofs.lemmas.lent_structures.Names.{put_beside}
 use Rattle.hc_core.specs.declared.controller.MicroframePart.TheVariants.{Over, Periodic}
 use Rattle.ring_laws.specs.Hand.{Empty}
-use Rattle.controlled_streams.specs.Control.{AreEmpty, empty}
+use Rattle.walked_queues.specs.controlled_streams.Control.{AreEmpty, empty}
 use Rattle.driver_laws.specs.PartOpened.{no_parts, empty_list, opening_base, opening_parts, is_head}
 use Rattle.driver_laws.proofs.PartOpening.{opening_drives}
 use Rattle.frame_walk.specs.FrameHand.{Nothing}
-use Rattle.frame_control.specs.Both.{RunsBoth}
-use Rattle.frame_control.proofs.Frameless.{controlled_runs}
-use Rattle.frame_stores.proofs.Beside.{both_lent}
+use Rattle.frame_laws.specs.frame_control.Both.{RunsBoth}
+use Rattle.frame_laws.proofs.lemmas.frame_control.Frameless.{controlled_runs}
+use Rattle.frame_laws.proofs.lemmas.frame_stores.Beside.{both_lent}
 use Rattle.described_parts.specs.Both.{both}
 use Rattle.described_parts.specs.Meeting.{no_recent, met}
 use Rattle.described_parts.proofs.Standing.{both_off}

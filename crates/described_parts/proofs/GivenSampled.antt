@@ -7,13 +7,13 @@ use Rattle.periodic_rows.specs.declared.content.Removed.TheVariants as removed
 use Rattle.driver_rows.specs.declared.content.Endpoint.{Endpoint}
 use Rattle.driver_rows.specs.declared.content.Transfer.{Transfer}
 use Rattle.driver_rows.specs.Rows.{is_iso}
-use Rattle.run_owners.specs.Owners.{Owner, FrameList, Head, Described, EndpointRuns, TransferRuns, runs_of_endpoint, runs_of_transfer, endpoint_in, transfer_in, is_descriptor, ArePieces, IsDescribed, views_of}
-use Rattle.run_owners.specs.Leaving.{IsSteady, owes}
-use Rattle.run_owners.specs.Kept.{HasOwners}
-use Rattle.lent_structures.proofs.Names.{not_same}
-use Rattle.listed_members.specs.Placed.{Placed, placed_in}
-use Rattle.listed_members.specs.Listed.{StandsAs, IsListed}
-use Rattle.listed_members.proofs.Opening.{opening_listed}
+use Rattle.driver_laws.specs.run_owners.Owners.{Owner, FrameList, Head, Described, EndpointRuns, TransferRuns, runs_of_endpoint, runs_of_transfer, endpoint_in, transfer_in, is_descriptor, ArePieces, IsDescribed, views_of}
+use Rattle.driver_laws.specs.run_owners.Leaving.{IsSteady, owes}
+use Rattle.driver_laws.specs.run_owners.Kept.{HasOwners}
+use Rattle.ring_laws.proofs.lemmas.lent_structures.Names.{not_same}
+use Rattle.driver_laws.specs.listed_members.Placed.{Placed, placed_in}
+use Rattle.driver_laws.specs.listed_members.Listed.{StandsAs, IsListed}
+use Rattle.driver_laws.proofs.lemmas.listed_members.Opening.{opening_listed}
 use Rattle.op_registers.specs.RegisterFile.{RegisterFile}
 use Rattle.word_mem.specs.Memory.{Mem}
 use Rattle.frame_walk.specs.Met.{Kind}

@@ -3,9 +3,9 @@ use Rattle.std.proofs.Common.{◌≡◌, ℕ, zero, suc, ◌*◌, ◌<◌, true,
 use Rattle.std.proofs.lemmas.Bool.{true≢false}
 use Rattle.itd_sitd.specs.Itd.{slot_of}
 use Rattle.iso_visits.specs.WriteBack.{itd_pages, slot_place}
-use Rattle.run_owners.specs.Owners.{TransferRuns, runs_of_transfer, Views, views_of}
-use Rattle.lent_structures.specs.Structures.{Structure, Isochronous}
-use Rattle.lent_structures.proofs.Names.{put_found}
+use Rattle.driver_laws.specs.run_owners.Owners.{TransferRuns, runs_of_transfer, Views, views_of}
+use Rattle.ring_laws.specs.lent_structures.Structures.{Structure, Isochronous}
+use Rattle.ring_laws.proofs.lemmas.lent_structures.Names.{put_found}
 use Rattle.driver_laws.specs.Inventory.{Sort, sorts_of, IsDriverOwned, the_list, the_head, a_queue, a_dummy, a_piece, a_buffer, IsDriven}
 use Rattle.driver_laws.specs.PartOpened.{no_parts, opening_parts}
 use Rattle.driver_laws.proofs.PartOpening.{opening_drives}

@@ -11,18 +11,18 @@ use Rattle.run_book.specs.declared.slots.Slot.{Slot}
 use Rattle.run_book.specs.declared.slots.Slot.TheVariants.{Lends}
 use Rattle.driver_rows.specs.DriverContent.{DriverContent}
 use Rattle.driver_rows.specs.Rows.{free_runs}
-use Rattle.run_owners.specs.Owners.{Owner, SlotHas, Views, views_of}
+use Rattle.driver_laws.specs.run_owners.Owners.{Owner, SlotHas, Views, views_of}
 use Rattle.hc_core.specs.Controller.{Content}
-use Rattle.lent_structures.specs.Structures.{Structure, QueueHead, Element, Buffer, Table, Isochronous, SplitIsochronous, Structures, StructureSets, Has, Tells}
-use Rattle.lent_structures.specs.Sound.{IsMember}
+use Rattle.ring_laws.specs.lent_structures.Structures.{Structure, QueueHead, Element, Buffer, Table, Isochronous, SplitIsochronous, Structures, StructureSets, Has, Tells}
+use Rattle.ring_laws.specs.lent_structures.Sound.{IsMember}
 use Rattle.ring_laws.specs.Hand.{Hand}
 use Rattle.ring_laws.specs.Ring.{Base}
 use Rattle.driver_laws.specs.Extents.{IsOneOf, AreInRuns}
 use Rattle.driver_laws.proofs.Freeing.{HaveNone, all_told}
 use Rattle.frame_walk.specs.Met.{Kind}
 use Rattle.frame_walk.specs.FrameHand.{FrameHand}
-use Rattle.frame_control.specs.Both.{RunsBoth}
-use Rattle.frame_stores.proofs.Beside.{both_left}
+use Rattle.frame_laws.specs.frame_control.Both.{RunsBoth}
+use Rattle.frame_laws.proofs.lemmas.frame_stores.Beside.{both_left}
 use Rattle.described_parts.specs.Described.{HasDescriptor}
 use Rattle.described_parts.specs.Both.{owns, both}
 use Rattle.described_parts.specs.PartLaws.{IsDescribing}

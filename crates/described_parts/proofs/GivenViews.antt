@@ -4,8 +4,8 @@ use Rattle.std.specs.List.{AllByRecursion}
 use Rattle.std.proofs.lemmas.Bool.{true≢false}
 use Rattle.std.proofs.lemmas.Option.{same_Some}
 use Rattle.run_book.specs.declared.slots.Slot.{Slot}
-use Rattle.run_owners.specs.Owners.{Owner, FrameList, Head, QueueHead, Dummy, Element, Described, Buffer, SlotHas, IsPlaced, EndpointRuns, TransferRuns, NoteRuns, DescriptorRuns, Views, AreOwned}
-use Rattle.lent_structures.specs.Structures.{Structure, Structures, StructureSets}
+use Rattle.driver_laws.specs.run_owners.Owners.{Owner, FrameList, Head, QueueHead, Dummy, Element, Described, Buffer, SlotHas, IsPlaced, EndpointRuns, TransferRuns, NoteRuns, DescriptorRuns, Views, AreOwned}
+use Rattle.ring_laws.specs.lent_structures.Structures.{Structure, Structures, StructureSets}
 use Rattle.driver_laws.specs.Inventory.{sorts_of, IsLent, IsPieceOf, IsTransferIn}
 use Rattle.driver_laws.specs.Extents.{AreInRuns}
 use Rattle.driver_laws.proofs.Blocks.{all_one, placed_buffer}

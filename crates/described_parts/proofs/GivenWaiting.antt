@@ -15,14 +15,14 @@ use Rattle.driver_rows.specs.declared.content.Turn.TheVariants as turns
 use Rattle.driver_rows.specs.declared.content.QtdNote.{QtdNote}
 use Rattle.driver_rows.specs.DriverContent.{DriverContent, waits_for}
 use Rattle.driver_rows.specs.Rows.{Parts, is_iso, is_told, cancel_told, free_runs, free_descriptor, free_descriptors, free_endpoint, let_go_placed, let_go_waiting, unplaced, after_placed}
-use Rattle.run_owners.specs.Owners.{TransferRuns, Views, is_descriptor, runs_of_endpoint, runs_of_transfer, endpoint_in, note_in, descriptor_in, IsDescribed, views_of}
-use Rattle.run_owners.specs.Leaving.{leaves_frames}
-use Rattle.run_owners.specs.Kept.{HasOwners}
-use Rattle.run_owners.proofs.Freeing.{descriptors_freed}
-use Rattle.run_owners.proofs.Released.{set_here, set_there, AreUntouched, cancel_same}
-use Rattle.listed_members.specs.Listed.{IsListed}
+use Rattle.driver_laws.specs.run_owners.Owners.{TransferRuns, Views, is_descriptor, runs_of_endpoint, runs_of_transfer, endpoint_in, note_in, descriptor_in, IsDescribed, views_of}
+use Rattle.driver_laws.specs.run_owners.Leaving.{leaves_frames}
+use Rattle.driver_laws.specs.run_owners.Kept.{HasOwners}
+use Rattle.driver_laws.proofs.lemmas.run_owners.Freeing.{descriptors_freed}
+use Rattle.driver_laws.proofs.lemmas.run_owners.Released.{set_here, set_there, AreUntouched, cancel_same}
+use Rattle.driver_laws.specs.listed_members.Listed.{IsListed}
 use Rattle.hc_core.specs.Controller.{Content}
-use Rattle.lent_structures.specs.Structures.{StructureSets, Tells}
+use Rattle.ring_laws.specs.lent_structures.Structures.{StructureSets, Tells}
 use Rattle.ring_laws.specs.Hand.{Hand}
 use Rattle.ring_laws.specs.Ring.{Base}
 use Rattle.driver_laws.specs.Inventory.{IsLent}
@@ -30,7 +30,7 @@ use Rattle.driver_laws.specs.Extents.{IsOneOf}
 use Rattle.driver_laws.proofs.Freeing.{runs_less}
 use Rattle.frame_walk.specs.Met.{Kind}
 use Rattle.frame_walk.specs.FrameHand.{FrameHand}
-use Rattle.frame_control.specs.Both.{RunsBoth}
+use Rattle.frame_laws.specs.frame_control.Both.{RunsBoth}
 use Rattle.described_parts.specs.Both.{both}
 use Rattle.described_parts.specs.PartLaws.{IsDescribing}
 use Rattle.described_parts.specs.Told.{IsToldBy, with_memory, as_parts}

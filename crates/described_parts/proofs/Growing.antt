@@ -7,15 +7,15 @@ use Rattle.frame_chains.specs.declared.members.Member.{Member}
 use Rattle.frame_chains.specs.declared.members.Member.TheVariants.{Once, Each}
 use Rattle.frame_chains.specs.Chains.{Schedule, is_the}
 use Rattle.frame_members.specs.Members.{is_linked, without_member, with_schedule}
-use Rattle.frame_words.specs.InWords.{IsSpread}
-use Rattle.list_closed.proofs.Chained.{still_linked}
+use Rattle.frame_laws.specs.frame_words.InWords.{IsSpread}
+use Rattle.frame_laws.proofs.lemmas.list_closed.Chained.{still_linked}
 use Rattle.periodic_list.specs.declared.work.Work.{Work}
 use Rattle.periodic_list.specs.Periodic.{Periodic, is_more, members_after, after_work, after_store}
 use Rattle.periodic_rows.specs.declared.content.DescriptorNote.{DescriptorNote}
 use Rattle.periodic_rows.specs.Periodic.{PeriodicContent, note_at}
 use Rattle.driver_rows.specs.DriverContent.{DriverContent}
 use Rattle.frame_walk.specs.Met.{Kind}
-use Rattle.frame_stores.specs.Stores.{IsMetFurther}
+use Rattle.frame_laws.specs.frame_stores.Stores.{IsMetFurther}
 use Rattle.described_parts.specs.Meeting.{is_led, kind_of_descriptor, kind_of, standing, or_recent, met}
 use Rattle.described_parts.specs.Growing.{led_in, led, IsLeftOut, AreApartFrom, KeepsMembers}
 use Rattle.described_parts.proofs.Finding.{begins_at, member_kind, IsMemberAt, member_at}

@@ -15,13 +15,13 @@ use Rattle.periodic_list.specs.declared.work.Work.{Work}
 use Rattle.periodic_list.specs.Periodic.{address_of, words_of, value_of}
 use Rattle.periodic_rows.specs.Periodic.{PeriodicContent, note_at}
 use Rattle.driver_rows.specs.DriverContent.{DriverContent}
-use Rattle.frame_words.specs.InWords.{IsSpread, old_of, set_all, AllLead, Begun, StandsBy, HasMember}
-use Rattle.frame_words.proofs.InChains.{fewer_in}
-use Rattle.frame_words.proofs.Steps.{leads_same}
-use Rattle.list_stands.specs.Standing.{ListStands}
-use Rattle.list_closed.specs.Closed.{IsNext, LeadsInto, structure}
-use Rattle.list_closed.proofs.Closing.{list_closed, members_closed, first_frames}
-use Rattle.list_closed.proofs.Structures.{structures_told}
+use Rattle.frame_laws.specs.frame_words.InWords.{IsSpread, old_of, set_all, AllLead, Begun, StandsBy, HasMember}
+use Rattle.frame_laws.proofs.lemmas.frame_words.InChains.{fewer_in}
+use Rattle.frame_laws.proofs.lemmas.frame_words.Steps.{leads_same}
+use Rattle.frame_laws.specs.list_stands.Standing.{ListStands}
+use Rattle.frame_laws.specs.list_closed.Closed.{IsNext, LeadsInto, structure}
+use Rattle.frame_laws.proofs.lemmas.list_closed.Closing.{list_closed, members_closed, first_frames}
+use Rattle.frame_laws.proofs.lemmas.list_closed.Structures.{structures_told}
 use Rattle.frame_walk.specs.Met.{Kind, LeadsTo}
 use Rattle.described_parts.specs.Meeting.{is_led, led_by, kind_of_descriptor, kind_at, standing}
 use Rattle.described_parts.specs.RowLaws.{HasFrames}

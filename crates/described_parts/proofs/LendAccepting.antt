@@ -15,8 +15,8 @@ use Rattle.periodic_rows.specs.declared.content.DescriptorNote.{DescriptorNote}
 use Rattle.periodic_rows.specs.Descriptors.{is_in, buffer_address, seeded_word, descriptor_words, write_seeded}
 use Rattle.driver_rows.specs.Words.{pieces, buffer_needs}
 use Rattle.driver_rows.specs.Offers.{written_descriptor}
-use Rattle.run_owners.specs.Owners.{SlotHas}
-use Rattle.ring_members.proofs.Stores.{AreApart, store_elsewhere}
+use Rattle.driver_laws.specs.run_owners.Owners.{SlotHas}
+use Rattle.driver_laws.proofs.lemmas.ring_members.Stores.{AreApart, store_elsewhere}
 use Rattle.driver_laws.proofs.Lists.{IsOneOf}
 
 -- ---- lists that are filled up

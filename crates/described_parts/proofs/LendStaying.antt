@@ -16,8 +16,8 @@ use Rattle.driver_rows.specs.declared.content.Command.{Command}
 use Rattle.driver_rows.specs.declared.content.Command.TheVariants as unfinished
 use Rattle.driver_rows.specs.DriverContent.{DriverContent}
 use Rattle.driver_rows.specs.Rows.{advance, advanced_by, with_frames, last_frame, framed_notes, with_notes, placement_at, framed_by}
-use Rattle.run_owners.specs.Owners.{SlotHas, views_of}
-use Rattle.run_owners.proofs.Stays.{framed}
+use Rattle.driver_laws.specs.run_owners.Owners.{SlotHas, views_of}
+use Rattle.driver_laws.proofs.lemmas.run_owners.Stays.{framed}
 use Rattle.driver_laws.proofs.Viewing.{advance_views}
 use Rattle.driver_laws.specs.Inventory.{IsLent}
 use Rattle.described_parts.proofs.Stays.{described_follow}

@@ -7,8 +7,8 @@ use Rattle.run_book.specs.declared.slots.Slot.{Slot}
 use Rattle.run_book.specs.Book.{holding, lend_taken}
 use Rattle.driver_rows.specs.DriverContent.{DriverContent}
 use Rattle.driver_rows.specs.Rows.{Parts, advance}
-use Rattle.run_owners.specs.Owners.{Owner, Buffer, SlotHas, IsPlaced, EndpointRuns, TransferRuns, Views, views_of}
-use Rattle.lent_structures.specs.Structures.{StructureSets}
+use Rattle.driver_laws.specs.run_owners.Owners.{Owner, Buffer, SlotHas, IsPlaced, EndpointRuns, TransferRuns, Views, views_of}
+use Rattle.ring_laws.specs.lent_structures.Structures.{StructureSets}
 use Rattle.driver_laws.specs.Inventory.{sorts_of, IsLent, IsPieceOf, IsTransferIn, IsDriven}
 use Rattle.driver_laws.proofs.Viewing.{SameViews, advance_views}
 use Rattle.driver_laws.specs.Extents.{AreInRuns}

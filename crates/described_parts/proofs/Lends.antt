@@ -8,7 +8,7 @@ use Rattle.driver_rows.specs.declared.content.Transfer.{Transfer}
 use Rattle.driver_rows.specs.declared.content.Command.{Command}
 use Rattle.driver_rows.specs.DriverContent.{DriverContent}
 use Rattle.driver_rows.specs.Rows.{Parts, linked_descriptors, linked_by}
-use Rattle.lent_structures.specs.Changes.{Leaves}
+use Rattle.ring_laws.specs.lent_structures.Changes.{Leaves}
 use Rattle.driver_laws.proofs.Lent.{leaves_both, lend_taken_leaves}
 use Rattle.driver_laws.specs.Written.{AreAllApart}
 use Rattle.described_parts.specs.Written.{runs_of}

@@ -20,11 +20,11 @@ use Rattle.periodic_rows.specs.Periodic.{note_at, descriptor_member}
 use Rattle.periodic_rows.specs.Linking.{new_link}
 use Rattle.driver_rows.specs.declared.content.Transfer.{Transfer}
 use Rattle.driver_rows.specs.Rows.{linked_descriptors}
-use Rattle.run_owners.specs.Owners.{HasRun, SlotHas}
+use Rattle.driver_laws.specs.run_owners.Owners.{HasRun, SlotHas}
 use Rattle.word_mem.proofs.Holders.{has_block_from}
-use Rattle.run_owners.proofs.Apart.{runs_apart}
-use Rattle.ring_members.proofs.Placed.{has_first, can_begin, word_inside}
-use Rattle.lent_structures.specs.Changes.{Leaves}
+use Rattle.driver_laws.proofs.lemmas.run_owners.Apart.{runs_apart}
+use Rattle.driver_laws.proofs.lemmas.ring_members.Placed.{has_first, can_begin, word_inside}
+use Rattle.ring_laws.specs.lent_structures.Changes.{Leaves}
 use Rattle.driver_laws.specs.Written.{AreAllApart}
 use Rattle.driver_laws.proofs.Lists.{IsOneOf, one_right, each_of, apart_right}
 use Rattle.driver_laws.proofs.Buffers.{KeepsAt}

@@ -4,8 +4,8 @@ use Rattle.periodic_rows.specs.Periodic.{note_at}
 use Rattle.qh_qtd.specs.declared.queue_head.Qh.{Qh}
 use Rattle.itd_sitd.specs.declared.itd.Itd.{Itd}
 use Rattle.itd_sitd.specs.declared.sitd.Sitd.{Sitd}
-use Rattle.lent_structures.specs.Structures.{Structure, QueueHead, Isochronous, SplitIsochronous, Structures}
-use Rattle.lent_structures.specs.Sound.{IsMember}
+use Rattle.ring_laws.specs.lent_structures.Structures.{Structure, QueueHead, Isochronous, SplitIsochronous, Structures}
+use Rattle.ring_laws.specs.lent_structures.Sound.{IsMember}
 use Rattle.described_parts.specs.Described.{HasDescriptor}
 use Rattle.described_parts.specs.Both.{both}
 use Rattle.described_parts.specs.Meeting.{kind_of_descriptor}

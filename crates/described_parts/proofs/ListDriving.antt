@@ -9,15 +9,15 @@ use Rattle.driver_rows.specs.Rows.{Parts, after_unlink, advance}
 use Rattle.op_registers.specs.RegisterFile.{RegisterFile}
 use Rattle.periodic_rows.specs.Periodic.{note_at}
 use Rattle.run_book.specs.declared.slots.Slot.{Slot}
-use Rattle.run_owners.specs.Owners.{SlotHas, Views, descriptor_in, views_of}
+use Rattle.driver_laws.specs.run_owners.Owners.{SlotHas, Views, descriptor_in, views_of}
 use Rattle.driver_laws.specs.Inventory.{IsLent}
 use Rattle.driver_laws.proofs.Viewing.{SameViews, advance_views}
 use Rattle.periodic_list.specs.declared.work.Store.{Store}
 use Rattle.periodic_rows.specs.declared.content.DescriptorNote.{DescriptorNote}
 use Rattle.hc_core.specs.Controller.{Content}
-use Rattle.lent_structures.specs.Structures.{StructureSets}
+use Rattle.ring_laws.specs.lent_structures.Structures.{StructureSets}
 use Rattle.frame_walk.specs.Met.{Kind}
-use Rattle.frame_control.specs.Both.{RunsBoth}
+use Rattle.frame_laws.specs.frame_control.Both.{RunsBoth}
 use Rattle.described_parts.specs.Described.{AreDescribed}
 use Rattle.described_parts.specs.Both.{both, descs_now, SameDescriptors}
 use Rattle.described_parts.specs.PartLaws.{AreStill}

@@ -10,9 +10,9 @@ use Rattle.driver_rows.specs.declared.content.Endpoint.{Endpoint}
 use Rattle.driver_rows.specs.declared.content.Transfer.{Transfer}
 use Rattle.driver_rows.specs.declared.content.Command.TheVariants as unfinished
 use Rattle.driver_rows.specs.DriverContent.{DriverContent, waits_for}
-use Rattle.run_owners.specs.Owners.{Described, is_descriptor, runs_of_transfer, runs_of_endpoint, views_of}
-use Rattle.run_owners.specs.Leaving.{times, transfers_in, endpoints_in, owes, leaves_frames}
-use Rattle.run_owners.specs.Kept.{HasOwners}
+use Rattle.driver_laws.specs.run_owners.Owners.{Described, is_descriptor, runs_of_transfer, runs_of_endpoint, views_of}
+use Rattle.driver_laws.specs.run_owners.Leaving.{times, transfers_in, endpoints_in, owes, leaves_frames}
+use Rattle.driver_laws.specs.run_owners.Kept.{HasOwners}
 use Rattle.frame_walk.specs.Met.{Kind}
 use Rattle.described_parts.specs.Recent.{IsRemovedAt, a_descriptor, a_queue, a_waiting, IsRemovedSince, IsUnchainedNow, AreRecent}
 use Rattle.described_parts.specs.ListRows.{WaitingIsFresh}

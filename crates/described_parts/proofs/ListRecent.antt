@@ -20,9 +20,9 @@ use Rattle.driver_rows.specs.declared.content.Command.{Command}
 use Rattle.driver_rows.specs.declared.content.Command.TheVariants as unfinished
 use Rattle.driver_rows.specs.DriverContent.{DriverContent}
 use Rattle.driver_rows.specs.Rows.{removes_members, events_of, links, is_iso, advance, advanced_by, or_finished, finished, no_command}
-use Rattle.listed_members.specs.Placed.{Framed}
-use Rattle.listed_members.specs.Listed.{IsUnderWay, IsUnchaining, IsWaitingOf, AreLeaving, IsListed}
-use Rattle.listed_members.proofs.Standing.{IsSeen, seen, IsFramed, framed}
+use Rattle.driver_laws.specs.listed_members.Placed.{Framed}
+use Rattle.driver_laws.specs.listed_members.Listed.{IsUnderWay, IsUnchaining, IsWaitingOf, AreLeaving, IsListed}
+use Rattle.driver_laws.proofs.lemmas.listed_members.Standing.{IsSeen, seen, IsFramed, framed}
 use Rattle.frame_walk.specs.Met.{Kind}
 use Rattle.described_parts.specs.Recent.{IsRemovedAt, a_queue, a_waiting, IsRemovedSince, IsUnchainedNow, AreRecent}
 use Rattle.described_parts.specs.ListRows.{leaves_now, recent_with, LeavesChained}

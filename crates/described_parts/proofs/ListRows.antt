@@ -7,9 +7,9 @@ use Rattle.run_book.specs.Book.{Book, holding, store, Stands}
 use Rattle.frame_chains.specs.declared.members.Member.{Member}
 use Rattle.frame_chains.specs.Chains.{has_name, id_of}
 use Rattle.frame_members.specs.Members.{IsKept, is_member, is_linked, has_room, takes}
-use Rattle.frame_words.specs.InWords.{IsInOrder}
-use Rattle.frame_words.proofs.Begins.{out_again}
-use Rattle.frame_words.proofs.Order.{store_in_order}
+use Rattle.frame_laws.specs.frame_words.InWords.{IsInOrder}
+use Rattle.frame_laws.proofs.lemmas.frame_words.Begins.{out_again}
+use Rattle.frame_laws.proofs.lemmas.frame_words.Order.{store_in_order}
 use Rattle.periodic_list.specs.declared.work.Work.{Work}
 use Rattle.periodic_list.specs.declared.work.Store.{Store}
 use Rattle.periodic_list.specs.Periodic.{Periodic, inserting, removing, after_store}
@@ -22,16 +22,16 @@ use Rattle.driver_rows.specs.declared.rows.DriverRow.{DriverRow}
 use Rattle.driver_rows.specs.declared.rows.DriverRow.TheVariants as rows
 use Rattle.driver_rows.specs.DriverContent.{DriverContent}
 use Rattle.driver_rows.specs.Rows.{Parts, removes_members, events_of, links, advance, advanced_by, linked_on, or_finished, finished, no_command, leave_ring, leave_frames, list_after}
-use Rattle.run_owners.specs.Kept.{HasOwners}
-use Rattle.run_owners.specs.Due.{IsLinkOf}
-use Rattle.run_owners.proofs.Rows.{due_owned, due_orderly}
-use Rattle.listed_members.specs.Listed.{IsListed}
-use Rattle.listed_members.proofs.Events.{row_listed}
-use Rattle.list_spread.proofs.Spreading.{members_spread}
-use Rattle.list_stands.specs.Standing.{ListStands}
-use Rattle.list_stores.proofs.Making.{store_written, store_stands}
-use Rattle.list_steps.specs.Steps.{IsLinkingStep, NextLeads}
-use Rattle.list_steps.proofs.Stepping.{goes_on_list, stored_stands}
+use Rattle.driver_laws.specs.run_owners.Kept.{HasOwners}
+use Rattle.driver_laws.specs.run_owners.Due.{IsLinkOf}
+use Rattle.driver_laws.proofs.lemmas.run_owners.Rows.{due_owned, due_orderly}
+use Rattle.driver_laws.specs.listed_members.Listed.{IsListed}
+use Rattle.driver_laws.proofs.lemmas.listed_members.Events.{row_listed}
+use Rattle.frame_laws.proofs.lemmas.list_spread.Spreading.{members_spread}
+use Rattle.frame_laws.specs.list_stands.Standing.{ListStands}
+use Rattle.frame_laws.proofs.lemmas.list_stores.Making.{store_written, store_stands}
+use Rattle.frame_laws.specs.list_steps.Steps.{IsLinkingStep, NextLeads}
+use Rattle.frame_laws.proofs.lemmas.list_steps.Stepping.{goes_on_list, stored_stands}
 use Rattle.hc_core.specs.Controller.{Content}
 use Rattle.frame_walk.specs.Met.{Kind}
 use Rattle.described_parts.specs.Meeting.{led_by}

@@ -10,11 +10,11 @@ use Rattle.iso_visits.specs.Sitd.{sitd_place}
 use Rattle.iso_visits.specs.WriteBack.{itd_pages, slot_place, sitd_pages}
 use Rattle.itd_sitd.specs.Itd.{slot_of}
 use Rattle.link_words.specs.Links.{link_read, link_fields}
-use Rattle.lent_structures.specs.Structures.{Structure, QueueHead, Element, Buffer, Table, Isochronous, SplitIsochronous, Structures, StructureSets, put}
-use Rattle.lent_structures.proofs.Names.{put_beside, put_same, put_else, put_found}
+use Rattle.ring_laws.specs.lent_structures.Structures.{Structure, QueueHead, Element, Buffer, Table, Isochronous, SplitIsochronous, Structures, StructureSets, put}
+use Rattle.ring_laws.proofs.lemmas.lent_structures.Names.{put_beside, put_same, put_else, put_found}
 use Rattle.driver_laws.specs.Inventory.{sort_of, sorts_of}
 use Rattle.frame_walk.specs.Met.{IsBuffered}
-use Rattle.frame_stores.specs.Stores.{HasLink, linked}
+use Rattle.frame_laws.specs.frame_stores.Stores.{HasLink, linked}
 use Rattle.described_parts.specs.Described.{HasDescriptor}
 use Rattle.described_parts.specs.Both.{Keeps}
 use Rattle.described_parts.specs.ListRows.{an_element, a_link, StoreKeepsParts}

@@ -16,27 +16,27 @@ use Rattle.frame_chains.specs.Chains.{Schedule, id_of, is_the, successor}
 use Rattle.frame_chains.specs.Stores.{is_same, is_word}
 use Rattle.frame_members.specs.Members.{Members, IsKept, is_linked, is_that, is_this, without_member, with_schedule, frame_of}
 use Rattle.frame_members.specs.Ranks.{is_named, is_called}
-use Rattle.frame_words.specs.InWords.{IsSpread, HasMember, IsInOrder}
-use Rattle.frame_words.proofs.Decoded.{IsWordOf}
-use Rattle.frame_words.proofs.InChains.{fewer_in, words_in}
-use Rattle.list_closed.specs.Closed.{IsNext}
-use Rattle.list_closed.proofs.Chained.{still_linked, successor_is, other_words}
-use Rattle.list_spread.proofs.Spreading.{queue_there, standing_there}
-use Rattle.listed_members.specs.Listed.{IsListed, IsQueueOf, IsStanding}
+use Rattle.frame_laws.specs.frame_words.InWords.{IsSpread, HasMember, IsInOrder}
+use Rattle.frame_laws.proofs.lemmas.frame_words.Decoded.{IsWordOf}
+use Rattle.frame_laws.proofs.lemmas.frame_words.InChains.{fewer_in, words_in}
+use Rattle.frame_laws.specs.list_closed.Closed.{IsNext}
+use Rattle.frame_laws.proofs.lemmas.list_closed.Chained.{still_linked, successor_is, other_words}
+use Rattle.frame_laws.proofs.lemmas.list_spread.Spreading.{queue_there, standing_there}
+use Rattle.driver_laws.specs.listed_members.Listed.{IsListed, IsQueueOf, IsStanding}
 use Rattle.periodic_list.specs.declared.work.Work.{Work}
 use Rattle.periodic_list.specs.declared.work.Store.{Store}
 use Rattle.periodic_list.specs.Periodic.{Periodic, link_to, address_of, words_of, value_of, store_at, store_of, is_more, after_work, after_store}
 use Rattle.periodic_rows.specs.Periodic.{note_at}
 use Rattle.driver_rows.specs.DriverContent.{DriverContent}
 use Rattle.hc_core.specs.Controller.{Content}
-use Rattle.lent_structures.specs.Structures.{Structure, QueueHead as Head, Table, Isochronous, SplitIsochronous, Structures, StructureSets, put, Tells}
+use Rattle.ring_laws.specs.lent_structures.Structures.{Structure, QueueHead as Head, Table, Isochronous, SplitIsochronous, Structures, StructureSets, put, Tells}
 use Rattle.ring_laws.specs.Hand.{Hand}
 use Rattle.ring_laws.specs.Ring.{Base}
 use Rattle.frame_walk.specs.Met.{Kind, AQueue, AnItd, ASitd, LeadsTo, IsMetAs}
 use Rattle.frame_walk.specs.FrameHand.{FrameHand}
-use Rattle.frame_control.specs.Both.{RunsBoth}
-use Rattle.frame_stores.specs.Stores.{HasLink, link_in, linked, frame_linked, IsMetFurther}
-use Rattle.frame_stores.proofs.Framing.{leads_further}
+use Rattle.frame_laws.specs.frame_control.Both.{RunsBoth}
+use Rattle.frame_laws.specs.frame_stores.Stores.{HasLink, link_in, linked, frame_linked, IsMetFurther}
+use Rattle.frame_laws.proofs.lemmas.frame_stores.Framing.{leads_further}
 use Rattle.described_parts.specs.Meeting.{is_led, led_by, kind_of, standing, or_recent, met}
 use Rattle.described_parts.specs.Growing.{led_in, led, IsLeftOut, AreApartFrom, KeepsMembers}
 use Rattle.described_parts.specs.RowLaws.{HasFrames}

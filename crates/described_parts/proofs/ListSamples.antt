@@ -9,7 +9,7 @@ use Rattle.frame_members.specs.Ranks.{is_called}
 use Rattle.frame_members.proofs.Splits.{IsAt}
 use Rattle.periodic_list.specs.Periodic.{Periodic, is_more}
 use Rattle.periodic_list.proofs.Words.{descriptor_words}
-use Rattle.list_closed.specs.Worked.{itd, both}
+use Rattle.frame_laws.specs.list_closed.Worked.{itd, both}
 use Rattle.frame_walk.specs.Met.{AQueue, AnItd}
 use Rattle.described_parts.specs.Meeting.{standing_in, no_recent}
 use Rattle.described_parts.specs.ListRows.{leaves_now, recent_with}

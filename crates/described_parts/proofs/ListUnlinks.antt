@@ -10,8 +10,8 @@ use Rattle.frame_chains.specs.declared.members.Predecessor.{Predecessor}
 use Rattle.frame_chains.specs.Chains.{Schedule}
 use Rattle.frame_members.specs.Members.{IsKept, is_member, is_linked}
 use Rattle.frame_members.proofs.Keeping.{descriptor_at}
-use Rattle.frame_words.specs.InWords.{StandFor}
-use Rattle.frame_words.proofs.Order.{remove_in_order}
+use Rattle.frame_laws.specs.frame_words.InWords.{StandFor}
+use Rattle.frame_laws.proofs.lemmas.frame_words.Order.{remove_in_order}
 use Rattle.periodic_list.specs.declared.work.Work.{Work}
 use Rattle.periodic_list.specs.declared.work.Store.{Store}
 use Rattle.periodic_list.specs.Periodic.{Periodic, begun, value_of, store_at, is_more, next_store, removing, after_store}
@@ -23,14 +23,14 @@ use Rattle.driver_rows.specs.declared.content.Transfer.{Transfer}
 use Rattle.driver_rows.specs.declared.rows.DriverRow.TheVariants as rows
 use Rattle.driver_rows.specs.DriverContent.{DriverContent}
 use Rattle.driver_rows.specs.Rows.{Parts, after_unlink, stored_link, descriptor_leaving}
-use Rattle.run_owners.specs.Kept.{HasOwners}
-use Rattle.run_owners.proofs.Rows.{due_owned, due_orderly}
-use Rattle.listed_members.specs.Listed.{IsUnderWay, IsListed}
-use Rattle.listed_members.proofs.Events.{row_listed}
-use Rattle.listed_members.proofs.Unlinks.{below_frames}
-use Rattle.list_spread.proofs.Spreading.{members_spread}
-use Rattle.list_stores.proofs.Making.{store_written}
-use Rattle.list_rows.proofs.Unlinked.{named_of, StandsAfter, first_word, unlinked_linked, removed_stands}
+use Rattle.driver_laws.specs.run_owners.Kept.{HasOwners}
+use Rattle.driver_laws.proofs.lemmas.run_owners.Rows.{due_owned, due_orderly}
+use Rattle.driver_laws.specs.listed_members.Listed.{IsUnderWay, IsListed}
+use Rattle.driver_laws.proofs.lemmas.listed_members.Events.{row_listed}
+use Rattle.driver_laws.proofs.lemmas.listed_members.Unlinks.{below_frames}
+use Rattle.frame_laws.proofs.lemmas.list_spread.Spreading.{members_spread}
+use Rattle.frame_laws.proofs.lemmas.list_stores.Making.{store_written}
+use Rattle.frame_laws.proofs.lemmas.list_rows.Unlinked.{named_of, StandsAfter, first_word, unlinked_linked, removed_stands}
 use Rattle.hc_core.specs.Controller.{Content}
 use Rattle.frame_walk.specs.Met.{Kind}
 use Rattle.described_parts.specs.Meeting.{kind_of_descriptor}

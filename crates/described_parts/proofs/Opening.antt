@@ -3,8 +3,8 @@ use Rattle.std.proofs.Common.{◌≡◌, ℕ, ◌≤◌, List, [], length, Optio
 use Rattle.std.proofs.lemmas.List.{length-replicate}
 use Rattle.driver_rows.specs.declared.content.Reserve.{Reserve}
 use Rattle.driver_rows.specs.Opening.{opening}
-use Rattle.run_owners.specs.Owners.{TransferRuns, views_of}
-use Rattle.lent_structures.specs.Structures.{Structure, Table}
+use Rattle.driver_laws.specs.run_owners.Owners.{TransferRuns, views_of}
+use Rattle.ring_laws.specs.lent_structures.Structures.{Structure, Table}
 use Rattle.driver_laws.specs.PartOpened.{no_parts, opening_parts, empty_list}
 use Rattle.driver_laws.proofs.PartOpening.{opening_drives}
 use Rattle.described_parts.specs.Told.{IsToldBy}

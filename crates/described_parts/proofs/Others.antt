@@ -16,13 +16,13 @@ use Rattle.driver_rows.specs.DriverContent.{DriverContent}
 use Rattle.driver_rows.specs.Rows.{Parts, after_driver_row, advance, leave_frames, no_command, finished, or_finished, after_unlink}
 use Rattle.driver_rows.specs.Words.{needs}
 use Rattle.driver_rows.specs.Offers.{Offered, take_runs, new_runs, accepted_open, accepted_chain, new_transfer, accepted_iso, accepted_cancel, endpoint_members, with_cancel, accepted_unchain}
-use Rattle.run_owners.specs.Owners.{HasRun, SlotHas, TransferRuns, Views, views_of, transfer_in, descriptor_in, runs_of_transfer}
-use Rattle.run_owners.specs.Accepts.{Transfers, Opens, Chains, opens, chains, places, transfers as a_transfer, describes, cancels, unchains}
-use Rattle.run_owners.proofs.Taking.{runs_taken}
-use Rattle.run_owners.proofs.Accepted.{push_case}
-use Rattle.run_owners.proofs.Stays.{advanced, harvest_stays, or_done, begun_notes}
-use Rattle.lent_runs.specs.Lent.{begins_in}
-use Rattle.lent_structures.specs.Structures.{StructureSets}
+use Rattle.driver_laws.specs.run_owners.Owners.{HasRun, SlotHas, TransferRuns, Views, views_of, transfer_in, descriptor_in, runs_of_transfer}
+use Rattle.driver_laws.specs.run_owners.Accepts.{Transfers, Opens, Chains, opens, chains, places, transfers as a_transfer, describes, cancels, unchains}
+use Rattle.driver_laws.proofs.lemmas.run_owners.Taking.{runs_taken}
+use Rattle.driver_laws.proofs.lemmas.run_owners.Accepted.{push_case}
+use Rattle.driver_laws.proofs.lemmas.run_owners.Stays.{advanced, harvest_stays, or_done, begun_notes}
+use Rattle.driver_laws.specs.lent_runs.Lent.{begins_in}
+use Rattle.ring_laws.specs.lent_structures.Structures.{StructureSets}
 use Rattle.driver_laws.specs.Inventory.{sorts_of, IsLent, IsDriven}
 use Rattle.driver_laws.proofs.Viewing.{SameViews, advance_views, harvest_views}
 use Rattle.driver_laws.proofs.Taken.{TakesOn, takes_on}

@@ -6,9 +6,9 @@ use Rattle.std.proofs.lemmas.Option.{same_Some}
 use Rattle.run_book.specs.Book.{Holding, slot_of, IsAt, Stands}
 use Rattle.run_book.specs.declared.slots.Slot.{Slot}
 use Rattle.driver_rows.specs.Words.{head_block}
-use Rattle.run_owners.specs.Owners.{Owner, FrameList, Head, QueueHead, Dummy, Element, Described, Buffer, SlotHas, HasBlocks, IsPlaced, TransferRuns, Views, AreOwned}
-use Rattle.run_owners.proofs.Apart.{runs_apart}
-use Rattle.lent_structures.specs.Structures.{Structure, QueueHead as QueueHeadOf, Element as ElementOf, Buffer as BufferOf, Table, Isochronous, SplitIsochronous, StructureSets, Has}
+use Rattle.driver_laws.specs.run_owners.Owners.{Owner, FrameList, Head, QueueHead, Dummy, Element, Described, Buffer, SlotHas, HasBlocks, IsPlaced, TransferRuns, Views, AreOwned}
+use Rattle.driver_laws.proofs.lemmas.run_owners.Apart.{runs_apart}
+use Rattle.ring_laws.specs.lent_structures.Structures.{Structure, QueueHead as QueueHeadOf, Element as ElementOf, Buffer as BufferOf, Table, Isochronous, SplitIsochronous, StructureSets, Has}
 use Rattle.driver_laws.specs.Inventory.{Sort, sort_of, sorts_of, OfBuffer, IsDriverOwned, the_list, the_head, a_queue, a_dummy, a_piece, a_buffer, IsDriven}
 use Rattle.driver_laws.specs.Extents.{AreInRuns}
 use Rattle.driver_laws.proofs.Blocks.{all_one, placed_buffer}

@@ -4,9 +4,9 @@ use Rattle.std.proofs.lemmas.Bool.{true≢false}
 use Rattle.std.proofs.lemmas.Option.{same_Some}
 use Rattle.itd_sitd.specs.Itd.{slot_of}
 use Rattle.iso_visits.specs.WriteBack.{itd_pages, slot_place}
-use Rattle.run_owners.specs.Owners.{TransferRuns, SlotHas}
-use Rattle.lent_structures.specs.Structures.{Structure, Buffer, Isochronous, Has, put}
-use Rattle.lent_structures.proofs.Names.{put_found}
+use Rattle.driver_laws.specs.run_owners.Owners.{TransferRuns, SlotHas}
+use Rattle.ring_laws.specs.lent_structures.Structures.{Structure, Buffer, Isochronous, Has, put}
+use Rattle.ring_laws.proofs.lemmas.lent_structures.Names.{put_found}
 use Rattle.driver_laws.specs.Extents.{InRuns}
 use Rattle.frame_walk.specs.Met.{IsBuffered}
 use Rattle.frame_walk.specs.PartSamples.{itd, bytes, pages, nothing}

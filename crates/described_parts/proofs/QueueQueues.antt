@@ -10,11 +10,11 @@ use Rattle.walk_copy.specs.Overlay.{advanced, moved}
 use Rattle.walk_copy.specs.WriteBack.{moved_by}
 use Rattle.async_walk.specs.declared.state.WalkStep.{WalkStep}
 use Rattle.async_walk.specs.Rows.{WalkPlace}
-use Rattle.run_owners.specs.Owners.{Views}
-use Rattle.lent_structures.specs.Structures.{Structure, QueueHead, Element, Buffer, Structures, StructureSets, with_structure, put}
-use Rattle.lent_structures.specs.Changes.{relinked, overwritten}
-use Rattle.lent_structures.proofs.Names.{put_here, put_beside}
-use Rattle.lent_structures.specs.WriteBack.{Received, Nothing, Into, IsReceived, received_parts, qtd_after, parts_back}
+use Rattle.driver_laws.specs.run_owners.Owners.{Views}
+use Rattle.ring_laws.specs.lent_structures.Structures.{Structure, QueueHead, Element, Buffer, Structures, StructureSets, with_structure, put}
+use Rattle.ring_laws.specs.lent_structures.Changes.{relinked, overwritten}
+use Rattle.ring_laws.proofs.lemmas.lent_structures.Names.{put_here, put_beside}
+use Rattle.ring_laws.specs.lent_structures.WriteBack.{Received, Nothing, Into, IsReceived, received_parts, qtd_after, parts_back}
 use Rattle.ring_laws.specs.Hand.{Copy, Settlement, settled_queue_of, Hand, Copied, Settled}
 use Rattle.ring_laws.specs.Ring.{Base, IsCopied, IsSettled, IsInHand, IsRing}
 use Rattle.ring_laws.specs.Effects.{AreSent, received_into, Effect, reads, passes, ends, takes, makes, writes_back}

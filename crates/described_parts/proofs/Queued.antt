@@ -24,16 +24,16 @@ use Rattle.driver_rows.specs.DriverContent.{DriverContent}
 use Rattle.driver_rows.specs.Opening.{opening}
 use Rattle.driver_rows.specs.Offers.{Offered, offered, endpoint_members, with_cancel}
 use Rattle.driver_rows.specs.Rows.{Parts, events_of, links, removes_members, leave_frames, no_command, removal_of, finished, list_after, or_finished, linked_on, advanced_by, framed_by, framed_notes, with_notes, placement_at, linked_by, freed_by, driver_row, after_driver_row}
-use Rattle.run_owners.specs.Accepts.{Accepts, opens, chains, places, transfers, describes, cancels, unchains, Describes, Unchains}
-use Rattle.run_owners.specs.Due.{IsDue}
-use Rattle.run_owners.proofs.Commands.{accepted_for_a_reason}
-use Rattle.run_owners.proofs.Reasons.{each_is_due}
-use Rattle.run_owners.proofs.Stays.{begun_notes}
+use Rattle.driver_laws.specs.run_owners.Accepts.{Accepts, opens, chains, places, transfers, describes, cancels, unchains, Describes, Unchains}
+use Rattle.driver_laws.specs.run_owners.Due.{IsDue}
+use Rattle.driver_laws.proofs.lemmas.run_owners.Commands.{accepted_for_a_reason}
+use Rattle.driver_laws.proofs.lemmas.run_owners.Reasons.{each_is_due}
+use Rattle.driver_laws.proofs.lemmas.run_owners.Stays.{begun_notes}
 use Rattle.driver_rows.specs.declared.content.Transfer.{Transfer}
 use Rattle.periodic_rows.specs.declared.content.DescriptorNote.{DescriptorNote}
 use Rattle.periodic_rows.specs.Periodic.{descriptor_member}
-use Rattle.listed_members.specs.Placed.{placed_in}
-use Rattle.listed_members.specs.Listed.{IsWaitingOf, IsUnderWay, IsListed}
+use Rattle.driver_laws.specs.listed_members.Placed.{placed_in}
+use Rattle.driver_laws.specs.listed_members.Listed.{IsWaitingOf, IsUnderWay, IsListed}
 use Rattle.described_parts.specs.Queued.{LinksQueued, DescriptorsComeFirst, LeavingComeFirst}
 use Rattle.described_parts.proofs.Coming.{members_come}
 use Rattle.described_parts.proofs.Chained.{transfer_command, unlink_command, endpoint_command, removed_command, harvest_command, out_of_ring}

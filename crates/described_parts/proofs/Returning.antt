@@ -18,15 +18,15 @@ use Rattle.driver_rows.specs.declared.content.Endpoint.{Endpoint}
 use Rattle.driver_rows.specs.declared.content.Transfer.{Transfer}
 use Rattle.driver_rows.specs.DriverContent.{waits_for}
 use Rattle.driver_rows.specs.Rows.{Parts}
-use Rattle.run_owners.specs.Owners.{Owner, FrameList, Head, QueueHead, Dummy, Element, Described, Buffer, is_descriptor, runs_of_transfer, runs_of_endpoint, views_of}
-use Rattle.run_owners.specs.Leaving.{times, transfers_in, transfer_before, endpoints_in, endpoint_before, owes, leaves_frames}
-use Rattle.run_owners.specs.Kept.{HasOwners}
-use Rattle.run_owners.proofs.Orders.{removed_first}
-use Rattle.listed_members.specs.Placed.{Placed, placed_of, placed_in, is_chained, framed_in, is_among}
-use Rattle.listed_members.specs.Listed.{IsStanding, IsQueueOf, IsListed}
-use Rattle.listed_members.proofs.Standing.{descriptor_placed, standing_block, why_stands, times_among}
-use Rattle.listed_members.proofs.Owned.{queue_owned}
-use Rattle.list_spread.proofs.Spreading.{queue_there, standing_there}
+use Rattle.driver_laws.specs.run_owners.Owners.{Owner, FrameList, Head, QueueHead, Dummy, Element, Described, Buffer, is_descriptor, runs_of_transfer, runs_of_endpoint, views_of}
+use Rattle.driver_laws.specs.run_owners.Leaving.{times, transfers_in, transfer_before, endpoints_in, endpoint_before, owes, leaves_frames}
+use Rattle.driver_laws.specs.run_owners.Kept.{HasOwners}
+use Rattle.driver_laws.proofs.lemmas.run_owners.Orders.{removed_first}
+use Rattle.driver_laws.specs.listed_members.Placed.{Placed, placed_of, placed_in, is_chained, framed_in, is_among}
+use Rattle.driver_laws.specs.listed_members.Listed.{IsStanding, IsQueueOf, IsListed}
+use Rattle.driver_laws.proofs.lemmas.listed_members.Standing.{descriptor_placed, standing_block, why_stands, times_among}
+use Rattle.driver_laws.proofs.lemmas.listed_members.Owned.{queue_owned}
+use Rattle.frame_laws.proofs.lemmas.list_spread.Spreading.{queue_there, standing_there}
 use Rattle.frame_walk.specs.Met.{Kind}
 use Rattle.described_parts.specs.Meeting.{led_by, standing, or_recent, met}
 use Rattle.described_parts.specs.Recent.{IsOpenAt, IsRemovedAt, a_descriptor, a_queue, a_waiting, IsRemovedSince, IsUnchainedNow, AreRecent}

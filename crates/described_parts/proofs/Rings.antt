@@ -2,9 +2,9 @@
 use Rattle.std.proofs.Common.{◌≡◌, ℕ, Bool, true, false, Some, ap, refl, sym, subst, ◌∙◌}
 use Rattle.std.proofs.lemmas.Option.{same_Some}
 use Rattle.usb_base.specs.declared.packets.Reply.{Reply}
-use Rattle.run_owners.specs.Owners.{Views, views_of}
-use Rattle.lent_structures.specs.Structures.{Structure, QueueHead, Element, Buffer, Table, Isochronous, SplitIsochronous, Structures, StructureSets}
-use Rattle.lent_structures.specs.Sound.{IsMember}
+use Rattle.driver_laws.specs.run_owners.Owners.{Views, views_of}
+use Rattle.ring_laws.specs.lent_structures.Structures.{Structure, QueueHead, Element, Buffer, Table, Isochronous, SplitIsochronous, Structures, StructureSets}
+use Rattle.ring_laws.specs.lent_structures.Sound.{IsMember}
 use Rattle.ring_laws.specs.Hand.{Hand, Empty, Copied, Settled, Stale, Copy}
 use Rattle.ring_laws.specs.Ring.{IsCopied, IsInHand}
 use Rattle.described_parts.specs.Described.{HasDescriptor, AreDescribed}

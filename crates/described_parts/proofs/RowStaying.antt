@@ -12,8 +12,8 @@ use Rattle.driver_rows.specs.declared.content.Command.TheVariants as unfinished
 use Rattle.driver_rows.specs.declared.rows.DriverRow.TheVariants as rows
 use Rattle.driver_rows.specs.DriverContent.{DriverContent, waits_for}
 use Rattle.driver_rows.specs.Rows.{Parts, is_iso, after_driver_row, after_unlink, after_descriptor, finished, leave_frames, no_command, removal_of}
-use Rattle.run_owners.specs.Owners.{is_descriptor}
-use Rattle.run_owners.proofs.Released.{set_here, set_there}
+use Rattle.driver_laws.specs.run_owners.Owners.{is_descriptor}
+use Rattle.driver_laws.proofs.lemmas.run_owners.Released.{set_here, set_there}
 use Rattle.frame_walk.specs.Met.{Kind}
 use Rattle.described_parts.specs.Recent.{IsOpenAt, IsRemovedAt, a_descriptor, a_queue, a_waiting, IsRemovedSince, IsUnchainedNow, AreRecent}
 use Rattle.described_parts.specs.Returned.{IsGivenBack}

@@ -7,8 +7,8 @@ use Rattle.word_mem.specs.Memory.{Mem}
 use Rattle.periodic_rows.specs.declared.content.DescriptorNote.{DescriptorNote}
 use Rattle.periodic_rows.specs.Periodic.{note_at}
 use Rattle.driver_rows.specs.declared.content.Transfer.{Transfer}
-use Rattle.lent_structures.specs.Structures.{Structure, Structures, StructureSets}
-use Rattle.lent_structures.proofs.Names.{not_same}
+use Rattle.ring_laws.specs.lent_structures.Structures.{Structure, Structures, StructureSets}
+use Rattle.ring_laws.proofs.lemmas.lent_structures.Names.{not_same}
 use Rattle.driver_laws.specs.Written.{AreAllApart}
 use Rattle.driver_laws.proofs.Lists.{IsOneOf, one_left, one_right, one_either, each_of, apart_left, apart_right}
 use Rattle.described_parts.specs.Written.{runs_of}

@@ -2,8 +2,8 @@
 use Rattle.std.proofs.Common.{◌≡◌, ℕ, ◌*◌, Bool, true, false, Option, Some, None, if◌then◌else◌, ap, refl, sym, ◌∙◌}
 use Rattle.std.specs.Prelude.{is_some}
 use Rattle.std.proofs.lemmas.Bool.{true≢false}
-use Rattle.run_owners.specs.Owners.{TransferRuns, Views}
-use Rattle.lent_structures.specs.Structures.{Structure, Structures, StructureSets}
+use Rattle.driver_laws.specs.run_owners.Owners.{TransferRuns, Views}
+use Rattle.ring_laws.specs.lent_structures.Structures.{Structure, Structures, StructureSets}
 use Rattle.described_parts.specs.Described.{IsDescriptorLent, HasDescriptor, IsOfDescriptor, a_descriptor, a_buffer, AreDescribed}
 use Rattle.described_parts.specs.Both.{owns, both}
 

@@ -3,10 +3,10 @@ use Rattle.std.proofs.Common.{◌≡◌, ℕ, ◌*◌, ◌<◌, Bool, true, fals
 use Rattle.std.specs.Prelude.{is_some}
 use Rattle.std.proofs.lemmas.Bool.{true≢false}
 use Rattle.run_book.specs.declared.slots.Slot.{Slot}
-use Rattle.run_owners.specs.Owners.{SlotHas, TransferRuns, DescriptorRuns, Views}
-use Rattle.lent_structures.specs.Structures.{Structure, Buffer, Table, Structures, StructureSets}
+use Rattle.driver_laws.specs.run_owners.Owners.{SlotHas, TransferRuns, DescriptorRuns, Views}
+use Rattle.ring_laws.specs.lent_structures.Structures.{Structure, Buffer, Table, Structures, StructureSets}
 use Rattle.driver_laws.specs.Inventory.{sort_of, sorts_of}
-use Rattle.lent_structures.specs.Alters.{HasBytes}
+use Rattle.ring_laws.specs.lent_structures.Alters.{HasBytes}
 use Rattle.driver_laws.specs.Extents.{HasWords, KeepExtents}
 use Rattle.described_parts.specs.Described.{IsDescriptorLent, HasDescriptor, HasItsBuffer, IsOfDescriptor, a_descriptor, a_buffer, AreDescribed}
 use Rattle.described_parts.specs.Both.{owns, both, descs_now, parts_now, Keeps}

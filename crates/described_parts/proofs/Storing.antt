@@ -20,22 +20,22 @@ use Rattle.driver_rows.specs.Rows.{doorbell_command}
 use Rattle.op_registers.specs.RegisterFile.{RegisterFile}
 use Rattle.op_registers.specs.Table.{after_write}
 use Rattle.hc_core.specs.Controller.{Content, frame_place, walk_place}
-use Rattle.lent_structures.specs.Structures.{Structure, Table, Isochronous, SplitIsochronous, StructureSets, put, Tells}
-use Rattle.lent_structures.proofs.Names.{put_same}
-use Rattle.lent_structures.proofs.Writing.{word_put_table}
+use Rattle.ring_laws.specs.lent_structures.Structures.{Structure, Table, Isochronous, SplitIsochronous, StructureSets, put, Tells}
+use Rattle.ring_laws.proofs.lemmas.lent_structures.Names.{put_same}
+use Rattle.ring_laws.proofs.lemmas.lent_structures.Writing.{word_put_table}
 use Rattle.ring_laws.specs.Hand.{Hand}
 use Rattle.ring_laws.specs.Ring.{Base, base_of}
 use Rattle.ring_laws.proofs.Ringing.{ring_at, cursor_same}
 use Rattle.driver_laws.specs.Driven.{IsOperating}
-use Rattle.controlled_streams.specs.Control.{FrameList}
+use Rattle.walked_queues.specs.controlled_streams.Control.{FrameList}
 use Rattle.frame_walk.specs.Met.{Kind, LeadsTo, IsMetAs}
 use Rattle.frame_walk.specs.FrameHand.{FrameHand}
 use Rattle.frame_walk.specs.Frame.{IsFrameWalk}
-use Rattle.frame_control.specs.Both.{RunsBoth}
-use Rattle.frame_stores.specs.Stores.{HasLink, linked, frame_linked}
-use Rattle.frame_stores.proofs.Framing.{leads_further}
-use Rattle.frame_stores.proofs.Linking.{link_told, fields_range, fields_word, stored_leads}
-use Rattle.frame_stores.proofs.Beside.{both_further, both_list_stored, both_word_stored}
+use Rattle.frame_laws.specs.frame_control.Both.{RunsBoth}
+use Rattle.frame_laws.specs.frame_stores.Stores.{HasLink, linked, frame_linked}
+use Rattle.frame_laws.proofs.lemmas.frame_stores.Framing.{leads_further}
+use Rattle.frame_laws.proofs.lemmas.frame_stores.Linking.{link_told, fields_range, fields_word, stored_leads}
+use Rattle.frame_laws.proofs.lemmas.frame_stores.Beside.{both_further, both_list_stored, both_word_stored}
 use Rattle.described_parts.specs.Described.{HasDescriptor}
 use Rattle.described_parts.specs.Meeting.{kind_of_descriptor, standing, met}
 use Rattle.described_parts.specs.Both.{both}

@@ -5,8 +5,8 @@ use Rattle.word_mem.specs.Memory.{Mem}
 use Rattle.run_book.specs.Book.{holding, slot_of, Stands}
 use Rattle.driver_rows.specs.Words.{head_block}
 use Rattle.driver_rows.specs.DriverContent.{DriverContent}
-use Rattle.run_owners.specs.Owners.{Owner, Described, Buffer, EndpointRuns, TransferRuns, Views, views_of, AreOwned}
-use Rattle.lent_structures.specs.Structures.{Structure, StructureSets, Holds, Has, Tells}
+use Rattle.driver_laws.specs.run_owners.Owners.{Owner, Described, Buffer, EndpointRuns, TransferRuns, Views, views_of, AreOwned}
+use Rattle.ring_laws.specs.lent_structures.Structures.{Structure, StructureSets, Holds, Has, Tells}
 use Rattle.driver_laws.specs.Inventory.{Sort, sort_of, IsQueueIn, IsDriverOwned, the_list, the_head, a_queue, a_dummy, a_piece, a_buffer}
 use Rattle.driver_laws.specs.Extents.{AreInRuns}
 use Rattle.described_parts.specs.Described.{IsDescriptorLent, AreHeld}

@@ -14,12 +14,12 @@ use Rattle.periodic_rows.specs.Periodic.{note_at}
 use Rattle.driver_rows.specs.declared.content.Transfer.{Transfer}
 use Rattle.driver_rows.specs.DriverContent.{DriverContent}
 use Rattle.driver_rows.specs.Rows.{Parts, advance}
-use Rattle.run_owners.specs.Owners.{Buffer, SlotHas, IsPlaced, IsDescribed, TransferRuns, Views, views_of, runs_of_transfer, transfer_in}
-use Rattle.run_owners.proofs.Stays.{advanced}
-use Rattle.ring_members.proofs.Freed.{lent_words}
-use Rattle.lent_structures.specs.Structures.{Structure, Structures, StructureSets, Holds}
-use Rattle.lent_structures.specs.Changes.{Leaves}
-use Rattle.lent_structures.proofs.Standing.{reaches_if, holds_lent, holds_still}
+use Rattle.driver_laws.specs.run_owners.Owners.{Buffer, SlotHas, IsPlaced, IsDescribed, TransferRuns, Views, views_of, runs_of_transfer, transfer_in}
+use Rattle.driver_laws.proofs.lemmas.run_owners.Stays.{advanced}
+use Rattle.driver_laws.proofs.lemmas.ring_members.Freed.{lent_words}
+use Rattle.ring_laws.specs.lent_structures.Structures.{Structure, Structures, StructureSets, Holds}
+use Rattle.ring_laws.specs.lent_structures.Changes.{Leaves}
+use Rattle.ring_laws.proofs.lemmas.lent_structures.Standing.{reaches_if, holds_lent, holds_still}
 use Rattle.driver_laws.specs.Inventory.{IsLent}
 use Rattle.driver_laws.proofs.Viewing.{advance_views}
 use Rattle.driver_laws.proofs.Lent.{leaves_both, lend_taken_leaves}

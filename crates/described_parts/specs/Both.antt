@@ -6,8 +6,8 @@
 --     Keeps parts now          each name has a structure of the same kind, as far as it was, and each descriptor is one still
 --     SameDescriptors v w      what is told of lent descriptors is the same
 use Rattle.std.specs.Prelude.{◌≡◌, ℕ, Bool, is_some, if◌then◌else◌}
-use Rattle.run_owners.specs.Owners.{SlotHas, TransferRuns, Views}
-use Rattle.lent_structures.specs.Structures.{StructureSets}
+use Rattle.driver_laws.specs.run_owners.Owners.{SlotHas, TransferRuns, Views}
+use Rattle.ring_laws.specs.lent_structures.Structures.{StructureSets}
 use Rattle.driver_laws.specs.Inventory.{SameSorts}
 use Rattle.driver_laws.specs.Extents.{KeepExtents}
 use Rattle.described_parts.specs.Described.{IsDescriptorLent, HasDescriptor}

@@ -11,8 +11,8 @@ use Rattle.driver_rows.specs.DriverContent.{DriverContent}
 use Rattle.driver_rows.specs.Opening.{opening}
 use Rattle.driver_rows.specs.Offers.{Offered, offered}
 use Rattle.driver_rows.specs.Rows.{Parts, driver_row, after_driver_row}
-use Rattle.run_owners.specs.Kept.{HasOwners}
-use Rattle.listed_members.specs.Listed.{IsListed}
+use Rattle.driver_laws.specs.run_owners.Kept.{HasOwners}
+use Rattle.driver_laws.specs.listed_members.Listed.{IsListed}
 use Rattle.described_parts.specs.ListRows.{LeavesChained}
 
 abbrev pub NewDriverLeavesChained : Type 0

@@ -13,19 +13,19 @@ use Rattle.driver_rows.specs.declared.content.Transfer.{Transfer}
 use Rattle.driver_rows.specs.declared.content.Command.{Command}
 use Rattle.driver_rows.specs.DriverContent.{DriverContent}
 use Rattle.driver_rows.specs.Rows.{events_of, removes_members}
-use Rattle.run_owners.specs.Owners.{is_descriptor, runs_of_transfer, views_of}
-use Rattle.run_owners.specs.Kept.{HasOwners}
-use Rattle.lent_runs.specs.Lent.{still_lends, AreLent}
+use Rattle.driver_laws.specs.run_owners.Owners.{is_descriptor, runs_of_transfer, views_of}
+use Rattle.driver_laws.specs.run_owners.Kept.{HasOwners}
+use Rattle.driver_laws.specs.lent_runs.Lent.{still_lends, AreLent}
 use Rattle.frame_chains.specs.declared.members.Member.{Member}
 use Rattle.frame_chains.specs.Chains.{id_of}
-use Rattle.listed_members.specs.Listed.{IsWaitingOf}
+use Rattle.driver_laws.specs.listed_members.Listed.{IsWaitingOf}
 use Rattle.hc_core.specs.Controller.{Content}
-use Rattle.lent_structures.specs.Structures.{StructureSets}
+use Rattle.ring_laws.specs.lent_structures.Structures.{StructureSets}
 use Rattle.ring_laws.specs.Hand.{Hand}
 use Rattle.ring_laws.specs.Ring.{Base}
 use Rattle.frame_walk.specs.Met.{Kind}
 use Rattle.frame_walk.specs.FrameHand.{FrameHand}
-use Rattle.frame_control.specs.Both.{RunsBoth}
+use Rattle.frame_laws.specs.frame_control.Both.{RunsBoth}
 use Rattle.described_parts.specs.Described.{IsDescriptorLent, AreDescribed}
 use Rattle.described_parts.specs.Both.{both}
 use Rattle.described_parts.specs.Meeting.{kind_of_descriptor, kind_of}

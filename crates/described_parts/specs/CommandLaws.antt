@@ -8,18 +8,18 @@ use Rattle.driver_rows.specs.declared.rows.DriverRow.TheVariants as rows
 use Rattle.driver_rows.specs.DriverContent.{DriverContent}
 use Rattle.driver_rows.specs.Rows.{Parts, after_driver_row}
 use Rattle.driver_rows.specs.Offers.{Offered}
-use Rattle.run_owners.specs.Owners.{TransferRuns, views_of}
-use Rattle.run_owners.specs.Accepts.{Describes, Accepts}
-use Rattle.run_owners.specs.Kept.{HasOwners}
-use Rattle.lent_runs.specs.Lent.{begins_in}
+use Rattle.driver_laws.specs.run_owners.Owners.{TransferRuns, views_of}
+use Rattle.driver_laws.specs.run_owners.Accepts.{Describes, Accepts}
+use Rattle.driver_laws.specs.run_owners.Kept.{HasOwners}
+use Rattle.driver_laws.specs.lent_runs.Lent.{begins_in}
 use Rattle.hc_core.specs.Controller.{Content}
-use Rattle.lent_structures.specs.Structures.{StructureSets}
-use Rattle.lent_structures.specs.Changes.{Leaves}
+use Rattle.ring_laws.specs.lent_structures.Structures.{StructureSets}
+use Rattle.ring_laws.specs.lent_structures.Changes.{Leaves}
 use Rattle.ring_laws.specs.Hand.{Hand}
 use Rattle.ring_laws.specs.Ring.{Base}
 use Rattle.frame_walk.specs.Met.{Kind}
 use Rattle.frame_walk.specs.FrameHand.{FrameHand}
-use Rattle.frame_control.specs.Both.{RunsBoth}
+use Rattle.frame_laws.specs.frame_control.Both.{RunsBoth}
 use Rattle.described_parts.specs.Described.{AreDescribed, AreHeld}
 use Rattle.described_parts.specs.Both.{both}
 use Rattle.described_parts.specs.Lent.{after_lend, descs_after, IsLending}

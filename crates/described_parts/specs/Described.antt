@@ -16,8 +16,8 @@ use Rattle.itd_sitd.specs.declared.sitd.Sitd.{Sitd}
 use Rattle.itd_sitd.specs.Itd.{slot_of}
 use Rattle.iso_visits.specs.Sitd.{sitd_place}
 use Rattle.iso_visits.specs.WriteBack.{itd_pages, slot_place, sitd_pages}
-use Rattle.run_owners.specs.Owners.{TransferRuns, Views}
-use Rattle.lent_structures.specs.Structures.{Structure, Buffer, Isochronous, SplitIsochronous, Structures, StructureSets, Holds, Has}
+use Rattle.driver_laws.specs.run_owners.Owners.{TransferRuns, Views}
+use Rattle.ring_laws.specs.lent_structures.Structures.{Structure, Buffer, Isochronous, SplitIsochronous, Structures, StructureSets, Holds, Has}
 use Rattle.driver_laws.specs.Inventory.{IsLent}
 use Rattle.driver_laws.specs.Extents.{InRuns}
 use Rattle.frame_walk.specs.Met.{IsBuffered}

@@ -25,7 +25,7 @@ use Rattle.driver_rows.specs.declared.content.Transfer.{Transfer}
 use Rattle.driver_rows.specs.DriverContent.{DriverContent}
 use Rattle.driver_rows.specs.Opening.{opening, opening_memory}
 use Rattle.hc_core.specs.Controller.{Content, content, new_control}
-use Rattle.lent_structures.specs.Structures.{Isochronous, StructureSets, put}
+use Rattle.ring_laws.specs.lent_structures.Structures.{Isochronous, StructureSets, put}
 use Rattle.driver_laws.specs.PartOpened.{no_parts}
 
 abbrev pub room : Reserve

@@ -9,12 +9,12 @@ use Rattle.std.specs.Prelude.{◌≡◌, ◌⊎◌, ℕ, ◌*◌, ◌/◌, true,
 use Rattle.frame_chains.specs.declared.members.Member.{Member}
 use Rattle.frame_chains.specs.Chains.{Schedule, id_of, is_the}
 use Rattle.frame_members.specs.Members.{is_linked}
-use Rattle.frame_words.specs.InWords.{IsSpread}
+use Rattle.frame_laws.specs.frame_words.InWords.{IsSpread}
 use Rattle.periodic_list.specs.declared.work.Work.{Work}
 use Rattle.periodic_list.specs.Periodic.{Periodic, is_more, after_store}
 use Rattle.driver_rows.specs.DriverContent.{DriverContent}
 use Rattle.frame_walk.specs.Met.{Kind}
-use Rattle.frame_stores.specs.Stores.{IsMetFurther}
+use Rattle.frame_laws.specs.frame_stores.Stores.{IsMetFurther}
 use Rattle.described_parts.specs.Meeting.{led_by, kind_of, standing, met}
 
 abbrev pub led_in : Periodic → Schedule

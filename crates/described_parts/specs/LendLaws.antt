@@ -13,11 +13,11 @@ use Rattle.driver_rows.specs.declared.rows.DriverRow.TheVariants as rows
 use Rattle.driver_rows.specs.DriverContent.{DriverContent}
 use Rattle.driver_rows.specs.Rows.{Parts, after_driver_row}
 use Rattle.driver_rows.specs.Offers.{Offered}
-use Rattle.run_owners.specs.Owners.{views_of}
-use Rattle.run_owners.specs.Accepts.{Describes}
-use Rattle.run_owners.specs.Kept.{HasOwners}
-use Rattle.lent_runs.specs.Lent.{AreLent}
-use Rattle.lent_structures.specs.Structures.{StructureSets}
+use Rattle.driver_laws.specs.run_owners.Owners.{views_of}
+use Rattle.driver_laws.specs.run_owners.Accepts.{Describes}
+use Rattle.driver_laws.specs.run_owners.Kept.{HasOwners}
+use Rattle.driver_laws.specs.lent_runs.Lent.{AreLent}
+use Rattle.ring_laws.specs.lent_structures.Structures.{StructureSets}
 use Rattle.described_parts.specs.Described.{AreDescribed}
 use Rattle.described_parts.specs.Written.{HasFields, DescriptorsAwaitLend}
 

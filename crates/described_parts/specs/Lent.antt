@@ -18,10 +18,10 @@ use Rattle.driver_rows.specs.declared.content.Transfer.{Transfer}
 use Rattle.driver_rows.specs.declared.rows.DriverRow.{DriverRow}
 use Rattle.driver_rows.specs.declared.rows.DriverRow.TheVariants as rows
 use Rattle.driver_rows.specs.Rows.{Parts, after_driver_row}
-use Rattle.run_owners.specs.Owners.{views_of}
-use Rattle.run_owners.specs.Kept.{HasOwners}
-use Rattle.lent_structures.specs.Structures.{Structure, Buffer, Isochronous, SplitIsochronous, Structures, StructureSets}
-use Rattle.lent_structures.specs.Changes.{Leaves}
+use Rattle.driver_laws.specs.run_owners.Owners.{views_of}
+use Rattle.driver_laws.specs.run_owners.Kept.{HasOwners}
+use Rattle.ring_laws.specs.lent_structures.Structures.{Structure, Buffer, Isochronous, SplitIsochronous, Structures, StructureSets}
+use Rattle.ring_laws.specs.lent_structures.Changes.{Leaves}
 use Rattle.described_parts.specs.Described.{AreDescribed, AreHeld}
 use Rattle.described_parts.specs.Written.{bytes_in, DescriptorsAwaitLend, link_before, AreLinks}
 

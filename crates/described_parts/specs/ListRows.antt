@@ -26,7 +26,7 @@ use Rattle.frame_chains.specs.Chains.{Schedule, id_of}
 use Rattle.periodic_list.specs.declared.work.Work.{Work}
 use Rattle.periodic_list.specs.declared.work.Store.{Store}
 use Rattle.periodic_list.specs.Periodic.{Periodic, is_more, next_store, after_store}
-use Rattle.frame_words.specs.InWords.{IsInOrder}
+use Rattle.frame_laws.specs.frame_words.InWords.{IsInOrder}
 use Rattle.periodic_rows.specs.Periodic.{PeriodicContent, note_at}
 use Rattle.driver_rows.specs.declared.content.Endpoint.{Endpoint}
 use Rattle.driver_rows.specs.declared.content.Transfer.{Transfer}
@@ -35,19 +35,19 @@ use Rattle.driver_rows.specs.declared.rows.DriverRow.{DriverRow}
 use Rattle.driver_rows.specs.declared.rows.DriverRow.TheVariants as rows
 use Rattle.driver_rows.specs.DriverContent.{DriverContent}
 use Rattle.driver_rows.specs.Rows.{removes_members, descriptor_leaving}
-use Rattle.run_owners.specs.Owners.{TransferRuns, is_descriptor, views_of}
-use Rattle.run_owners.specs.Kept.{HasOwners}
-use Rattle.run_owners.specs.Due.{IsLinkOf, IsUnlinkDue}
-use Rattle.list_steps.specs.Steps.{NextLeads}
+use Rattle.driver_laws.specs.run_owners.Owners.{TransferRuns, is_descriptor, views_of}
+use Rattle.driver_laws.specs.run_owners.Kept.{HasOwners}
+use Rattle.driver_laws.specs.run_owners.Due.{IsLinkOf, IsUnlinkDue}
+use Rattle.frame_laws.specs.list_steps.Steps.{NextLeads}
 use Rattle.hc_core.specs.Controller.{Content}
-use Rattle.lent_structures.specs.Structures.{Structure, Structures, Table, StructureSets, put}
+use Rattle.ring_laws.specs.lent_structures.Structures.{Structure, Structures, Table, StructureSets, put}
 use Rattle.ring_laws.specs.Hand.{Hand}
 use Rattle.ring_laws.specs.Ring.{Base}
-use Rattle.controlled_streams.specs.Control.{FrameList}
+use Rattle.walked_queues.specs.controlled_streams.Control.{FrameList}
 use Rattle.frame_walk.specs.Met.{Kind, AQueue, AnItd, ASitd, IsQueuePart}
 use Rattle.frame_walk.specs.FrameHand.{FrameHand}
-use Rattle.frame_control.specs.Both.{RunsBoth}
-use Rattle.frame_stores.specs.Stores.{HasLink, linked, frame_linked}
+use Rattle.frame_laws.specs.frame_control.Both.{RunsBoth}
+use Rattle.frame_laws.specs.frame_stores.Stores.{HasLink, linked, frame_linked}
 use Rattle.described_parts.specs.Described.{IsDescriptorLent, HasDescriptor, AreDescribed}
 use Rattle.described_parts.specs.Both.{both, descs_now, parts_now, Keeps}
 use Rattle.described_parts.specs.Meeting.{kind_of_descriptor, kind_of, met}

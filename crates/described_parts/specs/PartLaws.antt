@@ -9,13 +9,13 @@ use Rattle.async_walk.specs.Rows.{WalkPlace}
 use Rattle.periodic_walk.specs.Place.{FramePlace}
 use Rattle.run_book.specs.Book.{holding, Stands}
 use Rattle.driver_rows.specs.DriverContent.{DriverContent}
-use Rattle.run_owners.specs.Owners.{Views, views_of}
-use Rattle.run_owners.specs.Kept.{HasOwners}
-use Rattle.lent_structures.specs.Structures.{StructureSets, Tells}
+use Rattle.driver_laws.specs.run_owners.Owners.{Views, views_of}
+use Rattle.driver_laws.specs.run_owners.Kept.{HasOwners}
+use Rattle.ring_laws.specs.lent_structures.Structures.{StructureSets, Tells}
 use Rattle.ring_laws.specs.Hand.{Hand}
 use Rattle.ring_laws.specs.Ring.{Base, IsRing}
 use Rattle.ring_laws.specs.Effects.{Effect}
-use Rattle.controlled_streams.specs.Control.{FrameList}
+use Rattle.walked_queues.specs.controlled_streams.Control.{FrameList}
 use Rattle.driver_laws.specs.Inventory.{sorts_of, SameSorts, IsDriven}
 use Rattle.driver_laws.specs.Extents.{AreInRuns, KeepExtents}
 use Rattle.frame_walk.specs.Met.{Kind, LeadsTo, IsMetItd, IsMetSitd}

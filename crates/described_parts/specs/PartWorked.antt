@@ -4,8 +4,8 @@
 --     descs, parts           what the descriptor has, and what the queues have
 use Rattle.std.specs.Prelude.{true, false, [], ◌∷◌, ◌==◌, if◌then◌else◌, Some, None}
 use Rattle.run_book.specs.declared.slots.Slot.TheVariants.{Empty, Lends}
-use Rattle.run_owners.specs.Owners.{TransferRuns, Views}
-use Rattle.lent_structures.specs.Structures.{QueueHead, Buffer, Isochronous, StructureSets, put}
+use Rattle.driver_laws.specs.run_owners.Owners.{TransferRuns, Views}
+use Rattle.ring_laws.specs.lent_structures.Structures.{QueueHead, Buffer, Isochronous, StructureSets, put}
 use Rattle.frame_walk.specs.PartSamples.{itd, queue, bytes, pages, nothing}
 
 abbrev pub transfer : TransferRuns

@@ -13,21 +13,21 @@ use Rattle.driver_rows.specs.DriverContent.{DriverContent}
 use Rattle.driver_rows.specs.Opening.{opening}
 use Rattle.driver_rows.specs.Offers.{Offered, offered}
 use Rattle.driver_rows.specs.Rows.{Parts, driver_row, after_driver_row}
-use Rattle.run_owners.specs.Owners.{views_of}
-use Rattle.run_owners.specs.Kept.{HasOwners}
-use Rattle.lent_runs.specs.Lent.{AreLent}
+use Rattle.driver_laws.specs.run_owners.Owners.{views_of}
+use Rattle.driver_laws.specs.run_owners.Kept.{HasOwners}
+use Rattle.driver_laws.specs.lent_runs.Lent.{AreLent}
 use Rattle.hc_core.specs.Controller.{Content}
-use Rattle.lent_structures.specs.Structures.{StructureSets}
+use Rattle.ring_laws.specs.lent_structures.Structures.{StructureSets}
 use Rattle.ring_laws.specs.Hand.{Hand}
 use Rattle.ring_laws.specs.Ring.{Base}
 use Rattle.frame_walk.specs.Met.{Kind}
 use Rattle.frame_walk.specs.FrameHand.{FrameHand}
-use Rattle.frame_control.specs.Both.{RunsBoth}
+use Rattle.frame_laws.specs.frame_control.Both.{RunsBoth}
 use Rattle.described_parts.specs.Described.{AreDescribed}
 use Rattle.described_parts.specs.Both.{both}
 use Rattle.described_parts.specs.Recent.{AreRecent}
 use Rattle.described_parts.specs.ListRows.{ComesFirst}
-use Rattle.listed_members.specs.Listed.{IsWaitingOf, IsListed}
+use Rattle.driver_laws.specs.listed_members.Listed.{IsWaitingOf, IsListed}
 
 abbrev pub LinksQueued : DriverContent → Type 0
 LinksQueued d = (e t count : ℕ) (w : Work) → d.command ≡ Some (unfinished.Iso e t count) → d.periodic.list.work ≡ Some w → (2 ≤ d.made) × IsWaitingOf d e t w.member

@@ -10,10 +10,10 @@ use Rattle.driver_rows.specs.declared.content.Endpoint.{Endpoint}
 use Rattle.driver_rows.specs.declared.content.Transfer.{Transfer}
 use Rattle.driver_rows.specs.DriverContent.{waits_for}
 use Rattle.driver_rows.specs.Rows.{Parts, is_iso}
-use Rattle.run_owners.specs.Owners.{is_descriptor}
-use Rattle.run_owners.specs.Due.{IsRemovalDue}
-use Rattle.run_owners.specs.Kept.{HasOwners}
-use Rattle.listed_members.specs.Listed.{IsListed}
+use Rattle.driver_laws.specs.run_owners.Owners.{is_descriptor}
+use Rattle.driver_laws.specs.run_owners.Due.{IsRemovalDue}
+use Rattle.driver_laws.specs.run_owners.Kept.{HasOwners}
+use Rattle.driver_laws.specs.listed_members.Listed.{IsListed}
 use Rattle.frame_walk.specs.Met.{Kind}
 use Rattle.described_parts.specs.Meeting.{met}
 use Rattle.described_parts.specs.Recent.{AreRecent}

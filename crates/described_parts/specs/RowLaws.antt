@@ -7,21 +7,21 @@ use Rattle.std.specs.Prelude.{◌≡◌, ℕ, ◌*◌, ◌<◌, Bool, Option, So
 use Rattle.word_mem.specs.Memory.{Mem, word_at}
 use Rattle.frame_chains.specs.declared.members.Predecessor.TheVariants.{Element}
 use Rattle.periodic_list.specs.Periodic.{address_of}
-use Rattle.frame_words.specs.InWords.{IsSpread}
+use Rattle.frame_laws.specs.frame_words.InWords.{IsSpread}
 use Rattle.link_words.specs.Links.{link_read}
 use Rattle.driver_rows.specs.DriverContent.{DriverContent}
-use Rattle.listed_members.specs.Listed.{IsListed}
-use Rattle.list_stands.specs.Standing.{ListStands}
+use Rattle.driver_laws.specs.listed_members.Listed.{IsListed}
+use Rattle.frame_laws.specs.list_stands.Standing.{ListStands}
 use Rattle.hc_core.specs.declared.controller.MicroframePart.TheVariants.{Over}
 use Rattle.hc_core.specs.Controller.{Content, began}
-use Rattle.lent_structures.specs.Structures.{StructureSets, Tells}
+use Rattle.ring_laws.specs.lent_structures.Structures.{StructureSets, Tells}
 use Rattle.ring_laws.specs.Hand.{Hand}
 use Rattle.ring_laws.specs.Ring.{Base}
-use Rattle.controlled_streams.specs.Control.{FrameList}
+use Rattle.walked_queues.specs.controlled_streams.Control.{FrameList}
 use Rattle.frame_walk.specs.Met.{Kind, LeadsTo}
 use Rattle.frame_walk.specs.FrameHand.{FrameHand, Nothing}
-use Rattle.frame_control.specs.Both.{LeadToMet, RunsBoth}
-use Rattle.frame_stores.specs.Stores.{AreMetAmong}
+use Rattle.frame_laws.specs.frame_control.Both.{LeadToMet, RunsBoth}
+use Rattle.frame_laws.specs.frame_stores.Stores.{AreMetAmong}
 use Rattle.described_parts.specs.Meeting.{standing, met, no_recent}
 
 pub record HasFrames (m : Mem) (d : DriverContent) : Type 0 where

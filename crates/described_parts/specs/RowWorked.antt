@@ -6,7 +6,7 @@ use Rattle.std.specs.Prelude.{true, Some}
 use Rattle.periodic_rows.specs.Periodic.{PeriodicContent, new_periodic}
 use Rattle.frame_chains.specs.declared.members.Member.TheVariants.{Once}
 use Rattle.periodic_list.specs.Periodic.{after_store}
-use Rattle.list_closed.specs.Worked.{itd, both, work}
+use Rattle.frame_laws.specs.list_closed.Worked.{itd, both, work}
 
 abbrev pub list : PeriodicContent
 list = record (new_periodic 0 1 1) { list = record { list = 0; members = record { schedule = both; queue_room = 1; descriptor_room = 1 }; work = Some work } }

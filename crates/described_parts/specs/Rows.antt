@@ -12,15 +12,15 @@ use Rattle.driver_rows.specs.declared.rows.DriverRow.{DriverRow}
 use Rattle.driver_rows.specs.declared.rows.DriverRow.TheVariants as rows
 use Rattle.driver_rows.specs.DriverContent.{DriverContent}
 use Rattle.hc_core.specs.Controller.{Content}
-use Rattle.lent_structures.specs.Structures.{Structure, Table, StructureSets, put, Tells}
+use Rattle.ring_laws.specs.lent_structures.Structures.{Structure, Table, StructureSets, put, Tells}
 use Rattle.ring_laws.specs.Hand.{Hand}
 use Rattle.ring_laws.specs.Ring.{Base}
-use Rattle.controlled_streams.specs.Control.{FrameList}
+use Rattle.walked_queues.specs.controlled_streams.Control.{FrameList}
 use Rattle.driver_laws.specs.Driven.{IsOperating}
 use Rattle.frame_walk.specs.Met.{Kind, IsMetAs}
 use Rattle.frame_walk.specs.FrameHand.{FrameHand}
-use Rattle.frame_control.specs.Both.{RunsBoth}
-use Rattle.frame_stores.specs.Stores.{HasLink, linked, frame_linked, IsMetFurther}
+use Rattle.frame_laws.specs.frame_control.Both.{RunsBoth}
+use Rattle.frame_laws.specs.frame_stores.Stores.{HasLink, linked, frame_linked, IsMetFurther}
 use Rattle.described_parts.specs.Described.{HasDescriptor}
 use Rattle.described_parts.specs.Meeting.{kind_of_descriptor, standing, met}
 use Rattle.described_parts.specs.Recent.{DrivesFrames, driver_after, content_after}

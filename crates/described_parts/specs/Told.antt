@@ -6,9 +6,9 @@
 use Rattle.word_mem.specs.Memory.{Mem}
 use Rattle.driver_rows.specs.DriverContent.{DriverContent}
 use Rattle.driver_rows.specs.Rows.{Parts}
-use Rattle.run_owners.specs.Owners.{Views}
+use Rattle.driver_laws.specs.run_owners.Owners.{Views}
 use Rattle.hc_core.specs.Controller.{Content}
-use Rattle.lent_structures.specs.Structures.{StructureSets}
+use Rattle.ring_laws.specs.lent_structures.Structures.{StructureSets}
 use Rattle.driver_laws.specs.Inventory.{sorts_of, IsDriven}
 use Rattle.driver_laws.specs.Extents.{AreInRuns}
 use Rattle.described_parts.specs.Described.{AreDescribed}

@@ -22,7 +22,7 @@ use Rattle.driver_rows.specs.declared.content.Transfer.{Transfer}
 use Rattle.driver_rows.specs.declared.content.Command.TheVariants as unfinished
 use Rattle.driver_rows.specs.DriverContent.{DriverContent}
 use Rattle.driver_rows.specs.Words.{buffer_needs}
-use Rattle.run_owners.specs.Owners.{is_descriptor}
+use Rattle.driver_laws.specs.run_owners.Owners.{is_descriptor}
 use Rattle.driver_laws.specs.Written.{IsPageRun, AreRuns, AreAllApart}
 
 abbrev pub bytes_in : DescriptorNote → ℕ

@@ -1,7 +1,7 @@
 //! A worked row: of a driver that was just built.
 ghost use Rattle.driver_rows.specs.declared.content.Reserve.{Reserve};
 ghost use Rattle.driver_rows.specs.Opening.{opening};
-ghost use Rattle.run_owners.specs.Owners.{views_of};
+ghost use Rattle.driver_laws.specs.run_owners.Owners.{views_of};
 ghost use Rattle.driver_laws.specs.PartOpened.{no_parts, opening_parts};
 ghost use Rattle.described_parts.specs.Told.{IsToldBy};
 

@@ -1,6 +1,6 @@
 //! A worked row, which the check computes: of a driver with one iTD beside a queue head.
 ghost use Rattle.std.specs.Prelude.{◌≡◌, Some, None};
-ghost use Rattle.lent_structures.specs.Structures.{QueueHead, Buffer, Isochronous};
+ghost use Rattle.ring_laws.specs.lent_structures.Structures.{QueueHead, Buffer, Isochronous};
 ghost use Rattle.frame_walk.specs.PartSamples.{itd, queue, bytes, pages};
 ghost use Rattle.described_parts.specs.Described.{AreDescribed};
 ghost use Rattle.described_parts.specs.Both.{both};

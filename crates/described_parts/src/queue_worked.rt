@@ -1,6 +1,6 @@
 //! A worked row, which the check computes: of a queue head beside an iTD.
 ghost use Rattle.std.specs.Prelude.{◌≡◌, Some, None};
-ghost use Rattle.lent_structures.specs.Structures.{QueueHead, put};
+ghost use Rattle.ring_laws.specs.lent_structures.Structures.{QueueHead, put};
 ghost use Rattle.frame_walk.specs.PartSamples.{queue};
 ghost use Rattle.described_parts.specs.Both.{both, parts_now};
 ghost use Rattle.described_parts.specs.PartWorked.{descs, parts};

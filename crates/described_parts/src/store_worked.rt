@@ -1,7 +1,7 @@
 //! A worked row.
 ghost use Rattle.std.specs.Prelude.{◌≡◌, Some, None};
 ghost use Rattle.frame_chains.specs.declared.members.Member.TheVariants.{Once};
-ghost use Rattle.list_closed.specs.Worked.{itd};
+ghost use Rattle.frame_laws.specs.list_closed.Worked.{itd};
 ghost use Rattle.frame_walk.specs.Met.{Kind, AQueue, AnItd};
 ghost use Rattle.described_parts.specs.Meeting.{standing_in, no_recent};
 ghost use Rattle.described_parts.specs.ListRows.{leaves_now, recent_with};

@@ -13,14 +13,14 @@ use Rattle.driver_rows.specs.Words.{buffer_needs, needs}
 use Rattle.driver_rows.specs.Harvests.{note_at}
 use Rattle.driver_rows.specs.Rows.{is_iso}
 use Rattle.driver_rows.specs.Offers.{Asked, take_runs, note_for, runs_of, note_stages, new_transfer, with_queued, accepted_transfer}
-use Rattle.run_owners.specs.Owners.{Dummy, Element, NoteRuns, Views, is_descriptor, runs_of_endpoint, runs_of_transfer, runs_of_note, note_in, transfer_in, views_of}
-use Rattle.run_owners.specs.Kept.{HasOwners}
-use Rattle.run_owners.proofs.Runs.{placed_run}
-use Rattle.run_owners.proofs.Taking.{AreTaken}
-use Rattle.run_owners.proofs.Accepted.{push_case, within_slots}
-use Rattle.run_owners.proofs.Chains.{notes_apart, buffers_of}
-use Rattle.run_owners.proofs.Transferred.{are_new}
-use Rattle.run_owners.proofs.Released.{set_here, set_there}
+use Rattle.driver_laws.specs.run_owners.Owners.{Dummy, Element, NoteRuns, Views, is_descriptor, runs_of_endpoint, runs_of_transfer, runs_of_note, note_in, transfer_in, views_of}
+use Rattle.driver_laws.specs.run_owners.Kept.{HasOwners}
+use Rattle.driver_laws.proofs.lemmas.run_owners.Runs.{placed_run}
+use Rattle.driver_laws.proofs.lemmas.run_owners.Taking.{AreTaken}
+use Rattle.driver_laws.proofs.lemmas.run_owners.Accepted.{push_case, within_slots}
+use Rattle.driver_laws.proofs.lemmas.run_owners.Chains.{notes_apart, buffers_of}
+use Rattle.driver_laws.proofs.lemmas.run_owners.Transferred.{are_new}
+use Rattle.driver_laws.proofs.lemmas.run_owners.Released.{set_here, set_there}
 use Rattle.driver_laws.specs.Inventory.{Sort, OfElement, IsLent, IsBufferTold, AreTold}
 use Rattle.driver_laws.proofs.Taken.{takes_on, new_not_lent}
 use Rattle.driver_laws.proofs.Opens.{pushed_old}

@@ -10,9 +10,9 @@ use Rattle.walk_copy.specs.Overlay.{advanced}
 use Rattle.walk_copy.specs.WriteBack.{moved_by}
 use Rattle.async_walk.specs.declared.state.WalkStep.{WalkStep}
 use Rattle.async_walk.specs.Rows.{WalkPlace}
-use Rattle.lent_structures.specs.Structures.{QueueHead, StructureSets}
-use Rattle.lent_structures.proofs.Names.{put_beside}
-use Rattle.lent_structures.proofs.Found.{back_beside}
+use Rattle.ring_laws.specs.lent_structures.Structures.{QueueHead, StructureSets}
+use Rattle.ring_laws.proofs.lemmas.lent_structures.Names.{put_beside}
+use Rattle.ring_laws.proofs.lemmas.lent_structures.Found.{back_beside}
 use Rattle.ring_laws.specs.Hand.{Copy, Settlement, settled_queue_of, Hand, Copied, Settled}
 use Rattle.ring_laws.specs.Ring.{Base, IsCopied, IsSettled, IsInHand, IsRing}
 use Rattle.ring_laws.specs.Effects.{received_into, Effect, reads, passes, ends, takes, makes, writes_back}

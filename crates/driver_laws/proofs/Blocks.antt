@@ -7,8 +7,8 @@ use Rattle.run_book.specs.declared.slots.Slot.{Slot}
 use Rattle.driver_rows.specs.declared.content.QtdNote.{QtdNote}
 use Rattle.driver_rows.specs.Harvests.{note_at}
 use Rattle.driver_rows.specs.Rows.{free_runs, free_qtd, free_qtds}
-use Rattle.run_owners.specs.Owners.{Owner, FrameList, Head, QueueHead, Dummy, Element, Described, Buffer, IsPlaced, ArePieces, NoteRuns, note_in}
-use Rattle.lent_structures.proofs.Names.{not_same}
+use Rattle.driver_laws.specs.run_owners.Owners.{Owner, FrameList, Head, QueueHead, Dummy, Element, Described, Buffer, IsPlaced, ArePieces, NoteRuns, note_in}
+use Rattle.ring_laws.proofs.lemmas.lent_structures.Names.{not_same}
 use Rattle.driver_laws.specs.Inventory.{IsPieceOf}
 use Rattle.driver_laws.specs.Extents.{IsOneOf}
 use Rattle.driver_laws.specs.Released.{blocks_of, names_one}

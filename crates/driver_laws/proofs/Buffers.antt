@@ -11,8 +11,8 @@ use Rattle.run_book.specs.declared.slots.Slot.{Slot}
 use Rattle.run_book.specs.declared.slots.Slot.TheVariants.{Keeps}
 use Rattle.run_book.specs.Book.{Holding, slot_of, Stands}
 use Rattle.run_book.proofs.Standing.{keeps_at}
-use Rattle.run_owners.specs.Owners.{SlotHas}
-use Rattle.run_owners.proofs.Apart.{runs_apart}
+use Rattle.driver_laws.specs.run_owners.Owners.{SlotHas}
+use Rattle.driver_laws.proofs.lemmas.run_owners.Apart.{runs_apart}
 use Rattle.driver_rows.specs.declared.content.QtdNote.{QtdNote}
 use Rattle.driver_rows.specs.declared.content.Stage.{Stage}
 use Rattle.driver_rows.specs.Words.{pieces, buffer_needs}

@@ -17,10 +17,10 @@ use Rattle.driver_rows.specs.declared.content.Stage.{Stage}
 use Rattle.driver_rows.specs.Words.{buffer_needs, dummy_qtd}
 use Rattle.driver_rows.specs.Harvests.{note_at}
 use Rattle.driver_rows.specs.Offers.{is_last}
-use Rattle.run_owners.specs.Accepts.{AreShort}
+use Rattle.driver_laws.specs.run_owners.Accepts.{AreShort}
 use Rattle.driver_laws.proofs.LendOpening.{dummy_range}
-use Rattle.lent_structures.specs.Structures.{Element}
-use Rattle.lent_structures.specs.Sound.{element_pages}
+use Rattle.ring_laws.specs.lent_structures.Structures.{Element}
+use Rattle.ring_laws.specs.lent_structures.Sound.{element_pages}
 use Rattle.ring_laws.specs.Together.{Item}
 use Rattle.driver_laws.specs.Written.{IsPageRun, AreRuns, AreAllApart, next_blocks, buffer_blocks, IsStageNoted, AreNoted, AreWritten}
 use Rattle.driver_laws.specs.Pieces.{stage_qtd, buffer_item, with_buffer, qtd_items, buffer_items, lent_items}

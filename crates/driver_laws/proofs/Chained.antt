@@ -17,8 +17,8 @@ use Rattle.driver_rows.specs.declared.content.Stage.{Stage}
 use Rattle.driver_rows.specs.Words.{dummy_qtd}
 use Rattle.driver_rows.specs.Harvests.{note_at}
 use Rattle.driver_rows.specs.Offers.{is_last, stage_words, write_stages}
-use Rattle.run_owners.specs.Owners.{SlotHas}
-use Rattle.ring_members.proofs.Stores.{AreApart, AreNotAt, words_elsewhere, stages_elsewhere}
+use Rattle.driver_laws.specs.run_owners.Owners.{SlotHas}
+use Rattle.driver_laws.proofs.lemmas.ring_members.Stores.{AreApart, AreNotAt, words_elsewhere, stages_elsewhere}
 use Rattle.driver_laws.proofs.PartAccepting.{words_large}
 use Rattle.driver_laws.specs.Written.{AreAllApart, next_blocks, last_block, AreWritten}
 

@@ -8,16 +8,16 @@ use Rattle.run_book.specs.Book.{holding, Stands}
 use Rattle.driver_rows.specs.DriverContent.{DriverContent}
 use Rattle.driver_rows.specs.Words.{needs}
 use Rattle.driver_rows.specs.Offers.{Offered, new_runs, note_stages, new_endpoint, accepted_open, accepted_transfer, accepted_cancel}
-use Rattle.run_owners.specs.Accepts.{Opens, Transfers, Cancels}
-use Rattle.run_owners.specs.Owners.{runs_of_endpoint, views_of}
-use Rattle.run_owners.specs.Kept.{HasOwners}
-use Rattle.run_owners.proofs.Taking.{runs_taken}
-use Rattle.run_owners.proofs.Accepted.{drop_first}
-use Rattle.run_owners.proofs.Transferred.{goes_on_alive}
-use Rattle.ring_members.proofs.Placed.{has_queue}
-use Rattle.lent_structures.specs.Structures.{StructureSets}
-use Rattle.lent_structures.specs.Changes.{Leaves}
-use Rattle.lent_structures.proofs.Telling.{told_still}
+use Rattle.driver_laws.specs.run_owners.Accepts.{Opens, Transfers, Cancels}
+use Rattle.driver_laws.specs.run_owners.Owners.{runs_of_endpoint, views_of}
+use Rattle.driver_laws.specs.run_owners.Kept.{HasOwners}
+use Rattle.driver_laws.proofs.lemmas.run_owners.Taking.{runs_taken}
+use Rattle.driver_laws.proofs.lemmas.run_owners.Accepted.{drop_first}
+use Rattle.driver_laws.proofs.lemmas.run_owners.Transferred.{goes_on_alive}
+use Rattle.driver_laws.proofs.lemmas.ring_members.Placed.{has_queue}
+use Rattle.ring_laws.specs.lent_structures.Structures.{StructureSets}
+use Rattle.ring_laws.specs.lent_structures.Changes.{Leaves}
+use Rattle.ring_laws.proofs.lemmas.lent_structures.Telling.{told_still}
 use Rattle.ring_laws.specs.Hand.{Hand}
 use Rattle.ring_laws.specs.Ring.{Base, IsRing}
 use Rattle.ring_laws.proofs.Driving.{ring_retold}

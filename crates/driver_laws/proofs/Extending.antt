@@ -7,13 +7,13 @@ use Rattle.qh_qtd.specs.declared.qtd.Qtd.{Qtd}
 use Rattle.qh_qtd.specs.declared.queue_head.Qh.{Qh}
 use Rattle.walk_copy.specs.Overlay.{advanced, moved}
 use Rattle.walk_copy.specs.WriteBack.{moved_by}
-use Rattle.run_owners.specs.Owners.{NoteRuns}
-use Rattle.lent_structures.specs.Structures.{Structure, QueueHead, Element, Buffer, Table, StructureSets, put}
-use Rattle.lent_structures.specs.Changes.{relinked, overwritten}
-use Rattle.lent_structures.proofs.Names.{put_found}
-use Rattle.lent_structures.proofs.Storing.{length-overwritten}
-use Rattle.lent_structures.specs.WriteBack.{Received, Nothing, Into, IsReceived, received_parts, qtd_after}
-use Rattle.lent_structures.proofs.Altering.{same_buffer}
+use Rattle.driver_laws.specs.run_owners.Owners.{NoteRuns}
+use Rattle.ring_laws.specs.lent_structures.Structures.{Structure, QueueHead, Element, Buffer, Table, StructureSets, put}
+use Rattle.ring_laws.specs.lent_structures.Changes.{relinked, overwritten}
+use Rattle.ring_laws.proofs.lemmas.lent_structures.Names.{put_found}
+use Rattle.ring_laws.proofs.lemmas.lent_structures.Storing.{length-overwritten}
+use Rattle.ring_laws.specs.lent_structures.WriteBack.{Received, Nothing, Into, IsReceived, received_parts, qtd_after}
+use Rattle.ring_laws.proofs.lemmas.lent_structures.Altering.{same_buffer}
 use Rattle.ring_laws.specs.Hand.{settled_queue_of}
 use Rattle.ring_laws.specs.Effects.{received_into}
 use Rattle.ring_laws.specs.Effects.Effect.{reads, passes, ends, takes, makes, writes_back}

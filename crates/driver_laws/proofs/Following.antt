@@ -1,6 +1,6 @@
 -- A buffer that is told was told before.
 use Rattle.std.proofs.Common.{◌≡◌, ℕ, ◌*◌, option_map, ap, refl, subst, arith}
-use Rattle.run_owners.specs.Owners.{Views}
+use Rattle.driver_laws.specs.run_owners.Owners.{Views}
 use Rattle.driver_laws.specs.Inventory.{Sort, sort_of, OfBuffer, IsLent, IsDriverOwned, the_list, the_head, a_queue, a_dummy, a_piece, a_buffer}
 use Rattle.driver_laws.specs.Following.{ExtentsFollow}
 

@@ -8,7 +8,7 @@ use Rattle.run_book.specs.declared.slots.Slot.{Slot}
 use Rattle.run_book.specs.declared.slots.Slot.TheVariants.{Empty, Keeps, Lends}
 use Rattle.run_book.proofs.Standing.{lends_within, stands_released, within_lent}
 use Rattle.driver_rows.specs.Rows.{free_runs}
-use Rattle.lent_structures.specs.Structures.{Structure, StructureSets, Has, Tells}
+use Rattle.ring_laws.specs.lent_structures.Structures.{Structure, StructureSets, Has, Tells}
 use Rattle.ring_laws.proofs.Returning.{told_freed}
 use Rattle.driver_laws.specs.Extents.{IsOneOf}
 

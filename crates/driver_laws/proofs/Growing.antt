@@ -1,8 +1,8 @@
 -- A member's part with more structures, of which each qTD is sound and has a buffer of its own.
 use Rattle.std.proofs.Common.{◌≡◌, ℕ, ◌⊎◌, Bool, Some, ⊎_elim}
 use Rattle.qh_qtd.specs.declared.qtd.Qtd.{Qtd}
-use Rattle.lent_structures.specs.Structures.{Structure, QueueHead, Element, Buffer, Structures}
-use Rattle.lent_structures.specs.Sound.{IsSoundElement, AreOwn, IsMember}
+use Rattle.ring_laws.specs.lent_structures.Structures.{Structure, QueueHead, Element, Buffer, Structures}
+use Rattle.ring_laws.specs.lent_structures.Sound.{IsSoundElement, AreOwn, IsMember}
 use Rattle.ring_laws.proofs.Parting.{Spans, sound_spanned, queue_spanned}
 
 -- all that stood stands still

@@ -16,14 +16,14 @@ use Rattle.run_book.specs.declared.slots.Slot.{Slot}
 use Rattle.run_book.specs.declared.slots.Slot.TheVariants.{Keeps}
 use Rattle.run_book.specs.Book.{Holding, slot_of, Stands}
 use Rattle.run_book.proofs.Standing.{keeps_at, keeps_all}
-use Rattle.run_owners.specs.Owners.{SlotHas}
+use Rattle.driver_laws.specs.run_owners.Owners.{SlotHas}
 use Rattle.driver_rows.specs.declared.content.Alternate.{Alternate}
 use Rattle.driver_rows.specs.declared.content.Alternate.TheVariants as alternates
 use Rattle.driver_rows.specs.declared.content.QtdNote.{QtdNote}
 use Rattle.driver_rows.specs.declared.content.Stage.{Stage}
 use Rattle.driver_rows.specs.Words.{buffer_needs, new_qtd, alternate_link}
-use Rattle.lent_structures.specs.Structures.{Buffer, HoldsElement, HoldsBuffer, Has}
-use Rattle.lent_structures.proofs.Standing.{reaches_if}
+use Rattle.ring_laws.specs.lent_structures.Structures.{Buffer, HoldsElement, HoldsBuffer, Has}
+use Rattle.ring_laws.proofs.lemmas.lent_structures.Standing.{reaches_if}
 use Rattle.driver_laws.specs.Written.{IsPageRun, AreAllApart, IsStageNoted}
 use Rattle.driver_laws.proofs.Lists.{IsOneOf, at_one}
 use Rattle.driver_laws.proofs.Buffers.{take_same, runs_keep, LiesIn, bytes_apart}

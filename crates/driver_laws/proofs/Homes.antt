@@ -8,9 +8,9 @@ use Rattle.run_book.specs.Book.{Holding, slot_of, IsAt, Stands}
 use Rattle.run_book.specs.declared.slots.Slot.{Slot}
 use Rattle.run_book.specs.declared.slots.Slot.TheVariants.{Empty, Keeps, Lends}
 use Rattle.driver_rows.specs.Words.{head_block}
-use Rattle.run_owners.specs.Owners.{Owner, Buffer, SlotHas, HasBlocks, IsPlaced, EndpointRuns, TransferRuns, Views, AreOwned}
-use Rattle.lent_structures.specs.Structures.{Structure, QueueHead, Element as ElementOf, Buffer as BufferOf, Table, Isochronous, SplitIsochronous, StructureSets, Has}
-use Rattle.lent_structures.proofs.Names.{not_same}
+use Rattle.driver_laws.specs.run_owners.Owners.{Owner, Buffer, SlotHas, HasBlocks, IsPlaced, EndpointRuns, TransferRuns, Views, AreOwned}
+use Rattle.ring_laws.specs.lent_structures.Structures.{Structure, QueueHead, Element as ElementOf, Buffer as BufferOf, Table, Isochronous, SplitIsochronous, StructureSets, Has}
+use Rattle.ring_laws.proofs.lemmas.lent_structures.Names.{not_same}
 use Rattle.ring_laws.specs.Fewer.{without_those}
 use Rattle.ring_laws.proofs.Returning.{those_found, those_stay}
 use Rattle.driver_laws.specs.Inventory.{Sort, sort_of, sorts_of, OfTable, OfQueueHead, OfElement, OfBuffer, IsPieceOf, IsTransferIn, IsDriverOwned, the_list, the_head, a_queue, a_dummy, a_piece, a_buffer, IsDriven}

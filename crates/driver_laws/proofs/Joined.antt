@@ -8,9 +8,9 @@ use Rattle.driver_rows.specs.Harvests.{note_at}
 use Rattle.driver_rows.specs.Offers.{is_last}
 use Rattle.word_mem.specs.Memory.{Mem}
 use Rattle.qh_qtd.specs.declared.qtd.Qtd.{Qtd}
-use Rattle.run_owners.specs.Owners.{Owner, EndpointRuns, TransferRuns, Views}
-use Rattle.lent_structures.specs.Structures.{Structure, Element, Buffer, StructureSets}
-use Rattle.lent_structures.specs.Sound.{buffer_name, IsSoundElement, AreOwn}
+use Rattle.driver_laws.specs.run_owners.Owners.{Owner, EndpointRuns, TransferRuns, Views}
+use Rattle.ring_laws.specs.lent_structures.Structures.{Structure, Element, Buffer, StructureSets}
+use Rattle.ring_laws.specs.lent_structures.Sound.{buffer_name, IsSoundElement, AreOwn}
 use Rattle.ring_laws.specs.Stores.{IsUnnamed}
 use Rattle.driver_laws.specs.Published.{IsPublishable}
 use Rattle.driver_laws.specs.Written.{AreAllApart, next_blocks, buffer_blocks, last_block, AreNoted}

@@ -3,8 +3,8 @@ use Rattle.std.proofs.Common.{◌≡◌, ◌≢◌, ℕ, zero, suc, ◌*◌, Lis
 use Rattle.std.specs.List.{AllByRecursion}
 use Rattle.std.proofs.lemmas.Bool.{cases_eq}
 use Rattle.word_mem.specs.Memory.{Mem}
-use Rattle.run_owners.specs.Owners.{Owner, FrameList, QueueHead, Buffer, IsPlaced, ArePieces, EndpointRuns, TransferRuns, Views, AreOwned}
-use Rattle.lent_structures.specs.Structures.{Structure, Buffer as BufferOf, Structures, StructureSets}
+use Rattle.driver_laws.specs.run_owners.Owners.{Owner, FrameList, QueueHead, Buffer, IsPlaced, ArePieces, EndpointRuns, TransferRuns, Views, AreOwned}
+use Rattle.ring_laws.specs.lent_structures.Structures.{Structure, Buffer as BufferOf, Structures, StructureSets}
 use Rattle.ring_laws.specs.Together.{put_all, AreBeside}
 use Rattle.ring_laws.proofs.Joining.{all_beside, all_else}
 use Rattle.driver_laws.specs.Inventory.{Sort, sort_of, sorts_of, OfBuffer, IsLent, IsPieceOf, IsDriverOwned, the_list, the_head, a_queue, a_dummy, a_piece, a_buffer, IsDriven}

@@ -11,8 +11,8 @@ use Rattle.run_book.specs.declared.slots.Slot.{Slot}
 use Rattle.run_book.specs.declared.slots.Slot.TheVariants.{Empty, Keeps, Lends}
 use Rattle.run_book.specs.Book.{Holding, slot_of, slot_at, lend_slot, lend_runs, none_taken, lend_taken, Stands}
 use Rattle.run_book.proofs.Standing.{keeps_within, keeps_at, keeps_all}
-use Rattle.run_owners.specs.Owners.{SlotHas}
-use Rattle.run_owners.proofs.Apart.{runs_apart}
+use Rattle.driver_laws.specs.run_owners.Owners.{SlotHas}
+use Rattle.driver_laws.proofs.lemmas.run_owners.Apart.{runs_apart}
 
 -- ---- slots
 

@@ -15,14 +15,14 @@ use Rattle.run_book.proofs.Standing.{keeps_at, keeps_all}
 use Rattle.driver_rows.specs.DriverContent.{DriverContent}
 use Rattle.driver_rows.specs.Words.{dummy_qtd}
 use Rattle.driver_rows.specs.Rows.{advance}
-use Rattle.run_owners.specs.Owners.{EndpointRuns, HasBlocks, views_of}
-use Rattle.run_owners.specs.Kept.{HasOwners}
-use Rattle.ring_members.proofs.Freed.{lent_words}
-use Rattle.lent_structures.specs.Structures.{Structure, QueueHead, Element, HoldsQueueHead, HoldsElement, StructureSets, put, Has}
-use Rattle.lent_structures.proofs.Names.{put_else, put_found}
-use Rattle.lent_structures.proofs.Standing.{both_true, reaches_if}
-use Rattle.lent_structures.proofs.Telling.{told_lent}
-use Rattle.lent_structures.specs.Sound.{IsMember}
+use Rattle.driver_laws.specs.run_owners.Owners.{EndpointRuns, HasBlocks, views_of}
+use Rattle.driver_laws.specs.run_owners.Kept.{HasOwners}
+use Rattle.driver_laws.proofs.lemmas.ring_members.Freed.{lent_words}
+use Rattle.ring_laws.specs.lent_structures.Structures.{Structure, QueueHead, Element, HoldsQueueHead, HoldsElement, StructureSets, put, Has}
+use Rattle.ring_laws.proofs.lemmas.lent_structures.Names.{put_else, put_found}
+use Rattle.ring_laws.proofs.lemmas.lent_structures.Standing.{both_true, reaches_if}
+use Rattle.ring_laws.proofs.lemmas.lent_structures.Telling.{told_lent}
+use Rattle.ring_laws.specs.lent_structures.Sound.{IsMember}
 use Rattle.ring_laws.specs.Hand.{Hand}
 use Rattle.ring_laws.specs.Ring.{Base, IsRing}
 use Rattle.ring_laws.proofs.Driving.{ring_lent, ring_joined}

@@ -6,9 +6,9 @@ use Rattle.std.proofs.lemmas.Option.{same_Some}
 use Rattle.run_book.specs.declared.slots.Slot.{Slot}
 use Rattle.qh_qtd.specs.declared.queue_head.Qh.{Qh}
 use Rattle.driver_rows.specs.Words.{head_block, dummy_qtd}
-use Rattle.run_owners.specs.Owners.{Owner, FrameList, Head, QueueHead, Dummy, Element, Buffer, Described, IsPlaced, ArePieces, EndpointRuns, TransferRuns, NoteRuns, Views, AreOwned}
-use Rattle.lent_structures.specs.Structures.{Structure, QueueHead as QueueHeadOf, Element as ElementOf, StructureSets, put}
-use Rattle.lent_structures.proofs.Names.{put_same, put_else, put_beside, put_found}
+use Rattle.driver_laws.specs.run_owners.Owners.{Owner, FrameList, Head, QueueHead, Dummy, Element, Buffer, Described, IsPlaced, ArePieces, EndpointRuns, TransferRuns, NoteRuns, Views, AreOwned}
+use Rattle.ring_laws.specs.lent_structures.Structures.{Structure, QueueHead as QueueHeadOf, Element as ElementOf, StructureSets, put}
+use Rattle.ring_laws.proofs.lemmas.lent_structures.Names.{put_same, put_else, put_beside, put_found}
 use Rattle.driver_laws.specs.Inventory.{Sort, sort_of, sorts_of, OfQueueHead, OfElement, IsLent, IsPieceOf, IsBufferTold, AreTold, IsQueueIn, IsTransferIn, IsDriverOwned, the_list, the_head, a_queue, a_dummy, a_piece, a_buffer, IsDriven}
 use Rattle.driver_laws.specs.LendOpened.{opened_parts}
 

@@ -9,9 +9,9 @@ use Rattle.driver_rows.specs.declared.content.Stage.{Stage}
 use Rattle.driver_rows.specs.DriverContent.{DriverContent}
 use Rattle.driver_rows.specs.Harvests.{note_at}
 use Rattle.driver_rows.specs.Rows.{advance}
-use Rattle.run_owners.specs.Owners.{EndpointRuns, TransferRuns, views_of}
-use Rattle.run_owners.specs.Kept.{HasOwners}
-use Rattle.lent_structures.specs.Structures.{StructureSets}
+use Rattle.driver_laws.specs.run_owners.Owners.{EndpointRuns, TransferRuns, views_of}
+use Rattle.driver_laws.specs.run_owners.Kept.{HasOwners}
+use Rattle.ring_laws.specs.lent_structures.Structures.{StructureSets}
 use Rattle.ring_laws.specs.Hand.{Hand}
 use Rattle.ring_laws.specs.Ring.{Base, IsRing}
 use Rattle.ring_laws.specs.Together.{Item, put_all}

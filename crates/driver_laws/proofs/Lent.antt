@@ -10,8 +10,8 @@ use Rattle.run_book.specs.declared.slots.Slot.{Slot}
 use Rattle.run_book.specs.declared.slots.Slot.TheVariants.{Empty, Keeps, Lends}
 use Rattle.run_book.specs.Book.{Holding, slot_of, slot_at, lend_slot, lend_runs, none_taken, lend_taken, Stands}
 use Rattle.run_book.proofs.Standing.{keeps_within, keeps_at, keeps_all}
-use Rattle.lent_structures.specs.Changes.{Leaves}
-use Rattle.lent_structures.proofs.Lending.{lend_leaves}
+use Rattle.ring_laws.specs.lent_structures.Changes.{Leaves}
+use Rattle.ring_laws.proofs.lemmas.lent_structures.Lending.{lend_leaves}
 
 pub leaves_itself : (m : Mem) → IsShaped m → Leaves m m
 leaves_itself m shape = record { shape = shape; lent = λ b lent. lent; words = λ other reached. refl }

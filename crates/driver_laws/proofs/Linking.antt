@@ -11,11 +11,11 @@ use Rattle.async_walk.specs.Rows.{place}
 use Rattle.run_book.specs.Book.{store}
 use Rattle.driver_rows.specs.Words.{head_block, to_queue_head, queue_head_link, queue_head, dummy_qtd}
 use Rattle.driver_rows.specs.Rows.{advance}
-use Rattle.run_owners.specs.Owners.{EndpointRuns}
-use Rattle.lent_structures.specs.Structures.{Structure, QueueHead, Element, Buffer, Structures, with_structure, put}
-use Rattle.lent_structures.proofs.Names.{with_here, with_there}
-use Rattle.lent_structures.specs.Sound.{LeadsAmong, IsSoundElement, IsMember}
-use Rattle.lent_structures.proofs.Altering.{found_queue}
+use Rattle.driver_laws.specs.run_owners.Owners.{EndpointRuns}
+use Rattle.ring_laws.specs.lent_structures.Structures.{Structure, QueueHead, Element, Buffer, Structures, with_structure, put}
+use Rattle.ring_laws.proofs.lemmas.lent_structures.Names.{with_here, with_there}
+use Rattle.ring_laws.specs.lent_structures.Sound.{LeadsAmong, IsSoundElement, IsMember}
+use Rattle.ring_laws.proofs.lemmas.lent_structures.Altering.{found_queue}
 use Rattle.ring_laws.specs.Stores.{hand_linked, IsWider}
 use Rattle.ring_laws.proofs.Parting.{found_with}
 use Rattle.driver_laws.specs.Driven.{DrivesRing}

@@ -4,9 +4,9 @@ use Rattle.std.specs.List.{AllByRecursion, flat_map}
 use Rattle.word_mem.specs.Memory.{Mem}
 use Rattle.run_book.specs.declared.slots.Slot.{Slot}
 use Rattle.run_book.specs.Book.{Holding, slot_of, Stands}
-use Rattle.run_owners.proofs.Apart.{runs_apart}
-use Rattle.lent_structures.specs.Structures.{Structure, StructureSets, Holds, Has}
-use Rattle.lent_structures.proofs.Names.{put_same, put_else, put_found}
+use Rattle.driver_laws.proofs.lemmas.run_owners.Apart.{runs_apart}
+use Rattle.ring_laws.specs.lent_structures.Structures.{Structure, StructureSets, Holds, Has}
+use Rattle.ring_laws.proofs.lemmas.lent_structures.Names.{put_same, put_else, put_found}
 use Rattle.ring_laws.specs.Together.{Item, put_all, ShareNoBlock, AreNew}
 use Rattle.driver_laws.specs.Written.{AreAllApart}
 use Rattle.driver_laws.proofs.Lists.{IsOneOf, one_left, one_right, apart_right, apart_halves}

@@ -9,11 +9,11 @@ use Rattle.driver_rows.specs.declared.content.Endpoint.{Endpoint}
 use Rattle.driver_rows.specs.declared.content.Transfer.{Transfer}
 use Rattle.driver_rows.specs.DriverContent.{DriverContent}
 use Rattle.driver_rows.specs.Offers.{new_endpoint, take_runs, accepted_open, accepted_cancel, first_end}
-use Rattle.run_owners.specs.Owners.{EndpointRuns, TransferRuns, NoteRuns, Views, runs_of_endpoint, runs_of_transfer, transfer_in, views_of}
-use Rattle.run_owners.specs.Kept.{HasOwners}
-use Rattle.run_owners.proofs.Taking.{AreTaken}
-use Rattle.run_owners.proofs.Accepted.{push_case}
-use Rattle.run_owners.proofs.Stays.{endpoint_stays}
+use Rattle.driver_laws.specs.run_owners.Owners.{EndpointRuns, TransferRuns, NoteRuns, Views, runs_of_endpoint, runs_of_transfer, transfer_in, views_of}
+use Rattle.driver_laws.specs.run_owners.Kept.{HasOwners}
+use Rattle.driver_laws.proofs.lemmas.run_owners.Taking.{AreTaken}
+use Rattle.driver_laws.proofs.lemmas.run_owners.Accepted.{push_case}
+use Rattle.driver_laws.proofs.lemmas.run_owners.Stays.{endpoint_stays}
 use Rattle.driver_laws.specs.Inventory.{Sort, Inventory, IsLent, IsPieceOf, IsBufferTold, AreTold, IsQueueIn, IsTransferIn, IsDriverOwned, the_list, the_head, a_queue, a_dummy, a_piece, a_buffer, IsDriven}
 use Rattle.driver_laws.proofs.Viewing.{SameViews}
 use Rattle.driver_laws.proofs.Taken.{TakesOn, takes_on, new_not_lent}

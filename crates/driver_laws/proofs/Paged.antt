@@ -12,8 +12,8 @@ use Rattle.run_book.specs.declared.slots.Slot.{Slot}
 use Rattle.run_book.specs.declared.slots.Slot.TheVariants.{Empty, Keeps}
 use Rattle.run_book.proofs.Standing.{stands_taken}
 use Rattle.driver_rows.specs.Offers.{take_runs}
-use Rattle.run_owners.specs.Owners.{HasRun}
-use Rattle.run_owners.proofs.Taking.{lowest_taken, runs_taken}
+use Rattle.driver_laws.specs.run_owners.Owners.{HasRun}
+use Rattle.driver_laws.proofs.lemmas.run_owners.Taking.{lowest_taken, runs_taken}
 use Rattle.driver_laws.specs.Written.{IsPageRun, AreRuns}
 
 -- ---- one run

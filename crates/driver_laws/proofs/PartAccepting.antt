@@ -13,14 +13,14 @@ use Rattle.driver_rows.specs.DriverContent.{DriverContent, no_note}
 use Rattle.driver_rows.specs.Words.{queue_head, dummy_qtd, pieces, needs}
 use Rattle.driver_rows.specs.Harvests.{note_at}
 use Rattle.driver_rows.specs.Offers.{Asked, newest_of, accepted_open, note_for, runs_of, note_stages, write_stages, stage_words, is_last, sends, write_bytes, send_stages, accepted_transfer}
-use Rattle.run_owners.specs.Owners.{Owner, Dummy, Element, IsPlaced}
-use Rattle.run_owners.proofs.Runs.{placed_run}
-use Rattle.run_owners.proofs.Taking.{AreTaken}
-use Rattle.run_owners.proofs.Accepted.{fresh_differs, within_slots}
-use Rattle.run_owners.proofs.Chains.{notes_apart, buffers_of}
-use Rattle.run_owners.proofs.Transferred.{are_new}
-use Rattle.ring_members.proofs.Stores.{AreNotAt, slots_apart, words_elsewhere, stages_elsewhere}
-use Rattle.lent_structures.specs.Changes.{Leaves}
+use Rattle.driver_laws.specs.run_owners.Owners.{Owner, Dummy, Element, IsPlaced}
+use Rattle.driver_laws.proofs.lemmas.run_owners.Runs.{placed_run}
+use Rattle.driver_laws.proofs.lemmas.run_owners.Taking.{AreTaken}
+use Rattle.driver_laws.proofs.lemmas.run_owners.Accepted.{fresh_differs, within_slots}
+use Rattle.driver_laws.proofs.lemmas.run_owners.Chains.{notes_apart, buffers_of}
+use Rattle.driver_laws.proofs.lemmas.run_owners.Transferred.{are_new}
+use Rattle.driver_laws.proofs.lemmas.ring_members.Stores.{AreNotAt, slots_apart, words_elsewhere, stages_elsewhere}
+use Rattle.ring_laws.specs.lent_structures.Changes.{Leaves}
 use Rattle.driver_laws.specs.PartLaws.{AreIn}
 use Rattle.driver_laws.proofs.PartSlots.{taken_leaves}
 

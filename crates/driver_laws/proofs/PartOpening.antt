@@ -16,12 +16,12 @@ use Rattle.async_walk.specs.Rows.{place}
 use Rattle.driver_rows.specs.declared.content.Reserve.{Reserve}
 use Rattle.driver_rows.specs.Words.{opening_head}
 use Rattle.driver_rows.specs.Opening.{list_run, head_run, opening_memory, opening_registers, opening}
-use Rattle.run_owners.specs.Owners.{EndpointRuns, Views, views_of}
-use Rattle.lent_structures.specs.Structures.{Structure, QueueHead, Element, Table, HoldsQueueHead, HoldsTable, Structures, with_structure, Has, Tells}
-use Rattle.lent_structures.proofs.Names.{put_found}
-use Rattle.lent_structures.proofs.Telling.{joined}
-use Rattle.lent_structures.proofs.Standing.{both_true}
-use Rattle.lent_structures.specs.Sound.{IsMember}
+use Rattle.driver_laws.specs.run_owners.Owners.{EndpointRuns, Views, views_of}
+use Rattle.ring_laws.specs.lent_structures.Structures.{Structure, QueueHead, Element, Table, HoldsQueueHead, HoldsTable, Structures, with_structure, Has, Tells}
+use Rattle.ring_laws.proofs.lemmas.lent_structures.Names.{put_found}
+use Rattle.ring_laws.proofs.lemmas.lent_structures.Telling.{joined}
+use Rattle.ring_laws.proofs.lemmas.lent_structures.Standing.{both_true}
+use Rattle.ring_laws.specs.lent_structures.Sound.{IsMember}
 use Rattle.ring_laws.specs.Hand.{Empty}
 use Rattle.ring_laws.specs.Ring.{IsRing}
 use Rattle.ring_laws.proofs.Parting.{found_with}

@@ -11,10 +11,10 @@ use Rattle.run_book.specs.declared.slots.Slot.{Slot}
 use Rattle.run_book.specs.declared.slots.Slot.TheVariants.{Empty, Keeps, Lends}
 use Rattle.run_book.specs.Book.{Holding, kept_in, lent_in, slot_of, Stands}
 use Rattle.run_book.proofs.Standing.{lends_all}
-use Rattle.run_owners.specs.Owners.{HasRun, SlotHas}
-use Rattle.run_owners.proofs.Taking.{AreTaken}
-use Rattle.ring_members.proofs.Accepted.{shaped_taken}
-use Rattle.lent_structures.specs.Changes.{Leaves}
+use Rattle.driver_laws.specs.run_owners.Owners.{HasRun, SlotHas}
+use Rattle.driver_laws.proofs.lemmas.run_owners.Taking.{AreTaken}
+use Rattle.driver_laws.proofs.lemmas.ring_members.Accepted.{shaped_taken}
+use Rattle.ring_laws.specs.lent_structures.Changes.{Leaves}
 
 -- ---- the slot of a Lent block
 

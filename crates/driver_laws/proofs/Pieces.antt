@@ -14,8 +14,8 @@ use Rattle.driver_rows.specs.declared.content.Stage.{Stage}
 use Rattle.driver_rows.specs.Words.{dummy_qtd, alternate_link}
 use Rattle.driver_rows.specs.Harvests.{note_at}
 use Rattle.driver_rows.specs.Offers.{is_last}
-use Rattle.lent_structures.specs.Structures.{Structure, Element, Buffer, Structures}
-use Rattle.lent_structures.specs.Sound.{IsElement, LeadsOn, element_pages, buffer_name, HasBuffer, IsSoundElement}
+use Rattle.ring_laws.specs.lent_structures.Structures.{Structure, Element, Buffer, Structures}
+use Rattle.ring_laws.specs.lent_structures.Sound.{IsElement, LeadsOn, element_pages, buffer_name, HasBuffer, IsSoundElement}
 use Rattle.ring_laws.specs.Together.{Item}
 use Rattle.driver_laws.specs.Written.{AreAllApart, buffer_blocks, last_block, IsStageNoted, AreNoted}
 use Rattle.driver_laws.specs.Pieces.{stage_qtd, with_buffer, qtd_items, buffer_items, AreStanding, AreBuffered}

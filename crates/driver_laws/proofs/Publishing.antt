@@ -5,8 +5,8 @@ use Rattle.qh_qtd.specs.declared.qtd.Qtd.{Qtd}
 use Rattle.qh_qtd.specs.Qtd.{qtd_words, IsQtdInRange}
 use Rattle.driver_rows.specs.Words.{dummy_qtd}
 use Rattle.driver_rows.specs.Rows.{advance}
-use Rattle.lent_structures.specs.Structures.{Structures}
-use Rattle.lent_structures.specs.Sound.{element_pages, buffer_name, IsSoundElement}
+use Rattle.ring_laws.specs.lent_structures.Structures.{Structures}
+use Rattle.ring_laws.specs.lent_structures.Sound.{element_pages, buffer_name, IsSoundElement}
 use Rattle.ring_laws.specs.Stores.{IsBuffer, IsUnnamed}
 use Rattle.driver_laws.proofs.Storing.{element_store_drives}
 use Rattle.driver_laws.proofs.Viewing.{advance_views}

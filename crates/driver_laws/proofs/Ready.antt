@@ -22,12 +22,12 @@ use Rattle.driver_rows.specs.DriverContent.{DriverContent}
 use Rattle.driver_rows.specs.Words.{queue_head, dummy_qtd}
 use Rattle.driver_rows.specs.Rows.{is_iso}
 use Rattle.driver_rows.specs.Offers.{Offered, new_endpoint, new_runs, newest_of, take_runs, accepted_open}
-use Rattle.run_owners.specs.Owners.{HasBlocks, runs_of_endpoint}
-use Rattle.run_owners.specs.Kept.{HasOwners}
-use Rattle.run_owners.proofs.Taking.{AreTaken, runs_taken}
-use Rattle.run_owners.proofs.Accepted.{drop_first}
-use Rattle.lent_runs.specs.Lent.{still_lends}
-use Rattle.ring_members.proofs.Accepted.{shaped_taken}
+use Rattle.driver_laws.specs.run_owners.Owners.{HasBlocks, runs_of_endpoint}
+use Rattle.driver_laws.specs.run_owners.Kept.{HasOwners}
+use Rattle.driver_laws.proofs.lemmas.run_owners.Taking.{AreTaken, runs_taken}
+use Rattle.driver_laws.proofs.lemmas.run_owners.Accepted.{drop_first}
+use Rattle.driver_laws.specs.lent_runs.Lent.{still_lends}
+use Rattle.driver_laws.proofs.lemmas.ring_members.Accepted.{shaped_taken}
 use Rattle.driver_laws.specs.Inventory.{IsLent}
 use Rattle.driver_laws.proofs.Taken.{new_not_lent}
 use Rattle.driver_laws.proofs.Opens.{open_one_more}

@@ -5,9 +5,9 @@ use Rattle.std.proofs.lemmas.Bool.{true≢false}
 use Rattle.std.proofs.lemmas.Option.{same_Some}
 use Rattle.run_book.specs.declared.slots.Slot.{Slot}
 use Rattle.driver_rows.specs.Words.{head_block}
-use Rattle.run_owners.specs.Owners.{Owner, Element, Buffer, SlotHas, IsPlaced, ArePieces, EndpointRuns, TransferRuns, NoteRuns, Views, AreOwned}
-use Rattle.lent_structures.specs.Structures.{Structure, Buffer as BufferOf, Table, StructureSets}
-use Rattle.lent_structures.proofs.Names.{not_same}
+use Rattle.driver_laws.specs.run_owners.Owners.{Owner, Element, Buffer, SlotHas, IsPlaced, ArePieces, EndpointRuns, TransferRuns, NoteRuns, Views, AreOwned}
+use Rattle.ring_laws.specs.lent_structures.Structures.{Structure, Buffer as BufferOf, Table, StructureSets}
+use Rattle.ring_laws.proofs.lemmas.lent_structures.Names.{not_same}
 use Rattle.ring_laws.specs.Fewer.{without_those}
 use Rattle.ring_laws.proofs.Returning.{those_found, those_stay, those_else}
 use Rattle.driver_laws.specs.Inventory.{Sort, sort_of, sorts_of, IsLent, IsPieceOf, IsBufferTold, AreTold, IsQueueIn, IsTransferIn, IsDriverOwned, the_list, the_head, a_queue, a_dummy, a_piece, a_buffer, IsDriven}

@@ -8,12 +8,12 @@ use Rattle.run_book.specs.Book.{Holding, holding, slot_of, Stands}
 use Rattle.run_book.specs.declared.slots.Slot.{Slot}
 use Rattle.driver_rows.specs.declared.content.Transfer.{Transfer}
 use Rattle.driver_rows.specs.Rows.{Parts as DriverParts, free_runs, free_qtds, freed_by, after_transfer, after_driver_row}
-use Rattle.run_owners.specs.Owners.{SlotHas, EndpointRuns, TransferRuns, runs_of_transfer, transfer_in, note_in, Views, views_of}
-use Rattle.run_owners.specs.Kept.{HasOwners}
-use Rattle.run_owners.proofs.Apart.{runs_apart}
-use Rattle.run_owners.proofs.Released.{set_here, set_there}
-use Rattle.run_owners.proofs.Freeing.{runs_freed}
-use Rattle.lent_structures.specs.Structures.{StructureSets, Tells}
+use Rattle.driver_laws.specs.run_owners.Owners.{SlotHas, EndpointRuns, TransferRuns, runs_of_transfer, transfer_in, note_in, Views, views_of}
+use Rattle.driver_laws.specs.run_owners.Kept.{HasOwners}
+use Rattle.driver_laws.proofs.lemmas.run_owners.Apart.{runs_apart}
+use Rattle.driver_laws.proofs.lemmas.run_owners.Released.{set_here, set_there}
+use Rattle.driver_laws.proofs.lemmas.run_owners.Freeing.{runs_freed}
+use Rattle.ring_laws.specs.lent_structures.Structures.{StructureSets, Tells}
 use Rattle.ring_laws.specs.Fewer.{without_those}
 use Rattle.ring_laws.proofs.Returning.{ring_returned, fewer_told}
 use Rattle.driver_laws.specs.Inventory.{sorts_of, IsLent, IsTransferIn, IsDriven}

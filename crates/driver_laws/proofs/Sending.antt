@@ -13,17 +13,17 @@ use Rattle.driver_rows.specs.DriverContent.{DriverContent, no_note}
 use Rattle.driver_rows.specs.Words.{dummy_qtd, pieces, buffer_needs, needs}
 use Rattle.driver_rows.specs.Harvests.{note_at, buffer_address}
 use Rattle.driver_rows.specs.Offers.{Offered, Asked, new_runs, runs_of, note_for, note_stages, write_stages, stage_words, is_last, word_from, write_bytes, sends, send_stages, accepted_transfer}
-use Rattle.run_owners.specs.Owners.{Owner, Dummy, Element, IsPlaced, SlotHas, runs_of_endpoint}
-use Rattle.run_owners.specs.Accepts.{AreShort, Transfers}
-use Rattle.run_owners.specs.Kept.{HasOwners}
-use Rattle.run_owners.proofs.Runs.{placed_run}
-use Rattle.run_owners.proofs.Taking.{AreTaken, runs_taken}
-use Rattle.run_owners.proofs.Accepted.{drop_first, fresh_differs, within_slots}
-use Rattle.run_owners.proofs.Chains.{notes_apart, few_runs, buffers_of}
-use Rattle.run_owners.proofs.Transferred.{are_new, goes_on_alive}
-use Rattle.ring_members.proofs.Placed.{has_queue}
-use Rattle.ring_members.proofs.Stores.{AreNotAt, AreApart, slots_apart, store_elsewhere, words_elsewhere, stages_elsewhere}
-use Rattle.lent_structures.specs.Changes.{Leaves}
+use Rattle.driver_laws.specs.run_owners.Owners.{Owner, Dummy, Element, IsPlaced, SlotHas, runs_of_endpoint}
+use Rattle.driver_laws.specs.run_owners.Accepts.{AreShort, Transfers}
+use Rattle.driver_laws.specs.run_owners.Kept.{HasOwners}
+use Rattle.driver_laws.proofs.lemmas.run_owners.Runs.{placed_run}
+use Rattle.driver_laws.proofs.lemmas.run_owners.Taking.{AreTaken, runs_taken}
+use Rattle.driver_laws.proofs.lemmas.run_owners.Accepted.{drop_first, fresh_differs, within_slots}
+use Rattle.driver_laws.proofs.lemmas.run_owners.Chains.{notes_apart, few_runs, buffers_of}
+use Rattle.driver_laws.proofs.lemmas.run_owners.Transferred.{are_new, goes_on_alive}
+use Rattle.driver_laws.proofs.lemmas.ring_members.Placed.{has_queue}
+use Rattle.driver_laws.proofs.lemmas.ring_members.Stores.{AreNotAt, AreApart, slots_apart, store_elsewhere, words_elsewhere, stages_elsewhere}
+use Rattle.ring_laws.specs.lent_structures.Changes.{Leaves}
 use Rattle.driver_laws.proofs.PartSlots.{taken_leaves}
 use Rattle.driver_laws.proofs.PartAccepting.{IsAsLarge, words_large}
 

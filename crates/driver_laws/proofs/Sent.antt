@@ -11,7 +11,7 @@ use Rattle.driver_rows.specs.declared.content.QtdNote.{QtdNote}
 use Rattle.driver_rows.specs.declared.content.Stage.{Stage}
 use Rattle.driver_rows.specs.Harvests.{note_at}
 use Rattle.driver_rows.specs.Offers.{send_stages}
-use Rattle.ring_members.proofs.Stores.{AreApart, AreBuffersNotAt, sends_elsewhere}
+use Rattle.driver_laws.proofs.lemmas.ring_members.Stores.{AreApart, AreBuffersNotAt, sends_elsewhere}
 use Rattle.driver_laws.specs.Written.{next_blocks, buffer_blocks, AreNoted, AreWritten}
 use Rattle.driver_laws.proofs.Lists.{IsOneOf, one_left, one_right, at_one}
 use Rattle.driver_laws.proofs.Buffers.{take_same}

@@ -6,18 +6,18 @@ use Rattle.usb_base.specs.declared.packets.Reply.{Reply}
 use Rattle.buffers.specs.Bytes.{place}
 use Rattle.run_book.specs.declared.slots.Slot.{Slot}
 use Rattle.driver_rows.specs.Words.{head_block}
-use Rattle.run_owners.specs.Owners.{Views}
+use Rattle.driver_laws.specs.run_owners.Owners.{Views}
 use Rattle.qh_qtd.specs.declared.qtd.Qtd.{Qtd}
 use Rattle.qh_qtd.specs.declared.queue_head.Qh.{Qh}
 use Rattle.walk_copy.specs.Overlay.{advanced, settled_queue, moved}
 use Rattle.walk_copy.specs.WriteBack.{moved_by}
 use Rattle.async_walk.specs.declared.state.WalkStep.{WalkStep}
 use Rattle.async_walk.specs.Rows.{WalkPlace}
-use Rattle.lent_structures.specs.Structures.{Structure, QueueHead, Element, Buffer, Structures, StructureSets, put}
-use Rattle.lent_structures.specs.Changes.{relinked, overwritten}
-use Rattle.lent_structures.proofs.Names.{names_differ, put_same, put_else, put_beside}
-use Rattle.lent_structures.specs.WriteBack.{Received, Nothing, Into, IsReceived, received_parts, qtd_after, parts_back}
-use Rattle.lent_structures.proofs.WrittenBack.{head_is_no_buffer, element_is_no_buffer, element_is_no_head, received_else}
+use Rattle.ring_laws.specs.lent_structures.Structures.{Structure, QueueHead, Element, Buffer, Structures, StructureSets, put}
+use Rattle.ring_laws.specs.lent_structures.Changes.{relinked, overwritten}
+use Rattle.ring_laws.proofs.lemmas.lent_structures.Names.{names_differ, put_same, put_else, put_beside}
+use Rattle.ring_laws.specs.lent_structures.WriteBack.{Received, Nothing, Into, IsReceived, received_parts, qtd_after, parts_back}
+use Rattle.ring_laws.proofs.lemmas.lent_structures.WrittenBack.{head_is_no_buffer, element_is_no_buffer, element_is_no_head, received_else}
 use Rattle.ring_laws.specs.Hand.{Copy, Settlement, settled_queue_of, Hand, Copied, Settled}
 use Rattle.ring_laws.specs.Ring.{Base, IsCopied, IsSettled, IsInHand, IsRing}
 use Rattle.ring_laws.specs.Effects.{received_into, Effect, reads, passes, ends, takes, makes, writes_back}

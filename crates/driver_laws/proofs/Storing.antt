@@ -13,9 +13,9 @@ use Rattle.async_walk.specs.Walk.{Walk}
 use Rattle.async_walk.specs.Rows.{place}
 use Rattle.run_book.specs.Book.{Book, slot_of, can_store, store}
 use Rattle.driver_rows.specs.DriverContent.{DriverContent}
-use Rattle.run_owners.specs.Owners.{views_of}
-use Rattle.lent_structures.specs.Structures.{QueueHead, Element, StructureSets, put}
-use Rattle.lent_structures.specs.Sound.{LeadsAmong, IsSoundElement, IsSoundQueue, IsMember}
+use Rattle.driver_laws.specs.run_owners.Owners.{views_of}
+use Rattle.ring_laws.specs.lent_structures.Structures.{QueueHead, Element, StructureSets, put}
+use Rattle.ring_laws.specs.lent_structures.Sound.{LeadsAmong, IsSoundElement, IsSoundQueue, IsMember}
 use Rattle.ring_laws.specs.Hand.{Hand}
 use Rattle.ring_laws.specs.Ring.{Base, IsRing}
 use Rattle.ring_laws.specs.Stores.{IsUnnamed, hand_linked, hand_stale, IsWider}

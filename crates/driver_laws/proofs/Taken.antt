@@ -10,8 +10,8 @@ use Rattle.run_book.specs.declared.slots.Slot.{Slot}
 use Rattle.run_book.specs.declared.slots.Slot.TheVariants.{Empty, Keeps, Lends}
 use Rattle.run_book.specs.Book.{Holding, slot_of, with_run}
 use Rattle.driver_rows.specs.Offers.{take_runs}
-use Rattle.run_owners.specs.Owners.{HasRun}
-use Rattle.run_owners.proofs.Taking.{AreTaken}
+use Rattle.driver_laws.specs.run_owners.Owners.{HasRun}
+use Rattle.driver_laws.proofs.lemmas.run_owners.Taking.{AreTaken}
 use Rattle.driver_laws.specs.Inventory.{IsLent}
 
 empty_not_lent : (s : Slot) → s ≡ Empty → IsLent s → ⊥

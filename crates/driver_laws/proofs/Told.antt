@@ -7,9 +7,9 @@ use Rattle.driver_rows.specs.Words.{buffer_needs}
 use Rattle.driver_rows.specs.Harvests.{note_at}
 use Rattle.driver_rows.specs.Offers.{is_last}
 use Rattle.word_mem.specs.Memory.{Mem}
-use Rattle.run_owners.specs.Owners.{EndpointRuns, TransferRuns, NoteRuns, Views, note_in}
-use Rattle.lent_structures.specs.Structures.{Structure, Structures, StructureSets}
-use Rattle.lent_structures.specs.Sound.{HasBuffer, buffer_name}
+use Rattle.driver_laws.specs.run_owners.Owners.{EndpointRuns, TransferRuns, NoteRuns, Views, note_in}
+use Rattle.ring_laws.specs.lent_structures.Structures.{Structure, Structures, StructureSets}
+use Rattle.ring_laws.specs.lent_structures.Sound.{HasBuffer, buffer_name}
 use Rattle.ring_laws.specs.Together.{Item}
 use Rattle.driver_laws.specs.Inventory.{sort_of, sorts_of, OfElement, IsLent, IsPieceOf, IsBufferTold, AreTold, IsTransferIn, IsDriverOwned, a_dummy, a_piece, a_buffer}
 use Rattle.driver_laws.specs.Written.{AreRuns, next_blocks, buffer_blocks, last_block, AreNoted}

@@ -18,20 +18,20 @@ use Rattle.driver_rows.specs.Words.{dummy_qtd, needs}
 use Rattle.driver_rows.specs.Harvests.{note_at}
 use Rattle.driver_rows.specs.Rows.{is_iso}
 use Rattle.driver_rows.specs.Offers.{Offered, Asked, take_runs, new_runs, note_stages, write_stages, send_stages, new_transfer, with_queued, accepted_transfer}
-use Rattle.run_owners.specs.Owners.{FrameList, Dummy, Element, runs_of_endpoint, runs_of_transfer, is_descriptor}
-use Rattle.run_owners.specs.Kept.{HasOwners}
-use Rattle.run_owners.specs.Accepts.{AreShort}
-use Rattle.run_owners.proofs.Runs.{placed_run}
-use Rattle.run_owners.proofs.Taking.{AreTaken, runs_taken}
-use Rattle.run_owners.proofs.Accepted.{drop_first, within_slots, fresh_differs}
-use Rattle.run_owners.proofs.Chains.{buffers_of}
-use Rattle.run_owners.proofs.Transferred.{are_new, goes_on_alive}
-use Rattle.run_owners.proofs.Released.{set_here}
-use Rattle.lent_runs.specs.Lent.{AreLent, IsLent as IsLentRun, still_lends}
-use Rattle.lent_runs.proofs.Laws.{idle_lent}
-use Rattle.ring_members.proofs.Placed.{has_queue}
-use Rattle.ring_members.proofs.Accepted.{shaped_taken}
-use Rattle.ring_members.proofs.Stores.{AreBuffersNotAt, slots_apart}
+use Rattle.driver_laws.specs.run_owners.Owners.{FrameList, Dummy, Element, runs_of_endpoint, runs_of_transfer, is_descriptor}
+use Rattle.driver_laws.specs.run_owners.Kept.{HasOwners}
+use Rattle.driver_laws.specs.run_owners.Accepts.{AreShort}
+use Rattle.driver_laws.proofs.lemmas.run_owners.Runs.{placed_run}
+use Rattle.driver_laws.proofs.lemmas.run_owners.Taking.{AreTaken, runs_taken}
+use Rattle.driver_laws.proofs.lemmas.run_owners.Accepted.{drop_first, within_slots, fresh_differs}
+use Rattle.driver_laws.proofs.lemmas.run_owners.Chains.{buffers_of}
+use Rattle.driver_laws.proofs.lemmas.run_owners.Transferred.{are_new, goes_on_alive}
+use Rattle.driver_laws.proofs.lemmas.run_owners.Released.{set_here}
+use Rattle.driver_laws.specs.lent_runs.Lent.{AreLent, IsLent as IsLentRun, still_lends}
+use Rattle.driver_laws.proofs.lemmas.lent_runs.Laws.{idle_lent}
+use Rattle.driver_laws.proofs.lemmas.ring_members.Placed.{has_queue}
+use Rattle.driver_laws.proofs.lemmas.ring_members.Accepted.{shaped_taken}
+use Rattle.driver_laws.proofs.lemmas.ring_members.Stores.{AreBuffersNotAt, slots_apart}
 use Rattle.driver_laws.specs.Inventory.{IsLent}
 use Rattle.driver_laws.specs.Written.{IsPageRun, AreRuns, AreAllApart, next_blocks, buffer_blocks, last_block, AreNoted, AreWritten, AwaitsLend}
 use Rattle.driver_laws.specs.TransferLaws.{AcceptedAwaitsLend}

@@ -9,9 +9,9 @@ use Rattle.driver_rows.specs.declared.content.Stage.{Stage}
 use Rattle.driver_rows.specs.DriverContent.{DriverContent}
 use Rattle.driver_rows.specs.Words.{buffer_needs}
 use Rattle.driver_rows.specs.Harvests.{note_at}
-use Rattle.run_owners.specs.Owners.{Owner, Element, Buffer, IsPlaced, ArePieces, EndpointRuns, TransferRuns, note_in, views_of}
-use Rattle.run_owners.specs.Kept.{HasOwners}
-use Rattle.ring_members.proofs.Freed.{lent_words}
+use Rattle.driver_laws.specs.run_owners.Owners.{Owner, Element, Buffer, IsPlaced, ArePieces, EndpointRuns, TransferRuns, note_in, views_of}
+use Rattle.driver_laws.specs.run_owners.Kept.{HasOwners}
+use Rattle.driver_laws.proofs.lemmas.ring_members.Freed.{lent_words}
 use Rattle.driver_laws.specs.Inventory.{IsLent}
 use Rattle.driver_laws.specs.Written.{IsPageRun, AreAllApart, next_blocks, buffer_blocks, last_block, AreNoted, AwaitsLend}
 use Rattle.driver_laws.specs.TransferLaws.{lent_memory, lent_driver, items_of}

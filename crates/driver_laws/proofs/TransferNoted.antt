@@ -9,8 +9,8 @@ use Rattle.driver_rows.specs.DriverContent.{no_note}
 use Rattle.driver_rows.specs.Words.{buffer_needs}
 use Rattle.driver_rows.specs.Harvests.{note_at}
 use Rattle.driver_rows.specs.Offers.{note_for, runs_of, note_stages}
-use Rattle.run_owners.specs.Accepts.{AreShort}
-use Rattle.run_owners.proofs.Chains.{notes_apart, few_runs, buffers_of}
+use Rattle.driver_laws.specs.run_owners.Accepts.{AreShort}
+use Rattle.driver_laws.proofs.lemmas.run_owners.Chains.{notes_apart, few_runs, buffers_of}
 use Rattle.driver_laws.specs.Written.{AreRuns, next_blocks, buffer_blocks, last_block, IsStageNoted, AreNoted}
 use Rattle.driver_laws.proofs.Paged.{runs_left, runs_right, runs_many}
 

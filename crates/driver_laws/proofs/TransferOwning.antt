@@ -4,8 +4,8 @@ use Rattle.std.specs.List.{AllByRecursion}
 use Rattle.std.proofs.lemmas.Bool.{cases_eq}
 use Rattle.std.proofs.lemmas.Option.{same_Some}
 use Rattle.driver_rows.specs.Words.{head_block}
-use Rattle.run_owners.specs.Owners.{Owner, FrameList, Head, QueueHead, Dummy, Element, Buffer, IsPlaced, ArePieces, EndpointRuns, TransferRuns, NoteRuns, Views, AreOwned}
-use Rattle.lent_structures.specs.Structures.{Structure, StructureSets}
+use Rattle.driver_laws.specs.run_owners.Owners.{Owner, FrameList, Head, QueueHead, Dummy, Element, Buffer, IsPlaced, ArePieces, EndpointRuns, TransferRuns, NoteRuns, Views, AreOwned}
+use Rattle.ring_laws.specs.lent_structures.Structures.{Structure, StructureSets}
 use Rattle.driver_laws.specs.Inventory.{Sort, sort_of, sorts_of, OfElement, IsLent, IsPieceOf, IsBufferTold, AreTold, IsQueueIn, IsTransferIn, IsDriverOwned, the_list, the_head, a_queue, a_dummy, a_piece, a_buffer, IsDriven}
 use Rattle.driver_laws.proofs.Lists.{IsOneOf, one_or_not}
 

@@ -10,7 +10,7 @@ use Rattle.run_book.specs.declared.slots.Slot.{Slot}
 use Rattle.run_book.specs.declared.slots.Slot.TheVariants.{Empty, Keeps, Lends}
 use Rattle.run_book.specs.Book.{Holding, slot_of, slot_at, lend_slot, lend_runs, none_taken, lend_taken, Stands}
 use Rattle.run_book.proofs.Standing.{keeps_within}
-use Rattle.lent_structures.proofs.Lending.{lend_leaves}
+use Rattle.ring_laws.proofs.lemmas.lent_structures.Lending.{lend_leaves}
 use Rattle.driver_laws.proofs.Lent.{AreWithin, stands_within}
 use Rattle.driver_laws.proofs.Lists.{IsOneOf, one_reverse, one_reversed}
 

@@ -2,7 +2,7 @@
 use Rattle.std.proofs.Common.{◌≡◌, ◌≢◌, ℕ, zero, suc, ◌*◌, ◌≤◌, ◌⊎◌, false, Option, Some, ap, refl, sym, subst, ◌∙◌, ⊎_elim, inl, inr, arith}
 use Rattle.std.proofs.lemmas.Bool.{cases_eq}
 use Rattle.std.proofs.lemmas.Option.{same_Some}
-use Rattle.run_owners.specs.Owners.{Owner, Element, IsPlaced, ArePieces, EndpointRuns, TransferRuns, NoteRuns, Views, AreOwned}
+use Rattle.driver_laws.specs.run_owners.Owners.{Owner, Element, IsPlaced, ArePieces, EndpointRuns, TransferRuns, NoteRuns, Views, AreOwned}
 use Rattle.driver_laws.specs.Inventory.{Sort, OfQueueHead, OfElement, OfBuffer, Inventory, IsLent, IsPieceOf, IsBufferTold, AreTold, IsQueueIn, IsTransferIn, IsDriverOwned, the_list, the_head, a_queue, a_dummy, a_piece, a_buffer, IsDriven}
 use Rattle.driver_laws.proofs.Taken.{TakesOn}
 use Rattle.driver_laws.proofs.Opens.{buffer_on}

@@ -9,9 +9,9 @@ use Rattle.run_book.specs.Book.{store}
 use Rattle.driver_rows.specs.DriverContent.{DriverContent}
 use Rattle.driver_rows.specs.Words.{to_queue_head}
 use Rattle.driver_rows.specs.Rows.{advance}
-use Rattle.lent_structures.specs.Structures.{QueueHead, StructureSets, put}
-use Rattle.lent_structures.specs.Sound.{LeadsAmong}
-use Rattle.lent_structures.proofs.Altering.{found_queue}
+use Rattle.ring_laws.specs.lent_structures.Structures.{QueueHead, StructureSets, put}
+use Rattle.ring_laws.specs.lent_structures.Sound.{LeadsAmong}
+use Rattle.ring_laws.proofs.lemmas.lent_structures.Altering.{found_queue}
 use Rattle.ring_laws.specs.Hand.{Hand}
 use Rattle.ring_laws.specs.Ring.{Base}
 use Rattle.ring_laws.specs.Stores.{hand_linked}

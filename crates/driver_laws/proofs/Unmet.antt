@@ -1,9 +1,9 @@
 -- The walk doesn't meet a new endpoint before it is linked.
 use Rattle.std.proofs.Common.{◌≡◌, ℕ, ◌*◌, Bool, true, false, ◌==◌, Option, Some, None, ap, refl, ◌∙◌, if◌then◌else◌}
 use Rattle.driver_rows.specs.Words.{dummy_qtd}
-use Rattle.run_owners.specs.Owners.{views_of}
-use Rattle.lent_structures.specs.Structures.{Structure, QueueHead, Element, Structures, with_structure, put}
-use Rattle.lent_structures.proofs.Names.{put_here}
+use Rattle.driver_laws.specs.run_owners.Owners.{views_of}
+use Rattle.ring_laws.specs.lent_structures.Structures.{Structure, QueueHead, Element, Structures, with_structure, put}
+use Rattle.ring_laws.proofs.lemmas.lent_structures.Names.{put_here}
 use Rattle.driver_laws.specs.LendOpened.{opened_parts}
 use Rattle.driver_laws.specs.Linked.{opened_part, OpenIsUnmet}
 use Rattle.driver_laws.proofs.LendOwning.{none_there}

@@ -15,8 +15,8 @@ use Rattle.driver_rows.specs.DriverContent.{DriverContent, waits_for}
 use Rattle.driver_rows.specs.Harvests.{is_stall, end_of, noted}
 use Rattle.periodic_rows.specs.Linking.{begun_next}
 use Rattle.driver_rows.specs.Rows.{events_of, links, removes_members, list_after, leave_ring, leave_frames, no_command, finished, or_finished, linked_on, advanced_by, advance, served, told_with, behind_one, behind, after_end, harvested_as, after_harvest}
-use Rattle.run_owners.specs.Owners.{EndpointRuns, TransferRuns, NoteRuns, Views, views_of}
-use Rattle.run_owners.proofs.Stays.{StaysPlaced, advanced, harvest_stays}
+use Rattle.driver_laws.specs.run_owners.Owners.{EndpointRuns, TransferRuns, NoteRuns, Views, views_of}
+use Rattle.driver_laws.proofs.lemmas.run_owners.Stays.{StaysPlaced, advanced, harvest_stays}
 use Rattle.driver_laws.specs.Inventory.{Sort, Inventory, IsLent, IsPieceOf, IsBufferTold, AreTold, IsQueueIn, IsTransferIn, IsDriverOwned, the_list, the_head, a_queue, a_dummy, a_piece, a_buffer, IsDriven}
 
 -- ---- the same views

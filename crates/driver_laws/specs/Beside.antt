@@ -5,8 +5,8 @@ use Rattle.word_mem.specs.Memory.{Mem, word_at, reaches}
 use Rattle.qh_qtd.specs.declared.queue_head.Qh.{Qh}
 use Rattle.run_book.specs.Book.{holding, Stands}
 use Rattle.driver_rows.specs.DriverContent.{DriverContent}
-use Rattle.run_owners.specs.Owners.{EndpointRuns}
-use Rattle.run_owners.specs.Kept.{HasOwners}
+use Rattle.driver_laws.specs.run_owners.Owners.{EndpointRuns}
+use Rattle.driver_laws.specs.run_owners.Kept.{HasOwners}
 use Rattle.driver_laws.specs.LendOpened.{IsOpened}
 
 abbrev pub OpenedStays : Type 0

@@ -11,9 +11,9 @@ use Rattle.usb_base.specs.declared.packets.Ask.{Ask}
 use Rattle.usb_base.specs.declared.packets.Reply.{Reply}
 use Rattle.async_walk.specs.declared.state.WalkStep.{WalkStep}
 use Rattle.run_book.specs.declared.slots.Slot.{Slot}
-use Rattle.run_owners.specs.Owners.{SlotHas, EndpointRuns, TransferRuns, Views}
-use Rattle.lent_structures.specs.Structures.{Buffer, Table, Structures, StructureSets, Has}
-use Rattle.lent_structures.specs.Alters.{HasBytes}
+use Rattle.driver_laws.specs.run_owners.Owners.{SlotHas, EndpointRuns, TransferRuns, Views}
+use Rattle.ring_laws.specs.lent_structures.Structures.{Buffer, Table, Structures, StructureSets, Has}
+use Rattle.ring_laws.specs.lent_structures.Alters.{HasBytes}
 use Rattle.ring_laws.specs.Hand.{Hand}
 use Rattle.ring_laws.specs.Ring.{IsInHand}
 use Rattle.ring_laws.specs.Effects.{Effect}

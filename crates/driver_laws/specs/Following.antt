@@ -2,8 +2,8 @@
 --     Follows v w          each transfer with a lent buffer was one before, and each run has its blocks still
 --     ExtentsFollow        the law
 use Rattle.std.specs.Prelude.{◌≡◌, ℕ, List, ◌∷◌}
-use Rattle.run_owners.specs.Owners.{SlotHas, EndpointRuns, TransferRuns, Views}
-use Rattle.lent_structures.specs.Structures.{StructureSets}
+use Rattle.driver_laws.specs.run_owners.Owners.{SlotHas, EndpointRuns, TransferRuns, Views}
+use Rattle.ring_laws.specs.lent_structures.Structures.{StructureSets}
 use Rattle.driver_laws.specs.Inventory.{sorts_of, IsLent, IsPieceOf, IsTransferIn, IsDriven}
 use Rattle.driver_laws.specs.Extents.{AreInRuns}
 

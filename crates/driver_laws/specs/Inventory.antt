@@ -12,8 +12,8 @@ use Rattle.std.specs.Prelude.{◌≡◌, ℕ, zero, suc, ◌*◌, ◌⊎◌, fal
 use Rattle.run_book.specs.declared.slots.Slot.{Slot}
 use Rattle.run_book.specs.declared.slots.Slot.TheVariants.{Empty, Keeps, Lends}
 use Rattle.driver_rows.specs.Words.{head_block}
-use Rattle.run_owners.specs.Owners.{EndpointRuns, TransferRuns, NoteRuns, Views}
-use Rattle.lent_structures.specs.Structures.{Structure, QueueHead, Element, Buffer, Table, Isochronous, SplitIsochronous, StructureSets}
+use Rattle.driver_laws.specs.run_owners.Owners.{EndpointRuns, TransferRuns, NoteRuns, Views}
+use Rattle.ring_laws.specs.lent_structures.Structures.{Structure, QueueHead, Element, Buffer, Table, Isochronous, SplitIsochronous, StructureSets}
 
 pub data Sort : Type 0 where
   OfQueueHead : Sort

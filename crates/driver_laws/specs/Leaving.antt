@@ -12,7 +12,7 @@ use Rattle.driver_rows.specs.declared.rows.DriverRow.TheVariants as rows
 use Rattle.driver_rows.specs.DriverContent.{DriverContent}
 use Rattle.driver_rows.specs.Words.{to_queue_head, queue_head_link}
 use Rattle.driver_rows.specs.Rows.{Parts as DriverParts, after_driver_row}
-use Rattle.lent_structures.specs.Structures.{QueueHead, StructureSets, put}
+use Rattle.ring_laws.specs.lent_structures.Structures.{QueueHead, StructureSets, put}
 use Rattle.ring_laws.specs.Hand.{Hand}
 use Rattle.ring_laws.specs.Ring.{Base}
 use Rattle.ring_laws.specs.Stores.{hand_linked, IsWider, IsClosed}

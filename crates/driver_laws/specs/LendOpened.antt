@@ -23,11 +23,11 @@ use Rattle.driver_rows.specs.DriverContent.{DriverContent}
 use Rattle.driver_rows.specs.Words.{queue_head, dummy_qtd}
 use Rattle.driver_rows.specs.Rows.{advance}
 use Rattle.driver_rows.specs.Offers.{Offered, new_endpoint, new_runs, newest_of}
-use Rattle.run_owners.specs.Owners.{EndpointRuns, TransferRuns, runs_of_endpoint, views_of}
-use Rattle.run_owners.specs.Kept.{HasOwners}
-use Rattle.run_owners.specs.Accepts.{Opens}
-use Rattle.lent_runs.specs.Lent.{AreLent}
-use Rattle.lent_structures.specs.Structures.{QueueHead, Element, StructureSets, put}
+use Rattle.driver_laws.specs.run_owners.Owners.{EndpointRuns, TransferRuns, runs_of_endpoint, views_of}
+use Rattle.driver_laws.specs.run_owners.Kept.{HasOwners}
+use Rattle.driver_laws.specs.run_owners.Accepts.{Opens}
+use Rattle.driver_laws.specs.lent_runs.Lent.{AreLent}
+use Rattle.ring_laws.specs.lent_structures.Structures.{QueueHead, Element, StructureSets, put}
 use Rattle.ring_laws.specs.Hand.{Hand}
 use Rattle.ring_laws.specs.Ring.{Base}
 use Rattle.driver_laws.specs.Inventory.{IsQueueIn}

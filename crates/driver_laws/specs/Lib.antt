@@ -15,3 +15,16 @@ pub mod Leaving
 pub mod Extents
 pub mod Released
 pub mod Following
+pub mod endpoint_lives
+pub mod run_owners
+pub mod chained_transfers
+pub mod lent_runs
+pub mod listed_members
+pub mod listed_queues
+pub mod ring_members
+pub mod queue_head_words
+pub mod in_place
+pub mod fed_queues
+pub mod harvested_streams
+pub mod told_harvests
+pub mod walk_members

@@ -14,9 +14,9 @@ use Rattle.driver_rows.specs.declared.rows.DriverRow.TheVariants as rows
 use Rattle.driver_rows.specs.DriverContent.{DriverContent}
 use Rattle.driver_rows.specs.Words.{head_block, to_queue_head, queue_head_link, queue_head, dummy_qtd}
 use Rattle.driver_rows.specs.Rows.{Parts as DriverParts, after_driver_row}
-use Rattle.run_owners.specs.Owners.{EndpointRuns}
-use Rattle.run_owners.specs.Kept.{HasOwners}
-use Rattle.lent_structures.specs.Structures.{QueueHead, Element, Structures, StructureSets, with_structure, put}
+use Rattle.driver_laws.specs.run_owners.Owners.{EndpointRuns}
+use Rattle.driver_laws.specs.run_owners.Kept.{HasOwners}
+use Rattle.ring_laws.specs.lent_structures.Structures.{QueueHead, Element, Structures, StructureSets, with_structure, put}
 use Rattle.ring_laws.specs.Hand.{Hand}
 use Rattle.ring_laws.specs.Ring.{Base}
 use Rattle.ring_laws.specs.Stores.{hand_linked}

@@ -20,11 +20,11 @@ use Rattle.driver_rows.specs.DriverContent.{DriverContent}
 use Rattle.driver_rows.specs.Rows.{Parts as DriverParts, advance, after_driver_row}
 use Rattle.driver_rows.specs.Opening.{opening, opening_registers, opening_memory}
 use Rattle.driver_rows.specs.Offers.{Offered}
-use Rattle.run_owners.specs.Accepts.{Opens, Transfers}
-use Rattle.run_owners.specs.Kept.{HasOwners}
-use Rattle.lent_structures.specs.Structures.{QueueHead, Element, StructureSets, put}
-use Rattle.lent_structures.specs.Changes.{Leaves}
-use Rattle.lent_structures.specs.Sound.{LeadsAmong, IsSoundElement, IsMember}
+use Rattle.driver_laws.specs.run_owners.Accepts.{Opens, Transfers}
+use Rattle.driver_laws.specs.run_owners.Kept.{HasOwners}
+use Rattle.ring_laws.specs.lent_structures.Structures.{QueueHead, Element, StructureSets, put}
+use Rattle.ring_laws.specs.lent_structures.Changes.{Leaves}
+use Rattle.ring_laws.specs.lent_structures.Sound.{LeadsAmong, IsSoundElement, IsMember}
 use Rattle.ring_laws.specs.Hand.{Hand, Empty}
 use Rattle.ring_laws.specs.Ring.{Base}
 use Rattle.ring_laws.specs.Stores.{IsUnnamed, hand_linked, IsWider}

@@ -6,7 +6,7 @@
 --     opening_base        the registers that no event of the walk changes
 use Rattle.std.specs.Prelude.{ℕ, Bool, true, ◌==◌, List, replicate, None}
 use Rattle.driver_rows.specs.Words.{opening_head}
-use Rattle.lent_structures.specs.Structures.{QueueHead, Table, StructureSets, put}
+use Rattle.ring_laws.specs.lent_structures.Structures.{QueueHead, Table, StructureSets, put}
 use Rattle.ring_laws.specs.Ring.{Base}
 
 abbrev pub empty_list : List ℕ

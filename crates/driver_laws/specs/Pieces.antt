@@ -16,8 +16,8 @@ use Rattle.driver_rows.specs.declared.content.Stage.{Stage}
 use Rattle.driver_rows.specs.Words.{dummy_qtd, new_qtd}
 use Rattle.driver_rows.specs.Harvests.{note_at}
 use Rattle.driver_rows.specs.Offers.{is_last}
-use Rattle.lent_structures.specs.Structures.{Element, Buffer, Structures}
-use Rattle.lent_structures.specs.Sound.{element_pages, buffer_name, HasBuffer}
+use Rattle.ring_laws.specs.lent_structures.Structures.{Element, Buffer, Structures}
+use Rattle.ring_laws.specs.lent_structures.Sound.{element_pages, buffer_name, HasBuffer}
 use Rattle.ring_laws.specs.Together.{Item}
 use Rattle.driver_laws.specs.Inventory.{IsLent}
 

@@ -14,8 +14,8 @@ use Rattle.driver_rows.specs.declared.rows.DriverRow.{DriverRow}
 use Rattle.driver_rows.specs.declared.rows.DriverRow.TheVariants as rows
 use Rattle.driver_rows.specs.Words.{dummy_qtd}
 use Rattle.driver_rows.specs.Rows.{Parts as DriverParts, store_order, after_driver_row}
-use Rattle.lent_structures.specs.Structures.{Element, Structures, StructureSets, put}
-use Rattle.lent_structures.specs.Sound.{IsSoundElement}
+use Rattle.ring_laws.specs.lent_structures.Structures.{Element, Structures, StructureSets, put}
+use Rattle.ring_laws.specs.lent_structures.Sound.{IsSoundElement}
 use Rattle.ring_laws.specs.Hand.{Hand}
 use Rattle.ring_laws.specs.Ring.{Base}
 use Rattle.ring_laws.specs.Stores.{IsUnnamed}

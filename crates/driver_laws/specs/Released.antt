@@ -13,9 +13,9 @@ use Rattle.driver_rows.specs.declared.rows.DriverRow.{DriverRow}
 use Rattle.driver_rows.specs.declared.rows.DriverRow.TheVariants as rows
 use Rattle.driver_rows.specs.DriverContent.{DriverContent}
 use Rattle.driver_rows.specs.Rows.{Parts as DriverParts, after_driver_row}
-use Rattle.run_owners.specs.Owners.{EndpointRuns, NoteRuns, is_descriptor, note_in, views_of}
-use Rattle.run_owners.specs.Kept.{HasOwners}
-use Rattle.lent_structures.specs.Structures.{QueueHead, StructureSets}
+use Rattle.driver_laws.specs.run_owners.Owners.{EndpointRuns, NoteRuns, is_descriptor, note_in, views_of}
+use Rattle.driver_laws.specs.run_owners.Kept.{HasOwners}
+use Rattle.ring_laws.specs.lent_structures.Structures.{QueueHead, StructureSets}
 use Rattle.ring_laws.specs.Hand.{Hand}
 use Rattle.ring_laws.specs.Ring.{Base}
 use Rattle.ring_laws.specs.Fewer.{without_those, MayGo}

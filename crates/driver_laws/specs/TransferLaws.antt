@@ -17,12 +17,12 @@ use Rattle.driver_rows.specs.DriverContent.{DriverContent}
 use Rattle.driver_rows.specs.Rows.{advance}
 use Rattle.driver_rows.specs.Harvests.{note_at}
 use Rattle.driver_rows.specs.Offers.{Offered, new_runs, new_transfer, with_queued, is_last}
-use Rattle.run_owners.specs.Owners.{EndpointRuns, TransferRuns, runs_of_endpoint, runs_of_transfer}
-use Rattle.run_owners.specs.Accepts.{Transfers}
-use Rattle.run_owners.specs.Kept.{HasOwners}
-use Rattle.lent_runs.specs.Lent.{AreLent}
-use Rattle.lent_structures.specs.Structures.{Structure, Element, Buffer, StructureSets}
-use Rattle.lent_structures.specs.Sound.{buffer_name}
+use Rattle.driver_laws.specs.run_owners.Owners.{EndpointRuns, TransferRuns, runs_of_endpoint, runs_of_transfer}
+use Rattle.driver_laws.specs.run_owners.Accepts.{Transfers}
+use Rattle.driver_laws.specs.run_owners.Kept.{HasOwners}
+use Rattle.driver_laws.specs.lent_runs.Lent.{AreLent}
+use Rattle.ring_laws.specs.lent_structures.Structures.{Structure, Element, Buffer, StructureSets}
+use Rattle.ring_laws.specs.lent_structures.Sound.{buffer_name}
 use Rattle.ring_laws.specs.Hand.{Hand}
 use Rattle.ring_laws.specs.Ring.{Base}
 use Rattle.ring_laws.specs.Together.{Item, put_all}

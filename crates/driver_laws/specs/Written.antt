@@ -25,8 +25,8 @@ use Rattle.driver_rows.specs.DriverContent.{DriverContent}
 use Rattle.driver_rows.specs.Words.{buffer_needs, dummy_qtd}
 use Rattle.driver_rows.specs.Harvests.{note_at}
 use Rattle.driver_rows.specs.Offers.{is_last, stage_words}
-use Rattle.run_owners.specs.Owners.{EndpointRuns, TransferRuns, views_of}
-use Rattle.run_owners.specs.Accepts.{AreShort}
+use Rattle.driver_laws.specs.run_owners.Owners.{EndpointRuns, TransferRuns, views_of}
+use Rattle.driver_laws.specs.run_owners.Accepts.{AreShort}
 use Rattle.driver_laws.specs.Inventory.{IsLent, IsTransferIn}
 
 -- ---- runs

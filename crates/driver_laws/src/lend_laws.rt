@@ -2,7 +2,7 @@
 ghost use Rattle.std.specs.Prelude.{◌≡◌, ℕ, Bool, false};
 ghost use Rattle.async_walk.specs.declared.state.WalkStep.{WalkStep};
 ghost use Rattle.async_walk.specs.Rows.{WalkPlace};
-ghost use Rattle.lent_structures.specs.Structures.{StructureSets};
+ghost use Rattle.ring_laws.specs.lent_structures.Structures.{StructureSets};
 ghost use Rattle.ring_laws.specs.Hand.{Hand};
 ghost use Rattle.ring_laws.specs.Ring.{Base, IsRing};
 ghost use Rattle.ring_laws.specs.Effects.{Happens};

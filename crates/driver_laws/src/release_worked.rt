@@ -1,7 +1,7 @@
 //! Worked rows, which the check computes.
 ghost use Rattle.std.specs.Prelude.{◌≡◌, ◌*◌, true, false, [], ◌∷◌};
-ghost use Rattle.run_owners.specs.Owners.{note_in};
-ghost use Rattle.run_owners.specs.Worked.{busy_notes, busy_driver, get_out};
+ghost use Rattle.driver_laws.specs.run_owners.Owners.{note_in};
+ghost use Rattle.driver_laws.specs.run_owners.Worked.{busy_notes, busy_driver, get_out};
 ghost use Rattle.driver_laws.specs.Released.{blocks_of, goes_of};
 
 /// A transfer of one qTD in block 132 with a buffer in block 134.

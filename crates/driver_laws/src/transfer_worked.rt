@@ -2,7 +2,7 @@
 ghost use Rattle.std.specs.Prelude.{◌≡◌, [], ◌∷◌, false, true};
 ghost use Rattle.word_mem.specs.Memory.{fresh};
 ghost use Rattle.driver_rows.specs.Words.{to_qtd};
-ghost use Rattle.lent_structures.specs.Sound.{buffer_name};
+ghost use Rattle.ring_laws.specs.lent_structures.Sound.{buffer_name};
 ghost use Rattle.driver_laws.specs.Written.{AreAllApart, next_blocks, buffer_blocks, last_block};
 ghost use Rattle.driver_laws.specs.Pieces.{stage_qtd, qtd_items, buffer_items};
 ghost use Rattle.driver_laws.specs.TransferWorked.{notes, stage, names};

@@ -3,12 +3,12 @@ use Rattle.std.proofs.Common.{ℕ, List, Option, Some, None}
 use Rattle.script_fits.proofs.Texts.{spelled_fits}
 use Rattle.bus_world.specs.Budgets.{AdmitsThroughout}
 use Rattle.bus_world.proofs.Budgeted.{script_admits}
-use Rattle.worlds_keep_to_lent.specs.Written.{KeepsToLentThroughout}
-use Rattle.worlds_keep_to_lent.proofs.Moments.{script_keeps}
-use Rattle.owned_blocks.specs.Worlds.{OwnsItsBlocksThroughout}
-use Rattle.owned_blocks.proofs.Worlds.{script_owns}
-use Rattle.world_frames.specs.Scheduled.{KeepsScheduleThroughout}
-use Rattle.world_frames.proofs.Moments.{script_scheduled}
+use Rattle.list_laws.specs.worlds_keep_to_lent.Written.{KeepsToLentThroughout}
+use Rattle.list_laws.proofs.lemmas.worlds_keep_to_lent.Moments.{script_keeps}
+use Rattle.list_laws.specs.owned_blocks.Worlds.{OwnsItsBlocksThroughout}
+use Rattle.list_laws.proofs.lemmas.owned_blocks.Worlds.{script_owns}
+use Rattle.list_laws.specs.world_frames.Scheduled.{KeepsScheduleThroughout}
+use Rattle.list_laws.proofs.lemmas.world_frames.Moments.{script_scheduled}
 use Rattle.program_ends.specs.Input.{input_of}
 use Rattle.ehci_cli.specs.Scripts.{OfEachScript}
 

@@ -1,23 +1,23 @@
 -- The report of a script's run is that of a moment of it.
 use Rattle.std.proofs.Common.{◌≡◌, ℕ, ◌+◌, ◌*◌, List, [], Option, Some, None, inl, inr, ap, sym, subst, ◌∙◌, refl}
 use Rattle.script_types.specs.declared.scripts.Script.{Script}
-use Rattle.right_reports.specs.WorldReport.{report_of}
-use Rattle.right_reports.specs.Ins.{AreRightInStreams}
+use Rattle.told_streams.specs.right_reports.WorldReport.{report_of}
+use Rattle.told_streams.specs.right_reports.Ins.{AreRightInStreams}
 use Rattle.report_streams.specs.Reports.{WholeReport}
 use Rattle.report_streams.specs.Streams.{AreRightStreams}
-use Rattle.taken_reports.specs.Taken.{AreTakenStreams}
-use Rattle.right_reports.proofs.Printed.{report_printed}
-use Rattle.right_reports.proofs.Ins.{ins_are_all}
+use Rattle.told_streams.specs.taken_reports.Taken.{AreTakenStreams}
+use Rattle.told_streams.proofs.lemmas.right_reports.Printed.{report_printed}
+use Rattle.told_streams.proofs.lemmas.right_reports.Ins.{ins_are_all}
 use Rattle.usb_bus.specs.Bus.{fixed_of}
 use Rattle.bus_world.specs.World.{World, Standing}
 use Rattle.bus_world.specs.Opening.{opening_world}
 use Rattle.bus_world.specs.Orders.{OrderedWorld, Leads, at_place, orders_of, ticks, IsRun}
 use Rattle.bus_world.specs.Budgets.{moment}
 use Rattle.bus_world.proofs.Ticks.{ticks_more}
-use Rattle.sending_worlds.specs.Sent.{AreSentStreams}
-use Rattle.sending_worlds.specs.Moments.{StreamsAreRightAtTheEnd}
-use Rattle.sending_worlds.specs.Kept.{KeepsStreamsThroughout}
-use Rattle.sending_worlds.proofs.Moments.{texts_keep_streams}
+use Rattle.whole_worlds.specs.sending_worlds.Sent.{AreSentStreams}
+use Rattle.whole_worlds.specs.sending_worlds.Moments.{StreamsAreRightAtTheEnd}
+use Rattle.whole_worlds.specs.sending_worlds.Kept.{KeepsStreamsThroughout}
+use Rattle.whole_worlds.proofs.lemmas.sending_worlds.Moments.{texts_keep_streams}
 use Rattle.program_ends.specs.Input.{input_of}
 use Rattle.program_forms.specs.Output.{IsRunOf}
 use Rattle.ehci_cli.specs.Scripts.{OfEachAsynchronousScript}

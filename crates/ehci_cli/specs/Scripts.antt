@@ -5,7 +5,7 @@
 use Rattle.std.specs.Prelude.{ℕ, List, Option, IfSome}
 use Rattle.script_types.specs.declared.scripts.Script.{Script}
 use Rattle.script_text.specs.Faults.{Spells}
-use Rattle.chained_transfers.specs.Asynchronous.{AsynchronousOnly}
+use Rattle.driver_laws.specs.chained_transfers.Asynchronous.{AsynchronousOnly}
 use Rattle.asking_worlds.specs.Given.{AsynchronousOfDevices}
 use Rattle.program_ends.specs.Input.{input_of}
 

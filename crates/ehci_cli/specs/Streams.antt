@@ -7,16 +7,16 @@ use Rattle.std.specs.Prelude.{◌≡◌, []}
 use Rattle.script_types.specs.declared.scripts.Script.{Script}
 use Rattle.report_streams.specs.Reports.{whole_text}
 use Rattle.report_streams.specs.Streams.{AreRightStreams}
-use Rattle.right_reports.specs.WorldReport.{report_of}
-use Rattle.right_reports.specs.Ins.{AreRightInStreams}
-use Rattle.taken_reports.specs.Taken.{AreTakenStreams}
-use Rattle.sending_worlds.specs.Sent.{AreSentStreams}
+use Rattle.told_streams.specs.right_reports.WorldReport.{report_of}
+use Rattle.told_streams.specs.right_reports.Ins.{AreRightInStreams}
+use Rattle.told_streams.specs.taken_reports.Taken.{AreTakenStreams}
+use Rattle.whole_worlds.specs.sending_worlds.Sent.{AreSentStreams}
 use Rattle.bus_world.specs.World.{Standing}
 use Rattle.bus_world.specs.Opening.{opening_standing}
 use Rattle.bus_world.specs.Orders.{Leads, at_place, orders_of}
 use Rattle.bus_world.specs.Closing.{world_text}
-use Rattle.chained_transfers.specs.Receives.{ReceivesOnly}
-use Rattle.sending_worlds.specs.Kept.{KeepsStreamsThroughout}
+use Rattle.driver_laws.specs.chained_transfers.Receives.{ReceivesOnly}
+use Rattle.whole_worlds.specs.sending_worlds.Kept.{KeepsStreamsThroughout}
 use Rattle.program_forms.specs.Output.{IsRunOf}
 
 pub record IsWholeRunOf (s : Script) (w : Standing) : Type 0 where

@@ -1,8 +1,8 @@
 ghost use Rattle.std.specs.Prelude.{◌≡◌, ◌≢◌, ℕ, ◌≤◌, ◌↔◌, map, string_bytes, IfSome};
 ghost use Rattle.bus_world.specs.Budgets.{AdmitsThroughout};
-ghost use Rattle.world_frames.specs.Scheduled.{KeepsScheduleThroughout};
-ghost use Rattle.worlds_keep_to_lent.specs.Written.{KeepsToLentThroughout};
-ghost use Rattle.owned_blocks.specs.Worlds.{OwnsItsBlocksThroughout};
+ghost use Rattle.list_laws.specs.world_frames.Scheduled.{KeepsScheduleThroughout};
+ghost use Rattle.list_laws.specs.worlds_keep_to_lent.Written.{KeepsToLentThroughout};
+ghost use Rattle.list_laws.specs.owned_blocks.Worlds.{OwnsItsBlocksThroughout};
 ghost use Rattle.program_ends.specs.Ends.{IsFault, IsWriteFault, WritesNothing};
 ghost use Rattle.program_ends.specs.Input.{input_of};
 ghost use Rattle.program_forms.specs.Form.{AreWordsOf, AreNoForm};

@@ -10,8 +10,8 @@ use Rattle.hc_core.specs.Controller.{Content, microframe_row, HasRow}
 use Rattle.ring_laws.specs.Ring.{Base}
 use Rattle.ring_runs.specs.Runs.{made_by}
 use Rattle.frame_walk.specs.Met.{Kind}
-use Rattle.frame_control.specs.Both.{ControlsBoth}
-use Rattle.frame_control.proofs.Running.{event_runs}
+use Rattle.frame_laws.specs.frame_control.Both.{ControlsBoth}
+use Rattle.frame_laws.proofs.lemmas.frame_control.Running.{event_runs}
 use Rattle.frame_walk.proofs.Walking.{event_happens}
 use Rattle.frame_runs.specs.Runs.{BothAreTold, AreRunning, BothStay, AllAreMadeOverBoth, NothingIsRefused}
 

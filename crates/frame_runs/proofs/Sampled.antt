@@ -4,8 +4,8 @@ use Rattle.usb_base.specs.declared.packets.Pid.{Pid}
 use Rattle.usb_base.specs.declared.packets.Reply.TheVariants.{Bytes, Silent}
 use Rattle.ring_laws.specs.Hand.{Empty}
 use Rattle.frame_walk.specs.FrameHand.{Nothing}
-use Rattle.frame_control.specs.Samples.{base, member, met, parts, opening}
-use Rattle.frame_control.proofs.Sampled.{both_run}
+use Rattle.frame_laws.specs.frame_control.Samples.{base, member, met, parts, opening}
+use Rattle.frame_laws.proofs.lemmas.frame_control.Sampled.{both_run}
 use Rattle.frame_runs.specs.Runs.{AreRunning}
 use Rattle.frame_runs.specs.Samples.{silent}
 

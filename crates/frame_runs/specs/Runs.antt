@@ -10,15 +10,15 @@ use Rattle.std.specs.Prelude.{◌≡◌, ℕ, Bool, List, Option}
 use Rattle.usb_base.specs.declared.packets.Ask.{Ask}
 use Rattle.usb_base.specs.declared.packets.Reply.{Reply}
 use Rattle.hc_core.specs.Controller.{Content}
-use Rattle.lent_structures.specs.Structures.{StructureSets}
+use Rattle.ring_laws.specs.lent_structures.Structures.{StructureSets}
 use Rattle.ring_laws.specs.Hand.{Hand}
 use Rattle.ring_laws.specs.Ring.{Base}
 use Rattle.ring_laws.specs.Effects.{AreBytesHeard}
-use Rattle.controlled_streams.specs.Control.{IsOn}
+use Rattle.walked_queues.specs.controlled_streams.Control.{IsOn}
 use Rattle.ring_runs.specs.Runs.{HearsBytes}
 use Rattle.frame_walk.specs.Met.{Kind}
 use Rattle.frame_walk.specs.FrameHand.{FrameHand}
-use Rattle.frame_control.specs.Both.{RunsBoth, ControlsBoth}
+use Rattle.frame_laws.specs.frame_control.Both.{RunsBoth, ControlsBoth}
 
 abbrev pub BothAreTold : {W : Type 0} → (W → ℕ → Bool → W → Type 0) → (W → Ask → List ℕ → Reply → W → Type 0) → Content → W → Content → W → Type 0
 BothAreTold begins transacts old before new after = (base : Base) (member : ℕ → Bool) (met : ℕ → Option Kind) (parts : StructureSets) (hand : Hand) (frame : FrameHand) → IsOn base

@@ -1,5 +1,5 @@
 //! A worked row: the ring and the frames of `frame_control`, over a wire on which nothing is heard.
-ghost use Rattle.frame_control.specs.Samples.{base, member, met, opening};
+ghost use Rattle.frame_laws.specs.frame_control.Samples.{base, member, met, opening};
 ghost use Rattle.frame_runs.specs.Runs.{AreRunning};
 ghost use Rattle.frame_runs.specs.Samples.{silent};
 

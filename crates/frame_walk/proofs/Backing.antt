@@ -15,10 +15,10 @@ use Rattle.iso_visits.specs.declared.held.HeldItd.{HeldItd}
 use Rattle.iso_visits.specs.Itd.{itd_in, itd_out, itd_transaction}
 use Rattle.iso_visits.specs.WriteBack.{itd_pages, slot_place, done_slot, slot_back, itd_written}
 use Rattle.iso_visits.proofs.Pages.{done_in_range}
-use Rattle.lent_structures.specs.Structures.{Isochronous, HoldsIsochronous, StructureSets, Tells}
-use Rattle.lent_structures.proofs.Names.{put_same, put_beside}
-use Rattle.lent_structures.proofs.Writing.{word_put_isochronous}
-use Rattle.lent_structures.specs.WriteBack.{received_parts}
+use Rattle.ring_laws.specs.lent_structures.Structures.{Isochronous, HoldsIsochronous, StructureSets, Tells}
+use Rattle.ring_laws.proofs.lemmas.lent_structures.Names.{put_same, put_beside}
+use Rattle.ring_laws.proofs.lemmas.lent_structures.Writing.{word_put_isochronous}
+use Rattle.ring_laws.specs.lent_structures.WriteBack.{received_parts}
 use Rattle.link_words.specs.Links.{link_of}
 use Rattle.frame_walk.specs.Met.{Kind, IsBuffered, LeadsTo, IsMetItd}
 use Rattle.frame_walk.specs.FrameHand.{ItdCopy}

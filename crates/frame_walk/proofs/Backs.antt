@@ -19,10 +19,10 @@ use Rattle.iso_visits.specs.Sitd.{sitd_turn, part_bytes, sitd_ask, sitd_with, si
 use Rattle.iso_visits.specs.WriteBack.{sitd_pages, moved_by, state_back, sitd_written}
 use Rattle.iso_visits.proofs.Ranges.{moved_in_range}
 use Rattle.periodic_walk.specs.Sitd.{writing}
-use Rattle.lent_structures.specs.Structures.{Buffer, SplitIsochronous, HoldsBuffer, HoldsSplitIsochronous, Structures, StructureSets, Tells}
-use Rattle.lent_structures.proofs.Names.{put_same, put_beside}
-use Rattle.lent_structures.specs.WriteBack.{Received, received_parts}
-use Rattle.lent_structures.proofs.Found.{received_beside}
+use Rattle.ring_laws.specs.lent_structures.Structures.{Buffer, SplitIsochronous, HoldsBuffer, HoldsSplitIsochronous, Structures, StructureSets, Tells}
+use Rattle.ring_laws.proofs.lemmas.lent_structures.Names.{put_same, put_beside}
+use Rattle.ring_laws.specs.lent_structures.WriteBack.{Received, received_parts}
+use Rattle.ring_laws.proofs.lemmas.lent_structures.Found.{received_beside}
 use Rattle.frame_walk.specs.Met.{Kind, LeadsTo, IsBuffered, IsMetSitd}
 use Rattle.frame_walk.specs.FrameHand.{SitdCopy}
 use Rattle.frame_walk.specs.Frame.{turned, IsMoved, IsTurned}

@@ -20,8 +20,8 @@ use Rattle.periodic_walk.specs.Walk.{stopped}
 use Rattle.periodic_walk.specs.Place.{FramePlace, reading}
 use Rattle.periodic_walk.specs.Chain.{queue_fetch, itd_fetch, sitd_fetch, chain_row, chain_read, chain_after, chain_step, fetched_queue, fetched_itd_walk, fetched_sitd}
 use Rattle.periodic_walk.specs.Rows.{step_of, Leads}
-use Rattle.lent_structures.specs.Structures.{QueueHead, Isochronous, SplitIsochronous, HoldsQueueHead, HoldsIsochronous, HoldsSplitIsochronous, StructureSets, Tells}
-use Rattle.lent_structures.proofs.Reading.{head_read, head_not_refused, itd_read_there, itd_not_refused, sitd_read_there, sitd_not_refused}
+use Rattle.ring_laws.specs.lent_structures.Structures.{QueueHead, Isochronous, SplitIsochronous, HoldsQueueHead, HoldsIsochronous, HoldsSplitIsochronous, StructureSets, Tells}
+use Rattle.ring_laws.proofs.lemmas.lent_structures.Reading.{head_read, head_not_refused, itd_read_there, itd_not_refused, sitd_read_there, sitd_not_refused}
 use Rattle.ring_laws.specs.Ring.{base_of}
 use Rattle.ring_laws.specs.Effects.{AreBytesHeard}
 use Rattle.frame_walk.specs.Met.{Kind, AQueue, AnItd, ASitd, LeadsTo, IsMetQueue, IsMetItd, IsMetSitd}

@@ -2,7 +2,7 @@
 use Rattle.std.proofs.Common.{◌≡◌, ◌≢◌, ℕ, Option, Some, ap, sym, subst, ◌∙◌, ⊎_elim}
 use Rattle.std.proofs.lemmas.Bool.{cases_eq}
 use Rattle.std.proofs.lemmas.Option.{same_Some}
-use Rattle.lent_structures.specs.Structures.{Structures, StructureSets}
+use Rattle.ring_laws.specs.lent_structures.Structures.{Structures, StructureSets}
 use Rattle.ring_laws.specs.Hand.{Copy}
 use Rattle.periodic_walk.specs.Place.{FramePlace}
 use Rattle.frame_walk.specs.Met.{Kind, AQueue, IsMetQueue, IsMetAs}

@@ -6,7 +6,7 @@ use Rattle.async_walk.specs.declared.state.WalkStep.{WalkStep}
 use Rattle.async_walk.specs.declared.state.WalkStep.TheVariants as steps
 use Rattle.periodic_walk.specs.Place.{FramePlace}
 use Rattle.periodic_walk.specs.Rows.{step_of}
-use Rattle.lent_structures.specs.Structures.{StructureSets}
+use Rattle.ring_laws.specs.lent_structures.Structures.{StructureSets}
 use Rattle.ring_laws.specs.Ring.{Base}
 use Rattle.frame_walk.specs.Met.{Kind}
 use Rattle.frame_walk.specs.FrameHand.{FrameHand}

@@ -21,7 +21,7 @@ use Rattle.periodic_walk.specs.declared.state.Hand.{Hand}
 use Rattle.periodic_walk.specs.Place.{FramePlace, passed, Effect, HasEffect, sent}
 use Rattle.periodic_walk.specs.Itd.{ended_row, wrote_at, itd_step, itd_left_by, itd_effect}
 use Rattle.periodic_walk.specs.Rows.{step_at, step_of, effect_at, Leads}
-use Rattle.lent_structures.specs.Structures.{StructureSets}
+use Rattle.ring_laws.specs.lent_structures.Structures.{StructureSets}
 use Rattle.ring_laws.specs.Ring.{base_of}
 use Rattle.ring_laws.specs.Effects.{AreBytesHeard}
 use Rattle.frame_walk.specs.Met.{Kind, AnItd, IsMetItd, IsMetAs}

@@ -10,7 +10,7 @@ use Rattle.iso_visits.specs.Itd.{IsItdHeld, limit_of, number_of, is_in_order, he
 use Rattle.iso_visits.specs.WriteBack.{bytes_of}
 use Rattle.iso_visits.proofs.Ranges.{in_held, out_held}
 use Rattle.periodic_walk.specs.Itd.{with_heard, got_after}
-use Rattle.lent_structures.specs.Structures.{StructureSets}
+use Rattle.ring_laws.specs.lent_structures.Structures.{StructureSets}
 use Rattle.frame_walk.specs.Met.{Kind}
 use Rattle.frame_walk.specs.FrameHand.{ItdCopy}
 use Rattle.frame_walk.specs.Frame.{received_of, IsCopiedItd}

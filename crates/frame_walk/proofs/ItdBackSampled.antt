@@ -9,7 +9,7 @@ use Rattle.qh_qtd.specs.QueueHead.{qh_words}
 use Rattle.iso_visits.specs.Itd.{fetched_itd, after_in}
 use Rattle.iso_visits.specs.WriteBack.{done_slot, itd_written}
 use Rattle.iso_visits.proofs.Ranges.{in_held}
-use Rattle.lent_structures.specs.Structures.{Tells}
+use Rattle.ring_laws.specs.lent_structures.Structures.{Tells}
 use Rattle.frame_walk.specs.Met.{AnItd, IsMetItd}
 use Rattle.frame_walk.specs.Frame.{IsCopiedItd}
 use Rattle.frame_walk.specs.PartSamples.{met, memory, parts, in_hand, heard, moved}

@@ -7,10 +7,10 @@ use Rattle.walk_copy.specs.WriteBack.{moved_by}
 use Rattle.iso_visits.specs.WriteBack.{sitd_received, moved_by as sitd_moved_by}
 use Rattle.async_walk.specs.declared.state.WalkStep.{WalkStep}
 use Rattle.periodic_walk.specs.Walk.{Walk}
-use Rattle.lent_structures.specs.Structures.{QueueHead, Isochronous, SplitIsochronous, StructureSets}
-use Rattle.lent_structures.proofs.Names.{put_beside}
-use Rattle.lent_structures.specs.WriteBack.{received_parts}
-use Rattle.lent_structures.proofs.Found.{received_beside, back_beside}
+use Rattle.ring_laws.specs.lent_structures.Structures.{QueueHead, Isochronous, SplitIsochronous, StructureSets}
+use Rattle.ring_laws.proofs.lemmas.lent_structures.Names.{put_beside}
+use Rattle.ring_laws.specs.lent_structures.WriteBack.{received_parts}
+use Rattle.ring_laws.proofs.lemmas.lent_structures.Found.{received_beside, back_beside}
 use Rattle.ring_laws.specs.Hand.{Copy, Hand as RingHand, Empty, Copied, Settled, Stale}
 use Rattle.ring_laws.specs.Effects.{received_into}
 use Rattle.frame_walk.specs.Met.{Kind, AQueue, AnItd, ASitd}

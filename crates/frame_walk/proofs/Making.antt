@@ -21,11 +21,11 @@ use Rattle.walk_copy.specs.Overlay.{pages_of, buffer_place}
 use Rattle.walk_copy.specs.Transacting.{outcome_in, host_after}
 use Rattle.interrupt_visits.specs.Turns.{planned, is_last_of}
 use Rattle.interrupt_visits.specs.Copies.{interrupt_copy}
-use Rattle.lent_structures.specs.Settles.{Settles}
-use Rattle.lent_structures.proofs.Settling.{settles}
-use Rattle.lent_structures.specs.Structures.{Buffer, StructureSets}
-use Rattle.lent_structures.proofs.WrittenBack.{sent_there, none_sent}
-use Rattle.lent_structures.specs.Sound.{HasBuffer, IsReady, IsWorking, IsSoundElement}
+use Rattle.ring_laws.specs.lent_structures.Settles.{Settles}
+use Rattle.ring_laws.proofs.lemmas.lent_structures.Settling.{settles}
+use Rattle.ring_laws.specs.lent_structures.Structures.{Buffer, StructureSets}
+use Rattle.ring_laws.proofs.lemmas.lent_structures.WrittenBack.{sent_there, none_sent}
+use Rattle.ring_laws.specs.lent_structures.Sound.{HasBuffer, IsReady, IsWorking, IsSoundElement}
 use Rattle.ring_laws.specs.Hand.{Copy, copied_queue}
 use Rattle.frame_walk.specs.Met.{Kind}
 use Rattle.frame_walk.specs.Frame.{IsQueueSettled}

@@ -11,9 +11,9 @@ use Rattle.itd_sitd.specs.Itd.{slot_of, itd_words, IsItdInRange}
 use Rattle.iso_visits.specs.Itd.{fetched_itd}
 use Rattle.iso_visits.specs.WriteBack.{itd_pages, slot_place}
 use Rattle.iso_visits.proofs.Ranges.{fetched_held}
-use Rattle.lent_structures.specs.Structures.{Structure, QueueHead, Element, Buffer, Isochronous, HoldsQueueHead, HoldsBuffer, HoldsIsochronous, Holds, StructureSets, put, Has, AreSeparate, Tells}
-use Rattle.lent_structures.proofs.Names.{put_found}
-use Rattle.lent_structures.proofs.Telling.{joined}
+use Rattle.ring_laws.specs.lent_structures.Structures.{Structure, QueueHead, Element, Buffer, Isochronous, HoldsQueueHead, HoldsBuffer, HoldsIsochronous, Holds, StructureSets, put, Has, AreSeparate, Tells}
+use Rattle.ring_laws.proofs.lemmas.lent_structures.Names.{put_found}
+use Rattle.ring_laws.proofs.lemmas.lent_structures.Telling.{joined}
 use Rattle.frame_walk.specs.Met.{Kind, AQueue, AnItd, IsBuffered, IsMetQueue, IsMetItd, IsMetAs}
 use Rattle.frame_walk.specs.FrameHand.{Nothing, OfItd}
 use Rattle.frame_walk.specs.Frame.{IsCopiedItd, IsFrame}

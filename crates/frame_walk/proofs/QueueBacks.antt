@@ -30,15 +30,15 @@ use Rattle.interrupt_visits.specs.declared.turns.Turn.TheVariants as turns
 use Rattle.interrupt_visits.specs.Turns.{microframe_of, waits, is_missed, complete_turn, start_turn, turn_of, planned, is_last_of}
 use Rattle.interrupt_visits.specs.Copies.{with_split, missed_queue, missed_copy}
 use Rattle.periodic_walk.specs.Walk.{Walk}
-use Rattle.lent_structures.specs.Settles.{Leaves}
-use Rattle.lent_structures.specs.Structures.{QueueHead, Element, Buffer, Structures, StructureSets, put}
-use Rattle.lent_structures.specs.Changes.{relinked, overwritten}
-use Rattle.lent_structures.proofs.Names.{put_here}
-use Rattle.lent_structures.proofs.Storing.{length-overwritten}
-use Rattle.lent_structures.specs.WriteBack.{Received, Nothing, Into, IsReceived, received_parts, CanBeWritten, qtd_after, parts_back}
-use Rattle.lent_structures.proofs.WrittenBack.{head_is_no_buffer, received_else, between_element}
-use Rattle.lent_structures.specs.Alters.{IsAfter, Alters}
-use Rattle.lent_structures.proofs.Altering.{is_itself, unaltered, altered_both, head_put, element_put, buffer_put}
+use Rattle.ring_laws.specs.lent_structures.Settles.{Leaves}
+use Rattle.ring_laws.specs.lent_structures.Structures.{QueueHead, Element, Buffer, Structures, StructureSets, put}
+use Rattle.ring_laws.specs.lent_structures.Changes.{relinked, overwritten}
+use Rattle.ring_laws.proofs.lemmas.lent_structures.Names.{put_here}
+use Rattle.ring_laws.proofs.lemmas.lent_structures.Storing.{length-overwritten}
+use Rattle.ring_laws.specs.lent_structures.WriteBack.{Received, Nothing, Into, IsReceived, received_parts, CanBeWritten, qtd_after, parts_back}
+use Rattle.ring_laws.proofs.lemmas.lent_structures.WrittenBack.{head_is_no_buffer, received_else, between_element}
+use Rattle.ring_laws.specs.lent_structures.Alters.{IsAfter, Alters}
+use Rattle.ring_laws.proofs.lemmas.lent_structures.Altering.{is_itself, unaltered, altered_both, head_put, element_put, buffer_put}
 use Rattle.ring_laws.specs.Hand.{Copy, copied_queue, settled_queue_of}
 use Rattle.ring_laws.proofs.Writing.{IsSettledCopy, IsWritten, settled_range as came_range}
 use Rattle.frame_walk.specs.Met.{Kind}

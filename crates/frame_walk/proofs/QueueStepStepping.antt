@@ -17,9 +17,9 @@ use Rattle.periodic_walk.specs.declared.state.Hand.{Hand}
 use Rattle.periodic_walk.specs.Place.{FramePlace, reading, HasEffect}
 use Rattle.periodic_walk.specs.Queue.{taken_row, take_row, turn_row, take_read, turn_read}
 use Rattle.periodic_walk.specs.Rows.{step_at, step_of, effect_at, Leads}
-use Rattle.lent_structures.specs.Structures.{Element, StructureSets}
-use Rattle.lent_structures.proofs.Reading.{element_read, element_not_refused}
-use Rattle.lent_structures.specs.Sound.{LeadsOn, IsSoundQueue}
+use Rattle.ring_laws.specs.lent_structures.Structures.{Element, StructureSets}
+use Rattle.ring_laws.proofs.lemmas.lent_structures.Reading.{element_read, element_not_refused}
+use Rattle.ring_laws.specs.lent_structures.Sound.{LeadsOn, IsSoundQueue}
 use Rattle.ring_laws.specs.Hand.{Copy, copied_queue}
 use Rattle.ring_laws.specs.Effects.{AreBytesHeard}
 use Rattle.frame_walk.specs.Met.{Kind}

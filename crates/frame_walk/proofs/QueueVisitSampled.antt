@@ -5,13 +5,13 @@ use Rattle.usb_base.specs.declared.packets.Reply.{Reply}
 use Rattle.usb_base.specs.declared.packets.Reply.TheVariants.{Bytes}
 use Rattle.qh_qtd.specs.declared.qtd.Qtd.{Qtd}
 use Rattle.qh_qtd.specs.QueueHead.{qh_words, IsQhInRange}
-use Rattle.lent_structures.specs.Structures.{QueueHead, Element, Buffer, put, Tells}
-use Rattle.lent_structures.specs.StructureSamples.{queue as first, element, bytes, pages, memory as small, nothing, parts as small_parts}
-use Rattle.lent_structures.proofs.Names.{put_found}
-use Rattle.lent_structures.proofs.Writing.{word_put_queue}
-use Rattle.lent_structures.proofs.StructureSampled.{queue_range as first_range, sample_told}
-use Rattle.lent_structures.specs.Sound.{IsSoundElement, IsSoundQueue}
-use Rattle.lent_structures.proofs.Altering.{same_element}
+use Rattle.ring_laws.specs.lent_structures.Structures.{QueueHead, Element, Buffer, put, Tells}
+use Rattle.ring_laws.specs.lent_structures.StructureSamples.{queue as first, element, bytes, pages, memory as small, nothing, parts as small_parts}
+use Rattle.ring_laws.proofs.lemmas.lent_structures.Names.{put_found}
+use Rattle.ring_laws.proofs.lemmas.lent_structures.Writing.{word_put_queue}
+use Rattle.ring_laws.proofs.lemmas.lent_structures.StructureSampled.{queue_range as first_range, sample_told}
+use Rattle.ring_laws.specs.lent_structures.Sound.{IsSoundElement, IsSoundQueue}
+use Rattle.ring_laws.proofs.lemmas.lent_structures.Altering.{same_element}
 use Rattle.frame_walk.specs.Frame.{IsQueueSettled}
 use Rattle.frame_walk.specs.Met.{IsMetQueue}
 use Rattle.frame_walk.specs.Visits.{IsQueueVisit, IsWrittenBack}

@@ -1,10 +1,10 @@
 -- What stays of the part of a queue head where it is altered, and that a member of a ring is such a part with its link.
 use Rattle.std.proofs.Common.{◌≡◌, ℕ, Bool, Some, ap, sym, ◌∙◌}
 use Rattle.qh_qtd.specs.declared.queue_head.Qh.{Qh}
-use Rattle.lent_structures.specs.Structures.{QueueHead, Structures}
-use Rattle.lent_structures.specs.Sound.{buffer_name, IsSoundQueue, AreOwn, IsMember}
-use Rattle.lent_structures.specs.Alters.{Alters}
-use Rattle.lent_structures.proofs.Members.{element_still, name_after}
+use Rattle.ring_laws.specs.lent_structures.Structures.{QueueHead, Structures}
+use Rattle.ring_laws.specs.lent_structures.Sound.{buffer_name, IsSoundQueue, AreOwn, IsMember}
+use Rattle.ring_laws.specs.lent_structures.Alters.{Alters}
+use Rattle.ring_laws.proofs.lemmas.lent_structures.Members.{element_still, name_after}
 use Rattle.frame_walk.specs.Met.{IsQueuePart, IsLinkedPart}
 
 own_still : (part now : Structures) → Alters part now → AreOwn part → AreOwn now

@@ -9,12 +9,12 @@ use Rattle.buffers.proofs.Reach.{all_reached_if, stored_all, with_bytes_none}
 use Rattle.buffers.proofs.Loads.{bytes_at_none}
 use Rattle.itd_sitd.specs.declared.sitd.Sitd.{Sitd}
 use Rattle.walk_copy.specs.Buffer.{size_of, placed, bytes_read, bytes_written}
-use Rattle.lent_structures.specs.Structures.{Structure, Buffer, SplitIsochronous, HoldsBuffer, Structures, StructureSets, put, Tells}
-use Rattle.lent_structures.specs.Changes.{overwritten}
-use Rattle.lent_structures.proofs.Names.{names_differ, put_same, put_else}
-use Rattle.lent_structures.proofs.Reading.{bytes_part, bytes_reached, part_reached}
-use Rattle.lent_structures.proofs.Storing.{bytes_put, length-overwritten}
-use Rattle.lent_structures.specs.WriteBack.{Received, Nothing, Into, received_parts}
+use Rattle.ring_laws.specs.lent_structures.Structures.{Structure, Buffer, SplitIsochronous, HoldsBuffer, Structures, StructureSets, put, Tells}
+use Rattle.ring_laws.specs.lent_structures.Changes.{overwritten}
+use Rattle.ring_laws.proofs.lemmas.lent_structures.Names.{names_differ, put_same, put_else}
+use Rattle.ring_laws.proofs.lemmas.lent_structures.Reading.{bytes_part, bytes_reached, part_reached}
+use Rattle.ring_laws.proofs.lemmas.lent_structures.Storing.{bytes_put, length-overwritten}
+use Rattle.ring_laws.specs.lent_structures.WriteBack.{Received, Nothing, Into, received_parts}
 use Rattle.frame_walk.specs.Met.{IsBuffered}
 use Rattle.frame_walk.specs.FrameEffects.{AreReceivedAt}
 use Rattle.frame_walk.specs.SitdBacks.{AreRead}

@@ -8,9 +8,9 @@ use Rattle.itd_sitd.specs.Sitd.{sitd_words, IsSitdInRange}
 use Rattle.iso_visits.specs.declared.held.SplitOutcome.TheVariants.{Moved}
 use Rattle.frame_masks.specs.Masks.{lacks}
 use Rattle.iso_visits.specs.Sitd.{after_complete}
-use Rattle.lent_structures.specs.Structures.{Structure, Buffer, SplitIsochronous, HoldsBuffer, HoldsSplitIsochronous, put, Has, AreSeparate, Tells}
-use Rattle.lent_structures.proofs.Names.{put_found}
-use Rattle.lent_structures.proofs.Telling.{joined}
+use Rattle.ring_laws.specs.lent_structures.Structures.{Structure, Buffer, SplitIsochronous, HoldsBuffer, HoldsSplitIsochronous, put, Has, AreSeparate, Tells}
+use Rattle.ring_laws.proofs.lemmas.lent_structures.Names.{put_found}
+use Rattle.ring_laws.proofs.lemmas.lent_structures.Telling.{joined}
 use Rattle.frame_walk.specs.Met.{IsMetSitd}
 use Rattle.frame_walk.specs.Frame.{IsCopiedSitd}
 use Rattle.frame_walk.specs.SitdBacks.{IsSitdInHand, missed, AreReceivedBy}

@@ -9,7 +9,7 @@ use Rattle.iso_visits.specs.declared.held.SplitOutcome.TheVariants.{Moved, Faile
 use Rattle.iso_visits.specs.Sitd.{missed_sitd}
 use Rattle.async_walk.specs.declared.state.WalkStep.TheVariants as steps
 use Rattle.periodic_walk.specs.Rows.{step_of}
-use Rattle.lent_structures.specs.WriteBack.{Nothing}
+use Rattle.ring_laws.specs.lent_structures.WriteBack.{Nothing}
 use Rattle.frame_walk.specs.Met.{Kind, ASitd, IsMetSitd, IsMetAs}
 use Rattle.frame_walk.specs.FrameHand.{OfSitd}
 use Rattle.frame_walk.specs.Frame.{IsFrame}

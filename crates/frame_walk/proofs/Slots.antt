@@ -12,8 +12,8 @@ use Rattle.walk_copy.specs.Buffer.{size_of}
 use Rattle.iso_visits.specs.declared.held.HeldItd.{HeldItd}
 use Rattle.iso_visits.specs.Itd.{IsItdHeld}
 use Rattle.iso_visits.specs.WriteBack.{itd_pages, slot_place, done_slot}
-use Rattle.lent_structures.specs.Structures.{Structure, Buffer, Isochronous, HoldsIsochronous, StructureSets, Tells}
-use Rattle.lent_structures.proofs.Standing.{holds_lent, reaches_if, in_two}
+use Rattle.ring_laws.specs.lent_structures.Structures.{Structure, Buffer, Isochronous, HoldsIsochronous, StructureSets, Tells}
+use Rattle.ring_laws.proofs.lemmas.lent_structures.Standing.{holds_lent, reaches_if, in_two}
 use Rattle.frame_walk.specs.Met.{Kind, IsBuffered, IsMetItd}
 use Rattle.frame_walk.specs.FrameHand.{ItdCopy}
 use Rattle.frame_walk.specs.Frame.{IsCopiedItd}

@@ -20,12 +20,12 @@ use Rattle.periodic_walk.specs.declared.state.Hand.TheVariants as hands
 use Rattle.periodic_walk.specs.Place.{FramePlace, Effect, HasEffect, sent}
 use Rattle.periodic_walk.specs.Queue.{queue_left_by}
 use Rattle.periodic_walk.specs.Rows.{step_of, Leads}
-use Rattle.lent_structures.specs.Structures.{QueueHead, Element, StructureSets, put, Tells}
-use Rattle.lent_structures.specs.StructureSamples.{queue as sample, element, bytes, memory as small, parts as small_parts}
-use Rattle.lent_structures.proofs.Names.{put_found}
-use Rattle.lent_structures.proofs.Writing.{word_put_queue}
-use Rattle.lent_structures.proofs.StructureSampled.{queue_range as sample_range, sample_told}
-use Rattle.lent_structures.specs.Sound.{IsSoundElement, IsSoundQueue}
+use Rattle.ring_laws.specs.lent_structures.Structures.{QueueHead, Element, StructureSets, put, Tells}
+use Rattle.ring_laws.specs.lent_structures.StructureSamples.{queue as sample, element, bytes, memory as small, parts as small_parts}
+use Rattle.ring_laws.proofs.lemmas.lent_structures.Names.{put_found}
+use Rattle.ring_laws.proofs.lemmas.lent_structures.Writing.{word_put_queue}
+use Rattle.ring_laws.proofs.lemmas.lent_structures.StructureSampled.{queue_range as sample_range, sample_told}
+use Rattle.ring_laws.specs.lent_structures.Sound.{IsSoundElement, IsSoundQueue}
 use Rattle.frame_walk.specs.Met.{Kind, AQueue, IsMetQueue, IsMetAs}
 use Rattle.frame_walk.specs.FrameHand.{OfQueue, OfSettled}
 use Rattle.frame_walk.specs.Frame.{IsQueueSettled, IsFrame}

@@ -12,9 +12,9 @@ use Rattle.itd_sitd.specs.declared.sitd.Sitd.{Sitd}
 use Rattle.itd_sitd.specs.Sitd.{sitd_words, IsSitdInRange}
 use Rattle.descriptor_words.specs.Descriptors.{state_words, state_written}
 use Rattle.descriptor_words.proofs.WriteBack.{state_outside, state_states}
-use Rattle.lent_structures.specs.Structures.{SplitIsochronous, HoldsSplitIsochronous, StructureSets, put, Tells}
-use Rattle.lent_structures.specs.Changes.{Changes}
-use Rattle.lent_structures.proofs.Telling.{changed}
+use Rattle.ring_laws.specs.lent_structures.Structures.{SplitIsochronous, HoldsSplitIsochronous, StructureSets, put, Tells}
+use Rattle.ring_laws.specs.lent_structures.Changes.{Changes}
+use Rattle.ring_laws.proofs.lemmas.lent_structures.Telling.{changed}
 
 -- ---- seven words in a row
 

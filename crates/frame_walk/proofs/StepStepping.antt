@@ -9,7 +9,7 @@ use Rattle.periodic_walk.specs.declared.state.Hand.{Hand}
 use Rattle.periodic_walk.specs.Place.{FramePlace, HasEffect}
 use Rattle.periodic_walk.specs.Rows.{step_of, step_at, effect_at, Leads}
 use Rattle.periodic_walk.proofs.Refusals.{refusals_are_faults}
-use Rattle.lent_structures.specs.Structures.{StructureSets}
+use Rattle.ring_laws.specs.lent_structures.Structures.{StructureSets}
 use Rattle.ring_laws.specs.Ring.{Base}
 use Rattle.frame_walk.specs.Met.{Kind}
 use Rattle.frame_walk.specs.FrameHand.{FrameHand, frame_held}

@@ -23,8 +23,8 @@ use Rattle.periodic_walk.specs.declared.sitd.SitdRow.TheVariants as rows
 use Rattle.periodic_walk.specs.Place.{FramePlace, passed, passing, sent, IsAsked, HasEffect}
 use Rattle.periodic_walk.specs.Sitd.{turn_row, settled_row, writing, wrote_at, wrote, wrote_step, sitd_step, sitd_left_by, sitd_effect}
 use Rattle.periodic_walk.specs.Rows.{step_of, Leads}
-use Rattle.lent_structures.specs.Structures.{Structures, StructureSets}
-use Rattle.lent_structures.specs.WriteBack.{Received}
+use Rattle.ring_laws.specs.lent_structures.Structures.{Structures, StructureSets}
+use Rattle.ring_laws.specs.lent_structures.WriteBack.{Received}
 use Rattle.ring_laws.specs.Ring.{base_of}
 use Rattle.ring_laws.specs.Effects.{AreBytesHeard}
 use Rattle.frame_walk.specs.Met.{Kind, ASitd, IsMetAs}

@@ -10,13 +10,13 @@ use Rattle.qh_qtd.specs.QueueHead.{qh_words, IsQhInRange}
 use Rattle.walk_copy.specs.Overlay.{advanced}
 use Rattle.walk_copy.specs.WriteBack.{overlay_after}
 use Rattle.walk_copy.proofs.Ranges.{advanced_in_range}
-use Rattle.lent_structures.specs.Structures.{QueueHead, Element, Structures, StructureSets, put, HoldsElement, Tells}
-use Rattle.lent_structures.specs.Changes.{relinked}
-use Rattle.lent_structures.proofs.Names.{put_here, put_beside, put_same, put_else}
-use Rattle.lent_structures.proofs.WrittenBack.{advance_put}
-use Rattle.lent_structures.specs.Sound.{IsReady, IsSoundElement, IsWorking, IsSoundQueue}
-use Rattle.lent_structures.specs.Alters.{Alters}
-use Rattle.lent_structures.proofs.Altering.{found_queue, no_two, head_put}
+use Rattle.ring_laws.specs.lent_structures.Structures.{QueueHead, Element, Structures, StructureSets, put, HoldsElement, Tells}
+use Rattle.ring_laws.specs.lent_structures.Changes.{relinked}
+use Rattle.ring_laws.proofs.lemmas.lent_structures.Names.{put_here, put_beside, put_same, put_else}
+use Rattle.ring_laws.proofs.lemmas.lent_structures.WrittenBack.{advance_put}
+use Rattle.ring_laws.specs.lent_structures.Sound.{IsReady, IsSoundElement, IsWorking, IsSoundQueue}
+use Rattle.ring_laws.specs.lent_structures.Alters.{Alters}
+use Rattle.ring_laws.proofs.lemmas.lent_structures.Altering.{found_queue, no_two, head_put}
 use Rattle.ring_laws.specs.Hand.{Copy, copied_queue, Hand, Copied}
 use Rattle.ring_laws.specs.Effects.{taken, Takes}
 use Rattle.frame_walk.specs.Met.{Kind, LeadsTo, IsQueuePart, IsMetQueue}

@@ -18,7 +18,7 @@ use Rattle.iso_visits.specs.declared.held.SplitOutcome.TheVariants as outcomes
 use Rattle.iso_visits.specs.Sitd.{turn_at, sitd_turn, sitd_missed, comes, part_bytes, split_heard, heard_outcome, after_split_heard, heard_by, after_complete, after_start, after_part, sitd_after, sitd_outcome, missed_sitd}
 use Rattle.iso_visits.specs.WriteBack.{moved_by, bytes_of, sitd_received}
 use Rattle.iso_visits.proofs.Ranges.{part_in_range, complete_in_range, start_in_range}
-use Rattle.lent_structures.specs.Structures.{StructureSets}
+use Rattle.ring_laws.specs.lent_structures.Structures.{StructureSets}
 use Rattle.frame_walk.specs.Met.{Kind, LeadsTo}
 use Rattle.frame_walk.specs.FrameHand.{SitdCopy}
 use Rattle.frame_walk.specs.Frame.{received_of, turned, IsTurned, IsCopiedSitd}

@@ -23,8 +23,8 @@ use Rattle.periodic_walk.specs.declared.state.HeldQueue.{HeldQueue}
 use Rattle.periodic_walk.specs.declared.state.Hand.TheVariants as hands
 use Rattle.periodic_walk.specs.Place.{FramePlace, faulted, holding, Effect, HasEffect, sent}
 use Rattle.periodic_walk.specs.Queue.{with_queue, queue_step, queue_left_by, queue_effect}
-use Rattle.lent_structures.specs.Structures.{Element, StructureSets}
-use Rattle.lent_structures.proofs.Reading.{head_reached}
+use Rattle.ring_laws.specs.lent_structures.Structures.{Element, StructureSets}
+use Rattle.ring_laws.proofs.lemmas.lent_structures.Reading.{head_reached}
 use Rattle.ring_laws.specs.Hand.{Copy, copied_queue}
 use Rattle.ring_laws.specs.Ring.{base_of}
 use Rattle.ring_laws.specs.Effects.{AreBytesHeard, taken}

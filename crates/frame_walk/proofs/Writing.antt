@@ -15,14 +15,14 @@ use Rattle.walk_copy.specs.Overlay.{settled_queue, buffer_place, moved}
 use Rattle.walk_copy.specs.Planning.{pid_at, host_in}
 use Rattle.walk_copy.specs.WriteBack.{moved_by, received}
 use Rattle.walk_copy.proofs.Ranges.{moved_in_range}
-use Rattle.lent_structures.specs.Settles.{Leaves, Brings}
-use Rattle.lent_structures.specs.Structures.{QueueHead, Element, Buffer, Structures, StructureSets, HoldsBuffer, Tells}
-use Rattle.lent_structures.specs.WriteBack.{Received, Into, IsReceived, CanBeWritten, parts_back}
-use Rattle.lent_structures.proofs.WrittenBack.{all_written, told_back, place_small}
-use Rattle.lent_structures.proofs.Found.{back_beside, back_element, back_head}
-use Rattle.lent_structures.specs.Sound.{LeadsOn, element_pages, buffer_name, HasBuffer, IsReady, IsSoundElement, IsWorking, IsSoundQueue}
-use Rattle.lent_structures.specs.Alters.{Alters}
-use Rattle.lent_structures.proofs.Members.{leads_still, pointer_leads}
+use Rattle.ring_laws.specs.lent_structures.Settles.{Leaves, Brings}
+use Rattle.ring_laws.specs.lent_structures.Structures.{QueueHead, Element, Buffer, Structures, StructureSets, HoldsBuffer, Tells}
+use Rattle.ring_laws.specs.lent_structures.WriteBack.{Received, Into, IsReceived, CanBeWritten, parts_back}
+use Rattle.ring_laws.proofs.lemmas.lent_structures.WrittenBack.{all_written, told_back, place_small}
+use Rattle.ring_laws.proofs.lemmas.lent_structures.Found.{back_beside, back_element, back_head}
+use Rattle.ring_laws.specs.lent_structures.Sound.{LeadsOn, element_pages, buffer_name, HasBuffer, IsReady, IsSoundElement, IsWorking, IsSoundQueue}
+use Rattle.ring_laws.specs.lent_structures.Alters.{Alters}
+use Rattle.ring_laws.proofs.lemmas.lent_structures.Members.{leads_still, pointer_leads}
 use Rattle.ring_laws.specs.Hand.{Copy, copied_queue}
 use Rattle.ring_laws.specs.Effects.{bytes_in, buffer_of, received_into}
 use Rattle.frame_walk.specs.Met.{Kind, IsMetQueue}

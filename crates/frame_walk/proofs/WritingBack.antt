@@ -22,7 +22,7 @@ use Rattle.periodic_walk.specs.declared.state.HeldQueue.{HeldQueue}
 use Rattle.periodic_walk.specs.Place.{FramePlace, holding, passed, HasEffect}
 use Rattle.periodic_walk.specs.Queue.{wrote_at, wrote, wrote_step, miss_outcome}
 use Rattle.periodic_walk.specs.Rows.{step_at, step_of, effect_at, Leads}
-use Rattle.lent_structures.specs.Structures.{StructureSets}
+use Rattle.ring_laws.specs.lent_structures.Structures.{StructureSets}
 use Rattle.ring_laws.specs.Hand.{Copy, copied_queue}
 use Rattle.ring_laws.specs.Ring.{base_of}
 use Rattle.frame_walk.specs.Met.{Kind, LeadsTo}

@@ -16,7 +16,7 @@ use Rattle.async_walk.specs.declared.state.WalkStep.TheVariants as steps
 use Rattle.periodic_walk.specs.Walk.{Walk}
 use Rattle.periodic_walk.specs.Place.{FramePlace}
 use Rattle.periodic_walk.specs.Rows.{step_of, Leads}
-use Rattle.lent_structures.specs.Structures.{QueueHead, Isochronous, SplitIsochronous, StructureSets}
+use Rattle.ring_laws.specs.lent_structures.Structures.{QueueHead, Isochronous, SplitIsochronous, StructureSets}
 use Rattle.frame_walk.specs.Met.{Kind}
 use Rattle.frame_walk.specs.FrameHand.{FrameHand, Nothing, OfQueue, OfItd, OfSitd, frame_held, fetched_copy, fetched_itd_copy, fetched_sitd_copy}
 use Rattle.frame_walk.specs.Frame.{IsFrame}

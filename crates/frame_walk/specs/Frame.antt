@@ -23,7 +23,7 @@ use Rattle.iso_visits.specs.declared.held.SplitOutcome.{SplitOutcome}
 use Rattle.iso_visits.specs.Itd.{IsItdHeld}
 use Rattle.iso_visits.specs.WriteBack.{sitd_received, moved_by}
 use Rattle.periodic_walk.specs.Place.{FramePlace}
-use Rattle.lent_structures.specs.Structures.{QueueHead, Isochronous, SplitIsochronous, StructureSets, Tells}
+use Rattle.ring_laws.specs.lent_structures.Structures.{QueueHead, Isochronous, SplitIsochronous, StructureSets, Tells}
 use Rattle.ring_laws.specs.Hand.{Copy, copied_queue}
 use Rattle.ring_laws.specs.Ring.{IsSettled}
 use Rattle.frame_walk.specs.Met.{Kind, AQueue, AnItd, ASitd, LeadsTo, IsMetAs}

@@ -41,9 +41,9 @@ use Rattle.async_walk.specs.declared.state.WalkStep.{WalkStep}
 use Rattle.async_walk.specs.declared.state.WalkStep.TheVariants as steps
 use Rattle.periodic_walk.specs.Walk.{Walk}
 use Rattle.periodic_walk.specs.Place.{FramePlace}
-use Rattle.lent_structures.specs.Structures.{QueueHead, Element, Buffer, Isochronous, SplitIsochronous, Structures, StructureSets, put}
-use Rattle.lent_structures.specs.Changes.{relinked}
-use Rattle.lent_structures.specs.WriteBack.{Received, Nothing as Nowhere, Into, IsReceived, received_parts, parts_back}
+use Rattle.ring_laws.specs.lent_structures.Structures.{QueueHead, Element, Buffer, Isochronous, SplitIsochronous, Structures, StructureSets, put}
+use Rattle.ring_laws.specs.lent_structures.Changes.{relinked}
+use Rattle.ring_laws.specs.lent_structures.WriteBack.{Received, Nothing as Nowhere, Into, IsReceived, received_parts, parts_back}
 use Rattle.ring_laws.specs.Hand.{Copy, Copied}
 use Rattle.ring_laws.specs.Ring.{base_of}
 use Rattle.ring_laws.specs.Effects.{Takes, received_into}

@@ -8,7 +8,7 @@ use Rattle.usb_base.specs.declared.packets.Ask.{Ask}
 use Rattle.usb_base.specs.declared.packets.Reply.{Reply}
 use Rattle.periodic_walk.specs.Place.{FramePlace, HasEffect}
 use Rattle.periodic_walk.specs.Rows.{step_of, effect_at, Leads}
-use Rattle.lent_structures.specs.Structures.{StructureSets}
+use Rattle.ring_laws.specs.lent_structures.Structures.{StructureSets}
 use Rattle.ring_laws.specs.Effects.{AreBytesHeard}
 use Rattle.frame_walk.specs.Met.{Kind}
 use Rattle.frame_walk.specs.FrameHand.{FrameHand, frame_held}

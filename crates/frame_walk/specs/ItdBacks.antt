@@ -9,8 +9,8 @@ use Rattle.word_mem.specs.Memory.{Mem}
 use Rattle.itd_sitd.specs.Itd.{slot_of}
 use Rattle.iso_visits.specs.Itd.{itd_transaction}
 use Rattle.iso_visits.specs.WriteBack.{itd_pages, slot_place, itd_sending, itd_written}
-use Rattle.lent_structures.specs.Structures.{StructureSets, Tells}
-use Rattle.lent_structures.specs.WriteBack.{Received}
+use Rattle.ring_laws.specs.lent_structures.Structures.{StructureSets, Tells}
+use Rattle.ring_laws.specs.lent_structures.WriteBack.{Received}
 use Rattle.frame_walk.specs.Met.{Kind, IsMetItd}
 use Rattle.frame_walk.specs.FrameHand.{ItdCopy}
 use Rattle.frame_walk.specs.Frame.{received_of, IsCopiedItd}

@@ -6,7 +6,7 @@ use Rattle.usb_base.specs.declared.packets.Reply.{Reply}
 use Rattle.iso_visits.specs.Itd.{itd_after}
 use Rattle.iso_visits.specs.WriteBack.{bytes_of}
 use Rattle.periodic_walk.specs.Itd.{got_after}
-use Rattle.lent_structures.specs.Structures.{StructureSets}
+use Rattle.ring_laws.specs.lent_structures.Structures.{StructureSets}
 use Rattle.frame_walk.specs.Met.{Kind}
 use Rattle.frame_walk.specs.FrameHand.{ItdCopy}
 use Rattle.frame_walk.specs.Frame.{IsCopiedItd}

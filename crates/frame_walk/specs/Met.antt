@@ -19,8 +19,8 @@ use Rattle.itd_sitd.specs.Itd.{slot_of}
 use Rattle.buffers.specs.Bytes.{place}
 use Rattle.iso_visits.specs.Sitd.{sitd_place}
 use Rattle.iso_visits.specs.WriteBack.{itd_pages, slot_place, sitd_pages}
-use Rattle.lent_structures.specs.Structures.{QueueHead, Element, Buffer, Isochronous, SplitIsochronous, Structures}
-use Rattle.lent_structures.specs.Sound.{IsSoundElement, IsSoundQueue, AreOwn, LeadsAmong}
+use Rattle.ring_laws.specs.lent_structures.Structures.{QueueHead, Element, Buffer, Isochronous, SplitIsochronous, Structures}
+use Rattle.ring_laws.specs.lent_structures.Sound.{IsSoundElement, IsSoundQueue, AreOwn, LeadsAmong}
 
 pub data Kind : Type 0 where
   AQueue : Kind

@@ -24,7 +24,7 @@ use Rattle.iso_visits.specs.Itd.{itd_after}
 use Rattle.periodic_walk.specs.declared.state.Hand.TheVariants as hands
 use Rattle.periodic_walk.specs.Walk.{Walk, new_walk, begun as begun_at}
 use Rattle.periodic_walk.specs.Place.{FramePlace, place}
-use Rattle.lent_structures.specs.Structures.{QueueHead, Buffer, Isochronous, StructureSets, put}
+use Rattle.ring_laws.specs.lent_structures.Structures.{QueueHead, Buffer, Isochronous, StructureSets, put}
 use Rattle.frame_walk.specs.Met.{Kind, AQueue, AnItd}
 use Rattle.frame_walk.specs.FrameHand.{ItdCopy, fetched_itd_copy}
 

@@ -26,7 +26,7 @@ use Rattle.interrupt_visits.specs.declared.turns.Turn.TheVariants as turns
 use Rattle.interrupt_visits.specs.Turns.{microframe_of, tag_of, turn_of, planned}
 use Rattle.interrupt_visits.specs.Copies.{interrupt_copy, missed_copy}
 use Rattle.periodic_walk.specs.Walk.{Walk}
-use Rattle.lent_structures.specs.Structures.{StructureSets}
+use Rattle.ring_laws.specs.lent_structures.Structures.{StructureSets}
 use Rattle.ring_laws.specs.Hand.{Copy, copied_queue, Copied}
 use Rattle.ring_laws.specs.Effects.{Takes}
 use Rattle.frame_walk.specs.Met.{Kind}

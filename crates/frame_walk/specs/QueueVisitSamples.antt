@@ -13,9 +13,9 @@ use Rattle.usb_base.specs.declared.packets.Reply.TheVariants.{Bytes}
 use Rattle.usb_base.specs.declared.packets.Pid.TheVariants.{Data0}
 use Rattle.word_mem.specs.Memory.{Mem, with_word}
 use Rattle.qh_qtd.specs.declared.queue_head.Qh.{Qh}
-use Rattle.lent_structures.specs.Structures.{QueueHead, StructureSets, put}
-use Rattle.lent_structures.specs.StructureSamples.{queue as first, element, pages, bytes, memory as small, parts as small_parts}
-use Rattle.lent_structures.specs.WriteBack.{Into, parts_back}
+use Rattle.ring_laws.specs.lent_structures.Structures.{QueueHead, StructureSets, put}
+use Rattle.ring_laws.specs.lent_structures.StructureSamples.{queue as first, element, pages, bytes, memory as small, parts as small_parts}
+use Rattle.ring_laws.specs.lent_structures.WriteBack.{Into, parts_back}
 use Rattle.ring_laws.specs.Hand.{Copy}
 use Rattle.frame_walk.specs.Met.{Kind, AQueue}
 use Rattle.frame_walk.specs.FrameHand.{QueueSettlement, settled_in, fetched_copy}

@@ -7,8 +7,8 @@ use Rattle.iso_visits.specs.declared.held.SplitOutcome.{SplitOutcome}
 use Rattle.iso_visits.specs.Sitd.{sitd_turn, sitd_transaction, sitd_place}
 use Rattle.iso_visits.specs.WriteBack.{sitd_pages, bytes_of}
 use Rattle.periodic_walk.specs.Sitd.{writing}
-use Rattle.lent_structures.specs.Structures.{StructureSets, Tells}
-use Rattle.lent_structures.specs.WriteBack.{Received}
+use Rattle.ring_laws.specs.lent_structures.Structures.{StructureSets, Tells}
+use Rattle.ring_laws.specs.lent_structures.WriteBack.{Received}
 use Rattle.frame_walk.specs.Met.{Kind, IsMetSitd}
 use Rattle.frame_walk.specs.FrameHand.{SitdCopy}
 use Rattle.frame_walk.specs.SitdBacks.{IsSitdInHand, transacted, missed, AreRead, AreReceivedBy, parts_after, IsCounted}

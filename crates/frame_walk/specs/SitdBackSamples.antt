@@ -11,8 +11,8 @@ use Rattle.usb_base.specs.declared.packets.Pid.TheVariants.{Data0}
 use Rattle.word_mem.specs.Memory.{Mem, all_lent}
 use Rattle.itd_sitd.specs.declared.sitd.Sitd.{Sitd}
 use Rattle.itd_sitd.specs.Sitd.{sitd_words}
-use Rattle.lent_structures.specs.Structures.{Buffer, SplitIsochronous, StructureSets, put}
-use Rattle.lent_structures.specs.WriteBack.{Received, Into}
+use Rattle.ring_laws.specs.lent_structures.Structures.{Buffer, SplitIsochronous, StructureSets, put}
+use Rattle.ring_laws.specs.lent_structures.WriteBack.{Received, Into}
 use Rattle.frame_walk.specs.Met.{Kind, ASitd}
 use Rattle.frame_walk.specs.FrameHand.{SitdCopy, fetched_sitd_copy}
 use Rattle.frame_walk.specs.SitdBacks.{transacted}

@@ -14,8 +14,8 @@ use Rattle.walk_copy.specs.Buffer.{bytes_read}
 use Rattle.iso_visits.specs.declared.held.SplitOutcome.{SplitOutcome}
 use Rattle.iso_visits.specs.Sitd.{sitd_place, sitd_copy, missed_copy}
 use Rattle.iso_visits.specs.WriteBack.{sitd_pages, sitd_received, moved_by}
-use Rattle.lent_structures.specs.Structures.{Structures, StructureSets, Tells}
-use Rattle.lent_structures.specs.WriteBack.{Received}
+use Rattle.ring_laws.specs.lent_structures.Structures.{Structures, StructureSets, Tells}
+use Rattle.ring_laws.specs.lent_structures.WriteBack.{Received}
 use Rattle.frame_walk.specs.Met.{Kind, IsMetSitd}
 use Rattle.frame_walk.specs.FrameHand.{SitdCopy}
 use Rattle.frame_walk.specs.Frame.{received_of, IsCopiedSitd}

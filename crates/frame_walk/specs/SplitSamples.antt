@@ -28,8 +28,8 @@ use Rattle.periodic_walk.specs.Walk.{new_walk, begun as microframe, stopped}
 use Rattle.periodic_walk.specs.Place.{FramePlace, place}
 use Rattle.periodic_walk.specs.Chain.{fetched_queue}
 use Rattle.periodic_walk.specs.Queue.{queue_left_by, wrote}
-use Rattle.lent_structures.specs.Structures.{QueueHead, StructureSets, put}
-use Rattle.lent_structures.specs.StructureSamples.{queue as sample, memory as small, parts as small_parts}
+use Rattle.ring_laws.specs.lent_structures.Structures.{QueueHead, StructureSets, put}
+use Rattle.ring_laws.specs.lent_structures.StructureSamples.{queue as sample, memory as small, parts as small_parts}
 use Rattle.ring_laws.specs.Hand.{Copy}
 use Rattle.frame_walk.specs.FrameHand.{QueueSettlement, fetched_copy}
 use Rattle.frame_walk.specs.FrameEffects.{frame_settlement, queue_written, missed_settlement}

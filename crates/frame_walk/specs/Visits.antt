@@ -11,7 +11,7 @@ use Rattle.walk_copy.specs.Buffer.{Writing, sending}
 use Rattle.walk_copy.specs.WriteBack.{written_back}
 use Rattle.interrupt_visits.specs.Turns.{planned}
 use Rattle.periodic_walk.specs.Walk.{Walk}
-use Rattle.lent_structures.specs.Structures.{StructureSets, Tells}
+use Rattle.ring_laws.specs.lent_structures.Structures.{StructureSets, Tells}
 use Rattle.ring_laws.specs.Hand.{Copy, copied_queue}
 use Rattle.frame_walk.specs.Met.{Kind, IsMetQueue}
 use Rattle.frame_walk.specs.FrameHand.{QueueSettlement, settled_in, FrameHand}

@@ -15,7 +15,7 @@ use Rattle.async_walk.specs.declared.state.WalkStep.{WalkStep}
 use Rattle.async_walk.specs.declared.state.WalkStep.TheVariants as steps
 use Rattle.periodic_walk.specs.Place.{FramePlace}
 use Rattle.periodic_walk.specs.Rows.{step_of, Leads}
-use Rattle.lent_structures.specs.Structures.{StructureSets}
+use Rattle.ring_laws.specs.lent_structures.Structures.{StructureSets}
 use Rattle.ring_laws.specs.Ring.{base_of}
 use Rattle.ring_laws.specs.Effects.{AreBytesHeard}
 use Rattle.frame_walk.specs.Met.{Kind}

@@ -1,7 +1,7 @@
 ghost use Rattle.std.specs.Prelude.{◌≡◌, ℕ, Option};
 ghost use Rattle.link_words.specs.declared.kinds.Link.{Link};
 ghost use Rattle.periodic_walk.specs.Place.{FramePlace};
-ghost use Rattle.lent_structures.specs.Structures.{StructureSets};
+ghost use Rattle.ring_laws.specs.lent_structures.Structures.{StructureSets};
 ghost use Rattle.frame_walk.specs.Met.{Kind};
 ghost use Rattle.frame_walk.specs.FrameHand.{Nothing};
 ghost use Rattle.frame_walk.specs.Frame.{IsFrame};

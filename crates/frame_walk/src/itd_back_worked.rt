@@ -2,7 +2,7 @@
 ghost use Rattle.std.specs.Prelude.{◌≡◌, true, [], ◌∷◌};
 ghost use Rattle.word_mem.specs.Memory.{word_at};
 ghost use Rattle.iso_visits.specs.WriteBack.{itd_written};
-ghost use Rattle.lent_structures.specs.Structures.{Tells};
+ghost use Rattle.ring_laws.specs.lent_structures.Structures.{Tells};
 ghost use Rattle.frame_walk.specs.Met.{IsMetItd};
 ghost use Rattle.frame_walk.specs.Frame.{IsCopiedItd};
 ghost use Rattle.frame_walk.specs.PartSamples.{met, memory, parts, moved};

@@ -1,5 +1,5 @@
 ghost use Rattle.std.specs.Prelude.{ℕ, Option};
-ghost use Rattle.lent_structures.specs.Structures.{StructureSets};
+ghost use Rattle.ring_laws.specs.lent_structures.Structures.{StructureSets};
 ghost use Rattle.frame_walk.specs.Met.{Kind};
 ghost use Rattle.frame_walk.specs.FrameHand.{ItdCopy, OfItd};
 ghost use Rattle.frame_walk.specs.FrameSteps.{EventHappens};

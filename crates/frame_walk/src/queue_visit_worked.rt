@@ -1,7 +1,7 @@
 //! Worked rows, which the check computes.
 ghost use Rattle.std.specs.Prelude.{◌≡◌, true, [], ◌∷◌, Some};
-ghost use Rattle.lent_structures.specs.Structures.{Buffer};
-ghost use Rattle.lent_structures.specs.StructureSamples.{pages};
+ghost use Rattle.ring_laws.specs.lent_structures.Structures.{Buffer};
+ghost use Rattle.ring_laws.specs.lent_structures.StructureSamples.{pages};
 ghost use Rattle.frame_walk.specs.FrameHand.{Nothing, OfQueue};
 ghost use Rattle.frame_walk.specs.FrameEffects.{queue_written, after_back};
 ghost use Rattle.frame_walk.specs.Visits.{IsQueueVisit, IsWrittenBack};

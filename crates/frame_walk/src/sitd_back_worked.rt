@@ -4,7 +4,7 @@ ghost use Rattle.usb_base.specs.declared.packets.Reply.{Reply};
 ghost use Rattle.iso_visits.specs.declared.held.SitdTurn.{SitdTurn};
 ghost use Rattle.iso_visits.specs.declared.held.SplitOutcome.{SplitOutcome};
 ghost use Rattle.iso_visits.specs.Sitd.{sitd_turn};
-ghost use Rattle.lent_structures.specs.Structures.{Buffer, SplitIsochronous};
+ghost use Rattle.ring_laws.specs.lent_structures.Structures.{Buffer, SplitIsochronous};
 ghost use Rattle.frame_walk.specs.SitdBacks.{IsSitdInHand, missed, received_by, AreReceivedBy, parts_after, IsCounted};
 ghost use Rattle.frame_walk.specs.SitdBackSamples.{sitd, pages, met, memory, parts, fetched, heard, moved, into};
 

@@ -2,7 +2,7 @@ ghost use Rattle.std.specs.Prelude.{◌≡◌, ◌≢◌, ℕ, true, List, Optio
 ghost use Rattle.async_walk.specs.declared.state.WalkStep.{WalkStep};
 ghost use Rattle.periodic_walk.specs.Place.{FramePlace};
 ghost use Rattle.periodic_walk.specs.Rows.{step_of, Leads};
-ghost use Rattle.lent_structures.specs.Structures.{StructureSets};
+ghost use Rattle.ring_laws.specs.lent_structures.Structures.{StructureSets};
 ghost use Rattle.ring_laws.specs.Effects.{AreBytesHeard};
 ghost use Rattle.frame_walk.specs.Met.{Kind};
 ghost use Rattle.frame_walk.specs.FrameHand.{FrameHand};

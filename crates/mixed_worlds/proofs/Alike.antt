@@ -20,12 +20,12 @@ use Rattle.driver_rows.specs.declared.content.Command.TheVariants as unfinished
 use Rattle.driver_rows.specs.DriverContent.{DriverContent}
 use Rattle.driver_rows.specs.Harvests.{note_at}
 use Rattle.driver_rows.specs.Words.{head_block, dummy_qtd}
-use Rattle.run_owners.specs.Owners.{note_in}
-use Rattle.endpoint_lives.specs.Lives.{may_meet}
-use Rattle.lent_structures.specs.Structures.{Structure, QueueHead, Element, Buffer, Table, Isochronous, SplitIsochronous, Structures, StructureSets, put}
-use Rattle.lent_structures.specs.Sound.{element_pages, buffer_name, LeadsOn, HasBuffer, IsSoundElement, IsSoundQueue}
-use Rattle.lent_structures.proofs.Names.{put_same, put_else, put_beside}
-use Rattle.lent_structures.proofs.Altering.{same_queue}
+use Rattle.driver_laws.specs.run_owners.Owners.{note_in}
+use Rattle.driver_laws.specs.endpoint_lives.Lives.{may_meet}
+use Rattle.ring_laws.specs.lent_structures.Structures.{Structure, QueueHead, Element, Buffer, Table, Isochronous, SplitIsochronous, Structures, StructureSets, put}
+use Rattle.ring_laws.specs.lent_structures.Sound.{element_pages, buffer_name, LeadsOn, HasBuffer, IsSoundElement, IsSoundQueue}
+use Rattle.ring_laws.proofs.lemmas.lent_structures.Names.{put_same, put_else, put_beside}
+use Rattle.ring_laws.proofs.lemmas.lent_structures.Altering.{same_queue}
 use Rattle.driver_laws.specs.Inventory.{IsLent}
 use Rattle.ring_laws.specs.Ring.{Base}
 use Rattle.ring_laws.specs.Told.{Endpoint as Told}
@@ -34,26 +34,26 @@ use Rattle.ring_laws.specs.Front.{LinksRise, HadRest, LinksWithin, HasTail}
 use Rattle.ring_laws.specs.Halted.{HaltStops}
 use Rattle.ring_laws.proofs.FrontGoing.{front_spared}
 use Rattle.ring_laws.proofs.HaltSparing.{halt_spared}
-use Rattle.chained_transfers.specs.Chains.{piece_at}
-use Rattle.fed_queues.specs.Fed.{IsPieceFed, IsPublished, AreFed, sized}
-use Rattle.fed_queues.specs.Places.{IsThere, IsMet, HasHead, AreMet, HaveStreams, AreLast}
-use Rattle.fed_lends.specs.Commands.{QueuesStand}
-use Rattle.standing_fronts.specs.Reaching.{Reaches}
-use Rattle.mended_heads.specs.Owed.{StalledQueue, IsOwed}
-use Rattle.mended_heads.specs.Waiting.{MendsStand}
-use Rattle.mended_heads.specs.Standing.{KeepsHalted}
-use Rattle.mended_heads.proofs.Content.{all_on}
-use Rattle.mended_heads.proofs.Standing.{stand_on}
-use Rattle.control_queues.specs.Controls.{ControlsStand}
+use Rattle.driver_laws.specs.chained_transfers.Chains.{piece_at}
+use Rattle.driver_laws.specs.fed_queues.Fed.{IsPieceFed, IsPublished, AreFed, sized}
+use Rattle.driver_laws.specs.fed_queues.Places.{IsThere, IsMet, HasHead, AreMet, HaveStreams, AreLast}
+use Rattle.walked_queues.specs.fed_lends.Commands.{QueuesStand}
+use Rattle.walked_queues.specs.standing_fronts.Reaching.{Reaches}
+use Rattle.walked_queues.specs.mended_heads.Owed.{StalledQueue, IsOwed}
+use Rattle.walked_queues.specs.mended_heads.Waiting.{MendsStand}
+use Rattle.walked_queues.specs.mended_heads.Standing.{KeepsHalted}
+use Rattle.walked_queues.proofs.lemmas.mended_heads.Content.{all_on}
+use Rattle.walked_queues.proofs.lemmas.mended_heads.Standing.{stand_on}
+use Rattle.stream_worlds.specs.control_queues.Controls.{ControlsStand}
 use Rattle.frame_walk.specs.Met.{IsQueuePart}
 use Rattle.frame_walk.specs.FrameHand.{FrameHand}
-use Rattle.frame_stores.specs.Stores.{HasLink, linked}
+use Rattle.frame_laws.specs.frame_stores.Stores.{HasLink, linked}
 use Rattle.described_parts.specs.Both.{both, parts_now}
 use Rattle.described_parts.specs.ListRows.{IsStoredIn, an_element, a_link}
-use Rattle.queue_events.proofs.Beside.{beside}
-use Rattle.queued_drivers.specs.Rows.{QueuesAlike}
-use Rattle.queued_drivers.proofs.RowTurns.{alike_subst}
-use Rattle.open_laws.specs.Queues.{IsOpenThere, IsNewPart}
+use Rattle.list_laws.proofs.lemmas.queue_events.Beside.{beside}
+use Rattle.frame_laws.specs.queued_drivers.Rows.{QueuesAlike}
+use Rattle.frame_laws.proofs.lemmas.queued_drivers.RowTurns.{alike_subst}
+use Rattle.driven_queues.specs.open_laws.Queues.{IsOpenThere, IsNewPart}
 use Rattle.mixed_worlds.specs.Mixed.{QueuesGoOn}
 
 -- ---- the same queues

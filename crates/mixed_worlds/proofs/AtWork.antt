@@ -5,8 +5,8 @@ use Rattle.driver_laws.specs.PartOpened.{opening_base}
 use Rattle.usb_bus.specs.Bus.{fixed_of}
 use Rattle.bus_world.specs.World.{World, controller_next}
 use Rattle.bus_world.specs.Budgets.{moment}
-use Rattle.running_worlds.proofs.Errors.{goes_on, no_error}
-use Rattle.running_worlds.proofs.Counting.{counts_nothing}
+use Rattle.mixed_worlds.proofs.lemmas.running_worlds.Errors.{goes_on, no_error}
+use Rattle.mixed_worlds.proofs.lemmas.running_worlds.Counting.{counts_nothing}
 use Rattle.mixed_worlds.specs.Mixed.{IsMixedWorld}
 use Rattle.mixed_worlds.specs.Laws.{ControllerKeepsMixed}
 use Rattle.mixed_worlds.specs.Placed.{IsAtWork}

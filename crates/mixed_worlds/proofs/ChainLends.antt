@@ -10,34 +10,34 @@ use Rattle.driver_rows.specs.declared.rows.DriverRow.TheVariants as rows
 use Rattle.driver_rows.specs.DriverContent.{DriverContent}
 use Rattle.driver_rows.specs.Words.{dummy_qtd}
 use Rattle.driver_rows.specs.Rows.{Parts, command_row, row_for, driver_row, after_driver_row}
-use Rattle.run_owners.specs.Due.{IsDue}
-use Rattle.run_owners.specs.Kept.{HasOwners}
-use Rattle.run_owners.proofs.Laws.{event_owned}
-use Rattle.run_owners.proofs.Reasons.{each_is_due}
-use Rattle.listed_members.specs.Listed.{IsUnderWay as IsListedWay}
-use Rattle.lent_structures.specs.Structures.{StructureSets, QueueHead, Element, put}
-use Rattle.lent_structures.proofs.Names.{put_beside}
+use Rattle.driver_laws.specs.run_owners.Due.{IsDue}
+use Rattle.driver_laws.specs.run_owners.Kept.{HasOwners}
+use Rattle.driver_laws.proofs.lemmas.run_owners.Laws.{event_owned}
+use Rattle.driver_laws.proofs.lemmas.run_owners.Reasons.{each_is_due}
+use Rattle.driver_laws.specs.listed_members.Listed.{IsUnderWay as IsListedWay}
+use Rattle.ring_laws.specs.lent_structures.Structures.{StructureSets, QueueHead, Element, put}
+use Rattle.ring_laws.proofs.lemmas.lent_structures.Names.{put_beside}
 use Rattle.driver_laws.specs.Inventory.{sorts_of}
 use Rattle.driver_laws.specs.Linked.{with_member}
 use Rattle.driver_laws.specs.PartOpened.{opening_base}
-use Rattle.controlled_streams.specs.Opened.{with_end, with_none}
-use Rattle.chained_transfers.specs.AsynchronousTurns.{AsynchronousTakesTurns}
-use Rattle.chained_transfers.proofs.Events.{event_queues}
-use Rattle.fed_queues.specs.Places.{AreMet}
+use Rattle.walked_queues.specs.controlled_streams.Opened.{with_end, with_none}
+use Rattle.driver_laws.specs.chained_transfers.AsynchronousTurns.{AsynchronousTakesTurns}
+use Rattle.driver_laws.proofs.lemmas.chained_transfers.Events.{event_queues}
+use Rattle.driver_laws.specs.fed_queues.Places.{AreMet}
 use Rattle.frame_walk.specs.Met.{IsQueuePart}
-use Rattle.queue_events.specs.Events.{PartsStand}
-use Rattle.framed_memory.specs.Chained.{chained_queue, chained_parts, IsChainLent, ChainIsLent}
-use Rattle.framed_memory.proofs.ChainedLent.{driver_begun, chain_lends}
-use Rattle.open_laws.specs.Opens.{end_then, streams_then}
-use Rattle.open_laws.specs.Queues.{IsOpenToLend, IsOpenThere, open_lent, open_finished}
-use Rattle.open_laws.proofs.LentQueues.{open_lend_is_made}
-use Rattle.control_queues.specs.Queues.{IsOpenLentWhole}
-use Rattle.control_queues.proofs.OpenLends.{open_lend_is_whole}
-use Rattle.queued_drivers.specs.Queued.{queued, queued_parts}
-use Rattle.queued_drivers.specs.Rows.{QueuesAlike, LinksOn, IsLentAlike, IsFinishedAlike}
-use Rattle.queued_drivers.proofs.RowFrames.{chain_lends as lends_alike, chain_finishes}
-use Rattle.queued_drivers.proofs.RowOwners.{queued_owners}
-use Rattle.publish_laws.proofs.Apart.{thirty_two}
+use Rattle.list_laws.specs.queue_events.Events.{PartsStand}
+use Rattle.mixed_worlds.specs.framed_memory.Chained.{chained_queue, chained_parts, IsChainLent, ChainIsLent}
+use Rattle.mixed_worlds.proofs.lemmas.framed_memory.ChainedLent.{driver_begun, chain_lends}
+use Rattle.driven_queues.specs.open_laws.Opens.{end_then, streams_then}
+use Rattle.driven_queues.specs.open_laws.Queues.{IsOpenToLend, IsOpenThere, open_lent, open_finished}
+use Rattle.driven_queues.proofs.lemmas.open_laws.LentQueues.{open_lend_is_made}
+use Rattle.stream_worlds.specs.control_queues.Queues.{IsOpenLentWhole}
+use Rattle.stream_worlds.proofs.lemmas.control_queues.OpenLends.{open_lend_is_whole}
+use Rattle.frame_laws.specs.queued_drivers.Queued.{queued, queued_parts}
+use Rattle.frame_laws.specs.queued_drivers.Rows.{QueuesAlike, LinksOn, IsLentAlike, IsFinishedAlike}
+use Rattle.frame_laws.proofs.lemmas.queued_drivers.RowFrames.{chain_lends as lends_alike, chain_finishes}
+use Rattle.frame_laws.proofs.lemmas.queued_drivers.RowOwners.{queued_owners}
+use Rattle.driven_queues.proofs.lemmas.publish_laws.Apart.{thirty_two}
 use Rattle.bus_world.specs.World.{World, driver_parts, controller_parts, driver_next}
 use Rattle.mixed_worlds.specs.Mixed.{QueuesGoOn, IsChainToLend, IsChainThere, IsUnderWay, Standing, IsMixedAt, IsMixedWorld}
 use Rattle.mixed_worlds.proofs.Unfinished.{none_unfinished}

@@ -8,11 +8,11 @@ use Rattle.qh_qtd.specs.declared.qtd.Qtd.{Qtd}
 use Rattle.walk_copy.specs.Visits.{next_pointer}
 use Rattle.driver_rows.specs.Words.{dummy_qtd}
 use Rattle.driver_rows.specs.declared.content.Endpoint.{Endpoint}
-use Rattle.lent_structures.specs.Structures.{Element, Structures}
-use Rattle.lent_structures.specs.Sound.{LeadsOn, IsSoundElement}
-use Rattle.lent_structures.proofs.Altering.{found_element}
+use Rattle.ring_laws.specs.lent_structures.Structures.{Element, Structures}
+use Rattle.ring_laws.specs.lent_structures.Sound.{LeadsOn, IsSoundElement}
+use Rattle.ring_laws.proofs.lemmas.lent_structures.Altering.{found_element}
 use Rattle.frame_walk.specs.Met.{IsQueuePart}
-use Rattle.open_laws.specs.Queues.{IsNewPart}
+use Rattle.driven_queues.specs.open_laws.Queues.{IsNewPart}
 
 module _ (x : Endpoint) (part : Structures) (k : IsNewPart x part) where
   pub its_qtd : (a : ℕ) (t : Qtd) → part a ≡ Some (Element t) → t ≡ dummy_qtd

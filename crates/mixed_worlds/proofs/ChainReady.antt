@@ -12,18 +12,18 @@ use Rattle.driver_rows.specs.declared.content.Command.TheVariants as unfinished
 use Rattle.driver_rows.specs.Words.{head_block}
 use Rattle.driver_rows.specs.DriverContent.{DriverContent}
 use Rattle.driver_rows.specs.Rows.{is_iso}
-use Rattle.run_owners.specs.Kept.{HasOwners}
-use Rattle.run_owners.specs.Owners.{Owner, QueueHead as QueueOf, TransferRuns, runs_of_endpoint, runs_of_transfer}
-use Rattle.endpoint_lives.specs.Lives.{is_one_of, any_at}
-use Rattle.endpoint_lives.proofs.Lives.{there_any}
-use Rattle.fed_queues.specs.Places.{HasHead, AreMet}
-use Rattle.reached_rings.specs.Reaching.{may_reach, is_reached}
-use Rattle.framed_memory.specs.Chained.{chained_queue, IsChainReady}
-use Rattle.framed_memory.proofs.LeavingReached.{interrupt_unreached}
-use Rattle.open_laws.specs.Queues.{IsOpenToLend}
-use Rattle.open_laws.proofs.Newest.{new_heads_rest}
-use Rattle.queued_drivers.specs.Queued.{queue_of, with_queue, queued_endpoint, queued_transfer, queued_command, queued_made, queued}
-use Rattle.queued_drivers.proofs.RowLists.{queue_at, IsMapped, mapped}
+use Rattle.driver_laws.specs.run_owners.Kept.{HasOwners}
+use Rattle.driver_laws.specs.run_owners.Owners.{Owner, QueueHead as QueueOf, TransferRuns, runs_of_endpoint, runs_of_transfer}
+use Rattle.driver_laws.specs.endpoint_lives.Lives.{is_one_of, any_at}
+use Rattle.driver_laws.proofs.lemmas.endpoint_lives.Lives.{there_any}
+use Rattle.driver_laws.specs.fed_queues.Places.{HasHead, AreMet}
+use Rattle.driven_queues.specs.reached_rings.Reaching.{may_reach, is_reached}
+use Rattle.mixed_worlds.specs.framed_memory.Chained.{chained_queue, IsChainReady}
+use Rattle.mixed_worlds.proofs.lemmas.framed_memory.LeavingReached.{interrupt_unreached}
+use Rattle.driven_queues.specs.open_laws.Queues.{IsOpenToLend}
+use Rattle.driven_queues.proofs.lemmas.open_laws.Newest.{new_heads_rest}
+use Rattle.frame_laws.specs.queued_drivers.Queued.{queue_of, with_queue, queued_endpoint, queued_transfer, queued_command, queued_made, queued}
+use Rattle.frame_laws.proofs.lemmas.queued_drivers.RowLists.{queue_at, IsMapped, mapped}
 use Rattle.mixed_worlds.proofs.QueueViews.{told_queue, end_same}
 
 -- ---- the queue head of an endpoint that isn't in the ring

@@ -10,21 +10,21 @@ use Rattle.driver_rows.specs.declared.content.Command.TheVariants as unfinished
 use Rattle.driver_rows.specs.declared.content.Endpoint.{Endpoint}
 use Rattle.driver_rows.specs.DriverContent.{DriverContent}
 use Rattle.driver_rows.specs.Rows.{removes_members, list_after, no_command, or_finished, advanced_by, advance}
-use Rattle.run_owners.specs.Kept.{HasOwners}
-use Rattle.lent_structures.specs.Structures.{StructureSets}
+use Rattle.driver_laws.specs.run_owners.Kept.{HasOwners}
+use Rattle.ring_laws.specs.lent_structures.Structures.{StructureSets}
 use Rattle.ring_laws.specs.Told.{Endpoint as Told}
 use Rattle.driver_laws.specs.Linked.{with_member}
-use Rattle.controlled_streams.specs.Opened.{with_end, with_none}
-use Rattle.chained_transfers.specs.AsynchronousTurns.{AsynchronousTakesTurns}
-use Rattle.fed_queues.specs.Places.{AreMet}
-use Rattle.fed_queues.proofs.Places.{same_ends, met_stays}
+use Rattle.walked_queues.specs.controlled_streams.Opened.{with_end, with_none}
+use Rattle.driver_laws.specs.chained_transfers.AsynchronousTurns.{AsynchronousTakesTurns}
+use Rattle.driver_laws.specs.fed_queues.Places.{AreMet}
+use Rattle.driver_laws.proofs.lemmas.fed_queues.Places.{same_ends, met_stays}
 use Rattle.frame_walk.specs.Met.{IsQueuePart}
-use Rattle.open_laws.specs.Opens.{end_then, streams_then}
-use Rattle.open_laws.specs.Queues.{IsOpenThere, open_finished}
-use Rattle.control_queues.specs.Queues.{IsOpenWhole}
-use Rattle.control_queues.proofs.Opens.{open_is_whole}
-use Rattle.queued_drivers.specs.Queued.{queued}
-use Rattle.queue_events.specs.Events.{PartsStand}
+use Rattle.driven_queues.specs.open_laws.Opens.{end_then, streams_then}
+use Rattle.driven_queues.specs.open_laws.Queues.{IsOpenThere, open_finished}
+use Rattle.stream_worlds.specs.control_queues.Queues.{IsOpenWhole}
+use Rattle.stream_worlds.proofs.lemmas.control_queues.Opens.{open_is_whole}
+use Rattle.frame_laws.specs.queued_drivers.Queued.{queued}
+use Rattle.list_laws.specs.queue_events.Events.{PartsStand}
 use Rattle.mixed_worlds.specs.Mixed.{QueuesGoOn}
 use Rattle.mixed_worlds.proofs.Unfinished.{none_unfinished}
 use Rattle.mixed_worlds.proofs.ChainNew.{new_sound}

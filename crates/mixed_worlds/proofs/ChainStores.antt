@@ -6,25 +6,25 @@ use Rattle.driver_rows.specs.declared.rows.DriverRow.{DriverRow}
 use Rattle.driver_rows.specs.declared.rows.DriverRow.TheVariants as rows
 use Rattle.driver_rows.specs.DriverContent.{DriverContent}
 use Rattle.driver_rows.specs.Rows.{Parts, driver_row, after_driver_row}
-use Rattle.run_owners.specs.Due.{IsLinkOf, IsDue}
-use Rattle.run_owners.specs.Kept.{HasOwners}
-use Rattle.lent_structures.specs.Structures.{StructureSets}
+use Rattle.driver_laws.specs.run_owners.Due.{IsLinkOf, IsDue}
+use Rattle.driver_laws.specs.run_owners.Kept.{HasOwners}
+use Rattle.ring_laws.specs.lent_structures.Structures.{StructureSets}
 use Rattle.driver_laws.specs.Linked.{with_member}
 use Rattle.driver_laws.specs.PartOpened.{opening_base}
-use Rattle.controlled_streams.specs.Opened.{with_end, with_none}
-use Rattle.fed_queues.specs.Places.{AreMet}
+use Rattle.walked_queues.specs.controlled_streams.Opened.{with_end, with_none}
+use Rattle.driver_laws.specs.fed_queues.Places.{AreMet}
 use Rattle.frame_walk.specs.Met.{Kind}
 use Rattle.described_parts.specs.Both.{descs_now, parts_now}
 use Rattle.described_parts.specs.ListRows.{leaves_now, recent_with}
-use Rattle.framed_memory.specs.NowRows.{FramedLinked}
-use Rattle.framed_memory.specs.Chained.{IsChainReady, IsChainLent, ChainStands, ChainGoesOn, lends, stores, rests}
-use Rattle.framed_memory.proofs.ChainedRuns.{chain_goes_on}
-use Rattle.open_laws.specs.Opens.{end_then, streams_then}
-use Rattle.open_laws.specs.Queues.{IsOpenThere, open_finished}
-use Rattle.queued_drivers.specs.Queued.{queued_made, queued}
-use Rattle.queued_drivers.specs.Rows.{LeavesQueues, IsFinishedAlike}
-use Rattle.queued_drivers.proofs.RowFrames.{frames_leave, chain_finishes}
-use Rattle.queued_drivers.proofs.RowOwners.{queued_owners}
+use Rattle.mixed_worlds.specs.framed_memory.NowRows.{FramedLinked}
+use Rattle.mixed_worlds.specs.framed_memory.Chained.{IsChainReady, IsChainLent, ChainStands, ChainGoesOn, lends, stores, rests}
+use Rattle.mixed_worlds.proofs.lemmas.framed_memory.ChainedRuns.{chain_goes_on}
+use Rattle.driven_queues.specs.open_laws.Opens.{end_then, streams_then}
+use Rattle.driven_queues.specs.open_laws.Queues.{IsOpenThere, open_finished}
+use Rattle.frame_laws.specs.queued_drivers.Queued.{queued_made, queued}
+use Rattle.frame_laws.specs.queued_drivers.Rows.{LeavesQueues, IsFinishedAlike}
+use Rattle.frame_laws.proofs.lemmas.queued_drivers.RowFrames.{frames_leave, chain_finishes}
+use Rattle.frame_laws.proofs.lemmas.queued_drivers.RowOwners.{queued_owners}
 use Rattle.bus_world.specs.World.{World, driver_parts, controller_parts, with_parts, driver_next}
 use Rattle.mixed_worlds.specs.Mixed.{QueuesGoOn, IsChainToLend, IsChainThere, IsUnderWay, Standing, IsMixedAt, IsMixedWorld}
 use Rattle.mixed_worlds.proofs.Unfinished.{none_unfinished}

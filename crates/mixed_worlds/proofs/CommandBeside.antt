@@ -4,12 +4,12 @@ use Rattle.usb_base.specs.declared.reports.Report.{Report}
 use Rattle.periodic_rows.specs.Periodic.{PeriodicContent}
 use Rattle.driver_rows.specs.declared.content.Reserve.{Reserve}
 use Rattle.driver_rows.specs.DriverContent.{DriverContent}
-use Rattle.lent_structures.specs.Structures.{StructureSets}
+use Rattle.ring_laws.specs.lent_structures.Structures.{StructureSets}
 use Rattle.ring_laws.specs.Told.{Endpoint as Told}
 use Rattle.frame_walk.specs.Met.{IsQueuePart}
-use Rattle.control_queues.proofs.Alike.{ThereAlike}
-use Rattle.queue_events.specs.Events.{PartsStand}
-use Rattle.queued_drivers.specs.Commands.{QueuesAlike}
+use Rattle.stream_worlds.proofs.lemmas.control_queues.Alike.{ThereAlike}
+use Rattle.list_laws.specs.queue_events.Events.{PartsStand}
+use Rattle.frame_laws.specs.queued_drivers.Commands.{QueuesAlike}
 use Rattle.mixed_worlds.specs.Mixed.{QueuesGoOn}
 use Rattle.mixed_worlds.proofs.Alike.{goes_on_near}
 

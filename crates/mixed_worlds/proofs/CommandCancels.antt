@@ -7,25 +7,25 @@ use Rattle.driver_rows.specs.declared.content.Command.{Command}
 use Rattle.driver_rows.specs.declared.content.Command.TheVariants as unfinished
 use Rattle.driver_rows.specs.DriverContent.{DriverContent}
 use Rattle.driver_rows.specs.Offers.{Offered}
-use Rattle.run_owners.specs.Accepts.{Cancels, Unchains}
+use Rattle.driver_laws.specs.run_owners.Accepts.{Cancels, Unchains}
 use Rattle.driver_laws.specs.PartOpened.{opening_base}
 use Rattle.frame_walk.specs.Met.{IsQueuePart}
-use Rattle.fed_queues.specs.Places.{AreMet}
-use Rattle.leaving_drivers.specs.Before.{UnlinksAtMost, IsAsBefore, NearSame}
-use Rattle.leaving_drivers.proofs.Alike.{near_fewer, met_before}
-use Rattle.leaving_drivers.proofs.Leaving.{cancel_as_before}
-use Rattle.left_queues.specs.Standing.{AllStand}
-use Rattle.left_queues.proofs.Same.{as_before_stands}
-use Rattle.mended_heads.proofs.Content.{any_one, OwesAlike, alike_same, owed_on}
-use Rattle.mended_heads.proofs.Standing.{stand_on, keeps_same}
-use Rattle.control_queues.specs.Controls.{ControlsStand}
-use Rattle.control_queues.proofs.Alike.{same_there, stand_still}
-use Rattle.control_queues.proofs.Beside.{commands_keep_controls}
-use Rattle.queue_events.specs.Events.{PartsStand}
-use Rattle.framed_memory.proofs.QueueAccepting.{cancel_now, unchain_now}
-use Rattle.queued_drivers.specs.Queued.{queued}
-use Rattle.queued_drivers.specs.Commands.{unlink_of, left_queue, IsQueueLeft}
-use Rattle.queued_drivers.proofs.CommandLeaves.{cancelled, Left, unchained}
+use Rattle.driver_laws.specs.fed_queues.Places.{AreMet}
+use Rattle.driven_queues.specs.leaving_drivers.Before.{UnlinksAtMost, IsAsBefore, NearSame}
+use Rattle.driven_queues.proofs.lemmas.leaving_drivers.Alike.{near_fewer, met_before}
+use Rattle.driven_queues.proofs.lemmas.leaving_drivers.Leaving.{cancel_as_before}
+use Rattle.stream_worlds.specs.left_queues.Standing.{AllStand}
+use Rattle.stream_worlds.proofs.lemmas.left_queues.Same.{as_before_stands}
+use Rattle.walked_queues.proofs.lemmas.mended_heads.Content.{any_one, OwesAlike, alike_same, owed_on}
+use Rattle.walked_queues.proofs.lemmas.mended_heads.Standing.{stand_on, keeps_same}
+use Rattle.stream_worlds.specs.control_queues.Controls.{ControlsStand}
+use Rattle.stream_worlds.proofs.lemmas.control_queues.Alike.{same_there, stand_still}
+use Rattle.stream_worlds.proofs.lemmas.control_queues.Beside.{commands_keep_controls}
+use Rattle.list_laws.specs.queue_events.Events.{PartsStand}
+use Rattle.mixed_worlds.proofs.lemmas.framed_memory.QueueAccepting.{cancel_now, unchain_now}
+use Rattle.frame_laws.specs.queued_drivers.Queued.{queued}
+use Rattle.frame_laws.specs.queued_drivers.Commands.{unlink_of, left_queue, IsQueueLeft}
+use Rattle.frame_laws.proofs.lemmas.queued_drivers.CommandLeaves.{cancelled, Left, unchained}
 use Rattle.bus_world.specs.World.{World, controller_parts}
 use Rattle.mixed_worlds.specs.Mixed.{QueuesGoOn, IsUnderWay, Standing}
 use Rattle.mixed_worlds.proofs.Unfinished.{none_unfinished}

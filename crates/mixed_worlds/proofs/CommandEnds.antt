@@ -13,22 +13,22 @@ use Rattle.driver_rows.specs.declared.content.Command.{Command}
 use Rattle.driver_rows.specs.declared.content.Command.TheVariants as unfinished
 use Rattle.driver_rows.specs.DriverContent.{DriverContent}
 use Rattle.driver_rows.specs.Offers.{Offered, placed_endpoint, first_waiting}
-use Rattle.run_owners.specs.Accepts.{Accepts, opens, chains, places, transfers, describes, cancels, unchains, Places, Describes}
-use Rattle.run_owners.specs.Owners.{Dummy, runs_of_endpoint, note_in}
-use Rattle.run_owners.proofs.Commands.{accepted_for_a_reason}
-use Rattle.run_owners.proofs.Runs.{placed_run}
+use Rattle.driver_laws.specs.run_owners.Accepts.{Accepts, opens, chains, places, transfers, describes, cancels, unchains, Places, Describes}
+use Rattle.driver_laws.specs.run_owners.Owners.{Dummy, runs_of_endpoint, note_in}
+use Rattle.driver_laws.proofs.lemmas.run_owners.Commands.{accepted_for_a_reason}
+use Rattle.driver_laws.proofs.lemmas.run_owners.Runs.{placed_run}
 use Rattle.driver_laws.specs.Inventory.{IsLent}
 use Rattle.driver_laws.specs.PartOpened.{opening_base}
-use Rattle.fed_queues.specs.Places.{AreMet}
-use Rattle.fed_lends.proofs.Fed.{bare_is}
-use Rattle.fed_lends.proofs.Asked.{not_taken, push_which}
-use Rattle.mended_heads.proofs.Content.{pushed, all_on}
-use Rattle.framed_memory.proofs.StillStanding.{pushed_there}
-use Rattle.queued_drivers.specs.Queued.{queued_endpoint, without_queue, queued}
-use Rattle.queued_drivers.specs.Commands.{IsEndOpened, IsGivenBackOf, AreEndsTaken, IsEndLeft}
-use Rattle.queued_drivers.proofs.CommandFields.{iso_frames}
-use Rattle.queued_drivers.proofs.CommandLeaves.{unchained}
-use Rattle.queued_drivers.proofs.CommandReasons.{IsDescribedAs}
+use Rattle.driver_laws.specs.fed_queues.Places.{AreMet}
+use Rattle.walked_queues.proofs.lemmas.fed_lends.Fed.{bare_is}
+use Rattle.walked_queues.proofs.lemmas.fed_lends.Asked.{not_taken, push_which}
+use Rattle.walked_queues.proofs.lemmas.mended_heads.Content.{pushed, all_on}
+use Rattle.mixed_worlds.proofs.lemmas.framed_memory.StillStanding.{pushed_there}
+use Rattle.frame_laws.specs.queued_drivers.Queued.{queued_endpoint, without_queue, queued}
+use Rattle.frame_laws.specs.queued_drivers.Commands.{IsEndOpened, IsGivenBackOf, AreEndsTaken, IsEndLeft}
+use Rattle.frame_laws.proofs.lemmas.queued_drivers.CommandFields.{iso_frames}
+use Rattle.frame_laws.proofs.lemmas.queued_drivers.CommandLeaves.{unchained}
+use Rattle.frame_laws.proofs.lemmas.queued_drivers.CommandReasons.{IsDescribedAs}
 use Rattle.bus_world.specs.World.{World, controller_parts}
 use Rattle.mixed_worlds.specs.Mixed.{QueuesGoOn, IsUnderWay, Standing}
 use Rattle.mixed_worlds.proofs.Unfinished.{none_unfinished}

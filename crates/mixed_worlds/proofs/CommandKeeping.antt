@@ -6,11 +6,11 @@ use Rattle.usb_base.specs.declared.endpoints.EpDesc.{EpDesc}
 use Rattle.usb_base.specs.declared.endpoints.EpName.{EpName}
 use Rattle.usb_base.specs.declared.reports.OfferError.{OfferError}
 use Rattle.driver_rows.specs.Offers.{Offered, offered, IsOffered}
-use Rattle.queued_drivers.specs.Queued.{queued}
-use Rattle.queued_drivers.specs.Commands.{IsQueueOpened, IsEndOpened, IsQueueLeft, IsEndLeft, QueuesAccept}
-use Rattle.queued_drivers.proofs.CommandReasons.{IsNew, in_ring, in_frames, bare, IsLeft, from_ring, from_frames, IsReasonOf, reason_of}
-use Rattle.controlled_walks.specs.Worlds.{IsWalking}
-use Rattle.controlled_walks.proofs.Worlds.{command_walks}
+use Rattle.frame_laws.specs.queued_drivers.Queued.{queued}
+use Rattle.frame_laws.specs.queued_drivers.Commands.{IsQueueOpened, IsEndOpened, IsQueueLeft, IsEndLeft, QueuesAccept}
+use Rattle.frame_laws.proofs.lemmas.queued_drivers.CommandReasons.{IsNew, in_ring, in_frames, bare, IsLeft, from_ring, from_frames, IsReasonOf, reason_of}
+use Rattle.stream_worlds.specs.controlled_walks.Worlds.{IsWalking}
+use Rattle.stream_worlds.proofs.lemmas.controlled_walks.Worlds.{command_walks}
 use Rattle.bus_world.specs.World.{World, name_in, commanded_by}
 use Rattle.mixed_worlds.specs.Mixed.{QueuesGoOn, Standing, IsMixedAt}
 use Rattle.mixed_worlds.specs.Laws.{OpensMixed, CommandKeepsMixed}

@@ -3,11 +3,11 @@ use Rattle.std.proofs.Common.{◌≡◌, ℕ, Bool, [], ◌∷◌, Option, Ok, a
 use Rattle.usb_base.specs.declared.commands.Cmd.{Cmd}
 use Rattle.driver_rows.specs.DriverContent.{DriverContent}
 use Rattle.driver_rows.specs.Offers.{Offered, IsOffered, offered, placed_endpoint, accepted_iso}
-use Rattle.run_owners.specs.Owners.{views_of}
-use Rattle.run_owners.specs.Accepts.{places, Places, Describes}
+use Rattle.driver_laws.specs.run_owners.Owners.{views_of}
+use Rattle.driver_laws.specs.run_owners.Accepts.{places, Places, Describes}
 use Rattle.hc_core.specs.Controller.{Content}
-use Rattle.lent_structures.specs.Structures.{StructureSets}
-use Rattle.lent_structures.specs.Changes.{Leaves}
+use Rattle.ring_laws.specs.lent_structures.Structures.{StructureSets}
+use Rattle.ring_laws.specs.lent_structures.Changes.{Leaves}
 use Rattle.ring_laws.specs.Hand.{Hand}
 use Rattle.ring_laws.specs.Ring.{Base}
 use Rattle.driver_laws.specs.Inventory.{sorts_of, IsDriven}
@@ -19,11 +19,11 @@ use Rattle.described_parts.specs.Meeting.{standing}
 use Rattle.described_parts.specs.Recent.{AreRecent}
 use Rattle.described_parts.proofs.CommandAccepting.{describes_told, describes_leaves}
 use Rattle.described_parts.proofs.Others.{commands_describe}
-use Rattle.framed_memory.specs.Now.{IsFramedNow}
-use Rattle.framed_memory.proofs.Now.{told_now}
-use Rattle.framed_memory.proofs.Placing.{placed_driven, placed_extents}
-use Rattle.framed_memory.proofs.StillStanding.{pushed_still, recent_still, described_stands, described_recent}
-use Rattle.framed_memory.proofs.QueueAccepting.{AcceptsBeside, accepted}
+use Rattle.mixed_worlds.specs.framed_memory.Now.{IsFramedNow}
+use Rattle.mixed_worlds.proofs.lemmas.framed_memory.Now.{told_now}
+use Rattle.mixed_worlds.proofs.lemmas.framed_memory.Placing.{placed_driven, placed_extents}
+use Rattle.mixed_worlds.proofs.lemmas.framed_memory.StillStanding.{pushed_still, recent_still, described_stands, described_recent}
+use Rattle.mixed_worlds.proofs.lemmas.framed_memory.QueueAccepting.{AcceptsBeside, accepted}
 use Rattle.driver_laws.proofs.Lent.{leaves_itself}
 
 module _ (base : Base) (member : ℕ → Bool) (recent : ℕ → Option Kind) (descs parts : StructureSets) (hand : Hand) (frame : FrameHand) (c : Content) (d : DriverContent) (cmd : Cmd) (o : Offered) (k : IsFramedNow base member recent descs parts hand frame c d) where

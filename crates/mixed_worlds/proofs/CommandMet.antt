@@ -6,12 +6,12 @@ use Rattle.driver_rows.specs.declared.content.Endpoint.{Endpoint}
 use Rattle.driver_rows.specs.declared.content.Command.TheVariants as unfinished
 use Rattle.driver_rows.specs.DriverContent.{DriverContent}
 use Rattle.driver_rows.specs.Words.{head_block}
-use Rattle.endpoint_lives.specs.Lives.{may_meet}
-use Rattle.endpoint_lives.proofs.Lives.{met_alike}
-use Rattle.fed_queues.specs.Places.{IsMet, HasHead, AreMet}
-use Rattle.fed_queues.proofs.Places.{SameLife, same_life, WasLike, SameRing, SameQueues, met_stays}
-use Rattle.fed_lends.proofs.Asked.{push_which, set_which}
-use Rattle.mended_heads.proofs.Content.{pushed, set_at, set_beside}
+use Rattle.driver_laws.specs.endpoint_lives.Lives.{may_meet}
+use Rattle.driver_laws.proofs.lemmas.endpoint_lives.Lives.{met_alike}
+use Rattle.driver_laws.specs.fed_queues.Places.{IsMet, HasHead, AreMet}
+use Rattle.driver_laws.proofs.lemmas.fed_queues.Places.{SameLife, same_life, WasLike, SameRing, SameQueues, met_stays}
+use Rattle.walked_queues.proofs.lemmas.fed_lends.Asked.{push_which, set_which}
+use Rattle.walked_queues.proofs.lemmas.mended_heads.Content.{pushed, set_at, set_beside}
 use Rattle.mixed_worlds.proofs.Unfinished.{none_unfinished}
 
 -- ---- an endpoint more

@@ -21,36 +21,36 @@ use Rattle.driver_rows.specs.DriverContent.{DriverContent}
 use Rattle.driver_rows.specs.Words.{is_high, speed_field, queue_head}
 use Rattle.driver_rows.specs.Rows.{is_iso}
 use Rattle.driver_rows.specs.Offers.{Offered, new_runs, new_endpoint, placed_endpoint, newest_of, accepted_open}
-use Rattle.run_owners.specs.Accepts.{Opens, Chains}
-use Rattle.in_place.specs.InPlace.{IsInPlace}
-use Rattle.run_owners.specs.Kept.{HasOwners}
-use Rattle.run_owners.specs.Owners.{QueueHead, runs_of_endpoint}
-use Rattle.run_owners.proofs.Laws.{command_owned}
-use Rattle.run_owners.proofs.Runs.{placed_run}
-use Rattle.run_owners.proofs.Rows.{not_iso}
-use Rattle.run_owners.proofs.Taking.{runs_taken}
-use Rattle.run_owners.proofs.Accepted.{drop_first, fresh_differs}
+use Rattle.driver_laws.specs.run_owners.Accepts.{Opens, Chains}
+use Rattle.driver_laws.specs.in_place.InPlace.{IsInPlace}
+use Rattle.driver_laws.specs.run_owners.Kept.{HasOwners}
+use Rattle.driver_laws.specs.run_owners.Owners.{QueueHead, runs_of_endpoint}
+use Rattle.driver_laws.proofs.lemmas.run_owners.Laws.{command_owned}
+use Rattle.driver_laws.proofs.lemmas.run_owners.Runs.{placed_run}
+use Rattle.driver_laws.proofs.lemmas.run_owners.Rows.{not_iso}
+use Rattle.driver_laws.proofs.lemmas.run_owners.Taking.{runs_taken}
+use Rattle.driver_laws.proofs.lemmas.run_owners.Accepted.{drop_first, fresh_differs}
 use Rattle.driver_laws.specs.LendOpened.{opened_head}
 use Rattle.driver_laws.specs.PartOpened.{opening_base}
-use Rattle.fed_queues.specs.Places.{IsThere, IsMet}
-use Rattle.fed_lends.proofs.Asked.{push_which}
-use Rattle.fed_lends.proofs.Opened.{open_stands}
-use Rattle.open_laws.proofs.AcceptWaiting.{open_waits}
-use Rattle.standing_fronts.specs.Reaching.{Reaches}
-use Rattle.commanded_queues.proofs.Tails.{open_reaches}
-use Rattle.control_queues.proofs.Alike.{ThereAlike}
-use Rattle.control_queues.proofs.Beside.{commands_keep_controls}
-use Rattle.framed_memory.specs.Masks.{HasMasks, AreMasked}
-use Rattle.framed_memory.specs.Isochronous.{NumbersFit}
-use Rattle.framed_memory.proofs.Masking.{commands_masked}
-use Rattle.framed_memory.specs.QueueRows.{chained_head}
-use Rattle.framed_memory.proofs.QueueAccepting.{open_now}
-use Rattle.framed_memory.proofs.Chained.{chain_now}
-use Rattle.framed_memory.proofs.ChainedLent.{IsReadyAt, chain_ready_at}
-use Rattle.framed_memory.proofs.ChainedRuns.{chained_head_range}
-use Rattle.queued_drivers.specs.Queued.{queued_desc, queued}
-use Rattle.queued_drivers.specs.Commands.{opened_queue, IsQueueOpened}
-use Rattle.queued_drivers.proofs.CommandFields.{desc_asynchronous}
+use Rattle.driver_laws.specs.fed_queues.Places.{IsThere, IsMet}
+use Rattle.walked_queues.proofs.lemmas.fed_lends.Asked.{push_which}
+use Rattle.walked_queues.proofs.lemmas.fed_lends.Opened.{open_stands}
+use Rattle.driven_queues.proofs.lemmas.open_laws.AcceptWaiting.{open_waits}
+use Rattle.walked_queues.specs.standing_fronts.Reaching.{Reaches}
+use Rattle.walked_queues.proofs.lemmas.commanded_queues.Tails.{open_reaches}
+use Rattle.stream_worlds.proofs.lemmas.control_queues.Alike.{ThereAlike}
+use Rattle.stream_worlds.proofs.lemmas.control_queues.Beside.{commands_keep_controls}
+use Rattle.mixed_worlds.specs.framed_memory.Masks.{HasMasks, AreMasked}
+use Rattle.mixed_worlds.specs.framed_memory.Isochronous.{NumbersFit}
+use Rattle.mixed_worlds.proofs.lemmas.framed_memory.Masking.{commands_masked}
+use Rattle.mixed_worlds.specs.framed_memory.QueueRows.{chained_head}
+use Rattle.mixed_worlds.proofs.lemmas.framed_memory.QueueAccepting.{open_now}
+use Rattle.mixed_worlds.proofs.lemmas.framed_memory.Chained.{chain_now}
+use Rattle.mixed_worlds.proofs.lemmas.framed_memory.ChainedLent.{IsReadyAt, chain_ready_at}
+use Rattle.mixed_worlds.proofs.lemmas.framed_memory.ChainedRuns.{chained_head_range}
+use Rattle.frame_laws.specs.queued_drivers.Queued.{queued_desc, queued}
+use Rattle.frame_laws.specs.queued_drivers.Commands.{opened_queue, IsQueueOpened}
+use Rattle.frame_laws.proofs.lemmas.queued_drivers.CommandFields.{desc_asynchronous}
 use Rattle.bus_world.specs.World.{World, controller_parts}
 use Rattle.mixed_worlds.specs.Mixed.{QueuesGoOn, IsChainToLend, IsUnderWay, Standing}
 use Rattle.mixed_worlds.proofs.Unfinished.{none_unfinished}

@@ -7,14 +7,14 @@ use Rattle.word_mem.specs.Memory.{Mem}
 use Rattle.driver_rows.specs.declared.content.Endpoint.{Endpoint}
 use Rattle.driver_rows.specs.DriverContent.{DriverContent}
 use Rattle.driver_rows.specs.Offers.{Offered, offered, placed_endpoint}
-use Rattle.run_owners.specs.Kept.{HasOwners}
-use Rattle.leaving_drivers.specs.Owed.{AreOwedMet}
-use Rattle.leaving_drivers.proofs.Owing.{command_owed}
-use Rattle.queued_drivers.specs.Queued.{queued_desc, without_queue, queued, QueuesTakeTurns}
-use Rattle.queued_drivers.specs.Commands.{opened_queue, IsQueueOpened, IsEndOpened, told_of, AreEndsTaken, left_queue, IsQueueLeft, IsEndLeft, QueuesAccept}
-use Rattle.queued_drivers.proofs.CommandFields.{desc_asynchronous, push_get}
-use Rattle.queued_drivers.proofs.CommandTurns.{commands_are_of_queues, listed}
-use Rattle.queued_drivers.proofs.RowOwners.{queued_owners}
+use Rattle.driver_laws.specs.run_owners.Kept.{HasOwners}
+use Rattle.driven_queues.specs.leaving_drivers.Owed.{AreOwedMet}
+use Rattle.driven_queues.proofs.lemmas.leaving_drivers.Owing.{command_owed}
+use Rattle.frame_laws.specs.queued_drivers.Queued.{queued_desc, without_queue, queued, QueuesTakeTurns}
+use Rattle.frame_laws.specs.queued_drivers.Commands.{opened_queue, IsQueueOpened, IsEndOpened, told_of, AreEndsTaken, left_queue, IsQueueLeft, IsEndLeft, QueuesAccept}
+use Rattle.frame_laws.proofs.lemmas.queued_drivers.CommandFields.{desc_asynchronous, push_get}
+use Rattle.frame_laws.proofs.lemmas.queued_drivers.CommandTurns.{commands_are_of_queues, listed}
+use Rattle.frame_laws.proofs.lemmas.queued_drivers.RowOwners.{queued_owners}
 
 module _ (d : DriverContent) (m : Mem) (o : Offered) (owners : HasOwners d) (turns : QueuesTakeTurns d) (old : AreOwedMet (queued d)) where
   own : HasOwners (queued d)

@@ -6,28 +6,28 @@ use Rattle.word_mem.specs.Memory.{Mem}
 use Rattle.driver_rows.specs.declared.content.Command.{Command}
 use Rattle.driver_rows.specs.declared.content.Command.TheVariants as unfinished
 use Rattle.driver_rows.specs.DriverContent.{DriverContent}
-use Rattle.iso_frames.specs.Frames.{AreInFrames}
-use Rattle.list_queued.specs.Queued.{AreToLink}
-use Rattle.list_driver.specs.Kept.{KeepsItsList}
+use Rattle.frame_laws.specs.iso_frames.Frames.{AreInFrames}
+use Rattle.list_laws.specs.list_queued.Queued.{AreToLink}
+use Rattle.list_laws.specs.list_driver.Kept.{KeepsItsList}
 use Rattle.hc_core.specs.Controller.{Content}
-use Rattle.lent_structures.specs.Structures.{StructureSets}
+use Rattle.ring_laws.specs.lent_structures.Structures.{StructureSets}
 use Rattle.ring_laws.specs.Hand.{Hand}
 use Rattle.ring_laws.specs.Ring.{Base}
 use Rattle.frame_walk.specs.Met.{Kind}
 use Rattle.frame_walk.specs.FrameHand.{FrameHand}
 use Rattle.described_parts.specs.Queued.{LinksQueued}
-use Rattle.framed_memory.specs.Framed.{IsFramed}
-use Rattle.framed_memory.specs.Now.{IsFramedNow}
-use Rattle.framed_memory.specs.Isochronous.{AreAwaiting}
-use Rattle.worlds_in_place.proofs.Refused.{refused_in_place}
-use Rattle.fed_queues.proofs.Places.{same_ends, met_stays}
-use Rattle.fed_lends.specs.ToLend.{IsToBeLent}
-use Rattle.open_laws.specs.Lends.{IsOpenReady}
-use Rattle.open_laws.specs.Opens.{IsOpenLent}
-use Rattle.framed_memory.specs.Chained.{IsChainReady, IsChainLent}
-use Rattle.chained_transfers.specs.AsynchronousTurns.{AsynchronousTakesTurns}
-use Rattle.queued_drivers.specs.Queued.{queued, QueuesTakeTurns}
-use Rattle.controlled_walks.specs.Worlds.{IsWalking}
+use Rattle.mixed_worlds.specs.framed_memory.Framed.{IsFramed}
+use Rattle.mixed_worlds.specs.framed_memory.Now.{IsFramedNow}
+use Rattle.mixed_worlds.specs.framed_memory.Isochronous.{AreAwaiting}
+use Rattle.stream_worlds.proofs.lemmas.worlds_in_place.Refused.{refused_in_place}
+use Rattle.driver_laws.proofs.lemmas.fed_queues.Places.{same_ends, met_stays}
+use Rattle.walked_queues.specs.fed_lends.ToLend.{IsToBeLent}
+use Rattle.driven_queues.specs.open_laws.Lends.{IsOpenReady}
+use Rattle.driven_queues.specs.open_laws.Opens.{IsOpenLent}
+use Rattle.mixed_worlds.specs.framed_memory.Chained.{IsChainReady, IsChainLent}
+use Rattle.driver_laws.specs.chained_transfers.AsynchronousTurns.{AsynchronousTakesTurns}
+use Rattle.frame_laws.specs.queued_drivers.Queued.{queued, QueuesTakeTurns}
+use Rattle.stream_worlds.specs.controlled_walks.Worlds.{IsWalking}
 use Rattle.driver_laws.specs.PartOpened.{opening_base}
 use Rattle.bus_world.specs.World.{World, controller_parts, refused_line, commanded_by}
 use Rattle.mixed_worlds.specs.Mixed.{IsChainToLend, IsChainThere, IsUnderWay, Standing, IsMixedAt}

@@ -9,25 +9,25 @@ use Rattle.driver_rows.specs.declared.content.Command.{Command}
 use Rattle.driver_rows.specs.declared.content.Command.TheVariants as unfinished
 use Rattle.driver_rows.specs.DriverContent.{DriverContent}
 use Rattle.driver_rows.specs.Offers.{Offered, offered, offered_next, IsOffered}
-use Rattle.run_owners.specs.Kept.{HasOwners}
-use Rattle.lent_runs.specs.Lent.{AreLent}
-use Rattle.in_place.specs.InPlace.{IsInPlace}
-use Rattle.in_place.proofs.Laws.{command_in_place}
+use Rattle.driver_laws.specs.run_owners.Kept.{HasOwners}
+use Rattle.driver_laws.specs.lent_runs.Lent.{AreLent}
+use Rattle.driver_laws.specs.in_place.InPlace.{IsInPlace}
+use Rattle.driver_laws.proofs.lemmas.in_place.Laws.{command_in_place}
 use Rattle.driver_laws.specs.PartOpened.{opening_base}
-use Rattle.walk_members.specs.Reached.{OpensNumbered as WalksNumbered}
-use Rattle.fed_queues.specs.Places.{AreMet}
+use Rattle.driver_laws.specs.walk_members.Reached.{OpensNumbered as WalksNumbered}
+use Rattle.driver_laws.specs.fed_queues.Places.{AreMet}
 use Rattle.described_parts.specs.Told.{with_memory}
-use Rattle.framed_memory.specs.Now.{IsFramedNow}
-use Rattle.framed_memory.specs.IsochronousLaws.{OpensNumbered}
-use Rattle.framed_memory.proofs.Masking.{commands_masked}
-use Rattle.framed_memory.proofs.TakenOn.{commands_await}
-use Rattle.framed_memory.proofs.Numbering.{command_numbered}
-use Rattle.queued_drivers.specs.Queued.{queued_command, queued, QueuesTakeTurns}
-use Rattle.queued_drivers.specs.Rows.{LendsNoDescriptors}
-use Rattle.queued_drivers.specs.Commands.{OpensFitting, QueuesAccept}
-use Rattle.queued_drivers.proofs.RowOwners.{queued_owners, queued_lent}
-use Rattle.queued_drivers.proofs.CommandTurns.{commands_are_of_queues, commands_keep_queues}
-use Rattle.controlled_walks.specs.Worlds.{IsWalking}
+use Rattle.mixed_worlds.specs.framed_memory.Now.{IsFramedNow}
+use Rattle.mixed_worlds.specs.framed_memory.IsochronousLaws.{OpensNumbered}
+use Rattle.mixed_worlds.proofs.lemmas.framed_memory.Masking.{commands_masked}
+use Rattle.mixed_worlds.proofs.lemmas.framed_memory.TakenOn.{commands_await}
+use Rattle.mixed_worlds.proofs.lemmas.framed_memory.Numbering.{command_numbered}
+use Rattle.frame_laws.specs.queued_drivers.Queued.{queued_command, queued, QueuesTakeTurns}
+use Rattle.frame_laws.specs.queued_drivers.Rows.{LendsNoDescriptors}
+use Rattle.frame_laws.specs.queued_drivers.Commands.{OpensFitting, QueuesAccept}
+use Rattle.frame_laws.proofs.lemmas.queued_drivers.RowOwners.{queued_owners, queued_lent}
+use Rattle.frame_laws.proofs.lemmas.queued_drivers.CommandTurns.{commands_are_of_queues, commands_keep_queues}
+use Rattle.stream_worlds.specs.controlled_walks.Worlds.{IsWalking}
 use Rattle.bus_world.specs.World.{World, controller_parts, name_in, commanded_by}
 use Rattle.mixed_worlds.specs.Mixed.{QueuesGoOn, IsUnderWay, Standing, IsMixedAt}
 use Rattle.mixed_worlds.specs.Laws.{OpensMixed}

@@ -5,13 +5,13 @@ use Rattle.driver_rows.specs.declared.content.Transfer.{Transfer}
 use Rattle.driver_rows.specs.declared.content.Command.{Command}
 use Rattle.driver_rows.specs.declared.content.Command.TheVariants as unfinished
 use Rattle.driver_rows.specs.DriverContent.{DriverContent}
-use Rattle.lent_structures.specs.Structures.{StructureSets}
-use Rattle.chained_transfers.proofs.Chained.{pushed_last}
-use Rattle.leaving_drivers.specs.Before.{UnlinksAtMost}
-use Rattle.standing_fronts.specs.Reaching.{Reaches}
-use Rattle.commanded_queues.specs.Accepted.{ReachEnds}
-use Rattle.standing_fronts.specs.Tails.{tail_block, tail_of, TailsStand}
-use Rattle.left_queues.specs.Standing.{IdleTailsStand, AllStand}
+use Rattle.ring_laws.specs.lent_structures.Structures.{StructureSets}
+use Rattle.driver_laws.proofs.lemmas.chained_transfers.Chained.{pushed_last}
+use Rattle.driven_queues.specs.leaving_drivers.Before.{UnlinksAtMost}
+use Rattle.walked_queues.specs.standing_fronts.Reaching.{Reaches}
+use Rattle.walked_queues.specs.commanded_queues.Accepted.{ReachEnds}
+use Rattle.walked_queues.specs.standing_fronts.Tails.{tail_block, tail_of, TailsStand}
+use Rattle.stream_worlds.specs.left_queues.Standing.{IdleTailsStand, AllStand}
 use Rattle.ring_laws.specs.Told.{Endpoint as Told}
 use Rattle.mixed_worlds.specs.Mixed.{QueuesGoOn}
 

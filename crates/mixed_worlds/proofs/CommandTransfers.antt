@@ -9,25 +9,25 @@ use Rattle.driver_rows.specs.declared.content.Command.{Command}
 use Rattle.driver_rows.specs.declared.content.Command.TheVariants as unfinished
 use Rattle.driver_rows.specs.DriverContent.{DriverContent}
 use Rattle.driver_rows.specs.Offers.{Offered, new_runs, first_of, stage_words, new_transfer, with_queued, offered}
-use Rattle.run_owners.specs.Accepts.{Accepts, opens, chains, places, transfers, describes, cancels, unchains, Transfers}
-use Rattle.run_owners.proofs.Commands.{accepted_for_a_reason}
+use Rattle.driver_laws.specs.run_owners.Accepts.{Accepts, opens, chains, places, transfers, describes, cancels, unchains, Transfers}
+use Rattle.driver_laws.proofs.lemmas.run_owners.Commands.{accepted_for_a_reason}
 use Rattle.driver_laws.specs.PartOpened.{opening_base}
-use Rattle.chained_transfers.specs.Asynchronous.{OpensAsynchronous}
-use Rattle.fed_queues.specs.Places.{AreMet}
-use Rattle.fed_lends.specs.Commands.{QueuesStand}
-use Rattle.fed_lends.specs.ToLend.{IsToBeLent}
-use Rattle.fed_lends.proofs.Accepting.{asked_is_to_be_lent, requested_is_to_be_lent}
-use Rattle.fed_lends.proofs.Asked.{dummy_in, notes_in}
-use Rattle.fed_lends.proofs.Publishing.{asked_stands, requested_stands}
-use Rattle.standing_fronts.specs.Reaching.{Reaches}
-use Rattle.standing_fronts.specs.Tails.{tail_block, tail_of, TailsStand}
-use Rattle.commanded_queues.proofs.Tails.{asked_reaches}
-use Rattle.control_queues.proofs.Alike.{ThereAlike, told_alike}
-use Rattle.control_queues.proofs.Beside.{commands_keep_controls}
-use Rattle.framed_memory.proofs.QueueAccepting.{transfer_now}
-use Rattle.queued_drivers.specs.Queued.{queued_command, queued}
-use Rattle.queued_drivers.specs.Commands.{told_of, IsQueueAsked, IsQueueRequested}
-use Rattle.queued_drivers.proofs.CommandLeaves.{unchained}
+use Rattle.driver_laws.specs.chained_transfers.Asynchronous.{OpensAsynchronous}
+use Rattle.driver_laws.specs.fed_queues.Places.{AreMet}
+use Rattle.walked_queues.specs.fed_lends.Commands.{QueuesStand}
+use Rattle.walked_queues.specs.fed_lends.ToLend.{IsToBeLent}
+use Rattle.walked_queues.proofs.lemmas.fed_lends.Accepting.{asked_is_to_be_lent, requested_is_to_be_lent}
+use Rattle.walked_queues.proofs.lemmas.fed_lends.Asked.{dummy_in, notes_in}
+use Rattle.walked_queues.proofs.lemmas.fed_lends.Publishing.{asked_stands, requested_stands}
+use Rattle.walked_queues.specs.standing_fronts.Reaching.{Reaches}
+use Rattle.walked_queues.specs.standing_fronts.Tails.{tail_block, tail_of, TailsStand}
+use Rattle.walked_queues.proofs.lemmas.commanded_queues.Tails.{asked_reaches}
+use Rattle.stream_worlds.proofs.lemmas.control_queues.Alike.{ThereAlike, told_alike}
+use Rattle.stream_worlds.proofs.lemmas.control_queues.Beside.{commands_keep_controls}
+use Rattle.mixed_worlds.proofs.lemmas.framed_memory.QueueAccepting.{transfer_now}
+use Rattle.frame_laws.specs.queued_drivers.Queued.{queued_command, queued}
+use Rattle.frame_laws.specs.queued_drivers.Commands.{told_of, IsQueueAsked, IsQueueRequested}
+use Rattle.frame_laws.proofs.lemmas.queued_drivers.CommandLeaves.{unchained}
 use Rattle.bus_world.specs.World.{World, controller_parts}
 use Rattle.mixed_worlds.specs.Mixed.{QueuesGoOn, IsUnderWay, Standing}
 use Rattle.mixed_worlds.proofs.Unfinished.{none_unfinished}

@@ -11,22 +11,22 @@ use Rattle.driver_rows.specs.declared.content.Command.{Command}
 use Rattle.driver_rows.specs.declared.content.Command.TheVariants as unfinished
 use Rattle.driver_rows.specs.DriverContent.{DriverContent}
 use Rattle.driver_rows.specs.Words.{head_block}
-use Rattle.run_owners.specs.Owners.{NoteRuns, note_in}
+use Rattle.driver_laws.specs.run_owners.Owners.{NoteRuns, note_in}
 use Rattle.driver_laws.specs.Inventory.{IsLent}
-use Rattle.lent_structures.specs.Structures.{StructureSets}
+use Rattle.ring_laws.specs.lent_structures.Structures.{StructureSets}
 use Rattle.ring_laws.specs.Told.{Endpoint as Told}
-use Rattle.chained_transfers.specs.Out.{pieces_from, passed, unpublished, out_of_transfer, if_last, out_of}
-use Rattle.leaving_drivers.specs.Before.{UnlinksAtMost}
-use Rattle.fed_queues.specs.Places.{IsThere, IsMet, HasHead}
-use Rattle.fed_lends.specs.Commands.{QueuesStand}
-use Rattle.fed_lends.proofs.Asked.{same_unpublished, out_idle}
-use Rattle.standing_fronts.specs.Tails.{TailsStand}
-use Rattle.commanded_queues.proofs.Tails.{reaches_alike}
-use Rattle.mended_heads.proofs.Content.{any_one, KeepFirsts, KeepOwed, same_still, owed_on}
-use Rattle.mended_heads.proofs.Standing.{stand_on, keeps_same}
-use Rattle.control_queues.specs.Controls.{ControlsStand}
-use Rattle.control_queues.proofs.Alike.{ThereAlike, stand_still}
-use Rattle.framed_memory.proofs.Masking.{one_of_all}
+use Rattle.driver_laws.specs.chained_transfers.Out.{pieces_from, passed, unpublished, out_of_transfer, if_last, out_of}
+use Rattle.driven_queues.specs.leaving_drivers.Before.{UnlinksAtMost}
+use Rattle.driver_laws.specs.fed_queues.Places.{IsThere, IsMet, HasHead}
+use Rattle.walked_queues.specs.fed_lends.Commands.{QueuesStand}
+use Rattle.walked_queues.proofs.lemmas.fed_lends.Asked.{same_unpublished, out_idle}
+use Rattle.walked_queues.specs.standing_fronts.Tails.{TailsStand}
+use Rattle.walked_queues.proofs.lemmas.commanded_queues.Tails.{reaches_alike}
+use Rattle.walked_queues.proofs.lemmas.mended_heads.Content.{any_one, KeepFirsts, KeepOwed, same_still, owed_on}
+use Rattle.walked_queues.proofs.lemmas.mended_heads.Standing.{stand_on, keeps_same}
+use Rattle.stream_worlds.specs.control_queues.Controls.{ControlsStand}
+use Rattle.stream_worlds.proofs.lemmas.control_queues.Alike.{ThereAlike, stand_still}
+use Rattle.mixed_worlds.proofs.lemmas.framed_memory.Masking.{one_of_all}
 use Rattle.mixed_worlds.specs.Mixed.{QueuesGoOn}
 use Rattle.mixed_worlds.proofs.Unfinished.{none_unfinished}
 use Rattle.mixed_worlds.proofs.CommandBeside.{sound_by}

@@ -1,42 +1,42 @@
 -- Each event of the controller leaves a world with endpoints of every kind one.
 use Rattle.std.proofs.Common.{◌≡◌, ℕ, ◌*◌, ◌≤◌, ◌⊎◌, ⊎_elim, inl, inr, List, Option, Some, None, refl}
 use Rattle.run_book.specs.Book.{holding, Stands}
-use Rattle.walk_writes.specs.Writes.{WritesLent}
-use Rattle.lent_writes.proofs.Controlling.{controller_writes_lent}
-use Rattle.aligned_copies.proofs.Controlling.{aligned_placed}
+use Rattle.ring_laws.specs.walk_writes.Writes.{WritesLent}
+use Rattle.lent_accesses.proofs.lemmas.lent_writes.Controlling.{controller_writes_lent}
+use Rattle.lent_accesses.proofs.lemmas.aligned_copies.Controlling.{aligned_placed}
 use Rattle.usb_bus.specs.Bus.{Fixed}
 use Rattle.driver_rows.specs.declared.content.Command.{Command}
 use Rattle.driver_rows.specs.declared.content.Command.TheVariants as unfinished
 use Rattle.driver_rows.specs.DriverContent.{DriverContent}
-use Rattle.run_owners.specs.Owners.{runs_of_endpoint}
+use Rattle.driver_laws.specs.run_owners.Owners.{runs_of_endpoint}
 use Rattle.driver_laws.specs.PartOpened.{opening_base}
 use Rattle.driver_laws.proofs.Beside.{opened_stays}
-use Rattle.lent_structures.specs.Structures.{StructureSets}
+use Rattle.ring_laws.specs.lent_structures.Structures.{StructureSets}
 use Rattle.frame_walk.specs.Met.{Kind}
-use Rattle.frame_control.specs.Both.{RunsBoth}
+use Rattle.frame_laws.specs.frame_control.Both.{RunsBoth}
 use Rattle.described_parts.specs.Both.{both, descs_now, parts_now}
 use Rattle.described_parts.specs.Meeting.{met}
-use Rattle.fed_lends.specs.ToLend.{IsToBeLent}
-use Rattle.fed_lends.proofs.Accepting.{to_be_lent_stays}
-use Rattle.open_laws.specs.Lends.{IsOpenReady}
-use Rattle.open_laws.specs.Opens.{IsOpenLent}
-use Rattle.open_laws.proofs.AcceptWaiting.{ready_stays}
-use Rattle.released_queues.specs.Fronts.{FrontsStand}
-use Rattle.standing_fronts.specs.Tails.{tail_of}
-use Rattle.framed_memory.specs.Now.{recent_then, FramedNowAfter}
-use Rattle.framed_memory.proofs.NowControlled.{controller_now}
-use Rattle.framed_memory.proofs.Awaiting.{writes_await}
-use Rattle.framed_memory.specs.Chained.{chained_queue}
-use Rattle.framed_memory.proofs.RingLinksMet.{head_is_met}
-use Rattle.framed_memory.proofs.RingLinksWaiting.{open_lent_stays}
-use Rattle.queue_events.proofs.Events.{both_keeps_fed, both_keeps_last, both_keeps_links, both_keeps_reaches, both_keeps_halts, both_keeps_mends}
-use Rattle.queued_drivers.specs.Queued.{queued}
-use Rattle.controlled_walks.proofs.Worlds.{controller_walks}
+use Rattle.walked_queues.specs.fed_lends.ToLend.{IsToBeLent}
+use Rattle.walked_queues.proofs.lemmas.fed_lends.Accepting.{to_be_lent_stays}
+use Rattle.driven_queues.specs.open_laws.Lends.{IsOpenReady}
+use Rattle.driven_queues.specs.open_laws.Opens.{IsOpenLent}
+use Rattle.driven_queues.proofs.lemmas.open_laws.AcceptWaiting.{ready_stays}
+use Rattle.walked_queues.specs.released_queues.Fronts.{FrontsStand}
+use Rattle.walked_queues.specs.standing_fronts.Tails.{tail_of}
+use Rattle.mixed_worlds.specs.framed_memory.Now.{recent_then, FramedNowAfter}
+use Rattle.mixed_worlds.proofs.lemmas.framed_memory.NowControlled.{controller_now}
+use Rattle.mixed_worlds.proofs.lemmas.framed_memory.Awaiting.{writes_await}
+use Rattle.mixed_worlds.specs.framed_memory.Chained.{chained_queue}
+use Rattle.mixed_worlds.proofs.lemmas.framed_memory.RingLinksMet.{head_is_met}
+use Rattle.mixed_worlds.proofs.lemmas.framed_memory.RingLinksWaiting.{open_lent_stays}
+use Rattle.list_laws.proofs.lemmas.queue_events.Events.{both_keeps_fed, both_keeps_last, both_keeps_links, both_keeps_reaches, both_keeps_halts, both_keeps_mends}
+use Rattle.frame_laws.specs.queued_drivers.Queued.{queued}
+use Rattle.stream_worlds.proofs.lemmas.controlled_walks.Worlds.{controller_walks}
 use Rattle.bus_world.specs.World.{World, controller_parts, controller_row, controller_next}
 use Rattle.stream_worlds.specs.Streaming.{begins_by, transacts_by, wired}
 use Rattle.stream_worlds.proofs.StreamTurning.{world_has_row}
-use Rattle.world_bytes.proofs.Turning.{controller_bytes}
-use Rattle.world_bytes.proofs.Hearing.{hears_bytes}
+use Rattle.stream_worlds.proofs.lemmas.world_bytes.Turning.{controller_bytes}
+use Rattle.stream_worlds.proofs.lemmas.world_bytes.Hearing.{hears_bytes}
 use Rattle.mixed_worlds.specs.Mixed.{QueuesGoOn, IsChainToLend, IsChainThere, IsUnderWay, Standing, IsMixedAt, IsMixedWorld}
 use Rattle.mixed_worlds.specs.Laws.{ControllerKeepsMixed}
 use Rattle.mixed_worlds.proofs.ControllerParts.{sound_then}

@@ -12,19 +12,19 @@ use Rattle.hc_core.specs.declared.controller.MicroframePart.TheVariants.{Over, P
 use Rattle.hc_core.specs.declared.controller.ControllerRow.TheVariants as events
 use Rattle.hc_core.specs.Controller.{Content, microframe_row, part_row, enter_row, walk_place}
 use Rattle.driver_rows.specs.DriverContent.{DriverContent}
-use Rattle.lent_structures.specs.Structures.{QueueHead, Isochronous, SplitIsochronous, Structures, StructureSets}
+use Rattle.ring_laws.specs.lent_structures.Structures.{QueueHead, Isochronous, SplitIsochronous, Structures, StructureSets}
 use Rattle.ring_laws.specs.Hand.{Hand}
 use Rattle.ring_laws.specs.Ring.{Base}
-use Rattle.controlled_streams.specs.Control.{a_microframe, a_step}
+use Rattle.walked_queues.specs.controlled_streams.Control.{a_microframe, a_step}
 use Rattle.frame_walk.specs.Met.{Kind, AQueue, AnItd, ASitd, IsQueuePart, IsMetItd, IsMetSitd}
 use Rattle.frame_walk.specs.FrameHand.{FrameHand}
 use Rattle.frame_walk.proofs.Queues.{linked_part}
-use Rattle.frame_control.specs.Both.{AreMet, RunsBoth, BothEffect, of_ring, of_frame}
-use Rattle.frame_control.proofs.Staying.{ring_leaves}
+use Rattle.frame_laws.specs.frame_control.Both.{AreMet, RunsBoth, BothEffect, of_ring, of_frame}
+use Rattle.frame_laws.proofs.lemmas.frame_control.Staying.{ring_leaves}
 use Rattle.described_parts.specs.Both.{owns, both, descs_now, parts_now}
 use Rattle.described_parts.specs.Meeting.{met}
-use Rattle.framed_memory.specs.Now.{IsFramedNow, recent_then, FramedNowAfter}
-use Rattle.queue_events.proofs.Walks.{unmet_left}
+use Rattle.mixed_worlds.specs.framed_memory.Now.{IsFramedNow, recent_then, FramedNowAfter}
+use Rattle.list_laws.proofs.lemmas.queue_events.Walks.{unmet_left}
 
 -- ---- what is recent stays while the frames are walked
 

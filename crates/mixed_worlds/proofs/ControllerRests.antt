@@ -14,16 +14,16 @@ use Rattle.periodic_walk.specs.Walk.{Walk}
 use Rattle.hc_core.specs.Controller.{Content, walk_place}
 use Rattle.driver_rows.specs.declared.content.Endpoint.{Endpoint}
 use Rattle.driver_rows.specs.Words.{dummy_qtd}
-use Rattle.lent_structures.specs.Structures.{QueueHead, Element, Isochronous, SplitIsochronous, Structures, StructureSets}
-use Rattle.lent_structures.specs.WriteBack.{received_parts}
-use Rattle.lent_structures.proofs.Names.{put_beside}
-use Rattle.lent_structures.proofs.Found.{received_beside, back_beside}
-use Rattle.lent_structures.proofs.Altering.{found_queue}
+use Rattle.ring_laws.specs.lent_structures.Structures.{QueueHead, Element, Isochronous, SplitIsochronous, Structures, StructureSets}
+use Rattle.ring_laws.specs.lent_structures.WriteBack.{received_parts}
+use Rattle.ring_laws.proofs.lemmas.lent_structures.Names.{put_beside}
+use Rattle.ring_laws.proofs.lemmas.lent_structures.Found.{received_beside, back_beside}
+use Rattle.ring_laws.proofs.lemmas.lent_structures.Altering.{found_queue}
 use Rattle.ring_laws.specs.Hand.{Hand}
 use Rattle.ring_laws.specs.Ring.{Base}
 use Rattle.ring_laws.specs.Effects.{received_into}
-use Rattle.controlled_streams.specs.Control.{a_microframe, a_step}
-use Rattle.open_laws.specs.Queues.{IsNewPart}
+use Rattle.walked_queues.specs.controlled_streams.Control.{a_microframe, a_step}
+use Rattle.driven_queues.specs.open_laws.Queues.{IsNewPart}
 use Rattle.frame_walk.specs.Met.{Kind}
 use Rattle.frame_walk.specs.FrameHand.{settled_in, ItdCopy, SitdCopy, FrameHand}
 use Rattle.frame_walk.specs.Frame.{IsQueueSettled, IsCopiedQueue, IsCopiedItd, IsCopiedSitd, IsInFrame}
@@ -46,14 +46,14 @@ use Rattle.frame_walk.specs.FrameEffects.{
   writes,
 }
 use Rattle.frame_walk.proofs.QueueBacks.{hand_settled}
-use Rattle.frame_control.specs.Both.{RunsBoth, BothEffect, of_ring, of_frame}
-use Rattle.frame_control.proofs.Staying.{ring_leaves}
+use Rattle.frame_laws.specs.frame_control.Both.{RunsBoth, BothEffect, of_ring, of_frame}
+use Rattle.frame_laws.proofs.lemmas.frame_control.Staying.{ring_leaves}
 use Rattle.described_parts.specs.Both.{both, parts_now}
-use Rattle.queue_events.proofs.Beside.{beside}
+use Rattle.list_laws.proofs.lemmas.queue_events.Beside.{beside}
 use Rattle.driver_rows.specs.DriverContent.{DriverContent}
 use Rattle.hc_core.specs.declared.controller.ControllerRow.{ControllerRow}
-use Rattle.framed_memory.specs.Now.{IsFramedNow, recent_then, FramedNowAfter}
-use Rattle.framed_memory.proofs.ChainedLent.{chain_stays_lent}
+use Rattle.mixed_worlds.specs.framed_memory.Now.{IsFramedNow, recent_then, FramedNowAfter}
+use Rattle.mixed_worlds.proofs.lemmas.framed_memory.ChainedLent.{chain_stays_lent}
 use Rattle.mixed_worlds.specs.Mixed.{IsChainThere}
 use Rattle.described_parts.specs.Meeting.{met}
 use Rattle.mixed_worlds.proofs.ChainNew.{its_qtd}

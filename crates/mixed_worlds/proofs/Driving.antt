@@ -11,12 +11,12 @@ use Rattle.driver_rows.specs.declared.rows.DriverRow.{DriverRow}
 use Rattle.driver_rows.specs.declared.rows.DriverRow.TheVariants as rows
 use Rattle.driver_rows.specs.declared.rows.Found.{Found}
 use Rattle.driver_rows.specs.Rows.{is_iso, Parts, events_of, driver_row}
-use Rattle.run_owners.specs.Owners.{is_descriptor}
-use Rattle.run_owners.specs.Due.{IsDue, IsNextOf, IsLinkOf, IsHarvestDue, IsRemovalDue}
-use Rattle.run_owners.specs.Kept.{HasOwners}
-use Rattle.run_owners.proofs.Reasons.{each_is_due}
-use Rattle.run_owners.proofs.Orders.{one_same, endpoint_first, IsRemoved, has_removed}
-use Rattle.framed_memory.specs.Isochronous.{IsFramesCommand}
+use Rattle.driver_laws.specs.run_owners.Owners.{is_descriptor}
+use Rattle.driver_laws.specs.run_owners.Due.{IsDue, IsNextOf, IsLinkOf, IsHarvestDue, IsRemovalDue}
+use Rattle.driver_laws.specs.run_owners.Kept.{HasOwners}
+use Rattle.driver_laws.proofs.lemmas.run_owners.Reasons.{each_is_due}
+use Rattle.driver_laws.proofs.lemmas.run_owners.Orders.{one_same, endpoint_first, IsRemoved, has_removed}
+use Rattle.mixed_worlds.specs.framed_memory.Isochronous.{IsFramesCommand}
 use Rattle.bus_world.specs.World.{World, driver_parts, driver_next}
 use Rattle.mixed_worlds.specs.Mixed.{Standing, IsMixedAt, IsMixedWorld}
 use Rattle.mixed_worlds.specs.Laws.{DriverKeepsMixed}

@@ -9,9 +9,9 @@ use Rattle.usb_base.specs.declared.packets.Way.{Way}
 use Rattle.usb_base.specs.declared.packets.Way.TheVariants as ways
 use Rattle.script_types.specs.declared.scripts.Line.{Line}
 use Rattle.script_types.specs.declared.scripts.Line.TheVariants as lines
-use Rattle.declared_controls.specs.Names.{IsNameOf, NamesLine}
-use Rattle.declared_controls.proofs.Controls.{spelled_names}
-use Rattle.queued_drivers.specs.Queued.{IsOfWay}
+use Rattle.declared_endpoints.specs.declared_controls.Names.{IsNameOf, NamesLine}
+use Rattle.declared_endpoints.proofs.lemmas.declared_controls.Controls.{spelled_names}
+use Rattle.frame_laws.specs.queued_drivers.Queued.{IsOfWay}
 use Rattle.mixed_worlds.specs.Scripts.{FittingLine, TextsOpenFitting}
 
 one_way : (way : Way) → way ≢ ways.Ctl → (IsOfWay way kinds.Bulk × IsOfWay way kinds.Interrupt × IsOfWay way kinds.Iso)

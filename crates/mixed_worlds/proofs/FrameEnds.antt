@@ -17,9 +17,9 @@ use Rattle.driver_rows.specs.declared.rows.Found.TheVariants as founds
 use Rattle.driver_rows.specs.DriverContent.{DriverContent, waits_for, next_after}
 use Rattle.driver_rows.specs.Harvests.{end_of, is_stall, noted, reported}
 use Rattle.driver_rows.specs.Rows.{is_iso, Parts, events_of, links, removes_members, no_command, leave_frames, removal_of, finished, list_after, advanced_by, advance, framed_notes, with_notes, placement_at, framed_by, is_told, cancelled_bytes, removed_with, free_placed, after_unlink, after_descriptor, after_placed, told_with, mends_of, served, after_end, harvested_as, after_harvest}
-use Rattle.chained_transfers.proofs.Stalled.{behind_tells}
-use Rattle.queued_drivers.proofs.CommandFields.{iso_frames}
-use Rattle.framed_memory.specs.Isochronous.{IsFramesCommand}
+use Rattle.driver_laws.proofs.lemmas.chained_transfers.Stalled.{behind_tells}
+use Rattle.frame_laws.proofs.lemmas.queued_drivers.CommandFields.{iso_frames}
+use Rattle.mixed_worlds.specs.framed_memory.Isochronous.{IsFramesCommand}
 use Rattle.mixed_worlds.proofs.FrameNext.{EndsStay, same, one}
 
 -- ---- a command goes on

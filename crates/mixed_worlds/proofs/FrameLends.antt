@@ -17,20 +17,20 @@ use Rattle.driver_rows.specs.declared.rows.DriverRow.{DriverRow}
 use Rattle.driver_rows.specs.declared.rows.DriverRow.TheVariants as rows
 use Rattle.driver_rows.specs.DriverContent.{DriverContent}
 use Rattle.driver_rows.specs.Rows.{is_iso, Parts, store_order, events_of, linked_by, driver_row, after_driver_row}
-use Rattle.run_owners.specs.Owners.{HasBlocks, Owner, Dummy, Described, Buffer, IsPlaced, IsDescribed, runs_of_endpoint, runs_of_transfer, descriptor_in}
-use Rattle.run_owners.specs.Due.{IsDue, IsNextOf}
-use Rattle.run_owners.specs.Kept.{HasOwners}
-use Rattle.run_owners.proofs.Reasons.{each_is_due}
-use Rattle.lent_runs.specs.Lent.{begins_in, AreLent}
+use Rattle.driver_laws.specs.run_owners.Owners.{HasBlocks, Owner, Dummy, Described, Buffer, IsPlaced, IsDescribed, runs_of_endpoint, runs_of_transfer, descriptor_in}
+use Rattle.driver_laws.specs.run_owners.Due.{IsDue, IsNextOf}
+use Rattle.driver_laws.specs.run_owners.Kept.{HasOwners}
+use Rattle.driver_laws.proofs.lemmas.run_owners.Reasons.{each_is_due}
+use Rattle.driver_laws.specs.lent_runs.Lent.{begins_in, AreLent}
 use Rattle.driver_laws.specs.PartOpened.{opening_base}
 use Rattle.driver_laws.specs.Inventory.{IsLent}
-use Rattle.iso_frames.proofs.Harvested.{get_dropped}
-use Rattle.queued_drivers.specs.Queued.{queued, queued_endpoint}
-use Rattle.queued_drivers.specs.Rows.{IsOfFrames}
-use Rattle.queued_drivers.proofs.RowLists.{IsMapped, mapped, queue_told, none_told}
+use Rattle.frame_laws.proofs.lemmas.iso_frames.Harvested.{get_dropped}
+use Rattle.frame_laws.specs.queued_drivers.Queued.{queued, queued_endpoint}
+use Rattle.frame_laws.specs.queued_drivers.Rows.{IsOfFrames}
+use Rattle.frame_laws.proofs.lemmas.queued_drivers.RowLists.{IsMapped, mapped, queue_told, none_told}
 use Rattle.described_parts.specs.Written.{runs_of}
-use Rattle.framed_memory.specs.Isochronous.{IsFramesCommand, AwaitsLend}
-use Rattle.framed_memory.proofs.Lending.{lend_now}
+use Rattle.mixed_worlds.specs.framed_memory.Isochronous.{IsFramesCommand, AwaitsLend}
+use Rattle.mixed_worlds.proofs.lemmas.framed_memory.Lending.{lend_now}
 use Rattle.bus_world.specs.World.{driver_parts, controller_parts, driver_next}
 use Rattle.mixed_worlds.specs.Laws.{RowKeepsMixed}
 use Rattle.mixed_worlds.proofs.Alike.{DummiesWereLent}

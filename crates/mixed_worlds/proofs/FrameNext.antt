@@ -14,31 +14,31 @@ use Rattle.driver_rows.specs.declared.content.Command.TheVariants as unfinished
 use Rattle.driver_rows.specs.DriverContent.{DriverContent}
 use Rattle.driver_rows.specs.Words.{head_block}
 use Rattle.driver_rows.specs.Rows.{Parts, driver_row}
-use Rattle.endpoint_lives.specs.Lives.{is_one_of, may_meet}
-use Rattle.endpoint_lives.proofs.Lives.{met_alike}
-use Rattle.run_owners.specs.Owners.{HasBlocks, HasRun}
-use Rattle.run_owners.specs.Leaving.{times, leaves_ring}
-use Rattle.run_owners.specs.Kept.{HasOwners}
-use Rattle.run_owners.proofs.Reasons.{each_is_due}
-use Rattle.run_owners.proofs.Released.{set_here, set_there}
-use Rattle.lent_runs.specs.Lent.{AreLent, IsLent as IsLentRun}
-use Rattle.lent_runs.proofs.Laws.{idle_lent}
-use Rattle.lent_structures.specs.Structures.{StructureSets}
+use Rattle.driver_laws.specs.endpoint_lives.Lives.{is_one_of, may_meet}
+use Rattle.driver_laws.proofs.lemmas.endpoint_lives.Lives.{met_alike}
+use Rattle.driver_laws.specs.run_owners.Owners.{HasBlocks, HasRun}
+use Rattle.driver_laws.specs.run_owners.Leaving.{times, leaves_ring}
+use Rattle.driver_laws.specs.run_owners.Kept.{HasOwners}
+use Rattle.driver_laws.proofs.lemmas.run_owners.Reasons.{each_is_due}
+use Rattle.driver_laws.proofs.lemmas.run_owners.Released.{set_here, set_there}
+use Rattle.driver_laws.specs.lent_runs.Lent.{AreLent, IsLent as IsLentRun}
+use Rattle.driver_laws.proofs.lemmas.lent_runs.Laws.{idle_lent}
+use Rattle.ring_laws.specs.lent_structures.Structures.{StructureSets}
 use Rattle.ring_laws.specs.Hand.{Hand}
 use Rattle.driver_laws.specs.PartOpened.{opening_base}
 use Rattle.driver_laws.specs.Inventory.{IsLent}
-use Rattle.chained_transfers.proofs.Rows.{set_which}
-use Rattle.fed_queues.specs.Places.{IsMet, HasHead, AreMet}
-use Rattle.publish_laws.proofs.Apart.{dummy_placed}
-use Rattle.leaving_drivers.proofs.Unmet.{none_of}
-use Rattle.queued_drivers.specs.Queued.{queued, queued_command, QueuesTakeTurns}
-use Rattle.queued_drivers.specs.Rows.{QueuesAlike, IsOfFrames, keeps_book}
-use Rattle.queued_drivers.proofs.RowOwners.{queued_owners}
-use Rattle.queued_drivers.proofs.RowFrames.{frames_leave}
+use Rattle.driver_laws.proofs.lemmas.chained_transfers.Rows.{set_which}
+use Rattle.driver_laws.specs.fed_queues.Places.{IsMet, HasHead, AreMet}
+use Rattle.driven_queues.proofs.lemmas.publish_laws.Apart.{dummy_placed}
+use Rattle.driven_queues.proofs.lemmas.leaving_drivers.Unmet.{none_of}
+use Rattle.frame_laws.specs.queued_drivers.Queued.{queued, queued_command, QueuesTakeTurns}
+use Rattle.frame_laws.specs.queued_drivers.Rows.{QueuesAlike, IsOfFrames, keeps_book}
+use Rattle.frame_laws.proofs.lemmas.queued_drivers.RowOwners.{queued_owners}
+use Rattle.frame_laws.proofs.lemmas.queued_drivers.RowFrames.{frames_leave}
 use Rattle.frame_walk.specs.Met.{Kind}
 use Rattle.frame_walk.specs.FrameHand.{FrameHand}
-use Rattle.framed_memory.specs.Now.{IsFramedNow}
-use Rattle.framed_memory.specs.Isochronous.{IsFramesCommand}
+use Rattle.mixed_worlds.specs.framed_memory.Now.{IsFramedNow}
+use Rattle.mixed_worlds.specs.framed_memory.Isochronous.{IsFramesCommand}
 use Rattle.bus_world.specs.World.{World, driver_parts, controller_parts, driver_next}
 use Rattle.mixed_worlds.specs.Mixed.{QueuesGoOn, IsUnderWay, Standing, IsMixedAt, IsMixedWorld}
 use Rattle.mixed_worlds.proofs.Unfinished.{none_unfinished}

@@ -5,16 +5,16 @@ use Rattle.driver_rows.specs.declared.rows.DriverRow.{DriverRow}
 use Rattle.driver_rows.specs.declared.rows.DriverRow.TheVariants as rows
 use Rattle.driver_rows.specs.DriverContent.{DriverContent}
 use Rattle.driver_rows.specs.Rows.{Parts, driver_row, after_driver_row}
-use Rattle.endpoint_lives.specs.Lives.{is_one_of}
-use Rattle.endpoint_lives.proofs.Lives.{one_of_joined}
-use Rattle.run_owners.specs.Due.{IsDue}
-use Rattle.run_owners.proofs.Reasons.{each_is_due}
-use Rattle.fed_queues.specs.Places.{AreMet}
-use Rattle.queued_drivers.specs.Queued.{queued}
-use Rattle.queued_drivers.specs.Rows.{IsOfFrames, keeps_book}
-use Rattle.framed_memory.specs.Now.{reads_alone}
-use Rattle.framed_memory.specs.Isochronous.{IsFramesCommand}
-use Rattle.framed_memory.proofs.Now.{registers_now}
+use Rattle.driver_laws.specs.endpoint_lives.Lives.{is_one_of}
+use Rattle.driver_laws.proofs.lemmas.endpoint_lives.Lives.{one_of_joined}
+use Rattle.driver_laws.specs.run_owners.Due.{IsDue}
+use Rattle.driver_laws.proofs.lemmas.run_owners.Reasons.{each_is_due}
+use Rattle.driver_laws.specs.fed_queues.Places.{AreMet}
+use Rattle.frame_laws.specs.queued_drivers.Queued.{queued}
+use Rattle.frame_laws.specs.queued_drivers.Rows.{IsOfFrames, keeps_book}
+use Rattle.mixed_worlds.specs.framed_memory.Now.{reads_alone}
+use Rattle.mixed_worlds.specs.framed_memory.Isochronous.{IsFramesCommand}
+use Rattle.mixed_worlds.proofs.lemmas.framed_memory.Now.{registers_now}
 use Rattle.driver_laws.specs.PartOpened.{opening_base}
 use Rattle.bus_world.specs.World.{World, driver_parts, controller_parts, with_parts, driver_next}
 use Rattle.mixed_worlds.specs.Mixed.{QueuesGoOn, Standing, IsMixedAt, IsMixedWorld}

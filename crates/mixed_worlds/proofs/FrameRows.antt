@@ -12,18 +12,18 @@ use Rattle.driver_rows.specs.declared.rows.DriverRow.{DriverRow}
 use Rattle.driver_rows.specs.declared.rows.DriverRow.TheVariants as rows
 use Rattle.driver_rows.specs.declared.rows.Found.{Found}
 use Rattle.driver_rows.specs.Rows.{is_iso, Parts, store_order, events_of, driver_row, after_driver_row, after_placed}
-use Rattle.run_owners.specs.Owners.{is_descriptor}
-use Rattle.run_owners.specs.Due.{IsDue, IsNextOf, IsLinkOf, IsUnlinkDue, IsRemovalDue}
-use Rattle.run_owners.specs.Kept.{HasOwners}
-use Rattle.run_owners.proofs.Reasons.{each_is_due}
-use Rattle.run_owners.proofs.Orders.{times_first, one_same, removed_first, IsOwed, owed}
+use Rattle.driver_laws.specs.run_owners.Owners.{is_descriptor}
+use Rattle.driver_laws.specs.run_owners.Due.{IsDue, IsNextOf, IsLinkOf, IsUnlinkDue, IsRemovalDue}
+use Rattle.driver_laws.specs.run_owners.Kept.{HasOwners}
+use Rattle.driver_laws.proofs.lemmas.run_owners.Reasons.{each_is_due}
+use Rattle.driver_laws.proofs.lemmas.run_owners.Orders.{times_first, one_same, removed_first, IsOwed, owed}
 use Rattle.driver_laws.specs.PartOpened.{opening_base}
-use Rattle.queued_drivers.specs.Queued.{queued}
-use Rattle.queued_drivers.specs.Rows.{IsOfFrames, keeps_book}
-use Rattle.framed_memory.specs.Isochronous.{IsFramesCommand}
-use Rattle.framed_memory.proofs.NowRows.{unlink_now, link_now, release_now, waiting_now}
-use Rattle.framed_memory.proofs.Harvesting.{harvest_now}
-use Rattle.framed_memory.proofs.ChosenFrames.{frames_now}
+use Rattle.frame_laws.specs.queued_drivers.Queued.{queued}
+use Rattle.frame_laws.specs.queued_drivers.Rows.{IsOfFrames, keeps_book}
+use Rattle.mixed_worlds.specs.framed_memory.Isochronous.{IsFramesCommand}
+use Rattle.mixed_worlds.proofs.lemmas.framed_memory.NowRows.{unlink_now, link_now, release_now, waiting_now}
+use Rattle.mixed_worlds.proofs.lemmas.framed_memory.Harvesting.{harvest_now}
+use Rattle.mixed_worlds.proofs.lemmas.framed_memory.ChosenFrames.{frames_now}
 use Rattle.bus_world.specs.World.{World, driver_parts, controller_parts, driver_next}
 use Rattle.mixed_worlds.specs.Mixed.{Standing, IsMixedAt, IsMixedWorld}
 use Rattle.mixed_worlds.specs.Laws.{RowKeepsMixed}

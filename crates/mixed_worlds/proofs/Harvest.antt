@@ -9,30 +9,30 @@ use Rattle.driver_rows.specs.declared.rows.Found.{Found}
 use Rattle.driver_rows.specs.declared.rows.Found.TheVariants as founds
 use Rattle.driver_rows.specs.DriverContent.{DriverContent}
 use Rattle.driver_rows.specs.Rows.{Parts, driver_row, after_driver_row}
-use Rattle.run_owners.specs.Owners.{is_descriptor}
-use Rattle.run_owners.specs.Due.{IsHarvestDue}
-use Rattle.run_owners.specs.Kept.{HasOwners}
-use Rattle.lent_runs.specs.Lent.{AreLent}
+use Rattle.driver_laws.specs.run_owners.Owners.{is_descriptor}
+use Rattle.driver_laws.specs.run_owners.Due.{IsHarvestDue}
+use Rattle.driver_laws.specs.run_owners.Kept.{HasOwners}
+use Rattle.driver_laws.specs.lent_runs.Lent.{AreLent}
 use Rattle.driver_laws.specs.PartOpened.{opening_base}
-use Rattle.chained_transfers.specs.AsynchronousTurns.{AsynchronousTakesTurns}
+use Rattle.driver_laws.specs.chained_transfers.AsynchronousTurns.{AsynchronousTakesTurns}
 use Rattle.frame_walk.specs.Met.{IsQueuePart}
-use Rattle.fed_queues.specs.Places.{IsMet, AreStillOut}
-use Rattle.fed_queues.proofs.Places.{SameQueues, life_back, met_as, met_stays, stands_met}
-use Rattle.fed_lends.specs.Commands.{QueuesStand}
-use Rattle.fed_harvests.specs.Harvests.{with_out, HarvestLeaves}
-use Rattle.fed_harvests.specs.Stalls.{StallLeaves}
-use Rattle.fed_harvests.proofs.Harvests.{unstalled_stands, wait_stands}
-use Rattle.fed_harvests.proofs.Stalls.{stall_stands}
-use Rattle.mended_heads.specs.Stalling.{IsStall, HaltsQueue}
-use Rattle.stalled_fronts.proofs.Halted.{stall_stops}
-use Rattle.stalled_fronts.proofs.Stalled.{stall_moves}
-use Rattle.released_queues.specs.Fronts.{FrontsStand}
-use Rattle.standing_fronts.proofs.Rows.{harvest_keeps}
-use Rattle.control_queues.specs.Controls.{ControlsStand}
-use Rattle.framed_memory.proofs.Harvesting.{harvest_now}
-use Rattle.queued_drivers.specs.Queued.{queued, queued_parts}
-use Rattle.queued_drivers.specs.Rows.{IsToldAlike}
-use Rattle.queue_events.specs.Events.{PartsStand}
+use Rattle.driver_laws.specs.fed_queues.Places.{IsMet, AreStillOut}
+use Rattle.driver_laws.proofs.lemmas.fed_queues.Places.{SameQueues, life_back, met_as, met_stays, stands_met}
+use Rattle.walked_queues.specs.fed_lends.Commands.{QueuesStand}
+use Rattle.driven_queues.specs.fed_harvests.Harvests.{with_out, HarvestLeaves}
+use Rattle.driven_queues.specs.fed_harvests.Stalls.{StallLeaves}
+use Rattle.driven_queues.proofs.lemmas.fed_harvests.Harvests.{unstalled_stands, wait_stands}
+use Rattle.driven_queues.proofs.lemmas.fed_harvests.Stalls.{stall_stands}
+use Rattle.walked_queues.specs.mended_heads.Stalling.{IsStall, HaltsQueue}
+use Rattle.driven_queues.proofs.lemmas.stalled_fronts.Halted.{stall_stops}
+use Rattle.driven_queues.proofs.lemmas.stalled_fronts.Stalled.{stall_moves}
+use Rattle.walked_queues.specs.released_queues.Fronts.{FrontsStand}
+use Rattle.walked_queues.proofs.lemmas.standing_fronts.Rows.{harvest_keeps}
+use Rattle.stream_worlds.specs.control_queues.Controls.{ControlsStand}
+use Rattle.mixed_worlds.proofs.lemmas.framed_memory.Harvesting.{harvest_now}
+use Rattle.frame_laws.specs.queued_drivers.Queued.{queued, queued_parts}
+use Rattle.frame_laws.specs.queued_drivers.Rows.{IsToldAlike}
+use Rattle.list_laws.specs.queue_events.Events.{PartsStand}
 use Rattle.bus_world.specs.World.{World, controller_parts, driver_parts, driver_next}
 use Rattle.mixed_worlds.specs.Mixed.{Standing, IsMixedAt, IsMixedWorld}
 use Rattle.mixed_worlds.proofs.Unfinished.{none_unfinished}

@@ -15,35 +15,35 @@ use Rattle.driver_rows.specs.declared.rows.Found.TheVariants as founds
 use Rattle.driver_rows.specs.DriverContent.{DriverContent}
 use Rattle.driver_rows.specs.Harvests.{end_of, is_stall}
 use Rattle.driver_rows.specs.Rows.{Parts as DriverParts, after_driver_row}
-use Rattle.run_owners.specs.Due.{IsHarvestDue}
-use Rattle.run_owners.specs.Kept.{HasOwners}
-use Rattle.run_owners.specs.Owners.{NoteRuns, note_in, views_of}
-use Rattle.chained_transfers.specs.AsynchronousTurns.{AsynchronousTakesTurns}
-use Rattle.chained_transfers.specs.Out.{pieces_from, passed, out_of_transfer, out_of, out_now}
-use Rattle.lent_runs.specs.Lent.{AreLent}
+use Rattle.driver_laws.specs.run_owners.Due.{IsHarvestDue}
+use Rattle.driver_laws.specs.run_owners.Kept.{HasOwners}
+use Rattle.driver_laws.specs.run_owners.Owners.{NoteRuns, note_in, views_of}
+use Rattle.driver_laws.specs.chained_transfers.AsynchronousTurns.{AsynchronousTakesTurns}
+use Rattle.driver_laws.specs.chained_transfers.Out.{pieces_from, passed, out_of_transfer, out_of, out_now}
+use Rattle.driver_laws.specs.lent_runs.Lent.{AreLent}
 use Rattle.frame_walk.specs.Met.{IsQueuePart}
-use Rattle.lent_structures.specs.Structures.{StructureSets, Tells}
+use Rattle.ring_laws.specs.lent_structures.Structures.{StructureSets, Tells}
 use Rattle.ring_laws.specs.Order.{IsAmong}
 use Rattle.ring_laws.specs.Told.{Endpoint as Told}
 use Rattle.ring_laws.proofs.HaltSparing.{fewer_keep}
 use Rattle.driver_laws.specs.Inventory.{sorts_of, IsDriven}
-use Rattle.fed_queues.specs.Places.{IsMet, AreStillOut}
-use Rattle.fed_queues.proofs.Places.{stands_met}
-use Rattle.fed_lends.specs.Commands.{QueuesStand}
-use Rattle.fed_harvests.specs.Harvests.{HarvestLeaves, with_out}
-use Rattle.fed_harvests.specs.Stalls.{out_told, StallLeaves}
-use Rattle.fed_harvests.proofs.Harvests.{unstalled_stands, wait_stands}
-use Rattle.fed_harvests.proofs.Lists.{all_of, all_out}
-use Rattle.fed_harvests.proofs.Stalls.{stall_stands}
-use Rattle.mended_heads.specs.Stalling.{IsStall, HaltsQueue}
-use Rattle.mended_heads.proofs.Content.{set_at, set_beside}
-use Rattle.mended_heads.proofs.Stalling.{harvest_keeps}
-use Rattle.released_queues.specs.Fronts.{FrontsStand}
-use Rattle.stalled_fronts.proofs.Halted.{stall_stops}
-use Rattle.control_queues.specs.Controls.{ControlsStand}
-use Rattle.control_queues.proofs.Alike.{ThereAlike, told_alike, stand_by}
-use Rattle.control_queues.proofs.Lists.{IsPart, ends, drops, all_part, both_parts, one_less, part_among, part_sorted}
-use Rattle.controlled_streams.proofs.Streams.{out_here, out_beside}
+use Rattle.driver_laws.specs.fed_queues.Places.{IsMet, AreStillOut}
+use Rattle.driver_laws.proofs.lemmas.fed_queues.Places.{stands_met}
+use Rattle.walked_queues.specs.fed_lends.Commands.{QueuesStand}
+use Rattle.driven_queues.specs.fed_harvests.Harvests.{HarvestLeaves, with_out}
+use Rattle.driven_queues.specs.fed_harvests.Stalls.{out_told, StallLeaves}
+use Rattle.driven_queues.proofs.lemmas.fed_harvests.Harvests.{unstalled_stands, wait_stands}
+use Rattle.driven_queues.proofs.lemmas.fed_harvests.Lists.{all_of, all_out}
+use Rattle.driven_queues.proofs.lemmas.fed_harvests.Stalls.{stall_stands}
+use Rattle.walked_queues.specs.mended_heads.Stalling.{IsStall, HaltsQueue}
+use Rattle.walked_queues.proofs.lemmas.mended_heads.Content.{set_at, set_beside}
+use Rattle.walked_queues.proofs.lemmas.mended_heads.Stalling.{harvest_keeps}
+use Rattle.walked_queues.specs.released_queues.Fronts.{FrontsStand}
+use Rattle.driven_queues.proofs.lemmas.stalled_fronts.Halted.{stall_stops}
+use Rattle.stream_worlds.specs.control_queues.Controls.{ControlsStand}
+use Rattle.stream_worlds.proofs.lemmas.control_queues.Alike.{ThereAlike, told_alike, stand_by}
+use Rattle.stream_worlds.proofs.lemmas.control_queues.Lists.{IsPart, ends, drops, all_part, both_parts, one_less, part_among, part_sorted}
+use Rattle.walked_queues.proofs.lemmas.controlled_streams.Streams.{out_here, out_beside}
 use Rattle.mixed_worlds.proofs.Unfinished.{none_unfinished}
 use Rattle.mixed_worlds.proofs.HarvestTold.{ToldAnew, due_told}
 

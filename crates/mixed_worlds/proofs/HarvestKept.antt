@@ -2,28 +2,28 @@
 use Rattle.std.proofs.Common.{◌≡◌, ◌*◌, None, sym, subst, ◌∙◌}
 use Rattle.driver_rows.specs.declared.content.Command.TheVariants as unfinished
 use Rattle.driver_rows.specs.DriverContent.{DriverContent}
-use Rattle.run_owners.specs.Owners.{views_of}
-use Rattle.run_owners.specs.Kept.{HasOwners}
-use Rattle.lent_runs.specs.Lent.{AreLent}
-use Rattle.lent_structures.specs.Structures.{Tells}
+use Rattle.driver_laws.specs.run_owners.Owners.{views_of}
+use Rattle.driver_laws.specs.run_owners.Kept.{HasOwners}
+use Rattle.driver_laws.specs.lent_runs.Lent.{AreLent}
+use Rattle.ring_laws.specs.lent_structures.Structures.{Tells}
 use Rattle.driver_laws.specs.Inventory.{sorts_of, IsDriven}
 use Rattle.driver_laws.specs.Extents.{AreInRuns}
 use Rattle.driver_laws.specs.PartOpened.{opening_base}
-use Rattle.in_place.specs.InPlace.{IsInPlace}
-use Rattle.fed_queues.specs.Places.{AreMet}
-use Rattle.fed_lends.specs.Commands.{QueuesStand}
-use Rattle.released_queues.specs.Fronts.{FrontsStand}
-use Rattle.standing_fronts.specs.Reaching.{Reaches}
-use Rattle.standing_fronts.specs.Tails.{TailsStand}
-use Rattle.idle_tails.proofs.Reaching.{sound_queues_reach}
-use Rattle.control_queues.specs.Controls.{ControlsStand}
-use Rattle.queued_drivers.specs.Queued.{queued, QueuesTakeTurns}
-use Rattle.queued_drivers.proofs.RowOwners.{queued_owners, queued_lent}
-use Rattle.queued_drivers.proofs.RowTurns.{rows_keep}
-use Rattle.queued_drivers.proofs.RowEvents.{idle_told}
-use Rattle.queue_events.specs.Events.{PartsStand}
+use Rattle.driver_laws.specs.in_place.InPlace.{IsInPlace}
+use Rattle.driver_laws.specs.fed_queues.Places.{AreMet}
+use Rattle.walked_queues.specs.fed_lends.Commands.{QueuesStand}
+use Rattle.walked_queues.specs.released_queues.Fronts.{FrontsStand}
+use Rattle.walked_queues.specs.standing_fronts.Reaching.{Reaches}
+use Rattle.walked_queues.specs.standing_fronts.Tails.{TailsStand}
+use Rattle.walked_queues.proofs.lemmas.idle_tails.Reaching.{sound_queues_reach}
+use Rattle.stream_worlds.specs.control_queues.Controls.{ControlsStand}
+use Rattle.frame_laws.specs.queued_drivers.Queued.{queued, QueuesTakeTurns}
+use Rattle.frame_laws.proofs.lemmas.queued_drivers.RowOwners.{queued_owners, queued_lent}
+use Rattle.frame_laws.proofs.lemmas.queued_drivers.RowTurns.{rows_keep}
+use Rattle.frame_laws.proofs.lemmas.queued_drivers.RowEvents.{idle_told}
+use Rattle.list_laws.specs.queue_events.Events.{PartsStand}
 use Rattle.described_parts.specs.PartLaws.{IsDescribing}
-use Rattle.framed_memory.specs.Now.{IsFramedNow}
+use Rattle.mixed_worlds.specs.framed_memory.Now.{IsFramedNow}
 use Rattle.bus_world.specs.World.{World, controller_parts, driver_parts, driver_next}
 use Rattle.mixed_worlds.specs.Mixed.{Standing, IsUnderWay, IsMixedAt, IsMixedWorld}
 use Rattle.mixed_worlds.proofs.Unfinished.{none_unfinished}

@@ -12,25 +12,25 @@ use Rattle.driver_rows.specs.declared.rows.Found.{Found}
 use Rattle.driver_rows.specs.DriverContent.{DriverContent}
 use Rattle.driver_rows.specs.Harvests.{reported}
 use Rattle.driver_rows.specs.Rows.{Parts, after_transfer, freed_by, free_endpoint, cancelled_bytes, gone_with, after_endpoint, after_placed, is_told, driver_row, after_driver_row}
-use Rattle.endpoint_lives.specs.Lives.{may_meet}
-use Rattle.endpoint_lives.proofs.Lives.{linked_met, met_alike}
-use Rattle.run_owners.specs.Due.{IsDue, IsHarvestDue}
-use Rattle.run_owners.specs.Kept.{HasOwners}
-use Rattle.run_owners.proofs.Reasons.{each_is_due}
-use Rattle.chained_transfers.specs.Asynchronous.{OnlyAsynchronous}
-use Rattle.chained_transfers.specs.Turns.{IsInList}
-use Rattle.chained_transfers.proofs.Staying.{stands_linked}
-use Rattle.fed_lends.proofs.Asked.{set_which}
-use Rattle.leaving_drivers.specs.Owed.{AreOwedMet}
-use Rattle.leaving_drivers.proofs.Clearing.{clear_finds}
-use Rattle.leaving_drivers.proofs.Leaving.{bell_as_before, status_as_before}
-use Rattle.leaving_drivers.proofs.Owing.{owed_before, advanced_owed}
-use Rattle.leaving_drivers.proofs.Reading.{IsTransferOf, read_row}
-use Rattle.queued_drivers.specs.Queued.{queued, queued_parts, QueuesTakeTurns}
-use Rattle.queued_drivers.specs.Rows.{IsOfQueues, QueuesAlike, EventKind, of_queues, of_frames, lends_chain, finishes_chain, gives_back}
-use Rattle.queued_drivers.proofs.RowEvents.{row_told}
-use Rattle.queued_drivers.proofs.RowFrames.{chain_lends, chain_finishes, frames_leave}
-use Rattle.queued_drivers.proofs.RowKinds.{event_kind}
+use Rattle.driver_laws.specs.endpoint_lives.Lives.{may_meet}
+use Rattle.driver_laws.proofs.lemmas.endpoint_lives.Lives.{linked_met, met_alike}
+use Rattle.driver_laws.specs.run_owners.Due.{IsDue, IsHarvestDue}
+use Rattle.driver_laws.specs.run_owners.Kept.{HasOwners}
+use Rattle.driver_laws.proofs.lemmas.run_owners.Reasons.{each_is_due}
+use Rattle.driver_laws.specs.chained_transfers.Asynchronous.{OnlyAsynchronous}
+use Rattle.driver_laws.specs.chained_transfers.Turns.{IsInList}
+use Rattle.driver_laws.proofs.lemmas.chained_transfers.Staying.{stands_linked}
+use Rattle.walked_queues.proofs.lemmas.fed_lends.Asked.{set_which}
+use Rattle.driven_queues.specs.leaving_drivers.Owed.{AreOwedMet}
+use Rattle.driven_queues.proofs.lemmas.leaving_drivers.Clearing.{clear_finds}
+use Rattle.driven_queues.proofs.lemmas.leaving_drivers.Leaving.{bell_as_before, status_as_before}
+use Rattle.driven_queues.proofs.lemmas.leaving_drivers.Owing.{owed_before, advanced_owed}
+use Rattle.driven_queues.proofs.lemmas.leaving_drivers.Reading.{IsTransferOf, read_row}
+use Rattle.frame_laws.specs.queued_drivers.Queued.{queued, queued_parts, QueuesTakeTurns}
+use Rattle.frame_laws.specs.queued_drivers.Rows.{IsOfQueues, QueuesAlike, EventKind, of_queues, of_frames, lends_chain, finishes_chain, gives_back}
+use Rattle.frame_laws.proofs.lemmas.queued_drivers.RowEvents.{row_told}
+use Rattle.frame_laws.proofs.lemmas.queued_drivers.RowFrames.{chain_lends, chain_finishes, frames_leave}
+use Rattle.frame_laws.proofs.lemmas.queued_drivers.RowKinds.{event_kind}
 
 -- ---- what is told alike
 

@@ -15,10 +15,10 @@ use Rattle.driver_rows.specs.declared.rows.Found.TheVariants as founds
 use Rattle.driver_rows.specs.DriverContent.{DriverContent, waits_for}
 use Rattle.driver_rows.specs.Harvests.{noted, end_of, is_stall, reported}
 use Rattle.driver_rows.specs.Rows.{Parts, told_with, mends_of, behind_one, behind, after_end, harvested_as, served, after_harvest, after_driver_row}
-use Rattle.run_owners.specs.Due.{IsHarvestDue}
-use Rattle.fed_lends.proofs.Asked.{set_which}
-use Rattle.fed_queues.proofs.Places.{SameQueues}
-use Rattle.mended_heads.proofs.Content.{set_at, set_beside}
+use Rattle.driver_laws.specs.run_owners.Due.{IsHarvestDue}
+use Rattle.walked_queues.proofs.lemmas.fed_lends.Asked.{set_which}
+use Rattle.driver_laws.proofs.lemmas.fed_queues.Places.{SameQueues}
+use Rattle.walked_queues.proofs.lemmas.mended_heads.Content.{set_at, set_beside}
 
 -- ---- the driver's content
 

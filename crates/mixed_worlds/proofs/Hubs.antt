@@ -20,7 +20,7 @@ use Rattle.script_forms.specs.declared.statements.Statement.TheVariants as says
 use Rattle.script_world.specs.Draft.{Draft, Placed, device_ep, hub_ep, hub_desc, hub_of, device_of, ep_of, is_name, known, same_way, is_named, change}
 use Rattle.script_world.specs.Ranges.{within, is_endpoint, is_slots}
 use Rattle.script_world.specs.Rows.{is_known, answered, counted, roomier, at_ep, name_of, with_ep, content_len, bytes_len, commanded, where_known, put_room, control_name, after_hub, after_below, after}
-use Rattle.byte_answers.proofs.Lists.{Holds, all_append, found}
+use Rattle.script_laws.proofs.lemmas.byte_answers.Lists.{Holds, all_append, found}
 
 abbrev pub IsBelow : EpDesc → Type 0
 IsBelow x = unwrap_or x.hub 0 < 128

@@ -72,3 +72,4 @@ pub mod Sampled
 pub mod SampledMemory
 pub mod SampledMoments
 pub mod Reasons
+pub mod lemmas

@@ -10,36 +10,36 @@ use Rattle.driver_rows.specs.declared.rows.DriverRow.{DriverRow}
 use Rattle.driver_rows.specs.declared.rows.DriverRow.TheVariants as rows
 use Rattle.driver_rows.specs.DriverContent.{DriverContent}
 use Rattle.driver_rows.specs.Rows.{is_iso, driver_row, after_driver_row}
-use Rattle.endpoint_lives.specs.Lives.{is_one_of, may_meet}
-use Rattle.run_owners.specs.Kept.{HasOwners}
-use Rattle.lent_runs.specs.Lent.{AreLent}
-use Rattle.lent_structures.specs.Structures.{QueueHead, StructureSets}
-use Rattle.lent_structures.proofs.Names.{put_beside}
+use Rattle.driver_laws.specs.endpoint_lives.Lives.{is_one_of, may_meet}
+use Rattle.driver_laws.specs.run_owners.Kept.{HasOwners}
+use Rattle.driver_laws.specs.lent_runs.Lent.{AreLent}
+use Rattle.ring_laws.specs.lent_structures.Structures.{QueueHead, StructureSets}
+use Rattle.ring_laws.proofs.lemmas.lent_structures.Names.{put_beside}
 use Rattle.driver_laws.specs.PartOpened.{opening_base}
-use Rattle.publish_laws.proofs.Apart.{queues_same, thirty_two}
+use Rattle.driven_queues.proofs.lemmas.publish_laws.Apart.{queues_same, thirty_two}
 use Rattle.frame_walk.specs.Met.{IsQueuePart}
-use Rattle.fed_queues.specs.Places.{IsMet}
-use Rattle.fed_lends.specs.Commands.{QueuesStand}
-use Rattle.mended_heads.specs.Owed.{IsOwed}
-use Rattle.mended_heads.specs.Mended.{IsAtMend, mended, head_at, parts_then, hand_then, driver_mended}
-use Rattle.mended_heads.proofs.Content.{all_on}
-use Rattle.mended_heads.proofs.Lent.{not_iso, queue_placed}
-use Rattle.mended_heads.proofs.Queues.{leaves_met}
-use Rattle.released_queues.specs.Fronts.{FrontsStand}
-use Rattle.standing_fronts.specs.Reaching.{Reaches}
-use Rattle.control_queues.specs.Controls.{ControlsStand}
+use Rattle.driver_laws.specs.fed_queues.Places.{IsMet}
+use Rattle.walked_queues.specs.fed_lends.Commands.{QueuesStand}
+use Rattle.walked_queues.specs.mended_heads.Owed.{IsOwed}
+use Rattle.walked_queues.specs.mended_heads.Mended.{IsAtMend, mended, head_at, parts_then, hand_then, driver_mended}
+use Rattle.walked_queues.proofs.lemmas.mended_heads.Content.{all_on}
+use Rattle.walked_queues.proofs.lemmas.mended_heads.Lent.{not_iso, queue_placed}
+use Rattle.walked_queues.proofs.lemmas.mended_heads.Queues.{leaves_met}
+use Rattle.walked_queues.specs.released_queues.Fronts.{FrontsStand}
+use Rattle.walked_queues.specs.standing_fronts.Reaching.{Reaches}
+use Rattle.stream_worlds.specs.control_queues.Controls.{ControlsStand}
 use Rattle.described_parts.specs.Both.{owns, both}
 use Rattle.described_parts.specs.Meeting.{met}
 use Rattle.described_parts.proofs.Standing.{both_off}
 use Rattle.described_parts.proofs.Telling.{queue_off}
-use Rattle.framed_memory.specs.Now.{FramedNext}
-use Rattle.framed_memory.proofs.LeavingUnmet.{ring_unmet}
-use Rattle.queued_drivers.specs.Queued.{with_queue, queued_endpoint, queued, queued_parts}
-use Rattle.queued_drivers.specs.Rows.{IsToldAlike}
-use Rattle.queued_drivers.proofs.RowEvents.{idle_told}
-use Rattle.queued_drivers.proofs.RowLists.{queue_told, IsMapped, mapped}
-use Rattle.queue_events.specs.Events.{PartsStand}
-use Rattle.lent_fronts.proofs.Parts.{member_head}
+use Rattle.mixed_worlds.specs.framed_memory.Now.{FramedNext}
+use Rattle.mixed_worlds.proofs.lemmas.framed_memory.LeavingUnmet.{ring_unmet}
+use Rattle.frame_laws.specs.queued_drivers.Queued.{with_queue, queued_endpoint, queued, queued_parts}
+use Rattle.frame_laws.specs.queued_drivers.Rows.{IsToldAlike}
+use Rattle.frame_laws.proofs.lemmas.queued_drivers.RowEvents.{idle_told}
+use Rattle.frame_laws.proofs.lemmas.queued_drivers.RowLists.{queue_told, IsMapped, mapped}
+use Rattle.list_laws.specs.queue_events.Events.{PartsStand}
+use Rattle.driven_queues.proofs.lemmas.lent_fronts.Parts.{member_head}
 use Rattle.bus_world.specs.World.{World, controller_parts, driver_parts, driver_next}
 use Rattle.mixed_worlds.specs.Mixed.{Standing, IsMixedAt, IsMixedWorld}
 use Rattle.mixed_worlds.specs.Laws.{RowKeepsMixed}

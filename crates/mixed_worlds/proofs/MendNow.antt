@@ -10,24 +10,24 @@ use Rattle.driver_rows.specs.declared.rows.DriverRow.{DriverRow}
 use Rattle.driver_rows.specs.declared.rows.DriverRow.TheVariants as rows
 use Rattle.driver_rows.specs.DriverContent.{DriverContent}
 use Rattle.driver_rows.specs.Rows.{Parts, after_driver_row}
-use Rattle.run_owners.specs.Owners.{views_of}
+use Rattle.driver_laws.specs.run_owners.Owners.{views_of}
 use Rattle.hc_core.specs.Controller.{Content, walk_place}
-use Rattle.lent_structures.specs.Structures.{Structure, QueueHead, Table, Structures, StructureSets, Holds}
-use Rattle.lent_structures.specs.Changes.{Changes}
-use Rattle.lent_structures.proofs.Names.{put_beside}
-use Rattle.lent_structures.proofs.Standing.{holds_still}
-use Rattle.lent_structures.proofs.Writing.{word_changes}
+use Rattle.ring_laws.specs.lent_structures.Structures.{Structure, QueueHead, Table, Structures, StructureSets, Holds}
+use Rattle.ring_laws.specs.lent_structures.Changes.{Changes}
+use Rattle.ring_laws.proofs.lemmas.lent_structures.Names.{put_beside}
+use Rattle.ring_laws.proofs.lemmas.lent_structures.Standing.{holds_still}
+use Rattle.ring_laws.proofs.lemmas.lent_structures.Writing.{word_changes}
 use Rattle.ring_laws.specs.Hand.{Hand, Empty}
 use Rattle.ring_laws.specs.Ring.{Base}
 use Rattle.ring_laws.specs.Stores.{hand_stale}
-use Rattle.controlled_streams.specs.Control.{FrameList}
+use Rattle.walked_queues.specs.controlled_streams.Control.{FrameList}
 use Rattle.driver_laws.specs.Driven.{DrivesRing}
 use Rattle.driver_laws.specs.Extents.{AreInRuns}
 use Rattle.driver_laws.proofs.Extending.{extents_stay, head_put}
 use Rattle.driver_laws.proofs.Storing.{store_made}
-use Rattle.in_place.specs.InPlace.{IsInPlace}
-use Rattle.in_place.proofs.Laws.{event_in_place}
-use Rattle.shared_memory.specs.Shared.{parts_of}
+use Rattle.driver_laws.specs.in_place.InPlace.{IsInPlace}
+use Rattle.driver_laws.proofs.lemmas.in_place.Laws.{event_in_place}
+use Rattle.walked_queues.specs.shared_memory.Shared.{parts_of}
 use Rattle.frame_walk.specs.Met.{Kind, AQueue, IsMetQueue}
 use Rattle.frame_walk.specs.FrameHand.{FrameHand}
 use Rattle.described_parts.specs.Described.{AreHeld}
@@ -39,12 +39,12 @@ use Rattle.described_parts.proofs.Others.{rows_told}
 use Rattle.described_parts.proofs.Rings.{ring_of_queues, list_of_queues}
 use Rattle.described_parts.proofs.Standing.{found_on}
 use Rattle.described_parts.proofs.Telling.{queue_off, queue_found, descriptor_found}
-use Rattle.framed_memory.specs.Now.{IsFramedNow, FramedNext}
-use Rattle.framed_memory.proofs.Now.{RowLeaves, next_now, told_now}
-use Rattle.mended_heads.specs.Owed.{store_by, store_due}
-use Rattle.mended_heads.specs.Mended.{mended, IsAtMend, head_at, parts_then, hand_then}
-use Rattle.mended_heads.proofs.Row.{mend_leaves_ring}
-use Rattle.framed_memory.proofs.Moving.{queues_move, StaysSound}
+use Rattle.mixed_worlds.specs.framed_memory.Now.{IsFramedNow, FramedNext}
+use Rattle.mixed_worlds.proofs.lemmas.framed_memory.Now.{RowLeaves, next_now, told_now}
+use Rattle.walked_queues.specs.mended_heads.Owed.{store_by, store_due}
+use Rattle.walked_queues.specs.mended_heads.Mended.{mended, IsAtMend, head_at, parts_then, hand_then}
+use Rattle.walked_queues.proofs.lemmas.mended_heads.Row.{mend_leaves_ring}
+use Rattle.mixed_worlds.proofs.lemmas.framed_memory.Moving.{queues_move, StaysSound}
 
 -- the store is into the first block of the queue head
 queue_of : (q b made : ℕ) → (store_by q b made).queue ≡ q

@@ -12,39 +12,39 @@ use Rattle.run_book.specs.declared.slots.Slot.TheVariants.{Empty, Keeps, Lends}
 use Rattle.driver_rows.specs.declared.content.Endpoint.{Endpoint}
 use Rattle.driver_rows.specs.DriverContent.{DriverContent}
 use Rattle.driver_rows.specs.Rows.{Parts}
-use Rattle.endpoint_lives.specs.Lives.{told_end}
-use Rattle.run_owners.specs.Owners.{Dummy, runs_of_endpoint}
-use Rattle.run_owners.specs.Kept.{HasOwners}
-use Rattle.run_owners.proofs.Runs.{placed_run}
-use Rattle.lent_runs.specs.Lent.{AreLent, IsLent as IsLentSlot}
-use Rattle.lent_runs.proofs.Laws.{idle_lent}
-use Rattle.lent_structures.specs.Structures.{QueueHead, Structures, StructureSets}
-use Rattle.lent_structures.specs.Sound.{IsElement, IsSoundQueue}
-use Rattle.lent_structures.proofs.Altering.{found_queue}
+use Rattle.driver_laws.specs.endpoint_lives.Lives.{told_end}
+use Rattle.driver_laws.specs.run_owners.Owners.{Dummy, runs_of_endpoint}
+use Rattle.driver_laws.specs.run_owners.Kept.{HasOwners}
+use Rattle.driver_laws.proofs.lemmas.run_owners.Runs.{placed_run}
+use Rattle.driver_laws.specs.lent_runs.Lent.{AreLent, IsLent as IsLentSlot}
+use Rattle.driver_laws.proofs.lemmas.lent_runs.Laws.{idle_lent}
+use Rattle.ring_laws.specs.lent_structures.Structures.{QueueHead, Structures, StructureSets}
+use Rattle.ring_laws.specs.lent_structures.Sound.{IsElement, IsSoundQueue}
+use Rattle.ring_laws.proofs.lemmas.lent_structures.Altering.{found_queue}
 use Rattle.ring_laws.specs.Front.{HasFront}
 use Rattle.ring_laws.specs.Told.{Endpoint as Told}
 use Rattle.driver_laws.specs.Inventory.{IsLent}
 use Rattle.frame_walk.specs.Met.{IsQueuePart}
-use Rattle.chained_transfers.specs.AsynchronousTurns.{AsynchronousTakesTurns}
-use Rattle.chained_transfers.specs.Turns.{Turn, turn_of, turn_in, IsNext, AreReportedTo}
-use Rattle.chained_transfers.proofs.BulkAndControl.{not_iso}
-use Rattle.fed_queues.specs.Places.{IsMet}
-use Rattle.fed_lends.specs.Commands.{QueuesStand}
-use Rattle.fed_harvests.specs.Harvests.{IsLike}
-use Rattle.fed_harvests.proofs.Like.{like_stands}
-use Rattle.released_queues.specs.Fronts.{piece_address, StandsAt, FrontsStand}
-use Rattle.standing_fronts.specs.Reaching.{Reaches}
-use Rattle.publish_laws.proofs.Apart.{queue_placed, queues_same, thirty_two}
-use Rattle.mended_heads.specs.Owed.{IsOwed, GoesOnAt}
-use Rattle.mended_heads.specs.Waiting.{AreAllPublished}
-use Rattle.mended_heads.specs.Mended.{IsAtMend, parts_then, driver_mended}
-use Rattle.mended_heads.proofs.Mending.{halted_idle}
-use Rattle.mended_heads.proofs.Row.{mend_row}
-use Rattle.mended_heads.proofs.Queues.{leaves_front, leaves_passed, leaves_met, leaves_ends, leaves_fed, leaves_last, leaves_out}
-use Rattle.control_queues.specs.Controls.{ControlsStand}
-use Rattle.control_queues.proofs.Beside.{same_keep_controls}
-use Rattle.control_queues.proofs.Heads.{mend_keeps_controls}
-use Rattle.queue_events.specs.Events.{PartsStand}
+use Rattle.driver_laws.specs.chained_transfers.AsynchronousTurns.{AsynchronousTakesTurns}
+use Rattle.driver_laws.specs.chained_transfers.Turns.{Turn, turn_of, turn_in, IsNext, AreReportedTo}
+use Rattle.driver_laws.proofs.lemmas.chained_transfers.BulkAndControl.{not_iso}
+use Rattle.driver_laws.specs.fed_queues.Places.{IsMet}
+use Rattle.walked_queues.specs.fed_lends.Commands.{QueuesStand}
+use Rattle.driven_queues.specs.fed_harvests.Harvests.{IsLike}
+use Rattle.driven_queues.proofs.lemmas.fed_harvests.Like.{like_stands}
+use Rattle.walked_queues.specs.released_queues.Fronts.{piece_address, StandsAt, FrontsStand}
+use Rattle.walked_queues.specs.standing_fronts.Reaching.{Reaches}
+use Rattle.driven_queues.proofs.lemmas.publish_laws.Apart.{queue_placed, queues_same, thirty_two}
+use Rattle.walked_queues.specs.mended_heads.Owed.{IsOwed, GoesOnAt}
+use Rattle.walked_queues.specs.mended_heads.Waiting.{AreAllPublished}
+use Rattle.walked_queues.specs.mended_heads.Mended.{IsAtMend, parts_then, driver_mended}
+use Rattle.walked_queues.proofs.lemmas.mended_heads.Mending.{halted_idle}
+use Rattle.walked_queues.proofs.lemmas.mended_heads.Row.{mend_row}
+use Rattle.walked_queues.proofs.lemmas.mended_heads.Queues.{leaves_front, leaves_passed, leaves_met, leaves_ends, leaves_fed, leaves_last, leaves_out}
+use Rattle.stream_worlds.specs.control_queues.Controls.{ControlsStand}
+use Rattle.stream_worlds.proofs.lemmas.control_queues.Beside.{same_keep_controls}
+use Rattle.stream_worlds.proofs.lemmas.control_queues.Heads.{mend_keeps_controls}
+use Rattle.list_laws.specs.queue_events.Events.{PartsStand}
 use Rattle.mixed_worlds.proofs.MendOnward.{ends_before, pieces_before}
 use Rattle.mixed_worlds.proofs.MendTurned.{turned, turned_parts}
 

@@ -22,21 +22,21 @@ use Rattle.driver_rows.specs.declared.rows.DriverRow.TheVariants as rows
 use Rattle.driver_rows.specs.DriverContent.{DriverContent}
 use Rattle.driver_rows.specs.Words.{is_control}
 use Rattle.driver_rows.specs.Rows.{Parts, is_iso, first_row, turn_row, row_for, driver_row}
-use Rattle.endpoint_lives.specs.Lives.{told_end}
-use Rattle.run_owners.specs.Owners.{is_descriptor, views_of}
-use Rattle.run_owners.specs.Kept.{HasOwners}
-use Rattle.lent_runs.specs.Lent.{AreLent}
-use Rattle.lent_structures.specs.Structures.{StructureSets}
+use Rattle.driver_laws.specs.endpoint_lives.Lives.{told_end}
+use Rattle.driver_laws.specs.run_owners.Owners.{is_descriptor, views_of}
+use Rattle.driver_laws.specs.run_owners.Kept.{HasOwners}
+use Rattle.driver_laws.specs.lent_runs.Lent.{AreLent}
+use Rattle.ring_laws.specs.lent_structures.Structures.{StructureSets}
 use Rattle.driver_laws.specs.Inventory.{sorts_of, IsDriven}
-use Rattle.chained_transfers.specs.AsynchronousTurns.{AsynchronousTakesTurns}
-use Rattle.mended_heads.specs.Owed.{StalledQueue, GoesOnAt, IsOwed}
-use Rattle.mended_heads.specs.Waiting.{Waits, MendsStand}
-use Rattle.mended_heads.specs.Mended.{IsAtMend}
-use Rattle.mended_heads.proofs.Content.{KeepFirsts, goes_on_still, any_one, alike_same}
-use Rattle.mended_heads.proofs.Row.{mend_is_due}
-use Rattle.control_queues.proofs.Alike.{mends_by}
-use Rattle.queued_drivers.specs.Queued.{queued_kind, with_queue, queued_endpoint, queued_transfer, queued, IsOfWay, QueuesTakeTurns}
-use Rattle.queued_drivers.proofs.RowLists.{queue_told, none_told, transfer_told, descriptor_told, IsMapped, mapped}
+use Rattle.driver_laws.specs.chained_transfers.AsynchronousTurns.{AsynchronousTakesTurns}
+use Rattle.walked_queues.specs.mended_heads.Owed.{StalledQueue, GoesOnAt, IsOwed}
+use Rattle.walked_queues.specs.mended_heads.Waiting.{Waits, MendsStand}
+use Rattle.walked_queues.specs.mended_heads.Mended.{IsAtMend}
+use Rattle.walked_queues.proofs.lemmas.mended_heads.Content.{KeepFirsts, goes_on_still, any_one, alike_same}
+use Rattle.walked_queues.proofs.lemmas.mended_heads.Row.{mend_is_due}
+use Rattle.stream_worlds.proofs.lemmas.control_queues.Alike.{mends_by}
+use Rattle.frame_laws.specs.queued_drivers.Queued.{queued_kind, with_queue, queued_endpoint, queued_transfer, queued, IsOfWay, QueuesTakeTurns}
+use Rattle.frame_laws.proofs.lemmas.queued_drivers.RowLists.{queue_told, none_told, transfer_told, descriptor_told, IsMapped, mapped}
 
 -- ---- turns
 

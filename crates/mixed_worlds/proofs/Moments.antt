@@ -5,8 +5,8 @@ use Rattle.script_types.specs.declared.scripts.Line.{Line}
 use Rattle.script_types.specs.declared.scripts.Line.TheVariants as lines
 use Rattle.script_types.specs.declared.scripts.Script.{Script}
 use Rattle.usb_bus.specs.Bus.{fixed_of}
-use Rattle.receiving_runs.specs.Runs.{KindOfLine, IsKeptBy}
-use Rattle.receiving_runs.proofs.Runs.{holds_throughout}
+use Rattle.told_streams.specs.receiving_runs.Runs.{KindOfLine, IsKeptBy}
+use Rattle.told_streams.proofs.lemmas.receiving_runs.Runs.{holds_throughout}
 use Rattle.mixed_worlds.specs.Mixed.{IsMixedWorld}
 use Rattle.mixed_worlds.specs.Laws.{OpensMixed, NewWorldIsMixed, ControllerKeepsMixed, DriverKeepsMixed, CommandKeepsMixed}
 use Rattle.mixed_worlds.specs.PlacedLaws.{MixedLine, ScriptsStayMixed}

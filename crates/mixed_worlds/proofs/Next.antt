@@ -1,14 +1,14 @@
 -- The next world is mixed, where its memory and its queues are so for some standing, and what its unfinished command has still to lend stands: each event of the driver keeps the rest.
-use Rattle.run_owners.specs.Kept.{HasOwners}
+use Rattle.driver_laws.specs.run_owners.Kept.{HasOwners}
 use Rattle.driver_laws.specs.PartOpened.{opening_base}
-use Rattle.fed_queues.specs.Places.{AreMet}
-use Rattle.queued_drivers.specs.Queued.{queued}
-use Rattle.queued_drivers.proofs.RowTurns.{rows_keep}
-use Rattle.framed_memory.specs.Now.{IsFramedNow}
-use Rattle.framed_memory.proofs.Awaiting.{events_await}
-use Rattle.framed_memory.proofs.Masking.{events_masked}
-use Rattle.framed_memory.proofs.Numbering.{event_numbered}
-use Rattle.controlled_walks.proofs.Worlds.{driver_walks}
+use Rattle.driver_laws.specs.fed_queues.Places.{AreMet}
+use Rattle.frame_laws.specs.queued_drivers.Queued.{queued}
+use Rattle.frame_laws.proofs.lemmas.queued_drivers.RowTurns.{rows_keep}
+use Rattle.mixed_worlds.specs.framed_memory.Now.{IsFramedNow}
+use Rattle.mixed_worlds.proofs.lemmas.framed_memory.Awaiting.{events_await}
+use Rattle.mixed_worlds.proofs.lemmas.framed_memory.Masking.{events_masked}
+use Rattle.mixed_worlds.proofs.lemmas.framed_memory.Numbering.{event_numbered}
+use Rattle.stream_worlds.proofs.lemmas.controlled_walks.Worlds.{driver_walks}
 use Rattle.driver_rows.specs.Rows.{Parts}
 use Rattle.bus_world.specs.World.{World, driver_parts, controller_parts, driver_next}
 use Rattle.mixed_worlds.specs.Mixed.{QueuesGoOn, IsUnderWay, Standing, IsMixedAt, IsMixedWorld}

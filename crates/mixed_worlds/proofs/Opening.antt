@@ -7,15 +7,15 @@ use Rattle.ring_laws.specs.Hand.{Empty}
 use Rattle.ring_laws.specs.Told.{endpoint_of}
 use Rattle.frame_walk.specs.FrameHand.{Nothing}
 use Rattle.described_parts.specs.Meeting.{no_recent}
-use Rattle.queued_drivers.proofs.RowTurns.{new_driver_queues}
-use Rattle.controlled_walks.proofs.Worlds.{new_walks}
-use Rattle.framed_memory.proofs.Now.{new_now}
-use Rattle.framed_memory.proofs.Awaiting.{new_awaits}
-use Rattle.framed_memory.proofs.Masking.{new_masked}
-use Rattle.framed_memory.proofs.Numbering.{new_numbered}
+use Rattle.frame_laws.proofs.lemmas.queued_drivers.RowTurns.{new_driver_queues}
+use Rattle.stream_worlds.proofs.lemmas.controlled_walks.Worlds.{new_walks}
+use Rattle.mixed_worlds.proofs.lemmas.framed_memory.Now.{new_now}
+use Rattle.mixed_worlds.proofs.lemmas.framed_memory.Awaiting.{new_awaits}
+use Rattle.mixed_worlds.proofs.lemmas.framed_memory.Masking.{new_masked}
+use Rattle.mixed_worlds.proofs.lemmas.framed_memory.Numbering.{new_numbered}
 use Rattle.bus_world.specs.Rooms.{reserve_of}
 use Rattle.bus_world.specs.Opening.{opening_world}
-use Rattle.world_bytes.proofs.Turning.{opened_bytes}
+use Rattle.stream_worlds.proofs.lemmas.world_bytes.Turning.{opened_bytes}
 use Rattle.mixed_worlds.specs.Laws.{NewWorldIsMixed}
 
 pub new_world_is_mixed : NewWorldIsMixed

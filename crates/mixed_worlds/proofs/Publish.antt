@@ -2,8 +2,8 @@
 use Rattle.std.proofs.Common.{◌≡◌, ℕ, ◌≤◌, List, Option, Some, subst, ⊎_elim}
 use Rattle.driver_rows.specs.declared.content.Command.{Command}
 use Rattle.driver_rows.specs.declared.content.Command.TheVariants as unfinished
-use Rattle.fed_lends.specs.ToLend.{IsToBeLent}
-use Rattle.queued_drivers.specs.Queued.{queued}
+use Rattle.walked_queues.specs.fed_lends.ToLend.{IsToBeLent}
+use Rattle.frame_laws.specs.queued_drivers.Queued.{queued}
 use Rattle.bus_world.specs.World.{World, driver_next}
 use Rattle.mixed_worlds.specs.Mixed.{IsUnderWay, Standing, IsMixedAt, IsMixedWorld}
 use Rattle.mixed_worlds.proofs.PublishLent.{publish_lent}

@@ -8,31 +8,31 @@ use Rattle.driver_rows.specs.declared.content.Command.TheVariants as unfinished
 use Rattle.driver_rows.specs.declared.content.Transfer.{Transfer}
 use Rattle.driver_rows.specs.DriverContent.{DriverContent}
 use Rattle.driver_rows.specs.Rows.{Parts as DriverParts}
-use Rattle.run_owners.specs.Owners.{NoteRuns, note_in}
-use Rattle.chained_transfers.specs.Out.{out_of, out_now}
-use Rattle.lent_structures.specs.Structures.{Element, StructureSets}
-use Rattle.lent_structures.proofs.Names.{put_beside}
+use Rattle.driver_laws.specs.run_owners.Owners.{NoteRuns, note_in}
+use Rattle.driver_laws.specs.chained_transfers.Out.{out_of, out_now}
+use Rattle.ring_laws.specs.lent_structures.Structures.{Element, StructureSets}
+use Rattle.ring_laws.proofs.lemmas.lent_structures.Names.{put_beside}
 use Rattle.ring_laws.specs.Front.{LinksRise}
 use Rattle.ring_laws.specs.Halted.{HaltStops, IsOutBeside}
 use Rattle.ring_laws.specs.Order.{IsSorted, IsAmong}
 use Rattle.ring_laws.specs.Told.{Endpoint as Told}
 use Rattle.ring_laws.proofs.HaltSparing.{store_keeps}
 use Rattle.driver_laws.specs.Published.{partly}
-use Rattle.controlled_streams.specs.Storing.{LeadsLater}
-use Rattle.controlled_streams.proofs.Storing.{element_found}
-use Rattle.controlled_streams.proofs.Streams.{out_here, out_beside}
-use Rattle.fed_queues.specs.Fed.{IsPublished}
-use Rattle.fed_queues.specs.Places.{IsMet}
-use Rattle.fed_queues.proofs.Places.{stands_met}
-use Rattle.mended_heads.specs.Owed.{StalledQueue}
-use Rattle.mended_heads.specs.Standing.{KeepsHalted}
-use Rattle.mended_heads.proofs.Content.{any_one, OwesAlike, alike_same, owed_on}
-use Rattle.mended_heads.proofs.Standing.{stand_on, store_keeps as store_keeps_halted}
-use Rattle.publish_laws.specs.Stores.{parts_then, out_then, next_of}
-use Rattle.publish_laws.proofs.Linked.{partly_later}
-use Rattle.control_queues.specs.Controls.{ControlsStand}
-use Rattle.control_queues.proofs.Alike.{ThereAlike, near_there, stand_by}
-use Rattle.control_queues.proofs.Lists.{among_with, others_differ, part_sorted, one_less}
+use Rattle.walked_queues.specs.controlled_streams.Storing.{LeadsLater}
+use Rattle.walked_queues.proofs.lemmas.controlled_streams.Storing.{element_found}
+use Rattle.walked_queues.proofs.lemmas.controlled_streams.Streams.{out_here, out_beside}
+use Rattle.driver_laws.specs.fed_queues.Fed.{IsPublished}
+use Rattle.driver_laws.specs.fed_queues.Places.{IsMet}
+use Rattle.driver_laws.proofs.lemmas.fed_queues.Places.{stands_met}
+use Rattle.walked_queues.specs.mended_heads.Owed.{StalledQueue}
+use Rattle.walked_queues.specs.mended_heads.Standing.{KeepsHalted}
+use Rattle.walked_queues.proofs.lemmas.mended_heads.Content.{any_one, OwesAlike, alike_same, owed_on}
+use Rattle.walked_queues.proofs.lemmas.mended_heads.Standing.{stand_on, store_keeps as store_keeps_halted}
+use Rattle.driven_queues.specs.publish_laws.Stores.{parts_then, out_then, next_of}
+use Rattle.driven_queues.proofs.lemmas.publish_laws.Linked.{partly_later}
+use Rattle.stream_worlds.specs.control_queues.Controls.{ControlsStand}
+use Rattle.stream_worlds.proofs.lemmas.control_queues.Alike.{ThereAlike, near_there, stand_by}
+use Rattle.stream_worlds.proofs.lemmas.control_queues.Lists.{among_with, others_differ, part_sorted, one_less}
 use Rattle.mixed_worlds.proofs.PublishStores.{IsStoring, published_by}
 use Rattle.mixed_worlds.proofs.PublishStores as storing
 

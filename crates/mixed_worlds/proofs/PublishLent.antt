@@ -9,28 +9,28 @@ use Rattle.driver_rows.specs.declared.rows.DriverRow.{DriverRow}
 use Rattle.driver_rows.specs.declared.rows.DriverRow.TheVariants as rows
 use Rattle.driver_rows.specs.DriverContent.{DriverContent}
 use Rattle.driver_rows.specs.Rows.{Parts as DriverParts, events_of, links, row_for, command_row, linked_on, finished, advanced_by, advance, driver_row, after_driver_row}
-use Rattle.run_owners.specs.Kept.{HasOwners}
-use Rattle.run_owners.specs.Owners.{runs_of_endpoint, runs_of_transfer}
-use Rattle.lent_structures.specs.Structures.{Structures, StructureSets}
+use Rattle.driver_laws.specs.run_owners.Kept.{HasOwners}
+use Rattle.driver_laws.specs.run_owners.Owners.{runs_of_endpoint, runs_of_transfer}
+use Rattle.ring_laws.specs.lent_structures.Structures.{Structures, StructureSets}
 use Rattle.ring_laws.proofs.Joining.{all_beside}
 use Rattle.driver_laws.specs.Inventory.{sorts_of}
 use Rattle.driver_laws.specs.PartOpened.{opening_base}
 use Rattle.driver_laws.specs.TransferLaws.{lent_driver, items_of}
 use Rattle.frame_walk.specs.Met.{IsQueuePart}
-use Rattle.fed_lends.specs.ToLend.{IsToBeLent, lent_now}
-use Rattle.fed_lends.proofs.Reports.{it_is_met}
-use Rattle.fed_lends.proofs.Row.{lend_is, met_on}
-use Rattle.fed_queues.specs.Places.{IsMet, AreMet}
-use Rattle.lent_fronts.specs.Stands.{parts_with, LeavesQueues}
-use Rattle.lent_fronts.proofs.Row.{lend_stands, lend_is_asked}
-use Rattle.control_queues.proofs.Lends.{lend_keeps_queues}
-use Rattle.queue_events.specs.Events.{PartsStand}
-use Rattle.released_queues.specs.Fronts.{FrontsStand}
-use Rattle.framed_memory.specs.Now.{IsFramedNow}
-use Rattle.framed_memory.proofs.TransferLends.{lend_transfer_now}
-use Rattle.queued_drivers.specs.Queued.{queued, queued_parts, queued_made}
-use Rattle.queued_drivers.specs.Rows.{IsToldAlike}
-use Rattle.queued_drivers.proofs.RowOwners.{queued_owners, queued_lent}
+use Rattle.walked_queues.specs.fed_lends.ToLend.{IsToBeLent, lent_now}
+use Rattle.walked_queues.proofs.lemmas.fed_lends.Reports.{it_is_met}
+use Rattle.walked_queues.proofs.lemmas.fed_lends.Row.{lend_is, met_on}
+use Rattle.driver_laws.specs.fed_queues.Places.{IsMet, AreMet}
+use Rattle.driven_queues.specs.lent_fronts.Stands.{parts_with, LeavesQueues}
+use Rattle.driven_queues.proofs.lemmas.lent_fronts.Row.{lend_stands, lend_is_asked}
+use Rattle.stream_worlds.proofs.lemmas.control_queues.Lends.{lend_keeps_queues}
+use Rattle.list_laws.specs.queue_events.Events.{PartsStand}
+use Rattle.walked_queues.specs.released_queues.Fronts.{FrontsStand}
+use Rattle.mixed_worlds.specs.framed_memory.Now.{IsFramedNow}
+use Rattle.mixed_worlds.proofs.lemmas.framed_memory.TransferLends.{lend_transfer_now}
+use Rattle.frame_laws.specs.queued_drivers.Queued.{queued, queued_parts, queued_made}
+use Rattle.frame_laws.specs.queued_drivers.Rows.{IsToldAlike}
+use Rattle.frame_laws.proofs.lemmas.queued_drivers.RowOwners.{queued_owners, queued_lent}
 use Rattle.bus_world.specs.World.{World, driver_parts, controller_parts, driver_next}
 use Rattle.mixed_worlds.specs.Mixed.{QueuesGoOn, IsUnderWay, Standing, IsMixedAt, IsMixedWorld}
 use Rattle.mixed_worlds.proofs.Next.{mixed_next}

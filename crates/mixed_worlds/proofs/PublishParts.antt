@@ -5,10 +5,10 @@ use Rattle.qh_qtd.specs.declared.qtd.Qtd.{Qtd}
 use Rattle.qh_qtd.specs.declared.queue_head.Qh.{Qh}
 use Rattle.qh_qtd.specs.Qtd.{IsQtdInRange}
 use Rattle.driver_rows.specs.Words.{dummy_qtd}
-use Rattle.lent_structures.specs.Structures.{QueueHead, Element, Buffer, Structures, with_structure}
-use Rattle.lent_structures.specs.Sound.{element_pages, buffer_name, IsSoundElement, AreOwn}
-use Rattle.lent_structures.proofs.Names.{with_here, with_there}
-use Rattle.lent_structures.proofs.Altering.{same_element, found_element, no_two}
+use Rattle.ring_laws.specs.lent_structures.Structures.{QueueHead, Element, Buffer, Structures, with_structure}
+use Rattle.ring_laws.specs.lent_structures.Sound.{element_pages, buffer_name, IsSoundElement, AreOwn}
+use Rattle.ring_laws.proofs.lemmas.lent_structures.Names.{with_here, with_there}
+use Rattle.ring_laws.proofs.lemmas.lent_structures.Altering.{same_element, found_element, no_two}
 use Rattle.ring_laws.specs.Stores.{IsBuffer, IsUnnamed}
 use Rattle.ring_laws.proofs.Parting.{Spans, sound_spanned, queue_spanned, found_with}
 use Rattle.driver_laws.specs.Published.{partly, IsPublishable}

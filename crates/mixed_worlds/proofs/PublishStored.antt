@@ -8,26 +8,26 @@ use Rattle.driver_rows.specs.declared.content.Command.TheVariants as unfinished
 use Rattle.driver_rows.specs.declared.rows.DriverRow.{DriverRow}
 use Rattle.driver_rows.specs.DriverContent.{DriverContent}
 use Rattle.driver_rows.specs.Rows.{Parts as DriverParts, links, driver_row, after_driver_row}
-use Rattle.run_owners.specs.Due.{IsDue, IsNextOf, IsLinkOf}
-use Rattle.run_owners.specs.Kept.{HasOwners}
-use Rattle.lent_structures.specs.Structures.{Element, Structures, StructureSets, with_structure}
-use Rattle.lent_structures.proofs.Names.{put_here, put_beside}
+use Rattle.driver_laws.specs.run_owners.Due.{IsDue, IsNextOf, IsLinkOf}
+use Rattle.driver_laws.specs.run_owners.Kept.{HasOwners}
+use Rattle.ring_laws.specs.lent_structures.Structures.{Element, Structures, StructureSets, with_structure}
+use Rattle.ring_laws.proofs.lemmas.lent_structures.Names.{put_here, put_beside}
 use Rattle.driver_laws.specs.PartOpened.{opening_base}
 use Rattle.driver_laws.specs.Published.{partly, publish_row, IsPublishable}
-use Rattle.publish_laws.specs.Publishing.{IsBeingPublished}
-use Rattle.publish_laws.proofs.Rows.{counted, row_is, after_is}
-use Rattle.publish_laws.specs.Stores.{parts_then, out_then, next_of}
-use Rattle.controlled_streams.specs.Storing.{stored_parts}
+use Rattle.driven_queues.specs.publish_laws.Publishing.{IsBeingPublished}
+use Rattle.driven_queues.proofs.lemmas.publish_laws.Rows.{counted, row_is, after_is}
+use Rattle.driven_queues.specs.publish_laws.Stores.{parts_then, out_then, next_of}
+use Rattle.walked_queues.specs.controlled_streams.Storing.{stored_parts}
 use Rattle.frame_walk.specs.Met.{IsQueuePart}
-use Rattle.fed_queues.specs.Fed.{IsPublished}
-use Rattle.fed_queues.specs.Places.{AreMet}
-use Rattle.fed_queues.proofs.Places.{same_ends, met_stays}
-use Rattle.queue_events.specs.Events.{PartsStand}
-use Rattle.framed_memory.specs.Now.{IsFramedNow, FramedNext}
-use Rattle.framed_memory.proofs.Publishing.{publish_now}
-use Rattle.queued_drivers.specs.Queued.{queued, queued_parts, queued_command, queued_made}
-use Rattle.queued_drivers.specs.Rows.{IsToldAlike}
-use Rattle.queued_drivers.proofs.RowOwners.{queued_owners, queued_lent}
+use Rattle.driver_laws.specs.fed_queues.Fed.{IsPublished}
+use Rattle.driver_laws.specs.fed_queues.Places.{AreMet}
+use Rattle.driver_laws.proofs.lemmas.fed_queues.Places.{same_ends, met_stays}
+use Rattle.list_laws.specs.queue_events.Events.{PartsStand}
+use Rattle.mixed_worlds.specs.framed_memory.Now.{IsFramedNow, FramedNext}
+use Rattle.mixed_worlds.proofs.lemmas.framed_memory.Publishing.{publish_now}
+use Rattle.frame_laws.specs.queued_drivers.Queued.{queued, queued_parts, queued_command, queued_made}
+use Rattle.frame_laws.specs.queued_drivers.Rows.{IsToldAlike}
+use Rattle.frame_laws.proofs.lemmas.queued_drivers.RowOwners.{queued_owners, queued_lent}
 use Rattle.bus_world.specs.World.{World, driver_parts, controller_parts, driver_next}
 use Rattle.mixed_worlds.specs.Mixed.{QueuesGoOn, IsUnderWay, Standing, IsMixedAt, IsMixedWorld}
 use Rattle.mixed_worlds.proofs.Unfinished.{none_unfinished}

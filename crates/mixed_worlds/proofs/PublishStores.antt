@@ -9,34 +9,34 @@ use Rattle.driver_rows.specs.declared.content.Command.{Command}
 use Rattle.driver_rows.specs.declared.content.Command.TheVariants as unfinished
 use Rattle.driver_rows.specs.DriverContent.{DriverContent}
 use Rattle.driver_rows.specs.Rows.{Parts as DriverParts}
-use Rattle.run_owners.specs.Kept.{HasOwners}
-use Rattle.run_owners.specs.Owners.{Dummy, Element as PieceOf, NoteRuns, IsPlaced, runs_of_transfer, note_in}
-use Rattle.lent_runs.specs.Lent.{AreLent}
-use Rattle.lent_structures.specs.Structures.{Element, StructureSets}
+use Rattle.driver_laws.specs.run_owners.Kept.{HasOwners}
+use Rattle.driver_laws.specs.run_owners.Owners.{Dummy, Element as PieceOf, NoteRuns, IsPlaced, runs_of_transfer, note_in}
+use Rattle.driver_laws.specs.lent_runs.Lent.{AreLent}
+use Rattle.ring_laws.specs.lent_structures.Structures.{Element, StructureSets}
 use Rattle.ring_laws.specs.Told.{Endpoint as Told}
 use Rattle.ring_laws.specs.Order.{IsSorted}
 use Rattle.driver_laws.specs.Inventory.{IsLent}
 use Rattle.driver_laws.specs.Published.{partly}
-use Rattle.publish_laws.specs.Publishing.{IsBeingPublished}
-use Rattle.publish_laws.proofs.Rows.{counted, after_is}
-use Rattle.controlled_streams.specs.Storing.{LeadsLater, with_out, stored_parts}
-use Rattle.controlled_streams.proofs.Storing.{element_found}
-use Rattle.controlled_streams.proofs.Streams.{out_here, out_beside}
-use Rattle.chained_transfers.specs.Asynchronous.{StandsAsynchronous}
-use Rattle.chained_transfers.specs.AsynchronousTurns.{AsynchronousTakesTurns}
-use Rattle.chained_transfers.specs.Chains.{piece_at}
-use Rattle.chained_transfers.specs.Out.{out_of, out_now}
-use Rattle.endpoint_lives.specs.Lives.{may_meet}
-use Rattle.fed_lends.specs.Commands.{QueuesStand}
-use Rattle.fed_queues.specs.Fed.{IsPublished}
-use Rattle.fed_queues.specs.Places.{IsMet, IsLast, AreLast, AreStillOut, IsThere}
-use Rattle.publish_laws.specs.Stores.{parts_then, out_then, next_of}
-use Rattle.publish_laws.proofs.Outs.{IsNewest, IsSplit, split_out, other_out, same_out}
-use Rattle.publish_laws.proofs.Apart.{dummy_placed, queue_placed, piece_placed, dummy_apart, pieces_apart, queues_same, thirty_two, all_lent}
-use Rattle.publish_laws.proofs.Linked.{sorted_after, end_is, piece_later, leads_later}
-use Rattle.publish_laws.proofs.Feeding.{IsHere, more, done, fed_more, fed_done}
-use Rattle.fed_queues.proofs.Places.{SameQueues, same_ends, stands_met, met_stays, streams_stay}
-use Rattle.chained_transfers.proofs.Staying.{stands_alive}
+use Rattle.driven_queues.specs.publish_laws.Publishing.{IsBeingPublished}
+use Rattle.driven_queues.proofs.lemmas.publish_laws.Rows.{counted, after_is}
+use Rattle.walked_queues.specs.controlled_streams.Storing.{LeadsLater, with_out, stored_parts}
+use Rattle.walked_queues.proofs.lemmas.controlled_streams.Storing.{element_found}
+use Rattle.walked_queues.proofs.lemmas.controlled_streams.Streams.{out_here, out_beside}
+use Rattle.driver_laws.specs.chained_transfers.Asynchronous.{StandsAsynchronous}
+use Rattle.driver_laws.specs.chained_transfers.AsynchronousTurns.{AsynchronousTakesTurns}
+use Rattle.driver_laws.specs.chained_transfers.Chains.{piece_at}
+use Rattle.driver_laws.specs.chained_transfers.Out.{out_of, out_now}
+use Rattle.driver_laws.specs.endpoint_lives.Lives.{may_meet}
+use Rattle.walked_queues.specs.fed_lends.Commands.{QueuesStand}
+use Rattle.driver_laws.specs.fed_queues.Fed.{IsPublished}
+use Rattle.driver_laws.specs.fed_queues.Places.{IsMet, IsLast, AreLast, AreStillOut, IsThere}
+use Rattle.driven_queues.specs.publish_laws.Stores.{parts_then, out_then, next_of}
+use Rattle.driven_queues.proofs.lemmas.publish_laws.Outs.{IsNewest, IsSplit, split_out, other_out, same_out}
+use Rattle.driven_queues.proofs.lemmas.publish_laws.Apart.{dummy_placed, queue_placed, piece_placed, dummy_apart, pieces_apart, queues_same, thirty_two, all_lent}
+use Rattle.driven_queues.proofs.lemmas.publish_laws.Linked.{sorted_after, end_is, piece_later, leads_later}
+use Rattle.driven_queues.proofs.lemmas.publish_laws.Feeding.{IsHere, more, done, fed_more, fed_done}
+use Rattle.driver_laws.proofs.lemmas.fed_queues.Places.{SameQueues, same_ends, stands_met, met_stays, streams_stay}
+use Rattle.driver_laws.proofs.lemmas.chained_transfers.Staying.{stands_alive}
 use Rattle.mixed_worlds.proofs.Unfinished.{none_unfinished}
 
 -- the qTD was lent, and not all of its words are stored

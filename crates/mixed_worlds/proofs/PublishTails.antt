@@ -11,14 +11,14 @@ use Rattle.driver_rows.specs.declared.content.Command.TheVariants as unfinished
 use Rattle.driver_rows.specs.DriverContent.{DriverContent}
 use Rattle.driver_rows.specs.Rows.{Parts as DriverParts}
 use Rattle.driver_rows.specs.Words.{dummy_qtd}
-use Rattle.run_owners.specs.Owners.{NoteRuns, note_in}
-use Rattle.lent_structures.specs.Structures.{Element, Structures, StructureSets}
-use Rattle.lent_structures.proofs.Names.{not_same, put_same, put_beside}
+use Rattle.driver_laws.specs.run_owners.Owners.{NoteRuns, note_in}
+use Rattle.ring_laws.specs.lent_structures.Structures.{Element, Structures, StructureSets}
+use Rattle.ring_laws.proofs.lemmas.lent_structures.Names.{not_same, put_same, put_beside}
 use Rattle.link_words.specs.declared.kinds.QtdLink.{QtdLink}
 use Rattle.link_words.specs.declared.kinds.QtdLink.TheVariants as qtd_links
 use Rattle.link_words.specs.Links.{qtd_link_of}
-use Rattle.lent_structures.specs.Sound.{IsElement, LeadsOn}
-use Rattle.lent_structures.proofs.Altering.{found_element}
+use Rattle.ring_laws.specs.lent_structures.Sound.{IsElement, LeadsOn}
+use Rattle.ring_laws.proofs.lemmas.lent_structures.Altering.{found_element}
 use Rattle.frame_walk.specs.Met.{IsQueuePart}
 use Rattle.ring_laws.specs.Told.{Endpoint as Told}
 use Rattle.ring_laws.specs.Order.{IsFresh, IsAmong}
@@ -26,20 +26,20 @@ use Rattle.ring_laws.specs.Front.{LinksWithin}
 use Rattle.driver_laws.specs.Inventory.{IsLent}
 use Rattle.driver_laws.specs.Published.{partly}
 use Rattle.driver_laws.proofs.Publishing.{idle}
-use Rattle.controlled_streams.specs.Storing.{with_out, stored_parts}
-use Rattle.controlled_streams.proofs.Storing.{out_apart}
-use Rattle.controlled_streams.proofs.Streams.{out_here, out_beside}
-use Rattle.chained_transfers.specs.Out.{out_of, out_now}
-use Rattle.endpoint_lives.specs.Lives.{may_meet}
-use Rattle.fed_lends.specs.Commands.{QueuesStand}
-use Rattle.fed_queues.specs.Fed.{IsPublished}
-use Rattle.fed_queues.specs.Places.{IsMet, IsLast}
-use Rattle.standing_fronts.specs.Reaching.{Reaches}
-use Rattle.standing_fronts.proofs.Reaching.{reaches_idle_store, reaches_last_store}
-use Rattle.publish_laws.specs.Stores.{parts_then, out_then, next_of}
-use Rattle.publish_laws.proofs.Outs.{IsSplit, same_out}
-use Rattle.publish_laws.proofs.Apart.{queue_placed, queues_same, thirty_two}
-use Rattle.standing_fronts.specs.Tails.{tail_block, tail_of, TailsStand}
+use Rattle.walked_queues.specs.controlled_streams.Storing.{with_out, stored_parts}
+use Rattle.walked_queues.proofs.lemmas.controlled_streams.Storing.{out_apart}
+use Rattle.walked_queues.proofs.lemmas.controlled_streams.Streams.{out_here, out_beside}
+use Rattle.driver_laws.specs.chained_transfers.Out.{out_of, out_now}
+use Rattle.driver_laws.specs.endpoint_lives.Lives.{may_meet}
+use Rattle.walked_queues.specs.fed_lends.Commands.{QueuesStand}
+use Rattle.driver_laws.specs.fed_queues.Fed.{IsPublished}
+use Rattle.driver_laws.specs.fed_queues.Places.{IsMet, IsLast}
+use Rattle.walked_queues.specs.standing_fronts.Reaching.{Reaches}
+use Rattle.walked_queues.proofs.lemmas.standing_fronts.Reaching.{reaches_idle_store, reaches_last_store}
+use Rattle.driven_queues.specs.publish_laws.Stores.{parts_then, out_then, next_of}
+use Rattle.driven_queues.proofs.lemmas.publish_laws.Outs.{IsSplit, same_out}
+use Rattle.driven_queues.proofs.lemmas.publish_laws.Apart.{queue_placed, queues_same, thirty_two}
+use Rattle.walked_queues.specs.standing_fronts.Tails.{tail_block, tail_of, TailsStand}
 use Rattle.mixed_worlds.proofs.PublishStores.{IsStoring, published_by, made_is, below, one_more, finished, by_store, met_now, met_still}
 use Rattle.mixed_worlds.proofs.PublishStores as storing
 

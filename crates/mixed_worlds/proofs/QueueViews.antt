@@ -6,12 +6,12 @@ use Rattle.driver_rows.specs.declared.content.Endpoint.{Endpoint}
 use Rattle.driver_rows.specs.declared.content.Transfer.{Transfer}
 use Rattle.driver_rows.specs.DriverContent.{DriverContent}
 use Rattle.driver_rows.specs.Rows.{is_iso}
-use Rattle.run_owners.specs.Owners.{EndpointRuns, TransferRuns, runs_of_endpoint, runs_of_transfer, endpoint_in, transfer_in, is_descriptor, views_of}
+use Rattle.driver_laws.specs.run_owners.Owners.{EndpointRuns, TransferRuns, runs_of_endpoint, runs_of_transfer, endpoint_in, transfer_in, is_descriptor, views_of}
 use Rattle.driver_laws.specs.Inventory.{Sort, Inventory, AreTold, IsQueueIn, IsTransferIn, IsDriverOwned, the_list, the_head, a_queue, a_dummy, a_piece, a_buffer, IsDriven}
-use Rattle.lent_structures.specs.Structures.{StructureSets, Tells}
-use Rattle.queued_drivers.specs.Queued.{queued_kind, queued_endpoint, queued_transfer, queued}
-use Rattle.queued_drivers.proofs.CommandFields.{of_queue, of_none, kind_in_ring, ring_queue}
-use Rattle.queued_drivers.proofs.RowLists.{transfer_told, descriptor_told}
+use Rattle.ring_laws.specs.lent_structures.Structures.{StructureSets, Tells}
+use Rattle.frame_laws.specs.queued_drivers.Queued.{queued_kind, queued_endpoint, queued_transfer, queued}
+use Rattle.frame_laws.proofs.lemmas.queued_drivers.CommandFields.{of_queue, of_none, kind_in_ring, ring_queue}
+use Rattle.frame_laws.proofs.lemmas.queued_drivers.RowLists.{transfer_told, descriptor_told}
 use Rattle.word_mem.specs.Memory.{Mem}
 use Rattle.driver_rows.specs.declared.content.Stage.{Stage}
 use Rattle.driver_laws.specs.Extents.{AreInRuns}

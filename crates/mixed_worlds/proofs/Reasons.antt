@@ -14,7 +14,7 @@ use Rattle.hc_core.specs.declared.controller.HcStep.TheVariants as steps
 use Rattle.hc_core.specs.declared.controller.MicroframePart.{MicroframePart}
 use Rattle.hc_core.specs.declared.controller.MicroframePart.TheVariants.{Over, Periodic, Asynchronous}
 use Rattle.hc_core.specs.Controller.{Content, part_row, enter_row, ring_row, hc_step, kind_of, walk_place, walk_step, entered, HasRow}
-use Rattle.lent_structures.specs.Structures.{StructureSets}
+use Rattle.ring_laws.specs.lent_structures.Structures.{StructureSets}
 use Rattle.ring_laws.specs.Hand.{Hand, Empty}
 use Rattle.ring_laws.specs.Ring.{Base, IsRing, base_of}
 use Rattle.ring_laws.specs.Effects.{Effect, reads, passes, ends, takes, makes, writes_back, AreBytesHeard}
@@ -24,7 +24,7 @@ use Rattle.driver_laws.specs.PartOpened.{opening_base}
 use Rattle.described_parts.specs.Both.{both}
 use Rattle.stream_worlds.specs.Streaming.{begins_by, transacts_by, wired}
 use Rattle.stream_worlds.proofs.StreamTurning.{world_has_row}
-use Rattle.world_bytes.proofs.Hearing.{hears_bytes}
+use Rattle.stream_worlds.proofs.lemmas.world_bytes.Hearing.{hears_bytes}
 use Rattle.usb_bus.specs.Bus.{Fixed, fixed_of}
 use Rattle.bus_world.specs.World.{World, controller_parts, controller_row, controller_next, kind_next}
 use Rattle.bus_world.specs.Budgets.{moment}

@@ -8,11 +8,11 @@ use Rattle.driver_rows.specs.declared.rows.DriverRow.{DriverRow}
 use Rattle.driver_rows.specs.declared.rows.DriverRow.TheVariants as rows
 use Rattle.driver_rows.specs.DriverContent.{DriverContent}
 use Rattle.driver_rows.specs.Rows.{Parts, is_iso, driver_row, after_driver_row, after_transfer, freed_by}
-use Rattle.run_owners.specs.Owners.{is_descriptor, runs_of_endpoint}
-use Rattle.run_owners.specs.Leaving.{owes}
-use Rattle.run_owners.specs.Due.{IsTransferDue}
-use Rattle.run_owners.specs.Kept.{HasOwners}
-use Rattle.lent_structures.specs.Structures.{QueueHead, Element, StructureSets}
+use Rattle.driver_laws.specs.run_owners.Owners.{is_descriptor, runs_of_endpoint}
+use Rattle.driver_laws.specs.run_owners.Leaving.{owes}
+use Rattle.driver_laws.specs.run_owners.Due.{IsTransferDue}
+use Rattle.driver_laws.specs.run_owners.Kept.{HasOwners}
+use Rattle.ring_laws.specs.lent_structures.Structures.{QueueHead, Element, StructureSets}
 use Rattle.ring_laws.specs.Fewer.{without_those}
 use Rattle.ring_laws.specs.Halted.{HaltStops}
 use Rattle.ring_laws.specs.Order.{IsAmong}
@@ -20,29 +20,29 @@ use Rattle.ring_laws.proofs.HaltSparing.{halt_spared}
 use Rattle.ring_laws.proofs.Returning.{those_found}
 use Rattle.driver_laws.specs.PartOpened.{opening_base}
 use Rattle.driver_laws.specs.Released.{goes_of, IsToGo}
-use Rattle.controlled_streams.specs.Returned.{staying, staying_of}
-use Rattle.chained_transfers.proofs.Holding.{held_alive}
+use Rattle.walked_queues.specs.controlled_streams.Returned.{staying, staying_of}
+use Rattle.driver_laws.proofs.lemmas.chained_transfers.Holding.{held_alive}
 use Rattle.frame_walk.specs.Met.{IsQueuePart}
-use Rattle.fed_queues.specs.Places.{IsMet, AreMet}
-use Rattle.fed_queues.proofs.Places.{SameQueues, same_ends, life_back, met_as, met_stays}
-use Rattle.fed_lends.specs.Commands.{QueuesStand}
-use Rattle.mended_heads.specs.Waiting.{MendsStand}
-use Rattle.mended_heads.proofs.Rows.{gives_back, given_mends, given_owes_none}
-use Rattle.released_queues.specs.Released.{IsReturning}
-use Rattle.released_queues.specs.Staying.{QueuesAreTold, ReleaseLeaves}
-use Rattle.released_queues.proofs.Fewer.{fewer_rise}
-use Rattle.released_queues.proofs.Releasing.{release_keeps_met}
-use Rattle.released_queues.proofs.Staying.{release_stays}
-use Rattle.released_queues.specs.Fronts.{FrontsStand}
-use Rattle.standing_fronts.proofs.Lists.{times_some}
-use Rattle.control_queues.specs.Controls.{ControlsStand}
-use Rattle.control_queues.proofs.Alike.{same_there, stand_by}
-use Rattle.control_queues.proofs.Lists.{IsPart, all_part, staying_part, part_among, part_sorted}
-use Rattle.framed_memory.proofs.Releasing.{release_transfer_now}
-use Rattle.queued_drivers.specs.Queued.{with_queue, queued, queued_parts}
-use Rattle.queued_drivers.specs.Rows.{IsToldAlike}
-use Rattle.queued_drivers.proofs.RowLists.{queue_at, moves_at}
-use Rattle.queue_events.specs.Events.{PartsStand}
+use Rattle.driver_laws.specs.fed_queues.Places.{IsMet, AreMet}
+use Rattle.driver_laws.proofs.lemmas.fed_queues.Places.{SameQueues, same_ends, life_back, met_as, met_stays}
+use Rattle.walked_queues.specs.fed_lends.Commands.{QueuesStand}
+use Rattle.walked_queues.specs.mended_heads.Waiting.{MendsStand}
+use Rattle.walked_queues.proofs.lemmas.mended_heads.Rows.{gives_back, given_mends, given_owes_none}
+use Rattle.walked_queues.specs.released_queues.Released.{IsReturning}
+use Rattle.walked_queues.specs.released_queues.Staying.{QueuesAreTold, ReleaseLeaves}
+use Rattle.walked_queues.proofs.lemmas.released_queues.Fewer.{fewer_rise}
+use Rattle.walked_queues.proofs.lemmas.released_queues.Releasing.{release_keeps_met}
+use Rattle.walked_queues.proofs.lemmas.released_queues.Staying.{release_stays}
+use Rattle.walked_queues.specs.released_queues.Fronts.{FrontsStand}
+use Rattle.walked_queues.proofs.lemmas.standing_fronts.Lists.{times_some}
+use Rattle.stream_worlds.specs.control_queues.Controls.{ControlsStand}
+use Rattle.stream_worlds.proofs.lemmas.control_queues.Alike.{same_there, stand_by}
+use Rattle.stream_worlds.proofs.lemmas.control_queues.Lists.{IsPart, all_part, staying_part, part_among, part_sorted}
+use Rattle.mixed_worlds.proofs.lemmas.framed_memory.Releasing.{release_transfer_now}
+use Rattle.frame_laws.specs.queued_drivers.Queued.{with_queue, queued, queued_parts}
+use Rattle.frame_laws.specs.queued_drivers.Rows.{IsToldAlike}
+use Rattle.frame_laws.proofs.lemmas.queued_drivers.RowLists.{queue_at, moves_at}
+use Rattle.list_laws.specs.queue_events.Events.{PartsStand}
 use Rattle.described_parts.proofs.Returning.{owed_by}
 use Rattle.bus_world.specs.World.{World, controller_parts, driver_parts, driver_next}
 use Rattle.mixed_worlds.specs.Mixed.{Standing, IsMixedAt, IsMixedWorld}

@@ -14,45 +14,45 @@ use Rattle.driver_rows.specs.declared.rows.DriverRow.TheVariants as rows
 use Rattle.driver_rows.specs.DriverContent.{DriverContent}
 use Rattle.driver_rows.specs.Words.{head_block}
 use Rattle.driver_rows.specs.Rows.{Parts, is_iso, is_told, cancel_told, gone_with, removed_with, free_endpoint, free_placed, after_endpoint, after_placed, driver_row, after_driver_row}
-use Rattle.run_owners.specs.Due.{IsRemovalDue}
-use Rattle.run_owners.specs.Kept.{HasOwners}
-use Rattle.run_owners.specs.Leaving.{leaves_ring}
-use Rattle.run_owners.proofs.Leaves.{first_removed}
-use Rattle.run_owners.proofs.Orders.{IsRemoved}
-use Rattle.run_owners.proofs.Released.{set_here, set_there, cancel_same}
-use Rattle.endpoint_lives.specs.Lives.{is_one_of, may_meet}
-use Rattle.endpoint_lives.proofs.Lives.{met_alike}
-use Rattle.lent_structures.specs.Structures.{StructureSets}
+use Rattle.driver_laws.specs.run_owners.Due.{IsRemovalDue}
+use Rattle.driver_laws.specs.run_owners.Kept.{HasOwners}
+use Rattle.driver_laws.specs.run_owners.Leaving.{leaves_ring}
+use Rattle.driver_laws.proofs.lemmas.run_owners.Leaves.{first_removed}
+use Rattle.driver_laws.proofs.lemmas.run_owners.Orders.{IsRemoved}
+use Rattle.driver_laws.proofs.lemmas.run_owners.Released.{set_here, set_there, cancel_same}
+use Rattle.driver_laws.specs.endpoint_lives.Lives.{is_one_of, may_meet}
+use Rattle.driver_laws.proofs.lemmas.endpoint_lives.Lives.{met_alike}
+use Rattle.ring_laws.specs.lent_structures.Structures.{StructureSets}
 use Rattle.ring_laws.specs.Front.{LinksRise}
 use Rattle.ring_laws.specs.Halted.{HaltStops}
 use Rattle.ring_laws.specs.Told.{Endpoint as Told}
 use Rattle.driver_laws.specs.PartOpened.{opening_base}
-use Rattle.chained_transfers.specs.AsynchronousTurns.{AsynchronousTakesTurns}
+use Rattle.driver_laws.specs.chained_transfers.AsynchronousTurns.{AsynchronousTakesTurns}
 use Rattle.described_parts.proofs.GivenRow.{row_is_given_back}
-use Rattle.fed_lends.proofs.Asked.{set_which}
-use Rattle.fed_queues.specs.Places.{IsThere, IsMet, HasHead, AreMet, HaveStreams}
+use Rattle.walked_queues.proofs.lemmas.fed_lends.Asked.{set_which}
+use Rattle.driver_laws.specs.fed_queues.Places.{IsThere, IsMet, HasHead, AreMet, HaveStreams}
 use Rattle.frame_walk.specs.Met.{IsQueuePart}
-use Rattle.framed_memory.specs.Now.{FramedNext}
-use Rattle.endpoint_releases.specs.Released.{without_queue, IsToLeave}
-use Rattle.endpoint_releases.proofs.Owning.{queue_beside}
-use Rattle.framed_memory.proofs.Leaving.{endpoint_leaves_now}
-use Rattle.leaving_drivers.specs.Before.{WasSame, UnlinksAtMost, IsAsBefore, NearFewer}
-use Rattle.left_queues.specs.Standing.{IdleTailsStand, AllStand, met_streams}
-use Rattle.left_queues.proofs.Returned.{endpoint_release_stands}
-use Rattle.left_queues.proofs.Same.{fed_now, last_now, still_out_now, fronts_now, tails_now}
-use Rattle.left_queues.proofs.Unmet.{times_one, apart_by, off_head_by}
-use Rattle.mended_heads.proofs.Rows.{gives_back, given_mends, given_owes_none}
-use Rattle.standing_fronts.specs.Reaching.{Reaches}
-use Rattle.standing_fronts.specs.Tails.{tail_block}
-use Rattle.queue_events.specs.Events.{PartsStand}
-use Rattle.control_queues.specs.Controls.{ControlsStand}
-use Rattle.queued_drivers.specs.Queued.{with_queue, queued, queued_parts}
-use Rattle.queued_drivers.specs.Rows.{QueuesAlike, out_by, out_of_frames, IsGivenBackAlike}
-use Rattle.queued_drivers.proofs.RowEvents.{idle_told}
-use Rattle.queued_drivers.proofs.RowLists.{queue_at}
-use Rattle.queued_drivers.proofs.RowOwners.{queued_owners}
-use Rattle.queued_drivers.proofs.RowRemovals.{goes_back}
-use Rattle.listed_members.proofs.Unchaining.{elsewhere_on, elsewhere_test}
+use Rattle.mixed_worlds.specs.framed_memory.Now.{FramedNext}
+use Rattle.stream_worlds.specs.endpoint_releases.Released.{without_queue, IsToLeave}
+use Rattle.stream_worlds.proofs.lemmas.endpoint_releases.Owning.{queue_beside}
+use Rattle.mixed_worlds.proofs.lemmas.framed_memory.Leaving.{endpoint_leaves_now}
+use Rattle.driven_queues.specs.leaving_drivers.Before.{WasSame, UnlinksAtMost, IsAsBefore, NearFewer}
+use Rattle.stream_worlds.specs.left_queues.Standing.{IdleTailsStand, AllStand, met_streams}
+use Rattle.stream_worlds.proofs.lemmas.left_queues.Returned.{endpoint_release_stands}
+use Rattle.stream_worlds.proofs.lemmas.left_queues.Same.{fed_now, last_now, still_out_now, fronts_now, tails_now}
+use Rattle.stream_worlds.proofs.lemmas.left_queues.Unmet.{times_one, apart_by, off_head_by}
+use Rattle.walked_queues.proofs.lemmas.mended_heads.Rows.{gives_back, given_mends, given_owes_none}
+use Rattle.walked_queues.specs.standing_fronts.Reaching.{Reaches}
+use Rattle.walked_queues.specs.standing_fronts.Tails.{tail_block}
+use Rattle.list_laws.specs.queue_events.Events.{PartsStand}
+use Rattle.stream_worlds.specs.control_queues.Controls.{ControlsStand}
+use Rattle.frame_laws.specs.queued_drivers.Queued.{with_queue, queued, queued_parts}
+use Rattle.frame_laws.specs.queued_drivers.Rows.{QueuesAlike, out_by, out_of_frames, IsGivenBackAlike}
+use Rattle.frame_laws.proofs.lemmas.queued_drivers.RowEvents.{idle_told}
+use Rattle.frame_laws.proofs.lemmas.queued_drivers.RowLists.{queue_at}
+use Rattle.frame_laws.proofs.lemmas.queued_drivers.RowOwners.{queued_owners}
+use Rattle.frame_laws.proofs.lemmas.queued_drivers.RowRemovals.{goes_back}
+use Rattle.driver_laws.proofs.lemmas.listed_members.Unchaining.{elsewhere_on, elsewhere_test}
 use Rattle.bus_world.specs.World.{World, driver_parts, controller_parts, driver_next}
 use Rattle.mixed_worlds.specs.Mixed.{QueuesGoOn, IsUnderWay, Standing, IsMixedAt, IsMixedWorld}
 use Rattle.mixed_worlds.proofs.Unfinished.{none_unfinished}

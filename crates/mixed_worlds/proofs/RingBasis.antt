@@ -7,17 +7,17 @@ use Rattle.driver_rows.specs.declared.content.Transfer.{Transfer}
 use Rattle.driver_rows.specs.declared.rows.DriverRow.{DriverRow}
 use Rattle.driver_rows.specs.DriverContent.{DriverContent}
 use Rattle.driver_rows.specs.Rows.{Parts, is_iso, driver_row, after_driver_row}
-use Rattle.run_owners.specs.Owners.{TransferRuns, runs_of_transfer, views_of}
-use Rattle.run_owners.specs.Due.{IsDue}
-use Rattle.run_owners.specs.Kept.{HasOwners}
-use Rattle.run_owners.proofs.Reasons.{each_is_due}
-use Rattle.endpoint_lives.specs.Lives.{may_meet}
-use Rattle.endpoint_lives.proofs.Lives.{IsNear, in_ring, has_left, is_rung, met_where}
-use Rattle.ring_members.proofs.Placed.{in_ring_alive, left_alive, left_ring, linked_alive}
-use Rattle.queued_drivers.specs.Queued.{with_queue, queued_transfer, queued, queued_parts}
-use Rattle.queued_drivers.specs.Rows.{IsOfQueues, IsToldAlike}
-use Rattle.queued_drivers.proofs.RowEvents.{row_told}
-use Rattle.reached_rings.proofs.Computing.{one_among}
+use Rattle.driver_laws.specs.run_owners.Owners.{TransferRuns, runs_of_transfer, views_of}
+use Rattle.driver_laws.specs.run_owners.Due.{IsDue}
+use Rattle.driver_laws.specs.run_owners.Kept.{HasOwners}
+use Rattle.driver_laws.proofs.lemmas.run_owners.Reasons.{each_is_due}
+use Rattle.driver_laws.specs.endpoint_lives.Lives.{may_meet}
+use Rattle.driver_laws.proofs.lemmas.endpoint_lives.Lives.{IsNear, in_ring, has_left, is_rung, met_where}
+use Rattle.driver_laws.proofs.lemmas.ring_members.Placed.{in_ring_alive, left_alive, left_ring, linked_alive}
+use Rattle.frame_laws.specs.queued_drivers.Queued.{with_queue, queued_transfer, queued, queued_parts}
+use Rattle.frame_laws.specs.queued_drivers.Rows.{IsOfQueues, IsToldAlike}
+use Rattle.frame_laws.proofs.lemmas.queued_drivers.RowEvents.{row_told}
+use Rattle.driven_queues.proofs.lemmas.reached_rings.Computing.{one_among}
 use Rattle.bus_world.specs.World.{World, driver_parts, driver_next}
 use Rattle.mixed_worlds.specs.Mixed.{Standing, IsMixedAt}
 use Rattle.mixed_worlds.proofs.QueueViews.{end_same}

@@ -8,29 +8,29 @@ use Rattle.driver_rows.specs.declared.rows.DriverRow.TheVariants as rows
 use Rattle.driver_rows.specs.DriverContent.{DriverContent}
 use Rattle.driver_rows.specs.Rows.{Parts, driver_row, after_driver_row}
 use Rattle.driver_rows.specs.Words.{head_block}
-use Rattle.endpoint_lives.specs.Lives.{any_at, is_one_of}
-use Rattle.endpoint_lives.proofs.Lives.{any_there, there_any}
-use Rattle.run_owners.specs.Kept.{HasOwners}
+use Rattle.driver_laws.specs.endpoint_lives.Lives.{any_at, is_one_of}
+use Rattle.driver_laws.proofs.lemmas.endpoint_lives.Lives.{any_there, there_any}
+use Rattle.driver_laws.specs.run_owners.Kept.{HasOwners}
 use Rattle.ring_laws.specs.Stores.{IsWider}
 use Rattle.driver_laws.specs.PartOpened.{opening_base}
-use Rattle.chained_transfers.specs.AsynchronousTurns.{AsynchronousTakesTurns}
-use Rattle.fed_queues.specs.Places.{IsMet, HasHead, AreMet}
-use Rattle.mended_heads.proofs.Content.{any_one, alike_same, owed_on}
-use Rattle.mended_heads.proofs.Standing.{stand_on, keeps_same}
-use Rattle.reached_rings.specs.Reaching.{may_reach, is_reached}
-use Rattle.leaving_drivers.specs.Before.{IsAsBefore, NearFewer}
-use Rattle.leaving_drivers.proofs.Alike.{there_by}
-use Rattle.leaving_drivers.proofs.Leaving.{clear_as_before}
-use Rattle.left_queues.specs.Standing.{met_streams, AllStand}
-use Rattle.left_queues.proofs.Clearing.{clear_stands}
-use Rattle.control_queues.specs.Controls.{ControlsStand}
-use Rattle.control_queues.proofs.Alike.{near_there, stand_still}
-use Rattle.queue_events.specs.Events.{PartsStand}
-use Rattle.framed_memory.specs.Now.{FramedNext}
-use Rattle.framed_memory.proofs.LeavingRing.{clear_narrows_now}
-use Rattle.queued_drivers.specs.Queued.{queued, queued_parts}
-use Rattle.queued_drivers.proofs.RowEvents.{idle_told}
-use Rattle.queued_drivers.proofs.RowOwners.{queued_owners}
+use Rattle.driver_laws.specs.chained_transfers.AsynchronousTurns.{AsynchronousTakesTurns}
+use Rattle.driver_laws.specs.fed_queues.Places.{IsMet, HasHead, AreMet}
+use Rattle.walked_queues.proofs.lemmas.mended_heads.Content.{any_one, alike_same, owed_on}
+use Rattle.walked_queues.proofs.lemmas.mended_heads.Standing.{stand_on, keeps_same}
+use Rattle.driven_queues.specs.reached_rings.Reaching.{may_reach, is_reached}
+use Rattle.driven_queues.specs.leaving_drivers.Before.{IsAsBefore, NearFewer}
+use Rattle.driven_queues.proofs.lemmas.leaving_drivers.Alike.{there_by}
+use Rattle.driven_queues.proofs.lemmas.leaving_drivers.Leaving.{clear_as_before}
+use Rattle.stream_worlds.specs.left_queues.Standing.{met_streams, AllStand}
+use Rattle.stream_worlds.proofs.lemmas.left_queues.Clearing.{clear_stands}
+use Rattle.stream_worlds.specs.control_queues.Controls.{ControlsStand}
+use Rattle.stream_worlds.proofs.lemmas.control_queues.Alike.{near_there, stand_still}
+use Rattle.list_laws.specs.queue_events.Events.{PartsStand}
+use Rattle.mixed_worlds.specs.framed_memory.Now.{FramedNext}
+use Rattle.mixed_worlds.proofs.lemmas.framed_memory.LeavingRing.{clear_narrows_now}
+use Rattle.frame_laws.specs.queued_drivers.Queued.{queued, queued_parts}
+use Rattle.frame_laws.proofs.lemmas.queued_drivers.RowEvents.{idle_told}
+use Rattle.frame_laws.proofs.lemmas.queued_drivers.RowOwners.{queued_owners}
 use Rattle.bus_world.specs.World.{World, driver_parts, controller_parts, driver_next}
 use Rattle.mixed_worlds.specs.Mixed.{QueuesGoOn, IsUnderWay, Standing, IsMixedAt, IsMixedWorld}
 use Rattle.mixed_worlds.specs.Laws.{RowKeepsMixed}

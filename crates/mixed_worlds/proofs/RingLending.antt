@@ -9,29 +9,29 @@ use Rattle.driver_rows.specs.declared.rows.DriverRow.TheVariants as rows
 use Rattle.driver_rows.specs.DriverContent.{DriverContent}
 use Rattle.driver_rows.specs.Rows.{Parts, is_iso, row_for, command_row, driver_row}
 use Rattle.driver_rows.specs.Words.{queue_head, dummy_qtd}
-use Rattle.run_owners.specs.Kept.{HasOwners}
-use Rattle.run_owners.specs.Owners.{runs_of_endpoint, views_of}
-use Rattle.ring_members.proofs.Placed.{linked_alive}
-use Rattle.lent_structures.specs.Structures.{QueueHead, Element, Structures, StructureSets, put}
-use Rattle.lent_structures.proofs.Names.{put_beside}
+use Rattle.driver_laws.specs.run_owners.Kept.{HasOwners}
+use Rattle.driver_laws.specs.run_owners.Owners.{runs_of_endpoint, views_of}
+use Rattle.driver_laws.proofs.lemmas.ring_members.Placed.{linked_alive}
+use Rattle.ring_laws.specs.lent_structures.Structures.{QueueHead, Element, Structures, StructureSets, put}
+use Rattle.ring_laws.proofs.lemmas.lent_structures.Names.{put_beside}
 use Rattle.driver_laws.specs.Inventory.{sorts_of, IsDriven}
 use Rattle.driver_laws.specs.LendOpened.{IsOpened}
 use Rattle.driver_laws.specs.PartOpened.{opening_base}
-use Rattle.chained_transfers.specs.AsynchronousTurns.{AsynchronousTakesTurns}
-use Rattle.publish_laws.proofs.Apart.{thirty_two}
-use Rattle.open_laws.specs.Lends.{IsOpenReady, parts_lent}
-use Rattle.open_laws.specs.Queues.{IsOpenToLend, open_lent}
-use Rattle.open_laws.proofs.LentQueues.{open_lend_is_made}
-use Rattle.open_laws.proofs.Newest.{new_heads_rest}
-use Rattle.control_queues.specs.Queues.{IsOpenLentWhole}
-use Rattle.control_queues.proofs.OpenLends.{open_lend_is_whole}
-use Rattle.queue_events.specs.Events.{PartsStand}
+use Rattle.driver_laws.specs.chained_transfers.AsynchronousTurns.{AsynchronousTakesTurns}
+use Rattle.driven_queues.proofs.lemmas.publish_laws.Apart.{thirty_two}
+use Rattle.driven_queues.specs.open_laws.Lends.{IsOpenReady, parts_lent}
+use Rattle.driven_queues.specs.open_laws.Queues.{IsOpenToLend, open_lent}
+use Rattle.driven_queues.proofs.lemmas.open_laws.LentQueues.{open_lend_is_made}
+use Rattle.driven_queues.proofs.lemmas.open_laws.Newest.{new_heads_rest}
+use Rattle.stream_worlds.specs.control_queues.Queues.{IsOpenLentWhole}
+use Rattle.stream_worlds.proofs.lemmas.control_queues.OpenLends.{open_lend_is_whole}
+use Rattle.list_laws.specs.queue_events.Events.{PartsStand}
 use Rattle.frame_walk.specs.Met.{IsQueuePart}
-use Rattle.framed_memory.proofs.RingLinksWaiting.{open_lend_meets, open_lend_now}
-use Rattle.queued_drivers.specs.Queued.{with_queue, queued_command, queued_made, queued, queued_parts}
-use Rattle.queued_drivers.proofs.CommandFields.{ring_queue}
-use Rattle.queued_drivers.proofs.RowLists.{queue_at}
-use Rattle.queued_drivers.proofs.RowOwners.{queued_owners}
+use Rattle.mixed_worlds.proofs.lemmas.framed_memory.RingLinksWaiting.{open_lend_meets, open_lend_now}
+use Rattle.frame_laws.specs.queued_drivers.Queued.{with_queue, queued_command, queued_made, queued, queued_parts}
+use Rattle.frame_laws.proofs.lemmas.queued_drivers.CommandFields.{ring_queue}
+use Rattle.frame_laws.proofs.lemmas.queued_drivers.RowLists.{queue_at}
+use Rattle.frame_laws.proofs.lemmas.queued_drivers.RowOwners.{queued_owners}
 use Rattle.bus_world.specs.World.{World, driver_parts, controller_parts, driver_next}
 use Rattle.mixed_worlds.specs.Mixed.{QueuesGoOn, IsUnderWay, Standing, IsMixedAt, IsMixedWorld}
 use Rattle.mixed_worlds.proofs.Next.{mixed_next}

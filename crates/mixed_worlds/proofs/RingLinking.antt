@@ -12,41 +12,41 @@ use Rattle.driver_rows.specs.declared.rows.DriverRow.TheVariants as rows
 use Rattle.driver_rows.specs.DriverContent.{DriverContent}
 use Rattle.driver_rows.specs.Rows.{Parts, events_of, row_for, command_row, advanced_by, driver_row, after_driver_row}
 use Rattle.driver_rows.specs.Words.{head_block, to_queue_head, queue_head_link, queue_head}
-use Rattle.run_owners.specs.Due.{IsNextOf}
-use Rattle.run_owners.specs.Kept.{HasOwners}
-use Rattle.ring_members.proofs.Placed.{queue_off_head, linked_alive}
-use Rattle.lent_structures.specs.Structures.{QueueHead, Structures, StructureSets}
-use Rattle.lent_structures.specs.Sound.{IsMember}
-use Rattle.lent_structures.proofs.Names.{put_beside}
+use Rattle.driver_laws.specs.run_owners.Due.{IsNextOf}
+use Rattle.driver_laws.specs.run_owners.Kept.{HasOwners}
+use Rattle.driver_laws.proofs.lemmas.ring_members.Placed.{queue_off_head, linked_alive}
+use Rattle.ring_laws.specs.lent_structures.Structures.{QueueHead, Structures, StructureSets}
+use Rattle.ring_laws.specs.lent_structures.Sound.{IsMember}
+use Rattle.ring_laws.proofs.lemmas.lent_structures.Names.{put_beside}
 use Rattle.ring_laws.specs.Told.{Endpoint as Told}
 use Rattle.driver_laws.specs.Linked.{with_member, head_at}
 use Rattle.driver_laws.specs.PartOpened.{opening_base}
-use Rattle.controlled_streams.specs.Opened.{with_end, with_none}
-use Rattle.chained_transfers.specs.AsynchronousTurns.{AsynchronousTakesTurns}
-use Rattle.publish_laws.specs.Stores.{QueuesThen}
-use Rattle.publish_laws.proofs.Apart.{bare_not, thirty_two}
-use Rattle.standing_fronts.specs.Reaching.{Reaches}
-use Rattle.standing_fronts.specs.Tails.{tail_of, TailsStand}
-use Rattle.open_laws.specs.Opens.{IsOpenLent, head_then, hand_then, end_then, streams_then}
-use Rattle.open_laws.specs.Queues.{IsOpenThere, open_finished}
-use Rattle.open_laws.proofs.HeadStores.{head_keeps_queues}
-use Rattle.open_laws.proofs.Newest.{new_heads_rest, queue_and_dummy, new_part}
-use Rattle.open_laws.proofs.Standing.{member_here}
-use Rattle.control_queues.specs.Queues.{IsOpenWhole}
-use Rattle.control_queues.proofs.Opens.{open_is_whole, link_keeps_controls}
-use Rattle.queue_events.specs.Events.{PartsStand}
+use Rattle.walked_queues.specs.controlled_streams.Opened.{with_end, with_none}
+use Rattle.driver_laws.specs.chained_transfers.AsynchronousTurns.{AsynchronousTakesTurns}
+use Rattle.driven_queues.specs.publish_laws.Stores.{QueuesThen}
+use Rattle.driven_queues.proofs.lemmas.publish_laws.Apart.{bare_not, thirty_two}
+use Rattle.walked_queues.specs.standing_fronts.Reaching.{Reaches}
+use Rattle.walked_queues.specs.standing_fronts.Tails.{tail_of, TailsStand}
+use Rattle.driven_queues.specs.open_laws.Opens.{IsOpenLent, head_then, hand_then, end_then, streams_then}
+use Rattle.driven_queues.specs.open_laws.Queues.{IsOpenThere, open_finished}
+use Rattle.driven_queues.proofs.lemmas.open_laws.HeadStores.{head_keeps_queues}
+use Rattle.driven_queues.proofs.lemmas.open_laws.Newest.{new_heads_rest, queue_and_dummy, new_part}
+use Rattle.driven_queues.proofs.lemmas.open_laws.Standing.{member_here}
+use Rattle.stream_worlds.specs.control_queues.Queues.{IsOpenWhole}
+use Rattle.stream_worlds.proofs.lemmas.control_queues.Opens.{open_is_whole, link_keeps_controls}
+use Rattle.list_laws.specs.queue_events.Events.{PartsStand}
 use Rattle.frame_walk.specs.Met.{IsQueuePart}
-use Rattle.framed_memory.specs.Now.{FramedNext}
-use Rattle.framed_memory.specs.Ring.{IsHeadMet}
-use Rattle.framed_memory.proofs.RingLinks.{ring_now}
-use Rattle.framed_memory.proofs.RingLinksMet.{head_is_met, open_link_meets}
-use Rattle.framed_memory.proofs.RingLinksOpen.{open_link_now}
-use Rattle.shared_memory.specs.Shared.{next_parts, after_driver}
-use Rattle.queued_drivers.specs.Queued.{with_queue, queued_command, queued_made, queued, queued_parts}
-use Rattle.queued_drivers.proofs.CommandFields.{ring_queue}
-use Rattle.queued_drivers.proofs.RowLists.{queue_at}
-use Rattle.queued_drivers.proofs.RowOwners.{queued_owners}
-use Rattle.lent_fronts.proofs.Parts.{member_head}
+use Rattle.mixed_worlds.specs.framed_memory.Now.{FramedNext}
+use Rattle.mixed_worlds.specs.framed_memory.Ring.{IsHeadMet}
+use Rattle.mixed_worlds.proofs.lemmas.framed_memory.RingLinks.{ring_now}
+use Rattle.mixed_worlds.proofs.lemmas.framed_memory.RingLinksMet.{head_is_met, open_link_meets}
+use Rattle.mixed_worlds.proofs.lemmas.framed_memory.RingLinksOpen.{open_link_now}
+use Rattle.walked_queues.specs.shared_memory.Shared.{next_parts, after_driver}
+use Rattle.frame_laws.specs.queued_drivers.Queued.{with_queue, queued_command, queued_made, queued, queued_parts}
+use Rattle.frame_laws.proofs.lemmas.queued_drivers.CommandFields.{ring_queue}
+use Rattle.frame_laws.proofs.lemmas.queued_drivers.RowLists.{queue_at}
+use Rattle.frame_laws.proofs.lemmas.queued_drivers.RowOwners.{queued_owners}
+use Rattle.driven_queues.proofs.lemmas.lent_fronts.Parts.{member_head}
 use Rattle.bus_world.specs.World.{World, driver_parts, controller_parts, driver_next}
 use Rattle.mixed_worlds.specs.Mixed.{QueuesGoOn, IsUnderWay, Standing, IsMixedAt, IsMixedWorld}
 use Rattle.mixed_worlds.proofs.Unfinished.{none_unfinished}

@@ -2,8 +2,8 @@
 use Rattle.std.proofs.Common.{◌≡◌, ℕ, Option, Some, subst, ⊎_elim}
 use Rattle.driver_rows.specs.declared.content.Command.{Command}
 use Rattle.driver_rows.specs.declared.content.Command.TheVariants as unfinished
-use Rattle.open_laws.specs.Lends.{IsOpenReady}
-use Rattle.open_laws.specs.Opens.{IsOpenLent}
+use Rattle.driven_queues.specs.open_laws.Lends.{IsOpenReady}
+use Rattle.driven_queues.specs.open_laws.Opens.{IsOpenLent}
 use Rattle.bus_world.specs.World.{World, driver_next}
 use Rattle.mixed_worlds.specs.Mixed.{IsUnderWay, Standing, IsMixedAt, IsMixedWorld}
 use Rattle.mixed_worlds.proofs.RingLending.{lent_next}

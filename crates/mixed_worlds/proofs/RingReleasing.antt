@@ -14,34 +14,34 @@ use Rattle.driver_rows.specs.DriverContent.{DriverContent}
 use Rattle.driver_rows.specs.Harvests.{reported}
 use Rattle.driver_rows.specs.Rows.{Parts, is_told, cancelled_bytes, gone_with, free_endpoint, after_endpoint, first_row, removal_row, bell_row, harvest_row, row_for, driver_row, after_driver_row}
 use Rattle.driver_rows.specs.Words.{head_block}
-use Rattle.endpoint_lives.specs.Lives.{may_meet}
-use Rattle.endpoint_lives.proofs.Lives.{met_alike}
-use Rattle.run_owners.specs.Due.{IsEndpointDue}
-use Rattle.run_owners.specs.Kept.{HasOwners}
-use Rattle.run_owners.proofs.Released.{set_here, set_there}
-use Rattle.ring_members.proofs.Placed.{has_queue, queue_off_head, queues_apart}
-use Rattle.lent_structures.specs.Structures.{Structures, StructureSets}
+use Rattle.driver_laws.specs.endpoint_lives.Lives.{may_meet}
+use Rattle.driver_laws.proofs.lemmas.endpoint_lives.Lives.{met_alike}
+use Rattle.driver_laws.specs.run_owners.Due.{IsEndpointDue}
+use Rattle.driver_laws.specs.run_owners.Kept.{HasOwners}
+use Rattle.driver_laws.proofs.lemmas.run_owners.Released.{set_here, set_there}
+use Rattle.driver_laws.proofs.lemmas.ring_members.Placed.{has_queue, queue_off_head, queues_apart}
+use Rattle.ring_laws.specs.lent_structures.Structures.{Structures, StructureSets}
 use Rattle.driver_laws.specs.PartOpened.{opening_base}
-use Rattle.chained_transfers.specs.AsynchronousTurns.{AsynchronousTakesTurns}
-use Rattle.fed_queues.specs.Places.{IsMet, HasHead, AreMet}
-use Rattle.mended_heads.proofs.Rows.{gives_back, given_owes_none}
-use Rattle.endpoint_releases.specs.Released.{without_queue, IsToLeave, HasLeaver}
-use Rattle.endpoint_releases.proofs.Owning.{queue_beside}
-use Rattle.endpoint_releases.proofs.Releasing.{due_leaves}
-use Rattle.left_queues.specs.Standing.{AllStand}
-use Rattle.left_queues.proofs.Returned.{endpoint_release_stands}
-use Rattle.left_queues.proofs.Unmet.{same_block, apart_by, IsCleared, cleared_is, near_other}
-use Rattle.control_queues.specs.Controls.{ControlsStand}
-use Rattle.control_queues.proofs.Beside.{same_keep_controls}
-use Rattle.control_queues.proofs.Returns.{leaver_keeps_controls}
-use Rattle.queue_events.specs.Events.{PartsStand}
+use Rattle.driver_laws.specs.chained_transfers.AsynchronousTurns.{AsynchronousTakesTurns}
+use Rattle.driver_laws.specs.fed_queues.Places.{IsMet, HasHead, AreMet}
+use Rattle.walked_queues.proofs.lemmas.mended_heads.Rows.{gives_back, given_owes_none}
+use Rattle.stream_worlds.specs.endpoint_releases.Released.{without_queue, IsToLeave, HasLeaver}
+use Rattle.stream_worlds.proofs.lemmas.endpoint_releases.Owning.{queue_beside}
+use Rattle.stream_worlds.proofs.lemmas.endpoint_releases.Releasing.{due_leaves}
+use Rattle.stream_worlds.specs.left_queues.Standing.{AllStand}
+use Rattle.stream_worlds.proofs.lemmas.left_queues.Returned.{endpoint_release_stands}
+use Rattle.stream_worlds.proofs.lemmas.left_queues.Unmet.{same_block, apart_by, IsCleared, cleared_is, near_other}
+use Rattle.stream_worlds.specs.control_queues.Controls.{ControlsStand}
+use Rattle.stream_worlds.proofs.lemmas.control_queues.Beside.{same_keep_controls}
+use Rattle.stream_worlds.proofs.lemmas.control_queues.Returns.{leaver_keeps_controls}
+use Rattle.list_laws.specs.queue_events.Events.{PartsStand}
 use Rattle.frame_walk.specs.Met.{IsQueuePart}
-use Rattle.framed_memory.specs.Now.{FramedNext}
-use Rattle.framed_memory.proofs.LeavingReleased.{endpoint_release_now}
-use Rattle.queued_drivers.specs.Queued.{with_queue, queued, queued_parts}
-use Rattle.queued_drivers.proofs.RowEvents.{idle_told}
-use Rattle.queued_drivers.proofs.RowLists.{queue_at}
-use Rattle.queued_drivers.proofs.RowOwners.{queued_owners}
+use Rattle.mixed_worlds.specs.framed_memory.Now.{FramedNext}
+use Rattle.mixed_worlds.proofs.lemmas.framed_memory.LeavingReleased.{endpoint_release_now}
+use Rattle.frame_laws.specs.queued_drivers.Queued.{with_queue, queued, queued_parts}
+use Rattle.frame_laws.proofs.lemmas.queued_drivers.RowEvents.{idle_told}
+use Rattle.frame_laws.proofs.lemmas.queued_drivers.RowLists.{queue_at}
+use Rattle.frame_laws.proofs.lemmas.queued_drivers.RowOwners.{queued_owners}
 use Rattle.bus_world.specs.World.{World, driver_parts, controller_parts, driver_next}
 use Rattle.mixed_worlds.specs.Mixed.{QueuesGoOn, IsUnderWay, Standing, IsMixedAt, IsMixedWorld}
 use Rattle.mixed_worlds.specs.Laws.{RowKeepsMixed}

@@ -10,37 +10,37 @@ use Rattle.driver_rows.specs.declared.rows.DriverRow.TheVariants as rows
 use Rattle.driver_rows.specs.DriverContent.{DriverContent}
 use Rattle.driver_rows.specs.Rows.{Parts, events_of, row_for, command_row, driver_row, after_driver_row}
 use Rattle.driver_rows.specs.Words.{head_block, to_queue_head, queue_head_link}
-use Rattle.endpoint_lives.specs.Lives.{is_one_of}
-use Rattle.run_owners.specs.Due.{IsNextOf}
-use Rattle.run_owners.specs.Kept.{HasOwners}
-use Rattle.ring_members.proofs.Placed.{linked_alive}
-use Rattle.lent_structures.specs.Structures.{QueueHead, Structures, StructureSets}
-use Rattle.lent_structures.specs.Sound.{IsMember}
-use Rattle.lent_structures.proofs.Names.{put_beside}
+use Rattle.driver_laws.specs.endpoint_lives.Lives.{is_one_of}
+use Rattle.driver_laws.specs.run_owners.Due.{IsNextOf}
+use Rattle.driver_laws.specs.run_owners.Kept.{HasOwners}
+use Rattle.driver_laws.proofs.lemmas.ring_members.Placed.{linked_alive}
+use Rattle.ring_laws.specs.lent_structures.Structures.{QueueHead, Structures, StructureSets}
+use Rattle.ring_laws.specs.lent_structures.Sound.{IsMember}
+use Rattle.ring_laws.proofs.lemmas.lent_structures.Names.{put_beside}
 use Rattle.driver_laws.specs.PartOpened.{opening_base}
-use Rattle.fed_queues.specs.Places.{IsMet, HasHead}
-use Rattle.publish_laws.specs.Stores.{QueuesThen, next_of}
-use Rattle.standing_fronts.specs.Reaching.{Reaches}
-use Rattle.standing_fronts.specs.Tails.{tail_of, TailsStand}
-use Rattle.unlinked_streams.specs.Unlinks.{IsAtUnlink, IsUnlinked, parts_unlinked, hand_unlinked}
-use Rattle.unlinked_streams.proofs.Passing.{row_is, unlink_row_is}
-use Rattle.unlinked_streams.proofs.Queues.{unlink_leaves_queues}
-use Rattle.unlinked_streams.proofs.Streams.{unlink_leaves_fronts}
-use Rattle.leaving_drivers.specs.Before.{WasSame, IsAsBefore, NearSame}
-use Rattle.leaving_drivers.proofs.Alike.{met_before, near_fewer}
-use Rattle.leaving_drivers.proofs.Leaving.{unlink_as_before}
-use Rattle.control_queues.proofs.Heads.{unlink_keeps_controls}
-use Rattle.queue_events.specs.Events.{PartsStand}
+use Rattle.driver_laws.specs.fed_queues.Places.{IsMet, HasHead}
+use Rattle.driven_queues.specs.publish_laws.Stores.{QueuesThen, next_of}
+use Rattle.walked_queues.specs.standing_fronts.Reaching.{Reaches}
+use Rattle.walked_queues.specs.standing_fronts.Tails.{tail_of, TailsStand}
+use Rattle.stream_worlds.specs.unlinked_streams.Unlinks.{IsAtUnlink, IsUnlinked, parts_unlinked, hand_unlinked}
+use Rattle.stream_worlds.proofs.lemmas.unlinked_streams.Passing.{row_is, unlink_row_is}
+use Rattle.stream_worlds.proofs.lemmas.unlinked_streams.Queues.{unlink_leaves_queues}
+use Rattle.stream_worlds.proofs.lemmas.unlinked_streams.Streams.{unlink_leaves_fronts}
+use Rattle.driven_queues.specs.leaving_drivers.Before.{WasSame, IsAsBefore, NearSame}
+use Rattle.driven_queues.proofs.lemmas.leaving_drivers.Alike.{met_before, near_fewer}
+use Rattle.driven_queues.proofs.lemmas.leaving_drivers.Leaving.{unlink_as_before}
+use Rattle.stream_worlds.proofs.lemmas.control_queues.Heads.{unlink_keeps_controls}
+use Rattle.list_laws.specs.queue_events.Events.{PartsStand}
 use Rattle.frame_walk.specs.Met.{IsQueuePart}
-use Rattle.framed_memory.specs.Now.{FramedNext}
-use Rattle.framed_memory.proofs.RingLinks.{ring_now}
-use Rattle.framed_memory.proofs.RingLinksLeave.{unlink_now, unlink_is_due}
-use Rattle.framed_memory.proofs.RingLinksMet.{unlink_meets}
-use Rattle.shared_memory.specs.Shared.{next_parts, after_driver}
-use Rattle.queued_drivers.specs.Queued.{with_queue, queued_command, queued_made, queued, queued_parts}
-use Rattle.queued_drivers.proofs.CommandFields.{ring_queue}
-use Rattle.queued_drivers.proofs.RowLists.{queue_at}
-use Rattle.lent_fronts.proofs.Parts.{member_head}
+use Rattle.mixed_worlds.specs.framed_memory.Now.{FramedNext}
+use Rattle.mixed_worlds.proofs.lemmas.framed_memory.RingLinks.{ring_now}
+use Rattle.mixed_worlds.proofs.lemmas.framed_memory.RingLinksLeave.{unlink_now, unlink_is_due}
+use Rattle.mixed_worlds.proofs.lemmas.framed_memory.RingLinksMet.{unlink_meets}
+use Rattle.walked_queues.specs.shared_memory.Shared.{next_parts, after_driver}
+use Rattle.frame_laws.specs.queued_drivers.Queued.{with_queue, queued_command, queued_made, queued, queued_parts}
+use Rattle.frame_laws.proofs.lemmas.queued_drivers.CommandFields.{ring_queue}
+use Rattle.frame_laws.proofs.lemmas.queued_drivers.RowLists.{queue_at}
+use Rattle.driven_queues.proofs.lemmas.lent_fronts.Parts.{member_head}
 use Rattle.bus_world.specs.World.{World, driver_parts, controller_parts, driver_next}
 use Rattle.mixed_worlds.specs.Mixed.{QueuesGoOn, IsUnderWay, Standing, IsMixedAt, IsMixedWorld}
 use Rattle.mixed_worlds.proofs.Next.{mixed_next}

@@ -13,13 +13,13 @@ use Rattle.driver_rows.specs.declared.content.Command.{Command}
 use Rattle.driver_rows.specs.declared.content.Command.TheVariants as unfinished
 use Rattle.driver_rows.specs.DriverContent.{DriverContent}
 use Rattle.driver_rows.specs.Words.{head_block}
-use Rattle.ring_members.specs.Links.{link_in, members_from, members, AreLinked}
-use Rattle.ring_members.specs.Ring.{StandsFor, IsSound}
-use Rattle.ring_members.proofs.Links.{AreDistinct, rest_distinct, ring_is_read}
-use Rattle.ring_members.proofs.Placed.{ring_distinct}
-use Rattle.chained_transfers.specs.Asynchronous.{StandsAsynchronous}
-use Rattle.queued_drivers.specs.Queued.{without_queue, with_queue, queued_endpoint, QueuesTakeTurns}
-use Rattle.queued_drivers.proofs.CommandFields.{ring_queue}
+use Rattle.driver_laws.specs.ring_members.Links.{link_in, members_from, members, AreLinked}
+use Rattle.driver_laws.specs.ring_members.Ring.{StandsFor, IsSound}
+use Rattle.driver_laws.proofs.lemmas.ring_members.Links.{AreDistinct, rest_distinct, ring_is_read}
+use Rattle.driver_laws.proofs.lemmas.ring_members.Placed.{ring_distinct}
+use Rattle.driver_laws.specs.chained_transfers.Asynchronous.{StandsAsynchronous}
+use Rattle.frame_laws.specs.queued_drivers.Queued.{without_queue, with_queue, queued_endpoint, QueuesTakeTurns}
+use Rattle.frame_laws.proofs.lemmas.queued_drivers.CommandFields.{ring_queue}
 use Rattle.mixed_worlds.specs.Placed.{linked_to, IsNone, AreOnce, ReadsRing}
 
 -- ---- each once

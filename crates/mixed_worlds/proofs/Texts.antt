@@ -12,8 +12,8 @@ use Rattle.script_text.specs.Reading.{script_after, text_read, script_read}
 use Rattle.script_text.specs.Faults.{Spells}
 use Rattle.script_numbers.specs.Numbers.{NumbersLine}
 use Rattle.script_numbers.proofs.Texts.{text_keeps, spelled_numbers}
-use Rattle.walk_members.specs.Reached.{OpensNumbered as OpensNamed}
-use Rattle.framed_memory.specs.IsochronousLaws.{OpensNumbered}
+use Rattle.driver_laws.specs.walk_members.Reached.{OpensNumbered as OpensNamed}
+use Rattle.mixed_worlds.specs.framed_memory.IsochronousLaws.{OpensNumbered}
 use Rattle.mixed_worlds.specs.Scripts.{FitsLine, TextsFit}
 use Rattle.mixed_worlds.proofs.Hubs.{OpensBelow, BelowLine, IsBelowDraft, after_below_hubs}
 

@@ -6,9 +6,9 @@ use Rattle.script_types.specs.declared.scripts.Line.TheVariants as lines
 use Rattle.usb_base.specs.declared.commands.Cmd.{Cmd}
 use Rattle.usb_base.specs.declared.commands.Cmd.TheVariants as commands
 use Rattle.script_fits.proofs.Texts.{spelled_fits}
-use Rattle.script_bytes.proofs.Texts.{spelled_bytes}
-use Rattle.queued_drivers.specs.Commands.{OpensFitting}
-use Rattle.framed_memory.specs.IsochronousLaws.{OpensNumbered}
+use Rattle.script_laws.proofs.lemmas.script_bytes.Texts.{spelled_bytes}
+use Rattle.frame_laws.specs.queued_drivers.Commands.{OpensFitting}
+use Rattle.mixed_worlds.specs.framed_memory.IsochronousLaws.{OpensNumbered}
 use Rattle.mixed_worlds.specs.Laws.{OpensMixed}
 use Rattle.mixed_worlds.specs.Scripts.{FitsLine, FittingLine}
 use Rattle.mixed_worlds.specs.PlacedLaws.{MixedLine, MixedIsAtWork, ScriptsStayMixed, TextsKeepMemory}

@@ -11,13 +11,13 @@ use Rattle.usb_base.specs.declared.commands.Cmd.TheVariants as commands
 use Rattle.usb_base.specs.declared.endpoints.EpDesc.{EpDesc}
 use Rattle.script_types.specs.declared.scripts.Script.{Script}
 use Rattle.script_fits.specs.Fits.{IsFit}
-use Rattle.byte_answers.specs.Bytes.{IsByteScript}
+use Rattle.script_laws.specs.byte_answers.Bytes.{IsByteScript}
 use Rattle.usb_bus.specs.Bus.{Fixed}
 use Rattle.driver_rows.specs.declared.rows.DriverRow.{DriverRow}
 use Rattle.driver_rows.specs.Offers.{IsOffered}
 use Rattle.driver_rows.specs.Rows.{driver_row}
-use Rattle.framed_memory.specs.Isochronous.{NumbersFit}
-use Rattle.queued_drivers.specs.Queued.{FitsKind}
+use Rattle.mixed_worlds.specs.framed_memory.Isochronous.{NumbersFit}
+use Rattle.frame_laws.specs.queued_drivers.Queued.{FitsKind}
 use Rattle.bus_world.specs.World.{World, driver_parts, driver_next, controller_next, commanded}
 use Rattle.bus_world.specs.Opening.{opening_world}
 use Rattle.mixed_worlds.specs.Mixed.{Standing, IsMixedAt, IsMixedWorld}

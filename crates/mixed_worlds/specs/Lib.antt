@@ -6,3 +6,5 @@ pub mod Placed
 pub mod PlacedLaws
 pub mod Samples
 pub mod Reasons
+pub mod running_worlds
+pub mod framed_memory

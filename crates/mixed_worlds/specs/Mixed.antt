@@ -15,29 +15,29 @@ use Rattle.word_mem.specs.Memory.{Mem}
 use Rattle.driver_rows.specs.declared.content.Command.{Command}
 use Rattle.driver_rows.specs.declared.content.Command.TheVariants as unfinished
 use Rattle.driver_rows.specs.DriverContent.{DriverContent}
-use Rattle.byte_answers.specs.Bytes.{IsByteBus}
-use Rattle.lent_structures.specs.Structures.{StructureSets}
+use Rattle.script_laws.specs.byte_answers.Bytes.{IsByteBus}
+use Rattle.ring_laws.specs.lent_structures.Structures.{StructureSets}
 use Rattle.ring_laws.specs.Hand.{Hand}
 use Rattle.ring_laws.specs.Told.{Endpoint as Told}
 use Rattle.driver_laws.specs.PartOpened.{opening_base}
-use Rattle.fed_queues.specs.Places.{AreMet}
-use Rattle.fed_lends.specs.Commands.{QueuesStand}
-use Rattle.fed_lends.specs.ToLend.{IsToBeLent}
-use Rattle.standing_fronts.specs.Tails.{TailsStand}
-use Rattle.leaving_drivers.specs.Owed.{AreOwedMet}
-use Rattle.open_laws.specs.Lends.{IsOpenReady}
-use Rattle.open_laws.specs.Opens.{IsOpenLent}
-use Rattle.open_laws.specs.Queues.{IsOpenThere}
-use Rattle.control_queues.specs.Controls.{ControlsStand}
-use Rattle.queued_drivers.specs.Queued.{queued, QueuesTakeTurns}
-use Rattle.queue_events.specs.Events.{PartsStand}
+use Rattle.driver_laws.specs.fed_queues.Places.{AreMet}
+use Rattle.walked_queues.specs.fed_lends.Commands.{QueuesStand}
+use Rattle.walked_queues.specs.fed_lends.ToLend.{IsToBeLent}
+use Rattle.walked_queues.specs.standing_fronts.Tails.{TailsStand}
+use Rattle.driven_queues.specs.leaving_drivers.Owed.{AreOwedMet}
+use Rattle.driven_queues.specs.open_laws.Lends.{IsOpenReady}
+use Rattle.driven_queues.specs.open_laws.Opens.{IsOpenLent}
+use Rattle.driven_queues.specs.open_laws.Queues.{IsOpenThere}
+use Rattle.stream_worlds.specs.control_queues.Controls.{ControlsStand}
+use Rattle.frame_laws.specs.queued_drivers.Queued.{queued, QueuesTakeTurns}
+use Rattle.list_laws.specs.queue_events.Events.{PartsStand}
 use Rattle.frame_walk.specs.Met.{Kind}
 use Rattle.frame_walk.specs.FrameHand.{FrameHand}
-use Rattle.framed_memory.specs.Now.{IsFramedNow}
-use Rattle.framed_memory.specs.Masks.{AreMasked}
-use Rattle.framed_memory.specs.Isochronous.{AreNumbered, AreAwaiting}
-use Rattle.framed_memory.specs.Chained.{IsChainReady, IsChainLent}
-use Rattle.controlled_walks.specs.Worlds.{IsWalking}
+use Rattle.mixed_worlds.specs.framed_memory.Now.{IsFramedNow}
+use Rattle.mixed_worlds.specs.framed_memory.Masks.{AreMasked}
+use Rattle.mixed_worlds.specs.framed_memory.Isochronous.{AreNumbered, AreAwaiting}
+use Rattle.mixed_worlds.specs.framed_memory.Chained.{IsChainReady, IsChainLent}
+use Rattle.stream_worlds.specs.controlled_walks.Worlds.{IsWalking}
 use Rattle.bus_world.specs.World.{World, controller_parts}
 
 -- ---- the queues

@@ -18,13 +18,13 @@ use Rattle.driver_rows.specs.declared.content.Command.TheVariants as unfinished
 use Rattle.driver_rows.specs.declared.content.Endpoint.{Endpoint}
 use Rattle.driver_rows.specs.DriverContent.{DriverContent}
 use Rattle.driver_rows.specs.Words.{head_block}
-use Rattle.ring_members.specs.Links.{link_in, members, IsChain}
-use Rattle.in_place.specs.InPlace.{IsInPlace}
-use Rattle.list_driver.specs.Kept.{KeepsItsList}
+use Rattle.driver_laws.specs.ring_members.Links.{link_in, members, IsChain}
+use Rattle.driver_laws.specs.in_place.InPlace.{IsInPlace}
+use Rattle.list_laws.specs.list_driver.Kept.{KeepsItsList}
 use Rattle.refusal_laws.specs.Refusals.{GoesOn}
 use Rattle.ring_laws.specs.Ring.{base_of}
 use Rattle.driver_laws.specs.PartOpened.{opening_base}
-use Rattle.controlled_walks.specs.Worlds.{IsWalking}
+use Rattle.stream_worlds.specs.controlled_walks.Worlds.{IsWalking}
 use Rattle.usb_bus.specs.Bus.{Fixed, fixed_of}
 use Rattle.bus_world.specs.World.{World, kind_next, controller_next}
 use Rattle.bus_world.specs.Budgets.{moment}

@@ -11,7 +11,7 @@ use Rattle.script_types.specs.declared.scripts.Line.TheVariants as lines
 use Rattle.script_types.specs.declared.scripts.Script.{Script}
 use Rattle.script_text.specs.Faults.{Spells}
 use Rattle.script_fits.specs.Fits.{IsFit}
-use Rattle.byte_answers.specs.Bytes.{IsByteScript}
+use Rattle.script_laws.specs.byte_answers.Bytes.{IsByteScript}
 use Rattle.usb_bus.specs.Bus.{Fixed}
 use Rattle.bus_world.specs.World.{World}
 use Rattle.bus_world.specs.Budgets.{moment}

@@ -21,7 +21,7 @@ use Rattle.script_types.specs.declared.scripts.Line.{Line}
 use Rattle.script_types.specs.declared.scripts.Line.TheVariants as lines
 use Rattle.script_types.specs.declared.scripts.Script.{Script}
 use Rattle.script_fits.specs.Fits.{IsFit}
-use Rattle.byte_answers.specs.Bytes.{IsByteScript}
+use Rattle.script_laws.specs.byte_answers.Bytes.{IsByteScript}
 use Rattle.bandwidth.specs.declared.placements.Placement.{Placement}
 use Rattle.bandwidth.specs.Admission.{answer}
 use Rattle.periodic_rows.specs.Periodic.{want_of}

@@ -11,8 +11,8 @@ use Rattle.script_types.specs.declared.scripts.Line.{Line}
 use Rattle.script_types.specs.declared.scripts.Line.TheVariants as lines
 use Rattle.script_types.specs.declared.scripts.Script.{Script}
 use Rattle.script_text.specs.Faults.{Spells}
-use Rattle.framed_memory.specs.IsochronousLaws.{OpensNumbered}
-use Rattle.queued_drivers.specs.Commands.{OpensFitting}
+use Rattle.mixed_worlds.specs.framed_memory.IsochronousLaws.{OpensNumbered}
+use Rattle.frame_laws.specs.queued_drivers.Commands.{OpensFitting}
 
 -- ---- numbers
 

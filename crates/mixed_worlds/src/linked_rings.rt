@@ -2,9 +2,9 @@
 ghost use Rattle.std.specs.Prelude.{[], ◌∷◌, ◌≡◌, Some, None};
 ghost use Rattle.driver_rows.specs.declared.content.Command.TheVariants as unfinished;
 ghost use Rattle.driver_rows.specs.Offers.{new_endpoint};
-ghost use Rattle.run_owners.specs.Worked.{bulk};
-ghost use Rattle.ring_members.specs.Links.{members, IsChain};
-ghost use Rattle.ring_members.specs.Worked.{ring_word};
+ghost use Rattle.driver_laws.specs.run_owners.Worked.{bulk};
+ghost use Rattle.driver_laws.specs.ring_members.Links.{members, IsChain};
+ghost use Rattle.driver_laws.specs.ring_members.Worked.{ring_word};
 ghost use Rattle.mixed_worlds.specs.Placed.{linked_to, AreOnce};
 
 /// The head leads to the newest endpoint and back through the older one, also while a third isn't linked yet.

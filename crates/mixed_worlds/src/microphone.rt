@@ -4,7 +4,7 @@ ghost use Rattle.word_mem.specs.Memory.{word_at};
 ghost use Rattle.driver_rows.specs.declared.content.Command.TheVariants as unfinished;
 ghost use Rattle.driver_rows.specs.declared.rows.DriverRow.TheVariants as rows;
 ghost use Rattle.script_fits.specs.Fits.{IsFit};
-ghost use Rattle.byte_answers.specs.Bytes.{IsByteScript};
+ghost use Rattle.script_laws.specs.byte_answers.Bytes.{IsByteScript};
 ghost use Rattle.bus_world.specs.Budgets.{moment};
 ghost use Rattle.mixed_worlds.specs.MicrophoneSamples.{heard_at, heard_row, one_microphone};
 ghost use Rattle.mixed_worlds.specs.Placed.{KeepsMemory};

@@ -10,14 +10,14 @@ use Rattle.qh_qtd.specs.declared.queue_head.Qh.{Qh}
 use Rattle.walk_copy.specs.Overlay.{advanced}
 use Rattle.async_walk.specs.declared.state.WalkStep.{WalkStep}
 use Rattle.buffers.specs.Bytes.{place as place_of_byte}
-use Rattle.lent_structures.specs.Changes.{overwritten}
-use Rattle.lent_structures.specs.Structures.{QueueHead, Element, Buffer, Structures, StructureSets, put}
-use Rattle.lent_structures.proofs.Names.{not_same, put_same, put_beside, put_found}
-use Rattle.lent_structures.specs.WriteBack.{CanBeWritten, Received, Nothing, Into, received_parts}
-use Rattle.lent_structures.specs.Sound.{IsWorking, IsSoundQueue, IsMember}
-use Rattle.lent_structures.specs.Alters.{HadElement, Alters}
-use Rattle.lent_structures.proofs.Altering.{found_queue}
-use Rattle.lent_structures.proofs.Members.{still_active}
+use Rattle.ring_laws.specs.lent_structures.Changes.{overwritten}
+use Rattle.ring_laws.specs.lent_structures.Structures.{QueueHead, Element, Buffer, Structures, StructureSets, put}
+use Rattle.ring_laws.proofs.lemmas.lent_structures.Names.{not_same, put_same, put_beside, put_found}
+use Rattle.ring_laws.specs.lent_structures.WriteBack.{CanBeWritten, Received, Nothing, Into, received_parts}
+use Rattle.ring_laws.specs.lent_structures.Sound.{IsWorking, IsSoundQueue, IsMember}
+use Rattle.ring_laws.specs.lent_structures.Alters.{HadElement, Alters}
+use Rattle.ring_laws.proofs.lemmas.lent_structures.Altering.{found_queue}
+use Rattle.ring_laws.proofs.lemmas.lent_structures.Members.{still_active}
 use Rattle.ring_laws.specs.Hand.{Copy, Settlement, settled_queue_of, Hand}
 use Rattle.ring_laws.specs.Ring.{IsCopied, IsSettled, IsInHand}
 use Rattle.ring_laws.specs.Effects.{received_into, settlement, buffer_of, Takes, Makes, WritesBack, Effect}

@@ -5,11 +5,11 @@ use Rattle.usb_base.specs.declared.packets.Ask.{Ask}
 use Rattle.usb_base.specs.declared.packets.Reply.{Reply}
 use Rattle.walk_copy.specs.Overlay.{advanced}
 use Rattle.async_walk.specs.declared.state.WalkStep.{WalkStep}
-use Rattle.lent_structures.specs.Structures.{Structure, QueueHead, Buffer, Structures, StructureSets, put}
-use Rattle.lent_structures.proofs.Names.{put_here, put_beside}
-use Rattle.lent_structures.specs.WriteBack.{CanBeWritten}
-use Rattle.lent_structures.specs.Alters.{Alters}
-use Rattle.lent_structures.proofs.Altering.{unaltered, head_put}
+use Rattle.ring_laws.specs.lent_structures.Structures.{Structure, QueueHead, Buffer, Structures, StructureSets, put}
+use Rattle.ring_laws.proofs.lemmas.lent_structures.Names.{put_here, put_beside}
+use Rattle.ring_laws.specs.lent_structures.WriteBack.{CanBeWritten}
+use Rattle.ring_laws.specs.lent_structures.Alters.{Alters}
+use Rattle.ring_laws.proofs.lemmas.lent_structures.Altering.{unaltered, head_put}
 use Rattle.ring_laws.specs.Hand.{settled_queue_of, Hand}
 use Rattle.ring_laws.specs.Ring.{IsCopied, IsSettled, IsInHand}
 use Rattle.ring_laws.specs.Effects.{bytes_in, received_into, Effect}

@@ -25,9 +25,9 @@ use Rattle.async_walk.specs.Naks.{reloaded, planned, mode_after}
 use Rattle.async_walk.specs.Causes.{LeadsTo, Cause, ring_is_broken, head_is_quiet, leads_to, is_resting, queue_ends, qtd_is_done, queue_is_broken, takes_qtd, is_out_of_time, has_time, is_settled}
 use Rattle.async_walk.specs.Rows.{WalkPlace, started, started_registers, cursor_link, ring_read, read_at, was_read, fetched_registers, took, writing, wrote_place, wrote_settled, wrote, SentAt, Sends, Leads, at_event, event_row}
 use Rattle.async_walk.proofs.Causes.{each_row_has_its_cause}
-use Rattle.lent_structures.specs.Structures.{QueueHead, StructureSets, Tells}
-use Rattle.lent_structures.proofs.Reading.{head_read}
-use Rattle.lent_structures.specs.Sound.{LeadsAmong, IsMember}
+use Rattle.ring_laws.specs.lent_structures.Structures.{QueueHead, StructureSets, Tells}
+use Rattle.ring_laws.proofs.lemmas.lent_structures.Reading.{head_read}
+use Rattle.ring_laws.specs.lent_structures.Sound.{LeadsAmong, IsMember}
 use Rattle.ring_laws.specs.Hand.{Copy, copied_queue, Settlement, Hand, Empty, Copied, Settled, Stale, held_of}
 use Rattle.ring_laws.specs.Ring.{Base, IsInHand, IsRing}
 use Rattle.ring_laws.specs.Stores.{IsWider, IsClosed, IsHandAmong}

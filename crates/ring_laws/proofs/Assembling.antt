@@ -15,17 +15,17 @@ use Rattle.walk_copy.specs.Transacting.{call_in}
 use Rattle.walk_copy.specs.WriteBack.{moved_by}
 use Rattle.async_walk.specs.declared.state.WalkStep.{WalkStep}
 use Rattle.async_walk.specs.Naks.{kind_at, planned}
-use Rattle.lent_structures.specs.Settles.{is_moved}
-use Rattle.lent_structures.specs.Structures.{QueueHead, Element, Structures, StructureSets, put, with_structure}
-use Rattle.lent_structures.specs.Changes.{relinked}
-use Rattle.lent_structures.proofs.Names.{not_same, put_beside, put_here, with_here, with_there}
-use Rattle.lent_structures.specs.WriteBack.{CanBeWritten, Nothing, qtd_after, parts_back}
-use Rattle.lent_structures.proofs.WrittenBack.{between_element}
-use Rattle.lent_structures.proofs.Found.{back_head, back_beside}
-use Rattle.lent_structures.specs.Sound.{buffer_name, IsWorking, IsSoundQueue, IsMember}
-use Rattle.lent_structures.specs.Alters.{HadElement, Alters}
-use Rattle.lent_structures.proofs.Altering.{found_queue, found_element}
-use Rattle.lent_structures.proofs.Members.{still_active}
+use Rattle.ring_laws.specs.lent_structures.Settles.{is_moved}
+use Rattle.ring_laws.specs.lent_structures.Structures.{QueueHead, Element, Structures, StructureSets, put, with_structure}
+use Rattle.ring_laws.specs.lent_structures.Changes.{relinked}
+use Rattle.ring_laws.proofs.lemmas.lent_structures.Names.{not_same, put_beside, put_here, with_here, with_there}
+use Rattle.ring_laws.specs.lent_structures.WriteBack.{CanBeWritten, Nothing, qtd_after, parts_back}
+use Rattle.ring_laws.proofs.lemmas.lent_structures.WrittenBack.{between_element}
+use Rattle.ring_laws.proofs.lemmas.lent_structures.Found.{back_head, back_beside}
+use Rattle.ring_laws.specs.lent_structures.Sound.{buffer_name, IsWorking, IsSoundQueue, IsMember}
+use Rattle.ring_laws.specs.lent_structures.Alters.{HadElement, Alters}
+use Rattle.ring_laws.proofs.lemmas.lent_structures.Altering.{found_queue, found_element}
+use Rattle.ring_laws.proofs.lemmas.lent_structures.Members.{still_active}
 use Rattle.ring_laws.specs.Hand.{Copy, Settlement, settled_queue_of, Hand, Empty, Copied, Settled}
 use Rattle.ring_laws.specs.Ring.{IsCopied, IsSettled, IsInHand}
 use Rattle.ring_laws.specs.Effects.{bytes_in, buffer_of, AreSent, received_into, settlement, counted, taken, Takes, Makes, WritesBack, Effect}

@@ -12,11 +12,11 @@ use Rattle.qh_qtd.specs.declared.queue_head.Qh.{Qh}
 use Rattle.transactions.specs.declared.pipe.Pipe.{Pipe}
 use Rattle.transactions.specs.Asks.{pinged, token_pid}
 use Rattle.walk_copy.specs.Planning.{pid_at, split_at}
-use Rattle.lent_structures.specs.Structures.{Structures}
-use Rattle.lent_structures.proofs.Names.{not_same}
-use Rattle.lent_structures.specs.Sound.{IsWorking, IsSoundQueue}
-use Rattle.lent_structures.specs.Alters.{HadElement, Alters}
-use Rattle.lent_structures.proofs.Members.{still_active}
+use Rattle.ring_laws.specs.lent_structures.Structures.{Structures}
+use Rattle.ring_laws.proofs.lemmas.lent_structures.Names.{not_same}
+use Rattle.ring_laws.specs.lent_structures.Sound.{IsWorking, IsSoundQueue}
+use Rattle.ring_laws.specs.lent_structures.Alters.{HadElement, Alters}
+use Rattle.ring_laws.proofs.lemmas.lent_structures.Members.{still_active}
 use Rattle.ring_laws.specs.Pipes.{IsIn, IsNotIn}
 
 -- ---- the direction stays

@@ -16,15 +16,15 @@ use Rattle.walk_copy.specs.declared.held.Held.{Held}
 use Rattle.walk_copy.specs.Overlay.{settled_queue}
 use Rattle.walk_copy.specs.Visits.{next_pointer}
 use Rattle.async_walk.specs.Rows.{WalkPlace}
-use Rattle.lent_structures.specs.Structures.{Structure, QueueHead, Element, Structures, StructureSets, with_structure, put, without_structure, without, Holds, Has, Tells}
-use Rattle.lent_structures.specs.Changes.{Leaves, IsNew}
-use Rattle.lent_structures.proofs.Names.{with_here, with_there, put_here, put_beside, put_same, put_else, without_here, without_beside, without_else}
-use Rattle.lent_structures.proofs.Telling.{added, joined, removed}
-use Rattle.lent_structures.proofs.Writing.{word_put_queue, word_put_element}
-use Rattle.lent_structures.specs.Sound.{LeadsAmong, IsSoundElement, IsSoundQueue, IsMember}
-use Rattle.lent_structures.specs.Alters.{Alters}
-use Rattle.lent_structures.proofs.Altering.{found_queue, no_two, head_put}
-use Rattle.lent_structures.proofs.Members.{leads_still, member_still}
+use Rattle.ring_laws.specs.lent_structures.Structures.{Structure, QueueHead, Element, Structures, StructureSets, with_structure, put, without_structure, without, Holds, Has, Tells}
+use Rattle.ring_laws.specs.lent_structures.Changes.{Leaves, IsNew}
+use Rattle.ring_laws.proofs.lemmas.lent_structures.Names.{with_here, with_there, put_here, put_beside, put_same, put_else, without_here, without_beside, without_else}
+use Rattle.ring_laws.proofs.lemmas.lent_structures.Telling.{added, joined, removed}
+use Rattle.ring_laws.proofs.lemmas.lent_structures.Writing.{word_put_queue, word_put_element}
+use Rattle.ring_laws.specs.lent_structures.Sound.{LeadsAmong, IsSoundElement, IsSoundQueue, IsMember}
+use Rattle.ring_laws.specs.lent_structures.Alters.{Alters}
+use Rattle.ring_laws.proofs.lemmas.lent_structures.Altering.{found_queue, no_two, head_put}
+use Rattle.ring_laws.proofs.lemmas.lent_structures.Members.{leads_still, member_still}
 use Rattle.ring_laws.specs.Hand.{Copy, copied_queue, Settlement, Hand, Empty, Copied, Settled, Stale, held_of}
 use Rattle.ring_laws.specs.Ring.{Base, IsCopied, IsSettled, IsInHand, IsRing}
 use Rattle.ring_laws.specs.Stores.{KeepsQueueHeads, IsUnnamed, copy_linked, hand_linked, hand_stale, IsWider, IsClosed, IsHandAmong, IsAmong}

@@ -12,9 +12,9 @@ use Rattle.async_walk.specs.declared.state.ReloadMode.TheVariants.{WaitHead, Rel
 use Rattle.async_walk.specs.Naks.{mode_after, reloaded}
 use Rattle.async_walk.specs.Rows.{WalkPlace, row_at, walk_row, ring_row, fetch_row, read_at, ring_read, was_read, step_of, Leads, head_ended, fetched}
 use Rattle.async_walk.proofs.Ranges.{reloaded_in_range}
-use Rattle.lent_structures.specs.Structures.{QueueHead, StructureSets, HoldsQueueHead}
-use Rattle.lent_structures.proofs.Reading.{head_read, head_not_refused}
-use Rattle.lent_structures.specs.Sound.{IsMember}
+use Rattle.ring_laws.specs.lent_structures.Structures.{QueueHead, StructureSets, HoldsQueueHead}
+use Rattle.ring_laws.proofs.lemmas.lent_structures.Reading.{head_read, head_not_refused}
+use Rattle.ring_laws.specs.lent_structures.Sound.{IsMember}
 use Rattle.ring_laws.specs.Hand.{Copy, copied_queue, Empty, Copied}
 use Rattle.ring_laws.specs.Ring.{Base, IsRing}
 use Rattle.ring_laws.specs.Effects.{Happens}

@@ -4,7 +4,7 @@ use Rattle.std.proofs.lemmas.Bool.{true≢false}
 use Rattle.link_words.specs.declared.kinds.QtdLink.TheVariants as qtd_links
 use Rattle.link_words.specs.Links.{qtd_link_of}
 use Rattle.qh_qtd.specs.declared.qtd.Qtd.{Qtd}
-use Rattle.lent_structures.proofs.Altering.{found_queue}
+use Rattle.ring_laws.proofs.lemmas.lent_structures.Altering.{found_queue}
 use Rattle.ring_laws.specs.StoreSamples.{queue, parts}
 use Rattle.ring_laws.proofs.StoreSampled.{one_element}
 use Rattle.ring_laws.specs.Order.{IsFresh}

@@ -12,13 +12,13 @@ use Rattle.walk_copy.specs.Overlay.{buffer_place}
 use Rattle.walk_copy.specs.Planning.{pid_at, host_in}
 use Rattle.walk_copy.specs.WriteBack.{moved_by}
 use Rattle.async_walk.specs.Naks.{kind_at}
-use Rattle.lent_structures.specs.Settles.{Leaves, Brings, Settles}
-use Rattle.lent_structures.proofs.Settling.{settles}
-use Rattle.lent_structures.specs.Structures.{QueueHead, Structures, StructureSets}
-use Rattle.lent_structures.specs.Changes.{overwritten}
-use Rattle.lent_structures.proofs.Names.{not_same}
-use Rattle.lent_structures.specs.Sound.{HasBuffer, IsReady, IsWorking, IsSoundQueue, IsMember}
-use Rattle.lent_structures.proofs.Altering.{found_queue, found_element}
+use Rattle.ring_laws.specs.lent_structures.Settles.{Leaves, Brings, Settles}
+use Rattle.ring_laws.proofs.lemmas.lent_structures.Settling.{settles}
+use Rattle.ring_laws.specs.lent_structures.Structures.{QueueHead, Structures, StructureSets}
+use Rattle.ring_laws.specs.lent_structures.Changes.{overwritten}
+use Rattle.ring_laws.proofs.lemmas.lent_structures.Names.{not_same}
+use Rattle.ring_laws.specs.lent_structures.Sound.{HasBuffer, IsReady, IsWorking, IsSoundQueue, IsMember}
+use Rattle.ring_laws.proofs.lemmas.lent_structures.Altering.{found_queue, found_element}
 use Rattle.ring_laws.specs.Hand.{Copy, Settlement, Hand, Settled}
 use Rattle.ring_laws.specs.Effects.{bytes_in, buffer_of, settlement, Makes}
 use Rattle.ring_laws.specs.Told.{works_on, told_bytes, settled_bytes, hand_bytes, Told, hand_toggle}

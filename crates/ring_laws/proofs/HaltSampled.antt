@@ -3,8 +3,8 @@ use Rattle.std.proofs.Common.{◌≡◌, ◌≢◌, ℕ, ◌/◌, ◌⊎◌, tru
 use Rattle.std.proofs.lemmas.Bool.{true≢false}
 use Rattle.qh_qtd.specs.declared.qtd.Qtd.{Qtd}
 use Rattle.qh_qtd.specs.declared.queue_head.Qh.{Qh}
-use Rattle.lent_structures.specs.Structures.{QueueHead, Element, with_structure}
-use Rattle.lent_structures.proofs.Altering.{found_queue, same_element}
+use Rattle.ring_laws.specs.lent_structures.Structures.{QueueHead, Element, with_structure}
+use Rattle.ring_laws.proofs.lemmas.lent_structures.Altering.{found_queue, same_element}
 use Rattle.ring_laws.proofs.Parting.{found_with}
 use Rattle.ring_laws.specs.Order.{IsFresh}
 use Rattle.ring_laws.specs.Front.{IsFront, IsBehind, HasFront}

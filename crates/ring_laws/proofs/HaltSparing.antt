@@ -4,10 +4,10 @@ use Rattle.std.proofs.lemmas.Bool.{true≢false}
 use Rattle.qh_qtd.specs.declared.qtd.Qtd.{Qtd}
 use Rattle.qh_qtd.specs.declared.queue_head.Qh.{Qh}
 use Rattle.qh_qtd.specs.declared.token.Token.{Token}
-use Rattle.lent_structures.specs.Structures.{QueueHead, Element, Structures, put}
-use Rattle.lent_structures.proofs.Names.{put_same, put_found}
-use Rattle.lent_structures.proofs.Altering.{found_queue, found_element}
-use Rattle.lent_structures.specs.Sound.{IsSoundQueue}
+use Rattle.ring_laws.specs.lent_structures.Structures.{QueueHead, Element, Structures, put}
+use Rattle.ring_laws.proofs.lemmas.lent_structures.Names.{put_same, put_found}
+use Rattle.ring_laws.proofs.lemmas.lent_structures.Altering.{found_queue, found_element}
+use Rattle.ring_laws.specs.lent_structures.Sound.{IsSoundQueue}
 use Rattle.ring_laws.specs.Hand.{Hand, Empty, Copied, Settled, Stale}
 use Rattle.ring_laws.specs.Effects.{buffer_of}
 use Rattle.ring_laws.proofs.ReleaseGoing.{found_fewer}

@@ -3,11 +3,11 @@ use Rattle.std.proofs.Common.{◌≡◌, ◌≢◌, ℕ, List, [], ◌∷◌, So
 use Rattle.std.specs.List.{AllByRecursion}
 use Rattle.std.proofs.lemmas.Bool.{cases_eq}
 use Rattle.word_mem.specs.Memory.{Mem}
-use Rattle.lent_structures.specs.Structures.{Structure, Structures, StructureSets, Has, Tells}
-use Rattle.lent_structures.specs.Changes.{Leaves}
-use Rattle.lent_structures.proofs.Names.{put_else, put_beside, put_found}
-use Rattle.lent_structures.proofs.Telling.{told_lent, told_still, joined}
-use Rattle.lent_structures.specs.Sound.{IsMember}
+use Rattle.ring_laws.specs.lent_structures.Structures.{Structure, Structures, StructureSets, Has, Tells}
+use Rattle.ring_laws.specs.lent_structures.Changes.{Leaves}
+use Rattle.ring_laws.proofs.lemmas.lent_structures.Names.{put_else, put_beside, put_found}
+use Rattle.ring_laws.proofs.lemmas.lent_structures.Telling.{told_lent, told_still, joined}
+use Rattle.ring_laws.specs.lent_structures.Sound.{IsMember}
 use Rattle.ring_laws.proofs.Driving.{ring_retold}
 use Rattle.ring_laws.specs.Together.{Item, put_all, ShareNoBlock, AreNew, LendsLeaveRing}
 

@@ -4,10 +4,10 @@ use Rattle.std.proofs.lemmas.Bool.{cases_eq, eq-eqb}
 use Rattle.qh_qtd.specs.declared.qtd.Qtd.{Qtd}
 use Rattle.qh_qtd.specs.declared.queue_head.Qh.{Qh}
 use Rattle.walk_copy.specs.Overlay.{advanced}
-use Rattle.lent_structures.specs.Structures.{QueueHead, Element, Structures, StructureSets, with_structure}
-use Rattle.lent_structures.proofs.Names.{not_same, put_here, put_beside, with_here, with_there}
-use Rattle.lent_structures.specs.Sound.{buffer_name}
-use Rattle.lent_structures.proofs.Altering.{found_queue, found_element, no_two}
+use Rattle.ring_laws.specs.lent_structures.Structures.{QueueHead, Element, Structures, StructureSets, with_structure}
+use Rattle.ring_laws.proofs.lemmas.lent_structures.Names.{not_same, put_here, put_beside, with_here, with_there}
+use Rattle.ring_laws.specs.lent_structures.Sound.{buffer_name}
+use Rattle.ring_laws.proofs.lemmas.lent_structures.Altering.{found_queue, found_element, no_two}
 use Rattle.ring_laws.specs.Hand.{Copy, Settlement, Hand, Empty, Copied, Settled, Stale}
 use Rattle.ring_laws.specs.Effects.{bytes_in, buffer_of, taken, Takes}
 use Rattle.ring_laws.specs.Told.{left_of, told_bytes, hand_bytes, Told, hand_toggle, HasToggle, Endpoint, endpoint_of, HasEndpoint, SameTold}

@@ -35,3 +35,4 @@ pub mod Transporting
 pub mod OutPipeAgreeing
 pub mod OutPipeEvents
 pub mod Assembling
+pub mod lemmas

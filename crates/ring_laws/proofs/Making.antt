@@ -29,11 +29,11 @@ use Rattle.async_walk.specs.declared.state.WalkStep.TheVariants as steps
 use Rattle.async_walk.specs.Naks.{kind_at, planned, counts, counted_queue}
 use Rattle.async_walk.specs.Rows.{WalkPlace, step_of, sent_step, Leads, Sends, SentAt, Transacted, transacted, ring_copy}
 use Rattle.async_walk.proofs.Ranges.{counted_in_range}
-use Rattle.lent_structures.specs.Settles.{Settles}
-use Rattle.lent_structures.proofs.Settling.{settles}
-use Rattle.lent_structures.specs.Structures.{Buffer, Structures, StructureSets, HoldsBuffer, Tells}
-use Rattle.lent_structures.proofs.Reading.{bytes_part, bytes_reached}
-use Rattle.lent_structures.specs.Sound.{element_pages, buffer_name, HasBuffer, IsReady, IsWorking}
+use Rattle.ring_laws.specs.lent_structures.Settles.{Settles}
+use Rattle.ring_laws.proofs.lemmas.lent_structures.Settling.{settles}
+use Rattle.ring_laws.specs.lent_structures.Structures.{Buffer, Structures, StructureSets, HoldsBuffer, Tells}
+use Rattle.ring_laws.proofs.lemmas.lent_structures.Reading.{bytes_part, bytes_reached}
+use Rattle.ring_laws.specs.lent_structures.Sound.{element_pages, buffer_name, HasBuffer, IsReady, IsWorking}
 use Rattle.ring_laws.specs.Hand.{Copy, copied_queue, Copied, Settled, held_of}
 use Rattle.ring_laws.specs.Ring.{Base, IsRing}
 use Rattle.ring_laws.specs.Effects.{bytes_in, buffer_of, settlement, counted, AreBytesHeard, Happens}

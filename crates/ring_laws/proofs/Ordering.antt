@@ -5,11 +5,11 @@ use Rattle.link_words.specs.declared.kinds.QtdLink.TheVariants as qtd_links
 use Rattle.link_words.specs.Links.{qtd_link_of}
 use Rattle.qh_qtd.specs.declared.qtd.Qtd.{Qtd}
 use Rattle.qh_qtd.specs.declared.queue_head.Qh.{Qh}
-use Rattle.lent_structures.specs.Structures.{QueueHead, Element, Structures, StructureSets}
-use Rattle.lent_structures.specs.Sound.{buffer_name, IsWorking, IsSoundQueue, IsMember}
-use Rattle.lent_structures.specs.Alters.{HadElement, Alters}
-use Rattle.lent_structures.proofs.Altering.{found_queue, found_element}
-use Rattle.lent_structures.proofs.Members.{still_active}
+use Rattle.ring_laws.specs.lent_structures.Structures.{QueueHead, Element, Structures, StructureSets}
+use Rattle.ring_laws.specs.lent_structures.Sound.{buffer_name, IsWorking, IsSoundQueue, IsMember}
+use Rattle.ring_laws.specs.lent_structures.Alters.{HadElement, Alters}
+use Rattle.ring_laws.proofs.lemmas.lent_structures.Altering.{found_queue, found_element}
+use Rattle.ring_laws.proofs.lemmas.lent_structures.Members.{still_active}
 use Rattle.ring_laws.specs.Hand.{Hand, Empty, Copied, Settled, Stale}
 use Rattle.ring_laws.specs.Effects.{buffer_of}
 use Rattle.ring_laws.specs.Told.{works_on, told_bytes, settled_bytes, hand_bytes, Told}

@@ -21,10 +21,10 @@ use Rattle.walk_copy.specs.Planning.{pid_at, speed_at, split_at, host_in, carrie
 use Rattle.walk_copy.specs.Transacting.{call_in}
 use Rattle.walk_copy.specs.WriteBack.{moved_by}
 use Rattle.async_walk.specs.Naks.{kind_at, planned}
-use Rattle.lent_structures.specs.Settles.{is_moved}
-use Rattle.lent_structures.proofs.Moving.{Moves}
-use Rattle.lent_structures.specs.Structures.{Structures}
-use Rattle.lent_structures.proofs.Altering.{found_element}
+use Rattle.ring_laws.specs.lent_structures.Settles.{is_moved}
+use Rattle.ring_laws.proofs.lemmas.lent_structures.Moving.{Moves}
+use Rattle.ring_laws.specs.lent_structures.Structures.{Structures}
+use Rattle.ring_laws.proofs.lemmas.lent_structures.Altering.{found_element}
 use Rattle.ring_laws.specs.Hand.{Hand}
 use Rattle.ring_laws.specs.Effects.{buffer_of}
 use Rattle.ring_laws.specs.OutBus.{Taker, is_acknowledgement, took, Takes, nothing_taken, all_taken, all_dropped}

@@ -20,10 +20,10 @@ use Rattle.walk_copy.specs.Planning.{host_in}
 use Rattle.walk_copy.specs.Transacting.{call_in}
 use Rattle.walk_copy.specs.WriteBack.{moved_by}
 use Rattle.async_walk.specs.Naks.{kind_at, planned}
-use Rattle.lent_structures.specs.Settles.{is_moved, Settles}
-use Rattle.lent_structures.proofs.Moving.{Moves}
-use Rattle.lent_structures.proofs.Settling.{settles}
-use Rattle.lent_structures.specs.Structures.{Structures}
+use Rattle.ring_laws.specs.lent_structures.Settles.{is_moved, Settles}
+use Rattle.ring_laws.proofs.lemmas.lent_structures.Moving.{Moves}
+use Rattle.ring_laws.proofs.lemmas.lent_structures.Settling.{settles}
+use Rattle.ring_laws.specs.lent_structures.Structures.{Structures}
 use Rattle.ring_laws.specs.Hand.{Copy, Settlement, Hand, Settled}
 use Rattle.ring_laws.specs.Effects.{buffer_of, AreSent, settlement}
 use Rattle.ring_laws.specs.Told.{Endpoint, endpoint_of}

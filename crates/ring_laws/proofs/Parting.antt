@@ -8,10 +8,10 @@ use Rattle.link_words.specs.Links.{qtd_link_of}
 use Rattle.qh_qtd.specs.declared.qtd.Qtd.{Qtd}
 use Rattle.qh_qtd.specs.declared.queue_head.Qh.{Qh}
 use Rattle.walk_copy.specs.Visits.{next_pointer}
-use Rattle.lent_structures.specs.Structures.{Structure, QueueHead, Element, Buffer, Structures, with_structure, without_structure}
-use Rattle.lent_structures.proofs.Names.{with_here, with_there, gone_here, gone_there}
-use Rattle.lent_structures.specs.Sound.{IsElement, LeadsOn, element_pages, buffer_name, HasBuffer, IsSoundElement, IsSoundQueue, AreOwn, IsMember}
-use Rattle.lent_structures.proofs.Altering.{same_element, found_element, no_two}
+use Rattle.ring_laws.specs.lent_structures.Structures.{Structure, QueueHead, Element, Buffer, Structures, with_structure, without_structure}
+use Rattle.ring_laws.proofs.lemmas.lent_structures.Names.{with_here, with_there, gone_here, gone_there}
+use Rattle.ring_laws.specs.lent_structures.Sound.{IsElement, LeadsOn, element_pages, buffer_name, HasBuffer, IsSoundElement, IsSoundQueue, AreOwn, IsMember}
+use Rattle.ring_laws.proofs.lemmas.lent_structures.Altering.{same_element, found_element, no_two}
 use Rattle.ring_laws.specs.Stores.{IsUnnamed, NamesOne, IsUnled, IsUnused}
 
 -- ---- a part that has all that another has

@@ -18,13 +18,13 @@ use Rattle.walk_copy.specs.Transacting.{call_in}
 use Rattle.async_walk.specs.declared.state.WalkStep.{WalkStep}
 use Rattle.async_walk.specs.Naks.{kind_at, planned}
 use Rattle.async_walk.specs.Rows.{WalkPlace, at_event, event_row, step_of, Leads}
-use Rattle.lent_structures.specs.Settles.{Brings, Settles}
-use Rattle.lent_structures.proofs.Settling.{settles}
-use Rattle.lent_structures.specs.Structures.{StructureSets}
-use Rattle.lent_structures.proofs.Names.{not_same}
-use Rattle.lent_structures.specs.Sound.{IsSoundQueue, IsMember}
-use Rattle.lent_structures.specs.Alters.{Alters}
-use Rattle.lent_structures.proofs.Altering.{found_queue}
+use Rattle.ring_laws.specs.lent_structures.Settles.{Brings, Settles}
+use Rattle.ring_laws.proofs.lemmas.lent_structures.Settling.{settles}
+use Rattle.ring_laws.specs.lent_structures.Structures.{StructureSets}
+use Rattle.ring_laws.proofs.lemmas.lent_structures.Names.{not_same}
+use Rattle.ring_laws.specs.lent_structures.Sound.{IsSoundQueue, IsMember}
+use Rattle.ring_laws.specs.lent_structures.Alters.{Alters}
+use Rattle.ring_laws.proofs.lemmas.lent_structures.Altering.{found_queue}
 use Rattle.ring_laws.specs.Hand.{Settlement, Hand}
 use Rattle.ring_laws.specs.Ring.{Base, IsCopied, IsInHand, IsRing}
 use Rattle.ring_laws.specs.Effects.{buffer_of, settlement, Makes, AreBytesHeard, Effect}

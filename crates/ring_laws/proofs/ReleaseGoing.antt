@@ -6,8 +6,8 @@ use Rattle.link_words.specs.Links.{qtd_link_of}
 use Rattle.qh_qtd.specs.declared.qtd.Qtd.{Qtd}
 use Rattle.qh_qtd.specs.declared.queue_head.Qh.{Qh}
 use Rattle.walk_copy.specs.Visits.{next_pointer}
-use Rattle.lent_structures.specs.Structures.{Structure, Element, Buffer, Structures}
-use Rattle.lent_structures.specs.Sound.{LeadsOn, buffer_name, HasBuffer, IsReady, IsSoundElement, IsWorking, IsSoundQueue, AreOwn, IsMember}
+use Rattle.ring_laws.specs.lent_structures.Structures.{Structure, Element, Buffer, Structures}
+use Rattle.ring_laws.specs.lent_structures.Sound.{LeadsOn, buffer_name, HasBuffer, IsReady, IsSoundElement, IsWorking, IsSoundQueue, AreOwn, IsMember}
 use Rattle.ring_laws.specs.Fewer.{fewer_structures, MayGo}
 
 pub stays : (goes : ℕ → Bool) (part : Structures) (a : ℕ) → goes a ≡ false → fewer_structures goes part a ≡ part a

@@ -6,8 +6,8 @@ use Rattle.link_words.specs.declared.kinds.QtdLink.TheVariants as qtd_links
 use Rattle.link_words.specs.Links.{qtd_link_of}
 use Rattle.qh_qtd.specs.Blank.{blank_qtd}
 use Rattle.qh_qtd.specs.declared.qtd.Qtd.{Qtd}
-use Rattle.lent_structures.specs.Structures.{QueueHead, Element, Structures, with_structure}
-use Rattle.lent_structures.proofs.Altering.{same_element}
+use Rattle.ring_laws.specs.lent_structures.Structures.{QueueHead, Element, Structures, with_structure}
+use Rattle.ring_laws.proofs.lemmas.lent_structures.Altering.{same_element}
 use Rattle.ring_laws.proofs.Parting.{found_with}
 use Rattle.ring_laws.specs.Fewer.{MayGo}
 use Rattle.ring_laws.specs.ReleaseSamples.{rested, passed, nothing, part, goes}

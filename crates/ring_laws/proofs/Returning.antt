@@ -9,10 +9,10 @@ use Rattle.word_mem.proofs.Filled.{length-filled}
 use Rattle.run_book.proofs.Standing.{released_once}
 use Rattle.qh_qtd.specs.declared.queue_head.Qh.{Qh}
 use Rattle.async_walk.specs.Rows.{WalkPlace}
-use Rattle.lent_structures.specs.Structures.{Structure, QueueHead, Structures, StructureSets, Has, Tells}
-use Rattle.lent_structures.proofs.Names.{not_same}
-use Rattle.lent_structures.proofs.Lending.{got_back, told_released}
-use Rattle.lent_structures.specs.Sound.{IsMember}
+use Rattle.ring_laws.specs.lent_structures.Structures.{Structure, QueueHead, Structures, StructureSets, Has, Tells}
+use Rattle.ring_laws.proofs.lemmas.lent_structures.Names.{not_same}
+use Rattle.ring_laws.proofs.lemmas.lent_structures.Lending.{got_back, told_released}
+use Rattle.ring_laws.specs.lent_structures.Sound.{IsMember}
 use Rattle.ring_laws.specs.Hand.{Hand}
 use Rattle.ring_laws.specs.Ring.{Base, IsRing}
 use Rattle.ring_laws.proofs.Driving.{ring_retold}

@@ -11,8 +11,8 @@ use Rattle.async_walk.specs.declared.rows.WalkRow.{WalkRow}
 use Rattle.async_walk.specs.declared.state.Cursor.{Cursor}
 use Rattle.async_walk.specs.declared.state.Cursor.TheVariants as cursors
 use Rattle.async_walk.specs.Rows.{WalkPlace, started, started_registers, cursor_link, walk_row, was_read, step_of, Leads, fetched_registers}
-use Rattle.lent_structures.specs.Structures.{StructureSets, Tells}
-use Rattle.lent_structures.specs.Sound.{IsMember}
+use Rattle.ring_laws.specs.lent_structures.Structures.{StructureSets, Tells}
+use Rattle.ring_laws.specs.lent_structures.Sound.{IsMember}
 use Rattle.ring_laws.specs.Hand.{Hand, held_of}
 use Rattle.ring_laws.specs.Ring.{Base, base_of, IsCursorAmong, IsInHand, IsRing}
 use Rattle.ring_laws.specs.Effects.{Happens}

@@ -21,8 +21,8 @@ use Rattle.toggle_error.specs.Columns.{expected_pid, limit_of, out_token, token_
 use Rattle.toggle_error.specs.PlainRows.{plain_row}
 use Rattle.toggle_error.specs.Settle.{row_at, outcome_of_row, outcome_of}
 use Rattle.transactions.specs.Calls.{got_of}
-use Rattle.lent_structures.specs.Settles.{is_moved, Leaves, Brings}
-use Rattle.lent_structures.proofs.Moving.{Moves, row_is, in_fits, heard_bytes, heard_fits}
+use Rattle.ring_laws.specs.lent_structures.Settles.{is_moved, Leaves, Brings}
+use Rattle.ring_laws.proofs.lemmas.lent_structures.Moving.{Moves, row_is, in_fits, heard_bytes, heard_fits}
 use Rattle.pipe_agreement.specs.Pipe.{alike}
 use Rattle.pipe_agreement.proofs.Agreement.{took, dropped}
 use Rattle.ring_laws.specs.Bus.{Sender, is_data, Answers, nothing_heard, unacknowledged, acknowledged}

@@ -5,7 +5,7 @@ use Rattle.link_words.specs.declared.fields.LinkBits.{LinkBits}
 use Rattle.qh_qtd.specs.declared.token.Token.{Token}
 use Rattle.qh_qtd.specs.declared.qtd.Qtd.{Qtd}
 use Rattle.qh_qtd.specs.declared.queue_head.Qh.{Qh}
-use Rattle.lent_structures.specs.Structures.{QueueHead, Element, StructureSets}
+use Rattle.ring_laws.specs.lent_structures.Structures.{QueueHead, Element, StructureSets}
 use Rattle.ring_laws.specs.Hand.{Copy, Hand, Empty, Copied, Settled, Stale, copied_queue}
 use Rattle.ring_laws.specs.Effects.{buffer_of}
 use Rattle.ring_laws.specs.Stores.{hand_linked, hand_stale}

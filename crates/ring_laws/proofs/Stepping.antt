@@ -13,10 +13,10 @@ use Rattle.walk_copy.specs.Visits.{next_pointer, visit_of}
 use Rattle.async_walk.specs.declared.rows.WalkRow.TheVariants as rows
 use Rattle.async_walk.specs.Naks.{may_work, planned}
 use Rattle.async_walk.specs.Rows.{WalkPlace, started, row_at, walk_row, work_row, taken_row, take_row, visit_row, read_at, take_read, visit_read, was_read, at_event, event_row, step_of, Leads}
-use Rattle.lent_structures.specs.Structures.{Element, StructureSets}
-use Rattle.lent_structures.proofs.Reading.{element_read, element_not_refused}
-use Rattle.lent_structures.specs.Sound.{LeadsOn, IsWorking, IsSoundQueue, IsMember}
-use Rattle.lent_structures.proofs.Altering.{found_queue}
+use Rattle.ring_laws.specs.lent_structures.Structures.{Element, StructureSets}
+use Rattle.ring_laws.proofs.lemmas.lent_structures.Reading.{element_read, element_not_refused}
+use Rattle.ring_laws.specs.lent_structures.Sound.{LeadsOn, IsWorking, IsSoundQueue, IsMember}
+use Rattle.ring_laws.proofs.lemmas.lent_structures.Altering.{found_queue}
 use Rattle.ring_laws.specs.Hand.{Copy, copied_queue, Hand, Empty, Copied, Settled, Stale}
 use Rattle.ring_laws.specs.Ring.{Base, IsRing}
 use Rattle.ring_laws.specs.Effects.{AreBytesHeard, Happens}

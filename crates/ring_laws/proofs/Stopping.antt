@@ -27,8 +27,8 @@ use Rattle.toggle_error.specs.SplitRows.{after_start, complete_outcome, after_co
 use Rattle.toggle_error.specs.Settle.{row_at, outcome_of_row, after_settle_row, outcome_of}
 use Rattle.transactions.specs.Asks.{token_pid}
 use Rattle.walk_copy.specs.Planning.{pid_at}
-use Rattle.lent_structures.specs.Settles.{is_moved}
-use Rattle.lent_structures.proofs.Moving.{plain_moves, Moves, row_is}
+use Rattle.ring_laws.specs.lent_structures.Settles.{is_moved}
+use Rattle.ring_laws.proofs.lemmas.lent_structures.Moving.{plain_moves, Moves, row_is}
 use Rattle.ring_laws.specs.OutBus.{is_acknowledging, is_acknowledgement}
 
 -- ---- an acknowledgement is heard

@@ -7,11 +7,11 @@ use Rattle.buffers.specs.Bytes.{places, bytes_at, AreReached}
 use Rattle.qh_qtd.specs.declared.qtd.Qtd.{Qtd}
 use Rattle.qh_qtd.specs.Qtd.{qtd_words, IsQtdInRange}
 use Rattle.qh_qtd.specs.QueueHead.{qh_words, IsQhInRange}
-use Rattle.lent_structures.specs.Structures.{Structure, QueueHead, Element, Buffer, HoldsQueueHead, HoldsElement, HoldsBuffer, Holds, Structures, StructureSets, with_structure, put, Has, AreSeparate, Tells}
-use Rattle.lent_structures.proofs.Names.{put_found}
-use Rattle.lent_structures.proofs.Telling.{joined}
-use Rattle.lent_structures.specs.Sound.{IsSoundElement, IsMember}
-use Rattle.lent_structures.proofs.Altering.{same_element}
+use Rattle.ring_laws.specs.lent_structures.Structures.{Structure, QueueHead, Element, Buffer, HoldsQueueHead, HoldsElement, HoldsBuffer, Holds, Structures, StructureSets, with_structure, put, Has, AreSeparate, Tells}
+use Rattle.ring_laws.proofs.lemmas.lent_structures.Names.{put_found}
+use Rattle.ring_laws.proofs.lemmas.lent_structures.Telling.{joined}
+use Rattle.ring_laws.specs.lent_structures.Sound.{IsSoundElement, IsMember}
+use Rattle.ring_laws.proofs.lemmas.lent_structures.Altering.{same_element}
 use Rattle.ring_laws.specs.Hand.{Empty}
 use Rattle.ring_laws.specs.Ring.{IsRing}
 use Rattle.ring_laws.specs.StoreSamples.{head, queue, element, bytes, pages, memory, nothing, parts, member, base, ring}

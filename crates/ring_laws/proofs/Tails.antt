@@ -5,11 +5,11 @@ use Rattle.link_words.specs.declared.kinds.QtdLink.{QtdLink}
 use Rattle.link_words.specs.declared.kinds.QtdLink.TheVariants as qtd_links
 use Rattle.link_words.specs.Links.{qtd_link_of}
 use Rattle.qh_qtd.specs.declared.qtd.Qtd.{Qtd}
-use Rattle.lent_structures.specs.Structures.{Element}
-use Rattle.lent_structures.specs.Sound.{IsElement, LeadsOn}
-use Rattle.lent_structures.specs.Alters.{HadElement}
-use Rattle.lent_structures.proofs.Altering.{found_element}
-use Rattle.lent_structures.proofs.Members.{still_active}
+use Rattle.ring_laws.specs.lent_structures.Structures.{Element}
+use Rattle.ring_laws.specs.lent_structures.Sound.{IsElement, LeadsOn}
+use Rattle.ring_laws.specs.lent_structures.Alters.{HadElement}
+use Rattle.ring_laws.proofs.lemmas.lent_structures.Altering.{found_element}
+use Rattle.ring_laws.proofs.lemmas.lent_structures.Members.{still_active}
 use Rattle.ring_laws.specs.Tail.{TailStays, LastIsTail, TailMoves}
 
 pub tail_stays : TailStays

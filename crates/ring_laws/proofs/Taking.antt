@@ -16,15 +16,15 @@ use Rattle.async_walk.specs.declared.rows.WalkRow.TheVariants as rows
 use Rattle.async_walk.specs.declared.state.WalkStep.{WalkStep}
 use Rattle.async_walk.specs.declared.state.WalkStep.TheVariants as steps
 use Rattle.async_walk.specs.Rows.{WalkPlace, step_of, Leads, took, took_step, faulted}
-use Rattle.lent_structures.specs.Structures.{QueueHead, Element, Structures, StructureSets, put, HoldsElement, Tells}
-use Rattle.lent_structures.specs.Changes.{relinked}
-use Rattle.lent_structures.proofs.Names.{put_here, put_beside, put_same, put_else}
-use Rattle.lent_structures.proofs.Reading.{head_reached}
-use Rattle.lent_structures.proofs.Writing.{overlay_put}
-use Rattle.lent_structures.specs.Sound.{IsReady, IsSoundElement, IsWorking, IsSoundQueue, LeadsAmong, IsMember}
-use Rattle.lent_structures.specs.Alters.{Alters}
-use Rattle.lent_structures.proofs.Altering.{found_queue, no_two, head_put}
-use Rattle.lent_structures.proofs.Members.{member_still}
+use Rattle.ring_laws.specs.lent_structures.Structures.{QueueHead, Element, Structures, StructureSets, put, HoldsElement, Tells}
+use Rattle.ring_laws.specs.lent_structures.Changes.{relinked}
+use Rattle.ring_laws.proofs.lemmas.lent_structures.Names.{put_here, put_beside, put_same, put_else}
+use Rattle.ring_laws.proofs.lemmas.lent_structures.Reading.{head_reached}
+use Rattle.ring_laws.proofs.lemmas.lent_structures.Writing.{overlay_put}
+use Rattle.ring_laws.specs.lent_structures.Sound.{IsReady, IsSoundElement, IsWorking, IsSoundQueue, LeadsAmong, IsMember}
+use Rattle.ring_laws.specs.lent_structures.Alters.{Alters}
+use Rattle.ring_laws.proofs.lemmas.lent_structures.Altering.{found_queue, no_two, head_put}
+use Rattle.ring_laws.proofs.lemmas.lent_structures.Members.{member_still}
 use Rattle.ring_laws.specs.Hand.{Copy, copied_queue, Copied}
 use Rattle.ring_laws.specs.Ring.{Base, IsRing}
 use Rattle.ring_laws.specs.Effects.{taken, Happens}

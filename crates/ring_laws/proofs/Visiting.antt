@@ -13,7 +13,7 @@ use Rattle.async_walk.specs.declared.rows.WalkRow.TheVariants as rows
 use Rattle.async_walk.specs.declared.state.Cursor.TheVariants as cursors
 use Rattle.async_walk.specs.Walk.{Walk}
 use Rattle.async_walk.specs.Rows.{WalkPlace, step_of, Leads, passed_walk, out_of_time}
-use Rattle.lent_structures.specs.Structures.{StructureSets}
+use Rattle.ring_laws.specs.lent_structures.Structures.{StructureSets}
 use Rattle.ring_laws.specs.Hand.{Copy, Empty, Copied, Stale}
 use Rattle.ring_laws.specs.Ring.{Base, IsRing}
 use Rattle.ring_laws.specs.Effects.{Happens}

@@ -9,13 +9,13 @@ use Rattle.walk_copy.specs.Overlay.{advanced}
 use Rattle.walk_copy.specs.WriteBack.{moved_by}
 use Rattle.async_walk.specs.declared.state.WalkStep.{WalkStep}
 use Rattle.buffers.specs.Bytes.{place as place_of_byte}
-use Rattle.lent_structures.specs.Changes.{overwritten}
-use Rattle.lent_structures.specs.Structures.{QueueHead, Element, Buffer, StructureSets, put}
-use Rattle.lent_structures.proofs.Names.{put_beside, put_found}
-use Rattle.lent_structures.specs.WriteBack.{CanBeWritten, Received, Nothing, Into, received_parts}
-use Rattle.lent_structures.proofs.Found.{back_head, back_element, back_beside}
-use Rattle.lent_structures.specs.Sound.{IsWorking, IsSoundQueue, IsMember}
-use Rattle.lent_structures.proofs.Altering.{found_queue, found_element}
+use Rattle.ring_laws.specs.lent_structures.Changes.{overwritten}
+use Rattle.ring_laws.specs.lent_structures.Structures.{QueueHead, Element, Buffer, StructureSets, put}
+use Rattle.ring_laws.proofs.lemmas.lent_structures.Names.{put_beside, put_found}
+use Rattle.ring_laws.specs.lent_structures.WriteBack.{CanBeWritten, Received, Nothing, Into, received_parts}
+use Rattle.ring_laws.proofs.lemmas.lent_structures.Found.{back_head, back_element, back_beside}
+use Rattle.ring_laws.specs.lent_structures.Sound.{IsWorking, IsSoundQueue, IsMember}
+use Rattle.ring_laws.proofs.lemmas.lent_structures.Altering.{found_queue, found_element}
 use Rattle.ring_laws.specs.Hand.{settled_queue_of, Hand}
 use Rattle.ring_laws.specs.Ring.{IsCopied, IsSettled, IsInHand}
 use Rattle.ring_laws.specs.Effects.{received_into, Takes, WritesBack, Effect}

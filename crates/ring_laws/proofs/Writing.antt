@@ -27,17 +27,17 @@ use Rattle.async_walk.specs.declared.state.Cursor.TheVariants as cursors
 use Rattle.async_walk.specs.declared.state.WalkStep.{WalkStep}
 use Rattle.async_walk.specs.declared.state.WalkStep.TheVariants as steps
 use Rattle.async_walk.specs.Rows.{WalkPlace, step_of, Leads, passed_walk, wrote, wrote_place, wrote_step}
-use Rattle.lent_structures.specs.Settles.{Brings}
-use Rattle.lent_structures.specs.Structures.{QueueHead, Element, Buffer, Structures, StructureSets, put, HoldsBuffer, Tells}
-use Rattle.lent_structures.specs.Changes.{relinked, overwritten}
-use Rattle.lent_structures.proofs.Names.{put_here, put_beside, put_same, put_else}
-use Rattle.lent_structures.proofs.Storing.{length-overwritten}
-use Rattle.lent_structures.specs.WriteBack.{Received, Nothing, Into, IsReceived, received_parts, CanBeWritten, qtd_after, parts_back}
-use Rattle.lent_structures.proofs.WrittenBack.{head_is_no_buffer, received_else, between_element, all_written, told_back}
-use Rattle.lent_structures.specs.Sound.{LeadsOn, element_pages, buffer_name, HasBuffer, IsReady, IsSoundElement, IsWorking, IsSoundQueue, LeadsAmong, IsMember}
-use Rattle.lent_structures.specs.Alters.{IsAfter, Alters}
-use Rattle.lent_structures.proofs.Altering.{found_queue, no_two, is_itself, unaltered, altered_both, head_put, element_put, buffer_put}
-use Rattle.lent_structures.proofs.Members.{leads_still, pointer_leads, member_still}
+use Rattle.ring_laws.specs.lent_structures.Settles.{Brings}
+use Rattle.ring_laws.specs.lent_structures.Structures.{QueueHead, Element, Buffer, Structures, StructureSets, put, HoldsBuffer, Tells}
+use Rattle.ring_laws.specs.lent_structures.Changes.{relinked, overwritten}
+use Rattle.ring_laws.proofs.lemmas.lent_structures.Names.{put_here, put_beside, put_same, put_else}
+use Rattle.ring_laws.proofs.lemmas.lent_structures.Storing.{length-overwritten}
+use Rattle.ring_laws.specs.lent_structures.WriteBack.{Received, Nothing, Into, IsReceived, received_parts, CanBeWritten, qtd_after, parts_back}
+use Rattle.ring_laws.proofs.lemmas.lent_structures.WrittenBack.{head_is_no_buffer, received_else, between_element, all_written, told_back}
+use Rattle.ring_laws.specs.lent_structures.Sound.{LeadsOn, element_pages, buffer_name, HasBuffer, IsReady, IsSoundElement, IsWorking, IsSoundQueue, LeadsAmong, IsMember}
+use Rattle.ring_laws.specs.lent_structures.Alters.{IsAfter, Alters}
+use Rattle.ring_laws.proofs.lemmas.lent_structures.Altering.{found_queue, no_two, is_itself, unaltered, altered_both, head_put, element_put, buffer_put}
+use Rattle.ring_laws.proofs.lemmas.lent_structures.Members.{leads_still, pointer_leads, member_still}
 use Rattle.ring_laws.specs.Hand.{Copy, copied_queue, Settlement, settled_queue_of, Empty, Settled}
 use Rattle.ring_laws.specs.Ring.{Base, base_of, IsSettled, IsRing}
 use Rattle.ring_laws.specs.Effects.{bytes_in, buffer_of, received_into, Happens}

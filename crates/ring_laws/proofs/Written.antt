@@ -6,15 +6,15 @@ use Rattle.qh_qtd.specs.declared.qtd.Qtd.{Qtd}
 use Rattle.qh_qtd.specs.declared.queue_head.Qh.{Qh}
 use Rattle.walk_copy.specs.Overlay.{settled_queue, buffer_place, moved}
 use Rattle.walk_copy.specs.WriteBack.{moved_by}
-use Rattle.lent_structures.specs.Structures.{QueueHead, Element, Buffer, Structures, StructureSets, put, with_structure}
-use Rattle.lent_structures.specs.Changes.{relinked, overwritten}
-use Rattle.lent_structures.proofs.Names.{not_same, put_here, put_same, put_else, with_here, with_there}
-use Rattle.lent_structures.proofs.Storing.{length-overwritten}
-use Rattle.lent_structures.specs.WriteBack.{Received, IsReceived, received_parts, CanBeWritten, qtd_after, parts_back}
-use Rattle.lent_structures.proofs.WrittenBack.{received_else, between_element, head_is_no_buffer}
-use Rattle.lent_structures.proofs.Found.{back_beside, back_element, back_head, back_other_element}
-use Rattle.lent_structures.specs.Sound.{element_pages, buffer_name, AreOwn}
-use Rattle.lent_structures.proofs.Altering.{found_queue, found_element}
+use Rattle.ring_laws.specs.lent_structures.Structures.{QueueHead, Element, Buffer, Structures, StructureSets, put, with_structure}
+use Rattle.ring_laws.specs.lent_structures.Changes.{relinked, overwritten}
+use Rattle.ring_laws.proofs.lemmas.lent_structures.Names.{not_same, put_here, put_same, put_else, with_here, with_there}
+use Rattle.ring_laws.proofs.lemmas.lent_structures.Storing.{length-overwritten}
+use Rattle.ring_laws.specs.lent_structures.WriteBack.{Received, IsReceived, received_parts, CanBeWritten, qtd_after, parts_back}
+use Rattle.ring_laws.proofs.lemmas.lent_structures.WrittenBack.{received_else, between_element, head_is_no_buffer}
+use Rattle.ring_laws.proofs.lemmas.lent_structures.Found.{back_beside, back_element, back_head, back_other_element}
+use Rattle.ring_laws.specs.lent_structures.Sound.{element_pages, buffer_name, AreOwn}
+use Rattle.ring_laws.proofs.lemmas.lent_structures.Altering.{found_queue, found_element}
 use Rattle.ring_laws.specs.Hand.{Copy, Settlement, settled_queue_of, Hand, Settled}
 use Rattle.ring_laws.specs.Ring.{IsCopied, IsSettled}
 use Rattle.ring_laws.specs.Effects.{bytes_in, buffer_of, received_into, WritesBack}

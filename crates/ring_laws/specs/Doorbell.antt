@@ -10,7 +10,7 @@ use Rattle.async_walk.specs.declared.state.Cursor.TheVariants as cursors
 use Rattle.async_walk.specs.declared.state.ReloadMode.{ReloadMode}
 use Rattle.async_walk.specs.Naks.{reloaded}
 use Rattle.async_walk.specs.Rows.{WalkPlace}
-use Rattle.lent_structures.specs.Structures.{QueueHead, StructureSets}
+use Rattle.ring_laws.specs.lent_structures.Structures.{QueueHead, StructureSets}
 
 pub record IsAtStart (new : WalkPlace) : Type 0 where
   pub cursor : new.walk.cursor ≡ cursors.Start

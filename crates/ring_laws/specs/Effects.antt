@@ -21,9 +21,9 @@ use Rattle.async_walk.specs.declared.state.WalkStep.{WalkStep}
 use Rattle.async_walk.specs.declared.state.WalkStep.TheVariants as steps
 use Rattle.async_walk.specs.Naks.{planned, counts, naks_after}
 use Rattle.async_walk.specs.Rows.{WalkPlace}
-use Rattle.lent_structures.specs.Structures.{Structure, QueueHead, Element, Buffer, Structures, StructureSets, put}
-use Rattle.lent_structures.specs.Sound.{element_pages, buffer_name}
-use Rattle.lent_structures.specs.WriteBack.{Received, Nothing, Into, IsReceived, parts_back}
+use Rattle.ring_laws.specs.lent_structures.Structures.{Structure, QueueHead, Element, Buffer, Structures, StructureSets, put}
+use Rattle.ring_laws.specs.lent_structures.Sound.{element_pages, buffer_name}
+use Rattle.ring_laws.specs.lent_structures.WriteBack.{Received, Nothing, Into, IsReceived, parts_back}
 use Rattle.ring_laws.specs.Hand.{Copy, copied_queue, Settlement, settled_queue_of, Hand, Empty, Copied, Settled}
 use Rattle.ring_laws.specs.Ring.{Base, IsRing}
 

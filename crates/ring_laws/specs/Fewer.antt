@@ -13,8 +13,8 @@ use Rattle.qh_qtd.specs.declared.qtd.Qtd.{Qtd}
 use Rattle.qh_qtd.specs.declared.queue_head.Qh.{Qh}
 use Rattle.walk_copy.specs.Visits.{next_pointer}
 use Rattle.async_walk.specs.Rows.{WalkPlace}
-use Rattle.lent_structures.specs.Structures.{Structure, QueueHead, Element, Structures, StructureSets, Has, Tells}
-use Rattle.lent_structures.specs.Sound.{buffer_name, IsMember}
+use Rattle.ring_laws.specs.lent_structures.Structures.{Structure, QueueHead, Element, Structures, StructureSets, Has, Tells}
+use Rattle.ring_laws.specs.lent_structures.Sound.{buffer_name, IsMember}
 use Rattle.ring_laws.specs.Hand.{Hand}
 use Rattle.ring_laws.specs.Ring.{Base, IsRing}
 

@@ -4,7 +4,7 @@ use Rattle.qh_qtd.specs.declared.qtd.Qtd.{Qtd}
 use Rattle.qh_qtd.specs.declared.queue_head.Qh.{Qh}
 use Rattle.qh_qtd.specs.declared.token.Token.{Token}
 use Rattle.qh_qtd.specs.Blank.{blank_token, blank_qtd, blank_head}
-use Rattle.lent_structures.specs.Structures.{QueueHead, Element, Structures, with_structure}
+use Rattle.ring_laws.specs.lent_structures.Structures.{QueueHead, Element, Structures, with_structure}
 
 abbrev pub halted_token : Token
 halted_token = record blank_token { halted = true; pid = 1; total = 2 }

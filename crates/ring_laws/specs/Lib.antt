@@ -22,3 +22,5 @@ pub mod HaltSamples
 pub mod OutBus
 pub mod OutPipes
 pub mod OutPipeLaws
+pub mod lent_structures
+pub mod walk_writes

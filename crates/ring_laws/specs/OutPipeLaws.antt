@@ -2,7 +2,7 @@
 --     IsOnlyEndpoint ..         the queue head at n is a high-speed member with this endpoint, and no other member sends it an OUT
 use Rattle.std.specs.Prelude.{◌≡◌, ◌≢◌, ℕ, ◌⊎◌, Bool, true, Some}
 use Rattle.qh_qtd.specs.declared.qtd.Qtd.{Qtd}
-use Rattle.lent_structures.specs.Structures.{Element, Structures, StructureSets}
+use Rattle.ring_laws.specs.lent_structures.Structures.{Element, Structures, StructureSets}
 use Rattle.ring_laws.specs.Told.{Endpoint, HasEndpoint}
 
 abbrev pub SendsNone : Structures → Type 0

@@ -9,8 +9,8 @@ use Rattle.std.specs.Prelude.{◌≡◌, ℕ, ◌-◌, min, Bool, true, false, n
 use Rattle.qh_qtd.specs.declared.qtd.Qtd.{Qtd}
 use Rattle.qh_qtd.specs.declared.queue_head.Qh.{Qh}
 use Rattle.walk_copy.specs.Overlay.{buffer_place}
-use Rattle.lent_structures.specs.Settles.{is_moved}
-use Rattle.lent_structures.specs.Structures.{Element, Structures, StructureSets}
+use Rattle.ring_laws.specs.lent_structures.Settles.{is_moved}
+use Rattle.ring_laws.specs.lent_structures.Structures.{Element, Structures, StructureSets}
 use Rattle.ring_laws.specs.Hand.{Hand, Empty, Copied, Settled, Stale}
 use Rattle.ring_laws.specs.Effects.{buffer_of}
 use Rattle.ring_laws.specs.Told.{HasToggle, Endpoint, HasEndpoint}

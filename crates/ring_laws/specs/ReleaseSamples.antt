@@ -6,7 +6,7 @@ use Rattle.std.specs.Prelude.{ℕ, Bool, true, false, ◌==◌, None}
 use Rattle.qh_qtd.specs.Blank.{blank_token, blank_qtd, blank_head}
 use Rattle.qh_qtd.specs.declared.qtd.Qtd.{Qtd}
 use Rattle.qh_qtd.specs.declared.queue_head.Qh.{Qh}
-use Rattle.lent_structures.specs.Structures.{QueueHead, Element, Structures, with_structure}
+use Rattle.ring_laws.specs.lent_structures.Structures.{QueueHead, Element, Structures, with_structure}
 
 abbrev pub rested : Qh
 rested = record blank_head {

@@ -14,12 +14,12 @@ use Rattle.link_words.specs.declared.kinds.Link.TheVariants as links
 use Rattle.qh_qtd.specs.declared.queue_head.Qh.{Qh}
 use Rattle.qh_qtd.specs.QueueHead.{IsQhInRange}
 use Rattle.op_registers.specs.RegisterFile.{RegisterFile}
-use Rattle.lent_structures.specs.Settles.{Leaves, Brings}
+use Rattle.ring_laws.specs.lent_structures.Settles.{Leaves, Brings}
 use Rattle.walk_copy.specs.Planning.{pid_at, host_in}
 use Rattle.walk_copy.specs.WriteBack.{received}
 use Rattle.async_walk.specs.Rows.{WalkPlace, cursor_link}
-use Rattle.lent_structures.specs.Structures.{QueueHead, StructureSets, Tells}
-use Rattle.lent_structures.specs.Sound.{LeadsAmong, IsMember}
+use Rattle.ring_laws.specs.lent_structures.Structures.{QueueHead, StructureSets, Tells}
+use Rattle.ring_laws.specs.lent_structures.Sound.{LeadsAmong, IsMember}
 use Rattle.ring_laws.specs.Hand.{Copy, copied_queue, Settlement, Hand, Empty, Copied, Settled, Stale, held_of}
 
 pub record Base : Type 0 where

@@ -10,9 +10,9 @@ use Rattle.qh_qtd.specs.declared.queue_head.Qh.{Qh}
 use Rattle.qh_qtd.specs.Qtd.{qtd_words, IsQtdInRange}
 use Rattle.qh_qtd.specs.QueueHead.{qh_words, IsQhInRange}
 use Rattle.async_walk.specs.Rows.{WalkPlace}
-use Rattle.lent_structures.specs.Structures.{Structure, QueueHead, Element, Buffer, Structures, StructureSets, with_structure, put, without_structure, without, Holds, Has, Tells}
-use Rattle.lent_structures.specs.Changes.{Leaves, IsNew}
-use Rattle.lent_structures.specs.Sound.{LeadsAmong, IsSoundElement, IsSoundQueue, IsMember}
+use Rattle.ring_laws.specs.lent_structures.Structures.{Structure, QueueHead, Element, Buffer, Structures, StructureSets, with_structure, put, without_structure, without, Holds, Has, Tells}
+use Rattle.ring_laws.specs.lent_structures.Changes.{Leaves, IsNew}
+use Rattle.ring_laws.specs.lent_structures.Sound.{LeadsAmong, IsSoundElement, IsSoundQueue, IsMember}
 use Rattle.ring_laws.specs.Hand.{Hand}
 use Rattle.ring_laws.specs.Ring.{Base, IsRing}
 use Rattle.ring_laws.specs.Stores.{KeepsQueueHeads, IsUnnamed, NamesOne, IsUnled, IsUnused, hand_linked, hand_stale, IsWider, IsClosed}

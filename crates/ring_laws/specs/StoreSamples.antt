@@ -15,7 +15,7 @@ use Rattle.qh_qtd.specs.Qtd.{qtd_words}
 use Rattle.qh_qtd.specs.QueueHead.{qh_words}
 use Rattle.async_walk.specs.Walk.{new_walk}
 use Rattle.async_walk.specs.Rows.{WalkPlace}
-use Rattle.lent_structures.specs.Structures.{QueueHead, Element, Buffer, StructureSets, put}
+use Rattle.ring_laws.specs.lent_structures.Structures.{QueueHead, Element, Buffer, StructureSets, put}
 use Rattle.ring_laws.specs.Ring.{Base}
 
 abbrev pub head : Qh

@@ -18,8 +18,8 @@ use Rattle.qh_qtd.specs.declared.qtd.Qtd.{Qtd}
 use Rattle.qh_qtd.specs.declared.queue_head.Qh.{Qh}
 use Rattle.walk_copy.specs.Visits.{next_pointer}
 use Rattle.async_walk.specs.Rows.{WalkPlace}
-use Rattle.lent_structures.specs.Structures.{QueueHead, Element, Buffer, Structures, StructureSets}
-use Rattle.lent_structures.specs.Sound.{buffer_name, LeadsAmong}
+use Rattle.ring_laws.specs.lent_structures.Structures.{QueueHead, Element, Buffer, Structures, StructureSets}
+use Rattle.ring_laws.specs.lent_structures.Sound.{buffer_name, LeadsAmong}
 use Rattle.ring_laws.specs.Hand.{Copy, copied_queue, Hand, Empty, Copied, Settled, Stale}
 use Rattle.ring_laws.specs.Ring.{IsCursorAmong}
 

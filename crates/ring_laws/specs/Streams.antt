@@ -13,8 +13,8 @@ use Rattle.walk_copy.specs.Overlay.{buffer_place}
 use Rattle.walk_copy.specs.WriteBack.{moved_by}
 use Rattle.async_walk.specs.declared.state.WalkStep.{WalkStep}
 use Rattle.async_walk.specs.Rows.{WalkPlace}
-use Rattle.lent_structures.specs.Structures.{StructureSets}
-use Rattle.lent_structures.specs.Sound.{IsMember}
+use Rattle.ring_laws.specs.lent_structures.Structures.{StructureSets}
+use Rattle.ring_laws.specs.lent_structures.Sound.{IsMember}
 use Rattle.ring_laws.specs.Hand.{Copy, Settlement, Hand}
 use Rattle.ring_laws.specs.Ring.{Base}
 use Rattle.ring_laws.specs.Effects.{buffer_of, settlement, Makes, Happens}

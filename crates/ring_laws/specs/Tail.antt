@@ -4,9 +4,9 @@
 --     TailMoves        a later one is a tail too
 use Rattle.std.specs.Prelude.{◌≡◌, ◌≢◌, ℕ, ◌<◌, ◌≤◌, Bool, false, Some}
 use Rattle.qh_qtd.specs.declared.qtd.Qtd.{Qtd}
-use Rattle.lent_structures.specs.Structures.{Element, Structures}
-use Rattle.lent_structures.specs.Sound.{IsMember}
-use Rattle.lent_structures.specs.Alters.{Alters}
+use Rattle.ring_laws.specs.lent_structures.Structures.{Element, Structures}
+use Rattle.ring_laws.specs.lent_structures.Sound.{IsMember}
+use Rattle.ring_laws.specs.lent_structures.Alters.{Alters}
 use Rattle.ring_laws.specs.Front.{LinksWithin, HasTail}
 
 abbrev pub TailStays : Type 0

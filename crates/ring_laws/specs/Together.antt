@@ -8,9 +8,9 @@ use Rattle.std.specs.Prelude.{◌≡◌, ◌≢◌, ℕ, Bool, true, List, [], �
 use Rattle.std.specs.List.{AllByRecursion}
 use Rattle.word_mem.specs.Memory.{Mem}
 use Rattle.async_walk.specs.Rows.{WalkPlace}
-use Rattle.lent_structures.specs.Structures.{Structure, StructureSets, put, Has}
-use Rattle.lent_structures.specs.Changes.{Leaves, IsNew}
-use Rattle.lent_structures.specs.Sound.{IsMember}
+use Rattle.ring_laws.specs.lent_structures.Structures.{Structure, StructureSets, put, Has}
+use Rattle.ring_laws.specs.lent_structures.Changes.{Leaves, IsNew}
+use Rattle.ring_laws.specs.lent_structures.Sound.{IsMember}
 use Rattle.ring_laws.specs.Hand.{Hand}
 use Rattle.ring_laws.specs.Ring.{Base, IsRing}
 

@@ -15,8 +15,8 @@ use Rattle.std.specs.Prelude.{◌≡◌, ℕ, ◌-◌, Bool, false, ◌&&◌, �
 use Rattle.qh_qtd.specs.declared.qtd.Qtd.{Qtd}
 use Rattle.qh_qtd.specs.declared.queue_head.Qh.{Qh}
 use Rattle.walk_copy.specs.Overlay.{buffer_place}
-use Rattle.lent_structures.specs.Structures.{QueueHead, Element, StructureSets}
-use Rattle.lent_structures.specs.Changes.{overwritten}
+use Rattle.ring_laws.specs.lent_structures.Structures.{QueueHead, Element, StructureSets}
+use Rattle.ring_laws.specs.lent_structures.Changes.{overwritten}
 use Rattle.ring_laws.specs.Hand.{Settlement, Hand, Empty, Copied, Settled, Stale}
 use Rattle.ring_laws.specs.Effects.{buffer_of}
 

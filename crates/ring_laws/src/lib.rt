@@ -24,6 +24,9 @@
 //! - `out_pipe_laws`: The pipe of an OUT endpoint of a ring (EHCI 1.0, 4.10 and 4.11; USB 2.0, 8.6): over any bus whose devices take their streams by the
 //!   toggle, and that loses packets as it likes, each event of the walk keeps both sides agreed: the device took the bytes that the host knows to be taken, or
 //!   besides them the packet that the host sends next.
+//! - `walk_writes`: What an event of the ring's walk writes (EHCI 1.0, 4.8 to 4.10): words of Lent blocks alone, whatever stands in memory.
+//! - `lent_structures`: Structures in memory that runs lent to the controller hold (EHCI 1.0, 3.5, 3.6 and 4.10): what is told of them, of what a transaction
+//!   settles in them and of what is written back.
 //!
 //! The crate has no code of its own: each function is a law, and its body is empty.
 #![tactic(auto)]
@@ -33,6 +36,7 @@ mod front_worked;
 mod halt_laws;
 mod halt_worked;
 pub mod lend_laws;
+pub mod lent_structures;
 mod order_laws;
 mod out_pipe_laws;
 mod pipe_laws;
@@ -43,6 +47,7 @@ pub mod store_laws;
 pub mod store_worked;
 mod stream_laws;
 mod walk_laws;
+pub mod walk_writes;
 
 pub use front_laws::{a_queue_has_a_tail, a_row_spares_the_front, each_event_moves_the_front_on};
 pub use halt_laws::{

@@ -2,8 +2,8 @@ ghost use Rattle.std.specs.Prelude.{◌≡◌, ℕ, ◌-◌, Bool, true, false, 
 ghost use Rattle.usb_base.specs.declared.packets.Reply.{Reply};
 ghost use Rattle.qh_qtd.specs.declared.qtd.Qtd.{Qtd};
 ghost use Rattle.async_walk.specs.declared.state.WalkStep.{WalkStep};
-ghost use Rattle.lent_structures.specs.Structures.{Element, StructureSets};
-ghost use Rattle.lent_structures.specs.Sound.{IsMember};
+ghost use Rattle.ring_laws.specs.lent_structures.Structures.{Element, StructureSets};
+ghost use Rattle.ring_laws.specs.lent_structures.Sound.{IsMember};
 ghost use Rattle.ring_laws.specs.Hand.{Hand};
 ghost use Rattle.ring_laws.specs.Ring.{IsInHand};
 ghost use Rattle.ring_laws.specs.Effects.{buffer_of, Effect};

@@ -4,7 +4,7 @@
 ghost use Rattle.std.specs.Prelude.{◌≡◌, ℕ, Bool, true, List, ◌++◌, Option};
 ghost use Rattle.usb_base.specs.declared.packets.Reply.{Reply as Heard};
 ghost use Rattle.async_walk.specs.declared.state.WalkStep.{WalkStep};
-ghost use Rattle.lent_structures.specs.Structures.{StructureSets};
+ghost use Rattle.ring_laws.specs.lent_structures.Structures.{StructureSets};
 ghost use Rattle.ring_laws.specs.Hand.{Hand};
 ghost use Rattle.ring_laws.specs.Ring.{IsInHand};
 ghost use Rattle.ring_laws.specs.Effects.{Effect};

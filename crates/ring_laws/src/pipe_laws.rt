@@ -1,7 +1,7 @@
 ghost use Rattle.std.specs.Prelude.{◌≡◌, ℕ, Bool, true, List, Option};
 ghost use Rattle.std.specs.List.{concat};
 ghost use Rattle.async_walk.specs.Rows.{WalkPlace, at_event, event_row, step_of, Leads};
-ghost use Rattle.lent_structures.specs.Structures.{StructureSets};
+ghost use Rattle.ring_laws.specs.lent_structures.Structures.{StructureSets};
 ghost use Rattle.ring_laws.specs.Hand.{Hand};
 ghost use Rattle.ring_laws.specs.Ring.{Base, IsRing};
 ghost use Rattle.ring_laws.specs.Effects.{AreBytesHeard};

@@ -7,7 +7,7 @@ use Rattle.hc_core.specs.declared.controller.HcStep.{HcStep}
 use Rattle.hc_core.specs.declared.controller.HcStep.TheVariants as steps
 use Rattle.hc_core.specs.Controller.{Content, microframe_row, HasRow}
 use Rattle.ring_laws.specs.Ring.{Base}
-use Rattle.controlled_streams.proofs.Controlling.{event_controls}
+use Rattle.walked_queues.proofs.lemmas.controlled_streams.Controlling.{event_controls}
 use Rattle.ring_runs.specs.Runs.{EventIsTold, IsRunning, StaysUnderWay, made_by, AllAreMade}
 
 pub event_told : {W : Type 0} (begins : W → ℕ → Bool → W → Type 0) (transacts : W → Ask → List ℕ → Reply → W → Type 0) (old : Content) (before : W) (new : Content) (after : W) → HasRow begins transacts (microframe_row old.registers old.control) old before new after → EventIsTold begins transacts old before new after

@@ -10,11 +10,11 @@ use Rattle.usb_base.specs.declared.packets.Reply.{Reply}
 use Rattle.hc_core.specs.declared.controller.HcStep.{HcStep}
 use Rattle.hc_core.specs.declared.controller.HcStep.TheVariants as steps
 use Rattle.hc_core.specs.Controller.{Content, microframe_row, HasRow}
-use Rattle.lent_structures.specs.Structures.{StructureSets}
+use Rattle.ring_laws.specs.lent_structures.Structures.{StructureSets}
 use Rattle.ring_laws.specs.Hand.{Hand}
 use Rattle.ring_laws.specs.Ring.{Base}
 use Rattle.ring_laws.specs.Effects.{AreBytesHeard}
-use Rattle.controlled_streams.specs.Control.{IsOn, IsControlled, Controls}
+use Rattle.walked_queues.specs.controlled_streams.Control.{IsOn, IsControlled, Controls}
 
 abbrev pub HearsBytes : {W : Type 0} → (W → Ask → List ℕ → Reply → W → Type 0) → Type 0
 HearsBytes {W} transacts = (before after : W) → AreBytesHeard transacts before after

@@ -5,7 +5,7 @@ use Rattle.std.specs.List.{AllByRecursion}
 use Rattle.script_types.specs.declared.scripts.Line.{Line}
 use Rattle.script_types.specs.declared.scripts.Line.TheVariants as lines
 use Rattle.script_types.specs.declared.scripts.Script.{Script}
-use Rattle.walk_members.specs.Reached.{OpensNumbered}
+use Rattle.driver_laws.specs.walk_members.Reached.{OpensNumbered}
 
 abbrev pub NumbersLine : Line → Type 0
 NumbersLine (lines.Command cmd) = OpensNumbered cmd

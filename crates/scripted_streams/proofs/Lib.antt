@@ -3,3 +3,4 @@ pub mod Devices
 pub mod Sending
 pub mod Asking
 pub mod Beginning
+pub mod lemmas

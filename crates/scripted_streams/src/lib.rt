@@ -1,8 +1,13 @@
 //! The bus of a script is one whose devices send their streams by the toggle (USB 2.0, 8.5 and 8.6): a bulk or interrupt IN endpoint on the
 //! high-speed bus answers with the packet that it has left, until it hears the acknowledgement, and no other transaction changes it.
 //!
+//! - `scripted_takers`: The bus of a script is one whose devices take their streams by the toggle (USB 2.0, 8.5 and 8.6): a bulk or interrupt OUT endpoint on
+//!   the high-speed bus takes data of the toggle that it expects or refuses them, drops any other, and no other transaction gives it bytes.
+//!
 //! The crate has no code of its own: each function is a law over the definitions of `usb_bus` and `ring_laws`, and its body is empty.
 #![tactic(auto)]
+
+pub mod scripted_takers;
 
 ghost use Rattle.std.specs.Prelude.{◌≡◌, ℕ, Bool, List};
 ghost use Rattle.usb_base.specs.declared.packets.Ask.{Ask};

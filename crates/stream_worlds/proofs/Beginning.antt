@@ -14,8 +14,8 @@ use Rattle.endpoint_script.specs.declared.endpoint.Role.TheVariants.{Takes}
 use Rattle.endpoint_script.specs.Device.{Device, opened_part, opened_endpoint, opening}
 use Rattle.usb_bus.specs.Bus.{opening_wired}
 use Rattle.ring_laws.specs.OutBus.{Taker}
-use Rattle.scripted_takers.specs.Takers.{taker_of}
-use Rattle.scripted_takers.proofs.Asking.{HasTaker, taker_found}
+use Rattle.scripted_streams.specs.scripted_takers.Takers.{taker_of}
+use Rattle.scripted_streams.proofs.lemmas.scripted_takers.Asking.{HasTaker, taker_found}
 use Rattle.stream_worlds.specs.Outs.{IsUntaken}
 use Rattle.stream_worlds.specs.Takers.{OpeningIsUntaken}
 

@@ -4,19 +4,19 @@ use Rattle.std.proofs.lemmas.Bool.{cases_eq, eq-eqb}
 use Rattle.std.proofs.lemmas.List.{append_assoc}
 use Rattle.qh_qtd.specs.declared.qtd.Qtd.{Qtd}
 use Rattle.qh_qtd.specs.declared.queue_head.Qh.{Qh}
-use Rattle.lent_structures.specs.Structures.{Element, StructureSets}
-use Rattle.lent_structures.proofs.Names.{not_same}
-use Rattle.lent_structures.proofs.Altering.{found_queue, found_element}
+use Rattle.ring_laws.specs.lent_structures.Structures.{Element, StructureSets}
+use Rattle.ring_laws.proofs.lemmas.lent_structures.Names.{not_same}
+use Rattle.ring_laws.proofs.lemmas.lent_structures.Altering.{found_queue, found_element}
 use Rattle.ring_laws.specs.Hand.{Hand}
 use Rattle.ring_laws.specs.Effects.{buffer_of}
 use Rattle.ring_laws.specs.Told.{hand_bytes, Told, Endpoint}
 use Rattle.ring_laws.specs.OutBus.{Taker}
 use Rattle.ring_laws.specs.OutPipes.{IsOutPipe}
-use Rattle.controlled_streams.specs.Outs.{IsOutStream}
-use Rattle.controlled_streams.specs.Storing.{with_out}
-use Rattle.controlled_streams.proofs.Streams.{out_here, out_beside}
-use Rattle.told_harvests.specs.Passed.{IsNoneTold, HarvestsFirst}
-use Rattle.told_harvests.proofs.Passing.{first_harvested}
+use Rattle.walked_queues.specs.controlled_streams.Outs.{IsOutStream}
+use Rattle.walked_queues.specs.controlled_streams.Storing.{with_out}
+use Rattle.walked_queues.proofs.lemmas.controlled_streams.Streams.{out_here, out_beside}
+use Rattle.driver_laws.specs.told_harvests.Passed.{IsNoneTold, HarvestsFirst}
+use Rattle.driver_laws.proofs.lemmas.told_harvests.Passing.{first_harvested}
 use Rattle.stream_worlds.specs.Harvests.{with_more, HarvestLeavesOuts}
 
 -- what is told of a qTD are the same bytes

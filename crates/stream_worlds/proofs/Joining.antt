@@ -3,7 +3,7 @@ use Rattle.std.proofs.Common.{◌≡◌, ◌≢◌, ℕ, ◌==◌, Bool, true, f
 use Rattle.std.specs.List.{concat}
 use Rattle.std.proofs.lemmas.Bool.{eq-eqb, eqb-true, false≢true}
 use Rattle.std.proofs.lemmas.List.{append_assoc, append-nil}
-use Rattle.lent_structures.specs.Structures.{Structures, StructureSets}
+use Rattle.ring_laws.specs.lent_structures.Structures.{Structures, StructureSets}
 use Rattle.ring_laws.specs.Hand.{Hand}
 use Rattle.ring_laws.specs.Told.{Endpoint, HasEndpoint}
 use Rattle.ring_laws.specs.Order.{IsOrdered}
@@ -11,12 +11,12 @@ use Rattle.ring_laws.specs.Pipes.{AreEndpoints}
 use Rattle.ring_laws.specs.OutBus.{Taker}
 use Rattle.ring_laws.specs.OutPipes.{IsOutPipe}
 use Rattle.ring_laws.specs.OutPipeLaws.{IsBeside, IsOnlyEndpoint}
-use Rattle.controlled_streams.specs.Outs.{IsOutStream, Begins}
-use Rattle.controlled_streams.proofs.Outs.{out_begins}
+use Rattle.walked_queues.specs.controlled_streams.Outs.{IsOutStream, Begins}
+use Rattle.walked_queues.proofs.lemmas.controlled_streams.Outs.{out_begins}
 use Rattle.ring_laws.specs.Sparing.{SameHand, SparesHead, SparesElement}
 use Rattle.ring_laws.proofs.SparedSparing.{spared_accounts}
 use Rattle.ring_laws.specs.Effects.{buffer_of}
-use Rattle.controlled_streams.specs.Reported.{IsReported}
+use Rattle.walked_queues.specs.controlled_streams.Reported.{IsReported}
 use Rattle.stream_worlds.specs.Outs.{IsAside, AreAside, HaveOutStreams}
 use Rattle.stream_worlds.specs.Joining.{EachIsOnly, PipesAreStreams, HarvestedIsTaken}
 

@@ -4,9 +4,9 @@ use Rattle.std.proofs.lemmas.Bool.{cases_Bool, false≢true}
 use Rattle.std.proofs.lemmas.List.{append_assoc, append-nil}
 use Rattle.qh_qtd.specs.declared.qtd.Qtd.{Qtd}
 use Rattle.qh_qtd.specs.declared.queue_head.Qh.{Qh}
-use Rattle.lent_structures.specs.Structures.{QueueHead, Element, Structures, StructureSets}
-use Rattle.lent_structures.specs.Sound.{IsWorking, IsSoundQueue, IsMember}
-use Rattle.lent_structures.proofs.Altering.{found_queue, found_element}
+use Rattle.ring_laws.specs.lent_structures.Structures.{QueueHead, Element, Structures, StructureSets}
+use Rattle.ring_laws.specs.lent_structures.Sound.{IsWorking, IsSoundQueue, IsMember}
+use Rattle.ring_laws.proofs.lemmas.lent_structures.Altering.{found_queue, found_element}
 use Rattle.ring_laws.specs.Hand.{Hand}
 use Rattle.ring_laws.specs.Told.{Endpoint}
 use Rattle.ring_laws.specs.Order.{IsPlaced, IsFresh, IsOrdered, IsAmong, AllTold, none_out, one_out, Accounts}
@@ -15,7 +15,7 @@ use Rattle.ring_laws.proofs.SparedSparing.{spared_endpoint, all_spared, publishe
 use Rattle.ring_laws.specs.OutBus.{Taker}
 use Rattle.ring_laws.specs.OutPipes.{IsOut, IsOutPipe}
 use Rattle.ring_laws.specs.OutPipeLaws.{SendsNone}
-use Rattle.controlled_streams.specs.Reported.{IsReported}
+use Rattle.walked_queues.specs.controlled_streams.Reported.{IsReported}
 use Rattle.stream_worlds.specs.Outs.{IsAside, AreAside, GoesAs}
 use Rattle.stream_worlds.specs.Spared.{SparesWork}
 use Rattle.stream_worlds.specs.Lends.{AreAdded, AreNewAs, IsNewPiece, GetsMore, LendLeavesOutPipes, LendLeavesOuts}

@@ -9,3 +9,4 @@ pub mod Returning
 pub mod RowTurning
 pub mod Beginning
 pub mod RowSampling
+pub mod lemmas

@@ -3,14 +3,14 @@ use Rattle.std.proofs.Common.{◌≡◌, ◌≢◌, ℕ, Bool, true, false, List
 use Rattle.std.specs.List.{concat}
 use Rattle.std.proofs.lemmas.Bool.{cases_eq, false≢true}
 use Rattle.qh_qtd.specs.declared.queue_head.Qh.{Qh}
-use Rattle.lent_structures.specs.Structures.{StructureSets}
+use Rattle.ring_laws.specs.lent_structures.Structures.{StructureSets}
 use Rattle.ring_laws.specs.Hand.{Hand}
 use Rattle.ring_laws.specs.Told.{HasToggle, Endpoint, HasEndpoint}
 use Rattle.ring_laws.specs.OutBus.{Taker}
 use Rattle.ring_laws.specs.OutPipes.{IsOutPipe, level}
-use Rattle.controlled_streams.specs.Reported.{IsReported}
-use Rattle.controlled_streams.specs.Opened.{with_stream, with_end, with_none, IsBeginning, IsOneMore}
-use Rattle.controlled_streams.proofs.Beginning.{stream_here, stream_old, stream_beside, end_here, end_beside, list_here, list_beside, reports_with_one}
+use Rattle.walked_queues.specs.controlled_streams.Reported.{IsReported}
+use Rattle.walked_queues.specs.controlled_streams.Opened.{with_stream, with_end, with_none, IsBeginning, IsOneMore}
+use Rattle.walked_queues.proofs.lemmas.controlled_streams.Beginning.{stream_here, stream_old, stream_beside, end_here, end_beside, list_here, list_beside, reports_with_one}
 use Rattle.stream_worlds.specs.Outs.{IsAside, AreAside, IsUntaken}
 use Rattle.stream_worlds.specs.Opens.{IsOneMoreHead, OutPipesWithOne, OutsWithOne, UntakenLessOne, UntakenWithAnother, OutPipesWithAnother, OutsWithAnother}
 use Rattle.stream_worlds.proofs.Joining.{HasParts, parts_in, streams_all, reported_stays}

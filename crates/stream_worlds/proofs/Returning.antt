@@ -1,7 +1,7 @@
 -- The streams of OUT endpoints beside qTDs and buffers that are given back.
 use Rattle.std.proofs.Common.{◌≡◌, ◌≢◌, ℕ, ◌==◌, Bool, false, List, [], ◌∷◌, ◌++◌, Option, sym, subst, ⊎_elim, inl, inr}
 use Rattle.std.proofs.lemmas.Bool.{cases_eq}
-use Rattle.lent_structures.specs.Structures.{Element, StructureSets}
+use Rattle.ring_laws.specs.lent_structures.Structures.{Element, StructureSets}
 use Rattle.ring_laws.specs.Hand.{Hand}
 use Rattle.ring_laws.specs.Told.{Endpoint}
 use Rattle.ring_laws.proofs.SparedSparing.{spared_endpoint}
@@ -10,9 +10,9 @@ use Rattle.ring_laws.proofs.Returning.{those_found, those_beside}
 use Rattle.ring_laws.specs.OutBus.{Taker}
 use Rattle.ring_laws.specs.OutPipes.{IsOutPipe}
 use Rattle.ring_laws.specs.OutPipeLaws.{SendsNone}
-use Rattle.controlled_streams.specs.Reported.{IsReported}
-use Rattle.controlled_streams.specs.Returned.{staying_of, KeepsBuffers}
-use Rattle.controlled_streams.proofs.Returning.{spares_head, spares_element, reported_stay}
+use Rattle.walked_queues.specs.controlled_streams.Reported.{IsReported}
+use Rattle.walked_queues.specs.controlled_streams.Returned.{staying_of, KeepsBuffers}
+use Rattle.walked_queues.proofs.lemmas.controlled_streams.Returning.{spares_head, spares_element, reported_stay}
 use Rattle.stream_worlds.specs.Outs.{IsAside, AreAside}
 use Rattle.stream_worlds.specs.Spared.{SparesWork}
 use Rattle.stream_worlds.specs.Returns.{KeepsWork, ReturnLeavesOutPipes, ReturnLeavesOuts}

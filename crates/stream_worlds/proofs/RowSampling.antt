@@ -7,17 +7,17 @@ use Rattle.qh_qtd.specs.declared.queue_head.Qh.{Qh}
 use Rattle.link_words.specs.declared.kinds.QtdLink.{QtdLink}
 use Rattle.link_words.specs.declared.kinds.QtdLink.TheVariants as qtd_links
 use Rattle.link_words.specs.Links.{qtd_link_of}
-use Rattle.lent_structures.specs.Structures.{QueueHead, Element, Buffer, Structures, StructureSets, put}
-use Rattle.lent_structures.specs.StructureSamples.{bytes, pages, nothing}
-use Rattle.lent_structures.proofs.Names.{put_found}
-use Rattle.lent_structures.proofs.Altering.{same_element, found_queue}
+use Rattle.ring_laws.specs.lent_structures.Structures.{QueueHead, Element, Buffer, Structures, StructureSets, put}
+use Rattle.ring_laws.specs.lent_structures.StructureSamples.{bytes, pages, nothing}
+use Rattle.ring_laws.proofs.lemmas.lent_structures.Names.{put_found}
+use Rattle.ring_laws.proofs.lemmas.lent_structures.Altering.{same_element, found_queue}
 use Rattle.ring_laws.specs.Hand.{Hand, Empty}
 use Rattle.ring_laws.specs.Told.{endpoint_of}
 use Rattle.ring_laws.specs.Order.{IsFresh, IsOrdered, IsSorted, IsAmong, AllTold, none_out, one_out, Accounts}
 use Rattle.ring_laws.specs.OutBus.{Taker}
 use Rattle.ring_laws.specs.OutPipes.{OutAgrees, level, ahead, ended}
 use Rattle.qh_qtd.specs.Blank.{blank_token, blank_qtd}
-use Rattle.controlled_streams.specs.Outs.{IsOutStream}
+use Rattle.walked_queues.specs.controlled_streams.Outs.{IsOutStream}
 use Rattle.stream_worlds.specs.Outs.{IsUntaken, GoesAs}
 use Rattle.stream_worlds.specs.RowSamples.{idle, sending, done, ring, Sends}
 

@@ -9,12 +9,12 @@ use Rattle.transactions.specs.Asks.{pinged}
 use Rattle.walk_copy.specs.Transacting.{call_in}
 use Rattle.async_walk.specs.Naks.{kind_at, planned}
 use Rattle.hc_core.specs.Controller.{Content, walk_place}
-use Rattle.lent_structures.specs.Structures.{Structures, StructureSets}
-use Rattle.lent_structures.proofs.Names.{not_same}
-use Rattle.lent_structures.specs.Sound.{IsWorking, IsSoundQueue, IsMember}
-use Rattle.lent_structures.specs.Alters.{HadElement, Alters}
-use Rattle.lent_structures.proofs.Altering.{found_queue}
-use Rattle.lent_structures.proofs.Members.{still_active}
+use Rattle.ring_laws.specs.lent_structures.Structures.{Structures, StructureSets}
+use Rattle.ring_laws.proofs.lemmas.lent_structures.Names.{not_same}
+use Rattle.ring_laws.specs.lent_structures.Sound.{IsWorking, IsSoundQueue, IsMember}
+use Rattle.ring_laws.specs.lent_structures.Alters.{HadElement, Alters}
+use Rattle.ring_laws.proofs.lemmas.lent_structures.Altering.{found_queue}
+use Rattle.ring_laws.proofs.lemmas.lent_structures.Members.{still_active}
 use Rattle.ring_laws.specs.Hand.{Hand}
 use Rattle.ring_laws.specs.Ring.{Base, IsCopied, IsInHand, IsRing}
 use Rattle.ring_laws.specs.Effects.{Makes}
@@ -22,18 +22,18 @@ use Rattle.ring_laws.specs.Told.{Endpoint, endpoint_of, HasEndpoint}
 use Rattle.ring_laws.specs.Streams.{StreamEffect}
 use Rattle.ring_laws.specs.Streams.StreamEffect.{same, grows}
 use Rattle.ring_laws.proofs.Altered.{effect_alters}
-use Rattle.controlled_streams.specs.Control.{IsControlled, BeginsMicroframe, WalksRing, ControlEffect, a_microframe, a_step}
+use Rattle.walked_queues.specs.controlled_streams.Control.{IsControlled, BeginsMicroframe, WalksRing, ControlEffect, a_microframe, a_step}
 use Rattle.ring_laws.specs.Pipes.{AreEndpoints}
 use Rattle.ring_laws.specs.OutBus.{Taker, IsOutAsk, IsOutBus, KeepsTakers}
 use Rattle.ring_laws.specs.OutPipes.{IsOutPipe}
 use Rattle.ring_laws.specs.OutPipeLaws.{SendsNone}
 use Rattle.ring_laws.proofs.Stopping.{out_only}
 use Rattle.ring_laws.proofs.Assembling.{event_keeps}
-use Rattle.controlled_streams.proofs.Outs.{event_keeps_stream}
-use Rattle.controlled_streams.specs.Unopened.{IsUnopened}
-use Rattle.scripted_takers.specs.Takers.{taker_of}
-use Rattle.scripted_takers.proofs.Asking.{scripted_out_bus}
-use Rattle.scripted_takers.proofs.Beginning.{scripted_out_begins}
+use Rattle.walked_queues.proofs.lemmas.controlled_streams.Outs.{event_keeps_stream}
+use Rattle.walked_queues.specs.controlled_streams.Unopened.{IsUnopened}
+use Rattle.scripted_streams.specs.scripted_takers.Takers.{taker_of}
+use Rattle.scripted_streams.proofs.lemmas.scripted_takers.Asking.{scripted_out_bus}
+use Rattle.scripted_streams.proofs.lemmas.scripted_takers.Beginning.{scripted_out_begins}
 use Rattle.bus_world.specs.World.{controller_parts, controller_next}
 use Rattle.stream_worlds.specs.Streaming.{begins_by, transacts_by, wired}
 use Rattle.stream_worlds.specs.Outs.{IsAside, AreAside, AreOutPiped, IsUntaken}

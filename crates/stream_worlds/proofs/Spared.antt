@@ -2,13 +2,13 @@
 use Rattle.std.proofs.Common.{◌≡◌, ℕ, ◌∙◌, Bool, true, false, List, Option, sym, subst, inl, inr}
 use Rattle.std.proofs.lemmas.Bool.{false≢true}
 use Rattle.qh_qtd.specs.declared.qtd.Qtd.{Qtd}
-use Rattle.lent_structures.specs.Structures.{StructureSets}
+use Rattle.ring_laws.specs.lent_structures.Structures.{StructureSets}
 use Rattle.ring_laws.specs.Hand.{Hand}
 use Rattle.ring_laws.specs.Told.{Endpoint}
 use Rattle.ring_laws.specs.Sparing.{SameHand}
 use Rattle.ring_laws.specs.OutBus.{Taker}
 use Rattle.ring_laws.specs.OutPipes.{IsOut, IsUnmoved, IsOutPipe}
-use Rattle.controlled_streams.proofs.Outs.{out_spared}
+use Rattle.walked_queues.proofs.lemmas.controlled_streams.Outs.{out_spared}
 use Rattle.stream_worlds.specs.Outs.{GoesAs}
 use Rattle.stream_worlds.specs.Spared.{SparesWork, OutPipesAreSpared}
 use Rattle.stream_worlds.proofs.Joining.{heads_stay, elements_stay}

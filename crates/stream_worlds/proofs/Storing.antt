@@ -3,10 +3,10 @@ use Rattle.std.proofs.Common.{◌≡◌, ◌≢◌, ℕ, ◌==◌, Bool, true, f
 use Rattle.std.proofs.lemmas.Bool.{false≢true}
 use Rattle.qh_qtd.specs.declared.qtd.Qtd.{Qtd}
 use Rattle.qh_qtd.specs.declared.queue_head.Qh.{Qh}
-use Rattle.lent_structures.specs.Structures.{QueueHead, Element, StructureSets}
-use Rattle.lent_structures.proofs.Names.{put_beside}
-use Rattle.lent_structures.specs.Sound.{IsWorking, IsSoundQueue, IsMember}
-use Rattle.lent_structures.proofs.Altering.{found_queue, found_element}
+use Rattle.ring_laws.specs.lent_structures.Structures.{QueueHead, Element, StructureSets}
+use Rattle.ring_laws.proofs.lemmas.lent_structures.Names.{put_beside}
+use Rattle.ring_laws.specs.lent_structures.Sound.{IsWorking, IsSoundQueue, IsMember}
+use Rattle.ring_laws.proofs.lemmas.lent_structures.Altering.{found_queue, found_element}
 use Rattle.ring_laws.specs.Hand.{Hand}
 use Rattle.ring_laws.specs.Told.{Endpoint}
 use Rattle.ring_laws.specs.Streams.{AreMembers}
@@ -16,10 +16,10 @@ use Rattle.ring_laws.proofs.SparedSparing.{spared_endpoint}
 use Rattle.ring_laws.specs.OutBus.{Taker}
 use Rattle.ring_laws.specs.OutPipes.{IsOut, IsOutPipe}
 use Rattle.ring_laws.specs.OutPipeLaws.{SendsNone}
-use Rattle.controlled_streams.specs.Reported.{IsReported}
-use Rattle.controlled_streams.specs.Storing.{IsStore, out_with, with_out, stored_parts}
-use Rattle.controlled_streams.proofs.Storing.{element_found, spares_head, spares_element}
-use Rattle.controlled_streams.proofs.Streams.{idle_reports, last_reports, out_beside}
+use Rattle.walked_queues.specs.controlled_streams.Reported.{IsReported}
+use Rattle.walked_queues.specs.controlled_streams.Storing.{IsStore, out_with, with_out, stored_parts}
+use Rattle.walked_queues.proofs.lemmas.controlled_streams.Storing.{element_found, spares_head, spares_element}
+use Rattle.walked_queues.proofs.lemmas.controlled_streams.Streams.{idle_reports, last_reports, out_beside}
 use Rattle.stream_worlds.specs.Outs.{IsAside, AreAside, HaveOutStreams, GoesAs}
 use Rattle.stream_worlds.specs.Spared.{SparesWork}
 use Rattle.stream_worlds.specs.Stores.{StoreLeavesOutPipes, IdleStoreLeavesOuts, LastStoreLeavesOuts, OtherStoreLeavesOuts}

@@ -17,12 +17,12 @@ use Rattle.pipe_agreement.specs.Prefix.{IsPrefix}
 use Rattle.usb_bus.specs.Bus.{Bus, Wired, Fixed}
 use Rattle.ring_laws.specs.Ring.{Base}
 use Rattle.ring_laws.specs.Pipes.{grown}
-use Rattle.controlled_streams.specs.Events.{ControlGoesOn}
-use Rattle.controlled_streams.proofs.Piping.{control_pipes}
+use Rattle.walked_queues.specs.controlled_streams.Events.{ControlGoesOn}
+use Rattle.walked_queues.proofs.lemmas.controlled_streams.Piping.{control_pipes}
 use Rattle.scripted_streams.specs.Senders.{sender_of}
 use Rattle.scripted_streams.proofs.Asking.{scripted_bus}
 use Rattle.scripted_streams.proofs.Beginning.{scripted_begins}
-use Rattle.controlled_streams.proofs.Reporting.{event_reported, reported_begins}
+use Rattle.walked_queues.proofs.lemmas.controlled_streams.Reporting.{event_reported, reported_begins}
 use Rattle.bus_world.specs.World.{World, frame_by, sent_by, sends_by, walk_by, turned_by, controller_parts, controller_row, controller_next}
 use Rattle.stream_worlds.specs.Streaming.{begins_by, transacts_by, wired, Streams, Standing, IsStreaming, HearsBytesNow, StaysStreaming}
 

@@ -9,15 +9,15 @@ use Rattle.usb_base.specs.declared.packets.Ask.{Ask}
 use Rattle.usb_base.specs.declared.packets.Reply.{Reply}
 use Rattle.usb_bus.specs.Bus.{Fixed}
 use Rattle.hc_core.specs.Controller.{Content}
-use Rattle.lent_structures.specs.Structures.{StructureSets}
+use Rattle.ring_laws.specs.lent_structures.Structures.{StructureSets}
 use Rattle.ring_laws.specs.Hand.{Hand}
 use Rattle.ring_laws.specs.Ring.{Base}
 use Rattle.ring_laws.specs.Told.{Endpoint, HasEndpoint}
 use Rattle.ring_laws.specs.Order.{bytes_of_effect}
-use Rattle.controlled_streams.specs.Control.{IsControlled, ControlEffect, a_microframe, a_step, Controls}
+use Rattle.walked_queues.specs.controlled_streams.Control.{IsControlled, ControlEffect, a_microframe, a_step, Controls}
 use Rattle.ring_laws.specs.Pipes.{AreEndpoints}
 use Rattle.ring_laws.specs.OutBus.{Taker, IsOutBus, KeepsTakers}
-use Rattle.scripted_takers.specs.Takers.{taker_of}
+use Rattle.scripted_streams.specs.scripted_takers.Takers.{taker_of}
 use Rattle.bus_world.specs.World.{World, controller_parts, controller_next}
 use Rattle.stream_worlds.specs.Streaming.{begins_by, transacts_by, wired}
 use Rattle.stream_worlds.specs.Outs.{AreAside, AreOutPiped, HaveOutStreams, AreUntaken}

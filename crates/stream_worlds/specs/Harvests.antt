@@ -3,12 +3,12 @@
 --     HarvestLeavesOuts          its bytes are harvested, and the others are out still
 use Rattle.std.specs.Prelude.{◌≡◌, ℕ, ◌==◌, Bool, false, List, ◌∷◌, ◌++◌, Option, Some, if◌then◌else◌}
 use Rattle.qh_qtd.specs.declared.qtd.Qtd.{Qtd}
-use Rattle.lent_structures.specs.Structures.{Element, StructureSets}
+use Rattle.ring_laws.specs.lent_structures.Structures.{Element, StructureSets}
 use Rattle.ring_laws.specs.Hand.{Hand}
 use Rattle.ring_laws.specs.Told.{Told, Endpoint}
 use Rattle.ring_laws.specs.OutBus.{Taker}
-use Rattle.controlled_streams.specs.Storing.{with_out}
-use Rattle.told_harvests.specs.Passed.{IsNoneTold}
+use Rattle.walked_queues.specs.controlled_streams.Storing.{with_out}
+use Rattle.driver_laws.specs.told_harvests.Passed.{IsNoneTold}
 use Rattle.stream_worlds.specs.Outs.{HaveOutStreams}
 
 abbrev pub with_more : (ℕ → List ℕ) → ℕ → List ℕ → ℕ → List ℕ

@@ -4,14 +4,14 @@
 --     HarvestedIsTaken  what was harvested begins what the device took
 use Rattle.std.specs.Prelude.{◌≡◌, ℕ, Bool, true, List, Option}
 use Rattle.std.specs.List.{concat}
-use Rattle.lent_structures.specs.Structures.{StructureSets}
+use Rattle.ring_laws.specs.lent_structures.Structures.{StructureSets}
 use Rattle.ring_laws.specs.Hand.{Hand}
 use Rattle.ring_laws.specs.Told.{Endpoint}
 use Rattle.ring_laws.specs.Pipes.{AreEndpoints}
 use Rattle.ring_laws.specs.OutBus.{Taker}
 use Rattle.ring_laws.specs.OutPipeLaws.{IsOnlyEndpoint}
-use Rattle.controlled_streams.specs.Reported.{AreReported}
-use Rattle.controlled_streams.specs.Outs.{Begins}
+use Rattle.walked_queues.specs.controlled_streams.Reported.{AreReported}
+use Rattle.walked_queues.specs.controlled_streams.Outs.{Begins}
 use Rattle.stream_worlds.specs.Outs.{AreOutPiped, HaveOutStreams}
 
 abbrev pub EachIsOnly : {W : Type 0} → (W → ℕ → ℕ → Option Taker) → Type 0

@@ -8,7 +8,7 @@
 --     LendLeavesOuts              each stream goes on, with more to be harvested
 use Rattle.std.specs.Prelude.{◌≡◌, ℕ, ◌≤◌, ◌⊎◌, Bool, true, false, List, ◌++◌, Option, Some}
 use Rattle.qh_qtd.specs.declared.qtd.Qtd.{Qtd}
-use Rattle.lent_structures.specs.Structures.{Structure, Element, Structures, StructureSets}
+use Rattle.ring_laws.specs.lent_structures.Structures.{Structure, Element, Structures, StructureSets}
 use Rattle.ring_laws.specs.Hand.{Hand}
 use Rattle.ring_laws.specs.Told.{Endpoint}
 use Rattle.ring_laws.specs.Streams.{AreMembers}

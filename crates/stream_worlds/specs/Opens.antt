@@ -4,13 +4,13 @@
 --     OutPipesWithAnother, OutsWithAnother   it is that of another endpoint
 --     UntakenLessOne, UntakenWithAnother     the other takers wait still
 use Rattle.std.specs.Prelude.{◌≡◌, ◌≢◌, ℕ, Bool, true, false, List, Option}
-use Rattle.lent_structures.specs.Structures.{StructureSets}
+use Rattle.ring_laws.specs.lent_structures.Structures.{StructureSets}
 use Rattle.ring_laws.specs.Hand.{Hand}
 use Rattle.ring_laws.specs.Told.{Endpoint}
 use Rattle.ring_laws.specs.Pipes.{AreEndpoints}
 use Rattle.ring_laws.specs.OutBus.{Taker}
 use Rattle.ring_laws.specs.OutPipes.{IsUnmoved}
-use Rattle.controlled_streams.specs.Opened.{with_stream, with_end, with_none, IsOneMore}
+use Rattle.walked_queues.specs.controlled_streams.Opened.{with_stream, with_end, with_none, IsOneMore}
 use Rattle.stream_worlds.specs.Outs.{IsAside, AreOutPiped, HaveOutStreams, IsUntaken, AreUntaken}
 
 -- it is idle and has nothing to send yet; no other one that the walk may meet for the first time sends to a stream

@@ -7,14 +7,14 @@
 --     GoesAs outs n t               the qTD t is an OUT, if the queue head at n has an OUT stream, and else it is none
 use Rattle.std.specs.Prelude.{◌≡◌, ◌≢◌, ℕ, ◌⊎◌, Bool, true, false, List, [], Option, Some}
 use Rattle.qh_qtd.specs.declared.qtd.Qtd.{Qtd}
-use Rattle.lent_structures.specs.Structures.{StructureSets}
+use Rattle.ring_laws.specs.lent_structures.Structures.{StructureSets}
 use Rattle.ring_laws.specs.Hand.{Hand}
 use Rattle.ring_laws.specs.Told.{Endpoint, HasEndpoint}
 use Rattle.ring_laws.specs.OutBus.{Taker}
 use Rattle.ring_laws.specs.OutPipes.{IsOutPipe}
 use Rattle.ring_laws.specs.OutPipeLaws.{SendsNone}
-use Rattle.controlled_streams.specs.Outs.{IsOutStream}
-use Rattle.controlled_streams.specs.Unopened.{IsUnopened}
+use Rattle.walked_queues.specs.controlled_streams.Outs.{IsOutStream}
+use Rattle.walked_queues.specs.controlled_streams.Unopened.{IsUnopened}
 
 -- ---- queue heads without one
 

@@ -4,13 +4,13 @@
 --     ReturnLeavesOuts           each stream goes on, where nothing was moved of the qTDs that go
 use Rattle.std.specs.Prelude.{◌≡◌, ℕ, Bool, true, false, List, Option, Some}
 use Rattle.qh_qtd.specs.declared.queue_head.Qh.{Qh}
-use Rattle.lent_structures.specs.Structures.{QueueHead, Structures, StructureSets}
+use Rattle.ring_laws.specs.lent_structures.Structures.{QueueHead, Structures, StructureSets}
 use Rattle.ring_laws.specs.Hand.{Hand}
 use Rattle.ring_laws.specs.Told.{Endpoint}
 use Rattle.ring_laws.specs.Pipes.{AreEndpoints}
 use Rattle.ring_laws.specs.Fewer.{without_those}
 use Rattle.ring_laws.specs.OutBus.{Taker}
-use Rattle.controlled_streams.specs.Returned.{staying_of, KeepsBuffers, GoUntold}
+use Rattle.walked_queues.specs.controlled_streams.Returned.{staying_of, KeepsBuffers, GoUntold}
 use Rattle.stream_worlds.specs.Outs.{AreOutPiped, HaveOutStreams}
 
 abbrev pub KeepsWork : (ℕ → Bool) → ℕ → Structures → Type 0

@@ -7,8 +7,8 @@ use Rattle.std.specs.Prelude.{ℕ, ◌==◌, true, List, Option, Some}
 use Rattle.qh_qtd.specs.Blank.{blank_token, blank_qtd, blank_head}
 use Rattle.qh_qtd.specs.declared.qtd.Qtd.{Qtd}
 use Rattle.qh_qtd.specs.declared.queue_head.Qh.{Qh}
-use Rattle.lent_structures.specs.Structures.{QueueHead, Element, Buffer, StructureSets, put}
-use Rattle.lent_structures.specs.StructureSamples.{bytes, pages, nothing}
+use Rattle.ring_laws.specs.lent_structures.Structures.{QueueHead, Element, Buffer, StructureSets, put}
+use Rattle.ring_laws.specs.lent_structures.StructureSamples.{bytes, pages, nothing}
 use Rattle.ring_laws.specs.Hand.{Empty}
 use Rattle.ring_laws.specs.Told.{endpoint_of}
 use Rattle.ring_laws.specs.OutBus.{Taker}

@@ -3,7 +3,7 @@
 --     OutPipesAreSpared          both sides of each pipe agree as before
 use Rattle.std.specs.Prelude.{◌≡◌, ℕ, Bool, true, List, Option, Some}
 use Rattle.qh_qtd.specs.declared.queue_head.Qh.{Qh}
-use Rattle.lent_structures.specs.Structures.{QueueHead, StructureSets}
+use Rattle.ring_laws.specs.lent_structures.Structures.{QueueHead, StructureSets}
 use Rattle.ring_laws.specs.Hand.{Hand}
 use Rattle.ring_laws.specs.Told.{Endpoint}
 use Rattle.ring_laws.specs.Sparing.{SameHand, SparesHead, SparesElement}

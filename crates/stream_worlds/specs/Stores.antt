@@ -4,14 +4,14 @@
 --     OtherStoreLeavesOuts       so it does beside a queue head without an OUT stream, whatever is out of that
 use Rattle.std.specs.Prelude.{◌≡◌, ◌≢◌, ℕ, Bool, true, false, List, Option, Some}
 use Rattle.qh_qtd.specs.declared.qtd.Qtd.{Qtd}
-use Rattle.lent_structures.specs.Structures.{Element, StructureSets}
+use Rattle.ring_laws.specs.lent_structures.Structures.{Element, StructureSets}
 use Rattle.ring_laws.specs.Hand.{Hand}
 use Rattle.ring_laws.specs.Told.{Endpoint}
 use Rattle.ring_laws.specs.Streams.{AreMembers}
 use Rattle.ring_laws.specs.Order.{IsFresh}
 use Rattle.ring_laws.specs.Pipes.{AreEndpoints}
 use Rattle.ring_laws.specs.OutBus.{Taker}
-use Rattle.controlled_streams.specs.Storing.{IsStore, out_with, with_out, stored_parts}
+use Rattle.walked_queues.specs.controlled_streams.Storing.{IsStore, out_with, with_out, stored_parts}
 use Rattle.stream_worlds.specs.Outs.{AreOutPiped, HaveOutStreams, GoesAs}
 
 abbrev pub StoreLeavesOutPipes : {W : Type 0} → (W → ℕ → ℕ → Option Taker) → Type 0

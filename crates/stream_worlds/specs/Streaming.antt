@@ -10,15 +10,15 @@ use Rattle.std.specs.Prelude.{◌≡◌, ℕ, Bool, List}
 use Rattle.usb_base.specs.declared.packets.Ask.{Ask}
 use Rattle.usb_base.specs.declared.packets.Reply.{Reply}
 use Rattle.usb_bus.specs.Bus.{Wired, Fixed, begin_after, is_allowed, reply_of, transact_after}
-use Rattle.lent_structures.specs.Structures.{StructureSets}
+use Rattle.ring_laws.specs.lent_structures.Structures.{StructureSets}
 use Rattle.ring_laws.specs.Hand.{Hand}
 use Rattle.ring_laws.specs.Ring.{Base}
 use Rattle.ring_laws.specs.Effects.{AreBytesHeard}
 use Rattle.ring_laws.specs.Told.{Endpoint}
-use Rattle.controlled_streams.specs.Control.{IsOn, IsControlled}
+use Rattle.walked_queues.specs.controlled_streams.Control.{IsOn, IsControlled}
 use Rattle.ring_laws.specs.Pipes.{AreEndpoints, ArePiped}
 use Rattle.scripted_streams.specs.Senders.{sender_of}
-use Rattle.controlled_streams.specs.Reported.{AreReported}
+use Rattle.walked_queues.specs.controlled_streams.Reported.{AreReported}
 use Rattle.bus_world.specs.World.{World, controller_parts}
 
 abbrev pub begins_by : Wired → ℕ → Bool → Wired → Type 0

@@ -5,7 +5,7 @@ use Rattle.std.specs.Prelude.{ℕ, Bool, is_some}
 use Rattle.script_types.specs.declared.scripts.Script.{Script}
 use Rattle.usb_bus.specs.Bus.{opening_wired}
 use Rattle.ring_laws.specs.Told.{Endpoint}
-use Rattle.scripted_takers.specs.Takers.{taker_of}
+use Rattle.scripted_streams.specs.scripted_takers.Takers.{taker_of}
 use Rattle.stream_worlds.specs.Outs.{AreUntaken}
 
 abbrev pub takes_of : Script → ℕ → ℕ → Bool

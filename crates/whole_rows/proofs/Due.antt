@@ -4,14 +4,14 @@ use Rattle.word_mem.specs.Memory.{Mem}
 use Rattle.driver_rows.specs.declared.content.Command.{Command}
 use Rattle.driver_rows.specs.declared.content.Command.TheVariants as unfinished
 use Rattle.driver_rows.specs.DriverContent.{DriverContent}
-use Rattle.lent_structures.specs.Structures.{StructureSets}
-use Rattle.fed_lends.specs.ToLend.{IsToBeLent}
-use Rattle.open_laws.specs.Lends.{IsOpenReady}
-use Rattle.open_laws.specs.Opens.{IsOpenLent}
+use Rattle.ring_laws.specs.lent_structures.Structures.{StructureSets}
+use Rattle.walked_queues.specs.fed_lends.ToLend.{IsToBeLent}
+use Rattle.driven_queues.specs.open_laws.Lends.{IsOpenReady}
+use Rattle.driven_queues.specs.open_laws.Opens.{IsOpenLent}
 use Rattle.whole_worlds.specs.Tails.{IsUnderWay}
 use Rattle.whole_worlds.proofs.Unlinking.{unlink_finds}
-use Rattle.small_receiver.specs.Samples.{words, world_at, put_words, put_at, cancel_at}
-use Rattle.small_receiver.proofs.Moments.{an_open, a_get, put_open, a_put, leaves}
+use Rattle.whole_rows.specs.small_receiver.Samples.{words, world_at, put_words, put_at, cancel_at}
+use Rattle.whole_rows.proofs.lemmas.small_receiver.Moments.{an_open, a_get, put_open, a_put, leaves}
 use Rattle.whole_rows.specs.Due.{IsOpenLentIn, IsAtUnlinkIn}
 use Rattle.whole_rows.proofs.Sampling.{it_stays_whole}
 use Rattle.whole_rows.proofs.Putting.{put_stays_whole}

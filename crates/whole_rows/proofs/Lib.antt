@@ -3,3 +3,4 @@ pub mod Putting
 pub mod Cancelling
 pub mod Requesting
 pub mod Due
+pub mod lemmas

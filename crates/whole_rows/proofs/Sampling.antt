@@ -5,18 +5,18 @@ use Rattle.std.proofs.lemmas.Option.{same_Some}
 use Rattle.usb_base.specs.declared.packets.Way.TheVariants as ways
 use Rattle.script_types.specs.declared.devices.DeviceText.{DeviceText}
 use Rattle.script_fits.specs.Fits.{IsFit}
-use Rattle.byte_answers.specs.Bytes.{IsByteScript}
-use Rattle.opening_senders.specs.Own.{HasOwnDevices}
-use Rattle.declared_endpoints.specs.Declared.{OpensSenders}
-use Rattle.declared_takers.specs.Declared.{OpensTakers}
+use Rattle.script_laws.specs.byte_answers.Bytes.{IsByteScript}
+use Rattle.declared_endpoints.specs.opening_senders.Own.{HasOwnDevices}
+use Rattle.declared_endpoints.specs.DeclaredEndpoints.{OpensSenders}
+use Rattle.told_streams.specs.declared_takers.Declared.{OpensTakers}
 use Rattle.script_numbers.specs.Numbers.{NumbersOpens}
 use Rattle.usb_bus.specs.Bus.{opening_bus}
-use Rattle.declared_controls.specs.Names.{HasItsName, NamesEndpoints}
-use Rattle.declared_controls.specs.Zero.{AreZeroesAlone}
-use Rattle.chained_transfers.specs.Asynchronous.{AsynchronousOnly}
+use Rattle.declared_endpoints.specs.declared_controls.Names.{HasItsName, NamesEndpoints}
+use Rattle.declared_endpoints.specs.declared_controls.Zero.{AreZeroesAlone}
+use Rattle.driver_laws.specs.chained_transfers.Asynchronous.{AsynchronousOnly}
 use Rattle.whole_worlds.specs.Moments.{IsAsynchronousScript, IsWholeThroughout, InStreamsAreRightThroughout}
 use Rattle.whole_worlds.proofs.Running.{scripts_stay_whole, streams_are_right}
-use Rattle.small_receiver.specs.Samples.{desc, receiver}
+use Rattle.whole_rows.specs.small_receiver.Samples.{desc, receiver}
 
 it_fits : IsFit receiver
 it_fits = record {

@@ -4,8 +4,8 @@
 use Rattle.std.specs.Prelude.{ℕ, Bool}
 use Rattle.usb_bus.specs.Bus.{Fixed}
 use Rattle.stream_worlds.specs.Streaming.{Streams, Standing}
-use Rattle.open_laws.specs.Opens.{IsOpenLent}
-use Rattle.unlinked_streams.specs.Unlinks.{IsAtUnlink}
+use Rattle.driven_queues.specs.open_laws.Opens.{IsOpenLent}
+use Rattle.stream_worlds.specs.unlinked_streams.Unlinks.{IsAtUnlink}
 use Rattle.bus_world.specs.World.{World}
 use Rattle.whole_worlds.specs.Whole.{IsWhole}
 

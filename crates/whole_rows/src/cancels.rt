@@ -2,7 +2,7 @@
 ghost use Rattle.std.specs.Prelude.{◌≡◌, ℕ, Bool, true, [], ◌∷◌, map, Some};
 ghost use Rattle.usb_base.specs.declared.commands.Cmd.TheVariants as commands;
 ghost use Rattle.usb_base.specs.declared.reports.What.TheVariants as kinds;
-ghost use Rattle.opening_senders.specs.Own.{HasOwnDevices};
+ghost use Rattle.declared_endpoints.specs.opening_senders.Own.{HasOwnDevices};
 ghost use Rattle.driver_rows.specs.declared.content.Command.TheVariants as unfinished;
 ghost use Rattle.driver_rows.specs.declared.rows.DriverRow.TheVariants as rows;
 ghost use Rattle.driver_rows.specs.Offers.{IsOffered};
@@ -12,13 +12,13 @@ ghost use Rattle.bus_world.specs.World.{commanded};
 ghost use Rattle.bus_world.specs.Opening.{opening_world};
 ghost use Rattle.bus_world.specs.Budgets.{moment};
 ghost use Rattle.stream_worlds.specs.Streaming.{Streams, Standing};
-ghost use Rattle.shared_worlds.specs.Working.{at_opening};
+ghost use Rattle.told_streams.specs.shared_worlds.Working.{at_opening};
 ghost use Rattle.declared_endpoints.specs.Samples.{second};
 ghost use Rattle.whole_worlds.specs.FeedingSamples.{one_get};
 ghost use Rattle.whole_worlds.specs.Feeding.{streams_of, IsFeeding};
 ghost use Rattle.whole_worlds.specs.FeedingLaws.{is_still};
 ghost use Rattle.whole_worlds.specs.Moments.{IsAsynchronousScript, IsWholeThroughout, InStreamsAreRightThroughout};
-ghost use Rattle.small_receiver.specs.Samples.{desc, one_cancel, cancel_at, cancel_row};
+ghost use Rattle.whole_rows.specs.small_receiver.Samples.{desc, one_cancel, cancel_at, cancel_row};
 ghost use Rattle.whole_rows.specs.Due.{IsAtUnlinkIn};
 
 /// In a script with one get its IN endpoint may be cancelled at each moment, also while the get is under way: the queues are fed then.

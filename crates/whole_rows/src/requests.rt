@@ -1,6 +1,6 @@
 //! A small script with a control endpoint beside a bulk one, and with a hub's own (USB 2.0, 5.5, 5.8, 8.5.3 and 9.4).
-ghost use Rattle.opening_senders.specs.Own.{HasOwnDevices};
-ghost use Rattle.declared_controls.specs.Samples.{beside_bulk};
+ghost use Rattle.declared_endpoints.specs.opening_senders.Own.{HasOwnDevices};
+ghost use Rattle.declared_endpoints.specs.declared_controls.Samples.{beside_bulk};
 ghost use Rattle.whole_worlds.specs.Moments.{IsAsynchronousScript, IsWholeThroughout, InStreamsAreRightThroughout};
 
 /// A script that opens a control endpoint, a bulk IN endpoint and a hub's own endpoint, and makes a read and a write, meets the premises of the laws of runs.

@@ -1,15 +1,15 @@
 //! The small scripts, whose moments `small_receiver` computes.
 ghost use Rattle.std.specs.Prelude.{◌≡◌, ◌≤◌, Some, true};
-ghost use Rattle.opening_senders.specs.Own.{HasOwnDevices};
+ghost use Rattle.declared_endpoints.specs.opening_senders.Own.{HasOwnDevices};
 ghost use Rattle.usb_base.specs.declared.reports.What.TheVariants as kinds;
 ghost use Rattle.driver_rows.specs.declared.content.Command.TheVariants as unfinished;
 ghost use Rattle.driver_rows.specs.declared.rows.DriverRow.TheVariants as rows;
 ghost use Rattle.driver_rows.specs.declared.rows.Found.TheVariants as results;
-ghost use Rattle.fed_lends.specs.ToLend.{IsToBeLent};
-ghost use Rattle.open_laws.specs.Lends.{IsOpenReady};
+ghost use Rattle.walked_queues.specs.fed_lends.ToLend.{IsToBeLent};
+ghost use Rattle.driven_queues.specs.open_laws.Lends.{IsOpenReady};
 ghost use Rattle.whole_worlds.specs.FeedingLaws.{is_still};
 ghost use Rattle.whole_worlds.specs.Moments.{IsAsynchronousScript, IsWholeThroughout, InStreamsAreRightThroughout};
-ghost use Rattle.small_receiver.specs.Samples.{receiver, words, world_at, row_at, one_put, put_words, put_at, put_row};
+ghost use Rattle.whole_rows.specs.small_receiver.Samples.{receiver, words, world_at, row_at, one_put, put_words, put_at, put_row};
 ghost use Rattle.whole_rows.specs.Due.{IsOpenLentIn};
 
 /// The script with a get fits, says bytes, and has a sender for the endpoint that it opens, which is a bulk one and whose name and numbers fit; it opens no OUT that needs a taker.

@@ -9,22 +9,22 @@ use Rattle.driver_rows.specs.declared.content.Command.{Command}
 use Rattle.driver_rows.specs.declared.content.Command.TheVariants as unfinished
 use Rattle.driver_rows.specs.DriverContent.{DriverContent}
 use Rattle.driver_rows.specs.Offers.{Offered, new_runs, first_of, stage_words, new_transfer}
-use Rattle.run_owners.specs.Accepts.{Transfers}
-use Rattle.chained_transfers.specs.Accepted.{IsAsked}
-use Rattle.chained_transfers.specs.Asynchronous.{IsRequested}
-use Rattle.fed_lends.specs.ToLend.{IsToBeLent}
-use Rattle.fed_lends.proofs.Accepting.{asked_is_to_be_lent, requested_is_to_be_lent}
-use Rattle.fed_lends.proofs.Asked.{dummy_in, notes_in}
-use Rattle.standing_fronts.specs.Reaching.{Reaches}
-use Rattle.harvest_laws.specs.Told.{ToldStands}
-use Rattle.harvest_laws.proofs.Commanding.{asked_told, requested_told}
-use Rattle.open_names.proofs.Apart.{accepted_apart}
-use Rattle.commanded_queues.proofs.Tails.{asked_reaches}
-use Rattle.commanded_queues.proofs.Extending.{asked_extents}
+use Rattle.driver_laws.specs.run_owners.Accepts.{Transfers}
+use Rattle.driver_laws.specs.chained_transfers.Accepted.{IsAsked}
+use Rattle.driver_laws.specs.chained_transfers.Asynchronous.{IsRequested}
+use Rattle.walked_queues.specs.fed_lends.ToLend.{IsToBeLent}
+use Rattle.walked_queues.proofs.lemmas.fed_lends.Accepting.{asked_is_to_be_lent, requested_is_to_be_lent}
+use Rattle.walked_queues.proofs.lemmas.fed_lends.Asked.{dummy_in, notes_in}
+use Rattle.walked_queues.specs.standing_fronts.Reaching.{Reaches}
+use Rattle.driven_queues.specs.harvest_laws.Told.{ToldStands}
+use Rattle.driven_queues.proofs.lemmas.harvest_laws.Commanding.{asked_told, requested_told}
+use Rattle.told_streams.proofs.lemmas.open_names.Apart.{accepted_apart}
+use Rattle.walked_queues.proofs.lemmas.commanded_queues.Tails.{asked_reaches}
+use Rattle.walked_queues.proofs.lemmas.commanded_queues.Extending.{asked_extents}
 use Rattle.bus_world.specs.World.{World, commanded_by}
 use Rattle.stream_worlds.specs.Streaming.{Streams, Standing}
 use Rattle.whole_worlds.specs.Feeding.{AreControlsApart, IsFeeding}
-use Rattle.standing_fronts.specs.Tails.{tail_block, tail_of}
+use Rattle.walked_queues.specs.standing_fronts.Tails.{tail_block, tail_of}
 use Rattle.whole_worlds.specs.Tails.{IsUnderWay}
 use Rattle.whole_worlds.specs.Left.{IsLeft}
 use Rattle.whole_worlds.specs.Whole.{IsWhole}

@@ -1,19 +1,19 @@
 -- Each event of the controller leaves a world whole.
 use Rattle.std.specs.Prelude.{ℕ, Bool}
 use Rattle.usb_bus.specs.Bus.{Fixed}
-use Rattle.run_owners.specs.Owners.{views_of}
-use Rattle.controlled_streams.specs.Control.{IsControlled, ControlEffect}
+use Rattle.driver_laws.specs.run_owners.Owners.{views_of}
+use Rattle.walked_queues.specs.controlled_streams.Control.{IsControlled, ControlEffect}
 use Rattle.driver_laws.specs.PartOpened.{opening_base}
-use Rattle.controller_writes.specs.Leaving.{LeavesRest}
-use Rattle.controller_writes.proofs.Controlling.{event_leaves}
-use Rattle.controlled_streams.proofs.Events.{control_keeps}
-use Rattle.open_laws.proofs.LendWaiting.{lent_stays}
-use Rattle.harvest_laws.proofs.Standing.{beside_told}
+use Rattle.walked_queues.specs.controller_writes.Leaving.{LeavesRest}
+use Rattle.walked_queues.proofs.lemmas.controller_writes.Controlling.{event_leaves}
+use Rattle.walked_queues.proofs.lemmas.controlled_streams.Events.{control_keeps}
+use Rattle.driven_queues.proofs.lemmas.open_laws.LendWaiting.{lent_stays}
+use Rattle.driven_queues.proofs.lemmas.harvest_laws.Standing.{beside_told}
 use Rattle.bus_world.specs.World.{World, controller_parts, controller_next}
 use Rattle.stream_worlds.specs.Streaming.{begins_by, transacts_by, wired, Streams, Standing, HearsBytesNow}
 use Rattle.stream_worlds.proofs.StreamTurning.{world_has_row}
-use Rattle.world_bytes.proofs.Turning.{controller_bytes}
-use Rattle.world_bytes.proofs.Hearing.{hears_bytes}
+use Rattle.stream_worlds.proofs.lemmas.world_bytes.Turning.{controller_bytes}
+use Rattle.stream_worlds.proofs.lemmas.world_bytes.Hearing.{hears_bytes}
 use Rattle.whole_worlds.specs.Feeding.{IsFeeding, GoesOnBeside, bytes_of_event, acc_after}
 use Rattle.whole_worlds.proofs.FeedingBeside.{controller_feeds}
 use Rattle.whole_worlds.specs.Whole.{IsWhole}

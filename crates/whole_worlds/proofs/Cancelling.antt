@@ -12,37 +12,37 @@ use Rattle.driver_rows.specs.declared.content.Command.TheVariants as unfinished
 use Rattle.driver_rows.specs.DriverContent.{DriverContent}
 use Rattle.driver_rows.specs.Offers.{Offered, offered, IsOffered}
 use Rattle.driver_rows.specs.Words.{head_block, queue_head}
-use Rattle.run_owners.specs.Accepts.{Cancels}
+use Rattle.driver_laws.specs.run_owners.Accepts.{Cancels}
 use Rattle.hc_core.specs.Controller.{content}
 use Rattle.driver_laws.specs.PartOpened.{opening_base}
 use Rattle.driver_laws.specs.Driven.{DrivesRing}
 use Rattle.driver_laws.proofs.Commanding.{cancel_drives}
-use Rattle.controlled_streams.specs.Control.{IsFrameless, off, empty}
-use Rattle.in_place.specs.InPlace.{IsInPlace}
-use Rattle.in_place.proofs.Laws.{command_in_place}
-use Rattle.worlds_in_place.proofs.Refused.{refused_in_place}
+use Rattle.walked_queues.specs.controlled_streams.Control.{IsFrameless, off, empty}
+use Rattle.driver_laws.specs.in_place.InPlace.{IsInPlace}
+use Rattle.driver_laws.proofs.lemmas.in_place.Laws.{command_in_place}
+use Rattle.stream_worlds.proofs.lemmas.worlds_in_place.Refused.{refused_in_place}
 use Rattle.bus_world.specs.World.{World, controller_parts, refused_line, commanded_by}
 use Rattle.stream_worlds.specs.Streaming.{Streams, Standing}
-use Rattle.shared_worlds.specs.Working.{IsWorking}
-use Rattle.chained_transfers.specs.Bulk.{comes_in}
-use Rattle.chained_transfers.specs.Asynchronous.{OpensAsynchronous}
-use Rattle.chained_transfers.specs.AsynchronousTurns.{AsynchronousTakesTurns}
-use Rattle.chained_transfers.proofs.Accepting.{command_accepts}
-use Rattle.chained_transfers.proofs.Commands.{command_takes_turns}
+use Rattle.told_streams.specs.shared_worlds.Working.{IsWorking}
+use Rattle.driver_laws.specs.chained_transfers.Bulk.{comes_in}
+use Rattle.driver_laws.specs.chained_transfers.Asynchronous.{OpensAsynchronous}
+use Rattle.driver_laws.specs.chained_transfers.AsynchronousTurns.{AsynchronousTakesTurns}
+use Rattle.driver_laws.proofs.lemmas.chained_transfers.Accepting.{command_accepts}
+use Rattle.driver_laws.proofs.lemmas.chained_transfers.Commands.{command_takes_turns}
 use Rattle.report_streams.specs.Streams.{has_stream}
-use Rattle.fed_lends.specs.Commands.{QueuesStand}
+use Rattle.walked_queues.specs.fed_lends.Commands.{QueuesStand}
 use Rattle.async_walk.specs.Rows.{place}
-use Rattle.lent_structures.specs.Structures.{StructureSets}
+use Rattle.ring_laws.specs.lent_structures.Structures.{StructureSets}
 use Rattle.ring_laws.specs.Told.{Endpoint as Told, endpoint_of}
-use Rattle.fed_queues.specs.Fed.{IsPublished}
-use Rattle.fed_queues.specs.Places.{HasHead, AreMet, HaveStreams}
-use Rattle.fed_queues.proofs.Places.{SameQueues, same_ends, met_stays, streams_stay}
-use Rattle.leaving_drivers.specs.Before.{IsAsBefore, NearSame, UnlinksAtMost, WasSame}
-use Rattle.leaving_drivers.proofs.Alike.{near_fewer, met_before, head_now}
-use Rattle.leaving_drivers.proofs.Leaving.{cancel_as_before}
-use Rattle.left_queues.proofs.Same.{fed_now, last_now, still_out_now}
+use Rattle.driver_laws.specs.fed_queues.Fed.{IsPublished}
+use Rattle.driver_laws.specs.fed_queues.Places.{HasHead, AreMet, HaveStreams}
+use Rattle.driver_laws.proofs.lemmas.fed_queues.Places.{SameQueues, same_ends, met_stays, streams_stay}
+use Rattle.driven_queues.specs.leaving_drivers.Before.{IsAsBefore, NearSame, UnlinksAtMost, WasSame}
+use Rattle.driven_queues.proofs.lemmas.leaving_drivers.Alike.{near_fewer, met_before, head_now}
+use Rattle.driven_queues.proofs.lemmas.leaving_drivers.Leaving.{cancel_as_before}
+use Rattle.stream_worlds.proofs.lemmas.left_queues.Same.{fed_now, last_now, still_out_now}
 use Rattle.whole_worlds.specs.Feeding.{there_of, IsFeeding}
-use Rattle.control_queues.proofs.Beside.{same_keep_controls, commands_keep_controls}
+use Rattle.stream_worlds.proofs.lemmas.control_queues.Beside.{same_keep_controls, commands_keep_controls}
 use Rattle.whole_worlds.proofs.Names.{command_apart}
 use Rattle.whole_worlds.proofs.Told.{there_by, bulk_there}
 use Rattle.whole_worlds.specs.FeedingLaws.{OpensApart}

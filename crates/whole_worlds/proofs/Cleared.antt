@@ -7,29 +7,29 @@ use Rattle.driver_rows.specs.declared.content.Endpoint.{Endpoint}
 use Rattle.driver_rows.specs.declared.rows.DriverRow.{DriverRow}
 use Rattle.driver_rows.specs.declared.rows.DriverRow.TheVariants as rows
 use Rattle.driver_rows.specs.Rows.{driver_row, after_driver_row}
-use Rattle.endpoint_lives.specs.Lives.{may_meet}
-use Rattle.chained_transfers.specs.Bulk.{receives, comes_in}
-use Rattle.chained_transfers.proofs.Ways.{sends_comes_not}
+use Rattle.driver_laws.specs.endpoint_lives.Lives.{may_meet}
+use Rattle.driver_laws.specs.chained_transfers.Bulk.{receives, comes_in}
+use Rattle.driver_laws.proofs.lemmas.chained_transfers.Ways.{sends_comes_not}
 use Rattle.scripted_streams.specs.Senders.{sender_of}
-use Rattle.scripted_takers.specs.Takers.{taker_of}
+use Rattle.scripted_streams.specs.scripted_takers.Takers.{taker_of}
 use Rattle.ring_laws.specs.Told.{Endpoint as Told}
 use Rattle.ring_laws.specs.OutBus.{Taker}
 use Rattle.ring_laws.proofs.PipeAgreeing.{taken_begins}
-use Rattle.controlled_streams.specs.Outs.{Begins}
-use Rattle.controlled_streams.proofs.Outs.{out_begins}
-use Rattle.fed_queues.specs.Places.{IsThere, IsMet}
-use Rattle.leaving_drivers.specs.Owed.{AreOwedMet}
-use Rattle.leaving_drivers.proofs.Alike.{there_by}
-use Rattle.leaving_drivers.proofs.Leaving.{clear_as_before}
-use Rattle.leaving_drivers.proofs.Clearing.{clear_finds}
-use Rattle.leaving_drivers.proofs.Owing.{event_owed}
-use Rattle.narrowed_streams.proofs.Names.{left_is_shut}
-use Rattle.controlled_walks.specs.Worlds.{IsWalking}
-use Rattle.controlled_walks.proofs.Worlds.{driver_walks}
-use Rattle.right_worlds.specs.Right.{ClosedIns}
-use Rattle.taken_reports.specs.Taken.{IsToldTaken}
-use Rattle.taken_reports.specs.Laws.{bytes_taken}
-use Rattle.taken_reports.specs.Worlds.{ClosedOuts}
+use Rattle.walked_queues.specs.controlled_streams.Outs.{Begins}
+use Rattle.walked_queues.proofs.lemmas.controlled_streams.Outs.{out_begins}
+use Rattle.driver_laws.specs.fed_queues.Places.{IsThere, IsMet}
+use Rattle.driven_queues.specs.leaving_drivers.Owed.{AreOwedMet}
+use Rattle.driven_queues.proofs.lemmas.leaving_drivers.Alike.{there_by}
+use Rattle.driven_queues.proofs.lemmas.leaving_drivers.Leaving.{clear_as_before}
+use Rattle.driven_queues.proofs.lemmas.leaving_drivers.Clearing.{clear_finds}
+use Rattle.driven_queues.proofs.lemmas.leaving_drivers.Owing.{event_owed}
+use Rattle.told_streams.proofs.lemmas.narrowed_streams.Names.{left_is_shut}
+use Rattle.stream_worlds.specs.controlled_walks.Worlds.{IsWalking}
+use Rattle.stream_worlds.proofs.lemmas.controlled_walks.Worlds.{driver_walks}
+use Rattle.told_streams.specs.right_worlds.Right.{ClosedIns}
+use Rattle.told_streams.specs.taken_reports.Taken.{IsToldTaken}
+use Rattle.told_streams.specs.taken_reports.Laws.{bytes_taken}
+use Rattle.told_streams.specs.taken_reports.Worlds.{ClosedOuts}
 use Rattle.bus_world.specs.World.{World, driver_parts, with_parts}
 use Rattle.stream_worlds.specs.Streaming.{Streams, Standing, wired}
 use Rattle.whole_worlds.specs.Feeding.{heads_of, IsFeeding}

@@ -8,40 +8,40 @@ use Rattle.driver_rows.specs.declared.rows.DriverRow.TheVariants as rows
 use Rattle.driver_rows.specs.DriverContent.{DriverContent}
 use Rattle.driver_rows.specs.Rows.{Parts, after_driver_row}
 use Rattle.driver_rows.specs.Words.{head_block}
-use Rattle.endpoint_lives.specs.Lives.{any_at}
-use Rattle.endpoint_lives.proofs.Lives.{any_there, there_any}
-use Rattle.run_owners.specs.Kept.{HasOwners}
+use Rattle.driver_laws.specs.endpoint_lives.Lives.{any_at}
+use Rattle.driver_laws.proofs.lemmas.endpoint_lives.Lives.{any_there, there_any}
+use Rattle.driver_laws.specs.run_owners.Kept.{HasOwners}
 use Rattle.hc_core.specs.Controller.{walk_place}
-use Rattle.chained_transfers.specs.AsynchronousTurns.{AsynchronousTakesTurns}
-use Rattle.chained_transfers.proofs.Events.{event_queues}
-use Rattle.walk_members.specs.Reached.{IsWalkIn}
+use Rattle.driver_laws.specs.chained_transfers.AsynchronousTurns.{AsynchronousTakesTurns}
+use Rattle.driver_laws.proofs.lemmas.chained_transfers.Events.{event_queues}
+use Rattle.driver_laws.specs.walk_members.Reached.{IsWalkIn}
 use Rattle.ring_laws.specs.Stores.{IsWider}
 use Rattle.driver_laws.specs.Driven.{is_quiet}
 use Rattle.driver_laws.specs.PartOpened.{opening_base}
-use Rattle.fed_queues.specs.Places.{IsMet, HasHead, AreMet}
-use Rattle.open_laws.specs.Opens.{AreNamesApart}
-use Rattle.reached_rings.specs.Reaching.{may_reach, is_reached, IsReachedIn}
-use Rattle.reached_rings.proofs.Narrowing.{narrow_ring}
-use Rattle.leaving_drivers.specs.Before.{IsAsBefore, NearFewer}
-use Rattle.leaving_drivers.proofs.Alike.{there_by}
-use Rattle.leaving_drivers.proofs.Leaving.{clear_as_before}
-use Rattle.leaving_drivers.proofs.Clearing.{clear_finds}
-use Rattle.left_queues.proofs.Unmet.{near_kept}
-use Rattle.left_queues.proofs.Same.{fed_now, last_now, still_out_now}
-use Rattle.closed_streams.specs.Left.{heads_met, names_kept}
-use Rattle.closed_streams.proofs.Several.{close_some_ends, close_some_pipes, close_some_unopened, fewer_reports}
-use Rattle.narrowed_streams.specs.Narrowed.{left_names}
-use Rattle.narrowed_streams.proofs.Clearing.{clear_narrows, clear_keeps_streams}
-use Rattle.narrowed_streams.proofs.Narrowing.{ins_are_closed}
+use Rattle.driver_laws.specs.fed_queues.Places.{IsMet, HasHead, AreMet}
+use Rattle.driven_queues.specs.open_laws.Opens.{AreNamesApart}
+use Rattle.driven_queues.specs.reached_rings.Reaching.{may_reach, is_reached, IsReachedIn}
+use Rattle.driven_queues.proofs.lemmas.reached_rings.Narrowing.{narrow_ring}
+use Rattle.driven_queues.specs.leaving_drivers.Before.{IsAsBefore, NearFewer}
+use Rattle.driven_queues.proofs.lemmas.leaving_drivers.Alike.{there_by}
+use Rattle.driven_queues.proofs.lemmas.leaving_drivers.Leaving.{clear_as_before}
+use Rattle.driven_queues.proofs.lemmas.leaving_drivers.Clearing.{clear_finds}
+use Rattle.stream_worlds.proofs.lemmas.left_queues.Unmet.{near_kept}
+use Rattle.stream_worlds.proofs.lemmas.left_queues.Same.{fed_now, last_now, still_out_now}
+use Rattle.stream_worlds.specs.closed_streams.Left.{heads_met, names_kept}
+use Rattle.stream_worlds.proofs.lemmas.closed_streams.Several.{close_some_ends, close_some_pipes, close_some_unopened, fewer_reports}
+use Rattle.told_streams.specs.narrowed_streams.Narrowed.{left_names}
+use Rattle.told_streams.proofs.lemmas.narrowed_streams.Clearing.{clear_narrows, clear_keeps_streams}
+use Rattle.told_streams.proofs.lemmas.narrowed_streams.Narrowing.{ins_are_closed}
 use Rattle.scripted_streams.specs.Senders.{sender_of}
 use Rattle.bus_world.specs.World.{World, driver_parts, with_parts, driver_next, controller_parts}
-use Rattle.controlled_walks.proofs.Worlds.{driver_walks}
+use Rattle.stream_worlds.proofs.lemmas.controlled_walks.Worlds.{driver_walks}
 use Rattle.stream_worlds.specs.Streaming.{Streams, Standing, wired}
-use Rattle.shared_worlds.specs.Working.{IsWorking}
-use Rattle.shared_worlds.proofs.Worlds.{quiet_working}
-use Rattle.control_queues.specs.Controls.{ControlsStand}
-use Rattle.control_queues.specs.Beside.{touches_none}
-use Rattle.control_queues.proofs.Beside.{silent_keeps_controls}
+use Rattle.told_streams.specs.shared_worlds.Working.{IsWorking}
+use Rattle.told_streams.proofs.lemmas.shared_worlds.Worlds.{quiet_working}
+use Rattle.stream_worlds.specs.control_queues.Controls.{ControlsStand}
+use Rattle.stream_worlds.specs.control_queues.Beside.{touches_none}
+use Rattle.stream_worlds.proofs.lemmas.control_queues.Beside.{silent_keeps_controls}
 use Rattle.whole_worlds.specs.Feeding.{IsFeeding}
 use Rattle.whole_worlds.specs.Clearing.{narrowed_to, ClearFeeds}
 

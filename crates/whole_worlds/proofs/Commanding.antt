@@ -5,9 +5,9 @@ use Rattle.usb_base.specs.declared.commands.Cmd.TheVariants as commands
 use Rattle.usb_base.specs.declared.reports.OfferError.{OfferError}
 use Rattle.usb_bus.specs.Bus.{Fixed}
 use Rattle.driver_rows.specs.Offers.{Offered, offered, IsOffered}
-use Rattle.walk_members.specs.Reached.{OpensNumbered}
-use Rattle.chained_transfers.specs.Asynchronous.{OpensAsynchronous, AcceptsAsynchronous}
-use Rattle.chained_transfers.proofs.Accepting.{command_accepts}
+use Rattle.driver_laws.specs.walk_members.Reached.{OpensNumbered}
+use Rattle.driver_laws.specs.chained_transfers.Asynchronous.{OpensAsynchronous, AcceptsAsynchronous}
+use Rattle.driver_laws.proofs.lemmas.chained_transfers.Accepting.{command_accepts}
 use Rattle.bus_world.specs.World.{World, name_in, commanded_by, commanded}
 use Rattle.stream_worlds.specs.Streaming.{Streams, Standing}
 use Rattle.whole_worlds.specs.Feeding.{AreControlsApart, IsFeeding}

@@ -9,10 +9,10 @@ use Rattle.qh_qtd.specs.declared.qtd.Qtd.{Qtd}
 use Rattle.driver_rows.specs.declared.content.Endpoint.{Endpoint}
 use Rattle.driver_rows.specs.DriverContent.{DriverContent}
 use Rattle.driver_rows.specs.Words.{head_block, is_control}
-use Rattle.endpoint_lives.specs.Lives.{may_meet}
-use Rattle.run_owners.specs.Owners.{Owner, Head, QueueHead as QueueOf, EndpointRuns, Views, AreOwned, views_of}
-use Rattle.lent_structures.specs.Structures.{Element, Structures, StructureSets}
-use Rattle.lent_structures.proofs.Names.{not_same}
+use Rattle.driver_laws.specs.endpoint_lives.Lives.{may_meet}
+use Rattle.driver_laws.specs.run_owners.Owners.{Owner, Head, QueueHead as QueueOf, EndpointRuns, Views, AreOwned, views_of}
+use Rattle.ring_laws.specs.lent_structures.Structures.{Element, Structures, StructureSets}
+use Rattle.ring_laws.proofs.lemmas.lent_structures.Names.{not_same}
 use Rattle.hc_core.specs.Controller.{walk_place}
 use Rattle.ring_laws.specs.Hand.{Hand}
 use Rattle.ring_laws.specs.Ring.{IsCopied, IsInHand}
@@ -24,29 +24,29 @@ use Rattle.ring_laws.specs.Pipes.{IsIn, grown}
 use Rattle.ring_laws.specs.OutPipeLaws.{SendsNone}
 use Rattle.ring_laws.specs.Told.{Endpoint as Told}
 use Rattle.ring_laws.specs.OutBus.{Taker}
-use Rattle.controlled_streams.specs.Control.{IsControlled, ControlEffect, a_microframe, a_step}
+use Rattle.walked_queues.specs.controlled_streams.Control.{IsControlled, ControlEffect, a_microframe, a_step}
 use Rattle.driver_laws.specs.PartOpened.{opening_base}
 use Rattle.driver_laws.specs.Inventory.{Sort, OfElement, sort_of, sorts_of, IsQueueIn, IsDriverOwned, the_list, the_head, a_queue, a_dummy, a_piece, a_buffer, IsDriven}
-use Rattle.fed_queues.specs.Places.{IsThere, HasHead}
-use Rattle.left_queues.proofs.Unmet.{apart_by, off_head_by, near_other}
-use Rattle.leaving_drivers.proofs.Unmet.{gone_unmet}
-use Rattle.closed_streams.proofs.Aside.{aside_takers}
-use Rattle.scripted_takers.specs.Takers.{taker_of}
-use Rattle.scripted_takers.proofs.Asking.{scripted_out_bus}
-use Rattle.scripted_takers.proofs.Beginning.{scripted_out_begins}
-use Rattle.controlled_walks.proofs.Worlds.{controller_walks}
+use Rattle.driver_laws.specs.fed_queues.Places.{IsThere, HasHead}
+use Rattle.stream_worlds.proofs.lemmas.left_queues.Unmet.{apart_by, off_head_by, near_other}
+use Rattle.driven_queues.proofs.lemmas.leaving_drivers.Unmet.{gone_unmet}
+use Rattle.stream_worlds.proofs.lemmas.closed_streams.Aside.{aside_takers}
+use Rattle.scripted_streams.specs.scripted_takers.Takers.{taker_of}
+use Rattle.scripted_streams.proofs.lemmas.scripted_takers.Asking.{scripted_out_bus}
+use Rattle.scripted_streams.proofs.lemmas.scripted_takers.Beginning.{scripted_out_begins}
+use Rattle.stream_worlds.proofs.lemmas.controlled_walks.Worlds.{controller_walks}
 use Rattle.pipe_agreement.specs.Prefix.{IsPrefix}
 use Rattle.report_streams.specs.Streams.{told_in, has_stream}
-use Rattle.told_endpoints.specs.Telling.{lines_in}
-use Rattle.taken_reports.specs.Taken.{IsToldTaken}
-use Rattle.taken_reports.specs.Laws.{bytes_taken}
+use Rattle.walked_queues.specs.told_endpoints.Telling.{lines_in}
+use Rattle.told_streams.specs.taken_reports.Taken.{IsToldTaken}
+use Rattle.told_streams.specs.taken_reports.Laws.{bytes_taken}
 use Rattle.bus_world.specs.World.{World, controller_parts, controller_next}
 use Rattle.stream_worlds.specs.Streaming.{Streams, Standing, begins_by, transacts_by, wired}
 use Rattle.stream_worlds.specs.Outs.{IsAside, AreAside}
 use Rattle.usb_base.specs.declared.packets.EpKind.{EpKind}
 use Rattle.usb_base.specs.declared.packets.EpKind.TheVariants as kinds
-use Rattle.declared_controls.specs.Names.{IsNameOf}
-use Rattle.chained_transfers.specs.Bulk.{receives}
+use Rattle.declared_endpoints.specs.declared_controls.Names.{IsNameOf}
+use Rattle.driver_laws.specs.chained_transfers.Bulk.{receives}
 use Rattle.whole_worlds.proofs.Told.{stream_out, data_way}
 use Rattle.whole_worlds.proofs.Heads.{queue_on}
 use Rattle.whole_worlds.proofs.TakingAlike.{outs_on}

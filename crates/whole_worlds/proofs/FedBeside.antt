@@ -12,20 +12,20 @@ use Rattle.driver_rows.specs.declared.rows.DriverRow.{DriverRow}
 use Rattle.driver_rows.specs.declared.rows.DriverRow.TheVariants as rows
 use Rattle.driver_rows.specs.Offers.{Offered, offered}
 use Rattle.driver_rows.specs.Rows.{after_driver_row}
-use Rattle.chained_transfers.specs.AsynchronousTurns.{AsynchronousTakesTurns}
-use Rattle.chained_transfers.proofs.Accepting.{command_accepts}
-use Rattle.standing_fronts.specs.Reaching.{Reaches}
-use Rattle.commanded_queues.proofs.Tails.{reaches_alike}
-use Rattle.harvest_laws.proofs.Standing.{refused_told}
-use Rattle.leaving_drivers.specs.Before.{UnlinksAtMost, IsAsBefore, NearFewer}
-use Rattle.leaving_drivers.proofs.Alike.{near_fewer}
-use Rattle.leaving_drivers.proofs.Leaving.{cancel_as_before, clear_as_before}
-use Rattle.leaving_drivers.proofs.Clearing.{clear_finds}
-use Rattle.left_queues.proofs.Same.{tails_now}
-use Rattle.left_reports.proofs.Before.{before_told}
+use Rattle.driver_laws.specs.chained_transfers.AsynchronousTurns.{AsynchronousTakesTurns}
+use Rattle.driver_laws.proofs.lemmas.chained_transfers.Accepting.{command_accepts}
+use Rattle.walked_queues.specs.standing_fronts.Reaching.{Reaches}
+use Rattle.walked_queues.proofs.lemmas.commanded_queues.Tails.{reaches_alike}
+use Rattle.driven_queues.proofs.lemmas.harvest_laws.Standing.{refused_told}
+use Rattle.driven_queues.specs.leaving_drivers.Before.{UnlinksAtMost, IsAsBefore, NearFewer}
+use Rattle.driven_queues.proofs.lemmas.leaving_drivers.Alike.{near_fewer}
+use Rattle.driven_queues.proofs.lemmas.leaving_drivers.Leaving.{cancel_as_before, clear_as_before}
+use Rattle.driven_queues.proofs.lemmas.leaving_drivers.Clearing.{clear_finds}
+use Rattle.stream_worlds.proofs.lemmas.left_queues.Same.{tails_now}
+use Rattle.told_streams.proofs.lemmas.left_reports.Before.{before_told}
 use Rattle.bus_world.specs.World.{World, driver_parts, with_parts, refused_line, commanded_by}
 use Rattle.stream_worlds.specs.Streaming.{Standing}
-use Rattle.standing_fronts.specs.Tails.{tail_block, tail_of}
+use Rattle.walked_queues.specs.standing_fronts.Tails.{tail_block, tail_of}
 use Rattle.whole_worlds.specs.Beside.{IsTold, LeaveKeepsTails, CancelKeepsTold, ClearKeepsTold}
 
 -- where no transfer is published the tail is the inactive qTD at the end

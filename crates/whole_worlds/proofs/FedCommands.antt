@@ -10,32 +10,32 @@ use Rattle.usb_base.specs.declared.endpoints.EpName.{EpName}
 use Rattle.usb_base.specs.declared.reports.OfferError.{OfferError}
 use Rattle.word_mem.specs.Memory.{Mem}
 use Rattle.usb_bus.specs.Bus.{Fixed}
-use Rattle.scripted_takers.specs.Takers.{taker_of}
+use Rattle.scripted_streams.specs.scripted_takers.Takers.{taker_of}
 use Rattle.driver_rows.specs.declared.content.Endpoint.{Endpoint}
 use Rattle.driver_rows.specs.declared.content.QtdNote.{QtdNote}
 use Rattle.driver_rows.specs.declared.content.Command.{Command}
 use Rattle.driver_rows.specs.declared.content.Command.TheVariants as unfinished
 use Rattle.driver_rows.specs.DriverContent.{DriverContent}
 use Rattle.driver_rows.specs.Offers.{Offered, offered, new_endpoint, accepted_open, accepted_transfer, with_queued, note_stages, new_runs}
-use Rattle.endpoint_lives.specs.Lives.{may_meet}
-use Rattle.endpoint_lives.proofs.Lives.{linked_met}
-use Rattle.run_owners.specs.Accepts.{Opens, Transfers}
-use Rattle.chained_transfers.specs.Asynchronous.{OpensAsynchronous, AcceptsAsynchronous}
-use Rattle.chained_transfers.specs.AsynchronousTurns.{AsynchronousTakesTurns}
-use Rattle.chained_transfers.proofs.Accepting.{command_accepts}
-use Rattle.chained_transfers.proofs.Rows.{set_which}
-use Rattle.leaving_drivers.specs.Told.{told_to}
-use Rattle.leaving_drivers.proofs.Leaving.{cancel_as_before}
-use Rattle.leaving_drivers.proofs.Owing.{command_owed}
-use Rattle.leaving_drivers.proofs.Telling.{refusal_tells_nothing, commands_only}
-use Rattle.controlled_walks.proofs.Worlds.{command_walks}
+use Rattle.driver_laws.specs.endpoint_lives.Lives.{may_meet}
+use Rattle.driver_laws.proofs.lemmas.endpoint_lives.Lives.{linked_met}
+use Rattle.driver_laws.specs.run_owners.Accepts.{Opens, Transfers}
+use Rattle.driver_laws.specs.chained_transfers.Asynchronous.{OpensAsynchronous, AcceptsAsynchronous}
+use Rattle.driver_laws.specs.chained_transfers.AsynchronousTurns.{AsynchronousTakesTurns}
+use Rattle.driver_laws.proofs.lemmas.chained_transfers.Accepting.{command_accepts}
+use Rattle.driver_laws.proofs.lemmas.chained_transfers.Rows.{set_which}
+use Rattle.driven_queues.specs.leaving_drivers.Told.{told_to}
+use Rattle.driven_queues.proofs.lemmas.leaving_drivers.Leaving.{cancel_as_before}
+use Rattle.driven_queues.proofs.lemmas.leaving_drivers.Owing.{command_owed}
+use Rattle.driven_queues.proofs.lemmas.leaving_drivers.Telling.{refusal_tells_nothing, commands_only}
+use Rattle.stream_worlds.proofs.lemmas.controlled_walks.Worlds.{command_walks}
 use Rattle.bus_world.specs.World.{World, name_in, refused_line, commanded_by, commanded}
 use Rattle.stream_worlds.specs.Streaming.{Streams, Standing, wired}
 use Rattle.whole_worlds.specs.Feeding.{IsFeeding}
-use Rattle.controlled_walks.specs.Worlds.{IsWalking}
+use Rattle.stream_worlds.specs.controlled_walks.Worlds.{IsWalking}
 use Rattle.pipe_agreement.specs.Prefix.{IsPrefix}
-use Rattle.taken_reports.specs.Taken.{IsToldTaken}
-use Rattle.taken_reports.specs.Laws.{bytes_taken}
+use Rattle.told_streams.specs.taken_reports.Taken.{IsToldTaken}
+use Rattle.told_streams.specs.taken_reports.Laws.{bytes_taken}
 use Rattle.whole_worlds.specs.Left.{IsLeft}
 use Rattle.whole_worlds.specs.LeftLaws.{OpensNamed, CommandKeepsLeft}
 use Rattle.whole_worlds.proofs.Names.{command_named}

@@ -3,25 +3,25 @@ use Rattle.std.proofs.Common.{◌≡◌, ◌≢◌, ℕ, ◌*◌, Bool, false, a
 use Rattle.usb_bus.specs.Bus.{Fixed}
 use Rattle.driver_rows.specs.DriverContent.{DriverContent}
 use Rattle.driver_rows.specs.Rows.{Parts as DriverParts, driver_row}
-use Rattle.lent_structures.specs.Structures.{QueueHead}
+use Rattle.ring_laws.specs.lent_structures.Structures.{QueueHead}
 use Rattle.ring_laws.specs.Hand.{Hand}
 use Rattle.ring_laws.specs.Stores.{hand_stale}
-use Rattle.controlled_streams.specs.Reported.{AreReported}
+use Rattle.walked_queues.specs.controlled_streams.Reported.{AreReported}
 use Rattle.driver_laws.specs.PartOpened.{opening_base}
 use Rattle.driver_laws.specs.Driven.{DrivesRing}
-use Rattle.in_place.proofs.Laws.{event_in_place}
+use Rattle.driver_laws.proofs.lemmas.in_place.Laws.{event_in_place}
 use Rattle.async_walk.specs.Rows.{place}
 use Rattle.scripted_streams.specs.Senders.{sender_of}
 use Rattle.bus_world.specs.World.{World, driver_parts, driver_next}
 use Rattle.stream_worlds.specs.Streaming.{Streams, Standing, wired}
-use Rattle.shared_worlds.specs.Working.{IsWorking}
-use Rattle.chained_transfers.proofs.Events.{event_queues}
-use Rattle.mended_heads.specs.Owed.{IsOwed}
-use Rattle.mended_heads.specs.Mended.{next_of, IsAtMend, head_at, mended as head_mended, driver_mended}
-use Rattle.mended_heads.proofs.Row.{mend_is_due, mend_row, mend_leaves_ring}
-use Rattle.mended_heads.proofs.Queues.{leaves_pipes, leaves_met, leaves_ends, leaves_fed, leaves_last, leaves_out}
-use Rattle.mended_heads.proofs.Streams.{leaves_reports}
-use Rattle.control_queues.proofs.Heads.{mend_keeps_controls}
+use Rattle.told_streams.specs.shared_worlds.Working.{IsWorking}
+use Rattle.driver_laws.proofs.lemmas.chained_transfers.Events.{event_queues}
+use Rattle.walked_queues.specs.mended_heads.Owed.{IsOwed}
+use Rattle.walked_queues.specs.mended_heads.Mended.{next_of, IsAtMend, head_at, mended as head_mended, driver_mended}
+use Rattle.walked_queues.proofs.lemmas.mended_heads.Row.{mend_is_due, mend_row, mend_leaves_ring}
+use Rattle.walked_queues.proofs.lemmas.mended_heads.Queues.{leaves_pipes, leaves_met, leaves_ends, leaves_fed, leaves_last, leaves_out}
+use Rattle.walked_queues.proofs.lemmas.mended_heads.Streams.{leaves_reports}
+use Rattle.stream_worlds.proofs.lemmas.control_queues.Heads.{mend_keeps_controls}
 use Rattle.whole_worlds.specs.Feeding.{there_of, IsFeeding}
 use Rattle.whole_worlds.specs.Mends.{MendFinds, MendFeeds, mended}
 use Rattle.whole_worlds.proofs.Names.{row_apart}

@@ -1,7 +1,7 @@
 -- No endpoint has left a new world: there is none.
 use Rattle.bus_world.specs.Rooms.{reserve_of}
-use Rattle.controlled_walks.proofs.Worlds.{new_walks}
-use Rattle.leaving_drivers.proofs.Owing.{new_owed}
+use Rattle.stream_worlds.proofs.lemmas.controlled_walks.Worlds.{new_walks}
+use Rattle.driven_queues.proofs.lemmas.leaving_drivers.Owing.{new_owed}
 use Rattle.whole_worlds.specs.LeftLaws.{NewWorldLeft}
 
 pub new_world_left : NewWorldLeft

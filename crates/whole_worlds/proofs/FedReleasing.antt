@@ -10,36 +10,36 @@ use Rattle.driver_rows.specs.declared.rows.DriverRow.{DriverRow}
 use Rattle.driver_rows.specs.declared.rows.DriverRow.TheVariants as rows
 use Rattle.driver_rows.specs.DriverContent.{DriverContent}
 use Rattle.driver_rows.specs.Rows.{Parts as DriverParts, driver_row, after_driver_row, after_endpoint, is_told}
-use Rattle.run_owners.specs.Due.{IsDue, IsEndpointDue}
-use Rattle.run_owners.specs.Owners.{views_of}
-use Rattle.run_owners.proofs.Reasons.{each_is_due}
-use Rattle.run_owners.proofs.Released.{set_here, set_there}
-use Rattle.lent_structures.specs.Structures.{Structures, StructureSets}
-use Rattle.controlled_streams.specs.Control.{IsFrameless, off, empty}
-use Rattle.controlled_streams.specs.Reported.{AreReported}
+use Rattle.driver_laws.specs.run_owners.Due.{IsDue, IsEndpointDue}
+use Rattle.driver_laws.specs.run_owners.Owners.{views_of}
+use Rattle.driver_laws.proofs.lemmas.run_owners.Reasons.{each_is_due}
+use Rattle.driver_laws.proofs.lemmas.run_owners.Released.{set_here, set_there}
+use Rattle.ring_laws.specs.lent_structures.Structures.{Structures, StructureSets}
+use Rattle.walked_queues.specs.controlled_streams.Control.{IsFrameless, off, empty}
+use Rattle.walked_queues.specs.controlled_streams.Reported.{AreReported}
 use Rattle.driver_laws.specs.PartOpened.{opening_base}
 use Rattle.driver_laws.specs.Driven.{DrivesRing}
 use Rattle.driver_laws.specs.Extents.{AreInRuns}
-use Rattle.in_place.specs.InPlace.{IsInPlace}
-use Rattle.in_place.proofs.Laws.{event_in_place}
+use Rattle.driver_laws.specs.in_place.InPlace.{IsInPlace}
+use Rattle.driver_laws.proofs.lemmas.in_place.Laws.{event_in_place}
 use Rattle.async_walk.specs.Rows.{place}
 use Rattle.scripted_streams.specs.Senders.{sender_of}
 use Rattle.bus_world.specs.World.{World, controller_parts, driver_parts, with_parts}
 use Rattle.stream_worlds.specs.Streaming.{Streams, Standing, wired}
-use Rattle.shared_worlds.specs.Working.{IsWorking}
-use Rattle.chained_transfers.specs.AsynchronousTurns.{AsynchronousTakesTurns}
-use Rattle.chained_transfers.proofs.Events.{event_queues}
-use Rattle.fed_queues.specs.Places.{HasThere}
-use Rattle.endpoint_releases.specs.Released.{without_queue, HasLeaver, endpoint_row}
-use Rattle.endpoint_releases.proofs.Owning.{queue_beside}
-use Rattle.endpoint_releases.proofs.Releasing.{release_drives, due_leaves}
-use Rattle.endpoint_releases.proofs.Beside.{pipes_stay, reports_stay}
-use Rattle.left_queues.specs.Standing.{IdleTailsStand, AllStand}
-use Rattle.left_queues.proofs.Returned.{endpoint_release_stands}
-use Rattle.left_queues.proofs.Unmet.{apart_by, cleared_unmet, cleared_is_no_head}
+use Rattle.told_streams.specs.shared_worlds.Working.{IsWorking}
+use Rattle.driver_laws.specs.chained_transfers.AsynchronousTurns.{AsynchronousTakesTurns}
+use Rattle.driver_laws.proofs.lemmas.chained_transfers.Events.{event_queues}
+use Rattle.driver_laws.specs.fed_queues.Places.{HasThere}
+use Rattle.stream_worlds.specs.endpoint_releases.Released.{without_queue, HasLeaver, endpoint_row}
+use Rattle.stream_worlds.proofs.lemmas.endpoint_releases.Owning.{queue_beside}
+use Rattle.stream_worlds.proofs.lemmas.endpoint_releases.Releasing.{release_drives, due_leaves}
+use Rattle.stream_worlds.proofs.lemmas.endpoint_releases.Beside.{pipes_stay, reports_stay}
+use Rattle.stream_worlds.specs.left_queues.Standing.{IdleTailsStand, AllStand}
+use Rattle.stream_worlds.proofs.lemmas.left_queues.Returned.{endpoint_release_stands}
+use Rattle.stream_worlds.proofs.lemmas.left_queues.Unmet.{apart_by, cleared_unmet, cleared_is_no_head}
 use Rattle.whole_worlds.specs.Feeding.{there_of, IsFeeding}
 use Rattle.whole_worlds.proofs.FeedingStores.{queue_above}
-use Rattle.control_queues.proofs.Returns.{leaver_keeps_controls}
+use Rattle.stream_worlds.proofs.lemmas.control_queues.Returns.{leaver_keeps_controls}
 use Rattle.whole_worlds.proofs.Names.{row_apart}
 use Rattle.whole_worlds.proofs.Told.{HasBulkThere, there_by, bulk_there}
 use Rattle.whole_worlds.specs.Releases.{released, EndpointReleaseFeeds, IsGivenBack}

@@ -5,7 +5,7 @@ use Rattle.std.proofs.lemmas.Bool.{true≢false, or_parts}
 use Rattle.std.proofs.lemmas.Option.{same_Some}
 use Rattle.word_mem.specs.Memory.{Mem}
 use Rattle.run_book.specs.Book.{Holding, holding, lend_taken}
-use Rattle.scripted_takers.specs.Takers.{taker_of}
+use Rattle.scripted_streams.specs.scripted_takers.Takers.{taker_of}
 use Rattle.driver_rows.specs.declared.content.Endpoint.{Endpoint}
 use Rattle.driver_rows.specs.declared.content.Transfer.{Transfer}
 use Rattle.driver_rows.specs.declared.content.Command.{Command}
@@ -14,31 +14,31 @@ use Rattle.driver_rows.specs.declared.rows.DriverRow.TheVariants as rows
 use Rattle.driver_rows.specs.declared.rows.Found.{Found}
 use Rattle.driver_rows.specs.DriverContent.{DriverContent}
 use Rattle.driver_rows.specs.Rows.{Parts, driver_row, no_command, after_driver_row, after_transfer, freed_by}
-use Rattle.endpoint_lives.specs.Lives.{is_one_of, may_meet}
-use Rattle.endpoint_lives.proofs.Lives.{one_of_joined, one_of_end, linked_met, waiting_met, met_alike, unmet_past, past_unmet}
-use Rattle.run_owners.specs.Due.{IsDue, IsHarvestDue}
-use Rattle.run_owners.specs.Kept.{HasOwners}
-use Rattle.run_owners.specs.Owners.{EndpointRuns, runs_of_endpoint}
-use Rattle.run_owners.proofs.Reasons.{each_is_due}
-use Rattle.run_owners.proofs.Stays.{harvest_stays}
-use Rattle.ring_members.specs.Links.{link_in}
-use Rattle.ring_members.specs.Ring.{IsOpening, StandsFor, IsRing}
-use Rattle.publish_laws.proofs.Apart.{queue_placed, queues_same}
-use Rattle.chained_transfers.specs.Asynchronous.{OnlyAsynchronous}
-use Rattle.chained_transfers.specs.AsynchronousTurns.{AsynchronousTakesTurns}
-use Rattle.chained_transfers.proofs.Chained.{pushed_last}
-use Rattle.chained_transfers.proofs.Rows.{left, advanced_or_left, set_which}
-use Rattle.chained_transfers.proofs.Staying.{linked_stands_alive}
-use Rattle.leaving_drivers.specs.Told.{AreNamedOnce}
-use Rattle.leaving_drivers.proofs.Leaving.{bell_as_before, status_as_before, frame_as_before}
-use Rattle.leaving_drivers.proofs.Never.{IsAsynchronousRow, asynchronous_row}
-use Rattle.leaving_drivers.proofs.Owing.{event_owed}
-use Rattle.leaving_drivers.proofs.Reading.{read_row}
-use Rattle.leaving_drivers.proofs.Telling.{events_only}
-use Rattle.lent_structures.specs.Structures.{StructureSets}
+use Rattle.driver_laws.specs.endpoint_lives.Lives.{is_one_of, may_meet}
+use Rattle.driver_laws.proofs.lemmas.endpoint_lives.Lives.{one_of_joined, one_of_end, linked_met, waiting_met, met_alike, unmet_past, past_unmet}
+use Rattle.driver_laws.specs.run_owners.Due.{IsDue, IsHarvestDue}
+use Rattle.driver_laws.specs.run_owners.Kept.{HasOwners}
+use Rattle.driver_laws.specs.run_owners.Owners.{EndpointRuns, runs_of_endpoint}
+use Rattle.driver_laws.proofs.lemmas.run_owners.Reasons.{each_is_due}
+use Rattle.driver_laws.proofs.lemmas.run_owners.Stays.{harvest_stays}
+use Rattle.driver_laws.specs.ring_members.Links.{link_in}
+use Rattle.driver_laws.specs.ring_members.Ring.{IsOpening, StandsFor, IsRing}
+use Rattle.driven_queues.proofs.lemmas.publish_laws.Apart.{queue_placed, queues_same}
+use Rattle.driver_laws.specs.chained_transfers.Asynchronous.{OnlyAsynchronous}
+use Rattle.driver_laws.specs.chained_transfers.AsynchronousTurns.{AsynchronousTakesTurns}
+use Rattle.driver_laws.proofs.lemmas.chained_transfers.Chained.{pushed_last}
+use Rattle.driver_laws.proofs.lemmas.chained_transfers.Rows.{left, advanced_or_left, set_which}
+use Rattle.driver_laws.proofs.lemmas.chained_transfers.Staying.{linked_stands_alive}
+use Rattle.driven_queues.specs.leaving_drivers.Told.{AreNamedOnce}
+use Rattle.driven_queues.proofs.lemmas.leaving_drivers.Leaving.{bell_as_before, status_as_before, frame_as_before}
+use Rattle.driven_queues.proofs.lemmas.leaving_drivers.Never.{IsAsynchronousRow, asynchronous_row}
+use Rattle.driven_queues.proofs.lemmas.leaving_drivers.Owing.{event_owed}
+use Rattle.driven_queues.proofs.lemmas.leaving_drivers.Reading.{read_row}
+use Rattle.driven_queues.proofs.lemmas.leaving_drivers.Telling.{events_only}
+use Rattle.ring_laws.specs.lent_structures.Structures.{StructureSets}
 use Rattle.ring_laws.specs.Hand.{Hand}
-use Rattle.harvest_laws.specs.Told.{ToldStands}
-use Rattle.controlled_walks.proofs.Worlds.{driver_walks}
+use Rattle.driven_queues.specs.harvest_laws.Told.{ToldStands}
+use Rattle.stream_worlds.proofs.lemmas.controlled_walks.Worlds.{driver_walks}
 use Rattle.usb_bus.specs.Bus.{Fixed}
 use Rattle.bus_world.specs.World.{World, driver_parts, driver_next}
 use Rattle.stream_worlds.specs.Streaming.{Streams, Standing, wired}

@@ -7,36 +7,36 @@ use Rattle.usb_base.specs.declared.packets.Ask.{Ask}
 use Rattle.usb_base.specs.declared.packets.Reply.{Reply}
 use Rattle.usb_bus.specs.Bus.{Fixed}
 use Rattle.hc_core.specs.Controller.{Content, walk_place}
-use Rattle.run_owners.specs.Owners.{views_of}
-use Rattle.lent_structures.specs.Structures.{StructureSets}
+use Rattle.driver_laws.specs.run_owners.Owners.{views_of}
+use Rattle.ring_laws.specs.lent_structures.Structures.{StructureSets}
 use Rattle.ring_laws.specs.Hand.{Hand}
 use Rattle.ring_laws.specs.Ring.{Base}
 use Rattle.ring_laws.specs.Order.{bytes_of_effect, GoesOnInOrder}
 use Rattle.ring_laws.proofs.Adding.{event_adds}
-use Rattle.controlled_streams.specs.Control.{IsControlled, BeginsMicroframe, WalksRing, ControlEffect, a_microframe, a_step}
+use Rattle.walked_queues.specs.controlled_streams.Control.{IsControlled, BeginsMicroframe, WalksRing, ControlEffect, a_microframe, a_step}
 use Rattle.ring_laws.specs.Told.{Endpoint as Told}
 use Rattle.ring_laws.specs.Bus.{Sender}
 use Rattle.ring_laws.specs.Pipes.{IsPipe, ArePiped, grown}
-use Rattle.controlled_streams.proofs.Piping.{control_pipes}
+use Rattle.walked_queues.proofs.lemmas.controlled_streams.Piping.{control_pipes}
 use Rattle.scripted_streams.specs.Senders.{sender_of}
 use Rattle.scripted_streams.proofs.Asking.{scripted_bus}
 use Rattle.scripted_streams.proofs.Beginning.{scripted_begins}
-use Rattle.controlled_streams.specs.Reported.{IsReported, AreReported}
-use Rattle.controlled_streams.proofs.Reporting.{event_reported}
+use Rattle.walked_queues.specs.controlled_streams.Reported.{IsReported, AreReported}
+use Rattle.walked_queues.proofs.lemmas.controlled_streams.Reporting.{event_reported}
 use Rattle.driver_laws.specs.PartOpened.{opening_base}
 use Rattle.driver_laws.proofs.Sorts.{driven_same}
-use Rattle.in_place.proofs.Elsewhere.{elsewhere_in_place}
+use Rattle.driver_laws.proofs.lemmas.in_place.Elsewhere.{elsewhere_in_place}
 use Rattle.bus_world.specs.World.{World, controller_parts, controller_next}
 use Rattle.stream_worlds.specs.Streaming.{Streams, Standing, begins_by, transacts_by, wired}
 use Rattle.stream_worlds.proofs.StreamTurning.{world_has_row}
-use Rattle.shared_memory.specs.Shared.{IsShared}
-use Rattle.shared_memory.proofs.Sharing.{control_same, event_elsewhere}
-use Rattle.controlled_streams.proofs.Events.{control_keeps}
-use Rattle.fed_events.proofs.Beside.{fed_still, last_still}
-use Rattle.controlled_streams.proofs.Waiting.{unopened_wait}
+use Rattle.walked_queues.specs.shared_memory.Shared.{IsShared}
+use Rattle.walked_queues.proofs.lemmas.shared_memory.Sharing.{control_same, event_elsewhere}
+use Rattle.walked_queues.proofs.lemmas.controlled_streams.Events.{control_keeps}
+use Rattle.driven_queues.proofs.lemmas.fed_events.Beside.{fed_still, last_still}
+use Rattle.walked_queues.proofs.lemmas.controlled_streams.Waiting.{unopened_wait}
 use Rattle.whole_worlds.specs.Feeding.{there_of, IsFeeding, bytes_of_event, acc_after, Goes}
 use Rattle.whole_worlds.specs.FeedingLaws.{ControllerFeeds}
-use Rattle.control_queues.proofs.Beside.{controller_keeps_controls}
+use Rattle.stream_worlds.proofs.lemmas.control_queues.Beside.{controller_keeps_controls}
 use Rattle.whole_worlds.proofs.Heads.{right_of}
 
 -- ---- the packets taken

@@ -10,28 +10,28 @@ use Rattle.driver_rows.specs.declared.content.Endpoint.{Endpoint}
 use Rattle.driver_rows.specs.declared.content.Command.{Command}
 use Rattle.driver_rows.specs.declared.content.Command.TheVariants as unfinished
 use Rattle.driver_rows.specs.Offers.{Offered, new_runs, new_endpoint, with_queued, offered, IsOffered}
-use Rattle.run_owners.specs.Accepts.{Opens, Transfers}
+use Rattle.driver_laws.specs.run_owners.Accepts.{Opens, Transfers}
 use Rattle.driver_laws.specs.PartOpened.{opening_base}
 use Rattle.driver_laws.specs.Driven.{DrivesRing}
 use Rattle.driver_laws.proofs.Commanding.{open_drives, transfer_drives}
-use Rattle.in_place.specs.InPlace.{IsInPlace}
-use Rattle.in_place.proofs.Laws.{command_in_place}
+use Rattle.driver_laws.specs.in_place.InPlace.{IsInPlace}
+use Rattle.driver_laws.proofs.lemmas.in_place.Laws.{command_in_place}
 use Rattle.bus_world.specs.World.{World, name_in, commanded_by}
 use Rattle.stream_worlds.specs.Streaming.{Streams, Standing}
-use Rattle.shared_worlds.specs.Working.{IsWorking}
-use Rattle.chained_transfers.specs.Accepted.{IsAsked}
-use Rattle.chained_transfers.specs.Asynchronous.{OpensAsynchronous, IsRequested, AcceptsAsynchronous}
-use Rattle.chained_transfers.specs.AsynchronousTurns.{AsynchronousTakesTurns}
-use Rattle.chained_transfers.proofs.Accepting.{command_accepts}
-use Rattle.chained_transfers.proofs.Commands.{command_takes_turns}
+use Rattle.told_streams.specs.shared_worlds.Working.{IsWorking}
+use Rattle.driver_laws.specs.chained_transfers.Accepted.{IsAsked}
+use Rattle.driver_laws.specs.chained_transfers.Asynchronous.{OpensAsynchronous, IsRequested, AcceptsAsynchronous}
+use Rattle.driver_laws.specs.chained_transfers.AsynchronousTurns.{AsynchronousTakesTurns}
+use Rattle.driver_laws.proofs.lemmas.chained_transfers.Accepting.{command_accepts}
+use Rattle.driver_laws.proofs.lemmas.chained_transfers.Commands.{command_takes_turns}
 use Rattle.report_streams.specs.Streams.{has_stream}
-use Rattle.fed_lends.specs.Commands.{QueuesStand}
-use Rattle.fed_lends.proofs.Asked.{push_which, set_which}
-use Rattle.fed_lends.proofs.Opened.{open_stands}
-use Rattle.fed_lends.proofs.Publishing.{asked_stands, requested_stands}
+use Rattle.walked_queues.specs.fed_lends.Commands.{QueuesStand}
+use Rattle.walked_queues.proofs.lemmas.fed_lends.Asked.{push_which, set_which}
+use Rattle.walked_queues.proofs.lemmas.fed_lends.Opened.{open_stands}
+use Rattle.walked_queues.proofs.lemmas.fed_lends.Publishing.{asked_stands, requested_stands}
 use Rattle.async_walk.specs.Rows.{place}
-use Rattle.fed_queues.specs.Places.{HasThere}
-use Rattle.control_queues.proofs.Beside.{commands_keep_controls}
+use Rattle.driver_laws.specs.fed_queues.Places.{HasThere}
+use Rattle.stream_worlds.proofs.lemmas.control_queues.Beside.{commands_keep_controls}
 use Rattle.whole_worlds.specs.Feeding.{there_of, IsFeeding}
 use Rattle.whole_worlds.specs.FeedingLaws.{OpensApart, CommandFeeds}
 use Rattle.whole_worlds.proofs.Told.{HasBulkThere, there_by, bulk_there}

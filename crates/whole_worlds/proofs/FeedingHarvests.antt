@@ -7,8 +7,8 @@ use Rattle.usb_base.specs.declared.packets.EpKind.{EpKind}
 use Rattle.usb_base.specs.declared.packets.EpKind.TheVariants as kinds
 use Rattle.usb_base.specs.declared.endpoints.EndCause.{EndCause}
 use Rattle.usb_base.specs.declared.reports.What.{What}
-use Rattle.lent_structures.specs.Sound.{IsMember}
-use Rattle.lent_structures.proofs.Names.{not_same}
+use Rattle.ring_laws.specs.lent_structures.Sound.{IsMember}
+use Rattle.ring_laws.proofs.lemmas.lent_structures.Names.{not_same}
 use Rattle.usb_bus.specs.Bus.{Fixed}
 use Rattle.driver_rows.specs.declared.content.Endpoint.{Endpoint}
 use Rattle.driver_rows.specs.declared.content.Command.TheVariants as unfinished
@@ -22,46 +22,46 @@ use Rattle.driver_rows.specs.Harvests.{is_stall, end_of}
 use Rattle.driver_laws.specs.Driven.{is_quiet}
 use Rattle.driver_laws.specs.PartOpened.{opening_base}
 use Rattle.driver_laws.proofs.Viewing.{harvest_views}
-use Rattle.walk_members.proofs.Descriptions.{desc_of, row_left}
-use Rattle.run_owners.specs.Owners.{EndpointRuns, runs_of_endpoint}
-use Rattle.run_owners.specs.Due.{IsDue, IsHarvestDue}
-use Rattle.run_owners.proofs.Reasons.{each_is_due}
-use Rattle.chained_transfers.specs.Out.{out_now}
-use Rattle.chained_transfers.specs.Asynchronous.{IsAsynchronous}
-use Rattle.chained_transfers.specs.AsynchronousTurns.{AsynchronousTakesTurns}
-use Rattle.chained_transfers.proofs.BulkAndControl.{not_iso}
-use Rattle.chained_transfers.proofs.Events.{event_queues}
-use Rattle.controlled_streams.specs.Reported.{IsReported, AreReported}
+use Rattle.driver_laws.proofs.lemmas.walk_members.Descriptions.{desc_of, row_left}
+use Rattle.driver_laws.specs.run_owners.Owners.{EndpointRuns, runs_of_endpoint}
+use Rattle.driver_laws.specs.run_owners.Due.{IsDue, IsHarvestDue}
+use Rattle.driver_laws.proofs.lemmas.run_owners.Reasons.{each_is_due}
+use Rattle.driver_laws.specs.chained_transfers.Out.{out_now}
+use Rattle.driver_laws.specs.chained_transfers.Asynchronous.{IsAsynchronous}
+use Rattle.driver_laws.specs.chained_transfers.AsynchronousTurns.{AsynchronousTakesTurns}
+use Rattle.driver_laws.proofs.lemmas.chained_transfers.BulkAndControl.{not_iso}
+use Rattle.driver_laws.proofs.lemmas.chained_transfers.Events.{event_queues}
+use Rattle.walked_queues.specs.controlled_streams.Reported.{IsReported, AreReported}
 use Rattle.bus_world.specs.World.{World, driver_parts, driver_next}
 use Rattle.stream_worlds.specs.Streaming.{Streams, Standing}
-use Rattle.shared_worlds.specs.Working.{IsWorking}
-use Rattle.shared_worlds.proofs.Worlds.{quiet_working}
-use Rattle.fed_queues.specs.Places.{IsMet, HasThere, AreStillOut}
-use Rattle.fed_queues.proofs.Places.{stands_met}
-use Rattle.fed_lends.specs.Commands.{QueuesStand}
-use Rattle.fed_harvests.specs.Harvests.{with_out, HarvestLeaves}
-use Rattle.fed_harvests.specs.Stalls.{StallLeaves}
-use Rattle.fed_harvests.proofs.Harvests.{bulk_unstalled, unstalled_stands, wait_stands}
-use Rattle.fed_harvests.proofs.Stalls.{stall_stands}
-use Rattle.mended_heads.specs.Stalling.{IsStall, HaltsQueue}
-use Rattle.stalled_fronts.proofs.Halted.{stall_halts}
-use Rattle.stalled_fronts.proofs.Stalled.{stall_keeps}
-use Rattle.released_queues.specs.Fronts.{FrontsStand}
-use Rattle.harvest_laws.specs.Told.{ToldStands}
-use Rattle.harvest_laws.specs.ToldLaws.{HarvestReports}
-use Rattle.harvest_laws.proofs.ReadRows.{row_told, wait_told}
-use Rattle.harvest_laws.proofs.Requests.{request_row_told}
+use Rattle.told_streams.specs.shared_worlds.Working.{IsWorking}
+use Rattle.told_streams.proofs.lemmas.shared_worlds.Worlds.{quiet_working}
+use Rattle.driver_laws.specs.fed_queues.Places.{IsMet, HasThere, AreStillOut}
+use Rattle.driver_laws.proofs.lemmas.fed_queues.Places.{stands_met}
+use Rattle.walked_queues.specs.fed_lends.Commands.{QueuesStand}
+use Rattle.driven_queues.specs.fed_harvests.Harvests.{with_out, HarvestLeaves}
+use Rattle.driven_queues.specs.fed_harvests.Stalls.{StallLeaves}
+use Rattle.driven_queues.proofs.lemmas.fed_harvests.Harvests.{bulk_unstalled, unstalled_stands, wait_stands}
+use Rattle.driven_queues.proofs.lemmas.fed_harvests.Stalls.{stall_stands}
+use Rattle.walked_queues.specs.mended_heads.Stalling.{IsStall, HaltsQueue}
+use Rattle.driven_queues.proofs.lemmas.stalled_fronts.Halted.{stall_halts}
+use Rattle.driven_queues.proofs.lemmas.stalled_fronts.Stalled.{stall_keeps}
+use Rattle.walked_queues.specs.released_queues.Fronts.{FrontsStand}
+use Rattle.driven_queues.specs.harvest_laws.Told.{ToldStands}
+use Rattle.driven_queues.specs.harvest_laws.ToldLaws.{HarvestReports}
+use Rattle.driven_queues.proofs.lemmas.harvest_laws.ReadRows.{row_told, wait_told}
+use Rattle.driven_queues.proofs.lemmas.harvest_laws.Requests.{request_row_told}
 use Rattle.whole_worlds.specs.Feeding.{there_of, IsFeeding}
 use Rattle.whole_worlds.specs.HarvestFeeds.{HarvestLeaves as Leaves}
 use Rattle.whole_worlds.proofs.FeedingPassed.{passed_untold}
 use Rattle.report_streams.specs.Streams.{has_stream}
-use Rattle.control_queues.proofs.Harvests.{harvest_keeps_controls}
+use Rattle.stream_worlds.proofs.lemmas.control_queues.Harvests.{harvest_keeps_controls}
 use Rattle.whole_worlds.proofs.Names.{row_apart}
 use Rattle.whole_worlds.proofs.Told.{HasBulkThere, there_by, bulk_there, stream_kind, bulk_kind, control_kind}
 use Rattle.whole_worlds.proofs.Heads.{queue_reported, rising, right_of, control_head}
-use Rattle.standing_fronts.proofs.Rows.{harvest_keeps}
+use Rattle.walked_queues.proofs.lemmas.standing_fronts.Rows.{harvest_keeps}
 use Rattle.bus_world.specs.World.{with_parts}
-use Rattle.run_owners.specs.Kept.{HasOwners}
+use Rattle.driver_laws.specs.run_owners.Kept.{HasOwners}
 
 -- ---- an endpoint whose queue and description are told alike
 

@@ -3,21 +3,21 @@ use Rattle.std.proofs.Common.{◌≡◌, ℕ, true, List, Option, Some, ap, sym,
 use Rattle.driver_rows.specs.declared.content.Command.{Command}
 use Rattle.driver_rows.specs.declared.content.Command.TheVariants as unfinished
 use Rattle.driver_rows.specs.Rows.{Parts as DriverParts, driver_row}
-use Rattle.lent_structures.specs.Structures.{Table}
+use Rattle.ring_laws.specs.lent_structures.Structures.{Table}
 use Rattle.driver_laws.specs.PartOpened.{opening_base}
 use Rattle.driver_laws.specs.Driven.{DrivesRing}
-use Rattle.in_place.proofs.Laws.{event_in_place}
+use Rattle.driver_laws.proofs.lemmas.in_place.Laws.{event_in_place}
 use Rattle.async_walk.specs.Rows.{place}
 use Rattle.scripted_streams.specs.Senders.{sender_of}
 use Rattle.bus_world.specs.World.{World, driver_parts, driver_next}
 use Rattle.stream_worlds.specs.Streaming.{wired}
-use Rattle.chained_transfers.proofs.Events.{event_queues}
-use Rattle.fed_lends.specs.ToLend.{IsToBeLent}
-use Rattle.fed_lends.proofs.Row.{after_is}
-use Rattle.lent_fronts.proofs.Row.{lend_row_leaves_fronts}
+use Rattle.driver_laws.proofs.lemmas.chained_transfers.Events.{event_queues}
+use Rattle.walked_queues.specs.fed_lends.ToLend.{IsToBeLent}
+use Rattle.walked_queues.proofs.lemmas.fed_lends.Row.{after_is}
+use Rattle.driven_queues.proofs.lemmas.lent_fronts.Row.{lend_row_leaves_fronts}
 use Rattle.whole_worlds.specs.Feeding.{there_of}
 use Rattle.whole_worlds.specs.LendFeeds.{LendFeeds}
-use Rattle.control_queues.proofs.Lends.{lend_keeps_controls}
+use Rattle.stream_worlds.proofs.lemmas.control_queues.Lends.{lend_keeps_controls}
 use Rattle.whole_worlds.proofs.Names.{row_apart}
 use Rattle.whole_worlds.proofs.Told.{there_before}
 use Rattle.whole_worlds.proofs.Heads.{right_of}

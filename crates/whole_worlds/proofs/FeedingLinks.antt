@@ -8,31 +8,31 @@ use Rattle.driver_rows.specs.declared.content.Command.TheVariants as unfinished
 use Rattle.driver_rows.specs.DriverContent.{DriverContent}
 use Rattle.driver_rows.specs.Rows.{Parts as DriverParts, driver_row}
 use Rattle.driver_rows.specs.Words.{to_queue_head}
-use Rattle.lent_structures.specs.Structures.{QueueHead}
+use Rattle.ring_laws.specs.lent_structures.Structures.{QueueHead}
 use Rattle.ring_laws.specs.Hand.{Hand}
 use Rattle.ring_laws.specs.Stores.{hand_linked}
-use Rattle.controlled_streams.specs.Reported.{AreReported}
+use Rattle.walked_queues.specs.controlled_streams.Reported.{AreReported}
 use Rattle.driver_laws.specs.Linked.{head_at, with_member}
 use Rattle.driver_laws.specs.PartOpened.{opening_base}
 use Rattle.driver_laws.specs.Driven.{DrivesRing}
-use Rattle.lent_structures.specs.Sound.{IsMember}
-use Rattle.in_place.proofs.Laws.{event_in_place}
+use Rattle.ring_laws.specs.lent_structures.Sound.{IsMember}
+use Rattle.driver_laws.proofs.lemmas.in_place.Laws.{event_in_place}
 use Rattle.async_walk.specs.Rows.{place}
 use Rattle.scripted_streams.specs.Senders.{sender_of}
 use Rattle.bus_world.specs.World.{World, driver_parts, driver_next}
 use Rattle.stream_worlds.specs.Streaming.{Streams, Standing, wired}
-use Rattle.chained_transfers.specs.Bulk.{comes_in}
-use Rattle.chained_transfers.proofs.Events.{event_queues}
-use Rattle.fed_queues.specs.Places.{HasThere}
-use Rattle.controlled_streams.specs.Opened.{with_stream, with_end, with_none}
-use Rattle.open_laws.specs.Opens.{IsOpenLent, AreNamesApart, IsAtOpen, head_then, hand_then, end_then, streams_then}
-use Rattle.open_laws.proofs.Linking.{driver_is, open_is_linked}
-use Rattle.open_laws.proofs.Streams.{open_pipes, open_reports}
-use Rattle.open_laws.proofs.Standing.{then_beside, member_here, member_old, open_stands}
+use Rattle.driver_laws.specs.chained_transfers.Bulk.{comes_in}
+use Rattle.driver_laws.proofs.lemmas.chained_transfers.Events.{event_queues}
+use Rattle.driver_laws.specs.fed_queues.Places.{HasThere}
+use Rattle.walked_queues.specs.controlled_streams.Opened.{with_stream, with_end, with_none}
+use Rattle.driven_queues.specs.open_laws.Opens.{IsOpenLent, AreNamesApart, IsAtOpen, head_then, hand_then, end_then, streams_then}
+use Rattle.driven_queues.proofs.lemmas.open_laws.Linking.{driver_is, open_is_linked}
+use Rattle.driven_queues.proofs.lemmas.open_laws.Streams.{open_pipes, open_reports}
+use Rattle.driven_queues.proofs.lemmas.open_laws.Standing.{then_beside, member_here, member_old, open_stands}
 use Rattle.whole_worlds.specs.Feeding.{there_of, IsFeeding}
 use Rattle.whole_worlds.specs.OpenFeeds.{LinkFeeds}
 use Rattle.whole_worlds.proofs.FeedingStores.{put_apart}
-use Rattle.control_queues.proofs.Opens.{open_link_keeps_controls}
+use Rattle.stream_worlds.proofs.lemmas.control_queues.Opens.{open_link_keeps_controls}
 use Rattle.whole_worlds.proofs.Names.{row_apart}
 use Rattle.whole_worlds.proofs.Told.{same_queue, there_by, bulk_there, has_there}
 use Rattle.whole_worlds.proofs.Heads.{stream_on}

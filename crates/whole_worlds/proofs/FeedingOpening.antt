@@ -7,7 +7,7 @@ use Rattle.usb_bus.specs.Bus.{opening_wired}
 use Rattle.hc_core.specs.Controller.{content, new_control}
 use Rattle.driver_rows.specs.Opening.{opening}
 use Rattle.driver_rows.specs.Words.{opening_head}
-use Rattle.lent_structures.specs.Structures.{QueueHead, Element}
+use Rattle.ring_laws.specs.lent_structures.Structures.{QueueHead, Element}
 use Rattle.ring_laws.specs.Hand.{Empty}
 use Rattle.ring_laws.specs.Told.{endpoint_of}
 use Rattle.ring_laws.specs.Bus.{Sender}
@@ -30,11 +30,11 @@ use Rattle.std.proofs.lemmas.Option.{same_Some, slice_get-map}
 use Rattle.scripted_streams.specs.Senders.{sender_of_part, sender_of_endpoint, sender_of_device, sender_of_owner, sender_of_seat, sender_of_place, sender_of}
 use Rattle.driver_laws.specs.PartOpened.{opening_base, opening_parts, is_head}
 use Rattle.bus_world.specs.Rooms.{reserve_of}
-use Rattle.shared_memory.specs.Shared.{IsShared}
-use Rattle.shared_memory.proofs.Sharing.{opening_shared}
-use Rattle.controlled_streams.specs.Unopened.{IsUntouched}
-use Rattle.chained_transfers.proofs.Events.{new_queues}
-use Rattle.control_queues.proofs.Beside.{new_driver_controls}
+use Rattle.walked_queues.specs.shared_memory.Shared.{IsShared}
+use Rattle.walked_queues.proofs.lemmas.shared_memory.Sharing.{opening_shared}
+use Rattle.walked_queues.specs.controlled_streams.Unopened.{IsUntouched}
+use Rattle.driver_laws.proofs.lemmas.chained_transfers.Events.{new_queues}
+use Rattle.stream_worlds.proofs.lemmas.control_queues.Beside.{new_driver_controls}
 use Rattle.whole_worlds.specs.Feeding.{left_of, streams_of}
 use Rattle.whole_worlds.specs.FeedingLaws.{NewWorldFeeds}
 

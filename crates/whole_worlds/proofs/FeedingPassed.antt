@@ -3,8 +3,8 @@ use Rattle.std.proofs.Common.{◌≡◌, ℕ, zero, suc, ◌+◌, ◌-◌, ◌*�
 use Rattle.std.proofs.lemmas.Bool.{false≢true, eqb-true}
 use Rattle.std.proofs.lemmas.Option.{same_Some}
 use Rattle.qh_qtd.specs.declared.qtd.Qtd.{Qtd}
-use Rattle.lent_structures.specs.Structures.{StructureSets}
-use Rattle.lent_structures.proofs.Altering.{found_element}
+use Rattle.ring_laws.specs.lent_structures.Structures.{StructureSets}
+use Rattle.ring_laws.proofs.lemmas.lent_structures.Altering.{found_element}
 use Rattle.ring_laws.specs.Hand.{Hand}
 use Rattle.ring_laws.specs.Told.{Told}
 use Rattle.ring_laws.specs.Order.{IsAmong}
@@ -12,16 +12,16 @@ use Rattle.driver_rows.specs.declared.content.Endpoint.{Endpoint}
 use Rattle.driver_rows.specs.declared.content.Transfer.{Transfer}
 use Rattle.driver_rows.specs.declared.content.Command.{Command}
 use Rattle.driver_rows.specs.DriverContent.{DriverContent}
-use Rattle.run_owners.specs.Owners.{NoteRuns, note_in}
-use Rattle.endpoint_lives.proofs.Lives.{none_told}
-use Rattle.chained_transfers.specs.Chains.{piece_at}
-use Rattle.chained_transfers.specs.Turns.{IsAtPlace, turn_of, turn_in, IsInList, AreReportedTo, AreInTurn}
-use Rattle.chained_transfers.specs.Out.{pieces_from, passed, unpublished, if_last, out_of_transfer, out_of}
-use Rattle.fed_queues.specs.Places.{IsMet, AreStillOut}
+use Rattle.driver_laws.specs.run_owners.Owners.{NoteRuns, note_in}
+use Rattle.driver_laws.proofs.lemmas.endpoint_lives.Lives.{none_told}
+use Rattle.driver_laws.specs.chained_transfers.Chains.{piece_at}
+use Rattle.driver_laws.specs.chained_transfers.Turns.{IsAtPlace, turn_of, turn_in, IsInList, AreReportedTo, AreInTurn}
+use Rattle.driver_laws.specs.chained_transfers.Out.{pieces_from, passed, unpublished, if_last, out_of_transfer, out_of}
+use Rattle.driver_laws.specs.fed_queues.Places.{IsMet, AreStillOut}
 use Rattle.ring_laws.specs.Front.{IsPassed}
-use Rattle.controlled_streams.proofs.Returning.{passed_none}
-use Rattle.released_queues.specs.Fronts.{StandsAt, FrontsStand}
-use Rattle.harvest_laws.specs.Outs.{IsOutEarlier}
+use Rattle.walked_queues.proofs.lemmas.controlled_streams.Returning.{passed_none}
+use Rattle.walked_queues.specs.released_queues.Fronts.{StandsAt, FrontsStand}
+use Rattle.driven_queues.specs.harvest_laws.Outs.{IsOutEarlier}
 
 -- ---- it is one of the later qTDs of an earlier, reported transfer
 

@@ -7,32 +7,32 @@ use Rattle.driver_rows.specs.declared.content.Transfer.{Transfer}
 use Rattle.driver_rows.specs.declared.content.QtdNote.{QtdNote}
 use Rattle.driver_rows.specs.declared.content.Command.{Command}
 use Rattle.driver_rows.specs.declared.content.Command.TheVariants as unfinished
-use Rattle.chained_transfers.specs.Out.{out_of}
+use Rattle.driver_laws.specs.chained_transfers.Out.{out_of}
 use Rattle.driver_rows.specs.declared.rows.DriverRow.{DriverRow}
 use Rattle.driver_rows.specs.declared.rows.DriverRow.TheVariants as rows
 use Rattle.driver_rows.specs.DriverContent.{DriverContent}
 use Rattle.driver_rows.specs.Harvests.{note_at}
 use Rattle.driver_rows.specs.Words.{head_block}
 use Rattle.driver_rows.specs.Rows.{Parts, driver_row, after_driver_row}
-use Rattle.run_owners.specs.Due.{IsDue}
-use Rattle.run_owners.specs.Owners.{note_in}
-use Rattle.run_owners.proofs.Reasons.{each_is_due}
-use Rattle.endpoint_lives.specs.Lives.{is_one_of, may_meet}
-use Rattle.endpoint_lives.proofs.Lives.{one_of_joined}
-use Rattle.lent_structures.specs.Structures.{StructureSets}
+use Rattle.driver_laws.specs.run_owners.Due.{IsDue}
+use Rattle.driver_laws.specs.run_owners.Owners.{note_in}
+use Rattle.driver_laws.proofs.lemmas.run_owners.Reasons.{each_is_due}
+use Rattle.driver_laws.specs.endpoint_lives.Lives.{is_one_of, may_meet}
+use Rattle.driver_laws.proofs.lemmas.endpoint_lives.Lives.{one_of_joined}
+use Rattle.ring_laws.specs.lent_structures.Structures.{StructureSets}
 use Rattle.ring_laws.specs.Told.{Endpoint as Told}
 use Rattle.driver_laws.specs.Driven.{is_quiet}
 use Rattle.bus_world.specs.World.{driver_parts}
-use Rattle.shared_worlds.proofs.Worlds.{quiet_working}
+use Rattle.told_streams.proofs.lemmas.shared_worlds.Worlds.{quiet_working}
 use Rattle.driver_laws.specs.PartOpened.{opening_base}
-use Rattle.chained_transfers.proofs.Events.{event_queues}
-use Rattle.fed_queues.specs.Places.{IsMet, HasHead}
-use Rattle.fed_lends.specs.Commands.{QueuesStand}
-use Rattle.fed_harvests.proofs.Like.{like_stands}
+use Rattle.driver_laws.proofs.lemmas.chained_transfers.Events.{event_queues}
+use Rattle.driver_laws.specs.fed_queues.Places.{IsMet, HasHead}
+use Rattle.walked_queues.specs.fed_lends.Commands.{QueuesStand}
+use Rattle.driven_queues.proofs.lemmas.fed_harvests.Like.{like_stands}
 use Rattle.whole_worlds.proofs.Names.{row_apart}
 use Rattle.whole_worlds.specs.Feeding.{there_of}
-use Rattle.control_queues.specs.Beside.{touches_none}
-use Rattle.control_queues.proofs.Beside.{silent_keeps_controls}
+use Rattle.stream_worlds.specs.control_queues.Beside.{touches_none}
+use Rattle.stream_worlds.proofs.lemmas.control_queues.Beside.{silent_keeps_controls}
 use Rattle.whole_worlds.specs.FeedingLaws.{is_still, StillFeeds}
 
 -- what tells of queues is the same

@@ -6,30 +6,30 @@ use Rattle.driver_rows.specs.declared.content.Command.{Command}
 use Rattle.driver_rows.specs.declared.content.Command.TheVariants as unfinished
 use Rattle.driver_rows.specs.DriverContent.{DriverContent}
 use Rattle.driver_rows.specs.Rows.{Parts as DriverParts, is_iso, driver_row}
-use Rattle.run_owners.specs.Kept.{HasOwners}
-use Rattle.run_owners.specs.Owners.{FrameList, QueueHead, runs_of_endpoint}
-use Rattle.run_owners.proofs.Released.{other_number}
-use Rattle.lent_structures.specs.Structures.{Structure, Element, StructureSets, with_structure, put}
-use Rattle.controlled_streams.specs.Reported.{AreReported}
+use Rattle.driver_laws.specs.run_owners.Kept.{HasOwners}
+use Rattle.driver_laws.specs.run_owners.Owners.{FrameList, QueueHead, runs_of_endpoint}
+use Rattle.driver_laws.proofs.lemmas.run_owners.Released.{other_number}
+use Rattle.ring_laws.specs.lent_structures.Structures.{Structure, Element, StructureSets, with_structure, put}
+use Rattle.walked_queues.specs.controlled_streams.Reported.{AreReported}
 use Rattle.driver_laws.specs.PartOpened.{opening_base}
 use Rattle.driver_laws.specs.Driven.{DrivesRing}
-use Rattle.in_place.proofs.Laws.{event_in_place}
+use Rattle.driver_laws.proofs.lemmas.in_place.Laws.{event_in_place}
 use Rattle.async_walk.specs.Rows.{place}
 use Rattle.scripted_streams.specs.Senders.{sender_of}
 use Rattle.bus_world.specs.World.{World, driver_parts, driver_next}
 use Rattle.stream_worlds.specs.Streaming.{Streams, Standing, wired}
-use Rattle.shared_worlds.specs.Working.{IsWorking}
-use Rattle.chained_transfers.specs.Asynchronous.{OnlyAsynchronous}
-use Rattle.chained_transfers.proofs.BulkAndControl.{not_iso}
-use Rattle.chained_transfers.proofs.Staying.{stands_alive}
-use Rattle.chained_transfers.proofs.Events.{event_queues}
-use Rattle.fed_queues.specs.Fed.{IsPublished}
-use Rattle.publish_laws.specs.Stores.{IsAtStore, published_by, parts_then, out_then, QueuesThen, next_of}
-use Rattle.publish_laws.proofs.Storing.{store_publishes, store_keeps_pipes, store_reports, store_stands}
+use Rattle.told_streams.specs.shared_worlds.Working.{IsWorking}
+use Rattle.driver_laws.specs.chained_transfers.Asynchronous.{OnlyAsynchronous}
+use Rattle.driver_laws.proofs.lemmas.chained_transfers.BulkAndControl.{not_iso}
+use Rattle.driver_laws.proofs.lemmas.chained_transfers.Staying.{stands_alive}
+use Rattle.driver_laws.proofs.lemmas.chained_transfers.Events.{event_queues}
+use Rattle.driver_laws.specs.fed_queues.Fed.{IsPublished}
+use Rattle.driven_queues.specs.publish_laws.Stores.{IsAtStore, published_by, parts_then, out_then, QueuesThen, next_of}
+use Rattle.driven_queues.proofs.lemmas.publish_laws.Storing.{store_publishes, store_keeps_pipes, store_reports, store_stands}
 use Rattle.driver_laws.specs.Published.{partly}
 use Rattle.whole_worlds.proofs.Names.{row_apart}
 use Rattle.whole_worlds.specs.Feeding.{there_of, IsFeeding}
-use Rattle.control_queues.proofs.Stores.{store_keeps_controls}
+use Rattle.stream_worlds.proofs.lemmas.control_queues.Stores.{store_keeps_controls}
 use Rattle.whole_worlds.specs.FeedingLaws.{StoreFeeds}
 use Rattle.whole_worlds.proofs.Told.{there_before}
 use Rattle.whole_worlds.proofs.Heads.{right_of}

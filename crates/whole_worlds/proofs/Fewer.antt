@@ -3,7 +3,7 @@ use Rattle.std.proofs.Common.{ℕ, Bool, not, ◌&&◌, ap}
 use Rattle.usb_base.specs.declared.commands.Cmd.{Cmd}
 use Rattle.usb_base.specs.declared.commands.Cmd.TheVariants as commands
 use Rattle.driver_rows.specs.DriverContent.{DriverContent}
-use Rattle.closed_streams.specs.Left.{names_kept}
+use Rattle.stream_worlds.specs.closed_streams.Left.{names_kept}
 use Rattle.whole_worlds.specs.Feeding.{AreControlsApart}
 use Rattle.whole_worlds.specs.FeedingLaws.{OpensNoStream}
 use Rattle.whole_worlds.specs.Whole.{AreOf}

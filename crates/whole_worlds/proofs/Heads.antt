@@ -6,20 +6,20 @@ use Rattle.usb_bus.specs.Bus.{Fixed}
 use Rattle.driver_rows.specs.declared.content.Endpoint.{Endpoint}
 use Rattle.driver_rows.specs.DriverContent.{DriverContent}
 use Rattle.driver_rows.specs.Words.{head_block, is_control}
-use Rattle.run_owners.specs.Owners.{Head, QueueHead as QueueOf}
-use Rattle.run_owners.specs.Kept.{HasOwners}
-use Rattle.lent_structures.specs.Structures.{StructureSets}
-use Rattle.lent_structures.proofs.Names.{not_same}
+use Rattle.driver_laws.specs.run_owners.Owners.{Head, QueueHead as QueueOf}
+use Rattle.driver_laws.specs.run_owners.Kept.{HasOwners}
+use Rattle.ring_laws.specs.lent_structures.Structures.{StructureSets}
+use Rattle.ring_laws.proofs.lemmas.lent_structures.Names.{not_same}
 use Rattle.ring_laws.specs.Hand.{Hand}
 use Rattle.ring_laws.specs.Told.{Endpoint as Told}
 use Rattle.ring_laws.specs.Front.{LinksRise}
-use Rattle.controlled_streams.specs.Reported.{IsReported, AreReported}
-use Rattle.chained_transfers.specs.Bulk.{IsDataWay, comes_in}
-use Rattle.chained_transfers.specs.Asynchronous.{IsAsynchronous, OnlyAsynchronous}
+use Rattle.walked_queues.specs.controlled_streams.Reported.{IsReported, AreReported}
+use Rattle.driver_laws.specs.chained_transfers.Bulk.{IsDataWay, comes_in}
+use Rattle.driver_laws.specs.chained_transfers.Asynchronous.{IsAsynchronous, OnlyAsynchronous}
 use Rattle.report_streams.specs.Streams.{has_stream}
-use Rattle.fed_queues.specs.Places.{IsThere, IsMet, HasHead, AreMet, HaveStreams}
-use Rattle.publish_laws.proofs.Apart.{queue_placed, queues_same, thirty_two}
-use Rattle.standing_fronts.specs.Along.{LinksOfQueuesRise}
+use Rattle.driver_laws.specs.fed_queues.Places.{IsThere, IsMet, HasHead, AreMet, HaveStreams}
+use Rattle.driven_queues.proofs.lemmas.publish_laws.Apart.{queue_placed, queues_same, thirty_two}
+use Rattle.walked_queues.specs.standing_fronts.Along.{LinksOfQueuesRise}
 use Rattle.bus_world.specs.World.{World}
 use Rattle.stream_worlds.specs.Streaming.{Streams, Standing}
 use Rattle.whole_worlds.specs.Feeding.{heads_of, there_of, IsFeeding}

@@ -8,20 +8,20 @@ use Rattle.hc_core.specs.Controller.{Content, walk_place}
 use Rattle.driver_rows.specs.declared.content.Command.{Command}
 use Rattle.driver_rows.specs.declared.content.Command.TheVariants as unfinished
 use Rattle.driver_rows.specs.DriverContent.{DriverContent}
-use Rattle.run_owners.specs.Owners.{Views}
-use Rattle.run_owners.specs.Kept.{HasOwners}
-use Rattle.lent_structures.specs.Structures.{StructureSets}
+use Rattle.driver_laws.specs.run_owners.Owners.{Views}
+use Rattle.driver_laws.specs.run_owners.Kept.{HasOwners}
+use Rattle.ring_laws.specs.lent_structures.Structures.{StructureSets}
 use Rattle.ring_laws.specs.Hand.{Hand}
 use Rattle.ring_laws.specs.Ring.{Base}
-use Rattle.controlled_streams.specs.Control.{IsControlled, ControlEffect, a_microframe, a_step}
+use Rattle.walked_queues.specs.controlled_streams.Control.{IsControlled, ControlEffect, a_microframe, a_step}
 use Rattle.driver_laws.specs.Extents.{KeepExtents, AreInRuns}
 use Rattle.driver_laws.proofs.Extending.{extents_stay, walk_keeps}
-use Rattle.fed_lends.proofs.Accepting.{to_be_lent_stays}
-use Rattle.standing_fronts.specs.Along.{LinksOfQueuesRise}
-use Rattle.standing_fronts.proofs.Reaching.{reaches_walk}
-use Rattle.open_laws.specs.Opens.{IsOpenLent}
-use Rattle.open_laws.proofs.AcceptWaiting.{ready_stays}
-use Rattle.standing_fronts.specs.Tails.{tail_of, TailsStand}
+use Rattle.walked_queues.proofs.lemmas.fed_lends.Accepting.{to_be_lent_stays}
+use Rattle.walked_queues.specs.standing_fronts.Along.{LinksOfQueuesRise}
+use Rattle.walked_queues.proofs.lemmas.standing_fronts.Reaching.{reaches_walk}
+use Rattle.driven_queues.specs.open_laws.Opens.{IsOpenLent}
+use Rattle.driven_queues.proofs.lemmas.open_laws.AcceptWaiting.{ready_stays}
+use Rattle.walked_queues.specs.standing_fronts.Tails.{tail_of, TailsStand}
 use Rattle.whole_worlds.specs.Tails.{IsUnderWay}
 
 -- ---- the unfinished command

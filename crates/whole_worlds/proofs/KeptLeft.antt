@@ -6,16 +6,16 @@ use Rattle.driver_rows.specs.declared.content.Command.{Command}
 use Rattle.driver_rows.specs.declared.rows.DriverRow.{DriverRow}
 use Rattle.driver_rows.specs.declared.rows.DriverRow.TheVariants as rows
 use Rattle.driver_rows.specs.Rows.{driver_row}
-use Rattle.run_owners.specs.Due.{IsDue}
-use Rattle.run_owners.proofs.Reasons.{each_is_due}
+use Rattle.driver_laws.specs.run_owners.Due.{IsDue}
+use Rattle.driver_laws.proofs.lemmas.run_owners.Reasons.{each_is_due}
 use Rattle.usb_bus.specs.Bus.{Fixed}
 use Rattle.bus_world.specs.World.{World, driver_parts, driver_next}
 use Rattle.stream_worlds.specs.Streaming.{Streams, Standing}
 use Rattle.whole_worlds.specs.FeedingLaws.{is_still}
 use Rattle.whole_worlds.specs.Left.{IsLeft}
 use Rattle.pipe_agreement.specs.Prefix.{IsPrefix}
-use Rattle.taken_reports.specs.Taken.{IsToldTaken}
-use Rattle.controlled_streams.specs.Opened.{with_none}
+use Rattle.told_streams.specs.taken_reports.Taken.{IsToldTaken}
+use Rattle.walked_queues.specs.controlled_streams.Opened.{with_none}
 use Rattle.whole_worlds.specs.Whole.{IsWhole, HasWhole}
 use Rattle.whole_worlds.proofs.FedRows.{told_once, row_keeps_left}
 use Rattle.whole_worlds.proofs.Fewer.{are_same}

@@ -8,26 +8,26 @@ use Rattle.driver_rows.specs.declared.rows.DriverRow.TheVariants as rows
 use Rattle.driver_rows.specs.declared.rows.Found.{Found}
 use Rattle.driver_rows.specs.DriverContent.{DriverContent}
 use Rattle.driver_rows.specs.Rows.{Parts, driver_row, after_driver_row}
-use Rattle.run_owners.specs.Due.{IsDue, IsHarvestDue}
-use Rattle.run_owners.specs.Owners.{SlotHas, Views, views_of}
-use Rattle.run_owners.proofs.Reasons.{each_is_due}
-use Rattle.lent_runs.proofs.Books.{harvest_book}
-use Rattle.lent_structures.specs.Structures.{StructureSets}
+use Rattle.driver_laws.specs.run_owners.Due.{IsDue, IsHarvestDue}
+use Rattle.driver_laws.specs.run_owners.Owners.{SlotHas, Views, views_of}
+use Rattle.driver_laws.proofs.lemmas.run_owners.Reasons.{each_is_due}
+use Rattle.driver_laws.proofs.lemmas.lent_runs.Books.{harvest_book}
+use Rattle.ring_laws.specs.lent_structures.Structures.{StructureSets}
 use Rattle.driver_laws.proofs.Viewing.{SameViews, harvest_views}
 use Rattle.driver_laws.specs.Extents.{AreInRuns}
 use Rattle.driver_laws.proofs.Extending.{extents_stay}
-use Rattle.open_laws.specs.Opens.{AreNamesApart}
-use Rattle.open_names.proofs.Apart.{events_apart}
+use Rattle.driven_queues.specs.open_laws.Opens.{AreNamesApart}
+use Rattle.told_streams.proofs.lemmas.open_names.Apart.{events_apart}
 use Rattle.whole_worlds.proofs.KeptLeft.{whole_of, row_left}
-use Rattle.released_queues.specs.Fronts.{FrontsStand}
-use Rattle.standing_fronts.specs.Reaching.{Reaches}
+use Rattle.walked_queues.specs.released_queues.Fronts.{FrontsStand}
+use Rattle.walked_queues.specs.standing_fronts.Reaching.{Reaches}
 use Rattle.usb_bus.specs.Bus.{Fixed}
 use Rattle.bus_world.specs.World.{World, driver_parts, driver_next}
 use Rattle.stream_worlds.specs.Streaming.{Streams, Standing}
 use Rattle.whole_worlds.specs.HarvestFeeds.{HarvestLeaves}
 use Rattle.whole_worlds.proofs.FeedingHarvests.{harvest_feeds}
-use Rattle.idle_tails.proofs.Reaching.{idle_queues_reach}
-use Rattle.standing_fronts.specs.Tails.{tail_block, TailsStand}
+use Rattle.walked_queues.proofs.lemmas.idle_tails.Reaching.{idle_queues_reach}
+use Rattle.walked_queues.specs.standing_fronts.Tails.{tail_block, TailsStand}
 use Rattle.whole_worlds.specs.Tails.{IsUnderWay}
 use Rattle.whole_worlds.specs.Whole.{IsWhole, HasWhole}
 use Rattle.whole_worlds.specs.Laws.{HarvestKeepsWhole}

@@ -9,19 +9,19 @@ use Rattle.run_book.specs.declared.slots.Slot.{Slot}
 use Rattle.usb_bus.specs.Bus.{Fixed}
 use Rattle.driver_rows.specs.DriverContent.{DriverContent}
 use Rattle.driver_rows.specs.Offers.{Offered, offered, IsOffered, accepted_cancel}
-use Rattle.run_owners.specs.Accepts.{Cancels}
-use Rattle.run_owners.specs.Owners.{SlotHas, Views, views_of}
-use Rattle.chained_transfers.proofs.Accepting.{command_accepts}
+use Rattle.driver_laws.specs.run_owners.Accepts.{Cancels}
+use Rattle.driver_laws.specs.run_owners.Owners.{SlotHas, Views, views_of}
+use Rattle.driver_laws.proofs.lemmas.chained_transfers.Accepting.{command_accepts}
 use Rattle.whole_worlds.proofs.Names.{command_apart}
-use Rattle.lent_structures.specs.Structures.{StructureSets}
+use Rattle.ring_laws.specs.lent_structures.Structures.{StructureSets}
 use Rattle.driver_laws.specs.Extents.{KeepExtents, AreInRuns}
 use Rattle.driver_laws.proofs.Viewing.{SameViews}
 use Rattle.driver_laws.proofs.Extending.{extents_stay}
 use Rattle.driver_laws.proofs.Opens.{cancel_views}
-use Rattle.open_laws.specs.Opens.{AreNamesApart}
-use Rattle.leaving_drivers.specs.Before.{WasSame, UnlinksAtMost, IsAsBefore}
-use Rattle.leaving_drivers.proofs.Alike.{not_open}
-use Rattle.leaving_drivers.proofs.Leaving.{cancel_as_before}
+use Rattle.driven_queues.specs.open_laws.Opens.{AreNamesApart}
+use Rattle.driven_queues.specs.leaving_drivers.Before.{WasSame, UnlinksAtMost, IsAsBefore}
+use Rattle.driven_queues.proofs.lemmas.leaving_drivers.Alike.{not_open}
+use Rattle.driven_queues.proofs.lemmas.leaving_drivers.Leaving.{cancel_as_before}
 use Rattle.whole_worlds.specs.Beside.{IsTold}
 use Rattle.whole_worlds.proofs.FedBeside.{cancel_told}
 use Rattle.whole_worlds.proofs.Cancelling.{cancel_feeds}

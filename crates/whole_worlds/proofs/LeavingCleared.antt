@@ -7,15 +7,15 @@ use Rattle.driver_rows.specs.declared.rows.DriverRow.{DriverRow}
 use Rattle.driver_rows.specs.declared.rows.DriverRow.TheVariants as rows
 use Rattle.driver_rows.specs.DriverContent.{DriverContent}
 use Rattle.driver_rows.specs.Rows.{driver_row, after_driver_row}
-use Rattle.run_owners.specs.Owners.{views_of}
+use Rattle.driver_laws.specs.run_owners.Owners.{views_of}
 use Rattle.driver_laws.specs.Extents.{AreInRuns}
-use Rattle.open_names.proofs.Apart.{events_apart}
-use Rattle.leaving_drivers.specs.Before.{UnlinksAtMost}
-use Rattle.leaving_drivers.proofs.Clearing.{clear_finds}
-use Rattle.reached_rings.specs.Reaching.{is_reached}
-use Rattle.closed_streams.specs.Left.{names_kept}
-use Rattle.narrowed_streams.specs.Narrowed.{HasLeft, left_names}
-use Rattle.narrowed_streams.proofs.Names.{kept_or_left}
+use Rattle.told_streams.proofs.lemmas.open_names.Apart.{events_apart}
+use Rattle.driven_queues.specs.leaving_drivers.Before.{UnlinksAtMost}
+use Rattle.driven_queues.proofs.lemmas.leaving_drivers.Clearing.{clear_finds}
+use Rattle.driven_queues.specs.reached_rings.Reaching.{is_reached}
+use Rattle.stream_worlds.specs.closed_streams.Left.{names_kept}
+use Rattle.told_streams.specs.narrowed_streams.Narrowed.{HasLeft, left_names}
+use Rattle.told_streams.proofs.lemmas.narrowed_streams.Names.{kept_or_left}
 use Rattle.whole_worlds.specs.Clearing.{narrowed_to}
 use Rattle.whole_worlds.proofs.Clearing.{clear_feeds}
 use Rattle.whole_worlds.proofs.FedBeside.{clear_told}

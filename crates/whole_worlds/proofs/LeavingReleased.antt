@@ -8,20 +8,20 @@ use Rattle.driver_rows.specs.declared.rows.DriverRow.{DriverRow}
 use Rattle.driver_rows.specs.declared.rows.DriverRow.TheVariants as rows
 use Rattle.driver_rows.specs.DriverContent.{DriverContent}
 use Rattle.driver_rows.specs.Rows.{Parts, driver_row, after_driver_row, after_endpoint, is_told}
-use Rattle.run_owners.specs.Due.{IsDue, IsEndpointDue}
-use Rattle.run_owners.proofs.Reasons.{each_is_due}
-use Rattle.chained_transfers.specs.Out.{out_now}
+use Rattle.driver_laws.specs.run_owners.Due.{IsDue, IsEndpointDue}
+use Rattle.driver_laws.proofs.lemmas.run_owners.Reasons.{each_is_due}
+use Rattle.driver_laws.specs.chained_transfers.Out.{out_now}
 use Rattle.driver_laws.specs.PartOpened.{opening_base}
-use Rattle.controlled_streams.specs.Reported.{IsReported}
-use Rattle.fed_queues.specs.Places.{IsThere}
-use Rattle.open_names.proofs.Apart.{events_apart}
-use Rattle.standing_fronts.specs.Reaching.{Reaches}
-use Rattle.harvest_laws.specs.Told.{ToldStands}
-use Rattle.endpoint_releases.specs.Released.{without_queue, HasLeaver, endpoint_row}
-use Rattle.leaving_drivers.specs.Before.{UnlinksAtMost}
-use Rattle.left_queues.proofs.Unmet.{cleared_unmet}
-use Rattle.left_reports.specs.Leaver.{IsLeaver}
-use Rattle.left_reports.proofs.Gone.{release_is_told}
+use Rattle.walked_queues.specs.controlled_streams.Reported.{IsReported}
+use Rattle.driver_laws.specs.fed_queues.Places.{IsThere}
+use Rattle.told_streams.proofs.lemmas.open_names.Apart.{events_apart}
+use Rattle.walked_queues.specs.standing_fronts.Reaching.{Reaches}
+use Rattle.driven_queues.specs.harvest_laws.Told.{ToldStands}
+use Rattle.stream_worlds.specs.endpoint_releases.Released.{without_queue, HasLeaver, endpoint_row}
+use Rattle.driven_queues.specs.leaving_drivers.Before.{UnlinksAtMost}
+use Rattle.stream_worlds.proofs.lemmas.left_queues.Unmet.{cleared_unmet}
+use Rattle.told_streams.specs.left_reports.Leaver.{IsLeaver}
+use Rattle.told_streams.proofs.lemmas.left_reports.Gone.{release_is_told}
 use Rattle.whole_worlds.specs.Releases.{released, IsGivenBack}
 use Rattle.whole_worlds.proofs.FedReleasing.{endpoint_release_feeds}
 use Rattle.bus_world.specs.World.{World, driver_parts, driver_next}

@@ -7,22 +7,22 @@ use Rattle.driver_rows.specs.declared.rows.DriverRow.TheVariants as rows
 use Rattle.driver_rows.specs.DriverContent.{DriverContent}
 use Rattle.driver_rows.specs.Rows.{Parts, driver_row, after_driver_row, advance}
 use Rattle.driver_rows.specs.Words.{to_queue_head}
-use Rattle.run_owners.specs.Owners.{views_of}
+use Rattle.driver_laws.specs.run_owners.Owners.{views_of}
 use Rattle.driver_laws.specs.Extents.{AreInRuns}
 use Rattle.driver_laws.proofs.Viewing.{advance_views}
 use Rattle.driver_laws.proofs.Extending.{head_put}
-use Rattle.open_names.proofs.Apart.{events_apart}
-use Rattle.standing_fronts.specs.Reaching.{Reaches}
-use Rattle.left_queues.specs.Standing.{IdleTailsStand}
-use Rattle.leaving_drivers.specs.Before.{UnlinksAtMost}
-use Rattle.unlinked_streams.specs.Unlinks.{IsAtUnlink, IsUnlinked}
-use Rattle.unlinked_streams.proofs.Passing.{unlink_row_is}
+use Rattle.told_streams.proofs.lemmas.open_names.Apart.{events_apart}
+use Rattle.walked_queues.specs.standing_fronts.Reaching.{Reaches}
+use Rattle.stream_worlds.specs.left_queues.Standing.{IdleTailsStand}
+use Rattle.driven_queues.specs.leaving_drivers.Before.{UnlinksAtMost}
+use Rattle.stream_worlds.specs.unlinked_streams.Unlinks.{IsAtUnlink, IsUnlinked}
+use Rattle.stream_worlds.proofs.lemmas.unlinked_streams.Passing.{unlink_row_is}
 use Rattle.whole_worlds.specs.Leaving.{unlinked}
 use Rattle.whole_worlds.proofs.Unlinking.{unlink_finds, unlink_feeds}
 use Rattle.whole_worlds.proofs.Standing.{unlink_tells}
 use Rattle.bus_world.specs.World.{World, driver_parts, driver_next}
 use Rattle.stream_worlds.specs.Streaming.{Streams, Standing}
-use Rattle.standing_fronts.specs.Tails.{tail_block}
+use Rattle.walked_queues.specs.standing_fronts.Tails.{tail_block}
 use Rattle.whole_worlds.specs.Tails.{IsUnderWay}
 use Rattle.whole_worlds.proofs.Tail.{idle_tail}
 use Rattle.whole_worlds.specs.Whole.{IsWhole}

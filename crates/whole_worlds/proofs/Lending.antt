@@ -6,31 +6,31 @@ use Rattle.driver_rows.specs.declared.content.Command.{Command}
 use Rattle.driver_rows.specs.declared.content.Command.TheVariants as unfinished
 use Rattle.driver_rows.specs.declared.content.QtdNote.{QtdNote}
 use Rattle.driver_rows.specs.DriverContent.{DriverContent}
-use Rattle.lent_structures.specs.Structures.{Element, StructureSets}
-use Rattle.lent_structures.specs.Sound.{IsElement}
+use Rattle.ring_laws.specs.lent_structures.Structures.{Element, StructureSets}
+use Rattle.ring_laws.specs.lent_structures.Sound.{IsElement}
 use Rattle.ring_laws.specs.Hand.{Hand}
 use Rattle.ring_laws.specs.Sparing.{SparesHead, SparesElement}
-use Rattle.told_harvests.specs.Held.{AreHeld, none_held, one_held, IsOneFrom}
-use Rattle.harvest_laws.specs.Told.{ToldStands}
-use Rattle.harvest_laws.specs.ToldLaws.{SparesDone}
-use Rattle.harvest_laws.proofs.Standing.{spared_told, alike_told}
-use Rattle.released_queues.specs.Fronts.{FrontsStand}
-use Rattle.standing_fronts.specs.Reaching.{Reaches}
-use Rattle.open_laws.specs.Opens.{AreNamesApart}
-use Rattle.fed_lends.specs.ToLend.{IsToBeLent, lent_now}
-use Rattle.fed_lends.proofs.Reporting.{same_hand}
+use Rattle.driver_laws.specs.told_harvests.Held.{AreHeld, none_held, one_held, IsOneFrom}
+use Rattle.driven_queues.specs.harvest_laws.Told.{ToldStands}
+use Rattle.driven_queues.specs.harvest_laws.ToldLaws.{SparesDone}
+use Rattle.driven_queues.proofs.lemmas.harvest_laws.Standing.{spared_told, alike_told}
+use Rattle.walked_queues.specs.released_queues.Fronts.{FrontsStand}
+use Rattle.walked_queues.specs.standing_fronts.Reaching.{Reaches}
+use Rattle.driven_queues.specs.open_laws.Opens.{AreNamesApart}
+use Rattle.walked_queues.specs.fed_lends.ToLend.{IsToBeLent, lent_now}
+use Rattle.walked_queues.proofs.lemmas.fed_lends.Reporting.{same_hand}
 use Rattle.usb_bus.specs.Bus.{Fixed}
 use Rattle.bus_world.specs.World.{World, driver_next}
 use Rattle.stream_worlds.specs.Streaming.{Streams, Standing}
 use Rattle.whole_worlds.proofs.FeedingLends.{lend_feeds}
 use Rattle.whole_worlds.specs.LendFeeds.{LendsTransfer}
-use Rattle.standing_fronts.specs.Tails.{tail_of, TailsStand}
+use Rattle.walked_queues.specs.standing_fronts.Tails.{tail_of, TailsStand}
 use Rattle.whole_worlds.specs.Tails.{IsUnderWay}
 use Rattle.whole_worlds.specs.Whole.{HaveSenders, IsWhole}
 use Rattle.whole_worlds.specs.Laws.{LendKeepsWhole}
 use Rattle.whole_worlds.specs.Taking.{HaveTakers}
 use Rattle.whole_worlds.proofs.KeptLeft.{whole_of, busy_left}
-use Rattle.lent_fronts.proofs.Tails.{tail_stands}
+use Rattle.driven_queues.proofs.lemmas.lent_fronts.Tails.{tail_stands}
 use Rattle.whole_worlds.proofs.TakingLends.{lend_taking}
 use Rattle.whole_worlds.specs.Feeding.{AreControlsApart}
 

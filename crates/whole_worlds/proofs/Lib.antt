@@ -70,3 +70,4 @@ pub mod LeavingCancelled
 pub mod LeavingUnlinked
 pub mod LeavingCleared
 pub mod LeavingReleased
+pub mod lemmas

@@ -5,20 +5,20 @@ use Rattle.driver_rows.specs.declared.content.Command.{Command}
 use Rattle.driver_rows.specs.declared.content.Command.TheVariants as unfinished
 use Rattle.driver_rows.specs.DriverContent.{DriverContent}
 use Rattle.driver_rows.specs.Rows.{Parts as DriverParts}
-use Rattle.run_owners.specs.Owners.{views_of}
-use Rattle.lent_structures.specs.Sound.{IsMember}
+use Rattle.driver_laws.specs.run_owners.Owners.{views_of}
+use Rattle.ring_laws.specs.lent_structures.Sound.{IsMember}
 use Rattle.driver_laws.specs.Linked.{with_member, head_at}
 use Rattle.driver_laws.specs.Extents.{AreInRuns}
 use Rattle.usb_bus.specs.Bus.{Fixed}
 use Rattle.bus_world.specs.World.{World, driver_parts, driver_next}
 use Rattle.stream_worlds.specs.Streaming.{Streams, Standing}
-use Rattle.controlled_streams.specs.Opened.{with_none}
+use Rattle.walked_queues.specs.controlled_streams.Opened.{with_none}
 use Rattle.whole_worlds.proofs.KeptLeft.{whole_of, busy_left, begun_left}
-use Rattle.chained_transfers.proofs.Staying.{linked_stands_alive}
-use Rattle.harvest_laws.specs.Told.{ToldStands}
-use Rattle.open_laws.specs.Opens.{IsOpenLent, AreNamesApart, IsAtOpen, head_then, hand_then}
-use Rattle.open_laws.proofs.Linking.{driver_is}
-use Rattle.standing_fronts.specs.Tails.{TailsStand}
+use Rattle.driver_laws.proofs.lemmas.chained_transfers.Staying.{linked_stands_alive}
+use Rattle.driven_queues.specs.harvest_laws.Told.{ToldStands}
+use Rattle.driven_queues.specs.open_laws.Opens.{IsOpenLent, AreNamesApart, IsAtOpen, head_then, hand_then}
+use Rattle.driven_queues.proofs.lemmas.open_laws.Linking.{driver_is}
+use Rattle.walked_queues.specs.standing_fronts.Tails.{TailsStand}
 use Rattle.whole_worlds.specs.Tails.{IsUnderWay}
 use Rattle.whole_worlds.specs.Whole.{IsWhole}
 use Rattle.whole_worlds.specs.Laws.{OpenLinkKeepsWhole}

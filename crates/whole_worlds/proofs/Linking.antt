@@ -14,10 +14,10 @@ use Rattle.driver_rows.specs.declared.content.Command.TheVariants as unfinished
 use Rattle.driver_rows.specs.DriverContent.{DriverContent}
 use Rattle.driver_rows.specs.Rows.{Parts as DriverParts}
 use Rattle.driver_rows.specs.Words.{head_block, to_queue_head, queue_head, dummy_qtd}
-use Rattle.run_owners.specs.Owners.{EndpointRuns, Head, QueueHead as QueueOf, runs_of_endpoint, views_of}
-use Rattle.lent_structures.specs.Structures.{Structure, QueueHead, Element, Structures, StructureSets, with_structure}
-use Rattle.lent_structures.proofs.Names.{put_beside, put_same}
-use Rattle.lent_structures.proofs.Altering.{found_queue, same_element}
+use Rattle.driver_laws.specs.run_owners.Owners.{EndpointRuns, Head, QueueHead as QueueOf, runs_of_endpoint, views_of}
+use Rattle.ring_laws.specs.lent_structures.Structures.{Structure, QueueHead, Element, Structures, StructureSets, with_structure}
+use Rattle.ring_laws.proofs.lemmas.lent_structures.Names.{put_beside, put_same}
+use Rattle.ring_laws.proofs.lemmas.lent_structures.Altering.{found_queue, same_element}
 use Rattle.ring_laws.specs.Hand.{Hand}
 use Rattle.ring_laws.proofs.Parting.{found_with}
 use Rattle.ring_laws.specs.Told.{Endpoint as Told, endpoint_of}
@@ -26,19 +26,19 @@ use Rattle.driver_laws.specs.Extents.{AreInRuns}
 use Rattle.driver_laws.proofs.Extending.{extents_stay, head_put}
 use Rattle.ring_laws.specs.Sparing.{SparesHead}
 use Rattle.ring_laws.proofs.SparedSparing.{linked_same}
-use Rattle.controlled_streams.specs.Opened.{with_none}
-use Rattle.controlled_streams.proofs.Beginning.{list_here, list_beside}
-use Rattle.chained_transfers.specs.Asynchronous.{StandsAsynchronous}
-use Rattle.chained_transfers.proofs.Staying.{linked_stands_alive, told_stands_alive}
-use Rattle.fed_queues.specs.Places.{IsMet}
-use Rattle.publish_laws.proofs.Apart.{queue_placed, queues_same, thirty_two}
-use Rattle.harvest_laws.specs.Told.{ToldStands}
-use Rattle.harvest_laws.proofs.Standing.{spared_told, met_told}
-use Rattle.standing_fronts.specs.Reaching.{Reaches}
-use Rattle.open_laws.specs.Opens.{IsAtOpen, head_then, hand_then}
-use Rattle.open_laws.proofs.Linking.{here}
-use Rattle.open_laws.proofs.Standing.{element_was}
-use Rattle.standing_fronts.specs.Tails.{tail_block, tail_of, TailsStand}
+use Rattle.walked_queues.specs.controlled_streams.Opened.{with_none}
+use Rattle.walked_queues.proofs.lemmas.controlled_streams.Beginning.{list_here, list_beside}
+use Rattle.driver_laws.specs.chained_transfers.Asynchronous.{StandsAsynchronous}
+use Rattle.driver_laws.proofs.lemmas.chained_transfers.Staying.{linked_stands_alive, told_stands_alive}
+use Rattle.driver_laws.specs.fed_queues.Places.{IsMet}
+use Rattle.driven_queues.proofs.lemmas.publish_laws.Apart.{queue_placed, queues_same, thirty_two}
+use Rattle.driven_queues.specs.harvest_laws.Told.{ToldStands}
+use Rattle.driven_queues.proofs.lemmas.harvest_laws.Standing.{spared_told, met_told}
+use Rattle.walked_queues.specs.standing_fronts.Reaching.{Reaches}
+use Rattle.driven_queues.specs.open_laws.Opens.{IsAtOpen, head_then, hand_then}
+use Rattle.driven_queues.proofs.lemmas.open_laws.Linking.{here}
+use Rattle.driven_queues.proofs.lemmas.open_laws.Standing.{element_was}
+use Rattle.walked_queues.specs.standing_fronts.Tails.{tail_block, tail_of, TailsStand}
 use Rattle.whole_worlds.proofs.OpenBeside.{heads_stay, elements_stay, reaches_beside}
 
 -- ---- a new queue

@@ -14,35 +14,35 @@ use Rattle.driver_rows.specs.declared.content.Command.{Command}
 use Rattle.driver_rows.specs.declared.content.Command.TheVariants as unfinished
 use Rattle.driver_rows.specs.DriverContent.{DriverContent}
 use Rattle.driver_rows.specs.Rows.{Parts as DriverParts}
-use Rattle.endpoint_lives.specs.Lives.{told_end}
-use Rattle.run_owners.specs.Owners.{Dummy, runs_of_endpoint}
-use Rattle.run_owners.proofs.Runs.{placed_run}
-use Rattle.lent_runs.specs.Lent.{IsLent as IsLentSlot}
-use Rattle.lent_runs.proofs.Laws.{idle_lent}
-use Rattle.lent_structures.specs.Structures.{QueueHead, Structures}
-use Rattle.lent_structures.specs.Sound.{IsElement, IsSoundQueue, IsMember}
-use Rattle.lent_structures.proofs.Altering.{found_queue}
+use Rattle.driver_laws.specs.endpoint_lives.Lives.{told_end}
+use Rattle.driver_laws.specs.run_owners.Owners.{Dummy, runs_of_endpoint}
+use Rattle.driver_laws.proofs.lemmas.run_owners.Runs.{placed_run}
+use Rattle.driver_laws.specs.lent_runs.Lent.{IsLent as IsLentSlot}
+use Rattle.driver_laws.proofs.lemmas.lent_runs.Laws.{idle_lent}
+use Rattle.ring_laws.specs.lent_structures.Structures.{QueueHead, Structures}
+use Rattle.ring_laws.specs.lent_structures.Sound.{IsElement, IsSoundQueue, IsMember}
+use Rattle.ring_laws.proofs.lemmas.lent_structures.Altering.{found_queue}
 use Rattle.ring_laws.specs.Front.{HasFront}
 use Rattle.driver_laws.specs.Inventory.{IsLent}
-use Rattle.chained_transfers.specs.Turns.{Turn, turn_of, turn_in, IsNext, AreReportedTo}
-use Rattle.chained_transfers.proofs.BulkAndControl.{not_iso}
-use Rattle.chained_transfers.proofs.Staying.{told_stands_alive}
-use Rattle.fed_queues.specs.Places.{IsThere, IsMet}
-use Rattle.released_queues.specs.Fronts.{piece_address}
-use Rattle.standing_fronts.specs.Reaching.{Reaches}
-use Rattle.publish_laws.proofs.Apart.{queue_placed, queues_same, thirty_two}
-use Rattle.harvest_laws.specs.Told.{ToldStands}
-use Rattle.told_harvests.proofs.Keeping.{done_spared}
-use Rattle.harvest_laws.proofs.Standing.{still_told, alike_told}
-use Rattle.left_queues.specs.Standing.{IdleTailsStand}
-use Rattle.mended_heads.specs.Owed.{IsOwed, GoesOnAt}
-use Rattle.mended_heads.specs.Waiting.{AreAllPublished}
-use Rattle.mended_heads.specs.Mended.{IsAtMend, parts_then, driver_mended}
-use Rattle.mended_heads.proofs.Mending.{halted_idle}
-use Rattle.mended_heads.proofs.Row.{mend_row, spares_heads, spares_endpoints, spares_elements, spares_hand}
-use Rattle.mended_heads.proofs.Queues.{adds_none, leaves_front, leaves_tail, leaves_passed, leaves_within}
-use Rattle.mended_heads.proofs.Streams.{leaves_out_pipe}
-use Rattle.scripted_takers.specs.Takers.{taker_of}
+use Rattle.driver_laws.specs.chained_transfers.Turns.{Turn, turn_of, turn_in, IsNext, AreReportedTo}
+use Rattle.driver_laws.proofs.lemmas.chained_transfers.BulkAndControl.{not_iso}
+use Rattle.driver_laws.proofs.lemmas.chained_transfers.Staying.{told_stands_alive}
+use Rattle.driver_laws.specs.fed_queues.Places.{IsThere, IsMet}
+use Rattle.walked_queues.specs.released_queues.Fronts.{piece_address}
+use Rattle.walked_queues.specs.standing_fronts.Reaching.{Reaches}
+use Rattle.driven_queues.proofs.lemmas.publish_laws.Apart.{queue_placed, queues_same, thirty_two}
+use Rattle.driven_queues.specs.harvest_laws.Told.{ToldStands}
+use Rattle.driver_laws.proofs.lemmas.told_harvests.Keeping.{done_spared}
+use Rattle.driven_queues.proofs.lemmas.harvest_laws.Standing.{still_told, alike_told}
+use Rattle.stream_worlds.specs.left_queues.Standing.{IdleTailsStand}
+use Rattle.walked_queues.specs.mended_heads.Owed.{IsOwed, GoesOnAt}
+use Rattle.walked_queues.specs.mended_heads.Waiting.{AreAllPublished}
+use Rattle.walked_queues.specs.mended_heads.Mended.{IsAtMend, parts_then, driver_mended}
+use Rattle.walked_queues.proofs.lemmas.mended_heads.Mending.{halted_idle}
+use Rattle.walked_queues.proofs.lemmas.mended_heads.Row.{mend_row, spares_heads, spares_endpoints, spares_elements, spares_hand}
+use Rattle.walked_queues.proofs.lemmas.mended_heads.Queues.{adds_none, leaves_front, leaves_tail, leaves_passed, leaves_within}
+use Rattle.walked_queues.proofs.lemmas.mended_heads.Streams.{leaves_out_pipe}
+use Rattle.scripted_streams.specs.scripted_takers.Takers.{taker_of}
 use Rattle.bus_world.specs.World.{World, driver_parts, driver_next}
 use Rattle.stream_worlds.specs.Streaming.{Streams, Standing, wired}
 use Rattle.whole_worlds.specs.Feeding.{there_of, IsFeeding}

@@ -6,14 +6,14 @@ use Rattle.driver_rows.specs.declared.content.Mend.{Mend}
 use Rattle.driver_rows.specs.declared.rows.DriverRow.TheVariants as rows
 use Rattle.driver_rows.specs.DriverContent.{DriverContent}
 use Rattle.driver_rows.specs.Rows.{driver_row}
-use Rattle.run_owners.specs.Owners.{views_of}
-use Rattle.leaving_drivers.specs.Before.{UnlinksAtMost}
+use Rattle.driver_laws.specs.run_owners.Owners.{views_of}
+use Rattle.driven_queues.specs.leaving_drivers.Before.{UnlinksAtMost}
 use Rattle.driver_laws.specs.Extents.{AreInRuns}
 use Rattle.driver_laws.proofs.Extending.{head_put}
-use Rattle.standing_fronts.specs.Reaching.{Reaches}
-use Rattle.mended_heads.specs.Mended.{IsAtMend, mended as mended_head, head_at, driver_mended, IsMended}
-use Rattle.mended_heads.proofs.Row.{mend_row}
-use Rattle.open_names.proofs.Apart.{events_apart}
+use Rattle.walked_queues.specs.standing_fronts.Reaching.{Reaches}
+use Rattle.walked_queues.specs.mended_heads.Mended.{IsAtMend, mended as mended_head, head_at, driver_mended, IsMended}
+use Rattle.walked_queues.proofs.lemmas.mended_heads.Row.{mend_row}
+use Rattle.told_streams.proofs.lemmas.open_names.Apart.{events_apart}
 use Rattle.bus_world.specs.World.{World, driver_parts, driver_next}
 use Rattle.stream_worlds.specs.Streaming.{Streams, Standing}
 use Rattle.whole_worlds.specs.Tails.{IsUnderWay}

@@ -14,17 +14,17 @@ use Rattle.script_types.specs.declared.scripts.Line.TheVariants as lines
 use Rattle.script_types.specs.declared.scripts.Script.{Script}
 use Rattle.script_text.specs.Faults.{Spells}
 use Rattle.script_fits.proofs.Texts.{spelled_fits}
-use Rattle.script_bytes.proofs.Texts.{spelled_bytes}
+use Rattle.script_laws.proofs.lemmas.script_bytes.Texts.{spelled_bytes}
 use Rattle.scripted_streams.specs.Senders.{sender_of}
-use Rattle.scripted_takers.specs.Takers.{taker_of}
+use Rattle.scripted_streams.specs.scripted_takers.Takers.{taker_of}
 use Rattle.usb_bus.specs.Bus.{fixed_of, opening_bus, opening_wired}
-use Rattle.declared_endpoints.specs.Declared.{OpensItsSender}
-use Rattle.declared_takers.specs.Declared.{OpensItsTaker}
-use Rattle.declared_controls.specs.Names.{IsNameOf, IsZero, HasItsName, NamesLine}
-use Rattle.declared_controls.specs.Zero.{AreZeroesAlone, IsNoStream}
-use Rattle.declared_controls.proofs.Alone.{zero_is_no_stream}
-use Rattle.declared_controls.proofs.Controls.{spelled_names, spelled_zeroes}
-use Rattle.declared_takers.proofs.Takers.{spelled_takers}
+use Rattle.declared_endpoints.specs.DeclaredEndpoints.{OpensItsSender}
+use Rattle.told_streams.specs.declared_takers.Declared.{OpensItsTaker}
+use Rattle.declared_endpoints.specs.declared_controls.Names.{IsNameOf, IsZero, HasItsName, NamesLine}
+use Rattle.declared_endpoints.specs.declared_controls.Zero.{AreZeroesAlone, IsNoStream}
+use Rattle.declared_endpoints.proofs.lemmas.declared_controls.Alone.{zero_is_no_stream}
+use Rattle.declared_endpoints.proofs.lemmas.declared_controls.Controls.{spelled_names, spelled_zeroes}
+use Rattle.told_streams.proofs.lemmas.declared_takers.Takers.{spelled_takers}
 use Rattle.declared_endpoints.proofs.Senders.{spelled_senders}
 use Rattle.declared_endpoints.proofs.Owning.{spelled_owns}
 use Rattle.script_numbers.specs.Numbers.{NumbersLine}
@@ -32,21 +32,21 @@ use Rattle.script_numbers.proofs.Texts.{spelled_numbers}
 use Rattle.word_mem.specs.Memory.{Mem}
 use Rattle.driver_rows.specs.DriverContent.{DriverContent}
 use Rattle.driver_rows.specs.Offers.{Offered, offered}
-use Rattle.open_laws.specs.Opens.{AreNamesApart}
-use Rattle.walk_members.specs.Reached.{OpensNumbered}
+use Rattle.driven_queues.specs.open_laws.Opens.{AreNamesApart}
+use Rattle.driver_laws.specs.walk_members.Reached.{OpensNumbered}
 use Rattle.driver_laws.specs.PartOpened.{opening_base}
 use Rattle.bus_world.specs.World.{World, driver_next, controller_next, commanded}
 use Rattle.bus_world.specs.Budgets.{moment}
 use Rattle.stream_worlds.specs.Streaming.{Streams}
-use Rattle.chained_transfers.specs.Asynchronous.{IsKindOf, IsAsynchronous, OpensAsynchronous, AsynchronousLine, AsynchronousOnly}
-use Rattle.chained_transfers.proofs.Ways.{way_comes_in, way_sends}
-use Rattle.narrowed_streams.specs.Narrowed.{IsOnSide}
-use Rattle.right_worlds.specs.Right.{AreOfScript}
-use Rattle.right_worlds.proofs.Beginning.{world_right}
-use Rattle.receiving_runs.specs.Runs.{KindOfLine, IsKeptBy}
-use Rattle.receiving_runs.proofs.Runs.{holds_throughout}
-use Rattle.taken_reports.proofs.Beginning.{world_taken}
-use Rattle.taken_reports.proofs.Seating.{moment_seated}
+use Rattle.driver_laws.specs.chained_transfers.Asynchronous.{IsKindOf, IsAsynchronous, OpensAsynchronous, AsynchronousLine, AsynchronousOnly}
+use Rattle.driver_laws.proofs.lemmas.chained_transfers.Ways.{way_comes_in, way_sends}
+use Rattle.told_streams.specs.narrowed_streams.Narrowed.{IsOnSide}
+use Rattle.told_streams.specs.right_worlds.Right.{AreOfScript}
+use Rattle.told_streams.proofs.lemmas.right_worlds.Beginning.{world_right}
+use Rattle.told_streams.specs.receiving_runs.Runs.{KindOfLine, IsKeptBy}
+use Rattle.told_streams.proofs.lemmas.receiving_runs.Runs.{holds_throughout}
+use Rattle.told_streams.proofs.lemmas.taken_reports.Beginning.{world_taken}
+use Rattle.told_streams.proofs.lemmas.taken_reports.Seating.{moment_seated}
 use Rattle.whole_worlds.specs.Feeding.{left_of, streams_of, there_of}
 use Rattle.whole_worlds.specs.Taking.{outs_of}
 use Rattle.whole_worlds.specs.LeftLaws.{OpensNamed}

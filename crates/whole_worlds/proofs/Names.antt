@@ -11,17 +11,17 @@ use Rattle.driver_rows.specs.declared.rows.DriverRow.{DriverRow}
 use Rattle.driver_rows.specs.DriverContent.{DriverContent}
 use Rattle.driver_rows.specs.Offers.{Offered, offered, new_runs, new_endpoint, with_queued}
 use Rattle.driver_rows.specs.Rows.{Parts, after_driver_row}
-use Rattle.run_owners.specs.Accepts.{Opens, Transfers, Cancels}
-use Rattle.walk_members.proofs.Descriptions.{desc_of, row_left}
-use Rattle.chained_transfers.specs.Asynchronous.{OpensAsynchronous, AcceptsAsynchronous}
-use Rattle.chained_transfers.specs.AsynchronousTurns.{AsynchronousTakesTurns}
-use Rattle.chained_transfers.proofs.Accepting.{command_accepts}
-use Rattle.commanded_queues.proofs.Which.{opens_its_own}
-use Rattle.fed_lends.proofs.Asked.{push_which, set_which}
-use Rattle.leaving_drivers.specs.Before.{WasSame}
-use Rattle.leaving_drivers.proofs.Leaving.{cancel_as_before}
+use Rattle.driver_laws.specs.run_owners.Accepts.{Opens, Transfers, Cancels}
+use Rattle.driver_laws.proofs.lemmas.walk_members.Descriptions.{desc_of, row_left}
+use Rattle.driver_laws.specs.chained_transfers.Asynchronous.{OpensAsynchronous, AcceptsAsynchronous}
+use Rattle.driver_laws.specs.chained_transfers.AsynchronousTurns.{AsynchronousTakesTurns}
+use Rattle.driver_laws.proofs.lemmas.chained_transfers.Accepting.{command_accepts}
+use Rattle.walked_queues.proofs.lemmas.commanded_queues.Which.{opens_its_own}
+use Rattle.walked_queues.proofs.lemmas.fed_lends.Asked.{push_which, set_which}
+use Rattle.driven_queues.specs.leaving_drivers.Before.{WasSame}
+use Rattle.driven_queues.proofs.lemmas.leaving_drivers.Leaving.{cancel_as_before}
 use Rattle.bus_world.specs.World.{World}
-use Rattle.declared_controls.specs.Names.{IsNameOf}
+use Rattle.declared_endpoints.specs.declared_controls.Names.{IsNameOf}
 use Rattle.whole_worlds.specs.Feeding.{AreControlsApart}
 use Rattle.whole_worlds.specs.Left.{AreNamed}
 use Rattle.whole_worlds.specs.LeftLaws.{OpensNamed}

@@ -16,19 +16,19 @@ use Rattle.driver_rows.specs.declared.content.Command.{Command}
 use Rattle.driver_rows.specs.DriverContent.{DriverContent, endpoint_named}
 use Rattle.driver_rows.specs.Offers.{Offered, new_runs, new_endpoint, with_queued, offered_open, offered_next, offered}
 use Rattle.driver_rows.specs.Rows.{driver_row}
-use Rattle.run_owners.proofs.Stays.{same_view}
-use Rattle.told_endpoints.proofs.Names.{same_name_is}
-use Rattle.run_owners.specs.Accepts.{Opens, Transfers}
-use Rattle.chained_transfers.specs.Asynchronous.{OpensAsynchronous, AcceptsAsynchronous}
-use Rattle.chained_transfers.specs.AsynchronousTurns.{AsynchronousTakesTurns}
-use Rattle.chained_transfers.proofs.Accepting.{command_accepts}
-use Rattle.leaving_drivers.specs.Before.{IsAsBefore}
-use Rattle.leaving_drivers.proofs.Leaving.{cancel_as_before}
-use Rattle.walk_members.proofs.Descriptions.{desc_of, SameDescs, row_left}
-use Rattle.narrowed_streams.specs.Narrowed.{IsOnSide}
-use Rattle.narrowed_streams.proofs.Narrowing.{same_way}
-use Rattle.open_laws.specs.Opens.{AreNamesApart}
-use Rattle.right_reports.proofs.Named.{HasNamed, named_is}
+use Rattle.driver_laws.proofs.lemmas.run_owners.Stays.{same_view}
+use Rattle.walked_queues.proofs.lemmas.told_endpoints.Names.{same_name_is}
+use Rattle.driver_laws.specs.run_owners.Accepts.{Opens, Transfers}
+use Rattle.driver_laws.specs.chained_transfers.Asynchronous.{OpensAsynchronous, AcceptsAsynchronous}
+use Rattle.driver_laws.specs.chained_transfers.AsynchronousTurns.{AsynchronousTakesTurns}
+use Rattle.driver_laws.proofs.lemmas.chained_transfers.Accepting.{command_accepts}
+use Rattle.driven_queues.specs.leaving_drivers.Before.{IsAsBefore}
+use Rattle.driven_queues.proofs.lemmas.leaving_drivers.Leaving.{cancel_as_before}
+use Rattle.driver_laws.proofs.lemmas.walk_members.Descriptions.{desc_of, SameDescs, row_left}
+use Rattle.told_streams.specs.narrowed_streams.Narrowed.{IsOnSide}
+use Rattle.told_streams.proofs.lemmas.narrowed_streams.Narrowing.{same_way}
+use Rattle.driven_queues.specs.open_laws.Opens.{AreNamesApart}
+use Rattle.told_streams.proofs.lemmas.right_reports.Named.{HasNamed, named_is}
 use Rattle.bus_world.specs.World.{World, driver_parts, driver_next, name_in, commanded_by, commanded}
 use Rattle.whole_worlds.specs.Whole.{IsNamed, StaysOpen}
 

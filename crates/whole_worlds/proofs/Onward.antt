@@ -8,19 +8,19 @@ use Rattle.link_words.specs.Links.{qtd_link_of}
 use Rattle.driver_rows.specs.declared.content.Endpoint.{Endpoint}
 use Rattle.driver_rows.specs.declared.content.Transfer.{Transfer}
 use Rattle.driver_rows.specs.DriverContent.{DriverContent}
-use Rattle.run_owners.specs.Owners.{TransferRuns, runs_of_transfer, views_of, note_in}
-use Rattle.run_owners.specs.Leaving.{owes}
-use Rattle.run_owners.specs.Kept.{HasOwners}
-use Rattle.lent_structures.specs.Structures.{StructureSets}
+use Rattle.driver_laws.specs.run_owners.Owners.{TransferRuns, runs_of_transfer, views_of, note_in}
+use Rattle.driver_laws.specs.run_owners.Leaving.{owes}
+use Rattle.driver_laws.specs.run_owners.Kept.{HasOwners}
+use Rattle.ring_laws.specs.lent_structures.Structures.{StructureSets}
 use Rattle.ring_laws.specs.Front.{LinksRise}
-use Rattle.chained_transfers.specs.AsynchronousTurns.{AsynchronousTakesTurns}
-use Rattle.chained_transfers.specs.Chains.{NoneFrom}
-use Rattle.chained_transfers.specs.Turns.{Turn, turn_of, turn_in, IsNext}
-use Rattle.fed_queues.specs.Fed.{AreFed, unpublished_of}
-use Rattle.released_queues.specs.Fronts.{piece_address, end_at}
-use Rattle.released_queues.proofs.Pieces.{piece_next}
-use Rattle.released_queues.proofs.Queues.{none_yet}
-use Rattle.standing_fronts.proofs.Lists.{times_some}
+use Rattle.driver_laws.specs.chained_transfers.AsynchronousTurns.{AsynchronousTakesTurns}
+use Rattle.driver_laws.specs.chained_transfers.Chains.{NoneFrom}
+use Rattle.driver_laws.specs.chained_transfers.Turns.{Turn, turn_of, turn_in, IsNext}
+use Rattle.driver_laws.specs.fed_queues.Fed.{AreFed, unpublished_of}
+use Rattle.walked_queues.specs.released_queues.Fronts.{piece_address, end_at}
+use Rattle.walked_queues.proofs.lemmas.released_queues.Pieces.{piece_next}
+use Rattle.walked_queues.proofs.lemmas.released_queues.Queues.{none_yet}
+use Rattle.walked_queues.proofs.lemmas.standing_fronts.Lists.{times_some}
 
 -- ---- what was harvested was reported
 

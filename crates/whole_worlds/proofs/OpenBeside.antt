@@ -4,15 +4,15 @@ use Rattle.run_book.specs.Book.{Book}
 use Rattle.driver_rows.specs.declared.content.Endpoint.{Endpoint}
 use Rattle.driver_rows.specs.declared.content.Command.{Command}
 use Rattle.driver_rows.specs.DriverContent.{DriverContent}
-use Rattle.lent_structures.specs.Structures.{Structures, StructureSets}
+use Rattle.ring_laws.specs.lent_structures.Structures.{Structures, StructureSets}
 use Rattle.ring_laws.specs.Effects.{buffer_of}
-use Rattle.controlled_streams.specs.Control.{IsFrameless, off, empty}
+use Rattle.walked_queues.specs.controlled_streams.Control.{IsFrameless, off, empty}
 use Rattle.ring_laws.specs.Told.{Endpoint as Told}
 use Rattle.driver_laws.specs.PartOpened.{opening_base}
 use Rattle.ring_laws.specs.Sparing.{SparesHead, SparesElement}
 use Rattle.bus_world.specs.World.{World, controller_parts, driver_next}
 use Rattle.stream_worlds.specs.Streaming.{Streams}
-use Rattle.standing_fronts.specs.Reaching.{Reaches}
+use Rattle.walked_queues.specs.standing_fronts.Reaching.{Reaches}
 
 -- the streams of the script, with these queue heads
 abbrev pub streams_at : Streams → (ℕ → Bool) → (ℕ → Told) → Streams

@@ -15,10 +15,10 @@ use Rattle.driver_rows.specs.declared.rows.DriverRow.TheVariants as rows
 use Rattle.driver_rows.specs.DriverContent.{DriverContent}
 use Rattle.driver_rows.specs.Rows.{Parts as DriverParts, row_for, command_row, advanced_by, driver_row, after_driver_row}
 use Rattle.driver_rows.specs.Words.{queue_head, dummy_qtd}
-use Rattle.run_owners.specs.Owners.{EndpointRuns, SlotHas, runs_of_endpoint, views_of}
-use Rattle.run_owners.specs.Kept.{HasOwners}
-use Rattle.lent_structures.specs.Structures.{Structure, QueueHead, Element, Structures, StructureSets, put}
-use Rattle.lent_structures.proofs.Names.{put_beside}
+use Rattle.driver_laws.specs.run_owners.Owners.{EndpointRuns, SlotHas, runs_of_endpoint, views_of}
+use Rattle.driver_laws.specs.run_owners.Kept.{HasOwners}
+use Rattle.ring_laws.specs.lent_structures.Structures.{Structure, QueueHead, Element, Structures, StructureSets, put}
+use Rattle.ring_laws.proofs.lemmas.lent_structures.Names.{put_beside}
 use Rattle.ring_laws.specs.Hand.{Hand}
 use Rattle.driver_laws.specs.Inventory.{sorts_of, IsDriven}
 use Rattle.driver_laws.specs.PartOpened.{opening_base}
@@ -29,29 +29,29 @@ use Rattle.driver_laws.proofs.LendOwning.{none_there, queue_no_dummy}
 use Rattle.driver_laws.specs.Extents.{AreInRuns}
 use Rattle.driver_laws.proofs.Extending.{extents_stay, head_put, element_put}
 use Rattle.ring_laws.specs.Sparing.{SparesHead, SparesElement}
-use Rattle.controlled_streams.proofs.Storing.{same_hand}
-use Rattle.in_place.proofs.Laws.{event_in_place}
+use Rattle.walked_queues.proofs.lemmas.controlled_streams.Storing.{same_hand}
+use Rattle.driver_laws.proofs.lemmas.in_place.Laws.{event_in_place}
 use Rattle.scripted_streams.specs.Senders.{sender_of}
 use Rattle.usb_bus.specs.Bus.{Fixed}
 use Rattle.bus_world.specs.World.{World, driver_parts, driver_next}
 use Rattle.stream_worlds.specs.Streaming.{Streams, Standing, wired}
-use Rattle.chained_transfers.proofs.Events.{event_queues}
-use Rattle.chained_transfers.proofs.Staying.{linked_stands_alive}
-use Rattle.publish_laws.proofs.Apart.{thirty_two}
-use Rattle.harvest_laws.specs.Told.{ToldStands}
-use Rattle.harvest_laws.proofs.Standing.{spared_told, alike_told}
-use Rattle.open_laws.specs.Opens.{IsOpenLent, AreNamesApart, next_of}
-use Rattle.open_laws.specs.Lends.{IsOpenReady, IsAtLend, parts_lent}
-use Rattle.open_laws.proofs.Lending.{lend_drives, lend_stands, lend_pipes, lend_reports}
-use Rattle.controlled_streams.specs.Reported.{AreReported}
+use Rattle.driver_laws.proofs.lemmas.chained_transfers.Events.{event_queues}
+use Rattle.driver_laws.proofs.lemmas.chained_transfers.Staying.{linked_stands_alive}
+use Rattle.driven_queues.proofs.lemmas.publish_laws.Apart.{thirty_two}
+use Rattle.driven_queues.specs.harvest_laws.Told.{ToldStands}
+use Rattle.driven_queues.proofs.lemmas.harvest_laws.Standing.{spared_told, alike_told}
+use Rattle.driven_queues.specs.open_laws.Opens.{IsOpenLent, AreNamesApart, next_of}
+use Rattle.driven_queues.specs.open_laws.Lends.{IsOpenReady, IsAtLend, parts_lent}
+use Rattle.driven_queues.proofs.lemmas.open_laws.Lending.{lend_drives, lend_stands, lend_pipes, lend_reports}
+use Rattle.walked_queues.specs.controlled_streams.Reported.{AreReported}
 use Rattle.whole_worlds.specs.Feeding.{AreControlsApart, there_of, IsFeeding}
 use Rattle.whole_worlds.proofs.FeedingStores.{queue_above}
-use Rattle.control_queues.proofs.OpenLends.{open_lend_keeps_controls}
+use Rattle.stream_worlds.proofs.lemmas.control_queues.OpenLends.{open_lend_keeps_controls}
 use Rattle.whole_worlds.proofs.Names.{row_apart}
 use Rattle.whole_worlds.proofs.Heads.{right_of}
 use Rattle.whole_worlds.proofs.Told.{has_there}
-use Rattle.standing_fronts.specs.Reaching.{Reaches}
-use Rattle.standing_fronts.specs.Tails.{tail_of, TailsStand}
+use Rattle.walked_queues.specs.standing_fronts.Reaching.{Reaches}
+use Rattle.walked_queues.specs.standing_fronts.Tails.{tail_of, TailsStand}
 use Rattle.whole_worlds.specs.Tails.{IsUnderWay}
 use Rattle.whole_worlds.specs.Whole.{HaveSenders, IsWhole}
 use Rattle.whole_worlds.specs.Laws.{OpenLendKeepsWhole}

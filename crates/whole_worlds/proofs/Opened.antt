@@ -11,25 +11,25 @@ use Rattle.driver_rows.specs.declared.content.Command.TheVariants as unfinished
 use Rattle.driver_rows.specs.DriverContent.{DriverContent}
 use Rattle.driver_rows.specs.Rows.{is_iso}
 use Rattle.driver_rows.specs.Offers.{Offered, new_runs, new_endpoint, newest_of, offered, IsOffered}
-use Rattle.run_owners.specs.Owners.{QueueHead, runs_of_endpoint}
-use Rattle.run_owners.proofs.Runs.{placed_run}
-use Rattle.run_owners.proofs.Taking.{runs_taken}
-use Rattle.run_owners.proofs.Accepted.{drop_first, fresh_differs}
-use Rattle.walk_members.specs.Reached.{OpensNumbered}
+use Rattle.driver_laws.specs.run_owners.Owners.{QueueHead, runs_of_endpoint}
+use Rattle.driver_laws.proofs.lemmas.run_owners.Runs.{placed_run}
+use Rattle.driver_laws.proofs.lemmas.run_owners.Taking.{runs_taken}
+use Rattle.driver_laws.proofs.lemmas.run_owners.Accepted.{drop_first, fresh_differs}
+use Rattle.driver_laws.specs.walk_members.Reached.{OpensNumbered}
 use Rattle.driver_laws.specs.LendOpened.{opened_head}
-use Rattle.chained_transfers.specs.Asynchronous.{OpensAsynchronous, IsOpenedAsynchronous}
-use Rattle.narrowed_streams.specs.Narrowed.{IsOnSide}
-use Rattle.fed_lends.proofs.Asked.{push_which}
-use Rattle.standing_fronts.specs.Reaching.{Reaches}
-use Rattle.harvest_laws.proofs.Commanding.{opened_told}
-use Rattle.chained_transfers.proofs.BulkAndControl.{not_iso}
-use Rattle.open_names.proofs.Apart.{accepted_apart}
-use Rattle.open_laws.specs.Lends.{IsOpenReady}
-use Rattle.open_laws.proofs.AcceptWaiting.{open_waits}
-use Rattle.commanded_queues.proofs.Ranges.{new_head_range}
-use Rattle.commanded_queues.proofs.Which.{opens_its_own}
-use Rattle.commanded_queues.proofs.Tails.{open_reaches}
-use Rattle.commanded_queues.proofs.Extending.{open_extents}
+use Rattle.driver_laws.specs.chained_transfers.Asynchronous.{OpensAsynchronous, IsOpenedAsynchronous}
+use Rattle.told_streams.specs.narrowed_streams.Narrowed.{IsOnSide}
+use Rattle.walked_queues.proofs.lemmas.fed_lends.Asked.{push_which}
+use Rattle.walked_queues.specs.standing_fronts.Reaching.{Reaches}
+use Rattle.driven_queues.proofs.lemmas.harvest_laws.Commanding.{opened_told}
+use Rattle.driver_laws.proofs.lemmas.chained_transfers.BulkAndControl.{not_iso}
+use Rattle.told_streams.proofs.lemmas.open_names.Apart.{accepted_apart}
+use Rattle.driven_queues.specs.open_laws.Lends.{IsOpenReady}
+use Rattle.driven_queues.proofs.lemmas.open_laws.AcceptWaiting.{open_waits}
+use Rattle.walked_queues.proofs.lemmas.commanded_queues.Ranges.{new_head_range}
+use Rattle.walked_queues.proofs.lemmas.commanded_queues.Which.{opens_its_own}
+use Rattle.walked_queues.proofs.lemmas.commanded_queues.Tails.{open_reaches}
+use Rattle.walked_queues.proofs.lemmas.commanded_queues.Extending.{open_extents}
 use Rattle.bus_world.specs.World.{World, name_in, commanded_by}
 use Rattle.stream_worlds.specs.Streaming.{Streams, Standing}
 use Rattle.whole_worlds.specs.Feeding.{AreControlsApart, IsFeeding}

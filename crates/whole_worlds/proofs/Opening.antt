@@ -4,15 +4,15 @@ use Rattle.std.proofs.lemmas.List.{length-replicate}
 use Rattle.driver_rows.specs.declared.content.Endpoint.{Endpoint}
 use Rattle.driver_rows.specs.declared.content.Reserve.{Reserve}
 use Rattle.driver_rows.specs.Opening.{opening}
-use Rattle.run_owners.specs.Owners.{TransferRuns, transfer_in, views_of}
-use Rattle.lent_structures.specs.Structures.{Structure, Table}
+use Rattle.driver_laws.specs.run_owners.Owners.{TransferRuns, transfer_in, views_of}
+use Rattle.ring_laws.specs.lent_structures.Structures.{Structure, Table}
 use Rattle.driver_laws.specs.PartOpened.{empty_list, opening_parts, is_head}
 use Rattle.driver_laws.specs.Extents.{AreInRuns}
-use Rattle.harvest_laws.proofs.Standing.{new_told}
-use Rattle.open_names.proofs.Apart.{new_apart}
-use Rattle.world_bytes.proofs.Turning.{opened_bytes}
+use Rattle.driven_queues.proofs.lemmas.harvest_laws.Standing.{new_told}
+use Rattle.told_streams.proofs.lemmas.open_names.Apart.{new_apart}
+use Rattle.stream_worlds.proofs.lemmas.world_bytes.Turning.{opened_bytes}
 use Rattle.bus_world.specs.Rooms.{reserve_of}
-use Rattle.shared_worlds.specs.Working.{at_opening}
+use Rattle.told_streams.specs.shared_worlds.Working.{at_opening}
 use Rattle.whole_worlds.specs.Feeding.{streams_of}
 use Rattle.whole_worlds.proofs.FeedingOpening.{new_world_feeds}
 use Rattle.whole_worlds.specs.Laws.{NewWorldIsWhole}

@@ -10,16 +10,16 @@ use Rattle.usb_bus.specs.Bus.{Fixed}
 use Rattle.driver_rows.specs.declared.content.Command.{Command}
 use Rattle.driver_rows.specs.declared.content.Command.TheVariants as unfinished
 use Rattle.driver_rows.specs.DriverContent.{DriverContent}
-use Rattle.lent_structures.specs.Structures.{StructureSets}
-use Rattle.fed_lends.specs.ToLend.{IsToBeLent}
-use Rattle.open_laws.specs.Lends.{IsOpenReady}
-use Rattle.open_laws.specs.Opens.{IsOpenLent}
-use Rattle.commanded_queues.proofs.Tails.{reaches_alike}
-use Rattle.harvest_laws.proofs.Standing.{refused_told}
+use Rattle.ring_laws.specs.lent_structures.Structures.{StructureSets}
+use Rattle.walked_queues.specs.fed_lends.ToLend.{IsToBeLent}
+use Rattle.driven_queues.specs.open_laws.Lends.{IsOpenReady}
+use Rattle.driven_queues.specs.open_laws.Opens.{IsOpenLent}
+use Rattle.walked_queues.proofs.lemmas.commanded_queues.Tails.{reaches_alike}
+use Rattle.driven_queues.proofs.lemmas.harvest_laws.Standing.{refused_told}
 use Rattle.bus_world.specs.World.{World, refused_line, commanded_by}
 use Rattle.stream_worlds.specs.Streaming.{Streams, Standing}
 use Rattle.whole_worlds.specs.Feeding.{IsFeeding}
-use Rattle.standing_fronts.specs.Tails.{tail_of}
+use Rattle.walked_queues.specs.standing_fronts.Tails.{tail_of}
 use Rattle.whole_worlds.specs.Tails.{IsUnderWay}
 use Rattle.whole_worlds.specs.Left.{IsLeft}
 use Rattle.whole_worlds.specs.Whole.{IsWhole}

@@ -13,35 +13,35 @@ use Rattle.driver_rows.specs.declared.rows.DriverRow.{DriverRow}
 use Rattle.driver_rows.specs.declared.rows.DriverRow.TheVariants as rows
 use Rattle.driver_rows.specs.DriverContent.{DriverContent}
 use Rattle.driver_rows.specs.Rows.{Parts as DriverParts, driver_row, after_driver_row, after_endpoint, is_told}
-use Rattle.endpoint_lives.specs.Lives.{is_one_of, may_meet}
-use Rattle.run_owners.specs.Due.{IsDue, IsEndpointDue}
-use Rattle.run_owners.proofs.Reasons.{each_is_due}
-use Rattle.run_owners.proofs.Released.{set_here, set_there}
-use Rattle.controlled_streams.specs.Reported.{IsReported}
+use Rattle.driver_laws.specs.endpoint_lives.Lives.{is_one_of, may_meet}
+use Rattle.driver_laws.specs.run_owners.Due.{IsDue, IsEndpointDue}
+use Rattle.driver_laws.proofs.lemmas.run_owners.Reasons.{each_is_due}
+use Rattle.driver_laws.proofs.lemmas.run_owners.Released.{set_here, set_there}
+use Rattle.walked_queues.specs.controlled_streams.Reported.{IsReported}
 use Rattle.driver_laws.specs.PartOpened.{opening_base}
-use Rattle.chained_transfers.specs.Bulk.{receives, comes_in}
-use Rattle.fed_queues.specs.Places.{IsThere}
-use Rattle.told_endpoints.specs.Telling.{named_of, IsToldTo}
-use Rattle.harvest_laws.specs.Told.{ToldStands}
-use Rattle.endpoint_releases.specs.Released.{HasLeaver, endpoint_row}
-use Rattle.endpoint_releases.proofs.Releasing.{due_leaves}
-use Rattle.left_queues.proofs.Unmet.{cleared_unmet}
-use Rattle.leaving_drivers.specs.Owed.{AreOwedMet}
-use Rattle.leaving_drivers.specs.Told.{IsGoneIn, told_to}
-use Rattle.leaving_drivers.proofs.Unmet.{cleared_unmet as cleared_is_far}
-use Rattle.leaving_drivers.proofs.Owing.{event_owed}
-use Rattle.leaving_drivers.proofs.Telling.{events_only}
-use Rattle.left_reports.specs.Leaver.{IsLeaver, IsToldGone}
-use Rattle.left_reports.proofs.Gone.{release_is_told}
-use Rattle.controlled_walks.specs.Worlds.{IsWalking}
-use Rattle.controlled_walks.proofs.Worlds.{driver_walks}
-use Rattle.scripted_takers.specs.Takers.{taker_of}
-use Rattle.taken_reports.specs.Taken.{IsToldTaken}
-use Rattle.taken_reports.specs.Laws.{bytes_taken}
+use Rattle.driver_laws.specs.chained_transfers.Bulk.{receives, comes_in}
+use Rattle.driver_laws.specs.fed_queues.Places.{IsThere}
+use Rattle.walked_queues.specs.told_endpoints.Telling.{named_of, IsToldTo}
+use Rattle.driven_queues.specs.harvest_laws.Told.{ToldStands}
+use Rattle.stream_worlds.specs.endpoint_releases.Released.{HasLeaver, endpoint_row}
+use Rattle.stream_worlds.proofs.lemmas.endpoint_releases.Releasing.{due_leaves}
+use Rattle.stream_worlds.proofs.lemmas.left_queues.Unmet.{cleared_unmet}
+use Rattle.driven_queues.specs.leaving_drivers.Owed.{AreOwedMet}
+use Rattle.driven_queues.specs.leaving_drivers.Told.{IsGoneIn, told_to}
+use Rattle.driven_queues.proofs.lemmas.leaving_drivers.Unmet.{cleared_unmet as cleared_is_far}
+use Rattle.driven_queues.proofs.lemmas.leaving_drivers.Owing.{event_owed}
+use Rattle.driven_queues.proofs.lemmas.leaving_drivers.Telling.{events_only}
+use Rattle.told_streams.specs.left_reports.Leaver.{IsLeaver, IsToldGone}
+use Rattle.told_streams.proofs.lemmas.left_reports.Gone.{release_is_told}
+use Rattle.stream_worlds.specs.controlled_walks.Worlds.{IsWalking}
+use Rattle.stream_worlds.proofs.lemmas.controlled_walks.Worlds.{driver_walks}
+use Rattle.scripted_streams.specs.scripted_takers.Takers.{taker_of}
+use Rattle.told_streams.specs.taken_reports.Taken.{IsToldTaken}
+use Rattle.told_streams.specs.taken_reports.Laws.{bytes_taken}
 use Rattle.bus_world.specs.World.{World, driver_parts, with_parts}
 use Rattle.stream_worlds.specs.Streaming.{Streams, Standing, wired}
 use Rattle.whole_worlds.specs.Feeding.{IsFeeding}
-use Rattle.chained_transfers.specs.Asynchronous.{IsAsynchronous}
+use Rattle.driver_laws.specs.chained_transfers.Asynchronous.{IsAsynchronous}
 use Rattle.report_streams.specs.Streams.{has_stream}
 use Rattle.whole_worlds.proofs.Names.{row_named}
 use Rattle.whole_worlds.proofs.Told.{there_on, stream_in, stream_out}

@@ -10,35 +10,35 @@ use Rattle.driver_rows.specs.declared.rows.DriverRow.{DriverRow}
 use Rattle.driver_rows.specs.declared.rows.DriverRow.TheVariants as rows
 use Rattle.driver_rows.specs.DriverContent.{DriverContent}
 use Rattle.driver_rows.specs.Rows.{Parts, driver_row, after_driver_row, after_transfer, freed_by, free_qtds}
-use Rattle.lent_structures.specs.Structures.{StructureSets}
-use Rattle.controlled_streams.specs.Control.{IsFrameless, off, empty}
+use Rattle.ring_laws.specs.lent_structures.Structures.{StructureSets}
+use Rattle.walked_queues.specs.controlled_streams.Control.{IsFrameless, off, empty}
 use Rattle.ring_laws.specs.Fewer.{without_those}
 use Rattle.ring_laws.proofs.Returning.{those_beside}
-use Rattle.controlled_streams.specs.Returned.{staying_of}
-use Rattle.controlled_streams.proofs.Returning.{pipes_returned, reported_stay}
+use Rattle.walked_queues.specs.controlled_streams.Returned.{staying_of}
+use Rattle.walked_queues.proofs.lemmas.controlled_streams.Returning.{pipes_returned, reported_stay}
 use Rattle.driver_laws.specs.PartOpened.{opening_base}
 use Rattle.driver_laws.specs.Released.{goes_of, release_row}
-use Rattle.in_place.specs.InPlace.{IsInPlace}
-use Rattle.in_place.proofs.Laws.{event_in_place}
-use Rattle.chained_transfers.specs.AsynchronousTurns.{AsynchronousTakesTurns}
-use Rattle.chained_transfers.proofs.Events.{event_queues}
-use Rattle.chained_transfers.proofs.Holding.{held_alive}
-use Rattle.fed_queues.specs.Places.{IsMet, AreMet, HaveStreams}
-use Rattle.open_laws.specs.Opens.{AreNamesApart}
-use Rattle.released_queues.specs.Released.{IsReleased}
-use Rattle.released_queues.proofs.Releasing.{release_feeds, release_keeps_met}
-use Rattle.standing_fronts.specs.Reaching.{Reaches}
-use Rattle.released_tails.proofs.Reaching.{release_reaches}
+use Rattle.driver_laws.specs.in_place.InPlace.{IsInPlace}
+use Rattle.driver_laws.proofs.lemmas.in_place.Laws.{event_in_place}
+use Rattle.driver_laws.specs.chained_transfers.AsynchronousTurns.{AsynchronousTakesTurns}
+use Rattle.driver_laws.proofs.lemmas.chained_transfers.Events.{event_queues}
+use Rattle.driver_laws.proofs.lemmas.chained_transfers.Holding.{held_alive}
+use Rattle.driver_laws.specs.fed_queues.Places.{IsMet, AreMet, HaveStreams}
+use Rattle.driven_queues.specs.open_laws.Opens.{AreNamesApart}
+use Rattle.walked_queues.specs.released_queues.Released.{IsReleased}
+use Rattle.walked_queues.proofs.lemmas.released_queues.Releasing.{release_feeds, release_keeps_met}
+use Rattle.walked_queues.specs.standing_fronts.Reaching.{Reaches}
+use Rattle.walked_queues.proofs.lemmas.released_tails.Reaching.{release_reaches}
 use Rattle.scripted_streams.specs.Senders.{sender_of}
 use Rattle.bus_world.specs.World.{World, controller_parts, driver_parts, with_parts}
 use Rattle.stream_worlds.specs.Streaming.{Streams, Standing, wired}
-use Rattle.shared_worlds.specs.Working.{IsWorking}
-use Rattle.controlled_streams.specs.Reported.{AreReported}
+use Rattle.told_streams.specs.shared_worlds.Working.{IsWorking}
+use Rattle.walked_queues.specs.controlled_streams.Reported.{AreReported}
 use Rattle.whole_worlds.specs.Feeding.{AreControlsApart, there_of, IsFeeding}
 use Rattle.whole_worlds.proofs.FeedingStores.{queue_above}
-use Rattle.control_queues.proofs.Returns.{release_keeps_controls}
+use Rattle.stream_worlds.proofs.lemmas.control_queues.Returns.{release_keeps_controls}
 use Rattle.whole_worlds.proofs.Heads.{right_of}
-use Rattle.standing_fronts.specs.Tails.{tail_block, tail_of, TailsStand}
+use Rattle.walked_queues.specs.standing_fronts.Tails.{tail_block, tail_of, TailsStand}
 use Rattle.whole_worlds.specs.Tails.{IsUnderWay}
 use Rattle.whole_worlds.specs.Whole.{HaveSenders, IsWhole, HasWhole}
 use Rattle.whole_worlds.specs.Laws.{ReleaseKeepsWhole}

@@ -5,13 +5,13 @@ use Rattle.driver_rows.specs.declared.content.Endpoint.{Endpoint}
 use Rattle.driver_rows.specs.declared.content.Transfer.{Transfer}
 use Rattle.driver_rows.specs.declared.rows.DriverRow.TheVariants as rows
 use Rattle.driver_rows.specs.Rows.{driver_row}
-use Rattle.run_owners.specs.Due.{IsDue, IsTransferDue}
-use Rattle.run_owners.specs.Leaving.{owes}
-use Rattle.run_owners.proofs.Reasons.{each_is_due}
+use Rattle.driver_laws.specs.run_owners.Due.{IsDue, IsTransferDue}
+use Rattle.driver_laws.specs.run_owners.Leaving.{owes}
+use Rattle.driver_laws.proofs.lemmas.run_owners.Reasons.{each_is_due}
 use Rattle.driver_laws.specs.PartOpened.{opening_base}
-use Rattle.endpoint_lives.specs.Lives.{may_meet}
-use Rattle.released_queues.specs.Released.{IsReturning, ReleaseStands}
-use Rattle.standing_fronts.proofs.Lists.{times_some}
+use Rattle.driver_laws.specs.endpoint_lives.Lives.{may_meet}
+use Rattle.walked_queues.specs.released_queues.Released.{IsReturning, ReleaseStands}
+use Rattle.walked_queues.proofs.lemmas.standing_fronts.Lists.{times_some}
 use Rattle.bus_world.specs.World.{World, driver_parts}
 use Rattle.stream_worlds.specs.Streaming.{Streams, Standing}
 use Rattle.whole_worlds.specs.Whole.{IsWhole}

@@ -8,16 +8,16 @@ use Rattle.driver_rows.specs.declared.rows.DriverRow.{DriverRow}
 use Rattle.driver_rows.specs.declared.rows.DriverRow.TheVariants as rows
 use Rattle.driver_rows.specs.declared.rows.Found.{Found}
 use Rattle.driver_rows.specs.Rows.{driver_row}
-use Rattle.run_owners.specs.Due.{IsDue, IsNextOf, IsLinkOf}
-use Rattle.run_owners.proofs.Reasons.{each_is_due}
+use Rattle.driver_laws.specs.run_owners.Due.{IsDue, IsNextOf, IsLinkOf}
+use Rattle.driver_laws.proofs.lemmas.run_owners.Reasons.{each_is_due}
 use Rattle.usb_bus.specs.Bus.{Fixed}
-use Rattle.fed_lends.specs.ToLend.{IsToBeLent}
-use Rattle.open_laws.specs.Lends.{IsOpenReady}
-use Rattle.open_laws.specs.Opens.{IsOpenLent}
+use Rattle.walked_queues.specs.fed_lends.ToLend.{IsToBeLent}
+use Rattle.driven_queues.specs.open_laws.Lends.{IsOpenReady}
+use Rattle.driven_queues.specs.open_laws.Opens.{IsOpenLent}
 use Rattle.bus_world.specs.World.{World, driver_parts}
 use Rattle.stream_worlds.specs.Streaming.{Streams, Standing}
-use Rattle.chained_transfers.specs.Bulk.{IsBulkCommand}
-use Rattle.chained_transfers.specs.Asynchronous.{OnlyAsynchronous}
+use Rattle.driver_laws.specs.chained_transfers.Bulk.{IsBulkCommand}
+use Rattle.driver_laws.specs.chained_transfers.Asynchronous.{OnlyAsynchronous}
 use Rattle.whole_worlds.specs.FeedingLaws.{is_still}
 use Rattle.whole_worlds.specs.Tails.{IsUnderWay}
 use Rattle.whole_worlds.specs.Whole.{IsWhole}

@@ -3,19 +3,19 @@ use Rattle.std.proofs.Common.{ℕ, ◌*◌, Bool, sym, subst}
 use Rattle.driver_rows.specs.declared.rows.DriverRow.{DriverRow}
 use Rattle.driver_rows.specs.Rows.{Parts as DriverParts, after_driver_row}
 use Rattle.driver_rows.specs.Words.{queue_head_link}
-use Rattle.fed_queues.specs.Places.{IsMet}
-use Rattle.publish_laws.specs.Stores.{next_of}
-use Rattle.standing_fronts.specs.Reaching.{Reaches}
-use Rattle.harvest_laws.specs.Told.{ToldStands}
-use Rattle.harvest_laws.proofs.Standing.{spared_told}
-use Rattle.leaving_drivers.specs.Before.{WasSame, IsAsBefore, NearSame}
-use Rattle.leaving_drivers.proofs.Leaving.{unlink_as_before}
-use Rattle.leaving_drivers.proofs.Alike.{near_fewer, met_before}
-use Rattle.left_queues.specs.Standing.{IdleTailsStand}
-use Rattle.left_reports.proofs.Before.{before_told}
-use Rattle.unlinked_streams.specs.Unlinks.{IsAtUnlink}
-use Rattle.unlinked_streams.proofs.Passing.{unlink_row_is}
-use Rattle.unlinked_streams.proofs.Streams.{unlink_spares_heads, unlink_spares_elements, unlink_spares_hand, unlink_leaves_fronts}
+use Rattle.driver_laws.specs.fed_queues.Places.{IsMet}
+use Rattle.driven_queues.specs.publish_laws.Stores.{next_of}
+use Rattle.walked_queues.specs.standing_fronts.Reaching.{Reaches}
+use Rattle.driven_queues.specs.harvest_laws.Told.{ToldStands}
+use Rattle.driven_queues.proofs.lemmas.harvest_laws.Standing.{spared_told}
+use Rattle.driven_queues.specs.leaving_drivers.Before.{WasSame, IsAsBefore, NearSame}
+use Rattle.driven_queues.proofs.lemmas.leaving_drivers.Leaving.{unlink_as_before}
+use Rattle.driven_queues.proofs.lemmas.leaving_drivers.Alike.{near_fewer, met_before}
+use Rattle.stream_worlds.specs.left_queues.Standing.{IdleTailsStand}
+use Rattle.told_streams.proofs.lemmas.left_reports.Before.{before_told}
+use Rattle.stream_worlds.specs.unlinked_streams.Unlinks.{IsAtUnlink}
+use Rattle.stream_worlds.proofs.lemmas.unlinked_streams.Passing.{unlink_row_is}
+use Rattle.stream_worlds.proofs.lemmas.unlinked_streams.Streams.{unlink_spares_heads, unlink_spares_elements, unlink_spares_hand, unlink_leaves_fronts}
 use Rattle.bus_world.specs.World.{driver_parts}
 use Rattle.stream_worlds.specs.Streaming.{Standing}
 use Rattle.whole_worlds.specs.Leaving.{unlinked, UnlinkTells}

@@ -14,13 +14,13 @@ use Rattle.driver_rows.specs.declared.rows.DriverRow.{DriverRow}
 use Rattle.driver_rows.specs.declared.rows.DriverRow.TheVariants as rows
 use Rattle.driver_rows.specs.DriverContent.{DriverContent}
 use Rattle.driver_rows.specs.Rows.{driver_row, after_driver_row, doorbell_command, bell_after}
-use Rattle.run_owners.specs.Due.{IsDue}
-use Rattle.run_owners.proofs.Reasons.{each_is_due}
+use Rattle.driver_laws.specs.run_owners.Due.{IsDue}
+use Rattle.driver_laws.proofs.lemmas.run_owners.Reasons.{each_is_due}
 use Rattle.usb_bus.specs.Bus.{Fixed}
-use Rattle.leaving_drivers.specs.Before.{IsAsBefore, NearSame}
-use Rattle.leaving_drivers.proofs.Alike.{near_fewer}
-use Rattle.leaving_drivers.proofs.Leaving.{bell_as_before, status_as_before, frame_as_before}
-use Rattle.left_reports.proofs.Before.{before_told}
+use Rattle.driven_queues.specs.leaving_drivers.Before.{IsAsBefore, NearSame}
+use Rattle.driven_queues.proofs.lemmas.leaving_drivers.Alike.{near_fewer}
+use Rattle.driven_queues.proofs.lemmas.leaving_drivers.Leaving.{bell_as_before, status_as_before, frame_as_before}
+use Rattle.told_streams.proofs.lemmas.left_reports.Before.{before_told}
 use Rattle.whole_worlds.proofs.FedBeside.{leave_tails}
 use Rattle.whole_worlds.specs.Left.{IsLeft}
 use Rattle.bus_world.specs.World.{World, driver_parts, with_parts, driver_next}

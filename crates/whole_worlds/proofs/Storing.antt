@@ -12,28 +12,28 @@ use Rattle.driver_rows.specs.declared.content.Command.TheVariants as unfinished
 use Rattle.driver_rows.specs.DriverContent.{DriverContent}
 use Rattle.driver_rows.specs.Harvests.{note_at}
 use Rattle.driver_rows.specs.Rows.{Parts as DriverParts}
-use Rattle.run_owners.specs.Owners.{Element as PieceOf, IsPlaced, runs_of_transfer, views_of}
-use Rattle.lent_structures.specs.Structures.{StructureSets}
+use Rattle.driver_laws.specs.run_owners.Owners.{Element as PieceOf, IsPlaced, runs_of_transfer, views_of}
+use Rattle.ring_laws.specs.lent_structures.Structures.{StructureSets}
 use Rattle.ring_laws.specs.Hand.{Hand}
 use Rattle.ring_laws.specs.Told.{Endpoint as Told}
 use Rattle.driver_laws.specs.Published.{partly}
-use Rattle.publish_laws.specs.Publishing.{IsBeingPublished}
-use Rattle.publish_laws.proofs.Rows.{counted, after_is}
+use Rattle.driven_queues.specs.publish_laws.Publishing.{IsBeingPublished}
+use Rattle.driven_queues.proofs.lemmas.publish_laws.Rows.{counted, after_is}
 use Rattle.driver_laws.specs.Extents.{AreInRuns}
 use Rattle.driver_laws.proofs.Extending.{extents_stay, element_put}
-use Rattle.controlled_streams.proofs.Storing.{same_hand, spares_head, spares_element}
-use Rattle.endpoint_lives.specs.Lives.{may_meet}
-use Rattle.told_harvests.specs.Held.{IsOneFrom}
-use Rattle.harvest_laws.specs.Holds.{IsNextOf}
-use Rattle.harvest_laws.proofs.Places.{one_sooner, owner_is}
-use Rattle.harvest_laws.specs.Told.{ToldStands}
-use Rattle.harvest_laws.specs.ToldLaws.{SparesDone}
-use Rattle.harvest_laws.proofs.Standing.{spared_told, alike_told}
-use Rattle.fed_queues.specs.Fed.{IsPublished}
-use Rattle.fed_queues.specs.Places.{IsThere, IsMet}
-use Rattle.fed_queues.proofs.Places.{stands_met}
-use Rattle.publish_laws.specs.Stores.{IsAtStore, published_by, parts_then, next_of}
-use Rattle.publish_laws.proofs.Apart.{piece_placed, thirty_two}
+use Rattle.walked_queues.proofs.lemmas.controlled_streams.Storing.{same_hand, spares_head, spares_element}
+use Rattle.driver_laws.specs.endpoint_lives.Lives.{may_meet}
+use Rattle.driver_laws.specs.told_harvests.Held.{IsOneFrom}
+use Rattle.driven_queues.specs.harvest_laws.Holds.{IsNextOf}
+use Rattle.driven_queues.proofs.lemmas.harvest_laws.Places.{one_sooner, owner_is}
+use Rattle.driven_queues.specs.harvest_laws.Told.{ToldStands}
+use Rattle.driven_queues.specs.harvest_laws.ToldLaws.{SparesDone}
+use Rattle.driven_queues.proofs.lemmas.harvest_laws.Standing.{spared_told, alike_told}
+use Rattle.driver_laws.specs.fed_queues.Fed.{IsPublished}
+use Rattle.driver_laws.specs.fed_queues.Places.{IsThere, IsMet}
+use Rattle.driver_laws.proofs.lemmas.fed_queues.Places.{stands_met}
+use Rattle.driven_queues.specs.publish_laws.Stores.{IsAtStore, published_by, parts_then, next_of}
+use Rattle.driven_queues.proofs.lemmas.publish_laws.Apart.{piece_placed, thirty_two}
 use Rattle.whole_worlds.specs.Tails.{IsUnderWay}
 use Rattle.whole_worlds.proofs.There.{next_waits}
 

@@ -8,25 +8,25 @@ use Rattle.driver_rows.specs.declared.rows.DriverRow.{DriverRow}
 use Rattle.driver_rows.specs.declared.rows.DriverRow.TheVariants as rows
 use Rattle.driver_rows.specs.Rows.{driver_row, after_driver_row}
 use Rattle.driver_rows.specs.Words.{head_block}
-use Rattle.scripted_takers.specs.Takers.{taker_of}
+use Rattle.scripted_streams.specs.scripted_takers.Takers.{taker_of}
 use Rattle.ring_laws.specs.Stores.{IsWider}
 use Rattle.ring_laws.specs.Told.{Endpoint as Told}
-use Rattle.fed_queues.specs.Places.{IsMet, HasHead}
-use Rattle.leaving_drivers.proofs.Alike.{there_by}
-use Rattle.leaving_drivers.proofs.Leaving.{clear_as_before}
-use Rattle.leaving_drivers.proofs.Clearing.{clear_finds}
-use Rattle.left_queues.proofs.Unmet.{cleared_unmet}
-use Rattle.open_laws.specs.Opens.{AreNamesApart}
-use Rattle.closed_streams.specs.Left.{heads_met}
-use Rattle.closed_streams.specs.Several.{ClosesSome}
-use Rattle.closed_streams.proofs.Several.{close_some_ends, close_some_out_pipes, close_some_untaken}
-use Rattle.narrowed_streams.specs.Narrowed.{NarrowsTo, HaveOuts}
-use Rattle.narrowed_streams.proofs.Clearing.{clear_narrows}
-use Rattle.narrowed_streams.proofs.Narrowing.{outs_are_closed}
-use Rattle.unlinked_streams.proofs.Streams.{unlink_leaves_out_pipes}
-use Rattle.endpoint_releases.proofs.Beside.{out_pipes_stay}
-use Rattle.controlled_walks.specs.Worlds.{IsWalking}
-use Rattle.reached_rings.specs.Reaching.{IsReachedIn}
+use Rattle.driver_laws.specs.fed_queues.Places.{IsMet, HasHead}
+use Rattle.driven_queues.proofs.lemmas.leaving_drivers.Alike.{there_by}
+use Rattle.driven_queues.proofs.lemmas.leaving_drivers.Leaving.{clear_as_before}
+use Rattle.driven_queues.proofs.lemmas.leaving_drivers.Clearing.{clear_finds}
+use Rattle.stream_worlds.proofs.lemmas.left_queues.Unmet.{cleared_unmet}
+use Rattle.driven_queues.specs.open_laws.Opens.{AreNamesApart}
+use Rattle.stream_worlds.specs.closed_streams.Left.{heads_met}
+use Rattle.stream_worlds.specs.closed_streams.Several.{ClosesSome}
+use Rattle.stream_worlds.proofs.lemmas.closed_streams.Several.{close_some_ends, close_some_out_pipes, close_some_untaken}
+use Rattle.told_streams.specs.narrowed_streams.Narrowed.{NarrowsTo, HaveOuts}
+use Rattle.told_streams.proofs.lemmas.narrowed_streams.Clearing.{clear_narrows}
+use Rattle.told_streams.proofs.lemmas.narrowed_streams.Narrowing.{outs_are_closed}
+use Rattle.stream_worlds.proofs.lemmas.unlinked_streams.Streams.{unlink_leaves_out_pipes}
+use Rattle.stream_worlds.proofs.lemmas.endpoint_releases.Beside.{out_pipes_stay}
+use Rattle.stream_worlds.specs.controlled_walks.Worlds.{IsWalking}
+use Rattle.driven_queues.specs.reached_rings.Reaching.{IsReachedIn}
 use Rattle.bus_world.specs.World.{World, driver_parts, driver_next, with_parts}
 use Rattle.stream_worlds.specs.Streaming.{Streams, Standing, wired}
 use Rattle.whole_worlds.specs.Feeding.{IsFeeding}

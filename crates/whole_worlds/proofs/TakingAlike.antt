@@ -2,12 +2,12 @@
 use Rattle.std.proofs.Common.{◌≡◌, ℕ, Bool, true, false, if◌then◌else◌, List, [], ◌==◌, Option, ap, refl, sym, subst, ◌∙◌}
 use Rattle.std.specs.List.{concat}
 use Rattle.std.proofs.lemmas.Bool.{false≢true}
-use Rattle.lent_structures.specs.Structures.{StructureSets}
+use Rattle.ring_laws.specs.lent_structures.Structures.{StructureSets}
 use Rattle.ring_laws.specs.Hand.{Hand}
 use Rattle.ring_laws.specs.Told.{Endpoint}
 use Rattle.ring_laws.specs.OutBus.{Taker}
 use Rattle.ring_laws.specs.OutPipes.{IsOutPipe}
-use Rattle.controlled_streams.specs.Opened.{with_none}
+use Rattle.walked_queues.specs.controlled_streams.Opened.{with_none}
 use Rattle.stream_worlds.specs.Outs.{AreOutPiped, AreUntaken}
 use Rattle.whole_worlds.specs.Feeding.{heads_of}
 use Rattle.whole_worlds.specs.Taking.{outs_of}

@@ -6,18 +6,18 @@ use Rattle.std.proofs.lemmas.List.Folds.{concat-append}
 use Rattle.usb_base.specs.declared.packets.Ask.{Ask}
 use Rattle.usb_base.specs.declared.packets.Reply.{Reply}
 use Rattle.usb_bus.specs.Bus.{Fixed}
-use Rattle.lent_structures.specs.Structures.{StructureSets}
+use Rattle.ring_laws.specs.lent_structures.Structures.{StructureSets}
 use Rattle.ring_laws.specs.Hand.{Hand}
 use Rattle.ring_laws.specs.Pipes.{grown}
-use Rattle.controlled_streams.specs.Control.{ControlEffect, a_microframe, a_step}
-use Rattle.scripted_takers.specs.Takers.{taker_of}
+use Rattle.walked_queues.specs.controlled_streams.Control.{ControlEffect, a_microframe, a_step}
+use Rattle.scripted_streams.specs.scripted_takers.Takers.{taker_of}
 use Rattle.driver_laws.specs.PartOpened.{opening_base}
 use Rattle.bus_world.specs.World.{World, controller_next}
 use Rattle.stream_worlds.specs.Streaming.{Streams, Standing, wired, HearsBytesNow}
 use Rattle.stream_worlds.specs.Events.{sent_in}
 use Rattle.stream_worlds.proofs.RowTurning.{world_pipes}
 use Rattle.whole_worlds.specs.Feeding.{IsFeeding, Goes, bytes_of_event, acc_after}
-use Rattle.standing_fronts.specs.Tails.{TailsStand}
+use Rattle.walked_queues.specs.standing_fronts.Tails.{TailsStand}
 use Rattle.whole_worlds.specs.Taking.{outs_of, IsTaking}
 use Rattle.whole_worlds.proofs.FeedingBeside.{controller_feeds}
 use Rattle.whole_worlds.proofs.TakingAlike.{out_on, alike_known}

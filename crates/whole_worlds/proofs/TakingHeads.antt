@@ -1,10 +1,10 @@
 -- The queue heads of OUT endpoints, by the driver's endpoints.
 use Rattle.std.proofs.Common.{◌≡◌, ℕ, ◌*◌, Bool, true, ◌∙◌}
 use Rattle.usb_bus.specs.Bus.{Fixed}
-use Rattle.chained_transfers.proofs.Ways.{sends_comes_not}
+use Rattle.driver_laws.proofs.lemmas.chained_transfers.Ways.{sends_comes_not}
 use Rattle.bus_world.specs.World.{World}
 use Rattle.stream_worlds.specs.Streaming.{Streams, Standing}
-use Rattle.taken_reports.specs.Worlds.{HaveOuts}
+use Rattle.told_streams.specs.taken_reports.Worlds.{HaveOuts}
 use Rattle.whole_worlds.specs.Feeding.{IsFeeding, there_of}
 use Rattle.whole_worlds.specs.Taking.{outs_of}
 use Rattle.whole_worlds.proofs.Heads.{queue_on, heads_are_there}

@@ -17,12 +17,12 @@ use Rattle.driver_rows.specs.declared.content.Stage.{Stage}
 use Rattle.driver_rows.specs.DriverContent.{DriverContent}
 use Rattle.driver_rows.specs.Rows.{Parts as DriverParts, advance}
 use Rattle.driver_rows.specs.Harvests.{note_at}
-use Rattle.run_owners.specs.Owners.{Views, views_of}
-use Rattle.chained_transfers.specs.Bulk.{IsDataWay, comes_in, pid_by}
-use Rattle.chained_transfers.proofs.Ways.{IsBy, data_or_control, its_pid}
-use Rattle.fed_queues.specs.Places.{IsMet}
+use Rattle.driver_laws.specs.run_owners.Owners.{Views, views_of}
+use Rattle.driver_laws.specs.chained_transfers.Bulk.{IsDataWay, comes_in, pid_by}
+use Rattle.driver_laws.proofs.lemmas.chained_transfers.Ways.{IsBy, data_or_control, its_pid}
+use Rattle.driver_laws.specs.fed_queues.Places.{IsMet}
 use Rattle.ring_laws.specs.Told.{Endpoint as Told}
-use Rattle.lent_structures.specs.Structures.{Structure, QueueHead, Element, Buffer, Table, Isochronous, SplitIsochronous, StructureSets, Tells}
+use Rattle.ring_laws.specs.lent_structures.Structures.{Structure, QueueHead, Element, Buffer, Table, Isochronous, SplitIsochronous, StructureSets, Tells}
 use Rattle.async_walk.specs.Rows.{place}
 use Rattle.driver_laws.specs.Inventory.{Sort, OfElement, sort_of, sorts_of, Inventory, IsLent, IsPieceOf, AreTold, IsDriverOwned, the_list, the_head, a_queue, a_dummy, a_piece, a_buffer, IsDriven}
 use Rattle.driver_laws.specs.Driven.{DrivesRing}
@@ -30,15 +30,15 @@ use Rattle.driver_laws.specs.PartOpened.{opening_base}
 use Rattle.driver_laws.specs.Pieces.{IsNewQtd}
 use Rattle.driver_laws.specs.TransferLaws.{lent_memory, lent_driver, HasPieces}
 use Rattle.driver_laws.proofs.Lends.{lend_drives}
-use Rattle.scripted_takers.specs.Takers.{taker_of}
+use Rattle.scripted_streams.specs.scripted_takers.Takers.{taker_of}
 use Rattle.bus_world.specs.World.{World, driver_parts, driver_next}
 use Rattle.stream_worlds.specs.Streaming.{Streams, Standing, wired}
-use Rattle.fed_lends.specs.ToLend.{AreStagesBy, IsToBeLent, lent_now}
-use Rattle.fed_lends.proofs.Fed.{y_of, x_of}
-use Rattle.fed_lends.proofs.Names.{names_lent}
-use Rattle.fed_lends.proofs.Reports.{it_is_met}
-use Rattle.fed_lends.proofs.Row.{advance_is, after_is}
-use Rattle.released_queues.specs.Fronts.{FrontsStand}
+use Rattle.walked_queues.specs.fed_lends.ToLend.{AreStagesBy, IsToBeLent, lent_now}
+use Rattle.walked_queues.proofs.lemmas.fed_lends.Fed.{y_of, x_of}
+use Rattle.walked_queues.proofs.lemmas.fed_lends.Names.{names_lent}
+use Rattle.walked_queues.proofs.lemmas.fed_lends.Reports.{it_is_met}
+use Rattle.walked_queues.proofs.lemmas.fed_lends.Row.{advance_is, after_is}
+use Rattle.walked_queues.specs.released_queues.Fronts.{FrontsStand}
 use Rattle.stream_worlds.specs.Outs.{GoesAs}
 use Rattle.stream_worlds.specs.Lends.{AreNewAs}
 use Rattle.stream_worlds.proofs.Lending.{lend_pipes}

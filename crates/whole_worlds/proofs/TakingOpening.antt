@@ -5,12 +5,12 @@ use Rattle.script_types.specs.declared.scripts.Script.{Script}
 use Rattle.script_fits.specs.Fits.{IsFit}
 use Rattle.usb_bus.specs.Bus.{fixed_of}
 use Rattle.driver_rows.specs.Words.{opening_head}
-use Rattle.lent_structures.specs.Structures.{QueueHead, Element}
+use Rattle.ring_laws.specs.lent_structures.Structures.{QueueHead, Element}
 use Rattle.ring_laws.specs.Told.{Endpoint, endpoint_of}
 use Rattle.ring_laws.specs.OutPipeLaws.{SendsNone}
 use Rattle.driver_laws.specs.PartOpened.{opening_parts, is_head}
 use Rattle.bus_world.specs.Opening.{opening_world}
-use Rattle.shared_worlds.specs.Working.{at_opening}
+use Rattle.told_streams.specs.shared_worlds.Working.{at_opening}
 use Rattle.stream_worlds.specs.Outs.{IsAside}
 use Rattle.stream_worlds.specs.Takers.{takes_of}
 use Rattle.stream_worlds.proofs.Beginning.{opening_untaken}

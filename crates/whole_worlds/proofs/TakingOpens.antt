@@ -11,39 +11,39 @@ use Rattle.driver_rows.specs.declared.content.Endpoint.{Endpoint}
 use Rattle.driver_rows.specs.declared.content.Command.TheVariants as unfinished
 use Rattle.driver_rows.specs.Rows.{Parts as DriverParts}
 use Rattle.driver_rows.specs.Words.{head_block, to_queue_head, queue_head, dummy_qtd, speed_field, is_control}
-use Rattle.run_owners.specs.Owners.{runs_of_endpoint}
-use Rattle.lent_structures.specs.Structures.{QueueHead, Element, StructureSets, put}
-use Rattle.lent_structures.proofs.Names.{not_same, put_beside, put_same}
-use Rattle.lent_structures.specs.Sound.{IsMember}
-use Rattle.lent_structures.proofs.Altering.{found_queue}
+use Rattle.driver_laws.specs.run_owners.Owners.{runs_of_endpoint}
+use Rattle.ring_laws.specs.lent_structures.Structures.{QueueHead, Element, StructureSets, put}
+use Rattle.ring_laws.proofs.lemmas.lent_structures.Names.{not_same, put_beside, put_same}
+use Rattle.ring_laws.specs.lent_structures.Sound.{IsMember}
+use Rattle.ring_laws.proofs.lemmas.lent_structures.Altering.{found_queue}
 use Rattle.ring_laws.specs.Hand.{Hand}
 use Rattle.ring_laws.specs.Told.{Endpoint as Told, endpoint_of}
 use Rattle.ring_laws.specs.Pipes.{AreEndpoints}
 use Rattle.ring_laws.specs.OutPipes.{IsOut}
 use Rattle.ring_laws.specs.OutPipeLaws.{SendsNone}
-use Rattle.controlled_streams.proofs.Outs.{linked_unmoved}
+use Rattle.walked_queues.proofs.lemmas.controlled_streams.Outs.{linked_unmoved}
 use Rattle.ring_laws.specs.Sparing.{SparesHead}
 use Rattle.ring_laws.proofs.SparedSparing.{spared_endpoint}
-use Rattle.scripted_takers.specs.Takers.{taker_of}
+use Rattle.scripted_streams.specs.scripted_takers.Takers.{taker_of}
 use Rattle.driver_laws.specs.PartOpened.{opening_base}
 use Rattle.driver_laws.specs.Driven.{DrivesRing}
 use Rattle.driver_laws.specs.Linked.{with_member, head_at}
 use Rattle.driver_laws.proofs.Unmet.{open_is_unmet}
 use Rattle.bus_world.specs.World.{World, driver_parts, driver_next}
 use Rattle.stream_worlds.specs.Streaming.{Streams, Standing, wired}
-use Rattle.controlled_streams.proofs.Storing.{same_hand}
-use Rattle.controlled_streams.specs.Unopened.{IsUnopened}
-use Rattle.controlled_streams.specs.Opened.{with_stream, with_end, with_none, IsOneMore}
-use Rattle.controlled_streams.proofs.Beginning.{end_here, end_beside, stream_here, ends_with_one, ends_with_other}
-use Rattle.controlled_streams.proofs.Alike.{alike_ends}
-use Rattle.chained_transfers.specs.Bulk.{IsDataWay, receives, comes_in}
-use Rattle.chained_transfers.specs.Asynchronous.{IsAsynchronous}
-use Rattle.chained_transfers.proofs.Ways.{data_or_control, data_comes_in, way_goes_out, way_sends, sends_comes_not}
-use Rattle.fed_queues.specs.Places.{HasHead, HasThere}
-use Rattle.open_laws.specs.Opens.{IsOpenLent, IsAtOpen, head_then, hand_then, end_then, streams_then}
-use Rattle.open_laws.proofs.Standing.{then_here, then_beside, member_here, member_old, member_beside, element_was, its_alive}
-use Rattle.open_laws.proofs.Streams.{one_more}
-use Rattle.open_laws.specs.Lends.{IsOpenReady, parts_lent}
+use Rattle.walked_queues.proofs.lemmas.controlled_streams.Storing.{same_hand}
+use Rattle.walked_queues.specs.controlled_streams.Unopened.{IsUnopened}
+use Rattle.walked_queues.specs.controlled_streams.Opened.{with_stream, with_end, with_none, IsOneMore}
+use Rattle.walked_queues.proofs.lemmas.controlled_streams.Beginning.{end_here, end_beside, stream_here, ends_with_one, ends_with_other}
+use Rattle.walked_queues.proofs.lemmas.controlled_streams.Alike.{alike_ends}
+use Rattle.driver_laws.specs.chained_transfers.Bulk.{IsDataWay, receives, comes_in}
+use Rattle.driver_laws.specs.chained_transfers.Asynchronous.{IsAsynchronous}
+use Rattle.driver_laws.proofs.lemmas.chained_transfers.Ways.{data_or_control, data_comes_in, way_goes_out, way_sends, sends_comes_not}
+use Rattle.driver_laws.specs.fed_queues.Places.{HasHead, HasThere}
+use Rattle.driven_queues.specs.open_laws.Opens.{IsOpenLent, IsAtOpen, head_then, hand_then, end_then, streams_then}
+use Rattle.driven_queues.proofs.lemmas.open_laws.Standing.{then_here, then_beside, member_here, member_old, member_beside, element_was, its_alive}
+use Rattle.driven_queues.proofs.lemmas.open_laws.Streams.{one_more}
+use Rattle.driven_queues.specs.open_laws.Lends.{IsOpenReady, parts_lent}
 use Rattle.stream_worlds.specs.Outs.{IsAside, AreAside, AreOutPiped, AreUntaken}
 use Rattle.stream_worlds.specs.Opens.{IsOneMoreHead}
 use Rattle.stream_worlds.proofs.Spared.{work_stays, out_pipes_spared}

@@ -7,11 +7,11 @@ use Rattle.driver_rows.specs.declared.content.Transfer.{Transfer}
 use Rattle.driver_rows.specs.declared.rows.DriverRow.TheVariants as rows
 use Rattle.driver_rows.specs.Rows.{driver_row, after_driver_row}
 use Rattle.ring_laws.specs.Fewer.{without_those}
-use Rattle.controlled_streams.specs.Returned.{staying_of, KeepsBuffers}
+use Rattle.walked_queues.specs.controlled_streams.Returned.{staying_of, KeepsBuffers}
 use Rattle.driver_laws.specs.PartOpened.{opening_base}
 use Rattle.driver_laws.specs.Released.{goes_of}
-use Rattle.released_queues.proofs.Going.{head_stays, buffers_stay, may_go}
-use Rattle.scripted_takers.specs.Takers.{taker_of}
+use Rattle.walked_queues.proofs.lemmas.released_queues.Going.{head_stays, buffers_stay, may_go}
+use Rattle.scripted_streams.specs.scripted_takers.Takers.{taker_of}
 use Rattle.bus_world.specs.World.{World, driver_parts, with_parts}
 use Rattle.stream_worlds.specs.Streaming.{Streams, Standing, wired}
 use Rattle.stream_worlds.specs.Returns.{KeepsWork}

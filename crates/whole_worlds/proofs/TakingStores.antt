@@ -11,19 +11,19 @@ use Rattle.driver_rows.specs.declared.content.Endpoint.{Endpoint}
 use Rattle.driver_rows.specs.declared.content.Command.{Command}
 use Rattle.driver_rows.specs.declared.content.Command.TheVariants as unfinished
 use Rattle.driver_rows.specs.Rows.{Parts as DriverParts}
-use Rattle.chained_transfers.specs.Bulk.{IsDataWay, comes_in, pid_by}
-use Rattle.chained_transfers.specs.Asynchronous.{IsKindOf}
+use Rattle.driver_laws.specs.chained_transfers.Bulk.{IsDataWay, comes_in, pid_by}
+use Rattle.driver_laws.specs.chained_transfers.Asynchronous.{IsKindOf}
 use Rattle.driver_rows.specs.Words.{head_block, is_control}
 use Rattle.ring_laws.specs.Told.{Endpoint as Told}
 use Rattle.driver_laws.specs.Published.{partly}
 use Rattle.driver_laws.proofs.Publishing.{idle}
-use Rattle.scripted_takers.specs.Takers.{taker_of}
+use Rattle.scripted_streams.specs.scripted_takers.Takers.{taker_of}
 use Rattle.bus_world.specs.World.{World, driver_parts, driver_next}
 use Rattle.stream_worlds.specs.Streaming.{Streams, Standing, wired}
-use Rattle.fed_queues.specs.Fed.{IsPublished}
-use Rattle.fed_queues.specs.Places.{IsMet}
-use Rattle.fed_queues.proofs.Places.{stands_met}
-use Rattle.publish_laws.specs.Stores.{IsAtStore, published_by}
+use Rattle.driver_laws.specs.fed_queues.Fed.{IsPublished}
+use Rattle.driver_laws.specs.fed_queues.Places.{IsMet}
+use Rattle.driver_laws.proofs.lemmas.fed_queues.Places.{stands_met}
+use Rattle.driven_queues.specs.publish_laws.Stores.{IsAtStore, published_by}
 use Rattle.stream_worlds.specs.Outs.{GoesAs}
 use Rattle.stream_worlds.proofs.Storing.{store_pipes}
 use Rattle.whole_worlds.specs.Feeding.{heads_of, IsFeeding}

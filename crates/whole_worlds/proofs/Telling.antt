@@ -9,28 +9,28 @@ use Rattle.driver_rows.specs.declared.content.Transfer.{Transfer}
 use Rattle.driver_rows.specs.DriverContent.{DriverContent}
 use Rattle.driver_rows.specs.Rows.{Parts as DriverParts, freed_by, free_qtds, after_transfer, after_driver_row}
 use Rattle.driver_rows.specs.Harvests.{note_at}
-use Rattle.run_owners.specs.Owners.{Element}
-use Rattle.chained_transfers.specs.AsynchronousTurns.{AsynchronousTakesTurns}
-use Rattle.lent_structures.specs.Structures.{Structures, StructureSets}
-use Rattle.lent_structures.proofs.Names.{not_same}
+use Rattle.driver_laws.specs.run_owners.Owners.{Element}
+use Rattle.driver_laws.specs.chained_transfers.AsynchronousTurns.{AsynchronousTakesTurns}
+use Rattle.ring_laws.specs.lent_structures.Structures.{Structures, StructureSets}
+use Rattle.ring_laws.proofs.lemmas.lent_structures.Names.{not_same}
 use Rattle.ring_laws.specs.Hand.{Hand}
 use Rattle.ring_laws.specs.Ring.{Base}
 use Rattle.ring_laws.specs.Effects.{buffer_of}
 use Rattle.ring_laws.specs.Fewer.{without_those}
 use Rattle.ring_laws.proofs.Returning.{those_beside}
 use Rattle.ring_laws.specs.Sparing.{SparesElement}
-use Rattle.controlled_streams.proofs.Returning.{spares_head, spares_element}
+use Rattle.walked_queues.proofs.lemmas.controlled_streams.Returning.{spares_head, spares_element}
 use Rattle.driver_laws.specs.Released.{goes_of, release_row}
 use Rattle.driver_laws.proofs.Blocks.{mine}
-use Rattle.released_queues.specs.Released.{IsReturning, ReleaseStands}
-use Rattle.released_queues.proofs.Queues.{pieces_of, goes_off}
-use Rattle.released_queues.proofs.Going.{head_stays, buffers_stay}
-use Rattle.told_harvests.specs.Held.{IsOneFrom}
-use Rattle.harvest_laws.specs.Holds.{IsNextOf}
-use Rattle.harvest_laws.proofs.Places.{one_sooner, owner_is}
-use Rattle.harvest_laws.specs.Told.{ToldStands}
-use Rattle.harvest_laws.specs.ToldLaws.{SparesDone}
-use Rattle.harvest_laws.proofs.Standing.{spared_told, returned_told}
+use Rattle.walked_queues.specs.released_queues.Released.{IsReturning, ReleaseStands}
+use Rattle.walked_queues.proofs.lemmas.released_queues.Queues.{pieces_of, goes_off}
+use Rattle.walked_queues.proofs.lemmas.released_queues.Going.{head_stays, buffers_stay}
+use Rattle.driver_laws.specs.told_harvests.Held.{IsOneFrom}
+use Rattle.driven_queues.specs.harvest_laws.Holds.{IsNextOf}
+use Rattle.driven_queues.proofs.lemmas.harvest_laws.Places.{one_sooner, owner_is}
+use Rattle.driven_queues.specs.harvest_laws.Told.{ToldStands}
+use Rattle.driven_queues.specs.harvest_laws.ToldLaws.{SparesDone}
+use Rattle.driven_queues.proofs.lemmas.harvest_laws.Standing.{spared_told, returned_told}
 use Rattle.whole_worlds.proofs.There.{there_now, next_waits}
 
 module _ (base : Base) (member : ℕ → Bool) (parts : StructureSets) (hand : Hand) (w : Walk) (p : DriverParts) (order : ℕ → ℕ → ℕ) (out : ℕ → List ℕ) (t : ℕ) (y : Transfer) (x : Endpoint) (s : ReleaseStands base member parts hand w p order out) (k : IsReturning p.driver t y x) (turns : AsynchronousTakesTurns p.driver) where

@@ -4,12 +4,12 @@ use Rattle.std.proofs.lemmas.Option.{same_Some}
 use Rattle.driver_rows.specs.declared.content.Endpoint.{Endpoint}
 use Rattle.driver_rows.specs.declared.content.Transfer.{Transfer}
 use Rattle.driver_rows.specs.DriverContent.{DriverContent}
-use Rattle.endpoint_lives.specs.Lives.{told_end}
-use Rattle.chained_transfers.specs.AsynchronousTurns.{AsynchronousTakesTurns}
-use Rattle.chained_transfers.specs.Turns.{Turn, turn_of, turn_in, IsNext, AreReportedTo}
-use Rattle.chained_transfers.proofs.Holding.{stands_unreleased}
-use Rattle.harvest_laws.specs.Holds.{IsNextOf}
-use Rattle.harvest_laws.specs.HeldLaws.{AreThere}
+use Rattle.driver_laws.specs.endpoint_lives.Lives.{told_end}
+use Rattle.driver_laws.specs.chained_transfers.AsynchronousTurns.{AsynchronousTakesTurns}
+use Rattle.driver_laws.specs.chained_transfers.Turns.{Turn, turn_of, turn_in, IsNext, AreReportedTo}
+use Rattle.driver_laws.proofs.lemmas.chained_transfers.Holding.{stands_unreleased}
+use Rattle.driven_queues.specs.harvest_laws.Holds.{IsNextOf}
+use Rattle.driven_queues.specs.harvest_laws.HeldLaws.{AreThere}
 
 module _ (d : DriverContent) (k : AsynchronousTakesTurns d) where
   found : (e t : ℕ) (x : Endpoint) (r : Turn) (o : Option Transfer) → slice_get d.endpoints e ≡ Some x → told_end x ≡ None → slice_get d.transfers t ≡ o → option_map turn_of o ≡ Some r → r.endpoint ≡ e → r.reported ≡ false

@@ -10,12 +10,12 @@ use Rattle.driver_rows.specs.declared.content.Endpoint.{Endpoint}
 use Rattle.driver_rows.specs.declared.content.Command.{Command}
 use Rattle.driver_rows.specs.declared.content.Command.TheVariants as unfinished
 use Rattle.driver_rows.specs.DriverContent.{DriverContent}
-use Rattle.endpoint_lives.specs.Lives.{any_at}
-use Rattle.endpoint_lives.proofs.Lives.{any_there, there_any}
-use Rattle.fed_queues.specs.Places.{IsThere, HasThere}
+use Rattle.driver_laws.specs.endpoint_lives.Lives.{any_at}
+use Rattle.driver_laws.proofs.lemmas.endpoint_lives.Lives.{any_there, there_any}
+use Rattle.driver_laws.specs.fed_queues.Places.{IsThere, HasThere}
 use Rattle.driver_rows.specs.Words.{is_control}
-use Rattle.chained_transfers.specs.Bulk.{IsDataWay, receives, comes_in}
-use Rattle.chained_transfers.specs.Asynchronous.{IsAsynchronous, IsKindOf}
+use Rattle.driver_laws.specs.chained_transfers.Bulk.{IsDataWay, receives, comes_in}
+use Rattle.driver_laws.specs.chained_transfers.Asynchronous.{IsAsynchronous, IsKindOf}
 use Rattle.report_streams.specs.Streams.{has_stream}
 use Rattle.whole_worlds.specs.Feeding.{opens, there_of}
 

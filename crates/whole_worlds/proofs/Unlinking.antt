@@ -8,32 +8,32 @@ use Rattle.driver_rows.specs.declared.content.Command.{Command}
 use Rattle.driver_rows.specs.declared.content.Command.TheVariants as unfinished
 use Rattle.driver_rows.specs.Rows.{Parts as DriverParts, driver_row}
 use Rattle.driver_rows.specs.Words.{head_block, to_queue_head}
-use Rattle.endpoint_lives.specs.Lives.{is_one_of}
-use Rattle.lent_structures.specs.Structures.{QueueHead}
+use Rattle.driver_laws.specs.endpoint_lives.Lives.{is_one_of}
+use Rattle.ring_laws.specs.lent_structures.Structures.{QueueHead}
 use Rattle.ring_laws.specs.Hand.{Hand}
-use Rattle.controlled_streams.specs.Reported.{AreReported}
+use Rattle.walked_queues.specs.controlled_streams.Reported.{AreReported}
 use Rattle.driver_laws.specs.PartOpened.{opening_base}
 use Rattle.driver_laws.specs.Driven.{DrivesRing}
-use Rattle.in_place.proofs.Laws.{event_in_place}
+use Rattle.driver_laws.proofs.lemmas.in_place.Laws.{event_in_place}
 use Rattle.async_walk.specs.Rows.{place}
 use Rattle.scripted_streams.specs.Senders.{sender_of}
 use Rattle.bus_world.specs.World.{World, driver_parts, driver_next}
 use Rattle.stream_worlds.specs.Streaming.{Streams, Standing, wired}
-use Rattle.shared_worlds.specs.Working.{IsWorking}
-use Rattle.chained_transfers.proofs.Staying.{linked_stands_alive}
-use Rattle.chained_transfers.proofs.Events.{event_queues}
-use Rattle.fed_queues.specs.Places.{HasHead, HasThere}
-use Rattle.publish_laws.specs.Stores.{QueuesThen, next_of}
-use Rattle.unlinked_streams.specs.Unlinks.{IsAtUnlink, MeetsRing, IsUnlinked}
-use Rattle.unlinked_streams.proofs.Standing.{unlink_stands}
-use Rattle.unlinked_streams.proofs.Passing.{unlink_row_is, unlink_leaves_ring}
-use Rattle.unlinked_streams.proofs.Streams.{unlink_leaves_pipes, unlink_leaves_reports}
-use Rattle.unlinked_streams.proofs.Queues.{unlink_leaves_queues}
+use Rattle.told_streams.specs.shared_worlds.Working.{IsWorking}
+use Rattle.driver_laws.proofs.lemmas.chained_transfers.Staying.{linked_stands_alive}
+use Rattle.driver_laws.proofs.lemmas.chained_transfers.Events.{event_queues}
+use Rattle.driver_laws.specs.fed_queues.Places.{HasHead, HasThere}
+use Rattle.driven_queues.specs.publish_laws.Stores.{QueuesThen, next_of}
+use Rattle.stream_worlds.specs.unlinked_streams.Unlinks.{IsAtUnlink, MeetsRing, IsUnlinked}
+use Rattle.stream_worlds.proofs.lemmas.unlinked_streams.Standing.{unlink_stands}
+use Rattle.stream_worlds.proofs.lemmas.unlinked_streams.Passing.{unlink_row_is, unlink_leaves_ring}
+use Rattle.stream_worlds.proofs.lemmas.unlinked_streams.Streams.{unlink_leaves_pipes, unlink_leaves_reports}
+use Rattle.stream_worlds.proofs.lemmas.unlinked_streams.Queues.{unlink_leaves_queues}
 use Rattle.ring_laws.specs.Stores.{hand_linked}
 use Rattle.whole_worlds.specs.Feeding.{there_of, IsFeeding}
 use Rattle.whole_worlds.proofs.FeedingStores.{queue_above, put_apart}
 use Rattle.report_streams.specs.Streams.{has_stream}
-use Rattle.control_queues.proofs.Heads.{unlink_keeps_controls}
+use Rattle.stream_worlds.proofs.lemmas.control_queues.Heads.{unlink_keeps_controls}
 use Rattle.whole_worlds.proofs.Names.{row_apart}
 use Rattle.whole_worlds.proofs.Told.{there_by, bulk_there}
 use Rattle.whole_worlds.proofs.Heads.{right_of}

@@ -8,16 +8,16 @@ use Rattle.pipe_agreement.specs.Prefix.{IsPrefix}
 use Rattle.driver_rows.specs.declared.content.Endpoint.{Endpoint}
 use Rattle.driver_rows.specs.declared.content.Command.TheVariants as unfinished
 use Rattle.driver_rows.specs.DriverContent.{DriverContent}
-use Rattle.endpoint_lives.specs.Lives.{may_meet}
+use Rattle.driver_laws.specs.endpoint_lives.Lives.{may_meet}
 use Rattle.ring_laws.specs.OutBus.{Taker}
-use Rattle.chained_transfers.specs.Bulk.{receives, comes_in}
-use Rattle.fed_queues.specs.Places.{IsThere}
-use Rattle.leaving_drivers.specs.Told.{told_to, IsGoneIn}
-use Rattle.leaving_drivers.specs.Before.{IsAsBefore, NearSame}
-use Rattle.right_worlds.specs.Right.{ClosedIns}
-use Rattle.taken_reports.specs.Taken.{IsToldTaken}
-use Rattle.taken_reports.specs.Laws.{bytes_taken}
-use Rattle.taken_reports.specs.Worlds.{ClosedOuts}
+use Rattle.driver_laws.specs.chained_transfers.Bulk.{receives, comes_in}
+use Rattle.driver_laws.specs.fed_queues.Places.{IsThere}
+use Rattle.driven_queues.specs.leaving_drivers.Told.{told_to, IsGoneIn}
+use Rattle.driven_queues.specs.leaving_drivers.Before.{IsAsBefore, NearSame}
+use Rattle.told_streams.specs.right_worlds.Right.{ClosedIns}
+use Rattle.told_streams.specs.taken_reports.Taken.{IsToldTaken}
+use Rattle.told_streams.specs.taken_reports.Laws.{bytes_taken}
+use Rattle.told_streams.specs.taken_reports.Worlds.{ClosedOuts}
 use Rattle.whole_worlds.specs.Left.{AreShut}
 
 -- endpoint e, which is z, was opened as z was, has its queue head where z has it, and couldn't be met

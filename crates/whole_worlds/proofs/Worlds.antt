@@ -7,9 +7,9 @@ use Rattle.driver_rows.specs.DriverContent.{DriverContent}
 use Rattle.driver_rows.specs.Rows.{Parts as DriverParts, driver_row}
 use Rattle.bus_world.specs.World.{World, driver_parts, driver_next}
 use Rattle.stream_worlds.specs.Streaming.{Streams, Standing}
-use Rattle.fed_queues.specs.Fed.{IsPublished}
-use Rattle.publish_laws.specs.Stores.{IsAtStore, published_by, parts_then, next_of}
-use Rattle.open_laws.specs.Opens.{AreNamesApart}
+use Rattle.driver_laws.specs.fed_queues.Fed.{IsPublished}
+use Rattle.driven_queues.specs.publish_laws.Stores.{IsAtStore, published_by, parts_then, next_of}
+use Rattle.driven_queues.specs.open_laws.Opens.{AreNamesApart}
 use Rattle.whole_worlds.specs.Feeding.{IsFeeding}
 use Rattle.whole_worlds.specs.Whole.{HaveSenders, IsWhole}
 use Rattle.whole_worlds.specs.Laws.{StoreKeepsWhole}

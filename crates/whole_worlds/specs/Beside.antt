@@ -9,13 +9,13 @@ use Rattle.usb_base.specs.declared.endpoints.EpName.{EpName}
 use Rattle.driver_rows.specs.declared.rows.DriverRow.TheVariants as rows
 use Rattle.driver_rows.specs.DriverContent.{DriverContent}
 use Rattle.driver_rows.specs.Rows.{driver_row}
-use Rattle.chained_transfers.specs.AsynchronousTurns.{AsynchronousTakesTurns}
-use Rattle.lent_structures.specs.Structures.{StructureSets}
-use Rattle.harvest_laws.specs.Told.{ToldStands}
-use Rattle.leaving_drivers.specs.Before.{IsAsBefore, NearFewer}
+use Rattle.driver_laws.specs.chained_transfers.AsynchronousTurns.{AsynchronousTakesTurns}
+use Rattle.ring_laws.specs.lent_structures.Structures.{StructureSets}
+use Rattle.driven_queues.specs.harvest_laws.Told.{ToldStands}
+use Rattle.driven_queues.specs.leaving_drivers.Before.{IsAsBefore, NearFewer}
 use Rattle.bus_world.specs.World.{World, driver_parts, driver_next, commanded}
 use Rattle.stream_worlds.specs.Streaming.{Standing}
-use Rattle.standing_fronts.specs.Tails.{TailsStand}
+use Rattle.walked_queues.specs.standing_fronts.Tails.{TailsStand}
 
 pub record IsTold (s : Standing) (w : World) : Type 0 where
   pub tails : TailsStand w.driver s.parts s.order s.out

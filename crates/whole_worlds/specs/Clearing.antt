@@ -7,12 +7,12 @@ use Rattle.usb_bus.specs.Bus.{Fixed}
 use Rattle.driver_rows.specs.declared.rows.DriverRow.TheVariants as rows
 use Rattle.driver_rows.specs.DriverContent.{DriverContent}
 use Rattle.driver_rows.specs.Rows.{driver_row}
-use Rattle.open_laws.specs.Opens.{AreNamesApart}
-use Rattle.reached_rings.specs.Reaching.{IsReachedIn}
-use Rattle.closed_streams.specs.Left.{heads_met, names_kept}
-use Rattle.narrowed_streams.specs.Narrowed.{left_names}
+use Rattle.driven_queues.specs.open_laws.Opens.{AreNamesApart}
+use Rattle.driven_queues.specs.reached_rings.Reaching.{IsReachedIn}
+use Rattle.stream_worlds.specs.closed_streams.Left.{heads_met, names_kept}
+use Rattle.told_streams.specs.narrowed_streams.Narrowed.{left_names}
 use Rattle.bus_world.specs.World.{World, driver_parts, driver_next}
-use Rattle.controlled_walks.specs.Worlds.{IsWalking}
+use Rattle.stream_worlds.specs.controlled_walks.Worlds.{IsWalking}
 use Rattle.stream_worlds.specs.Streaming.{Streams, Standing}
 use Rattle.whole_worlds.specs.Feeding.{IsFeeding}
 

@@ -22,26 +22,26 @@ use Rattle.driver_rows.specs.declared.content.Command.{Command}
 use Rattle.driver_rows.specs.declared.content.Command.TheVariants as unfinished
 use Rattle.driver_rows.specs.DriverContent.{DriverContent}
 use Rattle.driver_rows.specs.Words.{head_block, opening_head}
-use Rattle.lent_structures.specs.Structures.{StructureSets}
+use Rattle.ring_laws.specs.lent_structures.Structures.{StructureSets}
 use Rattle.ring_laws.specs.Hand.{Hand}
 use Rattle.ring_laws.specs.Told.{Endpoint as Told, endpoint_of}
 use Rattle.ring_laws.specs.Order.{bytes_of_effect}
 use Rattle.ring_laws.specs.Bus.{Sender}
 use Rattle.ring_laws.specs.Pipes.{grown}
-use Rattle.controlled_streams.specs.Control.{ControlEffect, a_microframe, a_step}
-use Rattle.controlled_streams.specs.Events.{ControlGoesOn}
-use Rattle.controlled_streams.specs.Reported.{AreReported}
+use Rattle.walked_queues.specs.controlled_streams.Control.{ControlEffect, a_microframe, a_step}
+use Rattle.walked_queues.specs.controlled_streams.Events.{ControlGoesOn}
+use Rattle.walked_queues.specs.controlled_streams.Reported.{AreReported}
 use Rattle.scripted_streams.specs.Senders.{sender_of}
 use Rattle.driver_laws.specs.PartOpened.{opening_base}
 use Rattle.bus_world.specs.World.{World, controller_parts, controller_next}
 use Rattle.stream_worlds.specs.Streaming.{Streams, Standing, wired, begins_by, transacts_by}
-use Rattle.shared_worlds.specs.Working.{IsWorking}
-use Rattle.controlled_streams.specs.Unopened.{AreUnopened}
-use Rattle.chained_transfers.specs.AsynchronousTurns.{AsynchronousTakesTurns}
-use Rattle.fed_lends.specs.Commands.{QueuesStand}
-use Rattle.endpoint_lives.specs.Lives.{any_at}
+use Rattle.told_streams.specs.shared_worlds.Working.{IsWorking}
+use Rattle.walked_queues.specs.controlled_streams.Unopened.{AreUnopened}
+use Rattle.driver_laws.specs.chained_transfers.AsynchronousTurns.{AsynchronousTakesTurns}
+use Rattle.walked_queues.specs.fed_lends.Commands.{QueuesStand}
+use Rattle.driver_laws.specs.endpoint_lives.Lives.{any_at}
 use Rattle.report_streams.specs.Streams.{has_stream}
-use Rattle.control_queues.specs.Controls.{ControlsStand}
+use Rattle.stream_worlds.specs.control_queues.Controls.{ControlsStand}
 
 abbrev pub left_of : Option Sender → List (List ℕ)
 left_of None = []

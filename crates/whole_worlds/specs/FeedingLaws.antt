@@ -21,9 +21,9 @@ use Rattle.driver_laws.specs.PartOpened.{is_head}
 use Rattle.bus_world.specs.World.{World, driver_parts, driver_next, commanded}
 use Rattle.bus_world.specs.Opening.{opening_world}
 use Rattle.stream_worlds.specs.Streaming.{Streams, Standing, HearsBytesNow}
-use Rattle.shared_worlds.specs.Working.{at_opening}
-use Rattle.chained_transfers.specs.Asynchronous.{OpensAsynchronous}
-use Rattle.standing_fronts.specs.Tails.{TailsStand}
+use Rattle.told_streams.specs.shared_worlds.Working.{at_opening}
+use Rattle.driver_laws.specs.chained_transfers.Asynchronous.{OpensAsynchronous}
+use Rattle.walked_queues.specs.standing_fronts.Tails.{TailsStand}
 use Rattle.whole_worlds.specs.Feeding.{streams_of, IsFeeding, GoesOnBeside, GoesOnAs}
 
 abbrev pub NewWorldFeeds : Type 0

@@ -4,7 +4,7 @@
 --                             none of its stalled requests
 --     HarvestFeeds            the law
 use Rattle.std.specs.Prelude.{◌≡◌, ℕ, ◌*◌, Bool, List, [], slice_get, Some, None}
-use Rattle.lent_structures.specs.Structures.{StructureSets}
+use Rattle.ring_laws.specs.lent_structures.Structures.{StructureSets}
 use Rattle.ring_laws.specs.Hand.{Hand}
 use Rattle.ring_laws.specs.Told.{Told}
 use Rattle.usb_bus.specs.Bus.{Fixed}
@@ -13,14 +13,14 @@ use Rattle.driver_rows.specs.declared.rows.DriverRow.TheVariants as rows
 use Rattle.driver_rows.specs.declared.rows.Found.{Found}
 use Rattle.driver_rows.specs.DriverContent.{DriverContent}
 use Rattle.driver_rows.specs.Rows.{driver_row}
-use Rattle.run_owners.specs.Owners.{note_in}
-use Rattle.chained_transfers.specs.Turns.{AreInTurn}
-use Rattle.fed_queues.specs.Places.{AreStillOut, IsMet}
-use Rattle.released_queues.specs.Fronts.{FrontsStand}
-use Rattle.harvest_laws.specs.Outs.{IsOutEarlier}
+use Rattle.driver_laws.specs.run_owners.Owners.{note_in}
+use Rattle.driver_laws.specs.chained_transfers.Turns.{AreInTurn}
+use Rattle.driver_laws.specs.fed_queues.Places.{AreStillOut, IsMet}
+use Rattle.walked_queues.specs.released_queues.Fronts.{FrontsStand}
+use Rattle.driven_queues.specs.harvest_laws.Outs.{IsOutEarlier}
 use Rattle.bus_world.specs.World.{World, driver_parts, driver_next}
 use Rattle.stream_worlds.specs.Streaming.{Streams, Standing}
-use Rattle.harvest_laws.specs.Told.{ToldStands}
+use Rattle.driven_queues.specs.harvest_laws.Told.{ToldStands}
 use Rattle.whole_worlds.specs.Feeding.{IsFeeding}
 
 abbrev pub PassedAreUntold : Type 0

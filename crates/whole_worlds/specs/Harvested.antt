@@ -2,7 +2,7 @@
 use Rattle.word_mem.specs.Memory.{fresh}
 use Rattle.driver_rows.specs.Opening.{opening_registers}
 use Rattle.driver_rows.specs.Rows.{Parts}
-use Rattle.run_owners.specs.Worked.{busy_driver}
+use Rattle.driver_laws.specs.run_owners.Worked.{busy_driver}
 
 abbrev pub at_harvest : Parts
 at_harvest = record { driver = busy_driver; registers = opening_registers; memory = fresh 8 }

@@ -2,7 +2,7 @@
 --     both_streams     before Async Advance is cleared
 --     one_stream       .. and then
 use Rattle.std.specs.Prelude.{[], true}
-use Rattle.narrowed_streams.specs.Samples.{after, narrow, streams, ends}
+use Rattle.told_streams.specs.narrowed_streams.Samples.{after, narrow, streams, ends}
 use Rattle.stream_worlds.specs.Streaming.{Streams}
 use Rattle.whole_worlds.specs.Clearing.{narrowed_to}
 

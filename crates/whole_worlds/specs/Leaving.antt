@@ -10,9 +10,9 @@ use Rattle.driver_rows.specs.declared.content.Command.TheVariants as unfinished
 use Rattle.driver_rows.specs.DriverContent.{DriverContent}
 use Rattle.bus_world.specs.World.{World, driver_next}
 use Rattle.stream_worlds.specs.Streaming.{Streams, Standing}
-use Rattle.unlinked_streams.specs.Unlinks.{IsAtUnlink, parts_unlinked, hand_unlinked}
-use Rattle.harvest_laws.specs.Told.{ToldStands}
-use Rattle.left_queues.specs.Standing.{IdleTailsStand}
+use Rattle.stream_worlds.specs.unlinked_streams.Unlinks.{IsAtUnlink, parts_unlinked, hand_unlinked}
+use Rattle.driven_queues.specs.harvest_laws.Told.{ToldStands}
+use Rattle.stream_worlds.specs.left_queues.Standing.{IdleTailsStand}
 use Rattle.whole_worlds.specs.Feeding.{IsFeeding}
 
 abbrev pub UnlinkFinds : Type 0

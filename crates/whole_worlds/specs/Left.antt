@@ -9,16 +9,16 @@ use Rattle.std.specs.Prelude.{◌≡◌, ℕ, Bool, false, List, slice_get, Some
 use Rattle.usb_bus.specs.Bus.{Fixed}
 use Rattle.driver_rows.specs.declared.content.Endpoint.{Endpoint}
 use Rattle.driver_rows.specs.DriverContent.{DriverContent}
-use Rattle.endpoint_lives.specs.Lives.{may_meet}
-use Rattle.chained_transfers.specs.Bulk.{receives}
-use Rattle.leaving_drivers.specs.Owed.{AreOwedMet}
-use Rattle.closed_streams.specs.Left.{names_kept}
-use Rattle.narrowed_streams.specs.Narrowed.{left_names}
-use Rattle.controlled_walks.specs.Worlds.{IsWalking}
-use Rattle.scripted_takers.specs.Takers.{taker_of}
-use Rattle.declared_controls.specs.Names.{IsNameOf}
-use Rattle.right_worlds.specs.Right.{ClosedIns}
-use Rattle.taken_reports.specs.Worlds.{ClosedOuts}
+use Rattle.driver_laws.specs.endpoint_lives.Lives.{may_meet}
+use Rattle.driver_laws.specs.chained_transfers.Bulk.{receives}
+use Rattle.driven_queues.specs.leaving_drivers.Owed.{AreOwedMet}
+use Rattle.stream_worlds.specs.closed_streams.Left.{names_kept}
+use Rattle.told_streams.specs.narrowed_streams.Narrowed.{left_names}
+use Rattle.stream_worlds.specs.controlled_walks.Worlds.{IsWalking}
+use Rattle.scripted_streams.specs.scripted_takers.Takers.{taker_of}
+use Rattle.declared_endpoints.specs.declared_controls.Names.{IsNameOf}
+use Rattle.told_streams.specs.right_worlds.Right.{ClosedIns}
+use Rattle.told_streams.specs.taken_reports.Worlds.{ClosedOuts}
 use Rattle.bus_world.specs.World.{World}
 use Rattle.stream_worlds.specs.Streaming.{Streams, Standing, wired}
 use Rattle.whole_worlds.specs.Feeding.{GoesOnBeside, bytes_of_event, acc_after}

@@ -15,18 +15,18 @@ use Rattle.usb_bus.specs.Bus.{Fixed, fixed_of}
 use Rattle.driver_rows.specs.Offers.{IsOffered}
 use Rattle.driver_rows.specs.declared.rows.DriverRow.TheVariants as rows
 use Rattle.driver_rows.specs.Rows.{driver_row}
-use Rattle.chained_transfers.specs.Asynchronous.{OpensAsynchronous}
-use Rattle.walk_members.specs.Reached.{OpensNumbered}
-use Rattle.leaving_drivers.specs.Told.{AreNamedOnce}
-use Rattle.reached_rings.specs.Reaching.{IsReachedIn}
-use Rattle.open_laws.specs.Opens.{AreNamesApart}
-use Rattle.harvest_laws.specs.Told.{ToldStands}
+use Rattle.driver_laws.specs.chained_transfers.Asynchronous.{OpensAsynchronous}
+use Rattle.driver_laws.specs.walk_members.Reached.{OpensNumbered}
+use Rattle.driven_queues.specs.leaving_drivers.Told.{AreNamedOnce}
+use Rattle.driven_queues.specs.reached_rings.Reaching.{IsReachedIn}
+use Rattle.driven_queues.specs.open_laws.Opens.{AreNamesApart}
+use Rattle.driven_queues.specs.harvest_laws.Told.{ToldStands}
 use Rattle.bus_world.specs.World.{World, driver_parts, driver_next, controller_next, commanded}
 use Rattle.bus_world.specs.Opening.{opening_world}
 use Rattle.stream_worlds.specs.Streaming.{Streams, Standing, HearsBytesNow}
 use Rattle.stream_worlds.specs.Takers.{takes_of}
-use Rattle.declared_controls.specs.Names.{IsNameOf}
-use Rattle.shared_worlds.specs.Working.{at_opening}
+use Rattle.declared_endpoints.specs.declared_controls.Names.{IsNameOf}
+use Rattle.told_streams.specs.shared_worlds.Working.{at_opening}
 use Rattle.whole_worlds.specs.Feeding.{streams_of, IsFeeding, GoesOnBeside}
 use Rattle.whole_worlds.specs.Taking.{IsTaking}
 use Rattle.whole_worlds.specs.Left.{IsLeft, taking_of, after_event}

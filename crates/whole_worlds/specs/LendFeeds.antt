@@ -5,17 +5,17 @@ use Rattle.std.specs.Prelude.{◌≡◌, ℕ, ◌*◌, Bool, List, slice_get, So
 use Rattle.usb_bus.specs.Bus.{Fixed}
 use Rattle.qh_qtd.specs.declared.qtd.Qtd.{Qtd}
 use Rattle.driver_rows.specs.declared.content.Endpoint.{Endpoint}
-use Rattle.run_owners.specs.Owners.{views_of}
-use Rattle.lent_structures.specs.Structures.{Structure, Element, StructureSets}
-use Rattle.lent_structures.specs.Sound.{IsElement}
+use Rattle.driver_laws.specs.run_owners.Owners.{views_of}
+use Rattle.ring_laws.specs.lent_structures.Structures.{Structure, Element, StructureSets}
+use Rattle.ring_laws.specs.lent_structures.Sound.{IsElement}
 use Rattle.ring_laws.specs.Sparing.{SparesHead, SparesElement}
 use Rattle.driver_laws.specs.Extents.{AreInRuns}
 use Rattle.bus_world.specs.World.{World, driver_next}
 use Rattle.stream_worlds.specs.Streaming.{Streams, Standing}
-use Rattle.released_queues.specs.Fronts.{FrontsStand}
-use Rattle.standing_fronts.specs.Reaching.{Reaches}
-use Rattle.fed_lends.specs.ToLend.{IsToBeLent, lent_now}
-use Rattle.lent_fronts.specs.Whole.{IsLentBehind}
+use Rattle.walked_queues.specs.released_queues.Fronts.{FrontsStand}
+use Rattle.walked_queues.specs.standing_fronts.Reaching.{Reaches}
+use Rattle.walked_queues.specs.fed_lends.ToLend.{IsToBeLent, lent_now}
+use Rattle.driven_queues.specs.lent_fronts.Whole.{IsLentBehind}
 use Rattle.whole_worlds.specs.Feeding.{IsFeeding}
 
 pub record LendsTransfer (fixed : Fixed) (member : ℕ → Bool) (x : Streams) (s : Standing) (w : World) : Type 0 where

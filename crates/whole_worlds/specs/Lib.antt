@@ -21,3 +21,4 @@ pub mod Whole
 pub mod Laws
 pub mod Harvested
 pub mod Moments
+pub mod sending_worlds

@@ -7,10 +7,10 @@ use Rattle.driver_rows.specs.DriverContent.{DriverContent}
 use Rattle.driver_rows.specs.Offers.{new_endpoint}
 use Rattle.driver_rows.specs.Opening.{opening}
 use Rattle.driver_rows.specs.Words.{queue_head}
-use Rattle.run_owners.specs.Owners.{runs_of_endpoint}
-use Rattle.run_owners.specs.Worked.{bulk}
-use Rattle.lent_structures.specs.StructureSamples.{nothing}
-use Rattle.lent_structures.specs.Structures.{StructureSets}
+use Rattle.driver_laws.specs.run_owners.Owners.{runs_of_endpoint}
+use Rattle.driver_laws.specs.run_owners.Worked.{bulk}
+use Rattle.ring_laws.specs.lent_structures.StructureSamples.{nothing}
+use Rattle.ring_laws.specs.lent_structures.Structures.{StructureSets}
 use Rattle.driver_laws.specs.LendOpened.{opened_parts}
 
 abbrev pub new_one : Endpoint

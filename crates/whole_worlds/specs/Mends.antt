@@ -10,9 +10,9 @@ use Rattle.usb_bus.specs.Bus.{Fixed}
 use Rattle.driver_rows.specs.declared.content.Mend.{Mend}
 use Rattle.driver_rows.specs.declared.rows.DriverRow.TheVariants as rows
 use Rattle.driver_rows.specs.Rows.{Parts as DriverParts, driver_row}
-use Rattle.harvest_laws.specs.Told.{ToldStands}
-use Rattle.mended_heads.specs.Mended.{IsAtMend, parts_then, hand_then}
-use Rattle.left_queues.specs.Standing.{IdleTailsStand}
+use Rattle.driven_queues.specs.harvest_laws.Told.{ToldStands}
+use Rattle.walked_queues.specs.mended_heads.Mended.{IsAtMend, parts_then, hand_then}
+use Rattle.stream_worlds.specs.left_queues.Standing.{IdleTailsStand}
 use Rattle.bus_world.specs.World.{World, driver_parts, driver_next}
 use Rattle.stream_worlds.specs.Streaming.{Streams, Standing}
 use Rattle.whole_worlds.specs.Feeding.{IsFeeding}

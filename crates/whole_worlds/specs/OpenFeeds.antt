@@ -7,8 +7,8 @@ use Rattle.usb_bus.specs.Bus.{Fixed}
 use Rattle.ring_laws.specs.Told.{Endpoint as Told}
 use Rattle.bus_world.specs.World.{World, driver_next}
 use Rattle.stream_worlds.specs.Streaming.{Streams, Standing}
-use Rattle.chained_transfers.specs.Bulk.{comes_in}
-use Rattle.open_laws.specs.Opens.{IsOpenLent, AreNamesApart}
+use Rattle.driver_laws.specs.chained_transfers.Bulk.{comes_in}
+use Rattle.driven_queues.specs.open_laws.Opens.{IsOpenLent, AreNamesApart}
 use Rattle.whole_worlds.specs.Feeding.{IsFeeding}
 
 pub record FeedsOneMore (fixed : Fixed) (x : Streams) (new : World) : Type 0 where

@@ -8,12 +8,12 @@ use Rattle.usb_bus.specs.Bus.{Fixed}
 use Rattle.driver_rows.specs.declared.content.Endpoint.{Endpoint}
 use Rattle.driver_rows.specs.declared.rows.DriverRow.TheVariants as rows
 use Rattle.driver_rows.specs.Rows.{driver_row}
-use Rattle.run_owners.specs.Owners.{views_of}
+use Rattle.driver_laws.specs.run_owners.Owners.{views_of}
 use Rattle.driver_laws.specs.Extents.{AreInRuns}
 use Rattle.bus_world.specs.World.{World, driver_parts, driver_next}
 use Rattle.stream_worlds.specs.Streaming.{Streams, Standing}
-use Rattle.endpoint_releases.specs.Released.{without_queue, HasLeaver}
-use Rattle.left_queues.specs.Standing.{IdleTailsStand}
+use Rattle.stream_worlds.specs.endpoint_releases.Released.{without_queue, HasLeaver}
+use Rattle.stream_worlds.specs.left_queues.Standing.{IdleTailsStand}
 use Rattle.whole_worlds.specs.Feeding.{IsFeeding}
 
 abbrev pub released : Standing → Endpoint → Standing

@@ -5,10 +5,10 @@ use Rattle.word_mem.specs.Memory.{Mem}
 use Rattle.driver_rows.specs.declared.content.Command.{Command}
 use Rattle.driver_rows.specs.declared.content.Command.TheVariants as unfinished
 use Rattle.driver_rows.specs.DriverContent.{DriverContent}
-use Rattle.lent_structures.specs.Structures.{StructureSets}
-use Rattle.fed_lends.specs.ToLend.{IsToBeLent}
-use Rattle.open_laws.specs.Lends.{IsOpenReady}
-use Rattle.open_laws.specs.Opens.{IsOpenLent}
+use Rattle.ring_laws.specs.lent_structures.Structures.{StructureSets}
+use Rattle.walked_queues.specs.fed_lends.ToLend.{IsToBeLent}
+use Rattle.driven_queues.specs.open_laws.Lends.{IsOpenReady}
+use Rattle.driven_queues.specs.open_laws.Opens.{IsOpenLent}
 
 abbrev pub IsUnderWay : DriverContent → Mem → (ℕ → Bool) → StructureSets → Option Command → Type 0
 IsUnderWay d m member parts (Some (unfinished.Open queue)) = IsOpenReady d m ⊎ IsOpenLent d member parts

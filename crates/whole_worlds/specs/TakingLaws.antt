@@ -6,11 +6,11 @@ use Rattle.std.specs.Prelude.{◌≡◌, ℕ, Bool}
 use Rattle.usb_bus.specs.Bus.{Fixed}
 use Rattle.driver_rows.specs.declared.rows.DriverRow.TheVariants as rows
 use Rattle.driver_rows.specs.Rows.{driver_row}
-use Rattle.unlinked_streams.specs.Unlinks.{IsAtUnlink}
-use Rattle.endpoint_releases.specs.Released.{HasLeaver}
-use Rattle.controlled_walks.specs.Worlds.{IsWalking}
-use Rattle.reached_rings.specs.Reaching.{IsReachedIn}
-use Rattle.open_laws.specs.Opens.{AreNamesApart}
+use Rattle.stream_worlds.specs.unlinked_streams.Unlinks.{IsAtUnlink}
+use Rattle.stream_worlds.specs.endpoint_releases.Released.{HasLeaver}
+use Rattle.stream_worlds.specs.controlled_walks.Worlds.{IsWalking}
+use Rattle.driven_queues.specs.reached_rings.Reaching.{IsReachedIn}
+use Rattle.driven_queues.specs.open_laws.Opens.{AreNamesApart}
 use Rattle.bus_world.specs.World.{World, driver_parts, driver_next}
 use Rattle.stream_worlds.specs.Streaming.{Streams, Standing}
 use Rattle.whole_worlds.specs.Feeding.{IsFeeding}

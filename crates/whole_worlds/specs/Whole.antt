@@ -9,20 +9,20 @@
 use Rattle.std.specs.Prelude.{◌≡◌, ℕ, ◌⊎◌, Bool, true, false, List, slice_get, Some}
 use Rattle.driver_rows.specs.declared.content.Endpoint.{Endpoint}
 use Rattle.driver_rows.specs.DriverContent.{DriverContent}
-use Rattle.run_owners.specs.Owners.{views_of}
+use Rattle.driver_laws.specs.run_owners.Owners.{views_of}
 use Rattle.ring_laws.specs.Told.{Endpoint as Told}
 use Rattle.driver_laws.specs.Extents.{AreInRuns}
-use Rattle.open_laws.specs.Opens.{AreNamesApart}
-use Rattle.harvest_laws.specs.Told.{ToldStands}
-use Rattle.byte_answers.specs.Bytes.{IsByteBus}
+use Rattle.driven_queues.specs.open_laws.Opens.{AreNamesApart}
+use Rattle.driven_queues.specs.harvest_laws.Told.{ToldStands}
+use Rattle.script_laws.specs.byte_answers.Bytes.{IsByteBus}
 use Rattle.usb_bus.specs.Bus.{Fixed}
 use Rattle.bus_world.specs.World.{World}
 use Rattle.stream_worlds.specs.Streaming.{Streams, Standing}
 use Rattle.whole_worlds.specs.Feeding.{AreControlsApart, IsFeeding}
 use Rattle.whole_worlds.specs.Taking.{IsTaking, HaveSides, HaveTakers}
-use Rattle.narrowed_streams.specs.Narrowed.{IsOnSide}
+use Rattle.told_streams.specs.narrowed_streams.Narrowed.{IsOnSide}
 use Rattle.whole_worlds.specs.Left.{IsLeft}
-use Rattle.standing_fronts.specs.Tails.{TailsStand}
+use Rattle.walked_queues.specs.standing_fronts.Tails.{TailsStand}
 use Rattle.whole_worlds.specs.Tails.{IsUnderWay}
 
 -- ---- names

@@ -1,16 +1,16 @@
 //! Worked rows, which the check computes.
 ghost use Rattle.std.specs.Prelude.{◌≡◌, [], Some, None, true, false, ◌==◌, ◌∷◌};
 ghost use Rattle.driver_rows.specs.declared.content.Command.TheVariants as unfinished;
-ghost use Rattle.chained_transfers.specs.Worked.{under_way};
+ghost use Rattle.driver_laws.specs.chained_transfers.Worked.{under_way};
 ghost use Rattle.whole_worlds.specs.Feeding.{heads_of, there_of, acc_after};
-ghost use Rattle.standing_fronts.specs.Tails.{tail_block, tail_of};
+ghost use Rattle.walked_queues.specs.standing_fronts.Tails.{tail_block, tail_of};
 ghost use Rattle.usb_base.specs.declared.packets.EpKind.TheVariants as kinds;
 ghost use Rattle.driver_rows.specs.Words.{queue_head};
-ghost use Rattle.run_owners.specs.Worked.{bulk};
+ghost use Rattle.driver_laws.specs.run_owners.Worked.{bulk};
 ghost use Rattle.ring_laws.specs.Told.{endpoint_of};
 ghost use Rattle.driver_laws.specs.PartOpened.{is_head};
 ghost use Rattle.driver_laws.specs.Linked.{with_member};
-ghost use Rattle.open_laws.specs.Opens.{IsOpenLent};
+ghost use Rattle.driven_queues.specs.open_laws.Opens.{IsOpenLent};
 ghost use Rattle.whole_worlds.specs.Linked.{new_one, lent_driver, lent_parts};
 
 /// The walk meets the head of the ring and one queue head more, which is an endpoint's: one of those whose bytes are counted, if it is no control endpoint's.

@@ -14,6 +14,7 @@
 //! - `left_events`, `kept`, `taking`: Such worlds of which some endpoints have left the ring, or were given back (EHCI 1.0, 4.8.2 and 4.10; USB 2.0, 5.8 and 8.6):
 //!   what was moved and told of bulk ones of these begins their packets, or what their devices took, along everything that happens; and both sides of the pipes
 //!   of OUT endpoints agree while endpoints leave.
+//! - `sending_worlds`: Worlds with OUT endpoints (EHCI 1.0, 4.8 and 4.10; USB 2.0, 5.8 and 8.6): what their report tells of puts, and what their devices took.
 //!
 //! The crate has no code of its own: each function is a law over the definitions of `bus_world`, and its body is empty. There is a module for each kind of
 //! event beside these.
@@ -37,6 +38,7 @@ pub mod openings;
 pub mod opens;
 pub mod releases;
 pub mod runs;
+pub mod sending_worlds;
 pub mod stores;
 pub mod taking;
 pub mod unlink_laws;

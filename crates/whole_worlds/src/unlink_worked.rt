@@ -3,9 +3,9 @@
 ghost use Rattle.std.specs.Prelude.{◌≡◌, ◌*◌, true, false};
 ghost use Rattle.driver_rows.specs.declared.rows.DriverRow.TheVariants as rows;
 ghost use Rattle.driver_rows.specs.Rows.{driver_row};
-ghost use Rattle.publish_laws.specs.Stores.{next_of};
-ghost use Rattle.unlinked_streams.specs.Samples.{cancelling};
-ghost use Rattle.left_queues.specs.Samples.{cleared_parts};
+ghost use Rattle.driven_queues.specs.publish_laws.Stores.{next_of};
+ghost use Rattle.stream_worlds.specs.unlinked_streams.Samples.{cancelling};
+ghost use Rattle.stream_worlds.specs.left_queues.Samples.{cleared_parts};
 ghost use Rattle.whole_worlds.specs.Feeding.{there_of};
 
 /// Before the store that unlinks the older and after it the queue heads of both are there, and no other.

@@ -1,6 +1,6 @@
 //! Worked rows, which the check computes.
 ghost use Rattle.std.specs.Prelude.{◌≡◌, [], Some, true, false, ◌∷◌};
-ghost use Rattle.standing_fronts.specs.Tails.{tail_block};
+ghost use Rattle.walked_queues.specs.standing_fronts.Tails.{tail_block};
 ghost use Rattle.usb_base.specs.declared.reports.What.TheVariants as lines;
 ghost use Rattle.driver_rows.specs.declared.rows.DriverRow.TheVariants as rows;
 ghost use Rattle.driver_rows.specs.declared.rows.Found.TheVariants as founds;
@@ -9,9 +9,9 @@ ghost use Rattle.driver_rows.specs.Rows.{after_driver_row, leaving_row};
 ghost use Rattle.whole_worlds.specs.Harvested.{at_harvest};
 ghost use Rattle.op_registers.specs.RegisterFile.{RegisterFile};
 ghost use Rattle.driver_laws.specs.Released.{goes_of};
-ghost use Rattle.run_owners.specs.Leaving.{owes};
-ghost use Rattle.run_owners.specs.Worked.{busy_driver, get_out};
-ghost use Rattle.opening_senders.specs.Own.{HasOwnDevices};
+ghost use Rattle.driver_laws.specs.run_owners.Leaving.{owes};
+ghost use Rattle.driver_laws.specs.run_owners.Worked.{busy_driver, get_out};
+ghost use Rattle.declared_endpoints.specs.opening_senders.Own.{HasOwnDevices};
 ghost use Rattle.whole_worlds.specs.Moments.{IsAsynchronousScript, IsWholeThroughout, InStreamsAreRightThroughout};
 ghost use Rattle.whole_worlds.specs.FeedingSamples.{one_get};
 

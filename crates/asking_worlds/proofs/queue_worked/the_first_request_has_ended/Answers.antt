@@ -1,4 +1,4 @@
-use Rattle.request_stores.proofs.Waiting.{has_ended}
+use Rattle.asking_worlds.proofs.lemmas.request_stores.Waiting.{has_ended}
 use Rattle.asking_worlds.proofs.SampledHalts.{first_of_both_ended}
 use Rattle.asking_worlds.proofs.queue_worked.the_first_request_has_ended.Goals as goal
 

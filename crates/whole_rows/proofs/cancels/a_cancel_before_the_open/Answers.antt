@@ -5,7 +5,7 @@ use Rattle.driver_rows.specs.Offers.{IsOffered}
 use Rattle.declared_endpoints.specs.Samples.{second}
 use Rattle.driver_laws.specs.PartOpened.{is_head}
 use Rattle.bus_world.specs.Opening.{opening_world}
-use Rattle.shared_worlds.specs.Working.{at_opening}
+use Rattle.told_streams.specs.shared_worlds.Working.{at_opening}
 use Rattle.whole_worlds.specs.FeedingSamples.{one_get}
 use Rattle.whole_worlds.specs.Feeding.{streams_of}
 use Rattle.whole_worlds.proofs.FeedingOpening.{new_world_feeds}

@@ -1,5 +1,5 @@
 use Rattle.std.proofs.Common.{ap}
-use Rattle.small_receiver.proofs.Moments.{leaves, is_released}
+use Rattle.whole_rows.proofs.lemmas.small_receiver.Moments.{leaves, is_released}
 use Rattle.whole_worlds.specs.FeedingLaws.{is_still}
 use Rattle.whole_rows.proofs.Due.{cancel_unlinks}
 use Rattle.whole_rows.proofs.cancels.what_is_due_for_a_cancel.Goals as goal

@@ -1,5 +1,5 @@
 use Rattle.std.proofs.Common.{ap, arith}
-use Rattle.small_receiver.proofs.Moments.{a_get, its_end}
+use Rattle.whole_rows.proofs.lemmas.small_receiver.Moments.{a_get, its_end}
 use Rattle.whole_worlds.specs.FeedingLaws.{is_still}
 use Rattle.whole_rows.proofs.Due.{open_ready, open_lent, to_be_lent}
 use Rattle.whole_rows.proofs.worked.what_is_due.Goals as goal

@@ -1,5 +1,5 @@
 use Rattle.std.proofs.Common.{ap, arith}
-use Rattle.small_receiver.proofs.Moments.{a_put, is_sent}
+use Rattle.whole_rows.proofs.lemmas.small_receiver.Moments.{a_put, is_sent}
 use Rattle.whole_worlds.specs.FeedingLaws.{is_still}
 use Rattle.whole_rows.proofs.Due.{put_ready, put_lent, put_to_be_lent}
 use Rattle.whole_rows.proofs.worked.what_is_due_for_a_put.Goals as goal

@@ -1,5 +1,0 @@
-use Rattle.chained_transfers.proofs.Commands.{command_nothing}
-use Rattle.chained_transfers.proofs.leaving.nothing_is_taken_away.Goals as goal
-
-pub returns : goal.returns
-returns c = λ d m cmd o stands owners old none only is. command_nothing d m cmd o old.bulk none only is

@@ -1,5 +1,0 @@
-use Rattle.closed_streams.proofs.Closing.{unopened_still, close_unopened, close_untaken}
-use Rattle.closed_streams.proofs.laws.the_unopened_wait.Goals as goal
-
-pub returns : goal.returns
-returns g c = record { still = unopened_still; unopened = close_unopened; untaken = close_untaken }

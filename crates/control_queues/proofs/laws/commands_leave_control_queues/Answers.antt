@@ -1,5 +1,0 @@
-use Rattle.control_queues.proofs.Beside.{same_keep_controls, commands_keep_controls, silent_keeps_controls}
-use Rattle.control_queues.proofs.laws.commands_leave_control_queues.Goals as goal
-
-pub returns : goal.returns
-returns c = record { same = same_keep_controls; commands = commands_keep_controls; silent = silent_keeps_controls }

@@ -1,0 +1,10 @@
+pub mod leaving_drivers
+pub mod harvest_laws
+pub mod publish_laws
+pub mod whole_sends
+pub mod fed_harvests
+pub mod stalled_fronts
+pub mod lent_fronts
+pub mod fed_events
+pub mod open_laws
+pub mod reached_rings

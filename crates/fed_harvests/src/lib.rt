@@ -1,7 +1,0 @@
-//! Harvests and other rows of a driver that store no word leave what is fed of each endpoint's queue (EHCI 1.0, 4.10).
-//!
-//! The crate has no code of its own: each function is a law over the definitions of `fed_queues`, and its body is empty.
-#![tactic(auto)]
-
-pub mod laws;
-pub mod worked;

@@ -1,0 +1,12 @@
+pub mod frame_words
+pub mod list_words
+pub mod planned_endpoints
+pub mod iso_frames
+pub mod list_stands
+pub mod list_closed
+pub mod list_stores
+pub mod list_steps
+pub mod frame_control
+pub mod frame_stores
+pub mod list_rows
+pub mod queued_drivers

@@ -1,5 +1,0 @@
-use Rattle.framed_fronts.proofs.SampledSplits.{misses_so, halts_so}
-use Rattle.framed_fronts.proofs.split_worked.a_missed_split_halts_the_queue.Goals as goal
-
-pub returns : goal.returns
-returns c = record { effect = misses_so; halts = halts_so }

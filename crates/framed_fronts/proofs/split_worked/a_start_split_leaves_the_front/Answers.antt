@@ -1,5 +1,0 @@
-use Rattle.framed_fronts.proofs.SampledSplits.{starts_so, front_stays}
-use Rattle.framed_fronts.proofs.split_worked.a_start_split_leaves_the_front.Goals as goal
-
-pub returns : goal.returns
-returns c = record { effect = starts_so; front = front_stays }

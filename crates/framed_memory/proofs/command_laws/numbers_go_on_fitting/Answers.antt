@@ -1,5 +1,0 @@
-use Rattle.framed_memory.proofs.Numbering.{new_numbered, event_numbered, command_numbered}
-use Rattle.framed_memory.proofs.command_laws.numbers_go_on_fitting.Goals as goal
-
-pub returns : goal.returns
-returns c = record { opening = new_numbered; events = event_numbered; commands = command_numbered }

@@ -1,4 +1,0 @@
-use Rattle.iso_budget.proofs.worked.no_visits.Goals as goal
-
-pub returns : goal.returns
-returns c = λ n room f. record { queues = tt; interrupts = tt; descriptors = tt; different = tt }

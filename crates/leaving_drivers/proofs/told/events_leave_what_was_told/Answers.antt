@@ -1,8 +1,0 @@
-use Rattle.leaving_drivers.proofs.Telling.{events_leave, events_only}
-use Rattle.leaving_drivers.proofs.told.events_leave_what_was_told.Goals as goal
-
-pub returns-clause-leave : goal.returns-clause-leave
-returns-clause-leave c = events_leave
-
-pub returns-clause-only : goal.returns-clause-only
-returns-clause-only c = events_only

@@ -1,6 +1,0 @@
-use Rattle.std.proofs.Common.{refl}
-use Rattle.left_puts.proofs.Sampled.{release_rest}
-use Rattle.left_puts.proofs.worked.an_endpoint_given_back.Goals as goal
-
-pub returns : goal.returns
-returns g = record { leaves = record { here = refl; queued = refl; held = refl; first = refl; none_before = refl }; rest = release_rest; first = refl; second = refl }

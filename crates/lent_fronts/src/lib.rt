@@ -1,6 +1,0 @@
-//! The lend of a transfer leaves the front of each queue, and all that was told of its structures (EHCI 1.0, 3.5 and 4.10.2).
-//!
-//! The crate has no code of its own: each function is a law over the definitions of `fed_lends`, and its body is empty.
-#![tactic(auto)]
-
-pub mod laws;

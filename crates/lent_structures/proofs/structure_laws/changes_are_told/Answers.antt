@@ -1,5 +1,0 @@
-use Rattle.lent_structures.proofs.Telling.{told_still, changed, added, joined, removed}
-use Rattle.lent_structures.proofs.structure_laws.changes_are_told.Goals as goal
-
-pub returns : goal.returns
-returns c = record { rest = told_still; change = changed; new = added; another = joined; fewer = removed }

@@ -1,0 +1,17 @@
+pub mod ordered_list
+pub mod released_blocks
+pub mod due_frames
+pub mod list_aside
+pub mod list_commands
+pub mod framed_fronts
+pub mod frame_keeps
+pub mod kept_frames
+pub mod queue_events
+pub mod worlds_keep_to_lent
+pub mod owned_blocks
+pub mod world_frames
+pub mod list_opens
+pub mod list_queued
+pub mod descriptor_links
+pub mod list_driver
+pub mod list_beside

@@ -1,5 +1,0 @@
-use Rattle.mended_heads.proofs.Standing.{walk_keeps, words_stay}
-use Rattle.mended_heads.proofs.laws.the_controller_leaves_what_is_owed.Goals as goal
-
-pub returns : goal.returns
-returns g c = record { stands = walk_keeps g.W.Wire.transacts; words = words_stay g.W.Wire.transacts }

@@ -1,0 +1,2 @@
+pub mod running_worlds
+pub mod framed_memory

@@ -1,5 +1,0 @@
-use Rattle.open_laws.proofs.Streams.{open_pipes, open_reports}
-use Rattle.open_laws.proofs.store_laws.an_open_begins_a_stream.Goals as goal
-
-pub returns : goal.returns
-returns g c = record { pipes = open_pipes; reports = open_reports }

@@ -1,5 +1,0 @@
-use Rattle.put_laws.proofs.Events.{new_driver_sends, event_sends}
-use Rattle.put_laws.proofs.sent_laws.the_controller_sends_whole.Goals as goal
-
-pub returns : goal.returns
-returns g c = record { new = new_driver_sends; event = event_sends g.W.Wire.begins g.W.Wire.transacts }

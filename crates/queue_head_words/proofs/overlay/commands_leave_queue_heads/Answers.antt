@@ -1,6 +1,0 @@
-use Rattle.run_owners.proofs.Commands.{accepted_for_a_reason}
-use Rattle.queue_head_words.proofs.Offering.{accepted_leaves}
-use Rattle.queue_head_words.proofs.overlay.commands_leave_queue_heads.Goals as goal
-
-pub returns : goal.returns
-returns c = λ d m cmd o is b i stands has there small. accepted_leaves d m o b i (accepted_for_a_reason d m cmd o is) stands has there small

@@ -1,5 +1,0 @@
-use Rattle.released_queues.proofs.Releasing.{release_feeds, release_keeps_met}
-use Rattle.released_queues.proofs.laws.a_release_leaves_queues_fed.Goals as goal
-
-pub returns : goal.returns
-returns c = record { feeds = release_feeds; met = release_keeps_met }

@@ -1,7 +1,0 @@
-//! The blocks of a transfer that was harvested are given back, while the controller walks the ring and the frames (EHCI 1.0, 4.6 and 4.10).
-//!
-//! The crate has no code of its own: each function is a law over the definitions of `fed_queues`, and its body is empty.
-#![tactic(auto)]
-
-pub mod laws;
-pub mod worked;

@@ -1,5 +1,0 @@
-use Rattle.request_stores.proofs.Asking.{more_lent, second_next, both_laid}
-use Rattle.request_stores.proofs.worked.another_is_published_there.Goals as goal
-
-pub returns : goal.returns
-returns c = record { lend = more_lent; next = second_next; laid = both_laid }

@@ -1,0 +1,2 @@
+pub mod lent_structures
+pub mod walk_writes

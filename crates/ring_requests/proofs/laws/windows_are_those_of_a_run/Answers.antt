@@ -1,5 +1,0 @@
-use Rattle.ring_requests.proofs.Runs.{run_begins, run_goes_on, run_windows, run_requests, run_counts}
-use Rattle.ring_requests.proofs.laws.windows_are_those_of_a_run.Goals as goal
-
-pub returns : goal.returns
-returns c = record { begins = run_begins; goes_on = run_goes_on; windows = run_windows; requests = run_requests; count = run_counts }

@@ -1,8 +1,0 @@
-use Rattle.told_requests.proofs.Moments.{moment_asked, moment_asks}
-use Rattle.told_requests.proofs.laws.requests_are_those_of_the_script.Goals as goal
-
-pub returns-clause-taken : goal.returns-clause-taken
-returns-clause-taken c = moment_asked
-
-pub returns-clause-asked : goal.returns-clause-asked
-returns-clause-asked c = moment_asks

@@ -1,0 +1,12 @@
+pub mod cancelled_bytes
+pub mod open_names
+pub mod right_reports
+pub mod right_worlds
+pub mod narrowed_streams
+pub mod left_reports
+pub mod shared_worlds
+pub mod declared_takers
+pub mod taken_reports
+pub mod receiving_runs
+pub mod put_laws
+pub mod left_puts

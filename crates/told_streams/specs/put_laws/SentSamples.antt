@@ -1,0 +1,30 @@
+-- Drivers for worked rows. Each has one endpoint, number 2 of device 5: its queue head in block 2, and its inactive qTD in block 9.
+--     one_endpoint way c     it has data go this way, and this command is unfinished
+--     left_second            the second qTD of its queue, done with a byte left
+use Rattle.std.specs.Prelude.{[], ◌∷◌, ◌++◌, Option}
+use Rattle.usb_base.specs.declared.packets.Way.{Way}
+use Rattle.qh_qtd.specs.Blank.{blank_token}
+use Rattle.qh_qtd.specs.declared.qtd.Qtd.{Qtd}
+use Rattle.driver_rows.specs.declared.content.Command.{Command}
+use Rattle.driver_rows.specs.DriverContent.{DriverContent}
+use Rattle.driver_rows.specs.Offers.{new_endpoint}
+use Rattle.driver_rows.specs.Opening.{opening}
+use Rattle.driver_laws.specs.run_owners.Worked.{bulk}
+use Rattle.ring_laws.specs.lent_structures.Structures.{StructureSets}
+use Rattle.ring_laws.specs.Hand.{Empty}
+use Rattle.driven_queues.specs.whole_sends.Samples.{order, ahead, behind, second}
+use Rattle.told_streams.specs.put_laws.Sent.{SentStand}
+
+abbrev pub one_endpoint : Way → Option Command → DriverContent
+one_endpoint way c =
+    record (opening 2048 (record { endpoints = 4; transfers = 8; reports = 8; report_bytes = 4096 })).driver {
+      endpoints = new_endpoint (record bulk { name = record { addr = 5; num = 2; way = way } }) 2 9 ∷ [];
+      command = c;
+    }
+
+abbrev pub left_second : Qtd
+left_second = record second { token = record blank_token { cerr = 3; total = 1 } }
+
+-- with the three qTDs out that the samples of whole_sends have
+abbrev pub Sends : DriverContent → StructureSets → Type 0
+Sends d parts = SentStand d (λ n. order) (λ n. ahead ++ behind) Empty parts

@@ -1,0 +1,11 @@
+pub mod told_endpoints
+pub mod controlled_streams
+pub mod mended_heads
+pub mod controller_writes
+pub mod shared_memory
+pub mod fed_lends
+pub mod released_queues
+pub mod standing_fronts
+pub mod commanded_queues
+pub mod idle_tails
+pub mod released_tails
