@@ -3,3 +3,4 @@ pub mod Answered
 pub mod Streams
 pub mod Memory
 pub mod Requests
+pub mod Visits

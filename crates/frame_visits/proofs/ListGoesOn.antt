@@ -1,0 +1,208 @@
+-- The visits go on with a store of the frame list: where a member comes by it, and where it goes on or leaves.
+use Rattle.std.proofs.Common.{◌≡◌, ◌≢◌, ℕ, ◌+◌, ◌*◌, ◌<◌, Bool, true, false, List, [], ◌∷◌, Option, Some, None, ⊎_elim, ap, refl, sym, subst, ◌∙◌, arith}
+use Rattle.std.specs.List.{AllByRecursion}
+use Rattle.std.proofs.lemmas.Bool.{false≢true}
+use Rattle.frame_chains.specs.declared.members.Member.{Member}
+use Rattle.frame_chains.specs.declared.members.Predecessor.TheVariants.{Element}
+use Rattle.frame_chains.specs.Chains.{Schedule, stands_in}
+use Rattle.frame_chains.proofs.Linking.{weaken}
+use Rattle.frame_members.specs.Members.{is_linked}
+use Rattle.periodic_list.specs.declared.work.Work.{Work}
+use Rattle.periodic_list.specs.declared.work.Store.{Store}
+use Rattle.periodic_list.specs.Periodic.{Periodic, address_of, after_store}
+use Rattle.driver_rows.specs.DriverContent.{DriverContent}
+use Rattle.link_words.specs.Links.{link_read}
+use Rattle.driver_laws.specs.PartOpened.{opening_base}
+use Rattle.ring_laws.specs.lent_structures.Structures.{StructureSets, Tells}
+use Rattle.frame_walk.specs.Met.{Kind}
+use Rattle.frame_walk.specs.FrameHand.{FrameHand}
+use Rattle.described_parts.specs.Both.{both}
+use Rattle.described_parts.specs.Meeting.{is_led, kind_of, standing, met}
+use Rattle.described_parts.specs.Growing.{led, led_in, IsLeftOut}
+use Rattle.described_parts.specs.Recent.{AreRecent}
+use Rattle.described_parts.specs.ListRows.{IsStoredIn}
+use Rattle.described_parts.proofs.Finding.{IsMemberAt}
+use Rattle.described_parts.proofs.Growing.{members_kept}
+use Rattle.bus_world.specs.World.{World, controller_parts, driver_next}
+use Rattle.mixed_worlds.specs.Mixed.{Standing, IsMixedAt}
+use Rattle.mixed_worlds.proofs.lemmas.framed_memory.Now.{begins_there}
+use Rattle.frame_visits.specs.Ranks.{name_of, next_of, begins}
+use Rattle.frame_visits.specs.Visited.{IsNext, WasVisited, VisitsGoOn, VisitsGoOnAt, frame_in}
+use Rattle.frame_visits.proofs.DriverGoesOn.{IsListSpread, IsMetStill, linked_stands, member_stands, met_still, standing_is_met, left_is_met, visited_still}
+use Rattle.frame_visits.proofs.LinkSteps.{ListStep, IsMetThere, name_away, same_ranked, first_ranked, still_kept, old_height, old_who, kept_then, height_then, who_then}
+use Rattle.frame_visits.proofs.ToldLinks.{HasOwn, own_met, table_apart, other_links, link_here}
+
+some_none : {X : Type 0} (a : Option X) (x : X) → a ≡ None → a ≡ Some x → ⊥
+some_none a x none some = cc
+
+module _ (s : Standing) (w : World) (k : IsMixedAt s w) (vs : List ℕ) (v : VisitsGoOnAt s w vs) (p : Periodic) (way : Work) (st : Store)
+    (step : ListStep w.memory (driver_next w).memory w.driver (driver_next w).driver p way st) (now : StructureSets) (frame_later : FrameHand)
+    (stored : IsStoredIn opening_base (both s.descs s.parts) s.frame st.at st.value now frame_later) (after : Tells (driver_next w).memory now) (later : ℕ → Option Kind)
+    (left_are : AreRecent (driver_next w).driver (driver_next w).registers.frame_index later) (gone : (n : ℕ) (kind : Kind) → v.visits.left n ≡ Some kind → IsMetThere later n)
+    (out : (x : Member) → is_linked (led w.driver) x ≡ true → IsLeftOut p way x → IsMetThere later (begins x)) where
+  abbrev d : DriverContent
+  d = w.driver
+
+  abbrev new : DriverContent
+  new = (driver_next w).driver
+
+  abbrev kept : ℕ → Bool
+  kept = v.visits.kept
+
+  abbrev frame : ℕ
+  frame = frame_in w.control.frame.index
+
+  abbrev parts : StructureSets
+  parts = both s.descs s.parts
+
+  told : Tells w.memory (both s.descs s.parts)
+  told = k.now.framed.runs.ring.tells
+
+  own_kept : (n : ℕ) → v.visits.kept n ≡ true → HasOwn (both s.descs s.parts) n
+  own_kept n on = let there = v.within n on in own_met (met w.driver s.recent) (both s.descs s.parts) n there.0 (k.now.framed.runs.members n there.0 there.1)
+
+  links : (n : ℕ) → v.visits.kept n ≡ true → n ≢ st.at → next_of (driver_next w).memory n ≡ next_of w.memory n
+  links n on differs = other_links w.memory (driver_next w).memory (both s.descs s.parts) now opening_base s.frame frame_later st.at st.value stored told after n (own_kept n on) differs
+
+  here : v.visits.kept st.at ≡ true → next_of (driver_next w).memory st.at ≡ name_of (link_read st.value)
+  here on = link_here w.memory (driver_next w).memory (both s.descs s.parts) now opening_base s.frame frame_later st.at st.value stored told after (own_kept st.at on)
+
+  in_list : (n i : ℕ) → HasOwn (both s.descs s.parts) n → i < 1024 → n ≡ address_of p.list (Element i) → ⊥
+  in_list n i own low at =
+      table_apart w.memory (both s.descs s.parts) opening_base n i told k.now.framed.runs.list own low
+      (at ∙ ap (λ (l : ℕ). 32 * l + 4 * i) step.list
+      ∙ ap (λ (b : ℕ). b + 4 * i) (sym (begins_there opening_base s.member s.recent s.descs s.parts s.hand s.frame (controller_parts w) w.driver k.now)))
+
+  beside : (i : ℕ) → i < 1024 → st.at ≡ address_of p.list (Element i) → v.visits.kept st.at ≡ true → ⊥
+  beside i low at on = in_list st.at i (own_kept st.at on) low at
+
+  -- ---- what was visited is met still
+
+  new_spread : IsListSpread (driver_next w).driver
+  new_spread = step.frames_then.spread
+
+  stood_on : (n : ℕ) (kind : Kind) → standing w.driver n ≡ Some kind → IsMetStill (driver_next w).driver later n
+  stood_on n kind is =
+      let x : IsMemberAt (led w.driver) n = member_stands w.driver n kind is in
+      ⊎_elim
+      (λ (still : is_linked (led_in (after_store p)) x.member ≡ true).
+      standing_is_met (driver_next w).driver later n
+      (record {
+        kind = kind_of (driver_next w).driver.periodic x.member;
+        is = ap (standing (driver_next w).driver) (sym x.begins)
+            ∙ linked_stands (driver_next w).driver x.member new_spread (ap (λ (t : Schedule). is_linked t x.member) step.after ∙ still);
+      }))
+      (λ (left : IsLeftOut p way x.member).
+      let there : IsMetThere later n = subst (IsMetThere later) x.begins (out x.member x.linked left) in
+      left_is_met (driver_next w).driver later n there.kind there.is)
+      (members_kept p way x.member step.under (ap (λ (t : Schedule). is_linked t x.member) step.before ∙ x.linked))
+
+  met_on : (n : ℕ) (kind : Kind) → met w.driver v.visits.left n ≡ Some kind → IsMetStill (driver_next w).driver later n
+  met_on n kind is =
+      met_still w.driver (driver_next w).driver v.visits.left later n kind is (stood_on n)
+      (λ kind gone_is. let there : IsMetThere later n = gone n kind gone_is in left_is_met (driver_next w).driver later n there.kind there.is)
+
+  -- ---- a member goes on to be linked, or leaves
+
+  pub store_goes_on : is_led way ≡ true → VisitsGoOn (driver_next w) vs
+  store_goes_on on = record {
+    left = later;
+    left_are = left_are;
+    kept = v.visits.kept;
+    height = v.visits.height;
+    who = v.visits.who;
+    ranked = same_ranked w.memory (driver_next w).memory w.driver (driver_next w).driver p way st step v.visits.kept v.visits.height v.visits.who v.visits.ranked links here beside on;
+    behind = record {
+      once = v.visits.behind.once;
+      were = weaken (WasVisited w.driver v.visits.left v.visits.who frame) (WasVisited (driver_next w).driver later v.visits.who frame)
+          (λ x was. visited_still w.driver (driver_next w).driver v.visits.left later v.visits.who frame x (met_on x) was) vs v.visits.behind.were;
+      next = v.visits.behind.next;
+    };
+  }
+
+  -- ---- a member comes
+
+  module _ (adds : way.removes ≡ false) (zero_made : way.made ≡ 0) (own : HasOwn (both s.descs s.parts) (begins way.member)) (unmet : met w.driver s.recent (begins way.member) ≡ None)
+      (unvisited : met w.driver v.visits.left (begins way.member) ≡ None) where
+    abbrev name : ℕ
+    name = begins way.member
+
+    fresh_by : (b : Bool) → v.visits.kept (begins way.member) ≡ b → b ≡ false
+    fresh_by false is = refl
+    fresh_by true is = let there = v.within (begins way.member) is in absurd (some_none (met w.driver s.recent (begins way.member)) there.0 unmet there.1)
+
+    fresh : v.visits.kept (begins way.member) ≡ false
+    fresh = fresh_by (v.visits.kept (begins way.member)) refl
+
+    away : begins way.member ≢ st.at
+    away same =
+        name_away w.memory (driver_next w).memory w.driver (driver_next w).driver p way st step (λ i low at. in_list (begins way.member) i own low (same ∙ at)) same
+
+    own_link : next_of (driver_next w).memory (begins way.member) ≡ next_of w.memory (begins way.member)
+    own_link = other_links w.memory (driver_next w).memory (both s.descs s.parts) now opening_base s.frame frame_later st.at st.value stored told after (begins way.member) own away
+
+    other_visited : (x : ℕ) → WasVisited w.driver v.visits.left v.visits.who frame x → x ≢ begins way.member
+    other_visited x was same = some_none (met w.driver v.visits.left (begins way.member)) was.kind unvisited (ap (met w.driver v.visits.left) (sym same) ∙ was.is_met)
+
+    other_kept : (x : ℕ) → v.visits.kept x ≡ true → x ≢ begins way.member
+    other_kept x on same = false≢true (sym fresh ∙ ap v.visits.kept (sym same) ∙ on)
+
+    abbrev kept_on : ℕ → Bool
+    kept_on =
+        kept_then w.memory (driver_next w).memory w.driver (driver_next w).driver p way st step v.visits.kept v.visits.height v.visits.who v.visits.ranked links here beside adds zero_made fresh own_link
+
+    abbrev height_on : ℕ → ℕ
+    height_on =
+        height_then w.memory (driver_next w).memory w.driver (driver_next w).driver p way st step v.visits.kept v.visits.height v.visits.who v.visits.ranked links here beside adds zero_made fresh own_link
+
+    abbrev who_on : ℕ → Member
+    who_on =
+        who_then w.memory (driver_next w).memory w.driver (driver_next w).driver p way st step v.visits.kept v.visits.height v.visits.who v.visits.ranked links here beside adds zero_made fresh own_link
+
+    keeps : (n : ℕ) → v.visits.kept n ≡ true → kept_on n ≡ true
+    keeps =
+        still_kept w.memory (driver_next w).memory w.driver (driver_next w).driver p way st step v.visits.kept v.visits.height v.visits.who v.visits.ranked links here beside adds zero_made fresh own_link
+
+    heights : (n : ℕ) → n ≢ begins way.member → height_on n ≡ 2 * v.visits.height n
+    heights =
+        old_height w.memory (driver_next w).memory w.driver (driver_next w).driver p way st step v.visits.kept v.visits.height v.visits.who v.visits.ranked links here beside adds zero_made fresh own_link
+
+    whos : (n : ℕ) → n ≢ begins way.member → who_on n ≡ v.visits.who n
+    whos =
+        old_who w.memory (driver_next w).memory w.driver (driver_next w).driver p way st step v.visits.kept v.visits.height v.visits.who v.visits.ranked links here beside adds zero_made fresh own_link
+
+    below_on : (j : ℕ) (us : List ℕ) → v.visits.kept j ≡ true → AllByRecursion (WasVisited w.driver v.visits.left v.visits.who frame) us → AllByRecursion (λ x. v.visits.height j < v.visits.height x) us
+        → AllByRecursion (λ x. height_on j < height_on x) us
+    below_on j [] on were below = tt
+    below_on j (x ∷ xs) on were below =
+        (twice (height_on j) (height_on x) (v.visits.height j) (v.visits.height x) (heights j (other_kept j on)) (heights x (other_visited x were.0)) below.0, below_on j xs on were.1 below.1)
+      where
+        twice : (a b c e : ℕ) → a ≡ 2 * c → b ≡ 2 * e → c < e → a < b
+        twice a b c e one two less = omega (arith, one, two, less)
+
+    visited_on : (x : ℕ) → WasVisited w.driver v.visits.left v.visits.who frame x → WasVisited (driver_next w).driver later who_on frame x
+    visited_on x was =
+        let still : IsMetStill (driver_next w).driver later x = met_on x was.kind was.is_met in
+        let same : who_on x ≡ v.visits.who x = whos x (other_visited x was) in
+        record { kind = still.kind; is_met = still.is; named = ap begins same ∙ was.named; stands = ap (stands_in frame) same ∙ was.stands }
+
+    pub member_comes : VisitsGoOn (driver_next w) vs
+    member_comes = record {
+      left = later;
+      left_are = left_are;
+      kept = kept_on;
+      height = height_on;
+      who = who_on;
+      ranked = first_ranked w.memory (driver_next w).memory w.driver (driver_next w).driver p way st step v.visits.kept v.visits.height v.visits.who v.visits.ranked links here beside adds zero_made fresh own_link;
+      behind = record {
+        once = v.visits.behind.once;
+        were = weaken (WasVisited w.driver v.visits.left v.visits.who frame) (WasVisited (driver_next w).driver later who_on frame) visited_on vs v.visits.behind.were;
+        next = λ j part is.
+            (let n : IsNext v.visits.kept v.visits.height v.visits.who frame vs j = v.visits.behind.next j part is in
+            record {
+              is_kept = keeps j n.is_kept;
+              stands = ap (stands_in frame) (whos j (other_kept j n.is_kept)) ∙ n.stands;
+              below = below_on j vs n.is_kept v.visits.behind.were n.below;
+            });
+      };
+    }

@@ -1,0 +1,189 @@
+-- Each event of the controller goes on with the visits.
+use Rattle.std.proofs.Common.{◌≡◌, ℕ, ◌+◌, ◌*◌, ◌<◌, Bool, true, false, ◌&&◌, not, if◌then◌else◌, List, [], Option, Some, None, ap, refl, sym, subst, ◌∙◌, arith}
+use Rattle.usb_base.specs.declared.packets.Ask.{Ask}
+use Rattle.usb_base.specs.declared.packets.Reply.{Reply}
+use Rattle.word_mem.specs.Memory.{word_at}
+use Rattle.link_words.specs.Links.{link_read}
+use Rattle.frame_chains.specs.declared.members.Predecessor.TheVariants.{Element}
+use Rattle.frame_chains.specs.Chains.{stands_in}
+use Rattle.periodic_list.specs.Periodic.{address_of}
+use Rattle.op_registers.specs.RegisterFile.{RegisterFile}
+use Rattle.op_registers.specs.Events.{after_begin}
+use Rattle.periodic_walk.specs.Walk.{Walk as FrameWalk, is_over}
+use Rattle.hc_core.specs.declared.controller.MicroframePart.{MicroframePart}
+use Rattle.hc_core.specs.declared.controller.MicroframePart.TheVariants.{Over, Periodic, Asynchronous}
+use Rattle.hc_core.specs.declared.controller.ControllerRow.{ControllerRow}
+use Rattle.hc_core.specs.declared.controller.ControllerRow.TheVariants as rows
+use Rattle.hc_core.specs.Controller.{Content, part_row, enter_row, ring_row, element_address, entered, frame_place, walk_place, HasRow}
+use Rattle.driver_rows.specs.DriverContent.{DriverContent}
+use Rattle.driver_laws.specs.PartOpened.{opening_base}
+use Rattle.ring_laws.specs.lent_structures.Structures.{StructureSets}
+use Rattle.ring_laws.specs.Ring.{Base}
+use Rattle.frame_walk.specs.Met.{Kind}
+use Rattle.frame_walk.proofs.Walking.{event_happens}
+use Rattle.frame_laws.specs.frame_control.Both.{ControlsBoth}
+use Rattle.frame_laws.proofs.lemmas.frame_control.Running.{event_runs}
+use Rattle.list_laws.specs.frame_keeps.Leaving.{LeavesStructures}
+use Rattle.list_laws.proofs.lemmas.kept_frames.Both.{both_leave}
+use Rattle.described_parts.specs.Both.{both}
+use Rattle.described_parts.specs.Meeting.{met}
+use Rattle.described_parts.specs.Recent.{AreRecent}
+use Rattle.described_parts.specs.RowLaws.{HasFrames}
+use Rattle.usb_bus.specs.Bus.{Fixed}
+use Rattle.bus_world.specs.World.{World, controller_parts, controller_row, controller_next}
+use Rattle.stream_worlds.specs.Streaming.{begins_by, transacts_by, wired}
+use Rattle.stream_worlds.proofs.StreamTurning.{world_has_row}
+use Rattle.stream_worlds.proofs.lemmas.world_bytes.Hearing.{hears_bytes}
+use Rattle.mixed_worlds.specs.Mixed.{Standing, IsMixedAt}
+use Rattle.mixed_worlds.specs.framed_memory.Now.{recent_then}
+use Rattle.mixed_worlds.proofs.lemmas.framed_memory.Now.{has_frames, begins_there}
+use Rattle.mixed_worlds.proofs.lemmas.framed_memory.Index.{ring_index, frame_index}
+use Rattle.mixed_worlds.proofs.Controller.{controller_keeps_mixed}
+use Rattle.frame_visits.specs.Ranks.{name_of, next_of}
+use Rattle.frame_visits.specs.Visited.{visits_after, frame_in, IsNext, VisitsGoOn, VisitsGoOnAt}
+use Rattle.frame_visits.specs.VisitLaws.{ControllerKeepsVisiting}
+use Rattle.frame_visits.proofs.VisitLinks.{next_stays}
+use Rattle.frame_visits.proofs.VisitMeeting.{visits_meet_now}
+use Rattle.frame_visits.proofs.VisitElements.{LeadsToOne, element_stands}
+use Rattle.frame_visits.proofs.VisitStays.{ranked_stays}
+use Rattle.frame_visits.proofs.VisitWalking.{behind_next}
+
+-- ---- which part of a microframe it is
+
+no_enter : (b : Bool) → enter_row b ≡ rows.Begin → ⊥
+no_enter true is = cc
+no_enter false is = cc
+
+no_ring : (b : Bool) → ring_row b ≡ rows.Begin → ⊥
+no_ring true is = cc
+no_ring false is = cc
+
+no_frame : (goes async : Bool) → (if goes then rows.Frame else enter_row async) ≡ rows.Begin → ⊥
+no_frame true async is = cc
+no_frame false async is = no_enter async is
+
+not_idle : rows.Idle ≡ rows.Begin → ⊥
+not_idle is = cc
+
+part_over : (r : RegisterFile) (frame : FrameWalk) (part : MicroframePart) → part_row r frame part ≡ rows.Begin → part ≡ Over
+part_over r frame Over is = refl
+part_over r frame Periodic is = absurd (no_frame (r.periodic_enable && not (is_over frame)) r.async_enable is)
+part_over r frame Asynchronous is = absurd (no_ring r.async_enable is)
+
+begins_over : (runs : Bool) (r : RegisterFile) (frame : FrameWalk) (part : MicroframePart) → (if runs then part_row r frame part else rows.Idle) ≡ rows.Begin → part ≡ Over
+begins_over true r frame part is = part_over r frame part is
+begins_over false r frame part is = absurd (not_idle is)
+
+ring_no_frame : (b : Bool) → ring_row b ≡ rows.Frame → ⊥
+ring_no_frame true is = cc
+ring_no_frame false is = cc
+
+begin_no_frame : rows.Begin ≡ rows.Frame → ⊥
+begin_no_frame is = cc
+
+idle_no_frame : rows.Idle ≡ rows.Frame → ⊥
+idle_no_frame is = cc
+
+part_periodic : (r : RegisterFile) (frame : FrameWalk) (part : MicroframePart) → part_row r frame part ≡ rows.Frame → part ≡ Periodic
+part_periodic r frame Over is = absurd (begin_no_frame is)
+part_periodic r frame Periodic is = refl
+part_periodic r frame Asynchronous is = absurd (ring_no_frame r.async_enable is)
+
+frame_periodic : (runs : Bool) (r : RegisterFile) (frame : FrameWalk) (part : MicroframePart) → (if runs then part_row r frame part else rows.Idle) ≡ rows.Frame → part ≡ Periodic
+frame_periodic true r frame part is = part_periodic r frame part is
+frame_periodic false r frame part is = absurd (idle_no_frame is)
+
+none_some : (kind : Kind) → None ≡ Some kind → ⊥
+none_some kind e = cc
+
+in_list : (index : ℕ) → frame_in index < 1024
+in_list index = omega arith
+
+-- ---- what was unlinked
+
+module _ {W : Type 0} (begins_with : W → ℕ → Bool → W → Type 0) (transacts : W → Ask → List ℕ → Reply → W → Type 0) (d : DriverContent) (left : ℕ → Option Kind) (c : Content) (wire : W) (n : Content)
+    (after : W) (are : AreRecent d c.registers.frame_index left) where
+  still : n.registers.frame_index ≡ c.registers.frame_index → AreRecent d n.registers.frame_index left
+  still same k kind is = subst (λ (i : ℕ). AreRecent d i left) (sym same) are k kind is
+
+  left_next : (r : ControllerRow) → HasRow begins_with transacts r c wire n after → AreRecent d n.registers.frame_index (recent_then r left)
+  left_next rows.Idle row = still (ap (λ (x : Content). x.registers.frame_index) row.0)
+  left_next rows.Begin row = λ k kind is. absurd (none_some kind is)
+  left_next rows.Frame row = still (frame_index transacts (frame_place c) wire (frame_place n) after row.walked)
+  left_next rows.Enter row = still (ring_index transacts (walk_place (entered c)) wire (walk_place n) after row.walked)
+  left_next rows.Go row = still (ring_index transacts (walk_place c) wire (walk_place n) after row.walked)
+  left_next rows.End row = still (ap (λ (x : Content). x.registers.frame_index) row.0)
+
+-- ---- the world
+
+module _ (fixed : Fixed) (s : Standing) (w : World) (vs : List ℕ) (k : IsMixedAt s w) (g : VisitsGoOnAt s w vs) where
+  abbrev new : World
+  new = controller_next fixed w
+
+  abbrev all : StructureSets
+  all = both s.descs s.parts
+
+  frames : HasFrames w.memory w.driver
+  frames = has_frames opening_base s.member s.recent s.descs s.parts s.hand s.frame (controller_parts w) w.driver k.now
+
+  abbrev Events : Type 0
+  Events = ControlsBoth begins_by transacts_by opening_base s.member (met w.driver s.recent) (both s.descs s.parts) s.hand s.frame w.control (wired fixed w) (wired fixed (controller_next fixed w))
+      (controller_parts (controller_next fixed w))
+
+  event : Events
+  event =
+      event_runs begins_by transacts_by opening_base s.member (met w.driver s.recent) (both s.descs s.parts) s.hand s.frame (controller_parts w) (wired fixed w) (controller_parts (controller_next fixed w))
+      (wired fixed (controller_next fixed w)) (event_happens transacts_by (met w.driver s.recent) (both s.descs s.parts) s.frame) k.now.framed.runs
+      (record { run = k.now.framed.operating.run; async_enable = k.now.framed.operating.async_enable })
+      (hears_bytes fixed w k.bytes (wired fixed (controller_next fixed w))) (world_has_row fixed w)
+
+  leaves : LeavesStructures (both s.descs s.parts) w.memory (controller_next fixed w).memory
+  leaves =
+      both_leave begins_by transacts_by opening_base s.member (met w.driver s.recent) (both s.descs s.parts) s.hand s.frame (controller_parts w) (wired fixed w) (controller_parts (controller_next fixed w))
+      (wired fixed (controller_next fixed w)) k.now.framed.runs k.now.framed.aligned (world_has_row fixed w) event
+
+  link_stays : (n : ℕ) → g.visits.kept n ≡ true → next_of (controller_next fixed w).memory n ≡ next_of w.memory n
+  link_stays n on =
+      let here = g.within n on in
+      next_stays (met w.driver s.recent) w.memory (controller_next fixed w).memory (both s.descs s.parts) n here.0 leaves k.now.framed.runs.members here.1
+
+  base_is : (after_begin w.registers).periodic_list_base ≡ 32 * w.driver.periodic.list.list
+  base_is =
+      ap (λ (x : Base). x.periodic_list_base) k.now.framed.runs.ring.registers
+      ∙ begins_there opening_base s.member s.recent s.descs s.parts s.hand s.frame (controller_parts w) w.driver k.now
+
+  first : (to : ℕ) → name_of (link_read (word_at w.memory (element_address (after_begin w.registers)))) ≡ Some to
+      → IsNext g.visits.kept g.visits.height g.visits.who (frame_in (after_begin w.registers).frame_index) [] to
+  first to is =
+      let f : ℕ = frame_in (after_begin w.registers).frame_index in
+      let at : word_at w.memory (element_address (after_begin w.registers)) ≡ word_at w.memory (address_of w.driver.periodic.list.list (Element (frame_in (after_begin w.registers).frame_index)))
+      = ap (λ (a : ℕ). word_at w.memory (a + 4 * frame_in (after_begin w.registers).frame_index)) base_is in
+      let one : LeadsToOne w.driver (frame_in (after_begin w.registers).frame_index) to
+      = element_stands w.memory w.driver frames (frame_in (after_begin w.registers).frame_index) to (in_list (after_begin w.registers).frame_index)
+      (ap (λ (x : ℕ). name_of (link_read x)) (sym at) ∙ is) in
+      let who_is : g.visits.who to ≡ one.member = ap g.visits.who (sym one.at) ∙ g.visits.ranked.stand one.member one.linked in
+      record {
+        is_kept = g.visits.ranked.standing_are to one.kind one.standing_is;
+        stands = ap (stands_in (frame_in (after_begin w.registers).frame_index)) who_is ∙ one.stands;
+        below = tt;
+      }
+
+  visits_then : VisitsGoOn (controller_next fixed w) (visits_after (controller_row w) (controller_parts w) vs)
+  visits_then = record {
+    left = recent_then (controller_row w) g.visits.left;
+    left_are = left_next begins_by transacts_by w.driver g.visits.left (controller_parts w) (wired fixed w) (controller_parts (controller_next fixed w)) (wired fixed (controller_next fixed w))
+        g.visits.left_are (controller_row w) (world_has_row fixed w);
+    kept = g.visits.kept;
+    height = g.visits.height;
+    who = g.visits.who;
+    ranked = ranked_stays w.memory (controller_next fixed w).memory w.driver g.visits.kept g.visits.height g.visits.who frames link_stays g.visits.ranked;
+    behind = behind_next begins_by transacts_by w.driver g.visits.left g.visits.kept g.visits.height g.visits.who (controller_parts w) (wired fixed w) (controller_parts (controller_next fixed w))
+        (wired fixed (controller_next fixed w)) vs g.visits.ranked g.visits.behind g.left_within (controller_row w)
+        (λ is. begins_over w.registers.run w.registers w.control.frame w.control.part is) (λ is. frame_periodic w.registers.run w.registers w.control.frame w.control.part is) first (world_has_row fixed w);
+  }
+
+pub controller_keeps_visiting : ControllerKeepsVisiting
+controller_keeps_visiting fixed w vs h = record {
+  mixed = controller_keeps_mixed fixed w h.mixed;
+  visits = visits_then fixed h.mixed.standing w vs h.mixed.mixed (visits_meet_now h.mixed.standing w vs h.mixed.mixed h.visits);
+}

@@ -1,0 +1,17 @@
+-- Laws of the visits of the walk of the frames beside the driver (EHCI 1.0, 4.6, 4.7 and 4.12).
+--     EachRowKeepsVisiting     the visits go on with each event of the driver, whichever row it is
+--     CommandLeavesVisits      .. and with each command, accepted or refused
+use Rattle.std.specs.Prelude.{ℕ, List}
+use Rattle.usb_base.specs.declared.commands.Cmd.{Cmd}
+use Rattle.driver_rows.specs.declared.rows.DriverRow.{DriverRow}
+use Rattle.driver_rows.specs.Offers.{IsOffered}
+use Rattle.bus_world.specs.World.{World, commanded}
+use Rattle.mixed_worlds.specs.Mixed.{Standing, IsMixedAt}
+use Rattle.frame_visits.specs.Visited.{VisitsGoOn, VisitsGoOnAt}
+use Rattle.frame_visits.specs.VisitLaws.{RowKeepsVisiting}
+
+abbrev pub EachRowKeepsVisiting : Type 0
+EachRowKeepsVisiting = (row : DriverRow) → RowKeepsVisiting row
+
+abbrev pub CommandLeavesVisits : Type 0
+CommandLeavesVisits = (s : Standing) (w : World) (line : ℕ) (cmd : Cmd) (vs : List ℕ) → IsOffered w.driver.room cmd → IsMixedAt s w → VisitsGoOnAt s w vs → VisitsGoOn (commanded w line cmd) vs

@@ -1,0 +1,14 @@
+pub mod Ranks
+pub mod Visited
+pub mod VisitLaws
+pub mod Splices
+pub mod DriverVisitLaws
+pub mod VisitSamples
+pub mod Charges
+pub mod ChargeSamples
+pub mod ChargeLoads
+pub mod HeldTime
+pub mod PlaceOfRing
+pub mod FrameReasons
+pub mod ReasonSamples
+pub mod Keeps
