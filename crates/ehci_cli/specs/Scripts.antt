@@ -2,11 +2,13 @@
 --     OfEachScript so left         of each script
 --     OfEachAsynchronousScript so left     of each whose endpoints are high-speed bulk and control ones; it may cancel them
 --     OfEachScriptOfDevices so left        of each whose endpoints are high-speed bulk and control ones of devices, none a hub's own; it may cancel them
+--     OfEachHighInterruptScript so left    of each whose periodic endpoints are interrupt endpoints of high speed, with packets of eight bytes or more
 use Rattle.std.specs.Prelude.{ℕ, List, Option, IfSome}
 use Rattle.script_types.specs.declared.scripts.Script.{Script}
 use Rattle.script_text.specs.Faults.{Spells}
 use Rattle.driver_laws.specs.chained_transfers.Asynchronous.{AsynchronousOnly}
 use Rattle.asking_worlds.specs.Given.{AsynchronousOfDevices}
+use Rattle.frame_visits.specs.PaymentLaws.{HighInterruptsOnly}
 use Rattle.program_ends.specs.Input.{input_of}
 
 abbrev pub OfEachScript : (Script → Type 0) → Option (List ℕ) → Type 0
@@ -17,3 +19,6 @@ OfEachAsynchronousScript so left = IfSome left (λ xs. (s : Script) → Spells (
 
 abbrev pub OfEachScriptOfDevices : (Script → Type 0) → Option (List ℕ) → Type 0
 OfEachScriptOfDevices so left = IfSome left (λ xs. (s : Script) → Spells (input_of xs) s → AsynchronousOfDevices s → so s)
+
+abbrev pub OfEachHighInterruptScript : (Script → Type 0) → Option (List ℕ) → Type 0
+OfEachHighInterruptScript so left = IfSome left (λ xs. (s : Script) → Spells (input_of xs) s → HighInterruptsOnly s → so s)

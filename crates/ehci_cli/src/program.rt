@@ -9,8 +9,9 @@ ghost use Rattle.program_forms.specs.Form.{AreWordsOf, AreNoForm};
 ghost use Rattle.program_forms.specs.Output.{IsAnswer, IsLoad, IsProgram, LeavesAs, Leaves};
 ghost use Rattle.mixed_worlds.specs.Placed.{KeepsMemory};
 ghost use Rattle.frame_visits.specs.Keeps.{KeepsVisits};
+ghost use Rattle.frame_visits.specs.PaymentLaws.{PaysWithinLoad};
 ghost use Rattle.asking_worlds.specs.Kept.{KeepsRequests};
-ghost use Rattle.ehci_cli.specs.Scripts.{OfEachScript, OfEachAsynchronousScript, OfEachScriptOfDevices};
+ghost use Rattle.ehci_cli.specs.Scripts.{OfEachScript, OfEachHighInterruptScript, OfEachAsynchronousScript, OfEachScriptOfDevices};
 ghost use Rattle.ehci_cli.specs.Streams.{KeepsStreams};
 
 use program_ends::{Status, Unread, read_input};
@@ -45,6 +46,9 @@ use usb_base::{Sink, Source};
 /// asynchronous part ends where the head of the ring was read with Reclamation 0, or where the next price passes the time left, and then the ring goes on at the same queue head. A queue
 /// head is passed without its transaction for one of the standard's reasons alone, in the ring and in the frames.
 ///
+/// Where all its periodic endpoints are interrupt endpoints of high speed, with packets of eight bytes or more, what their transactions have cost in a microframe is no more than the
+/// plan's load there, nor than 100 microseconds, at each moment, also while endpoints are opened and cancelled.
+///
 /// Where the script opens high-speed bulk and control endpoints only, cancelled or not, the bytes that the report tells of each bulk IN endpoint begin its stream, each
 /// once and in order, and nothing follows its end; those that it tells of each bulk OUT endpoint begin what its device took, and these begin what was put to it: after
 /// the run, and at each moment of it, whatever is lost, damaged or held, and whatever control endpoints are asked and answer, STALL too. After a run of which each line
@@ -53,7 +57,7 @@ use usb_base::{Sink, Source};
 /// Where these endpoints are of devices, none a hub's own control endpoint, at each moment the device acted at most once on each control request, and only on its setup
 /// bytes; of an endpoint that isn't cancelled the report tells of its requests in their order: a request that is done was acted on exactly once, and the bytes told of it are
 /// those of its data; those of one that halted begin its data; and `acted` is told as the number of requests that were acted on. After the run these are all its requests.
-#[tactic(auto, using(crate::proofs::Admitted::source_admits, crate::proofs::Admitted::source_keeps_to_lent, crate::proofs::Admitted::source_owns, crate::proofs::Admitted::source_keeps_schedule, crate::proofs::Streams::source_keeps_streams, crate::proofs::Requests::source_keeps_requests, crate::proofs::Memory::source_keeps_memory, crate::proofs::Visits::source_keeps_visits))]
+#[tactic(auto, using(crate::proofs::Admitted::source_admits, crate::proofs::Admitted::source_keeps_to_lent, crate::proofs::Admitted::source_owns, crate::proofs::Admitted::source_keeps_schedule, crate::proofs::Streams::source_keeps_streams, crate::proofs::Requests::source_keeps_requests, crate::proofs::Memory::source_keeps_memory, crate::proofs::Visits::source_keeps_visits, crate::proofs::Visits::source_pays_within_load))]
 pub fn ehci<S: Source, K: Sink>(
     alloc: Global,
     words: &[String],
@@ -71,6 +75,7 @@ pub fn ehci<S: Source, K: Sink>(
     ensures schedule { OfEachScript KeepsScheduleThroughout (S.left source.old) }
     ensures memory { OfEachScript KeepsMemory (S.left source.old) }
     ensures visits { OfEachScript KeepsVisits (S.left source.old) }
+    ensures within_load { OfEachHighInterruptScript PaysWithinLoad (S.left source.old) }
     ensures streams { OfEachAsynchronousScript KeepsStreams (S.left source.old) }
     ensures requests { OfEachScriptOfDevices KeepsRequests (S.left source.old) }
     ensures left { IfSome (S.left source.old) (λ xs. Leaves (map string_bytes words.now) result xs (S.left source.new)) }

@@ -19,12 +19,12 @@ use Rattle.frame_visits.specs.Charges.{charge, IsInHandOf, TakesData, IsPriced, 
 use Rattle.frame_visits.proofs.ChargeQueues.{queue_priced, queue_in_time}
 use Rattle.frame_visits.proofs.ChargeItds.{itd_priced, itd_in_time}
 
-by_hand : (x : Placed) (p : FramePlace) (hand : Hand) → IsInHandOf x p.walk.index hand → TakesData p hand → IsPriced x p hand (effect_at p (Some hand))
+by_hand : (x : Placed) (p : FramePlace) (hand : Hand) → IsInHandOf x p.walk.index hand → TakesData x p hand → IsPriced x p hand (effect_at p (Some hand))
 by_hand x p (hands.Queue h) held tame = queue_priced x p h held tame
 by_hand x p (hands.Itd h) held tame = itd_priced x p h held
 by_hand x p (hands.Sitd h) held tame = absurd held
 
-pub event_priced : (x : Placed) (p : FramePlace) (hand : Hand) → p.walk.hand ≡ Some hand → IsInHandOf x p.walk.index hand → TakesData p hand → IsPriced x p hand (effect_of p)
+pub event_priced : (x : Placed) (p : FramePlace) (hand : Hand) → p.walk.hand ≡ Some hand → IsInHandOf x p.walk.index hand → TakesData x p hand → IsPriced x p hand (effect_of p)
 event_priced x p hand e held tame = subst (λ (o : Option Hand). IsPriced x p hand (effect_at p o)) (sym e) (by_hand x p hand held tame)
 
 -- ---- by the reply
@@ -33,7 +33,7 @@ pub priced_charging : (x : Placed) (p : FramePlace) (hand : Hand) (e : Effect) (
 priced_charging x p hand (Leaves q) r priced = inl priced
 priced_charging x p hand (Asks ask out by) r priced = inr (priced r)
 
-pub event_charged : (x : Placed) (p : FramePlace) (hand : Hand) (r : Reply) → p.walk.hand ≡ Some hand → IsInHandOf x p.walk.index hand → TakesData p hand → IsCharging x p hand (after p r)
+pub event_charged : (x : Placed) (p : FramePlace) (hand : Hand) (r : Reply) → p.walk.hand ≡ Some hand → IsInHandOf x p.walk.index hand → TakesData x p hand → IsCharging x p hand (after p r)
 event_charged x p hand r e held tame = priced_charging x p hand (effect_of p) r (event_priced x p hand e held tame)
 
 effect_charged : {W : Type 0} (transacts : W → Ask → List ℕ → Reply → W → Type 0) (x : Placed) (p q : FramePlace) (before later : W) (hand : Hand) (e : Effect) → IsPriced x p hand e
@@ -42,7 +42,7 @@ effect_charged transacts x p q before later hand (Leaves new) priced has = inl (
 effect_charged transacts x p q before later hand (Asks ask out by) priced has = subst (IsCharging x p hand) (sym has.place) (inr (priced has.reply))
 
 pub leads_charged : {W : Type 0} (transacts : W → Ask → List ℕ → Reply → W → Type 0) (x : Placed) (p q : FramePlace) (before later : W) (hand : Hand) → p.walk.hand ≡ Some hand → IsInHandOf x p.walk.index hand
-    → TakesData p hand → Leads transacts p before q later → IsCharging x p hand q
+    → TakesData x p hand → Leads transacts p before q later → IsCharging x p hand q
 leads_charged transacts x p q before later hand e held tame has = effect_charged transacts x p q before later hand (effect_of p) (event_priced x p hand e held tame) has
 
 -- ---- with nothing in hand

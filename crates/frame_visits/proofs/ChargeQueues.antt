@@ -1,6 +1,6 @@
 -- An event at the queue head of a high-speed interrupt endpoint in hand asks nothing and costs nothing, or makes one transaction, of at most its largest packet (EHCI 1.0, 4.10, 4.10.2
 -- and 4.10.3; USB 2.0, 5.11.3).
-use Rattle.std.proofs.Common.{◌≡◌, ℕ, zero, suc, ◌+◌, ◌%◌, ◌<◌, ◌≤◌, Bool, true, false, List, Option, Some, None, refl, ap, sym, subst, ◌∙◌, arith, inl, inr, ◌⊎◌}
+use Rattle.std.proofs.Common.{◌≡◌, ℕ, zero, suc, ◌+◌, ◌%◌, ◌<◌, ◌≤◌, Bool, true, false, List, Option, Some, None, refl, ap, sym, subst, ◌∙◌, arith, inl, inr, ◌⊎◌, ⊎_elim}
 use Rattle.std.specs.Prelude.{min, nat_lt, ◌&&◌, ◌==◌, if◌then◌else◌}
 use Rattle.std.proofs.lemmas.Bool.{and_parts}
 use Rattle.std.proofs.lemmas.Bool.Decides.{nat_tests}
@@ -10,7 +10,7 @@ use Rattle.usb_base.specs.declared.packets.Dir.TheVariants as directions
 use Rattle.usb_base.specs.declared.packets.EpKind.{EpKind}
 use Rattle.usb_base.specs.declared.packets.EpKind.TheVariants.{Interrupt}
 use Rattle.usb_base.specs.declared.packets.Pid.{Pid}
-use Rattle.usb_base.specs.declared.packets.Pid.TheVariants.{In, Out}
+use Rattle.usb_base.specs.declared.packets.Pid.TheVariants.{In, Out, Setup}
 use Rattle.usb_base.specs.declared.packets.Reply.{Reply}
 use Rattle.usb_base.specs.declared.packets.Speed.TheVariants.{High}
 use Rattle.usb_base.specs.declared.packets.Split.{Split}
@@ -50,7 +50,7 @@ use Rattle.periodic_walk.specs.Queue.{turn_row, take_row, taken_row, settled_row
 use Rattle.visit_budgets.specs.visit_prices.Spent.{IsHeadOf, largest}
 use Rattle.visit_budgets.specs.visit_prices.Time.{is_late_at, is_late_queue, is_late_turn}
 use Rattle.visit_budgets.proofs.lemmas.visit_prices.Queues.{same_dir, not_late}
-use Rattle.frame_visits.specs.Charges.{IsHeadInHand, HasRoom, TakesData, GoesOnOrEnds, RestsAt, WorksAt, IsPriced}
+use Rattle.frame_visits.specs.Charges.{IsDear, IsHeadInHand, HasRoom, TakesData, GoesOnOrEnds, RestsAt, WorksAt, IsPriced}
 
 -- ---- the price of its transaction
 
@@ -88,8 +88,26 @@ largest_is : (x : Placed) (q : Qh) → IsHeadOf x q → bus_time High Interrupt 
 largest_is x q head =
     ap (λ n. bus_time High Interrupt directions.In n) head.max ∙ (sym (same_dir x.want.dir x.want.max) ∙ ap (λ (k : EpKind). bus_time High k x.want.dir x.want.max) (sym head.kind))
 
-pub most_price : (x : Placed) (q : Qh) → IsHeadOf x q → q.token.pid ≤ 1 → (planned q).price.0 ≤ largest x.want
-most_price x q head tame = subst (λ n. (planned q).price.0 ≤ n) (largest_is x q head) (planned_price q head.high tame)
+-- a SETUP has eight bytes
+known_by : (n : ℕ) (a b : Bool) → (n == 0) ≡ a → (n == 1) ≡ b → (n ≤ 1) ⊎ (pid_at n ≡ Setup)
+known_by n true b none one = inl (grind (arith, nat_tests, none))
+known_by n false true none one = inl (grind (arith, nat_tests, one))
+known_by n false false none one = inr (rw (none, one) refl)
+
+pid_known : (n : ℕ) → (n ≤ 1) ⊎ (pid_at n ≡ Setup)
+pid_known n = known_by n (n == 0) (n == 1) refl refl
+
+setup_price : (q : Qh) → q.eps ≡ 2 → 8 ≤ q.max → pid_at q.token.pid ≡ Setup → (planned q).price.0 ≤ bus_time High Interrupt directions.In q.max
+setup_price q high long is = let same = priced q Setup high is in omega (arith, same, long)
+
+dear_price : (x : Placed) (q : Qh) → IsHeadOf x q → IsDear x q.token.pid → (planned q).price.0 ≤ bus_time High Interrupt directions.In q.max
+dear_price x q head (inl few) = planned_price q head.high few
+dear_price x q head (inr long) =
+    ⊎_elim (λ (few : q.token.pid ≤ 1). planned_price q head.high few)
+    (λ (is : pid_at q.token.pid ≡ Setup). setup_price q head.high (omega (arith, long, head.max)) is) (pid_known q.token.pid)
+
+pub most_price : (x : Placed) (q : Qh) → IsHeadOf x q → IsDear x q.token.pid → (planned q).price.0 ≤ largest x.want
+most_price x q head tame = subst (λ n. (planned q).price.0 ≤ n) (largest_is x q head) (dear_price x q head tame)
 
 plain : (q : Qh) → q.eps ≡ 2 → (planned q).split ≡ Plain
 plain q high = rw high refl
@@ -139,7 +157,7 @@ record IsReady (x : Placed) (u : ℕ) (h : HeldQueue) (t : Transaction) : Type 0
 abbrev Fits : Placed → ℕ → HeldQueue → QueueRow → Type 0
 Fits x u h rows.Fault = Unit {0}
 Fits x u h rows.Skip = Unit {0}
-Fits x u h (rows.Advance a t) = t.token.pid ≤ 1
+Fits x u h (rows.Advance a t) = IsDear x t.token.pid
 Fits x u h (rows.Transact t) = IsReady x u h t
 Fits x u h rows.Miss = ⊥
 Fits x u h (rows.WriteBack outcome) = h.made ≤ x.want.multi
@@ -148,21 +166,21 @@ timed_fits : (x : Placed) (u : ℕ) (h : HeldQueue) (late : Bool) → IsReady x 
 timed_fits x u h true ready = tt
 timed_fits x u h false ready = ready
 
-active_fits : (x : Placed) (u : ℕ) (h : HeldQueue) (a : ℕ) (t : Qtd) (b : Bool) → ((c : ℕ) (s : Qtd) → (if b then rows.Advance a t else rows.Skip) ≡ rows.Advance c s → s.token.pid ≤ 1)
+active_fits : (x : Placed) (u : ℕ) (h : HeldQueue) (a : ℕ) (t : Qtd) (b : Bool) → ((c : ℕ) (s : Qtd) → (if b then rows.Advance a t else rows.Skip) ≡ rows.Advance c s → IsDear x s.token.pid)
     → Fits x u h (if b then rows.Advance a t else rows.Skip)
 active_fits x u h a t true tame = tame a t refl
 active_fits x u h a t false tame = tt
 
-taken_fits : (x : Placed) (u : ℕ) (h : HeldQueue) (a : ℕ) (o : Option Qtd) → ((c : ℕ) (s : Qtd) → taken_row a o ≡ rows.Advance c s → s.token.pid ≤ 1) → Fits x u h (taken_row a o)
+taken_fits : (x : Placed) (u : ℕ) (h : HeldQueue) (a : ℕ) (o : Option Qtd) → ((c : ℕ) (s : Qtd) → taken_row a o ≡ rows.Advance c s → IsDear x s.token.pid) → Fits x u h (taken_row a o)
 taken_fits x u h a None tame = tt
 taken_fits x u h a (Some t) tame = active_fits x u h a t t.token.active tame
 
-take_fits : (x : Placed) (u : ℕ) (h : HeldQueue) (m : Mem) (link : QtdLink) → ((c : ℕ) (s : Qtd) → take_row m link ≡ rows.Advance c s → s.token.pid ≤ 1) → Fits x u h (take_row m link)
+take_fits : (x : Placed) (u : ℕ) (h : HeldQueue) (m : Mem) (link : QtdLink) → ((c : ℕ) (s : Qtd) → take_row m link ≡ rows.Advance c s → IsDear x s.token.pid) → Fits x u h (take_row m link)
 take_fits x u h m qtd_links.End tame = tt
 take_fits x u h m (qtd_links.To a) tame = taken_fits x u h a (qtd_at_address m a) tame
 
 visit_fits : (x : Placed) (u : ℕ) (h : HeldQueue) (m : Mem) (left : ℕ) (may halted active : Bool) (link : QtdLink) → (may ≡ true → has x.placement.smask (u % 8) ≡ true) → h.copy.queue_head.token.active ≡ active
-    → h.made < x.want.multi → ((c : ℕ) (s : Qtd) → turn_row m left h.copy.queue_head (start_turn (visit_at may halted active link)) ≡ rows.Advance c s → s.token.pid ≤ 1)
+    → h.made < x.want.multi → ((c : ℕ) (s : Qtd) → turn_row m left h.copy.queue_head (start_turn (visit_at may halted active link)) ≡ rows.Advance c s → IsDear x s.token.pid)
     → Fits x u h (turn_row m left h.copy.queue_head (start_turn (visit_at may halted active link)))
 visit_fits x u h m left false halted active link own is fewer tame = tt
 visit_fits x u h m left true true active link own is fewer tame = tt
@@ -174,7 +192,7 @@ high_turn : (f : ℕ) (q : Qh) → q.eps ≡ 2 → turn_of f q ≡ start_turn (v
 high_turn f q high = rw high refl
 
 settled_fits : (x : Placed) (p : FramePlace) (h : HeldQueue) (o : Option Outcome) → IsHeadOf x h.copy.queue_head → HasRoom x.want.multi h.made o
-    → ((c : ℕ) (s : Qtd) → settled_row p.memory p.walk.left p.walk.index h.copy.queue_head o ≡ rows.Advance c s → s.token.pid ≤ 1)
+    → ((c : ℕ) (s : Qtd) → settled_row p.memory p.walk.left p.walk.index h.copy.queue_head o ≡ rows.Advance c s → IsDear x s.token.pid)
     → Fits x p.walk.index h (settled_row p.memory p.walk.left p.walk.index h.copy.queue_head o)
 settled_fits x p h (Some outcome) head room tame = room
 settled_fits x p h None head room tame =
@@ -188,12 +206,12 @@ settled_fits x p h None head room tame =
     (λ e. subst (λ mask. has mask (p.walk.index % 8) ≡ true) head.smask e) refl room
     (λ c s e. tame c s (same_row ∙ e)))
 
-row_fits : (x : Placed) (p : FramePlace) (h : HeldQueue) → IsHeadInHand x h p.walk.index → TakesData p (hands.Queue h) → Fits x p.walk.index h (queue_row p h)
+row_fits : (x : Placed) (p : FramePlace) (h : HeldQueue) → IsHeadInHand x h p.walk.index → TakesData x p (hands.Queue h) → Fits x p.walk.index h (queue_row p h)
 row_fits x p h held tame = settled_fits x p h h.copy.settled held.head held.room tame
 
 -- ---- a qTD is taken
 
-took_priced : (x : Placed) (p written : FramePlace) (h : HeldQueue) (a : ℕ) (t : Qtd) (b : Bool) → written.walk ≡ p.walk → IsHeadInHand x h p.walk.index → t.token.pid ≤ 1
+took_priced : (x : Placed) (p written : FramePlace) (h : HeldQueue) (a : ℕ) (t : Qtd) (b : Bool) → written.walk ≡ p.walk → IsHeadInHand x h p.walk.index → IsDear x t.token.pid
     → RestsAt x p (hands.Queue h) (if b then record written { walk = holding (hands.Queue (with_queue h (advanced h.copy.queue_head a t))) p.walk } else faulted written)
 took_priced x p written h a t true same held tame = record {
   left = refl;
@@ -202,7 +220,7 @@ took_priced x p written h a t true same held tame = record {
     of = record {
       head = advanced_head x h.copy.queue_head a t held.head;
       few = held.few;
-      pid = λ active. let is = advanced_pid h.copy.queue_head a t in omega (arith, is, tame);
+      pid = λ active. subst (IsDear x) (sym (advanced_pid h.copy.queue_head a t)) tame;
       room = held.room;
       own = held.own;
     };
@@ -229,7 +247,8 @@ visited x u h outcome w true e held =
       of = record {
         head = moved_head x (moved_by outcome) h.copy.queue_head held.head;
         few = held.few;
-        pid = λ active. let is = moved_pid (moved_by outcome) h.copy.queue_head in omega (arith, is, held.pid (sym (moved_active (moved_by outcome) h.copy.queue_head) ∙ active));
+        pid = λ active.
+            subst (IsDear x) (sym (moved_pid (moved_by outcome) h.copy.queue_head)) (held.pid (sym (moved_active (moved_by outcome) h.copy.queue_head) ∙ active));
         room = omega (arith, less, held.head.multi);
         own = held.own;
       };
@@ -290,7 +309,7 @@ works x p there h t out reply same held ready =
         of = record {
           head = transacted_head x there.walk.index t out reply h.copy split held.head;
           few = held.few;
-          pid = λ active. let is = transacted_pid there.walk.index t out reply h.copy split in omega (arith, is, few);
+          pid = λ active. subst (IsDear x) (sym (transacted_pid there.walk.index t out reply h.copy split)) few;
           room = omega (arith, one, ready.fewer);
           own = λ some. ready.own;
         };
@@ -321,19 +340,19 @@ row_priced x p m h rows.Miss held fits = absurd fits
 row_priced x p m h (rows.WriteBack outcome) held fits =
     wrote_priced x p (record p { memory = (writing h.copy outcome p.walk.reply m).memory }) (writing h.copy outcome p.walk.reply m).all h outcome refl held
 
-pub queue_priced : (x : Placed) (p : FramePlace) (h : HeldQueue) → IsHeadInHand x h p.walk.index → TakesData p (hands.Queue h) → IsPriced x p (hands.Queue h) (queue_effect (queue_row p h) h (reading (queue_read p h) p))
+pub queue_priced : (x : Placed) (p : FramePlace) (h : HeldQueue) → IsHeadInHand x h p.walk.index → TakesData x p (hands.Queue h) → IsPriced x p (hands.Queue h) (queue_effect (queue_row p h) h (reading (queue_read p h) p))
 queue_priced x p h held tame = row_priced x p (queue_read p h) h (queue_row p h) held (row_fits x p h held tame)
 
 -- ---- in time
 
-late_turn : (x : Placed) (left : ℕ) (q : Qh) (may halted active : Bool) (link : QtdLink) → IsHeadOf x q → (active ≡ true → q.token.pid ≤ 1) → largest x.want ≤ left
+late_turn : (x : Placed) (left : ℕ) (q : Qh) (may halted active : Bool) (link : QtdLink) → IsHeadOf x q → (active ≡ true → IsDear x q.token.pid) → largest x.want ≤ left
     → is_late_turn left q (start_turn (visit_at may halted active link)) ≡ false
 late_turn x left q false halted active link head pid enough = refl
 late_turn x left q true true active link head pid enough = refl
 late_turn x left q true false true link head pid enough = let price = most_price x q head (pid refl) in not_late left (planned q).price.0 (omega (arith, price, enough))
 late_turn x left q true false false link head pid enough = refl
 
-late_settled : (x : Placed) (left f : ℕ) (q : Qh) (o : Option Outcome) → IsHeadOf x q → (q.token.active ≡ true → q.token.pid ≤ 1) → largest x.want ≤ left → is_late_queue left f q o ≡ false
+late_settled : (x : Placed) (left f : ℕ) (q : Qh) (o : Option Outcome) → IsHeadOf x q → (q.token.active ≡ true → IsDear x q.token.pid) → largest x.want ≤ left → is_late_queue left f q o ≡ false
 late_settled x left f q (Some outcome) head pid enough = refl
 late_settled x left f q None head pid enough =
     ap (λ (z : Turn). is_late_turn left q z) (high_turn f q head.high)

@@ -27,11 +27,15 @@ use Rattle.mixed_worlds.proofs.lemmas.framed_memory.Now.{has_frames}
 use Rattle.mixed_worlds.proofs.lemmas.framed_memory.QueueAccepting.{open_now, transfer_now, cancel_now, unchain_now}
 use Rattle.mixed_worlds.proofs.lemmas.framed_memory.Steps.{linking_led}
 use Rattle.mixed_worlds.proofs.lemmas.framed_memory.StillStanding.{IsThereStill, pushed_there, pushed_still, set_still, recent_still, unchain_recent_still, described_recent}
+use Rattle.frame_walk.specs.Met.{Kind}
+use Rattle.frame_visits.specs.Belonging.{IsQueueAt, IsStillAt}
 use Rattle.frame_visits.specs.Ranks.{next_of}
 use Rattle.frame_visits.specs.DriverVisitLaws.{CommandLeavesVisits}
 use Rattle.frame_visits.specs.Visited.{VisitsGoOn, VisitsGoOnAt}
 use Rattle.frame_visits.proofs.DriverGoesOn.{IsListSpread, LeavesMembers, goes_on}
 use Rattle.frame_visits.proofs.DriverVisits.{half_led}
+use Rattle.frame_visits.proofs.InFrames.{same_back}
+use Rattle.frame_visits.proofs.InFramesCommands.{command_back}
 use Rattle.frame_visits.proofs.OwnSteps.{same_list, linking_half, next_led, next_half, ended_list}
 use Rattle.frame_visits.proofs.ToldLinks.{HasOwn, own_met, told_same}
 
@@ -134,17 +138,34 @@ module _ (s : Standing) (w : World) (k : IsMixedAt s w) (vs : List ℕ) (v : Vis
         (unchain_recent_still w.driver why.number x (endpoint_members w.driver why.number x why.placement) v.visits.left w.registers.frame_index why.idle why.here
         (sound.listed.list.kept why.number x why.here periodic why.fresh) v.visits.left_are)
 
+    back : (n : ℕ) (kind : Kind) → met w.driver v.visits.left n ≡ Some kind → (b : IsQueueAt o.driver n) → IsStillAt b w.driver
+    back n kind on b = command_back s w k v.visits.left v.visits.left_are cmd o is now.framed.place.sound.owners n kind on b
+
     accepted_visits : VisitsGoOn (record w { driver = o.driver; memory = o.memory }) vs
     accepted_visits =
         goes_on w (record w { driver = o.driver; memory = o.memory }) vs v.visits spread spread_now (half_led s w k vs v)
-        (record { leaves = leaves_by reason; links = links; left_are = recent_by reason; control = refl })
+        (record {
+          leaves = leaves_by reason;
+          links = links;
+          left_are = recent_by reason;
+          control = refl;
+          kept_stay = λ n on. let there = v.left_within n on in back n there.0 there.1;
+          met_stay = back;
+        })
 
   refused_visits : (why : OfferError) → VisitsGoOn (commanded_by w line (name_in cmd) (Err why)) vs
   refused_visits why =
       let new : World = commanded_by w line (name_in cmd) (Err why) in
       let listed : IsListSpread w.driver = (has_frames opening_base s.member s.recent s.descs s.parts s.hand s.frame (controller_parts w) w.driver k.now).spread in
       goes_on w new vs v.visits listed listed (half_led s w k vs v)
-      (record { leaves = same_list w.driver new.driver refl; links = λ n on. refl; left_are = v.visits.left_are; control = refl })
+      (record {
+        leaves = same_list w.driver new.driver refl;
+        links = λ n on. refl;
+        left_are = v.visits.left_are;
+        control = refl;
+        kept_stay = λ n on. same_back w.driver new.driver k.now.planned refl refl n;
+        met_stay = λ n kind on. same_back w.driver new.driver k.now.planned refl refl n;
+      })
 
   by_offer : (r : Result Offered OfferError) → IsOffered w.driver.room cmd → offered w.driver w.memory cmd ≡ r → VisitsGoOn (commanded_by w line (name_in cmd) r) vs
   by_offer (Ok o) room is = accepted_visits o room is

@@ -1,6 +1,9 @@
 -- The visits go on where the driver stores nothing that a walk of the frames may meet: the same are kept, and what was visited is what it was.
-use Rattle.std.proofs.Common.{◌≡◌, ℕ, ◌≤◌, ◌<◌, true, false, Bool, List, Option, Some, None, ap, refl, sym, subst, ◌∙◌}
+use Rattle.std.proofs.Common.{◌≡◌, ℕ, ◌≤◌, ◌<◌, true, false, Bool, List, [], ◌∷◌, Option, Some, None, ap, refl, sym, subst, ◌∙◌}
+use Rattle.std.specs.List.{AllByRecursion}
 use Rattle.word_mem.specs.Memory.{Mem}
+use Rattle.bandwidth.specs.declared.placements.Placed.{Placed}
+use Rattle.bandwidth.specs.Sums.{is_active}
 use Rattle.frame_chains.specs.declared.members.Member.{Member}
 use Rattle.frame_chains.specs.Chains.{Schedule}
 use Rattle.frame_chains.proofs.Linking.{weaken}
@@ -16,8 +19,9 @@ use Rattle.described_parts.specs.Recent.{AreRecent}
 use Rattle.described_parts.proofs.Finding.{member_kind, IsMemberAt, member_at}
 use Rattle.described_parts.proofs.Leading.{led_spread}
 use Rattle.bus_world.specs.World.{World}
+use Rattle.frame_visits.specs.Belonging.{IsQueueAt, IsStillAt}
 use Rattle.frame_visits.specs.Ranks.{next_of, height_to, begins, IsRanked}
-use Rattle.frame_visits.specs.Visited.{WasVisited, IsBehind, VisitsGoOn, frame_in}
+use Rattle.frame_visits.specs.Visited.{WasVisited, IsBehind, IsActiveAs, VisitsGoOn, frame_in}
 
 -- the members of the list are spread
 abbrev pub IsListSpread : DriverContent → Type 0
@@ -75,6 +79,20 @@ visited_still d new left later who frame v still was =
     let s : IsMetStill new later v = still was.kind was.is_met in
     record { kind = s.kind; is_met = s.is; named = was.named; stands = was.stands }
 
+-- ---- its endpoint is active in the frames of its member
+
+pub active_still : (d new : DriverContent) (n : ℕ) (x : Member) → ((b : IsQueueAt new n) → IsStillAt b d) → IsActiveAs d n x → IsActiveAs new n x
+active_still d new n x back active b f stands =
+    let still : IsStillAt b d = back b in
+    ap (λ (y : Placed). is_active y.placement f) (sym still.placed) ∙ active still.still f stands
+
+pub were_active_still : (d new : DriverContent) (left : ℕ → Option Kind) (who : ℕ → Member) (frame : ℕ) (vs : List ℕ)
+    → ((n : ℕ) → WasVisited d left who frame n → (b : IsQueueAt new n) → IsStillAt b d) → AllByRecursion (WasVisited d left who frame) vs → AllByRecursion (λ v. IsActiveAs d v (who v)) vs
+    → AllByRecursion (λ v. IsActiveAs new v (who v)) vs
+were_active_still d new left who frame [] back were all = tt
+were_active_still d new left who frame (v ∷ vs) back were all =
+    (active_still d new v (who v) (back v were.0) all.0, were_active_still d new left who frame vs back were.1 all.1)
+
 -- ---- nothing that may be met is stored
 
 -- the same may be led to, and nothing new is half linked
@@ -103,6 +121,8 @@ pub record Elsewhere (w new : World) (kept : ℕ → Bool) (left : ℕ → Optio
   pub links : (n : ℕ) → kept n ≡ true → next_of new.memory n ≡ next_of w.memory n
   pub left_are : AreRecent new.driver new.registers.frame_index left
   pub control : new.control ≡ w.control
+  pub kept_stay : (n : ℕ) → kept n ≡ true → (b : IsQueueAt new.driver n) → IsStillAt b w.driver
+  pub met_stay : (n : ℕ) (kind : Kind) → met w.driver left n ≡ Some kind → (b : IsQueueAt new.driver n) → IsStillAt b w.driver
 
 pub goes_on : (w new : World) (vs : List ℕ) → (v : VisitsGoOn w vs) → IsListSpread w.driver → IsListSpread new.driver
     → ((x : Work) → w.driver.periodic.list.work ≡ Some x → x.removes ≡ false → 1 ≤ x.made → is_linked (led w.driver) x.member ≡ true) → Elsewhere w new v.kept v.left → VisitsGoOn new vs
@@ -129,4 +149,6 @@ goes_on w new vs v spread after half e =
                 (λ x was. visited_still d new.driver v.left v.left v.who (frame_in w.control.frame.index) x (still x) was) vs v.behind.were;
             next = v.behind.next;
           });
+      active = λ n on. active_still d new.driver n (v.who n) (e.kept_stay n on) (v.active n on);
+      were_active = were_active_still d new.driver v.left v.who (frame_in w.control.frame.index) vs (λ n was. e.met_stay n was.kind was.is_met) v.behind.were v.were_active;
     }

@@ -43,6 +43,7 @@ use Rattle.mixed_worlds.specs.Mixed.{Standing, IsMixedAt, IsMixedWorld}
 use Rattle.frame_visits.specs.Ranks.{name_of, next_of}
 use Rattle.frame_visits.specs.Visited.{VisitsGoOn, VisitsGoOnAt}
 use Rattle.frame_visits.proofs.DriverGoesOn.{IsListSpread, LeavesMembers, goes_on}
+use Rattle.frame_visits.proofs.InFrames.{row_back}
 use Rattle.frame_visits.proofs.LeftOwned.{has_name, own_store}
 use Rattle.frame_visits.proofs.ToldLinks.{HasOwn, own_met}
 use Rattle.driver_rows.specs.Words.{head_block, queue_head_link}
@@ -198,7 +199,14 @@ module _ (s : Standing) (w : World) (k : IsMixedAt s w) (vs : List ℕ) (v : Vis
   elsewhere row is leaves links are =
       subst (λ (r : DriverRow). VisitsGoOn (next_by r) vs) (sym is)
       (goes_on w (next_by row) vs v.visits frames.spread (subst (λ (r : DriverRow). IsListSpread (next_by r).driver) is spread_next) half_led
-      (record { leaves = leaves; links = links; left_are = are; control = refl }))
+      (record {
+        leaves = leaves;
+        links = links;
+        left_are = are;
+        control = refl;
+        kept_stay = λ n on. row_back row (driver_parts w) k.now.planned n;
+        met_stay = λ n kind on. row_back row (driver_parts w) k.now.planned n;
+      }))
 
   -- ---- registers
 

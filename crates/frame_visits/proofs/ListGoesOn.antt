@@ -1,16 +1,19 @@
 -- The visits go on with a store of the frame list: where a member comes by it, and where it goes on or leaves.
 use Rattle.std.proofs.Common.{◌≡◌, ◌≢◌, ℕ, ◌+◌, ◌*◌, ◌<◌, Bool, true, false, List, [], ◌∷◌, Option, Some, None, ⊎_elim, ap, refl, sym, subst, ◌∙◌, arith}
 use Rattle.std.specs.List.{AllByRecursion}
-use Rattle.std.proofs.lemmas.Bool.{false≢true}
+use Rattle.std.specs.Prelude.{◌||◌, if◌then◌else◌}
+use Rattle.std.proofs.lemmas.Bool.{false≢true, ne_eqb, eq-eqb, cases_eq}
 use Rattle.frame_chains.specs.declared.members.Member.{Member}
 use Rattle.frame_chains.specs.declared.members.Predecessor.TheVariants.{Element}
 use Rattle.frame_chains.specs.Chains.{Schedule, stands_in}
 use Rattle.frame_chains.proofs.Linking.{weaken}
-use Rattle.frame_members.specs.Members.{is_linked}
+use Rattle.frame_members.specs.Members.{Members, is_linked}
 use Rattle.periodic_list.specs.declared.work.Work.{Work}
 use Rattle.periodic_list.specs.declared.work.Store.{Store}
 use Rattle.periodic_list.specs.Periodic.{Periodic, address_of, after_store}
 use Rattle.driver_rows.specs.DriverContent.{DriverContent}
+use Rattle.driver_rows.specs.Rows.{driver_row}
+use Rattle.frame_laws.specs.frame_words.InWords.{HasMember}
 use Rattle.link_words.specs.Links.{link_read}
 use Rattle.driver_laws.specs.PartOpened.{opening_base}
 use Rattle.ring_laws.specs.lent_structures.Structures.{StructureSets, Tells}
@@ -23,12 +26,14 @@ use Rattle.described_parts.specs.Recent.{AreRecent}
 use Rattle.described_parts.specs.ListRows.{IsStoredIn}
 use Rattle.described_parts.proofs.Finding.{IsMemberAt}
 use Rattle.described_parts.proofs.Growing.{members_kept}
-use Rattle.bus_world.specs.World.{World, controller_parts, driver_next}
+use Rattle.bus_world.specs.World.{World, controller_parts, driver_parts, driver_next}
 use Rattle.mixed_worlds.specs.Mixed.{Standing, IsMixedAt}
 use Rattle.mixed_worlds.proofs.lemmas.framed_memory.Now.{begins_there}
 use Rattle.frame_visits.specs.Ranks.{name_of, next_of, begins}
-use Rattle.frame_visits.specs.Visited.{IsNext, WasVisited, VisitsGoOn, VisitsGoOnAt, frame_in}
-use Rattle.frame_visits.proofs.DriverGoesOn.{IsListSpread, IsMetStill, linked_stands, member_stands, met_still, standing_is_met, left_is_met, visited_still}
+use Rattle.frame_visits.specs.Belonging.{IsQueueAt, IsStillAt}
+use Rattle.frame_visits.specs.Visited.{IsNext, WasVisited, IsActiveAs, VisitsGoOn, VisitsGoOnAt, frame_in}
+use Rattle.frame_visits.proofs.DriverGoesOn.{IsListSpread, IsMetStill, linked_stands, member_stands, met_still, standing_is_met, left_is_met, visited_still, active_still, were_active_still}
+use Rattle.frame_visits.proofs.InFrames.{linked_active, row_back}
 use Rattle.frame_visits.proofs.LinkSteps.{ListStep, IsMetThere, name_away, same_ranked, first_ranked, still_kept, old_height, old_who, kept_then, height_then, who_then}
 use Rattle.frame_visits.proofs.ToldLinks.{HasOwn, own_met, table_apart, other_links, link_here}
 
@@ -102,6 +107,11 @@ module _ (s : Standing) (w : World) (k : IsMixedAt s w) (vs : List ℕ) (v : Vis
       met_still w.driver (driver_next w).driver v.visits.left later n kind is (stood_on n)
       (λ kind gone_is. let there : IsMetThere later n = gone n kind gone_is in left_is_met (driver_next w).driver later n there.kind there.is)
 
+  -- ---- whose queue head it is
+
+  placed_back : (n : ℕ) (b : IsQueueAt (driver_next w).driver n) → IsStillAt b w.driver
+  placed_back n b = row_back (driver_row (driver_parts w)) (driver_parts w) k.now.planned n b
+
   -- ---- a member goes on to be linked, or leaves
 
   pub store_goes_on : is_led way ≡ true → VisitsGoOn (driver_next w) vs
@@ -118,6 +128,8 @@ module _ (s : Standing) (w : World) (k : IsMixedAt s w) (vs : List ℕ) (v : Vis
           (λ x was. visited_still w.driver (driver_next w).driver v.visits.left later v.visits.who frame x (met_on x) was) vs v.visits.behind.were;
       next = v.visits.behind.next;
     };
+    active = λ n on. active_still w.driver (driver_next w).driver n (v.visits.who n) (placed_back n) (v.visits.active n on);
+    were_active = were_active_still w.driver (driver_next w).driver v.visits.left v.visits.who frame vs (λ n was. placed_back n) v.visits.behind.were v.visits.were_active;
   }
 
   -- ---- a member comes
@@ -186,6 +198,36 @@ module _ (s : Standing) (w : World) (k : IsMixedAt s w) (vs : List ℕ) (v : Vis
         let same : who_on x ≡ v.visits.who x = whos x (other_visited x was) in
         record { kind = still.kind; is_met = still.is; named = ap begins same ∙ was.named; stands = ap (stands_in frame) same ∙ was.stands }
 
+    -- the new member is that of its endpoint
+    its : is_linked w.driver.periodic.list.members.schedule way.member ≡ true
+    its = ap (λ (ms : Members). is_linked ms.schedule way.member) (sym step.members) ∙ (subst (HasMember p.members.schedule) step.under step.order.member).1
+
+    name_active : IsActiveAs (driver_next w).driver (begins way.member) way.member
+    name_active =
+        active_still w.driver (driver_next w).driver (begins way.member) way.member (placed_back (begins way.member))
+        (linked_active w.driver k.now.framed.place.sound.owners k.now.framed.place.sound.listed (begins way.member) way.member its refl)
+
+    other_active : (n : ℕ) → n ≢ begins way.member → IsActiveAs w.driver n (v.visits.who n) → IsActiveAs (driver_next w).driver n (who_on n)
+    other_active n other active =
+        subst (IsActiveAs (driver_next w).driver n) (sym (whos n other)) (active_still w.driver (driver_next w).driver n (v.visits.who n) (placed_back n) active)
+
+    was_kept : (n : ℕ) → n ≢ begins way.member → kept_on n ≡ true → v.visits.kept n ≡ true
+    was_kept n other on = sym (ap (λ (b : Bool). b || v.visits.kept n) (ne_eqb n (begins way.member) other)) ∙ on
+
+    new_who : who_on (begins way.member) ≡ way.member
+    new_who = ap (λ (b : Bool). if b then way.member else v.visits.who (begins way.member)) (eq-eqb (begins way.member) (begins way.member) refl)
+
+    active_on : (n : ℕ) → kept_on n ≡ true → IsActiveAs (driver_next w).driver n (who_on n)
+    active_on n on =
+        ⊎_elim (λ (same : n ≡ begins way.member).
+        subst (λ (i : ℕ). IsActiveAs (driver_next w).driver i (who_on i)) (sym same) (subst (IsActiveAs (driver_next w).driver (begins way.member)) (sym new_who) name_active))
+        (λ (differs : n ≢ begins way.member). other_active n differs (v.visits.active n (was_kept n differs on))) (cases_eq n (begins way.member))
+
+    were_active_on : (us : List ℕ) → AllByRecursion (WasVisited w.driver v.visits.left v.visits.who frame) us → AllByRecursion (λ x. IsActiveAs w.driver x (v.visits.who x)) us
+        → AllByRecursion (λ x. IsActiveAs (driver_next w).driver x (who_on x)) us
+    were_active_on [] were all = tt
+    were_active_on (x ∷ xs) were all = (other_active x (other_visited x were.0) all.0, were_active_on xs were.1 all.1)
+
     pub member_comes : VisitsGoOn (driver_next w) vs
     member_comes = record {
       left = later;
@@ -205,4 +247,6 @@ module _ (s : Standing) (w : World) (k : IsMixedAt s w) (vs : List ℕ) (v : Vis
               below = below_on j vs n.is_kept v.visits.behind.were n.below;
             });
       };
+      active = active_on;
+      were_active = were_active_on vs v.visits.behind.were v.visits.were_active;
     }

@@ -9,6 +9,7 @@ use Rattle.frame_chains.specs.Chains.{stands_in}
 use Rattle.periodic_list.specs.Periodic.{address_of}
 use Rattle.op_registers.specs.RegisterFile.{RegisterFile}
 use Rattle.op_registers.specs.Events.{after_begin}
+use Rattle.periodic_walk.specs.declared.state.Hand.{Hand}
 use Rattle.periodic_walk.specs.Walk.{Walk as FrameWalk, is_over}
 use Rattle.hc_core.specs.declared.controller.MicroframePart.{MicroframePart}
 use Rattle.hc_core.specs.declared.controller.MicroframePart.TheVariants.{Over, Periodic, Asynchronous}
@@ -40,8 +41,9 @@ use Rattle.mixed_worlds.proofs.lemmas.framed_memory.Now.{has_frames, begins_ther
 use Rattle.mixed_worlds.proofs.lemmas.framed_memory.Index.{ring_index, frame_index}
 use Rattle.mixed_worlds.proofs.Controller.{controller_keeps_mixed}
 use Rattle.frame_visits.specs.Ranks.{name_of, next_of}
-use Rattle.frame_visits.specs.Visited.{visits_after, frame_in, IsNext, VisitsGoOn, VisitsGoOnAt}
+use Rattle.frame_visits.specs.Visited.{visits_after, link_ahead, frame_in, IsNext, IsActiveAs, VisitsGoOn, VisitsGoOnAt}
 use Rattle.frame_visits.specs.VisitLaws.{ControllerKeepsVisiting}
+use Rattle.frame_visits.proofs.InFramesFetched.{all_after}
 use Rattle.frame_visits.proofs.VisitLinks.{next_stays}
 use Rattle.frame_visits.proofs.VisitMeeting.{visits_meet_now}
 use Rattle.frame_visits.proofs.VisitElements.{LeadsToOne, element_stands}
@@ -70,7 +72,7 @@ part_over r frame Over is = refl
 part_over r frame Periodic is = absurd (no_frame (r.periodic_enable && not (is_over frame)) r.async_enable is)
 part_over r frame Asynchronous is = absurd (no_ring r.async_enable is)
 
-begins_over : (runs : Bool) (r : RegisterFile) (frame : FrameWalk) (part : MicroframePart) → (if runs then part_row r frame part else rows.Idle) ≡ rows.Begin → part ≡ Over
+pub begins_over : (runs : Bool) (r : RegisterFile) (frame : FrameWalk) (part : MicroframePart) → (if runs then part_row r frame part else rows.Idle) ≡ rows.Begin → part ≡ Over
 begins_over true r frame part is = part_over r frame part is
 begins_over false r frame part is = absurd (not_idle is)
 
@@ -89,7 +91,7 @@ part_periodic r frame Over is = absurd (begin_no_frame is)
 part_periodic r frame Periodic is = refl
 part_periodic r frame Asynchronous is = absurd (ring_no_frame r.async_enable is)
 
-frame_periodic : (runs : Bool) (r : RegisterFile) (frame : FrameWalk) (part : MicroframePart) → (if runs then part_row r frame part else rows.Idle) ≡ rows.Frame → part ≡ Periodic
+pub frame_periodic : (runs : Bool) (r : RegisterFile) (frame : FrameWalk) (part : MicroframePart) → (if runs then part_row r frame part else rows.Idle) ≡ rows.Frame → part ≡ Periodic
 frame_periodic true r frame part is = part_periodic r frame part is
 frame_periodic false r frame part is = absurd (idle_no_frame is)
 
@@ -180,6 +182,11 @@ module _ (fixed : Fixed) (s : Standing) (w : World) (vs : List ℕ) (k : IsMixed
     behind = behind_next begins_by transacts_by w.driver g.visits.left g.visits.kept g.visits.height g.visits.who (controller_parts w) (wired fixed w) (controller_parts (controller_next fixed w))
         (wired fixed (controller_next fixed w)) vs g.visits.ranked g.visits.behind g.left_within (controller_row w)
         (λ is. begins_over w.registers.run w.registers w.control.frame w.control.part is) (λ is. frame_periodic w.registers.run w.registers w.control.frame w.control.part is) first (world_has_row fixed w);
+    active = g.visits.active;
+    were_active = all_after (λ (a : ℕ). IsActiveAs w.driver a (g.visits.who a)) (controller_row w) (controller_parts w) vs g.visits.were_active
+        (λ is a held name.
+        g.visits.active a (g.visits.behind.next a (frame_periodic w.registers.run w.registers w.control.frame w.control.part is)
+        (ap (λ (o : Option Hand). name_of (link_ahead o w.control.frame.cursor)) held ∙ name)).is_kept);
   }
 
 pub controller_keeps_visiting : ControllerKeepsVisiting

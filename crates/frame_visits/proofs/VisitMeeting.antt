@@ -141,6 +141,8 @@ module _ (s : Standing) (w : World) (vs : List ℕ) (k : IsMixedAt s w) (g : Vis
       who = g.who;
       ranked = ranked;
       behind = record { once = g.behind.once; were = were_joined w.driver g.left s.recent g.who (frame_in w.control.frame.index) vs g.behind.were; next = next_narrowed };
+      active = λ n on. g.active n (was_kept g.kept (met w.driver s.recent) n on);
+      were_active = g.were_active;
     };
     within = was_met g.kept (met w.driver s.recent);
     left_within = λ n on.

@@ -44,5 +44,7 @@ new_is_visiting s fit bytes = record {
       linking = λ w is. absurd (no_work w is);
     };
     behind = record { once = tt; were = tt; next = λ k part. absurd (over_no part) };
+    active = λ n on. absurd (false≢true on);
+    were_active = tt;
   };
 }

@@ -8,7 +8,9 @@
 --     IsInHandOf x u hand          the copy in hand is one of these two; none of split transactions is
 --     made_of hand                 how many transactions were made in the visit
 --     rest_of hand                 how many packets of a descriptor are to come, at most
---     TakesData p hand             a qTD that the event takes is of an IN or an OUT: no interrupt endpoint has a SETUP
+--     IsDear x pid                 no transaction with this PID code is dearer than one of the largest packet: an IN or an OUT; or a SETUP, which has eight bytes, where packets may
+--                                  have as many
+--     TakesData x p hand           a qTD that the event takes is of such a PID
 --     GoesOn x u hand n k          the visit goes on at the same structure: k is in hand then, with n transactions made
 --     GoesOnOrEnds x u hand o      so the visit goes on with as many made as before, or it is over and nothing is in hand
 --     RestsAt x p old q            an event that asks nothing leaves q: it costs nothing, and the visit goes on or is over
@@ -62,11 +64,14 @@ abbrev pub HasRoom : ℕ → ℕ → Option Outcome → Type 0
 HasRoom most made None = made < most
 HasRoom most made (Some outcome) = made ≤ most
 
+abbrev pub IsDear : Placed → ℕ → Type 0
+IsDear x pid = (pid ≤ 1) ⊎ (8 ≤ x.want.max)
+
 -- transactions are made in the microframes of its S-mask alone
 pub record IsHeadInHand (x : Placed) (h : HeldQueue) (u : ℕ) : Type 0 where
   pub head : IsHeadOf x h.copy.queue_head
   pub few : x.want.multi ≤ 3
-  pub pid : h.copy.queue_head.token.active ≡ true → h.copy.queue_head.token.pid ≤ 1
+  pub pid : h.copy.queue_head.token.active ≡ true → IsDear x h.copy.queue_head.token.pid
   pub room : HasRoom x.want.multi h.made h.copy.settled
   pub own : 1 ≤ h.made → has x.placement.smask (u % 8) ≡ true
 
@@ -98,10 +103,10 @@ rest_of (hands.Queue h) = 0
 rest_of (hands.Itd h) = h.rest
 rest_of (hands.Sitd h) = 0
 
-abbrev pub TakesData : FramePlace → Hand → Type 0
-TakesData p (hands.Queue h) = (a : ℕ) (t : Qtd) → queue_row p h ≡ queue_rows.Advance a t → t.token.pid ≤ 1
-TakesData p (hands.Itd h) = Unit {0}
-TakesData p (hands.Sitd h) = Unit {0}
+abbrev pub TakesData : Placed → FramePlace → Hand → Type 0
+TakesData x p (hands.Queue h) = (a : ℕ) (t : Qtd) → queue_row p h ≡ queue_rows.Advance a t → IsDear x t.token.pid
+TakesData x p (hands.Itd h) = Unit {0}
+TakesData x p (hands.Sitd h) = Unit {0}
 
 -- ---- an event
 
@@ -171,7 +176,7 @@ pub record BeginsHead (x : Placed) (p : FramePlace) (a : ℕ) (q : Qh) : Type 0 
   pub row : chain_row p.memory p.walk.cursor ≡ chain_rows.Queue a q
   pub head : IsHeadOf x q
   pub few : x.want.multi ≤ 3
-  pub pid : q.token.active ≡ true → q.token.pid ≤ 1
+  pub pid : q.token.active ≡ true → IsDear x q.token.pid
 
 pub record BeginsItd (x : Placed) (p : FramePlace) (a : ℕ) (v : Itd) : Type 0 where
   pub free : p.walk.hand ≡ None
@@ -191,16 +196,16 @@ pub record Begins (x : Placed) (p : FramePlace) (copy : Hand) (q : FramePlace) :
 
 -- while such a copy is in hand an event asks nothing and costs nothing, or makes one transaction and costs at most one of the largest packet
 abbrev pub EventsArePriced : Type 0
-EventsArePriced = (x : Placed) (p : FramePlace) (hand : Hand) → p.walk.hand ≡ Some hand → IsInHandOf x p.walk.index hand → TakesData p hand → IsPriced x p hand (effect_of p)
+EventsArePriced = (x : Placed) (p : FramePlace) (hand : Hand) → p.walk.hand ≡ Some hand → IsInHandOf x p.walk.index hand → TakesData x p hand → IsPriced x p hand (effect_of p)
 
 -- so it is of what it leaves, whatever the bus replies
 abbrev pub EventsAreCharged : Type 0
-EventsAreCharged = (x : Placed) (p : FramePlace) (hand : Hand) (r : Reply) → p.walk.hand ≡ Some hand → IsInHandOf x p.walk.index hand → TakesData p hand → IsCharging x p hand (after p r)
+EventsAreCharged = (x : Placed) (p : FramePlace) (hand : Hand) (r : Reply) → p.walk.hand ≡ Some hand → IsInHandOf x p.walk.index hand → TakesData x p hand → IsCharging x p hand (after p r)
 
 -- and over a wire of which only a relation is known
 abbrev pub LeadsAreCharged : {W : Type 0} → (W → Ask → List ℕ → Reply → W → Type 0) → Type 0
 LeadsAreCharged {W} transacts = (x : Placed) (p q : FramePlace) (before later : W) (hand : Hand) → p.walk.hand ≡ Some hand → IsInHandOf x p.walk.index hand
-    → TakesData p hand → Leads transacts p before q later → IsCharging x p hand q
+    → TakesData x p hand → Leads transacts p before q later → IsCharging x p hand q
 
 -- with nothing in hand an event asks nothing and costs nothing
 abbrev pub ChainsAreFree : Type 0

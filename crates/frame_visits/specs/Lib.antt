@@ -12,3 +12,9 @@ pub mod PlaceOfRing
 pub mod FrameReasons
 pub mod ReasonSamples
 pub mod Keeps
+pub mod Belonging
+pub mod DescriptorFields
+pub mod Payments
+pub mod PaymentLaws
+pub mod InFrames
+pub mod OneDescriptor

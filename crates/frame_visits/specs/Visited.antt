@@ -14,7 +14,8 @@
 --     IsNext ..               one to which the walk may go on: it stands in the frame, and lies below all that was visited
 --     WasVisited ..           what was visited stands in the frame, or did when it was unlinked in this microframe
 --     IsBehind ..             no structure was visited twice, and what was visited is behind the walk
---     VisitsGoOn w vs         so it is in a world whose links lead down
+--     IsActiveAs d n x        where the queue head of an endpoint stands at n, its placement is active in each frame in which x stands
+--     VisitsGoOn w vs         so it is in a world whose links lead down, and so are those that are kept and those that were visited
 --     IsVisiting w vs         .. where nothing of the world is out of place
 --     VisitsGoOnAt s w vs     .. where each of those whose links lead down may be met, and stands or was unlinked in this microframe
 use Rattle.std.specs.Prelude.{◌≡◌, ℕ, zero, suc, ◌/◌, ◌%◌, ◌<◌, Bool, true, List, [], ◌∷◌, Option, Some, None}
@@ -24,6 +25,7 @@ use Rattle.script_types.specs.declared.scripts.Event.TheVariants as events
 use Rattle.script_types.specs.declared.scripts.Script.{Script}
 use Rattle.link_words.specs.declared.kinds.Link.{Link}
 use Rattle.link_words.specs.Links.{link_of}
+use Rattle.bandwidth.specs.Sums.{is_active}
 use Rattle.frame_chains.specs.declared.members.Member.{Member}
 use Rattle.frame_chains.specs.Chains.{stands_in}
 use Rattle.periodic_walk.specs.declared.state.Hand.{Hand}
@@ -45,6 +47,7 @@ use Rattle.bus_world.specs.Opening.{opening_world}
 use Rattle.bus_world.specs.Orders.{Left, Events, Microframes, Answer, Command, OrderedWorld, at_place, orders_of, tick}
 use Rattle.mixed_worlds.specs.Mixed.{Standing, IsMixedWorld}
 use Rattle.mixed_worlds.specs.Placed.{AreOnce}
+use Rattle.frame_visits.specs.Belonging.{IsQueueAt}
 use Rattle.frame_visits.specs.Ranks.{name_of, begins, IsRanked}
 
 -- ---- what was visited
@@ -130,6 +133,9 @@ pub record IsBehind (d : DriverContent) (left : ℕ → Option Kind) (kept : ℕ
 
 -- ---- a world
 
+abbrev pub IsActiveAs : DriverContent → ℕ → Member → Type 0
+IsActiveAs d n x = (b : IsQueueAt d n) (f : ℕ) → stands_in f x ≡ true → is_active b.belongs.placement f ≡ true
+
 pub record VisitsGoOn (w : World) (vs : List ℕ) : Type 0 where
   pub left : ℕ → Option Kind
   pub left_are : AreRecent w.driver w.registers.frame_index left
@@ -138,6 +144,8 @@ pub record VisitsGoOn (w : World) (vs : List ℕ) : Type 0 where
   pub who : ℕ → Member
   pub ranked : IsRanked w.memory w.driver kept height who
   pub behind : IsBehind w.driver left kept height who w.control vs
+  pub active : (n : ℕ) → kept n ≡ true → IsActiveAs w.driver n (who n)
+  pub were_active : AllByRecursion (λ v. IsActiveAs w.driver v (who v)) vs
 
 pub record IsVisiting (w : World) (vs : List ℕ) : Type 0 where
   pub mixed : IsMixedWorld w

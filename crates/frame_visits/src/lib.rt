@@ -5,6 +5,9 @@
 //! - `driver_visits`, `splices`: So they do at each event and command of the driver: a store of the frame list puts a member between two others, or takes one out.
 //! - `charges`: What an event of the walk of a frame's chain costs at high speed, told by the copy in hand (EHCI 1.0, 4.7, 4.10 and 4.10.3; USB 2.0, 5.9 and 5.11.3), so that
 //!   charges can be summed along a run: a visit costs at most its placement, and visits to different placed endpoints together at most the load of their microframe.
+//! - `belonging`, `itds`: To whom belongs what the walk of the frames may meet: to endpoints whose placements are in the plan, with their fields in memory.
+//! - `descriptors`: Of an isochronous endpoint and a frame at most one descriptor has something active.
+//! - `payments`, `in_frames`: What the visits of a microframe cost together along a run, where periodic endpoints are interrupt endpoints of high speed: no more than its load.
 //! - `reasons`, `worked_reasons`: Why nothing is asked in a microframe in which the bus may not be used, where the walk of the ring goes on after an end by time, and why a
 //!   queue head of the frames that is visited has no transaction.
 //! - `runs`: What the run of each script that a text spells keeps of all that.
@@ -12,8 +15,13 @@
 //! The crate has no code of its own: each function is a law, and its body is empty.
 #![tactic(auto)]
 
+pub mod belonging;
 pub mod charges;
+pub mod descriptors;
 pub mod driver_visits;
+pub mod in_frames;
+pub mod itds;
+pub mod payments;
 pub mod reasons;
 pub mod runs;
 pub mod splices;

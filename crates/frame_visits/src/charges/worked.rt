@@ -18,7 +18,7 @@ pub fn queue_heads_in_hand()
     ensures begun { IsHeadInHand interrupt_in (queue high_in 0 None) 40 }
     ensures full { IsHeldFor interrupt_in 44 (Queue (queue high_in 3 (Some (Moved 64)))) 3600000 }
     ensures other { IsHeadInHand interrupt_in (queue high_in 0 None) 41 }
-    ensures taken { TakesData (head_at 40 0 None) (Queue (queue high_in 0 None)) }
+    ensures taken { TakesData interrupt_in (head_at 40 0 None) (Queue (queue high_in 0 None)) }
 {}
 
 /// A copy of a descriptor in the microframe of its active slot, and in the next.

@@ -1,4 +1,4 @@
-use Rattle.std.proofs.Common.{refl, arith}
+use Rattle.std.proofs.Common.{refl, arith, inl}
 use Rattle.word_mem.specs.Views.{words_in}
 use Rattle.link_words.specs.Links.{link_read}
 use Rattle.link_words.specs.Layout.{first_bad_bit}
@@ -15,7 +15,7 @@ returns-clause-head c = record {
   row = refl;
   head = record { speed = refl; kind = refl; high = refl; max = refl; multi = refl; smask = refl };
   few = omega arith;
-  pid = λ e. omega arith;
+  pid = λ e. inl (omega arith);
 }
 
 pub returns-clause-descriptor : goal.returns-clause-descriptor

@@ -1,11 +1,11 @@
-use Rattle.std.proofs.Common.{refl, arith}
+use Rattle.std.proofs.Common.{refl, arith, inl}
 use Rattle.frame_visits.proofs.charges.worked.queue_heads_in_hand.Goals as goal
 
 pub returns-clause-begun : goal.returns-clause-begun
 returns-clause-begun c = record {
   head = record { speed = refl; kind = refl; high = refl; max = refl; multi = refl; smask = refl };
   few = omega arith;
-  pid = λ e. omega arith;
+  pid = λ e. inl (omega arith);
   room = omega arith;
   own = λ some. refl;
 }
@@ -15,7 +15,7 @@ returns-clause-full c = record {
   of = record {
     head = record { speed = refl; kind = refl; high = refl; max = refl; multi = refl; smask = refl };
     few = omega arith;
-    pid = λ e. omega arith;
+    pid = λ e. inl (omega arith);
     room = omega arith;
     own = λ some. refl;
   };
@@ -26,7 +26,7 @@ pub returns-clause-other : goal.returns-clause-other
 returns-clause-other c = record {
   head = record { speed = refl; kind = refl; high = refl; max = refl; multi = refl; smask = refl };
   few = omega arith;
-  pid = λ e. omega arith;
+  pid = λ e. inl (omega arith);
   room = omega arith;
   own = λ some. absurd (omega (arith, some));
 }

@@ -1,0 +1,45 @@
+-- The fields of iTDs stand in memory at each moment of each script.
+use Rattle.std.proofs.Common.{ℕ, List, [], ◌∷◌}
+use Rattle.std.specs.List.{AllByRecursion}
+use Rattle.script_types.specs.declared.scripts.Line.{Line}
+use Rattle.script_types.specs.declared.scripts.Line.TheVariants as lines
+use Rattle.script_types.specs.declared.scripts.Script.{Script}
+use Rattle.usb_bus.specs.Bus.{fixed_of}
+use Rattle.told_streams.specs.receiving_runs.Runs.{KindOfLine, IsKeptBy}
+use Rattle.told_streams.proofs.lemmas.receiving_runs.Runs.{holds_throughout}
+use Rattle.bus_world.specs.World.{World}
+use Rattle.mixed_worlds.specs.Mixed.{IsMixedWorld}
+use Rattle.mixed_worlds.specs.Laws.{OpensMixed}
+use Rattle.mixed_worlds.specs.PlacedLaws.{MixedLine}
+use Rattle.mixed_worlds.proofs.Opening.{new_world_is_mixed}
+use Rattle.mixed_worlds.proofs.Controller.{controller_keeps_mixed}
+use Rattle.mixed_worlds.proofs.Driving.{driver_keeps_mixed}
+use Rattle.mixed_worlds.proofs.CommandKeeping.{command_keeps_mixed}
+use Rattle.frame_visits.specs.DescriptorFields.{ItdsStand, ScriptsKeepItds}
+use Rattle.frame_visits.proofs.BelongItds.{new_itds, controller_keeps_itds}
+use Rattle.frame_visits.proofs.BelongServed.{driver_keeps_itds}
+use Rattle.frame_visits.proofs.BelongItdAll.{command_keeps_itds}
+
+record IsMixedWithItds (w : World) : Type 0 where
+  mixed : IsMixedWorld w
+  itds : ItdsStand w.driver w.memory
+
+line_can : (l : Line) → MixedLine l → KindOfLine OpensMixed l
+line_can (lines.Order event count) fits = tt
+line_can (lines.Micro count) fits = tt
+line_can (lines.Command cmd) fits = fits
+
+lines_can : (xs : List (ℕ × Line)) → AllByRecursion (λ x. MixedLine x.1) xs → AllByRecursion (λ x. KindOfLine OpensMixed x.1) xs
+lines_can [] fits = tt
+lines_can (x ∷ xs) fits = (line_can x.1 fits.0, lines_can xs fits.1)
+
+is_kept : (s : Script) → IsKeptBy (fixed_of s) OpensMixed IsMixedWithItds
+is_kept s = record {
+  driver = λ w k. record { mixed = driver_keeps_mixed w k.mixed; itds = driver_keeps_itds w k.mixed k.itds };
+  controller = λ w k. record { mixed = controller_keeps_mixed (fixed_of s) w k.mixed; itds = controller_keeps_itds (fixed_of s) w k.mixed k.itds };
+  command = λ w line cmd can room k. record { mixed = command_keeps_mixed w line cmd can room k.mixed; itds = command_keeps_itds w line cmd k.mixed k.itds };
+}
+
+pub scripts_keep_itds : ScriptsKeepItds
+scripts_keep_itds s fits bytes opens k =
+    (holds_throughout OpensMixed IsMixedWithItds s fits (lines_can s.lines opens) (record { mixed = new_world_is_mixed s fits bytes; itds = new_itds s }) (is_kept s) k).itds

@@ -1,0 +1,16 @@
+pub mod ReachedBefore
+pub mod RingWords
+pub mod LinksFalling
+pub mod RingSteps
+pub mod DriverRounds
+pub mod NewHeights
+pub mod CommandRounds
+pub mod RoundsTogether
+pub mod RoundLists
+pub mod RoundWalking
+pub mod RoundLinks
+pub mod RoundOpening
+pub mod RoundControlling
+pub mod RoundMoments
+pub mod RoundTexts
+pub mod RoundSampled

@@ -1,0 +1,4 @@
+pub mod Heights
+pub mod Rounds
+pub mod RoundLaws
+pub mod RoundSamples
