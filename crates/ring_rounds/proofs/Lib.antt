@@ -13,4 +13,5 @@ pub mod RoundOpening
 pub mod RoundControlling
 pub mod RoundMoments
 pub mod RoundTexts
+pub mod RingSpliced
 pub mod RoundSampled

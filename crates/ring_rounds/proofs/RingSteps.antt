@@ -13,7 +13,7 @@ use Rattle.driver_rows.specs.DriverContent.{DriverContent}
 use Rattle.driver_rows.specs.Words.{head_block, queue_head_link}
 use Rattle.driver_rows.specs.Offers.{newest_of, oldest_of}
 use Rattle.driver_rows.specs.Rows.{Parts, events_of, advance}
-use Rattle.driver_laws.specs.ring_members.Links.{link_in, step_to, LeadsFrom, AreLinked}
+use Rattle.driver_laws.specs.ring_members.Links.{link_in, step_to, newest_from, LeadsFrom, AreLinked}
 use Rattle.driver_laws.specs.ring_members.Ring.{IsOpening, IsUnlinking, IsSound}
 use Rattle.driver_laws.proofs.lemmas.ring_members.Leaving.{link_at}
 use Rattle.driver_laws.proofs.lemmas.ring_members.Placed.{in_ring_alive, stored_here, stored_there, queue_off_head}
@@ -29,6 +29,13 @@ use Rattle.ring_rounds.proofs.LinksFalling.{next_is, next_by, reached_at, reache
 
 -- ---- the ring as its words tell it
 
+pub same_word : (m : Mem) (a b : ℕ) → link_in m a ≡ link_in m b → next_of m (32 * a) ≡ next_of m (32 * b)
+same_word m a b same = next_by m (32 * a) a refl ∙ ap (λ (v : ℕ). name_of (link_read v)) same ∙ sym (next_by m (32 * b) b refl)
+
+pub head_leads : (word : ℕ → ℕ) (b : ℕ) (xs : List Endpoint) → AreLinked word b xs → word head_block ≡ queue_head_link (newest_from b xs)
+head_leads word b [] linked = linked
+head_leads word b (x ∷ xs) linked = head_leads word (step_to b x) xs linked.1
+
 leads_by : (word : ℕ → ℕ) (x : Endpoint) (b : ℕ) → x.linked ≡ true → LeadsFrom word x.linked x.queue b → word x.queue ≡ queue_head_link b
 leads_by word x b on leads = subst (λ (t : Bool). LeadsFrom word t x.queue b) on leads
 
@@ -42,7 +49,7 @@ oldest_leads word b (x ∷ xs) linked = by (λ rest. oldest_leads word b xs rest
     by more false off = more (subst (λ (c : ℕ). AreLinked word c xs) (ap (λ (t : Bool). if t then x.queue else b) off) linked.1)
 
 -- so the one before an endpoint leads to it
-before_leads : (word : ℕ → ℕ) (b : ℕ) (xs : List Endpoint) (e : ℕ) (x : Endpoint) → slice_get xs e ≡ Some x → x.linked ≡ true → AreLinked word b xs
+pub before_leads : (word : ℕ → ℕ) (b : ℕ) (xs : List Endpoint) (e : ℕ) (x : Endpoint) → slice_get xs e ≡ Some x → x.linked ≡ true → AreLinked word b xs
     → word (oldest_of (drop (suc e) xs)) ≡ queue_head_link x.queue
 before_leads word b [] e x here on linked = absurd (cc)
 before_leads word b (y ∷ xs) zero x here on linked =
@@ -53,7 +60,7 @@ before_leads word b (y ∷ xs) (suc e) x here on linked = before_leads word (ste
 
 -- ---- a store of a command
 
-stored_as : (P : Mem → Type 0) (k : Book) (m : Mem) (b c at to v w : ℕ) → b ≡ c → at ≡ to → v ≡ w → P (store k m c to w) → P (store k m b at v)
+pub stored_as : (P : Mem → Type 0) (k : Book) (m : Mem) (b c at to v w : ℕ) → b ≡ c → at ≡ to → v ≡ w → P (store k m c to w) → P (store k m b at v)
 stored_as P k m b c at to v w one two three p =
     subst (λ x. P (store k m x at v)) (sym one) (subst (λ x. P (store k m c x v)) (sym two) (subst (λ x. P (store k m c to x)) (sym three) p))
 

@@ -1,4 +1,5 @@
 pub mod Heights
 pub mod Rounds
 pub mod RoundLaws
+pub mod RingSplices
 pub mod RoundSamples

@@ -1,0 +1,10 @@
+pub mod VisitStepRing
+pub mod VisitStepErrors
+pub mod VisitStepQueues
+pub mod VisitStepEvents
+pub mod CountBlocks
+pub mod CountPrices
+pub mod CountVisits
+pub mod CountRounds
+pub mod HeadReading
+pub mod HeadReadMoments

@@ -1,0 +1,3 @@
+pub mod VisitSteps
+pub mod Counts
+pub mod HeadReads
