@@ -2,9 +2,12 @@ pub mod VisitStepRing
 pub mod VisitStepErrors
 pub mod VisitStepQueues
 pub mod VisitStepEvents
+pub mod VisitStepRanges
 pub mod CountBlocks
 pub mod CountPrices
 pub mod CountVisits
 pub mod CountRounds
 pub mod HeadReading
 pub mod HeadReadMoments
+pub mod HeadSampled
+pub mod CountTaken

@@ -18,11 +18,16 @@
 --     LeadsFall transacts          .. over each wire
 --     ChainsBegin, ChainsLead      a fetch leaves at most seven
 --     VisitsAreShort               so at most seven events come with a copy in hand
+--     HasErrors q                  at high speed, or an error is left while the overlay is active; HasErrorsInHand, HasErrorsFetched: a copy in hand, what is fetched is so
+--     HandsAreCounted              .. then a copy in hand is counted, whose numbers are in their ranges
+--     ChainsAreCounted             .. and what is fetched
+--     TakenAreCounted              .. and a qTD that is taken
 use Rattle.std.specs.Prelude.{◌≡◌, ℕ, ◌+◌, ◌-◌, ◌*◌, ◌<◌, ◌≤◌, ◌⊎◌, max, Bool, true, false, ◌==◌, List, Option, Some, None, if◌then◌else◌}
 use Rattle.usb_base.specs.declared.packets.Ask.{Ask}
 use Rattle.usb_base.specs.declared.packets.Reply.{Reply}
 use Rattle.qh_qtd.specs.declared.qtd.Qtd.{Qtd}
 use Rattle.qh_qtd.specs.declared.queue_head.Qh.{Qh}
+use Rattle.qh_qtd.specs.Qtd.{IsQtdInRange}
 use Rattle.toggle_error.specs.declared.host.Outcome.{Outcome}
 use Rattle.walk_copy.specs.declared.held.Held.{Held}
 use Rattle.interrupt_visits.specs.Copies.{goes_on, most_of}
@@ -36,10 +41,11 @@ use Rattle.periodic_walk.specs.declared.queue.QueueRow.TheVariants as queues
 use Rattle.periodic_walk.specs.declared.state.HeldQueue.{HeldQueue}
 use Rattle.periodic_walk.specs.declared.state.Hand.{Hand}
 use Rattle.periodic_walk.specs.declared.state.Hand.TheVariants as hands
-use Rattle.periodic_walk.specs.Chain.{chain_row}
+use Rattle.periodic_walk.specs.Chain.{IsSound, chain_row}
 use Rattle.periodic_walk.specs.Place.{FramePlace, Effect}
 use Rattle.periodic_walk.specs.Place.Effect.{Leaves, Asks}
 use Rattle.periodic_walk.specs.Queue.{queue_row}
+use Rattle.periodic_walk.specs.Walk.{IsInHand}
 use Rattle.periodic_walk.specs.Rows.{effect_of}
 use Rattle.periodic_walk.specs.Rows as of_frames
 
@@ -145,3 +151,30 @@ ChainsLead {W} transacts = (p new : FramePlace) (before after : W) → p.walk.ha
 
 abbrev pub VisitsAreShort : Type 0
 VisitsAreShort = (hand : Hand) → IsCounted hand → (1 ≤ hand_steps hand) × (hand_steps hand ≤ 7)
+
+-- ---- where the numbers of a copy are in their ranges, as those in hand are
+
+-- at high speed, or while the overlay is active an error is left
+abbrev pub HasErrors : Qh → Type 0
+HasErrors q = q.token.active ≡ true → (q.eps ≡ 2) ⊎ (1 ≤ q.token.cerr)
+
+abbrev pub HasErrorsInHand : Hand → Type 0
+HasErrorsInHand (hands.Queue h) = HasErrors h.copy.queue_head
+HasErrorsInHand (hands.Itd h) = Unit {0}
+HasErrorsInHand (hands.Sitd h) = Unit {0}
+
+abbrev pub HasErrorsFetched : ChainRow → Type 0
+HasErrorsFetched chains.Fault = Unit {0}
+HasErrorsFetched chains.Ends = Unit {0}
+HasErrorsFetched (chains.Queue a q) = HasErrors q
+HasErrorsFetched (chains.Itd a v) = Unit {0}
+HasErrorsFetched (chains.Sitd a v) = Unit {0}
+
+abbrev pub HandsAreCounted : Type 0
+HandsAreCounted = (got : List ℕ) (hand : Hand) → IsInHand got hand → HasErrorsInHand hand → IsCounted hand
+
+abbrev pub ChainsAreCounted : Type 0
+ChainsAreCounted = (row : ChainRow) → IsSound row → HasErrorsFetched row → FetchesCounted row
+
+abbrev pub TakenAreCounted : Type 0
+TakenAreCounted = (eps : ℕ) (t : Qtd) → IsQtdInRange t → (eps ≡ 2) ⊎ (1 ≤ t.token.cerr) → AreErrorsCounted eps t.token.cerr

@@ -1,5 +1,6 @@
 //! How many structures a microframe's walks visit, and how many transactions its asynchronous part makes (EHCI 1.0, 3, 4.6, 4.8, 4.8.3 and 4.10; USB 2.0, 5.11.3).
 ghost use Rattle.microframe_bounds.specs.Counts.{AreFewerThanBlocks, AreFewerThanWords, TextsVisitFew, TextsRoundFew, PricesAreAtLeast, IsPaidWhereMade, AreMadeFew};
+ghost use Rattle.microframe_bounds.specs.Taken.{EventsTakeTime};
 
 /// Blocks that differ are no more than memory has.
 pub fn blocks_are_no_more_than_memory_has()
@@ -19,4 +20,9 @@ pub fn transactions_take_their_time()
 pub fn visits_are_few()
     ensures frames { TextsVisitFew }
     ensures ring { TextsRoundFew }
+{}
+
+/// Each event of the walk of the ring that makes a transaction leaves less time by the least price or more, and no event leaves more.
+pub fn each_transaction_takes_time()
+    ensures { EventsTakeTime }
 {}

@@ -1,6 +1,6 @@
 //! How many events one visit has, of either walk (EHCI 1.0, 4.6, 4.7.1, 4.8, 4.10 and 4.12), told by the copy in hand.
 
-ghost use Rattle.microframe_bounds.specs.VisitSteps.{RingEventsFall, RingFetchesBegin, EventsFall, LeadsFall, ChainsBegin, ChainsLead, VisitsAreShort};
+ghost use Rattle.microframe_bounds.specs.VisitSteps.{RingEventsFall, RingFetchesBegin, EventsFall, LeadsFall, ChainsBegin, ChainsLead, VisitsAreShort, HandsAreCounted, ChainsAreCounted, TakenAreCounted};
 
 use usb_base::Wire;
 
@@ -37,4 +37,19 @@ pub fn fetches_over_a_wire_are_short<W: Wire>()
 /// With a copy in hand at most seven events of the visit come.
 pub fn visits_are_short()
     ensures { VisitsAreShort }
+{}
+
+/// So it is of a copy in hand, whose numbers are in their ranges, where an error is left while the overlay is active below high speed.
+pub fn hands_are_counted()
+    ensures { HandsAreCounted }
+{}
+
+/// So it is of what is fetched.
+pub fn what_is_fetched_is_counted()
+    ensures { ChainsAreCounted }
+{}
+
+/// So it is of a qTD that is taken.
+pub fn what_is_taken_is_counted()
+    ensures { TakenAreCounted }
 {}

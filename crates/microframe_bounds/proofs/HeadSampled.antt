@@ -1,0 +1,45 @@
+-- How often the head of the ring was read in the script with a keyboard and a disk.
+use Rattle.std.proofs.Common.{◌≡◌, ℕ, suc, List, ◌∷◌, Result, Ok, ap, refl}
+use Rattle.usb_base.specs.declared.commands.Cmd.{Cmd}
+use Rattle.usb_base.specs.declared.commands.Cmd.TheVariants as commands
+use Rattle.usb_base.specs.declared.reports.OfferError.{OfferError}
+use Rattle.word_mem.specs.Memory.{filled}
+use Rattle.word_mem.specs.Views.{words_in, with_words_in}
+use Rattle.word_mem.specs.Free.{lowest_run}
+use Rattle.link_words.specs.Links.{link_word, qtd_link_word, link_read, qtd_link_read}
+use Rattle.link_words.specs.Layout.{first_bad_bit}
+use Rattle.frame_chains.specs.Chains.{word_after, before_the, behind_the, predecessors}
+use Rattle.frame_chains.specs.Order.{frames}
+use Rattle.qh_qtd.specs.Token.{token_word, token_at}
+use Rattle.qh_qtd.specs.Qtd.{qtd_words, qtd_read, qtd_bad, qtd_at}
+use Rattle.qh_qtd.specs.QueueHead.{qh_words, qh_read, qh_bad, qh_at}
+use Rattle.run_book.specs.Book.{lend_runs, store_words}
+use Rattle.async_walk.specs.Naks.{reloaded}
+use Rattle.bandwidth.specs.declared.placements.Placement.{Placement}
+use Rattle.bandwidth.specs.declared.placements.Refused.{Refused}
+use Rattle.driver_rows.specs.Offers.{Offered, offered, planned_open}
+use Rattle.usb_bus.specs.Bus.{Fixed, fixed_of}
+use Rattle.bus_world.specs.World.{World, name_in, commanded_by}
+use Rattle.bus_world.specs.Opening.{opening_world}
+use Rattle.bus_world.specs.Orders.{Left, Command, at_place, orders_of}
+use Rattle.mixed_worlds.specs.Samples.{keyboard, keyboard_place, keyboard_and_disk, after_the_open}
+use Rattle.mixed_worlds.proofs.SampledPlace.{plans_first}
+use Rattle.microframe_bounds.specs.HeadReads.{heads_from, heads}
+use Rattle.microframe_bounds.specs.HeadSamples.{typed_heads}
+
+answered : (fixed : Fixed) (w : World) (line : ℕ) (cmd : Cmd) (rest : List Left) (r : Result Offered OfferError) (n k : ℕ) → offered w.driver w.memory cmd ≡ r
+    → heads_from fixed (at_place w (Command line cmd ∷ rest)) n (suc k) ≡ heads_from fixed (at_place (commanded_by w line (name_in cmd) r) rest) n k
+unfolding heads_from
+answered fixed w line cmd rest r n k is = ap (λ (x : Result Offered OfferError). heads_from fixed (at_place (commanded_by w line (name_in cmd) x) rest) n k) is
+
+accepted : offered (opening_world keyboard_and_disk).driver (opening_world keyboard_and_disk).memory (commands.OpenEp keyboard)
+    ≡ planned_open (opening_world keyboard_and_disk).driver (opening_world keyboard_and_disk).memory keyboard (Ok keyboard_place)
+accepted =
+    ap (λ (a : Result Placement Refused). planned_open (opening_world keyboard_and_disk).driver (opening_world keyboard_and_disk).memory keyboard a) plans_first
+
+pub typed_head : (k : ℕ) → heads keyboard_and_disk (suc k) ≡ typed_heads k
+typed_head k = answered (fixed_of keyboard_and_disk) (opening_world keyboard_and_disk) 6 (commands.OpenEp keyboard) (orders_of after_the_open) _ 0 k accepted
+
+pub read_twice : (typed_heads 30 ≡ 0) × (typed_heads 32 ≡ 1) × (typed_heads 38 ≡ 1) × (typed_heads 40 ≡ 2)
+unfolding heads_from lowest_run filled with_words_in store_words lend_runs qh_words qtd_words token_word token_at link_word qtd_link_word predecessors frames word_after before_the behind_the link_read qtd_link_read qh_read qh_bad qh_at qtd_read qtd_bad qtd_at first_bad_bit words_in reloaded
+read_twice = (refl, refl, refl, refl)
